@@ -1,0 +1,41 @@
+-- Lemmas, grouped by idea; the theorems for use are in Theorems, the document's small trees in Cases.
+
+-- choices, lists, trees and bounds
+pub mod Choice
+pub mod Lists
+pub mod Nodes
+pub mod Bounds
+-- alpha-beta
+pub mod AlphaBetaValue
+pub mod AlphaBetaLocal
+-- MTD
+pub mod MtdSound
+pub mod MtdValue
+pub mod MtdMarks
+pub mod MtdPasses
+pub mod MtdLocal
+pub mod MemoArrays
+-- SSS*, and that it does what MTD does
+pub mod SssSteps
+pub mod Frontier
+pub mod Work
+pub mod Simulation
+pub mod SssRun
+pub mod SssLists
+pub mod SssLocal
+pub mod OwnLayout
+pub mod SssLayouts
+-- certificates
+pub mod Solution
+pub mod Checker
+pub mod ReadOff
+pub mod Certificates
+pub mod Counts
+pub mod SmallestPair
+-- the move, domination, the closed form
+pub mod Moves
+pub mod MtdMoves
+pub mod Domination
+pub mod ClosedForm
+pub mod Theorems
+pub mod Cases

@@ -1,0 +1,120 @@
+-- Every list that SSS* reaches: it fits, it is not empty, few replacements led there, and the run goes on from it.
+use Prim.Native.Nat.{ℕ, suc, _+_, _*_, _≤_, _<_}
+use native.Mathlib.Omega.{arith}
+use mathlib.Core.Path.{_≡_, refl, sym, _∙_, ap, subst}
+use mathlib.Core.List.{List, [], _∷_, _++_, append-assoc}
+use lib.ListN.{length}
+use Rattle.gametree.specs.Tree.{Tree, size, Scored}
+use Rattle.gametree.specs.Mtd.{mtd}
+use Rattle.gametree.specs.Layout.{Layout, Describes}
+use Rattle.gametree.specs.Sss.{State, empty, stop, quiet, evaluating, step, End, Ran, runFrom, start, sssOver}
+use Rattle.gametree.specs.Sss.{ListAfter, atStart, afterQuiet, afterEvaluating, resumed, stepFirst}
+use Rattle.gametree.proofs.SssSteps.{Takes, Steps, done, quietly, evaluates, room-of}
+use Rattle.gametree.proofs.Work.{full, full-size}
+use Rattle.gametree.proofs.SssRun.{root-stops, mtd-steps}
+
+-- what is ahead of the list L in a run of SSS* that ends at N, evaluates the leaves W and makes at most A replacements
+record Ahead (ν : ℕ → ℕ) (Y : Layout) (N : List State) (W : List ℕ) (A k : ℕ) (w : List ℕ)
+    (L : List State) : Type 0 where
+  left : ℕ
+  toCome : List ℕ
+  steps : Steps ν Y left L toCome N 0
+  whole : w ++ toCome ≡ W
+  few : k + left ≤ A
+
+module _ (ν : ℕ → ℕ) (Y : Layout) (N : List State) (W : List ℕ) (A v : ℕ) (e : Takes ν Y N (stop v)) where
+  -- a quiet step takes the run ahead
+  ahead-quiet : {k a : ℕ} {w u : List ℕ} {L M : List State} → Steps ν Y a L u N 0 → w ++ u ≡ W → k + a ≤ A
+      → step ν Y L ≡ quiet M
+      → Ahead ν Y N W A (suc k) w M
+  ahead-quiet (done o l) i f s = let z : _≡_ {A = ℕ} 0 1 = cc (e .by-tree) in absurd (omega arith)
+  ahead-quiet {u = u} {M = M} (quietly {c = c} {M = M′} t l p) i f s =
+      let z : M′ ≡ M = cc (t .by-tree) in
+      record { left = c; toCome = u; steps = subst (λ X. Steps ν Y c X u N 0) z p; whole = i; few = omega arith }
+  ahead-quiet (evaluates t l p) i f s = let z : _≡_ {A = ℕ} 0 1 = cc (t .by-tree) in absurd (omega arith)
+
+  -- and so does one that evaluates a leaf
+  ahead-evaluating : {k a n : ℕ} (w : List ℕ) {u : List ℕ} {L M : List State} → Steps ν Y a L u N 0 → w ++ u ≡ W
+      → k + a ≤ A
+      → step ν Y L ≡ evaluating n M → Ahead ν Y N W A (suc k) (w ++ (n ∷ [])) M
+  ahead-evaluating w (done o l) i f s = let z : _≡_ {A = ℕ} 0 1 = cc (e .by-tree) in absurd (omega arith)
+  ahead-evaluating w (quietly t l p) i f s = let z : _≡_ {A = ℕ} 0 1 = cc (t .by-tree) in absurd (omega arith)
+  ahead-evaluating {n = n} w {M = M} (evaluates {c = c} {M = M′} {w = x} {n = n′} t l p) i f s =
+      let z : M′ ≡ M = cc (t .by-tree) in
+      let y : n′ ≡ n = cc (t .by-tree) in
+      record {
+        left = c;
+        toCome = x;
+        steps = subst (λ X. Steps ν Y c X x N 0) z p;
+        whole = append-assoc w (n ∷ []) x ∙ ap (λ j. w ++ (j ∷ x)) (sym y) ∙ i;
+        few = omega arith;
+      }
+
+  list-ahead : (t : Tree) → Steps ν Y A (start t) W N 0 → {k : ℕ} {w : List ℕ} {L : List State}
+      → ListAfter ν Y t k w L → Ahead ν Y N W A k w L
+  list-ahead t p atStart = record { left = A; toCome = W; steps = p; whole = refl; few = omega arith }
+  list-ahead t p (afterQuiet r s) = let a = list-ahead t p r in ahead-quiet (a .steps) (a .whole) (a .few) s
+  list-ahead t p (afterEvaluating {w = w} r s) =
+      let a = list-ahead t p r in ahead-evaluating w (a .steps) (a .whole) (a .few) s
+
+  -- a state is on the list
+  ahead-state : {a : ℕ} {u : List ℕ} {L : List State} → Steps ν Y a L u N 0 → step ν Y L ≡ empty → ⊥
+  ahead-state (done o l) s = let z : _≡_ {A = ℕ} 0 1 = cc (e .by-tree) in omega arith
+  ahead-state (quietly t l p) s = let z : _≡_ {A = ℕ} 0 1 = cc (t .by-tree) in omega arith
+  ahead-state (evaluates t l p) s = let z : _≡_ {A = ℕ} 0 1 = cc (t .by-tree) in omega arith
+
+  -- the first state of greatest merit on it is the one taken
+  ahead-first : {a : ℕ} {u : List ℕ} {L : List State} → Steps ν Y a L u N 0 → stepFirst ν Y L ≡ step ν Y L
+  ahead-first (done o l) = e .by-list ∙ sym (e .by-tree)
+  ahead-first (quietly t l p) = t .by-list ∙ sym (t .by-tree)
+  ahead-first (evaluates t l p) = t .by-list ∙ sym (t .by-tree)
+
+-- what holds of every list that SSS* reaches, with W the leaves of the whole run
+pub record Reaching (ν : ℕ → ℕ) (Y : Layout) (t : Tree) (W : List ℕ) (k : ℕ) (w : List ℕ)
+    (L : List State) : Type 0 where
+  -- it has an entry for each node at most
+  pub fits : length L ≤ Y .nodes
+  -- it holds a state
+  pub state : step ν Y L ≡ empty → ⊥
+  -- the first state of greatest merit on it is the one taken
+  pub first : stepFirst ν Y L ≡ step ν Y L
+  -- fewer replacements than twice the number of nodes led to it
+  pub few : k < 2 * size t
+  -- the leaves so far are the first of the whole run's
+  pub toCome : List ℕ
+  pub whole : w ++ toCome ≡ W
+
+module _ (ν : ℕ → ℕ) (Y : Layout) (t : Tree) (d : Describes Y t) (h : Scored ν t) where
+  pub list-reached : {k : ℕ} {w : List ℕ} {L : List State} → ListAfter ν Y t k w L
+      → Reaching ν Y t (mtd ν t .evaluated) k w L
+  list-reached r =
+      let v = mtd ν t .value in
+      let e = root-stops ν Y t v (d .top) (d .enough) in
+      let a = list-ahead ν Y _ (mtd ν t .evaluated) (full t) v e t (mtd-steps ν Y t (d .answers) (d .enough) h) r in
+      record {
+        fits = room-of (a .steps);
+        state = ahead-state ν Y _ (mtd ν t .evaluated) (full t) v e (a .steps);
+        first = ahead-first ν Y _ (mtd ν t .evaluated) (full t) v e (a .steps);
+        few = omega (arith, a .few, full-size t);
+        toCome = a .toCome;
+        whole = a .whole;
+      }
+
+ran-path : {e : End} {u w : List ℕ} {m n : ℕ} → u ≡ w → m ≡ n
+    → _≡_ {A = Ran} (record { end = e; evaluated = u; replacements = m })
+    (record { end = e; evaluated = w; replacements = n })
+ran-path p q = cc
+
+-- the run goes on from each list that it reaches
+pub resume : (ν : ℕ → ℕ) (Y : Layout) (t : Tree) {k : ℕ} {w : List ℕ} {L : List State} → ListAfter ν Y t k w L → (f : ℕ)
+    → k + f ≡ 2 * size t
+    → sssOver ν Y t ≡ resumed k w (runFrom (λ M. step ν Y M) f L)
+resume ν Y t atStart f e =
+    let z : f ≡ 2 * size t = omega arith in
+    rw z (ran-path refl (omega arith))
+resume ν Y t (afterQuiet {w = w} {L = L} r s) f e =
+    let i = resume ν Y t r (suc f) (omega arith) in
+    i ∙ rw s (ran-path refl (omega arith))
+resume ν Y t (afterEvaluating {n = n} {w = w} r s) f e =
+    let i = resume ν Y t r (suc f) (omega arith) in
+    i ∙ rw s (ran-path (sym (append-assoc w (n ∷ []) _)) (omega arith))

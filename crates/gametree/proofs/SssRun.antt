@@ -1,0 +1,120 @@
+-- SSS* from the LIVE root evaluates the leaves that MTD evaluates, in the same order, and ends with the minimax value.
+use Prim.Native.Nat.{ℕ, zero, suc, _+_, _*_, _≤_, _<_}
+use native.Mathlib.Nat.{le-refl, le-of-lt}
+use native.Mathlib.Omega.{arith}
+use mathlib.Core.Path.{_≡_, refl, ap, subst}
+use mathlib.Core.Logic.{inl, inr}
+use mathlib.Core.List.{List, [], _∷_, append-nil}
+use Rattle.gametree.specs.Lists.{All}
+use Rattle.gametree.specs.Tree.{Tree, greatest, minimax, number, size, Scored}
+use Rattle.gametree.specs.Mtd.{Memo, memoHigh, pass, Run, run, fresh, mtd}
+use Rattle.gametree.specs.Layout.{root, Layout, Answers}
+use Rattle.gametree.specs.Sss.{SOLVED, State, live, solved, stop, step, finished, Ran, runFrom, sssOver}
+use Rattle.gametree.specs.Sss.{stepFirst, sssFirst}
+use Rattle.gametree.proofs.Choice.{cond-cases}
+use Rattle.gametree.proofs.Lists.{all-map}
+use Rattle.gametree.proofs.MtdSound.{Kept, sound}
+use Rattle.gametree.proofs.MtdValue.{kept-lower, fresh-kept, mtd-right}
+use Rattle.gametree.proofs.SssSteps.{Takes, Steps, done, quietly, evaluates, allow, chain}
+use Rattle.gametree.proofs.Frontier.{frontier, Fitted, states, frontier-high, next}
+use Rattle.gametree.proofs.Work.{full, part, work, full-size}
+use Rattle.gametree.proofs.Simulation.{Around, takes, sim}
+
+-- a list that holds the tree's states and nothing else
+alone : (Y : Layout) (γ : ℕ) (t : Tree) → size t ≤ Y .nodes → Around Y γ t [] []
+alone Y γ t h = record { left = tt; right = tt; clear-left = tt; clear-right = tt; after = tt; room = omega arith }
+
+-- a run of MTD is a run of SSS*
+pub run-steps : (ν : ℕ → ℕ) (Y : Layout) (f γ : ℕ) (t : Tree) (m : Memo t) (w : Fitted t m) → Answers Y t
+    → size t ≤ Y .nodes → Scored ν t → Kept ν γ t m → γ ≤ greatest
+    → All (λ s. s .merit ≤ γ) (states ν γ t m w) → γ < f
+    → Steps ν Y (work t m w) (states ν γ t m w) (run ν f γ t m .evaluated)
+    (solved (number t) (run ν f γ t m .value) ∷ []) 0
+run-steps ν Y zero γ t m w p z h k g b l = absurd (omega (arith, l))
+run-steps ν Y (suc f) γ t m w p z h k g b l =
+    let S = sim ν Y γ t m w p h k g b [] [] (alone Y γ t z) in
+    let n = pass ν γ t m .next in
+    let F = states ν γ t m w in
+    let more : work t m w + 0 ≤ work t m w = omega arith in
+    cond-cases (λ (q : Run t). Steps ν Y (work t m w) F (q .evaluated) (solved (number t) (q .value) ∷ []) 0)
+    (pass ν γ t m .notBelow) _ _
+    (λ e. allow more (rw (append-nil F) at (S .above 0 e)))
+    (λ e.
+    let s = sound ν γ t m h k in
+    let d = s .below e in
+    let N = next ν γ t m w h k g b e in
+    let c =
+    frontier-high ν γ t n h (s .kept) g (N .0)
+    (all-map _ (λ x. x .merit ≤ γ) (λ x y. le-of-lt y) (frontier ν t n) (N .1)) in
+    let enough : part t n ≤ part t n + 0 = omega arith in
+    chain (allow more (rw (append-nil F, append-nil (frontier ν t n)) at (S .below 0 e))) enough
+    (run-steps ν Y f (memoHigh ν t n) t n (inr (N .0)) p z h (kept-lower ν t n (omega arith) (s .kept))
+    (omega arith) c (omega arith)))
+
+-- what a run gives that ends with v, evaluates the leaves w, and makes at most a replacements
+pub record Gives (r : Ran) (v : ℕ) (w : List ℕ) (a : ℕ) : Type 0 where
+  pub end-is : r .end ≡ finished v
+  pub leaves-are : r .evaluated ≡ w
+  pub replaced : r .replacements ≤ a
+
+module _ (ν : ℕ → ℕ) (Y : Layout) (v : ℕ) where
+  -- the run follows the steps
+  pub go-steps : (f : ℕ) {a b : ℕ} {L N : List State} {w : List ℕ} → Steps ν Y a L w N b → Takes ν Y N (stop v)
+      → a < f → Gives (runFrom (λ L. step ν Y L) f L) v w a
+  go-steps zero s e l = absurd (omega (arith, l))
+  go-steps (suc f) (done o k) e l =
+      rw (e .by-tree) (record { end-is = refl; leaves-are = refl; replaced = omega arith })
+  go-steps (suc f) (quietly t k p) e l =
+      let q = go-steps f p e (omega arith) in
+      rw (t .by-tree) (record { end-is = q .end-is; leaves-are = q .leaves-are; replaced = omega (arith, q .replaced) })
+  go-steps (suc f) (evaluates {n = n} t k p) e l =
+      let q = go-steps f p e (omega arith) in
+      rw (t .by-tree) (record {
+        end-is = q .end-is;
+        leaves-are = ap (λ x. n ∷ x) (q .leaves-are);
+        replaced = omega (arith, q .replaced);
+      })
+
+  -- and taking the first on the list is the same
+  pub go-first : (f : ℕ) {a b : ℕ} {L N : List State} {w : List ℕ} → Steps ν Y a L w N b → Takes ν Y N (stop v) → a < f
+      → runFrom (λ L. step ν Y L) f L ≡ runFrom (λ L. stepFirst ν Y L) f L
+  go-first zero s e l = absurd (omega (arith, l))
+  go-first (suc f) (done o k) e l = rw (e .by-tree, e .by-list) refl
+  go-first (suc f) (quietly {M = M} t k p) e l =
+      rw (t .by-tree, t .by-list) (ap
+      (λ (r : Ran). record { end = r .end; evaluated = r .evaluated; replacements = suc (r .replacements) })
+      (go-first f p e (omega arith)))
+  go-first (suc f) (evaluates {n = n} t k p) e l =
+      rw (t .by-tree, t .by-list) (ap
+      (λ (r : Ran). record { end = r .end; evaluated = n ∷ r .evaluated; replacements = suc (r .replacements) })
+      (go-first f p e (omega arith)))
+
+-- the root, SOLVED, stops the run
+pub root-stops : (ν : ℕ → ℕ) (Y : Layout) (t : Tree) (v : ℕ) → Y .link (number t) ≡ root → size t ≤ Y .nodes
+    → Takes ν Y (solved (number t) v ∷ []) (stop v)
+root-stops ν Y t v o z = takes ν Y v t [] [] (alone Y v t z) SOLVED (stop v) (rw o refl)
+
+-- from the LIVE root MTD's leaves are evaluated
+pub mtd-steps : (ν : ℕ → ℕ) (Y : Layout) (t : Tree) → Answers Y t → size t ≤ Y .nodes → Scored ν t
+    → Steps ν Y (full t) (live (number t) greatest ∷ []) (mtd ν t .evaluated)
+    (solved (number t) (mtd ν t .value) ∷ []) 0
+unfolding mtd
+mtd-steps ν Y t p z h =
+    run-steps ν Y 64003 greatest t (fresh t) (inl refl) p z h (fresh-kept ν greatest t) (le-refl greatest)
+    (le-refl greatest, tt) (omega arith)
+
+module _ (ν : ℕ → ℕ) (Y : Layout) (t : Tree) (p : Answers Y t) (o : Y .link (number t) ≡ root)
+    (z : size t ≤ Y .nodes) (h : Scored ν t) where
+  -- SSS* gives the minimax value and MTD's leaves in MTD's order, and makes fewer replacements than twice the number
+  -- of nodes
+  pub sss-is-mtd : Gives (sssOver ν Y t) (minimax ν t) (mtd ν t .evaluated) (full t)
+  sss-is-mtd =
+      subst (λ v. Gives (sssOver ν Y t) v (mtd ν t .evaluated) (full t)) (mtd-right ν t h .value)
+      (go-steps ν Y (mtd ν t .value) (2 * size t) (mtd-steps ν Y t p z h) (root-stops ν Y t (mtd ν t .value) o z)
+      (full-size t))
+
+  -- the order of the list is the order in the tree
+  pub sss-is-first : sssOver ν Y t ≡ sssFirst ν Y t
+  sss-is-first =
+      go-first ν Y (mtd ν t .value) (2 * size t) (mtd-steps ν Y t p z h) (root-stops ν Y t (mtd ν t .value) o z)
+      (full-size t)

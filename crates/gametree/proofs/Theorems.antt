@@ -1,0 +1,361 @@
+-- The theorems for use, on regular trees: distinct node numbers and real scores. Each says in one sentence what it
+-- gives.
+use Prim.Native.Nat.{ℕ, suc, _+_, _*_, _≤_, _<_, suc-le-suc}
+use native.Mathlib.Nat.{le-refl, le-trans, lt-of-le-of-lt}
+use native.Mathlib.Omega.{arith}
+use mathlib.Core.Path.{_≡_, refl, sym, _∙_, ap, ap₂, subst}
+use mathlib.Core.Logic.{_↔_}
+use mathlib.Core.Bool.{Bool, true, false, cond}
+use mathlib.Core.List.{List, [], _++_, map}
+use lib.ListN.{length}
+use Rattle.gametree.specs.Lists.{All, among, Once, Subsequence, different}
+use Rattle.gametree.specs.Tree.{Side, Max, Min, Tree, leaf, inner, Kids, least, greatest, minimax, size, leaves}
+use Rattle.gametree.specs.Tree.{leafCount, In, EveryLeaf, Score, Scored, Distinct, Proper}
+use Rattle.gametree.specs.Bounds.{known, low, high, bestOf, Decided}
+use Rattle.gametree.specs.AlphaBeta.{reached, clamp, alphaBeta, fullWindow}
+use Rattle.gametree.specs.Mtd.{Memo, memoHigh, pass, run, fresh, mtd, Marks}
+use Rattle.gametree.specs.Layout.{Layout, Describes, SameOn, layoutOf}
+use Rattle.gametree.specs.Sss.{State, empty, step, finished, runFrom, start, sssOver, ListAfter, resumed}
+use Rattle.gametree.specs.Sss.{stepFirst, sssFirst}
+use Rattle.gametree.specs.Certificate.{Rule, SolutionTree, solutionValue, Certifies, pairLeaves, inside}
+use Rattle.gametree.specs.Certificate.{chosen, ReadOff, fill, flag, Smallest, FlagsCertify}
+use Rattle.gametree.specs.Counting.{members, required, certificate?}
+use Rattle.gametree.specs.Move.{rootMove, boundMove, EldersBelow}
+use Rattle.gametree.specs.Searches.{Searched, byAlphaBeta, byMtd, bySss, SameResults}
+use Rattle.gametree.specs.ClosedForm.{unrivalled}
+use Rattle.gametree.proofs.Lists.{all-map, all-among, all-at, once-length, sub-all, sub-once}
+use Rattle.gametree.proofs.Nodes.{leaves-once}
+use Rattle.gametree.proofs.Bounds.{minimax-score, low≤, ≤high, low-mono, high-mono, minimaxKids-best}
+use Rattle.gametree.proofs.Bounds.{known-local}
+use Rattle.gametree.proofs.AlphaBetaValue.{alphaBeta-value, alphaBeta-evaluated, reached-ordered}
+use Rattle.gametree.proofs.AlphaBetaLocal.{alphaBeta-local, known-exact}
+use Rattle.gametree.proofs.MtdValue.{fresh-kept, mtd-right}
+use Rattle.gametree.proofs.MtdMarks.{pass-marks, fresh-marks, mtd-marks, memoHigh-is, memoLow-is}
+use Rattle.gametree.proofs.MtdPasses.{how-many-different, run-passes}
+use Rattle.gametree.proofs.MtdLocal.{run-local, fresh-agree}
+use Rattle.gametree.proofs.Work.{full-size}
+use Rattle.gametree.proofs.SssRun.{sss-is-mtd, sss-is-first}
+use Rattle.gametree.proofs.SssLists.{list-reached, resume}
+use Rattle.gametree.proofs.SssLocal.{runFrom-local}
+use Rattle.gametree.proofs.OwnLayout.{own-layout}
+use Rattle.gametree.proofs.SssLayouts.{sss-alike}
+use Rattle.gametree.proofs.Solution.{under-refl, solution-bound, certified, rule-counted, counted-rule}
+use Rattle.gametree.proofs.Checker.{certificate-passes, passed-certifies}
+use Rattle.gametree.proofs.ReadOff.{fits, read-unique}
+use Rattle.gametree.proofs.Certificates.{flag-inside, decided-certify}
+use Rattle.gametree.proofs.Counts.{once-count}
+use Rattle.gametree.proofs.SmallestPair.{smallest≤, smallest-found}
+use Rattle.gametree.proofs.Moves.{move-same, alphaBeta-shown, boundMove-local}
+use Rattle.gametree.proofs.MtdMoves.{mtdMax-decides, max-elders, mtd-move}
+use Rattle.gametree.proofs.Domination.{mtd-reaches}
+use Rattle.gametree.proofs.ClosedForm.{mtd-unrivalled}
+
+-- BOUNDS
+
+-- an evaluated leaf has its score for both bounds
+pub bounds-evaluated : (ν : ℕ → ℕ) (E : ℕ → Bool) (n : ℕ) → E n ≡ true
+    → (low ν E (leaf n) ≡ ν n) × (high ν E (leaf n) ≡ ν n)
+bounds-evaluated ν E n e = (rw e refl, rw e refl)
+
+-- another leaf has `least` and `greatest`
+pub bounds-other : (ν : ℕ → ℕ) (E : ℕ → Bool) (n : ℕ) → E n ≡ false
+    → (low ν E (leaf n) ≡ least) × (high ν E (leaf n) ≡ greatest)
+bounds-other ν E n e = (rw e refl, rw e refl)
+
+-- a Max node takes the greatest low and the greatest high of its children, a Min node the least of each
+pub bounds-inner : (ν : ℕ → ℕ) (E : ℕ → Bool) (n : ℕ) (s : Side) (ks : Kids)
+    → (low ν E (inner n s ks) ≡ bestOf s (low ν E) ks) × (high ν E (inner n s ks) ≡ bestOf s (high ν E) ks)
+bounds-inner ν E n s ks = (minimaxKids-best (known ν E least) s ks, minimaxKids-best (known ν E greatest) s ks)
+
+-- the minimax value lies between the bounds
+pub bounds-enclose : (ν : ℕ → ℕ) (E : ℕ → Bool) (t : Tree) → Scored ν t
+    → (low ν E t ≤ minimax ν t) × (minimax ν t ≤ high ν E t)
+bounds-enclose ν E t h = (low≤ ν E t, ≤high ν E t h)
+
+-- with more evaluated leaves the bounds are no wider
+pub bounds-narrow : (ν : ℕ → ℕ) (E F : ℕ → Bool) → ((n : ℕ) → E n ≡ true → F n ≡ true) → (t : Tree) → Scored ν t
+    → (low ν E t ≤ low ν F t) × (high ν F t ≤ high ν E t)
+bounds-narrow ν E F f t h = (low-mono ν E F f t, high-mono ν E F f t h)
+
+-- the minimax value is a real score
+pub value-score : (ν : ℕ → ℕ) (t : Tree) → Scored ν t → Score (minimax ν t)
+value-score ν t h = minimax-score ν t h
+
+-- ALPHA-BETA
+
+-- in a window alpha-beta gives the minimax value brought into it, and evaluates the leaves of Baudet's condition
+pub alphaBeta-window : (ν : ℕ → ℕ) (α β : ℕ) → α < β → (t : Tree)
+    → (alphaBeta ν α β t .value ≡ clamp α β (minimax ν t)) × (alphaBeta ν α β t .evaluated ≡ reached ν α β t)
+alphaBeta-window ν α β o t = (alphaBeta-value ν α β o t, alphaBeta-evaluated ν α β o t)
+
+-- its list is in left-to-right order
+pub alphaBeta-ordered : (ν : ℕ → ℕ) (t : Tree) → Subsequence (fullWindow ν t .evaluated) (leaves t)
+alphaBeta-ordered ν t = rw (alphaBeta-evaluated ν least greatest (omega arith) t) (reached-ordered ν least greatest t)
+
+-- MTD
+
+-- the memory marks the leaves evaluated so far: none at the start, and after a pass those of the pass too
+pub memo-start : (t : Tree) → Marks [] t (fresh t)
+memo-start t = fresh-marks t
+
+pub memo-pass : (ν : ℕ → ℕ) (γ : ℕ) (w : List ℕ) (t : Tree) (m : Memo t) → Distinct t → Marks w t m
+    → Marks (w ++ pass ν γ t m .evaluated) t (pass ν γ t m .next)
+memo-pass ν γ w t m d h = pass-marks ν γ w t m d h .marks
+
+-- the high that the memory gives a node is the high bound of those leaves
+pub memo-high : (ν : ℕ → ℕ) (w : List ℕ) (t : Tree) (m : Memo t) → Marks w t m → memoHigh ν t m ≡ high ν (among w) t
+memo-high ν w t m h = memoHigh-is ν w t m h
+
+-- MTD makes at most one pass more than there are different scores among the leaves that it evaluates
+pub mtd-passes : (ν : ℕ → ℕ) (t : Tree) → Proper ν t → mtd ν t .passes ≤ suc (different (map ν (mtd ν t .evaluated)))
+unfolding mtd
+mtd-passes ν t h =
+    le-trans (run-passes ν 64003 greatest [] t (fresh t) h (fresh-kept ν greatest t) (fresh-marks t) (le-refl greatest))
+    (suc-le-suc (how-many-different (map ν (run ν 64003 greatest t (fresh t) .evaluated)) greatest))
+
+-- SSS*
+
+-- a tree with distinct numbers is described by its own layout, so what follows holds of `sss`
+pub layout-own : (t : Tree) → Distinct t → Describes (layoutOf t) t
+layout-own t d = own-layout t d
+
+module _ (ν : ℕ → ℕ) (t : Tree) (h : Scored ν t) (Y : Layout) (d : Describes Y t) where
+  -- SSS* ends with the minimax value, so it never lacks a state
+  pub sss-minimax : sssOver ν Y t .end ≡ finished (minimax ν t)
+  sss-minimax = sss-is-mtd ν Y t (d .answers) (d .top) (d .enough) h .end-is
+
+  -- it evaluates the leaves that MTD evaluates, in the same order
+  pub sss-mtd : sssOver ν Y t .evaluated ≡ mtd ν t .evaluated
+  sss-mtd = sss-is-mtd ν Y t (d .answers) (d .top) (d .enough) h .leaves-are
+
+  -- it makes at most twice as many replacements as there are nodes, less 1
+  pub sss-replacements : sssOver ν Y t .replacements < 2 * size t
+  sss-replacements = lt-of-le-of-lt (sss-is-mtd ν Y t (d .answers) (d .top) (d .enough) h .replaced) (full-size t)
+
+  -- taking the first state of greatest merit on the list, whatever its place in the tree, is the same
+  pub sss-first : sssOver ν Y t ≡ sssFirst ν Y t
+  sss-first = sss-is-first ν Y t (d .answers) (d .top) (d .enough) h
+
+  -- over a layout that answers alike for the nodes of the tree it is the same run
+  pub sss-layout : (Z : Layout) → SameOn Z Y t → sssOver ν Z t ≡ sssOver ν Y t
+  sss-layout Z a = sss-alike ν Z Y t a d
+
+  module _ {k : ℕ} {w : List ℕ} {L : List State} (r : ListAfter ν Y t k w L) where
+    -- a list that it reaches has an entry for each node at most
+    pub list-fits : length L ≤ Y .nodes
+    list-fits = list-reached ν Y t d h r .fits
+
+    -- and holds a state
+    pub list-state : step ν Y L ≡ empty → ⊥
+    list-state = list-reached ν Y t d h r .state
+
+    -- the first state of greatest merit on it is the one that the rule takes
+    pub list-first : stepFirst ν Y L ≡ step ν Y L
+    list-first = list-reached ν Y t d h r .first
+
+    -- fewer replacements than twice the number of nodes led to it
+    pub list-few : k < 2 * size t
+    list-few = list-reached ν Y t d h r .few
+
+    -- the leaves so far are the first of the whole run's list
+    pub list-prefix : (u : List ℕ) × (w ++ u ≡ sssOver ν Y t .evaluated)
+    list-prefix = let a = list-reached ν Y t d h r in (a .toCome, a .whole ∙ sym sss-mtd)
+
+    -- and the run goes on from it, for what is left of the bound on states taken
+    pub list-resumes : (f : ℕ) → k + f ≡ 2 * size t → sssOver ν Y t ≡ resumed k w (runFrom (λ M. step ν Y M) f L)
+    list-resumes f e = resume ν Y t r f e
+
+-- CERTIFICATES
+
+-- the rule of a node holds exactly if the count of its children in the set is the required one
+pub rule-counting : (p q : Side) (b : Bool) (g : ℕ → Bool) (ks : Kids)
+    → Rule p q b g ks ↔ (members g ks ≡ required p q b ks)
+rule-counting p q b g ks = (rule-counted p q b g ks, counted-rule p q b g ks)
+
+-- the test of a certificate passes exactly the certificates
+pub certificate-test : (ν : ℕ → ℕ) (t : Tree) (g h : ℕ → Bool)
+    → (certificate? ν t g h ≡ true) ↔ ((v : ℕ) × Certifies ν t g h v)
+certificate-test ν t g h = (
+  λ e. (solutionValue Max ν g t, passed-certifies ν t g h e),
+  λ c. certificate-passes ν t g h (c .0) (c .1),
+)
+
+-- a max tree's value is at least the minimax value, a min tree's at most
+pub solution-bounds : (ν : ℕ → ℕ) (t : Tree) (g : ℕ → Bool)
+    → (SolutionTree Max g t → minimax ν t ≤ solutionValue Max ν g t)
+    × (SolutionTree Min g t → solutionValue Min ν g t ≤ minimax ν t)
+solution-bounds ν t g = (solution-bound Max ν g t, solution-bound Min ν g t)
+
+-- so what a certificate certifies is the minimax value
+pub certificate-minimax : (ν : ℕ → ℕ) (t : Tree) (g h : ℕ → Bool) (v : ℕ) → Certifies ν t g h v → v ≡ minimax ν t
+certificate-minimax ν t g h v c = certified ν t g h v c
+
+-- a set that is read off the bounds node by node is the one that the flags hold
+pub flags-unique : (p : Side) (ν : ℕ → ℕ) (E g : ℕ → Bool) (t : Tree) → Distinct t
+    → ReadOff p (known ν E (fill p)) g true t
+    → (k : ℕ) → In k t → g k ≡ inside p (flag ν E t k)
+flags-unique p ν E g t d r = read-unique p _ g _ true t r (fits p _ _ true t d (λ k i. flag-inside p ν E t k))
+
+-- a smallest certificate exists
+pub smallest-exists : (ν : ℕ → ℕ) (t : Tree) → Proper ν t → (g : ℕ → Bool) × (h : ℕ → Bool) × Smallest ν t g h
+smallest-exists ν t r = smallest-found ν t r
+
+-- THE THREE SEARCHES
+
+module _ (ν : ℕ → ℕ) (t : Tree) (r : Proper ν t) where
+  -- alpha-beta with the full window gives the minimax value
+  pub alphaBeta-minimax : fullWindow ν t .value ≡ minimax ν t
+  alphaBeta-minimax =
+      let e = alphaBeta-value ν least greatest (omega arith) t in
+      let s = minimax-score ν t (r .scored) in
+      omega arith
+
+  -- so does MTD (and SSS*: `sss-minimax`)
+  pub mtd-minimax : mtd ν t .value ≡ minimax ν t
+  mtd-minimax = mtd-right ν t (r .scored) .value
+
+  alphaBeta-decided : Decided ν (among (fullWindow ν t .evaluated)) t
+  alphaBeta-decided =
+      let E = among (fullWindow ν t .evaluated) in
+      let s = minimax-score ν t (r .scored) in
+      let c = all-among (fullWindow ν t .evaluated) in
+      record {
+        lowIs = known-exact ν E least greatest least t c (s .0) (s .1);
+        highIs = known-exact ν E least greatest greatest t c (s .0) (s .1);
+      }
+
+  mtd-decided : Decided ν (among (mtd ν t .evaluated)) t
+  mtd-decided =
+      let m = mtd-marks ν t (r .distinct) .marks in
+      let b = mtd-right ν t (r .scored) in
+      record {
+        lowIs = sym (memoLow-is ν (mtd ν t .evaluated) t (mtd ν t .memo) m) ∙ b .low-is;
+        highIs = sym (memoHigh-is ν (mtd ν t .evaluated) t (mtd ν t .memo) m) ∙ b .high-is;
+      }
+
+  -- what holds of MTD's leaves holds of those of SSS*
+  as-mtd : (P : List ℕ → Type 0) (Y : Layout) → Describes Y t → P (mtd ν t .evaluated) → P (sssOver ν Y t .evaluated)
+  as-mtd P Y d x = subst P (sym (sss-mtd ν t (r .scored) Y d)) x
+
+  -- the bounds of the leaves that a search evaluates meet at the minimax value
+  pub search-decides : {w : List ℕ} → Searched ν t w → Decided ν (among w) t
+  search-decides byAlphaBeta = alphaBeta-decided
+  search-decides byMtd = mtd-decided
+  search-decides (bySss Y d) = as-mtd (λ w. Decided ν (among w) t) Y d mtd-decided
+
+  -- the flags read off them are a certificate of that value, made of evaluated leaves only
+  pub search-certifies : {w : List ℕ} → Searched ν t w → FlagsCertify ν (among w) t
+  search-certifies s = decided-certify ν _ t r (search-decides s)
+
+  -- no leaf is evaluated twice
+  pub search-once : {w : List ℕ} → Searched ν t w → Once w
+  search-once byAlphaBeta = sub-once (alphaBeta-ordered ν t) (leaves-once t (r .distinct))
+  search-once byMtd = mtd-marks ν t (r .distinct) .once
+  search-once (bySss Y d) = as-mtd Once Y d (mtd-marks ν t (r .distinct) .once)
+
+  -- domination: every leaf that a search evaluates is one that alpha-beta evaluates
+  pub domination : {w : List ℕ} → Searched ν t w → All (λ k. among (fullWindow ν t .evaluated) k ≡ true) w
+  domination byAlphaBeta = all-among (fullWindow ν t .evaluated)
+  domination byMtd = rw (alphaBeta-evaluated ν least greatest (omega arith) t) (mtd-reaches ν t (r .scored))
+  domination (bySss Y d) =
+      as-mtd (λ w. All (λ k. among (fullWindow ν t .evaluated) k ≡ true) w) Y d
+      (rw (alphaBeta-evaluated ν least greatest (omega arith) t) (mtd-reaches ν t (r .scored)))
+
+  -- so no search evaluates more leaves than alpha-beta
+  pub domination-count : {w : List ℕ} → Searched ν t w → length w ≤ length (fullWindow ν t .evaluated)
+  domination-count {w} s = once-length w (fullWindow ν t .evaluated) (search-once s) (domination s)
+
+  -- every number that is listed is a leaf of the tree
+  pub search-leaves : {w : List ℕ} → Searched ν t w → All (λ k. among (leaves t) k ≡ true) w
+  search-leaves {w} s =
+      let a = sub-all _ (alphaBeta-ordered ν t) (all-among (leaves t)) in
+      all-map _ _ (λ k e. all-at (λ k. among (leaves t) k ≡ true) (fullWindow ν t .evaluated) a k e) w (domination s)
+
+  -- so the count of a search, the length of its list, is the number of leaves that are marked as evaluated
+  pub search-count : {w : List ℕ} → Searched ν t w → leafCount (among w) t ≡ length w
+  search-count {w} s = once-count w t (r .distinct) (search-once s) (search-leaves s)
+
+  -- no search evaluates fewer leaves than a smallest certificate has
+  pub search-smallest : (g h : ℕ → Bool) → Smallest ν t g h → {w : List ℕ} → Searched ν t w
+      → pairLeaves g h t ≤ length w
+  search-smallest g h m {w} s = smallest≤ ν t g h w r m (search-certifies s)
+
+  -- the closed form: MTD, and so SSS*, evaluates a leaf exactly if its alpha is less than its beta and no rival exceeds
+  -- its beta
+  pub closed-form-mtd : EveryLeaf (λ n. among (mtd ν t .evaluated) n ≡ among (unrivalled ν least greatest least t) n) t
+  closed-form-mtd = mtd-unrivalled ν t r
+
+  pub closed-form-sss : (Y : Layout) → Describes Y t
+      → EveryLeaf (λ n. among (sssOver ν Y t .evaluated) n ≡ among (unrivalled ν least greatest least t) n) t
+  closed-form-sss Y d =
+      as-mtd (λ w. EveryLeaf (λ n. among w n ≡ among (unrivalled ν least greatest least t) n) t) Y d closed-form-mtd
+
+-- the move: the first child of the root that the bounds of a search's leaves prove to have the root's value is the
+-- first that has it
+pub search-move : (ν : ℕ → ℕ) (t : Tree) → Proper ν t → {w : List ℕ} → Searched ν t w
+    → boundMove ν (among w) t ≡ rootMove ν t
+search-move ν (leaf n) r s = refl
+search-move ν (inner n p ks) r byAlphaBeta =
+    let t = inner n p ks in
+    let v = minimax-score ν t (r .scored) in
+    move-same ν _ n p ks (r .scored) (alphaBeta-decided ν t r)
+    (alphaBeta-shown ν _ p least greatest _ _ ks (v .0) (v .1) (under-refl p _) (all-among (fullWindow ν t .evaluated)))
+search-move ν (inner n p ks) r byMtd = mtd-move ν n p ks r (mtd-decided ν (inner n p ks) r)
+search-move ν (inner n p ks) r (bySss Y d) =
+    as-mtd ν (inner n p ks) r (λ w. boundMove ν (among w) (inner n p ks) ≡ rootMove ν (inner n p ks)) Y d
+    (mtd-move ν n p ks r (mtd-decided ν (inner n p ks) r))
+
+-- under a Max root MTD, and so SSS*, leaves the elder brothers of the move with highs below the value
+pub mtd-elders : (ν : ℕ → ℕ) (n : ℕ) (ks : Kids) → Proper ν (inner n Max ks)
+    → EldersBelow ν (among (mtd ν (inner n Max ks) .evaluated)) (minimax ν (inner n Max ks)) ks
+mtd-elders ν n ks r =
+    let t = inner n Max ks in
+    let d = rw (mtd-right ν t (r .scored) .value) at (mtdMax-decides ν n ks (r .scored)) in
+    max-elders ν (mtd ν t .evaluated) _ ks (mtd ν t .memo .kids) (mtd-marks ν t (r .distinct) .marks) d
+
+pub sss-elders : (ν : ℕ → ℕ) (n : ℕ) (ks : Kids) → Proper ν (inner n Max ks) → (Y : Layout)
+    → Describes Y (inner n Max ks)
+    → EldersBelow ν (among (sssOver ν Y (inner n Max ks) .evaluated)) (minimax ν (inner n Max ks)) ks
+sss-elders ν n ks r Y d =
+    let t = inner n Max ks in
+    as-mtd ν t r (λ w. EldersBelow ν (among w) (minimax ν t) ks) Y d (mtd-elders ν n ks r)
+
+-- LOCALITY
+
+-- alpha-beta gives the same value and list under a valuation that agrees on the leaves that it evaluates
+pub local-alphaBeta : (ν μ : ℕ → ℕ) (t : Tree) → All (λ k. ν k ≡ μ k) (fullWindow ν t .evaluated)
+    → fullWindow ν t ≡ fullWindow μ t
+local-alphaBeta ν μ t a = sym (alphaBeta-local ν μ least greatest t a)
+
+-- MTD gives the same value, list, memory and passes
+pub local-mtd : (ν μ : ℕ → ℕ) (t : Tree) → All (λ k. ν k ≡ μ k) (mtd ν t .evaluated) → mtd ν t ≡ mtd μ t
+unfolding mtd
+local-mtd ν μ t a = run-local ν μ 64003 greatest t (fresh t) (fresh-agree ν μ t) a
+
+-- SSS* gives the same end, list and replacements
+pub local-sss : (ν μ : ℕ → ℕ) (Y : Layout) (t : Tree) → All (λ k. ν k ≡ μ k) (sssOver ν Y t .evaluated)
+    → sssOver ν Y t ≡ sssOver μ Y t
+local-sss ν μ Y t a = runFrom-local ν μ Y (2 * size t) (start t) a
+
+-- each search evaluates the same leaves
+pub local-search : (ν μ : ℕ → ℕ) (t : Tree) {w : List ℕ} → Searched ν t w → All (λ k. ν k ≡ μ k) w → Searched μ t w
+local-search ν μ t byAlphaBeta a = subst (λ x. Searched μ t (x .evaluated)) (sym (local-alphaBeta ν μ t a)) byAlphaBeta
+local-search ν μ t byMtd a = subst (λ x. Searched μ t (x .evaluated)) (sym (local-mtd ν μ t a)) byMtd
+local-search ν μ t (bySss Y d) a = subst (λ x. Searched μ t (x .evaluated)) (sym (local-sss ν μ Y t a)) (bySss Y d)
+
+-- and hands over the same value, move and flags
+pub local-results : (ν μ : ℕ → ℕ) (t : Tree) → Proper ν t → Proper μ t → {w : List ℕ} → Searched ν t w
+    → All (λ k. ν k ≡ μ k) w
+    → SameResults ν μ t w
+local-results ν μ t r q {w} s a =
+    let z = local-search ν μ t s a in
+    record {
+      sameValue =
+          sym (search-decides ν t r s .lowIs) ∙ ap (λ κ. minimax κ t) (known-local ν μ w a least)
+          ∙ search-decides μ t q z .lowIs;
+      sameMove = sym (search-move ν t r s) ∙ boundMove-local ν μ w a t ∙ search-move μ t q z;
+      sameFlags = λ k.
+          ap₂ (λ κ χ. cond (chosen Max κ true t k) 1 0 + cond (chosen Min χ true t k) 2 0)
+          (known-local ν μ w a greatest)
+          (known-local ν μ w a least);
+    }

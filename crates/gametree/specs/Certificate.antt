@@ -1,0 +1,151 @@
+-- Certificates (the papers' proofs): a max and a min solution tree of equal value, as sets of nodes and as flags, and
+-- the one read off the bounds.
+use Prim.Native.Nat.{ℕ, _+_, _≤_}
+use mathlib.Core.Path.{_≡_}
+use mathlib.Core.Logic.{_⊎_}
+use mathlib.Core.Bool.{Bool, true, false, cond, not, _&&_, _||_}
+use lib.Dec.{eqb}
+use Rattle.gametree.specs.Tree.{Side, Max, Min, Tree, leaf, inner, Kids, last, _then_}
+use Rattle.gametree.specs.Tree.{least, greatest, better, minimax, minimaxKids, number, EveryLeaf}
+use Rattle.gametree.specs.Bounds.{known}
+
+-- each child, no child, exactly one child is in the set g
+abbrev pub Each : (ℕ → Bool) → Kids → Type 0
+Each g (last t) = g (number t) ≡ true
+Each g (t then ts) = (g (number t) ≡ true) × Each g ts
+
+abbrev pub NoneOf : (ℕ → Bool) → Kids → Type 0
+NoneOf g (last t) = g (number t) ≡ false
+NoneOf g (t then ts) = (g (number t) ≡ false) × NoneOf g ts
+
+abbrev pub OneOf : (ℕ → Bool) → Kids → Type 0
+OneOf g (last t) = g (number t) ≡ true
+OneOf g (t then ts) = ((g (number t) ≡ true) × NoneOf g ts) ⊎ ((g (number t) ≡ false) × OneOf g ts)
+
+-- the rule for the children of a node of side q in a solution tree of side p; the Bool says whether the node is in it.
+-- Of a node in it each child is where p moves and exactly one where the other side moves, of a node outside it none.
+abbrev pub Rule : (p q : Side) → Bool → (ℕ → Bool) → Kids → Type 0
+Rule p q false g ks = NoneOf g ks
+Rule Max Max true g ks = Each g ks
+Rule Max Min true g ks = OneOf g ks
+Rule Min Max true g ks = OneOf g ks
+Rule Min Min true g ks = Each g ks
+
+-- the rule holds at each inner node
+abbrev mutual
+  pub Rules : Side → (ℕ → Bool) → Tree → Type 0
+  Rules p g (leaf n) = Unit
+  Rules p g (inner n q ks) = Rule p q (g n) g ks × RulesKids p g ks
+
+  pub RulesKids : Side → (ℕ → Bool) → Kids → Type 0
+  RulesKids p g (last t) = Rules p g t
+  RulesKids p g (t then ts) = Rules p g t × RulesKids p g ts
+
+-- the set g is a solution tree of side p: a max tree for Max, a min tree for Min
+abbrev pub SolutionTree : Side → (ℕ → Bool) → Tree → Type 0
+SolutionTree p g t = (g (number t) ≡ true) × Rules p g t
+
+-- the score that each other score is better than, for a side
+abbrev pub worst : Side → ℕ
+worst Max = least
+worst Min = greatest
+
+-- the value of side p's solution tree g: the greatest score of its leaves for Max, the least for Min
+abbrev mutual
+  pub solutionValue : Side → (ℕ → ℕ) → (ℕ → Bool) → Tree → ℕ
+  solutionValue p ν g (leaf n) = cond (g n) (ν n) (worst p)
+  solutionValue p ν g (inner n q ks) = solutionValueKids p ν g ks
+
+  pub solutionValueKids : Side → (ℕ → ℕ) → (ℕ → Bool) → Kids → ℕ
+  solutionValueKids p ν g (last t) = solutionValue p ν g t
+  solutionValueKids p ν g (t then ts) = better p (solutionValue p ν g t) (solutionValueKids p ν g ts)
+
+-- the sets g and h certify the value v
+pub record Certifies (ν : ℕ → ℕ) (t : Tree) (g h : ℕ → Bool) (v : ℕ) : Type 0 where
+  pub maxTree : SolutionTree Max g t
+  pub minTree : SolutionTree Min h t
+  pub maxValue : solutionValue Max ν g t ≡ v
+  pub minValue : solutionValue Min ν h t ≡ v
+
+-- how many leaves are in one of two sets, a shared one counted once
+abbrev mutual
+  pub pairLeaves : (ℕ → Bool) → (ℕ → Bool) → Tree → ℕ
+  pairLeaves g h (leaf n) = cond (g n || h n) 1 0
+  pairLeaves g h (inner n q ks) = pairLeavesKids g h ks
+
+  pub pairLeavesKids : (ℕ → Bool) → (ℕ → Bool) → Kids → ℕ
+  pairLeavesKids g h (last t) = pairLeaves g h t
+  pairLeavesKids g h (t then ts) = pairLeaves g h t + pairLeavesKids g h ts
+
+-- a flag as the membership in a side's tree: 1 in the max tree, 2 in the min tree, 3 in both
+abbrev pub inside : Side → ℕ → Bool
+inside Max f = eqb f 1 || eqb f 3
+inside Min f = eqb f 2 || eqb f 3
+
+abbrev pub same : Side → Side → Bool
+same Max Max = true
+same Max Min = false
+same Min Max = false
+same Min Min = true
+
+-- is the node k in side p's tree read off the valuation μ, where b says whether the root is:
+-- where p moves each child is, where the other side moves the first child with the node's value
+abbrev mutual
+  pub chosen : Side → (ℕ → ℕ) → Bool → Tree → ℕ → Bool
+  chosen p μ b (leaf n) k = b && eqb k n
+  chosen p μ b (inner n q ks) k =
+      (b && eqb k n) || cond (same p q) (chosenEach p μ b ks k) (chosenFirst p μ b (minimaxKids μ q ks) ks k)
+
+  pub chosenEach : Side → (ℕ → ℕ) → Bool → Kids → ℕ → Bool
+  chosenEach p μ b (last t) k = chosen p μ b t k
+  chosenEach p μ b (t then ts) k = chosen p μ b t k || chosenEach p μ b ts k
+
+  pub chosenFirst : Side → (ℕ → ℕ) → Bool → ℕ → Kids → ℕ → Bool
+  chosenFirst p μ b v (last t) k = chosen p μ (b && eqb (minimax μ t) v) t k
+  chosenFirst p μ b v (t then ts) k =
+      chosen p μ (b && eqb (minimax μ t) v) t k || chosenFirst p μ (b && not (eqb (minimax μ t) v)) v ts k
+
+-- the set g is side p's tree read off μ, where b says whether the root is in it: the rule of `chosen`, node by node
+abbrev mutual
+  pub ReadOff : Side → (ℕ → ℕ) → (ℕ → Bool) → Bool → Tree → Type 0
+  ReadOff p μ g b (leaf n) = g n ≡ b
+  ReadOff p μ g b (inner n q ks) =
+      (g n ≡ b) × cond (same p q) (ReadEach p μ g b ks) (ReadFirst p μ g b (minimaxKids μ q ks) ks)
+
+  pub ReadEach : Side → (ℕ → ℕ) → (ℕ → Bool) → Bool → Kids → Type 0
+  ReadEach p μ g b (last t) = ReadOff p μ g b t
+  ReadEach p μ g b (t then ts) = ReadOff p μ g b t × ReadEach p μ g b ts
+
+  pub ReadFirst : Side → (ℕ → ℕ) → (ℕ → Bool) → Bool → ℕ → Kids → Type 0
+  ReadFirst p μ g b v (last t) = ReadOff p μ g (b && eqb (minimax μ t) v) t
+  ReadFirst p μ g b v (t then ts) =
+      ReadOff p μ g (b && eqb (minimax μ t) v) t × ReadFirst p μ g (b && not (eqb (minimax μ t) v)) v ts
+
+-- the max tree is read off the highs that the evaluated leaves E give, where another leaf has the greatest score, the
+-- min tree off the lows
+abbrev pub fill : Side → ℕ
+fill Max = greatest
+fill Min = least
+
+abbrev pub solutionOf : Side → (ℕ → ℕ) → (ℕ → Bool) → Tree → ℕ → Bool
+solutionOf p ν E t k = chosen p (known ν E (fill p)) true t k
+
+-- the flag of a node: 1 if it is in the max tree, 2 if in the min tree, 3 if in both, else 0
+abbrev pub flag : (ℕ → ℕ) → (ℕ → Bool) → Tree → ℕ → ℕ
+flag ν E t k = cond (solutionOf Max ν E t k) 1 0 + cond (solutionOf Min ν E t k) 2 0
+
+-- a certificate that no other undercuts in the number of leaves
+pub record Smallest (ν : ℕ → ℕ) (t : Tree) (g h : ℕ → Bool) : Type 0 where
+  pub value : ℕ
+  pub certifies : Certifies ν t g h value
+  pub fewest : (g′ h′ : ℕ → Bool) (v : ℕ) → Certifies ν t g′ h′ v → pairLeaves g h t ≤ pairLeaves g′ h′ t
+
+-- each leaf of the set g is in the set E
+abbrev pub LeavesIn : (ℕ → Bool) → (ℕ → Bool) → Tree → Type 0
+LeavesIn g E t = EveryLeaf (λ n. g n ≡ true → E n ≡ true) t
+
+-- the flags read off the bounds of the evaluated leaves E certify the minimax value, and flag evaluated leaves only
+pub record FlagsCertify (ν : ℕ → ℕ) (E : ℕ → Bool) (t : Tree) : Type 0 where
+  pub certifies : Certifies ν t (λ k. inside Max (flag ν E t k)) (λ k. inside Min (flag ν E t k)) (minimax ν t)
+  pub maxLeaves : LeavesIn (λ k. inside Max (flag ν E t k)) E t
+  pub minLeaves : LeavesIn (λ k. inside Min (flag ν E t k)) E t

@@ -1,0 +1,130 @@
+-- What SSS* asks of a tree, in a form that a table of nodes can answer, and the answers that the tree itself gives.
+use Prim.Native.Nat.{ℕ, _≤_}
+use mathlib.Core.Path.{_≡_}
+use mathlib.Core.Bool.{Bool, true, false, cond, _||_}
+use mathlib.Core.Option.{Option, none, some}
+use mathlib.Core.List.{List, [], _∷_}
+use lib.Dec.{eqb}
+use Rattle.gametree.specs.Tree.{Side, Tree, leaf, inner, Kids, last, _then_, number, size, In, InKids}
+
+-- a leaf (tip), or an inner node with its side, its first child and its other children
+pub data Kind : Type 0 where
+  tip : Kind
+  fork : (side : Side) (first : ℕ) (others : List ℕ) → Kind
+
+-- the root, or a node under a parent, with the parent's side and the next brother
+pub data Link : Type 0 where
+  root : Link
+  under : (parent : ℕ) (side : Side) (next : Option ℕ) → Link
+
+-- the number of nodes, each node's kind and place, whether the first of two nodes is above the second (its ancestor),
+-- and whether it is left of it
+pub record Layout : Type 0 where
+  pub nodes : ℕ
+  pub kind : ℕ → Kind
+  pub link : ℕ → Link
+  pub above : ℕ → ℕ → Bool
+  pub leftOf : ℕ → ℕ → Bool
+
+-- the first child's number, and those of the others
+abbrev pub firstOf : Kids → ℕ
+firstOf (last t) = number t
+firstOf (t then ts) = number t
+
+abbrev pub othersOf : Kids → List ℕ
+othersOf (last t) = []
+othersOf (t then ts) = firstOf ts ∷ othersOf ts
+
+-- no node of a child's tree is above a node of a younger brother's, nor the other way round, and the elder's are left
+-- of the younger's
+abbrev pub Apart : Layout → Tree → Kids → Type 0
+Apart Y t ts =
+    (p q : ℕ) → In p t → InKids q ts → (Y .above p q ≡ false) × (Y .above q p ≡ false) × (Y .leftOf p q ≡ true)
+
+-- the layout answers as the tree says, below its root
+abbrev mutual
+  pub Answers : Layout → Tree → Type 0
+  Answers Y (leaf n) = Y .kind n ≡ tip
+  Answers Y (inner n s ks) =
+      (Y .kind n ≡ fork s (firstOf ks) (othersOf ks)) ×
+      ((p : ℕ) → InKids p ks → Y .above n p ≡ true) × AnswersKids Y n s ks
+
+  pub AnswersKids : Layout → ℕ → Side → Kids → Type 0
+  AnswersKids Y n s (last t) = (Y .link (number t) ≡ under n s none) × Answers Y t
+  AnswersKids Y n s (t then ts) =
+      (Y .link (number t) ≡ under n s (some (firstOf ts))) × Apart Y t ts × Answers Y t × AnswersKids Y n s ts
+
+-- the layout is one of this tree
+pub record Describes (Y : Layout) (t : Tree) : Type 0 where
+  pub enough : size t ≤ Y .nodes
+  pub top : Y .link (number t) ≡ root
+  pub answers : Answers Y t
+
+-- two layouts answer alike for the nodes of a tree
+pub record SameOn (Y Z : Layout) (t : Tree) : Type 0 where
+  pub kinds : (p : ℕ) → In p t → Y .kind p ≡ Z .kind p
+  pub links : (p : ℕ) → In p t → Y .link p ≡ Z .link p
+  pub aboves : (p q : ℕ) → In p t → In q t → Y .above p q ≡ Z .above p q
+  pub lefts : (p q : ℕ) → In p t → In q t → Y .leftOf p q ≡ Z .leftOf p q
+
+-- is p the number of a node
+abbrev mutual
+  pub has : ℕ → Tree → Bool
+  has p (leaf n) = eqb p n
+  has p (inner n s ks) = eqb p n || hasKids p ks
+
+  pub hasKids : ℕ → Kids → Bool
+  hasKids p (last t) = has p t
+  hasKids p (t then ts) = has p t || hasKids p ts
+
+-- the kind of the node p
+abbrev mutual
+  pub kindIn : ℕ → Tree → Kind
+  kindIn p (leaf n) = tip
+  kindIn p (inner n s ks) = cond (eqb p n) (fork s (firstOf ks) (othersOf ks)) (kindInKids p ks)
+
+  pub kindInKids : ℕ → Kids → Kind
+  kindInKids p (last t) = kindIn p t
+  kindInKids p (t then ts) = cond (has p t) (kindIn p t) (kindInKids p ts)
+
+-- its place, the tree's own node being the root
+abbrev mutual
+  pub linkIn : ℕ → Tree → Link
+  linkIn p (leaf n) = root
+  linkIn p (inner n s ks) = cond (eqb p n) root (linkInKids n s p ks)
+
+  pub linkInKids : ℕ → Side → ℕ → Kids → Link
+  linkInKids n s p (last t) = cond (eqb p (number t)) (under n s none) (linkIn p t)
+  linkInKids n s p (t then ts) =
+      cond (eqb p (number t)) (under n s (some (firstOf ts))) (cond (has p t) (linkIn p t) (linkInKids n s p ts))
+
+-- is p above q
+abbrev mutual
+  pub aboveIn : ℕ → ℕ → Tree → Bool
+  aboveIn p q (leaf n) = false
+  aboveIn p q (inner n s ks) = cond (eqb p n) (hasKids q ks) (aboveInKids p q ks)
+
+  pub aboveInKids : ℕ → ℕ → Kids → Bool
+  aboveInKids p q (last t) = aboveIn p q t
+  aboveInKids p q (t then ts) = cond (has p t) (aboveIn p q t) (aboveInKids p q ts)
+
+-- is p left of q
+abbrev mutual
+  pub leftIn : ℕ → ℕ → Tree → Bool
+  leftIn p q (leaf n) = false
+  leftIn p q (inner n s ks) = leftInKids p q ks
+
+  pub leftInKids : ℕ → ℕ → Kids → Bool
+  leftInKids p q (last t) = leftIn p q t
+  leftInKids p q (t then ts) = cond (has p t) (hasKids q ts || leftIn p q t) (leftInKids p q ts)
+
+-- the tree's own layout
+abbrev pub layoutOf : Tree → Layout
+layoutOf t =
+    record {
+      nodes = size t;
+      kind = λ p. kindIn p t;
+      link = λ p. linkIn p t;
+      above = λ p q. aboveIn p q t;
+      leftOf = λ p q. leftIn p q t;
+    }

@@ -1,0 +1,24 @@
+-- The three searches, as what they evaluate.
+use Prim.Native.Nat.{ℕ}
+use mathlib.Core.Path.{_≡_}
+use mathlib.Core.List.{List}
+use Rattle.gametree.specs.Lists.{among}
+use Rattle.gametree.specs.Tree.{Tree, minimax}
+use Rattle.gametree.specs.AlphaBeta.{fullWindow}
+use Rattle.gametree.specs.Mtd.{mtd}
+use Rattle.gametree.specs.Layout.{Layout, Describes}
+use Rattle.gametree.specs.Sss.{sssOver}
+use Rattle.gametree.specs.Certificate.{flag}
+use Rattle.gametree.specs.Move.{rootMove}
+
+-- the list of leaves is what one of the searches evaluates in the tree, in order
+pub data Searched (ν : ℕ → ℕ) (t : Tree) : List ℕ → Type 0 where
+  byAlphaBeta : Searched ν t (fullWindow ν t .evaluated)
+  byMtd : Searched ν t (mtd ν t .evaluated)
+  bySss : (Y : Layout) → Describes Y t → Searched ν t (sssOver ν Y t .evaluated)
+
+-- two valuations give the same results where the leaves w are evaluated
+pub record SameResults (ν μ : ℕ → ℕ) (t : Tree) (w : List ℕ) : Type 0 where
+  pub sameValue : minimax ν t ≡ minimax μ t
+  pub sameMove : rootMove ν t ≡ rootMove μ t
+  pub sameFlags : (k : ℕ) → flag ν (among w) t k ≡ flag μ (among w) t k

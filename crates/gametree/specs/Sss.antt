@@ -1,0 +1,150 @@
+-- SSS*: its states, its list, one replacement, and the run, over a layout of the tree.
+use Prim.Native.Nat.{ℕ, zero, suc, _+_, _*_, min}
+use mathlib.Core.Path.{_≡_}
+use mathlib.Core.Bool.{Bool, true, false, cond, _||_, _&&_}
+use mathlib.Core.Option.{none, some}
+use mathlib.Core.List.{List, [], _∷_, _++_, map}
+use lib.Dec.{leb, ltb, eqb}
+use Rattle.gametree.specs.Tree.{Max, Min, Tree, greatest, number, size}
+use Rattle.gametree.specs.Layout.{Layout, Kind, tip, fork, Link, root, under, layoutOf}
+
+-- a state: a node, its status, and its merit, an upper bound of the value (Stockman's words)
+pub data Status : Type 0 where
+  LIVE SOLVED : Status
+
+pub record State : Type 0 where
+  pub node : ℕ
+  pub status : Status
+  pub merit : ℕ
+
+abbrev pub live : ℕ → ℕ → State
+live n m = record { node = n; status = LIVE; merit = m }
+
+abbrev pub solved : ℕ → ℕ → State
+solved n m = record { node = n; status = SOLVED; merit = m }
+
+-- the state taken from the list, with what stands before and behind it
+pub record Taken : Type 0 where
+  pub left : List State
+  pub state : State
+  pub right : List State
+
+-- s is taken rather than x: its merit is greater, or equal and s is left of x in the tree
+abbrev pub beats : Layout → State → State → Bool
+beats Y s x = ltb (x .merit) (s .merit) || (eqb (x .merit) (s .merit) && Y .leftOf (s .node) (x .node))
+
+-- s itself, before the states ss, or what is taken from ss
+abbrev pub choose : Bool → State → List State → Taken → Taken
+choose true s ss k = record { left = []; state = s; right = ss }
+choose false s ss k = record { left = s ∷ k .left; state = k .state; right = k .right }
+
+-- the state of the list s ∷ ss that is taken: of greatest merit, on equal merit the leftmost in the tree
+abbrev pub pick : Layout → State → List State → Taken
+pick Y s [] = record { left = []; state = s; right = [] }
+pick Y s (x ∷ xs) = choose (beats Y s (pick Y x xs .state)) s (x ∷ xs) (pick Y x xs)
+
+-- what one step does: nothing is on the list; the root, SOLVED, is taken; a state is replaced; a state is replaced
+-- and a leaf evaluated
+pub data Step : Type 0 where
+  empty : Step
+  stop : (value : ℕ) → Step
+  quiet : List State → Step
+  evaluating : (leaf : ℕ) → List State → Step
+
+-- new states in the place of the one taken
+abbrev pub put : Taken → List State → List State
+put k new = k .left ++ (new ++ k .right)
+
+-- the states that are not below p
+abbrev pub purge : Layout → ℕ → List State → List State
+purge Y p [] = []
+purge Y p (s ∷ ss) = cond (Y .above p (s .node)) (purge Y p ss) (s ∷ purge Y p ss)
+
+-- a LIVE state: a leaf is evaluated, and SOLVED; of a Max node all children are LIVE, of a Min node the first
+abbrev pub replaceLive : (ℕ → ℕ) → Taken → Kind → Step
+replaceLive ν k tip =
+    evaluating (k .state .node) (put k (solved (k .state .node) (min (k .state .merit) (ν (k .state .node))) ∷ []))
+replaceLive ν k (fork Max c cs) = quiet (put k (map (λ n. live n (k .state .merit)) (c ∷ cs)))
+replaceLive ν k (fork Min c cs) = quiet (put k (live c (k .state .merit) ∷ []))
+
+-- a SOLVED state: under Max the parent is SOLVED and all states below it go; under Min the next brother is LIVE,
+-- after the last the parent is SOLVED
+abbrev pub replaceSolved : Layout → Taken → Link → Step
+replaceSolved Y k root = stop (k .state .merit)
+replaceSolved Y k (under p Max b) = quiet (purge Y p (k .left) ++ (solved p (k .state .merit) ∷ purge Y p (k .right)))
+replaceSolved Y k (under p Min (some b)) = quiet (put k (live b (k .state .merit) ∷ []))
+replaceSolved Y k (under p Min none) = quiet (put k (solved p (k .state .merit) ∷ []))
+
+abbrev pub replace : (ℕ → ℕ) → Layout → Taken → Status → Step
+replace ν Y k LIVE = replaceLive ν k (Y .kind (k .state .node))
+replace ν Y k SOLVED = replaceSolved Y k (Y .link (k .state .node))
+
+-- one step of SSS*
+abbrev pub step : (ℕ → ℕ) → Layout → List State → Step
+step ν Y [] = empty
+step ν Y (s ∷ ss) = replace ν Y (pick Y s ss) (pick Y s ss .state .status)
+
+-- how a run ends: with the root's value; with no state on the list; or past its bound on states taken
+pub data End : Type 0 where
+  finished : (value : ℕ) → End
+  noState : End
+  outOfFuel : End
+
+-- what a run gives
+pub record Ran : Type 0 where
+  pub end : End
+  pub evaluated : List ℕ
+  pub replacements : ℕ
+
+abbrev pub ends : End → Ran
+ends e = record { end = e; evaluated = []; replacements = 0 }
+
+abbrev pub follow : Step → (List State → Ran) → Ran
+follow empty rest = ends noState
+follow (stop v) rest = ends (finished v)
+follow (quiet M) rest =
+    record { end = rest M .end; evaluated = rest M .evaluated; replacements = suc (rest M .replacements) }
+follow (evaluating n M) rest =
+    record { end = rest M .end; evaluated = n ∷ rest M .evaluated; replacements = suc (rest M .replacements) }
+
+-- the run from a list by a step function; the number bounds the states taken
+abbrev pub runFrom : (List State → Step) → ℕ → List State → Ran
+runFrom next zero L = ends outOfFuel
+runFrom next (suc f) L = follow (next L) (λ M. runFrom next f M)
+
+-- the list at the start
+abbrev pub start : Tree → List State
+start t = live (number t) greatest ∷ []
+
+-- SSS* over a layout of the tree
+abbrev pub sssOver : (ℕ → ℕ) → Layout → Tree → Ran
+sssOver ν Y t = runFrom (λ L. step ν Y L) (2 * size t) (start t)
+
+-- SSS* on a tree
+abbrev pub sss : (ℕ → ℕ) → Tree → Ran
+sss ν t = sssOver ν (layoutOf t) t
+
+-- after k replacements, which evaluated the leaves w, the list is L
+pub data ListAfter (ν : ℕ → ℕ) (Y : Layout) (t : Tree) : ℕ → List ℕ → List State → Type 0 where
+  atStart : ListAfter ν Y t 0 [] (start t)
+  afterQuiet : {k : ℕ} {w : List ℕ} {L M : List State} → ListAfter ν Y t k w L → step ν Y L ≡ quiet M
+      → ListAfter ν Y t (suc k) w M
+  afterEvaluating : {k n : ℕ} {w : List ℕ} {L M : List State} → ListAfter ν Y t k w L → step ν Y L ≡ evaluating n M
+      → ListAfter ν Y t (suc k) (w ++ (n ∷ [])) M
+
+-- a run after k replacements that evaluated the leaves w
+abbrev pub resumed : ℕ → List ℕ → Ran → Ran
+resumed k w r = record { end = r .end; evaluated = w ++ r .evaluated; replacements = k + r .replacements }
+
+-- the first state of greatest merit in the list s ∷ ss, whatever its place in the tree
+abbrev pub pickFirst : State → List State → Taken
+pickFirst s [] = record { left = []; state = s; right = [] }
+pickFirst s (x ∷ xs) = choose (leb (pickFirst x xs .state .merit) (s .merit)) s (x ∷ xs) (pickFirst x xs)
+
+-- a step, and the run, that take that state
+abbrev pub stepFirst : (ℕ → ℕ) → Layout → List State → Step
+stepFirst ν Y [] = empty
+stepFirst ν Y (s ∷ ss) = replace ν Y (pickFirst s ss) (pickFirst s ss .state .status)
+
+abbrev pub sssFirst : (ℕ → ℕ) → Layout → Tree → Ran
+sssFirst ν Y t = runFrom (λ L. stepFirst ν Y L) (2 * size t) (start t)

@@ -1,0 +1,130 @@
+-- Game trees, their minimax value, and what makes a tree a regular one. A function on trees whose name ends in Kids
+-- is its part for the children of a node.
+use Prim.Native.Nat.{ℕ, suc, _+_, _<_, min, max}
+use mathlib.Core.Path.{_≡_}
+use mathlib.Core.Logic.{_⊎_}
+use mathlib.Core.Bool.{Bool, cond}
+use mathlib.Core.List.{List, [], _∷_, _++_}
+-- who moves at an inner node: the code's own type
+pub use Rattle.gametree.specs.declared.Side.{Side}
+pub use Rattle.gametree.specs.declared.Side.the-variants.{Max, Min}
+
+infixr 50 _then_
+-- the opponent
+abbrev pub other : Side → Side
+other Max = Min
+other Min = Max
+
+-- a leaf has its number; an inner node has its number, its side and its children
+mutual
+  pub data Tree : Type 0 where
+    leaf : (number : ℕ) → Tree
+    inner : (number : ℕ) (side : Side) (kids : Kids) → Tree
+
+  -- the children from left to right, at least one
+  pub data Kids : Type 0 where
+    last : Tree → Kids
+    _then_ : Tree → Kids → Kids
+
+-- a leaf's score is its value plus 32,001, so that scores are 1 to 64,001; `least` and `greatest` are the papers'
+-- -32,001 and 32,001 (minus and plus infinity)
+abbrev pub least : ℕ
+least = 0
+
+abbrev pub greatest : ℕ
+greatest = 64002
+
+-- the better of two scores for the side that moves
+abbrev pub better : Side → ℕ → ℕ → ℕ
+better Max a b = max a b
+better Min a b = min a b
+
+-- the minimax value under the valuation ν, which gives each leaf its score
+abbrev mutual
+  pub minimax : (ℕ → ℕ) → Tree → ℕ
+  minimax ν (leaf n) = ν n
+  minimax ν (inner n s ks) = minimaxKids ν s ks
+
+  pub minimaxKids : (ℕ → ℕ) → Side → Kids → ℕ
+  minimaxKids ν s (last t) = minimax ν t
+  minimaxKids ν s (t then ts) = better s (minimax ν t) (minimaxKids ν s ts)
+
+-- the number of a tree's root
+abbrev pub number : Tree → ℕ
+number (leaf n) = n
+number (inner n s ks) = n
+
+-- how many nodes there are
+abbrev mutual
+  pub size : Tree → ℕ
+  size (leaf n) = 1
+  size (inner n s ks) = suc (sizeKids ks)
+
+  pub sizeKids : Kids → ℕ
+  sizeKids (last t) = size t
+  sizeKids (t then ts) = size t + sizeKids ts
+
+-- the leaves from left to right
+abbrev mutual
+  pub leaves : Tree → List ℕ
+  leaves (leaf n) = n ∷ []
+  leaves (inner n s ks) = leavesKids ks
+
+  pub leavesKids : Kids → List ℕ
+  leavesKids (last t) = leaves t
+  leavesKids (t then ts) = leaves t ++ leavesKids ts
+
+-- how many leaves are in the set E
+abbrev mutual
+  pub leafCount : (ℕ → Bool) → Tree → ℕ
+  leafCount E (leaf n) = cond (E n) 1 0
+  leafCount E (inner n q ks) = leafCountKids E ks
+
+  pub leafCountKids : (ℕ → Bool) → Kids → ℕ
+  leafCountKids E (last t) = leafCount E t
+  leafCountKids E (t then ts) = leafCount E t + leafCountKids E ts
+
+-- p is the number of a node
+abbrev mutual
+  pub In : ℕ → Tree → Type 0
+  In p (leaf n) = p ≡ n
+  In p (inner n s ks) = (p ≡ n) ⊎ InKids p ks
+
+  pub InKids : ℕ → Kids → Type 0
+  InKids p (last t) = In p t
+  InKids p (t then ts) = In p t ⊎ InKids p ts
+
+-- P holds of each leaf
+abbrev mutual
+  pub EveryLeaf : (ℕ → Type 0) → Tree → Type 0
+  EveryLeaf P (leaf n) = P n
+  EveryLeaf P (inner n s ks) = EveryLeafKids P ks
+
+  pub EveryLeafKids : (ℕ → Type 0) → Kids → Type 0
+  EveryLeafKids P (last t) = EveryLeaf P t
+  EveryLeafKids P (t then ts) = EveryLeaf P t × EveryLeafKids P ts
+
+-- each leaf's score is a real one, between `least` and `greatest`
+abbrev pub Score : ℕ → Type 0
+Score v = (least < v) × (v < greatest)
+
+abbrev pub Scored : (ℕ → ℕ) → Tree → Type 0
+Scored ν t = EveryLeaf (λ n. Score (ν n)) t
+
+abbrev pub ScoredKids : (ℕ → ℕ) → Kids → Type 0
+ScoredKids ν ks = EveryLeafKids (λ n. Score (ν n)) ks
+
+-- no two nodes have the same number
+abbrev mutual
+  pub Distinct : Tree → Type 0
+  Distinct (leaf n) = Unit
+  Distinct (inner n s ks) = (InKids n ks → ⊥) × DistinctKids ks
+
+  pub DistinctKids : Kids → Type 0
+  DistinctKids (last t) = Distinct t
+  DistinctKids (t then ts) = Distinct t × DistinctKids ts × ((p : ℕ) → In p t → InKids p ts → ⊥)
+
+-- a real tree with real scores
+pub record Proper (ν : ℕ → ℕ) (t : Tree) : Type 0 where
+  pub scored : Scored ν t
+  pub distinct : Distinct t

@@ -1,0 +1,26 @@
+// The theory of game-tree search: definitions in specs/, theorems in proofs/ (Theorems states what is for use). The code holds the two plain types
+// that the theory and the searches share.
+ghost use mathlib.Core.Path.{_≡_};
+ghost use Rattle.gametree.specs.Tree.{other as otherSide};
+
+// Who moves at an inner node.
+pub enum Side {
+    Max,
+    Min,
+}
+
+// Where a node stands: its depth (the root has 0), and who moves there.
+pub struct Place {
+    pub depth: u32,
+    pub side: Side,
+}
+
+// The opponent.
+pub fn other(side: Side) -> Side
+    ensures { λ r. ⌜ r ≡ otherSide side ⌝ }
+{
+    match side {
+        Side::Max => Side::Min,
+        Side::Min => Side::Max,
+    }
+}
