@@ -1,0 +1,8 @@
+-- Definitions over byte tables: what a reader of the contracts has to believe.
+pub mod Frame
+pub mod Children
+pub mod Place
+pub mod Tree
+pub mod Rejection
+pub mod Check
+pub mod Shape

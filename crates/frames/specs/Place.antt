@@ -1,0 +1,47 @@
+-- Where a node of a table stands: its parent, its depth, and who moves there.
+use Prim.Native.Nat.{ℕ, zero, suc, _+_}
+use mathlib.Core.Bool.{Bool, cond, _&&_}
+use mathlib.Core.List.{List}
+use lib.Dec.{ltb, leb}
+use Rattle.gametree.specs.declared.Place.{Place}
+use Rattle.gametree.specs.declared.Side.{Side}
+use Rattle.gametree.specs.declared.Side.the-variants.{Max}
+use Rattle.gametree.specs.Tree.{other}
+use Rattle.frames.specs.Frame.{firstChild, childCount}
+
+-- is k one of node i's children, which are consecutive
+abbrev pub isChild : List ℕ → ℕ → ℕ → Bool
+isChild t i k = leb (firstChild t i) k && ltb k (firstChild t i + childCount t i)
+
+-- the last node before number n that has k for a child; 0 where none has
+unfoldable pub parentBefore : List ℕ → ℕ → ℕ → ℕ
+parentBefore t k zero = 0
+parentBefore t k (suc n) = cond (isChild t n k) n (parentBefore t k n)
+
+-- the parent of node k: an accepted table has exactly one for each node but the root
+abbrev pub parentOf : List ℕ → ℕ → ℕ
+parentOf t k = parentBefore t k k
+
+-- the root stands at depth 0, and Max moves there
+abbrev pub rootPlace : Place
+rootPlace = record { depth = 0; side = Max }
+
+-- a child k of a node that stands at p is one deeper, and the other side moves there
+abbrev pub childPlace : List ℕ → Place → ℕ → Place
+childPlace t p k = record { depth = p .depth + 1; side = other (p .side) }
+
+-- where node k stands, from its parent's place; the first number bounds the steps to the root
+unfoldable pub placeWithin : ℕ → List ℕ → ℕ → Place
+placeWithin zero t k = rootPlace
+placeWithin (suc f) t zero = rootPlace
+placeWithin (suc f) t (suc k) = childPlace t (placeWithin f t (parentOf t (suc k))) (suc k)
+
+unfoldable pub placeOf : List ℕ → ℕ → Place
+placeOf t k = placeWithin k t k
+
+-- the depth of node k, and who moves there
+abbrev pub depthOf : List ℕ → ℕ → ℕ
+depthOf t k = placeOf t k .depth
+
+abbrev pub sideOf : List ℕ → ℕ → Side
+sideOf t k = placeOf t k .side

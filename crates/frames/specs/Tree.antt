@@ -1,0 +1,38 @@
+-- The tree that a table describes, and the scores of its leaves.
+use Prim.Native.Nat.{ℕ, zero, suc, _+_, _-_}
+use mathlib.Core.List.{List}
+use Rattle.gametree.specs.declared.Side.{Side}
+use Rattle.gametree.specs.Tree.{Tree, leaf, inner, Kids, last, _then_}
+use Rattle.frames.specs.Frame.{frames, firstChild, childCount, storedScore}
+use Rattle.frames.specs.Place.{depthOf, sideOf}
+
+-- the trees g i, g (i + 1), .., g (i + n) as the children of a node
+unfoldable pub kidsFrom : (ℕ → Tree) → ℕ → ℕ → Kids
+kidsFrom g i zero = last (g i)
+kidsFrom g i (suc n) = g i then kidsFrom g (i + 1) n
+
+-- node i, with the trees g as children from the number `first` on: a leaf if there are none
+abbrev pub node : ℕ → Side → (ℕ → Tree) → ℕ → ℕ → Tree
+node i s g first zero = leaf i
+node i s g first (suc n) = inner i s (kidsFrom g first n)
+
+-- the tree below node i, at most as deep as the first number says
+unfoldable pub grow : ℕ → List ℕ → ℕ → Tree
+grow zero t i = leaf i
+grow (suc f) t i = node i (sideOf t i) (grow f t) (firstChild t i) (childCount t i)
+
+-- the tree below node i; children have larger numbers, so no line is longer than the frames that are left
+unfoldable pub treeAt : List ℕ → ℕ → Tree
+treeAt t i = grow (frames t - i) t i
+
+-- the tree of a table
+abbrev pub tree : List ℕ → Tree
+tree t = treeAt t 0
+
+-- the score of a leaf from its depth and its stored score
+abbrev pub leafScore : ℕ → ℕ → ℕ
+leafScore depth stored = stored
+
+-- the score of each leaf
+unfoldable pub valuation : List ℕ → ℕ → ℕ
+valuation t i = leafScore (depthOf t i) (storedScore t i)
