@@ -1,0 +1,8 @@
+-- The laws that link a table to its tree, grouped by idea.
+pub mod Next
+pub mod Parents
+pub mod Places
+pub mod Trees
+pub mod Nodes
+pub mod Totals
+pub mod Proper

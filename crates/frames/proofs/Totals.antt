@@ -1,0 +1,143 @@
+-- What is summed over the tree's nodes is summed over the table's: the nodes from i up to `next t i` wait to be visited
+-- in breadth-first order, and what waits at i is node i and what waits at i + 1.
+use Prim.Native.Nat.{ℕ, zero, suc, _+_, _-_, _≤_, _<_}
+use native.Mathlib.Omega.{arith}
+use native.Mathlib.Numerals.{add-one}
+use mathlib.Core.Path.{_≡_, refl, sym, ap, ap₂, _∙_}
+use mathlib.Core.Bool.{Bool, true, false, cond}
+use mathlib.Core.List.{List}
+use Rattle.gametree.specs.Tree.{Tree, leaf, inner, Kids, last, _then_, size, sizeKids, leafCount, leafCountKids}
+use Rattle.frames.specs.Frame.{frames, firstChild, childCount, next}
+use Rattle.frames.specs.Tree.{kidsFrom, treeAt, tree}
+use Rattle.frames.specs.Formed.{WellFormed}
+use Rattle.frames.proofs.Next.{next-more, waits, child-later}
+use Rattle.frames.proofs.Trees.{zero-or-suc, tree-leaf, tree-inner}
+
+-- the sum of f over the leaves of a tree and of g over its inner nodes
+abbrev mutual
+  pub total : (f g : ℕ → ℕ) → Tree → ℕ
+  total f g (leaf n) = f n
+  total f g (inner n s ks) = g n + totalKids f g ks
+
+  pub totalKids : (f g : ℕ → ℕ) → Kids → ℕ
+  totalKids f g (last t) = total f g t
+  totalKids f g (t then ts) = total f g t + totalKids f g ts
+
+-- f 0 + .. + f (n - 1)
+unfoldable pub sumTo : (ℕ → ℕ) → ℕ → ℕ
+sumTo f zero = 0
+sumTo f (suc n) = sumTo f n + f n
+
+sumFrom : (ℕ → ℕ) → ℕ → ℕ → ℕ
+sumFrom f i zero = 0
+sumFrom f i (suc n) = f i + sumFrom f (i + 1) n
+
+sumFrom-add : (f : ℕ → ℕ) (i m n : ℕ) → sumFrom f i (m + n) ≡ sumFrom f i m + sumFrom f (i + m) n
+unfolding sumFrom
+sumFrom-add f i zero n =
+    let e : zero + n ≡ n = omega arith in
+    let d : i + zero ≡ i = omega arith in
+    rw (e, d) (omega arith)
+sumFrom-add f i (suc m) n =
+    let e : suc m + n ≡ suc (m + n) = omega arith in
+    let d : i + suc m ≡ i + 1 + m = omega arith in
+    rw (e, d) (omega (arith, sumFrom-add f (i + 1) m n))
+
+total-kids : (f g : ℕ → ℕ) (h : ℕ → Tree) (i n : ℕ)
+    → totalKids f g (kidsFrom h i n) ≡ sumFrom (λ k. total f g (h k)) i (suc n)
+unfolding kidsFrom sumFrom
+total-kids f g h i zero = omega arith
+total-kids f g h i (suc n) = ap (λ x. total f g (h i) + x) (total-kids f g h (i + 1) n)
+
+-- the value at a node: f of a leaf, g of an inner node, by its count of children
+abbrev pub atNode : (f g : ℕ → ℕ) → ℕ → ℕ → ℕ
+atNode f g zero i = f i
+atNode f g (suc n) i = g i
+
+module _ (f g : ℕ → ℕ) (t : List ℕ) (wf : WellFormed t) where
+  own : ℕ → ℕ
+  own i = atNode f g (childCount t i) i
+
+  below : ℕ → ℕ
+  below i = total f g (treeAt t i)
+
+  -- a node's tree sums its own value and its children's trees
+  below-is : (i : ℕ) → i < frames t → below i ≡ own i + sumFrom below (next t i) (childCount t i)
+  unfolding own below sumFrom
+  below-is i h =
+      zero-or-suc (childCount t i) (λ e. rw (tree-leaf t wf i h e, e) (omega arith)) (λ n e.
+      rw (tree-inner t wf i n h e, e, ← wf .first i h (omega arith))
+      (ap (λ x. g i + x) (total-kids f g (treeAt t) (firstChild t i) n)))
+
+  -- what waits at i
+  waiting : ℕ → ℕ
+  waiting i = sumFrom below i (next t i - i)
+
+  waiting-next : (i : ℕ) → i < frames t → waiting i ≡ own i + waiting (i + 1)
+  unfolding waiting sumFrom
+  waiting-next i h =
+      let w = waits t wf i h in
+      let a : next t i - i ≡ suc (next t i - (i + 1)) = omega arith in
+      let b : next t (i + 1) - (i + 1) ≡ (next t i - (i + 1)) + childCount t i = omega (arith, next-more t i) in
+      let c : i + 1 + (next t i - (i + 1)) ≡ next t i = omega arith in
+      rw (a, b, sumFrom-add below (i + 1) (next t i - (i + 1)) (childCount t i), c) (omega (arith, below-is i h))
+
+  waiting-all : (i : ℕ) → i ≤ frames t → waiting 0 ≡ sumTo own i + waiting i
+  unfolding sumTo
+  waiting-all zero h = omega arith
+  waiting-all (suc i) h =
+      let e : i + 1 ≡ suc i = omega arith in
+      rw (← e) (omega (arith, waiting-all i (omega arith), waiting-next i (omega arith)))
+
+  -- the tree's total is the table's
+  pub tree-total : total f g (tree t) ≡ sumTo (λ i. atNode f g (childCount t i) i) (frames t)
+  unfolding waiting next sumFrom sumTo own below
+  tree-total =
+      let z : next t (frames t) - frames t ≡ 0 = omega (arith, wf .total) in
+      let q = rw z at (waiting-all (frames t) (omega arith)) in
+      omega (arith, q)
+
+mutual
+  size-total : (t : Tree) → size t ≡ total (λ _. 1) (λ _. 1) t
+  size-total (leaf n) = refl
+  size-total (inner n s ks) = omega (arith, sizeKids-total ks)
+
+  sizeKids-total : (ks : Kids) → sizeKids ks ≡ totalKids (λ _. 1) (λ _. 1) ks
+  sizeKids-total (last t) = size-total t
+  sizeKids-total (t then ts) = ap₂ _+_ (size-total t) (sizeKids-total ts)
+
+mutual
+  count-total : (E : ℕ → Bool) (t : Tree) → leafCount E t ≡ total (λ n. cond (E n) 1 0) (λ _. 0) t
+  count-total E (leaf n) = refl
+  count-total E (inner n s ks) = omega (arith, countKids-total E ks)
+
+  countKids-total : (E : ℕ → Bool) (ks : Kids) → leafCountKids E ks ≡ totalKids (λ n. cond (E n) 1 0) (λ _. 0) ks
+  countKids-total E (last t) = count-total E t
+  countKids-total E (t then ts) = ap₂ _+_ (count-total E t) (countKids-total E ts)
+
+pub sum-same : (f g : ℕ → ℕ) (n : ℕ) → ((k : ℕ) → k < n → f k ≡ g k) → sumTo f n ≡ sumTo g n
+unfolding sumTo
+sum-same f g zero e = refl
+sum-same f g (suc n) e = ap₂ _+_ (sum-same f g n (λ k h. e k (omega arith))) (e n (omega arith))
+
+sum-ones : (n : ℕ) → sumTo (λ k. 1) n ≡ n
+unfolding sumTo
+sum-ones zero = refl
+sum-ones (suc n) = omega (arith, sum-ones n)
+
+ones-at : (n i : ℕ) → atNode (λ _. 1) (λ _. 1) n i ≡ 1
+ones-at zero i = refl
+ones-at (suc n) i = refl
+
+module _ (t : List ℕ) (wf : WellFormed t) where
+  -- the tree has as many nodes as the table has frames
+  pub tree-size : size (tree t) ≡ frames t
+  tree-size =
+      size-total (tree t) ∙ tree-total (λ _. 1) (λ _. 1) t wf
+      ∙ sum-same (λ i. atNode (λ _. 1) (λ _. 1) (childCount t i) i) (λ _. 1) (frames t) (λ k h. ones-at (childCount t k) k)
+      ∙ sum-ones (frames t)
+
+  -- the leaves in the set E, counted over the table: inner nodes count nothing
+  pub tree-leaf-count : (E : ℕ → Bool) → leafCount E (tree t)
+      ≡ sumTo (λ i. atNode (λ n. cond (E n) 1 0) (λ _. 0) (childCount t i) i) (frames t)
+  tree-leaf-count E = count-total E (tree t) ∙ tree-total (λ n. cond (E n) 1 0) (λ _. 0) t wf
