@@ -1,0 +1,26 @@
+-- `byte_of` reads the byte that it names; a byte is below 256.
+use native.Mathlib.Omega.{arith}
+use mathlib.Core.Path.{refl}
+use Prim.Native.Nat.{_+_, _*_}
+use borrow.Author.Needs.{needs}
+use Rattle.frames.proofs.byte_of.Statement.{statement}
+use Rattle.frames.proofs.byte_of.Tie as tie
+
+mul-result : tie.Need-mul-result
+mul-result c = search needs
+
+add-result : tie.Need-add-result
+add-result c = search needs
+
+shared-slice-read-result : tie.Need-shared-slice-read-result
+shared-slice-read-result c = search needs
+
+cast-result : tie.Need-cast-result
+cast-result c = omega (arith, c .shared-slice-known .given (6 * c .before .args .node + c .before .args .k))
+
+returns : tie.Need-returns
+returns c = (refl, omega (arith, c .shared-slice-known .given (6 * c .before .args .node + c .before .args .k)))
+
+pub byte-of-spec : {M : Type 1} → statement M
+byte-of-spec =
+    tie.close (tie.spec mul-result add-result shared-slice-read-result cast-result returns)

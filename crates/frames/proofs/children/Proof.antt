@@ -1,0 +1,113 @@
+-- `children` meets its contract: one lemma for each of its three returns.
+use Prim.Native.Nat.{ℕ, _+_, _*_, _-_, _<_, _≤_}
+use native.Mathlib.Omega.{arith}
+use mathlib.Core.Path.{_≡_}
+use mathlib.Core.List.{List, []}
+use lib.ListN.{take, drop}
+use borrow.Author.Tests.{lt-ltb, le-ltb, le-leb, lt-leb}
+use borrow.Author.Needs.{needs}
+use Rattle.frames.specs.Frame.{frameSize, frames, firstChild, childCount}
+use Rattle.frames.specs.Children.{childrenOf}
+use Rattle.frames.proofs.children.Statement.{statement}
+use Rattle.frames.proofs.children.Tie as tie
+
+-- past the last whole frame there are none
+past : (t : List ℕ) (i : ℕ) → frames t ≤ i → [] ≡ childrenOf t i
+unfolding childrenOf
+past t i h = rw (le-ltb _ _ h)
+
+module _ (t : List ℕ) (i f k : ℕ) (h : i < frames t) (p : f ≡ firstChild t i) (q : k ≡ childCount t i) where
+  -- nor where they would reach past the table
+  over : frames t < f + k → [] ≡ childrenOf t i
+  unfolding childrenOf
+  over r = rw (lt-ltb _ _ h, ← p, ← q, lt-leb _ _ r)
+
+  -- else they are the frames from the first child's up to the last one's
+  inside : f + k ≤ frames t → take (frameSize * (f + k) - frameSize * f) (drop (frameSize * f) t) ≡ childrenOf t i
+  unfolding childrenOf
+  inside r =
+      let l : frameSize * (f + k) - frameSize * f ≡ frameSize * k = omega arith in
+      rw (lt-ltb _ _ h, ← p, ← q, le-leb _ _ r, l)
+
+frame-count-requires : tie.Need-frame-count-requires
+frame-count-requires c κs = search needs
+
+sub-result : tie.Need-sub-result
+sub-result c = search needs
+
+part-result-start : tie.Need-part-result-start
+part-result-start c = search needs
+
+part-result-end : tie.Need-part-result-end
+part-result-end c = search needs
+
+returns : tie.Need-returns
+returns c = past _ _ (omega arith)
+
+first-child-requires : tie.Need-first-child-requires
+first-child-requires c κs = search needs
+
+child-count-requires : tie.Need-child-count-requires
+child-count-requires c κs = search needs
+
+add-end : tie.Need-add-end
+add-end c = search needs
+
+frame-count-requires-2 : tie.Need-frame-count-requires-2
+frame-count-requires-2 c κs = search needs
+
+mul-from : tie.Need-mul-from
+mul-from c = search needs
+
+mul-to : tie.Need-mul-to
+mul-to c = search needs
+
+sub-result-2 : tie.Need-sub-result-2
+sub-result-2 c = search needs
+
+part-result-start-2 : tie.Need-part-result-start-2
+part-result-start-2 c = search needs
+
+part-result-end-2 : tie.Need-part-result-end-2
+part-result-end-2 c = search needs
+
+sub-result-3 : tie.Need-sub-result-3
+sub-result-3 c = search needs
+
+part-result-start-3 : tie.Need-part-result-start-3
+part-result-start-3 c = search needs
+
+part-result-end-3 : tie.Need-part-result-end-3
+part-result-end-3 c = search needs
+
+returns-2 : tie.Need-returns-2
+returns-2 c =
+    inside _ _ _ _ (omega arith) (c .before .before .before .before .first-child .ensures .0) (c .before .before .before .child-count .ensures .0) (omega arith)
+
+returns-3 : tie.Need-returns-3
+returns-3 c =
+    over _ _ _ _ (omega arith) (c .before .before .before .before .first-child .ensures .0) (c .before .before .before .child-count .ensures .0) (omega arith)
+
+pub children-spec : {M : Type 1} → statement M
+children-spec =
+    tie.close
+    (tie.spec
+    frame-count-requires
+    sub-result
+    part-result-start
+    part-result-end
+    returns
+    first-child-requires
+    child-count-requires
+    add-end
+    frame-count-requires-2
+    mul-from
+    mul-to
+    sub-result-2
+    part-result-start-2
+    part-result-end-2
+    sub-result-3
+    part-result-start-3
+    part-result-end-3
+    returns-2
+    returns-3)
