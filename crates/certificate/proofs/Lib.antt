@@ -1,0 +1,2 @@
+-- The lemmas on buffers and searches, grouped by idea.
+pub mod Buffers

@@ -1,0 +1,26 @@
+-- `certificate::evaluate` meets its contract: the depth is the leaf's own, so its score is that of the valuation.
+use mathlib.Core.Path.{refl, ap, _∙_}
+use Rattle.frames.specs.Frame.{storedScore}
+use Rattle.frames.specs.Tree.{leafScore, valuation}
+use borrow.Author.Needs.{needs}
+use Rattle.certificate.proofs.evaluate.Statement.{statement}
+use Rattle.certificate.proofs.evaluate.Tie as tie
+
+slice-write-evaluated : tie.Need-slice-write-evaluated
+slice-write-evaluated c = search needs
+
+leaf-score-requires : tie.Need-leaf-score-requires
+leaf-score-requires c κs = search needs
+
+same-length : tie.Need-same-length
+same-length c = search needs
+
+returns : tie.Need-returns
+unfolding valuation
+returns c =
+    let a = c .before .before .before .args in
+    let e = c .leaf-score .ensures .0 ∙ ap (λ d. leafScore d (storedScore (a .table .now) (a .node))) (c .before .before .before .pre .1 .0) in
+    ((e, c .leaf-score .ensures .1), refl)
+
+pub evaluate-spec : {M : Type 1} → statement M
+evaluate-spec = tie.close (tie.spec slice-write-evaluated leaf-score-requires same-length returns)

@@ -1,0 +1,4 @@
+-- Definitions for searches over a table: what their buffers hold, and what they give.
+pub mod Buffer
+pub mod Value
+pub mod Search
