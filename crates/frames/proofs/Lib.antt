@@ -6,3 +6,4 @@ pub mod Trees
 pub mod Nodes
 pub mod Totals
 pub mod Proper
+pub mod Shapes

@@ -1,0 +1,74 @@
+-- Two tables of one shape have one tree, and a leaf on which they agree has one score.
+use Prim.Native.Nat.{ℕ, zero, suc, _+_, _-_, _*_, _≤_, _<_}
+use native.Mathlib.Omega.{arith}
+use mathlib.Core.Path.{_≡_, refl, sym, ap, ap₂, _∙_}
+use mathlib.Core.Bool.{cond, _&&_}
+use mathlib.Core.List.{List}
+use lib.Dec.{ltb, leb}
+use Rattle.gametree.specs.Tree.{inner}
+use Rattle.frames.specs.Frame.{frames, firstChild, childCount, storedScore}
+use Rattle.frames.specs.Place.{isChild, parentBefore, parentOf, childPlace, placeOf, depthOf, sideOf}
+use Rattle.frames.specs.Tree.{node, treeAt, tree, leafScore, valuation}
+use Rattle.frames.specs.Formed.{WellFormed, ChildOf}
+use Rattle.frames.specs.Shape.{SameShape, AgreeOn}
+use Rattle.frames.proofs.Next.{child-within}
+use Rattle.frames.proofs.Parents.{parent-less, bottom-up}
+use Rattle.frames.proofs.Places.{place-root, place-step}
+use Rattle.frames.proofs.Trees.{tree-node, node-same}
+
+-- being of one shape goes both ways
+pub shape-sym : {t u : List ℕ} → SameShape t u → SameShape u t
+shape-sym s =
+    record {
+      sameFrames = sym (s .sameFrames);
+      sameBytes = λ i k h l. sym (s .sameBytes i k (omega (arith, s .sameFrames)) l);
+    }
+
+module _ (t u : List ℕ) (s : SameShape t u) where
+  same-first : (i : ℕ) → i < frames t → firstChild t i ≡ firstChild u i
+  same-first i h =
+      ap₂ (λ x y. x * 256 + y) (s .sameBytes i 0 h (omega arith)) (s .sameBytes i 1 h (omega arith))
+
+  same-count : (i : ℕ) → i < frames t → childCount t i ≡ childCount u i
+  same-count i h = s .sameBytes i 2 h (omega arith)
+
+  same-before : (k n : ℕ) → n ≤ frames t → parentBefore t k n ≡ parentBefore u k n
+  unfolding parentBefore
+  same-before k zero h = refl
+  same-before k (suc n) h =
+      rw (same-first n (omega arith), same-count n (omega arith), same-before k n (omega arith))
+
+  same-within : (n k : ℕ) → k < n → k < frames t → placeOf t k ≡ placeOf u k
+  same-within zero k l h = absurd (omega arith)
+  same-within (suc n) zero l h = place-root t ∙ sym (place-root u)
+  same-within (suc n) (suc k) l h =
+      let b = parent-less t (suc k) (omega arith) in
+      let e : parentOf t (suc k) ≡ parentOf u (suc k) = same-before (suc k) (suc k) (omega arith) in
+      place-step t (suc k) (omega arith)
+      ∙ ap (λ p. childPlace t p (suc k))
+      (same-within n (parentOf t (suc k)) (omega arith) (omega arith) ∙ ap (placeOf u) e)
+      ∙ sym (place-step u (suc k) (omega arith))
+
+  -- each node stands at the same place
+  pub same-place : (k : ℕ) → k < frames t → placeOf t k ≡ placeOf u k
+  same-place k h = same-within (suc k) k (omega arith) h
+
+  -- a leaf on which they agree has the same score
+  pub same-score : (i : ℕ) → i < frames t → AgreeOn t u i → valuation t i ≡ valuation u i
+  unfolding valuation
+  same-score i h a = ap₂ leafScore (ap (λ p. p .depth) (same-place i h)) (rw (a .sameHigh, a .sameLow))
+
+  -- the trees at each node are the same
+  pub same-trees : WellFormed t → WellFormed u → (i : ℕ) → i < frames t → treeAt t i ≡ treeAt u i
+  same-trees wt wu =
+      bottom-up t wt (λ i. treeAt t i ≡ treeAt u i) (λ i h f.
+      tree-node t wt i h
+      ∙ node-same i (sideOf t i) (treeAt t) (treeAt u) (firstChild t i) (childCount t i)
+      (λ k a b. f k (record { from = a; to = b }))
+      ∙ ap₂ (λ d n. node i d (treeAt u) (firstChild t i) n) (ap (λ p. p .side) (same-place i h)) (same-count i h)
+      ∙ ap (λ n. node i (sideOf u i) (treeAt u) n (childCount u i)) (same-first i h)
+      ∙ sym (tree-node u wu i (omega (arith, s .sameFrames))))
+
+  -- one shape, one tree
+  pub same-tree : WellFormed t → WellFormed u → tree t ≡ tree u
+  same-tree wt wu = same-trees wt wu 0 (wt .some)
