@@ -7,3 +7,5 @@ pub mod Nodes
 pub mod Totals
 pub mod Proper
 pub mod Shapes
+pub mod Layouts
+pub mod Below
