@@ -9,3 +9,7 @@ pub mod Proper
 pub mod Shapes
 pub mod Layouts
 pub mod Below
+pub mod Stated
+pub mod Asked
+pub mod Levels
+pub mod Acceptance
