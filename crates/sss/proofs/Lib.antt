@@ -1,0 +1,6 @@
+-- The lemmas on SSS*'s machine.
+pub mod Parts
+pub mod Replacements
+pub mod Turns
+pub mod Taking
+pub mod Onward
