@@ -4,3 +4,5 @@ pub mod Replacements
 pub mod Turns
 pub mod Taking
 pub mod Onward
+pub mod Fuel
+pub mod Readiness

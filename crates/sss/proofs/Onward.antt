@@ -33,7 +33,7 @@ use Rattle.sss.specs.declared.Status.{Status}
 use Rattle.sss.specs.declared.Status.the-variants.{Live, Solved}
 use Rattle.sss.specs.declared.State.{State}
 use Rattle.sss.specs.declared.Phase.{Phase}
-use Rattle.sss.specs.declared.Phase.the-variants.{Begin, Sweep, Expand, PurgeLeft, PurgeRight, Rewind, Reset, Ended, Empty}
+use Rattle.sss.specs.declared.Phase.the-variants.{Begin, Sweep, Expand, PurgeLeft, PurgeRight, Rewind, Reset, Ended, Rejected}
 use Rattle.sss.specs.declared.Gap.{Gap}
 use Rattle.sss.specs.declared.Counts.{Counts}
 use Rattle.sss.specs.declared.Machine.{Machine}
@@ -50,7 +50,7 @@ use Rattle.sss.proofs.Turns.{Writes, sweeping-writes, expanding-writes,
 use Rattle.sss.proofs.Turns.{Around, close, sweeping-runs, expanding-runs, purged, purgingRight-runs, purgingLeft-runs}
 use Rattle.sss.proofs.Taking.{merit-score, up-last, parts-kept, settle, stored, state-taken}
 
-length-up : (f : ℕ → theory.State) (i n : ℕ) → length (map f (upFrom i n)) ≡ n
+pub length-up : (f : ℕ → theory.State) (i n : ℕ) → length (map f (upFrom i n)) ≡ n
 unfolding upFrom
 length-up f i zero = refl
 length-up f i (suc n) = ap suc (length-up f (i + 1) n)
@@ -106,7 +106,7 @@ module _ (t : List ℕ) (wf : WellFormed t) (l : List State) (b : List ℕ) wher
                 inside = omega (arith, a .nodes, a .entries, a .room);
               }) (omega (arith, a .nodes));
           reaches = rw (k, z, m) (started t);
-          tested = record { left = tt; right = (le-refl γ, tt) };
+          tested = record { left = tt; right = (le-refl γ, tt); limit = omega arith };
         }))
 
     module _ (A : List theory.State) (s : theory.State) (B : List theory.State)
@@ -135,6 +135,7 @@ module _ (t : List ℕ) (wf : WellFormed t) (l : List State) (b : List ℕ) wher
                 record {
                   left = all-append (λ x. x .merit < γ) A (s ∷ []) (o .left) (m, tt);
                   right = o .right .1;
+                  limit = o .limit;
                 };
           }))
 
@@ -158,7 +159,7 @@ module _ (t : List ℕ) (wf : WellFormed t) (l : List State) (b : List ℕ) wher
           (state-taken t wf l b ls ms v g γ c a A (s .node) (s .status) B
           (subst (λ x. Parts ls (g .left) (g .right) A (x ∷ B) Z) q p)
           (subst (λ x. Reaches t (c .replacements) v (A ++ (x ∷ B))) q r)
-          (record { left = o .left; right = (le-refl γ, o .right .1) }) i (s .status) refl)
+          (record { left = o .left; right = (le-refl γ, o .right .1); limit = o .limit }) i (s .status) refl)
 
       sweep-state : Next ls ms Sweep (entryOf s) g γ c
       sweep-state =
@@ -216,7 +217,7 @@ module _ (t : List ℕ) (wf : WellFormed t) (l : List State) (b : List ℕ) wher
           parts = push y (x .parts) room;
           inOrder = omega arith;
           reaches = one-less first child i (x .leftStates) (x .rightStates) (x .reaches);
-          tested = record { left = x .tested .left; right = (le-refl γ, x .tested .right) };
+          tested = record { left = x .tested .left; right = (le-refl γ, x .tested .right); limit = x .tested .limit };
         }))
       where
         one-less : (first child : ℕ) → first < child → (A B : List theory.State)
@@ -282,6 +283,8 @@ module _ (t : List ℕ) (wf : WellFormed t) (l : List State) (b : List ℕ) wher
               parts = subst (λ L. Parts L (g .left - 1) (g .right) (x .leftStates ++ C) (theory.solved p γ ∷ (x .younger ++ x .rightStates)) Z) (sym same) (pop (x .leftStates ++ C) s parts);
               reaches = x .reaches;
               tested = x .tested;
+              elderNodes = all-left (λ k. k .node < frames t) C (s ∷ []) (subst (All (λ k. k .node < frames t)) z (x .elderNodes));
+              youngerNodes = x .youngerNodes;
               elderBelow = all-left (λ k. isBelow t p (k .node) ≡ true) C (s ∷ []) all;
               youngerBelow = x .youngerBelow;
               leftClear = x .leftClear;
@@ -333,6 +336,8 @@ module _ (t : List ℕ) (wf : WellFormed t) (l : List State) (b : List ℕ) wher
               parts = swallow parts;
               reaches = x .reaches;
               tested = x .tested;
+              elderNodes = x .elderNodes;
+              youngerNodes = subst (All (λ k. k .node < frames t)) y (x .youngerNodes) .1;
               elderBelow = x .elderBelow;
               youngerBelow = all .1;
               leftClear = x .leftClear;
@@ -390,6 +395,7 @@ module _ (t : List ℕ) (wf : WellFormed t) (l : List State) (b : List ℕ) wher
                 parts = new;
                 reaches = r;
                 falls = omega (arith, x .falls);
+                limit = x .limit;
                 left = old;
                 right = (omega arith, lower);
               },
@@ -404,6 +410,7 @@ module _ (t : List ℕ) (wf : WellFormed t) (l : List State) (b : List ℕ) wher
                   record {
                     left = none-left top C (omega (arith, left-length new, ltb-false 0 (g .left - 1) f));
                     right = (omega arith, lower);
+                    limit = omega (arith, x .falls, x .limit);
                   };
             })))))
 
@@ -461,7 +468,7 @@ module _ (t : List ℕ) (wf : WellFormed t) (l : List State) (b : List ℕ) wher
       (rewind-turn ls ms v g γ c a best (x .3) (x .2))
   onward-in ls ms v g γ c a i (Reset j) x = reset-turn ls ms v g γ c a j (x .3) (x .2) (getD ls i blank)
   onward-in ls ms v g γ c a i Ended x = absurd (true-not-false refl (x .0))
-  onward-in ls ms v g γ c a i Empty x = absurd x
+  onward-in ls ms v g γ c a i (Rejected r) x = absurd x
 
   -- a turn keeps the invariant
   pub onward : (k : Config) → Running t l b k → k .machine .going ≡ true → Running t l b (turn t k)

@@ -32,7 +32,7 @@ use Rattle.sss.specs.declared.Status.{Status}
 use Rattle.sss.specs.declared.Status.the-variants.{Live, Solved}
 use Rattle.sss.specs.declared.State.{State}
 use Rattle.sss.specs.declared.Phase.{Phase}
-use Rattle.sss.specs.declared.Phase.the-variants.{Begin, Sweep, Expand, PurgeLeft, PurgeRight, Rewind, Reset, Ended, Empty}
+use Rattle.sss.specs.declared.Phase.the-variants.{Begin, Sweep, Expand, PurgeLeft, PurgeRight, Rewind, Reset, Ended, Rejected}
 use Rattle.sss.specs.declared.Gap.{Gap}
 use Rattle.sss.specs.declared.Counts.{Counts}
 use Rattle.sss.specs.declared.Machine.{Machine}
@@ -148,7 +148,7 @@ module _ (t : List ℕ) (wf : WellFormed t) (l : List State) (b : List ℕ) wher
             rightStates = y ∷ B;
             parts = put y p₀;
             reaches = z;
-            tested = record { left = x .left; right = (m, x .right .1) };
+            tested = record { left = x .left; right = (m, x .right .1); limit = x .limit };
           }))
 
       children-last : {d : ℕ} (k : ℕ)
@@ -187,7 +187,7 @@ module _ (t : List ℕ) (wf : WellFormed t) (l : List State) (b : List ℕ) wher
             parts = put last p₀;
             inOrder = omega arith;
             reaches = rw m (children-last k (live-max t wf A this B r x k e z f));
-            tested = record { left = x .left; right = (le-refl γ, x .right .1) };
+            tested = record { left = x .left; right = (le-refl γ, x .right .1); limit = x .limit };
           }))
       live-taken e (suc k) z Min f =
           in-place ms v (replaced c) (theory.live (firstChild t n) γ) (counted a) (le-refl γ)
@@ -235,7 +235,10 @@ module _ (t : List ℕ) (wf : WellFormed t) (l : List State) (b : List ℕ) wher
                   right =
                       all-right (λ s. s .merit ≤ γ) (y .younger) (y .right)
                       (subst (All (λ s. s .merit ≤ γ)) (y .behind) (x .right .1));
+                  limit = x .limit;
                 };
+            elderNodes = all-right (λ s. s .node < frames t) (y .left) (y .elder) left-nodes;
+            youngerNodes = all-left (λ s. s .node < frames t) (y .younger) (y .right) right-nodes;
             elderBelow = below-is p h true (y .elder) (all-right (λ s. s .node < frames t) (y .left) (y .elder) left-nodes) (y .elder-below);
             youngerBelow =
                 below-is p h true (y .younger) (all-left (λ s. s .node < frames t) (y .younger) (y .right) right-nodes) (y .younger-below);

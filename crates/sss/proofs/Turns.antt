@@ -26,7 +26,7 @@ use Rattle.certificate.specs.Value.{valueOf}
 use Rattle.sss.specs.declared.Status.the-variants.{Live, Solved}
 use Rattle.sss.specs.declared.State.{State}
 use Rattle.sss.specs.declared.Phase.{Phase}
-use Rattle.sss.specs.declared.Phase.the-variants.{Begin, Sweep, Expand, PurgeLeft, PurgeRight, Rewind, Reset, Ended, Empty}
+use Rattle.sss.specs.declared.Phase.the-variants.{Begin, Sweep, Expand, PurgeLeft, PurgeRight, Rewind, Reset, Ended, Rejected}
 use Rattle.sss.specs.declared.Gap.{Gap}
 use Rattle.sss.specs.declared.Counts.{Counts}
 use Rattle.sss.specs.declared.Machine.{Machine}
@@ -129,6 +129,7 @@ module _ (t : List ℕ) (wf : WellFormed t) (l : List State) (b : List ℕ) wher
             parts = s .parts;
             reaches = s .reaches;
             falls = some-merit (s .leftStates) (omega (arith, left-length (s .parts), ltb-true 0 (g .left) f)) (s .tested .left);
+            limit = s .tested .limit;
             left = s .tested .left;
             right = no-states (s .rightStates) none;
           },
@@ -165,7 +166,7 @@ module _ (t : List ℕ) (wf : WellFormed t) (l : List State) (b : List ℕ) wher
               (subst (λ B. Parts ls (g .left) (g .right) (x .leftStates ++ x .elder) (theory.solved p γ ∷ B) (drop (frames t) l))
               (ap (λ k. k ++ x .rightStates) j) (x .parts));
           reaches = x .reaches;
-          tested = record { left = x .tested .left; right = (le-refl γ, x .tested .right) };
+          tested = record { left = x .tested .left; right = (le-refl γ, x .tested .right); limit = x .tested .limit };
         }
 
     pub purgingRight-runs : (p : ℕ) (x : Purging t ls (drop (frames t) l) v g γ (c .replacements) p) → x .elder ≡ []

@@ -15,7 +15,7 @@ use Rattle.frames.specs.Tree.{upFrom, tree, valuation}
 use Rattle.certificate.specs.Buffer.{written, markAll}
 use Rattle.sss.specs.declared.State.{State}
 use Rattle.sss.specs.declared.Phase.{Phase}
-use Rattle.sss.specs.declared.Phase.the-variants.{Begin, Sweep, Expand, PurgeLeft, PurgeRight, Rewind, Reset, Ended, Empty}
+use Rattle.sss.specs.declared.Phase.the-variants.{Begin, Sweep, Expand, PurgeLeft, PurgeRight, Rewind, Reset, Ended, Rejected}
 use Rattle.sss.specs.declared.Gap.{Gap}
 use Rattle.sss.specs.declared.Registers.{Registers}
 use Rattle.sss.specs.Entry.{entryOf, blank}
@@ -36,6 +36,7 @@ Reaches t k w L = theory.ListAfter (valuation t) (layoutOf (tree t)) (tree t) k 
 pub record Tested (γ : ℕ) (A B : List theory.State) : Type 0 where
   pub left : All (λ s. s .merit < γ) A
   pub right : All (λ s. s .merit ≤ γ) B
+  pub limit : γ ≤ greatest
 
 module _ (t : List ℕ) (ls Z : List State) (w : List ℕ) (g : Gap) (γ k : ℕ) where
   -- the list is in its two parts
@@ -65,6 +66,8 @@ module _ (t : List ℕ) (ls Z : List State) (w : List ℕ) (g : Gap) (γ k : ℕ
     pub parts : Parts ls (g .left) (g .right) (leftStates ++ elder) (theory.solved p γ ∷ (younger ++ rightStates)) Z
     pub reaches : Reaches t k w (leftStates ++ (theory.solved p γ ∷ rightStates))
     pub tested : Tested γ leftStates rightStates
+    pub elderNodes : All (λ s. s .node < frames t) elder
+    pub youngerNodes : All (λ s. s .node < frames t) younger
     pub elderBelow : All (λ s. isBelow t p (s .node) ≡ true) elder
     pub youngerBelow : All (λ s. isBelow t p (s .node) ≡ true) younger
     pub leftClear : All (λ s. isBelow t p (s .node) ≡ false) leftStates
@@ -77,6 +80,7 @@ module _ (t : List ℕ) (ls Z : List State) (w : List ℕ) (g : Gap) (γ k : ℕ
     pub parts : Parts ls (g .left) (g .right) leftStates rightStates Z
     pub reaches : Reaches t k w (leftStates ++ rightStates)
     pub falls : best < γ
+    pub limit : γ ≤ greatest
     pub left : All (λ s. s .merit < γ) leftStates
     pub right : All (λ s. s .merit ≤ best) rightStates
 
@@ -100,7 +104,7 @@ module _ (t : List ℕ) (ls Z : List State) (w : List ℕ) (g : Gap) (γ k : ℕ
   InPhase (Rewind best) i on = (on ≡ true) × (i ≡ g .left - 1) × (0 < g .left) × Rewinding best
   InPhase (Reset j) i on = (on ≡ true) × (i ≡ j) × (j < g .nodes) × Resetting j
   InPhase Ended i on = (on ≡ false) × Resetting (g .nodes)
-  InPhase Empty i on = ⊥
+  InPhase (Rejected r) i on = ⊥
 
 -- the invariant, for a table t, entries l and marks b at entry
 pub record Running (t : List ℕ) (l : List State) (b : List ℕ) (c : Config) : Type 0 where

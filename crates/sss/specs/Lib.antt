@@ -1,4 +1,6 @@
 -- Definitions for SSS* over a list of entries.
 pub mod Entry
 pub mod Machine
+pub mod Family
 pub mod Invariant
+pub mod Ready

@@ -12,11 +12,12 @@ use Rattle.gametree.specs.Tree.{greatest}
 use Rattle.frames.specs.Frame.{frames, firstChild, childCount}
 use Rattle.frames.specs.Place.{parentOf, sideOf, isBelow}
 use Rattle.frames.specs.Tree.{valuation}
+use Rattle.frames.specs.declared.Rejection.{Rejection}
 use Rattle.sss.specs.declared.Status.{Status}
 use Rattle.sss.specs.declared.Status.the-variants.{Live, Solved}
 use Rattle.sss.specs.declared.State.{State}
 use Rattle.sss.specs.declared.Phase.{Phase}
-use Rattle.sss.specs.declared.Phase.the-variants.{Begin, Sweep, Expand, PurgeLeft, PurgeRight, Rewind, Reset, Ended, Empty}
+use Rattle.sss.specs.declared.Phase.the-variants.{Begin, Sweep, Expand, PurgeLeft, PurgeRight, Rewind, Reset, Ended, Rejected}
 use Rattle.sss.specs.declared.Gap.{Gap}
 use Rattle.sss.specs.declared.Counts.{Counts}
 use Rattle.sss.specs.declared.Registers.{Registers}
@@ -45,11 +46,15 @@ turned on i w e p g γ c =
       registers = record { phase = p; gap = g; test = γ; counts = c };
     }
 
+-- 15: while the root is unsolved, is a state on the list?
+abbrev pub noState : Rejection
+noState = record { number = 15; place = 0 }
+
 -- the sweep goes on to the right; at the end of the list the gap goes back
 abbrev pub sweeping : Gap → ℕ → Counts → ℕ → State → Machine
 sweeping g γ c w e =
     cond (ltb (g .right) (g .nodes)) (turned true (g .right) w e Sweep g γ c)
-    (cond (ltb 0 (g .left)) (turned true (g .left - 1) w e (Rewind 0) g γ c) (turned false 0 w e Empty g γ c))
+    (cond (ltb 0 (g .left)) (turned true (g .left - 1) w e (Rewind 0) g γ c) (turned false 0 w e (Rejected noState) g γ c))
 
 -- children down to the first are still to be put on the list
 abbrev pub expanding : ℕ → ℕ → Gap → ℕ → Counts → ℕ → State → Machine
@@ -118,7 +123,7 @@ turnBy t (Rewind best) e g γ c =
 turnBy t (Reset i) e g γ c =
     cond (ltb (i + 1) (g .nodes)) (turned true (i + 1) i blank (Reset (i + 1)) g γ c) (turned false 0 i blank Ended g γ c)
 turnBy t Ended e g γ c = turned false 0 0 e Ended g γ c
-turnBy t Empty e g γ c = turned false 0 0 e Empty g γ c
+turnBy t (Rejected r) e g γ c = turned false 0 0 e (Rejected r) g γ c
 
 -- the machine after one turn
 abbrev pub nextOf : List ℕ → Machine → Machine
@@ -140,7 +145,7 @@ marksBy t (PurgeRight p) e γ b = b
 marksBy t (Rewind best) e γ b = b
 marksBy t (Reset i) e γ b = b
 marksBy t Ended e γ b = b
-marksBy t Empty e γ b = b
+marksBy t (Rejected r) e γ b = b
 
 abbrev pub marksOf : List ℕ → Machine → List ℕ → List ℕ
 marksOf t m b = marksBy t (m .registers .phase) (m .entry) (m .registers .test) b

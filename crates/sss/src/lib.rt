@@ -1,4 +1,5 @@
 // SSS*: a best-first search over a list of states, kept from left to right in the lent entries.
+use frames::Rejection;
 ghost use mathlib.Core.Path.{_≡_};
 ghost use Rattle.sss.specs.Entry.{blank as blankEntry};
 
@@ -33,8 +34,8 @@ pub enum Phase {
     Reset { entry: usize },
     // All entries are reset.
     Ended,
-    // No state is on the list.
-    Empty,
+    // A question got a "no"; with no state on the list it is 15.
+    Rejected(Rejection),
 }
 
 // The states stand in entries 0 to left - 1, and from right to nodes - 1.
