@@ -5,4 +5,6 @@ pub mod Turns
 pub mod Taking
 pub mod Onward
 pub mod Fuel
+pub mod Entries
 pub mod Readiness
+pub mod Driving

@@ -195,3 +195,31 @@ module _ (t : List ℕ) (wf : WellFormed t) (l : List State) (b : List ℕ) wher
             (subst (λ o. InPhase t (k .list) Z (h .evaluated) (k .machine .registers .gap) (k .machine .registers .test)
             (k .machine .registers .counts .replacements) (k .machine .registers .phase) (k .machine .read) o) on (h .phase));
       }
+
+  reads-in : (ls : List State) (v : List ℕ) (e : State) (g : Gap) (γ : ℕ) (c : Counts) (i : ℕ) → g .nodes ≡ frames t
+      → (p : Phase) → ReadyIn t p e g γ c → InPhase t ls Z v g γ (c .replacements) p i true → i < g .nodes
+  reads-in ls v e g γ c i n Begin r x = omega (arith, x .1, wf .some)
+  reads-in ls v e g γ c i n Sweep r x = omega (arith, x .1, x .2)
+  reads-in ls v e g γ c i n (Expand first child) r x = omega (arith, x .1, x .2)
+  reads-in ls v e g γ c i n (PurgeLeft p) r x = omega (arith, x .1, x .2, r .0 .ordered, r .0 .inside)
+  reads-in ls v e g γ c i n (PurgeRight p) r x = omega (arith, x .1, x .2)
+  reads-in ls v e g γ c i n (Rewind best) r x = omega (arith, x .1, x .2, r .ordered, r .inside)
+  reads-in ls v e g γ c i n (Reset j) r x = omega (arith, x .1, x .2)
+  reads-in ls v e g γ c i n Ended r x = absurd r
+  reads-in ls v e g γ c i n (Rejected q) r x = absurd r
+
+  -- the entry that the machine reads is one of the list's
+  pub reads : (F : List ℕ) → FamilyOf t F → (k : Config) → (h : Running t l b k) → k .machine .going ≡ true
+      → k .machine .read < length (k .list)
+  reads F f k h on =
+      omega (
+        arith,
+        h .nodes,
+        h .entries,
+        h .room,
+        reads-in (k .list) (h .evaluated) (handed k .entry) (k .machine .registers .gap) (k .machine .registers .test)
+            (k .machine .registers .counts) (k .machine .read) (h .nodes) (k .machine .registers .phase)
+            (ready F f k h on .phase)
+            (subst (λ o. InPhase t (k .list) Z (h .evaluated) (k .machine .registers .gap) (k .machine .registers .test)
+            (k .machine .registers .counts .replacements) (k .machine .registers .phase) (k .machine .read) o) on (h .phase)),
+      )

@@ -4,3 +4,4 @@ pub mod Machine
 pub mod Family
 pub mod Invariant
 pub mod Ready
+pub mod Driven
