@@ -101,14 +101,15 @@ module _ (t : List ℕ) (wf : WellFormed t) (E : ℕ → Bool) where
   move-inner Max i n = first-with (low (valuation t) E) (treeAt t) (tree-number t) _ i n
   move-inner Min i n = first-with (high (valuation t) E) (treeAt t) (tree-number t) _ i n
 
-  chosen-root : chosenOf t E (sideOf t 0) 0 ≡ boundMove (valuation t) E (tree t)
+  -- the root's chosen child is the move
+  pub chosen-root : chosenOf t E (sideOf t 0) 0 ≡ boundMove (valuation t) E (tree t)
   unfolding chosenOf firstEqual next
   chosen-root =
       zero-or-suc (childCount t 0) (λ e. rw (e, tree-leaf t wf 0 (wf .some) e)) (λ n e.
       let p = wf .first 0 (wf .some) (omega arith) in
       rw (e, tree-inner t wf 0 n (wf .some) e, p) (move-inner (sideOf t 0) 1 n))
 
-  -- the root's chosen child is the move
+  -- so the arrays give the move
   pub chosen-move : {sides lows highs : List ℕ} → Bounded t E sides lows highs → (n : ℕ) → n ≡ childCount t 0
       → chosenChild (bySide (numberSide (getD sides 0 0)) lows highs) 0 1 (1 + n - 1)
       ≡ boundMove (valuation t) E (tree t)

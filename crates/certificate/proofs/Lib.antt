@@ -9,3 +9,6 @@ pub mod Bounds
 pub mod Flags
 pub mod Chosen
 pub mod Solutions
+pub mod Values
+pub mod Marks
+pub mod Concluded

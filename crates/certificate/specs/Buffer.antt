@@ -27,6 +27,11 @@ mark E k = cond (E k) 1 0
 abbrev pub marked : List ℕ → ℕ → Bool
 marked b k = eqb (getD b k 0) 1
 
+-- how many of the first n entries are 1
+unfoldable pub ones : List ℕ → ℕ → ℕ
+ones b zero = 0
+ones b (suc n) = ones b n + cond (marked b n) 1 0
+
 -- the marks after the leaves w have been evaluated one after the other
 unfoldable pub markAll : List ℕ → List ℕ → List ℕ
 markAll b [] = b

@@ -24,6 +24,7 @@ ghost use Rattle.certificate.specs.Buffer.{written, stored, marked};
 ghost use Rattle.certificate.specs.Places.{sideNumber, numberSide, placeFrom, Placed};
 ghost use Rattle.certificate.specs.Ranges.{bestIn, firstEqual};
 ghost use Rattle.certificate.specs.Bounds.{boundOf};
+ghost use Rattle.certificate.specs.Value.{valueOf};
 ghost use Rattle.certificate.specs.Flags.{ownPart, childFlag, bySide, chosenChild, FlagsFrom};
 
 // The scores that bound every leaf's: 01's -32,001 and 32,001.
@@ -63,6 +64,14 @@ pub fn evaluate(table: &[u8], evaluated: &mut [u8], node: usize, depth: u32) -> 
 {
     evaluated[node] = 1;
     leaf_score(table, node, depth)
+}
+
+// The value of a score (01: from -32,001 to 32,001).
+pub fn value(score: u32) -> i16
+    requires { ⌜ score ≤ 64002 ⌝ }
+    ensures { λ r. ⌜ r ≡ valueOf score ⌝ }
+{
+    (score as i32 - 32001) as i16
 }
 
 // The first n marks become 0.
