@@ -1,0 +1,2 @@
+-- Lemmas on digits, lines and files, and the theorems on the reader.
+mod Digits

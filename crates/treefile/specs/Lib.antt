@@ -1,0 +1,2 @@
+-- Definitions over tree files: what a reader of the contracts has to believe.
+pub mod Digit
