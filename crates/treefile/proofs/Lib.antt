@@ -1,2 +1,3 @@
 -- Lemmas on digits, lines and files, and the theorems on the reader.
 mod Digits
+mod Lines

@@ -1,2 +1,3 @@
 -- Definitions over tree files: what a reader of the contracts has to believe.
 pub mod Digit
+pub mod Line

@@ -1,6 +1,114 @@
-// Tree files: one hexadecimal digit, one line, and the reader of a whole file.
+// Tree files: the reader of one line, and one hexadecimal digit.
 ghost use mathlib.Core.Path.{_≡_};
+ghost use mathlib.Core.Bool.{true};
+ghost use Prim.Native.Nat.{_<_};
+ghost use lib.ListN.{getD};
 ghost use Rattle.treefile.specs.Digit.{digitOf};
+ghost use Rattle.treefile.specs.Line.{allDigits, isLine, isLineAt, bytesOf, frameOf, lineAt};
+
+// A node's six bytes.
+pub struct Frame {
+    pub byte0: u8,
+    pub byte1: u8,
+    pub byte2: u8,
+    pub byte3: u8,
+    pub byte4: u8,
+    pub byte5: u8,
+}
+
+// A reading position in a file.
+pub struct Cursor {
+    pub at: usize,
+}
+
+// What reading one line finds: its frame with the position past it, or no line with the position as it was.
+pub enum Line {
+    Read(Frame, Cursor),
+    NoLine(Cursor),
+}
+
+impl Cursor {
+    // Reads the line at the position: twelve digits, and then a line feed or the end of the file.
+    pub fn read_line(self, file: &[u8]) -> Line
+        ensures { λ r. ⌜ r ≡ lineAt (now (file .entry)) (self .at) ⌝ }
+    {
+        let at = self.at;
+        if !is_line(file, at) {
+            return Line::NoLine(Cursor { at });
+        }
+        let end = at + LINE_DIGITS;
+        let frame = frame_of(&file[at..end]);
+        if end == file.len() {
+            return Line::Read(frame, Cursor { at: end });
+        }
+        Line::Read(frame, Cursor { at: end + 1 })
+    }
+}
+
+// The digits of a line, and the byte that closes it.
+const LINE_DIGITS: usize = 12;
+
+const LINE_FEED: u8 = 10;
+
+// Do twelve digits stand at the position, and then a line feed or the end of the file?
+fn is_line(file: &[u8], at: usize) -> bool
+    ensures { λ r. ⌜ r ≡ isLineAt (now (file .entry)) at ⌝ }
+{
+    let size = file.len();
+    if size < LINE_DIGITS {
+        return false;
+    }
+    if size - LINE_DIGITS < at {
+        return false;
+    }
+    let end = at + LINE_DIGITS;
+    if !all_digits(&file[at..end]) {
+        return false;
+    }
+    if end == size {
+        return true;
+    }
+    file[end] == LINE_FEED
+}
+
+// Is every byte a digit?
+fn all_digits(bytes: &[u8]) -> bool
+    ensures { λ r. ⌜ r ≡ allDigits (now (bytes .entry)) ⌝ }
+{
+    let mut i = 0;
+    while i < bytes.len() {
+        if digit(bytes[i]) == NO_DIGIT {
+            return false;
+        }
+        i += 1;
+    }
+    true
+}
+
+// The frame of a line.
+fn frame_of(line: &[u8]) -> Frame
+    requires { ⌜ isLine (now line) ≡ true ⌝ }
+    ensures { λ r. ⌜ r ≡ frameOf (bytesOf (now (line .entry))) ⌝ }
+{
+    Frame {
+        byte0: byte_of(line, 0),
+        byte1: byte_of(line, 1),
+        byte2: byte_of(line, 2),
+        byte3: byte_of(line, 3),
+        byte4: byte_of(line, 4),
+        byte5: byte_of(line, 5),
+    }
+}
+
+// Byte k of a line's frame: two digits, the high one first.
+fn byte_of(line: &[u8], k: usize) -> u8
+    requires { ⌜ (isLine (now line) ≡ true) × (k < 6) ⌝ }
+    ensures { λ r. ⌜ r ≡ getD (bytesOf (now (line .entry))) k 0 ⌝ }
+{
+    let high = digit(line[2 * k]);
+    let low = digit(line[2 * k + 1]);
+    16 * high + low
+}
 
 // What a byte that is no digit gives.
 const NO_DIGIT: u8 = 16;
