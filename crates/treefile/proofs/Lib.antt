@@ -1,3 +1,6 @@
 -- Lemmas on digits, lines and files, and the theorems on the reader.
 mod Digits
 mod Lines
+mod Splits
+mod Left
+mod Decoding

@@ -1,7 +1,7 @@
 -- Lines of digits: what the loop over a line's bytes knows, and the bytes of a line.
 use Prim.Native.Nat.{ℕ, zero, suc, _+_, _-_, _*_, _≤_, _<_, min}
 use mathlib.Core.Path.{_≡_, refl, _∙_}
-use mathlib.Core.Bool.{true, false, and-eq-true-iff}
+use mathlib.Core.Bool.{Bool, true, false, and-eq-true-iff}
 use mathlib.Core.List.{List, [], _∷_}
 use lib.Dec.{ltb, eqb}
 use lib.ListN.{length, getD, take, drop, length-take, length-drop}
@@ -13,6 +13,8 @@ use borrow.Author.Tests.{lt-ltb, le-ltb, ltb-true, eqb-true, ne-eqb}
 use Rattle.treefile.specs.Digit.{noDigit, digitOf}
 use Rattle.treefile.specs.Line.{lineDigits, lineFeed, allDigits, isLine, hexByte, bytesOf}
 use Rattle.treefile.specs.Line.{frameOf, closed, isLineAt, lineAt}
+use Rattle.treefile.specs.declared.Frame.{Frame}
+use Rattle.treefile.specs.declared.Cursor.{Cursor}
 use Rattle.treefile.specs.declared.Line.the-variants.{Read, NoLine}
 use Rattle.treefile.proofs.Digits.{digit-small}
 
@@ -113,3 +115,24 @@ module _ (f : List ℕ) (at : ℕ) where
 
     pub line-fits : at + lineDigits ≤ length f
     line-fits = omega (arith, simp (length-take, length-drop) at (line-length lineBytes line-is))
+
+  -- what was read says whether a line stands there
+  pub read-is : (x : Frame) (c : Cursor) → Read x c ≡ lineAt f at → isLineAt f at ≡ true
+  read-is x c e = go (isLineAt f at) refl
+    where
+      go : (b : Bool) → isLineAt f at ≡ b → b ≡ true
+      go true h = refl
+      go false h =
+          let r : Read x c ≡ NoLine (record { at = at }) = e ∙ line-none h in
+          let z : _≡_ {A = ℕ} 0 1 = cc in
+          absurd (omega arith)
+
+  pub none-is : (c : Cursor) → NoLine c ≡ lineAt f at → isLineAt f at ≡ false
+  none-is c e = go (isLineAt f at) refl
+    where
+      go : (b : Bool) → isLineAt f at ≡ b → b ≡ false
+      go false h = refl
+      go true h =
+          let r = e ∙ line-read h in
+          let z : _≡_ {A = ℕ} 0 1 = cc in
+          absurd (omega arith)

@@ -47,6 +47,10 @@ frameOf bs =
       byte5 = getD bs 5 0;
     }
 
+-- the bytes of a frame
+abbrev pub frameBytes : Frame → List ℕ
+frameBytes x = x .byte0 ∷ x .byte1 ∷ x .byte2 ∷ x .byte3 ∷ x .byte4 ∷ x .byte5 ∷ []
+
 -- after the digits comes the end of the file or a line feed
 abbrev pub closed : List ℕ → Bool
 closed [] = true

@@ -1,10 +1,17 @@
 // Tree files: the reader of one line, and one hexadecimal digit.
+use frames::Checked;
+use frames::FRAME_SIZE;
+use frames::Rejection;
 ghost use mathlib.Core.Path.{_≡_};
 ghost use mathlib.Core.Bool.{true};
-ghost use Prim.Native.Nat.{_<_};
-ghost use lib.ListN.{getD};
+ghost use Prim.Native.Nat.{_+_, _*_, _<_, _≤_};
+ghost use lib.ListN.{length, getD};
+ghost use lib.Seq.{sets};
+ghost use Rattle.frames.specs.Frame.{frameSize, maxNodes};
 ghost use Rattle.treefile.specs.Digit.{digitOf};
-ghost use Rattle.treefile.specs.Line.{allDigits, isLine, isLineAt, bytesOf, frameOf, lineAt};
+ghost use Rattle.treefile.specs.Line.{allDigits, isLine, isLineAt, bytesOf, frameOf, frameBytes, lineAt};
+ghost use Rattle.treefile.specs.File.{maxFile};
+ghost use Rattle.treefile.specs.Decoded.{Decoded};
 
 // A node's six bytes.
 pub struct Frame {
@@ -43,6 +50,42 @@ impl Cursor {
         }
         Line::Read(frame, Cursor { at: end + 1 })
     }
+}
+
+// Question 3: the number of lines, whose frames then stand at the table's front, or the rejection.
+fn decode(file: &[u8], table: &mut [u8]) -> Checked
+    requires { ⌜ (length (now file) ≤ maxFile) × (frameSize * maxNodes ≤ length (now table)) ⌝ }
+    ensures { λ r. ⌜ Decoded (now (file .entry)) (now (table .exit)) r ⌝ }
+{
+    let mut cursor = Cursor { at: 0 };
+    let mut lines = 0;
+    while cursor.at < file.len() {
+        match cursor.read_line(file) {
+            Line::Read(frame, next) => {
+                store(table, FRAME_SIZE * lines, frame);
+                cursor = next;
+                lines += 1;
+            }
+            Line::NoLine(_) => return Checked::Rejected(Rejection {
+                number: NOT_A_LINE,
+                place: lines,
+            }),
+        }
+    }
+    Checked::Nodes(lines)
+}
+
+// Stores a frame's six bytes from an index on.
+fn store(table: &mut [u8], at: usize, frame: Frame)
+    requires { ⌜ at + frameSize ≤ length (now table) ⌝ }
+    ensures { λ _. ⌜ now (table .exit) ≡ sets (now (table .entry)) at (frameBytes frame) ⌝ }
+{
+    table[at] = frame.byte0;
+    table[at + 1] = frame.byte1;
+    table[at + 2] = frame.byte2;
+    table[at + 3] = frame.byte3;
+    table[at + 4] = frame.byte4;
+    table[at + 5] = frame.byte5;
 }
 
 // The digits of a line, and the byte that closes it.
@@ -109,6 +152,9 @@ fn byte_of(line: &[u8], k: usize) -> u8
     let low = digit(line[2 * k + 1]);
     16 * high + low
 }
+
+// The number of question 3.
+const NOT_A_LINE: u8 = 3;
 
 // What a byte that is no digit gives.
 const NO_DIGIT: u8 = 16;
