@@ -2,7 +2,7 @@
 use Prim.Native.Nat.{ℕ, zero, suc, _+_, _*_, _/_, _≤_, _<_, min}
 use mathlib.Core.Path.{_≡_, refl, sym, ap, _∙_}
 use mathlib.Core.Bool.{Bool, true, false, cond}
-use mathlib.Core.Option.{none, some}
+use mathlib.Core.Option.{Option, none, some}
 use mathlib.Core.List.{List, [], _∷_, _++_, append-nil, append-assoc}
 use lib.ListN.{length, take, drop, length-append, drop-of-length-le}
 use lib.Seq.{sets, sets-eq, length-sets, take-at, length-take-le}
@@ -54,6 +54,14 @@ stored table bs n h six =
     (length-append (take (frameSize * n) table) bs
     ∙ omega (arith, length-take-le (frameSize * n) table (omega arith))))
 
+-- a rejection says nothing of the table
+pub decoded-refused : (f : List ℕ) (x : Option Rejection) (table : List ℕ) (r : Rejection) → x ≡ some r
+    → Decoded f x table (Rejected r)
+decoded-refused f x table r e = record {
+  answered = rw e;
+  filled = λ p. (let z : _≡_ {A = ℕ} 0 1 = cc in absurd (omega arith));
+}
+
 -- after n lines the position is past them, question 3 is left for the lines from there on, and the table's front holds
 -- their frames
 pub record Decoding (f table : List ℕ) (at n : ℕ) : Type 0 where
@@ -74,7 +82,7 @@ decoding-none f table = record {
 module _ (f table : List ℕ) (at n : ℕ) (room : frameSize * maxNodes ≤ length table) (size : length f ≤ maxFile)
     (d : Decoding f table at n) where
   -- at the end of the file
-  pub decoding-all : length f ≤ at → Decoded f table (Nodes n)
+  pub decoding-all : length f ≤ at → Decoded f (fileCheck3 f) table (Nodes n)
   unfolding linesOf eachLine decode
   decoding-all h =
       let passed : fileCheck3 f ≡ none = d .passed ∙ rw (drop-of-length-le f h) in
@@ -91,14 +99,9 @@ module _ (f table : List ℕ) (at n : ℕ) (room : frameSize * maxNodes ≤ leng
   module _ (inside : at < length f) where
     -- a line that is not as it must be
     pub decoding-stop : (c : Cursor) → NoLine c ≡ lineAt f at
-        → Decoded f table (Rejected (record { number = 3; place = n }))
+        → Decoded f (fileCheck3 f) table (Rejected (record { number = 3; place = n }))
     decoding-stop c e =
-        let stops : fileCheck3 f ≡ some (record { number = 3; place = n }) =
-        d .passed ∙ lines-stop f at n inside (none-is f at c e) in
-        record {
-          answered = rw stops;
-          filled = λ p. (let z : _≡_ {A = ℕ} 0 1 = cc in absurd (omega arith));
-        }
+        decoded-refused f (fileCheck3 f) table _ (d .passed ∙ lines-stop f at n inside (none-is f at c e))
 
     -- a line stored behind the ones before
     pub decoding-next : (x : Frame) (c : Cursor) → Read x c ≡ lineAt f at

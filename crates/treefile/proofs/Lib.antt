@@ -4,3 +4,5 @@ mod Lines
 mod Splits
 mod Left
 mod Decoding
+mod Counts
+mod Reading

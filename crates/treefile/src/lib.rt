@@ -1,7 +1,12 @@
-// Tree files: the reader of one line, and one hexadecimal digit.
+// Tree files: the reader of a whole file, of one line, and of one hexadecimal digit.
+use frames::BROKEN;
 use frames::Checked;
+use frames::EMPTY;
 use frames::FRAME_SIZE;
-use frames::Rejection;
+use frames::MAX_NODES;
+use frames::TOO_LONG;
+use frames::check_frames;
+use frames::rejected;
 ghost use mathlib.Core.Path.{_≡_};
 ghost use mathlib.Core.Bool.{true};
 ghost use Prim.Native.Nat.{_+_, _*_, _<_, _≤_};
@@ -10,8 +15,37 @@ ghost use lib.Seq.{sets};
 ghost use Rattle.frames.specs.Frame.{frameSize, maxNodes};
 ghost use Rattle.treefile.specs.Digit.{digitOf};
 ghost use Rattle.treefile.specs.Line.{allDigits, isLine, isLineAt, bytesOf, frameOf, frameBytes, lineAt};
-ghost use Rattle.treefile.specs.File.{maxFile};
+ghost use Rattle.treefile.specs.File.{maxFile, fileCheck3, fileRejection, readAnswer, tableAfter};
 ghost use Rattle.treefile.specs.Decoded.{Decoded};
+
+// The digits of a line, the byte that closes it, and the most bytes of a file and of its table.
+const LINE_DIGITS: usize = 12;
+
+const LINE_FEED: u8 = 10;
+
+const MAX_FILE: usize = (LINE_DIGITS + 1) * MAX_NODES;
+
+const MAX_TABLE: usize = FRAME_SIZE * MAX_NODES;
+
+// The number of question 10.
+const SHORT_BUFFER: u8 = 10;
+
+// Reads a file into the table: the number of nodes, or the first rejection, and then the table is as it was.
+pub fn read(file: &[u8], table: &mut [u8]) -> Checked
+    ensures { λ r. ⌜ (r ≡ readAnswer (now (file .entry)) (now (table .entry))) × (now (table .exit) ≡ tableAfter (now (file .entry)) (now (table .entry))) ⌝ }
+{
+    let mut decoded = [0u8; MAX_TABLE];
+    let checked = check_file(file, &mut decoded);
+    let Checked::Nodes(nodes) = checked else {
+        return checked;
+    };
+    let size = FRAME_SIZE * nodes;
+    if table.len() < size {
+        return rejected(SHORT_BUFFER, 0);
+    }
+    bytes::copy(&decoded[..size], table);
+    checked
+}
 
 // A node's six bytes.
 pub struct Frame {
@@ -52,10 +86,29 @@ impl Cursor {
     }
 }
 
+// Questions 1 to 9: the number of nodes, whose frames then stand at the table's front, or the first rejection.
+fn check_file(file: &[u8], table: &mut [u8]) -> Checked
+    requires { ⌜ frameSize * maxNodes ≤ length (now table) ⌝ }
+    ensures { λ r. ⌜ Decoded (now (file .entry)) (fileRejection (now (file .entry))) (now (table .exit)) r ⌝ }
+{
+    if file.len() == 0 {
+        return rejected(EMPTY, 0);
+    }
+    if MAX_FILE < file.len() {
+        return rejected(TOO_LONG, 0);
+    }
+    let lines = decode(file, table);
+    let Checked::Nodes(nodes) = lines else {
+        return lines;
+    };
+    let size = FRAME_SIZE * nodes;
+    check_frames(&table[..size])
+}
+
 // Question 3: the number of lines, whose frames then stand at the table's front, or the rejection.
 fn decode(file: &[u8], table: &mut [u8]) -> Checked
     requires { ⌜ (length (now file) ≤ maxFile) × (frameSize * maxNodes ≤ length (now table)) ⌝ }
-    ensures { λ r. ⌜ Decoded (now (file .entry)) (now (table .exit)) r ⌝ }
+    ensures { λ r. ⌜ Decoded (now (file .entry)) (fileCheck3 (now (file .entry))) (now (table .exit)) r ⌝ }
 {
     let mut cursor = Cursor { at: 0 };
     let mut lines = 0;
@@ -66,10 +119,7 @@ fn decode(file: &[u8], table: &mut [u8]) -> Checked
                 cursor = next;
                 lines += 1;
             }
-            Line::NoLine(_) => return Checked::Rejected(Rejection {
-                number: NOT_A_LINE,
-                place: lines,
-            }),
+            Line::NoLine(_) => return rejected(BROKEN, lines),
         }
     }
     Checked::Nodes(lines)
@@ -87,11 +137,6 @@ fn store(table: &mut [u8], at: usize, frame: Frame)
     table[at + 4] = frame.byte4;
     table[at + 5] = frame.byte5;
 }
-
-// The digits of a line, and the byte that closes it.
-const LINE_DIGITS: usize = 12;
-
-const LINE_FEED: u8 = 10;
 
 // Do twelve digits stand at the position, and then a line feed or the end of the file?
 fn is_line(file: &[u8], at: usize) -> bool
@@ -152,9 +197,6 @@ fn byte_of(line: &[u8], k: usize) -> u8
     let low = digit(line[2 * k + 1]);
     16 * high + low
 }
-
-// The number of question 3.
-const NOT_A_LINE: u8 = 3;
 
 // What a byte that is no digit gives.
 const NO_DIGIT: u8 = 16;

@@ -59,15 +59,27 @@ loop-again c = (search needs, next c)
 enum-told : tie.Need-enum-told Inv-loop μ-loop
 enum-told c = search needs
 
+rejected-requires : tie.Need-rejected-requires Inv-loop μ-loop
+rejected-requires c κs = search needs
+
 same-length : tie.Need-same-length Inv-loop μ-loop
 same-length c = search needs
 
 returns : tie.Need-returns Inv-loop μ-loop
 returns c =
-    let l = c .before .before .before .before .before in
-    decoding-stop (l .before .before .before .args .file .now) (l .loop .table) (l .loop .cursor .at) (l .loop .lines)
-    (omega arith) (omega arith) (l .loop .inv .1) (omega arith) _
-    (sym (c .enum-told .given .1) ∙ c .before .before .read-line .ensures)
+    let l = c .before .before .before .before .before .before in
+    rw (c .rejected .ensures)
+    (decoding-stop
+    (l .before .before .before .args .file .now)
+    (l .loop .table)
+    (l .loop .cursor .at)
+    (l .loop .lines)
+    (omega arith)
+    (omega arith)
+    (l .loop .inv .1)
+    (omega arith)
+    _
+    (sym (c .before .enum-told .given .1) ∙ c .before .before .before .read-line .ensures))
 
 same-length-2 : tie.Need-same-length-2 Inv-loop μ-loop
 same-length-2 c = search needs
@@ -93,6 +105,7 @@ decode-spec =
     loop-less
     loop-again
     enum-told
+    rejected-requires
     same-length
     returns
     same-length-2
