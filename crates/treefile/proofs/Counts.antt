@@ -1,16 +1,16 @@
 -- How many lines and bytes a file has: each line takes its bytes and a line feed, and only the last line feed may be
 -- missing.
-use Prim.Native.Nat.{ℕ, zero, suc, _+_, _*_, _/_, _≤_, _<_}
-use mathlib.Core.Path.{_≡_, refl, _∙_}
+use Prim.Native.Nat.{ℕ, suc, _+_, _*_, _/_, _≤_}
+use mathlib.Core.Path.{_≡_, refl}
 use mathlib.Core.Bool.{Bool, true, false}
 use mathlib.Core.Option.{none}
 use mathlib.Core.List.{List, [], _∷_}
 use lib.Dec.{eqb}
-use lib.ListN.{length, getD, length-append}
+use lib.ListN.{length, length-append}
 use native.Mathlib.Omega.{arith}
 use Rattle.frames.specs.Frame.{frameSize, maxNodes, frames}
-use Rattle.frames.proofs.Stated.{ask-yes, yes-ask, both-passed, passed-both}
-use Rattle.treefile.specs.Line.{lineDigits, lineFeed, isLine, bytesOf}
+use Rattle.frames.proofs.Stated.{ask-yes, both-passed}
+use Rattle.treefile.specs.Line.{lineDigits, lineFeed, bytesOf}
 use Rattle.treefile.specs.Lines.{putBefore, linesOf, decode, decoded}
 use Rattle.treefile.specs.File.{maxFile, eachLine, lineCheck3, fileCheck3}
 use Rattle.treefile.proofs.Lines.{line-length}

@@ -1,16 +1,15 @@
 -- The loop that decodes a file: what holds after n lines, and that each line, stored behind the ones before, keeps it.
-use Prim.Native.Nat.{ℕ, zero, suc, _+_, _*_, _/_, _≤_, _<_, min}
+use Prim.Native.Nat.{ℕ, zero, suc, _+_, _*_, _≤_, _<_, min}
 use mathlib.Core.Path.{_≡_, refl, sym, ap, _∙_}
-use mathlib.Core.Bool.{Bool, true, false, cond}
+use mathlib.Core.Bool.{true}
 use mathlib.Core.Option.{Option, none, some}
 use mathlib.Core.List.{List, [], _∷_, _++_, append-nil, append-assoc}
 use lib.ListN.{length, take, drop, length-append, drop-of-length-le}
-use lib.Seq.{sets, sets-eq, length-sets, take-at, length-take-le}
+use lib.Seq.{sets, sets-eq, take-at, length-take-le}
 use native.Mathlib.Omega.{arith}
 use Rattle.frames.specs.declared.Rejection.{Rejection}
 use Rattle.frames.specs.declared.Checked.the-variants.{Nodes, Rejected}
 use Rattle.frames.specs.Frame.{frameSize, maxNodes, frames}
-use Rattle.frames.specs.Rejection.{answer}
 use Rattle.treefile.specs.declared.Frame.{Frame}
 use Rattle.treefile.specs.declared.Cursor.{Cursor}
 use Rattle.treefile.specs.declared.Line.the-variants.{Read, NoLine}

@@ -6,3 +6,5 @@ mod Left
 mod Decoding
 mod Counts
 mod Reading
+pub mod Acceptance
+pub mod Cases

@@ -31,7 +31,8 @@ line-digits l e = and-eq-true-iff (eqb (length l) lineDigits) (allDigits l) .0 e
 pub digit-at : (l : List ℕ) (i : ℕ) → allDigits l ≡ true → i < length l → digitOf (getD l i 0) < noDigit
 unfolding allDigits
 digit-at [] i e h = omega arith
-digit-at (b ∷ l) zero e h = ltb-true (digitOf b) noDigit (and-eq-true-iff (ltb (digitOf b) noDigit) (allDigits l) .0 e .0)
+digit-at (b ∷ l) zero e h =
+    ltb-true (digitOf b) noDigit (and-eq-true-iff (ltb (digitOf b) noDigit) (allDigits l) .0 e .0)
 digit-at (b ∷ l) (suc i) e h =
     digit-at l i (and-eq-true-iff (ltb (digitOf b) noDigit) (allDigits l) .0 e .1) (omega arith)
 
@@ -45,7 +46,8 @@ module _ (l : List ℕ) (i : ℕ) (inside : i < length l) where
   pub digits-more : (digitOf (getD l i 0) ≡ noDigit → ⊥) → allDigits (drop i l) ≡ allDigits (drop (i + 1) l)
   unfolding allDigits
   digits-more n =
-      rw (add-one, drop-cons l i 0 inside, lt-ltb (digitOf (getD l i 0)) noDigit (omega (arith, digit-small (getD l i 0))))
+      let small : digitOf (getD l i 0) < noDigit = omega (arith, digit-small (getD l i 0)) in
+      rw (add-one, drop-cons l i 0 inside, lt-ltb (digitOf (getD l i 0)) noDigit small)
 
 -- byte k of a line is made of its digits 2k and 2k + 1
 pub byte-at : (k : ℕ) (l : List ℕ) → 2 * k + 1 < length l

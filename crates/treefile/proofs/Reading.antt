@@ -1,6 +1,6 @@
 -- The reader, question by question: what it answers and what it leaves in the lent table at each way out.
-use Prim.Native.Nat.{ℕ, _+_, _*_, _≤_, _<_}
-use mathlib.Core.Path.{_≡_, refl, sym, ap, _∙_}
+use Prim.Native.Nat.{ℕ, _*_, _≤_, _<_}
+use mathlib.Core.Path.{_≡_, sym, ap, _∙_}
 use mathlib.Core.Option.{Option, none, some}
 use mathlib.Core.List.{List, _++_}
 use lib.ListN.{length, take, drop}
@@ -16,7 +16,8 @@ use Rattle.frames.specs.Check.{check1, framesRejection}
 use Rattle.frames.proofs.Stated.{ask-yes, both-passed}
 use Rattle.frames.proofs.Asked.{answer-nodes, answer-rejected}
 use Rattle.treefile.specs.Lines.{decoded}
-use Rattle.treefile.specs.File.{maxFile, fileCheck2, fileCheck3, fileRejection, readRejection, readAnswer, tableAfter}
+use Rattle.treefile.specs.File.{maxFile, fileCheck2, fileCheck3, fileRejection}
+use Rattle.treefile.specs.File.{readRejection, readAnswer, tableAfter}
 use Rattle.treefile.specs.Decoded.{Decoded}
 use Rattle.treefile.proofs.Decoding.{decoded-refused}
 use Rattle.treefile.proofs.Counts.{decoded-length, frame-count, frames-few}

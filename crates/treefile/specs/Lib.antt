@@ -4,3 +4,5 @@ pub mod Line
 pub mod Lines
 pub mod File
 pub mod Decoded
+pub mod Stated
+pub mod Cases

@@ -6,7 +6,6 @@ use lib.Dec.{ltb, eqb}
 use lib.ListN.{length, getD, take, drop}
 use Rattle.treefile.specs.Digit.{noDigit, digitOf}
 use Rattle.treefile.specs.declared.Frame.{Frame}
-use Rattle.treefile.specs.declared.Cursor.{Cursor}
 use Rattle.treefile.specs.declared.Line.{Line}
 use Rattle.treefile.specs.declared.Line.the-variants.{Read, NoLine}
 

@@ -101,8 +101,8 @@ fn check_file(file: &[u8], table: &mut [u8]) -> Checked
     let Checked::Nodes(nodes) = lines else {
         return lines;
     };
-    let size = FRAME_SIZE * nodes;
-    check_frames(&table[..size])
+    let end = FRAME_SIZE * nodes;
+    check_frames(&table[..end])
 }
 
 // Question 3: the number of lines, whose frames then stand at the table's front, or the rejection.

@@ -1,22 +1,23 @@
 -- `treefile::check_file` meets its contract: each way out is that of one question, or of the questions on frames.
 -- Assumes nothing.
-use mathlib.Core.Path.{_≡_, sym, _∙_}
+use mathlib.Core.Path.{sym}
 use native.Mathlib.Omega.{arith}
 use borrow.Author.Needs.{needs}
 use denote.Ref.{now}
 use lib.Seq.{length-take-le}
-use Rattle.frames.specs.Frame.{frameSize}
 use Rattle.treefile.specs.File.{fileCheck3}
 use Rattle.treefile.proofs.Decoding.{decoded-refused}
-use Rattle.treefile.proofs.Reading.{Front, empty-refused, long-refused, lines-refused, decoded-front, frames-asked}
+use Rattle.treefile.proofs.Reading.{Front, decoded-front, empty-refused, long-refused}
+use Rattle.treefile.proofs.Reading.{lines-refused, frames-asked}
 use Rattle.treefile.proofs.check_file.Statement.{statement}
 use Rattle.treefile.proofs.check_file.Tie as tie
 
 -- the lines have passed question 3
 front : (c : tie.After-known-told) →
     let s = c .before .before .before .before .before .before .before .before .before .before .before in
-    Front (now (s .args .file)) (fileCheck3 (now (s .args .file))) (c .before .before .before .before .before .decode .last .1 .0)
-    (c .before .lines .given .0 .0)
+    let f = now (s .args .file) in
+    let decoded = c .before .before .before .before .before .decode .last .1 .0 in
+    Front f (fileCheck3 f) decoded (c .before .lines .given .0 .0)
 front c =
     let d = c .before .before .before .before .before .decode in
     decoded-front _ _ _ _ (d .ensures) (λ p. (omega arith, p)) _ (c .before .lines .given .1)
@@ -50,8 +51,8 @@ returns-3 c =
     let d = c .before .before .before .before .decode in
     lines-refused _ _ _ (omega arith) (omega arith) (d .ensures) _ (c .enum-told .given .1)
 
-mul-size : tie.Need-mul-size
-mul-size c = omega (arith, front c .few)
+mul-end : tie.Need-mul-end
+mul-end c = omega (arith, front c .few)
 
 slice-reshare-prefix-check-frames : tie.Need-slice-reshare-prefix-check-frames
 slice-reshare-prefix-check-frames c = omega (arith, front c .few)
@@ -81,7 +82,7 @@ check-file-spec =
     enum-told
     same-length
     returns-3
-    mul-size
+    mul-end
     slice-reshare-prefix-check-frames
     slice-aggregate-check-frames
     check-frames-requires

@@ -1,6 +1,6 @@
 -- `treefile::read` meets its contract: nothing is written to the lent table before question 10 has passed.
 -- Assumes nothing.
-use mathlib.Core.Path.{_≡_, sym, _∙_}
+use mathlib.Core.Path.{sym, _∙_}
 use native.Mathlib.Omega.{arith}
 use borrow.Author.Needs.{needs}
 use denote.Ref.{now}
@@ -12,11 +12,14 @@ use Rattle.treefile.proofs.read.Statement.{statement}
 use Rattle.treefile.proofs.read.Tie as tie
 
 -- questions 1 to 9 have passed
-front : (c : tie.After-known-told) → let f = now (c .before .before .before .before .before .before .before .before .args .file) in
-    Front f (fileRejection f) (c .before .before .before .before .check-file .last .1 .0) (c .before .checked .given .0 .0)
+front : (c : tie.After-known-told) →
+    let f = now (c .before .before .before .before .before .before .before .before .args .file) in
+    let decoded = c .before .before .before .before .check-file .last .1 .0 in
+    Front f (fileRejection f) decoded (c .before .checked .given .0 .0)
 front c =
     let k = c .before .before .before .before .check-file in
-    decoded-front _ _ _ _ (k .ensures) (λ p. (let q = accepted-parts _ p in (q .1, q .2))) _ (c .before .checked .given .1)
+    decoded-front _ _ _ _ (k .ensures) (λ p. (let q = accepted-parts _ p in (q .1, q .2))) _
+    (c .before .checked .given .1)
 
 slice-aggregate-check-file : tie.Need-slice-aggregate-check-file
 slice-aggregate-check-file c = search needs
