@@ -124,5 +124,5 @@ module _ (f : List ℕ) where
   unfolding readRejection
   accepted-read table e room =
       let p = accepted-table e .0 in
-      let fits = le-leb (length (decoded f)) (length table) (omega (arith, decoded-length f p, frame-count f p)) in
+      let fits = le-leb (frameSize * length (linesOf f)) (length table) (omega (arith, frame-count f p)) in
       (rw (e, fits), rw (e, fits))

@@ -15,7 +15,7 @@ use Rattle.frames.specs.Rejection.{_andThen_, answer}
 use Rattle.frames.specs.Check.{check1, framesRejection}
 use Rattle.frames.proofs.Stated.{ask-yes, both-passed}
 use Rattle.frames.proofs.Asked.{answer-nodes, answer-rejected}
-use Rattle.treefile.specs.Lines.{decoded}
+use Rattle.treefile.specs.Lines.{linesOf, decoded}
 use Rattle.treefile.specs.File.{maxFile, fileCheck2, fileCheck3, fileRejection}
 use Rattle.treefile.specs.File.{readRejection, readAnswer, tableAfter}
 use Rattle.treefile.specs.Decoded.{Decoded}
@@ -57,6 +57,7 @@ module _ (f : List ℕ) where
 pub record Front (f : List ℕ) (x : Option Rejection) (table : List ℕ) (n : ℕ) : Type 0 where
   pub passed : x ≡ none
   pub nodes : n ≡ frames (decoded f)
+  pub lines : n ≡ length (linesOf f)
   pub few : n ≤ maxNodes
   pub size : frameSize * n ≡ length (decoded f)
   pub bytes : take (frameSize * n) table ≡ decoded f
@@ -73,6 +74,7 @@ module _ (f : List ℕ) (x : Option Rejection) (table : List ℕ) (r : Checked) 
       record {
         passed = a .0;
         nodes = a .1;
+        lines = a .1 ∙ frame-count f (q .1);
         few = omega (arith, a .1, frames-few f (q .1) (q .0));
         size = size;
         bytes = rw size (d .filled (a .0));
@@ -114,7 +116,7 @@ module _ (f table : List ℕ) where
     pub read-short : length table < frameSize * n → Outcome f table (Rejected (record { number = 10; place = 0 })) table
     unfolding readRejection
     read-short h =
-        let short = lt-leb (length (decoded f)) (length table) (omega (arith, w .size)) in
+        let short = lt-leb (frameSize * length (linesOf f)) (length table) (omega (arith, w .lines)) in
         (rw (w .passed, short), rw (w .passed, short))
 
     -- no question got a "no"
@@ -124,7 +126,7 @@ module _ (f table : List ℕ) where
         → Outcome f table (Nodes n) after
     unfolding readRejection
     read-accepted after h e =
-        let room = le-leb (length (decoded f)) (length table) (omega (arith, w .size)) in (
+        let room = le-leb (frameSize * length (linesOf f)) (length table) (omega (arith, w .lines)) in (
           rw (w .passed, room) (ap Nodes (w .nodes)),
           e ∙ rw (w .bytes, take-length (decoded f), w .passed, room),
         )

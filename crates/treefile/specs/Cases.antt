@@ -32,7 +32,7 @@ computed c = record {
 abbrev eight : List ℕ
 eight = 9 ∷ 9 ∷ 9 ∷ 9 ∷ 9 ∷ 9 ∷ 9 ∷ 9 ∷ []
 
--- one that a file with a single leaf is read into, by the leaf's bytes 4 and 5
+-- a file with a single leaf, which has these bytes 4 and 5, read into the eight bytes
 abbrev leaf : String → ℕ → ℕ → Case
 leaf f high low = record {
   file = f;
@@ -41,7 +41,7 @@ leaf f high low = record {
   after = 0 ∷ 0 ∷ 0 ∷ 0 ∷ high ∷ low ∷ 9 ∷ 9 ∷ [];
 }
 
--- a table that is as it was after a rejection
+-- a file that is rejected with this number and place
 abbrev refused : String → List ℕ → ℕ → ℕ → Case
 refused f table q p = record {
   file = f;

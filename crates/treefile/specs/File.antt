@@ -7,16 +7,17 @@ use lib.Dec.{leb}
 use lib.ListN.{length, drop}
 use Rattle.frames.specs.declared.Rejection.{Rejection}
 use Rattle.frames.specs.declared.Checked.{Checked}
-use Rattle.frames.specs.Frame.{maxNodes, frames}
+use Rattle.frames.specs.Frame.{frameSize, maxNodes, frames}
 use Rattle.frames.specs.Rejection.{ask, _andThen_, answer}
 use Rattle.frames.specs.Check.{check1, framesRejection}
 use Rattle.treefile.specs.Line.{lineDigits, isLine}
 use Rattle.treefile.specs.Lines.{linesOf, decoded}
 
--- 2: is the file at most 53,248 bytes, a line and its line feed for each node?
+-- the most bytes of a file, 53,248: a line and its line feed for each node
 abbrev pub maxFile : ℕ
 maxFile = (lineDigits + 1) * maxNodes
 
+-- 2: is the file no longer?
 abbrev pub fileCheck2 : List ℕ → Option Rejection
 fileCheck2 f = ask (leb (length f) maxFile) 2 0
 
@@ -34,7 +35,7 @@ fileCheck3 f = eachLine lineCheck3 0 (linesOf f)
 
 -- 10: has the lent table six bytes for each line?
 abbrev pub fileCheck10 : List ℕ → List ℕ → Option Rejection
-fileCheck10 f table = ask (leb (length (decoded f)) (length table)) 10 0
+fileCheck10 f table = ask (leb (frameSize * length (linesOf f)) (length table)) 10 0
 
 -- the first "no" to questions 1 to 9: 1 to 3 concern the file, 4 to 9 its frames
 unfoldable pub fileRejection : List ℕ → Option Rejection

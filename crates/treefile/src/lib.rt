@@ -18,17 +18,41 @@ ghost use Rattle.treefile.specs.Line.{allDigits, isLine, isLineAt, bytes
 ghost use Rattle.treefile.specs.File.{maxFile, fileCheck3, fileRejection, readAnswer, tableAfter};
 ghost use Rattle.treefile.specs.Decoded.{Decoded};
 
-// The digits of a line, the byte that closes it, and the most bytes of a file and of its table.
+// The digits of a line, the byte that closes it, and what a byte that is no digit gives.
 const LINE_DIGITS: usize = 12;
 
 const LINE_FEED: u8 = 10;
 
+const NO_DIGIT: u8 = 16;
+
+// The most bytes of a file, and of its table.
 const MAX_FILE: usize = (LINE_DIGITS + 1) * MAX_NODES;
 
 const MAX_TABLE: usize = FRAME_SIZE * MAX_NODES;
 
 // The number of question 10.
 const SHORT_BUFFER: u8 = 10;
+
+// A node's six bytes (01: a frame).
+pub struct Frame {
+    pub byte0: u8,
+    pub byte1: u8,
+    pub byte2: u8,
+    pub byte3: u8,
+    pub byte4: u8,
+    pub byte5: u8,
+}
+
+// A position in a file (01: the reading position).
+pub struct Cursor {
+    pub at: usize,
+}
+
+// What reading one line finds: its frame with the position past it, or no line with the position as it was.
+pub enum Line {
+    Read(Frame, Cursor),
+    NoLine(Cursor),
+}
 
 // Reads a file into the table: the number of nodes, or the first rejection, and then the table is as it was.
 pub fn read(file: &[u8], table: &mut [u8]) -> Checked
@@ -47,27 +71,6 @@ pub fn read(file: &[u8], table: &mut [u8]) -> Checked
     checked
 }
 
-// A node's six bytes.
-pub struct Frame {
-    pub byte0: u8,
-    pub byte1: u8,
-    pub byte2: u8,
-    pub byte3: u8,
-    pub byte4: u8,
-    pub byte5: u8,
-}
-
-// A reading position in a file.
-pub struct Cursor {
-    pub at: usize,
-}
-
-// What reading one line finds: its frame with the position past it, or no line with the position as it was.
-pub enum Line {
-    Read(Frame, Cursor),
-    NoLine(Cursor),
-}
-
 impl Cursor {
     // Reads the line at the position: twelve digits, and then a line feed or the end of the file.
     pub fn read_line(self, file: &[u8]) -> Line
@@ -83,6 +86,18 @@ impl Cursor {
             return Line::Read(frame, Cursor { at: end });
         }
         Line::Read(frame, Cursor { at: end + 1 })
+    }
+}
+
+// The number of a hexadecimal digit in either letter case, 0 to 15; NO_DIGIT for any other byte.
+pub fn digit(byte: u8) -> u8
+    ensures { λ r. ⌜ r ≡ digitOf byte ⌝ }
+{
+    match byte {
+        b'0'..=b'9' => byte - b'0',
+        b'A'..=b'F' => byte - b'A' + 10,
+        b'a'..=b'f' => byte - b'a' + 10,
+        _ => NO_DIGIT,
     }
 }
 
@@ -190,25 +205,10 @@ fn frame_of(line: &[u8]) -> Frame
 
 // Byte k of a line's frame: two digits, the high one first.
 fn byte_of(line: &[u8], k: usize) -> u8
-    requires { ⌜ (isLine (now line) ≡ true) × (k < 6) ⌝ }
+    requires { ⌜ (isLine (now line) ≡ true) × (k < frameSize) ⌝ }
     ensures { λ r. ⌜ r ≡ getD (bytesOf (now (line .entry))) k 0 ⌝ }
 {
     let high = digit(line[2 * k]);
     let low = digit(line[2 * k + 1]);
     16 * high + low
-}
-
-// What a byte that is no digit gives.
-const NO_DIGIT: u8 = 16;
-
-// The number of a hexadecimal digit in either letter case, 0 to 15; NO_DIGIT for any other byte.
-pub fn digit(byte: u8) -> u8
-    ensures { λ r. ⌜ r ≡ digitOf byte ⌝ }
-{
-    match byte {
-        b'0'..=b'9' => byte - b'0',
-        b'A'..=b'F' => byte - b'A' + 10,
-        b'a'..=b'f' => byte - b'a' + 10,
-        _ => NO_DIGIT,
-    }
 }
