@@ -1,0 +1,4 @@
+-- Lemmas on the engine: the pass over a node's children, the visit of a node, and the count of evaluated leaves.
+pub mod Pass
+pub mod Visits
+pub mod Counts
