@@ -2,3 +2,4 @@
 pub mod Pass
 pub mod Visits
 pub mod Counts
+pub mod Handed

@@ -1,5 +1,6 @@
 // Alpha-beta over a byte table: the public search, and its recursive engine.
 use certificate::evaluate;
+use frames::Rejection;
 use frames::child_count;
 use frames::child_place;
 use frames::first_child;
@@ -11,6 +12,19 @@ ghost use Rattle.gametree.specs.AlphaBeta.{raise, lower, clamp, alphaBeta};
 ghost use Rattle.frames.specs.Tree.{treeAt, valuation};
 ghost use Rattle.certificate.specs.Buffer.{markAll};
 ghost use Rattle.alphabeta.specs.Engine.{Ready, visitedOf};
+
+// What a search finds: the minimax value, the first root move that reaches it (0 for a leaf), and how many leaves were evaluated.
+pub struct Found {
+    pub value: i16,
+    pub root_move: usize,
+    pub leaves: usize,
+}
+
+// The answer of a call: what was found, or the first question that got a "no".
+pub enum Answer {
+    Found(Found),
+    Rejected(Rejection),
+}
 
 // What the engine gives for a subtree: its score in the window, and how many leaves it evaluated.
 struct Visited {
