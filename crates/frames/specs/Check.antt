@@ -1,5 +1,5 @@
 -- The check of a table: questions 1 to 9 of 01, in order.
-use Prim.Native.Nat.{ℕ, zero, suc, _+_, _*_, _%_}
+use Prim.Native.Nat.{ℕ, zero, suc, _*_, _%_}
 use mathlib.Core.Path.{_≡_}
 use mathlib.Core.Bool.{Bool, _&&_}
 use mathlib.Core.Option.{Option, none}
@@ -11,6 +11,7 @@ use Rattle.frames.specs.declared.Checked.{Checked}
 use Rattle.frames.specs.Frame.{frameSize, maxNodes, maxChildren, maxDepth, frames, firstChild, childCount, byte3}
 use Rattle.frames.specs.Frame.{valueBytes, storedScore, next}
 use Rattle.frames.specs.Place.{depthOf}
+use Rattle.gametree.specs.Tree.{least, greatest}
 use Rattle.frames.specs.Rejection.{ask, _andThen_, eachNode, answer}
 
 -- 1: is there at least one byte?
@@ -44,7 +45,7 @@ check6 t i = ask (firstChildRight t i (childCount t i)) 6 i
 
 -- the value of a leaf is from -32,000 to 32,000 (a score from 1 to 64,001), that of an inner node is zero
 abbrev pub valueRight : List ℕ → ℕ → ℕ → Bool
-valueRight t i zero = ltb 0 (storedScore t i) && ltb (storedScore t i) 64002
+valueRight t i zero = ltb least (storedScore t i) && ltb (storedScore t i) greatest
 valueRight t i (suc n) = eqb (valueBytes t i) 0
 
 -- 7: is the value as it must be?
@@ -63,10 +64,17 @@ check8 t = ask (eqb (next t (frames t)) (frames t)) 8 (frames t)
 abbrev pub check9 : List ℕ → ℕ → Option Rejection
 check9 t i = ask (leb (depthOf t i) maxDepth) 9 i
 
+-- the first "no" to questions 4 to 7 of each node in turn
+abbrev pub nodesRejection : List ℕ → Option Rejection
+nodesRejection t = eachNode (checkNode t) 0 (frames t)
+
+-- the first "no" to question 9 of each node in turn
+abbrev pub depthsRejection : List ℕ → Option Rejection
+depthsRejection t = eachNode (check9 t) 0 (frames t)
+
 -- the first "no" to questions 4 to 9, which concern the frames
 unfoldable pub framesRejection : List ℕ → Option Rejection
-framesRejection t =
-    eachNode (checkNode t) 0 (frames t) andThen check8 t andThen eachNode (check9 t) 0 (frames t)
+framesRejection t = nodesRejection t andThen check8 t andThen depthsRejection t
 
 -- the first "no" to questions 1 to 9
 unfoldable pub rejection : List ℕ → Option Rejection

@@ -7,3 +7,4 @@ pub mod Formed
 pub mod Rejection
 pub mod Check
 pub mod Shape
+pub mod Stated

@@ -2,11 +2,15 @@
 use gametree::Place;
 use gametree::other;
 ghost use mathlib.Core.Path.{_≡_};
-ghost use Prim.Native.Nat.{_<_, _≤_};
-ghost use Rattle.frames.specs.Frame.{frameSize, maxNodes, frames, byteOf, firstChild, childCount, valueBytes, storedScore};
+ghost use Prim.Native.Nat.{_+_, _*_, _<_, _≤_};
+ghost use Rattle.frames.specs.Frame.{frameSize, maxNodes, maxChildren, frames, next as nextOf};
+ghost use Rattle.frames.specs.Frame.{byteOf, firstChild, childCount, byte3, valueBytes, storedScore};
 ghost use Rattle.frames.specs.Children.{childrenOf};
 ghost use Rattle.frames.specs.Place.{childPlace};
 ghost use Rattle.frames.specs.Tree.{leafScore};
+ghost use Rattle.frames.specs.Formed.{WellFormed};
+ghost use Rattle.frames.specs.Rejection.{answer};
+ghost use Rattle.frames.specs.Check.{firstChildRight, valueRight, checkNode, nodesRejection, depthsRejection, framesRejection, checked};
 
 // The limits of 01.
 pub const FRAME_SIZE: usize = 6;
@@ -16,6 +20,30 @@ pub const MAX_NODES: usize = 4096;
 pub const MAX_CHILDREN: usize = 40;
 
 pub const MAX_DEPTH: usize = 24;
+
+// -32,001 and 32,001 as scores: those of leaves are between them.
+pub const LEAST: u32 = 0;
+
+pub const GREATEST: u32 = 64002;
+
+// The numbers of 01's questions about a table, by what a "no" means.
+pub const EMPTY: u8 = 1;
+
+pub const TOO_LONG: u8 = 2;
+
+pub const BROKEN: u8 = 3;
+
+pub const WRONG_BYTE_3: u8 = 4;
+
+pub const TOO_MANY_CHILDREN: u8 = 5;
+
+pub const WRONG_FIRST_CHILD: u8 = 6;
+
+pub const WRONG_VALUE: u8 = 7;
+
+pub const WRONG_TOTAL: u8 = 8;
+
+pub const TOO_DEEP: u8 = 9;
 
 // A "no" of 01: the question's number and a place.
 pub struct Rejection {
@@ -27,6 +55,23 @@ pub struct Rejection {
 pub enum Checked {
     Nodes(usize),
     Rejected(Rejection),
+}
+
+// Questions 1 to 9 in order: the number of nodes, or the first rejection.
+pub fn check(table: &[u8]) -> Checked
+    ensures { λ r. ⌜ r ≡ checked (now (table .entry)) ⌝ }
+{
+    let length = table.len();
+    if length == 0 {
+        return rejected(EMPTY, 0);
+    }
+    if FRAME_SIZE * MAX_NODES < length {
+        return rejected(TOO_LONG, 0);
+    }
+    if length % FRAME_SIZE != 0 {
+        return rejected(BROKEN, length / FRAME_SIZE);
+    }
+    check_frames(table)
 }
 
 // The frames of a node's children, as a part of the table; empty where there are none.
@@ -45,6 +90,119 @@ pub fn children(table: &[u8], node: usize) -> &[u8]
     } else {
         &table[0..0]
     }
+}
+
+// Questions 4 to 9, which concern the frames.
+pub fn check_frames(table: &[u8]) -> Checked
+    requires { ⌜ frames (now table) ≤ maxNodes ⌝ }
+    ensures { λ r. ⌜ r ≡ answer (frames (now (table .entry))) (framesRejection (now (table .entry))) ⌝ }
+{
+    let checked = check_nodes(table);
+    let Checked::Nodes(total) = checked else {
+        return checked;
+    };
+    let n = frame_count(table);
+    if total != n {
+        return rejected(WRONG_TOTAL, n);
+    }
+    check_depths(table)
+}
+
+// Questions 4 to 7, put to one node after the other: 1 plus all child counts, or the first rejection.
+fn check_nodes(table: &[u8]) -> Checked
+    requires { ⌜ frames (now table) ≤ maxNodes ⌝ }
+    ensures { λ r. ⌜ r ≡ answer (nextOf (now (table .entry)) (frames (now (table .entry)))) (nodesRejection (now (table .entry))) ⌝ }
+{
+    let n = frame_count(table);
+    let mut next: usize = 1;
+    for node in 0..n {
+        let checked = check_node(table, node, next);
+        let Checked::Nodes(after) = checked else {
+            return checked;
+        };
+        next = after;
+    }
+    Checked::Nodes(next)
+}
+
+// Questions 4 to 7 of one node, with 1 plus the child counts before it: the same past it, or the first rejection.
+fn check_node(table: &[u8], node: usize, next: usize) -> Checked
+    requires { ⌜ (node < frames (now table)) × (next ≡ nextOf (now table) node) × (next ≤ 1 + maxChildren * maxNodes) ⌝ }
+    ensures { λ r. ⌜ r ≡ answer (nextOf (now (table .entry)) (node + 1)) (checkNode (now (table .entry)) node) ⌝ }
+{
+    let count = child_count(table, node);
+    if byte_3(table, node) != 0 {
+        return rejected(WRONG_BYTE_3, node);
+    }
+    if MAX_CHILDREN < count {
+        return rejected(TOO_MANY_CHILDREN, node);
+    }
+    if !first_child_right(table, node, next) {
+        return rejected(WRONG_FIRST_CHILD, node);
+    }
+    if !value_right(table, node) {
+        return rejected(WRONG_VALUE, node);
+    }
+    Checked::Nodes(next + count)
+}
+
+// Question 6 of a node: is its first child as it must be?
+fn first_child_right(table: &[u8], node: usize, next: usize) -> bool
+    requires { ⌜ (node < frames (now table)) × (next ≡ nextOf (now table) node) ⌝ }
+    ensures { λ r. ⌜ r ≡ firstChildRight (now (table .entry)) node (childCount (now (table .entry)) node) ⌝ }
+{
+    let first = first_child(table, node);
+    if child_count(table, node) == 0 {
+        return first == 0;
+    }
+    if first != next {
+        return false;
+    }
+    node < first
+}
+
+// Question 7 of a node: is its value as it must be?
+fn value_right(table: &[u8], node: usize) -> bool
+    requires { ⌜ node < frames (now table) ⌝ }
+    ensures { λ r. ⌜ r ≡ valueRight (now (table .entry)) node (childCount (now (table .entry)) node) ⌝ }
+{
+    if child_count(table, node) != 0 {
+        return value_bytes(table, node) == 0;
+    }
+    let score = stored_score(table, node);
+    if score <= LEAST {
+        return false;
+    }
+    score < GREATEST
+}
+
+// Question 9, level by level: in a well-formed table a level ends where its nodes' children begin.
+fn check_depths(table: &[u8]) -> Checked
+    requires { ⌜ WellFormed (now table) ⌝ }
+    ensures { λ r. ⌜ r ≡ answer (frames (now (table .entry))) (depthsRejection (now (table .entry))) ⌝ }
+{
+    let n = frame_count(table);
+    let mut depth: usize = 0;
+    let mut end: usize = 1;
+    let mut next: usize = 1;
+    for node in 0..n {
+        if node == end {
+            depth += 1;
+            end = next;
+        }
+        if MAX_DEPTH < depth {
+            return rejected(TOO_DEEP, node);
+        }
+        next += child_count(table, node);
+    }
+    Checked::Nodes(n)
+}
+
+// A rejection with its number and place.
+pub fn rejected(number: u8, place: usize) -> Checked
+    ensures { λ r. ⌜ r ≡ Checked.Rejected (record { number = number; place = place }) ⌝ }
+{
+    Checked::Rejected(Rejection { number, place })
 }
 
 // How many whole frames the table has.
@@ -76,6 +234,14 @@ pub fn child_count(table: &[u8], node: usize) -> usize
     ensures { λ r. ⌜ (r ≡ childCount (now (table .entry)) node) × (r < 256) ⌝ }
 {
     byte_of(table, node, 2)
+}
+
+// Byte 3 of a node's frame.
+pub fn byte_3(table: &[u8], node: usize) -> usize
+    requires { ⌜ node < frames (now table) ⌝ }
+    ensures { λ r. ⌜ (r ≡ byte3 (now (table .entry)) node) × (r < 256) ⌝ }
+{
+    byte_of(table, node, 3)
 }
 
 // The value bytes as one unsigned number.

@@ -22,6 +22,8 @@ pub mod Work
 pub mod Simulation
 pub mod SssRun
 pub mod SssLists
+pub mod Fronts
+pub mod FrontSteps
 pub mod SssLocal
 pub mod OwnLayout
 pub mod SssLayouts

@@ -82,11 +82,13 @@ part-result-end-3 c = search needs
 
 returns-2 : tie.Need-returns-2
 returns-2 c =
-    inside _ _ _ _ (omega arith) (c .before .before .before .before .first-child .ensures .0) (c .before .before .before .child-count .ensures .0) (omega arith)
+    let k = c .before .before .before in
+    inside _ _ _ _ (omega arith) (k .before .first-child .ensures .0) (k .child-count .ensures .0) (omega arith)
 
 returns-3 : tie.Need-returns-3
 returns-3 c =
-    over _ _ _ _ (omega arith) (c .before .before .before .before .first-child .ensures .0) (c .before .before .before .child-count .ensures .0) (omega arith)
+    let k = c .before .before .before in
+    over _ _ _ _ (omega arith) (k .before .first-child .ensures .0) (k .child-count .ensures .0) (omega arith)
 
 pub children-spec : {M : Type 1} → statement M
 children-spec =

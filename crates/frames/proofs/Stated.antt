@@ -1,0 +1,98 @@
+-- A question that passes was answered yes, and a node passes questions 4 to 7 exactly when its frame is as stated.
+use Prim.Native.Nat.{ℕ, zero, suc, _<_}
+use native.Mathlib.Omega.{arith}
+use mathlib.Core.Path.{_≡_, refl}
+use mathlib.Core.Bool.{Bool, true, false, _&&_}
+use mathlib.Core.Option.{Option, none, some}
+use mathlib.Core.List.{List}
+use borrow.Author.Tests.{ltb-true, leb-true, eqb-true, lt-ltb, le-leb, eq-eqb}
+use Rattle.gametree.specs.Tree.{Score}
+use Rattle.frames.specs.declared.Rejection.{Rejection}
+use Rattle.frames.specs.Frame.{firstChild, valueBytes, storedScore, next}
+use Rattle.frames.specs.Rejection.{ask, _andThen_}
+use Rattle.frames.specs.Check.{firstChildRight, valueRight, check4, check5, check6, check7, checkNode}
+use Rattle.frames.specs.Stated.{FrameAsStated}
+
+some-none : {r : Rejection} → some r ≡ none → ⊥
+some-none e = let z : _≡_ {A = ℕ} 0 1 = cc in omega arith
+
+-- a question that passed was answered yes
+pub ask-yes : (b : Bool) (q p : ℕ) → ask b q p ≡ none → b ≡ true
+ask-yes true q p e = refl
+ask-yes false q p e = absurd (some-none e)
+
+pub yes-ask : (b : Bool) (q p : ℕ) → b ≡ true → ask b q p ≡ none
+yes-ask b q p e = rw e
+
+-- questions in order pass when each does
+pub both-passed : (x y : Option Rejection) → (x andThen y) ≡ none → (x ≡ none) × (y ≡ none)
+both-passed none y e = (refl, e)
+both-passed (some r) y e = absurd (some-none e)
+
+pub passed-both : (x y : Option Rejection) → x ≡ none → y ≡ none → (x andThen y) ≡ none
+passed-both x y e f = rw e f
+
+both-true : (a b : Bool) → (a && b) ≡ true → (a ≡ true) × (b ≡ true)
+both-true true b e = (refl, e)
+both-true false b e = (e, absurd (let z : _≡_ {A = ℕ} 0 1 = cc in omega arith))
+
+module _ (t : List ℕ) (i : ℕ) where
+  -- what question 6 says of a node with n children
+  record FirstChild (n : ℕ) : Type 0 where
+    leaf : n ≡ 0 → firstChild t i ≡ 0
+    first : 0 < n → firstChild t i ≡ next t i
+    later : 0 < n → i < firstChild t i
+
+  right-first : (n : ℕ) → firstChildRight t i n ≡ true → FirstChild n
+  right-first zero e = record {
+    leaf = λ _. eqb-true _ _ e;
+    first = λ h. absurd (omega arith);
+    later = λ h. absurd (omega arith);
+  }
+  right-first (suc n) e =
+      let p = both-true _ _ e in
+      record { leaf = λ h. absurd (omega arith); first = λ _. eqb-true _ _ (p .0); later = λ _. ltb-true _ _ (p .1) }
+
+  first-right : (n : ℕ) → FirstChild n → firstChildRight t i n ≡ true
+  first-right zero f = eq-eqb _ _ (f .leaf refl)
+  first-right (suc n) f = rw (eq-eqb _ _ (f .first (omega arith)), lt-ltb _ _ (f .later (omega arith)))
+
+  -- and question 7
+  record Value (n : ℕ) : Type 0 where
+    leaf : n ≡ 0 → Score (storedScore t i)
+    inner : 0 < n → valueBytes t i ≡ 0
+
+  right-value : (n : ℕ) → valueRight t i n ≡ true → Value n
+  right-value zero e =
+      let p = both-true _ _ e in
+      record { leaf = λ _. (ltb-true _ _ (p .0), ltb-true _ _ (p .1)); inner = λ h. absurd (omega arith) }
+  right-value (suc n) e = record { leaf = λ h. absurd (omega arith); inner = λ _. eqb-true _ _ e }
+
+  value-right : (n : ℕ) → Value n → valueRight t i n ≡ true
+  value-right zero v = rw (lt-ltb _ _ (v .leaf refl .0), lt-ltb _ _ (v .leaf refl .1))
+  value-right (suc n) v = eq-eqb _ _ (v .inner (omega arith))
+
+  pub passed-stated : checkNode t i ≡ none → FrameAsStated t i
+  passed-stated e =
+      let a = both-passed (check4 t i) _ e in
+      let b = both-passed (check5 t i) _ (a .1) in
+      let c = both-passed (check6 t i) (check7 t i) (b .1) in
+      let f = right-first _ (ask-yes _ _ _ (c .0)) in
+      let v = right-value _ (ask-yes _ _ _ (c .1)) in
+      record {
+        byte3Zero = eqb-true _ _ (ask-yes _ _ _ (a .0));
+        fewChildren = leb-true _ _ (ask-yes _ _ _ (b .0));
+        leafFirst = f .leaf;
+        leafValue = v .leaf;
+        innerFirst = f .first;
+        innerLater = f .later;
+        innerValue = v .inner;
+      }
+
+  pub stated-passed : FrameAsStated t i → checkNode t i ≡ none
+  stated-passed s =
+      passed-both (check4 t i) _ (yes-ask _ _ _ (eq-eqb _ _ (s .byte3Zero)))
+      (passed-both (check5 t i) _ (yes-ask _ _ _ (le-leb _ _ (s .fewChildren)))
+      (passed-both (check6 t i) (check7 t i)
+      (yes-ask _ _ _ (first-right _ (record { leaf = s .leafFirst; first = s .innerFirst; later = s .innerLater })))
+      (yes-ask _ _ _ (value-right _ (record { leaf = s .leafValue; inner = s .innerValue })))))

@@ -1,0 +1,88 @@
+-- `check` meets its contract: one lemma for each of its four returns.
+use Prim.Native.Nat.{ℕ, _*_, _/_, _%_, _≤_, _<_}
+use native.Mathlib.Omega.{arith}
+use mathlib.Core.Path.{_≡_, _∙_}
+use mathlib.Core.List.{List}
+use lib.ListN.{length}
+use borrow.Author.Tests.{lt-ltb, le-ltb, le-leb, lt-leb, eq-eqb, ne-eqb}
+use borrow.Author.Needs.{needs}
+use Rattle.frames.specs.Frame.{frameSize, maxNodes, frames}
+use Rattle.frames.specs.Rejection.{answer}
+use Rattle.frames.specs.Check.{framesRejection, rejection, checked}
+use Rattle.frames.proofs.Asked.{refused}
+use Rattle.frames.proofs.check.Statement.{statement}
+use Rattle.frames.proofs.check.Tie as tie
+
+module _ (t : List ℕ) where
+  empty : length t ≡ 0 → refused 1 0 ≡ checked t
+  unfolding rejection
+  empty z = rw (le-ltb 0 (length t) (omega arith))
+
+  module _ (h : length t ≡ 0 → ⊥) where
+    too-long : frameSize * maxNodes < length t → refused 2 0 ≡ checked t
+    unfolding rejection
+    too-long l = rw (lt-ltb 0 (length t) (omega arith), lt-leb (length t) (frameSize * maxNodes) l)
+
+    module _ (l : length t ≤ frameSize * maxNodes) where
+      left-over : (length t % frameSize ≡ 0 → ⊥) → refused 3 (length t / frameSize) ≡ checked t
+      unfolding rejection
+      left-over n =
+          rw (
+            lt-ltb 0 (length t) (omega arith),
+            le-leb (length t) (frameSize * maxNodes) l,
+            ne-eqb (length t % frameSize) 0 n,
+          )
+
+      whole : length t % frameSize ≡ 0 → answer (frames t) (framesRejection t) ≡ checked t
+      unfolding rejection
+      whole n =
+          rw (
+            lt-ltb 0 (length t) (omega arith),
+            le-leb (length t) (frameSize * maxNodes) l,
+            eq-eqb (length t % frameSize) 0 n,
+          )
+
+rejected-requires : tie.Need-rejected-requires
+rejected-requires c κs = search needs
+
+returns : tie.Need-returns
+returns c = c .rejected .ensures ∙ empty _ (c .before .if1 .taken)
+
+mul-if2 : tie.Need-mul-if2
+mul-if2 c = search needs
+
+rejected-requires-2 : tie.Need-rejected-requires-2
+rejected-requires-2 c κs = search needs
+
+returns-2 : tie.Need-returns-2
+returns-2 c = c .rejected2 .ensures ∙ too-long _ (c .before .before .if1 .left) (c .before .if2 .taken)
+
+rejected-requires-3 : tie.Need-rejected-requires-3
+rejected-requires-3 c κs = search needs
+
+returns-3 : tie.Need-returns-3
+returns-3 c =
+    c .rejected3 .ensures
+    ∙ left-over _ (c .before .before .before .if1 .left) (c .before .before .if2 .left) (c .before .if3 .taken)
+
+check-frames-requires : tie.Need-check-frames-requires
+check-frames-requires c κs = search needs
+
+returns-4 : tie.Need-returns-4
+returns-4 c =
+    c .check-frames .ensures
+    ∙ whole _ (c .before .before .before .if1 .left) (c .before .before .if2 .left) (c .before .if3 .left)
+
+pub check-spec : {M : Type 1} → statement M
+check-spec =
+    tie.close
+    (tie.spec
+    rejected-requires
+    returns
+    mul-if2
+    rejected-requires-2
+    returns-2
+    rejected-requires-3
+    returns-3
+    check-frames-requires
+    returns-4)

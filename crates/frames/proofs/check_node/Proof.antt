@@ -1,0 +1,120 @@
+-- `check_node` meets its contract: one lemma for each of its five returns.
+use Prim.Native.Nat.{ℕ, _+_, _<_, _≤_}
+use native.Mathlib.Omega.{arith}
+use mathlib.Core.Path.{_≡_, sym, ap, _∙_}
+use mathlib.Core.Bool.{true, false}
+use mathlib.Core.List.{List}
+use borrow.Author.Tests.{ne-eqb, le-leb, lt-leb, not-true, not-false}
+use borrow.Author.Needs.{needs}
+use Rattle.frames.specs.declared.Checked.the-variants.{Nodes}
+use Rattle.frames.specs.Frame.{maxChildren, childCount, byte3, next}
+use Rattle.frames.specs.Rejection.{answer}
+use Rattle.frames.specs.Check.{firstChildRight, valueRight, checkNode}
+use Rattle.frames.proofs.Next.{next-more}
+use Rattle.frames.proofs.Asked.{refused}
+use Rattle.frames.proofs.check_node.Statement.{statement}
+use Rattle.frames.proofs.check_node.Tie as tie
+
+module _ (t : List ℕ) (i m : ℕ) where
+  no-4 : (byte3 t i ≡ 0 → ⊥) → refused 4 i ≡ answer m (checkNode t i)
+  no-4 h = rw (ne-eqb (byte3 t i) 0 h)
+
+  module _ (z : byte3 t i ≡ 0) where
+    no-5 : maxChildren < childCount t i → refused 5 i ≡ answer m (checkNode t i)
+    no-5 h = rw (z, lt-leb (childCount t i) maxChildren h)
+
+    module _ (h : childCount t i ≤ maxChildren) where
+      no-6 : firstChildRight t i (childCount t i) ≡ false → refused 6 i ≡ answer m (checkNode t i)
+      no-6 e = rw (z, le-leb (childCount t i) maxChildren h, e)
+
+      module _ (e : firstChildRight t i (childCount t i) ≡ true) where
+        no-7 : valueRight t i (childCount t i) ≡ false → refused 7 i ≡ answer m (checkNode t i)
+        no-7 f = rw (z, le-leb (childCount t i) maxChildren h, e, f)
+
+        all-right : valueRight t i (childCount t i) ≡ true → Nodes m ≡ answer m (checkNode t i)
+        all-right f = rw (z, le-leb (childCount t i) maxChildren h, e, f)
+
+child-count-requires : tie.Need-child-count-requires
+child-count-requires c κs = search needs
+
+byte-3-requires : tie.Need-byte-3-requires
+byte-3-requires c κs = search needs
+
+rejected-requires : tie.Need-rejected-requires
+rejected-requires c κs = search needs
+
+returns : tie.Need-returns
+returns c =
+    let a = c .before .before .before .before .before .args in
+    c .rejected .ensures ∙ no-4 (a .table .now) (a .node) _ (omega arith)
+
+rejected-requires-2 : tie.Need-rejected-requires-2
+rejected-requires-2 c κs = search needs
+
+returns-2 : tie.Need-returns-2
+returns-2 c =
+    let a = c .before .before .before .before .before .before .args in
+    c .rejected2 .ensures ∙ no-5 (a .table .now) (a .node) _ (omega arith) (omega arith)
+
+first-child-right-requires : tie.Need-first-child-right-requires
+first-child-right-requires c κs = search needs
+
+rejected-requires-3 : tie.Need-rejected-requires-3
+rejected-requires-3 c κs = search needs
+
+returns-3 : tie.Need-returns-3
+returns-3 c =
+    let e = c .before .before in
+    let a = e .before .before .before .before .before .before .args in
+    c .rejected3 .ensures
+    ∙ no-6 (a .table .now) (a .node) _ (omega arith) (omega arith)
+    (sym (e .first-child-right .ensures) ∙ not-true _ (c .before .if3 .taken))
+
+value-right-requires : tie.Need-value-right-requires
+value-right-requires c κs = search needs
+
+rejected-requires-4 : tie.Need-rejected-requires-4
+rejected-requires-4 c κs = search needs
+
+returns-4 : tie.Need-returns-4
+returns-4 c =
+    let f = c .before .before in
+    let e = f .before .before in
+    let a = e .before .before .before .before .before .before .args in
+    c .rejected4 .ensures
+    ∙ no-7 (a .table .now) (a .node) _ (omega arith) (omega arith)
+    (sym (e .first-child-right .ensures) ∙ not-false _ (f .before .if3 .left))
+    (sym (f .value-right .ensures) ∙ not-true _ (c .before .if4 .taken))
+
+add-t5 : tie.Need-add-t5
+add-t5 c = search needs
+
+returns-5 : tie.Need-returns-5
+returns-5 c =
+    let f = c .before in
+    let e = f .before .before in
+    let a = e .before .before .before .before .before .before .args in
+    let t = a .table .now in
+    ap Nodes (omega (arith, next-more t (a .node)))
+    ∙ all-right t (a .node) (next t (a .node + 1)) (omega arith) (omega arith)
+    (sym (e .first-child-right .ensures) ∙ not-false _ (f .before .if3 .left))
+    (sym (f .value-right .ensures) ∙ not-false _ (c .if4 .left))
+
+pub check-node-spec : {M : Type 1} → statement M
+check-node-spec =
+    tie.close
+    (tie.spec
+    child-count-requires
+    byte-3-requires
+    rejected-requires
+    returns
+    rejected-requires-2
+    returns-2
+    first-child-right-requires
+    rejected-requires-3
+    returns-3
+    value-right-requires
+    rejected-requires-4
+    returns-4
+    add-t5
+    returns-5)
