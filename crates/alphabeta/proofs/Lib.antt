@@ -2,4 +2,5 @@
 pub mod Pass
 pub mod Visits
 pub mod Counts
+pub mod Questions
 pub mod Handed

@@ -1,16 +1,23 @@
 // Alpha-beta over a byte table: the public search, and its recursive engine.
 use certificate::evaluate;
+use frames::Checked;
 use frames::Rejection;
+use frames::check;
 use frames::child_count;
 use frames::child_place;
 use frames::first_child;
+use frames::rejected;
 use gametree::Place;
 use gametree::Side;
 ghost use mathlib.Core.Path.{_≡_};
+ghost use mathlib.Core.List.{[], _∷_};
 ghost use Prim.Native.Nat.{max, min};
 ghost use Rattle.gametree.specs.AlphaBeta.{raise, lower, clamp, alphaBeta};
+ghost use Rattle.frames.specs.Frame.{frames};
+ghost use Rattle.frames.specs.Rejection.{answer};
 ghost use Rattle.frames.specs.Tree.{treeAt, valuation};
 ghost use Rattle.certificate.specs.Buffer.{markAll};
+ghost use Rattle.certificate.specs.Search.{searchRejection};
 ghost use Rattle.alphabeta.specs.Engine.{Ready, visitedOf};
 
 // What a search finds: the minimax value, the first root move that reaches it (0 for a leaf), and how many leaves were evaluated.
@@ -24,6 +31,26 @@ pub struct Found {
 pub enum Answer {
     Found(Found),
     Rejected(Rejection),
+}
+
+// The number of 01's question about the buffers.
+const SHORT_BUFFER: u8 = 10;
+
+// Questions 1 to 10, for buffers of these lengths: the number of nodes, or the first rejection.
+fn ask(table: &[u8], evaluated: usize, certificate: usize) -> Checked
+    ensures { λ r. ⌜ r ≡ answer (frames (now (table .entry))) (searchRejection (now (table .entry)) (evaluated ∷ certificate ∷ [])) ⌝ }
+{
+    let checked = check(table);
+    let Checked::Nodes(n) = checked else {
+        return checked;
+    };
+    if evaluated < n {
+        return rejected(SHORT_BUFFER, 0);
+    }
+    if certificate < n {
+        return rejected(SHORT_BUFFER, 0);
+    }
+    checked
 }
 
 // What the engine gives for a subtree: its score in the window, and how many leaves it evaluated.
