@@ -4,3 +4,4 @@ pub mod Visits
 pub mod Counts
 pub mod Questions
 pub mod Handed
+pub mod Demands
