@@ -1,5 +1,5 @@
 -- Buffers that are written from the left, and marks that are set one by one.
-use Prim.Native.Nat.{ℕ, zero, suc, _+_, _≤_, _<_}
+use Prim.Native.Nat.{ℕ, zero, suc, _+_, _-_, _≤_, _<_}
 use native.Mathlib.Omega.{arith}
 use native.Mathlib.Decide.{decLt}
 use native.Mathlib.Numerals.{add-one}
@@ -8,7 +8,7 @@ use mathlib.Core.Bool.{Bool, true, false, cond, _||_}
 use mathlib.Core.List.{List, [], _∷_, _++_, append-assoc}
 use lib.Dec.{eqb}
 use lib.ListN.{length, getD, set, drop, length-append, length-drop, length-set, List·getD-append}
-use lib.Seq.{drop-cons, set-at, set-append-left, getD-append-add, set-append-seam}
+use lib.Seq.{drop-cons, drop-set-lt, set-at, set-append-left, getD-append-add, getD-drop, getD-set-same}
 use borrow.Author.Tests.{eq-eqb, ne-eqb, eqb-true, eqb-false}
 use Rattle.gametree.specs.Lists.{All, among}
 use Rattle.certificate.specs.Buffer.{tabulate, written, mark, markAll}
@@ -58,10 +58,31 @@ unfolding written
 written-at f n k b h =
     List·getD-append (tabulate f n) (drop n b) 0 k (omega (arith, length-tabulate f n)) ∙ tabulate-at f n k h
 
+-- and past those written
+pub written-past : (f : ℕ → ℕ) (n k : ℕ) (b : List ℕ) → n ≤ k → n ≤ length b → getD (written f n b) k 0 ≡ getD b k 0
+unfolding written
+written-past f n k b h l =
+    let e : k ≡ length (tabulate f n) + (k - n) = omega (arith, length-tabulate f n) in
+    let d : n + (k - n) ≡ k = omega arith in
+    ap (λ j. getD (tabulate f n ++ drop n b) j 0) e ∙ getD-append-add (tabulate f n) (drop n b) (k - n) 0
+    ∙ getD-drop n b (k - n) 0 ∙ ap (λ j. getD b j 0) d
+
+-- the entry behind those to be written is stored before them
+pub written-behind : (f : ℕ → ℕ) (n : ℕ) (b : List ℕ) → n < length b → written f n (set b n (f n)) ≡ written f (n + 1) b
+unfolding written tabulate
+written-behind f n b h =
+    rw (drop-cons (set b n (f n)) n 0 (omega (arith, length-set b n (f n))), getD-set-same b n (f n) 0 h, drop-set-lt (suc n) b n (f n) (omega arith), add-one n)
+    (sym (append-assoc (tabulate f n) (f n ∷ []) (drop (suc n) b)))
+
 -- the same entries, the same buffer
 pub written-same : (f g : ℕ → ℕ) (n : ℕ) (b : List ℕ) → ((k : ℕ) → k < n → f k ≡ g k) → written f n b ≡ written g n b
 unfolding written
 written-same f g n b e = ap (λ l. l ++ drop n b) (tabulate-same f g n e)
+
+-- an entry that is written over later does not matter
+pub written-over : (f : ℕ → ℕ) (n k v : ℕ) (b : List ℕ) → k < n → written f n (set b k v) ≡ written f n b
+unfolding written
+written-over f n k v b h = ap (λ l. tabulate f n ++ l) (drop-set-lt n b k v h)
 
 -- f with the value v at k
 abbrev pub put : (ℕ → ℕ) → ℕ → ℕ → ℕ → ℕ

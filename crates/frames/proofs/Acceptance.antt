@@ -2,11 +2,12 @@
 use Prim.Native.Nat.{ℕ, _*_, _%_, _≤_, _<_}
 use native.Mathlib.Omega.{arith}
 use mathlib.Core.Path.{_≡_}
-use mathlib.Core.Option.{none}
+use mathlib.Core.Option.{none, some}
 use mathlib.Core.List.{List}
 use lib.ListN.{length}
 use borrow.Author.Tests.{ltb-true, leb-true, eqb-true, lt-ltb, le-leb, eq-eqb}
-use Rattle.frames.specs.declared.Checked.the-variants.{Nodes}
+use Rattle.frames.specs.declared.Rejection.{Rejection}
+use Rattle.frames.specs.declared.Checked.the-variants.{Nodes, Rejected}
 use Rattle.frames.specs.Frame.{frameSize, maxNodes, frames, next}
 use Rattle.frames.specs.Formed.{WellFormed}
 use Rattle.frames.specs.Check.{check1, check2, check3, checkNode, check8, check9, framesRejection, rejection}
@@ -14,7 +15,7 @@ use Rattle.frames.specs.Check.{nodesRejection, Accepted, checked}
 use Rattle.frames.specs.Stated.{FrameAsStated, TableAsStated}
 use Rattle.frames.proofs.Next.{next-mono}
 use Rattle.frames.proofs.Stated.{ask-yes, yes-ask, both-passed, passed-both, passed-stated, stated-passed}
-use Rattle.frames.proofs.Asked.{answer-nodes, each-passed, passed-each}
+use Rattle.frames.proofs.Asked.{answer-nodes, answer-rejected, each-passed, passed-each}
 
 -- frames as stated, with all their children, make a well-formed table
 pub stated-formed : (t : List ℕ) → frames t ≤ maxNodes → ((i : ℕ) → i < frames t → FrameAsStated t i)
@@ -69,6 +70,13 @@ module _ (t : List ℕ) where
       (passed-both (check8 t) _ (yes-ask _ _ _ (eq-eqb _ _ (s .total)))
       (passed-each (check9 t) 0 (frames t) (λ i a b. yes-ask _ _ _ (le-leb _ _ (s .shallow i (omega arith)))))))))
 
+  -- of a table of whole frames, some and not too many, only questions 4 to 9 are left
+  pub rejection-frames : 0 < length t → length t ≤ frameSize * maxNodes → length t % frameSize ≡ 0
+      → rejection t ≡ framesRejection t
+  unfolding rejection
+  rejection-frames a b c =
+      rw (lt-ltb 0 (length t) a, le-leb (length t) (frameSize * maxNodes) b, eq-eqb (length t % frameSize) 0 c)
+
   -- an accepted table is well-formed
   pub accepted-formed : Accepted t → WellFormed t
   accepted-formed e = let s = accepted-stated e in stated-formed t (s .most) (s .frame) (s .total)
@@ -76,3 +84,7 @@ module _ (t : List ℕ) where
   -- a check that gives nodes has accepted the table, and gives their number
   pub nodes-accepted : (n : ℕ) → Nodes n ≡ checked t → Accepted t × (n ≡ frames t)
   nodes-accepted n e = answer-nodes (frames t) n (rejection t) e
+
+  -- a check that gives a rejection gives the first
+  pub rejected-first : (r : Rejection) → Rejected r ≡ checked t → rejection t ≡ some r
+  rejected-first r e = answer-rejected (frames t) r (rejection t) e

@@ -95,13 +95,6 @@ asking-none t = record {
   passed = passed-none (checkNode t) (frames t);
 }
 
--- past the last node
-pub asking-all : (t : List ℕ) (i m : ℕ) → frames t ≤ i → Asking t i m
-    → Nodes m ≡ answer (next t (frames t)) (nodesRejection t)
-asking-all t i m h a =
-    let e : i ≡ frames t = omega (arith, a .within) in
-    rw (passed-all (checkNode t) (frames t) (rw e at (a .passed)), a .counted, e)
-
 module _ (t : List ℕ) (i m : ℕ) (h : i < frames t) (a : Asking t i m) where
   -- node i passed
   pub asking-more : (k : ℕ) → Nodes k ≡ answer (next t (i + 1)) (checkNode t i) → Asking t (i + 1) k
@@ -120,3 +113,10 @@ module _ (t : List ℕ) (i m : ℕ) (h : i < frames t) (a : Asking t i m) where
       → Rejected r ≡ answer (next t (frames t)) (nodesRejection t)
   asking-until r e =
       rw (passed-until (checkNode t) (frames t) i h (a .passed) r (answer-rejected _ _ (checkNode t i) e))
+
+-- past the last node
+pub asking-all : (t : List ℕ) (i m : ℕ) → frames t ≤ i → Asking t i m
+    → Nodes m ≡ answer (next t (frames t)) (nodesRejection t)
+asking-all t i m h a =
+    let e : i ≡ frames t = omega (arith, a .within) in
+    rw (passed-all (checkNode t) (frames t) (rw e at (a .passed)), a .counted, e)

@@ -15,15 +15,10 @@ use Rattle.gametree.specs.Tree.{Tree, leaf, inner, Kids, last, _then_, number, 
 use Rattle.gametree.specs.Layout.{Layout, tip, fork, root, under, firstOf, othersOf, Answers, AnswersKids, Describes}
 use Rattle.frames.specs.Frame.{frames, firstChild, childCount}
 use Rattle.frames.specs.Place.{sideOf}
-use Rattle.frames.specs.Tree.{kidsFrom, treeAt, tree}
+use Rattle.frames.specs.Tree.{upFrom, kidsFrom, treeAt, tree}
 use Rattle.frames.specs.Formed.{WellFormed, ChildOf}
 use Rattle.frames.proofs.Parents.{top-down}
 use Rattle.frames.proofs.Trees.{zero-or-suc, tree-leaf, tree-inner, tree-number}
-
--- i, i + 1, .., n of them
-unfoldable pub upFrom : ℕ → ℕ → List ℕ
-upFrom i zero = []
-upFrom i (suc n) = i ∷ upFrom (i + 1) n
 
 -- the numbers of a node's children
 pub first-of : (t : List ℕ) (i n : ℕ) → firstOf (kidsFrom (treeAt t) i n) ≡ i

@@ -13,3 +13,4 @@ pub mod Stated
 pub mod Asked
 pub mod Levels
 pub mod Acceptance
+pub mod Cases

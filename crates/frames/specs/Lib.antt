@@ -8,3 +8,4 @@ pub mod Rejection
 pub mod Check
 pub mod Shape
 pub mod Stated
+pub mod Cases

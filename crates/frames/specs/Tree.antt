@@ -1,10 +1,15 @@
 -- The tree that a table describes, and the scores of its leaves.
 use Prim.Native.Nat.{ℕ, zero, suc, _+_, _-_}
-use mathlib.Core.List.{List}
+use mathlib.Core.List.{List, [], _∷_}
 use Rattle.gametree.specs.declared.Side.{Side}
 use Rattle.gametree.specs.Tree.{Tree, leaf, inner, Kids, last, _then_}
 use Rattle.frames.specs.Frame.{frames, firstChild, childCount, storedScore}
 use Rattle.frames.specs.Place.{depthOf, sideOf}
+
+-- i, i + 1, .., n numbers
+unfoldable pub upFrom : ℕ → ℕ → List ℕ
+upFrom i zero = []
+upFrom i (suc n) = i ∷ upFrom (i + 1) n
 
 -- the trees g i, g (i + 1), .., g (i + n) as the children of a node
 unfoldable pub kidsFrom : (ℕ → Tree) → ℕ → ℕ → Kids

@@ -26,6 +26,11 @@ pub const LEAST: u32 = 0;
 
 pub const GREATEST: u32 = 64002;
 
+// The score of the value 0, and how many values two bytes hold.
+const ZERO_SCORE: usize = 32001;
+
+const TWO_BYTES: usize = 65536;
+
 // The numbers of 01's questions about a table, by what a "no" means.
 pub const EMPTY: u8 = 1;
 
@@ -125,7 +130,7 @@ fn check_nodes(table: &[u8]) -> Checked
     Checked::Nodes(next)
 }
 
-// Questions 4 to 7 of one node, with 1 plus the child counts before it: the same past it, or the first rejection.
+// Questions 4 to 7 of one node; `next` is 1 plus the child counts before it, and the answer 1 plus those up to it.
 fn check_node(table: &[u8], node: usize, next: usize) -> Checked
     requires { ⌜ (node < frames (now table)) × (next ≡ nextOf (now table) node) × (next ≤ 1 + maxChildren * maxNodes) ⌝ }
     ensures { λ r. ⌜ r ≡ answer (nextOf (now (table .entry)) (node + 1)) (checkNode (now (table .entry)) node) ⌝ }
@@ -176,7 +181,7 @@ fn value_right(table: &[u8], node: usize) -> bool
     score < GREATEST
 }
 
-// Question 9, level by level: in a well-formed table a level ends where its nodes' children begin.
+// Question 9, level by level: in a well-formed table a level ends where the children of its nodes begin.
 fn check_depths(table: &[u8]) -> Checked
     requires { ⌜ WellFormed (now table) ⌝ }
     ensures { λ r. ⌜ r ≡ answer (frames (now (table .entry))) (depthsRejection (now (table .entry))) ⌝ }
@@ -257,7 +262,7 @@ pub fn stored_score(table: &[u8], node: usize) -> u32
     requires { ⌜ node < frames (now table) ⌝ }
     ensures { λ r. ⌜ (r ≡ storedScore (now (table .entry)) node) × (r < 65536) ⌝ }
 {
-    ((value_bytes(table, node) + 32001) % 65536) as u32
+    ((value_bytes(table, node) + ZERO_SCORE) % TWO_BYTES) as u32
 }
 
 // The score of a leaf at this depth.

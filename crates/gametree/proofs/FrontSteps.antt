@@ -32,7 +32,7 @@ in-child p u (t then ts) (inr c) i = inr (in-child p u ts c i)
 
 mutual
   -- the states of a front are of the tree's nodes
-  front-in : (t : Tree) (L : List State) → Front t L → All (λ s. In (s .node) t) L
+  pub front-in : (t : Tree) (L : List State) → Front t L → All (λ s. In (s .node) t) L
   front-in (leaf n) L f = subst (λ l. All (λ s. In (s .node) (leaf n)) l) (sym (f .1)) (f .2, tt)
   front-in (inner n q ks) L (inl f) =
       subst (λ l. All (λ s. In (s .node) (inner n q ks)) l) (sym (f .1)) (inl (f .2), tt)

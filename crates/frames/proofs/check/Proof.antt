@@ -1,15 +1,16 @@
 -- `check` meets its contract: one lemma for each of its four returns.
 use Prim.Native.Nat.{ℕ, _*_, _/_, _%_, _≤_, _<_}
 use native.Mathlib.Omega.{arith}
-use mathlib.Core.Path.{_≡_, _∙_}
+use mathlib.Core.Path.{_≡_, sym, ap, _∙_}
 use mathlib.Core.List.{List}
 use lib.ListN.{length}
-use borrow.Author.Tests.{lt-ltb, le-ltb, le-leb, lt-leb, eq-eqb, ne-eqb}
+use borrow.Author.Tests.{lt-ltb, le-ltb, le-leb, lt-leb, ne-eqb}
 use borrow.Author.Needs.{needs}
 use Rattle.frames.specs.Frame.{frameSize, maxNodes, frames}
 use Rattle.frames.specs.Rejection.{answer}
 use Rattle.frames.specs.Check.{framesRejection, rejection, checked}
 use Rattle.frames.proofs.Asked.{refused}
+use Rattle.frames.proofs.Acceptance.{rejection-frames}
 use Rattle.frames.proofs.check.Statement.{statement}
 use Rattle.frames.proofs.check.Tie as tie
 
@@ -34,13 +35,7 @@ module _ (t : List ℕ) where
           )
 
       whole : length t % frameSize ≡ 0 → answer (frames t) (framesRejection t) ≡ checked t
-      unfolding rejection
-      whole n =
-          rw (
-            lt-ltb 0 (length t) (omega arith),
-            le-leb (length t) (frameSize * maxNodes) l,
-            eq-eqb (length t % frameSize) 0 n,
-          )
+      whole n = ap (answer (frames t)) (sym (rejection-frames t (omega arith) l n))
 
 rejected-requires : tie.Need-rejected-requires
 rejected-requires c κs = search needs

@@ -45,7 +45,7 @@ returns c =
     let l = j .before .before in
     c .rejected .ensures
     ∙ descending-until _ (l .before .before .before .pre) _ _ _ _ (omega arith) (l .loop .inv) _ _ (standing j)
-    (c .before .if2 .taken)
+    (omega arith)
 
 child-count-requires : tie.Need-child-count-requires Inv-loop μ-loop
 child-count-requires c κs = search needs
@@ -71,7 +71,7 @@ loop-again c =
     let j = c .before .before in
     let l = j .before .before in
     descending-more _ (l .before .before .before .pre) _ _ _ _ (omega arith) (l .loop .inv) _ _ (standing j) _
-    (c .child-count .ensures .0) (c .before .if2 .left)
+    (c .child-count .ensures .0) (omega arith)
 
 returns-2 : tie.Need-returns-2 Inv-loop μ-loop
 returns-2 c =

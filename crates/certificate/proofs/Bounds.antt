@@ -1,0 +1,62 @@
+-- The bounds of the nodes of a table, from the leaves up.
+use Prim.Native.Nat.{ℕ, zero, suc, _+_, _-_, _≤_, _<_}
+use native.Mathlib.Omega.{arith}
+use mathlib.Core.Path.{_≡_, refl, sym, ap, ap₂, _∙_}
+use mathlib.Core.Bool.{Bool}
+use mathlib.Core.List.{List}
+use lib.ListN.{length, getD, set}
+use lib.Seq.{set-getD}
+use borrow.Author.Tests.{eq-eqb, ne-eqb}
+use Rattle.gametree.specs.declared.Side.{Side}
+use Rattle.gametree.specs.Tree.{Tree, better, minimax, minimaxKids}
+use Rattle.gametree.specs.Bounds.{known}
+use Rattle.frames.specs.Frame.{frames, firstChild, childCount}
+use Rattle.frames.specs.Place.{sideOf}
+use Rattle.frames.specs.Tree.{kidsFrom, treeAt, valuation}
+use Rattle.frames.specs.Formed.{WellFormed, ChildOf}
+use Rattle.frames.proofs.Trees.{tree-leaf, tree-inner}
+use Rattle.certificate.specs.Buffer.{written, marked}
+use Rattle.certificate.specs.Ranges.{bestIn}
+use Rattle.certificate.specs.Bounds.{boundOf}
+
+-- a marked leaf has its score, another one the score x
+pub known-marked : (ν : ℕ → ℕ) (e : List ℕ) (x k : ℕ) → getD e k 0 ≡ 1 → known ν (marked e) x k ≡ ν k
+known-marked ν e x k h = rw (eq-eqb _ 1 h)
+
+pub known-unmarked : (ν : ℕ → ℕ) (e : List ℕ) (x k : ℕ) → (getD e k 0 ≡ 1 → ⊥) → known ν (marked e) x k ≡ x
+known-unmarked ν e x k h = rw (ne-eqb (getD e k 0) 1 h)
+
+-- a mark of 1 stays when the leaf is evaluated once more
+pub mark-again : (e : List ℕ) (k : ℕ) → getD e k 0 ≡ 1 → set e k 1 ≡ e
+mark-again e k h = ap (set e k) (sym h) ∙ set-getD e k 0
+
+-- the same entries have the same best one
+pub best-same : (s : Side) (f g : ℕ → ℕ) (i n : ℕ) → ((k : ℕ) → i ≤ k → k ≤ i + n → f k ≡ g k)
+    → bestIn s f i n ≡ bestIn s g i n
+unfolding bestIn
+best-same s f g i zero e = e i (omega arith) (omega arith)
+best-same s f g i (suc n) e =
+    ap₂ (better s) (e i (omega arith) (omega arith))
+    (best-same s f g (i + 1) n (λ k a b. e k (omega arith) (omega arith)))
+
+-- the minimax value of a node is the best of its children's
+pub minimax-best : (μ : ℕ → ℕ) (s : Side) (g : ℕ → Tree) (i n : ℕ)
+    → minimaxKids μ s (kidsFrom g i n) ≡ bestIn s (λ k. minimax μ (g k)) i n
+unfolding bestIn kidsFrom
+minimax-best μ s g i zero = refl
+minimax-best μ s g i (suc n) = ap (better s (minimax μ (g i))) (minimax-best μ s g (i + 1) n)
+
+module _ (t : List ℕ) (wf : WellFormed t) (E : ℕ → Bool) (x i : ℕ) (h : i < frames t) where
+  -- the bound of a leaf
+  pub bound-leaf : childCount t i ≡ 0 → known (valuation t) E x i ≡ boundOf t E x i
+  bound-leaf e = rw (tree-leaf t wf i h e)
+
+  -- the bound of an inner node: the best of its children's
+  pub bound-inner : (f : ℕ → ℕ) → ((k : ℕ) → ChildOf t i k → f k ≡ boundOf t E x k) → {first count v : ℕ} {s : Side}
+      → first ≡ firstChild t i → count ≡ childCount t i → 0 < count → s ≡ sideOf t i
+      → v ≡ bestIn s f first (first + count - (first + 1)) → v ≡ boundOf t E x i
+  bound-inner f same {first} {count} {v} {s} p q c d b =
+      let n = first + count - (first + 1) in
+      b ∙ best-same s f (boundOf t E x) first n (λ k l m. same k (record { from = omega arith; to = omega arith }))
+      ∙ sym (minimax-best (known (valuation t) E x) s (treeAt t) first n)
+      ∙ rw (tree-inner t wf i n h (omega arith), ← p, ← d)

@@ -1,0 +1,120 @@
+-- The chosen child of a node: the first one whose bound equals the node's, by the lows where Max moves and by the highs
+-- where Min moves. The arrays give the one that the definitions name, and under the root it is the move.
+use Prim.Native.Nat.{ℕ, zero, suc, _+_, _-_, _≤_, _<_}
+use native.Mathlib.Omega.{arith}
+use mathlib.Core.Path.{_≡_, refl, sym, ap, ap₂, _∙_, subst}
+use mathlib.Core.Bool.{Bool, true, false, cond}
+use mathlib.Core.List.{List}
+use lib.Dec.{eqb}
+use lib.ListN.{getD}
+use Rattle.gametree.specs.declared.Side.{Side}
+use Rattle.gametree.specs.declared.Side.the-variants.{Max, Min}
+use Rattle.gametree.specs.Tree.{Tree, leaf, inner, least, greatest, other, minimax, number}
+use Rattle.gametree.specs.Bounds.{low, high}
+use Rattle.gametree.specs.Certificate.{fill}
+use Rattle.gametree.specs.Move.{firstWith, boundMove}
+use Rattle.frames.specs.Frame.{frames, firstChild, childCount, next}
+use Rattle.frames.specs.Place.{sideOf}
+use Rattle.frames.specs.Tree.{kidsFrom, treeAt, tree, valuation}
+use Rattle.frames.specs.Formed.{WellFormed}
+use Rattle.frames.proofs.Next.{next-more, next-within}
+use Rattle.frames.proofs.Trees.{zero-or-suc, tree-leaf, tree-inner, tree-number}
+use Rattle.certificate.specs.Buffer.{written, marked}
+use Rattle.certificate.specs.Places.{sideNumber, numberSide}
+use Rattle.certificate.specs.Ranges.{firstEqual}
+use Rattle.certificate.specs.Bounds.{boundOf}
+use Rattle.certificate.specs.Flags.{bySide, chosenChild}
+use Rattle.certificate.proofs.Buffers.{written-at}
+use Rattle.certificate.proofs.Places.{side-again}
+
+-- the arrays hold the side and both bounds of each node
+pub record Bounded (t : List ℕ) (E : ℕ → Bool) (sides lows highs : List ℕ) : Type 0 where
+  pub sidesAre : (k : ℕ) → k < frames t → getD sides k 0 ≡ sideNumber (sideOf t k)
+  pub lowsAre : (k : ℕ) → k < frames t → getD lows k 0 ≡ boundOf t E least k
+  pub highsAre : (k : ℕ) → k < frames t → getD highs k 0 ≡ boundOf t E greatest k
+
+-- arrays that were written so hold them
+pub bounded : (t : List ℕ) (e e′ s l h : List ℕ) {sides lows highs : List ℕ}
+    → sides ≡ written (λ k. sideNumber (sideOf t k)) (frames t) s
+    → lows ≡ written (boundOf t (marked e) least) (frames t) l
+    → highs ≡ written (boundOf t (marked e′) greatest) (frames t) h → e′ ≡ e
+    → Bounded t (marked e) sides lows highs
+bounded t e e′ s l h p q r d =
+    record {
+      sidesAre = λ k m. ap (λ x. getD x k 0) p ∙ written-at (λ k. sideNumber (sideOf t k)) (frames t) k s m;
+      lowsAre = λ k m. ap (λ x. getD x k 0) q ∙ written-at (boundOf t (marked e) least) (frames t) k l m;
+      highsAre = λ k m.
+          ap (λ x. getD x k 0) r ∙ written-at (boundOf t (marked e′) greatest) (frames t) k h m
+          ∙ ap (λ x. boundOf t (marked x) greatest k) d;
+    }
+
+-- the same entries, the same first one
+pub first-same : (f g : ℕ → ℕ) (v i n : ℕ) → ((k : ℕ) → i ≤ k → k < i + n → f k ≡ g k)
+    → firstEqual f v i n ≡ firstEqual g v i n
+unfolding firstEqual
+first-same f g v i zero e = refl
+first-same f g v i (suc n) e =
+    ap₂ (λ x y. cond (eqb x v) i y) (e i (omega arith) (omega arith))
+    (first-same f g v (i + 1) n (λ k l m. e k (omega arith) (omega arith)))
+
+-- the chosen child of node i by the definitions
+unfoldable pub chosenOf : List ℕ → (ℕ → Bool) → Side → ℕ → ℕ
+chosenOf t E s i =
+    firstEqual (boundOf t E (fill (other s))) (boundOf t E (fill (other s)) i) (next t i) (childCount t i)
+
+module _ (t : List ℕ) (wf : WellFormed t) (E : ℕ → Bool) where
+  by-bounds : (bounds : List ℕ) (x i : ℕ) → i < frames t → ((k : ℕ) → k < frames t → getD bounds k 0 ≡ boundOf t E x k)
+      → chosenChild bounds i (next t i) (childCount t i)
+      ≡ firstEqual (boundOf t E x) (boundOf t E x i) (next t i) (childCount t i)
+  by-bounds bounds x i h e =
+      first-same _ (boundOf t E x) _ (next t i) (childCount t i)
+      (λ k l m. e k (omega (arith, next-more t i, next-within t wf (i + 1) (omega arith))))
+      ∙ ap (λ v. firstEqual (boundOf t E x) v (next t i) (childCount t i)) (e i h)
+
+  by-side : {sides lows highs : List ℕ} → Bounded t E sides lows highs → (s : Side) (i : ℕ) → i < frames t
+      → chosenChild (bySide s lows highs) i (next t i) (childCount t i) ≡ chosenOf t E s i
+  unfolding chosenOf
+  by-side {lows = lows} b Max i h = by-bounds lows least i h (b .lowsAre)
+  by-side {highs = highs} b Min i h = by-bounds highs greatest i h (b .highsAre)
+
+  -- the arrays give it
+  pub chosen-arrays : {sides lows highs : List ℕ} → Bounded t E sides lows highs → (i : ℕ) → i < frames t
+      → chosenChild (bySide (numberSide (getD sides i 0)) lows highs) i (next t i) (childCount t i)
+      ≡ chosenOf t E (sideOf t i) i
+  chosen-arrays {sides} {lows} {highs} b i h =
+      ap (λ s. chosenChild (bySide s lows highs) i (next t i) (childCount t i))
+      (ap numberSide (b .sidesAre i h) ∙ side-again (sideOf t i))
+      ∙ by-side b (sideOf t i) i h
+
+-- the first child with a value, by number
+first-with : (f : Tree → ℕ) (h : ℕ → Tree) → ((k : ℕ) → number (h k) ≡ k) → (v i n : ℕ)
+    → firstEqual (λ k. f (h k)) v i (suc n) ≡ firstWith f v (kidsFrom h i n)
+unfolding firstEqual kidsFrom
+first-with f h e v i zero = ap (λ x. cond (eqb (f (h i)) v) x 0) (sym (e i))
+first-with f h e v i (suc n) = ap₂ (cond (eqb (f (h i)) v)) (sym (e i)) (first-with f h e v (i + 1) n)
+
+module _ (t : List ℕ) (wf : WellFormed t) (E : ℕ → Bool) where
+  move-inner : (s : Side) (i n : ℕ)
+      → firstEqual (boundOf t E (fill (other s)))
+      (minimax (λ k. cond (E k) (valuation t k) (fill (other s))) (inner 0 s (kidsFrom (treeAt t) i n))) i (suc n)
+      ≡ boundMove (valuation t) E (inner 0 s (kidsFrom (treeAt t) i n))
+  move-inner Max i n = first-with (low (valuation t) E) (treeAt t) (tree-number t) _ i n
+  move-inner Min i n = first-with (high (valuation t) E) (treeAt t) (tree-number t) _ i n
+
+  -- the root's chosen child is the move
+  pub chosen-root : chosenOf t E (sideOf t 0) 0 ≡ boundMove (valuation t) E (tree t)
+  unfolding chosenOf firstEqual next
+  chosen-root =
+      zero-or-suc (childCount t 0) (λ e. rw (e, tree-leaf t wf 0 (wf .some) e)) (λ n e.
+      let p = wf .first 0 (wf .some) (omega arith) in
+      rw (e, tree-inner t wf 0 n (wf .some) e, p) (move-inner (sideOf t 0) 1 n))
+
+  -- so the arrays give the move
+  pub chosen-move : {sides lows highs : List ℕ} → Bounded t E sides lows highs → (n : ℕ) → n ≡ childCount t 0
+      → chosenChild (bySide (numberSide (getD sides 0 0)) lows highs) 0 1 (1 + n - 1)
+      ≡ boundMove (valuation t) E (tree t)
+  unfolding next
+  chosen-move {sides} {lows} {highs} b n e =
+      let d : 1 + n - 1 ≡ childCount t 0 = omega arith in
+      ap (chosenChild (bySide (numberSide (getD sides 0 0)) lows highs) 0 1) d
+      ∙ chosen-arrays t wf E b 0 (wf .some) ∙ chosen-root

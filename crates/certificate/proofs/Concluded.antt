@@ -1,0 +1,80 @@
+-- Bounds, flags and the move depend on the marks of the table's nodes only.
+use Prim.Native.Nat.{ℕ, _+_, _≤_, _<_}
+use native.Mathlib.Omega.{arith}
+use mathlib.Core.Path.{_≡_, sym, ap, ap₂, _∙_}
+use mathlib.Core.Bool.{Bool, cond}
+use mathlib.Core.List.{List}
+use lib.Dec.{eqb}
+use Rattle.gametree.specs.declared.Side.{Side}
+use Rattle.gametree.specs.declared.Side.the-variants.{Max, Min}
+use Rattle.gametree.specs.Tree.{other}
+use Rattle.gametree.specs.Bounds.{known}
+use Rattle.gametree.specs.Certificate.{fill, flag}
+use Rattle.gametree.specs.Move.{boundMove}
+use Rattle.gametree.proofs.Bounds.{minimax-mono}
+use Rattle.frames.specs.Frame.{frames, childCount, next}
+use Rattle.frames.specs.Place.{sideOf}
+use Rattle.frames.specs.Tree.{treeAt, tree, valuation}
+use Rattle.frames.specs.Formed.{WellFormed}
+use Rattle.frames.proofs.Next.{next-more, next-within}
+use Rattle.frames.proofs.Parents.{top-down}
+use Rattle.frames.proofs.Proper.{every-leaf}
+use Rattle.certificate.specs.Buffer.{written, mark, marked}
+use Rattle.certificate.specs.Ranges.{firstEqual}
+use Rattle.certificate.specs.Bounds.{boundOf}
+use Rattle.certificate.proofs.Buffers.{written-same}
+use Rattle.certificate.proofs.Chosen.{first-same, chosenOf, chosen-root}
+use Rattle.certificate.proofs.Solutions.{childIn, solution, solution-root, solution-child}
+use Rattle.certificate.proofs.Marks.{marked-written}
+
+module _ (t : List ℕ) (wf : WellFormed t) (E F : ℕ → Bool) (same : (k : ℕ) → k < frames t → E k ≡ F k) where
+  -- the same bounds
+  pub bound-same : (x i : ℕ) → i < frames t → boundOf t E x i ≡ boundOf t F x i
+  bound-same x i h =
+      let at : (k : ℕ) → k < frames t → known (valuation t) E x k ≡ known (valuation t) F x k =
+      λ k l. ap (λ b. cond b (valuation t k) x) (same k l) in
+      omega (
+        arith,
+        minimax-mono (known (valuation t) E x) (known (valuation t) F x) (treeAt t i)
+            (every-leaf t wf (λ k. known (valuation t) E x k ≤ known (valuation t) F x k) (λ k l _. omega (arith, at k l)) i h),
+        minimax-mono (known (valuation t) F x) (known (valuation t) E x) (treeAt t i)
+            (every-leaf t wf (λ k. known (valuation t) F x k ≤ known (valuation t) E x k) (λ k l _. omega (arith, at k l)) i h),
+      )
+
+  -- the same chosen children
+  pub chosen-same : (s : Side) (i : ℕ) → i < frames t → chosenOf t E s i ≡ chosenOf t F s i
+  unfolding chosenOf
+  chosen-same s i h =
+      let x = fill (other s) in
+      first-same (boundOf t E x) (boundOf t F x) (boundOf t E x i) (next t i) (childCount t i)
+      (λ k l m. bound-same x k (omega (arith, next-more t i, next-within t wf (i + 1) (omega arith))))
+      ∙ ap (λ v. firstEqual (boundOf t F x) v (next t i) (childCount t i)) (bound-same x i h)
+
+  solution-same : (p : Side) (k : ℕ) → k < frames t → solution t wf E p k ≡ solution t wf F p k
+  solution-same p =
+      top-down t wf (λ k. solution t wf E p k ≡ solution t wf F p k)
+      (solution-root t wf E p ∙ sym (solution-root t wf F p))
+      (λ i k h c e.
+      solution-child t wf E p i k h c
+      ∙ ap₂ (λ b x. childIn p (sideOf t i) b x k) e (chosen-same (sideOf t i) i h)
+      ∙ sym (solution-child t wf F p i k h c))
+
+  -- the same flags
+  pub flag-same : (k : ℕ) → k < frames t → flag (valuation t) E (tree t) k ≡ flag (valuation t) F (tree t) k
+  flag-same k h = ap₂ (λ x y. cond x 1 0 + cond y 2 0) (solution-same Max k h) (solution-same Min k h)
+
+  -- the same move
+  pub move-same : boundMove (valuation t) E (tree t) ≡ boundMove (valuation t) F (tree t)
+  move-same = sym (chosen-root t wf E) ∙ chosen-same (sideOf t 0) 0 (wf .some) ∙ chosen-root t wf F
+
+-- what `conclude` gives from the marks e of a set E of nodes is what the definitions give from E
+pub concluded : (t : List ℕ) → WellFormed t → (E : ℕ → Bool) (b e c : List ℕ) → e ≡ written (mark E) (frames t) b
+    → (boundMove (valuation t) (marked e) (tree t) ≡ boundMove (valuation t) E (tree t))
+    × (written (flag (valuation t) (marked e) (tree t)) (frames t) c
+    ≡ written (flag (valuation t) E (tree t)) (frames t) c)
+concluded t wf E b e c q =
+    let same : (k : ℕ) → k < frames t → marked e k ≡ E k =
+    λ k h. ap (λ l. marked l k) q ∙ marked-written E (frames t) b k h in (
+      move-same t wf (marked e) E same,
+      written-same _ _ (frames t) c (flag-same t wf (marked e) E same),
+    )

@@ -1,0 +1,76 @@
+-- What follows from the marks that a search leaves: the set of its leaves, and how many they are.
+use Prim.Native.Nat.{ℕ, zero, suc, _+_, _<_}
+use native.Mathlib.Omega.{arith}
+use mathlib.Core.Path.{_≡_, refl, ap, ap₂, _∙_, sym}
+use mathlib.Core.Bool.{Bool, true, false, cond}
+use mathlib.Core.List.{List}
+use lib.Dec.{eqb}
+use lib.ListN.{length, getD}
+use Rattle.gametree.specs.Lists.{All, among}
+use Rattle.gametree.specs.Tree.{Tree, leaf, inner, Kids, last, _then_, leaves, leavesKids, leafCount, EveryLeaf, EveryLeafKids}
+use Rattle.gametree.specs.Searches.{Searched}
+use Rattle.gametree.proofs.Choice.{is-false}
+use Rattle.gametree.proofs.Lists.{all-map, all-append, all-at}
+use Rattle.gametree.proofs.Theorems.{search-leaves, search-count}
+use Rattle.frames.specs.Frame.{frames, childCount}
+use Rattle.frames.specs.Tree.{tree, valuation}
+use Rattle.frames.specs.Formed.{WellFormed}
+use Rattle.frames.proofs.Trees.{zero-or-suc}
+use Rattle.frames.proofs.Totals.{sumTo, atNode, sum-same, tree-leaf-count}
+use Rattle.frames.proofs.Proper.{every-leaf, tree-proper}
+use Rattle.certificate.specs.Buffer.{written, mark, marked, ones}
+use Rattle.certificate.proofs.Buffers.{written-at}
+
+mark-set : (b : Bool) → eqb (cond b 1 0) 1 ≡ b
+mark-set true = refl
+mark-set false = refl
+
+-- the marks of a set mark its nodes
+pub marked-written : (E : ℕ → Bool) (n : ℕ) (b : List ℕ) (k : ℕ) → k < n → marked (written (mark E) n b) k ≡ E k
+marked-written E n b k h = ap (λ v. eqb v 1) (written-at (mark E) n k b h) ∙ mark-set (E k)
+
+-- what holds of each leaf holds of each in the list of leaves
+mutual
+  every-all : (P : ℕ → Type 0) (t : Tree) → EveryLeaf P t → All P (leaves t)
+  every-all P (leaf n) h = (h, tt)
+  every-all P (inner n s ks) h = every-allKids P ks h
+
+  every-allKids : (P : ℕ → Type 0) (ks : Kids) → EveryLeafKids P ks → All P (leavesKids ks)
+  every-allKids P (last t) h = every-all P t h
+  every-allKids P (t then ts) h = all-append P (leaves t) (leavesKids ts) (every-all P t (h .0)) (every-allKids P ts (h .1))
+
+module _ (t : List ℕ) (wf : WellFormed t) where
+  -- what holds of each node without children holds of each leaf that a search evaluates
+  pub searched-hold : (P : ℕ → Type 0) → ((i : ℕ) → i < frames t → childCount t i ≡ 0 → P i) → {w : List ℕ}
+      → Searched (valuation t) (tree t) w → All P w
+  searched-hold P f {w} s =
+      all-map (λ k. among (leaves (tree t)) k ≡ true) P
+      (all-at P (leaves (tree t)) (every-all P (tree t) (every-leaf t wf P f 0 (wf .some)))) w
+      (search-leaves (valuation t) (tree t) (tree-proper t wf) s)
+
+  -- its number lies within the table
+  pub searched-within : {w : List ℕ} → Searched (valuation t) (tree t) w → All (λ k. k < frames t) w
+  searched-within s = searched-hold (λ k. k < frames t) (λ i h e. h) s
+
+  ones-sum : (e : List ℕ) (n : ℕ) → ones e n ≡ sumTo (λ k. cond (marked e k) 1 0) n
+  unfolding ones sumTo
+  ones-sum e zero = refl
+  ones-sum e (suc n) = ap (λ x. x + cond (marked e n) 1 0) (ones-sum e n)
+
+  -- where the marks are those of a set of leaves, the ones are the leaves of the set
+  pub ones-leaves : (E : ℕ → Bool) → ((k : ℕ) → k < frames t → E k ≡ true → childCount t k ≡ 0) → (e : List ℕ)
+      → ((k : ℕ) → k < frames t → marked e k ≡ E k) → ones e (frames t) ≡ leafCount E (tree t)
+  ones-leaves E l e m =
+      ones-sum e (frames t)
+      ∙ sum-same _ (λ i. atNode (λ n. cond (E n) 1 0) (λ _. 0) (childCount t i) i) (frames t) (λ k h.
+      ap (λ b. cond b 1 0) (m k h)
+      ∙ zero-or-suc (childCount t k) (λ z. rw z) (λ n z. rw (z, is-false (E k) (λ p. omega (arith, l k h p)))))
+      ∙ sym (tree-leaf-count t wf E)
+
+  -- the ones among the marks of a search are as many as the leaves that it evaluates
+  pub ones-searched : {w : List ℕ} → Searched (valuation t) (tree t) w → (b : List ℕ)
+      → ones (written (mark (among w)) (frames t) b) (frames t) ≡ length w
+  ones-searched {w} s b =
+      ones-leaves (among w) (λ k h p. all-at (λ k. childCount t k ≡ 0) w (searched-hold (λ k. childCount t k ≡ 0) (λ i _ e. e) s) k p)
+      (written (mark (among w)) (frames t) b) (marked-written (among w) (frames t) b)
+      ∙ search-count (valuation t) (tree t) (tree-proper t wf) s

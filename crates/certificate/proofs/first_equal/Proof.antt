@@ -1,0 +1,60 @@
+use Prim.Native.Nat.{_-_, _≤_}
+use native.Mathlib.Omega.{arith}
+use mathlib.Core.Path.{_≡_, refl, sym, _∙_}
+use lib.ListN.{getD}
+use borrow.Author.Needs.{needs}
+use Rattle.certificate.specs.Ranges.{firstEqual}
+use Rattle.certificate.proofs.Ranges.{first-here, first-later, first-none}
+use Rattle.certificate.proofs.first_equal.Statement.{statement}
+use Rattle.certificate.proofs.first_equal.Tie as tie
+
+abbrev Inv-loop : tie.InvT-loop
+Inv-loop bounds from to v node₀ node =
+    (node ≤ to)
+    × (firstEqual (λ k. getD bounds k 0) v node (to - node) ≡ firstEqual (λ k. getD bounds k 0) v from (to - from))
+
+abbrev μ-loop : tie.MeasureT-loop
+μ-loop bounds from to v node₀ node = to - node
+
+loop-holds : tie.Need-loop-holds Inv-loop μ-loop
+loop-holds c = (omega arith, refl)
+
+mul-if1 : tie.Need-mul-if1 Inv-loop μ-loop
+mul-if1 c = search needs
+
+shared-slice-read-if1 : tie.Need-shared-slice-read-if1 Inv-loop μ-loop
+shared-slice-read-if1 c = search needs
+
+returns : tie.Need-returns Inv-loop μ-loop
+returns c =
+    let l = c .before .before .before .loop in
+    sym (first-here _ _ _ _ (omega arith) (c .if1 .taken)) ∙ l .inv .1
+
+add-node : tie.Need-add-node Inv-loop μ-loop
+add-node c = search needs
+
+loop-less : tie.Need-loop-less Inv-loop μ-loop
+loop-less c = search needs
+
+loop-again : tie.Need-loop-again Inv-loop μ-loop
+loop-again c =
+    let l = c .before .before .before .loop in
+    (omega arith, first-later _ _ _ _ (omega arith) (c .if1 .left) ∙ l .inv .1)
+
+returns-2 : tie.Need-returns-2 Inv-loop μ-loop
+returns-2 c = sym (first-none _ _ _ _ (omega arith)) ∙ c .before .loop .inv .1
+
+pub first-equal-spec : {M : Type 1} → statement M
+first-equal-spec =
+    tie.close
+    (tie.spec
+    Inv-loop
+    μ-loop
+    loop-holds
+    mul-if1
+    shared-slice-read-if1
+    returns
+    add-node
+    loop-less
+    loop-again
+    returns-2)

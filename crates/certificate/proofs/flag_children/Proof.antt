@@ -1,0 +1,59 @@
+use Prim.Native.Nat.{_-_}
+use native.Mathlib.Omega.{arith}
+use mathlib.Core.Logic.{⊎-elim}
+use mathlib.Core.Bool.{cond}
+use lib.Dec.{eqb}
+use borrow.Author.Needs.{needs}
+use borrow.Author.Tests.{eq-eqb, ne-eqb}
+use Rattle.certificate.proofs.Runs.{Run, run-begins, run-step, run-ends}
+use Rattle.certificate.proofs.flag_children.Statement.{statement}
+use Rattle.certificate.proofs.flag_children.Tie as tie
+
+abbrev Inv-loop : tie.InvT-loop
+Inv-loop certificate₀ from to flag others chosen child₀ certificate child =
+    Run (λ k. cond (eqb k chosen) flag others) from to certificate₀ certificate child
+
+abbrev μ-loop : tie.MeasureT-loop
+μ-loop certificate₀ from to flag others chosen child₀ certificate child = to - child
+
+loop-holds : tie.Need-loop-holds Inv-loop μ-loop
+loop-holds c = run-begins _ _ _ _ (omega arith)
+
+slice-write-certificate : tie.Need-slice-write-certificate Inv-loop μ-loop
+slice-write-certificate c = search needs
+
+slice-write-certificate-2 : tie.Need-slice-write-certificate-2 Inv-loop μ-loop
+slice-write-certificate-2 c = search needs
+
+add-child : tie.Need-add-child Inv-loop μ-loop
+add-child c = search needs
+
+loop-less : tie.Need-loop-less Inv-loop μ-loop
+loop-less c = search needs
+
+loop-again : tie.Need-loop-again Inv-loop μ-loop
+loop-again c =
+    let r = c .before .before .loop .inv in
+    ⊎-elim (λ w. run-step _ _ _ _ _ _ _ _ (omega arith) (rw (eq-eqb _ _ (w .0 .taken))) (w .1) r)
+    (λ w. run-step _ _ _ _ _ _ _ _ (omega arith) (rw (ne-eqb _ _ (w .0 .left))) (w .1) r) (c .if1 .came)
+
+same-length : tie.Need-same-length Inv-loop μ-loop
+same-length c = search needs
+
+returns : tie.Need-returns Inv-loop μ-loop
+returns c = run-ends _ _ _ _ _ _ (omega arith) (c .before .loop .inv)
+
+pub flag-children-spec : {M : Type 1} → statement M
+flag-children-spec =
+    tie.close
+    (tie.spec
+    Inv-loop
+    μ-loop
+    loop-holds
+    slice-write-certificate
+    slice-write-certificate-2
+    add-child
+    loop-less
+    loop-again
+    same-length
+    returns)

@@ -1,0 +1,33 @@
+use mathlib.Core.Path.{refl, sym, _∙_}
+use Rattle.frames.specs.Tree.{valuation}
+use Rattle.certificate.proofs.Bounds.{known-marked, known-unmarked, mark-again}
+use borrow.Author.Needs.{needs}
+use Rattle.certificate.proofs.leaf_bound.Statement.{statement}
+use Rattle.certificate.proofs.leaf_bound.Tie as tie
+
+slice-read-if1 : tie.Need-slice-read-if1
+slice-read-if1 c = search needs
+
+evaluate-requires : tie.Need-evaluate-requires
+evaluate-requires c κs = search needs
+
+same-length : tie.Need-same-length
+same-length c = search needs
+
+returns : tie.Need-returns
+returns c =
+    let a = c .before .before .before .before .before .before .before .before .args in
+    let m = c .before .before .before .before .if1 .taken in
+    let e = c .before .before .evaluate .ensures in (
+      e .0 .0 ∙ sym (known-marked (valuation (a .table .now)) (a .evaluated .now) (a .unknown) (a .node) m),
+      e .1 ∙ mark-again (a .evaluated .now) (a .node) m,
+    )
+
+returns-2 : tie.Need-returns-2
+returns-2 c =
+    let a = c .before .before .before .before .args in
+    (sym (known-unmarked (valuation (a .table .now)) (a .evaluated .now) (a .unknown) (a .node) (c .if1 .left)), refl)
+
+pub leaf-bound-spec : {M : Type 1} → statement M
+leaf-bound-spec =
+    tie.close (tie.spec slice-read-if1 evaluate-requires same-length returns returns-2)

@@ -1,0 +1,10 @@
+-- The lemmas on SSS*'s machine.
+pub mod Parts
+pub mod Replacements
+pub mod Turns
+pub mod Taking
+pub mod Onward
+pub mod Fuel
+pub mod Entries
+pub mod Readiness
+pub mod Driving

@@ -1,0 +1,7 @@
+-- Definitions for SSS* over a list of entries.
+pub mod Entry
+pub mod Machine
+pub mod Family
+pub mod Invariant
+pub mod Ready
+pub mod Driven

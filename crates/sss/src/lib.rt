@@ -1,0 +1,81 @@
+// SSS*: a best-first search over a list of states, kept from left to right in the lent entries.
+use frames::Rejection;
+ghost use mathlib.Core.Path.{_≡_};
+ghost use Rattle.sss.specs.Entry.{blank as blankEntry};
+
+// 01's LIVE and SOLVED.
+pub enum Status {
+    Live,
+    Solved,
+}
+
+// An entry of the lent list: a state of 01, with its merit as a value.
+pub struct State {
+    pub node: u16,
+    pub status: Status,
+    pub merit: i32,
+}
+
+// What the machine does in its next turn.
+pub enum Phase {
+    // The first state is put on the list.
+    Begin,
+    // The entry right of the gap is looked at.
+    Sweep,
+    // Children are put on the list, from the last to the first; `child` is the last one put.
+    Expand { first: usize, child: usize },
+    // States below `parent` are taken off the end of the left part.
+    PurgeLeft { parent: usize },
+    // And off the beginning of the right part, behind the parent's own state.
+    PurgeRight { parent: usize },
+    // The gap goes back to the front; `best` is the greatest merit passed.
+    Rewind { best: u32 },
+    // The root is solved, and the entries are reset.
+    Reset { entry: usize },
+    // All entries are reset.
+    Ended,
+    // A question got a "no"; with no state on the list it is 15.
+    Rejected(Rejection),
+}
+
+// The states stand in entries 0 to left - 1, and from right to nodes - 1.
+pub struct Gap {
+    pub left: usize,
+    pub right: usize,
+    pub nodes: usize,
+}
+
+// Evaluated leaves, and replacements.
+pub struct Counts {
+    pub leaves: usize,
+    pub replacements: usize,
+}
+
+// What the machine keeps between turns; no merit on the list is greater than `test`.
+pub struct Registers {
+    pub phase: Phase,
+    pub gap: Gap,
+    pub test: u32,
+    pub counts: Counts,
+}
+
+// The machine between two turns: whether it goes on, the entry that it reads next, the entry that it writes, and the
+// entry itself, as read before a turn and as to be written after it.
+pub struct Machine {
+    pub going: bool,
+    pub read: usize,
+    pub write: usize,
+    pub entry: State,
+    pub registers: Registers,
+}
+
+// The entry of a list that is not in use.
+pub fn blank() -> State
+    ensures { λ r. ⌜ r ≡ blankEntry ⌝ }
+{
+    State {
+        node: 0,
+        status: Status::Live,
+        merit: 0,
+    }
+}

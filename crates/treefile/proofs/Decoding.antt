@@ -1,0 +1,131 @@
+-- The loop that decodes a file: what holds after n lines, and that each line, stored behind the ones before, keeps it.
+use Prim.Native.Nat.{ℕ, zero, suc, _+_, _*_, _≤_, _<_, min}
+use mathlib.Core.Path.{_≡_, refl, sym, ap, _∙_}
+use mathlib.Core.Bool.{true}
+use mathlib.Core.Option.{Option, none, some}
+use mathlib.Core.List.{List, [], _∷_, _++_, append-nil, append-assoc}
+use lib.ListN.{length, take, drop, length-append, drop-of-length-le}
+use lib.Seq.{sets, sets-eq, take-at, length-take-le}
+use native.Mathlib.Omega.{arith}
+use Rattle.frames.specs.declared.Rejection.{Rejection}
+use Rattle.frames.specs.declared.Checked.the-variants.{Nodes, Rejected}
+use Rattle.frames.specs.Frame.{frameSize, maxNodes, frames}
+use Rattle.treefile.specs.declared.Frame.{Frame}
+use Rattle.treefile.specs.declared.Cursor.{Cursor}
+use Rattle.treefile.specs.declared.Line.the-variants.{Read, NoLine}
+use Rattle.treefile.specs.Line.{lineDigits, isLine, bytesOf, frameOf, frameBytes, isLineAt, lineAt}
+use Rattle.treefile.specs.Lines.{linesOf, decode, decoded}
+use Rattle.treefile.specs.File.{maxFile, eachLine, lineCheck3, fileCheck3}
+use Rattle.treefile.specs.Decoded.{Decoded}
+use Rattle.treefile.proofs.Lines.{lineBytes, line-length, line-is, line-fits, line-read, read-is, none-is}
+use Rattle.treefile.proofs.Left.{lines-next, lines-stop}
+
+-- two digits make a byte
+bytes-length : (n : ℕ) (l : List ℕ) → length l ≡ 2 * n → length (bytesOf l) ≡ n
+unfolding bytesOf
+bytes-length zero [] h = refl
+bytes-length (suc n) [] h = absurd (omega arith)
+bytes-length n (a ∷ []) h = absurd (omega arith)
+bytes-length zero (a ∷ b ∷ l) h = absurd (omega arith)
+bytes-length (suc n) (a ∷ b ∷ l) h = ap suc (bytes-length n l (omega arith))
+
+-- a line has six bytes
+pub line-bytes : (l : List ℕ) → isLine l ≡ true → length (bytesOf l) ≡ frameSize
+line-bytes l e = bytes-length frameSize l (line-length l e)
+
+-- six bytes are those of their frame
+frame-bytes : (bs : List ℕ) → length bs ≡ frameSize → frameBytes (frameOf bs) ≡ bs
+frame-bytes [] h = absurd (omega arith)
+frame-bytes (a ∷ []) h = absurd (omega arith)
+frame-bytes (a ∷ b ∷ []) h = absurd (omega arith)
+frame-bytes (a ∷ b ∷ c ∷ []) h = absurd (omega arith)
+frame-bytes (a ∷ b ∷ c ∷ d ∷ []) h = absurd (omega arith)
+frame-bytes (a ∷ b ∷ c ∷ d ∷ e ∷ []) h = absurd (omega arith)
+frame-bytes (a ∷ b ∷ c ∷ d ∷ e ∷ g ∷ []) h = refl
+frame-bytes (a ∷ b ∷ c ∷ d ∷ e ∷ g ∷ i ∷ bs) h = absurd (omega arith)
+
+-- six bytes stored behind n frames
+stored : (table bs : List ℕ) (n : ℕ) → frameSize * (n + 1) ≤ length table → length bs ≡ frameSize
+    → take (frameSize * (n + 1)) (sets table (frameSize * n) bs) ≡ take (frameSize * n) table ++ bs
+stored table bs n h six =
+    rw (sets-eq bs table (frameSize * n) (omega arith))
+    (take-at (take (frameSize * n) table ++ bs) _ (frameSize * (n + 1))
+    (length-append (take (frameSize * n) table) bs
+    ∙ omega (arith, length-take-le (frameSize * n) table (omega arith))))
+
+-- a rejection says nothing of the table
+pub decoded-refused : (f : List ℕ) (x : Option Rejection) (table : List ℕ) (r : Rejection) → x ≡ some r
+    → Decoded f x table (Rejected r)
+decoded-refused f x table r e = record {
+  answered = rw e;
+  filled = λ p. (let z : _≡_ {A = ℕ} 0 1 = cc in absurd (omega arith));
+}
+
+-- after n lines the position is past them, question 3 is left for the lines from there on, and the table's front holds
+-- their frames
+pub record Decoding (f table : List ℕ) (at n : ℕ) : Type 0 where
+  pub position : at ≡ min ((lineDigits + 1) * n) (length f)
+  pub few : (lineDigits + 1) * n ≤ length f + 1
+  pub passed : fileCheck3 f ≡ eachLine lineCheck3 n (linesOf (drop at f))
+  pub filled : decoded f ≡ take (frameSize * n) table ++ decode (linesOf (drop at f))
+
+-- before the first line
+pub decoding-none : (f table : List ℕ) → Decoding f table 0 0
+decoding-none f table = record {
+  position = omega arith;
+  few = omega arith;
+  passed = refl;
+  filled = refl;
+}
+
+module _ (f table : List ℕ) (at n : ℕ) (room : frameSize * maxNodes ≤ length table) (size : length f ≤ maxFile)
+    (d : Decoding f table at n) where
+  -- at the end of the file
+  pub decoding-all : length f ≤ at → Decoded f (fileCheck3 f) table (Nodes n)
+  unfolding linesOf eachLine decode
+  decoding-all h =
+      let passed : fileCheck3 f ≡ none = d .passed ∙ rw (drop-of-length-le f h) in
+      let filled : decoded f ≡ take (frameSize * n) table =
+      d .filled ∙ rw (drop-of-length-le f h) (append-nil (take (frameSize * n) table)) in
+      let many : length (decoded f) ≡ frameSize * n =
+      ap length filled ∙ length-take-le (frameSize * n) table (omega (arith, d .few)) in
+      let whole : frames (decoded f) ≡ n = omega arith in
+      record {
+        answered = rw (passed, whole);
+        filled = λ e. rw many (sym filled);
+      }
+
+  module _ (inside : at < length f) where
+    -- a line that is not as it must be
+    pub decoding-stop : (c : Cursor) → NoLine c ≡ lineAt f at
+        → Decoded f (fileCheck3 f) table (Rejected (record { number = 3; place = n }))
+    decoding-stop c e =
+        decoded-refused f (fileCheck3 f) table _ (d .passed ∙ lines-stop f at n inside (none-is f at c e))
+
+    -- a line stored behind the ones before
+    pub decoding-next : (x : Frame) (c : Cursor) → Read x c ≡ lineAt f at
+        → Decoding f (sets table (frameSize * n) (frameBytes x)) (c .at) (n + 1)
+    unfolding eachLine decode
+    decoding-next x c e =
+        let is : isLineAt f at ≡ true = read-is f at x c e in
+        let fits : at + lineDigits ≤ length f = line-fits f at is in
+        let line = lineBytes f at in
+        let read = e ∙ line-read f at is in
+        let frame : x ≡ frameOf (bytesOf line) = cc in
+        let next : c ≡ record { at = min (at + lineDigits + 1) (length f) } = cc in
+        let six : length (bytesOf line) ≡ frameSize = line-bytes line (line-is f at is) in
+        let bytes : frameBytes x ≡ bytesOf line = ap frameBytes frame ∙ frame-bytes (bytesOf line) six in
+        let left : linesOf (drop at f) ≡ line ∷ linesOf (drop (c .at) f) = rw next (lines-next f at is) in
+        let rest = decode (linesOf (drop (c .at) f)) in
+        let front : take (frameSize * (n + 1)) (sets table (frameSize * n) (frameBytes x))
+        ≡ take (frameSize * n) table ++ bytesOf line =
+        ap (λ (bs : List ℕ). take (frameSize * (n + 1)) (sets table (frameSize * n) bs)) bytes
+        ∙ stored table (bytesOf line) n (omega (arith, d .position)) six in
+        record {
+          position = omega (arith, d .position, ap (λ (c : Cursor). c .at) next);
+          few = omega (arith, d .position);
+          passed = d .passed ∙ rw (left, line-is f at is);
+          filled =
+              d .filled ∙ rw left (sym (append-assoc (take (frameSize * n) table) (bytesOf line) rest))
+              ∙ ap (λ (l : List ℕ). l ++ rest) (sym front);
+        }

@@ -1,0 +1,55 @@
+-- The lines that are left at a position: reading one line takes the first of them.
+use Prim.Native.Nat.{ℕ, suc, _+_, _<_, min}
+use mathlib.Core.Path.{_≡_, sym, ap, _∙_}
+use mathlib.Core.Bool.{true, false}
+use mathlib.Core.Option.{some}
+use mathlib.Core.List.{List, _∷_}
+use lib.ListN.{length, getD, take, drop, drop-of-length-le}
+use lib.Seq.{drop-cons, drop-drop, drop-length}
+use native.Mathlib.Omega.{arith}
+use native.Mathlib.Decide.{decLe}
+use Rattle.treefile.specs.Line.{lineDigits, isLine, isLineAt}
+use Rattle.treefile.specs.Lines.{linesOf}
+use Rattle.treefile.specs.File.{eachLine, lineCheck3}
+use Rattle.treefile.proofs.Lines.{lineBytes, line-length, line-fits}
+use Rattle.treefile.proofs.Splits.{firstLine, afterLine, lines-first, first-take, after-drop, first-digits}
+
+-- past the end nothing is left to drop
+drop-min : (n : ℕ) (l : List ℕ) → drop (min n (length l)) l ≡ drop n l
+drop-min n l =
+    elim (decLe n (length l)) [
+      | yes h ↦ (let e : min n (length l) ≡ n = omega arith in rw e)
+      | no h ↦ (let e : min n (length l) ≡ length l = omega arith in
+          rw (e, drop-length l) (sym (drop-of-length-le l {i = n} (omega arith))))
+    ]
+
+module _ (f : List ℕ) (at : ℕ) where
+  abbrev left : List ℕ
+  left = drop at f
+
+  -- a position that is not at the end has a line
+  lines-left : at < length f → linesOf left ≡ firstLine left ∷ linesOf (afterLine left)
+  lines-left h = rw (drop-cons f at 0 h) (lines-first (getD f at 0) (drop (suc at) f))
+
+  -- it is as 01 says exactly if a line stands at the position
+  first-is : isLine (firstLine left) ≡ isLineAt f at
+  unfolding isLine isLineAt
+  first-is = first-digits lineDigits left ∙ rw (drop-drop lineDigits at f)
+
+  -- a line that stands at the position is the first that is left
+  pub lines-next : isLineAt f at ≡ true
+      → linesOf left ≡ lineBytes f at ∷ linesOf (drop (min (at + lineDigits + 1) (length f)) f)
+  lines-next is =
+      let twelve : length (firstLine left) ≡ lineDigits = line-length (firstLine left) (first-is ∙ is) in
+      let first : firstLine left ≡ lineBytes f at =
+      first-take left ∙ ap (λ (n : ℕ). take n left) twelve in
+      let next : at + (lineDigits + 1) ≡ at + lineDigits + 1 = omega arith in
+      let after : afterLine left ≡ drop (at + lineDigits + 1) f =
+      after-drop left ∙ rw (twelve, drop-drop (lineDigits + 1) at f, next) in
+      lines-left (omega (arith, line-fits f at is)) ∙ rw (first, after, drop-min (at + lineDigits + 1) f)
+
+  -- where none stands, the first that is left is not as 01 says
+  pub lines-stop : (n : ℕ) → at < length f → isLineAt f at ≡ false
+      → eachLine lineCheck3 n (linesOf left) ≡ some (record { number = 3; place = n })
+  unfolding eachLine
+  lines-stop n h not = rw (lines-left h, first-is, not)

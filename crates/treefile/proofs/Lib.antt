@@ -1,0 +1,10 @@
+-- Lemmas on digits, lines and files, and the theorems on the reader.
+mod Digits
+mod Lines
+mod Splits
+mod Left
+mod Decoding
+mod Counts
+mod Reading
+pub mod Acceptance
+pub mod Cases

@@ -1,0 +1,90 @@
+-- `treefile::check_file` meets its contract: each way out is that of one question, or of the questions on frames.
+-- Assumes nothing.
+use mathlib.Core.Path.{sym}
+use native.Mathlib.Omega.{arith}
+use borrow.Author.Needs.{needs}
+use denote.Ref.{now}
+use lib.Seq.{length-take-le}
+use Rattle.treefile.specs.File.{fileCheck3}
+use Rattle.treefile.proofs.Decoding.{decoded-refused}
+use Rattle.treefile.proofs.Reading.{Front, decoded-front, empty-refused, long-refused}
+use Rattle.treefile.proofs.Reading.{lines-refused, frames-asked}
+use Rattle.treefile.proofs.check_file.Statement.{statement}
+use Rattle.treefile.proofs.check_file.Tie as tie
+
+-- the lines have passed question 3
+front : (c : tie.After-known-told) →
+    let s = c .before .before .before .before .before .before .before .before .before .before .before in
+    let f = now (s .args .file) in
+    let decoded = c .before .before .before .before .before .decode .last .1 .0 in
+    Front f (fileCheck3 f) decoded (c .before .lines .given .0 .0)
+front c =
+    let d = c .before .before .before .before .before .decode in
+    decoded-front _ _ _ _ (d .ensures) (λ p. (omega arith, p)) _ (c .before .lines .given .1)
+
+rejected-requires : tie.Need-rejected-requires
+rejected-requires c κs = search needs
+
+returns : tie.Need-returns
+returns c = rw (c .rejected .ensures) (decoded-refused _ _ _ _ (empty-refused _ (omega arith)))
+
+rejected-requires-2 : tie.Need-rejected-requires-2
+rejected-requires-2 c κs = search needs
+
+returns-2 : tie.Need-returns-2
+returns-2 c = rw (c .rejected2 .ensures) (decoded-refused _ _ _ _ (long-refused _ (omega arith)))
+
+decode-requires : tie.Need-decode-requires
+decode-requires c κs = search needs
+
+enum-known-lines : tie.Need-enum-known-lines
+enum-known-lines c = search needs
+
+enum-told : tie.Need-enum-told
+enum-told c = search needs
+
+same-length : tie.Need-same-length
+same-length c = search needs
+
+returns-3 : tie.Need-returns-3
+returns-3 c =
+    let d = c .before .before .before .before .decode in
+    lines-refused _ _ _ (omega arith) (omega arith) (d .ensures) _ (c .enum-told .given .1)
+
+mul-end : tie.Need-mul-end
+mul-end c = omega (arith, front c .few)
+
+slice-reshare-prefix-check-frames : tie.Need-slice-reshare-prefix-check-frames
+slice-reshare-prefix-check-frames c = omega (arith, front c .few)
+
+slice-aggregate-check-frames : tie.Need-slice-aggregate-check-frames
+slice-aggregate-check-frames c = sym (length-take-le _ _ (omega (arith, front (c .before) .few)))
+
+check-frames-requires : tie.Need-check-frames-requires
+check-frames-requires c κs = let w = front (c .before) in rw (w .bytes) (omega (arith, w .few, w .nodes))
+
+same-length-2 : tie.Need-same-length-2
+same-length-2 c = search needs
+
+returns-4 : tie.Need-returns-4
+returns-4 c = frames-asked _ _ _ (omega arith) (omega arith) _ (front (c .before .before)) (c .check-frames .ensures)
+
+pub check-file-spec : {M : Type 1} → statement M
+check-file-spec =
+    tie.close
+    (tie.spec
+    rejected-requires
+    returns
+    rejected-requires-2
+    returns-2
+    decode-requires
+    enum-known-lines
+    enum-told
+    same-length
+    returns-3
+    mul-end
+    slice-reshare-prefix-check-frames
+    slice-aggregate-check-frames
+    check-frames-requires
+    same-length-2
+    returns-4)

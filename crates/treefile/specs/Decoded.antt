@@ -1,0 +1,17 @@
+-- What decoding a file gives.
+use mathlib.Core.Path.{_≡_}
+use mathlib.Core.Option.{Option, none}
+use mathlib.Core.List.{List}
+use Prim.Native.Nat.{ℕ}
+use lib.ListN.{length, take}
+use Rattle.frames.specs.declared.Rejection.{Rejection}
+use Rattle.frames.specs.declared.Checked.{Checked}
+use Rattle.frames.specs.Frame.{frames}
+use Rattle.frames.specs.Rejection.{answer}
+use Rattle.treefile.specs.Lines.{decoded}
+
+-- the answer r to questions about a file, of which x is the first "no"; where there is none, the table begins with the
+-- file's bytes
+pub record Decoded (f : List ℕ) (x : Option Rejection) (table : List ℕ) (r : Checked) : Type 0 where
+  pub answered : r ≡ answer (frames (decoded f)) x
+  pub filled : x ≡ none → take (length (decoded f)) table ≡ decoded f

@@ -1,0 +1,8 @@
+-- Definitions over tree files: what a reader of the contracts has to believe.
+pub mod Digit
+pub mod Line
+pub mod Lines
+pub mod File
+pub mod Decoded
+pub mod Stated
+pub mod Cases

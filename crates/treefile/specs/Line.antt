@@ -1,0 +1,67 @@
+-- One line of a file: twelve digits, and the six bytes that they stand for.
+use Prim.Native.Nat.{ℕ, _+_, _*_, min}
+use mathlib.Core.Bool.{Bool, true, cond, _&&_}
+use mathlib.Core.List.{List, [], _∷_}
+use lib.Dec.{ltb, eqb}
+use lib.ListN.{length, getD, take, drop}
+use Rattle.treefile.specs.Digit.{noDigit, digitOf}
+use Rattle.treefile.specs.declared.Frame.{Frame}
+use Rattle.treefile.specs.declared.Line.{Line}
+use Rattle.treefile.specs.declared.Line.the-variants.{Read, NoLine}
+
+-- the digits of a line, and the byte that closes it
+abbrev pub lineDigits : ℕ
+lineDigits = 12
+
+abbrev pub lineFeed : ℕ
+lineFeed = 10
+
+unfoldable pub allDigits : List ℕ → Bool
+allDigits [] = true
+allDigits (b ∷ l) = ltb (digitOf b) noDigit && allDigits l
+
+-- is a line, without its line feed, as 01 says
+unfoldable pub isLine : List ℕ → Bool
+isLine l = eqb (length l) lineDigits && allDigits l
+
+-- the byte of two digits, the high one first
+abbrev pub hexByte : ℕ → ℕ → ℕ
+hexByte h l = 16 * digitOf h + digitOf l
+
+-- the bytes of a line, one for each two digits
+unfoldable pub bytesOf : List ℕ → List ℕ
+bytesOf [] = []
+bytesOf (h ∷ []) = []
+bytesOf (h ∷ l ∷ ds) = hexByte h l ∷ bytesOf ds
+
+-- six bytes as a frame
+abbrev pub frameOf : List ℕ → Frame
+frameOf bs =
+    record {
+      byte0 = getD bs 0 0;
+      byte1 = getD bs 1 0;
+      byte2 = getD bs 2 0;
+      byte3 = getD bs 3 0;
+      byte4 = getD bs 4 0;
+      byte5 = getD bs 5 0;
+    }
+
+-- the bytes of a frame
+abbrev pub frameBytes : Frame → List ℕ
+frameBytes x = x .byte0 ∷ x .byte1 ∷ x .byte2 ∷ x .byte3 ∷ x .byte4 ∷ x .byte5 ∷ []
+
+-- after the digits comes the end of the file or a line feed
+abbrev pub closed : List ℕ → Bool
+closed [] = true
+closed (b ∷ bs) = eqb b lineFeed
+
+-- do twelve digits stand at a position, and then a line feed or the end of the file
+unfoldable pub isLineAt : List ℕ → ℕ → Bool
+isLineAt f at = isLine (take lineDigits (drop at f)) && closed (drop (at + lineDigits) f)
+
+-- reading one line at a position: its frame and the position past it, or no line and the position as it is
+unfoldable pub lineAt : List ℕ → ℕ → Line
+lineAt f at =
+    cond (isLineAt f at)
+    (Read (frameOf (bytesOf (take lineDigits (drop at f)))) (record { at = min (at + lineDigits + 1) (length f) }))
+    (NoLine (record { at = at }))
