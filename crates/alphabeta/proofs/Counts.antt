@@ -1,10 +1,10 @@
--- The count of evaluated leaves fits: no more leaves are evaluated than a tree has nodes, and the tree at each node of a
--- table has no more nodes than the table.
+-- The count of evaluated leaves fits: no more leaves are evaluated than a tree has nodes, and the tree at each node of
+-- a table has no more nodes than the table.
 use Prim.Native.Nat.{ℕ, zero, suc, _+_, _-_, _≤_, _<_}
 use native.Mathlib.Omega.{arith}
 use native.Mathlib.Decide.{decLe}
 use native.Mathlib.Nat.{add-le-add}
-use mathlib.Core.Path.{_≡_, refl}
+use mathlib.Core.Path.{_≡_}
 use mathlib.Core.Bool.{Bool, true, false}
 use mathlib.Core.List.{List}
 use lib.Dec.{ltb}
@@ -13,7 +13,7 @@ use Rattle.gametree.specs.declared.Side.{Side}
 use Rattle.gametree.specs.Tree.{Tree, leaf, inner, Kids, last, _then_, size, sizeKids}
 use Rattle.gametree.specs.AlphaBeta.{raise, lower, Found, onward, alphaBeta, alphaBetaKids}
 use Rattle.frames.specs.Frame.{frames, firstChild, childCount}
-use Rattle.frames.specs.Tree.{kidsFrom, treeAt, tree}
+use Rattle.frames.specs.Tree.{kidsFrom, treeAt}
 use Rattle.frames.specs.Formed.{WellFormed, ChildOf}
 use Rattle.frames.proofs.Parents.{top-down}
 use Rattle.frames.proofs.Trees.{zero-or-suc, tree-inner}

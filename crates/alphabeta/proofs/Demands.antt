@@ -1,18 +1,17 @@
 -- The user's demands, for alpha-beta: what holds of a call from its contract alone, `alphaBetaOutcome`.
 use Prim.Native.Nat.{ℕ, _≤_, _<_}
 use native.Mathlib.Omega.{arith}
-use mathlib.Core.Path.{_≡_, refl, sym, ap, ap₂, _∙_, subst}
+use mathlib.Core.Path.{_≡_, refl, sym, ap, _∙_, subst}
 use mathlib.Core.Bool.{Bool}
 use mathlib.Core.Option.{Option, none, some}
 use mathlib.Core.List.{List, [], _∷_}
-use lib.ListN.{length, getD, take}
+use lib.ListN.{length, getD}
 use Rattle.gametree.specs.Lists.{All, Once, Subsequence, among}
-use Rattle.gametree.specs.Tree.{least, greatest, minimax, leaves}
+use Rattle.gametree.specs.Tree.{minimax, leaves}
 use Rattle.gametree.specs.Move.{rootMove}
 use Rattle.gametree.specs.Certificate.{Smallest, pairLeaves}
 use Rattle.gametree.specs.AlphaBeta.{fullWindow}
-use Rattle.gametree.specs.Searches.{Searched, byAlphaBeta}
-use Rattle.gametree.proofs.Theorems.{alphaBeta-window, alphaBeta-ordered, search-once, search-smallest, local-alphaBeta}
+use Rattle.gametree.proofs.Theorems.{alphaBeta-ordered, search-once, search-smallest, local-alphaBeta}
 use Rattle.frames.specs.declared.Rejection.{Rejection}
 use Rattle.frames.specs.Frame.{frames}
 use Rattle.frames.specs.Tree.{tree, valuation}
@@ -22,25 +21,19 @@ use Rattle.frames.specs.Shape.{SameShape, AgreeOn}
 use Rattle.frames.proofs.Acceptance.{accepted-formed}
 use Rattle.frames.proofs.Proper.{tree-proper}
 use Rattle.frames.proofs.Shapes.{same-tree}
-use Rattle.certificate.specs.Buffer.{mark}
+use Rattle.certificate.specs.Buffer.{mark, ones}
 use Rattle.certificate.proofs.Buffers.{written-at}
+use Rattle.certificate.proofs.Marks.{ones-searched}
 use Rattle.certificate.specs.Value.{valueOf}
-use Rattle.certificate.specs.Search.{Outcome, outcome, searchRejection}
+use Rattle.certificate.specs.Search.{outcome, searchRejection}
 use Rattle.alphabeta.specs.declared.Found.{Found}
-use Rattle.alphabeta.specs.declared.Answer.{Answer}
 use Rattle.alphabeta.specs.declared.Answer.the-variants.{Found as FoundAnswer, Rejected}
 use Rattle.alphabeta.specs.Outcome.{reachedLeaves, findings, alphaBetaOutcome}
-use Rattle.alphabeta.specs.Handed.{ones, CertifiedBy, Alike}
+use Rattle.alphabeta.specs.Handed.{marksOf, flagsOf, CertifiedBy, Alike}
+use Rattle.alphabeta.proofs.Reached.{reached-is, searched}
 use Rattle.alphabeta.proofs.Questions.{passed-room, room-passed}
-use Rattle.alphabeta.proofs.Handed.{marksOf, flagsOf, count-marks, flags-certify, agreed-scores, same-value}
+use Rattle.alphabeta.proofs.Handed.{flags-certify, agreed-scores, same-value}
 use Rattle.alphabeta.proofs.Handed.{same-move, same-marks, same-flags}
-
--- the leaves of Baudet's condition are those that alpha-beta evaluates, in its order
-reached-is : (t : List ℕ) → fullWindow (valuation t) (tree t) .evaluated ≡ reachedLeaves t
-reached-is t = alphaBeta-window (valuation t) least greatest (omega arith) (tree t) .1
-
-pub searched : (t : List ℕ) → Searched (valuation t) (tree t) (reachedLeaves t)
-searched t = subst (Searched (valuation t) (tree t)) (reached-is t) byAlphaBeta
 
 -- a call with the table t and the buffers e and c finds r, and leaves e′ and c′ in its buffers
 abbrev pub Finds : (t e c : List ℕ) → Found → (e′ c′ : List ℕ) → Type 0
@@ -117,10 +110,10 @@ module _ (t e c : List ℕ) (r : Found) (e′ c′ : List ℕ) (o : Finds t e c 
   once = search-once (valuation t) (tree t) (tree-proper t formed) (searched t)
 
   -- so the count is the number of marks at 1
-  pub count : (r .leaves ≡ length (reachedLeaves t)) × (r .leaves ≡ ones (take (frames t) e′))
+  pub count : (r .leaves ≡ length (reachedLeaves t)) × (r .leaves ≡ ones e′ (frames t))
   count =
       let n = ap (λ x. x .leaves) (parts .found) in
-      (n, n ∙ count-marks t formed (searched t) e ∙ ap (λ x. ones (take (frames t) x)) (sym (parts .marks)))
+      (n, n ∙ sym (ap (λ x. ones x (frames t)) (parts .marks) ∙ ones-searched t formed (searched t) e))
 
   -- the leaves are evaluated from left to right
   pub ordered : Subsequence (reachedLeaves t) (leaves (tree t))
@@ -131,8 +124,8 @@ module _ (t e c : List ℕ) (r : Found) (e′ c′ : List ℕ) (o : Finds t e c 
   smallest g h m =
       rw (count .0) (search-smallest (valuation t) (tree t) (tree-proper t formed) g h m (searched t))
 
--- locality: two tables of one shape that agree on the leaves marked 1 in one of them get the same findings, with the same
--- marks and the same flags
+-- locality: two tables of one shape that agree on the leaves marked 1 in one of them get the same findings, with the
+-- same marks and the same flags
 module _ (t e c : List ℕ) (r : Found) (e′ c′ : List ℕ) (o : Finds t e c r e′ c′)
     (u d b : List ℕ) (q : Found) (d′ b′ : List ℕ) (p : Finds u d b q d′ b′)
     (h : SameShape t u) (a : (k : ℕ) → k < frames t → getD e′ k 0 ≡ 1 → AgreeOn t u k) where

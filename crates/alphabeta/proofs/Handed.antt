@@ -1,105 +1,46 @@
 -- What any of the searches hands back over a byte table: the theory's theorems, carried to the bytes of the buffers.
-use Prim.Native.Nat.{ℕ, zero, suc, _+_, _≤_, _<_}
-use native.Mathlib.Omega.{arith}
-use mathlib.Core.Path.{_≡_, refl, sym, ap, ap₂, _∙_, subst}
-use mathlib.Core.Bool.{Bool, true, false, cond}
-use mathlib.Core.List.{List, [], _∷_, _++_}
-use lib.Dec.{eqb}
-use lib.ListN.{length, getD, take, drop}
+use Prim.Native.Nat.{ℕ, _<_}
+use mathlib.Core.Path.{_≡_, sym, ap, ap₂, _∙_, subst}
+use mathlib.Core.Bool.{true, cond}
+use mathlib.Core.List.{List}
+use lib.ListN.{getD, take, drop}
 use lib.Seq.{take-at}
 use Rattle.gametree.specs.declared.Side.{Side}
 use Rattle.gametree.specs.declared.Side.the-variants.{Max, Min}
 use Rattle.gametree.specs.Lists.{All, among}
-use Rattle.gametree.specs.Tree.{Tree, leaf, inner, Kids, last, _then_, least, greatest, minimax, leaves, leavesKids, leafCount}
-use Rattle.gametree.specs.Tree.{In, EveryLeaf, EveryLeafKids, Proper}
+use Rattle.gametree.specs.Tree.{minimax}
+use Rattle.gametree.specs.Tree.{Proper}
 use Rattle.gametree.specs.Bounds.{known}
-use Rattle.gametree.specs.Certificate.{inside, flag, solutionOf, fill, ReadOff}
+use Rattle.gametree.specs.Certificate.{inside, flag, fill, ReadOff}
 use Rattle.gametree.specs.Move.{rootMove}
 use Rattle.gametree.specs.Searches.{Searched, SameResults}
-use Rattle.gametree.proofs.Choice.{is-false}
-use Rattle.gametree.proofs.Lists.{all-append, all-map, all-among, all-at, all-zip}
+use Rattle.gametree.proofs.Lists.{all-among, all-at, all-zip}
 use Rattle.gametree.proofs.Bounds.{every-map}
 use Rattle.gametree.proofs.ReadOff.{fits}
 use Rattle.gametree.proofs.Certificates.{flag-inside, read-max, read-min}
-use Rattle.gametree.proofs.Theorems.{search-decides, search-leaves, search-count, local-results}
-use Rattle.frames.specs.Frame.{frames, childCount}
+use Rattle.gametree.proofs.Theorems.{search-decides, local-results}
+use Rattle.frames.specs.Frame.{frames}
 use Rattle.frames.specs.Tree.{tree, valuation}
 use Rattle.frames.specs.Formed.{WellFormed}
 use Rattle.frames.specs.Shape.{SameShape, AgreeOn}
 use Rattle.frames.proofs.Nodes.{tree-range}
-use Rattle.frames.proofs.Proper.{every-leaf, tree-proper}
-use Rattle.frames.proofs.Totals.{sumTo, atNode, sum-same, tree-leaf-count}
+use Rattle.frames.proofs.Proper.{tree-proper}
 use Rattle.frames.proofs.Shapes.{same-score, same-tree}
 use Rattle.certificate.specs.Buffer.{tabulate, written, mark, marked}
 use Rattle.certificate.proofs.Buffers.{length-tabulate, tabulate-same, written-at}
-use Rattle.alphabeta.specs.Handed.{ones, flagged, CertifiedBy, Alike}
-
--- the marks and the flags that a search of the table t leaves in the buffers e and c, where it evaluates the leaves w
-abbrev pub marksOf : (w t e : List ℕ) → List ℕ
-marksOf w t e = written (mark (among w)) (frames t) e
-
-abbrev pub flagsOf : (w t c : List ℕ) → List ℕ
-flagsOf w t c = written (flag (valuation t) (among w) (tree t)) (frames t) c
-
--- what holds of each leaf of a tree holds of each of the list of its leaves
-mutual
-  every-all : (P : ℕ → Type 0) (t : Tree) → EveryLeaf P t → All P (leaves t)
-  every-all P (leaf n) h = (h, tt)
-  every-all P (inner n s ks) h = everyKids-all P ks h
-
-  everyKids-all : (P : ℕ → Type 0) (ks : Kids) → EveryLeafKids P ks → All P (leavesKids ks)
-  everyKids-all P (last t) h = every-all P t h
-  everyKids-all P (t then ts) h =
-      all-append P (leaves t) (leavesKids ts) (every-all P t (h .0)) (everyKids-all P ts (h .1))
+use Rattle.certificate.proofs.Marks.{marked-written, searched-within}
+use Rattle.alphabeta.specs.Handed.{marksOf, flagsOf, flagged, CertifiedBy, Alike}
 
 -- the first n entries of a buffer that was written for n nodes
 pub take-written : (f : ℕ → ℕ) (n : ℕ) (b : List ℕ) → take n (written f n b) ≡ tabulate f n
 unfolding written
 take-written f n b = take-at (tabulate f n) (drop n b) n (length-tabulate f n)
 
-ones-append : (a b : List ℕ) → ones (a ++ b) ≡ ones a + ones b
-ones-append [] b = omega arith
-ones-append (x ∷ a) b = omega (arith, ones-append a b)
-
-mark-one : (b : Bool) → cond (eqb (cond b 1 0) 1) 1 0 + 0 ≡ cond b 1 0
-mark-one true = refl
-mark-one false = refl
-
-ones-marks : (E : ℕ → Bool) (n : ℕ) → ones (tabulate (mark E) n) ≡ sumTo (λ k. cond (E k) 1 0) n
-unfolding tabulate sumTo
-ones-marks E zero = refl
-ones-marks E (suc n) = ones-append (tabulate (mark E) n) _ ∙ ap₂ _+_ (ones-marks E n) (mark-one (E n))
-
-leaf-mark : (E : ℕ → Bool) (n i : ℕ) → (0 < n → E i ≡ false)
-    → atNode (λ k. cond (E k) 1 0) (λ _. 0) n i ≡ cond (E i) 1 0
-leaf-mark E zero i h = refl
-leaf-mark E (suc n) i h = rw (h (omega arith)) refl
-
 module _ (t : List ℕ) (wf : WellFormed t) {w : List ℕ} (s : Searched (valuation t) (tree t) w) where
-  -- the evaluated leaves are nodes of the table without children
-  pub evaluated-leaves : All (λ k. (k < frames t) × (childCount t k ≡ 0)) w
-  evaluated-leaves =
-      let P : ℕ → Type 0 = λ k. (k < frames t) × (childCount t k ≡ 0) in
-      let a = every-all P (tree t) (every-leaf t wf P (λ i h e. (h, e)) 0 (wf .some)) in
-      all-map (λ k. among (leaves (tree t)) k ≡ true) P (λ k e. all-at P (leaves (tree t)) a k e) w
-      (search-leaves (valuation t) (tree t) (tree-proper t wf) s)
-
-  evaluated-leaf : (k : ℕ) → among w k ≡ true → (k < frames t) × (childCount t k ≡ 0)
-  evaluated-leaf k e = all-at (λ k. (k < frames t) × (childCount t k ≡ 0)) w evaluated-leaves k e
-
-  -- the count is the number of marks at 1
-  pub count-marks : (e : List ℕ) → length w ≡ ones (take (frames t) (marksOf w t e))
-  count-marks e =
-      sym (search-count (valuation t) (tree t) (tree-proper t wf) s)
-      ∙ tree-leaf-count t wf (among w)
-      ∙ sum-same _ (λ k. cond (among w k) 1 0) (frames t) (λ k h.
-      leaf-mark (among w) (childCount t k) k (λ n. is-false (among w k) (λ e. omega (arith, evaluated-leaf k e .1))))
-      ∙ sym (ones-marks (among w) (frames t))
-      ∙ sym (ap ones (take-written (mark (among w)) (frames t) e))
-
   -- an evaluated leaf is marked
   marked-leaf : (e : List ℕ) (k : ℕ) → among w k ≡ true → marked (marksOf w t e) k ≡ true
-  marked-leaf e k h = rw (written-at (mark (among w)) (frames t) k e (evaluated-leaf k h .0), h) refl
+  marked-leaf e k h =
+      marked-written (among w) (frames t) e k (all-at (λ k. k < frames t) w (searched-within t wf s) k h) ∙ h
 
   reads : (p : Side) (c : List ℕ)
       → ReadOff p (known (valuation t) (among w) (fill p)) (flagged p (flagsOf w t c)) true (tree t)
@@ -129,8 +70,8 @@ module _ (t u : List ℕ) (wt : WellFormed t) (wu : WellFormed u) (h : SameShape
   pub agreed-scores : All (λ k. valuation t k ≡ valuation u k) w
   agreed-scores =
       all-zip _ _ _ (λ k l m.
-      same-score t u h k (l .0) (a k (l .0) (written-at (mark (among w)) (frames t) k e (l .0) ∙ ap (λ b. cond b 1 0) m)))
-      w (evaluated-leaves t wt s) (all-among w)
+      same-score t u h k l (a k l (written-at (mark (among w)) (frames t) k e l ∙ ap (λ b. cond b 1 0) m)))
+      w (searched-within t wt s) (all-among w)
 
   agreed : SameResults (valuation t) (valuation u) (tree t) w
   agreed =
@@ -156,4 +97,5 @@ module _ (t u : List ℕ) (wt : WellFormed t) (wu : WellFormed u) (h : SameShape
         let f : (k : ℕ) → flag (valuation t) (among w) (tree t) k ≡ flag (valuation u) (among v) (tree u) k =
         (λ k. agreed .sameFlags k ∙ ap₂ (λ x y. flag (valuation u) (among x) y k) q (same-tree t u h wt wu)) in
         take-written _ (frames t) c ∙ tabulate-same _ _ (frames t) (λ k l. f k)
-        ∙ sym (ap (λ n. take n (flagsOf v u c′)) (h .sameFrames) ∙ take-written _ (frames u) c′ ∙ ap (tabulate _) (sym (h .sameFrames)))
+        ∙ sym (ap (λ n. take n (flagsOf v u c′)) (h .sameFrames) ∙ take-written _ (frames u) c′
+        ∙ ap (tabulate _) (sym (h .sameFrames)))

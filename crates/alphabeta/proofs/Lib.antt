@@ -2,6 +2,10 @@
 pub mod Pass
 pub mod Visits
 pub mod Counts
+-- The whole search: its leaves, its questions, and its steps.
+pub mod Reached
 pub mod Questions
 pub mod Handed
+pub mod Whole
+-- What holds of its results.
 pub mod Demands

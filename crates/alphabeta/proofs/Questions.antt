@@ -1,8 +1,8 @@
 -- Questions 1 to 10, for two buffers: they pass exactly if the table is accepted and each buffer has an entry per node.
 use Prim.Native.Nat.{ℕ, _≤_, _<_}
-use mathlib.Core.Path.{_≡_, refl, sym, _∙_}
-use mathlib.Core.Bool.{Bool, true, false, _&&_}
-use mathlib.Core.Option.{Option, none, some}
+use mathlib.Core.Path.{_≡_}
+use mathlib.Core.Bool.{true, _&&_}
+use mathlib.Core.Option.{none}
 use mathlib.Core.List.{List, [], _∷_}
 use lib.Dec.{leb}
 use borrow.Author.Tests.{le-leb, lt-leb, leb-true}
@@ -11,11 +11,12 @@ use Rattle.frames.specs.declared.Rejection.{Rejection}
 use Rattle.frames.specs.declared.Checked.{Checked}
 use Rattle.frames.specs.declared.Checked.the-variants.{Nodes, Rejected}
 use Rattle.frames.specs.Frame.{frames}
+use Rattle.frames.specs.Formed.{WellFormed}
 use Rattle.frames.specs.Rejection.{answer}
 use Rattle.frames.specs.Check.{rejection, Accepted, checked}
 use Rattle.frames.proofs.Stated.{ask-yes, both-passed}
-use Rattle.frames.proofs.Asked.{refused, answer-rejected}
-use Rattle.frames.proofs.Acceptance.{nodes-accepted}
+use Rattle.frames.proofs.Asked.{refused, answer-nodes, answer-rejected}
+use Rattle.frames.proofs.Acceptance.{accepted-formed, nodes-accepted}
 use Rattle.certificate.specs.Search.{check10, searchRejection}
 
 module _ (t : List ℕ) (a b : ℕ) where
@@ -33,6 +34,12 @@ module _ (t : List ℕ) (a b : ℕ) where
   -- what the questions answer
   abbrev pub asked : Checked
   asked = answer (frames t) (searchRejection t (a ∷ b ∷ []))
+
+  -- with nodes for an answer the search may be run
+  pub nodes-roomy : (n : ℕ) → Nodes n ≡ asked → WellFormed t × ((frames t ≤ a) × (frames t ≤ b))
+  nodes-roomy n e =
+      let p = passed-room (answer-nodes (frames t) n (searchRejection t (a ∷ b ∷ [])) e .0) in
+      (accepted-formed t (p .0), (p .1, p .2))
 
   -- a rejection of the table is the first
   pub table-refused : (r : Rejection) → Rejected r ≡ checked t → Rejected r ≡ asked

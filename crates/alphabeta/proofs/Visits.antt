@@ -15,7 +15,6 @@ use Rattle.frames.proofs.Next.{child-within}
 use Rattle.frames.proofs.Places.{depth-at-most, place-child}
 use Rattle.frames.proofs.Trees.{tree-leaf, tree-inner}
 use Rattle.certificate.specs.Buffer.{markAll}
-use Rattle.alphabeta.specs.declared.Visited.{Visited}
 use Rattle.alphabeta.specs.Engine.{Ready}
 use Rattle.alphabeta.proofs.Pass.{Gives, Owes, owes-all, rest}
 

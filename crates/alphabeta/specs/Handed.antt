@@ -1,21 +1,24 @@
 -- What is said of the bytes that a search hands back in its buffers.
-use Prim.Native.Nat.{ℕ, _+_}
+use Prim.Native.Nat.{ℕ}
 use mathlib.Core.Path.{_≡_}
-use mathlib.Core.Bool.{Bool, cond}
-use mathlib.Core.List.{List, [], _∷_}
-use lib.Dec.{eqb}
+use mathlib.Core.Bool.{Bool}
+use mathlib.Core.List.{List}
 use lib.ListN.{getD, take}
 use Rattle.gametree.specs.declared.Side.{Side}
 use Rattle.gametree.specs.declared.Side.the-variants.{Max, Min}
 use Rattle.gametree.specs.Tree.{minimax}
-use Rattle.gametree.specs.Certificate.{inside, Certifies, LeavesIn}
+use Rattle.gametree.specs.Lists.{among}
+use Rattle.gametree.specs.Certificate.{inside, flag, Certifies, LeavesIn}
+use Rattle.frames.specs.Frame.{frames}
 use Rattle.frames.specs.Tree.{tree, valuation}
-use Rattle.certificate.specs.Buffer.{marked}
+use Rattle.certificate.specs.Buffer.{written, mark, marked}
 
--- how many bytes are 1
-abbrev pub ones : List ℕ → ℕ
-ones [] = 0
-ones (b ∷ bs) = cond (eqb b 1) 1 0 + ones bs
+-- the marks and the flags that a search of the table t writes over the buffers e and c, where it evaluates the leaves w
+abbrev pub marksOf : (w t e : List ℕ) → List ℕ
+marksOf w t e = written (mark (among w)) (frames t) e
+
+abbrev pub flagsOf : (w t c : List ℕ) → List ℕ
+flagsOf w t c = written (flag (valuation t) (among w) (tree t)) (frames t) c
 
 -- the nodes that the flags of a certificate put into a side's solution tree
 abbrev pub flagged : Side → List ℕ → ℕ → Bool

@@ -1,23 +1,33 @@
 // Alpha-beta over a byte table: the public search, and its recursive engine.
+use certificate::clear;
+use certificate::conclude;
 use certificate::evaluate;
+use certificate::value;
 use frames::Checked;
+use frames::GREATEST;
+use frames::LEAST;
 use frames::Rejection;
 use frames::check;
 use frames::child_count;
 use frames::child_place;
 use frames::first_child;
+use frames::frame_count;
 use frames::rejected;
 use gametree::Place;
 use gametree::Side;
 ghost use mathlib.Core.Path.{_≡_};
 ghost use mathlib.Core.List.{[], _∷_};
-ghost use Prim.Native.Nat.{max, min};
+ghost use Prim.Native.Nat.{_≤_, max, min};
+ghost use lib.ListN.{length};
 ghost use Rattle.gametree.specs.AlphaBeta.{raise, lower, clamp, alphaBeta};
 ghost use Rattle.frames.specs.Frame.{frames};
+ghost use Rattle.frames.specs.Formed.{WellFormed};
 ghost use Rattle.frames.specs.Rejection.{answer};
 ghost use Rattle.frames.specs.Tree.{treeAt, valuation};
 ghost use Rattle.certificate.specs.Buffer.{markAll};
 ghost use Rattle.certificate.specs.Search.{searchRejection};
+ghost use Rattle.alphabeta.specs.Outcome.{reachedLeaves, findings, alphaBetaOutcome};
+ghost use Rattle.alphabeta.specs.Handed.{marksOf, flagsOf};
 ghost use Rattle.alphabeta.specs.Engine.{Ready, visitedOf};
 
 // What a search finds: the minimax value, the first root move that reaches it (0 for a leaf), and how many leaves were evaluated.
@@ -31,6 +41,41 @@ pub struct Found {
 pub enum Answer {
     Found(Found),
     Rejected(Rejection),
+}
+
+// Alpha-beta of the whole tree: questions 1 to 10, then the value, the root move and the count of evaluated leaves; the marks of these leaves and the
+// certificate (01: the proof) go into the buffers.
+pub fn search(table: &[u8], evaluated: &mut [u8], certificate: &mut [u8]) -> Answer
+    ensures { λ r. ⌜ record { answer = r; evaluated = now (evaluated .exit); certificate = now (certificate .exit) }
+        ≡ alphaBetaOutcome (now (table .entry)) (now (evaluated .entry)) (now (certificate .entry)) ⌝ }
+{
+    match ask(table, evaluated.len(), certificate.len()) {
+        Checked::Nodes(_) => Answer::Found(run(table, evaluated, certificate)),
+        Checked::Rejected(rejection) => Answer::Rejected(rejection),
+    }
+}
+
+// The search of an accepted table, into buffers with an entry per node.
+fn run(table: &[u8], evaluated: &mut [u8], certificate: &mut [u8]) -> Found
+    requires { ⌜ WellFormed (now table) ⌝ }
+    requires { ⌜ (frames (now table) ≤ length (now evaluated)) × (frames (now table) ≤ length (now certificate)) ⌝ }
+    ensures { λ r. ⌜ r ≡ findings (now (table .entry)) ⌝ }
+    ensures { λ _. ⌜ now (evaluated .exit) ≡ marksOf (reachedLeaves (now (table .entry))) (now (table .entry)) (now (evaluated .entry)) ⌝ }
+    ensures { λ _. ⌜ now (certificate .exit) ≡ flagsOf (reachedLeaves (now (table .entry))) (now (table .entry)) (now (certificate .entry)) ⌝ }
+{
+    clear(evaluated, frame_count(table));
+    let root = Place {
+        depth: 0,
+        side: Side::Max,
+    };
+    let visited = alpha_beta(table, evaluated, 0, root, LEAST, GREATEST);
+    let root_move = conclude(table, evaluated, certificate);
+    let value = value(visited.score);
+    Found {
+        value,
+        root_move,
+        leaves: visited.leaves,
+    }
 }
 
 // The number of 01's question about the buffers.
@@ -65,12 +110,13 @@ fn alpha_beta(
     evaluated: &mut [u8],
     node: usize,
     place: Place,
-    alpha: u32,
-    beta: u32,
+    mut alpha: u32,
+    mut beta: u32,
 ) -> Visited
     requires { ⌜ Ready (now table) (now evaluated) node place ⌝ }
     ensures { λ r. ⌜ r ≡ visitedOf (alphaBeta (valuation (now (table .entry))) alpha beta (treeAt (now (table .entry)) node)) ⌝ }
-    ensures { λ r. ⌜ now (evaluated .exit) ≡ markAll (now (evaluated .entry)) (alphaBeta (valuation (now (table .entry))) alpha beta (treeAt (now (table .entry)) node) .evaluated) ⌝ }
+    ensures { λ _. ⌜ now (evaluated .exit)
+        ≡ markAll (now (evaluated .entry)) (alphaBeta (valuation (now (table .entry))) alpha beta (treeAt (now (table .entry)) node) .evaluated) ⌝ }
 {
     let count = child_count(table, node);
     if count == 0 {
@@ -79,8 +125,6 @@ fn alpha_beta(
         return Visited { score, leaves: 1 };
     }
     let side = place.side;
-    let mut a = alpha;
-    let mut b = beta;
     let mut leaves: usize = 0;
     let mut child = first_child(table, node);
     let last = child + (count - 1);
@@ -90,16 +134,16 @@ fn alpha_beta(
             evaluated,
             child,
             child_place(table, child, place),
-            a,
-            b,
+            alpha,
+            beta,
         );
         leaves += visited.leaves;
         if child == last {
             break visited.score;
         }
-        a = raised(side, a, visited.score);
-        b = lowered(side, b, visited.score);
-        if b <= a {
+        alpha = raised(side, alpha, visited.score);
+        beta = lowered(side, beta, visited.score);
+        if beta <= alpha {
             break visited.score;
         }
         child += 1;

@@ -1,5 +1,5 @@
--- `alphabeta::alpha_beta` meets its contract. The number of frames from the node on falls with each call; at the head of
--- the loop stands `Turn`: the children that are left complete what the node was to give.
+-- `alphabeta::alpha_beta` meets its contract. The number of frames from the node on falls with each call; at the head
+-- of the loop stands `Turn`: the children that are left complete what the node was to give.
 use Prim.Native.Nat.{ℕ, _-_, _<_}
 use native.Mathlib.Omega.{arith}
 use borrow.Author.Needs.{needs}
@@ -36,11 +36,11 @@ abbrev below : ℕ → In 2 own-kinds.ps
 below t = and 2 own-kinds.ps (falls 2 own-kinds.ps _<_ μ t) own.Pre
 
 abbrev Inv : lts.InvT-loop
-Inv table evaluated₀ node place alpha beta count side a₀ b₀ leaves₀ child₀ last evaluated a b leaves child =
-    Turn table node place alpha beta evaluated₀ child₀ last evaluated a b leaves child
+Inv table evaluated₀ node place alpha₀ beta₀ count side leaves₀ child₀ last evaluated alpha beta leaves child =
+    Turn table node place alpha₀ beta₀ evaluated₀ child₀ last evaluated alpha beta leaves child
 
 abbrev μ-loop : lts.MeasureT-loop
-μ-loop table evaluated₀ node place alpha beta count side a₀ b₀ leaves₀ child₀ last evaluated a b leaves child =
+μ-loop table evaluated₀ node place alpha₀ beta₀ count side leaves₀ child₀ last evaluated alpha beta leaves child =
     last - child
 
 abbrev calls : ℕ → lts.Claims
@@ -72,10 +72,10 @@ module _ (t : ℕ) where
   child-of : (l : lts.At-loop (calls t) (at t) own.Post Inv μ-loop)
       → ChildOf (start l .args .table .now) (start l .args .node) (l .loop .child)
   child-of l =
+      let f = l .before in
       record {
-        from = omega (arith, l .loop .inv .from, l .before .first-child .ensures);
-        to =
-            omega (arith, l .loop .inv .to, l .before .first-child .ensures, l .before .before .before .child-count .ensures);
+        from = omega (arith, l .loop .inv .from, f .first-child .ensures);
+        to = omega (arith, l .loop .inv .to, f .first-child .ensures, f .before .before .child-count .ensures);
       }
 
   child-count-requires : lts.Need-child-count-requires (calls t) (at t) own.Post Inv μ-loop
@@ -125,8 +125,8 @@ module _ (t : ℕ) where
 
   child-place-requires : lts.Need-child-place-requires (calls t) (at t) own.Post Inv μ-loop
   child-place-requires c κs =
-      let a = start (c .before) in
-      (child-within _ (a .pre .1 .formed) (a .pre .1 .inside) (child-of (c .before)), ready-depth _ _ _ _ (a .pre .1) .1)
+      let r = start (c .before) .pre .1 in
+      (child-within _ (r .formed) (r .inside) (child-of (c .before)), ready-depth _ _ _ _ r .1)
 
   alpha-beta-requires : lts.Need-alpha-beta-requires (calls t) (at t) own.Post Inv μ-loop
   alpha-beta-requires c κs =
@@ -172,7 +172,7 @@ module _ (t : ℕ) where
         kept = f .alpha-beta .kept .1 .0 ∙ l .loop .inv .kept;
         owes =
             pass-goes-on _ _ _ _ _ _ _ _ _ _ _ _ _ (l .loop .inv .owes) (f .alpha-beta .ensures) _ _ (omega arith)
-            (c .before .before .raised .ensures) (c .before .lowered .ensures) (c .if3 .left);
+            (c .before .before .raised .ensures) (c .before .lowered .ensures) (omega arith);
       }
 
   same-length-2 : lts.Need-same-length-2 (calls t) (at t) own.Post Inv μ-loop
@@ -192,7 +192,7 @@ module _ (t : ℕ) where
       let f = c .before .before .before .before .before .before .before in
       let l = f .before .before .before in
       pass-stops _ _ _ _ _ _ _ _ _ _ _ _ _ (l .loop .inv .owes) (f .alpha-beta .ensures) _ _ (omega arith)
-      (c .before .before .raised .ensures) (c .before .lowered .ensures) (c .if3 .taken)
+      (c .before .before .raised .ensures) (c .before .lowered .ensures) (omega arith)
 
 pub +alpha-beta-spec : {M : Type 1} → statement M
 +alpha-beta-spec = close μ λ t. lts.spec (calls t)

@@ -1,5 +1,5 @@
 -- `alphabeta::ask` meets its contract: one lemma for each of its four returns.
-use mathlib.Core.Path.{_≡_, sym, _∙_}
+use mathlib.Core.Path.{sym, _∙_}
 use Rattle.alphabeta.proofs.Questions.{table-refused, first-short, second-short, both-roomy}
 use borrow.Author.Needs.{needs}
 use Rattle.alphabeta.proofs.ask.Statement.{statement}
