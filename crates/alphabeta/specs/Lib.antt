@@ -1,0 +1,4 @@
+-- Definitions of the alpha-beta search over a table.
+pub mod Outcome
+pub mod Handed
+pub mod Engine
