@@ -1,0 +1,171 @@
+// MTD over a table of frames: passes with falling tests, each asking whether the root is below its test.
+use certificate::evaluate;
+use frames::child_count;
+use frames::child_place;
+use frames::first_child;
+use gametree::Place;
+use gametree::Side;
+ghost use mathlib.Core.Path.{_≡_};
+ghost use mathlib.Core.Bool.{true, cond, _||_};
+ghost use Prim.Native.Nat.{_+_, _-_, _<_, _≤_};
+ghost use lib.Dec.{eqb};
+ghost use lib.ListN.{length, getD, set};
+ghost use Rattle.gametree.specs.Tree.{better as betterOf};
+ghost use Rattle.gametree.specs.Mtd.{settles as settlesOf};
+ghost use Rattle.frames.specs.Frame.{maxNodes, frames, childCount};
+ghost use Rattle.frames.specs.Place.{depthOf};
+ghost use Rattle.frames.specs.Tree.{treeAt, valuation};
+ghost use Rattle.certificate.specs.Buffer.{marked};
+ghost use Rattle.mtd.specs.Memory.{memory, Room, Ready, Passed};
+ghost use Rattle.mtd.specs.Best.{bestFrom};
+
+// What a node that was tried gives: the answer, true where the node is not below the test, and how many leaves were evaluated.
+struct Tried {
+    answer: bool,
+    leaves: usize,
+}
+
+// The node is visited with this test: entered where neither its high nor an earlier pass decides, and a leaf is evaluated where it was not yet.
+fn visit(
+    table: &[u8],
+    evaluated: &mut [u8],
+    highs: &mut [u32],
+    found: &mut [u8],
+    node: usize,
+    place: Place,
+    test: u32,
+) -> Tried
+    requires { ⌜ Ready (now table) (memory (now evaluated) (now highs) (now found)) place node ⌝ }
+    ensures { λ r. ⌜ Passed (now (table .entry)) (treeAt (now (table .entry)) node) test (memory (now (evaluated .entry)) (now (highs .entry)) (now (found .entry))) (memory (now (evaluated .exit)) (now (highs .exit)) (now (found .exit))) r ⌝ }
+{
+    let count = child_count(table, node);
+    if count == 0 {
+        return visit_leaf(table, evaluated, highs, found, node, place, test);
+    }
+    if highs[node] < test {
+        return Tried {
+            answer: false,
+            leaves: 0,
+        };
+    }
+    if found[node] == 1 {
+        return Tried {
+            answer: true,
+            leaves: 0,
+        };
+    }
+    let side = place.side;
+    let first = first_child(table, node);
+    let end = first + count;
+    let mut child = first;
+    let mut leaves = 0;
+    let answer = loop {
+        let tried = visit(
+            table,
+            evaluated,
+            highs,
+            found,
+            child,
+            child_place(table, child, place),
+            test,
+        );
+        leaves += tried.leaves;
+        child += 1;
+        if last_tried(side, tried.answer, child, end) {
+            break tried.answer;
+        }
+    };
+    let high = best_from(highs, side, first, end);
+    highs[node] = high;
+    found[node] = flag(answer);
+    Tried { answer, leaves }
+}
+
+// Is no child tried after one with this answer: it settles its parent, or there is none.
+fn last_tried(side: Side, answer: bool, child: usize, end: usize) -> bool
+    ensures { λ r. ⌜ r ≡ eqb child end || settlesOf side answer ⌝ }
+{
+    if child == end {
+        true
+    } else {
+        settles(side, answer)
+    }
+}
+
+// Does a child's answer settle its parent: at Max the first one not below, at Min the first one below.
+fn settles(side: Side, answer: bool) -> bool
+    ensures { λ r. ⌜ r ≡ settlesOf side answer ⌝ }
+{
+    match side {
+        Side::Max => answer,
+        Side::Min => !answer,
+    }
+}
+
+// The best of the scores from first up to end, for the side that moves.
+fn best_from(scores: &[u32], side: Side, first: usize, end: usize) -> u32
+    requires { ⌜ (first < end) × (end ≤ length (now scores)) ⌝ }
+    ensures { λ r. ⌜ r ≡ bestFrom side (now (scores .entry)) first (end - (first + 1)) ⌝ }
+{
+    let mut at = end - 1;
+    let mut best = scores[at];
+    while first < at {
+        at -= 1;
+        best = better(side, scores[at], best);
+    }
+    best
+}
+
+// The better of two scores for the side that moves.
+fn better(side: Side, a: u32, b: u32) -> u32
+    ensures { λ r. ⌜ r ≡ betterOf side a b ⌝ }
+{
+    match side {
+        Side::Max => if a < b { b } else { a },
+        Side::Min => if a < b { a } else { b },
+    }
+}
+
+// A leaf is compared with the test.
+fn visit_leaf(
+    table: &[u8],
+    evaluated: &mut [u8],
+    highs: &mut [u32],
+    found: &mut [u8],
+    node: usize,
+    place: Place,
+    test: u32,
+) -> Tried
+    requires { ⌜ Ready (now table) (memory (now evaluated) (now highs) (now found)) place node ⌝ }
+    requires { ⌜ childCount (now table) node ≡ 0 ⌝ }
+    ensures { λ r. ⌜ Passed (now (table .entry)) (treeAt (now (table .entry)) node) test (memory (now (evaluated .entry)) (now (highs .entry)) (now (found .entry))) (memory (now (evaluated .exit)) (now (highs .exit)) (now (found .exit))) r ⌝ }
+{
+    let leaves = try_leaf(table, evaluated, highs, node, place.depth);
+    let answer = test <= highs[node];
+    found[node] = flag(answer);
+    Tried { answer, leaves }
+}
+
+// A leaf that is tried for the first time is evaluated, and its score is its high from then on; how many leaves were evaluated.
+fn try_leaf(table: &[u8], evaluated: &mut [u8], highs: &mut [u32], node: usize, depth: u32) -> usize
+    requires { ⌜ (node < frames (now table)) × (node < length (now evaluated)) × (node < length (now highs)) ⌝ }
+    requires { ⌜ (depth ≡ depthOf (now table) node) × (depth ≤ maxNodes) ⌝ }
+    requires { ⌜ (marked (now evaluated) node ≡ true → getD (now highs) node 0 ≡ valuation (now table) node) ⌝ }
+    ensures { λ r. ⌜ r ≡ cond (marked (now (evaluated .entry)) node) 0 1 ⌝ }
+    ensures { λ _. ⌜ now (evaluated .exit) ≡ set (now (evaluated .entry)) node 1 ⌝ }
+    ensures { λ _. ⌜ now (highs .exit) ≡ set (now (highs .entry)) node (valuation (now (table .entry)) node) ⌝ }
+{
+    if evaluated[node] == 1 {
+        return 0;
+    }
+    let score = evaluate(table, evaluated, node, depth);
+    highs[node] = score;
+    1
+}
+
+// The flag of a node with this answer.
+fn flag(answer: bool) -> u8
+    ensures { λ r. ⌜ r ≡ cond answer 1 0 ⌝ }
+{
+    if answer { 1 } else { 0 }
+}
