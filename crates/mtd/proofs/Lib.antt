@@ -3,3 +3,4 @@ pub mod Best
 pub mod Arrays
 pub mod Children
 pub mod Visits
+pub mod Runs

@@ -2,12 +2,13 @@
 -- to it.
 use Prim.Native.Nat.{ℕ, _≤_, _<_}
 use mathlib.Core.Path.{_≡_}
+use mathlib.Core.Bool.{false}
 use mathlib.Core.List.{List}
 use lib.ListN.{length, getD}
 use Rattle.gametree.specs.declared.Place.{Place}
-use Rattle.gametree.specs.Tree.{Tree, size, In}
+use Rattle.gametree.specs.Tree.{Tree, greatest, size, In}
 use Rattle.gametree.specs.Bounds.{high}
-use Rattle.gametree.specs.Mtd.{Memo, Pass, pass}
+use Rattle.gametree.specs.Mtd.{Memo, Pass, pass, Run}
 use Rattle.gametree.proofs.MemoArrays.{readMemo, Visited}
 use Rattle.frames.specs.Frame.{maxNodes, frames}
 use Rattle.frames.specs.Place.{placeOf}
@@ -15,6 +16,7 @@ use Rattle.frames.specs.Tree.{treeAt, valuation}
 use Rattle.frames.specs.Formed.{WellFormed}
 use Rattle.certificate.specs.Buffer.{marked, markAll}
 use Rattle.mtd.specs.declared.Tried.{Tried}
+use Rattle.mtd.specs.declared.Settled.{Settled}
 
 -- the marks of the evaluated leaves, the high of each node, and a 1 for each node that a pass found not below its test
 pub record Memory : Type 0 where
@@ -61,3 +63,15 @@ pub record Passed (t : List ℕ) (T : Tree) (γ : ℕ) (m m′ : Memory) (r : Tr
   pub memo : Visited (valuation t) γ T (marked (m .evaluated)) (marked (m .found)) (marked (m′ .evaluated)) (marked (m′ .found))
   pub right : HighsRight t m′ T
   pub others : (k : ℕ) → (In k T → ⊥) → getD (m′ .highs) k 0 ≡ getD (m .highs) k 0
+
+-- what the passes ask: nothing is evaluated, nothing was found, and every high is the greatest
+pub record Fresh (t : List ℕ) (m : Memory) : Type 0 where
+  pub formed : WellFormed t
+  pub room : Room (frames t) m
+  pub evaluated : (k : ℕ) → k < frames t → marked (m .evaluated) k ≡ false
+  pub found : (k : ℕ) → k < frames t → marked (m .found) k ≡ false
+  pub highs : (k : ℕ) → k < frames t → getD (m .highs) k 0 ≡ greatest
+
+-- what a run of passes gives, in numbers
+abbrev pub settledOf : {T : Tree} → Run T → Settled
+settledOf q = record { score = q .value; leaves = length (q .evaluated); passes = q .passes }

@@ -1,5 +1,6 @@
 // MTD over a table of frames: passes with falling tests, each asking whether the root is below its test.
 use certificate::evaluate;
+use frames::GREATEST;
 use frames::child_count;
 use frames::child_place;
 use frames::first_child;
@@ -11,13 +12,49 @@ ghost use Prim.Native.Nat.{_+_, _-_, _<_, _≤_};
 ghost use lib.Dec.{eqb};
 ghost use lib.ListN.{length, getD, set};
 ghost use Rattle.gametree.specs.Tree.{better as betterOf};
-ghost use Rattle.gametree.specs.Mtd.{settles as settlesOf};
+ghost use Rattle.gametree.specs.Mtd.{settles as settlesOf, mtd};
 ghost use Rattle.frames.specs.Frame.{maxNodes, frames, childCount};
 ghost use Rattle.frames.specs.Place.{depthOf};
-ghost use Rattle.frames.specs.Tree.{treeAt, valuation};
-ghost use Rattle.certificate.specs.Buffer.{marked};
-ghost use Rattle.mtd.specs.Memory.{memory, Room, Ready, Passed};
+ghost use Rattle.frames.specs.Tree.{treeAt, tree, valuation};
+ghost use Rattle.certificate.specs.Buffer.{marked, markAll};
+ghost use Rattle.mtd.specs.Memory.{memory, Fresh, Ready, Passed, settledOf};
 ghost use Rattle.mtd.specs.Best.{bestFrom};
+
+// What the passes end with: the test that the root is not below, how many leaves were evaluated, and how many passes were made.
+struct Settled {
+    score: u32,
+    leaves: usize,
+    passes: usize,
+}
+
+// Passes from the greatest test, each with the root's high for the next test, until the root is not below.
+fn run_passes(table: &[u8], evaluated: &mut [u8], highs: &mut [u32], found: &mut [u8]) -> Settled
+    requires { ⌜ Fresh (now table) (memory (now evaluated) (now highs) (now found)) ⌝ }
+    ensures { λ r. ⌜ r ≡ settledOf (mtd (valuation (now (table .entry))) (tree (now (table .entry)))) ⌝ }
+    ensures { λ _. ⌜ now (evaluated .exit) ≡ markAll (now (evaluated .entry)) (mtd (valuation (now (table .entry))) (tree (now (table .entry))) .evaluated) ⌝ }
+{
+    let root = Place {
+        depth: 0,
+        side: Side::Max,
+    };
+    let mut test = GREATEST;
+    let mut leaves = 0;
+    let mut passes = 0;
+    loop {
+        let tried = visit(table, evaluated, highs, found, 0, root, test);
+        leaves += tried.leaves;
+        passes += 1;
+        if tried.answer {
+            break;
+        }
+        test = highs[0];
+    }
+    Settled {
+        score: test,
+        leaves,
+        passes,
+    }
+}
 
 // What a node that was tried gives: the answer, true where the node is not below the test, and how many leaves were evaluated.
 struct Tried {
