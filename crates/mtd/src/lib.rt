@@ -1,24 +1,107 @@
-// MTD over a table of frames: passes with falling tests, each asking whether the root is below its test.
+// MTD over a byte table: the public search, and its engine of passes with falling tests, each asking whether the root is below its test.
+use certificate::better;
+use certificate::clear;
+use certificate::conclude;
 use certificate::evaluate;
+use certificate::value;
+use frames::Checked;
 use frames::GREATEST;
+use frames::MAX_NODES;
+use frames::Rejection;
+use frames::check;
 use frames::child_count;
 use frames::child_place;
 use frames::first_child;
+use frames::frame_count;
+use frames::rejected;
 use gametree::Place;
 use gametree::Side;
 ghost use mathlib.Core.Path.{_≡_};
 ghost use mathlib.Core.Bool.{true, cond, _||_};
+ghost use mathlib.Core.List.{[], _∷_};
 ghost use Prim.Native.Nat.{_+_, _-_, _<_, _≤_};
 ghost use lib.Dec.{eqb};
 ghost use lib.ListN.{length, getD, set};
-ghost use Rattle.gametree.specs.Tree.{better as betterOf};
 ghost use Rattle.gametree.specs.Mtd.{settles as settlesOf, mtd};
 ghost use Rattle.frames.specs.Frame.{maxNodes, frames, childCount};
 ghost use Rattle.frames.specs.Place.{depthOf};
 ghost use Rattle.frames.specs.Tree.{treeAt, tree, valuation};
+ghost use Rattle.frames.specs.Formed.{WellFormed};
+ghost use Rattle.frames.specs.Rejection.{answer as answerOf};
 ghost use Rattle.certificate.specs.Buffer.{marked, markAll};
+ghost use Rattle.certificate.specs.Search.{searchRejection};
+ghost use Rattle.mtd.specs.Outcome.{mtdLeaves, findings, mtdOutcome};
+ghost use Rattle.mtd.specs.Handed.{marksOf, flagsOf};
 ghost use Rattle.mtd.specs.Memory.{memory, Fresh, Ready, Passed, settledOf};
 ghost use Rattle.mtd.specs.Best.{bestFrom};
+
+// What a search finds: the minimax value, the first root move that reaches it (0 for a leaf), how many leaves were evaluated, and how many passes were
+// made.
+pub struct Found {
+    pub value: i16,
+    pub root_move: usize,
+    pub leaves: usize,
+    pub passes: usize,
+}
+
+// The answer of a call: what was found, or the first question that got a "no".
+pub enum Answer {
+    Found(Found),
+    Rejected(Rejection),
+}
+
+// MTD of the whole tree: questions 1 to 10, then the value, the root move and the counts of evaluated leaves and of passes; the marks of these leaves
+// and the certificate (01: the proof) go into the buffers.
+pub fn search(table: &[u8], evaluated: &mut [u8], certificate: &mut [u8]) -> Answer
+    ensures { λ r. ⌜ record { answer = r; evaluated = now (evaluated .exit); certificate = now (certificate .exit) } ≡ mtdOutcome (now (table .entry)) (now (evaluated .entry)) (now (certificate .entry)) ⌝ }
+{
+    match ask(table, evaluated.len(), certificate.len()) {
+        Checked::Nodes(_) => Answer::Found(run(table, evaluated, certificate)),
+        Checked::Rejected(rejection) => Answer::Rejected(rejection),
+    }
+}
+
+// The number of 01's question about the buffers.
+const SHORT_BUFFER: u8 = 10;
+
+// Questions 1 to 10, for buffers of these lengths: the number of nodes, or the first rejection.
+fn ask(table: &[u8], evaluated: usize, certificate: usize) -> Checked
+    ensures { λ r. ⌜ r ≡ answerOf (frames (now (table .entry))) (searchRejection (now (table .entry)) (evaluated ∷ certificate ∷ [])) ⌝ }
+{
+    let checked = check(table);
+    let Checked::Nodes(n) = checked else {
+        return checked;
+    };
+    if evaluated < n {
+        return rejected(SHORT_BUFFER, 0);
+    }
+    if certificate < n {
+        return rejected(SHORT_BUFFER, 0);
+    }
+    checked
+}
+
+// The search of an accepted table, into buffers with an entry per node.
+fn run(table: &[u8], evaluated: &mut [u8], certificate: &mut [u8]) -> Found
+    requires { ⌜ WellFormed (now table) ⌝ }
+    requires { ⌜ (frames (now table) ≤ length (now evaluated)) × (frames (now table) ≤ length (now certificate)) ⌝ }
+    ensures { λ r. ⌜ r ≡ findings (now (table .entry)) ⌝ }
+    ensures { λ _. ⌜ now (evaluated .exit) ≡ marksOf (mtdLeaves (now (table .entry))) (now (table .entry)) (now (evaluated .entry)) ⌝ }
+    ensures { λ _. ⌜ now (certificate .exit) ≡ flagsOf (mtdLeaves (now (table .entry))) (now (table .entry)) (now (certificate .entry)) ⌝ }
+{
+    clear(evaluated, frame_count(table));
+    let mut highs = [GREATEST; MAX_NODES];
+    let mut found = [0u8; MAX_NODES];
+    let settled = run_passes(table, evaluated, &mut highs, &mut found);
+    let root_move = conclude(table, evaluated, certificate);
+    let value = value(settled.score);
+    Found {
+        value,
+        root_move,
+        leaves: settled.leaves,
+        passes: settled.passes,
+    }
+}
 
 // What the passes end with: the test that the root is not below, how many leaves were evaluated, and how many passes were made.
 struct Settled {
@@ -151,16 +234,6 @@ fn best_from(scores: &[u32], side: Side, first: usize, end: usize) -> u32
         best = better(side, scores[at], best);
     }
     best
-}
-
-// The better of two scores for the side that moves.
-fn better(side: Side, a: u32, b: u32) -> u32
-    ensures { λ r. ⌜ r ≡ betterOf side a b ⌝ }
-{
-    match side {
-        Side::Max => if a < b { b } else { a },
-        Side::Min => if a < b { a } else { b },
-    }
 }
 
 // A leaf is compared with the test.
