@@ -8,3 +8,5 @@ pub mod Runs
 pub mod Questions
 pub mod Handed
 pub mod Whole
+-- What holds of its results.
+pub mod Demands
