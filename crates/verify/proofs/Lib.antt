@@ -1,0 +1,2 @@
+-- Why the check of a certificate is right, grouped by idea.
+mod Cases
