@@ -1,2 +1,6 @@
 -- Why the check of a certificate is right, grouped by idea.
+mod Subtrees
+mod Rules
+mod Values
+mod Counting
 mod Cases
