@@ -3,4 +3,6 @@ mod Subtrees
 mod Rules
 mod Values
 mod Counting
+mod Asking
+pub mod Theorems
 mod Cases

@@ -33,18 +33,18 @@ check13 t flags i = ask (ruleHolds Min t flags i) 13 i
 abbrev pub check14 : List ℕ → List ℕ → Option Rejection
 check14 t flags = ask (eqb (treeValue Max t flags) (treeValue Min t flags)) 14 0
 
--- the first "no" to questions 11 to 14, which concern the flags
-unfoldable pub flagsRejection : List ℕ → List ℕ → Option Rejection
-flagsRejection t flags =
-    eachNode (check11 flags) 0 (frames t)
-    andThen eachNode (check12 t flags) 0 (frames t)
-    andThen eachNode (check13 t flags) 0 (frames t)
-    andThen check14 t flags
+-- the first "no" to questions 12 to 14, which concern the two trees
+unfoldable pub treesRejection : List ℕ → List ℕ → Option Rejection
+treesRejection t flags =
+    eachNode (check12 t flags) 0 (frames t) andThen eachNode (check13 t flags) 0 (frames t) andThen check14 t flags
 
 -- the first "no" to questions 1 to 14
 unfoldable pub certificateRejection : List ℕ → List ℕ → Option Rejection
 certificateRejection t flags =
-    rejection t andThen check10 (frames t) (length flags ∷ []) andThen flagsRejection t flags
+    rejection t
+    andThen check10 (frames t) (length flags ∷ [])
+    andThen eachNode (check11 flags) 0 (frames t)
+    andThen treesRejection t flags
 
 -- a value, unless there is a rejection
 abbrev pub judged : ℤ → Option Rejection → Verdict

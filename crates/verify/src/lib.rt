@@ -1,8 +1,12 @@
 // The check of a lent certificate (01: the proof check).
+use frames::Checked;
+use frames::GREATEST;
+use frames::LEAST;
 use frames::Rejection;
 use frames::child_count;
 use frames::first_child;
 use frames::leaf_score;
+use frames::rejected;
 use gametree::Side;
 ghost use mathlib.Core.Path.{_≡_};
 ghost use Prim.Native.Nat.{_+_, _≤_, _<_};
@@ -40,6 +44,19 @@ pub const UNEQUAL_VALUES: u8 = 14;
 pub enum Verdict {
     Value(i16),
     Rejected(Rejection),
+}
+
+// Question 11, put to one node after the other: is every flag 0 to 3?
+fn check_flags(flags: &[u8], n: usize) -> Checked
+    requires { ⌜ n ≤ length (now flags) ⌝ }
+    ensures { λ r. ⌜ r ≡ answer n (eachNode (check11 (now (flags .entry))) 0 n) ⌝ }
+{
+    for node in 0..n {
+        if IN_BOTH < flags[node] {
+            return rejected(WRONG_FLAG, node);
+        }
+    }
+    Checked::Nodes(n)
 }
 
 // The rule of a node where `mover` moves, for the side's tree: the root is in it, and as many children as required.
@@ -149,8 +166,8 @@ fn worst(side: Side) -> u32
     ensures { λ r. ⌜ r ≡ worstOf side ⌝ }
 {
     match side {
-        Side::Max => 0,
-        Side::Min => 64002,
+        Side::Max => LEAST,
+        Side::Min => GREATEST,
     }
 }
 
