@@ -4,5 +4,6 @@ mod Rules
 mod Values
 mod Counting
 mod Asking
+mod Judging
 pub mod Theorems
 mod Cases

@@ -26,7 +26,7 @@ use Rattle.certificate.specs.Value.{valueOf}
 use Rattle.verify.specs.declared.Verdict.{Verdict}
 use Rattle.verify.specs.declared.Verdict.the-variants.{Value, Rejected}
 use Rattle.verify.specs.Value.{treeValue}
-use Rattle.verify.specs.Check.{check11, check12, check13, check14, treesRejection, certificateRejection}
+use Rattle.verify.specs.Check.{check11, check12, check13, check14, treesRejection, flagsRejection, certificateRejection}
 use Rattle.verify.specs.Check.{judged, verdict}
 use Rattle.verify.specs.Certificate.{Certificate}
 use Rattle.verify.proofs.Rules.{rules-solve, solved-rules}
@@ -40,7 +40,7 @@ judged-value v z (some r) e = absurd (let x : _≡_ {A = ℕ} 0 1 = cc in omega 
 module _ (t flags : List ℕ) where
   -- flags that pass every question are a certificate of the max tree's value
   passed-certificate : certificateRejection t flags ≡ none → Certificate t flags (treeValue Max t flags)
-  unfolding certificateRejection treesRejection
+  unfolding certificateRejection flagsRejection treesRejection
   passed-certificate e =
       let a = both-passed (rejection t) _ e in
       let b = both-passed (check10 (frames t) (length flags ∷ [])) _ (a .1) in
@@ -64,7 +64,7 @@ module _ (t flags : List ℕ) where
 
   -- a certificate passes every question
   certificate-passed : (v : ℕ) → Certificate t flags v → certificateRejection t flags ≡ none
-  unfolding certificateRejection treesRejection
+  unfolding certificateRejection flagsRejection treesRejection
   certificate-passed v c =
       let wf = accepted-formed t (c .accepted) in
       let p = c .certifies in

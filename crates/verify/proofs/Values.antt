@@ -3,13 +3,14 @@
 use Prim.Native.Nat.{ℕ, zero, suc, _+_, _≤_, _<_}
 use native.Mathlib.Omega.{arith}
 use native.Mathlib.Decide.{decLt, decLe}
+use native.Mathlib.Numerals.{add-one}
 use mathlib.Core.Path.{_≡_, refl, sym, ap, _∙_}
 use mathlib.Core.Bool.{Bool, true, false, cond, _&&_}
 use mathlib.Core.List.{List}
 use borrow.Author.Tests.{eq-eqb, ne-eqb}
 use Rattle.gametree.specs.declared.Side.{Side}
 use Rattle.gametree.specs.declared.Side.the-variants.{Max, Min}
-use Rattle.gametree.specs.Tree.{Tree, leaf, inner, Kids, last, _then_, better, EveryLeaf, EveryLeafKids, Score, Scored}
+use Rattle.gametree.specs.Tree.{Tree, leaf, inner, Kids, last, _then_, greatest, better, EveryLeaf, EveryLeafKids, Score, Scored}
 use Rattle.gametree.specs.Tree.{ScoredKids}
 use Rattle.gametree.specs.Certificate.{worst, solutionValue, solutionValueKids}
 use Rattle.gametree.proofs.Choice.{cond-cases}
@@ -18,7 +19,7 @@ use Rattle.frames.specs.Frame.{frames, childCount}
 use Rattle.frames.specs.Tree.{treeAt, tree, valuation}
 use Rattle.frames.specs.Formed.{WellFormed}
 use Rattle.frames.proofs.Trees.{tree-leaf}
-use Rattle.frames.proofs.Proper.{every-leaf, tree-proper}
+use Rattle.frames.proofs.Proper.{every-leaf, leaf-scored, tree-proper}
 use Rattle.verify.specs.Flags.{member}
 use Rattle.verify.specs.Value.{leafIn, bestBefore, treeValue}
 use Rattle.verify.proofs.Subtrees.{Inherited, each-subtree}
@@ -93,6 +94,12 @@ every-inherited : (P : ℕ → Type 0) → Inherited (EveryLeaf P) (EveryLeafKid
 every-inherited P = record { ofInner = λ n q ks x. x; ofLast = λ t x. x; ofMore = λ t ts x. x }
 
 module _ (p : Side) (t flags : List ℕ) where
+  -- the best before the next node
+  pub best-more : (n a b : ℕ) → a ≡ bestBefore p t flags n → b ≡ leafIn p t flags n
+      → better p a b ≡ bestBefore p t flags (n + 1)
+  unfolding bestBefore
+  best-more n a b e f = rw (e, f, add-one n)
+
   -- the best before n is bounded if each leaf before n is
   best-least : (n x : ℕ) → Under p (worst p) x → ((i : ℕ) → i < n → Under p (leafIn p t flags i) x)
       → Under p (bestBefore p t flags n) x
@@ -137,3 +144,30 @@ module _ (p : Side) (t flags : List ℕ) where
             (least-solution p ν g v (tree t) (under-refl p v)) i h)))
         | no z ↦ rw (inner-in i (λ e. omega arith)) (solution-worst p ν g (tree t) (tree-proper t wf .scored))
       ]))
+
+  -- and no greater than the greatest score
+  pub value-within : WellFormed t → treeValue p t flags ≤ greatest
+  unfolding bestBefore
+  value-within wf = within (frames t) (omega arith)
+    where
+      worst-within : (p : Side) → worst p ≤ greatest
+      worst-within Max = omega arith
+      worst-within Min = omega arith
+
+      better-within : (p : Side) (a b : ℕ) → a ≤ greatest → b ≤ greatest → better p a b ≤ greatest
+      better-within Max a b h k = omega arith
+      better-within Min a b h k = omega arith
+
+      leaf-within : (i : ℕ) → i < frames t → leafIn p t flags i ≤ greatest
+      leaf-within i h =
+          elim (decLe (childCount t i) 0) [
+            | yes z ↦ (let e : childCount t i ≡ 0 = omega arith in
+                rw (leaf-in i e)
+                (cond-cases (λ x. x ≤ greatest) (member p flags i) (valuation t i) (worst p)
+                (λ _. omega (arith, leaf-scored t wf i h e)) (λ _. worst-within p)))
+            | no z ↦ rw (inner-in i (λ e. omega arith)) (worst-within p)
+          ]
+
+      within : (n : ℕ) → n ≤ frames t → bestBefore p t flags n ≤ greatest
+      within zero h = worst-within p
+      within (suc n) h = better-within p _ _ (within n (omega arith)) (leaf-within n (omega arith))

@@ -1,26 +1,21 @@
 // The check of a lent certificate (01: the proof check).
-use frames::Checked;
-use frames::GREATEST;
-use frames::LEAST;
-use frames::Rejection;
-use frames::child_count;
-use frames::first_child;
-use frames::leaf_score;
-use frames::rejected;
+use certificate::{better, fill_places, side_at, value};
+use frames::{Checked, GREATEST, LEAST, MAX_NODES, Rejection, child_count, first_child, frame_count, leaf_score, rejected};
 use gametree::Side;
 ghost use mathlib.Core.Path.{_≡_};
-ghost use Prim.Native.Nat.{_+_, _≤_, _<_};
-ghost use lib.ListN.{length};
+ghost use Prim.Native.Nat.{ℕ, _+_, _≤_, _<_};
+ghost use lib.ListN.{length, getD};
+ghost use Rattle.gametree.specs.declared.Side.the-variants.{Max};
+ghost use Rattle.gametree.specs.Certificate.{inside, same as sameSide, worst as worstOf};
 ghost use Rattle.frames.specs.Frame.{maxNodes, frames};
 ghost use Rattle.frames.specs.Place.{depthOf, sideOf};
 ghost use Rattle.frames.specs.Formed.{WellFormed};
-ghost use Rattle.gametree.specs.Tree.{greatest, better as betterOf};
-ghost use Rattle.gametree.specs.Certificate.{inside, same as sameSide, worst as worstOf};
 ghost use Rattle.frames.specs.Rejection.{eachNode, answer};
+ghost use Rattle.certificate.specs.Places.{sideNumber, Placed};
 ghost use Rattle.certificate.specs.Value.{valueOf};
 ghost use Rattle.verify.specs.Flags.{membersFrom, requiredOf, ruleHolds};
-ghost use Rattle.verify.specs.Value.{leafIn};
-ghost use Rattle.verify.specs.Check.{check11};
+ghost use Rattle.verify.specs.Value.{leafIn, treeValue};
+ghost use Rattle.verify.specs.Check.{check11, checkRule, treesRejection, flagsRejection, judged, verdict};
 
 // A node's flag: in the max tree, in the min tree, in both; 0 is in neither.
 const IN_MAX: u8 = 1;
@@ -46,14 +41,96 @@ pub enum Verdict {
     Rejected(Rejection),
 }
 
-// Question 11, put to one node after the other: is every flag 0 to 3?
-fn check_flags(flags: &[u8], n: usize) -> Checked
-    requires { ⌜ n ≤ length (now flags) ⌝ }
-    ensures { λ r. ⌜ r ≡ answer n (eachNode (check11 (now (flags .entry))) 0 n) ⌝ }
+// Questions 1 to 14 in order: the value that the flags prove, or the first rejection.
+pub fn check(table: &[u8], flags: &[u8]) -> Verdict
+    ensures { λ r. ⌜ r ≡ verdict (now (table .entry)) (now (flags .entry)) ⌝ }
 {
+    let checked = frames::check(table);
+    match checked {
+        Checked::Rejected(r) => Verdict::Rejected(r),
+        Checked::Nodes(_) => check_certificate(table, flags),
+    }
+}
+
+// Questions 10 to 14, for a well-formed table.
+fn check_certificate(table: &[u8], flags: &[u8]) -> Verdict
+    requires { ⌜ WellFormed (now table) ⌝ }
+    ensures { λ r. ⌜ r ≡ judged (valueOf (treeValue Max (now (table .entry)) (now (flags .entry)))) (flagsRejection (now (table .entry)) (now (flags .entry))) ⌝ }
+{
+    if flags.len() < frame_count(table) {
+        return Verdict::Rejected(Rejection {
+            number: TOO_FEW_ENTRIES,
+            place: 0,
+        });
+    }
+    let checked = check_flags(table, flags);
+    match checked {
+        Checked::Rejected(r) => Verdict::Rejected(r),
+        Checked::Nodes(_) => check_trees(table, flags),
+    }
+}
+
+// Questions 12 to 14, for a well-formed table and a flag for each node.
+fn check_trees(table: &[u8], flags: &[u8]) -> Verdict
+    requires { ⌜ (WellFormed (now table)) × (frames (now table) ≤ length (now flags)) ⌝ }
+    ensures { λ r. ⌜ r ≡ judged (valueOf (treeValue Max (now (table .entry)) (now (flags .entry)))) (treesRejection (now (table .entry)) (now (flags .entry))) ⌝ }
+{
+    let mut depths = [0u32; MAX_NODES];
+    let mut sides = [0u8; MAX_NODES];
+    fill_places(table, &mut depths, &mut sides);
+    judge(table, flags, &depths, &sides)
+}
+
+// The same, with the depth and the side of each node.
+fn judge(table: &[u8], flags: &[u8], depths: &[u32], sides: &[u8]) -> Verdict
+    requires { ⌜ (WellFormed (now table)) × (frames (now table) ≤ length (now flags)) ⌝ }
+    requires { ⌜ Placed (now table) (now depths) (now sides) ⌝ }
+    ensures { λ r. ⌜ r ≡ judged (valueOf (treeValue Max (now (table .entry)) (now (flags .entry)))) (treesRejection (now (table .entry)) (now (flags .entry))) ⌝ }
+{
+    let max_tree = check_rules(table, flags, sides, Side::Max, NO_MAX_TREE);
+    if let Checked::Rejected(r) = max_tree {
+        return Verdict::Rejected(r);
+    }
+    let min_tree = check_rules(table, flags, sides, Side::Min, NO_MIN_TREE);
+    if let Checked::Rejected(r) = min_tree {
+        return Verdict::Rejected(r);
+    }
+    let score = tree_value(table, flags, depths, Side::Max);
+    if score != tree_value(table, flags, depths, Side::Min) {
+        return Verdict::Rejected(Rejection {
+            number: UNEQUAL_VALUES,
+            place: 0,
+        });
+    }
+    Verdict::Value(value(score))
+}
+
+// Question 11, put to one node after the other: is every flag 0 to 3?
+fn check_flags(table: &[u8], flags: &[u8]) -> Checked
+    requires { ⌜ frames (now table) ≤ length (now flags) ⌝ }
+    ensures { λ r. ⌜ r ≡ answer (frames (now (table .entry))) (eachNode (check11 (now (flags .entry))) 0 (frames (now (table .entry)))) ⌝ }
+{
+    let n = frame_count(table);
     for node in 0..n {
         if IN_BOTH < flags[node] {
             return rejected(WRONG_FLAG, node);
+        }
+    }
+    Checked::Nodes(n)
+}
+
+// Questions 12 and 13, put to one node after the other: do the side's flags form a solution tree?
+fn check_rules(table: &[u8], flags: &[u8], sides: &[u8], side: Side, number: u8) -> Checked
+    requires { ⌜ (WellFormed (now table)) × (frames (now table) ≤ length (now flags)) ⌝ }
+    requires { ⌜ frames (now table) ≤ length (now sides) ⌝ }
+    requires { ⌜ ((k : ℕ) → k < frames (now table) → getD (now sides) k 0 ≡ sideNumber (sideOf (now table) k)) ⌝ }
+    ensures { λ r. ⌜ r ≡ answer (frames (now (table .entry))) (eachNode (checkRule number side (now (table .entry)) (now (flags .entry))) 0 (frames (now (table .entry)))) ⌝ }
+{
+    let n = frame_count(table);
+    for node in 0..n {
+        let mover = side_at(sides, node);
+        if !rule_holds(table, flags, node, mover, side) {
+            return rejected(number, node);
         }
     }
     Checked::Nodes(n)
@@ -106,6 +183,21 @@ fn required(side: Side, mover: Side, member: bool, count: usize) -> usize
     if same(side, mover) { count } else { 1 }
 }
 
+// The value of the side's tree: the best score of its leaves.
+fn tree_value(table: &[u8], flags: &[u8], depths: &[u32], side: Side) -> u32
+    requires { ⌜ (WellFormed (now table)) × (frames (now table) ≤ length (now flags)) ⌝ }
+    requires { ⌜ frames (now table) ≤ length (now depths) ⌝ }
+    requires { ⌜ ((k : ℕ) → k < frames (now table) → getD (now depths) k 0 ≡ depthOf (now table) k) ⌝ }
+    ensures { λ r. ⌜ r ≡ treeValue side (now (table .entry)) (now (flags .entry)) ⌝ }
+{
+    let n = frame_count(table);
+    let mut best = worst(side);
+    for node in 0..n {
+        best = better(side, best, leaf_in(table, flags, node, depths[node], side));
+    }
+    best
+}
+
 // The score of a node if it is a leaf of the side's tree, else the side's worst.
 fn leaf_in(table: &[u8], flags: &[u8], node: usize, depth: u32, side: Side) -> u32
     requires { ⌜ (node < frames (now table)) × (node < length (now flags)) ⌝ }
@@ -151,16 +243,6 @@ fn same(a: Side, b: Side) -> bool
     }
 }
 
-// The better of two scores for a side.
-fn better(side: Side, a: u32, b: u32) -> u32
-    ensures { λ r. ⌜ r ≡ betterOf side a b ⌝ }
-{
-    match side {
-        Side::Max => if a < b { b } else { a },
-        Side::Min => if a < b { a } else { b },
-    }
-}
-
 // The score that each other score is better than, for a side.
 fn worst(side: Side) -> u32
     ensures { λ r. ⌜ r ≡ worstOf side ⌝ }
@@ -169,12 +251,4 @@ fn worst(side: Side) -> u32
         Side::Max => LEAST,
         Side::Min => GREATEST,
     }
-}
-
-// The value of a score.
-fn value_of(score: u32) -> i16
-    requires { ⌜ score ≤ greatest ⌝ }
-    ensures { λ r. ⌜ r ≡ valueOf score ⌝ }
-{
-    (score as i32 - 32001) as i16
 }

@@ -1,13 +1,15 @@
 -- `check_flags` meets its contract: before each node the flags behind it are in range.
 use Prim.Native.Nat.{ℕ, _-_}
 use native.Mathlib.Omega.{arith}
-use mathlib.Core.Path.{_∙_}
+use mathlib.Core.Path.{ap, _∙_}
 use mathlib.Core.Bool.{Bool}
 use mathlib.Core.List.{List}
 use lib.Dec.{leb}
 use lib.ListN.{getD}
 use borrow.Author.Tests.{le-leb, lt-leb}
 use borrow.Author.Needs.{needs}
+use Rattle.frames.specs.declared.Checked.the-variants.{Nodes}
+use Rattle.frames.specs.Frame.{frames}
 use Rattle.verify.proofs.Asking.{Asking, asking-none, asking-more, asking-until, asking-all}
 use Rattle.verify.proofs.check_flags.Statement.{statement}
 use Rattle.verify.proofs.check_flags.Tie as tie
@@ -17,10 +19,13 @@ abbrev inRange : List ℕ → ℕ → Bool
 inRange flags i = leb (getD flags i 0) 3
 
 abbrev Inv-loop : tie.InvT-loop
-Inv-loop flags n node₀ node = Asking (inRange flags) 11 n node
+Inv-loop table flags n node₀ node = Asking (inRange flags) 11 (frames table) node
 
 abbrev μ-loop : tie.MeasureT-loop
-μ-loop flags n node₀ node = n - node
+μ-loop table flags n node₀ node = n - node
+
+frame-count-requires : tie.Need-frame-count-requires Inv-loop μ-loop
+frame-count-requires c κs = search needs
 
 loop-holds : tie.Need-loop-holds Inv-loop μ-loop
 loop-holds c = asking-none _ _ _
@@ -47,7 +52,8 @@ loop-again c =
     asking-more _ _ _ _ (c .before .before .before .loop .inv) (omega arith) (le-leb _ _ (c .if1 .left))
 
 returns-2 : tie.Need-returns-2 Inv-loop μ-loop
-returns-2 c = asking-all _ _ _ _ (c .before .loop .inv) (omega arith)
+returns-2 c =
+    ap Nodes (c .before .before .frame-count .ensures) ∙ asking-all _ _ _ _ (c .before .loop .inv) (omega arith)
 
 pub check-flags-spec : {M : Type 1} → statement M
 check-flags-spec =
@@ -55,6 +61,7 @@ check-flags-spec =
     (tie.spec
     Inv-loop
     μ-loop
+    frame-count-requires
     loop-holds
     shared-slice-read-if1
     rejected-requires
