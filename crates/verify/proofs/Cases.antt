@@ -9,8 +9,9 @@ use Rattle.frames.specs.Check.{framesRejection, rejection}
 use Rattle.verify.specs.Flags.{membersFrom, ruleHolds}
 use Rattle.verify.specs.Value.{bestBefore}
 use Rattle.verify.specs.Check.{treesRejection, flagsRejection, certificateRejection, verdict}
-use Rattle.verify.specs.Cases.{Case, cases}
+use Rattle.verify.specs.Cases.{cases}
 
 cases-hold : map (λ c. verdict (c .table) (c .flags)) cases ≡ map (λ c. c .verdict) cases
-unfolding next parentBefore placeWithin placeOf valuation eachNode framesRejection rejection membersFrom ruleHolds bestBefore treesRejection flagsRejection certificateRejection verdict
+unfolding next parentBefore placeWithin placeOf valuation eachNode framesRejection rejection membersFrom ruleHolds
+    bestBefore treesRejection flagsRejection certificateRejection verdict
 cases-hold = refl

@@ -1,12 +1,13 @@
--- The rules of a side's tree hold at each node of the table exactly if the flags are a solution tree of the table's tree.
+-- The rules of a side's tree hold at each node of the table exactly if its flags are a solution tree of the table's
+-- tree.
 use Prim.Native.Nat.{ℕ, zero, suc, _+_, _≤_, _<_}
 use native.Mathlib.Omega.{arith}
 use mathlib.Core.Path.{_≡_, refl, sym, ap, ap₂, _∙_}
-use mathlib.Core.Bool.{Bool, true, false, cond, _&&_}
+use mathlib.Core.Bool.{Bool, true, false, cond}
 use mathlib.Core.List.{List}
 use borrow.Author.Tests.{eq-eqb, eqb-true}
 use Rattle.gametree.specs.declared.Side.{Side}
-use Rattle.gametree.specs.Tree.{Tree, Kids, number}
+use Rattle.gametree.specs.Tree.{Tree, Kids}
 use Rattle.gametree.specs.Certificate.{Rule, Rules, RulesKids, SolutionTree}
 use Rattle.gametree.specs.Counting.{kidCount, members, required}
 use Rattle.gametree.proofs.Choice.{and-both}
@@ -14,7 +15,7 @@ use Rattle.gametree.proofs.Theorems.{rule-counting}
 use Rattle.frames.specs.Frame.{frames, firstChild, childCount}
 use Rattle.frames.specs.Place.{sideOf}
 use Rattle.frames.specs.Tree.{kidsFrom, treeAt, tree}
-use Rattle.frames.specs.Formed.{WellFormed, ChildOf}
+use Rattle.frames.specs.Formed.{WellFormed}
 use Rattle.frames.proofs.Parents.{bottom-up}
 use Rattle.frames.proofs.Trees.{zero-or-suc, tree-leaf, tree-inner, tree-number}
 use Rattle.verify.specs.Flags.{member, membersFrom, requiredOf, rootMember, ruleHolds}
@@ -54,18 +55,25 @@ root-member p flags zero f = f refl
 root-member p flags (suc i) f = refl
 
 module _ (p : Side) (t flags : List ℕ) (wf : WellFormed t) where
+  -- as many children of node i are in the tree as required
+  abbrev Counted : ℕ → Type 0
+  Counted i =
+      membersFrom p flags (firstChild t i) (childCount t i)
+      ≡ requiredOf p (sideOf t i) (member p flags i) (childCount t i)
+
   -- the rule of an inner node, over the table and over the tree
   rule-count : (i n : ℕ) → childCount t i ≡ suc n
       → Rule p (sideOf t i) (member p flags i) (member p flags) (kidsFrom (treeAt t) (firstChild t i) n)
-      → membersFrom p flags (firstChild t i) (childCount t i) ≡ requiredOf p (sideOf t i) (member p flags i) (childCount t i)
+      → Counted i
   rule-count i n e r =
       let ks = kidsFrom (treeAt t) (firstChild t i) n in
       rw e
-      (sym (members-kids p t flags (firstChild t i) n) ∙ rule-counting p (sideOf t i) (member p flags i) (member p flags) ks .0 r
+      (sym (members-kids p t flags (firstChild t i) n)
+      ∙ rule-counting p (sideOf t i) (member p flags i) (member p flags) ks .0 r
       ∙ required-same p (sideOf t i) (member p flags i) ks n (count-kids (treeAt t) (firstChild t i) n))
 
   count-rule : (i n : ℕ) → childCount t i ≡ suc n
-      → membersFrom p flags (firstChild t i) (childCount t i) ≡ requiredOf p (sideOf t i) (member p flags i) (childCount t i)
+      → Counted i
       → Rule p (sideOf t i) (member p flags i) (member p flags) (kidsFrom (treeAt t) (firstChild t i) n)
   count-rule i n e c =
       let ks = kidsFrom (treeAt t) (firstChild t i) n in
@@ -82,7 +90,8 @@ module _ (p : Side) (t flags : List ℕ) (wf : WellFormed t) where
         zero-or-suc (childCount t i) (λ e. rw (tree-leaf t wf i h e) tt) (λ n e.
         rw (tree-inner t wf i n h e) (
           count-rule i n e (eqb-true _ _ (and-both (rootMember p flags i) _ (f i h) .1)),
-          rules-kids p (member p flags) (treeAt t) (firstChild t i) n (λ k a b. g k (record { from = a; to = omega arith })),
+          rules-kids p (member p flags) (treeAt t) (firstChild t i) n (λ k a b.
+              g k (record { from = a; to = omega arith })),
         ))) 0 (wf .some),
   )
 

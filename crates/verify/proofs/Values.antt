@@ -1,22 +1,22 @@
--- The value of a side's tree over the table's nodes is that over the leaves of the table's tree: each is the least bound,
--- in the side's order, of the scores of the leaves in the tree.
+-- The value of a side's tree over the table's nodes is that over the leaves of the table's tree: each is the least
+-- bound, in the side's order, of the scores of the leaves in the tree.
 use Prim.Native.Nat.{ℕ, zero, suc, _+_, _≤_, _<_}
 use native.Mathlib.Omega.{arith}
 use native.Mathlib.Decide.{decLt, decLe}
 use native.Mathlib.Numerals.{add-one}
-use mathlib.Core.Path.{_≡_, refl, sym, ap, _∙_}
-use mathlib.Core.Bool.{Bool, true, false, cond, _&&_}
+use mathlib.Core.Path.{_≡_}
+use mathlib.Core.Bool.{Bool, cond}
 use mathlib.Core.List.{List}
 use borrow.Author.Tests.{eq-eqb, ne-eqb}
 use Rattle.gametree.specs.declared.Side.{Side}
 use Rattle.gametree.specs.declared.Side.the-variants.{Max, Min}
-use Rattle.gametree.specs.Tree.{Tree, leaf, inner, Kids, last, _then_, greatest, better, EveryLeaf, EveryLeafKids, Score, Scored}
-use Rattle.gametree.specs.Tree.{ScoredKids}
+use Rattle.gametree.specs.Tree.{Tree, leaf, inner, Kids, last, _then_, greatest, better, EveryLeaf, EveryLeafKids}
+use Rattle.gametree.specs.Tree.{Score, Scored, ScoredKids}
 use Rattle.gametree.specs.Certificate.{worst, solutionValue, solutionValueKids}
 use Rattle.gametree.proofs.Choice.{cond-cases}
 use Rattle.gametree.proofs.Solution.{Under, under-refl}
 use Rattle.frames.specs.Frame.{frames, childCount}
-use Rattle.frames.specs.Tree.{treeAt, tree, valuation}
+use Rattle.frames.specs.Tree.{tree, valuation}
 use Rattle.frames.specs.Formed.{WellFormed}
 use Rattle.frames.proofs.Trees.{tree-leaf}
 use Rattle.frames.proofs.Proper.{every-leaf, leaf-scored, tree-proper}

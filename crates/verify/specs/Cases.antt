@@ -15,7 +15,8 @@ leafFrame high low = 0 ∷ 0 ∷ 0 ∷ 0 ∷ high ∷ low ∷ []
 -- the first small tree of 01: a Max root, two Min nodes, and the leaves 1 2 3 4
 abbrev pub small : List ℕ
 small =
-    innerFrame 1 2 ++ innerFrame 3 2 ++ innerFrame 5 2 ++ leafFrame 0 1 ++ leafFrame 0 2 ++ leafFrame 0 3 ++ leafFrame 0 4
+    innerFrame 1 2 ++ innerFrame 3 2 ++ innerFrame 5 2
+    ++ leafFrame 0 1 ++ leafFrame 0 2 ++ leafFrame 0 3 ++ leafFrame 0 4
 
 -- a root that is a leaf of -5
 abbrev pub lone : List ℕ

@@ -1,21 +1,31 @@
 // The check of a lent certificate (01: the proof check).
-use certificate::{better, fill_places, side_at, value};
-use frames::{Checked, GREATEST, LEAST, MAX_NODES, Rejection, child_count, first_child, frame_count, leaf_score, rejected};
+use certificate::better;
+use certificate::fill_places;
+use certificate::side_at;
+use certificate::value;
+use frames::Checked;
+use frames::GREATEST;
+use frames::LEAST;
+use frames::MAX_NODES;
+use frames::Rejection;
+use frames::child_count;
+use frames::first_child;
+use frames::frame_count;
+use frames::leaf_score;
+use frames::rejected;
 use gametree::Side;
 ghost use mathlib.Core.Path.{_≡_};
 ghost use Prim.Native.Nat.{ℕ, _+_, _≤_, _<_};
 ghost use lib.ListN.{length, getD};
-ghost use Rattle.gametree.specs.declared.Side.the-variants.{Max};
 ghost use Rattle.gametree.specs.Certificate.{inside, same as sameSide, worst as worstOf};
 ghost use Rattle.frames.specs.Frame.{maxNodes, frames};
 ghost use Rattle.frames.specs.Place.{depthOf, sideOf};
 ghost use Rattle.frames.specs.Formed.{WellFormed};
-ghost use Rattle.frames.specs.Rejection.{eachNode, answer};
+ghost use Rattle.frames.specs.Rejection.{answer};
 ghost use Rattle.certificate.specs.Places.{sideNumber, Placed};
-ghost use Rattle.certificate.specs.Value.{valueOf};
 ghost use Rattle.verify.specs.Flags.{membersFrom, requiredOf, ruleHolds};
 ghost use Rattle.verify.specs.Value.{leafIn, treeValue};
-ghost use Rattle.verify.specs.Check.{check11, checkRule, treesRejection, flagsRejection, judged, verdict};
+ghost use Rattle.verify.specs.Check.{check11, checkTree, treesRejection, flagsRejection, judged, verdict};
 
 // A node's flag: in the max tree, in the min tree, in both; 0 is in neither.
 const IN_MAX: u8 = 1;
@@ -55,7 +65,7 @@ pub fn check(table: &[u8], flags: &[u8]) -> Verdict
 // Questions 10 to 14, for a well-formed table.
 fn check_certificate(table: &[u8], flags: &[u8]) -> Verdict
     requires { ⌜ WellFormed (now table) ⌝ }
-    ensures { λ r. ⌜ r ≡ judged (valueOf (treeValue Max (now (table .entry)) (now (flags .entry)))) (flagsRejection (now (table .entry)) (now (flags .entry))) ⌝ }
+    ensures { λ r. ⌜ r ≡ judged (now (table .entry)) (now (flags .entry)) (flagsRejection (now (table .entry)) (now (flags .entry))) ⌝ }
 {
     if flags.len() < frame_count(table) {
         return Verdict::Rejected(Rejection {
@@ -73,7 +83,7 @@ fn check_certificate(table: &[u8], flags: &[u8]) -> Verdict
 // Questions 12 to 14, for a well-formed table and a flag for each node.
 fn check_trees(table: &[u8], flags: &[u8]) -> Verdict
     requires { ⌜ (WellFormed (now table)) × (frames (now table) ≤ length (now flags)) ⌝ }
-    ensures { λ r. ⌜ r ≡ judged (valueOf (treeValue Max (now (table .entry)) (now (flags .entry)))) (treesRejection (now (table .entry)) (now (flags .entry))) ⌝ }
+    ensures { λ r. ⌜ r ≡ judged (now (table .entry)) (now (flags .entry)) (treesRejection (now (table .entry)) (now (flags .entry))) ⌝ }
 {
     let mut depths = [0u32; MAX_NODES];
     let mut sides = [0u8; MAX_NODES];
@@ -85,7 +95,7 @@ fn check_trees(table: &[u8], flags: &[u8]) -> Verdict
 fn judge(table: &[u8], flags: &[u8], depths: &[u32], sides: &[u8]) -> Verdict
     requires { ⌜ (WellFormed (now table)) × (frames (now table) ≤ length (now flags)) ⌝ }
     requires { ⌜ Placed (now table) (now depths) (now sides) ⌝ }
-    ensures { λ r. ⌜ r ≡ judged (valueOf (treeValue Max (now (table .entry)) (now (flags .entry)))) (treesRejection (now (table .entry)) (now (flags .entry))) ⌝ }
+    ensures { λ r. ⌜ r ≡ judged (now (table .entry)) (now (flags .entry)) (treesRejection (now (table .entry)) (now (flags .entry))) ⌝ }
 {
     let max_tree = check_rules(table, flags, sides, Side::Max, NO_MAX_TREE);
     if let Checked::Rejected(r) = max_tree {
@@ -108,7 +118,7 @@ fn judge(table: &[u8], flags: &[u8], depths: &[u32], sides: &[u8]) -> Verdict
 // Question 11, put to one node after the other: is every flag 0 to 3?
 fn check_flags(table: &[u8], flags: &[u8]) -> Checked
     requires { ⌜ frames (now table) ≤ length (now flags) ⌝ }
-    ensures { λ r. ⌜ r ≡ answer (frames (now (table .entry))) (eachNode (check11 (now (flags .entry))) 0 (frames (now (table .entry)))) ⌝ }
+    ensures { λ r. ⌜ r ≡ answer (frames (now (table .entry))) (check11 (now (table .entry)) (now (flags .entry))) ⌝ }
 {
     let n = frame_count(table);
     for node in 0..n {
@@ -124,7 +134,7 @@ fn check_rules(table: &[u8], flags: &[u8], sides: &[u8], side: Side, number: u8)
     requires { ⌜ (WellFormed (now table)) × (frames (now table) ≤ length (now flags)) ⌝ }
     requires { ⌜ frames (now table) ≤ length (now sides) ⌝ }
     requires { ⌜ ((k : ℕ) → k < frames (now table) → getD (now sides) k 0 ≡ sideNumber (sideOf (now table) k)) ⌝ }
-    ensures { λ r. ⌜ r ≡ answer (frames (now (table .entry))) (eachNode (checkRule number side (now (table .entry)) (now (flags .entry))) 0 (frames (now (table .entry)))) ⌝ }
+    ensures { λ r. ⌜ r ≡ answer (frames (now (table .entry))) (checkTree number side (now (table .entry)) (now (flags .entry))) ⌝ }
 {
     let n = frame_count(table);
     for node in 0..n {

@@ -3,15 +3,12 @@ use Prim.Native.Nat.{ℕ}
 use mathlib.Core.Path.{_≡_, sym, _∙_}
 use mathlib.Core.List.{List}
 use borrow.Author.Needs.{needs}
-use Rattle.gametree.specs.declared.Side.the-variants.{Max}
 use Rattle.frames.specs.declared.Rejection.{Rejection}
 use Rattle.frames.specs.declared.Checked.the-variants as answers
 use Rattle.frames.specs.Frame.{frames}
 use Rattle.frames.specs.Check.{rejection, checked}
 use Rattle.frames.proofs.Acceptance.{accepted-formed, nodes-accepted}
-use Rattle.certificate.specs.Value.{valueOf}
 use Rattle.verify.specs.declared.Verdict.the-variants.{Rejected}
-use Rattle.verify.specs.Value.{treeValue}
 use Rattle.verify.specs.Check.{flagsRejection, certificateRejection, judged, verdict}
 use Rattle.verify.proofs.Judging.{judged-until, judged-onward}
 use Rattle.verify.proofs.check.Statement.{statement}
@@ -20,12 +17,12 @@ use Rattle.verify.proofs.check.Tie as tie
 module _ (t flags : List ℕ) where
   table-rejected : (r : Rejection) → answers.Rejected r ≡ checked t → Rejected r ≡ verdict t flags
   unfolding verdict certificateRejection
-  table-rejected r e = judged-until _ (frames t) (rejection t) (flagsRejection t flags) r e
+  table-rejected r e = judged-until t flags (frames t) (rejection t) (flagsRejection t flags) r e
 
   table-accepted : (n : ℕ) → answers.Nodes n ≡ checked t
-      → judged (valueOf (treeValue Max t flags)) (flagsRejection t flags) ≡ verdict t flags
+      → judged t flags (flagsRejection t flags) ≡ verdict t flags
   unfolding verdict certificateRejection
-  table-accepted n e = judged-onward _ (frames t) (rejection t) (flagsRejection t flags) n e
+  table-accepted n e = judged-onward t flags (frames t) (rejection t) (flagsRejection t flags) n e
 
 check-requires : tie.Need-check-requires
 check-requires c κs = search needs

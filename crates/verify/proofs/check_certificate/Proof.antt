@@ -6,15 +6,12 @@ use mathlib.Core.List.{List}
 use lib.ListN.{length}
 use borrow.Author.Tests.{le-leb, lt-leb}
 use borrow.Author.Needs.{needs}
-use Rattle.gametree.specs.declared.Side.the-variants.{Max}
 use Rattle.frames.specs.declared.Rejection.{Rejection}
 use Rattle.frames.specs.declared.Checked.the-variants as checked
 use Rattle.frames.specs.Frame.{frames}
-use Rattle.frames.specs.Rejection.{eachNode, answer}
-use Rattle.certificate.specs.Value.{valueOf}
+use Rattle.frames.specs.Rejection.{answer}
 use Rattle.verify.specs.declared.Verdict.{Verdict}
 use Rattle.verify.specs.declared.Verdict.the-variants.{Rejected}
-use Rattle.verify.specs.Value.{treeValue}
 use Rattle.verify.specs.Check.{check11, treesRejection, flagsRejection, judged}
 use Rattle.verify.proofs.Judging.{judged-until, judged-onward}
 use Rattle.verify.proofs.check_certificate.Statement.{statement}
@@ -23,24 +20,24 @@ use Rattle.verify.proofs.check_certificate.Tie as tie
 module _ (t flags : List ℕ) where
   -- the verdict that is due
   abbrev due : Verdict
-  due = judged (valueOf (treeValue Max t flags)) (flagsRejection t flags)
+  due = judged t flags (flagsRejection t flags)
 
   too-few : length flags < frames t → Rejected (record { number = 10; place = 0 }) ≡ due
   unfolding flagsRejection
   too-few h = rw (lt-leb _ _ h)
 
   module _ (h : frames t ≤ length flags) where
-    wrong-flag : (r : Rejection) → checked.Rejected r ≡ answer (frames t) (eachNode (check11 flags) 0 (frames t))
+    wrong-flag : (r : Rejection) → checked.Rejected r ≡ answer (frames t) (check11 t flags)
         → Rejected r ≡ due
     unfolding flagsRejection
     wrong-flag r e =
-        rw (le-leb _ _ h) (judged-until _ (frames t) (eachNode (check11 flags) 0 (frames t)) (treesRejection t flags) r e)
+        rw (le-leb _ _ h) (judged-until t flags (frames t) (check11 t flags) (treesRejection t flags) r e)
 
-    right-flags : (k : ℕ) → checked.Nodes k ≡ answer (frames t) (eachNode (check11 flags) 0 (frames t))
-        → judged (valueOf (treeValue Max t flags)) (treesRejection t flags) ≡ due
+    right-flags : (k : ℕ) → checked.Nodes k ≡ answer (frames t) (check11 t flags)
+        → judged t flags (treesRejection t flags) ≡ due
     unfolding flagsRejection
     right-flags k e =
-        rw (le-leb _ _ h) (judged-onward _ (frames t) (eachNode (check11 flags) 0 (frames t)) (treesRejection t flags) k e)
+        rw (le-leb _ _ h) (judged-onward t flags (frames t) (check11 t flags) (treesRejection t flags) k e)
 
 frame-count-requires : tie.Need-frame-count-requires
 frame-count-requires c κs = search needs

@@ -62,7 +62,8 @@ loop-again c =
     (sym (r .rule-holds .ensures) ∙ not-false _ (c .if1 .left))
 
 returns-2 : tie.Need-returns-2 Inv-loop μ-loop
-returns-2 c = ap Nodes (c .before .before .frame-count .ensures) ∙ asking-all _ _ _ _ (c .before .loop .inv) (omega arith)
+returns-2 c =
+    ap Nodes (c .before .before .frame-count .ensures) ∙ asking-all _ _ _ _ (c .before .loop .inv) (omega arith)
 
 pub check-rules-spec : {M : Type 1} → statement M
 check-rules-spec =

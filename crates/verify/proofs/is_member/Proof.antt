@@ -33,10 +33,14 @@ enum-told-2 : tie.Need-enum-told-2
 enum-told-2 c = search needs
 
 returns-2 : tie.Need-returns-2
-returns-2 c = rw (c .enum-told .given .1) (in-one (c .before .before .before .args .flag) 1 (c .before .before .if1 .left))
+returns-2 c =
+    let e = c .before .before in
+    rw (c .enum-told .given .1) (in-one (e .before .args .flag) 1 (e .if1 .left))
 
 returns-3 : tie.Need-returns-3
-returns-3 c = rw (c .enum-told2 .given .1) (in-one (c .before .before .before .args .flag) 2 (c .before .before .if1 .left))
+returns-3 c =
+    let e = c .before .before in
+    rw (c .enum-told2 .given .1) (in-one (e .before .args .flag) 2 (e .if1 .left))
 
 pub is-member-spec : {M : Type 1} → statement M
 is-member-spec = tie.close (tie.spec returns enum-told enum-told-2 returns-2 returns-3)

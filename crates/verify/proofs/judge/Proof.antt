@@ -1,10 +1,7 @@
 -- `judge` meets its contract: a "no" settles the verdict, and equal values give it.
 use Prim.Native.Nat.{ℕ}
 use mathlib.Core.Path.{_≡_, sym, ap, _∙_}
-use mathlib.Core.Bool.{true, false}
-use mathlib.Core.Option.{Option}
 use mathlib.Core.List.{List}
-use lib.Dec.{eqb}
 use mir.Syntax.{w16}
 use mir.ValLaws.{toZ-ofZ}
 use borrow.Author.Tests.{eq-eqb, ne-eqb}
@@ -13,7 +10,7 @@ use Rattle.gametree.specs.declared.Side.the-variants.{Max, Min}
 use Rattle.frames.specs.Frame.{frames}
 use Rattle.frames.specs.declared.Rejection.{Rejection}
 use Rattle.frames.specs.declared.Checked.the-variants as checked
-use Rattle.frames.specs.Rejection.{_andThen_, eachNode, answer}
+use Rattle.frames.specs.Rejection.{_andThen_, answer}
 use Rattle.certificate.specs.Value.{valueOf}
 use Rattle.verify.specs.declared.Verdict.{Verdict}
 use Rattle.verify.specs.declared.Verdict.the-variants.{Value, Rejected}
@@ -25,43 +22,35 @@ use Rattle.verify.proofs.judge.Statement.{statement}
 use Rattle.verify.proofs.judge.Tie as tie
 
 module _ (t flags : List ℕ) where
-  -- question 12 or 13, put to each node in turn
-  abbrev maxRules : Option Rejection
-  maxRules = eachNode (check12 t flags) 0 (frames t)
-
-  abbrev minRules : Option Rejection
-  minRules = eachNode (check13 t flags) 0 (frames t)
-
   -- the verdict that is due
   abbrev due : Verdict
-  due = judged (valueOf (treeValue Max t flags)) (treesRejection t flags)
+  due = judged t flags (treesRejection t flags)
 
-  no-max : (r : Rejection) → checked.Rejected r ≡ answer (frames t) maxRules → Rejected r ≡ due
+  no-max : (r : Rejection) → checked.Rejected r ≡ answer (frames t) (check12 t flags) → Rejected r ≡ due
   unfolding treesRejection
-  no-max r e = judged-until _ (frames t) maxRules (minRules andThen check14 t flags) r e
+  no-max r e = judged-until t flags (frames t) (check12 t flags) (check13 t flags andThen check14 t flags) r e
 
-  module _ (k : ℕ) (e : checked.Nodes k ≡ answer (frames t) maxRules) where
-    no-min : (r : Rejection) → checked.Rejected r ≡ answer (frames t) minRules → Rejected r ≡ due
+  module _ (k : ℕ) (e : checked.Nodes k ≡ answer (frames t) (check12 t flags)) where
+    no-min : (r : Rejection) → checked.Rejected r ≡ answer (frames t) (check13 t flags) → Rejected r ≡ due
     unfolding treesRejection
     no-min r f =
-        judged-until _ (frames t) minRules (check14 t flags) r f
-        ∙ judged-onward _ (frames t) maxRules (minRules andThen check14 t flags) k e
+        judged-until t flags (frames t) (check13 t flags) (check14 t flags) r f
+        ∙ judged-onward t flags (frames t) (check12 t flags) (check13 t flags andThen check14 t flags) k e
 
     -- both sets of flags are solution trees
-    both-hold : (j : ℕ) → checked.Nodes j ≡ answer (frames t) minRules
-        → judged (valueOf (treeValue Max t flags)) (check14 t flags) ≡ due
+    both-hold : (j : ℕ) → checked.Nodes j ≡ answer (frames t) (check13 t flags)
+        → judged t flags (check14 t flags) ≡ due
     unfolding treesRejection
     both-hold j f =
-        judged-onward _ (frames t) minRules (check14 t flags) j f
-        ∙ judged-onward _ (frames t) maxRules (minRules andThen check14 t flags) k e
+        judged-onward t flags (frames t) (check13 t flags) (check14 t flags) j f
+        ∙ judged-onward t flags (frames t) (check12 t flags) (check13 t flags andThen check14 t flags) k e
 
   module _ (x y : ℕ) (p : x ≡ treeValue Max t flags) (q : y ≡ treeValue Min t flags) where
-    unequal : (x ≡ y → ⊥) → Rejected (record { number = 14; place = 0 })
-        ≡ judged (valueOf (treeValue Max t flags)) (check14 t flags)
+    unequal : (x ≡ y → ⊥) → Rejected (record { number = 14; place = 0 }) ≡ judged t flags (check14 t flags)
     unequal h = rw (← p, ← q, ne-eqb x y h)
 
-    equal : x ≡ y → Value (valueOf x) ≡ judged (valueOf (treeValue Max t flags)) (check14 t flags)
-    equal h = rw (← p, ← q, eq-eqb x y h)
+    equal : x ≡ y → Value (valueOf x) ≡ judged t flags (check14 t flags)
+    equal h = rw (← p, ← q, eq-eqb x y h) (ap (λ s. Value (valueOf s)) p)
 
 check-rules-requires : tie.Need-check-rules-requires
 check-rules-requires c κs = search needs
@@ -107,7 +96,7 @@ passed : (c : tie.After-enum-told2) →
     let a = c .before .before .before .before .before .before .before .before .before .before .args in
     let t = a .table .now in
     let flags = a .flags .now in
-    judged (valueOf (treeValue Max t flags)) (check14 t flags) ≡ due t flags
+    judged t flags (check14 t flags) ≡ due t flags
 passed c =
     let n = c .before .before in
     let e = n .before in

@@ -1,7 +1,6 @@
 -- `leaf_in` meets its contract: only a leaf that is in the tree has its score.
-use Prim.Native.Nat.{ℕ}
 use mathlib.Core.Path.{_≡_, sym, ap, _∙_}
-use mathlib.Core.Bool.{Bool, true, false, cond}
+use mathlib.Core.Bool.{cond}
 use borrow.Author.Needs.{needs}
 use Rattle.gametree.specs.Certificate.{worst}
 use Rattle.frames.specs.Frame.{storedScore}
@@ -23,7 +22,8 @@ returns c =
     let n = c .before .before in
     let a = n .before .before .before .args in
     c .worst .ensures
-    ∙ sym (inner-in (a .side) (a .table .now) (a .flags .now) (a .node) (λ e. c .before .if1 .taken (n .child-count .ensures .0 ∙ e)))
+    ∙ sym (inner-in (a .side) (a .table .now) (a .flags .now) (a .node) (λ e.
+    c .before .if1 .taken (n .child-count .ensures .0 ∙ e)))
 
 shared-slice-read-is-member : tie.Need-shared-slice-read-is-member
 shared-slice-read-is-member c = search needs
@@ -45,7 +45,8 @@ is-leaf : (c : tie.After-is-member) →
 is-leaf c =
     let e = c .before .before in
     let a = e .before .before .before .before .args in
-    leaf-in (a .side) (a .table .now) (a .flags .now) (a .node) (sym (e .before .child-count .ensures .0) ∙ e .if1 .left)
+    leaf-in (a .side) (a .table .now) (a .flags .now) (a .node)
+    (sym (e .before .child-count .ensures .0) ∙ e .if1 .left)
 
 returns-2 : tie.Need-returns-2
 unfolding valuation

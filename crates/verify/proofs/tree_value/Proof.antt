@@ -52,7 +52,8 @@ loop-again c =
     let l = c .before .before .before .before in
     let a = l .before .before .before .before .before .before .args in (
       c .better .ensures
-      ∙ best-more (a .side) (a .table .now) (a .flags .now) (l .loop .node) _ _ (l .loop .inv .0) (c .before .leaf-in .ensures),
+          ∙ best-more (a .side) (a .table .now) (a .flags .now) (l .loop .node) _ _ (l .loop .inv .0)
+          (c .before .leaf-in .ensures),
       omega arith,
     )
 
