@@ -1,5 +1,6 @@
 -- `judge` meets its contract: a "no" settles the verdict, and equal values give it.
 use Prim.Native.Nat.{ℕ}
+use native.Mathlib.Omega.{arith}
 use mathlib.Core.Path.{_≡_, sym, ap, _∙_}
 use mathlib.Core.List.{List}
 use mir.Syntax.{w16}
@@ -115,7 +116,7 @@ value-requires : tie.Need-value-requires
 value-requires c κs =
     let x = c .before .before in
     let s = x .before .before .before .before .before .before .before .before .before .before .before in
-    rw (x .tree-value .ensures) (value-within Max (s .args .table .now) (s .args .flags .now) (s .pre .0 .0))
+    omega (arith, x .tree-value .ensures, value-within Max (s .args .table .now) (s .args .flags .now) (s .pre .0 .0))
 
 returns-4 : tie.Need-returns-4
 returns-4 c =
