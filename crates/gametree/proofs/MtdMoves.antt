@@ -13,13 +13,13 @@ use Rattle.gametree.specs.Tree.{ScoredKids, Proper}
 use Rattle.gametree.specs.Bounds.{known, Decided}
 use Rattle.gametree.specs.Mtd.{Memo, MemoKids, memoHigh, memoHighKids, Pass, PassKids, pass, passKids, Run, run}
 use Rattle.gametree.specs.Mtd.{fresh, mtd, MarksKids}
-use Rattle.gametree.specs.Move.{rootMove, boundMove, EldersBelow}
+use Rattle.gametree.specs.Move.{rootMove, boundMove}
 use Rattle.gametree.proofs.Choice.{cond-cases, true-not-false}
 use Rattle.gametree.proofs.Lists.{all-map}
 use Rattle.gametree.proofs.Bounds.{minimax-score, low≤, ≤high}
 use Rattle.gametree.proofs.MtdSound.{memoLow, memoLow-minimax, minimax-memoHigh, Kept, KeptKids, sound}
 use Rattle.gametree.proofs.MtdValue.{kept-lower, fresh-kept, fresh-memoHigh, freshKids-memoHigh, mtd-right}
-use Rattle.gametree.proofs.MtdMarks.{mtd-marks, memoHigh-is, memoLow-is}
+use Rattle.gametree.proofs.MtdMarks.{mtd-marks, memoBound-is}
 use Rattle.gametree.proofs.Frontier.{frontier, ReadyKids, Fitted, states, notBelow-low, memoLow-memoHigh}
 use Rattle.gametree.proofs.Frontier.{frontier-high, next}
 use Rattle.gametree.proofs.Moves.{Shown, move-same}
@@ -96,24 +96,16 @@ mtdMax-decides ν n ks h =
 pub max-shown : (ν : ℕ → ℕ) (w : List ℕ) (v : ℕ) (ks : Kids) (m : MemoKids ks) → ScoredKids ν ks → MarksKids w ks m
     → minimaxKids ν Max ks ≤ v → DecidesMax ν v ks m → Shown (known ν (among w) least) ν v ks
 max-shown ν w v (last t) m h k u d =
-    λ e. let i = memoLow-is ν w t m k in
+    λ e. let i = memoBound-is least ν w t m k in
     let j = low≤ ν (among w) t in
     omega arith
 max-shown ν w v (t then ts) m h k u (inl d) =
-    let i = memoLow-is ν w t (m .first) (k .0) in
+    let i = memoBound-is least ν w t (m .first) (k .0) in
     let j = low≤ ν (among w) t in
     (λ e. omega arith, λ f. absurd (f (omega arith)))
 max-shown ν w v (t then ts) m h k u (inr d) =
     let j = minimax-memoHigh ν t (m .first) (h .0) in
     (λ e. absurd (omega (arith, d .0)), λ f. max-shown ν w v ts (m .rest) (h .1) (k .1) (omega arith) (d .1))
-
--- the same by the bounds of the marked leaves
-pub max-elders : (ν : ℕ → ℕ) (w : List ℕ) (v : ℕ) (ks : Kids) (m : MemoKids ks) → MarksKids w ks m → DecidesMax ν v ks m
-    → EldersBelow ν (among w) v ks
-max-elders ν w v (last t) m k d = rw (← memoLow-is ν w t m k) d
-max-elders ν w v (t then ts) m k (inl d) = inl (rw (← memoLow-is ν w t (m .first) (k .0)) d)
-max-elders ν w v (t then ts) m k (inr d) =
-    inr (rw (← memoHigh-is ν w t (m .first) (k .0)) (d .0), max-elders ν w v ts (m .rest) (k .1) (d .1))
 
 -- the children up to the first one whose high is at most v have their lows above it
 abbrev pub DecidesMin : (ν : ℕ → ℕ) → ℕ → (ks : Kids) → MemoKids ks → Type 0
@@ -197,11 +189,11 @@ mtdMin-decides ν n ks h =
 pub min-shown : (ν : ℕ → ℕ) (w : List ℕ) (v : ℕ) (ks : Kids) (m : MemoKids ks) → ScoredKids ν ks → MarksKids w ks m
     → v ≤ minimaxKids ν Min ks → DecidesMin ν v ks m → Shown (known ν (among w) greatest) ν v ks
 min-shown ν w v (last t) m h k u d =
-    λ e. let i = memoHigh-is ν w t m k in
+    λ e. let i = memoBound-is greatest ν w t m k in
     let j = ≤high ν (among w) t h in
     omega arith
 min-shown ν w v (t then ts) m h k u (inl d) =
-    let i = memoHigh-is ν w t (m .first) (k .0) in
+    let i = memoBound-is greatest ν w t (m .first) (k .0) in
     let j = ≤high ν (among w) t (h .0) in
     (λ e. omega arith, λ f. absurd (f (omega arith)))
 min-shown ν w v (t then ts) m h k u (inr d) =

@@ -17,7 +17,7 @@ use Rattle.gametree.proofs.Choice.{cond-cases, or-left, or-right, or-ca
 use Rattle.gametree.proofs.Lists.{among-left}
 use Rattle.gametree.proofs.MtdSound.{Kept, sound}
 use Rattle.gametree.proofs.MtdValue.{kept-lower}
-use Rattle.gametree.proofs.MtdMarks.{pass-marks, memoHigh-is}
+use Rattle.gametree.proofs.MtdMarks.{pass-marks, memoBound-is}
 
 -- how many numbers below b pass the test
 pub how-many : (ℕ → Bool) → ℕ → ℕ
@@ -128,7 +128,7 @@ run-passes ν (suc f) γ w t m h k a g =
     (λ e.
     let b = s .below e in
     let i = run-passes ν f (memoHigh ν t n) (w ++ v) t n h (kept-lower ν t n (omega arith) (s .kept)) c (omega arith) in
-    let d = memoHigh-is ν (w ++ v) t n c in
+    let d = memoBound-is greatest ν (w ++ v) t n c in
     let l : high ν (among (w ++ v)) t < greatest = omega arith in
     let x = rw (← d) at (high-score ν (w ++ v) t l) in
     let j = rw (← map-append ν (w ++ v) u) at (among-left (map ν (w ++ v)) (map ν u) (memoHigh ν t n) x) in

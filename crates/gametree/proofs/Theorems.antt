@@ -20,7 +20,7 @@ use Rattle.gametree.specs.Sss.{stepFirst, sssFirst}
 use Rattle.gametree.specs.Certificate.{Rule, SolutionTree, solutionValue, Certifies, pairLeaves, inside}
 use Rattle.gametree.specs.Certificate.{chosen, ReadOff, fill, flag, Smallest, FlagsCertify}
 use Rattle.gametree.specs.Counting.{members, required, certificate?}
-use Rattle.gametree.specs.Move.{rootMove, boundMove, EldersBelow}
+use Rattle.gametree.specs.Move.{rootMove, boundMove}
 use Rattle.gametree.specs.Searches.{Searched, byAlphaBeta, byMtd, bySss, SameResults}
 use Rattle.gametree.specs.ClosedForm.{unrivalled}
 use Rattle.gametree.proofs.Lists.{all-map, all-among, all-at, once-length, sub-all, sub-once}
@@ -30,7 +30,7 @@ use Rattle.gametree.proofs.Bounds.{known-local}
 use Rattle.gametree.proofs.AlphaBetaValue.{alphaBeta-value, alphaBeta-evaluated, reached-ordered}
 use Rattle.gametree.proofs.AlphaBetaLocal.{alphaBeta-local, known-exact}
 use Rattle.gametree.proofs.MtdValue.{fresh-kept, mtd-right}
-use Rattle.gametree.proofs.MtdMarks.{pass-marks, fresh-marks, mtd-marks, memoHigh-is, memoLow-is}
+use Rattle.gametree.proofs.MtdMarks.{pass-marks, fresh-marks, mtd-marks, memoBound-is}
 use Rattle.gametree.proofs.MtdPasses.{how-many-different, run-passes}
 use Rattle.gametree.proofs.MtdLocal.{run-local, fresh-agree}
 use Rattle.gametree.proofs.Work.{full-size}
@@ -46,7 +46,7 @@ use Rattle.gametree.proofs.Certificates.{flag-inside, decided-certify}
 use Rattle.gametree.proofs.Counts.{once-count}
 use Rattle.gametree.proofs.SmallestPair.{smallest≤, smallest-found}
 use Rattle.gametree.proofs.Moves.{move-same, alphaBeta-shown, boundMove-local}
-use Rattle.gametree.proofs.MtdMoves.{mtdMax-decides, max-elders, mtd-move}
+use Rattle.gametree.proofs.MtdMoves.{mtd-move}
 use Rattle.gametree.proofs.Domination.{mtd-reaches}
 use Rattle.gametree.proofs.ClosedForm.{mtd-unrivalled}
 
@@ -104,7 +104,7 @@ memo-pass ν γ w t m d h = pass-marks ν γ w t m d h .marks
 
 -- the high that the memory gives a node is the high bound of those leaves
 pub memo-high : (ν : ℕ → ℕ) (w : List ℕ) (t : Tree) (m : Memo t) → Marks w t m → memoHigh ν t m ≡ high ν (among w) t
-memo-high ν w t m h = memoHigh-is ν w t m h
+memo-high ν w t m h = memoBound-is greatest ν w t m h
 
 -- MTD makes at most one pass more than there are different scores among the leaves that it evaluates
 pub mtd-passes : (ν : ℕ → ℕ) (t : Tree) → Proper ν t → mtd ν t .passes ≤ suc (different (map ν (mtd ν t .evaluated)))
@@ -229,8 +229,8 @@ module _ (ν : ℕ → ℕ) (t : Tree) (r : Proper ν t) where
       let m = mtd-marks ν t (r .distinct) .marks in
       let b = mtd-right ν t (r .scored) in
       record {
-        lowIs = sym (memoLow-is ν (mtd ν t .evaluated) t (mtd ν t .memo) m) ∙ b .low-is;
-        highIs = sym (memoHigh-is ν (mtd ν t .evaluated) t (mtd ν t .memo) m) ∙ b .high-is;
+        lowIs = sym (memoBound-is least ν (mtd ν t .evaluated) t (mtd ν t .memo) m) ∙ b .low-is;
+        highIs = sym (memoBound-is greatest ν (mtd ν t .evaluated) t (mtd ν t .memo) m) ∙ b .high-is;
       }
 
   -- what holds of MTD's leaves holds of those of SSS*
@@ -304,21 +304,6 @@ search-move ν (inner n p ks) r byMtd = mtd-move ν n p ks r (mtd-decided ν (in
 search-move ν (inner n p ks) r (bySss Y d) =
     as-mtd ν (inner n p ks) r (λ w. boundMove ν (among w) (inner n p ks) ≡ rootMove ν (inner n p ks)) Y d
     (mtd-move ν n p ks r (mtd-decided ν (inner n p ks) r))
-
--- under a Max root MTD, and so SSS*, leaves the elder brothers of the move with highs below the value
-pub mtd-elders : (ν : ℕ → ℕ) (n : ℕ) (ks : Kids) → Proper ν (inner n Max ks)
-    → EldersBelow ν (among (mtd ν (inner n Max ks) .evaluated)) (minimax ν (inner n Max ks)) ks
-mtd-elders ν n ks r =
-    let t = inner n Max ks in
-    let d = rw (mtd-right ν t (r .scored) .value) at (mtdMax-decides ν n ks (r .scored)) in
-    max-elders ν (mtd ν t .evaluated) _ ks (mtd ν t .memo .kids) (mtd-marks ν t (r .distinct) .marks) d
-
-pub sss-elders : (ν : ℕ → ℕ) (n : ℕ) (ks : Kids) → Proper ν (inner n Max ks) → (Y : Layout)
-    → Describes Y (inner n Max ks)
-    → EldersBelow ν (among (sssOver ν Y (inner n Max ks) .evaluated)) (minimax ν (inner n Max ks)) ks
-sss-elders ν n ks r Y d =
-    let t = inner n Max ks in
-    as-mtd ν t r (λ w. EldersBelow ν (among w) (minimax ν t) ks) Y d (mtd-elders ν n ks r)
 
 -- LOCALITY
 
