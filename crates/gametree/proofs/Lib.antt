@@ -1,13 +1,14 @@
--- Lemmas, grouped by idea; the theorems for use are in Theorems, the document's small trees in Cases.
+-- Lemmas, grouped by idea; the theorems for use are in Theorems.
 
+-- the small trees, computed
+pub mod Cases
 -- choices, lists, trees and bounds
 pub mod Choice
 pub mod Lists
 pub mod Nodes
 pub mod Bounds
 -- alpha-beta
-pub mod AlphaBetaValue
-pub mod AlphaBetaLocal
+pub mod Window
 -- MTD
 pub mod MtdSound
 pub mod MtdValue
@@ -38,4 +39,3 @@ pub mod MtdMoves
 pub mod Domination
 pub mod ClosedForm
 pub mod Theorems
-pub mod Cases

@@ -27,8 +27,8 @@ use Rattle.gametree.proofs.Lists.{all-map, all-among, all-at, once-leng
 use Rattle.gametree.proofs.Nodes.{leaves-once}
 use Rattle.gametree.proofs.Bounds.{minimax-score, low≤, ≤high, low-mono, high-mono, minimaxKids-best}
 use Rattle.gametree.proofs.Bounds.{known-local}
-use Rattle.gametree.proofs.AlphaBetaValue.{alphaBeta-value, alphaBeta-evaluated, reached-ordered}
-use Rattle.gametree.proofs.AlphaBetaLocal.{alphaBeta-local, known-exact}
+use Rattle.gametree.proofs.Window.{alphaBeta-value, alphaBeta-evaluated, reached-ordered}
+use Rattle.gametree.proofs.Window.{alphaBeta-local, known-exact}
 use Rattle.gametree.proofs.MtdValue.{fresh-kept, mtd-right}
 use Rattle.gametree.proofs.MtdMarks.{pass-marks, fresh-marks, mtd-marks, memoBound-is}
 use Rattle.gametree.proofs.MtdPasses.{how-many-different, run-passes}

@@ -1,13 +1,14 @@
 -- Small trees, with what the three searches make of them: those that document 01 marks P, and those on which a rule
 -- that is read wrongly gives something else.
 use Prim.Native.Nat.{ℕ, suc, _+_}
+use mathlib.Core.Path.{_≡_}
 use mathlib.Core.List.{List, [], _∷_, map}
 use lib.ListN.{getD}
 use Rattle.gametree.specs.Lists.{among}
 use Rattle.gametree.specs.Tree.{Max, Min, Tree, leaf, inner, last, _then_}
 use Rattle.gametree.specs.AlphaBeta.{Found, fullWindow}
 use Rattle.gametree.specs.Mtd.{mtd}
-use Rattle.gametree.specs.Sss.{finished, Ran, sss}
+use Rattle.gametree.specs.Sss.{End, finished, sss}
 use Rattle.gametree.specs.Certificate.{flag}
 use Rattle.gametree.specs.Move.{rootMove}
 
@@ -100,13 +101,15 @@ abbrev pub numbers : ℕ → List ℕ → List ℕ
 numbers k [] = []
 numbers k (x ∷ xs) = k ∷ numbers (suc k) xs
 
--- what the searches make of a tree: alpha-beta's value and leaves; MTD's value, leaves and passes; how SSS* ends, its
--- leaves and replacements; the root move; and the flags of the certificate that SSS* gives
+-- what the searches make of a tree: alpha-beta's value and leaves; MTD's value and leaves, and its passes; how SSS* ends,
+-- its leaves and its replacements; the root move; and the flags of the certificate that SSS* gives
 pub record Row : Type 0 where
   pub alphaBeta : Found
   pub mtd : Found
   pub passes : ℕ
-  pub sss : Ran
+  pub end : End
+  pub sss : List ℕ
+  pub replacements : ℕ
   pub move : ℕ
   pub flags : List ℕ
 
@@ -118,7 +121,9 @@ rowOf c =
       alphaBeta = fullWindow ν t;
       mtd = record { value = mtd ν t .value; evaluated = mtd ν t .evaluated };
       passes = mtd ν t .passes;
-      sss = sss ν t;
+      end = sss ν t .end;
+      sss = sss ν t .evaluated;
+      replacements = sss ν t .replacements;
       move = rootMove ν t;
       flags = map (flag ν (among (sss ν t .evaluated)) t) (numbers 0 (c .scores));
     }
@@ -131,7 +136,9 @@ line v m a w p r f =
       alphaBeta = record { value = v; evaluated = a };
       mtd = record { value = v; evaluated = w };
       passes = p;
-      sss = record { end = finished v; evaluated = w; replacements = r };
+      end = finished v;
+      sss = w;
+      replacements = r;
       move = m;
       flags = f;
     }
@@ -175,3 +182,7 @@ table =
     ∷ line (score 1) 1 (4 ∷ 6 ∷ 3 ∷ []) (4 ∷ 6 ∷ 3 ∷ []) 2 11 (3 ∷ 3 ∷ 3 ∷ 2 ∷ 3 ∷ 1 ∷ 1 ∷ [])
     ∷ line (score 3) 1 (2 ∷ 3 ∷ []) (2 ∷ 3 ∷ []) 3 7 (3 ∷ 3 ∷ 2 ∷ 3 ∷ [])
     ∷ []
+
+-- the definitions give a column of the table
+abbrev pub Column : {A : Type 0} → (Row → A) → Type 0
+Column f = map (λ c. f (rowOf c)) cases ≡ map f table
