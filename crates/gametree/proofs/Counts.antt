@@ -10,15 +10,12 @@ use lib.Dec.{eqb}
 use lib.ListN.{length, length-append}
 use borrow.Author.Tests.{eqb-true, ne-eqb}
 use Rattle.gametree.specs.Lists.{All, among, Once}
-use Rattle.gametree.specs.Tree.{Tree, leaf, inner, Kids, last, _then_}
-use Rattle.gametree.specs.Tree.{In, InKids, EveryLeafKids, Distinct, DistinctKids, leaves, leavesKids}
-use Rattle.gametree.specs.Tree.{leafCount, leafCountKids}
+use Rattle.gametree.specs.Tree.{Tree, leaf, inner, Kids, last, _then_, In, InKids, EveryLeafKids, Distinct}
+use Rattle.gametree.specs.Tree.{DistinctKids, leaves, leavesKids, leafCount, leafCountKids}
 use Rattle.gametree.specs.Layout.{has}
-use Rattle.gametree.specs.Certificate.{pairLeaves, pairLeavesKids}
-use Rattle.gametree.specs.Certificate.{LeavesIn}
+use Rattle.gametree.specs.Certificate.{pairLeaves, pairLeavesKids, LeavesIn}
 use Rattle.gametree.proofs.Choice.{cond-cases, true-not-false, or-left, or-cases}
-use Rattle.gametree.proofs.Lists.{among-left, among-right, all-zip}
-use Rattle.gametree.proofs.Lists.{all-among, once-length}
+use Rattle.gametree.proofs.Lists.{among-left, among-right, all-zip, all-among, once-length}
 use Rattle.gametree.proofs.Nodes.{in-has, has-in}
 
 shared-leaf : (a b c : Bool) → (a ≡ true → c ≡ true) → (b ≡ true → c ≡ true) → cond (a || b) 1 0 ≤ cond c 1 0

@@ -19,6 +19,7 @@ pub mod MemoArrays
 -- SSS*, and that it does what MTD does
 pub mod SssSteps
 pub mod Frontier
+pub mod Around
 pub mod Work
 pub mod Simulation
 pub mod SssRun

@@ -14,8 +14,7 @@ use Rattle.gametree.specs.AlphaBeta.{raise, lower, clamp, alphaBeta, alp
 use Rattle.gametree.specs.Certificate.{worst}
 use Rattle.gametree.specs.Move.{firstWith, rootMove, boundMove}
 use Rattle.gametree.proofs.Bounds.{low≤, ≤high, known-local}
-use Rattle.gametree.proofs.Window.{alphaBeta-value}
-use Rattle.gametree.proofs.Window.{onward-first, onward-rest, known-exact}
+use Rattle.gametree.proofs.Window.{alphaBeta-value, onward-first, onward-rest, known-exact}
 use Rattle.gametree.proofs.Solution.{Under, under-refl}
 
 -- of each child up to the first that has the value v under ν: if it has it under ν, it has it under μ

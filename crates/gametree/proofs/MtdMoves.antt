@@ -1,13 +1,13 @@
 -- MTD's leaves show the first child that has the root's value.
 use Prim.Native.Nat.{ℕ, zero, suc, _≤_, _<_}
-use native.Mathlib.Nat.{le-refl, le-trans, lt-of-lt-of-le, le-of-lt}
+use native.Mathlib.Nat.{le-refl, le-trans, lt-of-lt-of-le}
 use native.Mathlib.Omega.{arith}
 use mathlib.Core.Path.{_≡_, refl, _∙_, ap}
 use mathlib.Core.Logic.{_⊎_, inl, inr, ⊎-elim}
 use mathlib.Core.Bool.{true, false, not}
 use mathlib.Core.List.{List}
 use lib.Dec.{ltb}
-use Rattle.gametree.specs.Lists.{All, among}
+use Rattle.gametree.specs.Lists.{among}
 use Rattle.gametree.specs.Tree.{Side, Max, Min, inner, Kids, last, _then_, least, greatest, minimaxKids}
 use Rattle.gametree.specs.Tree.{ScoredKids, Proper}
 use Rattle.gametree.specs.Bounds.{known, Decided}
@@ -15,13 +15,12 @@ use Rattle.gametree.specs.Mtd.{Memo, MemoKids, memoHigh, memoHighKids, P
 use Rattle.gametree.specs.Mtd.{fresh, mtd, MarksKids}
 use Rattle.gametree.specs.Move.{rootMove, boundMove}
 use Rattle.gametree.proofs.Choice.{cond-cases, true-not-false}
-use Rattle.gametree.proofs.Lists.{all-map}
 use Rattle.gametree.proofs.Bounds.{minimax-score, low≤, ≤high}
 use Rattle.gametree.proofs.MtdSound.{memoLow, memoLow-minimax, minimax-memoHigh, Kept, KeptKids, sound}
 use Rattle.gametree.proofs.MtdValue.{kept-lower, fresh-kept, fresh-memoHigh, freshKids-memoHigh, mtd-right}
 use Rattle.gametree.proofs.MtdMarks.{mtd-marks, memoBound-is}
-use Rattle.gametree.proofs.Frontier.{frontier, ReadyKids, Fitted, states, notBelow-low, memoLow-memoHigh}
-use Rattle.gametree.proofs.Frontier.{frontier-high, next}
+use Rattle.gametree.proofs.Frontier.{ReadyKids, Fitted, AtMost, states, notBelow-low, notBelow-high, next}
+use Rattle.gametree.proofs.Frontier.{next-high}
 use Rattle.gametree.proofs.Moves.{Shown, move-same}
 
 -- the children up to the first one not below v have their highs below it, as the memory's bounds say
@@ -120,7 +119,7 @@ readyMin-decides : (ν : ℕ → ℕ) (γ v : ℕ) (ks : Kids) (m : MemoKids ks)
 readyMin-decides ν γ v (last t) m h k g r e l = omega arith
 readyMin-decides ν γ v (t then ts) m h k g (inl r) e l =
     let a = notBelow-low ν γ t (m .first) (k .0) (r .0) in
-    let b = memoLow-memoHigh ν t (m .first) (h .0) in
+    let b = notBelow-high ν γ t (m .first) (h .0) (k .0) (r .0) in
     inr (omega arith, readyMin-decides ν γ v ts (m .rest) (h .1) (k .1) g (r .1) (omega arith) l)
 readyMin-decides ν γ v (t then ts) m h k g (inr r) e l =
     let a = ap (λ x. memoHighKids ν Min ts x) (r .1) ∙ freshKids-memoHigh ν Min ts in
@@ -154,7 +153,7 @@ module _ (ν : ℕ → ℕ) (n : ℕ) (ks : Kids) where
   -- the first pass finds a root below, so the last one's test is the high that an earlier one left
   runMin-decides : (f γ : ℕ) (m : Memo (inner n Min ks)) (w : Fitted (inner n Min ks) m) → ScoredKids ν ks
       → Kept ν γ (inner n Min ks) m
-      → γ ≤ greatest → All (λ s. s .merit ≤ γ) (states ν γ (inner n Min ks) m w)
+      → γ ≤ greatest → AtMost γ (states ν γ (inner n Min ks) m w)
       → (γ ≡ greatest) ⊎ DecidesMin ν γ ks (m .kids) → γ < f
       → DecidesMin ν (run ν f γ (inner n Min ks) m .value) ks (run ν f γ (inner n Min ks) m .memo .kids)
   runMin-decides zero γ m w h k g b d l = absurd (omega (arith, l))
@@ -168,10 +167,8 @@ module _ (ν : ℕ → ℕ) (n : ℕ) (ks : Kids) where
       (λ y. rootMin-keeps γ γ m h (k .1) y) d)
       (λ e.
       let c = a .below e in
-      let N = next ν γ t m w h k g b e in
-      let i =
-      frontier-high ν γ t x h (a .kept) g (N .0)
-      (all-map _ (λ s. s .merit ≤ γ) (λ s y. le-of-lt y) (frontier ν t x) (N .1)) in
+      let N = next ν γ g t m w h k b e in
+      let i = next-high ν γ g t m w h k b e in
       runMin-decides f (memoHigh ν t x) x (inr (N .0)) h (kept-lower ν t x (omega arith) (a .kept)) (omega arith) i
       (inr (readyMin-decides ν γ _ ks (x .kids) h (a .kept .1) g (N .0 .1) refl c)) (omega arith))
 

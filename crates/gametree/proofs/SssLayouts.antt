@@ -9,9 +9,9 @@ use Rattle.gametree.specs.Lists.{All}
 use Rattle.gametree.specs.Tree.{Side, Max, Min, Tree, leaf, inner, Kids, last, _then_, number, size, In, InKids}
 use Rattle.gametree.specs.Layout.{Kind, tip, fork, Link, root, under, Layout, othersOf, Answers, AnswersKids}
 use Rattle.gametree.specs.Layout.{Describes, SameOn}
-use Rattle.gametree.specs.Sss.{Status, LIVE, SOLVED, State, live, solved, Taken, beats, choose, pick, Step}
-use Rattle.gametree.specs.Sss.{empty, stop, quiet, evaluating, put, purge, replaceLive, replaceSolved, replace}
-use Rattle.gametree.specs.Sss.{step, Ran, follow, runFrom, start, sssOver}
+use Rattle.gametree.specs.Sss.{Status, LIVE, SOLVED, State, live, solved, Taken, beats, choose, pick, Step, empty}
+use Rattle.gametree.specs.Sss.{stop, quiet, evaluating, put, purge, replaceLive, replaceSolved, replace, step}
+use Rattle.gametree.specs.Sss.{Ran, follow, runFrom, start, sssOver}
 use Rattle.gametree.proofs.Choice.{cond-cases}
 use Rattle.gametree.proofs.Lists.{all-append, all-map}
 use Rattle.gametree.proofs.Nodes.{number-in, first-in, others-in}

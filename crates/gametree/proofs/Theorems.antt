@@ -17,8 +17,8 @@ use Rattle.gametree.specs.Mtd.{Memo, memoHigh, pass, run, fresh, mtd, Ma
 use Rattle.gametree.specs.Layout.{Layout, Describes, SameOn, layoutOf}
 use Rattle.gametree.specs.Sss.{State, empty, step, finished, runFrom, start, sssOver, ListAfter, resumed}
 use Rattle.gametree.specs.Sss.{stepFirst, sssFirst}
-use Rattle.gametree.specs.Certificate.{Rule, SolutionTree, solutionValue, Certifies, pairLeaves, inside}
-use Rattle.gametree.specs.Certificate.{chosen, ReadOff, fill, flag, Smallest, FlagsCertify}
+use Rattle.gametree.specs.Certificate.{Rule, SolutionTree, solutionValue, Certifies, pairLeaves, inside, chosen}
+use Rattle.gametree.specs.Certificate.{ReadOff, fill, flag, Smallest, FlagsCertify}
 use Rattle.gametree.specs.Counting.{members, required, certificate?}
 use Rattle.gametree.specs.Move.{rootMove, boundMove}
 use Rattle.gametree.specs.Searches.{Searched, byAlphaBeta, byMtd, bySss, SameResults}
@@ -27,8 +27,8 @@ use Rattle.gametree.proofs.Lists.{all-map, all-among, all-at, once-leng
 use Rattle.gametree.proofs.Nodes.{leaves-once}
 use Rattle.gametree.proofs.Bounds.{minimax-score, low≤, ≤high, low-mono, high-mono, minimaxKids-best}
 use Rattle.gametree.proofs.Bounds.{known-local}
-use Rattle.gametree.proofs.Window.{alphaBeta-value, alphaBeta-evaluated, reached-ordered}
-use Rattle.gametree.proofs.Window.{alphaBeta-local, known-exact}
+use Rattle.gametree.proofs.Window.{alphaBeta-value, alphaBeta-evaluated, reached-ordered, alphaBeta-local}
+use Rattle.gametree.proofs.Window.{known-exact}
 use Rattle.gametree.proofs.MtdValue.{fresh-kept, mtd-right}
 use Rattle.gametree.proofs.MtdMarks.{pass-marks, fresh-marks, mtd-marks, memoBound-is}
 use Rattle.gametree.proofs.MtdPasses.{how-many-different, run-passes}

@@ -5,8 +5,8 @@ use mathlib.Core.Path.{_≡_}
 use mathlib.Core.Logic.{_⊎_}
 use mathlib.Core.Bool.{Bool, true, false, cond, not, _&&_, _||_}
 use lib.Dec.{eqb}
-use Rattle.gametree.specs.Tree.{Side, Max, Min, Tree, leaf, inner, Kids, last, _then_}
-use Rattle.gametree.specs.Tree.{least, greatest, better, minimax, minimaxKids, number, EveryLeaf}
+use Rattle.gametree.specs.Tree.{Side, Max, Min, Tree, leaf, inner, Kids, last, _then_, least, greatest, better}
+use Rattle.gametree.specs.Tree.{minimax, minimaxKids, number, EveryLeaf}
 use Rattle.gametree.specs.Bounds.{known}
 
 -- each child, no child, exactly one child is in the set g
