@@ -38,5 +38,6 @@ pub mod SmallestPair
 pub mod Moves
 pub mod MtdMoves
 pub mod Domination
+pub mod MemoAt
 pub mod ClosedForm
 pub mod Theorems
