@@ -77,7 +77,8 @@ flag-parts Min false true = refl
 flag-parts Min false false = refl
 
 -- a node's flag says which of the two trees it is in
-pub flag-inside : (p : Side) (ν : ℕ → ℕ) (E : ℕ → Bool) (t : Tree) (k : ℕ) → inside p (flag ν E t k) ≡ solutionOf p ν E t k
+pub flag-inside : (p : Side) (ν : ℕ → ℕ) (E : ℕ → Bool) (t : Tree) (k : ℕ)
+    → inside p (flag ν E t k) ≡ solutionOf p ν E t k
 flag-inside Max ν E t k = flag-parts Max (solutionOf Max ν E t k) (solutionOf Min ν E t k)
 flag-inside Min ν E t k = flag-parts Min (solutionOf Max ν E t k) (solutionOf Min ν E t k)
 

@@ -22,8 +22,8 @@ use Rattle.gametree.proofs.Lists.{all-append, all-map, all-among}
 use Rattle.gametree.proofs.Bounds.{minimax-score}
 use Rattle.gametree.proofs.MtdSound.{minimax-memoHigh}
 use Rattle.gametree.proofs.MtdMarks.{marks-other, marksKids-before, mtd-marks}
-use Rattle.gametree.proofs.MemoAt.{firstFloor, restFloor, memoAt, memoAtKids, less-or-not, kids-path}
-use Rattle.gametree.proofs.MemoAt.{inner-path, at-fresh, atKids-fresh, frozen, at-below, at-same}
+use Rattle.gametree.proofs.MemoAt.{firstFloor, restFloor, memoAt, memoAtKids, less-or-not, kids-path, inner-path}
+use Rattle.gametree.proofs.MemoAt.{at-fresh, atKids-fresh, frozen, at-below, at-same}
 
 -- THE NEEDED LEAVES
 

@@ -23,6 +23,7 @@ pub mod Around
 pub mod Work
 pub mod Simulation
 pub mod SssRun
+pub mod Merits
 pub mod SssLists
 pub mod SssLocal
 pub mod OwnLayout

@@ -1,6 +1,6 @@
 -- The memory of MTD in closed form: `memoAt` gives what is remembered after the passes with tests of at least c, of a
--- node that is first tried with the test β, from minimax values alone. A node whose value is reached stays as it is; one
--- whose value is not reached has its high below the tests made; and tests above a node's high change nothing.
+-- node that is first tried with the test β, from minimax values alone. A node whose value is reached stays as it is;
+-- one whose value is not reached has its high below the tests made; and tests above a node's high change nothing.
 use Prim.Native.Nat.{ℕ, suc, _≤_, _<_, min, max}
 use native.Mathlib.Nat.{le-trans, lt-of-lt-of-le}
 use native.Mathlib.Omega.{arith}

@@ -4,12 +4,14 @@ use native.Mathlib.Omega.{arith}
 use mathlib.Core.Path.{_≡_, refl, sym, _∙_, ap, subst}
 use mathlib.Core.List.{List, [], _∷_, _++_, append-assoc}
 use lib.ListN.{length}
-use Rattle.gametree.specs.Tree.{Tree, size, Scored}
+use Rattle.gametree.specs.Tree.{Tree, minimax, size, Scored}
 use Rattle.gametree.specs.Mtd.{mtd}
 use Rattle.gametree.specs.Layout.{Layout, Describes}
-use Rattle.gametree.specs.Sss.{State, empty, stop, quiet, evaluating, step, End, Ran, runFrom, start, sssOver}
-use Rattle.gametree.specs.Sss.{ListAfter, atStart, afterQuiet, afterEvaluating, resumed, stepFirst}
+use Rattle.gametree.specs.Sss.{takenMerit, State, empty, stop, quiet, evaluating, step, End, Ran, runFrom, start}
+use Rattle.gametree.specs.Sss.{sssOver, ListAfter, atStart, afterQuiet, afterEvaluating, resumed, stepFirst}
 use Rattle.gametree.proofs.SssSteps.{Takes, Steps, done, quietly, evaluates, room-of}
+use Rattle.gametree.proofs.MtdValue.{mtd-right}
+use Rattle.gametree.proofs.Merits.{steps-fall}
 use Rattle.gametree.proofs.Work.{full, full-size}
 use Rattle.gametree.proofs.SssRun.{root-stops, mtd-steps}
 
@@ -80,6 +82,8 @@ pub record Reaching (ν : ℕ → ℕ) (Y : Layout) (t : Tree) (W : List ℕ) (k
   pub first : stepFirst ν Y L ≡ step ν Y L
   -- fewer replacements than twice the number of nodes led to it
   pub few : k < 2 * size t
+  -- the state taken has no less merit than the tree has value
+  pub merit : minimax ν t ≤ takenMerit Y L
   -- the leaves so far are the first of the whole run's
   pub toCome : List ℕ
   pub whole : w ++ toCome ≡ W
@@ -96,6 +100,7 @@ module _ (ν : ℕ → ℕ) (Y : Layout) (t : Tree) (d : Describes Y t) (h : Sco
         state = ahead-state ν Y _ (mtd ν t .evaluated) (full t) v e (a .steps);
         first = ahead-first ν Y _ (mtd ν t .evaluated) (full t) v e (a .steps);
         few = omega (arith, a .few, full-size t);
+        merit = rw (← mtd-right ν t h .value) (steps-fall ν Y (a .steps));
         toCome = a .toCome;
         whole = a .whole;
       }

@@ -15,8 +15,8 @@ use Rattle.gametree.specs.Bounds.{known, low, high, bestOf, Decided}
 use Rattle.gametree.specs.AlphaBeta.{reached, clamp, alphaBeta, fullWindow}
 use Rattle.gametree.specs.Mtd.{Memo, memoHigh, pass, run, fresh, mtd, Marks}
 use Rattle.gametree.specs.Layout.{Layout, Describes, SameOn, layoutOf}
-use Rattle.gametree.specs.Sss.{State, empty, step, finished, runFrom, start, sssOver, ListAfter, resumed}
-use Rattle.gametree.specs.Sss.{stepFirst, sssFirst}
+use Rattle.gametree.specs.Sss.{takenMerit, State, empty, step, finished, runFrom, start, sssOver, ListAfter}
+use Rattle.gametree.specs.Sss.{resumed, stepFirst, sssFirst}
 use Rattle.gametree.specs.Certificate.{Rule, SolutionTree, solutionValue, Certifies, pairLeaves, inside, chosen}
 use Rattle.gametree.specs.Certificate.{ReadOff, fill, flag, Smallest, FlagsCertify}
 use Rattle.gametree.specs.Counting.{members, required, certificate?}
@@ -35,6 +35,7 @@ use Rattle.gametree.proofs.MtdPasses.{how-many-different, run-passes}
 use Rattle.gametree.proofs.MtdLocal.{run-local, fresh-agree}
 use Rattle.gametree.proofs.Work.{full-size}
 use Rattle.gametree.proofs.SssRun.{sss-is-mtd, sss-is-first}
+use Rattle.gametree.proofs.Merits.{list-unique, run-falls, first-merit}
 use Rattle.gametree.proofs.SssLists.{list-reached, resume}
 use Rattle.gametree.proofs.SssLocal.{runFrom-local}
 use Rattle.gametree.proofs.OwnLayout.{own-layout}
@@ -157,6 +158,14 @@ module _ (ν : ℕ → ℕ) (t : Tree) (h : Scored ν t) (Y : Layout) (d : Descr
     pub list-few : k < 2 * size t
     list-few = list-reached ν Y t d h r .few
 
+    -- the merit of the state taken from it is not below the minimax value
+    pub merit-bound : minimax ν t ≤ takenMerit Y L
+    merit-bound = list-reached ν Y t d h r .merit
+
+    -- and is `greatest` until a leaf is evaluated
+    pub merit-start : length w ≡ 0 → takenMerit Y L ≡ greatest
+    merit-start e = first-merit ν Y t L r e list-state
+
     -- the leaves so far are the first of the whole run's list
     pub list-prefix : (u : List ℕ) × (w ++ u ≡ sssOver ν Y t .evaluated)
     list-prefix = let a = list-reached ν Y t d h r in (a .toCome, a .whole ∙ sym sss-mtd)
@@ -164,6 +173,16 @@ module _ (ν : ℕ → ℕ) (t : Tree) (h : Scored ν t) (Y : Layout) (d : Descr
     -- and the run goes on from it, for what is left of the bound on states taken
     pub list-resumes : (f : ℕ) → k + f ≡ 2 * size t → sssOver ν Y t ≡ resumed k w (runFrom (λ M. step ν Y M) f L)
     list-resumes f e = resume ν Y t r f e
+
+-- the list after a number of replacements is determined, and so are the leaves that they evaluated
+pub list-determined : (ν : ℕ → ℕ) (Y : Layout) (t : Tree) {k : ℕ} {w v : List ℕ} {L M : List State}
+    → ListAfter ν Y t k w L → ListAfter ν Y t k v M → (w ≡ v) × (L ≡ M)
+list-determined ν Y t r q = list-unique ν Y t r q
+
+-- the merit of the state taken never rises along a run
+pub merit-falls : (ν : ℕ → ℕ) (Y : Layout) (t : Tree) {k j : ℕ} {w v : List ℕ} {L M : List State}
+    → ListAfter ν Y t k w L → ListAfter ν Y t j v M → k ≤ j → takenMerit Y M ≤ takenMerit Y L
+merit-falls ν Y t r q h = run-falls ν Y t r q h
 
 -- CERTIFICATES
 

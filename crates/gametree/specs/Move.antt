@@ -1,5 +1,5 @@
--- The move: the first child of the root with the root's value, by the minimax values, and by the bounds of a set of
--- evaluated leaves.
+-- The root move (01: the move): the first child of the root with the root's value, by the minimax values, and by the
+-- bounds of a set of evaluated leaves.
 use Prim.Native.Nat.{ℕ}
 use mathlib.Core.Bool.{Bool, cond}
 use lib.Dec.{eqb}

@@ -1,4 +1,5 @@
--- SSS*: its states, its list, one replacement, and the run, over a layout of the tree.
+-- SSS*: its states, its list, one replacement, and the run, over a layout of the tree. State, LIVE, SOLVED, merit and
+-- replacement are document 01's words, and Stockman's (source 002).
 use Prim.Native.Nat.{ℕ, zero, suc, _+_, _*_, min}
 use mathlib.Core.Path.{_≡_}
 use mathlib.Core.Bool.{Bool, true, false, cond, _||_, _&&_}
@@ -8,7 +9,7 @@ use lib.Dec.{leb, ltb, eqb}
 use Rattle.gametree.specs.Tree.{Max, Min, Tree, greatest, number, size}
 use Rattle.gametree.specs.Layout.{Layout, Kind, tip, fork, Link, root, under, layoutOf}
 
--- a state: a node, its status, and its merit, an upper bound of the value (Stockman's words)
+-- a state: a node, its status, and its merit, an upper bound of the root's value
 pub data Status : Type 0 where
   LIVE SOLVED : Status
 
@@ -43,6 +44,11 @@ abbrev pub pick : Layout → State → List State → Taken
 pick Y s [] = record { left = []; state = s; right = [] }
 pick Y s (x ∷ xs) = choose (beats Y s (pick Y x xs .state)) s (x ∷ xs) (pick Y x xs)
 
+-- the merit of the state that is taken; 0 where there is none
+abbrev pub takenMerit : Layout → List State → ℕ
+takenMerit Y [] = 0
+takenMerit Y (s ∷ ss) = pick Y s ss .state .merit
+
 -- what one step does: nothing is on the list; the root, SOLVED, is taken; a state is replaced; a state is replaced
 -- and a leaf evaluated
 pub data Step : Type 0 where
@@ -55,7 +61,7 @@ pub data Step : Type 0 where
 abbrev pub put : Taken → List State → List State
 put k new = k .left ++ (new ++ k .right)
 
--- the states that are not below p
+-- the states that are not below p: all those below it are purged, and not its children alone
 abbrev pub purge : Layout → ℕ → List State → List State
 purge Y p [] = []
 purge Y p (s ∷ ss) = cond (Y .above p (s .node)) (purge Y p ss) (s ∷ purge Y p ss)
@@ -79,18 +85,19 @@ abbrev pub replace : (ℕ → ℕ) → Layout → Taken → Status → Step
 replace ν Y k LIVE = replaceLive ν k (Y .kind (k .state .node))
 replace ν Y k SOLVED = replaceSolved Y k (Y .link (k .state .node))
 
--- one step of SSS*
+-- one step of SSS*: the state taken, replaced
 abbrev pub step : (ℕ → ℕ) → Layout → List State → Step
 step ν Y [] = empty
 step ν Y (s ∷ ss) = replace ν Y (pick Y s ss) (pick Y s ss .state .status)
 
--- how a run ends: with the root's value; with no state on the list; or past its bound on states taken
+-- how a run ends: with the root's value, when the root, SOLVED, is taken; with no state on the list (01: question 15);
+-- or past its bound on states taken. The last two never happen: `sss-minimax` in Theorems.
 pub data End : Type 0 where
   finished : (value : ℕ) → End
   noState : End
   outOfFuel : End
 
--- what a run gives
+-- what a run gives: its end, the leaves evaluated, in order, and how many replacements there were
 pub record Ran : Type 0 where
   pub end : End
   pub evaluated : List ℕ
@@ -112,11 +119,11 @@ abbrev pub runFrom : (List State → Step) → ℕ → List State → Ran
 runFrom next zero L = ends outOfFuel
 runFrom next (suc f) L = follow (next L) (λ M. runFrom next f M)
 
--- the list at the start
+-- the list at the start: the root, LIVE, with the greatest merit
 abbrev pub start : Tree → List State
 start t = live (number t) greatest ∷ []
 
--- SSS* over a layout of the tree
+-- SSS* over a layout of the tree: at most 2 × nodes - 1 replacements, and the root is taken
 abbrev pub sssOver : (ℕ → ℕ) → Layout → Tree → Ran
 sssOver ν Y t = runFrom (λ L. step ν Y L) (2 * size t) (start t)
 
