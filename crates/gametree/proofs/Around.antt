@@ -73,6 +73,7 @@ states-within : (ν : ℕ → ℕ) (γ : ℕ) (t : Tree) (m : Memo t) (w : Fitte
 states-within ν γ t m (inl e) = record { nodes = (number-in t, tt); few = size-positive t }
 states-within ν γ t m (inr r) = frontier-within ν t m
 
+-- and those of children
 pub statesKids-within : (ν : ℕ → ℕ) (γ : ℕ) (s : Side) (ks : Kids) (m : MemoKids ks) (w : FittedKids s ks m)
     → Within (λ p. InKids p ks) (sizeKids ks) (statesKids ν γ s ks m w)
 statesKids-within ν γ s (last t) m w = states-within ν γ t m w
@@ -100,10 +101,11 @@ pub record Around (Y : Layout) (γ : ℕ) (P : ℕ → Type 0) (n : ℕ) (L R : 
   -- there is room for all of them
   pub room : length L + (n + length R) ≤ Y .nodes
 
--- around a tree, and around the children of a node
+-- around a tree
 abbrev pub AroundTree : Layout → ℕ → Tree → List State → List State → Type 0
 AroundTree Y γ t L R = Around Y γ (λ p. In p t) (size t) L R
 
+-- around the children of a node
 abbrev pub AroundKids : Layout → ℕ → Kids → List State → List State → Type 0
 AroundKids Y γ ks L R = Around Y γ (λ p. InKids p ks) (sizeKids ks) L R
 
@@ -175,13 +177,15 @@ handed-clear Y γ n s ks L R a = (
 -- STEP 1. THE STATE OF MERIT γ IS TAKEN
 
 module _ (ν : ℕ → ℕ) (Y : Layout) (γ : ℕ) (t : Tree) (L R : List State) (a : AroundTree Y γ t L R) where
-  -- the lists fit: with one state between them, with a frontier, and after what is handed up
+  -- the lists fit with one state between them
   pub room-one : (x : State) → length (L ++ (x ∷ R)) ≤ Y .nodes
   room-one x = simp length-append (omega (arith, a .room, size-positive t))
 
+  -- with a frontier between them
   pub room-frontier : (m : Memo t) → length (L ++ (frontier ν t m ++ R)) ≤ Y .nodes
   room-frontier m = simp length-append (omega (arith, a .room, frontier-within ν t m .few))
 
+  -- and with the parent's state, after what was handed up
   pub room-handed : (s : Side) (p : ℕ) (x : State) → length (handed s Y p L ++ (x ∷ handed s Y p R)) ≤ Y .nodes
   room-handed s p x =
       simp length-append
@@ -214,11 +218,12 @@ module _ (ν : ℕ → ℕ) (Y : Layout) (γ : ℕ) (t : Tree) (L R : List State
   takes-inner Max c cs e = takes LIVE _ (rw e refl)
   takes-inner Min c cs e = takes LIVE _ (rw e refl)
 
-  -- a SOLVED child of a Max node hands up, and so does the last child of any node
+  -- a SOLVED child of a Max node hands up
   pub takes-max : (p : ℕ) (b : Option ℕ) → Y .link (number t) ≡ under p Max b
       → Takes ν Y (L ++ (solved (number t) γ ∷ R)) (quiet (purge Y p L ++ (solved p γ ∷ purge Y p R)))
   takes-max p b e = takes SOLVED _ (rw e refl)
 
+  -- so does the last child of any node
   pub takes-last : (s : Side) (p : ℕ) → Y .link (number t) ≡ under p s none
       → Takes ν Y (L ++ (solved (number t) γ ∷ R)) (quiet (handed s Y p L ++ (solved p γ ∷ handed s Y p R)))
   takes-last Max p e = takes-max p none e

@@ -41,7 +41,7 @@ mutual
 
 module _ (ν : ℕ → ℕ) (E : ℕ → Bool) (t : Tree) (h : Proper ν t) (d : Decided ν E t) (g : ℕ → Bool) where
   -- a max tree that is read off the highs
-  pub read-max : ReadOff Max (known ν E greatest) g true t
+  read-max : ReadOff Max (known ν E greatest) g true t
       → SolutionTree Max g t × (solutionValue Max ν g t ≡ minimax ν t) × LeavesIn g E t
   read-max r =
       let b = minimax-score ν t (h .scored) in
@@ -54,7 +54,7 @@ module _ (ν : ℕ → ℕ) (E : ℕ → Bool) (t : Tree) (h : Proper ν t) (d :
       (k .0, sym (known-solution Max ν E greatest g t i) ∙ k .1 ∙ d .highIs, i)
 
   -- a min tree that is read off the lows
-  pub read-min : ReadOff Min (known ν E least) g true t
+  read-min : ReadOff Min (known ν E least) g true t
       → SolutionTree Min g t × (solutionValue Min ν g t ≡ minimax ν t) × LeavesIn g E t
   read-min r =
       let b = minimax-score ν t (h .scored) in

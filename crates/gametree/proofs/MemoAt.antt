@@ -50,11 +50,12 @@ less-or-not a b = go (leb b a) refl
     go true e = inr (leb-true b a e)
     go false e = inl (leb-false b a e)
 
--- two memories are the same if their parts are
+-- two memories of children are the same if their parts are
 pub kids-path : (t : Tree) (ts : Kids) {a b : Memo t} {x y : MemoKids ts} → a ≡ b → x ≡ y
     → _≡_ {A = MemoKids (t then ts)} (record { first = a; rest = x }) (record { first = b; rest = y })
 kids-path t ts p q = ap₂ {C = MemoKids (t then ts)} (λ x y. record { first = x; rest = y }) p q
 
+-- so are two of an inner node
 pub inner-path : (n : ℕ) (s : Side) (ks : Kids) {a b : Bool} {x y : MemoKids ks} → a ≡ b → x ≡ y
     → _≡_ {A = Memo (inner n s ks)} (record { notBelow = a; kids = x }) (record { notBelow = b; kids = y })
 inner-path n s ks p q = ap₂ {C = Memo (inner n s ks)} (λ x y. record { notBelow = x; kids = y }) p q

@@ -23,7 +23,7 @@ Shown μ ν v (last t) = minimax ν t ≡ v → minimax μ t ≡ v
 Shown μ ν v (t then ts) = (minimax ν t ≡ v → minimax μ t ≡ v) × ((minimax ν t ≡ v → ⊥) → Shown μ ν v ts)
 
 -- what a side's own bound, of the leaves E, makes of a child: nothing better than its value
-pub bound-under : (p : Side) (ν : ℕ → ℕ) (E : ℕ → Bool) (t : Tree) → Scored ν t
+bound-under : (p : Side) (ν : ℕ → ℕ) (E : ℕ → Bool) (t : Tree) → Scored ν t
     → Under p (minimax (known ν E (worst p)) t) (minimax ν t)
 bound-under Max ν E t h = low≤ ν E t
 bound-under Min ν E t h = ≤high ν E t h
@@ -32,7 +32,7 @@ under-same : (p : Side) (x m v : ℕ) → Under p x m → Under p m v → x ≡ 
 under-same Max x m v h k e = omega arith
 under-same Min x m v h k e = omega arith
 
-pub under-split : (p : Side) (a b v : ℕ) → Under p (better p a b) v → Under p a v × Under p b v
+under-split : (p : Side) (a b v : ℕ) → Under p (better p a b) v → Under p a v × Under p b v
 under-split Max a b v h = omega arith
 under-split Min a b v h = omega arith
 
@@ -49,7 +49,7 @@ pick-same b true n x y e f = rw e refl
 pick-same b false n x y e f = rw e (f refl)
 
 -- so the first child is the same
-pub first-same : (p : Side) (ν : ℕ → ℕ) (E : ℕ → Bool) (v : ℕ) (ks : Kids) → ScoredKids ν ks
+first-same : (p : Side) (ν : ℕ → ℕ) (E : ℕ → Bool) (v : ℕ) (ks : Kids) → ScoredKids ν ks
     → Under p (minimaxKids ν p ks) v
     → Shown (known ν E (worst p)) ν v ks → firstWith (minimax (known ν E (worst p))) v ks ≡ firstWith (minimax ν) v ks
 first-same p ν E v (last t) h u s =

@@ -83,7 +83,7 @@ module _ (ν : ℕ → ℕ) (n : ℕ) (ks : Kids) where
       (le-refl _) (omega arith))
 
 -- MTD decides at a Max root: the elder brothers of the first child not below the value have their highs below it
-pub mtdMax-decides : (ν : ℕ → ℕ) (n : ℕ) (ks : Kids) → ScoredKids ν ks
+mtdMax-decides : (ν : ℕ → ℕ) (n : ℕ) (ks : Kids) → ScoredKids ν ks
     → DecidesMax ν (mtd ν (inner n Max ks) .value) ks (mtd ν (inner n Max ks) .memo .kids)
 unfolding mtd
 mtdMax-decides ν n ks h =
@@ -92,7 +92,7 @@ mtdMax-decides ν n ks h =
     (omega (arith, fresh-memoHigh ν t)) (omega arith)
 
 -- what is decided is shown
-pub max-shown : (ν : ℕ → ℕ) (w : List ℕ) (v : ℕ) (ks : Kids) (m : MemoKids ks) → ScoredKids ν ks → MarksKids w ks m
+max-shown : (ν : ℕ → ℕ) (w : List ℕ) (v : ℕ) (ks : Kids) (m : MemoKids ks) → ScoredKids ν ks → MarksKids w ks m
     → minimaxKids ν Max ks ≤ v → DecidesMax ν v ks m → Shown (known ν (among w) least) ν v ks
 max-shown ν w v (last t) m h k u d =
     λ e. let i = memoBound-is least ν w t m k in
@@ -174,7 +174,7 @@ module _ (ν : ℕ → ℕ) (n : ℕ) (ks : Kids) where
 
 -- MTD decides at a Min root: the elder brothers of the first child whose high is at most the value have their lows
 -- above it
-pub mtdMin-decides : (ν : ℕ → ℕ) (n : ℕ) (ks : Kids) → ScoredKids ν ks
+mtdMin-decides : (ν : ℕ → ℕ) (n : ℕ) (ks : Kids) → ScoredKids ν ks
     → DecidesMin ν (mtd ν (inner n Min ks) .value) ks (mtd ν (inner n Min ks) .memo .kids)
 unfolding mtd
 mtdMin-decides ν n ks h =
@@ -183,7 +183,7 @@ mtdMin-decides ν n ks h =
     (inl refl) (omega arith)
 
 -- what is decided is shown
-pub min-shown : (ν : ℕ → ℕ) (w : List ℕ) (v : ℕ) (ks : Kids) (m : MemoKids ks) → ScoredKids ν ks → MarksKids w ks m
+min-shown : (ν : ℕ → ℕ) (w : List ℕ) (v : ℕ) (ks : Kids) (m : MemoKids ks) → ScoredKids ν ks → MarksKids w ks m
     → v ≤ minimaxKids ν Min ks → DecidesMin ν v ks m → Shown (known ν (among w) greatest) ν v ks
 min-shown ν w v (last t) m h k u d =
     λ e. let i = memoBound-is greatest ν w t m k in

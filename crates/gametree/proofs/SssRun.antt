@@ -61,7 +61,7 @@ pub record Gives (r : Ran) (v : ℕ) (w : List ℕ) (a : ℕ) : Type 0 where
 
 module _ (ν : ℕ → ℕ) (Y : Layout) (v : ℕ) where
   -- the run follows the steps
-  pub go-steps : (f : ℕ) {a b : ℕ} {L N : List State} {w : List ℕ} → Steps ν Y a L w N b → Takes ν Y N (stop v)
+  go-steps : (f : ℕ) {a b : ℕ} {L N : List State} {w : List ℕ} → Steps ν Y a L w N b → Takes ν Y N (stop v)
       → a < f → Gives (runFrom (λ L. step ν Y L) f L) v w a
   go-steps zero s e l = absurd (omega (arith, l))
   go-steps (suc f) (done o k) e l =
@@ -78,7 +78,7 @@ module _ (ν : ℕ → ℕ) (Y : Layout) (v : ℕ) where
       })
 
   -- and taking the first on the list is the same
-  pub go-first : (f : ℕ) {a b : ℕ} {L N : List State} {w : List ℕ} → Steps ν Y a L w N b → Takes ν Y N (stop v) → a < f
+  go-first : (f : ℕ) {a b : ℕ} {L N : List State} {w : List ℕ} → Steps ν Y a L w N b → Takes ν Y N (stop v) → a < f
       → runFrom (λ L. step ν Y L) f L ≡ runFrom (λ L. stepFirst ν Y L) f L
   go-first zero s e l = absurd (omega (arith, l))
   go-first (suc f) (done o k) e l = rw (e .by-tree, e .by-list) refl

@@ -1,7 +1,7 @@
 -- The theorems for use, on regular trees: distinct node numbers and real scores. Each says in one sentence what it
 -- gives.
-use Prim.Native.Nat.{ℕ, suc, _+_, _*_, _≤_, _<_, suc-le-suc}
-use native.Mathlib.Nat.{le-refl, le-trans, lt-of-le-of-lt}
+use Prim.Native.Nat.{ℕ, suc, _+_, _*_, _≤_, _<_}
+use native.Mathlib.Nat.{lt-of-le-of-lt}
 use native.Mathlib.Omega.{arith}
 use mathlib.Core.Path.{_≡_, refl, sym, _∙_, ap, ap₂, subst}
 use mathlib.Core.Logic.{_↔_}
@@ -13,7 +13,7 @@ use Rattle.gametree.specs.Tree.{Side, Max, Min, Tree, leaf, inner, Kids,
 use Rattle.gametree.specs.Tree.{leafCount, In, EveryLeaf, Score, Scored, Distinct, Proper}
 use Rattle.gametree.specs.Bounds.{known, low, high, bestOf, Decided}
 use Rattle.gametree.specs.AlphaBeta.{reached, clamp, alphaBeta, fullWindow}
-use Rattle.gametree.specs.Mtd.{Memo, memoHigh, pass, run, fresh, mtd, Marks}
+use Rattle.gametree.specs.Mtd.{Memo, memoHigh, pass, fresh, mtd, Marks}
 use Rattle.gametree.specs.Layout.{Layout, Describes, SameOn, layoutOf}
 use Rattle.gametree.specs.Sss.{takenMerit, State, empty, step, finished, runFrom, start, sssOver, ListAfter}
 use Rattle.gametree.specs.Sss.{resumed, stepFirst, sssFirst}
@@ -29,9 +29,9 @@ use Rattle.gametree.proofs.Bounds.{minimax-score, low≤, ≤high, low-
 use Rattle.gametree.proofs.Bounds.{known-local}
 use Rattle.gametree.proofs.Window.{alphaBeta-value, alphaBeta-evaluated, reached-ordered, alphaBeta-local}
 use Rattle.gametree.proofs.Window.{known-exact}
-use Rattle.gametree.proofs.MtdValue.{fresh-kept, mtd-right}
+use Rattle.gametree.proofs.MtdValue.{mtd-right}
 use Rattle.gametree.proofs.MtdMarks.{pass-marks, fresh-marks, mtd-marks, memoBound-is}
-use Rattle.gametree.proofs.MtdPasses.{how-many-different, run-passes}
+use Rattle.gametree.proofs.MtdPasses.{passes-few}
 use Rattle.gametree.proofs.MtdLocal.{run-local, fresh-agree}
 use Rattle.gametree.proofs.Work.{full-size}
 use Rattle.gametree.proofs.SssRun.{sss-is-mtd, sss-is-first}
@@ -95,10 +95,11 @@ alphaBeta-ordered ν t = rw (alphaBeta-evaluated ν least greatest (omega arith)
 
 -- MTD
 
--- the memory marks the leaves evaluated so far: none at the start, and after a pass those of the pass too
+-- the memory marks the leaves evaluated so far: none at the start
 pub memo-start : (t : Tree) → Marks [] t (fresh t)
 memo-start t = fresh-marks t
 
+-- and after a pass those of the pass too
 pub memo-pass : (ν : ℕ → ℕ) (γ : ℕ) (w : List ℕ) (t : Tree) (m : Memo t) → Distinct t → Marks w t m
     → Marks (w ++ pass ν γ t m .evaluated) t (pass ν γ t m .next)
 memo-pass ν γ w t m d h = pass-marks ν γ w t m d h .marks
@@ -109,10 +110,7 @@ memo-high ν w t m h = memoBound-is greatest ν w t m h
 
 -- MTD makes at most one pass more than there are different scores among the leaves that it evaluates
 pub mtd-passes : (ν : ℕ → ℕ) (t : Tree) → Proper ν t → mtd ν t .passes ≤ suc (different (map ν (mtd ν t .evaluated)))
-unfolding mtd
-mtd-passes ν t h =
-    le-trans (run-passes ν 64003 greatest [] t (fresh t) h (fresh-kept ν greatest t) (fresh-marks t) (le-refl greatest))
-    (suc-le-suc (how-many-different (map ν (run ν 64003 greatest t (fresh t) .evaluated)) greatest))
+mtd-passes ν t h = passes-few ν t h
 
 -- SSS*
 
@@ -299,11 +297,12 @@ module _ (ν : ℕ → ℕ) (t : Tree) (r : Proper ν t) where
       → pairLeaves g h t ≤ length w
   search-smallest g h m {w} s = smallest≤ ν t g h w r m (search-certifies s)
 
-  -- the closed form: MTD, and so SSS*, evaluates a leaf exactly if its alpha is less than its beta and no rival exceeds
+  -- the closed form: MTD evaluates a leaf exactly if its alpha is less than its beta and no rival exceeds
   -- its beta
   pub closed-form-mtd : EveryLeaf (λ n. among (mtd ν t .evaluated) n ≡ among (unrivalled ν least greatest least t) n) t
   closed-form-mtd = mtd-unrivalled ν t r
 
+  -- so does SSS*
   pub closed-form-sss : (Y : Layout) → Describes Y t
       → EveryLeaf (λ n. among (sssOver ν Y t .evaluated) n ≡ among (unrivalled ν least greatest least t) n) t
   closed-form-sss Y d =
