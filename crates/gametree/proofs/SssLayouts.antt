@@ -167,5 +167,6 @@ module _ (ν : ℕ → ℕ) (Y Z : Layout) (t : Tree) (a : SameOn Y Z t) (d : De
       ap (λ x. follow x (λ M. runFrom (λ M. step ν Y M) f M)) (s .0)
       ∙ follow-alike t (step ν Z L) _ _ (s .1) (λ M i. runFrom-alike f M i)
 
+  -- so SSS* is the same
   pub sss-alike : sssOver ν Y t ≡ sssOver ν Z t
   sss-alike = runFrom-alike (2 * size t) (start t) (number-in t, tt)

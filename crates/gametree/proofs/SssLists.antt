@@ -52,6 +52,7 @@ module _ (ν : ℕ → ℕ) (Y : Layout) (N : List State) (W : List ℕ) (A v : 
         few = omega arith;
       }
 
+  -- what is ahead of every list
   list-ahead : (t : Tree) → Steps ν Y A (start t) W N 0 → {k : ℕ} {w : List ℕ} {L : List State}
       → ListAfter ν Y t k w L → Ahead ν Y N W A k w L
   list-ahead t p atStart = record { left = A; toCome = W; steps = p; whole = refl; few = omega arith }
@@ -89,6 +90,7 @@ pub record Reaching (ν : ℕ → ℕ) (Y : Layout) (t : Tree) (W : List ℕ) (k
   pub whole : w ++ toCome ≡ W
 
 module _ (ν : ℕ → ℕ) (Y : Layout) (t : Tree) (d : Describes Y t) (h : Scored ν t) where
+  -- every list that SSS* reaches
   pub list-reached : {k : ℕ} {w : List ℕ} {L : List State} → ListAfter ν Y t k w L
       → Reaching ν Y t (mtd ν t .evaluated) k w L
   list-reached r =
