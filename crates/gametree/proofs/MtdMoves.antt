@@ -2,17 +2,18 @@
 use Prim.Native.Nat.{ℕ, zero, suc, _≤_, _<_}
 use native.Mathlib.Nat.{le-refl, le-trans, lt-of-lt-of-le}
 use native.Mathlib.Omega.{arith}
-use mathlib.Core.Path.{_≡_, refl, _∙_, ap}
+use mathlib.Core.Path.{_≡_, refl, sym, _∙_, ap}
 use mathlib.Core.Logic.{_⊎_, inl, inr, ⊎-elim}
 use mathlib.Core.Bool.{true, false, not}
 use mathlib.Core.List.{List}
 use lib.Dec.{ltb}
 use Rattle.gametree.specs.Lists.{among}
-use Rattle.gametree.specs.Tree.{Side, Max, Min, inner, Kids, last, _then_, least, greatest, minimaxKids}
-use Rattle.gametree.specs.Tree.{ScoredKids, Proper}
+use Rattle.gametree.specs.Tree.{Side, Max, Min, Tree, leaf, inner, Kids, last, _then_, least, greatest}
+use Rattle.gametree.specs.Tree.{minimaxKids, ScoredKids, Proper}
 use Rattle.gametree.specs.Bounds.{known, Decided}
 use Rattle.gametree.specs.Mtd.{Memo, MemoKids, memoHigh, memoHighKids, Pass, PassKids, pass, passKids, Run, run}
 use Rattle.gametree.specs.Mtd.{fresh, mtd, MarksKids}
+use Rattle.gametree.specs.Certificate.{worst}
 use Rattle.gametree.specs.Move.{rootMove, boundMove}
 use Rattle.gametree.proofs.Choice.{cond-cases, true-not-false}
 use Rattle.gametree.proofs.Bounds.{minimax-score, low≤, ≤high}
@@ -197,21 +198,30 @@ min-shown ν w v (t then ts) m h k u (inr d) =
     let j = memoLow-minimax ν t (m .first) in
     (λ e. absurd (omega (arith, d .0)), λ f. min-shown ν w v ts (m .rest) (h .1) (k .1) (omega arith) (d .1))
 
--- the move by the bounds of MTD's leaves is the move
-pub mtd-move : (ν : ℕ → ℕ) (n : ℕ) (s : Side) (ks : Kids) → Proper ν (inner n s ks)
-    → Decided ν (among (mtd ν (inner n s ks) .evaluated)) (inner n s ks)
-    → boundMove ν (among (mtd ν (inner n s ks) .evaluated)) (inner n s ks) ≡ rootMove ν (inner n s ks)
-mtd-move ν n Max ks r d =
+-- the bounds of MTD's leaves meet at the value
+pub mtd-decided : (ν : ℕ → ℕ) (t : Tree) → Proper ν t → Decided ν (among (mtd ν t .evaluated)) t
+mtd-decided ν t r =
+    let m = mtd-marks ν t (r .distinct) .marks in
+    let b = mtd-right ν t (r .scored) in
+    record {
+      lowIs = sym (memoBound-is least ν (mtd ν t .evaluated) t (mtd ν t .memo) m) ∙ b .low-is;
+      highIs = sym (memoBound-is greatest ν (mtd ν t .evaluated) t (mtd ν t .memo) m) ∙ b .high-is;
+    }
+
+-- and show the root's value
+mtd-shown : (ν : ℕ → ℕ) (n : ℕ) (s : Side) (ks : Kids) → Proper ν (inner n s ks)
+    → Shown (known ν (among (mtd ν (inner n s ks) .evaluated)) (worst s)) ν (minimaxKids ν s ks) ks
+mtd-shown ν n Max ks r =
     let t = inner n Max ks in
-    let e = mtd-right ν t (r .scored) .value in
-    let m = mtd-marks ν t (r .distinct) .marks in
-    move-same ν _ n Max ks (r .scored) d
-    (max-shown ν (mtd ν t .evaluated) _ ks (mtd ν t .memo .kids) (r .scored) m (le-refl _)
-    (rw e at (mtdMax-decides ν n ks (r .scored))))
-mtd-move ν n Min ks r d =
+    max-shown ν (mtd ν t .evaluated) _ ks (mtd ν t .memo .kids) (r .scored) (mtd-marks ν t (r .distinct) .marks)
+    (le-refl _) (rw (mtd-right ν t (r .scored) .value) at (mtdMax-decides ν n ks (r .scored)))
+mtd-shown ν n Min ks r =
     let t = inner n Min ks in
-    let e = mtd-right ν t (r .scored) .value in
-    let m = mtd-marks ν t (r .distinct) .marks in
-    move-same ν _ n Min ks (r .scored) d
-    (min-shown ν (mtd ν t .evaluated) _ ks (mtd ν t .memo .kids) (r .scored) m (le-refl _)
-    (rw e at (mtdMin-decides ν n ks (r .scored))))
+    min-shown ν (mtd ν t .evaluated) _ ks (mtd ν t .memo .kids) (r .scored) (mtd-marks ν t (r .distinct) .marks)
+    (le-refl _) (rw (mtd-right ν t (r .scored) .value) at (mtdMin-decides ν n ks (r .scored)))
+
+-- so the move by the bounds of MTD's leaves is the move
+pub mtd-move : (ν : ℕ → ℕ) (t : Tree) → Proper ν t → boundMove ν (among (mtd ν t .evaluated)) t ≡ rootMove ν t
+mtd-move ν (leaf n) r = refl
+mtd-move ν (inner n s ks) r =
+    move-same ν _ n s ks (r .scored) (mtd-decided ν (inner n s ks) r) (mtd-shown ν n s ks r)

@@ -1,5 +1,5 @@
--- The theorems for use, on regular trees: distinct node numbers and real scores. Each says in one sentence what it
--- gives.
+-- The theorems for use, on proper trees: distinct node numbers and real scores. Each says in one sentence what it gives.
+-- Sections: bounds, alpha-beta, MTD, SSS*, certificates, the three searches together, locality.
 use Prim.Native.Nat.{ℕ, suc, _+_, _*_, _≤_, _<_}
 use native.Mathlib.Nat.{lt-of-le-of-lt}
 use native.Mathlib.Omega.{arith}
@@ -28,7 +28,7 @@ use Rattle.gametree.proofs.Nodes.{leaves-once}
 use Rattle.gametree.proofs.Bounds.{minimax-score, low≤, ≤high, low-mono, high-mono, minimaxKids-best}
 use Rattle.gametree.proofs.Bounds.{known-local}
 use Rattle.gametree.proofs.Window.{alphaBeta-value, alphaBeta-evaluated, reached-ordered, alphaBeta-local}
-use Rattle.gametree.proofs.Window.{known-exact}
+use Rattle.gametree.proofs.Window.{alphaBeta-decided}
 use Rattle.gametree.proofs.MtdValue.{mtd-right}
 use Rattle.gametree.proofs.MtdMarks.{pass-marks, fresh-marks, mtd-marks, memoBound-is}
 use Rattle.gametree.proofs.MtdPasses.{passes-few}
@@ -40,14 +40,14 @@ use Rattle.gametree.proofs.SssLists.{list-reached, resume}
 use Rattle.gametree.proofs.SssLocal.{runFrom-local}
 use Rattle.gametree.proofs.OwnLayout.{own-layout}
 use Rattle.gametree.proofs.SssLayouts.{sss-alike}
-use Rattle.gametree.proofs.Solution.{under-refl, solution-bound, certified, rule-counted, counted-rule}
+use Rattle.gametree.proofs.Solution.{solution-bound, certified, rule-counted, counted-rule}
 use Rattle.gametree.proofs.Checker.{certificate-passes, passed-certifies}
 use Rattle.gametree.proofs.ReadOff.{fits, read-unique}
 use Rattle.gametree.proofs.Certificates.{flag-inside, decided-certify}
 use Rattle.gametree.proofs.Counts.{once-count}
 use Rattle.gametree.proofs.SmallestPair.{smallest≤, smallest-found}
-use Rattle.gametree.proofs.Moves.{move-same, alphaBeta-shown, boundMove-local}
-use Rattle.gametree.proofs.MtdMoves.{mtd-move}
+use Rattle.gametree.proofs.Moves.{alphaBeta-move, boundMove-local}
+use Rattle.gametree.proofs.MtdMoves.{mtd-decided, mtd-move}
 use Rattle.gametree.proofs.Domination.{mtd-reaches}
 use Rattle.gametree.proofs.ClosedForm.{mtd-unrivalled}
 
@@ -89,9 +89,13 @@ pub alphaBeta-window : (ν : ℕ → ℕ) (α β : ℕ) → α < β → (t : Tre
     → (alphaBeta ν α β t .value ≡ clamp α β (minimax ν t)) × (alphaBeta ν α β t .evaluated ≡ reached ν α β t)
 alphaBeta-window ν α β o t = (alphaBeta-value ν α β o t, alphaBeta-evaluated ν α β o t)
 
+-- with the full window it evaluates just the leaves whose alpha is less than their beta
+pub alphaBeta-leaves : (ν : ℕ → ℕ) (t : Tree) → fullWindow ν t .evaluated ≡ reached ν least greatest t
+alphaBeta-leaves ν t = alphaBeta-evaluated ν least greatest (omega arith) t
+
 -- its list is in left-to-right order
 pub alphaBeta-ordered : (ν : ℕ → ℕ) (t : Tree) → Subsequence (fullWindow ν t .evaluated) (leaves t)
-alphaBeta-ordered ν t = rw (alphaBeta-evaluated ν least greatest (omega arith) t) (reached-ordered ν least greatest t)
+alphaBeta-ordered ν t = rw (alphaBeta-leaves ν t) (reached-ordered ν least greatest t)
 
 -- MTD
 
@@ -231,38 +235,25 @@ module _ (ν : ℕ → ℕ) (t : Tree) (r : Proper ν t) where
   pub mtd-minimax : mtd ν t .value ≡ minimax ν t
   mtd-minimax = mtd-right ν t (r .scored) .value
 
-  alphaBeta-decided : Decided ν (among (fullWindow ν t .evaluated)) t
-  alphaBeta-decided =
-      let E = among (fullWindow ν t .evaluated) in
-      let s = minimax-score ν t (r .scored) in
-      let c = all-among (fullWindow ν t .evaluated) in
-      record {
-        lowIs = known-exact ν E least greatest least t c (s .0) (s .1);
-        highIs = known-exact ν E least greatest greatest t c (s .0) (s .1);
-      }
-
-  mtd-decided : Decided ν (among (mtd ν t .evaluated)) t
-  mtd-decided =
-      let m = mtd-marks ν t (r .distinct) .marks in
-      let b = mtd-right ν t (r .scored) in
-      record {
-        lowIs = sym (memoBound-is least ν (mtd ν t .evaluated) t (mtd ν t .memo) m) ∙ b .low-is;
-        highIs = sym (memoBound-is greatest ν (mtd ν t .evaluated) t (mtd ν t .memo) m) ∙ b .high-is;
-      }
-
   -- what holds of MTD's leaves holds of those of SSS*
   as-mtd : (P : List ℕ → Type 0) (Y : Layout) → Describes Y t → P (mtd ν t .evaluated) → P (sssOver ν Y t .evaluated)
   as-mtd P Y d x = subst P (sym (sss-mtd ν t (r .scored) Y d)) x
 
   -- the bounds of the leaves that a search evaluates meet at the minimax value
   pub search-decides : {w : List ℕ} → Searched ν t w → Decided ν (among w) t
-  search-decides byAlphaBeta = alphaBeta-decided
-  search-decides byMtd = mtd-decided
-  search-decides (bySss Y d) = as-mtd (λ w. Decided ν (among w) t) Y d mtd-decided
+  search-decides byAlphaBeta = alphaBeta-decided ν t (r .scored)
+  search-decides byMtd = mtd-decided ν t r
+  search-decides (bySss Y d) = as-mtd (λ w. Decided ν (among w) t) Y d (mtd-decided ν t r)
 
   -- the flags read off them are a certificate of that value, made of evaluated leaves only
   pub search-certifies : {w : List ℕ} → Searched ν t w → FlagsCertify ν (among w) t
   search-certifies s = decided-certify ν _ t r (search-decides s)
+
+  -- the move: the first child of the root that they prove to have the root's value is the first that has it
+  pub search-move : {w : List ℕ} → Searched ν t w → boundMove ν (among w) t ≡ rootMove ν t
+  search-move byAlphaBeta = alphaBeta-move ν t (r .scored)
+  search-move byMtd = mtd-move ν t r
+  search-move (bySss Y d) = as-mtd (λ w. boundMove ν (among w) t ≡ rootMove ν t) Y d (mtd-move ν t r)
 
   -- no leaf is evaluated twice
   pub search-once : {w : List ℕ} → Searched ν t w → Once w
@@ -273,10 +264,10 @@ module _ (ν : ℕ → ℕ) (t : Tree) (r : Proper ν t) where
   -- domination: every leaf that a search evaluates is one that alpha-beta evaluates
   pub domination : {w : List ℕ} → Searched ν t w → All (λ k. among (fullWindow ν t .evaluated) k ≡ true) w
   domination byAlphaBeta = all-among (fullWindow ν t .evaluated)
-  domination byMtd = rw (alphaBeta-evaluated ν least greatest (omega arith) t) (mtd-reaches ν t (r .scored))
+  domination byMtd = rw (alphaBeta-leaves ν t) (mtd-reaches ν t (r .scored))
   domination (bySss Y d) =
       as-mtd (λ w. All (λ k. among (fullWindow ν t .evaluated) k ≡ true) w) Y d
-      (rw (alphaBeta-evaluated ν least greatest (omega arith) t) (mtd-reaches ν t (r .scored)))
+      (rw (alphaBeta-leaves ν t) (mtd-reaches ν t (r .scored)))
 
   -- so no search evaluates more leaves than alpha-beta
   pub domination-count : {w : List ℕ} → Searched ν t w → length w ≤ length (fullWindow ν t .evaluated)
@@ -307,21 +298,6 @@ module _ (ν : ℕ → ℕ) (t : Tree) (r : Proper ν t) where
       → EveryLeaf (λ n. among (sssOver ν Y t .evaluated) n ≡ among (unrivalled ν least greatest least t) n) t
   closed-form-sss Y d =
       as-mtd (λ w. EveryLeaf (λ n. among w n ≡ among (unrivalled ν least greatest least t) n) t) Y d closed-form-mtd
-
--- the move: the first child of the root that the bounds of a search's leaves prove to have the root's value is the
--- first that has it
-pub search-move : (ν : ℕ → ℕ) (t : Tree) → Proper ν t → {w : List ℕ} → Searched ν t w
-    → boundMove ν (among w) t ≡ rootMove ν t
-search-move ν (leaf n) r s = refl
-search-move ν (inner n p ks) r byAlphaBeta =
-    let t = inner n p ks in
-    let v = minimax-score ν t (r .scored) in
-    move-same ν _ n p ks (r .scored) (alphaBeta-decided ν t r)
-    (alphaBeta-shown ν _ p least greatest _ _ ks (v .0) (v .1) (under-refl p _) (all-among (fullWindow ν t .evaluated)))
-search-move ν (inner n p ks) r byMtd = mtd-move ν n p ks r (mtd-decided ν (inner n p ks) r)
-search-move ν (inner n p ks) r (bySss Y d) =
-    as-mtd ν (inner n p ks) r (λ w. boundMove ν (among w) (inner n p ks) ≡ rootMove ν (inner n p ks)) Y d
-    (mtd-move ν n p ks r (mtd-decided ν (inner n p ks) r))
 
 -- LOCALITY
 
