@@ -167,6 +167,11 @@ module _ (ν : ℕ → ℕ) (Y : Layout) where
       ⊎-elim (λ e. same-merit t r (afterEvaluating q d) e)
       (λ l. le-trans (evaluating-falls L M n d) (run-falls t r q (omega arith))) (eq-or-lt-of-le h)
 
+  -- so no merit exceeds that of the start
+  pub merits-capped : (t : Tree) {k : ℕ} {w : List ℕ} (L : List State) → ListAfter ν Y t k w L → AtMost greatest L
+  merits-capped t L r =
+      all-map _ _ (λ s h. le-trans h (run-falls t atStart r (omega arith))) L (taken-greatest Y L)
+
   -- until a leaf is evaluated all merits are those of the start
   first-merits : (t : Tree) {k : ℕ} {w : List ℕ} {L : List State} → ListAfter ν Y t k w L → length w ≡ 0
       → Merits (λ m. m ≡ greatest) L

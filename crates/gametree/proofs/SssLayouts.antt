@@ -1,6 +1,6 @@
 -- SSS* gives the same over two layouts that answer alike for the nodes of the tree.
 use Prim.Native.Nat.{ℕ, zero, suc, _*_, min}
-use mathlib.Core.Path.{_≡_, refl, _∙_, ap}
+use mathlib.Core.Path.{_≡_, refl, _∙_, ap, subst}
 use mathlib.Core.Logic.{inl, inr}
 use mathlib.Core.Option.{none, some}
 use mathlib.Core.List.{List, [], _∷_, _++_, map}
@@ -8,9 +8,9 @@ use Rattle.gametree.specs.Lists.{All}
 use Rattle.gametree.specs.Tree.{Side, Max, Min, Tree, leaf, inner, Kids, last, _then_, number, size, In, InKids}
 use Rattle.gametree.specs.Layout.{Kind, tip, fork, Link, root, under, Layout, othersOf, Answers, AnswersKids}
 use Rattle.gametree.specs.Layout.{Describes, SameOn}
-use Rattle.gametree.specs.Sss.{Status, LIVE, SOLVED, State, live, solved, Taken, pick, Step, empty, stop, quiet}
-use Rattle.gametree.specs.Sss.{evaluating, put, purge, replaceLive, replaceSolved, replace, step, Ran, follow}
-use Rattle.gametree.specs.Sss.{runFrom, start, sssOver}
+use Rattle.gametree.specs.Sss.{ListAfter, atStart, afterQuiet, afterEvaluating, Status, LIVE, SOLVED, State, live}
+use Rattle.gametree.specs.Sss.{solved, Taken, pick, Step, empty, stop, quiet, evaluating, put, purge, replaceLive}
+use Rattle.gametree.specs.Sss.{replaceSolved, replace, step, Ran, follow, runFrom, start, sssOver}
 use Rattle.gametree.proofs.Lists.{all-append, all-map}
 use Rattle.gametree.proofs.SssSteps.{OfTaken, pick-all, put-all, purge-all}
 use Rattle.gametree.proofs.Nodes.{number-in, first-in, others-in}
@@ -152,6 +152,15 @@ module _ (ν : ℕ → ℕ) (Y Z : Layout) (t : Tree) (a : SameOn Y Z t) (d : De
       let r = replace-alike k (k .state .status) i in
       (ap (λ (x : Taken). replace ν Y x (x .state .status)) (pick-alike Y Z t a s ss (h .0) (h .1)) ∙ r .0, r .1)
 
+-- a step leaves states of the tree's nodes
+step-within : (ν : ℕ → ℕ) (Y : Layout) (t : Tree) → Describes Y t → (L : List State) → Within t L
+    → StepIn t (step ν Y L)
+step-within ν Y t d L h =
+    let a : SameOn Y Y t =
+    record { kinds = λ p i. refl; links = λ p i. refl; aboves = λ p q i j. refl; lefts = λ p q i j. refl } in
+    step-alike ν Y Y t a d L h .1
+
+-- what follows a step is the same
 follow-alike : (t : Tree) (x : Step) (f g : List State → Ran) → StepIn t x
     → ((M : List State) → Within t M → f M ≡ g M) → follow x f ≡ follow x g
 follow-alike t empty f g h e = refl
@@ -170,3 +179,10 @@ module _ (ν : ℕ → ℕ) (Y Z : Layout) (t : Tree) (a : SameOn Y Z t) (d : De
   -- so SSS* is the same
   pub sss-alike : sssOver ν Y t ≡ sssOver ν Z t
   sss-alike = runFrom-alike (2 * size t) (start t) (number-in t, tt)
+
+-- so every list that SSS* reaches has states of the tree's nodes only
+pub list-within : (ν : ℕ → ℕ) (Y : Layout) (t : Tree) → Describes Y t → {k : ℕ} {w : List ℕ} {L : List State}
+    → ListAfter ν Y t k w L → All (λ s. In (s .node) t) L
+list-within ν Y t d atStart = (number-in t, tt)
+list-within ν Y t d (afterQuiet {L = L} r s) = subst (StepIn t) s (step-within ν Y t d L (list-within ν Y t d r))
+list-within ν Y t d (afterEvaluating {L = L} r s) = subst (StepIn t) s (step-within ν Y t d L (list-within ν Y t d r))

