@@ -189,7 +189,9 @@ pub under-none : (Y : Layout) (γ n : ℕ) (s : Side) (ks : Kids) (L R : List St
 under-none Y γ n s ks L R a =
     record {
       gone = [];
-      split = sym (append-nil (purge Y n L) ∙ purge-outside Y n L (all-map _ _ (λ x f. f n (inl refl)) L (a .clearLeft)));
+      split =
+          sym (append-nil (purge Y n L)
+          ∙ purge-outside Y n L (all-map _ _ (λ x f. f n (inl refl)) L (a .clearLeft)));
       below = tt;
       clear = purge-outside Y n R (all-map _ _ (λ x f. f n (inl refl)) R (a .clearRight));
     }

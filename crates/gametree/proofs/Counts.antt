@@ -33,7 +33,8 @@ mutual
   pairLeavesKids≤ : (g h E : ℕ → Bool) (ks : Kids) → EveryLeafKids (λ n. g n ≡ true → E n ≡ true) ks
       → EveryLeafKids (λ n. h n ≡ true → E n ≡ true) ks → pairLeavesKids g h ks ≤ leafCountKids E ks
   pairLeavesKids≤ g h E (last t) i j = pairLeaves≤ g h E t i j
-  pairLeavesKids≤ g h E (t then ts) i j = omega (arith, pairLeaves≤ g h E t (i .0) (j .0), pairLeavesKids≤ g h E ts (i .1) (j .1))
+  pairLeavesKids≤ g h E (t then ts) i j =
+      omega (arith, pairLeaves≤ g h E t (i .0) (j .0), pairLeavesKids≤ g h E ts (i .1) (j .1))
 
 -- a number that is no node's is no leaf's
 mutual

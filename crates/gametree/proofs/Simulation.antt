@@ -255,10 +255,11 @@ module _ (ν : ℕ → ℕ) (Y : Layout) (γ : ℕ) (g : γ ≤ greatest) where
         → SimKids ν Y γ n s ks (workKids s ks m w) (statesKids ν γ s ks m w) L R (passKids ν γ s ks m)
     simKids n s (last t) m w p h k b i L R z a =
         let S = sim t m w (p .1) h k b L R a in
+        let hand = takes-last ν Y γ t L R a s n (p .0) (under-together Y n L R z (solved (number t) γ) [] tt) in
         record {
           below = λ x d. allow (omega arith) (spare (S .below (suc x) d) (omega arith));
           above =
-              λ x d. hand-up (work t m w) x (λ c. S .above c d) (takes-last ν Y γ t L R a s n (p .0) (under-together Y n L R z (solved (number t) γ) [] tt))
+              λ x d. hand-up (work t m w) x (λ c. S .above c d) hand
               (room-handed ν Y γ t L R a s n (solved n γ));
         }
     simKids n Max (t then ts) m w p h k b i L R z a =

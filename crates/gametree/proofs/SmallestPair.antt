@@ -70,7 +70,8 @@ mutual
   pairLeaves-same : (g h g′ h′ : ℕ → Bool) (t : Tree) → Same g g′ t → Same h h′ t
       → pairLeaves g h t ≡ pairLeaves g′ h′ t
   pairLeaves-same g h g′ h′ (leaf n) e f = rw (e n refl, f n refl) refl
-  pairLeaves-same g h g′ h′ (inner n q ks) e f = pairLeavesKids-same g h g′ h′ ks (λ k i. e k (inr i)) (λ k i. f k (inr i))
+  pairLeaves-same g h g′ h′ (inner n q ks) e f =
+      pairLeavesKids-same g h g′ h′ ks (λ k i. e k (inr i)) (λ k i. f k (inr i))
 
   pairLeavesKids-same : (g h g′ h′ : ℕ → Bool) (ks : Kids) → SameKids g g′ ks → SameKids h h′ ks
       → pairLeavesKids g h ks ≡ pairLeavesKids g′ h′ ks

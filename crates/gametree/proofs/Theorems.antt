@@ -1,5 +1,5 @@
--- The theorems for use, on proper trees: distinct node numbers and real scores. Each says in one sentence what it gives.
--- Sections: bounds, alpha-beta, MTD, SSS*, certificates, the three searches together, locality.
+-- The theorems for use, on proper trees: distinct node numbers and real scores. Each says in one sentence what it
+-- gives. Sections: bounds, alpha-beta, MTD, SSS*, certificates, the three searches together, locality.
 use Prim.Native.Nat.{ℕ, suc, _+_, _*_, _≤_, _<_}
 use native.Mathlib.Nat.{lt-of-le-of-lt}
 use native.Mathlib.Omega.{arith}
