@@ -8,3 +8,6 @@ pub mod Fuel
 pub mod Entries
 pub mod Readiness
 pub mod Driving
+pub mod Families
+pub mod Merits
+pub mod Choices

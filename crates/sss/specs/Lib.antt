@@ -5,3 +5,5 @@ pub mod Family
 pub mod Invariant
 pub mod Ready
 pub mod Driven
+pub mod Start
+pub mod Finish

@@ -100,28 +100,56 @@ abbrev pub take : List ℕ → Status → State → Gap → ℕ → Counts → M
 take t Live e g γ c = takeLive t (e .node) (childCount t (e .node)) g γ c
 take t Solved e g γ c = takeSolved t (e .node) e g γ c
 
--- one turn in each phase, with the entry that was read
-abbrev pub turnBy : List ℕ → Phase → State → Gap → ℕ → Counts → Machine
-turnBy t Begin e g γ c = sweeping (gap 0 (g .nodes - 1) (g .nodes)) γ c (g .nodes - 1) (entry 0 Live γ)
-turnBy t Sweep e g γ c =
+-- the first state is put on the list: the root, LIVE
+abbrev pub begin : Gap → ℕ → Counts → Machine
+begin g γ c = sweeping (gap 0 (g .nodes - 1) (g .nodes)) γ c (g .nodes - 1) (entry 0 Live γ)
+
+-- the entry right of the gap goes to its left if its merit is below the test, and is taken if not
+abbrev pub sweep : List ℕ → State → Gap → ℕ → Counts → Machine
+sweep t e g γ c =
     cond (ltb (meritScore (e .merit)) γ) (sweeping (gap (g .left + 1) (g .right + 1) (g .nodes)) γ c (g .left) e)
     (take t (e .status) e g γ c)
-turnBy t (Expand first child) e g γ c =
+
+-- the next child, from the last to the first, is put before the right part
+abbrev pub expand : ℕ → ℕ → Gap → ℕ → Counts → Machine
+expand first child g γ c =
     expanding first (child - 1) (gap (g .left) (g .right - 1) (g .nodes)) γ c (g .right - 1) (entry (child - 1) Live γ)
-turnBy t (PurgeLeft p) e g γ c =
+
+-- the last state of the left part goes if it is below p
+abbrev pub purgeLeft : List ℕ → ℕ → State → Gap → ℕ → Counts → Machine
+purgeLeft t p e g γ c =
     cond (isBelow t p (e .node)) (purgingLeft p (gap (g .left - 1) (g .right) (g .nodes)) γ c (g .left - 1) e)
     (purgingRight p g γ c (g .left - 1) e)
-turnBy t (PurgeRight p) e g γ c =
+
+-- so does the state behind p's own: that is then written in its place
+abbrev pub purgeRight : List ℕ → ℕ → State → Gap → ℕ → Counts → Machine
+purgeRight t p e g γ c =
     cond (isBelow t p (e .node))
     (purgingRight p (gap (g .left) (g .right + 1) (g .nodes)) γ c (g .right + 1) (entry p Solved γ))
     (sweeping g γ c (g .right + 1) e)
-turnBy t (Rewind best) e g γ c =
+
+-- the last state of the left part goes back to the right; at the front the greatest merit is the new test
+abbrev pub rewind : ℕ → State → Gap → ℕ → Counts → Machine
+rewind best e g γ c =
     let b = max best (meritScore (e .merit)) in
     let h = gap (g .left - 1) (g .right - 1) (g .nodes) in
     cond (ltb 0 (g .left - 1)) (turned true (g .left - 2) (g .right - 1) e (Rewind b) h γ c)
     (sweeping h b c (g .right - 1) e)
-turnBy t (Reset i) e g γ c =
+
+-- one entry more is reset
+abbrev pub reset : ℕ → Gap → ℕ → Counts → Machine
+reset i g γ c =
     cond (ltb (i + 1) (g .nodes)) (turned true (i + 1) i blank (Reset (i + 1)) g γ c) (turned false 0 i blank Ended g γ c)
+
+-- one turn in each phase, with the entry that was read
+abbrev pub turnBy : List ℕ → Phase → State → Gap → ℕ → Counts → Machine
+turnBy t Begin e g γ c = begin g γ c
+turnBy t Sweep e g γ c = sweep t e g γ c
+turnBy t (Expand first child) e g γ c = expand first child g γ c
+turnBy t (PurgeLeft p) e g γ c = purgeLeft t p e g γ c
+turnBy t (PurgeRight p) e g γ c = purgeRight t p e g γ c
+turnBy t (Rewind best) e g γ c = rewind best e g γ c
+turnBy t (Reset i) e g γ c = reset i g γ c
 turnBy t Ended e g γ c = turned false 0 0 e Ended g γ c
 turnBy t (Rejected r) e g γ c = turned false 0 0 e (Rejected r) g γ c
 
@@ -136,9 +164,12 @@ markLive zero Live i b = set b i 1
 markLive zero Solved i b = b
 markLive (suc n) s i b = b
 
+abbrev pub markSwept : List ℕ → State → ℕ → List ℕ → List ℕ
+markSwept t e γ b = cond (ltb (meritScore (e .merit)) γ) b (markLive (childCount t (e .node)) (e .status) (e .node) b)
+
 abbrev pub marksBy : List ℕ → Phase → State → ℕ → List ℕ → List ℕ
 marksBy t Begin e γ b = b
-marksBy t Sweep e γ b = cond (ltb (meritScore (e .merit)) γ) b (markLive (childCount t (e .node)) (e .status) (e .node) b)
+marksBy t Sweep e γ b = markSwept t e γ b
 marksBy t (Expand first child) e γ b = b
 marksBy t (PurgeLeft p) e γ b = b
 marksBy t (PurgeRight p) e γ b = b

@@ -5,7 +5,7 @@ use mathlib.Core.List.{List}
 use lib.IntN.{ℤ}
 use lib.ListN.{length}
 use Rattle.gametree.specs.Tree.{greatest}
-use Rattle.frames.specs.Frame.{frames}
+use Rattle.frames.specs.Frame.{maxNodes, frames}
 use Rattle.frames.specs.Formed.{WellFormed}
 use Rattle.certificate.specs.Value.{valueOf}
 use Rattle.sss.specs.declared.State.{State}
@@ -20,6 +20,21 @@ use Rattle.sss.specs.Family.{FamilyOf}
 -- the merit of an entry is a score's value
 abbrev pub IsMerit : ℤ → Type 0
 IsMerit m = (s : ℕ) × (m ≡ valueOf s) × (s ≤ greatest)
+
+-- so few replacements, and no more evaluations, that one more can be counted
+pub record Few (c : Counts) : Type 0 where
+  pub replacements : c .replacements < 2 * maxNodes
+  pub leaves : c .leaves ≤ c .replacements
+
+-- what taking a state of node i asks
+pub record ReadyToTake (t F b : List ℕ) (i : ℕ) (g : Gap) (γ : ℕ) (c : Counts) : Type 0 where
+  pub formed : WellFormed t
+  pub family : FamilyOf t F
+  pub marks : frames t ≤ length b
+  pub node : i < frames t
+  pub inside : g .right < g .nodes
+  pub test : γ ≤ greatest
+  pub few : Few c
 
 -- what a turn asks in each phase
 pub record ReadyToSweep (t : List ℕ) (e : State) (g : Gap) (γ : ℕ) (c : Counts) : Type 0 where

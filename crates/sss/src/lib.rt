@@ -1,4 +1,7 @@
 // SSS*: a best-first search over a list of states, kept from left to right in the lent entries.
+mod family;
+mod turn;
+
 use frames::Rejection;
 ghost use mathlib.Core.Path.{_≡_};
 ghost use Rattle.sss.specs.Entry.{blank as blankEntry};
@@ -67,6 +70,26 @@ pub struct Machine {
     pub write: usize,
     pub entry: State,
     pub registers: Registers,
+}
+
+// How many entries the lent list and how many flags the lent certificate have.
+pub struct Sizes {
+    pub entries: usize,
+    pub flags: usize,
+}
+
+// What a search finds: the minimax value, the first root move that reaches it (0 for a leaf), how many leaves were evaluated and how many replacements made.
+pub struct Found {
+    pub value: i16,
+    pub root_move: usize,
+    pub leaves: usize,
+    pub replacements: usize,
+}
+
+// The answer of a call: what was found, or the first question that got a "no".
+pub enum Answer {
+    Found(Found),
+    Rejected(Rejection),
 }
 
 // The entry of a list that is not in use.

@@ -1,0 +1,19 @@
+use native.Mathlib.Omega.{arith}
+use borrow.Author.Needs.{needs}
+use Rattle.sss.proofs.family.parent_in.Statement.{statement}
+use Rattle.sss.proofs.family.parent_in.Tie as tie
+
+mul-result : tie.Need-mul-result
+mul-result c = search needs
+
+shared-slice-read-result : tie.Need-shared-slice-read-result
+shared-slice-read-result c = search needs
+
+cast-result : tie.Need-cast-result
+cast-result c = omega (arith, c .shared-slice-known .given (c .before .args .node))
+
+returns : tie.Need-returns
+returns c = search needs
+
+pub parent-in-spec : {M : Type 1} → statement M
+parent-in-spec = tie.close (tie.spec mul-result shared-slice-read-result cast-result returns)

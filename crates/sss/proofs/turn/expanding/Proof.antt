@@ -1,0 +1,19 @@
+use borrow.Author.Tests.{lt-ltb, le-ltb}
+use borrow.Author.Needs.{needs}
+use Rattle.sss.proofs.turn.expanding.Statement.{statement}
+use Rattle.sss.proofs.turn.expanding.Tie as tie
+
+turned-requires : tie.Need-turned-requires
+turned-requires c κs = search needs
+
+sweeping-requires : tie.Need-sweeping-requires
+sweeping-requires c κs = search needs
+
+returns : tie.Need-returns
+returns c = simp (c .turned .ensures, lt-ltb _ _ (c .before .if1 .taken))
+
+returns-2 : tie.Need-returns-2
+returns-2 c = simp (c .sweeping .ensures, le-ltb _ _ (c .before .if1 .left))
+
+pub expanding-spec : {M : Type 1} → statement M
+expanding-spec = tie.close (tie.spec turned-requires sweeping-requires returns returns-2)
