@@ -4,8 +4,6 @@ pub mod Visits
 pub mod Counts
 -- The whole search: its leaves, its questions, and its steps.
 pub mod Reached
-pub mod Questions
-pub mod Handed
 pub mod Whole
+
 -- What holds of its results.
-pub mod Demands

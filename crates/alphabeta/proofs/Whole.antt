@@ -22,7 +22,7 @@ use Rattle.frames.proofs.Asked.{answer-nodes, answer-rejected}
 use Rattle.frames.proofs.Proper.{tree-proper}
 use Rattle.certificate.specs.Buffer.{written, marked, markAll}
 use Rattle.certificate.specs.Value.{valueOf}
-use Rattle.certificate.specs.Search.{searchRejection}
+use Rattle.certificate.specs.Search.{searchRejection, marksOf, flagsOf}
 use Rattle.certificate.proofs.Buffers.{marks-from-clear}
 use Rattle.certificate.proofs.Marks.{searched-within}
 use Rattle.certificate.proofs.Concluded.{concluded}
@@ -31,8 +31,7 @@ use Rattle.alphabeta.specs.declared.Found.{Found}
 use Rattle.alphabeta.specs.declared.Answer.the-variants.{Found as FoundAnswer, Rejected as RejectedAnswer}
 use Rattle.alphabeta.specs.Engine.{visitedOf}
 use Rattle.alphabeta.specs.Outcome.{reachedLeaves, findings, alphaBetaOutcome}
-use Rattle.alphabeta.specs.Handed.{marksOf, flagsOf}
-use Rattle.alphabeta.proofs.Questions.{asked}
+use Rattle.certificate.proofs.Questions.{asked}
 use Rattle.alphabeta.proofs.Reached.{reached-is, searched}
 
 module _ (t : List ℕ) (wf : WellFormed t) where

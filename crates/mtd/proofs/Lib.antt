@@ -5,8 +5,6 @@ pub mod Children
 pub mod Visits
 pub mod Runs
 -- The whole search: its questions, what it hands back, its steps.
-pub mod Questions
-pub mod Handed
 pub mod Whole
+
 -- What holds of its results.
-pub mod Demands

@@ -24,7 +24,7 @@ use Rattle.frames.proofs.Asked.{answer-nodes, answer-rejected}
 use Rattle.frames.proofs.Proper.{tree-proper}
 use Rattle.certificate.specs.Buffer.{written, marked, markAll}
 use Rattle.certificate.specs.Value.{valueOf}
-use Rattle.certificate.specs.Search.{searchRejection}
+use Rattle.certificate.specs.Search.{searchRejection, marksOf, flagsOf}
 use Rattle.certificate.proofs.Buffers.{written-at, written-length, marks-from-clear}
 use Rattle.certificate.proofs.Marks.{searched-within}
 use Rattle.certificate.proofs.Concluded.{concluded}
@@ -33,8 +33,7 @@ use Rattle.mtd.specs.declared.Found.{Found}
 use Rattle.mtd.specs.declared.Answer.the-variants.{Found as FoundAnswer, Rejected as RejectedAnswer}
 use Rattle.mtd.specs.Memory.{memory, Fresh, settledOf}
 use Rattle.mtd.specs.Outcome.{mtdLeaves, findings, mtdOutcome}
-use Rattle.mtd.specs.Handed.{marksOf, flagsOf}
-use Rattle.mtd.proofs.Questions.{asked}
+use Rattle.certificate.proofs.Questions.{asked}
 
 module _ (t : List ℕ) (wf : WellFormed t) where
   -- cleared marks, flags of zeros and the greatest highs are the memory to start with

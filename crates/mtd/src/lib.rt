@@ -1,4 +1,5 @@
 // MTD over a byte table: the public search, and its engine of passes with falling tests, each asking whether the root is below its test.
+use certificate::ask;
 use certificate::better;
 use certificate::clear;
 use certificate::conclude;
@@ -8,12 +9,10 @@ use frames::Checked;
 use frames::GREATEST;
 use frames::MAX_NODES;
 use frames::Rejection;
-use frames::check;
 use frames::child_count;
 use frames::child_place;
 use frames::first_child;
 use frames::frame_count;
-use frames::rejected;
 use gametree::Place;
 use gametree::Side;
 ghost use mathlib.Core.Path.{_≡_};
@@ -27,11 +26,9 @@ ghost use Rattle.frames.specs.Frame.{maxNodes, frames, childCount};
 ghost use Rattle.frames.specs.Place.{depthOf};
 ghost use Rattle.frames.specs.Tree.{treeAt, tree, valuation};
 ghost use Rattle.frames.specs.Formed.{WellFormed};
-ghost use Rattle.frames.specs.Rejection.{answer as answerOf};
 ghost use Rattle.certificate.specs.Buffer.{marked, markAll};
-ghost use Rattle.certificate.specs.Search.{searchRejection};
+ghost use Rattle.certificate.specs.Search.{marksOf, flagsOf};
 ghost use Rattle.mtd.specs.Outcome.{mtdLeaves, findings, mtdOutcome};
-ghost use Rattle.mtd.specs.Handed.{marksOf, flagsOf};
 ghost use Rattle.mtd.specs.Memory.{memory, Fresh, Ready, Passed, settledOf};
 ghost use Rattle.mtd.specs.Best.{bestFrom};
 
@@ -59,26 +56,6 @@ pub fn search(table: &[u8], evaluated: &mut [u8], certificate: &mut [u8]) -> Ans
         Checked::Nodes(_) => Answer::Found(run(table, evaluated, certificate)),
         Checked::Rejected(rejection) => Answer::Rejected(rejection),
     }
-}
-
-// The number of 01's question about the buffers.
-const SHORT_BUFFER: u8 = 10;
-
-// Questions 1 to 10, for buffers of these lengths: the number of nodes, or the first rejection.
-fn ask(table: &[u8], evaluated: usize, certificate: usize) -> Checked
-    ensures { λ r. ⌜ r ≡ answerOf (frames (now (table .entry))) (searchRejection (now (table .entry)) (evaluated ∷ certificate ∷ [])) ⌝ }
-{
-    let checked = check(table);
-    let Checked::Nodes(n) = checked else {
-        return checked;
-    };
-    if evaluated < n {
-        return rejected(SHORT_BUFFER, 0);
-    }
-    if certificate < n {
-        return rejected(SHORT_BUFFER, 0);
-    }
-    checked
 }
 
 // The search of an accepted table, into buffers with an entry per node.

@@ -1,13 +1,13 @@
 -- `alphabeta::search` meets its contract: the questions are answered, and then the search is run or nothing is done.
 use mathlib.Core.Path.{sym, _∙_}
 use borrow.Author.Needs.{needs}
-use Rattle.alphabeta.proofs.Questions.{nodes-roomy}
+use Rattle.certificate.proofs.Questions.{nodes-roomy}
 use Rattle.alphabeta.proofs.Whole.{finding, rejecting}
 use Rattle.alphabeta.proofs.search.Statement.{statement}
 use Rattle.alphabeta.proofs.search.Tie as tie
 use Rattle.alphabeta.proofs.search.Reads as reads
 use Rattle.alphabeta.proofs.search.Lts as lts
-use Rattle.alphabeta.proofs.ask.Reads as ask-reads
+use Rattle.certificate.proofs.ask.Reads as ask-reads
 use Rattle.alphabeta.proofs.run.Reads as run-reads
 
 ask-requires : tie.Need-ask-requires

@@ -1,13 +1,13 @@
 -- `mtd::search` meets its contract: the questions are answered, and then the search is run or nothing is done.
 use mathlib.Core.Path.{sym, _∙_}
 use borrow.Author.Needs.{needs}
-use Rattle.mtd.proofs.Questions.{nodes-roomy}
+use Rattle.certificate.proofs.Questions.{nodes-roomy}
 use Rattle.mtd.proofs.Whole.{finding, rejecting}
 use Rattle.mtd.proofs.search.Statement.{statement}
 use Rattle.mtd.proofs.search.Tie as tie
 use Rattle.mtd.proofs.search.Reads as reads
 use Rattle.mtd.proofs.search.Lts as lts
-use Rattle.mtd.proofs.ask.Reads as ask-reads
+use Rattle.certificate.proofs.ask.Reads as ask-reads
 use Rattle.mtd.proofs.run.Reads as run-reads
 
 ask-requires : tie.Need-ask-requires

@@ -1,9 +1,9 @@
--- `alphabeta::ask` meets its contract: one lemma for each of its four returns.
+-- `certificate::ask` meets its contract: one lemma for each of its four returns.
 use mathlib.Core.Path.{sym, _∙_}
-use Rattle.alphabeta.proofs.Questions.{table-refused, first-short, second-short, both-roomy}
+use Rattle.certificate.proofs.Questions.{table-refused, first-short, second-short, both-roomy}
 use borrow.Author.Needs.{needs}
-use Rattle.alphabeta.proofs.ask.Statement.{statement}
-use Rattle.alphabeta.proofs.ask.Tie as tie
+use Rattle.certificate.proofs.ask.Statement.{statement}
+use Rattle.certificate.proofs.ask.Tie as tie
 
 check-requires : tie.Need-check-requires
 check-requires c κs = search needs

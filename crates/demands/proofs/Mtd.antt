@@ -28,15 +28,15 @@ use Rattle.frames.proofs.Proper.{tree-proper}
 use Rattle.frames.proofs.Shapes.{same-tree}
 use Rattle.certificate.specs.Buffer.{mark, ones}
 use Rattle.certificate.specs.Value.{valueOf}
-use Rattle.certificate.specs.Search.{outcome, searchRejection}
+use Rattle.certificate.specs.Search.{outcome, searchRejection, marksOf, flagsOf}
 use Rattle.certificate.proofs.Buffers.{written-at}
 use Rattle.certificate.proofs.Marks.{marked-written, ones-searched}
 use Rattle.mtd.specs.declared.Found.{Found}
 use Rattle.mtd.specs.declared.Answer.the-variants.{Found as FoundAnswer, Rejected}
 use Rattle.mtd.specs.Outcome.{mtdLeaves, findings, mtdOutcome}
-use Rattle.mtd.specs.Handed.{marksOf, flagsOf, CertifiedBy, Alike}
-use Rattle.mtd.proofs.Questions.{passed-room, room-passed}
-use Rattle.mtd.proofs.Handed.{flags-certify, agreed-scores, same-value, same-move, same-marks, same-flags}
+use Rattle.demands.specs.Handed.{CertifiedBy, Alike}
+use Rattle.certificate.proofs.Questions.{passed-room, room-passed}
+use Rattle.demands.proofs.Handed.{flags-certify, agreed-scores, same-value, same-move, same-marks, same-flags}
 
 -- a call with the table t and the buffers e and c finds r, and leaves e′ and c′ in its buffers
 abbrev pub Finds : (t e c : List ℕ) → Found → (e′ c′ : List ℕ) → Type 0

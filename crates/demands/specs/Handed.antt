@@ -7,18 +7,9 @@ use lib.ListN.{getD, take}
 use Rattle.gametree.specs.declared.Side.{Side}
 use Rattle.gametree.specs.declared.Side.the-variants.{Max, Min}
 use Rattle.gametree.specs.Tree.{minimax}
-use Rattle.gametree.specs.Lists.{among}
-use Rattle.gametree.specs.Certificate.{inside, flag, Certifies, LeavesIn}
-use Rattle.frames.specs.Frame.{frames}
+use Rattle.gametree.specs.Certificate.{inside, Certifies, LeavesIn}
 use Rattle.frames.specs.Tree.{tree, valuation}
-use Rattle.certificate.specs.Buffer.{written, mark, marked}
-
--- the marks and the flags that a search of the table t writes over the buffers e and c, where it evaluates the leaves w
-abbrev pub marksOf : (w t e : List ℕ) → List ℕ
-marksOf w t e = written (mark (among w)) (frames t) e
-
-abbrev pub flagsOf : (w t c : List ℕ) → List ℕ
-flagsOf w t c = written (flag (valuation t) (among w) (tree t)) (frames t) c
+use Rattle.certificate.specs.Buffer.{marked}
 
 -- the nodes that the flags of a certificate put into a side's solution tree
 abbrev pub flagged : Side → List ℕ → ℕ → Bool

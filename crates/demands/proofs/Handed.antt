@@ -27,9 +27,10 @@ use Rattle.frames.proofs.Nodes.{tree-range}
 use Rattle.frames.proofs.Proper.{tree-proper}
 use Rattle.frames.proofs.Shapes.{same-score, same-tree}
 use Rattle.certificate.specs.Buffer.{tabulate, written, mark, marked}
+use Rattle.certificate.specs.Search.{marksOf, flagsOf}
 use Rattle.certificate.proofs.Buffers.{length-tabulate, tabulate-same, written-at}
 use Rattle.certificate.proofs.Marks.{marked-written, searched-within}
-use Rattle.alphabeta.specs.Handed.{marksOf, flagsOf, flagged, CertifiedBy, Alike}
+use Rattle.demands.specs.Handed.{flagged, CertifiedBy, Alike}
 
 -- the first n entries of a buffer that was written for n nodes
 pub take-written : (f : ℕ → ℕ) (n : ℕ) (b : List ℕ) → take n (written f n b) ≡ tabulate f n

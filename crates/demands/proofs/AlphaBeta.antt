@@ -25,15 +25,15 @@ use Rattle.certificate.specs.Buffer.{mark, ones}
 use Rattle.certificate.proofs.Buffers.{written-at}
 use Rattle.certificate.proofs.Marks.{ones-searched}
 use Rattle.certificate.specs.Value.{valueOf}
-use Rattle.certificate.specs.Search.{outcome, searchRejection}
+use Rattle.certificate.specs.Search.{outcome, searchRejection, marksOf, flagsOf}
 use Rattle.alphabeta.specs.declared.Found.{Found}
 use Rattle.alphabeta.specs.declared.Answer.the-variants.{Found as FoundAnswer, Rejected}
 use Rattle.alphabeta.specs.Outcome.{reachedLeaves, findings, alphaBetaOutcome}
-use Rattle.alphabeta.specs.Handed.{marksOf, flagsOf, CertifiedBy, Alike}
+use Rattle.demands.specs.Handed.{CertifiedBy, Alike}
 use Rattle.alphabeta.proofs.Reached.{reached-is, searched}
-use Rattle.alphabeta.proofs.Questions.{passed-room, room-passed}
-use Rattle.alphabeta.proofs.Handed.{flags-certify, agreed-scores, same-value}
-use Rattle.alphabeta.proofs.Handed.{same-move, same-marks, same-flags}
+use Rattle.certificate.proofs.Questions.{passed-room, room-passed}
+use Rattle.demands.proofs.Handed.{flags-certify, agreed-scores, same-value}
+use Rattle.demands.proofs.Handed.{same-move, same-marks, same-flags}
 
 -- a call with the table t and the buffers e and c finds r, and leaves e′ and c′ in its buffers
 abbrev pub Finds : (t e c : List ℕ) → Found → (e′ c′ : List ℕ) → Type 0
