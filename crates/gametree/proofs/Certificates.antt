@@ -51,7 +51,7 @@ mutual
       ap₂ (better p) (known-solution p ν E x g t (h .0)) (known-solutionKids p ν E x g ts (h .1))
 
 -- a side's tree that is read off its bounds
-read-bounds : (p : Side) (ν : ℕ → ℕ) (E : ℕ → Bool) (t : Tree) → Proper ν t → Decided ν E t → (g : ℕ → Bool)
+pub read-bounds : (p : Side) (ν : ℕ → ℕ) (E : ℕ → Bool) (t : Tree) → Proper ν t → Decided ν E t → (g : ℕ → Bool)
     → ReadOff p (known ν E (fill p)) g true t
     → SolutionTree p g t × (solutionValue p ν g t ≡ minimax ν t) × LeavesIn g E t
 read-bounds p ν E t h d g r =

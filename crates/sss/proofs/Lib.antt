@@ -11,3 +11,4 @@ pub mod Driving
 pub mod Families
 pub mod Merits
 pub mod Choices
+pub mod Whole
