@@ -2,4 +2,3 @@
 pub mod Outcome
 pub mod Handed
 pub mod Memory
-pub mod Best
