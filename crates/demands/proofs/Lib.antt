@@ -2,3 +2,5 @@
 pub mod Handed
 pub mod AlphaBeta
 pub mod Mtd
+pub mod Sss
+pub mod Demands

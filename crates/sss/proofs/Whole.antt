@@ -69,7 +69,7 @@ cleared-again n b =
     ap (λ x. tabulate (λ i. 0) n ++ x) (drop-at (tabulate (λ i. 0) n) (drop n b) n (length-tabulate (λ i. 0) n))
 
 module _ (t : List ℕ) (wf : WellFormed t) where
-  searched : Searched (valuation t) (tree t) (sssLeaves t)
+  pub searched : Searched (valuation t) (tree t) (sssLeaves t)
   searched = bySss (layoutOf (tree t)) (layout-own (tree t) (tree-distinct t wf 0 (wf .some)))
 
   -- the run ends with the minimax value
@@ -146,7 +146,7 @@ module _ (t : List ℕ) (wf : WellFormed t) where
         }
 
 -- passed questions: a well-formed table, and room in the list and both buffers
-passed : (t : List ℕ) (x y z : ℕ) → searchRejection t (x ∷ y ∷ z ∷ []) ≡ none
+pub passed : (t : List ℕ) (x y z : ℕ) → searchRejection t (x ∷ y ∷ z ∷ []) ≡ none
     → WellFormed t × ((frames t ≤ x) × (frames t ≤ y) × (frames t ≤ z))
 passed t x y z e =
     let p = both-passed (rejection t) (check10 (frames t) (x ∷ y ∷ z ∷ [])) e in
