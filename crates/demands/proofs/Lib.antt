@@ -4,3 +4,4 @@ pub mod AlphaBeta
 pub mod Mtd
 pub mod Sss
 pub mod Demands
+pub mod Cases

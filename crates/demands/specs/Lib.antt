@@ -1,2 +1,3 @@
 -- The words in which the demands are stated.
 pub mod Handed
+pub mod Cases
