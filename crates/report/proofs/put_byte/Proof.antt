@@ -1,0 +1,23 @@
+-- `report::put_byte` meets its contract: a byte stored is a byte laid.
+use mathlib.Core.Path.{refl}
+use Rattle.report.proofs.Laying.{laid-one}
+use borrow.Author.Needs.{needs}
+use Rattle.report.proofs.put_byte.Statement.{statement}
+use Rattle.report.proofs.put_byte.Tie as tie
+use Rattle.report.proofs.put_byte.Reads as reads
+use Rattle.report.proofs.put_byte.Lts as lts
+
+slice-write-text : tie.Need-slice-write-text
+slice-write-text c = search needs
+
+add-result : tie.Need-add-result
+add-result c = search needs
+
+same-length : tie.Need-same-length
+same-length c = search needs
+
+returns : tie.Need-returns
+returns c = (refl, laid-one (c .args .at) (c .args .byte) (c .args .text .now) (c .pre))
+
+pub put-byte-spec : {M : Type 1} → statement M
+put-byte-spec = tie.close (tie.spec slice-write-text add-result same-length returns)

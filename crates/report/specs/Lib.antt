@@ -1,0 +1,2 @@
+-- Definitions of the program's text.
+pub mod Text
