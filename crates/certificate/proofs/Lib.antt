@@ -12,3 +12,4 @@ pub mod Solutions
 pub mod Values
 pub mod Marks
 pub mod Concluded
+pub mod Questions

@@ -26,6 +26,13 @@ check10 n lengths = ask (roomy n lengths) 10 0
 abbrev pub searchRejection : List ℕ → List ℕ → Option Rejection
 searchRejection t lengths = rejection t andThen check10 (frames t) lengths
 
+-- the marks and the flags that a search of the table t writes over the buffers e and c, where it evaluates the leaves w
+abbrev pub marksOf : (w t e : List ℕ) → List ℕ
+marksOf w t e = written (mark (among w)) (frames t) e
+
+abbrev pub flagsOf : (w t c : List ℕ) → List ℕ
+flagsOf w t c = written (flag (valuation t) (among w) (tree t)) (frames t) c
+
 -- what a search answers, and what its two buffers hold then
 pub record Outcome (A : Type 0) : Type 0 where
   pub answer : A
@@ -36,9 +43,5 @@ pub record Outcome (A : Type 0) : Type 0 where
 -- written; where there is a rejection, the buffers e and c are as they were found
 abbrev pub outcome : {A : Type 0} → (Rejection → A) → A → (w t e c : List ℕ) → Option Rejection → Outcome A
 outcome rejected found w t e c none =
-    record {
-      answer = found;
-      evaluated = written (mark (among w)) (frames t) e;
-      certificate = written (flag (valuation t) (among w) (tree t)) (frames t) c;
-    }
+    record { answer = found; evaluated = marksOf w t e; certificate = flagsOf w t c }
 outcome rejected found w t e c (some r) = record { answer = rejected r; evaluated = e; certificate = c }

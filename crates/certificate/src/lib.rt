@@ -1,13 +1,17 @@
 // Evaluating leaves, and what follows from the evaluated ones: bounds, the certificate and the root move.
+use frames::Checked;
 use frames::MAX_NODES;
+use frames::check;
 use frames::child_count;
 use frames::child_place;
 use frames::first_child;
 use frames::frame_count;
 use frames::leaf_score;
+use frames::rejected;
 use gametree::Place;
 use gametree::Side;
 ghost use mathlib.Core.Path.{_≡_};
+ghost use mathlib.Core.List.{[], _∷_};
 ghost use Prim.Native.Nat.{ℕ, _+_, _-_, _<_, _≤_};
 ghost use mathlib.Core.Bool.{cond};
 ghost use lib.Dec.{eqb};
@@ -19,11 +23,13 @@ ghost use Rattle.gametree.specs.Move.{boundMove};
 ghost use Rattle.frames.specs.Frame.{maxNodes, frames};
 ghost use Rattle.frames.specs.Place.{parentOf, childPlace, depthOf, sideOf};
 ghost use Rattle.frames.specs.Tree.{treeAt, tree, valuation};
+ghost use Rattle.frames.specs.Rejection.{answer};
 ghost use Rattle.frames.specs.Formed.{WellFormed, ChildOf};
 ghost use Rattle.certificate.specs.Buffer.{written, stored, marked};
 ghost use Rattle.certificate.specs.Places.{sideNumber, numberSide, placeFrom, Placed};
 ghost use Rattle.certificate.specs.Ranges.{bestIn, firstEqual};
 ghost use Rattle.certificate.specs.Bounds.{boundOf};
+ghost use Rattle.certificate.specs.Search.{searchRejection};
 ghost use Rattle.certificate.specs.Value.{valueOf};
 ghost use Rattle.certificate.specs.Flags.{ownPart, childFlag, bySide, chosenChild, FlagsFrom};
 
@@ -32,8 +38,28 @@ pub const LEAST: u32 = 0;
 
 pub const GREATEST: u32 = 64002;
 
+// The number of 01's question about the buffers.
+pub const SHORT_BUFFER: u8 = 10;
+
 // The flag of a node in both solution trees.
 const BOTH: u8 = 3;
+
+// Questions 1 to 10, for buffers of these lengths: the number of nodes, or the first rejection.
+pub fn ask(table: &[u8], evaluated: usize, certificate: usize) -> Checked
+    ensures { λ r. ⌜ r ≡ answer (frames (now (table .entry))) (searchRejection (now (table .entry)) (evaluated ∷ certificate ∷ [])) ⌝ }
+{
+    let checked = check(table);
+    let Checked::Nodes(n) = checked else {
+        return checked;
+    };
+    if evaluated < n {
+        return rejected(SHORT_BUFFER, 0);
+    }
+    if certificate < n {
+        return rejected(SHORT_BUFFER, 0);
+    }
+    checked
+}
 
 // The certificate (01: the proof) read off the bounds of the marked leaves, into the buffer's first entries; the result is the root move.
 pub fn conclude(table: &[u8], evaluated: &mut [u8], certificate: &mut [u8]) -> usize

@@ -13,8 +13,7 @@ use Rattle.frames.proofs.Stated.{ask-yes, both-passed}
 use Rattle.treefile.specs.Line.{lineDigits, lineFeed, bytesOf}
 use Rattle.treefile.specs.Lines.{putBefore, linesOf, decode, decoded}
 use Rattle.treefile.specs.File.{maxFile, eachLine, lineCheck3, fileCheck3}
-use Rattle.treefile.proofs.Lines.{line-length}
-use Rattle.treefile.proofs.Decoding.{line-bytes}
+use Rattle.treefile.proofs.Lines.{line-length, line-bytes}
 
 -- the bytes of lines with a line feed after each
 closedLength : List (List ℕ) → ℕ
@@ -64,6 +63,7 @@ module _ (f : List ℕ) (passed : fileCheck3 f ≡ none) where
   pub decoded-length : length (decoded f) ≡ frameSize * length (linesOf f)
   decoded-length = bytes-lines 0 (linesOf f) passed
 
+  -- so there are as many frames as lines
   pub frame-count : frames (decoded f) ≡ length (linesOf f)
   frame-count = omega (arith, decoded-length)
 

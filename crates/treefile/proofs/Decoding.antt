@@ -1,9 +1,9 @@
 -- The loop that decodes a file: what holds after n lines, and that each line, stored behind the ones before, keeps it.
-use Prim.Native.Nat.{ℕ, zero, suc, _+_, _*_, _≤_, _<_, min}
+use Prim.Native.Nat.{ℕ, _+_, _*_, _≤_, _<_, min}
 use mathlib.Core.Path.{_≡_, refl, sym, ap, _∙_}
 use mathlib.Core.Bool.{true}
 use mathlib.Core.Option.{Option, none, some}
-use mathlib.Core.List.{List, [], _∷_, _++_, append-nil, append-assoc}
+use mathlib.Core.List.{List, _∷_, _++_, append-nil, append-assoc}
 use lib.ListN.{length, take, drop, length-append, drop-of-length-le}
 use lib.Seq.{sets, sets-eq, take-at, length-take-le}
 use native.Mathlib.Omega.{arith}
@@ -13,36 +13,13 @@ use Rattle.frames.specs.Frame.{frameSize, maxNodes, frames}
 use Rattle.treefile.specs.declared.Frame.{Frame}
 use Rattle.treefile.specs.declared.Cursor.{Cursor}
 use Rattle.treefile.specs.declared.Line.the-variants.{Read, NoLine}
-use Rattle.treefile.specs.Line.{lineDigits, isLine, bytesOf, frameOf, frameBytes, isLineAt, lineAt}
+use Rattle.treefile.specs.Line.{lineDigits, bytesOf, frameOf, frameBytes, isLineAt, lineAt}
 use Rattle.treefile.specs.Lines.{linesOf, decode, decoded}
 use Rattle.treefile.specs.File.{maxFile, eachLine, lineCheck3, fileCheck3}
 use Rattle.treefile.specs.Decoded.{Decoded}
-use Rattle.treefile.proofs.Lines.{lineBytes, line-length, line-is, line-fits, line-read, read-is, none-is}
+use Rattle.treefile.proofs.Lines.{line-bytes, frame-bytes}
+use Rattle.treefile.proofs.Positions.{lineBytes, line-is, line-fits, line-read, read-is, none-is}
 use Rattle.treefile.proofs.Left.{lines-next, lines-stop}
-
--- two digits make a byte
-bytes-length : (n : ℕ) (l : List ℕ) → length l ≡ 2 * n → length (bytesOf l) ≡ n
-unfolding bytesOf
-bytes-length zero [] h = refl
-bytes-length (suc n) [] h = absurd (omega arith)
-bytes-length n (a ∷ []) h = absurd (omega arith)
-bytes-length zero (a ∷ b ∷ l) h = absurd (omega arith)
-bytes-length (suc n) (a ∷ b ∷ l) h = ap suc (bytes-length n l (omega arith))
-
--- a line has six bytes
-pub line-bytes : (l : List ℕ) → isLine l ≡ true → length (bytesOf l) ≡ frameSize
-line-bytes l e = bytes-length frameSize l (line-length l e)
-
--- six bytes are those of their frame
-frame-bytes : (bs : List ℕ) → length bs ≡ frameSize → frameBytes (frameOf bs) ≡ bs
-frame-bytes [] h = absurd (omega arith)
-frame-bytes (a ∷ []) h = absurd (omega arith)
-frame-bytes (a ∷ b ∷ []) h = absurd (omega arith)
-frame-bytes (a ∷ b ∷ c ∷ []) h = absurd (omega arith)
-frame-bytes (a ∷ b ∷ c ∷ d ∷ []) h = absurd (omega arith)
-frame-bytes (a ∷ b ∷ c ∷ d ∷ e ∷ []) h = absurd (omega arith)
-frame-bytes (a ∷ b ∷ c ∷ d ∷ e ∷ g ∷ []) h = refl
-frame-bytes (a ∷ b ∷ c ∷ d ∷ e ∷ g ∷ i ∷ bs) h = absurd (omega arith)
 
 -- six bytes stored behind n frames
 stored : (table bs : List ℕ) (n : ℕ) → frameSize * (n + 1) ≤ length table → length bs ≡ frameSize

@@ -8,12 +8,15 @@ use borrow.Author.Tests.{le-leb, lt-leb, leb-true}
 use Rattle.treefile.specs.Digit.{within, noDigit, digitOf}
 
 module _ (a z b : ℕ) where
+  -- it is in the range
   pub inside : a ≤ b → b ≤ z → within a z b ≡ true
   inside p q = simp (le-leb a b p, le-leb b z q)
 
+  -- it is below the range
   pub below : b < a → within a z b ≡ false
   below p = simp (lt-leb a b p)
 
+  -- it is above the range
   pub above : z < b → within a z b ≡ false
   above p = rw (lt-leb b z p) (and-false (leb a b))
 

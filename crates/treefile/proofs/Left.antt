@@ -11,7 +11,8 @@ use native.Mathlib.Decide.{decLe}
 use Rattle.treefile.specs.Line.{lineDigits, isLine, isLineAt}
 use Rattle.treefile.specs.Lines.{linesOf}
 use Rattle.treefile.specs.File.{eachLine, lineCheck3}
-use Rattle.treefile.proofs.Lines.{lineBytes, line-length, line-fits}
+use Rattle.treefile.proofs.Lines.{line-length}
+use Rattle.treefile.proofs.Positions.{lineBytes, line-fits}
 use Rattle.treefile.proofs.Splits.{firstLine, afterLine, lines-first, first-take, after-drop, first-digits}
 
 -- past the end nothing is left to drop

@@ -11,15 +11,17 @@ use Rattle.treefile.specs.Digit.{noDigit, digitOf}
 use Rattle.treefile.specs.Line.{lineFeed, allDigits, closed}
 use Rattle.treefile.specs.Lines.{putBefore, linesOf}
 
--- the bytes before the first line feed, and those after it
+-- the first line from a byte b on: empty where b is a line feed
 abbrev firstFrom : Bool → ℕ → List ℕ → List ℕ
 firstFrom true b l = []
 firstFrom false b l = b ∷ l
 
+-- the bytes before the first line feed
 pub firstLine : List ℕ → List ℕ
 firstLine [] = []
 firstLine (b ∷ f) = firstFrom (eqb b lineFeed) b (firstLine f)
 
+-- the bytes after it
 pub afterLine : List ℕ → List ℕ
 afterLine [] = []
 afterLine (b ∷ f) = cond (eqb b lineFeed) f (afterLine f)
@@ -42,7 +44,7 @@ lines-first b (c ∷ f) = go (eqb b lineFeed) (lines-first c f)
     go true i = refl
     go false i = ap (putBefore false b) i
 
--- the first line is the front of the file, and what is after it follows its line feed
+-- the first line is the front of the file
 pub first-take : (f : List ℕ) → firstLine f ≡ take (length (firstLine f)) f
 unfolding firstLine
 first-take [] = refl
@@ -53,6 +55,7 @@ first-take (b ∷ f) = go (eqb b lineFeed) (first-take f)
     go true i = refl
     go false i = ap (λ (l : List ℕ). b ∷ l) i
 
+-- what comes after it follows its line feed
 pub after-drop : (f : List ℕ) → afterLine f ≡ drop (suc (length (firstLine f))) f
 unfolding firstLine afterLine
 after-drop [] = refl

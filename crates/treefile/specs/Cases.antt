@@ -50,6 +50,7 @@ refused f table q p = record {
   after = table;
 }
 
+-- the cases that proofs/Cases.antt computes
 abbrev pub cases : List Case
 cases =
     -- one line, with its line feed or without, in either letter case

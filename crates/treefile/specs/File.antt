@@ -30,6 +30,7 @@ eachLine q i (l ∷ ls) = q i l andThen eachLine q (i + 1) ls
 abbrev pub lineCheck3 : ℕ → List ℕ → Option Rejection
 lineCheck3 i l = ask (isLine l) 3 i
 
+-- the place is the number of the first line that is not
 abbrev pub fileCheck3 : List ℕ → Option Rejection
 fileCheck3 f = eachLine lineCheck3 0 (linesOf f)
 
@@ -53,10 +54,11 @@ readRejection f table = fileRejection f andThen fileCheck10 f table
 abbrev pub readAnswer : List ℕ → List ℕ → Checked
 readAnswer f table = answer (frames (decoded f)) (readRejection f table)
 
--- the lent table afterwards: as it was on a rejection, else the file's bytes and then what it held past them
+-- a table as it was on a rejection, else with bytes at its front and what it held past them
 abbrev pub written : Option Rejection → List ℕ → List ℕ → List ℕ
 written none bytes table = bytes ++ drop (length bytes) table
 written (some r) bytes table = table
 
+-- the lent table afterwards
 abbrev pub tableAfter : List ℕ → List ℕ → List ℕ
 tableAfter f table = written (readRejection f table) (decoded f) table

@@ -9,13 +9,15 @@ use Rattle.treefile.specs.declared.Frame.{Frame}
 use Rattle.treefile.specs.declared.Line.{Line}
 use Rattle.treefile.specs.declared.Line.the-variants.{Read, NoLine}
 
--- the digits of a line, and the byte that closes it
+-- how many digits a line has
 abbrev pub lineDigits : ℕ
 lineDigits = 12
 
+-- the byte that closes it
 abbrev pub lineFeed : ℕ
 lineFeed = 10
 
+-- is every byte a digit
 unfoldable pub allDigits : List ℕ → Bool
 allDigits [] = true
 allDigits (b ∷ l) = ltb (digitOf b) noDigit && allDigits l

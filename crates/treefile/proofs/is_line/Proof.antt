@@ -6,7 +6,7 @@ use borrow.Author.Needs.{needs}
 use borrow.Author.Tests.{not-true, not-false}
 use denote.Ref.{now}
 use Rattle.treefile.specs.Line.{allDigits}
-use Rattle.treefile.proofs.Lines.{lineBytes, line-part, line-short, line-undigit, line-last, line-inside}
+use Rattle.treefile.proofs.Positions.{lineBytes, line-part, line-short, line-undigit, line-last, line-inside}
 use Rattle.treefile.proofs.is_line.Statement.{statement}
 use Rattle.treefile.proofs.is_line.Tie as tie
 

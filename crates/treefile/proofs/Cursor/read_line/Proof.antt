@@ -12,7 +12,7 @@ use borrow.Author.Tests.{not-true, not-false}
 use denote.Ref.{now}
 use Rattle.treefile.specs.Line.{lineDigits, isLineAt, bytesOf, frameOf, lineAt}
 use Rattle.treefile.specs.declared.Line.the-variants.{Read}
-use Rattle.treefile.proofs.Lines.{lineBytes, line-part, line-none, line-read, line-is, line-fits}
+use Rattle.treefile.proofs.Positions.{lineBytes, line-part, line-none, line-read, line-is, line-fits}
 use Rattle.treefile.proofs.Cursor.read_line.Statement.{statement}
 use Rattle.treefile.proofs.Cursor.read_line.Tie as tie
 

@@ -1,0 +1,62 @@
+-- What a visit of a node needs and hands back: at a leaf, at the head of the loop over an inner node's children, and at
+-- the visit of a child.
+use Prim.Native.Nat.{ℕ, suc, _+_, _-_, _≤_, _<_}
+use native.Mathlib.Omega.{arith}
+use mathlib.Core.Path.{_≡_, refl, sym, ap, _∙_}
+use mathlib.Core.List.{List}
+use lib.ListN.{length, set}
+use Rattle.gametree.specs.declared.Place.{Place}
+use Rattle.gametree.specs.AlphaBeta.{clamp, alphaBeta}
+use Rattle.frames.specs.Frame.{maxNodes, frames, firstChild, childCount}
+use Rattle.frames.specs.Place.{childPlace, placeOf, depthOf}
+use Rattle.frames.specs.Tree.{treeAt, valuation}
+use Rattle.frames.specs.Formed.{WellFormed, ChildOf}
+use Rattle.frames.proofs.Next.{child-within}
+use Rattle.frames.proofs.Places.{depth-at-most, place-child}
+use Rattle.frames.proofs.Trees.{tree-leaf, tree-inner}
+use Rattle.certificate.specs.Buffer.{markAll}
+use Rattle.alphabeta.specs.Engine.{Ready}
+use Rattle.alphabeta.proofs.Pass.{Gives, Owes, owes-all, rest}
+
+-- at the head of the loop over the children of node i, from `first` to `end`: child k is next, the window is a b,
+-- n leaves are counted and e are the marks
+pub record Turn (t : List ℕ) (i : ℕ) (p : Place) (α β : ℕ) (e₀ : List ℕ) (first end : ℕ) (e : List ℕ) (a b n k : ℕ)
+    : Type 0 where
+  pub from : first ≤ k
+  pub to : k ≤ end
+  pub kept : length e ≡ length e₀
+  pub owes : Owes (alphaBeta (valuation t) α β (treeAt t i)) (rest (valuation t) (treeAt t) (p .side) a b k end) e₀ e n
+
+module _ (t : List ℕ) (wf : WellFormed t) (i : ℕ) (inside : i < frames t) (α β : ℕ) (e : List ℕ) where
+  -- a leaf is evaluated, and its score brought into the window
+  pub leaf-gives : (v x : ℕ) → childCount t i ≡ 0 → v ≡ valuation t i → x ≡ clamp α β v
+      → Gives (alphaBeta (valuation t) α β (treeAt t i)) e (set e i 1) (record { score = x; leaves = 1 })
+  unfolding markAll
+  leaf-gives v x z p q = rw (tree-leaf t wf i inside z, q, p) (refl, refl)
+
+  -- an inner node owes what all its children give
+  pub inner-owes : (p : Place) (first end : ℕ) → p ≡ placeOf t i → 0 < childCount t i → first ≡ firstChild t i
+      → end ≡ first + (childCount t i - 1)
+      → Owes (alphaBeta (valuation t) α β (treeAt t i)) (rest (valuation t) (treeAt t) (p .side) α β first end) e e 0
+  unfolding rest
+  inner-owes p first end l c q r =
+      let n : childCount t i ≡ suc (end - first) = omega arith in
+      rw (tree-inner t wf i (end - first) inside n, l, q) (owes-all _ e)
+
+module _ (t e : List ℕ) (i : ℕ) (p : Place) (r : Ready t e i p) where
+  -- the depth in hand is the node's own
+  pub ready-depth : (p .depth ≡ depthOf t i) × (p .depth ≤ maxNodes)
+  ready-depth =
+      let d = ap (λ x. x .depth) (r .placed) in
+      (d, omega (arith, d, depth-at-most t i, r .inside, r .formed .few))
+
+  -- each child of a node that is ready is ready
+  pub ready-child : (k : ℕ) (e′ : List ℕ) (q : Place) → ChildOf t i k → length e′ ≡ length e → q ≡ childPlace t p k
+      → Ready t e′ k q
+  ready-child k e′ q c l h =
+      record {
+        formed = r .formed;
+        inside = child-within t (r .formed) (r .inside) c;
+        placed = h ∙ ap (λ x. childPlace t x k) (r .placed) ∙ sym (place-child t (r .formed) (r .inside) c);
+        marks = omega (arith, r .marks);
+      }

@@ -1,0 +1,76 @@
+-- `alphabeta::run` meets its contract: the steps of a search, in order.
+use native.Mathlib.Omega.{arith}
+use mathlib.Core.Path.{sym, ap, _∙_}
+use mir.Syntax.{w16}
+use mir.ValLaws.{toZ-ofZ}
+use borrow.Author.Needs.{needs}
+use Rattle.frames.proofs.Places.{place-root}
+use Rattle.certificate.specs.Buffer.{written}
+use Rattle.alphabeta.proofs.Whole.{run-small, run-gives}
+use Rattle.alphabeta.proofs.run.Statement.{statement}
+use Rattle.alphabeta.proofs.run.Tie as tie
+use Rattle.alphabeta.proofs.run.Reads as reads
+use Rattle.alphabeta.proofs.run.Lts as lts
+use Rattle.alphabeta.proofs.alpha_beta.Reads as alpha-beta-reads
+use Rattle.certificate.proofs.conclude.Reads as conclude-reads
+use Rattle.certificate.proofs.value.Reads as value-reads
+use Rattle.certificate.proofs.clear.Reads as clear-reads
+use Rattle.frames.proofs.frame_count.Reads as frame-count-reads
+
+-- the function's entry, from the engine's result on
+abbrev start : tie.After-alpha-beta → tie.Start
+start f = f .before .before .before .before .before .before .before .before .before .before
+
+frame-count-requires : tie.Need-frame-count-requires
+frame-count-requires c κs = search needs
+
+clear-requires : tie.Need-clear-requires
+clear-requires c κs = search needs
+
+alpha-beta-requires : tie.Need-alpha-beta-requires
+alpha-beta-requires c κs =
+    let a = c .before .before .before .before .before .before .before .before .before in
+    record {
+      formed = a .pre .0;
+      inside = a .pre .0 .some;
+      placed = sym (place-root _);
+      marks = omega (arith, c .before .before .before .clear .kept .0, a .pre .1);
+    }
+
+conclude-requires : tie.Need-conclude-requires
+conclude-requires c κs = search needs
+
+value-requires : tie.Need-value-requires
+value-requires c κs =
+    let f = c .before .before .before .before .before .before .before .before .before in
+    run-small _ (start f .pre .0) _ (f .alpha-beta .ensures .0)
+
+same-length : tie.Need-same-length
+same-length c = search needs
+
+same-length-2 : tie.Need-same-length-2
+same-length-2 c = search needs
+
+returns : tie.Need-returns
+returns c =
+    let g = c .before .before .before .before .before in
+    let f = g .before .before .before .before .before in
+    let k = f .before .before .before .before in
+    let n = k .before .frame-count .ensures in
+    let cleared = k .clear .ensures ∙ ap (λ m. written (λ _. 0) m (start f .args .evaluated .now)) n in
+    let value = toZ-ofZ w16 (c .value .result) (record { sfits = c .value .ok }) ∙ c .value .ensures in
+    run-gives _ (start f .pre .0) _ _ _ _ _ _ _ _ _ cleared (f .alpha-beta .ensures .0) (f .alpha-beta .ensures .1)
+    (g .conclude .ensures .0) (g .conclude .ensures .1 .0) (g .conclude .ensures .1 .1) value
+
+pub run-spec : {M : Type 1} → statement M
+run-spec =
+    tie.close
+    (tie.spec
+    frame-count-requires
+    clear-requires
+    alpha-beta-requires
+    conclude-requires
+    value-requires
+    same-length
+    same-length-2
+    returns)

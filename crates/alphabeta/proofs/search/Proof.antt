@@ -1,0 +1,56 @@
+-- `alphabeta::search` meets its contract: the questions are answered, and then the search is run or nothing is done.
+use mathlib.Core.Path.{sym, _∙_}
+use borrow.Author.Needs.{needs}
+use Rattle.certificate.proofs.Questions.{nodes-roomy}
+use Rattle.alphabeta.proofs.Whole.{finding, rejecting}
+use Rattle.alphabeta.proofs.search.Statement.{statement}
+use Rattle.alphabeta.proofs.search.Tie as tie
+use Rattle.alphabeta.proofs.search.Reads as reads
+use Rattle.alphabeta.proofs.search.Lts as lts
+use Rattle.certificate.proofs.ask.Reads as ask-reads
+use Rattle.alphabeta.proofs.run.Reads as run-reads
+
+ask-requires : tie.Need-ask-requires
+ask-requires c κs = search needs
+
+enum-told : tie.Need-enum-told
+enum-told c = search needs
+
+run-requires : tie.Need-run-requires
+run-requires c κs =
+    let k = c .before .before in
+    nodes-roomy _ _ _ _ (sym (k .enum-told .given .1) ∙ k .before .before .ask .ensures)
+
+enum-known-rejection : tie.Need-enum-known-rejection
+enum-known-rejection c = search needs
+
+same-length : tie.Need-same-length
+same-length c = search needs
+
+same-length-2 : tie.Need-same-length-2
+same-length-2 c = search needs
+
+returns : tie.Need-returns
+returns c =
+    let f = c .before .before .before .before in
+    let k = f .before .before .before in
+    finding _ _ _ _ _ _ _ (sym (k .enum-told .given .1) ∙ k .before .before .ask .ensures) (f .run .ensures .0)
+    (f .run .ensures .1 .0) (f .run .ensures .1 .1)
+
+returns-2 : tie.Need-returns-2
+returns-2 c =
+    let k = c .before in
+    rejecting _ _ _ _ (sym (k .rejection .given .1) ∙ k .before .before .ask .ensures)
+
+pub search-spec : {M : Type 1} → statement M
+search-spec =
+    tie.close
+    (tie.spec
+    ask-requires
+    enum-told
+    run-requires
+    enum-known-rejection
+    same-length
+    same-length-2
+    returns
+    returns-2)

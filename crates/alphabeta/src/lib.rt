@@ -1,0 +1,168 @@
+// Alpha-beta over a byte table: the public search, and its recursive engine.
+use certificate::ask;
+use certificate::clear;
+use certificate::conclude;
+use certificate::evaluate;
+use certificate::value;
+use frames::Checked;
+use frames::GREATEST;
+use frames::LEAST;
+use frames::Rejection;
+use frames::child_count;
+use frames::child_place;
+use frames::first_child;
+use frames::frame_count;
+use gametree::Place;
+use gametree::Side;
+ghost use mathlib.Core.Path.{_≡_};
+ghost use mathlib.Core.List.{[], _∷_};
+ghost use Prim.Native.Nat.{_≤_, max, min};
+ghost use lib.ListN.{length};
+ghost use Rattle.gametree.specs.AlphaBeta.{raise, lower, clamp, alphaBeta};
+ghost use Rattle.frames.specs.Frame.{frames};
+ghost use Rattle.frames.specs.Formed.{WellFormed};
+ghost use Rattle.frames.specs.Tree.{treeAt, valuation};
+ghost use Rattle.certificate.specs.Buffer.{markAll};
+ghost use Rattle.certificate.specs.Search.{marksOf, flagsOf};
+ghost use Rattle.alphabeta.specs.Outcome.{reachedLeaves, findings, alphaBetaOutcome};
+ghost use Rattle.alphabeta.specs.Engine.{Ready, visitedOf};
+
+// What a search finds: the minimax value, the first root move that reaches it (0 for a leaf), and how many leaves were evaluated.
+pub struct Found {
+    pub value: i16,
+    pub root_move: usize,
+    pub leaves: usize,
+}
+
+// The answer of a call: what was found, or the first question that got a "no".
+pub enum Answer {
+    Found(Found),
+    Rejected(Rejection),
+}
+
+// Alpha-beta of the whole tree: questions 1 to 10, then the value, the root move and the count of evaluated leaves; the marks of these leaves and the
+// certificate (01: the proof) go into the buffers.
+pub fn search(table: &[u8], evaluated: &mut [u8], certificate: &mut [u8]) -> Answer
+    ensures { λ r. ⌜ record { answer = r; evaluated = now (evaluated .exit); certificate = now (certificate .exit) }
+        ≡ alphaBetaOutcome (now (table .entry)) (now (evaluated .entry)) (now (certificate .entry)) ⌝ }
+{
+    match ask(table, evaluated.len(), certificate.len()) {
+        Checked::Nodes(_) => Answer::Found(run(table, evaluated, certificate)),
+        Checked::Rejected(rejection) => Answer::Rejected(rejection),
+    }
+}
+
+// The search of an accepted table, into buffers with an entry per node.
+fn run(table: &[u8], evaluated: &mut [u8], certificate: &mut [u8]) -> Found
+    requires { ⌜ WellFormed (now table) ⌝ }
+    requires { ⌜ (frames (now table) ≤ length (now evaluated)) × (frames (now table) ≤ length (now certificate)) ⌝ }
+    ensures { λ r. ⌜ r ≡ findings (now (table .entry)) ⌝ }
+    ensures { λ _. ⌜ now (evaluated .exit) ≡ marksOf (reachedLeaves (now (table .entry))) (now (table .entry)) (now (evaluated .entry)) ⌝ }
+    ensures { λ _. ⌜ now (certificate .exit) ≡ flagsOf (reachedLeaves (now (table .entry))) (now (table .entry)) (now (certificate .entry)) ⌝ }
+{
+    clear(evaluated, frame_count(table));
+    let root = Place {
+        depth: 0,
+        side: Side::Max,
+    };
+    let visited = alpha_beta(table, evaluated, 0, root, LEAST, GREATEST);
+    let root_move = conclude(table, evaluated, certificate);
+    let value = value(visited.score);
+    Found {
+        value,
+        root_move,
+        leaves: visited.leaves,
+    }
+}
+
+// What the engine gives for a subtree: its score in the window, and how many leaves it evaluated.
+struct Visited {
+    score: u32,
+    leaves: usize,
+}
+
+// Alpha-beta of the tree below a node, with the window from alpha to beta: the pass over the children stops at the first one that closes the window.
+fn alpha_beta(
+    table: &[u8],
+    evaluated: &mut [u8],
+    node: usize,
+    place: Place,
+    mut alpha: u32,
+    mut beta: u32,
+) -> Visited
+    requires { ⌜ Ready (now table) (now evaluated) node place ⌝ }
+    ensures { λ r. ⌜ r ≡ visitedOf (alphaBeta (valuation (now (table .entry))) alpha beta (treeAt (now (table .entry)) node)) ⌝ }
+    ensures { λ _. ⌜ now (evaluated .exit)
+        ≡ markAll (now (evaluated .entry)) (alphaBeta (valuation (now (table .entry))) alpha beta (treeAt (now (table .entry)) node) .evaluated) ⌝ }
+{
+    let count = child_count(table, node);
+    if count == 0 {
+        let leaf = evaluate(table, evaluated, node, place.depth);
+        let score = clamped(alpha, beta, leaf);
+        return Visited { score, leaves: 1 };
+    }
+    let side = place.side;
+    let mut leaves: usize = 0;
+    let mut child = first_child(table, node);
+    let last = child + (count - 1);
+    let score = loop {
+        let visited = alpha_beta(
+            table,
+            evaluated,
+            child,
+            child_place(table, child, place),
+            alpha,
+            beta,
+        );
+        leaves += visited.leaves;
+        if child == last {
+            break visited.score;
+        }
+        alpha = raised(side, alpha, visited.score);
+        beta = lowered(side, beta, visited.score);
+        if beta <= alpha {
+            break visited.score;
+        }
+        child += 1;
+    };
+    Visited { score, leaves }
+}
+
+// The score, brought into the window.
+fn clamped(alpha: u32, beta: u32, score: u32) -> u32
+    ensures { λ r. ⌜ r ≡ clamp alpha beta score ⌝ }
+{
+    lesser(beta, greater(alpha, score))
+}
+
+// Alpha behind a child of this score.
+fn raised(side: Side, alpha: u32, score: u32) -> u32
+    ensures { λ r. ⌜ r ≡ raise side alpha score ⌝ }
+{
+    match side {
+        Side::Max => greater(alpha, score),
+        Side::Min => alpha,
+    }
+}
+
+// Beta behind a child of this score.
+fn lowered(side: Side, beta: u32, score: u32) -> u32
+    ensures { λ r. ⌜ r ≡ lower side beta score ⌝ }
+{
+    match side {
+        Side::Max => beta,
+        Side::Min => lesser(beta, score),
+    }
+}
+
+fn greater(a: u32, b: u32) -> u32
+    ensures { λ r. ⌜ r ≡ max a b ⌝ }
+{
+    if a < b { b } else { a }
+}
+
+fn lesser(a: u32, b: u32) -> u32
+    ensures { λ r. ⌜ r ≡ min a b ⌝ }
+{
+    if a < b { a } else { b }
+}

@@ -1,0 +1,2 @@
+-- The words in which the demands are stated.
+pub mod Handed

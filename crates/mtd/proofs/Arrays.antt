@@ -1,0 +1,52 @@
+-- Marks and flags in arrays of numbers, and the highs that they give.
+use Prim.Native.Nat.{ℕ, _≤_, _<_}
+use native.Mathlib.Omega.{arith}
+use mathlib.Core.Path.{_≡_, refl, sym, ap, ap₂, _∙_}
+use mathlib.Core.Logic.{inl, inr}
+use mathlib.Core.Bool.{Bool, true, false, cond}
+use mathlib.Core.List.{List}
+use lib.Dec.{eqb}
+use lib.ListN.{length, getD, set}
+use lib.Seq.{getD-set-same, getD-set-other, set-getD}
+use Rattle.gametree.specs.declared.Side.{Side}
+use Rattle.gametree.specs.Tree.{Tree, leaf, inner, Kids, last, _then_, greatest, better, minimaxKids, In, InKids}
+use Rattle.gametree.specs.Bounds.{known, high}
+use Rattle.gametree.specs.Mtd.{memoHigh, memoHighKids}
+use Rattle.gametree.proofs.MemoArrays.{Bits, readMemo, readMemoKids}
+use Rattle.certificate.specs.Buffer.{marked}
+
+-- what stands there already is stored
+pub set-same : (l : List ℕ) (i v : ℕ) → getD l i 0 ≡ v → set l i v ≡ l
+set-same l i v e = ap (set l i) (sym e) ∙ set-getD l i 0
+
+-- a flag that is stored is read
+pub marked-same : (l : List ℕ) (i : ℕ) (b : Bool) → i < length l → marked (set l i (cond b 1 0)) i ≡ b
+marked-same l i true h = ap (λ x. eqb x 1) (getD-set-same l i 1 0 h)
+marked-same l i false h = ap (λ x. eqb x 1) (getD-set-same l i 0 0 h)
+
+-- and no other is changed
+pub marked-other : (l : List ℕ) (i p v : ℕ) → (p ≡ i → ⊥) → marked (set l i v) p ≡ marked l p
+marked-other l i p v h = ap (λ x. eqb x 1) (getD-set-other l i p v 0 h)
+
+mutual
+  -- the high that the memory of two arrays gives is the one of the marked leaves
+  pub read-high : (ν : ℕ → ℕ) (M F : Bits) (T : Tree) → memoHigh ν T (readMemo M F T) ≡ high ν M T
+  read-high ν M F (leaf n) = refl
+  read-high ν M F (inner n s ks) = read-high-kids ν M F s ks
+
+  read-high-kids : (ν : ℕ → ℕ) (M F : Bits) (s : Side) (ks : Kids)
+      → memoHighKids ν s ks (readMemoKids M F ks) ≡ minimaxKids (known ν M greatest) s ks
+  read-high-kids ν M F s (last T) = read-high ν M F T
+  read-high-kids ν M F s (T then ts) = ap₂ (better s) (read-high ν M F T) (read-high-kids ν M F s ts)
+
+mutual
+  -- the high of a tree depends on the marks of its nodes only
+  pub high-local : (ν : ℕ → ℕ) (M N : Bits) (T : Tree) → ((p : ℕ) → In p T → M p ≡ N p) → high ν M T ≡ high ν N T
+  high-local ν M N (leaf n) e = ap (λ b. cond b (ν n) greatest) (e n refl)
+  high-local ν M N (inner n s ks) e = high-local-kids ν M N s ks (λ p i. e p (inr i))
+
+  high-local-kids : (ν : ℕ → ℕ) (M N : Bits) (s : Side) (ks : Kids) → ((p : ℕ) → InKids p ks → M p ≡ N p)
+      → minimaxKids (known ν M greatest) s ks ≡ minimaxKids (known ν N greatest) s ks
+  high-local-kids ν M N s (last T) e = high-local ν M N T e
+  high-local-kids ν M N s (T then ts) e =
+      ap₂ (better s) (high-local ν M N T (λ p i. e p (inl i))) (high-local-kids ν M N s ts (λ p i. e p (inr i)))

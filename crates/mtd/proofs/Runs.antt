@@ -1,0 +1,233 @@
+-- The run of passes: what the run gives from the present test and memory, after the passes so far, is what MTD gives.
+use Prim.Native.Nat.{ℕ, zero, suc, _+_, _≤_, _<_}
+use native.Mathlib.Omega.{arith}
+use mathlib.Core.Path.{_≡_, refl, sym, ap, ap₂, _∙_, subst}
+use mathlib.Core.Logic.{inl, inr}
+use mathlib.Core.Bool.{Bool, true, false, cond}
+use mathlib.Core.List.{List, [], _++_, append-assoc}
+use lib.ListN.{length, getD, length-append}
+use Rattle.gametree.specs.Lists.{among}
+use Rattle.gametree.specs.Tree.{Tree, leaf, inner, Kids, last, _then_, greatest, size, sizeKids, leafCount, leafCountKids}
+use Rattle.gametree.specs.Tree.{In, InKids, Proper}
+use Rattle.gametree.specs.Bounds.{high}
+use Rattle.gametree.specs.Mtd.{Memo, MemoKids, memoHigh, pass, Run, settled, followed, run, fresh, freshKids, mtd}
+use Rattle.gametree.specs.Searches.{byMtd}
+use Rattle.gametree.proofs.Choice.{cond-cases}
+use Rattle.gametree.proofs.MemoArrays.{Bits, readMemo, readMemoKids}
+use Rattle.gametree.proofs.MtdSound.{Kept, Sound, sound}
+use Rattle.gametree.proofs.MtdValue.{kept-lower, fresh-kept, fresh-memoHigh}
+use Rattle.gametree.proofs.Theorems.{search-count}
+use Rattle.frames.specs.Frame.{maxNodes, frames}
+use Rattle.frames.specs.Place.{rootPlace}
+use Rattle.frames.specs.Tree.{treeAt, tree, valuation}
+use Rattle.frames.specs.Formed.{WellFormed}
+use Rattle.frames.proofs.Places.{place-root}
+use Rattle.frames.proofs.Trees.{zero-or-suc}
+use Rattle.frames.proofs.Nodes.{in-own, tree-range}
+use Rattle.frames.proofs.Totals.{tree-size}
+use Rattle.frames.proofs.Proper.{tree-proper}
+use Rattle.certificate.specs.Buffer.{marked, markAll}
+use Rattle.certificate.proofs.Buffers.{markAll-append}
+use Rattle.mtd.specs.declared.Tried.{Tried}
+use Rattle.mtd.specs.declared.Settled.{Settled}
+use Rattle.mtd.specs.Memory.{Memory, memoOf, passOf, Room, HighsRight, Ready, Passed, Fresh, settledOf}
+use Rattle.mtd.proofs.Arrays.{read-high}
+use Rattle.mtd.proofs.Visits.{Long, room-kept}
+
+mutual
+  -- where no node is marked and none was found, the memory is the fresh one
+  read-fresh : (M F : Bits) (T : Tree) → ((p : ℕ) → In p T → (M p ≡ false) × (F p ≡ false)) → readMemo M F T ≡ fresh T
+  read-fresh M F (leaf n) h =
+      ap₂ {C = Memo (leaf n)} (λ x y. record { evaluated = x; notBelow = y }) (h n refl .0) (h n refl .1)
+  read-fresh M F (inner n s ks) h =
+      ap₂ {C = Memo (inner n s ks)} (λ x y. record { notBelow = x; kids = y }) (h n (inl refl) .1)
+      (read-fresh-kids M F ks (λ p i. h p (inr i)))
+
+  read-fresh-kids : (M F : Bits) (ks : Kids) → ((p : ℕ) → InKids p ks → (M p ≡ false) × (F p ≡ false))
+      → readMemoKids M F ks ≡ freshKids ks
+  read-fresh-kids M F (last T) h = read-fresh M F T h
+  read-fresh-kids M F (T then ts) h =
+      ap₂ {C = MemoKids (T then ts)} (λ x y. record { first = x; rest = y }) (read-fresh M F T (λ p i. h p (inl i)))
+      (read-fresh-kids M F ts (λ p i. h p (inr i)))
+
+mutual
+  -- a tree has at most as many leaves as nodes
+  count-size : (E : ℕ → Bool) (T : Tree) → leafCount E T ≤ size T
+  count-size E (leaf n) = cond-cases (λ x. x ≤ 1) (E n) 1 0 (λ _. omega arith) (λ _. omega arith)
+  count-size E (inner n s ks) = omega (arith, count-size-kids E ks)
+
+  count-size-kids : (E : ℕ → Bool) (ks : Kids) → leafCountKids E ks ≤ sizeKids ks
+  count-size-kids E (last T) = count-size E T
+  count-size-kids E (T then ts) = omega (arith, count-size E T, count-size-kids E ts)
+
+-- MTD evaluates at most as many leaves as the table has nodes
+pub mtd-few : (t : List ℕ) → WellFormed t → length (mtd (valuation t) (tree t) .evaluated) ≤ maxNodes
+mtd-few t wf =
+    let w = mtd (valuation t) (tree t) .evaluated in
+    omega (
+      arith,
+      search-count (valuation t) (tree t) (tree-proper t wf) byMtd,
+      count-size (among w) (tree t),
+      tree-size t wf,
+      wf .few,
+    )
+
+-- the run of a table's tree from the memory that the arrays hold
+abbrev pub runOf : (t : List ℕ) → ℕ → ℕ → Memory → Run (tree t)
+runOf t f γ m = run (valuation t) f γ (tree t) (memoOf m (tree t))
+
+-- before a pass: the passes so far and the run from here make the whole run q
+pub record Passing (t : List ℕ) (q : Run (tree t)) (m m′ : Memory) (test leaves passes : ℕ) : Type 0 where
+  pub long : Long m m′
+  pub right : HighsRight t m′ (tree t)
+  pub kept : Kept (valuation t) test (tree t) (memoOf m′ (tree t))
+  pub few : passes + test ≤ greatest
+  pub spare : ℕ
+  pub enough : test ≤ spare
+  pub done : List ℕ
+  pub counted : leaves ≡ length done
+  pub marks : m′ .evaluated ≡ markAll (m .evaluated) done
+  pub value : q .value ≡ runOf t (suc spare) test m′ .value
+  pub evaluated : q .evaluated ≡ done ++ runOf t (suc spare) test m′ .evaluated
+  pub passed : q .passes ≡ passes + runOf t (suc spare) test m′ .passes
+
+-- the first pass, for any bound on the passes that is large enough
+passing-from : (t : List ℕ) (m : Memory) → Fresh t m → (f : ℕ) → greatest ≤ f
+    → Passing t (run (valuation t) (suc f) greatest (tree t) (fresh (tree t))) m m greatest 0 0
+unfolding markAll
+passing-from t m h f l =
+    let bits : (p : ℕ) → p < frames t → (marked (m .evaluated) p ≡ false) × (marked (m .found) p ≡ false) =
+    λ p x. (h .evaluated p x, h .found p x) in
+    let inside = tree-range t (h .formed) in
+    let start = read-fresh _ _ (tree t) (λ p i. bits p (inside 0 (h .formed .some) p i .1)) in
+    record {
+      long = record { evaluated = refl; highs = refl; found = refl };
+      right = λ k i.
+          let own = inside 0 (h .formed .some) k i .1 in
+          let at-start = read-fresh _ _ (treeAt t k) (λ p j. bits p (inside k own p j .1)) in
+          h .highs k own
+          ∙ sym (sym (read-high (valuation t) (marked (m .evaluated)) (marked (m .found)) (treeAt t k))
+          ∙ ap (memoHigh (valuation t) (treeAt t k)) at-start ∙ fresh-memoHigh (valuation t) (treeAt t k));
+      kept = subst (Kept (valuation t) greatest (tree t)) (sym start) (fresh-kept (valuation t) greatest (tree t));
+      few = omega arith;
+      spare = f;
+      enough = l;
+      done = [];
+      counted = refl;
+      marks = refl;
+      value = ap (λ x. run (valuation t) (suc f) greatest (tree t) x .value) (sym start);
+      evaluated = ap (λ x. run (valuation t) (suc f) greatest (tree t) x .evaluated) (sym start);
+      passed = omega (arith, ap (λ x. run (valuation t) (suc f) greatest (tree t) x .passes) (sym start));
+    }
+
+pub passing-first : (t : List ℕ) (m : Memory) → Fresh t m → Passing t (mtd (valuation t) (tree t)) m m greatest 0 0
+unfolding mtd
+passing-first t m h = passing-from t m h 64002 (omega arith)
+
+-- a run of one pass more, where the root is not below, and where it is
+run-settled : (ν : ℕ → ℕ) (f γ : ℕ) (T : Tree) (m : Memo T) → pass ν γ T m .notBelow ≡ true
+    → run ν (suc f) γ T m ≡ settled γ T (pass ν γ T m)
+run-settled ν f γ T m e = rw e
+
+run-followed : (ν : ℕ → ℕ) (f γ : ℕ) (T : Tree) (m : Memo T) → pass ν γ T m .notBelow ≡ false
+    → run ν (suc f) γ T m
+    ≡ followed T (pass ν γ T m) (run ν f (memoHigh ν T (pass ν γ T m .next)) T (pass ν γ T m .next))
+run-followed ν f γ T m e = rw e
+
+-- the first pass gives some of the run's leaves
+run-first : (ν : ℕ → ℕ) (f γ : ℕ) (T : Tree) (m : Memo T)
+    → length (pass ν γ T m .evaluated) ≤ length (run ν (suc f) γ T m .evaluated)
+run-first ν f γ T m =
+    let later = run ν f (memoHigh ν T (pass ν γ T m .next)) T (pass ν γ T m .next) .evaluated in
+    cond-cases (λ (x : Run T). length (pass ν γ T m .evaluated) ≤ length (x .evaluated)) (pass ν γ T m .notBelow) _ _
+    (λ _. omega arith)
+    (λ _. omega (arith, length-append (pass ν γ T m .evaluated) later))
+
+module _ {t : List ℕ} {q : Run (tree t)} {m m′ : Memory} {test leaves passes : ℕ} (wf : WellFormed t)
+    (u : Passing t q m m′ test leaves passes) where
+  -- what the next pass asks
+  pub passing-ready : Room (frames t) m → Ready t m′ rootPlace 0
+  passing-ready room =
+      record {
+        formed = wf;
+        inside = wf .some;
+        few = omega (arith, tree-size t wf, wf .few);
+        stands = sym (place-root t);
+        room = room-kept (frames t) room (u .long);
+        right = u .right;
+      }
+
+  module _ {m″ : Memory} {r : Tried} (p : Passed t (tree t) test m′ m″ r) where
+    with-leaves : leaves + r .leaves ≡ length (u .done ++ passOf t test m′ (tree t) .evaluated)
+    with-leaves = ap₂ _+_ (u .counted) (p .leaves) ∙ sym (length-append (u .done) _)
+
+    with-marks : m″ .evaluated ≡ markAll (m .evaluated) (u .done ++ passOf t test m′ (tree t) .evaluated)
+    with-marks =
+        p .marks ∙ ap (λ l. markAll l (passOf t test m′ (tree t) .evaluated)) (u .marks)
+        ∙ sym (markAll-append (m .evaluated) (u .done) (passOf t test m′ (tree t) .evaluated))
+
+    -- the count of leaves fits
+    pub passing-few : length (q .evaluated) ≤ maxNodes → leaves + r .leaves ≤ maxNodes
+    passing-few few =
+        omega (
+          arith,
+          with-leaves,
+          length-append (u .done) (passOf t test m′ (tree t) .evaluated),
+          run-first (valuation t) (u .spare) test (tree t) (memoOf m′ (tree t)),
+          ap length (u .evaluated) ∙ length-append (u .done) (runOf t (suc (u .spare)) test m′ .evaluated),
+        )
+
+    -- the last pass: the root is not below
+    pub passing-last : r .answer ≡ true
+        → (record { score = test; leaves = leaves + r .leaves; passes = passes + 1 } ≡ settledOf q)
+        × (m″ .evaluated ≡ markAll (m .evaluated) (q .evaluated))
+    passing-last e =
+        let is = run-settled (valuation t) (u .spare) test (tree t) _ (sym (p .answer) ∙ e) in
+        let v : test ≡ q .value = sym (u .value ∙ ap (λ x. x .value) is) in
+        let w = u .evaluated ∙ ap (λ x. u .done ++ x .evaluated) is in
+        let n : leaves + r .leaves ≡ length (q .evaluated) = with-leaves ∙ ap length (sym w) in
+        let k : passes + 1 ≡ q .passes = sym (u .passed ∙ ap (λ x. passes + x .passes) is) in
+        (cc, with-marks ∙ ap (markAll (m .evaluated)) (sym w))
+
+    -- another pass: the next test is the root's high
+    module _ (e : r .answer ≡ false) where
+      next-sound : Sound (valuation t) test (tree t) (memoOf m′ (tree t)) (passOf t test m′ (tree t))
+      next-sound = sound (valuation t) test (tree t) (memoOf m′ (tree t)) (tree-proper t wf .scored) (u .kept)
+
+      next-high : getD (m″ .highs) 0 0 ≡ memoHigh (valuation t) (tree t) (passOf t test m′ (tree t) .next)
+      next-high =
+          p .right 0 (in-own t wf 0) ∙ sym (read-high (valuation t) _ (marked (m″ .found)) (tree t))
+          ∙ ap (memoHigh (valuation t) (tree t)) (p .memo .got)
+
+      pub next-falls : getD (m″ .highs) 0 0 < test
+      next-falls = omega (arith, next-high, next-sound .below (sym (p .answer) ∙ e))
+
+      next-run : runOf t (suc (u .spare)) test m′
+          ≡ followed (tree t) (passOf t test m′ (tree t)) (runOf t (u .spare) (getD (m″ .highs) 0 0) m″)
+      next-run =
+          run-followed (valuation t) (u .spare) test (tree t) _ (sym (p .answer) ∙ e)
+          ∙ ap₂ (λ γ x. followed (tree t) (passOf t test m′ (tree t)) (run (valuation t) (u .spare) γ (tree t) x))
+          (sym next-high) (sym (p .memo .got))
+
+      pub passing-next : Long m m″ → Passing t q m m″ (getD (m″ .highs) 0 0) (leaves + r .leaves) (passes + 1)
+      passing-next long =
+          zero-or-suc (u .spare) (λ z. absurd (omega (arith, u .enough, next-falls))) (λ f z.
+          let is = next-run ∙ ap (λ n. followed (tree t) (passOf t test m′ (tree t)) (runOf t n (getD (m″ .highs) 0 0) m″)) z in
+          let w = passOf t test m′ (tree t) .evaluated in
+          record {
+            long = long;
+            right = p .right;
+            kept =
+                subst (Kept (valuation t) (getD (m″ .highs) 0 0) (tree t)) (sym (p .memo .got))
+                (kept-lower (valuation t) (tree t) _ (omega (arith, next-falls)) (next-sound .kept));
+            few = omega (arith, u .few, next-falls);
+            spare = f;
+            enough = omega (arith, u .enough, next-falls);
+            done = u .done ++ w;
+            counted = with-leaves;
+            marks = with-marks;
+            value = u .value ∙ ap (λ x. x .value) is;
+            evaluated =
+                u .evaluated ∙ ap (λ x. u .done ++ x .evaluated) is ∙ sym (append-assoc (u .done) w _);
+            passed = omega (arith, u .passed, ap (λ x. x .passes) is);
+          })

@@ -1,0 +1,73 @@
+-- `run` meets its contract: the steps of a search, in order.
+use mathlib.Core.Path.{_≡_, refl, ap, _∙_}
+use mir.Syntax.{w16}
+use mir.ValLaws.{toZ-ofZ}
+use borrow.Author.Needs.{needs}
+use Rattle.frames.specs.Frame.{frames}
+use Rattle.certificate.specs.Buffer.{written}
+use Rattle.mtd.proofs.Whole.{start-fresh, run-small, run-gives}
+use Rattle.mtd.proofs.run.Statement.{statement}
+use Rattle.mtd.proofs.run.Tie as tie
+
+-- the function's entry, from the clearing on
+abbrev start : tie.After-clear → tie.Start
+start c = c .before .before .before .before .before .before
+
+-- the marks after the clearing
+cleared : (c : tie.After-clear) → c .clear .last .0 ≡ written (λ _. 0) (frames (start c .args .table .now)) (start c .args .evaluated .now)
+cleared c = c .clear .ensures ∙ ap (λ m. written (λ _. 0) m (start c .args .evaluated .now)) (c .before .frame-count .ensures)
+
+frame-count-requires : tie.Need-frame-count-requires
+frame-count-requires c κs = search needs
+
+clear-requires : tie.Need-clear-requires
+clear-requires c κs = search needs
+
+slice-aggregate-run-passes : tie.Need-slice-aggregate-run-passes
+slice-aggregate-run-passes c = search needs
+
+slice-aggregate-run-passes-2 : tie.Need-slice-aggregate-run-passes-2
+slice-aggregate-run-passes-2 c = search needs
+
+run-passes-requires : tie.Need-run-passes-requires
+run-passes-requires c κs =
+    let k = c .before .before .before .before .before in
+    start-fresh _ (start k .pre .0) _ _ _ _ (start k .pre .1 .0) (cleared k) refl refl
+
+conclude-requires : tie.Need-conclude-requires
+conclude-requires c κs = search needs
+
+value-requires : tie.Need-value-requires
+value-requires c κs =
+    let f = c .before .before .before .before .before .before .before .before .before .before .before in
+    run-small _ (start (f .before .before .before .before .before .before) .pre .0) _ (f .run-passes .ensures .0)
+
+same-length : tie.Need-same-length
+same-length c = search needs
+
+same-length-2 : tie.Need-same-length-2
+same-length-2 c = search needs
+
+returns : tie.Need-returns
+returns c =
+    let g = c .before .before .before .before .before in
+    let f = g .before .before .before .before .before .before .before in
+    let k = f .before .before .before .before .before .before in
+    let value = toZ-ofZ w16 (c .value .result) (record { sfits = c .value .ok }) ∙ c .value .ensures in
+    run-gives _ (start k .pre .0) _ _ _ _ _ _ _ _ _ (cleared k) (f .run-passes .ensures .0) (f .run-passes .ensures .1)
+    (g .conclude .ensures .0) (g .conclude .ensures .1 .0) (g .conclude .ensures .1 .1) value
+
+pub run-spec : {M : Type 1} → statement M
+run-spec =
+    tie.close
+    (tie.spec
+    frame-count-requires
+    clear-requires
+    slice-aggregate-run-passes
+    slice-aggregate-run-passes-2
+    run-passes-requires
+    conclude-requires
+    value-requires
+    same-length
+    same-length-2
+    returns)

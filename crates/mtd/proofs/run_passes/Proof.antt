@@ -1,0 +1,98 @@
+-- `run_passes` gives what MTD gives. The measure is the test, which falls with each pass.
+use native.Mathlib.Omega.{arith}
+use mathlib.Core.Path.{_≡_}
+use borrow.Author.Needs.{needs}
+use Rattle.gametree.specs.Mtd.{mtd}
+use Rattle.frames.specs.Tree.{tree, valuation}
+use Rattle.mtd.specs.Memory.{memory}
+use Rattle.mtd.proofs.Visits.{Long}
+use Rattle.mtd.proofs.Runs.{Passing, mtd-few, passing-first, passing-ready, passing-few, passing-last, next-falls}
+use Rattle.mtd.proofs.Runs.{passing-next}
+use Rattle.mtd.proofs.run_passes.Statement.{statement}
+use Rattle.mtd.proofs.run_passes.Tie as tie
+
+abbrev Inv-loop : tie.InvT-loop
+Inv-loop table evaluated₀ highs₀ found₀ root test₀ leaves₀ passes₀ evaluated highs found test leaves passes =
+    Passing table (mtd (valuation table) (tree table)) (memory evaluated₀ highs₀ found₀) (memory evaluated highs found) test
+    leaves passes
+
+abbrev μ-loop : tie.MeasureT-loop
+μ-loop table evaluated₀ highs₀ found₀ root test₀ leaves₀ passes₀ evaluated highs found test leaves passes = test
+
+loop-holds : tie.Need-loop-holds Inv-loop μ-loop
+loop-holds c = passing-first _ _ (c .before .before .before .before .pre)
+
+-- the head of the loop, and the function's entry
+abbrev head : tie.After-visit Inv-loop μ-loop → tie.At-loop Inv-loop μ-loop
+head c = c .before .before .before .before
+
+abbrev entry : tie.After-visit Inv-loop μ-loop → tie.Start Inv-loop μ-loop
+entry c = head c .before .before .before .before .before
+
+-- the arrays keep their lengths
+long : (c : tie.After-visit Inv-loop μ-loop)
+    → Long (memory (entry c .args .evaluated .now) (entry c .args .highs .now) (entry c .args .found .now))
+    (memory (c .visit .last .1 .0) (c .visit .last .1 .1 .0) (c .visit .last .1 .1 .1 .0))
+long c = record { evaluated = omega arith; highs = omega arith; found = omega arith }
+
+visit-requires : tie.Need-visit-requires Inv-loop μ-loop
+visit-requires c κs =
+    let l = c .before .before .before in
+    let p = l .before .before .before .before .before .pre in
+    passing-ready (p .formed) (l .loop .inv) (p .room)
+
+add-leaves : tie.Need-add-leaves Inv-loop μ-loop
+add-leaves c =
+    let v = c .before .before .before .before .before .before .before in
+    let wf = entry v .pre .formed in
+    omega (arith, passing-few wf (head v .loop .inv) (v .visit .ensures) (mtd-few (entry v .args .table .now) wf))
+
+add-passes : tie.Need-add-passes Inv-loop μ-loop
+add-passes c = omega (arith, head (c .before .before .before .before .before .before .before) .loop .inv .few)
+
+slice-read-test : tie.Need-slice-read-test Inv-loop μ-loop
+slice-read-test c =
+    let v = c .before .before .before .before .before .before .before .before .before in
+    omega (arith, entry v .pre .formed .some, entry v .pre .room .highs, long v .highs)
+
+loop-less : tie.Need-loop-less Inv-loop μ-loop
+loop-less c =
+    let v = c .before .before .before .before .before .before .before .before .before in
+    next-falls (entry v .pre .formed) (head v .loop .inv) (v .visit .ensures) (c .before .if1 .left)
+
+loop-again : tie.Need-loop-again Inv-loop μ-loop
+loop-again c =
+    let v = c .before .before .before .before .before .before .before .before .before in
+    passing-next (entry v .pre .formed) (head v .loop .inv) (v .visit .ensures) (c .before .if1 .left) (long v)
+
+same-length : tie.Need-same-length Inv-loop μ-loop
+same-length c = long (c .before .before .before .before .before .before .before .before) .evaluated
+
+same-length-2 : tie.Need-same-length-2 Inv-loop μ-loop
+same-length-2 c = long (c .before .before .before .before .before .before .before .before) .highs
+
+same-length-3 : tie.Need-same-length-3 Inv-loop μ-loop
+same-length-3 c = long (c .before .before .before .before .before .before .before .before) .found
+
+returns : tie.Need-returns Inv-loop μ-loop
+returns c =
+    let v = c .before .before .before .before .before .before .before .before in
+    passing-last (entry v .pre .formed) (head v .loop .inv) (v .visit .ensures) (c .if1 .taken)
+
+pub run-passes-spec : {M : Type 1} → statement M
+run-passes-spec =
+    tie.close
+    (tie.spec
+    Inv-loop
+    μ-loop
+    loop-holds
+    visit-requires
+    add-leaves
+    add-passes
+    slice-read-test
+    loop-less
+    loop-again
+    same-length
+    same-length-2
+    same-length-3
+    returns)

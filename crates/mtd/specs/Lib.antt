@@ -1,0 +1,4 @@
+-- Definitions for MTD over a table: what a search gives and hands back, and what its engine keeps.
+pub mod Outcome
+pub mod Memory
+pub mod Best

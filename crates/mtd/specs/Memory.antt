@@ -1,0 +1,77 @@
+-- MTD's memory as the engine keeps it, three arrays over the node numbers, and what a visit of a node asks of it and does
+-- to it.
+use Prim.Native.Nat.{ℕ, _≤_, _<_}
+use mathlib.Core.Path.{_≡_}
+use mathlib.Core.Bool.{false}
+use mathlib.Core.List.{List}
+use lib.ListN.{length, getD}
+use Rattle.gametree.specs.declared.Place.{Place}
+use Rattle.gametree.specs.Tree.{Tree, greatest, size, In}
+use Rattle.gametree.specs.Bounds.{high}
+use Rattle.gametree.specs.Mtd.{Memo, Pass, pass, Run}
+use Rattle.gametree.proofs.MemoArrays.{readMemo, Visited}
+use Rattle.frames.specs.Frame.{maxNodes, frames}
+use Rattle.frames.specs.Place.{placeOf}
+use Rattle.frames.specs.Tree.{treeAt, valuation}
+use Rattle.frames.specs.Formed.{WellFormed}
+use Rattle.certificate.specs.Buffer.{marked, markAll}
+use Rattle.mtd.specs.declared.Tried.{Tried}
+use Rattle.mtd.specs.declared.Settled.{Settled}
+
+-- the marks of the evaluated leaves, the high of each node, and a 1 for each node that a pass found not below its test
+pub record Memory : Type 0 where
+  pub evaluated : List ℕ
+  pub highs : List ℕ
+  pub found : List ℕ
+
+abbrev pub memory : List ℕ → List ℕ → List ℕ → Memory
+memory e h f = record { evaluated = e; highs = h; found = f }
+
+-- what the arrays remember of a tree
+abbrev pub memoOf : Memory → (T : Tree) → Memo T
+memoOf m T = readMemo (marked (m .evaluated)) (marked (m .found)) T
+
+-- the pass with the test γ over a tree that the arrays remember
+abbrev pub passOf : List ℕ → ℕ → Memory → (T : Tree) → Pass T
+passOf t γ m T = pass (valuation t) γ T (memoOf m T)
+
+-- each array has an entry for each of n nodes
+pub record Room (n : ℕ) (m : Memory) : Type 0 where
+  pub evaluated : n ≤ length (m .evaluated)
+  pub highs : n ≤ length (m .highs)
+  pub found : n ≤ length (m .found)
+
+-- the high of each node of a tree is the one that the leaves evaluated so far give it
+abbrev pub HighsRight : List ℕ → Memory → Tree → Type 0
+HighsRight t m T =
+    (k : ℕ) → In k T → getD (m .highs) k 0 ≡ high (valuation t) (marked (m .evaluated)) (treeAt t k)
+
+-- what a visit of node i asks
+pub record Ready (t : List ℕ) (m : Memory) (p : Place) (i : ℕ) : Type 0 where
+  pub formed : WellFormed t
+  pub inside : i < frames t
+  pub few : size (treeAt t i) ≤ maxNodes
+  pub stands : p ≡ placeOf t i
+  pub room : Room (frames t) m
+  pub right : HighsRight t m (treeAt t i)
+
+-- what a visit of the root of the tree T does: the pass, and nothing to nodes outside the tree
+pub record Passed (t : List ℕ) (T : Tree) (γ : ℕ) (m m′ : Memory) (r : Tried) : Type 0 where
+  pub answer : r .answer ≡ passOf t γ m T .notBelow
+  pub leaves : r .leaves ≡ length (passOf t γ m T .evaluated)
+  pub marks : m′ .evaluated ≡ markAll (m .evaluated) (passOf t γ m T .evaluated)
+  pub memo : Visited (valuation t) γ T (marked (m .evaluated)) (marked (m .found)) (marked (m′ .evaluated)) (marked (m′ .found))
+  pub right : HighsRight t m′ T
+  pub others : (k : ℕ) → (In k T → ⊥) → getD (m′ .highs) k 0 ≡ getD (m .highs) k 0
+
+-- what the passes ask: nothing is evaluated, nothing was found, and every high is the greatest
+pub record Fresh (t : List ℕ) (m : Memory) : Type 0 where
+  pub formed : WellFormed t
+  pub room : Room (frames t) m
+  pub evaluated : (k : ℕ) → k < frames t → marked (m .evaluated) k ≡ false
+  pub found : (k : ℕ) → k < frames t → marked (m .found) k ≡ false
+  pub highs : (k : ℕ) → k < frames t → getD (m .highs) k 0 ≡ greatest
+
+-- what a run of passes gives, in numbers
+abbrev pub settledOf : {T : Tree} → Run T → Settled
+settledOf q = record { score = q .value; leaves = length (q .evaluated); passes = q .passes }

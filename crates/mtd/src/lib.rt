@@ -1,0 +1,258 @@
+// MTD over a byte table: the public search, and its engine of passes with falling tests, each asking whether the root is below its test.
+use certificate::ask;
+use certificate::better;
+use certificate::clear;
+use certificate::conclude;
+use certificate::evaluate;
+use certificate::value;
+use frames::Checked;
+use frames::GREATEST;
+use frames::MAX_NODES;
+use frames::Rejection;
+use frames::child_count;
+use frames::child_place;
+use frames::first_child;
+use frames::frame_count;
+use gametree::Place;
+use gametree::Side;
+ghost use mathlib.Core.Path.{_≡_};
+ghost use mathlib.Core.Bool.{true, cond, _||_};
+ghost use mathlib.Core.List.{[], _∷_};
+ghost use Prim.Native.Nat.{_+_, _-_, _<_, _≤_};
+ghost use lib.Dec.{eqb};
+ghost use lib.ListN.{length, getD, set};
+ghost use Rattle.gametree.specs.Mtd.{settles as settlesOf, mtd};
+ghost use Rattle.frames.specs.Frame.{maxNodes, frames, childCount};
+ghost use Rattle.frames.specs.Place.{depthOf};
+ghost use Rattle.frames.specs.Tree.{treeAt, tree, valuation};
+ghost use Rattle.frames.specs.Formed.{WellFormed};
+ghost use Rattle.certificate.specs.Buffer.{marked, markAll};
+ghost use Rattle.certificate.specs.Search.{marksOf, flagsOf};
+ghost use Rattle.mtd.specs.Outcome.{mtdLeaves, findings, mtdOutcome};
+ghost use Rattle.mtd.specs.Memory.{memory, Fresh, Ready, Passed, settledOf};
+ghost use Rattle.mtd.specs.Best.{bestFrom};
+
+// What a search finds: the minimax value, the first root move that reaches it (0 for a leaf), how many leaves were evaluated, and how many passes were
+// made.
+pub struct Found {
+    pub value: i16,
+    pub root_move: usize,
+    pub leaves: usize,
+    pub passes: usize,
+}
+
+// The answer of a call: what was found, or the first question that got a "no".
+pub enum Answer {
+    Found(Found),
+    Rejected(Rejection),
+}
+
+// MTD of the whole tree: questions 1 to 10, then the value, the root move and the counts of evaluated leaves and of passes; the marks of these leaves
+// and the certificate (01: the proof) go into the buffers.
+pub fn search(table: &[u8], evaluated: &mut [u8], certificate: &mut [u8]) -> Answer
+    ensures { λ r. ⌜ record { answer = r; evaluated = now (evaluated .exit); certificate = now (certificate .exit) } ≡ mtdOutcome (now (table .entry)) (now (evaluated .entry)) (now (certificate .entry)) ⌝ }
+{
+    match ask(table, evaluated.len(), certificate.len()) {
+        Checked::Nodes(_) => Answer::Found(run(table, evaluated, certificate)),
+        Checked::Rejected(rejection) => Answer::Rejected(rejection),
+    }
+}
+
+// The search of an accepted table, into buffers with an entry per node.
+fn run(table: &[u8], evaluated: &mut [u8], certificate: &mut [u8]) -> Found
+    requires { ⌜ WellFormed (now table) ⌝ }
+    requires { ⌜ (frames (now table) ≤ length (now evaluated)) × (frames (now table) ≤ length (now certificate)) ⌝ }
+    ensures { λ r. ⌜ r ≡ findings (now (table .entry)) ⌝ }
+    ensures { λ _. ⌜ now (evaluated .exit) ≡ marksOf (mtdLeaves (now (table .entry))) (now (table .entry)) (now (evaluated .entry)) ⌝ }
+    ensures { λ _. ⌜ now (certificate .exit) ≡ flagsOf (mtdLeaves (now (table .entry))) (now (table .entry)) (now (certificate .entry)) ⌝ }
+{
+    clear(evaluated, frame_count(table));
+    let mut highs = [GREATEST; MAX_NODES];
+    let mut found = [0u8; MAX_NODES];
+    let settled = run_passes(table, evaluated, &mut highs, &mut found);
+    let root_move = conclude(table, evaluated, certificate);
+    let value = value(settled.score);
+    Found {
+        value,
+        root_move,
+        leaves: settled.leaves,
+        passes: settled.passes,
+    }
+}
+
+// What the passes end with: the test that the root is not below, how many leaves were evaluated, and how many passes were made.
+struct Settled {
+    score: u32,
+    leaves: usize,
+    passes: usize,
+}
+
+// Passes from the greatest test, each with the root's high for the next test, until the root is not below.
+fn run_passes(table: &[u8], evaluated: &mut [u8], highs: &mut [u32], found: &mut [u8]) -> Settled
+    requires { ⌜ Fresh (now table) (memory (now evaluated) (now highs) (now found)) ⌝ }
+    ensures { λ r. ⌜ r ≡ settledOf (mtd (valuation (now (table .entry))) (tree (now (table .entry)))) ⌝ }
+    ensures { λ _. ⌜ now (evaluated .exit) ≡ markAll (now (evaluated .entry)) (mtd (valuation (now (table .entry))) (tree (now (table .entry))) .evaluated) ⌝ }
+{
+    let root = Place {
+        depth: 0,
+        side: Side::Max,
+    };
+    let mut test = GREATEST;
+    let mut leaves = 0;
+    let mut passes = 0;
+    loop {
+        let tried = visit(table, evaluated, highs, found, 0, root, test);
+        leaves += tried.leaves;
+        passes += 1;
+        if tried.answer {
+            break;
+        }
+        test = highs[0];
+    }
+    Settled {
+        score: test,
+        leaves,
+        passes,
+    }
+}
+
+// What a node that was tried gives: the answer, true where the node is not below the test, and how many leaves were evaluated.
+struct Tried {
+    answer: bool,
+    leaves: usize,
+}
+
+// The node is visited with this test: entered where neither its high nor an earlier pass decides, and a leaf is evaluated where it was not yet.
+fn visit(
+    table: &[u8],
+    evaluated: &mut [u8],
+    highs: &mut [u32],
+    found: &mut [u8],
+    node: usize,
+    place: Place,
+    test: u32,
+) -> Tried
+    requires { ⌜ Ready (now table) (memory (now evaluated) (now highs) (now found)) place node ⌝ }
+    ensures { λ r. ⌜ Passed (now (table .entry)) (treeAt (now (table .entry)) node) test (memory (now (evaluated .entry)) (now (highs .entry)) (now (found .entry))) (memory (now (evaluated .exit)) (now (highs .exit)) (now (found .exit))) r ⌝ }
+{
+    let count = child_count(table, node);
+    if count == 0 {
+        return visit_leaf(table, evaluated, highs, found, node, place, test);
+    }
+    if highs[node] < test {
+        return Tried {
+            answer: false,
+            leaves: 0,
+        };
+    }
+    if found[node] == 1 {
+        return Tried {
+            answer: true,
+            leaves: 0,
+        };
+    }
+    let side = place.side;
+    let first = first_child(table, node);
+    let end = first + count;
+    let mut child = first;
+    let mut leaves = 0;
+    let answer = loop {
+        let tried = visit(
+            table,
+            evaluated,
+            highs,
+            found,
+            child,
+            child_place(table, child, place),
+            test,
+        );
+        leaves += tried.leaves;
+        child += 1;
+        if last_tried(side, tried.answer, child, end) {
+            break tried.answer;
+        }
+    };
+    let high = best_from(highs, side, first, end);
+    highs[node] = high;
+    found[node] = flag(answer);
+    Tried { answer, leaves }
+}
+
+// Is no child tried after one with this answer: it settles its parent, or there is none.
+fn last_tried(side: Side, answer: bool, child: usize, end: usize) -> bool
+    ensures { λ r. ⌜ r ≡ eqb child end || settlesOf side answer ⌝ }
+{
+    if child == end {
+        true
+    } else {
+        settles(side, answer)
+    }
+}
+
+// Does a child's answer settle its parent: at Max the first one not below, at Min the first one below.
+fn settles(side: Side, answer: bool) -> bool
+    ensures { λ r. ⌜ r ≡ settlesOf side answer ⌝ }
+{
+    match side {
+        Side::Max => answer,
+        Side::Min => !answer,
+    }
+}
+
+// The best of the scores from first up to end, for the side that moves.
+fn best_from(scores: &[u32], side: Side, first: usize, end: usize) -> u32
+    requires { ⌜ (first < end) × (end ≤ length (now scores)) ⌝ }
+    ensures { λ r. ⌜ r ≡ bestFrom side (now (scores .entry)) first (end - (first + 1)) ⌝ }
+{
+    let mut at = end - 1;
+    let mut best = scores[at];
+    while first < at {
+        at -= 1;
+        best = better(side, scores[at], best);
+    }
+    best
+}
+
+// A leaf is compared with the test.
+fn visit_leaf(
+    table: &[u8],
+    evaluated: &mut [u8],
+    highs: &mut [u32],
+    found: &mut [u8],
+    node: usize,
+    place: Place,
+    test: u32,
+) -> Tried
+    requires { ⌜ Ready (now table) (memory (now evaluated) (now highs) (now found)) place node ⌝ }
+    requires { ⌜ childCount (now table) node ≡ 0 ⌝ }
+    ensures { λ r. ⌜ Passed (now (table .entry)) (treeAt (now (table .entry)) node) test (memory (now (evaluated .entry)) (now (highs .entry)) (now (found .entry))) (memory (now (evaluated .exit)) (now (highs .exit)) (now (found .exit))) r ⌝ }
+{
+    let leaves = try_leaf(table, evaluated, highs, node, place.depth);
+    let answer = test <= highs[node];
+    found[node] = flag(answer);
+    Tried { answer, leaves }
+}
+
+// A leaf that is tried for the first time is evaluated, and its score is its high from then on; how many leaves were evaluated.
+fn try_leaf(table: &[u8], evaluated: &mut [u8], highs: &mut [u32], node: usize, depth: u32) -> usize
+    requires { ⌜ (node < frames (now table)) × (node < length (now evaluated)) × (node < length (now highs)) ⌝ }
+    requires { ⌜ (depth ≡ depthOf (now table) node) × (depth ≤ maxNodes) ⌝ }
+    requires { ⌜ (marked (now evaluated) node ≡ true → getD (now highs) node 0 ≡ valuation (now table) node) ⌝ }
+    ensures { λ r. ⌜ r ≡ cond (marked (now (evaluated .entry)) node) 0 1 ⌝ }
+    ensures { λ _. ⌜ now (evaluated .exit) ≡ set (now (evaluated .entry)) node 1 ⌝ }
+    ensures { λ _. ⌜ now (highs .exit) ≡ set (now (highs .entry)) node (valuation (now (table .entry)) node) ⌝ }
+{
+    if evaluated[node] == 1 {
+        return 0;
+    }
+    let score = evaluate(table, evaluated, node, depth);
+    highs[node] = score;
+    1
+}
+
+// The flag of a node with this answer.
+fn flag(answer: bool) -> u8
+    ensures { λ r. ⌜ r ≡ cond answer 1 0 ⌝ }
+{
+    if answer { 1 } else { 0 }
+}

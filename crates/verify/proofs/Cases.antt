@@ -1,0 +1,17 @@
+-- Each small certificate gets its verdict by computation.
+use mathlib.Core.Path.{_≡_, refl}
+use mathlib.Core.List.{map}
+use Rattle.frames.specs.Frame.{next}
+use Rattle.frames.specs.Place.{parentBefore, placeWithin, placeOf}
+use Rattle.frames.specs.Tree.{valuation}
+use Rattle.frames.specs.Rejection.{eachNode}
+use Rattle.frames.specs.Check.{framesRejection, rejection}
+use Rattle.verify.specs.Flags.{membersFrom, ruleHolds}
+use Rattle.verify.specs.Value.{bestBefore}
+use Rattle.verify.specs.Check.{treesRejection, flagsRejection, certificateRejection, verdict}
+use Rattle.verify.specs.Cases.{cases}
+
+cases-hold : map (λ c. verdict (c .table) (c .flags)) cases ≡ map (λ c. c .verdict) cases
+unfolding next parentBefore placeWithin placeOf valuation eachNode framesRejection rejection membersFrom ruleHolds
+    bestBefore treesRejection flagsRejection certificateRejection verdict
+cases-hold = refl

@@ -1,0 +1,9 @@
+-- Why the check of a certificate is right, grouped by idea.
+mod Subtrees
+mod Rules
+mod Values
+mod Counting
+mod Asking
+mod Judging
+pub mod Theorems
+mod Cases

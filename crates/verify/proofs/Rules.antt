@@ -1,0 +1,105 @@
+-- The rules of a side's tree hold at each node of the table exactly if its flags are a solution tree of the table's
+-- tree.
+use Prim.Native.Nat.{ℕ, zero, suc, _+_, _≤_, _<_}
+use native.Mathlib.Omega.{arith}
+use mathlib.Core.Path.{_≡_, refl, sym, ap, ap₂, _∙_}
+use mathlib.Core.Bool.{Bool, true, false, cond}
+use mathlib.Core.List.{List}
+use borrow.Author.Tests.{eq-eqb, eqb-true}
+use Rattle.gametree.specs.declared.Side.{Side}
+use Rattle.gametree.specs.Tree.{Tree, Kids}
+use Rattle.gametree.specs.Certificate.{Rule, Rules, RulesKids, SolutionTree}
+use Rattle.gametree.specs.Counting.{kidCount, members, required}
+use Rattle.gametree.proofs.Choice.{and-both}
+use Rattle.gametree.proofs.Theorems.{rule-counting}
+use Rattle.frames.specs.Frame.{frames, firstChild, childCount}
+use Rattle.frames.specs.Place.{sideOf}
+use Rattle.frames.specs.Tree.{kidsFrom, treeAt, tree}
+use Rattle.frames.specs.Formed.{WellFormed}
+use Rattle.frames.proofs.Parents.{bottom-up}
+use Rattle.frames.proofs.Trees.{zero-or-suc, tree-leaf, tree-inner, tree-number}
+use Rattle.verify.specs.Flags.{member, membersFrom, requiredOf, rootMember, ruleHolds}
+use Rattle.verify.proofs.Subtrees.{Inherited, each-subtree}
+
+module _ (p : Side) (t flags : List ℕ) where
+  -- the children in the tree, counted over the table
+  members-kids : (i n : ℕ) → members (member p flags) (kidsFrom (treeAt t) i n) ≡ membersFrom p flags i (suc n)
+  unfolding kidsFrom membersFrom
+  members-kids i zero = rw (tree-number t i) (omega arith)
+  members-kids i (suc n) =
+      ap₂ (λ k m. cond (member p flags k) 1 0 + m) (tree-number t i) (members-kids (i + 1) n)
+
+count-kids : (h : ℕ → Tree) (i n : ℕ) → kidCount (kidsFrom h i n) ≡ suc n
+unfolding kidsFrom
+count-kids h i zero = refl
+count-kids h i (suc n) = ap suc (count-kids h (i + 1) n)
+
+required-same : (p q : Side) (b : Bool) (ks : Kids) (n : ℕ) → kidCount ks ≡ suc n
+    → required p q b ks ≡ requiredOf p q b (suc n)
+required-same p q true ks n e = rw e
+required-same p q false ks n e = refl
+
+rules-kids : (p : Side) (g : ℕ → Bool) (h : ℕ → Tree) (i n : ℕ) → ((k : ℕ) → i ≤ k → k ≤ i + n → Rules p g (h k))
+    → RulesKids p g (kidsFrom h i n)
+unfolding kidsFrom
+rules-kids p g h i zero f = f i (omega arith) (omega arith)
+rules-kids p g h i (suc n) f =
+    (f i (omega arith) (omega arith), rules-kids p g h (i + 1) n (λ k a b. f k (omega arith) (omega arith)))
+
+rules-inherited : (p : Side) (g : ℕ → Bool) → Inherited (Rules p g) (RulesKids p g)
+rules-inherited p g = record { ofInner = λ n q ks x. x .1; ofLast = λ t x. x; ofMore = λ t ts x. x }
+
+-- the root's part of a rule
+pub root-member : (p : Side) (flags : List ℕ) (i : ℕ) → (i ≡ 0 → member p flags i ≡ true) → rootMember p flags i ≡ true
+root-member p flags zero f = f refl
+root-member p flags (suc i) f = refl
+
+module _ (p : Side) (t flags : List ℕ) (wf : WellFormed t) where
+  -- as many children of node i are in the tree as required
+  abbrev Counted : ℕ → Type 0
+  Counted i =
+      membersFrom p flags (firstChild t i) (childCount t i)
+      ≡ requiredOf p (sideOf t i) (member p flags i) (childCount t i)
+
+  -- the rule of an inner node, over the table and over the tree
+  rule-count : (i n : ℕ) → childCount t i ≡ suc n
+      → Rule p (sideOf t i) (member p flags i) (member p flags) (kidsFrom (treeAt t) (firstChild t i) n)
+      → Counted i
+  rule-count i n e r =
+      let ks = kidsFrom (treeAt t) (firstChild t i) n in
+      rw e
+      (sym (members-kids p t flags (firstChild t i) n)
+      ∙ rule-counting p (sideOf t i) (member p flags i) (member p flags) ks .0 r
+      ∙ required-same p (sideOf t i) (member p flags i) ks n (count-kids (treeAt t) (firstChild t i) n))
+
+  count-rule : (i n : ℕ) → childCount t i ≡ suc n
+      → Counted i
+      → Rule p (sideOf t i) (member p flags i) (member p flags) (kidsFrom (treeAt t) (firstChild t i) n)
+  count-rule i n e c =
+      let ks = kidsFrom (treeAt t) (firstChild t i) n in
+      rule-counting p (sideOf t i) (member p flags i) (member p flags) ks .1
+      (members-kids p t flags (firstChild t i) n ∙ rw e at c
+      ∙ sym (required-same p (sideOf t i) (member p flags i) ks n (count-kids (treeAt t) (firstChild t i) n)))
+
+  -- flags whose rule holds at each node are a solution tree
+  pub rules-solve : ((i : ℕ) → i < frames t → ruleHolds p t flags i ≡ true) → SolutionTree p (member p flags) (tree t)
+  unfolding ruleHolds
+  rules-solve f = (
+    rw (tree-number t 0) (and-both (member p flags 0) _ (f 0 (wf .some)) .0),
+    bottom-up t wf (λ i. Rules p (member p flags) (treeAt t i)) (λ i h g.
+        zero-or-suc (childCount t i) (λ e. rw (tree-leaf t wf i h e) tt) (λ n e.
+        rw (tree-inner t wf i n h e) (
+          count-rule i n e (eqb-true _ _ (and-both (rootMember p flags i) _ (f i h) .1)),
+          rules-kids p (member p flags) (treeAt t) (firstChild t i) n (λ k a b.
+              g k (record { from = a; to = omega arith })),
+        ))) 0 (wf .some),
+  )
+
+  -- and the rule of a solution tree holds at each node
+  pub solved-rules : SolutionTree p (member p flags) (tree t) → (i : ℕ) → i < frames t → ruleHolds p t flags i ≡ true
+  unfolding ruleHolds membersFrom
+  solved-rules s i h =
+      let x = each-subtree (rules-inherited p (member p flags)) t wf (s .1) i h in
+      rw (root-member p flags i (λ z. rw z (rw (tree-number t 0) at (s .0))))
+      (eq-eqb _ _ (zero-or-suc (childCount t i) (λ e. rw e refl)
+      (λ n e. rule-count i n e ((rw (tree-inner t wf i n h e) at x) .0))))

@@ -1,0 +1,65 @@
+-- `check` meets its contract: a rejected table settles the verdict, an accepted one leaves it to the flags.
+use Prim.Native.Nat.{ℕ}
+use mathlib.Core.Path.{_≡_, sym, _∙_}
+use mathlib.Core.List.{List}
+use borrow.Author.Needs.{needs}
+use Rattle.frames.specs.declared.Rejection.{Rejection}
+use Rattle.frames.specs.declared.Checked.the-variants as answers
+use Rattle.frames.specs.Frame.{frames}
+use Rattle.frames.specs.Check.{rejection, checked}
+use Rattle.frames.proofs.Acceptance.{accepted-formed, nodes-accepted}
+use Rattle.verify.specs.declared.Verdict.the-variants.{Rejected}
+use Rattle.verify.specs.Check.{flagsRejection, certificateRejection, judged, verdict}
+use Rattle.verify.proofs.Judging.{judged-until, judged-onward}
+use Rattle.verify.proofs.check.Statement.{statement}
+use Rattle.verify.proofs.check.Tie as tie
+
+module _ (t flags : List ℕ) where
+  table-rejected : (r : Rejection) → answers.Rejected r ≡ checked t → Rejected r ≡ verdict t flags
+  unfolding verdict certificateRejection
+  table-rejected r e = judged-until t flags (frames t) (rejection t) (flagsRejection t flags) r e
+
+  table-accepted : (n : ℕ) → answers.Nodes n ≡ checked t
+      → judged t flags (flagsRejection t flags) ≡ verdict t flags
+  unfolding verdict certificateRejection
+  table-accepted n e = judged-onward t flags (frames t) (rejection t) (flagsRejection t flags) n e
+
+check-requires : tie.Need-check-requires
+check-requires c κs = search needs
+
+enum-known-checked : tie.Need-enum-known-checked
+enum-known-checked c = search needs
+
+enum-told : tie.Need-enum-told
+enum-told c = search needs
+
+check-certificate-requires : tie.Need-check-certificate-requires
+check-certificate-requires c κs =
+    let k = c .before .before in
+    let t = k .before .before .before .args .table .now in
+    accepted-formed t (nodes-accepted t _ (sym (c .enum-told .given .1) ∙ k .check .ensures) .0)
+
+returns : tie.Need-returns
+returns c =
+    let k = c .before .before .before in
+    let a = k .before .before .before .args in
+    table-rejected (a .table .now) (a .flags .now) _ (sym (c .before .checked .given .1) ∙ k .check .ensures)
+
+returns-2 : tie.Need-returns-2
+returns-2 c =
+    let e = c .before in
+    let k = e .before .before in
+    let a = k .before .before .before .args in
+    c .check-certificate .ensures
+    ∙ table-accepted (a .table .now) (a .flags .now) _ (sym (e .enum-told .given .1) ∙ k .check .ensures)
+
+pub check-spec : {M : Type 1} → statement M
+check-spec =
+    tie.close
+    (tie.spec
+    check-requires
+    enum-known-checked
+    enum-told
+    check-certificate-requires
+    returns
+    returns-2)

@@ -1,0 +1,72 @@
+-- `check_flags` meets its contract: before each node the flags behind it are in range.
+use Prim.Native.Nat.{ℕ, _-_}
+use native.Mathlib.Omega.{arith}
+use mathlib.Core.Path.{ap, _∙_}
+use mathlib.Core.Bool.{Bool}
+use mathlib.Core.List.{List}
+use lib.Dec.{leb}
+use lib.ListN.{getD}
+use borrow.Author.Tests.{le-leb, lt-leb}
+use borrow.Author.Needs.{needs}
+use Rattle.frames.specs.declared.Checked.the-variants.{Nodes}
+use Rattle.frames.specs.Frame.{frames}
+use Rattle.verify.proofs.Asking.{Asking, asking-none, asking-more, asking-until, asking-all}
+use Rattle.verify.proofs.check_flags.Statement.{statement}
+use Rattle.verify.proofs.check_flags.Tie as tie
+
+-- the test of question 11
+abbrev inRange : List ℕ → ℕ → Bool
+inRange flags i = leb (getD flags i 0) 3
+
+abbrev Inv-loop : tie.InvT-loop
+Inv-loop table flags n node₀ node = Asking (inRange flags) 11 (frames table) node
+
+abbrev μ-loop : tie.MeasureT-loop
+μ-loop table flags n node₀ node = n - node
+
+frame-count-requires : tie.Need-frame-count-requires Inv-loop μ-loop
+frame-count-requires c κs = search needs
+
+loop-holds : tie.Need-loop-holds Inv-loop μ-loop
+loop-holds c = asking-none _ _ _
+
+shared-slice-read-if1 : tie.Need-shared-slice-read-if1 Inv-loop μ-loop
+shared-slice-read-if1 c = search needs
+
+rejected-requires : tie.Need-rejected-requires Inv-loop μ-loop
+rejected-requires c κs = search needs
+
+returns : tie.Need-returns Inv-loop μ-loop
+returns c =
+    let l = c .before .before .before .before in
+    c .rejected .ensures ∙ asking-until _ _ _ _ (l .loop .inv) (omega arith) (lt-leb _ _ (c .before .if1 .taken))
+
+add-node : tie.Need-add-node Inv-loop μ-loop
+add-node c = search needs
+
+loop-less : tie.Need-loop-less Inv-loop μ-loop
+loop-less c = search needs
+
+loop-again : tie.Need-loop-again Inv-loop μ-loop
+loop-again c =
+    asking-more _ _ _ _ (c .before .before .before .loop .inv) (omega arith) (le-leb _ _ (c .if1 .left))
+
+returns-2 : tie.Need-returns-2 Inv-loop μ-loop
+returns-2 c =
+    ap Nodes (c .before .before .frame-count .ensures) ∙ asking-all _ _ _ _ (c .before .loop .inv) (omega arith)
+
+pub check-flags-spec : {M : Type 1} → statement M
+check-flags-spec =
+    tie.close
+    (tie.spec
+    Inv-loop
+    μ-loop
+    frame-count-requires
+    loop-holds
+    shared-slice-read-if1
+    rejected-requires
+    returns
+    add-node
+    loop-less
+    loop-again
+    returns-2)

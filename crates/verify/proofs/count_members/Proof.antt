@@ -1,0 +1,62 @@
+-- `count_members` meets its contract: each turn counts one node more.
+use Prim.Native.Nat.{_-_}
+use native.Mathlib.Omega.{arith}
+use mathlib.Core.Path.{sym, _∙_}
+use mathlib.Core.Logic.{⊎-elim}
+use borrow.Author.Needs.{needs}
+use Rattle.verify.proofs.Counting.{Counted, counted-none, counted-more, counted-all}
+use Rattle.verify.proofs.count_members.Statement.{statement}
+use Rattle.verify.proofs.count_members.Tie as tie
+
+abbrev Inv-loop : tie.InvT-loop
+Inv-loop flags first count side end members₀ node₀ members node = Counted side flags first count node members
+
+abbrev μ-loop : tie.MeasureT-loop
+μ-loop flags first count side end members₀ node₀ members node = end - node
+
+add-end : tie.Need-add-end Inv-loop μ-loop
+add-end c = search needs
+
+loop-holds : tie.Need-loop-holds Inv-loop μ-loop
+loop-holds c = counted-none _ _ _ _
+
+shared-slice-read-is-member : tie.Need-shared-slice-read-is-member Inv-loop μ-loop
+shared-slice-read-is-member c = search needs
+
+is-member-requires : tie.Need-is-member-requires Inv-loop μ-loop
+is-member-requires c κs = search needs
+
+add-members : tie.Need-add-members Inv-loop μ-loop
+add-members c = search needs
+
+add-node : tie.Need-add-node Inv-loop μ-loop
+add-node c = search needs
+
+loop-less : tie.Need-loop-less Inv-loop μ-loop
+loop-less c = search needs
+
+loop-again : tie.Need-loop-again Inv-loop μ-loop
+loop-again c =
+    let m = c .before in
+    let e = sym (m .is-member .ensures) in
+    counted-more _ _ _ _ _ _ (m .before .before .before .loop .inv) _ (omega arith)
+    (⊎-elim (λ w. rw (e ∙ w .0 .taken) (w .1)) (λ w. rw (e ∙ w .0 .left) (omega arith)) (c .if1 .came))
+
+returns : tie.Need-returns Inv-loop μ-loop
+returns c = counted-all _ _ _ _ _ _ (c .before .loop .inv) (omega arith)
+
+pub count-members-spec : {M : Type 1} → statement M
+count-members-spec =
+    tie.close
+    (tie.spec
+    Inv-loop
+    μ-loop
+    add-end
+    loop-holds
+    shared-slice-read-is-member
+    is-member-requires
+    add-members
+    add-node
+    loop-less
+    loop-again
+    returns)

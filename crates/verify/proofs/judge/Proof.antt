@@ -1,0 +1,145 @@
+-- `judge` meets its contract: a "no" settles the verdict, and equal values give it.
+use Prim.Native.Nat.{ℕ}
+use native.Mathlib.Omega.{arith}
+use mathlib.Core.Path.{_≡_, sym, ap, _∙_}
+use mathlib.Core.List.{List}
+use mir.Syntax.{w16}
+use mir.ValLaws.{toZ-ofZ}
+use borrow.Author.Tests.{eq-eqb, ne-eqb}
+use borrow.Author.Needs.{needs}
+use Rattle.gametree.specs.declared.Side.the-variants.{Max, Min}
+use Rattle.frames.specs.Frame.{frames}
+use Rattle.frames.specs.declared.Rejection.{Rejection}
+use Rattle.frames.specs.declared.Checked.the-variants as checked
+use Rattle.frames.specs.Rejection.{_andThen_, answer}
+use Rattle.certificate.specs.Value.{valueOf}
+use Rattle.verify.specs.declared.Verdict.{Verdict}
+use Rattle.verify.specs.declared.Verdict.the-variants.{Value, Rejected}
+use Rattle.verify.specs.Value.{treeValue}
+use Rattle.verify.specs.Check.{check12, check13, check14, treesRejection, judged}
+use Rattle.verify.proofs.Values.{value-within}
+use Rattle.verify.proofs.Judging.{judged-until, judged-onward}
+use Rattle.verify.proofs.judge.Statement.{statement}
+use Rattle.verify.proofs.judge.Tie as tie
+
+module _ (t flags : List ℕ) where
+  -- the verdict that is due
+  abbrev due : Verdict
+  due = judged t flags (treesRejection t flags)
+
+  no-max : (r : Rejection) → checked.Rejected r ≡ answer (frames t) (check12 t flags) → Rejected r ≡ due
+  unfolding treesRejection
+  no-max r e = judged-until t flags (frames t) (check12 t flags) (check13 t flags andThen check14 t flags) r e
+
+  module _ (k : ℕ) (e : checked.Nodes k ≡ answer (frames t) (check12 t flags)) where
+    no-min : (r : Rejection) → checked.Rejected r ≡ answer (frames t) (check13 t flags) → Rejected r ≡ due
+    unfolding treesRejection
+    no-min r f =
+        judged-until t flags (frames t) (check13 t flags) (check14 t flags) r f
+        ∙ judged-onward t flags (frames t) (check12 t flags) (check13 t flags andThen check14 t flags) k e
+
+    -- both sets of flags are solution trees
+    both-hold : (j : ℕ) → checked.Nodes j ≡ answer (frames t) (check13 t flags)
+        → judged t flags (check14 t flags) ≡ due
+    unfolding treesRejection
+    both-hold j f =
+        judged-onward t flags (frames t) (check13 t flags) (check14 t flags) j f
+        ∙ judged-onward t flags (frames t) (check12 t flags) (check13 t flags andThen check14 t flags) k e
+
+  module _ (x y : ℕ) (p : x ≡ treeValue Max t flags) (q : y ≡ treeValue Min t flags) where
+    unequal : (x ≡ y → ⊥) → Rejected (record { number = 14; place = 0 }) ≡ judged t flags (check14 t flags)
+    unequal h = rw (← p, ← q, ne-eqb x y h)
+
+    equal : x ≡ y → Value (valueOf x) ≡ judged t flags (check14 t flags)
+    equal h = rw (← p, ← q, eq-eqb x y h) (ap (λ s. Value (valueOf s)) p)
+
+check-rules-requires : tie.Need-check-rules-requires
+check-rules-requires c κs = search needs
+
+enum-known-max-tree : tie.Need-enum-known-max-tree
+enum-known-max-tree c = search needs
+
+returns : tie.Need-returns
+returns c =
+    let m = c .before .before .before in
+    let a = m .before .before .before .before .before .args in
+    no-max (a .table .now) (a .flags .now) _ (sym (c .before .max-tree .given .1) ∙ m .check-rules .ensures)
+
+enum-told : tie.Need-enum-told
+enum-told c = search needs
+
+check-rules-requires-2 : tie.Need-check-rules-requires-2
+check-rules-requires-2 c κs = search needs
+
+enum-known-min-tree : tie.Need-enum-known-min-tree
+enum-known-min-tree c = search needs
+
+returns-2 : tie.Need-returns-2
+returns-2 c =
+    let n = c .before .before .before in
+    let e = n .before in
+    let m = e .before .before in
+    let a = m .before .before .before .before .before .args in
+    no-min (a .table .now) (a .flags .now) _ (sym (e .enum-told .given .1) ∙ m .check-rules .ensures) _
+    (sym (c .before .min-tree .given .1) ∙ n .check-rules2 .ensures)
+
+enum-told-2 : tie.Need-enum-told-2
+enum-told-2 c = search needs
+
+tree-value-requires : tie.Need-tree-value-requires
+tree-value-requires c κs = search needs
+
+tree-value-requires-2 : tie.Need-tree-value-requires-2
+tree-value-requires-2 c κs = search needs
+
+-- questions 12 and 13 have passed
+passed : (c : tie.After-enum-told2) →
+    let a = c .before .before .before .before .before .before .before .before .before .before .args in
+    let t = a .table .now in
+    let flags = a .flags .now in
+    judged t flags (check14 t flags) ≡ due t flags
+passed c =
+    let n = c .before .before in
+    let e = n .before in
+    let m = e .before .before in
+    let a = m .before .before .before .before .before .args in
+    both-hold (a .table .now) (a .flags .now) _ (sym (e .enum-told .given .1) ∙ m .check-rules .ensures) _
+    (sym (c .enum-told2 .given .1) ∙ n .check-rules2 .ensures)
+
+returns-3 : tie.Need-returns-3
+returns-3 c =
+    let y = c .before in
+    let x = y .before in
+    unequal _ _ _ _ (x .tree-value .ensures) (y .tree-value2 .ensures) (c .if1 .taken) ∙ passed (x .before)
+
+value-requires : tie.Need-value-requires
+value-requires c κs =
+    let x = c .before .before in
+    let s = x .before .before .before .before .before .before .before .before .before .before .before in
+    omega (arith, x .tree-value .ensures, value-within Max (s .args .table .now) (s .args .flags .now) (s .pre .0 .0))
+
+returns-4 : tie.Need-returns-4
+returns-4 c =
+    let y = c .before .before in
+    let x = y .before in
+    ap Value (toZ-ofZ w16 (c .value .result) (record { sfits = c .value .ok }) ∙ c .value .ensures)
+    ∙ equal _ _ _ _ (x .tree-value .ensures) (y .tree-value2 .ensures) (c .before .if1 .left)
+    ∙ passed (x .before)
+
+pub judge-spec : {M : Type 1} → statement M
+judge-spec =
+    tie.close
+    (tie.spec
+    check-rules-requires
+    enum-known-max-tree
+    returns
+    enum-told
+    check-rules-requires-2
+    enum-known-min-tree
+    returns-2
+    enum-told-2
+    tree-value-requires
+    tree-value-requires-2
+    returns-3
+    value-requires
+    returns-4)

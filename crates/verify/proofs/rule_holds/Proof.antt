@@ -1,0 +1,106 @@
+-- `rule_holds` meets its contract: one lemma for each of its three returns.
+use Prim.Native.Nat.{ℕ, zero, suc}
+use native.Mathlib.Omega.{arith}
+use mathlib.Core.Path.{_≡_, sym, _∙_}
+use mathlib.Core.Logic.{⊎-elim}
+use mathlib.Core.Bool.{Bool, true, false}
+use mathlib.Core.List.{List}
+use lib.Dec.{eqb}
+use borrow.Author.Tests.{not-true, not-false}
+use borrow.Author.Needs.{needs}
+use Rattle.gametree.specs.declared.Side.{Side}
+use Rattle.frames.specs.Frame.{firstChild, childCount}
+use Rattle.frames.specs.Place.{sideOf}
+use Rattle.frames.proofs.Next.{children-within}
+use Rattle.verify.specs.Flags.{member, membersFrom, requiredOf, rootMember, ruleHolds}
+use Rattle.verify.proofs.Rules.{root-member}
+use Rattle.verify.proofs.rule_holds.Statement.{statement}
+use Rattle.verify.proofs.rule_holds.Tie as tie
+
+-- a root outside
+root-outside : (p : Side) (t flags : List ℕ) (i : ℕ) → i ≡ 0 → member p flags i ≡ false → false ≡ ruleHolds p t flags i
+unfolding ruleHolds
+root-outside p t flags zero e m = rw m
+root-outside p t flags (suc i) e m = absurd (omega arith)
+
+module _ (p : Side) (t flags : List ℕ) (i : ℕ) (r : rootMember p flags i ≡ true) where
+  -- a leaf
+  leaf-holds : (n : ℕ) → n ≡ childCount t i → n ≡ 0 → true ≡ ruleHolds p t flags i
+  unfolding ruleHolds membersFrom
+  leaf-holds n e z = rw (r, ← e, z)
+
+  -- an inner node
+  inner-holds : (m k f n : ℕ) (q : Side) (b : Bool) → f ≡ firstChild t i → n ≡ childCount t i → q ≡ sideOf t i
+      → b ≡ member p flags i → m ≡ membersFrom p flags f n → k ≡ requiredOf p q b n → eqb m k ≡ ruleHolds p t flags i
+  unfolding ruleHolds
+  inner-holds m k f n q b ef en eq eb em ek = rw (r, ← ef, ← en, ← eq, ← eb, em, ek)
+
+shared-slice-read-is-member : tie.Need-shared-slice-read-is-member
+shared-slice-read-is-member c = search needs
+
+is-member-requires : tie.Need-is-member-requires
+is-member-requires c κs = search needs
+
+returns : tie.Need-returns
+returns c =
+    let m = c .before .before in
+    let a = m .before .before .before .before .args in
+    root-outside (a .side) (a .table .now) (a .flags .now) (a .node) (c .before .if1 .taken)
+    (sym (m .is-member .ensures) ∙ not-true _ (c .if2 .taken))
+
+-- past the first test, the root is in the tree
+root-in : (c : tie.Joined1) →
+    let a = c .before .before .before .before .before .args in
+    rootMember (a .side) (a .flags .now) (a .node) ≡ true
+root-in c =
+    let m = c .before in
+    let a = m .before .before .before .before .args in
+    root-member (a .side) (a .flags .now) (a .node) (λ z.
+    ⊎-elim (λ w. sym (m .is-member .ensures) ∙ not-false _ (w .1 .left)) (λ w. absurd (w .left z)) (c .if1 .came))
+
+child-count-requires : tie.Need-child-count-requires
+child-count-requires c κs = search needs
+
+returns-2 : tie.Need-returns-2
+returns-2 c =
+    let n = c .before in
+    let a = n .before .before .before .before .before .before .args in
+    leaf-holds (a .side) (a .table .now) (a .flags .now) (a .node) (root-in (n .before)) _ (n .child-count .ensures .0)
+    (c .if3 .taken)
+
+first-child-requires : tie.Need-first-child-requires
+first-child-requires c κs = search needs
+
+count-members-requires : tie.Need-count-members-requires
+count-members-requires c κs =
+    let s = c .before .before .before .before .before .before .before .before in
+    omega (arith, children-within (s .args .table .now) (s .pre .0) (s .args .node) (s .pre .1 .0 .0) (omega arith))
+
+required-requires : tie.Need-required-requires
+required-requires c κs = search needs
+
+returns-3 : tie.Need-returns-3
+returns-3 c =
+    let k = c .before in
+    let f = k .before in
+    let n = f .before .before in
+    let m = n .before .before in
+    let s = m .before .before .before .before in
+    let a = s .args in
+    inner-holds (a .side) (a .table .now) (a .flags .now) (a .node) (root-in (n .before)) _ _ _ _ _ _
+    (f .first-child .ensures .0) (n .child-count .ensures .0) (s .pre .1 .1) (m .is-member .ensures)
+    (k .count-members .ensures) (c .required .ensures)
+
+pub rule-holds-spec : {M : Type 1} → statement M
+rule-holds-spec =
+    tie.close
+    (tie.spec
+    shared-slice-read-is-member
+    is-member-requires
+    returns
+    child-count-requires
+    returns-2
+    first-child-requires
+    count-members-requires
+    required-requires
+    returns-3)

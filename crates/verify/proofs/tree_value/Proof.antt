@@ -1,0 +1,82 @@
+-- `tree_value` meets its contract: before each node the best is that of the nodes behind it.
+use Prim.Native.Nat.{_-_, _≤_}
+use native.Mathlib.Omega.{arith}
+use mathlib.Core.Path.{_≡_, ap, _∙_}
+use borrow.Author.Needs.{needs}
+use Rattle.frames.proofs.Places.{depth-at-most}
+use Rattle.verify.specs.Value.{bestBefore}
+use Rattle.verify.proofs.Values.{best-more}
+use Rattle.verify.proofs.tree_value.Statement.{statement}
+use Rattle.verify.proofs.tree_value.Tie as tie
+
+abbrev Inv-loop : tie.InvT-loop
+Inv-loop table flags depths side n best₀ node₀ best node = (best ≡ bestBefore side table flags node) × (node ≤ n)
+
+abbrev μ-loop : tie.MeasureT-loop
+μ-loop table flags depths side n best₀ node₀ best node = n - node
+
+frame-count-requires : tie.Need-frame-count-requires Inv-loop μ-loop
+frame-count-requires c κs = search needs
+
+worst-requires : tie.Need-worst-requires Inv-loop μ-loop
+worst-requires c κs = search needs
+
+loop-holds : tie.Need-loop-holds Inv-loop μ-loop
+unfolding bestBefore
+loop-holds c = (c .worst .ensures, omega arith)
+
+mul-leaf-in : tie.Need-mul-leaf-in Inv-loop μ-loop
+mul-leaf-in c = search needs
+
+shared-slice-read-leaf-in : tie.Need-shared-slice-read-leaf-in Inv-loop μ-loop
+shared-slice-read-leaf-in c = search needs
+
+leaf-in-requires : tie.Need-leaf-in-requires Inv-loop μ-loop
+leaf-in-requires c κs =
+    let l = c .before .before in
+    let s = l .before .before .before .before .before .before in
+    let d = s .pre .1 .1 (l .loop .node) (omega arith) in
+    (omega arith, (d, omega (arith, depth-at-most (s .args .table .now) (l .loop .node), s .pre .0 .0 .few)))
+
+better-requires : tie.Need-better-requires Inv-loop μ-loop
+better-requires c κs = search needs
+
+add-node : tie.Need-add-node Inv-loop μ-loop
+add-node c = search needs
+
+loop-less : tie.Need-loop-less Inv-loop μ-loop
+loop-less c = search needs
+
+loop-again : tie.Need-loop-again Inv-loop μ-loop
+loop-again c =
+    let l = c .before .before .before .before in
+    let a = l .before .before .before .before .before .before .args in (
+      c .better .ensures
+          ∙ best-more (a .side) (a .table .now) (a .flags .now) (l .loop .node) _ _ (l .loop .inv .0)
+          (c .before .leaf-in .ensures),
+      omega arith,
+    )
+
+returns : tie.Need-returns Inv-loop μ-loop
+returns c =
+    let l = c .before in
+    let a = l .before .before .before .before .before .before .args in
+    l .loop .inv .0 ∙ ap (bestBefore (a .side) (a .table .now) (a .flags .now)) (omega arith)
+
+pub tree-value-spec : {M : Type 1} → statement M
+tree-value-spec =
+    tie.close
+    (tie.spec
+    Inv-loop
+    μ-loop
+    frame-count-requires
+    worst-requires
+    loop-holds
+    mul-leaf-in
+    shared-slice-read-leaf-in
+    leaf-in-requires
+    better-requires
+    add-node
+    loop-less
+    loop-again
+    returns)

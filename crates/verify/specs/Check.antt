@@ -1,0 +1,60 @@
+-- The check of a lent certificate: questions 1 to 14 of 01, in order.
+use Prim.Native.Nat.{ℕ}
+use mathlib.Core.Option.{Option, none, some}
+use mathlib.Core.List.{List, [], _∷_}
+use lib.Dec.{leb, eqb}
+use lib.ListN.{length, getD}
+use Rattle.gametree.specs.declared.Side.{Side}
+use Rattle.gametree.specs.declared.Side.the-variants.{Max, Min}
+use Rattle.frames.specs.declared.Rejection.{Rejection}
+use Rattle.frames.specs.Frame.{frames}
+use Rattle.frames.specs.Rejection.{ask, _andThen_, eachNode}
+use Rattle.frames.specs.Check.{rejection}
+use Rattle.certificate.specs.Search.{check10}
+use Rattle.certificate.specs.Value.{valueOf}
+use Rattle.verify.specs.declared.Verdict.{Verdict}
+use Rattle.verify.specs.declared.Verdict.the-variants.{Value, Rejected}
+use Rattle.verify.specs.Flags.{ruleHolds}
+use Rattle.verify.specs.Value.{treeValue}
+
+-- 11: is every flag 0 to 3? The place of a "no" is the lowest such node.
+abbrev pub check11 : List ℕ → List ℕ → Option Rejection
+check11 t flags = eachNode (λ i. ask (leb (getD flags i 0) 3) 11 i) 0 (frames t)
+
+-- do side p's flags form a solution tree, as question q? The place of a "no" is the lowest node whose rule breaks.
+abbrev pub checkTree : ℕ → Side → List ℕ → List ℕ → Option Rejection
+checkTree q p t flags = eachNode (λ i. ask (ruleHolds p t flags i) q i) 0 (frames t)
+
+-- 12: do the max flags form a max solution tree?
+abbrev pub check12 : List ℕ → List ℕ → Option Rejection
+check12 t flags = checkTree 12 Max t flags
+
+-- 13: the same for the min flags
+abbrev pub check13 : List ℕ → List ℕ → Option Rejection
+check13 t flags = checkTree 13 Min t flags
+
+-- 14: are both values equal?
+abbrev pub check14 : List ℕ → List ℕ → Option Rejection
+check14 t flags = ask (eqb (treeValue Max t flags) (treeValue Min t flags)) 14 0
+
+-- the first "no" to questions 12 to 14, which concern the two trees
+unfoldable pub treesRejection : List ℕ → List ℕ → Option Rejection
+treesRejection t flags = check12 t flags andThen check13 t flags andThen check14 t flags
+
+-- the first "no" to questions 10 to 14, which concern the flags
+unfoldable pub flagsRejection : List ℕ → List ℕ → Option Rejection
+flagsRejection t flags =
+    check10 (frames t) (length flags ∷ []) andThen check11 t flags andThen treesRejection t flags
+
+-- the first "no" to questions 1 to 14
+unfoldable pub certificateRejection : List ℕ → List ℕ → Option Rejection
+certificateRejection t flags = rejection t andThen flagsRejection t flags
+
+-- the value of the max tree, unless there is a rejection
+abbrev pub judged : List ℕ → List ℕ → Option Rejection → Verdict
+judged t flags none = Value (valueOf (treeValue Max t flags))
+judged t flags (some r) = Rejected r
+
+-- the answer of the check of a certificate
+unfoldable pub verdict : List ℕ → List ℕ → Verdict
+verdict t flags = judged t flags (certificateRejection t flags)

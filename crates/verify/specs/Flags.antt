@@ -1,0 +1,38 @@
+-- A lent certificate (01: the proof): one flag a node, and the rule that each node of the table sets for a side's tree.
+use Prim.Native.Nat.{ℕ, zero, suc, _+_}
+use mathlib.Core.Bool.{Bool, true, false, cond, _&&_}
+use mathlib.Core.List.{List}
+use lib.Dec.{eqb}
+use lib.ListN.{getD}
+use Rattle.gametree.specs.declared.Side.{Side}
+use Rattle.gametree.specs.Certificate.{inside, same}
+use Rattle.frames.specs.Frame.{firstChild, childCount}
+use Rattle.frames.specs.Place.{sideOf}
+
+-- is node i in side p's tree: flagged 1 or 3 for Max, 2 or 3 for Min
+abbrev pub member : Side → List ℕ → ℕ → Bool
+member p flags i = inside p (getD flags i 0)
+
+-- how many of the nodes i, i + 1, .., n of them, are in side p's tree
+unfoldable pub membersFrom : Side → List ℕ → ℕ → ℕ → ℕ
+membersFrom p flags i zero = 0
+membersFrom p flags i (suc n) = cond (member p flags i) 1 0 + membersFrom p flags (i + 1) n
+
+-- how many of its n children a node of side q has in side p's tree, where b says whether it is in that tree itself: a
+-- node outside none, a node in it all of them where p moves, and exactly one where the other side moves
+abbrev pub requiredOf : (p q : Side) → Bool → ℕ → ℕ
+requiredOf p q b zero = 0
+requiredOf p q false (suc n) = 0
+requiredOf p q true (suc n) = cond (same p q) (suc n) 1
+
+-- the root is in side p's tree; of another node nothing is asked here
+abbrev pub rootMember : Side → List ℕ → ℕ → Bool
+rootMember p flags zero = member p flags 0
+rootMember p flags (suc i) = true
+
+-- the rule of node i for side p's tree
+unfoldable pub ruleHolds : Side → List ℕ → List ℕ → ℕ → Bool
+ruleHolds p t flags i =
+    rootMember p flags i
+    && eqb (membersFrom p flags (firstChild t i) (childCount t i))
+    (requiredOf p (sideOf t i) (member p flags i) (childCount t i))

@@ -1,0 +1,264 @@
+// The check of a lent certificate (01: the proof check).
+use certificate::better;
+use certificate::fill_places;
+use certificate::side_at;
+use certificate::value;
+use frames::Checked;
+use frames::GREATEST;
+use frames::LEAST;
+use frames::MAX_NODES;
+use frames::Rejection;
+use frames::child_count;
+use frames::first_child;
+use frames::frame_count;
+use frames::leaf_score;
+use frames::rejected;
+use gametree::Side;
+ghost use mathlib.Core.Path.{_≡_};
+ghost use Prim.Native.Nat.{ℕ, _+_, _≤_, _<_};
+ghost use lib.ListN.{length, getD};
+ghost use Rattle.gametree.specs.Certificate.{inside, same as sameSide, worst as worstOf};
+ghost use Rattle.frames.specs.Frame.{maxNodes, frames};
+ghost use Rattle.frames.specs.Place.{depthOf, sideOf};
+ghost use Rattle.frames.specs.Formed.{WellFormed};
+ghost use Rattle.frames.specs.Rejection.{answer};
+ghost use Rattle.certificate.specs.Places.{sideNumber, Placed};
+ghost use Rattle.verify.specs.Flags.{membersFrom, requiredOf, ruleHolds};
+ghost use Rattle.verify.specs.Value.{leafIn, treeValue};
+ghost use Rattle.verify.specs.Check.{check11, checkTree, treesRejection, flagsRejection, judged, verdict};
+
+// A node's flag: in the max tree, in the min tree, in both; 0 is in neither.
+const IN_MAX: u8 = 1;
+
+const IN_MIN: u8 = 2;
+
+const IN_BOTH: u8 = 3;
+
+// The numbers of 01's questions about a certificate, by what a "no" means.
+pub const TOO_FEW_ENTRIES: u8 = 10;
+
+pub const WRONG_FLAG: u8 = 11;
+
+pub const NO_MAX_TREE: u8 = 12;
+
+pub const NO_MIN_TREE: u8 = 13;
+
+pub const UNEQUAL_VALUES: u8 = 14;
+
+// The answer: the value that the certificate proves, or a rejection.
+pub enum Verdict {
+    Value(i16),
+    Rejected(Rejection),
+}
+
+// Questions 1 to 14 in order: the value that the flags prove, or the first rejection.
+pub fn check(table: &[u8], flags: &[u8]) -> Verdict
+    ensures { λ r. ⌜ r ≡ verdict (now (table .entry)) (now (flags .entry)) ⌝ }
+{
+    let checked = frames::check(table);
+    match checked {
+        Checked::Rejected(r) => Verdict::Rejected(r),
+        Checked::Nodes(_) => check_certificate(table, flags),
+    }
+}
+
+// Questions 10 to 14, for a well-formed table.
+fn check_certificate(table: &[u8], flags: &[u8]) -> Verdict
+    requires { ⌜ WellFormed (now table) ⌝ }
+    ensures { λ r. ⌜ r ≡ judged (now (table .entry)) (now (flags .entry)) (flagsRejection (now (table .entry)) (now (flags .entry))) ⌝ }
+{
+    if flags.len() < frame_count(table) {
+        return Verdict::Rejected(Rejection {
+            number: TOO_FEW_ENTRIES,
+            place: 0,
+        });
+    }
+    let checked = check_flags(table, flags);
+    match checked {
+        Checked::Rejected(r) => Verdict::Rejected(r),
+        Checked::Nodes(_) => check_trees(table, flags),
+    }
+}
+
+// Questions 12 to 14, for a well-formed table and a flag for each node.
+fn check_trees(table: &[u8], flags: &[u8]) -> Verdict
+    requires { ⌜ (WellFormed (now table)) × (frames (now table) ≤ length (now flags)) ⌝ }
+    ensures { λ r. ⌜ r ≡ judged (now (table .entry)) (now (flags .entry)) (treesRejection (now (table .entry)) (now (flags .entry))) ⌝ }
+{
+    let mut depths = [0u32; MAX_NODES];
+    let mut sides = [0u8; MAX_NODES];
+    fill_places(table, &mut depths, &mut sides);
+    judge(table, flags, &depths, &sides)
+}
+
+// The same, with the depth and the side of each node.
+fn judge(table: &[u8], flags: &[u8], depths: &[u32], sides: &[u8]) -> Verdict
+    requires { ⌜ (WellFormed (now table)) × (frames (now table) ≤ length (now flags)) ⌝ }
+    requires { ⌜ Placed (now table) (now depths) (now sides) ⌝ }
+    ensures { λ r. ⌜ r ≡ judged (now (table .entry)) (now (flags .entry)) (treesRejection (now (table .entry)) (now (flags .entry))) ⌝ }
+{
+    let max_tree = check_rules(table, flags, sides, Side::Max, NO_MAX_TREE);
+    if let Checked::Rejected(r) = max_tree {
+        return Verdict::Rejected(r);
+    }
+    let min_tree = check_rules(table, flags, sides, Side::Min, NO_MIN_TREE);
+    if let Checked::Rejected(r) = min_tree {
+        return Verdict::Rejected(r);
+    }
+    let score = tree_value(table, flags, depths, Side::Max);
+    if score != tree_value(table, flags, depths, Side::Min) {
+        return Verdict::Rejected(Rejection {
+            number: UNEQUAL_VALUES,
+            place: 0,
+        });
+    }
+    Verdict::Value(value(score))
+}
+
+// Question 11, put to one node after the other: is every flag 0 to 3?
+fn check_flags(table: &[u8], flags: &[u8]) -> Checked
+    requires { ⌜ frames (now table) ≤ length (now flags) ⌝ }
+    ensures { λ r. ⌜ r ≡ answer (frames (now (table .entry))) (check11 (now (table .entry)) (now (flags .entry))) ⌝ }
+{
+    let n = frame_count(table);
+    for node in 0..n {
+        if IN_BOTH < flags[node] {
+            return rejected(WRONG_FLAG, node);
+        }
+    }
+    Checked::Nodes(n)
+}
+
+// Questions 12 and 13, put to one node after the other: do the side's flags form a solution tree?
+fn check_rules(table: &[u8], flags: &[u8], sides: &[u8], side: Side, number: u8) -> Checked
+    requires { ⌜ (WellFormed (now table)) × (frames (now table) ≤ length (now flags)) ⌝ }
+    requires { ⌜ frames (now table) ≤ length (now sides) ⌝ }
+    requires { ⌜ ((k : ℕ) → k < frames (now table) → getD (now sides) k 0 ≡ sideNumber (sideOf (now table) k)) ⌝ }
+    ensures { λ r. ⌜ r ≡ answer (frames (now (table .entry))) (checkTree number side (now (table .entry)) (now (flags .entry))) ⌝ }
+{
+    let n = frame_count(table);
+    for node in 0..n {
+        let mover = side_at(sides, node);
+        if !rule_holds(table, flags, node, mover, side) {
+            return rejected(number, node);
+        }
+    }
+    Checked::Nodes(n)
+}
+
+// The rule of a node where `mover` moves, for the side's tree: the root is in it, and as many children as required.
+fn rule_holds(table: &[u8], flags: &[u8], node: usize, mover: Side, side: Side) -> bool
+    requires { ⌜ WellFormed (now table) ⌝ }
+    requires { ⌜ (node < frames (now table)) × (frames (now table) ≤ length (now flags)) ⌝ }
+    requires { ⌜ mover ≡ sideOf (now table) node ⌝ }
+    ensures { λ r. ⌜ r ≡ ruleHolds side (now (table .entry)) (now (flags .entry)) node ⌝ }
+{
+    let member = is_member(flags[node], side);
+    if node == 0 {
+        if !member {
+            return false;
+        }
+    }
+    let count = child_count(table, node);
+    if count == 0 {
+        return true;
+    }
+    let first = first_child(table, node);
+    count_members(flags, first, count, side) == required(side, mover, member, count)
+}
+
+// How many of the `count` nodes from `first` on are in the side's tree.
+fn count_members(flags: &[u8], first: usize, count: usize, side: Side) -> usize
+    requires { ⌜ first + count ≤ length (now flags) ⌝ }
+    ensures { λ r. ⌜ r ≡ membersFrom side (now (flags .entry)) first count ⌝ }
+{
+    let end = first + count;
+    let mut members: usize = 0;
+    for node in first..end {
+        if is_member(flags[node], side) {
+            members += 1;
+        }
+    }
+    members
+}
+
+// How many of its children an inner node where `mover` moves has in the side's tree; `member` says whether it is in that tree itself.
+fn required(side: Side, mover: Side, member: bool, count: usize) -> usize
+    requires { ⌜ 0 < count ⌝ }
+    ensures { λ r. ⌜ r ≡ requiredOf side mover member count ⌝ }
+{
+    if !member {
+        return 0;
+    }
+    if same(side, mover) { count } else { 1 }
+}
+
+// The value of the side's tree: the best score of its leaves.
+fn tree_value(table: &[u8], flags: &[u8], depths: &[u32], side: Side) -> u32
+    requires { ⌜ (WellFormed (now table)) × (frames (now table) ≤ length (now flags)) ⌝ }
+    requires { ⌜ frames (now table) ≤ length (now depths) ⌝ }
+    requires { ⌜ ((k : ℕ) → k < frames (now table) → getD (now depths) k 0 ≡ depthOf (now table) k) ⌝ }
+    ensures { λ r. ⌜ r ≡ treeValue side (now (table .entry)) (now (flags .entry)) ⌝ }
+{
+    let n = frame_count(table);
+    let mut best = worst(side);
+    for node in 0..n {
+        best = better(side, best, leaf_in(table, flags, node, depths[node], side));
+    }
+    best
+}
+
+// The score of a node if it is a leaf of the side's tree, else the side's worst.
+fn leaf_in(table: &[u8], flags: &[u8], node: usize, depth: u32, side: Side) -> u32
+    requires { ⌜ (node < frames (now table)) × (node < length (now flags)) ⌝ }
+    requires { ⌜ (depth ≡ depthOf (now table) node) × (depth ≤ maxNodes) ⌝ }
+    ensures { λ r. ⌜ r ≡ leafIn side (now (table .entry)) (now (flags .entry)) node ⌝ }
+{
+    if child_count(table, node) != 0 {
+        return worst(side);
+    }
+    if is_member(flags[node], side) {
+        leaf_score(table, node, depth)
+    } else {
+        worst(side)
+    }
+}
+
+// Is a node with this flag in the side's tree?
+fn is_member(flag: u8, side: Side) -> bool
+    ensures { λ r. ⌜ r ≡ inside side flag ⌝ }
+{
+    if flag == IN_BOTH {
+        return true;
+    }
+    match side {
+        Side::Max => flag == IN_MAX,
+        Side::Min => flag == IN_MIN,
+    }
+}
+
+// Are two sides the same?
+fn same(a: Side, b: Side) -> bool
+    ensures { λ r. ⌜ r ≡ sameSide a b ⌝ }
+{
+    match a {
+        Side::Max => match b {
+            Side::Max => true,
+            Side::Min => false,
+        },
+        Side::Min => match b {
+            Side::Max => false,
+            Side::Min => true,
+        },
+    }
+}
+
+// The score that each other score is better than, for a side.
+fn worst(side: Side) -> u32
+    ensures { λ r. ⌜ r ≡ worstOf side ⌝ }
+{
+    match side {
+        Side::Max => LEAST,
+        Side::Min => GREATEST,
+    }
+}
