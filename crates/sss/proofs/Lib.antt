@@ -11,3 +11,5 @@ pub mod Driving
 pub mod Families
 pub mod Merits
 pub mod Choices
+pub mod Filling
+pub mod Starting
