@@ -1,6 +1,6 @@
 -- The count of evaluated leaves fits: no more leaves are evaluated than a tree has nodes, and the tree at each node of
 -- a table has no more nodes than the table.
-use Prim.Native.Nat.{ℕ, zero, suc, _+_, _-_, _≤_, _<_}
+use Prim.Native.Nat.{ℕ, zero, suc, _+_, _≤_, _<_}
 use native.Mathlib.Omega.{arith}
 use native.Mathlib.Decide.{decLe}
 use native.Mathlib.Nat.{add-le-add}

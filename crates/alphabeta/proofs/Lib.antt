@@ -2,8 +2,6 @@
 pub mod Pass
 pub mod Visits
 pub mod Counts
--- The whole search: its leaves, its questions, and its steps.
+-- The whole search: its leaves and its steps.
 pub mod Reached
 pub mod Whole
-
--- What holds of its results.

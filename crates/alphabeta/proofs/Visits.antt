@@ -35,13 +35,13 @@ module _ (t : List ℕ) (wf : WellFormed t) (i : ℕ) (inside : i < frames t) (�
   leaf-gives v x z p q = rw (tree-leaf t wf i inside z, q, p) (refl, refl)
 
   -- an inner node owes what all its children give
-  pub inner-owes : (p : Place) (first end : ℕ) → p ≡ placeOf t i → 0 < childCount t i → first ≡ firstChild t i
-      → end ≡ first + (childCount t i - 1)
-      → Owes (alphaBeta (valuation t) α β (treeAt t i)) (rest (valuation t) (treeAt t) (p .side) α β first end) e e 0
+  pub inner-owes : (p : Place) (first end n : ℕ) → p ≡ placeOf t i → 0 < childCount t i → first ≡ firstChild t i
+      → end ≡ first + (childCount t i - 1) → n ≡ 0
+      → Owes (alphaBeta (valuation t) α β (treeAt t i)) (rest (valuation t) (treeAt t) (p .side) α β first end) e e n
   unfolding rest
-  inner-owes p first end l c q r =
-      let n : childCount t i ≡ suc (end - first) = omega arith in
-      rw (tree-inner t wf i (end - first) inside n, l, q) (owes-all _ e)
+  inner-owes p first end n l c q r z =
+      let m : childCount t i ≡ suc (end - first) = omega arith in
+      rw (tree-inner t wf i (end - first) inside m, l, q, z) (owes-all _ e)
 
 module _ (t e : List ℕ) (i : ℕ) (p : Place) (r : Ready t e i p) where
   -- the depth in hand is the node's own

@@ -1,4 +1,5 @@
--- Loops that fill an array from the last entry to the first: before entry i is stored, the entries from i on are filled.
+-- Loops that fill an array from the last entry to the first: before entry i - 1 is stored, the entries from i on are
+-- filled.
 use Prim.Native.Nat.{ℕ, _+_, _-_, _≤_, _<_}
 use native.Mathlib.Omega.{arith}
 use mathlib.Core.Path.{_≡_, refl, sym, ap, _∙_}

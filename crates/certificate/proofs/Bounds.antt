@@ -4,7 +4,7 @@ use native.Mathlib.Omega.{arith}
 use mathlib.Core.Path.{_≡_, refl, sym, ap, ap₂, _∙_}
 use mathlib.Core.Bool.{Bool}
 use mathlib.Core.List.{List}
-use lib.ListN.{length, getD, set}
+use lib.ListN.{getD, set}
 use lib.Seq.{set-getD}
 use borrow.Author.Tests.{eq-eqb, ne-eqb}
 use Rattle.gametree.specs.declared.Side.{Side}
@@ -14,10 +14,12 @@ use Rattle.frames.specs.Frame.{frames, firstChild, childCount}
 use Rattle.frames.specs.Place.{sideOf}
 use Rattle.frames.specs.Tree.{kidsFrom, treeAt, valuation}
 use Rattle.frames.specs.Formed.{WellFormed, ChildOf}
+use Rattle.frames.proofs.Next.{child-later, child-within}
 use Rattle.frames.proofs.Trees.{tree-leaf, tree-inner}
-use Rattle.certificate.specs.Buffer.{written, marked}
+use Rattle.certificate.specs.Buffer.{marked}
 use Rattle.certificate.specs.Ranges.{bestIn}
 use Rattle.certificate.specs.Bounds.{boundOf}
+use Rattle.certificate.proofs.BottomUp.{Rising, rising-at}
 
 -- a marked leaf has its score, another one the score x
 pub known-marked : (ν : ℕ → ℕ) (e : List ℕ) (x k : ℕ) → getD e k 0 ≡ 1 → known ν (marked e) x k ≡ ν k
@@ -60,3 +62,10 @@ module _ (t : List ℕ) (wf : WellFormed t) (E : ℕ → Bool) (x i : ℕ) (h : 
       b ∙ best-same s f (boundOf t E x) first n (λ k l m. same k (record { from = omega arith; to = omega arith }))
       ∙ sym (minimax-best (known (valuation t) E x) s (treeAt t) first n)
       ∙ rw (tree-inner t wf i n h (omega arith), ← p, ← d)
+
+-- in a loop from the leaves up, the bounds of a node's children are filled before the node's own
+pub children-bounded : (t : List ℕ) → WellFormed t → (f : ℕ → ℕ) {b₀ b : List ℕ} {i : ℕ}
+    → Rising f (frames t) b₀ b i → 0 < i → (k : ℕ) → ChildOf t (i - 1) k → getD b k 0 ≡ f k
+children-bounded t wf f {b₀} {b} {i} r h k c =
+    let l : i - 1 < frames t = omega (arith, r .inside) in
+    rising-at f r k (omega (arith, child-later t wf l c)) (child-within t wf l c)

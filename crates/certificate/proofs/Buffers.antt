@@ -9,7 +9,7 @@ use mathlib.Core.List.{List, [], _∷_, _++_, append-assoc}
 use lib.Dec.{eqb}
 use lib.ListN.{length, getD, set, drop, length-append, length-drop, length-set, List·getD-append}
 use lib.Seq.{drop-cons, drop-set-lt, set-at, set-append-left, getD-append-add, getD-drop, getD-set-same}
-use borrow.Author.Tests.{eq-eqb, ne-eqb, eqb-true, eqb-false}
+use borrow.Author.Tests.{eq-eqb, ne-eqb}
 use Rattle.gametree.specs.Lists.{All, among}
 use Rattle.certificate.specs.Buffer.{tabulate, written, mark, markAll}
 
@@ -23,7 +23,8 @@ unfolding tabulate
 tabulate-at f zero k h = absurd (omega arith)
 tabulate-at f (suc n) k h =
     elim (decLt k n) [
-      | yes l ↦ List·getD-append (tabulate f n) (f n ∷ []) 0 k (omega (arith, length-tabulate f n)) ∙ tabulate-at f n k l
+      | yes l ↦ List·getD-append (tabulate f n) (f n ∷ []) 0 k (omega (arith, length-tabulate f n))
+          ∙ tabulate-at f n k l
       | no l ↦ (let e : k ≡ length (tabulate f n) + 0 = omega (arith, length-tabulate f n) in
           ap (λ j. getD (tabulate f n ++ (f n ∷ [])) j 0) e ∙ getD-append-add (tabulate f n) (f n ∷ []) 0 0
           ∙ ap f (omega arith))
@@ -68,10 +69,13 @@ written-past f n k b h l =
     ∙ getD-drop n b (k - n) 0 ∙ ap (λ j. getD b j 0) d
 
 -- the entry behind those to be written is stored before them
-pub written-behind : (f : ℕ → ℕ) (n : ℕ) (b : List ℕ) → n < length b → written f n (set b n (f n)) ≡ written f (n + 1) b
+pub written-behind : (f : ℕ → ℕ) (n : ℕ) (b : List ℕ) → n < length b
+    → written f n (set b n (f n)) ≡ written f (n + 1) b
 unfolding written tabulate
 written-behind f n b h =
-    rw (drop-cons (set b n (f n)) n 0 (omega (arith, length-set b n (f n))), getD-set-same b n (f n) 0 h, drop-set-lt (suc n) b n (f n) (omega arith), add-one n)
+    let l : n < length (set b n (f n)) = omega (arith, length-set b n (f n)) in
+    let d = drop-set-lt (suc n) b n (f n) (omega arith) in
+    rw (drop-cons (set b n (f n)) n 0 l, getD-set-same b n (f n) 0 h, d, add-one n)
     (sym (append-assoc (tabulate f n) (f n ∷ []) (drop (suc n) b)))
 
 -- the same entries, the same buffer
@@ -131,7 +135,8 @@ unfolding markAll
 markAll-written E n b [] a = refl
 markAll-written E n b (k ∷ w) a =
     ap (λ l. markAll l w)
-    (written-set (mark E) n k 1 b (a .0) ∙ written-same (put (mark E) k 1) (mark (λ j. eqb j k || E j)) n b (λ j h. one (eqb j k) (E j)))
+    (written-set (mark E) n k 1 b (a .0)
+    ∙ written-same (put (mark E) k 1) (mark (λ j. eqb j k || E j)) n b (λ j h. one (eqb j k) (E j)))
     ∙ markAll-written (λ j. eqb j k || E j) n b w (a .1)
     ∙ written-same _ (mark (λ j. among (k ∷ w) j || E j)) n b (λ j h. two (among w j) (eqb j k) (E j))
   where
@@ -154,4 +159,5 @@ pub marks-from-clear : (n : ℕ) (b w : List ℕ) → All (λ k. k < n) w
     → markAll (written (λ k. 0) n b) w ≡ written (mark (among w)) n b
 marks-from-clear n b w a =
     markAll-written (λ k. false) n b w a
-    ∙ written-same (mark (λ k. among w k || false)) (mark (among w)) n b (λ k h. ap (λ x. cond x 1 0) (or-false (among w k)))
+    ∙ written-same (mark (λ k. among w k || false)) (mark (among w)) n b
+    (λ k h. ap (λ x. cond x 1 0) (or-false (among w k)))

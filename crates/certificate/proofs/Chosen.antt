@@ -2,18 +2,18 @@
 -- where Min moves. The arrays give the one that the definitions name, and under the root it is the move.
 use Prim.Native.Nat.{ℕ, zero, suc, _+_, _-_, _≤_, _<_}
 use native.Mathlib.Omega.{arith}
-use mathlib.Core.Path.{_≡_, refl, sym, ap, ap₂, _∙_, subst}
-use mathlib.Core.Bool.{Bool, true, false, cond}
+use mathlib.Core.Path.{_≡_, refl, sym, ap, ap₂, _∙_}
+use mathlib.Core.Bool.{Bool, cond}
 use mathlib.Core.List.{List}
 use lib.Dec.{eqb}
 use lib.ListN.{getD}
 use Rattle.gametree.specs.declared.Side.{Side}
 use Rattle.gametree.specs.declared.Side.the-variants.{Max, Min}
-use Rattle.gametree.specs.Tree.{Tree, leaf, inner, least, greatest, other, minimax, number}
+use Rattle.gametree.specs.Tree.{Tree, inner, least, greatest, other, minimax, number}
 use Rattle.gametree.specs.Bounds.{low, high}
 use Rattle.gametree.specs.Certificate.{fill}
 use Rattle.gametree.specs.Move.{firstWith, boundMove}
-use Rattle.frames.specs.Frame.{frames, firstChild, childCount, next}
+use Rattle.frames.specs.Frame.{frames, childCount, next}
 use Rattle.frames.specs.Place.{sideOf}
 use Rattle.frames.specs.Tree.{kidsFrom, treeAt, tree, valuation}
 use Rattle.frames.specs.Formed.{WellFormed}

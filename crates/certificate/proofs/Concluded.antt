@@ -1,10 +1,10 @@
 -- Bounds, flags and the move depend on the marks of the table's nodes only.
 use Prim.Native.Nat.{ℕ, _+_, _≤_, _<_}
+use native.Mathlib.Nat.{le-of-eq}
 use native.Mathlib.Omega.{arith}
 use mathlib.Core.Path.{_≡_, sym, ap, ap₂, _∙_}
 use mathlib.Core.Bool.{Bool, cond}
 use mathlib.Core.List.{List}
-use lib.Dec.{eqb}
 use Rattle.gametree.specs.declared.Side.{Side}
 use Rattle.gametree.specs.declared.Side.the-variants.{Max, Min}
 use Rattle.gametree.specs.Tree.{other}
@@ -27,19 +27,18 @@ use Rattle.certificate.proofs.Chosen.{first-same, chosenOf, chosen-root
 use Rattle.certificate.proofs.Solutions.{childIn, solution, solution-root, solution-child}
 use Rattle.certificate.proofs.Marks.{marked-written}
 
+bound-under : (t : List ℕ) → WellFormed t → (E F : ℕ → Bool) → ((k : ℕ) → k < frames t → E k ≡ F k) → (x i : ℕ)
+    → i < frames t → boundOf t E x i ≤ boundOf t F x i
+bound-under t wf E F same x i h =
+    let μ = known (valuation t) E x in
+    let ν = known (valuation t) F x in
+    minimax-mono μ ν (treeAt t i)
+    (every-leaf t wf (λ k. μ k ≤ ν k) (λ k l _. le-of-eq (ap (λ b. cond b (valuation t k) x) (same k l))) i h)
+
 module _ (t : List ℕ) (wf : WellFormed t) (E F : ℕ → Bool) (same : (k : ℕ) → k < frames t → E k ≡ F k) where
   -- the same bounds
   pub bound-same : (x i : ℕ) → i < frames t → boundOf t E x i ≡ boundOf t F x i
-  bound-same x i h =
-      let at : (k : ℕ) → k < frames t → known (valuation t) E x k ≡ known (valuation t) F x k =
-      λ k l. ap (λ b. cond b (valuation t k) x) (same k l) in
-      omega (
-        arith,
-        minimax-mono (known (valuation t) E x) (known (valuation t) F x) (treeAt t i)
-            (every-leaf t wf (λ k. known (valuation t) E x k ≤ known (valuation t) F x k) (λ k l _. omega (arith, at k l)) i h),
-        minimax-mono (known (valuation t) F x) (known (valuation t) E x) (treeAt t i)
-            (every-leaf t wf (λ k. known (valuation t) F x k ≤ known (valuation t) E x k) (λ k l _. omega (arith, at k l)) i h),
-      )
+  bound-same x i h = omega (arith, bound-under t wf E F same x i h, bound-under t wf F E (λ k l. sym (same k l)) x i h)
 
   -- the same chosen children
   pub chosen-same : (s : Side) (i : ℕ) → i < frames t → chosenOf t E s i ≡ chosenOf t F s i

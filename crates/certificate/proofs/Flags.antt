@@ -1,18 +1,18 @@
 -- The flags of a certificate, from the root down.
-use Prim.Native.Nat.{ℕ, _+_, _-_, _≤_, _<_}
+use Prim.Native.Nat.{ℕ, _+_, _-_, _<_}
 use native.Mathlib.Omega.{arith}
 use mathlib.Core.Path.{_≡_, refl, sym, ap, ap₂, _∙_}
 use mathlib.Core.Bool.{Bool, true, false, cond, _&&_}
 use mathlib.Core.List.{List}
 use lib.Dec.{eqb}
-use lib.ListN.{length, getD}
+use lib.ListN.{getD}
 use Rattle.gametree.specs.declared.Side.{Side}
 use Rattle.gametree.specs.declared.Side.the-variants.{Max, Min}
 use Rattle.gametree.specs.Certificate.{same, flag}
 use Rattle.frames.specs.Frame.{frames, childCount, next}
 use Rattle.frames.specs.Place.{sideOf}
 use Rattle.frames.specs.Tree.{tree, valuation}
-use Rattle.frames.specs.Formed.{WellFormed, ChildOf}
+use Rattle.frames.specs.Formed.{WellFormed}
 use Rattle.certificate.specs.Buffer.{stored}
 use Rattle.certificate.specs.Places.{numberSide}
 use Rattle.certificate.specs.Flags.{ownPart, childFlag, bySide, chosenChild, FlagsFrom}
@@ -60,8 +60,8 @@ flag-rule Min false false true = refl
 flag-rule Min false false false = refl
 
 -- the flags of the solution trees follow from arrays that hold the sides and the bounds
-pub flags-follow : (t : List ℕ) → WellFormed t → (E : ℕ → Bool) {sides lows highs : List ℕ} → Bounded t E sides lows highs
-    → FlagsFrom t sides lows highs (flag (valuation t) E (tree t))
+pub flags-follow : (t : List ℕ) → WellFormed t → (E : ℕ → Bool) {sides lows highs : List ℕ}
+    → Bounded t E sides lows highs → FlagsFrom t sides lows highs (flag (valuation t) E (tree t))
 flags-follow t wf E {sides} {lows} {highs} b =
     record {
       atRoot = ap₂ (λ x y. cond x 1 0 + cond y 2 0) (solution-root t wf E Max) (solution-root t wf E Min);

@@ -13,3 +13,4 @@ pub mod Values
 pub mod Marks
 pub mod Concluded
 pub mod Questions
+pub mod Cases

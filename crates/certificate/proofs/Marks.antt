@@ -1,13 +1,14 @@
 -- What follows from the marks that a search leaves: the set of its leaves, and how many they are.
 use Prim.Native.Nat.{ℕ, zero, suc, _+_, _<_}
 use native.Mathlib.Omega.{arith}
-use mathlib.Core.Path.{_≡_, refl, ap, ap₂, _∙_, sym}
+use mathlib.Core.Path.{_≡_, refl, ap, _∙_, sym}
 use mathlib.Core.Bool.{Bool, true, false, cond}
 use mathlib.Core.List.{List}
 use lib.Dec.{eqb}
-use lib.ListN.{length, getD}
+use lib.ListN.{length}
 use Rattle.gametree.specs.Lists.{All, among}
-use Rattle.gametree.specs.Tree.{Tree, leaf, inner, Kids, last, _then_, leaves, leavesKids, leafCount, EveryLeaf, EveryLeafKids}
+use Rattle.gametree.specs.Tree.{Tree, leaf, inner, Kids, last, _then_, leaves, leavesKids, leafCount, EveryLeaf}
+use Rattle.gametree.specs.Tree.{EveryLeafKids}
 use Rattle.gametree.specs.Searches.{Searched}
 use Rattle.gametree.proofs.Choice.{is-false}
 use Rattle.gametree.proofs.Lists.{all-map, all-append, all-at}
@@ -37,7 +38,8 @@ mutual
 
   every-allKids : (P : ℕ → Type 0) (ks : Kids) → EveryLeafKids P ks → All P (leavesKids ks)
   every-allKids P (last t) h = every-all P t h
-  every-allKids P (t then ts) h = all-append P (leaves t) (leavesKids ts) (every-all P t (h .0)) (every-allKids P ts (h .1))
+  every-allKids P (t then ts) h =
+      all-append P (leaves t) (leavesKids ts) (every-all P t (h .0)) (every-allKids P ts (h .1))
 
 module _ (t : List ℕ) (wf : WellFormed t) where
   -- what holds of each node without children holds of each leaf that a search evaluates
@@ -71,6 +73,7 @@ module _ (t : List ℕ) (wf : WellFormed t) where
   pub ones-searched : {w : List ℕ} → Searched (valuation t) (tree t) w → (b : List ℕ)
       → ones (written (mark (among w)) (frames t) b) (frames t) ≡ length w
   ones-searched {w} s b =
-      ones-leaves (among w) (λ k h p. all-at (λ k. childCount t k ≡ 0) w (searched-hold (λ k. childCount t k ≡ 0) (λ i _ e. e) s) k p)
+      let l = searched-hold (λ k. childCount t k ≡ 0) (λ i _ e. e) s in
+      ones-leaves (among w) (λ k _ p. all-at (λ k. childCount t k ≡ 0) w l k p)
       (written (mark (among w)) (frames t) b) (marked-written (among w) (frames t) b)
       ∙ search-count (valuation t) (tree t) (tree-proper t wf) s

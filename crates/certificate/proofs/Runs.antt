@@ -42,7 +42,8 @@ stored-written f i (suc n) b h =
     let e : i + suc n ≡ i + 1 + n = omega arith in
     rw (written-next f i b (omega arith), e) (stored-written f (i + 1) n b (omega arith))
 
--- a loop that stores f at the numbers from `from` up to `to`, before number i: what is left makes of b what all make of b₀
+-- a loop that stores f at the numbers from `from` up to `to`, before number i: what is left makes of b what all of it
+-- makes of b₀
 pub record Run (f : ℕ → ℕ) (from to : ℕ) (b₀ b : List ℕ) (i : ℕ) : Type 0 where
   pub inside : i ≤ to
   pub long : length b ≡ length b₀

@@ -10,7 +10,7 @@ use lib.Dec.{eqb}
 use borrow.Author.Tests.{eq-eqb, ne-eqb}
 use Rattle.gametree.specs.declared.Side.{Side}
 use Rattle.gametree.specs.declared.Side.the-variants.{Max, Min}
-use Rattle.gametree.specs.Tree.{Tree, other, minimax, minimaxKids, number}
+use Rattle.gametree.specs.Tree.{Tree, other, minimax, minimaxKids}
 use Rattle.gametree.specs.Bounds.{known}
 use Rattle.gametree.specs.Certificate.{same, ReadOff, ReadEach, ReadFirst, fill, solutionOf}
 use Rattle.gametree.proofs.Choice.{cond-cases}
@@ -69,11 +69,13 @@ module _ (p : Side) (μ : ℕ → ℕ) (g : ℕ → Bool) (h : ℕ → Tree) whe
   unfolding kidsFrom firstEqual
   first-child b v i zero k z a c r = first-alone b v i k z a (omega arith) 0 (λ e. omega arith) r
   first-child b v i (suc n) k z a c r =
-      let w = firstEqual (λ j. minimax μ (h j)) v (i + 1) (suc n) in
+      let f : ℕ → ℕ = λ j. minimax μ (h j) in
+      let w = firstEqual f v (i + 1) (suc n) in
+      let x = eqb (f i) v in
       elim (decLe k i) [
-        | yes l ↦ first-alone b v i k z a l w (first-past (λ j. minimax μ (h j)) v i (i + 1) (suc n) z (omega arith)) (r .0)
-        | no l ↦ subst (λ x. ReadOff p μ g x (h k)) (first-there b (eqb (minimax μ (h i)) v) k i w (λ e. omega arith))
-            (first-child (b && not (eqb (minimax μ (h i)) v)) v (i + 1) n k (omega arith) (omega arith) (omega arith) (r .1))
+        | yes l ↦ first-alone b v i k z a l w (first-past f v i (i + 1) (suc n) z (omega arith)) (r .0)
+        | no l ↦ subst (λ y. ReadOff p μ g y (h k)) (first-there b x k i w (λ e. omega arith))
+            (first-child (b && not x) v (i + 1) n k (omega arith) (omega arith) (omega arith) (r .1))
       ]
 
 -- is child k in side p's tree, where b says whether its parent is, q moves there and `chosen` is its chosen child
@@ -89,7 +91,8 @@ read-child Min Max μ g h b v i n k z a c r = first-child Min μ g h b v i n k z
 read-child Min Min μ g h b v i n k z a c r = each-child Min μ g h b i n k a c r
 
 -- in the side's own tree no child is chosen, and the other side's bounds choose
-choose-other : (p q : Side) (b : Bool) (c : ℕ → ℕ) (k : ℕ) → childIn p q b (c (fill p)) k ≡ childIn p q b (c (fill (other q))) k
+choose-other : (p q : Side) (b : Bool) (c : ℕ → ℕ) (k : ℕ)
+    → childIn p q b (c (fill p)) k ≡ childIn p q b (c (fill (other q))) k
 choose-other Max Max b c k = refl
 choose-other Max Min b c k = refl
 choose-other Min Max b c k = refl
@@ -110,9 +113,12 @@ module _ (t : List ℕ) (wf : WellFormed t) (E : ℕ → Bool) (p : Side) where
   read-at : (i : ℕ) (b : Bool) → ReadAt i b → solution i ≡ b
   read-at i b r = subst (λ j. solution j ≡ b) (tree-number t i) (read-root p bounds solution b (treeAt t i) r)
 
+  read-tree : ReadAt 0 true
+  read-tree = fits p bounds solution true (tree t) (tree-distinct t wf 0 (wf .some)) (λ k i. refl)
+
   -- the root is in it
   pub solution-root : solution 0 ≡ true
-  solution-root = read-at 0 true (fits p bounds solution true (tree t) (tree-distinct t wf 0 (wf .some)) (λ k i. refl))
+  solution-root = read-at 0 true read-tree
 
   read-below : (i k : ℕ) → i < frames t → ChildOf t i k → ReadAt i (solution i)
       → ReadAt k (childIn p (sideOf t i) (solution i) (chosenOf t E (sideOf t i) i) k)
@@ -121,20 +127,19 @@ module _ (t : List ℕ) (wf : WellFormed t) (E : ℕ → Bool) (p : Side) where
       let q = sideOf t i in
       let c : ℕ → ℕ = λ x. firstEqual (boundOf t E x) (boundOf t E x i) (next t i) (childCount t i) in
       zero-or-suc (childCount t i) (λ e. absurd (omega (arith, d .from, d .to))) (λ n e.
+      let s = tree-inner t wf i n h e in
+      let f = firstEqual (boundOf t E (fill p)) in
       let v = minimaxKids bounds q (kidsFrom (treeAt t) (firstChild t i) n) in
-      let f = wf .first i h (omega arith) in
-      let x : firstEqual (boundOf t E (fill p)) v (firstChild t i) (suc n) ≡ c (fill p) =
-      ap₂ (firstEqual (boundOf t E (fill p)) v) f (sym e)
-      ∙ ap (λ y. firstEqual (boundOf t E (fill p)) (minimax bounds y) (next t i) (childCount t i)) (sym (tree-inner t wf i n h e)) in
+      let x : f v (firstChild t i) (suc n) ≡ c (fill p) =
+      ap₂ (f v) (wf .first i h (omega arith)) (sym e)
+      ∙ ap (λ y. f (minimax bounds y) (next t i) (childCount t i)) (sym s) in
       subst (ReadAt k) (ap (λ y. childIn p q (solution i) y k) x ∙ choose-other p q (solution i) c k)
       (read-child p q bounds solution (treeAt t) (solution i) v (firstChild t i) n k
-      (omega (arith, wf .later i h (omega arith))) (d .from) (omega (arith, d .to))
-      ((rw (tree-inner t wf i n h e) at r) .1)))
+      (omega (arith, wf .later i h (omega arith))) (d .from) (omega (arith, d .to)) ((rw s at r) .1)))
 
   read-all : (i : ℕ) → i < frames t → ReadAt i (solution i)
   read-all =
-      top-down t wf (λ i. ReadAt i (solution i))
-      (subst (ReadAt 0) (sym solution-root) (fits p bounds solution true (tree t) (tree-distinct t wf 0 (wf .some)) (λ k i. refl)))
+      top-down t wf (λ i. ReadAt i (solution i)) (subst (ReadAt 0) (sym solution-root) read-tree)
       (λ i k h d r. let x = read-below i k h d r in subst (ReadAt k) (sym (read-at k _ x)) x)
 
   -- a child is in it if its parent is, and if the side itself moves there or the child is the chosen one

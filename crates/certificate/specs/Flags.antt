@@ -17,8 +17,8 @@ abbrev pub ownPart : Side → ℕ → ℕ
 ownPart Max f = f % 2
 ownPart Min f = f - f % 2
 
--- the flag of child k of a node with flag f where the side s moves: each child is in the side's own tree if the node is,
--- the chosen child also in the other one
+-- the flag of child k of a node with flag f where the side s moves: each child is in the side's own tree if the node
+-- is, the chosen child in the other one too
 abbrev pub childFlag : Side → (f chosen k : ℕ) → ℕ
 childFlag s f chosen k = cond (eqb k chosen) f (ownPart s f)
 

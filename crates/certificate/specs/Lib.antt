@@ -6,3 +6,4 @@ pub mod Bounds
 pub mod Flags
 pub mod Value
 pub mod Search
+pub mod Cases

@@ -39,8 +39,8 @@ pub record Outcome (A : Type 0) : Type 0 where
   pub evaluated : List ℕ
   pub certificate : List ℕ
 
--- the outcome of a search of the table t that evaluates the leaves w: their marks and the flags read off their bounds are
--- written; where there is a rejection, the buffers e and c are as they were found
+-- the outcome of a search of the table t that evaluates the leaves w: their marks and the flags read off their bounds
+-- are written; where there is a rejection, the buffers e and c are as they were found
 abbrev pub outcome : {A : Type 0} → (Rejection → A) → A → (w t e c : List ℕ) → Option Rejection → Outcome A
 outcome rejected found w t e c none =
     record { answer = found; evaluated = marksOf w t e; certificate = flagsOf w t c }

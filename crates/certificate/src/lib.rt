@@ -1,5 +1,7 @@
 // Evaluating leaves, and what follows from the evaluated ones: bounds, the certificate and the root move.
 use frames::Checked;
+use frames::GREATEST;
+use frames::LEAST;
 use frames::MAX_NODES;
 use frames::check;
 use frames::child_count;
@@ -22,7 +24,7 @@ ghost use Rattle.gametree.specs.Certificate.{flag};
 ghost use Rattle.gametree.specs.Move.{boundMove};
 ghost use Rattle.frames.specs.Frame.{maxNodes, frames};
 ghost use Rattle.frames.specs.Place.{parentOf, childPlace, depthOf, sideOf};
-ghost use Rattle.frames.specs.Tree.{treeAt, tree, valuation};
+ghost use Rattle.frames.specs.Tree.{tree, valuation};
 ghost use Rattle.frames.specs.Rejection.{answer};
 ghost use Rattle.frames.specs.Formed.{WellFormed, ChildOf};
 ghost use Rattle.certificate.specs.Buffer.{written, stored, marked};
@@ -31,12 +33,10 @@ ghost use Rattle.certificate.specs.Ranges.{bestIn, firstEqual};
 ghost use Rattle.certificate.specs.Bounds.{boundOf};
 ghost use Rattle.certificate.specs.Search.{searchRejection};
 ghost use Rattle.certificate.specs.Value.{valueOf};
-ghost use Rattle.certificate.specs.Flags.{ownPart, childFlag, bySide, chosenChild, FlagsFrom};
+ghost use Rattle.certificate.specs.Flags.{ownPart, bySide, chosenChild, FlagsFrom};
 
-// The scores that bound every leaf's: 01's -32,001 and 32,001.
-pub const LEAST: u32 = 0;
-
-pub const GREATEST: u32 = 64002;
+// The score of the value 0.
+const ZERO_SCORE: i32 = 32001;
 
 // The number of 01's question about the buffers.
 pub const SHORT_BUFFER: u8 = 10;
@@ -61,12 +61,37 @@ pub fn ask(table: &[u8], evaluated: usize, certificate: usize) -> Checked
     checked
 }
 
+// The one routine from which a search gets a leaf's score: the leaf's mark is then 1, and every other mark is as it was.
+pub fn evaluate(table: &[u8], evaluated: &mut [u8], node: usize, depth: u32) -> u32
+    requires { ⌜ (node < frames (now table)) × (node < length (now evaluated)) ⌝ }
+    requires { ⌜ (depth ≡ depthOf (now table) node) × (depth ≤ maxNodes) ⌝ }
+    ensures { λ r. ⌜ (r ≡ valuation (now (table .entry)) node) × (r < 65536) ⌝ }
+    ensures { λ r. ⌜ now (evaluated .exit) ≡ set (now (evaluated .entry)) node 1 ⌝ }
+{
+    evaluated[node] = 1;
+    leaf_score(table, node, depth)
+}
+
+// The first n marks become 0.
+pub fn clear(evaluated: &mut [u8], n: usize)
+    requires { ⌜ n ≤ length (now evaluated) ⌝ }
+    ensures { λ _. ⌜ now (evaluated .exit) ≡ written (λ k. 0) n (now (evaluated .entry)) ⌝ }
+{
+    let mut i = 0;
+    while i < n {
+        evaluated[i] = 0;
+        i += 1;
+    }
+}
+
 // The certificate (01: the proof) read off the bounds of the marked leaves, into the buffer's first entries; the result is the root move.
 pub fn conclude(table: &[u8], evaluated: &mut [u8], certificate: &mut [u8]) -> usize
     requires { ⌜ WellFormed (now table) ⌝ }
     requires { ⌜ (frames (now table) ≤ length (now evaluated)) × (frames (now table) ≤ length (now certificate)) ⌝ }
     ensures { λ r. ⌜ r ≡ boundMove (valuation (now (table .entry))) (marked (now (evaluated .entry))) (tree (now (table .entry))) ⌝ }
-    ensures { λ _. ⌜ now (certificate .exit) ≡ written (flag (valuation (now (table .entry))) (marked (now (evaluated .entry))) (tree (now (table .entry)))) (frames (now (table .entry))) (now (certificate .entry)) ⌝ }
+    ensures { λ _. ⌜ now (certificate .exit)
+        ≡ written (flag (valuation (now (table .entry))) (marked (now (evaluated .entry))) (tree (now (table .entry)))) (frames (now (table .entry)))
+        (now (certificate .entry)) ⌝ }
     ensures { λ _. ⌜ now (evaluated .exit) ≡ now (evaluated .entry) ⌝ }
 {
     let mut depths = [0u32; MAX_NODES];
@@ -81,35 +106,12 @@ pub fn conclude(table: &[u8], evaluated: &mut [u8], certificate: &mut [u8]) -> u
     chosen_child(&sides, &lows, &highs, 0, 1, end)
 }
 
-// The one routine from which a search gets a leaf's score: the leaf's mark is then 1, and every other mark is as it was.
-pub fn evaluate(table: &[u8], evaluated: &mut [u8], node: usize, depth: u32) -> u32
-    requires { ⌜ (node < frames (now table)) × (node < length (now evaluated)) ⌝ }
-    requires { ⌜ (depth ≡ depthOf (now table) node) × (depth ≤ maxNodes) ⌝ }
-    ensures { λ r. ⌜ (r ≡ valuation (now (table .entry)) node) × (r < 65536) ⌝ }
-    ensures { λ r. ⌜ now (evaluated .exit) ≡ set (now (evaluated .entry)) node 1 ⌝ }
-{
-    evaluated[node] = 1;
-    leaf_score(table, node, depth)
-}
-
 // The value of a score (01: from -32,001 to 32,001).
 pub fn value(score: u32) -> i16
     requires { ⌜ score ≤ 64002 ⌝ }
     ensures { λ r. ⌜ r ≡ valueOf score ⌝ }
 {
-    (score as i32 - 32001) as i16
-}
-
-// The first n marks become 0.
-pub fn clear(evaluated: &mut [u8], n: usize)
-    requires { ⌜ n ≤ length (now evaluated) ⌝ }
-    ensures { λ _. ⌜ now (evaluated .exit) ≡ written (λ k. 0) n (now (evaluated .entry)) ⌝ }
-{
-    let mut i = 0;
-    while i < n {
-        evaluated[i] = 0;
-        i += 1;
-    }
+    (score as i32 - ZERO_SCORE) as i16
 }
 
 // The parent of every node, from the root down; the root's entry is 0.
@@ -225,7 +227,8 @@ pub fn fill_bounds(
     requires { ⌜ WellFormed (now table) ⌝ }
     requires { ⌜ Placed (now table) (now depths) (now sides) ⌝ }
     requires { ⌜ (frames (now table) ≤ length (now evaluated)) × (frames (now table) ≤ length (now bounds)) ⌝ }
-    ensures { λ _. ⌜ now (bounds .exit) ≡ written (boundOf (now (table .entry)) (marked (now (evaluated .entry))) unknown) (frames (now (table .entry))) (now (bounds .entry)) ⌝ }
+    ensures { λ _. ⌜ now (bounds .exit)
+        ≡ written (boundOf (now (table .entry)) (marked (now (evaluated .entry))) unknown) (frames (now (table .entry))) (now (bounds .entry)) ⌝ }
     ensures { λ _. ⌜ now (evaluated .exit) ≡ now (evaluated .entry) ⌝ }
 {
     let mut node = frame_count(table);
@@ -310,7 +313,8 @@ fn write_certificate(
     requires { ⌜ WellFormed (now table) ⌝ }
     requires { ⌜ (frames (now table) ≤ length (now sides)) × (frames (now table) ≤ length (now lows)) ⌝ }
     requires { ⌜ (frames (now table) ≤ length (now highs)) × (frames (now table) ≤ length (now certificate)) ⌝ }
-    ensures { λ _. ⌜ ((f : ℕ → ℕ) → FlagsFrom (now (table .entry)) (now (sides .entry)) (now (lows .entry)) (now (highs .entry)) f → now (certificate .exit) ≡ written f (frames (now (table .entry))) (now (certificate .entry))) ⌝ }
+    ensures { λ _. ⌜ ((f : ℕ → ℕ) → FlagsFrom (now (table .entry)) (now (sides .entry)) (now (lows .entry)) (now (highs .entry)) f
+        → now (certificate .exit) ≡ written f (frames (now (table .entry))) (now (certificate .entry))) ⌝ }
 {
     certificate[0] = BOTH;
     let mut next: usize = 1;

@@ -17,7 +17,7 @@ use Rattle.gametree.specs.Searches.{Searched, SameResults}
 use Rattle.gametree.proofs.Lists.{all-among, all-at, all-zip}
 use Rattle.gametree.proofs.Bounds.{every-map}
 use Rattle.gametree.proofs.ReadOff.{fits}
-use Rattle.gametree.proofs.Certificates.{flag-inside, read-max, read-min}
+use Rattle.gametree.proofs.Certificates.{flag-inside, read-bounds}
 use Rattle.gametree.proofs.Theorems.{search-decides, local-results}
 use Rattle.frames.specs.Frame.{frames}
 use Rattle.frames.specs.Tree.{tree, valuation}
@@ -55,8 +55,8 @@ module _ (t : List ℕ) (wf : WellFormed t) {w : List ℕ} (s : Searched (valuat
   pub flags-certify : (e c : List ℕ) → CertifiedBy t (marksOf w t e) (flagsOf w t c)
   flags-certify e c =
       let d = search-decides (valuation t) (tree t) (tree-proper t wf) s in
-      let x = read-max (valuation t) (among w) (tree t) (tree-proper t wf) d _ (reads Max c) in
-      let y = read-min (valuation t) (among w) (tree t) (tree-proper t wf) d _ (reads Min c) in
+      let x = read-bounds Max (valuation t) (among w) (tree t) (tree-proper t wf) d _ (reads Max c) in
+      let y = read-bounds Min (valuation t) (among w) (tree t) (tree-proper t wf) d _ (reads Min c) in
       record {
         certifies = record { maxTree = x .0; minTree = y .0; maxValue = x .1; minValue = y .1 };
         maxLeaves = every-map _ _ (λ k f h. marked-leaf e k (f h)) (tree t) (x .2);

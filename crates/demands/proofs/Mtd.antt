@@ -15,8 +15,8 @@ use Rattle.gametree.specs.Move.{rootMove}
 use Rattle.gametree.specs.Certificate.{Smallest, pairLeaves}
 use Rattle.gametree.specs.Searches.{byMtd}
 use Rattle.gametree.proofs.Lists.{all-at}
-use Rattle.gametree.proofs.Theorems.{alphaBeta-window, mtd-passes, search-once, domination, domination-count, search-smallest}
-use Rattle.gametree.proofs.Theorems.{local-mtd}
+use Rattle.gametree.proofs.Theorems.{alphaBeta-window, mtd-passes, search-once, domination, domination-count}
+use Rattle.gametree.proofs.Theorems.{search-smallest, local-mtd}
 use Rattle.frames.specs.declared.Rejection.{Rejection}
 use Rattle.frames.specs.Frame.{frames}
 use Rattle.frames.specs.Tree.{tree, valuation}

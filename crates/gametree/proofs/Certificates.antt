@@ -1,26 +1,37 @@
 -- Where the bounds of the evaluated leaves meet, the flags read off them are a certificate made of evaluated leaves.
-use Prim.Native.Nat.{ℕ, _+_, _<_}
+use Prim.Native.Nat.{ℕ, _+_, _≤_}
 use native.Mathlib.Nat.{le-refl}
 use native.Mathlib.Omega.{arith}
 use mathlib.Core.Path.{_≡_, refl, sym, _∙_, ap₂}
 use mathlib.Core.Bool.{Bool, true, false, cond}
-use Rattle.gametree.specs.Tree.{Side, Max, Min, Tree, leaf, inner, Kids, last, _then_, least, greatest, better}
-use Rattle.gametree.specs.Tree.{minimax, EveryLeafKids, Proper}
+use Rattle.gametree.specs.Tree.{Side, Max, Min, Tree, leaf, inner, Kids, last, _then_, greatest, better, minimax}
+use Rattle.gametree.specs.Tree.{EveryLeafKids, Score, Proper}
 use Rattle.gametree.specs.Bounds.{known, Decided}
 use Rattle.gametree.specs.Certificate.{SolutionTree, worst, solutionValue, solutionValueKids, inside, same}
-use Rattle.gametree.specs.Certificate.{ReadOff, solutionOf, flag, LeavesIn, FlagsCertify}
+use Rattle.gametree.specs.Certificate.{ReadOff, fill, solutionOf, flag, LeavesIn, FlagsCertify}
 use Rattle.gametree.proofs.Bounds.{every-map, minimax-score, known-capped}
-use Rattle.gametree.proofs.ReadOff.{read-solution, fits}
+use Rattle.gametree.proofs.ReadOff.{Finite, read-solution, fits}
 
--- a leaf that says something is an evaluated one
-high-proper : (b : Bool) (v : ℕ) → cond b v greatest < greatest → b ≡ true
-high-proper true v h = refl
-high-proper false v h = absurd (omega arith)
+-- a side's bound: where it is finite, at a leaf and at a tree with real scores; and where the bounds meet
+finite-known : (p : Side) (b : Bool) (v : ℕ) → Finite p (cond b v (fill p)) → b ≡ true
+finite-known p true v h = refl
+finite-known Max false v h = absurd (omega arith)
+finite-known Min false v h = absurd (omega arith)
 
-low-proper : (b : Bool) (v : ℕ) → least < cond b v least → b ≡ true
-low-proper true v h = refl
-low-proper false v h = absurd (omega arith)
+score-finite : (p : Side) (v : ℕ) → Score v → Finite p v
+score-finite Max v h = h .1
+score-finite Min v h = h .0
 
+fill≤ : (p : Side) → fill p ≤ greatest
+fill≤ Max = le-refl greatest
+fill≤ Min = omega arith
+
+decided-fill : (p : Side) (ν : ℕ → ℕ) (E : ℕ → Bool) (t : Tree) → Decided ν E t
+    → minimax (known ν E (fill p)) t ≡ minimax ν t
+decided-fill Max ν E t d = d .highIs
+decided-fill Min ν E t d = d .lowIs
+
+-- an evaluated leaf's score is known
 known-leaf : (b c : Bool) (v x w : ℕ) → (b ≡ true → c ≡ true) → cond b (cond c v x) w ≡ cond b v w
 known-leaf true c v x w f = rw (f refl) refl
 known-leaf false c v x w f = refl
@@ -39,33 +50,21 @@ mutual
   known-solutionKids p ν E x g (t then ts) h =
       ap₂ (better p) (known-solution p ν E x g t (h .0)) (known-solutionKids p ν E x g ts (h .1))
 
-module _ (ν : ℕ → ℕ) (E : ℕ → Bool) (t : Tree) (h : Proper ν t) (d : Decided ν E t) (g : ℕ → Bool) where
-  -- a max tree that is read off the highs
-  pub read-max : ReadOff Max (known ν E greatest) g true t
-      → SolutionTree Max g t × (solutionValue Max ν g t ≡ minimax ν t) × LeavesIn g E t
-  read-max r =
-      let b = minimax-score ν t (h .scored) in
-      let k =
-      read-solution Max (known ν E greatest) g t (known-capped ν E greatest (le-refl greatest) t (h .scored))
-      (rw (d .highIs) (b .1)) r in
-      let i =
-      every-map (λ n. g n ≡ true → known ν E greatest n < greatest) (λ n. g n ≡ true → E n ≡ true)
-      (λ n f e. high-proper (E n) (ν n) (f e)) t (k .2) in
-      (k .0, sym (known-solution Max ν E greatest g t i) ∙ k .1 ∙ d .highIs, i)
+-- a side's tree that is read off its bounds
+pub read-bounds : (p : Side) (ν : ℕ → ℕ) (E : ℕ → Bool) (t : Tree) → Proper ν t → Decided ν E t → (g : ℕ → Bool)
+    → ReadOff p (known ν E (fill p)) g true t
+    → SolutionTree p g t × (solutionValue p ν g t ≡ minimax ν t) × LeavesIn g E t
+read-bounds p ν E t h d g r =
+    let x = fill p in
+    let e = decided-fill p ν E t d in
+    let k =
+    read-solution p (known ν E x) g t (known-capped ν E x (fill≤ p) t (h .scored))
+    (rw e (score-finite p (minimax ν t) (minimax-score ν t (h .scored)))) r in
+    let i : LeavesIn g E t =
+    every-map (λ n. g n ≡ true → Finite p (known ν E x n)) _ (λ n f j. finite-known p (E n) (ν n) (f j)) t (k .2) in
+    (k .0, sym (known-solution p ν E x g t i) ∙ k .1 ∙ e, i)
 
-  -- a min tree that is read off the lows
-  pub read-min : ReadOff Min (known ν E least) g true t
-      → SolutionTree Min g t × (solutionValue Min ν g t ≡ minimax ν t) × LeavesIn g E t
-  read-min r =
-      let b = minimax-score ν t (h .scored) in
-      let k =
-      read-solution Min (known ν E least) g t (known-capped ν E least (omega arith) t (h .scored))
-      (rw (d .lowIs) (b .0)) r in
-      let i =
-      every-map (λ n. g n ≡ true → least < known ν E least n) (λ n. g n ≡ true → E n ≡ true)
-      (λ n f e. low-proper (E n) (ν n) (f e)) t (k .2) in
-      (k .0, sym (known-solution Min ν E least g t i) ∙ k .1 ∙ d .lowIs, i)
-
+-- a flag made of two memberships gives each of them back
 flag-parts : (p : Side) (a b : Bool) → inside p (cond a 1 0 + cond b 2 0) ≡ cond (same p Max) a b
 flag-parts Max true true = refl
 flag-parts Max true false = refl
@@ -77,15 +76,16 @@ flag-parts Min false true = refl
 flag-parts Min false false = refl
 
 -- a node's flag says which of the two trees it is in
-pub flag-inside : (p : Side) (ν : ℕ → ℕ) (E : ℕ → Bool) (t : Tree) (k : ℕ) → inside p (flag ν E t k) ≡ solutionOf p ν E t k
+pub flag-inside : (p : Side) (ν : ℕ → ℕ) (E : ℕ → Bool) (t : Tree) (k : ℕ)
+    → inside p (flag ν E t k) ≡ solutionOf p ν E t k
 flag-inside Max ν E t k = flag-parts Max (solutionOf Max ν E t k) (solutionOf Min ν E t k)
 flag-inside Min ν E t k = flag-parts Min (solutionOf Max ν E t k) (solutionOf Min ν E t k)
 
 -- where the bounds meet, the flags are a certificate
 pub decided-certify : (ν : ℕ → ℕ) (E : ℕ → Bool) (t : Tree) → Proper ν t → Decided ν E t → FlagsCertify ν E t
 decided-certify ν E t h d =
-    let x = read-max ν E t h d _ (fits Max _ _ true t (h .distinct) (λ k i. flag-inside Max ν E t k)) in
-    let y = read-min ν E t h d _ (fits Min _ _ true t (h .distinct) (λ k i. flag-inside Min ν E t k)) in
+    let x = read-bounds Max ν E t h d _ (fits Max _ _ true t (h .distinct) (λ k i. flag-inside Max ν E t k)) in
+    let y = read-bounds Min ν E t h d _ (fits Min _ _ true t (h .distinct) (λ k i. flag-inside Min ν E t k)) in
     record {
       certifies = record { maxTree = x .0; minTree = y .0; maxValue = x .1; minValue = y .1 };
       maxLeaves = x .2;

@@ -1,10 +1,11 @@
--- What SSS* and MTD evaluate, in closed form: the memory of MTD after the passes with tests of at least c is `memoAt`.
+-- What SSS* and MTD evaluate, in closed form. A pass with the test γ takes MTD's memory from `memoAt` of γ + 1 to that
+-- of γ; so after all passes the evaluated leaves are those of the closed form.
 use Prim.Native.Nat.{ℕ, zero, suc, _≤_, _<_, min, max}
-use native.Mathlib.Nat.{le-refl, le-trans, lt-of-lt-of-le}
+use native.Mathlib.Nat.{le-refl, lt-of-lt-of-le}
 use native.Mathlib.Omega.{arith}
 use mathlib.Core.Path.{_≡_, refl, sym, _∙_, ap, ap₂, subst}
-use mathlib.Core.Logic.{_⊎_, inl, inr, ⊎-elim}
-use mathlib.Core.Bool.{Bool, true, false, cond, not, _&&_, and-false}
+use mathlib.Core.Logic.{inl, inr, ⊎-elim}
+use mathlib.Core.Bool.{Bool, true, false, cond, not, _&&_}
 use mathlib.Core.List.{List, [], _∷_, _++_}
 use lib.Dec.{leb, ltb}
 use borrow.Author.Tests.{ltb-true, ltb-false, leb-true, leb-false, not-true, not-false, le-leb, lt-leb}
@@ -14,25 +15,17 @@ use Rattle.gametree.specs.Tree.{minimaxKids, In, InKids, EveryLeaf, Ever
 use Rattle.gametree.specs.Tree.{DistinctKids, Proper}
 use Rattle.gametree.specs.AlphaBeta.{raise, lower}
 use Rattle.gametree.specs.Mtd.{Memo, MemoKids, memoHigh, memoHighKids, Pass, PassKids, pass, passKids, Run, run}
-use Rattle.gametree.specs.Mtd.{fresh, freshKids, mtd, Marks, MarksKids}
+use Rattle.gametree.specs.Mtd.{fresh, mtd, Marks, MarksKids}
 use Rattle.gametree.specs.ClosedForm.{rival, unrivalled, unrivalledKids}
 use Rattle.gametree.proofs.Choice.{cond-cases, true-not-false, and-both}
 use Rattle.gametree.proofs.Lists.{all-append, all-map, all-among}
 use Rattle.gametree.proofs.Bounds.{minimax-score}
-use Rattle.gametree.proofs.MtdSound.{minimax-memoHigh, minimaxKids-memoHighKids}
-use Rattle.gametree.proofs.MtdValue.{freshKids-memoHigh}
+use Rattle.gametree.proofs.MtdSound.{minimax-memoHigh}
 use Rattle.gametree.proofs.MtdMarks.{marks-other, marksKids-before, mtd-marks}
+use Rattle.gametree.proofs.MemoAt.{firstFloor, restFloor, memoAt, memoAtKids, less-or-not, kids-path, inner-path}
+use Rattle.gametree.proofs.MemoAt.{at-fresh, atKids-fresh, frozen, at-below, at-same}
 
--- the least test with which a first child is tried: under Max no younger brother may reach more, y being the best of
--- theirs
-abbrev firstFloor : Side → ℕ → ℕ → ℕ → ℕ
-firstFloor Max c β y = max c (min β y)
-firstFloor Min c β y = c
-
--- and with which its younger brothers are: under Max more than its own value v
-abbrev restFloor : Side → ℕ → ℕ → ℕ
-restFloor Max c v = max c (suc v)
-restFloor Min c v = c
+-- THE NEEDED LEAVES
 
 -- the leaves whose beta, the test with which they are first tried, is not below their floor
 abbrev mutual
@@ -55,6 +48,7 @@ floor-test α β δ = go (ltb α β) refl (leb δ β) refl
     go true p false q = let y = leb-false δ β q in sym (lt-leb (max (suc α) δ) β (omega arith))
     go false p b q = let x = ltb-false α β p in sym (lt-leb (max (suc α) δ) β (omega arith))
 
+-- a first child's floor, and its brothers'
 first-floor : (s : Side) (α β δ y : ℕ) → max (suc α) (rival s δ β y) ≡ firstFloor s (max (suc α) δ) β y
 first-floor Max α β δ y = omega arith
 first-floor Min α β δ y = refl
@@ -64,6 +58,7 @@ rest-floor Max α δ v = omega arith
 rest-floor Min α δ v = refl
 
 mutual
+  -- the closed form by floors
   unrivalled-needed : (ν : ℕ → ℕ) (α β δ : ℕ) (t : Tree) → unrivalled ν α β δ t ≡ needed ν (max (suc α) δ) β t
   unrivalled-needed ν α β δ (leaf n) = ap (λ b. cond b (n ∷ []) []) (floor-test α β δ)
   unrivalled-needed ν α β δ (inner n s ks) = unrivalledKids-needed ν s α β δ ks
@@ -76,186 +71,16 @@ mutual
       (unrivalledKids-needed ν s _ _ δ ts ∙ ap (λ c. neededKids ν s c (lower s β (minimax ν t)) ts)
       (rest-floor s α δ (minimax ν t)))
 
--- the memory after the passes with tests of at least c, of a node that is first tried with the test β
-abbrev mutual
-  memoAt : (ℕ → ℕ) → ℕ → ℕ → (t : Tree) → Memo t
-  memoAt ν c β (leaf n) = record { evaluated = leb c β; notBelow = leb c β && leb c (ν n) }
-  memoAt ν c β (inner n s ks) =
-      record { notBelow = leb c β && leb c (minimaxKids ν s ks); kids = memoAtKids ν s c β ks }
+-- PASSES
 
-  memoAtKids : (ℕ → ℕ) → Side → ℕ → ℕ → (ks : Kids) → MemoKids ks
-  memoAtKids ν s c β (last t) = memoAt ν c β t
-  memoAtKids ν s c β (t then ts) =
-      record {
-        first = memoAt ν (firstFloor s c β (minimaxKids ν s ts)) β t;
-        rest = memoAtKids ν s (restFloor s c (minimax ν t)) (lower s β (minimax ν t)) ts;
-      }
-
--- a number is below another, or not
-less-or-not : (a b : ℕ) → (a < b) ⊎ (b ≤ a)
-less-or-not a b = go (leb b a) refl
-  where
-    go : (t : Bool) → leb b a ≡ t → (a < b) ⊎ (b ≤ a)
-    go true e = inr (leb-true b a e)
-    go false e = inl (leb-false b a e)
-
-kids-path : (t : Tree) (ts : Kids) {a b : Memo t} {x y : MemoKids ts} → a ≡ b → x ≡ y
-    → _≡_ {A = MemoKids (t then ts)} (record { first = a; rest = x }) (record { first = b; rest = y })
-kids-path t ts p q = ap₂ {C = MemoKids (t then ts)} (λ x y. record { first = x; rest = y }) p q
-
-inner-path : (n : ℕ) (s : Side) (ks : Kids) {a b : Bool} {x y : MemoKids ks} → a ≡ b → x ≡ y
-    → _≡_ {A = Memo (inner n s ks)} (record { notBelow = a; kids = x }) (record { notBelow = b; kids = y })
-inner-path n s ks p q = ap₂ {C = Memo (inner n s ks)} (λ x y. record { notBelow = x; kids = y }) p q
-
--- a first test below the floor is never made
-floors-above : (s : Side) (c β y v : ℕ) → β < c → (β < firstFloor s c β y) × (lower s β v < restFloor s c v)
-floors-above Max c β y v h = omega arith
-floors-above Min c β y v h = omega arith
-
-mutual
-  at-fresh : (ν : ℕ → ℕ) (c β : ℕ) (t : Tree) → β < c → memoAt ν c β t ≡ fresh t
-  at-fresh ν c β (leaf n) h = rw (lt-leb c β h) refl
-  at-fresh ν c β (inner n s ks) h = rw (lt-leb c β h, atKids-fresh ν s c β ks h) refl
-
-  atKids-fresh : (ν : ℕ → ℕ) (s : Side) (c β : ℕ) (ks : Kids) → β < c → memoAtKids ν s c β ks ≡ freshKids ks
-  atKids-fresh ν s c β (last t) h = at-fresh ν c β t h
-  atKids-fresh ν s c β (t then ts) h =
-      let f = floors-above s c β (minimaxKids ν s ts) (minimax ν t) h in
-      kids-path t ts (at-fresh ν _ β t (f .0)) (atKids-fresh ν s _ _ ts (f .1))
-
--- a floor under Max either does not depend on c, or lies where the value is reached
-max-first : (c d β u y : ℕ) → c ≤ d → d ≤ β → d ≤ max u y
-    → (max c (min β y) ≡ max d (min β y)) ⊎ (max d (min β y) ≤ u)
-max-first c d β u y h k l = ⊎-elim (λ q. inr (omega arith)) (λ q. inl (omega arith)) (less-or-not (min β y) d)
-
-max-rest : (c d β u y : ℕ) → c ≤ d → d ≤ β → d ≤ max u y
-    → (max c (suc u) ≡ max d (suc u)) ⊎ ((max d (suc u) ≤ β) × (max d (suc u) ≤ y))
-max-rest c d β u y h k l = ⊎-elim (λ q. inr (omega arith)) (λ q. inl (omega arith)) (less-or-not (suc u) d)
-
--- once its value is reached a node stays as it is
-mutual
-  frozen : (ν : ℕ → ℕ) (c d β : ℕ) (t : Tree) → c ≤ d → d ≤ β → d ≤ minimax ν t → memoAt ν c β t ≡ memoAt ν d β t
-  frozen ν c d β (leaf n) h k l =
-      rw (le-leb c β (le-trans h k), le-leb d β k, le-leb c (ν n) (le-trans h l), le-leb d (ν n) l) refl
-  frozen ν c d β (inner n Max ks) h k l =
-      inner-path n Max ks (rw (le-leb c β (le-trans h k), le-leb d β k, le-leb c _ (le-trans h l), le-leb d _ l) refl)
-      (frozen-max ν c d β ks h k l)
-  frozen ν c d β (inner n Min ks) h k l =
-      inner-path n Min ks (rw (le-leb c β (le-trans h k), le-leb d β k, le-leb c _ (le-trans h l), le-leb d _ l) refl)
-      (frozen-min ν c d β ks h k l)
-
-  frozen-max : (ν : ℕ → ℕ) (c d β : ℕ) (ks : Kids) → c ≤ d → d ≤ β → d ≤ minimaxKids ν Max ks
-      → memoAtKids ν Max c β ks ≡ memoAtKids ν Max d β ks
-  frozen-max ν c d β (last t) h k l = frozen ν c d β t h k l
-  frozen-max ν c d β (t then ts) h k l =
-      let u = minimax ν t in
-      let y = minimaxKids ν Max ts in
-      kids-path t ts
-      (⊎-elim (λ p. ap (λ x. memoAt ν x β t) p)
-      (λ q. frozen ν (max c (min β y)) (max d (min β y)) β t (omega arith) (omega arith) q) (max-first c d β u y h k l))
-      (⊎-elim (λ p. ap (λ x. memoAtKids ν Max x β ts) p)
-      (λ q. frozen-max ν (max c (suc u)) (max d (suc u)) β ts (omega arith) (q .0) (q .1)) (max-rest c d β u y h k l))
-
-  frozen-min : (ν : ℕ → ℕ) (c d β : ℕ) (ks : Kids) → c ≤ d → d ≤ β → d ≤ minimaxKids ν Min ks
-      → memoAtKids ν Min c β ks ≡ memoAtKids ν Min d β ks
-  frozen-min ν c d β (last t) h k l = frozen ν c d β t h k l
-  frozen-min ν c d β (t then ts) h k l =
-      kids-path t ts (frozen ν c d β t h k (omega arith))
-      (frozen-min ν c d (min β (minimax ν t)) ts h (omega arith) (omega arith))
-
--- a node that was tried and whose value is not reached has its high below the tests made
-mutual
-  at-below : (ν : ℕ → ℕ) (c β : ℕ) (t : Tree) → c ≤ β → minimax ν t < c → memoHigh ν t (memoAt ν c β t) < c
-  at-below ν c β (leaf n) h l = rw (le-leb c β h) l
-  at-below ν c β (inner n Max ks) h l = below-max ν c β ks h l
-  at-below ν c β (inner n Min ks) h l = below-min ν c β ks h l
-
-  below-max : (ν : ℕ → ℕ) (c β : ℕ) (ks : Kids) → c ≤ β → minimaxKids ν Max ks < c
-      → memoHighKids ν Max ks (memoAtKids ν Max c β ks) < c
-  below-max ν c β (last t) h l = at-below ν c β t h l
-  below-max ν c β (t then ts) h l =
-      let e : c ≡ max c (min β (minimaxKids ν Max ts)) = omega arith in
-      let f : c ≡ max c (suc (minimax ν t)) = omega arith in
-      let a = subst (λ x. memoHigh ν t (memoAt ν x β t) < c) e (at-below ν c β t h (omega arith)) in
-      let b = subst (λ x. memoHighKids ν Max ts (memoAtKids ν Max x β ts) < c) f (below-max ν c β ts h (omega arith)) in
-      omega arith
-
-  below-min : (ν : ℕ → ℕ) (c β : ℕ) (ks : Kids) → c ≤ β → minimaxKids ν Min ks < c
-      → memoHighKids ν Min ks (memoAtKids ν Min c β ks) < c
-  below-min ν c β (last t) h l = at-below ν c β t h l
-  below-min ν c β (t then ts) h l =
-      ⊎-elim (λ q. let a = at-below ν c β t h q in omega arith)
-      (λ q. let b = below-min ν c (min β (minimax ν t)) ts (omega arith) (omega arith) in omega arith)
-      (less-or-not (minimax ν t) c)
-
-same-flag : (c d β v : ℕ) → v < d → d ≤ c → leb d β && leb d v ≡ leb c β && leb c v
-same-flag c d β v h k =
-    rw (lt-leb d v h, lt-leb c v (lt-of-lt-of-le h k)) (and-false (leb d β) ∙ sym (and-false (leb c β)))
-
--- tests above a node's high change nothing
-mutual
-  at-same : (ν : ℕ → ℕ) (c d β : ℕ) (t : Tree) → Scored ν t → d ≤ c → d ≤ greatest → memoHigh ν t (memoAt ν c β t) < d
-      → memoAt ν d β t ≡ memoAt ν c β t
-  at-same ν c d β (leaf n) i h g l =
-      ⊎-elim (λ q. absurd (let z : greatest < d = rw (lt-leb c β q) at l in omega arith))
-      (λ q.
-      let z : ν n < d = rw (le-leb c β q) at l in
-      rw (le-leb c β q, le-leb d β (le-trans h q), lt-leb d (ν n) z, lt-leb c (ν n) (lt-of-lt-of-le z h)) refl)
-      (less-or-not β c)
-  at-same ν c d β (inner n Max ks) i h g l =
-      let v = minimax-memoHigh ν (inner n Max ks) (memoAt ν c β (inner n Max ks)) i in
-      inner-path n Max ks (same-flag c d β _ (omega arith) h) (same-max ν c d β ks i h g l)
-  at-same ν c d β (inner n Min ks) i h g l =
-      let v = minimax-memoHigh ν (inner n Min ks) (memoAt ν c β (inner n Min ks)) i in
-      inner-path n Min ks (same-flag c d β _ (omega arith) h) (same-min ν c d β ks i h g l)
-
-  same-max : (ν : ℕ → ℕ) (c d β : ℕ) (ks : Kids) → ScoredKids ν ks → d ≤ c → d ≤ greatest
-      → memoHighKids ν Max ks (memoAtKids ν Max c β ks) < d → memoAtKids ν Max d β ks ≡ memoAtKids ν Max c β ks
-  same-max ν c d β (last t) i h g l = at-same ν c d β t i h g l
-  same-max ν c d β (t then ts) i h g l =
-      let y = minimaxKids ν Max ts in
-      let u = minimax ν t in
-      let m = memoAtKids ν Max c β (t then ts) in
-      let a = minimax-memoHigh ν t (m .first) (i .0) in
-      let b = minimaxKids-memoHighKids ν Max ts (m .rest) (i .1) in
-      let e : max c (min β y) ≡ c = omega arith in
-      let f : max c (suc u) ≡ c = omega arith in
-      let j : max d (min β y) ≡ d = omega arith in
-      let k : max d (suc u) ≡ d = omega arith in
-      let x : memoHigh ν t (memoAt ν c β t) < d = subst (λ z. memoHigh ν t (memoAt ν z β t) < d) e (omega arith) in
-      let w : memoHighKids ν Max ts (memoAtKids ν Max c β ts) < d =
-      subst (λ z. memoHighKids ν Max ts (memoAtKids ν Max z β ts) < d) f (omega arith) in
-      kids-path t ts (ap (λ z. memoAt ν z β t) j ∙ at-same ν c d β t (i .0) h g x ∙ sym (ap (λ z. memoAt ν z β t) e))
-      (ap (λ z. memoAtKids ν Max z β ts) k ∙ same-max ν c d β ts (i .1) h g w ∙ sym
-      (ap (λ z. memoAtKids ν Max z β ts) f))
-
-  same-min : (ν : ℕ → ℕ) (c d β : ℕ) (ks : Kids) → ScoredKids ν ks → d ≤ c → d ≤ greatest
-      → memoHighKids ν Min ks (memoAtKids ν Min c β ks) < d → memoAtKids ν Min d β ks ≡ memoAtKids ν Min c β ks
-  same-min ν c d β (last t) i h g l = at-same ν c d β t i h g l
-  same-min ν c d β (t then ts) i h g l =
-      let u = minimax ν t in
-      ⊎-elim
-      (λ q.
-      let a = minimax-memoHigh ν t (memoAt ν c β t) (i .0) in
-      kids-path t ts (at-same ν c d β t (i .0) h g q)
-      (atKids-fresh ν Min d (min β u) ts (omega arith) ∙ sym (atKids-fresh ν Min c (min β u) ts (omega arith))))
-      (λ q.
-      let r : memoHighKids ν Min ts (memoAtKids ν Min c (min β u) ts) < d = omega arith in
-      kids-path t ts
-      (⊎-elim
-      (λ p.
-      let x = ap (memoHighKids ν Min ts) (atKids-fresh ν Min c (min β u) ts p) ∙ freshKids-memoHigh ν Min ts in
-      absurd (omega arith))
-      (λ p. frozen ν d c β t h (omega arith) (omega arith)) (less-or-not (min β u) c))
-      (same-min ν c d (min β u) ts (i .1) h g r))
-      (less-or-not (memoHigh ν t (memoAt ν c β t)) d)
-
+-- two tests give the same answer if each follows from the other
 leb-same : (γ a b : ℕ) → (γ ≤ a → γ ≤ b) → (γ ≤ b → γ ≤ a) → leb γ a ≡ leb γ b
 leb-same γ a b f g =
     ⊎-elim (λ q. lt-leb γ a q ∙ sym
     (lt-leb γ b (⊎-elim (λ p. p) (λ p. absurd (let z = g p in omega arith)) (less-or-not b γ))))
     (λ q. le-leb γ a q ∙ sym (le-leb γ b (f q))) (less-or-not a γ)
 
+-- the answer of a first child and of the others, at Max and at Min
 le-max : (γ u y : ℕ) → γ ≤ u → γ ≤ max u y
 le-max γ u y h = omega arith
 
@@ -265,6 +90,7 @@ leb-max γ u y h = leb-same γ y (max u y) (λ p. omega arith) (λ p. omega arit
 leb-min : (γ u y : ℕ) → γ ≤ u → leb γ y ≡ leb γ (min u y)
 leb-min γ u y h = leb-same γ y (min u y) (λ p. omega arith) (λ p. omega arith)
 
+-- a flag that is not set says that the first test or the value is not above c
 and-false-min : (c β v : ℕ) → leb (suc c) β && leb (suc c) v ≡ false → min β v ≤ c
 and-false-min c β v e = go (leb (suc c) β) refl (leb (suc c) v) refl e
   where
@@ -323,6 +149,7 @@ min-first γ β u y h = omega arith
 floor-first : (γ z : ℕ) → z ≤ γ → (max (suc γ) z ≡ suc γ) × (γ ≡ max γ z)
 floor-first γ z h = omega arith
 
+-- once the first child's value is reached, its brothers' floors no longer depend on the test; before, they are the test
 floor-reached : (γ u : ℕ) → γ ≤ u → max (suc γ) (suc u) ≡ max γ (suc u)
 floor-reached γ u h = omega arith
 
@@ -330,23 +157,21 @@ floor-rest : (γ u : ℕ) → u < γ → (max (suc γ) (suc u) ≡ suc γ) × (�
 floor-rest γ u h = omega arith
 
 mutual
+  -- a pass at a node that is tried with the test γ
   passed : (ν : ℕ → ℕ) (γ β : ℕ) (t : Tree) (m : Memo t) → Scored ν t → m ≡ memoAt ν (suc γ) β t → γ ≤ β → γ ≤ greatest
       → Passed ν γ β t (pass ν γ t m)
   passed ν γ β (leaf n) m i e h g = record { next-is = rw (le-leb γ β h) refl; answer = refl }
-  passed ν γ β (inner n Max ks) m i e h g =
-      passed-inner ν γ β n Max ks m i e h g
-      (λ l. passed-max ν γ β ks (m .kids) i (ap (λ (x : Memo (inner n Max ks)). x .kids) e) h g l)
-  passed ν γ β (inner n Min ks) m i e h g =
-      passed-inner ν γ β n Min ks m i e h g
-      (λ l. passed-min ν γ β ks (m .kids) i (ap (λ (x : Memo (inner n Min ks)). x .kids) e) h g)
+  passed ν γ β (inner n s ks) m i e h g =
+      passed-inner ν γ β n s ks m i e h g
+      (λ l. passedKids ν γ β s ks (m .kids) i (ap (λ (x : Memo (inner n s ks)). x .kids) e) h g l)
 
-  passed-max : (ν : ℕ → ℕ) (γ β : ℕ) (ks : Kids) (m : MemoKids ks) → ScoredKids ν ks
-      → m ≡ memoAtKids ν Max (suc γ) β ks → γ ≤ β → γ ≤ greatest
-      → min β (minimaxKids ν Max ks) ≤ γ → PassedKids ν γ β Max ks (passKids ν γ Max ks m)
-  passed-max ν γ β (last t) m i e h g l =
+  passedKids : (ν : ℕ → ℕ) (γ β : ℕ) (s : Side) (ks : Kids) (m : MemoKids ks) → ScoredKids ν ks
+      → m ≡ memoAtKids ν s (suc γ) β ks → γ ≤ β → γ ≤ greatest
+      → min β (minimaxKids ν s ks) ≤ γ → PassedKids ν γ β s ks (passKids ν γ s ks m)
+  passedKids ν γ β s (last t) m i e h g l =
       let a = passed ν γ β t m i e h g in
       record { next-is = a .next-is; answer = a .answer }
-  passed-max ν γ β (t then ts) m i e h g l =
+  passedKids ν γ β Max (t then ts) m i e h g l =
       let u = minimax ν t in
       let y = minimaxKids ν Max ts in
       let o = min-first γ β u y l in
@@ -365,19 +190,12 @@ mutual
       (λ d.
       let w = leb-false γ u (sym (a .answer) ∙ d) in
       let z = floor-rest γ u w in
-      let b = passed-max ν γ β ts (m .rest) (i .1) (rest ∙ ap (λ x. memoAtKids ν Max x β ts) (z .0)) h g o in
+      let b = passedKids ν γ β Max ts (m .rest) (i .1) (rest ∙ ap (λ x. memoAtKids ν Max x β ts) (z .0)) h g o in
       record {
         next-is = kids-path t ts one (b .next-is ∙ ap (λ x. memoAtKids ν Max x β ts) (z .1));
         answer = b .answer ∙ leb-max γ u y w;
       })
-
-  passed-min : (ν : ℕ → ℕ) (γ β : ℕ) (ks : Kids) (m : MemoKids ks) → ScoredKids ν ks
-      → m ≡ memoAtKids ν Min (suc γ) β ks → γ ≤ β → γ ≤ greatest
-      → PassedKids ν γ β Min ks (passKids ν γ Min ks m)
-  passed-min ν γ β (last t) m i e h g =
-      let a = passed ν γ β t m i e h g in
-      record { next-is = a .next-is; answer = a .answer }
-  passed-min ν γ β (t then ts) m i e h g =
+  passedKids ν γ β Min (t then ts) m i e h g l =
       let u = minimax ν t in
       let y = minimaxKids ν Min ts in
       let rest = ap (λ (x : MemoKids (t then ts)). x .rest) e in
@@ -395,13 +213,13 @@ mutual
       })
       (λ d.
       let w = leb-true γ u (sym (a .answer) ∙ not-false _ d) in
-      let b = passed-min ν γ (min β u) ts (m .rest) (i .1) rest (omega arith) g in
+      let b = passedKids ν γ (min β u) Min ts (m .rest) (i .1) rest (omega arith) g (omega arith) in
       record {
         next-is = kids-path t ts (a .next-is) (b .next-is);
         answer = b .answer ∙ leb-min γ u y w;
       })
 
--- a run ends with the memory after all tests
+-- a run of passes ends with the memory after all tests
 run-form : (ν : ℕ → ℕ) (f γ : ℕ) (t : Tree) (m : Memo t) → Scored ν t → m ≡ memoAt ν (suc γ) greatest t → least < γ
     → γ ≤ greatest
     → γ < f → run ν f γ t m .memo ≡ memoAt ν 1 greatest t
@@ -420,6 +238,8 @@ run-form ν (suc f) γ t m i e p g l =
     let v = minimax-score ν t i in
     let y = minimax-memoHigh ν t n i in
     run-form ν f h t n i (a .next-is ∙ sym c) (lt-of-lt-of-le (v .0) y) (omega arith) (omega arith))
+
+-- LEAVES
 
 -- the needed leaves are nodes of the tree
 needed-leaf : (b : Bool) (n : ℕ) → All (λ k. k ≡ n) (cond b (n ∷ []) [])
@@ -463,6 +283,7 @@ mutual
             (neededKids-marks ν s y z ts (d .1)),
       )
 
+-- lists that mark the same memory have the same leaves
 mutual
   marks-agree : (v w : List ℕ) (t : Tree) (m : Memo t) → Marks v t m → Marks w t m
       → EveryLeaf (λ n. among v n ≡ among w n) t

@@ -10,32 +10,31 @@ use lib.Dec.{eqb}
 use lib.ListN.{length, length-append}
 use borrow.Author.Tests.{eqb-true, ne-eqb}
 use Rattle.gametree.specs.Lists.{All, among, Once}
-use Rattle.gametree.specs.Tree.{Tree, leaf, inner, Kids, last, _then_}
-use Rattle.gametree.specs.Tree.{In, InKids, EveryLeafKids, Distinct, DistinctKids, leaves, leavesKids}
-use Rattle.gametree.specs.Tree.{leafCount, leafCountKids}
+use Rattle.gametree.specs.Tree.{Tree, leaf, inner, Kids, last, _then_, In, InKids, EveryLeafKids, Distinct}
+use Rattle.gametree.specs.Tree.{DistinctKids, leaves, leavesKids, leafCount, leafCountKids}
 use Rattle.gametree.specs.Layout.{has}
-use Rattle.gametree.specs.Certificate.{pairLeaves, pairLeavesKids}
-use Rattle.gametree.specs.Certificate.{LeavesIn}
+use Rattle.gametree.specs.Certificate.{pairLeaves, pairLeavesKids, LeavesIn}
 use Rattle.gametree.proofs.Choice.{cond-cases, true-not-false, or-left, or-cases}
-use Rattle.gametree.proofs.Lists.{among-left, among-right, all-zip}
-use Rattle.gametree.proofs.Lists.{all-among, once-length}
+use Rattle.gametree.proofs.Lists.{among-left, among-right, all-zip, all-among, once-length}
 use Rattle.gametree.proofs.Nodes.{in-has, has-in}
 
-shared-leaf : (a b c : Bool) → (a ≡ true → c ≡ true) → (b ≡ true → c ≡ true) → cond (a || b) 1 0 ≤ cond c 1 0
-shared-leaf true b c f g = rw (f refl) (le-refl 1)
-shared-leaf false true c f g = rw (g refl) (le-refl 1)
-shared-leaf false false c f g = omega arith
+-- a leaf in one of two sets of evaluated leaves is evaluated
+pair-leaf : (a b c : Bool) → (a ≡ true → c ≡ true) → (b ≡ true → c ≡ true) → cond (a || b) 1 0 ≤ cond c 1 0
+pair-leaf true b c f g = rw (f refl) (le-refl 1)
+pair-leaf false true c f g = rw (g refl) (le-refl 1)
+pair-leaf false false c f g = omega arith
 
 -- two sets of evaluated leaves have no more leaves than are evaluated
 mutual
-  pub shared≤ : (g h E : ℕ → Bool) (t : Tree) → LeavesIn g E t → LeavesIn h E t → pairLeaves g h t ≤ leafCount E t
-  shared≤ g h E (leaf n) i j = shared-leaf (g n) (h n) (E n) i j
-  shared≤ g h E (inner n q ks) i j = sharedKids≤ g h E ks i j
+  pub pairLeaves≤ : (g h E : ℕ → Bool) (t : Tree) → LeavesIn g E t → LeavesIn h E t → pairLeaves g h t ≤ leafCount E t
+  pairLeaves≤ g h E (leaf n) i j = pair-leaf (g n) (h n) (E n) i j
+  pairLeaves≤ g h E (inner n q ks) i j = pairLeavesKids≤ g h E ks i j
 
-  sharedKids≤ : (g h E : ℕ → Bool) (ks : Kids) → EveryLeafKids (λ n. g n ≡ true → E n ≡ true) ks
+  pairLeavesKids≤ : (g h E : ℕ → Bool) (ks : Kids) → EveryLeafKids (λ n. g n ≡ true → E n ≡ true) ks
       → EveryLeafKids (λ n. h n ≡ true → E n ≡ true) ks → pairLeavesKids g h ks ≤ leafCountKids E ks
-  sharedKids≤ g h E (last t) i j = shared≤ g h E t i j
-  sharedKids≤ g h E (t then ts) i j = omega (arith, shared≤ g h E t (i .0) (j .0), sharedKids≤ g h E ts (i .1) (j .1))
+  pairLeavesKids≤ g h E (last t) i j = pairLeaves≤ g h E t i j
+  pairLeavesKids≤ g h E (t then ts) i j =
+      omega (arith, pairLeaves≤ g h E t (i .0) (j .0), pairLeavesKids≤ g h E ts (i .1) (j .1))
 
 -- a number that is no node's is no leaf's
 mutual

@@ -1,13 +1,14 @@
--- Lemmas, grouped by idea; the theorems for use are in Theorems, the document's small trees in Cases.
+-- Lemmas, grouped by idea; the theorems for use are in Theorems.
 
+-- the small trees, computed
+pub mod Cases
 -- choices, lists, trees and bounds
 pub mod Choice
 pub mod Lists
 pub mod Nodes
 pub mod Bounds
 -- alpha-beta
-pub mod AlphaBetaValue
-pub mod AlphaBetaLocal
+pub mod Window
 -- MTD
 pub mod MtdSound
 pub mod MtdValue
@@ -18,9 +19,11 @@ pub mod MemoArrays
 -- SSS*, and that it does what MTD does
 pub mod SssSteps
 pub mod Frontier
+pub mod Around
 pub mod Work
 pub mod Simulation
 pub mod SssRun
+pub mod Merits
 pub mod SssLists
 pub mod Fronts
 pub mod FrontSteps
@@ -38,6 +41,6 @@ pub mod SmallestPair
 pub mod Moves
 pub mod MtdMoves
 pub mod Domination
+pub mod MemoAt
 pub mod ClosedForm
 pub mod Theorems
-pub mod Cases

@@ -10,12 +10,12 @@ use Rattle.gametree.specs.Lists.{All, among}
 use Rattle.gametree.specs.Tree.{Side, Max, Min, Tree, leaf, inner, Kids, last, _then_, least, greatest, better}
 use Rattle.gametree.specs.Tree.{minimax, minimaxKids, number, Scored, ScoredKids}
 use Rattle.gametree.specs.Bounds.{known, Decided}
-use Rattle.gametree.specs.AlphaBeta.{raise, lower, clamp, alphaBeta, alphaBetaKids}
+use Rattle.gametree.specs.AlphaBeta.{raise, lower, clamp, alphaBeta, alphaBetaKids, fullWindow}
 use Rattle.gametree.specs.Certificate.{worst}
 use Rattle.gametree.specs.Move.{firstWith, rootMove, boundMove}
-use Rattle.gametree.proofs.Bounds.{low≤, ≤high, known-local}
-use Rattle.gametree.proofs.AlphaBetaValue.{alphaBeta-value}
-use Rattle.gametree.proofs.AlphaBetaLocal.{onward-first, onward-rest, known-exact}
+use Rattle.gametree.proofs.Bounds.{minimax-score, low≤, ≤high, known-local}
+use Rattle.gametree.proofs.Lists.{all-among}
+use Rattle.gametree.proofs.Window.{alphaBeta-value, onward-first, onward-rest, known-exact, alphaBeta-decided}
 use Rattle.gametree.proofs.Solution.{Under, under-refl}
 
 -- of each child up to the first that has the value v under ν: if it has it under ν, it has it under μ
@@ -24,7 +24,7 @@ Shown μ ν v (last t) = minimax ν t ≡ v → minimax μ t ≡ v
 Shown μ ν v (t then ts) = (minimax ν t ≡ v → minimax μ t ≡ v) × ((minimax ν t ≡ v → ⊥) → Shown μ ν v ts)
 
 -- what a side's own bound, of the leaves E, makes of a child: nothing better than its value
-pub bound-under : (p : Side) (ν : ℕ → ℕ) (E : ℕ → Bool) (t : Tree) → Scored ν t
+bound-under : (p : Side) (ν : ℕ → ℕ) (E : ℕ → Bool) (t : Tree) → Scored ν t
     → Under p (minimax (known ν E (worst p)) t) (minimax ν t)
 bound-under Max ν E t h = low≤ ν E t
 bound-under Min ν E t h = ≤high ν E t h
@@ -33,7 +33,7 @@ under-same : (p : Side) (x m v : ℕ) → Under p x m → Under p m v → x ≡ 
 under-same Max x m v h k e = omega arith
 under-same Min x m v h k e = omega arith
 
-pub under-split : (p : Side) (a b v : ℕ) → Under p (better p a b) v → Under p a v × Under p b v
+under-split : (p : Side) (a b v : ℕ) → Under p (better p a b) v → Under p a v × Under p b v
 under-split Max a b v h = omega arith
 under-split Min a b v h = omega arith
 
@@ -50,7 +50,7 @@ pick-same b true n x y e f = rw e refl
 pick-same b false n x y e f = rw e (f refl)
 
 -- so the first child is the same
-pub first-same : (p : Side) (ν : ℕ → ℕ) (E : ℕ → Bool) (v : ℕ) (ks : Kids) → ScoredKids ν ks
+first-same : (p : Side) (ν : ℕ → ℕ) (E : ℕ → Bool) (v : ℕ) (ks : Kids) → ScoredKids ν ks
     → Under p (minimaxKids ν p ks) v
     → Shown (known ν E (worst p)) ν v ks → firstWith (minimax (known ν E (worst p))) v ks ≡ firstWith (minimax ν) v ks
 first-same p ν E v (last t) h u s =
@@ -74,7 +74,7 @@ inside-next Max α β m u v e h k w n = omega arith
 inside-next Min α β m u v e h k w n = omega arith
 
 -- alpha-beta's leaves show it
-pub alphaBeta-shown : (ν : ℕ → ℕ) (E : ℕ → Bool) (p : Side) (α β v x : ℕ) (ks : Kids) → α < v → v < β
+alphaBeta-shown : (ν : ℕ → ℕ) (E : ℕ → Bool) (p : Side) (α β v x : ℕ) (ks : Kids) → α < v → v < β
     → Under p (minimaxKids ν p ks) v
     → All (λ n. E n ≡ true) (alphaBetaKids ν p α β ks .evaluated) → Shown (known ν E x) ν v ks
 alphaBeta-shown ν E p α β v x (last t) h k u c = λ e. known-exact ν E α β x t c (rw e h) (rw e k) ∙ e
@@ -91,6 +91,16 @@ alphaBeta-shown ν E p α β v x (t then ts) h k u c =
           let l = lt-ltb a b (omega arith) in
           alphaBeta-shown ν E p a b v x ts (i .0) (i .1) (w .1) (onward-rest (λ n. E n ≡ true) (ltb a b) r q l c),
     )
+
+-- so the move by the bounds of alpha-beta's leaves is the move
+pub alphaBeta-move : (ν : ℕ → ℕ) (t : Tree) → Scored ν t
+    → boundMove ν (among (fullWindow ν t .evaluated)) t ≡ rootMove ν t
+alphaBeta-move ν (leaf n) h = refl
+alphaBeta-move ν (inner n p ks) h =
+    let t = inner n p ks in
+    let v = minimax-score ν t h in
+    move-same ν _ n p ks h (alphaBeta-decided ν t h)
+    (alphaBeta-shown ν _ p least greatest _ _ ks (v .0) (v .1) (under-refl p _) (all-among (fullWindow ν t .evaluated)))
 
 -- the move by the bounds depends only on the scores of the evaluated leaves
 pub boundMove-local : (ν μ : ℕ → ℕ) (w : List ℕ) → All (λ k. ν k ≡ μ k) w → (t : Tree)

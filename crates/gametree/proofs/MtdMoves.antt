@@ -1,27 +1,27 @@
 -- MTD's leaves show the first child that has the root's value.
 use Prim.Native.Nat.{ℕ, zero, suc, _≤_, _<_}
-use native.Mathlib.Nat.{le-refl, le-trans, lt-of-lt-of-le, le-of-lt}
+use native.Mathlib.Nat.{le-refl, le-trans, lt-of-lt-of-le}
 use native.Mathlib.Omega.{arith}
-use mathlib.Core.Path.{_≡_, refl, _∙_, ap}
+use mathlib.Core.Path.{_≡_, refl, sym, _∙_, ap}
 use mathlib.Core.Logic.{_⊎_, inl, inr, ⊎-elim}
 use mathlib.Core.Bool.{true, false, not}
 use mathlib.Core.List.{List}
 use lib.Dec.{ltb}
-use Rattle.gametree.specs.Lists.{All, among}
-use Rattle.gametree.specs.Tree.{Side, Max, Min, inner, Kids, last, _then_, least, greatest, minimaxKids}
-use Rattle.gametree.specs.Tree.{ScoredKids, Proper}
+use Rattle.gametree.specs.Lists.{among}
+use Rattle.gametree.specs.Tree.{Side, Max, Min, Tree, leaf, inner, Kids, last, _then_, least, greatest}
+use Rattle.gametree.specs.Tree.{minimaxKids, ScoredKids, Proper}
 use Rattle.gametree.specs.Bounds.{known, Decided}
 use Rattle.gametree.specs.Mtd.{Memo, MemoKids, memoHigh, memoHighKids, Pass, PassKids, pass, passKids, Run, run}
 use Rattle.gametree.specs.Mtd.{fresh, mtd, MarksKids}
-use Rattle.gametree.specs.Move.{rootMove, boundMove, EldersBelow}
+use Rattle.gametree.specs.Certificate.{worst}
+use Rattle.gametree.specs.Move.{rootMove, boundMove}
 use Rattle.gametree.proofs.Choice.{cond-cases, true-not-false}
-use Rattle.gametree.proofs.Lists.{all-map}
 use Rattle.gametree.proofs.Bounds.{minimax-score, low≤, ≤high}
 use Rattle.gametree.proofs.MtdSound.{memoLow, memoLow-minimax, minimax-memoHigh, Kept, KeptKids, sound}
 use Rattle.gametree.proofs.MtdValue.{kept-lower, fresh-kept, fresh-memoHigh, freshKids-memoHigh, mtd-right}
-use Rattle.gametree.proofs.MtdMarks.{mtd-marks, memoHigh-is, memoLow-is}
-use Rattle.gametree.proofs.Frontier.{frontier, ReadyKids, Fitted, states, notBelow-low, memoLow-memoHigh}
-use Rattle.gametree.proofs.Frontier.{frontier-high, next}
+use Rattle.gametree.proofs.MtdMarks.{mtd-marks, memoBound-is}
+use Rattle.gametree.proofs.Frontier.{ReadyKids, Fitted, AtMost, states, notBelow-low, notBelow-high, next}
+use Rattle.gametree.proofs.Frontier.{next-high}
 use Rattle.gametree.proofs.Moves.{Shown, move-same}
 
 -- the children up to the first one not below v have their highs below it, as the memory's bounds say
@@ -84,7 +84,7 @@ module _ (ν : ℕ → ℕ) (n : ℕ) (ks : Kids) where
       (le-refl _) (omega arith))
 
 -- MTD decides at a Max root: the elder brothers of the first child not below the value have their highs below it
-pub mtdMax-decides : (ν : ℕ → ℕ) (n : ℕ) (ks : Kids) → ScoredKids ν ks
+mtdMax-decides : (ν : ℕ → ℕ) (n : ℕ) (ks : Kids) → ScoredKids ν ks
     → DecidesMax ν (mtd ν (inner n Max ks) .value) ks (mtd ν (inner n Max ks) .memo .kids)
 unfolding mtd
 mtdMax-decides ν n ks h =
@@ -93,27 +93,19 @@ mtdMax-decides ν n ks h =
     (omega (arith, fresh-memoHigh ν t)) (omega arith)
 
 -- what is decided is shown
-pub max-shown : (ν : ℕ → ℕ) (w : List ℕ) (v : ℕ) (ks : Kids) (m : MemoKids ks) → ScoredKids ν ks → MarksKids w ks m
+max-shown : (ν : ℕ → ℕ) (w : List ℕ) (v : ℕ) (ks : Kids) (m : MemoKids ks) → ScoredKids ν ks → MarksKids w ks m
     → minimaxKids ν Max ks ≤ v → DecidesMax ν v ks m → Shown (known ν (among w) least) ν v ks
 max-shown ν w v (last t) m h k u d =
-    λ e. let i = memoLow-is ν w t m k in
+    λ e. let i = memoBound-is least ν w t m k in
     let j = low≤ ν (among w) t in
     omega arith
 max-shown ν w v (t then ts) m h k u (inl d) =
-    let i = memoLow-is ν w t (m .first) (k .0) in
+    let i = memoBound-is least ν w t (m .first) (k .0) in
     let j = low≤ ν (among w) t in
     (λ e. omega arith, λ f. absurd (f (omega arith)))
 max-shown ν w v (t then ts) m h k u (inr d) =
     let j = minimax-memoHigh ν t (m .first) (h .0) in
     (λ e. absurd (omega (arith, d .0)), λ f. max-shown ν w v ts (m .rest) (h .1) (k .1) (omega arith) (d .1))
-
--- the same by the bounds of the marked leaves
-pub max-elders : (ν : ℕ → ℕ) (w : List ℕ) (v : ℕ) (ks : Kids) (m : MemoKids ks) → MarksKids w ks m → DecidesMax ν v ks m
-    → EldersBelow ν (among w) v ks
-max-elders ν w v (last t) m k d = rw (← memoLow-is ν w t m k) d
-max-elders ν w v (t then ts) m k (inl d) = inl (rw (← memoLow-is ν w t (m .first) (k .0)) d)
-max-elders ν w v (t then ts) m k (inr d) =
-    inr (rw (← memoHigh-is ν w t (m .first) (k .0)) (d .0), max-elders ν w v ts (m .rest) (k .1) (d .1))
 
 -- the children up to the first one whose high is at most v have their lows above it
 abbrev pub DecidesMin : (ν : ℕ → ℕ) → ℕ → (ks : Kids) → MemoKids ks → Type 0
@@ -128,7 +120,7 @@ readyMin-decides : (ν : ℕ → ℕ) (γ v : ℕ) (ks : Kids) (m : MemoKids ks)
 readyMin-decides ν γ v (last t) m h k g r e l = omega arith
 readyMin-decides ν γ v (t then ts) m h k g (inl r) e l =
     let a = notBelow-low ν γ t (m .first) (k .0) (r .0) in
-    let b = memoLow-memoHigh ν t (m .first) (h .0) in
+    let b = notBelow-high ν γ t (m .first) (h .0) (k .0) (r .0) in
     inr (omega arith, readyMin-decides ν γ v ts (m .rest) (h .1) (k .1) g (r .1) (omega arith) l)
 readyMin-decides ν γ v (t then ts) m h k g (inr r) e l =
     let a = ap (λ x. memoHighKids ν Min ts x) (r .1) ∙ freshKids-memoHigh ν Min ts in
@@ -162,7 +154,7 @@ module _ (ν : ℕ → ℕ) (n : ℕ) (ks : Kids) where
   -- the first pass finds a root below, so the last one's test is the high that an earlier one left
   runMin-decides : (f γ : ℕ) (m : Memo (inner n Min ks)) (w : Fitted (inner n Min ks) m) → ScoredKids ν ks
       → Kept ν γ (inner n Min ks) m
-      → γ ≤ greatest → All (λ s. s .merit ≤ γ) (states ν γ (inner n Min ks) m w)
+      → γ ≤ greatest → AtMost γ (states ν γ (inner n Min ks) m w)
       → (γ ≡ greatest) ⊎ DecidesMin ν γ ks (m .kids) → γ < f
       → DecidesMin ν (run ν f γ (inner n Min ks) m .value) ks (run ν f γ (inner n Min ks) m .memo .kids)
   runMin-decides zero γ m w h k g b d l = absurd (omega (arith, l))
@@ -176,16 +168,14 @@ module _ (ν : ℕ → ℕ) (n : ℕ) (ks : Kids) where
       (λ y. rootMin-keeps γ γ m h (k .1) y) d)
       (λ e.
       let c = a .below e in
-      let N = next ν γ t m w h k g b e in
-      let i =
-      frontier-high ν γ t x h (a .kept) g (N .0)
-      (all-map _ (λ s. s .merit ≤ γ) (λ s y. le-of-lt y) (frontier ν t x) (N .1)) in
+      let N = next ν γ g t m w h k b e in
+      let i = next-high ν γ g t m w h k b e in
       runMin-decides f (memoHigh ν t x) x (inr (N .0)) h (kept-lower ν t x (omega arith) (a .kept)) (omega arith) i
       (inr (readyMin-decides ν γ _ ks (x .kids) h (a .kept .1) g (N .0 .1) refl c)) (omega arith))
 
 -- MTD decides at a Min root: the elder brothers of the first child whose high is at most the value have their lows
 -- above it
-pub mtdMin-decides : (ν : ℕ → ℕ) (n : ℕ) (ks : Kids) → ScoredKids ν ks
+mtdMin-decides : (ν : ℕ → ℕ) (n : ℕ) (ks : Kids) → ScoredKids ν ks
     → DecidesMin ν (mtd ν (inner n Min ks) .value) ks (mtd ν (inner n Min ks) .memo .kids)
 unfolding mtd
 mtdMin-decides ν n ks h =
@@ -194,35 +184,44 @@ mtdMin-decides ν n ks h =
     (inl refl) (omega arith)
 
 -- what is decided is shown
-pub min-shown : (ν : ℕ → ℕ) (w : List ℕ) (v : ℕ) (ks : Kids) (m : MemoKids ks) → ScoredKids ν ks → MarksKids w ks m
+min-shown : (ν : ℕ → ℕ) (w : List ℕ) (v : ℕ) (ks : Kids) (m : MemoKids ks) → ScoredKids ν ks → MarksKids w ks m
     → v ≤ minimaxKids ν Min ks → DecidesMin ν v ks m → Shown (known ν (among w) greatest) ν v ks
 min-shown ν w v (last t) m h k u d =
-    λ e. let i = memoHigh-is ν w t m k in
+    λ e. let i = memoBound-is greatest ν w t m k in
     let j = ≤high ν (among w) t h in
     omega arith
 min-shown ν w v (t then ts) m h k u (inl d) =
-    let i = memoHigh-is ν w t (m .first) (k .0) in
+    let i = memoBound-is greatest ν w t (m .first) (k .0) in
     let j = ≤high ν (among w) t (h .0) in
     (λ e. omega arith, λ f. absurd (f (omega arith)))
 min-shown ν w v (t then ts) m h k u (inr d) =
     let j = memoLow-minimax ν t (m .first) in
     (λ e. absurd (omega (arith, d .0)), λ f. min-shown ν w v ts (m .rest) (h .1) (k .1) (omega arith) (d .1))
 
--- the move by the bounds of MTD's leaves is the move
-pub mtd-move : (ν : ℕ → ℕ) (n : ℕ) (s : Side) (ks : Kids) → Proper ν (inner n s ks)
-    → Decided ν (among (mtd ν (inner n s ks) .evaluated)) (inner n s ks)
-    → boundMove ν (among (mtd ν (inner n s ks) .evaluated)) (inner n s ks) ≡ rootMove ν (inner n s ks)
-mtd-move ν n Max ks r d =
+-- the bounds of MTD's leaves meet at the value
+pub mtd-decided : (ν : ℕ → ℕ) (t : Tree) → Proper ν t → Decided ν (among (mtd ν t .evaluated)) t
+mtd-decided ν t r =
+    let m = mtd-marks ν t (r .distinct) .marks in
+    let b = mtd-right ν t (r .scored) in
+    record {
+      lowIs = sym (memoBound-is least ν (mtd ν t .evaluated) t (mtd ν t .memo) m) ∙ b .low-is;
+      highIs = sym (memoBound-is greatest ν (mtd ν t .evaluated) t (mtd ν t .memo) m) ∙ b .high-is;
+    }
+
+-- and show the root's value
+mtd-shown : (ν : ℕ → ℕ) (n : ℕ) (s : Side) (ks : Kids) → Proper ν (inner n s ks)
+    → Shown (known ν (among (mtd ν (inner n s ks) .evaluated)) (worst s)) ν (minimaxKids ν s ks) ks
+mtd-shown ν n Max ks r =
     let t = inner n Max ks in
-    let e = mtd-right ν t (r .scored) .value in
-    let m = mtd-marks ν t (r .distinct) .marks in
-    move-same ν _ n Max ks (r .scored) d
-    (max-shown ν (mtd ν t .evaluated) _ ks (mtd ν t .memo .kids) (r .scored) m (le-refl _)
-    (rw e at (mtdMax-decides ν n ks (r .scored))))
-mtd-move ν n Min ks r d =
+    max-shown ν (mtd ν t .evaluated) _ ks (mtd ν t .memo .kids) (r .scored) (mtd-marks ν t (r .distinct) .marks)
+    (le-refl _) (rw (mtd-right ν t (r .scored) .value) at (mtdMax-decides ν n ks (r .scored)))
+mtd-shown ν n Min ks r =
     let t = inner n Min ks in
-    let e = mtd-right ν t (r .scored) .value in
-    let m = mtd-marks ν t (r .distinct) .marks in
-    move-same ν _ n Min ks (r .scored) d
-    (min-shown ν (mtd ν t .evaluated) _ ks (mtd ν t .memo .kids) (r .scored) m (le-refl _)
-    (rw e at (mtdMin-decides ν n ks (r .scored))))
+    min-shown ν (mtd ν t .evaluated) _ ks (mtd ν t .memo .kids) (r .scored) (mtd-marks ν t (r .distinct) .marks)
+    (le-refl _) (rw (mtd-right ν t (r .scored) .value) at (mtdMin-decides ν n ks (r .scored)))
+
+-- so the move by the bounds of MTD's leaves is the move
+pub mtd-move : (ν : ℕ → ℕ) (t : Tree) → Proper ν t → boundMove ν (among (mtd ν t .evaluated)) t ≡ rootMove ν t
+mtd-move ν (leaf n) r = refl
+mtd-move ν (inner n s ks) r =
+    move-same ν _ n s ks (r .scored) (mtd-decided ν (inner n s ks) r) (mtd-shown ν n s ks r)

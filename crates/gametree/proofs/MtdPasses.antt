@@ -1,6 +1,6 @@
 -- MTD makes at most one pass more than there are different scores among the evaluated leaves.
-use Prim.Native.Nat.{ℕ, zero, suc, _+_, _≤_, _<_, min, max}
-use native.Mathlib.Nat.{eq-or-lt-of-le}
+use Prim.Native.Nat.{ℕ, zero, suc, _+_, _≤_, _<_, min, max, suc-le-suc}
+use native.Mathlib.Nat.{eq-or-lt-of-le, le-refl, le-trans}
 use native.Mathlib.Omega.{arith}
 use mathlib.Core.Path.{_≡_, refl, sym, ap, subst}
 use mathlib.Core.Logic.{⊎-elim}
@@ -12,15 +12,15 @@ use Rattle.gametree.specs.Lists.{among, different}
 use Rattle.gametree.specs.Tree.{Side, Max, Min, Tree, leaf, inner, Kids, last, _then_, greatest, better}
 use Rattle.gametree.specs.Tree.{minimaxKids, Proper}
 use Rattle.gametree.specs.Bounds.{known, high}
-use Rattle.gametree.specs.Mtd.{Memo, memoHigh, pass, Run, run, Marks}
+use Rattle.gametree.specs.Mtd.{Memo, memoHigh, pass, Run, run, fresh, mtd, Marks}
 use Rattle.gametree.proofs.Choice.{cond-cases, or-left, or-right, or-cases}
 use Rattle.gametree.proofs.Lists.{among-left}
 use Rattle.gametree.proofs.MtdSound.{Kept, sound}
-use Rattle.gametree.proofs.MtdValue.{kept-lower}
-use Rattle.gametree.proofs.MtdMarks.{pass-marks, memoHigh-is}
+use Rattle.gametree.proofs.MtdValue.{kept-lower, fresh-kept}
+use Rattle.gametree.proofs.MtdMarks.{pass-marks, fresh-marks, memoBound-is}
 
 -- how many numbers below b pass the test
-pub how-many : (ℕ → Bool) → ℕ → ℕ
+how-many : (ℕ → Bool) → ℕ → ℕ
 how-many g zero = 0
 how-many g (suc b) = cond (g b) 1 0 + how-many g b
 
@@ -57,7 +57,7 @@ one-more g x (suc b) = here (one-more g x b) (eqb b x) refl
     here i false e = omega arith
 
 -- the numbers of a list are no more than its different ones
-pub how-many-different : (xs : List ℕ) (b : ℕ) → how-many (among xs) b ≤ different xs
+how-many-different : (xs : List ℕ) (b : ℕ) → how-many (among xs) b ≤ different xs
 unfolding how-many
 how-many-different [] b = nothing b
   where
@@ -88,7 +88,7 @@ better-one Min a b P h f g = pick (leb a b) refl
 
 -- a high below `greatest` is the score of an evaluated leaf
 mutual
-  pub high-score : (ν : ℕ → ℕ) (w : List ℕ) (t : Tree) → high ν (among w) t < greatest
+  high-score : (ν : ℕ → ℕ) (w : List ℕ) (t : Tree) → high ν (among w) t < greatest
       → among (map ν w) (high ν (among w) t) ≡ true
   high-score ν w (leaf n) h = at (among w n) refl h
     where
@@ -112,7 +112,7 @@ map-append ν [] w = refl
 map-append ν (x ∷ v) w = ap (λ l. ν x ∷ l) (map-append ν v w)
 
 -- the passes from the test γ are at most one more than the scores below γ among the leaves evaluated at the end
-pub run-passes : (ν : ℕ → ℕ) (f γ : ℕ) (w : List ℕ) (t : Tree) (m : Memo t) → Proper ν t → Kept ν γ t m → Marks w t m
+run-passes : (ν : ℕ → ℕ) (f γ : ℕ) (w : List ℕ) (t : Tree) (m : Memo t) → Proper ν t → Kept ν γ t m → Marks w t m
     → γ ≤ greatest
     → run ν f γ t m .passes ≤ suc (how-many (among (map ν (w ++ run ν f γ t m .evaluated))) γ)
 run-passes ν zero γ w t m h k a g = omega arith
@@ -128,8 +128,15 @@ run-passes ν (suc f) γ w t m h k a g =
     (λ e.
     let b = s .below e in
     let i = run-passes ν f (memoHigh ν t n) (w ++ v) t n h (kept-lower ν t n (omega arith) (s .kept)) c (omega arith) in
-    let d = memoHigh-is ν (w ++ v) t n c in
+    let d = memoBound-is greatest ν (w ++ v) t n c in
     let l : high ν (among (w ++ v)) t < greatest = omega arith in
     let x = rw (← d) at (high-score ν (w ++ v) t l) in
     let j = rw (← map-append ν (w ++ v) u) at (among-left (map ν (w ++ v)) (map ν u) (memoHigh ν t n) x) in
     rw (← append-assoc w v u) (omega (arith, i, more-there (among (map ν ((w ++ v) ++ u))) (memoHigh ν t n) γ b j)))
+
+-- MTD makes at most one pass more than there are different scores among the leaves that it evaluates
+pub passes-few : (ν : ℕ → ℕ) (t : Tree) → Proper ν t → mtd ν t .passes ≤ suc (different (map ν (mtd ν t .evaluated)))
+unfolding mtd
+passes-few ν t h =
+    le-trans (run-passes ν 64003 greatest [] t (fresh t) h (fresh-kept ν greatest t) (fresh-marks t) (le-refl greatest))
+    (suc-le-suc (how-many-different (map ν (run ν 64003 greatest t (fresh t) .evaluated)) greatest))

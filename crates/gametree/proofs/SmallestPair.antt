@@ -11,15 +11,15 @@ use borrow.Author.Tests.{leb-true, leb-false, eqb-true, eqb-false, eq-eqb}
 use Rattle.gametree.specs.Lists.{All, among}
 use Rattle.gametree.specs.Tree.{Side, Max, Min, Tree, leaf, inner, Kids, last, _then_, better, minimax, number}
 use Rattle.gametree.specs.Tree.{In, InKids, Proper}
-use Rattle.gametree.specs.Certificate.{solutionValue, solutionValueKids, pairLeaves, pairLeavesKids, inside}
-use Rattle.gametree.specs.Certificate.{flag, Smallest, FlagsCertify}
+use Rattle.gametree.specs.Certificate.{solutionValue, solutionValueKids, pairLeaves, pairLeavesKids, inside, flag}
+use Rattle.gametree.specs.Certificate.{Smallest, FlagsCertify}
 use Rattle.gametree.specs.Counting.{members, rulesHold, rulesHoldKids, certificate?}
 use Rattle.gametree.proofs.Choice.{cond-cases, true-not-false, or-left, or-right}
 use Rattle.gametree.proofs.Lists.{all-left, all-right, all-map, all-at, among-left, among-right}
 use Rattle.gametree.proofs.Nodes.{number-in}
 use Rattle.gametree.proofs.Checker.{certificate-passes, passed-certifies}
 use Rattle.gametree.proofs.Certificates.{decided-certify}
-use Rattle.gametree.proofs.Counts.{shared≤, count-list}
+use Rattle.gametree.proofs.Counts.{pairLeaves≤, count-list}
 
 -- leaves that give a certificate are no fewer than the smallest one's
 pub smallest≤ : (ν : ℕ → ℕ) (t : Tree) (g h : ℕ → Bool) (w : List ℕ) → Proper ν t → Smallest ν t g h
@@ -27,7 +27,7 @@ pub smallest≤ : (ν : ℕ → ℕ) (t : Tree) (g h : ℕ → Bool) (w : List �
     → pairLeaves g h t ≤ length w
 smallest≤ ν t g h w r s p =
     le-trans (s .fewest _ _ (minimax ν t) (p .certifies))
-    (le-trans (shared≤ _ _ (among w) t (p .maxLeaves) (p .minLeaves)) (count-list w t (r .distinct)))
+    (le-trans (pairLeaves≤ _ _ (among w) t (p .maxLeaves) (p .minLeaves)) (count-list w t (r .distinct)))
 
 -- two sets agree on the nodes of a tree
 abbrev Same : (g h : ℕ → Bool) → Tree → Type 0
@@ -67,17 +67,18 @@ mutual
       ap₂ (better p) (value-same p ν g h t (λ k i. e k (inl i))) (valueKids-same p ν g h ts (λ k i. e k (inr i)))
 
 mutual
-  shared-same : (g h g′ h′ : ℕ → Bool) (t : Tree) → Same g g′ t → Same h h′ t
+  pairLeaves-same : (g h g′ h′ : ℕ → Bool) (t : Tree) → Same g g′ t → Same h h′ t
       → pairLeaves g h t ≡ pairLeaves g′ h′ t
-  shared-same g h g′ h′ (leaf n) e f = rw (e n refl, f n refl) refl
-  shared-same g h g′ h′ (inner n q ks) e f = sharedKids-same g h g′ h′ ks (λ k i. e k (inr i)) (λ k i. f k (inr i))
+  pairLeaves-same g h g′ h′ (leaf n) e f = rw (e n refl, f n refl) refl
+  pairLeaves-same g h g′ h′ (inner n q ks) e f =
+      pairLeavesKids-same g h g′ h′ ks (λ k i. e k (inr i)) (λ k i. f k (inr i))
 
-  sharedKids-same : (g h g′ h′ : ℕ → Bool) (ks : Kids) → SameKids g g′ ks → SameKids h h′ ks
+  pairLeavesKids-same : (g h g′ h′ : ℕ → Bool) (ks : Kids) → SameKids g g′ ks → SameKids h h′ ks
       → pairLeavesKids g h ks ≡ pairLeavesKids g′ h′ ks
-  sharedKids-same g h g′ h′ (last t) e f = shared-same g h g′ h′ t e f
-  sharedKids-same g h g′ h′ (t then ts) e f =
-      ap₂ _+_ (shared-same g h g′ h′ t (λ k i. e k (inl i)) (λ k i. f k (inl i)))
-      (sharedKids-same g h g′ h′ ts (λ k i. e k (inr i)) (λ k i. f k (inr i)))
+  pairLeavesKids-same g h g′ h′ (last t) e f = pairLeaves-same g h g′ h′ t e f
+  pairLeavesKids-same g h g′ h′ (t then ts) e f =
+      ap₂ _+_ (pairLeaves-same g h g′ h′ t (λ k i. e k (inl i)) (λ k i. f k (inl i)))
+      (pairLeavesKids-same g h g′ h′ ts (λ k i. e k (inr i)) (λ k i. f k (inr i)))
 
 certificate-same : (ν : ℕ → ℕ) (t : Tree) (g h g′ h′ : ℕ → Bool) → Same g g′ t → Same h h′ t
     → certificate? ν t g h ≡ certificate? ν t g′ h′
@@ -91,6 +92,7 @@ certificate-same ν t g h g′ h′ e f =
       value-same Min ν h h′ t f,
     ) refl
 
+-- so a set that agrees with one of a certificate can stand for it
 certificate-like : (ν : ℕ → ℕ) (t : Tree) (g h g′ h′ : ℕ → Bool) → Same g g′ t → Same h h′ t
     → certificate? ν t g h ≡ true
     → certificate? ν t g′ h′ ≡ true
@@ -174,6 +176,7 @@ best-of good m a g (x ∷ xs) =
           best = (λ _. le-refl (m x), all-map _ _ (λ y k z. le-trans (le-of-lt (leb-false _ _ f)) (k z)) xs (b .best));
         }
 
+-- a pair of sets, and all pairs of two lists of them
 abbrev Pair : Type 0
 Pair = record { ofMax : ℕ → Bool; ofMin : ℕ → Bool }
 
@@ -181,6 +184,7 @@ abbrev pairs : List (ℕ → Bool) → List (ℕ → Bool) → List Pair
 pairs [] hs = []
 pairs (g ∷ gs) hs = map {B = Pair} (λ h. record { ofMax = g; ofMin = h }) hs ++ pairs gs hs
 
+-- what holds of all pairs holds of each with each
 all-pairs : (P : Pair → Type 0) (gs hs : List (ℕ → Bool)) → All P (pairs gs hs)
     → All (λ g. All (λ h. P (record { ofMax = g; ofMin = h })) hs) gs
 all-pairs P [] hs a = tt
@@ -190,7 +194,7 @@ all-pairs P (g ∷ gs) hs a =
       all-pairs P gs hs (all-right P X (pairs gs hs) a),
     )
 
--- there is a smallest certificate
+-- there is a smallest certificate: of all pairs of sets of nodes that are one, the first with the fewest leaves
 pub smallest-found : (ν : ℕ → ℕ) (t : Tree) → Proper ν t → (g : ℕ → Bool) × (h : ℕ → Bool) × Smallest ν t g h
 smallest-found ν t r =
     let good : Pair → Bool = λ x. certificate? ν t (x .ofMax) (x .ofMin) in
@@ -201,18 +205,19 @@ smallest-found ν t r =
     let S = subsets (nodes t) in
     let b =
     best-of good m seed (certificate-passes ν t (seed .ofMax) (seed .ofMin) (minimax ν t) (p .certifies)) (pairs S S) in
-    let all = all-pairs (λ x. good x ≡ true → m (b .one) ≤ m x) S S (b .best) in (
+    let least : Pair → Type 0 = λ x. good x ≡ true → m (b .one) ≤ m x in
+    let all = all-pairs least S S (b .best) in (
       b .one .ofMax,
       b .one .ofMin,
       record {
         value = solutionValue Max ν (b .one .ofMax) t;
         certifies = passed-certifies ν t (b .one .ofMax) (b .one .ofMin) (b .isGood);
         fewest = λ g h v c.
-            let x = like _ (nodes t) all g in
-            let y = like _ (nodes t) (x .1) h in
-            let e : Same g (x .0) t = λ k i. all-at _ (nodes t) (x .2) k (in-nodes k t i) in
-            let f : Same h (y .0) t = λ k i. all-at _ (nodes t) (y .2) k (in-nodes k t i) in
+            let x = like (λ g. All (λ h. least (record { ofMax = g; ofMin = h })) S) (nodes t) all g in
+            let y = like (λ h. least (record { ofMax = x .0; ofMin = h })) (nodes t) (x .1) h in
+            let e : Same g (x .0) t = λ k i. all-at (λ k. g k ≡ x .0 k) (nodes t) (x .2) k (in-nodes k t i) in
+            let f : Same h (y .0) t = λ k i. all-at (λ k. h k ≡ y .0 k) (nodes t) (y .2) k (in-nodes k t i) in
             let z = y .1 (certificate-like ν t g h (x .0) (y .0) e f (certificate-passes ν t g h v c)) in
-            rw (shared-same g h (x .0) (y .0) t e f) z;
+            rw (pairLeaves-same g h (x .0) (y .0) t e f) z;
       },
     )

@@ -1,19 +1,18 @@
 -- SSS* gives the same over two layouts that answer alike for the nodes of the tree.
 use Prim.Native.Nat.{ℕ, zero, suc, _*_, min}
-use mathlib.Core.Path.{_≡_, refl, _∙_, ap}
+use mathlib.Core.Path.{_≡_, refl, _∙_, ap, subst}
 use mathlib.Core.Logic.{inl, inr}
-use mathlib.Core.Bool.{Bool, true, false}
 use mathlib.Core.Option.{none, some}
 use mathlib.Core.List.{List, [], _∷_, _++_, map}
 use Rattle.gametree.specs.Lists.{All}
 use Rattle.gametree.specs.Tree.{Side, Max, Min, Tree, leaf, inner, Kids, last, _then_, number, size, In, InKids}
 use Rattle.gametree.specs.Layout.{Kind, tip, fork, Link, root, under, Layout, othersOf, Answers, AnswersKids}
 use Rattle.gametree.specs.Layout.{Describes, SameOn}
-use Rattle.gametree.specs.Sss.{Status, LIVE, SOLVED, State, live, solved, Taken, beats, choose, pick, Step}
-use Rattle.gametree.specs.Sss.{empty, stop, quiet, evaluating, put, purge, replaceLive, replaceSolved, replace}
-use Rattle.gametree.specs.Sss.{step, Ran, follow, runFrom, start, sssOver}
-use Rattle.gametree.proofs.Choice.{cond-cases}
+use Rattle.gametree.specs.Sss.{ListAfter, atStart, afterQuiet, afterEvaluating, Status, LIVE, SOLVED, State, live}
+use Rattle.gametree.specs.Sss.{solved, Taken, pick, Step, empty, stop, quiet, evaluating, put, purge, replaceLive}
+use Rattle.gametree.specs.Sss.{replaceSolved, replace, step, Ran, follow, runFrom, start, sssOver}
 use Rattle.gametree.proofs.Lists.{all-append, all-map}
+use Rattle.gametree.proofs.SssSteps.{OfTaken, pick-all, put-all, purge-all}
 use Rattle.gametree.proofs.Nodes.{number-in, first-in, others-in}
 
 -- what a kind and a place name are nodes of the tree
@@ -59,12 +58,12 @@ module _ (Z : Layout) (u : Tree) where
         links-in t (a .2) (λ k j. f k (inl j)) (rw (a .0) (h, f _ (inr (first-in ts)))) p i
     placesKids-in n s (t then ts) a h f p (inr i) = placesKids-in n s ts (a .3) h (λ k j. f k (inr j)) p i
 
--- all states of the list are of the tree's nodes
+-- the states of a list, of what is taken, of what a step leaves, are of the tree's nodes
 abbrev Within : Tree → List State → Type 0
 Within t L = All (λ s. In (s .node) t) L
 
 abbrev TakenIn : Tree → Taken → Type 0
-TakenIn t k = Within t (k .left) × In (k .state .node) t × Within t (k .right)
+TakenIn t k = OfTaken (λ s. In (s .node) t) k
 
 abbrev StepIn : Tree → Step → Type 0
 StepIn t empty = Unit
@@ -72,16 +71,9 @@ StepIn t (stop v) = Unit
 StepIn t (quiet M) = Within t M
 StepIn t (evaluating n M) = Within t M
 
-choose-in : (t : Tree) (b : Bool) (s : State) (ss : List State) (k : Taken) → In (s .node) t → Within t ss → TakenIn t k
-    → TakenIn t (choose b s ss k)
-choose-in t true s ss k h i j = (tt, h, i)
-choose-in t false s ss k h i j = ((h, j .0), j .1, j .2)
-
 module _ (Y Z : Layout) (t : Tree) (a : SameOn Y Z t) where
   pick-in : (s : State) (ss : List State) → In (s .node) t → Within t ss → TakenIn t (pick Z s ss)
-  pick-in s [] h i = (tt, h, tt)
-  pick-in s (x ∷ xs) h i =
-      choose-in t (beats Z s (pick Z x xs .state)) s (x ∷ xs) (pick Z x xs) h i (pick-in x xs (i .0) (i .1))
+  pick-in s ss h i = pick-all Z (λ s. In (s .node) t) s ss h i
 
   pick-alike : (s : State) (ss : List State) → In (s .node) t → Within t ss → pick Y s ss ≡ pick Z s ss
   pick-alike s [] h i = refl
@@ -95,35 +87,26 @@ module _ (Y Z : Layout) (t : Tree) (a : SameOn Y Z t) where
   purge-alike p h [] i = refl
   purge-alike p h (s ∷ ss) i = rw (purge-alike p h ss (i .1), a .aboves p (s .node) h (i .0)) refl
 
-purge-in : (Z : Layout) (t : Tree) (p : ℕ) (L : List State) → Within t L → Within t (purge Z p L)
-purge-in Z t p [] i = tt
-purge-in Z t p (s ∷ ss) i =
-    cond-cases (λ l. Within t l) (Z .above p (s .node)) _ _ (λ _. purge-in Z t p ss (i .1))
-    (λ _. (i .0, purge-in Z t p ss (i .1)))
-
 live-in : (t : Tree) (m : ℕ) (cs : List ℕ) → All (λ k. In k t) cs → Within t (map (λ n. live n m) cs)
 live-in t m [] h = tt
 live-in t m (c ∷ cs) h = (h .0, live-in t m cs (h .1))
 
-put-in : (t : Tree) (k : Taken) (new : List State) → TakenIn t k → Within t new → Within t (put k new)
-put-in t k new h i = all-append _ (k .left) (new ++ k .right) (h .0) (all-append _ new (k .right) i (h .2))
-
 put-one : (t : Tree) (k : Taken) (s : State) → TakenIn t k → In (s .node) t → Within t (put k (s ∷ []))
-put-one t k s h i = put-in t k (s ∷ []) h (i, tt)
+put-one t k s h i = put-all _ k (s ∷ []) h (i, tt)
 
 -- a replacement names nodes of the tree only
 live-step-in : (ν : ℕ → ℕ) (t : Tree) (k : Taken) (c : Kind) → TakenIn t k → KindIn c t → StepIn t (replaceLive ν k c)
 live-step-in ν t k tip h i = put-one t k (solved (k .state .node) (min (k .state .merit) (ν (k .state .node)))) h (h .1)
 live-step-in ν t k (fork Max c cs) h i =
-    put-in t k (map (λ n. live n (k .state .merit)) (c ∷ cs)) h (live-in t (k .state .merit) (c ∷ cs) i)
+    put-all _ k (map (λ n. live n (k .state .merit)) (c ∷ cs)) h (live-in t (k .state .merit) (c ∷ cs) i)
 live-step-in ν t k (fork Min c cs) h i = put-one t k (live c (k .state .merit)) h (i .0)
 
 parent-in : (Z : Layout) (t : Tree) (k : Taken) (p : ℕ) → TakenIn t k → In p t
     → Within t (purge Z p (k .left) ++ (solved p (k .state .merit) ∷ purge Z p (k .right)))
 parent-in Z t k p h i =
     all-append (λ s. In (s .node) t) (purge Z p (k .left)) (solved p (k .state .merit) ∷ purge Z p (k .right))
-    (purge-in Z t p (k .left) (h .0))
-    (i, purge-in Z t p (k .right) (h .2))
+    (purge-all Z p _ (k .left) (h .0))
+    (i, purge-all Z p _ (k .right) (h .2))
 
 solved-step-in : (Z : Layout) (t : Tree) (k : Taken) (c : Link) → TakenIn t k → LinkIn c t
     → StepIn t (replaceSolved Z k c)
@@ -169,6 +152,15 @@ module _ (ν : ℕ → ℕ) (Y Z : Layout) (t : Tree) (a : SameOn Y Z t) (d : De
       let r = replace-alike k (k .state .status) i in
       (ap (λ (x : Taken). replace ν Y x (x .state .status)) (pick-alike Y Z t a s ss (h .0) (h .1)) ∙ r .0, r .1)
 
+-- a step leaves states of the tree's nodes
+step-within : (ν : ℕ → ℕ) (Y : Layout) (t : Tree) → Describes Y t → (L : List State) → Within t L
+    → StepIn t (step ν Y L)
+step-within ν Y t d L h =
+    let a : SameOn Y Y t =
+    record { kinds = λ p i. refl; links = λ p i. refl; aboves = λ p q i j. refl; lefts = λ p q i j. refl } in
+    step-alike ν Y Y t a d L h .1
+
+-- what follows a step is the same
 follow-alike : (t : Tree) (x : Step) (f g : List State → Ran) → StepIn t x
     → ((M : List State) → Within t M → f M ≡ g M) → follow x f ≡ follow x g
 follow-alike t empty f g h e = refl
@@ -184,5 +176,13 @@ module _ (ν : ℕ → ℕ) (Y Z : Layout) (t : Tree) (a : SameOn Y Z t) (d : De
       ap (λ x. follow x (λ M. runFrom (λ M. step ν Y M) f M)) (s .0)
       ∙ follow-alike t (step ν Z L) _ _ (s .1) (λ M i. runFrom-alike f M i)
 
+  -- so SSS* is the same
   pub sss-alike : sssOver ν Y t ≡ sssOver ν Z t
   sss-alike = runFrom-alike (2 * size t) (start t) (number-in t, tt)
+
+-- so every list that SSS* reaches has states of the tree's nodes only
+pub list-within : (ν : ℕ → ℕ) (Y : Layout) (t : Tree) → Describes Y t → {k : ℕ} {w : List ℕ} {L : List State}
+    → ListAfter ν Y t k w L → All (λ s. In (s .node) t) L
+list-within ν Y t d atStart = (number-in t, tt)
+list-within ν Y t d (afterQuiet {L = L} r s) = subst (StepIn t) s (step-within ν Y t d L (list-within ν Y t d r))
+list-within ν Y t d (afterEvaluating {L = L} r s) = subst (StepIn t) s (step-within ν Y t d L (list-within ν Y t d r))

@@ -2,14 +2,18 @@
 use Prim.Native.Nat.{ℕ, suc, _+_, _*_, _≤_, _<_}
 use native.Mathlib.Omega.{arith}
 use mathlib.Core.Path.{_≡_, refl, sym, _∙_, ap, subst}
+use mathlib.Core.Option.{Option}
 use mathlib.Core.List.{List, [], _∷_, _++_, append-assoc}
 use lib.ListN.{length}
-use Rattle.gametree.specs.Tree.{Tree, size, Scored}
+use Rattle.gametree.specs.Tree.{Max, Tree, minimax, size, Scored}
 use Rattle.gametree.specs.Mtd.{mtd}
-use Rattle.gametree.specs.Layout.{Layout, Describes}
-use Rattle.gametree.specs.Sss.{State, empty, stop, quiet, evaluating, step, End, Ran, runFrom, start, sssOver}
-use Rattle.gametree.specs.Sss.{ListAfter, atStart, afterQuiet, afterEvaluating, resumed, stepFirst}
-use Rattle.gametree.proofs.SssSteps.{Takes, Steps, done, quietly, evaluates, room-of}
+use Rattle.gametree.specs.Layout.{under, Layout, Describes}
+use Rattle.gametree.specs.Sss.{SOLVED, Taken, Picks, Together, Step, takenMerit, State, empty, stop, quiet}
+use Rattle.gametree.specs.Sss.{evaluating, step, End, Ran, runFrom, start, sssOver, ListAfter, atStart}
+use Rattle.gametree.specs.Sss.{afterQuiet, afterEvaluating, resumed, stepFirst}
+use Rattle.gametree.proofs.SssSteps.{Takes, Steps, done, quietly, evaluates, picks-unique}
+use Rattle.gametree.proofs.MtdValue.{mtd-right}
+use Rattle.gametree.proofs.Merits.{steps-fall}
 use Rattle.gametree.proofs.Work.{full, full-size}
 use Rattle.gametree.proofs.SssRun.{root-stops, mtd-steps}
 
@@ -50,6 +54,7 @@ module _ (ν : ℕ → ℕ) (Y : Layout) (N : List State) (W : List ℕ) (A v : 
         few = omega arith;
       }
 
+  -- what is ahead of every list
   list-ahead : (t : Tree) → Steps ν Y A (start t) W N 0 → {k : ℕ} {w : List ℕ} {L : List State}
       → ListAfter ν Y t k w L → Ahead ν Y N W A k w L
   list-ahead t p atStart = record { left = A; toCome = W; steps = p; whole = refl; few = omega arith }
@@ -63,11 +68,11 @@ module _ (ν : ℕ → ℕ) (Y : Layout) (N : List State) (W : List ℕ) (A v : 
   ahead-state (quietly t l p) s = let z : _≡_ {A = ℕ} 0 1 = cc (t .by-tree) in omega arith
   ahead-state (evaluates t l p) s = let z : _≡_ {A = ℕ} 0 1 = cc (t .by-tree) in omega arith
 
-  -- the first state of greatest merit on it is the one taken
-  ahead-first : {a : ℕ} {u : List ℕ} {L : List State} → Steps ν Y a L u N 0 → stepFirst ν Y L ≡ step ν Y L
-  ahead-first (done o l) = e .by-list ∙ sym (e .by-tree)
-  ahead-first (quietly t l p) = t .by-list ∙ sym (t .by-tree)
-  ahead-first (evaluates t l p) = t .by-list ∙ sym (t .by-tree)
+  -- which one is known
+  ahead-takes : {a : ℕ} {u : List ℕ} {L : List State} → Steps ν Y a L u N 0 → (x : Step) × Takes ν Y L x
+  ahead-takes (done o l) = (stop v, e)
+  ahead-takes (quietly t l p) = (_, t)
+  ahead-takes (evaluates t l p) = (_, t)
 
 -- what holds of every list that SSS* reaches, with W the leaves of the whole run
 pub record Reaching (ν : ℕ → ℕ) (Y : Layout) (t : Tree) (W : List ℕ) (k : ℕ) (w : List ℕ)
@@ -78,24 +83,36 @@ pub record Reaching (ν : ℕ → ℕ) (Y : Layout) (t : Tree) (W : List ℕ) (k
   pub state : step ν Y L ≡ empty → ⊥
   -- the first state of greatest merit on it is the one taken
   pub first : stepFirst ν Y L ≡ step ν Y L
+  -- what a purge takes away stands together
+  pub together : (k : Taken) → Picks Y L k → k .state .status ≡ SOLVED → (p : ℕ) (b : Option ℕ)
+      → Y .link (k .state .node) ≡ under p Max b → Together Y p k
   -- fewer replacements than twice the number of nodes led to it
   pub few : k < 2 * size t
+  -- the state taken has no less merit than the tree has value
+  pub merit : minimax ν t ≤ takenMerit Y L
   -- the leaves so far are the first of the whole run's
   pub toCome : List ℕ
   pub whole : w ++ toCome ≡ W
 
 module _ (ν : ℕ → ℕ) (Y : Layout) (t : Tree) (d : Describes Y t) (h : Scored ν t) where
+  -- every list that SSS* reaches
   pub list-reached : {k : ℕ} {w : List ℕ} {L : List State} → ListAfter ν Y t k w L
       → Reaching ν Y t (mtd ν t .evaluated) k w L
-  list-reached r =
+  list-reached {L = L} r =
       let v = mtd ν t .value in
       let e = root-stops ν Y t v (d .top) (d .enough) in
       let a = list-ahead ν Y _ (mtd ν t .evaluated) (full t) v e t (mtd-steps ν Y t (d .answers) (d .enough) h) r in
+      let x = ahead-takes ν Y _ (mtd ν t .evaluated) (full t) v e (a .steps) .1 in
       record {
-        fits = room-of (a .steps);
+        fits = x .room;
         state = ahead-state ν Y _ (mtd ν t .evaluated) (full t) v e (a .steps);
-        first = ahead-first ν Y _ (mtd ν t .evaluated) (full t) v e (a .steps);
+        first = x .by-list ∙ sym (x .by-tree);
+        together = λ k q.
+            subst (λ j. j .state .status ≡ SOLVED → (p : ℕ) (b : Option ℕ)
+            → Y .link (j .state .node) ≡ under p Max b → Together Y p j)
+            (picks-unique Y L (x .taken) k (x .picks) q) (x .together);
         few = omega (arith, a .few, full-size t);
+        merit = rw (← mtd-right ν t h .value) (steps-fall ν Y (a .steps));
         toCome = a .toCome;
         whole = a .whole;
       }

@@ -1,38 +1,41 @@
--- SSS* from the LIVE root evaluates the leaves that MTD evaluates, in the same order, and ends with the minimax value.
+-- SSS* from the LIVE root evaluates the leaves that MTD evaluates, in the same order, and ends with the minimax value:
+-- step 8 of the argument that Simulation sets out, and what follows for the run.
 use Prim.Native.Nat.{ℕ, zero, suc, _+_, _*_, _≤_, _<_}
-use native.Mathlib.Nat.{le-refl, le-of-lt}
+use native.Mathlib.Nat.{le-refl}
 use native.Mathlib.Omega.{arith}
 use mathlib.Core.Path.{_≡_, refl, ap, subst}
 use mathlib.Core.Logic.{inl, inr}
 use mathlib.Core.List.{List, [], _∷_, append-nil}
-use Rattle.gametree.specs.Lists.{All}
 use Rattle.gametree.specs.Tree.{Tree, greatest, minimax, number, size, Scored}
 use Rattle.gametree.specs.Mtd.{Memo, memoHigh, pass, Run, run, fresh, mtd}
 use Rattle.gametree.specs.Layout.{root, Layout, Answers}
 use Rattle.gametree.specs.Sss.{SOLVED, State, live, solved, stop, step, finished, Ran, runFrom, sssOver}
 use Rattle.gametree.specs.Sss.{stepFirst, sssFirst}
 use Rattle.gametree.proofs.Choice.{cond-cases}
-use Rattle.gametree.proofs.Lists.{all-map}
 use Rattle.gametree.proofs.MtdSound.{Kept, sound}
 use Rattle.gametree.proofs.MtdValue.{kept-lower, fresh-kept, mtd-right}
 use Rattle.gametree.proofs.SssSteps.{Takes, Steps, done, quietly, evaluates, allow, chain}
-use Rattle.gametree.proofs.Frontier.{frontier, Fitted, states, frontier-high, next}
+use Rattle.gametree.proofs.Frontier.{AtMost, frontier, Fitted, states, next, next-high}
 use Rattle.gametree.proofs.Work.{full, part, work, full-size}
-use Rattle.gametree.proofs.Simulation.{Around, takes, sim}
+use Rattle.gametree.proofs.Simulation.{sim}
+use Rattle.gametree.proofs.Around.{AroundTree, takes}
 
 -- a list that holds the tree's states and nothing else
-alone : (Y : Layout) (γ : ℕ) (t : Tree) → size t ≤ Y .nodes → Around Y γ t [] []
-alone Y γ t h = record { left = tt; right = tt; clear-left = tt; clear-right = tt; after = tt; room = omega arith }
+alone : (Y : Layout) (γ : ℕ) (t : Tree) → size t ≤ Y .nodes → AroundTree Y γ t [] []
+alone Y γ t h =
+    record { less = tt; noMore = tt; behind = tt; clearLeft = tt; clearRight = tt; room = omega arith }
 
--- a run of MTD is a run of SSS*
-pub run-steps : (ν : ℕ → ℕ) (Y : Layout) (f γ : ℕ) (t : Tree) (m : Memo t) (w : Fitted t m) → Answers Y t
+-- STEP 8. THE NEXT TEST IS THE ROOT'S HIGH
+
+-- the passes of MTD, one after the other, are a run of SSS*: the high that a pass leaves bounds the frontier again
+run-steps : (ν : ℕ → ℕ) (Y : Layout) (f γ : ℕ) (t : Tree) (m : Memo t) (w : Fitted t m) → Answers Y t
     → size t ≤ Y .nodes → Scored ν t → Kept ν γ t m → γ ≤ greatest
-    → All (λ s. s .merit ≤ γ) (states ν γ t m w) → γ < f
+    → AtMost γ (states ν γ t m w) → γ < f
     → Steps ν Y (work t m w) (states ν γ t m w) (run ν f γ t m .evaluated)
     (solved (number t) (run ν f γ t m .value) ∷ []) 0
 run-steps ν Y zero γ t m w p z h k g b l = absurd (omega (arith, l))
 run-steps ν Y (suc f) γ t m w p z h k g b l =
-    let S = sim ν Y γ t m w p h k g b [] [] (alone Y γ t z) in
+    let S = sim ν Y γ g t m w p h k b [] [] (alone Y γ t z) in
     let n = pass ν γ t m .next in
     let F = states ν γ t m w in
     let more : work t m w + 0 ≤ work t m w = omega arith in
@@ -42,14 +45,13 @@ run-steps ν Y (suc f) γ t m w p z h k g b l =
     (λ e.
     let s = sound ν γ t m h k in
     let d = s .below e in
-    let N = next ν γ t m w h k g b e in
-    let c =
-    frontier-high ν γ t n h (s .kept) g (N .0)
-    (all-map _ (λ x. x .merit ≤ γ) (λ x y. le-of-lt y) (frontier ν t n) (N .1)) in
+    let N = next ν γ g t m w h k b e in
     let enough : part t n ≤ part t n + 0 = omega arith in
     chain (allow more (rw (append-nil F, append-nil (frontier ν t n)) at (S .below 0 e))) enough
     (run-steps ν Y f (memoHigh ν t n) t n (inr (N .0)) p z h (kept-lower ν t n (omega arith) (s .kept))
-    (omega arith) c (omega arith)))
+    (omega arith) (next-high ν γ g t m w h k b e) (omega arith)))
+
+-- THE RUN
 
 -- what a run gives that ends with v, evaluates the leaves w, and makes at most a replacements
 pub record Gives (r : Ran) (v : ℕ) (w : List ℕ) (a : ℕ) : Type 0 where
@@ -59,7 +61,7 @@ pub record Gives (r : Ran) (v : ℕ) (w : List ℕ) (a : ℕ) : Type 0 where
 
 module _ (ν : ℕ → ℕ) (Y : Layout) (v : ℕ) where
   -- the run follows the steps
-  pub go-steps : (f : ℕ) {a b : ℕ} {L N : List State} {w : List ℕ} → Steps ν Y a L w N b → Takes ν Y N (stop v)
+  go-steps : (f : ℕ) {a b : ℕ} {L N : List State} {w : List ℕ} → Steps ν Y a L w N b → Takes ν Y N (stop v)
       → a < f → Gives (runFrom (λ L. step ν Y L) f L) v w a
   go-steps zero s e l = absurd (omega (arith, l))
   go-steps (suc f) (done o k) e l =
@@ -76,7 +78,7 @@ module _ (ν : ℕ → ℕ) (Y : Layout) (v : ℕ) where
       })
 
   -- and taking the first on the list is the same
-  pub go-first : (f : ℕ) {a b : ℕ} {L N : List State} {w : List ℕ} → Steps ν Y a L w N b → Takes ν Y N (stop v) → a < f
+  go-first : (f : ℕ) {a b : ℕ} {L N : List State} {w : List ℕ} → Steps ν Y a L w N b → Takes ν Y N (stop v) → a < f
       → runFrom (λ L. step ν Y L) f L ≡ runFrom (λ L. stepFirst ν Y L) f L
   go-first zero s e l = absurd (omega (arith, l))
   go-first (suc f) (done o k) e l = rw (e .by-tree, e .by-list) refl
@@ -92,7 +94,9 @@ module _ (ν : ℕ → ℕ) (Y : Layout) (v : ℕ) where
 -- the root, SOLVED, stops the run
 pub root-stops : (ν : ℕ → ℕ) (Y : Layout) (t : Tree) (v : ℕ) → Y .link (number t) ≡ root → size t ≤ Y .nodes
     → Takes ν Y (solved (number t) v ∷ []) (stop v)
-root-stops ν Y t v o z = takes ν Y v t [] [] (alone Y v t z) SOLVED (stop v) (rw o refl)
+root-stops ν Y t v o z =
+    takes ν Y v t [] [] (alone Y v t z) SOLVED (stop v) (rw o refl)
+    (λ _ p b e. absurd (let x : _≡_ {A = ℕ} 0 1 = cc in omega arith))
 
 -- from the LIVE root MTD's leaves are evaluated
 pub mtd-steps : (ν : ℕ → ℕ) (Y : Layout) (t : Tree) → Answers Y t → size t ≤ Y .nodes → Scored ν t

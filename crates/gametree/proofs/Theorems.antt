@@ -1,11 +1,12 @@
--- The theorems for use, on regular trees: distinct node numbers and real scores. Each says in one sentence what it
--- gives.
-use Prim.Native.Nat.{ℕ, suc, _+_, _*_, _≤_, _<_, suc-le-suc}
-use native.Mathlib.Nat.{le-refl, le-trans, lt-of-le-of-lt}
+-- The theorems for use, on proper trees: distinct node numbers and real scores. Each says in one sentence what it
+-- gives. Sections: bounds, alpha-beta, MTD, SSS*, certificates, the three searches together, locality.
+use Prim.Native.Nat.{ℕ, suc, _+_, _*_, _≤_, _<_}
+use native.Mathlib.Nat.{lt-of-le-of-lt}
 use native.Mathlib.Omega.{arith}
 use mathlib.Core.Path.{_≡_, refl, sym, _∙_, ap, ap₂, subst}
 use mathlib.Core.Logic.{_↔_}
 use mathlib.Core.Bool.{Bool, true, false, cond}
+use mathlib.Core.Option.{Option}
 use mathlib.Core.List.{List, [], _++_, map}
 use lib.ListN.{length}
 use Rattle.gametree.specs.Lists.{All, among, Once, Subsequence, different}
@@ -13,40 +14,41 @@ use Rattle.gametree.specs.Tree.{Side, Max, Min, Tree, leaf, inner, Kids,
 use Rattle.gametree.specs.Tree.{leafCount, In, EveryLeaf, Score, Scored, Distinct, Proper}
 use Rattle.gametree.specs.Bounds.{known, low, high, bestOf, Decided}
 use Rattle.gametree.specs.AlphaBeta.{reached, clamp, alphaBeta, fullWindow}
-use Rattle.gametree.specs.Mtd.{Memo, memoHigh, pass, run, fresh, mtd, Marks}
-use Rattle.gametree.specs.Layout.{Layout, Describes, SameOn, layoutOf}
-use Rattle.gametree.specs.Sss.{State, empty, step, finished, runFrom, start, sssOver, ListAfter, resumed}
-use Rattle.gametree.specs.Sss.{stepFirst, sssFirst}
-use Rattle.gametree.specs.Certificate.{Rule, SolutionTree, solutionValue, Certifies, pairLeaves, inside}
-use Rattle.gametree.specs.Certificate.{chosen, ReadOff, fill, flag, Smallest, FlagsCertify}
+use Rattle.gametree.specs.Mtd.{Memo, memoHigh, pass, fresh, mtd, Marks}
+use Rattle.gametree.specs.Layout.{under, Layout, Describes, SameOn, layoutOf}
+use Rattle.gametree.specs.Sss.{SOLVED, Taken, Picks, Together, takenMerit, State, empty, step, finished, runFrom}
+use Rattle.gametree.specs.Sss.{start, sssOver, ListAfter, resumed, stepFirst, sssFirst}
+use Rattle.gametree.specs.Certificate.{Rule, SolutionTree, solutionValue, Certifies, pairLeaves, inside, chosen}
+use Rattle.gametree.specs.Certificate.{ReadOff, fill, flag, Smallest, FlagsCertify}
 use Rattle.gametree.specs.Counting.{members, required, certificate?}
-use Rattle.gametree.specs.Move.{rootMove, boundMove, EldersBelow}
+use Rattle.gametree.specs.Move.{rootMove, boundMove}
 use Rattle.gametree.specs.Searches.{Searched, byAlphaBeta, byMtd, bySss, SameResults}
 use Rattle.gametree.specs.ClosedForm.{unrivalled}
 use Rattle.gametree.proofs.Lists.{all-map, all-among, all-at, once-length, sub-all, sub-once}
 use Rattle.gametree.proofs.Nodes.{leaves-once}
 use Rattle.gametree.proofs.Bounds.{minimax-score, low≤, ≤high, low-mono, high-mono, minimaxKids-best}
 use Rattle.gametree.proofs.Bounds.{known-local}
-use Rattle.gametree.proofs.AlphaBetaValue.{alphaBeta-value, alphaBeta-evaluated, reached-ordered}
-use Rattle.gametree.proofs.AlphaBetaLocal.{alphaBeta-local, known-exact}
-use Rattle.gametree.proofs.MtdValue.{fresh-kept, mtd-right}
-use Rattle.gametree.proofs.MtdMarks.{pass-marks, fresh-marks, mtd-marks, memoHigh-is, memoLow-is}
-use Rattle.gametree.proofs.MtdPasses.{how-many-different, run-passes}
+use Rattle.gametree.proofs.Window.{alphaBeta-value, alphaBeta-evaluated, reached-ordered, alphaBeta-local}
+use Rattle.gametree.proofs.Window.{alphaBeta-decided}
+use Rattle.gametree.proofs.MtdValue.{mtd-right}
+use Rattle.gametree.proofs.MtdMarks.{pass-marks, fresh-marks, mtd-marks, memoBound-is}
+use Rattle.gametree.proofs.MtdPasses.{passes-few}
 use Rattle.gametree.proofs.MtdLocal.{run-local, fresh-agree}
 use Rattle.gametree.proofs.Work.{full-size}
 use Rattle.gametree.proofs.SssRun.{sss-is-mtd, sss-is-first}
+use Rattle.gametree.proofs.Merits.{list-unique, run-falls, merits-capped, first-merit}
 use Rattle.gametree.proofs.SssLists.{list-reached, resume}
 use Rattle.gametree.proofs.SssLocal.{runFrom-local}
 use Rattle.gametree.proofs.OwnLayout.{own-layout}
-use Rattle.gametree.proofs.SssLayouts.{sss-alike}
-use Rattle.gametree.proofs.Solution.{under-refl, solution-bound, certified, rule-counted, counted-rule}
+use Rattle.gametree.proofs.SssLayouts.{sss-alike, list-within}
+use Rattle.gametree.proofs.Solution.{solution-bound, certified, rule-counted, counted-rule}
 use Rattle.gametree.proofs.Checker.{certificate-passes, passed-certifies}
 use Rattle.gametree.proofs.ReadOff.{fits, read-unique}
 use Rattle.gametree.proofs.Certificates.{flag-inside, decided-certify}
 use Rattle.gametree.proofs.Counts.{once-count}
 use Rattle.gametree.proofs.SmallestPair.{smallest≤, smallest-found}
-use Rattle.gametree.proofs.Moves.{move-same, alphaBeta-shown, boundMove-local}
-use Rattle.gametree.proofs.MtdMoves.{mtdMax-decides, max-elders, mtd-move}
+use Rattle.gametree.proofs.Moves.{alphaBeta-move, boundMove-local}
+use Rattle.gametree.proofs.MtdMoves.{mtd-decided, mtd-move}
 use Rattle.gametree.proofs.Domination.{mtd-reaches}
 use Rattle.gametree.proofs.ClosedForm.{mtd-unrivalled}
 
@@ -88,30 +90,32 @@ pub alphaBeta-window : (ν : ℕ → ℕ) (α β : ℕ) → α < β → (t : Tre
     → (alphaBeta ν α β t .value ≡ clamp α β (minimax ν t)) × (alphaBeta ν α β t .evaluated ≡ reached ν α β t)
 alphaBeta-window ν α β o t = (alphaBeta-value ν α β o t, alphaBeta-evaluated ν α β o t)
 
+-- with the full window it evaluates just the leaves whose alpha is less than their beta
+pub alphaBeta-leaves : (ν : ℕ → ℕ) (t : Tree) → fullWindow ν t .evaluated ≡ reached ν least greatest t
+alphaBeta-leaves ν t = alphaBeta-evaluated ν least greatest (omega arith) t
+
 -- its list is in left-to-right order
 pub alphaBeta-ordered : (ν : ℕ → ℕ) (t : Tree) → Subsequence (fullWindow ν t .evaluated) (leaves t)
-alphaBeta-ordered ν t = rw (alphaBeta-evaluated ν least greatest (omega arith) t) (reached-ordered ν least greatest t)
+alphaBeta-ordered ν t = rw (alphaBeta-leaves ν t) (reached-ordered ν least greatest t)
 
 -- MTD
 
--- the memory marks the leaves evaluated so far: none at the start, and after a pass those of the pass too
+-- the memory marks the leaves evaluated so far: none at the start
 pub memo-start : (t : Tree) → Marks [] t (fresh t)
 memo-start t = fresh-marks t
 
+-- and after a pass those of the pass too
 pub memo-pass : (ν : ℕ → ℕ) (γ : ℕ) (w : List ℕ) (t : Tree) (m : Memo t) → Distinct t → Marks w t m
     → Marks (w ++ pass ν γ t m .evaluated) t (pass ν γ t m .next)
 memo-pass ν γ w t m d h = pass-marks ν γ w t m d h .marks
 
 -- the high that the memory gives a node is the high bound of those leaves
 pub memo-high : (ν : ℕ → ℕ) (w : List ℕ) (t : Tree) (m : Memo t) → Marks w t m → memoHigh ν t m ≡ high ν (among w) t
-memo-high ν w t m h = memoHigh-is ν w t m h
+memo-high ν w t m h = memoBound-is greatest ν w t m h
 
 -- MTD makes at most one pass more than there are different scores among the leaves that it evaluates
 pub mtd-passes : (ν : ℕ → ℕ) (t : Tree) → Proper ν t → mtd ν t .passes ≤ suc (different (map ν (mtd ν t .evaluated)))
-unfolding mtd
-mtd-passes ν t h =
-    le-trans (run-passes ν 64003 greatest [] t (fresh t) h (fresh-kept ν greatest t) (fresh-marks t) (le-refl greatest))
-    (suc-le-suc (how-many-different (map ν (run ν 64003 greatest t (fresh t) .evaluated)) greatest))
+mtd-passes ν t h = passes-few ν t h
 
 -- SSS*
 
@@ -145,7 +149,15 @@ module _ (ν : ℕ → ℕ) (t : Tree) (h : Scored ν t) (Y : Layout) (d : Descr
     pub list-fits : length L ≤ Y .nodes
     list-fits = list-reached ν Y t d h r .fits
 
-    -- and holds a state
+    -- its states are of nodes of the tree
+    pub list-nodes : All (λ s. In (s .node) t) L
+    list-nodes = list-within ν Y t d r
+
+    -- and have merits of at most `greatest`
+    pub list-merits : All (λ s. s .merit ≤ greatest) L
+    list-merits = merits-capped ν Y t L r
+
+    -- it holds a state
     pub list-state : step ν Y L ≡ empty → ⊥
     list-state = list-reached ν Y t d h r .state
 
@@ -153,9 +165,22 @@ module _ (ν : ℕ → ℕ) (t : Tree) (h : Scored ν t) (Y : Layout) (d : Descr
     pub list-first : stepFirst ν Y L ≡ step ν Y L
     list-first = list-reached ν Y t d h r .first
 
+    -- the states that a SOLVED child of a Max node purges are the last before it and the first behind it
+    pub list-purge : (k : Taken) → Picks Y L k → k .state .status ≡ SOLVED → (p : ℕ) (b : Option ℕ)
+        → Y .link (k .state .node) ≡ under p Max b → Together Y p k
+    list-purge = list-reached ν Y t d h r .together
+
     -- fewer replacements than twice the number of nodes led to it
     pub list-few : k < 2 * size t
     list-few = list-reached ν Y t d h r .few
+
+    -- the merit of the state taken from it is not below the minimax value
+    pub merit-bound : minimax ν t ≤ takenMerit Y L
+    merit-bound = list-reached ν Y t d h r .merit
+
+    -- and is `greatest` until a leaf is evaluated
+    pub merit-start : length w ≡ 0 → takenMerit Y L ≡ greatest
+    merit-start e = first-merit ν Y t L r e list-state
 
     -- the leaves so far are the first of the whole run's list
     pub list-prefix : (u : List ℕ) × (w ++ u ≡ sssOver ν Y t .evaluated)
@@ -164,6 +189,16 @@ module _ (ν : ℕ → ℕ) (t : Tree) (h : Scored ν t) (Y : Layout) (d : Descr
     -- and the run goes on from it, for what is left of the bound on states taken
     pub list-resumes : (f : ℕ) → k + f ≡ 2 * size t → sssOver ν Y t ≡ resumed k w (runFrom (λ M. step ν Y M) f L)
     list-resumes f e = resume ν Y t r f e
+
+-- the list after a number of replacements is determined, and so are the leaves that they evaluated
+pub list-determined : (ν : ℕ → ℕ) (Y : Layout) (t : Tree) {k : ℕ} {w v : List ℕ} {L M : List State}
+    → ListAfter ν Y t k w L → ListAfter ν Y t k v M → (w ≡ v) × (L ≡ M)
+list-determined ν Y t r q = list-unique ν Y t r q
+
+-- the merit of the state taken never rises along a run
+pub merit-falls : (ν : ℕ → ℕ) (Y : Layout) (t : Tree) {k j : ℕ} {w v : List ℕ} {L M : List State}
+    → ListAfter ν Y t k w L → ListAfter ν Y t j v M → k ≤ j → takenMerit Y M ≤ takenMerit Y L
+merit-falls ν Y t r q h = run-falls ν Y t r q h
 
 -- CERTIFICATES
 
@@ -214,38 +249,25 @@ module _ (ν : ℕ → ℕ) (t : Tree) (r : Proper ν t) where
   pub mtd-minimax : mtd ν t .value ≡ minimax ν t
   mtd-minimax = mtd-right ν t (r .scored) .value
 
-  alphaBeta-decided : Decided ν (among (fullWindow ν t .evaluated)) t
-  alphaBeta-decided =
-      let E = among (fullWindow ν t .evaluated) in
-      let s = minimax-score ν t (r .scored) in
-      let c = all-among (fullWindow ν t .evaluated) in
-      record {
-        lowIs = known-exact ν E least greatest least t c (s .0) (s .1);
-        highIs = known-exact ν E least greatest greatest t c (s .0) (s .1);
-      }
-
-  mtd-decided : Decided ν (among (mtd ν t .evaluated)) t
-  mtd-decided =
-      let m = mtd-marks ν t (r .distinct) .marks in
-      let b = mtd-right ν t (r .scored) in
-      record {
-        lowIs = sym (memoLow-is ν (mtd ν t .evaluated) t (mtd ν t .memo) m) ∙ b .low-is;
-        highIs = sym (memoHigh-is ν (mtd ν t .evaluated) t (mtd ν t .memo) m) ∙ b .high-is;
-      }
-
   -- what holds of MTD's leaves holds of those of SSS*
   as-mtd : (P : List ℕ → Type 0) (Y : Layout) → Describes Y t → P (mtd ν t .evaluated) → P (sssOver ν Y t .evaluated)
   as-mtd P Y d x = subst P (sym (sss-mtd ν t (r .scored) Y d)) x
 
   -- the bounds of the leaves that a search evaluates meet at the minimax value
   pub search-decides : {w : List ℕ} → Searched ν t w → Decided ν (among w) t
-  search-decides byAlphaBeta = alphaBeta-decided
-  search-decides byMtd = mtd-decided
-  search-decides (bySss Y d) = as-mtd (λ w. Decided ν (among w) t) Y d mtd-decided
+  search-decides byAlphaBeta = alphaBeta-decided ν t (r .scored)
+  search-decides byMtd = mtd-decided ν t r
+  search-decides (bySss Y d) = as-mtd (λ w. Decided ν (among w) t) Y d (mtd-decided ν t r)
 
   -- the flags read off them are a certificate of that value, made of evaluated leaves only
   pub search-certifies : {w : List ℕ} → Searched ν t w → FlagsCertify ν (among w) t
   search-certifies s = decided-certify ν _ t r (search-decides s)
+
+  -- the move: the first child of the root that they prove to have the root's value is the first that has it
+  pub search-move : {w : List ℕ} → Searched ν t w → boundMove ν (among w) t ≡ rootMove ν t
+  search-move byAlphaBeta = alphaBeta-move ν t (r .scored)
+  search-move byMtd = mtd-move ν t r
+  search-move (bySss Y d) = as-mtd (λ w. boundMove ν (among w) t ≡ rootMove ν t) Y d (mtd-move ν t r)
 
   -- no leaf is evaluated twice
   pub search-once : {w : List ℕ} → Searched ν t w → Once w
@@ -256,10 +278,10 @@ module _ (ν : ℕ → ℕ) (t : Tree) (r : Proper ν t) where
   -- domination: every leaf that a search evaluates is one that alpha-beta evaluates
   pub domination : {w : List ℕ} → Searched ν t w → All (λ k. among (fullWindow ν t .evaluated) k ≡ true) w
   domination byAlphaBeta = all-among (fullWindow ν t .evaluated)
-  domination byMtd = rw (alphaBeta-evaluated ν least greatest (omega arith) t) (mtd-reaches ν t (r .scored))
+  domination byMtd = rw (alphaBeta-leaves ν t) (mtd-reaches ν t (r .scored))
   domination (bySss Y d) =
       as-mtd (λ w. All (λ k. among (fullWindow ν t .evaluated) k ≡ true) w) Y d
-      (rw (alphaBeta-evaluated ν least greatest (omega arith) t) (mtd-reaches ν t (r .scored)))
+      (rw (alphaBeta-leaves ν t) (mtd-reaches ν t (r .scored)))
 
   -- so no search evaluates more leaves than alpha-beta
   pub domination-count : {w : List ℕ} → Searched ν t w → length w ≤ length (fullWindow ν t .evaluated)
@@ -280,45 +302,16 @@ module _ (ν : ℕ → ℕ) (t : Tree) (r : Proper ν t) where
       → pairLeaves g h t ≤ length w
   search-smallest g h m {w} s = smallest≤ ν t g h w r m (search-certifies s)
 
-  -- the closed form: MTD, and so SSS*, evaluates a leaf exactly if its alpha is less than its beta and no rival exceeds
+  -- the closed form: MTD evaluates a leaf exactly if its alpha is less than its beta and no rival exceeds
   -- its beta
   pub closed-form-mtd : EveryLeaf (λ n. among (mtd ν t .evaluated) n ≡ among (unrivalled ν least greatest least t) n) t
   closed-form-mtd = mtd-unrivalled ν t r
 
+  -- so does SSS*
   pub closed-form-sss : (Y : Layout) → Describes Y t
       → EveryLeaf (λ n. among (sssOver ν Y t .evaluated) n ≡ among (unrivalled ν least greatest least t) n) t
   closed-form-sss Y d =
       as-mtd (λ w. EveryLeaf (λ n. among w n ≡ among (unrivalled ν least greatest least t) n) t) Y d closed-form-mtd
-
--- the move: the first child of the root that the bounds of a search's leaves prove to have the root's value is the
--- first that has it
-pub search-move : (ν : ℕ → ℕ) (t : Tree) → Proper ν t → {w : List ℕ} → Searched ν t w
-    → boundMove ν (among w) t ≡ rootMove ν t
-search-move ν (leaf n) r s = refl
-search-move ν (inner n p ks) r byAlphaBeta =
-    let t = inner n p ks in
-    let v = minimax-score ν t (r .scored) in
-    move-same ν _ n p ks (r .scored) (alphaBeta-decided ν t r)
-    (alphaBeta-shown ν _ p least greatest _ _ ks (v .0) (v .1) (under-refl p _) (all-among (fullWindow ν t .evaluated)))
-search-move ν (inner n p ks) r byMtd = mtd-move ν n p ks r (mtd-decided ν (inner n p ks) r)
-search-move ν (inner n p ks) r (bySss Y d) =
-    as-mtd ν (inner n p ks) r (λ w. boundMove ν (among w) (inner n p ks) ≡ rootMove ν (inner n p ks)) Y d
-    (mtd-move ν n p ks r (mtd-decided ν (inner n p ks) r))
-
--- under a Max root MTD, and so SSS*, leaves the elder brothers of the move with highs below the value
-pub mtd-elders : (ν : ℕ → ℕ) (n : ℕ) (ks : Kids) → Proper ν (inner n Max ks)
-    → EldersBelow ν (among (mtd ν (inner n Max ks) .evaluated)) (minimax ν (inner n Max ks)) ks
-mtd-elders ν n ks r =
-    let t = inner n Max ks in
-    let d = rw (mtd-right ν t (r .scored) .value) at (mtdMax-decides ν n ks (r .scored)) in
-    max-elders ν (mtd ν t .evaluated) _ ks (mtd ν t .memo .kids) (mtd-marks ν t (r .distinct) .marks) d
-
-pub sss-elders : (ν : ℕ → ℕ) (n : ℕ) (ks : Kids) → Proper ν (inner n Max ks) → (Y : Layout)
-    → Describes Y (inner n Max ks)
-    → EldersBelow ν (among (sssOver ν Y (inner n Max ks) .evaluated)) (minimax ν (inner n Max ks)) ks
-sss-elders ν n ks r Y d =
-    let t = inner n Max ks in
-    as-mtd ν t r (λ w. EldersBelow ν (among w) (minimax ν t) ks) Y d (mtd-elders ν n ks r)
 
 -- LOCALITY
 

@@ -1,12 +1,12 @@
--- Certificates (the papers' proofs): a max and a min solution tree of equal value, as sets of nodes and as flags, and
--- the one read off the bounds.
+-- Certificates (document 01 calls a certificate a proof): a max and a min solution tree of equal value, as sets of
+-- nodes and as flags, and the one read off the bounds.
 use Prim.Native.Nat.{ℕ, _+_, _≤_}
 use mathlib.Core.Path.{_≡_}
 use mathlib.Core.Logic.{_⊎_}
 use mathlib.Core.Bool.{Bool, true, false, cond, not, _&&_, _||_}
 use lib.Dec.{eqb}
-use Rattle.gametree.specs.Tree.{Side, Max, Min, Tree, leaf, inner, Kids, last, _then_}
-use Rattle.gametree.specs.Tree.{least, greatest, better, minimax, minimaxKids, number, EveryLeaf}
+use Rattle.gametree.specs.Tree.{Side, Max, Min, Tree, leaf, inner, Kids, last, _then_, least, greatest, better}
+use Rattle.gametree.specs.Tree.{minimax, minimaxKids, number, EveryLeaf}
 use Rattle.gametree.specs.Bounds.{known}
 
 -- each child, no child, exactly one child is in the set g
@@ -41,7 +41,8 @@ abbrev mutual
   RulesKids p g (last t) = Rules p g t
   RulesKids p g (t then ts) = Rules p g t × RulesKids p g ts
 
--- the set g is a solution tree of side p: a max tree for Max, a min tree for Min
+-- the set g is a solution tree of side p (01: a max tree for Max, a min tree for Min; definition 2.1 of source 000):
+-- the root is in it, and the rule holds at each inner node
 abbrev pub SolutionTree : Side → (ℕ → Bool) → Tree → Type 0
 SolutionTree p g t = (g (number t) ≡ true) × Rules p g t
 
@@ -50,7 +51,8 @@ abbrev pub worst : Side → ℕ
 worst Max = least
 worst Min = greatest
 
--- the value of side p's solution tree g: the greatest score of its leaves for Max, the least for Min
+-- the value of side p's solution tree g: the greatest score of its leaves for Max, the least for Min (definition 2.2 of
+-- source 000)
 abbrev mutual
   pub solutionValue : Side → (ℕ → ℕ) → (ℕ → Bool) → Tree → ℕ
   solutionValue p ν g (leaf n) = cond (g n) (ν n) (worst p)
@@ -77,11 +79,12 @@ abbrev mutual
   pairLeavesKids g h (last t) = pairLeaves g h t
   pairLeavesKids g h (t then ts) = pairLeaves g h t + pairLeavesKids g h ts
 
--- a flag as the membership in a side's tree: 1 in the max tree, 2 in the min tree, 3 in both
+-- a flag (01: flag) as the membership in a side's tree: 1 in the max tree, 2 in the min tree, 3 in both, 0 in neither
 abbrev pub inside : Side → ℕ → Bool
 inside Max f = eqb f 1 || eqb f 3
 inside Min f = eqb f 2 || eqb f 3
 
+-- are two sides the same
 abbrev pub same : Side → Side → Bool
 same Max Max = true
 same Max Min = false
@@ -127,6 +130,7 @@ abbrev pub fill : Side → ℕ
 fill Max = greatest
 fill Min = least
 
+-- side p's solution tree as the evaluated leaves E give it
 abbrev pub solutionOf : Side → (ℕ → ℕ) → (ℕ → Bool) → Tree → ℕ → Bool
 solutionOf p ν E t k = chosen p (known ν E (fill p)) true t k
 

@@ -7,7 +7,7 @@ use mathlib.Core.List.{List, [], _∷_}
 use lib.Dec.{eqb}
 use Rattle.gametree.specs.Tree.{Side, Tree, leaf, inner, Kids, last, _then_, number, size, In, InKids}
 
--- a leaf (tip), or an inner node with its side, its first child and its other children
+-- a leaf (tip), or an inner node (fork) with its side, its first child and its other children
 pub data Kind : Type 0 where
   tip : Kind
   fork : (side : Side) (first : ℕ) (others : List ℕ) → Kind
@@ -17,8 +17,8 @@ pub data Link : Type 0 where
   root : Link
   under : (parent : ℕ) (side : Side) (next : Option ℕ) → Link
 
--- the number of nodes, each node's kind and place, whether the first of two nodes is above the second (its ancestor),
--- and whether it is left of it
+-- the number of nodes, each node's kind and its link to its parent, whether the first of two nodes is above the second
+-- (its ancestor), and whether it is left of it (in the subtree of an elder brother of a node on the other's path)
 pub record Layout : Type 0 where
   pub nodes : ℕ
   pub kind : ℕ → Kind
@@ -87,7 +87,7 @@ abbrev mutual
   kindInKids p (last t) = kindIn p t
   kindInKids p (t then ts) = cond (has p t) (kindIn p t) (kindInKids p ts)
 
--- its place, the tree's own node being the root
+-- its link, the tree's own node being the root
 abbrev mutual
   pub linkIn : ℕ → Tree → Link
   linkIn p (leaf n) = root

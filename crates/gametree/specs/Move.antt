@@ -1,7 +1,6 @@
--- The move: the first child of the root with the root's value, by the minimax values, and by the bounds of a set of
--- evaluated leaves.
-use Prim.Native.Nat.{ℕ, _≤_, _<_}
-use mathlib.Core.Logic.{_⊎_}
+-- The root move (01: the move): the first child of the root with the root's value, by the minimax values, and by the
+-- bounds of a set of evaluated leaves.
+use Prim.Native.Nat.{ℕ}
 use mathlib.Core.Bool.{Bool, cond}
 use lib.Dec.{eqb}
 use Rattle.gametree.specs.Tree.{Max, Min, Tree, leaf, inner, Kids, last, _then_, minimax, number}
@@ -22,8 +21,3 @@ abbrev pub boundMove : (ℕ → ℕ) → (ℕ → Bool) → Tree → ℕ
 boundMove ν E (leaf n) = 0
 boundMove ν E (inner n Max ks) = firstWith (low ν E) (low ν E (inner n Max ks)) ks
 boundMove ν E (inner n Min ks) = firstWith (high ν E) (high ν E (inner n Min ks)) ks
-
--- the children of a Max root up to the first whose low reaches v have their highs below v
-abbrev pub EldersBelow : (ℕ → ℕ) → (ℕ → Bool) → ℕ → Kids → Type 0
-EldersBelow ν E v (last t) = v ≤ low ν E t
-EldersBelow ν E v (t then ts) = (v ≤ low ν E t) ⊎ ((high ν E t < v) × EldersBelow ν E v ts)

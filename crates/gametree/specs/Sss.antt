@@ -1,14 +1,16 @@
--- SSS*: its states, its list, one replacement, and the run, over a layout of the tree.
+-- SSS*: its states, its list, one replacement, and the run, over a layout of the tree. State, LIVE, SOLVED, merit and
+-- replacement are document 01's words, and Stockman's (source 002).
 use Prim.Native.Nat.{ℕ, zero, suc, _+_, _*_, min}
 use mathlib.Core.Path.{_≡_}
 use mathlib.Core.Bool.{Bool, true, false, cond, _||_, _&&_}
 use mathlib.Core.Option.{none, some}
 use mathlib.Core.List.{List, [], _∷_, _++_, map}
 use lib.Dec.{leb, ltb, eqb}
+use Rattle.gametree.specs.Lists.{All}
 use Rattle.gametree.specs.Tree.{Max, Min, Tree, greatest, number, size}
 use Rattle.gametree.specs.Layout.{Layout, Kind, tip, fork, Link, root, under, layoutOf}
 
--- a state: a node, its status, and its merit, an upper bound of the value (Stockman's words)
+-- a state: a node, its status, and its merit, an upper bound of the root's value
 pub data Status : Type 0 where
   LIVE SOLVED : Status
 
@@ -43,6 +45,16 @@ abbrev pub pick : Layout → State → List State → Taken
 pick Y s [] = record { left = []; state = s; right = [] }
 pick Y s (x ∷ xs) = choose (beats Y s (pick Y x xs .state)) s (x ∷ xs) (pick Y x xs)
 
+-- k is what is taken from the list
+abbrev pub Picks : Layout → List State → Taken → Type 0
+Picks Y [] k = ⊥
+Picks Y (s ∷ ss) k = pick Y s ss ≡ k
+
+-- the merit of the state that is taken; 0 where there is none
+abbrev pub takenMerit : Layout → List State → ℕ
+takenMerit Y [] = 0
+takenMerit Y (s ∷ ss) = pick Y s ss .state .merit
+
 -- what one step does: nothing is on the list; the root, SOLVED, is taken; a state is replaced; a state is replaced
 -- and a leaf evaluated
 pub data Step : Type 0 where
@@ -55,10 +67,19 @@ pub data Step : Type 0 where
 abbrev pub put : Taken → List State → List State
 put k new = k .left ++ (new ++ k .right)
 
--- the states that are not below p
+-- the states that are not below p: all those below it are purged, and not its children alone
 abbrev pub purge : Layout → ℕ → List State → List State
 purge Y p [] = []
 purge Y p (s ∷ ss) = cond (Y .above p (s .node)) (purge Y p ss) (s ∷ purge Y p ss)
+
+-- the states below p that stand before the one taken are the last of these, those behind it the first
+pub record Together (Y : Layout) (p : ℕ) (k : Taken) : Type 0 where
+  pub lastLeft : List State
+  pub firstRight : List State
+  pub left : k .left ≡ purge Y p (k .left) ++ lastLeft
+  pub right : k .right ≡ firstRight ++ purge Y p (k .right)
+  pub belowLeft : All (λ s. Y .above p (s .node) ≡ true) lastLeft
+  pub belowRight : All (λ s. Y .above p (s .node) ≡ true) firstRight
 
 -- a LIVE state: a leaf is evaluated, and SOLVED; of a Max node all children are LIVE, of a Min node the first
 abbrev pub replaceLive : (ℕ → ℕ) → Taken → Kind → Step
@@ -79,18 +100,19 @@ abbrev pub replace : (ℕ → ℕ) → Layout → Taken → Status → Step
 replace ν Y k LIVE = replaceLive ν k (Y .kind (k .state .node))
 replace ν Y k SOLVED = replaceSolved Y k (Y .link (k .state .node))
 
--- one step of SSS*
+-- one step of SSS*: the state taken, replaced
 abbrev pub step : (ℕ → ℕ) → Layout → List State → Step
 step ν Y [] = empty
 step ν Y (s ∷ ss) = replace ν Y (pick Y s ss) (pick Y s ss .state .status)
 
--- how a run ends: with the root's value; with no state on the list; or past its bound on states taken
+-- how a run ends: with the root's value, when the root, SOLVED, is taken; with no state on the list (01: question 15);
+-- or past its bound on states taken. The last two never happen: `sss-minimax` in Theorems.
 pub data End : Type 0 where
   finished : (value : ℕ) → End
   noState : End
   outOfFuel : End
 
--- what a run gives
+-- what a run gives: its end, the leaves evaluated, in order, and how many replacements there were
 pub record Ran : Type 0 where
   pub end : End
   pub evaluated : List ℕ
@@ -112,11 +134,11 @@ abbrev pub runFrom : (List State → Step) → ℕ → List State → Ran
 runFrom next zero L = ends outOfFuel
 runFrom next (suc f) L = follow (next L) (λ M. runFrom next f M)
 
--- the list at the start
+-- the list at the start: the root, LIVE, with the greatest merit
 abbrev pub start : Tree → List State
 start t = live (number t) greatest ∷ []
 
--- SSS* over a layout of the tree
+-- SSS* over a layout of the tree: at most 2 × nodes - 1 replacements, and the root is taken
 abbrev pub sssOver : (ℕ → ℕ) → Layout → Tree → Ran
 sssOver ν Y t = runFrom (λ L. step ν Y L) (2 * size t) (start t)
 

@@ -1,11 +1,11 @@
--- Game trees, their minimax value, and what makes a tree a regular one. A function on trees whose name ends in Kids
--- is its part for the children of a node.
+-- Game trees, their minimax value, and what makes a tree and its scores proper. A function on trees whose name ends in
+-- Kids is its part for the children of a node.
 use Prim.Native.Nat.{ℕ, suc, _+_, _<_, min, max}
 use mathlib.Core.Path.{_≡_}
 use mathlib.Core.Logic.{_⊎_}
 use mathlib.Core.Bool.{Bool, cond}
 use mathlib.Core.List.{List, [], _∷_, _++_}
--- who moves at an inner node: the code's own type
+-- who moves at an inner node: the code's own type. The side is a label of the node, and not found from its depth.
 pub use Rattle.gametree.specs.declared.Side.{Side}
 pub use Rattle.gametree.specs.declared.Side.the-variants.{Max, Min}
 
@@ -26,8 +26,8 @@ mutual
     last : Tree → Kids
     _then_ : Tree → Kids → Kids
 
--- a leaf's score is its value plus 32,001, so that scores are 1 to 64,001; `least` and `greatest` are the papers'
--- -32,001 and 32,001 (minus and plus infinity)
+-- a leaf's score is its value plus 32,001, so that scores are 1 to 64,001; `least` and `greatest` are document 01's
+-- -32,001 and 32,001 (minus and plus infinity in the sources)
 abbrev pub least : ℕ
 least = 0
 
@@ -39,7 +39,8 @@ abbrev pub better : Side → ℕ → ℕ → ℕ
 better Max a b = max a b
 better Min a b = min a b
 
--- the minimax value under the valuation ν, which gives each leaf its score
+-- the minimax value under the valuation ν, which gives each leaf its score: a leaf has its own, a Max node the greatest
+-- of its children's, a Min node the least
 abbrev mutual
   pub minimax : (ℕ → ℕ) → Tree → ℕ
   minimax ν (leaf n) = ν n
@@ -124,7 +125,7 @@ abbrev mutual
   DistinctKids (last t) = Distinct t
   DistinctKids (t then ts) = Distinct t × DistinctKids ts × ((p : ℕ) → In p t → InKids p ts → ⊥)
 
--- a real tree with real scores
+-- a tree as the theorems ask for it: no number stands twice, and each leaf's score is a real one
 pub record Proper (ν : ℕ → ℕ) (t : Tree) : Type 0 where
   pub scored : Scored ν t
   pub distinct : Distinct t

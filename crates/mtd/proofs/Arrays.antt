@@ -1,19 +1,21 @@
--- Marks and flags in arrays of numbers, and the highs that they give.
-use Prim.Native.Nat.{ℕ, _≤_, _<_}
+-- Marks, flags and highs in arrays of numbers: what is stored and read, and the highs that the marks give.
+use Prim.Native.Nat.{ℕ, suc, _+_, _<_}
 use native.Mathlib.Omega.{arith}
 use mathlib.Core.Path.{_≡_, refl, sym, ap, ap₂, _∙_}
 use mathlib.Core.Logic.{inl, inr}
 use mathlib.Core.Bool.{Bool, true, false, cond}
-use mathlib.Core.List.{List}
+use mathlib.Core.List.{List, [], _++_}
 use lib.Dec.{eqb}
-use lib.ListN.{length, getD, set}
+use lib.ListN.{length, getD, set, length-append}
 use lib.Seq.{getD-set-same, getD-set-other, set-getD}
 use Rattle.gametree.specs.declared.Side.{Side}
 use Rattle.gametree.specs.Tree.{Tree, leaf, inner, Kids, last, _then_, greatest, better, minimaxKids, In, InKids}
 use Rattle.gametree.specs.Bounds.{known, high}
 use Rattle.gametree.specs.Mtd.{memoHigh, memoHighKids}
 use Rattle.gametree.proofs.MemoArrays.{Bits, readMemo, readMemoKids}
-use Rattle.certificate.specs.Buffer.{marked}
+use Rattle.certificate.specs.Buffer.{marked, markAll}
+use Rattle.certificate.proofs.Buffers.{markAll-append}
+use Rattle.mtd.specs.Memory.{Memory, Room, Evaluated}
 
 -- what stands there already is stored
 pub set-same : (l : List ℕ) (i v : ℕ) → getD l i 0 ≡ v → set l i v ≡ l
@@ -50,3 +52,41 @@ mutual
   high-local-kids ν M N s (last T) e = high-local ν M N T e
   high-local-kids ν M N s (T then ts) e =
       ap₂ (better s) (high-local ν M N T (λ p i. e p (inl i))) (high-local-kids ν M N s ts (λ p i. e p (inr i)))
+
+-- the arrays keep their lengths
+pub record Long (m m′ : Memory) : Type 0 where
+  pub evaluated : length (m′ .evaluated) ≡ length (m .evaluated)
+  pub highs : length (m′ .highs) ≡ length (m .highs)
+  pub found : length (m′ .found) ≡ length (m .found)
+
+-- so there is room in them as before
+pub room-kept : {n : ℕ} {m m′ : Memory} → Room n m → Long m m′ → Room n m′
+room-kept r l =
+    record {
+      evaluated = omega (arith, r .evaluated, l .evaluated);
+      highs = omega (arith, r .highs, l .highs);
+      found = omega (arith, r .found, l .found);
+    }
+
+-- and room for one of the nodes
+pub room-at : {n i : ℕ} {m : Memory} → Room n m → i < n → Room (suc i) m
+room-at r h =
+    record {
+      evaluated = omega (arith, r .evaluated);
+      highs = omega (arith, r .highs);
+      found = omega (arith, r .found);
+    }
+
+-- nothing was evaluated
+pub evaluated-none : (e : List ℕ) → Evaluated e e 0 []
+unfolding markAll
+evaluated-none e = record { leaves = refl; marks = refl }
+
+-- more leaves were evaluated behind the first
+pub evaluated-more : {e e′ e″ v w : List ℕ} {m n : ℕ} → Evaluated e e′ m v → Evaluated e′ e″ n w
+    → Evaluated e e″ (m + n) (v ++ w)
+evaluated-more {e} {e′} {e″} {v} {w} a b =
+    record {
+      leaves = ap₂ _+_ (a .leaves) (b .leaves) ∙ sym (length-append v w);
+      marks = b .marks ∙ ap (λ l. markAll l w) (a .marks) ∙ sym (markAll-append e v w);
+    }

@@ -1,9 +1,9 @@
--- The child loop of a node, over its memory: what the rule gives over the children that are left, from the present memory,
--- is what it was to give over all of them from the first.
+-- The child loop of a node, over its memory: what the rule gives over the children that are left, from the present
+-- memory, is what it was to give over all of them from the first.
 use Prim.Native.Nat.{ℕ, zero, suc, _+_, _≤_}
 use native.Mathlib.Omega.{arith}
-use mathlib.Core.Path.{_≡_, refl, sym, ap, ap₂, _∙_}
-use mathlib.Core.Bool.{Bool, true, false, cond}
+use mathlib.Core.Path.{_≡_, refl, sym, ap, _∙_, subst}
+use mathlib.Core.Bool.{Bool, true, false}
 use mathlib.Core.List.{List, [], _++_, append-assoc}
 use lib.Dec.{ltb}
 use lib.ListN.{length, length-append}
@@ -13,10 +13,10 @@ use Rattle.gametree.specs.Mtd.{Memo, MemoKids, Pass, PassKids, memoHighKids, se
 use Rattle.gametree.proofs.Choice.{cond-cases}
 use Rattle.gametree.proofs.MemoArrays.{readMemoKids, VisitedKids, rest-same, visit-ended, visit-joined}
 use Rattle.frames.specs.Tree.{kidsFrom, valuation}
-use Rattle.certificate.specs.Buffer.{marked, markAll}
-use Rattle.certificate.proofs.Buffers.{markAll-append}
+use Rattle.certificate.specs.Buffer.{marked}
 use Rattle.mtd.specs.declared.Tried.{Tried}
-use Rattle.mtd.specs.Memory.{Memory, passOf, Passed}
+use Rattle.mtd.specs.Memory.{Memory, passOf, Evaluated, Passed}
+use Rattle.mtd.proofs.Arrays.{evaluated-none, evaluated-more}
 
 mutual
   -- a pass evaluates at most as many leaves as there are nodes
@@ -37,12 +37,13 @@ mutual
       → length (passKids ν γ s ks m .evaluated) ≤ sizeKids ks
   pass-few-kids ν γ s (last T) m = pass-few ν γ T m
   pass-few-kids ν γ s (T then ts) m =
-      cond-cases (λ (q : PassKids (T then ts)). length (q .evaluated) ≤ size T + sizeKids ts) (settles s (pass ν γ T (m .first) .notBelow)) _ _
-      (λ _. omega (arith, pass-few ν γ T (m .first)))
+      let few = pass-few ν γ T (m .first) in
+      cond-cases (λ (q : PassKids (T then ts)). length (q .evaluated) ≤ size T + sizeKids ts)
+      (settles s (pass ν γ T (m .first) .notBelow)) _ _
+      (λ _. omega arith)
       (λ _.
       omega (
         arith,
-        pass-few ν γ T (m .first),
         pass-few-kids ν γ s ts (m .rest),
         length-append (pass ν γ T (m .first) .evaluated) (passKids ν γ s ts (m .rest) .evaluated),
       ))
@@ -64,80 +65,59 @@ Remembers t γ s ks m m′ =
 -- what a visit of the children of a node does
 pub record PassedKids (t : List ℕ) (γ : ℕ) (s : Side) (ks : Kids) (m m′ : Memory) (b : Bool) (n : ℕ) : Type 0 where
   pub answer : b ≡ passKidsOf t γ s m ks .notBelow
-  pub leaves : n ≡ length (passKidsOf t γ s m ks .evaluated)
-  pub marks : m′ .evaluated ≡ markAll (m .evaluated) (passKidsOf t γ s m ks .evaluated)
+  pub evaluated : Evaluated (m .evaluated) (m′ .evaluated) n (passKidsOf t γ s m ks .evaluated)
   pub memo : Remembers t γ s ks m m′
 
 -- between two children: the memory m has become m′, n leaves have been evaluated, and the children `rest` are left
 pub record Owes (t : List ℕ) (γ : ℕ) (s : Side) (ks rest : Kids) (m m′ : Memory) (n : ℕ) : Type 0 where
   pub done : List ℕ
-  pub leaves : n ≡ length done
-  pub marks : m′ .evaluated ≡ markAll (m .evaluated) done
+  pub so-far : Evaluated (m .evaluated) (m′ .evaluated) n done
   pub evaluated : passKidsOf t γ s m ks .evaluated ≡ done ++ passKidsOf t γ s m′ rest .evaluated
   pub answer : passKidsOf t γ s m ks .notBelow ≡ passKidsOf t γ s m′ rest .notBelow
   pub memo : (m″ : Memory) → Remembers t γ s rest m′ m″ → Remembers t γ s ks m m″
 
 -- before the first child all is owed
 pub owes-all : (t : List ℕ) (γ : ℕ) (s : Side) (ks : Kids) (m : Memory) → Owes t γ s ks ks m m 0
-unfolding markAll
 owes-all t γ s ks m =
-    record { done = []; leaves = refl; marks = refl; evaluated = refl; answer = refl; memo = λ m″ v. v }
+    record { done = []; so-far = evaluated-none _; evaluated = refl; answer = refl; memo = λ m″ v. v }
 
-module _ (t : List ℕ) (γ : ℕ) (s : Side) (ks : Kids) (m m′ m″ : Memory) (n : ℕ) (T : Tree) (r : Tried)
+module _ {t : List ℕ} {γ : ℕ} {s : Side} {ks : Kids} {m m′ m″ : Memory} {n : ℕ} {T : Tree} {r : Tried}
     (p : Passed t T γ m′ m″ r) where
-  -- the leaves evaluated so far, with those of the child
-  module _ (rest : Kids) (o : Owes t γ s ks rest m m′ n) where
-    with-child : List ℕ
-    with-child = o .done ++ passOf t γ m′ T .evaluated
-
-    with-leaves : n + r .leaves ≡ length with-child
-    unfolding with-child
-    with-leaves = ap₂ _+_ (o .leaves) (p .leaves) ∙ sym (length-append (o .done) (passOf t γ m′ T .evaluated))
-
-    with-marks : m″ .evaluated ≡ markAll (m .evaluated) with-child
-    unfolding with-child
-    with-marks =
-        p .marks ∙ ap (λ l. markAll l (passOf t γ m′ T .evaluated)) (o .marks)
-        ∙ sym (markAll-append (m .evaluated) (o .done) (passOf t γ m′ T .evaluated))
-
-    -- a child whose pass is that of all that are left ends the loop
-    owes-end : passKidsOf t γ s m′ rest .notBelow ≡ passOf t γ m′ T .notBelow
-        → passKidsOf t γ s m′ rest .evaluated ≡ passOf t γ m′ T .evaluated → Remembers t γ s rest m′ m″
-        → PassedKids t γ s ks m m″ (r .answer) (n + r .leaves)
-    unfolding with-child
-    owes-end a w v =
-        let e = o .evaluated ∙ ap (λ l. o .done ++ l) w in
-        record {
-          answer = p .answer ∙ sym a ∙ sym (o .answer);
-          leaves = with-leaves ∙ ap length (sym e);
-          marks = with-marks ∙ ap (markAll (m .evaluated)) (sym e);
-          memo = o .memo m″ v;
-        }
+  -- a child whose pass is that of all the children left ends the loop
+  owes-end : {rest : Kids} → Owes t γ s ks rest m m′ n → passKidsOf t γ s m′ rest .notBelow ≡ passOf t γ m′ T .notBelow
+      → passKidsOf t γ s m′ rest .evaluated ≡ passOf t γ m′ T .evaluated → Remembers t γ s rest m′ m″
+      → PassedKids t γ s ks m m″ (r .answer) (n + r .leaves)
+  owes-end o a w v =
+      record {
+        answer = p .answer ∙ sym a ∙ sym (o .answer);
+        evaluated =
+            subst (Evaluated (m .evaluated) (m″ .evaluated) (n + r .leaves))
+            (sym (o .evaluated ∙ ap (λ l. o .done ++ l) w)) (evaluated-more (o .so-far) (p .evaluated));
+        memo = o .memo m″ v;
+      }
 
   -- the last child's answer is the node's
   pub owes-last : Owes t γ s ks (last T) m m′ n → PassedKids t γ s ks m m″ (r .answer) (n + r .leaves)
-  owes-last o = owes-end (last T) o refl refl (record { got = p .memo .got; frame = p .memo .frame })
+  owes-last o = owes-end o refl refl (record { got = p .memo .got; frame = p .memo .frame })
 
-  module _ (ts : Kids) (d : (k : ℕ) → In k T → InKids k ts → ⊥) (o : Owes t γ s ks (T then ts) m m′ n) where
+  module _ {ts : Kids} (d : (k : ℕ) → In k T → InKids k ts → ⊥) (o : Owes t γ s ks (T then ts) m m′ n) where
     -- so is that of a child that settles its parent
     pub owes-settled : settles s (r .answer) ≡ true → PassedKids t γ s ks m m″ (r .answer) (n + r .leaves)
     owes-settled h =
         let e = ap (settles s) (sym (p .answer)) ∙ h in
-        owes-end (T then ts) o (rw e) (rw e) (visit-ended (valuation t) γ s T ts d _ _ _ _ (p .memo) e)
+        owes-end o (rw e) (rw e) (visit-ended (valuation t) γ s T ts d _ _ _ _ (p .memo) e)
 
     -- after another one its younger brothers are owed
     pub owes-rest : settles s (r .answer) ≡ false → Owes t γ s ks ts m m″ (n + r .leaves)
-    unfolding with-child
     owes-rest h =
         let e = ap (settles s) (sym (p .answer)) ∙ h in
         let w = passOf t γ m′ T .evaluated in
-        let on : passKidsOf t γ s m′ (T then ts) ≡ joined T ts (passOf t γ m′ T) (passKidsOf t γ s m′ ts) = rw e refl in
+        let on : passKidsOf t γ s m′ (T then ts) ≡ joined T ts (passOf t γ m′ T) (passKidsOf t γ s m′ ts) = rw e in
         let same = ap (λ x. passKids (valuation t) γ s ts x)
         (sym (rest-same (valuation t) γ s T ts d _ _ _ _ (p .memo))) in
         record {
-          done = with-child (T then ts) o;
-          leaves = with-leaves (T then ts) o;
-          marks = with-marks (T then ts) o;
+          done = o .done ++ w;
+          so-far = evaluated-more (o .so-far) (p .evaluated);
           evaluated =
               o .evaluated ∙ ap (λ q. o .done ++ q .evaluated) on ∙ ap (λ q. o .done ++ (w ++ q .evaluated)) same
               ∙ sym (append-assoc (o .done) w _);
@@ -159,14 +139,15 @@ first-few t γ s m g i (suc k) =
     (λ _. omega (arith, length-append w (passKidsOf t γ s m ts .evaluated)))
 
 -- so there are no more leaves than nodes
-pub owes-few : (t : List ℕ) (γ : ℕ) (s : Side) (ks : Kids) (m m′ m″ : Memory) (n : ℕ) (g : ℕ → Tree) (i k : ℕ) (r : Tried)
-    → Owes t γ s ks (kidsFrom g i k) m m′ n → Passed t (g i) γ m′ m″ r → n + r .leaves ≤ sizeKids ks
-owes-few t γ s ks m m′ m″ n g i k r o p =
+pub owes-few : {t : List ℕ} {γ n : ℕ} {s : Side} {ks : Kids} {m m′ m″ : Memory} {r : Tried} (g : ℕ → Tree) (i k : ℕ)
+    → Owes t γ s ks (kidsFrom g i k) m m′ n → Passed t (g i) γ m′ m″ r
+    → n + r .leaves ≤ sizeKids ks
+owes-few {t} {γ} {n} {s} {ks} {m} {m′} g i k o p =
     omega (
       arith,
       pass-few-kids (valuation t) γ s ks (memoKidsOf m ks),
       first-few t γ s m′ g i k,
-      o .leaves,
-      p .leaves,
+      o .so-far .leaves,
+      p .evaluated .leaves,
       ap length (o .evaluated) ∙ length-append (o .done) (passKidsOf t γ s m′ (kidsFrom g i k) .evaluated),
     )

@@ -1,15 +1,14 @@
 -- The run of passes: what the run gives from the present test and memory, after the passes so far, is what MTD gives.
-use Prim.Native.Nat.{ℕ, zero, suc, _+_, _≤_, _<_}
+use Prim.Native.Nat.{ℕ, suc, _+_, _≤_, _<_}
 use native.Mathlib.Omega.{arith}
 use mathlib.Core.Path.{_≡_, refl, sym, ap, ap₂, _∙_, subst}
 use mathlib.Core.Logic.{inl, inr}
-use mathlib.Core.Bool.{Bool, true, false, cond}
+use mathlib.Core.Bool.{Bool, true, false}
 use mathlib.Core.List.{List, [], _++_, append-assoc}
 use lib.ListN.{length, getD, length-append}
 use Rattle.gametree.specs.Lists.{among}
-use Rattle.gametree.specs.Tree.{Tree, leaf, inner, Kids, last, _then_, greatest, size, sizeKids, leafCount, leafCountKids}
-use Rattle.gametree.specs.Tree.{In, InKids, Proper}
-use Rattle.gametree.specs.Bounds.{high}
+use Rattle.gametree.specs.Tree.{Tree, leaf, inner, Kids, last, _then_, greatest, size, sizeKids, leafCount}
+use Rattle.gametree.specs.Tree.{leafCountKids, In, InKids}
 use Rattle.gametree.specs.Mtd.{Memo, MemoKids, memoHigh, pass, Run, settled, followed, run, fresh, freshKids, mtd}
 use Rattle.gametree.specs.Searches.{byMtd}
 use Rattle.gametree.proofs.Choice.{cond-cases}
@@ -27,12 +26,9 @@ use Rattle.frames.proofs.Nodes.{in-own, tree-range}
 use Rattle.frames.proofs.Totals.{tree-size}
 use Rattle.frames.proofs.Proper.{tree-proper}
 use Rattle.certificate.specs.Buffer.{marked, markAll}
-use Rattle.certificate.proofs.Buffers.{markAll-append}
 use Rattle.mtd.specs.declared.Tried.{Tried}
-use Rattle.mtd.specs.declared.Settled.{Settled}
-use Rattle.mtd.specs.Memory.{Memory, memoOf, passOf, Room, HighsRight, Ready, Passed, Fresh, settledOf}
-use Rattle.mtd.proofs.Arrays.{read-high}
-use Rattle.mtd.proofs.Visits.{Long, room-kept}
+use Rattle.mtd.specs.Memory.{Memory, memoOf, passOf, Room, HighsRight, Ready, Evaluated, Passed, Fresh, settledOf}
+use Rattle.mtd.proofs.Arrays.{read-high, Long, room-kept, evaluated-none, evaluated-more}
 
 mutual
   -- where no node is marked and none was found, the memory is the fresh one
@@ -85,8 +81,7 @@ pub record Passing (t : List ℕ) (q : Run (tree t)) (m m′ : Memory) (test lea
   pub spare : ℕ
   pub enough : test ≤ spare
   pub done : List ℕ
-  pub counted : leaves ≡ length done
-  pub marks : m′ .evaluated ≡ markAll (m .evaluated) done
+  pub so-far : Evaluated (m .evaluated) (m′ .evaluated) leaves done
   pub value : q .value ≡ runOf t (suc spare) test m′ .value
   pub evaluated : q .evaluated ≡ done ++ runOf t (suc spare) test m′ .evaluated
   pub passed : q .passes ≡ passes + runOf t (suc spare) test m′ .passes
@@ -94,7 +89,6 @@ pub record Passing (t : List ℕ) (q : Run (tree t)) (m m′ : Memory) (test lea
 -- the first pass, for any bound on the passes that is large enough
 passing-from : (t : List ℕ) (m : Memory) → Fresh t m → (f : ℕ) → greatest ≤ f
     → Passing t (run (valuation t) (suc f) greatest (tree t) (fresh (tree t))) m m greatest 0 0
-unfolding markAll
 passing-from t m h f l =
     let bits : (p : ℕ) → p < frames t → (marked (m .evaluated) p ≡ false) × (marked (m .found) p ≡ false) =
     λ p x. (h .evaluated p x, h .found p x) in
@@ -113,16 +107,21 @@ passing-from t m h f l =
       spare = f;
       enough = l;
       done = [];
-      counted = refl;
-      marks = refl;
+      so-far = evaluated-none (m .evaluated);
       value = ap (λ x. run (valuation t) (suc f) greatest (tree t) x .value) (sym start);
       evaluated = ap (λ x. run (valuation t) (suc f) greatest (tree t) x .evaluated) (sym start);
       passed = omega (arith, ap (λ x. run (valuation t) (suc f) greatest (tree t) x .passes) (sym start));
     }
 
-pub passing-first : (t : List ℕ) (m : Memory) → Fresh t m → Passing t (mtd (valuation t) (tree t)) m m greatest 0 0
+mtd-passing : (t : List ℕ) (m : Memory) → Fresh t m → Passing t (mtd (valuation t) (tree t)) m m greatest 0 0
 unfolding mtd
-passing-first t m h = passing-from t m h 64002 (omega arith)
+mtd-passing t m h = passing-from t m h 64002 (omega arith)
+
+-- before the first pass: the greatest test, and nothing counted
+pub passing-first : (t : List ℕ) (m : Memory) → Fresh t m → (test leaves passes : ℕ) → test ≡ greatest → leaves ≡ 0
+    → passes ≡ 0
+    → Passing t (mtd (valuation t) (tree t)) m m test leaves passes
+passing-first t m h test leaves passes p q r = rw (p, q, r) (mtd-passing t m h)
 
 -- a run of one pass more, where the root is not below, and where it is
 run-settled : (ν : ℕ → ℕ) (f γ : ℕ) (T : Tree) (m : Memo T) → pass ν γ T m .notBelow ≡ true
@@ -153,26 +152,18 @@ module _ {t : List ℕ} {q : Run (tree t)} {m m′ : Memory} {test leaves passes
         inside = wf .some;
         few = omega (arith, tree-size t wf, wf .few);
         stands = sym (place-root t);
-        room = room-kept (frames t) room (u .long);
+        room = room-kept room (u .long);
         right = u .right;
       }
 
   module _ {m″ : Memory} {r : Tried} (p : Passed t (tree t) test m′ m″ r) where
-    with-leaves : leaves + r .leaves ≡ length (u .done ++ passOf t test m′ (tree t) .evaluated)
-    with-leaves = ap₂ _+_ (u .counted) (p .leaves) ∙ sym (length-append (u .done) _)
-
-    with-marks : m″ .evaluated ≡ markAll (m .evaluated) (u .done ++ passOf t test m′ (tree t) .evaluated)
-    with-marks =
-        p .marks ∙ ap (λ l. markAll l (passOf t test m′ (tree t) .evaluated)) (u .marks)
-        ∙ sym (markAll-append (m .evaluated) (u .done) (passOf t test m′ (tree t) .evaluated))
-
     -- the count of leaves fits
     pub passing-few : length (q .evaluated) ≤ maxNodes → leaves + r .leaves ≤ maxNodes
     passing-few few =
         omega (
           arith,
-          with-leaves,
-          length-append (u .done) (passOf t test m′ (tree t) .evaluated),
+          u .so-far .leaves,
+          p .evaluated .leaves,
           run-first (valuation t) (u .spare) test (tree t) (memoOf m′ (tree t)),
           ap length (u .evaluated) ∙ length-append (u .done) (runOf t (suc (u .spare)) test m′ .evaluated),
         )
@@ -185,9 +176,11 @@ module _ {t : List ℕ} {q : Run (tree t)} {m m′ : Memory} {test leaves passes
         let is = run-settled (valuation t) (u .spare) test (tree t) _ (sym (p .answer) ∙ e) in
         let v : test ≡ q .value = sym (u .value ∙ ap (λ x. x .value) is) in
         let w = u .evaluated ∙ ap (λ x. u .done ++ x .evaluated) is in
-        let n : leaves + r .leaves ≡ length (q .evaluated) = with-leaves ∙ ap length (sym w) in
+        let all = subst (Evaluated (m .evaluated) (m″ .evaluated) (leaves + r .leaves)) (sym w)
+        (evaluated-more (u .so-far) (p .evaluated)) in
+        let n = all .leaves in
         let k : passes + 1 ≡ q .passes = sym (u .passed ∙ ap (λ x. passes + x .passes) is) in
-        (cc, with-marks ∙ ap (markAll (m .evaluated)) (sym w))
+        (cc, all .marks)
 
     -- another pass: the next test is the root's high
     module _ (e : r .answer ≡ false) where
@@ -209,11 +202,12 @@ module _ {t : List ℕ} {q : Run (tree t)} {m m′ : Memory} {test leaves passes
           ∙ ap₂ (λ γ x. followed (tree t) (passOf t test m′ (tree t)) (run (valuation t) (u .spare) γ (tree t) x))
           (sym next-high) (sym (p .memo .got))
 
-      pub passing-next : Long m m″ → Passing t q m m″ (getD (m″ .highs) 0 0) (leaves + r .leaves) (passes + 1)
-      passing-next long =
+      next-passing : Long m m″ → Passing t q m m″ (getD (m″ .highs) 0 0) (leaves + r .leaves) (passes + 1)
+      next-passing long =
           zero-or-suc (u .spare) (λ z. absurd (omega (arith, u .enough, next-falls))) (λ f z.
-          let is = next-run ∙ ap (λ n. followed (tree t) (passOf t test m′ (tree t)) (runOf t n (getD (m″ .highs) 0 0) m″)) z in
-          let w = passOf t test m′ (tree t) .evaluated in
+          let r = passOf t test m′ (tree t) in
+          let w = r .evaluated in
+          let is = next-run ∙ ap (λ n. followed (tree t) r (runOf t n (getD (m″ .highs) 0 0) m″)) z in
           record {
             long = long;
             right = p .right;
@@ -224,10 +218,13 @@ module _ {t : List ℕ} {q : Run (tree t)} {m m′ : Memory} {test leaves passes
             spare = f;
             enough = omega (arith, u .enough, next-falls);
             done = u .done ++ w;
-            counted = with-leaves;
-            marks = with-marks;
+            so-far = evaluated-more (u .so-far) (p .evaluated);
             value = u .value ∙ ap (λ x. x .value) is;
             evaluated =
                 u .evaluated ∙ ap (λ x. u .done ++ x .evaluated) is ∙ sym (append-assoc (u .done) w _);
             passed = omega (arith, u .passed, ap (λ x. x .passes) is);
           })
+
+      pub passing-next : Long m m″ → (test′ : ℕ) → test′ ≡ getD (m″ .highs) 0 0
+          → Passing t q m m″ test′ (leaves + r .leaves) (passes + 1)
+      passing-next long test′ h = rw h (next-passing long)

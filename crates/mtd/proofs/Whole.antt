@@ -1,8 +1,8 @@
--- The steps of a whole search: the cleared memory is the fresh one, the passes end with the minimax value, and the marks are
--- those of MTD's leaves.
-use Prim.Native.Nat.{ℕ, _≤_, _<_}
+-- The steps of a whole search: the cleared memory is the fresh one, the passes end with the minimax value, and the
+-- marks are those of MTD's leaves.
+use Prim.Native.Nat.{ℕ, _≤_}
 use native.Mathlib.Omega.{arith}
-use mathlib.Core.Path.{_≡_, refl, ap, ap₂, _∙_}
+use mathlib.Core.Path.{_≡_, refl, ap, _∙_}
 use mathlib.Core.Option.{none, some}
 use mathlib.Core.List.{List, [], _∷_}
 use lib.Dec.{eqb}

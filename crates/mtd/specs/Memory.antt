@@ -1,5 +1,5 @@
--- MTD's memory as the engine keeps it, three arrays over the node numbers, and what a visit of a node asks of it and does
--- to it.
+-- MTD's memory as the engine keeps it, three arrays over the node numbers, and what a visit of a node asks of it and
+-- does to it.
 use Prim.Native.Nat.{ℕ, _≤_, _<_}
 use mathlib.Core.Path.{_≡_}
 use mathlib.Core.Bool.{false}
@@ -55,12 +55,18 @@ pub record Ready (t : List ℕ) (m : Memory) (p : Place) (i : ℕ) : Type 0 wher
   pub room : Room (frames t) m
   pub right : HighsRight t m (treeAt t i)
 
+-- the leaves w were evaluated in turn: n of them, and the marks e have become e′
+pub record Evaluated (e e′ : List ℕ) (n : ℕ) (w : List ℕ) : Type 0 where
+  pub leaves : n ≡ length w
+  pub marks : e′ ≡ markAll e w
+
 -- what a visit of the root of the tree T does: the pass, and nothing to nodes outside the tree
 pub record Passed (t : List ℕ) (T : Tree) (γ : ℕ) (m m′ : Memory) (r : Tried) : Type 0 where
   pub answer : r .answer ≡ passOf t γ m T .notBelow
-  pub leaves : r .leaves ≡ length (passOf t γ m T .evaluated)
-  pub marks : m′ .evaluated ≡ markAll (m .evaluated) (passOf t γ m T .evaluated)
-  pub memo : Visited (valuation t) γ T (marked (m .evaluated)) (marked (m .found)) (marked (m′ .evaluated)) (marked (m′ .found))
+  pub evaluated : Evaluated (m .evaluated) (m′ .evaluated) (r .leaves) (passOf t γ m T .evaluated)
+  pub memo :
+      Visited (valuation t) γ T (marked (m .evaluated)) (marked (m .found)) (marked (m′ .evaluated))
+      (marked (m′ .found))
   pub right : HighsRight t m′ T
   pub others : (k : ℕ) → (In k T → ⊥) → getD (m′ .highs) k 0 ≡ getD (m .highs) k 0
 

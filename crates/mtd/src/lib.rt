@@ -27,10 +27,10 @@ ghost use Rattle.frames.specs.Place.{depthOf};
 ghost use Rattle.frames.specs.Tree.{treeAt, tree, valuation};
 ghost use Rattle.frames.specs.Formed.{WellFormed};
 ghost use Rattle.certificate.specs.Buffer.{marked, markAll};
+ghost use Rattle.certificate.specs.Ranges.{bestIn};
 ghost use Rattle.certificate.specs.Search.{marksOf, flagsOf};
 ghost use Rattle.mtd.specs.Outcome.{mtdLeaves, findings, mtdOutcome};
 ghost use Rattle.mtd.specs.Memory.{memory, Fresh, Ready, Passed, settledOf};
-ghost use Rattle.mtd.specs.Best.{bestFrom};
 
 // What a search finds: the minimax value, the first root move that reaches it (0 for a leaf), how many leaves were evaluated, and how many passes were
 // made.
@@ -50,7 +50,8 @@ pub enum Answer {
 // MTD of the whole tree: questions 1 to 10, then the value, the root move and the counts of evaluated leaves and of passes; the marks of these leaves
 // and the certificate (01: the proof) go into the buffers.
 pub fn search(table: &[u8], evaluated: &mut [u8], certificate: &mut [u8]) -> Answer
-    ensures { λ r. ⌜ record { answer = r; evaluated = now (evaluated .exit); certificate = now (certificate .exit) } ≡ mtdOutcome (now (table .entry)) (now (evaluated .entry)) (now (certificate .entry)) ⌝ }
+    ensures { λ r. ⌜ record { answer = r; evaluated = now (evaluated .exit); certificate = now (certificate .exit) }
+        ≡ mtdOutcome (now (table .entry)) (now (evaluated .entry)) (now (certificate .entry)) ⌝ }
 {
     match ask(table, evaluated.len(), certificate.len()) {
         Checked::Nodes(_) => Answer::Found(run(table, evaluated, certificate)),
@@ -107,7 +108,7 @@ fn run_passes(table: &[u8], evaluated: &mut [u8], highs: &mut [u32], found: &mut
         if tried.answer {
             break;
         }
-        test = highs[0];
+        test = next_test(highs);
     }
     Settled {
         score: test,
@@ -116,13 +117,22 @@ fn run_passes(table: &[u8], evaluated: &mut [u8], highs: &mut [u32], found: &mut
     }
 }
 
+// The root's high is the next test.
+fn next_test(highs: &[u32]) -> u32
+    requires { ⌜ 0 < length (now highs) ⌝ }
+    ensures { λ r. ⌜ r ≡ getD (now (highs .entry)) 0 0 ⌝ }
+{
+    highs[0]
+}
+
 // What a node that was tried gives: the answer, true where the node is not below the test, and how many leaves were evaluated.
 struct Tried {
     answer: bool,
     leaves: usize,
 }
 
-// The node is visited with this test: entered where neither its high nor an earlier pass decides, and a leaf is evaluated where it was not yet.
+// A pass at a node: a leaf is compared with the test; an inner node is entered unless its high is below the test or a pass has found it not below. Its
+// children are tried from the left, and it keeps their answer and the best of their highs.
 fn visit(
     table: &[u8],
     evaluated: &mut [u8],
@@ -133,7 +143,9 @@ fn visit(
     test: u32,
 ) -> Tried
     requires { ⌜ Ready (now table) (memory (now evaluated) (now highs) (now found)) place node ⌝ }
-    ensures { λ r. ⌜ Passed (now (table .entry)) (treeAt (now (table .entry)) node) test (memory (now (evaluated .entry)) (now (highs .entry)) (now (found .entry))) (memory (now (evaluated .exit)) (now (highs .exit)) (now (found .exit))) r ⌝ }
+    ensures { λ r. ⌜ Passed (now (table .entry)) (treeAt (now (table .entry)) node) test
+        (memory (now (evaluated .entry)) (now (highs .entry)) (now (found .entry)))
+        (memory (now (evaluated .exit)) (now (highs .exit)) (now (found .exit))) r ⌝ }
 {
     let count = child_count(table, node);
     if count == 0 {
@@ -178,7 +190,7 @@ fn visit(
     Tried { answer, leaves }
 }
 
-// Is no child tried after one with this answer: it settles its parent, or there is none.
+// Is the child with this answer the last one tried: it settles its parent, or there is no other.
 fn last_tried(side: Side, answer: bool, child: usize, end: usize) -> bool
     ensures { λ r. ⌜ r ≡ eqb child end || settlesOf side answer ⌝ }
 {
@@ -202,7 +214,7 @@ fn settles(side: Side, answer: bool) -> bool
 // The best of the scores from first up to end, for the side that moves.
 fn best_from(scores: &[u32], side: Side, first: usize, end: usize) -> u32
     requires { ⌜ (first < end) × (end ≤ length (now scores)) ⌝ }
-    ensures { λ r. ⌜ r ≡ bestFrom side (now (scores .entry)) first (end - (first + 1)) ⌝ }
+    ensures { λ r. ⌜ r ≡ bestIn side (λ k. getD (now (scores .entry)) k 0) first (end - (first + 1)) ⌝ }
 {
     let mut at = end - 1;
     let mut best = scores[at];
@@ -213,7 +225,7 @@ fn best_from(scores: &[u32], side: Side, first: usize, end: usize) -> u32
     best
 }
 
-// A leaf is compared with the test.
+// A pass at a leaf: its score is compared with the test.
 fn visit_leaf(
     table: &[u8],
     evaluated: &mut [u8],
@@ -225,7 +237,9 @@ fn visit_leaf(
 ) -> Tried
     requires { ⌜ Ready (now table) (memory (now evaluated) (now highs) (now found)) place node ⌝ }
     requires { ⌜ childCount (now table) node ≡ 0 ⌝ }
-    ensures { λ r. ⌜ Passed (now (table .entry)) (treeAt (now (table .entry)) node) test (memory (now (evaluated .entry)) (now (highs .entry)) (now (found .entry))) (memory (now (evaluated .exit)) (now (highs .exit)) (now (found .exit))) r ⌝ }
+    ensures { λ r. ⌜ Passed (now (table .entry)) (treeAt (now (table .entry)) node) test
+        (memory (now (evaluated .entry)) (now (highs .entry)) (now (found .entry)))
+        (memory (now (evaluated .exit)) (now (highs .exit)) (now (found .exit))) r ⌝ }
 {
     let leaves = try_leaf(table, evaluated, highs, node, place.depth);
     let answer = test <= highs[node];

@@ -13,3 +13,4 @@ pub mod Merits
 pub mod Choices
 pub mod Filling
 pub mod Starting
+pub mod Whole

@@ -7,3 +7,4 @@ pub mod Ready
 pub mod Driven
 pub mod Start
 pub mod Finish
+pub mod Outcome

@@ -16,6 +16,7 @@ use frames::rejected;
 use gametree::Side;
 ghost use mathlib.Core.Path.{_≡_};
 ghost use Prim.Native.Nat.{ℕ, _+_, _≤_, _<_};
+ghost use mathlib.Core.Bool.{true};
 ghost use lib.ListN.{length, getD};
 ghost use Rattle.gametree.specs.Certificate.{inside, same as sameSide, worst as worstOf};
 ghost use Rattle.frames.specs.Frame.{maxNodes, frames};
@@ -163,8 +164,11 @@ fn rule_holds(table: &[u8], flags: &[u8], node: usize, mover: Side, side: Side) 
     if count == 0 {
         return true;
     }
-    let first = first_child(table, node);
-    count_members(flags, first, count, side) == required(side, mover, member, count)
+    let members = count_members(flags, first_child(table, node), count, side);
+    if !member {
+        return members == 0;
+    }
+    members == required(side, mover, count)
 }
 
 // How many of the `count` nodes from `first` on are in the side's tree.
@@ -182,14 +186,11 @@ fn count_members(flags: &[u8], first: usize, count: usize, side: Side) -> usize
     members
 }
 
-// How many of its children an inner node where `mover` moves has in the side's tree; `member` says whether it is in that tree itself.
-fn required(side: Side, mover: Side, member: bool, count: usize) -> usize
+// How many of its children an inner node of the side's tree where `mover` moves has in that tree.
+fn required(side: Side, mover: Side, count: usize) -> usize
     requires { ⌜ 0 < count ⌝ }
-    ensures { λ r. ⌜ r ≡ requiredOf side mover member count ⌝ }
+    ensures { λ r. ⌜ r ≡ requiredOf side mover true count ⌝ }
 {
-    if !member {
-        return 0;
-    }
     if same(side, mover) { count } else { 1 }
 }
 

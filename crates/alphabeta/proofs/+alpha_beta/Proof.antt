@@ -119,8 +119,8 @@ module _ (t : ℕ) where
         kept = refl;
         owes =
             inner-owes (a .args .table .now) (a .pre .1 .formed) (a .args .node) (a .pre .1 .inside) (a .args .alpha)
-            (a .args .beta) (a .args .evaluated .now) (a .args .place) _ _ (a .pre .1 .placed) (omega arith)
-            (c .first-child .ensures .0) (omega arith);
+            (a .args .beta) (a .args .evaluated .now) (a .args .place) _ _ _ (a .pre .1 .placed) (omega arith)
+            (c .first-child .ensures .0) (omega arith) (omega arith);
       }
 
   child-place-requires : lts.Need-child-place-requires (calls t) (at t) own.Post Inv μ-loop

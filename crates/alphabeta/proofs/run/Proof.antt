@@ -9,13 +9,6 @@ use Rattle.certificate.specs.Buffer.{written}
 use Rattle.alphabeta.proofs.Whole.{run-small, run-gives}
 use Rattle.alphabeta.proofs.run.Statement.{statement}
 use Rattle.alphabeta.proofs.run.Tie as tie
-use Rattle.alphabeta.proofs.run.Reads as reads
-use Rattle.alphabeta.proofs.run.Lts as lts
-use Rattle.alphabeta.proofs.alpha_beta.Reads as alpha-beta-reads
-use Rattle.certificate.proofs.conclude.Reads as conclude-reads
-use Rattle.certificate.proofs.value.Reads as value-reads
-use Rattle.certificate.proofs.clear.Reads as clear-reads
-use Rattle.frames.proofs.frame_count.Reads as frame-count-reads
 
 -- the function's entry, from the engine's result on
 abbrev start : tie.After-alpha-beta → tie.Start

@@ -5,10 +5,6 @@ use Rattle.certificate.proofs.Questions.{nodes-roomy}
 use Rattle.alphabeta.proofs.Whole.{finding, rejecting}
 use Rattle.alphabeta.proofs.search.Statement.{statement}
 use Rattle.alphabeta.proofs.search.Tie as tie
-use Rattle.alphabeta.proofs.search.Reads as reads
-use Rattle.alphabeta.proofs.search.Lts as lts
-use Rattle.certificate.proofs.ask.Reads as ask-reads
-use Rattle.alphabeta.proofs.run.Reads as run-reads
 
 ask-requires : tie.Need-ask-requires
 ask-requires c κs = search needs

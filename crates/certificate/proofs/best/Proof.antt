@@ -1,3 +1,4 @@
+-- `certificate::best` meets its contract: from right to left, the value is the best of the entries passed.
 use Prim.Native.Nat.{_+_, _-_, _≤_, _<_}
 use native.Mathlib.Omega.{arith}
 use mathlib.Core.Path.{_≡_, sym, _∙_}

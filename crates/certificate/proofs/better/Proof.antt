@@ -1,3 +1,4 @@
+-- `certificate::better` meets its contract.
 use native.Mathlib.Omega.{arith}
 use borrow.Author.Needs.{needs}
 use Rattle.certificate.proofs.better.Statement.{statement}

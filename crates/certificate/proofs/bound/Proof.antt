@@ -1,3 +1,4 @@
+-- `certificate::bound` meets its contract: a leaf's bound, or the best of the children's.
 use Prim.Native.Nat.{_<_}
 use native.Mathlib.Omega.{arith}
 use mathlib.Core.Path.{refl, ap, _∙_}
@@ -48,20 +49,20 @@ same-length c = search needs
 returns : tie.Need-returns
 returns c =
     let a = c .before .before .before .before .before .before .before .before .before .before .before .before in
-    let e = c .before .before .leaf-bound .ensures in (
-      e .0 ∙ bound-leaf (a .args .table .now) (a .pre .0) (marked (a .args .evaluated .now)) (a .args .unknown) (a .args .node) (omega arith) (omega arith),
-      e .1,
-    )
+    let E = marked (a .args .evaluated .now) in
+    let e = c .before .before .leaf-bound .ensures in
+    (e .0 ∙ bound-leaf _ (a .pre .0) E (a .args .unknown) (a .args .node) (omega arith) (omega arith), e .1)
 
 returns-2 : tie.Need-returns-2
 returns-2 c =
+    let f = c .before .before .first-child .ensures .0 in
+    let n = c .before .before .before .before .child-count .ensures .0 in
     let a = c .before .before .before .before .before .before .before .before .before .before in
     let h = a .pre .1 .1 .0 .0 in
-    let s = c .before .side-at .ensures ∙ ap numberSide (a .pre .1 .0 .sidesAre (a .args .node) h) ∙ side-again _ in (
-      bound-inner (a .args .table .now) (a .pre .0) (marked (a .args .evaluated .now)) (a .args .unknown) (a .args .node) h _ (a .pre .1 .1 .1)
-          (c .before .before .first-child .ensures .0) (c .before .before .before .before .child-count .ensures .0) (omega arith) s (c .best .ensures),
-      refl,
-    )
+    let s = c .before .side-at .ensures ∙ ap numberSide (a .pre .1 .0 .sidesAre _ h) ∙ side-again _ in
+    let E = marked (a .args .evaluated .now) in
+    let same = a .pre .1 .1 .1 in
+    (bound-inner _ (a .pre .0) E (a .args .unknown) _ h _ same f n (omega arith) s (c .best .ensures), refl)
 
 pub bound-spec : {M : Type 1} → statement M
 bound-spec =

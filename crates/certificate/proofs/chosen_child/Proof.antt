@@ -1,3 +1,4 @@
+-- `certificate::chosen_child` meets its contract: the side says by which bounds a child is chosen.
 use mathlib.Core.Path.{sym, _∙_}
 use Rattle.certificate.proofs.Ranges.{chosen-by}
 use borrow.Author.Needs.{needs}

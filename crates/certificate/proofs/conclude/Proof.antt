@@ -1,9 +1,11 @@
+-- `certificate::conclude` meets its contract: the arrays hold the sides and the bounds, and flags and move follow.
 use native.Mathlib.Omega.{arith}
-use mathlib.Core.Path.{ap, _∙_}
+use mathlib.Core.Path.{_≡_, ap, _∙_}
 use lib.ListN.{length}
+use Rattle.certificate.specs.Buffer.{marked}
 use Rattle.certificate.specs.Places.{Placed}
 use Rattle.certificate.proofs.Places.{placed}
-use Rattle.certificate.proofs.Chosen.{bounded, chosen-move}
+use Rattle.certificate.proofs.Chosen.{Bounded, bounded, chosen-move}
 use Rattle.certificate.proofs.Flags.{flags-follow}
 use borrow.Author.Needs.{needs}
 use Rattle.certificate.proofs.conclude.Statement.{statement}
@@ -23,10 +25,28 @@ abbrev at-highs : tie.After-write-certificate → tie.After-fill-bounds2
 at-highs c = c .before .before .before .before .before .before .before .before
 
 -- the arrays hold the places
-holds-places : (c : tie.After-fill-places) → Placed (at-start c .args .table .now) (c .fill-places .last .1 .0) (c .fill-places .last .1 .1 .0)
+holds-places : (c : tie.After-fill-places)
+    → Placed (at-start c .args .table .now) (c .fill-places .last .1 .0) (c .fill-places .last .1 .1 .0)
 holds-places c =
     let a = at-start c in
-    placed (a .args .table .now) _ _ _ _ (a .pre .0 .few) (a .pre .0 .few) (c .fill-places .ensures .0) (c .fill-places .ensures .1)
+    let few = a .pre .0 .few in
+    let e = c .fill-places .ensures in
+    placed (a .args .table .now) _ _ _ _ few few (e .0) (e .1)
+
+-- the arrays hold the sides and the bounds, by the marks that came in
+holds-bounds : (c : tie.After-fill-bounds2)
+    → Bounded (at-start (at-places (at-lows c)) .args .table .now)
+    (marked (at-start (at-places (at-lows c)) .args .evaluated .now))
+    (at-places (at-lows c) .fill-places .last .1 .1 .0) (at-lows c .fill-bounds .last .1 .1 .1 .1 .0)
+    (c .fill-bounds2 .last .1 .1 .1 .1 .0)
+holds-bounds c =
+    let l = at-lows c .fill-bounds .ensures in
+    bounded _ _ _ _ _ _ (at-places (at-lows c) .fill-places .ensures .1) (l .0) (c .fill-bounds2 .ensures .0) (l .1)
+
+-- which are still as they were
+marks-kept : (c : tie.After-fill-bounds2)
+    → c .fill-bounds2 .last .1 .0 ≡ at-start (at-places (at-lows c)) .args .evaluated .now
+marks-kept c = c .fill-bounds2 .ensures .1 ∙ at-lows c .fill-bounds .ensures .1
 
 slice-aggregate-fill-places : tie.Need-slice-aggregate-fill-places
 slice-aggregate-fill-places c = search needs
@@ -65,7 +85,8 @@ fill-bounds-requires-2 : tie.Need-fill-bounds-requires-2
 fill-bounds-requires-2 c κs =
     let b = c .before .before .before .before .before .before .before in
     let a = at-start (at-places b) in
-    (a .pre .0, (holds-places (at-places b), (omega (arith, a .pre .1 .0, ap length (b .fill-bounds .ensures .1)), a .pre .0 .few)))
+    let l = ap length (b .fill-bounds .ensures .1) in
+    (a .pre .0, (holds-places (at-places b), (omega (arith, a .pre .1 .0, l), a .pre .0 .few)))
 
 slice-aggregate-write-certificate : tie.Need-slice-aggregate-write-certificate
 slice-aggregate-write-certificate c = search needs
@@ -114,14 +135,13 @@ same-length-2 c = search needs
 
 returns : tie.Need-returns
 returns c =
+    let n = c .before .before .before .before .child-count .ensures .0 in
     let w = c .before .before .before .before .before .before .before in
     let h = at-highs w in
-    let l = at-lows h in
-    let a = at-start (at-places l) in
-    let b = bounded (a .args .table .now) _ _ _ _ _ (at-places l .fill-places .ensures .1) (l .fill-bounds .ensures .0)
-    (h .fill-bounds2 .ensures .0) (l .fill-bounds .ensures .1) in (
-      c .chosen-child .ensures ∙ chosen-move _ (a .pre .0) _ b _ (c .before .before .before .before .child-count .ensures .0),
-      (w .write-certificate .ensures _ (flags-follow _ (a .pre .0) _ b), h .fill-bounds2 .ensures .1 ∙ l .fill-bounds .ensures .1),
+    let a = at-start (at-places (at-lows h)) in
+    let b = holds-bounds h in (
+      c .chosen-child .ensures ∙ chosen-move _ (a .pre .0) _ b _ n,
+      (w .write-certificate .ensures _ (flags-follow _ (a .pre .0) _ b), marks-kept h),
     )
 
 pub conclude-spec : {M : Type 1} → statement M

@@ -19,7 +19,8 @@ returns : tie.Need-returns
 unfolding valuation
 returns c =
     let a = c .before .before .before .args in
-    let e = c .leaf-score .ensures .0 ∙ ap (λ d. leafScore d (storedScore (a .table .now) (a .node))) (c .before .before .before .pre .1 .0) in
+    let d = c .before .before .before .pre .1 .0 in
+    let e = c .leaf-score .ensures .0 ∙ ap (λ d. leafScore d (storedScore (a .table .now) (a .node))) d in
     ((e, c .leaf-score .ensures .1), refl)
 
 pub evaluate-spec : {M : Type 1} → statement M

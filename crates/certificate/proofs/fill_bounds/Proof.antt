@@ -1,13 +1,13 @@
-use Prim.Native.Nat.{_-_, _<_}
+-- `certificate::fill_bounds` meets its contract: from the last node to the first, each bound follows from later ones.
 use native.Mathlib.Omega.{arith}
 use mathlib.Core.Path.{_≡_, refl, ap, _∙_}
 use lib.ListN.{length}
 use borrow.Author.Needs.{needs}
 use Rattle.frames.specs.Frame.{frames}
-use Rattle.frames.proofs.Next.{child-later, child-within}
 use Rattle.certificate.specs.Buffer.{marked}
 use Rattle.certificate.specs.Bounds.{boundOf}
-use Rattle.certificate.proofs.BottomUp.{Rising, rising-begins, rising-at, rising-step, rising-ends}
+use Rattle.certificate.proofs.BottomUp.{Rising, rising-begins, rising-step, rising-ends}
+use Rattle.certificate.proofs.Bounds.{children-bounded}
 use Rattle.certificate.proofs.fill_bounds.Statement.{statement}
 use Rattle.certificate.proofs.fill_bounds.Tie as tie
 
@@ -34,14 +34,14 @@ bound-requires c κs =
     let l = c .before .before .before in
     let a = l .before .before .before .before .before .before .before in
     let m = l .loop .inv in
-    let h : l .loop .node - 1 < frames (a .args .table .now) = omega (arith, m .1 .inside) in (
+    let r = m .1 in
+    let l = ap length (m .0) in (
       a .pre .0,
       (
         a .pre .1 .0,
         (
-          (h, omega (arith, ap length (m .0)), omega (arith, m .1 .room)),
-          λ k d. rw (m .0)
-              (rising-at _ (m .1) k (omega (arith, child-later (a .args .table .now) (a .pre .0) h d)) (child-within _ (a .pre .0) h d)),
+          (omega (arith, r .inside), omega (arith, l), omega (arith, r .room)),
+          λ k d. rw (m .0) (children-bounded _ (a .pre .0) _ r (omega arith) k d),
         ),
       ),
     )

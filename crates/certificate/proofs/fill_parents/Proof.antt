@@ -1,3 +1,4 @@
+-- `certificate::fill_parents` meets its contract: each turn stores one node as the parent of its children.
 use Prim.Native.Nat.{_-_, _<_}
 use native.Mathlib.Omega.{arith}
 use mathlib.Core.Path.{refl, sym, _∙_}
@@ -26,7 +27,8 @@ loop-holds : tie.Need-loop-holds Inv-loop μ-loop
 unfolding parentBefore
 loop-holds c =
     let a = c .before .before .before in
-    filled-root (a .args .table .now) (a .pre .0) (parentOf (a .args .table .now)) (a .args .parents .now) 0 refl (a .pre .1)
+    let t = a .args .table .now in
+    filled-root t (a .pre .0) (parentOf t) (a .args .parents .now) 0 refl (a .pre .1)
 
 child-count-requires : tie.Need-child-count-requires Inv-loop μ-loop
 child-count-requires c κs = search needs
@@ -35,7 +37,8 @@ add-end : tie.Need-add-end Inv-loop μ-loop
 add-end c =
     let l = c .before .before in
     let a = l .before .before .before .before in
-    omega (arith, a .pre .0 .few, visit-within _ (l .loop .inv .visit) (omega arith) _ (c .child-count .ensures .0) (a .pre .0))
+    let w = visit-within _ (l .loop .inv .visit) (omega arith) _ (c .child-count .ensures .0) (a .pre .0) in
+    omega (arith, a .pre .0 .few)
 
 cast-fill : tie.Need-cast-fill Inv-loop μ-loop
 cast-fill c = search needs

@@ -1,3 +1,4 @@
+-- `certificate::first_equal` meets its contract: what is left to be searched gives what all of it was to give.
 use Prim.Native.Nat.{_-_, _≤_}
 use native.Mathlib.Omega.{arith}
 use mathlib.Core.Path.{_≡_, refl, sym, _∙_}

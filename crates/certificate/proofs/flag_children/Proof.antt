@@ -1,3 +1,4 @@
+-- `certificate::flag_children` meets its contract: it stores a run of flags.
 use Prim.Native.Nat.{_-_}
 use native.Mathlib.Omega.{arith}
 use mathlib.Core.Logic.{⊎-elim}

@@ -1,3 +1,4 @@
+-- `certificate::leaf_bound` meets its contract: only a marked leaf is evaluated, so no mark changes.
 use mathlib.Core.Path.{refl, sym, _∙_}
 use Rattle.frames.specs.Tree.{valuation}
 use Rattle.certificate.proofs.Bounds.{known-marked, known-unmarked, mark-again}

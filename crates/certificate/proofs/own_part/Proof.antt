@@ -1,3 +1,4 @@
+-- `certificate::own_part` meets its contract.
 use borrow.Author.Needs.{needs}
 use Rattle.certificate.proofs.own_part.Statement.{statement}
 use Rattle.certificate.proofs.own_part.Tie as tie

@@ -1,3 +1,4 @@
+-- `certificate::place_at` meets its contract.
 use borrow.Author.Needs.{needs}
 use Rattle.certificate.proofs.place_at.Statement.{statement}
 use Rattle.certificate.proofs.place_at.Tie as tie

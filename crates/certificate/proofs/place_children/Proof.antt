@@ -1,3 +1,4 @@
+-- `certificate::place_children` meets its contract: it stores a run of depths and a run of sides.
 use Prim.Native.Nat.{_-_}
 use native.Mathlib.Omega.{arith}
 use mathlib.Core.Path.{refl, ap, _∙_}
@@ -55,7 +56,9 @@ same-length-2 : tie.Need-same-length-2 Inv-loop μ-loop
 same-length-2 c = search needs
 
 returns : tie.Need-returns Inv-loop μ-loop
-returns c = (run-ends _ _ _ _ _ _ (omega arith) (c .before .loop .inv .0), run-ends _ _ _ _ _ _ (omega arith) (c .before .loop .inv .1))
+returns c =
+    let r = c .before .loop .inv in
+    (run-ends _ _ _ _ _ _ (omega arith) (r .0), run-ends _ _ _ _ _ _ (omega arith) (r .1))
 
 pub place-children-spec : {M : Type 1} → statement M
 place-children-spec =

@@ -1,3 +1,4 @@
+-- `certificate::side_at` meets its contract.
 use Rattle.certificate.proofs.Places.{number-min}
 use borrow.Author.Needs.{needs}
 use Rattle.certificate.proofs.side_at.Statement.{statement}

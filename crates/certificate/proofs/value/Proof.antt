@@ -1,3 +1,4 @@
+-- `certificate::value` meets its contract: no step leaves the range of its type.
 use mathlib.Core.Path.{_≡_}
 use native.Mathlib.Omega.{arith}
 use lib.IntN.{pos}
@@ -30,7 +31,9 @@ cast-result-2 : tie.Need-cast-result-2
 cast-result-2 c = rw (plain c, toZ-ofZ w32 (valueOf (c .args .score)) (fits32 c)) (fits16 c)
 
 returns : tie.Need-returns
-returns c = rw (plain c, toZ-ofZ w32 (valueOf (c .args .score)) (fits32 c), toZ-ofZ w16 (valueOf (c .args .score)) (fits16 c))
+returns c =
+    let v = valueOf (c .args .score) in
+    rw (plain c, toZ-ofZ w32 v (fits32 c), toZ-ofZ w16 v (fits16 c))
 
 pub value-spec : {M : Type 1} → statement M
 value-spec = tie.close (tie.spec cast-result sub-result cast-result-2 returns)

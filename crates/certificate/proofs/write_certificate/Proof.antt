@@ -1,3 +1,4 @@
+-- `certificate::write_certificate` meets its contract: each turn stores the flags of one node's children.
 use Prim.Native.Nat.{ℕ, _-_, _<_}
 use native.Mathlib.Omega.{arith}
 use mathlib.Core.Path.{sym, _∙_}
@@ -5,7 +6,8 @@ use lib.ListN.{length-set}
 use borrow.Author.Needs.{needs}
 use Rattle.frames.specs.Frame.{frames}
 use Rattle.certificate.specs.Flags.{FlagsFrom}
-use Rattle.certificate.proofs.TopDown.{Visit, Filled, visit-root, visit-within, visit-step, filled-root, filled-all}
+use Rattle.certificate.proofs.TopDown.{Visit, visit-root, visit-within, visit-step}
+use Rattle.certificate.proofs.TopDown.{Filled, filled-root, filled-all}
 use Rattle.certificate.proofs.Flags.{flags-step}
 use Rattle.certificate.proofs.write_certificate.Statement.{statement}
 use Rattle.certificate.proofs.write_certificate.Tie as tie
@@ -41,7 +43,8 @@ add-end : tie.Need-add-end Inv-loop μ-loop
 add-end c =
     let l = c .before .before in
     let a = l .before .before .before .before .before .before .before in
-    omega (arith, a .pre .0 .few, visit-within _ (l .loop .inv .0) (omega arith) _ (c .child-count .ensures .0) (a .pre .0))
+    let w = visit-within _ (l .loop .inv .0) (omega arith) _ (c .child-count .ensures .0) (a .pre .0) in
+    omega (arith, a .pre .0 .few)
 
 chosen-child-requires : tie.Need-chosen-child-requires Inv-loop μ-loop
 chosen-child-requires c κs =

@@ -1,19 +1,20 @@
 -- `visit` does what the pass does at the node, and leaves everything outside its tree as it was. The measure of the
 -- recursion is the number of frames after the node, that of the loop the number of children left.
-use Prim.Native.Nat.{ℕ, _+_, _-_, _≤_, _<_}
+use Prim.Native.Nat.{ℕ, _+_, _-_, _<_}
 use native.Mathlib.Omega.{arith}
-use mathlib.Core.Path.{_≡_, refl, sym, ap, _∙_}
+use mathlib.Core.Path.{refl, sym, ap, _∙_}
 use lib.ListN.{length-set}
 use borrow.Author.Needs.{needs}
 use borrow.Author.Tests.{eq-eqb, ne-eqb}
 use borrow.Fn.Kinds.{In}
 use borrow.Fn.PlainCycle.{Measures, is, falls, and}
 use Rattle.frames.specs.Frame.{frames}
-use Rattle.frames.proofs.Next.{child-later, child-within, children-within}
-use Rattle.frames.proofs.Places.{depth-at-most}
+use Rattle.frames.proofs.Next.{child-later, child-within}
 use Rattle.mtd.specs.Memory.{Memory, memory, Room}
-use Rattle.mtd.proofs.Visits.{Family, Turn, Long, room-kept, turn-first, turn-child, turn-ready, turn-few, turn-next}
-use Rattle.mtd.proofs.Visits.{turn-last, visit-below, visit-found, visit-entered}
+use Rattle.mtd.proofs.Arrays.{Long, room-kept}
+use Rattle.mtd.proofs.Turns.{Turn, Family, family-within, turn-first, turn-child, turn-ready, turn-few}
+use Rattle.mtd.proofs.Turns.{turn-next, turn-last}
+use Rattle.mtd.proofs.Visits.{ready-shallow, visit-below, visit-found, visit-entered}
 use Rattle.mtd.proofs.visit.Reads as visit′
 use Rattle.mtd.proofs.visit.Kinds as visit-kinds
 use Rattle.mtd.proofs.+visit.Lts-visit as lts
@@ -37,15 +38,34 @@ abbrev below : ℕ → In 4 visit-kinds.ps
 below t = and 4 visit-kinds.ps (falls 4 visit-kinds.ps _<_ μ t) visit′.Pre
 
 abbrev Inv : lts.InvT-loop
-Inv table evaluated₀ highs₀ found₀ node place test count side first end child₀ leaves₀ evaluated highs found child leaves =
+Inv table evaluated₀ highs₀ found₀ node place test count side first end child₀ leaves₀ evaluated highs found child
+    leaves =
     Turn table side test first end (memory evaluated₀ highs₀ found₀) (memory evaluated highs found) leaves child
 
 abbrev μ-loop : lts.MeasureT-loop
-μ-loop table evaluated₀ highs₀ found₀ node place test count side first end child₀ leaves₀ evaluated highs found child leaves =
+μ-loop table evaluated₀ highs₀ found₀ node place test count side first end child₀ leaves₀ evaluated highs found child
+    leaves =
     end - child
 
 abbrev calls : ℕ → lts.Claims
-calls t = (child-count-reads.Asked, child-count-reads.Learnt, visit-leaf-reads.Asked, visit-leaf-reads.Learnt, first-child-reads.Asked, first-child-reads.Learnt, child-place-reads.Asked, child-place-reads.Learnt, below t, visit′.Post, last-tried-reads.Asked, last-tried-reads.Learnt, best-from-reads.Asked, best-from-reads.Learnt, flag-reads.Asked, flag-reads.Learnt)
+calls t = (
+  child-count-reads.Asked,
+  child-count-reads.Learnt,
+  visit-leaf-reads.Asked,
+  visit-leaf-reads.Learnt,
+  first-child-reads.Asked,
+  first-child-reads.Learnt,
+  child-place-reads.Asked,
+  child-place-reads.Learnt,
+  below t,
+  visit′.Post,
+  last-tried-reads.Asked,
+  last-tried-reads.Learnt,
+  best-from-reads.Asked,
+  best-from-reads.Learnt,
+  flag-reads.Asked,
+  flag-reads.Learnt,
+)
 
 module _ (t : ℕ) where
   -- the function's entry, and the head of the loop
@@ -70,8 +90,16 @@ module _ (t : ℕ) where
         formed = entry c .pre .1 .formed;
         inside = entry c .pre .1 .inside;
         from = c .first-child .ensures .0;
-        to = ap (λ n. c .first-child .result + n) (c .before .before .before .before .before .before .child-count .ensures .0);
+        to =
+            ap (λ n. c .first-child .result + n)
+            (c .before .before .before .before .before .before .child-count .ensures .0);
       }
+
+  some : (c : lts.After-last-tried (calls t) (at t) visit′.Post Inv μ-loop)
+      → let f = head (child c) .before in
+      let n = f .before .before .before .before .before .before .child-count .result in
+      f .first-child .result < f .first-child .result + n
+  some c = omega (arith, head (child c) .loop .inv .from, head (child c) .loop .inv .to)
 
   -- the arrays at the entry, and after the visit of a child
   abbrev before : lts.Start (calls t) (at t) visit′.Post Inv μ-loop → Memory
@@ -86,7 +114,7 @@ module _ (t : ℕ) where
 
   room : (c : lts.After-last-tried (calls t) (at t) visit′.Post Inv μ-loop)
       → Room (frames (entry (head (child c) .before) .args .table .now)) (after (child c))
-  room c = room-kept _ (entry (head (child c) .before) .pre .1 .room) (long c)
+  room c = room-kept (entry (head (child c) .before) .pre .1 .room) (long c)
 
   child-count-requires : lts.Need-child-count-requires (calls t) (at t) visit′.Post Inv μ-loop
   child-count-requires c κs = search needs
@@ -114,23 +142,18 @@ module _ (t : ℕ) where
 
   returns-2 : lts.Need-returns-2 (calls t) (at t) visit′.Post Inv μ-loop
   returns-2 c =
-      let a = c .before .before .before .before .before .before .before .before in
-      let p = a .pre .1 in
-      visit-below (record { formed = p .formed; inside = p .inside; from = refl; to = refl }) (a .args .place .side)
-      (a .args .test) (before a)
-      (ap (λ p. p .side) (p .stands)) (omega arith) (p .right) _ refl refl (c .if2 .taken)
+      let p = c .before .before .before .before .before .before .before .before .pre .1 in
+      visit-below (record { formed = p .formed; inside = p .inside; from = refl; to = refl }) p (omega arith) refl refl
+      (omega (arith, c .if2 .taken))
 
   slice-read-if3 : lts.Need-slice-read-if3 (calls t) (at t) visit′.Post Inv μ-loop
   slice-read-if3 c = search needs
 
   returns-3 : lts.Need-returns-3 (calls t) (at t) visit′.Post Inv μ-loop
   returns-3 c =
-      let a = c .before .before .before .before .before .before .before .before .before .before in
-      let p = a .pre .1 in
-      visit-found (record { formed = p .formed; inside = p .inside; from = refl; to = refl }) (a .args .place .side)
-      (a .args .test) (before a)
-      (ap (λ p. p .side) (p .stands)) (omega arith) (p .right) _ refl refl (c .before .before .if2 .left)
-      (eq-eqb _ _ (c .if3 .taken))
+      let p = c .before .before .before .before .before .before .before .before .before .before .pre .1 in
+      visit-found (record { formed = p .formed; inside = p .inside; from = refl; to = refl }) p (omega arith) refl refl
+      (c .before .before .if2 .left) (eq-eqb _ _ (c .if3 .taken))
 
   first-child-requires : lts.Need-first-child-requires (calls t) (at t) visit′.Post Inv μ-loop
   first-child-requires c κs = search needs
@@ -139,32 +162,22 @@ module _ (t : ℕ) where
   add-end c = search needs
 
   loop-holds : lts.Need-loop-holds (calls t) (at t) visit′.Post Inv μ-loop
-  loop-holds c =
-      let a = entry c in
-      turn-first (family c) (a .args .place .side) (a .args .test)
-      (before a) (omega arith) (a .pre .1 .right)
+  loop-holds c = turn-first (family c) (entry c .pre .1) (omega arith)
 
   child-place-requires : lts.Need-child-place-requires (calls t) (at t) visit′.Post Inv μ-loop
   child-place-requires c κs =
       let l = c .before .before .before in
-      let a = entry (l .before) in
-      let p = a .pre .1 in
-      let k = turn-child (family (l .before)) (l .loop .inv) in (
-        child-within (a .args .table .now) (p .formed) (p .inside) k,
-        omega (arith, depth-at-most (a .args .table .now) (a .args .node), p .formed .few, ap (λ p. p .depth) (p .stands)),
-      )
+      let p = entry (l .before) .pre .1 in
+      let k = turn-child (family (l .before)) (l .loop .inv) in
+      (child-within _ (p .formed) (p .inside) k, ready-shallow p)
 
   visit-requires : lts.Need-visit-requires (calls t) (at t) visit′.Post Inv μ-loop
   visit-requires c κs =
       let l = c .before .before .before .before in
-      let a = entry (l .before) in
+      let p = entry (l .before) .pre .1 in
       let k = turn-child (family (l .before)) (l .loop .inv) in (
-        omega (
-          arith,
-          child-later (a .args .table .now) (a .pre .1 .formed) (a .pre .1 .inside) k,
-          child-within (a .args .table .now) (a .pre .1 .formed) (a .pre .1 .inside) k,
-        ),
-        turn-ready (family (l .before)) (a .pre .1) (l .loop .inv) (c .child-place .ensures),
+        omega (arith, child-later _ (p .formed) (p .inside) k, child-within _ (p .formed) (p .inside) k),
+        turn-ready (family (l .before)) p (l .loop .inv) (c .child-place .ensures),
       )
 
   add-leaves : lts.Need-add-leaves (calls t) (at t) visit′.Post Inv μ-loop
@@ -192,10 +205,7 @@ module _ (t : ℕ) where
   best-from-requires : lts.Need-best-from-requires (calls t) (at t) visit′.Post Inv μ-loop
   best-from-requires c κs =
       let d = c .before .before in
-      let f = head (child d) .before in
-      let a = entry f in
-      let w = children-within (a .args .table .now) (a .pre .1 .formed) (a .args .node) (a .pre .1 .inside) (omega arith) in
-      (omega arith, omega (arith, w, room d .highs, family f .from, family f .to))
+      (some d, omega (arith, family-within (family (head (child d) .before)) (some d), room d .highs))
 
   mul-highs : lts.Need-mul-highs (calls t) (at t) visit′.Post Inv μ-loop
   mul-highs c =
@@ -230,12 +240,10 @@ module _ (t : ℕ) where
       let v = child d in
       let l = head v in
       let f = l .before in
-      let a = entry f in
       let e = sym (d .last-tried .ensures) ∙ c .before .before .before .if4 .taken in
       rw (c .flag .ensures)
-      (visit-entered (family f) (a .args .place .side) (a .args .test) (before a) (ap (λ p. p .side) (a .pre .1 .stands))
-      (omega (arith, l .loop .inv .from, l .loop .inv .to, family f .to)) (a .pre .1 .right) (after v) _ (c .before .best-from .result) (f .before .before .before .if2 .left)
-      (ne-eqb _ _ (f .before .if3 .left)) (room d)
+      (visit-entered (family f) (entry f .pre .1) (some d)
+      (f .before .before .before .if2 .left) (ne-eqb _ _ (f .before .if3 .left)) (room d)
       (turn-last (family f) (l .loop .inv) (v .visit .ensures) e) (c .before .best-from .ensures))
 
 pub +visit-spec : {M : Type 1} → statement M

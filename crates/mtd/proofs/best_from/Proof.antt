@@ -1,16 +1,17 @@
 -- `best_from` meets its contract: from the right, `best` is the best of the scores from `at` on.
 use Prim.Native.Nat.{_+_, _≤_, _<_, _-_}
 use native.Mathlib.Omega.{arith}
-use mathlib.Core.Path.{_≡_, _∙_}
+use mathlib.Core.Path.{_≡_, sym, _∙_}
+use lib.ListN.{getD}
 use borrow.Author.Needs.{needs}
-use Rattle.mtd.specs.Best.{bestFrom}
-use Rattle.mtd.proofs.Best.{best-one, best-more}
+use Rattle.certificate.specs.Ranges.{bestIn}
+use Rattle.certificate.proofs.Ranges.{best-last, best-before}
 use Rattle.mtd.proofs.best_from.Statement.{statement}
 use Rattle.mtd.proofs.best_from.Tie as tie
 
 abbrev Inv-loop : tie.InvT-loop
 Inv-loop scores side first end at₀ best₀ at best =
-    (first ≤ at) × (at < end) × (best ≡ bestFrom side scores at (end - (at + 1)))
+    (first ≤ at) × (at < end) × (best ≡ bestIn side (λ k. getD scores k 0) at (end - (at + 1)))
 
 abbrev μ-loop : tie.MeasureT-loop
 μ-loop scores side first end at₀ best₀ at best = at - first
@@ -25,7 +26,7 @@ shared-slice-read-best : tie.Need-shared-slice-read-best Inv-loop μ-loop
 shared-slice-read-best c = search needs
 
 loop-holds : tie.Need-loop-holds Inv-loop μ-loop
-loop-holds c = (search needs, search needs, best-one _ _ _ _ (omega arith))
+loop-holds c = (search needs, search needs, sym (best-last _ _ _ _ (omega arith)))
 
 sub-at-2 : tie.Need-sub-at-2 Inv-loop μ-loop
 sub-at-2 c = search needs
@@ -44,10 +45,10 @@ loop-less c = search needs
 
 loop-again : tie.Need-loop-again Inv-loop μ-loop
 loop-again c =
-    let l = c .before .before .before in (
-      search needs,
-      search needs,
-      c .better .ensures ∙ best-more _ _ (l .loop .at) _ _ _ _ (omega arith) (omega arith) (l .loop .inv .2),
+    let l = c .before .before .before .loop in (
+      omega arith,
+      omega arith,
+      c .better .ensures ∙ best-before _ _ _ _ _ (l .inv .2) (omega arith) (omega arith),
     )
 
 returns : tie.Need-returns Inv-loop μ-loop

@@ -1,7 +1,6 @@
 -- `last_tried` meets its contract: by the test whether a child is left.
 use borrow.Author.Needs.{needs}
 use borrow.Author.Tests.{eq-eqb, ne-eqb}
-use mathlib.Core.Path.{ap}
 use Rattle.mtd.proofs.last_tried.Statement.{statement}
 use Rattle.mtd.proofs.last_tried.Tie as tie
 

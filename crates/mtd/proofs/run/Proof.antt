@@ -14,8 +14,11 @@ abbrev start : tie.After-clear → tie.Start
 start c = c .before .before .before .before .before .before
 
 -- the marks after the clearing
-cleared : (c : tie.After-clear) → c .clear .last .0 ≡ written (λ _. 0) (frames (start c .args .table .now)) (start c .args .evaluated .now)
-cleared c = c .clear .ensures ∙ ap (λ m. written (λ _. 0) m (start c .args .evaluated .now)) (c .before .frame-count .ensures)
+cleared : (c : tie.After-clear)
+    → c .clear .last .0 ≡ written (λ _. 0) (frames (start c .args .table .now)) (start c .args .evaluated .now)
+cleared c =
+    c .clear .ensures
+    ∙ ap (λ m. written (λ _. 0) m (start c .args .evaluated .now)) (c .before .frame-count .ensures)
 
 frame-count-requires : tie.Need-frame-count-requires
 frame-count-requires c κs = search needs

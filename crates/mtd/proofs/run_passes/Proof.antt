@@ -1,26 +1,25 @@
 -- `run_passes` gives what MTD gives. The measure is the test, which falls with each pass.
 use native.Mathlib.Omega.{arith}
-use mathlib.Core.Path.{_≡_}
-use borrow.Author.Needs.{needs}
 use Rattle.gametree.specs.Mtd.{mtd}
 use Rattle.frames.specs.Tree.{tree, valuation}
 use Rattle.mtd.specs.Memory.{memory}
-use Rattle.mtd.proofs.Visits.{Long}
-use Rattle.mtd.proofs.Runs.{Passing, mtd-few, passing-first, passing-ready, passing-few, passing-last, next-falls}
-use Rattle.mtd.proofs.Runs.{passing-next}
+use Rattle.mtd.proofs.Arrays.{Long}
+use Rattle.mtd.proofs.Runs.{Passing, mtd-few, passing-first, passing-ready, passing-few, passing-last}
+use Rattle.mtd.proofs.Runs.{next-falls, passing-next}
 use Rattle.mtd.proofs.run_passes.Statement.{statement}
 use Rattle.mtd.proofs.run_passes.Tie as tie
 
 abbrev Inv-loop : tie.InvT-loop
 Inv-loop table evaluated₀ highs₀ found₀ root test₀ leaves₀ passes₀ evaluated highs found test leaves passes =
-    Passing table (mtd (valuation table) (tree table)) (memory evaluated₀ highs₀ found₀) (memory evaluated highs found) test
-    leaves passes
+    Passing table (mtd (valuation table) (tree table)) (memory evaluated₀ highs₀ found₀) (memory evaluated highs found)
+    test leaves passes
 
 abbrev μ-loop : tie.MeasureT-loop
 μ-loop table evaluated₀ highs₀ found₀ root test₀ leaves₀ passes₀ evaluated highs found test leaves passes = test
 
 loop-holds : tie.Need-loop-holds Inv-loop μ-loop
-loop-holds c = passing-first _ _ (c .before .before .before .before .pre)
+loop-holds c =
+    passing-first _ _ (c .before .before .before .before .pre) _ _ _ (omega arith) (omega arith) (omega arith)
 
 -- the head of the loop, and the function's entry
 abbrev head : tie.After-visit Inv-loop μ-loop → tie.At-loop Inv-loop μ-loop
@@ -50,20 +49,25 @@ add-leaves c =
 add-passes : tie.Need-add-passes Inv-loop μ-loop
 add-passes c = omega (arith, head (c .before .before .before .before .before .before .before) .loop .inv .few)
 
-slice-read-test : tie.Need-slice-read-test Inv-loop μ-loop
-slice-read-test c =
+next-test-requires : tie.Need-next-test-requires Inv-loop μ-loop
+next-test-requires c κs =
     let v = c .before .before .before .before .before .before .before .before .before in
     omega (arith, entry v .pre .formed .some, entry v .pre .room .highs, long v .highs)
 
 loop-less : tie.Need-loop-less Inv-loop μ-loop
 loop-less c =
-    let v = c .before .before .before .before .before .before .before .before .before in
-    next-falls (entry v .pre .formed) (head v .loop .inv) (v .visit .ensures) (c .before .if1 .left)
+    let v = c .before .before .before .before .before .before .before .before .before .before in
+    omega (
+      arith,
+      next-falls (entry v .pre .formed) (head v .loop .inv) (v .visit .ensures) (c .before .before .if1 .left),
+      c .next-test .ensures,
+    )
 
 loop-again : tie.Need-loop-again Inv-loop μ-loop
 loop-again c =
-    let v = c .before .before .before .before .before .before .before .before .before in
-    passing-next (entry v .pre .formed) (head v .loop .inv) (v .visit .ensures) (c .before .if1 .left) (long v)
+    let v = c .before .before .before .before .before .before .before .before .before .before in
+    passing-next (entry v .pre .formed) (head v .loop .inv) (v .visit .ensures) (c .before .before .if1 .left)
+    (long v) _ (c .next-test .ensures)
 
 same-length : tie.Need-same-length Inv-loop μ-loop
 same-length c = long (c .before .before .before .before .before .before .before .before) .evaluated
@@ -89,7 +93,7 @@ run-passes-spec =
     visit-requires
     add-leaves
     add-passes
-    slice-read-test
+    next-test-requires
     loop-less
     loop-again
     same-length

@@ -5,10 +5,6 @@ use Rattle.certificate.proofs.Questions.{nodes-roomy}
 use Rattle.mtd.proofs.Whole.{finding, rejecting}
 use Rattle.mtd.proofs.search.Statement.{statement}
 use Rattle.mtd.proofs.search.Tie as tie
-use Rattle.mtd.proofs.search.Reads as reads
-use Rattle.mtd.proofs.search.Lts as lts
-use Rattle.certificate.proofs.ask.Reads as ask-reads
-use Rattle.mtd.proofs.run.Reads as run-reads
 
 ask-requires : tie.Need-ask-requires
 ask-requires c κs = search needs

@@ -1,3 +1,4 @@
+-- `try_leaf` meets its contract: a leaf that is marked already has its score for a high.
 use mathlib.Core.Path.{sym, ap}
 use lib.ListN.{set}
 use borrow.Author.Needs.{needs}
@@ -5,15 +6,10 @@ use borrow.Author.Tests.{eq-eqb, ne-eqb}
 use Rattle.mtd.proofs.Arrays.{set-same}
 use Rattle.mtd.proofs.try_leaf.Statement.{statement}
 use Rattle.mtd.proofs.try_leaf.Tie as tie
-use Rattle.mtd.proofs.try_leaf.Reads as reads
-use Rattle.mtd.proofs.try_leaf.Lts as lts
-use Rattle.certificate.proofs.evaluate.Reads as evaluate-reads
 
--- src/lib.rt:124:8
 slice-read-if1 : tie.Need-slice-read-if1
 slice-read-if1 c = search needs
 
--- src/lib.rt:125:9
 returns : tie.Need-returns
 returns c =
     let a = c .before .before .before .before .before in
@@ -22,27 +18,21 @@ returns c =
       (sym (set-same _ _ 1 (c .if1 .taken)), sym (set-same _ _ _ (a .pre .1 .1 e))),
     )
 
--- src/lib.rt:127:9
 evaluate-requires : tie.Need-evaluate-requires
 evaluate-requires c κs = search needs
 
--- src/lib.rt:128:5
 mul-highs : tie.Need-mul-highs
 mul-highs c = search needs
 
--- src/lib.rt:128:5
 slice-write-highs : tie.Need-slice-write-highs
 slice-write-highs c = search needs
 
--- src/lib.rt:116:1
 same-length : tie.Need-same-length
 same-length c = search needs
 
--- src/lib.rt:116:1
 same-length-2 : tie.Need-same-length-2
 same-length-2 c = search needs
 
--- src/lib.rt:116:1
 returns-2 : tie.Need-returns-2
 returns-2 c =
     let a = c .before .before .before .before .before .before .before .before .before .args in

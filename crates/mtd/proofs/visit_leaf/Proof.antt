@@ -2,20 +2,18 @@
 use native.Mathlib.Omega.{arith}
 use mathlib.Core.Path.{refl, ap}
 use borrow.Author.Needs.{needs}
-use Rattle.frames.proofs.Places.{depth-at-most}
 use Rattle.mtd.specs.Memory.{memory}
-use Rattle.mtd.proofs.Visits.{leaf-known, visit-leaf}
+use Rattle.mtd.proofs.Visits.{ready-shallow, leaf-known, visit-leaf}
 use Rattle.mtd.proofs.visit_leaf.Statement.{statement}
 use Rattle.mtd.proofs.visit_leaf.Tie as tie
 
 try-leaf-requires : tie.Need-try-leaf-requires
 try-leaf-requires c κs =
     let a = c .before .before .before .before .before .before in
-    let p = a .pre .0 in
-    let d = ap (λ p. p .depth) (p .stands) in (
+    let p = a .pre .0 in (
       (p .inside, omega (arith, p .room .evaluated), omega (arith, p .room .highs)),
       (
-        (d, omega (arith, depth-at-most (a .args .table .now) (a .args .node), p .formed .few)),
+        (ap (λ p. p .depth) (p .stands), ready-shallow p),
         leaf-known (a .args .table .now) (p .formed) (a .args .node) (p .inside) (a .pre .1)
             (memory (a .args .evaluated .now) (a .args .highs .now) (a .args .found .now)) (p .right),
       ),
@@ -47,8 +45,8 @@ returns c =
     let a = c .before .before .before .before .before .before .before .before .before .before .before .before .before in
     let p = a .pre .0 in
     let l = c .before .before .before .before .before .before .try-leaf .ensures in
-    visit-leaf (a .args .table .now) (p .formed) (a .args .node) (p .inside) (a .pre .1) _ (a .args .test) _ _ _ _ _ (p .room)
-    (l .1 .0) (l .1 .1) (c .flag .ensures) refl (l .0)
+    visit-leaf (a .args .table .now) (p .formed) (a .args .node) (p .inside) (a .pre .1) _ (a .args .test) _ _ _ _ _
+    (p .room) (l .1 .0) (l .1 .1) (c .flag .ensures) refl (l .0)
 
 pub visit-leaf-spec : {M : Type 1} → statement M
 visit-leaf-spec =

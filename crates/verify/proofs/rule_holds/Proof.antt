@@ -1,7 +1,7 @@
--- `rule_holds` meets its contract: one lemma for each of its three returns.
+-- `rule_holds` meets its contract: one lemma for each of its returns.
 use Prim.Native.Nat.{ℕ, zero, suc}
 use native.Mathlib.Omega.{arith}
-use mathlib.Core.Path.{_≡_, sym, _∙_}
+use mathlib.Core.Path.{_≡_, refl, sym, _∙_}
 use mathlib.Core.Logic.{⊎-elim}
 use mathlib.Core.Bool.{Bool, true, false}
 use mathlib.Core.List.{List}
@@ -22,6 +22,11 @@ root-outside : (p : Side) (t flags : List ℕ) (i : ℕ) → i ≡ 0 → member 
 unfolding ruleHolds
 root-outside p t flags zero e m = rw m
 root-outside p t flags (suc i) e m = absurd (omega arith)
+
+-- a node outside has no child in the tree
+required-outside : (p q : Side) (n : ℕ) → requiredOf p q false n ≡ 0
+required-outside p q zero = refl
+required-outside p q (suc n) = refl
 
 module _ (p : Side) (t flags : List ℕ) (i : ℕ) (r : rootMember p flags i ≡ true) where
   -- a leaf
@@ -76,20 +81,35 @@ count-members-requires c κs =
     let s = c .before .before .before .before .before .before .before .before in
     omega (arith, children-within (s .args .table .now) (s .pre .0) (s .args .node) (s .pre .1 .0 .0) (omega arith))
 
-required-requires : tie.Need-required-requires
-required-requires c κs = search needs
-
-returns-3 : tie.Need-returns-3
-returns-3 c =
-    let k = c .before in
-    let f = k .before in
+-- an inner node, where b says whether it is in the tree
+inner : (c : tie.After-count-members) (b : Bool) (k : ℕ) →
+    let n = c .before .before .before in
+    let m = n .before .before in
+    let a = m .before .before .before .before .args in
+    m .is-member .result ≡ b → k ≡ requiredOf (a .side) (a .mover) b (n .child-count .result)
+    → eqb (c .count-members .result) k ≡ ruleHolds (a .side) (a .table .now) (a .flags .now) (a .node)
+inner c b k e g =
+    let f = c .before in
     let n = f .before .before in
     let m = n .before .before in
     let s = m .before .before .before .before in
     let a = s .args in
     inner-holds (a .side) (a .table .now) (a .flags .now) (a .node) (root-in (n .before)) _ _ _ _ _ _
-    (f .first-child .ensures .0) (n .child-count .ensures .0) (s .pre .1 .1) (m .is-member .ensures)
-    (k .count-members .ensures) (c .required .ensures)
+    (f .first-child .ensures .0) (n .child-count .ensures .0) (s .pre .1 .1) (sym e ∙ m .is-member .ensures)
+    (c .count-members .ensures) g
+
+returns-3 : tie.Need-returns-3
+returns-3 c =
+    let n = c .before .before .before .before in
+    let a = n .before .before .before .before .before .before .args in
+    inner (c .before) false 0 (not-true _ (c .if4 .taken))
+    (sym (required-outside (a .side) (a .mover) (n .child-count .result)))
+
+required-requires : tie.Need-required-requires
+required-requires c κs = search needs
+
+returns-4 : tie.Need-returns-4
+returns-4 c = inner (c .before .before) true _ (not-false _ (c .before .if4 .left)) (c .required .ensures)
 
 pub rule-holds-spec : {M : Type 1} → statement M
 rule-holds-spec =
@@ -102,5 +122,6 @@ rule-holds-spec =
     returns-2
     first-child-requires
     count-members-requires
+    returns-3
     required-requires
-    returns-3)
+    returns-4)

@@ -1,0 +1,129 @@
+-- What a pass does at a node, over its tree and the arrays: a leaf is tried; a node whose high is below the test, or
+-- that was found not below, is not entered; any other is entered.
+use Prim.Native.Nat.{ℕ, suc, _≤_, _<_}
+use native.Mathlib.Omega.{arith}
+use mathlib.Core.Path.{_≡_, refl, sym, ap, ap₂, _∙_, subst}
+use mathlib.Core.Logic.{inl, inr}
+use mathlib.Core.Bool.{Bool, true, false, cond}
+use mathlib.Core.List.{List, [], _∷_}
+use lib.Dec.{leb}
+use lib.ListN.{length, getD, set}
+use lib.Seq.{getD-set-same, getD-set-other}
+use borrow.Author.Tests.{lt-ltb, le-ltb, eqb-true}
+use Rattle.gametree.specs.declared.Side.{Side}
+use Rattle.gametree.specs.Tree.{Tree, leaf, inner, Kids, InKids}
+use Rattle.gametree.specs.Bounds.{high}
+use Rattle.gametree.specs.Mtd.{Memo, memoHigh, stay, entered}
+use Rattle.gametree.proofs.MemoArrays.{readMemoKids-same}
+use Rattle.frames.specs.Tree.{treeAt, valuation}
+use Rattle.certificate.specs.Buffer.{marked, markAll}
+use Rattle.mtd.specs.declared.Tried.{Tried}
+use Rattle.mtd.specs.Memory.{Memory, memory, memoOf, passOf, Room, HighsRight, Evaluated, Passed}
+use Rattle.mtd.proofs.Arrays.{set-same, marked-same, marked-other, read-high, evaluated-none}
+use Rattle.mtd.proofs.Children.{passKidsOf, PassedKids}
+
+-- a leaf that was tried: evaluated now, if it was not before, and compared with the test
+module _ (t : List ℕ) (i γ : ℕ) (m : Memory) (r : Tried) (is-leaf : treeAt t i ≡ leaf i)
+    (room : Room (suc i) m) (a : r .answer ≡ leb γ (valuation t i))
+    (n : r .leaves ≡ cond (marked (m .evaluated) i) 0 1) where
+  tried-once : (b : Bool) → _≡_ {A = ℕ} (cond b 0 1) (length (cond b [] (i ∷ [])))
+  tried-once true = refl
+  tried-once false = refl
+
+  tried-marks : (b : Bool) → marked (m .evaluated) i ≡ b
+      → set (m .evaluated) i 1 ≡ markAll (m .evaluated) (cond b [] (i ∷ []))
+  unfolding markAll
+  tried-marks true e = set-same (m .evaluated) i 1 (eqb-true _ _ e)
+  tried-marks false e = refl
+
+  pub leaf-passed : Passed t (leaf i) γ m
+      (memory (set (m .evaluated) i 1) (set (m .highs) i (valuation t i)) (set (m .found) i (cond (r .answer) 1 0))) r
+  leaf-passed =
+      let e = marked-same (m .evaluated) i true (omega (arith, room .evaluated)) in
+      let f = marked-same (m .found) i (r .answer) (omega (arith, room .found)) in
+      record {
+        answer = a;
+        evaluated =
+            record {
+              leaves = n ∙ tried-once (marked (m .evaluated) i);
+              marks = tried-marks (marked (m .evaluated) i) refl;
+            };
+        memo =
+            record {
+              got = ap₂ {C = Memo (leaf i)} (λ x y. record { evaluated = x; notBelow = y }) e (f ∙ a);
+              frame = λ p h. (marked-other (m .evaluated) i p 1 h, marked-other (m .found) i p _ h);
+            };
+        right = λ k h. rw (h, is-leaf, e) (getD-set-same (m .highs) i (valuation t i) 0 (omega (arith, room .highs)));
+        others = λ k h. getD-set-other (m .highs) i k (valuation t i) 0 h;
+      }
+
+-- a node that is not entered
+stay-passed : (t : List ℕ) (T : Tree) (γ : ℕ) (m : Memory) (r : Tried) → r .leaves ≡ 0
+    → passOf t γ m T ≡ stay T (memoOf m T) (r .answer) → HighsRight t m T → Passed t T γ m m r
+stay-passed t T γ m r n e h =
+    record {
+      answer = ap (λ q. q .notBelow) (sym e);
+      evaluated =
+          subst (λ q. Evaluated (m .evaluated) (m .evaluated) (r .leaves) (q .evaluated)) (sym e)
+          (rw n (evaluated-none (m .evaluated)));
+      memo = record { got = ap (λ q. q .next) (sym e); frame = λ p h. (refl, refl) };
+      right = h;
+      others = λ k h. refl;
+    }
+
+-- an inner node: its stored high decides, or its flag, or it is entered
+module _ (t : List ℕ) (i γ : ℕ) (m : Memory) (s : Side) (ks : Kids) (is-inner : treeAt t i ≡ inner i s ks)
+    (right : HighsRight t m (inner i s ks)) where
+  stored : getD (m .highs) i 0 ≡ memoHigh (valuation t) (inner i s ks) (memoOf m (inner i s ks))
+  stored = (rw is-inner at (right i (inl refl))) ∙ sym (read-high (valuation t) _ _ (inner i s ks))
+
+  pub below-passed : (r : Tried) → r .leaves ≡ 0 → r .answer ≡ false → getD (m .highs) i 0 < γ
+      → Passed t (inner i s ks) γ m m r
+  below-passed r n a h =
+      stay-passed t (inner i s ks) γ m r n (rw (a, lt-ltb _ _ (rw stored at h))) right
+
+  pub found-passed : (r : Tried) → r .leaves ≡ 0 → r .answer ≡ true → γ ≤ getD (m .highs) i 0
+      → marked (m .found) i ≡ true → Passed t (inner i s ks) γ m m r
+  found-passed r n a h f =
+      stay-passed t (inner i s ks) γ m r n (rw (a, le-ltb _ _ (rw stored at h), f)) right
+
+  module _ (m′ : Memory) (r : Tried) (v : ℕ) (h : γ ≤ getD (m .highs) i 0) (f : marked (m .found) i ≡ false)
+      (room : Room (suc i) m′) (apart : InKids i ks → ⊥) (q : PassedKids t γ s ks m m′ (r .answer) (r .leaves))
+      (kids-right : (k : ℕ) → InKids k ks
+      → getD (m′ .highs) k 0 ≡ high (valuation t) (marked (m′ .evaluated)) (treeAt t k))
+      (others : (k : ℕ) → (InKids k ks → ⊥) → getD (m′ .highs) k 0 ≡ getD (m .highs) k 0)
+      (best : v ≡ high (valuation t) (marked (m′ .evaluated)) (inner i s ks)) where
+    enters : passOf t γ m (inner i s ks) ≡ entered i s ks (passKidsOf t γ s m ks)
+    enters = rw (le-ltb _ _ (rw stored at h), f)
+
+    not-own : (p : ℕ) → InKids p ks → p ≡ i → ⊥
+    not-own p x e = apart (subst (λ k. InKids k ks) e x)
+
+    pub entered-passed : Passed t (inner i s ks) γ m
+        (memory (m′ .evaluated) (set (m′ .highs) i v) (set (m′ .found) i (cond (r .answer) 1 0))) r
+    entered-passed =
+        let own = marked-same (m′ .found) i (r .answer) (omega (arith, room .found)) in
+        let flags = readMemoKids-same _ _ _ _ ks (λ p x. (refl, marked-other (m′ .found) i p _ (not-own p x))) in
+        record {
+          answer = q .answer ∙ ap (λ x. x .notBelow) (sym enters);
+          evaluated =
+              subst (λ x. Evaluated (m .evaluated) (m′ .evaluated) (r .leaves) (x .evaluated)) (sym enters)
+              (q .evaluated);
+          memo =
+              record {
+                got =
+                    ap₂ {C = Memo (inner i s ks)} (λ x y. record { notBelow = x; kids = y }) (own ∙ q .answer)
+                    (flags ∙ q .memo .got)
+                    ∙ ap (λ x. x .next) (sym enters);
+                frame = λ p x. (
+                  q .memo .frame p (λ y. x (inr y)) .0,
+                  marked-other (m′ .found) i p _ (λ e. x (inl e)) ∙ q .memo .frame p (λ y. x (inr y)) .1,
+                );
+              };
+          right = λ k x.
+              elim x [
+                | inl e ↦ rw (e, is-inner) (getD-set-same (m′ .highs) i v 0 (omega (arith, room .highs)) ∙ best)
+                | inr y ↦ getD-set-other (m′ .highs) i k v 0 (not-own k y) ∙ kids-right k y
+              ];
+          others = λ k x. getD-set-other (m′ .highs) i k v 0 (λ e. x (inl e)) ∙ others k (λ y. x (inr y));
+        }

@@ -1,0 +1,217 @@
+-- The child loop of node i over the table: its children are the numbers from `first` up to `end`, and a turn visits the
+-- next of them.
+use Prim.Native.Nat.{ℕ, zero, suc, _+_, _-_, _≤_, _<_}
+use native.Mathlib.Omega.{arith}
+use native.Mathlib.Decide.{ℕ-discrete, decLe}
+use mathlib.Core.Path.{_≡_, refl, sym, ap, ap₂, _∙_, subst}
+use mathlib.Core.Bool.{Bool, true, false, _||_}
+use mathlib.Core.List.{List}
+use lib.Dec.{eqb}
+use lib.ListN.{getD}
+use borrow.Author.Tests.{eqb-false, ne-eqb}
+use Rattle.gametree.specs.declared.Place.{Place}
+use Rattle.gametree.specs.declared.Side.{Side}
+use Rattle.gametree.specs.Tree.{Tree, inner, Kids, last, _then_, size, sizeKids, In, InKids}
+use Rattle.gametree.specs.Mtd.{settles}
+use Rattle.gametree.proofs.Choice.{or-false-both}
+use Rattle.frames.specs.Frame.{maxNodes, frames, firstChild, childCount}
+use Rattle.frames.specs.Place.{childPlace, sideOf}
+use Rattle.frames.specs.Tree.{kidsFrom, treeAt, valuation}
+use Rattle.frames.specs.Formed.{WellFormed, ChildOf}
+use Rattle.frames.proofs.Next.{child-within, children-within}
+use Rattle.frames.proofs.Parents.{bottom-up}
+use Rattle.frames.proofs.Places.{place-child}
+use Rattle.frames.proofs.Trees.{in-kids, kids-in, tree-inner}
+use Rattle.frames.proofs.Nodes.{in-tree-cases, in-parent, children-apart}
+use Rattle.mtd.specs.declared.Tried.{Tried}
+use Rattle.mtd.specs.Memory.{Memory, HighsRight, Ready, Passed}
+use Rattle.mtd.proofs.Arrays.{high-local, Long, room-kept}
+use Rattle.mtd.proofs.Children.{PassedKids, Owes, owes-all, owes-last, owes-settled, owes-rest, owes-few}
+
+-- the trees of the children of a node from number i up to `end`
+abbrev pub kidsUpTo : List ℕ → ℕ → ℕ → Kids
+kidsUpTo t i end = kidsFrom (treeAt t) i (end - (i + 1))
+
+-- the highs below the children are right, and every other high is as it was
+pub record Highs (t : List ℕ) (first end : ℕ) (m m′ : Memory) : Type 0 where
+  pub right : (k : ℕ) → first ≤ k → k < end → HighsRight t m′ (treeAt t k)
+  pub others : (k : ℕ) → (InKids k (kidsUpTo t first end) → ⊥) → getD (m′ .highs) k 0 ≡ getD (m .highs) k 0
+
+-- the head of the loop: the children before `now` have been tried, and n leaves were evaluated
+pub record Turn (t : List ℕ) (s : Side) (γ first end : ℕ) (m m′ : Memory) (n now : ℕ) : Type 0 where
+  pub from : first ≤ now
+  pub to : now < end
+  pub long : Long m m′
+  pub owes : Owes t γ s (kidsUpTo t first end) (kidsUpTo t now end) m m′ n
+  pub highs : Highs t first end m m′
+
+-- after the loop: the children's answer is b
+pub record Left (t : List ℕ) (s : Side) (γ first end : ℕ) (m m′ : Memory) (b : Bool) (n : ℕ) : Type 0 where
+  pub passed : PassedKids t γ s (kidsUpTo t first end) m m′ b n
+  pub highs : Highs t first end m m′
+
+-- the first of the children left, alone or with younger brothers
+kids-last : (t : List ℕ) (i end : ℕ) → i + 1 ≡ end → kidsUpTo t i end ≡ last (treeAt t i)
+unfolding kidsFrom
+kids-last t i end e = let z : end - (i + 1) ≡ 0 = omega arith in rw z
+
+kids-more : (t : List ℕ) (i end : ℕ) → i + 1 < end → kidsUpTo t i end ≡ treeAt t i then kidsUpTo t (i + 1) end
+unfolding kidsFrom
+kids-more t i end h = let z : end - (i + 1) ≡ suc (end - (i + 1 + 1)) = omega arith in rw z
+
+-- a child's tree is no larger than all of them together
+kid-size : (g : ℕ → Tree) (i n k : ℕ) → i ≤ k → k ≤ i + n → size (g k) ≤ sizeKids (kidsFrom g i n)
+unfolding kidsFrom
+kid-size g i zero k a b = let e : k ≡ i = omega arith in rw e (omega arith)
+kid-size g i (suc n) k a b =
+    elim (decLe k i) [
+      | yes l ↦ (let e : k ≡ i = omega arith in rw e (omega arith))
+      | no l ↦ omega (arith, kid-size g (i + 1) n k (omega arith) (omega arith))
+    ]
+
+-- the nodes below a node of a tree are in that tree
+in-below : (t : List ℕ) → WellFormed t → (j : ℕ) → j < frames t → (k p : ℕ) → In k (treeAt t j) → In p (treeAt t k)
+    → In p (treeAt t j)
+in-below t wf =
+    bottom-up t wf (λ j. (k p : ℕ) → In k (treeAt t j) → In p (treeAt t k) → In p (treeAt t j)) (λ j h f k p x y.
+    in-tree-cases t wf j k h x (λ e. subst (λ n. In p (treeAt t n)) e y)
+    (λ c d z. in-parent t wf h d p (f c d k p z y)))
+
+-- node i has the children from `first` up to `end`
+pub record Family (t : List ℕ) (i first end : ℕ) : Type 0 where
+  pub formed : WellFormed t
+  pub inside : i < frames t
+  pub from : first ≡ firstChild t i
+  pub to : end ≡ first + childCount t i
+
+module _ {t : List ℕ} {i first end : ℕ} (family : Family t i first end) where
+  wf : WellFormed t
+  wf = family .formed
+
+  inside : i < frames t
+  inside = family .inside
+
+  child : (k : ℕ) → first ≤ k → k < end → ChildOf t i k
+  child k a b = record { from = omega (arith, family .from); to = omega (arith, family .from, family .to) }
+
+  -- the node over its children
+  pub tree-kids : (s : Side) → s ≡ sideOf t i → first < end → treeAt t i ≡ inner i s (kidsUpTo t first end)
+  tree-kids s side some =
+      let n : childCount t i ≡ suc (end - (first + 1)) = omega (arith, family .to) in
+      tree-inner t wf i (end - (first + 1)) inside n
+      ∙ ap₂ (λ p k. inner i p (kidsFrom (treeAt t) k (end - (first + 1)))) (sym side) (sym (family .from))
+
+  -- the children are within the table
+  pub family-within : first < end → end ≤ frames t
+  family-within some =
+      omega (arith, children-within t wf i inside (omega (arith, family .to)), family .from, family .to)
+
+  -- before the first child
+  pub turn-first : {γ : ℕ} {m : Memory} {p : Place} → Ready t m p i → first < end
+      → Turn t (p .side) γ first end m m 0 first
+  turn-first {γ} {m} {p} ready some =
+      record {
+        from = omega arith;
+        to = some;
+        long = record { evaluated = refl; highs = refl; found = refl };
+        owes = owes-all t γ (p .side) (kidsUpTo t first end) m;
+        highs =
+            record {
+              right = λ k a b j x. ready .right j (in-parent t wf inside (child k a b) j x);
+              others = λ k x. refl;
+            };
+      }
+
+  -- the next child
+  pub turn-child : {s : Side} {γ : ℕ} {m m′ : Memory} {leaves now : ℕ} → Turn t s γ first end m m′ leaves now
+      → ChildOf t i now
+  turn-child u = child _ (u .from) (u .to)
+
+  -- what the visit of the next child asks
+  pub turn-ready : {s : Side} {γ : ℕ} {m m′ : Memory} {leaves now : ℕ} {p q : Place} → Ready t m p i
+      → Turn t s γ first end m m′ leaves now → q ≡ childPlace t p now → Ready t m′ q now
+  turn-ready {s} {γ} {m} {m′} {leaves} {now} {p} {q} r u e =
+      let c = turn-child u in
+      let n = end - (first + 1) in
+      let is = ap size (tree-kids (sideOf t i) refl (omega (arith, u .from, u .to))) in
+      record {
+        formed = wf;
+        inside = child-within t wf inside c;
+        few = omega (arith, kid-size (treeAt t) first n now (u .from) (omega (arith, u .to)), r .few);
+        stands = e ∙ ap (λ p. childPlace t p now) (r .stands) ∙ sym (place-child t wf inside c);
+        room = room-kept (r .room) (u .long);
+        right = u .highs .right now (u .from) (u .to);
+      }
+
+  module _ {s : Side} {γ : ℕ} {m m′ m″ : Memory} {leaves now : ℕ} {r : Tried} (u : Turn t s γ first end m m′ leaves now)
+      (p : Passed t (treeAt t now) γ m′ m″ r) where
+    -- the leaves are no more than the nodes
+    pub turn-few : size (treeAt t i) ≤ maxNodes → leaves + r .leaves ≤ maxNodes
+    turn-few few =
+        let is = ap size (tree-kids (sideOf t i) refl (omega (arith, u .from, u .to))) in
+        omega (arith, owes-few (treeAt t) now (end - (now + 1)) (u .owes) p)
+
+    -- the highs below the other children are as they were
+    still-right : (k : ℕ) → first ≤ k → k < end → HighsRight t m″ (treeAt t k)
+    still-right k a b =
+        elim (ℕ-discrete k now) [
+          | yes e ↦ rw e (p .right)
+          | no e ↦ (λ j x.
+              let out : (q : ℕ) → In q (treeAt t k) → In q (treeAt t now) → ⊥ = λ q y z.
+              e (children-apart t wf inside (child k a b) (turn-child u) q y z)
+              in
+              let below = in-below t wf k (child-within t wf inside (child k a b)) j in
+              p .others j (out j x) ∙ u .highs .right k a b j x
+              ∙ high-local (valuation t) _ _ (treeAt t j) (λ q y. sym (p .memo .frame q (out q (below q x y)) .0)))
+        ]
+
+    still : Highs t first end m m″
+    still =
+        record {
+          right = still-right;
+          others = λ k x.
+              let own = kids-in (treeAt t) first (end - (first + 1)) k now (u .from) (omega (arith, u .to)) in
+              p .others k (λ y. x (own y)) ∙ u .highs .others k x;
+        }
+
+    module _ (more : now + 1 < end) where
+      younger-apart : (k : ℕ) → In k (treeAt t now) → InKids k (kidsUpTo t (now + 1) end) → ⊥
+      younger-apart k x y =
+          let j = in-kids (treeAt t) (now + 1) (end - (now + 1 + 1)) k y in
+          let e = children-apart t wf inside (turn-child u)
+          (child (j .0) (omega (arith, u .from, j .1)) (omega (arith, j .2))) k x (j .3) in
+          omega (arith, j .1)
+
+      owes-more : Owes t γ s (kidsUpTo t first end) (treeAt t now then kidsUpTo t (now + 1) end) m m′ leaves
+      owes-more = subst (λ ks. Owes t γ s (kidsUpTo t first end) ks m m′ leaves) (kids-more t now end more) (u .owes)
+
+    -- after a child that is not the last one tried
+    pub turn-next : Long m m″ → eqb (now + 1) end || settles s (r .answer) ≡ false
+        → Turn t s γ first end m m″ (leaves + r .leaves) (now + 1)
+    turn-next long e =
+        let b = or-false-both (eqb (now + 1) end) (settles s (r .answer)) e in
+        let o = u .to in
+        let more : now + 1 < end = omega (arith, eqb-false (now + 1) end (b .0)) in
+        record {
+          from = omega (arith, u .from);
+          to = more;
+          long = long;
+          owes = owes-rest p (younger-apart more) (owes-more more) (b .1);
+          highs = still;
+        }
+
+    -- after the last one tried
+    pub turn-last : eqb (now + 1) end || settles s (r .answer) ≡ true
+        → Left t s γ first end m m″ (r .answer) (leaves + r .leaves)
+    turn-last e =
+        record {
+          passed =
+              elim (ℕ-discrete (now + 1) end) [
+                | yes z ↦ owes-last p
+                    (subst (λ ks. Owes t γ s (kidsUpTo t first end) ks m m′ leaves) (kids-last t now end z) (u .owes))
+                | no z ↦ (let o = u .to in
+                    let more : now + 1 < end = omega arith in
+                    owes-settled p (younger-apart more) (owes-more more) (rw (ne-eqb _ _ z) at e))
+              ];
+          highs = still;
+        }
