@@ -11,6 +11,8 @@ pub mod Driving
 pub mod Families
 pub mod Merits
 pub mod Choices
+pub mod Filling
+pub mod Starting
 pub mod Whole
 pub mod Values
 pub mod Rows

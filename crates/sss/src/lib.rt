@@ -1,4 +1,5 @@
 // SSS*: a best-first search over a list of states, kept from left to right in the lent entries.
+mod ends;
 mod family;
 mod turn;
 
