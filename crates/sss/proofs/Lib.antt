@@ -1,4 +1,4 @@
--- The lemmas on SSS*'s machine.
+-- The lemmas on SSS*'s machine, and the steps of a walk by hand.
 pub mod Parts
 pub mod Replacements
 pub mod Turns
@@ -11,4 +11,13 @@ pub mod Driving
 pub mod Families
 pub mod Merits
 pub mod Choices
+pub mod Filling
+pub mod Starting
 pub mod Whole
+pub mod Values
+pub mod Rows
+pub mod Loans
+pub mod Arrays
+pub mod Calls
+pub mod Locals
+pub mod Leaving

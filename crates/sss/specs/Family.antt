@@ -4,7 +4,7 @@ use mathlib.Core.Path.{_≡_}
 use mathlib.Core.List.{List}
 use lib.ListN.{length, getD}
 use Rattle.gametree.specs.declared.Side.{Side}
-use Rattle.frames.specs.Frame.{frames}
+use Rattle.frames.specs.Frame.{maxNodes, frames}
 use Rattle.frames.specs.Place.{parentOf, depthOf, sideOf}
 use Rattle.certificate.specs.Places.{sideNumber, numberSide}
 
@@ -22,6 +22,18 @@ packed parent depth side = (parent * depths + depth) * sides + side
 -- the parent, the depth and the side of node k
 abbrev pub familyEntry : List ℕ → ℕ → ℕ
 familyEntry t k = packed (parentOf t k) (depthOf t k) (sideNumber (sideOf t k))
+
+-- the same of arrays of parents, depths and side numbers
+abbrev pub packedFrom : (parents depths sides : List ℕ) → ℕ → ℕ
+packedFrom P D S k = packed (getD P k 0) (getD D k 0) (getD S k 0)
+
+-- the arrays have entries for n nodes, small enough to be packed
+pub record Packable (P D S : List ℕ) (n : ℕ) : Type 0 where
+  pub parents : n ≤ length P
+  pub depths : n ≤ length D
+  pub sides : n ≤ length S
+  pub lowParents : (k : ℕ) → k < n → getD P k 0 ≤ maxNodes
+  pub lowDepths : (k : ℕ) → k < n → getD D k 0 ≤ maxNodes
 
 -- what an array has for the parent, the depth and the side of node k
 abbrev pub parentIn : List ℕ → ℕ → ℕ

@@ -63,8 +63,11 @@ answerOf t b m =
     answerBy (rejectionIn (m .registers .phase)) (findings t b (m .registers .test) (m .registers .counts))
 
 -- the certificate c afterwards: the flags read off the bounds of the marked leaves, or as it was
+abbrev pub markedFlags : (t b c : List ℕ) → List ℕ
+markedFlags t b c = written (flag (valuation t) (marked b) (tree t)) (frames t) c
+
 abbrev pub flagsBy : Option Rejection → (t b c : List ℕ) → List ℕ
-flagsBy none t b c = written (flag (valuation t) (marked b) (tree t)) (frames t) c
+flagsBy none t b c = markedFlags t b c
 flagsBy (some r) t b c = c
 
 -- what a finish with the marks b and the certificate c gives, and leaves in b′ and c′

@@ -1,11 +1,17 @@
 // A work array with each node's parent, depth and side in one number.
+use certificate::fill_parents;
+use certificate::fill_places;
+use frames::MAX_NODES;
+use frames::frame_count;
 use gametree::Side;
 ghost use mathlib.Core.Path.{_≡_};
-ghost use Prim.Native.Nat.{_<_};
+ghost use Prim.Native.Nat.{_<_, _≤_};
 ghost use lib.ListN.{length};
-ghost use Rattle.frames.specs.Frame.{frames};
+ghost use Rattle.frames.specs.Frame.{maxNodes, frames};
 ghost use Rattle.frames.specs.Place.{isBelow};
-ghost use Rattle.sss.specs.Family.{parentIn, depthIn, sideIn, FamilyOf};
+ghost use Rattle.frames.specs.Formed.{WellFormed};
+ghost use Rattle.certificate.specs.Buffer.{written};
+ghost use Rattle.sss.specs.Family.{packed as packedOf, familyEntry, packedFrom, Packable, parentIn, depthIn, sideIn, FamilyOf};
 
 // How many depths and sides an entry tells apart.
 const DEPTHS: u32 = 32;
@@ -54,4 +60,37 @@ pub fn is_below(table: &[u8], family: &[u32], p: usize, node: usize) -> bool
         at = parent_in(family, at);
     }
     at == p
+}
+
+// The family of every node.
+pub fn fill_family(table: &[u8], family: &mut [u32])
+    requires { ⌜ WellFormed (now table) ⌝ }
+    requires { ⌜ frames (now table) ≤ length (now family) ⌝ }
+    ensures { λ _. ⌜ now (family .exit) ≡ written (familyEntry (now (table .entry))) (frames (now (table .entry))) (now (family .entry)) ⌝ }
+{
+    let mut parents = [0u32; MAX_NODES];
+    let mut depths = [0u32; MAX_NODES];
+    let mut sides = [0u8; MAX_NODES];
+    fill_parents(table, &mut parents);
+    fill_places(table, &mut depths, &mut sides);
+    pack(family, &parents, &depths, &sides, frame_count(table));
+}
+
+// The entries of the first n nodes, from arrays of their parents, depths and sides.
+fn pack(family: &mut [u32], parents: &[u32], depths: &[u32], sides: &[u8], n: usize)
+    requires { ⌜ Packable (now parents) (now depths) (now sides) n ⌝ }
+    requires { ⌜ n ≤ length (now family) ⌝ }
+    ensures { λ _. ⌜ now (family .exit) ≡ written (packedFrom (now (parents .entry)) (now (depths .entry)) (now (sides .entry))) n (now (family .entry)) ⌝ }
+{
+    for node in 0..n {
+        family[node] = packed(parents[node], depths[node], sides[node]);
+    }
+}
+
+// A parent, a depth and a side in one number.
+fn packed(parent: u32, depth: u32, side: u8) -> u32
+    requires { ⌜ (parent ≤ maxNodes) × (depth ≤ maxNodes) ⌝ }
+    ensures { λ r. ⌜ r ≡ packedOf parent depth side ⌝ }
+{
+    (parent * DEPTHS + depth) * SIDES + side as u32
 }

@@ -1,10 +1,13 @@
 // SSS*: a best-first search over a list of states, kept from left to right in the lent entries.
+mod ends;
 mod family;
 mod turn;
 
 use frames::Rejection;
+use turn::next;
 ghost use mathlib.Core.Path.{_≡_};
 ghost use Rattle.sss.specs.Entry.{blank as blankEntry};
+ghost use Rattle.sss.specs.Driven.{Prepared, Driven};
 
 // 01's LIVE and SOLVED.
 pub enum Status {
@@ -101,4 +104,24 @@ pub fn blank() -> State
         status: Status::Live,
         merit: 0,
     }
+}
+
+// The turns of a machine over the lent list, until it stops.
+fn drive(
+    mut m: Machine,
+    table: &[u8],
+    family: &[u32],
+    list: &mut [State],
+    evaluated: &mut [u8],
+) -> Machine
+    requires { ⌜ Prepared (now table) (now family) (now list) (now evaluated) m ⌝ }
+    ensures { λ r. ⌜ Driven (now (table .entry)) (now (list .entry)) (now (evaluated .entry)) m
+        (record { list = now (list .exit); marks = now (evaluated .exit); machine = r }) ⌝ }
+{
+    while m.going {
+        m.entry = list[m.read];
+        m = next(m, table, family, evaluated);
+        list[m.write] = m.entry;
+    }
+    m
 }

@@ -1,3 +1,4 @@
+-- `sss::turn::begin` meets its contract: the calls give what its definition names.
 use borrow.Author.Needs.{needs}
 use Rattle.sss.proofs.turn.begin.Statement.{statement}
 use Rattle.sss.proofs.turn.begin.Tie as tie

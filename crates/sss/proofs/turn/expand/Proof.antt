@@ -1,3 +1,4 @@
+-- `sss::turn::expand` meets its contract: the calls give what its definition names.
 use borrow.Author.Needs.{needs}
 use Rattle.sss.proofs.turn.expand.Statement.{statement}
 use Rattle.sss.proofs.turn.expand.Tie as tie

@@ -1,3 +1,4 @@
+-- `sss::turn::next_entry` meets its contract: which of the two states follows is told by the range of the children.
 use Prim.Native.Nat.{_+_}
 use native.Mathlib.Omega.{arith}
 use borrow.Author.Tests.{lt-ltb, le-ltb}

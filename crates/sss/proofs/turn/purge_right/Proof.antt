@@ -1,3 +1,4 @@
+-- `sss::turn::purge_right` meets its contract: whether the state goes is what `is_below` tells.
 use mathlib.Core.Path.{sym, _∙_}
 use borrow.Author.Needs.{needs}
 use Rattle.sss.proofs.turn.purge_right.Statement.{statement}

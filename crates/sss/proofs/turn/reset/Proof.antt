@@ -1,3 +1,4 @@
+-- `sss::turn::reset` meets its contract: by the test of its definition.
 use borrow.Author.Tests.{lt-ltb, le-ltb}
 use borrow.Author.Needs.{needs}
 use Rattle.sss.proofs.turn.reset.Statement.{statement}

@@ -1,3 +1,4 @@
+-- `sss::turn::sweep` meets its contract: by the test of the merit.
 use mathlib.Core.Path.{refl}
 use borrow.Author.Tests.{lt-ltb, le-ltb}
 use borrow.Author.Needs.{needs}

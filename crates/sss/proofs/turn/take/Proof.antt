@@ -1,3 +1,4 @@
+-- `sss::turn::take` meets its contract: by the status of the state.
 use Rattle.frames.specs.Frame.{childCount}
 use borrow.Author.Needs.{needs}
 use Rattle.sss.proofs.Choices.{mark-solved}

@@ -1,3 +1,4 @@
+-- `sss::turn::take_child` meets its contract: by the side that moves at the parent.
 use borrow.Author.Needs.{needs}
 use Rattle.sss.proofs.turn.take_child.Statement.{statement}
 use Rattle.sss.proofs.turn.take_child.Tie as tie

@@ -1,3 +1,4 @@
+-- `sss::turn::take_inner` meets its contract: by the side that moves at the node.
 use borrow.Author.Needs.{needs}
 use Rattle.sss.proofs.turn.take_inner.Statement.{statement}
 use Rattle.sss.proofs.turn.take_inner.Tie as tie

@@ -1,3 +1,4 @@
+-- `sss::turn::take_live` meets its contract: a leaf is evaluated and marked, an inner node is expanded.
 use native.Mathlib.Omega.{arith}
 use mathlib.Core.Path.{sym, _∙_}
 use Rattle.frames.proofs.Next.{children-within}
