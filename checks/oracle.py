@@ -1,0 +1,601 @@
+#!/usr/bin/env python3
+"""A plain model of document 01 ("Minimax analysis of club trees"), written from its sentences.
+
+It shares nothing with the Rattle code: values are signed, lines are split at line feeds, SSS* keeps
+Stockman's list. Everything public takes bytes and bytearrays as a caller lends them and changes them
+as 01 says; a refused call changes nothing.
+
+    oracle.py < FILE        prints what the program has to print
+    oracle.py --detail < FILE   the same, then leaves in order, passes, replacements, marks and flags
+
+Where a rule is given twice here (`..._by_rule`, and a faster one), selfcheck.py compares the two.
+"""
+import heapq
+import sys
+from collections import namedtuple
+
+MAX_NODES = 4096
+MAX_FILE = 53248
+MAX_TABLE = 24576
+MAX_CHILDREN = 40
+MAX_DEPTH = 24
+MAX_VALUE = 32000
+LEAST, GREATEST = -32001, 32001
+
+Refusal = namedtuple("Refusal", "number place")
+LIVE, SOLVED = "LIVE", "SOLVED"
+
+HEX = {c: i for i, c in enumerate(b"0123456789")}
+HEX.update({c: 10 + i for i, c in enumerate(b"ABCDEF")})
+HEX.update({c: 10 + i for i, c in enumerate(b"abcdef")})
+
+
+# ---------------------------------------------------------------- frames and the two services
+
+def frame(table, k):
+    """First child, count of children, byte 3 and value of node k."""
+    a, b, count, spare, c, d = table[6 * k:6 * k + 6]
+    value = 256 * c + d
+    return 256 * a + b, count, spare, value - 65536 if value >= 32768 else value
+
+
+def children(table, node):
+    """The part of the table that holds the children, as (start, end) in bytes; (0, 0) where empty."""
+    if node >= len(table) // 6:
+        return 0, 0
+    first, count, _, _ = frame(table, node)
+    start, end = 6 * first, 6 * (first + count)
+    if count == 0 or end > len(table):
+        return 0, 0
+    return start, end
+
+
+def six_bytes(line):
+    """The six bytes of twelve hexadecimal digits, or None."""
+    if len(line) != 12 or any(c not in HEX for c in line):
+        return None
+    return bytes(16 * HEX[line[i]] + HEX[line[i + 1]] for i in range(0, 12, 2))
+
+
+def read_line(file, at):
+    """(frame, moved position), or (None, at) where no line starts there."""
+    got = six_bytes(file[at:at + 12]) if at <= len(file) else None
+    if got is None:
+        return None, at
+    if at + 12 == len(file):
+        return got, at + 12
+    if file[at + 12] == 10:
+        return got, at + 13
+    return None, at
+
+
+# ---------------------------------------------------------------- questions 1 to 9
+
+def lines_of(file):
+    """A line feed closes a line; the last may be missing."""
+    lines = bytes(file).split(b"\n")
+    return lines[:-1] if lines[-1] == b"" else lines
+
+
+def frames_no(table):
+    """Questions 4 to 9, on whole frames."""
+    n = len(table) // 6
+    below = 0                       # child counts of all lower-numbered nodes
+    firsts, counts = [], []
+    for k in range(n):
+        first, count, spare, value = frame(table, k)
+        if spare != 0:
+            return Refusal(4, k)
+        if count > MAX_CHILDREN:
+            return Refusal(5, k)
+        if count == 0:
+            if first != 0:
+                return Refusal(6, k)
+        elif first != 1 + below or first <= k:
+            return Refusal(6, k)
+        if (not -MAX_VALUE <= value <= MAX_VALUE) if count == 0 else value != 0:
+            return Refusal(7, k)
+        below += count
+        firsts.append(first)
+        counts.append(count)
+    if 1 + below != n:
+        return Refusal(8, n)
+    depth = [0] * n
+    for k in range(n):
+        for c in range(firsts[k], firsts[k] + counts[k]):
+            depth[c] = depth[k] + 1
+    for k in range(n):
+        if depth[k] > MAX_DEPTH:
+            return Refusal(9, k)
+    return None
+
+
+def table_no(table):
+    """Questions 1 to 9 of a table."""
+    if len(table) == 0:
+        return Refusal(1, 0)
+    if len(table) > MAX_TABLE:
+        return Refusal(2, 0)
+    if len(table) % 6 != 0:
+        return Refusal(3, len(table) // 6)
+    return frames_no(table)
+
+
+def decode(file):
+    """The table of a file, or the refusal by questions 1 to 3."""
+    if len(file) == 0:
+        return Refusal(1, 0)
+    if len(file) > MAX_FILE:
+        return Refusal(2, 0)
+    table = bytearray()
+    for i, line in enumerate(lines_of(file)):
+        got = six_bytes(line)
+        if got is None:
+            return Refusal(3, i)
+        table += got
+    return table
+
+
+# ---------------------------------------------------------------- the tree of an accepted table
+
+class Tree:
+    """Node numbers, sides, values of an accepted table."""
+
+    def __init__(self, table):
+        self.n = n = len(table) // 6
+        self.kids = kids = []
+        self.value = []
+        for k in range(n):
+            first, count, _, value = frame(table, k)
+            kids.append(range(first, first + count))
+            self.value.append(value)
+        self.parent = parent = [None] * n
+        self.is_max = is_max = [True] * n
+        for k in range(n):
+            for c in kids[k]:
+                parent[c] = k
+                is_max[c] = not is_max[k]
+        self.left = left = [0] * n      # place in left-to-right (depth-first) order
+        size = [1] * n
+        for k in range(n - 1, 0, -1):
+            size[parent[k]] += size[k]
+        self.size = size
+        for k in range(n):
+            at = left[k] + 1
+            for c in kids[k]:
+                left[c] = at
+                at += size[c]
+
+    def leaves(self):
+        return [k for k in range(self.n) if not self.kids[k]]
+
+    def fold(self, leaf):
+        """The greatest at Max, the least at Min, from leaf(k) at the leaves: a number a node."""
+        got = [None] * self.n
+        for k in range(self.n - 1, -1, -1):
+            if not self.kids[k]:
+                got[k] = leaf(k)
+            else:
+                below = [got[c] for c in self.kids[k]]
+                got[k] = max(below) if self.is_max[k] else min(below)
+        return got
+
+    def minimax(self):
+        return self.fold(lambda k: self.value[k])
+
+    def bounds(self, valued):
+        """Low and high of each node, from a set of valued leaves."""
+        low = self.fold(lambda k: self.value[k] if k in valued else LEAST)
+        high = self.fold(lambda k: self.value[k] if k in valued else GREATEST)
+        return low, high
+
+    def move(self):
+        """The first child of the root with the root's value, or 0."""
+        value = self.minimax()
+        return next((c for c in self.kids[0] if value[c] == value[0]), 0)
+
+    def flags(self, valued):
+        """The proof read off the bounds."""
+        low, high = self.bounds(valued)
+        flags = [0] * self.n
+        flags[0] = 3
+        for k in range(self.n):
+            if not self.kids[k]:
+                continue
+            all_, bit_of_one, bound = (1, 2, low) if self.is_max[k] else (2, 1, high)
+            if flags[k] & all_:
+                for c in self.kids[k]:
+                    flags[c] |= all_
+            if flags[k] & bit_of_one:
+                one = next(c for c in self.kids[k] if bound[c] == bound[k])
+                flags[one] |= bit_of_one
+        return flags
+
+
+# ---------------------------------------------------------------- alpha-beta
+
+def ab_by_rule(tree):
+    """Leaves with alpha < beta (Baudet's condition), left to right."""
+    value = tree.minimax()
+    alpha, beta = [LEAST] * tree.n, [GREATEST] * tree.n
+    for k in range(tree.n):
+        a, b = alpha[k], beta[k]
+        for c in tree.kids[k]:
+            alpha[c], beta[c] = a, b
+            if tree.is_max[k]:
+                a = max(a, value[c])
+            else:
+                b = min(b, value[c])
+    valued = [k for k in tree.leaves() if alpha[k] < beta[k]]
+    return sorted(valued, key=lambda k: tree.left[k])
+
+
+def ab(tree):
+    """The pass over the children that stops at the first one that closes the window."""
+    leaves = []
+    kids, is_max, value = tree.kids, tree.is_max, tree.value
+
+    def visit(k, alpha, beta):
+        if not kids[k]:
+            leaves.append(k)
+            return value[k]
+        if is_max[k]:
+            best = LEAST
+            for c in kids[k]:
+                best = max(best, visit(c, max(alpha, best), beta))
+                if best >= beta:
+                    break
+        else:
+            best = GREATEST
+            for c in kids[k]:
+                best = min(best, visit(c, alpha, min(beta, best)))
+                if best <= alpha:
+                    break
+        return best
+
+    return visit(0, LEAST, GREATEST), leaves
+
+
+# ---------------------------------------------------------------- MTD
+
+def mtd_by_rule(tree):
+    """The rule word by word: each high is worked out anew from the leaves valued so far."""
+    leaves, found = [], set()           # found: nodes that a pass found not below
+    test, passes = GREATEST, 0
+
+    def high(k):
+        if not tree.kids[k]:
+            return tree.value[k] if k in leaves else GREATEST
+        return (max if tree.is_max[k] else min)(high(c) for c in tree.kids[k])
+
+    def below(k, earlier, now):
+        if high(k) < test:
+            return True
+        if k in earlier or (k in leaves and tree.value[k] >= test):
+            return False
+        if not tree.kids[k]:
+            leaves.append(k)
+            answer = tree.value[k] < test
+        elif tree.is_max[k]:
+            answer = not any(not below(c, earlier, now) for c in tree.kids[k])
+        else:
+            answer = any(below(c, earlier, now) for c in tree.kids[k])
+        if not answer:
+            now.add(k)
+        return answer
+
+    while True:
+        passes += 1
+        now = set()
+        if not below(0, found, now):
+            return test, leaves, passes
+        found |= now
+        test = high(0)
+
+
+def mtd(tree):
+    """The same with kept highs, each set anew when its node is left."""
+    n, kids, is_max, value = tree.n, tree.kids, tree.is_max, tree.value
+    high, not_below = [GREATEST] * n, [False] * n
+    leaves = []
+    test, passes = GREATEST, 0
+
+    def below(k):
+        if high[k] < test:
+            return True
+        if not_below[k] or (not kids[k] and high[k] != GREATEST):
+            return False                # found so earlier, or a valued leaf: it was below a greater test
+        if not kids[k]:
+            leaves.append(k)
+            high[k] = value[k]
+            answer = value[k] < test
+        elif is_max[k]:
+            answer = True
+            for c in kids[k]:
+                if not below(c):
+                    answer = False
+                    break
+            high[k] = max([high[c] for c in kids[k]])
+        else:
+            answer = False
+            for c in kids[k]:
+                if below(c):
+                    answer = True
+                    break
+            high[k] = min([high[c] for c in kids[k]])
+        not_below[k] = not answer
+        return answer
+
+    while True:
+        passes += 1
+        if not below(0):
+            return test, leaves, passes
+        test = high[0]
+
+
+# ---------------------------------------------------------------- SSS*
+
+def sss_by_rule(tree, tie=None):
+    """Stockman's list word by word: (node, status, merit), greatest merit, leftmost in the tree."""
+    tie = tie or (lambda k: tree.left[k])
+    states = [(0, LIVE, GREATEST)]
+    leaves, replacements = [], 0
+    while True:
+        if not states:
+            return Refusal(15, 0), leaves, replacements
+        best = min(states, key=lambda s: (-s[2], tie(s[0])))
+        node, status, merit = best
+        if node == 0 and status == SOLVED:
+            return merit, leaves, replacements
+        states.remove(best)
+        replacements += 1
+        parent = tree.parent[node]
+        if status == LIVE and not tree.kids[node]:
+            leaves.append(node)
+            states.append((node, SOLVED, min(merit, tree.value[node])))
+        elif status == LIVE and tree.is_max[node]:
+            states += [(c, LIVE, merit) for c in tree.kids[node]]
+        elif status == LIVE:
+            states.append((tree.kids[node][0], LIVE, merit))
+        elif tree.is_max[parent]:
+            start, end = tree.left[parent], tree.left[parent] + tree.size[parent]
+            states = [s for s in states if not start < tree.left[s[0]] < end]
+            states.append((parent, SOLVED, merit))
+        elif node + 1 in tree.kids[parent]:
+            states.append((node + 1, LIVE, merit))
+        else:
+            states.append((parent, SOLVED, merit))
+
+
+def sss(tree):
+    """The same with a heap; a purged state stays in it until it comes up, and is then dropped."""
+    kids, is_max, parent_of, left, value = tree.kids, tree.is_max, tree.parent, tree.left, tree.value
+    heap = [(-GREATEST, 0, 0, LIVE)]
+    purged_below = [False] * tree.n
+    leaves, replacements = [], 0
+
+    def purged(k):
+        k = parent_of[k]
+        while k is not None:
+            if purged_below[k]:
+                return True
+            k = parent_of[k]
+        return False
+
+    while True:
+        merit, _, node, status = heapq.heappop(heap)
+        merit = -merit
+        if purged(node):
+            continue
+        if node == 0 and status == SOLVED:
+            return merit, leaves, replacements
+        replacements += 1
+        if status == LIVE:
+            if not kids[node]:
+                leaves.append(node)
+                heapq.heappush(heap, (-min(merit, value[node]), left[node], node, SOLVED))
+            elif is_max[node]:
+                for c in kids[node]:
+                    heapq.heappush(heap, (-merit, left[c], c, LIVE))
+            else:
+                c = kids[node][0]
+                heapq.heappush(heap, (-merit, left[c], c, LIVE))
+            continue
+        parent = parent_of[node]
+        if is_max[parent]:
+            purged_below[parent] = True
+        elif node + 1 < kids[parent].stop:
+            heapq.heappush(heap, (-merit, left[node + 1], node + 1, LIVE))
+            continue
+        heapq.heappush(heap, (-merit, left[parent], parent, SOLVED))
+
+
+# ---------------------------------------------------------------- the proof check
+
+def solution_no(tree, flags, bit):
+    """The lowest node whose rule of the max tree (bit 1) or the min tree (bit 2) breaks, or None."""
+    for k in range(tree.n):
+        inside = bool(flags[k] & bit)
+        number = sum(1 for c in tree.kids[k] if flags[c] & bit)
+        if k == 0 and not inside:
+            return 0
+        if not inside:
+            good = number == 0
+        elif not tree.kids[k]:
+            good = True
+        elif tree.is_max[k] == (bit == 1):
+            good = number == len(tree.kids[k])
+        else:
+            good = number == 1
+        if not good:
+            return k
+    return None
+
+
+def check_proof(table, flags):
+    """Questions 1 to 14; the value."""
+    no = table_no(table)
+    if no:
+        return no
+    tree = Tree(table)
+    if len(flags) < tree.n:
+        return Refusal(10, 0)
+    for k in range(tree.n):
+        if flags[k] > 3:
+            return Refusal(11, k)
+    for number, bit in ((12, 1), (13, 2)):
+        k = solution_no(tree, flags, bit)
+        if k is not None:
+            return Refusal(number, k)
+    greatest = max(tree.value[k] for k in tree.leaves() if flags[k] & 1)
+    least = min(tree.value[k] for k in tree.leaves() if flags[k] & 2)
+    return greatest if greatest == least else Refusal(14, 0)
+
+
+# ---------------------------------------------------------------- public calls over lent memory
+
+Result = namedtuple("Result", "value move leaves extra order")   # extra: passes, replacements, or None
+
+
+def read_file(file, table):
+    """Questions 1 to 10; writes the frames to the start of the table; the number of nodes."""
+    got = decode(file)
+    if isinstance(got, Refusal):
+        return got
+    no = frames_no(got)
+    if no:
+        return no
+    if len(table) < len(got):
+        return Refusal(10, 0)
+    table[:len(got)] = got
+    return len(got) // 6
+
+
+def check_table(table):
+    return table_no(table) or len(table) // 6
+
+
+def finish(tree, outcome, marks, proof):
+    value, order = outcome[0], outcome[1]
+    extra = outcome[2] if len(outcome) > 2 else None
+    valued = set(order)
+    marks[:tree.n] = bytes(1 if k in valued else 0 for k in range(tree.n))
+    proof[:tree.n] = bytes(tree.flags(valued))
+    return Result(value, tree.move(), len(order), extra, order)
+
+
+def search(rule, table, marks, proof, states=None):
+    """Questions 1 to 10; then the rule. `states` is the lent list of SSS*."""
+    no = table_no(table)
+    if no:
+        return no
+    tree = Tree(table)
+    if any(b is not None and len(b) < tree.n for b in (marks, proof, states)):
+        return Refusal(10, 0)
+    result = finish(tree, rule(tree), marks, proof)
+    if states is not None:
+        states[:tree.n] = [(0, LIVE, 0)] * tree.n
+    return result
+
+
+def alpha_beta(table, marks, proof):
+    return search(ab, table, marks, proof)
+
+
+def mtd_search(table, marks, proof):
+    return search(mtd, table, marks, proof)
+
+
+def sss_search(table, states, marks, proof):
+    return search(sss, table, marks, proof, states)
+
+
+# ---------------------------------------------------------------- the program
+
+def report(file):
+    """What the program prints, as bytes."""
+    table = bytearray(MAX_TABLE)
+    n = read_file(file, table)
+    if isinstance(n, Refusal):
+        return b"refused %d %d\n" % n
+    tree = Tree(table[:6 * n])
+    move = tree.move()
+    text = b"method value move leaves\n"
+    for name, rule in ((b"ab", ab), (b"mtd", mtd), (b"sss", sss)):
+        value, order = rule(tree)[:2]
+        text += b"%s %d %d %d\n" % (name, value, move, len(order))
+    return text
+
+
+def detail(file):
+    """What the program does not print: leaves in order, passes, replacements, marks, flags."""
+    table = bytearray(MAX_TABLE)
+    n = read_file(file, table)
+    if isinstance(n, Refusal):
+        return ""
+    table = table[:6 * n]
+    text = ""
+    for name, call in (("ab", alpha_beta), ("mtd", mtd_search),
+                       ("sss", lambda t, m, p: sss_search(t, [None] * n, m, p))):
+        marks, proof = bytearray(n), bytearray(n)
+        r = call(table, marks, proof)
+        text += "%s order %s\n%s marks %s\n%s flags %s\n" % (
+            name, " ".join(map(str, r.order)), name, " ".join(map(str, marks)), name, " ".join(map(str, proof)))
+        if r.extra is not None:
+            text += "%s %s %d\n" % (name, "passes" if name == "mtd" else "replacements", r.extra)
+    return text
+
+
+# ---------------------------------------------------------------- making tables and files
+
+def table_of(counts, values):
+    """A table from the child counts in breadth-first order and the leaf values in node order."""
+    table, first, values = bytearray(), 1, iter(values)
+    for count in counts:
+        value = 0 if count else next(values)
+        table += bytes((first >> 8 & 255, first & 255) if count else (0, 0))
+        table += bytes((count & 255, 0)) + (value & 65535).to_bytes(2, "big")
+        first += count
+    return table
+
+
+def file_of(table, upper=False, last=True):
+    lines = [bytes(table[i:i + 6]).hex() for i in range(0, len(table), 6)]
+    text = "\n".join(line.upper() if upper else line for line in lines) + ("\n" if last else "")
+    return text.encode()
+
+
+def table_of_nest(nest):
+    """A table from nested lists, as [[1, 2], [3, 4]] for Max(Min(1, 2), Min(3, 4))."""
+    level, counts, values = [nest], [], []
+    while level:
+        below = []
+        for x in level:
+            if isinstance(x, list):
+                counts.append(len(x))
+                below += x
+            else:
+                counts.append(0)
+                values.append(x)
+        level = below
+    return table_of(counts, values)
+
+
+def regular(width, inner, leaf):
+    """Nodes 0 .. inner-1 have `width` children each, so node k's first child is 1 + width * k; leaf(k) elsewhere.
+
+    A chain is width 1, a fan inner 1; 1 + width * inner nodes.
+    """
+    n = 1 + width * inner
+    return table_of([width] * inner + [0] * (n - inner), [leaf(k) for k in range(inner, n)])
+
+
+def main():
+    file = sys.stdin.buffer.read()
+    sys.stdout.buffer.write(report(file))
+    if "--detail" in sys.argv[1:]:
+        sys.stdout.write(detail(file))
+
+
+if __name__ == "__main__":
+    main()

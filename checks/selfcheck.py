@@ -1,0 +1,305 @@
+#!/usr/bin/env python3
+"""Checks oracle.py against document 01, table 2 of document 002, the examples of obligations B, and random trees.
+
+    selfcheck.py [COUNT]    COUNT random trees (default 20000)
+"""
+import itertools
+import random
+import re
+import sys
+import time
+
+import oracle as o
+import trees
+
+SHARED = "/work/shared/"
+checks = 0
+wrong = []
+
+
+def same(name, got, want):
+    global checks
+    checks += 1
+    if got != want:
+        wrong.append("%s: got %r, want %r" % (name, got, want))
+
+
+def refused(number, place):
+    return b"refused %d %d\n" % (number, place)
+
+
+def small(leaves):
+    a, b, c, d = leaves
+    return o.table_of_nest([[a, b], [c, d]])
+
+
+def run(call, table):
+    n = len(table) // 6
+    marks, proof = bytearray(n), bytearray(n)
+    if call is o.sss_search:
+        r = call(table, [None] * n, marks, proof)
+    else:
+        r = call(table, marks, proof)
+    return r, list(marks), list(proof)
+
+
+def cases_of_01():
+    text = open(SHARED + "01-scope.md").read()
+    rows = re.findall(r"^\| (\d \d \d \d) \| (-?\d+) \| (\d+) \| (\d+) \| (\d+) \| P \|$", text, re.M)
+    same("six P rows in 01", len(rows), 6)
+    for leaves, value, move, ab, sss in rows:
+        table = small(map(int, leaves.split()))
+        for call, count in ((o.alpha_beta, ab), (o.sss_search, sss), (o.mtd_search, sss)):
+            r = run(call, table)[0]
+            same("01 row %s %s" % (leaves, call.__name__), (r.value, r.move, r.leaves), (int(value), int(move), int(count)))
+    for nest, want in ((-5, (-5, 0, 1)), ([9], (9, 1, 1))):
+        for call in (o.alpha_beta, o.mtd_search, o.sss_search):
+            r = run(call, o.table_of_nest(nest))[0]
+            same("01 %r" % nest, (r.value, r.move, r.leaves), want)
+    same("leaf root replacements", run(o.sss_search, o.table_of_nest(-5))[0].extra, 1)
+    r, marks, proof = run(o.sss_search, small((1, 2, 3, 4)))
+    same("first row replacements", r.extra, 9)
+    same("first row flags", proof, [3, 1, 3, 1, 0, 3, 2])
+    for call in (o.alpha_beta, o.mtd_search, o.sss_search):
+        r = run(call, o.table_of_nest([[7, 1], [7]]))[0]
+        same("7 1 / 7", (r.value, r.move, r.leaves), (7, 2, 3))
+    one = lambda v: o.file_of(o.table_of_nest(v))
+    ok = lambda file: not o.report(file).startswith(b"refused")
+    same("32,000", ok(one(32000)) and ok(one(-32000)), True)
+    same("32,001", o.report(one(32001)), refused(7, 0))
+    same("-32,001", o.report(one(-32001)), refused(7, 0))
+    same("40", ok(o.file_of(o.regular(40, 1, lambda k: k))), True)
+    same("41", o.report(o.file_of(o.regular(41, 1, lambda k: k))), refused(5, 0))
+    same("depth 24", ok(o.file_of(o.regular(1, 24, lambda k: 5))), True)
+    same("depth 25", o.report(o.file_of(o.regular(1, 25, lambda k: 5))), refused(9, 25))
+    same("4,096", ok(o.file_of(o.regular(15, 273, lambda k: k))), True)
+    same("4,097", o.report(o.file_of(o.regular(16, 256, lambda k: k))), refused(2, 0))
+    same("4,097 without last line feed", o.report(o.file_of(o.regular(16, 256, lambda k: k), last=False)), refused(2, 0))
+    t = o.table_of([2, 41] + [0] * 42, [0] * 42)
+    t[6 * 2 + 3] = 1
+    same("byte 3 at 2, 41 at 1", o.report(o.file_of(t)), refused(5, 1))
+    same("one line feed", o.report(b"\n"), refused(3, 0))
+    blocks = re.findall(r"```\n(.*?)```", text, re.S)
+    same("sample", o.report(blocks[0].encode()), blocks[1].encode())
+    same("trap: leaf root and a node that names itself", o.table_no(bytes((0, 0, 0, 0, 0, 5, 0, 1, 1, 0, 0, 0))), (6, 1))
+    arrival = o.sss_by_rule(o.Tree(small((2, 5, 2, 1))), tie=Arrival())
+    same("trap: order of arrival values a fourth leaf of 2 5 2 1", len(arrival[1]), 4)
+
+
+class Arrival:
+    """Ties by order of arrival: min() keeps the first of equal keys, and new states are appended."""
+    def __call__(self, k):
+        return 0
+
+
+def table_2():
+    lines = open(SHARED + "002_cf08bdc5a78748fd.txt").read().split("\n")
+    at = next(i for i, l in enumerate(lines) if l.startswith("TABLE 2."))
+    rows = []
+    for line in lines[at:]:
+        m = re.fullmatch(r"(\d+)\t(\d) (\d) (\d) (\d)\t(\d)\t(\d)", line.strip())
+        if m:
+            rows.append(tuple(map(int, m.groups())))
+        if line.startswith("Average"):
+            average = line.split()
+            break
+    same("24 rows", [r[0] for r in rows], list(range(1, 25)))
+    same("all permutations once, in order", [r[1:5] for r in rows], sorted(itertools.permutations((1, 2, 3, 4))))
+    for case, a, b, c, d, ab, sss in rows:
+        table = small((a, b, c, d))
+        same("table 2 row %d ab" % case, run(o.alpha_beta, table)[0].leaves, ab)
+        same("table 2 row %d sss" % case, run(o.sss_search, table)[0].leaves, sss)
+        same("table 2 row %d mtd" % case, run(o.mtd_search, table)[0].leaves, sss)
+    same("averages", ["Average", "%d/3" % (sum(r[5] for r in rows) * 3 // 24), "%d/3" % (sum(r[6] for r in rows) * 3 // 24)], average)
+    same("averages exact", (sum(r[5] for r in rows) * 3 % 24, sum(r[6] for r in rows) * 3 % 24), (0, 0))
+    return rows
+
+
+def figure_1():
+    """The worked run of section 3.3 in 002: 29 replacements; tips by the states shown (others never looked at)."""
+    # tips in the order 16..31; only 16,18,24,26,27,28,30,31 are read in the printed run
+    tips = {16: 30, 18: 21, 24: 28, 26: 78, 27: 52, 28: 22, 30: 52, 31: 52}
+    nest = lambda k: tips.get(k, 0) if k >= 16 else [nest(2 * k), nest(2 * k + 1)]
+    # in 002 the printed run expands 1 (case 6), 2 (case 5): node 1 takes all children, node 2 its first
+    value, order, replacements = o.sss_by_rule(o.Tree(o.table_of_nest(nest(1))))
+    heap_number = lambda k: k + 1
+    same("002, 3.3: value", value, 52)
+    same("002, 3.3: order of tips", [heap_number(k) for k in order], [16, 18, 24, 26, 27, 28, 30, 31])
+    same("002, 3.3: replacements", replacements, 29)
+
+
+def obligations():
+    """The examples of obligations B that concern the base."""
+    same("B1", o.report(b""), refused(1, 0))
+    same("B2", o.decode(b"000000000005"), bytes.fromhex("000000000005"))
+    full = o.file_of(o.regular(15, 273, lambda k: k))
+    same("B3 full", len(full), 53248)
+    same("B3 odd", o.report(b"x" * 53248), refused(3, 0))
+    same("B3 longer", o.report(b"x" * 53249), refused(2, 0))
+    same("B3 full and one more line feed", o.report(full + b"\n"), refused(2, 0))
+    same("B4", o.report(b"000000000005\n\n"), refused(3, 1))
+    same("B5", o.report(b"000000000005\r\n"), refused(3, 0))
+    same("B6", o.read_file(b"000000010005", bytearray()), (4, 0))
+    table = bytearray(b"\xaa" * 20)
+    same("B7", (o.read_file(b"000000000005", table), bytes(table)), (1, bytes.fromhex("000000000005") + b"\xaa" * 14))
+    f = b"000000000005\n00000000000A"
+    same("B8", [o.read_line(f, p)[1] for p in (0, 1, 13, 14, 25, 26, 2 ** 64 - 1)], [13, 1, 25, 14, 25, 26, 2 ** 64 - 1])
+    same("B12", [o.table_no(bytes(k)) for k in (1, 13, 24577, 24582)], [(3, 0), (3, 2), (2, 0), (2, 0)])
+    same("B13", o.report(b"000100000005"), refused(6, 0))
+    same("B16", o.report(b"000000000005\n000000000005"), refused(8, 2))
+    same("B20 self", o.children(bytes((0, 0, 1, 0, 0, 0)), 0), (0, 6))
+    same("B20 past", o.children(bytes((0, 0, 1, 0, 0, 0)), 2 ** 64 - 1), (0, 0))
+    same("B20 reach", o.children(bytes((0, 1, 1, 0, 0, 0)) + bytes(5), 0), (0, 0))
+    row = small((1, 2, 3, 4))
+    p = lambda s: bytes(map(int, s.split()))
+    same("B26", o.check_proof(row, p("3 1 3 1 0 3 2") + b"\xc8"), 3)
+    same("B27", o.check_proof(row, p("3 1 3 1 1 3 2")), (12, 1))
+    same("B27 zeros", o.check_proof(row, bytes(7)), (12, 0))
+    leaf = o.table_of_nest(5)
+    same("B27 leaf", [o.check_proof(leaf, bytes((k,))) for k in (3, 1, 2, 0)], [5, (13, 0), (12, 0), (12, 0)])
+    # B28: node 1 outside the max tree with a child in it, node 2 broken too
+    same("B28", o.check_proof(row, p("3 0 3 1 0 3 3")), (12, 0))
+    deep = o.table_of_nest([[[1, 2], [3, 4]], 5])      # 0: 1 2; 1 Min: 3 4; 3 Max: 5 6; 4 Max: 7 8
+    same("B28 inside out", o.check_proof(deep, p("3 3 3 3 2 1 1 1 0")), (12, 4))
+    # B31: Max(Min(Max(1)), Min(1, 1)) by node number, and the right order
+    t = o.Tree(o.table_of_nest([[[1]], [1, 1]]))
+    same("B31 by number", o.sss_by_rule(t, tie=lambda k: k)[1], [4, 6, 5])
+    same("B31 ab", o.ab(t)[1], [6, 4])
+    t = o.Tree(o.table_of_nest([[1], 1]))
+    same("B31 smallest", o.sss(t)[1], [3, 2])
+    t = o.Tree(o.table_of_nest([[1, 1], 1]))
+    same("B32", o.mtd_by_rule(t)[1], [3, 2, 4])
+    t = o.Tree(o.table_of_nest([[[[1, 4], 3], 1]]))
+    same("B32 not below", o.mtd_by_rule(t)[1], [6, 5, 3])
+    same("B34", o.mtd_by_rule(o.Tree(leaf))[2], 2)
+    t = o.Tree(o.table_of_nest([[[[1], 3], 1]]))
+    same("B35 replacements", o.sss_by_rule(t)[2], 11)
+    t = o.Tree(o.table_of_nest([[[1, [1]], 2]]))
+    same("B35 second", o.sss_by_rule(t)[2], 11)
+    t = o.table_of_nest([[4, 3]])
+    same("D mtd note: passes of Max(Min(4, 3))", run(o.mtd_search, t)[0].extra, 3)
+
+
+def solution_trees(tree, k, bit):
+    """All sets of flagged nodes of one kind below k."""
+    if not tree.kids[k]:
+        return [frozenset((k,))]
+    below = [solution_trees(tree, c, bit) for c in tree.kids[k]]
+    if tree.is_max[k] == (bit == 1):
+        return [frozenset((k,)).union(*choice) for choice in itertools.product(*below)]
+    return [s | {k} for trees_ in below for s in trees_]
+
+
+def smallest_pair(tree):
+    """Fewest leaves, a shared one once, in a max and a min solution tree of equal value; None if too many to list."""
+    leaf = lambda s: frozenset(k for k in s if not tree.kids[k])
+    most = set(map(leaf, solution_trees(tree, 0, 1)))
+    least = set(map(leaf, solution_trees(tree, 0, 2)))
+    if len(most) * len(least) > 40000:
+        return None
+    return min(len(a | b) for a in most for b in least
+               if max(tree.value[k] for k in a) == min(tree.value[k] for k in b))
+
+
+def one_tree(rng, table, literal, pairs):
+    tree = o.Tree(table)
+    n = tree.n
+    value = tree.minimax()[0]
+    a, m, s = (run(c, table) for c in (o.alpha_beta, o.mtd_search, o.sss_search))
+    for r, marks, proof in (a, m, s):
+        same("value", r.value, value)
+        same("no leaf twice", len(set(r.order)), r.leaves)
+        same("count is marks", sum(marks), r.leaves)
+        same("proof checks", o.check_proof(table, proof), value)
+        same("flagged leaves are valued", all(marks[k] for k in tree.leaves() if proof[k]), True)
+        same("flags that break are found", isinstance(o.check_proof(table, [f ^ 3 for f in proof]), o.Refusal), True)
+        low, high = tree.bounds(set(r.order))
+        same("bounds meet at the root", (low[0], high[0]), (value, value))
+    same("sss within ab", set(s[0].order) <= set(a[0].order), True)
+    same("mtd list is sss list", m[0].order, s[0].order)
+    same("ab left to right", a[0].order, sorted(a[0].order, key=lambda k: tree.left[k]))
+    same("replacements", s[0].extra <= 2 * n - 1, True)
+    same("passes", m[0].extra <= 1 + len({tree.value[k] for k in m[0].order}), True)
+    if literal:
+        same("ab by rule", o.ab_by_rule(tree), a[0].order)
+        same("mtd by rule", o.mtd_by_rule(tree), (value, m[0].order, m[0].extra))
+        same("sss by rule", o.sss_by_rule(tree), (value, s[0].order, s[0].extra))
+    if pairs:
+        least = smallest_pair(tree)
+        if least is not None:
+            for r in (a, m, s):
+                same("smallest pair", least <= r[0].leaves, True)
+    # demand 3's last sentence: other values on the leaves passed over change nothing
+    for call, r in ((o.alpha_beta, a), (o.mtd_search, m), (o.sss_search, s)):
+        other = bytearray(table)
+        for k in tree.leaves():
+            if not r[1][k]:
+                other[6 * k + 4:6 * k + 6] = (rng.randint(-32000, 32000) & 65535).to_bytes(2, "big")
+        same("passed-over leaves have no influence", run(call, other), r)
+    file = o.file_of(table, upper=rng.random() < 0.5, last=rng.random() < 0.5)
+    buffer = bytearray(b"\x55" * o.MAX_TABLE)
+    same("read back", (o.read_file(file, buffer), bytes(buffer)), (n, bytes(table) + b"\x55" * (o.MAX_TABLE - 6 * n)))
+
+
+def random_trees(count):
+    rng = random.Random(20)
+    kinds = list(trees.VALUES)
+    for i in range(count):
+        shape = i % 4
+        if shape == 0:
+            counts = trees.random_counts(rng, rng.randint(1, 14), rng.randint(1, 4), 0.7)
+        elif shape == 1:
+            counts = trees.random_counts(rng, rng.randint(1, 60), rng.randint(1, 6), 0.6)
+        elif shape == 2:
+            counts = trees.deep_counts(rng, 80, rng.randint(1, 24), 4, 0.5)
+        else:
+            width = rng.randint(1, 5)
+            counts = trees.regular_counts(width, rng.randint(0, 24 if width == 1 else 12))
+        table = trees.fill(rng, counts, rng.choice(kinds))
+        same("accepted", o.table_no(table), None)
+        one_tree(rng, table, literal=True, pairs=shape == 0)
+    for i in range(24):
+        counts = trees.random_counts(rng, 4096, rng.choice((2, 3, 5, 15, 40)), 0.9)
+        one_tree(rng, trees.fill(rng, counts, kinds[i % len(kinds)]), literal=False, pairs=False)
+
+
+def shapes(n):
+    """Child counts in breadth-first order of every ordered tree of n nodes."""
+    def grow(counts, total):
+        if len(counts) == total:
+            if total == n:
+                yield counts
+            return
+        for c in range(n - total + 1):
+            yield from grow(counts + [c], total + c)
+    yield from grow([], 1)
+
+
+def every_small_tree(most):
+    """All trees of up to `most` nodes with leaves 0, 1, 2."""
+    rng = random.Random(6)
+    for n in range(1, most + 1):
+        for counts in shapes(n):
+            for values in itertools.product((0, 1, 2), repeat=counts.count(0)):
+                one_tree(rng, o.table_of(counts, values), literal=True, pairs=True)
+
+
+def main():
+    count = int(sys.argv[1]) if len(sys.argv) > 1 else 20000
+    start = time.time()
+    cases_of_01()
+    table_2()
+    figure_1()
+    obligations()
+    print("papers: %d checks, %d wrong" % (checks, len(wrong)))
+    every_small_tree(6)
+    print("all trees of up to 6 nodes: %d checks, %d wrong" % (checks, len(wrong)))
+    random_trees(count)
+    print("all: %d checks, %d wrong, %.1f s" % (checks, len(wrong), time.time() - start))
+    for line in wrong[:40]:
+        print(line)
+    sys.exit(1 if wrong else 0)
+
+
+if __name__ == "__main__":
+    main()
