@@ -3,11 +3,15 @@ mod ends;
 mod family;
 mod turn;
 
+use ends::finish;
+use ends::start;
+use frames::MAX_NODES;
 use frames::Rejection;
 use turn::next;
 ghost use mathlib.Core.Path.{_≡_};
 ghost use Rattle.sss.specs.Entry.{blank as blankEntry};
 ghost use Rattle.sss.specs.Driven.{Prepared, Driven};
+ghost use Rattle.sss.specs.Outcome.{sssOutcome};
 
 // 01's LIVE and SOLVED.
 pub enum Status {
@@ -124,4 +128,28 @@ fn drive(
         list[m.write] = m.entry;
     }
     m
+}
+
+// SSS* of the whole tree: questions 1 to 10 and 15, then the value, the root move and the counts of evaluated leaves and of replacements; the marks of
+// these leaves and the certificate (01: the proof) go into the buffers, and an entry of the list for each node is reset.
+pub fn search(
+    table: &[u8],
+    list: &mut [State],
+    evaluated: &mut [u8],
+    certificate: &mut [u8],
+) -> Answer
+    ensures { λ r. ⌜ record {
+      list = now (list .exit);
+      search = record { answer = r; evaluated = now (evaluated .exit); certificate = now (certificate .exit) };
+    }
+        ≡ sssOutcome (now (table .entry)) (now (list .entry)) (now (evaluated .entry)) (now (certificate .entry)) ⌝ }
+{
+    let mut family = [0u32; MAX_NODES];
+    let sizes = Sizes {
+        entries: list.len(),
+        flags: certificate.len(),
+    };
+    let begun = start(sizes, table, &mut family, evaluated);
+    let ended = drive(begun, table, &family, list, evaluated);
+    finish(ended, table, evaluated, certificate)
 }
