@@ -3,9 +3,10 @@ use Prim.Native.Nat.{ℕ, _+_, _^_, _≤_, _<_}
 use native.Mathlib.Omega.{arith}
 use native.Mathlib.Decide.{decLt}
 use mathlib.Core.Path.{_≡_, ap}
+use mathlib.Core.Logic.{_↔_}
 use mathlib.Core.List.{List}
 use borrow.Author.Tests.{lt-ltb, le-ltb}
-use lib.IntN.{pos, negsuc, _-ℤ_}
+use lib.IntN.{pos, negsuc, natAbs, _-ℤ_}
 use lib.Signed.{mag}
 use Rattle.gametree.specs.Tree.{Score}
 use Rattle.frames.specs.Frame.{byteOf, valueBytes, storedScore}
@@ -35,4 +36,14 @@ value-stored t i a b s =
       | yes p ↦ rw (lt-ltb (byteOf t i 4) 128 p) (value-plus (storedScore t i) (valueBytes t i) (omega arith))
       | no p ↦ rw (le-ltb (byteOf t i 4) 128 (omega arith))
           (value-minus (storedScore t i) (valueBytes t i) (omega arith) (omega arith))
+    ]
+
+-- bytes 4 and 5 hold a score exactly if the number that they hold in two's complement is from -32,000 to 32,000
+pub score-stored : (t : List ℕ) (i : ℕ) → byteOf t i 4 < 256 → byteOf t i 5 < 256
+    → Score (storedScore t i) ↔ (natAbs (signed (byteOf t i 4) (byteOf t i 5)) ≤ 32000)
+score-stored t i a b =
+    elim (decLt (byteOf t i 4) 128) [
+      | yes p ↦ rw (lt-ltb (byteOf t i 4) 128 p) (λ s. omega arith, λ s. (omega arith, omega arith))
+      | no p ↦ rw (le-ltb (byteOf t i 4) 128 (omega arith), lt-ltb (valueBytes t i) 65536 (omega arith))
+          (λ s. omega arith, λ s. (omega arith, omega arith))
     ]

@@ -2,6 +2,7 @@
 pub mod Next
 pub mod Parents
 pub mod Places
+pub mod Sides
 pub mod Trees
 pub mod Nodes
 pub mod Totals
