@@ -2,72 +2,80 @@
 use Prim.Native.Nat.{ℕ}
 use mathlib.Core.List.{List, [], _∷_, _++_}
 use lib.IntN.{ℤ, pos, negsuc}
-use lib.ListN.{replicate}
+use lib.ListN.{replicate, take}
+use Rattle.frames.specs.Frame.{frames}
+use Rattle.frames.specs.Cases.{leafFrame, innerFrame}
 use Rattle.alphabeta.specs.declared.Answer as ab
 use Rattle.alphabeta.specs.declared.Answer.the-variants as ab-answer
 use Rattle.alphabeta.specs.Outcome.{alphaBetaOutcome}
+use Rattle.mtd.specs.declared.Answer as mtd
+use Rattle.mtd.specs.declared.Answer.the-variants as mtd-answer
+use Rattle.mtd.specs.Outcome.{mtdOutcome}
 use Rattle.sss.specs.declared.State.{State}
 use Rattle.sss.specs.declared.Answer as sss
 use Rattle.sss.specs.declared.Answer.the-variants as sss-answer
 use Rattle.sss.specs.Entry.{blank}
-use Rattle.sss.specs.Outcome.{SssOutcome, sssOutcome}
+use Rattle.sss.specs.Outcome.{sssOutcome}
 
 -- a root over two Min nodes of two leaves each
-abbrev pub small : ℕ → ℕ → ℕ → ℕ → List ℕ
+abbrev small : ℕ → ℕ → ℕ → ℕ → List ℕ
 small a b c d =
-    0 ∷ 1 ∷ 2 ∷ 0 ∷ 0 ∷ 0 ∷ 0 ∷ 3 ∷ 2 ∷ 0 ∷ 0 ∷ 0 ∷ 0 ∷ 5 ∷ 2 ∷ 0 ∷ 0 ∷ 0 ∷ 0 ∷ 0 ∷ 0 ∷ 0 ∷ 0 ∷ a ∷ 0 ∷ 0 ∷ 0 ∷ 0 ∷ 0
-    ∷ b ∷ 0 ∷ 0 ∷ 0 ∷ 0 ∷ 0 ∷ c ∷ 0 ∷ 0 ∷ 0 ∷ 0 ∷ 0 ∷ d ∷ []
+    innerFrame 1 2 ++ innerFrame 3 2 ++ innerFrame 5 2
+    ++ leafFrame 0 a ++ leafFrame 0 b ++ leafFrame 0 c ++ leafFrame 0 d
 
 -- the root is a leaf of -5; the root has the single leaf 9
-abbrev pub lone : List ℕ
-lone = 0 ∷ 0 ∷ 0 ∷ 0 ∷ 255 ∷ 251 ∷ []
+abbrev lone : List ℕ
+lone = leafFrame 255 251
 
-abbrev pub single : List ℕ
-single = 0 ∷ 1 ∷ 1 ∷ 0 ∷ 0 ∷ 0 ∷ 0 ∷ 0 ∷ 0 ∷ 0 ∷ 0 ∷ 9 ∷ []
+abbrev single : List ℕ
+single = innerFrame 1 1 ++ leafFrame 0 9
 
 -- buffers and a list of seven entries
-abbrev pub buffer : List ℕ
+abbrev buffer : List ℕ
 buffer = replicate 7 0
 
-abbrev pub list : List State
+abbrev list : List State
 list = replicate 7 blank
 
--- what a search gives: the value, the move and the count of evaluated leaves, or a rejection's number
+-- what a search gives: the value, the move, the count of evaluated leaves and, if it has one, its second count, or a
+-- rejection's number
 pub data Given : Type 0 where
-  found : (value : ℤ) (move leaves : ℕ) → Given
+  found : (value : ℤ) (move leaves second : ℕ) → Given
   rejected : (number : ℕ) → Given
 
-abbrev pub givenBy : ab.Answer → Given
-givenBy (ab-answer.Found f) = found (f .value) (f .«root_move») (f .leaves)
-givenBy (ab-answer.Rejected r) = rejected (r .number)
+abbrev byAlphaBeta : ab.Answer → Given
+byAlphaBeta (ab-answer.Found f) = found (f .value) (f .«root_move») (f .leaves) 0
+byAlphaBeta (ab-answer.Rejected r) = rejected (r .number)
 
-abbrev pub givenBySss : sss.Answer → Given
-givenBySss (sss-answer.Found f) = found (f .value) (f .«root_move») (f .leaves)
-givenBySss (sss-answer.Rejected r) = rejected (r .number)
+abbrev byMtd : mtd.Answer → Given
+byMtd (mtd-answer.Found f) = found (f .value) (f .«root_move») (f .leaves) (f .passes)
+byMtd (mtd-answer.Rejected r) = rejected (r .number)
 
--- the outcome of SSS* on a table
-abbrev pub run : List ℕ → SssOutcome
-run t = sssOutcome t list buffer buffer
+abbrev bySss : sss.Answer → Given
+bySss (sss-answer.Found f) = found (f .value) (f .«root_move») (f .leaves) (f .replacements)
+bySss (sss-answer.Rejected r) = rejected (r .number)
 
--- the number of replacements that an answer holds
-abbrev pub replacementsIn : sss.Answer → ℕ
-replacementsIn (sss-answer.Found f) = f .replacements
-replacementsIn (sss-answer.Rejected r) = 0
-
--- a line of 01: alpha-beta's and SSS*'s results
+-- a line of the table: what the three searches give, and the flags that SSS* writes
 pub record Row : Type 0 where
   pub alphaBeta : Given
+  pub mtd : Given
   pub sss : Given
+  pub flags : List ℕ
 
 abbrev pub rowOf : List ℕ → Row
 rowOf t =
+    let s = sssOutcome t list buffer buffer .search in
     record {
-      alphaBeta = givenBy (alphaBetaOutcome t buffer buffer .answer);
-      sss = givenBySss (run t .search .answer);
+      alphaBeta = byAlphaBeta (alphaBetaOutcome t buffer buffer .answer);
+      mtd = byMtd (mtdOutcome t buffer buffer .answer);
+      sss = bySss (s .answer);
+      flags = take (frames t) (s .certificate);
     }
 
-abbrev pub line : ℤ → ℕ → ℕ → ℕ → Row
-line v m a s = record { alphaBeta = found v m a; sss = found v m s }
+-- value, move, alpha-beta's leaves, MTD's leaves and passes, SSS*'s leaves and replacements, flags
+abbrev row : ℤ → (move ab mtd passes sss replacements : ℕ) → List ℕ → Row
+row v m a d p s r f =
+    record { alphaBeta = found v m a 0; mtd = found v m d p; sss = found v m s r; flags = f }
 
 abbrev pub tables : List (List ℕ)
 tables =
@@ -83,12 +91,12 @@ tables =
 
 abbrev pub rows : List Row
 rows =
-    line (pos 3) 2 4 3
-    ∷ line (pos 2) 1 3 3
-    ∷ line (pos 2) 1 4 4
-    ∷ line (pos 2) 2 4 4
-    ∷ line (pos 2) 1 3 3
-    ∷ line (pos 7) 1 3 3
-    ∷ line (negsuc 4) 0 1 1
-    ∷ line (pos 9) 1 1 1
+    row (pos 3) 2 4 3 2 3 9 (3 ∷ 1 ∷ 3 ∷ 1 ∷ 0 ∷ 3 ∷ 2 ∷ [])
+    ∷ row (pos 2) 1 3 3 2 3 9 (3 ∷ 3 ∷ 1 ∷ 3 ∷ 2 ∷ 1 ∷ 0 ∷ [])
+    ∷ row (pos 2) 1 4 4 3 4 11 (3 ∷ 3 ∷ 1 ∷ 3 ∷ 2 ∷ 0 ∷ 1 ∷ [])
+    ∷ row (pos 2) 2 4 4 3 4 11 (3 ∷ 1 ∷ 3 ∷ 0 ∷ 1 ∷ 3 ∷ 2 ∷ [])
+    ∷ row (pos 2) 1 3 3 2 3 9 (3 ∷ 3 ∷ 1 ∷ 3 ∷ 2 ∷ 1 ∷ 0 ∷ [])
+    ∷ row (pos 7) 1 3 3 2 3 9 (3 ∷ 3 ∷ 1 ∷ 3 ∷ 2 ∷ 1 ∷ 0 ∷ [])
+    ∷ row (negsuc 4) 0 1 1 2 1 1 (3 ∷ [])
+    ∷ row (pos 9) 1 1 1 2 1 3 (3 ∷ 3 ∷ [])
     ∷ []
