@@ -4,4 +4,5 @@ pub mod AlphaBeta
 pub mod Mtd
 pub mod Sss
 pub mod Demands
+pub mod Refusals
 pub mod Cases
