@@ -1,4 +1,5 @@
 -- `report::put_byte` meets its contract: a byte stored is a byte laid.
+use native.Mathlib.Omega.{arith}
 use mathlib.Core.Path.{refl}
 use Rattle.report.proofs.Laying.{laid-one}
 use borrow.Author.Needs.{needs}
@@ -17,7 +18,8 @@ same-length : tie.Need-same-length
 same-length c = search needs
 
 returns : tie.Need-returns
-returns c = (refl, laid-one (c .args .at) (c .args .byte) (c .args .text .now) (c .pre))
+returns c =
+    record { behind = refl; text = laid-one (c .args .at) (c .args .byte) (c .args .text .now) (omega arith) }
 
 pub put-byte-spec : {M : Type 1} → statement M
 put-byte-spec = tie.close (tie.spec slice-write-text add-result same-length returns)
