@@ -14,6 +14,7 @@ pub mod Choices
 pub mod Filling
 pub mod Starting
 pub mod Whole
+pub mod OwnList
 pub mod Values
 pub mod Rows
 pub mod Loans

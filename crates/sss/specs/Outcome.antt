@@ -69,3 +69,9 @@ sssOutcome t l e c =
       list = listAfter q (frames t) l;
       search = outcome RejectedAnswer (FoundAnswer (findings t)) (sssLeaves t) t e c q;
     }
+
+-- what a call gives that has a list of its own, which is never too short: the first "no" to questions 1 to 10, or the
+-- findings
+abbrev pub solveOutcome : (t e c : List ℕ) → Outcome Answer
+solveOutcome t e c =
+    outcome RejectedAnswer (FoundAnswer (findings t)) (sssLeaves t) t e c (searchRejection t (length e ∷ length c ∷ []))

@@ -11,7 +11,7 @@ use turn::next;
 ghost use mathlib.Core.Path.{_≡_};
 ghost use Rattle.sss.specs.Entry.{blank as blankEntry};
 ghost use Rattle.sss.specs.Driven.{Prepared, Driven};
-ghost use Rattle.sss.specs.Outcome.{sssOutcome};
+ghost use Rattle.sss.specs.Outcome.{sssOutcome, solveOutcome};
 
 // 01's LIVE and SOLVED.
 pub enum Status {
@@ -152,4 +152,13 @@ pub fn search(
     let begun = start(sizes, table, &mut family, evaluated);
     let ended = drive(begun, table, &family, list, evaluated);
     finish(ended, table, evaluated, certificate)
+}
+
+// The same with a list of its own, for callers that have none to lend.
+pub fn solve(table: &[u8], evaluated: &mut [u8], certificate: &mut [u8]) -> Answer
+    ensures { λ r. ⌜ record { answer = r; evaluated = now (evaluated .exit); certificate = now (certificate .exit) }
+        ≡ solveOutcome (now (table .entry)) (now (evaluated .entry)) (now (certificate .entry)) ⌝ }
+{
+    let mut list = [blank(); MAX_NODES];
+    search(table, &mut list, evaluated, certificate)
 }
