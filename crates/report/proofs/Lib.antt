@@ -1,3 +1,6 @@
 -- Lemmas on text that is laid down piece by piece.
 pub mod Laying
 pub mod Signs
+pub mod Searches
+pub mod Sizes
+pub mod Reporting

@@ -1,2 +1,3 @@
 -- Definitions of the program's text.
 pub mod Text
+pub mod Report

@@ -1,9 +1,23 @@
 // The program's text: what it prints for a file, laid into a lent buffer piece by piece.
+use frames::Checked;
+use frames::FRAME_SIZE;
+use frames::MAX_NODES;
 use frames::Rejection;
 ghost use mathlib.Core.Path.{_≡_};
 ghost use mathlib.Core.List.{_∷_, []};
 ghost use lib.IntN.{natAbs};
+ghost use Rattle.frames.specs.Check.{Accepted};
 ghost use Rattle.report.specs.Text.{blank, decimal, signed, methodLine, refusedLine, Room, Put};
+ghost use Rattle.report.specs.Report.{abLine, mtdLine, sssLine, analysis, written};
+
+// The bytes that a lent text must have.
+pub const TEXT_SIZE: usize = 256;
+
+// The most bytes of a table.
+const MAX_TABLE: usize = FRAME_SIZE * MAX_NODES;
+
+// The number of question 10.
+const SHORT_BUFFER: u8 = 10;
 
 // A minus sign, a blank and the end of a line.
 const MINUS: u8 = b'-';
@@ -11,6 +25,103 @@ const MINUS: u8 = b'-';
 const BLANK: u8 = b' ';
 
 const LINE_FEED: u8 = 10;
+
+// The answer of a call: the report's length, or a lent text that is too short.
+pub enum Answer {
+    Length(usize),
+    Rejected(Rejection),
+}
+
+// The report of a file, laid at the beginning of the text.
+pub fn write(file: &[u8], text: &mut [u8]) -> Answer
+    ensures { λ r. ⌜ record { answer = r; text = now (text .exit) } ≡ written (now (file .entry)) (now (text .entry)) ⌝ }
+{
+    if text.len() < TEXT_SIZE {
+        return Answer::Rejected(Rejection {
+            number: SHORT_BUFFER,
+            place: 0,
+        });
+    }
+    let mut table = [0u8; MAX_TABLE];
+    match treefile::read(file, &mut table) {
+        Checked::Nodes(nodes) => {
+            let end = FRAME_SIZE * nodes;
+            Answer::Length(put_analysis(&table[..end], text))
+        }
+        Checked::Rejected(rejection) => Answer::Length(put_refused(text, rejection)),
+    }
+}
+
+// The heading and the line of each method, at the beginning of the text; the position behind them.
+fn put_analysis(table: &[u8], text: &mut [u8]) -> usize
+    requires { ⌜ Accepted (now table) × Room 0 (analysis (now table)) (now text) ⌝ }
+    ensures { λ r. ⌜ Put 0 (analysis (now (table .entry))) (now (text .entry)) r (now (text .exit)) ⌝ }
+{
+    let first = put_bytes(text, 0, b"method value move leaves\n");
+    let second = put_ab(table, text, first);
+    let third = put_mtd(table, text, second);
+    put_sss(table, text, third)
+}
+
+// The line of alpha-beta, which rejects no accepted table; the position behind it.
+fn put_ab(table: &[u8], text: &mut [u8], at: usize) -> usize
+    requires { ⌜ Accepted (now table) × Room at (abLine (now table)) (now text) ⌝ }
+    ensures { λ r. ⌜ Put at (abLine (now (table .entry))) (now (text .entry)) r (now (text .exit)) ⌝ }
+{
+    let mut evaluated = [0u8; MAX_NODES];
+    let mut certificate = [0u8; MAX_NODES];
+    match alphabeta::search(table, &mut evaluated, &mut certificate) {
+        alphabeta::Answer::Found(found) => put_line(
+            text,
+            at,
+            b"ab",
+            found.value,
+            found.root_move,
+            found.leaves,
+        ),
+        alphabeta::Answer::Rejected(_) => at,
+    }
+}
+
+// The line of MTD.
+fn put_mtd(table: &[u8], text: &mut [u8], at: usize) -> usize
+    requires { ⌜ Accepted (now table) × Room at (mtdLine (now table)) (now text) ⌝ }
+    ensures { λ r. ⌜ Put at (mtdLine (now (table .entry))) (now (text .entry)) r (now (text .exit)) ⌝ }
+{
+    let mut evaluated = [0u8; MAX_NODES];
+    let mut certificate = [0u8; MAX_NODES];
+    match mtd::search(table, &mut evaluated, &mut certificate) {
+        mtd::Answer::Found(found) => put_line(
+            text,
+            at,
+            b"mtd",
+            found.value,
+            found.root_move,
+            found.leaves,
+        ),
+        mtd::Answer::Rejected(_) => at,
+    }
+}
+
+// The line of SSS*.
+fn put_sss(table: &[u8], text: &mut [u8], at: usize) -> usize
+    requires { ⌜ Accepted (now table) × Room at (sssLine (now table)) (now text) ⌝ }
+    ensures { λ r. ⌜ Put at (sssLine (now (table .entry))) (now (text .entry)) r (now (text .exit)) ⌝ }
+{
+    let mut evaluated = [0u8; MAX_NODES];
+    let mut certificate = [0u8; MAX_NODES];
+    match sss::solve(table, &mut evaluated, &mut certificate) {
+        sss::Answer::Found(found) => put_line(
+            text,
+            at,
+            b"sss",
+            found.value,
+            found.root_move,
+            found.leaves,
+        ),
+        sss::Answer::Rejected(_) => at,
+    }
+}
 
 // A rejection's line at the beginning of the text; the position behind it.
 fn put_refused(text: &mut [u8], rejection: Rejection) -> usize
