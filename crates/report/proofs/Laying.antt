@@ -1,9 +1,9 @@
 -- Text that is laid into a buffer piece by piece.
-use Prim.Native.Nat.{ℕ, zero, suc, _+_, _*_, _^_, _/_, _%_, _≤_, _<_, min}
+use Prim.Native.Nat.{ℕ, zero, suc, _+_, _^_, _/_, _%_, _≤_, _<_}
 use native.Mathlib.Omega.{arith}
 use native.Mathlib.Numerals.{add-one}
 use mathlib.Core.Path.{_≡_, refl, sym, ap, ap₂, _∙_, subst}
-use mathlib.Core.List.{List, [], _∷_, _++_, append-assoc, append-nil}
+use mathlib.Core.List.{List, [], _∷_, _++_, append-assoc}
 use lib.ListN.{length, getD, set, take, drop, take-append-drop, length-append, length-take, length-drop}
 use lib.Seq.{set-split, take-suc, take-at, drop-at, drop-drop}
 use borrow.Author.Tests.{lt-ltb, le-ltb}
@@ -42,7 +42,8 @@ laid-more at x y b h =
     let e : at + length x + length y ≡ at + length (x ++ y) = omega (arith, length-append x y) in
     ap₂ (λ k l. k ++ (y ++ l))
     (ap (take (at + length x)) whole ∙ take-at front (drop (at + length x) b) (at + length x) n)
-    (ap (drop (at + length x + length y)) whole ∙ sym (drop-drop (length y) (at + length x) (front ++ drop (at + length x) b))
+    (ap (drop (at + length x + length y)) whole
+    ∙ sym (drop-drop (length y) (at + length x) (front ++ drop (at + length x) b))
     ∙ ap (drop (length y)) (drop-at front (drop (at + length x) b) (at + length x) n)
     ∙ drop-drop (length y) (at + length x) b ∙ ap (λ k. drop k b) e)
     ∙ append-assoc (take at b) x (y ++ drop (at + length (x ++ y)) b)

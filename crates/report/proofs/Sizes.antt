@@ -11,8 +11,9 @@ use Rattle.treefile.specs.File.{fileRejection}
 use Rattle.alphabeta.specs.Outcome as alphabeta
 use Rattle.mtd.specs.Outcome as mtd
 use Rattle.sss.specs.Outcome as sss
-use Rattle.report.specs.Text.{decimal, signed, methodLine, refusedLine}
-use Rattle.report.specs.Report.{abName, mtdName, sssName, abLine, mtdLine, sssLine, analysis, printed, report, textSize}
+use Rattle.report.specs.Text.{signed, methodLine, refusedLine}
+use Rattle.report.specs.Report.{abName, mtdName, sssName, abLine, mtdLine, sssLine}
+use Rattle.report.specs.Report.{analysis, printed, report, textSize}
 use Rattle.report.proofs.Laying.{decimal-few}
 
 -- 20 digits and a sign

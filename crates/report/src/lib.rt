@@ -128,8 +128,9 @@ fn put_refused(text: &mut [u8], rejection: Rejection) -> usize
     requires { ⌜ Room 0 (refusedLine (rejection .number) (rejection .place)) (now text) ⌝ }
     ensures { λ r. ⌜ Put 0 (refusedLine (rejection .number) (rejection .place)) (now (text .entry)) r (now (text .exit)) ⌝ }
 {
+    let number = rejection.number as usize;
     let refused = put_bytes(text, 0, b"refused");
-    let numbered = put_count(text, refused, rejection.number as usize);
+    let numbered = put_count(text, refused, number);
     let placed = put_count(text, numbered, rejection.place);
     put_byte(text, placed, LINE_FEED)
 }

@@ -1,6 +1,7 @@
--- `report::put_number` meets its contract: the number falls with each call, and the last digit is laid behind the others.
+-- `report::put_number` meets its contract: the number falls with each call, and the last digit is laid behind the
+-- others.
 use native.Mathlib.Omega.{arith}
-use mathlib.Core.Path.{_≡_, refl, sym, ap, ap₂, _∙_}
+use mathlib.Core.Path.{sym, ap, _∙_}
 use mathlib.Core.List.{[], _∷_}
 use lib.ListN.{length, length-append}
 use Rattle.report.specs.Text.{decimal, laid}
@@ -37,7 +38,8 @@ module _ (t : ℕ) where
   put-number-cast-put-byte : put-number-lts.Need-cast-put-byte (put-number-calls t) (put-number-at t) put-number.Post
   put-number-cast-put-byte c = search needs
 
-  put-number-put-byte-requires : put-number-lts.Need-put-byte-requires (put-number-calls t) (put-number-at t) put-number.Post
+  put-number-put-byte-requires :
+      put-number-lts.Need-put-byte-requires (put-number-calls t) (put-number-at t) put-number.Post
   put-number-put-byte-requires c κs =
       let s = c .before .before .before in
       omega (arith, ap length (decimal-one (s .args .n) (omega arith)))
@@ -55,7 +57,8 @@ module _ (t : ℕ) where
         text = p .text ∙ ap (λ w. laid (s .args .at) w (s .args .text .now)) (sym d);
       }
 
-  put-number-put-number-requires : put-number-lts.Need-put-number-requires (put-number-calls t) (put-number-at t) put-number.Post
+  put-number-put-number-requires :
+      put-number-lts.Need-put-number-requires (put-number-calls t) (put-number-at t) put-number.Post
   put-number-put-number-requires c κs =
       let s = c .before .before .before in
       let d = ap length (decimal-more (s .args .n) (omega arith) (omega arith)) in
@@ -65,10 +68,12 @@ module _ (t : ℕ) where
   put-number-add-put-byte-2 : put-number-lts.Need-add-put-byte-2 (put-number-calls t) (put-number-at t) put-number.Post
   put-number-add-put-byte-2 c = search needs
 
-  put-number-cast-put-byte-2 : put-number-lts.Need-cast-put-byte-2 (put-number-calls t) (put-number-at t) put-number.Post
+  put-number-cast-put-byte-2 :
+      put-number-lts.Need-cast-put-byte-2 (put-number-calls t) (put-number-at t) put-number.Post
   put-number-cast-put-byte-2 c = search needs
 
-  put-number-put-byte-requires-2 : put-number-lts.Need-put-byte-requires-2 (put-number-calls t) (put-number-at t) put-number.Post
+  put-number-put-byte-requires-2 :
+      put-number-lts.Need-put-byte-requires-2 (put-number-calls t) (put-number-at t) put-number.Post
   put-number-put-byte-requires-2 c κs =
       let s = c .before .before .before .before .before .before .before in
       let d = ap length (decimal-more (s .args .n) (omega arith) (omega arith)) in

@@ -7,8 +7,6 @@ use mir.Val.{toZ, ofZ}
 use mir.ValLaws.{toZ-ofZ}
 use borrow.Author.Needs.{needs}
 use denote.Ref.{now}
-use Rattle.frames.specs.declared.Rejection.{Rejection}
-use Rattle.alphabeta.specs.declared.Found.{Found}
 use Rattle.alphabeta.specs.declared.Answer.the-variants.{Found as FoundAnswer, Rejected}
 use Rattle.alphabeta.specs.Outcome.{reachedLeaves, findings}
 use Rattle.report.specs.Text.{methodLine, Room, Put}
@@ -20,12 +18,6 @@ use Rattle.report.proofs.put_ab.Tie as tie
 -- the function's entry, from the search on
 abbrev start : tie.After-search → tie.Start
 start c = c .before .before .before .before .before
-
-same-found : {r q : Found} → FoundAnswer r ≡ FoundAnswer q → r ≡ q
-same-found e = cc
-
-not-rejected : {r : Found} {x : Rejection} → Rejected x ≡ FoundAnswer r → ⊥
-not-rejected e = let z : _≡_ {A = ℕ} 0 1 = cc in omega arith
 
 -- the search answers with its findings
 found : (c : tie.After-search) → c .search .result ≡ FoundAnswer (findings (now (start c .args .table)))
@@ -43,7 +35,9 @@ unfolding abLine
 line c =
     let s = c .before .before .before .before .before .before .before .before in
     let f = c .before .before .before .before .found .given in
-    let same : f .0 .0 ≡ findings (now (start s .args .table)) = same-found (sym (f .1) ∙ found s) in
+    let t = now (start s .args .table) in
+    let e : FoundAnswer (f .0 .0) ≡ FoundAnswer (findings t) = sym (f .1) ∙ found s in
+    let same : f .0 .0 ≡ findings t = (cc) in
     rw (toZ-ofZ w16 (f .0 .0 .value) (record { sfits = c .struct-told .given .0 .1 }))
     (ap (λ r. methodLine abName (r .value) (r .«root_move») (r .leaves)) same)
 
@@ -81,7 +75,11 @@ returns c =
     subst (λ x. Put (s .args .at) x (now (s .args .text)) (p .result) (p .last .0)) (line t) (p .ensures)
 
 returns-2 : tie.Need-returns-2
-returns-2 c = absurd (not-rejected (sym (c .enum-told .given .1) ∙ found (c .before .before .before .before)))
+returns-2 c =
+    let s = c .before .before .before .before in
+    let e : Rejected (c .enum-told .given .0 .0) ≡ FoundAnswer _ = sym (c .enum-told .given .1) ∙ found s in
+    let z : _≡_ {A = ℕ} 0 1 = (cc) in
+    absurd (omega arith)
 
 pub put-ab-spec : {M : Type 1} → statement M
 put-ab-spec =

@@ -29,7 +29,8 @@ put-sss-requires c κs =
     let a = m .before .before .before .before in
     let h = a .before .before .before .before in
     let r = h .before .before .before .before .before .pre in
-    (r .0, room-rest _ (m .put-mtd .ensures) (room-rest _ (a .put-ab .ensures) (room-rest _ (h .put-bytes .ensures) (r .1))))
+    let r₁ = room-rest _ (h .put-bytes .ensures) (r .1) in
+    (r .0, room-rest _ (m .put-mtd .ensures) (room-rest _ (a .put-ab .ensures) r₁))
 
 same-length : tie.Need-same-length
 same-length c = search needs

@@ -5,8 +5,6 @@ use Rattle.report.proofs.Laying.{laid-one}
 use borrow.Author.Needs.{needs}
 use Rattle.report.proofs.put_byte.Statement.{statement}
 use Rattle.report.proofs.put_byte.Tie as tie
-use Rattle.report.proofs.put_byte.Reads as reads
-use Rattle.report.proofs.put_byte.Lts as lts
 
 slice-write-text : tie.Need-slice-write-text
 slice-write-text c = search needs

@@ -20,8 +20,8 @@ accepted : (c : tie.After-known-told) →
     let d = c .before .before .before .before in
     Read (now (start d .args .file)) (d .read .last .1 .0) (c .before .nodes .given .0 .0)
 accepted c =
-    let d = c .before .before .before .before in
-    read-accepted (now (start d .args .file)) _ _ _ (d .read .ensures .0) (d .read .ensures .1) _ (c .before .nodes .given .1)
+    let r = c .before .before .before .before .read .ensures in
+    read-accepted _ _ _ _ (r .0) (r .1) _ (c .before .nodes .given .1)
 
 -- the file was rejected
 rejected : (c : tie.After-known-told2) →
@@ -34,7 +34,9 @@ rejected c =
     read-rejected (now (start d .args .file)) _ (omega arith) _ e
 
 returns : tie.Need-returns
-returns c = written-short (now (c .before .before .before .args .file)) (now (c .before .before .before .args .text)) (c .if1 .taken)
+returns c =
+    let s = c .before .before .before in
+    written-short (now (s .args .file)) (now (s .args .text)) (c .if1 .taken)
 
 slice-aggregate-read : tie.Need-slice-aggregate-read
 slice-aggregate-read c = search needs
