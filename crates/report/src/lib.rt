@@ -70,17 +70,11 @@ fn put_ab(table: &[u8], text: &mut [u8], at: usize) -> usize
 {
     let mut evaluated = [0u8; MAX_NODES];
     let mut certificate = [0u8; MAX_NODES];
-    match alphabeta::search(table, &mut evaluated, &mut certificate) {
-        alphabeta::Answer::Found(found) => put_line(
-            text,
-            at,
-            b"ab",
-            found.value,
-            found.root_move,
-            found.leaves,
-        ),
-        alphabeta::Answer::Rejected(_) => at,
-    }
+    let alphabeta::Answer::Found(found) = alphabeta::search(table, &mut evaluated, &mut certificate)
+    else {
+        return at;
+    };
+    put_line(text, at, b"ab", found.value, found.root_move, found.leaves)
 }
 
 // The line of MTD.
@@ -90,17 +84,10 @@ fn put_mtd(table: &[u8], text: &mut [u8], at: usize) -> usize
 {
     let mut evaluated = [0u8; MAX_NODES];
     let mut certificate = [0u8; MAX_NODES];
-    match mtd::search(table, &mut evaluated, &mut certificate) {
-        mtd::Answer::Found(found) => put_line(
-            text,
-            at,
-            b"mtd",
-            found.value,
-            found.root_move,
-            found.leaves,
-        ),
-        mtd::Answer::Rejected(_) => at,
-    }
+    let mtd::Answer::Found(found) = mtd::search(table, &mut evaluated, &mut certificate) else {
+        return at;
+    };
+    put_line(text, at, b"mtd", found.value, found.root_move, found.leaves)
 }
 
 // The line of SSS*.
@@ -110,17 +97,10 @@ fn put_sss(table: &[u8], text: &mut [u8], at: usize) -> usize
 {
     let mut evaluated = [0u8; MAX_NODES];
     let mut certificate = [0u8; MAX_NODES];
-    match sss::solve(table, &mut evaluated, &mut certificate) {
-        sss::Answer::Found(found) => put_line(
-            text,
-            at,
-            b"sss",
-            found.value,
-            found.root_move,
-            found.leaves,
-        ),
-        sss::Answer::Rejected(_) => at,
-    }
+    let sss::Answer::Found(found) = sss::solve(table, &mut evaluated, &mut certificate) else {
+        return at;
+    };
+    put_line(text, at, b"sss", found.value, found.root_move, found.leaves)
 }
 
 // A rejection's line at the beginning of the text; the position behind it.

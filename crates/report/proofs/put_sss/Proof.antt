@@ -1,7 +1,7 @@
 -- `report::put_sss` meets its contract: the search finds, and the line says what it found.
-use mathlib.Core.Path.{_≡_, refl, sym, ap, _∙_, subst}
-use native.Mathlib.Omega.{arith}
 use Prim.Native.Nat.{ℕ}
+use native.Mathlib.Omega.{arith}
+use mathlib.Core.Path.{_≡_, refl, sym, ap, _∙_, subst}
 use mir.Syntax.{w16}
 use mir.Val.{toZ, ofZ}
 use mir.ValLaws.{toZ-ofZ}
@@ -28,14 +28,14 @@ found c =
 
 -- so the line that is laid is that of SSS*
 line : (c : tie.After-struct-told) →
+    let s = start (c .before .before .before .before .before .before .before .before) in
     let r = c .before .before .before .before .found .given .0 .0 in
-    methodLine sssName (toZ w16 (ofZ w16 (r .value))) (r .«root_move») (r .leaves)
-    ≡ sssLine (now (start (c .before .before .before .before .before .before .before .before) .args .table))
+    methodLine sssName (toZ w16 (ofZ w16 (r .value))) (r .«root_move») (r .leaves) ≡ sssLine (now (s .args .table))
 unfolding sssLine
 line c =
     let s = c .before .before .before .before .before .before .before .before in
-    let f = c .before .before .before .before .found .given in
     let t = now (start s .args .table) in
+    let f = c .before .before .before .before .found .given in
     let e : FoundAnswer (f .0 .0) ≡ FoundAnswer (findings t) = sym (f .1) ∙ found s in
     let same : f .0 .0 ≡ findings t = (cc) in
     rw (toZ-ofZ w16 (f .0 .0 .value) (record { sfits = c .struct-told .given .0 .1 }))
@@ -53,6 +53,16 @@ solve-requires c κs = search needs
 enum-known-found : tie.Need-enum-known-found
 enum-known-found c = search needs
 
+enum-told : tie.Need-enum-told
+enum-told c = search needs
+
+returns : tie.Need-returns
+returns c =
+    let s = c .before .before .before .before in
+    let e : Rejected (c .enum-told .given .0 .0) ≡ FoundAnswer _ = sym (c .enum-told .given .1) ∙ found s in
+    let z : _≡_ {A = ℕ} 0 1 = (cc) in
+    absurd (omega arith)
+
 slice-aggregate-put-line : tie.Need-slice-aggregate-put-line
 slice-aggregate-put-line c = search needs
 
@@ -61,25 +71,15 @@ put-line-requires c κs =
     let s = start (c .before .before .before .before .before .before .before .before) in
     subst (λ x. Room (s .args .at) x (now (s .args .text))) (sym (line c)) (s .pre .1)
 
-enum-told : tie.Need-enum-told
-enum-told c = search needs
-
 same-length : tie.Need-same-length
 same-length c = search needs
 
-returns : tie.Need-returns
-returns c =
+returns-2 : tie.Need-returns-2
+returns-2 c =
     let t = c .before .before .before in
     let s = start (t .before .before .before .before .before .before .before .before) in
     let p = c .before .before .put-line in
     subst (λ x. Put (s .args .at) x (now (s .args .text)) (p .result) (p .last .0)) (line t) (p .ensures)
-
-returns-2 : tie.Need-returns-2
-returns-2 c =
-    let s = c .before .before .before .before in
-    let e : Rejected (c .enum-told .given .0 .0) ≡ FoundAnswer _ = sym (c .enum-told .given .1) ∙ found s in
-    let z : _≡_ {A = ℕ} 0 1 = (cc) in
-    absurd (omega arith)
 
 pub put-sss-spec : {M : Type 1} → statement M
 put-sss-spec =
@@ -89,9 +89,9 @@ put-sss-spec =
     slice-aggregate-solve-2
     solve-requires
     enum-known-found
+    enum-told
+    returns
     slice-aggregate-put-line
     put-line-requires
-    enum-told
     same-length
-    returns
     returns-2)
