@@ -1,9 +1,9 @@
 -- Text that is laid into a buffer piece by piece.
-use Prim.Native.Nat.{ℕ, zero, suc, _+_, _*_, _^_, _/_, _%_, _≤_, _<_, min}
+use Prim.Native.Nat.{ℕ, zero, suc, _+_, _^_, _/_, _%_, _≤_, _<_}
 use native.Mathlib.Omega.{arith}
 use native.Mathlib.Numerals.{add-one}
 use mathlib.Core.Path.{_≡_, refl, sym, ap, ap₂, _∙_, subst}
-use mathlib.Core.List.{List, [], _∷_, _++_, append-assoc, append-nil}
+use mathlib.Core.List.{List, [], _∷_, _++_, append-assoc}
 use lib.ListN.{length, getD, set, take, drop, take-append-drop, length-append, length-take, length-drop}
 use lib.Seq.{set-split, take-suc, take-at, drop-at, drop-drop}
 use borrow.Author.Tests.{lt-ltb, le-ltb}
@@ -11,7 +11,7 @@ use native.Mathlib.Nat.{pow-suc, div-lt-iff-lt-mul}
 use mathlib.Core.Bool.{cond}
 use lib.Dec.{ltb}
 use Rattle.gametree.proofs.Choice.{cond-cases}
-use Rattle.report.specs.Text.{decimalWithin, decimal, laid}
+use Rattle.report.specs.Text.{decimalWithin, decimal, laid, Room, Put}
 
 -- nothing laid
 pub laid-none : (at : ℕ) (b : List ℕ) → laid at [] b ≡ b
@@ -42,11 +42,33 @@ laid-more at x y b h =
     let e : at + length x + length y ≡ at + length (x ++ y) = omega (arith, length-append x y) in
     ap₂ (λ k l. k ++ (y ++ l))
     (ap (take (at + length x)) whole ∙ take-at front (drop (at + length x) b) (at + length x) n)
-    (ap (drop (at + length x + length y)) whole ∙ sym (drop-drop (length y) (at + length x) (front ++ drop (at + length x) b))
+    (ap (drop (at + length x + length y)) whole
+    ∙ sym (drop-drop (length y) (at + length x) (front ++ drop (at + length x) b))
     ∙ ap (drop (length y)) (drop-at front (drop (at + length x) b) (at + length x) n)
     ∙ drop-drop (length y) (at + length x) b ∙ ap (λ k. drop k b) e)
     ∙ append-assoc (take at b) x (y ++ drop (at + length (x ++ y)) b)
     ∙ ap (λ k. take at b ++ k) (sym (append-assoc x y (drop (at + length (x ++ y)) b)))
+
+-- room for a text is room for its front
+pub room-front : {at : ℕ} {x b : List ℕ} (y : List ℕ) → Room at (x ++ y) b → Room at x b
+room-front {x} y h = record { enough = omega (arith, length-append x y) }
+
+module _ {at : ℕ} {x b : List ℕ} {n : ℕ} {b′ : List ℕ} where
+  -- once the front is laid, there is room for the rest behind it
+  pub room-rest : (y : List ℕ) → Put at x b n b′ → Room at (x ++ y) b → Room n y b′
+  room-rest y p h =
+      let l = length-append x y in
+      record { enough = omega (arith, p .behind, ap length (p .text), laid-length at x b (omega arith)) }
+
+  -- and the rest laid there makes the whole
+  pub put-then : {y : List ℕ} {m : ℕ} {b″ : List ℕ} → Put at x b n b′ → Room at (x ++ y) b → Put n y b′ m b″
+      → Put at (x ++ y) b m b″
+  put-then {y} p h q =
+      let r : Room at x b = room-front y h in
+      record {
+        behind = omega (arith, p .behind, q .behind, length-append x y);
+        text = q .text ∙ ap₂ (λ i t. laid i y t) (p .behind) (p .text) ∙ laid-more at x y b (r .enough);
+      }
 
 -- more digits than a number has change nothing
 digits-enough : (f g n : ℕ) → n < 10 ^ suc f → n < 10 ^ suc g → decimalWithin (suc f) n ≡ decimalWithin (suc g) n

@@ -1,2 +1,4 @@
--- Definitions of the program's text.
+-- Definitions of what the program prints.
 pub mod Text
+pub mod Report
+pub mod Cases

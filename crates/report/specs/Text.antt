@@ -1,6 +1,7 @@
 -- The program's text as bytes: numbers in base ten, a method's line, a rejection's line (01, "What a contract says, and
 -- the cases").
-use Prim.Native.Nat.{ℕ, zero, suc, _+_, _/_, _%_}
+use Prim.Native.Nat.{ℕ, zero, suc, _+_, _/_, _%_, _≤_}
+use mathlib.Core.Path.{_≡_}
 use mathlib.Core.Bool.{cond}
 use mathlib.Core.List.{List, [], _∷_, _++_}
 use lib.Dec.{ltb}
@@ -47,3 +48,12 @@ refusedLine number place =
 -- the bytes x laid into a buffer from a position on
 unfoldable pub laid : ℕ → List ℕ → List ℕ → List ℕ
 laid at x b = take at b ++ (x ++ drop (at + length x) b)
+
+-- there is room for the bytes x from a position on
+pub record Room (at : ℕ) (x b : List ℕ) : Type 0 where
+  pub enough : at + length x ≤ length b
+
+-- the bytes x were laid into the buffer b from a position on: the position behind them, and what the buffer holds then
+pub record Put (at : ℕ) (x b : List ℕ) (next : ℕ) (after : List ℕ) : Type 0 where
+  pub behind : next ≡ at + length x
+  pub text : after ≡ laid at x b

@@ -1,36 +1,165 @@
-// Pieces of the program's text: bytes, words and numbers in base ten, laid into a lent buffer from a position on.
+// The program's text: what it prints for a file, laid into a lent buffer piece by piece.
+use frames::Checked;
+use frames::FRAME_SIZE;
+use frames::MAX_NODES;
+use frames::Rejection;
 ghost use mathlib.Core.Path.{_≡_};
 ghost use mathlib.Core.List.{_∷_, []};
-ghost use Prim.Native.Nat.{_+_, _<_, _≤_};
-ghost use lib.ListN.{length, set};
 ghost use lib.IntN.{natAbs};
-ghost use Rattle.report.specs.Text.{decimal, laid};
+ghost use Rattle.frames.specs.Check.{Accepted};
+ghost use Rattle.report.specs.Text.{blank, decimal, signed, methodLine, refusedLine, Room, Put};
+ghost use Rattle.report.specs.Report.{abLine, mtdLine, sssLine, analysis, written};
 
-// One byte at a position; the position behind it.
-pub fn put_byte(text: &mut [u8], at: usize, byte: u8) -> usize
-    requires { ⌜ at < length (now text) ⌝ }
-    ensures { λ r. ⌜ (r ≡ at + 1) × (now (text .exit) ≡ laid at (byte ∷ []) (now (text .entry))) ⌝ }
-{
-    text[at] = byte;
-    at + 1
+// The bytes that a lent text must have.
+pub const TEXT_SIZE: usize = 256;
+
+// The most bytes of a table.
+const MAX_TABLE: usize = FRAME_SIZE * MAX_NODES;
+
+// The number of question 10.
+const SHORT_BUFFER: u8 = 10;
+
+// A minus sign, a blank and the end of a line.
+const MINUS: u8 = b'-';
+
+const BLANK: u8 = b' ';
+
+const LINE_FEED: u8 = 10;
+
+// The answer of a call: the report's length, or a lent text that is too short.
+pub enum Answer {
+    Length(usize),
+    Rejected(Rejection),
 }
 
-// A number in base ten; the position behind it.
-pub fn put_number(text: &mut [u8], at: usize, n: usize) -> usize
-    requires { ⌜ at + length (decimal n) ≤ length (now text) ⌝ }
-    ensures { λ r. ⌜ (r ≡ at + length (decimal n)) × (now (text .exit) ≡ laid at (decimal n) (now (text .entry))) ⌝ }
+// The report of a file, laid at the beginning of the text.
+pub fn write(file: &[u8], text: &mut [u8]) -> Answer
+    ensures { λ r. ⌜ record { answer = r; text = now (text .exit) } ≡ written (now (file .entry)) (now (text .entry)) ⌝ }
 {
-    if n < 10 {
-        return put_byte(text, at, (48 + n) as u8);
+    if text.len() < TEXT_SIZE {
+        return Answer::Rejected(Rejection {
+            number: SHORT_BUFFER,
+            place: 0,
+        });
     }
-    let next = put_number(text, at, n / 10);
-    put_byte(text, next, (48 + n % 10) as u8)
+    let mut table = [0u8; MAX_TABLE];
+    match treefile::read(file, &mut table) {
+        Checked::Nodes(nodes) => {
+            let end = FRAME_SIZE * nodes;
+            Answer::Length(put_analysis(&table[..end], text))
+        }
+        Checked::Rejected(rejection) => Answer::Length(put_refused(text, rejection)),
+    }
+}
+
+// The heading and the line of each method, at the beginning of the text; the position behind them.
+fn put_analysis(table: &[u8], text: &mut [u8]) -> usize
+    requires { ⌜ Accepted (now table) × Room 0 (analysis (now table)) (now text) ⌝ }
+    ensures { λ r. ⌜ Put 0 (analysis (now (table .entry))) (now (text .entry)) r (now (text .exit)) ⌝ }
+{
+    let first = put_bytes(text, 0, b"method value move leaves\n");
+    let second = put_ab(table, text, first);
+    let third = put_mtd(table, text, second);
+    put_sss(table, text, third)
+}
+
+// The line of alpha-beta, which rejects no accepted table; the position behind it.
+fn put_ab(table: &[u8], text: &mut [u8], at: usize) -> usize
+    requires { ⌜ Accepted (now table) × Room at (abLine (now table)) (now text) ⌝ }
+    ensures { λ r. ⌜ Put at (abLine (now (table .entry))) (now (text .entry)) r (now (text .exit)) ⌝ }
+{
+    let mut evaluated = [0u8; MAX_NODES];
+    let mut certificate = [0u8; MAX_NODES];
+    let alphabeta::Answer::Found(found) = alphabeta::search(table, &mut evaluated, &mut certificate)
+    else {
+        return at;
+    };
+    put_line(text, at, b"ab", found.value, found.root_move, found.leaves)
+}
+
+// The line of MTD.
+fn put_mtd(table: &[u8], text: &mut [u8], at: usize) -> usize
+    requires { ⌜ Accepted (now table) × Room at (mtdLine (now table)) (now text) ⌝ }
+    ensures { λ r. ⌜ Put at (mtdLine (now (table .entry))) (now (text .entry)) r (now (text .exit)) ⌝ }
+{
+    let mut evaluated = [0u8; MAX_NODES];
+    let mut certificate = [0u8; MAX_NODES];
+    let mtd::Answer::Found(found) = mtd::search(table, &mut evaluated, &mut certificate) else {
+        return at;
+    };
+    put_line(text, at, b"mtd", found.value, found.root_move, found.leaves)
+}
+
+// The line of SSS*.
+fn put_sss(table: &[u8], text: &mut [u8], at: usize) -> usize
+    requires { ⌜ Accepted (now table) × Room at (sssLine (now table)) (now text) ⌝ }
+    ensures { λ r. ⌜ Put at (sssLine (now (table .entry))) (now (text .entry)) r (now (text .exit)) ⌝ }
+{
+    let mut evaluated = [0u8; MAX_NODES];
+    let mut certificate = [0u8; MAX_NODES];
+    let sss::Answer::Found(found) = sss::solve(table, &mut evaluated, &mut certificate) else {
+        return at;
+    };
+    put_line(text, at, b"sss", found.value, found.root_move, found.leaves)
+}
+
+// A rejection's line at the beginning of the text; the position behind it.
+fn put_refused(text: &mut [u8], rejection: Rejection) -> usize
+    requires { ⌜ Room 0 (refusedLine (rejection .number) (rejection .place)) (now text) ⌝ }
+    ensures { λ r. ⌜ Put 0 (refusedLine (rejection .number) (rejection .place)) (now (text .entry)) r (now (text .exit)) ⌝ }
+{
+    let number = rejection.number as usize;
+    let refused = put_bytes(text, 0, b"refused");
+    let numbered = put_count(text, refused, number);
+    let placed = put_count(text, numbered, rejection.place);
+    put_byte(text, placed, LINE_FEED)
+}
+
+// A method's line; the position behind it.
+fn put_line(
+    text: &mut [u8],
+    at: usize,
+    name: &[u8],
+    value: i16,
+    root_move: usize,
+    leaves: usize,
+) -> usize
+    requires { ⌜ Room at (methodLine (now name) value «root_move» leaves) (now text) ⌝ }
+    ensures { λ r. ⌜ Put at (methodLine (now (name .entry)) value «root_move» leaves) (now (text .entry)) r (now (text .exit)) ⌝ }
+{
+    let named = put_bytes(text, at, name);
+    let valued = put_value(text, named, value);
+    let moved = put_count(text, valued, root_move);
+    let counted = put_count(text, moved, leaves);
+    put_byte(text, counted, LINE_FEED)
+}
+
+// A blank and a signed value; the position behind them.
+fn put_value(text: &mut [u8], at: usize, value: i16) -> usize
+    requires { ⌜ Room at (blank ∷ signed value) (now text) ⌝ }
+    ensures { λ r. ⌜ Put at (blank ∷ signed value) (now (text .entry)) r (now (text .exit)) ⌝ }
+{
+    let next = put_byte(text, at, BLANK);
+    if value < 0 {
+        let signed = put_byte(text, next, MINUS);
+        return put_number(text, signed, magnitude(value));
+    }
+    put_number(text, next, magnitude(value))
+}
+
+// A blank and a number; the position behind them.
+fn put_count(text: &mut [u8], at: usize, n: usize) -> usize
+    requires { ⌜ Room at (blank ∷ decimal n) (now text) ⌝ }
+    ensures { λ r. ⌜ Put at (blank ∷ decimal n) (now (text .entry)) r (now (text .exit)) ⌝ }
+{
+    let next = put_byte(text, at, BLANK);
+    put_number(text, next, n)
 }
 
 // The bytes of a word; the position behind them.
-pub fn put_bytes(text: &mut [u8], at: usize, word: &[u8]) -> usize
-    requires { ⌜ at + length (now word) ≤ length (now text) ⌝ }
-    ensures { λ r. ⌜ (r ≡ at + length (now (word .entry))) × (now (text .exit) ≡ laid at (now (word .entry)) (now (text .entry))) ⌝ }
+fn put_bytes(text: &mut [u8], at: usize, word: &[u8]) -> usize
+    requires { ⌜ Room at (now word) (now text) ⌝ }
+    ensures { λ r. ⌜ Put at (now (word .entry)) (now (text .entry)) r (now (text .exit)) ⌝ }
 {
     let mut i = 0;
     while i < word.len() {
@@ -40,8 +169,29 @@ pub fn put_bytes(text: &mut [u8], at: usize, word: &[u8]) -> usize
     at + word.len()
 }
 
+// A number in base ten; the position behind it.
+fn put_number(text: &mut [u8], at: usize, n: usize) -> usize
+    requires { ⌜ Room at (decimal n) (now text) ⌝ }
+    ensures { λ r. ⌜ Put at (decimal n) (now (text .entry)) r (now (text .exit)) ⌝ }
+{
+    if n < 10 {
+        return put_byte(text, at, (48 + n) as u8);
+    }
+    let next = put_number(text, at, n / 10);
+    put_byte(text, next, (48 + n % 10) as u8)
+}
+
+// One byte at a position; the position behind it.
+fn put_byte(text: &mut [u8], at: usize, byte: u8) -> usize
+    requires { ⌜ Room at (byte ∷ []) (now text) ⌝ }
+    ensures { λ r. ⌜ Put at (byte ∷ []) (now (text .entry)) r (now (text .exit)) ⌝ }
+{
+    text[at] = byte;
+    at + 1
+}
+
 // How far a value is from zero.
-pub fn magnitude(value: i16) -> usize
+fn magnitude(value: i16) -> usize
     ensures { λ r. ⌜ r ≡ natAbs value ⌝ }
 {
     let wide = value as i64;

@@ -1,10 +1,11 @@
--- `report::put_number` meets its contract: the number falls with each call, and the last digit is laid behind the others.
+-- `report::put_number` meets its contract: the number falls with each call, and the last digit is laid behind the
+-- others.
 use native.Mathlib.Omega.{arith}
-use mathlib.Core.Path.{_≡_, refl, sym, ap, ap₂, _∙_}
+use mathlib.Core.Path.{sym, ap, _∙_}
 use mathlib.Core.List.{[], _∷_}
 use lib.ListN.{length, length-append}
 use Rattle.report.specs.Text.{decimal, laid}
-use Rattle.report.proofs.Laying.{laid-length, laid-more, decimal-one, decimal-more}
+use Rattle.report.proofs.Laying.{decimal-one, decimal-more, room-rest, put-then}
 use borrow.Author.Needs.{needs}
 use Prim.Native.Nat.{ℕ, _+_, _/_, _%_, _<_}
 use borrow.Fn.Kinds.{In}
@@ -37,7 +38,8 @@ module _ (t : ℕ) where
   put-number-cast-put-byte : put-number-lts.Need-cast-put-byte (put-number-calls t) (put-number-at t) put-number.Post
   put-number-cast-put-byte c = search needs
 
-  put-number-put-byte-requires : put-number-lts.Need-put-byte-requires (put-number-calls t) (put-number-at t) put-number.Post
+  put-number-put-byte-requires :
+      put-number-lts.Need-put-byte-requires (put-number-calls t) (put-number-at t) put-number.Post
   put-number-put-byte-requires c κs =
       let s = c .before .before .before in
       omega (arith, ap length (decimal-one (s .args .n) (omega arith)))
@@ -50,9 +52,13 @@ module _ (t : ℕ) where
       let s = c .before .before .before .before .before .before in
       let p = c .before .before .put-byte .ensures in
       let d = decimal-one (s .args .n) (omega arith) in
-      (p .0 ∙ ap (λ w. s .args .at + length w) (sym d), p .1 ∙ ap (λ w. laid (s .args .at) w (s .args .text .now)) (sym d))
+      record {
+        behind = p .behind ∙ ap (λ w. s .args .at + length w) (sym d);
+        text = p .text ∙ ap (λ w. laid (s .args .at) w (s .args .text .now)) (sym d);
+      }
 
-  put-number-put-number-requires : put-number-lts.Need-put-number-requires (put-number-calls t) (put-number-at t) put-number.Post
+  put-number-put-number-requires :
+      put-number-lts.Need-put-number-requires (put-number-calls t) (put-number-at t) put-number.Post
   put-number-put-number-requires c κs =
       let s = c .before .before .before in
       let d = ap length (decimal-more (s .args .n) (omega arith) (omega arith)) in
@@ -62,17 +68,18 @@ module _ (t : ℕ) where
   put-number-add-put-byte-2 : put-number-lts.Need-add-put-byte-2 (put-number-calls t) (put-number-at t) put-number.Post
   put-number-add-put-byte-2 c = search needs
 
-  put-number-cast-put-byte-2 : put-number-lts.Need-cast-put-byte-2 (put-number-calls t) (put-number-at t) put-number.Post
+  put-number-cast-put-byte-2 :
+      put-number-lts.Need-cast-put-byte-2 (put-number-calls t) (put-number-at t) put-number.Post
   put-number-cast-put-byte-2 c = search needs
 
-  put-number-put-byte-requires-2 : put-number-lts.Need-put-byte-requires-2 (put-number-calls t) (put-number-at t) put-number.Post
+  put-number-put-byte-requires-2 :
+      put-number-lts.Need-put-byte-requires-2 (put-number-calls t) (put-number-at t) put-number.Post
   put-number-put-byte-requires-2 c κs =
       let s = c .before .before .before .before .before .before .before in
       let d = ap length (decimal-more (s .args .n) (omega arith) (omega arith)) in
       let l = length-append (decimal (s .args .n / 10)) ((48 + s .args .n % 10) ∷ []) in
       let p = c .before .before .before .put-number .ensures in
-      let k = laid-length (s .args .at) (decimal (s .args .n / 10)) (s .args .text .now) (omega arith) in
-      omega (arith, p .0, ap length (p .1))
+      room-rest ((48 + s .args .n % 10) ∷ []) p (omega (arith, d, l))
 
   put-number-same-length-2 : put-number-lts.Need-same-length-2 (put-number-calls t) (put-number-at t) put-number.Post
   put-number-same-length-2 c = search needs
@@ -81,16 +88,12 @@ module _ (t : ℕ) where
   put-number-returns-2 c =
       let s = c .before .before .before .before .before .before .before .before .before .before in
       let e = decimal-more (s .args .n) (omega arith) (omega arith) in
-      let x = decimal (s .args .n / 10) in
       let y = (48 + s .args .n % 10) ∷ [] in
-      let l = length-append x y in
+      let l = length-append (decimal (s .args .n / 10)) y in
       let n = ap length e in
       let p = c .before .before .before .before .before .before .put-number .ensures in
-      let q = c .before .before .put-byte2 .ensures in (
-        omega (arith, p .0, q .0),
-        q .1 ∙ ap₂ (λ i t. laid i y t) (p .0) (p .1) ∙ laid-more (s .args .at) x y (s .args .text .now) (omega arith)
-            ∙ ap (λ w. laid (s .args .at) w (s .args .text .now)) (sym e),
-      )
+      let q = c .before .before .put-byte2 .ensures in
+      rw e (put-then p (omega arith) q)
 
 pub +put-number-spec : {M : Type 1} → statement M
 +put-number-spec = close μ-put-number λ t. put-number-lts.spec (put-number-calls t)

@@ -1,9 +1,6 @@
 -- `report::magnitude` meets its contract: the value is read as it is, and negated where it is negative.
-use mathlib.Core.Path.{_≡_}
-use mathlib.Core.Bool.{true, false}
-use lib.IntN.{ℤ, pos, _-ℤ_, natAbs}
+use lib.IntN.{pos, _-ℤ_}
 use mir.Syntax.{w16, w64}
-use mir.Val.{SFits, toZ, ofZ}
 use mir.ValLaws.{toZ-ofZ}
 use Rattle.report.proofs.Signs.{widened, negative, positive}
 use Rattle.report.proofs.magnitude.Statement.{statement}
@@ -16,27 +13,27 @@ sub-result : tie.Need-sub-result
 sub-result c =
     let v = c .before .args .value in
     let f = c .before .fits .value in
-    rw (toZ-ofZ w16 v f, toZ-ofZ w64 v (widened v f)) (negative v f (rw (toZ-ofZ w16 (c .before .args .value) (c .before .fits .value)) at (c .if1 .taken)) .fits)
+    rw (toZ-ofZ w16 v f, toZ-ofZ w64 v (widened v f)) (negative v f (rw (toZ-ofZ w16 v f) at (c .if1 .taken)) .fits)
 
 cast-result : tie.Need-cast-result
 cast-result c =
     let v = c .before .args .value in
     let f = c .before .fits .value in
-    let n = negative v f (rw (toZ-ofZ w16 (c .before .args .value) (c .before .fits .value)) at (c .if1 .taken)) in
+    let n = negative v f (rw (toZ-ofZ w16 v f) at (c .if1 .taken)) in
     rw (toZ-ofZ w16 v f, toZ-ofZ w64 v (widened v f), toZ-ofZ w64 (pos 0 -ℤ v) (n .fits)) (n .positive, n .small)
 
 cast-result-2 : tie.Need-cast-result-2
 cast-result-2 c =
     let v = c .before .args .value in
     let f = c .before .fits .value in
-    let p = positive v f (rw (toZ-ofZ w16 (c .before .args .value) (c .before .fits .value)) at (c .if1 .left)) in
+    let p = positive v f (rw (toZ-ofZ w16 v f) at (c .if1 .left)) in
     rw (toZ-ofZ w16 v f, toZ-ofZ w64 v (widened v f)) (p .positive, p .small)
 
 returns : tie.Need-returns
 returns c =
     let v = c .before .args .value in
     let f = c .before .fits .value in
-    let n = negative v f (rw (toZ-ofZ w16 (c .before .args .value) (c .before .fits .value)) at (c .if1 .taken)) in
+    let n = negative v f (rw (toZ-ofZ w16 v f) at (c .if1 .taken)) in
     rw (toZ-ofZ w16 v f, toZ-ofZ w64 v (widened v f), toZ-ofZ w64 (pos 0 -ℤ v) (n .fits)) (n .same)
 
 returns-2 : tie.Need-returns-2

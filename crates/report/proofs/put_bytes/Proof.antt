@@ -57,11 +57,12 @@ same-length c =
 
 returns : tie.Need-returns Inv-loop μ-loop
 returns c =
-    let s = c .before .before .args in (
-      refl,
-      c .before .loop .inv .0
-          ∙ ap (λ w. laid (s .at) w (s .text .now)) (take-whole (s .word .now) (c .before .loop .i) (omega arith)),
-    )
+    let s = c .before .before .args in
+    record {
+      behind = refl;
+      text = c .before .loop .inv .0
+          ∙ ap (λ w. laid (s .at) w (s .text .now)) (take-whole (s .word .now) (c .before .loop .i) (omega arith));
+    }
 
 pub put-bytes-spec : {M : Type 1} → statement M
 put-bytes-spec =

@@ -1,0 +1,22 @@
+-- What the program prints for small files, computed from the definitions.
+use mathlib.Core.Path.{_≡_, refl}
+use mathlib.Core.List.{map}
+use Rattle.gametree.specs.Mtd.{mtd}
+use Rattle.frames.specs.Frame.{next}
+use Rattle.frames.specs.Place.{parentBefore, placeWithin, placeOf}
+use Rattle.frames.specs.Tree.{kidsFrom, grow, treeAt, valuation}
+use Rattle.frames.specs.Rejection.{eachNode}
+use Rattle.frames.specs.Check.{framesRejection}
+use Rattle.treefile.specs.Digit.{digitOf}
+use Rattle.treefile.specs.Line.{allDigits, isLine, bytesOf}
+use Rattle.treefile.specs.Lines.{linesOf, decode}
+use Rattle.treefile.specs.File.{eachLine, fileRejection}
+use Rattle.report.specs.Text.{decimalWithin}
+use Rattle.report.specs.Report.{abLine, mtdLine, sssLine}
+use Rattle.report.specs.Cases.{computed, expected, cases}
+
+-- each case is as stated
+pub small-files : map computed cases ≡ map expected cases
+unfolding mtd next parentBefore placeWithin placeOf kidsFrom grow treeAt valuation eachNode framesRejection digitOf
+    allDigits isLine bytesOf linesOf decode eachLine fileRejection decimalWithin abLine mtdLine sssLine
+small-files = refl

@@ -1,0 +1,75 @@
+-- What the reader of a file gives is what the report goes by: an accepted table, or the first rejection of the file.
+use Prim.Native.Nat.{ℕ, _*_, _≤_, _<_}
+use native.Mathlib.Omega.{arith}
+use mathlib.Core.Path.{_≡_, refl, sym, ap, ap₂, _∙_}
+use mathlib.Core.Option.{Option, none, some}
+use mathlib.Core.List.{List}
+use lib.ListN.{length, take}
+use borrow.Author.Tests.{lt-ltb, le-ltb}
+use Rattle.frames.specs.declared.Rejection.{Rejection}
+use Rattle.frames.specs.declared.Checked.{Checked}
+use Rattle.frames.specs.declared.Checked.the-variants.{Nodes, Rejected as RejectedFile}
+use Rattle.frames.specs.Frame.{frameSize, maxNodes}
+use Rattle.frames.specs.Check.{Accepted}
+use Rattle.frames.proofs.Acceptance.{accepted-formed}
+use Rattle.treefile.specs.Lines.{decoded}
+use Rattle.treefile.specs.File.{fileRejection, readRejection, readAnswer, tableAfter}
+use Rattle.treefile.proofs.Acceptance.{read-nodes, accepted-table, accepted-read}
+use Rattle.report.specs.declared.Answer.the-variants.{Length, Rejected}
+use Rattle.report.specs.Text.{refusedLine, Room, Put}
+use Rattle.report.specs.Report.{analysis, printed, report, textSize, written}
+use Rattle.report.proofs.Sizes.{report-few}
+
+module _ (f : List ℕ) where
+  -- what is known once a file was read into a table: its first n frames are the file's, and accepted
+  pub record Read (table : List ℕ) (n : ℕ) : Type 0 where
+    pub accepted : Accepted (decoded f)
+    pub few : n ≤ maxNodes
+    pub bytes : take (frameSize * n) table ≡ decoded f
+    pub reported : report f ≡ analysis (decoded f)
+
+  module _ (fresh table : List ℕ) (a : Checked) (e : a ≡ readAnswer f fresh) (h : table ≡ tableAfter f fresh) where
+    pub read-accepted : (n : ℕ) → a ≡ Nodes n → Read table n
+    read-accepted n g =
+        let p = read-nodes f fresh n (sym g ∙ e) in
+        record {
+          accepted = p .1;
+          few = omega (arith, p .2, accepted-formed (decoded f) (p .1) .few);
+          bytes = ap (take (frameSize * n)) h ∙ p .3;
+          reported = ap (printed f) (p .0);
+        }
+
+  nodes-rejected : {m : ℕ} {r : Rejection} → RejectedFile r ≡ Nodes m → ⊥
+  nodes-rejected e = let z : _≡_ {A = ℕ} 0 1 = cc in omega arith
+
+  module _ (fresh : List ℕ) (room : frameSize * maxNodes ≤ length fresh) (r : Rejection)
+      (e : RejectedFile r ≡ readAnswer f fresh) where
+    -- with a roomy table the reader rejects by questions 1 to 9 only
+    file-rejected : (q : Option Rejection) → fileRejection f ≡ q → q ≡ some r
+    unfolding readRejection
+    file-rejected none p =
+        let few = accepted-formed (decoded f) (accepted-table f p .1) .few in
+        absurd (nodes-rejected (e ∙ accepted-read f fresh p (omega arith) .0))
+    file-rejected (some x) p = let d : RejectedFile r ≡ RejectedFile x = (rw p at e) in cc
+
+    -- and its rejection is printed
+    pub read-rejected : report f ≡ refusedLine (r .number) (r .place)
+    read-rejected = ap (printed f) (file-rejected (fileRejection f) refl)
+
+  -- a report has room in every text of the size that is asked for
+  pub report-room : (x b : List ℕ) → report f ≡ x → textSize ≤ length b → Room 0 x b
+  report-room x b e h = record { enough = omega (arith, ap length e, report-few f) }
+
+  -- a text that is too short
+  pub written-short : (b : List ℕ) → length b < textSize
+      → record { answer = Rejected (record { number = 10; place = 0 }); text = b } ≡ written f b
+  unfolding written
+  written-short b h = rw (lt-ltb (length b) textSize h)
+
+  -- a report that was laid
+  pub written-laid : (x b : List ℕ) (n : ℕ) (b′ : List ℕ) → report f ≡ x → textSize ≤ length b → Put 0 x b n b′
+      → record { answer = Length n; text = b′ } ≡ written f b
+  unfolding written
+  written-laid x b n b′ e h p =
+      let k : n ≡ length x = omega (arith, p .behind) in
+      rw (le-ltb (length b) textSize h, e) (ap₂ (λ k t. record { answer = Length k; text = t }) k (p .text))

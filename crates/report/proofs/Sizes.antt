@@ -1,0 +1,54 @@
+-- Every report fits a text of the size that is asked for.
+use Prim.Native.Nat.{ℕ, suc, _+_, _≤_}
+use native.Mathlib.Omega.{arith}
+use mathlib.Core.Option.{Option, none, some}
+use mathlib.Core.List.{List}
+use lib.IntN.{ℤ, pos, negsuc}
+use lib.ListN.{length, length-append}
+use Rattle.frames.specs.declared.Rejection.{Rejection}
+use Rattle.treefile.specs.Lines.{decoded}
+use Rattle.treefile.specs.File.{fileRejection}
+use Rattle.alphabeta.specs.Outcome as alphabeta
+use Rattle.mtd.specs.Outcome as mtd
+use Rattle.sss.specs.Outcome as sss
+use Rattle.report.specs.Text.{signed, methodLine, refusedLine}
+use Rattle.report.specs.Report.{abName, mtdName, sssName, abLine, mtdLine, sssLine}
+use Rattle.report.specs.Report.{analysis, printed, report, textSize}
+use Rattle.report.proofs.Laying.{decimal-few}
+
+-- 20 digits and a sign
+signed-few : (v : ℤ) → length (signed v) ≤ 21
+signed-few (pos n) = omega (arith, decimal-few 20 n)
+signed-few (negsuc n) = omega (arith, decimal-few 20 (suc n))
+
+-- a line besides the name
+line-few : (name : List ℕ) (v : ℤ) (m l : ℕ) → length (methodLine name v m l) ≤ length name + 65
+line-few name v m l =
+    simp length-append (omega (arith, signed-few v, decimal-few 20 m, decimal-few 20 l))
+
+refused-few : (r : Rejection) → length (refusedLine (r .number) (r .place)) ≤ textSize
+refused-few r = simp length-append (omega (arith, decimal-few 20 (r .number), decimal-few 20 (r .place)))
+
+-- the three lines
+lines-few : (t : List ℕ) → (length (abLine t) ≤ 67) × (length (mtdLine t) ≤ 68) × (length (sssLine t) ≤ 68)
+unfolding abLine mtdLine sssLine
+lines-few t =
+    let a = alphabeta.findings t in
+    let m = mtd.findings t in
+    let s = sss.findings t in (
+      line-few abName (a .value) (a .«root_move») (a .leaves),
+      line-few mtdName (m .value) (m .«root_move») (m .leaves),
+      line-few sssName (s .value) (s .«root_move») (s .leaves),
+    )
+
+analysis-few : (t : List ℕ) → length (analysis t) ≤ textSize
+analysis-few t =
+    simp length-append (omega (arith, lines-few t .0, lines-few t .1, lines-few t .2))
+
+printed-few : (f : List ℕ) (q : Option Rejection) → length (printed f q) ≤ textSize
+printed-few f none = analysis-few (decoded f)
+printed-few f (some r) = refused-few r
+
+-- room for the heading with three lines, and for a rejection
+pub report-few : (f : List ℕ) → length (report f) ≤ textSize
+report-few f = printed-few f (fileRejection f)

@@ -1,0 +1,64 @@
+-- `report::put_refused` meets its contract: each piece is laid behind the one before.
+use borrow.Author.Needs.{needs}
+use Rattle.report.proofs.Laying.{room-front, room-rest, put-then}
+use Rattle.report.proofs.put_refused.Statement.{statement}
+use Rattle.report.proofs.put_refused.Tie as tie
+
+cast-number : tie.Need-cast-number
+cast-number c = search needs
+
+slice-aggregate-put-bytes : tie.Need-slice-aggregate-put-bytes
+slice-aggregate-put-bytes c = search needs
+
+put-bytes-requires : tie.Need-put-bytes-requires
+put-bytes-requires c κs = search needs
+
+put-count-requires : tie.Need-put-count-requires
+put-count-requires c κs =
+    let t = c .before .before .before in
+    room-front _ (room-rest _ (t .put-bytes .ensures) (t .before .before .before .before .before .pre))
+
+put-count-requires-2 : tie.Need-put-count-requires-2
+put-count-requires-2 c κs =
+    let n = c .before .before .before in
+    let t = n .before .before .before .before in
+    room-front _
+    (room-rest _ (n .put-count .ensures)
+    (room-rest _ (t .put-bytes .ensures) (t .before .before .before .before .before .pre)))
+
+put-byte-requires : tie.Need-put-byte-requires
+put-byte-requires c κs =
+    let p = c .before .before .before in
+    let n = p .before .before .before .before in
+    let t = n .before .before .before .before in
+    room-rest _ (p .put-count2 .ensures)
+    (room-rest _ (n .put-count .ensures)
+    (room-rest _ (t .put-bytes .ensures) (t .before .before .before .before .before .pre)))
+
+same-length : tie.Need-same-length
+same-length c = search needs
+
+returns : tie.Need-returns
+returns c =
+    let f = c .before .before in
+    let p = f .before .before .before .before in
+    let n = p .before .before .before .before in
+    let t = n .before .before .before .before in
+    let r = t .before .before .before .before .before .pre in
+    let r₁ = room-rest _ (t .put-bytes .ensures) r in
+    let r₂ = room-rest _ (n .put-count .ensures) r₁ in
+    put-then (t .put-bytes .ensures) r
+    (put-then (n .put-count .ensures) r₁ (put-then (p .put-count2 .ensures) r₂ (f .put-byte .ensures)))
+
+pub put-refused-spec : {M : Type 1} → statement M
+put-refused-spec =
+    tie.close
+    (tie.spec
+    cast-number
+    slice-aggregate-put-bytes
+    put-bytes-requires
+    put-count-requires
+    put-count-requires-2
+    put-byte-requires
+    same-length
+    returns)
