@@ -4,3 +4,4 @@ pub mod Signs
 pub mod Searches
 pub mod Sizes
 pub mod Reporting
+pub mod Lengths
