@@ -4,7 +4,7 @@ import os
 
 import oracle as o
 
-OUT = os.path.join(os.path.dirname(os.path.abspath(__file__)), "samples")
+OUT = os.path.join(os.path.dirname(os.path.dirname(os.path.abspath(__file__))), "samples")
 
 # Four moves for White, scores in hundredths of a man. Moves 2 and 4 both reach -20; the first of them is the answer.
 # Alpha-beta values 15 of the 19 leaves, SSS* 11.
@@ -12,7 +12,6 @@ ENDING = [[-50, [20, 70, -70], [-60, -70, 70]], [0, -20], [[-20, 0, 10], [-60, -
 
 
 def main():
-    os.makedirs(OUT, exist_ok=True)
     first = o.file_of(o.table_of_nest([[1, 2], [3, 4]]), upper=True)
     ending = o.file_of(o.table_of_nest(ENDING), upper=True)
     lines = ending.split(b"\n")
