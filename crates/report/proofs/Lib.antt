@@ -5,3 +5,4 @@ pub mod Searches
 pub mod Sizes
 pub mod Reporting
 pub mod Cases
+pub mod Lengths
