@@ -1,10 +1,10 @@
 -- What the walk of `drive` cites: what has been reached, at the start, after a turn, and at the end.
-use Prim.Native.Nat.{ℕ, _-_, _≤_, _<_}
+use Prim.Native.Nat.{ℕ, _<_}
 use native.Mathlib.Omega.{arith}
-use mathlib.Core.Path.{_≡_, refl, sym, ap, _∙_, subst}
+use mathlib.Core.Path.{_≡_, refl, sym, ap, _∙_}
 use mathlib.Core.Bool.{Bool, true, false}
 use mathlib.Core.List.{List}
-use lib.ListN.{length, drop, length-set, length-drop}
+use lib.ListN.{length}
 use Rattle.gametree.proofs.Choice.{true-not-false}
 use Rattle.frames.specs.Frame.{frames}
 use Rattle.frames.specs.Formed.{WellFormed}

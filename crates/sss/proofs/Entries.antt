@@ -1,8 +1,7 @@
 -- The entries that a turn names are entries of the list.
-use Prim.Native.Nat.{ℕ, zero, suc, _+_, _-_, _≤_, _<_, max, min}
+use Prim.Native.Nat.{ℕ, zero, suc, _+_, _-_, _<_, max, min}
 use native.Mathlib.Omega.{arith}
-use mathlib.Core.Path.{_≡_, refl, ap}
-use mathlib.Core.Bool.{true}
+use mathlib.Core.Path.{_≡_, refl}
 use mathlib.Core.List.{List}
 use lib.Dec.{ltb}
 use Rattle.gametree.specs.declared.Side.{Side}
@@ -15,19 +14,22 @@ use Rattle.sss.specs.declared.Status.{Status}
 use Rattle.sss.specs.declared.Status.the-variants.{Live, Solved}
 use Rattle.sss.specs.declared.State.{State}
 use Rattle.sss.specs.declared.Phase.{Phase}
-use Rattle.sss.specs.declared.Phase.the-variants.{Begin, Sweep, Expand, PurgeLeft, PurgeRight, Rewind, Reset, Ended, Rejected}
+use Rattle.sss.specs.declared.Phase.the-variants.{Begin, Sweep, Expand, PurgeLeft, PurgeRight, Rewind, Reset}
+use Rattle.sss.specs.declared.Phase.the-variants.{Ended, Rejected}
 use Rattle.sss.specs.declared.Gap.{Gap}
 use Rattle.sss.specs.declared.Counts.{Counts}
 use Rattle.sss.specs.declared.Machine.{Machine}
 use Rattle.sss.specs.Entry.{entry, meritScore}
-use Rattle.sss.specs.Machine.{gap, replaced, evaluated, nextEntry, takeInner, takeLive, takeChild, takeSolved, take as takeBy, turnBy, nextOf}
+use Rattle.sss.specs.Machine.{gap, replaced, evaluated, nextEntry, takeInner, takeLive, takeChild, takeSolved}
+use Rattle.sss.specs.Machine.{take as takeBy, turnBy, nextOf}
 use Rattle.sss.specs.Ready.{Ready, ReadyIn}
 use Rattle.sss.proofs.Turns.{sweeping-writes, expanding-writes, purgingRight-writes, purgingLeft-writes}
 
 module _ (t : List ℕ) (g : Gap) (γ : ℕ) (c : Counts) where
   inner-writes : (i n : ℕ) (q : Side) → takeInner t i n q g γ c .write ≡ g .right
   inner-writes i n Max =
-      expanding-writes g γ (replaced c) (g .right) (entry (firstChild t i + n) Live γ) (firstChild t i) (firstChild t i + n) .0
+      expanding-writes g γ (replaced c) (g .right) (entry (firstChild t i + n) Live γ) (firstChild t i)
+      (firstChild t i + n) .0
   inner-writes i n Min = sweeping-writes g γ (replaced c) (g .right) (entry (firstChild t i) Live γ) .0
 
   live-writes : (i n : ℕ) → takeLive t i n g γ c .write ≡ g .right
@@ -50,7 +52,8 @@ module _ (t : List ℕ) (g : Gap) (γ : ℕ) (c : Counts) where
   -- a turn writes an entry of the list
   writes-in : (e : State) (p : Phase) → ReadyIn t p e g γ c → turnBy t p e g γ c .write < g .nodes
   writes-in e Begin x =
-      let q = sweeping-writes (gap 0 (g .nodes - 1) (g .nodes)) γ c (g .nodes - 1) (entry 0 Live γ) .0 in omega (arith, x .0)
+      let q = sweeping-writes (gap 0 (g .nodes - 1) (g .nodes)) γ c (g .nodes - 1) (entry 0 Live γ) .0 in
+      omega (arith, x .0)
   writes-in e Sweep x =
       cond-cases (λ (m : Machine). m .write < g .nodes) (ltb (meritScore (e .merit)) γ) _ _
       (λ _. let q = sweeping-writes (gap (g .left + 1) (g .right + 1) (g .nodes)) γ c (g .left) e .0 in
@@ -67,7 +70,8 @@ module _ (t : List ℕ) (g : Gap) (γ : ℕ) (c : Counts) where
       (λ _. let q = purgingRight-writes g γ c (g .left - 1) e p .0 in omega (arith, x .0 .ordered, x .0 .inside, x .1))
   writes-in e (PurgeRight p) x =
       cond-cases (λ (m : Machine). m .write < g .nodes) (isBelow t p (e .node)) _ _
-      (λ _. let q = purgingRight-writes (gap (g .left) (g .right + 1) (g .nodes)) γ c (g .right + 1) (entry p Solved γ) p .0 in
+      (λ _. let q = purgingRight-writes (gap (g .left) (g .right + 1) (g .nodes)) γ c (g .right + 1)
+      (entry p Solved γ) p .0 in
       omega (arith, x .1))
       (λ _. let q = sweeping-writes g γ c (g .right + 1) e .0 in omega (arith, x .1))
   writes-in e (Rewind best) x =

@@ -1,18 +1,14 @@
 -- The machine stops: each turn makes the test smaller, or counts a replacement, of which there are fewer than twice the
 -- number of nodes, or goes on within its phase.
-use Prim.Native.Nat.{ℕ, zero, suc, _+_, _-_, _*_, _≤_, _<_, max, min}
+use Prim.Native.Nat.{ℕ, zero, suc, _+_, _-_, _*_, _≤_, _<_, max}
 use native.Mathlib.Omega.{arith}
 use native.Mathlib.Nat.{mul-le-mul-right, suc-mul}
-use mathlib.Core.Path.{_≡_, refl, sym, ap, ap₂, _∙_, subst}
-use mathlib.Core.Bool.{Bool, true, false, cond}
-use mathlib.Core.List.{List, [], _∷_, _++_, map}
+use mathlib.Core.Path.{_≡_, refl}
+use mathlib.Core.List.{List}
 use lib.Dec.{ltb}
-use lib.ListN.{length, getD, set, drop, length-append, length-drop}
-use borrow.Author.Tests.{ltb-true, ltb-false}
 use Rattle.gametree.specs.declared.Side.{Side}
 use Rattle.gametree.specs.declared.Side.the-variants.{Max, Min}
-use Rattle.gametree.specs.Sss as theory
-use Rattle.gametree.proofs.Choice.{cond-cases, true-not-false}
+use Rattle.gametree.proofs.Choice.{cond-cases}
 use Rattle.frames.specs.Frame.{frames, firstChild, childCount}
 use Rattle.frames.specs.Place.{parentOf, sideOf, isBelow}
 use Rattle.frames.specs.Formed.{WellFormed}
@@ -21,11 +17,12 @@ use Rattle.sss.specs.declared.Status.{Status}
 use Rattle.sss.specs.declared.Status.the-variants.{Live, Solved}
 use Rattle.sss.specs.declared.State.{State}
 use Rattle.sss.specs.declared.Phase.{Phase}
-use Rattle.sss.specs.declared.Phase.the-variants.{Begin, Sweep, Expand, PurgeLeft, PurgeRight, Rewind, Reset, Ended, Rejected}
+use Rattle.sss.specs.declared.Phase.the-variants.{Begin, Sweep, Expand, PurgeLeft, PurgeRight, Rewind, Reset}
+use Rattle.sss.specs.declared.Phase.the-variants.{Ended, Rejected}
 use Rattle.sss.specs.declared.Gap.{Gap}
 use Rattle.sss.specs.declared.Counts.{Counts}
 use Rattle.sss.specs.declared.Machine.{Machine}
-use Rattle.sss.specs.Entry.{entryOf, meritScore, blank}
+use Rattle.sss.specs.Entry.{meritScore}
 use Rattle.sss.specs.Machine.{gap, sweeping, expanding, purgingRight, purgingLeft, takeInner, takeLive, takeChild}
 use Rattle.sss.specs.Machine.{takeSolved, take as takeBy, turnBy, nextOf}
 use Rattle.sss.specs.Ready.{Ready, ReadyIn}
@@ -98,7 +95,8 @@ module _ (g : Gap) (γ : ℕ) (c : Counts) (w : ℕ) (e : State) (h : ℕ) where
       → ahead (g .nodes) γ (c .replacements) + (2 * (g .nodes) + 2 + (g .nodes - g .right)) < h
       → fuel (purgingRight p g γ c w e) < h
   purgingRight-fuel p o l =
-      cond-cases (λ m. fuel m < h) (ltb (g .right + 1) (g .nodes)) _ _ (λ _. omega arith) (λ _. sweeping-fuel (omega arith))
+      cond-cases (λ m. fuel m < h) (ltb (g .right + 1) (g .nodes)) _ _ (λ _. omega arith)
+      (λ _. sweeping-fuel (omega arith))
 
   purgingLeft-fuel : (p : ℕ) → Inside g
       → ahead (g .nodes) γ (c .replacements) + (2 * (g .nodes) + 2 + g .left + (g .nodes - g .right)) < h
@@ -123,13 +121,17 @@ module _ (t : List ℕ) (wf : WellFormed t) (g : Gap) (γ : ℕ) (c : Counts) (o
           (omega (arith, replaced-less (g .nodes) γ (c .replacements) few, children-within t wf i h (omega arith)))
       by-side Min = sweeping-fuel g γ _ _ _ _ (omega (arith, replaced-less (g .nodes) γ (c .replacements) few))
 
-  solved-fuel : (i : ℕ) (e : State) → fuel (takeSolved t i e g γ c) < ahead (g .nodes) γ (c .replacements) + inPhase Sweep g
+  solved-fuel : (i : ℕ) (e : State)
+      → fuel (takeSolved t i e g γ c) < ahead (g .nodes) γ (c .replacements) + inPhase Sweep g
   solved-fuel zero e = omega (arith, ahead-some (g .nodes) γ (c .replacements))
   solved-fuel (suc i) e = by-side (sideOf t (parentOf t (suc i)))
     where
-      by-side : (s : Side) → fuel (takeChild t (suc i) (parentOf t (suc i)) s g γ c) < ahead (g .nodes) γ (c .replacements) + inPhase Sweep g
+      by-side : (s : Side)
+          → fuel (takeChild t (suc i) (parentOf t (suc i)) s g γ c)
+          < ahead (g .nodes) γ (c .replacements) + inPhase Sweep g
       by-side Max =
-          purgingLeft-fuel g γ _ _ _ _ (parentOf t (suc i)) o (omega (arith, replaced-less (g .nodes) γ (c .replacements) few))
+          purgingLeft-fuel g γ _ _ _ _ (parentOf t (suc i)) o
+          (omega (arith, replaced-less (g .nodes) γ (c .replacements) few))
       by-side Min = sweeping-fuel g γ _ _ _ _ (omega (arith, replaced-less (g .nodes) γ (c .replacements) few))
 
   take-fuel : (e : State) → e .node < frames t
@@ -160,20 +162,23 @@ module _ (t : List ℕ) (g : Gap) (γ : ℕ) (c : Counts) (e : State) (o : Insid
   expand-fuel : (first child : ℕ) → first < child → g .left < g .right
       → fuel (turnBy t (Expand first child) e g γ c) < fuelBy (Expand first child) g γ (c .replacements)
   expand-fuel first child h l =
-      expanding-fuel (gap (g .left) (g .right - 1) (g .nodes)) γ c _ _ _ first (child - 1) (omega arith, omega arith) (omega arith)
+      expanding-fuel (gap (g .left) (g .right - 1) (g .nodes)) γ c _ _ _ first (child - 1) (omega arith, omega arith)
+      (omega arith)
 
   purge-left-fuel : (p : ℕ) → 0 < g .left
       → fuel (turnBy t (PurgeLeft p) e g γ c) < fuelBy (PurgeLeft p) g γ (c .replacements)
   purge-left-fuel p h =
       cond-cases (λ m. fuel m < fuelBy (PurgeLeft p) g γ (c .replacements)) (isBelow t p (e .node)) _ _
-      (λ _. purgingLeft-fuel (gap (g .left - 1) (g .right) (g .nodes)) γ c _ _ _ p (omega arith, omega arith) (omega arith))
+      (λ _. purgingLeft-fuel (gap (g .left - 1) (g .right) (g .nodes)) γ c _ _ _ p (omega arith, omega arith)
+      (omega arith))
       (λ _. purgingRight-fuel g γ c _ _ _ p o (omega arith))
 
   purge-right-fuel : (p : ℕ) → g .right + 1 < g .nodes
       → fuel (turnBy t (PurgeRight p) e g γ c) < fuelBy (PurgeRight p) g γ (c .replacements)
   purge-right-fuel p h =
       cond-cases (λ m. fuel m < fuelBy (PurgeRight p) g γ (c .replacements)) (isBelow t p (e .node)) _ _
-      (λ _. purgingRight-fuel (gap (g .left) (g .right + 1) (g .nodes)) γ c _ _ _ p (omega arith, omega arith) (omega arith))
+      (λ _. purgingRight-fuel (gap (g .left) (g .right + 1) (g .nodes)) γ c _ _ _ p (omega arith, omega arith)
+      (omega arith))
       (λ _. sweeping-fuel g γ c _ _ _ (omega arith))
 
   rewind-fuel : (best : ℕ) → 0 < g .left → max best (meritScore (e .merit)) < γ
@@ -197,13 +202,16 @@ falls t F b m r = in-phase (m .registers .phase) (r .phase)
     c : Counts
     c = m .registers .counts
 
-    in-phase : (p : Phase) → ReadyIn t p (m .entry) g γ c → fuel (turnBy t p (m .entry) g γ c) < fuelBy p g γ (c .replacements)
+    in-phase : (p : Phase) → ReadyIn t p (m .entry) g γ c
+        → fuel (turnBy t p (m .entry) g γ c) < fuelBy p g γ (c .replacements)
     in-phase Begin x = begin-fuel t g γ c (m .entry) (x .0)
     in-phase Sweep x =
-        sweep-fuel t (r .formed) g γ c (x .ordered, omega (arith, x .inside)) (omega (arith, x .few, r .nodes)) (r .nodes)
+        sweep-fuel t (r .formed) g γ c (x .ordered, omega (arith, x .inside)) (omega (arith, x .few, r .nodes))
+        (r .nodes)
         (m .entry) (x .node) (x .inside)
     in-phase (Expand first child) x =
-        expand-fuel t g γ c (m .entry) (omega (arith, x .room), omega (arith, x .inside)) first child (x .order) (x .room)
+        expand-fuel t g γ c (m .entry) (omega (arith, x .room), omega (arith, x .inside)) first child (x .order)
+        (x .room)
     in-phase (PurgeLeft p) x =
         purge-left-fuel t g γ c (m .entry) (x .0 .ordered, omega (arith, x .0 .inside)) p (x .1)
     in-phase (PurgeRight p) x =

@@ -3,6 +3,9 @@ pub mod Parts
 pub mod Replacements
 pub mod Turns
 pub mod Taking
+pub mod Sweeps
+pub mod Purges
+pub mod Rewinds
 pub mod Onward
 pub mod Fuel
 pub mod Entries

@@ -1,8 +1,8 @@
 -- The two parts of the list in its entries, and what one store makes of them.
-use Prim.Native.Nat.{ℕ, zero, suc, _+_, _-_, _≤_, _<_, min}
+use Prim.Native.Nat.{ℕ, suc, _+_, _-_, _<_}
 use native.Mathlib.Omega.{arith}
 use native.Mathlib.Numerals.{add-one}
-use mathlib.Core.Path.{_≡_, refl, sym, ap, ap₂, _∙_, subst}
+use mathlib.Core.Path.{_≡_, refl, sym, ap, ap₂, _∙_}
 use mathlib.Core.List.{List, [], _∷_, _++_, map, map-append}
 use lib.ListN.{length, getD, set, take, drop, length-append, length-take, length-drop, length-set, length-map}
 use lib.Seq.{drop-cons, drop-drop, drop-set-lt, drop-set-add, take-set-le, take-suc-set, take-suc, set-getD, getD-drop}
@@ -55,7 +55,8 @@ module _ {ls Z : List State} {l r : ℕ} where
         let h = first-inside p in
         record {
           before =
-              ap (λ k. take k (set ls l (entryOf s))) (add-one l) ∙ take-suc-set ls l (entryOf s) (omega (arith, p .ordered))
+              ap (λ k. take k (set ls l (entryOf s))) (add-one l)
+              ∙ take-suc-set ls l (entryOf s) (omega (arith, p .ordered))
               ∙ ap (λ k. k ++ (entryOf s ∷ [])) (p .before) ∙ sym (map-append entryOf A (s ∷ []));
           behind =
               drop-set-lt (r + 1) ls l (entryOf s) (omega (arith, p .ordered))

@@ -1,9 +1,9 @@
 -- Between two turns, what the next turn asks holds: the machine is ready, and names entries of the list.
-use Prim.Native.Nat.{ℕ, zero, suc, _+_, _-_, _*_, _≤_, _<_}
+use Prim.Native.Nat.{ℕ, zero, suc, _+_, _-_, _≤_, _<_}
 use native.Mathlib.Omega.{arith}
-use mathlib.Core.Path.{_≡_, refl, sym, ap, ap₂, _∙_, subst}
-use mathlib.Core.Bool.{Bool, true, false}
-use mathlib.Core.List.{List, [], _∷_, _++_, map, append-assoc, append-nil}
+use mathlib.Core.Path.{_≡_, refl, ap, _∙_, subst}
+use mathlib.Core.Bool.{true}
+use mathlib.Core.List.{List, [], _∷_, _++_, map}
 use lib.ListN.{length, getD, drop, length-append, length-drop}
 use Rattle.gametree.specs.Lists.{All}
 use Rattle.gametree.specs.Tree.{greatest}
@@ -16,22 +16,21 @@ use Rattle.frames.specs.Frame.{frames}
 use Rattle.frames.specs.Tree.{upFrom, valuation}
 use Rattle.frames.specs.Formed.{WellFormed}
 use Rattle.certificate.specs.Buffer.{written}
-use Rattle.certificate.specs.Value.{valueOf}
 use Rattle.certificate.proofs.Buffers.{markAll-length, written-length}
 use Rattle.sss.specs.declared.State.{State}
 use Rattle.sss.specs.declared.Phase.{Phase}
-use Rattle.sss.specs.declared.Phase.the-variants.{Begin, Sweep, Expand, PurgeLeft, PurgeRight, Rewind, Reset, Ended, Rejected}
+use Rattle.sss.specs.declared.Phase.the-variants.{Begin, Sweep, Expand, PurgeLeft, PurgeRight, Rewind, Reset}
+use Rattle.sss.specs.declared.Phase.the-variants.{Ended, Rejected}
 use Rattle.sss.specs.declared.Gap.{Gap}
 use Rattle.sss.specs.declared.Counts.{Counts}
 use Rattle.sss.specs.Entry.{entryOf, meritScore, blank}
-use Rattle.sss.specs.Machine.{Config, handed, nextOf}
+use Rattle.sss.specs.Machine.{Config, handed}
 use Rattle.sss.specs.Invariant.{Parts, Reaches, Tested, Sweeping, Expanding, Purging, Rewinding, InPhase, Running}
 use Rattle.sss.specs.Family.{FamilyOf}
 use Rattle.sss.specs.Ready.{IsMerit, ReadyIn, Ready, ReadyToSweep, ReadyToExpand, ReadyToPurge, ReadyToRewind}
 use Rattle.sss.proofs.Parts.{left-length, right-length, first-entry, snoc-view, last-entry, second-entry}
 use Rattle.sss.proofs.Replacements.{reached-fits, reached-few, reached-nodes}
-use Rattle.sss.proofs.Taking.{merit-score, up-last}
-use Rattle.sss.proofs.Onward.{length-up}
+use Rattle.sss.proofs.Taking.{merit-score, up-last, length-up}
 
 -- no more leaves are evaluated than replacements are made
 list-leaves : (ν : ℕ → ℕ) (Y : Layout) (r : Tree) {k : ℕ} {w : List ℕ} {L : List theory.State}
@@ -96,12 +95,14 @@ module _ (t : List ℕ) (wf : WellFormed t) (l : List State) (b : List ℕ) wher
         }
       where
         last-node : (k : ℕ) → 0 < k → (A B : List theory.State)
-            → Reaches t (c .replacements) v (A ++ (map (λ j. theory.live j γ) (upFrom first k) ++ B)) → first + k ≤ frames t
+            → Reaches t (c .replacements) v (A ++ (map (λ j. theory.live j γ) (upFrom first k) ++ B))
+            → first + k ≤ frames t
         last-node zero q A B r = absurd (omega arith)
         last-node (suc k) q A B r =
             let y = subst (λ L. Reaches t (c .replacements) v (A ++ L)) (up-last (λ j. theory.live j γ) first k B) r in
             let m = map (λ j. theory.live j γ) (upFrom first k) in
-            let z = all-right (λ s. s .node < frames t) A (m ++ (theory.live (first + k) γ ∷ B)) (reached-nodes t wf y) in
+            let z = all-right (λ s. s .node < frames t) A (m ++ (theory.live (first + k) γ ∷ B))
+            (reached-nodes t wf y) in
             omega (arith, all-right (λ s. s .node < frames t) m (theory.live (first + k) γ ∷ B) z .0)
 
     ready-purge : (p i : ℕ) (s : theory.State) → getD ls i blank ≡ entryOf s → s .node < frames t
@@ -122,26 +123,31 @@ module _ (t : List ℕ) (wf : WellFormed t) (l : List State) (b : List ℕ) wher
     purge-left-ready p i q h x =
         snoc-view (x .leftStates ++ x .elder)
         (λ y. absurd (omega (arith, left-length (x .parts), ap length y))) (λ C s y.
-        let parts = subst (λ A. Parts ls (g .left) (g .right) A (theory.solved p γ ∷ (x .younger ++ x .rightStates)) Z) y (x .parts) in
+        let parts = subst (λ A. Parts ls (g .left) (g .right) A (theory.solved p γ ∷ (x .younger ++ x .rightStates)) Z)
+        y (x .parts) in
         ready-purge p i s (ap (λ j. getD ls j blank) q ∙ last-entry C s parts)
         (all-right (λ z. z .node < frames t) C (s ∷ [])
         (subst (All (λ z. z .node < frames t)) y
         (all-append (λ z. z .node < frames t) (x .leftStates) (x .elder)
-        (all-left (λ z. z .node < frames t) (x .leftStates) (theory.solved p γ ∷ x .rightStates) (reached-nodes t wf (x .reaches)))
+        (all-left (λ z. z .node < frames t) (x .leftStates) (theory.solved p γ ∷ x .rightStates)
+        (reached-nodes t wf (x .reaches)))
         (x .elderNodes))) .0) x)
 
-    purge-right-ready : (p i : ℕ) → i ≡ g .right + 1 → g .right + 1 < g .nodes → Purging t ls Z v g γ (c .replacements) p
+    purge-right-ready : (p i : ℕ) → i ≡ g .right + 1 → g .right + 1 < g .nodes
+        → Purging t ls Z v g γ (c .replacements) p
         → ReadyToPurge t p (getD ls i blank) g γ
     purge-right-ready p i q h x = by-states (x .younger ++ x .rightStates) refl
       where
         by-states : (B : List theory.State) → x .younger ++ x .rightStates ≡ B → ReadyToPurge t p (getD ls i blank) g γ
         by-states [] y = absurd (omega (arith, inside (x .parts), ap length y))
         by-states (s ∷ B) y =
-            let parts = subst (λ L. Parts ls (g .left) (g .right) (x .leftStates ++ x .elder) (theory.solved p γ ∷ L) Z) y (x .parts) in
+            let parts = subst (λ L. Parts ls (g .left) (g .right) (x .leftStates ++ x .elder) (theory.solved p γ ∷ L) Z)
+            y (x .parts) in
             ready-purge p i s (ap (λ j. getD ls j blank) q ∙ second-entry parts)
             (subst (All (λ z. z .node < frames t)) y
             (all-append (λ z. z .node < frames t) (x .younger) (x .rightStates) (x .youngerNodes)
-            (all-right (λ z. z .node < frames t) (x .leftStates) (theory.solved p γ ∷ x .rightStates) (reached-nodes t wf (x .reaches)) .1)) .0) x
+            (all-right (λ z. z .node < frames t) (x .leftStates) (theory.solved p γ ∷ x .rightStates)
+            (reached-nodes t wf (x .reaches)) .1)) .0) x
 
     ready-rewind : (best i : ℕ) → i ≡ g .left - 1 → 0 < g .left → Rewinding t ls Z v g γ (c .replacements) best
         → ReadyToRewind best (getD ls i blank) g γ
@@ -161,7 +167,8 @@ module _ (t : List ℕ) (wf : WellFormed t) (l : List State) (b : List ℕ) wher
         })
 
     -- the machine is ready in its phase
-    ready-in : (i : ℕ) (p : Phase) → InPhase t ls Z v g γ (c .replacements) p i true → ReadyIn t p (getD ls i blank) g γ c
+    ready-in : (i : ℕ) (p : Phase) → InPhase t ls Z v g γ (c .replacements) p i true
+        → ReadyIn t p (getD ls i blank) g γ c
     ready-in i Begin x = (omega (arith, wf .some), omega (arith, x .2))
     ready-in i Sweep x = ready-sweep i (x .1) (x .2) (x .3)
     ready-in i (Expand first child) x = ready-expand first child (x .3) (x .2) (x .4)
@@ -193,7 +200,8 @@ module _ (t : List ℕ) (wf : WellFormed t) (l : List State) (b : List ℕ) wher
             (k .machine .registers .counts) (h .nodes) (h .entries) (h .room) (h .leaves) (k .machine .read)
             (k .machine .registers .phase)
             (subst (λ o. InPhase t (k .list) Z (h .evaluated) (k .machine .registers .gap) (k .machine .registers .test)
-            (k .machine .registers .counts .replacements) (k .machine .registers .phase) (k .machine .read) o) on (h .phase));
+            (k .machine .registers .counts .replacements) (k .machine .registers .phase) (k .machine .read) o) on
+            (h .phase));
       }
 
   reads-in : (ls : List State) (v : List ℕ) (e : State) (g : Gap) (γ : ℕ) (c : Counts) (i : ℕ) → g .nodes ≡ frames t
@@ -221,5 +229,6 @@ module _ (t : List ℕ) (wf : WellFormed t) (l : List State) (b : List ℕ) wher
             (k .machine .registers .counts) (k .machine .read) (h .nodes) (k .machine .registers .phase)
             (ready F f k h on .phase)
             (subst (λ o. InPhase t (k .list) Z (h .evaluated) (k .machine .registers .gap) (k .machine .registers .test)
-            (k .machine .registers .counts .replacements) (k .machine .registers .phase) (k .machine .read) o) on (h .phase)),
+            (k .machine .registers .counts .replacements) (k .machine .registers .phase) (k .machine .read) o) on
+            (h .phase)),
       )

@@ -1,6 +1,6 @@
--- One replacement of SSS* over a table: the first state of the right part, if its merit reaches the test, is the one that
--- the rule takes, and what takes its place is read off the table.
-use Prim.Native.Nat.{ℕ, zero, suc, _+_, _-_, _*_, _≤_, _<_, min}
+-- One replacement of SSS* over a table: the first state of the right part, if its merit reaches the test, is the one
+-- that the rule takes, and what takes its place is read off the table.
+use Prim.Native.Nat.{ℕ, suc, _+_, _-_, _*_, _≤_, _<_, min}
 use native.Mathlib.Omega.{arith}
 use native.Mathlib.Nat.{add-zero}
 use native.Mathlib.Numerals.{add-one}
@@ -13,23 +13,21 @@ use lib.ListN.{length}
 use Rattle.gametree.specs.declared.Side.the-variants.{Max, Min}
 use Rattle.gametree.specs.Lists.{All}
 use Rattle.gametree.specs.Tree.{In, size}
-use Rattle.gametree.specs.Layout.{Layout, fork, root, under, layoutOf, Describes}
+use Rattle.gametree.specs.Layout.{Layout, fork, under, layoutOf, Describes}
 use Rattle.gametree.specs.Sss as theory
-use Rattle.gametree.proofs.Lists.{all-map, all-right, all-zip, all-left}
+use Rattle.gametree.proofs.Lists.{all-map, all-right}
 use Rattle.gametree.proofs.SssSteps.{pickFirst-here, pickFirst-there}
-use Rattle.gametree.proofs.Fronts.{Front}
 use Rattle.gametree.proofs.FrontSteps.{front-in, list-front, Gathered, gathered, gathered-left, gathered-right}
 use Rattle.gametree.proofs.Theorems.{layout-own}
 use Rattle.gametree.proofs.Theorems as theorems
 use Rattle.frames.specs.Frame.{frames, firstChild, childCount}
-use Rattle.frames.specs.Place.{sideOf, isBelow}
-use Rattle.frames.specs.Tree.{upFrom, treeAt, tree, valuation}
+use Rattle.frames.specs.Place.{sideOf}
+use Rattle.frames.specs.Tree.{upFrom, tree, valuation}
 use Rattle.frames.specs.Formed.{WellFormed, ChildOf}
 use Rattle.frames.proofs.Nodes.{tree-distinct, tree-range}
 use Rattle.frames.proofs.Totals.{tree-size}
 use Rattle.frames.proofs.Proper.{tree-proper}
 use Rattle.frames.proofs.Layouts.{nextBrother, kind-leaf, kind-inner, link-root, link-child}
-use Rattle.frames.proofs.Below.{above-is}
 use Rattle.sss.specs.Invariant.{Reaches, Tested}
 
 -- the first state that reaches the greatest merit is taken
@@ -54,7 +52,8 @@ module _ (t : List ℕ) (wf : WellFormed t) where
   -- it has an entry for each node at most
   pub reached-fits : {k : ℕ} {v : List ℕ} {L : List theory.State} → Reaches t k v L → length L ≤ frames t
   reached-fits {L = L} r =
-      let h = theorems.list-fits (valuation t) (tree t) (tree-proper t wf .scored) Y own r in omega (arith, tree-size t wf)
+      let h = theorems.list-fits (valuation t) (tree t) (tree-proper t wf .scored) Y own r in
+      omega (arith, tree-size t wf)
 
   -- fewer replacements than twice the number of nodes led to it
   pub reached-few : {k : ℕ} {v : List ℕ} {L : List theory.State} → Reaches t k v L → k < 2 * frames t
@@ -65,7 +64,8 @@ module _ (t : List ℕ) (wf : WellFormed t) where
   -- its states are of the table's nodes
   pub reached-nodes : {k : ℕ} {v : List ℕ} {L : List theory.State} → Reaches t k v L → All (λ s. s .node < frames t) L
   reached-nodes {L = L} r =
-      all-map (λ s. In (s .node) (tree t)) (λ s. s .node < frames t) (λ s i. tree-range t wf 0 (wf .some) (s .node) i .1) L
+      all-map (λ s. In (s .node) (tree t)) (λ s. s .node < frames t)
+      (λ s i. tree-range t wf 0 (wf .some) (s .node) i .1) L
       (front-in (tree t) L (list-front (valuation t) Y (tree t) own r))
 
   module _ {k : ℕ} {v : List ℕ} (A : List theory.State) (s : theory.State) (B : List theory.State)
@@ -100,7 +100,8 @@ module _ (t : List ℕ) (wf : WellFormed t) where
     -- the children of a LIVE Max node are put in its place
     pub live-max : (n : ℕ) → s .status ≡ theory.LIVE → childCount t (s .node) ≡ suc n → sideOf t (s .node) ≡ Max
         → Reaches t (k + 1) v
-        (A ++ (map (λ i. theory.live i (s .merit)) (firstChild t (s .node) ∷ upFrom (firstChild t (s .node) + 1) n) ++ B))
+        (A ++ (map (λ i. theory.live i (s .merit))
+        (firstChild t (s .node) ∷ upFrom (firstChild t (s .node) + 1) n) ++ B))
     live-max n e z q =
         by-quiet (ap (theory.replace (valuation t) Y here) e
         ∙ ap (theory.replaceLive (valuation t) here)
@@ -120,12 +121,14 @@ module _ (t : List ℕ) (wf : WellFormed t) where
     pub solved-max : (p : ℕ) → s .status ≡ theory.SOLVED → p < frames t → ChildOf t p (s .node) → sideOf t p ≡ Max
         → (g : Gathered Y (tree t) p A B) × Reaches t (k + 1) v (g .left ++ (theory.solved p (s .merit) ∷ g .right))
     solved-max p e h c q =
-        let i = link-child t wf Y own h c ∙ ap (λ x. under p x (nextBrother (s .node) (firstChild t p + childCount t p))) q in
+        let i = link-child t wf Y own h c
+        ∙ ap (λ x. under p x (nextBrother (s .node) (firstChild t p + childCount t p))) q in
         let g = gathered (valuation t) Y (tree t) own p (nextBrother (s .node) (firstChild t p + childCount t p)) A s B
         (list-front (valuation t) Y (tree t) own r) i in (
           g,
           subst (λ X. Reaches t (k + 1) v (X ++ (theory.solved p (s .merit) ∷ g .right))) (gathered-left Y g)
-              (subst (λ Z. Reaches t (k + 1) v (theory.purge Y p A ++ (theory.solved p (s .merit) ∷ Z))) (gathered-right Y g)
+              (subst (λ Z. Reaches t (k + 1) v (theory.purge Y p A ++ (theory.solved p (s .merit) ∷ Z)))
+              (gathered-right Y g)
               (by-quiet (ap (theory.replace (valuation t) Y here) e ∙ ap (theory.replaceSolved Y here) i))),
         )
 
@@ -134,7 +137,8 @@ module _ (t : List ℕ) (wf : WellFormed t) where
         → Reaches t (k + 1) v (A ++ (cond (ltb (s .node + 1) (firstChild t p + childCount t p))
         (theory.live (s .node + 1) (s .merit)) (theory.solved p (s .merit)) ∷ B))
     solved-min p e h c q =
-        let i = link-child t wf Y own h c ∙ ap (λ x. under p x (nextBrother (s .node) (firstChild t p + childCount t p))) q in
+        let i = link-child t wf Y own h c
+        ∙ ap (λ x. under p x (nextBrother (s .node) (firstChild t p + childCount t p))) q in
         by-quiet (ap (theory.replace (valuation t) Y here) e ∙ ap (theory.replaceSolved Y here) i
         ∙ next-is (ltb (s .node + 1) (firstChild t p + childCount t p)))
       where
@@ -145,13 +149,18 @@ module _ (t : List ℕ) (wf : WellFormed t) where
 
     -- the SOLVED root ends the run
     pub solved-root : s .status ≡ theory.SOLVED → s .node ≡ 0
-        → theory.sss (valuation t) (tree t) ≡ record { end = theory.finished (s .merit); evaluated = v; replacements = k }
+        → theory.sss (valuation t) (tree t)
+        ≡ record { end = theory.finished (s .merit); evaluated = v; replacements = k }
     solved-root e z =
         let f = theorems.list-few (valuation t) (tree t) (tree-proper t wf .scored) Y own r in
         let m : k + suc (2 * size (tree t) - suc k) ≡ 2 * size (tree t) = omega arith in
         let stops : theory.step (valuation t) Y (A ++ (s ∷ B)) ≡ theory.stop (s .merit) =
         taken ∙ ap (theory.replace (valuation t) Y here) e
         ∙ ap (theory.replaceSolved Y here) (ap (Y .link) z ∙ link-root t wf Y own) in
-        theorems.list-resumes (valuation t) (tree t) (tree-proper t wf .scored) Y own r (suc (2 * size (tree t) - suc k)) m
-        ∙ ap (λ x. theory.resumed k v (theory.follow x (λ M. theory.runFrom (λ N. theory.step (valuation t) Y N) (2 * size (tree t) - suc k) M))) stops
-        ∙ ap₂ (λ u n. record { end = theory.finished (s .merit); evaluated = u; replacements = n }) (append-nil v) (add-zero k)
+        theorems.list-resumes (valuation t) (tree t) (tree-proper t wf .scored) Y own r
+        (suc (2 * size (tree t) - suc k)) m
+        ∙ ap (λ x. theory.resumed k v
+        (theory.follow x (λ M. theory.runFrom (λ N. theory.step (valuation t) Y N) (2 * size (tree t) - suc k) M)))
+        stops
+        ∙ ap₂ (λ u n. record { end = theory.finished (s .merit); evaluated = u; replacements = n }) (append-nil v)
+        (add-zero k)

@@ -1,52 +1,44 @@
 -- The turn that takes a state keeps the invariant.
-use Prim.Native.Nat.{ℕ, zero, suc, _+_, _-_, _*_, _≤_, _<_, max, min}
+use Prim.Native.Nat.{ℕ, zero, suc, _+_, _-_, _≤_, _<_, min}
 use native.Mathlib.Omega.{arith}
 use native.Mathlib.Nat.{le-refl}
-use native.Mathlib.Numerals.{add-one}
-use mathlib.Core.Path.{_≡_, refl, sym, ap, ap₂, _∙_, subst}
+use mathlib.Core.Path.{_≡_, refl, sym, ap, _∙_, subst}
 use mathlib.Core.Bool.{Bool, true, false, cond}
-use mathlib.Core.List.{List, [], _∷_, _++_, map, append-assoc, append-nil}
+use mathlib.Core.List.{List, [], _∷_, _++_, map}
 use lib.Dec.{ltb}
 use lib.IntN.{pos, natAbs, -ℤ-+ℤ-cancel}
-use lib.ListN.{length, getD, set, take, drop, replicate, length-append, length-set, length-drop}
-use lib.Seq.{drop-drop, drop-set-lt, take-suc-set}
-use borrow.Author.Tests.{ltb-true, ltb-false}
+use lib.ListN.{length, set, drop, length-append, length-set, length-drop}
+use lib.Seq.{drop-drop}
 use Rattle.gametree.specs.declared.Side.{Side}
 use Rattle.gametree.specs.declared.Side.the-variants.{Max, Min}
 use Rattle.gametree.specs.Lists.{All}
-use Rattle.gametree.specs.Tree.{greatest}
 use Rattle.gametree.specs.Layout.{layoutOf}
 use Rattle.gametree.specs.Sss as theory
-use Rattle.gametree.proofs.Lists.{all-left, all-right, all-append, all-map, all-zip}
+use Rattle.gametree.proofs.Lists.{all-left, all-right, all-zip}
 use Rattle.frames.specs.Frame.{frames, firstChild, childCount}
 use Rattle.frames.specs.Place.{parentOf, sideOf, isBelow}
 use Rattle.frames.specs.Tree.{upFrom, tree, valuation}
 use Rattle.frames.specs.Formed.{WellFormed, ChildOf}
 use Rattle.frames.proofs.Parents.{parent-child}
-use Rattle.frames.proofs.Trees.{tree-number}
 use Rattle.frames.proofs.Below.{above-is}
 use Rattle.certificate.specs.Buffer.{written, markAll}
 use Rattle.certificate.specs.Value.{valueOf}
 use Rattle.certificate.proofs.Buffers.{markAll-append}
-use Rattle.sss.specs.declared.Status.{Status}
 use Rattle.sss.specs.declared.Status.the-variants.{Live, Solved}
 use Rattle.sss.specs.declared.State.{State}
-use Rattle.sss.specs.declared.Phase.{Phase}
-use Rattle.sss.specs.declared.Phase.the-variants.{Begin, Sweep, Expand, PurgeLeft, PurgeRight, Rewind, Reset, Ended, Rejected}
+use Rattle.sss.specs.declared.Phase.the-variants.{Reset}
 use Rattle.sss.specs.declared.Gap.{Gap}
 use Rattle.sss.specs.declared.Counts.{Counts}
 use Rattle.sss.specs.declared.Machine.{Machine}
-use Rattle.sss.specs.Entry.{entry, statusOf, entryOf, meritScore, blank}
-use Rattle.sss.specs.Machine.{gap, replaced, evaluated, turned, sweeping, expanding, purgingRight, purgingLeft}
-use Rattle.sss.specs.Machine.{takeInner, takeLive, nextEntry, takeChild, takeSolved, take as takeBy, markLive}
-use Rattle.sss.specs.Machine.{turnBy, marksBy, Config, turn}
-use Rattle.sss.specs.Invariant.{Parts, Reaches, Tested, Sweeping, Expanding, Purging, Rewinding, Resetting, InPhase, Running}
-use Rattle.sss.proofs.Parts.{left-length, right-length, first-entry, keep, put, push, snoc-view, last-position}
-use Rattle.sss.proofs.Parts.{last-entry, pop, rewrite-entry, second-entry, swallow}
-use Rattle.sss.proofs.Replacements.{reached-fits, reached-nodes, taken-node, live-leaf, live-max, live-min}
+use Rattle.sss.specs.Entry.{entry, statusOf, entryOf, meritScore}
+use Rattle.sss.specs.Machine.{replaced, evaluated, turned, sweeping, expanding, purgingLeft}
+use Rattle.sss.specs.Machine.{takeInner, takeLive, takeChild, takeSolved, take as takeBy, markLive}
+use Rattle.sss.specs.Invariant.{Parts, Reaches, Tested, Running}
+use Rattle.sss.proofs.Parts.{right-length, first-entry, put, rewrite-entry}
+use Rattle.sss.proofs.Replacements.{reached-nodes, taken-node, live-leaf, live-max, live-min}
 use Rattle.sss.proofs.Replacements.{solved-max, solved-min, solved-root}
-use Rattle.sss.proofs.Turns.{Writes, sweeping-writes, expanding-writes, purgingRight-writes, purgingLeft-writes}
-use Rattle.sss.proofs.Turns.{Around, close, sweeping-runs, expanding-runs, purged, purgingRight-runs, purgingLeft-runs}
+use Rattle.sss.proofs.Turns.{Writes, sweeping-writes, expanding-writes, purgingLeft-writes}
+use Rattle.sss.proofs.Turns.{Around, close, sweeping-runs, expanding-runs, purgingLeft-runs}
 
 -- the score of the merit that an entry holds
 pub merit-score : (m : ℕ) → meritScore (valueOf m) ≡ m
@@ -60,6 +52,12 @@ up-last f i zero B = let e : i + zero ≡ i = omega arith in rw e
 up-last f i (suc n) B =
     let e : i + suc n ≡ i + 1 + n = omega arith in
     rw e (ap (λ k. f i ∷ k) (up-last f (i + 1) n B))
+
+-- a run of numbers is as long as it says
+pub length-up : (f : ℕ → theory.State) (i n : ℕ) → length (map f (upFrom i n)) ≡ n
+unfolding upFrom
+length-up f i zero = refl
+length-up f i (suc n) = ap suc (length-up f (i + 1) n)
 
 -- the entries behind both parts
 pub parts-kept : {ls Z : List State} {l r : ℕ} {A B : List theory.State} (n : ℕ) → Parts ls l r A B Z → n ≡ r + length B
@@ -84,8 +82,8 @@ module _ (t : List ℕ) (wf : WellFormed t) (l : List State) (b : List ℕ) wher
       (subst (λ x. Running t l b (record { list = set ls w x; marks = ms; machine = m })) (sym (q .1)) r)
 
   -- a store keeps what stands around
-  pub stored : {ls : List State} {ms v : List ℕ} {g : Gap} {c : Counts} → Around t wf l b ls ms v g c → (w : ℕ) (e : State)
-      (h : Gap) → h .nodes ≡ g .nodes → Around t wf l b (set ls w e) ms v h c
+  pub stored : {ls : List State} {ms v : List ℕ} {g : Gap} {c : Counts} → Around t wf l b ls ms v g c
+      → (w : ℕ) (e : State) (h : Gap) → h .nodes ≡ g .nodes → Around t wf l b (set ls w e) ms v h c
   stored {ls} a w e h n =
       record {
         nodes = n ∙ a .nodes;
@@ -153,7 +151,8 @@ module _ (t : List ℕ) (wf : WellFormed t) (l : List State) (b : List ℕ) wher
 
       children-last : {d : ℕ} (k : ℕ)
           → Reaches t d v (A ++ (map (λ j. theory.live j γ) (firstChild t n ∷ upFrom (firstChild t n + 1) k) ++ B))
-          → Reaches t d v (A ++ (map (λ j. theory.live j γ) (upFrom (firstChild t n) k) ++ (theory.live (firstChild t n + k) γ ∷ B)))
+          → Reaches t d v
+          (A ++ (map (λ j. theory.live j γ) (upFrom (firstChild t n) k) ++ (theory.live (firstChild t n + k) γ ∷ B)))
       unfolding upFrom
       children-last {d} k y =
           subst (λ L. Reaches t d v (A ++ L)) (up-last (λ j. theory.live j γ) (firstChild t n) k B) y
@@ -176,8 +175,9 @@ module _ (t : List ℕ) (wf : WellFormed t) (l : List State) (b : List ℕ) wher
       live-taken e (suc k) z Max f =
           let last = theory.live (firstChild t n + k) γ in
           let m : firstChild t n + k - firstChild t n ≡ k = omega arith in
-          settle ls ms (expanding (firstChild t n) (firstChild t n + k) g γ (replaced c) (g .right) (entryOf last)) (g .right)
-          (entryOf last) (expanding-writes g γ (replaced c) (g .right) (entryOf last) (firstChild t n) (firstChild t n + k))
+          settle ls ms (expanding (firstChild t n) (firstChild t n + k) g γ (replaced c) (g .right) (entryOf last))
+          (g .right) (entryOf last)
+          (expanding-writes g γ (replaced c) (g .right) (entryOf last) (firstChild t n) (firstChild t n + k))
           (expanding-runs t wf l b (set ls (g .right) (entryOf last)) ms v g γ (replaced c)
           (stored (counted a) (g .right) (entryOf last) g refl) (g .right) (entryOf last) (firstChild t n)
           (firstChild t n + k) i
@@ -225,13 +225,16 @@ module _ (t : List ℕ) (wf : WellFormed t) (l : List State) (b : List ℕ) wher
             younger = y .younger;
             rightStates = y .right;
             parts =
-                subst (λ L. Parts (set ls (g .right) (entryOf w)) (g .left) (g .right) L (w ∷ (y .younger ++ y .right)) Z)
+                subst (λ L. Parts (set ls (g .right) (entryOf w)) (g .left) (g .right) L
+                (w ∷ (y .younger ++ y .right)) Z)
                 (y .before)
-                (subst (λ L. Parts (set ls (g .right) (entryOf w)) (g .left) (g .right) A (w ∷ L) Z) (y .behind) (put w p₀));
+                (subst (λ L. Parts (set ls (g .right) (entryOf w)) (g .left) (g .right) A (w ∷ L) Z) (y .behind)
+                (put w p₀));
             reaches = z .1;
             tested =
                 record {
-                  left = all-left (λ s. s .merit < γ) (y .left) (y .elder) (subst (All (λ s. s .merit < γ)) (y .before) (x .left));
+                  left = all-left (λ s. s .merit < γ) (y .left) (y .elder)
+                      (subst (All (λ s. s .merit < γ)) (y .before) (x .left));
                   right =
                       all-right (λ s. s .merit ≤ γ) (y .younger) (y .right)
                       (subst (All (λ s. s .merit ≤ γ)) (y .behind) (x .right .1));
@@ -239,19 +242,25 @@ module _ (t : List ℕ) (wf : WellFormed t) (l : List State) (b : List ℕ) wher
                 };
             elderNodes = all-right (λ s. s .node < frames t) (y .left) (y .elder) left-nodes;
             youngerNodes = all-left (λ s. s .node < frames t) (y .younger) (y .right) right-nodes;
-            elderBelow = below-is p h true (y .elder) (all-right (λ s. s .node < frames t) (y .left) (y .elder) left-nodes) (y .elder-below);
+            elderBelow = below-is p h true (y .elder)
+                (all-right (λ s. s .node < frames t) (y .left) (y .elder) left-nodes) (y .elder-below);
             youngerBelow =
-                below-is p h true (y .younger) (all-left (λ s. s .node < frames t) (y .younger) (y .right) right-nodes) (y .younger-below);
-            leftClear = below-is p h false (y .left) (all-left (λ s. s .node < frames t) (y .left) (y .elder) left-nodes) (y .left-clear);
+                below-is p h true (y .younger) (all-left (λ s. s .node < frames t) (y .younger) (y .right) right-nodes)
+                (y .younger-below);
+            leftClear = below-is p h false (y .left)
+                (all-left (λ s. s .node < frames t) (y .left) (y .elder) left-nodes) (y .left-clear);
             rightClear =
-                below-is p h false (y .right) (all-right (λ s. s .node < frames t) (y .younger) (y .right) right-nodes) (y .right-clear);
+                below-is p h false (y .right) (all-right (λ s. s .node < frames t) (y .younger) (y .right) right-nodes)
+                (y .right-clear);
           }))
       child-taken e p h d Min f =
           next-in-place (ltb (n + 1) (firstChild t p + childCount t p)) (solved-min t wf A this B r x p e h d f)
         where
-          next-in-place : (o : Bool) → Reaches t (c .replacements + 1) v (A ++ (cond o (theory.live (n + 1) γ) (theory.solved p γ) ∷ B))
+          next-in-place : (o : Bool)
+              → Reaches t (c .replacements + 1) v (A ++ (cond o (theory.live (n + 1) γ) (theory.solved p γ) ∷ B))
               → Running t l b (record {
-                list = set ls (sweeping g γ (replaced c) (g .right) (cond o (entry (n + 1) Live γ) (entry p Solved γ)) .write)
+                list = set ls (sweeping g γ (replaced c) (g .right)
+                    (cond o (entry (n + 1) Live γ) (entry p Solved γ)) .write)
                     (sweeping g γ (replaced c) (g .right) (cond o (entry (n + 1) Live γ) (entry p Solved γ)) .entry);
                 marks = ms;
                 machine = sweeping g γ (replaced c) (g .right) (cond o (entry (n + 1) Live γ) (entry p Solved γ));
@@ -269,7 +278,8 @@ module _ (t : List ℕ) (wf : WellFormed t) (l : List State) (b : List ℕ) wher
       root-taken e z =
           let m = right-length p₀ in
           let k = length-drop (frames t) l in
-          subst (λ L. Running t l b (record { list = L; marks = ms; machine = turned true 0 (g .right) (entryOf this) (Reset 0) g γ c }))
+          subst (λ L. Running t l b
+          (record { list = L; marks = ms; machine = turned true 0 (g .right) (entryOf this) (Reset 0) g γ c }))
           (sym (rewrite-entry ls (g .right) (entryOf this) (first-entry p₀)))
           (close t wf l b a true 0 (g .right) (entryOf this) (Reset 0) γ (
             refl,
@@ -305,7 +315,8 @@ module _ (t : List ℕ) (wf : WellFormed t) (l : List State) (b : List ℕ) wher
       -- the state is taken
       pub state-taken : (o : theory.Status) → q ≡ o
           → Running t l b (record {
-            list = set ls (takeBy t (statusOf o) (entryOf this) g γ c .write) (takeBy t (statusOf o) (entryOf this) g γ c .entry);
+            list = set ls (takeBy t (statusOf o) (entryOf this) g γ c .write)
+                (takeBy t (statusOf o) (entryOf this) g γ c .entry);
             marks = markLive (childCount t n) (statusOf o) n ms;
             machine = takeBy t (statusOf o) (entryOf this) g γ c;
           })

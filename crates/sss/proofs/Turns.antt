@@ -1,39 +1,28 @@
--- Each turn of the machine keeps the invariant.
-use Prim.Native.Nat.{ℕ, zero, suc, _+_, _-_, _*_, _≤_, _<_, max, min}
+-- The invariant in the phase that follows a turn: a sweep, an expansion or a purge goes on, or has come to its end.
+use Prim.Native.Nat.{ℕ, _+_, _-_, _≤_, _<_}
 use native.Mathlib.Omega.{arith}
 use native.Mathlib.Nat.{le-refl}
-use native.Mathlib.Numerals.{add-one}
-use mathlib.Core.Path.{_≡_, refl, sym, ap, ap₂, _∙_, subst}
-use mathlib.Core.Bool.{Bool, true, false, cond}
-use mathlib.Core.List.{List, [], _∷_, _++_, map, append-assoc, append-nil}
+use mathlib.Core.Path.{_≡_, refl, ap, _∙_, subst}
+use mathlib.Core.Bool.{Bool, true}
+use mathlib.Core.List.{List, [], _∷_, _++_, map, append-nil}
 use lib.Dec.{ltb}
-use lib.IntN.{pos, -ℤ-+ℤ-cancel, natAbs}
-use lib.ListN.{length, getD, set, take, drop, length-append, length-set, length-drop}
+use lib.ListN.{length, set, drop, length-append, length-drop}
 use borrow.Author.Tests.{ltb-true, ltb-false}
 use Rattle.gametree.specs.Lists.{All}
-use Rattle.gametree.specs.Layout.{layoutOf, Describes}
 use Rattle.gametree.specs.Sss as theory
 use Rattle.gametree.proofs.Choice.{cond-cases}
-use Rattle.gametree.proofs.Theorems.{layout-own}
-use Rattle.gametree.proofs.Theorems as theorems
-use Rattle.frames.specs.Frame.{frames, firstChild, childCount}
-use Rattle.frames.specs.Tree.{upFrom, tree, valuation}
+use Rattle.frames.specs.Frame.{frames}
+use Rattle.frames.specs.Tree.{upFrom}
 use Rattle.frames.specs.Formed.{WellFormed}
-use Rattle.frames.proofs.Nodes.{tree-distinct}
-use Rattle.frames.proofs.Proper.{tree-proper}
 use Rattle.certificate.specs.Buffer.{written, markAll}
-use Rattle.certificate.specs.Value.{valueOf}
-use Rattle.sss.specs.declared.Status.the-variants.{Live, Solved}
 use Rattle.sss.specs.declared.State.{State}
 use Rattle.sss.specs.declared.Phase.{Phase}
-use Rattle.sss.specs.declared.Phase.the-variants.{Begin, Sweep, Expand, PurgeLeft, PurgeRight, Rewind, Reset, Ended, Rejected}
+use Rattle.sss.specs.declared.Phase.the-variants.{Sweep, Expand, PurgeLeft, PurgeRight, Rewind}
 use Rattle.sss.specs.declared.Gap.{Gap}
 use Rattle.sss.specs.declared.Counts.{Counts}
 use Rattle.sss.specs.declared.Machine.{Machine}
-use Rattle.sss.specs.Entry.{entry, entryOf, meritScore, blank}
-use Rattle.sss.specs.Machine.{gap, turned, sweeping, expanding, purgingRight, purgingLeft, Config}
-use Rattle.sss.specs.Invariant.{Parts, Reaches, Tested, Sweeping, Expanding, Purging, Rewinding, Resetting}
-use Rattle.sss.specs.Invariant.{InPhase, Running}
+use Rattle.sss.specs.Machine.{turned, sweeping, expanding, purgingRight, purgingLeft, turnBy, marksBy}
+use Rattle.sss.specs.Invariant.{Parts, Reaches, Sweeping, Expanding, Purging, InPhase, Running}
 use Rattle.sss.proofs.Parts.{left-length, right-length}
 use Rattle.sss.proofs.Replacements.{reached-some}
 
@@ -81,6 +70,15 @@ no-more : (t : List ℕ) {k : ℕ} {v : List ℕ} (γ : ℕ) (A B : List theory.
 unfolding upFrom
 no-more t γ A B first n z r = rw z at r
 
+-- the invariant of the configuration after a turn in the phase p with the entry e
+abbrev pub Next : List ℕ → List State → List ℕ → List State → List ℕ → Phase → State → Gap → ℕ → Counts → Type 0
+Next t l b ls ms p e g γ c =
+    Running t l b (record {
+      list = set ls (turnBy t p e g γ c .write) (turnBy t p e g γ c .entry);
+      marks = marksBy t p e γ ms;
+      machine = turnBy t p e g γ c;
+    })
+
 module _ (t : List ℕ) (wf : WellFormed t) (l : List State) (b : List ℕ) where
   -- what a turn leaves besides the parts of the list
   pub record Around (ls : List State) (ms v : List ℕ) (g : Gap) (c : Counts) : Type 0 where
@@ -92,8 +90,9 @@ module _ (t : List ℕ) (wf : WellFormed t) (l : List State) (b : List ℕ) wher
     pub leaves : c .leaves ≡ length v
 
   -- the invariant after a turn, from what holds in its phase
-  pub close : {ls : List State} {ms v : List ℕ} {g : Gap} {c : Counts} → Around ls ms v g c → (on : Bool) (i w : ℕ) (e : State)
-      (p : Phase) (γ : ℕ) → InPhase t ls (drop (frames t) l) v g γ (c .replacements) p i on
+  pub close : {ls : List State} {ms v : List ℕ} {g : Gap} {c : Counts} → Around ls ms v g c
+      → (on : Bool) (i w : ℕ) (e : State) (p : Phase) (γ : ℕ)
+      → InPhase t ls (drop (frames t) l) v g γ (c .replacements) p i on
       → Running t l b (record { list = ls; marks = ms; machine = turned on i w e p g γ c })
   close {v = v} a on i w e p γ h =
       record {
@@ -107,7 +106,15 @@ module _ (t : List ℕ) (wf : WellFormed t) (l : List State) (b : List ℕ) wher
         phase = h;
       }
 
-  module _ (ls : List State) (ms v : List ℕ) (g : Gap) (γ : ℕ) (c : Counts) (a : Around ls ms v g c) (w : ℕ) (e : State) where
+  -- the entries from g .right up to g .nodes are as many as the right part's states
+  pub right-count : {ls : List State} {ms v : List ℕ} {g : Gap} {c : Counts} → Around ls ms v g c
+      → {A B : List theory.State} → Parts ls (g .left) (g .right) A B (drop (frames t) l)
+      → g .right + length B ≡ g .nodes
+  right-count a p =
+      let k = length-drop (frames t) l in omega (arith, right-length p, a .nodes, a .entries, a .room)
+
+  module _ (ls : List State) (ms v : List ℕ) (g : Gap) (γ : ℕ) (c : Counts) (a : Around ls ms v g c) (w : ℕ)
+      (e : State) where
     abbrev At : Machine → Type 0
     At m = Running t l b (record { list = ls; marks = ms; machine = m })
 
@@ -117,7 +124,8 @@ module _ (t : List ℕ) (wf : WellFormed t) (l : List State) (b : List ℕ) wher
         cond-cases At (ltb (g .right) (g .nodes)) _ _
         (λ h. close a true (g .right) w e Sweep γ (refl, refl, ltb-true _ _ h, s)) (λ h.
         let k = ltb-false (g .right) (g .nodes) h in
-        let none : length (s .rightStates) ≡ 0 = omega (arith, right-length (s .parts), length-drop (frames t) l, a .nodes, a .entries, a .room) in
+        let none : length (s .rightStates) ≡ 0 =
+        omega (arith, right-length (s .parts), length-drop (frames t) l, a .nodes, a .entries, a .room) in
         cond-cases At (ltb 0 (g .left)) _ _
         (λ f. close a true (g .left - 1) w e (Rewind 0) γ (
           refl,
@@ -128,14 +136,16 @@ module _ (t : List ℕ) (wf : WellFormed t) (l : List State) (b : List ℕ) wher
             rightStates = s .rightStates;
             parts = s .parts;
             reaches = s .reaches;
-            falls = some-merit (s .leftStates) (omega (arith, left-length (s .parts), ltb-true 0 (g .left) f)) (s .tested .left);
+            falls = some-merit (s .leftStates) (omega (arith, left-length (s .parts), ltb-true 0 (g .left) f))
+                (s .tested .left);
             limit = s .tested .limit;
             left = s .tested .left;
             right = no-states (s .rightStates) none;
           },
         ))
         (λ f. absurd (reached-some t wf (subst (λ L. Reaches t (c .replacements) v L)
-        (empty-parts (s .leftStates) (s .rightStates) (omega (arith, left-length (s .parts), ltb-false 0 (g .left) f)) none)
+        (empty-parts (s .leftStates) (s .rightStates)
+        (omega (arith, left-length (s .parts), ltb-false 0 (g .left) f)) none)
         (s .reaches)))))
 
     -- children are still to be put on the list, or all are
@@ -154,7 +164,8 @@ module _ (t : List ℕ) (wf : WellFormed t) (l : List State) (b : List ℕ) wher
         }))
 
     -- nothing is left to purge
-    pub purged : (p : ℕ) (x : Purging t ls (drop (frames t) l) v g γ (c .replacements) p) → x .elder ≡ [] → x .younger ≡ []
+    pub purged : (p : ℕ) (x : Purging t ls (drop (frames t) l) v g γ (c .replacements) p) → x .elder ≡ []
+        → x .younger ≡ []
         → Sweeping t ls (drop (frames t) l) v g γ (c .replacements)
     purged p x i j =
         record {
@@ -163,7 +174,8 @@ module _ (t : List ℕ) (wf : WellFormed t) (l : List State) (b : List ℕ) wher
           parts =
               subst (λ A. Parts ls (g .left) (g .right) A (theory.solved p γ ∷ x .rightStates) (drop (frames t) l))
               (ap (λ k. x .leftStates ++ k) i ∙ append-nil (x .leftStates))
-              (subst (λ B. Parts ls (g .left) (g .right) (x .leftStates ++ x .elder) (theory.solved p γ ∷ B) (drop (frames t) l))
+              (subst (λ B. Parts ls (g .left) (g .right) (x .leftStates ++ x .elder) (theory.solved p γ ∷ B)
+              (drop (frames t) l))
               (ap (λ k. k ++ x .rightStates) j) (x .parts));
           reaches = x .reaches;
           tested = record { left = x .tested .left; right = (le-refl γ, x .tested .right); limit = x .tested .limit };

@@ -1,16 +1,16 @@
 -- A whole search: what start, the loop and finish leave is the outcome that is defined.
-use Prim.Native.Nat.{ℕ, _≤_, _<_}
+use Prim.Native.Nat.{ℕ, _≤_}
 use native.Mathlib.Omega.{arith}
 use mathlib.Core.Path.{_≡_, refl, sym, ap, ap₂, _∙_, subst}
-use mathlib.Core.Bool.{Bool, true, false, _&&_}
+use mathlib.Core.Bool.{true, false, _&&_}
 use mathlib.Core.Option.{Option, none, some}
 use mathlib.Core.List.{List, [], _∷_, _++_}
 use lib.ListN.{length, take, drop, replicate, take-append-drop}
 use lib.Seq.{drop-at}
 use Rattle.gametree.specs.Lists.{among}
-use Rattle.gametree.specs.Tree.{greatest, minimax}
-use Rattle.gametree.specs.Layout.{layoutOf, Describes}
-use Rattle.gametree.specs.Move.{boundMove, rootMove}
+use Rattle.gametree.specs.Tree.{minimax}
+use Rattle.gametree.specs.Layout.{layoutOf}
+use Rattle.gametree.specs.Move.{boundMove}
 use Rattle.gametree.specs.Certificate.{flag}
 use Rattle.gametree.specs.Searches.{Searched, bySss}
 use Rattle.gametree.specs.Sss as theory
@@ -29,13 +29,14 @@ use Rattle.frames.proofs.Nodes.{tree-distinct}
 use Rattle.frames.proofs.Proper.{tree-proper}
 use Rattle.certificate.specs.Buffer.{tabulate, written, mark, marked, markAll}
 use Rattle.certificate.specs.Value.{valueOf}
-use Rattle.certificate.specs.Search.{roomy, check10, searchRejection, marksOf, flagsOf, Outcome, outcome}
+use Rattle.certificate.specs.Search.{check10, searchRejection, marksOf, flagsOf, Outcome}
 use Rattle.certificate.proofs.Buffers.{length-tabulate, written-length, marks-from-clear}
 use Rattle.certificate.proofs.Marks.{searched-within}
 use Rattle.certificate.proofs.Concluded.{concluded}
 use Rattle.sss.specs.declared.State.{State}
 use Rattle.sss.specs.declared.Phase.{Phase}
-use Rattle.sss.specs.declared.Phase.the-variants.{Begin, Sweep, Expand, PurgeLeft, PurgeRight, Rewind, Reset, Ended, Rejected}
+use Rattle.sss.specs.declared.Phase.the-variants.{Begin, Sweep, Expand, PurgeLeft, PurgeRight, Rewind, Reset}
+use Rattle.sss.specs.declared.Phase.the-variants.{Ended, Rejected}
 use Rattle.sss.specs.declared.Gap.{Gap}
 use Rattle.sss.specs.declared.Sizes.{Sizes}
 use Rattle.sss.specs.declared.Machine.{Machine}
@@ -47,7 +48,7 @@ use Rattle.sss.specs.Invariant.{Resetting, InPhase, Running}
 use Rattle.sss.specs.Driven.{Driven}
 use Rattle.sss.specs.Start.{startRejection, refused, machineAfter, marksAfter, Started}
 use Rattle.sss.specs.Finish.{rejectionIn, Answerable, Stopped, findings as foundBy, answerBy, flagsBy, Finished}
-use Rattle.sss.specs.Outcome.{runOf, sssLeaves, findings, statesFound, check15, sssRejection, listAfter, SssOutcome, sssOutcome}
+use Rattle.sss.specs.Outcome.{runOf, sssLeaves, findings, statesFound, SssOutcome, sssOutcome}
 
 -- a machine that has stopped in a run has reset the list
 ended-in : {t : List ℕ} {ls Z : List State} {v : List ℕ} {g : Gap} {γ k : ℕ} (i : ℕ) (p : Phase)
@@ -88,11 +89,14 @@ module _ (t : List ℕ) (wf : WellFormed t) where
     p = k .machine .registers .phase
 
     over : (rejectionIn p ≡ none)
-        × Resetting t (k .list) (drop (frames t) l) (h .evaluated) (k .machine .registers .gap) (k .machine .registers .test)
+        × Resetting t (k .list) (drop (frames t) l) (h .evaluated) (k .machine .registers .gap)
+        (k .machine .registers .test)
         (k .machine .registers .counts .replacements) (k .machine .registers .gap .nodes)
     over =
-        ended-in (k .machine .read) p (subst (λ o. InPhase t (k .list) (drop (frames t) l) (h .evaluated) (k .machine .registers .gap)
-        (k .machine .registers .test) (k .machine .registers .counts .replacements) p (k .machine .read) o) off (h .phase))
+        ended-in (k .machine .read) p
+        (subst (λ o. InPhase t (k .list) (drop (frames t) l) (h .evaluated) (k .machine .registers .gap)
+        (k .machine .registers .test) (k .machine .registers .counts .replacements) p (k .machine .read) o) off
+        (h .phase))
 
     -- the test is the value
     test-is : k .machine .registers .test ≡ minimax (valuation t) (tree t)
@@ -130,7 +134,8 @@ module _ (t : List ℕ) (wf : WellFormed t) where
         let q = sym (ap (λ x. x .replacements) (over .1 .ended)) in
         cc
 
-    flags-are : (c : List ℕ) → written (flag (valuation t) (marked (k .marks)) (tree t)) (frames t) c ≡ flagsOf (sssLeaves t) t c
+    flags-are : (c : List ℕ)
+        → written (flag (valuation t) (marked (k .marks)) (tree t)) (frames t) c ≡ flagsOf (sssLeaves t) t c
     flags-are c = concluded t wf (among (sssLeaves t)) b (k .marks) c marks-are .1
 
     -- finish may be called
@@ -153,7 +158,11 @@ passed t x y z e =
     let a = and-both (leb (frames t) x) (leb (frames t) y && (leb (frames t) z && true)) (ask-yes _ _ _ (p .1)) in
     let b = and-both (leb (frames t) y) (leb (frames t) z && true) (a .1) in (
       accepted-formed t (p .0),
-      (leb-true (frames t) x (a .0), leb-true (frames t) y (b .0), leb-true (frames t) z (and-both (leb (frames t) z) true (b .1) .0)),
+      (
+        leb-true (frames t) x (a .0),
+        leb-true (frames t) y (b .0),
+        leb-true (frames t) z (and-both (leb (frames t) z) true (b .1) .0),
+      ),
     )
 
 -- the parts of an outcome are its own
@@ -183,7 +192,8 @@ found-outcome t l b c wf q = rw (q, never-15 t wf)
 
 pub rejected-outcome : (t : List ℕ) (l : List State) (b c : List ℕ) (r : Rejection)
     → searchRejection t (length l ∷ length b ∷ length c ∷ []) ≡ some r
-    → sssOutcome t l b c ≡ record { list = l; search = record { answer = RejectedAnswer r; evaluated = b; certificate = c } }
+    → sssOutcome t l b c
+    ≡ record { list = l; search = record { answer = RejectedAnswer r; evaluated = b; certificate = c } }
 rejected-outcome t l b c r q = rw q
 
 module _ (t : List ℕ) (l : List State) (b c : List ℕ) (n : Sizes) (entries : n .entries ≡ length l)
@@ -220,23 +230,27 @@ module _ (t : List ℕ) (l : List State) (b c : List ℕ) (n : Sizes) (entries :
             let a = passed t (length l) (length b) (length c) q in
             answerable t (a .0) l b k (ran-of q) (d .stopped) c (a .1 .1) (a .1 .2)
         by-questions (some r) q e =
-            absurd (let f : some r ≡ none = sym (ap (λ x. rejectionIn (x .machine .registers .phase)) (stayed-of r q)) ∙ e in
+            absurd (let f : some r ≡ none = sym (ap (λ x. rejectionIn (x .machine .registers .phase)) (stayed-of r q))
+            ∙ e in
             let z : _≡_ {A = ℕ} 0 1 = cc in omega arith)
 
     -- and what it leaves is the outcome
     pub whole : {r : Answer} {b₃ c′ : List ℕ} → Finished t (k .marks) c (k .machine) r b₃ c′
-        → record { list = k .list; search = record { answer = r; evaluated = b₃; certificate = c′ } } ≡ sssOutcome t l b c
+        → record { list = k .list; search = record { answer = r; evaluated = b₃; certificate = c′ } }
+        ≡ sssOutcome t l b c
     whole {r} {b₃} {c′} f = by-questions (searchRejection t lengths) refl
       where
         by-questions : (q : Option Rejection) → searchRejection t lengths ≡ q
-            → record { list = k .list; search = record { answer = r; evaluated = b₃; certificate = c′ } } ≡ sssOutcome t l b c
+            → record { list = k .list; search = record { answer = r; evaluated = b₃; certificate = c′ } }
+            ≡ sssOutcome t l b c
         by-questions none q =
             let wf = passed t (length l) (length b) (length c) q .0 in
             let h = ran-of q in
             let z = over t wf l b k h (d .stopped) .0 in
             same-outcome (list-is t wf l b k h (d .stopped))
             (same-search
-            (f .answer ∙ ap (λ o. answerBy o (foundBy t (k .marks) (k .machine .registers .test) (k .machine .registers .counts))) z
+            (f .answer ∙ ap (λ o. answerBy o
+            (foundBy t (k .marks) (k .machine .registers .test) (k .machine .registers .counts))) z
             ∙ answer-found t wf l b k h (d .stopped))
             (f .marks ∙ marks-are t wf l b k h (d .stopped))
             (f .flags ∙ ap (λ o. flagsBy o t (k .marks) c) z ∙ flags-are t wf l b k h (d .stopped) c))
@@ -247,7 +261,8 @@ module _ (t : List ℕ) (l : List State) (b c : List ℕ) (n : Sizes) (entries :
             ap (λ y. rejectionIn (y .machine .registers .phase)) e in
             same-outcome (ap (λ y. y .list) e)
             (same-search
-            (f .answer ∙ ap (λ o. answerBy o (foundBy t (k .marks) (k .machine .registers .test) (k .machine .registers .counts))) z)
+            (f .answer ∙ ap (λ o. answerBy o
+            (foundBy t (k .marks) (k .machine .registers .test) (k .machine .registers .counts))) z)
             (f .marks ∙ ap (λ y. y .marks) e)
             (f .flags ∙ ap (λ o. flagsBy o t (k .marks) c) z))
             ∙ sym (rejected-outcome t l b c x q)

@@ -1,13 +1,13 @@
--- What holds between two turns of the machine: the entries hold a list that SSS* reaches, in two parts, or the next list
--- is in the making.
-use Prim.Native.Nat.{ℕ, zero, suc, _+_, _-_, _*_, _≤_, _<_, max}
+-- What holds between two turns of the machine: the entries hold a list that SSS* reaches, in two parts, or the next
+-- list is in the making.
+use Prim.Native.Nat.{ℕ, _+_, _-_, _≤_, _<_}
 use mathlib.Core.Path.{_≡_}
 use mathlib.Core.Bool.{Bool, true, false}
 use mathlib.Core.List.{List, [], _∷_, _++_, map}
 use lib.ListN.{length, take, drop, replicate}
 use Rattle.gametree.specs.Lists.{All}
 use Rattle.gametree.specs.Tree.{greatest}
-use Rattle.gametree.specs.Layout.{Layout, layoutOf}
+use Rattle.gametree.specs.Layout.{layoutOf}
 use Rattle.gametree.specs.Sss as theory
 use Rattle.frames.specs.Frame.{frames}
 use Rattle.frames.specs.Place.{isBelow}
@@ -15,9 +15,9 @@ use Rattle.frames.specs.Tree.{upFrom, tree, valuation}
 use Rattle.certificate.specs.Buffer.{written, markAll}
 use Rattle.sss.specs.declared.State.{State}
 use Rattle.sss.specs.declared.Phase.{Phase}
-use Rattle.sss.specs.declared.Phase.the-variants.{Begin, Sweep, Expand, PurgeLeft, PurgeRight, Rewind, Reset, Ended, Rejected}
+use Rattle.sss.specs.declared.Phase.the-variants.{Begin, Sweep, Expand, PurgeLeft, PurgeRight, Rewind, Reset}
+use Rattle.sss.specs.declared.Phase.the-variants.{Ended, Rejected}
 use Rattle.sss.specs.declared.Gap.{Gap}
-use Rattle.sss.specs.declared.Registers.{Registers}
 use Rattle.sss.specs.Entry.{entryOf, blank}
 use Rattle.sss.specs.Machine.{Config}
 
@@ -117,4 +117,5 @@ pub record Running (t : List ℕ) (l : List State) (b : List ℕ) (c : Config) :
   pub leaves : c .machine .registers .counts .leaves ≡ length evaluated
   pub phase :
       InPhase t (c .list) (drop (frames t) l) evaluated (c .machine .registers .gap) (c .machine .registers .test)
-      (c .machine .registers .counts .replacements) (c .machine .registers .phase) (c .machine .read) (c .machine .going)
+      (c .machine .registers .counts .replacements) (c .machine .registers .phase) (c .machine .read)
+      (c .machine .going)

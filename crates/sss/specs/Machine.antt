@@ -1,15 +1,14 @@
 -- The machine of SSS*: what one turn makes of the registers and of the entry that was read. The list is kept from left
 -- to right in two parts, with a gap between them: the left part has merits below the test, and the first entry of the
 -- right part whose merit reaches the test is the state to take.
-use Prim.Native.Nat.{ℕ, zero, suc, _+_, _-_, _*_, max, min}
+use Prim.Native.Nat.{ℕ, zero, suc, _+_, _-_, max, min}
 use mathlib.Core.Bool.{Bool, true, false, cond}
 use mathlib.Core.List.{List}
 use lib.Dec.{ltb}
 use lib.ListN.{getD, set}
 use Rattle.gametree.specs.declared.Side.{Side}
 use Rattle.gametree.specs.declared.Side.the-variants.{Max, Min}
-use Rattle.gametree.specs.Tree.{greatest}
-use Rattle.frames.specs.Frame.{frames, firstChild, childCount}
+use Rattle.frames.specs.Frame.{firstChild, childCount}
 use Rattle.frames.specs.Place.{parentOf, sideOf, isBelow}
 use Rattle.frames.specs.Tree.{valuation}
 use Rattle.frames.specs.declared.Rejection.{Rejection}
@@ -17,10 +16,10 @@ use Rattle.sss.specs.declared.Status.{Status}
 use Rattle.sss.specs.declared.Status.the-variants.{Live, Solved}
 use Rattle.sss.specs.declared.State.{State}
 use Rattle.sss.specs.declared.Phase.{Phase}
-use Rattle.sss.specs.declared.Phase.the-variants.{Begin, Sweep, Expand, PurgeLeft, PurgeRight, Rewind, Reset, Ended, Rejected}
+use Rattle.sss.specs.declared.Phase.the-variants.{Begin, Sweep, Expand, PurgeLeft, PurgeRight, Rewind, Reset}
+use Rattle.sss.specs.declared.Phase.the-variants.{Ended, Rejected}
 use Rattle.sss.specs.declared.Gap.{Gap}
 use Rattle.sss.specs.declared.Counts.{Counts}
-use Rattle.sss.specs.declared.Registers.{Registers}
 use Rattle.sss.specs.declared.Machine.{Machine}
 use Rattle.sss.specs.Entry.{entry, meritScore, blank}
 
@@ -54,7 +53,8 @@ noState = record { number = 15; place = 0 }
 abbrev pub sweeping : Gap → ℕ → Counts → ℕ → State → Machine
 sweeping g γ c w e =
     cond (ltb (g .right) (g .nodes)) (turned true (g .right) w e Sweep g γ c)
-    (cond (ltb 0 (g .left)) (turned true (g .left - 1) w e (Rewind 0) g γ c) (turned false 0 w e (Rejected noState) g γ c))
+    (cond (ltb 0 (g .left)) (turned true (g .left - 1) w e (Rewind 0) g γ c)
+    (turned false 0 w e (Rejected noState) g γ c))
 
 -- children down to the first are still to be put on the list
 abbrev pub expanding : ℕ → ℕ → Gap → ℕ → Counts → ℕ → State → Machine
@@ -139,7 +139,8 @@ rewind best e g γ c =
 -- one entry more is reset
 abbrev pub reset : ℕ → Gap → ℕ → Counts → Machine
 reset i g γ c =
-    cond (ltb (i + 1) (g .nodes)) (turned true (i + 1) i blank (Reset (i + 1)) g γ c) (turned false 0 i blank Ended g γ c)
+    cond (ltb (i + 1) (g .nodes)) (turned true (i + 1) i blank (Reset (i + 1)) g γ c)
+    (turned false 0 i blank Ended g γ c)
 
 -- one turn in each phase, with the entry that was read
 abbrev pub turnBy : List ℕ → Phase → State → Gap → ℕ → Counts → Machine

@@ -1,4 +1,5 @@
--- `sss::turn::take_solved` meets its contract: the root ends the run; any other node has a parent, which the array holds.
+-- `sss::turn::take_solved` meets its contract: the root ends the run; any other node has a parent, which the
+-- array holds.
 use Prim.Native.Nat.{ℕ, _<_}
 use native.Mathlib.Omega.{arith}
 use mathlib.Core.Path.{_≡_, _∙_}
