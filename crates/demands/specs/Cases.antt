@@ -1,8 +1,9 @@
 -- The cases of 01 that are marked P, as byte tables, with what is said of them.
 use Prim.Native.Nat.{ℕ}
-use mathlib.Core.List.{List, [], _∷_, _++_}
+use mathlib.Core.List.{List, [], _∷_}
 use lib.IntN.{ℤ, pos, negsuc}
 use lib.ListN.{replicate}
+use Rattle.frames.specs.Cases.{small, lone, single}
 use Rattle.alphabeta.specs.declared.Answer as ab
 use Rattle.alphabeta.specs.declared.Answer.the-variants as ab-answer
 use Rattle.alphabeta.specs.Outcome.{alphaBetaOutcome}
@@ -11,19 +12,6 @@ use Rattle.sss.specs.declared.Answer as sss
 use Rattle.sss.specs.declared.Answer.the-variants as sss-answer
 use Rattle.sss.specs.Entry.{blank}
 use Rattle.sss.specs.Outcome.{SssOutcome, sssOutcome}
-
--- a root over two Min nodes of two leaves each
-abbrev pub small : ℕ → ℕ → ℕ → ℕ → List ℕ
-small a b c d =
-    0 ∷ 1 ∷ 2 ∷ 0 ∷ 0 ∷ 0 ∷ 0 ∷ 3 ∷ 2 ∷ 0 ∷ 0 ∷ 0 ∷ 0 ∷ 5 ∷ 2 ∷ 0 ∷ 0 ∷ 0 ∷ 0 ∷ 0 ∷ 0 ∷ 0 ∷ 0 ∷ a ∷ 0 ∷ 0 ∷ 0 ∷ 0 ∷ 0
-    ∷ b ∷ 0 ∷ 0 ∷ 0 ∷ 0 ∷ 0 ∷ c ∷ 0 ∷ 0 ∷ 0 ∷ 0 ∷ 0 ∷ d ∷ []
-
--- the root is a leaf of -5; the root has the single leaf 9
-abbrev pub lone : List ℕ
-lone = 0 ∷ 0 ∷ 0 ∷ 0 ∷ 255 ∷ 251 ∷ []
-
-abbrev pub single : List ℕ
-single = 0 ∷ 1 ∷ 1 ∷ 0 ∷ 0 ∷ 0 ∷ 0 ∷ 0 ∷ 0 ∷ 0 ∷ 0 ∷ 9 ∷ []
 
 -- buffers and a list of seven entries
 abbrev pub buffer : List ℕ
