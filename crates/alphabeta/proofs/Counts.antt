@@ -1,10 +1,8 @@
 -- The count of evaluated leaves fits: no more leaves are evaluated than a tree has nodes, and the tree at each node of
 -- a table has no more nodes than the table.
-use Prim.Native.Nat.{ℕ, zero, suc, _+_, _≤_, _<_}
+use Prim.Native.Nat.{ℕ, _+_, _≤_, _<_}
 use native.Mathlib.Omega.{arith}
-use native.Mathlib.Decide.{decLe}
 use native.Mathlib.Nat.{add-le-add}
-use mathlib.Core.Path.{_≡_}
 use mathlib.Core.Bool.{Bool, true, false}
 use mathlib.Core.List.{List}
 use lib.Dec.{ltb}
@@ -13,10 +11,10 @@ use Rattle.gametree.specs.declared.Side.{Side}
 use Rattle.gametree.specs.Tree.{Tree, leaf, inner, Kids, last, _then_, size, sizeKids}
 use Rattle.gametree.specs.AlphaBeta.{raise, lower, Found, onward, alphaBeta, alphaBetaKids}
 use Rattle.frames.specs.Frame.{frames, firstChild, childCount}
-use Rattle.frames.specs.Tree.{kidsFrom, treeAt}
+use Rattle.frames.specs.Tree.{treeAt}
 use Rattle.frames.specs.Formed.{WellFormed, ChildOf}
 use Rattle.frames.proofs.Parents.{top-down}
-use Rattle.frames.proofs.Trees.{zero-or-suc, tree-inner}
+use Rattle.frames.proofs.Trees.{zero-or-suc, kid-size, tree-inner}
 use Rattle.frames.proofs.Totals.{tree-size}
 
 onward-few : (b : Bool) (r q : Found) (m n : ℕ) → length (r .evaluated) ≤ m → length (q .evaluated) ≤ n
@@ -39,21 +37,12 @@ mutual
       onward-few (ltb a b) (alphaBeta ν α β t) (alphaBetaKids ν s a b ts) (size t) (sizeKids ts)
       (evaluated-few ν α β t) (evaluatedKids-few ν s a b ts)
 
-size-kids : (g : ℕ → Tree) (i n k : ℕ) → i ≤ k → k ≤ i + n → size (g k) ≤ sizeKids (kidsFrom g i n)
-unfolding kidsFrom
-size-kids g i zero k a b = let e : k ≡ i = omega arith in rw e (omega arith)
-size-kids g i (suc n) k a b =
-    elim (decLe k i) [
-      | yes l ↦ (let e : k ≡ i = omega arith in rw e (omega arith))
-      | no l ↦ omega (arith, size-kids g (i + 1) n k (omega arith) (omega arith))
-    ]
-
 module _ (t : List ℕ) (wf : WellFormed t) where
   size-child : (i k : ℕ) → i < frames t → ChildOf t i k → size (treeAt t k) ≤ size (treeAt t i)
   size-child i k h c =
       zero-or-suc (childCount t i) (λ e. absurd (omega (arith, c .from, c .to))) (λ n e.
       rw (tree-inner t wf i n h e)
-      (omega (arith, size-kids (treeAt t) (firstChild t i) n k (c .from) (omega (arith, c .to)))))
+      (omega (arith, kid-size (treeAt t) (firstChild t i) n k (c .from) (omega (arith, c .to)))))
 
   -- the tree at each node has no more nodes than the table
   pub size-few : (k : ℕ) → k < frames t → size (treeAt t k) ≤ frames t

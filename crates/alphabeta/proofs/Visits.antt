@@ -51,12 +51,12 @@ module _ (t e : List ℕ) (i : ℕ) (p : Place) (r : Ready t e i p) where
       (d, omega (arith, d, depth-at-most t i, r .inside, r .formed .few))
 
   -- each child of a node that is ready is ready
-  pub ready-child : (k : ℕ) (e′ : List ℕ) (q : Place) → ChildOf t i k → length e′ ≡ length e → q ≡ childPlace t p k
+  pub ready-child : (k : ℕ) (e′ : List ℕ) (q : Place) → ChildOf t i k → length e′ ≡ length e → q ≡ childPlace t k p
       → Ready t e′ k q
   ready-child k e′ q c l h =
       record {
         formed = r .formed;
         inside = child-within t (r .formed) (r .inside) c;
-        placed = h ∙ ap (λ x. childPlace t x k) (r .placed) ∙ sym (place-child t (r .formed) (r .inside) c);
+        placed = h ∙ ap (λ x. childPlace t k x) (r .placed) ∙ sym (place-child t (r .formed) (r .inside) c);
         marks = omega (arith, r .marks);
       }

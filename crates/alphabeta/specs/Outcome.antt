@@ -18,11 +18,12 @@ reachedLeaves t = reached (valuation t) least greatest (tree t)
 
 -- the minimax value, the first root move that reaches it, and the number of evaluated leaves
 abbrev pub findings : List ℕ → Found
-findings t = record {
-  value = valueOf (minimax (valuation t) (tree t));
-  «root_move» = rootMove (valuation t) (tree t);
-  leaves = length (reachedLeaves t);
-}
+findings t =
+    record {
+      value = valueOf (minimax (valuation t) (tree t));
+      «root_move» = rootMove (valuation t) (tree t);
+      leaves = length (reachedLeaves t);
+    }
 
 -- the outcome of a call with the table t and the buffers e and c: the first "no" to questions 1 to 10, or the findings
 abbrev pub alphaBetaOutcome : (t e c : List ℕ) → Outcome Answer

@@ -1,5 +1,6 @@
 // Alpha-beta over a byte table: the public search, and its recursive engine.
 use certificate::ask;
+use certificate::better;
 use certificate::clear;
 use certificate::conclude;
 use certificate::evaluate;
@@ -15,7 +16,7 @@ use frames::frame_count;
 use gametree::Place;
 use gametree::Side;
 ghost use mathlib.Core.Path.{_≡_};
-ghost use Prim.Native.Nat.{_≤_, max, min};
+ghost use Prim.Native.Nat.{_≤_};
 ghost use lib.ListN.{length};
 ghost use Rattle.gametree.specs.AlphaBeta.{raise, lower, clamp, alphaBeta};
 ghost use Rattle.frames.specs.Frame.{frames};
@@ -131,37 +132,25 @@ fn alpha_beta(
 fn clamped(alpha: u32, beta: u32, score: u32) -> u32
     ensures { λ r. ⌜ r ≡ clamp alpha beta score ⌝ }
 {
-    lesser(beta, greater(alpha, score))
+    better(Side::Min, beta, better(Side::Max, alpha, score))
 }
 
-// Alpha behind a child of this score.
+// Alpha after a child of this score.
 fn raised(side: Side, alpha: u32, score: u32) -> u32
     ensures { λ r. ⌜ r ≡ raise side alpha score ⌝ }
 {
     match side {
-        Side::Max => greater(alpha, score),
+        Side::Max => better(Side::Max, alpha, score),
         Side::Min => alpha,
     }
 }
 
-// Beta behind a child of this score.
+// Beta after a child of this score.
 fn lowered(side: Side, beta: u32, score: u32) -> u32
     ensures { λ r. ⌜ r ≡ lower side beta score ⌝ }
 {
     match side {
         Side::Max => beta,
-        Side::Min => lesser(beta, score),
+        Side::Min => better(Side::Min, beta, score),
     }
-}
-
-fn greater(a: u32, b: u32) -> u32
-    ensures { λ r. ⌜ r ≡ max a b ⌝ }
-{
-    if a < b { b } else { a }
-}
-
-fn lesser(a: u32, b: u32) -> u32
-    ensures { λ r. ⌜ r ≡ min a b ⌝ }
-{
-    if a < b { a } else { b }
 }

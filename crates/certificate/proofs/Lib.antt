@@ -13,4 +13,5 @@ pub mod Values
 pub mod Marks
 pub mod Concluded
 pub mod Questions
+pub mod Outcomes
 pub mod Cases

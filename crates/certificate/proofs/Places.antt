@@ -59,12 +59,12 @@ module _ (t : List ℕ) (wf : WellFormed t) where
 
     -- the places of its children are stored
     pub placing-step : (n : ℕ) → n ≡ childCount t i → (d′ s′ : List ℕ)
-        → d′ ≡ stored (λ k. childPlace t p k .depth) at (at + n - at) d
-        → s′ ≡ stored (λ k. sideNumber (childPlace t p k .side)) at (at + n - at) s
+        → d′ ≡ stored (λ k. childPlace t k p .depth) at (at + n - at) d
+        → s′ ≡ stored (λ k. sideNumber (childPlace t k p .side)) at (at + n - at) s
         → Placing t d₀ s₀ d′ s′ (at + n) (i + 1)
     placing-step n q d′ s′ x y =
-        let place : (k : ℕ) → ChildOf t i k → childPlace t p k ≡ placeOf t k =
-        λ k c. ap (λ b. childPlace t b k) place-read ∙ sym (place-child t wf h c) in
+        let place : (k : ℕ) → ChildOf t i k → childPlace t k p ≡ placeOf t k =
+        λ k c. ap (λ b. childPlace t k b) place-read ∙ sym (place-child t wf h c) in
         record {
           depths = filled-step t wf _ (r .depths) h n q _ (λ k c. ap (λ b. b .depth) (place k c)) d′ x;
           sides = filled-step t wf _ (r .sides) h n q _ (λ k c. ap (λ b. sideNumber (b .side)) (place k c)) s′ y;

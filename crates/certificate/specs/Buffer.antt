@@ -4,6 +4,8 @@ use mathlib.Core.Bool.{Bool, cond}
 use mathlib.Core.List.{List, [], _∷_, _++_}
 use lib.Dec.{eqb}
 use lib.ListN.{getD, set, drop}
+use Rattle.gametree.specs.declared.Side.{Side}
+use Rattle.gametree.specs.Certificate.{inside}
 
 -- f 0, f 1, .., f (n - 1)
 unfoldable pub tabulate : (ℕ → ℕ) → ℕ → List ℕ
@@ -26,6 +28,10 @@ mark E k = cond (E k) 1 0
 -- the set of the nodes that are marked 1
 abbrev pub marked : List ℕ → ℕ → Bool
 marked b k = eqb (getD b k 0) 1
+
+-- the set of the nodes that the flags put into side p's tree: flagged 1 or 3 for Max, 2 or 3 for Min
+abbrev pub member : Side → List ℕ → ℕ → Bool
+member p flags k = inside p (getD flags k 0)
 
 -- how many of the first n entries are 1
 unfoldable pub ones : List ℕ → ℕ → ℕ

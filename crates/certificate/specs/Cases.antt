@@ -1,6 +1,6 @@
 -- Small trees of 01 with the leaves that a search evaluates, and what follows from them.
 use Prim.Native.Nat.{ℕ}
-use mathlib.Core.List.{List, [], _∷_, _++_}
+use mathlib.Core.List.{List, [], _∷_}
 use lib.ListN.{replicate}
 use lib.IntN.{ℤ, pos, negsuc}
 use Rattle.gametree.specs.Bounds.{low, high}
@@ -8,7 +8,7 @@ use Rattle.gametree.specs.Certificate.{flag}
 use Rattle.gametree.specs.Move.{boundMove}
 use Rattle.frames.specs.Frame.{frames}
 use Rattle.frames.specs.Tree.{tree, valuation}
-use Rattle.frames.specs.Cases.{leafFrame, innerFrame}
+use Rattle.frames.specs.Cases.{small, lone, single}
 use Rattle.certificate.specs.Buffer.{written, marked}
 use Rattle.certificate.specs.Value.{valueOf}
 
@@ -36,21 +36,15 @@ resultOf c =
           (c .certificate);
     }
 
--- a root of two nodes with two leaves each, of these values
-abbrev pub row : ℕ → ℕ → ℕ → ℕ → List ℕ
-row a b c d =
-    innerFrame 1 2 ++ innerFrame 3 2 ++ innerFrame 5 2
-    ++ leafFrame 0 a ++ leafFrame 0 b ++ leafFrame 0 c ++ leafFrame 0 d
-
 abbrev pub cases : List Case
 cases =
     -- the first row with the leaves of SSS*; the last entry of the buffer is kept
-    record { table = row 1 2 3 4; evaluated = 0 ∷ 0 ∷ 0 ∷ 1 ∷ 0 ∷ 1 ∷ 1 ∷ []; certificate = replicate 8 9 }
+    record { table = small 1 2 3 4; evaluated = 0 ∷ 0 ∷ 0 ∷ 1 ∷ 0 ∷ 1 ∷ 1 ∷ []; certificate = replicate 8 9 }
     -- equal values with the leaves of alpha-beta: the first child counts
-    ∷ record { table = row 7 7 7 7; evaluated = 0 ∷ 0 ∷ 0 ∷ 1 ∷ 1 ∷ 1 ∷ 0 ∷ []; certificate = replicate 7 0 }
+    ∷ record { table = small 7 7 7 7; evaluated = 0 ∷ 0 ∷ 0 ∷ 1 ∷ 1 ∷ 1 ∷ 0 ∷ []; certificate = replicate 7 0 }
     -- a leaf of -5; a root with the single leaf 9
-    ∷ record { table = leafFrame 255 251; evaluated = 1 ∷ []; certificate = 0 ∷ [] }
-    ∷ record { table = innerFrame 1 1 ++ leafFrame 0 9; evaluated = 0 ∷ 1 ∷ []; certificate = 0 ∷ 0 ∷ [] }
+    ∷ record { table = lone; evaluated = 1 ∷ []; certificate = 0 ∷ [] }
+    ∷ record { table = single; evaluated = 0 ∷ 1 ∷ []; certificate = 0 ∷ 0 ∷ [] }
     ∷ []
 
 abbrev pub results : List Result

@@ -3,6 +3,8 @@ use frames::Checked;
 use frames::GREATEST;
 use frames::LEAST;
 use frames::MAX_NODES;
+use frames::SHORT_BUFFER;
+use frames::ZERO_SCORE;
 use frames::check;
 use frames::child_count;
 use frames::child_place;
@@ -18,7 +20,7 @@ ghost use Prim.Native.Nat.{ℕ, _+_, _-_, _<_, _≤_};
 ghost use mathlib.Core.Bool.{cond};
 ghost use lib.Dec.{eqb};
 ghost use lib.ListN.{length, getD, set};
-ghost use Rattle.gametree.specs.Tree.{better as betterOf};
+ghost use Rattle.gametree.specs.Tree.{greatest, better as betterOf};
 ghost use Rattle.gametree.specs.Bounds.{known};
 ghost use Rattle.gametree.specs.Certificate.{flag};
 ghost use Rattle.gametree.specs.Move.{boundMove};
@@ -35,14 +37,11 @@ ghost use Rattle.certificate.specs.Search.{searchRejection};
 ghost use Rattle.certificate.specs.Value.{valueOf};
 ghost use Rattle.certificate.specs.Flags.{ownPart, bySide, chosenChild, FlagsFrom};
 
-// The score of the value 0.
-const ZERO_SCORE: i32 = 32001;
-
-// The number of 01's question about the buffers.
-pub const SHORT_BUFFER: u8 = 10;
+// The score of the value 0, for signed differences.
+const ZERO: i32 = ZERO_SCORE as i32;
 
 // The flag of a node in both solution trees.
-const BOTH: u8 = 3;
+pub const IN_BOTH: u8 = 3;
 
 // Questions 1 to 10, for buffers of these lengths: the number of nodes, or the first rejection.
 pub fn ask(table: &[u8], evaluated: usize, certificate: usize) -> Checked
@@ -108,10 +107,10 @@ pub fn conclude(table: &[u8], evaluated: &mut [u8], certificate: &mut [u8]) -> u
 
 // The value of a score (01: from -32,001 to 32,001).
 pub fn value(score: u32) -> i16
-    requires { ⌜ score ≤ 64002 ⌝ }
+    requires { ⌜ score ≤ greatest ⌝ }
     ensures { λ r. ⌜ r ≡ valueOf score ⌝ }
 {
-    (score as i32 - ZERO_SCORE) as i16
+    (score as i32 - ZERO) as i16
 }
 
 // The parent of every node, from the root down; the root's entry is 0.
@@ -170,8 +169,8 @@ fn place_children(
 )
     requires { ⌜ (from ≤ to) × (to ≤ frames (now table)) × (parent .depth ≤ maxNodes) ⌝ }
     requires { ⌜ (to ≤ length (now depths)) × (to ≤ length (now sides)) ⌝ }
-    ensures { λ _. ⌜ now (depths .exit) ≡ stored (λ k. childPlace (now (table .entry)) parent k .depth) from (to - from) (now (depths .entry)) ⌝ }
-    ensures { λ _. ⌜ now (sides .exit) ≡ stored (λ k. sideNumber (childPlace (now (table .entry)) parent k .side)) from (to - from) (now (sides .entry)) ⌝ }
+    ensures { λ _. ⌜ now (depths .exit) ≡ stored (λ k. childPlace (now (table .entry)) k parent .depth) from (to - from) (now (depths .entry)) ⌝ }
+    ensures { λ _. ⌜ now (sides .exit) ≡ stored (λ k. sideNumber (childPlace (now (table .entry)) k parent .side)) from (to - from) (now (sides .entry)) ⌝ }
 {
     for child in from..to {
         let place = child_place(table, child, parent);
@@ -279,7 +278,7 @@ fn leaf_bound(table: &[u8], evaluated: &mut [u8], node: usize, depth: u32, unkno
 }
 
 // The best of the bounds from `from` up to `to` for a side.
-fn best(bounds: &[u32], from: usize, to: usize, side: Side) -> u32
+pub fn best(bounds: &[u32], from: usize, to: usize, side: Side) -> u32
     requires { ⌜ (from < to) × (to ≤ length (now bounds)) ⌝ }
     ensures { λ r. ⌜ r ≡ bestIn side (λ k. getD (now (bounds .entry)) k 0) from (to - (from + 1)) ⌝ }
 {
@@ -316,7 +315,7 @@ fn write_certificate(
     ensures { λ _. ⌜ ((f : ℕ → ℕ) → FlagsFrom (now (table .entry)) (now (sides .entry)) (now (lows .entry)) (now (highs .entry)) f
         → now (certificate .exit) ≡ written f (frames (now (table .entry))) (now (certificate .entry))) ⌝ }
 {
-    certificate[0] = BOTH;
+    certificate[0] = IN_BOTH;
     let mut next: usize = 1;
     let n = frame_count(table);
     for node in 0..n {

@@ -2,10 +2,9 @@
 -- alpha-beta's; and MTD and SSS* evaluate the same leaves.
 use Prim.Native.Nat.{ℕ, _≤_, _<_}
 use mathlib.Core.Path.{_≡_, sym, ap, _∙_, subst}
-use mathlib.Core.Bool.{true, cond}
+use mathlib.Core.Bool.{cond}
 use mathlib.Core.List.{List}
-use lib.ListN.{length, getD}
-use Rattle.gametree.specs.Lists.{among}
+use lib.ListN.{getD}
 use Rattle.gametree.specs.Layout.{layoutOf}
 use Rattle.gametree.proofs.Theorems.{sss-mtd, layout-own}
 use Rattle.frames.specs.Frame.{frames}
@@ -13,7 +12,6 @@ use Rattle.frames.specs.Tree.{tree, valuation}
 use Rattle.frames.specs.Formed.{WellFormed}
 use Rattle.frames.proofs.Proper.{tree-proper}
 use Rattle.alphabeta.specs.declared.Found as ab
-use Rattle.alphabeta.specs.Outcome.{reachedLeaves}
 use Rattle.mtd.specs.Outcome.{mtdLeaves}
 use Rattle.sss.specs.declared.State.{State}
 use Rattle.sss.specs.declared.Found as sss

@@ -8,8 +8,7 @@ use lib.Seq.{take-at}
 use Rattle.gametree.specs.declared.Side.{Side}
 use Rattle.gametree.specs.declared.Side.the-variants.{Max, Min}
 use Rattle.gametree.specs.Lists.{All, among}
-use Rattle.gametree.specs.Tree.{minimax}
-use Rattle.gametree.specs.Tree.{Proper}
+use Rattle.gametree.specs.Tree.{minimax, Proper}
 use Rattle.gametree.specs.Bounds.{known}
 use Rattle.gametree.specs.Certificate.{inside, flag, fill, ReadOff}
 use Rattle.gametree.specs.Move.{rootMove}
@@ -26,11 +25,11 @@ use Rattle.frames.specs.Shape.{SameShape, AgreeOn}
 use Rattle.frames.proofs.Nodes.{tree-range}
 use Rattle.frames.proofs.Proper.{tree-proper}
 use Rattle.frames.proofs.Shapes.{same-score, same-tree}
-use Rattle.certificate.specs.Buffer.{tabulate, written, mark, marked}
+use Rattle.certificate.specs.Buffer.{tabulate, written, mark, marked, member}
 use Rattle.certificate.specs.Search.{marksOf, flagsOf}
 use Rattle.certificate.proofs.Buffers.{length-tabulate, tabulate-same, written-at}
 use Rattle.certificate.proofs.Marks.{marked-written, searched-within}
-use Rattle.demands.specs.Handed.{flagged, CertifiedBy, Alike}
+use Rattle.demands.specs.Handed.{CertifiedBy, Alike}
 
 -- the first n entries of a buffer that was written for n nodes
 pub take-written : (f : ℕ → ℕ) (n : ℕ) (b : List ℕ) → take n (written f n b) ≡ tabulate f n
@@ -44,9 +43,9 @@ module _ (t : List ℕ) (wf : WellFormed t) {w : List ℕ} (s : Searched (valuat
       marked-written (among w) (frames t) e k (all-at (λ k. k < frames t) w (searched-within t wf s) k h) ∙ h
 
   reads : (p : Side) (c : List ℕ)
-      → ReadOff p (known (valuation t) (among w) (fill p)) (flagged p (flagsOf w t c)) true (tree t)
+      → ReadOff p (known (valuation t) (among w) (fill p)) (member p (flagsOf w t c)) true (tree t)
   reads p c =
-      fits p _ (flagged p (flagsOf w t c)) true (tree t) (tree-proper t wf .distinct) (λ k i.
+      fits p _ (member p (flagsOf w t c)) true (tree t) (tree-proper t wf .distinct) (λ k i.
       ap (inside p)
       (written-at (flag (valuation t) (among w) (tree t)) (frames t) k c (tree-range t wf 0 (wf .some) k i .1))
       ∙ flag-inside p (valuation t) (among w) (tree t) k)

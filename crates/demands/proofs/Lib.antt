@@ -1,5 +1,6 @@
 -- The demands, search by search.
 pub mod Handed
+mod Parts
 pub mod AlphaBeta
 pub mod Mtd
 pub mod Sss

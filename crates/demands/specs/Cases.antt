@@ -1,10 +1,10 @@
 -- The cases of 01 that are marked P, as byte tables, with what is said of them.
 use Prim.Native.Nat.{ℕ}
-use mathlib.Core.List.{List, [], _∷_, _++_}
+use mathlib.Core.List.{List, [], _∷_}
 use lib.IntN.{ℤ, pos, negsuc}
 use lib.ListN.{replicate, take}
 use Rattle.frames.specs.Frame.{frames}
-use Rattle.frames.specs.Cases.{leafFrame, innerFrame}
+use Rattle.frames.specs.Cases.{small, lone, single}
 use Rattle.alphabeta.specs.declared.Answer as ab
 use Rattle.alphabeta.specs.declared.Answer.the-variants as ab-answer
 use Rattle.alphabeta.specs.Outcome.{alphaBetaOutcome}
@@ -16,19 +16,6 @@ use Rattle.sss.specs.declared.Answer as sss
 use Rattle.sss.specs.declared.Answer.the-variants as sss-answer
 use Rattle.sss.specs.Entry.{blank}
 use Rattle.sss.specs.Outcome.{sssOutcome}
-
--- a root over two Min nodes of two leaves each
-abbrev small : ℕ → ℕ → ℕ → ℕ → List ℕ
-small a b c d =
-    innerFrame 1 2 ++ innerFrame 3 2 ++ innerFrame 5 2
-    ++ leafFrame 0 a ++ leafFrame 0 b ++ leafFrame 0 c ++ leafFrame 0 d
-
--- the root is a leaf of -5; the root has the single leaf 9
-abbrev lone : List ℕ
-lone = leafFrame 255 251
-
-abbrev single : List ℕ
-single = innerFrame 1 1 ++ leafFrame 0 9
 
 -- buffers and a list of seven entries
 abbrev buffer : List ℕ

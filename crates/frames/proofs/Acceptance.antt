@@ -21,14 +21,15 @@ use Rattle.frames.proofs.Asked.{answer-nodes, answer-rejected, each-pas
 pub stated-formed : (t : List ℕ) → frames t ≤ maxNodes → ((i : ℕ) → i < frames t → FrameAsStated t i)
     → next t (frames t) ≡ frames t → WellFormed t
 unfolding next
-stated-formed t few f total = record {
-  some = omega (arith, next-mono t 0 (frames t) (omega arith));
-  few = few;
-  first = λ i h. f i h .innerFirst;
-  later = λ i h. f i h .innerLater;
-  total = total;
-  scored = λ i h. f i h .leafValue;
-}
+stated-formed t few f total =
+    record {
+      some = omega (arith, next-mono t 0 (frames t) (omega arith));
+      few = few;
+      first = λ i h. f i h .innerFirst;
+      later = λ i h. f i h .innerLater;
+      total = total;
+      scored = λ i h. f i h .leafValue;
+    }
 
 module _ (t : List ℕ) where
   -- nodes that all pass questions 4 to 7 have frames as stated

@@ -88,12 +88,13 @@ pub record Asking (t : List ℕ) (i m : ℕ) : Type 0 where
 -- before the first node
 pub asking-none : (t : List ℕ) → Asking t 0 1
 unfolding next
-asking-none t = record {
-  within = omega arith;
-  counted = refl;
-  small = omega arith;
-  passed = passed-none (checkNode t) (frames t);
-}
+asking-none t =
+    record {
+      within = omega arith;
+      counted = refl;
+      small = omega arith;
+      passed = passed-none (checkNode t) (frames t);
+    }
 
 module _ (t : List ℕ) (i m : ℕ) (h : i < frames t) (a : Asking t i m) where
   -- node i passed

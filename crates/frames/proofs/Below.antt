@@ -2,16 +2,16 @@
 -- tree's own layout says.
 use Prim.Native.Nat.{ℕ, zero, suc, _+_, _≤_, _<_}
 use native.Mathlib.Omega.{arith}
-use native.Mathlib.Decide.{decLe, decLt, ℕ-discrete}
-use mathlib.Core.Path.{_≡_, refl, sym, ap, _∙_, subst}
+use native.Mathlib.Decide.{decLe, ℕ-discrete}
+use mathlib.Core.Path.{_≡_, refl, sym, subst}
 use mathlib.Core.Logic.{inl, inr}
-use mathlib.Core.Bool.{Bool, true, false, cond, _&&_}
+use mathlib.Core.Bool.{Bool, true, false, cond}
 use mathlib.Core.List.{List}
-use lib.Dec.{leb, ltb, eqb}
-use borrow.Author.Tests.{le-leb, lt-leb, lt-ltb, le-ltb, eq-eqb, ne-eqb, eqb-true, eqb-false, leb-true, leb-false, ltb-true}
-use Rattle.gametree.specs.Tree.{Tree, In, InKids}
+use lib.Dec.{ltb, eqb}
+use borrow.Author.Tests.{le-leb, lt-leb, lt-ltb, eq-eqb, eqb-true, ltb-true}
+use Rattle.gametree.specs.Tree.{In}
 use Rattle.gametree.specs.Layout.{has, hasKids, aboveIn, aboveInKids, layoutOf}
-use Rattle.gametree.proofs.Choice.{cond-cases, true-not-false, is-false, and-both}
+use Rattle.gametree.proofs.Choice.{true-not-false, is-false, and-both}
 use Rattle.gametree.proofs.Nodes.{hasKids-in}
 use Rattle.gametree.proofs.Theorems.{layout-own}
 use Rattle.frames.specs.Frame.{frames, firstChild, childCount}
@@ -21,7 +21,7 @@ use Rattle.frames.specs.Formed.{WellFormed, ChildOf}
 use Rattle.frames.proofs.Next.{child-later, child-within}
 use Rattle.frames.proofs.Parents.{parent-less, parent-is, parent-child, bottom-up}
 use Rattle.frames.proofs.Trees.{zero-or-suc, in-kids, tree-leaf, tree-inner}
-use Rattle.frames.proofs.Nodes.{in-tree-cases, in-parent, in-own, tree-range, tree-distinct}
+use Rattle.frames.proofs.Nodes.{in-tree-cases, in-parent, in-trans, in-own, tree-range, tree-distinct}
 use Rattle.frames.proofs.Layouts.{answers-at}
 
 -- which case of a choice that is true is true
@@ -38,13 +38,6 @@ same-truth true b f g = sym (f refl)
 same-truth false b f g = sym (is-false b (λ e. true-not-false (g e) refl))
 
 module _ (t : List ℕ) (wf : WellFormed t) where
-  -- a node of a tree within is a node of the tree
-  in-trans : (p : ℕ) → p < frames t → (m x : ℕ) → In m (treeAt t p) → In x (treeAt t m) → In x (treeAt t p)
-  in-trans =
-      bottom-up t wf (λ p. (m x : ℕ) → In m (treeAt t p) → In x (treeAt t m) → In x (treeAt t p)) (λ p h f m x i j.
-      in-tree-cases t wf p m h i (λ e. subst (λ k. In x (treeAt t k)) e j)
-      (λ k c y. in-parent t wf h c x (f k c m x y j)))
-
   -- the parent of a node below p is in p's tree
   in-up : (p : ℕ) → p < frames t → (q : ℕ) → In q (treeAt t p) → (q ≡ p → ⊥) → In (parentOf t q) (treeAt t p)
   in-up =
@@ -62,7 +55,7 @@ module _ (t : List ℕ) (wf : WellFormed t) where
       elim (decLe k p) [
         | yes m ↦ subst (λ x. In x (treeAt t p)) (sym (rw (le-leb k p m) at e)) (in-own t wf p)
         | no m ↦ (let c = parent-child t wf k (omega arith) l in
-            in-trans p h (parentOf t k) k
+            in-trans t wf p h (parentOf t k) k
             (climbed-in f p (parentOf t k) h (c .0) (rw (lt-leb k p (omega arith)) at e))
             (in-parent t wf (c .0) (c .1) k (in-own t wf k)))
       ]
@@ -74,7 +67,8 @@ module _ (t : List ℕ) (wf : WellFormed t) where
       elim (decLe q p) [
         | yes m ↦ rw (le-leb q p m) (omega (arith, tree-range t wf p h q i))
         | no m ↦ rw (lt-leb q p (omega arith))
-            (in-climbed f p (parentOf t q) h (in-up p h q i (λ e. omega arith)) (omega (arith, parent-less t q (omega arith))))
+            (in-climbed f p (parentOf t q) h (in-up p h q i (λ e. omega arith))
+            (omega (arith, parent-less t q (omega arith))))
       ]
 
   -- below, by climbing

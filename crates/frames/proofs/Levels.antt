@@ -38,17 +38,18 @@ pub record Standing (t : List ℕ) (i d e : ℕ) : Type 0 where
 
 pub descending-none : (t : List ℕ) → Descending t 0 0 1 1
 unfolding next
-descending-none t = record {
-  within = omega arith;
-  reached = omega arith;
-  counted = refl;
-  shallow = omega arith;
-  passed = passed-none (check9 t) (frames t);
-  level = record {
-    here = λ k _ h. let e : k ≡ 0 = omega arith in rw e (ap (λ p. p .depth) (place-root t));
-    below = λ k h g. absurd (omega arith);
-  };
-}
+descending-none t =
+    record {
+      within = omega arith;
+      reached = omega arith;
+      counted = refl;
+      shallow = omega arith;
+      passed = passed-none (check9 t) (frames t);
+      level = record {
+        here = λ k _ h. let e : k ≡ 0 = omega arith in rw e (ap (λ p. p .depth) (place-root t));
+        below = λ k h g. absurd (omega arith);
+      };
+    }
 
 pub descending-all : (t : List ℕ) (i d e m : ℕ) → frames t ≤ i → Descending t i d e m
     → Nodes (frames t) ≡ answer (frames t) (depthsRejection t)
@@ -59,13 +60,14 @@ descending-all t i d e m h a =
 module _ (t : List ℕ) (wf : WellFormed t) (i d e m : ℕ) (h : i < frames t) (a : Descending t i d e m) where
   -- the level below begins
   pub enters : i ≡ e → Standing t i (d + 1) m
-  enters q = record {
-    inside = omega (arith, waits t wf i h, a .counted);
-    level = record {
-      here = λ k l g. a .level .below k (omega arith) (omega (arith, a .counted));
-      below = λ k l g. absurd (omega (arith, a .counted));
-    };
-  }
+  enters q =
+      record {
+        inside = omega (arith, waits t wf i h, a .counted);
+        level = record {
+          here = λ k l g. a .level .below k (omega arith) (omega (arith, a .counted));
+          below = λ k l g. absurd (omega (arith, a .counted));
+        };
+      }
 
   pub stays : (i ≡ e → ⊥) → Standing t i d e
   stays q = record { inside = omega (arith, a .reached, q); level = a .level }
@@ -82,14 +84,15 @@ module _ (t : List ℕ) (wf : WellFormed t) (i d e m : ℕ) (h : i < frames t) (
         ]
 
     pub descending-more : (c : ℕ) → c ≡ childCount t i → d′ ≤ maxDepth → Descending t (i + 1) d′ e′ (m + c)
-    descending-more c q l = record {
-      within = omega arith;
-      reached = omega (arith, s .inside);
-      counted = omega (arith, next-more t i, a .counted);
-      shallow = l;
-      passed = passed-more (check9 t) (frames t) i h (a .passed) (rw (depth-here, le-leb d′ maxDepth l));
-      level = record { here = λ k b g. s .level .here k (omega arith) g; below = below-more };
-    }
+    descending-more c q l =
+        record {
+          within = omega arith;
+          reached = omega (arith, s .inside);
+          counted = omega (arith, next-more t i, a .counted);
+          shallow = l;
+          passed = passed-more (check9 t) (frames t) i h (a .passed) (rw (depth-here, le-leb d′ maxDepth l));
+          level = record { here = λ k b g. s .level .here k (omega arith) g; below = below-more };
+        }
 
     pub descending-until : maxDepth < d′ → refused 9 i ≡ answer (frames t) (depthsRejection t)
     descending-until l =

@@ -1,17 +1,17 @@
 -- Every node of a well-formed table stands in its tree exactly once.
-use Prim.Native.Nat.{ℕ, zero, suc, _+_, _-_, _≤_, _<_}
+use Prim.Native.Nat.{ℕ, zero, suc, _+_, _≤_, _<_}
 use native.Mathlib.Omega.{arith}
-use mathlib.Core.Path.{_≡_, refl, sym, ap, _∙_, subst}
+use mathlib.Core.Path.{_≡_, sym, ap, _∙_, subst}
 use mathlib.Core.Logic.{inl, inr}
 use mathlib.Core.List.{List}
-use Rattle.gametree.specs.Tree.{Tree, leaf, inner, Kids, last, _then_, In, InKids, Distinct, DistinctKids}
+use Rattle.gametree.specs.Tree.{In, Distinct, DistinctKids}
 use Rattle.gametree.proofs.Nodes.{number-in}
 use Rattle.frames.specs.Frame.{frames, firstChild, childCount}
-use Rattle.frames.specs.Place.{parentOf, depthOf, sideOf}
-use Rattle.frames.specs.Tree.{kidsFrom, node, treeAt, tree}
+use Rattle.frames.specs.Place.{parentOf, depthOf}
+use Rattle.frames.specs.Tree.{kidsFrom, treeAt, tree}
 use Rattle.frames.specs.Formed.{WellFormed, ChildOf}
 use Rattle.frames.proofs.Next.{child-later, child-within}
-use Rattle.frames.proofs.Parents.{parent-is, parent-child, top-down, bottom-up}
+use Rattle.frames.proofs.Parents.{parent-is, top-down, bottom-up}
 use Rattle.frames.proofs.Places.{depth-child}
 use Rattle.frames.proofs.Trees.{zero-or-suc, in-kids, kids-in, tree-leaf, tree-inner, tree-number}
 
@@ -38,6 +38,13 @@ module _ (t : List ℕ) (wf : WellFormed t) where
       zero-or-suc (childCount t i) (λ e. absurd (omega (arith, c .from, c .to))) (λ n e.
       rw (tree-inner t wf i n h e)
       (inr (kids-in (treeAt t) (firstChild t i) n p k (c .from) (omega (arith, c .to)) q)))
+
+  -- a node of a tree within is a node of the tree
+  pub in-trans : (p : ℕ) → p < frames t → (m x : ℕ) → In m (treeAt t p) → In x (treeAt t m) → In x (treeAt t p)
+  in-trans =
+      bottom-up t wf (λ p. (m x : ℕ) → In m (treeAt t p) → In x (treeAt t m) → In x (treeAt t p)) (λ p h f m x i j.
+      in-tree-cases p m h i (λ e. subst (λ k. In x (treeAt t k)) e j)
+      (λ k c y. in-parent h c x (f k c m x y j)))
 
   -- node i is in its own tree
   pub in-own : (i : ℕ) → In i (treeAt t i)

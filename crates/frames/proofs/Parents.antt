@@ -1,9 +1,9 @@
 -- Each node of a well-formed table but the root is the child of exactly one node, its parent; so what holds of the root
 -- and passes from a node to its children holds of every node, and what passes from the children to their node too.
-use Prim.Native.Nat.{ℕ, zero, suc, _+_, _-_, _≤_, _<_}
+use Prim.Native.Nat.{ℕ, zero, suc, _+_, _≤_, _<_}
 use native.Mathlib.Omega.{arith}
 use native.Mathlib.Decide.{decLe, decLt}
-use mathlib.Core.Path.{_≡_, refl}
+use mathlib.Core.Path.{_≡_}
 use mathlib.Core.Bool.{true, false}
 use mathlib.Core.List.{List}
 use borrow.Author.Tests.{le-ltb, lt-ltb, le-leb, lt-leb}
@@ -11,7 +11,7 @@ use Rattle.gametree.proofs.Choice.{cond-cases}
 use Rattle.frames.specs.Frame.{frames, firstChild, childCount, next}
 use Rattle.frames.specs.Place.{isChild, parentBefore, parentOf}
 use Rattle.frames.specs.Formed.{WellFormed, ChildOf}
-use Rattle.frames.proofs.Next.{next-mono, next-within, waits, child-next, next-child, child-later, child-within}
+use Rattle.frames.proofs.Next.{next-mono, child-next, next-child, child-later, child-within}
 
 -- the test of a child
 pub child-test : (t : List ℕ) (i k : ℕ) → ChildOf t i k → isChild t i k ≡ true
@@ -59,7 +59,8 @@ module _ (t : List ℕ) (wf : WellFormed t) where
   before-is i k zero l h c = absurd (omega arith)
   before-is i k (suc n) l h c =
       elim (decLt i n) [
-        | yes m ↦ rw (no-child-test t n k (λ d. let e : i ≡ n = one-parent (omega arith) (omega arith) c d in omega arith))
+        | yes m ↦ rw (no-child-test t n k
+            (λ d. let e : i ≡ n = one-parent (omega arith) (omega arith) c d in omega arith))
             (before-is i k n m (omega arith) c)
         | no m ↦ (let e : n ≡ i = omega arith in rw (e, child-test t i k c))
       ]
@@ -75,7 +76,11 @@ module _ (t : List ℕ) (wf : WellFormed t) where
   found-before k (suc n) h l m =
       elim (decLt k (next t n)) [
         | yes a ↦ (let r = found-before k n (omega arith) l a in (r .0, omega (arith, r .1), r .2))
-        | no a ↦ (n, omega arith, next-child t wf (omega arith) (omega arith) (let e : n + 1 ≡ suc n = omega arith in rw e m))
+        | no a ↦ (
+          n,
+          omega arith,
+          next-child t wf (omega arith) (omega arith) (let e : n + 1 ≡ suc n = omega arith in rw e m),
+        )
       ]
 
   -- each node but the root is the child of its parent

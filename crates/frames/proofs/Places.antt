@@ -19,7 +19,7 @@ within-enough t (suc f) zero zero a b = refl
 within-enough t (suc f) zero (suc k) a b = absurd (omega arith)
 within-enough t (suc f) (suc g) zero a b = refl
 within-enough t (suc f) (suc g) (suc k) a b =
-    ap (λ p. childPlace t p (suc k))
+    ap (λ p. childPlace t (suc k) p)
     (within-enough t f g (parentOf t (suc k)) (omega (arith, parent-less t (suc k) (omega arith)))
     (omega (arith, parent-less t (suc k) (omega arith))))
 
@@ -29,11 +29,11 @@ unfolding placeOf placeWithin
 place-root t = refl
 
 -- a node's place from its parent's
-pub place-step : (t : List ℕ) (k : ℕ) → 0 < k → placeOf t k ≡ childPlace t (placeOf t (parentOf t k)) k
+pub place-step : (t : List ℕ) (k : ℕ) → 0 < k → placeOf t k ≡ childPlace t k (placeOf t (parentOf t k))
 unfolding placeOf placeWithin
 place-step t zero h = absurd (omega arith)
 place-step t (suc k) h =
-    ap (λ p. childPlace t p (suc k))
+    ap (λ p. childPlace t (suc k) p)
     (within-enough t k (parentOf t (suc k)) (parentOf t (suc k)) (omega (arith, parent-less t (suc k) (omega arith)))
     (omega arith))
 
@@ -51,9 +51,9 @@ depth-at-most t k = depth-within t (suc k) k (omega arith)
 
 module _ (t : List ℕ) (wf : WellFormed t) where
   -- the place of a child of node i
-  pub place-child : {i k : ℕ} → i < frames t → ChildOf t i k → placeOf t k ≡ childPlace t (placeOf t i) k
+  pub place-child : {i k : ℕ} → i < frames t → ChildOf t i k → placeOf t k ≡ childPlace t k (placeOf t i)
   place-child {i} {k} h c =
-      place-step t k (omega (arith, child-later t wf h c)) ∙ ap (λ p. childPlace t (placeOf t p) k) (parent-is t wf h c)
+      place-step t k (omega (arith, child-later t wf h c)) ∙ ap (λ p. childPlace t k (placeOf t p)) (parent-is t wf h c)
 
   -- a child is one deeper than its parent
   pub depth-child : {i k : ℕ} → i < frames t → ChildOf t i k → depthOf t k ≡ depthOf t i + 1

@@ -1,12 +1,12 @@
 -- What the theory asks of a tree holds of the tree of a well-formed table: distinct numbers and scores in range.
 use Prim.Native.Nat.{ℕ, zero, suc, _+_, _≤_, _<_}
 use native.Mathlib.Omega.{arith}
-use mathlib.Core.Path.{_≡_, refl}
+use mathlib.Core.Path.{_≡_}
 use mathlib.Core.List.{List}
 use Rattle.gametree.specs.Tree.{Tree, EveryLeaf, EveryLeafKids, Score, Proper}
 use Rattle.frames.specs.Frame.{frames, firstChild, childCount}
 use Rattle.frames.specs.Tree.{kidsFrom, treeAt, tree, valuation}
-use Rattle.frames.specs.Formed.{WellFormed, ChildOf}
+use Rattle.frames.specs.Formed.{WellFormed}
 use Rattle.frames.proofs.Parents.{bottom-up}
 use Rattle.frames.proofs.Trees.{zero-or-suc, tree-leaf, tree-inner}
 use Rattle.frames.proofs.Nodes.{tree-distinct}

@@ -1,28 +1,16 @@
 -- Two tables of one shape have one tree, and a leaf on which they agree has one score.
-use Prim.Native.Nat.{ℕ, zero, suc, _+_, _-_, _*_, _≤_, _<_}
+use Prim.Native.Nat.{ℕ, zero, suc, _+_, _*_, _≤_, _<_}
 use native.Mathlib.Omega.{arith}
 use mathlib.Core.Path.{_≡_, refl, sym, ap, ap₂, _∙_}
-use mathlib.Core.Bool.{cond, _&&_}
 use mathlib.Core.List.{List}
-use lib.Dec.{ltb, leb}
-use Rattle.gametree.specs.Tree.{inner}
-use Rattle.frames.specs.Frame.{frames, firstChild, childCount, storedScore}
-use Rattle.frames.specs.Place.{isChild, parentBefore, parentOf, childPlace, placeOf, depthOf, sideOf}
+use Rattle.frames.specs.Frame.{frames, firstChild, childCount}
+use Rattle.frames.specs.Place.{parentBefore, parentOf, childPlace, placeOf, sideOf}
 use Rattle.frames.specs.Tree.{node, treeAt, tree, leafScore, valuation}
-use Rattle.frames.specs.Formed.{WellFormed, ChildOf}
+use Rattle.frames.specs.Formed.{WellFormed}
 use Rattle.frames.specs.Shape.{SameShape, AgreeOn}
-use Rattle.frames.proofs.Next.{child-within}
 use Rattle.frames.proofs.Parents.{parent-less, bottom-up}
 use Rattle.frames.proofs.Places.{place-root, place-step}
 use Rattle.frames.proofs.Trees.{tree-node, node-same}
-
--- being of one shape goes both ways
-pub shape-sym : {t u : List ℕ} → SameShape t u → SameShape u t
-shape-sym s =
-    record {
-      sameFrames = sym (s .sameFrames);
-      sameBytes = λ i k h l. sym (s .sameBytes i k (omega (arith, s .sameFrames)) l);
-    }
 
 module _ (t u : List ℕ) (s : SameShape t u) where
   same-first : (i : ℕ) → i < frames t → firstChild t i ≡ firstChild u i
@@ -45,7 +33,7 @@ module _ (t u : List ℕ) (s : SameShape t u) where
       let b = parent-less t (suc k) (omega arith) in
       let e : parentOf t (suc k) ≡ parentOf u (suc k) = same-before (suc k) (suc k) (omega arith) in
       place-step t (suc k) (omega arith)
-      ∙ ap (λ p. childPlace t p (suc k))
+      ∙ ap (λ p. childPlace t (suc k) p)
       (same-within n (parentOf t (suc k)) (omega arith) (omega arith) ∙ ap (placeOf u) e)
       ∙ sym (place-step u (suc k) (omega arith))
 

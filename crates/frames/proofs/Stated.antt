@@ -44,11 +44,12 @@ module _ (t : List ℕ) (i : ℕ) where
     later : 0 < n → i < firstChild t i
 
   right-first : (n : ℕ) → firstChildRight t i n ≡ true → FirstChild n
-  right-first zero e = record {
-    leaf = λ _. eqb-true _ _ e;
-    first = λ h. absurd (omega arith);
-    later = λ h. absurd (omega arith);
-  }
+  right-first zero e =
+      record {
+        leaf = λ _. eqb-true _ _ e;
+        first = λ h. absurd (omega arith);
+        later = λ h. absurd (omega arith);
+      }
   right-first (suc n) e =
       let p = both-true _ _ e in
       record { leaf = λ h. absurd (omega arith); first = λ _. eqb-true _ _ (p .0); later = λ _. ltb-true _ _ (p .1) }

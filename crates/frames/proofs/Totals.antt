@@ -2,15 +2,14 @@
 -- in breadth-first order, and what waits at i is node i and what waits at i + 1.
 use Prim.Native.Nat.{ℕ, zero, suc, _+_, _-_, _≤_, _<_}
 use native.Mathlib.Omega.{arith}
-use native.Mathlib.Numerals.{add-one}
-use mathlib.Core.Path.{_≡_, refl, sym, ap, ap₂, _∙_}
-use mathlib.Core.Bool.{Bool, true, false, cond}
+use mathlib.Core.Path.{_≡_, refl, ap, ap₂, _∙_}
+use mathlib.Core.Bool.{Bool, cond}
 use mathlib.Core.List.{List}
 use Rattle.gametree.specs.Tree.{Tree, leaf, inner, Kids, last, _then_, size, sizeKids, leafCount, leafCountKids}
 use Rattle.frames.specs.Frame.{frames, firstChild, childCount, next}
 use Rattle.frames.specs.Tree.{kidsFrom, treeAt, tree}
 use Rattle.frames.specs.Formed.{WellFormed}
-use Rattle.frames.proofs.Next.{next-more, waits, child-later}
+use Rattle.frames.proofs.Next.{next-more, waits}
 use Rattle.frames.proofs.Trees.{zero-or-suc, tree-leaf, tree-inner}
 
 -- the sum of f over the leaves of a tree and of g over its inner nodes
@@ -134,7 +133,8 @@ module _ (t : List ℕ) (wf : WellFormed t) where
   pub tree-size : size (tree t) ≡ frames t
   tree-size =
       size-total (tree t) ∙ tree-total (λ _. 1) (λ _. 1) t wf
-      ∙ sum-same (λ i. atNode (λ _. 1) (λ _. 1) (childCount t i) i) (λ _. 1) (frames t) (λ k h. ones-at (childCount t k) k)
+      ∙ sum-same (λ i. atNode (λ _. 1) (λ _. 1) (childCount t i) i) (λ _. 1) (frames t)
+      (λ k h. ones-at (childCount t k) k)
       ∙ sum-ones (frames t)
 
   -- the leaves in the set E, counted over the table: inner nodes count nothing

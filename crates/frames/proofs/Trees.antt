@@ -6,7 +6,7 @@ use mathlib.Core.Path.{_≡_, refl, ap, ap₂, _∙_}
 use mathlib.Core.Logic.{inl, inr}
 use mathlib.Core.List.{List}
 use Rattle.gametree.specs.declared.Side.{Side}
-use Rattle.gametree.specs.Tree.{Tree, leaf, inner, Kids, last, _then_, number, In, InKids}
+use Rattle.gametree.specs.Tree.{Tree, leaf, inner, last, _then_, number, size, sizeKids, In, InKids}
 use Rattle.frames.specs.Frame.{frames, firstChild, childCount}
 use Rattle.frames.specs.Place.{sideOf}
 use Rattle.frames.specs.Tree.{kidsFrom, node, grow, treeAt}
@@ -30,7 +30,8 @@ pub in-kids : (g : ℕ → Tree) (i n p : ℕ) → InKids p (kidsFrom g i n) →
 unfolding kidsFrom
 in-kids g i zero p h = (i, omega arith, omega arith, h)
 in-kids g i (suc n) p (inl h) = (i, omega arith, omega arith, h)
-in-kids g i (suc n) p (inr h) = let r = in-kids g (i + 1) n p h in (r .0, omega (arith, r .1), omega (arith, r .2), r .3)
+in-kids g i (suc n) p (inr h) =
+    let r = in-kids g (i + 1) n p h in (r .0, omega (arith, r .1), omega (arith, r .2), r .3)
 
 pub kids-in : (g : ℕ → Tree) (i n p k : ℕ) → i ≤ k → k ≤ i + n → In p (g k) → InKids p (kidsFrom g i n)
 unfolding kidsFrom
@@ -39,6 +40,16 @@ kids-in g i (suc n) p k a b h =
     elim (decLe k i) [
       | yes l ↦ inl (let e : k ≡ i = omega arith in rw e at h)
       | no l ↦ inr (kids-in g (i + 1) n p k (omega arith) (omega arith) h)
+    ]
+
+-- a child's tree is no larger than all of them together
+pub kid-size : (g : ℕ → Tree) (i n k : ℕ) → i ≤ k → k ≤ i + n → size (g k) ≤ sizeKids (kidsFrom g i n)
+unfolding kidsFrom
+kid-size g i zero k a b = let e : k ≡ i = omega arith in rw e (omega arith)
+kid-size g i (suc n) k a b =
+    elim (decLe k i) [
+      | yes l ↦ (let e : k ≡ i = omega arith in rw e (omega arith))
+      | no l ↦ omega (arith, kid-size g (i + 1) n k (omega arith) (omega arith))
     ]
 
 -- a number is 0, or the successor of another

@@ -22,9 +22,18 @@ unfoldable pub chain : ℕ → ℕ → List ℕ
 chain i zero = leafFrame 0 0
 chain i (suc n) = innerFrame (i + 1) 1 ++ chain (i + 1) n
 
--- a root of two nodes with two leaves each
-abbrev pub small : List ℕ
-small = innerFrame 1 2 ++ innerFrame 3 2 ++ innerFrame 5 2 ++ leaves 4
+-- a root of two nodes with two leaves each, of these values (01: the small trees)
+abbrev pub small : ℕ → ℕ → ℕ → ℕ → List ℕ
+small a b c d =
+    innerFrame 1 2 ++ innerFrame 3 2 ++ innerFrame 5 2
+    ++ leafFrame 0 a ++ leafFrame 0 b ++ leafFrame 0 c ++ leafFrame 0 d
+
+-- a root that is a leaf of -5; a root with the single leaf 9
+abbrev pub lone : List ℕ
+lone = leafFrame 255 251
+
+abbrev pub single : List ℕ
+single = innerFrame 1 1 ++ leafFrame 0 9
 
 -- a table and its answer
 pub record Case : Type 0 where
@@ -40,8 +49,9 @@ rejects t q p = record { table = t; answer = Rejected (record { number = q; plac
 -- what is accepted
 abbrev pub accepted : List Case
 accepted =
-    accepts (leafFrame 0 5) 1
-    ∷ accepts small 7
+    accepts lone 1
+    ∷ accepts single 2
+    ∷ accepts (small 1 2 3 4) 7
     -- the values 32,000 and -32,000
     ∷ accepts (leafFrame 125 0) 1
     ∷ accepts (leafFrame 131 0) 1
@@ -83,11 +93,11 @@ pub record Family : Type 0 where
 
 abbrev pub families : List Family
 families =
-    record { table = small; node = 0; children = innerFrame 3 2 ++ innerFrame 5 2 }
-    ∷ record { table = small; node = 2; children = leaves 2 }
+    record { table = small 1 2 3 4; node = 0; children = innerFrame 3 2 ++ innerFrame 5 2 }
+    ∷ record { table = small 1 2 3 4; node = 2; children = leafFrame 0 3 ++ leafFrame 0 4 }
     -- a leaf; a number past the last frame; children that would reach past the table, or into bytes left over
-    ∷ record { table = small; node = 3; children = [] }
-    ∷ record { table = small; node = 7; children = [] }
+    ∷ record { table = small 1 2 3 4; node = 3; children = [] }
+    ∷ record { table = small 1 2 3 4; node = 7; children = [] }
     ∷ record { table = innerFrame 1 2 ++ leaves 1; node = 0; children = [] }
     ∷ record { table = innerFrame 1 1 ++ 0 ∷ 0 ∷ 0 ∷ []; node = 0; children = [] }
     -- no question is asked: a root that names itself is its own child

@@ -1,5 +1,5 @@
--- A table is a list of bytes; a node is a frame of six of them (01, "Frames"). Fields are read by node number, and are 0
--- past the table's end.
+-- A table is a list of bytes; a node is a frame of six of them (01, "Frames"). Fields are read by node number, and are
+-- 0 past the table's end.
 use Prim.Native.Nat.{ℕ, zero, suc, _+_, _*_, _/_, _%_}
 use mathlib.Core.List.{List}
 use lib.ListN.{length, getD}

@@ -27,14 +27,14 @@ abbrev pub rootPlace : Place
 rootPlace = record { depth = 0; side = Max }
 
 -- a child k of a node that stands at p is one deeper, and the other side moves there
-abbrev pub childPlace : List ℕ → Place → ℕ → Place
-childPlace t p k = record { depth = p .depth + 1; side = other (p .side) }
+abbrev pub childPlace : List ℕ → ℕ → Place → Place
+childPlace t k p = record { depth = p .depth + 1; side = other (p .side) }
 
 -- where node k stands, from its parent's place; the first number bounds the steps to the root
 unfoldable pub placeWithin : ℕ → List ℕ → ℕ → Place
 placeWithin zero t k = rootPlace
 placeWithin (suc f) t zero = rootPlace
-placeWithin (suc f) t (suc k) = childPlace t (placeWithin f t (parentOf t (suc k))) (suc k)
+placeWithin (suc f) t (suc k) = childPlace t (suc k) (placeWithin f t (parentOf t (suc k)))
 
 unfoldable pub placeOf : List ℕ → ℕ → Place
 placeOf t k = placeWithin k t k

@@ -10,12 +10,15 @@ ghost use Rattle.frames.specs.Place.{childPlace};
 ghost use Rattle.frames.specs.Tree.{leafScore};
 ghost use Rattle.frames.specs.Formed.{WellFormed};
 ghost use Rattle.frames.specs.Rejection.{answer};
-ghost use Rattle.frames.specs.Check.{firstChildRight, valueRight, checkNode, nodesRejection, depthsRejection, framesRejection, checked};
+ghost use Rattle.frames.specs.Check.{firstChildRight, valueRight, checkNode, nodesRejection, depthsRejection};
+ghost use Rattle.frames.specs.Check.{framesRejection, checked};
 
 // The limits of 01.
 pub const FRAME_SIZE: usize = 6;
 
 pub const MAX_NODES: usize = 4096;
+
+pub const MAX_TABLE: usize = FRAME_SIZE * MAX_NODES;
 
 pub const MAX_CHILDREN: usize = 40;
 
@@ -27,11 +30,11 @@ pub const LEAST: u32 = 0;
 pub const GREATEST: u32 = 64002;
 
 // The score of the value 0, and how many values two bytes hold.
-const ZERO_SCORE: usize = 32001;
+pub const ZERO_SCORE: usize = 32001;
 
 const TWO_BYTES: usize = 65536;
 
-// The numbers of 01's questions about a table, by what a "no" means.
+// The numbers of 01's questions about a table and the buffers lent with it, by what a "no" means.
 pub const EMPTY: u8 = 1;
 
 pub const TOO_LONG: u8 = 2;
@@ -49,6 +52,8 @@ pub const WRONG_VALUE: u8 = 7;
 pub const WRONG_TOTAL: u8 = 8;
 
 pub const TOO_DEEP: u8 = 9;
+
+pub const SHORT_BUFFER: u8 = 10;
 
 // A "no" of 01: the question's number and a place.
 pub struct Rejection {
@@ -70,7 +75,7 @@ pub fn check(table: &[u8]) -> Checked
     if length == 0 {
         return rejected(EMPTY, 0);
     }
-    if FRAME_SIZE * MAX_NODES < length {
+    if MAX_TABLE < length {
         return rejected(TOO_LONG, 0);
     }
     if length % FRAME_SIZE != 0 {
@@ -276,7 +281,7 @@ pub fn leaf_score(table: &[u8], node: usize, depth: u32) -> u32
 // Where a child of a node at `place` stands.
 pub fn child_place(table: &[u8], child: usize, place: Place) -> Place
     requires { ⌜ (child < frames (now table)) × (place .depth ≤ maxNodes) ⌝ }
-    ensures { λ r. ⌜ r ≡ childPlace (now (table .entry)) place child ⌝ }
+    ensures { λ r. ⌜ r ≡ childPlace (now (table .entry)) child place ⌝ }
 {
     let side = place.side;
     let opponent = other(side);

@@ -3,23 +3,21 @@
 use Prim.Native.Nat.{ℕ, _+_, _≤_, min}
 use native.Mathlib.Nat.{le-refl, le-trans}
 use native.Mathlib.Omega.{arith}
-use mathlib.Core.Path.{_≡_, refl, sym, _∙_, ap, subst}
+use mathlib.Core.Path.{_≡_, refl, _∙_}
 use mathlib.Core.Logic.{_⊎_, inl, inr}
 use mathlib.Core.Bool.{Bool, true, false}
 use mathlib.Core.Option.{Option, none, some}
-use mathlib.Core.List.{List, [], _∷_, _++_, map, append-assoc, append-nil}
+use mathlib.Core.List.{List, _∷_, _++_, map}
 use lib.ListN.{length, length-append}
 use Rattle.gametree.specs.Lists.{All}
 use Rattle.gametree.specs.Tree.{Side, Max, Min, Tree, leaf, inner, Kids, last, _then_, number, size, sizeKids, In}
 use Rattle.gametree.specs.Tree.{InKids}
 use Rattle.gametree.specs.Mtd.{Memo, MemoKids, notBelow}
 use Rattle.gametree.specs.Layout.{tip, fork, under, Layout, Apart}
-use Rattle.gametree.specs.Sss.{Together, Status, LIVE, SOLVED, State, live, solved, Step, quiet, evaluating}
-use Rattle.gametree.specs.Sss.{purge, replace}
+use Rattle.gametree.specs.Sss.{Status, LIVE, SOLVED, State, live, solved, Step, quiet, evaluating, purge, replace}
 use Rattle.gametree.proofs.Lists.{all-append, all-map, all-zip}
 use Rattle.gametree.proofs.Nodes.{number-in}
-use Rattle.gametree.proofs.SssSteps.{Takes, pick-at, step-at, stepFirst-at, purge-outside, purge-length}
-use Rattle.gametree.proofs.SssSteps.{purge-left, purge-right}
+use Rattle.gametree.proofs.SssSteps.{Takes, step-at, stepFirst-at, purge-outside, purge-length}
 use Rattle.gametree.proofs.Frontier.{AtMost, Below, join-frontier, frontier, frontierKids, Fitted, FittedKids}
 use Rattle.gametree.proofs.Frontier.{states, statesKids, opened}
 
@@ -176,55 +174,7 @@ handed-clear Y γ n s ks L R a = (
   handed-outside s Y n R (all-map _ _ (λ x f. f n (inl refl)) R (a .clearRight)),
 )
 
--- the states below n are the last of L, and none is in R
-pub record Under (Y : Layout) (n : ℕ) (L R : List State) : Type 0 where
-  pub gone : List State
-  pub split : L ≡ purge Y n L ++ gone
-  pub below : All (λ s. Y .above n (s .node) ≡ true) gone
-  pub clear : purge Y n R ≡ R
-
--- before n's children go through their states there is none
-pub under-none : (Y : Layout) (γ n : ℕ) (s : Side) (ks : Kids) (L R : List State) → AroundTree Y γ (inner n s ks) L R
-    → Under Y n L R
-under-none Y γ n s ks L R a =
-    record {
-      gone = [];
-      split =
-          sym (append-nil (purge Y n L)
-          ∙ purge-outside Y n L (all-map _ _ (λ x f. f n (inl refl)) L (a .clearLeft)));
-      below = tt;
-      clear = purge-outside Y n R (all-map _ _ (λ x f. f n (inl refl)) R (a .clearRight));
-    }
-
-module _ (Y : Layout) (n : ℕ) (L R : List State) (z : Under Y n L R) where
-  -- a child's frontier F joins them
-  pub under-more : (F : List State) → All (λ s. Y .above n (s .node) ≡ true) F → Under Y n (L ++ F) R
-  under-more F h =
-      record {
-        gone = z .gone ++ F;
-        split = ap (λ l. l ++ F) (z .split) ∙ append-assoc (purge Y n L) (z .gone) F
-            ∙ ap (λ l. l ++ (z .gone ++ F)) (sym (purge-left Y n L F h));
-        below = all-append _ (z .gone) F (z .below) h;
-        clear = z .clear;
-      }
-
-  -- so they stand together around a child's state, with those of its brothers, G
-  pub under-together : (s : State) (G : List State) → All (λ s. Y .above n (s .node) ≡ true) G
-      → Together Y n (record { left = L; state = s; right = G ++ R })
-  under-together s G h =
-      record {
-        lastLeft = z .gone;
-        firstRight = G;
-        left = z .split;
-        right = ap (λ l. G ++ l) (sym (purge-right Y n G R h ∙ z .clear));
-        belowLeft = z .below;
-        belowRight = h;
-      }
-
 -- STEP 1. THE STATE OF MERIT γ IS TAKEN
-
-live-not-solved : LIVE ≡ SOLVED → ⊥
-live-not-solved e = let z : _≡_ {A = ℕ} 0 1 = cc in omega arith
 
 module _ (ν : ℕ → ℕ) (Y : Layout) (γ : ℕ) (t : Tree) (L R : List State) (a : AroundTree Y γ t L R) where
   -- the lists fit with one state between them
@@ -244,10 +194,8 @@ module _ (ν : ℕ → ℕ) (Y : Layout) (γ : ℕ) (t : Tree) (L R : List State
   -- the node's state is taken: all before it are less, none behind it has more, and all behind it are right of it
   pub takes : (u : Status) (x : Step)
       → replace ν Y (record { left = L; state = record { node = number t; status = u; merit = γ }; right = R }) u ≡ x
-      → (u ≡ SOLVED → (p : ℕ) (b : Option ℕ) → Y .link (number t) ≡ under p Max b
-      → Together Y p (record { left = L; state = record { node = number t; status = u; merit = γ }; right = R }))
       → Takes ν Y (L ++ (record { node = number t; status = u; merit = γ } ∷ R)) x
-  takes u x e z =
+  takes u x e =
       let s : State = record { node = number t; status = u; merit = γ } in
       let r =
       all-zip _ _ (λ y. (y .merit ≤ γ) × (Y .leftOf (number t) (y .node) ≡ true))
@@ -255,9 +203,6 @@ module _ (ν : ℕ → ℕ) (Y : Layout) (γ : ℕ) (t : Tree) (L R : List State
       record {
         by-tree = step-at ν Y L s R (a .less) r ∙ e;
         by-list = stepFirst-at ν Y L s R (a .less) r ∙ e;
-        taken = record { left = L; state = s; right = R };
-        picks = pick-at ν Y L s R (a .less) r;
-        together = z;
         room = room-one s;
       }
 
@@ -265,36 +210,26 @@ module _ (ν : ℕ → ℕ) (Y : Layout) (γ : ℕ) (t : Tree) (L R : List State
   pub takes-leaf : Y .kind (number t) ≡ tip
       → Takes ν Y (L ++ (live (number t) γ ∷ R))
       (evaluating (number t) (L ++ (solved (number t) (min γ (ν (number t))) ∷ R)))
-  takes-leaf e = takes LIVE _ (rw e refl) (λ f. absurd (live-not-solved f))
+  takes-leaf e = takes LIVE _ (rw e refl)
 
   -- a LIVE inner node is replaced by children
   pub takes-inner : (s : Side) (c : ℕ) (cs : List ℕ) → Y .kind (number t) ≡ fork s c cs
       → Takes ν Y (L ++ (live (number t) γ ∷ R)) (quiet (L ++ (map (λ k. live k γ) (opened s c cs) ++ R)))
-  takes-inner Max c cs e = takes LIVE _ (rw e refl) (λ f. absurd (live-not-solved f))
-  takes-inner Min c cs e = takes LIVE _ (rw e refl) (λ f. absurd (live-not-solved f))
+  takes-inner Max c cs e = takes LIVE _ (rw e refl)
+  takes-inner Min c cs e = takes LIVE _ (rw e refl)
 
   -- a SOLVED child of a Max node hands up
   pub takes-max : (p : ℕ) (b : Option ℕ) → Y .link (number t) ≡ under p Max b
-      → Together Y p (record { left = L; state = solved (number t) γ; right = R })
       → Takes ν Y (L ++ (solved (number t) γ ∷ R)) (quiet (purge Y p L ++ (solved p γ ∷ purge Y p R)))
-  takes-max p b e z =
-      takes SOLVED _ (rw e refl)
-      (λ _ q c d.
-      let f : p ≡ q = cc in
-      subst (λ x. Together Y x (record { left = L; state = solved (number t) γ; right = R })) f z)
-
-  -- a SOLVED child of a Min node purges nothing
-  not-max : (p q : ℕ) (b c : Option ℕ) → Y .link (number t) ≡ under p Min b → Y .link (number t) ≡ under q Max c → ⊥
-  not-max p q b c e d = let z : _≡_ {A = ℕ} 0 1 = cc in omega arith
+  takes-max p b e = takes SOLVED _ (rw e refl)
 
   -- the last child of any node hands up
   pub takes-last : (s : Side) (p : ℕ) → Y .link (number t) ≡ under p s none
-      → Together Y p (record { left = L; state = solved (number t) γ; right = R })
       → Takes ν Y (L ++ (solved (number t) γ ∷ R)) (quiet (handed s Y p L ++ (solved p γ ∷ handed s Y p R)))
-  takes-last Max p e z = takes-max p none e z
-  takes-last Min p e z = takes SOLVED _ (rw e refl) (λ _ q c d. absurd (not-max p q none c e d))
+  takes-last Max p e = takes-max p none e
+  takes-last Min p e = takes SOLVED _ (rw e refl)
 
   -- behind any other SOLVED child of a Min node the next brother is LIVE
   pub takes-next : (p b : ℕ) → Y .link (number t) ≡ under p Min (some b)
       → Takes ν Y (L ++ (solved (number t) γ ∷ R)) (quiet (L ++ (live b γ ∷ R)))
-  takes-next p b e = takes SOLVED _ (rw e refl) (λ _ q c d. absurd (not-max p q (some b) c e d))
+  takes-next p b e = takes SOLVED _ (rw e refl)

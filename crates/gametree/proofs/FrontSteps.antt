@@ -9,15 +9,14 @@ use mathlib.Core.Option.{Option, none, some}
 use mathlib.Core.List.{List, [], _∷_, _++_, map, append-nil}
 use Rattle.gametree.specs.Lists.{All}
 use Rattle.gametree.specs.Tree.{Side, Max, Min, Tree, leaf, inner, Kids, last, _then_, number, In, InKids}
-use Rattle.gametree.specs.Layout.{Kind, tip, fork, Link, root, under, Layout, firstOf, othersOf, Answers}
-use Rattle.gametree.specs.Layout.{AnswersKids, Describes}
-use Rattle.gametree.specs.Sss.{Status, LIVE, SOLVED, State, live, solved, Taken, choose, beats, pick, Step, empty, stop}
-use Rattle.gametree.specs.Sss.{quiet, evaluating, purge, replaceLive, replaceSolved, replace, step, start}
-use Rattle.gametree.specs.Sss.{ListAfter, atStart, afterQuiet, afterEvaluating}
+use Rattle.gametree.specs.Layout.{root, under, Layout, firstOf, othersOf, Answers, AnswersKids, Describes}
+use Rattle.gametree.specs.Sss.{Status, LIVE, SOLVED, State, live, solved, Taken, choose, beats, pick, Step, empty}
+use Rattle.gametree.specs.Sss.{stop, quiet, evaluating, purge, replaceLive, replaceSolved, replace, step, Picks}
+use Rattle.gametree.specs.Sss.{Together, ListAfter, atStart, afterQuiet, afterEvaluating}
 use Rattle.gametree.proofs.Lists.{all-append, all-map}
 use Rattle.gametree.proofs.SssSteps.{purge-append, purge-outside, purge-below}
-use Rattle.gametree.proofs.Fronts.{Front, FrontKids, alone-front, ChildIn, Beside, Within, top, underMax, underMin}
-use Rattle.gametree.proofs.Fronts.{plug, Located, located}
+use Rattle.gametree.proofs.Fronts.{Front, FrontKids, alone-front, ChildIn, Beside, Within, top, underMax}
+use Rattle.gametree.proofs.Fronts.{underMin, plug, located}
 
 beside-child : (ks : Kids) (u : Tree) (F G : List State) → Beside ks u F G → ChildIn u ks
 beside-child (last t) u F G b = b .0
@@ -44,7 +43,8 @@ mutual
   kids-front-in Max (t then ts) L f =
       subst (λ l. All (λ s. InKids (s .node) (t then ts)) l) (sym (f .2))
       (all-append (λ s. InKids (s .node) (t then ts)) (f .0) (f .1)
-      (all-map (λ s. In (s .node) t) (λ s. InKids (s .node) (t then ts)) (λ s i. inl i) (f .0) (front-in t (f .0) (f .3)))
+      (all-map (λ s. In (s .node) t) (λ s. InKids (s .node) (t then ts)) (λ s i. inl i) (f .0)
+      (front-in t (f .0) (f .3)))
       (all-map (λ s. InKids (s .node) ts) (λ s. InKids (s .node) (t then ts)) (λ s i. inr i) (f .1)
       (kids-front-in Max ts (f .1) (f .4))))
   kids-front-in Min (t then ts) L (inl f) =
@@ -57,13 +57,15 @@ beside-in : (ks : Kids) (u : Tree) (F G : List State) → Beside ks u F G
 beside-in (last t) u F G b = (rw (b .1) tt, rw (b .2) tt)
 beside-in (t then ts) u F G (inl b) = (
   rw (b .1) tt,
-  all-map (λ s. InKids (s .node) ts) (λ s. InKids (s .node) (t then ts)) (λ s i. inr i) G (kids-front-in Max ts G (b .2)),
+  all-map (λ s. InKids (s .node) ts) (λ s. InKids (s .node) (t then ts)) (λ s i. inr i) G
+      (kids-front-in Max ts G (b .2)),
 )
 beside-in (t then ts) u F G (inr b) =
     let r = beside-in ts u (b .1) G (b .4) in (
       subst (λ l. All (λ s. InKids (s .node) (t then ts)) l) (sym (b .2))
           (all-append (λ s. InKids (s .node) (t then ts)) (b .0) (b .1)
-          (all-map (λ s. In (s .node) t) (λ s. InKids (s .node) (t then ts)) (λ s i. inl i) (b .0) (front-in t (b .0) (b .3)))
+          (all-map (λ s. In (s .node) t) (λ s. InKids (s .node) (t then ts)) (λ s i. inl i) (b .0)
+          (front-in t (b .0) (b .3)))
           (all-map (λ s. InKids (s .node) ts) (λ s. InKids (s .node) (t then ts)) (λ s i. inr i) (b .1) (r .0))),
       all-map (λ s. InKids (s .node) ts) (λ s. InKids (s .node) (t then ts)) (λ s i. inr i) G (r .1),
     )
@@ -140,9 +142,11 @@ module _ (Y : Layout) where
       let c = beside-child ks u F G b in
       let s = beside-outside n ks u F G b (within-answers w a .2) in (
         subst (λ l. Outside u l) (sym p)
-            (all-append (λ s. (p : ℕ) → In p u → Y .above p (s .node) ≡ false) X F (deeper u n Max ks X c (o .0)) (s .0)),
+            (all-append (λ s. (p : ℕ) → In p u → Y .above p (s .node) ≡ false) X F (deeper u n Max ks X c (o .0))
+            (s .0)),
         subst (λ l. Outside u l) (sym q)
-            (all-append (λ s. (p : ℕ) → In p u → Y .above p (s .node) ≡ false) G Z (s .1) (deeper u n Max ks Z c (o .1))),
+            (all-append (λ s. (p : ℕ) → In p u → Y .above p (s .node) ≡ false) G Z (s .1)
+            (deeper u n Max ks Z c (o .1))),
       )
   within-outside (underMin {n = n} {ks = ks} {u = u} {A = A} {B = B} w c) a =
       let o = within-outside w a in (deeper u n Min ks A c (o .0), deeper u n Min ks B c (o .1))
@@ -163,8 +167,8 @@ module _ (Y : Layout) where
     pub parent-is : number parent ≡ p
     pub within : Within r parent left right
 
-  gather : {r : Tree} {A B X Z : List State} (u : Tree) (n : ℕ) (ks : Kids) (F G : List State) → Within r (inner n Max ks) X Z
-      → Beside ks u F G → A ≡ X ++ F → B ≡ G ++ Z → Answers Y r → Gathered r n A B
+  gather : {r : Tree} {A B X Z : List State} (u : Tree) (n : ℕ) (ks : Kids) (F G : List State)
+      → Within r (inner n Max ks) X Z → Beside ks u F G → A ≡ X ++ F → B ≡ G ++ Z → Answers Y r → Gathered r n A B
   gather {r} {A} {B} {X} {Z} u n ks F G w b p q a =
       let o = within-outside w a in
       let i = beside-in ks u F G b in
@@ -192,13 +196,15 @@ module _ (Y : Layout) where
       }
 
 -- the purge of what stands before and behind
-pub gathered-left : (Y : Layout) {r : Tree} {p : ℕ} {A B : List State} (g : Gathered Y r p A B) → purge Y p A ≡ g .left
+pub gathered-left : (Y : Layout) {r : Tree} {p : ℕ} {A B : List State} (g : Gathered Y r p A B)
+    → purge Y p A ≡ g .left
 gathered-left Y {p = p} g =
     ap (purge Y p) (g .before) ∙ purge-append Y p (g .left) (g .elder)
     ∙ ap₂ _++_ (purge-outside Y p (g .left) (g .left-clear)) (purge-below Y p (g .elder) (g .elder-below))
     ∙ append-nil (g .left)
 
-pub gathered-right : (Y : Layout) {r : Tree} {p : ℕ} {A B : List State} (g : Gathered Y r p A B) → purge Y p B ≡ g .right
+pub gathered-right : (Y : Layout) {r : Tree} {p : ℕ} {A B : List State} (g : Gathered Y r p A B)
+    → purge Y p B ≡ g .right
 gathered-right Y {p = p} g =
     ap (purge Y p) (g .behind) ∙ purge-append Y p (g .younger) (g .right)
     ∙ ap₂ _++_ (purge-below Y p (g .younger) (g .younger-below)) (purge-outside Y p (g .right) (g .right-clear))
@@ -218,7 +224,7 @@ first-live m (last t) = alone-front t (live (number t) m) refl
 first-live m (t then ts) = inl (alone-front t (live (number t) m) refl)
 
 -- what a step leaves is a front
-abbrev FrontStep : Tree → Step → Type 0
+abbrev pub FrontStep : Tree → Step → Type 0
 FrontStep t empty = Unit {0}
 FrontStep t (stop v) = Unit {0}
 FrontStep t (quiet M) = Front t M
@@ -253,7 +259,8 @@ module _ (ν : ℕ → ℕ) (Y : Layout) (r : Tree) (a : Answers Y r) (o : Y .li
       next-front none x =
           rw (← i, ← j) (plug w (solved n (k .state .merit) ∷ []) (alone-front (inner n Min ks) (solved n _) refl))
       next-front (some b) x =
-          rw (← i, ← j) (plug (underMin w (x .2)) (live b (k .state .merit) ∷ []) (alone-front (x .0) (live b _) (sym (x .1))))
+          rw (← i, ← j)
+          (plug (underMin w (x .2)) (live b (k .state .merit) ∷ []) (alone-front (x .0) (live b _) (sym (x .1))))
 
   replace-front : (k : Taken) → Front r (k .left ++ (k .state ∷ k .right)) → (b : Status)
       → FrontStep r (replace ν Y k b)
@@ -275,11 +282,13 @@ pick-parts Y s [] = refl
 pick-parts Y s (x ∷ xs) = choose-parts (beats Y s (pick Y x xs .state)) s (x ∷ xs) (pick Y x xs) (pick-parts Y x xs)
 
 module _ (ν : ℕ → ℕ) (Y : Layout) (r : Tree) (d : Describes Y r) where
-  step-front : (L : List State) → Front r L → FrontStep r (step ν Y L)
+  -- a step from a front leaves a front
+  pub step-front : (L : List State) → Front r L → FrontStep r (step ν Y L)
   step-front [] f = tt
   step-front (s ∷ ss) f =
       let k = pick Y s ss in
-      replace-front ν Y r (d .answers) (d .top) k (subst (λ l. Front r l) (sym (pick-parts Y s ss)) f) (k .state .status)
+      replace-front ν Y r (d .answers) (d .top) k (subst (λ l. Front r l) (sym (pick-parts Y s ss)) f)
+      (k .state .status)
 
   -- every list that SSS* reaches is a front of the tree
   pub list-front : {k : ℕ} {w : List ℕ} {L : List State} → ListAfter ν Y r k w L → Front r L
@@ -293,7 +302,9 @@ module _ (ν : ℕ → ℕ) (Y : Layout) (r : Tree) (d : Describes Y r) where
   gathered p b A s B f e = let l = located r A s B f in around (l .tree) (l .number-is) (l .within)
     where
       around : (u : Tree) → number u ≡ s .node → {A B : List State} → Within r u A B → Gathered Y r p A B
-      around u i top = absurd (let z : root ≡ under p Max b = sym (d .top) ∙ ap (Y .link) i ∙ e in let y : _≡_ {A = ℕ} 0 1 = cc in omega arith)
+      around u i top =
+          let z : root ≡ under p Max b = sym (d .top) ∙ ap (Y .link) i ∙ e in
+          absurd (let y : _≡_ {A = ℕ} 0 1 = cc in omega arith)
       around u i (underMax {n = n} {ks = ks} {A = A} {B = B} F G w c q t) =
           let h = child-link Y n Max u ks (beside-child ks u F G c) (within-answers Y w (d .answers) .2) in
           let z : under n Max (h .0) ≡ under p Max b = sym (h .1) ∙ ap (Y .link) i ∙ e in
@@ -303,3 +314,24 @@ module _ (ν : ℕ → ℕ) (Y : Layout) (r : Tree) (d : Describes Y r) where
           let h = child-link Y n Min u ks c (within-answers Y w (d .answers) .2) in
           let z : under n Min (h .0) ≡ under p Max b = sym (h .1) ∙ ap (Y .link) i ∙ e in
           absurd (let y : _≡_ {A = ℕ} 0 1 = cc in omega arith)
+
+  -- so what a child of p purges stands together
+  purges : (p : ℕ) (b : Option ℕ) (k : Taken) → Front r (k .left ++ (k .state ∷ k .right))
+      → Y .link (k .state .node) ≡ under p Max b → Together Y p k
+  purges p b k f e =
+      let g = gathered p b (k .left) (k .state) (k .right) f e in
+      record {
+        lastLeft = g .elder;
+        firstRight = g .younger;
+        left = g .before ∙ ap (λ l. l ++ g .elder) (sym (gathered-left Y g));
+        right = g .behind ∙ ap (λ l. g .younger ++ l) (sym (gathered-right Y g));
+        belowLeft = g .elder-below;
+        belowRight = g .younger-below;
+      }
+
+  pub list-together : (L : List State) → Front r L → (k : Taken) → Picks Y L k → (p : ℕ) (b : Option ℕ)
+      → Y .link (k .state .node) ≡ under p Max b → Together Y p k
+  list-together [] f k q p b e = absurd q
+  list-together (s ∷ ss) f k q p b e =
+      purges p b k (subst (λ (x : Taken). Front r (x .left ++ (x .state ∷ x .right))) q
+      (subst (λ l. Front r l) (sym (pick-parts Y s ss)) f)) e

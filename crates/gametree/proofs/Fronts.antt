@@ -1,20 +1,13 @@
--- Every list that SSS* reaches is a front of the tree: one state for a node, or, below a Max node, the fronts of all its
--- children from left to right, below a Min node the front of one child. So the states below a node stand together, and
--- a purge takes the end of what stands before the state taken and the beginning of what stands behind it.
+-- Every list that SSS* reaches is a front of the tree: one state for a node, or, below a Max node, the fronts of all
+-- its children from left to right, below a Min node the front of one child. So the states below a node stand together,
+-- and a purge takes the end of what stands before the state taken and the beginning of what stands behind it.
 use Prim.Native.Nat.{ℕ}
 use native.Mathlib.Omega.{arith}
 use mathlib.Core.Path.{_≡_, refl, sym, _∙_, ap, ap₂, subst}
 use mathlib.Core.Logic.{_⊎_, inl, inr}
-use mathlib.Core.Bool.{Bool, true, false}
-use mathlib.Core.Option.{Option, none, some}
-use mathlib.Core.List.{List, [], _∷_, _++_, map, append-assoc, append-nil}
-use Rattle.gametree.specs.Lists.{All}
-use Rattle.gametree.specs.Tree.{Side, Max, Min, Tree, leaf, inner, Kids, last, _then_, number, In, InKids}
-use Rattle.gametree.specs.Layout.{Kind, tip, fork, root, under, Layout, firstOf, othersOf, Apart, Answers}
-use Rattle.gametree.specs.Layout.{AnswersKids, Describes}
-use Rattle.gametree.specs.Sss.{State, live}
-use Rattle.gametree.proofs.Lists.{all-append, all-map}
-use Rattle.gametree.proofs.Nodes.{number-in}
+use mathlib.Core.List.{List, [], _∷_, _++_, append-assoc, append-nil}
+use Rattle.gametree.specs.Tree.{Side, Max, Min, Tree, leaf, inner, Kids, last, _then_, number}
+use Rattle.gametree.specs.Sss.{State}
 
 -- the list is one state, of node n
 abbrev pub Alone : ℕ → List State → Type 0
@@ -59,7 +52,8 @@ pub data Within (r : Tree) : Tree → List State → List State → Type 0 where
 beside-front : (ks : Kids) (u : Tree) (F G M : List State) → Beside ks u F G → Front u M
     → FrontKids Max ks (F ++ (M ++ G))
 beside-front (last t) u F G M b f =
-    subst (λ L. Front t L) (sym (ap₂ (λ x y. x ++ (M ++ y)) (b .1) (b .2) ∙ append-nil M)) (subst (λ x. Front x M) (b .0) f)
+    subst (λ L. Front t L) (sym (ap₂ (λ x y. x ++ (M ++ y)) (b .1) (b .2) ∙ append-nil M))
+    (subst (λ x. Front x M) (b .0) f)
 beside-front (t then ts) u F G M (inl b) f =
     (M, G, ap (λ x. x ++ (M ++ G)) (b .1), subst (λ x. Front x M) (b .0) f, b .2)
 beside-front (t then ts) u F G M (inr b) f = (
@@ -91,7 +85,8 @@ data Split (A : List State) (s : State) (B F G : List State) : Type 0 where
   inSecond : (C : List State) → A ≡ F ++ C → G ≡ C ++ (s ∷ B) → Split A s B F G
 
 by-split : {R : Type 0} {A : List State} {s : State} {B F G : List State} → Split A s B F G
-    → ((C : List State) → F ≡ A ++ (s ∷ C) → B ≡ C ++ G → R) → ((C : List State) → A ≡ F ++ C → G ≡ C ++ (s ∷ B) → R) → R
+    → ((C : List State) → F ≡ A ++ (s ∷ C) → B ≡ C ++ G → R)
+    → ((C : List State) → A ≡ F ++ C → G ≡ C ++ (s ∷ B) → R) → R
 by-split (inFirst C p q) f g = f C p q
 by-split (inSecond C p q) f g = g C p q
 

@@ -7,8 +7,8 @@ use mathlib.Core.List.{List}
 use lib.Dec.{ltb, eqb}
 use borrow.Author.Tests.{eqb-true, eqb-false, lt-ltb, eq-eqb, ne-eqb}
 use Rattle.gametree.specs.Lists.{All, among}
-use Rattle.gametree.specs.Tree.{Side, Max, Min, Tree, leaf, inner, Kids, last, _then_, least, greatest, better}
-use Rattle.gametree.specs.Tree.{minimax, minimaxKids, number, Scored, ScoredKids}
+use Rattle.gametree.specs.Tree.{Side, Max, Min, Tree, leaf, inner, Kids, last, _then_, least, greatest, minimax}
+use Rattle.gametree.specs.Tree.{minimaxKids, number, Scored, ScoredKids}
 use Rattle.gametree.specs.Bounds.{known, Decided}
 use Rattle.gametree.specs.AlphaBeta.{raise, lower, clamp, alphaBeta, alphaBetaKids, fullWindow}
 use Rattle.gametree.specs.Certificate.{worst}
@@ -16,7 +16,7 @@ use Rattle.gametree.specs.Move.{firstWith, rootMove, boundMove}
 use Rattle.gametree.proofs.Bounds.{minimax-score, low≤, ≤high, known-local}
 use Rattle.gametree.proofs.Lists.{all-among}
 use Rattle.gametree.proofs.Window.{alphaBeta-value, onward-first, onward-rest, known-exact, alphaBeta-decided}
-use Rattle.gametree.proofs.Solution.{Under, under-refl}
+use Rattle.gametree.proofs.Solution.{Under, under-refl, under-both}
 
 -- of each child up to the first that has the value v under ν: if it has it under ν, it has it under μ
 abbrev pub Shown : (μ ν : ℕ → ℕ) → ℕ → Kids → Type 0
@@ -32,10 +32,6 @@ bound-under Min ν E t h = ≤high ν E t h
 under-same : (p : Side) (x m v : ℕ) → Under p x m → Under p m v → x ≡ v → m ≡ v
 under-same Max x m v h k e = omega arith
 under-same Min x m v h k e = omega arith
-
-under-split : (p : Side) (a b v : ℕ) → Under p (better p a b) v → Under p a v × Under p b v
-under-split Max a b v h = omega arith
-under-split Min a b v h = omega arith
 
 -- the test of a child gives the same by the bound and by the value
 test-same : (p : Side) (x m v : ℕ) → Under p x m → Under p m v → (m ≡ v → x ≡ v) → eqb x v ≡ eqb m v
@@ -56,7 +52,7 @@ first-same : (p : Side) (ν : ℕ → ℕ) (E : ℕ → Bool) (v : ℕ) (ks : Ki
 first-same p ν E v (last t) h u s =
     pick-same _ _ (number t) 0 0 (test-same p _ _ v (bound-under p ν E t h) u s) (λ _. refl)
 first-same p ν E v (t then ts) h u s =
-    let w = under-split p (minimax ν t) (minimaxKids ν p ts) v u in
+    let w = under-both p (minimax ν t) (minimaxKids ν p ts) v u in
     pick-same _ _ (number t) _ _ (test-same p _ _ v (bound-under p ν E t (h .0)) (w .0) (s .0))
     (λ e. first-same p ν E v ts (h .1) (w .1) (s .1 (eqb-false (minimax ν t) v e)))
 
@@ -83,7 +79,7 @@ alphaBeta-shown ν E p α β v x (t then ts) h k u c =
     let a = raise p α (r .value) in
     let b = lower p β (r .value) in
     let q = alphaBetaKids ν p a b ts in
-    let w = under-split p (minimax ν t) (minimaxKids ν p ts) v u in
+    let w = under-both p (minimax ν t) (minimaxKids ν p ts) v u in
     let o : α < β = omega arith in (
       λ e. known-exact ν E α β x t (onward-first (λ n. E n ≡ true) (ltb a b) r q c) (rw e h) (rw e k) ∙ e,
       λ f.

@@ -38,10 +38,9 @@ use Rattle.gametree.proofs.Frontier.{AtMost, frontier, frontierKids, Re
 use Rattle.gametree.proofs.Frontier.{statesKids, ready-below, kids-fresh, fitted-fresh, fitted-ready}
 use Rattle.gametree.proofs.Frontier.{states-fresh, states-ready, fresh-atMost, pass-notBelow, notBelow-again}
 use Rattle.gametree.proofs.Frontier.{fresh-not-below, next}
-use Rattle.gametree.proofs.Around.{frontier-within, statesKids-within, AroundTree, AroundKids, narrow, Under}
-use Rattle.gametree.proofs.Around.{under-none, under-more, under-together, around-first, around-rest, handed}
-use Rattle.gametree.proofs.Around.{handed-clear, room-one, room-frontier, room-handed, takes-leaf, takes-inner}
-use Rattle.gametree.proofs.Around.{takes-max, takes-last, takes-next}
+use Rattle.gametree.proofs.Around.{frontier-within, statesKids-within, AroundTree, AroundKids, narrow}
+use Rattle.gametree.proofs.Around.{around-first, around-rest, handed, handed-clear, room-one, room-frontier}
+use Rattle.gametree.proofs.Around.{room-handed, takes-leaf, takes-inner, takes-max, takes-last, takes-next}
 use Rattle.gametree.proofs.Work.{fullKids, part, partKids, work, workKids, work-fresh, work-ready, work-positive}
 
 -- SSS* does what a pass does at a node, whose states are F: found below, they become the node's frontier; found not
@@ -136,7 +135,6 @@ module _ (ν : ℕ → ℕ) (Y : Layout) (γ : ℕ) (g : γ ≤ greatest) where
 
   -- the first by A, with the states G of its brothers behind it, the others by B
   sim-max : (n : ℕ) (t : Tree) (ts : Kids) (m : MemoKids (t then ts)) (a b : ℕ) (F G L R : List State) → 0 < b
-      → Under Y n L R
       → Y .link (number t) ≡ under n Max (some (firstOf ts)) → AroundTree Y γ t L (G ++ R)
       → All (λ s. Y .above n (s .node) ≡ true) G
       → All (λ s. Y .above n (s .node) ≡ true) (frontier ν t (pass ν γ t (m .first) .next))
@@ -144,8 +142,8 @@ module _ (ν : ℕ → ℕ) (Y : Layout) (γ : ℕ) (g : γ ≤ greatest) where
       → (pass ν γ t (m .first) .notBelow ≡ false
       → SimKids ν Y γ n Max ts b G (L ++ frontier ν t (pass ν γ t (m .first) .next)) R (passKids ν γ Max ts (m .rest)))
       → SimKids ν Y γ n Max (t then ts) (a + b) (F ++ G) L R (passKids ν γ Max (t then ts) m)
-  sim-max n t ts m a b F G L R pos z link u gin fin A B =
-      let hand = takes-max ν Y γ t L (G ++ R) u n _ link (under-together Y n L R z (solved (number t) γ) G gin) in
+  sim-max n t ts m a b F G L R pos link u gin fin A B =
+      let hand = takes-max ν Y γ t L (G ++ R) u n _ link in
       let F′ = frontier ν t (pass ν γ t (m .first) .next) in
       let G′ = frontierKids ν Max ts (passKids ν γ Max ts (m .rest) .next) in
       let c = part t (pass ν γ t (m .first) .next) in
@@ -229,7 +227,7 @@ module _ (ν : ℕ → ℕ) (Y : Layout) (γ : ℕ) (g : γ ≤ greatest) where
         let C = handed-clear Y γ n s ks L R a in
         let S =
         simKids n s ks (m .kids) (fitted-fresh s ks (m .kids) f) (p .2) h (k .1) (fresh-atMost ν γ s ks (m .kids) f)
-        (p .1) L R (under-none Y γ n s ks L R a) (narrow (λ p i. inr i) (omega arith) a) in
+        (p .1) L R (narrow (λ p i. inr i) (omega arith) a) in
         let entry = takes-inner ν Y γ (inner n s ks) L R a s (firstOf ks) (othersOf ks) (p .0) in
         sim-inner n s ks m (inl e) L R a
         (record {
@@ -242,7 +240,7 @@ module _ (ν : ℕ → ℕ) (Y : Layout) (γ : ℕ) (g : γ ≤ greatest) where
         let C = handed-clear Y γ n s ks L R a in
         let S =
         simKids n s ks (m .kids) (fitted-ready s ks (m .kids) (r .1)) (p .2) h (k .1) (rw E b) (p .1) L R
-        (under-none Y γ n s ks L R a) (narrow (λ p i. inr i) (omega arith) a) in
+        (narrow (λ p i. inr i) (omega arith) a) in
         sim-inner n s ks m (inr r) L R a
         (record {
           below = λ x d. rw (E, W) at (S .below x d);
@@ -251,18 +249,18 @@ module _ (ν : ℕ → ℕ) (Y : Layout) (γ : ℕ) (g : γ ≤ greatest) where
 
     simKids : (n : ℕ) (s : Side) (ks : Kids) (m : MemoKids ks) (w : FittedKids s ks m) → AnswersKids Y n s ks
         → ScoredKids ν ks → KeptKids ν γ ks m → AtMost γ (statesKids ν γ s ks m w)
-        → ((p : ℕ) → InKids p ks → Y .above n p ≡ true) → (L R : List State) → Under Y n L R → AroundKids Y γ ks L R
+        → ((p : ℕ) → InKids p ks → Y .above n p ≡ true) → (L R : List State) → AroundKids Y γ ks L R
         → SimKids ν Y γ n s ks (workKids s ks m w) (statesKids ν γ s ks m w) L R (passKids ν γ s ks m)
-    simKids n s (last t) m w p h k b i L R z a =
+    simKids n s (last t) m w p h k b i L R a =
         let S = sim t m w (p .1) h k b L R a in
-        let hand = takes-last ν Y γ t L R a s n (p .0) (under-together Y n L R z (solved (number t) γ) [] tt) in
+        let hand = takes-last ν Y γ t L R a s n (p .0) in
         record {
           below = λ x d. allow (omega arith) (spare (S .below (suc x) d) (omega arith));
           above =
               λ x d. hand-up (work t m w) x (λ c. S .above c d) hand
               (room-handed ν Y γ t L R a s n (solved n γ));
         }
-    simKids n Max (t then ts) m w p h k b i L R z a =
+    simKids n Max (t then ts) m w p h k b i L R a =
         let F = states ν γ t (m .first) (w .0) in
         let G = statesKids ν γ Max ts (m .rest) (w .1) in
         let F′ = frontier ν t (pass ν γ t (m .first) .next) in
@@ -274,22 +272,22 @@ module _ (ν : ℕ → ℕ) (Y : Layout) (γ : ℕ) (g : γ ≤ greatest) where
         let u = around-first Y γ t ts L R (p .1) a G bG gin in
         let lower = all-map _ _ (λ s j. i (s .node) (inl j)) F′ (fin .nodes) in
         sim-max n t ts m (work t (m .first) (w .0)) (workKids Max ts (m .rest) (w .1)) F G L R
-        (work-positive Max ts (m .rest) (w .1)) z (p .0) u
+        (work-positive Max ts (m .rest) (w .1)) (p .0) u
         (all-map _ _ (λ s j. i (s .node) (inr j)) G (gin .nodes)) lower
         (sim t (m .first) (w .0) (p .2) (h .0) (k .0) bF L (G ++ R) u)
         (λ e. simKids n Max ts (m .rest) (w .1) (p .3) (h .1) (k .1) bG (λ x j. i x (inr j)) (L ++ F′) R
-        (under-more Y n L R z F′ lower) (around-rest Y γ t ts L R (p .1) a F′ (N e .1) fin))
-    simKids n Min (t then ts) m (inl w) p h k b i L R z a =
+        (around-rest Y γ t ts L R (p .1) a F′ (N e .1) fin))
+    simKids n Min (t then ts) m (inl w) p h k b i L R a =
         let A = notBelow-again ν γ t (m .first) (h .0) (k .0) (w .0) in
         sim-min-found n t ts m (workKids Min ts (m .rest) (w .1)) (statesKids ν γ Min ts (m .rest) (w .1)) L R
         (A .0) (A .1)
-        (simKids n Min ts (m .rest) (w .1) (p .3) (h .1) (k .1) b (λ x j. i x (inr j)) L R z
+        (simKids n Min ts (m .rest) (w .1) (p .3) (h .1) (k .1) b (λ x j. i x (inr j)) L R
         (narrow (λ p i. inr i) (omega arith) a))
-    simKids n Min (t then ts) m (inr w) p h k b i L R z a =
+    simKids n Min (t then ts) m (inr w) p h k b i L R a =
         let f = w .1 in
         let B =
         simKids n Min ts (m .rest) (fitted-fresh Min ts (m .rest) f) (p .3) (h .1) (k .1)
-        (fresh-atMost ν γ Min ts (m .rest) f) (λ x j. i x (inr j)) L R z (narrow (λ p i. inr i) (omega arith) a) in
+        (fresh-atMost ν γ Min ts (m .rest) f) (λ x j. i x (inr j)) L R (narrow (λ p i. inr i) (omega arith) a) in
         let E = states-fresh ν γ Min ts (m .rest) f in
         let W = work-fresh Min ts (m .rest) f in
         let u : AroundTree Y γ t L R = narrow (λ p i. inl i) (omega arith) a in

@@ -2,16 +2,15 @@
 use Prim.Native.Nat.{ℕ, suc, _+_, _*_, _≤_, _<_}
 use native.Mathlib.Omega.{arith}
 use mathlib.Core.Path.{_≡_, refl, sym, _∙_, ap, subst}
-use mathlib.Core.Option.{Option}
 use mathlib.Core.List.{List, [], _∷_, _++_, append-assoc}
 use lib.ListN.{length}
-use Rattle.gametree.specs.Tree.{Max, Tree, minimax, size, Scored}
+use Rattle.gametree.specs.Tree.{Tree, minimax, size, Scored}
 use Rattle.gametree.specs.Mtd.{mtd}
-use Rattle.gametree.specs.Layout.{under, Layout, Describes}
-use Rattle.gametree.specs.Sss.{SOLVED, Taken, Picks, Together, Step, takenMerit, State, empty, stop, quiet}
-use Rattle.gametree.specs.Sss.{evaluating, step, End, Ran, runFrom, start, sssOver, ListAfter, atStart}
-use Rattle.gametree.specs.Sss.{afterQuiet, afterEvaluating, resumed, stepFirst}
-use Rattle.gametree.proofs.SssSteps.{Takes, Steps, done, quietly, evaluates, picks-unique}
+use Rattle.gametree.specs.Layout.{Layout, Describes}
+use Rattle.gametree.specs.Sss.{Step, takenMerit, State, empty, stop, quiet, evaluating, step, End, Ran, runFrom}
+use Rattle.gametree.specs.Sss.{start, sssOver, ListAfter, atStart, afterQuiet, afterEvaluating, resumed}
+use Rattle.gametree.specs.Sss.{stepFirst}
+use Rattle.gametree.proofs.SssSteps.{Takes, Steps, done, quietly, evaluates}
 use Rattle.gametree.proofs.MtdValue.{mtd-right}
 use Rattle.gametree.proofs.Merits.{steps-fall}
 use Rattle.gametree.proofs.Work.{full, full-size}
@@ -83,9 +82,6 @@ pub record Reaching (ν : ℕ → ℕ) (Y : Layout) (t : Tree) (W : List ℕ) (k
   pub state : step ν Y L ≡ empty → ⊥
   -- the first state of greatest merit on it is the one taken
   pub first : stepFirst ν Y L ≡ step ν Y L
-  -- what a purge takes away stands together
-  pub together : (k : Taken) → Picks Y L k → k .state .status ≡ SOLVED → (p : ℕ) (b : Option ℕ)
-      → Y .link (k .state .node) ≡ under p Max b → Together Y p k
   -- fewer replacements than twice the number of nodes led to it
   pub few : k < 2 * size t
   -- the state taken has no less merit than the tree has value
@@ -107,10 +103,6 @@ module _ (ν : ℕ → ℕ) (Y : Layout) (t : Tree) (d : Describes Y t) (h : Sco
         fits = x .room;
         state = ahead-state ν Y _ (mtd ν t .evaluated) (full t) v e (a .steps);
         first = x .by-list ∙ sym (x .by-tree);
-        together = λ k q.
-            subst (λ j. j .state .status ≡ SOLVED → (p : ℕ) (b : Option ℕ)
-            → Y .link (j .state .node) ≡ under p Max b → Together Y p j)
-            (picks-unique Y L (x .taken) k (x .picks) q) (x .together);
         few = omega (arith, a .few, full-size t);
         merit = rw (← mtd-right ν t h .value) (steps-fall ν Y (a .steps));
         toCome = a .toCome;

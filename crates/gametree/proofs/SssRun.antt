@@ -96,7 +96,6 @@ pub root-stops : (ν : ℕ → ℕ) (Y : Layout) (t : Tree) (v : ℕ) → Y .lin
     → Takes ν Y (solved (number t) v ∷ []) (stop v)
 root-stops ν Y t v o z =
     takes ν Y v t [] [] (alone Y v t z) SOLVED (stop v) (rw o refl)
-    (λ _ p b e. absurd (let x : _≡_ {A = ℕ} 0 1 = cc in omega arith))
 
 -- from the LIVE root MTD's leaves are evaluated
 pub mtd-steps : (ν : ℕ → ℕ) (Y : Layout) (t : Tree) → Answers Y t → size t ≤ Y .nodes → Scored ν t

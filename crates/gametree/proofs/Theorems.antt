@@ -16,8 +16,8 @@ use Rattle.gametree.specs.Bounds.{known, low, high, bestOf, Decided}
 use Rattle.gametree.specs.AlphaBeta.{reached, clamp, alphaBeta, fullWindow}
 use Rattle.gametree.specs.Mtd.{Memo, memoHigh, pass, fresh, mtd, Marks}
 use Rattle.gametree.specs.Layout.{under, Layout, Describes, SameOn, layoutOf}
-use Rattle.gametree.specs.Sss.{SOLVED, Taken, Picks, Together, takenMerit, State, empty, step, finished, runFrom}
-use Rattle.gametree.specs.Sss.{start, sssOver, ListAfter, resumed, stepFirst, sssFirst}
+use Rattle.gametree.specs.Sss.{Taken, Picks, Together, takenMerit, State, empty, step, finished, runFrom, start}
+use Rattle.gametree.specs.Sss.{sssOver, ListAfter, resumed, stepFirst, sssFirst}
 use Rattle.gametree.specs.Certificate.{Rule, SolutionTree, solutionValue, Certifies, pairLeaves, inside, chosen}
 use Rattle.gametree.specs.Certificate.{ReadOff, fill, flag, Smallest, FlagsCertify}
 use Rattle.gametree.specs.Counting.{members, required, certificate?}
@@ -40,7 +40,8 @@ use Rattle.gametree.proofs.Merits.{list-unique, run-falls, merits-cappe
 use Rattle.gametree.proofs.SssLists.{list-reached, resume}
 use Rattle.gametree.proofs.SssLocal.{runFrom-local}
 use Rattle.gametree.proofs.OwnLayout.{own-layout}
-use Rattle.gametree.proofs.SssLayouts.{sss-alike, list-within}
+use Rattle.gametree.proofs.FrontSteps.{front-in, list-front, list-together}
+use Rattle.gametree.proofs.SssLayouts.{sss-alike}
 use Rattle.gametree.proofs.Solution.{solution-bound, certified, rule-counted, counted-rule}
 use Rattle.gametree.proofs.Checker.{certificate-passes, passed-certifies}
 use Rattle.gametree.proofs.ReadOff.{fits, read-unique}
@@ -151,7 +152,7 @@ module _ (ν : ℕ → ℕ) (t : Tree) (h : Scored ν t) (Y : Layout) (d : Descr
 
     -- its states are of nodes of the tree
     pub list-nodes : All (λ s. In (s .node) t) L
-    list-nodes = list-within ν Y t d r
+    list-nodes = front-in t L (list-front ν Y t d r)
 
     -- and have merits of at most `greatest`
     pub list-merits : All (λ s. s .merit ≤ greatest) L
@@ -165,10 +166,10 @@ module _ (ν : ℕ → ℕ) (t : Tree) (h : Scored ν t) (Y : Layout) (d : Descr
     pub list-first : stepFirst ν Y L ≡ step ν Y L
     list-first = list-reached ν Y t d h r .first
 
-    -- the states that a SOLVED child of a Max node purges are the last before it and the first behind it
-    pub list-purge : (k : Taken) → Picks Y L k → k .state .status ≡ SOLVED → (p : ℕ) (b : Option ℕ)
-        → Y .link (k .state .node) ≡ under p Max b → Together Y p k
-    list-purge = list-reached ν Y t d h r .together
+    -- the states that a child of a Max node purges are the last before it and the first behind it
+    pub list-purge : (k : Taken) → Picks Y L k → (p : ℕ) (b : Option ℕ) → Y .link (k .state .node) ≡ under p Max b
+        → Together Y p k
+    list-purge = list-together ν Y t d L (list-front ν Y t d r)
 
     -- fewer replacements than twice the number of nodes led to it
     pub list-few : k < 2 * size t

@@ -12,7 +12,7 @@ use Rattle.gametree.specs.declared.Side.{Side}
 use Rattle.gametree.specs.Tree.{Tree, leaf, inner, Kids, last, _then_, greatest, better, minimaxKids, In, InKids}
 use Rattle.gametree.specs.Bounds.{known, high}
 use Rattle.gametree.specs.Mtd.{memoHigh, memoHighKids}
-use Rattle.gametree.proofs.MemoArrays.{Bits, readMemo, readMemoKids}
+use Rattle.gametree.specs.MemoArrays.{Bits, readMemo, readMemoKids}
 use Rattle.certificate.specs.Buffer.{marked, markAll}
 use Rattle.certificate.proofs.Buffers.{markAll-append}
 use Rattle.mtd.specs.Memory.{Memory, Room, Evaluated}

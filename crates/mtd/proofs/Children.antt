@@ -11,7 +11,8 @@ use Rattle.gametree.specs.declared.Side.{Side}
 use Rattle.gametree.specs.Tree.{Tree, leaf, inner, Kids, last, _then_, size, sizeKids, In, InKids}
 use Rattle.gametree.specs.Mtd.{Memo, MemoKids, Pass, PassKids, memoHighKids, settles, joined, pass, passKids}
 use Rattle.gametree.proofs.Choice.{cond-cases}
-use Rattle.gametree.proofs.MemoArrays.{readMemoKids, VisitedKids, rest-same, visit-ended, visit-joined}
+use Rattle.gametree.specs.MemoArrays.{readMemoKids, VisitedKids}
+use Rattle.gametree.proofs.MemoArrays.{rest-same, visit-ended, visit-joined}
 use Rattle.frames.specs.Tree.{kidsFrom, valuation}
 use Rattle.certificate.specs.Buffer.{marked}
 use Rattle.mtd.specs.declared.Tried.{Tried}
@@ -98,7 +99,7 @@ module _ {t : List ℕ} {γ : ℕ} {s : Side} {ks : Kids} {m m′ m″ : Memory}
 
   -- the last child's answer is the node's
   pub owes-last : Owes t γ s ks (last T) m m′ n → PassedKids t γ s ks m m″ (r .answer) (n + r .leaves)
-  owes-last o = owes-end o refl refl (record { got = p .memo .got; frame = p .memo .frame })
+  owes-last o = owes-end o refl refl (record { got = p .memo .got; elsewhere = p .memo .elsewhere })
 
   module _ {ts : Kids} (d : (k : ℕ) → In k T → InKids k ts → ⊥) (o : Owes t γ s ks (T then ts) m m′ n) where
     -- so is that of a child that settles its parent

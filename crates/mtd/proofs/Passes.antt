@@ -51,7 +51,7 @@ module _ (t : List ℕ) (i γ : ℕ) (m : Memory) (r : Tried) (is-leaf : treeAt 
         memo =
             record {
               got = ap₂ {C = Memo (leaf i)} (λ x y. record { evaluated = x; notBelow = y }) e (f ∙ a);
-              frame = λ p h. (marked-other (m .evaluated) i p 1 h, marked-other (m .found) i p _ h);
+              elsewhere = λ p h. (marked-other (m .evaluated) i p 1 h, marked-other (m .found) i p _ h);
             };
         right = λ k h. rw (h, is-leaf, e) (getD-set-same (m .highs) i (valuation t i) 0 (omega (arith, room .highs)));
         others = λ k h. getD-set-other (m .highs) i k (valuation t i) 0 h;
@@ -66,7 +66,7 @@ stay-passed t T γ m r n e h =
       evaluated =
           subst (λ q. Evaluated (m .evaluated) (m .evaluated) (r .leaves) (q .evaluated)) (sym e)
           (rw n (evaluated-none (m .evaluated)));
-      memo = record { got = ap (λ q. q .next) (sym e); frame = λ p h. (refl, refl) };
+      memo = record { got = ap (λ q. q .next) (sym e); elsewhere = λ p h. (refl, refl) };
       right = h;
       others = λ k h. refl;
     }
@@ -115,9 +115,9 @@ module _ (t : List ℕ) (i γ : ℕ) (m : Memory) (s : Side) (ks : Kids) (is-inn
                     ap₂ {C = Memo (inner i s ks)} (λ x y. record { notBelow = x; kids = y }) (own ∙ q .answer)
                     (flags ∙ q .memo .got)
                     ∙ ap (λ x. x .next) (sym enters);
-                frame = λ p x. (
-                  q .memo .frame p (λ y. x (inr y)) .0,
-                  marked-other (m′ .found) i p _ (λ e. x (inl e)) ∙ q .memo .frame p (λ y. x (inr y)) .1,
+                elsewhere = λ p x. (
+                  q .memo .elsewhere p (λ y. x (inr y)) .0,
+                  marked-other (m′ .found) i p _ (λ e. x (inl e)) ∙ q .memo .elsewhere p (λ y. x (inr y)) .1,
                 );
               };
           right = λ k x.

@@ -12,7 +12,7 @@ use Rattle.gametree.specs.Tree.{leafCountKids, In, InKids}
 use Rattle.gametree.specs.Mtd.{Memo, MemoKids, memoHigh, pass, Run, settled, followed, run, fresh, freshKids, mtd}
 use Rattle.gametree.specs.Searches.{byMtd}
 use Rattle.gametree.proofs.Choice.{cond-cases}
-use Rattle.gametree.proofs.MemoArrays.{Bits, readMemo, readMemoKids}
+use Rattle.gametree.specs.MemoArrays.{Bits, readMemo, readMemoKids}
 use Rattle.gametree.proofs.MtdSound.{Kept, Sound, sound}
 use Rattle.gametree.proofs.MtdValue.{kept-lower, fresh-kept, fresh-memoHigh}
 use Rattle.gametree.proofs.Theorems.{search-count}
@@ -145,13 +145,13 @@ run-first ν f γ T m =
 module _ {t : List ℕ} {q : Run (tree t)} {m m′ : Memory} {test leaves passes : ℕ} (wf : WellFormed t)
     (u : Passing t q m m′ test leaves passes) where
   -- what the next pass asks
-  pub passing-ready : Room (frames t) m → Ready t m′ rootPlace 0
+  pub passing-ready : Room (frames t) m → Ready t m′ 0 rootPlace
   passing-ready room =
       record {
         formed = wf;
         inside = wf .some;
         few = omega (arith, tree-size t wf, wf .few);
-        stands = sym (place-root t);
+        placed = sym (place-root t);
         room = room-kept room (u .long);
         right = u .right;
       }

@@ -1,8 +1,8 @@
 -- The child loop of node i over the table: its children are the numbers from `first` up to `end`, and a turn visits the
 -- next of them.
-use Prim.Native.Nat.{ℕ, zero, suc, _+_, _-_, _≤_, _<_}
+use Prim.Native.Nat.{ℕ, suc, _+_, _-_, _≤_, _<_}
 use native.Mathlib.Omega.{arith}
-use native.Mathlib.Decide.{ℕ-discrete, decLe}
+use native.Mathlib.Decide.{ℕ-discrete}
 use mathlib.Core.Path.{_≡_, refl, sym, ap, ap₂, _∙_, subst}
 use mathlib.Core.Bool.{Bool, true, false, _||_}
 use mathlib.Core.List.{List}
@@ -11,7 +11,7 @@ use lib.ListN.{getD}
 use borrow.Author.Tests.{eqb-false, ne-eqb}
 use Rattle.gametree.specs.declared.Place.{Place}
 use Rattle.gametree.specs.declared.Side.{Side}
-use Rattle.gametree.specs.Tree.{Tree, inner, Kids, last, _then_, size, sizeKids, In, InKids}
+use Rattle.gametree.specs.Tree.{inner, Kids, last, _then_, size, In, InKids}
 use Rattle.gametree.specs.Mtd.{settles}
 use Rattle.gametree.proofs.Choice.{or-false-both}
 use Rattle.frames.specs.Frame.{maxNodes, frames, firstChild, childCount}
@@ -19,10 +19,9 @@ use Rattle.frames.specs.Place.{childPlace, sideOf}
 use Rattle.frames.specs.Tree.{kidsFrom, treeAt, valuation}
 use Rattle.frames.specs.Formed.{WellFormed, ChildOf}
 use Rattle.frames.proofs.Next.{child-within, children-within}
-use Rattle.frames.proofs.Parents.{bottom-up}
 use Rattle.frames.proofs.Places.{place-child}
-use Rattle.frames.proofs.Trees.{in-kids, kids-in, tree-inner}
-use Rattle.frames.proofs.Nodes.{in-tree-cases, in-parent, children-apart}
+use Rattle.frames.proofs.Trees.{in-kids, kids-in, kid-size, tree-inner}
+use Rattle.frames.proofs.Nodes.{in-parent, in-trans, children-apart}
 use Rattle.mtd.specs.declared.Tried.{Tried}
 use Rattle.mtd.specs.Memory.{Memory, HighsRight, Ready, Passed}
 use Rattle.mtd.proofs.Arrays.{high-local, Long, room-kept}
@@ -59,24 +58,6 @@ kids-more : (t : List ℕ) (i end : ℕ) → i + 1 < end → kidsUpTo t i end �
 unfolding kidsFrom
 kids-more t i end h = let z : end - (i + 1) ≡ suc (end - (i + 1 + 1)) = omega arith in rw z
 
--- a child's tree is no larger than all of them together
-kid-size : (g : ℕ → Tree) (i n k : ℕ) → i ≤ k → k ≤ i + n → size (g k) ≤ sizeKids (kidsFrom g i n)
-unfolding kidsFrom
-kid-size g i zero k a b = let e : k ≡ i = omega arith in rw e (omega arith)
-kid-size g i (suc n) k a b =
-    elim (decLe k i) [
-      | yes l ↦ (let e : k ≡ i = omega arith in rw e (omega arith))
-      | no l ↦ omega (arith, kid-size g (i + 1) n k (omega arith) (omega arith))
-    ]
-
--- the nodes below a node of a tree are in that tree
-in-below : (t : List ℕ) → WellFormed t → (j : ℕ) → j < frames t → (k p : ℕ) → In k (treeAt t j) → In p (treeAt t k)
-    → In p (treeAt t j)
-in-below t wf =
-    bottom-up t wf (λ j. (k p : ℕ) → In k (treeAt t j) → In p (treeAt t k) → In p (treeAt t j)) (λ j h f k p x y.
-    in-tree-cases t wf j k h x (λ e. subst (λ n. In p (treeAt t n)) e y)
-    (λ c d z. in-parent t wf h d p (f c d k p z y)))
-
 -- node i has the children from `first` up to `end`
 pub record Family (t : List ℕ) (i first end : ℕ) : Type 0 where
   pub formed : WellFormed t
@@ -107,7 +88,7 @@ module _ {t : List ℕ} {i first end : ℕ} (family : Family t i first end) wher
       omega (arith, children-within t wf i inside (omega (arith, family .to)), family .from, family .to)
 
   -- before the first child
-  pub turn-first : {γ : ℕ} {m : Memory} {p : Place} → Ready t m p i → first < end
+  pub turn-first : {γ : ℕ} {m : Memory} {p : Place} → Ready t m i p → first < end
       → Turn t (p .side) γ first end m m 0 first
   turn-first {γ} {m} {p} ready some =
       record {
@@ -128,8 +109,8 @@ module _ {t : List ℕ} {i first end : ℕ} (family : Family t i first end) wher
   turn-child u = child _ (u .from) (u .to)
 
   -- what the visit of the next child asks
-  pub turn-ready : {s : Side} {γ : ℕ} {m m′ : Memory} {leaves now : ℕ} {p q : Place} → Ready t m p i
-      → Turn t s γ first end m m′ leaves now → q ≡ childPlace t p now → Ready t m′ q now
+  pub turn-ready : {s : Side} {γ : ℕ} {m m′ : Memory} {leaves now : ℕ} {p q : Place} → Ready t m i p
+      → Turn t s γ first end m m′ leaves now → q ≡ childPlace t now p → Ready t m′ now q
   turn-ready {s} {γ} {m} {m′} {leaves} {now} {p} {q} r u e =
       let c = turn-child u in
       let n = end - (first + 1) in
@@ -138,7 +119,7 @@ module _ {t : List ℕ} {i first end : ℕ} (family : Family t i first end) wher
         formed = wf;
         inside = child-within t wf inside c;
         few = omega (arith, kid-size (treeAt t) first n now (u .from) (omega (arith, u .to)), r .few);
-        stands = e ∙ ap (λ p. childPlace t p now) (r .stands) ∙ sym (place-child t wf inside c);
+        placed = e ∙ ap (λ p. childPlace t now p) (r .placed) ∙ sym (place-child t wf inside c);
         room = room-kept (r .room) (u .long);
         right = u .highs .right now (u .from) (u .to);
       }
@@ -160,9 +141,9 @@ module _ {t : List ℕ} {i first end : ℕ} (family : Family t i first end) wher
               let out : (q : ℕ) → In q (treeAt t k) → In q (treeAt t now) → ⊥ = λ q y z.
               e (children-apart t wf inside (child k a b) (turn-child u) q y z)
               in
-              let below = in-below t wf k (child-within t wf inside (child k a b)) j in
+              let below = in-trans t wf k (child-within t wf inside (child k a b)) j in
               p .others j (out j x) ∙ u .highs .right k a b j x
-              ∙ high-local (valuation t) _ _ (treeAt t j) (λ q y. sym (p .memo .frame q (out q (below q x y)) .0)))
+              ∙ high-local (valuation t) _ _ (treeAt t j) (λ q y. sym (p .memo .elsewhere q (out q (below q x y)) .0)))
         ]
 
     still : Highs t first end m m″

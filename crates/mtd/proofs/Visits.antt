@@ -31,9 +31,9 @@ passed-at : {t : List ℕ} {T U : Tree} {γ : ℕ} {m m′ : Memory} {r : Tried}
 passed-at {t} {T} {U} {γ} {m} {m′} {r} e p = subst (λ T. Passed t T γ m m′ r) (sym e) p
 
 -- a node's depth is small
-pub ready-shallow : {t : List ℕ} {m : Memory} {p : Place} {i : ℕ} → Ready t m p i → p .depth ≤ maxNodes
+pub ready-shallow : {t : List ℕ} {m : Memory} {p : Place} {i : ℕ} → Ready t m i p → p .depth ≤ maxNodes
 ready-shallow {t} {m} {p} {i} r =
-    omega (arith, depth-at-most t i, r .inside, r .formed .few, ap (λ p. p .depth) (r .stands))
+    omega (arith, depth-at-most t i, r .inside, r .formed .few, ap (λ p. p .depth) (r .placed))
 
 -- a leaf
 module _ (t : List ℕ) (wf : WellFormed t) (i : ℕ) (inside : i < frames t) (none : childCount t i ≡ 0) (m : Memory) where
@@ -55,10 +55,10 @@ module _ (t : List ℕ) (wf : WellFormed t) (i : ℕ) (inside : i < frames t) (n
       (leaf-passed t i γ m (record { answer = b; leaves = n }) is-leaf here (a ∙ ap (leb γ) score) l))
 
 -- an inner node
-module _ {t : List ℕ} {i first end : ℕ} (family : Family t i first end) {m : Memory} {p : Place} (ready : Ready t m p i)
+module _ {t : List ℕ} {i first end : ℕ} (family : Family t i first end) {m : Memory} {p : Place} (ready : Ready t m i p)
     (some : first < end) where
   node-inner : treeAt t i ≡ inner i (p .side) (kidsUpTo t first end)
-  node-inner = tree-kids family (p .side) (ap (λ p. p .side) (ready .stands)) some
+  node-inner = tree-kids family (p .side) (ap (λ p. p .side) (ready .placed)) some
 
   right-inner : HighsRight t m (inner i (p .side) (kidsUpTo t first end))
   right-inner = subst (HighsRight t m) node-inner (ready .right)

@@ -2,38 +2,29 @@
 -- marks are those of MTD's leaves.
 use Prim.Native.Nat.{ℕ, _≤_}
 use native.Mathlib.Omega.{arith}
-use mathlib.Core.Path.{_≡_, refl, ap, _∙_}
-use mathlib.Core.Option.{none, some}
-use mathlib.Core.List.{List, [], _∷_}
+use mathlib.Core.Path.{_≡_, ap, _∙_}
+use mathlib.Core.List.{List}
 use lib.Dec.{eqb}
 use lib.ListN.{length, replicate, length-replicate, getD-replicate}
 use lib.IntN.{ℤ}
-use Rattle.gametree.specs.Lists.{among}
 use Rattle.gametree.specs.Tree.{greatest, minimax}
 use Rattle.gametree.specs.Mtd.{mtd}
 use Rattle.gametree.specs.Move.{rootMove, boundMove}
 use Rattle.gametree.specs.Certificate.{flag}
 use Rattle.gametree.specs.Searches.{byMtd}
-use Rattle.gametree.proofs.Theorems.{value-score, mtd-minimax, search-move}
+use Rattle.gametree.proofs.Theorems.{value-score, mtd-minimax}
 use Rattle.frames.specs.Frame.{maxNodes, frames}
 use Rattle.frames.specs.Tree.{tree, valuation}
 use Rattle.frames.specs.Formed.{WellFormed}
-use Rattle.frames.specs.declared.Rejection.{Rejection}
-use Rattle.frames.specs.declared.Checked.the-variants.{Nodes, Rejected}
-use Rattle.frames.proofs.Asked.{answer-nodes, answer-rejected}
 use Rattle.frames.proofs.Proper.{tree-proper}
 use Rattle.certificate.specs.Buffer.{written, marked, markAll}
 use Rattle.certificate.specs.Value.{valueOf}
-use Rattle.certificate.specs.Search.{searchRejection, marksOf, flagsOf}
-use Rattle.certificate.proofs.Buffers.{written-at, written-length, marks-from-clear}
-use Rattle.certificate.proofs.Marks.{searched-within}
-use Rattle.certificate.proofs.Concluded.{concluded}
+use Rattle.certificate.specs.Search.{marksOf, flagsOf}
+use Rattle.certificate.proofs.Buffers.{written-at, written-length}
+use Rattle.certificate.proofs.Outcomes.{search-concludes}
 use Rattle.mtd.specs.declared.Settled.{Settled}
-use Rattle.mtd.specs.declared.Found.{Found}
-use Rattle.mtd.specs.declared.Answer.the-variants.{Found as FoundAnswer, Rejected as RejectedAnswer}
 use Rattle.mtd.specs.Memory.{memory, Fresh, settledOf}
-use Rattle.mtd.specs.Outcome.{mtdLeaves, findings, mtdOutcome}
-use Rattle.certificate.proofs.Questions.{asked}
+use Rattle.mtd.specs.Outcome.{mtdLeaves, findings}
 
 module _ (t : List ℕ) (wf : WellFormed t) where
   -- cleared marks, flags of zeros and the greatest highs are the memory to start with
@@ -83,26 +74,5 @@ module _ (t : List ℕ) (wf : WellFormed t) where
       → (record { value = v; «root_move» = m; leaves = r .leaves; passes = r .passes } ≡ findings t)
       × ((e₃ ≡ marksOf (mtdLeaves t) t e) × (c₂ ≡ flagsOf (mtdLeaves t) t c))
   run-gives e e₁ e₂ e₃ c c₂ r m v cleared d marks move flags kept value =
-      let a : e₂ ≡ marksOf (mtdLeaves t) t e =
-      marks ∙ ap (λ x. markAll x (mtdLeaves t)) cleared
-      ∙ marks-from-clear (frames t) e (mtdLeaves t) (searched-within t wf byMtd) in
-      let b = concluded t wf (among (mtdLeaves t)) e e₂ c a in
-      let found = search-move (valuation t) (tree t) (tree-proper t wf) byMtd in
-      (run-finds r d v m value (move ∙ b .0 ∙ found), (kept ∙ a, flags ∙ b .1))
-
--- what a call gives once its questions are answered
-module _ (t e c : List ℕ) where
-  -- with nodes the search is run, and its results are the outcome
-  pub finding : (n : ℕ) (r : Found) (e₂ c₂ : List ℕ) → Nodes n ≡ asked t (length e) (length c) → r ≡ findings t
-      → e₂ ≡ marksOf (mtdLeaves t) t e → c₂ ≡ flagsOf (mtdLeaves t) t c
-      → record { answer = FoundAnswer r; evaluated = e₂; certificate = c₂ } ≡ mtdOutcome t e c
-  finding n r e₂ c₂ p a b d =
-      let z : searchRejection t (length e ∷ length c ∷ []) ≡ none = answer-nodes (frames t) n _ p .0 in
-      rw (z, a, b, d) refl
-
-  -- a rejection is the outcome
-  pub rejecting : (r : Rejection) → Rejected r ≡ asked t (length e) (length c)
-      → record { answer = RejectedAnswer r; evaluated = e; certificate = c } ≡ mtdOutcome t e c
-  rejecting r p =
-      let z : searchRejection t (length e ∷ length c ∷ []) ≡ some r = answer-rejected (frames t) r _ p in
-      rw z
+      let b = search-concludes t wf (mtdLeaves t) byMtd e e₁ e₂ e₃ c c₂ m cleared marks move flags kept in
+      (run-finds r d v m value (b .0), b .1)

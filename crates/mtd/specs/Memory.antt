@@ -9,7 +9,7 @@ use Rattle.gametree.specs.declared.Place.{Place}
 use Rattle.gametree.specs.Tree.{Tree, greatest, size, In}
 use Rattle.gametree.specs.Bounds.{high}
 use Rattle.gametree.specs.Mtd.{Memo, Pass, pass, Run}
-use Rattle.gametree.proofs.MemoArrays.{readMemo, Visited}
+use Rattle.gametree.specs.MemoArrays.{readMemo, Visited}
 use Rattle.frames.specs.Frame.{maxNodes, frames}
 use Rattle.frames.specs.Place.{placeOf}
 use Rattle.frames.specs.Tree.{treeAt, valuation}
@@ -46,12 +46,12 @@ abbrev pub HighsRight : List ℕ → Memory → Tree → Type 0
 HighsRight t m T =
     (k : ℕ) → In k T → getD (m .highs) k 0 ≡ high (valuation t) (marked (m .evaluated)) (treeAt t k)
 
--- what a visit of node i asks
-pub record Ready (t : List ℕ) (m : Memory) (p : Place) (i : ℕ) : Type 0 where
+-- what a visit of node i at the place p asks
+pub record Ready (t : List ℕ) (m : Memory) (i : ℕ) (p : Place) : Type 0 where
   pub formed : WellFormed t
   pub inside : i < frames t
   pub few : size (treeAt t i) ≤ maxNodes
-  pub stands : p ≡ placeOf t i
+  pub placed : p ≡ placeOf t i
   pub room : Room (frames t) m
   pub right : HighsRight t m (treeAt t i)
 

@@ -19,12 +19,13 @@ mtdLeaves t = mtd (valuation t) (tree t) .evaluated
 -- the minimax value, the first root move that reaches it, the number of evaluated leaves, and the number of passes that
 -- MTD's rule makes
 abbrev pub findings : List ℕ → Found
-findings t = record {
-  value = valueOf (minimax (valuation t) (tree t));
-  «root_move» = rootMove (valuation t) (tree t);
-  leaves = length (mtdLeaves t);
-  passes = mtd (valuation t) (tree t) .passes;
-}
+findings t =
+    record {
+      value = valueOf (minimax (valuation t) (tree t));
+      «root_move» = rootMove (valuation t) (tree t);
+      leaves = length (mtdLeaves t);
+      passes = mtd (valuation t) (tree t) .passes;
+    }
 
 -- the outcome of a call with the table t and the buffers e and c: the first "no" to questions 1 to 10, or the findings
 abbrev pub mtdOutcome : (t e c : List ℕ) → Outcome Answer

@@ -1,6 +1,6 @@
 // MTD over a byte table: the public search, and its engine of passes with falling tests, each asking whether the root is below its test.
 use certificate::ask;
-use certificate::better;
+use certificate::best;
 use certificate::clear;
 use certificate::conclude;
 use certificate::evaluate;
@@ -17,7 +17,6 @@ use gametree::Place;
 use gametree::Side;
 ghost use mathlib.Core.Path.{_≡_};
 ghost use mathlib.Core.Bool.{true, cond, _||_};
-ghost use mathlib.Core.List.{[], _∷_};
 ghost use Prim.Native.Nat.{_+_, _-_, _<_, _≤_};
 ghost use lib.Dec.{eqb};
 ghost use lib.ListN.{length, getD, set};
@@ -142,7 +141,7 @@ fn visit(
     place: Place,
     test: u32,
 ) -> Tried
-    requires { ⌜ Ready (now table) (memory (now evaluated) (now highs) (now found)) place node ⌝ }
+    requires { ⌜ Ready (now table) (memory (now evaluated) (now highs) (now found)) node place ⌝ }
     ensures { λ r. ⌜ Passed (now (table .entry)) (treeAt (now (table .entry)) node) test
         (memory (now (evaluated .entry)) (now (highs .entry)) (now (found .entry)))
         (memory (now (evaluated .exit)) (now (highs .exit)) (now (found .exit))) r ⌝ }
@@ -152,16 +151,10 @@ fn visit(
         return visit_leaf(table, evaluated, highs, found, node, place, test);
     }
     if highs[node] < test {
-        return Tried {
-            answer: false,
-            leaves: 0,
-        };
+        return not_entered(false);
     }
     if found[node] == 1 {
-        return Tried {
-            answer: true,
-            leaves: 0,
-        };
+        return not_entered(true);
     }
     let side = place.side;
     let first = first_child(table, node);
@@ -184,10 +177,17 @@ fn visit(
             break tried.answer;
         }
     };
-    let high = best_from(highs, side, first, end);
+    let high = best(highs, first, end, side);
     highs[node] = high;
-    found[node] = flag(answer);
+    found[node] = found_entry(answer);
     Tried { answer, leaves }
+}
+
+// A node that is not entered has its answer at once.
+fn not_entered(answer: bool) -> Tried
+    ensures { λ r. ⌜ r ≡ record { answer = answer; leaves = 0 } ⌝ }
+{
+    Tried { answer, leaves: 0 }
 }
 
 // Is the child with this answer the last one tried: it settles its parent, or there is no other.
@@ -211,20 +211,6 @@ fn settles(side: Side, answer: bool) -> bool
     }
 }
 
-// The best of the scores from first up to end, for the side that moves.
-fn best_from(scores: &[u32], side: Side, first: usize, end: usize) -> u32
-    requires { ⌜ (first < end) × (end ≤ length (now scores)) ⌝ }
-    ensures { λ r. ⌜ r ≡ bestIn side (λ k. getD (now (scores .entry)) k 0) first (end - (first + 1)) ⌝ }
-{
-    let mut at = end - 1;
-    let mut best = scores[at];
-    while first < at {
-        at -= 1;
-        best = better(side, scores[at], best);
-    }
-    best
-}
-
 // A pass at a leaf: its score is compared with the test.
 fn visit_leaf(
     table: &[u8],
@@ -235,7 +221,7 @@ fn visit_leaf(
     place: Place,
     test: u32,
 ) -> Tried
-    requires { ⌜ Ready (now table) (memory (now evaluated) (now highs) (now found)) place node ⌝ }
+    requires { ⌜ Ready (now table) (memory (now evaluated) (now highs) (now found)) node place ⌝ }
     requires { ⌜ childCount (now table) node ≡ 0 ⌝ }
     ensures { λ r. ⌜ Passed (now (table .entry)) (treeAt (now (table .entry)) node) test
         (memory (now (evaluated .entry)) (now (highs .entry)) (now (found .entry)))
@@ -243,7 +229,7 @@ fn visit_leaf(
 {
     let leaves = try_leaf(table, evaluated, highs, node, place.depth);
     let answer = test <= highs[node];
-    found[node] = flag(answer);
+    found[node] = found_entry(answer);
     Tried { answer, leaves }
 }
 
@@ -264,8 +250,8 @@ fn try_leaf(table: &[u8], evaluated: &mut [u8], highs: &mut [u32], node: usize, 
     1
 }
 
-// The flag of a node with this answer.
-fn flag(answer: bool) -> u8
+// The entry of `found` for an answer: 1 where the node is not below.
+fn found_entry(answer: bool) -> u8
     ensures { λ r. ⌜ r ≡ cond answer 1 0 ⌝ }
 {
     if answer { 1 } else { 0 }

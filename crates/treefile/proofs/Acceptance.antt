@@ -32,10 +32,11 @@ digits-all (b ∷ l) p =
     rw (lt-ltb (digitOf b) noDigit (p 0 (omega arith))) (digits-all l (λ k h. p (suc k) (omega arith)))
 
 line-stated : (l : List ℕ) → isLine l ≡ true → LineAsStated l
-line-stated l e = record {
-  twelve = line-length l e;
-  digits = λ k h. digit-at l k (line-digits l e) (rw (line-length l e) h);
-}
+line-stated l e =
+    record {
+      twelve = line-length l e;
+      digits = λ k h. digit-at l k (line-digits l e) (rw (line-length l e) h);
+    }
 
 stated-line : (l : List ℕ) → LineAsStated l → isLine l ≡ true
 unfolding isLine

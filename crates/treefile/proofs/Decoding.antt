@@ -33,10 +33,11 @@ stored table bs n h six =
 -- a rejection says nothing of the table
 pub decoded-refused : (f : List ℕ) (x : Option Rejection) (table : List ℕ) (r : Rejection) → x ≡ some r
     → Decoded f x table (Rejected r)
-decoded-refused f x table r e = record {
-  answered = rw e;
-  filled = λ p. (let z : _≡_ {A = ℕ} 0 1 = cc in absurd (omega arith));
-}
+decoded-refused f x table r e =
+    record {
+      answered = rw e;
+      filled = λ p. (let z : _≡_ {A = ℕ} 0 1 = cc in absurd (omega arith));
+    }
 
 -- after n lines the position is past them, question 3 is left for the lines from there on, and the table's front holds
 -- their frames
@@ -48,12 +49,13 @@ pub record Decoding (f table : List ℕ) (at n : ℕ) : Type 0 where
 
 -- before the first line
 pub decoding-none : (f table : List ℕ) → Decoding f table 0 0
-decoding-none f table = record {
-  position = omega arith;
-  few = omega arith;
-  passed = refl;
-  filled = refl;
-}
+decoding-none f table =
+    record {
+      position = omega arith;
+      few = omega arith;
+      passed = refl;
+      filled = refl;
+    }
 
 module _ (f table : List ℕ) (at n : ℕ) (room : frameSize * maxNodes ≤ length table) (size : length f ≤ maxFile)
     (d : Decoding f table at n) where

@@ -10,9 +10,8 @@ use native.Mathlib.Omega.{arith}
 use native.Mathlib.Numerals.{add-one}
 use borrow.Author.Tests.{lt-ltb, le-ltb, ltb-true, eqb-true}
 use Rattle.treefile.specs.Digit.{noDigit, digitOf}
-use Rattle.treefile.specs.Line.{lineDigits, allDigits, isLine, hexByte, bytesOf}
+use Rattle.treefile.specs.Line.{lineDigits, allDigits, isLine, hexByte, bytesOf, frameOf, frameBytes}
 use Rattle.frames.specs.Frame.{frameSize}
-use Rattle.treefile.specs.Line.{frameOf, frameBytes}
 use Rattle.treefile.proofs.Digits.{digit-small}
 
 -- a line has twelve bytes

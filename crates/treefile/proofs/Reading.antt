@@ -96,10 +96,11 @@ module _ (f table : List ℕ) (r : Checked) (some-bytes : 0 < length f) (few-byt
   pub frames-asked : (n : ℕ) → Front f (fileCheck3 f) table n
       → r ≡ answer (frames (take (frameSize * n) table)) (framesRejection (take (frameSize * n) table))
       → Decoded f (fileRejection f) table r
-  frames-asked n w e = record {
-    answered = e ∙ rw (w .bytes, sized f some-bytes few-bytes, w .passed);
-    filled = λ p. rw (← w .size) (w .bytes);
-  }
+  frames-asked n w e =
+      record {
+        answered = e ∙ rw (w .bytes, sized f some-bytes few-bytes, w .passed);
+        filled = λ p. rw (← w .size) (w .bytes);
+      }
 
 -- what the reader leaves
 abbrev pub Outcome : List ℕ → List ℕ → Checked → List ℕ → Type 0

@@ -21,12 +21,13 @@ pub record Case : Type 0 where
 
 -- the case as the definitions have it
 abbrev pub computed : Case → Case
-computed c = record {
-  file = c .file;
-  table = c .table;
-  answer = readAnswer (text (c .file)) (c .table);
-  after = tableAfter (text (c .file)) (c .table);
-}
+computed c =
+    record {
+      file = c .file;
+      table = c .table;
+      answer = readAnswer (text (c .file)) (c .table);
+      after = tableAfter (text (c .file)) (c .table);
+    }
 
 -- a table of eight bytes
 abbrev eight : List ℕ
@@ -34,21 +35,23 @@ eight = 9 ∷ 9 ∷ 9 ∷ 9 ∷ 9 ∷ 9 ∷ 9 ∷ 9 ∷ []
 
 -- a file with a single leaf, which has these bytes 4 and 5, read into the eight bytes
 abbrev leaf : String → ℕ → ℕ → Case
-leaf f high low = record {
-  file = f;
-  table = eight;
-  answer = Nodes 1;
-  after = 0 ∷ 0 ∷ 0 ∷ 0 ∷ high ∷ low ∷ 9 ∷ 9 ∷ [];
-}
+leaf f high low =
+    record {
+      file = f;
+      table = eight;
+      answer = Nodes 1;
+      after = 0 ∷ 0 ∷ 0 ∷ 0 ∷ high ∷ low ∷ 9 ∷ 9 ∷ [];
+    }
 
 -- a file that is rejected with this number and place
 abbrev refused : String → List ℕ → ℕ → ℕ → Case
-refused f table q p = record {
-  file = f;
-  table = table;
-  answer = Rejected (record { number = q; place = p });
-  after = table;
-}
+refused f table q p =
+    record {
+      file = f;
+      table = table;
+      answer = Rejected (record { number = q; place = p });
+      after = table;
+    }
 
 -- the cases that proofs/Cases.antt computes
 abbrev pub cases : List Case

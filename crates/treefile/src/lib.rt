@@ -4,6 +4,8 @@ use frames::Checked;
 use frames::EMPTY;
 use frames::FRAME_SIZE;
 use frames::MAX_NODES;
+use frames::MAX_TABLE;
+use frames::SHORT_BUFFER;
 use frames::TOO_LONG;
 use frames::check_frames;
 use frames::rejected;
@@ -25,13 +27,8 @@ const LINE_FEED: u8 = 10;
 
 const NO_DIGIT: u8 = 16;
 
-// The most bytes of a file, and of its table.
+// The most bytes of a file.
 const MAX_FILE: usize = (LINE_DIGITS + 1) * MAX_NODES;
-
-const MAX_TABLE: usize = FRAME_SIZE * MAX_NODES;
-
-// The number of question 10.
-const SHORT_BUFFER: u8 = 10;
 
 // A node's six bytes (01: a frame).
 pub struct Frame {

@@ -1,4 +1,4 @@
--- Each small certificate gets its verdict by computation.
+-- The small certificates, computed from the definitions.
 use mathlib.Core.Path.{_≡_, refl}
 use mathlib.Core.List.{map}
 use Rattle.frames.specs.Frame.{next}
@@ -11,7 +11,8 @@ use Rattle.verify.specs.Value.{bestBefore}
 use Rattle.verify.specs.Check.{treesRejection, flagsRejection, certificateRejection, verdict}
 use Rattle.verify.specs.Cases.{cases}
 
-cases-hold : map (λ c. verdict (c .table) (c .flags)) cases ≡ map (λ c. c .verdict) cases
+-- each certificate gets its verdict
+pub small-verdicts : map (λ c. verdict (c .table) (c .flags)) cases ≡ map (λ c. c .verdict) cases
 unfolding next parentBefore placeWithin placeOf valuation eachNode framesRejection rejection membersFrom ruleHolds
     bestBefore treesRejection flagsRejection certificateRejection verdict
-cases-hold = refl
+small-verdicts = refl

@@ -5,7 +5,8 @@ use mathlib.Core.Path.{_≡_}
 use mathlib.Core.Bool.{Bool, true, false, cond}
 use mathlib.Core.List.{List}
 use Rattle.gametree.specs.declared.Side.{Side}
-use Rattle.verify.specs.Flags.{member, membersFrom}
+use Rattle.certificate.specs.Buffer.{member}
+use Rattle.verify.specs.Flags.{membersFrom}
 
 -- before node k, of the n nodes from i on: m of those behind it are members, and the rest are still to be counted
 pub record Counted (p : Side) (flags : List ℕ) (i n k m : ℕ) : Type 0 where

@@ -18,7 +18,8 @@ use Rattle.frames.specs.Tree.{kidsFrom, treeAt, tree}
 use Rattle.frames.specs.Formed.{WellFormed}
 use Rattle.frames.proofs.Parents.{bottom-up}
 use Rattle.frames.proofs.Trees.{zero-or-suc, tree-leaf, tree-inner, tree-number}
-use Rattle.verify.specs.Flags.{member, membersFrom, requiredOf, rootMember, ruleHolds}
+use Rattle.certificate.specs.Buffer.{member}
+use Rattle.verify.specs.Flags.{membersFrom, requiredOf, rootMember, ruleHolds}
 use Rattle.verify.proofs.Subtrees.{Inherited, each-subtree}
 
 module _ (p : Side) (t flags : List ℕ) where

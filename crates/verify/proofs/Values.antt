@@ -14,21 +14,17 @@ use Rattle.gametree.specs.Tree.{Tree, leaf, inner, Kids, last, _then_, greatest
 use Rattle.gametree.specs.Tree.{Score, Scored, ScoredKids}
 use Rattle.gametree.specs.Certificate.{worst, solutionValue, solutionValueKids}
 use Rattle.gametree.proofs.Choice.{cond-cases}
-use Rattle.gametree.proofs.Solution.{Under, under-refl}
+use Rattle.gametree.proofs.Solution.{Under, under-refl, under-both}
 use Rattle.frames.specs.Frame.{frames, childCount}
 use Rattle.frames.specs.Tree.{tree, valuation}
 use Rattle.frames.specs.Formed.{WellFormed}
 use Rattle.frames.proofs.Trees.{tree-leaf}
 use Rattle.frames.proofs.Proper.{every-leaf, leaf-scored, tree-proper}
-use Rattle.verify.specs.Flags.{member}
+use Rattle.certificate.specs.Buffer.{member}
 use Rattle.verify.specs.Value.{leafIn, bestBefore, treeValue}
 use Rattle.verify.proofs.Subtrees.{Inherited, each-subtree}
 
--- the better of two is bounded exactly if both are
-under-both : (p : Side) (a b x : ℕ) → Under p (better p a b) x → Under p a x × Under p b x
-under-both Max a b x h = omega arith
-under-both Min a b x h = omega arith
-
+-- the better of two is bounded if both are
 both-under : (p : Side) (a b x : ℕ) → Under p a x → Under p b x → Under p (better p a b) x
 both-under Max a b x h k = omega arith
 both-under Min a b x h k = omega arith

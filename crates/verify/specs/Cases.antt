@@ -1,26 +1,10 @@
 -- Small certificates, with the verdict on each.
 use Prim.Native.Nat.{ℕ}
-use mathlib.Core.List.{List, [], _∷_, _++_}
+use mathlib.Core.List.{List, [], _∷_}
 use lib.IntN.{pos, negsuc}
+use Rattle.frames.specs.Cases.{small, lone}
 use Rattle.verify.specs.declared.Verdict.{Verdict}
 use Rattle.verify.specs.declared.Verdict.the-variants.{Value, Rejected}
-
--- the frame of an inner node, and of a leaf with these value bytes
-abbrev pub innerFrame : (first count : ℕ) → List ℕ
-innerFrame first count = 0 ∷ first ∷ count ∷ 0 ∷ 0 ∷ 0 ∷ []
-
-abbrev pub leafFrame : (high low : ℕ) → List ℕ
-leafFrame high low = 0 ∷ 0 ∷ 0 ∷ 0 ∷ high ∷ low ∷ []
-
--- the first small tree of 01: a Max root, two Min nodes, and the leaves 1 2 3 4
-abbrev pub small : List ℕ
-small =
-    innerFrame 1 2 ++ innerFrame 3 2 ++ innerFrame 5 2
-    ++ leafFrame 0 1 ++ leafFrame 0 2 ++ leafFrame 0 3 ++ leafFrame 0 4
-
--- a root that is a leaf of -5
-abbrev pub lone : List ℕ
-lone = leafFrame 255 251
 
 -- a rejection with its number and place
 abbrev pub rejectedAt : ℕ → ℕ → Verdict
@@ -37,23 +21,23 @@ case t flags v = record { table = t; flags = flags; verdict = v }
 
 abbrev pub cases : List Case
 cases =
-    case small (3 ∷ 1 ∷ 3 ∷ 1 ∷ 0 ∷ 3 ∷ 2 ∷ []) (Value (pos 3))
+    case (small 1 2 3 4) (3 ∷ 1 ∷ 3 ∷ 1 ∷ 0 ∷ 3 ∷ 2 ∷ []) (Value (pos 3))
     -- a byte past the nodes is not asked
-    ∷ case small (3 ∷ 1 ∷ 3 ∷ 1 ∷ 0 ∷ 3 ∷ 2 ∷ 200 ∷ []) (Value (pos 3))
+    ∷ case (small 1 2 3 4) (3 ∷ 1 ∷ 3 ∷ 1 ∷ 0 ∷ 3 ∷ 2 ∷ 200 ∷ []) (Value (pos 3))
     -- a flag is missing
-    ∷ case small (3 ∷ 1 ∷ 3 ∷ 1 ∷ 0 ∷ 3 ∷ []) (rejectedAt 10 0)
+    ∷ case (small 1 2 3 4) (3 ∷ 1 ∷ 3 ∷ 1 ∷ 0 ∷ 3 ∷ []) (rejectedAt 10 0)
     -- a flag past 3
-    ∷ case small (3 ∷ 1 ∷ 3 ∷ 1 ∷ 4 ∷ 3 ∷ 200 ∷ []) (rejectedAt 11 4)
+    ∷ case (small 1 2 3 4) (3 ∷ 1 ∷ 3 ∷ 1 ∷ 4 ∷ 3 ∷ 200 ∷ []) (rejectedAt 11 4)
     -- the root is in neither tree
-    ∷ case small (0 ∷ 0 ∷ 0 ∷ 0 ∷ 0 ∷ 0 ∷ 0 ∷ []) (rejectedAt 12 0)
+    ∷ case (small 1 2 3 4) (0 ∷ 0 ∷ 0 ∷ 0 ∷ 0 ∷ 0 ∷ 0 ∷ []) (rejectedAt 12 0)
     -- a Max node lacks a child in the max tree
-    ∷ case small (3 ∷ 0 ∷ 3 ∷ 0 ∷ 0 ∷ 3 ∷ 2 ∷ []) (rejectedAt 12 0)
+    ∷ case (small 1 2 3 4) (3 ∷ 0 ∷ 3 ∷ 0 ∷ 0 ∷ 3 ∷ 2 ∷ []) (rejectedAt 12 0)
     -- a Min node has both children in the max tree
-    ∷ case small (3 ∷ 1 ∷ 3 ∷ 1 ∷ 1 ∷ 3 ∷ 2 ∷ []) (rejectedAt 12 1)
+    ∷ case (small 1 2 3 4) (3 ∷ 1 ∷ 3 ∷ 1 ∷ 1 ∷ 3 ∷ 2 ∷ []) (rejectedAt 12 1)
     -- a node outside the min tree has a child in it, before one that lacks a child there
-    ∷ case small (3 ∷ 1 ∷ 3 ∷ 1 ∷ 2 ∷ 3 ∷ 0 ∷ []) (rejectedAt 13 1)
+    ∷ case (small 1 2 3 4) (3 ∷ 1 ∷ 3 ∷ 1 ∷ 2 ∷ 3 ∷ 0 ∷ []) (rejectedAt 13 1)
     -- both are solution trees, of values 4 and 3
-    ∷ case small (3 ∷ 1 ∷ 3 ∷ 1 ∷ 0 ∷ 2 ∷ 3 ∷ []) (rejectedAt 14 0)
+    ∷ case (small 1 2 3 4) (3 ∷ 1 ∷ 3 ∷ 1 ∷ 0 ∷ 2 ∷ 3 ∷ []) (rejectedAt 14 0)
     ∷ case lone (3 ∷ []) (Value (negsuc 4))
     ∷ case lone (2 ∷ []) (rejectedAt 12 0)
     ∷ case lone (1 ∷ []) (rejectedAt 13 0)

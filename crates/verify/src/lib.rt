@@ -1,4 +1,5 @@
 // The check of a lent certificate (01: the proof check).
+use certificate::IN_BOTH;
 use certificate::better;
 use certificate::fill_places;
 use certificate::side_at;
@@ -8,6 +9,7 @@ use frames::GREATEST;
 use frames::LEAST;
 use frames::MAX_NODES;
 use frames::Rejection;
+use frames::SHORT_BUFFER;
 use frames::child_count;
 use frames::first_child;
 use frames::frame_count;
@@ -28,16 +30,12 @@ ghost use Rattle.verify.specs.Flags.{membersFrom, requiredOf, ruleHolds}
 ghost use Rattle.verify.specs.Value.{leafIn, treeValue};
 ghost use Rattle.verify.specs.Check.{check11, checkTree, treesRejection, flagsRejection, judged, verdict};
 
-// A node's flag: in the max tree, in the min tree, in both; 0 is in neither.
+// The flag of a node in the max tree only, and in the min tree only.
 const IN_MAX: u8 = 1;
 
 const IN_MIN: u8 = 2;
 
-const IN_BOTH: u8 = 3;
-
 // The numbers of 01's questions about a certificate, by what a "no" means.
-pub const TOO_FEW_ENTRIES: u8 = 10;
-
 pub const WRONG_FLAG: u8 = 11;
 
 pub const NO_MAX_TREE: u8 = 12;
@@ -70,7 +68,7 @@ fn check_certificate(table: &[u8], flags: &[u8]) -> Verdict
 {
     if flags.len() < frame_count(table) {
         return Verdict::Rejected(Rejection {
-            number: TOO_FEW_ENTRIES,
+            number: SHORT_BUFFER,
             place: 0,
         });
     }

@@ -9,14 +9,14 @@ enum-told c = search needs
 enum-told-2 : tie.Need-enum-told-2
 enum-told-2 c = search needs
 
-lesser-requires : tie.Need-lesser-requires
-lesser-requires c κs = search needs
+better-requires : tie.Need-better-requires
+better-requires c κs = search needs
 
 returns : tie.Need-returns
 returns c = search needs
 
 returns-2 : tie.Need-returns-2
-returns-2 c = rw (c .before .enum-told2 .given .1) (c .lesser .ensures)
+returns-2 c = rw (c .before .enum-told2 .given .1) (c .better .ensures)
 
 pub lowered-spec : {M : Type 1} → statement M
-lowered-spec = tie.close (tie.spec enum-told enum-told-2 lesser-requires returns returns-2)
+lowered-spec = tie.close (tie.spec enum-told enum-told-2 better-requires returns returns-2)

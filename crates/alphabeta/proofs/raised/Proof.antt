@@ -6,17 +6,17 @@ use Rattle.alphabeta.proofs.raised.Tie as tie
 enum-told : tie.Need-enum-told
 enum-told c = search needs
 
-greater-requires : tie.Need-greater-requires
-greater-requires c κs = search needs
+better-requires : tie.Need-better-requires
+better-requires c κs = search needs
 
 enum-told-2 : tie.Need-enum-told-2
 enum-told-2 c = search needs
 
 returns : tie.Need-returns
-returns c = rw (c .before .enum-told .given .1) (c .greater .ensures)
+returns c = rw (c .before .enum-told .given .1) (c .better .ensures)
 
 returns-2 : tie.Need-returns-2
 returns-2 c = search needs
 
 pub raised-spec : {M : Type 1} → statement M
-raised-spec = tie.close (tie.spec enum-told greater-requires enum-told-2 returns returns-2)
+raised-spec = tie.close (tie.spec enum-told better-requires enum-told-2 returns returns-2)

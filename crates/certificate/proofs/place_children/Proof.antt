@@ -11,8 +11,8 @@ use Rattle.certificate.proofs.place_children.Tie as tie
 
 abbrev Inv-loop : tie.InvT-loop
 Inv-loop table depths₀ sides₀ from to parent child₀ depths sides child =
-    Run (λ k. childPlace table parent k .depth) from to depths₀ depths child
-    × Run (λ k. sideNumber (childPlace table parent k .side)) from to sides₀ sides child
+    Run (λ k. childPlace table k parent .depth) from to depths₀ depths child
+    × Run (λ k. sideNumber (childPlace table k parent .side)) from to sides₀ sides child
 
 abbrev μ-loop : tie.MeasureT-loop
 μ-loop table depths₀ sides₀ from to parent child₀ depths sides child = to - child

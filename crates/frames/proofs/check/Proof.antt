@@ -43,9 +43,6 @@ rejected-requires c κs = search needs
 returns : tie.Need-returns
 returns c = c .rejected .ensures ∙ empty _ (c .before .if1 .taken)
 
-mul-if2 : tie.Need-mul-if2
-mul-if2 c = search needs
-
 rejected-requires-2 : tie.Need-rejected-requires-2
 rejected-requires-2 c κs = search needs
 
@@ -74,7 +71,6 @@ check-spec =
     (tie.spec
     rejected-requires
     returns
-    mul-if2
     rejected-requires-2
     returns-2
     rejected-requires-3

@@ -21,9 +21,10 @@ use Rattle.mtd.proofs.+visit.Lts-visit as lts
 use Rattle.frames.proofs.child_count.Reads as child-count-reads
 use Rattle.frames.proofs.child_place.Reads as child-place-reads
 use Rattle.frames.proofs.first_child.Reads as first-child-reads
-use Rattle.mtd.proofs.best_from.Reads as best-from-reads
-use Rattle.mtd.proofs.flag.Reads as flag-reads
+use Rattle.certificate.proofs.best.Reads as best-reads
+use Rattle.mtd.proofs.found_entry.Reads as found-entry-reads
 use Rattle.mtd.proofs.last_tried.Reads as last-tried-reads
+use Rattle.mtd.proofs.not_entered.Reads as not-entered-reads
 use Rattle.mtd.proofs.visit_leaf.Reads as visit-leaf-reads
 use Rattle.mtd.proofs.+visit.{statement}
 use Rattle.mtd.proofs.+visit.Tie.{close}
@@ -53,6 +54,8 @@ calls t = (
   child-count-reads.Learnt,
   visit-leaf-reads.Asked,
   visit-leaf-reads.Learnt,
+  not-entered-reads.Asked,
+  not-entered-reads.Learnt,
   first-child-reads.Asked,
   first-child-reads.Learnt,
   child-place-reads.Asked,
@@ -61,10 +64,10 @@ calls t = (
   visit′.Post,
   last-tried-reads.Asked,
   last-tried-reads.Learnt,
-  best-from-reads.Asked,
-  best-from-reads.Learnt,
-  flag-reads.Asked,
-  flag-reads.Learnt,
+  best-reads.Asked,
+  best-reads.Learnt,
+  found-entry-reads.Asked,
+  found-entry-reads.Learnt,
 )
 
 module _ (t : ℕ) where
@@ -140,20 +143,28 @@ module _ (t : ℕ) where
   slice-read-if2 : lts.Need-slice-read-if2 (calls t) (at t) visit′.Post Inv μ-loop
   slice-read-if2 c = search needs
 
+  not-entered-requires : lts.Need-not-entered-requires (calls t) (at t) visit′.Post Inv μ-loop
+  not-entered-requires c κs = search needs
+
   returns-2 : lts.Need-returns-2 (calls t) (at t) visit′.Post Inv μ-loop
   returns-2 c =
-      let p = c .before .before .before .before .before .before .before .before .pre .1 in
-      visit-below (record { formed = p .formed; inside = p .inside; from = refl; to = refl }) p (omega arith) refl refl
-      (omega (arith, c .if2 .taken))
+      let p = c .before .before .before .before .before .before .before .before .before .pre .1 in
+      visit-below (record { formed = p .formed; inside = p .inside; from = refl; to = refl }) p (omega arith)
+      (ap (λ r. r .leaves) (c .not-entered .ensures)) (ap (λ r. r .answer) (c .not-entered .ensures))
+      (omega (arith, c .before .if2 .taken))
 
   slice-read-if3 : lts.Need-slice-read-if3 (calls t) (at t) visit′.Post Inv μ-loop
   slice-read-if3 c = search needs
 
+  not-entered-requires-2 : lts.Need-not-entered-requires-2 (calls t) (at t) visit′.Post Inv μ-loop
+  not-entered-requires-2 c κs = search needs
+
   returns-3 : lts.Need-returns-3 (calls t) (at t) visit′.Post Inv μ-loop
   returns-3 c =
-      let p = c .before .before .before .before .before .before .before .before .before .before .pre .1 in
-      visit-found (record { formed = p .formed; inside = p .inside; from = refl; to = refl }) p (omega arith) refl refl
-      (c .before .before .if2 .left) (eq-eqb _ _ (c .if3 .taken))
+      let p = c .before .before .before .before .before .before .before .before .before .before .before .pre .1 in
+      visit-found (record { formed = p .formed; inside = p .inside; from = refl; to = refl }) p (omega arith)
+      (ap (λ r. r .leaves) (c .not-entered2 .ensures)) (ap (λ r. r .answer) (c .not-entered2 .ensures))
+      (c .before .before .before .if2 .left) (eq-eqb _ _ (c .before .if3 .taken))
 
   first-child-requires : lts.Need-first-child-requires (calls t) (at t) visit′.Post Inv μ-loop
   first-child-requires c κs = search needs
@@ -202,8 +213,8 @@ module _ (t : ℕ) where
       turn-next (family (l .before)) (l .loop .inv) (v .visit .ensures) (long (c .before))
       (sym (c .before .last-tried .ensures) ∙ c .if4 .left)
 
-  best-from-requires : lts.Need-best-from-requires (calls t) (at t) visit′.Post Inv μ-loop
-  best-from-requires c κs =
+  best-requires : lts.Need-best-requires (calls t) (at t) visit′.Post Inv μ-loop
+  best-requires c κs =
       let d = c .before .before in
       (some d, omega (arith, family-within (family (head (child d) .before)) (some d), room d .highs))
 
@@ -217,8 +228,8 @@ module _ (t : ℕ) where
       let d = c .before .before .before in
       omega (arith, entry (head (child d) .before) .pre .1 .inside, room d .highs)
 
-  flag-requires : lts.Need-flag-requires (calls t) (at t) visit′.Post Inv μ-loop
-  flag-requires c κs = search needs
+  found-entry-requires : lts.Need-found-entry-requires (calls t) (at t) visit′.Post Inv μ-loop
+  found-entry-requires c κs = search needs
 
   slice-write-found : lts.Need-slice-write-found (calls t) (at t) visit′.Post Inv μ-loop
   slice-write-found c =
@@ -241,10 +252,10 @@ module _ (t : ℕ) where
       let l = head v in
       let f = l .before in
       let e = sym (d .last-tried .ensures) ∙ c .before .before .before .if4 .taken in
-      rw (c .flag .ensures)
+      rw (c .found-entry .ensures)
       (visit-entered (family f) (entry f .pre .1) (some d)
       (f .before .before .before .if2 .left) (ne-eqb _ _ (f .before .if3 .left)) (room d)
-      (turn-last (family f) (l .loop .inv) (v .visit .ensures) e) (c .before .best-from .ensures))
+      (turn-last (family f) (l .loop .inv) (v .visit .ensures) e) (c .before .best .ensures))
 
 pub +visit-spec : {M : Type 1} → statement M
 +visit-spec = close μ λ t. lts.spec (calls t)
@@ -260,8 +271,10 @@ pub +visit-spec : {M : Type 1} → statement M
     (returns t)
     (mul-if2 t)
     (slice-read-if2 t)
+    (not-entered-requires t)
     (returns-2 t)
     (slice-read-if3 t)
+    (not-entered-requires-2 t)
     (returns-3 t)
     (first-child-requires t)
     (add-end t)
@@ -273,10 +286,10 @@ pub +visit-spec : {M : Type 1} → statement M
     (last-tried-requires t)
     (loop-less t)
     (loop-again t)
-    (best-from-requires t)
+    (best-requires t)
     (mul-highs t)
     (slice-write-highs t)
-    (flag-requires t)
+    (found-entry-requires t)
     (slice-write-found t)
     (same-length-4 t)
     (same-length-5 t)

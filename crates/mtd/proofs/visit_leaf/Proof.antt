@@ -1,4 +1,5 @@
--- `visit_leaf` meets its contract: the leaf's score is its high by then, and its flag is the test's outcome.
+-- `visit_leaf` meets its contract: the leaf's score is its high by then, and its entry of `found` is the test's
+-- outcome.
 use native.Mathlib.Omega.{arith}
 use mathlib.Core.Path.{refl, ap}
 use borrow.Author.Needs.{needs}
@@ -13,7 +14,7 @@ try-leaf-requires c κs =
     let p = a .pre .0 in (
       (p .inside, omega (arith, p .room .evaluated), omega (arith, p .room .highs)),
       (
-        (ap (λ p. p .depth) (p .stands), ready-shallow p),
+        (ap (λ p. p .depth) (p .placed), ready-shallow p),
         leaf-known (a .args .table .now) (p .formed) (a .args .node) (p .inside) (a .pre .1)
             (memory (a .args .evaluated .now) (a .args .highs .now) (a .args .found .now)) (p .right),
       ),
@@ -25,8 +26,8 @@ mul-answer c = search needs
 slice-read-answer : tie.Need-slice-read-answer
 slice-read-answer c = search needs
 
-flag-requires : tie.Need-flag-requires
-flag-requires c κs = search needs
+found-entry-requires : tie.Need-found-entry-requires
+found-entry-requires c κs = search needs
 
 slice-write-found : tie.Need-slice-write-found
 slice-write-found c = search needs
@@ -46,7 +47,7 @@ returns c =
     let p = a .pre .0 in
     let l = c .before .before .before .before .before .before .try-leaf .ensures in
     visit-leaf (a .args .table .now) (p .formed) (a .args .node) (p .inside) (a .pre .1) _ (a .args .test) _ _ _ _ _
-    (p .room) (l .1 .0) (l .1 .1) (c .flag .ensures) refl (l .0)
+    (p .room) (l .1 .0) (l .1 .1) (c .found-entry .ensures) refl (l .0)
 
 pub visit-leaf-spec : {M : Type 1} → statement M
 visit-leaf-spec =
@@ -55,7 +56,7 @@ visit-leaf-spec =
     try-leaf-requires
     mul-answer
     slice-read-answer
-    flag-requires
+    found-entry-requires
     slice-write-found
     same-length
     same-length-2

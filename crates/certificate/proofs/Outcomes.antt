@@ -1,0 +1,57 @@
+-- A search over two buffers, from its steps to its outcome: questions, cleared marks, the engine's marks, and what
+-- `conclude` reads off them.
+use Prim.Native.Nat.{ℕ}
+use mathlib.Core.Path.{_≡_, refl, ap, _∙_}
+use mathlib.Core.Option.{none, some}
+use mathlib.Core.List.{List, [], _∷_}
+use lib.ListN.{length}
+use Rattle.gametree.specs.Lists.{among}
+use Rattle.gametree.specs.Move.{rootMove, boundMove}
+use Rattle.gametree.specs.Certificate.{flag}
+use Rattle.gametree.specs.Searches.{Searched}
+use Rattle.gametree.proofs.Theorems.{search-move}
+use Rattle.frames.specs.declared.Rejection.{Rejection}
+use Rattle.frames.specs.declared.Checked.the-variants.{Nodes, Rejected}
+use Rattle.frames.specs.Frame.{frames}
+use Rattle.frames.specs.Tree.{tree, valuation}
+use Rattle.frames.specs.Formed.{WellFormed}
+use Rattle.frames.proofs.Asked.{answer-nodes, answer-rejected}
+use Rattle.frames.proofs.Proper.{tree-proper}
+use Rattle.certificate.specs.Buffer.{written, marked, markAll}
+use Rattle.certificate.specs.Search.{searchRejection, marksOf, flagsOf, outcome}
+use Rattle.certificate.proofs.Buffers.{marks-from-clear}
+use Rattle.certificate.proofs.Marks.{searched-within}
+use Rattle.certificate.proofs.Concluded.{concluded}
+use Rattle.certificate.proofs.Questions.{asked}
+
+-- what a search that evaluates the leaves w leaves behind: e is cleared to e₁ and marked to e₂, and the move m and the
+-- flags c₂ follow from that
+pub search-concludes : (t : List ℕ) → WellFormed t → (w : List ℕ) → Searched (valuation t) (tree t) w
+    → (e e₁ e₂ e₃ c c₂ : List ℕ) (m : ℕ) → e₁ ≡ written (λ k. 0) (frames t) e → e₂ ≡ markAll e₁ w
+    → m ≡ boundMove (valuation t) (marked e₂) (tree t)
+    → c₂ ≡ written (flag (valuation t) (marked e₂) (tree t)) (frames t) c → e₃ ≡ e₂
+    → (m ≡ rootMove (valuation t) (tree t)) × ((e₃ ≡ marksOf w t e) × (c₂ ≡ flagsOf w t c))
+search-concludes t wf w s e e₁ e₂ e₃ c c₂ m cleared marks move flags kept =
+    let a : e₂ ≡ marksOf w t e =
+    marks ∙ ap (λ x. markAll x w) cleared ∙ marks-from-clear (frames t) e w (searched-within t wf s) in
+    let b = concluded t wf (among w) e e₂ c a in
+    (move ∙ b .0 ∙ search-move (valuation t) (tree t) (tree-proper t wf) s, (kept ∙ a, flags ∙ b .1))
+
+-- what a call gives once its questions are answered, for any type of answers
+module _ {A : Type 0} (rejected : Rejection → A) (found : A) (w t e c : List ℕ) where
+  -- with nodes the search is run, and its results are the outcome
+  pub finding : (n : ℕ) (a : A) (e₂ c₂ : List ℕ) → Nodes n ≡ asked t (length e) (length c) → a ≡ found
+      → e₂ ≡ marksOf w t e → c₂ ≡ flagsOf w t c
+      → record { answer = a; evaluated = e₂; certificate = c₂ }
+      ≡ outcome rejected found w t e c (searchRejection t (length e ∷ length c ∷ []))
+  finding n a e₂ c₂ p f b d =
+      let z : searchRejection t (length e ∷ length c ∷ []) ≡ none = answer-nodes (frames t) n _ p .0 in
+      rw (z, f, b, d) refl
+
+  -- a rejection is the outcome
+  pub rejecting : (r : Rejection) → Rejected r ≡ asked t (length e) (length c)
+      → record { answer = rejected r; evaluated = e; certificate = c }
+      ≡ outcome rejected found w t e c (searchRejection t (length e ∷ length c ∷ []))
+  rejecting r p =
+      let z : searchRejection t (length e ∷ length c ∷ []) ≡ some r = answer-rejected (frames t) r _ p in
+      rw z
