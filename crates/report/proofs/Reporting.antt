@@ -2,10 +2,12 @@
 use Prim.Native.Nat.{ℕ, _*_, _≤_, _<_}
 use native.Mathlib.Omega.{arith}
 use mathlib.Core.Path.{_≡_, refl, sym, ap, ap₂, _∙_}
+use mathlib.Core.Bool.{Bool, true, false}
 use mathlib.Core.Option.{Option, none, some}
 use mathlib.Core.List.{List}
+use lib.Dec.{ltb}
 use lib.ListN.{length, take}
-use borrow.Author.Tests.{lt-ltb, le-ltb}
+use borrow.Author.Tests.{lt-ltb, le-ltb, ltb-false}
 use Rattle.frames.specs.declared.Rejection.{Rejection}
 use Rattle.frames.specs.declared.Checked.{Checked}
 use Rattle.frames.specs.declared.Checked.the-variants.{Nodes, Rejected as RejectedFile}
@@ -17,7 +19,7 @@ use Rattle.treefile.specs.File.{fileRejection, readRejection, readAnswer, table
 use Rattle.treefile.proofs.Acceptance.{read-nodes, accepted-table, accepted-read}
 use Rattle.report.specs.declared.Answer.the-variants.{Length, Rejected}
 use Rattle.report.specs.Text.{refusedLine, Room, Put}
-use Rattle.report.specs.Report.{analysis, printed, report, textSize, written}
+use Rattle.report.specs.Report.{analysis, printed, report, textSize, writtenBy, written}
 use Rattle.report.proofs.Sizes.{report-few}
 
 module _ (f : List ℕ) where
@@ -73,3 +75,15 @@ module _ (f : List ℕ) where
   written-laid x b n b′ e h p =
       let k : n ≡ length x = omega (arith, p .behind) in
       rw (le-ltb (length b) textSize h, e) (ap₂ (λ k t. record { answer = Length k; text = t }) k (p .text))
+
+  -- the length that a call answers with is within the text that was lent
+  pub length-within : (b : List ℕ) (n : ℕ) (b′ : List ℕ) → record { answer = Length n; text = b′ } ≡ written f b
+      → n ≤ length b
+  unfolding written
+  length-within b n b′ e = by-size (ltb (length b) textSize) refl (ap (λ o. o .answer) e)
+    where
+      by-size : (q : Bool) → ltb (length b) textSize ≡ q → Length n ≡ writtenBy q f b .answer → n ≤ length b
+      by-size true p e = let z : _≡_ {A = ℕ} 0 1 = cc in absurd (omega arith)
+      by-size false p e =
+          let k : n ≡ length (report f) = cc in
+          omega (arith, report-few f, ltb-false (length b) textSize p)

@@ -1,7 +1,7 @@
 -- What the program prints for a file (01, "What a contract says, and the cases"), and what laying it into a lent text
 -- gives.
 use Prim.Native.Nat.{ℕ}
-use mathlib.Core.Bool.{cond}
+use mathlib.Core.Bool.{Bool, true, false}
 use mathlib.Core.Option.{Option, none, some}
 use mathlib.Core.List.{List, [], _∷_, _++_}
 use lib.Dec.{ltb}
@@ -58,9 +58,12 @@ pub record Outcome : Type 0 where
   pub answer : Answer
   pub text : List ℕ
 
--- the report's length, and the report at the beginning of the text; a shorter text is rejected, and stays as it was
+-- a text that is too short is rejected, and stays as it was; else the report is laid at its beginning, and the answer is
+-- the report's length
+abbrev pub writtenBy : (tooShort : Bool) (f b : List ℕ) → Outcome
+writtenBy true f b = record { answer = Rejected (record { number = 10; place = 0 }); text = b }
+writtenBy false f b = record { answer = Length (length (report f)); text = laid 0 (report f) b }
+
+-- what a call gives for the file f and the lent text b
 unfoldable pub written : (f b : List ℕ) → Outcome
-written f b =
-    cond (ltb (length b) textSize)
-    (record { answer = Rejected (record { number = 10; place = 0 }); text = b })
-    (record { answer = Length (length (report f)); text = laid 0 (report f) b })
+written f b = writtenBy (ltb (length b) textSize) f b
