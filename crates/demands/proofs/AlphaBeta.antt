@@ -3,7 +3,6 @@ use Prim.Native.Nat.{ℕ, _≤_, _<_}
 use native.Mathlib.Omega.{arith}
 use mathlib.Core.Path.{_≡_, sym, ap, _∙_, subst}
 use mathlib.Core.Bool.{Bool}
-use mathlib.Core.Option.{some}
 use mathlib.Core.List.{List, [], _∷_}
 use lib.ListN.{length, getD}
 use Rattle.gametree.specs.Lists.{All, Once, Subsequence, among}
@@ -12,7 +11,6 @@ use Rattle.gametree.specs.Move.{rootMove}
 use Rattle.gametree.specs.Certificate.{Smallest, pairLeaves}
 use Rattle.gametree.specs.AlphaBeta.{fullWindow}
 use Rattle.gametree.proofs.Theorems.{alphaBeta-leaves, alphaBeta-ordered, search-once, search-smallest, local-alphaBeta}
-use Rattle.frames.specs.declared.Rejection.{Rejection}
 use Rattle.frames.specs.Frame.{frames}
 use Rattle.frames.specs.Tree.{tree, valuation}
 use Rattle.frames.specs.Formed.{WellFormed}
@@ -27,10 +25,12 @@ use Rattle.certificate.specs.Search.{searchRejection, marksOf, flagsOf}
 use Rattle.alphabeta.specs.declared.Found.{Found}
 use Rattle.alphabeta.specs.declared.Answer.the-variants.{Found as FoundAnswer, Rejected}
 use Rattle.alphabeta.specs.Outcome.{reachedLeaves, findings, alphaBetaOutcome}
+use Rattle.verify.specs.declared.Verdict.the-variants.{Value}
+use Rattle.verify.specs.Check.{verdict}
 use Rattle.demands.specs.Handed.{CertifiedBy, Alike}
 use Rattle.alphabeta.proofs.Reached.{searched}
-use Rattle.certificate.proofs.Questions.{room-passed}
-use Rattle.demands.proofs.Parts.{passed-accepted, Parts, parts-of, marks-at, flags-certified, marks-count}
+use Rattle.certificate.proofs.Questions.{passed-room, room-passed}
+use Rattle.demands.proofs.Parts.{passed-accepted, Parts, parts-of, marks-at, flags-certified, flags-verified, marks-count}
 use Rattle.demands.proofs.Parts.{calls-alike}
 
 -- a call with the table t and the buffers e and c finds r, and leaves e′ and c′ in its buffers
@@ -41,11 +41,6 @@ Finds t e c r e′ c′ = record { answer = FoundAnswer r; evaluated = e′; cer
 pub finds : (t e c : List ℕ) → Accepted t → frames t ≤ length e → frames t ≤ length c
     → Finds t e c (findings t) (marksOf (reachedLeaves t) t e) (flagsOf (reachedLeaves t) t c)
 finds t e c a h k = rw (room-passed t (length e) (length c) a h k)
-
--- a rejection leaves both buffers as they were
-pub rejects : (t e c : List ℕ) (r : Rejection) → searchRejection t (length e ∷ length c ∷ []) ≡ some r
-    → alphaBetaOutcome t e c ≡ record { answer = Rejected r; evaluated = e; certificate = c }
-rejects t e c r p = rw p
 
 -- the outcome, taken apart
 parts : (t e c : List ℕ) (r : Found) (e′ c′ : List ℕ) → Finds t e c r e′ c′
@@ -80,6 +75,13 @@ module _ (t e c : List ℕ) (r : Found) (e′ c′ : List ℕ) (o : Finds t e c 
   -- the flags handed back certify the value, by leaves that are marked 1 only
   pub certified : CertifiedBy t e′ c′
   certified = flags-certified (parts t e c r e′ c′ o) formed (searched t)
+
+  -- the check of certificates accepts these flags, and gives the value found
+  pub verified : verdict t c′ ≡ Value (r .value)
+  verified =
+      flags-verified (parts t e c r e′ c′ o) formed (searched t) accepted
+      (passed-room t (length e) (length c) (parts t e c r e′ c′ o .passed) .2)
+      ∙ ap Value (sym value-minimax)
 
   -- no leaf is evaluated twice
   pub once : Once (reachedLeaves t)

@@ -1,15 +1,18 @@
 -- Demand 3, its first sentence: each leaf that SSS* evaluates is one that alpha-beta evaluates, so its count is at most
--- alpha-beta's; and MTD and SSS* evaluate the same leaves.
+-- alpha-beta's; MTD and SSS* evaluate the same leaves; and there is a smallest pair of solution trees.
 use Prim.Native.Nat.{ℕ, _≤_, _<_}
 use mathlib.Core.Path.{_≡_, sym, ap, _∙_, subst}
-use mathlib.Core.Bool.{cond}
+use mathlib.Core.Bool.{Bool, cond}
 use mathlib.Core.List.{List}
 use lib.ListN.{getD}
 use Rattle.gametree.specs.Layout.{layoutOf}
-use Rattle.gametree.proofs.Theorems.{sss-mtd, layout-own}
+use Rattle.gametree.specs.Certificate.{Smallest}
+use Rattle.gametree.proofs.Theorems.{sss-mtd, layout-own, smallest-exists}
 use Rattle.frames.specs.Frame.{frames}
 use Rattle.frames.specs.Tree.{tree, valuation}
 use Rattle.frames.specs.Formed.{WellFormed}
+use Rattle.frames.specs.Check.{Accepted}
+use Rattle.frames.proofs.Acceptance.{accepted-formed}
 use Rattle.frames.proofs.Proper.{tree-proper}
 use Rattle.alphabeta.specs.declared.Found as ab
 use Rattle.mtd.specs.Outcome.{mtdLeaves}
@@ -39,3 +42,7 @@ pub one-order : (t : List ℕ) → WellFormed t → sssLeaves t ≡ mtdLeaves t
 one-order t wf =
     sss-mtd (valuation t) (tree t) (tree-proper t wf .scored) (layoutOf (tree t))
     (layout-own (tree t) (tree-proper t wf .distinct))
+
+-- there is a smallest pair of max and min solution trees of equal value
+pub smallest-pair : (t : List ℕ) → Accepted t → (g : ℕ → Bool) × (h : ℕ → Bool) × Smallest (valuation t) (tree t) g h
+smallest-pair t a = smallest-exists (valuation t) (tree t) (tree-proper t (accepted-formed t a))

@@ -1,9 +1,8 @@
 -- The user's demands, for MTD: what holds of a call from its contract alone, `mtdOutcome`.
 use Prim.Native.Nat.{ℕ, suc, _≤_, _<_}
 use native.Mathlib.Omega.{arith}
-use mathlib.Core.Path.{_≡_, ap, _∙_}
+use mathlib.Core.Path.{_≡_, sym, ap, _∙_}
 use mathlib.Core.Bool.{Bool, true}
-use mathlib.Core.Option.{some}
 use mathlib.Core.List.{List, [], _∷_, map}
 use lib.ListN.{length, getD}
 use Rattle.gametree.specs.Lists.{Once, among, different}
@@ -14,7 +13,6 @@ use Rattle.gametree.specs.Move.{rootMove}
 use Rattle.gametree.specs.Certificate.{Smallest, pairLeaves}
 use Rattle.gametree.specs.Searches.{byMtd}
 use Rattle.gametree.proofs.Theorems.{mtd-passes, search-once, search-smallest, local-mtd}
-use Rattle.frames.specs.declared.Rejection.{Rejection}
 use Rattle.frames.specs.Frame.{frames}
 use Rattle.frames.specs.Tree.{tree, valuation}
 use Rattle.frames.specs.Formed.{WellFormed}
@@ -29,9 +27,11 @@ use Rattle.certificate.specs.Search.{searchRejection, marksOf, flagsOf}
 use Rattle.mtd.specs.declared.Found.{Found}
 use Rattle.mtd.specs.declared.Answer.the-variants.{Found as FoundAnswer, Rejected}
 use Rattle.mtd.specs.Outcome.{mtdLeaves, findings, mtdOutcome}
+use Rattle.verify.specs.declared.Verdict.the-variants.{Value}
+use Rattle.verify.specs.Check.{verdict}
 use Rattle.demands.specs.Handed.{CertifiedBy, Alike}
-use Rattle.certificate.proofs.Questions.{room-passed}
-use Rattle.demands.proofs.Parts.{passed-accepted, Parts, parts-of, marks-at, flags-certified, marks-count}
+use Rattle.certificate.proofs.Questions.{passed-room, room-passed}
+use Rattle.demands.proofs.Parts.{passed-accepted, Parts, parts-of, marks-at, flags-certified, flags-verified, marks-count}
 use Rattle.demands.proofs.Parts.{marks-reached, count-most, calls-alike}
 
 -- a call with the table t and the buffers e and c finds r, and leaves e′ and c′ in its buffers
@@ -42,11 +42,6 @@ Finds t e c r e′ c′ = record { answer = FoundAnswer r; evaluated = e′; cer
 pub finds : (t e c : List ℕ) → Accepted t → frames t ≤ length e → frames t ≤ length c
     → Finds t e c (findings t) (marksOf (mtdLeaves t) t e) (flagsOf (mtdLeaves t) t c)
 finds t e c a h k = rw (room-passed t (length e) (length c) a h k)
-
--- a rejection leaves both buffers as they were
-pub rejects : (t e c : List ℕ) (r : Rejection) → searchRejection t (length e ∷ length c ∷ []) ≡ some r
-    → mtdOutcome t e c ≡ record { answer = Rejected r; evaluated = e; certificate = c }
-rejects t e c r p = rw p
 
 -- the outcome, taken apart
 parts : (t e c : List ℕ) (r : Found) (e′ c′ : List ℕ) → Finds t e c r e′ c′
@@ -81,6 +76,13 @@ module _ (t e c : List ℕ) (r : Found) (e′ c′ : List ℕ) (o : Finds t e c 
   -- the flags handed back certify the value, by leaves that are marked 1 only
   pub certified : CertifiedBy t e′ c′
   certified = flags-certified (parts t e c r e′ c′ o) formed byMtd
+
+  -- the check of certificates accepts these flags, and gives the value found
+  pub verified : verdict t c′ ≡ Value (r .value)
+  verified =
+      flags-verified (parts t e c r e′ c′ o) formed byMtd accepted
+      (passed-room t (length e) (length c) (parts t e c r e′ c′ o .passed) .2)
+      ∙ ap Value (sym value-minimax)
 
   -- no leaf is evaluated twice
   pub once : Once (mtdLeaves t)

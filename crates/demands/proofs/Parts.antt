@@ -1,15 +1,18 @@
 -- An outcome with findings, taken apart: what it says of the questions, of the findings and of the two buffers, and
 -- what follows for a call of any of the searches. The demands of each search cite this.
-use Prim.Native.Nat.{ℕ, _≤_, _<_}
+use Prim.Native.Nat.{ℕ, _+_, _≤_, _<_}
+use native.Mathlib.Omega.{arith}
 use mathlib.Core.Path.{_≡_, refl, sym, ap, _∙_, subst}
-use mathlib.Core.Bool.{true}
+use mathlib.Core.Bool.{Bool, true, false, cond}
 use mathlib.Core.Option.{Option, none, some}
 use mathlib.Core.List.{List}
 use lib.ListN.{length, getD}
 use borrow.Author.Tests.{eq-eqb}
 use Rattle.gametree.specs.Lists.{All, among}
+use Rattle.gametree.specs.declared.Side.the-variants.{Max, Min}
 use Rattle.gametree.specs.Tree.{least, greatest, minimax}
 use Rattle.gametree.specs.AlphaBeta.{reached}
+use Rattle.gametree.specs.Certificate.{solutionOf, flag}
 use Rattle.gametree.specs.Move.{rootMove}
 use Rattle.gametree.specs.Searches.{Searched}
 use Rattle.gametree.proofs.Lists.{all-at}
@@ -24,8 +27,12 @@ use Rattle.frames.proofs.Proper.{tree-proper}
 use Rattle.frames.proofs.Stated.{both-passed}
 use Rattle.certificate.specs.Buffer.{mark, ones}
 use Rattle.certificate.specs.Search.{outcome, check10, searchRejection, marksOf, flagsOf}
-use Rattle.certificate.proofs.Buffers.{written-at}
+use Rattle.certificate.specs.Value.{valueOf}
+use Rattle.certificate.proofs.Buffers.{written-length, written-at}
 use Rattle.certificate.proofs.Marks.{marked-written, ones-searched}
+use Rattle.verify.specs.declared.Verdict.the-variants.{Value}
+use Rattle.verify.specs.Check.{verdict}
+use Rattle.verify.proofs.Theorems.{certificate-verdict}
 use Rattle.demands.specs.Handed.{CertifiedBy, Alike}
 use Rattle.demands.proofs.Handed.{flags-certify, agreed-scores, same-value, same-move, same-marks, same-flags}
 
@@ -57,6 +64,13 @@ parts-of found rejected same apart none w f t e c r e′ c′ o =
     }
 parts-of found rejected same apart (some x) w f t e c r e′ c′ o = absurd (apart r x (ap (λ y. y .answer) o))
 
+-- a flag is at most 3
+two-bits : (x y : Bool) → cond x 1 0 + cond y 2 0 ≤ 3
+two-bits true true = omega arith
+two-bits true false = omega arith
+two-bits false true = omega arith
+two-bits false false = omega arith
+
 module _ {F : Type 0} {q : Option Rejection} {w : List ℕ} {f : F} {t e c : List ℕ} {r : F} {e′ c′ : List ℕ}
     (p : Parts q w f t e c r e′ c′) where
   -- the leaves are marked 1, and every other node 0
@@ -67,6 +81,25 @@ module _ {F : Type 0} {q : Option Rejection} {w : List ℕ} {f : F} {t e c : Lis
     -- the flags certify the value, by leaves that are marked 1 only
     pub flags-certified : CertifiedBy t e′ c′
     flags-certified = rw (p .marks, p .flags) (flags-certify t wf s e c)
+
+    -- the check of certificates accepts them, and gives the minimax value
+    pub flags-verified : Accepted t → frames t ≤ length c
+        → verdict t c′ ≡ Value (valueOf (minimax (valuation t) (tree t)))
+    flags-verified a h =
+        let handed = flag (valuation t) (among w) (tree t) in
+        certificate-verdict t c′ (minimax (valuation t) (tree t)) (record {
+          accepted = a;
+          enough = omega (arith, h, ap length (p .flags), written-length handed (frames t) c h);
+          inRange = λ i l.
+              omega (
+                arith,
+                ap (λ x. getD x i 0) (p .flags),
+                written-at handed (frames t) i c l,
+                two-bits (solutionOf Max (valuation t) (among w) (tree t) i)
+                    (solutionOf Min (valuation t) (among w) (tree t) i),
+              );
+          certifies = flags-certified .certifies;
+        })
 
     -- there are as many marks at 1 as leaves
     pub marks-count : length w ≡ ones e′ (frames t)

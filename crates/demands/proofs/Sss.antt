@@ -3,7 +3,7 @@ use Prim.Native.Nat.{ℕ, _*_, _≤_, _<_}
 use native.Mathlib.Omega.{arith}
 use mathlib.Core.Path.{_≡_, sym, ap, _∙_, subst}
 use mathlib.Core.Bool.{Bool, true}
-use mathlib.Core.Option.{none, some}
+use mathlib.Core.Option.{none}
 use mathlib.Core.List.{List, [], _∷_, _++_}
 use lib.ListN.{length, getD, drop, replicate}
 use borrow.Author.Tests.{le-leb}
@@ -15,7 +15,6 @@ use Rattle.gametree.specs.Sss.{sss}
 use Rattle.gametree.specs.Move.{rootMove}
 use Rattle.gametree.specs.Certificate.{Smallest, pairLeaves}
 use Rattle.gametree.proofs.Theorems.{sss-replacements, layout-own, search-once, search-smallest, local-sss}
-use Rattle.frames.specs.declared.Rejection.{Rejection}
 use Rattle.frames.specs.Frame.{frames}
 use Rattle.frames.specs.Tree.{tree, valuation}
 use Rattle.frames.specs.Formed.{WellFormed}
@@ -34,9 +33,12 @@ use Rattle.sss.specs.declared.Found.{Found}
 use Rattle.sss.specs.declared.Answer.the-variants.{Found as FoundAnswer, Rejected}
 use Rattle.sss.specs.Entry.{blank}
 use Rattle.sss.specs.Outcome.{runOf, sssLeaves, findings, check15, sssRejection, listAfter, sssOutcome}
-use Rattle.sss.proofs.Whole.{searched, found-outcome, rejected-outcome}
+use Rattle.sss.proofs.Whole.{searched, found-outcome}
+use Rattle.sss.proofs.Whole.{passed as passed-rooms}
+use Rattle.verify.specs.declared.Verdict.the-variants.{Value}
+use Rattle.verify.specs.Check.{verdict}
 use Rattle.demands.specs.Handed.{CertifiedBy, Alike}
-use Rattle.demands.proofs.Parts.{passed-accepted, Parts, parts-of, marks-at, flags-certified, marks-count}
+use Rattle.demands.proofs.Parts.{passed-accepted, Parts, parts-of, marks-at, flags-certified, flags-verified, marks-count}
 use Rattle.demands.proofs.Parts.{marks-reached, count-most, calls-alike}
 
 -- a call with the table t, the list l and the buffers e and c finds r, and leaves l′, e′ and c′
@@ -53,12 +55,6 @@ pub finds : (t : List ℕ) (l : List State) (e c : List ℕ) → Accepted t → 
 finds t l e c a i j k =
     sym (found-outcome t l e c (accepted-formed t a)
     (rw (a, le-leb (frames t) (length l) i, le-leb (frames t) (length e) j, le-leb (frames t) (length c) k)))
-
--- a rejection leaves the list and both buffers as they were
-pub rejects : (t : List ℕ) (l : List State) (e c : List ℕ) (r : Rejection)
-    → searchRejection t (length l ∷ length e ∷ length c ∷ []) ≡ some r
-    → sssOutcome t l e c ≡ record { list = l; search = record { answer = Rejected r; evaluated = e; certificate = c } }
-rejects t l e c r p = rejected-outcome t l e c r p
 
 -- the outcome, taken apart
 parts : (t : List ℕ) (l : List State) (e c : List ℕ) (r : Found) (l′ : List State) (e′ c′ : List ℕ)
@@ -79,9 +75,12 @@ module _ (t : List ℕ) (l : List State) (e c : List ℕ) (r : Found) (l′ : Li
   found : r ≡ findings t
   found = parts t l e c r l′ e′ c′ o .found
 
+  first-ten : searchRejection t lengths ≡ none
+  first-ten = both-passed (searchRejection t lengths) (check15 t) passed .0
+
   -- only an accepted table gets findings
   pub accepted : Accepted t
-  accepted = passed-accepted t lengths (both-passed (searchRejection t lengths) (check15 t) passed .0)
+  accepted = passed-accepted t lengths first-ten
 
   formed : WellFormed t
   formed = accepted-formed t accepted
@@ -105,6 +104,13 @@ module _ (t : List ℕ) (l : List State) (e c : List ℕ) (r : Found) (l′ : Li
   -- the flags handed back certify the value, by leaves that are marked 1 only
   pub certified : CertifiedBy t e′ c′
   certified = flags-certified (parts t l e c r l′ e′ c′ o) formed (searched t formed)
+
+  -- the check of certificates accepts these flags, and gives the value found
+  pub verified : verdict t c′ ≡ Value (r .value)
+  verified =
+      flags-verified (parts t l e c r l′ e′ c′ o) formed (searched t formed) accepted
+      (passed-rooms t (length l) (length e) (length c) first-ten .1 .2)
+      ∙ ap Value (sym value-minimax)
 
   -- no leaf is evaluated twice
   pub once : Once (sssLeaves t)
