@@ -1,28 +1,46 @@
 #!/usr/bin/env python3
-"""Writes samples/*.tree with samples/*.expected, what the program prints for each, by oracle.py."""
+"""Writes ../samples/*.tree with *.expected, what the program prints for each, by oracle.py."""
 import os
 
 import oracle as o
 
-OUT = os.path.join(os.path.dirname(os.path.abspath(__file__)), "samples")
+OUT = os.path.join(os.path.dirname(os.path.abspath(__file__)), "..", "samples")
 
 # Four moves for White, scores in hundredths of a man. Moves 2 and 4 both reach -20; the first of them is the answer.
 # Alpha-beta values 15 of the 19 leaves, SSS* 11.
 ENDING = [[-50, [20, 70, -70], [-60, -70, 70]], [0, -20], [[-20, 0, 10], [-60, -60, 40], -70], [-20, 90, 0]]
 
 
-def main():
-    os.makedirs(OUT, exist_ok=True)
+def chain(nodes):
+    """A path of nodes, the last one a leaf of value 1."""
+    return b"".join(b"%04X01000000\n" % (k + 1) for k in range(nodes - 1)) + b"000000000001\n"
+
+
+def samples():
     first = o.file_of(o.table_of_nest([[1, 2], [3, 4]]), upper=True)
     ending = o.file_of(o.table_of_nest(ENDING), upper=True)
-    lines = ending.split(b"\n")
     # a child count that went up by one: the next inner node's first child no longer fits
-    miscounted = lines[:]
+    miscounted = ending.split(b"\n")
     miscounted[2] = miscounted[2][:4] + b"03" + miscounted[2][6:]
-    for name, file in (("seven", first),                                # 01's own sample
-                       ("ending", ending),                              # wider: negative values, ties, two depths of leaves
-                       ("cut-off", ending[:200]),                       # a transfer that broke off in line 15
-                       ("miscounted", b"\n".join(miscounted))):
+    return {
+        "seven": first,                                             # 01's own sample
+        "ending": ending,                                           # wider: negative values, ties, two depths of leaves
+        "cut-off": ending[:200],                                    # a transfer that broke off in line 15
+        "miscounted": b"\n".join(miscounted),
+        "refused-1": b"",
+        "refused-3": first + b"\n",                                 # a blank line at the end
+        "refused-4": b"000000010005\n",
+        "refused-5": b"000129000000\n" + b"000000000000\n" * 41,    # 41 children
+        "refused-6": b"000000000005\n000101000000\n",               # a leaf, and a node that names itself as its child
+        "refused-7": b"000000007D01\n",                             # 32,001
+        "refused-8": b"000000000005\n000000000006\n",               # two leaves
+        "refused-9": chain(26),
+    }
+
+
+def main():
+    os.makedirs(OUT, exist_ok=True)
+    for name, file in samples().items():
         with open(os.path.join(OUT, name + ".tree"), "wb") as f:
             f.write(file)
         with open(os.path.join(OUT, name + ".expected"), "wb") as f:
