@@ -1,35 +1,46 @@
 #!/usr/bin/env python3
-"""Runs a compiled `analyse` (or baseline) on every file of cases/cases.json and on samples/, and compares.
+"""Runs a compiled `analyse` on the files of crates/cases/stdin, on samples/ and on input that cannot be read, and compares.
 
     check_cases.py PROGRAM
 """
-import json
 import os
 import subprocess
 import sys
 
-HERE = os.path.dirname(os.path.abspath(__file__))
+ROOT = os.path.dirname(os.path.dirname(os.path.abspath(__file__)))
+CASES = os.path.join(ROOT, "crates", "cases")
+SAMPLES = os.path.join(ROOT, "samples")
+
+
+def read(*path):
+    with open(os.path.join(*path), "rb") as f:
+        return f.read()
+
+
+def parts(data):
+    """Title and text of each case."""
+    return [case.split(b"\n", 1) for case in data.split(b"# ")[1:]]
 
 
 def main():
     program = os.path.abspath(sys.argv[1])
-    todo = []
-    for case in json.load(open(os.path.join(HERE, "cases", "cases.json"))):
-        if case["entry"] == "file":
-            todo.append((case["title"], os.path.join(HERE, "cases", case["path"]), case["expect"].encode()))
-    samples = os.path.join(HERE, "samples")
-    for name in sorted(os.listdir(samples)):
+    expected = dict(parts(read(CASES, "stdout")))
+    todo = [(title, file, expected[title]) for title, file in parts(read(CASES, "stdin")) if b"@" not in file]
+    for name in sorted(os.listdir(SAMPLES)):
         if name.endswith(".tree"):
-            expect = open(os.path.join(samples, name[:-5] + ".expected"), "rb").read()
-            todo.append(("sample " + name, os.path.join(samples, name), expect))
+            todo.append((name.encode(), read(SAMPLES, name), read(SAMPLES, name[:-5] + ".expected")))
     bad = 0
-    for title, path, expect in todo:
-        with open(path, "rb") as f:
-            got = subprocess.run([program], stdin=f, capture_output=True, timeout=60).stdout
-        if got != expect:
+    for title, file, want in todo:
+        got = subprocess.run([program], input=file, capture_output=True, timeout=60)
+        if (got.stdout, got.stderr, got.returncode) != (want, b"", 0):
             bad += 1
-            print("DIFFERS %s: got %r, want %r" % (title, got, expect))
-    print("%d files, %d differ" % (len(todo), bad))
+            print("DIFFERS %s: got %r, want %r" % (title.decode(), got, want))
+    directory = os.open(ROOT, os.O_RDONLY)
+    got = subprocess.run([program], stdin=directory, capture_output=True, timeout=60)
+    if got.stdout or not got.stderr:
+        bad += 1
+        print("DIFFERS a directory for input: got %r, want a line on standard error and nothing else" % (got,))
+    print("%d files, %d differ" % (len(todo) + 1, bad))
     sys.exit(1 if bad else 0)
 
 

@@ -1,10 +1,12 @@
 #!/usr/bin/env python3
 """Runs a compiled program (standard input to standard output) on generated files and compares it with oracle.py.
 
-    fuzz.py PROGRAM [--good N] [--damaged N] [--large N] [--seed S] [--keep DIR] [--detail]
+    fuzz.py PROGRAM [--good N] [--damaged N] [--large N] [--every] [--seed S] [--keep DIR] [--detail]
 
 Good files: random shapes, widths to 40, depths to 24, ties, extremes. Damaged files: every kind below.
 Large files: 4,096 nodes, whole and damaged. A few are fed in pieces, with pauses, and a few from a file.
+Limits: files of 53,247 to 53,250 bytes and around the size of the program's buffer, always. With --every also each change of one
+byte of a small file: cut there, lost, put in, or another byte. A question from 1 to 9 that no file got a "no" to is an error.
 The program's output, its standard error (must be empty) and its exit status (must be 0) are compared.
 With --detail (for baseline.c) the program gets the word -d and has to print marks, flags, passes and replacements too.
 Files that differ are kept in DIR (default /tmp/fuzz-failures); the exit status is 1 if there is one.
@@ -226,6 +228,42 @@ def large(rng):
     return "large truncated", truncate(rng, full)
 
 
+# ---------------------------------------------------------------- limits, and every change of one byte
+
+def limits():
+    whole = o.file_of(o.regular(15, 273, lambda k: k))           # 4,096 lines, 53,248 bytes
+    yield "4096 lines", whole
+    yield "4096 lines, last line feed missing", whole[:-1]
+    yield "4096 lines and a line feed", whole + b"\n"
+    yield "4096 lines and a digit", whole + b"0"
+    yield "4097 lines", o.file_of(o.regular(16, 256, lambda k: k))
+    for size in (53247, 53248, 53249, 53250, 65535, 65536, 65537, 131072):
+        yield "%d leaves' bytes" % size, (b"000000000005\n" * (size // 13 + 1))[:size]
+        yield "%d line feeds" % size, b"\n" * size
+        yield "%d zero bytes" % size, bytes(size)
+        if size > len(whole):
+            yield "a tree and more, %d bytes" % size, whole + (b"000000000005\n" * 6000)[:size - len(whole)]
+    for width, inner in ((40, 1), (41, 1), (40, 102), (1, 24), (1, 25), (2, 2047), (255, 1), (256, 1)):
+        yield "regular %d %d" % (width, inner), o.file_of(o.regular(width, inner, lambda k: k))
+
+
+OTHER_BYTES = bytes(range(128)) + b"\x80\xaf\xc1\xff"
+
+
+def every_change():
+    for name, nest in (("leaf", -5), ("first row", [[1, 2], [3, 4]])):
+        file = o.file_of(o.table_of_nest(nest))
+        for i in range(len(file) + 1):
+            yield "%s cut at %d" % (name, i), file[:i]
+            yield "%s from %d" % (name, i), file[i:]
+            for byte in b"0f\n\r \0":
+                yield "%s, %d put in at %d" % (name, byte, i), file[:i] + bytes((byte,)) + file[i:]
+        for i in range(len(file)):
+            yield "%s without %d" % (name, i), file[:i] + file[i + 1:]
+            for byte in OTHER_BYTES:
+                yield "%s, %d at %d" % (name, byte, i), file[:i] + bytes((byte,)) + file[i + 1:]
+
+
 # ---------------------------------------------------------------- running
 
 def run_plain(program, file):
@@ -269,6 +307,9 @@ def cases(rng, args):
         yield damaged(rng, rng.choice((7, 20, 60)))
     for i in range(args.large):
         yield large(rng)
+    yield from limits()
+    if args.every:
+        yield from every_change()
 
 
 def main():
@@ -277,6 +318,7 @@ def main():
     parser.add_argument("--good", type=int, default=2000)
     parser.add_argument("--damaged", type=int, default=3000)
     parser.add_argument("--large", type=int, default=80)
+    parser.add_argument("--every", action="store_true")
     parser.add_argument("--seed", type=int, default=1)
     parser.add_argument("--keep", default="/tmp/fuzz-failures")
     parser.add_argument("--detail", action="store_true")
@@ -311,7 +353,10 @@ def main():
     print("%d files, %d differ, %.1f s (model %.1f s); answers: %s" % (
         total, bad, time.time() - start, model_time,
         ", ".join("%s %d" % (k, v) for k, v in sorted(answers.items(), key=lambda x: (x[0] == "result", x[0])))))
-    sys.exit(1 if bad else 0)
+    unasked = [str(number) for number in range(1, 10) if str(number) not in answers]
+    if unasked:
+        print("no file was refused with " + ", ".join(unasked))
+    sys.exit(1 if bad or unasked else 0)
 
 
 if __name__ == "__main__":

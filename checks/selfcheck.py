@@ -1,9 +1,10 @@
 #!/usr/bin/env python3
 """Checks oracle.py against document 01, table 2 of document 002, the examples of obligations B, and random trees.
 
-    selfcheck.py [COUNT]    COUNT random trees (default 20000)
+    selfcheck.py [COUNT]    COUNT random trees (default 20000); the papers are looked for in PAPERS (default /work/shared)
 """
 import itertools
+import os
 import random
 import re
 import sys
@@ -12,7 +13,7 @@ import time
 import oracle as o
 import trees
 
-SHARED = "/work/shared/"
+PAPERS = os.environ.get("PAPERS", "/work/shared")
 checks = 0
 wrong = []
 
@@ -44,7 +45,7 @@ def run(call, table):
 
 
 def cases_of_01():
-    text = open(SHARED + "01-scope.md").read()
+    text = open(os.path.join(PAPERS, "01-scope.md")).read()
     rows = re.findall(r"^\| (\d \d \d \d) \| (-?\d+) \| (\d+) \| (\d+) \| (\d+) \| P \|$", text, re.M)
     same("six P rows in 01", len(rows), 6)
     for leaves, value, move, ab, sss in rows:
@@ -93,7 +94,7 @@ class Arrival:
 
 
 def table_2():
-    lines = open(SHARED + "002_cf08bdc5a78748fd.txt").read().split("\n")
+    lines = open(os.path.join(PAPERS, "002_cf08bdc5a78748fd.txt")).read().split("\n")
     at = next(i for i, l in enumerate(lines) if l.startswith("TABLE 2."))
     rows = []
     for line in lines[at:]:

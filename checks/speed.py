@@ -1,7 +1,7 @@
 #!/usr/bin/env python3
 """Large trees for timing, and the timing itself.
 
-    speed.py make                       writes speed/*.tree and speed/README
+    speed.py make                       writes the trees, and README with their counts, to SPEED (default /tmp/speed)
     speed.py time PROGRAM.. [--runs N]  wall time in milliseconds of each program on each file, the least of N runs,
                                         less the time on a tree of one leaf; outputs are compared with oracle.py
 
@@ -17,8 +17,7 @@ import time
 import oracle as o
 import trees
 
-HERE = os.path.dirname(os.path.abspath(__file__))
-SPEED = os.path.join(HERE, "speed")
+SPEED = os.environ.get("SPEED", "/tmp/speed")
 
 
 def bundle():

@@ -1,0 +1,2 @@
+-- Why the program meets its contracts.
+mod Reading

@@ -1,0 +1,11 @@
+-- What reading the whole input promises.
+use Prim.Native.Nat.{ℕ, _≤_}
+use mathlib.Core.List.{List}
+use lib.ListN.{length}
+use Rattle.analyse.specs.declared.Input.{Input}
+use Rattle.analyse.specs.declared.Input.the-variants.{Bytes, Failed}
+
+-- the bytes that were read are the first ones of the buffer
+abbrev pub Fits : List ℕ → Input → Type 0
+Fits file (Bytes size) = size ≤ length file
+Fits file Failed = Unit {0}

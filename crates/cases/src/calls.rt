@@ -1,0 +1,217 @@
+// The calls of the libraries on lent memory, and what they leave there.
+use crate::NUMBERS;
+use crate::print::print_byte;
+use crate::print::print_bytes;
+use crate::print::print_checked;
+use crate::print::print_count;
+use crate::print::print_line_feed;
+use crate::print::print_rejection;
+use crate::print::print_value;
+use frames::Checked;
+use frames::FRAME_SIZE;
+use frames::MAX_NODES;
+use libc::STDOUT_FILENO;
+use treefile::Cursor;
+use treefile::Frame;
+use treefile::Line;
+use verify::Verdict;
+ghost use Rattle.io.specs.Counts.{Counts};
+
+// A table with one frame more than a tree may have.
+const TABLE_SIZE: usize = FRAME_SIZE * (MAX_NODES + 1);
+
+// What lent buffers are filled with: no call writes this byte.
+const FILLED: u8 = 170;
+
+// The verdict on flags that are given.
+pub fn print_verdict_of(file: &[u8], numbers: &[u32]) {
+    let mut table = [0u8; TABLE_SIZE];
+    let size = read_table(file, &mut table);
+    let mut flags = [0u8; NUMBERS];
+    let count = copy_flags(numbers, &mut flags);
+    print_verdict(&table[..size], &flags[..count]);
+}
+
+// The three searches with buffers of these lengths for the marks and for the certificate.
+pub fn print_searches(file: &[u8], marks: u32, flags: u32) {
+    let mut table = [0u8; TABLE_SIZE];
+    let size = read_table(file, &mut table);
+    print_all(&table[..size], marks, flags);
+}
+
+// The calls that check a table, on so many bytes of it and with empty buffers: zeros follow the frames of the file.
+pub fn print_checks(file: &[u8], size: u32) {
+    let mut table = [0u8; TABLE_SIZE];
+    read_table(file, &mut table);
+    let end = io::count(size as isize, &table);
+    print_checked(b"check", frames::check(&table[..end]));
+    print_verdict(&table[..end], b"");
+    print_all(&table[..end], 0, 0);
+}
+
+// The reader with a table of this length, and what that holds afterwards.
+pub fn print_reading(file: &[u8], size: u32) {
+    let mut table = [FILLED; TABLE_SIZE];
+    let end = io::count(size as isize, &table);
+    print_read(file, &mut table[..end]);
+}
+
+fn print_read(file: &[u8], table: &mut [u8]) {
+    print_checked(b"read", treefile::read(file, table));
+    print_bytes(b"table", table);
+}
+
+// The line at a position, and the position then.
+pub fn print_line(file: &[u8], at: u32) {
+    let cursor = Cursor { at: at as usize };
+    match cursor.read_line(file) {
+        Line::Read(frame, next) => {
+            print_frame(frame);
+            print_count(next.at);
+        }
+        Line::NoLine(same) => {
+            io::write_all(STDOUT_FILENO, b"no line");
+            print_count(same.at);
+        }
+    }
+    print_line_feed();
+}
+
+// The children of a node, as a part of the table.
+pub fn print_children(file: &[u8], node: u32) {
+    let mut table = [0u8; TABLE_SIZE];
+    let size = read_table(file, &mut table);
+    print_bytes(b"children", frames::children(&table[..size], node as usize));
+}
+
+// Reads a file into a table: how many bytes its frames have, 0 where the file is refused.
+fn read_table(file: &[u8], table: &mut [u8]) -> usize
+    ensures { λ r. ⌜ Counts r (now (table .exit)) ⌝ }
+{
+    match treefile::read(file, table) {
+        Checked::Nodes(nodes) => io::count(frames_size(nodes), table),
+        Checked::Rejected(_) => 0,
+    }
+}
+
+// How many bytes so many frames have.
+fn frames_size(nodes: usize) -> isize {
+    if nodes < MAX_NODES {
+        return (FRAME_SIZE * nodes) as isize;
+    }
+    (FRAME_SIZE * MAX_NODES) as isize
+}
+
+// The numbers as flags; how many they are.
+fn copy_flags(numbers: &[u32], flags: &mut [u8]) -> usize
+    ensures { λ r. ⌜ Counts r (now (flags .exit)) ⌝ }
+{
+    for i in 0..flags.len() {
+        flags[i] = flag(numbers, i);
+    }
+    io::count(numbers.len() as isize, flags)
+}
+
+// The flag at an index; 0 past the last one.
+fn flag(numbers: &[u32], i: usize) -> u8 {
+    if i < numbers.len() {
+        return (numbers[i] % 256) as u8;
+    }
+    0
+}
+
+// The three searches.
+fn print_all(table: &[u8], marks: u32, flags: u32) {
+    print_search(Method::AlphaBeta, table, marks, flags);
+    print_search(Method::Mtd, table, marks, flags);
+    print_search(Method::Sss, table, marks, flags);
+}
+
+enum Method {
+    AlphaBeta,
+    Mtd,
+    Sss,
+}
+
+// A search with parts of filled buffers.
+fn print_search(method: Method, table: &[u8], marks: u32, flags: u32) {
+    let mut evaluated = [FILLED; MAX_NODES];
+    let mut certificate = [FILLED; MAX_NODES];
+    let m = io::count(marks as isize, &evaluated);
+    let f = io::count(flags as isize, &certificate);
+    match method {
+        Method::AlphaBeta => print_alphabeta(table, &mut evaluated[..m], &mut certificate[..f]),
+        Method::Mtd => print_mtd(table, &mut evaluated[..m], &mut certificate[..f]),
+        Method::Sss => print_sss(table, &mut evaluated[..m], &mut certificate[..f]),
+    }
+}
+
+fn print_alphabeta(table: &[u8], evaluated: &mut [u8], certificate: &mut [u8]) {
+    io::write_all(STDOUT_FILENO, b"ab");
+    match alphabeta::search(table, evaluated, certificate) {
+        alphabeta::Answer::Found(found) => print_found(found.value, found.root_move, found.leaves),
+        alphabeta::Answer::Rejected(rejection) => print_rejection(rejection),
+    }
+    print_line_feed();
+    print_buffers(table, evaluated, certificate);
+}
+
+fn print_mtd(table: &[u8], evaluated: &mut [u8], certificate: &mut [u8]) {
+    io::write_all(STDOUT_FILENO, b"mtd");
+    match mtd::search(table, evaluated, certificate) {
+        mtd::Answer::Found(found) => {
+            print_found(found.value, found.root_move, found.leaves);
+            print_count(found.passes);
+        }
+        mtd::Answer::Rejected(rejection) => print_rejection(rejection),
+    }
+    print_line_feed();
+    print_buffers(table, evaluated, certificate);
+}
+
+fn print_sss(table: &[u8], evaluated: &mut [u8], certificate: &mut [u8]) {
+    io::write_all(STDOUT_FILENO, b"sss");
+    match sss::solve(table, evaluated, certificate) {
+        sss::Answer::Found(found) => {
+            print_found(found.value, found.root_move, found.leaves);
+            print_count(found.replacements);
+        }
+        sss::Answer::Rejected(rejection) => print_rejection(rejection),
+    }
+    print_line_feed();
+    print_buffers(table, evaluated, certificate);
+}
+
+// The value, the root move and the count of evaluated leaves.
+fn print_found(value: i16, root_move: usize, leaves: usize) {
+    print_value(value);
+    print_count(root_move);
+    print_count(leaves);
+}
+
+// The marks, the certificate, and the verdict on it.
+fn print_buffers(table: &[u8], evaluated: &[u8], certificate: &[u8]) {
+    print_bytes(b"evaluated", evaluated);
+    print_bytes(b"certificate", certificate);
+    print_verdict(table, certificate);
+}
+
+// What the check of a certificate gives.
+fn print_verdict(table: &[u8], flags: &[u8]) {
+    io::write_all(STDOUT_FILENO, b"verify");
+    match verify::check(table, flags) {
+        Verdict::Value(value) => print_value(value),
+        Verdict::Rejected(rejection) => print_rejection(rejection),
+    }
+    print_line_feed();
+}
+
+fn print_frame(frame: Frame) {
+    io::write_all(STDOUT_FILENO, b"line");
+    print_byte(frame.byte0);
+    print_byte(frame.byte1);
+    print_byte(frame.byte2);
+    print_byte(frame.byte3);
+    print_byte(frame.byte4);
+    print_byte(frame.byte5);
+}

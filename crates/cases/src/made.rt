@@ -1,0 +1,86 @@
+// Regular trees, made here because their files are long: the first nodes have `width` children each, and a leaf's value is its number.
+use crate::LINE_FEED;
+use crate::print::print_report;
+use libc::STDOUT_FILENO;
+ghost use Prim.Native.Nat.{_+_, _*_, _<_, _≤_};
+ghost use lib.ListN.{length};
+
+// The bytes of a line, its line feed included, and how many numbers two bytes hold.
+const LINE_SIZE: usize = 13;
+
+const TWO_BYTES: usize = 65536;
+
+// The reports of the trees at the limits of 01, and just past them.
+pub fn print_made_trees() {
+    print_tree(b"# 40 children\n", 40, 1);
+    print_tree(b"# 41 children\n", 41, 1);
+    print_tree(b"# depth 24\n", 1, 24);
+    print_tree(b"# depth 25\n", 1, 25);
+    print_tree(b"# 4096 frames\n", 15, 273);
+    print_tree(b"# 4097 frames\n", 16, 256);
+}
+
+// The title and the report of the tree whose first `inner` nodes have `width` children each.
+fn print_tree(title: &[u8], width: usize, inner: usize)
+    requires { ⌜ (width < 42) × (inner < 274) × (width * inner < 4097) ⌝ }
+{
+    let mut file = io::large_buffer();
+    let nodes = 1 + width * inner;
+    write_tree(&mut file, width, inner, nodes);
+    io::write_all(STDOUT_FILENO, title);
+    let size = io::count((LINE_SIZE * nodes) as isize, &file);
+    print_report(&file[..size]);
+}
+
+// The lines of a tree of so many nodes.
+fn write_tree(file: &mut [u8], width: usize, inner: usize, nodes: usize)
+    requires { ⌜ (width < 42) × (13 * nodes ≤ length (now file)) ⌝ }
+{
+    let mut first = 1;
+    for node in 0..nodes {
+        write_node(file, width, inner, node, first);
+        first = (first + width) % TWO_BYTES;
+    }
+}
+
+// The line of a node: an inner one with this first child, or a leaf.
+fn write_node(file: &mut [u8], width: usize, inner: usize, node: usize, first: usize)
+    requires { ⌜ (width < 42) × (13 * node + 13 ≤ length (now file)) ⌝ }
+{
+    if node < inner {
+        write_line(file, LINE_SIZE * node, first, width, 0);
+        return;
+    }
+    write_line(file, LINE_SIZE * node, 0, 0, node);
+}
+
+// A node's line from an index on: its first child, its count of children with a zero byte, and its value.
+fn write_line(file: &mut [u8], at: usize, first: usize, count: usize, value: usize)
+    requires { ⌜ (at + 13 ≤ length (now file)) × (count < 42) ⌝ }
+{
+    write_number(file, at, first);
+    write_number(file, at + 4, 256 * count);
+    write_number(file, at + 8, value);
+    file[at + 12] = LINE_FEED;
+}
+
+// The two low bytes of n as four digits, from an index on.
+fn write_number(file: &mut [u8], at: usize, n: usize)
+    requires { ⌜ at + 4 ≤ length (now file) ⌝ }
+{
+    file[at] = digit(n / 4096 % 16);
+    file[at + 1] = digit(n / 256 % 16);
+    file[at + 2] = digit(n / 16 % 16);
+    file[at + 3] = digit(n % 16);
+}
+
+// The hexadecimal digit of a number.
+fn digit(n: usize) -> u8
+    requires { ⌜ n < 16 ⌝ }
+{
+    if n < 10 {
+        b'0' + n as u8
+    } else {
+        b'A' + (n - 10) as u8
+    }
+}

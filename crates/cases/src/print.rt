@@ -1,0 +1,70 @@
+// What the cases print: reports, numbers, rejections, and the bytes of a buffer.
+use frames::Checked;
+use frames::Rejection;
+use libc::STDOUT_FILENO;
+use report::Answer;
+use report::TEXT_SIZE;
+
+// What the program `analyse` prints for a file.
+pub fn print_report(file: &[u8]) {
+    let mut text = [0u8; TEXT_SIZE];
+    match report::write(file, &mut text) {
+        Answer::Length(size) => {
+            io::write_all(STDOUT_FILENO, &text[..size]);
+        }
+        Answer::Rejected(rejection) => print_rejection(rejection),
+    }
+}
+
+// A word and what a check answers, as a line.
+pub fn print_checked(word: &[u8], checked: Checked) {
+    io::write_all(STDOUT_FILENO, word);
+    match checked {
+        Checked::Nodes(n) => print_count(n),
+        Checked::Rejected(rejection) => print_rejection(rejection),
+    }
+    print_line_feed();
+}
+
+// A word and the bytes of a buffer in base ten, as a line.
+pub fn print_bytes(word: &[u8], buffer: &[u8]) {
+    io::write_all(STDOUT_FILENO, word);
+    for i in 0..buffer.len() {
+        print_byte(buffer[i]);
+    }
+    print_line_feed();
+}
+
+// A blank and a byte in base ten.
+pub fn print_byte(byte: u8) {
+    io::write_all(STDOUT_FILENO, b" ");
+    io::print_decimal(STDOUT_FILENO, byte as u64);
+}
+
+// A blank and a count in base ten.
+pub fn print_count(n: usize) {
+    io::write_all(STDOUT_FILENO, b" ");
+    io::print_decimal(STDOUT_FILENO, n as u64);
+}
+
+// A blank and a value in base ten, a minus sign before a negative one.
+pub fn print_value(value: i16) {
+    let wide = value as i64;
+    if wide < 0 {
+        io::write_all(STDOUT_FILENO, b" -");
+        io::print_decimal(STDOUT_FILENO, (0 - wide) as u64);
+    } else {
+        print_count(wide as usize);
+    }
+}
+
+// A blank and a rejection: its word, number and place.
+pub fn print_rejection(rejection: Rejection) {
+    io::write_all(STDOUT_FILENO, b" refused");
+    print_byte(rejection.number);
+    print_count(rejection.place);
+}
+
+pub fn print_line_feed() {
+    io::write_all(STDOUT_FILENO, b"\n");
+}
