@@ -20,11 +20,7 @@ ghost use Rattle.io.specs.Counts.{Counts};
 // A table with one frame more than a tree may have.
 const TABLE_SIZE: usize = FRAME_SIZE * (MAX_NODES + 1);
 
-// What the buffers lent to a search are parts of, and the table lent to the reader; both are filled with a byte that no call writes.
-const BUFFER_SIZE: usize = 10;
-
-const SHORT_TABLE_SIZE: usize = 48;
-
+// What lent buffers are filled with: no call writes this byte.
 const FILLED: u8 = 170;
 
 // The verdict on flags that are given.
@@ -55,7 +51,7 @@ pub fn print_checks(file: &[u8], size: u32) {
 
 // The reader with a table of this length, and what that holds afterwards.
 pub fn print_reading(file: &[u8], size: u32) {
-    let mut table = [FILLED; SHORT_TABLE_SIZE];
+    let mut table = [FILLED; TABLE_SIZE];
     let end = io::count(size as isize, &table);
     print_read(file, &mut table[..end]);
 }
@@ -139,8 +135,8 @@ enum Method {
 
 // A search with parts of filled buffers.
 fn print_search(method: Method, table: &[u8], marks: u32, flags: u32) {
-    let mut evaluated = [FILLED; BUFFER_SIZE];
-    let mut certificate = [FILLED; BUFFER_SIZE];
+    let mut evaluated = [FILLED; MAX_NODES];
+    let mut certificate = [FILLED; MAX_NODES];
     let m = io::count(marks as isize, &evaluated);
     let f = io::count(flags as isize, &certificate);
     match method {

@@ -5,8 +5,10 @@ use libc::STDOUT_FILENO;
 ghost use Prim.Native.Nat.{_+_, _*_, _<_, _≤_};
 ghost use lib.ListN.{length};
 
-// The bytes of a line, its line feed included.
+// The bytes of a line, its line feed included, and how many numbers two bytes hold.
 const LINE_SIZE: usize = 13;
+
+const TWO_BYTES: usize = 65536;
 
 // The reports of the trees at the limits of 01, and just past them.
 pub fn print_made_trees() {
@@ -37,7 +39,7 @@ fn write_tree(file: &mut [u8], width: usize, inner: usize, nodes: usize)
     let mut first = 1;
     for node in 0..nodes {
         write_node(file, width, inner, node, first);
-        first = (first + width) % 65536;
+        first = (first + width) % TWO_BYTES;
     }
 }
 

@@ -1,5 +1,5 @@
-// Runs the cases of standard input and prints their results. A case is a line with its title, the bytes of a file, and, where not the report of the
-// file is asked for, a line with the call and its numbers (checks/README.md).
+// Runs the cases of standard input and prints their results. A case is a line with its title, the bytes of a file, and, unless the report of the file
+// is asked for, a line with a call and its numbers (checks/README.md).
 mod calls;
 mod made;
 mod print;
@@ -18,8 +18,10 @@ const CALL: u8 = b'@';
 
 const LINE_FEED: u8 = 10;
 
-// The most numbers of a call.
-const NUMBERS: usize = 16;
+// The most numbers of a call, and of a number's digits all but the last.
+const NUMBERS: usize = 80;
+
+const FOUR_DIGITS: u32 = 10000;
 
 fn main() {
     made::print_made_trees();
@@ -51,7 +53,7 @@ fn print_case(case: &[u8]) {
     print_answer(&case[start..call], &case[call..]);
 }
 
-// What a call gives for a file.
+// What a call gives for a file, by the first letter of its name: flags, buffers, table, check, line or kids.
 fn print_answer(file: &[u8], call: &[u8]) {
     let mut numbers = [0u32; NUMBERS];
     let count = read_numbers(call, &mut numbers);
@@ -114,7 +116,7 @@ fn start_number(numbers: &mut [u32], count: usize) -> usize
 // The number with one digit more; of a longer one the last five digits stay. A byte that is no digit adds nothing.
 fn longer(number: u32, byte: u8) -> u32 {
     match byte {
-        b'0'..=b'9' => number % 10000 * 10 + (byte - b'0') as u32,
+        b'0'..=b'9' => number % FOUR_DIGITS * 10 + (byte - b'0') as u32,
         _ => number,
     }
 }

@@ -5,4 +5,3 @@ pub mod Searches
 pub mod Sizes
 pub mod Reporting
 pub mod Cases
-pub mod Lengths

@@ -3,7 +3,7 @@
 use mathlib.Core.Path.{sym}
 use lib.Seq.{length-take-le}
 use native.Mathlib.Omega.{arith}
-use Rattle.report.proofs.Lengths.{length-few}
+use Rattle.report.proofs.Reporting.{length-within}
 use borrow.Author.Needs.{needs}
 use Rattle.cases.proofs.print.print_report.Statement.{statement}
 use Rattle.cases.proofs.print.print_report.Tie as tie
@@ -19,12 +19,13 @@ enum-known-size c = search needs
 
 array-share-prefix-text : tie.Need-array-share-prefix-text
 array-share-prefix-text c =
-    omega (arith, length-few _ _ _ _ _ (c .before .before .before .before .write .ensures) (c .before .size .given .1))
+    let e = rw (c .before .size .given .1) at (c .before .before .before .before .write .ensures) in
+    omega (arith, length-within _ _ _ _ e)
 
 slice-aggregate-write-all : tie.Need-slice-aggregate-write-all
 slice-aggregate-write-all c =
-    let w = c .before .before .before .before .before .write in
-    sym (length-take-le _ _ (omega (arith, length-few _ _ _ _ _ (w .ensures) (c .before .before .size .given .1))))
+    let e = rw (c .before .before .size .given .1) at (c .before .before .before .before .before .write .ensures) in
+    sym (length-take-le _ _ (omega (arith, length-within _ _ _ _ e)))
 
 write-all-requires : tie.Need-write-all-requires
 write-all-requires c κs = search needs
