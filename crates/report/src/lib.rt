@@ -2,7 +2,9 @@
 use frames::Checked;
 use frames::FRAME_SIZE;
 use frames::MAX_NODES;
+use frames::MAX_TABLE;
 use frames::Rejection;
+use frames::SHORT_BUFFER;
 ghost use mathlib.Core.Path.{_≡_};
 ghost use mathlib.Core.List.{_∷_, []};
 ghost use lib.IntN.{natAbs};
@@ -12,12 +14,6 @@ ghost use Rattle.report.specs.Report.{abLine, mtdLine, sssLine, analysis
 
 // The bytes that a lent text must have.
 pub const TEXT_SIZE: usize = 256;
-
-// The most bytes of a table.
-const MAX_TABLE: usize = FRAME_SIZE * MAX_NODES;
-
-// The number of question 10.
-const SHORT_BUFFER: u8 = 10;
 
 // A minus sign, a blank and the end of a line.
 const MINUS: u8 = b'-';

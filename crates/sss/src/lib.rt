@@ -26,6 +26,84 @@ pub struct State {
     pub merit: i32,
 }
 
+// What a search finds: the minimax value, the first root move that reaches it (0 for a leaf), how many leaves were evaluated and how many replacements made.
+pub struct Found {
+    pub value: i16,
+    pub root_move: usize,
+    pub leaves: usize,
+    pub replacements: usize,
+}
+
+// The answer of a call: what was found, or the first question that got a "no".
+pub enum Answer {
+    Found(Found),
+    Rejected(Rejection),
+}
+
+// SSS* of the whole tree: questions 1 to 10 and 15, then the value, the root move and the counts of evaluated leaves and of replacements; the marks of
+// these leaves and the certificate (01: the proof) go into the buffers, and an entry of the list for each node is reset.
+pub fn search(
+    table: &[u8],
+    list: &mut [State],
+    evaluated: &mut [u8],
+    certificate: &mut [u8],
+) -> Answer
+    ensures { λ r. ⌜ record {
+      list = now (list .exit);
+      search = record { answer = r; evaluated = now (evaluated .exit); certificate = now (certificate .exit) };
+    }
+        ≡ sssOutcome (now (table .entry)) (now (list .entry)) (now (evaluated .entry)) (now (certificate .entry)) ⌝ }
+{
+    let mut family = [0u32; MAX_NODES];
+    let sizes = Sizes {
+        entries: list.len(),
+        flags: certificate.len(),
+    };
+    let begun = start(sizes, table, &mut family, evaluated);
+    let ended = drive(begun, table, &family, list, evaluated);
+    finish(ended, table, evaluated, certificate)
+}
+
+// The same with a list of its own, for callers that have none to lend.
+pub fn solve(table: &[u8], evaluated: &mut [u8], certificate: &mut [u8]) -> Answer
+    ensures { λ r. ⌜ record { answer = r; evaluated = now (evaluated .exit); certificate = now (certificate .exit) }
+        ≡ solveOutcome (now (table .entry)) (now (evaluated .entry)) (now (certificate .entry)) ⌝ }
+{
+    let mut list = [blank(); MAX_NODES];
+    search(table, &mut list, evaluated, certificate)
+}
+
+// The turns of a machine over the lent list, until it stops.
+fn drive(
+    mut m: Machine,
+    table: &[u8],
+    family: &[u32],
+    list: &mut [State],
+    evaluated: &mut [u8],
+) -> Machine
+    requires { ⌜ Prepared (now table) (now family) (now list) (now evaluated) m ⌝ }
+    ensures { λ r. ⌜ Driven (now (table .entry)) (now (list .entry)) (now (evaluated .entry)) m
+        (record { list = now (list .exit); marks = now (evaluated .exit); machine = r }) ⌝ }
+{
+    while m.going {
+        m.entry = list[m.read];
+        m = next(m, table, family, evaluated);
+        list[m.write] = m.entry;
+    }
+    m
+}
+
+// The entry of a list that is not in use.
+pub fn blank() -> State
+    ensures { λ r. ⌜ r ≡ blankEntry ⌝ }
+{
+    State {
+        node: 0,
+        status: Status::Live,
+        merit: 0,
+    }
+}
+
 // What the machine does in its next turn.
 pub enum Phase {
     // The first state is put on the list.
@@ -83,82 +161,4 @@ pub struct Machine {
 pub struct Sizes {
     pub entries: usize,
     pub flags: usize,
-}
-
-// What a search finds: the minimax value, the first root move that reaches it (0 for a leaf), how many leaves were evaluated and how many replacements made.
-pub struct Found {
-    pub value: i16,
-    pub root_move: usize,
-    pub leaves: usize,
-    pub replacements: usize,
-}
-
-// The answer of a call: what was found, or the first question that got a "no".
-pub enum Answer {
-    Found(Found),
-    Rejected(Rejection),
-}
-
-// The entry of a list that is not in use.
-pub fn blank() -> State
-    ensures { λ r. ⌜ r ≡ blankEntry ⌝ }
-{
-    State {
-        node: 0,
-        status: Status::Live,
-        merit: 0,
-    }
-}
-
-// The turns of a machine over the lent list, until it stops.
-fn drive(
-    mut m: Machine,
-    table: &[u8],
-    family: &[u32],
-    list: &mut [State],
-    evaluated: &mut [u8],
-) -> Machine
-    requires { ⌜ Prepared (now table) (now family) (now list) (now evaluated) m ⌝ }
-    ensures { λ r. ⌜ Driven (now (table .entry)) (now (list .entry)) (now (evaluated .entry)) m
-        (record { list = now (list .exit); marks = now (evaluated .exit); machine = r }) ⌝ }
-{
-    while m.going {
-        m.entry = list[m.read];
-        m = next(m, table, family, evaluated);
-        list[m.write] = m.entry;
-    }
-    m
-}
-
-// SSS* of the whole tree: questions 1 to 10 and 15, then the value, the root move and the counts of evaluated leaves and of replacements; the marks of
-// these leaves and the certificate (01: the proof) go into the buffers, and an entry of the list for each node is reset.
-pub fn search(
-    table: &[u8],
-    list: &mut [State],
-    evaluated: &mut [u8],
-    certificate: &mut [u8],
-) -> Answer
-    ensures { λ r. ⌜ record {
-      list = now (list .exit);
-      search = record { answer = r; evaluated = now (evaluated .exit); certificate = now (certificate .exit) };
-    }
-        ≡ sssOutcome (now (table .entry)) (now (list .entry)) (now (evaluated .entry)) (now (certificate .entry)) ⌝ }
-{
-    let mut family = [0u32; MAX_NODES];
-    let sizes = Sizes {
-        entries: list.len(),
-        flags: certificate.len(),
-    };
-    let begun = start(sizes, table, &mut family, evaluated);
-    let ended = drive(begun, table, &family, list, evaluated);
-    finish(ended, table, evaluated, certificate)
-}
-
-// The same with a list of its own, for callers that have none to lend.
-pub fn solve(table: &[u8], evaluated: &mut [u8], certificate: &mut [u8]) -> Answer
-    ensures { λ r. ⌜ record { answer = r; evaluated = now (evaluated .exit); certificate = now (certificate .exit) }
-        ≡ solveOutcome (now (table .entry)) (now (evaluated .entry)) (now (certificate .entry)) ⌝ }
-{
-    let mut list = [blank(); MAX_NODES];
-    search(table, &mut list, evaluated, certificate)
 }

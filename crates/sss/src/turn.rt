@@ -13,6 +13,7 @@ use crate::family::parent_in;
 use crate::family::side_in;
 use certificate::evaluate;
 use frames::Rejection;
+use frames::ZERO_SCORE;
 use frames::child_count;
 use frames::first_child;
 use gametree::Side;
@@ -35,8 +36,8 @@ ghost use Rattle.sss.specs.Ready.{IsMerit, Few, Ready, ReadyToTake, Read
 // The number of 01's question about the list.
 const NO_STATE: u8 = 15;
 
-// The score of the value 0.
-const ZERO_SCORE: i32 = 32001;
+// The score of the value 0, for signed differences.
+const ZERO: i32 = ZERO_SCORE as i32;
 
 // An entry for a node with a status and the score of its merit.
 fn state_of(node: usize, status: Status, score: u32) -> State
@@ -46,7 +47,7 @@ fn state_of(node: usize, status: Status, score: u32) -> State
     State {
         node: node as u16,
         status,
-        merit: score as i32 - ZERO_SCORE,
+        merit: score as i32 - ZERO,
     }
 }
 
@@ -55,7 +56,7 @@ fn score_of(entry: State) -> u32
     requires { ⌜ IsMerit (entry .merit) ⌝ }
     ensures { λ r. ⌜ r ≡ meritScore (entry .merit) ⌝ }
 {
-    (entry.merit + ZERO_SCORE) as u32
+    (entry.merit + ZERO) as u32
 }
 
 // The greater of two scores.
