@@ -105,7 +105,7 @@ pub fn blank() -> State
 }
 
 // What the machine does in its next turn.
-pub enum Phase {
+enum Phase {
     // The first state is put on the list.
     Begin,
     // The entry right of the gap is looked at.
@@ -127,38 +127,38 @@ pub enum Phase {
 }
 
 // The states stand in entries 0 to left - 1, and from right to nodes - 1.
-pub struct Gap {
-    pub left: usize,
-    pub right: usize,
-    pub nodes: usize,
+struct Gap {
+    left: usize,
+    right: usize,
+    nodes: usize,
 }
 
 // Evaluated leaves, and replacements.
-pub struct Counts {
-    pub leaves: usize,
-    pub replacements: usize,
+struct Counts {
+    leaves: usize,
+    replacements: usize,
 }
 
 // What the machine keeps between turns; no merit on the list is greater than `test`.
-pub struct Registers {
-    pub phase: Phase,
-    pub gap: Gap,
-    pub test: u32,
-    pub counts: Counts,
+struct Registers {
+    phase: Phase,
+    gap: Gap,
+    test: u32,
+    counts: Counts,
 }
 
 // The machine between two turns: whether it goes on, the entry that it reads next, the entry that it writes, and the
 // entry itself, as read before a turn and as to be written after it.
-pub struct Machine {
-    pub going: bool,
-    pub read: usize,
-    pub write: usize,
-    pub entry: State,
-    pub registers: Registers,
+struct Machine {
+    going: bool,
+    read: usize,
+    write: usize,
+    entry: State,
+    registers: Registers,
 }
 
 // How many entries the lent list and how many flags the lent certificate have.
-pub struct Sizes {
-    pub entries: usize,
-    pub flags: usize,
+struct Sizes {
+    entries: usize,
+    flags: usize,
 }
