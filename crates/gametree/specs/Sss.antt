@@ -10,7 +10,7 @@ use Rattle.gametree.specs.Lists.{All}
 use Rattle.gametree.specs.Tree.{Max, Min, Tree, greatest, number, size}
 use Rattle.gametree.specs.Layout.{Layout, Kind, tip, fork, Link, root, under, layoutOf}
 
--- a state: a node, its status, and its merit, an upper bound of the root's value
+-- a state: a node, its status, and its merit; the greatest merit on the list bounds the root's value from above
 pub data Status : Type 0 where
   LIVE SOLVED : Status
 

@@ -9,7 +9,7 @@ pub enum Side {
     Min,
 }
 
-// Where a node stands: its depth (the root has 0), and who moves there.
+// Where a node stands: its depth (the root has 0), and who moves there. (01's place is that of a rejection, a number.)
 pub struct Place {
     pub depth: u32,
     pub side: Side,

@@ -8,7 +8,7 @@ use Rattle.frames.specs.Frame.{maxNodes, frames}
 use Rattle.frames.specs.Place.{parentOf, depthOf, sideOf}
 use Rattle.certificate.specs.Places.{sideNumber, numberSide}
 
--- how many depths and sides an entry tells apart
+-- how many depths (more than a tree may have) and sides an entry tells apart
 abbrev pub depths : ℕ
 depths = 32
 

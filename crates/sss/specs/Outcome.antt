@@ -38,7 +38,7 @@ findings t =
       replacements = runOf t .replacements;
     }
 
--- did the run find a state on the list whenever it wanted one
+-- did the run find a state on the list whenever it wanted one; its fuel is always enough (`sss-minimax`)
 abbrev pub statesFound : theory.End → Bool
 statesFound (theory.finished v) = true
 statesFound theory.noState = false

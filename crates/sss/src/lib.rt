@@ -139,7 +139,7 @@ struct Counts {
     replacements: usize,
 }
 
-// What the machine keeps between turns; no merit on the list is greater than `test`.
+// What the machine keeps between turns; no merit on the list is greater than `test`, and a state is taken whose merit reaches it.
 struct Registers {
     phase: Phase,
     gap: Gap,
