@@ -44,7 +44,7 @@ module _ (t : List ℕ) (wf : WellFormed t) (i : ℕ) (inside : i < frames t) (�
       rw (tree-inner t wf i (end - first) inside m, l, q, z) (owes-all _ e)
 
 module _ (t e : List ℕ) (i : ℕ) (p : Place) (r : Ready t e i p) where
-  -- the depth in hand is the node's own
+  -- the depth of the place is the node's own, and small
   pub ready-depth : (p .depth ≡ depthOf t i) × (p .depth ≤ maxNodes)
   ready-depth =
       let d = ap (λ x. x .depth) (r .placed) in

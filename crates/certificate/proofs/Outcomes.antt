@@ -24,8 +24,8 @@ use Rattle.certificate.proofs.Marks.{searched-within}
 use Rattle.certificate.proofs.Concluded.{concluded}
 use Rattle.certificate.proofs.Questions.{asked}
 
--- what a search that evaluates the leaves w leaves behind: e is cleared to e₁ and marked to e₂, and the move m and the
--- flags c₂ follow from that
+-- a search that evaluates the leaves w: e is cleared to e₁ and marked to e₂, and the move m and the flags c₂ follow
+-- from that
 pub search-concludes : (t : List ℕ) → WellFormed t → (w : List ℕ) → Searched (valuation t) (tree t) w
     → (e e₁ e₂ e₃ c c₂ : List ℕ) (m : ℕ) → e₁ ≡ written (λ k. 0) (frames t) e → e₂ ≡ markAll e₁ w
     → m ≡ boundMove (valuation t) (marked e₂) (tree t)

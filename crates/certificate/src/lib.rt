@@ -181,7 +181,7 @@ fn place_children(
 }
 
 // A node's place, from the arrays.
-pub fn place_at(depths: &[u32], sides: &[u8], node: usize) -> Place
+fn place_at(depths: &[u32], sides: &[u8], node: usize) -> Place
     requires { ⌜ (node < length (now depths)) × (node < length (now sides)) ⌝ }
     ensures { λ r. ⌜ r ≡ placeFrom (getD (now (depths .entry)) node 0) (getD (now (sides .entry)) node 0) ⌝ }
 {
@@ -215,7 +215,7 @@ fn side_number(side: Side) -> u8
 }
 
 // A bound of every node, from the leaves up, where a leaf that is not marked has the score `unknown`: the lows for LEAST, the highs for GREATEST.
-pub fn fill_bounds(
+fn fill_bounds(
     table: &[u8],
     evaluated: &mut [u8],
     depths: &[u32],

@@ -1,5 +1,5 @@
 -- The number `next t i` that the nodes before i leave for the next child: it grows, stays above i, and ends at the
--- number of frames. So the children of each node lie behind it and within the table.
+-- number of frames. So the children of each node come after it and lie within the table.
 use Prim.Native.Nat.{ℕ, zero, suc, _+_, _-_, _≤_, _<_}
 use native.Mathlib.Omega.{arith}
 use native.Mathlib.Decide.{decLe}

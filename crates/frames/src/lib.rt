@@ -247,7 +247,7 @@ pub fn child_count(table: &[u8], node: usize) -> usize
 }
 
 // Byte 3 of a node's frame.
-pub fn byte_3(table: &[u8], node: usize) -> usize
+fn byte_3(table: &[u8], node: usize) -> usize
     requires { ⌜ node < frames (now table) ⌝ }
     ensures { λ r. ⌜ (r ≡ byte3 (now (table .entry)) node) × (r < 256) ⌝ }
 {
@@ -263,7 +263,7 @@ fn value_bytes(table: &[u8], node: usize) -> usize
 }
 
 // The score that the value bytes hold.
-pub fn stored_score(table: &[u8], node: usize) -> u32
+fn stored_score(table: &[u8], node: usize) -> u32
     requires { ⌜ node < frames (now table) ⌝ }
     ensures { λ r. ⌜ (r ≡ storedScore (now (table .entry)) node) × (r < 65536) ⌝ }
 {

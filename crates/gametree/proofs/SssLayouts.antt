@@ -36,17 +36,17 @@ module _ (Z : Layout) (u : Tree) where
     kids-parents-in n s (t then ts) a h f p (inr i) = kids-parents-in n s ts (a .3) h (λ k j. f k (inr j)) p i
 
 -- the states of a list, and of what is taken from it, are of the tree's nodes
-abbrev Within : Tree → List State → Type 0
-Within t L = All (λ s. In (s .node) t) L
+abbrev StatesIn : Tree → List State → Type 0
+StatesIn t L = All (λ s. In (s .node) t) L
 
 abbrev TakenIn : Tree → Taken → Type 0
 TakenIn t k = OfTaken (λ s. In (s .node) t) k
 
 module _ (Y Z : Layout) (t : Tree) (a : SameOn Y Z t) where
-  pick-in : (s : State) (ss : List State) → In (s .node) t → Within t ss → TakenIn t (pick Z s ss)
+  pick-in : (s : State) (ss : List State) → In (s .node) t → StatesIn t ss → TakenIn t (pick Z s ss)
   pick-in s ss h i = pick-all Z (λ s. In (s .node) t) s ss h i
 
-  pick-alike : (s : State) (ss : List State) → In (s .node) t → Within t ss → pick Y s ss ≡ pick Z s ss
+  pick-alike : (s : State) (ss : List State) → In (s .node) t → StatesIn t ss → pick Y s ss ≡ pick Z s ss
   pick-alike s [] h i = refl
   pick-alike s (x ∷ xs) h i =
       rw (
@@ -54,7 +54,7 @@ module _ (Y Z : Layout) (t : Tree) (a : SameOn Y Z t) where
         a .lefts (s .node) (pick Z x xs .state .node) h (pick-in x xs (i .0) (i .1) .1),
       ) refl
 
-  purge-alike : (p : ℕ) → In p t → (L : List State) → Within t L → purge Y p L ≡ purge Z p L
+  purge-alike : (p : ℕ) → In p t → (L : List State) → StatesIn t L → purge Y p L ≡ purge Z p L
   purge-alike p h [] i = refl
   purge-alike p h (s ∷ ss) i = rw (purge-alike p h ss (i .1), a .aboves p (s .node) h (i .0)) refl
 
@@ -80,7 +80,7 @@ module _ (ν : ℕ → ℕ) (Y Z : Layout) (t : Tree) (a : SameOn Y Z t) (d : De
       let i = parents-in Z t t (d .answers) (λ k j. j) (rw (d .top) tt) (k .state .node) (h .1) in
       ap (replaceSolved Y k) (a .links (k .state .node) (h .1)) ∙ solved-alike Y Z t a k (Z .link (k .state .node)) h i
 
-  step-alike : (L : List State) → Within t L → step ν Y L ≡ step ν Z L
+  step-alike : (L : List State) → StatesIn t L → step ν Y L ≡ step ν Z L
   step-alike [] h = refl
   step-alike (s ∷ ss) h =
       let k = pick Z s ss in

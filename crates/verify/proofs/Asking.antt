@@ -13,7 +13,7 @@ use Rattle.frames.proofs.Asked.{Passed, passed-none, passed-more, passed-until,
 abbrev pub asked : (ℕ → Bool) → ℕ → ℕ → Option Rejection
 asked f q i = ask (f i) q i
 
--- before node i of n, it has passed at each node behind
+-- it has passed at each node before i, of n
 pub record Asking (f : ℕ → Bool) (q n i : ℕ) : Type 0 where
   pub within : i ≤ n
   pub passed : Passed (asked f q) n i

@@ -8,7 +8,7 @@ use Rattle.gametree.specs.declared.Side.{Side}
 use Rattle.certificate.specs.Buffer.{member}
 use Rattle.verify.specs.Flags.{membersFrom}
 
--- before node k, of the n nodes from i on: m of those behind it are members, and the rest are still to be counted
+-- of the n nodes from i on, m before node k are members, and those from k on are still to be counted
 pub record Counted (p : Side) (flags : List ℕ) (i n k m : ℕ) : Type 0 where
   pub from : i ≤ k
   pub within : k ≤ i + n
