@@ -47,7 +47,7 @@ use Rattle.sss.specs.Machine.{Config}
 use Rattle.sss.specs.Invariant.{Resetting, InPhase, Running}
 use Rattle.sss.specs.Driven.{Driven}
 use Rattle.sss.specs.Start.{startRejection, refused, machineAfter, marksAfter, Started}
-use Rattle.sss.specs.Finish.{rejectionIn, Answerable, Stopped, findings as foundBy, answerBy, flagsBy, Finished}
+use Rattle.sss.specs.Finish.{rejectionIn, Answerable, Stopped, foundBy, answerBy, flagsBy, Finished}
 use Rattle.sss.specs.Outcome.{runOf, sssLeaves, findings, statesFound, SssOutcome, sssOutcome}
 
 -- a machine that has stopped in a run has reset the list

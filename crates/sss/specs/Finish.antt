@@ -45,8 +45,8 @@ abbrev pub Stopped : (t b c : List ℕ) → Machine → Type 0
 Stopped t b c m = rejectionIn (m .registers .phase) ≡ none → Answerable t b c (m .registers .test)
 
 -- the test is the value; the root move follows from the marks b
-abbrev pub findings : (t b : List ℕ) → ℕ → Counts → Found
-findings t b γ k =
+abbrev pub foundBy : (t b : List ℕ) → ℕ → Counts → Found
+foundBy t b γ k =
     record {
       value = valueOf γ;
       «root_move» = boundMove (valuation t) (marked b) (tree t);
@@ -60,7 +60,7 @@ answerBy (some r) f = RejectedAnswer r
 
 abbrev pub answerOf : (t b : List ℕ) → Machine → Answer
 answerOf t b m =
-    answerBy (rejectionIn (m .registers .phase)) (findings t b (m .registers .test) (m .registers .counts))
+    answerBy (rejectionIn (m .registers .phase)) (foundBy t b (m .registers .test) (m .registers .counts))
 
 -- the certificate c afterwards: the flags read off the bounds of the marked leaves, or as it was
 abbrev pub markedFlags : (t b c : List ℕ) → List ℕ

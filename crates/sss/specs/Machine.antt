@@ -179,8 +179,8 @@ marksBy t (Reset i) e γ b = b
 marksBy t Ended e γ b = b
 marksBy t (Rejected r) e γ b = b
 
-abbrev pub marksOf : List ℕ → Machine → List ℕ → List ℕ
-marksOf t m b = marksBy t (m .registers .phase) (m .entry) (m .registers .test) b
+abbrev pub marksAfter : List ℕ → Machine → List ℕ → List ℕ
+marksAfter t m b = marksBy t (m .registers .phase) (m .entry) (m .registers .test) b
 
 -- the list, the marks and the machine between two turns
 pub record Config : Type 0 where
@@ -200,4 +200,4 @@ handed c = holding (c .machine) (getD (c .list) (c .machine .read) blank)
 abbrev pub turn : List ℕ → Config → Config
 turn t c =
     let m = nextOf t (handed c) in
-    record { list = set (c .list) (m .write) (m .entry); marks = marksOf t (handed c) (c .marks); machine = m }
+    record { list = set (c .list) (m .write) (m .entry); marks = marksAfter t (handed c) (c .marks); machine = m }

@@ -21,7 +21,7 @@ ghost use Prim.Native.Nat.{_≤_, min};
 ghost use lib.ListN.{length};
 ghost use Rattle.frames.specs.Frame.{maxNodes};
 ghost use Rattle.sss.specs.Start.{started as startedOf, refused as refusedOf, Started};
-ghost use Rattle.sss.specs.Finish.{Stopped, Answerable, findings, markedFlags, Finished};
+ghost use Rattle.sss.specs.Finish.{Stopped, Answerable, foundBy, markedFlags, Finished};
 
 // Questions 1 to 10; where none gets a "no", the marks are cleared, the family is filled, and the machine goes.
 pub fn start(sizes: Sizes, table: &[u8], family: &mut [u32], evaluated: &mut [u8]) -> Machine
@@ -118,7 +118,7 @@ fn found(
     counts: Counts,
 ) -> Found
     requires { ⌜ Answerable (now table) (now evaluated) (now certificate) test ⌝ }
-    ensures { λ r. ⌜ r ≡ findings (now (table .entry)) (now (evaluated .entry)) test counts ⌝ }
+    ensures { λ r. ⌜ r ≡ foundBy (now (table .entry)) (now (evaluated .entry)) test counts ⌝ }
     ensures { λ _. ⌜ now (evaluated .exit) ≡ now (evaluated .entry) ⌝ }
     ensures { λ _. ⌜ now (certificate .exit) ≡ markedFlags (now (table .entry)) (now (evaluated .entry)) (now (certificate .entry)) ⌝ }
 {

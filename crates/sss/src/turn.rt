@@ -30,7 +30,7 @@ ghost use Rattle.sss.specs.Machine.{sweeping as sweepingOf, expanding as
 ghost use Rattle.sss.specs.Machine.{takeInner, takeLive, nextEntry, takeChild, takeSolved, take as takeBy};
 ghost use Rattle.sss.specs.Machine.{begin as beginOf, sweep as sweepOf, expand as expandOf, purgeLeft, purgeRight};
 ghost use Rattle.sss.specs.Machine.{rewind as rewindOf, reset as resetOf, markLive, markSwept};
-ghost use Rattle.sss.specs.Machine.{nextOf, marksOf};
+ghost use Rattle.sss.specs.Machine.{nextOf, marksAfter};
 ghost use Rattle.sss.specs.Ready.{IsMerit, Few, Ready, ReadyToTake, ReadyToSweep, ReadyToPurge, ReadyToRewind};
 
 // The number of 01's question about the list.
@@ -501,7 +501,7 @@ fn reset(i: usize, gap: Gap, test: u32, counts: Counts) -> Machine
 // One turn: what follows from the registers and the entry that was read.
 pub fn next(m: Machine, table: &[u8], family: &[u32], evaluated: &mut [u8]) -> Machine
     requires { ⌜ Ready (now table) (now family) (now evaluated) m ⌝ }
-    ensures { λ r. ⌜ (r ≡ nextOf (now (table .entry)) m) × (now (evaluated .exit) ≡ marksOf (now (table .entry)) m (now (evaluated .entry))) ⌝ }
+    ensures { λ r. ⌜ (r ≡ nextOf (now (table .entry)) m) × (now (evaluated .exit) ≡ marksAfter (now (table .entry)) m (now (evaluated .entry))) ⌝ }
 {
     let entry = m.entry;
     let registers = m.registers;
