@@ -47,6 +47,7 @@ SHAPES = {
     "fan-unary": [40] + [40] * 40 + [1] * 1600 + [0] * 1600,
     "bundle": bundle(),
     "comb": comb(),
+    "front": [40] + [1] * 40 + [33] * 40 + [2] * 1320 + [0] * 2640,      # SSS* keeps a list of 1,320 states
 }
 
 

@@ -1,0 +1,100 @@
+#!/usr/bin/env python3
+"""Runs a compiled `cases` on generated calls over lent memory and compares with oracle.py: marks, certificates, passes, replacements,
+verdicts on right and on damaged flags, short buffers, parts of tables, lines and children.
+
+    fuzz_calls.py PROGRAM [--runs N] [--seed S]     N inputs of up to 65,000 bytes each (default 40)
+"""
+import argparse
+import os
+import random
+import subprocess
+import sys
+from collections import Counter
+
+import fuzz
+import make_cases as m
+import oracle as o
+
+ROOM = 65000
+
+
+def damaged_flags(rng, table):
+    """The certificate of a search, as it is or with a few flags changed, or flags at random."""
+    n = len(table) // 6
+    marks, flags = bytearray(n), bytearray(n)
+    rng.choice((o.alpha_beta, o.mtd_search))(table, marks, flags)
+    kind = rng.randrange(6)
+    if kind == 0:
+        return flags
+    if kind == 1:
+        return bytearray(rng.choice((0, 1, 2, 3)) for _ in range(n))
+    if kind == 2:
+        return flags[:rng.randrange(n + 1)]
+    for _ in range(rng.choice((1, 1, 2, 3))):
+        flags[rng.randrange(n)] = rng.choice((0, 1, 2, 3, 3, 4, 255))
+    return flags
+
+
+def call(rng):
+    """A file, a call and the lines that it prints."""
+    table = bytes(fuzz.good_table(rng, rng.choice((7, 12, 30, 60))))
+    file, n = o.file_of(table), len(table) // 6
+    kind = rng.randrange(8)
+    if kind <= 2:
+        marks, flags = (rng.choice((n, n, n, n + 1, n + 9, n - 1, 0)) for _ in range(2))
+        return file, "buffers %d %d" % (marks, flags), m.searches(table, marks, flags)
+    if kind <= 4:
+        flags = damaged_flags(rng, table)
+        return file, "flags" + m.numbers(flags), m.verdict(table, flags)
+    if kind == 5:
+        size = rng.choice((6 * n, 6 * n - 1, 6 * n + 1, 6 * n + 6, 6 * rng.randrange(n + 1), rng.randrange(400), 24582))
+        part = (table + bytes(m.TABLE_SIZE - len(table)))[:size]
+        return file, "check %d" % size, "check %s\n" % m.answered(o.check_table(part)) + m.verdict(part, b"") + m.searches(part, 0, 0)
+    if kind == 6:
+        size = rng.choice((6 * n, 6 * n - 1, 6 * n + 5, rng.randrange(6 * n + 1)))
+        lent = bytearray((m.FILLED,) * size)
+        return file, "table %d" % size, "read %s\ntable%s\n" % (m.answered(o.read_file(file, lent)), m.numbers(lent))
+    if rng.random() < 0.5:
+        file, at = rng.choice((file, file[:-1], fuzz.other_byte(rng, file))), rng.choice((13 * rng.randrange(n + 1), rng.randrange(13 * n + 3)))
+        if set(b"#@") & set(file):
+            return call(rng)
+        got, moved = o.read_line(file, at)
+        return file, "line %d" % at, ("line" + m.numbers(got) if got else "no line") + " %d\n" % moved
+    node = rng.choice((rng.randrange(n), n, n + 1))
+    start, end = o.children(table, node)
+    return file, "kids %d" % node, "children%s\n" % m.numbers(table[start:end])
+
+
+def main():
+    parser = argparse.ArgumentParser()
+    parser.add_argument("program")
+    parser.add_argument("--runs", type=int, default=40)
+    parser.add_argument("--seed", type=int, default=1)
+    args = parser.parse_args()
+    rng, program = random.Random(args.seed), os.path.abspath(args.program)
+    made = subprocess.run([program], input=b"", capture_output=True, timeout=60).stdout
+    bad, kinds = 0, Counter()
+    for run in range(args.runs):
+        given, want = [], []
+        while sum(map(len, given)) < ROOM:
+            file, line, lines = call(rng)
+            title = b"# %d %d\n" % (run, len(given))
+            case = title + file + b"@" + line.encode() + b"\n"
+            if sum(map(len, given)) + len(case) > 65536:
+                break
+            given.append(case)
+            want.append(title + lines.encode())
+            kinds[line.split()[0]] += 1
+        got = subprocess.run([program], input=b"".join(given), capture_output=True, timeout=60)
+        if (got.stdout, got.stderr, got.returncode) != (made + b"".join(want), b"", 0):
+            bad += 1
+            parts = got.stdout[len(made):].split(b"# ")[1:]
+            wrong = next((i for i, w in enumerate(want) if i >= len(parts) or b"# " + parts[i] != w), None)
+            if wrong is not None:
+                print("DIFFERS %r\ngot  %r\nwant %r" % (given[wrong], parts[wrong] if wrong < len(parts) else None, want[wrong]))
+    print("%d runs, %d differ; calls: %s" % (args.runs, bad, ", ".join("%s %d" % k for k in sorted(kinds.items()))))
+    sys.exit(1 if bad else 0)
+
+
+if __name__ == "__main__":
+    main()
