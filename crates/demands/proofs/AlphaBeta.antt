@@ -30,7 +30,8 @@ use Rattle.verify.specs.Check.{verdict}
 use Rattle.demands.specs.Handed.{CertifiedBy, Alike}
 use Rattle.alphabeta.proofs.Reached.{searched}
 use Rattle.certificate.proofs.Questions.{passed-room, room-passed}
-use Rattle.demands.proofs.Parts.{passed-accepted, Parts, parts-of, marks-at, flags-certified, flags-verified, marks-count}
+use Rattle.demands.proofs.Parts.{passed-accepted, Parts, parts-of, marks-at, flags-certified}
+use Rattle.demands.proofs.Parts.{flags-verified, marks-count}
 use Rattle.demands.proofs.Parts.{calls-alike}
 
 -- a call with the table t and the buffers e and c finds r, and leaves e′ and c′ in its buffers

@@ -12,5 +12,6 @@ use Rattle.demands.specs.Cases.{rowOf, tables, rows}
 
 -- every row of the table is what the definitions give
 pub marked-cases : map rowOf tables ≡ rows
-unfolding mtd next parentBefore placeWithin placeOf kidsFrom grow treeAt valuation eachNode framesRejection rejection tabulate written
+unfolding mtd next parentBefore placeWithin placeOf kidsFrom grow treeAt valuation eachNode
+    framesRejection rejection tabulate written
 marked-cases = refl

@@ -31,7 +31,8 @@ use Rattle.verify.specs.declared.Verdict.the-variants.{Value}
 use Rattle.verify.specs.Check.{verdict}
 use Rattle.demands.specs.Handed.{CertifiedBy, Alike}
 use Rattle.certificate.proofs.Questions.{passed-room, room-passed}
-use Rattle.demands.proofs.Parts.{passed-accepted, Parts, parts-of, marks-at, flags-certified, flags-verified, marks-count}
+use Rattle.demands.proofs.Parts.{passed-accepted, Parts, parts-of, marks-at, flags-certified}
+use Rattle.demands.proofs.Parts.{flags-verified, marks-count}
 use Rattle.demands.proofs.Parts.{marks-reached, count-most, calls-alike}
 
 -- a call with the table t and the buffers e and c finds r, and leaves e′ and c′ in its buffers

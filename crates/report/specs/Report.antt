@@ -58,8 +58,8 @@ pub record Outcome : Type 0 where
   pub answer : Answer
   pub text : List ℕ
 
--- a text that is too short is rejected, and stays as it was; else the report is laid at its beginning, and the answer is
--- the report's length
+-- a text that is too short is rejected, and stays as it was; else the report is laid at its beginning, and its length
+-- is the answer
 abbrev pub writtenBy : (tooShort : Bool) (f b : List ℕ) → Outcome
 writtenBy true f b = record { answer = Rejected (record { number = 10; place = 0 }); text = b }
 writtenBy false f b = record { answer = Length (length (report f)); text = laid 0 (report f) b }
