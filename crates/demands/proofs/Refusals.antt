@@ -23,7 +23,7 @@ use Rattle.sss.specs.declared.State.{State}
 use Rattle.sss.specs.declared.Found.{Found}
 use Rattle.sss.specs.declared.Answer.the-variants as sss
 use Rattle.sss.specs.Outcome.{sssRejection, listAfter, sssOutcome, solveOutcome}
-use Rattle.sss.proofs.Whole as whole
+use Rattle.sss.proofs.Whole.{states-found}
 
 -- where an outcome's answer is a rejection, both buffers are as they were
 kept : {A : Type 0} (rejected : Rejection → A) (found : A) → ((r : Rejection) → found ≡ rejected r → ⊥)
@@ -61,7 +61,7 @@ module _ (t lengths : List ℕ) where
           → sssRejection t lengths ≡ searchRejection t lengths
       by-questions none p =
           let a = both-passed (rejection t) (check10 (frames t) lengths) p .0 in
-          rw (p, whole.never-15 t (accepted-formed t a))
+          rw (p, states-found t (accepted-formed t a))
       by-questions (some x) p = rw p
 
 -- where the answer is a rejection, the list is as it was

@@ -15,7 +15,7 @@ use Rattle.gametree.specs.Sss.{sss}
 use Rattle.gametree.specs.Move.{rootMove}
 use Rattle.gametree.specs.Certificate.{Smallest, pairLeaves}
 use Rattle.gametree.proofs.Theorems.{sss-replacements, layout-own, search-once, search-smallest, local-sss}
-use Rattle.frames.specs.Frame.{frames}
+use Rattle.frames.specs.Frame.{maxNodes, frames}
 use Rattle.frames.specs.Tree.{tree, valuation}
 use Rattle.frames.specs.Formed.{WellFormed}
 use Rattle.frames.specs.Check.{Accepted}
@@ -32,7 +32,8 @@ use Rattle.sss.specs.declared.State.{State}
 use Rattle.sss.specs.declared.Found.{Found}
 use Rattle.sss.specs.declared.Answer.the-variants.{Found as FoundAnswer, Rejected}
 use Rattle.sss.specs.Entry.{blank}
-use Rattle.sss.specs.Outcome.{runOf, sssLeaves, findings, check15, sssRejection, listAfter, sssOutcome}
+use Rattle.sss.specs.Outcome.{runOf, sssLeaves, findings, check15, sssRejection, listAfter, sssOutcome, solveOutcome}
+use Rattle.sss.proofs.OwnList.{own-list}
 use Rattle.sss.proofs.Whole.{searched, found-outcome}
 use Rattle.sss.proofs.Whole.{passed as passed-rooms}
 use Rattle.verify.specs.declared.Verdict.the-variants.{Value}
@@ -56,6 +57,14 @@ pub finds : (t : List ℕ) (l : List State) (e c : List ℕ) → Accepted t → 
 finds t l e c a i j k =
     sym (found-outcome t l e c (accepted-formed t a)
     (rw (a, le-leb (frames t) (length l) i, le-leb (frames t) (length e) j, le-leb (frames t) (length c) k)))
+
+-- what a call with a list of its own finds is what a call finds that is lent so many entries: all that is said of
+-- `Finds` here holds of it too
+pub own-finds : (t : List ℕ) (l : List State) (e c : List ℕ) (r : Found) (e′ c′ : List ℕ) → maxNodes ≤ length l
+    → record { answer = FoundAnswer r; evaluated = e′; certificate = c′ } ≡ solveOutcome t e c
+    → Finds t l e c r (sssOutcome t l e c .list) e′ c′
+own-finds t l e c r e′ c′ room o =
+    ap (λ x. record { list = sssOutcome t l e c .list; search = x }) (o ∙ sym (own-list t l e c room))
 
 -- the outcome, taken apart
 parts : (t : List ℕ) (l : List State) (e c : List ℕ) (r : Found) (l′ : List State) (e′ c′ : List ℕ)

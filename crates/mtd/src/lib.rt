@@ -26,7 +26,6 @@ ghost use Rattle.frames.specs.Place.{depthOf};
 ghost use Rattle.frames.specs.Tree.{treeAt, tree, valuation};
 ghost use Rattle.frames.specs.Formed.{WellFormed};
 ghost use Rattle.certificate.specs.Buffer.{marked, markAll};
-ghost use Rattle.certificate.specs.Ranges.{bestIn};
 ghost use Rattle.certificate.specs.Search.{marksOf, flagsOf};
 ghost use Rattle.mtd.specs.Outcome.{mtdLeaves, findings, mtdOutcome};
 ghost use Rattle.mtd.specs.Memory.{memory, Fresh, Ready, Passed, settledOf};

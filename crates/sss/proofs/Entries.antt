@@ -20,8 +20,8 @@ use Rattle.sss.specs.declared.Gap.{Gap}
 use Rattle.sss.specs.declared.Counts.{Counts}
 use Rattle.sss.specs.declared.Machine.{Machine}
 use Rattle.sss.specs.Entry.{entry, meritScore}
-use Rattle.sss.specs.Machine.{gap, replaced, evaluated, nextEntry, takeInner, takeLive, takeChild, takeSolved}
-use Rattle.sss.specs.Machine.{take as takeBy, turnBy, nextOf}
+use Rattle.sss.specs.Machine.{gap, replaced, withLeaf, nextEntry, takeInner, takeLive, takeChild, takeSolved}
+use Rattle.sss.specs.Machine.{takeState, turnBy, nextOf}
 use Rattle.sss.specs.Ready.{Ready, ReadyIn}
 use Rattle.sss.proofs.Turns.{sweeping-writes, expanding-writes, purgingRight-writes, purgingLeft-writes}
 
@@ -33,7 +33,7 @@ module _ (t : List ℕ) (g : Gap) (γ : ℕ) (c : Counts) where
   inner-writes i n Min = sweeping-writes g γ (replaced c) (g .right) (entry (firstChild t i) Live γ) .0
 
   live-writes : (i n : ℕ) → takeLive t i n g γ c .write ≡ g .right
-  live-writes i zero = sweeping-writes g γ (evaluated c) (g .right) (entry i Solved (min γ (valuation t i))) .0
+  live-writes i zero = sweeping-writes g γ (withLeaf c) (g .right) (entry i Solved (min γ (valuation t i))) .0
   live-writes i (suc n) = inner-writes i n (sideOf t i)
 
   child-writes : (i p : ℕ) (q : Side) → takeChild t i p q g γ c .write ≡ g .right
@@ -45,7 +45,7 @@ module _ (t : List ℕ) (g : Gap) (γ : ℕ) (c : Counts) where
   solved-writes (suc i) e = child-writes (suc i) (parentOf t (suc i)) (sideOf t (parentOf t (suc i)))
 
   -- the entry of a state that is taken is written
-  take-writes : (e : State) (s : Status) → takeBy t s e g γ c .write ≡ g .right
+  take-writes : (e : State) (s : Status) → takeState t s e g γ c .write ≡ g .right
   take-writes e Live = live-writes (e .node) (childCount t (e .node))
   take-writes e Solved = solved-writes (e .node) e
 

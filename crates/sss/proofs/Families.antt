@@ -15,10 +15,10 @@ use Rattle.frames.specs.Place.{parentOf, depthOf, sideOf, climb, isBelow}
 use Rattle.frames.proofs.Parents.{parent-less}
 use Rattle.certificate.specs.Places.{sideNumber, numberSide}
 use Rattle.certificate.proofs.Places.{side-again}
-use Rattle.sss.specs.Family.{sides, parentIn, depthIn, sideIn, FamilyOf}
+use Rattle.sss.specs.Family.{sideCount, parentIn, depthIn, sideIn, FamilyOf}
 
 -- a side's number is one of two
-pub side-small : (s : Side) → sideNumber s < sides
+pub side-small : (s : Side) → sideNumber s < sideCount
 side-small Max = omega arith
 side-small Min = omega arith
 
@@ -36,7 +36,7 @@ module _ (t F : List ℕ) (f : FamilyOf t F) (k : ℕ) (h : k < frames t) where
 
   pub family-side : sideIn F k ≡ sideOf t k
   family-side =
-      let e : getD F k 0 % sides ≡ sideNumber (sideOf t k) = omega (arith, f .entry k h, side-small (sideOf t k)) in
+      let e : getD F k 0 % sideCount ≡ sideNumber (sideOf t k) = omega (arith, f .entry k h, side-small (sideOf t k)) in
       ap numberSide e ∙ side-again (sideOf t k)
 
 -- more steps than there are change nothing

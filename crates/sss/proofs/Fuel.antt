@@ -24,7 +24,7 @@ use Rattle.sss.specs.declared.Counts.{Counts}
 use Rattle.sss.specs.declared.Machine.{Machine}
 use Rattle.sss.specs.Entry.{meritScore}
 use Rattle.sss.specs.Machine.{gap, sweeping, expanding, purgingRight, purgingLeft, takeInner, takeLive, takeChild}
-use Rattle.sss.specs.Machine.{takeSolved, take as takeBy, turnBy, nextOf}
+use Rattle.sss.specs.Machine.{takeSolved, takeState, turnBy, nextOf}
 use Rattle.sss.specs.Ready.{Ready, ReadyIn}
 
 -- more turns than a phase can take
@@ -135,10 +135,10 @@ module _ (t : List ℕ) (wf : WellFormed t) (g : Gap) (γ : ℕ) (c : Counts) (o
       by-side Min = sweeping-fuel g γ _ _ _ _ (omega (arith, replaced-less (g .nodes) γ (c .replacements) few))
 
   take-fuel : (e : State) → e .node < frames t
-      → fuel (takeBy t (e .status) e g γ c) < ahead (g .nodes) γ (c .replacements) + inPhase Sweep g
+      → fuel (takeState t (e .status) e g γ c) < ahead (g .nodes) γ (c .replacements) + inPhase Sweep g
   take-fuel e h = by-status (e .status)
     where
-      by-status : (s : Status) → fuel (takeBy t s e g γ c) < ahead (g .nodes) γ (c .replacements) + inPhase Sweep g
+      by-status : (s : Status) → fuel (takeState t s e g γ c) < ahead (g .nodes) γ (c .replacements) + inPhase Sweep g
       by-status Live = live-fuel (e .node) h (childCount t (e .node)) refl
       by-status Solved = solved-fuel (e .node) e
 

@@ -22,7 +22,7 @@ use Rattle.sss.specs.declared.Gap.{Gap}
 use Rattle.sss.specs.declared.Counts.{Counts}
 use Rattle.sss.specs.declared.Machine.{Machine}
 use Rattle.sss.specs.Entry.{statusOf, entryOf, blank}
-use Rattle.sss.specs.Machine.{gap, sweeping, expanding, take as takeBy, markLive}
+use Rattle.sss.specs.Machine.{gap, sweeping, expanding, takeState, markLive}
 use Rattle.sss.specs.Invariant.{Parts, Reaches, Tested, Sweeping, Expanding, Running}
 use Rattle.sss.proofs.Parts.{left-length, first-entry, keep, push}
 use Rattle.sss.proofs.Replacements.{reached-fits}
@@ -97,19 +97,19 @@ module _ (t : List ℕ) (wf : WellFormed t) (l : List State) (b : List ℕ) wher
       -- one that reaches it is taken
       take-turn : s .merit ≡ γ
           → Running t l b (record {
-            list = set ls (takeBy t (statusOf (s .status)) (entryOf s) g γ c .write)
-                (takeBy t (statusOf (s .status)) (entryOf s) g γ c .entry);
+            list = set ls (takeState t (statusOf (s .status)) (entryOf s) g γ c .write)
+                (takeState t (statusOf (s .status)) (entryOf s) g γ c .entry);
             marks = markLive (childCount t (s .node)) (statusOf (s .status)) (s .node) ms;
-            machine = takeBy t (statusOf (s .status)) (entryOf s) g γ c;
+            machine = takeState t (statusOf (s .status)) (entryOf s) g γ c;
           })
       take-turn m =
           let q : s ≡ record { node = s .node; status = s .status; merit = γ } =
           ap (λ x. record { node = s .node; status = s .status; merit = x }) m in
           subst (λ x. Running t l b (record {
-            list = set ls (takeBy t (statusOf (s .status)) (entryOf x) g γ c .write)
-                (takeBy t (statusOf (s .status)) (entryOf x) g γ c .entry);
+            list = set ls (takeState t (statusOf (s .status)) (entryOf x) g γ c .write)
+                (takeState t (statusOf (s .status)) (entryOf x) g γ c .entry);
             marks = markLive (childCount t (s .node)) (statusOf (s .status)) (s .node) ms;
-            machine = takeBy t (statusOf (s .status)) (entryOf x) g γ c;
+            machine = takeState t (statusOf (s .status)) (entryOf x) g γ c;
           })) (sym q)
           (state-taken t wf l b ls ms v g γ c a A (s .node) (s .status) B
           (subst (λ x. Parts ls (g .left) (g .right) A (x ∷ B) Z) q p)
@@ -127,7 +127,7 @@ module _ (t : List ℕ) (wf : WellFormed t) (l : List State) (b : List ℕ) wher
           machine : Bool → Machine
           machine k =
               cond k (sweeping (gap (g .left + 1) (g .right + 1) (g .nodes)) γ c (g .left) (entryOf s))
-              (takeBy t (statusOf (s .status)) (entryOf s) g γ c)
+              (takeState t (statusOf (s .status)) (entryOf s) g γ c)
 
           by-merit : (k : Bool) → ltb (s .merit) γ ≡ k
               → Running t l b (record {

@@ -31,8 +31,8 @@ use Rattle.sss.specs.declared.Gap.{Gap}
 use Rattle.sss.specs.declared.Counts.{Counts}
 use Rattle.sss.specs.declared.Machine.{Machine}
 use Rattle.sss.specs.Entry.{entry, statusOf, entryOf, meritScore}
-use Rattle.sss.specs.Machine.{replaced, evaluated, turned, sweeping, expanding, purgingLeft}
-use Rattle.sss.specs.Machine.{takeInner, takeLive, takeChild, takeSolved, take as takeBy, markLive}
+use Rattle.sss.specs.Machine.{replaced, withLeaf, turned, sweeping, expanding, purgingLeft}
+use Rattle.sss.specs.Machine.{takeInner, takeLive, takeChild, takeSolved, takeState, markLive}
 use Rattle.sss.specs.Invariant.{Parts, Reaches, Tested, Running}
 use Rattle.sss.proofs.Parts.{right-length, first-entry, put, rewrite-entry}
 use Rattle.sss.proofs.Replacements.{reached-nodes, taken-node, live-leaf, live-max, live-min}
@@ -108,7 +108,7 @@ module _ (t : List ℕ) (wf : WellFormed t) (l : List State) (b : List ℕ) wher
       }
 
   valued : {ls : List State} {ms v : List ℕ} {g : Gap} {c : Counts} → Around t wf l b ls ms v g c → (i : ℕ)
-      → Around t wf l b ls (set ms i 1) (v ++ (i ∷ [])) g (evaluated c)
+      → Around t wf l b ls (set ms i 1) (v ++ (i ∷ [])) g (withLeaf c)
   unfolding markAll
   valued {v = v} a i =
       record {
@@ -170,7 +170,7 @@ module _ (t : List ℕ) (wf : WellFormed t) (l : List State) (b : List ℕ) wher
             machine = takeLive′ k s;
           })
       live-taken e zero z s f =
-          in-place (set ms n 1) (v ++ (n ∷ [])) (evaluated c) (theory.solved n (min γ (valuation t n))) (valued a n)
+          in-place (set ms n 1) (v ++ (n ∷ [])) (withLeaf c) (theory.solved n (min γ (valuation t n))) (valued a n)
           (omega arith) (live-leaf t wf A this B r x e z)
       live-taken e (suc k) z Max f =
           let last = theory.live (firstChild t n + k) γ in
@@ -315,10 +315,10 @@ module _ (t : List ℕ) (wf : WellFormed t) (l : List State) (b : List ℕ) wher
       -- the state is taken
       pub state-taken : (o : theory.Status) → q ≡ o
           → Running t l b (record {
-            list = set ls (takeBy t (statusOf o) (entryOf this) g γ c .write)
-                (takeBy t (statusOf o) (entryOf this) g γ c .entry);
+            list = set ls (takeState t (statusOf o) (entryOf this) g γ c .write)
+                (takeState t (statusOf o) (entryOf this) g γ c .entry);
             marks = markLive (childCount t n) (statusOf o) n ms;
-            machine = takeBy t (statusOf o) (entryOf this) g γ c;
+            machine = takeState t (statusOf o) (entryOf this) g γ c;
           })
       state-taken theory.LIVE e = live-by (childCount t n) refl
         where

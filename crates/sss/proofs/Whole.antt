@@ -80,8 +80,8 @@ module _ (t : List ℕ) (wf : WellFormed t) where
       (layout-own (tree t) (tree-distinct t wf 0 (wf .some)))
 
   -- so 15 is never given
-  pub never-15 : statesFound (runOf t .end) ≡ true
-  never-15 = ap statesFound run-ends
+  pub states-found : statesFound (runOf t .end) ≡ true
+  states-found = ap statesFound run-ends
 
   module _ (l : List State) (b : List ℕ) (k : Config) (h : Running t l (written (λ i. 0) (frames t) b) k)
       (off : k .machine .going ≡ false) where
@@ -188,7 +188,7 @@ pub found-outcome : (t : List ℕ) (l : List State) (b c : List ℕ) → WellFor
             certificate = flagsOf (sssLeaves t) t c;
           };
     }
-found-outcome t l b c wf q = rw (q, never-15 t wf)
+found-outcome t l b c wf q = rw (q, states-found t wf)
 
 pub rejected-outcome : (t : List ℕ) (l : List State) (b c : List ℕ) (r : Rejection)
     → searchRejection t (length l ∷ length b ∷ length c ∷ []) ≡ some r

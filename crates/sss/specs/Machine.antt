@@ -31,8 +31,8 @@ gap l r n = record { left = l; right = r; nodes = n }
 abbrev pub replaced : Counts → Counts
 replaced c = record { leaves = c .leaves; replacements = c .replacements + 1 }
 
-abbrev pub evaluated : Counts → Counts
-evaluated c = record { leaves = c .leaves + 1; replacements = c .replacements + 1 }
+abbrev pub withLeaf : Counts → Counts
+withLeaf c = record { leaves = c .leaves + 1; replacements = c .replacements + 1 }
 
 -- what a turn leaves: the entry e written at w; then the entry i is read in the phase p
 abbrev pub turned : Bool → ℕ → ℕ → State → Phase → Gap → ℕ → Counts → Machine
@@ -78,7 +78,7 @@ takeInner t i n Max g γ c =
 takeInner t i n Min g γ c = sweeping g γ (replaced c) (g .right) (entry (firstChild t i) Live γ)
 
 abbrev pub takeLive : List ℕ → ℕ → ℕ → Gap → ℕ → Counts → Machine
-takeLive t i zero g γ c = sweeping g γ (evaluated c) (g .right) (entry i Solved (min γ (valuation t i)))
+takeLive t i zero g γ c = sweeping g γ (withLeaf c) (g .right) (entry i Solved (min γ (valuation t i)))
 takeLive t i (suc n) g γ c = takeInner t i n (sideOf t i) g γ c
 
 -- a SOLVED child of p is taken: under Max p is SOLVED and all states below it go; under Min the next brother is LIVE,
@@ -96,9 +96,9 @@ abbrev pub takeSolved : List ℕ → ℕ → State → Gap → ℕ → Counts �
 takeSolved t zero e g γ c = turned true 0 (g .right) e (Reset 0) g γ c
 takeSolved t (suc k) e g γ c = takeChild t (suc k) (parentOf t (suc k)) (sideOf t (parentOf t (suc k))) g γ c
 
-abbrev pub take : List ℕ → Status → State → Gap → ℕ → Counts → Machine
-take t Live e g γ c = takeLive t (e .node) (childCount t (e .node)) g γ c
-take t Solved e g γ c = takeSolved t (e .node) e g γ c
+abbrev pub takeState : List ℕ → Status → State → Gap → ℕ → Counts → Machine
+takeState t Live e g γ c = takeLive t (e .node) (childCount t (e .node)) g γ c
+takeState t Solved e g γ c = takeSolved t (e .node) e g γ c
 
 -- the first state is put on the list: the root, LIVE
 abbrev pub begin : Gap → ℕ → Counts → Machine
@@ -108,7 +108,7 @@ begin g γ c = sweeping (gap 0 (g .nodes - 1) (g .nodes)) γ c (g .nodes - 1) (e
 abbrev pub sweep : List ℕ → State → Gap → ℕ → Counts → Machine
 sweep t e g γ c =
     cond (ltb (meritScore (e .merit)) γ) (sweeping (gap (g .left + 1) (g .right + 1) (g .nodes)) γ c (g .left) e)
-    (take t (e .status) e g γ c)
+    (takeState t (e .status) e g γ c)
 
 -- the next child, from the last to the first, is put before the right part
 abbrev pub expand : ℕ → ℕ → Gap → ℕ → Counts → Machine
@@ -179,8 +179,8 @@ marksBy t (Reset i) e γ b = b
 marksBy t Ended e γ b = b
 marksBy t (Rejected r) e γ b = b
 
-abbrev pub marksAfter : List ℕ → Machine → List ℕ → List ℕ
-marksAfter t m b = marksBy t (m .registers .phase) (m .entry) (m .registers .test) b
+abbrev pub marksNext : List ℕ → Machine → List ℕ → List ℕ
+marksNext t m b = marksBy t (m .registers .phase) (m .entry) (m .registers .test) b
 
 -- the list, the marks and the machine between two turns
 pub record Config : Type 0 where
@@ -200,4 +200,4 @@ handed c = holding (c .machine) (getD (c .list) (c .machine .read) blank)
 abbrev pub turn : List ℕ → Config → Config
 turn t c =
     let m = nextOf t (handed c) in
-    record { list = set (c .list) (m .write) (m .entry); marks = marksAfter t (handed c) (c .marks); machine = m }
+    record { list = set (c .list) (m .write) (m .entry); marks = marksNext t (handed c) (c .marks); machine = m }

@@ -11,6 +11,7 @@ use crate::family::depth_in;
 use crate::family::is_below;
 use crate::family::parent_in;
 use crate::family::side_in;
+use certificate::better;
 use certificate::evaluate;
 use frames::Rejection;
 use frames::ZERO_SCORE;
@@ -18,19 +19,19 @@ use frames::child_count;
 use frames::first_child;
 use gametree::Side;
 ghost use mathlib.Core.Path.{_≡_};
-ghost use Prim.Native.Nat.{_+_, _<_, _≤_, max, min};
+ghost use Prim.Native.Nat.{_+_, _<_, _≤_};
 ghost use lib.ListN.{length};
 ghost use Rattle.gametree.specs.Tree.{greatest};
 ghost use Rattle.frames.specs.Frame.{maxNodes, frames, firstChild, childCount};
 ghost use Rattle.frames.specs.Formed.{WellFormed};
 ghost use Rattle.sss.specs.Entry.{entry as entryOf, meritScore};
 ghost use Rattle.sss.specs.Family.{FamilyOf};
-ghost use Rattle.sss.specs.Machine.{replaced, evaluated as evaluatedAlso, turned as turnedOf};
+ghost use Rattle.sss.specs.Machine.{replaced, withLeaf, turned as turnedOf};
 ghost use Rattle.sss.specs.Machine.{sweeping as sweepingOf, expanding as expandingOf, purgingRight, purgingLeft};
-ghost use Rattle.sss.specs.Machine.{takeInner, takeLive, nextEntry, takeChild, takeSolved, take as takeBy};
+ghost use Rattle.sss.specs.Machine.{takeInner, takeLive, nextEntry, takeChild, takeSolved, takeState};
 ghost use Rattle.sss.specs.Machine.{begin as beginOf, sweep as sweepOf, expand as expandOf, purgeLeft, purgeRight};
 ghost use Rattle.sss.specs.Machine.{rewind as rewindOf, reset as resetOf, markLive, markSwept};
-ghost use Rattle.sss.specs.Machine.{nextOf, marksAfter};
+ghost use Rattle.sss.specs.Machine.{nextOf, marksNext};
 ghost use Rattle.sss.specs.Ready.{IsMerit, Few, Ready, ReadyToTake, ReadyToSweep, ReadyToPurge, ReadyToRewind};
 
 // The number of 01's question about the list.
@@ -57,20 +58,6 @@ fn score_of(entry: State) -> u32
     ensures { λ r. ⌜ r ≡ meritScore (entry .merit) ⌝ }
 {
     (entry.merit + ZERO) as u32
-}
-
-// The greater of two scores.
-fn greater(a: u32, b: u32) -> u32
-    ensures { λ r. ⌜ r ≡ max a b ⌝ }
-{
-    if a < b { b } else { a }
-}
-
-// The lesser of two scores.
-fn lesser(a: u32, b: u32) -> u32
-    ensures { λ r. ⌜ r ≡ min a b ⌝ }
-{
-    if a < b { a } else { b }
 }
 
 // What a turn leaves: the entry is written, and then another is read in this phase.
@@ -202,7 +189,7 @@ fn replacement(counts: Counts) -> Counts
 // And an evaluation more.
 fn evaluation(counts: Counts) -> Counts
     requires { ⌜ Few counts ⌝ }
-    ensures { λ r. ⌜ r ≡ evaluatedAlso counts ⌝ }
+    ensures { λ r. ⌜ r ≡ withLeaf counts ⌝ }
 {
     Counts {
         leaves: counts.leaves + 1,
@@ -256,7 +243,7 @@ fn take_live(
     let count = child_count(table, node);
     if count == 0 {
         let score = evaluate(table, evaluated, node, depth_in(family, node));
-        let entry = state_of(node, Status::Solved, lesser(test, score));
+        let entry = state_of(node, Status::Solved, better(Side::Min, test, score));
         sweeping(gap, test, evaluation(counts), gap.right, entry)
     } else {
         let side = side_in(family, node);
@@ -340,7 +327,7 @@ fn take(
     counts: Counts,
 ) -> Machine
     requires { ⌜ ReadyToTake (now table) (now family) (now evaluated) (entry .node) gap test counts ⌝ }
-    ensures { λ r. ⌜ r ≡ takeBy (now (table .entry)) status entry gap test counts ⌝ }
+    ensures { λ r. ⌜ r ≡ takeState (now (table .entry)) status entry gap test counts ⌝ }
     ensures { λ _. ⌜ now (evaluated .exit) ≡ markLive (childCount (now (table .entry)) (entry .node)) status (entry .node) (now (evaluated .entry)) ⌝ }
 {
     let node = entry.node as usize;
@@ -468,7 +455,7 @@ fn rewind(best: u32, entry: State, gap: Gap, test: u32, counts: Counts) -> Machi
     requires { ⌜ ReadyToRewind best entry gap test ⌝ }
     ensures { λ r. ⌜ r ≡ rewindOf best entry gap test counts ⌝ }
 {
-    let most = greater(best, score_of(entry));
+    let most = better(Side::Max, best, score_of(entry));
     let left = gap.left - 1;
     let right = gap.right - 1;
     let back = Gap {
@@ -501,7 +488,7 @@ fn reset(i: usize, gap: Gap, test: u32, counts: Counts) -> Machine
 // One turn: what follows from the registers and the entry that was read.
 pub fn next(m: Machine, table: &[u8], family: &[u32], evaluated: &mut [u8]) -> Machine
     requires { ⌜ Ready (now table) (now family) (now evaluated) m ⌝ }
-    ensures { λ r. ⌜ (r ≡ nextOf (now (table .entry)) m) × (now (evaluated .exit) ≡ marksAfter (now (table .entry)) m (now (evaluated .entry))) ⌝ }
+    ensures { λ r. ⌜ (r ≡ nextOf (now (table .entry)) m) × (now (evaluated .exit) ≡ marksNext (now (table .entry)) m (now (evaluated .entry))) ⌝ }
 {
     let entry = m.entry;
     let registers = m.registers;

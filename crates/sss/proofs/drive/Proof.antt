@@ -49,7 +49,7 @@ use denote.Triple.Walked.{goes-slice, walk-meets}
 use Rattle.sss.specs.declared.State.{State}
 use Rattle.sss.specs.declared.Machine.{Machine}
 use Rattle.sss.specs.Entry.{blank}
-use Rattle.sss.specs.Machine.{Config, holding, handed, nextOf, marksAfter, turn}
+use Rattle.sss.specs.Machine.{Config, holding, handed, nextOf, marksNext, turn}
 use Rattle.sss.specs.Driven.{Prepared, Driven}
 use Rattle.sss.proofs.Fuel.{fuel}
 use Rattle.sss.proofs.Driving.{Along, along-start, along-asks, along-reads, along-writes, along-onward}
@@ -320,7 +320,7 @@ module _ {M : Type 1} (𝓤 : URA M) (H : Heap 𝓤) (A : Atoms 𝓤) (W : Given
               owned ! N.the-row (Is N.the-row) (vN .makes) (handed c) (vN .val (handed c) ∷ [])
               (holds (c .machine) e (i .2) ie) $ move ! (11 ∷ 12 ∷ 6 ∷ 0 ∷ 3 ∷ 1 ∷ 5 ∷ []) $
               called W next.ended (next.clauses 𝓤 H A mem run) (to (handed c) (c .marks) ν δ) vN
-              (λ r (_, (_, (_, (ms, _)))). (r ≡ m′) × (ms ≡ marksAfter T (handed c) (c .marks))) (λ r ws. refl)
+              (λ r (_, (_, (_, (ms, _)))). (r ≡ m′) × (ms ≡ marksNext T (handed c) (c .marks))) (λ r ws. refl)
               (fmOf 𝓤 H (W .laws) 𝓣) nexts (factI 𝓤 _ (emp 𝓤) (along-asks T F (ls .now) (vs .now) m₀ c (i .1) g))
               (and-then ! (held ! (pos 1 - 1) refl) (and-then ! (held ! (pos 2 - 1) refl)
               (and-then ! (held ! (pos 3 - 1) refl) (and-then ! (held ! (pos 11 - 1) refl) (no-more !)))))

@@ -7,8 +7,8 @@ use Rattle.sss.proofs.turn.rewind.Tie as tie
 score-of-requires : tie.Need-score-of-requires
 score-of-requires c κs = search needs
 
-greater-requires : tie.Need-greater-requires
-greater-requires c κs = search needs
+better-requires : tie.Need-better-requires
+better-requires c κs = search needs
 
 sub-left : tie.Need-sub-left
 sub-left c = search needs
@@ -29,19 +29,19 @@ returns : tie.Need-returns
 returns c =
     let d = c .before .before in
     let g = d .before .before .before in
-    rw (c .turned .ensures, g .greater .ensures, g .before .score-of .ensures, lt-ltb _ _ (d .if1 .taken))
+    rw (c .turned .ensures, g .better .ensures, g .before .score-of .ensures, lt-ltb _ _ (d .if1 .taken))
 
 returns-2 : tie.Need-returns-2
 returns-2 c =
     let g = c .before .before .before .before in
-    rw (c .sweeping .ensures, g .greater .ensures, g .before .score-of .ensures, le-ltb _ _ (c .before .if1 .left))
+    rw (c .sweeping .ensures, g .better .ensures, g .before .score-of .ensures, le-ltb _ _ (c .before .if1 .left))
 
 pub rewind-spec : {M : Type 1} → statement M
 rewind-spec =
     tie.close
     (tie.spec
     score-of-requires
-    greater-requires
+    better-requires
     sub-left
     sub-right
     sub-turned

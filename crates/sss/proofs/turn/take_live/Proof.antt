@@ -21,13 +21,13 @@ evaluate-requires c κs =
     let e = c .depth-in .ensures ∙ family-depth _ _ (p .family) _ (p .node) in
     ((p .node, omega (arith, p .node, p .marks)), (e, omega (arith, e, p .family .shallow _ (p .node))))
 
-lesser-requires : tie.Need-lesser-requires
-lesser-requires c κs = search needs
+better-requires : tie.Need-better-requires
+better-requires c κs = search needs
 
 state-of-requires : tie.Need-state-of-requires
 state-of-requires c κs =
     let p = c .before .before .before .before .before .before .before .before .before .before .before .pre in
-    (omega (arith, p .node, p .formed .few), omega (arith, c .lesser .ensures, p .test))
+    (omega (arith, p .node, p .formed .few), omega (arith, c .better .ensures, p .test))
 
 evaluation-requires : tie.Need-evaluation-requires
 evaluation-requires c κs =
@@ -65,7 +65,7 @@ returns c =
         c .sweeping .ensures,
         c .before .evaluation .ensures,
         c .before .before .state-of .ensures,
-        d .lesser .ensures,
+        d .better .ensures,
         e .evaluate .ensures .0 .0,
       ),
       e .evaluate .ensures .1,
@@ -88,7 +88,7 @@ take-live-spec =
     child-count-requires
     depth-in-requires
     evaluate-requires
-    lesser-requires
+    better-requires
     state-of-requires
     evaluation-requires
     sweeping-requires
