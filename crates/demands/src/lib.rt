@@ -1,2 +1,2 @@
-// The user's demands 2 and 3 as theorems over byte tables, about the definitions that the public contracts cite: proofs/ has a file for each search, and
-// proofs/Demands.antt what compares them; specs/ has the words they use. The crate has no code.
+// The user's demands as theorems over byte tables, about the definitions that the public contracts cite: proofs/ has a file for each search,
+// proofs/Refusals.antt what a refusal leaves (demand 1), proofs/Demands.antt what compares the searches; specs/ has the words they use. The crate has no code.

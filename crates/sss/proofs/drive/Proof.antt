@@ -1,7 +1,7 @@
 -- `sss::drive` meets its contract: a walk of its MIR by hand, since it holds a slice of structs. It knows of the
 -- machine what `Driving.antt` says, and nothing of the rules. The list and the marks are opened as rows (`Rows.antt`)
 -- before the loop and shut after it, and for each call of `next` the marks are lent (`Loans.antt`, `Calls.antt`).
--- Assumes nothing.
+--
 use mathlib.Core.Path.{_≡_, refl, subst}
 use Prim.Native.Nat.{ℕ, _<_, _+_, _-_, _*_, _^_}
 use native.Mathlib.Omega.{arith}

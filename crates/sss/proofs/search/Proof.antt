@@ -2,7 +2,7 @@
 -- `start`, `drive` and `finish` ensure to the contract (`Whole.antt`), and knows nothing of the rules. The lent buffers
 -- are opened as rows (`Rows.antt`), the work array is a row of its own (`Arrays.antt`), and each call is lent what it
 -- takes (`Loans.antt`, `Calls.antt`).
--- Assumes nothing.
+--
 use mathlib.Core.Path.{_≡_, refl, _∙_}
 use Prim.Native.Nat.{ℕ, _+_, _-_, _*_, _≤_}
 use native.Mathlib.Omega.{arith}

@@ -1,5 +1,5 @@
 -- `treefile::all_digits` meets its contract: the bytes before i are digits, so all are exactly if those from i on are.
--- Assumes nothing.
+--
 use Prim.Native.Nat.{_≤_, _-_}
 use mathlib.Core.Path.{_≡_, refl, sym, ap, _∙_}
 use borrow.Author.Needs.{needs}

@@ -1,5 +1,5 @@
 -- `treefile::byte_of` meets its contract: digits 2k and 2k + 1 are within the line, and are below 16.
--- Assumes nothing.
+--
 use Prim.Native.Nat.{_+_, _*_, _<_}
 use mathlib.Core.Path.{_≡_}
 use mathlib.Core.Bool.{true}

@@ -1,5 +1,5 @@
 -- `treefile::check_file` meets its contract: each way out is that of one question, or of the questions on frames.
--- Assumes nothing.
+--
 use mathlib.Core.Path.{sym}
 use native.Mathlib.Omega.{arith}
 use borrow.Author.Needs.{needs}

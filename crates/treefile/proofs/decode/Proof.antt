@@ -1,5 +1,5 @@
 -- `treefile::decode` meets its contract: each turn reads one line and stores its frame behind the ones before.
--- Assumes nothing.
+--
 use Prim.Native.Nat.{_+_, _-_}
 use mathlib.Core.Path.{_≡_, sym, _∙_}
 use native.Mathlib.Omega.{arith}

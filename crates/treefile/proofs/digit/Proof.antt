@@ -1,5 +1,5 @@
 -- `treefile::digit` meets its contract: the tests that led to an arm say in which of the three ranges the byte is.
--- Assumes nothing.
+--
 use borrow.Author.Needs.{needs}
 use native.Mathlib.Omega.{arith}
 use Rattle.treefile.specs.Digit.{digitOf}

@@ -1,5 +1,5 @@
 -- `treefile::frame_of` meets its contract: each field is what `byte_of` gives.
--- Assumes nothing.
+--
 use borrow.Author.Needs.{needs}
 use Rattle.treefile.proofs.frame_of.Statement.{statement}
 use Rattle.treefile.proofs.frame_of.Tie as tie

@@ -1,5 +1,5 @@
 -- `treefile::is_line` meets its contract: each way out is a case of what stands at the position.
--- Assumes nothing.
+--
 use mathlib.Core.Path.{_≡_, sym, ap, _∙_}
 use native.Mathlib.Omega.{arith}
 use borrow.Author.Needs.{needs}

@@ -1,5 +1,5 @@
 -- `treefile::read` meets its contract: nothing is written to the lent table before question 10 has passed.
--- Assumes nothing.
+--
 use mathlib.Core.Path.{sym, _∙_}
 use native.Mathlib.Omega.{arith}
 use borrow.Author.Needs.{needs}

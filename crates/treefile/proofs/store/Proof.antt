@@ -1,5 +1,5 @@
 -- `treefile::store` meets its contract: the six stores are those of `sets`.
--- Assumes nothing.
+--
 use native.Mathlib.Omega.{arith}
 use native.Mathlib.Numerals.{towards-suc}
 use lib.ListN.{length-set}

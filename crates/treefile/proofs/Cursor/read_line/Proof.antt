@@ -1,6 +1,6 @@
 -- `treefile::Cursor::read_line` meets its contract: where `is_line` says so, the position is past twelve digits, and
 -- past a line feed if the file goes on.
--- Assumes nothing.
+--
 use Prim.Native.Nat.{ℕ, _+_, _≤_, min}
 use mathlib.Core.Path.{_≡_, sym, ap, _∙_}
 use mathlib.Core.Bool.{true}
