@@ -20,7 +20,8 @@ use Rattle.sss.specs.declared.Gap.{Gap}
 use Rattle.sss.specs.declared.Counts.{Counts}
 use Rattle.sss.specs.declared.Machine.{Machine}
 use Rattle.sss.specs.Entry.{entry, meritScore}
-use Rattle.sss.specs.Machine.{gap, replaced, withLeaf, nextEntry, takeInner, takeLive, takeChild, takeSolved}
+use Rattle.sss.specs.Machine.{gap, firstGap, replaced, withLeaf, nextEntry}
+use Rattle.sss.specs.Machine.{takeInner, takeLive, takeChild, takeSolved}
 use Rattle.sss.specs.Machine.{takeState, turnBy, nextOf}
 use Rattle.sss.specs.Ready.{Ready, ReadyIn}
 use Rattle.sss.proofs.Turns.{sweeping-writes, expanding-writes, purgingRight-writes, purgingLeft-writes}
@@ -52,7 +53,7 @@ module _ (t : List ℕ) (g : Gap) (γ : ℕ) (c : Counts) where
   -- a turn writes an entry of the list
   writes-in : (e : State) (p : Phase) → ReadyIn t p e g γ c → turnBy t p e g γ c .write < g .nodes
   writes-in e Begin x =
-      let q = sweeping-writes (gap 0 (g .nodes - 1) (g .nodes)) γ c (g .nodes - 1) (entry 0 Live γ) .0 in
+      let q = sweeping-writes (firstGap g) γ c (g .nodes - 1) (entry 0 Live γ) .0 in
       omega (arith, x .0)
   writes-in e Sweep x =
       cond-cases (λ (m : Machine). m .write < g .nodes) (ltb (meritScore (e .merit)) γ) _ _

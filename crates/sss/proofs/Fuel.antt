@@ -23,7 +23,8 @@ use Rattle.sss.specs.declared.Gap.{Gap}
 use Rattle.sss.specs.declared.Counts.{Counts}
 use Rattle.sss.specs.declared.Machine.{Machine}
 use Rattle.sss.specs.Entry.{meritScore}
-use Rattle.sss.specs.Machine.{gap, sweeping, expanding, purgingRight, purgingLeft, takeInner, takeLive, takeChild}
+use Rattle.sss.specs.Machine.{gap, firstGap, sweeping, expanding, purgingRight, purgingLeft}
+use Rattle.sss.specs.Machine.{takeInner, takeLive, takeChild}
 use Rattle.sss.specs.Machine.{takeSolved, takeState, turnBy, nextOf}
 use Rattle.sss.specs.Ready.{Ready, ReadyIn}
 
@@ -151,7 +152,7 @@ module _ (t : List ℕ) (wf : WellFormed t) (g : Gap) (γ : ℕ) (c : Counts) (o
 
 module _ (t : List ℕ) (g : Gap) (γ : ℕ) (c : Counts) (e : State) where
   begin-fuel : 0 < g .nodes → fuel (turnBy t Begin e g γ c) < fuelBy Begin g γ (c .replacements)
-  begin-fuel h = sweeping-fuel (gap 0 (g .nodes - 1) (g .nodes)) γ c _ _ _ (omega arith)
+  begin-fuel h = sweeping-fuel (firstGap g) γ c _ _ _ (omega arith)
 
   reset-fuel : (i : ℕ) → i < g .nodes → fuel (turnBy t (Reset i) e g γ c) < fuelBy (Reset i) g γ (c .replacements)
   reset-fuel i h =

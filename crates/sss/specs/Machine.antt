@@ -100,9 +100,13 @@ abbrev pub takeState : List ℕ → Status → State → Gap → ℕ → Counts 
 takeState t Live e g γ c = takeLive t (e .node) (childCount t (e .node)) g γ c
 takeState t Solved e g γ c = takeSolved t (e .node) e g γ c
 
+-- one state is on the list, in the last entry
+abbrev pub firstGap : Gap → Gap
+firstGap g = gap 0 (g .nodes - 1) (g .nodes)
+
 -- the first state is put on the list: the root, LIVE
 abbrev pub begin : Gap → ℕ → Counts → Machine
-begin g γ c = sweeping (gap 0 (g .nodes - 1) (g .nodes)) γ c (g .nodes - 1) (entry 0 Live γ)
+begin g γ c = sweeping (firstGap g) γ c (g .nodes - 1) (entry 0 Live γ)
 
 -- the entry right of the gap goes to its left if its merit is below the test, and is taken if not
 abbrev pub sweep : List ℕ → State → Gap → ℕ → Counts → Machine
