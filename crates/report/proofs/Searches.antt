@@ -23,19 +23,19 @@ fresh-room t e accepted fresh =
     omega (arith, accepted-formed t accepted .few, ap length fresh, length-replicate {A = ℕ} maxNodes 0)
 
 -- an answer a that finds f, and is no rejection
-pub record Finds {F A : Type 0} (found : F → A) (rejected : Rejection → A) (f : F) (a : A) : Type 0 where
+pub record Answered {F A : Type 0} (found : F → A) (rejected : Rejection → A) (f : F) (a : A) : Type 0 where
   pub same : (r : F) → a ≡ found r → r ≡ f
   pub not-rejected : (x : Rejection) → a ≡ rejected x → ⊥
 
 -- the search of an accepted table into fresh buffers finds; the answer's two constructors are told apart
-pub finds : {F A : Type 0} (found : F → A) (rejected : Rejection → A) → ((r f : F) → found r ≡ found f → r ≡ f)
+pub answered : {F A : Type 0} (found : F → A) (rejected : Rejection → A) → ((r f : F) → found r ≡ found f → r ≡ f)
     → ((r : F) (x : Rejection) → found r ≡ rejected x → ⊥)
     → {f : F} (w t : List ℕ) {e c : List ℕ} {a : A} {e′ c′ : List ℕ}
     → Accepted t → e ≡ replicate maxNodes 0 → c ≡ replicate maxNodes 0
     → record { answer = a; evaluated = e′; certificate = c′ }
     ≡ outcome rejected (found f) w t e c (searchRejection t (length e ∷ length c ∷ []))
-    → Finds found rejected f a
-finds found rejected same apart {f} w t {e} {c} {a} accepted p q o =
+    → Answered found rejected f a
+answered found rejected same apart {f} w t {e} {c} {a} accepted p q o =
     let passed = room-passed t (length e) (length c) accepted (fresh-room t e accepted p) (fresh-room t c accepted q) in
     let answer : a ≡ found f = ap (λ x. x .answer) (rw passed at o) in
     record {

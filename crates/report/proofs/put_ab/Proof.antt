@@ -7,7 +7,7 @@ use denote.Ref.{now}
 use Rattle.alphabeta.specs.declared.Answer.the-variants.{Found as FoundAnswer, Rejected}
 use Rattle.alphabeta.specs.Outcome.{findings}
 use Rattle.report.specs.Report.{abLine}
-use Rattle.report.proofs.Searches.{Finds, finds, value-passed}
+use Rattle.report.proofs.Searches.{Answered, answered, value-passed}
 use Rattle.report.proofs.put_ab.Statement.{statement}
 use Rattle.report.proofs.put_ab.Tie as tie
 
@@ -16,9 +16,10 @@ abbrev start : tie.After-search → tie.Start
 start c = c .before .before .before .before .before
 
 -- the search finds
-found : (c : tie.After-search) → Finds FoundAnswer Rejected (findings (now (start c .args .table))) (c .search .result)
+found : (c : tie.After-search)
+    → Answered FoundAnswer Rejected (findings (now (start c .args .table))) (c .search .result)
 found c =
-    finds FoundAnswer Rejected (λ r f e. cc) (λ r x e. let z : _≡_ {A = ℕ} 0 1 = cc in omega arith) _ _
+    answered FoundAnswer Rejected (λ r f e. cc) (λ r x e. let z : _≡_ {A = ℕ} 0 1 = cc in omega arith) _ _
     (start c .pre .0) refl refl (c .search .ensures)
 
 slice-aggregate-search : tie.Need-slice-aggregate-search

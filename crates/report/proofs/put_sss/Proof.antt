@@ -7,7 +7,7 @@ use denote.Ref.{now}
 use Rattle.sss.specs.declared.Answer.the-variants.{Found as FoundAnswer, Rejected}
 use Rattle.sss.specs.Outcome.{findings}
 use Rattle.report.specs.Report.{sssLine}
-use Rattle.report.proofs.Searches.{Finds, finds, value-passed}
+use Rattle.report.proofs.Searches.{Answered, answered, value-passed}
 use Rattle.report.proofs.put_sss.Statement.{statement}
 use Rattle.report.proofs.put_sss.Tie as tie
 
@@ -16,9 +16,10 @@ abbrev start : tie.After-solve → tie.Start
 start c = c .before .before .before .before .before
 
 -- the search finds
-found : (c : tie.After-solve) → Finds FoundAnswer Rejected (findings (now (start c .args .table))) (c .solve .result)
+found : (c : tie.After-solve)
+    → Answered FoundAnswer Rejected (findings (now (start c .args .table))) (c .solve .result)
 found c =
-    finds FoundAnswer Rejected (λ r f e. cc) (λ r x e. let z : _≡_ {A = ℕ} 0 1 = cc in omega arith) _ _
+    answered FoundAnswer Rejected (λ r f e. cc) (λ r x e. let z : _≡_ {A = ℕ} 0 1 = cc in omega arith) _ _
     (start c .pre .0) refl refl (c .solve .ensures)
 
 slice-aggregate-solve : tie.Need-slice-aggregate-solve
