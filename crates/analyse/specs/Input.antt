@@ -5,7 +5,7 @@ use lib.ListN.{length}
 use Rattle.analyse.specs.declared.Input.{Input}
 use Rattle.analyse.specs.declared.Input.the-variants.{Bytes, Failed}
 
--- the bytes that were read are the first ones of the buffer
+-- no more bytes are reported than the buffer has
 abbrev pub Fits : List ℕ → Input → Type 0
 Fits file (Bytes size) = size ≤ length file
 Fits file Failed = Unit {0}

@@ -1,1 +1,2 @@
+-- Definitions of what reading the input promises.
 pub mod Input

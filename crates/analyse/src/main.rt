@@ -56,6 +56,7 @@ fn print_report(file: &[u8]) {
         Answer::Length(size) => {
             io::write_all(STDOUT_FILENO, &text[..size]);
         }
+        // Never: only a text of fewer than TEXT_SIZE bytes is rejected.
         Answer::Rejected(_) => {}
     }
 }

@@ -19,7 +19,7 @@ use Rattle.treefile.specs.File.{fileRejection, readRejection, readAnswer, table
 use Rattle.treefile.proofs.Acceptance.{read-nodes, accepted-table, accepted-read}
 use Rattle.report.specs.declared.Answer.the-variants.{Length, Rejected}
 use Rattle.report.specs.Text.{refusedLine, Room, Put}
-use Rattle.report.specs.Report.{analysis, printed, report, textSize, writtenBy, written}
+use Rattle.report.specs.Report.{analysis, printed, report, textSize, outcomeBy, reportOutcome}
 use Rattle.report.proofs.Sizes.{report-few}
 
 module _ (f : List ℕ) where
@@ -63,27 +63,36 @@ module _ (f : List ℕ) where
   report-room x b e h = record { enough = omega (arith, ap length e, report-few f) }
 
   -- a text that is too short
-  pub written-short : (b : List ℕ) → length b < textSize
-      → record { answer = Rejected (record { number = 10; place = 0 }); text = b } ≡ written f b
-  unfolding written
-  written-short b h = rw (lt-ltb (length b) textSize h)
+  pub outcome-short : (b : List ℕ) → length b < textSize
+      → record { answer = Rejected (record { number = 10; place = 0 }); text = b } ≡ reportOutcome f b
+  unfolding reportOutcome
+  outcome-short b h = rw (lt-ltb (length b) textSize h)
 
   -- a report that was laid
-  pub written-laid : (x b : List ℕ) (n : ℕ) (b′ : List ℕ) → report f ≡ x → textSize ≤ length b → Put 0 x b n b′
-      → record { answer = Length n; text = b′ } ≡ written f b
-  unfolding written
-  written-laid x b n b′ e h p =
+  pub outcome-laid : (x b : List ℕ) (n : ℕ) (b′ : List ℕ) → report f ≡ x → textSize ≤ length b → Put 0 x b n b′
+      → record { answer = Length n; text = b′ } ≡ reportOutcome f b
+  unfolding reportOutcome
+  outcome-laid x b n b′ e h p =
       let k : n ≡ length x = omega (arith, p .behind) in
       rw (le-ltb (length b) textSize h, e) (ap₂ (λ k t. record { answer = Length k; text = t }) k (p .text))
 
   -- the length that a call answers with is within the text that was lent
-  pub length-within : (b : List ℕ) (n : ℕ) (b′ : List ℕ) → record { answer = Length n; text = b′ } ≡ written f b
+  pub length-within : (b : List ℕ) (n : ℕ) (b′ : List ℕ) → record { answer = Length n; text = b′ } ≡ reportOutcome f b
       → n ≤ length b
-  unfolding written
+  unfolding reportOutcome
   length-within b n b′ e = by-size (ltb (length b) textSize) refl (ap (λ o. o .answer) e)
     where
-      by-size : (q : Bool) → ltb (length b) textSize ≡ q → Length n ≡ writtenBy q f b .answer → n ≤ length b
+      by-size : (q : Bool) → ltb (length b) textSize ≡ q → Length n ≡ outcomeBy q f b .answer → n ≤ length b
       by-size true p e = let z : _≡_ {A = ℕ} 0 1 = cc in absurd (omega arith)
       by-size false p e =
           let k : n ≡ length (report f) = cc in
           omega (arith, report-few f, ltb-false (length b) textSize p)
+
+  -- after a rejection the lent text is as it was
+  pub kept-text : (b : List ℕ) (r : Rejection) → reportOutcome f b .answer ≡ Rejected r → reportOutcome f b .text ≡ b
+  unfolding reportOutcome
+  kept-text b r e = by-size (ltb (length b) textSize) e
+    where
+      by-size : (q : Bool) → outcomeBy q f b .answer ≡ Rejected r → outcomeBy q f b .text ≡ b
+      by-size true e = refl
+      by-size false e = let z : _≡_ {A = ℕ} 0 1 = cc in absurd (omega arith)

@@ -1,9 +1,15 @@
--- What a search answers of an accepted table, into buffers with an entry for every node that a table can have.
-use Prim.Native.Nat.{ℕ, _≤_}
+-- What a search answers of an accepted table, into buffers with an entry for every node that a table can have, and the
+-- value that it found.
+use Prim.Native.Nat.{ℕ, _^_, _≤_, _<_}
 use native.Mathlib.Omega.{arith}
-use mathlib.Core.Path.{_≡_, ap}
+use mathlib.Core.Path.{_≡_, sym, ap, _∙_}
 use mathlib.Core.List.{List, [], _∷_}
+use lib.IntN.{ℤ}
 use lib.ListN.{length, replicate, length-replicate}
+use lib.Signed.{mag}
+use mir.Syntax.{w16}
+use mir.Val.{hbits, toZ, ofZ}
+use mir.ValLaws.{toZ-ofZ}
 use Rattle.frames.specs.declared.Rejection.{Rejection}
 use Rattle.frames.specs.Frame.{maxNodes, frames}
 use Rattle.frames.specs.Check.{Accepted}
@@ -16,12 +22,27 @@ fresh-room : (t e : List ℕ) → Accepted t → e ≡ replicate maxNodes 0 → 
 fresh-room t e accepted fresh =
     omega (arith, accepted-formed t accepted .few, ap length fresh, length-replicate {A = ℕ} maxNodes 0)
 
--- so the answer is what the search finds
-pub answered : {A : Type 0} (rejected : Rejection → A) (found : A) (w t e c : List ℕ) (a : A) (e′ c′ : List ℕ)
+-- an answer a that finds f, and is no rejection
+pub record Answered {F A : Type 0} (found : F → A) (rejected : Rejection → A) (f : F) (a : A) : Type 0 where
+  pub same : (r : F) → a ≡ found r → r ≡ f
+  pub not-rejected : (x : Rejection) → a ≡ rejected x → ⊥
+
+-- the search of an accepted table into fresh buffers finds; the answer's two constructors are told apart
+pub answered : {F A : Type 0} (found : F → A) (rejected : Rejection → A) → ((r f : F) → found r ≡ found f → r ≡ f)
+    → ((r : F) (x : Rejection) → found r ≡ rejected x → ⊥)
+    → {f : F} (w t : List ℕ) {e c : List ℕ} {a : A} {e′ c′ : List ℕ}
     → Accepted t → e ≡ replicate maxNodes 0 → c ≡ replicate maxNodes 0
     → record { answer = a; evaluated = e′; certificate = c′ }
-    ≡ outcome rejected found w t e c (searchRejection t (length e ∷ length c ∷ []))
-    → a ≡ found
-answered rejected found w t e c a e′ c′ accepted p q o =
+    ≡ outcome rejected (found f) w t e c (searchRejection t (length e ∷ length c ∷ []))
+    → Answered found rejected f a
+answered found rejected same apart {f} w t {e} {c} {a} accepted p q o =
     let passed = room-passed t (length e) (length c) accepted (fresh-room t e accepted p) (fresh-room t c accepted q) in
-    ap (λ x. x .answer) (rw passed at o)
+    let answer : a ≡ found f = ap (λ x. x .answer) (rw passed at o) in
+    record {
+      same = λ r g. same r f (sym g ∙ answer);
+      not-rejected = λ x g. apart f x (sym answer ∙ g);
+    }
+
+-- a value that was found is passed on as the bits that hold it
+pub value-passed : (v : ℤ) → mag v < 2 ^ hbits w16 → toZ w16 (ofZ w16 v) ≡ v
+value-passed v h = toZ-ofZ w16 v (record { sfits = h })

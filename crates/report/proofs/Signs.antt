@@ -10,7 +10,7 @@ use lib.Signed.{ltZ, nonNeg}
 use mir.Syntax.{w16, w64}
 use mir.Val.{Fits, SFits}
 use Rattle.gametree.proofs.Choice.{true-not-false}
-use Rattle.report.specs.Text.{decimal, signed}
+use Rattle.report.specs.Text.{decimal, signedDecimal}
 
 -- a value of 16 bits takes 64 too
 pub widened : (v : ℤ) → SFits w16 v → SFits w64 v
@@ -22,7 +22,7 @@ pub record Negative (v : ℤ) : Type 0 where
   pub positive : T (nonNeg (pos 0 -ℤ v))
   pub small : Fits w64 (natAbs (pos 0 -ℤ v))
   pub same : natAbs (pos 0 -ℤ v) ≡ natAbs v
-  pub text : signed v ≡ 45 ∷ decimal (natAbs v)
+  pub text : signedDecimal v ≡ 45 ∷ decimal (natAbs v)
 
 pub negative : (v : ℤ) → SFits w16 v → ltZ v (pos 0) ≡ true → Negative v
 negative (pos n) f e = absurd (true-not-false e (le-ltb n 0 (omega arith)))
@@ -39,7 +39,7 @@ negative (negsuc n) f e =
 pub record Positive (v : ℤ) : Type 0 where
   pub positive : T (nonNeg v)
   pub small : Fits w64 (natAbs v)
-  pub text : signed v ≡ decimal (natAbs v)
+  pub text : signedDecimal v ≡ decimal (natAbs v)
 
 pub positive : (v : ℤ) → SFits w16 v → ltZ v (pos 0) ≡ false → Positive v
 positive (pos n) f e = record { positive = tt; small = record { fits = omega (arith, f .sfits) }; text = refl }

@@ -11,20 +11,20 @@ use Rattle.treefile.specs.File.{fileRejection}
 use Rattle.alphabeta.specs.Outcome as alphabeta
 use Rattle.mtd.specs.Outcome as mtd
 use Rattle.sss.specs.Outcome as sss
-use Rattle.report.specs.Text.{signed, methodLine, refusedLine}
+use Rattle.report.specs.Text.{signedDecimal, methodLine, refusedLine}
 use Rattle.report.specs.Report.{abName, mtdName, sssName, abLine, mtdLine, sssLine}
 use Rattle.report.specs.Report.{analysis, printed, report, textSize}
 use Rattle.report.proofs.Laying.{decimal-few}
 
 -- 20 digits and a sign
-signed-few : (v : ℤ) → length (signed v) ≤ 21
-signed-few (pos n) = omega (arith, decimal-few 20 n)
-signed-few (negsuc n) = omega (arith, decimal-few 20 (suc n))
+signedDecimal-few : (v : ℤ) → length (signedDecimal v) ≤ 21
+signedDecimal-few (pos n) = omega (arith, decimal-few 20 n)
+signedDecimal-few (negsuc n) = omega (arith, decimal-few 20 (suc n))
 
 -- a line besides the name
 line-few : (name : List ℕ) (v : ℤ) (m l : ℕ) → length (methodLine name v m l) ≤ length name + 65
 line-few name v m l =
-    simp length-append (omega (arith, signed-few v, decimal-few 20 m, decimal-few 20 l))
+    simp length-append (omega (arith, signedDecimal-few v, decimal-few 20 m, decimal-few 20 l))
 
 refused-few : (r : Rejection) → length (refusedLine (r .number) (r .place)) ≤ textSize
 refused-few r = simp length-append (omega (arith, decimal-few 20 (r .number), decimal-few 20 (r .place)))

@@ -60,10 +60,10 @@ pub record Outcome : Type 0 where
 
 -- a text that is too short is rejected, and stays as it was; else the report is laid at its beginning, and its length
 -- is the answer
-abbrev pub writtenBy : (tooShort : Bool) (f b : List ℕ) → Outcome
-writtenBy true f b = record { answer = Rejected (record { number = 10; place = 0 }); text = b }
-writtenBy false f b = record { answer = Length (length (report f)); text = laid 0 (report f) b }
+abbrev pub outcomeBy : (tooShort : Bool) (f b : List ℕ) → Outcome
+outcomeBy true f b = record { answer = Rejected (record { number = 10; place = 0 }); text = b }
+outcomeBy false f b = record { answer = Length (length (report f)); text = laid 0 (report f) b }
 
 -- what a call gives for the file f and the lent text b
-unfoldable pub written : (f b : List ℕ) → Outcome
-written f b = writtenBy (ltb (length b) textSize) f b
+unfoldable pub reportOutcome : (f b : List ℕ) → Outcome
+reportOutcome f b = outcomeBy (ltb (length b) textSize) f b

@@ -18,9 +18,9 @@ abbrev pub decimal : ℕ → List ℕ
 decimal n = decimalWithin 20 n
 
 -- a minus sign stands before a negative number
-abbrev pub signed : ℤ → List ℕ
-signed (pos n) = decimal n
-signed (negsuc n) = 45 ∷ decimal (suc n)
+abbrev pub signedDecimal : ℤ → List ℕ
+signedDecimal (pos n) = decimal n
+signedDecimal (negsuc n) = 45 ∷ decimal (suc n)
 
 -- a blank, and the end of a line
 abbrev pub blank : ℕ
@@ -38,7 +38,7 @@ heading =
 -- a method's name, the value, the move and the count of evaluated leaves, with one blank between
 abbrev pub methodLine : List ℕ → ℤ → ℕ → ℕ → List ℕ
 methodLine name value move leaves =
-    name ++ (blank ∷ (signed value ++ (blank ∷ (decimal move ++ (blank ∷ (decimal leaves ++ (lineFeed ∷ [])))))))
+    name ++ (blank ∷ (signedDecimal value ++ (blank ∷ (decimal move ++ (blank ∷ (decimal leaves ++ (lineFeed ∷ [])))))))
 
 -- "refused", the number and the place
 abbrev pub refusedLine : ℕ → ℕ → List ℕ

@@ -9,8 +9,8 @@ ghost use mathlib.Core.Path.{_≡_};
 ghost use mathlib.Core.List.{_∷_, []};
 ghost use lib.IntN.{natAbs};
 ghost use Rattle.frames.specs.Check.{Accepted};
-ghost use Rattle.report.specs.Text.{blank, decimal, signed, methodLine, refusedLine, Room, Put};
-ghost use Rattle.report.specs.Report.{abLine, mtdLine, sssLine, analysis, written};
+ghost use Rattle.report.specs.Text.{blank, decimal, signedDecimal, methodLine, refusedLine, Room, Put};
+ghost use Rattle.report.specs.Report.{abLine, mtdLine, sssLine, analysis, reportOutcome};
 
 // The bytes that a lent text must have.
 pub const TEXT_SIZE: usize = 256;
@@ -22,6 +22,11 @@ const BLANK: u8 = b' ';
 
 const LINE_FEED: u8 = 10;
 
+// The digit 0, and the base of the numbers.
+const ZERO: usize = b'0' as usize;
+
+const BASE: usize = 10;
+
 // The answer of a call: the report's length, or a lent text that is too short.
 pub enum Answer {
     Length(usize),
@@ -30,7 +35,7 @@ pub enum Answer {
 
 // The report of a file, laid at the beginning of the text.
 pub fn write(file: &[u8], text: &mut [u8]) -> Answer
-    ensures { λ r. ⌜ record { answer = r; text = now (text .exit) } ≡ written (now (file .entry)) (now (text .entry)) ⌝ }
+    ensures { λ r. ⌜ record { answer = r; text = now (text .exit) } ≡ reportOutcome (now (file .entry)) (now (text .entry)) ⌝ }
 {
     if text.len() < TEXT_SIZE {
         return Answer::Rejected(Rejection {
@@ -132,8 +137,8 @@ fn put_line(
 
 // A blank and a signed value; the position behind them.
 fn put_value(text: &mut [u8], at: usize, value: i16) -> usize
-    requires { ⌜ Room at (blank ∷ signed value) (now text) ⌝ }
-    ensures { λ r. ⌜ Put at (blank ∷ signed value) (now (text .entry)) r (now (text .exit)) ⌝ }
+    requires { ⌜ Room at (blank ∷ signedDecimal value) (now text) ⌝ }
+    ensures { λ r. ⌜ Put at (blank ∷ signedDecimal value) (now (text .entry)) r (now (text .exit)) ⌝ }
 {
     let next = put_byte(text, at, BLANK);
     if value < 0 {
@@ -170,11 +175,11 @@ fn put_number(text: &mut [u8], at: usize, n: usize) -> usize
     requires { ⌜ Room at (decimal n) (now text) ⌝ }
     ensures { λ r. ⌜ Put at (decimal n) (now (text .entry)) r (now (text .exit)) ⌝ }
 {
-    if n < 10 {
-        return put_byte(text, at, (48 + n) as u8);
+    if n < BASE {
+        return put_byte(text, at, (ZERO + n) as u8);
     }
-    let next = put_number(text, at, n / 10);
-    put_byte(text, next, (48 + n % 10) as u8)
+    let next = put_number(text, at, n / BASE);
+    put_byte(text, next, (ZERO + n % BASE) as u8)
 }
 
 // One byte at a position; the position behind it.

@@ -1,5 +1,5 @@
 -- `analyse::main` is safe and ends: the bytes that it lends were read.
--- Assumes nothing.
+--
 use mathlib.Core.Path.{sym}
 use lib.Seq.{length-take-le}
 use Rattle.analyse.proofs.Reading.{fits}

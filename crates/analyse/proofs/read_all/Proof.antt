@@ -1,5 +1,5 @@
 -- `analyse::read_all` meets its contract: the bytes read so far fit. The measure is the room that is left.
--- Assumes nothing.
+--
 use Prim.Native.Nat.{_≤_, _-_}
 use mathlib.Core.Path.{_≡_}
 use native.Mathlib.Omega.{arith}

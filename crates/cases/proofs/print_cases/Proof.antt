@@ -1,4 +1,4 @@
--- `cases::print_cases` is safe and ends: each case starts behind the one before it. Assumes nothing.
+-- `cases::print_cases` is safe and ends: each case starts behind the one before it.
 use Prim.Native.Nat.{_≤_, _-_}
 use lib.ListN.{length}
 use borrow.Author.Needs.{needs}

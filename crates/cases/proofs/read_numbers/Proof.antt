@@ -1,4 +1,4 @@
--- `cases::read_numbers` meets its contract: no more numbers are started than there is room for. Assumes nothing.
+-- `cases::read_numbers` meets its contract: no more numbers are started than there is room for.
 use Prim.Native.Nat.{_≤_, _-_}
 use mathlib.Core.Path.{_≡_, sym}
 use lib.Seq.{length-take-le}

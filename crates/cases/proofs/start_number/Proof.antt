@@ -1,4 +1,4 @@
--- `cases::start_number` meets its contract. Assumes nothing.
+-- `cases::start_number` meets its contract.
 use native.Mathlib.Omega.{arith}
 use lib.ListN.{length-set}
 use borrow.Author.Needs.{needs}

@@ -1,17 +1,13 @@
 -- `report::put_mtd` meets its contract: the search finds, and the line says what it found.
 use Prim.Native.Nat.{ℕ}
 use native.Mathlib.Omega.{arith}
-use mathlib.Core.Path.{_≡_, refl, sym, ap, _∙_, subst}
-use mir.Syntax.{w16}
-use mir.Val.{toZ, ofZ}
-use mir.ValLaws.{toZ-ofZ}
+use mathlib.Core.Path.{_≡_, refl}
 use borrow.Author.Needs.{needs}
 use denote.Ref.{now}
 use Rattle.mtd.specs.declared.Answer.the-variants.{Found as FoundAnswer, Rejected}
-use Rattle.mtd.specs.Outcome.{mtdLeaves, findings}
-use Rattle.report.specs.Text.{methodLine, Room, Put}
-use Rattle.report.specs.Report.{mtdName, mtdLine}
-use Rattle.report.proofs.Searches.{answered}
+use Rattle.mtd.specs.Outcome.{findings}
+use Rattle.report.specs.Report.{mtdLine}
+use Rattle.report.proofs.Searches.{Answered, answered, value-passed}
 use Rattle.report.proofs.put_mtd.Statement.{statement}
 use Rattle.report.proofs.put_mtd.Tie as tie
 
@@ -19,27 +15,12 @@ use Rattle.report.proofs.put_mtd.Tie as tie
 abbrev start : tie.After-search → tie.Start
 start c = c .before .before .before .before .before
 
--- the search answers with its findings
-found : (c : tie.After-search) → c .search .result ≡ FoundAnswer (findings (now (start c .args .table)))
+-- the search finds
+found : (c : tie.After-search)
+    → Answered FoundAnswer Rejected (findings (now (start c .args .table))) (c .search .result)
 found c =
-    let t = now (start c .args .table) in
-    answered Rejected (FoundAnswer (findings t)) (mtdLeaves t) t _ _ _ _ _ (start c .pre .0) refl refl
-    (c .search .ensures)
-
--- so the line that is laid is MTD's
-line : (c : tie.After-struct-told) →
-    let s = start (c .before .before .before .before .before .before .before .before) in
-    let r = c .before .before .before .before .found .given .0 .0 in
-    methodLine mtdName (toZ w16 (ofZ w16 (r .value))) (r .«root_move») (r .leaves) ≡ mtdLine (now (s .args .table))
-unfolding mtdLine
-line c =
-    let s = c .before .before .before .before .before .before .before .before in
-    let t = now (start s .args .table) in
-    let f = c .before .before .before .before .found .given in
-    let e : FoundAnswer (f .0 .0) ≡ FoundAnswer (findings t) = sym (f .1) ∙ found s in
-    let same : f .0 .0 ≡ findings t = (cc) in
-    rw (toZ-ofZ w16 (f .0 .0 .value) (record { sfits = c .struct-told .given .0 .1 }))
-    (ap (λ r. methodLine mtdName (r .value) (r .«root_move») (r .leaves)) same)
+    answered FoundAnswer Rejected (λ r f e. cc) (λ r x e. let z : _≡_ {A = ℕ} 0 1 = cc in omega arith) _ _
+    (start c .pre .0) refl refl (c .search .ensures)
 
 slice-aggregate-search : tie.Need-slice-aggregate-search
 slice-aggregate-search c = search needs
@@ -57,29 +38,29 @@ enum-told : tie.Need-enum-told
 enum-told c = search needs
 
 returns : tie.Need-returns
-returns c =
-    let s = c .before .before .before .before in
-    let e : Rejected (c .enum-told .given .0 .0) ≡ FoundAnswer _ = sym (c .enum-told .given .1) ∙ found s in
-    let z : _≡_ {A = ℕ} 0 1 = (cc) in
-    absurd (omega arith)
+returns c = absurd (found (c .before .before .before .before) .not-rejected _ (c .enum-told .given .1))
 
 slice-aggregate-put-line : tie.Need-slice-aggregate-put-line
 slice-aggregate-put-line c = search needs
 
 put-line-requires : tie.Need-put-line-requires
+unfolding mtdLine
 put-line-requires c κs =
-    let s = start (c .before .before .before .before .before .before .before .before) in
-    subst (λ x. Room (s .args .at) x (now (s .args .text))) (sym (line c)) (s .pre .1)
+    let r = c .before .before .before .before in
+    let s = r .before .before .before .before in
+    rw (value-passed _ (c .struct-told .given .0 .1), found s .same _ (r .found .given .1)) (start s .pre .1)
 
 same-length : tie.Need-same-length
 same-length c = search needs
 
 returns-2 : tie.Need-returns-2
+unfolding mtdLine
 returns-2 c =
     let t = c .before .before .before in
-    let s = start (t .before .before .before .before .before .before .before .before) in
-    let p = c .before .before .put-line in
-    subst (λ x. Put (s .args .at) x (now (s .args .text)) (p .result) (p .last .0)) (line t) (p .ensures)
+    let r = t .before .before .before .before in
+    let s = r .before .before .before .before in
+    rw (value-passed _ (t .struct-told .given .0 .1), found s .same _ (r .found .given .1))
+    at (c .before .before .put-line .ensures)
 
 pub put-mtd-spec : {M : Type 1} → statement M
 put-mtd-spec =

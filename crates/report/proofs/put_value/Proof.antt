@@ -7,7 +7,7 @@ use lib.IntN.{natAbs}
 use mir.Syntax.{w16}
 use mir.ValLaws.{toZ-ofZ}
 use borrow.Author.Needs.{needs}
-use Rattle.report.specs.Text.{decimal, signed}
+use Rattle.report.specs.Text.{decimal, signedDecimal}
 use Rattle.report.proofs.Laying.{room-rest, put-then}
 use Rattle.report.proofs.Signs.{negative, positive}
 use Rattle.report.proofs.put_value.Statement.{statement}
@@ -16,7 +16,7 @@ use Rattle.report.proofs.put_value.Tie as tie
 -- the text of the value in each branch
 below : (c : tie.After-magnitude) →
     let s = c .before .before .before .before .before .before .before .before .before .before .before .before in
-    signed (s .args .value) ≡ 45 ∷ decimal (c .magnitude .result)
+    signedDecimal (s .args .value) ≡ 45 ∷ decimal (c .magnitude .result)
 below c =
     let t = c .before .before .before .before .before .before in
     let s = t .before .before .before .before .before .before in
@@ -27,7 +27,7 @@ below c =
 
 above : (c : tie.After-magnitude2) →
     let s = c .before .before .before .before .before .before .before .before in
-    signed (s .args .value) ≡ decimal (c .magnitude2 .result)
+    signedDecimal (s .args .value) ≡ decimal (c .magnitude2 .result)
 above c =
     let t = c .before .before in
     let s = t .before .before .before .before .before .before in

@@ -7,7 +7,7 @@ use denote.Ref.{now}
 use Rattle.frames.specs.Check.{Accepted}
 use Rattle.report.specs.Text.{refusedLine, Room, Put}
 use Rattle.report.specs.Report.{analysis, report}
-use Rattle.report.proofs.Reporting.{Read, read-accepted, read-rejected, report-room, written-short, written-laid}
+use Rattle.report.proofs.Reporting.{Read, read-accepted, read-rejected, report-room, outcome-short, outcome-laid}
 use Rattle.report.proofs.write.Statement.{statement}
 use Rattle.report.proofs.write.Tie as tie
 
@@ -36,7 +36,7 @@ rejected c =
 returns : tie.Need-returns
 returns c =
     let s = c .before .before .before in
-    written-short (now (s .args .file)) (now (s .args .text)) (c .if1 .taken)
+    outcome-short (now (s .args .file)) (now (s .args .text)) (c .if1 .taken)
 
 slice-aggregate-read : tie.Need-slice-aggregate-read
 slice-aggregate-read c = search needs
@@ -82,7 +82,7 @@ returns-2 c =
     let d = k .before .before .before .before in
     let b = now (start d .args .text) in
     let p = c .before .before .put-analysis in
-    written-laid (now (start d .args .file)) _ b _ _ (w .reported) (d .before .before .if1 .left)
+    outcome-laid (now (start d .args .file)) _ b _ _ (w .reported) (d .before .before .if1 .left)
     (subst (λ t. Put 0 (analysis t) b (p .result) (p .last .1 .0)) (w .bytes) (p .ensures))
 
 same-length-2 : tie.Need-same-length-2
@@ -92,7 +92,7 @@ returns-3 : tie.Need-returns-3
 returns-3 c =
     let k = c .before .before .before .before in
     let d = k .before .before .before .before in
-    written-laid (now (start d .args .file)) _ _ _ _ (rejected k) (d .before .before .if1 .left)
+    outcome-laid (now (start d .args .file)) _ _ _ _ (rejected k) (d .before .before .if1 .left)
     (c .before .before .put-refused .ensures)
 
 pub write-spec : {M : Type 1} → statement M

@@ -1,4 +1,4 @@
--- `cases::calls::copy_flags` meets its contract. Assumes nothing.
+-- `cases::calls::copy_flags` meets its contract.
 use Prim.Native.Nat.{_≤_, _-_}
 use mathlib.Core.Path.{_≡_}
 use lib.ListN.{length}

@@ -1,4 +1,4 @@
--- `cases::made::write_line` is safe: a line has thirteen bytes. Assumes nothing.
+-- `cases::made::write_line` is safe: a line has thirteen bytes.
 use native.Mathlib.Omega.{arith}
 use lib.ListN.{length-set}
 use borrow.Author.Needs.{needs}

@@ -1,4 +1,4 @@
--- `cases::made::write_number` is safe: four digits have room. Assumes nothing.
+-- `cases::made::write_number` is safe: four digits have room.
 use native.Mathlib.Omega.{arith}
 use lib.ListN.{length-set}
 use borrow.Author.Needs.{needs}

@@ -1,4 +1,4 @@
--- `cases::made::write_tree` is safe and ends: each node has its line. Assumes nothing.
+-- `cases::made::write_tree` is safe and ends: each node has its line.
 use Prim.Native.Nat.{_≤_, _<_, _-_}
 use mathlib.Core.Path.{_≡_}
 use lib.ListN.{length}

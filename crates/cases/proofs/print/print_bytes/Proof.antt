@@ -1,4 +1,4 @@
--- `cases::print::print_bytes` is safe and ends. Assumes nothing.
+-- `cases::print::print_bytes` is safe and ends.
 use Prim.Native.Nat.{_≤_, _-_}
 use borrow.Author.Needs.{needs}
 use Rattle.cases.proofs.print.print_bytes.Statement.{statement}

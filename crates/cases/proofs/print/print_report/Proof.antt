@@ -1,5 +1,5 @@
 -- `cases::print::print_report` is safe and ends: the text that it prints was written.
--- Assumes nothing.
+--
 use mathlib.Core.Path.{sym}
 use lib.Seq.{length-take-le}
 use native.Mathlib.Omega.{arith}

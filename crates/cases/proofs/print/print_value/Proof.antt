@@ -1,4 +1,4 @@
--- `cases::print::print_value` is safe and ends: a value and its negation fit 64 bits. Assumes nothing.
+-- `cases::print::print_value` is safe and ends: a value and its negation fit 64 bits.
 use borrow.Author.Needs.{needs}
 use mathlib.Core.Path.{_≡_}
 use lib.IntN.{pos, _-ℤ_}
