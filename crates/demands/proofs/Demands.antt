@@ -1,5 +1,5 @@
--- Demand 3, across the searches: each leaf that SSS* evaluates is one that alpha-beta evaluates, so its count is at most
--- alpha-beta's; MTD and SSS* evaluate the same leaves; and there is a smallest pair of solution trees.
+-- Demand 3, across the searches: each leaf that SSS* evaluates is one that alpha-beta evaluates, so its count is at
+-- most alpha-beta's; MTD and SSS* evaluate the same leaves; and there is a smallest pair of solution trees.
 use Prim.Native.Nat.{ℕ, _≤_, _<_}
 use mathlib.Core.Path.{_≡_, sym, ap, _∙_, subst}
 use mathlib.Core.Bool.{Bool, cond}
