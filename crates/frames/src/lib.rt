@@ -39,7 +39,7 @@ pub const EMPTY: u8 = 1;
 
 pub const TOO_LONG: u8 = 2;
 
-pub const BROKEN: u8 = 3;
+pub const NOT_WHOLE: u8 = 3;
 
 pub const WRONG_BYTE_3: u8 = 4;
 
@@ -79,7 +79,7 @@ pub fn check(table: &[u8]) -> Checked
         return rejected(TOO_LONG, 0);
     }
     if length % FRAME_SIZE != 0 {
-        return rejected(BROKEN, length / FRAME_SIZE);
+        return rejected(NOT_WHOLE, length / FRAME_SIZE);
     }
     check_frames(table)
 }

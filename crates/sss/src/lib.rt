@@ -1,6 +1,8 @@
 // SSS*: a best-first search over a list of states, kept from left to right in the lent entries.
 mod ends;
 mod family;
+mod resume;
+mod rules;
 mod turn;
 
 use ends::finish;

@@ -1,10 +1,10 @@
 // Tree files: the reader of a whole file, of one line, and of one hexadecimal digit.
-use frames::BROKEN;
 use frames::Checked;
 use frames::EMPTY;
 use frames::FRAME_SIZE;
 use frames::MAX_NODES;
 use frames::MAX_TABLE;
+use frames::NOT_WHOLE;
 use frames::SHORT_BUFFER;
 use frames::TOO_LONG;
 use frames::check_frames;
@@ -131,7 +131,7 @@ fn decode(file: &[u8], table: &mut [u8]) -> Checked
                 cursor = next;
                 lines += 1;
             }
-            Line::NoLine(_) => return rejected(BROKEN, lines),
+            Line::NoLine(_) => return rejected(NOT_WHOLE, lines),
         }
     }
     Checked::Nodes(lines)

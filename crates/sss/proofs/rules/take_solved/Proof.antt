@@ -1,4 +1,4 @@
--- `sss::turn::take_solved` meets its contract: the root ends the run; any other node has a parent, which the
+-- `sss::rules::take_solved` meets its contract: the root ends the run; any other node has a parent, which the
 -- array holds.
 use Prim.Native.Nat.{ℕ, _<_}
 use native.Mathlib.Omega.{arith}
@@ -11,8 +11,8 @@ use Rattle.frames.proofs.Parents.{parent-child}
 use Rattle.sss.proofs.Families.{family-parent, family-side}
 use Rattle.sss.proofs.Choices.{take-solved-child}
 use borrow.Author.Needs.{needs}
-use Rattle.sss.proofs.turn.take_solved.Statement.{statement}
-use Rattle.sss.proofs.turn.take_solved.Tie as tie
+use Rattle.sss.proofs.rules.take_solved.Statement.{statement}
+use Rattle.sss.proofs.rules.take_solved.Tie as tie
 
 turned-requires : tie.Need-turned-requires
 turned-requires c κs = search needs

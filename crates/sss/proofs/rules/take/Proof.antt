@@ -1,9 +1,9 @@
--- `sss::turn::take` meets its contract: by the status of the state.
+-- `sss::rules::take` meets its contract: by the status of the state.
 use Rattle.frames.specs.Frame.{childCount}
 use borrow.Author.Needs.{needs}
 use Rattle.sss.proofs.Choices.{mark-solved}
-use Rattle.sss.proofs.turn.take.Statement.{statement}
-use Rattle.sss.proofs.turn.take.Tie as tie
+use Rattle.sss.proofs.rules.take.Statement.{statement}
+use Rattle.sss.proofs.rules.take.Tie as tie
 
 cast-node : tie.Need-cast-node
 cast-node c = search needs

@@ -1,8 +1,8 @@
--- `sss::turn::expanding` meets its contract: by the test of its definition.
+-- `sss::resume::expanding` meets its contract: by the test of its definition.
 use borrow.Author.Tests.{lt-ltb, le-ltb}
 use borrow.Author.Needs.{needs}
-use Rattle.sss.proofs.turn.expanding.Statement.{statement}
-use Rattle.sss.proofs.turn.expanding.Tie as tie
+use Rattle.sss.proofs.resume.expanding.Statement.{statement}
+use Rattle.sss.proofs.resume.expanding.Tie as tie
 
 turned-requires : tie.Need-turned-requires
 turned-requires c κs = search needs

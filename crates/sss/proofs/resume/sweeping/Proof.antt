@@ -1,8 +1,8 @@
--- `sss::turn::sweeping` meets its contract, by the tests of its definition.
+-- `sss::resume::sweeping` meets its contract, by the tests of its definition.
 use borrow.Author.Needs.{needs}
 use borrow.Author.Tests.{lt-ltb, le-ltb}
-use Rattle.sss.proofs.turn.sweeping.Statement.{statement}
-use Rattle.sss.proofs.turn.sweeping.Tie as tie
+use Rattle.sss.proofs.resume.sweeping.Statement.{statement}
+use Rattle.sss.proofs.resume.sweeping.Tie as tie
 
 turned-requires : tie.Need-turned-requires
 turned-requires c κs = search needs

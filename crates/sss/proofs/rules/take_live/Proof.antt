@@ -1,12 +1,12 @@
--- `sss::turn::take_live` meets its contract: a leaf is evaluated and marked, an inner node is expanded.
+-- `sss::rules::take_live` meets its contract: a leaf is evaluated and marked, an inner node is expanded.
 use native.Mathlib.Omega.{arith}
 use mathlib.Core.Path.{sym, _∙_}
 use Rattle.frames.proofs.Next.{children-within}
 use Rattle.sss.proofs.Families.{family-room, family-depth, family-side}
 use Rattle.sss.proofs.Choices.{take-live-inner, mark-inner}
 use borrow.Author.Needs.{needs}
-use Rattle.sss.proofs.turn.take_live.Statement.{statement}
-use Rattle.sss.proofs.turn.take_live.Tie as tie
+use Rattle.sss.proofs.rules.take_live.Statement.{statement}
+use Rattle.sss.proofs.rules.take_live.Tie as tie
 
 child-count-requires : tie.Need-child-count-requires
 child-count-requires c κs = c .before .before .before .pre .node

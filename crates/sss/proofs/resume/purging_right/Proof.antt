@@ -1,8 +1,8 @@
--- `sss::turn::purging_right` meets its contract: by the test of its definition.
+-- `sss::resume::purging_right` meets its contract: by the test of its definition.
 use borrow.Author.Tests.{lt-ltb, le-ltb}
 use borrow.Author.Needs.{needs}
-use Rattle.sss.proofs.turn.purging_right.Statement.{statement}
-use Rattle.sss.proofs.turn.purging_right.Tie as tie
+use Rattle.sss.proofs.resume.purging_right.Statement.{statement}
+use Rattle.sss.proofs.resume.purging_right.Tie as tie
 
 add-behind : tie.Need-add-behind
 add-behind c = search needs

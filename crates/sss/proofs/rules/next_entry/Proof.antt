@@ -1,11 +1,11 @@
--- `sss::turn::next_entry` meets its contract: which of the two states follows is told by the range of the children.
+-- `sss::rules::next_entry` meets its contract: which of the two states follows is told by the range of the children.
 use Prim.Native.Nat.{_+_}
 use native.Mathlib.Omega.{arith}
 use borrow.Author.Tests.{lt-ltb, le-ltb}
 use Rattle.frames.specs.Frame.{firstChild, childCount}
 use borrow.Author.Needs.{needs}
-use Rattle.sss.proofs.turn.next_entry.Statement.{statement}
-use Rattle.sss.proofs.turn.next_entry.Tie as tie
+use Rattle.sss.proofs.rules.next_entry.Statement.{statement}
+use Rattle.sss.proofs.rules.next_entry.Tie as tie
 
 add-brother : tie.Need-add-brother
 add-brother c = search needs

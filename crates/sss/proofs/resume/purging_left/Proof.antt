@@ -1,8 +1,8 @@
--- `sss::turn::purging_left` meets its contract: by the test of its definition.
+-- `sss::resume::purging_left` meets its contract: by the test of its definition.
 use borrow.Author.Tests.{lt-ltb, le-ltb}
 use borrow.Author.Needs.{needs}
-use Rattle.sss.proofs.turn.purging_left.Statement.{statement}
-use Rattle.sss.proofs.turn.purging_left.Tie as tie
+use Rattle.sss.proofs.resume.purging_left.Statement.{statement}
+use Rattle.sss.proofs.resume.purging_left.Tie as tie
 
 sub-turned : tie.Need-sub-turned
 sub-turned c = search needs

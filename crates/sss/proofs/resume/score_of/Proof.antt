@@ -1,4 +1,4 @@
--- `sss::turn::score_of` meets its contract: a merit and 32,001 make a score, which fits.
+-- `sss::resume::score_of` meets its contract: a merit and 32,001 make a score, which fits.
 use native.Mathlib.Omega.{arith}
 use mathlib.Core.Path.{_≡_, ap, _∙_}
 use lib.IntN.{pos, _+ℤ_}
@@ -6,8 +6,8 @@ use mir.Syntax.{w32}
 use mir.Val.{toZ, ofZ}
 use mir.ValLaws.{toZ-ofZ}
 use Rattle.sss.proofs.Merits.{merit-read, merit-sum, score-fits}
-use Rattle.sss.proofs.turn.score_of.Statement.{statement}
-use Rattle.sss.proofs.turn.score_of.Tie as tie
+use Rattle.sss.proofs.resume.score_of.Statement.{statement}
+use Rattle.sss.proofs.resume.score_of.Tie as tie
 
 -- the sum, as the machine has it
 sum : (c : tie.Start) → toZ w32 (ofZ w32 (c .args .entry .merit)) +ℤ pos 32001 ≡ pos (c .pre .0)
