@@ -17,7 +17,7 @@ use gametree::Side;
 ghost use mathlib.Core.Path.{_≡_};
 ghost use mathlib.Core.List.{[], _∷_};
 ghost use Prim.Native.Nat.{ℕ, _+_, _-_, _<_, _≤_};
-ghost use mathlib.Core.Bool.{cond};
+ghost use mathlib.Core.Bool.{false, cond};
 ghost use lib.Dec.{eqb};
 ghost use lib.ListN.{length, getD, set};
 ghost use Rattle.gametree.specs.Tree.{greatest, better as betterOf};
@@ -69,6 +69,17 @@ pub fn evaluate(table: &[u8], evaluated: &mut [u8], node: usize, depth: u32) -> 
 {
     evaluated[node] = 1;
     leaf_score(table, node, depth)
+}
+
+// What a search counts: the evaluation of a leaf that has no mark yet, so that no leaf is evaluated twice.
+pub fn evaluate_unmarked(table: &[u8], evaluated: &mut [u8], node: usize, depth: u32) -> u32
+    requires { ⌜ (node < frames (now table)) × (node < length (now evaluated)) ⌝ }
+    requires { ⌜ (depth ≡ depthOf (now table) node) × (depth ≤ maxNodes) ⌝ }
+    requires { ⌜ marked (now evaluated) node ≡ false ⌝ }
+    ensures { λ r. ⌜ (r ≡ valuation (now (table .entry)) node) × (r < 65536) ⌝ }
+    ensures { λ r. ⌜ now (evaluated .exit) ≡ set (now (evaluated .entry)) node 1 ⌝ }
+{
+    evaluate(table, evaluated, node, depth)
 }
 
 // The first n marks become 0.
