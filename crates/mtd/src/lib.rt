@@ -3,7 +3,7 @@ use certificate::ask;
 use certificate::best;
 use certificate::clear;
 use certificate::conclude;
-use certificate::evaluate;
+use certificate::evaluate_unmarked;
 use certificate::value;
 use frames::Checked;
 use frames::GREATEST;
@@ -244,7 +244,7 @@ fn try_leaf(table: &[u8], evaluated: &mut [u8], highs: &mut [u32], node: usize, 
     if evaluated[node] == 1 {
         return 0;
     }
-    let score = evaluate(table, evaluated, node, depth);
+    let score = evaluate_unmarked(table, evaluated, node, depth);
     highs[node] = score;
     1
 }
