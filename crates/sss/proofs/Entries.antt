@@ -51,40 +51,40 @@ module _ (t : List ℕ) (g : Gap) (γ : ℕ) (c : Counts) where
   take-writes e Solved = solved-writes (e .node) e
 
   -- a turn writes an entry of the list
-  writes-in : (e : State) (p : Phase) → ReadyIn t p e g γ c → turnBy t p e g γ c .write < g .nodes
-  writes-in e Begin x =
+  writes-in : (b : List ℕ) (e : State) (p : Phase) → ReadyIn t b p e g γ c → turnBy t p e g γ c .write < g .nodes
+  writes-in b e Begin x =
       let q = sweeping-writes (firstGap g) γ c (g .nodes - 1) (entry 0 Live γ) .0 in
       omega (arith, x .0)
-  writes-in e Sweep x =
+  writes-in b e Sweep x =
       cond-cases (λ (m : Machine). m .write < g .nodes) (ltb (meritScore (e .merit)) γ) _ _
       (λ _. let q = sweeping-writes (gap (g .left + 1) (g .right + 1) (g .nodes)) γ c (g .left) e .0 in
       omega (arith, x .ordered, x .inside))
       (λ _. let q = take-writes e (e .status) in omega (arith, x .inside))
-  writes-in e (Expand first child) x =
+  writes-in b e (Expand first child) x =
       let h = gap (g .left) (g .right - 1) (g .nodes) in
       let q = expanding-writes h γ c (g .right - 1) (entry (child - 1) Live γ) first (child - 1) .0 in
       omega (arith, x .inside)
-  writes-in e (PurgeLeft p) x =
+  writes-in b e (PurgeLeft p) x =
       cond-cases (λ (m : Machine). m .write < g .nodes) (isBelow t p (e .node)) _ _
       (λ _. let q = purgingLeft-writes (gap (g .left - 1) (g .right) (g .nodes)) γ c (g .left - 1) e p .0 in
       omega (arith, x .0 .ordered, x .0 .inside, x .1))
       (λ _. let q = purgingRight-writes g γ c (g .left - 1) e p .0 in omega (arith, x .0 .ordered, x .0 .inside, x .1))
-  writes-in e (PurgeRight p) x =
+  writes-in b e (PurgeRight p) x =
       cond-cases (λ (m : Machine). m .write < g .nodes) (isBelow t p (e .node)) _ _
       (λ _. let q = purgingRight-writes (gap (g .left) (g .right + 1) (g .nodes)) γ c (g .right + 1)
       (entry p Solved γ) p .0 in
       omega (arith, x .1))
       (λ _. let q = sweeping-writes g γ c (g .right + 1) e .0 in omega (arith, x .1))
-  writes-in e (Rewind best) x =
+  writes-in b e (Rewind best) x =
       let h = gap (g .left - 1) (g .right - 1) (g .nodes) in
       cond-cases (λ (m : Machine). m .write < g .nodes) (ltb 0 (g .left - 1)) _ _
       (λ _. omega (arith, x .some, x .ordered, x .inside))
       (λ _. let q = sweeping-writes h (max best (meritScore (e .merit))) c (g .right - 1) e .0 in
       omega (arith, x .some, x .ordered, x .inside))
-  writes-in e (Reset i) x =
+  writes-in b e (Reset i) x =
       cond-cases (λ (m : Machine). m .write < g .nodes) (ltb (i + 1) (g .nodes)) _ _ (λ _. x) (λ _. x)
-  writes-in e Ended x = absurd x
-  writes-in e (Rejected r) x = absurd x
+  writes-in b e Ended x = absurd x
+  writes-in b e (Rejected r) x = absurd x
 
 -- a turn writes an entry that a node has
 pub writes : (t F b : List ℕ) (m : Machine) → Ready t F b m → nextOf t m .write < frames t
@@ -92,6 +92,6 @@ writes t F b m r =
     omega (
       arith,
       r .nodes,
-      writes-in t (m .registers .gap) (m .registers .test) (m .registers .counts) (m .entry)
+      writes-in t (m .registers .gap) (m .registers .test) (m .registers .counts) b (m .entry)
           (m .registers .phase) (r .phase),
     )

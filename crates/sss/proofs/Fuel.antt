@@ -203,7 +203,7 @@ falls t F b m r = in-phase (m .registers .phase) (r .phase)
     c : Counts
     c = m .registers .counts
 
-    in-phase : (p : Phase) → ReadyIn t p (m .entry) g γ c
+    in-phase : (p : Phase) → ReadyIn t b p (m .entry) g γ c
         → fuel (turnBy t p (m .entry) g γ c) < fuelBy p g γ (c .replacements)
     in-phase Begin x = begin-fuel t g γ c (m .entry) (x .0)
     in-phase Sweep x =

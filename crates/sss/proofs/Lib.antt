@@ -9,6 +9,7 @@ pub mod Rewinds
 pub mod Onward
 pub mod Fuel
 pub mod Entries
+pub mod Unmarked
 pub mod Readiness
 pub mod Driving
 pub mod Families

@@ -1,7 +1,7 @@
 -- Between two turns, what the next turn asks holds: the machine is ready, and names entries of the list.
 use Prim.Native.Nat.{ℕ, zero, suc, _+_, _-_, _≤_, _<_}
 use native.Mathlib.Omega.{arith}
-use mathlib.Core.Path.{_≡_, refl, ap, _∙_, subst}
+use mathlib.Core.Path.{_≡_, refl, sym, ap, _∙_, subst}
 use mathlib.Core.Bool.{true}
 use mathlib.Core.List.{List, [], _∷_, _++_, map}
 use lib.ListN.{length, getD, drop, length-append, length-drop}
@@ -15,7 +15,7 @@ use Rattle.gametree.proofs.Lists.{all-left, all-right, all-append}
 use Rattle.frames.specs.Frame.{frames}
 use Rattle.frames.specs.Tree.{upFrom, valuation}
 use Rattle.frames.specs.Formed.{WellFormed}
-use Rattle.certificate.specs.Buffer.{written}
+use Rattle.certificate.specs.Buffer.{written, markAll}
 use Rattle.certificate.proofs.Buffers.{markAll-length, written-length}
 use Rattle.sss.specs.declared.State.{State}
 use Rattle.sss.specs.declared.Phase.{Phase}
@@ -23,14 +23,16 @@ use Rattle.sss.specs.declared.Phase.the-variants.{Begin, Sweep, Expand, 
 use Rattle.sss.specs.declared.Phase.the-variants.{Ended, Rejected}
 use Rattle.sss.specs.declared.Gap.{Gap}
 use Rattle.sss.specs.declared.Counts.{Counts}
-use Rattle.sss.specs.Entry.{entryOf, meritScore, blank}
+use Rattle.sss.specs.Entry.{statusOf, entryOf, meritScore, blank}
 use Rattle.sss.specs.Machine.{Config, handed}
 use Rattle.sss.specs.Invariant.{Parts, Reaches, Tested, Sweeping, Expanding, Purging, Rewinding, InPhase, Running}
 use Rattle.sss.specs.Family.{FamilyOf}
-use Rattle.sss.specs.Ready.{IsMerit, ReadyIn, Ready, ReadyToSweep, ReadyToExpand, ReadyToPurge, ReadyToRewind}
+use Rattle.sss.specs.Ready.{IsMerit, Unmarked, ReadyIn, Ready, ReadyToSweep, ReadyToExpand, ReadyToPurge}
+use Rattle.sss.specs.Ready.{ReadyToRewind}
 use Rattle.sss.proofs.Parts.{left-length, right-length, first-entry, snoc-view, last-entry, second-entry}
 use Rattle.sss.proofs.Replacements.{reached-fits, reached-few, reached-nodes}
 use Rattle.sss.proofs.Taking.{merit-score, up-last, length-up}
+use Rattle.sss.proofs.Unmarked.{taken-unmarked}
 
 -- no more leaves are evaluated than replacements are made
 list-leaves : (ν : ℕ → ℕ) (Y : Layout) (r : Tree) {k : ℕ} {w : List ℕ} {L : List theory.State}
@@ -51,18 +53,30 @@ module _ (t : List ℕ) (wf : WellFormed t) (l : List State) (b : List ℕ) wher
   abbrev Z : List State
   Z = drop (frames t) l
 
-  module _ (ls : List State) (v : List ℕ) (g : Gap) (γ : ℕ) (c : Counts) (n : g .nodes ≡ frames t)
-      (e : length ls ≡ length l) (o : frames t ≤ length l) (le : c .leaves ≡ length v) where
+  module _ (ls : List State) (ms v : List ℕ) (g : Gap) (γ : ℕ) (c : Counts) (n : g .nodes ≡ frames t)
+      (e : length ls ≡ length l) (o : frames t ≤ length l) (ma : ms ≡ markAll (written (λ k. 0) (frames t) b) v)
+      (le : c .leaves ≡ length v) where
     inside : {A B : List theory.State} → Parts ls (g .left) (g .right) A B Z → g .right + length B ≡ g .nodes
     inside p = let k = length-drop (frames t) l in omega (arith, right-length p)
 
+    -- an entry that reaches the test is of the state that is taken, so a LIVE leaf there has no mark
+    swept-unmarked : (y : State) (A : List theory.State) (s : theory.State) (B : List theory.State) → y ≡ entryOf s
+        → Reaches t (c .replacements) v (A ++ (s ∷ B)) → Tested γ A (s ∷ B) → γ ≤ meritScore (y .merit)
+        → Unmarked t ms (y .status) (y .node)
+    swept-unmarked y A s B q r d h =
+        let m : γ ≡ s .merit =
+        omega (arith, ap (λ z. meritScore (z .merit)) q ∙ merit-score (s .merit), d .right .0) in
+        subst (λ z. Unmarked t ms (z .status) (z .node)) (sym q)
+        (subst (λ z. Unmarked t z (statusOf (s .status)) (s .node)) (sym ma)
+        (taken-unmarked t wf A s B r (subst (λ z. Tested z A (s ∷ B)) m d) b))
+
     ready-sweep : (i : ℕ) → i ≡ g .right → g .right < g .nodes → Sweeping t ls Z v g γ (c .replacements)
-        → ReadyToSweep t (getD ls i blank) g γ c
+        → ReadyToSweep t ms (getD ls i blank) g γ c
     ready-sweep i q h x = by-states (x .rightStates) (x .parts) (x .reaches) (x .tested)
       where
         by-states : (B : List theory.State) → Parts ls (g .left) (g .right) (x .leftStates) B Z
             → Reaches t (c .replacements) v (x .leftStates ++ B) → Tested γ (x .leftStates) B
-            → ReadyToSweep t (getD ls i blank) g γ c
+            → ReadyToSweep t ms (getD ls i blank) g γ c
         by-states [] p r d = absurd (omega (arith, inside p))
         by-states (s ∷ B) p r d =
             let k = ap (λ j. getD ls j blank) q ∙ first-entry p in
@@ -70,6 +84,7 @@ module _ (t : List ℕ) (wf : WellFormed t) (l : List State) (b : List ℕ) wher
             record {
               node = omega (arith, entry-node (getD ls i blank) s k);
               merit = entry-merit (getD ls i blank) s k (omega (arith, d .right .0, d .limit));
+              unmarked = swept-unmarked (getD ls i blank) (x .leftStates) s B k r d;
               ordered = p .ordered;
               inside = h;
               test = d .limit;
@@ -168,7 +183,7 @@ module _ (t : List ℕ) (wf : WellFormed t) (l : List State) (b : List ℕ) wher
 
     -- the machine is ready in its phase
     ready-in : (i : ℕ) (p : Phase) → InPhase t ls Z v g γ (c .replacements) p i true
-        → ReadyIn t p (getD ls i blank) g γ c
+        → ReadyIn t ms p (getD ls i blank) g γ c
     ready-in i Begin x = (omega (arith, wf .some), omega (arith, x .2))
     ready-in i Sweep x = ready-sweep i (x .1) (x .2) (x .3)
     ready-in i (Expand first child) x = ready-expand first child (x .3) (x .2) (x .4)
@@ -196,25 +211,25 @@ module _ (t : List ℕ) (wf : WellFormed t) (l : List State) (b : List ℕ) wher
             );
         nodes = h .nodes;
         phase =
-            ready-in (k .list) (h .evaluated) (k .machine .registers .gap) (k .machine .registers .test)
-            (k .machine .registers .counts) (h .nodes) (h .entries) (h .room) (h .leaves) (k .machine .read)
+            ready-in (k .list) (k .marks) (h .evaluated) (k .machine .registers .gap) (k .machine .registers .test)
+            (k .machine .registers .counts) (h .nodes) (h .entries) (h .room) (h .marks) (h .leaves) (k .machine .read)
             (k .machine .registers .phase)
             (subst (λ o. InPhase t (k .list) Z (h .evaluated) (k .machine .registers .gap) (k .machine .registers .test)
             (k .machine .registers .counts .replacements) (k .machine .registers .phase) (k .machine .read) o) on
             (h .phase));
       }
 
-  reads-in : (ls : List State) (v : List ℕ) (e : State) (g : Gap) (γ : ℕ) (c : Counts) (i : ℕ) → g .nodes ≡ frames t
-      → (p : Phase) → ReadyIn t p e g γ c → InPhase t ls Z v g γ (c .replacements) p i true → i < g .nodes
-  reads-in ls v e g γ c i n Begin r x = omega (arith, x .1, wf .some)
-  reads-in ls v e g γ c i n Sweep r x = omega (arith, x .1, x .2)
-  reads-in ls v e g γ c i n (Expand first child) r x = omega (arith, x .1, x .2)
-  reads-in ls v e g γ c i n (PurgeLeft p) r x = omega (arith, x .1, x .2, r .0 .ordered, r .0 .inside)
-  reads-in ls v e g γ c i n (PurgeRight p) r x = omega (arith, x .1, x .2)
-  reads-in ls v e g γ c i n (Rewind best) r x = omega (arith, x .1, x .2, r .ordered, r .inside)
-  reads-in ls v e g γ c i n (Reset j) r x = omega (arith, x .1, x .2)
-  reads-in ls v e g γ c i n Ended r x = absurd r
-  reads-in ls v e g γ c i n (Rejected q) r x = absurd r
+  reads-in : (ls : List State) (ms v : List ℕ) (e : State) (g : Gap) (γ : ℕ) (c : Counts) (i : ℕ) → g .nodes ≡ frames t
+      → (p : Phase) → ReadyIn t ms p e g γ c → InPhase t ls Z v g γ (c .replacements) p i true → i < g .nodes
+  reads-in ls ms v e g γ c i n Begin r x = omega (arith, x .1, wf .some)
+  reads-in ls ms v e g γ c i n Sweep r x = omega (arith, x .1, x .2)
+  reads-in ls ms v e g γ c i n (Expand first child) r x = omega (arith, x .1, x .2)
+  reads-in ls ms v e g γ c i n (PurgeLeft p) r x = omega (arith, x .1, x .2, r .0 .ordered, r .0 .inside)
+  reads-in ls ms v e g γ c i n (PurgeRight p) r x = omega (arith, x .1, x .2)
+  reads-in ls ms v e g γ c i n (Rewind best) r x = omega (arith, x .1, x .2, r .ordered, r .inside)
+  reads-in ls ms v e g γ c i n (Reset j) r x = omega (arith, x .1, x .2)
+  reads-in ls ms v e g γ c i n Ended r x = absurd r
+  reads-in ls ms v e g γ c i n (Rejected q) r x = absurd r
 
   -- the entry that the machine reads is one of the list's
   pub reads : (F : List ℕ) → FamilyOf t F → (k : Config) → (h : Running t l b k) → k .machine .going ≡ true
@@ -225,8 +240,9 @@ module _ (t : List ℕ) (wf : WellFormed t) (l : List State) (b : List ℕ) wher
         h .nodes,
         h .entries,
         h .room,
-        reads-in (k .list) (h .evaluated) (handed k .entry) (k .machine .registers .gap) (k .machine .registers .test)
-            (k .machine .registers .counts) (k .machine .read) (h .nodes) (k .machine .registers .phase)
+        reads-in (k .list) (k .marks) (h .evaluated) (handed k .entry) (k .machine .registers .gap)
+            (k .machine .registers .test) (k .machine .registers .counts) (k .machine .read) (h .nodes)
+            (k .machine .registers .phase)
             (ready F f k h on .phase)
             (subst (λ o. InPhase t (k .list) Z (h .evaluated) (k .machine .registers .gap) (k .machine .registers .test)
             (k .machine .registers .counts .replacements) (k .machine .registers .phase) (k .machine .read) o) on

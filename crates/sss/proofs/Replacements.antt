@@ -11,10 +11,11 @@ use mathlib.Core.List.{List, [], _∷_, _++_, map, append-nil}
 use lib.Dec.{ltb}
 use lib.ListN.{length}
 use Rattle.gametree.specs.declared.Side.the-variants.{Max, Min}
-use Rattle.gametree.specs.Lists.{All}
+use Rattle.gametree.specs.Lists.{All, Once}
 use Rattle.gametree.specs.Tree.{In, size}
 use Rattle.gametree.specs.Layout.{Layout, fork, under, layoutOf, Describes}
 use Rattle.gametree.specs.Sss as theory
+use Rattle.gametree.specs.Searches.{bySss}
 use Rattle.gametree.proofs.Lists.{all-map, all-right}
 use Rattle.gametree.proofs.SssSteps.{pickFirst-here, pickFirst-there}
 use Rattle.gametree.proofs.FrontSteps.{front-in, list-front, Gathered, gathered, gathered-left, gathered-right}
@@ -67,6 +68,13 @@ module _ (t : List ℕ) (wf : WellFormed t) where
       all-map (λ s. In (s .node) (tree t)) (λ s. s .node < frames t)
       (λ s i. tree-range t wf 0 (wf .some) (s .node) i .1) L
       (front-in (tree t) L (list-front (valuation t) Y (tree t) own r))
+
+  -- the leaves evaluated on the way to it begin the run's list, in which no leaf stands twice
+  pub reached-once : {k : ℕ} {v : List ℕ} {L : List theory.State} → Reaches t k v L → (u : List ℕ) × Once (v ++ u)
+  reached-once r =
+      let h = tree-proper t wf in
+      let p = theorems.list-prefix (valuation t) (tree t) (h .scored) Y own r in
+      (p .0, subst Once (sym (p .1)) (theorems.search-once (valuation t) (tree t) h (bySss Y own)))
 
   module _ {k : ℕ} {v : List ℕ} (A : List theory.State) (s : theory.State) (B : List theory.State)
       (r : Reaches t k v (A ++ (s ∷ B))) (x : Tested (s .merit) A (s ∷ B)) where

@@ -14,7 +14,7 @@ use crate::resume::state_of;
 use crate::resume::sweeping;
 use crate::resume::turned;
 use certificate::better;
-use certificate::evaluate;
+use certificate::evaluate_unmarked;
 use frames::child_count;
 use frames::first_child;
 use gametree::Side;
@@ -40,7 +40,7 @@ pub fn take(
     test: u32,
     counts: Counts,
 ) -> Machine
-    requires { ⌜ ReadyToTake (now table) (now family) (now evaluated) (entry .node) gap test counts ⌝ }
+    requires { ⌜ ReadyToTake (now table) (now family) (now evaluated) status (entry .node) gap test counts ⌝ }
     ensures { λ r. ⌜ r ≡ takeState (now (table .entry)) status entry gap test counts ⌝ }
     ensures { λ _. ⌜ now (evaluated .exit) ≡ markLive (childCount (now (table .entry)) (entry .node)) status (entry .node) (now (evaluated .entry)) ⌝ }
 {
@@ -61,13 +61,13 @@ fn take_live(
     test: u32,
     counts: Counts,
 ) -> Machine
-    requires { ⌜ ReadyToTake (now table) (now family) (now evaluated) node gap test counts ⌝ }
+    requires { ⌜ ReadyToTake (now table) (now family) (now evaluated) Status.Live node gap test counts ⌝ }
     ensures { λ r. ⌜ r ≡ takeLive (now (table .entry)) node (childCount (now (table .entry)) node) gap test counts ⌝ }
     ensures { λ _. ⌜ now (evaluated .exit) ≡ markLive (childCount (now (table .entry)) node) Status.Live node (now (evaluated .entry)) ⌝ }
 {
     let count = child_count(table, node);
     if count == 0 {
-        let score = evaluate(table, evaluated, node, depth_in(family, node));
+        let score = evaluate_unmarked(table, evaluated, node, depth_in(family, node));
         let entry = state_of(node, Status::Solved, better(Side::Min, test, score));
         sweeping(gap, test, evaluation(counts), gap.right, entry)
     } else {

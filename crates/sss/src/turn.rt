@@ -87,7 +87,7 @@ pub fn sweep(
     counts: Counts,
 ) -> Machine
     requires { ⌜ (WellFormed (now table)) × (FamilyOf (now table) (now family)) × (frames (now table) ≤ length (now evaluated)) ⌝ }
-    requires { ⌜ ReadyToSweep (now table) entry gap test counts ⌝ }
+    requires { ⌜ ReadyToSweep (now table) (now evaluated) entry gap test counts ⌝ }
     ensures { λ r. ⌜ r ≡ sweepOf (now (table .entry)) entry gap test counts ⌝ }
     ensures { λ _. ⌜ now (evaluated .exit) ≡ markSwept (now (table .entry)) entry test (now (evaluated .entry)) ⌝ }
 {

@@ -12,7 +12,8 @@ enum-told : tie.Need-enum-told
 enum-told c = search needs
 
 take-live-requires : tie.Need-take-live-requires
-take-live-requires c κs = c .before .before .before .before .before .before .before .pre
+take-live-requires c κs =
+    rw (c .before .enum-told .given .1) at (c .before .before .before .before .before .before .before .pre)
 
 enum-told-2 : tie.Need-enum-told-2
 enum-told-2 c = search needs

@@ -1,6 +1,6 @@
 -- `sss::rules::take_live` meets its contract: a leaf is evaluated and marked, an inner node is expanded.
 use native.Mathlib.Omega.{arith}
-use mathlib.Core.Path.{sym, _∙_}
+use mathlib.Core.Path.{refl, sym, _∙_}
 use Rattle.frames.proofs.Next.{children-within}
 use Rattle.sss.proofs.Families.{family-room, family-depth, family-side}
 use Rattle.sss.proofs.Choices.{take-live-inner, mark-inner}
@@ -15,11 +15,14 @@ depth-in-requires : tie.Need-depth-in-requires
 depth-in-requires c κs =
     let p = c .before .before .before .before .before .before .pre in family-room _ _ (p .family) _ (p .node)
 
-evaluate-requires : tie.Need-evaluate-requires
-evaluate-requires c κs =
+evaluate-unmarked-requires : tie.Need-evaluate-unmarked-requires
+evaluate-unmarked-requires c κs =
     let p = c .before .before .before .before .before .before .before .pre in
     let e = c .depth-in .ensures ∙ family-depth _ _ (p .family) _ (p .node) in
-    ((p .node, omega (arith, p .node, p .marks)), (e, omega (arith, e, p .family .shallow _ (p .node))))
+    let z = sym (c .before .before .before .child-count .ensures .0) ∙ c .before .before .if1 .taken in (
+      (p .node, omega (arith, p .node, p .marks)),
+      ((e, omega (arith, e, p .family .shallow _ (p .node))), p .unmarked refl z),
+    )
 
 better-requires : tie.Need-better-requires
 better-requires c κs = search needs
@@ -66,9 +69,9 @@ returns c =
         c .before .evaluation .ensures,
         c .before .before .state-of .ensures,
         d .better .ensures,
-        e .evaluate .ensures .0 .0,
+        e .evaluate-unmarked .ensures .0 .0,
       ),
-      e .evaluate .ensures .1,
+      e .evaluate-unmarked .ensures .1,
     )
 
 returns-2 : tie.Need-returns-2
@@ -87,7 +90,7 @@ take-live-spec =
     (tie.spec
     child-count-requires
     depth-in-requires
-    evaluate-requires
+    evaluate-unmarked-requires
     better-requires
     state-of-requires
     evaluation-requires

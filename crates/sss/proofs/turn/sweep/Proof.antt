@@ -23,7 +23,11 @@ returns c =
     rw (← d .before .score-of .ensures, lt-ltb _ _ (d .if1 .taken)) (c .sweeping .ensures, refl)
 
 take-requires : tie.Need-take-requires
-take-requires c κs = search needs
+take-requires c κs =
+    let d = c .before in
+    let p = d .before .before .before .before .before .pre in
+    let u = p .1 .unmarked (rw (← d .before .score-of .ensures) (d .if1 .left)) in
+    search (needs, u)
 
 same-length : tie.Need-same-length
 same-length c = search needs
