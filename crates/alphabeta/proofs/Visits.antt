@@ -15,8 +15,9 @@ use Rattle.frames.proofs.Next.{child-within}
 use Rattle.frames.proofs.Places.{depth-at-most, place-child}
 use Rattle.frames.proofs.Trees.{tree-leaf, tree-inner}
 use Rattle.certificate.specs.Buffer.{markAll}
-use Rattle.alphabeta.specs.Engine.{Ready}
+use Rattle.alphabeta.specs.Engine.{Unmarked, Ready}
 use Rattle.alphabeta.proofs.Pass.{Gives, Owes, owes-all, rest}
+use Rattle.alphabeta.proofs.Unmarked.{Waiting}
 
 -- at the head of the loop over the children of node i, from `first` to `end`: child k is next, the window is a b,
 -- n leaves are counted and e are the marks
@@ -25,6 +26,7 @@ pub record Turn (t : List ℕ) (i : ℕ) (p : Place) (α β : ℕ) (e₀ : List 
   pub from : first ≤ k
   pub to : k ≤ end
   pub kept : length e ≡ length e₀
+  pub waiting : Waiting t e i k
   pub owes : Owes (alphaBeta (valuation t) α β (treeAt t i)) (rest (valuation t) (treeAt t) (p .side) a b k end) e₀ e n
 
 module _ (t : List ℕ) (wf : WellFormed t) (i : ℕ) (inside : i < frames t) (α β : ℕ) (e : List ℕ) where
@@ -51,12 +53,13 @@ module _ (t e : List ℕ) (i : ℕ) (p : Place) (r : Ready t e i p) where
       (d, omega (arith, d, depth-at-most t i, r .inside, r .formed .few))
 
   -- each child of a node that is ready is ready
-  pub ready-child : (k : ℕ) (e′ : List ℕ) (q : Place) → ChildOf t i k → length e′ ≡ length e → q ≡ childPlace t k p
-      → Ready t e′ k q
-  ready-child k e′ q c l h =
+  pub ready-child : (k : ℕ) (e′ : List ℕ) (q : Place) → ChildOf t i k → length e′ ≡ length e
+      → Unmarked e′ (treeAt t k) → q ≡ childPlace t k p → Ready t e′ k q
+  ready-child k e′ q c l u h =
       record {
         formed = r .formed;
         inside = child-within t (r .formed) (r .inside) c;
         placed = h ∙ ap (λ x. childPlace t k x) (r .placed) ∙ sym (place-child t (r .formed) (r .inside) c);
         marks = omega (arith, r .marks);
+        unmarked = u;
       }

@@ -3,7 +3,7 @@ use certificate::ask;
 use certificate::better;
 use certificate::clear;
 use certificate::conclude;
-use certificate::evaluate;
+use certificate::evaluate_unmarked;
 use certificate::value;
 use frames::Checked;
 use frames::GREATEST;
@@ -82,6 +82,7 @@ struct Visited {
 }
 
 // Alpha-beta of the tree below a node, with the window from alpha to beta: the pass over the children stops at the first one that closes the window.
+// No node of that tree is marked yet, so that no leaf is evaluated twice.
 fn alpha_beta(
     table: &[u8],
     evaluated: &mut [u8],
@@ -97,7 +98,7 @@ fn alpha_beta(
 {
     let count = child_count(table, node);
     if count == 0 {
-        let leaf = evaluate(table, evaluated, node, place.depth);
+        let leaf = evaluate_unmarked(table, evaluated, node, place.depth);
         let score = clamped(alpha, beta, leaf);
         return Visited { score, leaves: 1 };
     }

@@ -1,5 +1,6 @@
 -- `alphabeta::alpha_beta` meets its contract. The number of frames from the node on falls with each call; at the head
--- of the loop stands `Turn`: the children that are left complete what the node was to give.
+-- of the loop stands `Turn`: the children that are left complete what the node was to give, and their trees are without
+-- a mark.
 use Prim.Native.Nat.{ℕ, _-_, _<_}
 use native.Mathlib.Omega.{arith}
 use borrow.Author.Needs.{needs}
@@ -10,7 +11,9 @@ use Rattle.frames.specs.Frame.{frames}
 use Rattle.frames.specs.Tree.{treeAt, valuation}
 use Rattle.frames.specs.Formed.{ChildOf}
 use Rattle.frames.proofs.Next.{child-later, child-within}
+use Rattle.frames.proofs.Nodes.{in-own}
 use Rattle.alphabeta.proofs.Pass.{pass-few, pass-ends, pass-stops, pass-goes-on}
+use Rattle.alphabeta.proofs.Unmarked.{all-wait, younger-wait}
 use Rattle.alphabeta.proofs.Visits.{Turn, leaf-gives, inner-owes, ready-depth, ready-child}
 use Rattle.alphabeta.proofs.Counts.{evaluated-few, size-few}
 use Rattle.alphabeta.proofs.alpha_beta.Reads as own
@@ -19,7 +22,7 @@ use Rattle.alphabeta.proofs.+alpha_beta.Lts-alpha_beta as lts
 use Rattle.alphabeta.proofs.clamped.Reads as clamped-reads
 use Rattle.alphabeta.proofs.lowered.Reads as lowered-reads
 use Rattle.alphabeta.proofs.raised.Reads as raised-reads
-use Rattle.certificate.proofs.evaluate.Reads as evaluate-reads
+use Rattle.certificate.proofs.evaluate_unmarked.Reads as evaluate-unmarked-reads
 use Rattle.frames.proofs.child_count.Reads as child-count-reads
 use Rattle.frames.proofs.child_place.Reads as child-place-reads
 use Rattle.frames.proofs.first_child.Reads as first-child-reads
@@ -47,8 +50,8 @@ abbrev calls : ℕ → lts.Claims
 calls t = (
   child-count-reads.Asked,
   child-count-reads.Learnt,
-  evaluate-reads.Asked,
-  evaluate-reads.Learnt,
+  evaluate-unmarked-reads.Asked,
+  evaluate-unmarked-reads.Learnt,
   clamped-reads.Asked,
   clamped-reads.Learnt,
   first-child-reads.Asked,
@@ -81,11 +84,12 @@ module _ (t : ℕ) where
   child-count-requires : lts.Need-child-count-requires (calls t) (at t) own.Post Inv μ-loop
   child-count-requires c κs = search needs
 
-  evaluate-requires : lts.Need-evaluate-requires (calls t) (at t) own.Post Inv μ-loop
-  evaluate-requires c κs =
+  evaluate-unmarked-requires : lts.Need-evaluate-unmarked-requires (calls t) (at t) own.Post Inv μ-loop
+  evaluate-unmarked-requires c κs =
       let a = c .before .before .before .before .before in
       let d = ready-depth _ _ _ _ (a .pre .1) in
-      ((omega arith, omega (arith, a .pre .1 .inside, a .pre .1 .marks)), d)
+      let u = a .pre .1 .unmarked (a .args .node) (in-own _ (a .pre .1 .formed) _) in
+      ((omega arith, omega (arith, a .pre .1 .inside, a .pre .1 .marks)), (d, u))
 
   clamped-requires : lts.Need-clamped-requires (calls t) (at t) own.Post Inv μ-loop
   clamped-requires c κs = search needs
@@ -96,7 +100,7 @@ module _ (t : ℕ) where
   returns : lts.Need-returns (calls t) (at t) own.Post Inv μ-loop
   returns c =
       let a = c .before .before .before .before .before .before .before .before .before in
-      let e = c .before .before .before .evaluate .ensures in
+      let e = c .before .before .before .evaluate-unmarked .ensures in
       rw (e .1)
       (leaf-gives (a .args .table .now) (a .pre .1 .formed) (a .args .node) (a .pre .1 .inside) (a .args .alpha)
       (a .args .beta) (a .args .evaluated .now) _ _ (omega arith) (e .0 .0) (c .clamped .ensures))
@@ -117,6 +121,8 @@ module _ (t : ℕ) where
         from = omega arith;
         to = omega arith;
         kept = refl;
+        waiting =
+            all-wait _ (a .pre .1 .formed) _ (a .pre .1 .inside) (a .args .evaluated .now) _ (a .pre .1 .unmarked);
         owes =
             inner-owes (a .args .table .now) (a .pre .1 .formed) (a .args .node) (a .pre .1 .inside) (a .args .alpha)
             (a .args .beta) (a .args .evaluated .now) (a .args .place) _ _ _ (a .pre .1 .placed) (omega arith)
@@ -133,7 +139,8 @@ module _ (t : ℕ) where
       let l = c .before .before in
       let a = start l in (
         omega (arith, child-later _ (a .pre .1 .formed) (a .pre .1 .inside) (child-of l)),
-        ready-child _ _ _ _ (a .pre .1) _ _ _ (child-of l) (l .loop .inv .kept) (c .child-place .ensures),
+        ready-child _ _ _ _ (a .pre .1) _ _ _ (child-of l) (l .loop .inv .kept)
+            (l .loop .inv .waiting _ (omega arith) (child-of l)) (c .child-place .ensures),
       )
 
   add-leaves : lts.Need-add-leaves (calls t) (at t) own.Post Inv μ-loop
@@ -166,10 +173,14 @@ module _ (t : ℕ) where
   loop-again c =
       let f = c .before .before .before .before .before .before .before in
       let l = f .before .before .before in
+      let a = start l in
       record {
         from = omega arith;
         to = omega arith;
         kept = f .alpha-beta .kept .1 .0 ∙ l .loop .inv .kept;
+        waiting =
+            younger-wait _ (a .pre .1 .formed) _ (a .pre .1 .inside) _ _ _ _ _ _ (child-of l) (l .loop .inv .waiting)
+            (f .alpha-beta .ensures .1);
         owes =
             pass-goes-on _ _ _ _ _ _ _ _ _ _ _ _ _ (l .loop .inv .owes) (f .alpha-beta .ensures) _ _ (omega arith)
             (c .before .before .raised .ensures) (c .before .lowered .ensures) (omega arith);
@@ -201,7 +212,7 @@ pub +alpha-beta-spec : {M : Type 1} → statement M
     Inv
     μ-loop
     (child-count-requires t)
-    (evaluate-requires t)
+    (evaluate-unmarked-requires t)
     (clamped-requires t)
     (same-length t)
     (returns t)

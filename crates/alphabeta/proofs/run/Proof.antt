@@ -6,6 +6,7 @@ use mir.ValLaws.{toZ-ofZ}
 use borrow.Author.Needs.{needs}
 use Rattle.frames.proofs.Places.{place-root}
 use Rattle.certificate.specs.Buffer.{written}
+use Rattle.alphabeta.proofs.Unmarked.{cleared-unmarked}
 use Rattle.alphabeta.proofs.Whole.{run-small, run-gives}
 use Rattle.alphabeta.proofs.run.Statement.{statement}
 use Rattle.alphabeta.proofs.run.Tie as tie
@@ -22,12 +23,14 @@ clear-requires c κs = search needs
 
 alpha-beta-requires : tie.Need-alpha-beta-requires
 alpha-beta-requires c κs =
-    let a = c .before .before .before .before .before .before .before .before .before in
+    let k = c .before .before .before in
+    let a = k .before .before .before .before .before .before in
     record {
       formed = a .pre .0;
       inside = a .pre .0 .some;
       placed = sym (place-root _);
-      marks = omega (arith, c .before .before .before .clear .kept .0, a .pre .1);
+      marks = omega (arith, k .clear .kept .0, a .pre .1);
+      unmarked = cleared-unmarked _ (a .pre .0) _ _ _ (k .clear .ensures) (k .before .frame-count .ensures);
     }
 
 conclude-requires : tie.Need-conclude-requires
