@@ -7,8 +7,6 @@ use mathlib.Core.Logic.{inl, inr}
 use mathlib.Core.Bool.{Bool, true, false}
 use mathlib.Core.List.{List, [], _∷_}
 use lib.Dec.{ltb, eqb}
-use lib.ListN.{set}
-use lib.Seq.{getD-set-other}
 use Rattle.gametree.specs.declared.Side.{Side}
 use Rattle.gametree.specs.Lists.{All}
 use Rattle.gametree.specs.Tree.{Tree, leaf, inner, Kids, last, _then_, In, InKids}
@@ -19,7 +17,7 @@ use Rattle.frames.specs.Tree.{treeAt, tree}
 use Rattle.frames.specs.Formed.{WellFormed, ChildOf}
 use Rattle.frames.proofs.Nodes.{in-parent, tree-range, children-apart}
 use Rattle.certificate.specs.Buffer.{written, marked, markAll}
-use Rattle.certificate.proofs.Buffers.{written-at}
+use Rattle.certificate.proofs.Buffers.{written-at, markAll-other}
 use Rattle.alphabeta.specs.Engine.{Unmarked}
 
 onward-all : (P : ℕ → Type 0) (b : Bool) (r q : Found) → All P (r .evaluated) → All P (q .evaluated)
@@ -43,13 +41,6 @@ mutual
       let b = lower s β (r .value) in
       onward-all P (ltb a b) r (alphaBetaKids ν s a b ts) (evaluated-all P ν α β t (λ k i. f k (inl i)))
       (evaluatedKids-all P ν s a b ts (λ k i. f k (inr i)))
-
--- the mark of a node that is not among those marked is as it was
-markAll-other : (e w : List ℕ) (p : ℕ) → All (λ k. p ≡ k → ⊥) w → marked (markAll e w) p ≡ marked e p
-unfolding markAll
-markAll-other e [] p a = refl
-markAll-other e (k ∷ w) p a =
-    markAll-other (set e k 1) w p (a .1) ∙ ap (λ x. eqb x 1) (getD-set-other e k p 1 0 (a .0))
 
 -- a visit of one tree leaves another without a mark
 visit-apart : (ν : ℕ → ℕ) (α β : ℕ) (T U : Tree) (e : List ℕ) → ((p : ℕ) → In p T → In p U → ⊥) → Unmarked e U

@@ -8,10 +8,11 @@ use mathlib.Core.Bool.{Bool, true, false, cond, _||_}
 use mathlib.Core.List.{List, [], _∷_, _++_, append-assoc}
 use lib.Dec.{eqb}
 use lib.ListN.{length, getD, set, drop, length-append, length-drop, length-set, List·getD-append}
-use lib.Seq.{drop-cons, drop-set-lt, set-at, set-append-left, getD-append-add, getD-drop, getD-set-same}
+use lib.Seq.{drop-cons, drop-set-lt, set-at, set-append-left, getD-append-add, getD-drop}
+use lib.Seq.{getD-set-same, getD-set-other}
 use borrow.Author.Tests.{eq-eqb, ne-eqb}
 use Rattle.gametree.specs.Lists.{All, among}
-use Rattle.certificate.specs.Buffer.{tabulate, written, mark, markAll}
+use Rattle.certificate.specs.Buffer.{tabulate, written, mark, marked, markAll}
 
 pub length-tabulate : (f : ℕ → ℕ) (n : ℕ) → length (tabulate f n) ≡ n
 unfolding tabulate
@@ -122,6 +123,16 @@ pub markAll-append : (b v w : List ℕ) → markAll b (v ++ w) ≡ markAll (mark
 unfolding markAll
 markAll-append b [] w = refl
 markAll-append b (k ∷ v) w = markAll-append (set b k 1) v w
+
+-- a node's mark stays as it is where another's is set, and where it is not among those that are
+pub marked-other : (l : List ℕ) (i p v : ℕ) → (p ≡ i → ⊥) → marked (set l i v) p ≡ marked l p
+marked-other l i p v h = ap (λ x. eqb x 1) (getD-set-other l i p v 0 h)
+
+pub markAll-other : (b w : List ℕ) (n : ℕ) → All (λ k. n ≡ k → ⊥) w → marked (markAll b w) n ≡ marked b n
+unfolding markAll
+markAll-other b [] n a = refl
+markAll-other b (k ∷ w) n a =
+    markAll-other (set b k 1) w n (a .1) ∙ marked-other b k n 1 (a .0)
 
 pub markAll-length : (b w : List ℕ) → length (markAll b w) ≡ length b
 unfolding markAll

@@ -7,7 +7,7 @@ use mathlib.Core.Bool.{Bool, true, false, cond}
 use mathlib.Core.List.{List, [], _++_}
 use lib.Dec.{eqb}
 use lib.ListN.{length, getD, set, length-append}
-use lib.Seq.{getD-set-same, getD-set-other, set-getD}
+use lib.Seq.{getD-set-same, set-getD}
 use Rattle.gametree.specs.declared.Side.{Side}
 use Rattle.gametree.specs.Tree.{Tree, leaf, inner, Kids, last, _then_, greatest, better, minimaxKids, In, InKids}
 use Rattle.gametree.specs.Bounds.{known, high}
@@ -25,10 +25,6 @@ set-same l i v e = ap (set l i) (sym e) ∙ set-getD l i 0
 pub marked-same : (l : List ℕ) (i : ℕ) (b : Bool) → i < length l → marked (set l i (cond b 1 0)) i ≡ b
 marked-same l i true h = ap (λ x. eqb x 1) (getD-set-same l i 1 0 h)
 marked-same l i false h = ap (λ x. eqb x 1) (getD-set-same l i 0 0 h)
-
--- and no other is changed
-pub marked-other : (l : List ℕ) (i p v : ℕ) → (p ≡ i → ⊥) → marked (set l i v) p ≡ marked l p
-marked-other l i p v h = ap (λ x. eqb x 1) (getD-set-other l i p v 0 h)
 
 mutual
   -- the high that the memory of two arrays gives is the one of the marked leaves

@@ -17,9 +17,10 @@ use Rattle.gametree.specs.Mtd.{Memo, memoHigh, stay, entered}
 use Rattle.gametree.proofs.MemoArrays.{readMemoKids-same}
 use Rattle.frames.specs.Tree.{treeAt, valuation}
 use Rattle.certificate.specs.Buffer.{marked, markAll}
+use Rattle.certificate.proofs.Buffers.{marked-other}
 use Rattle.mtd.specs.declared.Tried.{Tried}
 use Rattle.mtd.specs.Memory.{Memory, memory, memoOf, passOf, Room, HighsRight, Evaluated, Passed}
-use Rattle.mtd.proofs.Arrays.{set-same, marked-same, marked-other, read-high, evaluated-none}
+use Rattle.mtd.proofs.Arrays.{set-same, marked-same, read-high, evaluated-none}
 use Rattle.mtd.proofs.Children.{passKidsOf, PassedKids}
 
 -- a leaf that was tried: evaluated now, if it was not before, and compared with the test
