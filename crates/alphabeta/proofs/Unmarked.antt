@@ -5,7 +5,7 @@ use native.Mathlib.Omega.{arith}
 use mathlib.Core.Path.{_≡_, refl, sym, ap, _∙_, subst}
 use mathlib.Core.Logic.{inl, inr}
 use mathlib.Core.Bool.{Bool, true, false}
-use mathlib.Core.List.{List, [], _∷_}
+use mathlib.Core.List.{List}
 use lib.Dec.{ltb, eqb}
 use Rattle.gametree.specs.declared.Side.{Side}
 use Rattle.gametree.specs.Lists.{All}
@@ -16,7 +16,7 @@ use Rattle.frames.specs.Frame.{frames}
 use Rattle.frames.specs.Tree.{treeAt, tree}
 use Rattle.frames.specs.Formed.{WellFormed, ChildOf}
 use Rattle.frames.proofs.Nodes.{in-parent, tree-range, children-apart}
-use Rattle.certificate.specs.Buffer.{written, marked, markAll}
+use Rattle.certificate.specs.Buffer.{written, markAll}
 use Rattle.certificate.proofs.Buffers.{written-at, markAll-other}
 use Rattle.alphabeta.specs.Engine.{Unmarked}
 
