@@ -9,7 +9,6 @@ pub mod Totals
 pub mod Proper
 pub mod Shapes
 pub mod Layouts
-pub mod Below
 pub mod Stated
 pub mod Asked
 pub mod Levels

@@ -2,7 +2,7 @@
 use Prim.Native.Nat.{ℕ, zero, suc, _+_}
 use mathlib.Core.Bool.{Bool, cond, _&&_}
 use mathlib.Core.List.{List}
-use lib.Dec.{ltb, leb, eqb}
+use lib.Dec.{ltb, leb}
 use Rattle.gametree.specs.declared.Place.{Place}
 use Rattle.gametree.specs.declared.Side.{Side}
 use Rattle.gametree.specs.declared.Side.the-variants.{Max}
@@ -45,12 +45,3 @@ depthOf t k = placeOf t k .depth
 
 abbrev pub sideOf : List ℕ → ℕ → Side
 sideOf t k = placeOf t k .side
-
--- the first number at most p on the way from node k up to the root; the first number bounds the steps
-unfoldable pub climb : ℕ → List ℕ → ℕ → ℕ → ℕ
-climb zero t p k = k
-climb (suc f) t p k = cond (leb k p) k (climb f t p (parentOf t k))
-
--- is node q below node p (its descendant)
-unfoldable pub isBelow : List ℕ → ℕ → ℕ → Bool
-isBelow t p q = ltb p q && eqb (climb q t p q) p

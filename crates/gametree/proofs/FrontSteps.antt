@@ -209,6 +209,14 @@ gathered-right Y {p = p} g =
     ap (purge Y p) (g .behind) ∙ purge-append Y p (g .younger) (g .right)
     ∙ ap₂ _++_ (purge-below Y p (g .younger) (g .younger-below)) (purge-outside Y p (g .right) (g .right-clear))
 
+-- so what p's children purge leaves what stands around p
+pub purge-around : (Y : Layout) {r : Tree} {X Z : List State} (u : Tree) (n : ℕ) (ks : Kids) (F G : List State)
+    → Within r (inner n Max ks) X Z → Beside ks u F G → Answers Y r
+    → (purge Y n (X ++ F) ≡ X) × (purge Y n (G ++ Z) ≡ Z)
+unfolding gather
+purge-around Y u n ks F G w b a =
+    let g = gather Y u n ks F G w b refl refl a in (gathered-left Y g, gathered-right Y g)
+
 kids-live : (m : ℕ) (ks : Kids) → FrontKids Max ks (map (λ n. live n m) (firstOf ks ∷ othersOf ks))
 kids-live m (last t) = alone-front t (live (number t) m) refl
 kids-live m (t then ts) = (
