@@ -3,7 +3,7 @@ use certificate::ask;
 use certificate::better;
 use certificate::clear;
 use certificate::conclude;
-use certificate::evaluate_unmarked;
+use certificate::evaluate;
 use certificate::value;
 use frames::Checked;
 use frames::GREATEST;
@@ -17,12 +17,13 @@ use gametree::Place;
 use gametree::Side;
 ghost use mathlib.Core.Path.{_≡_};
 ghost use Prim.Native.Nat.{_≤_};
-ghost use lib.ListN.{length};
+ghost use lib.ListN.{length, set};
 ghost use Rattle.gametree.specs.AlphaBeta.{raise, lower, clamp, alphaBeta};
 ghost use Rattle.frames.specs.Frame.{frames};
 ghost use Rattle.frames.specs.Formed.{WellFormed};
 ghost use Rattle.frames.specs.Tree.{treeAt, valuation};
 ghost use Rattle.certificate.specs.Buffer.{markAll};
+ghost use Rattle.certificate.specs.Evaluable.{Evaluable};
 ghost use Rattle.certificate.specs.Search.{marksOf, flagsOf};
 ghost use Rattle.alphabeta.specs.Outcome.{reachedLeaves, findings, alphaBetaOutcome};
 ghost use Rattle.alphabeta.specs.Engine.{Ready, visitedOf};
@@ -98,9 +99,12 @@ fn alpha_beta(
 {
     let count = child_count(table, node);
     if count == 0 {
-        let leaf = evaluate_unmarked(table, evaluated, node, place.depth);
-        let score = clamped(alpha, beta, leaf);
-        return Visited { score, leaves: 1 };
+        let leaf = visit_leaf(table, evaluated, node, place.depth);
+        let score = clamped(alpha, beta, leaf.score);
+        return Visited {
+            score,
+            leaves: leaf.leaves,
+        };
     }
     let side = place.side;
     let mut leaves: usize = 0;
@@ -127,6 +131,16 @@ fn alpha_beta(
         child += 1;
     };
     Visited { score, leaves }
+}
+
+// A leaf is evaluated, and counted.
+fn visit_leaf(table: &[u8], evaluated: &mut [u8], node: usize, depth: u32) -> Visited
+    requires { ⌜ Evaluable (now table) (now evaluated) node depth ⌝ }
+    ensures { λ r. ⌜ (r .score ≡ valuation (now (table .entry)) node) × (r .leaves ≡ 1) ⌝ }
+    ensures { λ _. ⌜ now (evaluated .exit) ≡ set (now (evaluated .entry)) node 1 ⌝ }
+{
+    let score = evaluate(table, evaluated, node, depth);
+    Visited { score, leaves: 1 }
 }
 
 // The score, brought into the window.

@@ -17,7 +17,7 @@ use gametree::Side;
 ghost use mathlib.Core.Path.{_≡_};
 ghost use mathlib.Core.List.{[], _∷_};
 ghost use Prim.Native.Nat.{ℕ, _+_, _-_, _<_, _≤_};
-ghost use mathlib.Core.Bool.{false, cond};
+ghost use mathlib.Core.Bool.{cond};
 ghost use lib.Dec.{eqb};
 ghost use lib.ListN.{length, getD, set};
 ghost use Rattle.gametree.specs.Tree.{greatest, better as betterOf};
@@ -30,6 +30,7 @@ ghost use Rattle.frames.specs.Tree.{tree, valuation};
 ghost use Rattle.frames.specs.Rejection.{answer};
 ghost use Rattle.frames.specs.Formed.{WellFormed, ChildOf};
 ghost use Rattle.certificate.specs.Buffer.{written, stored, marked};
+ghost use Rattle.certificate.specs.Evaluable.{Evaluable};
 ghost use Rattle.certificate.specs.Places.{sideNumber, numberSide, placeFrom, Placed};
 ghost use Rattle.certificate.specs.Ranges.{bestIn, firstEqual};
 ghost use Rattle.certificate.specs.Bounds.{boundOf};
@@ -60,8 +61,9 @@ pub fn ask(table: &[u8], evaluated: usize, certificate: usize) -> Checked
     checked
 }
 
-// The one routine from which a search gets a leaf's score: the leaf's mark is then 1, and every other mark is as it was.
-pub fn evaluate(table: &[u8], evaluated: &mut [u8], node: usize, depth: u32) -> u32
+// The one routine from which a search gets a leaf's score, for the certificate and the root move too: the leaf's mark is then 1, and every other mark
+// is as it was.
+fn read_leaf(table: &[u8], evaluated: &mut [u8], node: usize, depth: u32) -> u32
     requires { ⌜ (node < frames (now table)) × (node < length (now evaluated)) ⌝ }
     requires { ⌜ (depth ≡ depthOf (now table) node) × (depth ≤ maxNodes) ⌝ }
     ensures { λ r. ⌜ (r ≡ valuation (now (table .entry)) node) × (r < 65536) ⌝ }
@@ -71,15 +73,13 @@ pub fn evaluate(table: &[u8], evaluated: &mut [u8], node: usize, depth: u32) -> 
     leaf_score(table, node, depth)
 }
 
-// What a search counts: the evaluation of a leaf that has no mark yet, so that no leaf is evaluated twice.
-pub fn evaluate_unmarked(table: &[u8], evaluated: &mut [u8], node: usize, depth: u32) -> u32
-    requires { ⌜ (node < frames (now table)) × (node < length (now evaluated)) ⌝ }
-    requires { ⌜ (depth ≡ depthOf (now table) node) × (depth ≤ maxNodes) ⌝ }
-    requires { ⌜ marked (now evaluated) node ≡ false ⌝ }
+// What a search counts, and its only way to a score: the evaluation of a leaf that has no mark yet, so that no leaf is evaluated twice.
+pub fn evaluate(table: &[u8], evaluated: &mut [u8], node: usize, depth: u32) -> u32
+    requires { ⌜ Evaluable (now table) (now evaluated) node depth ⌝ }
     ensures { λ r. ⌜ (r ≡ valuation (now (table .entry)) node) × (r < 65536) ⌝ }
     ensures { λ r. ⌜ now (evaluated .exit) ≡ set (now (evaluated .entry)) node 1 ⌝ }
 {
-    evaluate(table, evaluated, node, depth)
+    read_leaf(table, evaluated, node, depth)
 }
 
 // The first n marks become 0.
@@ -282,7 +282,7 @@ fn leaf_bound(table: &[u8], evaluated: &mut [u8], node: usize, depth: u32, unkno
     ensures { λ _. ⌜ now (evaluated .exit) ≡ now (evaluated .entry) ⌝ }
 {
     if evaluated[node] == 1 {
-        evaluate(table, evaluated, node, depth)
+        read_leaf(table, evaluated, node, depth)
     } else {
         unknown
     }

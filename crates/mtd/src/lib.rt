@@ -3,7 +3,7 @@ use certificate::ask;
 use certificate::best;
 use certificate::clear;
 use certificate::conclude;
-use certificate::evaluate_unmarked;
+use certificate::evaluate;
 use certificate::value;
 use frames::Checked;
 use frames::GREATEST;
@@ -235,7 +235,7 @@ fn visit_leaf(
 // A leaf that is tried for the first time is evaluated, and its score is its high from then on; how many leaves were evaluated.
 fn try_leaf(table: &[u8], evaluated: &mut [u8], highs: &mut [u32], node: usize, depth: u32) -> usize
     requires { ⌜ (node < frames (now table)) × (node < length (now evaluated)) × (node < length (now highs)) ⌝ }
-    requires { ⌜ (depth ≡ depthOf (now table) node) × (depth ≤ maxNodes) ⌝ }
+    requires { ⌜ (childCount (now table) node ≡ 0) × (depth ≡ depthOf (now table) node) × (depth ≤ maxNodes) ⌝ }
     requires { ⌜ (marked (now evaluated) node ≡ true → getD (now highs) node 0 ≡ valuation (now table) node) ⌝ }
     ensures { λ r. ⌜ r ≡ cond (marked (now (evaluated .entry)) node) 0 1 ⌝ }
     ensures { λ _. ⌜ now (evaluated .exit) ≡ set (now (evaluated .entry)) node 1 ⌝ }
@@ -244,7 +244,7 @@ fn try_leaf(table: &[u8], evaluated: &mut [u8], highs: &mut [u32], node: usize, 
     if evaluated[node] == 1 {
         return 0;
     }
-    let score = evaluate_unmarked(table, evaluated, node, depth);
+    let score = evaluate(table, evaluated, node, depth);
     highs[node] = score;
     1
 }

@@ -22,7 +22,7 @@ use Rattle.alphabeta.proofs.+alpha_beta.Lts-alpha_beta as lts
 use Rattle.alphabeta.proofs.clamped.Reads as clamped-reads
 use Rattle.alphabeta.proofs.lowered.Reads as lowered-reads
 use Rattle.alphabeta.proofs.raised.Reads as raised-reads
-use Rattle.certificate.proofs.evaluate_unmarked.Reads as evaluate-unmarked-reads
+use Rattle.alphabeta.proofs.visit_leaf.Reads as visit-leaf-reads
 use Rattle.frames.proofs.child_count.Reads as child-count-reads
 use Rattle.frames.proofs.child_place.Reads as child-place-reads
 use Rattle.frames.proofs.first_child.Reads as first-child-reads
@@ -50,8 +50,8 @@ abbrev calls : ℕ → lts.Claims
 calls t = (
   child-count-reads.Asked,
   child-count-reads.Learnt,
-  evaluate-unmarked-reads.Asked,
-  evaluate-unmarked-reads.Learnt,
+  visit-leaf-reads.Asked,
+  visit-leaf-reads.Learnt,
   clamped-reads.Asked,
   clamped-reads.Learnt,
   first-child-reads.Asked,
@@ -84,12 +84,17 @@ module _ (t : ℕ) where
   child-count-requires : lts.Need-child-count-requires (calls t) (at t) own.Post Inv μ-loop
   child-count-requires c κs = search needs
 
-  evaluate-unmarked-requires : lts.Need-evaluate-unmarked-requires (calls t) (at t) own.Post Inv μ-loop
-  evaluate-unmarked-requires c κs =
+  visit-leaf-requires : lts.Need-visit-leaf-requires (calls t) (at t) own.Post Inv μ-loop
+  visit-leaf-requires c κs =
       let a = c .before .before .before .before .before in
-      let d = ready-depth _ _ _ _ (a .pre .1) in
-      let u = a .pre .1 .unmarked (a .args .node) (in-own _ (a .pre .1 .formed) _) in
-      ((omega arith, omega (arith, a .pre .1 .inside, a .pre .1 .marks)), (d, u))
+      record {
+        inside = a .pre .1 .inside;
+        leaf = omega arith;
+        room = omega (arith, a .pre .1 .inside, a .pre .1 .marks);
+        unmarked = a .pre .1 .unmarked (a .args .node) (in-own _ (a .pre .1 .formed) _);
+        depth = ready-depth _ _ _ _ (a .pre .1) .0;
+        shallow = ready-depth _ _ _ _ (a .pre .1) .1;
+      }
 
   clamped-requires : lts.Need-clamped-requires (calls t) (at t) own.Post Inv μ-loop
   clamped-requires c κs = search needs
@@ -100,8 +105,8 @@ module _ (t : ℕ) where
   returns : lts.Need-returns (calls t) (at t) own.Post Inv μ-loop
   returns c =
       let a = c .before .before .before .before .before .before .before .before .before in
-      let e = c .before .before .before .evaluate-unmarked .ensures in
-      rw (e .1)
+      let e = c .before .before .before .visit-leaf .ensures in
+      rw (e .1, e .0 .1)
       (leaf-gives (a .args .table .now) (a .pre .1 .formed) (a .args .node) (a .pre .1 .inside) (a .args .alpha)
       (a .args .beta) (a .args .evaluated .now) _ _ (omega arith) (e .0 .0) (c .clamped .ensures))
 
@@ -212,7 +217,7 @@ pub +alpha-beta-spec : {M : Type 1} → statement M
     Inv
     μ-loop
     (child-count-requires t)
-    (evaluate-unmarked-requires t)
+    (visit-leaf-requires t)
     (clamped-requires t)
     (same-length t)
     (returns t)

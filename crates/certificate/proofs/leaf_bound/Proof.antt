@@ -1,4 +1,4 @@
--- `certificate::leaf_bound` meets its contract: only a marked leaf is evaluated, so no mark changes.
+-- `certificate::leaf_bound` meets its contract: only a marked leaf is read, so no mark changes.
 use mathlib.Core.Path.{refl, sym, _∙_}
 use Rattle.frames.specs.Tree.{valuation}
 use Rattle.certificate.proofs.Bounds.{known-marked, known-unmarked, mark-again}
@@ -9,8 +9,8 @@ use Rattle.certificate.proofs.leaf_bound.Tie as tie
 slice-read-if1 : tie.Need-slice-read-if1
 slice-read-if1 c = search needs
 
-evaluate-requires : tie.Need-evaluate-requires
-evaluate-requires c κs = search needs
+read-leaf-requires : tie.Need-read-leaf-requires
+read-leaf-requires c κs = search needs
 
 same-length : tie.Need-same-length
 same-length c = search needs
@@ -19,7 +19,7 @@ returns : tie.Need-returns
 returns c =
     let a = c .before .before .before .before .before .before .before .before .args in
     let m = c .before .before .before .before .if1 .taken in
-    let e = c .before .before .evaluate .ensures in (
+    let e = c .before .before .read-leaf .ensures in (
       e .0 .0 ∙ sym (known-marked (valuation (a .table .now)) (a .evaluated .now) (a .unknown) (a .node) m),
       e .1 ∙ mark-again (a .evaluated .now) (a .node) m,
     )
@@ -31,4 +31,4 @@ returns-2 c =
 
 pub leaf-bound-spec : {M : Type 1} → statement M
 leaf-bound-spec =
-    tie.close (tie.spec slice-read-if1 evaluate-requires same-length returns returns-2)
+    tie.close (tie.spec slice-read-if1 read-leaf-requires same-length returns returns-2)

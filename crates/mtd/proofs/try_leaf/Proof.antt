@@ -18,8 +18,17 @@ returns c =
       (sym (set-same _ _ 1 (c .if1 .taken)), sym (set-same _ _ _ (a .pre .1 .1 e))),
     )
 
-evaluate-unmarked-requires : tie.Need-evaluate-unmarked-requires
-evaluate-unmarked-requires c κs = (search needs, (search needs, ne-eqb _ _ (c .before .if1 .left)))
+evaluate-requires : tie.Need-evaluate-requires
+evaluate-requires c κs =
+    let a = c .before .before .before .before .before .before in
+    record {
+      inside = a .pre .0 .0;
+      leaf = a .pre .1 .0 .0;
+      room = a .pre .0 .1;
+      unmarked = ne-eqb _ _ (c .before .if1 .left);
+      depth = a .pre .1 .0 .1;
+      shallow = a .pre .1 .0 .2;
+    }
 
 mul-highs : tie.Need-mul-highs
 mul-highs c = search needs
@@ -36,7 +45,7 @@ same-length-2 c = search needs
 returns-2 : tie.Need-returns-2
 returns-2 c =
     let a = c .before .before .before .before .before .before .before .before .before .args in
-    let v = c .before .before .evaluate-unmarked .ensures in (
+    let v = c .before .before .evaluate .ensures in (
       rw (ne-eqb _ _ (c .before .before .before .before .if1 .left)),
       (v .1, ap (set (a .highs .now) (a .node)) (v .0 .0)),
     )
@@ -47,7 +56,7 @@ try-leaf-spec =
     (tie.spec
     slice-read-if1
     returns
-    evaluate-unmarked-requires
+    evaluate-requires
     mul-highs
     slice-write-highs
     same-length

@@ -14,7 +14,7 @@ try-leaf-requires c κs =
     let p = a .pre .0 in (
       (p .inside, omega (arith, p .room .evaluated), omega (arith, p .room .highs)),
       (
-        (ap (λ p. p .depth) (p .placed), ready-shallow p),
+        (a .pre .1, ap (λ p. p .depth) (p .placed), ready-shallow p),
         leaf-known (a .args .table .now) (p .formed) (a .args .node) (p .inside) (a .pre .1)
             (memory (a .args .evaluated .now) (a .args .highs .now) (a .args .found .now)) (p .right),
       ),

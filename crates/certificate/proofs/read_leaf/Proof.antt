@@ -1,10 +1,10 @@
--- `certificate::evaluate` meets its contract: the depth is the leaf's own, so its score is that of the valuation.
+-- `certificate::read_leaf` meets its contract: the depth is the leaf's own, so its score is that of the valuation.
 use mathlib.Core.Path.{refl, ap, _∙_}
 use Rattle.frames.specs.Frame.{storedScore}
 use Rattle.frames.specs.Tree.{leafScore, valuation}
 use borrow.Author.Needs.{needs}
-use Rattle.certificate.proofs.evaluate.Statement.{statement}
-use Rattle.certificate.proofs.evaluate.Tie as tie
+use Rattle.certificate.proofs.read_leaf.Statement.{statement}
+use Rattle.certificate.proofs.read_leaf.Tie as tie
 
 slice-write-evaluated : tie.Need-slice-write-evaluated
 slice-write-evaluated c = search needs
@@ -23,5 +23,5 @@ returns c =
     let e = c .leaf-score .ensures .0 ∙ ap (λ d. leafScore d (storedScore (a .table .now) (a .node))) d in
     ((e, c .leaf-score .ensures .1), refl)
 
-pub evaluate-spec : {M : Type 1} → statement M
-evaluate-spec = tie.close (tie.spec slice-write-evaluated leaf-score-requires same-length returns)
+pub read-leaf-spec : {M : Type 1} → statement M
+read-leaf-spec = tie.close (tie.spec slice-write-evaluated leaf-score-requires same-length returns)
