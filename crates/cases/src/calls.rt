@@ -10,6 +10,7 @@ use crate::print::print_value;
 use frames::Checked;
 use frames::FRAME_SIZE;
 use frames::MAX_NODES;
+use frames::MAX_TABLE;
 use libc::STDOUT_FILENO;
 use treefile::Cursor;
 use treefile::Frame;
@@ -99,7 +100,7 @@ fn frames_size(nodes: usize) -> isize {
     if nodes < MAX_NODES {
         return (FRAME_SIZE * nodes) as isize;
     }
-    (FRAME_SIZE * MAX_NODES) as isize
+    MAX_TABLE as isize
 }
 
 // The numbers as flags; how many they are.

@@ -1,14 +1,13 @@
 // Regular trees, made here because their files are long: the first nodes have `width` children each, and a leaf's value is its number.
 use crate::LINE_FEED;
 use crate::print::print_report;
+use frames::TWO_BYTES;
 use libc::STDOUT_FILENO;
 ghost use Prim.Native.Nat.{_+_, _*_, _<_, _≤_};
 ghost use lib.ListN.{length};
 
-// The bytes of a line, its line feed included, and how many numbers two bytes hold.
+// The bytes of a line, its line feed included.
 const LINE_SIZE: usize = 13;
-
-const TWO_BYTES: usize = 65536;
 
 // The reports of the trees at the limits of 01, and just past them.
 pub fn print_made_trees() {

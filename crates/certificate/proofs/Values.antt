@@ -9,7 +9,7 @@ use borrow.Author.Tests.{lt-ltb, le-ltb}
 use lib.IntN.{pos, negsuc, natAbs, _-ℤ_}
 use lib.Signed.{mag}
 use Rattle.gametree.specs.Tree.{Score}
-use Rattle.frames.specs.Frame.{byteOf, valueBytes, storedScore}
+use Rattle.frames.specs.Frame.{byteOf, valueBytes, storedScore, twoBytes}
 use Rattle.certificate.specs.Value.{valueOf, signed}
 
 -- the value of a score takes 16 bits
@@ -25,8 +25,8 @@ value-plus : (s v : ℕ) → s ≡ v + 32001 → valueOf s ≡ pos v
 value-plus s v e = rw (le-ltb s 32001 (omega arith)) (ap pos (omega arith))
 
 -- a smaller one is that of the number less 65,536
-value-minus : (s v : ℕ) → s + 33535 ≡ v → v < 65536 → valueOf s ≡ pos v -ℤ pos 65536
-value-minus s v e h = rw (lt-ltb s 32001 (omega arith), lt-ltb v 65536 h) (ap negsuc (omega arith))
+value-minus : (s v : ℕ) → s + 33535 ≡ v → v < twoBytes → valueOf s ≡ pos v -ℤ pos twoBytes
+value-minus s v e h = rw (lt-ltb s 32001 (omega arith), lt-ltb v twoBytes h) (ap negsuc (omega arith))
 
 -- the value of a stored score in range is the number that bytes 4 and 5 hold
 pub value-stored : (t : List ℕ) (i : ℕ) → byteOf t i 4 < 256 → byteOf t i 5 < 256 → Score (storedScore t i)
@@ -44,6 +44,6 @@ pub score-stored : (t : List ℕ) (i : ℕ) → byteOf t i 4 < 256 → byteOf t 
 score-stored t i a b =
     elim (decLt (byteOf t i 4) 128) [
       | yes p ↦ rw (lt-ltb (byteOf t i 4) 128 p) (λ s. omega arith, λ s. (omega arith, omega arith))
-      | no p ↦ rw (le-ltb (byteOf t i 4) 128 (omega arith), lt-ltb (valueBytes t i) 65536 (omega arith))
+      | no p ↦ rw (le-ltb (byteOf t i 4) 128 (omega arith), lt-ltb (valueBytes t i) twoBytes (omega arith))
           (λ s. omega arith, λ s. (omega arith, omega arith))
     ]

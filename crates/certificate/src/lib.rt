@@ -24,7 +24,7 @@ ghost use Rattle.gametree.specs.Tree.{greatest, better as betterOf};
 ghost use Rattle.gametree.specs.Bounds.{known};
 ghost use Rattle.gametree.specs.Certificate.{flag};
 ghost use Rattle.gametree.specs.Move.{boundMove};
-ghost use Rattle.frames.specs.Frame.{maxNodes, frames};
+ghost use Rattle.frames.specs.Frame.{maxNodes, frames, twoBytes};
 ghost use Rattle.frames.specs.Place.{parentOf, childPlace, depthOf, sideOf};
 ghost use Rattle.frames.specs.Tree.{tree, valuation};
 ghost use Rattle.frames.specs.Rejection.{answer};
@@ -66,7 +66,7 @@ pub fn ask(table: &[u8], evaluated: usize, certificate: usize) -> Checked
 fn read_leaf(table: &[u8], evaluated: &mut [u8], node: usize, depth: u32) -> u32
     requires { ⌜ (node < frames (now table)) × (node < length (now evaluated)) ⌝ }
     requires { ⌜ (depth ≡ depthOf (now table) node) × (depth ≤ maxNodes) ⌝ }
-    ensures { λ r. ⌜ (r ≡ valuation (now (table .entry)) node) × (r < 65536) ⌝ }
+    ensures { λ r. ⌜ (r ≡ valuation (now (table .entry)) node) × (r < twoBytes) ⌝ }
     ensures { λ r. ⌜ now (evaluated .exit) ≡ set (now (evaluated .entry)) node 1 ⌝ }
 {
     evaluated[node] = 1;
@@ -76,7 +76,7 @@ fn read_leaf(table: &[u8], evaluated: &mut [u8], node: usize, depth: u32) -> u32
 // What a search counts, and its only way to a score: the evaluation of a leaf that has no mark yet, so that no leaf is evaluated twice.
 pub fn evaluate(table: &[u8], evaluated: &mut [u8], node: usize, depth: u32) -> u32
     requires { ⌜ Evaluable (now table) (now evaluated) node depth ⌝ }
-    ensures { λ r. ⌜ (r ≡ valuation (now (table .entry)) node) × (r < 65536) ⌝ }
+    ensures { λ r. ⌜ (r ≡ valuation (now (table .entry)) node) × (r < twoBytes) ⌝ }
     ensures { λ r. ⌜ now (evaluated .exit) ≡ set (now (evaluated .entry)) node 1 ⌝ }
 {
     read_leaf(table, evaluated, node, depth)

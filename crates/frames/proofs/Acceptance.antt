@@ -8,7 +8,7 @@ use lib.ListN.{length}
 use borrow.Author.Tests.{ltb-true, leb-true, eqb-true, lt-ltb, le-leb, eq-eqb}
 use Rattle.frames.specs.declared.Rejection.{Rejection}
 use Rattle.frames.specs.declared.Checked.the-variants.{Nodes, Rejected}
-use Rattle.frames.specs.Frame.{frameSize, maxNodes, frames, next}
+use Rattle.frames.specs.Frame.{frameSize, maxNodes, frames, next, maxTable}
 use Rattle.frames.specs.Formed.{WellFormed}
 use Rattle.frames.specs.Check.{check1, check2, check3, checkNode, check8, check9, framesRejection, rejection}
 use Rattle.frames.specs.Check.{nodesRejection, Accepted, checked}
@@ -46,7 +46,7 @@ module _ (t : List ℕ) where
       let d = both-passed (nodesRejection t) _ (c .1) in
       let g = both-passed (check8 t) _ (d .1) in
       let filled = ltb-true 0 (length t) (ask-yes _ _ _ (a .0)) in
-      let short = leb-true (length t) (frameSize * maxNodes) (ask-yes _ _ _ (b .0)) in
+      let short = leb-true (length t) maxTable (ask-yes _ _ _ (b .0)) in
       let even = eqb-true (length t % frameSize) 0 (ask-yes _ _ _ (c .0)) in
       record {
         whole = omega arith;
@@ -64,7 +64,7 @@ module _ (t : List ℕ) where
   stated-accepted s =
       passed-both (check1 t) _ (yes-ask _ _ _ (lt-ltb 0 (length t) (omega (arith, s .whole, s .some))))
       (passed-both (check2 t) _
-      (yes-ask _ _ _ (le-leb (length t) (frameSize * maxNodes) (omega (arith, s .whole, s .most))))
+      (yes-ask _ _ _ (le-leb (length t) maxTable (omega (arith, s .whole, s .most))))
       (passed-both (check3 t) _ (yes-ask _ _ _ (eq-eqb (length t % frameSize) 0 (omega (arith, s .whole))))
       (passed-both (nodesRejection t) _
       (passed-each (checkNode t) 0 (frames t) (λ i a b. stated-passed t i (s .frame i (omega arith))))
@@ -72,11 +72,11 @@ module _ (t : List ℕ) where
       (passed-each (check9 t) 0 (frames t) (λ i a b. yes-ask _ _ _ (le-leb _ _ (s .shallow i (omega arith)))))))))
 
   -- of a table of whole frames, some and not too many, only questions 4 to 9 are left
-  pub rejection-frames : 0 < length t → length t ≤ frameSize * maxNodes → length t % frameSize ≡ 0
+  pub rejection-frames : 0 < length t → length t ≤ maxTable → length t % frameSize ≡ 0
       → rejection t ≡ framesRejection t
   unfolding rejection
   rejection-frames a b c =
-      rw (lt-ltb 0 (length t) a, le-leb (length t) (frameSize * maxNodes) b, eq-eqb (length t % frameSize) 0 c)
+      rw (lt-ltb 0 (length t) a, le-leb (length t) maxTable b, eq-eqb (length t % frameSize) 0 c)
 
   -- an accepted table is well-formed
   pub accepted-formed : Accepted t → WellFormed t

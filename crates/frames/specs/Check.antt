@@ -8,7 +8,7 @@ use lib.Dec.{ltb, leb, eqb}
 use lib.ListN.{length}
 use Rattle.frames.specs.declared.Rejection.{Rejection}
 use Rattle.frames.specs.declared.Checked.{Checked}
-use Rattle.frames.specs.Frame.{frameSize, maxNodes, maxChildren, maxDepth, frames, firstChild, childCount, byte3}
+use Rattle.frames.specs.Frame.{frameSize, maxChildren, maxDepth, frames, firstChild, childCount, byte3, maxTable}
 use Rattle.frames.specs.Frame.{valueBytes, storedScore, next}
 use Rattle.frames.specs.Place.{depthOf}
 use Rattle.gametree.specs.Tree.{least, greatest}
@@ -20,7 +20,7 @@ check1 t = ask (ltb 0 (length t)) 1 0
 
 -- 2: is the table at most 24,576 bytes?
 abbrev pub check2 : List ℕ → Option Rejection
-check2 t = ask (leb (length t) (frameSize * maxNodes)) 2 0
+check2 t = ask (leb (length t) maxTable) 2 0
 
 -- 3: are no bytes left over?
 abbrev pub check3 : List ℕ → Option Rejection

@@ -3,6 +3,7 @@
 use Prim.Native.Nat.{ℕ, zero, suc, _+_, _*_, _/_, _%_}
 use mathlib.Core.List.{List}
 use lib.ListN.{length, getD}
+use Rattle.gametree.specs.Tree.{zeroScore}
 
 -- the limits of 01
 abbrev pub frameSize : ℕ
@@ -10,6 +11,10 @@ frameSize = 6
 
 abbrev pub maxNodes : ℕ
 maxNodes = 4096
+
+-- 24,576 bytes
+abbrev pub maxTable : ℕ
+maxTable = frameSize * maxNodes
 
 abbrev pub maxChildren : ℕ
 maxChildren = 40
@@ -41,9 +46,13 @@ byte3 t i = byteOf t i 3
 abbrev pub valueBytes : List ℕ → ℕ → ℕ
 valueBytes t i = byteOf t i 4 * 256 + byteOf t i 5
 
+-- how many numbers two bytes hold
+abbrev pub twoBytes : ℕ
+twoBytes = 65536
+
 -- the score that they hold: their value in two's complement plus 32,001, so that -32,000 to 32,000 are 1 to 64,001
 abbrev pub storedScore : List ℕ → ℕ → ℕ
-storedScore t i = (valueBytes t i + 32001) % 65536
+storedScore t i = (valueBytes t i + zeroScore) % twoBytes
 
 -- 1 plus the child counts of all nodes before i: the number that i's first child has
 unfoldable pub next : List ℕ → ℕ → ℕ

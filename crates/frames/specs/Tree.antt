@@ -11,7 +11,7 @@ unfoldable pub upFrom : ℕ → ℕ → List ℕ
 upFrom i zero = []
 upFrom i (suc n) = i ∷ upFrom (i + 1) n
 
--- the trees g i, g (i + 1), .., g (i + n) as the children of a node
+-- the n + 1 trees g i, g (i + 1), .., g (i + n) as the children of a node, of which there is at least one
 unfoldable pub kidsFrom : (ℕ → Tree) → ℕ → ℕ → Kids
 kidsFrom g i zero = last (g i)
 kidsFrom g i (suc n) = g i then kidsFrom g (i + 1) n

@@ -3,7 +3,7 @@ use gametree::Place;
 use gametree::other;
 ghost use mathlib.Core.Path.{_≡_};
 ghost use Prim.Native.Nat.{_+_, _*_, _<_, _≤_};
-ghost use Rattle.frames.specs.Frame.{frameSize, maxNodes, maxChildren, frames, next as nextOf};
+ghost use Rattle.frames.specs.Frame.{frameSize, maxNodes, maxChildren, frames, next as nextOf, twoBytes};
 ghost use Rattle.frames.specs.Frame.{byteOf, firstChild, childCount, byte3, valueBytes, storedScore};
 ghost use Rattle.frames.specs.Children.{childrenOf};
 ghost use Rattle.frames.specs.Place.{childPlace};
@@ -32,7 +32,7 @@ pub const GREATEST: u32 = 64002;
 // The score of the value 0, and how many values two bytes hold.
 pub const ZERO_SCORE: usize = 32001;
 
-const TWO_BYTES: usize = 65536;
+pub const TWO_BYTES: usize = 65536;
 
 // The numbers of 01's questions about a table and the buffers lent with it, by what a "no" means.
 pub const EMPTY: u8 = 1;
@@ -233,7 +233,7 @@ fn byte_of(table: &[u8], node: usize, k: usize) -> usize
 // The number of a node's first child.
 pub fn first_child(table: &[u8], node: usize) -> usize
     requires { ⌜ node < frames (now table) ⌝ }
-    ensures { λ r. ⌜ (r ≡ firstChild (now (table .entry)) node) × (r < 65536) ⌝ }
+    ensures { λ r. ⌜ (r ≡ firstChild (now (table .entry)) node) × (r < twoBytes) ⌝ }
 {
     byte_of(table, node, 0) * 256 + byte_of(table, node, 1)
 }
@@ -257,7 +257,7 @@ fn byte_3(table: &[u8], node: usize) -> usize
 // The value bytes as one unsigned number.
 fn value_bytes(table: &[u8], node: usize) -> usize
     requires { ⌜ node < frames (now table) ⌝ }
-    ensures { λ r. ⌜ (r ≡ valueBytes (now (table .entry)) node) × (r < 65536) ⌝ }
+    ensures { λ r. ⌜ (r ≡ valueBytes (now (table .entry)) node) × (r < twoBytes) ⌝ }
 {
     byte_of(table, node, 4) * 256 + byte_of(table, node, 5)
 }
@@ -265,7 +265,7 @@ fn value_bytes(table: &[u8], node: usize) -> usize
 // The score that the value bytes hold.
 fn stored_score(table: &[u8], node: usize) -> u32
     requires { ⌜ node < frames (now table) ⌝ }
-    ensures { λ r. ⌜ (r ≡ storedScore (now (table .entry)) node) × (r < 65536) ⌝ }
+    ensures { λ r. ⌜ (r ≡ storedScore (now (table .entry)) node) × (r < twoBytes) ⌝ }
 {
     ((value_bytes(table, node) + ZERO_SCORE) % TWO_BYTES) as u32
 }
@@ -273,7 +273,7 @@ fn stored_score(table: &[u8], node: usize) -> u32
 // The score of a leaf at this depth.
 pub fn leaf_score(table: &[u8], node: usize, depth: u32) -> u32
     requires { ⌜ (node < frames (now table)) × (depth ≤ maxNodes) ⌝ }
-    ensures { λ r. ⌜ (r ≡ leafScore depth (storedScore (now (table .entry)) node)) × (r < 65536) ⌝ }
+    ensures { λ r. ⌜ (r ≡ leafScore depth (storedScore (now (table .entry)) node)) × (r < twoBytes) ⌝ }
 {
     stored_score(table, node)
 }

@@ -300,7 +300,8 @@ mutual
 mtd-form : (ν : ℕ → ℕ) (t : Tree) → Scored ν t → mtd ν t .memo ≡ memoAt ν 1 greatest t
 unfolding mtd
 mtd-form ν t h =
-    run-form ν 64003 greatest t (fresh t) h (sym (at-fresh ν (suc greatest) greatest t (le-refl _))) (omega arith)
+    run-form ν (suc greatest) greatest t (fresh t) h (sym (at-fresh ν (suc greatest) greatest t (le-refl _)))
+    (omega arith)
     (le-refl _) (omega arith)
 
 -- so it evaluates the leaves of the closed form

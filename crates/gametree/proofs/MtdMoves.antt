@@ -89,7 +89,7 @@ mtdMax-decides : (ν : ℕ → ℕ) (n : ℕ) (ks : Kids) → ScoredKids ν ks
 unfolding mtd
 mtdMax-decides ν n ks h =
     let t = inner n Max ks in
-    runMax-decides ν n ks 64003 greatest (fresh t) h (fresh-kept ν greatest t) refl
+    runMax-decides ν n ks (suc greatest) greatest (fresh t) h (fresh-kept ν greatest t) refl
     (omega (arith, fresh-memoHigh ν t)) (omega arith)
 
 -- what is decided is shown
@@ -180,7 +180,8 @@ mtdMin-decides : (ν : ℕ → ℕ) (n : ℕ) (ks : Kids) → ScoredKids ν ks
 unfolding mtd
 mtdMin-decides ν n ks h =
     let t = inner n Min ks in
-    runMin-decides ν n ks 64003 greatest (fresh t) (inl refl) h (fresh-kept ν greatest t) (le-refl _) (le-refl _, tt)
+    runMin-decides ν n ks (suc greatest) greatest (fresh t) (inl refl) h (fresh-kept ν greatest t) (le-refl _)
+    (le-refl _, tt)
     (inl refl) (omega arith)
 
 -- what is decided is shown

@@ -138,5 +138,6 @@ run-passes ν (suc f) γ w t m h k a g =
 pub passes-few : (ν : ℕ → ℕ) (t : Tree) → Proper ν t → mtd ν t .passes ≤ suc (different (map ν (mtd ν t .evaluated)))
 unfolding mtd
 passes-few ν t h =
-    le-trans (run-passes ν 64003 greatest [] t (fresh t) h (fresh-kept ν greatest t) (fresh-marks t) (le-refl greatest))
-    (suc-le-suc (how-many-different (map ν (run ν 64003 greatest t (fresh t) .evaluated)) greatest))
+    le-trans
+    (run-passes ν (suc greatest) greatest [] t (fresh t) h (fresh-kept ν greatest t) (fresh-marks t) (le-refl greatest))
+    (suc-le-suc (how-many-different (map ν (run ν (suc greatest) greatest t (fresh t) .evaluated)) greatest))

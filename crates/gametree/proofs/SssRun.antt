@@ -103,7 +103,7 @@ pub mtd-steps : (ν : ℕ → ℕ) (Y : Layout) (t : Tree) → Answers Y t → s
     (solved (number t) (mtd ν t .value) ∷ []) 0
 unfolding mtd
 mtd-steps ν Y t p z h =
-    run-steps ν Y 64003 greatest t (fresh t) (inl refl) p z h (fresh-kept ν greatest t) (le-refl greatest)
+    run-steps ν Y (suc greatest) greatest t (fresh t) (inl refl) p z h (fresh-kept ν greatest t) (le-refl greatest)
     (le-refl greatest, tt) (omega arith)
 
 module _ (ν : ℕ → ℕ) (Y : Layout) (t : Tree) (p : Answers Y t) (o : Y .link (number t) ≡ root)

@@ -324,7 +324,7 @@ local-alphaBeta ν μ t a = sym (alphaBeta-local ν μ least greatest t a)
 -- MTD gives the same value, list, memory and passes
 pub local-mtd : (ν μ : ℕ → ℕ) (t : Tree) → All (λ k. ν k ≡ μ k) (mtd ν t .evaluated) → mtd ν t ≡ mtd μ t
 unfolding mtd
-local-mtd ν μ t a = run-local ν μ 64003 greatest t (fresh t) (fresh-agree ν μ t) a
+local-mtd ν μ t a = run-local ν μ (suc greatest) greatest t (fresh t) (fresh-agree ν μ t) a
 
 -- SSS* gives the same end, list and replacements
 pub local-sss : (ν μ : ℕ → ℕ) (Y : Layout) (t : Tree) → All (λ k. ν k ≡ μ k) (sssOver ν Y t .evaluated)

@@ -1,11 +1,11 @@
 -- Small trees, with what the three searches make of them: those that document 01 marks P, and those on which a rule
 -- that is read wrongly gives something else.
-use Prim.Native.Nat.{ℕ, suc, _+_}
+use Prim.Native.Nat.{ℕ, suc, _+_, _-_}
 use mathlib.Core.Path.{_≡_}
 use mathlib.Core.List.{List, [], _∷_, map}
 use lib.ListN.{getD}
 use Rattle.gametree.specs.Lists.{among}
-use Rattle.gametree.specs.Tree.{Max, Min, Tree, leaf, inner, last, _then_}
+use Rattle.gametree.specs.Tree.{Max, Min, Tree, leaf, inner, last, _then_, zeroScore}
 use Rattle.gametree.specs.AlphaBeta.{Found, fullWindow}
 use Rattle.gametree.specs.Mtd.{mtd}
 use Rattle.gametree.specs.Sss.{End, finished, sss}
@@ -14,7 +14,7 @@ use Rattle.gametree.specs.Move.{rootMove}
 
 -- the score of a value that is not negative
 abbrev pub score : ℕ → ℕ
-score v = 32001 + v
+score v = zeroScore + v
 
 -- a tree with the scores of its nodes, by number (those of inner nodes play no part)
 pub record Case : Type 0 where
@@ -38,7 +38,7 @@ leavesOf a b c d = valued small (0 ∷ 0 ∷ 0 ∷ a ∷ b ∷ c ∷ d ∷ [])
 
 -- the root is a leaf of -5
 abbrev pub lone : Case
-lone = record { tree = leaf 0; scores = 31996 ∷ [] }
+lone = record { tree = leaf 0; scores = (zeroScore - 5) ∷ [] }
 
 -- the root has the single leaf 9
 abbrev pub single : Case
@@ -171,7 +171,7 @@ table =
     ∷ line (score 2) 2 (3 ∷ 4 ∷ 5 ∷ 6 ∷ []) (3 ∷ 5 ∷ 4 ∷ 6 ∷ []) 3 11 (3 ∷ 1 ∷ 3 ∷ 0 ∷ 1 ∷ 3 ∷ 2 ∷ [])
     ∷ line (score 2) 1 (3 ∷ 4 ∷ 5 ∷ []) (3 ∷ 5 ∷ 4 ∷ []) 2 9 (3 ∷ 3 ∷ 1 ∷ 3 ∷ 2 ∷ 1 ∷ 0 ∷ [])
     ∷ line (score 7) 1 (3 ∷ 4 ∷ 5 ∷ []) (3 ∷ 5 ∷ 4 ∷ []) 2 9 (3 ∷ 3 ∷ 1 ∷ 3 ∷ 2 ∷ 1 ∷ 0 ∷ [])
-    ∷ line 31996 0 (0 ∷ []) (0 ∷ []) 2 1 (3 ∷ [])
+    ∷ line (zeroScore - 5) 0 (0 ∷ []) (0 ∷ []) 2 1 (3 ∷ [])
     ∷ line (score 9) 1 (1 ∷ []) (1 ∷ []) 2 3 (3 ∷ 3 ∷ [])
     ∷ line (score 7) 2 (3 ∷ 4 ∷ 5 ∷ []) (3 ∷ 5 ∷ 4 ∷ []) 2 9 (3 ∷ 1 ∷ 3 ∷ 0 ∷ 1 ∷ 3 ∷ [])
     ∷ line (score 1) 1 (3 ∷ 2 ∷ []) (3 ∷ 2 ∷ []) 2 6 (3 ∷ 3 ∷ 1 ∷ 3 ∷ [])

@@ -79,10 +79,20 @@ abbrev mutual
   pairLeavesKids g h (last t) = pairLeaves g h t
   pairLeavesKids g h (t then ts) = pairLeaves g h t + pairLeavesKids g h ts
 
--- a flag (01: flag) as the membership in a side's tree: 1 in the max tree, 2 in the min tree, 3 in both, 0 in neither
+-- the flags (01: flag) of a node in the max tree only, in the min tree only, and in both, the greatest; 0 is in neither
+abbrev pub inMax : ℕ
+inMax = 1
+
+abbrev pub inMin : ℕ
+inMin = 2
+
+abbrev pub inBoth : ℕ
+inBoth = 3
+
+-- a flag as the membership in a side's tree
 abbrev pub inside : Side → ℕ → Bool
-inside Max f = eqb f 1 || eqb f 3
-inside Min f = eqb f 2 || eqb f 3
+inside Max f = eqb f inMax || eqb f inBoth
+inside Min f = eqb f inMin || eqb f inBoth
 
 -- are two sides the same
 abbrev pub same : Side → Side → Bool
@@ -136,7 +146,7 @@ solutionOf p ν E t k = chosen p (known ν E (fill p)) true t k
 
 -- the flag of a node: 1 if it is in the max tree, 2 if in the min tree, 3 if in both, else 0
 abbrev pub flag : (ℕ → ℕ) → (ℕ → Bool) → Tree → ℕ → ℕ
-flag ν E t k = cond (solutionOf Max ν E t k) 1 0 + cond (solutionOf Min ν E t k) 2 0
+flag ν E t k = cond (solutionOf Max ν E t k) inMax 0 + cond (solutionOf Min ν E t k) inMin 0
 
 -- a certificate that no other undercuts in the number of leaves
 pub record Smallest (ν : ℕ → ℕ) (t : Tree) (g h : ℕ → Bool) : Type 0 where

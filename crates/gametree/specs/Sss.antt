@@ -105,12 +105,11 @@ abbrev pub step : (ℕ → ℕ) → Layout → List State → Step
 step ν Y [] = empty
 step ν Y (s ∷ ss) = replace ν Y (pick Y s ss) (pick Y s ss .state .status)
 
--- how a run ends: with the root's value, when the root, SOLVED, is taken; with no state on the list (01: question 15);
--- or past its bound on states taken. The last two never happen: `sss-minimax` in Theorems.
+-- how a run ends: with the root's value, when the root, SOLVED, is taken; or with no state found while the root is
+-- unsolved (01: a "no" to question 15), which never happens: `sss-minimax` in Theorems
 pub data End : Type 0 where
   finished : (value : ℕ) → End
   noState : End
-  outOfFuel : End
 
 -- what a run gives: its end, the leaves evaluated, in order, and how many replacements there were
 pub record Ran : Type 0 where
@@ -129,9 +128,9 @@ follow (quiet M) rest =
 follow (evaluating n M) rest =
     record { end = rest M .end; evaluated = n ∷ rest M .evaluated; replacements = suc (rest M .replacements) }
 
--- the run from a list by a step function; the number bounds the states taken
+-- the run from a list by a step function; the number bounds the states taken, and a run past it finds no state
 abbrev pub runFrom : (List State → Step) → ℕ → List State → Ran
-runFrom next zero L = ends outOfFuel
+runFrom next zero L = ends noState
 runFrom next (suc f) L = follow (next L) (λ M. runFrom next f M)
 
 -- the list at the start: the root, LIVE, with the greatest merit

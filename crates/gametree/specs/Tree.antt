@@ -26,8 +26,11 @@ mutual
     last : Tree → Kids
     _then_ : Tree → Kids → Kids
 
--- a leaf's score is its value plus 32,001, so that scores are 1 to 64,001; `least` and `greatest` are document 01's
--- -32,001 and 32,001 (minus and plus infinity in the sources)
+-- a leaf's score is its value plus 32,001, so that scores are 1 to 64,001: the score of the value 0
+abbrev pub zeroScore : ℕ
+zeroScore = 32001
+
+-- document 01's -32,001 and 32,001 (minus and plus infinity in the sources)
 abbrev pub least : ℕ
 least = 0
 

@@ -11,7 +11,7 @@ use borrow.Author.Tests.{lt-ltb, le-ltb, ltb-false}
 use Rattle.frames.specs.declared.Rejection.{Rejection}
 use Rattle.frames.specs.declared.Checked.{Checked}
 use Rattle.frames.specs.declared.Checked.the-variants.{Nodes, Rejected as RejectedFile}
-use Rattle.frames.specs.Frame.{frameSize, maxNodes}
+use Rattle.frames.specs.Frame.{frameSize, maxNodes, maxTable}
 use Rattle.frames.specs.Check.{Accepted}
 use Rattle.frames.proofs.Acceptance.{accepted-formed}
 use Rattle.treefile.specs.Lines.{decoded}
@@ -44,7 +44,7 @@ module _ (f : List ℕ) where
   nodes-rejected : {m : ℕ} {r : Rejection} → RejectedFile r ≡ Nodes m → ⊥
   nodes-rejected e = let z : _≡_ {A = ℕ} 0 1 = cc in omega arith
 
-  module _ (fresh : List ℕ) (room : frameSize * maxNodes ≤ length fresh) (r : Rejection)
+  module _ (fresh : List ℕ) (room : maxTable ≤ length fresh) (r : Rejection)
       (e : RejectedFile r ≡ readAnswer f fresh) where
     -- with a roomy table the reader rejects by questions 1 to 9 only
     file-rejected : (q : Option Rejection) → fileRejection f ≡ q → q ≡ some r

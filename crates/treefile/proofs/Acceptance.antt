@@ -10,7 +10,7 @@ use lib.Seq.{take-at}
 use native.Mathlib.Omega.{arith}
 use borrow.Author.Tests.{lt-ltb, le-leb, eq-eqb, ltb-true, leb-true}
 use Rattle.frames.specs.declared.Checked.the-variants.{Nodes}
-use Rattle.frames.specs.Frame.{frameSize, maxNodes, frames}
+use Rattle.frames.specs.Frame.{frameSize, frames, maxTable}
 use Rattle.frames.specs.Check.{check1, check2, check3, rejection, Accepted}
 use Rattle.frames.proofs.Stated.{ask-yes, yes-ask, both-passed, passed-both}
 use Rattle.frames.proofs.Asked.{answer-nodes}
@@ -70,7 +70,7 @@ module _ (f : List ℕ) where
       let t = decoded f in (
         q .2,
         passed-both (check1 t) _ (yes-ask _ _ _ (lt-ltb 0 (length t) (omega arith)))
-            (passed-both (check2 t) _ (yes-ask _ _ _ (le-leb (length t) (frameSize * maxNodes) (omega arith)))
+            (passed-both (check2 t) _ (yes-ask _ _ _ (le-leb (length t) maxTable (omega arith)))
             (passed-both (check3 t) _ (yes-ask _ _ _ (eq-eqb (length t % frameSize) 0 (omega arith))) (q .3))),
       )
 
@@ -85,7 +85,7 @@ module _ (f : List ℕ) where
       let b = both-passed (check2 t) _ (a .1) in
       let c = both-passed (check3 t) _ (b .1) in
       let some-bytes = ltb-true 0 (length t) (ask-yes _ _ _ (a .0)) in
-      let few-bytes = leb-true (length t) (frameSize * maxNodes) (ask-yes _ _ _ (b .0)) in
+      let few-bytes = leb-true (length t) maxTable (ask-yes _ _ _ (b .0)) in
       passed-both (check1 f) _ (yes-ask _ _ _ (lt-ltb 0 (length f) (omega arith)))
       (passed-both (fileCheck2 f) _ (yes-ask _ _ _ (le-leb (length f) maxFile (omega arith)))
       (passed-both (fileCheck3 f) _ e (c .1)))

@@ -9,7 +9,7 @@ use lib.Seq.{sets, sets-eq, take-at, length-take-le}
 use native.Mathlib.Omega.{arith}
 use Rattle.frames.specs.declared.Rejection.{Rejection}
 use Rattle.frames.specs.declared.Checked.the-variants.{Nodes, Rejected}
-use Rattle.frames.specs.Frame.{frameSize, maxNodes, frames}
+use Rattle.frames.specs.Frame.{frameSize, frames, maxTable}
 use Rattle.treefile.specs.declared.Frame.{Frame}
 use Rattle.treefile.specs.declared.Cursor.{Cursor}
 use Rattle.treefile.specs.declared.Line.the-variants.{Read, NoLine}
@@ -57,7 +57,7 @@ decoding-none f table =
       filled = refl;
     }
 
-module _ (f table : List ℕ) (at n : ℕ) (room : frameSize * maxNodes ≤ length table) (size : length f ≤ maxFile)
+module _ (f table : List ℕ) (at n : ℕ) (room : maxTable ≤ length table) (size : length f ≤ maxFile)
     (d : Decoding f table at n) where
   -- at the end of the file
   pub decoding-all : length f ≤ at → Decoded f (fileCheck3 f) table (Nodes n)

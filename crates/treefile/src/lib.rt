@@ -14,7 +14,7 @@ ghost use mathlib.Core.Bool.{true};
 ghost use Prim.Native.Nat.{_+_, _*_, _<_, _≤_};
 ghost use lib.ListN.{length, getD};
 ghost use lib.Seq.{sets};
-ghost use Rattle.frames.specs.Frame.{frameSize, maxNodes};
+ghost use Rattle.frames.specs.Frame.{frameSize, maxTable};
 ghost use Rattle.treefile.specs.Digit.{digitOf};
 ghost use Rattle.treefile.specs.Line.{allDigits, isLine, isLineAt, bytesOf, frameOf, frameBytes, lineAt};
 ghost use Rattle.treefile.specs.File.{maxFile, fileCheck3, fileRejection, readAnswer, tableAfter};
@@ -100,7 +100,7 @@ pub fn digit(byte: u8) -> u8
 
 // Questions 1 to 9: the number of nodes, whose frames then stand at the table's front, or the first rejection.
 fn check_file(file: &[u8], table: &mut [u8]) -> Checked
-    requires { ⌜ frameSize * maxNodes ≤ length (now table) ⌝ }
+    requires { ⌜ maxTable ≤ length (now table) ⌝ }
     ensures { λ r. ⌜ Decoded (now (file .entry)) (fileRejection (now (file .entry))) (now (table .exit)) r ⌝ }
 {
     if file.len() == 0 {
@@ -119,7 +119,7 @@ fn check_file(file: &[u8], table: &mut [u8]) -> Checked
 
 // Question 3: the number of lines, whose frames then stand at the table's front, or the rejection.
 fn decode(file: &[u8], table: &mut [u8]) -> Checked
-    requires { ⌜ (length (now file) ≤ maxFile) × (frameSize * maxNodes ≤ length (now table)) ⌝ }
+    requires { ⌜ (length (now file) ≤ maxFile) × (maxTable ≤ length (now table)) ⌝ }
     ensures { λ r. ⌜ Decoded (now (file .entry)) (fileCheck3 (now (file .entry))) (now (table .exit)) r ⌝ }
 {
     let mut cursor = Cursor { at: 0 };

@@ -3,7 +3,7 @@ use Prim.Native.Nat.{ℕ, _≤_, _<_}
 use mathlib.Core.List.{List}
 use lib.ListN.{length, getD}
 use Rattle.gametree.specs.declared.Side.the-variants.{Max, Min}
-use Rattle.gametree.specs.Certificate.{Certifies}
+use Rattle.gametree.specs.Certificate.{Certifies, inBoth}
 use Rattle.frames.specs.Frame.{frames}
 use Rattle.frames.specs.Tree.{tree, valuation}
 use Rattle.frames.specs.Check.{Accepted}
@@ -14,5 +14,5 @@ use Rattle.certificate.specs.Buffer.{member}
 pub record Certificate (t flags : List ℕ) (v : ℕ) : Type 0 where
   pub accepted : Accepted t
   pub enough : frames t ≤ length flags
-  pub inRange : (i : ℕ) → i < frames t → getD flags i 0 ≤ 3
+  pub inRange : (i : ℕ) → i < frames t → getD flags i 0 ≤ inBoth
   pub certifies : Certifies (valuation t) (tree t) (member Max flags) (member Min flags) v

@@ -6,6 +6,7 @@ use lib.Dec.{leb, eqb}
 use lib.ListN.{length, getD}
 use Rattle.gametree.specs.declared.Side.{Side}
 use Rattle.gametree.specs.declared.Side.the-variants.{Max, Min}
+use Rattle.gametree.specs.Certificate.{inBoth}
 use Rattle.frames.specs.declared.Rejection.{Rejection}
 use Rattle.frames.specs.Frame.{frames}
 use Rattle.frames.specs.Rejection.{ask, _andThen_, eachNode}
@@ -19,7 +20,7 @@ use Rattle.verify.specs.Value.{treeValue}
 
 -- 11: is every flag 0 to 3? The place of a "no" is the lowest such node.
 abbrev pub check11 : List ℕ → List ℕ → Option Rejection
-check11 t flags = eachNode (λ i. ask (leb (getD flags i 0) 3) 11 i) 0 (frames t)
+check11 t flags = eachNode (λ i. ask (leb (getD flags i 0) inBoth) 11 i) 0 (frames t)
 
 -- do side p's flags form a solution tree, as question q? The place of a "no" is the lowest node whose rule breaks.
 abbrev pub checkTree : ℕ → Side → List ℕ → List ℕ → Option Rejection

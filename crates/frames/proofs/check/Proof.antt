@@ -6,7 +6,7 @@ use mathlib.Core.List.{List}
 use lib.ListN.{length}
 use borrow.Author.Tests.{lt-ltb, le-ltb, le-leb, lt-leb, ne-eqb}
 use borrow.Author.Needs.{needs}
-use Rattle.frames.specs.Frame.{frameSize, maxNodes, frames}
+use Rattle.frames.specs.Frame.{frameSize, frames, maxTable}
 use Rattle.frames.specs.Rejection.{answer}
 use Rattle.frames.specs.Check.{framesRejection, rejection, checked}
 use Rattle.frames.proofs.Asked.{refused}
@@ -20,17 +20,17 @@ module _ (t : List ℕ) where
   empty z = rw (le-ltb 0 (length t) (omega arith))
 
   module _ (h : length t ≡ 0 → ⊥) where
-    too-long : frameSize * maxNodes < length t → refused 2 0 ≡ checked t
+    too-long : maxTable < length t → refused 2 0 ≡ checked t
     unfolding rejection
-    too-long l = rw (lt-ltb 0 (length t) (omega arith), lt-leb (length t) (frameSize * maxNodes) l)
+    too-long l = rw (lt-ltb 0 (length t) (omega arith), lt-leb (length t) maxTable l)
 
-    module _ (l : length t ≤ frameSize * maxNodes) where
+    module _ (l : length t ≤ maxTable) where
       left-over : (length t % frameSize ≡ 0 → ⊥) → refused 3 (length t / frameSize) ≡ checked t
       unfolding rejection
       left-over n =
           rw (
             lt-ltb 0 (length t) (omega arith),
-            le-leb (length t) (frameSize * maxNodes) l,
+            le-leb (length t) maxTable l,
             ne-eqb (length t % frameSize) 0 n,
           )
 

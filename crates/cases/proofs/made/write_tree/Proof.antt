@@ -2,13 +2,14 @@
 use Prim.Native.Nat.{_≤_, _<_, _-_}
 use mathlib.Core.Path.{_≡_}
 use lib.ListN.{length}
+use Rattle.frames.specs.Frame.{twoBytes}
 use borrow.Author.Needs.{needs}
 use Rattle.cases.proofs.made.write_tree.Statement.{statement}
 use Rattle.cases.proofs.made.write_tree.Tie as tie
 
 abbrev Inv-loop : tie.InvT-loop
 Inv-loop file₀ width inner nodes first₀ node₀ file first node =
-    (node ≤ nodes) × (length file ≡ length file₀) × (first < 65536)
+    (node ≤ nodes) × (length file ≡ length file₀) × (first < twoBytes)
 
 abbrev μ-loop : tie.MeasureT-loop
 μ-loop file₀ width inner nodes first₀ node₀ file first node = nodes - node
