@@ -12,9 +12,9 @@ use Rattle.gametree.specs.declared.Side.{Side}
 use Rattle.gametree.specs.declared.Side.the-variants.{Max, Min}
 use Rattle.gametree.specs.Tree.{Tree, other, minimax, minimaxKids}
 use Rattle.gametree.specs.Bounds.{known}
-use Rattle.gametree.specs.Certificate.{same, ReadOff, ReadEach, ReadFirst, fill, solutionOf}
+use Rattle.gametree.specs.Certificate.{same, fill, solutionOf}
 use Rattle.gametree.proofs.Choice.{cond-cases}
-use Rattle.gametree.proofs.ReadOff.{read-root, fits}
+use Rattle.gametree.proofs.ReadOff.{ReadOff, ReadEach, ReadFirst, read-root, fits}
 use Rattle.frames.specs.Frame.{frames, firstChild, childCount, next}
 use Rattle.frames.specs.Place.{sideOf}
 use Rattle.frames.specs.Tree.{kidsFrom, treeAt, tree, valuation}

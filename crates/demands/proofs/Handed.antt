@@ -10,12 +10,12 @@ use Rattle.gametree.specs.declared.Side.the-variants.{Max, Min}
 use Rattle.gametree.specs.Lists.{All, among}
 use Rattle.gametree.specs.Tree.{minimax, Proper}
 use Rattle.gametree.specs.Bounds.{known}
-use Rattle.gametree.specs.Certificate.{inside, flag, fill, ReadOff}
+use Rattle.gametree.specs.Certificate.{inside, flag, fill}
 use Rattle.gametree.specs.Move.{rootMove}
 use Rattle.gametree.specs.Searches.{Searched, SameResults}
 use Rattle.gametree.proofs.Lists.{all-among, all-at, all-zip}
 use Rattle.gametree.proofs.Bounds.{every-map}
-use Rattle.gametree.proofs.ReadOff.{fits}
+use Rattle.gametree.proofs.ReadOff.{ReadOff, fits}
 use Rattle.gametree.proofs.Certificates.{flag-inside, read-bounds}
 use Rattle.gametree.proofs.Theorems.{search-decides, local-results}
 use Rattle.frames.specs.Frame.{frames}

@@ -8,9 +8,9 @@ use Rattle.gametree.specs.Tree.{Side, Max, Min, Tree, leaf, inner, Kids,
 use Rattle.gametree.specs.Tree.{EveryLeafKids, Score, Proper}
 use Rattle.gametree.specs.Bounds.{known, Decided}
 use Rattle.gametree.specs.Certificate.{SolutionTree, worst, solutionValue, solutionValueKids, inside, same}
-use Rattle.gametree.specs.Certificate.{ReadOff, fill, solutionOf, flag, LeavesIn, FlagsCertify}
+use Rattle.gametree.specs.Certificate.{fill, solutionOf, flag, LeavesIn, FlagsCertify}
 use Rattle.gametree.proofs.Bounds.{every-map, minimax-score, known-capped}
-use Rattle.gametree.proofs.ReadOff.{Finite, read-solution, fits}
+use Rattle.gametree.proofs.ReadOff.{ReadOff, Finite, read-solution, fits}
 
 -- a side's bound: where it is finite, at a leaf and at a tree with real scores; and where the bounds meet
 finite-known : (p : Side) (b : Bool) (v : ℕ) → Finite p (cond b v (fill p)) → b ≡ true

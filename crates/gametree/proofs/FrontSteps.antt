@@ -11,12 +11,26 @@ use Rattle.gametree.specs.Lists.{All}
 use Rattle.gametree.specs.Tree.{Side, Max, Min, Tree, leaf, inner, Kids, last, _then_, number, In, InKids}
 use Rattle.gametree.specs.Layout.{root, under, Layout, firstOf, othersOf, Answers, AnswersKids, Describes}
 use Rattle.gametree.specs.Sss.{Status, LIVE, SOLVED, State, live, solved, Taken, choose, beats, pick, Step, empty}
-use Rattle.gametree.specs.Sss.{stop, quiet, evaluating, purge, replaceLive, replaceSolved, replace, step, Picks}
-use Rattle.gametree.specs.Sss.{Together, ListAfter, atStart, afterQuiet, afterEvaluating}
+use Rattle.gametree.specs.Sss.{stop, quiet, evaluating, purge, replaceLive, replaceSolved, replace, step}
+use Rattle.gametree.specs.Sss.{ListAfter, atStart, afterQuiet, afterEvaluating}
 use Rattle.gametree.proofs.Lists.{all-append, all-map}
 use Rattle.gametree.proofs.SssSteps.{purge-append, purge-outside, purge-below}
 use Rattle.gametree.proofs.Fronts.{Front, FrontKids, alone-front, ChildIn, Beside, Within, top, underMax}
 use Rattle.gametree.proofs.Fronts.{underMin, plug, located}
+
+-- k is what is taken from the list
+abbrev pub Picks : Layout → List State → Taken → Type 0
+Picks Y [] k = ⊥
+Picks Y (s ∷ ss) k = pick Y s ss ≡ k
+
+-- the states below p that stand before the one taken are the last of these, those behind it the first
+pub record Together (Y : Layout) (p : ℕ) (k : Taken) : Type 0 where
+  pub lastLeft : List State
+  pub firstRight : List State
+  pub left : k .left ≡ purge Y p (k .left) ++ lastLeft
+  pub right : k .right ≡ firstRight ++ purge Y p (k .right)
+  pub belowLeft : All (λ s. Y .above p (s .node) ≡ true) lastLeft
+  pub belowRight : All (λ s. Y .above p (s .node) ≡ true) firstRight
 
 beside-child : (ks : Kids) (u : Tree) (F G : List State) → Beside ks u F G → ChildIn u ks
 beside-child (last t) u F G b = b .0

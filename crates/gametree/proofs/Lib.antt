@@ -29,8 +29,8 @@ pub mod Fronts
 pub mod FrontSteps
 pub mod SssLocal
 pub mod OwnLayout
-pub mod SssLayouts
 -- certificates
+pub mod Counting
 pub mod Solution
 pub mod Checker
 pub mod ReadOff

@@ -13,7 +13,7 @@ use Rattle.gametree.specs.Tree.{Side, Max, Min, Tree, leaf, inner, Kids,
 use Rattle.gametree.specs.Tree.{In, InKids, Proper}
 use Rattle.gametree.specs.Certificate.{solutionValue, solutionValueKids, pairLeaves, pairLeavesKids, inside, flag}
 use Rattle.gametree.specs.Certificate.{Smallest, FlagsCertify}
-use Rattle.gametree.specs.Counting.{members, rulesHold, rulesHoldKids, certificate?}
+use Rattle.gametree.proofs.Counting.{members, rulesHold, rulesHoldKids, certificate?}
 use Rattle.gametree.proofs.Choice.{cond-cases, true-not-false, or-left, or-right}
 use Rattle.gametree.proofs.Lists.{all-left, all-right, all-map, all-at, among-left, among-right}
 use Rattle.gametree.proofs.Nodes.{number-in}

@@ -9,8 +9,7 @@ use Rattle.gametree.specs.Mtd.{mtd}
 use Rattle.gametree.specs.Layout.{Layout, Describes}
 use Rattle.gametree.specs.Sss.{Step, takenMerit, State, empty, stop, quiet, evaluating, step, End, Ran, runFrom}
 use Rattle.gametree.specs.Sss.{start, sssOver, ListAfter, atStart, afterQuiet, afterEvaluating, resumed}
-use Rattle.gametree.specs.Sss.{stepFirst}
-use Rattle.gametree.proofs.SssSteps.{Takes, Steps, done, quietly, evaluates}
+use Rattle.gametree.proofs.SssSteps.{stepFirst, Takes, Steps, done, quietly, evaluates}
 use Rattle.gametree.proofs.MtdValue.{mtd-right}
 use Rattle.gametree.proofs.Merits.{steps-fall}
 use Rattle.gametree.proofs.Work.{full, full-size}

@@ -10,7 +10,6 @@ use Rattle.gametree.specs.Tree.{Tree, greatest, minimax, number, size, S
 use Rattle.gametree.specs.Mtd.{Memo, memoHigh, pass, Run, run, fresh, mtd}
 use Rattle.gametree.specs.Layout.{root, Layout, Answers}
 use Rattle.gametree.specs.Sss.{SOLVED, State, live, solved, stop, step, finished, Ran, runFrom, sssOver}
-use Rattle.gametree.specs.Sss.{stepFirst, sssFirst}
 use Rattle.gametree.proofs.Choice.{cond-cases}
 use Rattle.gametree.proofs.MtdSound.{Kept, sound}
 use Rattle.gametree.proofs.MtdValue.{kept-lower, fresh-kept, mtd-right}
@@ -77,20 +76,6 @@ module _ (ν : ℕ → ℕ) (Y : Layout) (v : ℕ) where
         replaced = omega (arith, q .replaced);
       })
 
-  -- and taking the first on the list is the same
-  go-first : (f : ℕ) {a b : ℕ} {L N : List State} {w : List ℕ} → Steps ν Y a L w N b → Takes ν Y N (stop v) → a < f
-      → runFrom (λ L. step ν Y L) f L ≡ runFrom (λ L. stepFirst ν Y L) f L
-  go-first zero s e l = absurd (omega (arith, l))
-  go-first (suc f) (done o k) e l = rw (e .by-tree, e .by-list) refl
-  go-first (suc f) (quietly {M = M} t k p) e l =
-      rw (t .by-tree, t .by-list) (ap
-      (λ (r : Ran). record { end = r .end; evaluated = r .evaluated; replacements = suc (r .replacements) })
-      (go-first f p e (omega arith)))
-  go-first (suc f) (evaluates {n = n} t k p) e l =
-      rw (t .by-tree, t .by-list) (ap
-      (λ (r : Ran). record { end = r .end; evaluated = n ∷ r .evaluated; replacements = suc (r .replacements) })
-      (go-first f p e (omega arith)))
-
 -- the root, SOLVED, stops the run
 pub root-stops : (ν : ℕ → ℕ) (Y : Layout) (t : Tree) (v : ℕ) → Y .link (number t) ≡ root → size t ≤ Y .nodes
     → Takes ν Y (solved (number t) v ∷ []) (stop v)
@@ -115,9 +100,3 @@ module _ (ν : ℕ → ℕ) (Y : Layout) (t : Tree) (p : Answers Y t) (o : Y .li
       subst (λ v. Gives (sssOver ν Y t) v (mtd ν t .evaluated) (full t)) (mtd-right ν t h .value)
       (go-steps ν Y (mtd ν t .value) (2 * size t) (mtd-steps ν Y t p z h) (root-stops ν Y t (mtd ν t .value) o z)
       (full-size t))
-
-  -- the order of the list is the order in the tree
-  pub sss-is-first : sssOver ν Y t ≡ sssFirst ν Y t
-  sss-is-first =
-      go-first ν Y (mtd ν t .value) (2 * size t) (mtd-steps ν Y t p z h) (root-stops ν Y t (mtd ν t .value) o z)
-      (full-size t)

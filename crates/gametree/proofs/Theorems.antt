@@ -7,45 +7,43 @@ use mathlib.Core.Path.{_≡_, refl, sym, _∙_, ap, ap₂, subst}
 use mathlib.Core.Logic.{_↔_}
 use mathlib.Core.Bool.{Bool, true, false, cond}
 use mathlib.Core.Option.{Option}
-use mathlib.Core.List.{List, [], _++_, map}
+use mathlib.Core.List.{List, _++_, map}
 use lib.ListN.{length}
 use Rattle.gametree.specs.Lists.{All, among, Once, Subsequence, different}
 use Rattle.gametree.specs.Tree.{Side, Max, Min, Tree, leaf, inner, Kids, least, greatest, minimax, size, leaves}
 use Rattle.gametree.specs.Tree.{leafCount, In, EveryLeaf, Score, Scored, Distinct, Proper}
 use Rattle.gametree.specs.Bounds.{known, low, high, bestOf, Decided}
-use Rattle.gametree.specs.AlphaBeta.{reached, clamp, alphaBeta, fullWindow}
-use Rattle.gametree.specs.Mtd.{Memo, memoHigh, pass, fresh, mtd, Marks}
-use Rattle.gametree.specs.Layout.{under, Layout, Describes, SameOn, layoutOf}
-use Rattle.gametree.specs.Sss.{Taken, Picks, Together, takenMerit, State, empty, step, finished, runFrom, start}
-use Rattle.gametree.specs.Sss.{sssOver, ListAfter, resumed, stepFirst, sssFirst}
-use Rattle.gametree.specs.Certificate.{Rule, SolutionTree, solutionValue, Certifies, pairLeaves, inside, chosen}
-use Rattle.gametree.specs.Certificate.{ReadOff, fill, flag, Smallest, FlagsCertify}
-use Rattle.gametree.specs.Counting.{members, required, certificate?}
+use Rattle.gametree.specs.AlphaBeta.{reached, fullWindow}
+use Rattle.gametree.specs.Mtd.{fresh, mtd}
+use Rattle.gametree.specs.Layout.{under, Layout, Describes, layoutOf}
+use Rattle.gametree.specs.Sss.{Taken, takenMerit, State, empty, step, finished, runFrom, start}
+use Rattle.gametree.specs.Sss.{sssOver, ListAfter, resumed}
+use Rattle.gametree.specs.Certificate.{Rule, SolutionTree, solutionValue, Certifies, pairLeaves, chosen}
+use Rattle.gametree.specs.Certificate.{Smallest, FlagsCertify}
+use Rattle.gametree.proofs.Counting.{members, required}
 use Rattle.gametree.specs.Move.{rootMove, boundMove}
 use Rattle.gametree.specs.Searches.{Searched, byAlphaBeta, byMtd, bySss, SameResults}
 use Rattle.gametree.specs.ClosedForm.{unrivalled}
 use Rattle.gametree.proofs.Lists.{all-map, all-among, all-at, once-length, sub-all, sub-once}
 use Rattle.gametree.proofs.Nodes.{leaves-once}
-use Rattle.gametree.proofs.Bounds.{minimax-score, low≤, ≤high, low-mono, high-mono, minimaxKids-best}
+use Rattle.gametree.proofs.Bounds.{minimax-score, minimaxKids-best}
 use Rattle.gametree.proofs.Bounds.{known-local}
 use Rattle.gametree.proofs.Window.{alphaBeta-value, alphaBeta-evaluated, reached-ordered, alphaBeta-local}
 use Rattle.gametree.proofs.Window.{alphaBeta-decided}
 use Rattle.gametree.proofs.MtdValue.{mtd-right}
-use Rattle.gametree.proofs.MtdMarks.{pass-marks, fresh-marks, mtd-marks, memoBound-is}
+use Rattle.gametree.proofs.MtdMarks.{mtd-marks}
 use Rattle.gametree.proofs.MtdPasses.{passes-few}
 use Rattle.gametree.proofs.MtdLocal.{run-local, fresh-agree}
 use Rattle.gametree.proofs.Work.{full-size}
-use Rattle.gametree.proofs.SssRun.{sss-is-mtd, sss-is-first}
+use Rattle.gametree.proofs.SssSteps.{stepFirst}
+use Rattle.gametree.proofs.SssRun.{sss-is-mtd}
 use Rattle.gametree.proofs.Merits.{list-unique, run-falls, merits-capped, first-merit}
 use Rattle.gametree.proofs.SssLists.{list-reached, resume}
 use Rattle.gametree.proofs.SssLocal.{runFrom-local}
 use Rattle.gametree.proofs.OwnLayout.{own-layout}
-use Rattle.gametree.proofs.FrontSteps.{front-in, list-front, list-together}
-use Rattle.gametree.proofs.SssLayouts.{sss-alike}
+use Rattle.gametree.proofs.FrontSteps.{Picks, Together, front-in, list-front, list-together}
 use Rattle.gametree.proofs.Solution.{solution-bound, certified, rule-counted, counted-rule}
-use Rattle.gametree.proofs.Checker.{certificate-passes, passed-certifies}
-use Rattle.gametree.proofs.ReadOff.{fits, read-unique}
-use Rattle.gametree.proofs.Certificates.{flag-inside, decided-certify}
+use Rattle.gametree.proofs.Certificates.{decided-certify}
 use Rattle.gametree.proofs.Counts.{once-count}
 use Rattle.gametree.proofs.SmallestPair.{smallest≤, smallest-found}
 use Rattle.gametree.proofs.Moves.{alphaBeta-move, boundMove-local}
@@ -70,26 +68,11 @@ pub bounds-inner : (ν : ℕ → ℕ) (E : ℕ → Bool) (n : ℕ) (s : Side) (k
     → (low ν E (inner n s ks) ≡ bestOf s (low ν E) ks) × (high ν E (inner n s ks) ≡ bestOf s (high ν E) ks)
 bounds-inner ν E n s ks = (minimaxKids-best (known ν E least) s ks, minimaxKids-best (known ν E greatest) s ks)
 
--- the minimax value lies between the bounds
-pub bounds-enclose : (ν : ℕ → ℕ) (E : ℕ → Bool) (t : Tree) → Scored ν t
-    → (low ν E t ≤ minimax ν t) × (minimax ν t ≤ high ν E t)
-bounds-enclose ν E t h = (low≤ ν E t, ≤high ν E t h)
-
--- with more evaluated leaves the bounds are no wider
-pub bounds-narrow : (ν : ℕ → ℕ) (E F : ℕ → Bool) → ((n : ℕ) → E n ≡ true → F n ≡ true) → (t : Tree) → Scored ν t
-    → (low ν E t ≤ low ν F t) × (high ν F t ≤ high ν E t)
-bounds-narrow ν E F f t h = (low-mono ν E F f t, high-mono ν E F f t h)
-
 -- the minimax value is a real score
 pub value-score : (ν : ℕ → ℕ) (t : Tree) → Scored ν t → Score (minimax ν t)
 value-score ν t h = minimax-score ν t h
 
 -- ALPHA-BETA
-
--- in a window alpha-beta gives the minimax value brought into it, and evaluates the leaves of Baudet's condition
-pub alphaBeta-window : (ν : ℕ → ℕ) (α β : ℕ) → α < β → (t : Tree)
-    → (alphaBeta ν α β t .value ≡ clamp α β (minimax ν t)) × (alphaBeta ν α β t .evaluated ≡ reached ν α β t)
-alphaBeta-window ν α β o t = (alphaBeta-value ν α β o t, alphaBeta-evaluated ν α β o t)
 
 -- with the full window it evaluates just the leaves whose alpha is less than their beta
 pub alphaBeta-leaves : (ν : ℕ → ℕ) (t : Tree) → fullWindow ν t .evaluated ≡ reached ν least greatest t
@@ -100,19 +83,6 @@ pub alphaBeta-ordered : (ν : ℕ → ℕ) (t : Tree) → Subsequence (fullWindo
 alphaBeta-ordered ν t = rw (alphaBeta-leaves ν t) (reached-ordered ν least greatest t)
 
 -- MTD
-
--- the memory marks the leaves evaluated so far: none at the start
-pub memo-start : (t : Tree) → Marks [] t (fresh t)
-memo-start t = fresh-marks t
-
--- and after a pass those of the pass too
-pub memo-pass : (ν : ℕ → ℕ) (γ : ℕ) (w : List ℕ) (t : Tree) (m : Memo t) → Distinct t → Marks w t m
-    → Marks (w ++ pass ν γ t m .evaluated) t (pass ν γ t m .next)
-memo-pass ν γ w t m d h = pass-marks ν γ w t m d h .marks
-
--- the high that the memory gives a node is the high bound of those leaves
-pub memo-high : (ν : ℕ → ℕ) (w : List ℕ) (t : Tree) (m : Memo t) → Marks w t m → memoHigh ν t m ≡ high ν (among w) t
-memo-high ν w t m h = memoBound-is greatest ν w t m h
 
 -- MTD makes at most one pass more than there are different scores among the leaves that it evaluates
 pub mtd-passes : (ν : ℕ → ℕ) (t : Tree) → Proper ν t → mtd ν t .passes ≤ suc (different (map ν (mtd ν t .evaluated)))
@@ -136,14 +106,6 @@ module _ (ν : ℕ → ℕ) (t : Tree) (h : Scored ν t) (Y : Layout) (d : Descr
   -- it makes at most twice as many replacements as there are nodes, less 1
   pub sss-replacements : sssOver ν Y t .replacements < 2 * size t
   sss-replacements = lt-of-le-of-lt (sss-is-mtd ν Y t (d .answers) (d .top) (d .enough) h .replaced) (full-size t)
-
-  -- taking the first state of greatest merit on the list, whatever its place in the tree, is the same
-  pub sss-first : sssOver ν Y t ≡ sssFirst ν Y t
-  sss-first = sss-is-first ν Y t (d .answers) (d .top) (d .enough) h
-
-  -- over a layout that answers alike for the nodes of the tree it is the same run
-  pub sss-layout : (Z : Layout) → SameOn Z Y t → sssOver ν Z t ≡ sssOver ν Y t
-  sss-layout Z a = sss-alike ν Z Y t a d
 
   module _ {k : ℕ} {w : List ℕ} {L : List State} (r : ListAfter ν Y t k w L) where
     -- a list that it reaches has an entry for each node at most
@@ -208,14 +170,6 @@ pub rule-counting : (p q : Side) (b : Bool) (g : ℕ → Bool) (ks : Kids)
     → Rule p q b g ks ↔ (members g ks ≡ required p q b ks)
 rule-counting p q b g ks = (rule-counted p q b g ks, counted-rule p q b g ks)
 
--- the test of a certificate passes exactly the certificates
-pub certificate-test : (ν : ℕ → ℕ) (t : Tree) (g h : ℕ → Bool)
-    → (certificate? ν t g h ≡ true) ↔ ((v : ℕ) × Certifies ν t g h v)
-certificate-test ν t g h = (
-  λ e. (solutionValue Max ν g t, passed-certifies ν t g h e),
-  λ c. certificate-passes ν t g h (c .0) (c .1),
-)
-
 -- a max tree's value is at least the minimax value, a min tree's at most
 pub solution-bounds : (ν : ℕ → ℕ) (t : Tree) (g : ℕ → Bool)
     → (SolutionTree Max g t → minimax ν t ≤ solutionValue Max ν g t)
@@ -225,12 +179,6 @@ solution-bounds ν t g = (solution-bound Max ν g t, solution-bound Min ν g t)
 -- so what a certificate certifies is the minimax value
 pub certificate-minimax : (ν : ℕ → ℕ) (t : Tree) (g h : ℕ → Bool) (v : ℕ) → Certifies ν t g h v → v ≡ minimax ν t
 certificate-minimax ν t g h v c = certified ν t g h v c
-
--- a set that is read off the bounds node by node is the one that the flags hold
-pub flags-unique : (p : Side) (ν : ℕ → ℕ) (E g : ℕ → Bool) (t : Tree) → Distinct t
-    → ReadOff p (known ν E (fill p)) g true t
-    → (k : ℕ) → In k t → g k ≡ inside p (flag ν E t k)
-flags-unique p ν E g t d r = read-unique p _ g _ true t r (fits p _ _ true t d (λ k i. flag-inside p ν E t k))
 
 -- a smallest certificate exists
 pub smallest-exists : (ν : ℕ → ℕ) (t : Tree) → Proper ν t → (g : ℕ → Bool) × (h : ℕ → Bool) × Smallest ν t g h

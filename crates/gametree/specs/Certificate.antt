@@ -118,22 +118,6 @@ abbrev mutual
   chosenFirst p μ b v (t then ts) k =
       chosen p μ (b && eqb (minimax μ t) v) t k || chosenFirst p μ (b && not (eqb (minimax μ t) v)) v ts k
 
--- the set g is side p's tree read off μ, where b says whether the root is in it: the rule of `chosen`, node by node
-abbrev mutual
-  pub ReadOff : Side → (ℕ → ℕ) → (ℕ → Bool) → Bool → Tree → Type 0
-  ReadOff p μ g b (leaf n) = g n ≡ b
-  ReadOff p μ g b (inner n q ks) =
-      (g n ≡ b) × cond (same p q) (ReadEach p μ g b ks) (ReadFirst p μ g b (minimaxKids μ q ks) ks)
-
-  pub ReadEach : Side → (ℕ → ℕ) → (ℕ → Bool) → Bool → Kids → Type 0
-  ReadEach p μ g b (last t) = ReadOff p μ g b t
-  ReadEach p μ g b (t then ts) = ReadOff p μ g b t × ReadEach p μ g b ts
-
-  pub ReadFirst : Side → (ℕ → ℕ) → (ℕ → Bool) → Bool → ℕ → Kids → Type 0
-  ReadFirst p μ g b v (last t) = ReadOff p μ g (b && eqb (minimax μ t) v) t
-  ReadFirst p μ g b v (t then ts) =
-      ReadOff p μ g (b && eqb (minimax μ t) v) t × ReadFirst p μ g (b && not (eqb (minimax μ t) v)) v ts
-
 -- the max tree is read off the highs that the evaluated leaves E give, where another leaf has the greatest score, the
 -- min tree off the lows
 abbrev pub fill : Side → ℕ

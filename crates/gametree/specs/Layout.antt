@@ -60,13 +60,6 @@ pub record Describes (Y : Layout) (t : Tree) : Type 0 where
   pub top : Y .link (number t) ≡ root
   pub answers : Answers Y t
 
--- two layouts answer alike for the nodes of a tree
-pub record SameOn (Y Z : Layout) (t : Tree) : Type 0 where
-  pub kinds : (p : ℕ) → In p t → Y .kind p ≡ Z .kind p
-  pub links : (p : ℕ) → In p t → Y .link p ≡ Z .link p
-  pub aboves : (p q : ℕ) → In p t → In q t → Y .above p q ≡ Z .above p q
-  pub lefts : (p q : ℕ) → In p t → In q t → Y .leftOf p q ≡ Z .leftOf p q
-
 -- is p the number of a node
 abbrev mutual
   pub has : ℕ → Tree → Bool

@@ -5,8 +5,7 @@ use mathlib.Core.Path.{_≡_}
 use mathlib.Core.Bool.{Bool, true, false, cond, _||_, _&&_}
 use mathlib.Core.Option.{none, some}
 use mathlib.Core.List.{List, [], _∷_, _++_, map}
-use lib.Dec.{leb, ltb, eqb}
-use Rattle.gametree.specs.Lists.{All}
+use lib.Dec.{ltb, eqb}
 use Rattle.gametree.specs.Tree.{Max, Min, Tree, greatest, number, size}
 use Rattle.gametree.specs.Layout.{Layout, Kind, tip, fork, Link, root, under, layoutOf}
 
@@ -45,11 +44,6 @@ abbrev pub pick : Layout → State → List State → Taken
 pick Y s [] = record { left = []; state = s; right = [] }
 pick Y s (x ∷ xs) = choose (beats Y s (pick Y x xs .state)) s (x ∷ xs) (pick Y x xs)
 
--- k is what is taken from the list
-abbrev pub Picks : Layout → List State → Taken → Type 0
-Picks Y [] k = ⊥
-Picks Y (s ∷ ss) k = pick Y s ss ≡ k
-
 -- the merit of the state that is taken; 0 where there is none
 abbrev pub takenMerit : Layout → List State → ℕ
 takenMerit Y [] = 0
@@ -71,15 +65,6 @@ put k new = k .left ++ (new ++ k .right)
 abbrev pub purge : Layout → ℕ → List State → List State
 purge Y p [] = []
 purge Y p (s ∷ ss) = cond (Y .above p (s .node)) (purge Y p ss) (s ∷ purge Y p ss)
-
--- the states below p that stand before the one taken are the last of these, those behind it the first
-pub record Together (Y : Layout) (p : ℕ) (k : Taken) : Type 0 where
-  pub lastLeft : List State
-  pub firstRight : List State
-  pub left : k .left ≡ purge Y p (k .left) ++ lastLeft
-  pub right : k .right ≡ firstRight ++ purge Y p (k .right)
-  pub belowLeft : All (λ s. Y .above p (s .node) ≡ true) lastLeft
-  pub belowRight : All (λ s. Y .above p (s .node) ≡ true) firstRight
 
 -- a LIVE state: a leaf is evaluated, and SOLVED; of a Max node all children are LIVE, of a Min node the first
 abbrev pub replaceLive : (ℕ → ℕ) → Taken → Kind → Step
@@ -156,16 +141,3 @@ pub data ListAfter (ν : ℕ → ℕ) (Y : Layout) (t : Tree) : ℕ → List ℕ
 -- a run after k replacements that evaluated the leaves w
 abbrev pub resumed : ℕ → List ℕ → Ran → Ran
 resumed k w r = record { end = r .end; evaluated = w ++ r .evaluated; replacements = k + r .replacements }
-
--- the first state of greatest merit in the list s ∷ ss, whatever its place in the tree
-abbrev pub pickFirst : State → List State → Taken
-pickFirst s [] = record { left = []; state = s; right = [] }
-pickFirst s (x ∷ xs) = choose (leb (pickFirst x xs .state .merit) (s .merit)) s (x ∷ xs) (pickFirst x xs)
-
--- a step, and the run, that take that state
-abbrev pub stepFirst : (ℕ → ℕ) → Layout → List State → Step
-stepFirst ν Y [] = empty
-stepFirst ν Y (s ∷ ss) = replace ν Y (pickFirst s ss) (pickFirst s ss .state .status)
-
-abbrev pub sssFirst : (ℕ → ℕ) → Layout → Tree → Ran
-sssFirst ν Y t = runFrom (λ L. stepFirst ν Y L) (2 * size t) (start t)
