@@ -12,13 +12,13 @@ use lib.ListN.{length, length-append}
 use Rattle.gametree.specs.Lists.{All}
 use Rattle.gametree.specs.Tree.{Side, Max, Min, Tree, leaf, inner, Kids, last, _then_, number, size, sizeKids, In}
 use Rattle.gametree.specs.Tree.{InKids}
-use Rattle.gametree.specs.Mtd.{Memo, MemoKids, notBelow}
+use Rattle.gametree.specs.Mtd.{Memo, MemoKids}
 use Rattle.gametree.specs.Layout.{tip, fork, under, Layout, Apart}
 use Rattle.gametree.specs.Sss.{Status, LIVE, SOLVED, State, live, solved, Step, quiet, evaluating, purge, replace}
 use Rattle.gametree.proofs.Lists.{all-append, all-map, all-zip}
 use Rattle.gametree.proofs.Nodes.{number-in}
 use Rattle.gametree.proofs.SssSteps.{Takes, step-at, stepFirst-at, purge-outside, purge-length}
-use Rattle.gametree.proofs.Frontier.{AtMost, Below, join-frontier, frontier, frontierKids, Fitted, FittedKids}
+use Rattle.gametree.proofs.Frontier.{AtMost, Below, outdone, join-frontier, frontier, frontierKids, Fitted, FittedKids}
 use Rattle.gametree.proofs.Frontier.{states, statesKids, opened}
 
 -- THE STATES OF A NODE ARE OF NODES BELOW IT, AND NO MORE THAN THESE
@@ -60,7 +60,7 @@ mutual
       → Within (λ p. InKids p ks) (sizeKids ks) (frontierKids ν s ks m)
   frontierKids-within ν s (last t) m = frontier-within ν t m
   frontierKids-within ν s (t then ts) m =
-      join-within s (notBelow t (m .first)) (frontier ν t (m .first)) (frontierKids ν s ts (m .rest))
+      join-within s (outdone ν s t ts m) (frontier ν t (m .first)) (frontierKids ν s ts (m .rest))
       (frontier-within ν t (m .first)) (frontierKids-within ν s ts (m .rest))
 
 size-positive : (t : Tree) → 1 ≤ size t
@@ -68,13 +68,13 @@ size-positive (leaf n) = omega arith
 size-positive (inner n s ks) = omega arith
 
 -- so are those of a node that a pass may enter
-states-within : (ν : ℕ → ℕ) (γ : ℕ) (t : Tree) (m : Memo t) (w : Fitted t m)
+states-within : (ν : ℕ → ℕ) (γ : ℕ) (t : Tree) (m : Memo t) (w : Fitted ν γ t m)
     → Within (λ p. In p t) (size t) (states ν γ t m w)
 states-within ν γ t m (inl e) = record { nodes = (number-in t, tt); few = size-positive t }
 states-within ν γ t m (inr r) = frontier-within ν t m
 
 -- and those of children
-pub statesKids-within : (ν : ℕ → ℕ) (γ : ℕ) (s : Side) (ks : Kids) (m : MemoKids ks) (w : FittedKids s ks m)
+pub statesKids-within : (ν : ℕ → ℕ) (γ : ℕ) (s : Side) (ks : Kids) (m : MemoKids ks) (w : FittedKids ν γ s ks m)
     → Within (λ p. InKids p ks) (sizeKids ks) (statesKids ν γ s ks m w)
 statesKids-within ν γ s (last t) m w = states-within ν γ t m w
 statesKids-within ν γ Max (t then ts) m w =

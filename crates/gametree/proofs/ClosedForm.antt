@@ -160,7 +160,14 @@ mutual
   -- a pass at a node that is tried with the test γ
   passed : (ν : ℕ → ℕ) (γ β : ℕ) (t : Tree) (m : Memo t) → Scored ν t → m ≡ memoAt ν (suc γ) β t → γ ≤ β → γ ≤ greatest
       → Passed ν γ β t (pass ν γ t m)
-  passed ν γ β (leaf n) m i e h g = record { next-is = rw (le-leb γ β h) refl; answer = refl }
+  passed ν γ β (leaf n) m i e h g =
+      let f : leb (suc γ) β ≡ m .evaluated = sym (ap (λ (x : Memo (leaf n)). x .evaluated) e) in
+      cond-cases (λ r. Passed ν γ β (leaf n) r) (m .evaluated) _ _
+      (λ d. record {
+        next-is = e ∙ ap {B = Memo (leaf n)} (λ x. record { evaluated = x }) (f ∙ d ∙ sym (le-leb γ β h));
+        answer = refl;
+      })
+      (λ _. record { next-is = rw (le-leb γ β h) refl; answer = refl })
   passed ν γ β (inner n s ks) m i e h g =
       passed-inner ν γ β n s ks m i e h g
       (λ l. passedKids ν γ β s ks (m .kids) i (ap (λ (x : Memo (inner n s ks)). x .kids) e) h g l)

@@ -30,7 +30,7 @@ restFloor Min c v = c
 -- the memory
 abbrev mutual
   pub memoAt : (ℕ → ℕ) → (c β : ℕ) → (t : Tree) → Memo t
-  memoAt ν c β (leaf n) = record { evaluated = leb c β; notBelow = leb c β && leb c (ν n) }
+  memoAt ν c β (leaf n) = record { evaluated = leb c β }
   memoAt ν c β (inner n s ks) =
       record { notBelow = leb c β && leb c (minimaxKids ν s ks); kids = memoAtKids ν s c β ks }
 
@@ -97,8 +97,7 @@ reached-flag c d β v h k l = rw (le-leb c β (le-trans h k), le-leb d β k, le-
 mutual
   -- once its value is reached a node stays as it is
   pub frozen : (ν : ℕ → ℕ) (c d β : ℕ) (t : Tree) → c ≤ d → d ≤ β → d ≤ minimax ν t → memoAt ν c β t ≡ memoAt ν d β t
-  frozen ν c d β (leaf n) h k l =
-      rw (le-leb c β (le-trans h k), le-leb d β k, le-leb c (ν n) (le-trans h l), le-leb d (ν n) l) refl
+  frozen ν c d β (leaf n) h k l = rw (le-leb c β (le-trans h k), le-leb d β k) refl
   frozen ν c d β (inner n s ks) h k l =
       inner-path n s ks (reached-flag c d β (minimaxKids ν s ks) h k l) (frozenKids ν s c d β ks h k l)
 
@@ -152,9 +151,7 @@ mutual
       → memoHigh ν t (memoAt ν c β t) < d → memoAt ν d β t ≡ memoAt ν c β t
   at-same ν c d β (leaf n) i h g l =
       ⊎-elim (λ q. absurd (let z : greatest < d = rw (lt-leb c β q) at l in omega arith))
-      (λ q.
-      let z : ν n < d = rw (le-leb c β q) at l in
-      rw (le-leb c β q, le-leb d β (le-trans h q), lt-leb d (ν n) z, lt-leb c (ν n) (lt-of-lt-of-le z h)) refl)
+      (λ q. rw (le-leb c β q, le-leb d β (le-trans h q)) refl)
       (less-or-not β c)
   at-same ν c d β (inner n s ks) i h g l =
       let v = minimax-memoHigh ν (inner n s ks) (memoAt ν c β (inner n s ks)) i in

@@ -20,7 +20,7 @@ use Rattle.gametree.proofs.Bounds.{minimax-score, low≤, ≤high}
 use Rattle.gametree.proofs.MtdSound.{memoLow, memoLow-minimax, minimax-memoHigh, Kept, KeptKids, sound}
 use Rattle.gametree.proofs.MtdValue.{kept-lower, fresh-kept, fresh-memoHigh, freshKids-memoHigh, mtd-right}
 use Rattle.gametree.proofs.MtdMarks.{mtd-marks, memoBound-is}
-use Rattle.gametree.proofs.Frontier.{ReadyKids, Fitted, AtMost, states, notBelow-low, notBelow-high, next}
+use Rattle.gametree.proofs.Frontier.{ReadyKids, Fitted, ready-lower, AtMost, states, notBelow-low, notBelow-high, next}
 use Rattle.gametree.proofs.Frontier.{next-high}
 use Rattle.gametree.proofs.Moves.{Shown, move-same}
 
@@ -116,14 +116,14 @@ DecidesMin ν v (t then ts) m =
 -- so it is after a pass that finds a Min node below its test, for the node's high
 readyMin-decides : (ν : ℕ → ℕ) (γ v : ℕ) (ks : Kids) (m : MemoKids ks) → ScoredKids ν ks → KeptKids ν γ ks m
     → γ ≤ greatest
-    → ReadyKids Min ks m → memoHighKids ν Min ks m ≡ v → v < γ → DecidesMin ν v ks m
+    → ReadyKids ν γ Min ks m → memoHighKids ν Min ks m ≡ v → v < γ → DecidesMin ν v ks m
 readyMin-decides ν γ v (last t) m h k g r e l = omega arith
 readyMin-decides ν γ v (t then ts) m h k g (inl r) e l =
-    let a = notBelow-low ν γ t (m .first) (k .0) (r .0) in
-    let b = notBelow-high ν γ t (m .first) (h .0) (k .0) (r .0) in
+    let a = notBelow-low ν γ t (m .first) (k .0) (r .0 .0) in
+    let b = notBelow-high ν γ t (m .first) (h .0) (k .0) (r .0 .0) in
     inr (omega arith, readyMin-decides ν γ v ts (m .rest) (h .1) (k .1) g (r .1) (omega arith) l)
 readyMin-decides ν γ v (t then ts) m h k g (inr r) e l =
-    let a = ap (λ x. memoHighKids ν Min ts x) (r .1) ∙ freshKids-memoHigh ν Min ts in
+    let a = ap (λ x. memoHighKids ν Min ts x) (r .1 .0) ∙ freshKids-memoHigh ν Min ts in
     inl (omega arith)
 
 -- and it stays so
@@ -152,7 +152,7 @@ module _ (ν : ℕ → ℕ) (n : ℕ) (ks : Kids) where
       (λ _. passMin-keeps ν γ v ks (m .kids) h k d))
 
   -- the first pass finds a root below, so the last one's test is the high that an earlier one left
-  runMin-decides : (f γ : ℕ) (m : Memo (inner n Min ks)) (w : Fitted (inner n Min ks) m) → ScoredKids ν ks
+  runMin-decides : (f γ : ℕ) (m : Memo (inner n Min ks)) (w : Fitted ν γ (inner n Min ks) m) → ScoredKids ν ks
       → Kept ν γ (inner n Min ks) m
       → γ ≤ greatest → AtMost γ (states ν γ (inner n Min ks) m w)
       → (γ ≡ greatest) ⊎ DecidesMin ν γ ks (m .kids) → γ < f
@@ -170,7 +170,8 @@ module _ (ν : ℕ → ℕ) (n : ℕ) (ks : Kids) where
       let c = a .below e in
       let N = next ν γ g t m w h k b e in
       let i = next-high ν γ g t m w h k b e in
-      runMin-decides f (memoHigh ν t x) x (inr (N .0)) h (kept-lower ν t x (omega arith) (a .kept)) (omega arith) i
+      runMin-decides f (memoHigh ν t x) x (inr (ready-lower ν t x (omega arith) (N .0))) h
+      (kept-lower ν t x (omega arith) (a .kept)) (omega arith) i
       (inr (readyMin-decides ν γ _ ks (x .kids) h (a .kept .1) g (N .0 .1) refl c)) (omega arith))
 
 -- MTD decides at a Min root: the elder brothers of the first child whose high is at most the value have their lows

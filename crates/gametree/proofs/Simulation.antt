@@ -26,7 +26,7 @@ use borrow.Author.Tests.{ltb-true, leb-true, leb-false, not-true, not-false}
 use Rattle.gametree.specs.Lists.{All}
 use Rattle.gametree.specs.Tree.{Side, Max, Min, Tree, leaf, inner, Kids, last, _then_, greatest, number, InKids}
 use Rattle.gametree.specs.Tree.{Scored, ScoredKids}
-use Rattle.gametree.specs.Mtd.{Memo, MemoKids, memoHighKids, Pass, PassKids, entered, pass, passKids}
+use Rattle.gametree.specs.Mtd.{Memo, MemoKids, memoHighKids, Pass, PassKids, entered, pass, passKids, freshKids}
 use Rattle.gametree.specs.Layout.{tip, under, Layout, firstOf, othersOf, Answers, AnswersKids}
 use Rattle.gametree.specs.Sss.{State, live, solved, quiet}
 use Rattle.gametree.proofs.Choice.{cond-cases, true-not-false}
@@ -34,10 +34,10 @@ use Rattle.gametree.proofs.Lists.{all-left, all-right, all-map}
 use Rattle.gametree.proofs.MtdSound.{Kept, KeptKids}
 use Rattle.gametree.proofs.SssSteps.{Takes, Steps, done, quietly, evaluates, allow, spare, chain, then-quiet}
 use Rattle.gametree.proofs.SssSteps.{purge-left, purge-right}
-use Rattle.gametree.proofs.Frontier.{AtMost, frontier, frontierKids, Ready, Fitted, FittedKids, states}
-use Rattle.gametree.proofs.Frontier.{statesKids, ready-below, kids-fresh, fitted-fresh, fitted-ready}
-use Rattle.gametree.proofs.Frontier.{states-fresh, states-ready, fresh-atMost, pass-notBelow, notBelow-again}
-use Rattle.gametree.proofs.Frontier.{fresh-not-below, next}
+use Rattle.gametree.proofs.Frontier.{AtMost, frontier, frontierKids, Fitted, FittedKids, states}
+use Rattle.gametree.proofs.Frontier.{statesKids, kids-fresh, fitted-fresh, fitted-ready}
+use Rattle.gametree.proofs.Frontier.{states-fresh, states-ready, fresh-atMost, notBelow-again}
+use Rattle.gametree.proofs.Frontier.{fresh-not-below, first-least, first-outdone, next}
 use Rattle.gametree.proofs.Around.{frontier-within, statesKids-within, AroundTree, AroundKids, narrow}
 use Rattle.gametree.proofs.Around.{around-first, around-rest, handed, handed-clear, room-one, room-frontier}
 use Rattle.gametree.proofs.Around.{room-handed, takes-leaf, takes-inner, takes-max, takes-last, takes-next}
@@ -47,7 +47,7 @@ use Rattle.gametree.proofs.Work.{fullKids, part, partKids, work, workKi
 -- below, the node SOLVED. The number a bounds the replacements, with what is then left to do; B is for those elsewhere.
 pub record Sim (ν : ℕ → ℕ) (Y : Layout) (γ : ℕ) (t : Tree) (a : ℕ) (F L R : List State) (r : Pass t) : Type 0 where
   pub below : (B : ℕ) → r .notBelow ≡ false
-      → Steps ν Y (a + B) (L ++ (F ++ R)) (r .evaluated) (L ++ (frontier ν t (r .next) ++ R)) (part t (r .next) + B)
+      → Steps ν Y (a + B) (L ++ (F ++ R)) (r .evaluated) (L ++ (frontier ν t (r .next) ++ R)) (part ν t (r .next) + B)
   pub above : (B : ℕ) → r .notBelow ≡ true
       → Steps ν Y (a + B) (L ++ (F ++ R)) (r .evaluated) (L ++ (solved (number t) γ ∷ R)) B
 
@@ -56,7 +56,7 @@ pub record SimKids (ν : ℕ → ℕ) (Y : Layout) (γ n : ℕ) (s : Side) (ks :
     (q : PassKids ks) : Type 0 where
   pub below : (B : ℕ) → q .notBelow ≡ false
       → Steps ν Y (a + B) (L ++ (F ++ R)) (q .evaluated) (L ++ (frontierKids ν s ks (q .next) ++ R))
-      (partKids s ks (q .next) + B)
+      (partKids ν s ks (q .next) + B)
   pub above : (B : ℕ) → q .notBelow ≡ true
       → Steps ν Y (a + B) (L ++ (F ++ R)) (q .evaluated) (handed s Y n L ++ (solved n γ ∷ handed s Y n R)) B
 
@@ -76,44 +76,42 @@ module _ (ν : ℕ → ℕ) (Y : Layout) (γ : ℕ) (g : γ ≤ greatest) where
   -- STEP 5. A LEAF
 
   -- LIVE, it is evaluated; SOLVED, nothing is done
-  sim-leaf : (n : ℕ) (m : Memo (leaf n)) (w : Fitted (leaf n) m) → Y .kind n ≡ tip
+  sim-leaf : (n : ℕ) (m : Memo (leaf n)) (w : Fitted ν γ (leaf n) m) → Y .kind n ≡ tip
       → AtMost γ (states ν γ (leaf n) m w) → (L R : List State) → AroundTree Y γ (leaf n) L R
-      → Sim ν Y γ (leaf n) (work (leaf n) m w) (states ν γ (leaf n) m w) L R (pass ν γ (leaf n) m)
+      → Sim ν Y γ (leaf n) (work ν γ (leaf n) m w) (states ν γ (leaf n) m w) L R (pass ν γ (leaf n) m)
   sim-leaf n m (inl e) p b L R a =
       let f : m .evaluated ≡ false = ap (λ (x : Memo (leaf n)). x .evaluated) e in
       let taken = takes-leaf ν Y γ (leaf n) L R a p in
       let room = room-one ν Y γ (leaf n) L R a in
-      record {
+      rw f (record {
         below = λ B d.
             let h : min γ (ν n) ≡ ν n = omega (arith, leb-false γ (ν n) d) in
             let less : B < 1 + B = omega arith in
             let rest : 0 + B ≤ B = omega arith in
-            rw f (evaluates (rw h at taken) less (done (room (solved n (ν n))) rest));
+            evaluates (rw h at taken) less (done (room (solved n (ν n))) rest);
         above = λ B d.
             let h : min γ (ν n) ≡ γ = omega (arith, leb-true γ (ν n) d) in
             let less : B < 1 + B = omega arith in
-            rw f (evaluates (rw h at taken) less (done (room (solved n γ)) (le-refl B)));
-      }
+            evaluates (rw h at taken) less (done (room (solved n γ)) (le-refl B));
+      })
   sim-leaf n m (inr q) p b L R a =
       let room = room-one ν Y γ (leaf n) L R a (solved n (ν n)) in
-      record {
-        below = λ B d. rw (q .0) (done room (le-refl _));
+      rw q (record {
+        below = λ B d. done room (le-refl _);
         above = λ B d.
             let h : ν n ≡ γ = omega (arith, leb-true γ (ν n) d, b .0) in
             let rest : B ≤ 0 + B = omega arith in
-            rw (q .0)
-            (subst (λ x. Steps ν Y (0 + B) (L ++ (solved n (ν n) ∷ R)) [] (L ++ (solved n x ∷ R)) B) h
-            (done room rest));
-      }
+            subst (λ x. Steps ν Y (0 + B) (L ++ (solved n (ν n) ∷ R)) [] (L ++ (solved n x ∷ R)) B) h (done room rest);
+      })
 
   -- AN INNER NODE
 
   -- one that is ready and whose high is below the test costs no step; an untouched one is entered
-  sim-inner : (n : ℕ) (s : Side) (ks : Kids) (m : Memo (inner n s ks)) (w : Fitted (inner n s ks) m) (L R : List State)
+  sim-inner : (n : ℕ) (s : Side) (ks : Kids) (m : Memo (inner n s ks)) (w : Fitted ν γ (inner n s ks) m) (L R : List State)
       → AroundTree Y γ (inner n s ks) L R
-      → Sim ν Y γ (inner n s ks) (work (inner n s ks) m w) (states ν γ (inner n s ks) m w) L R
+      → Sim ν Y γ (inner n s ks) (work ν γ (inner n s ks) m w) (states ν γ (inner n s ks) m w) L R
       (entered n s ks (passKids ν γ s ks (m .kids)))
-      → Sim ν Y γ (inner n s ks) (work (inner n s ks) m w) (states ν γ (inner n s ks) m w) L R
+      → Sim ν Y γ (inner n s ks) (work ν γ (inner n s ks) m w) (states ν γ (inner n s ks) m w) L R
       (pass ν γ (inner n s ks) m)
   sim-inner n s ks m (inl e) L R a q =
       let P = Sim ν Y γ (inner n s ks) (suc (fullKids s ks)) (live n γ ∷ []) L R in
@@ -123,7 +121,7 @@ module _ (ν : ℕ → ℕ) (Y : Layout) (γ : ℕ) (g : γ ≤ greatest) where
       (λ f. absurd (true-not-false f (ap (λ (x : Memo (inner n s ks)). x .notBelow) e)))
       (λ _. q))
   sim-inner n s ks m (inr d) L R a q =
-      let P = Sim ν Y γ (inner n s ks) (partKids s ks (m .kids)) (frontierKids ν s ks (m .kids)) L R in
+      let P = Sim ν Y γ (inner n s ks) (partKids ν s ks (m .kids)) (frontierKids ν s ks (m .kids)) L R in
       cond-cases P (ltb (memoHighKids ν s ks (m .kids)) γ) _ _
       (λ _. record {
         below = λ B _. done (room-frontier ν Y γ (inner n s ks) L R a m) (le-refl _);
@@ -146,7 +144,7 @@ module _ (ν : ℕ → ℕ) (Y : Layout) (γ : ℕ) (g : γ ≤ greatest) where
       let hand = takes-max ν Y γ t L (G ++ R) u n _ link in
       let F′ = frontier ν t (pass ν γ t (m .first) .next) in
       let G′ = frontierKids ν Max ts (passKids ν γ Max ts (m .rest) .next) in
-      let c = part t (pass ν γ t (m .first) .next) in
+      let c = part ν t (pass ν γ t (m .first) .next) in
       cond-cases (SimKids ν Y γ n Max (t then ts) (a + b) (F ++ G) L R) (pass ν γ t (m .first) .notBelow) _ _
       (λ e. record {
         below = λ x f. absurd (true-not-false e f);
@@ -173,28 +171,31 @@ module _ (ν : ℕ → ℕ) (Y : Layout) (γ : ℕ) (g : γ ≤ greatest) where
 
   -- the first was found not below, and costs nothing; the others by B
   sim-min-found : (n : ℕ) (t : Tree) (ts : Kids) (m : MemoKids (t then ts)) (b : ℕ) (G L R : List State)
-      → pass ν γ t (m .first) .notBelow ≡ true → pass ν γ t (m .first) .evaluated ≡ []
+      → ScoredKids ν (t then ts) → KeptKids ν γ (t then ts) m → pass ν γ t (m .first) .notBelow ≡ true
+      → pass ν γ t (m .first) .evaluated ≡ []
       → SimKids ν Y γ n Min ts b G L R (passKids ν γ Min ts (m .rest))
       → SimKids ν Y γ n Min (t then ts) b G L R (passKids ν γ Min (t then ts) m)
-  sim-min-found n t ts m b G L R a v B =
-      let p = pass-notBelow ν γ t (m .first) a in
+  sim-min-found n t ts m b G L R h k a v B =
       cond-cases (SimKids ν Y γ n Min (t then ts) b G L R) (not (pass ν γ t (m .first) .notBelow)) _ _
       (λ e. absurd (true-not-false a (not-true _ e)))
-      (λ e. record { below = λ x f. rw (v, p) (B .below x f); above = λ x f. rw v (B .above x f) })
+      (λ e. record {
+        below = λ x f. rw (v, first-outdone ν γ g t ts m h k a f) (B .below x f);
+        above = λ x f. rw v (B .above x f);
+      })
 
   -- the first runs by A; if it is not below, its brothers, untouched, go on by B
   sim-min : (n : ℕ) (t : Tree) (ts : Kids) (m : MemoKids (t then ts)) (a : ℕ) (F L R : List State)
       → Y .link (number t) ≡ under n Min (some (firstOf ts)) → AroundTree Y γ t L R
-      → (pass ν γ t (m .first) .notBelow ≡ false → Ready t (pass ν γ t (m .first) .next))
+      → ScoredKids ν (t then ts) → KeptKids ν γ (t then ts) m → m .rest ≡ freshKids ts
       → Sim ν Y γ t a F L R (pass ν γ t (m .first))
       → SimKids ν Y γ n Min ts (fullKids Min ts) (live (firstOf ts) γ ∷ []) L R (passKids ν γ Min ts (m .rest))
       → SimKids ν Y γ n Min (t then ts) (suc a + fullKids Min ts) F L R (passKids ν γ Min (t then ts) m)
-  sim-min n t ts m a F L R link u nx A B =
+  sim-min n t ts m a F L R link u h k untouched A B =
       let b = fullKids Min ts in
       cond-cases (SimKids ν Y γ n Min (t then ts) (suc a + b) F L R) (not (pass ν γ t (m .first) .notBelow)) _ _
       (λ e. record {
         below = λ x f.
-            rw (ready-below t (pass ν γ t (m .first) .next) (nx f))
+            rw (first-least ν γ g t ts m h k f untouched)
             (allow (omega arith) (spare (A .below (suc b + x) f) (omega arith)));
         above = λ x f. absurd (true-not-false f (not-true _ e));
       })
@@ -204,7 +205,7 @@ module _ (ν : ℕ → ℕ) (Y : Layout) (γ : ℕ) (g : γ ≤ greatest) where
       let room = room-one ν Y γ t L R u (live (firstOf ts) γ) in
       record {
         below = λ x f.
-            rw (pass-notBelow ν γ t (m .first) d)
+            rw (first-outdone ν γ g t ts m h k d f)
             (chain (then-quiet {c = b + x} (allow {c = suc a + b + x} (omega arith) (A .above (suc b + x) d))
             (omega arith) nextLive room) (le-refl _) (B .below x f));
         above = λ x f.
@@ -216,17 +217,17 @@ module _ (ν : ℕ → ℕ) (Y : Layout) (γ : ℕ) (g : γ ≤ greatest) where
 
   mutual
     -- one pass of MTD at a node is a run of SSS* over its states
-    pub sim : (t : Tree) (m : Memo t) (w : Fitted t m) → Answers Y t → Scored ν t → Kept ν γ t m
+    pub sim : (t : Tree) (m : Memo t) (w : Fitted ν γ t m) → Answers Y t → Scored ν t → Kept ν γ t m
         → AtMost γ (states ν γ t m w) → (L R : List State) → AroundTree Y γ t L R
-        → Sim ν Y γ t (work t m w) (states ν γ t m w) L R (pass ν γ t m)
+        → Sim ν Y γ t (work ν γ t m w) (states ν γ t m w) L R (pass ν γ t m)
     sim (leaf n) m w p h k b L R a = sim-leaf n m w p b L R a
     sim (inner n s ks) m (inl e) p h k b L R a =
         let f = kids-fresh n s ks e in
         let E = states-fresh ν γ s ks (m .kids) f in
-        let W = work-fresh s ks (m .kids) f in
+        let W = work-fresh ν γ s ks (m .kids) f in
         let C = handed-clear Y γ n s ks L R a in
         let S =
-        simKids n s ks (m .kids) (fitted-fresh s ks (m .kids) f) (p .2) h (k .1) (fresh-atMost ν γ s ks (m .kids) f)
+        simKids n s ks (m .kids) (fitted-fresh ν γ s ks (m .kids) f) (p .2) h (k .1) (fresh-atMost ν γ s ks (m .kids) f)
         (p .1) L R (narrow (λ p i. inr i) (omega arith) a) in
         let entry = takes-inner ν Y γ (inner n s ks) L R a s (firstOf ks) (othersOf ks) (p .0) in
         sim-inner n s ks m (inl e) L R a
@@ -236,10 +237,10 @@ module _ (ν : ℕ → ℕ) (Y : Layout) (γ : ℕ) (g : γ ≤ greatest) where
         })
     sim (inner n s ks) m (inr r) p h k b L R a =
         let E = states-ready ν γ s ks (m .kids) (r .1) in
-        let W = work-ready s ks (m .kids) (r .1) in
+        let W = work-ready ν γ s ks (m .kids) (r .1) in
         let C = handed-clear Y γ n s ks L R a in
         let S =
-        simKids n s ks (m .kids) (fitted-ready s ks (m .kids) (r .1)) (p .2) h (k .1) (rw E b) (p .1) L R
+        simKids n s ks (m .kids) (fitted-ready ν γ s ks (m .kids) (r .1)) (p .2) h (k .1) (rw E b) (p .1) L R
         (narrow (λ p i. inr i) (omega arith) a) in
         sim-inner n s ks m (inr r) L R a
         (record {
@@ -247,17 +248,17 @@ module _ (ν : ℕ → ℕ) (Y : Layout) (γ : ℕ) (g : γ ≤ greatest) where
           above = λ x d. rw (E, W, C .0, C .1) at (S .above x d);
         })
 
-    simKids : (n : ℕ) (s : Side) (ks : Kids) (m : MemoKids ks) (w : FittedKids s ks m) → AnswersKids Y n s ks
+    simKids : (n : ℕ) (s : Side) (ks : Kids) (m : MemoKids ks) (w : FittedKids ν γ s ks m) → AnswersKids Y n s ks
         → ScoredKids ν ks → KeptKids ν γ ks m → AtMost γ (statesKids ν γ s ks m w)
         → ((p : ℕ) → InKids p ks → Y .above n p ≡ true) → (L R : List State) → AroundKids Y γ ks L R
-        → SimKids ν Y γ n s ks (workKids s ks m w) (statesKids ν γ s ks m w) L R (passKids ν γ s ks m)
+        → SimKids ν Y γ n s ks (workKids ν γ s ks m w) (statesKids ν γ s ks m w) L R (passKids ν γ s ks m)
     simKids n s (last t) m w p h k b i L R a =
         let S = sim t m w (p .1) h k b L R a in
         let hand = takes-last ν Y γ t L R a s n (p .0) in
         record {
           below = λ x d. allow (omega arith) (spare (S .below (suc x) d) (omega arith));
           above =
-              λ x d. hand-up (work t m w) x (λ c. S .above c d) hand
+              λ x d. hand-up (work ν γ t m w) x (λ c. S .above c d) hand
               (room-handed ν Y γ t L R a s n (solved n γ));
         }
     simKids n Max (t then ts) m w p h k b i L R a =
@@ -271,27 +272,27 @@ module _ (ν : ℕ → ℕ) (Y : Layout) (γ : ℕ) (g : γ ≤ greatest) where
         let N = next ν γ g t (m .first) (w .0) (h .0) (k .0) bF in
         let u = around-first Y γ t ts L R (p .1) a G bG gin in
         let lower = all-map _ _ (λ s j. i (s .node) (inl j)) F′ (fin .nodes) in
-        sim-max n t ts m (work t (m .first) (w .0)) (workKids Max ts (m .rest) (w .1)) F G L R
-        (work-positive Max ts (m .rest) (w .1)) (p .0) u
+        sim-max n t ts m (work ν γ t (m .first) (w .0)) (workKids ν γ Max ts (m .rest) (w .1)) F G L R
+        (work-positive ν γ Max ts (m .rest) (w .1)) (p .0) u
         (all-map _ _ (λ s j. i (s .node) (inr j)) G (gin .nodes)) lower
         (sim t (m .first) (w .0) (p .2) (h .0) (k .0) bF L (G ++ R) u)
         (λ e. simKids n Max ts (m .rest) (w .1) (p .3) (h .1) (k .1) bG (λ x j. i x (inr j)) (L ++ F′) R
         (around-rest Y γ t ts L R (p .1) a F′ (N e .1) fin))
     simKids n Min (t then ts) m (inl w) p h k b i L R a =
         let A = notBelow-again ν γ t (m .first) (h .0) (k .0) (w .0) in
-        sim-min-found n t ts m (workKids Min ts (m .rest) (w .1)) (statesKids ν γ Min ts (m .rest) (w .1)) L R
+        sim-min-found n t ts m (workKids ν γ Min ts (m .rest) (w .1)) (statesKids ν γ Min ts (m .rest) (w .1)) L R h k
         (A .0) (A .1)
         (simKids n Min ts (m .rest) (w .1) (p .3) (h .1) (k .1) b (λ x j. i x (inr j)) L R
         (narrow (λ p i. inr i) (omega arith) a))
     simKids n Min (t then ts) m (inr w) p h k b i L R a =
         let f = w .1 in
         let B =
-        simKids n Min ts (m .rest) (fitted-fresh Min ts (m .rest) f) (p .3) (h .1) (k .1)
+        simKids n Min ts (m .rest) (fitted-fresh ν γ Min ts (m .rest) f) (p .3) (h .1) (k .1)
         (fresh-atMost ν γ Min ts (m .rest) f) (λ x j. i x (inr j)) L R (narrow (λ p i. inr i) (omega arith) a) in
         let E = states-fresh ν γ Min ts (m .rest) f in
-        let W = work-fresh Min ts (m .rest) f in
+        let W = work-fresh ν γ Min ts (m .rest) f in
         let u : AroundTree Y γ t L R = narrow (λ p i. inl i) (omega arith) a in
-        sim-min n t ts m (work t (m .first) (w .0)) (states ν γ t (m .first) (w .0)) L R (p .0) u
-        (λ e. next ν γ g t (m .first) (w .0) (h .0) (k .0) b e .0)
+        sim-min n t ts m (work ν γ t (m .first) (w .0)) (states ν γ t (m .first) (w .0)) L R (p .0) u
+        h k f
         (sim t (m .first) (w .0) (p .2) (h .0) (k .0) b L R u)
         (record { below = λ x d. rw (E, W) at (B .below x d); above = λ x d. rw (E, W) at (B .above x d) })

@@ -14,7 +14,7 @@ use Rattle.gametree.proofs.Choice.{cond-cases}
 use Rattle.gametree.proofs.MtdSound.{Kept, sound}
 use Rattle.gametree.proofs.MtdValue.{kept-lower, fresh-kept, mtd-right}
 use Rattle.gametree.proofs.SssSteps.{Takes, Steps, done, quietly, evaluates, allow, chain}
-use Rattle.gametree.proofs.Frontier.{AtMost, frontier, Fitted, states, next, next-high}
+use Rattle.gametree.proofs.Frontier.{AtMost, frontier, Fitted, ready-lower, states, next, next-high}
 use Rattle.gametree.proofs.Work.{full, part, work, full-size}
 use Rattle.gametree.proofs.Simulation.{sim}
 use Rattle.gametree.proofs.Around.{AroundTree, takes}
@@ -27,28 +27,28 @@ alone Y γ t h =
 -- STEP 8. THE NEXT TEST IS THE ROOT'S HIGH
 
 -- the passes of MTD, one after the other, are a run of SSS*: the high that a pass leaves bounds the frontier again
-run-steps : (ν : ℕ → ℕ) (Y : Layout) (f γ : ℕ) (t : Tree) (m : Memo t) (w : Fitted t m) → Answers Y t
+run-steps : (ν : ℕ → ℕ) (Y : Layout) (f γ : ℕ) (t : Tree) (m : Memo t) (w : Fitted ν γ t m) → Answers Y t
     → size t ≤ Y .nodes → Scored ν t → Kept ν γ t m → γ ≤ greatest
     → AtMost γ (states ν γ t m w) → γ < f
-    → Steps ν Y (work t m w) (states ν γ t m w) (run ν f γ t m .evaluated)
+    → Steps ν Y (work ν γ t m w) (states ν γ t m w) (run ν f γ t m .evaluated)
     (solved (number t) (run ν f γ t m .value) ∷ []) 0
 run-steps ν Y zero γ t m w p z h k g b l = absurd (omega (arith, l))
 run-steps ν Y (suc f) γ t m w p z h k g b l =
     let S = sim ν Y γ g t m w p h k b [] [] (alone Y γ t z) in
     let n = pass ν γ t m .next in
     let F = states ν γ t m w in
-    let more : work t m w + 0 ≤ work t m w = omega arith in
-    cond-cases (λ (q : Run t). Steps ν Y (work t m w) F (q .evaluated) (solved (number t) (q .value) ∷ []) 0)
+    let more : work ν γ t m w + 0 ≤ work ν γ t m w = omega arith in
+    cond-cases (λ (q : Run t). Steps ν Y (work ν γ t m w) F (q .evaluated) (solved (number t) (q .value) ∷ []) 0)
     (pass ν γ t m .notBelow) _ _
     (λ e. allow more (rw (append-nil F) at (S .above 0 e)))
     (λ e.
     let s = sound ν γ t m h k in
     let d = s .below e in
     let N = next ν γ g t m w h k b e in
-    let enough : part t n ≤ part t n + 0 = omega arith in
+    let enough : part ν t n ≤ part ν t n + 0 = omega arith in
     chain (allow more (rw (append-nil F, append-nil (frontier ν t n)) at (S .below 0 e))) enough
-    (run-steps ν Y f (memoHigh ν t n) t n (inr (N .0)) p z h (kept-lower ν t n (omega arith) (s .kept))
-    (omega arith) (next-high ν γ g t m w h k b e) (omega arith)))
+    (run-steps ν Y f (memoHigh ν t n) t n (inr (ready-lower ν t n (omega arith) (N .0))) p z h
+    (kept-lower ν t n (omega arith) (s .kept)) (omega arith) (next-high ν γ g t m w h k b e) (omega arith)))
 
 -- THE RUN
 

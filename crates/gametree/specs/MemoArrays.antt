@@ -13,7 +13,7 @@ Bits = ℕ → Bool
 -- the memory of a tree, read from both
 abbrev mutual
   pub readMemo : (marks flags : Bits) (t : Tree) → Memo t
-  readMemo marks flags (leaf n) = record { evaluated = marks n; notBelow = flags n }
+  readMemo marks flags (leaf n) = record { evaluated = marks n }
   readMemo marks flags (inner n s ks) = record { notBelow = flags n; kids = readMemoKids marks flags ks }
 
   pub readMemoKids : (marks flags : Bits) (ks : Kids) → MemoKids ks
