@@ -1,257 +1,435 @@
-/* The program of document 01 in plain C: the speed baseline.
-
-   cc -O2 -o baseline baseline.c
-   baseline < FILE            prints what 01 says
-   baseline -d < FILE         the same, then marks, flags, passes and replacements, as oracle.py --detail
-   baseline -r N < FILE       the same, then on standard error the least time of N runs, in microseconds:
-                              read and check, alpha-beta, MTD, SSS* (each search with marks, proof and move)
-
-   Straightforward on purpose: recursive alpha-beta and MTD, SSS* over a list that is scanned at each step. */
+/* The public calls of document 01 in plain C, written from the paper; baseline.h says what each gives.
+   Compiled with -O2 and with DEPTH, the greatest depth of a node, from oracle.py. */
+#include "baseline.h"
+#include <stdbool.h>
 #include <stdio.h>
-#include <stdlib.h>
 #include <string.h>
-#include <time.h>
-#include <unistd.h>
 
-enum { NODES = 4096, FILE_BYTES = 53248, LINE = 13, CHILDREN = 40, DEPTH = 24, VALUE = 32000, LEAST = -32001, GREATEST = 32001 };
+enum { DIGITS = 12, CHILDREN = 40, VALUE = 32000, LEAST = -32001, GREATEST = 32001 };
 
-struct refusal { int number, place; };
-struct result { int value, move, leaves, extra; };
-struct state { int node, solved, merit; };
+static struct answer no(int number, size_t place) { return (struct answer){ .refused = number, .place = place }; }
 
-static unsigned char file[FILE_BYTES + 1];
-static int n, first_of[NODES], count_of[NODES], spare[NODES], stored[NODES];
-static int parent[NODES], left[NODES], size[NODES], depth[NODES], is_max[NODES];
-static unsigned char marks[NODES], proof[NODES];
-static int low[NODES], high[NODES], counted;
-static unsigned char not_below[NODES];
-static struct state list[NODES];
+static inline int first_child(const uint8_t *table, int k) { return table[FRAME * k] << 8 | table[FRAME * k + 1]; }
+static inline int child_count(const uint8_t *table, int k) { return table[FRAME * k + 2]; }
+static inline int stored_value(const uint8_t *table, int k) { return (int16_t)(table[FRAME * k + 4] << 8 | table[FRAME * k + 5]); }
+static inline int greater(int a, int b) { return a > b ? a : b; }
+static inline int lesser(int a, int b) { return a < b ? a : b; }
 
-/* ---- reading and checking */
+/* ---- questions 1 to 9, and the reader */
 
-static int digit(int c) {
-    if (c >= '0' && c <= '9') return c - '0';
-    if (c >= 'A' && c <= 'F') return c - 'A' + 10;
-    if (c >= 'a' && c <= 'f') return c - 'a' + 10;
-    return -1;
+/* Questions 4 to 9. Nodes of one depth are consecutive, and end where the children of the first of them begin. */
+static struct answer check_frames(const uint8_t *table, int n) {
+    int next = 1, depth = 0, end = 1, too_deep = -1;
+    for (int k = 0; k < n; k++) {
+        int first = first_child(table, k), count = child_count(table, k), value = stored_value(table, k);
+        if (table[FRAME * k + 3]) return no(4, k);
+        if (count > CHILDREN) return no(5, k);
+        if (count == 0 ? first != 0 : first != next || first <= k) return no(6, k);
+        if (count == 0 ? value < -VALUE || value > VALUE : value != 0) return no(7, k);
+        if (k == end) {
+            if (++depth == DEPTH + 1) too_deep = k;
+            end = next;
+        }
+        next += count;
+    }
+    if (next != n) return no(8, n);
+    if (too_deep >= 0) return no(9, too_deep);
+    return (struct answer){ .count = n };
 }
 
-static struct refusal no(int number, int place) { struct refusal r = { number, place }; return r; }
+struct answer c_check(const uint8_t *table, size_t length) {
+    if (length == 0) return no(1, 0);
+    if (length > TABLE_BYTES) return no(2, 0);
+    if (length % FRAME) return no(3, length / FRAME);
+    return check_frames(table, length / FRAME);
+}
 
-static struct refusal read_tree(const unsigned char *f, int length) {
+/* 16 plus the number of a hexadecimal digit; 0 for any other byte. */
+static const uint8_t digit[256] = {
+    ['0'] = 16, ['1'] = 17, ['2'] = 18, ['3'] = 19, ['4'] = 20, ['5'] = 21, ['6'] = 22, ['7'] = 23, ['8'] = 24, ['9'] = 25,
+    ['A'] = 26, ['B'] = 27, ['C'] = 28, ['D'] = 29, ['E'] = 30, ['F'] = 31,
+    ['a'] = 26, ['b'] = 27, ['c'] = 28, ['d'] = 29, ['e'] = 30, ['f'] = 31,
+};
+
+static bool read_line(const uint8_t *line, size_t left, uint8_t *frame) {
+    if (left < DIGITS) return false;
+    for (int i = 0; i < FRAME; i++) {
+        int high = digit[line[2 * i]], low = digit[line[2 * i + 1]];
+        if (!high || !low) return false;
+        frame[i] = (high & 15) << 4 | (low & 15);
+    }
+    return left == DIGITS || line[DIGITS] == '\n';
+}
+
+struct answer c_read(const uint8_t *file, size_t length, uint8_t *table, size_t room) {
+    uint8_t decoded[TABLE_BYTES];
+    size_t n = 0;
     if (length == 0) return no(1, 0);
     if (length > FILE_BYTES) return no(2, 0);
-    n = 0;
-    for (int at = 0; at < length; at += LINE, n++) {
-        int byte[6];
-        if (length - at < 12) return no(3, n);
-        for (int i = 0; i < 6; i++) {
-            int h = digit(f[at + 2 * i]), l = digit(f[at + 2 * i + 1]);
-            if (h < 0 || l < 0) return no(3, n);
-            byte[i] = 16 * h + l;
-        }
-        if (at + 12 < length && f[at + 12] != '\n') return no(3, n);
-        first_of[n] = 256 * byte[0] + byte[1];
-        count_of[n] = byte[2];
-        spare[n] = byte[3];
-        stored[n] = 256 * byte[4] + byte[5];
-        if (stored[n] >= 32768) stored[n] -= 65536;
-    }
-    int below = 0;
-    for (int k = 0; k < n; k++) {
-        if (spare[k]) return no(4, k);
-        if (count_of[k] > CHILDREN) return no(5, k);
-        if (count_of[k] == 0 ? first_of[k] != 0 : first_of[k] != 1 + below || first_of[k] <= k) return no(6, k);
-        if (count_of[k] == 0 ? stored[k] < -VALUE || stored[k] > VALUE : stored[k] != 0) return no(7, k);
-        below += count_of[k];
-    }
-    if (1 + below != n) return no(8, n);
-    parent[0] = -1, depth[0] = 0, is_max[0] = 1;
-    for (int k = 0; k < n; k++) {
-        if (depth[k] > DEPTH) return no(9, k);
-        for (int c = first_of[k]; c < first_of[k] + count_of[k]; c++)
-            parent[c] = k, depth[c] = depth[k] + 1, is_max[c] = !is_max[k];
-    }
-    return no(0, 0);
+    do {
+        if (!read_line(file + LINE * n, length - LINE * n, decoded + FRAME * n)) return no(3, n);
+        n++;
+    } while (LINE * n < length);
+    struct answer answer = check_frames(decoded, n);
+    if (answer.refused) return answer;
+    if (room < FRAME * n) return no(10, 0);
+    memcpy(table, decoded, FRAME * n);
+    return answer;
 }
 
-/* ---- what the three searches share */
+/* ---- what the searches share */
 
-static int evaluate(int k) { marks[k] = 1; return stored[k]; }
+/* Questions 1 to 10. */
+static struct answer ask(const uint8_t *table, size_t length, size_t marks_room, size_t proof_room) {
+    struct answer answer = c_check(table, length);
+    if (!answer.refused && (marks_room < answer.count || proof_room < answer.count)) return no(10, 0);
+    return answer;
+}
 
-static void begin(void) { memset(marks, 0, sizeof marks); counted = 0; }
+static inline int evaluate(const uint8_t *table, uint8_t *marks, int k) {
+    marks[k] = 1;
+    return stored_value(table, k);
+}
 
-static struct result finish(int value, int extra) {
+/* Who moves at each node. */
+static void fill_sides(const uint8_t *table, int n, uint8_t *is_max) {
+    int next = 1, end = 1, max = 1;
+    for (int k = 0; k < n; k++) {
+        if (k == end) max = !max, end = next;
+        is_max[k] = max;
+        next += child_count(table, k);
+    }
+}
+
+static void fill_parents(const uint8_t *table, int n, uint16_t *parent) {
+    parent[0] = 0;
+    for (int k = 0, next = 1; k < n; k++)
+        for (int end = next + child_count(table, k); next < end; next++) parent[next] = k;
+}
+
+/* The bounds of every node from the marked leaves, the proof that is read off them, and the root move. */
+static int conclude(const uint8_t *table, int n, uint8_t *marks, uint8_t *proof) {
+    uint8_t is_max[NODES];
+    int low[NODES], high[NODES];
+    fill_sides(table, n, is_max);
     for (int k = n - 1; k >= 0; k--) {
-        if (count_of[k] == 0) {
-            low[k] = marks[k] ? evaluate(k) : LEAST;
-            high[k] = marks[k] ? low[k] : GREATEST;
+        int count = child_count(table, k), first = first_child(table, k);
+        if (count == 0) {
+            low[k] = LEAST, high[k] = GREATEST;
+            if (marks[k]) low[k] = high[k] = evaluate(table, marks, k);
             continue;
         }
-        int l = low[first_of[k]], h = high[first_of[k]];
-        for (int c = first_of[k] + 1; c < first_of[k] + count_of[k]; c++) {
-            if (is_max[k] ? low[c] > l : low[c] < l) l = low[c];
-            if (is_max[k] ? high[c] > h : high[c] < h) h = high[c];
-        }
+        int l = low[first], h = high[first];
+        if (is_max[k])
+            for (int c = first + 1; c < first + count; c++) l = greater(l, low[c]), h = greater(h, high[c]);
+        else
+            for (int c = first + 1; c < first + count; c++) l = lesser(l, low[c]), h = lesser(h, high[c]);
         low[k] = l, high[k] = h;
     }
-    memset(proof, 0, sizeof proof);
     proof[0] = 3;
     for (int k = 0; k < n; k++) {
-        int all = is_max[k] ? 1 : 2, one = 3 - all, open = proof[k] & one;
+        int count = child_count(table, k), first = first_child(table, k);
+        if (count == 0) continue;
+        int all = proof[k] & (is_max[k] ? 1 : 2);
         const int *bound = is_max[k] ? low : high;
-        for (int c = first_of[k]; c < first_of[k] + count_of[k]; c++) {
-            proof[c] |= proof[k] & all;
-            if (open && bound[c] == bound[k]) proof[c] |= one, open = 0;
-        }
+        memset(proof + first, all, count);
+        if (proof[k] == all) continue;
+        int c = first;
+        while (bound[c] != bound[k]) c++;
+        proof[c] = proof[k];
     }
-    int move = 0;
-    for (int c = first_of[0]; c < first_of[0] + count_of[0] && !move; c++)
-        if (low[c] == value) move = c;
-    struct result r = { value, move, counted, extra };
-    return r;
+    if (child_count(table, 0) == 0) return 0;
+    int move = 1;
+    while (low[move] != low[0]) move++;
+    return move;
 }
 
 /* ---- alpha-beta */
 
-static int alpha_beta(int k, int alpha, int beta) {
-    if (count_of[k] == 0) { counted++; return evaluate(k); }
-    for (int c = first_of[k]; c < first_of[k] + count_of[k]; c++) {
-        int v = alpha_beta(c, alpha, beta);
-        if (is_max[k]) { if (v > alpha) alpha = v; } else { if (v < beta) beta = v; }
-        if (alpha >= beta) break;
+struct visits {
+    const uint8_t *table;
+    uint8_t *marks;
+    int leaves;
+};
+
+static int alpha_beta(struct visits *v, int k, bool is_max, int alpha, int beta) {
+    int count = child_count(v->table, k), first = first_child(v->table, k);
+    if (count == 0) {
+        v->leaves++;
+        return evaluate(v->table, v->marks, k);
     }
-    return is_max[k] ? alpha : beta;
+    for (int c = first; c < first + count && alpha < beta; c++) {
+        int value = alpha_beta(v, c, !is_max, alpha, beta);
+        if (is_max) alpha = greater(alpha, value);
+        else beta = lesser(beta, value);
+    }
+    return is_max ? alpha : beta;
 }
 
-static struct result ab(void) { begin(); return finish(alpha_beta(0, LEAST, GREATEST), 0); }
+struct answer c_alphabeta(const uint8_t *table, size_t length, uint8_t *marks, size_t marks_room, uint8_t *proof, size_t proof_room) {
+    struct answer asked = ask(table, length, marks_room, proof_room);
+    if (asked.refused) return asked;
+    struct visits v = { table, marks, 0 };
+    memset(marks, 0, asked.count);
+    int value = alpha_beta(&v, 0, true, LEAST, GREATEST);
+    int move = conclude(table, asked.count, marks, proof);
+    return (struct answer){ .value = value, .root_move = move, .leaves = v.leaves };
+}
 
 /* ---- MTD */
 
-static int below(int k, int test) {
-    if (high[k] < test) return 1;
-    if (not_below[k]) return 0;
-    int end = first_of[k] + count_of[k], answer, h;
-    if (count_of[k] == 0) {
-        if (marks[k]) return 0;
-        counted++;
-        h = evaluate(k);
-        answer = h < test;
-    } else if (is_max[k]) {
-        answer = 1, h = LEAST;
-        for (int c = first_of[k]; c < end && answer; c++) answer = below(c, test);
-        for (int c = first_of[k]; c < end; c++) if (high[c] > h) h = high[c];
+struct passes {
+    const uint8_t *table;
+    uint8_t *marks;
+    int leaves;
+    int high[NODES];
+    uint8_t not_below[NODES];
+};
+
+static bool below(struct passes *p, int k, bool is_max, int test) {
+    if (p->high[k] < test) return true;
+    if (p->not_below[k]) return false;
+    int count = child_count(p->table, k), first = first_child(p->table, k), high;
+    bool answer;
+    if (count == 0) {
+        if (p->marks[k]) return false;
+        p->leaves++;
+        high = evaluate(p->table, p->marks, k);
+        answer = high < test;
     } else {
-        answer = 0, h = GREATEST;
-        for (int c = first_of[k]; c < end && !answer; c++) answer = below(c, test);
-        for (int c = first_of[k]; c < end; c++) if (high[c] < h) h = high[c];
+        answer = is_max;
+        for (int c = first; c < first + count && answer == is_max; c++) answer = below(p, c, !is_max, test);
+        high = p->high[first];
+        for (int c = first + 1; c < first + count; c++) high = is_max ? greater(high, p->high[c]) : lesser(high, p->high[c]);
     }
-    high[k] = h;
-    not_below[k] = !answer;
+    p->high[k] = high;
+    p->not_below[k] = !answer;
     return answer;
 }
 
-static struct result mtd(void) {
-    int test = GREATEST, passes = 1;
-    begin();
-    for (int k = 0; k < n; k++) high[k] = GREATEST, not_below[k] = 0;
-    for (; below(0, test); passes++) test = high[0];
-    return finish(test, passes);
+struct answer c_mtd(const uint8_t *table, size_t length, uint8_t *marks, size_t marks_room, uint8_t *proof, size_t proof_room) {
+    struct answer asked = ask(table, length, marks_room, proof_room);
+    if (asked.refused) return asked;
+    int n = asked.count, test = GREATEST, passes = 1;
+    struct passes p;
+    p.table = table, p.marks = marks, p.leaves = 0;
+    memset(marks, 0, n);
+    memset(p.not_below, 0, n);
+    for (int k = 0; k < n; k++) p.high[k] = GREATEST;
+    for (; below(&p, 0, true, test); passes++) test = p.high[0];
+    int move = conclude(table, n, marks, proof);
+    return (struct answer){ .value = test, .root_move = move, .leaves = p.leaves, .steps = passes };
 }
 
 /* ---- SSS* */
 
-static void order(void) {
+enum status { LIVE, SOLVED };
+
+struct state {
+    uint16_t node;
+    uint8_t status;
+    int32_t merit;
+};
+
+static void reset(struct state *list, int n) {
+    for (int k = 0; k < n; k++) list[k] = (struct state){ 0, LIVE, 0 };
+}
+
+/* The state of node k is list[k]. front[k] is LINKS times the greatest merit at or below k, as a number from 0, plus the child
+   to go down to, or 0 where k has a state itself: at Max the leftmost child of the greatest merit, at Min the one with states. */
+enum { LINKS = 4096 };
+
+struct front {
+    const uint8_t *table;
+    struct state *list;
+    uint16_t parent[NODES];
+    uint8_t is_max[NODES];
+    uint32_t front[NODES];
+};
+
+static inline uint32_t packed(int merit, int link) { return (uint32_t)(merit - LEAST) * LINKS + link; }
+static inline int merit_of(uint32_t entry) { return (int)(entry / LINKS) + LEAST; }
+static inline int link_of(uint32_t entry) { return entry % LINKS; }
+
+static inline void put(struct front *f, int k, enum status status, int merit) {
+    f->list[k] = (struct state){ k, status, merit };
+    f->front[k] = packed(merit, 0);
+}
+
+/* Makes the entries above k anew while the greatest merit falls; the node where it stays. */
+static int fall(struct front *f, int k, int test) {
+    while (k != 0 && merit_of(f->front[k]) < test) {
+        int up = f->parent[k], best = link_of(f->front[up]);
+        if (f->is_max[up]) {
+            int first = first_child(f->table, up), end = first + child_count(f->table, up);
+            best = first;
+            for (int c = first + 1; c < end; c++)
+                if (f->front[c] / LINKS > f->front[best] / LINKS) best = c;
+        }
+        f->front[up] = packed(merit_of(f->front[best]), best);
+        k = up;
+    }
+    return k;
+}
+
+/* SSS* of an accepted tree over a lent list; the value. */
+static int run_front(const uint8_t *table, int n, struct state *list, uint8_t *marks, struct answer *counts) {
+    struct front f;
+    int k = 0, test = GREATEST;
+    f.table = table, f.list = list;
+    fill_parents(table, n, f.parent);
+    fill_sides(table, n, f.is_max);
+    put(&f, 0, LIVE, GREATEST);
+    for (;; counts->steps++) {
+        for (int link = link_of(f.front[k]); link; link = link_of(f.front[k])) k = link;
+        if (list[k].status == SOLVED) {
+            int up = f.parent[k];
+            if (k == 0) break;
+            if (f.is_max[up] || k + 1 == first_child(table, up) + child_count(table, up)) {
+                put(&f, up, SOLVED, test);
+            } else {
+                put(&f, k + 1, LIVE, test);
+                f.front[up] = packed(test, k + 1);
+            }
+            k = up;
+        } else if (child_count(table, k) == 0) {
+            counts->leaves++;
+            put(&f, k, SOLVED, lesser(test, evaluate(table, marks, k)));
+            k = fall(&f, k, test);
+            test = merit_of(f.front[0]);
+        } else {
+            int first = first_child(table, k), end = f.is_max[k] ? first + child_count(table, k) : first + 1;
+            for (int c = first; c < end; c++) put(&f, c, LIVE, test);
+            f.front[k] = packed(test, first);
+        }
+    }
+    reset(list, n);
+    return test;
+}
+
+/* The textbook's list, in no order: every step scans it for the best state, leftmost in the tree on equal merit. */
+static int run_list(const uint8_t *table, int n, struct state *list, uint8_t *marks, struct answer *counts) {
+    uint16_t parent[NODES], size[NODES], left[NODES];
+    uint8_t is_max[NODES];
+    int length = 1, value;
+    fill_parents(table, n, parent);
+    fill_sides(table, n, is_max);
     for (int k = 0; k < n; k++) size[k] = 1;
     for (int k = n - 1; k > 0; k--) size[parent[k]] += size[k];
     left[0] = 0;
     for (int k = 0; k < n; k++)
-        for (int c = first_of[k], at = left[k] + 1; c < first_of[k] + count_of[k]; at += size[c++]) left[c] = at;
-}
-
-static struct result sss(void) {
-    int length = 1, replacements = 0;
-    begin();
-    order();
-    list[0].node = 0, list[0].solved = 0, list[0].merit = GREATEST;
-    for (;; replacements++) {
+        for (int i = 0, c = first_child(table, k), at = left[k] + 1; i < child_count(table, k); i++, at += size[c++]) left[c] = at;
+    list[0] = (struct state){ 0, LIVE, GREATEST };
+    for (;; counts->steps++) {
         int best = 0;
         for (int i = 1; i < length; i++)
             if (list[i].merit > list[best].merit || (list[i].merit == list[best].merit && left[list[i].node] < left[list[best].node])) best = i;
         struct state s = list[best];
-        int up = parent[s.node];
-        if (s.solved && s.node == 0) break;
-        if (!s.solved && count_of[s.node] == 0) {
-            int v = evaluate(s.node);
-            counted++;
-            list[best].solved = 1;
-            if (v < s.merit) list[best].merit = v;
-        } else if (!s.solved) {
-            list[best].node = first_of[s.node];
-            for (int i = 1; is_max[s.node] && i < count_of[s.node]; i++) {
-                list[length] = list[best];
-                list[length++].node = first_of[s.node] + i;
-            }
+        int up = parent[s.node], count = child_count(table, s.node), first = first_child(table, s.node);
+        if (s.status == SOLVED && s.node == 0) {
+            value = s.merit;
+            break;
+        }
+        if (s.status == LIVE && count == 0) {
+            counts->leaves++;
+            list[best].status = SOLVED;
+            list[best].merit = lesser(s.merit, evaluate(table, marks, s.node));
+        } else if (s.status == LIVE) {
+            list[best].node = first;
+            for (int i = 1; is_max[s.node] && i < count; i++) list[length++] = (struct state){ first + i, LIVE, s.merit };
         } else if (is_max[up]) {
             int kept = 0;
             for (int i = 0; i < length; i++) {
                 int at = left[list[i].node];
                 if (at <= left[up] || at >= left[up] + size[up]) list[kept++] = list[i];
             }
-            s.node = up;
-            list[kept] = s;
+            list[kept] = (struct state){ up, SOLVED, s.merit };
             length = kept + 1;
-        } else if (s.node + 1 < first_of[up] + count_of[up]) {
-            list[best].node++, list[best].solved = 0;
+        } else if (s.node + 1 < first_child(table, up) + child_count(table, up)) {
+            list[best].node++, list[best].status = LIVE;
         } else {
             list[best].node = up;
         }
     }
-    int value = GREATEST;
-    for (int i = 0; i < length; i++) if (list[i].node == 0) value = list[i].merit;
-    for (int k = 0; k < n; k++) list[k].node = 0, list[k].solved = 0, list[k].merit = 0;
-    return finish(value, replacements);
+    reset(list, n);
+    return value;
 }
 
-/* ---- the program */
+typedef int run(const uint8_t *table, int n, struct state *list, uint8_t *marks, struct answer *counts);
 
-static void show(const char *name, const char *what, const unsigned char *b) {
-    printf("%s %s", name, what);
-    for (int k = 0; k < n; k++) printf(" %d", b[k]);
-    printf("\n");
+static inline struct answer sss(run *run, const uint8_t *table, size_t length, uint8_t *marks, size_t marks_room, uint8_t *proof, size_t proof_room) {
+    struct state list[NODES];
+    struct answer asked = ask(table, length, marks_room, proof_room), found = { 0 };
+    if (asked.refused) return asked;
+    memset(marks, 0, asked.count);
+    found.value = run(table, asked.count, list, marks, &found);
+    found.root_move = conclude(table, asked.count, marks, proof);
+    return found;
 }
 
-static void detail(void) {
-    ab(), show("ab", "marks", marks), show("ab", "flags", proof);
-    struct result m = mtd();
-    show("mtd", "marks", marks), show("mtd", "flags", proof), printf("mtd passes %d\n", m.extra);
-    struct result s = sss();
-    show("sss", "marks", marks), show("sss", "flags", proof), printf("sss replacements %d\n", s.extra);
+struct answer c_sss(const uint8_t *table, size_t length, uint8_t *marks, size_t marks_room, uint8_t *proof, size_t proof_room) {
+    return sss(run_front, table, length, marks, marks_room, proof, proof_room);
 }
 
-static double now(void) { struct timespec t; clock_gettime(CLOCK_MONOTONIC, &t); return t.tv_sec * 1e6 + t.tv_nsec / 1e3; }
+struct answer c_sss_list(const uint8_t *table, size_t length, uint8_t *marks, size_t marks_room, uint8_t *proof, size_t proof_room) {
+    return sss(run_list, table, length, marks, marks_room, proof, proof_room);
+}
 
-int main(int argc, char **argv) {
-    int repeat = argc == 3 && !strcmp(argv[1], "-r") ? atoi(argv[2]) : 0;
-    int length = 0;
-    for (ssize_t got; length < (int)sizeof file && (got = read(0, file + length, sizeof file - length)) > 0;) length += got;
-    struct refusal r = read_tree(file, length);
-    if (r.number) { printf("refused %d %d\n", r.number, r.place); return 0; }
-    struct result a = ab(), m = mtd(), s = sss();
-    printf("method value move leaves\nab %d %d %d\nmtd %d %d %d\nsss %d %d %d\n",
-           a.value, a.move, a.leaves, m.value, m.move, m.leaves, s.value, s.move, s.leaves);
-    if (argc == 2 && !strcmp(argv[1], "-d")) detail();
-    double least[4] = { 1e12, 1e12, 1e12, 1e12 };
-    for (int i = 0; i < repeat; i++) {
-        double t[5] = { now() };
-        read_tree(file, length), t[1] = now();
-        ab(), t[2] = now();
-        mtd(), t[3] = now();
-        sss(), t[4] = now();
-        for (int p = 0; p < 4; p++) if (t[p + 1] - t[p] < least[p]) least[p] = t[p + 1] - t[p];
+/* ---- the check of a proof */
+
+/* The lowest node whose rule for the max tree (bit 1) or the min tree (bit 2) breaks, or -1. */
+static int broken(const uint8_t *table, int n, const uint8_t *is_max, const uint8_t *flags, int bit) {
+    if (!(flags[0] & bit)) return 0;
+    for (int k = 0; k < n; k++) {
+        int count = child_count(table, k), first = first_child(table, k), members = 0, required = 0;
+        for (int c = first; c < first + count; c++) members += (flags[c] & bit) != 0;
+        if (flags[k] & bit) required = count == 0 ? 0 : is_max[k] == (bit == 1) ? count : 1;
+        if (members != required) return k;
     }
-    if (repeat > 0)
-        fprintf(stderr, "read %.1f ab %.1f mtd %.1f sss %.1f us; passes %d replacements %d nodes %d\n",
-                least[0], least[1], least[2], least[3], m.extra, s.extra, n);
-    return 0;
+    return -1;
+}
+
+struct answer c_verify(const uint8_t *table, size_t length, const uint8_t *flags, size_t flags_room) {
+    uint8_t is_max[NODES];
+    int greatest = LEAST, least = GREATEST;
+    struct answer asked = c_check(table, length);
+    if (asked.refused) return asked;
+    int n = asked.count;
+    if (flags_room < asked.count) return no(10, 0);
+    for (int k = 0; k < n; k++)
+        if (flags[k] > 3) return no(11, k);
+    fill_sides(table, n, is_max);
+    for (int bit = 1; bit <= 2; bit++) {
+        int k = broken(table, n, is_max, flags, bit);
+        if (k >= 0) return no(11 + bit, k);
+    }
+    for (int k = 0; k < n; k++) {
+        if (child_count(table, k)) continue;
+        if (flags[k] & 1) greatest = greater(greatest, stored_value(table, k));
+        if (flags[k] & 2) least = lesser(least, stored_value(table, k));
+    }
+    if (greatest != least) return no(14, 0);
+    return (struct answer){ .value = greatest };
+}
+
+/* ---- the program's text */
+
+struct answer c_report(const uint8_t *file, size_t length, uint8_t *text, size_t room) {
+    uint8_t table[TABLE_BYTES], marks[NODES], proof[NODES];
+    char line[TEXT_BYTES];
+    int size;
+    if (room < TEXT_BYTES) return no(10, 0);
+    struct answer r = c_read(file, length, table, sizeof table);
+    if (r.refused) {
+        size = snprintf(line, sizeof line, "refused %d %zu\n", r.refused, r.place);
+        memcpy(text, line, size);
+        return (struct answer){ .count = size };
+    }
+    struct answer a = c_alphabeta(table, FRAME * r.count, marks, sizeof marks, proof, sizeof proof);
+    struct answer m = c_mtd(table, FRAME * r.count, marks, sizeof marks, proof, sizeof proof);
+    struct answer s = c_sss(table, FRAME * r.count, marks, sizeof marks, proof, sizeof proof);
+    size = snprintf(line, sizeof line, "method value move leaves\nab %d %zu %zu\nmtd %d %zu %zu\nsss %d %zu %zu\n",
+                    a.value, a.root_move, a.leaves, m.value, m.root_move, m.leaves, s.value, s.root_move, s.leaves);
+    memcpy(text, line, size);
+    return (struct answer){ .count = size };
 }

@@ -8,7 +8,7 @@ Large files: 4,096 nodes, whole and damaged. A few are fed in pieces, with pause
 Limits: files of 53,247 to 53,250 bytes and around the size of the program's buffer, always. With --every also each change of one
 byte of a small file: cut there, lost, put in, or another byte. A question from 1 to 9 that no file got a "no" to is an error.
 The program's output, its standard error (must be empty) and its exit status (must be 0) are compared.
-With --detail (for baseline.c) the program gets the word -d and has to print marks, flags, passes and replacements too.
+With --detail (for baseline.c) the program gets the word -d and has to print marks, flags, passes and replacements too, those of SSS* twice.
 Files that differ are kept in DIR (default /tmp/fuzz-failures); the exit status is 1 if there is one.
 """
 import argparse
@@ -333,7 +333,8 @@ def main():
         before = time.time()
         want = o.report(file)
         if args.detail:
-            want += "".join(l for l in o.detail(file).splitlines(True) if " order " not in l).encode()
+            lines = [line for line in o.detail(file).splitlines(True) if " order " not in line]
+            want += "".join(lines + [line for line in lines if line.startswith("sss ")]).encode()
         model_time += time.time() - before
         answers[want.split()[1].decode() if want.startswith(b"refused") else "result"] += 1
         mode = rng.random()

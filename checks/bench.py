@@ -1,0 +1,265 @@
+#!/usr/bin/env python3
+"""What each public call costs: the crates against the same work in plain C, by instructions and by time.
+
+    bench.py [TREE..]       all trees, their growth and the whole program; or these trees alone
+
+Prints markdown tables for README.md: a cell is the cost of the call in Rattle, then how many times that of the call in C.
+Instructions are counted by valgrind's callgrind, for each call alone; times are the least of many runs of both sides in turn.
+The crates' calls are taken from a static library that `rt staticlib` proves and compiles, of a crate made from bench.rt.txt under
+target/bench; the C calls are in baseline.c. Both sides must give the same answers and buffers. Needs the kit, gcc and valgrind.
+"""
+import argparse
+import glob
+import hashlib
+import os
+import random
+import re
+import subprocess
+import sys
+
+import oracle as o
+import trees
+
+CHECKS = os.path.dirname(os.path.abspath(__file__))
+ROOT = os.path.dirname(CHECKS)
+WORK = os.path.join(ROOT, "target", "bench")
+CALLS = ("read", "check", "alphabeta", "mtd", "sss", "verify", "report")
+CRATES = ("report", "verify", "sss", "mtd", "alphabeta", "treefile", "frames")
+
+# A string instruction of the processor counts once for each byte in valgrind: the C library is told to use none.
+TUNABLES = "glibc.cpu.x86_rep_stosb_threshold=100000000:glibc.cpu.x86_rep_movsb_threshold=100000000"
+
+
+# ---------------------------------------------------------------- the trees
+
+def comb():
+    """A path of nodes with 40 children each, down to the greatest depth; the last child goes on."""
+    counts = [40]
+    for _ in range(o.MAX_DEPTH - 1):
+        counts += [0] * 39 + [40]
+    return counts + [0] * 40
+
+
+def wide_front():
+    """SSS* keeps a list of 1,320 states at once."""
+    return [40] + [1] * 40 + [33] * 40 + [2] * 1320 + [0] * 2640
+
+
+def deep_front():
+    """A list of 1,200 states below a path of Max nodes with 40 children each, the last of which goes on."""
+    counts = [40]
+    for _ in range((o.MAX_DEPTH - 4) // 2):
+        counts += [0] * 39 + [1, 40]
+    return counts + [1] * 40 + [30] * 40 + [2] * 1200 + [0] * 2400
+
+
+def many(counts):
+    return trees.fill(random.Random(7), counts, "many")
+
+
+def falling(counts):
+    """Values such that the root's high falls by one leaf after the other: each leaf is worth less than every leaf of a smaller path read upwards; a leaf
+    with an inner brother is worth least."""
+    tree = o.Tree(o.table_of(counts, [0] * len(counts)))
+
+    def key(k):
+        path = []
+        if any(tree.kids[c] for c in tree.kids[tree.parent[k]]):
+            path.append(len(counts))
+        while k:
+            path.append(k - tree.kids[tree.parent[k]][0])
+            k = tree.parent[k]
+        return path
+
+    ordered = sorted(tree.leaves(), key=key)
+    rank = {k: len(ordered) - i for i, k in enumerate(ordered)}
+    return o.table_of(counts, [rank[k] for k in tree.leaves()])
+
+
+def worst(counts):
+    return trees.ranked(counts, False)
+
+
+TREES = {
+    "width 2": lambda: many(trees.regular_counts(2, 2047)),
+    "width 5": lambda: many(trees.regular_counts(5, 819)),
+    "width 15": lambda: many(trees.regular_counts(15, 273)),
+    "fan": lambda: many(trees.regular_counts(40, 41)),
+    "chain": lambda: many(trees.regular_counts(1, o.MAX_DEPTH)),
+    "comb": lambda: worst(comb()),
+    "wide front": lambda: falling(wide_front()),
+    "deep front": lambda: falling(deep_front()),
+}
+
+GROWTH = {"%d nodes" % (2 * inner + 1): (lambda inner=inner: many(trees.regular_counts(2, inner))) for inner in (31, 63, 127, 255, 511, 1023, 2047)}
+
+
+# ---------------------------------------------------------------- what is measured
+
+def run(words, **more):
+    got = subprocess.run(words, stdout=subprocess.PIPE, stderr=subprocess.STDOUT, text=True, **more)
+    if got.returncode:
+        sys.exit("bench: %s failed\n%s" % (" ".join(words), got.stdout))
+    return got.stdout
+
+
+def dependencies():
+    """The lines of crates.txt, and all crates that the calls' crates need, each before those that it needs."""
+    text = read(os.path.join(ROOT, "crates.txt"))
+    needs = dict((name.strip(), rest.split()) for name, rest in (line.split(":") for line in re.sub("#.*", "", text).splitlines() if line.strip()))
+    found, todo = [], list(CRATES)
+    while todo:
+        name = todo.pop(0)
+        if name not in found:
+            found.append(name)
+            todo += needs.get(name, [])
+    return text, list(needs), found
+
+
+def read(path):
+    if not os.path.exists(path):
+        return ""
+    with open(path) as f:
+        return f.read()
+
+
+def digest(needed):
+    """Of all that the library is made of."""
+    seen = hashlib.sha256(run(["rt", "version"]).encode())
+    paths = [os.path.join(CHECKS, "bench.rt.txt")]
+    for name in needed:
+        for part in ("src", "specs", "proofs"):
+            paths += glob.glob(os.path.join(ROOT, "crates", name, part, "**", "*.*"), recursive=True)
+    for path in sorted(paths):
+        seen.update(path.encode() + b"\0" + read(path).encode() + b"\0")
+    return seen.hexdigest()
+
+
+def link(path, to):
+    """Makes a symbolic link, anew where there was one."""
+    if os.path.islink(path):
+        os.remove(path)
+    os.symlink(to, path)
+
+
+def build():
+    """A repository under target/bench with the repository's crates, what is proved of them, and one crate more; its library; the C programs."""
+    text, names, needed = dependencies()
+    crates, target = os.path.join(WORK, "crates"), os.path.join(WORK, "target")
+    os.makedirs(os.path.join(crates, "bench", "src"), exist_ok=True)
+    os.makedirs(target, exist_ok=True)
+    for old in os.listdir(crates):
+        if os.path.islink(os.path.join(crates, old)):
+            os.remove(os.path.join(crates, old))
+    for name in names:
+        link(os.path.join(crates, name), os.path.join(ROOT, "crates", name))
+    for part in ("rlib", "stamp"):
+        os.makedirs(os.path.join(ROOT, "target", part), exist_ok=True)
+        link(os.path.join(target, part), os.path.join(ROOT, "target", part))
+    with open(os.path.join(WORK, "crates.txt"), "w") as f:
+        f.write("%s\nbench: %s\n" % (text, " ".join(needed)))
+    with open(os.path.join(crates, "bench", "src", "lib.rt"), "w") as f:
+        f.write(read(os.path.join(CHECKS, "bench.rt.txt")))
+    library, sources = os.path.join(target, "staticlib", "libbench.a"), digest(needed)
+    made_of = read(library + ".sources")
+    if made_of != sources or not os.path.exists(library):
+        run(["rt", "staticlib", "bench"], cwd=WORK)
+        with open(library + ".sources", "w") as f:
+            f.write(sources)
+    c = ["gcc", "-O2", "-Wall", "-DDEPTH=%d" % o.MAX_DEPTH]
+    source = os.path.join(CHECKS, "%s.c")
+    run(c + ["-o", os.path.join(WORK, "bench"), source % "bench", source % "baseline", library])
+    run(c + ["-o", os.path.join(WORK, "baseline"), source % "program", source % "baseline"])
+
+
+def write(name, table):
+    assert o.table_no(table) is None, name
+    path = os.path.join(WORK, name.replace(" ", "-") + ".tree")
+    with open(path, "wb") as f:
+        f.write(o.file_of(table))
+    return path
+
+
+def instructions(path):
+    """Of each side and call, by the dumps that the bench program asks for."""
+    out = os.path.join(WORK, "callgrind")
+    for old in glob.glob(out + ".*"):
+        os.remove(old)
+    run(["valgrind", "--tool=callgrind", "--callgrind-out-file=" + out, os.path.join(WORK, "bench"), path, "count"], env=dict(os.environ, GLIBC_TUNABLES=TUNABLES))
+    got = {}
+    for name in glob.glob(out + ".*"):
+        text = read(name)
+        title = re.search(r"^desc: Trigger: Client Request: (\S+) (\S+)$", text, re.M)
+        if title:
+            got[title.groups()] = int(re.search(r"^summary: (\d+)", text, re.M).group(1))
+    return got
+
+
+def times(path):
+    """The same in nanoseconds."""
+    return {tuple(line.split()[:2]): float(line.split()[2]) for line in run([os.path.join(WORK, "bench"), path, "time"]).splitlines()}
+
+
+def whole(words, path):
+    """The instructions of a whole run of a program."""
+    with open(path, "rb") as f:
+        said = subprocess.run(["valgrind", "--tool=callgrind", "--callgrind-out-file=/dev/null"] + words, stdin=f, stdout=subprocess.DEVNULL,
+                              stderr=subprocess.PIPE, text=True, env=dict(os.environ, GLIBC_TUNABLES=TUNABLES)).stderr
+    return int(re.search(r"Collected : (\d+)", said).group(1))
+
+
+# ---------------------------------------------------------------- the tables
+
+def number(x):
+    return "{:,.0f}".format(x) if x >= 9.95 else "%.1f" % x
+
+
+def cell(got, call, unit, other="c"):
+    return "%s (%.2f)" % (number(got["rattle", call] / unit), got["rattle", call] / got[other, call])
+
+
+def table(title, first, rows, measured, unit):
+    print("\n%s\n" % title)
+    print("| %s | nodes | %s | sss, textbook list |" % (first, " | ".join(CALLS)))
+    print("|---|" + "---|" * (len(CALLS) + 2))
+    for name, nodes in rows:
+        got = measured[name]
+        by = unit if isinstance(unit, (int, float)) else unit(nodes)
+        print("| %s | %s | %s | %s |" % (name, "{:,}".format(nodes), " | ".join(cell(got, call, by) for call in CALLS), cell(got, "sss", by, "list")))
+
+
+def main():
+    parser = argparse.ArgumentParser()
+    parser.add_argument("trees", nargs="*", metavar="TREE", help=", ".join(TREES))
+    args = parser.parse_args()
+    unknown = set(args.trees) - set(TREES)
+    if unknown:
+        parser.error("no such tree: %s" % ", ".join(sorted(unknown)))
+    build()
+    chosen = {name: make for name, make in TREES.items() if not args.trees or name in args.trees}
+    growth = {} if args.trees else GROWTH
+    rows, counted, timed, paths = {}, {}, {}, {}
+    for name, make in {**chosen, **growth}.items():
+        made = make()
+        paths[name] = write(name, made)
+        rows[name] = len(made) // 6
+        counted[name] = instructions(paths[name])
+        if name in chosen:
+            timed[name] = times(paths[name])
+    listed = [(name, rows[name]) for name in chosen]
+    table("Thousands of instructions, and how many times those of C:", "tree", listed, counted, 1000)
+    table("Microseconds, and how many times those of C:", "tree", listed, timed, 1000)
+    if growth:
+        table("Instructions a node, and how many times those of C, as a full tree of width 2 grows:", "tree",
+              [(name, rows[name]) for name in growth], counted, lambda nodes: nodes)
+    program = os.path.join(ROOT, "target", "bin", "analyse")
+    if not args.trees and os.path.exists(program):
+        print("\nWhole runs of the program, thousands of instructions:\n\n| tree | analyse | in C, same front | in C, textbook list |\n|---|---|---|---|")
+        base = os.path.join(WORK, "baseline")
+        for name in chosen:
+            ours, front, textbook = (whole(words, paths[name]) for words in ([program], [base], [base, "-l"]))
+            print("| %s | %s | %s (%.2f) | %s (%.2f) |" % (name, number(ours / 1000), number(front / 1000), ours / front, number(textbook / 1000), ours / textbook))
+
+
+if __name__ == "__main__":
+    main()

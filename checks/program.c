@@ -1,0 +1,51 @@
+/* The program of document 01 over the calls of baseline.c.
+
+   baseline < FILE        prints what 01 says
+   baseline -l < FILE     the same, SSS* with the textbook's list
+   baseline -d < FILE     the same as the first, then marks, flags, passes and replacements, as oracle.py --detail, by both kinds of SSS* */
+#include "baseline.h"
+#include <stdio.h>
+#include <string.h>
+#include <unistd.h>
+
+typedef struct answer searcher(const uint8_t *table, size_t length, uint8_t *marks, size_t marks_room, uint8_t *proof, size_t proof_room);
+
+static uint8_t file[FILE_BYTES + 1], table[TABLE_BYTES], marks[NODES], proof[NODES];
+static size_t nodes;
+
+static struct answer run(searcher *search) { return search(table, FRAME * nodes, marks, sizeof marks, proof, sizeof proof); }
+
+static void show(const char *name, const char *what, const uint8_t *bytes) {
+    printf("%s %s", name, what);
+    for (size_t k = 0; k < nodes; k++) printf(" %d", bytes[k]);
+    printf("\n");
+}
+
+static void detail(const char *name, searcher *search, const char *steps) {
+    struct answer found = run(search);
+    show(name, "marks", marks);
+    show(name, "flags", proof);
+    if (steps) printf("%s %s %zu\n", name, steps, found.steps);
+}
+
+int main(int argc, char **argv) {
+    const char *option = argc > 1 ? argv[1] : "";
+    size_t length = 0;
+    for (ssize_t got; length < sizeof file && (got = read(0, file + length, sizeof file - length)) > 0;) length += got;
+    struct answer r = c_read(file, length, table, sizeof table);
+    if (r.refused) {
+        printf("refused %d %zu\n", r.refused, r.place);
+        return 0;
+    }
+    nodes = r.count;
+    struct answer a = run(c_alphabeta), m = run(c_mtd), s = run(strcmp(option, "-l") ? c_sss : c_sss_list);
+    printf("method value move leaves\nab %d %zu %zu\nmtd %d %zu %zu\nsss %d %zu %zu\n",
+           a.value, a.root_move, a.leaves, m.value, m.root_move, m.leaves, s.value, s.root_move, s.leaves);
+    if (!strcmp(option, "-d")) {
+        detail("ab", c_alphabeta, NULL);
+        detail("mtd", c_mtd, "passes");
+        detail("sss", c_sss, "replacements");
+        detail("sss", c_sss_list, "replacements");
+    }
+    return 0;
+}
