@@ -39,7 +39,7 @@ static const struct side {
     { "list", NULL, NULL, { NULL, NULL, c_sss_list }, NULL, NULL },
 };
 
-enum { SIDES = sizeof sides / sizeof *sides, FILLED = 170, LEAST_RUNS = 20, LONG_ENOUGH = 100000000 };
+enum { SIDES = sizeof sides / sizeof *sides, FILLED = 170, LEAST_RUNS = 20, LONG_ENOUGH = 100000000, CLOCK_TIME = 30000 };
 
 /* What a call is given, and what it may write. */
 static uint8_t file[FILE_BYTES], table[TABLE_BYTES], flags[NODES];
@@ -61,40 +61,54 @@ static int same(struct answer a, struct answer b) {
         && a.root_move == b.root_move && a.leaves == b.leaves && a.steps == b.steps;
 }
 
+/* The processor time of this process, which other processes do not add to. */
 static double now(void) {
     struct timespec t;
-    clock_gettime(CLOCK_MONOTONIC, &t);
+    clock_gettime(CLOCK_PROCESS_CPUTIME_ID, &t);
     return t.tv_sec * 1e9 + t.tv_nsec;
 }
 
-/* One call, counted or timed; its time. */
-static double measured(const struct side *s, enum call call, struct lent *l, struct answer *answer) {
+/* One call, counted. */
+static struct answer counted(const struct side *s, enum call call, struct lent *l) {
     char title[64];
     snprintf(title, sizeof title, "%s %s", s->name, call_names[call]);
     memset(l, FILLED, sizeof *l);
-    double start = now();
     CALLGRIND_ZERO_STATS;
-    *answer = perform(s, call, l);
+    struct answer answer = perform(s, call, l);
     CALLGRIND_DUMP_STATS_AT(title);
-    return now() - start;
+    return answer;
 }
 
-/* A call on every side, once, or time and again for a while. */
-static void compare(enum call call, int timed) {
-    double least[SIDES] = { 0 }, start = now();
-    for (int run = 0; run == 0 || (timed && (run < LEAST_RUNS || now() - start < LONG_ENOUGH)); run++) {
-        struct answer first, other;
-        for (int i = 0; i < SIDES; i++) {
-            if (sides[i].read == NULL && call != SSS) continue;
-            double took = measured(&sides[i], call, &lent[i > 0], i > 0 ? &other : &first);
-            if (run == 0 || took < least[i]) least[i] = took;
-            if (i > 0 && (!same(first, other) || memcmp(&lent[0], &lent[1], sizeof lent[0]))) {
-                fprintf(stderr, "bench: %s and %s differ in %s\n", sides[0].name, sides[i].name, call_names[call]);
-                exit(1);
-            }
+/* The time of one call, over so many that reading the clock does not matter. */
+static double timed(const struct side *s, enum call call, struct lent *l, int calls) {
+    double start = now();
+    for (int i = 0; i < calls; i++) perform(s, call, l);
+    return (now() - start) / calls;
+}
+
+/* A call on every side, which must agree. */
+static void compare(enum call call) {
+    struct answer first = counted(&sides[0], call, &lent[0]);
+    for (int i = 1; i < SIDES; i++) {
+        if (sides[i].read == NULL && call != SSS) continue;
+        if (!same(first, counted(&sides[i], call, &lent[1])) || memcmp(&lent[0], &lent[1], sizeof lent[0])) {
+            fprintf(stderr, "bench: %s and %s differ in %s\n", sides[0].name, sides[i].name, call_names[call]);
+            exit(1);
         }
     }
-    for (int i = 0; timed && i < SIDES; i++)
+}
+
+/* The least times of a call, on every side in turn for a while. */
+static void print_times(enum call call) {
+    double least[SIDES], start = now();
+    for (int i = 0; i < SIDES; i++) least[i] = sides[i].read || call == SSS ? timed(&sides[i], call, lent, 1) : 0;
+    for (int run = 0; run < LEAST_RUNS || now() - start < LONG_ENOUGH; run++)
+        for (int i = 0; i < SIDES; i++)
+            if (least[i] > 0) {
+                double took = timed(&sides[i], call, lent, 1 + CLOCK_TIME / least[i]);
+                if (took < least[i]) least[i] = took;
+            }
+    for (int i = 0; i < SIDES; i++)
         if (least[i] > 0) printf("%s %s %.0f\n", sides[i].name, call_names[call], least[i]);
 }
 
@@ -107,6 +121,9 @@ int main(int argc, char **argv) {
     file_length = fread(file, 1, sizeof file, f);
     nodes = c_read(file, file_length, table, sizeof table).count;
     c_alphabeta(table, FRAME * nodes, lent[0].marks, NODES, flags, NODES);
-    for (enum call call = 0; call < CALLS; call++) compare(call, !strcmp(argv[2], "time"));
+    for (enum call call = 0; call < CALLS; call++) {
+        compare(call);
+        if (!strcmp(argv[2], "time")) print_times(call);
+    }
     return 0;
 }
