@@ -1,5 +1,5 @@
 -- A table is accepted exactly when it is as 01 states it, clause by clause; and an accepted table is well-formed.
-use Prim.Native.Nat.{ℕ, _*_, _%_, _≤_, _<_}
+use Prim.Native.Nat.{ℕ, _%_, _≤_, _<_}
 use native.Mathlib.Omega.{arith}
 use mathlib.Core.Path.{_≡_}
 use mathlib.Core.Option.{none, some}

@@ -18,7 +18,8 @@ use Rattle.gametree.specs.Sss.{Status, LIVE, SOLVED, State, live, solved
 use Rattle.gametree.proofs.Lists.{all-append, all-map, all-zip}
 use Rattle.gametree.proofs.Nodes.{number-in}
 use Rattle.gametree.proofs.SssSteps.{Takes, step-at, stepFirst-at, purge-outside, purge-length}
-use Rattle.gametree.proofs.Frontier.{AtMost, Below, outdone, join-frontier, frontier, frontierKids, Fitted, FittedKids}
+use Rattle.gametree.proofs.Frontier.{AtMost, Below, outdone, join-frontier, frontier, frontierKids, Fitted}
+use Rattle.gametree.proofs.Frontier.{FittedKids}
 use Rattle.gametree.proofs.Frontier.{states, statesKids, opened}
 
 -- THE STATES OF A NODE ARE OF NODES BELOW IT, AND NO MORE THAN THESE

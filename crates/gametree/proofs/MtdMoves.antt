@@ -20,7 +20,8 @@ use Rattle.gametree.proofs.Bounds.{minimax-score, low≤, ≤high}
 use Rattle.gametree.proofs.MtdSound.{memoLow, memoLow-minimax, minimax-memoHigh, Kept, KeptKids, sound}
 use Rattle.gametree.proofs.MtdValue.{kept-lower, fresh-kept, fresh-memoHigh, freshKids-memoHigh, mtd-right}
 use Rattle.gametree.proofs.MtdMarks.{mtd-marks, memoBound-is}
-use Rattle.gametree.proofs.Frontier.{ReadyKids, Fitted, ready-lower, AtMost, states, notBelow-low, notBelow-high, next}
+use Rattle.gametree.proofs.Frontier.{ReadyKids, Fitted, ready-lower, AtMost, states, notBelow-low}
+use Rattle.gametree.proofs.Frontier.{notBelow-high, next}
 use Rattle.gametree.proofs.Frontier.{next-high}
 use Rattle.gametree.proofs.Moves.{Shown, move-same}
 

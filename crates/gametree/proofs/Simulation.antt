@@ -107,8 +107,8 @@ module _ (ν : ℕ → ℕ) (Y : Layout) (γ : ℕ) (g : γ ≤ greatest) where
   -- AN INNER NODE
 
   -- one that is ready and whose high is below the test costs no step; an untouched one is entered
-  sim-inner : (n : ℕ) (s : Side) (ks : Kids) (m : Memo (inner n s ks)) (w : Fitted ν γ (inner n s ks) m) (L R : List State)
-      → AroundTree Y γ (inner n s ks) L R
+  sim-inner : (n : ℕ) (s : Side) (ks : Kids) (m : Memo (inner n s ks)) (w : Fitted ν γ (inner n s ks) m)
+      → (L R : List State) → AroundTree Y γ (inner n s ks) L R
       → Sim ν Y γ (inner n s ks) (work ν γ (inner n s ks) m w) (states ν γ (inner n s ks) m w) L R
       (entered n s ks (passKids ν γ s ks (m .kids)))
       → Sim ν Y γ (inner n s ks) (work ν γ (inner n s ks) m w) (states ν γ (inner n s ks) m w) L R

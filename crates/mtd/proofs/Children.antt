@@ -23,7 +23,8 @@ mutual
   -- a pass evaluates at most as many leaves as there are nodes
   pub pass-few : (ν : ℕ → ℕ) (γ : ℕ) (T : Tree) (m : Memo T) → length (pass ν γ T m .evaluated) ≤ size T
   pass-few ν γ (leaf n) m =
-      cond-cases (λ l. length l ≤ 1) (m .evaluated) _ _ (λ _. omega arith) (λ _. omega arith)
+      cond-cases (λ (q : Pass (leaf n)). length (q .evaluated) ≤ 1) (m .evaluated) _ _ (λ _. omega arith)
+      (λ _. omega arith)
   pass-few ν γ (inner n s ks) m =
       let few = pass-few-kids ν γ s ks (m .kids) in
       cond-cases (λ (q : Pass (inner n s ks)). length (q .evaluated) ≤ suc (sizeKids ks))

@@ -4,16 +4,17 @@ use Prim.Native.Nat.{ℕ, suc, _≤_, _<_}
 use native.Mathlib.Omega.{arith}
 use mathlib.Core.Path.{_≡_, refl, sym, ap, ap₂, _∙_, subst}
 use mathlib.Core.Logic.{inl, inr}
-use mathlib.Core.Bool.{Bool, true, false, cond}
-use mathlib.Core.List.{List, [], _∷_}
+use mathlib.Core.Bool.{true, false, cond}
+use mathlib.Core.List.{List}
 use lib.Dec.{leb}
-use lib.ListN.{length, getD, set}
+use lib.ListN.{getD, set}
 use lib.Seq.{getD-set-same, getD-set-other}
 use borrow.Author.Tests.{lt-ltb, le-ltb, eqb-true}
 use Rattle.gametree.specs.declared.Side.{Side}
 use Rattle.gametree.specs.Tree.{Tree, leaf, inner, Kids, InKids}
 use Rattle.gametree.specs.Bounds.{high}
-use Rattle.gametree.specs.Mtd.{Memo, memoHigh, stay, entered}
+use Rattle.gametree.specs.Mtd.{Memo, memoHigh, Pass, stay, entered}
+use Rattle.gametree.proofs.Choice.{cond-cases}
 use Rattle.gametree.proofs.MemoArrays.{readMemoKids-same}
 use Rattle.frames.specs.Tree.{treeAt, valuation}
 use Rattle.certificate.specs.Buffer.{marked, markAll}
@@ -27,34 +28,45 @@ use Rattle.mtd.proofs.Children.{passKidsOf, PassedKids}
 module _ (t : List ℕ) (i γ : ℕ) (m : Memory) (r : Tried) (is-leaf : treeAt t i ≡ leaf i)
     (room : Room (suc i) m) (a : r .answer ≡ leb γ (valuation t i))
     (n : r .leaves ≡ cond (marked (m .evaluated) i) 0 1) where
-  tried-once : (b : Bool) → _≡_ {A = ℕ} (cond b 0 1) (length (cond b [] (i ∷ [])))
-  tried-once true = refl
-  tried-once false = refl
+  -- its mark is 1 now
+  leaf-marked : marked (set (m .evaluated) i 1) i ≡ true
+  leaf-marked = marked-same (m .evaluated) i true (omega (arith, room .evaluated))
 
-  tried-marks : (b : Bool) → marked (m .evaluated) i ≡ b
-      → set (m .evaluated) i 1 ≡ markAll (m .evaluated) (cond b [] (i ∷ []))
+  -- what the pass says, by whether it was evaluated before
+  record Done (q : Pass (leaf i)) : Type 0 where
+    answer : r .answer ≡ q .notBelow
+    evaluated : Evaluated (m .evaluated) (set (m .evaluated) i 1) (r .leaves) (q .evaluated)
+    next : marked (set (m .evaluated) i 1) i ≡ q .next .evaluated
+
+  leaf-done : Done (passOf t γ m (leaf i))
   unfolding markAll
-  tried-marks true e = set-same (m .evaluated) i 1 (eqb-true _ _ e)
-  tried-marks false e = refl
+  leaf-done =
+      cond-cases Done (marked (m .evaluated) i) _ _
+      (λ e. record {
+        answer = a;
+        evaluated = record { leaves = rw e at n; marks = set-same (m .evaluated) i 1 (eqb-true _ _ e) };
+        next = leaf-marked ∙ sym e;
+      })
+      (λ e. record {
+        answer = a;
+        evaluated = record { leaves = rw e at n; marks = refl };
+        next = leaf-marked;
+      })
 
   pub leaf-passed : Passed t (leaf i) γ m
-      (memory (set (m .evaluated) i 1) (set (m .highs) i (valuation t i)) (set (m .found) i (cond (r .answer) 1 0))) r
+      (memory (set (m .evaluated) i 1) (set (m .highs) i (valuation t i)) (m .found)) r
   leaf-passed =
-      let e = marked-same (m .evaluated) i true (omega (arith, room .evaluated)) in
-      let f = marked-same (m .found) i (r .answer) (omega (arith, room .found)) in
       record {
-        answer = a;
-        evaluated =
-            record {
-              leaves = n ∙ tried-once (marked (m .evaluated) i);
-              marks = tried-marks (marked (m .evaluated) i) refl;
-            };
+        answer = leaf-done .answer;
+        evaluated = leaf-done .evaluated;
         memo =
             record {
-              got = ap₂ {C = Memo (leaf i)} (λ x y. record { evaluated = x; notBelow = y }) e (f ∙ a);
-              elsewhere = λ p h. (marked-other (m .evaluated) i p 1 h, marked-other (m .found) i p _ h);
+              got = ap {B = Memo (leaf i)} (λ x. record { evaluated = x }) (leaf-done .next);
+              elsewhere = λ p h. (marked-other (m .evaluated) i p 1 h, refl);
             };
-        right = λ k h. rw (h, is-leaf, e) (getD-set-same (m .highs) i (valuation t i) 0 (omega (arith, room .highs)));
+        right = λ k h.
+            rw (h, is-leaf, leaf-marked)
+            (getD-set-same (m .highs) i (valuation t i) 0 (omega (arith, room .highs)));
         others = λ k h. getD-set-other (m .highs) i k (valuation t i) 0 h;
       }
 

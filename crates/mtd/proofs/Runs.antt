@@ -34,7 +34,7 @@ mutual
   -- where no node is marked and none was found, the memory is the fresh one
   read-fresh : (M F : Bits) (T : Tree) → ((p : ℕ) → In p T → (M p ≡ false) × (F p ≡ false)) → readMemo M F T ≡ fresh T
   read-fresh M F (leaf n) h =
-      ap₂ {C = Memo (leaf n)} (λ x y. record { evaluated = x; notBelow = y }) (h n refl .0) (h n refl .1)
+      ap {B = Memo (leaf n)} (λ x. record { evaluated = x }) (h n refl .0)
   read-fresh M F (inner n s ks) h =
       ap₂ {C = Memo (inner n s ks)} (λ x y. record { notBelow = x; kids = y }) (h n (inl refl) .1)
       (read-fresh-kids M F ks (λ p i. h p (inr i)))

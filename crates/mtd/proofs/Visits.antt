@@ -2,11 +2,10 @@
 use Prim.Native.Nat.{ℕ, _+_, _-_, _≤_, _<_}
 use native.Mathlib.Omega.{arith}
 use mathlib.Core.Path.{_≡_, sym, ap, _∙_, subst}
-use mathlib.Core.Bool.{Bool, true, false, cond}
+use mathlib.Core.Bool.{true, false, cond}
 use mathlib.Core.List.{List}
 use lib.Dec.{leb}
 use lib.ListN.{getD, set}
-use lib.Seq.{getD-set-same}
 use Rattle.gametree.specs.declared.Place.{Place}
 use Rattle.gametree.specs.Tree.{Tree, inner, greatest, minimax, Distinct}
 use Rattle.gametree.specs.Bounds.{known}
@@ -42,17 +41,13 @@ module _ (t : List ℕ) (wf : WellFormed t) (i : ℕ) (inside : i < frames t) (n
   leaf-known right e = right i (in-own t wf i) ∙ rw (tree-leaf t wf i inside none, e)
 
   -- it is tried: evaluated, if it was not before, and compared with the test
-  pub visit-leaf : (γ : ℕ) (e h : List ℕ) (x : ℕ) (b : Bool) (n : ℕ) → Room (frames t) m
+  pub visit-leaf : (γ : ℕ) (e h : List ℕ) (r : Tried) → Room (frames t) m
       → e ≡ set (m .evaluated) i 1 → h ≡ set (m .highs) i (valuation t i)
-      → x ≡ cond b 1 0 → b ≡ leb γ (getD h i 0) → n ≡ cond (marked (m .evaluated) i) 0 1
-      → Passed t (treeAt t i) γ m (memory e h (set (m .found) i x)) (record { answer = b; leaves = n })
-  visit-leaf γ e h x b n room p q y a l =
-      let here = room-at room inside in
-      let score = ap (λ l. getD l i 0) q ∙ getD-set-same (m .highs) i (valuation t i) 0 (here .highs) in
+      → r .answer ≡ leb γ (valuation t i) → r .leaves ≡ cond (marked (m .evaluated) i) 0 1
+      → Passed t (treeAt t i) γ m (memory e h (m .found)) r
+  visit-leaf γ e h r room p q a l =
       let is-leaf = tree-leaf t wf i inside none in
-      rw (p, q, y)
-      (passed-at is-leaf
-      (leaf-passed t i γ m (record { answer = b; leaves = n }) is-leaf here (a ∙ ap (leb γ) score) l))
+      rw (p, q) (passed-at is-leaf (leaf-passed t i γ m r is-leaf (room-at room inside) a l))
 
 -- an inner node
 module _ {t : List ℕ} {i first end : ℕ} (family : Family t i first end) {m : Memory} {p : Place} (ready : Ready t m i p)

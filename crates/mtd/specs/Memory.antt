@@ -18,7 +18,8 @@ use Rattle.certificate.specs.Buffer.{marked, markAll}
 use Rattle.mtd.specs.declared.Tried.{Tried}
 use Rattle.mtd.specs.declared.Settled.{Settled}
 
--- the marks of the evaluated leaves, the high of each node, and a 1 for each node that a pass found not below its test
+-- the marks of the evaluated leaves, the high of each node, and a 1 for each inner node that a pass found not below its
+-- test
 pub record Memory : Type 0 where
   pub evaluated : List ℕ
   pub highs : List ℕ

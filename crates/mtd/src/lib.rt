@@ -17,8 +17,8 @@ use gametree::Place;
 use gametree::Side;
 ghost use mathlib.Core.Path.{_≡_};
 ghost use mathlib.Core.Bool.{true, cond, _||_};
-ghost use Prim.Native.Nat.{_+_, _-_, _<_, _≤_};
-ghost use lib.Dec.{eqb};
+ghost use Prim.Native.Nat.{_+_, _<_, _≤_};
+ghost use lib.Dec.{leb, eqb};
 ghost use lib.ListN.{length, getD, set};
 ghost use Rattle.gametree.specs.Mtd.{settles as settlesOf, mtd};
 ghost use Rattle.frames.specs.Frame.{maxNodes, frames, childCount};
@@ -147,7 +147,7 @@ fn visit(
 {
     let count = child_count(table, node);
     if count == 0 {
-        return visit_leaf(table, evaluated, highs, found, node, place, test);
+        return visit_leaf(table, evaluated, highs, node, place.depth, test);
     }
     if highs[node] < test {
         return not_entered(false);
@@ -215,20 +215,20 @@ fn visit_leaf(
     table: &[u8],
     evaluated: &mut [u8],
     highs: &mut [u32],
-    found: &mut [u8],
     node: usize,
-    place: Place,
+    depth: u32,
     test: u32,
 ) -> Tried
-    requires { ⌜ Ready (now table) (memory (now evaluated) (now highs) (now found)) node place ⌝ }
-    requires { ⌜ childCount (now table) node ≡ 0 ⌝ }
-    ensures { λ r. ⌜ Passed (now (table .entry)) (treeAt (now (table .entry)) node) test
-        (memory (now (evaluated .entry)) (now (highs .entry)) (now (found .entry)))
-        (memory (now (evaluated .exit)) (now (highs .exit)) (now (found .exit))) r ⌝ }
+    requires { ⌜ (node < frames (now table)) × (node < length (now evaluated)) × (node < length (now highs)) ⌝ }
+    requires { ⌜ (childCount (now table) node ≡ 0) × (depth ≡ depthOf (now table) node) × (depth ≤ maxNodes) ⌝ }
+    requires { ⌜ (marked (now evaluated) node ≡ true → getD (now highs) node 0 ≡ valuation (now table) node) ⌝ }
+    ensures { λ r. ⌜ r .answer ≡ leb test (valuation (now (table .entry)) node) ⌝ }
+    ensures { λ r. ⌜ r .leaves ≡ cond (marked (now (evaluated .entry)) node) 0 1 ⌝ }
+    ensures { λ _. ⌜ now (evaluated .exit) ≡ set (now (evaluated .entry)) node 1 ⌝ }
+    ensures { λ _. ⌜ now (highs .exit) ≡ set (now (highs .entry)) node (valuation (now (table .entry)) node) ⌝ }
 {
-    let leaves = try_leaf(table, evaluated, highs, node, place.depth);
+    let leaves = try_leaf(table, evaluated, highs, node, depth);
     let answer = test <= highs[node];
-    found[node] = found_entry(answer);
     Tried { answer, leaves }
 }
 

@@ -2,19 +2,19 @@
 -- recursion is the number of frames after the node, that of the loop the number of children left.
 use Prim.Native.Nat.{ℕ, _+_, _-_, _<_}
 use native.Mathlib.Omega.{arith}
-use mathlib.Core.Path.{refl, sym, ap, _∙_}
+use mathlib.Core.Path.{_≡_, refl, sym, ap, _∙_}
 use lib.ListN.{length-set}
 use borrow.Author.Needs.{needs}
 use borrow.Author.Tests.{eq-eqb, ne-eqb}
 use borrow.Fn.Kinds.{In}
 use borrow.Fn.PlainCycle.{Measures, is, falls, and}
-use Rattle.frames.specs.Frame.{frames}
+use Rattle.frames.specs.Frame.{frames, childCount}
 use Rattle.frames.proofs.Next.{child-later, child-within}
 use Rattle.mtd.specs.Memory.{Memory, memory, Room}
 use Rattle.mtd.proofs.Arrays.{Long, room-kept}
 use Rattle.mtd.proofs.Turns.{Turn, Family, family-within, turn-first, turn-child, turn-ready, turn-few}
 use Rattle.mtd.proofs.Turns.{turn-next, turn-last}
-use Rattle.mtd.proofs.Visits.{ready-shallow, visit-below, visit-found, visit-entered}
+use Rattle.mtd.proofs.Visits.{ready-shallow, leaf-known, visit-leaf, visit-below, visit-found, visit-entered}
 use Rattle.mtd.proofs.visit.Reads as visit′
 use Rattle.mtd.proofs.visit.Kinds as visit-kinds
 use Rattle.mtd.proofs.+visit.Lts-visit as lts
@@ -123,7 +123,16 @@ module _ (t : ℕ) where
   child-count-requires c κs = search needs
 
   visit-leaf-requires : lts.Need-visit-leaf-requires (calls t) (at t) visit′.Post Inv μ-loop
-  visit-leaf-requires c κs = search needs
+  visit-leaf-requires c κs =
+      let a = c .before .before .before .before .before .before .before .before in
+      let p = a .pre .1 in
+      let none : childCount (a .args .table .now) (a .args .node) ≡ 0 = search needs in (
+        (p .inside, omega (arith, p .inside, p .room .evaluated), omega (arith, p .inside, p .room .highs)),
+        (
+          (none, ap (λ p. p .depth) (p .placed), ready-shallow p),
+          leaf-known (a .args .table .now) (p .formed) (a .args .node) (p .inside) none (before a) (p .right),
+        ),
+      )
 
   same-length : lts.Need-same-length (calls t) (at t) visit′.Post Inv μ-loop
   same-length c = search needs
@@ -131,11 +140,15 @@ module _ (t : ℕ) where
   same-length-2 : lts.Need-same-length-2 (calls t) (at t) visit′.Post Inv μ-loop
   same-length-2 c = search needs
 
-  same-length-3 : lts.Need-same-length-3 (calls t) (at t) visit′.Post Inv μ-loop
-  same-length-3 c = search needs
-
   returns : lts.Need-returns (calls t) (at t) visit′.Post Inv μ-loop
-  returns c = search needs
+  returns c =
+      let v = c .before .before .before .before in
+      let a = v .before .before .before .before .before .before .before .before .before in
+      let p = a .pre .1 in
+      let l = v .visit-leaf .ensures in
+      let none : childCount (a .args .table .now) (a .args .node) ≡ 0 = search needs in
+      visit-leaf (a .args .table .now) (p .formed) (a .args .node) (p .inside) none (before a) (a .args .test) _ _ _
+      (p .room) (l .1 .1 .0) (l .1 .1 .1) (l .0) (l .1 .0)
 
   mul-if2 : lts.Need-mul-if2 (calls t) (at t) visit′.Post Inv μ-loop
   mul-if2 c = search needs
@@ -236,14 +249,14 @@ module _ (t : ℕ) where
       let d = c .before .before .before .before in
       omega (arith, entry (head (child d) .before) .pre .1 .inside, room d .found)
 
+  same-length-3 : lts.Need-same-length-3 (calls t) (at t) visit′.Post Inv μ-loop
+  same-length-3 c = search needs
+
   same-length-4 : lts.Need-same-length-4 (calls t) (at t) visit′.Post Inv μ-loop
-  same-length-4 c = search needs
+  same-length-4 c = simp length-set (long (c .before .before .before .before) .highs)
 
   same-length-5 : lts.Need-same-length-5 (calls t) (at t) visit′.Post Inv μ-loop
-  same-length-5 c = simp length-set (long (c .before .before .before .before) .highs)
-
-  same-length-6 : lts.Need-same-length-6 (calls t) (at t) visit′.Post Inv μ-loop
-  same-length-6 c = simp length-set (long (c .before .before .before .before) .found)
+  same-length-5 c = simp length-set (long (c .before .before .before .before) .found)
 
   returns-4 : lts.Need-returns-4 (calls t) (at t) visit′.Post Inv μ-loop
   returns-4 c =
@@ -267,7 +280,6 @@ pub +visit-spec : {M : Type 1} → statement M
     (visit-leaf-requires t)
     (same-length t)
     (same-length-2 t)
-    (same-length-3 t)
     (returns t)
     (mul-if2 t)
     (slice-read-if2 t)
@@ -291,7 +303,7 @@ pub +visit-spec : {M : Type 1} → statement M
     (slice-write-highs t)
     (found-entry-requires t)
     (slice-write-found t)
+    (same-length-3 t)
     (same-length-4 t)
     (same-length-5 t)
-    (same-length-6 t)
     (returns-4 t)
