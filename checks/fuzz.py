@@ -3,13 +3,13 @@
 
     fuzz.py PROGRAM [--good N] [--damaged N] [--large N] [--every] [--seed S] [--keep DIR] [--detail]
 
-Good files: random shapes, widths to 40, depths to 24, ties, extremes. Damaged files: every kind below.
+Good files: random shapes, widths and depths to the limits, ties, extremes. Damaged files: every kind below.
 Large files: 4,096 nodes, whole and damaged. A few are fed in pieces, with pauses, and a few from a file.
 Limits: files of 53,247 to 53,250 bytes and around the size of the program's buffer, always. With --every also each change of one
 byte of a small file: cut there, lost, put in, or another byte. A question from 1 to 9 that no file got a "no" to is an error.
 The program's output, its standard error (must be empty) and its exit status (must be 0) are compared.
 With --detail (for baseline.c) the program gets the word -d and has to print marks, flags, passes and replacements too, those of SSS* twice.
-Files that differ are kept in DIR (default /tmp/fuzz-failures); the exit status is 1 if there is one.
+Files that differ are kept in DIR (default target/checks); the exit status is 1 if there is one.
 """
 import argparse
 import os
@@ -22,6 +22,8 @@ from collections import Counter
 import oracle as o
 import trees
 
+ROOT = os.path.dirname(os.path.dirname(os.path.abspath(__file__)))
+
 
 # ---------------------------------------------------------------- good files
 
@@ -32,12 +34,12 @@ def good_table(rng, most):
     elif shape == 1:
         counts = trees.random_counts(rng, rng.randint(1, most), 40, 0.5)
     elif shape == 2:
-        counts = trees.deep_counts(rng, most, 24, rng.randint(1, 8), 0.4)
+        counts = trees.deep_counts(rng, most, o.MAX_DEPTH, rng.randint(1, 8), 0.4)
     elif shape == 3:
-        counts = trees.deep_counts(rng, most, rng.randint(1, 24), 3, 0.8)
+        counts = trees.deep_counts(rng, most, rng.randint(1, o.MAX_DEPTH), 3, 0.8)
     elif shape == 4:
         width = rng.randint(1, min(40, most - 1))
-        counts = trees.regular_counts(width, rng.randint(0, min(24, (most - 1) // width)))
+        counts = trees.regular_counts(width, rng.randint(0, min(o.MAX_DEPTH, (most - 1) // width)))
     else:
         counts = trees.regular_counts(2, min((most - 1) // 2, rng.choice((1, 3, 7, 15, 31))))
     return trees.fill(rng, counts, rng.choice(list(trees.VALUES)))
@@ -178,7 +180,7 @@ def from_nothing(rng):
     if kind == 4:                                     # too deep, alone and with company
         width = rng.choice((1, 1, 2))
         counts = []
-        for _ in range(rng.randint(24, 40)):
+        for _ in range(rng.randint(o.MAX_DEPTH, o.MAX_DEPTH + 16)):
             counts += [width] + [0] * (width - 1) if counts else [width]
         counts += [0] * (1 + sum(counts) - len(counts))
         return as_file(rng, trees.fill(rng, counts, "few"))
@@ -243,7 +245,7 @@ def limits():
         yield "%d zero bytes" % size, bytes(size)
         if size > len(whole):
             yield "a tree and more, %d bytes" % size, whole + (b"000000000005\n" * 6000)[:size - len(whole)]
-    for width, inner in ((40, 1), (41, 1), (40, 102), (1, 24), (1, 25), (2, 2047), (255, 1), (256, 1)):
+    for width, inner in ((40, 1), (41, 1), (40, 102), (1, o.MAX_DEPTH), (1, o.MAX_DEPTH + 1), (2, 2047), (255, 1), (256, 1)):
         yield "regular %d %d" % (width, inner), o.file_of(o.regular(width, inner, lambda k: k))
 
 
@@ -320,7 +322,7 @@ def main():
     parser.add_argument("--large", type=int, default=80)
     parser.add_argument("--every", action="store_true")
     parser.add_argument("--seed", type=int, default=1)
-    parser.add_argument("--keep", default="/tmp/fuzz-failures")
+    parser.add_argument("--keep", default=os.path.join(ROOT, "target", "checks"))
     parser.add_argument("--detail", action="store_true")
     args = parser.parse_args()
     program = [os.path.abspath(args.program)] + (["-d"] if args.detail else [])

@@ -1,8 +1,8 @@
 #!/usr/bin/env python3
 """Writes the input of the program `cases` and the output that it must give: crates/cases/stdin and crates/cases/stdout.
 
-Expected results come from 01, from the print of table 2 in 002, or from oracle.py, never from the Rattle code. What a paper gives is
-written down here and compared with the oracle. README.md has the form of the input.
+Expected results come from 01, from table 2 in 002 (papers.py), or from oracle.py, never from the Rattle code. What a paper gives is
+compared with the oracle. README.md has the form of the input.
 
     make_cases.py [DIRECTORY]   (default: crates/cases)
 """
@@ -10,16 +10,9 @@ import os
 import sys
 
 import oracle as o
+import papers
 
 HERE = os.path.dirname(os.path.abspath(__file__))
-# table 2 of 002 in its order: the four leaves, the leaves that alpha-beta and SSS* value
-TABLE_2 = """
-    1234 4 3, 1243 4 3, 1324 4 3, 1342 4 3, 1423 4 3, 1432 4 3,
-    2134 4 3, 2143 4 3, 2314 3 3, 2341 4 4, 2413 3 3, 2431 4 4,
-    3124 4 4, 3142 4 4, 3214 3 3, 3241 4 4, 3412 3 3, 3421 3 3,
-    4123 4 4, 4132 4 4, 4213 3 3, 4231 4 4, 4312 3 3, 4321 3 3
-"""
-
 # the bytes of the program's longest table, and the byte that its buffers are filled with
 TABLE_SIZE, FILLED = 6 * 4097, 170
 
@@ -78,8 +71,10 @@ def chain(plies, nest):
 
 def made_trees():
     """01, "Also run": what the limits let pass and what they stop."""
-    for title, width, inner, refused in (("40 children", 40, 1, None), ("41 children", 41, 1, (5, 0)), ("depth 24", 1, 24, None),
-                                         ("depth 25", 1, 25, (9, 25)), ("4096 frames", 15, 273, None), ("4097 frames", 16, 256, (2, 0))):
+    depth = o.MAX_DEPTH
+    for title, width, inner, refused in (("40 children", 40, 1, None), ("41 children", 41, 1, (5, 0)), ("depth %d" % depth, 1, depth, None),
+                                         ("depth %d" % (depth + 1), 1, depth + 1, (9, depth + 1)), ("4096 frames", 15, 273, None),
+                                         ("4097 frames", 16, 256, (2, 0))):
         file_case(title, o.file_of(o.regular(width, inner, lambda k: k), upper=True), refused=refused, made_by_program=True)
 
 
@@ -95,18 +90,15 @@ def files_of_01():
 
 
 def rows_of_002():
-    for number, row in enumerate(TABLE_2.split(","), 1):
-        leaves, ab, sss = row.split()
-        a, b, c, d = map(int, leaves)
+    for number, ((a, b, c, d), (ab, sss)) in enumerate(papers.rows(papers.TABLE_2), 1):
         tree = o.Tree(o.table_of_nest([[a, b], [c, d]]))
         value, move = tree.minimax()[0], tree.move()
         file_case("table 2 row %d: %d %d %d %d" % (number, a, b, c, d), tree_file([[a, b], [c, d]]),
-                  rows=[("ab", value, move, int(ab)), ("mtd", value, move, len(o.mtd(tree)[1])), ("sss", value, move, int(sss))])
-    read = {16: 30, 18: 21, 24: 28, 26: 78, 27: 52, 28: 22, 30: 52, 31: 52}      # the tips that the run of section 3.3 reads
-    nest = lambda k: read.get(k, 0) if k >= 16 else [nest(2 * k), nest(2 * k + 1)]
-    ab = len(o.ab(o.Tree(o.table_of_nest(nest(1))))[1])
-    file_case("run of section 3.3 in 002, tips that it never reads 0", tree_file(nest(1)),
-              rows=[("ab", 52, 2, ab), ("mtd", 52, 2, 8), ("sss", 52, 2, 8)])
+                  rows=[("ab", value, move, ab), ("mtd", value, move, len(o.mtd(tree)[1])), ("sss", value, move, sss)])
+    nest, value, read = papers.run_tree(), papers.RUN_VALUE, len(papers.RUN_TIPS)
+    ab = len(o.ab(o.Tree(o.table_of_nest(nest)))[1])
+    file_case("run of section 3.3 in 002, tips that it never reads 0", tree_file(nest),
+              rows=[("ab", value, 2, ab), ("mtd", value, 2, read), ("sss", value, 2, read)])
 
 
 def rejected_files():
@@ -137,7 +129,7 @@ def rejected_files():
             (8, 2, "two leaves and no root above them", b"000000000005\n000000000005\n"),
             (8, 6, "last line missing", lines(drop=(6,))),
             (8, 8, "a leaf too many", ROW + b"000000000005\n"),
-            (9, 27, "depth 25 beside shallow leaves", tree_file([1, 2, chain(24, 5)]))):
+            (9, o.MAX_DEPTH + 3, "depth %d beside shallow leaves" % (o.MAX_DEPTH + 1), tree_file([1, 2, chain(o.MAX_DEPTH, 5)]))):
         file_case(title, file, refused=(number, place))
 
 

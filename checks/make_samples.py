@@ -1,10 +1,12 @@
 #!/usr/bin/env python3
-"""Writes ../samples/*.tree with *.expected, what the program prints for each, by oracle.py."""
+"""Writes sample files, *.tree with *.expected, what the program prints for each, by oracle.py.
+
+    make_samples.py [DIRECTORY]     (default: samples)
+"""
 import os
+import sys
 
 import oracle as o
-
-OUT = os.path.join(os.path.dirname(os.path.abspath(__file__)), "..", "samples")
 
 # Four moves for White, scores in hundredths of a man. Moves 2 and 4 both reach -20; the first of them is the answer.
 # Alpha-beta values 15 of the 19 leaves, SSS* 11.
@@ -34,18 +36,18 @@ def samples():
         "refused-6": b"000000000005\n000101000000\n",               # a leaf, and a node that names itself as its child
         "refused-7": b"000000007D01\n",                             # 32,001
         "refused-8": b"000000000005\n000000000006\n",               # two leaves
-        "refused-9": chain(26),
+        "refused-9": chain(o.MAX_DEPTH + 2),
     }
 
 
 def main():
-    os.makedirs(OUT, exist_ok=True)
+    root = os.path.dirname(os.path.dirname(os.path.abspath(__file__)))
+    directory = sys.argv[1] if len(sys.argv) > 1 else os.path.join(root, "samples")
     for name, file in samples().items():
-        with open(os.path.join(OUT, name + ".tree"), "wb") as f:
-            f.write(file)
-        with open(os.path.join(OUT, name + ".expected"), "wb") as f:
-            f.write(o.report(file))
-        print(name, o.report(file))
+        for ending, data in (("tree", file), ("expected", o.report(file))):
+            with open(os.path.join(directory, name + "." + ending), "wb") as f:
+                f.write(data)
+    print("%d samples" % len(samples()))
 
 
 if __name__ == "__main__":

@@ -1,19 +1,17 @@
 #!/usr/bin/env python3
-"""Checks oracle.py against document 01, table 2 of document 002, the examples of obligations B, and random trees.
+"""Checks oracle.py against what the papers print (papers.py), examples worked out by hand, all small trees, and random trees.
 
-    selfcheck.py [COUNT]    COUNT random trees (default 20000); the papers are looked for in PAPERS (default /work/shared)
+    selfcheck.py [COUNT]    COUNT random trees (default 20000)
 """
 import itertools
-import os
 import random
-import re
 import sys
 import time
 
 import oracle as o
+import papers
 import trees
 
-PAPERS = os.environ.get("PAPERS", "/work/shared")
 checks = 0
 wrong = []
 
@@ -45,14 +43,10 @@ def run(call, table):
 
 
 def cases_of_01():
-    text = open(os.path.join(PAPERS, "01-scope.md")).read()
-    rows = re.findall(r"^\| (\d \d \d \d) \| (-?\d+) \| (\d+) \| (\d+) \| (\d+) \| P \|$", text, re.M)
-    same("six P rows in 01", len(rows), 6)
-    for leaves, value, move, ab, sss in rows:
-        table = small(map(int, leaves.split()))
+    for leaves, (value, move, ab, sss) in papers.rows(papers.SMALL_TREES):
         for call, count in ((o.alpha_beta, ab), (o.sss_search, sss), (o.mtd_search, sss)):
-            r = run(call, table)[0]
-            same("01 row %s %s" % (leaves, call.__name__), (r.value, r.move, r.leaves), (int(value), int(move), int(count)))
+            r = run(call, small(leaves))[0]
+            same("01 row %s %s" % (leaves, call.__name__), (r.value, r.move, r.leaves), (value, move, count))
     for nest, want in ((-5, (-5, 0, 1)), ([9], (9, 1, 1))):
         for call in (o.alpha_beta, o.mtd_search, o.sss_search):
             r = run(call, o.table_of_nest(nest))[0]
@@ -71,8 +65,9 @@ def cases_of_01():
     same("-32,001", o.report(one(-32001)), refused(7, 0))
     same("40", ok(o.file_of(o.regular(40, 1, lambda k: k))), True)
     same("41", o.report(o.file_of(o.regular(41, 1, lambda k: k))), refused(5, 0))
-    same("depth 24", ok(o.file_of(o.regular(1, 24, lambda k: 5))), True)
-    same("depth 25", o.report(o.file_of(o.regular(1, 25, lambda k: 5))), refused(9, 25))
+    deepest = o.MAX_DEPTH
+    same("greatest depth", ok(o.file_of(o.regular(1, deepest, lambda k: 5))), True)
+    same("one deeper", o.report(o.file_of(o.regular(1, deepest + 1, lambda k: 5))), refused(9, deepest + 1))
     same("4,096", ok(o.file_of(o.regular(15, 273, lambda k: k))), True)
     same("4,097", o.report(o.file_of(o.regular(16, 256, lambda k: k))), refused(2, 0))
     same("4,097 without last line feed", o.report(o.file_of(o.regular(16, 256, lambda k: k), last=False)), refused(2, 0))
@@ -80,8 +75,7 @@ def cases_of_01():
     t[6 * 2 + 3] = 1
     same("byte 3 at 2, 41 at 1", o.report(o.file_of(t)), refused(5, 1))
     same("one line feed", o.report(b"\n"), refused(3, 0))
-    blocks = re.findall(r"```\n(.*?)```", text, re.S)
-    same("sample", o.report(blocks[0].encode()), blocks[1].encode())
+    same("sample", o.report(papers.SAMPLE_FILE), papers.SAMPLE_REPORT)
     same("trap: leaf root and a node that names itself", o.table_no(bytes((0, 0, 0, 0, 0, 5, 0, 1, 1, 0, 0, 0))), (6, 1))
     arrival = o.sss_by_rule(o.Tree(small((2, 5, 2, 1))), tie=Arrival())
     same("trap: order of arrival values a fourth leaf of 2 5 2 1", len(arrival[1]), 4)
@@ -94,43 +88,26 @@ class Arrival:
 
 
 def table_2():
-    lines = open(os.path.join(PAPERS, "002_cf08bdc5a78748fd.txt")).read().split("\n")
-    at = next(i for i, l in enumerate(lines) if l.startswith("TABLE 2."))
-    rows = []
-    for line in lines[at:]:
-        m = re.fullmatch(r"(\d+)\t(\d) (\d) (\d) (\d)\t(\d)\t(\d)", line.strip())
-        if m:
-            rows.append(tuple(map(int, m.groups())))
-        if line.startswith("Average"):
-            average = line.split()
-            break
-    same("24 rows", [r[0] for r in rows], list(range(1, 25)))
-    same("all permutations once, in order", [r[1:5] for r in rows], sorted(itertools.permutations((1, 2, 3, 4))))
-    for case, a, b, c, d, ab, sss in rows:
-        table = small((a, b, c, d))
-        same("table 2 row %d ab" % case, run(o.alpha_beta, table)[0].leaves, ab)
-        same("table 2 row %d sss" % case, run(o.sss_search, table)[0].leaves, sss)
-        same("table 2 row %d mtd" % case, run(o.mtd_search, table)[0].leaves, sss)
-    same("averages", ["Average", "%d/3" % (sum(r[5] for r in rows) * 3 // 24), "%d/3" % (sum(r[6] for r in rows) * 3 // 24)], average)
-    same("averages exact", (sum(r[5] for r in rows) * 3 % 24, sum(r[6] for r in rows) * 3 % 24), (0, 0))
-    return rows
+    rows = list(papers.rows(papers.TABLE_2))
+    same("all permutations once, in order", [tuple(leaves) for leaves, _ in rows], sorted(itertools.permutations((1, 2, 3, 4))))
+    for leaves, (ab, sss) in rows:
+        for call, count in ((o.alpha_beta, ab), (o.sss_search, sss), (o.mtd_search, sss)):
+            same("table 2 row %s %s" % (leaves, call.__name__), run(call, small(leaves))[0].leaves, count)
+    for i, average in enumerate(papers.AVERAGES):
+        third = 3 * sum(counts[i] for _, counts in rows)
+        same("averages", (third % 24, "%d/3" % (third // 24)), (0, average))
 
 
 def figure_1():
-    """The worked run of section 3.3 in 002: 29 replacements; tips by the states shown (others never looked at)."""
-    # tips in the order 16..31; only 16,18,24,26,27,28,30,31 are read in the printed run
-    tips = {16: 30, 18: 21, 24: 28, 26: 78, 27: 52, 28: 22, 30: 52, 31: 52}
-    nest = lambda k: tips.get(k, 0) if k >= 16 else [nest(2 * k), nest(2 * k + 1)]
-    # in 002 the printed run expands 1 (case 6), 2 (case 5): node 1 takes all children, node 2 its first
-    value, order, replacements = o.sss_by_rule(o.Tree(o.table_of_nest(nest(1))))
-    heap_number = lambda k: k + 1
-    same("002, 3.3: value", value, 52)
-    same("002, 3.3: order of tips", [heap_number(k) for k in order], [16, 18, 24, 26, 27, 28, 30, 31])
-    same("002, 3.3: replacements", replacements, 29)
+    """The worked run of section 3.3 in 002; node k has the heap number k + 1."""
+    value, order, replacements = o.sss_by_rule(o.Tree(o.table_of_nest(papers.run_tree())))
+    same("002, 3.3: value", value, papers.RUN_VALUE)
+    same("002, 3.3: order of tips", [k + 1 for k in order], list(papers.RUN_TIPS))
+    same("002, 3.3: replacements", replacements, papers.RUN_REPLACEMENTS)
 
 
 def obligations():
-    """The examples of obligations B that concern the base."""
+    """Examples worked out by hand, numbered as in the planners' list of obligations."""
     same("B1", o.report(b""), refused(1, 0))
     same("B2", o.decode(b"000000000005"), bytes.fromhex("000000000005"))
     full = o.file_of(o.regular(15, 273, lambda k: k))
@@ -252,10 +229,10 @@ def random_trees(count):
         elif shape == 1:
             counts = trees.random_counts(rng, rng.randint(1, 60), rng.randint(1, 6), 0.6)
         elif shape == 2:
-            counts = trees.deep_counts(rng, 80, rng.randint(1, 24), 4, 0.5)
+            counts = trees.deep_counts(rng, 80, rng.randint(1, o.MAX_DEPTH), 4, 0.5)
         else:
             width = rng.randint(1, 5)
-            counts = trees.regular_counts(width, rng.randint(0, 24 if width == 1 else 12))
+            counts = trees.regular_counts(width, rng.randint(0, o.MAX_DEPTH if width == 1 else 12))
         table = trees.fill(rng, counts, rng.choice(kinds))
         same("accepted", o.table_no(table), None)
         one_tree(rng, table, literal=True, pairs=shape == 0)
@@ -292,7 +269,7 @@ def main():
     table_2()
     figure_1()
     obligations()
-    print("papers: %d checks, %d wrong" % (checks, len(wrong)))
+    print("papers and examples: %d checks, %d wrong" % (checks, len(wrong)))
     every_small_tree(6)
     print("all trees of up to 6 nodes: %d checks, %d wrong" % (checks, len(wrong)))
     random_trees(count)
