@@ -259,14 +259,14 @@ static inline void put(struct front *f, int k, enum status status, int merit) {
 /* Makes the entries above k anew while the greatest merit falls; the node where it stays. */
 static int fall(struct front *f, int k, int test) {
     while (k != 0 && merit_of(f->front[k]) < test) {
-        int up = f->parent[k], best = link_of(f->front[up]);
+        int up = f->parent[k], best = link_of(f->front[up]), merit = merit_of(f->front[best]);
         if (f->is_max[up]) {
             int first = first_child(f->table, up), end = first + child_count(f->table, up);
-            best = first;
+            best = first, merit = merit_of(f->front[first]);
             for (int c = first + 1; c < end; c++)
-                if (f->front[c] / LINKS > f->front[best] / LINKS) best = c;
+                if (merit_of(f->front[c]) > merit) best = c, merit = merit_of(f->front[c]);
         }
-        f->front[up] = packed(merit_of(f->front[best]), best);
+        f->front[up] = packed(merit, best);
         k = up;
     }
     return k;

@@ -2,9 +2,11 @@
 
    bench FILE count    under callgrind: a dump, titled SIDE CALL, of the instructions of each call
    bench FILE time     prints SIDE CALL and the least time of many runs, in nanoseconds
+   bench FILE stack    prints SIDE CALL and the bytes of stack that it takes
 
    All sides must give one answer and leave one content in the lent buffers; if they do not, the exit status is 1. */
 #include "baseline.h"
+#include <pthread.h>
 #include <stdio.h>
 #include <stdlib.h>
 #include <string.h>
@@ -112,10 +114,41 @@ static void print_times(enum call call) {
         if (least[i] > 0) printf("%s %s %.0f\n", sides[i].name, call_names[call], least[i]);
 }
 
+struct task {
+    const struct side *side; /* none: the thread does nothing */
+    enum call call;
+};
+
+static void *do_task(void *given) {
+    const struct task *task = given;
+    if (task->side) perform(task->side, task->call, lent);
+    return NULL;
+}
+
+/* How much of a painted stack a thread changes. */
+static size_t stack_of(struct task task) {
+    static uint8_t stack[1 << 20] __attribute__((aligned(4096)));
+    size_t untouched = 0;
+    pthread_attr_t attributes;
+    pthread_t thread;
+    memset(stack, FILLED, sizeof stack);
+    pthread_attr_init(&attributes);
+    pthread_attr_setstack(&attributes, stack, sizeof stack);
+    if (pthread_create(&thread, &attributes, do_task, &task) || pthread_join(thread, NULL)) exit(2);
+    while (stack[untouched] == FILLED) untouched++;
+    return sizeof stack - untouched;
+}
+
+static void print_stacks(enum call call) {
+    size_t idle = stack_of((struct task){ NULL, call });
+    for (int i = 0; i < SIDES; i++)
+        if (sides[i].read || call == SSS) printf("%s %s %zu\n", sides[i].name, call_names[call], stack_of((struct task){ &sides[i], call }) - idle);
+}
+
 int main(int argc, char **argv) {
     FILE *f = argc == 3 ? fopen(argv[1], "rb") : NULL;
     if (!f) {
-        fprintf(stderr, "usage: bench FILE count|time\n");
+        fprintf(stderr, "usage: bench FILE count|time|stack\n");
         return 2;
     }
     file_length = fread(file, 1, sizeof file, f);
@@ -124,6 +157,7 @@ int main(int argc, char **argv) {
     for (enum call call = 0; call < CALLS; call++) {
         compare(call);
         if (!strcmp(argv[2], "time")) print_times(call);
+        if (!strcmp(argv[2], "stack")) print_stacks(call);
     }
     return 0;
 }

@@ -1,7 +1,7 @@
 #!/usr/bin/env python3
 """What each public call costs: the crates against the same work in plain C, by instructions and by time.
 
-    bench.py [TREE..]       all trees, their growth and the whole program; or these trees alone
+    bench.py [TREE..]       all trees, growth, stack and the whole program; or these trees alone
 
 Prints markdown tables for README.md: a cell is the cost of the call in Rattle, then how many times that of the call in C.
 Instructions are counted by valgrind's callgrind, for each call alone; times are the least of many runs of both sides in turn.
@@ -23,6 +23,7 @@ import trees
 CHECKS = os.path.dirname(os.path.abspath(__file__))
 ROOT = os.path.dirname(CHECKS)
 WORK = os.path.join(ROOT, "target", "bench")
+PROGRAM, BASELINE = os.path.join(ROOT, "target", "bin", "analyse"), os.path.join(WORK, "baseline")
 CALLS = ("read", "check", "alphabeta", "mtd", "sss", "verify", "report")
 CRATES = ("report", "verify", "sss", "mtd", "alphabeta", "treefile", "frames")
 
@@ -91,7 +92,7 @@ TREES = {
     "deep front": lambda: falling(deep_front()),
 }
 
-GROWTH = {"%d nodes" % (2 * inner + 1): (lambda inner=inner: many(trees.regular_counts(2, inner))) for inner in (31, 63, 127, 255, 511, 1023, 2047)}
+GROWTH = {str(2 * inner + 1): (lambda inner=inner: many(trees.regular_counts(2, inner))) for inner in (31, 127, 511, 2047)}
 
 
 # ---------------------------------------------------------------- what is measured
@@ -166,10 +167,10 @@ def build():
         run(["rt", "staticlib", "bench"], cwd=WORK)
         with open(library + ".sources", "w") as f:
             f.write(sources)
-    c = ["gcc", "-O2", "-Wall", "-DDEPTH=%d" % o.MAX_DEPTH]
+    c = ["gcc", "-O2", "-Wall", "-pthread", "-DDEPTH=%d" % o.MAX_DEPTH]
     source = os.path.join(CHECKS, "%s.c")
     run(c + ["-o", os.path.join(WORK, "bench"), source % "bench", source % "baseline", library])
-    run(c + ["-o", os.path.join(WORK, "baseline"), source % "program", source % "baseline"])
+    run(c + ["-o", BASELINE, source % "program", source % "baseline"])
 
 
 def write(name, table):
@@ -195,17 +196,17 @@ def instructions(path):
     return got
 
 
-def times(path):
-    """The same in nanoseconds."""
-    return {tuple(line.split()[:2]): float(line.split()[2]) for line in run([os.path.join(WORK, "bench"), path, "time"]).splitlines()}
+def said(path, mode):
+    """The same, as the bench program prints them: nanoseconds (time) or bytes (stack)."""
+    return {tuple(line.split()[:2]): float(line.split()[2]) for line in run([os.path.join(WORK, "bench"), path, mode]).splitlines()}
 
 
 def whole(words, path):
     """The instructions of a whole run of a program."""
     with open(path, "rb") as f:
-        said = subprocess.run(["valgrind", "--tool=callgrind", "--callgrind-out-file=/dev/null"] + words, stdin=f, stdout=subprocess.DEVNULL,
-                              stderr=subprocess.PIPE, text=True, env=dict(os.environ, GLIBC_TUNABLES=TUNABLES)).stderr
-    return int(re.search(r"Collected : (\d+)", said).group(1))
+        got = subprocess.run(["valgrind", "--tool=callgrind", "--callgrind-out-file=/dev/null"] + words, stdin=f, stdout=subprocess.DEVNULL,
+                             stderr=subprocess.PIPE, text=True, env=dict(os.environ, GLIBC_TUNABLES=TUNABLES)).stderr
+    return int(re.search(r"Collected : (\d+)", got).group(1))
 
 
 # ---------------------------------------------------------------- the tables
@@ -214,18 +215,23 @@ def number(x):
     return "{:,.0f}".format(x) if x >= 9.95 else "%.1f" % x
 
 
-def cell(got, call, unit, other="c"):
-    return "%s (%.2f)" % (number(got["rattle", call] / unit), got["rattle", call] / got[other, call])
+def against(ours, other, unit=1000):
+    return "%s (%.2f)" % (number(ours / unit), ours / other)
 
 
-def table(title, first, rows, measured, unit):
-    print("\n%s\n" % title)
-    print("| %s | nodes | %s | sss, textbook list |" % (first, " | ".join(CALLS)))
-    print("|---|" + "---|" * (len(CALLS) + 2))
-    for name, nodes in rows:
-        got = measured[name]
-        by = unit if isinstance(unit, (int, float)) else unit(nodes)
-        print("| %s | %s | %s | %s |" % (name, "{:,}".format(nodes), " | ".join(cell(got, call, by) for call in CALLS), cell(got, "sss", by, "list")))
+def table(title, first, rows):
+    """A table of calls; a row is its name, what was measured, and the unit."""
+    print("\n%s\n\n| %s | %s |\n|---|%s" % (title, first, " | ".join(CALLS), "---|" * len(CALLS)))
+    for name, got, unit in rows:
+        print("| %s | %s |" % (name, " | ".join(against(got["rattle", call], got["c", call], unit) for call in CALLS)))
+
+
+def programs(paths):
+    """The whole program, and its SSS* against the textbook's list."""
+    print("\nWhole runs of the program, thousands of instructions:\n\n| tree | analyse | times C | times C with the textbook's list |\n|---|---|---|---|")
+    for name, path in paths:
+        ours, front, textbook = (whole(words, path) for words in ([PROGRAM], [BASELINE], [BASELINE, "-l"]))
+        print("| %s | %s | %.2f | %.2f |" % (name, number(ours / 1000), ours / front, ours / textbook))
 
 
 def main():
@@ -238,27 +244,16 @@ def main():
     build()
     chosen = {name: make for name, make in TREES.items() if not args.trees or name in args.trees}
     growth = {} if args.trees else GROWTH
-    rows, counted, timed, paths = {}, {}, {}, {}
-    for name, make in {**chosen, **growth}.items():
-        made = make()
-        paths[name] = write(name, made)
-        rows[name] = len(made) // 6
-        counted[name] = instructions(paths[name])
-        if name in chosen:
-            timed[name] = times(paths[name])
-    listed = [(name, rows[name]) for name in chosen]
-    table("Thousands of instructions, and how many times those of C:", "tree", listed, counted, 1000)
-    table("Microseconds, and how many times those of C:", "tree", listed, timed, 1000)
-    if growth:
-        table("Instructions a node, and how many times those of C, as a full tree of width 2 grows:", "tree",
-              [(name, rows[name]) for name in growth], counted, lambda nodes: nodes)
-    program = os.path.join(ROOT, "target", "bin", "analyse")
-    if not args.trees and os.path.exists(program):
-        print("\nWhole runs of the program, thousands of instructions:\n\n| tree | analyse | in C, same front | in C, textbook list |\n|---|---|---|---|")
-        base = os.path.join(WORK, "baseline")
-        for name in chosen:
-            ours, front, textbook = (whole(words, paths[name]) for words in ([program], [base], [base, "-l"]))
-            print("| %s | %s | %s (%.2f) | %s (%.2f) |" % (name, number(ours / 1000), number(front / 1000), ours / front, number(textbook / 1000), ours / textbook))
+    paths = {name: write(name, make()) for name, make in {**chosen, **growth}.items()}
+    counted = {name: instructions(path) for name, path in paths.items()}
+    table("Thousands of instructions, and how many times those of C:", "tree", [(name, counted[name], 1000) for name in chosen])
+    table("Microseconds, and how many times those of C:", "tree", [(name, said(paths[name], "time"), 1000) for name in chosen])
+    if not args.trees:
+        table("Instructions a node, and how many times those of C, in full trees of width 2:", "nodes",
+              [(name, counted[name], int(name)) for name in growth])
+        table("Stack, in thousands of bytes, and how many times that of C:", "tree", [("chain", said(paths["chain"], "stack"), 1000)])
+        if os.path.exists(PROGRAM):
+            programs([(name, paths[name]) for name in chosen])
 
 
 if __name__ == "__main__":
