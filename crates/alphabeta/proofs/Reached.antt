@@ -2,7 +2,7 @@
 use Prim.Native.Nat.{ℕ}
 use mathlib.Core.Path.{subst}
 use mathlib.Core.List.{List}
-use Rattle.gametree.specs.Searches.{Searched, byAlphaBeta}
+use Rattle.gametree.proofs.Searches.{Searched, byAlphaBeta}
 use Rattle.gametree.proofs.Theorems.{alphaBeta-leaves}
 use Rattle.frames.specs.Tree.{tree, valuation}
 use Rattle.alphabeta.specs.Outcome.{reachedLeaves}

@@ -9,7 +9,7 @@ use lib.ListN.{length}
 use Rattle.gametree.specs.Lists.{All, among}
 use Rattle.gametree.specs.Tree.{Tree, leaf, inner, Kids, last, _then_, leaves, leavesKids, leafCount, EveryLeaf}
 use Rattle.gametree.specs.Tree.{EveryLeafKids}
-use Rattle.gametree.specs.Searches.{Searched}
+use Rattle.gametree.proofs.Searches.{Searched}
 use Rattle.gametree.proofs.Choice.{is-false}
 use Rattle.gametree.proofs.Lists.{all-map, all-append, all-at}
 use Rattle.gametree.proofs.Theorems.{search-leaves, search-count}

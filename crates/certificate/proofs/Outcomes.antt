@@ -8,7 +8,7 @@ use lib.ListN.{length}
 use Rattle.gametree.specs.Lists.{among}
 use Rattle.gametree.specs.Move.{rootMove, boundMove}
 use Rattle.gametree.specs.Certificate.{flag}
-use Rattle.gametree.specs.Searches.{Searched}
+use Rattle.gametree.proofs.Searches.{Searched}
 use Rattle.gametree.proofs.Theorems.{search-move}
 use Rattle.frames.specs.declared.Rejection.{Rejection}
 use Rattle.frames.specs.declared.Checked.the-variants.{Nodes, Rejected}

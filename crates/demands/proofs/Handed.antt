@@ -12,7 +12,7 @@ use Rattle.gametree.specs.Tree.{minimax, Proper}
 use Rattle.gametree.specs.Bounds.{known}
 use Rattle.gametree.specs.Certificate.{inside, flag, fill}
 use Rattle.gametree.specs.Move.{rootMove}
-use Rattle.gametree.specs.Searches.{Searched, SameResults}
+use Rattle.gametree.proofs.Searches.{Searched, SameResults}
 use Rattle.gametree.proofs.Lists.{all-among, all-at, all-zip}
 use Rattle.gametree.proofs.Bounds.{every-map}
 use Rattle.gametree.proofs.ReadOff.{ReadOff, fits}

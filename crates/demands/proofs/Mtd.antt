@@ -11,7 +11,7 @@ use Rattle.gametree.specs.AlphaBeta.{reached}
 use Rattle.gametree.specs.Mtd.{mtd}
 use Rattle.gametree.specs.Move.{rootMove}
 use Rattle.gametree.specs.Certificate.{Smallest, pairLeaves}
-use Rattle.gametree.specs.Searches.{byMtd}
+use Rattle.gametree.proofs.Searches.{byMtd}
 use Rattle.gametree.proofs.Theorems.{mtd-passes, search-once, search-smallest, local-mtd}
 use Rattle.frames.specs.Frame.{frames}
 use Rattle.frames.specs.Tree.{tree, valuation}

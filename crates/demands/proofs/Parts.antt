@@ -14,7 +14,7 @@ use Rattle.gametree.specs.Tree.{least, greatest, minimax}
 use Rattle.gametree.specs.AlphaBeta.{reached}
 use Rattle.gametree.specs.Certificate.{solutionOf, flag}
 use Rattle.gametree.specs.Move.{rootMove}
-use Rattle.gametree.specs.Searches.{Searched}
+use Rattle.gametree.proofs.Searches.{Searched}
 use Rattle.gametree.proofs.Lists.{all-at}
 use Rattle.gametree.proofs.Theorems.{alphaBeta-leaves, domination, domination-count}
 use Rattle.frames.specs.declared.Rejection.{Rejection}

@@ -13,7 +13,8 @@ use Rattle.gametree.specs.Lists.{All}
 use Rattle.gametree.specs.Tree.{Side, Max, Min, Tree, leaf, inner, Kids, last, _then_, number, size, sizeKids, In}
 use Rattle.gametree.specs.Tree.{InKids}
 use Rattle.gametree.specs.Mtd.{Memo, MemoKids}
-use Rattle.gametree.specs.Layout.{tip, fork, under, Layout, Apart}
+use Rattle.gametree.specs.Layout.{tip, fork, under, Layout}
+use Rattle.gametree.proofs.Described.{Apart}
 use Rattle.gametree.specs.Sss.{Status, LIVE, SOLVED, State, live, solved, Step, quiet, evaluating, purge, replace}
 use Rattle.gametree.proofs.Lists.{all-append, all-map, all-zip}
 use Rattle.gametree.proofs.Nodes.{number-in}

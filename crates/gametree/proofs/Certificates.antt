@@ -7,10 +7,17 @@ use mathlib.Core.Bool.{Bool, true, false, cond}
 use Rattle.gametree.specs.Tree.{Side, Max, Min, Tree, leaf, inner, Kids, last, _then_, greatest, better, minimax}
 use Rattle.gametree.specs.Tree.{EveryLeafKids, Score, Proper}
 use Rattle.gametree.specs.Bounds.{known, Decided}
-use Rattle.gametree.specs.Certificate.{SolutionTree, worst, solutionValue, solutionValueKids, inside, same}
-use Rattle.gametree.specs.Certificate.{fill, solutionOf, flag, LeavesIn, FlagsCertify}
+use Rattle.gametree.specs.Certificate.{Certifies, SolutionTree, worst, solutionValue, solutionValueKids, inside}
+use Rattle.gametree.specs.Certificate.{same}
+use Rattle.gametree.specs.Certificate.{fill, solutionOf, flag, LeavesIn}
 use Rattle.gametree.proofs.Bounds.{every-map, minimax-score, known-capped}
 use Rattle.gametree.proofs.ReadOff.{ReadOff, Finite, read-solution, fits}
+
+-- the flags read off the bounds of the evaluated leaves E certify the minimax value, and flag evaluated leaves only
+pub record FlagsCertify (ν : ℕ → ℕ) (E : ℕ → Bool) (t : Tree) : Type 0 where
+  pub certifies : Certifies ν t (λ k. inside Max (flag ν E t k)) (λ k. inside Min (flag ν E t k)) (minimax ν t)
+  pub maxLeaves : LeavesIn (λ k. inside Max (flag ν E t k)) E t
+  pub minLeaves : LeavesIn (λ k. inside Min (flag ν E t k)) E t
 
 -- a side's bound: where it is finite, at a leaf and at a tree with real scores; and where the bounds meet
 finite-known : (p : Side) (b : Bool) (v : ℕ) → Finite p (cond b v (fill p)) → b ≡ true

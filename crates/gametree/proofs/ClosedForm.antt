@@ -15,7 +15,8 @@ use Rattle.gametree.specs.Tree.{minimaxKids, In, InKids, EveryLeaf, Ever
 use Rattle.gametree.specs.Tree.{DistinctKids, Proper}
 use Rattle.gametree.specs.AlphaBeta.{raise, lower}
 use Rattle.gametree.specs.Mtd.{Memo, MemoKids, memoHigh, memoHighKids, Pass, PassKids, pass, passKids, Run, run}
-use Rattle.gametree.specs.Mtd.{fresh, mtd, Marks, MarksKids}
+use Rattle.gametree.specs.Mtd.{fresh, mtd}
+use Rattle.gametree.proofs.MtdMarks.{Marks, MarksKids}
 use Rattle.gametree.specs.ClosedForm.{rival, unrivalled, unrivalledKids}
 use Rattle.gametree.proofs.Choice.{cond-cases, true-not-false, and-both}
 use Rattle.gametree.proofs.Lists.{all-append, all-map, all-among}

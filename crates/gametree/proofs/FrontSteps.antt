@@ -9,7 +9,8 @@ use mathlib.Core.Option.{Option, none, some}
 use mathlib.Core.List.{List, [], _∷_, _++_, map, append-nil}
 use Rattle.gametree.specs.Lists.{All}
 use Rattle.gametree.specs.Tree.{Side, Max, Min, Tree, leaf, inner, Kids, last, _then_, number, In, InKids}
-use Rattle.gametree.specs.Layout.{root, under, Layout, firstOf, othersOf, Answers, AnswersKids, Describes}
+use Rattle.gametree.specs.Layout.{root, under, Layout, firstOf, othersOf}
+use Rattle.gametree.proofs.Described.{Answers, AnswersKids, Describes}
 use Rattle.gametree.specs.Sss.{Status, LIVE, SOLVED, State, live, solved, Taken, choose, beats, pick, Step, empty}
 use Rattle.gametree.specs.Sss.{stop, quiet, evaluating, purge, replaceLive, replaceSolved, replace, step}
 use Rattle.gametree.specs.Sss.{ListAfter, atStart, afterQuiet, afterEvaluating}

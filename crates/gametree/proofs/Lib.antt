@@ -17,6 +17,7 @@ pub mod MtdPasses
 pub mod MtdLocal
 pub mod MemoArrays
 -- SSS*, and that it does what MTD does
+pub mod Described
 pub mod SssSteps
 pub mod Frontier
 pub mod Around
@@ -43,4 +44,5 @@ pub mod MtdMoves
 pub mod Domination
 pub mod MemoAt
 pub mod ClosedForm
+pub mod Searches
 pub mod Theorems

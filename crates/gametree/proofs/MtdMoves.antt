@@ -12,7 +12,8 @@ use Rattle.gametree.specs.Tree.{Side, Max, Min, Tree, leaf, inner, Kids,
 use Rattle.gametree.specs.Tree.{minimaxKids, ScoredKids, Proper}
 use Rattle.gametree.specs.Bounds.{known, Decided}
 use Rattle.gametree.specs.Mtd.{Memo, MemoKids, memoHigh, memoHighKids, Pass, PassKids, pass, passKids, Run, run}
-use Rattle.gametree.specs.Mtd.{fresh, mtd, MarksKids}
+use Rattle.gametree.specs.Mtd.{fresh, mtd}
+use Rattle.gametree.proofs.MtdMarks.{MarksKids}
 use Rattle.gametree.specs.Certificate.{worst}
 use Rattle.gametree.specs.Move.{rootMove, boundMove}
 use Rattle.gametree.proofs.Choice.{cond-cases, true-not-false}

@@ -12,7 +12,8 @@ use Rattle.gametree.specs.Lists.{among, different}
 use Rattle.gametree.specs.Tree.{Side, Max, Min, Tree, leaf, inner, Kids, last, _then_, greatest, better}
 use Rattle.gametree.specs.Tree.{minimaxKids, Proper}
 use Rattle.gametree.specs.Bounds.{known, high}
-use Rattle.gametree.specs.Mtd.{Memo, memoHigh, pass, Run, run, fresh, mtd, Marks}
+use Rattle.gametree.specs.Mtd.{Memo, memoHigh, pass, Run, run, fresh, mtd}
+use Rattle.gametree.proofs.MtdMarks.{Marks}
 use Rattle.gametree.proofs.Choice.{cond-cases, or-left, or-right, or-cases}
 use Rattle.gametree.proofs.Lists.{among-left}
 use Rattle.gametree.proofs.MtdSound.{Kept, sound}

@@ -8,7 +8,8 @@ use lib.Dec.{eqb}
 use borrow.Author.Tests.{eq-eqb, ne-eqb}
 use Rattle.gametree.specs.Tree.{Side, Tree, leaf, inner, Kids, last, _then_, number, size, In, InKids, Distinct}
 use Rattle.gametree.specs.Tree.{DistinctKids}
-use Rattle.gametree.specs.Layout.{root, Layout, Apart, Answers, AnswersKids, Describes, has, kindIn, kindInKids}
+use Rattle.gametree.specs.Layout.{root, Layout, has, kindIn, kindInKids}
+use Rattle.gametree.proofs.Described.{Apart, Answers, AnswersKids, Describes}
 use Rattle.gametree.specs.Layout.{linkIn, linkInKids, aboveIn, aboveInKids, leftIn, leftInKids, layoutOf}
 use Rattle.gametree.proofs.Choice.{cond-cases}
 use Rattle.gametree.proofs.Nodes.{number-in, in-has, in-hasKids, out-has, out-hasKids}

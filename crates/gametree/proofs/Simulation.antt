@@ -27,7 +27,8 @@ use Rattle.gametree.specs.Lists.{All}
 use Rattle.gametree.specs.Tree.{Side, Max, Min, Tree, leaf, inner, Kids, last, _then_, greatest, number, InKids}
 use Rattle.gametree.specs.Tree.{Scored, ScoredKids}
 use Rattle.gametree.specs.Mtd.{Memo, MemoKids, memoHighKids, Pass, PassKids, entered, pass, passKids, freshKids}
-use Rattle.gametree.specs.Layout.{tip, under, Layout, firstOf, othersOf, Answers, AnswersKids}
+use Rattle.gametree.specs.Layout.{tip, under, Layout, firstOf, othersOf}
+use Rattle.gametree.proofs.Described.{Answers, AnswersKids}
 use Rattle.gametree.specs.Sss.{State, live, solved, quiet}
 use Rattle.gametree.proofs.Choice.{cond-cases, true-not-false}
 use Rattle.gametree.proofs.Lists.{all-left, all-right, all-map}

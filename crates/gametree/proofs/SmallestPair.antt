@@ -12,7 +12,8 @@ use Rattle.gametree.specs.Lists.{All, among}
 use Rattle.gametree.specs.Tree.{Side, Max, Min, Tree, leaf, inner, Kids, last, _then_, better, minimax, number}
 use Rattle.gametree.specs.Tree.{In, InKids, Proper}
 use Rattle.gametree.specs.Certificate.{solutionValue, solutionValueKids, pairLeaves, pairLeavesKids, inside, flag}
-use Rattle.gametree.specs.Certificate.{Smallest, FlagsCertify}
+use Rattle.gametree.specs.Certificate.{Smallest}
+use Rattle.gametree.proofs.Certificates.{FlagsCertify}
 use Rattle.gametree.proofs.Counting.{members, rulesHold, rulesHoldKids, certificate?}
 use Rattle.gametree.proofs.Choice.{cond-cases, true-not-false, or-left, or-right}
 use Rattle.gametree.proofs.Lists.{all-left, all-right, all-map, all-at, among-left, among-right}

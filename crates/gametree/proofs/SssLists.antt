@@ -6,7 +6,8 @@ use mathlib.Core.List.{List, [], _∷_, _++_, append-assoc}
 use lib.ListN.{length}
 use Rattle.gametree.specs.Tree.{Tree, minimax, size, Scored}
 use Rattle.gametree.specs.Mtd.{mtd}
-use Rattle.gametree.specs.Layout.{Layout, Describes}
+use Rattle.gametree.specs.Layout.{Layout}
+use Rattle.gametree.proofs.Described.{Describes}
 use Rattle.gametree.specs.Sss.{Step, takenMerit, State, empty, stop, quiet, evaluating, step, End, Ran, runFrom}
 use Rattle.gametree.specs.Sss.{start, sssOver, ListAfter, atStart, afterQuiet, afterEvaluating, resumed}
 use Rattle.gametree.proofs.SssSteps.{stepFirst, Takes, Steps, done, quietly, evaluates}

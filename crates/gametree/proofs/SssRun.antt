@@ -8,7 +8,8 @@ use mathlib.Core.Logic.{inl, inr}
 use mathlib.Core.List.{List, [], _∷_, append-nil}
 use Rattle.gametree.specs.Tree.{Tree, greatest, minimax, number, size, Scored}
 use Rattle.gametree.specs.Mtd.{Memo, memoHigh, pass, Run, run, fresh, mtd}
-use Rattle.gametree.specs.Layout.{root, Layout, Answers}
+use Rattle.gametree.specs.Layout.{root, Layout}
+use Rattle.gametree.proofs.Described.{Answers}
 use Rattle.gametree.specs.Sss.{SOLVED, State, live, solved, stop, step, finished, Ran, runFrom, sssOver}
 use Rattle.gametree.proofs.Choice.{cond-cases}
 use Rattle.gametree.proofs.MtdSound.{Kept, sound}

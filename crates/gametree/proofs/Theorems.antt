@@ -15,14 +15,16 @@ use Rattle.gametree.specs.Tree.{leafCount, In, EveryLeaf, Score, Scored,
 use Rattle.gametree.specs.Bounds.{known, low, high, bestOf, Decided}
 use Rattle.gametree.specs.AlphaBeta.{reached, fullWindow}
 use Rattle.gametree.specs.Mtd.{fresh, mtd}
-use Rattle.gametree.specs.Layout.{under, Layout, Describes, layoutOf}
+use Rattle.gametree.specs.Layout.{under, Layout, layoutOf}
+use Rattle.gametree.proofs.Described.{Describes}
 use Rattle.gametree.specs.Sss.{Taken, takenMerit, State, empty, step, finished, runFrom, start}
 use Rattle.gametree.specs.Sss.{sssOver, ListAfter, resumed}
 use Rattle.gametree.specs.Certificate.{Rule, SolutionTree, solutionValue, Certifies, pairLeaves, chosen}
-use Rattle.gametree.specs.Certificate.{Smallest, FlagsCertify}
+use Rattle.gametree.specs.Certificate.{Smallest}
+use Rattle.gametree.proofs.Certificates.{FlagsCertify}
 use Rattle.gametree.proofs.Counting.{members, required}
 use Rattle.gametree.specs.Move.{rootMove, boundMove}
-use Rattle.gametree.specs.Searches.{Searched, byAlphaBeta, byMtd, bySss, SameResults}
+use Rattle.gametree.proofs.Searches.{Searched, byAlphaBeta, byMtd, bySss, SameResults}
 use Rattle.gametree.specs.ClosedForm.{unrivalled}
 use Rattle.gametree.proofs.Lists.{all-map, all-among, all-at, once-length, sub-all, sub-once}
 use Rattle.gametree.proofs.Nodes.{leaves-once}

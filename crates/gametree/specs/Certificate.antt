@@ -141,9 +141,3 @@ pub record Smallest (ν : ℕ → ℕ) (t : Tree) (g h : ℕ → Bool) : Type 0 
 -- each leaf of the set g is in the set E
 abbrev pub LeavesIn : (ℕ → Bool) → (ℕ → Bool) → Tree → Type 0
 LeavesIn g E t = EveryLeaf (λ n. g n ≡ true → E n ≡ true) t
-
--- the flags read off the bounds of the evaluated leaves E certify the minimax value, and flag evaluated leaves only
-pub record FlagsCertify (ν : ℕ → ℕ) (E : ℕ → Bool) (t : Tree) : Type 0 where
-  pub certifies : Certifies ν t (λ k. inside Max (flag ν E t k)) (λ k. inside Min (flag ν E t k)) (minimax ν t)
-  pub maxLeaves : LeavesIn (λ k. inside Max (flag ν E t k)) E t
-  pub minLeaves : LeavesIn (λ k. inside Min (flag ν E t k)) E t

@@ -10,7 +10,7 @@ use Rattle.gametree.specs.Lists.{among}
 use Rattle.gametree.specs.Tree.{Tree, leaf, inner, Kids, last, _then_, greatest, size, sizeKids, leafCount}
 use Rattle.gametree.specs.Tree.{leafCountKids, In, InKids}
 use Rattle.gametree.specs.Mtd.{Memo, MemoKids, memoHigh, pass, Run, settled, followed, run, fresh, freshKids, mtd}
-use Rattle.gametree.specs.Searches.{byMtd}
+use Rattle.gametree.proofs.Searches.{byMtd}
 use Rattle.gametree.proofs.Choice.{cond-cases}
 use Rattle.gametree.specs.MemoArrays.{Bits, readMemo, readMemoKids}
 use Rattle.gametree.proofs.MtdSound.{Kept, Sound, sound}

@@ -11,7 +11,7 @@ use Rattle.gametree.specs.Tree.{greatest, minimax}
 use Rattle.gametree.specs.Mtd.{mtd}
 use Rattle.gametree.specs.Move.{rootMove, boundMove}
 use Rattle.gametree.specs.Certificate.{flag}
-use Rattle.gametree.specs.Searches.{byMtd}
+use Rattle.gametree.proofs.Searches.{byMtd}
 use Rattle.gametree.proofs.Theorems.{value-score, mtd-minimax}
 use Rattle.frames.specs.Frame.{maxNodes, frames}
 use Rattle.frames.specs.Tree.{tree, valuation}

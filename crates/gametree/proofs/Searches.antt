@@ -6,7 +6,8 @@ use Rattle.gametree.specs.Lists.{among}
 use Rattle.gametree.specs.Tree.{Tree, minimax}
 use Rattle.gametree.specs.AlphaBeta.{fullWindow}
 use Rattle.gametree.specs.Mtd.{mtd}
-use Rattle.gametree.specs.Layout.{Layout, Describes}
+use Rattle.gametree.specs.Layout.{Layout}
+use Rattle.gametree.proofs.Described.{Describes}
 use Rattle.gametree.specs.Sss.{sssOver}
 use Rattle.gametree.specs.Certificate.{flag}
 use Rattle.gametree.specs.Move.{rootMove}
