@@ -2,19 +2,21 @@
 use Prim.Native.Nat.{ℕ, zero, suc, _<_}
 use native.Mathlib.Omega.{arith}
 use mathlib.Core.Path.{_≡_, refl}
-use mathlib.Core.Bool.{Bool, true, false, _&&_}
+use mathlib.Core.Bool.{Bool, true, false}
 use mathlib.Core.Option.{Option, none, some}
 use mathlib.Core.List.{List}
 use borrow.Author.Tests.{ltb-true, leb-true, eqb-true, lt-ltb, le-leb, eq-eqb}
 use Rattle.gametree.specs.Tree.{Score}
+use Rattle.gametree.proofs.Choice.{zero-not-one, and-both}
 use Rattle.frames.specs.declared.Rejection.{Rejection}
 use Rattle.frames.specs.Frame.{firstChild, valueBytes, storedScore, next}
 use Rattle.frames.specs.Rejection.{ask, _andThen_}
 use Rattle.frames.specs.Check.{firstChildRight, valueRight, check4, check5, check6, check7, checkNode}
 use Rattle.frames.specs.Stated.{FrameAsStated}
 
+-- a rejection is not none
 some-none : {r : Rejection} → some r ≡ none → ⊥
-some-none e = let z : _≡_ {A = ℕ} 0 1 = cc in omega arith
+some-none e = zero-not-one cc
 
 -- a question that passed was answered yes
 pub ask-yes : (b : Bool) (q p : ℕ) → ask b q p ≡ none → b ≡ true
@@ -32,10 +34,6 @@ both-passed (some r) y e = absurd (some-none e)
 pub passed-both : (x y : Option Rejection) → x ≡ none → y ≡ none → (x andThen y) ≡ none
 passed-both x y e f = rw e f
 
-both-true : (a b : Bool) → (a && b) ≡ true → (a ≡ true) × (b ≡ true)
-both-true true b e = (refl, e)
-both-true false b e = (e, absurd (let z : _≡_ {A = ℕ} 0 1 = cc in omega arith))
-
 module _ (t : List ℕ) (i : ℕ) where
   -- what question 6 says of a node with n children
   record FirstChild (n : ℕ) : Type 0 where
@@ -51,7 +49,7 @@ module _ (t : List ℕ) (i : ℕ) where
         later = λ h. absurd (omega arith);
       }
   right-first (suc n) e =
-      let p = both-true _ _ e in
+      let p = and-both _ _ e in
       record { leaf = λ h. absurd (omega arith); first = λ _. eqb-true _ _ (p .0); later = λ _. ltb-true _ _ (p .1) }
 
   first-right : (n : ℕ) → FirstChild n → firstChildRight t i n ≡ true
@@ -65,7 +63,7 @@ module _ (t : List ℕ) (i : ℕ) where
 
   right-value : (n : ℕ) → valueRight t i n ≡ true → Value n
   right-value zero e =
-      let p = both-true _ _ e in
+      let p = and-both _ _ e in
       record { leaf = λ _. (ltb-true _ _ (p .0), ltb-true _ _ (p .1)); inner = λ h. absurd (omega arith) }
   right-value (suc n) e = record { leaf = λ h. absurd (omega arith); inner = λ _. eqb-true _ _ e }
 

@@ -1,7 +1,6 @@
 -- What a layout says of a front: which state is whose child, and which states are below a Max node. So every list that
 -- SSS* reaches is a front.
 use Prim.Native.Nat.{ℕ}
-use native.Mathlib.Omega.{arith}
 use mathlib.Core.Path.{_≡_, refl, sym, _∙_, ap, ap₂, subst}
 use mathlib.Core.Logic.{inl, inr}
 use mathlib.Core.Bool.{Bool, true, false}
@@ -18,6 +17,7 @@ use Rattle.gametree.proofs.Lists.{all-append, all-map}
 use Rattle.gametree.proofs.SssSteps.{purge-append, purge-outside, purge-below}
 use Rattle.gametree.proofs.Fronts.{Front, FrontKids, alone-front, ChildIn, Beside, Within, top, underMax}
 use Rattle.gametree.proofs.Fronts.{underMin, plug, located}
+use Rattle.gametree.proofs.Choice.{zero-not-one}
 
 -- k is what is taken from the list
 abbrev pub Picks : Layout → List State → Taken → Type 0
@@ -327,7 +327,7 @@ module _ (ν : ℕ → ℕ) (Y : Layout) (r : Tree) (d : Describes Y r) where
       around : (u : Tree) → number u ≡ s .node → {A B : List State} → Within r u A B → Gathered Y r p A B
       around u i top =
           let z : root ≡ under p Max b = sym (d .top) ∙ ap (Y .link) i ∙ e in
-          absurd (let y : _≡_ {A = ℕ} 0 1 = cc in omega arith)
+          absurd (zero-not-one cc)
       around u i (underMax {n = n} {ks = ks} {A = A} {B = B} F G w c q t) =
           let h = child-link Y n Max u ks (beside-child ks u F G c) (within-answers Y w (d .answers) .2) in
           let z : under n Max (h .0) ≡ under p Max b = sym (h .1) ∙ ap (Y .link) i ∙ e in
@@ -336,7 +336,7 @@ module _ (ν : ℕ → ℕ) (Y : Layout) (r : Tree) (d : Describes Y r) where
       around u i (underMin {n = n} {ks = ks} w c) =
           let h = child-link Y n Min u ks c (within-answers Y w (d .answers) .2) in
           let z : under n Min (h .0) ≡ under p Max b = sym (h .1) ∙ ap (Y .link) i ∙ e in
-          absurd (let y : _≡_ {A = ℕ} 0 1 = cc in omega arith)
+          absurd (zero-not-one cc)
 
   -- so what a child of p purges stands together
   purges : (p : ℕ) (b : Option ℕ) (k : Taken) → Front r (k .left ++ (k .state ∷ k .right))

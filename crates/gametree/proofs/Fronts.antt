@@ -2,12 +2,12 @@
 -- its children from left to right, below a Min node the front of one child. So the states below a node stand together,
 -- and a purge takes the end of what stands before the state taken and the beginning of what stands behind it.
 use Prim.Native.Nat.{ℕ}
-use native.Mathlib.Omega.{arith}
 use mathlib.Core.Path.{_≡_, refl, sym, _∙_, ap, ap₂, subst}
 use mathlib.Core.Logic.{_⊎_, inl, inr}
 use mathlib.Core.List.{List, [], _∷_, _++_, append-assoc, append-nil}
 use Rattle.gametree.specs.Tree.{Side, Max, Min, Tree, leaf, inner, Kids, last, _then_, number}
 use Rattle.gametree.specs.Sss.{State}
+use Rattle.gametree.proofs.Choice.{zero-not-one}
 
 -- the list is one state, of node n
 abbrev pub Alone : ℕ → List State → Type 0
@@ -112,8 +112,8 @@ pub record Located (r : Tree) (s : State) (A B : List State) : Type 0 where
 only-state : (A : List State) (s x : State) (B : List State) → A ++ (s ∷ B) ≡ x ∷ []
     → (A ≡ []) × (s ≡ x) × (B ≡ [])
 only-state [] s x B e = (refl, cc, cc)
-only-state (a ∷ []) s x B e = let z : s ∷ B ≡ [] = cc in absurd (let y : _≡_ {A = ℕ} 0 1 = cc in omega arith)
-only-state (a ∷ b ∷ A) s x B e = absurd (let y : _≡_ {A = ℕ} 0 1 = cc in omega arith)
+only-state (a ∷ []) s x B e = let z : s ∷ B ≡ [] = cc in absurd (zero-not-one cc)
+only-state (a ∷ b ∷ A) s x B e = absurd (zero-not-one cc)
 
 alone-located : (r u : Tree) (n : ℕ) (A : List State) (s : State) (B X Z : List State) → number u ≡ n
     → Alone n (A ++ (s ∷ B)) → Within r u X Z → Located r s (X ++ A) (B ++ Z)

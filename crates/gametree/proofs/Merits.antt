@@ -17,7 +17,7 @@ use Rattle.gametree.specs.Layout.{Kind, tip, fork, Link, root, under, La
 use Rattle.gametree.specs.Sss.{Status, LIVE, SOLVED, State, live, solved, Taken, beats, choose, pick, takenMerit}
 use Rattle.gametree.specs.Sss.{put, Step, empty, stop, quiet, evaluating, purge, replaceLive, replaceSolved}
 use Rattle.gametree.specs.Sss.{replace, step, ListAfter, atStart, afterQuiet, afterEvaluating}
-use Rattle.gametree.proofs.Choice.{or-cases, or-false-both, and-both}
+use Rattle.gametree.proofs.Choice.{zero-not-one, or-cases, or-false-both, and-both}
 use Rattle.gametree.proofs.Lists.{all-append, all-map}
 use Rattle.gametree.proofs.SssSteps.{Steps, done, quietly, evaluates, OfTaken, pick-all, put-all, purge-all}
 use Rattle.gametree.proofs.Frontier.{AtMost}
@@ -139,12 +139,10 @@ module _ (ν : ℕ → ℕ) (Y : Layout) where
   list-unique t (afterQuiet r e) (afterQuiet q d) = let i = list-unique t r q in (i .0, cc (i .1))
   list-unique t (afterQuiet r e) (afterEvaluating q d) =
       let i = list-unique t r q in
-      let z : _≡_ {A = ℕ} 0 1 = cc (i .1) in
-      absurd (omega arith)
+      absurd (zero-not-one (cc (i .1)))
   list-unique t (afterEvaluating r e) (afterQuiet q d) =
       let i = list-unique t r q in
-      let z : _≡_ {A = ℕ} 0 1 = cc (i .1) in
-      absurd (omega arith)
+      absurd (zero-not-one (cc (i .1)))
   list-unique t (afterEvaluating r e) (afterEvaluating q d) =
       let i = list-unique t r q in
       (cc (i .0, i .1), cc (i .1))

@@ -15,6 +15,7 @@ use Rattle.gametree.proofs.MtdValue.{mtd-right}
 use Rattle.gametree.proofs.Merits.{steps-fall}
 use Rattle.gametree.proofs.Work.{full, full-size}
 use Rattle.gametree.proofs.SssRun.{root-stops, mtd-steps}
+use Rattle.gametree.proofs.Choice.{zero-not-one}
 
 -- what is ahead of the list L in a run of SSS* that ends at N, evaluates the leaves W and makes at most A replacements
 record Ahead (ν : ℕ → ℕ) (Y : Layout) (N : List State) (W : List ℕ) (A k : ℕ) (w : List ℕ)
@@ -30,18 +31,18 @@ module _ (ν : ℕ → ℕ) (Y : Layout) (N : List State) (W : List ℕ) (A v : 
   ahead-quiet : {k a : ℕ} {w u : List ℕ} {L M : List State} → Steps ν Y a L u N 0 → w ++ u ≡ W → k + a ≤ A
       → step ν Y L ≡ quiet M
       → Ahead ν Y N W A (suc k) w M
-  ahead-quiet (done o l) i f s = let z : _≡_ {A = ℕ} 0 1 = cc (e .by-tree) in absurd (omega arith)
+  ahead-quiet (done o l) i f s = absurd (zero-not-one (cc (e .by-tree)))
   ahead-quiet {u = u} {M = M} (quietly {c = c} {M = M′} t l p) i f s =
       let z : M′ ≡ M = cc (t .by-tree) in
       record { left = c; toCome = u; steps = subst (λ X. Steps ν Y c X u N 0) z p; whole = i; few = omega arith }
-  ahead-quiet (evaluates t l p) i f s = let z : _≡_ {A = ℕ} 0 1 = cc (t .by-tree) in absurd (omega arith)
+  ahead-quiet (evaluates t l p) i f s = absurd (zero-not-one (cc (t .by-tree)))
 
   -- and so does one that evaluates a leaf
   ahead-evaluating : {k a n : ℕ} (w : List ℕ) {u : List ℕ} {L M : List State} → Steps ν Y a L u N 0 → w ++ u ≡ W
       → k + a ≤ A
       → step ν Y L ≡ evaluating n M → Ahead ν Y N W A (suc k) (w ++ (n ∷ [])) M
-  ahead-evaluating w (done o l) i f s = let z : _≡_ {A = ℕ} 0 1 = cc (e .by-tree) in absurd (omega arith)
-  ahead-evaluating w (quietly t l p) i f s = let z : _≡_ {A = ℕ} 0 1 = cc (t .by-tree) in absurd (omega arith)
+  ahead-evaluating w (done o l) i f s = absurd (zero-not-one (cc (e .by-tree)))
+  ahead-evaluating w (quietly t l p) i f s = absurd (zero-not-one (cc (t .by-tree)))
   ahead-evaluating {n = n} w {M = M} (evaluates {c = c} {M = M′} {w = x} {n = n′} t l p) i f s =
       let z : M′ ≡ M = cc (t .by-tree) in
       let y : n′ ≡ n = cc (t .by-tree) in
@@ -63,9 +64,9 @@ module _ (ν : ℕ → ℕ) (Y : Layout) (N : List State) (W : List ℕ) (A v : 
 
   -- a state is on the list
   ahead-state : {a : ℕ} {u : List ℕ} {L : List State} → Steps ν Y a L u N 0 → step ν Y L ≡ empty → ⊥
-  ahead-state (done o l) s = let z : _≡_ {A = ℕ} 0 1 = cc (e .by-tree) in omega arith
-  ahead-state (quietly t l p) s = let z : _≡_ {A = ℕ} 0 1 = cc (t .by-tree) in omega arith
-  ahead-state (evaluates t l p) s = let z : _≡_ {A = ℕ} 0 1 = cc (t .by-tree) in omega arith
+  ahead-state (done o l) s = zero-not-one (cc (e .by-tree))
+  ahead-state (quietly t l p) s = zero-not-one (cc (t .by-tree))
+  ahead-state (evaluates t l p) s = zero-not-one (cc (t .by-tree))
 
   -- which one is known
   ahead-takes : {a : ℕ} {u : List ℕ} {L : List State} → Steps ν Y a L u N 0 → (x : Step) × Takes ν Y L x

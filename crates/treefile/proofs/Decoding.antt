@@ -20,6 +20,7 @@ use Rattle.treefile.specs.Decoded.{Decoded}
 use Rattle.treefile.proofs.Lines.{line-bytes, frame-bytes}
 use Rattle.treefile.proofs.Positions.{lineBytes, line-is, line-fits, line-read, read-is, none-is}
 use Rattle.treefile.proofs.Left.{lines-next, lines-stop}
+use Rattle.gametree.proofs.Choice.{zero-not-one}
 
 -- six bytes stored behind n frames
 stored : (table bs : List ℕ) (n : ℕ) → frameSize * (n + 1) ≤ length table → length bs ≡ frameSize
@@ -36,7 +37,7 @@ pub decoded-refused : (f : List ℕ) (x : Option Rejection) (table : List ℕ) (
 decoded-refused f x table r e =
     record {
       answered = rw e;
-      filled = λ p. (let z : _≡_ {A = ℕ} 0 1 = cc in absurd (omega arith));
+      filled = λ p. absurd (zero-not-one cc);
     }
 
 -- after n lines the position is past them, question 3 is left for the lines from there on, and the table's front holds
