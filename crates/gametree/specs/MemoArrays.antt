@@ -1,5 +1,5 @@
--- For code: MTD's memory kept in two arrays over the node numbers, marks and answers, and what a visit of a node does
--- to them.
+-- For code: MTD's memory kept in two arrays over the node numbers, the marks of the leaves and the answers of the inner
+-- nodes, and what a visit of a node does to them.
 use Prim.Native.Nat.{ℕ}
 use mathlib.Core.Path.{_≡_}
 use mathlib.Core.Bool.{Bool}

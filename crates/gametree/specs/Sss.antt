@@ -122,7 +122,8 @@ runFrom next (suc f) L = follow (next L) (λ M. runFrom next f M)
 abbrev pub start : Tree → List State
 start t = live (number t) greatest ∷ []
 
--- SSS* over a layout of the tree: at most 2 × nodes - 1 replacements, and the root is taken
+-- SSS* over a layout of the tree. It takes at most 2 × nodes states: 2 × nodes - 1 are replaced, and the last is the
+-- root.
 abbrev pub sssOver : (ℕ → ℕ) → Layout → Tree → Ran
 sssOver ν Y t = runFrom (λ L. step ν Y L) (2 * size t) (start t)
 
