@@ -6,9 +6,7 @@ use Rattle.gametree.specs.Lists.{among}
 use Rattle.gametree.specs.Tree.{Tree, minimax}
 use Rattle.gametree.specs.AlphaBeta.{fullWindow}
 use Rattle.gametree.specs.Mtd.{mtd}
-use Rattle.gametree.specs.Layout.{Layout}
-use Rattle.gametree.proofs.Described.{Describes}
-use Rattle.gametree.specs.Sss.{sssOver}
+use Rattle.gametree.specs.Sss.{sss}
 use Rattle.gametree.specs.Certificate.{flag}
 use Rattle.gametree.specs.Move.{rootMove}
 
@@ -16,7 +14,7 @@ use Rattle.gametree.specs.Move.{rootMove}
 pub data Searched (ν : ℕ → ℕ) (t : Tree) : List ℕ → Type 0 where
   byAlphaBeta : Searched ν t (fullWindow ν t .evaluated)
   byMtd : Searched ν t (mtd ν t .evaluated)
-  bySss : (Y : Layout) → Describes Y t → Searched ν t (sssOver ν Y t .evaluated)
+  bySss : Searched ν t (sss ν t .evaluated)
 
 -- two valuations give the same results where the leaves w are evaluated
 pub record SameResults (ν μ : ℕ → ℕ) (t : Tree) (w : List ℕ) : Type 0 where

@@ -18,7 +18,7 @@ use Rattle.gametree.specs.Mtd.{fresh, mtd}
 use Rattle.gametree.specs.Layout.{under, Layout, layoutOf}
 use Rattle.gametree.proofs.Described.{Describes}
 use Rattle.gametree.specs.Sss.{Taken, takenMerit, State, empty, step, finished, runFrom, start}
-use Rattle.gametree.specs.Sss.{sssOver, ListAfter, resumed}
+use Rattle.gametree.specs.Sss.{sssOver, sss, ListAfter, resumed}
 use Rattle.gametree.specs.Certificate.{Rule, SolutionTree, solutionValue, Certifies, pairLeaves, chosen}
 use Rattle.gametree.specs.Certificate.{Smallest}
 use Rattle.gametree.proofs.Certificates.{FlagsCertify}
@@ -201,14 +201,14 @@ module _ (ν : ℕ → ℕ) (t : Tree) (r : Proper ν t) where
   mtd-minimax = mtd-right ν t (r .scored) .value
 
   -- what holds of MTD's leaves holds of those of SSS*
-  as-mtd : (P : List ℕ → Type 0) (Y : Layout) → Describes Y t → P (mtd ν t .evaluated) → P (sssOver ν Y t .evaluated)
-  as-mtd P Y d x = subst P (sym (sss-mtd ν t (r .scored) Y d)) x
+  as-mtd : (P : List ℕ → Type 0) → P (mtd ν t .evaluated) → P (sss ν t .evaluated)
+  as-mtd P x = subst P (sym (sss-mtd ν t (r .scored) (layoutOf t) (layout-own t (r .distinct)))) x
 
   -- the bounds of the leaves that a search evaluates meet at the minimax value
   pub search-decides : {w : List ℕ} → Searched ν t w → Decided ν (among w) t
   search-decides byAlphaBeta = alphaBeta-decided ν t (r .scored)
   search-decides byMtd = mtd-decided ν t r
-  search-decides (bySss Y d) = as-mtd (λ w. Decided ν (among w) t) Y d (mtd-decided ν t r)
+  search-decides bySss = as-mtd (λ w. Decided ν (among w) t) (mtd-decided ν t r)
 
   -- the flags read off them are a certificate of that value, made of evaluated leaves only
   pub search-certifies : {w : List ℕ} → Searched ν t w → FlagsCertify ν (among w) t
@@ -218,20 +218,20 @@ module _ (ν : ℕ → ℕ) (t : Tree) (r : Proper ν t) where
   pub search-move : {w : List ℕ} → Searched ν t w → boundMove ν (among w) t ≡ rootMove ν t
   search-move byAlphaBeta = alphaBeta-move ν t (r .scored)
   search-move byMtd = mtd-move ν t r
-  search-move (bySss Y d) = as-mtd (λ w. boundMove ν (among w) t ≡ rootMove ν t) Y d (mtd-move ν t r)
+  search-move bySss = as-mtd (λ w. boundMove ν (among w) t ≡ rootMove ν t) (mtd-move ν t r)
 
   -- no leaf is evaluated twice
   pub search-once : {w : List ℕ} → Searched ν t w → Once w
   search-once byAlphaBeta = sub-once (alphaBeta-ordered ν t) (leaves-once t (r .distinct))
   search-once byMtd = mtd-marks ν t (r .distinct) .once
-  search-once (bySss Y d) = as-mtd Once Y d (mtd-marks ν t (r .distinct) .once)
+  search-once bySss = as-mtd Once (mtd-marks ν t (r .distinct) .once)
 
   -- domination: every leaf that a search evaluates is one that alpha-beta evaluates
   pub domination : {w : List ℕ} → Searched ν t w → All (λ k. among (fullWindow ν t .evaluated) k ≡ true) w
   domination byAlphaBeta = all-among (fullWindow ν t .evaluated)
   domination byMtd = rw (alphaBeta-leaves ν t) (mtd-reaches ν t (r .scored))
-  domination (bySss Y d) =
-      as-mtd (λ w. All (λ k. among (fullWindow ν t .evaluated) k ≡ true) w) Y d
+  domination bySss =
+      as-mtd (λ w. All (λ k. among (fullWindow ν t .evaluated) k ≡ true) w)
       (rw (alphaBeta-leaves ν t) (mtd-reaches ν t (r .scored)))
 
   -- so no search evaluates more leaves than alpha-beta
@@ -259,10 +259,9 @@ module _ (ν : ℕ → ℕ) (t : Tree) (r : Proper ν t) where
   closed-form-mtd = mtd-unrivalled ν t r
 
   -- so does SSS*
-  pub closed-form-sss : (Y : Layout) → Describes Y t
-      → EveryLeaf (λ n. among (sssOver ν Y t .evaluated) n ≡ among (unrivalled ν least greatest least t) n) t
-  closed-form-sss Y d =
-      as-mtd (λ w. EveryLeaf (λ n. among w n ≡ among (unrivalled ν least greatest least t) n) t) Y d closed-form-mtd
+  pub closed-form-sss : EveryLeaf (λ n. among (sss ν t .evaluated) n ≡ among (unrivalled ν least greatest least t) n) t
+  closed-form-sss =
+      as-mtd (λ w. EveryLeaf (λ n. among w n ≡ among (unrivalled ν least greatest least t) n) t) closed-form-mtd
 
 -- LOCALITY
 
@@ -285,7 +284,7 @@ local-sss ν μ Y t a = runFrom-local ν μ Y (2 * size t) (start t) a
 pub local-search : (ν μ : ℕ → ℕ) (t : Tree) {w : List ℕ} → Searched ν t w → All (λ k. ν k ≡ μ k) w → Searched μ t w
 local-search ν μ t byAlphaBeta a = subst (λ x. Searched μ t (x .evaluated)) (sym (local-alphaBeta ν μ t a)) byAlphaBeta
 local-search ν μ t byMtd a = subst (λ x. Searched μ t (x .evaluated)) (sym (local-mtd ν μ t a)) byMtd
-local-search ν μ t (bySss Y d) a = subst (λ x. Searched μ t (x .evaluated)) (sym (local-sss ν μ Y t a)) (bySss Y d)
+local-search ν μ t bySss a = subst (λ x. Searched μ t (x .evaluated)) (sym (local-sss ν μ (layoutOf t) t a)) bySss
 
 -- and hands over the same value, move and flags
 pub local-results : (ν μ : ℕ → ℕ) (t : Tree) → Proper ν t → Proper μ t → {w : List ℕ} → Searched ν t w
