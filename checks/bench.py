@@ -1,9 +1,10 @@
 #!/usr/bin/env python3
 """What each public call costs: the crates against the same work in plain C, by instructions and by time.
 
-    bench.py [TREE..]       all trees, growth, stack and the whole program; or these trees alone
+    bench.py [--readme]     all trees, growth, stack and the whole program; --readme puts the tables into README.md
+    bench.py TREE..         these trees alone
 
-Prints markdown tables for README.md: a cell is the cost of the call in Rattle, then how many times that of the call in C.
+A cell of a table is the cost of the call in Rattle, then how many times that of the call in C.
 Instructions are counted by valgrind's callgrind, for each call alone; times are the least of many runs of both sides in turn.
 The crates' calls are taken from a static library that `rt staticlib` proves and compiles, of a crate made from bench.rt.txt under
 target/bench; the C calls are in baseline.c. Both sides must give the same answers and buffers. Needs the kit, gcc and valgrind.
@@ -46,12 +47,12 @@ def wide_front():
     return [40] + [1] * 40 + [33] * 40 + [2] * 1320 + [0] * 2640
 
 
-def deep_front():
-    """A list of 1,200 states below a path of Max nodes with 40 children each, the last of which goes on."""
+def below_path(width, leaves):
+    """A path of Max nodes with 40 children each, the last of which goes on; at its end 40 Max nodes with `width` children of so many leaves each."""
     counts = [40]
     for _ in range((o.MAX_DEPTH - 4) // 2):
         counts += [0] * 39 + [1, 40]
-    return counts + [1] * 40 + [30] * 40 + [2] * 1200 + [0] * 2400
+    return counts + [1] * 40 + [width] * 40 + [leaves] * (40 * width) + [0] * (40 * width * leaves)
 
 
 def many(counts):
@@ -89,7 +90,8 @@ TREES = {
     "chain": lambda: many(trees.regular_counts(1, o.MAX_DEPTH)),
     "comb": lambda: worst(comb()),
     "wide front": lambda: falling(wide_front()),
-    "deep front": lambda: falling(deep_front()),
+    "deep front": lambda: falling(below_path(30, 2)),
+    "many passes": lambda: falling(below_path(2, 40)),
 }
 
 GROWTH = {str(2 * inner + 1): (lambda inner=inner: many(trees.regular_counts(2, inner))) for inner in (31, 127, 511, 2047)}
@@ -219,41 +221,69 @@ def against(ours, other, unit=1000):
     return "%s (%.2f)" % (number(ours / unit), ours / other)
 
 
-def table(title, first, rows):
-    """A table of calls; a row is its name, what was measured, and the unit."""
-    print("\n%s\n\n| %s | %s |\n|---|%s" % (title, first, " | ".join(CALLS), "---|" * len(CALLS)))
-    for name, got, unit in rows:
-        print("| %s | %s |" % (name, " | ".join(against(got["rattle", call], got["c", call], unit) for call in CALLS)))
+def lines(head, rows):
+    """A markdown table."""
+    top, *below = ("| %s |\n" % " | ".join(row) for row in [head] + rows)
+    return top + "|" + "---|" * len(head) + "\n" + "".join(below)
+
+
+def calls(first, rows):
+    """A table of all calls; a row is its name, what was measured, and the unit."""
+    return lines([first, *CALLS], [[name] + [against(got["rattle", call], got["c", call], unit) for call in CALLS] for name, got, unit in rows])
 
 
 def programs(paths):
-    """The whole program, and its SSS* against the textbook's list."""
-    print("\nWhole runs of the program, thousands of instructions:\n\n| tree | analyse | times C | times C with the textbook's list |\n|---|---|---|---|")
+    """The whole program, in C with both kinds of SSS*."""
+    rows = []
     for name, path in paths:
         ours, front, textbook = (whole(words, path) for words in ([PROGRAM], [BASELINE], [BASELINE, "-l"]))
-        print("| %s | %s | %.2f | %.2f |" % (name, number(ours / 1000), ours / front, ours / textbook))
+        rows.append([name, number(ours / 1000), "%.2f" % (ours / front), "%.2f" % (ours / textbook)])
+    return lines(["tree", "analyse", "times C", "times C with the textbook's list"], rows)
+
+
+def into_readme(tables):
+    """Puts the tables into the section of README.md that has them, in its order."""
+    path = os.path.join(ROOT, "README.md")
+    text = read(path)
+    start = text.index("## What a call costs")
+    end = text.index("\n# ", start)
+    old = re.findall(r"(?:^\|.*\n)+", text[start:end], re.M)
+    assert len(old) == len(tables), "README.md has %d tables in this section" % len(old)
+    section = text[start:end]
+    for was, now in zip(old, tables):
+        section = section.replace(was, now)
+    with open(path, "w") as f:
+        f.write(text[:start] + section + text[end:])
+
+
+def measure(chosen, everything):
+    """The tables with their titles."""
+    paths = {name: write(name, make()) for name, make in {**chosen, **(GROWTH if everything else {})}.items()}
+    counted = {name: instructions(path) for name, path in paths.items()}
+    yield "Thousands of instructions, and how many times those of C:", calls("tree", [(name, counted[name], 1000) for name in chosen])
+    yield "Microseconds, and how many times those of C:", calls("tree", [(name, said(paths[name], "time"), 1000) for name in chosen])
+    if everything:
+        yield ("Instructions a node, and how many times those of C, in full trees of width 2:",
+               calls("nodes", [("{:,}".format(int(name)), counted[name], int(name)) for name in GROWTH]))
+        yield "Thousands of bytes, and how many times those of C:", calls("", [("stack", said(paths["chain"], "stack"), 1000)])
+        yield "Whole runs of the program, thousands of instructions:", programs([(name, paths[name]) for name in chosen])
 
 
 def main():
     parser = argparse.ArgumentParser()
     parser.add_argument("trees", nargs="*", metavar="TREE", help=", ".join(TREES))
+    parser.add_argument("--readme", action="store_true", help="put the tables into README.md")
     args = parser.parse_args()
     unknown = set(args.trees) - set(TREES)
     if unknown:
         parser.error("no such tree: %s" % ", ".join(sorted(unknown)))
     build()
-    chosen = {name: make for name, make in TREES.items() if not args.trees or name in args.trees}
-    growth = {} if args.trees else GROWTH
-    paths = {name: write(name, make()) for name, make in {**chosen, **growth}.items()}
-    counted = {name: instructions(path) for name, path in paths.items()}
-    table("Thousands of instructions, and how many times those of C:", "tree", [(name, counted[name], 1000) for name in chosen])
-    table("Microseconds, and how many times those of C:", "tree", [(name, said(paths[name], "time"), 1000) for name in chosen])
-    if not args.trees:
-        table("Instructions a node, and how many times those of C, in full trees of width 2:", "nodes",
-              [(name, counted[name], int(name)) for name in growth])
-        table("Stack, in thousands of bytes, and how many times that of C:", "tree", [("chain", said(paths["chain"], "stack"), 1000)])
-        if os.path.exists(PROGRAM):
-            programs([(name, paths[name]) for name in chosen])
+    made = []
+    for title, table in measure({name: TREES[name] for name in args.trees or TREES}, not args.trees):
+        print("%s\n\n%s" % (title, table), flush=True)
+        made.append(table)
+    if args.readme and not args.trees:
+        into_readme(made)
 
 
 if __name__ == "__main__":
