@@ -6,27 +6,24 @@
 
 A cell of a table is the cost of the call in Rattle, then how many times that of the call in C.
 Instructions are counted by valgrind's callgrind, for each call alone; times are the least of many runs of both sides in turn.
-The crates' calls are taken from a static library that `rt staticlib` proves and compiles, of a crate made from bench.rt.txt under
-target/bench; the C calls are in baseline.c. Both sides must give the same answers and buffers. Needs the kit, gcc and valgrind.
+The crates' calls are taken from a static library that `rt staticlib` proves and compiles (library.py); the C calls are in baseline.c.
+Both sides must give the same answers and buffers. Needs the kit, gcc and valgrind.
 """
 import argparse
 import glob
-import hashlib
 import os
 import random
 import re
 import subprocess
-import sys
 
+import library
 import oracle as o
 import trees
+from library import CHECKS, ROOT, WORK, read, run
 
-CHECKS = os.path.dirname(os.path.abspath(__file__))
-ROOT = os.path.dirname(CHECKS)
-WORK = os.path.join(ROOT, "target", "bench")
-PROGRAM, BASELINE = os.path.join(ROOT, "target", "bin", "analyse"), os.path.join(WORK, "baseline")
+PROGRAM = os.path.join(ROOT, "target", "bin", "analyse")
+BENCH, BASELINE = os.path.join(WORK, "bench"), os.path.join(WORK, "baseline")
 CALLS = ("read", "check", "alphabeta", "mtd", "sss", "verify", "report")
-CRATES = ("report", "verify", "sss", "mtd", "alphabeta", "treefile", "frames")
 
 # A string instruction of the processor counts once for each byte in valgrind: the C library is told to use none.
 TUNABLES = "glibc.cpu.x86_rep_stosb_threshold=100000000:glibc.cpu.x86_rep_movsb_threshold=100000000"
@@ -99,83 +96,15 @@ GROWTH = {str(2 * inner + 1): (lambda inner=inner: many(trees.regular_counts(2, 
 
 # ---------------------------------------------------------------- what is measured
 
-def run(words, **more):
-    got = subprocess.run(words, stdout=subprocess.PIPE, stderr=subprocess.STDOUT, text=True, **more)
-    if got.returncode:
-        sys.exit("bench: %s failed\n%s" % (" ".join(words), got.stdout))
-    return got.stdout
-
-
-def dependencies():
-    """The lines of crates.txt, and all crates that the calls' crates need, each before those that it needs."""
-    text = read(os.path.join(ROOT, "crates.txt"))
-    needs = dict((name.strip(), rest.split()) for name, rest in (line.split(":") for line in re.sub("#.*", "", text).splitlines() if line.strip()))
-    found, todo = [], list(CRATES)
-    while todo:
-        name = todo.pop(0)
-        if name not in found:
-            found.append(name)
-            todo += needs.get(name, [])
-    return text, list(needs), found
-
-
-def read(path):
-    if not os.path.exists(path):
-        return ""
-    with open(path) as f:
-        return f.read()
-
-
-def digest(needed):
-    """Of all that the library is made of."""
-    seen = hashlib.sha256(run(["rt", "version"]).encode())
-    paths = [os.path.join(CHECKS, "bench.rt.txt")]
-    for name in needed:
-        for part in ("src", "specs", "proofs"):
-            paths += glob.glob(os.path.join(ROOT, "crates", name, part, "**", "*.*"), recursive=True)
-    for path in sorted(paths):
-        seen.update(path.encode() + b"\0" + read(path).encode() + b"\0")
-    return seen.hexdigest()
-
-
-def link(path, to):
-    """Makes a symbolic link, anew where there was one."""
-    if os.path.islink(path):
-        os.remove(path)
-    os.symlink(to, path)
-
-
 def build():
-    """A repository under target/bench with the repository's crates, what is proved of them, and one crate more; its library; the C programs."""
-    text, names, needed = dependencies()
-    crates, target = os.path.join(WORK, "crates"), os.path.join(WORK, "target")
-    os.makedirs(os.path.join(crates, "bench", "src"), exist_ok=True)
-    os.makedirs(target, exist_ok=True)
-    for old in os.listdir(crates):
-        if os.path.islink(os.path.join(crates, old)):
-            os.remove(os.path.join(crates, old))
-    for name in names:
-        link(os.path.join(crates, name), os.path.join(ROOT, "crates", name))
-    for part in ("rlib", "stamp"):
-        os.makedirs(os.path.join(ROOT, "target", part), exist_ok=True)
-        link(os.path.join(target, part), os.path.join(ROOT, "target", part))
-    with open(os.path.join(WORK, "crates.txt"), "w") as f:
-        f.write("%s\nbench: %s\n" % (text, " ".join(needed)))
-    with open(os.path.join(crates, "bench", "src", "lib.rt"), "w") as f:
-        f.write(read(os.path.join(CHECKS, "bench.rt.txt")))
-    library, sources = os.path.join(target, "staticlib", "libbench.a"), digest(needed)
-    made_of = read(library + ".sources")
-    if made_of != sources or not os.path.exists(library):
-        run(["rt", "staticlib", "bench"], cwd=WORK)
-        with open(library + ".sources", "w") as f:
-            f.write(sources)
+    """The bench program and the baseline's own."""
     c = ["gcc", "-O2", "-Wall", "-pthread", "-DDEPTH=%d" % o.MAX_DEPTH]
     source = os.path.join(CHECKS, "%s.c")
-    run(c + ["-o", os.path.join(WORK, "bench"), source % "bench", source % "baseline", library])
+    run(c + ["-o", BENCH, source % "bench", source % "baseline", library.build()])
     run(c + ["-o", BASELINE, source % "program", source % "baseline"])
 
 
-def write(name, table):
+def tree_file(name, table):
     assert o.table_no(table) is None, name
     path = os.path.join(WORK, name.replace(" ", "-") + ".tree")
     with open(path, "wb") as f:
@@ -188,7 +117,7 @@ def instructions(path):
     out = os.path.join(WORK, "callgrind")
     for old in glob.glob(out + ".*"):
         os.remove(old)
-    run(["valgrind", "--tool=callgrind", "--callgrind-out-file=" + out, os.path.join(WORK, "bench"), path, "count"], env=dict(os.environ, GLIBC_TUNABLES=TUNABLES))
+    run(["valgrind", "--tool=callgrind", "--callgrind-out-file=" + out, BENCH, path, "count"], env=dict(os.environ, GLIBC_TUNABLES=TUNABLES))
     got = {}
     for name in glob.glob(out + ".*"):
         text = read(name)
@@ -200,7 +129,7 @@ def instructions(path):
 
 def said(path, mode):
     """The same, as the bench program prints them: nanoseconds (time) or bytes (stack)."""
-    return {tuple(line.split()[:2]): float(line.split()[2]) for line in run([os.path.join(WORK, "bench"), path, mode]).splitlines()}
+    return {tuple(line.split()[:2]): float(line.split()[2]) for line in run([BENCH, path, mode]).splitlines()}
 
 
 def whole(words, path):
@@ -258,7 +187,7 @@ def into_readme(tables):
 
 def measure(chosen, everything):
     """The tables with their titles."""
-    paths = {name: write(name, make()) for name, make in {**chosen, **(GROWTH if everything else {})}.items()}
+    paths = {name: tree_file(name, make()) for name, make in {**chosen, **(GROWTH if everything else {})}.items()}
     counted = {name: instructions(path) for name, path in paths.items()}
     yield "Thousands of instructions, and how many times those of C:", calls("tree", [(name, counted[name], 1000) for name in chosen])
     yield "Microseconds, and how many times those of C:", calls("tree", [(name, said(paths[name], "time"), 1000) for name in chosen])

@@ -1,0 +1,152 @@
+#!/usr/bin/env python3
+"""Calls the public calls in this process, over lent memory with guards around it, and compares answers and memory with oracle.py:
+those of the crates (library.py), and those of baseline.c.
+
+    fuzz_library.py [--count N] [--seed S]     all trees of up to 6 nodes, then N random tables and files, good and damaged (default 3000)
+"""
+import argparse
+import ctypes
+import itertools
+import os
+import random
+import sys
+from collections import Counter
+
+import fuzz
+import fuzz_calls
+import library
+import oracle as o
+import selfcheck
+
+FILLED, GUARD, TEXT = 170, 64, 256
+
+
+class Answer(ctypes.Structure):
+    _fields_ = [("refused", ctypes.c_uint8), ("value", ctypes.c_int16), ("place", ctypes.c_size_t), ("count", ctypes.c_size_t),
+                ("root_move", ctypes.c_size_t), ("leaves", ctypes.c_size_t), ("steps", ctypes.c_size_t)]
+
+
+def libraries():
+    """The calls of each side as a shared library, with the prefix of their names."""
+    rattle, c = (os.path.join(library.WORK, name) for name in ("librattle.so", "libbaseline.so"))
+    library.run(["gcc", "-shared", "-o", rattle, "-Wl,--whole-archive", library.build(), "-Wl,--no-whole-archive"])
+    library.run(["gcc", "-O2", "-fPIC", "-shared", "-DDEPTH=%d" % o.MAX_DEPTH, "-o", c, os.path.join(library.CHECKS, "baseline.c")])
+    return (ctypes.CDLL(rattle), "rattle_"), (ctypes.CDLL(c), "c_")
+
+
+def lend(data):
+    """The bytes with guards on both sides, and the words of an argument."""
+    room = bytearray((FILLED,) * GUARD) + data + bytearray((FILLED,) * GUARD)
+    return room, (ctypes.byref((ctypes.c_uint8 * len(room)).from_buffer(room), GUARD), ctypes.c_size_t(len(data)))
+
+
+def call(side, name, *buffers):
+    """The answer, and what the buffers hold afterwards; the guards must be as they were."""
+    lib, prefix = side
+    function = getattr(lib, prefix + name)
+    function.restype = Answer
+    lent = [lend(bytes(data)) for data in buffers]
+    got = function(*itertools.chain.from_iterable(words for _, words in lent))
+    for room, _ in lent:
+        if set(room[:GUARD] + room[-GUARD:]) != {FILLED}:
+            return "%s wrote outside its memory" % name
+    return tuple(getattr(got, field) for field, _ in Answer._fields_), [bytes(room[GUARD:-GUARD]) for room, _ in lent]
+
+
+def flat(answer, **fields):
+    """What a call should answer, in the order of the fields."""
+    if isinstance(answer, o.Refusal):
+        fields = {"refused": answer.number, "place": answer.place}
+    return tuple(fields.get(field, 0) for field, _ in Answer._fields_)
+
+
+# ---------------------------------------------------------------- what is asked, and what must come
+
+def filled(size):
+    return bytearray((FILLED,) * size)
+
+
+def searches(table, marks, flags):
+    for name, rule in (("alphabeta", o.alpha_beta), ("mtd", o.mtd_search), ("sss", lambda t, m, p: o.sss_search(t, None, m, p))):
+        lent = filled(marks), filled(flags)
+        r = rule(table, *lent)
+        fields = {} if isinstance(r, o.Refusal) else {"value": r.value, "root_move": r.move, "leaves": r.leaves, "steps": r.extra or 0}
+        yield name, (table, filled(marks), filled(flags)), flat(r, **fields), (table, *lent)
+
+
+def verified(table, flags):
+    r = o.check_proof(table, flags)
+    yield "verify", (table, flags), flat(r, value=r), (table, flags)
+
+
+def checked(table):
+    r = o.check_table(table)
+    yield "check", (table,), flat(r, count=r), (table,)
+
+
+def reports(file, room, text):
+    lent = filled(room)
+    r = o.read_file(file, lent)
+    yield "read", (file, filled(room)), flat(r, count=r), (file, lent)
+    printed = o.report(file)
+    r = o.Refusal(10, 0) if text < TEXT else len(printed)
+    lent = filled(text)
+    if text >= TEXT:
+        lent[:r] = printed
+    yield "report", (file, filled(text)), flat(r, count=r), (file, lent)
+
+
+def small_trees():
+    """Every tree of up to 6 nodes with leaves 0, 1, 2."""
+    for n in range(1, 7):
+        for counts in selfcheck.shapes(n):
+            for values in itertools.product((0, 1, 2), repeat=counts.count(0)):
+                table = o.table_of(counts, values)
+                yield from searches(table, n, n)
+                flags = bytearray(n)
+                o.mtd_search(table, bytearray(n), flags)
+                yield from verified(table, flags)
+
+
+def random_calls(rng):
+    table = fuzz.large_table(rng) if rng.random() < 0.01 else fuzz.good_table(rng, rng.choice((7, 20, 60, 200)))
+    n = len(table) // 6
+    size = lambda: rng.choice((n, n, n, n + 1, n + 50, max(n - 1, 0), 0))
+    kind = rng.randrange(6)
+    if kind == 0:
+        rng.choice(fuzz.TABLE_DAMAGE)(rng, table)
+    elif kind == 1:
+        table = table[:rng.randrange(len(table) + 1)]
+    elif kind == 2 and rng.random() < 0.1:
+        table = table + bytes(rng.choice((1, 6, o.MAX_TABLE - len(table), o.MAX_TABLE - len(table) + 1)))
+    else:
+        yield from verified(table, fuzz_calls.damaged_flags(rng, table))
+    yield from checked(table)
+    yield from searches(table, size(), size())
+    yield from verified(table, bytes(rng.choice((0, 1, 2, 3)) for _ in range(size())))
+    file = fuzz.damaged(rng, 60)[1] if kind < 3 else fuzz.as_file(rng, table)
+    yield from reports(file, rng.choice((6 * n, 6 * n, 6 * n + 7, 6 * n - 1, 0, o.MAX_TABLE)), rng.choice((TEXT, TEXT, 300, 255, 0)))
+
+
+def main():
+    parser = argparse.ArgumentParser()
+    parser.add_argument("--count", type=int, default=3000)
+    parser.add_argument("--seed", type=int, default=1)
+    args = parser.parse_args()
+    sides, rng, asked, bad = libraries(), random.Random(args.seed), Counter(), 0
+    todo = itertools.chain(small_trees(), itertools.chain.from_iterable(random_calls(rng) for _ in range(args.count)))
+    for name, lent, answer, left in todo:
+        asked[name] += 1
+        want = answer, [bytes(data) for data in left]
+        for side in sides:
+            got = call(side, name, *lent)
+            if got != want:
+                bad += 1
+                if bad <= 10:
+                    print("DIFFERS %s%s of %r: got %r, want %r" % (side[1], name, [bytes(data)[:60] for data in lent], got[0], answer))
+    print("%d differ; calls on each side: %s" % (bad, ", ".join("%s %d" % item for item in sorted(asked.items()))))
+    sys.exit(1 if bad else 0)
+
+
+if __name__ == "__main__":
+    main()
