@@ -1,5 +1,6 @@
 #!/usr/bin/env python3
-"""Runs a compiled `analyse` on the files of crates/cases/stdin, on samples/ and on input that cannot be read, and compares.
+"""Runs a compiled `analyse` on the files of crates/cases/stdin, on samples/ and on input that cannot be read, and compares;
+then the root's script `analyse`: its exit status, and what it prints where.
 
     check_cases.py PROGRAM
 """
@@ -22,6 +23,25 @@ def parts(data):
     return [case.split(b"\n", 1) for case in data.split(b"# ")[1:]]
 
 
+def script():
+    """How many runs of the script end with another status than they should, or print something else."""
+    seven, refused = os.path.join(SAMPLES, "seven"), os.path.join(SAMPLES, "refused-4")
+    bad = 0
+    for status, words, given, printed in (
+            (0, [seven + ".tree"], None, seven), (0, [], seven, seven), (1, [refused + ".tree"], None, refused), (1, [], refused, refused),
+            (2, [seven + ".no"], None, None), (2, [SAMPLES], None, None), (2, ["one", "two"], None, None), (2, ["--help"], None, None),
+            (3, [seven + ".tree"], None, "full")):
+        file = read(given + ".tree") if given else b""
+        want = read(printed + ".expected") if printed not in (None, "full") else b""
+        with open("/dev/full" if printed == "full" else os.devnull, "wb") as disk:
+            got = subprocess.run([os.path.join(ROOT, "analyse")] + words, input=file, stdout=disk if printed == "full" else subprocess.PIPE,
+                                 stderr=subprocess.PIPE, cwd="/", timeout=600)
+        if got.returncode != status or (got.stdout or b"") != want or bool(got.stderr) != (status > 1):
+            bad += 1
+            print("DIFFERS ./analyse %s: got %r, want status %d and %r" % (" ".join(words), got, status, want))
+    return bad
+
+
 def main():
     program = os.path.abspath(sys.argv[1])
     expected = dict(parts(read(CASES, "stdout")))
@@ -41,6 +61,7 @@ def main():
         bad += 1
         print("DIFFERS a directory for input: got %r, want a line on standard error and nothing else" % (got,))
     print("%d files, %d differ" % (len(todo) + 1, bad))
+    bad += script()
     sys.exit(1 if bad else 0)
 
 
