@@ -11,7 +11,9 @@ static struct answer no(int number, size_t place) { return (struct answer){ .ref
 
 static inline int first_child(const uint8_t *table, int k) { return table[FRAME * k] << 8 | table[FRAME * k + 1]; }
 static inline int child_count(const uint8_t *table, int k) { return table[FRAME * k + 2]; }
-static inline int stored_value(const uint8_t *table, int k) { return (int16_t)(table[FRAME * k + 4] << 8 | table[FRAME * k + 5]); }
+static inline int stored_value(const uint8_t *table, int k) {
+    return (int16_t)(table[FRAME * k + 4] << 8 | table[FRAME * k + 5]);
+}
 static inline int greater(int a, int b) { return a > b ? a : b; }
 static inline int lesser(int a, int b) { return a < b ? a : b; }
 
@@ -46,7 +48,8 @@ struct answer c_check(const uint8_t *table, size_t length) {
 
 /* 16 plus the number of a hexadecimal digit; 0 for any other byte. */
 static const uint8_t digit[256] = {
-    ['0'] = 16, ['1'] = 17, ['2'] = 18, ['3'] = 19, ['4'] = 20, ['5'] = 21, ['6'] = 22, ['7'] = 23, ['8'] = 24, ['9'] = 25,
+    ['0'] = 16, ['1'] = 17, ['2'] = 18, ['3'] = 19, ['4'] = 20, ['5'] = 21, ['6'] = 22, ['7'] = 23, ['8'] = 24,
+    ['9'] = 25,
     ['A'] = 26, ['B'] = 27, ['C'] = 28, ['D'] = 29, ['E'] = 30, ['F'] = 31,
     ['a'] = 26, ['b'] = 27, ['c'] = 28, ['d'] = 29, ['e'] = 30, ['f'] = 31,
 };
@@ -166,7 +169,8 @@ static int alpha_beta(struct visits *v, int k, bool is_max, int alpha, int beta)
     return is_max ? alpha : beta;
 }
 
-struct answer c_alphabeta(const uint8_t *table, size_t length, uint8_t *marks, size_t marks_room, uint8_t *proof, size_t proof_room) {
+struct answer c_alphabeta(const uint8_t *table, size_t length, uint8_t *marks, size_t marks_room, uint8_t *proof,
+                          size_t proof_room) {
     struct answer asked = ask(table, length, marks_room, proof_room);
     if (asked.refused) return asked;
     struct visits v = { table, marks, 0 };
@@ -200,14 +204,16 @@ static bool below(struct passes *p, int k, bool is_max, int test) {
         answer = is_max;
         for (int c = first; c < first + count && answer == is_max; c++) answer = below(p, c, !is_max, test);
         high = p->high[first];
-        for (int c = first + 1; c < first + count; c++) high = is_max ? greater(high, p->high[c]) : lesser(high, p->high[c]);
+        for (int c = first + 1; c < first + count; c++)
+            high = is_max ? greater(high, p->high[c]) : lesser(high, p->high[c]);
     }
     p->high[k] = high;
     p->not_below[k] = !answer;
     return answer;
 }
 
-struct answer c_mtd(const uint8_t *table, size_t length, uint8_t *marks, size_t marks_room, uint8_t *proof, size_t proof_room) {
+struct answer c_mtd(const uint8_t *table, size_t length, uint8_t *marks, size_t marks_room, uint8_t *proof,
+                    size_t proof_room) {
     struct answer asked = ask(table, length, marks_room, proof_room);
     if (asked.refused) return asked;
     int n = asked.count, test = GREATEST, passes = 1;
@@ -235,8 +241,9 @@ static void reset(struct state *list, int n) {
     for (int k = 0; k < n; k++) list[k] = (struct state){ 0, LIVE, 0 };
 }
 
-/* The state of node k is list[k]. front[k] is LINKS times the greatest merit at or below k, as a number from 0, plus the child
-   to go down to, or 0 where k has a state itself: at Max the leftmost child of the greatest merit, at Min the one with states. */
+/* The state of node k is list[k]. front[k] is LINKS times the greatest merit at or below k, as a number from 0, plus
+   the child to go down to, or 0 where k has a state itself: at Max the leftmost child of the greatest merit, at Min the
+   one with states. */
 enum { LINKS = 4096 };
 
 struct front {
@@ -318,12 +325,15 @@ static int run_list(const uint8_t *table, int n, struct state *list, uint8_t *ma
     for (int k = n - 1; k > 0; k--) size[parent[k]] += size[k];
     left[0] = 0;
     for (int k = 0; k < n; k++)
-        for (int i = 0, c = first_child(table, k), at = left[k] + 1; i < child_count(table, k); i++, at += size[c++]) left[c] = at;
+        for (int i = 0, c = first_child(table, k), at = left[k] + 1; i < child_count(table, k); i++, at += size[c++])
+            left[c] = at;
     list[0] = (struct state){ 0, LIVE, GREATEST };
     for (;; counts->steps++) {
         int best = 0;
         for (int i = 1; i < length; i++)
-            if (list[i].merit > list[best].merit || (list[i].merit == list[best].merit && left[list[i].node] < left[list[best].node])) best = i;
+            if (list[i].merit > list[best].merit
+                || (list[i].merit == list[best].merit && left[list[i].node] < left[list[best].node]))
+                best = i;
         struct state s = list[best];
         int up = parent[s.node], count = child_count(table, s.node), first = first_child(table, s.node);
         if (s.status == SOLVED && s.node == 0) {
@@ -336,7 +346,8 @@ static int run_list(const uint8_t *table, int n, struct state *list, uint8_t *ma
             list[best].merit = lesser(s.merit, evaluate(table, marks, s.node));
         } else if (s.status == LIVE) {
             list[best].node = first;
-            for (int i = 1; is_max[s.node] && i < count; i++) list[length++] = (struct state){ first + i, LIVE, s.merit };
+            for (int i = 1; is_max[s.node] && i < count; i++)
+                list[length++] = (struct state){ first + i, LIVE, s.merit };
         } else if (is_max[up]) {
             int kept = 0;
             for (int i = 0; i < length; i++) {
@@ -357,7 +368,8 @@ static int run_list(const uint8_t *table, int n, struct state *list, uint8_t *ma
 
 typedef int run(const uint8_t *table, int n, struct state *list, uint8_t *marks, struct answer *counts);
 
-static inline struct answer sss(run *run, const uint8_t *table, size_t length, uint8_t *marks, size_t marks_room, uint8_t *proof, size_t proof_room) {
+static inline struct answer sss(run *run, const uint8_t *table, size_t length, uint8_t *marks, size_t marks_room,
+                                uint8_t *proof, size_t proof_room) {
     struct state list[NODES];
     struct answer asked = ask(table, length, marks_room, proof_room), found = { 0 };
     if (asked.refused) return asked;
@@ -367,11 +379,13 @@ static inline struct answer sss(run *run, const uint8_t *table, size_t length, u
     return found;
 }
 
-struct answer c_sss(const uint8_t *table, size_t length, uint8_t *marks, size_t marks_room, uint8_t *proof, size_t proof_room) {
+struct answer c_sss(const uint8_t *table, size_t length, uint8_t *marks, size_t marks_room, uint8_t *proof,
+                    size_t proof_room) {
     return sss(run_front, table, length, marks, marks_room, proof, proof_room);
 }
 
-struct answer c_sss_list(const uint8_t *table, size_t length, uint8_t *marks, size_t marks_room, uint8_t *proof, size_t proof_room) {
+struct answer c_sss_list(const uint8_t *table, size_t length, uint8_t *marks, size_t marks_room, uint8_t *proof,
+                         size_t proof_room) {
     return sss(run_list, table, length, marks, marks_room, proof, proof_room);
 }
 

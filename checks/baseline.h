@@ -6,7 +6,8 @@
 
 enum { FRAME = 6, NODES = 4096, TABLE_BYTES = FRAME * NODES, LINE = 13, FILE_BYTES = LINE * NODES, TEXT_BYTES = 256 };
 
-/* `refused` is 0 for a result; else the number of the question that got a "no", with its place. What a call does not give is 0. */
+/* `refused` is 0 for a result; else the number of the question that got a "no", with its place. What a call does not
+   give is 0. */
 struct answer {
     uint8_t refused;
     int16_t value;
@@ -17,13 +18,16 @@ struct answer {
     size_t steps; /* passes of MTD, replacements of SSS* */
 };
 
-struct answer c_read(const uint8_t *file, size_t length, uint8_t *table, size_t room);
-struct answer c_check(const uint8_t *table, size_t length);
-struct answer c_alphabeta(const uint8_t *table, size_t length, uint8_t *marks, size_t marks_room, uint8_t *proof, size_t proof_room);
-struct answer c_mtd(const uint8_t *table, size_t length, uint8_t *marks, size_t marks_room, uint8_t *proof, size_t proof_room);
-/* SSS* with a list by node number and a front of greatest merits, and with the textbook's list that is scanned at each step. */
-struct answer c_sss(const uint8_t *table, size_t length, uint8_t *marks, size_t marks_room, uint8_t *proof, size_t proof_room);
-struct answer c_sss_list(const uint8_t *table, size_t length, uint8_t *marks, size_t marks_room, uint8_t *proof, size_t proof_room);
-struct answer c_verify(const uint8_t *table, size_t length, const uint8_t *flags, size_t flags_room);
-struct answer c_report(const uint8_t *file, size_t length, uint8_t *text, size_t room);
+typedef struct answer read_call(const uint8_t *file, size_t length, uint8_t *out, size_t room);
+typedef struct answer check_call(const uint8_t *table, size_t length);
+typedef struct answer search_call(const uint8_t *table, size_t length, uint8_t *marks, size_t marks_room,
+                                  uint8_t *proof, size_t proof_room);
+typedef struct answer verify_call(const uint8_t *table, size_t length, const uint8_t *flags, size_t flags_room);
+
+/* c_sss keeps its list by node number with a front of greatest merits, c_sss_list is the textbook's list, scanned at
+   each step; c_report writes the program's text. */
+read_call c_read, c_report;
+check_call c_check;
+search_call c_alphabeta, c_mtd, c_sss, c_sss_list;
+verify_call c_verify;
 #endif

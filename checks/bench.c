@@ -13,15 +13,10 @@
 #include <time.h>
 #include <valgrind/callgrind.h>
 
-typedef struct answer reader(const uint8_t *file, size_t length, uint8_t *out, size_t room);
-typedef struct answer checker(const uint8_t *table, size_t length);
-typedef struct answer searcher(const uint8_t *table, size_t length, uint8_t *marks, size_t marks_room, uint8_t *proof, size_t proof_room);
-typedef struct answer verifier(const uint8_t *table, size_t length, const uint8_t *flags, size_t flags_room);
-
-reader rattle_read, rattle_report;
-checker rattle_check;
-searcher rattle_alphabeta, rattle_mtd, rattle_sss;
-verifier rattle_verify;
+read_call rattle_read, rattle_report;
+check_call rattle_check;
+search_call rattle_alphabeta, rattle_mtd, rattle_sss;
+verify_call rattle_verify;
 
 enum call { READ, CHECK, ALPHABETA, MTD, SSS, VERIFY, REPORT, CALLS };
 
@@ -30,18 +25,20 @@ static const char *const call_names[] = { "read", "check", "alphabeta", "mtd", "
 /* The third side has the searches of the second, with the textbook's list; it is measured in SSS* alone. */
 static const struct side {
     const char *name;
-    reader *read;
-    checker *check;
-    searcher *searches[3];
-    verifier *verify;
-    reader *report;
+    read_call *read;
+    check_call *check;
+    search_call *searches[3];
+    verify_call *verify;
+    read_call *report;
 } sides[] = {
     { "rattle", rattle_read, rattle_check, { rattle_alphabeta, rattle_mtd, rattle_sss }, rattle_verify, rattle_report },
     { "c", c_read, c_check, { c_alphabeta, c_mtd, c_sss }, c_verify, c_report },
     { "list", NULL, NULL, { NULL, NULL, c_sss_list }, NULL, NULL },
 };
 
-enum { SIDES = sizeof sides / sizeof *sides, FILLED = 170, LEAST_RUNS = 20, LONG_ENOUGH = 100000000, CLOCK_TIME = 30000 };
+/* What buffers are filled with; for how many runs and nanoseconds a call is timed, and for how long between two looks
+   at the clock. */
+enum { SIDES = sizeof sides / sizeof *sides, FILLED = 170, LEAST_RUNS = 20, LONG_ENOUGH = 100000000, BETWEEN = 30000 };
 
 /* What a call is given, and what it may write. */
 static uint8_t file[FILE_BYTES], table[TABLE_BYTES], flags[NODES];
@@ -54,7 +51,7 @@ static struct answer perform(const struct side *s, enum call call, struct lent *
     case CHECK: return s->check(table, FRAME * nodes);
     case VERIFY: return s->verify(table, FRAME * nodes, flags, nodes);
     case REPORT: return s->report(file, file_length, l->text, sizeof l->text);
-    default: return s->searches[call - ALPHABETA](table, FRAME * nodes, l->marks, sizeof l->marks, l->proof, sizeof l->proof);
+    default: return s->searches[call - ALPHABETA](table, FRAME * nodes, l->marks, NODES, l->proof, NODES);
     }
 }
 
@@ -107,7 +104,7 @@ static void print_times(enum call call) {
     for (int run = 0; run < LEAST_RUNS || now() - start < LONG_ENOUGH; run++)
         for (int i = 0; i < SIDES; i++)
             if (least[i] > 0) {
-                double took = timed(&sides[i], call, lent, 1 + CLOCK_TIME / least[i]);
+                double took = timed(&sides[i], call, lent, 1 + BETWEEN / least[i]);
                 if (took < least[i]) least[i] = took;
             }
     for (int i = 0; i < SIDES; i++)
@@ -141,8 +138,10 @@ static size_t stack_of(struct task task) {
 
 static void print_stacks(enum call call) {
     size_t idle = stack_of((struct task){ NULL, call });
-    for (int i = 0; i < SIDES; i++)
-        if (sides[i].read || call == SSS) printf("%s %s %zu\n", sides[i].name, call_names[call], stack_of((struct task){ &sides[i], call }) - idle);
+    for (int i = 0; i < SIDES; i++) {
+        if (sides[i].read == NULL && call != SSS) continue;
+        printf("%s %s %zu\n", sides[i].name, call_names[call], stack_of((struct task){ &sides[i], call }) - idle);
+    }
 }
 
 int main(int argc, char **argv) {

@@ -5,9 +5,9 @@
     bench.py TREE..         these trees alone
 
 A cell of a table is the cost of the call in Rattle, then how many times that of the call in C.
-Instructions are counted by valgrind's callgrind, for each call alone; times are the least of many runs of both sides in turn.
-The crates' calls are taken from a static library that `rt staticlib` proves and compiles (library.py); the C calls are in baseline.c.
-Both sides must give the same answers and buffers. Needs the kit, gcc and valgrind.
+Instructions are counted by valgrind's callgrind, for each call alone; times are the least of many runs of both sides
+in turn. The crates' calls are taken from a static library that `rt staticlib` proves and compiles (library.py); the C
+calls are in baseline.c. Both sides must give the same answers and buffers. Needs the kit, gcc and valgrind.
 """
 import argparse
 import glob
@@ -27,6 +27,7 @@ CALLS = ("read", "check", "alphabeta", "mtd", "sss", "verify", "report")
 
 # A string instruction of the processor counts once for each byte in valgrind: the C library is told to use none.
 TUNABLES = "glibc.cpu.x86_rep_stosb_threshold=100000000:glibc.cpu.x86_rep_movsb_threshold=100000000"
+CALLGRIND, ENVIRONMENT = ["valgrind", "--tool=callgrind"], dict(os.environ, GLIBC_TUNABLES=TUNABLES)
 
 
 # ---------------------------------------------------------------- the trees
@@ -45,7 +46,8 @@ def wide_front():
 
 
 def below_path(width, leaves):
-    """A path of Max nodes with 40 children each, the last of which goes on; at its end 40 Max nodes with `width` children of so many leaves each."""
+    """A path of Max nodes with 40 children each, the last of which goes on; at its end 40 Max nodes with `width`
+    children of so many leaves each."""
     counts = [40]
     for _ in range((o.MAX_DEPTH - 4) // 2):
         counts += [0] * 39 + [1, 40]
@@ -57,8 +59,8 @@ def many(counts):
 
 
 def falling(counts):
-    """Values such that the root's high falls by one leaf after the other: each leaf is worth less than every leaf of a smaller path read upwards; a leaf
-    with an inner brother is worth least."""
+    """Values such that the root's high falls by one leaf after the other: each leaf is worth less than every leaf of a
+    smaller path read upwards; a leaf with an inner brother is worth least."""
     tree = o.Tree(o.table_of(counts, [0] * len(counts)))
 
     def key(k):
@@ -91,7 +93,12 @@ TREES = {
     "many passes": lambda: falling(below_path(2, 40)),
 }
 
-GROWTH = {str(2 * inner + 1): (lambda inner=inner: many(trees.regular_counts(2, inner))) for inner in (31, 127, 511, 2047)}
+
+def growing(inner):
+    return lambda: many(trees.regular_counts(2, inner))
+
+
+GROWTH = {str(2 * inner + 1): growing(inner) for inner in (31, 127, 511, 2047)}
 
 
 # ---------------------------------------------------------------- what is measured
@@ -117,7 +124,7 @@ def instructions(path):
     out = os.path.join(WORK, "callgrind")
     for old in glob.glob(out + ".*"):
         os.remove(old)
-    run(["valgrind", "--tool=callgrind", "--callgrind-out-file=" + out, BENCH, path, "count"], env=dict(os.environ, GLIBC_TUNABLES=TUNABLES))
+    run(CALLGRIND + ["--callgrind-out-file=" + out, BENCH, path, "count"], env=ENVIRONMENT)
     got = {}
     for name in glob.glob(out + ".*"):
         text = read(name)
@@ -135,8 +142,8 @@ def said(path, mode):
 def whole(words, path):
     """The instructions of a whole run of a program."""
     with open(path, "rb") as f:
-        got = subprocess.run(["valgrind", "--tool=callgrind", "--callgrind-out-file=/dev/null"] + words, stdin=f, stdout=subprocess.DEVNULL,
-                             stderr=subprocess.PIPE, text=True, env=dict(os.environ, GLIBC_TUNABLES=TUNABLES)).stderr
+        got = subprocess.run(CALLGRIND + ["--callgrind-out-file=/dev/null"] + words, stdin=f, stdout=subprocess.DEVNULL,
+                             stderr=subprocess.PIPE, text=True, env=ENVIRONMENT).stderr
     return int(re.search(r"Collected : (\d+)", got).group(1))
 
 
@@ -158,7 +165,8 @@ def lines(head, rows):
 
 def calls(first, rows):
     """A table of all calls; a row is its name, what was measured, and the unit."""
-    return lines([first, *CALLS], [[name] + [against(got["rattle", call], got["c", call], unit) for call in CALLS] for name, got, unit in rows])
+    return lines([first, *CALLS], [[name] + [against(got["rattle", call], got["c", call], unit) for call in CALLS]
+                                   for name, got, unit in rows])
 
 
 def programs(paths):
@@ -189,13 +197,17 @@ def measure(chosen, everything):
     """The tables with their titles."""
     paths = {name: tree_file(name, make()) for name, make in {**chosen, **(GROWTH if everything else {})}.items()}
     counted = {name: instructions(path) for name, path in paths.items()}
-    yield "Thousands of instructions, and how many times those of C:", calls("tree", [(name, counted[name], 1000) for name in chosen])
-    yield "Microseconds, and how many times those of C:", calls("tree", [(name, said(paths[name], "time"), 1000) for name in chosen])
+    yield ("Thousands of instructions, and how many times those of C:",
+           calls("tree", [(name, counted[name], 1000) for name in chosen]))
+    yield ("Microseconds, and how many times those of C:",
+           calls("tree", [(name, said(paths[name], "time"), 1000) for name in chosen]))
     if everything:
         yield ("Instructions a node, and how many times those of C, in full trees of width 2:",
                calls("nodes", [("{:,}".format(int(name)), counted[name], int(name)) for name in GROWTH]))
-        yield "Thousands of bytes, and how many times those of C:", calls("", [("stack", said(paths["chain"], "stack"), 1000)])
-        yield "Whole runs of the program, thousands of instructions:", programs([(name, paths[name]) for name in chosen])
+        yield ("Thousands of bytes, and how many times those of C:",
+               calls("", [("stack", said(paths["chain"], "stack"), 1000)]))
+        yield ("Whole runs of the program, thousands of instructions:",
+               programs([(name, paths[name]) for name in chosen]))
 
 
 def main():

@@ -1,6 +1,6 @@
 #!/usr/bin/env python3
-"""Runs a compiled `analyse` on the files of crates/cases/stdin, on samples/ and on input that cannot be read, and compares;
-then the root's script `analyse`: its exit status, and what it prints where.
+"""Runs a compiled `analyse` on the files of crates/cases/stdin, on samples/ and on input that cannot be read, and
+compares; then the root's script `analyse`: its exit status, and what it prints where.
 
     check_cases.py PROGRAM
 """
@@ -11,6 +11,7 @@ import sys
 ROOT = os.path.dirname(os.path.dirname(os.path.abspath(__file__)))
 CASES = os.path.join(ROOT, "crates", "cases")
 SAMPLES = os.path.join(ROOT, "samples")
+SCRIPT = os.path.join(ROOT, "analyse")
 
 
 def read(*path):
@@ -28,17 +29,21 @@ def script():
     seven, refused = os.path.join(SAMPLES, "seven"), os.path.join(SAMPLES, "refused-4")
     bad = 0
     for status, words, given, printed in (
-            (0, [seven + ".tree"], None, seven), (0, [], seven, seven), (1, [refused + ".tree"], None, refused), (1, [], refused, refused),
-            (2, [seven + ".no"], None, None), (2, [SAMPLES], None, None), (2, ["one", "two"], None, None), (2, ["--help"], None, None),
-            (3, [seven + ".tree"], None, "full")):
+            (0, [seven + ".tree"], None, seven), (0, [], seven, seven),
+            (1, [refused + ".tree"], None, refused), (1, [], refused, refused),
+            (2, [seven + ".no"], None, None), (2, [SAMPLES], None, None),
+            (2, ["one", "two"], None, None), (2, ["--help"], None, None)):
         file = read(given + ".tree") if given else b""
-        want = read(printed + ".expected") if printed not in (None, "full") else b""
-        with open("/dev/full" if printed == "full" else os.devnull, "wb") as disk:
-            got = subprocess.run([os.path.join(ROOT, "analyse")] + words, input=file, stdout=disk if printed == "full" else subprocess.PIPE,
-                                 stderr=subprocess.PIPE, cwd="/", timeout=600)
-        if got.returncode != status or (got.stdout or b"") != want or bool(got.stderr) != (status > 1):
+        want = read(printed + ".expected") if printed else b""
+        got = subprocess.run([SCRIPT] + words, input=file, capture_output=True, cwd="/", timeout=600)
+        if (got.returncode, got.stdout, bool(got.stderr)) != (status, want, status == 2):
             bad += 1
             print("DIFFERS ./analyse %s: got %r, want status %d and %r" % (" ".join(words), got, status, want))
+    with open("/dev/full", "wb") as disk:
+        got = subprocess.run([SCRIPT, seven + ".tree"], stdout=disk, stderr=subprocess.PIPE, timeout=600)
+    if got.returncode != 3 or not got.stderr:
+        bad += 1
+        print("DIFFERS ./analyse on a full disk: got %r, want status 3 and a line on standard error" % (got,))
     return bad
 
 

@@ -1,8 +1,9 @@
 #!/usr/bin/env python3
-"""Calls the public calls in this process, over lent memory with guards around it, and compares answers and memory with oracle.py:
-those of the crates (library.py), and those of baseline.c.
+"""Runs the public calls in this process, over lent memory with guards around it, and compares answers and memory with
+oracle.py: those of the crates (library.py), and those of baseline.c.
 
-    fuzz_library.py [--count N] [--seed S]     all trees of up to 6 nodes, then N random tables and files, good and damaged (default 3000)
+    fuzz_library.py [--count N] [--seed S]      all trees of up to 6 nodes, then N random tables and files, good and
+                                                damaged (default 3000)
 """
 import argparse
 import ctypes
@@ -22,15 +23,16 @@ FILLED, GUARD, TEXT = 170, 64, 256
 
 
 class Answer(ctypes.Structure):
-    _fields_ = [("refused", ctypes.c_uint8), ("value", ctypes.c_int16), ("place", ctypes.c_size_t), ("count", ctypes.c_size_t),
-                ("root_move", ctypes.c_size_t), ("leaves", ctypes.c_size_t), ("steps", ctypes.c_size_t)]
+    _fields_ = [("refused", ctypes.c_uint8), ("value", ctypes.c_int16)] + [
+        (name, ctypes.c_size_t) for name in ("place", "count", "root_move", "leaves", "steps")]
 
 
 def libraries():
     """The calls of each side as a shared library, with the prefix of their names."""
     rattle, c = (os.path.join(library.WORK, name) for name in ("librattle.so", "libbaseline.so"))
     library.run(["gcc", "-shared", "-o", rattle, "-Wl,--whole-archive", library.build(), "-Wl,--no-whole-archive"])
-    library.run(["gcc", "-O2", "-fPIC", "-shared", "-DDEPTH=%d" % o.MAX_DEPTH, "-o", c, os.path.join(library.CHECKS, "baseline.c")])
+    baseline = os.path.join(library.CHECKS, "baseline.c")
+    library.run(["gcc", "-O2", "-fPIC", "-shared", "-DDEPTH=%d" % o.MAX_DEPTH, "-o", c, baseline])
     return (ctypes.CDLL(rattle), "rattle_"), (ctypes.CDLL(c), "c_")
 
 
@@ -67,10 +69,12 @@ def filled(size):
 
 
 def searches(table, marks, flags):
-    for name, rule in (("alphabeta", o.alpha_beta), ("mtd", o.mtd_search), ("sss", lambda t, m, p: o.sss_search(t, None, m, p))):
+    for name, rule in (("alphabeta", o.ab), ("mtd", o.mtd), ("sss", o.sss)):
         lent = filled(marks), filled(flags)
-        r = rule(table, *lent)
-        fields = {} if isinstance(r, o.Refusal) else {"value": r.value, "root_move": r.move, "leaves": r.leaves, "steps": r.extra or 0}
+        r = o.search(rule, table, *lent)
+        fields = {}
+        if not isinstance(r, o.Refusal):
+            fields = {"value": r.value, "root_move": r.move, "leaves": r.leaves, "steps": r.extra or 0}
         yield name, (table, filled(marks), filled(flags)), flat(r, **fields), (table, *lent)
 
 
@@ -125,7 +129,8 @@ def random_calls(rng):
     yield from searches(table, size(), size())
     yield from verified(table, bytes(rng.choice((0, 1, 2, 3)) for _ in range(size())))
     file = fuzz.damaged(rng, 60)[1] if kind < 3 else fuzz.as_file(rng, table)
-    yield from reports(file, rng.choice((6 * n, 6 * n, 6 * n + 7, 6 * n - 1, 0, o.MAX_TABLE)), rng.choice((TEXT, TEXT, 300, 255, 0)))
+    room = rng.choice((6 * n, 6 * n, 6 * n + 7, 6 * n - 1, 0, o.MAX_TABLE))
+    yield from reports(file, room, rng.choice((TEXT, TEXT, 300, 255, 0)))
 
 
 def main():
@@ -143,7 +148,8 @@ def main():
             if got != want:
                 bad += 1
                 if bad <= 10:
-                    print("DIFFERS %s%s of %r: got %r, want %r" % (side[1], name, [bytes(data)[:60] for data in lent], got[0], answer))
+                    given = [bytes(data)[:60] for data in lent]
+                    print("DIFFERS %s%s of %r: got %r, want %r" % (side[1], name, given, got[0], answer))
     print("%d differ; calls on each side: %s" % (bad, ", ".join("%s %d" % item for item in sorted(asked.items()))))
     sys.exit(1 if bad else 0)
 

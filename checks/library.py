@@ -1,4 +1,5 @@
-"""The public calls as a static library, for bench.py and fuzz_library.py: proved and compiled by `rt staticlib`, from a crate made of calls.rt.txt."""
+"""The public calls as a static library, for bench.py and fuzz_library.py: proved and compiled by `rt staticlib`, from a
+crate made of calls.rt.txt."""
 import glob
 import hashlib
 import os
@@ -65,7 +66,8 @@ def link(path, to):
 
 
 def repository():
-    """A repository under target/bench with links to this one's crates and to what is proved of them, and one crate more; the crates that this needs."""
+    """A repository under target/bench with links to this one's crates and to what is proved of them, and one crate
+    more; the crates that this needs."""
     text, names, needed = dependencies()
     crates, target = os.path.join(WORK, "crates"), os.path.join(WORK, "target")
     os.makedirs(os.path.join(crates, "calls", "src"), exist_ok=True)

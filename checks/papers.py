@@ -29,7 +29,8 @@ TABLE_2 = """
 """
 AVERAGES = "11/3", "10/3"
 
-# 002, section 3.3: the tips that the run reads, by heap number, in the order in which it reads them; its value and replacements
+# 002, section 3.3: the tips that the run reads, by heap number, in the order in which it reads them; its value and
+# replacements
 RUN_TIPS = {16: 30, 18: 21, 24: 28, 26: 78, 27: 52, 28: 22, 30: 52, 31: 52}
 RUN_VALUE, RUN_REPLACEMENTS = 52, 29
 

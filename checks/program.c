@@ -2,18 +2,19 @@
 
    baseline < FILE        prints what 01 says
    baseline -l < FILE     the same, SSS* with the textbook's list
-   baseline -d < FILE     the same as the first, then marks, flags, passes and replacements, as oracle.py --detail, by both kinds of SSS* */
+   baseline -d < FILE     the same as the first, then marks, flags, passes and replacements, as oracle.py --detail, by
+                          both kinds of SSS* */
 #include "baseline.h"
 #include <stdio.h>
 #include <string.h>
 #include <unistd.h>
 
-typedef struct answer searcher(const uint8_t *table, size_t length, uint8_t *marks, size_t marks_room, uint8_t *proof, size_t proof_room);
-
 static uint8_t file[FILE_BYTES + 1], table[TABLE_BYTES], marks[NODES], proof[NODES];
 static size_t nodes;
 
-static struct answer run(searcher *search) { return search(table, FRAME * nodes, marks, sizeof marks, proof, sizeof proof); }
+static struct answer run(search_call *search) {
+    return search(table, FRAME * nodes, marks, sizeof marks, proof, sizeof proof);
+}
 
 static void show(const char *name, const char *what, const uint8_t *bytes) {
     printf("%s %s", name, what);
@@ -21,7 +22,7 @@ static void show(const char *name, const char *what, const uint8_t *bytes) {
     printf("\n");
 }
 
-static void detail(const char *name, searcher *search, const char *steps) {
+static void detail(const char *name, search_call *search, const char *steps) {
     struct answer found = run(search);
     show(name, "marks", marks);
     show(name, "flags", proof);

@@ -1,5 +1,6 @@
 #!/usr/bin/env python3
-"""Checks oracle.py against what the papers print (papers.py), examples worked out by hand, all small trees, and random trees.
+"""Checks oracle.py against what the papers print (papers.py), examples worked out by hand, all small trees, and random
+trees.
 
     selfcheck.py [COUNT]    COUNT random trees (default 20000)
 """
@@ -89,7 +90,8 @@ class Arrival:
 
 def table_2():
     rows = list(papers.rows(papers.TABLE_2))
-    same("all permutations once, in order", [tuple(leaves) for leaves, _ in rows], sorted(itertools.permutations((1, 2, 3, 4))))
+    every = sorted(itertools.permutations((1, 2, 3, 4)))
+    same("all permutations once, in order", [tuple(leaves) for leaves, _ in rows], every)
     for leaves, (ab, sss) in rows:
         for call, count in ((o.alpha_beta, ab), (o.sss_search, sss), (o.mtd_search, sss)):
             same("table 2 row %s %s" % (leaves, call.__name__), run(call, small(leaves))[0].leaves, count)
