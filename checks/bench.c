@@ -4,7 +4,7 @@
    bench FILE time     prints SIDE CALL and the least time of many runs, in nanoseconds
    bench FILE stack    prints SIDE CALL and the bytes of stack that it takes
 
-   All sides must give one answer and leave one content in the lent buffers; if they do not, the exit status is 1. */
+   Both sides must give one answer and leave one content in the lent buffers; if they do not, the exit status is 1. */
 #include "baseline.h"
 #include <pthread.h>
 #include <stdio.h>
@@ -22,7 +22,6 @@ enum call { READ, CHECK, ALPHABETA, MTD, SSS, VERIFY, REPORT, CALLS };
 
 static const char *const call_names[] = { "read", "check", "alphabeta", "mtd", "sss", "verify", "report" };
 
-/* The third side has the searches of the second, with the textbook's list; it is measured in SSS* alone. */
 static const struct side {
     const char *name;
     read_call *read;
@@ -33,7 +32,6 @@ static const struct side {
 } sides[] = {
     { "rattle", rattle_read, rattle_check, { rattle_alphabeta, rattle_mtd, rattle_sss }, rattle_verify, rattle_report },
     { "c", c_read, c_check, { c_alphabeta, c_mtd, c_sss }, c_verify, c_report },
-    { "list", NULL, NULL, { NULL, NULL, c_sss_list }, NULL, NULL },
 };
 
 /* What buffers are filled with; for how many runs and nanoseconds a call is timed, and for how long between two looks
@@ -85,30 +83,25 @@ static double timed(const struct side *s, enum call call, struct lent *l, int ca
     return (now() - start) / calls;
 }
 
-/* A call on every side, which must agree. */
+/* A call on both sides, which must agree. */
 static void compare(enum call call) {
-    struct answer first = counted(&sides[0], call, &lent[0]);
-    for (int i = 1; i < SIDES; i++) {
-        if (sides[i].read == NULL && call != SSS) continue;
-        if (!same(first, counted(&sides[i], call, &lent[1])) || memcmp(&lent[0], &lent[1], sizeof lent[0])) {
-            fprintf(stderr, "bench: %s and %s differ in %s\n", sides[0].name, sides[i].name, call_names[call]);
-            exit(1);
-        }
+    struct answer ours = counted(&sides[0], call, &lent[0]), other = counted(&sides[1], call, &lent[1]);
+    if (!same(ours, other) || memcmp(&lent[0], &lent[1], sizeof lent[0])) {
+        fprintf(stderr, "bench: the sides differ in %s\n", call_names[call]);
+        exit(1);
     }
 }
 
-/* The least times of a call, on every side in turn for a while. */
+/* The least times of a call, on both sides in turn for a while. */
 static void print_times(enum call call) {
     double least[SIDES], start = now();
-    for (int i = 0; i < SIDES; i++) least[i] = sides[i].read || call == SSS ? timed(&sides[i], call, lent, 1) : 0;
+    for (int i = 0; i < SIDES; i++) least[i] = timed(&sides[i], call, lent, 1);
     for (int run = 0; run < LEAST_RUNS || now() - start < LONG_ENOUGH; run++)
-        for (int i = 0; i < SIDES; i++)
-            if (least[i] > 0) {
-                double took = timed(&sides[i], call, lent, 1 + BETWEEN / least[i]);
-                if (took < least[i]) least[i] = took;
-            }
-    for (int i = 0; i < SIDES; i++)
-        if (least[i] > 0) printf("%s %s %.0f\n", sides[i].name, call_names[call], least[i]);
+        for (int i = 0; i < SIDES; i++) {
+            double took = timed(&sides[i], call, lent, 1 + BETWEEN / least[i]);
+            if (took < least[i]) least[i] = took;
+        }
+    for (int i = 0; i < SIDES; i++) printf("%s %s %.0f\n", sides[i].name, call_names[call], least[i]);
 }
 
 struct task {
@@ -138,10 +131,8 @@ static size_t stack_of(struct task task) {
 
 static void print_stacks(enum call call) {
     size_t idle = stack_of((struct task){ NULL, call });
-    for (int i = 0; i < SIDES; i++) {
-        if (sides[i].read == NULL && call != SSS) continue;
+    for (int i = 0; i < SIDES; i++)
         printf("%s %s %zu\n", sides[i].name, call_names[call], stack_of((struct task){ &sides[i], call }) - idle);
-    }
 }
 
 int main(int argc, char **argv) {

@@ -53,8 +53,8 @@ def digest(needed):
     paths = [GIVEN]
     for name in needed:
         for part in ("src", "specs", "proofs"):
-            paths += glob.glob(os.path.join(ROOT, "crates", name, part, "**", "*.*"), recursive=True)
-    for path in sorted(paths):
+            paths += glob.glob(os.path.join(ROOT, "crates", name, part, "**", "*"), recursive=True)
+    for path in sorted(filter(os.path.isfile, paths)):
         seen.update(path.encode() + b"\0" + read(path).encode() + b"\0")
     return seen.hexdigest()
 
