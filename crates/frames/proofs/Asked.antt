@@ -13,14 +13,14 @@ use Rattle.frames.specs.Rejection.{_andThen_, eachNode, answer}
 use Rattle.frames.specs.Check.{checkNode, nodesRejection}
 use Rattle.frames.proofs.Next.{next-more}
 use Rattle.frames.proofs.Stated.{both-passed, passed-both, passed-stated}
-use Rattle.gametree.proofs.Choice.{zero-not-one}
+use Rattle.gametree.proofs.Choice.{clash}
 
 -- the answer of a question that gets a "no"
 abbrev pub refused : ℕ → ℕ → Checked
 refused q p = Rejected (record { number = q; place = p })
 
 nodes-rejected : {m : ℕ} {r : Rejection} → Nodes m ≡ Rejected r → ⊥
-nodes-rejected e = zero-not-one cc
+nodes-rejected e = clash (cc)
 
 -- an answer that gives nodes comes from questions that passed
 pub answer-nodes : (m k : ℕ) (o : Option Rejection) → Nodes k ≡ answer m o → (o ≡ none) × (k ≡ m)

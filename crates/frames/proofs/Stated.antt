@@ -7,7 +7,7 @@ use mathlib.Core.Option.{Option, none, some}
 use mathlib.Core.List.{List}
 use borrow.Author.Tests.{ltb-true, leb-true, eqb-true, lt-ltb, le-leb, eq-eqb}
 use Rattle.gametree.specs.Tree.{Score}
-use Rattle.gametree.proofs.Choice.{zero-not-one, and-both}
+use Rattle.gametree.proofs.Choice.{clash, and-both}
 use Rattle.frames.specs.declared.Rejection.{Rejection}
 use Rattle.frames.specs.Frame.{firstChild, valueBytes, storedScore, next}
 use Rattle.frames.specs.Rejection.{ask, _andThen_}
@@ -16,7 +16,7 @@ use Rattle.frames.specs.Stated.{FrameAsStated}
 
 -- a rejection is not none
 some-none : {r : Rejection} → some r ≡ none → ⊥
-some-none e = zero-not-one cc
+some-none e = clash (cc)
 
 -- a question that passed was answered yes
 pub ask-yes : (b : Bool) (q p : ℕ) → ask b q p ≡ none → b ≡ true

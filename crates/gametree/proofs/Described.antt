@@ -1,9 +1,9 @@
 -- What it is for a layout to answer as a tree says.
-use Prim.Native.Nat.{ℕ, _≤_}
+use Prim.Native.Nat.{ℕ}
 use mathlib.Core.Path.{_≡_}
 use mathlib.Core.Bool.{true, false}
 use mathlib.Core.Option.{none, some}
-use Rattle.gametree.specs.Tree.{Side, Tree, leaf, inner, Kids, last, _then_, number, size, In, InKids}
+use Rattle.gametree.specs.Tree.{Side, Tree, leaf, inner, Kids, last, _then_, number, In, InKids}
 use Rattle.gametree.specs.Layout.{tip, fork, root, under, Layout, firstOf, othersOf}
 
 -- no node of a child's tree is above a node of a younger brother's, nor the other way round, and the elder's are left
@@ -27,6 +27,5 @@ abbrev mutual
 
 -- the layout is one of this tree
 pub record Describes (Y : Layout) (t : Tree) : Type 0 where
-  pub enough : size t ≤ Y .nodes
   pub top : Y .link (number t) ≡ root
   pub answers : Answers Y t

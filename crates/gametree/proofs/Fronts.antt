@@ -7,7 +7,7 @@ use mathlib.Core.Logic.{_⊎_, inl, inr}
 use mathlib.Core.List.{List, [], _∷_, _++_, append-assoc, append-nil}
 use Rattle.gametree.specs.Tree.{Side, Max, Min, Tree, leaf, inner, Kids, last, _then_, number}
 use Rattle.gametree.specs.Sss.{State}
-use Rattle.gametree.proofs.Choice.{zero-not-one}
+use Rattle.gametree.proofs.Choice.{clash}
 
 -- the list is one state, of node n
 abbrev pub Alone : ℕ → List State → Type 0
@@ -34,40 +34,47 @@ abbrev pub ChildIn : Tree → Kids → Type 0
 ChildIn u (last t) = u ≡ t
 ChildIn u (t then ts) = (u ≡ t) ⊎ ChildIn u ts
 
--- u is one of the children of a Max node, with fronts F of its elder brothers and G of its younger ones
-abbrev pub Beside : Kids → Tree → List State → List State → Type 0
-Beside (last t) u F G = (u ≡ t) × (F ≡ []) × (G ≡ [])
-Beside (t then ts) u F G =
-    ((u ≡ t) × (F ≡ []) × FrontKids Max ts G)
-    ⊎ ((F₁ : List State) × (F₂ : List State) × (F ≡ F₁ ++ F₂) × Front t F₁ × Beside ts u F₂ G)
+-- the fronts of some brothers of a child: below a Max node each has one, below a Min node none
+abbrev pub Brothers : Side → Kids → List State → Type 0
+Brothers Max ks L = FrontKids Max ks L
+Brothers Min ks L = L ≡ []
+
+-- u is one of the children, with the fronts F of its elder brothers and G of its younger ones
+abbrev pub Beside : Side → Kids → Tree → List State → List State → Type 0
+Beside q (last t) u F G = (u ≡ t) × (F ≡ []) × (G ≡ [])
+Beside q (t then ts) u F G =
+    ((u ≡ t) × (F ≡ []) × Brothers q ts G)
+    ⊎ ((F₁ : List State) × (F₂ : List State) × (F ≡ F₁ ++ F₂) × Brothers q (last t) F₁ × Beside q ts u F₂ G)
 
 -- u is a tree within r, and a front of u between A and B makes a front of r
 pub data Within (r : Tree) : Tree → List State → List State → Type 0 where
   top : Within r r [] []
-  underMax : {n : ℕ} {ks : Kids} {u : Tree} {X Z A B : List State} (F G : List State) → Within r (inner n Max ks) X Z
-      → Beside ks u F G → A ≡ X ++ F → B ≡ G ++ Z → Within r u A B
-  underMin : {n : ℕ} {ks : Kids} {u : Tree} {A B : List State} → Within r (inner n Min ks) A B → ChildIn u ks
-      → Within r u A B
+  child : {n : ℕ} {q : Side} {ks : Kids} {u : Tree} {X Z A B : List State} (F G : List State)
+      → Within r (inner n q ks) X Z → Beside q ks u F G → A ≡ X ++ F → B ≡ G ++ Z → Within r u A B
 
-beside-front : (ks : Kids) (u : Tree) (F G M : List State) → Beside ks u F G → Front u M
-    → FrontKids Max ks (F ++ (M ++ G))
-beside-front (last t) u F G M b f =
-    subst (λ L. Front t L) (sym (ap₂ (λ x y. x ++ (M ++ y)) (b .1) (b .2) ∙ append-nil M))
-    (subst (λ x. Front x M) (b .0) f)
-beside-front (t then ts) u F G M (inl b) f =
+-- a front of u is one of its parent where its brothers have none
+between : {u t : Tree} {F G : List State} (M : List State) → u ≡ t → F ≡ [] → G ≡ [] → Front u M
+    → Front t (F ++ (M ++ G))
+between {t = t} M e p q f =
+    subst (λ L. Front t L) (sym (ap₂ (λ x y. x ++ (M ++ y)) p q ∙ append-nil M)) (subst (λ x. Front x M) e f)
+
+-- with the fronts of its brothers it makes one of its parent
+pub beside-front : (q : Side) (ks : Kids) (u : Tree) (F G M : List State) → Beside q ks u F G → Front u M
+    → FrontKids q ks (F ++ (M ++ G))
+beside-front q (last t) u F G M b f = between M (b .0) (b .1) (b .2) f
+beside-front Max (t then ts) u F G M (inl b) f =
     (M, G, ap (λ x. x ++ (M ++ G)) (b .1), subst (λ x. Front x M) (b .0) f, b .2)
-beside-front (t then ts) u F G M (inr b) f = (
+beside-front Max (t then ts) u F G M (inr b) f = (
   b .0,
   b .1 ++ (M ++ G),
   ap (λ x. x ++ (M ++ G)) (b .2) ∙ append-assoc (b .0) (b .1) (M ++ G),
   b .3,
-  beside-front ts u (b .1) G M (b .4) f,
+  beside-front Max ts u (b .1) G M (b .4) f,
 )
-
-child-front : (ks : Kids) (u : Tree) (M : List State) → ChildIn u ks → Front u M → FrontKids Min ks M
-child-front (last t) u M c f = subst (λ x. Front x M) c f
-child-front (t then ts) u M (inl c) f = inl (subst (λ x. Front x M) c f)
-child-front (t then ts) u M (inr c) f = inr (child-front ts u M c f)
+beside-front Min (t then ts) u F G M (inl b) f = inl (between M (b .0) (b .1) (b .2) f)
+beside-front Min (t then ts) u F G M (inr b) f =
+    inr (subst (λ x. FrontKids Min ts (x ++ (M ++ G))) (sym (b .2 ∙ ap (λ x. x ++ b .1) (b .3)))
+    (beside-front Min ts u (b .1) G M (b .4) f))
 
 regroup : (X F M G Z A B : List State) → A ≡ X ++ F → B ≡ G ++ Z → X ++ ((F ++ (M ++ G)) ++ Z) ≡ A ++ (M ++ B)
 regroup X F M G Z A B p q = rw (p, q) (simp append-assoc)
@@ -75,9 +82,8 @@ regroup X F M G Z A B p q = rw (p, q) (simp append-assoc)
 -- a front of u in its place makes a front of the whole
 pub plug : {r u : Tree} {A B : List State} → Within r u A B → (M : List State) → Front u M → Front r (A ++ (M ++ B))
 plug {r} top M f = subst (λ L. Front r L) (sym (append-nil M)) f
-plug {r} (underMax {ks = ks} {u = u} {X = X} {Z = Z} {A = A} {B = B} F G w b p q) M f =
-    subst (λ L. Front r L) (regroup X F M G Z A B p q) (plug w (F ++ (M ++ G)) (inr (beside-front ks u F G M b f)))
-plug (underMin {ks = ks} {u = u} w c) M f = plug w M (inr (child-front ks u M c f))
+plug {r} (child {q = s} {ks = ks} {u = u} {X = X} {Z = Z} {A = A} {B = B} F G w b p q) M f =
+    subst (λ L. Front r L) (regroup X F M G Z A B p q) (plug w (F ++ (M ++ G)) (inr (beside-front s ks u F G M b f)))
 
 -- where a state of two joined lists stands
 data Split (A : List State) (s : State) (B F G : List State) : Type 0 where
@@ -112,8 +118,8 @@ pub record Located (r : Tree) (s : State) (A B : List State) : Type 0 where
 only-state : (A : List State) (s x : State) (B : List State) → A ++ (s ∷ B) ≡ x ∷ []
     → (A ≡ []) × (s ≡ x) × (B ≡ [])
 only-state [] s x B e = (refl, cc, cc)
-only-state (a ∷ []) s x B e = let z : s ∷ B ≡ [] = cc in absurd (zero-not-one cc)
-only-state (a ∷ b ∷ A) s x B e = absurd (zero-not-one cc)
+only-state (a ∷ []) s x B e = let z : s ∷ B ≡ [] = cc in clash (cc)
+only-state (a ∷ b ∷ A) s x B e = clash (cc)
 
 alone-located : (r u : Tree) (n : ℕ) (A : List State) (s : State) (B X Z : List State) → number u ≡ n
     → Alone n (A ++ (s ∷ B)) → Within r u X Z → Located r s (X ++ A) (B ++ Z)
@@ -134,15 +140,16 @@ mutual
       → Located r s (X ++ A) (B ++ Z)
   locate r (leaf n) A s B X Z f w = alone-located r (leaf n) n A s B X Z refl f w
   locate r (inner n q ks) A s B X Z (inl f) w = alone-located r (inner n q ks) n A s B X Z refl f w
-  locate r (inner n Max ks) A s B X Z (inr f) w =
-      locateMax r ks A s B X Z f (λ u F G b. underMax F G w b refl refl)
-  locate r (inner n Min ks) A s B X Z (inr f) w = locateMin r ks A s B X Z f (λ u c. underMin w c)
+  locate r (inner n q ks) A s B X Z (inr f) w =
+      locateKids r q ks A s B X Z f (λ u F G b. child F G w b refl refl)
 
-  locateMax : (r : Tree) (ks : Kids) (A : List State) (s : State) (B X Z : List State) → FrontKids Max ks (A ++ (s ∷ B))
-      → ((u : Tree) (F G : List State) → Beside ks u F G → Within r u (X ++ F) (G ++ Z)) → Located r s (X ++ A) (B ++ Z)
-  locateMax r (last t) A s B X Z f w =
+  locateKids : (r : Tree) (q : Side) (ks : Kids) (A : List State) (s : State) (B X Z : List State)
+      → FrontKids q ks (A ++ (s ∷ B))
+      → ((u : Tree) (F G : List State) → Beside q ks u F G → Within r u (X ++ F) (G ++ Z))
+      → Located r s (X ++ A) (B ++ Z)
+  locateKids r q (last t) A s B X Z f w =
       locate r t A s B X Z f (subst (λ l. Within r t l Z) (append-nil X) (w t [] [] (refl, refl, refl)))
-  locateMax r (t then ts) A s B X Z f w =
+  locateKids r Max (t then ts) A s B X Z f w =
       by-split (split A s B (f .0) (f .1) (f .2))
       (λ C p q.
       moved r s refl (sym (append-assoc C (f .1) Z) ∙ ap (λ l. l ++ Z) (sym q))
@@ -150,16 +157,14 @@ mutual
       (subst (λ l. Within r t l (f .1 ++ Z)) (append-nil X) (w t [] (f .1) (inl (refl, refl, f .4))))))
       (λ C p q.
       moved r s (append-assoc X (f .0) C ∙ ap (λ l. X ++ l) (sym p)) refl
-      (locateMax r ts C s B (X ++ f .0) Z (subst (λ l. FrontKids Max ts l) q (f .4))
+      (locateKids r Max ts C s B (X ++ f .0) Z (subst (λ l. FrontKids Max ts l) q (f .4))
       (λ u F H b.
       subst (λ l. Within r u l (H ++ Z)) (sym (append-assoc X (f .0) F))
       (w u (f .0 ++ F) H (inr (f .0, F, refl, f .3, b))))))
-
-  locateMin : (r : Tree) (ks : Kids) (A : List State) (s : State) (B X Z : List State) → FrontKids Min ks (A ++ (s ∷ B))
-      → ((u : Tree) → ChildIn u ks → Within r u X Z) → Located r s (X ++ A) (B ++ Z)
-  locateMin r (last t) A s B X Z f w = locate r t A s B X Z f (w t refl)
-  locateMin r (t then ts) A s B X Z (inl f) w = locate r t A s B X Z f (w t (inl refl))
-  locateMin r (t then ts) A s B X Z (inr f) w = locateMin r ts A s B X Z f (λ u c. w u (inr c))
+  locateKids r Min (t then ts) A s B X Z (inl f) w =
+      locate r t A s B X Z f (subst (λ l. Within r t l Z) (append-nil X) (w t [] [] (inl (refl, refl, refl))))
+  locateKids r Min (t then ts) A s B X Z (inr f) w =
+      locateKids r Min ts A s B X Z f (λ u F G b. w u F G (inr ([], F, refl, refl, b)))
 
 -- each state of a front stands in its place
 pub located : (r : Tree) (A : List State) (s : State) (B : List State) → Front r (A ++ (s ∷ B)) → Located r s A B

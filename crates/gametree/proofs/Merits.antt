@@ -1,6 +1,6 @@
 -- The merit of the state that SSS* takes never rises, and is never below the minimax value: no state of the list has
 -- more, and a replacement gives none more.
-use Prim.Native.Nat.{ℕ, _≤_, min}
+use Prim.Native.Nat.{ℕ, _≤_, _<_, min}
 use native.Mathlib.Nat.{le-refl, le-trans, le-of-lt, eq-or-lt-of-le}
 use native.Mathlib.Omega.{arith}
 use mathlib.Core.Path.{_≡_, refl, subst}
@@ -17,7 +17,7 @@ use Rattle.gametree.specs.Layout.{Kind, tip, fork, Link, root, under, La
 use Rattle.gametree.specs.Sss.{Status, LIVE, SOLVED, State, live, solved, Taken, beats, choose, pick, takenMerit}
 use Rattle.gametree.specs.Sss.{put, Step, empty, stop, quiet, evaluating, purge, replaceLive, replaceSolved}
 use Rattle.gametree.specs.Sss.{replace, step, ListAfter, atStart, afterQuiet, afterEvaluating}
-use Rattle.gametree.proofs.Choice.{zero-not-one, or-cases, or-false-both, and-both}
+use Rattle.gametree.proofs.Choice.{clash, or-cases, or-false-both, and-both}
 use Rattle.gametree.proofs.Lists.{all-append, all-map}
 use Rattle.gametree.proofs.SssSteps.{Steps, done, quietly, evaluates, OfTaken, pick-all, put-all, purge-all}
 use Rattle.gametree.proofs.Frontier.{AtMost}
@@ -127,10 +127,10 @@ module _ (ν : ℕ → ℕ) (Y : Layout) where
 
   -- nor in several
   pub steps-fall : {a b : ℕ} {L N : List State} {w : List ℕ} → Steps ν Y a L w N b → takenMerit Y N ≤ takenMerit Y L
-  steps-fall (done o k) = le-refl _
-  steps-fall (quietly {L = L} {M = M} e k p) = le-trans (steps-fall p) (quiet-falls L M (e .by-tree))
+  steps-fall (done k) = le-refl _
+  steps-fall (quietly {L = L} {M = M} e k p) = le-trans (steps-fall p) (quiet-falls L M e)
   steps-fall (evaluates {L = L} {M = M} {n = n} e k p) =
-      le-trans (steps-fall p) (evaluating-falls L M n (e .by-tree))
+      le-trans (steps-fall p) (evaluating-falls L M n e)
 
   -- the list after a number of replacements, and the leaves that they evaluated, are determined
   pub list-unique : (t : Tree) {k : ℕ} {w v : List ℕ} {L M : List State} → ListAfter ν Y t k w L → ListAfter ν Y t k v M
@@ -138,11 +138,9 @@ module _ (ν : ℕ → ℕ) (Y : Layout) where
   list-unique t atStart atStart = (refl, refl)
   list-unique t (afterQuiet r e) (afterQuiet q d) = let i = list-unique t r q in (i .0, cc (i .1))
   list-unique t (afterQuiet r e) (afterEvaluating q d) =
-      let i = list-unique t r q in
-      absurd (zero-not-one (cc (i .1)))
+      let i = list-unique t r q in clash (cc (i .1))
   list-unique t (afterEvaluating r e) (afterQuiet q d) =
-      let i = list-unique t r q in
-      absurd (zero-not-one (cc (i .1)))
+      let i = list-unique t r q in clash (cc (i .1))
   list-unique t (afterEvaluating r e) (afterEvaluating q d) =
       let i = list-unique t r q in
       (cc (i .0, i .1), cc (i .1))
@@ -165,11 +163,6 @@ module _ (ν : ℕ → ℕ) (Y : Layout) where
       ⊎-elim (λ e. same-merit t r (afterEvaluating q d) e)
       (λ l. le-trans (evaluating-falls L M n d) (run-falls t r q (omega arith))) (eq-or-lt-of-le h)
 
-  -- so no merit exceeds that of the start
-  pub merits-capped : (t : Tree) {k : ℕ} {w : List ℕ} (L : List State) → ListAfter ν Y t k w L → AtMost greatest L
-  merits-capped t L r =
-      all-map _ _ (λ s h. le-trans h (run-falls t atStart r (omega arith))) L (taken-greatest Y L)
-
   -- until a leaf is evaluated all merits are those of the start
   first-merits : (t : Tree) {k : ℕ} {w : List ℕ} {L : List State} → ListAfter ν Y t k w L → length w ≡ 0
       → Merits (λ m. m ≡ greatest) L
@@ -181,8 +174,8 @@ module _ (ν : ℕ → ℕ) (Y : Layout) where
 
   -- so is that of the state taken
   pub first-merit : (t : Tree) {k : ℕ} {w : List ℕ} (L : List State) → ListAfter ν Y t k w L → length w ≡ 0
-      → (step ν Y L ≡ empty → ⊥) → takenMerit Y L ≡ greatest
-  first-merit t [] r e n = absurd (n refl)
+      → 0 < length L → takenMerit Y L ≡ greatest
+  first-merit t [] r e n = absurd (omega arith)
   first-merit t (s ∷ ss) r e n =
       let h = first-merits t r e in
       pick-all Y (λ x. x .merit ≡ greatest) s ss (h .0) (h .1) .1

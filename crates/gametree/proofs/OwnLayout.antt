@@ -1,12 +1,11 @@
 -- A tree with distinct numbers is described by its own layout.
 use Prim.Native.Nat.{ℕ}
-use native.Mathlib.Nat.{le-refl}
 use mathlib.Core.Path.{_≡_, refl, sym, _∙_, subst}
 use mathlib.Core.Logic.{inl, inr}
 use mathlib.Core.Bool.{false}
 use lib.Dec.{eqb}
 use borrow.Author.Tests.{eq-eqb, ne-eqb}
-use Rattle.gametree.specs.Tree.{Side, Tree, leaf, inner, Kids, last, _then_, number, size, In, InKids, Distinct}
+use Rattle.gametree.specs.Tree.{Side, Tree, leaf, inner, Kids, last, _then_, number, In, InKids, Distinct}
 use Rattle.gametree.specs.Tree.{DistinctKids}
 use Rattle.gametree.specs.Layout.{root, Layout, has, kindIn, kindInKids}
 use Rattle.gametree.proofs.Described.{Apart, Answers, AnswersKids, Describes}
@@ -128,7 +127,6 @@ own-root (inner n s ks) = rw (eq-eqb n n refl) refl
 pub own-layout : (t : Tree) → Distinct t → Describes (layoutOf t) t
 own-layout t d =
     record {
-      enough = le-refl (size t);
       top = own-root t;
       answers =
           looks-answers (layoutOf t) t d

@@ -21,7 +21,6 @@ use mathlib.Core.Bool.{true, false, not}
 use mathlib.Core.Option.{some}
 use mathlib.Core.List.{List, [], _∷_, _++_, append-assoc}
 use lib.Dec.{ltb}
-use lib.ListN.{length}
 use borrow.Author.Tests.{ltb-true, leb-true, leb-false, not-true, not-false}
 use Rattle.gametree.specs.Lists.{All}
 use Rattle.gametree.specs.Tree.{Side, Max, Min, Tree, leaf, inner, Kids, last, _then_, greatest, number, InKids}
@@ -29,19 +28,19 @@ use Rattle.gametree.specs.Tree.{Scored, ScoredKids}
 use Rattle.gametree.specs.Mtd.{Memo, MemoKids, memoHighKids, Pass, PassKids, entered, pass, passKids, freshKids}
 use Rattle.gametree.specs.Layout.{tip, under, Layout, firstOf, othersOf}
 use Rattle.gametree.proofs.Described.{Answers, AnswersKids}
-use Rattle.gametree.specs.Sss.{State, live, solved, quiet}
+use Rattle.gametree.specs.Sss.{State, live, solved, quiet, step}
 use Rattle.gametree.proofs.Choice.{cond-cases, true-not-false}
 use Rattle.gametree.proofs.Lists.{all-left, all-right, all-map}
 use Rattle.gametree.proofs.MtdSound.{Kept, KeptKids}
-use Rattle.gametree.proofs.SssSteps.{Takes, Steps, done, quietly, evaluates, allow, spare, chain, then-quiet}
+use Rattle.gametree.proofs.SssSteps.{Steps, done, quietly, evaluates, allow, spare, chain, then-quiet}
 use Rattle.gametree.proofs.SssSteps.{purge-left, purge-right}
 use Rattle.gametree.proofs.Frontier.{AtMost, frontier, frontierKids, Fitted, FittedKids, states}
 use Rattle.gametree.proofs.Frontier.{statesKids, kids-fresh, fitted-fresh, fitted-ready}
 use Rattle.gametree.proofs.Frontier.{states-fresh, states-ready, fresh-atMost, notBelow-again}
 use Rattle.gametree.proofs.Frontier.{fresh-not-below, first-least, first-outdone, next}
-use Rattle.gametree.proofs.Around.{frontier-within, statesKids-within, AroundTree, AroundKids, narrow}
-use Rattle.gametree.proofs.Around.{around-first, around-rest, handed, handed-clear, room-one, room-frontier}
-use Rattle.gametree.proofs.Around.{room-handed, takes-leaf, takes-inner, takes-max, takes-last, takes-next}
+use Rattle.gametree.proofs.Around.{frontier-nodes, statesKids-nodes, AroundTree, AroundKids, narrow}
+use Rattle.gametree.proofs.Around.{around-first, around-rest, handed, handed-clear}
+use Rattle.gametree.proofs.Around.{takes-leaf, takes-inner, takes-max, takes-last, takes-next}
 use Rattle.gametree.proofs.Work.{fullKids, part, partKids, work, workKids, work-fresh, work-ready, work-positive}
 
 -- SSS* does what a pass does at a node, whose states are F: found below, they become the node's frontier; found not
@@ -62,16 +61,16 @@ pub record SimKids (ν : ℕ → ℕ) (Y : Layout) (γ n : ℕ) (s : Side) (ks :
       → Steps ν Y (a + B) (L ++ (F ++ R)) (q .evaluated) (handed s Y n L ++ (solved n γ ∷ handed s Y n R)) B
 
 -- the replacement of a LIVE inner node comes first
-enter : {ν : ℕ → ℕ} {Y : Layout} (x B : ℕ) {b : ℕ} {L M N : List State} {w : List ℕ} → Takes ν Y L (quiet M)
+enter : {ν : ℕ → ℕ} {Y : Layout} (x B : ℕ) {b : ℕ} {L M N : List State} {w : List ℕ} → step ν Y L ≡ quiet M
     → Steps ν Y (x + B) M w N b → Steps ν Y (suc x + B) L w N b
 enter x B e p = let less : x + B < suc x + B = omega arith in quietly e less p
 
 -- handing up comes last
 hand-up : {ν : ℕ → ℕ} {Y : Layout} (x B : ℕ) {L M N : List State} {w : List ℕ} → ((C : ℕ) → Steps ν Y (x + C) L w M C)
-    → Takes ν Y M (quiet N) → length N ≤ Y .nodes → Steps ν Y (suc x + B) L w N B
-hand-up x B p e o =
+    → step ν Y M ≡ quiet N → Steps ν Y (suc x + B) L w N B
+hand-up x B p e =
     let more : x + suc B ≤ suc x + B = omega arith in
-    allow more (then-quiet (p (suc B)) (le-refl _) e o)
+    allow more (then-quiet (p (suc B)) (le-refl _) e)
 
 module _ (ν : ℕ → ℕ) (Y : Layout) (γ : ℕ) (g : γ ≤ greatest) where
   -- STEP 5. A LEAF
@@ -83,26 +82,24 @@ module _ (ν : ℕ → ℕ) (Y : Layout) (γ : ℕ) (g : γ ≤ greatest) where
   sim-leaf n m (inl e) p b L R a =
       let f : m .evaluated ≡ false = ap (λ (x : Memo (leaf n)). x .evaluated) e in
       let taken = takes-leaf ν Y γ (leaf n) L R a p in
-      let room = room-one ν Y γ (leaf n) L R a in
       rw f (record {
         below = λ B d.
             let h : min γ (ν n) ≡ ν n = omega (arith, leb-false γ (ν n) d) in
             let less : B < 1 + B = omega arith in
             let rest : 0 + B ≤ B = omega arith in
-            evaluates (rw h at taken) less (done (room (solved n (ν n))) rest);
+            evaluates (rw h at taken) less (done rest);
         above = λ B d.
             let h : min γ (ν n) ≡ γ = omega (arith, leb-true γ (ν n) d) in
             let less : B < 1 + B = omega arith in
-            evaluates (rw h at taken) less (done (room (solved n γ)) (le-refl B));
+            evaluates (rw h at taken) less (done (le-refl B));
       })
   sim-leaf n m (inr q) p b L R a =
-      let room = room-one ν Y γ (leaf n) L R a (solved n (ν n)) in
       rw q (record {
-        below = λ B d. done room (le-refl _);
+        below = λ B d. done (le-refl _);
         above = λ B d.
             let h : ν n ≡ γ = omega (arith, leb-true γ (ν n) d, b .0) in
             let rest : B ≤ 0 + B = omega arith in
-            subst (λ x. Steps ν Y (0 + B) (L ++ (solved n (ν n) ∷ R)) [] (L ++ (solved n x ∷ R)) B) h (done room rest);
+            subst (λ x. Steps ν Y (0 + B) (L ++ (solved n (ν n) ∷ R)) [] (L ++ (solved n x ∷ R)) B) h (done rest);
       })
 
   -- AN INNER NODE
@@ -125,7 +122,7 @@ module _ (ν : ℕ → ℕ) (Y : Layout) (γ : ℕ) (g : γ ≤ greatest) where
       let P = Sim ν Y γ (inner n s ks) (partKids ν s ks (m .kids)) (frontierKids ν s ks (m .kids)) L R in
       cond-cases P (ltb (memoHighKids ν s ks (m .kids)) γ) _ _
       (λ _. record {
-        below = λ B _. done (room-frontier ν Y γ (inner n s ks) L R a m) (le-refl _);
+        below = λ B _. done (le-refl _);
         above = λ B e. absurd (true-not-false e refl);
       })
       (λ _. cond-cases P (m .notBelow) _ _ (λ f. absurd (true-not-false f (d .0))) (λ _. q))
@@ -152,8 +149,7 @@ module _ (ν : ℕ → ℕ) (Y : Layout) (γ : ℕ) (g : γ ≤ greatest) where
         above = λ x f.
             rw (append-assoc F G R, add-assoc a b x)
             (rw (purge-right Y n G R gin) at
-            (then-quiet {c = x} (A .above (b + x) e) (omega arith) hand
-            (room-handed ν Y γ t L (G ++ R) u Max n (solved n γ))));
+            (then-quiet {c = x} (A .above (b + x) e) (omega arith) hand));
       })
       (λ e. record {
         below = λ x f.
@@ -203,15 +199,14 @@ module _ (ν : ℕ → ℕ) (Y : Layout) (γ : ℕ) (g : γ ≤ greatest) where
       (λ e.
       let d = not-false _ e in
       let nextLive = takes-next ν Y γ t L R u n (firstOf ts) link in
-      let room = room-one ν Y γ t L R u (live (firstOf ts) γ) in
       record {
         below = λ x f.
             rw (first-outdone ν γ g t ts m h k d f)
             (chain (then-quiet {c = b + x} (allow {c = suc a + b + x} (omega arith) (A .above (suc b + x) d))
-            (omega arith) nextLive room) (le-refl _) (B .below x f));
+            (omega arith) nextLive) (le-refl _) (B .below x f));
         above = λ x f.
             chain (then-quiet {c = b + x} (allow {c = suc a + b + x} (omega arith) (A .above (suc b + x) d))
-            (omega arith) nextLive room) (le-refl _) (B .above x f);
+            (omega arith) nextLive) (le-refl _) (B .above x f);
       })
 
   -- ALL NODES
@@ -229,7 +224,7 @@ module _ (ν : ℕ → ℕ) (Y : Layout) (γ : ℕ) (g : γ ≤ greatest) where
         let C = handed-clear Y γ n s ks L R a in
         let S =
         simKids n s ks (m .kids) (fitted-fresh ν γ s ks (m .kids) f) (p .2) h (k .1) (fresh-atMost ν γ s ks (m .kids) f)
-        (p .1) L R (narrow (λ p i. inr i) (omega arith) a) in
+        (p .1) L R (narrow (λ p i. inr i) a) in
         let entry = takes-inner ν Y γ (inner n s ks) L R a s (firstOf ks) (othersOf ks) (p .0) in
         sim-inner n s ks m (inl e) L R a
         (record {
@@ -242,7 +237,7 @@ module _ (ν : ℕ → ℕ) (Y : Layout) (γ : ℕ) (g : γ ≤ greatest) where
         let C = handed-clear Y γ n s ks L R a in
         let S =
         simKids n s ks (m .kids) (fitted-ready ν γ s ks (m .kids) (r .1)) (p .2) h (k .1) (rw E b) (p .1) L R
-        (narrow (λ p i. inr i) (omega arith) a) in
+        (narrow (λ p i. inr i) a) in
         sim-inner n s ks m (inr r) L R a
         (record {
           below = λ x d. rw (E, W) at (S .below x d);
@@ -258,9 +253,7 @@ module _ (ν : ℕ → ℕ) (Y : Layout) (γ : ℕ) (g : γ ≤ greatest) where
         let hand = takes-last ν Y γ t L R a s n (p .0) in
         record {
           below = λ x d. allow (omega arith) (spare (S .below (suc x) d) (omega arith));
-          above =
-              λ x d. hand-up (work ν γ t m w) x (λ c. S .above c d) hand
-              (room-handed ν Y γ t L R a s n (solved n γ));
+          above = λ x d. hand-up (work ν γ t m w) x (λ c. S .above c d) hand;
         }
     simKids n Max (t then ts) m w p h k b i L R a =
         let F = states ν γ t (m .first) (w .0) in
@@ -268,14 +261,14 @@ module _ (ν : ℕ → ℕ) (Y : Layout) (γ : ℕ) (g : γ ≤ greatest) where
         let F′ = frontier ν t (pass ν γ t (m .first) .next) in
         let bF = all-left _ F G b in
         let bG = all-right _ F G b in
-        let gin = statesKids-within ν γ Max ts (m .rest) (w .1) in
-        let fin = frontier-within ν t (pass ν γ t (m .first) .next) in
+        let gin = statesKids-nodes ν γ Max ts (m .rest) (w .1) in
+        let fin = frontier-nodes ν t (pass ν γ t (m .first) .next) in
         let N = next ν γ g t (m .first) (w .0) (h .0) (k .0) bF in
         let u = around-first Y γ t ts L R (p .1) a G bG gin in
-        let lower = all-map _ _ (λ s j. i (s .node) (inl j)) F′ (fin .nodes) in
+        let lower = all-map _ _ (λ s j. i (s .node) (inl j)) F′ fin in
         sim-max n t ts m (work ν γ t (m .first) (w .0)) (workKids ν γ Max ts (m .rest) (w .1)) F G L R
         (work-positive ν γ Max ts (m .rest) (w .1)) (p .0) u
-        (all-map _ _ (λ s j. i (s .node) (inr j)) G (gin .nodes)) lower
+        (all-map _ _ (λ s j. i (s .node) (inr j)) G gin) lower
         (sim t (m .first) (w .0) (p .2) (h .0) (k .0) bF L (G ++ R) u)
         (λ e. simKids n Max ts (m .rest) (w .1) (p .3) (h .1) (k .1) bG (λ x j. i x (inr j)) (L ++ F′) R
         (around-rest Y γ t ts L R (p .1) a F′ (N e .1) fin))
@@ -284,15 +277,15 @@ module _ (ν : ℕ → ℕ) (Y : Layout) (γ : ℕ) (g : γ ≤ greatest) where
         sim-min-found n t ts m (workKids ν γ Min ts (m .rest) (w .1)) (statesKids ν γ Min ts (m .rest) (w .1)) L R h k
         (A .0) (A .1)
         (simKids n Min ts (m .rest) (w .1) (p .3) (h .1) (k .1) b (λ x j. i x (inr j)) L R
-        (narrow (λ p i. inr i) (omega arith) a))
+        (narrow (λ p i. inr i) a))
     simKids n Min (t then ts) m (inr w) p h k b i L R a =
         let f = w .1 in
         let B =
         simKids n Min ts (m .rest) (fitted-fresh ν γ Min ts (m .rest) f) (p .3) (h .1) (k .1)
-        (fresh-atMost ν γ Min ts (m .rest) f) (λ x j. i x (inr j)) L R (narrow (λ p i. inr i) (omega arith) a) in
+        (fresh-atMost ν γ Min ts (m .rest) f) (λ x j. i x (inr j)) L R (narrow (λ p i. inr i) a) in
         let E = states-fresh ν γ Min ts (m .rest) f in
         let W = work-fresh ν γ Min ts (m .rest) f in
-        let u : AroundTree Y γ t L R = narrow (λ p i. inl i) (omega arith) a in
+        let u : AroundTree Y γ t L R = narrow (λ p i. inl i) a in
         sim-min n t ts m (work ν γ t (m .first) (w .0)) (states ν γ t (m .first) (w .0)) L R (p .0) u
         h k f
         (sim t (m .first) (w .0) (p .2) (h .0) (k .0) b L R u)

@@ -1,21 +1,22 @@
--- Every list that SSS* reaches: it fits, it is not empty, few replacements led there, and the run goes on from it.
+-- Every list that SSS* reaches: few replacements led there, the state taken from it has no less merit than the tree has
+-- value, and the run goes on from it.
 use Prim.Native.Nat.{ℕ, suc, _+_, _*_, _≤_, _<_}
 use native.Mathlib.Omega.{arith}
 use mathlib.Core.Path.{_≡_, refl, sym, _∙_, ap, subst}
 use mathlib.Core.List.{List, [], _∷_, _++_, append-assoc}
-use lib.ListN.{length}
 use Rattle.gametree.specs.Tree.{Tree, minimax, size, Scored}
 use Rattle.gametree.specs.Mtd.{mtd}
 use Rattle.gametree.specs.Layout.{Layout}
 use Rattle.gametree.proofs.Described.{Describes}
-use Rattle.gametree.specs.Sss.{Step, takenMerit, State, empty, stop, quiet, evaluating, step, End, Ran, runFrom}
+use Rattle.gametree.specs.Sss.{takenMerit, State, stop, quiet, evaluating, step, End, Ran, runFrom}
 use Rattle.gametree.specs.Sss.{start, sssOver, ListAfter, atStart, afterQuiet, afterEvaluating, resumed}
-use Rattle.gametree.proofs.SssSteps.{stepFirst, Takes, Steps, done, quietly, evaluates}
+use Rattle.gametree.proofs.Choice.{clash}
+use Rattle.gametree.proofs.SssSteps.{Steps, done, quietly, evaluates}
 use Rattle.gametree.proofs.MtdValue.{mtd-right}
 use Rattle.gametree.proofs.Merits.{steps-fall}
 use Rattle.gametree.proofs.Work.{full, full-size}
 use Rattle.gametree.proofs.SssRun.{root-stops, mtd-steps}
-use Rattle.gametree.proofs.Choice.{zero-not-one}
+use Rattle.gametree.proofs.Choice.{clash}
 
 -- what is ahead of the list L in a run of SSS* that ends at N, evaluates the leaves W and makes at most A replacements
 record Ahead (ν : ℕ → ℕ) (Y : Layout) (N : List State) (W : List ℕ) (A k : ℕ) (w : List ℕ)
@@ -26,26 +27,26 @@ record Ahead (ν : ℕ → ℕ) (Y : Layout) (N : List State) (W : List ℕ) (A 
   whole : w ++ toCome ≡ W
   few : k + left ≤ A
 
-module _ (ν : ℕ → ℕ) (Y : Layout) (N : List State) (W : List ℕ) (A v : ℕ) (e : Takes ν Y N (stop v)) where
+module _ (ν : ℕ → ℕ) (Y : Layout) (N : List State) (W : List ℕ) (A v : ℕ) (e : step ν Y N ≡ stop v) where
   -- a quiet step takes the run ahead
   ahead-quiet : {k a : ℕ} {w u : List ℕ} {L M : List State} → Steps ν Y a L u N 0 → w ++ u ≡ W → k + a ≤ A
       → step ν Y L ≡ quiet M
       → Ahead ν Y N W A (suc k) w M
-  ahead-quiet (done o l) i f s = absurd (zero-not-one (cc (e .by-tree)))
+  ahead-quiet (done l) i f s = clash (cc)
   ahead-quiet {u = u} {M = M} (quietly {c = c} {M = M′} t l p) i f s =
-      let z : M′ ≡ M = cc (t .by-tree) in
+      let z : M′ ≡ M = cc in
       record { left = c; toCome = u; steps = subst (λ X. Steps ν Y c X u N 0) z p; whole = i; few = omega arith }
-  ahead-quiet (evaluates t l p) i f s = absurd (zero-not-one (cc (t .by-tree)))
+  ahead-quiet (evaluates t l p) i f s = clash (cc)
 
   -- and so does one that evaluates a leaf
   ahead-evaluating : {k a n : ℕ} (w : List ℕ) {u : List ℕ} {L M : List State} → Steps ν Y a L u N 0 → w ++ u ≡ W
       → k + a ≤ A
       → step ν Y L ≡ evaluating n M → Ahead ν Y N W A (suc k) (w ++ (n ∷ [])) M
-  ahead-evaluating w (done o l) i f s = absurd (zero-not-one (cc (e .by-tree)))
-  ahead-evaluating w (quietly t l p) i f s = absurd (zero-not-one (cc (t .by-tree)))
+  ahead-evaluating w (done l) i f s = clash (cc)
+  ahead-evaluating w (quietly t l p) i f s = clash (cc)
   ahead-evaluating {n = n} w {M = M} (evaluates {c = c} {M = M′} {w = x} {n = n′} t l p) i f s =
-      let z : M′ ≡ M = cc (t .by-tree) in
-      let y : n′ ≡ n = cc (t .by-tree) in
+      let z : M′ ≡ M = cc in
+      let y : n′ ≡ n = cc in
       record {
         left = c;
         toCome = x;
@@ -62,27 +63,9 @@ module _ (ν : ℕ → ℕ) (Y : Layout) (N : List State) (W : List ℕ) (A v : 
   list-ahead t p (afterEvaluating {w = w} r s) =
       let a = list-ahead t p r in ahead-evaluating w (a .steps) (a .whole) (a .few) s
 
-  -- a state is on the list
-  ahead-state : {a : ℕ} {u : List ℕ} {L : List State} → Steps ν Y a L u N 0 → step ν Y L ≡ empty → ⊥
-  ahead-state (done o l) s = zero-not-one (cc (e .by-tree))
-  ahead-state (quietly t l p) s = zero-not-one (cc (t .by-tree))
-  ahead-state (evaluates t l p) s = zero-not-one (cc (t .by-tree))
-
-  -- which one is known
-  ahead-takes : {a : ℕ} {u : List ℕ} {L : List State} → Steps ν Y a L u N 0 → (x : Step) × Takes ν Y L x
-  ahead-takes (done o l) = (stop v, e)
-  ahead-takes (quietly t l p) = (_, t)
-  ahead-takes (evaluates t l p) = (_, t)
-
 -- what holds of every list that SSS* reaches, with W the leaves of the whole run
 pub record Reaching (ν : ℕ → ℕ) (Y : Layout) (t : Tree) (W : List ℕ) (k : ℕ) (w : List ℕ)
     (L : List State) : Type 0 where
-  -- it has an entry for each node at most
-  pub fits : length L ≤ Y .nodes
-  -- it holds a state
-  pub state : step ν Y L ≡ empty → ⊥
-  -- the first state of greatest merit on it is the one taken
-  pub first : stepFirst ν Y L ≡ step ν Y L
   -- fewer replacements than twice the number of nodes led to it
   pub few : k < 2 * size t
   -- the state taken has no less merit than the tree has value
@@ -97,13 +80,9 @@ module _ (ν : ℕ → ℕ) (Y : Layout) (t : Tree) (d : Describes Y t) (h : Sco
       → Reaching ν Y t (mtd ν t .evaluated) k w L
   list-reached {L = L} r =
       let v = mtd ν t .value in
-      let e = root-stops ν Y t v (d .top) (d .enough) in
-      let a = list-ahead ν Y _ (mtd ν t .evaluated) (full t) v e t (mtd-steps ν Y t (d .answers) (d .enough) h) r in
-      let x = ahead-takes ν Y _ (mtd ν t .evaluated) (full t) v e (a .steps) .1 in
+      let e = root-stops ν Y t v (d .top) in
+      let a = list-ahead ν Y _ (mtd ν t .evaluated) (full t) v e t (mtd-steps ν Y t (d .answers) h) r in
       record {
-        fits = x .room;
-        state = ahead-state ν Y _ (mtd ν t .evaluated) (full t) v e (a .steps);
-        first = x .by-list ∙ sym (x .by-tree);
         few = omega (arith, a .few, full-size t);
         merit = rw (← mtd-right ν t h .value) (steps-fall ν Y (a .steps));
         toCome = a .toCome;

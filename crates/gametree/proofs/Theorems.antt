@@ -6,8 +6,7 @@ use native.Mathlib.Omega.{arith}
 use mathlib.Core.Path.{_≡_, refl, sym, _∙_, ap, ap₂, subst}
 use mathlib.Core.Logic.{_↔_}
 use mathlib.Core.Bool.{Bool, true, false, cond}
-use mathlib.Core.Option.{Option}
-use mathlib.Core.List.{List, _++_, map}
+use mathlib.Core.List.{List, _∷_, _++_, map}
 use lib.ListN.{length}
 use Rattle.gametree.specs.Lists.{All, among, Once, Subsequence, different}
 use Rattle.gametree.specs.Tree.{Side, Max, Min, Tree, leaf, inner, Kids, least, greatest, minimax, size, leaves}
@@ -15,9 +14,9 @@ use Rattle.gametree.specs.Tree.{leafCount, In, EveryLeaf, Score, Scored,
 use Rattle.gametree.specs.Bounds.{known, low, high, bestOf, Decided}
 use Rattle.gametree.specs.AlphaBeta.{reached, fullWindow}
 use Rattle.gametree.specs.Mtd.{fresh, mtd}
-use Rattle.gametree.specs.Layout.{under, Layout, layoutOf}
+use Rattle.gametree.specs.Layout.{Layout, layoutOf}
 use Rattle.gametree.proofs.Described.{Describes}
-use Rattle.gametree.specs.Sss.{Taken, takenMerit, State, empty, step, finished, runFrom, start}
+use Rattle.gametree.specs.Sss.{takenMerit, State, replace, step, finished, runFrom, start}
 use Rattle.gametree.specs.Sss.{sssOver, sss, ListAfter, resumed}
 use Rattle.gametree.specs.Certificate.{Rule, SolutionTree, solutionValue, Certifies, pairLeaves, chosen}
 use Rattle.gametree.specs.Certificate.{Smallest}
@@ -37,13 +36,13 @@ use Rattle.gametree.proofs.MtdMarks.{mtd-marks}
 use Rattle.gametree.proofs.MtdPasses.{passes-few}
 use Rattle.gametree.proofs.MtdLocal.{run-local, fresh-agree}
 use Rattle.gametree.proofs.Work.{full-size}
-use Rattle.gametree.proofs.SssSteps.{stepFirst}
 use Rattle.gametree.proofs.SssRun.{sss-is-mtd}
-use Rattle.gametree.proofs.Merits.{list-unique, run-falls, merits-capped, first-merit}
+use Rattle.gametree.proofs.Merits.{list-unique, run-falls, first-merit}
 use Rattle.gametree.proofs.SssLists.{list-reached, resume}
 use Rattle.gametree.proofs.SssLocal.{runFrom-local}
 use Rattle.gametree.proofs.OwnLayout.{own-layout}
-use Rattle.gametree.proofs.FrontSteps.{Picks, Together, front-in, list-front, list-together}
+use Rattle.gametree.proofs.Fronts.{Front}
+use Rattle.gametree.proofs.FrontSteps.{front-length, front-in, front-reached, front-taken}
 use Rattle.gametree.proofs.Solution.{solution-bound, certified, rule-counted, counted-rule}
 use Rattle.gametree.proofs.Certificates.{decided-certify}
 use Rattle.gametree.proofs.Counts.{once-count}
@@ -99,41 +98,37 @@ layout-own t d = own-layout t d
 module _ (ν : ℕ → ℕ) (t : Tree) (h : Scored ν t) (Y : Layout) (d : Describes Y t) where
   -- SSS* ends with the minimax value, so it never lacks a state
   pub sss-minimax : sssOver ν Y t .end ≡ finished (minimax ν t)
-  sss-minimax = sss-is-mtd ν Y t (d .answers) (d .top) (d .enough) h .end-is
+  sss-minimax = sss-is-mtd ν Y t d h .end-is
 
   -- it evaluates the leaves that MTD evaluates, in the same order
   pub sss-mtd : sssOver ν Y t .evaluated ≡ mtd ν t .evaluated
-  sss-mtd = sss-is-mtd ν Y t (d .answers) (d .top) (d .enough) h .leaves-are
+  sss-mtd = sss-is-mtd ν Y t d h .leaves-are
 
   -- it makes at most twice as many replacements as there are nodes, less 1
   pub sss-replacements : sssOver ν Y t .replacements < 2 * size t
-  sss-replacements = lt-of-le-of-lt (sss-is-mtd ν Y t (d .answers) (d .top) (d .enough) h .replaced) (full-size t)
+  sss-replacements = lt-of-le-of-lt (sss-is-mtd ν Y t d h .replaced) (full-size t)
 
   module _ {k : ℕ} {w : List ℕ} {L : List State} (r : ListAfter ν Y t k w L) where
-    -- a list that it reaches has an entry for each node at most
-    pub list-fits : length L ≤ Y .nodes
-    list-fits = list-reached ν Y t d h r .fits
+    -- a list that it reaches is a front of the tree
+    pub list-front : Front t L
+    list-front = front-reached ν Y t d r
 
-    -- its states are of nodes of the tree
+    -- so it holds a state, and no more of them than there are nodes
+    pub list-state : 0 < length L
+    list-state = front-length t L list-front .0
+
+    pub list-fits : length L ≤ size t
+    list-fits = front-length t L list-front .1
+
+    -- they are of nodes of the tree
     pub list-nodes : All (λ s. In (s .node) t) L
-    list-nodes = front-in t L (list-front ν Y t d r)
+    list-nodes = front-in t L list-front
 
-    -- and have merits of at most `greatest`
-    pub list-merits : All (λ s. s .merit ≤ greatest) L
-    list-merits = merits-capped ν Y t L r
-
-    -- it holds a state
-    pub list-state : step ν Y L ≡ empty → ⊥
-    list-state = list-reached ν Y t d h r .state
-
-    -- the first state of greatest merit on it is the one that the rule takes
-    pub list-first : stepFirst ν Y L ≡ step ν Y L
-    list-first = list-reached ν Y t d h r .first
-
-    -- the states that a child of a Max node purges are the last before it and the first behind it
-    pub list-purge : (k : Taken) → Picks Y L k → (p : ℕ) (b : Option ℕ) → Y .link (k .state .node) ≡ under p Max b
-        → Together Y p k
-    list-purge = list-together ν Y t d L (list-front ν Y t d r)
+    -- and the first of greatest merit is the one that the rule takes
+    pub list-first : (A : List State) (s : State) (B : List State) → L ≡ A ++ (s ∷ B)
+        → All (λ x. x .merit < s .merit) A → All (λ x. x .merit ≤ s .merit) B
+        → step ν Y L ≡ replace ν Y (record { left = A; state = s; right = B }) (s .status)
+    list-first A s B e l g = rw e (front-taken ν Y t d A s B (rw e at list-front) l g)
 
     -- fewer replacements than twice the number of nodes led to it
     pub list-few : k < 2 * size t

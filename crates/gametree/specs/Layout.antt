@@ -4,7 +4,7 @@ use mathlib.Core.Bool.{Bool, false, cond, _||_}
 use mathlib.Core.Option.{Option, none, some}
 use mathlib.Core.List.{List, [], _∷_}
 use lib.Dec.{eqb}
-use Rattle.gametree.specs.Tree.{Side, Tree, leaf, inner, Kids, last, _then_, number, size}
+use Rattle.gametree.specs.Tree.{Side, Tree, leaf, inner, Kids, last, _then_, number}
 
 -- a leaf (tip), or an inner node (fork) with its side, its first child and its other children
 pub data Kind : Type 0 where
@@ -16,10 +16,9 @@ pub data Link : Type 0 where
   root : Link
   under : (parent : ℕ) (side : Side) (next : Option ℕ) → Link
 
--- the number of nodes, each node's kind and its link to its parent, whether the first of two nodes is above the second
+-- each node's kind and its link to its parent, whether the first of two nodes is above the second
 -- (its ancestor), and whether it is left of it (in the subtree of an elder brother of a node on the other's path)
 pub record Layout : Type 0 where
-  pub nodes : ℕ
   pub kind : ℕ → Kind
   pub link : ℕ → Link
   pub above : ℕ → ℕ → Bool
@@ -89,7 +88,6 @@ abbrev mutual
 abbrev pub layoutOf : Tree → Layout
 layoutOf t =
     record {
-      nodes = size t;
       kind = λ p. kindIn p t;
       link = λ p. linkIn p t;
       above = λ p q. aboveIn p q t;

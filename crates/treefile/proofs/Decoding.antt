@@ -20,7 +20,7 @@ use Rattle.treefile.specs.Decoded.{Decoded}
 use Rattle.treefile.proofs.Lines.{line-bytes, frame-bytes}
 use Rattle.treefile.proofs.Positions.{lineBytes, line-is, line-fits, line-read, read-is, none-is}
 use Rattle.treefile.proofs.Left.{lines-next, lines-stop}
-use Rattle.gametree.proofs.Choice.{zero-not-one}
+use Rattle.gametree.proofs.Choice.{clash}
 
 -- six bytes stored behind n frames
 stored : (table bs : List ℕ) (n : ℕ) → frameSize * (n + 1) ≤ length table → length bs ≡ frameSize
@@ -37,7 +37,7 @@ pub decoded-refused : (f : List ℕ) (x : Option Rejection) (table : List ℕ) (
 decoded-refused f x table r e =
     record {
       answered = rw e;
-      filled = λ p. absurd (zero-not-one cc);
+      filled = λ p. clash (cc);
     }
 
 -- after n lines the position is past them, question 3 is left for the lines from there on, and the table's front holds

@@ -15,7 +15,7 @@ use Rattle.treefile.specs.declared.Frame.{Frame}
 use Rattle.treefile.specs.declared.Cursor.{Cursor}
 use Rattle.treefile.specs.declared.Line.the-variants.{Read, NoLine}
 use Rattle.treefile.proofs.Lines.{line-length}
-use Rattle.gametree.proofs.Choice.{zero-not-one}
+use Rattle.gametree.proofs.Choice.{clash}
 
 module _ (f : List ℕ) (at : ℕ) where
   -- the twelve bytes at the position
@@ -85,7 +85,7 @@ module _ (f : List ℕ) (at : ℕ) where
       go true h = refl
       go false h =
           let r : Read x c ≡ NoLine (record { at = at }) = e ∙ line-none h in
-          absurd (zero-not-one cc)
+          clash (cc)
 
   -- or that none does
   pub none-is : (c : Cursor) → NoLine c ≡ lineAt f at → isLineAt f at ≡ false
@@ -95,4 +95,4 @@ module _ (f : List ℕ) (at : ℕ) where
       go false h = refl
       go true h =
           let r = e ∙ line-read h in
-          absurd (zero-not-one cc)
+          clash (cc)
