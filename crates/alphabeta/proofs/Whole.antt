@@ -17,11 +17,11 @@ use Rattle.frames.specs.Formed.{WellFormed}
 use Rattle.frames.proofs.Proper.{tree-proper}
 use Rattle.certificate.specs.Buffer.{written, marked, markAll}
 use Rattle.certificate.specs.Value.{valueOf}
-use Rattle.certificate.specs.Search.{marksOf, flagsOf}
+use Rattle.certificate.specs.Search.{marksOf, flagsOf, findings}
 use Rattle.certificate.proofs.Outcomes.{search-concludes}
 use Rattle.alphabeta.specs.declared.Visited.{Visited}
 use Rattle.alphabeta.specs.Engine.{visitedOf}
-use Rattle.alphabeta.specs.Outcome.{reachedLeaves, findings}
+use Rattle.alphabeta.specs.Outcome.{reachedLeaves}
 use Rattle.alphabeta.proofs.Reached.{searched}
 
 module _ (t : List ℕ) (wf : WellFormed t) where
@@ -35,7 +35,7 @@ module _ (t : List ℕ) (wf : WellFormed t) where
 
     -- the engine's result, with the value and the move, is what is to be found
     run-finds : (v : ℤ) (m : ℕ) → v ≡ valueOf (r .score) → m ≡ rootMove (valuation t) (tree t)
-        → record { value = v; «root_move» = m; leaves = r .leaves } ≡ findings t
+        → record { value = v; «root_move» = m; leaves = r .leaves } ≡ findings (reachedLeaves t) t
     run-finds v m p q =
         let a : v ≡ valueOf (minimax (valuation t) (tree t)) = p ∙ ap valueOf run-score in
         let b : r .leaves ≡ length (reachedLeaves t) =
@@ -51,7 +51,7 @@ module _ (t : List ℕ) (wf : WellFormed t) where
       → c₂ ≡ written (flag (valuation t) (marked e₂) (tree t)) (frames t) c
       → e₃ ≡ e₂
       → v ≡ valueOf (r .score)
-      → (record { value = v; «root_move» = m; leaves = r .leaves } ≡ findings t)
+      → (record { value = v; «root_move» = m; leaves = r .leaves } ≡ findings (reachedLeaves t) t)
       × ((e₃ ≡ marksOf (reachedLeaves t) t e) × (c₂ ≡ flagsOf (reachedLeaves t) t c))
   run-gives e e₁ e₂ e₃ c c₂ r m v cleared d marks move flags kept value =
       let b =

@@ -1,4 +1,5 @@
 // Alpha-beta over a byte table: the public search, and its recursive engine.
+use certificate::Findings;
 use certificate::ask;
 use certificate::better;
 use certificate::clear;
@@ -24,20 +25,13 @@ ghost use Rattle.frames.specs.Formed.{WellFormed};
 ghost use Rattle.frames.specs.Tree.{treeAt, valuation};
 ghost use Rattle.certificate.specs.Buffer.{markAll};
 ghost use Rattle.certificate.specs.Evaluable.{Evaluable};
-ghost use Rattle.certificate.specs.Search.{marksOf, flagsOf};
-ghost use Rattle.alphabeta.specs.Outcome.{reachedLeaves, findings, alphaBetaOutcome};
+ghost use Rattle.certificate.specs.Search.{marksOf, flagsOf, findings};
+ghost use Rattle.alphabeta.specs.Outcome.{reachedLeaves, alphaBetaOutcome};
 ghost use Rattle.alphabeta.specs.Engine.{Ready, visitedOf};
-
-// What a search finds: the minimax value, the first root move that reaches it (0 for a leaf), and how many leaves were evaluated.
-pub struct Found {
-    pub value: i16,
-    pub root_move: usize,
-    pub leaves: usize,
-}
 
 // The answer of a call: what was found, or the first question that got a "no".
 pub enum Answer {
-    Found(Found),
+    Found(Findings),
     Rejected(Rejection),
 }
 
@@ -54,10 +48,10 @@ pub fn search(table: &[u8], evaluated: &mut [u8], certificate: &mut [u8]) -> Ans
 }
 
 // The search of an accepted table, into buffers with an entry per node.
-fn run(table: &[u8], evaluated: &mut [u8], certificate: &mut [u8]) -> Found
+fn run(table: &[u8], evaluated: &mut [u8], certificate: &mut [u8]) -> Findings
     requires { ⌜ WellFormed (now table) ⌝ }
     requires { ⌜ (frames (now table) ≤ length (now evaluated)) × (frames (now table) ≤ length (now certificate)) ⌝ }
-    ensures { λ r. ⌜ r ≡ findings (now (table .entry)) ⌝ }
+    ensures { λ r. ⌜ r ≡ findings (reachedLeaves (now (table .entry))) (now (table .entry)) ⌝ }
     ensures { λ _. ⌜ now (evaluated .exit) ≡ marksOf (reachedLeaves (now (table .entry))) (now (table .entry)) (now (evaluated .entry)) ⌝ }
     ensures { λ _. ⌜ now (certificate .exit) ≡ flagsOf (reachedLeaves (now (table .entry))) (now (table .entry)) (now (certificate .entry)) ⌝ }
 {
@@ -69,7 +63,7 @@ fn run(table: &[u8], evaluated: &mut [u8], certificate: &mut [u8]) -> Found
     let visited = alpha_beta(table, evaluated, 0, root, LEAST, GREATEST);
     let root_move = conclude(table, evaluated, certificate);
     let value = value(visited.score);
-    Found {
+    Findings {
         value,
         root_move,
         leaves: visited.leaves,

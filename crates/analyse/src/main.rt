@@ -2,8 +2,6 @@
 use libc::STDERR_FILENO;
 use libc::STDIN_FILENO;
 use libc::STDOUT_FILENO;
-use report::Answer;
-use report::TEXT_SIZE;
 ghost use Rattle.analyse.specs.Input.{Fits};
 
 // What reading gives: how many bytes the input has, as far as there is room for them, or that a read failed.
@@ -50,15 +48,12 @@ fn read_some(rest: &mut [u8]) -> Input
     Input::Bytes(io::count(got, rest))
 }
 
+// The text of the file's report, as far as it goes.
 fn print_report(file: &[u8]) {
-    let mut text = [0u8; TEXT_SIZE];
-    match report::write(file, &mut text) {
-        Answer::Length(size) => {
-            io::write_all(STDOUT_FILENO, &text[..size]);
-        }
-        // Never: only a text of fewer than TEXT_SIZE bytes is rejected.
-        Answer::Rejected(_) => {}
-    }
+    let text = report::write(file);
+    let bytes = text.bytes;
+    let end = text.length;
+    io::write_all(STDOUT_FILENO, &bytes[..end]);
 }
 
 fn print_failure() {

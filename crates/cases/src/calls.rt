@@ -7,6 +7,7 @@ use crate::print::print_count;
 use crate::print::print_line_feed;
 use crate::print::print_rejection;
 use crate::print::print_value;
+use certificate::Findings;
 use frames::Checked;
 use frames::FRAME_SIZE;
 use frames::MAX_NODES;
@@ -150,7 +151,7 @@ fn print_search(method: Method, table: &[u8], marks: u32, flags: u32) {
 fn print_alphabeta(table: &[u8], evaluated: &mut [u8], certificate: &mut [u8]) {
     io::write_all(STDOUT_FILENO, b"ab");
     match alphabeta::search(table, evaluated, certificate) {
-        alphabeta::Answer::Found(found) => print_found(found.value, found.root_move, found.leaves),
+        alphabeta::Answer::Found(findings) => print_findings(findings),
         alphabeta::Answer::Rejected(rejection) => print_rejection(rejection),
     }
     print_line_feed();
@@ -161,7 +162,8 @@ fn print_mtd(table: &[u8], evaluated: &mut [u8], certificate: &mut [u8]) {
     io::write_all(STDOUT_FILENO, b"mtd");
     match mtd::search(table, evaluated, certificate) {
         mtd::Answer::Found(found) => {
-            print_found(found.value, found.root_move, found.leaves);
+            let findings = found.findings;
+            print_findings(findings);
             print_count(found.passes);
         }
         mtd::Answer::Rejected(rejection) => print_rejection(rejection),
@@ -174,7 +176,8 @@ fn print_sss(table: &[u8], evaluated: &mut [u8], certificate: &mut [u8]) {
     io::write_all(STDOUT_FILENO, b"sss");
     match sss::solve(table, evaluated, certificate) {
         sss::Answer::Found(found) => {
-            print_found(found.value, found.root_move, found.leaves);
+            let findings = found.findings;
+            print_findings(findings);
             print_count(found.replacements);
         }
         sss::Answer::Rejected(rejection) => print_rejection(rejection),
@@ -184,10 +187,10 @@ fn print_sss(table: &[u8], evaluated: &mut [u8], certificate: &mut [u8]) {
 }
 
 // The value, the root move and the count of evaluated leaves.
-fn print_found(value: i16, root_move: usize, leaves: usize) {
-    print_value(value);
-    print_count(root_move);
-    print_count(leaves);
+fn print_findings(findings: Findings) {
+    print_value(findings.value);
+    print_count(findings.root_move);
+    print_count(findings.leaves);
 }
 
 // The marks, the certificate, and the verdict on it.

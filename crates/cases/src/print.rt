@@ -2,18 +2,13 @@
 use frames::Checked;
 use frames::Rejection;
 use libc::STDOUT_FILENO;
-use report::Answer;
-use report::TEXT_SIZE;
 
 // What the program `analyse` prints for a file.
 pub fn print_report(file: &[u8]) {
-    let mut text = [0u8; TEXT_SIZE];
-    match report::write(file, &mut text) {
-        Answer::Length(size) => {
-            io::write_all(STDOUT_FILENO, &text[..size]);
-        }
-        Answer::Rejected(rejection) => print_rejection(rejection),
-    }
+    let text = report::write(file);
+    let bytes = text.bytes;
+    let end = text.length;
+    io::write_all(STDOUT_FILENO, &bytes[..end]);
 }
 
 // A word and what a check answers, as a line.

@@ -2,7 +2,7 @@
 -- `conclude` reads off them.
 use Prim.Native.Nat.{ℕ}
 use mathlib.Core.Path.{_≡_, refl, ap, _∙_}
-use mathlib.Core.Option.{none, some}
+use mathlib.Core.Option.{Option, none, some}
 use mathlib.Core.List.{List, [], _∷_}
 use lib.ListN.{length}
 use Rattle.gametree.specs.Lists.{among}
@@ -15,14 +15,14 @@ use Rattle.frames.specs.declared.Checked.the-variants.{Nodes, Rejected}
 use Rattle.frames.specs.Frame.{frames}
 use Rattle.frames.specs.Tree.{tree, valuation}
 use Rattle.frames.specs.Formed.{WellFormed}
+use Rattle.frames.specs.Rejection.{answer}
 use Rattle.frames.proofs.Asked.{answer-nodes, answer-rejected}
 use Rattle.frames.proofs.Proper.{tree-proper}
 use Rattle.certificate.specs.Buffer.{written, marked, markAll}
-use Rattle.certificate.specs.Search.{searchRejection, marksOf, flagsOf, outcome}
+use Rattle.certificate.specs.Search.{Search, searchRejection, marksOf, flagsOf, outcome}
 use Rattle.certificate.proofs.Buffers.{marks-from-clear}
 use Rattle.certificate.proofs.Marks.{searched-within}
 use Rattle.certificate.proofs.Concluded.{concluded}
-use Rattle.certificate.proofs.Questions.{asked}
 
 -- a search that evaluates the leaves w: e is cleared to e₁ and marked to e₂, and the move m and the flags c₂ follow
 -- from that
@@ -38,20 +38,22 @@ search-concludes t wf w s e e₁ e₂ e₃ c c₂ m cleared marks move flags kep
     (move ∙ b .0 ∙ search-move (valuation t) (tree t) (tree-proper t wf) s, (kept ∙ a, flags ∙ b .1))
 
 -- what a call gives once its questions are answered, for any type of answers
-module _ {A : Type 0} (rejected : Rejection → A) (found : A) (w t e c : List ℕ) where
+module _ {A : Type 0} (rejected : Rejection → A) (found : A) (s : Search) where
+  abbrev questions : Option Rejection
+  questions = searchRejection (s .table) (length (s .evaluated) ∷ length (s .certificate) ∷ [])
+
   -- with nodes the search is run, and its results are the outcome
-  pub finding : (n : ℕ) (a : A) (e₂ c₂ : List ℕ) → Nodes n ≡ asked t (length e) (length c) → a ≡ found
-      → e₂ ≡ marksOf w t e → c₂ ≡ flagsOf w t c
-      → record { answer = a; evaluated = e₂; certificate = c₂ }
-      ≡ outcome rejected found w t e c (searchRejection t (length e ∷ length c ∷ []))
-  finding n a e₂ c₂ p f b d =
-      let z : searchRejection t (length e ∷ length c ∷ []) ≡ none = answer-nodes (frames t) n _ p .0 in
+  pub finding : (n : ℕ) (a : A) (e c : List ℕ) → Nodes n ≡ answer (frames (s .table)) questions → a ≡ found
+      → e ≡ marksOf (s .leaves) (s .table) (s .evaluated) → c ≡ flagsOf (s .leaves) (s .table) (s .certificate)
+      → record { answer = a; evaluated = e; certificate = c } ≡ outcome rejected found s questions
+  finding n a e c p f b d =
+      let z : questions ≡ none = answer-nodes (frames (s .table)) n _ p .0 in
       rw (z, f, b, d) refl
 
   -- a rejection is the outcome
-  pub rejecting : (r : Rejection) → Rejected r ≡ asked t (length e) (length c)
-      → record { answer = rejected r; evaluated = e; certificate = c }
-      ≡ outcome rejected found w t e c (searchRejection t (length e ∷ length c ∷ []))
+  pub rejecting : (r : Rejection) → Rejected r ≡ answer (frames (s .table)) questions
+      → record { answer = rejected r; evaluated = s .evaluated; certificate = s .certificate }
+      ≡ outcome rejected found s questions
   rejecting r p =
-      let z : searchRejection t (length e ∷ length c ∷ []) ≡ some r = answer-rejected (frames t) r _ p in
+      let z : questions ≡ some r = answer-rejected (frames (s .table)) r _ p in
       rw z

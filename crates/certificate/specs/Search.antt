@@ -1,16 +1,21 @@
--- What every search has in common: its questions, and what it leaves in its buffers.
+-- What every search has in common: its questions, what it finds, and what it leaves in its buffers.
 use Prim.Native.Nat.{ℕ}
 use mathlib.Core.Bool.{Bool, true, _&&_}
 use mathlib.Core.Option.{Option, none, some}
 use mathlib.Core.List.{List, [], _∷_}
 use lib.Dec.{leb}
+use lib.ListN.{length}
 use Rattle.gametree.specs.Lists.{among}
+use Rattle.gametree.specs.Tree.{minimax}
+use Rattle.gametree.specs.Move.{rootMove}
 use Rattle.gametree.specs.Certificate.{flag}
 use Rattle.frames.specs.declared.Rejection.{Rejection}
 use Rattle.frames.specs.Frame.{frames}
 use Rattle.frames.specs.Tree.{tree, valuation}
 use Rattle.frames.specs.Rejection.{ask, _andThen_}
 use Rattle.frames.specs.Check.{rejection}
+use Rattle.certificate.specs.declared.Findings.{Findings}
+use Rattle.certificate.specs.Value.{valueOf}
 use Rattle.certificate.specs.Buffer.{written, mark}
 
 -- has each of the buffers, given by their lengths, at least n entries
@@ -33,15 +38,37 @@ marksOf w t e = written (mark (among w)) (frames t) e
 abbrev pub flagsOf : (w t c : List ℕ) → List ℕ
 flagsOf w t c = written (flag (valuation t) (among w) (tree t)) (frames t) c
 
+-- what a search of the table t finds that evaluates the leaves w: the minimax value, the first root move that reaches
+-- it, and the number of evaluated leaves
+abbrev pub findings : (w t : List ℕ) → Findings
+findings w t =
+    record {
+      value = valueOf (minimax (valuation t) (tree t));
+      «root_move» = rootMove (valuation t) (tree t);
+      leaves = length w;
+    }
+
+-- what a search is lent, a table and two buffers, and the leaves that it evaluates there
+pub record Search : Type 0 where
+  pub table : List ℕ
+  pub evaluated : List ℕ
+  pub certificate : List ℕ
+  pub leaves : List ℕ
+
 -- what a search answers, and what its two buffers hold then
 pub record Outcome (A : Type 0) : Type 0 where
   pub answer : A
   pub evaluated : List ℕ
   pub certificate : List ℕ
 
--- the outcome of a search of the table t that evaluates the leaves w: their marks and the flags read off their bounds
--- are written; where there is a rejection, the buffers e and c are as they were found
-abbrev pub outcome : {A : Type 0} → (Rejection → A) → A → (w t e c : List ℕ) → Option Rejection → Outcome A
-outcome rejected found w t e c none =
-    record { answer = found; evaluated = marksOf w t e; certificate = flagsOf w t c }
-outcome rejected found w t e c (some r) = record { answer = rejected r; evaluated = e; certificate = c }
+-- the outcome of a search: the marks of its leaves and the flags read off their bounds are written over the buffers;
+-- where there is a rejection, the buffers are as they were found
+abbrev pub outcome : {A : Type 0} → (Rejection → A) → A → Search → Option Rejection → Outcome A
+outcome rejected found s none =
+    record {
+      answer = found;
+      evaluated = marksOf (s .leaves) (s .table) (s .evaluated);
+      certificate = flagsOf (s .leaves) (s .table) (s .certificate);
+    }
+outcome rejected found s (some r) =
+    record { answer = rejected r; evaluated = s .evaluated; certificate = s .certificate }

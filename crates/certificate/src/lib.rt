@@ -44,6 +44,13 @@ const ZERO: i32 = ZERO_SCORE as i32;
 // The flag of a node in both solution trees.
 pub const IN_BOTH: u8 = 3;
 
+// What every search finds: the minimax value, the first root move that reaches it (0 for a leaf), and how many leaves were evaluated.
+pub struct Findings {
+    pub value: i16,
+    pub root_move: usize,
+    pub leaves: usize,
+}
+
 // Questions 1 to 10, for buffers of these lengths: the number of nodes, or the first rejection.
 pub fn ask(table: &[u8], evaluated: usize, certificate: usize) -> Checked
     ensures { λ r. ⌜ r ≡ answer (frames (now (table .entry))) (searchRejection (now (table .entry)) (evaluated ∷ certificate ∷ [])) ⌝ }

@@ -1,101 +1,125 @@
--- What any of the searches hands back over a byte table: the theory's theorems, carried to the bytes of the buffers.
-use Prim.Native.Nat.{ℕ, _<_}
-use mathlib.Core.Path.{_≡_, sym, ap, ap₂, _∙_, subst}
-use mathlib.Core.Bool.{true, cond}
+-- What a call that gives a result hands back in its buffers: the theory's theorems, carried to the bytes.
+use Prim.Native.Nat.{ℕ, _+_, _≤_, _<_}
+use native.Mathlib.Omega.{arith}
+use mathlib.Core.Path.{_≡_, sym, ap, _∙_, subst}
+use mathlib.Core.Bool.{Bool, true, false, cond}
 use mathlib.Core.List.{List}
-use lib.ListN.{getD, take, drop}
-use lib.Seq.{take-at}
+use lib.ListN.{length, getD}
+use borrow.Author.Tests.{eq-eqb}
 use Rattle.gametree.specs.declared.Side.{Side}
 use Rattle.gametree.specs.declared.Side.the-variants.{Max, Min}
 use Rattle.gametree.specs.Lists.{All, among}
 use Rattle.gametree.specs.Tree.{minimax, Proper}
 use Rattle.gametree.specs.Bounds.{known}
-use Rattle.gametree.specs.Certificate.{inside, flag, fill}
-use Rattle.gametree.specs.Move.{rootMove}
-use Rattle.gametree.proofs.Searches.{Searched, SameResults}
-use Rattle.gametree.proofs.Lists.{all-among, all-at, all-zip}
+use Rattle.gametree.specs.Certificate.{inside, solutionOf, flag, fill}
+use Rattle.gametree.proofs.Lists.{all-at}
 use Rattle.gametree.proofs.Bounds.{every-map}
 use Rattle.gametree.proofs.ReadOff.{ReadOff, fits}
 use Rattle.gametree.proofs.Certificates.{flag-inside, read-bounds}
-use Rattle.gametree.proofs.Theorems.{search-decides, local-results}
+use Rattle.gametree.proofs.Theorems.{alphaBeta-leaves, search-decides, domination, domination-count}
 use Rattle.frames.specs.Frame.{frames}
 use Rattle.frames.specs.Tree.{tree, valuation}
 use Rattle.frames.specs.Formed.{WellFormed}
-use Rattle.frames.specs.Shape.{SameShape, AgreeOn}
+use Rattle.frames.proofs.Acceptance.{accepted-formed}
 use Rattle.frames.proofs.Nodes.{tree-range}
 use Rattle.frames.proofs.Proper.{tree-proper}
-use Rattle.frames.proofs.Shapes.{same-score, same-tree}
-use Rattle.certificate.specs.Buffer.{tabulate, written, mark, marked, member}
-use Rattle.certificate.specs.Search.{marksOf, flagsOf}
-use Rattle.certificate.proofs.Buffers.{length-tabulate, tabulate-same, written-at}
-use Rattle.certificate.proofs.Marks.{marked-written, searched-within}
-use Rattle.demands.specs.Handed.{CertifiedBy, Alike}
+use Rattle.certificate.specs.Buffer.{mark, marked, member, ones}
+use Rattle.certificate.specs.Value.{valueOf}
+use Rattle.certificate.proofs.Buffers.{written-length, written-at}
+use Rattle.certificate.proofs.Marks.{marked-written, searched-within, ones-searched}
+use Rattle.alphabeta.specs.Outcome.{reachedLeaves}
+use Rattle.verify.specs.declared.Verdict.the-variants.{Value}
+use Rattle.verify.specs.Check.{verdict}
+use Rattle.verify.proofs.Theorems.{certificate-verdict}
+use Rattle.demands.specs.Calls.{Call, lent, left, leaves}
+use Rattle.demands.specs.Handed.{Marked, CertifiedBy}
+use Rattle.demands.proofs.Views.{view}
 
--- the first n entries of a buffer that was written for n nodes
-pub take-written : (f : ℕ → ℕ) (n : ℕ) (b : List ℕ) → take n (written f n b) ≡ tabulate f n
-unfolding written
-take-written f n b = take-at (tabulate f n) (drop n b) n (length-tabulate f n)
+-- a flag is at most 3
+two-bits : (x y : Bool) → cond x 1 0 + cond y 2 0 ≤ 3
+two-bits true true = omega arith
+two-bits true false = omega arith
+two-bits false true = omega arith
+two-bits false false = omega arith
 
-module _ (t : List ℕ) (wf : WellFormed t) {w : List ℕ} (s : Searched (valuation t) (tree t) w) where
-  -- an evaluated leaf is marked
-  marked-leaf : (e : List ℕ) (k : ℕ) → among w k ≡ true → marked (marksOf w t e) k ≡ true
-  marked-leaf e k h =
-      marked-written (among w) (frames t) e k (all-at (λ k. k < frames t) w (searched-within t wf s) k h) ∙ h
+module _ {t : List ℕ} (c : Call t) where
+  pub formed : WellFormed t
+  formed = accepted-formed t (view c .accepted)
 
-  reads : (p : Side) (c : List ℕ)
-      → ReadOff p (known (valuation t) (among w) (fill p)) (member p (flagsOf w t c)) true (tree t)
-  reads p c =
-      fits p _ (member p (flagsOf w t c)) true (tree t) (tree-proper t wf .distinct) (λ k i.
-      ap (inside p)
-      (written-at (flag (valuation t) (among w) (tree t)) (frames t) k c (tree-range t wf 0 (wf .some) k i .1))
-      ∙ flag-inside p (valuation t) (among w) (tree t) k)
+  pub proper : Proper (valuation t) (tree t)
+  proper = tree-proper t formed
 
-  -- the flags handed back certify the minimax value, by evaluated leaves only
-  pub flags-certify : (e c : List ℕ) → CertifiedBy t (marksOf w t e) (flagsOf w t c)
-  flags-certify e c =
-      let d = search-decides (valuation t) (tree t) (tree-proper t wf) s in
-      let x = read-bounds Max (valuation t) (among w) (tree t) (tree-proper t wf) d _ (reads Max c) in
-      let y = read-bounds Min (valuation t) (among w) (tree t) (tree-proper t wf) d _ (reads Min c) in
+  -- the evaluated leaves are marked 1, and every other node 0
+  pub marks-at : (k : ℕ) → k < frames t → getD (left c .marks) k 0 ≡ mark (among (leaves c)) k
+  marks-at k h =
+      ap (λ x. getD x k 0) (view c .marks)
+      ∙ written-at (mark (among (leaves c))) (frames t) k (lent c .marks) h
+
+  marked-at : (k : ℕ) → k < frames t → marked (left c .marks) k ≡ among (leaves c) k
+  marked-at k h =
+      ap (λ x. marked x k) (view c .marks) ∙ marked-written (among (leaves c)) (frames t) (lent c .marks) k h
+
+  flags-at : (k : ℕ) → k < frames t → getD (left c .flags) k 0 ≡ flag (valuation t) (among (leaves c)) (tree t) k
+  flags-at k h =
+      ap (λ x. getD x k 0) (view c .flags)
+      ∙ written-at (flag (valuation t) (among (leaves c)) (tree t)) (frames t) k (lent c .flags) h
+
+  leaf-marked : (k : ℕ) → among (leaves c) k ≡ true → marked (left c .marks) k ≡ true
+  leaf-marked k h =
+      marked-at k (all-at (λ k. k < frames t) (leaves c) (searched-within t formed (view c .searched)) k h) ∙ h
+
+  reads : (p : Side)
+      → ReadOff p (known (valuation t) (among (leaves c)) (fill p)) (member p (left c .flags)) true (tree t)
+  reads p =
+      fits p _ (member p (left c .flags)) true (tree t) (proper .distinct) (λ k i.
+      ap (inside p) (flags-at k (tree-range t formed 0 (formed .some) k i .1))
+      ∙ flag-inside p (valuation t) (among (leaves c)) (tree t) k)
+
+  -- the flags certify the minimax value, by leaves that are marked 1 only
+  pub flags-certify : CertifiedBy t (left c)
+  flags-certify =
+      let d = search-decides (valuation t) (tree t) proper (view c .searched) in
+      let x = read-bounds Max (valuation t) (among (leaves c)) (tree t) proper d _ (reads Max) in
+      let y = read-bounds Min (valuation t) (among (leaves c)) (tree t) proper d _ (reads Min) in
       record {
         certifies = record { maxTree = x .0; minTree = y .0; maxValue = x .1; minValue = y .1 };
-        maxLeaves = every-map _ _ (λ k f h. marked-leaf e k (f h)) (tree t) (x .2);
-        minLeaves = every-map _ _ (λ k f h. marked-leaf e k (f h)) (tree t) (y .2);
+        maxLeaves = every-map _ _ (λ k f h. leaf-marked k (f h)) (tree t) (x .2);
+        minLeaves = every-map _ _ (λ k f h. leaf-marked k (f h)) (tree t) (y .2);
       }
 
--- two well-formed tables of one shape that agree on the leaves that are evaluated, and so marked, in the first
-module _ (t u : List ℕ) (wt : WellFormed t) (wu : WellFormed u) (h : SameShape t u) {w : List ℕ}
-    (s : Searched (valuation t) (tree t) w) (e : List ℕ)
-    (a : (k : ℕ) → k < frames t → getD (marksOf w t e) k 0 ≡ 1 → AgreeOn t u k) where
-  -- their scores agree on these leaves
-  pub agreed-scores : All (λ k. valuation t k ≡ valuation u k) w
-  agreed-scores =
-      all-zip _ _ _ (λ k l m.
-      same-score t u h k l (a k l (written-at (mark (among w)) (frames t) k e l ∙ ap (λ b. cond b 1 0) m)))
-      w (searched-within t wt s) (all-among w)
+  -- the check of certificates accepts them, and gives the minimax value
+  pub flags-verified : verdict t (left c .flags) ≡ Value (valueOf (minimax (valuation t) (tree t)))
+  flags-verified =
+      let handed = flag (valuation t) (among (leaves c)) (tree t) in
+      let h = view c .room .flags in
+      certificate-verdict t (left c .flags) (minimax (valuation t) (tree t)) (record {
+        accepted = view c .accepted;
+        enough = omega (arith, h, ap length (view c .flags), written-length handed (frames t) (lent c .flags) h);
+        inRange = λ i l.
+            omega (
+              arith,
+              flags-at i l,
+              two-bits (solutionOf Max (valuation t) (among (leaves c)) (tree t) i)
+                  (solutionOf Min (valuation t) (among (leaves c)) (tree t) i),
+            );
+        certifies = flags-certify .certifies;
+      })
 
-  agreed : SameResults (valuation t) (valuation u) (tree t) w
-  agreed =
-      local-results (valuation t) (valuation u) (tree t) (tree-proper t wt)
-      (subst (Proper (valuation u)) (sym (same-tree t u h wt wu)) (tree-proper u wu)) s agreed-scores
+  -- there are as many marks at 1 as evaluated leaves
+  pub marks-count : length (leaves c) ≡ ones (left c .marks) (frames t)
+  marks-count =
+      sym (ap (λ x. ones x (frames t)) (view c .marks) ∙ ones-searched t formed (view c .searched) (lent c .marks))
 
-  -- the value and the move are the same
-  pub same-value : minimax (valuation t) (tree t) ≡ minimax (valuation u) (tree u)
-  same-value = agreed .sameValue ∙ ap (minimax (valuation u)) (same-tree t u h wt wu)
+  -- each leaf marked 1 is one that Baudet's condition reaches
+  pub marks-reached : (k : ℕ) → Marked t (left c) k → among (reachedLeaves t) k ≡ true
+  marks-reached k m =
+      let leaf = sym (marked-at k (m .node)) ∙ eq-eqb _ _ (m .mark) in
+      let all = domination (valuation t) (tree t) proper (view c .searched) in
+      all-at (λ k. among (reachedLeaves t) k ≡ true) (leaves c)
+      (subst (λ v. All (λ k. among v k ≡ true) (leaves c)) (alphaBeta-leaves (valuation t) (tree t)) all) k leaf
 
-  pub same-move : rootMove (valuation t) (tree t) ≡ rootMove (valuation u) (tree u)
-  same-move = agreed .sameMove ∙ ap (rootMove (valuation u)) (same-tree t u h wt wu)
-
-  module _ (v : List ℕ) (q : w ≡ v) where
-    -- where the same leaves are evaluated in the second, its marks and its flags are those of the first
-    pub same-marks : (e′ : List ℕ) → Alike (frames t) (marksOf w t e) (marksOf v u e′)
-    same-marks e′ =
-        rw (h .sameFrames, q)
-        (take-written (mark (among v)) (frames u) e ∙ sym (take-written (mark (among v)) (frames u) e′))
-
-    pub same-flags : (c c′ : List ℕ) → Alike (frames t) (flagsOf w t c) (flagsOf v u c′)
-    same-flags c c′ =
-        let f : (k : ℕ) → flag (valuation t) (among w) (tree t) k ≡ flag (valuation u) (among v) (tree u) k =
-        (λ k. agreed .sameFlags k ∙ ap₂ (λ x y. flag (valuation u) (among x) y k) q (same-tree t u h wt wu)) in
-        take-written _ (frames t) c ∙ tabulate-same _ _ (frames t) (λ k l. f k)
-        ∙ sym (ap (λ n. take n (flagsOf v u c′)) (h .sameFrames) ∙ take-written _ (frames u) c′
-        ∙ ap (tabulate _) (sym (h .sameFrames)))
+  -- so there are no more of them than alpha-beta evaluates
+  pub count-most : length (leaves c) ≤ length (reachedLeaves t)
+  count-most =
+      rw (← alphaBeta-leaves (valuation t) (tree t))
+      (domination-count (valuation t) (tree t) proper (view c .searched))

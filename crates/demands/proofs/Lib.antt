@@ -1,9 +1,10 @@
--- The demands, search by search.
-pub mod Handed
+-- The demands, sentence by sentence: Demand1, Demand2 and Demand3. The other files carry the theory's theorems to calls
+-- over byte tables.
 mod Parts
-pub mod AlphaBeta
-pub mod Mtd
-pub mod Sss
-pub mod Demands
-pub mod Refusals
+mod Views
+mod Handed
+mod Local
+pub mod Demand1
+pub mod Demand2
+pub mod Demand3
 pub mod Cases

@@ -5,6 +5,7 @@ use lib.IntN.{ℤ, pos, negsuc}
 use lib.ListN.{replicate, take}
 use Rattle.frames.specs.Frame.{frames}
 use Rattle.frames.specs.Cases.{small, lone, single}
+use Rattle.certificate.specs.declared.Findings.{Findings}
 use Rattle.alphabeta.specs.declared.Answer as ab
 use Rattle.alphabeta.specs.declared.Answer.the-variants as ab-answer
 use Rattle.alphabeta.specs.Outcome.{alphaBetaOutcome}
@@ -30,16 +31,19 @@ pub data Given : Type 0 where
   found : (value : ℤ) (move leaves second : ℕ) → Given
   rejected : (number : ℕ) → Given
 
+abbrev given : Findings → ℕ → Given
+given f second = found (f .value) (f .«root_move») (f .leaves) second
+
 abbrev byAlphaBeta : ab.Answer → Given
-byAlphaBeta (ab-answer.Found f) = found (f .value) (f .«root_move») (f .leaves) 0
+byAlphaBeta (ab-answer.Found f) = given f 0
 byAlphaBeta (ab-answer.Rejected r) = rejected (r .number)
 
 abbrev byMtd : mtd.Answer → Given
-byMtd (mtd-answer.Found f) = found (f .value) (f .«root_move») (f .leaves) (f .passes)
+byMtd (mtd-answer.Found f) = given (f .findings) (f .passes)
 byMtd (mtd-answer.Rejected r) = rejected (r .number)
 
 abbrev bySss : sss.Answer → Given
-bySss (sss-answer.Found f) = found (f .value) (f .«root_move») (f .leaves) (f .replacements)
+bySss (sss-answer.Found f) = given (f .findings) (f .replacements)
 bySss (sss-answer.Rejected r) = rejected (r .number)
 
 -- a line of the table: what the three searches give, and the flags that SSS* writes

@@ -1,20 +1,40 @@
 -- What is said of the bytes that a search hands back in its buffers.
-use Prim.Native.Nat.{ℕ}
+use Prim.Native.Nat.{ℕ, _≤_, _<_}
 use mathlib.Core.Path.{_≡_}
 use mathlib.Core.List.{List}
-use lib.ListN.{take}
+use lib.ListN.{length, getD, take}
 use Rattle.gametree.specs.declared.Side.the-variants.{Max, Min}
 use Rattle.gametree.specs.Tree.{minimax}
 use Rattle.gametree.specs.Certificate.{Certifies, LeavesIn}
+use Rattle.frames.specs.Frame.{frames}
 use Rattle.frames.specs.Tree.{tree, valuation}
+use Rattle.frames.specs.Shape.{AgreeOn}
 use Rattle.certificate.specs.Buffer.{marked, member}
+use Rattle.demands.specs.Calls.{Buffers}
 
--- the flags c certify the minimax value of the table's tree, and flag leaves that are marked in e only
-pub record CertifiedBy (t e c : List ℕ) : Type 0 where
-  pub certifies : Certifies (valuation t) (tree t) (member Max c) (member Min c) (minimax (valuation t) (tree t))
-  pub maxLeaves : LeavesIn (member Max c) (marked e) (tree t)
-  pub minLeaves : LeavesIn (member Min c) (marked e) (tree t)
+-- each buffer has an entry per node of the table
+pub record Room (t : List ℕ) (b : Buffers) : Type 0 where
+  pub marks : frames t ≤ length (b .marks)
+  pub flags : frames t ≤ length (b .flags)
 
--- two buffers are alike in their first n bytes
-abbrev pub Alike : ℕ → List ℕ → List ℕ → Type 0
-Alike n a b = take n a ≡ take n b
+-- node k of the table is marked 1: it is a leaf that was evaluated
+pub record Marked (t : List ℕ) (b : Buffers) (k : ℕ) : Type 0 where
+  pub node : k < frames t
+  pub mark : getD (b .marks) k 0 ≡ 1
+
+-- the flags certify the minimax value of the table's tree by a max and a min solution tree, and flag leaves that are
+-- marked 1 only
+pub record CertifiedBy (t : List ℕ) (b : Buffers) : Type 0 where
+  pub certifies : Certifies (valuation t) (tree t) (member Max (b .flags)) (member Min (b .flags))
+      (minimax (valuation t) (tree t))
+  pub maxLeaves : LeavesIn (member Max (b .flags)) (marked (b .marks)) (tree t)
+  pub minLeaves : LeavesIn (member Min (b .flags)) (marked (b .marks)) (tree t)
+
+-- two tables agree on the leaves that are marked 1
+abbrev pub AgreeOnMarked : (t u : List ℕ) → Buffers → Type 0
+AgreeOnMarked t u b = (k : ℕ) → Marked t b k → AgreeOn t u k
+
+-- the marks and the flags of n nodes are alike
+pub record Alike (n : ℕ) (b d : Buffers) : Type 0 where
+  pub marks : take n (b .marks) ≡ take n (d .marks)
+  pub flags : take n (b .flags) ≡ take n (d .flags)

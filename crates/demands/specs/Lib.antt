@@ -1,3 +1,4 @@
 -- The words in which the demands are stated.
+pub mod Calls
 pub mod Handed
 pub mod Cases

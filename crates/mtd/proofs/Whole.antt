@@ -24,7 +24,7 @@ use Rattle.certificate.proofs.Buffers.{written-at, written-length}
 use Rattle.certificate.proofs.Outcomes.{search-concludes}
 use Rattle.mtd.specs.declared.Settled.{Settled}
 use Rattle.mtd.specs.Memory.{memory, Fresh, settledOf}
-use Rattle.mtd.specs.Outcome.{mtdLeaves, findings}
+use Rattle.mtd.specs.Outcome.{mtdLeaves, mtdFound}
 
 module _ (t : List ℕ) (wf : WellFormed t) where
   -- cleared marks, flags of zeros and the greatest highs are the memory to start with
@@ -55,7 +55,11 @@ module _ (t : List ℕ) (wf : WellFormed t) where
 
     -- what the passes give, with the value and the move, is what is to be found
     run-finds : (v : ℤ) (m : ℕ) → v ≡ valueOf (r .score) → m ≡ rootMove (valuation t) (tree t)
-        → record { value = v; «root_move» = m; leaves = r .leaves; passes = r .passes } ≡ findings t
+        → record {
+          findings = record { value = v; «root_move» = m; leaves = r .leaves };
+          passes = r .passes;
+        }
+        ≡ mtdFound t
     run-finds v m p q =
         let a : v ≡ valueOf (minimax (valuation t) (tree t)) = p ∙ ap valueOf run-score in
         let b : r .leaves ≡ length (mtdLeaves t) = ap (λ x. x .leaves) d in
@@ -71,7 +75,8 @@ module _ (t : List ℕ) (wf : WellFormed t) where
       → c₂ ≡ written (flag (valuation t) (marked e₂) (tree t)) (frames t) c
       → e₃ ≡ e₂
       → v ≡ valueOf (r .score)
-      → (record { value = v; «root_move» = m; leaves = r .leaves; passes = r .passes } ≡ findings t)
+      → (record { findings = record { value = v; «root_move» = m; leaves = r .leaves }; passes = r .passes }
+      ≡ mtdFound t)
       × ((e₃ ≡ marksOf (mtdLeaves t) t e) × (c₂ ≡ flagsOf (mtdLeaves t) t c))
   run-gives e e₁ e₂ e₃ c c₂ r m v cleared d marks move flags kept value =
       let b = search-concludes t wf (mtdLeaves t) byMtd e e₁ e₂ e₃ c c₂ m cleared marks move flags kept in

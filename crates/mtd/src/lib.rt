@@ -1,4 +1,5 @@
 // MTD over a byte table: the public search, and its engine of passes with falling tests, each asking whether the root is below its test.
+use certificate::Findings;
 use certificate::ask;
 use certificate::best;
 use certificate::clear;
@@ -27,15 +28,12 @@ ghost use Rattle.frames.specs.Tree.{treeAt, tree, valuation};
 ghost use Rattle.frames.specs.Formed.{WellFormed};
 ghost use Rattle.certificate.specs.Buffer.{marked, markAll};
 ghost use Rattle.certificate.specs.Search.{marksOf, flagsOf};
-ghost use Rattle.mtd.specs.Outcome.{mtdLeaves, findings, mtdOutcome};
+ghost use Rattle.mtd.specs.Outcome.{mtdLeaves, mtdFound, mtdOutcome};
 ghost use Rattle.mtd.specs.Memory.{memory, Fresh, Ready, Passed, settledOf};
 
-// What a search finds: the minimax value, the first root move that reaches it (0 for a leaf), how many leaves were evaluated, and how many passes were
-// made.
+// What MTD finds: what every search finds, and how many passes were made.
 pub struct Found {
-    pub value: i16,
-    pub root_move: usize,
-    pub leaves: usize,
+    pub findings: Findings,
     pub passes: usize,
 }
 
@@ -61,7 +59,7 @@ pub fn search(table: &[u8], evaluated: &mut [u8], certificate: &mut [u8]) -> Ans
 fn run(table: &[u8], evaluated: &mut [u8], certificate: &mut [u8]) -> Found
     requires { ⌜ WellFormed (now table) ⌝ }
     requires { ⌜ (frames (now table) ≤ length (now evaluated)) × (frames (now table) ≤ length (now certificate)) ⌝ }
-    ensures { λ r. ⌜ r ≡ findings (now (table .entry)) ⌝ }
+    ensures { λ r. ⌜ r ≡ mtdFound (now (table .entry)) ⌝ }
     ensures { λ _. ⌜ now (evaluated .exit) ≡ marksOf (mtdLeaves (now (table .entry))) (now (table .entry)) (now (evaluated .entry)) ⌝ }
     ensures { λ _. ⌜ now (certificate .exit) ≡ flagsOf (mtdLeaves (now (table .entry))) (now (table .entry)) (now (certificate .entry)) ⌝ }
 {
@@ -72,9 +70,11 @@ fn run(table: &[u8], evaluated: &mut [u8], certificate: &mut [u8]) -> Found
     let root_move = conclude(table, evaluated, certificate);
     let value = value(settled.score);
     Found {
-        value,
-        root_move,
-        leaves: settled.leaves,
+        findings: Findings {
+            value,
+            root_move,
+            leaves: settled.leaves,
+        },
         passes: settled.passes,
     }
 }

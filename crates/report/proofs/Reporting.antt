@@ -1,13 +1,11 @@
 -- What the reader of a file gives is what the report goes by: an accepted table, or the first rejection of the file.
-use Prim.Native.Nat.{ℕ, _*_, _≤_, _<_}
+use Prim.Native.Nat.{ℕ, zero, suc, _-_, _*_, _≤_}
 use native.Mathlib.Omega.{arith}
-use mathlib.Core.Path.{_≡_, refl, sym, ap, ap₂, _∙_}
-use mathlib.Core.Bool.{Bool, true, false}
+use native.Mathlib.Nat.{zero-add}
+use mathlib.Core.Path.{_≡_, refl, sym, ap, _∙_}
 use mathlib.Core.Option.{Option, none, some}
-use mathlib.Core.List.{List}
-use lib.Dec.{ltb}
-use lib.ListN.{length, take}
-use borrow.Author.Tests.{lt-ltb, le-ltb, ltb-false}
+use mathlib.Core.List.{List, _++_}
+use lib.ListN.{length, take, drop, replicate, length-append}
 use Rattle.frames.specs.declared.Rejection.{Rejection}
 use Rattle.frames.specs.declared.Checked.{Checked}
 use Rattle.frames.specs.declared.Checked.the-variants.{Nodes, Rejected as RejectedFile}
@@ -17,10 +15,16 @@ use Rattle.frames.proofs.Acceptance.{accepted-formed}
 use Rattle.treefile.specs.Lines.{decoded}
 use Rattle.treefile.specs.File.{fileRejection, readRejection, readAnswer, tableAfter}
 use Rattle.treefile.proofs.Acceptance.{read-nodes, accepted-table, accepted-read}
-use Rattle.report.specs.declared.Answer.the-variants.{Length, Rejected}
-use Rattle.report.specs.Text.{refusedLine, Room, Put}
-use Rattle.report.specs.Report.{analysis, printed, report, textSize, outcomeBy, reportOutcome}
+use Rattle.report.specs.declared.Text.{Text}
+use Rattle.report.specs.Text.{refusedLine, laid, Room, Put}
+use Rattle.report.specs.Report.{analysis, printed, report, textSize, textOf}
 use Rattle.report.proofs.Sizes.{report-few}
+
+-- what is left of zeros
+drop-replicate : (k n : ℕ) → drop {A = ℕ} k (replicate n 0) ≡ replicate (n - k) 0
+drop-replicate zero n = let e : n - 0 ≡ n = omega arith in rw e
+drop-replicate (suc k) zero = let e : 0 - suc k ≡ 0 = omega arith in rw e
+drop-replicate (suc k) (suc n) = let e : suc n - suc k ≡ n - k = omega arith in rw e (drop-replicate k n)
 
 module _ (f : List ℕ) where
   -- what is known once a file was read into a table: its first n frames are the file's, and accepted
@@ -58,41 +62,29 @@ module _ (f : List ℕ) where
     pub read-rejected : report f ≡ refusedLine (r .number) (r .place)
     read-rejected = ap (printed f) (file-rejected (fileRejection f) refl)
 
-  -- a report has room in every text of the size that is asked for
-  pub report-room : (x b : List ℕ) → report f ≡ x → textSize ≤ length b → Room 0 x b
-  report-room x b e h = record { enough = omega (arith, ap length e, report-few f) }
+  -- a report has room in a text
+  pub report-room : {b : List ℕ} → textSize ≤ length b → Room 0 (report f) b
+  report-room h = record { enough = omega (arith, report-few f) }
 
-  -- a text that is too short
-  pub outcome-short : (b : List ℕ) → length b < textSize
-      → record { answer = Rejected (record { number = 10; place = 0 }); text = b } ≡ reportOutcome f b
-  unfolding reportOutcome
-  outcome-short b h = rw (lt-ltb (length b) textSize h)
+  -- what was laid into zeros is the text of the report
+  pub text-laid : {n : ℕ} {b : List ℕ} → Put 0 (report f) (replicate textSize 0) n b
+      → record { bytes = b; length = n } ≡ textOf (report f)
+  unfolding textOf laid
+  text-laid {n} {b} p =
+      let k : n ≡ length (report f) = omega (arith, p .behind) in
+      let z : b ≡ report f ++ replicate (textSize - length (report f)) 0 =
+      p .text
+      ∙ ap (λ i. report f ++ drop {A = ℕ} i (replicate textSize 0)) (zero-add (length (report f)))
+      ∙ ap (λ x. report f ++ x) (drop-replicate (length (report f)) textSize) in
+      cc
 
-  -- a report that was laid
-  pub outcome-laid : (x b : List ℕ) (n : ℕ) (b′ : List ℕ) → report f ≡ x → textSize ≤ length b → Put 0 x b n b′
-      → record { answer = Length n; text = b′ } ≡ reportOutcome f b
-  unfolding reportOutcome
-  outcome-laid x b n b′ e h p =
-      let k : n ≡ length x = omega (arith, p .behind) in
-      rw (le-ltb (length b) textSize h, e) (ap₂ (λ k t. record { answer = Length k; text = t }) k (p .text))
-
-  -- the length that a call answers with is within the text that was lent
-  pub length-within : (b : List ℕ) (n : ℕ) (b′ : List ℕ) → record { answer = Length n; text = b′ } ≡ reportOutcome f b
-      → n ≤ length b
-  unfolding reportOutcome
-  length-within b n b′ e = by-size (ltb (length b) textSize) refl (ap (λ o. o .answer) e)
-    where
-      by-size : (q : Bool) → ltb (length b) textSize ≡ q → Length n ≡ outcomeBy q f b .answer → n ≤ length b
-      by-size true p e = let z : _≡_ {A = ℕ} 0 1 = cc in absurd (omega arith)
-      by-size false p e =
-          let k : n ≡ length (report f) = cc in
-          omega (arith, report-few f, ltb-false (length b) textSize p)
-
-  -- after a rejection the lent text is as it was
-  pub kept-text : (b : List ℕ) (r : Rejection) → reportOutcome f b .answer ≡ Rejected r → reportOutcome f b .text ≡ b
-  unfolding reportOutcome
-  kept-text b r e = by-size (ltb (length b) textSize) e
-    where
-      by-size : (q : Bool) → outcomeBy q f b .answer ≡ Rejected r → outcomeBy q f b .text ≡ b
-      by-size true e = refl
-      by-size false e = let z : _≡_ {A = ℕ} 0 1 = cc in absurd (omega arith)
+  -- the length of a text is within it
+  pub length-within : {r : Text} → r ≡ textOf (report f) → r .length ≤ length (r .bytes)
+  unfolding textOf
+  length-within e =
+      omega (
+        arith,
+        ap (λ x. x .length) e,
+        ap (λ x. length (x .bytes)) e,
+        length-append (report f) (replicate (textSize - length (report f)) 0),
+      )

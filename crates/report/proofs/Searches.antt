@@ -14,7 +14,7 @@ use Rattle.frames.specs.declared.Rejection.{Rejection}
 use Rattle.frames.specs.Frame.{maxNodes, frames}
 use Rattle.frames.specs.Check.{Accepted}
 use Rattle.frames.proofs.Acceptance.{accepted-formed}
-use Rattle.certificate.specs.Search.{outcome, searchRejection}
+use Rattle.certificate.specs.Search.{searchRejection, Search, outcome}
 use Rattle.certificate.proofs.Questions.{room-passed}
 
 -- a fresh buffer has an entry per node
@@ -30,13 +30,16 @@ pub record Answered {F A : Type 0} (found : F → A) (rejected : Rejection → A
 -- the search of an accepted table into fresh buffers finds; the answer's two constructors are told apart
 pub answered : {F A : Type 0} (found : F → A) (rejected : Rejection → A) → ((r f : F) → found r ≡ found f → r ≡ f)
     → ((r : F) (x : Rejection) → found r ≡ rejected x → ⊥)
-    → {f : F} (w t : List ℕ) {e c : List ℕ} {a : A} {e′ c′ : List ℕ}
-    → Accepted t → e ≡ replicate maxNodes 0 → c ≡ replicate maxNodes 0
-    → record { answer = a; evaluated = e′; certificate = c′ }
-    ≡ outcome rejected (found f) w t e c (searchRejection t (length e ∷ length c ∷ []))
+    → {f : F} (s : Search) {a : A} {e c : List ℕ}
+    → Accepted (s .table) → s .evaluated ≡ replicate maxNodes 0 → s .certificate ≡ replicate maxNodes 0
+    → record { answer = a; evaluated = e; certificate = c }
+    ≡ outcome rejected (found f) s
+    (searchRejection (s .table) (length (s .evaluated) ∷ length (s .certificate) ∷ []))
     → Answered found rejected f a
-answered found rejected same apart {f} w t {e} {c} {a} accepted p q o =
-    let passed = room-passed t (length e) (length c) accepted (fresh-room t e accepted p) (fresh-room t c accepted q) in
+answered found rejected same apart {f} s {a} accepted p q o =
+    let passed =
+    room-passed (s .table) (length (s .evaluated)) (length (s .certificate)) accepted
+    (fresh-room (s .table) (s .evaluated) accepted p) (fresh-room (s .table) (s .certificate) accepted q) in
     let answer : a ≡ found f = ap (λ x. x .answer) (rw passed at o) in
     record {
       same = λ r g. same r f (sym g ∙ answer);

@@ -8,9 +8,11 @@ use lib.ListN.{length, length-append}
 use Rattle.frames.specs.declared.Rejection.{Rejection}
 use Rattle.treefile.specs.Lines.{decoded}
 use Rattle.treefile.specs.File.{fileRejection}
-use Rattle.alphabeta.specs.Outcome as alphabeta
-use Rattle.mtd.specs.Outcome as mtd
-use Rattle.sss.specs.Outcome as sss
+use Rattle.certificate.specs.declared.Findings.{Findings}
+use Rattle.certificate.specs.Search.{findings}
+use Rattle.alphabeta.specs.Outcome.{reachedLeaves}
+use Rattle.mtd.specs.Outcome.{mtdLeaves}
+use Rattle.sss.specs.Outcome.{sssLeaves}
 use Rattle.report.specs.Text.{signedDecimal, methodLine, refusedLine}
 use Rattle.report.specs.Report.{abName, mtdName, sssName, abLine, mtdLine, sssLine}
 use Rattle.report.specs.Report.{analysis, printed, report, textSize}
@@ -22,9 +24,10 @@ signedDecimal-few (pos n) = omega (arith, decimal-few 20 n)
 signedDecimal-few (negsuc n) = omega (arith, decimal-few 20 (suc n))
 
 -- a line besides the name
-line-few : (name : List ℕ) (v : ℤ) (m l : ℕ) → length (methodLine name v m l) ≤ length name + 65
-line-few name v m l =
-    simp length-append (omega (arith, signedDecimal-few v, decimal-few 20 m, decimal-few 20 l))
+line-few : (name : List ℕ) (f : Findings) → length (methodLine name f) ≤ length name + 65
+line-few name f =
+    simp length-append
+    (omega (arith, signedDecimal-few (f .value), decimal-few 20 (f .«root_move»), decimal-few 20 (f .leaves)))
 
 refused-few : (r : Rejection) → length (refusedLine (r .number) (r .place)) ≤ textSize
 refused-few r = simp length-append (omega (arith, decimal-few 20 (r .number), decimal-few 20 (r .place)))
@@ -32,14 +35,11 @@ refused-few r = simp length-append (omega (arith, decimal-few 20 (r .number), de
 -- the three lines
 lines-few : (t : List ℕ) → (length (abLine t) ≤ 67) × (length (mtdLine t) ≤ 68) × (length (sssLine t) ≤ 68)
 unfolding abLine mtdLine sssLine
-lines-few t =
-    let a = alphabeta.findings t in
-    let m = mtd.findings t in
-    let s = sss.findings t in (
-      line-few abName (a .value) (a .«root_move») (a .leaves),
-      line-few mtdName (m .value) (m .«root_move») (m .leaves),
-      line-few sssName (s .value) (s .«root_move») (s .leaves),
-    )
+lines-few t = (
+  line-few abName (findings (reachedLeaves t) t),
+  line-few mtdName (findings (mtdLeaves t) t),
+  line-few sssName (findings (sssLeaves t) t),
+)
 
 analysis-few : (t : List ℕ) → length (analysis t) ≤ textSize
 analysis-few t =

@@ -1,20 +1,17 @@
--- What the program prints for a file (01, "What a contract says, and the cases"), and what laying it into a lent text
--- gives.
-use Prim.Native.Nat.{ℕ}
-use mathlib.Core.Bool.{Bool, true, false}
+-- What the program prints for a file (01, "What a contract says, and the cases"), as a text by value.
+use Prim.Native.Nat.{ℕ, _-_}
 use mathlib.Core.Option.{Option, none, some}
 use mathlib.Core.List.{List, [], _∷_, _++_}
-use lib.Dec.{ltb}
-use lib.ListN.{length}
+use lib.ListN.{length, replicate}
 use Rattle.frames.specs.declared.Rejection.{Rejection}
 use Rattle.treefile.specs.Lines.{decoded}
 use Rattle.treefile.specs.File.{fileRejection}
-use Rattle.alphabeta.specs.Outcome as alphabeta
-use Rattle.mtd.specs.Outcome as mtd
-use Rattle.sss.specs.Outcome as sss
-use Rattle.report.specs.declared.Answer.{Answer}
-use Rattle.report.specs.declared.Answer.the-variants.{Length, Rejected}
-use Rattle.report.specs.Text.{heading, methodLine, refusedLine, laid}
+use Rattle.certificate.specs.Search.{findings}
+use Rattle.alphabeta.specs.Outcome.{reachedLeaves}
+use Rattle.mtd.specs.Outcome.{mtdLeaves}
+use Rattle.sss.specs.Outcome.{sssLeaves}
+use Rattle.report.specs.declared.Text.{Text}
+use Rattle.report.specs.Text.{heading, methodLine, refusedLine}
 
 -- "ab", "mtd" and "sss"
 abbrev pub abName : List ℕ
@@ -28,13 +25,13 @@ sssName = 115 ∷ 115 ∷ 115 ∷ []
 
 -- the line of each method, for an accepted table
 unfoldable pub abLine : List ℕ → List ℕ
-abLine t = let r = alphabeta.findings t in methodLine abName (r .value) (r .«root_move») (r .leaves)
+abLine t = methodLine abName (findings (reachedLeaves t) t)
 
 unfoldable pub mtdLine : List ℕ → List ℕ
-mtdLine t = let r = mtd.findings t in methodLine mtdName (r .value) (r .«root_move») (r .leaves)
+mtdLine t = methodLine mtdName (findings (mtdLeaves t) t)
 
 unfoldable pub sssLine : List ℕ → List ℕ
-sssLine t = let r = sss.findings t in methodLine sssName (r .value) (r .«root_move») (r .leaves)
+sssLine t = methodLine sssName (findings (sssLeaves t) t)
 
 -- a heading, then a line for each method
 abbrev pub analysis : List ℕ → List ℕ
@@ -49,21 +46,10 @@ printed f (some r) = refusedLine (r .number) (r .place)
 abbrev pub report : List ℕ → List ℕ
 report f = printed f (fileRejection f)
 
--- the bytes that a lent text must have: room for every report
+-- how many bytes a text has: room for every report
 abbrev pub textSize : ℕ
 textSize = 256
 
--- what a call answers, and what the lent text holds then
-pub record Outcome : Type 0 where
-  pub answer : Answer
-  pub text : List ℕ
-
--- a text that is too short is rejected, and stays as it was; else the report is laid at its beginning, and its length
--- is the answer
-abbrev pub outcomeBy : (tooShort : Bool) (f b : List ℕ) → Outcome
-outcomeBy true f b = record { answer = Rejected (record { number = 10; place = 0 }); text = b }
-outcomeBy false f b = record { answer = Length (length (report f)); text = laid 0 (report f) b }
-
--- what a call gives for the file f and the lent text b
-unfoldable pub reportOutcome : (f b : List ℕ) → Outcome
-reportOutcome f b = outcomeBy (ltb (length b) textSize) f b
+-- the text that begins with the bytes x, and has zeros behind them
+unfoldable pub textOf : List ℕ → Text
+textOf x = record { bytes = x ++ replicate (textSize - length x) 0; length = length x }

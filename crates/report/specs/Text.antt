@@ -7,6 +7,7 @@ use mathlib.Core.List.{List, [], _∷_, _++_}
 use lib.Dec.{ltb}
 use lib.IntN.{ℤ, pos, negsuc}
 use lib.ListN.{length, take, drop}
+use Rattle.certificate.specs.declared.Findings.{Findings}
 
 -- the text of a number in base ten, of at most so many digits
 unfoldable pub decimalWithin : ℕ → ℕ → List ℕ
@@ -36,9 +37,11 @@ heading =
     ∷ 97 ∷ 118 ∷ 101 ∷ 115 ∷ 10 ∷ []
 
 -- a method's name, the value, the move and the count of evaluated leaves, with one blank between
-abbrev pub methodLine : List ℕ → ℤ → ℕ → ℕ → List ℕ
-methodLine name value move leaves =
-    name ++ (blank ∷ (signedDecimal value ++ (blank ∷ (decimal move ++ (blank ∷ (decimal leaves ++ (lineFeed ∷ [])))))))
+abbrev pub methodLine : List ℕ → Findings → List ℕ
+methodLine name f =
+    name
+    ++ (blank ∷ (signedDecimal (f .value)
+    ++ (blank ∷ (decimal (f .«root_move») ++ (blank ∷ (decimal (f .leaves) ++ (lineFeed ∷ [])))))))
 
 -- "refused", the number and the place
 abbrev pub refusedLine : ℕ → ℕ → List ℕ

@@ -1,18 +1,18 @@
-// The program's text: what it prints for a file, laid into a lent buffer piece by piece.
+// The program's text: what it prints for a file, laid down piece by piece and given back by value.
+use certificate::Findings;
 use frames::Checked;
 use frames::FRAME_SIZE;
 use frames::MAX_NODES;
 use frames::MAX_TABLE;
 use frames::Rejection;
-use frames::SHORT_BUFFER;
 ghost use mathlib.Core.Path.{_≡_};
 ghost use mathlib.Core.List.{_∷_, []};
 ghost use lib.IntN.{natAbs};
 ghost use Rattle.frames.specs.Check.{Accepted};
 ghost use Rattle.report.specs.Text.{blank, decimal, signedDecimal, methodLine, refusedLine, Room, Put};
-ghost use Rattle.report.specs.Report.{abLine, mtdLine, sssLine, analysis, reportOutcome};
+ghost use Rattle.report.specs.Report.{abLine, mtdLine, sssLine, analysis, report, textOf};
 
-// The bytes that a lent text must have.
+// How many bytes a text has: room for every report.
 pub const TEXT_SIZE: usize = 256;
 
 // A minus sign, a blank and the end of a line.
@@ -27,29 +27,33 @@ const ZERO: usize = b'0' as usize;
 
 const BASE: usize = 10;
 
-// The answer of a call: the report's length, or a lent text that is too short.
-pub enum Answer {
-    Length(usize),
-    Rejected(Rejection),
+// The text of a report: its bytes, as many as `length` says, and zeros behind them.
+pub struct Text {
+    pub bytes: [u8; TEXT_SIZE],
+    pub length: usize,
 }
 
-// The report of a file, laid at the beginning of the text.
-pub fn write(file: &[u8], text: &mut [u8]) -> Answer
-    ensures { λ r. ⌜ record { answer = r; text = now (text .exit) } ≡ reportOutcome (now (file .entry)) (now (text .entry)) ⌝ }
+// The report of a file: the analysis of its tree, or the line of its rejection.
+pub fn write(file: &[u8]) -> Text
+    ensures { λ r. ⌜ r ≡ textOf (report (now (file .entry))) ⌝ }
 {
-    if text.len() < TEXT_SIZE {
-        return Answer::Rejected(Rejection {
-            number: SHORT_BUFFER,
-            place: 0,
-        });
-    }
+    let mut bytes = [0u8; TEXT_SIZE];
+    let length = put_report(file, &mut bytes);
+    Text { bytes, length }
+}
+
+// The report of a file at the beginning of the text; the position behind it.
+fn put_report(file: &[u8], text: &mut [u8]) -> usize
+    requires { ⌜ Room 0 (report (now file)) (now text) ⌝ }
+    ensures { λ r. ⌜ Put 0 (report (now (file .entry))) (now (text .entry)) r (now (text .exit)) ⌝ }
+{
     let mut table = [0u8; MAX_TABLE];
     match treefile::read(file, &mut table) {
         Checked::Nodes(nodes) => {
             let end = FRAME_SIZE * nodes;
-            Answer::Length(put_analysis(&table[..end], text))
+            put_analysis(&table[..end], text)
         }
-        Checked::Rejected(rejection) => Answer::Length(put_refused(text, rejection)),
+        Checked::Rejected(rejection) => put_refused(text, rejection),
     }
 }
 
@@ -71,11 +75,14 @@ fn put_ab(table: &[u8], text: &mut [u8], at: usize) -> usize
 {
     let mut evaluated = [0u8; MAX_NODES];
     let mut certificate = [0u8; MAX_NODES];
-    let alphabeta::Answer::Found(found) = alphabeta::search(table, &mut evaluated, &mut certificate)
-    else {
+    let alphabeta::Answer::Found(findings) = alphabeta::search(
+        table,
+        &mut evaluated,
+        &mut certificate,
+    ) else {
         return at;
     };
-    put_line(text, at, b"ab", found.value, found.root_move, found.leaves)
+    put_line(text, at, b"ab", findings)
 }
 
 // The line of MTD.
@@ -88,7 +95,8 @@ fn put_mtd(table: &[u8], text: &mut [u8], at: usize) -> usize
     let mtd::Answer::Found(found) = mtd::search(table, &mut evaluated, &mut certificate) else {
         return at;
     };
-    put_line(text, at, b"mtd", found.value, found.root_move, found.leaves)
+    let findings = found.findings;
+    put_line(text, at, b"mtd", findings)
 }
 
 // The line of SSS*.
@@ -101,7 +109,8 @@ fn put_sss(table: &[u8], text: &mut [u8], at: usize) -> usize
     let sss::Answer::Found(found) = sss::solve(table, &mut evaluated, &mut certificate) else {
         return at;
     };
-    put_line(text, at, b"sss", found.value, found.root_move, found.leaves)
+    let findings = found.findings;
+    put_line(text, at, b"sss", findings)
 }
 
 // A rejection's line at the beginning of the text; the position behind it.
@@ -117,21 +126,14 @@ fn put_refused(text: &mut [u8], rejection: Rejection) -> usize
 }
 
 // A method's line; the position behind it.
-fn put_line(
-    text: &mut [u8],
-    at: usize,
-    name: &[u8],
-    value: i16,
-    root_move: usize,
-    leaves: usize,
-) -> usize
-    requires { ⌜ Room at (methodLine (now name) value «root_move» leaves) (now text) ⌝ }
-    ensures { λ r. ⌜ Put at (methodLine (now (name .entry)) value «root_move» leaves) (now (text .entry)) r (now (text .exit)) ⌝ }
+fn put_line(text: &mut [u8], at: usize, name: &[u8], findings: Findings) -> usize
+    requires { ⌜ Room at (methodLine (now name) findings) (now text) ⌝ }
+    ensures { λ r. ⌜ Put at (methodLine (now (name .entry)) findings) (now (text .entry)) r (now (text .exit)) ⌝ }
 {
     let named = put_bytes(text, at, name);
-    let valued = put_value(text, named, value);
-    let moved = put_count(text, valued, root_move);
-    let counted = put_count(text, moved, leaves);
+    let valued = put_value(text, named, findings.value);
+    let moved = put_count(text, valued, findings.root_move);
+    let counted = put_count(text, moved, findings.leaves);
     put_byte(text, counted, LINE_FEED)
 }
 

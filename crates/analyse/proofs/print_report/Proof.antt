@@ -1,54 +1,32 @@
--- `analyse::print_report` is safe and ends: the text that it prints was written.
---
+-- `analyse::print_report` is safe and ends: the text has the bytes that are printed.
 use mathlib.Core.Path.{sym}
 use lib.Seq.{length-take-le}
-use native.Mathlib.Omega.{arith}
-use Rattle.report.proofs.Reporting.{length-within}
 use borrow.Author.Needs.{needs}
+use Rattle.report.proofs.Reporting.{length-within}
 use Rattle.analyse.proofs.print_report.Statement.{statement}
 use Rattle.analyse.proofs.print_report.Tie as tie
-
-slice-aggregate-write : tie.Need-slice-aggregate-write
-slice-aggregate-write c = search needs
 
 write-requires : tie.Need-write-requires
 write-requires c κs = search needs
 
-enum-known-size : tie.Need-enum-known-size
-enum-known-size c = search needs
-
-array-share-prefix-text : tie.Need-array-share-prefix-text
-array-share-prefix-text c =
-    let e = rw (c .before .size .given .1) at (c .before .before .before .before .write .ensures) in
-    omega (arith, length-within _ _ _ _ e)
+array-share-prefix-bytes : tie.Need-array-share-prefix-bytes
+array-share-prefix-bytes c = length-within _ (c .before .write .ensures)
 
 slice-aggregate-write-all : tie.Need-slice-aggregate-write-all
-slice-aggregate-write-all c =
-    let e = rw (c .before .before .size .given .1) at (c .before .before .before .before .before .write .ensures) in
-    sym (length-take-le _ _ (omega (arith, length-within _ _ _ _ e)))
+slice-aggregate-write-all c = sym (length-take-le _ _ (length-within _ (c .before .before .write .ensures)))
 
 write-all-requires : tie.Need-write-all-requires
 write-all-requires c κs = search needs
 
-enum-told : tie.Need-enum-told
-enum-told c = search needs
-
 returns : tie.Need-returns
 returns c = search needs
-
-returns-2 : tie.Need-returns-2
-returns-2 c = search needs
 
 pub print-report-spec : {M : Type 1} → statement M
 print-report-spec =
     tie.close
     (tie.spec
-    slice-aggregate-write
     write-requires
-    enum-known-size
-    array-share-prefix-text
+    array-share-prefix-bytes
     slice-aggregate-write-all
     write-all-requires
-    enum-told
-    returns
-    returns-2)
+    returns)

@@ -1,18 +1,19 @@
 -- `mtd::search` meets its contract: the questions are answered, and then the search is run or nothing is done.
-use Prim.Native.Nat.{ℕ}
 use mathlib.Core.Path.{sym, ap, _∙_}
-use mathlib.Core.List.{List}
 use borrow.Author.Needs.{needs}
+use Rattle.certificate.specs.Search.{Search}
 use Rattle.certificate.proofs.Questions.{nodes-roomy}
 use Rattle.certificate.proofs.Outcomes.{finding, rejecting}
 use Rattle.mtd.specs.declared.Answer.the-variants.{Found, Rejected}
-use Rattle.mtd.specs.Outcome.{findings, mtdLeaves}
+use Rattle.mtd.specs.Outcome.{mtdFound, mtdSearch}
 use Rattle.mtd.proofs.search.Statement.{statement}
 use Rattle.mtd.proofs.search.Tie as tie
 
--- the table, from the answer to the questions on
-abbrev table : tie.After-ask → List ℕ
-table c = c .before .before .before .before .args .table .now
+-- the search, from the answer to the questions on
+abbrev asked : tie.After-ask → Search
+asked c =
+    let a = c .before .before .before .before .args in
+    mtdSearch (a .table .now) (a .evaluated .now) (a .certificate .now)
 
 ask-requires : tie.Need-ask-requires
 ask-requires c κs = search needs
@@ -38,16 +39,16 @@ returns : tie.Need-returns
 returns c =
     let f = c .before .before .before .before in
     let k = f .before .before .before in
-    let t = table (k .before .before) in
-    finding Rejected (Found (findings t)) (mtdLeaves t) _ _ _ _ _ _ _
+    let s = asked (k .before .before) in
+    finding Rejected (Found (mtdFound (s .table))) s _ _ _ _
     (sym (k .enum-told .given .1) ∙ k .before .before .ask .ensures) (ap Found (f .run .ensures .0))
     (f .run .ensures .1 .0) (f .run .ensures .1 .1)
 
 returns-2 : tie.Need-returns-2
 returns-2 c =
     let k = c .before in
-    let t = table (k .before .before) in
-    rejecting Rejected (Found (findings t)) (mtdLeaves t) _ _ _ _
+    let s = asked (k .before .before) in
+    rejecting Rejected (Found (mtdFound (s .table))) s _
     (sym (k .rejection .given .1) ∙ k .before .before .ask .ensures)
 
 pub search-spec : {M : Type 1} → statement M

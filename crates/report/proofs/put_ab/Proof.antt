@@ -2,12 +2,15 @@
 use Prim.Native.Nat.{ℕ}
 use native.Mathlib.Omega.{arith}
 use mathlib.Core.Path.{_≡_, refl}
+use lib.ListN.{replicate}
 use borrow.Author.Needs.{needs}
 use denote.Ref.{now}
+use Rattle.frames.specs.Frame.{maxNodes}
 use Rattle.alphabeta.specs.declared.Answer.the-variants.{Found as FoundAnswer, Rejected}
-use Rattle.alphabeta.specs.Outcome.{findings}
+use Rattle.certificate.specs.Search.{findings, Search}
+use Rattle.alphabeta.specs.Outcome.{alphaBetaSearch}
 use Rattle.report.specs.Report.{abLine}
-use Rattle.report.proofs.Searches.{Answered, answered, value-passed}
+use Rattle.report.proofs.Searches.{Answered, answered}
 use Rattle.report.proofs.put_ab.Statement.{statement}
 use Rattle.report.proofs.put_ab.Tie as tie
 
@@ -15,11 +18,15 @@ use Rattle.report.proofs.put_ab.Tie as tie
 abbrev start : tie.After-search → tie.Start
 start c = c .before .before .before .before .before
 
+-- the search, of the table that is lent and two arrays of zeros
+abbrev asked : tie.After-search → Search
+asked c = alphaBetaSearch (now (start c .args .table)) (replicate maxNodes 0) (replicate maxNodes 0)
+
 -- the search finds
-found : (c : tie.After-search)
-    → Answered FoundAnswer Rejected (findings (now (start c .args .table))) (c .search .result)
+found : (c : tie.After-search) → let s = asked c in
+    Answered FoundAnswer Rejected (findings (s .leaves) (s .table)) (c .search .result)
 found c =
-    answered FoundAnswer Rejected (λ r f e. cc) (λ r x e. let z : _≡_ {A = ℕ} 0 1 = cc in omega arith) _ _
+    answered FoundAnswer Rejected (λ r f e. cc) (λ r x e. let z : _≡_ {A = ℕ} 0 1 = cc in omega arith) (asked c)
     (start c .pre .0) refl refl (c .search .ensures)
 
 slice-aggregate-search : tie.Need-slice-aggregate-search
@@ -31,8 +38,8 @@ slice-aggregate-search-2 c = search needs
 search-requires : tie.Need-search-requires
 search-requires c κs = search needs
 
-enum-known-found : tie.Need-enum-known-found
-enum-known-found c = search needs
+enum-known-findings : tie.Need-enum-known-findings
+enum-known-findings c = search needs
 
 enum-told : tie.Need-enum-told
 enum-told c = search needs
@@ -46,9 +53,9 @@ slice-aggregate-put-line c = search needs
 put-line-requires : tie.Need-put-line-requires
 unfolding abLine
 put-line-requires c κs =
-    let r = c .before .before .before .before in
+    let r = c .before .before .before in
     let s = r .before .before .before .before in
-    rw (value-passed _ (c .struct-told .given .0 .1), found s .same _ (r .found .given .1)) (start s .pre .1)
+    rw (found s .same _ (r .findings .given .1)) (start s .pre .1)
 
 same-length : tie.Need-same-length
 same-length c = search needs
@@ -57,10 +64,9 @@ returns-2 : tie.Need-returns-2
 unfolding abLine
 returns-2 c =
     let t = c .before .before .before in
-    let r = t .before .before .before .before in
+    let r = t .before .before .before in
     let s = r .before .before .before .before in
-    rw (value-passed _ (t .struct-told .given .0 .1), found s .same _ (r .found .given .1))
-    at (c .before .before .put-line .ensures)
+    rw (found s .same _ (r .findings .given .1)) at (c .before .before .put-line .ensures)
 
 pub put-ab-spec : {M : Type 1} → statement M
 put-ab-spec =
@@ -69,7 +75,7 @@ put-ab-spec =
     slice-aggregate-search
     slice-aggregate-search-2
     search-requires
-    enum-known-found
+    enum-known-findings
     enum-told
     returns
     slice-aggregate-put-line

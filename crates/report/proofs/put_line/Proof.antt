@@ -1,8 +1,7 @@
 -- `report::put_line` meets its contract: each piece is laid behind the one before.
-use mir.Syntax.{w16}
-use mir.ValLaws.{toZ-ofZ}
 use borrow.Author.Needs.{needs}
 use Rattle.report.proofs.Laying.{room-front, room-rest, put-then}
+use Rattle.report.proofs.Searches.{value-passed}
 use Rattle.report.proofs.put_line.Statement.{statement}
 use Rattle.report.proofs.put_line.Tie as tie
 
@@ -11,26 +10,25 @@ put-bytes-requires c κs = room-front _ (c .before .before .before .pre)
 
 put-value-requires : tie.Need-put-value-requires
 put-value-requires c κs =
-    let t = c .before .before .before in
+    let t = c .before .before .before .before in
     let s = t .before .before .before .before in
-    let r = room-rest _ (t .put-bytes .ensures) (s .pre) in
-    rw (toZ-ofZ w16 (s .args .value) (s .fits .value)) (room-front _ r)
+    rw (value-passed _ (c .struct-told .given .0 .1)) (room-front _ (room-rest _ (t .put-bytes .ensures) (s .pre)))
 
 put-count-requires : tie.Need-put-count-requires
 put-count-requires c κs =
     let v = c .before .before .before in
-    let t = v .before .before .before .before in
+    let t = v .before .before .before .before .before in
     let s = t .before .before .before .before in
-    let valued = rw (toZ-ofZ w16 (s .args .value) (s .fits .value)) at (v .put-value .ensures) in
+    let valued = rw (value-passed _ (v .before .struct-told .given .0 .1)) at (v .put-value .ensures) in
     room-front _ (room-rest _ valued (room-rest _ (t .put-bytes .ensures) (s .pre)))
 
 put-count-requires-2 : tie.Need-put-count-requires-2
 put-count-requires-2 c κs =
     let m = c .before .before .before in
     let v = m .before .before .before .before in
-    let t = v .before .before .before .before in
+    let t = v .before .before .before .before .before in
     let s = t .before .before .before .before in
-    let valued = rw (toZ-ofZ w16 (s .args .value) (s .fits .value)) at (v .put-value .ensures) in
+    let valued = rw (value-passed _ (v .before .struct-told .given .0 .1)) at (v .put-value .ensures) in
     room-front _
     (room-rest _ (m .put-count .ensures) (room-rest _ valued (room-rest _ (t .put-bytes .ensures) (s .pre))))
 
@@ -39,9 +37,9 @@ put-byte-requires c κs =
     let l = c .before .before .before in
     let m = l .before .before .before .before in
     let v = m .before .before .before .before in
-    let t = v .before .before .before .before in
+    let t = v .before .before .before .before .before in
     let s = t .before .before .before .before in
-    let valued = rw (toZ-ofZ w16 (s .args .value) (s .fits .value)) at (v .put-value .ensures) in
+    let valued = rw (value-passed _ (v .before .struct-told .given .0 .1)) at (v .put-value .ensures) in
     room-rest _ (l .put-count2 .ensures)
     (room-rest _ (m .put-count .ensures) (room-rest _ valued (room-rest _ (t .put-bytes .ensures) (s .pre))))
 
@@ -54,9 +52,9 @@ returns c =
     let l = f .before .before .before .before in
     let m = l .before .before .before .before in
     let v = m .before .before .before .before in
-    let t = v .before .before .before .before in
+    let t = v .before .before .before .before .before in
     let s = t .before .before .before .before in
-    let valued = rw (toZ-ofZ w16 (s .args .value) (s .fits .value)) at (v .put-value .ensures) in
+    let valued = rw (value-passed _ (v .before .struct-told .given .0 .1)) at (v .put-value .ensures) in
     let r₁ = room-rest _ (t .put-bytes .ensures) (s .pre) in
     let r₂ = room-rest _ valued r₁ in
     let r₃ = room-rest _ (m .put-count .ensures) r₂ in

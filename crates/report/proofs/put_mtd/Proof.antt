@@ -2,12 +2,15 @@
 use Prim.Native.Nat.{ℕ}
 use native.Mathlib.Omega.{arith}
 use mathlib.Core.Path.{_≡_, refl}
+use lib.ListN.{replicate}
 use borrow.Author.Needs.{needs}
 use denote.Ref.{now}
+use Rattle.frames.specs.Frame.{maxNodes}
 use Rattle.mtd.specs.declared.Answer.the-variants.{Found as FoundAnswer, Rejected}
-use Rattle.mtd.specs.Outcome.{findings}
+use Rattle.certificate.specs.Search.{Search}
+use Rattle.mtd.specs.Outcome.{mtdFound, mtdSearch}
 use Rattle.report.specs.Report.{mtdLine}
-use Rattle.report.proofs.Searches.{Answered, answered, value-passed}
+use Rattle.report.proofs.Searches.{Answered, answered}
 use Rattle.report.proofs.put_mtd.Statement.{statement}
 use Rattle.report.proofs.put_mtd.Tie as tie
 
@@ -15,11 +18,15 @@ use Rattle.report.proofs.put_mtd.Tie as tie
 abbrev start : tie.After-search → tie.Start
 start c = c .before .before .before .before .before
 
+-- the search, of the table that is lent and two arrays of zeros
+abbrev asked : tie.After-search → Search
+asked c = mtdSearch (now (start c .args .table)) (replicate maxNodes 0) (replicate maxNodes 0)
+
 -- the search finds
-found : (c : tie.After-search)
-    → Answered FoundAnswer Rejected (findings (now (start c .args .table))) (c .search .result)
+found : (c : tie.After-search) → let s = asked c in
+    Answered FoundAnswer Rejected (mtdFound (s .table)) (c .search .result)
 found c =
-    answered FoundAnswer Rejected (λ r f e. cc) (λ r x e. let z : _≡_ {A = ℕ} 0 1 = cc in omega arith) _ _
+    answered FoundAnswer Rejected (λ r f e. cc) (λ r x e. let z : _≡_ {A = ℕ} 0 1 = cc in omega arith) (asked c)
     (start c .pre .0) refl refl (c .search .ensures)
 
 slice-aggregate-search : tie.Need-slice-aggregate-search
@@ -48,7 +55,7 @@ unfolding mtdLine
 put-line-requires c κs =
     let r = c .before .before .before .before in
     let s = r .before .before .before .before in
-    rw (value-passed _ (c .struct-told .given .0 .1), found s .same _ (r .found .given .1)) (start s .pre .1)
+    rw (found s .same _ (r .found .given .1)) (start s .pre .1)
 
 same-length : tie.Need-same-length
 same-length c = search needs
@@ -59,8 +66,7 @@ returns-2 c =
     let t = c .before .before .before in
     let r = t .before .before .before .before in
     let s = r .before .before .before .before in
-    rw (value-passed _ (t .struct-told .given .0 .1), found s .same _ (r .found .given .1))
-    at (c .before .before .put-line .ensures)
+    rw (found s .same _ (r .found .given .1)) at (c .before .before .put-line .ensures)
 
 pub put-mtd-spec : {M : Type 1} → statement M
 put-mtd-spec =

@@ -2,12 +2,15 @@
 use Prim.Native.Nat.{ℕ}
 use native.Mathlib.Omega.{arith}
 use mathlib.Core.Path.{_≡_, refl}
+use lib.ListN.{replicate}
 use borrow.Author.Needs.{needs}
 use denote.Ref.{now}
+use Rattle.frames.specs.Frame.{maxNodes}
 use Rattle.sss.specs.declared.Answer.the-variants.{Found as FoundAnswer, Rejected}
-use Rattle.sss.specs.Outcome.{findings}
+use Rattle.certificate.specs.Search.{Search}
+use Rattle.sss.specs.Outcome.{sssFound, sssSearch}
 use Rattle.report.specs.Report.{sssLine}
-use Rattle.report.proofs.Searches.{Answered, answered, value-passed}
+use Rattle.report.proofs.Searches.{Answered, answered}
 use Rattle.report.proofs.put_sss.Statement.{statement}
 use Rattle.report.proofs.put_sss.Tie as tie
 
@@ -15,11 +18,15 @@ use Rattle.report.proofs.put_sss.Tie as tie
 abbrev start : tie.After-solve → tie.Start
 start c = c .before .before .before .before .before
 
+-- the search, of the table that is lent and two arrays of zeros
+abbrev asked : tie.After-solve → Search
+asked c = sssSearch (now (start c .args .table)) (replicate maxNodes 0) (replicate maxNodes 0)
+
 -- the search finds
-found : (c : tie.After-solve)
-    → Answered FoundAnswer Rejected (findings (now (start c .args .table))) (c .solve .result)
+found : (c : tie.After-solve) → let s = asked c in
+    Answered FoundAnswer Rejected (sssFound (s .table)) (c .solve .result)
 found c =
-    answered FoundAnswer Rejected (λ r f e. cc) (λ r x e. let z : _≡_ {A = ℕ} 0 1 = cc in omega arith) _ _
+    answered FoundAnswer Rejected (λ r f e. cc) (λ r x e. let z : _≡_ {A = ℕ} 0 1 = cc in omega arith) (asked c)
     (start c .pre .0) refl refl (c .solve .ensures)
 
 slice-aggregate-solve : tie.Need-slice-aggregate-solve
@@ -48,7 +55,7 @@ unfolding sssLine
 put-line-requires c κs =
     let r = c .before .before .before .before in
     let s = r .before .before .before .before in
-    rw (value-passed _ (c .struct-told .given .0 .1), found s .same _ (r .found .given .1)) (start s .pre .1)
+    rw (found s .same _ (r .found .given .1)) (start s .pre .1)
 
 same-length : tie.Need-same-length
 same-length c = search needs
@@ -59,8 +66,7 @@ returns-2 c =
     let t = c .before .before .before in
     let r = t .before .before .before .before in
     let s = r .before .before .before .before in
-    rw (value-passed _ (t .struct-told .given .0 .1), found s .same _ (r .found .given .1))
-    at (c .before .before .put-line .ensures)
+    rw (found s .same _ (r .found .given .1)) at (c .before .before .put-line .ensures)
 
 pub put-sss-spec : {M : Type 1} → statement M
 put-sss-spec =

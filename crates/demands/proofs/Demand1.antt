@@ -1,0 +1,102 @@
+-- Demand 1, sentence by sentence. "each public entry takes whatever bytes it is lent, stays inside them, finishes": the
+-- public entries have no `requires`, and Rattle proves of each that it stays inside what it is lent and ends.
+use Prim.Native.Nat.{ℕ, _≤_}
+use native.Mathlib.Omega.{arith}
+use mathlib.Core.Path.{_≡_, refl, sym, ap, _∙_}
+use mathlib.Core.Option.{Option, none, some}
+use mathlib.Core.List.{List, _∷_}
+use lib.ListN.{length, replicate, length-replicate}
+use Rattle.frames.specs.declared.Rejection.{Rejection}
+use Rattle.frames.specs.declared.Checked.the-variants.{Rejected as RejectedFile}
+use Rattle.frames.specs.Frame.{maxNodes, frames}
+use Rattle.frames.specs.Check.{rejection}
+use Rattle.frames.proofs.Asked.{answer-rejected}
+use Rattle.frames.proofs.Stated.{both-passed}
+use Rattle.frames.proofs.Acceptance.{accepted-formed}
+use Rattle.treefile.specs.Lines.{decoded}
+use Rattle.treefile.specs.File.{readRejection, readAnswer, tableAfter, written}
+use Rattle.certificate.specs.Search.{check10, searchRejection}
+use Rattle.alphabeta.specs.declared.Answer.the-variants as ab-answer
+use Rattle.mtd.specs.declared.Answer.the-variants as mtd-answer
+use Rattle.sss.specs.declared.State.{State}
+use Rattle.sss.specs.declared.Answer.{Answer as SssAnswer}
+use Rattle.sss.specs.declared.Answer.the-variants as sss-answer
+use Rattle.sss.specs.Entry.{blank}
+use Rattle.sss.specs.Outcome.{sssRejection, listAfter, sssOutcome}
+use Rattle.sss.proofs.Whole.{states-found}
+use Rattle.sss.proofs.OwnList.{own-list as same-outcome}
+use Rattle.demands.specs.Calls.{AlphaBetaCall, MtdCall, SssCall, SolveCall}
+use Rattle.demands.proofs.Views.{lengths, alphaBeta-refusal, mtd-refusal, sss-refusal}
+
+-- The call `sss::solve`, which has a list of its own, is a call of SSS* that is lent so long a list, with the same
+-- answer and the same buffers: all that is said of SSS* in these files holds of it.
+pub own-list : {t : List ℕ} {a : SssAnswer} (c : SolveCall t a) (l : List State) → maxNodes ≤ length l
+    → (d : SssCall t a) × (d .lent ≡ c .lent) × (d .left ≡ c .left) × (d .lentList ≡ l)
+own-list {t} c l n =
+    let o = sssOutcome t l (c .lent .marks) (c .lent .flags) in (
+      record {
+        lent = c .lent;
+        left = c .left;
+        lentList = l;
+        leftList = o .list;
+        outcome =
+            ap (λ x. record { list = o .list; search = x })
+            (c .outcome ∙ sym (same-outcome t l (c .lent .marks) (c .lent .flags) n));
+      },
+      refl,
+      refl,
+      refl,
+    )
+
+-- "and gives a result or one numbered refusal with its place": a refusal is the first "no" to the questions that the
+-- call puts
+
+module _ {t : List ℕ} {r : Rejection} where
+  pub first-alphaBeta : (c : AlphaBetaCall t (ab-answer.Rejected r)) → searchRejection t (lengths (c .lent)) ≡ some r
+  first-alphaBeta c = alphaBeta-refusal c .first
+
+  pub first-mtd : (c : MtdCall t (mtd-answer.Rejected r)) → searchRejection t (lengths (c .lent)) ≡ some r
+  first-mtd c = mtd-refusal c .first
+
+  pub first-sss : (c : SssCall t (sss-answer.Rejected r))
+      → sssRejection t (length (c .lentList) ∷ lengths (c .lent)) ≡ some r
+  first-sss c = sss-refusal c .first
+
+pub first-file : (f table : List ℕ) (r : Rejection) → readAnswer f table ≡ RejectedFile r
+    → readRejection f table ≡ some r
+first-file f table r e = answer-rejected (frames (decoded f)) r (readRejection f table) (sym e)
+
+-- question 15 never gets a "no", whatever the bytes: the questions of SSS* are those of every search
+pub never-15 : (t lengths : List ℕ) → sssRejection t lengths ≡ searchRejection t lengths
+never-15 t lengths = by-questions (searchRejection t lengths) refl
+  where
+    by-questions : (q : Option Rejection) → searchRejection t lengths ≡ q
+        → sssRejection t lengths ≡ searchRejection t lengths
+    by-questions none p =
+        let a = both-passed (rejection t) (check10 (frames t) lengths) p .0 in
+        rw (p, states-found t (accepted-formed t a))
+    by-questions (some x) p = rw p
+
+-- "After a refusal all lent memory holds what it held before": the buffers of each search, the list of SSS*, the table
+-- of the reader; the other entries are lent nothing that they could change
+
+module _ {t : List ℕ} {r : Rejection} where
+  pub kept-alphaBeta : (c : AlphaBetaCall t (ab-answer.Rejected r)) → c .left ≡ c .lent
+  kept-alphaBeta c = alphaBeta-refusal c .kept
+
+  pub kept-mtd : (c : MtdCall t (mtd-answer.Rejected r)) → c .left ≡ c .lent
+  kept-mtd c = mtd-refusal c .kept
+
+  pub kept-sss : (c : SssCall t (sss-answer.Rejected r)) → (c .left ≡ c .lent) × (c .leftList ≡ c .lentList)
+  kept-sss c = (
+    sss-refusal c .kept,
+    ap (λ x. x .list) (c .outcome) ∙ ap (λ q. listAfter q (frames t) (c .lentList)) (sss-refusal c .first),
+  )
+
+  pub kept-solve : (c : SolveCall t (sss-answer.Rejected r)) → c .left ≡ c .lent
+  kept-solve c =
+      let d = own-list c (replicate maxNodes blank) (omega (arith, length-replicate {A = State} maxNodes blank)) in
+      sym (d .2) ∙ sss-refusal (d .0) .kept ∙ d .1
+
+pub kept-table : (f table : List ℕ) (r : Rejection) → readAnswer f table ≡ RejectedFile r → tableAfter f table ≡ table
+kept-table f table r e = ap (λ q. written q (decoded f) table) (first-file f table r e)

@@ -1,0 +1,126 @@
+-- Demand 2, sentence by sentence, over the calls of Calls.antt: `Call t` is a call of any of the three searches with the
+-- table t that gives a result.
+use Prim.Native.Nat.{ℕ, _≤_, _<_}
+use mathlib.Core.Path.{_≡_, refl, sym, ap, _∙_}
+use mathlib.Core.Logic.{_↔_}
+use mathlib.Core.List.{List, [], _∷_, _++_}
+use lib.IntN.{ℤ}
+use lib.ListN.{length, getD, drop, replicate}
+use borrow.Author.Tests.{le-leb}
+use Rattle.gametree.specs.Lists.{among}
+use Rattle.gametree.specs.Tree.{minimax}
+use Rattle.gametree.specs.Move.{rootMove}
+use Rattle.frames.specs.Frame.{frames}
+use Rattle.frames.specs.Tree.{tree, valuation}
+use Rattle.frames.specs.Check.{Accepted}
+use Rattle.frames.proofs.Acceptance.{accepted-formed}
+use Rattle.certificate.specs.Buffer.{mark}
+use Rattle.certificate.specs.Value.{valueOf}
+use Rattle.certificate.specs.Search.{marksOf, flagsOf, findings}
+use Rattle.certificate.proofs.Questions.{room-passed}
+use Rattle.verify.specs.declared.Verdict.the-variants.{Value}
+use Rattle.verify.specs.Check.{verdict}
+use Rattle.verify.specs.Certificate.{Certificate}
+use Rattle.verify.proofs.Theorems.{accepts-certificates, accepted-minimax}
+use Rattle.alphabeta.specs.declared.Answer.the-variants as ab-answer
+use Rattle.alphabeta.specs.Outcome.{reachedLeaves}
+use Rattle.mtd.specs.declared.Answer.the-variants as mtd-answer
+use Rattle.mtd.specs.Outcome.{mtdLeaves, mtdFound}
+use Rattle.sss.specs.declared.State.{State}
+use Rattle.sss.specs.declared.Answer.the-variants as sss-answer
+use Rattle.sss.specs.Entry.{blank}
+use Rattle.sss.specs.Outcome.{sssLeaves, sssFound}
+use Rattle.sss.proofs.Whole.{found-outcome}
+use Rattle.demands.specs.Calls.{Buffers, AlphaBetaCall, MtdCall, SssCall, SolveCall}
+use Rattle.demands.specs.Calls.{Call, found, left, leaves}
+use Rattle.demands.specs.Handed.{Room, CertifiedBy}
+use Rattle.demands.proofs.Views.{view}
+use Rattle.demands.proofs.Handed.{marks-at, flags-certify, flags-verified}
+
+-- "Alpha-beta, MTD and SSS*, each valuing the leaves that its rule names and no others": the leaves of its rule are
+-- marked 1, and every other node 0
+pub marks-rule : {t : List ℕ} (c : Call t) (k : ℕ) → k < frames t
+    → getD (left c .marks) k 0 ≡ mark (among (leaves c)) k
+marks-rule c = marks-at c
+
+-- "give for every accepted tree": with an accepted table and room in what is lent, each search gives a result
+module _ (t : List ℕ) (a : Accepted t) (b : Buffers) (h : Room t b) where
+  pub alphaBeta-gives : (c : AlphaBetaCall t (ab-answer.Found (findings (reachedLeaves t) t))) × (c .lent ≡ b)
+  alphaBeta-gives = (
+    record {
+      lent = b;
+      left = record { marks = marksOf (reachedLeaves t) t (b .marks); flags = flagsOf (reachedLeaves t) t (b .flags) };
+      outcome = rw (room-passed t (length (b .marks)) (length (b .flags)) a (h .marks) (h .flags));
+    },
+    refl,
+  )
+
+  pub mtd-gives : (c : MtdCall t (mtd-answer.Found (mtdFound t))) × (c .lent ≡ b)
+  mtd-gives = (
+    record {
+      lent = b;
+      left = record { marks = marksOf (mtdLeaves t) t (b .marks); flags = flagsOf (mtdLeaves t) t (b .flags) };
+      outcome = rw (room-passed t (length (b .marks)) (length (b .flags)) a (h .marks) (h .flags));
+    },
+    refl,
+  )
+
+  pub solve-gives : (c : SolveCall t (sss-answer.Found (sssFound t))) × (c .lent ≡ b)
+  solve-gives = (
+    record {
+      lent = b;
+      left = record { marks = marksOf (sssLeaves t) t (b .marks); flags = flagsOf (sssLeaves t) t (b .flags) };
+      outcome = rw (room-passed t (length (b .marks)) (length (b .flags)) a (h .marks) (h .flags));
+    },
+    refl,
+  )
+
+  pub sss-gives : (l : List State) → frames t ≤ length l
+      → (c : SssCall t (sss-answer.Found (sssFound t))) × (c .lent ≡ b) × (c .lentList ≡ l)
+  sss-gives l n = (
+    record {
+      lent = b;
+      left = record { marks = marksOf (sssLeaves t) t (b .marks); flags = flagsOf (sssLeaves t) t (b .flags) };
+      lentList = l;
+      leftList = replicate (frames t) blank ++ drop (frames t) l;
+      outcome =
+          sym (found-outcome t l (b .marks) (b .flags) (accepted-formed t a)
+          (rw (
+            a,
+            le-leb (frames t) (length l) n,
+            le-leb (frames t) (length (b .marks)) (h .marks),
+            le-leb (frames t) (length (b .flags)) (h .flags),
+          )));
+    },
+    refl,
+    refl,
+  )
+
+-- and none other: only an accepted table gets a result
+pub only-accepted : {t : List ℕ} → Call t → Accepted t
+only-accepted c = view c .accepted
+
+-- "the minimax value"
+pub value-minimax : {t : List ℕ} (c : Call t) → found c .value ≡ valueOf (minimax (valuation t) (tree t))
+value-minimax c = ap (λ x. x .value) (view c .results)
+
+-- "and the first root move that reaches it"
+pub move-first : {t : List ℕ} (c : Call t) → found c .«root_move» ≡ rootMove (valuation t) (tree t)
+move-first c = ap (λ x. x .«root_move») (view c .results)
+
+-- "with a max and a min solution tree made only of leaves they valued"
+pub certified : {t : List ℕ} (c : Call t) → CertifiedBy t (left c)
+certified c = flags-certify c
+
+-- "The checker accepts a pair exactly when both are solution trees of that tree with equal value"
+pub accepts-exactly : (t flags : List ℕ) → ((z : ℤ) × (verdict t flags ≡ Value z)) ↔ ((v : ℕ) × Certificate t flags v)
+accepts-exactly t flags = accepts-certificates t flags
+
+-- "and that value is then the minimax value"
+pub verdict-minimax : (t flags : List ℕ) (z : ℤ) → verdict t flags ≡ Value z
+    → z ≡ valueOf (minimax (valuation t) (tree t))
+verdict-minimax t flags z e = accepted-minimax t flags z e
+
+-- so the checker accepts what each search hands back, and gives the value that the search found
+pub verified : {t : List ℕ} (c : Call t) → verdict t (left c .flags) ≡ Value (found c .value)
+verified c = flags-verified c ∙ ap Value (sym (value-minimax c))

@@ -1,0 +1,84 @@
+-- Two calls with tables of one shape that agree on the leaves marked 1 in the first: if the same leaves are evaluated
+-- in both, they find the same and leave the same marks and flags.
+use Prim.Native.Nat.{ℕ, _<_}
+use mathlib.Core.Path.{_≡_, sym, ap, ap₂, _∙_, subst}
+use mathlib.Core.Bool.{cond}
+use mathlib.Core.List.{List}
+use lib.ListN.{length, take, drop}
+use lib.Seq.{take-at}
+use Rattle.gametree.specs.Lists.{All, among}
+use Rattle.gametree.specs.Tree.{minimax, Proper}
+use Rattle.gametree.specs.Certificate.{flag}
+use Rattle.gametree.specs.Move.{rootMove}
+use Rattle.gametree.specs.Searches.{SameResults}
+use Rattle.gametree.proofs.Lists.{all-among, all-zip}
+use Rattle.gametree.proofs.Theorems.{local-results}
+use Rattle.frames.specs.Frame.{frames}
+use Rattle.frames.specs.Tree.{tree, valuation}
+use Rattle.frames.specs.Shape.{SameShape}
+use Rattle.frames.proofs.Shapes.{same-score, same-tree}
+use Rattle.certificate.specs.Buffer.{tabulate, written, mark}
+use Rattle.certificate.specs.Search.{findings}
+use Rattle.certificate.proofs.Buffers.{length-tabulate, tabulate-same}
+use Rattle.certificate.proofs.Marks.{searched-within}
+use Rattle.demands.specs.Calls.{Call, found, lent, left, leaves}
+use Rattle.demands.specs.Handed.{AgreeOnMarked, Alike}
+use Rattle.demands.proofs.Views.{view}
+use Rattle.demands.proofs.Handed.{formed, proper, marks-at}
+
+-- the first n entries of a buffer that was written for n nodes
+take-written : (f : ℕ → ℕ) (n : ℕ) (b : List ℕ) → take n (written f n b) ≡ tabulate f n
+unfolding written
+take-written f n b = take-at (tabulate f n) (drop n b) n (length-tabulate f n)
+
+module _ {t u : List ℕ} (c : Call t) (d : Call u) (h : SameShape t u) (a : AgreeOnMarked t u (left c)) where
+  -- the trees are one, and the scores agree on the evaluated leaves
+  pub one-tree : tree t ≡ tree u
+  one-tree = same-tree t u h (formed c) (formed d)
+
+  pub agreed-scores : All (λ k. valuation t k ≡ valuation u k) (leaves c)
+  agreed-scores =
+      all-zip _ _ _ (λ k l m.
+      same-score t u h k l (a k (record { node = l; mark = marks-at c k l ∙ ap (λ b. cond b 1 0) m })))
+      (leaves c) (searched-within t (formed c) (view c .searched)) (all-among (leaves c))
+
+  agreed : SameResults (valuation t) (valuation u) (tree t) (leaves c)
+  agreed =
+      local-results (valuation t) (valuation u) (tree t) (proper c)
+      (subst (Proper (valuation u)) (sym one-tree) (proper d)) (view c .searched) agreed-scores
+
+  module _ (e : leaves c ≡ leaves d) where
+    -- what is to be found is the same
+    pub same-findings : findings (leaves c) t ≡ findings (leaves d) u
+    same-findings =
+        let v : minimax (valuation t) (tree t) ≡ minimax (valuation u) (tree u) =
+        agreed .sameValue ∙ ap (minimax (valuation u)) one-tree in
+        let m : rootMove (valuation t) (tree t) ≡ rootMove (valuation u) (tree u) =
+        agreed .sameMove ∙ ap (rootMove (valuation u)) one-tree in
+        let n = ap length e in
+        cc
+
+    pub same-found : found c ≡ found d
+    same-found = view c .results ∙ same-findings ∙ sym (view d .results)
+
+    flags-agree : (k : ℕ) → flag (valuation t) (among (leaves c)) (tree t) k
+        ≡ flag (valuation u) (among (leaves d)) (tree u) k
+    flags-agree k = agreed .sameFlags k ∙ ap₂ (λ x y. flag (valuation u) (among x) y k) e one-tree
+
+    -- the marks and the flags are the same
+    pub same-left : Alike (frames t) (left c) (left d)
+    same-left =
+        record {
+          marks =
+              ap (take (frames t)) (view c .marks)
+              ∙ take-written (mark (among (leaves c))) (frames t) (lent c .marks)
+              ∙ ap₂ (λ w n. tabulate (mark (among w)) n) e (h .sameFrames)
+              ∙ sym (ap₂ take (h .sameFrames) (view d .marks)
+              ∙ take-written (mark (among (leaves d))) (frames u) (lent d .marks));
+          flags =
+              ap (take (frames t)) (view c .flags)
+              ∙ take-written _ (frames t) (lent c .flags)
+              ∙ tabulate-same _ _ (frames t) (λ k l. flags-agree k)
+              ∙ ap (tabulate _) (h .sameFrames)
+              ∙ sym (ap₂ take (h .sameFrames) (view d .flags) ∙ take-written _ (frames u) (lent d .flags));
+        }

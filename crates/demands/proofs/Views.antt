@@ -1,0 +1,154 @@
+-- What is common to the calls that give a result, from their contracts.
+use Prim.Native.Nat.{ℕ}
+use native.Mathlib.Omega.{arith}
+use mathlib.Core.Path.{_≡_, ap}
+use mathlib.Core.Option.{none}
+use mathlib.Core.List.{List, [], _∷_}
+use lib.ListN.{length}
+use Rattle.gametree.specs.Searches.{Searched, byMtd}
+use Rattle.frames.specs.declared.Rejection.{Rejection}
+use Rattle.frames.specs.Frame.{frames}
+use Rattle.frames.specs.Tree.{tree, valuation}
+use Rattle.frames.specs.Check.{rejection, Accepted}
+use Rattle.frames.proofs.Stated.{both-passed}
+use Rattle.frames.proofs.Acceptance.{accepted-formed}
+use Rattle.certificate.specs.declared.Findings.{Findings}
+use Rattle.certificate.specs.Search.{check10, searchRejection, marksOf, flagsOf, findings}
+use Rattle.certificate.proofs.Questions.{passed-room}
+use Rattle.alphabeta.specs.declared.Answer.the-variants as ab-answer
+use Rattle.alphabeta.specs.Outcome.{reachedLeaves, alphaBetaSearch}
+use Rattle.alphabeta.proofs.Reached as reached
+use Rattle.mtd.specs.declared.Found.{Found as MtdFound}
+use Rattle.mtd.specs.declared.Answer.the-variants as mtd-answer
+use Rattle.mtd.specs.Outcome.{mtdFound, mtdSearch}
+use Rattle.sss.specs.declared.Found.{Found as SssFound}
+use Rattle.sss.specs.declared.Answer.the-variants as sss-answer
+use Rattle.sss.specs.Outcome.{sssFound, sssSearch, check15, sssRejection}
+use Rattle.sss.proofs.Whole.{searched}
+use Rattle.sss.proofs.Whole.{passed as passed-rooms}
+use Rattle.demands.specs.Calls.{Buffers, AlphaBetaCall, MtdCall, SssCall}
+use Rattle.demands.specs.Calls.{Call, alphaBeta, mtd, sss, found, lent, left, leaves}
+use Rattle.demands.specs.Handed.{Room}
+use Rattle.demands.proofs.Parts.{Result, Refusal, Apart, result-of, refusal-of}
+
+-- the lengths of the buffers that question 10 asks for
+abbrev pub lengths : Buffers → List ℕ
+lengths b = length (b .marks) ∷ length (b .flags) ∷ []
+
+-- the answers of each search
+ab-apart : Apart ab-answer.Found ab-answer.Rejected
+ab-apart =
+    record {
+      sameFound = λ g h e. cc;
+      sameRejected = λ x y e. cc;
+      neverBoth = λ g x e. let z : _≡_ {A = ℕ} 0 1 = cc in omega arith;
+    }
+
+mtd-apart : Apart mtd-answer.Found mtd-answer.Rejected
+mtd-apart =
+    record {
+      sameFound = λ g h e. cc;
+      sameRejected = λ x y e. cc;
+      neverBoth = λ g x e. let z : _≡_ {A = ℕ} 0 1 = cc in omega arith;
+    }
+
+sss-apart : Apart sss-answer.Found sss-answer.Rejected
+sss-apart =
+    record {
+      sameFound = λ g h e. cc;
+      sameRejected = λ x y e. cc;
+      neverBoth = λ g x e. let z : _≡_ {A = ℕ} 0 1 = cc in omega arith;
+    }
+
+-- what a result of each search says
+module _ {t : List ℕ} where
+  pub alphaBeta-result : {f : Findings} (c : AlphaBetaCall t (ab-answer.Found f))
+      → Result (searchRejection t (lengths (c .lent))) (alphaBetaSearch t (c .lent .marks) (c .lent .flags))
+      (findings (reachedLeaves t) t) f (c .left)
+  alphaBeta-result c = result-of ab-apart _ _ _ _ (c .outcome)
+
+  pub mtd-result : {f : MtdFound} (c : MtdCall t (mtd-answer.Found f))
+      → Result (searchRejection t (lengths (c .lent))) (mtdSearch t (c .lent .marks) (c .lent .flags)) (mtdFound t) f
+      (c .left)
+  mtd-result c = result-of mtd-apart _ _ _ _ (c .outcome)
+
+  pub sss-result : {f : SssFound} (c : SssCall t (sss-answer.Found f))
+      → Result (sssRejection t (length (c .lentList) ∷ lengths (c .lent)))
+      (sssSearch t (c .lent .marks) (c .lent .flags)) (sssFound t) f (c .left)
+  sss-result c = result-of sss-apart _ _ _ _ (ap (λ x. x .search) (c .outcome))
+
+-- and what its refusal says
+module _ {t : List ℕ} {r : Rejection} where
+  pub alphaBeta-refusal : (c : AlphaBetaCall t (ab-answer.Rejected r))
+      → Refusal (searchRejection t (lengths (c .lent))) (alphaBetaSearch t (c .lent .marks) (c .lent .flags)) r
+      (c .left)
+  alphaBeta-refusal c = refusal-of ab-apart _ _ _ _ (c .outcome)
+
+  pub mtd-refusal : (c : MtdCall t (mtd-answer.Rejected r))
+      → Refusal (searchRejection t (lengths (c .lent))) (mtdSearch t (c .lent .marks) (c .lent .flags)) r (c .left)
+  mtd-refusal c = refusal-of mtd-apart _ _ _ _ (c .outcome)
+
+  pub sss-refusal : (c : SssCall t (sss-answer.Rejected r))
+      → Refusal (sssRejection t (length (c .lentList) ∷ lengths (c .lent)))
+      (sssSearch t (c .lent .marks) (c .lent .flags)) r (c .left)
+  sss-refusal c = refusal-of sss-apart _ _ _ _ (ap (λ x. x .search) (c .outcome))
+
+-- a call that gives a result: its table is accepted, its buffers have room, its leaves are those of a search of the
+-- theory, and what it finds and leaves follows from them
+pub record View {t : List ℕ} (c : Call t) : Type 0 where
+  pub accepted : Accepted t
+  pub room : Room t (lent c)
+  pub searched : Searched (valuation t) (tree t) (leaves c)
+  pub results : found c ≡ findings (leaves c) t
+  pub marks : left c .marks ≡ marksOf (leaves c) t (lent c .marks)
+  pub flags : left c .flags ≡ flagsOf (leaves c) t (lent c .flags)
+
+-- passed questions: an accepted table, and room
+module _ (t : List ℕ) (b : Buffers) where
+  both-room : searchRejection t (lengths b) ≡ none → Accepted t × Room t b
+  both-room e =
+      let p = passed-room t (length (b .marks)) (length (b .flags)) e in
+      (p .0, record { marks = p .1; flags = p .2 })
+
+  all-room : (n : ℕ) → searchRejection t (n ∷ lengths b) ≡ none → Accepted t × Room t b
+  all-room n e =
+      let p = passed-rooms t n (length (b .marks)) (length (b .flags)) e in
+      (both-passed (rejection t) (check10 (frames t) (n ∷ lengths b)) e .0, record { marks = p .1 .1; flags = p .1 .2 })
+
+-- each call that gives a result is such a call
+pub view : {t : List ℕ} (c : Call t) → View c
+view {t} (alphaBeta c) =
+    let x = alphaBeta-result c in
+    let p = both-room t (c .lent) (x .passed) in
+    record {
+      accepted = p .0;
+      room = p .1;
+      searched = reached.searched t;
+      results = x .found;
+      marks = x .marks;
+      flags = x .flags;
+    }
+view {t} (mtd c) =
+    let x = mtd-result c in
+    let p = both-room t (c .lent) (x .passed) in
+    record {
+      accepted = p .0;
+      room = p .1;
+      searched = byMtd;
+      results = ap (λ f. f .findings) (x .found);
+      marks = x .marks;
+      flags = x .flags;
+    }
+view {t} (sss c) =
+    let x = sss-result c in
+    let n = length (c .lentList) in
+    let p = all-room t (c .lent) n
+    (both-passed (searchRejection t (n ∷ lengths (c .lent))) (check15 t) (x .passed) .0) in
+    record {
+      accepted = p .0;
+      room = p .1;
+      searched = searched t (accepted-formed t (p .0));
+      results = ap (λ f. f .findings) (x .found);
+      marks = x .marks;
+      flags = x .flags;
+    }

@@ -1,0 +1,84 @@
+-- The calls of the searches: what each is lent, what it answers, and what it leaves, as its contract says.
+use Prim.Native.Nat.{ℕ}
+use mathlib.Core.Path.{_≡_}
+use mathlib.Core.List.{List}
+use Rattle.certificate.specs.declared.Findings.{Findings}
+use Rattle.certificate.specs.Search.{Outcome}
+use Rattle.alphabeta.specs.declared.Answer.{Answer as AlphaBetaAnswer}
+use Rattle.alphabeta.specs.declared.Answer.the-variants as ab-answer
+use Rattle.alphabeta.specs.Outcome.{reachedLeaves, alphaBetaOutcome}
+use Rattle.mtd.specs.declared.Found.{Found as MtdFound}
+use Rattle.mtd.specs.declared.Answer.{Answer as MtdAnswer}
+use Rattle.mtd.specs.declared.Answer.the-variants as mtd-answer
+use Rattle.mtd.specs.Outcome.{mtdLeaves, mtdOutcome}
+use Rattle.sss.specs.declared.State.{State}
+use Rattle.sss.specs.declared.Found.{Found as SssFound}
+use Rattle.sss.specs.declared.Answer.{Answer as SssAnswer}
+use Rattle.sss.specs.declared.Answer.the-variants as sss-answer
+use Rattle.sss.specs.Outcome.{sssLeaves, sssOutcome, solveOutcome}
+
+-- the two buffers that every search is lent: one for the marks, one for the flags of the two solution trees
+pub record Buffers : Type 0 where
+  pub marks : List ℕ
+  pub flags : List ℕ
+
+-- what a contract says of an answer and of the buffers that are left
+abbrev pub outcomeOf : {A : Type 0} → A → Buffers → Outcome A
+outcomeOf a b = record { answer = a; evaluated = b .marks; certificate = b .flags }
+
+-- a call of alpha-beta with the table t that answers a
+pub record AlphaBetaCall (t : List ℕ) (a : AlphaBetaAnswer) : Type 0 where
+  pub lent : Buffers
+  pub left : Buffers
+  pub outcome : outcomeOf a left ≡ alphaBetaOutcome t (lent .marks) (lent .flags)
+
+-- a call of MTD with the table t that answers a
+pub record MtdCall (t : List ℕ) (a : MtdAnswer) : Type 0 where
+  pub lent : Buffers
+  pub left : Buffers
+  pub outcome : outcomeOf a left ≡ mtdOutcome t (lent .marks) (lent .flags)
+
+-- a call of SSS* with the table t that answers a; it is lent a list of states too
+pub record SssCall (t : List ℕ) (a : SssAnswer) : Type 0 where
+  pub lent : Buffers
+  pub left : Buffers
+  pub lentList : List State
+  pub leftList : List State
+  pub outcome : record { list = leftList; search = outcomeOf a left }
+      ≡ sssOutcome t lentList (lent .marks) (lent .flags)
+
+-- a call of SSS* that has a list of its own; it is a call of SSS* with a long lent list (`own-list`, Demand1.antt)
+pub record SolveCall (t : List ℕ) (a : SssAnswer) : Type 0 where
+  pub lent : Buffers
+  pub left : Buffers
+  pub outcome : outcomeOf a left ≡ solveOutcome t (lent .marks) (lent .flags)
+
+-- a call of one of the three searches with the table t that gives a result
+pub data Call (t : List ℕ) : Type 0 where
+  alphaBeta : {f : Findings} → AlphaBetaCall t (ab-answer.Found f) → Call t
+  mtd : {f : MtdFound} → MtdCall t (mtd-answer.Found f) → Call t
+  sss : {f : SssFound} → SssCall t (sss-answer.Found f) → Call t
+
+module _ {t : List ℕ} where
+  -- the value, the move and the count of evaluated leaves that it gives
+  abbrev pub found : Call t → Findings
+  found (alphaBeta {f} c) = f
+  found (mtd {f} c) = f .findings
+  found (sss {f} c) = f .findings
+
+  -- the buffers that it is lent, and those that it leaves
+  abbrev pub lent : Call t → Buffers
+  lent (alphaBeta c) = c .lent
+  lent (mtd c) = c .lent
+  lent (sss c) = c .lent
+
+  abbrev pub left : Call t → Buffers
+  left (alphaBeta c) = c .left
+  left (mtd c) = c .left
+  left (sss c) = c .left
+
+  -- the leaves that its rule names, in order: Baudet's condition, MTD's passes, the run of SSS*
+  abbrev pub leaves : Call t → List ℕ
+  leaves (alphaBeta c) = reachedLeaves t
+  leaves (mtd c) = mtdLeaves t
+  leaves (sss c) = sssLeaves t

@@ -1,0 +1,107 @@
+-- `report::put_report` meets its contract: each way out lays the report of the file.
+use native.Mathlib.Omega.{arith}
+use mathlib.Core.Path.{_≡_, sym, _∙_, subst}
+use lib.Seq.{length-take-le}
+use borrow.Author.Needs.{needs}
+use denote.Ref.{now}
+use Rattle.frames.specs.Check.{Accepted}
+use Rattle.report.specs.Text.{refusedLine, Room, Put}
+use Rattle.report.specs.Report.{analysis, report}
+use Rattle.report.proofs.Reporting.{Read, read-accepted, read-rejected}
+use Rattle.report.proofs.put_report.Statement.{statement}
+use Rattle.report.proofs.put_report.Tie as tie
+
+-- the function's entry, from the reading on
+abbrev start : tie.After-read → tie.Start
+start c = c .before .before .before .before
+
+-- the file's table was read
+accepted : (c : tie.After-known-told) →
+    let d = c .before .before .before .before in
+    Read (now (start d .args .file)) (d .read .last .1 .0) (c .before .nodes .given .0 .0)
+accepted c =
+    let r = c .before .before .before .before .read .ensures in
+    read-accepted _ _ _ _ (r .0) (r .1) _ (c .before .nodes .given .1)
+
+-- the file was rejected
+rejected : (c : tie.After-known-told2) →
+    let d = c .before .before .before .before in
+    let r = c .before .rejection .given .0 .0 in
+    report (now (start d .args .file)) ≡ refusedLine (r .number) (r .place)
+rejected c =
+    let d = c .before .before .before .before in
+    let e = sym (c .before .rejection .given .1) ∙ d .read .ensures .0 in
+    read-rejected (now (start d .args .file)) _ (omega arith) _ e
+
+slice-aggregate-read : tie.Need-slice-aggregate-read
+slice-aggregate-read c = search needs
+
+read-requires : tie.Need-read-requires
+read-requires c κs = search needs
+
+enum-known-nodes : tie.Need-enum-known-nodes
+enum-known-nodes c = search needs
+
+mul-end : tie.Need-mul-end
+mul-end c = omega (arith, accepted c .few)
+
+array-share-prefix-table : tie.Need-array-share-prefix-table
+array-share-prefix-table c = omega (arith, accepted c .few)
+
+slice-aggregate-put-analysis : tie.Need-slice-aggregate-put-analysis
+slice-aggregate-put-analysis c = sym (length-take-le _ _ (omega (arith, accepted (c .before) .few)))
+
+put-analysis-requires : tie.Need-put-analysis-requires
+put-analysis-requires c κs =
+    let w = accepted (c .before .before) in
+    let s = start (c .before .before .before .before .before .before) in
+    subst (λ t. Accepted t × Room 0 (analysis t) (now (s .args .text))) (sym (w .bytes))
+    (w .accepted, subst (λ x. Room 0 x (now (s .args .text))) (w .reported) (s .pre))
+
+enum-known-rejection : tie.Need-enum-known-rejection
+enum-known-rejection c = search needs
+
+put-refused-requires : tie.Need-put-refused-requires
+put-refused-requires c κs =
+    let s = start (c .before .before .before .before .before) in
+    subst (λ x. Room 0 x (now (s .args .text))) (rejected (c .before)) (s .pre)
+
+same-length : tie.Need-same-length
+same-length c = search needs
+
+returns : tie.Need-returns
+returns c =
+    let k = c .before .before .before .before .before in
+    let w = accepted k in
+    let b = now (start (k .before .before .before .before) .args .text) in
+    let p = c .before .before .put-analysis in
+    subst (λ x. Put 0 x b (p .result) (p .last .1 .0)) (sym (w .reported))
+    (subst (λ t. Put 0 (analysis t) b (p .result) (p .last .1 .0)) (w .bytes) (p .ensures))
+
+same-length-2 : tie.Need-same-length-2
+same-length-2 c = search needs
+
+returns-2 : tie.Need-returns-2
+returns-2 c =
+    let k = c .before .before .before .before in
+    let b = now (start (k .before .before .before .before) .args .text) in
+    let p = c .before .before .put-refused in
+    subst (λ x. Put 0 x b (p .result) (p .last .0)) (sym (rejected k)) (p .ensures)
+
+pub put-report-spec : {M : Type 1} → statement M
+put-report-spec =
+    tie.close
+    (tie.spec
+    slice-aggregate-read
+    read-requires
+    enum-known-nodes
+    mul-end
+    array-share-prefix-table
+    slice-aggregate-put-analysis
+    put-analysis-requires
+    enum-known-rejection
+    put-refused-requires
+    same-length
+    returns
+    same-length-2
+    returns-2)
