@@ -1,20 +1,33 @@
 -- Demand 1, sentence by sentence. "each public entry takes whatever bytes it is lent, stays inside them, finishes": the
 -- public entries have no `requires`, and Rattle proves of each that it stays inside what it is lent and ends.
-use Prim.Native.Nat.{ℕ, _≤_}
+use Prim.Native.Nat.{ℕ, _≤_, _<_}
 use native.Mathlib.Omega.{arith}
 use mathlib.Core.Path.{_≡_, refl, sym, ap, _∙_}
+use mathlib.Core.Logic.{_⊎_}
+use mathlib.Core.Bool.{true, false}
 use mathlib.Core.Option.{Option, none, some}
-use mathlib.Core.List.{List, _∷_}
-use lib.ListN.{length, replicate, length-replicate}
+use mathlib.Core.List.{List, [], _∷_}
+use lib.Dec.{leb}
+use lib.ListN.{length, getD, replicate, length-replicate}
+use Rattle.gametree.specs.declared.Side.the-variants.{Max, Min}
+use Rattle.gametree.specs.Certificate.{inBoth}
 use Rattle.frames.specs.declared.Rejection.{Rejection}
 use Rattle.frames.specs.declared.Checked.the-variants.{Rejected as RejectedFile}
-use Rattle.frames.specs.Frame.{maxNodes, frames}
-use Rattle.frames.specs.Check.{rejection}
+use Rattle.frames.specs.Frame.{maxNodes, maxDepth, frames}
+use Rattle.frames.specs.Place.{depthOf}
+use Rattle.frames.specs.Rejection.{_andThen_}
+use Rattle.frames.specs.Check.{checkNode, nodesRejection, depthsRejection, rejection}
+use Rattle.frames.specs.FirstNo.{LowestNo}
 use Rattle.frames.proofs.Asked.{answer-rejected}
 use Rattle.frames.proofs.Stated.{both-passed}
 use Rattle.frames.proofs.Acceptance.{accepted-formed}
-use Rattle.treefile.specs.Lines.{decoded}
-use Rattle.treefile.specs.File.{readRejection, readAnswer, tableAfter, written}
+use Rattle.frames.proofs.FirstNo.{then-first, lowest-no, nodes-first, depth-first}
+use Rattle.treefile.specs.Line.{isLine}
+use Rattle.treefile.specs.Lines.{linesOf, decoded}
+use Rattle.treefile.specs.File.{fileCheck3, readRejection, readAnswer, tableAfter, written}
+use Rattle.treefile.proofs.FirstLine.{line-first}
+use Rattle.verify.specs.Flags.{ruleHolds}
+use Rattle.verify.specs.Check.{check11, check12, check13}
 use Rattle.certificate.specs.Search.{check10, searchRejection}
 use Rattle.alphabeta.specs.declared.Answer.the-variants as ab-answer
 use Rattle.mtd.specs.declared.Answer.the-variants as mtd-answer
@@ -25,8 +38,8 @@ use Rattle.sss.specs.Entry.{blank}
 use Rattle.sss.specs.Outcome.{sssRejection, listAfter, sssOutcome}
 use Rattle.sss.proofs.Whole.{states-found}
 use Rattle.sss.proofs.OwnList.{own-list as same-outcome}
-use Rattle.demands.specs.Calls.{AlphaBetaCall, MtdCall, SssCall, SolveCall}
-use Rattle.demands.proofs.Views.{lengths, alphaBeta-refusal, mtd-refusal, sss-refusal}
+use Rattle.demands.specs.Calls.{lengths, AlphaBetaCall, MtdCall, SssCall, SolveCall}
+use Rattle.demands.proofs.Views.{alphaBeta-refusal, mtd-refusal, sss-refusal}
 
 -- The call `sss::solve`, which has a list of its own, is a call of SSS* that is lent so long a list, with the same
 -- answer and the same buffers: all that is said of SSS* in these files holds of it.
@@ -65,6 +78,42 @@ module _ {t : List ℕ} {r : Rejection} where
 pub first-file : (f table : List ℕ) (r : Rejection) → readAnswer f table ≡ RejectedFile r
     → readRejection f table ≡ some r
 first-file f table r e = answer-rejected (frames (decoded f)) r (readRejection f table) (sym e)
+
+-- questions in order, and to line after line or node after node: the first "no" is the first
+pub in-order : (x y : Option Rejection) (r : Rejection) → (x andThen y) ≡ some r
+    → (x ≡ some r) ⊎ ((x ≡ none) × (y ≡ some r))
+in-order x y r e = then-first x y r e
+
+-- 3, of a file
+pub lowest-line : (f : List ℕ) (r : Rejection) → fileCheck3 f ≡ some r
+    → (r .number ≡ 3) × (r .place < length (linesOf f)) × (isLine (getD (linesOf f) (r .place) []) ≡ false)
+    × ((k : ℕ) → k < r .place → isLine (getD (linesOf f) k []) ≡ true)
+lowest-line f r e = line-first f r e
+
+-- 4 to 7
+pub lowest-node : (t : List ℕ) (r : Rejection) → nodesRejection t ≡ some r
+    → (r .place < frames t) × (checkNode t (r .place) ≡ some r) × ((k : ℕ) → k < r .place → checkNode t k ≡ none)
+lowest-node t r e = nodes-first t r e
+
+-- 9
+pub lowest-deep : (t : List ℕ) (r : Rejection) → depthsRejection t ≡ some r
+    → (r .number ≡ 9) × (r .place < frames t) × (maxDepth < depthOf t (r .place))
+    × ((k : ℕ) → k < r .place → depthOf t k ≤ maxDepth)
+lowest-deep t r e = depth-first t r e
+
+-- 11
+pub lowest-flag : (t flags : List ℕ) (r : Rejection) → check11 t flags ≡ some r
+    → LowestNo (λ i. leb (getD flags i 0) inBoth) 11 (frames t) r
+lowest-flag t flags r e = lowest-no _ 11 (frames t) r e
+
+-- 12 and 13
+pub lowest-max : (t flags : List ℕ) (r : Rejection) → check12 t flags ≡ some r
+    → LowestNo (ruleHolds Max t flags) 12 (frames t) r
+lowest-max t flags r e = lowest-no _ 12 (frames t) r e
+
+pub lowest-min : (t flags : List ℕ) (r : Rejection) → check13 t flags ≡ some r
+    → LowestNo (ruleHolds Min t flags) 13 (frames t) r
+lowest-min t flags r e = lowest-no _ 13 (frames t) r e
 
 -- question 15 never gets a "no", whatever the bytes: the questions of SSS* are those of every search
 pub never-15 : (t lengths : List ℕ) → sssRejection t lengths ≡ searchRejection t lengths

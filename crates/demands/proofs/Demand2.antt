@@ -10,14 +10,16 @@ use borrow.Author.Tests.{le-leb}
 use Rattle.gametree.specs.Lists.{among}
 use Rattle.gametree.specs.Tree.{minimax}
 use Rattle.gametree.specs.Move.{rootMove}
-use Rattle.frames.specs.Frame.{frames}
+use Rattle.frames.specs.Frame.{frames, byteOf, childCount}
 use Rattle.frames.specs.Tree.{tree, valuation}
 use Rattle.frames.specs.Check.{Accepted}
 use Rattle.frames.proofs.Acceptance.{accepted-formed}
+use Rattle.frames.proofs.TreeOfTable.{leaf-score}
 use Rattle.certificate.specs.Buffer.{mark}
-use Rattle.certificate.specs.Value.{valueOf}
+use Rattle.certificate.specs.Value.{valueOf, signed}
 use Rattle.certificate.specs.Search.{marksOf, flagsOf, findings}
 use Rattle.certificate.proofs.Questions.{room-passed}
+use Rattle.certificate.proofs.Values.{value-stored}
 use Rattle.verify.specs.declared.Verdict.the-variants.{Value}
 use Rattle.verify.specs.Check.{verdict}
 use Rattle.verify.specs.Certificate.{Certificate}
@@ -32,7 +34,7 @@ use Rattle.sss.specs.Entry.{blank}
 use Rattle.sss.specs.Outcome.{sssLeaves, sssFound}
 use Rattle.sss.proofs.Whole.{found-outcome}
 use Rattle.demands.specs.Calls.{Buffers, AlphaBetaCall, MtdCall, SssCall, SolveCall}
-use Rattle.demands.specs.Calls.{Call, found, left, leaves}
+use Rattle.demands.specs.Calls.{Call, found, lent, left, leaves}
 use Rattle.demands.specs.Handed.{Room, CertifiedBy}
 use Rattle.demands.proofs.Views.{view}
 use Rattle.demands.proofs.Handed.{marks-at, flags-certify, flags-verified}
@@ -100,6 +102,15 @@ module _ (t : List ℕ) (a : Accepted t) (b : Buffers) (h : Room t b) where
 pub only-accepted : {t : List ℕ} → Call t → Accepted t
 only-accepted c = view c .accepted
 
+-- what a call gives and leaves follows from the leaves of its rule: the findings, the marks and the flags, with what
+-- the buffers held behind them
+pub gives-exactly : {t : List ℕ} (c : Call t) → found c ≡ findings (leaves c) t
+gives-exactly c = view c .results
+
+pub leaves-exactly : {t : List ℕ} (c : Call t)
+    → (left c .marks ≡ marksOf (leaves c) t (lent c .marks)) × (left c .flags ≡ flagsOf (leaves c) t (lent c .flags))
+leaves-exactly c = (view c .marks, view c .flags)
+
 -- "the minimax value"
 pub value-minimax : {t : List ℕ} (c : Call t) → found c .value ≡ valueOf (minimax (valuation t) (tree t))
 value-minimax c = ap (λ x. x .value) (view c .results)
@@ -124,3 +135,11 @@ verdict-minimax t flags z e = accepted-minimax t flags z e
 -- so the checker accepts what each search hands back, and gives the value that the search found
 pub verified : {t : List ℕ} (c : Call t) → verdict t (left c .flags) ≡ Value (found c .value)
 verified c = flags-verified c ∙ ap Value (sym (value-minimax c))
+
+-- "Guessing past the leaves was never wanted, so the value is that of the tree handed over": `tree t` is the tree that
+-- the frames of the table describe (frames/proofs/TreeOfTable.antt), and a leaf's value is the number that its bytes 4
+-- and 5 hold in two's complement
+pub leaf-value : (t : List ℕ) → Accepted t → (i : ℕ) → i < frames t → childCount t i ≡ 0
+    → byteOf t i 4 < 256 → byteOf t i 5 < 256 → valueOf (valuation t i) ≡ signed (byteOf t i 4) (byteOf t i 5)
+leaf-value t a i h e x y =
+    ap valueOf (leaf-score t i) ∙ value-stored t i x y (accepted-formed t a .scored i h e)

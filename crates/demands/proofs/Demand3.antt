@@ -1,10 +1,10 @@
 -- Demand 3, sentence by sentence, over the calls of Calls.antt; and what 01 says of the other counts and of the list.
 use Prim.Native.Nat.{ℕ, suc, _*_, _≤_, _<_}
 use mathlib.Core.Path.{_≡_, sym, ap, ap₂, _∙_, subst}
-use mathlib.Core.Bool.{Bool, cond}
+use mathlib.Core.Bool.{Bool, true, cond}
 use mathlib.Core.List.{List, _++_, map}
 use lib.ListN.{length, drop, replicate}
-use Rattle.gametree.specs.Lists.{All, Once, Subsequence, different}
+use Rattle.gametree.specs.Lists.{All, Once, Subsequence, among, different}
 use Rattle.gametree.specs.Tree.{leaves as treeLeaves}
 use Rattle.gametree.specs.AlphaBeta.{fullWindow}
 use Rattle.gametree.specs.Mtd as rule
@@ -16,6 +16,7 @@ use Rattle.gametree.proofs.Theorems.{layout-own, search-once, search-smallest, 
 use Rattle.gametree.proofs.Theorems as theory
 use Rattle.frames.specs.Frame.{frames}
 use Rattle.frames.specs.Tree.{tree, valuation}
+use Rattle.frames.specs.Formed.{WellFormed}
 use Rattle.frames.specs.Check.{Accepted}
 use Rattle.frames.specs.Shape.{SameShape}
 use Rattle.frames.proofs.Acceptance.{accepted-formed}
@@ -39,35 +40,38 @@ use Rattle.demands.proofs.Views.{view, mtd-result, sss-result}
 use Rattle.demands.proofs.Handed.{formed, proper, marks-at, marks-count, marks-reached, count-most}
 use Rattle.demands.proofs.Local.{one-tree, agreed-scores, same-findings, same-found, same-left}
 
--- a call of alpha-beta and one of any search, with one table
+-- What any of the three searches marks, Baudet's condition reaches, and a call of alpha-beta with that table marks.
+
+module _ {t : List ℕ} (c : Call t) where
+  pub reached-only : (k : ℕ) → Marked t (left c) k → among (reachedLeaves t) k ≡ true
+  reached-only = marks-reached c
+
+  pub reached-most : found c .leaves ≤ length (reachedLeaves t)
+  reached-most = rw (ap (λ x. x .leaves) (view c .results)) (count-most c)
+
 module _ {t : List ℕ} {f : Findings} (a : AlphaBetaCall t (ab-answer.Found f)) (c : Call t) where
-  marked-too : (k : ℕ) → Marked t (left c) k → Marked t (a .left) k
-  marked-too k m =
+  pub dominated : (k : ℕ) → Marked t (left c) k → Marked t (a .left) k
+  dominated k m =
       record {
         node = m .node;
-        mark = marks-at (alphaBeta a) k (m .node) ∙ ap (λ x. cond x 1 0) (marks-reached c k m);
+        mark = marks-at (alphaBeta a) k (m .node) ∙ ap (λ x. cond x 1 0) (reached-only c k m);
       }
 
-  no-more : found c .leaves ≤ f .leaves
-  no-more =
-      rw (ap (λ x. x .leaves) (view c .results), ap (λ x. x .leaves) (view (alphaBeta a) .results)) (count-most c)
+  pub no-more : found c .leaves ≤ f .leaves
+  no-more = rw (ap (λ x. x .leaves) (view (alphaBeta a) .results)) (reached-most c)
 
 -- "In every accepted tree each leaf that SSS* values is one that alpha-beta values"
 pub dominates : {t : List ℕ} {f : SssFound} {g : Findings} (s : SssCall t (sss-answer.Found f))
     (a : AlphaBetaCall t (ab-answer.Found g)) (k : ℕ) → Marked t (s .left) k → Marked t (a .left) k
-dominates s a = marked-too a (sss s)
+dominates s a = dominated a (sss s)
 
 -- "so the count in its result is at most the one in alpha-beta's"
 pub counts-less : {t : List ℕ} {f : SssFound} {g : Findings} (s : SssCall t (sss-answer.Found f))
     (a : AlphaBetaCall t (ab-answer.Found g)) → f .findings .leaves ≤ g .leaves
 counts-less s a = no-more a (sss s)
 
--- "same child order, full opening window, leftmost state first on equal merit" is in the rules: `tree`, `fullWindow`,
--- `pick`. The same holds of MTD:
-pub dominates-mtd : {t : List ℕ} {f : MtdFound} {g : Findings} (m : MtdCall t (mtd-answer.Found f))
-    (a : AlphaBetaCall t (ab-answer.Found g))
-    → ((k : ℕ) → Marked t (m .left) k → Marked t (a .left) k) × (f .findings .leaves ≤ g .leaves)
-dominates-mtd m a = (marked-too a (mtd m), no-more a (mtd m))
+-- "same child order, full opening window, leftmost state first on equal merit": so say the rules, `kidsFrom` and `tree`
+-- (frames/specs/Tree.antt), `fullWindow` (gametree/specs/AlphaBeta.antt), `pick` and `beats` (gametree/specs/Sss.antt)
 
 -- "Neither values a leaf twice": in the list of evaluated leaves no number stands twice
 pub once : {t : List ℕ} (c : Call t) → Once (leaves c)
@@ -151,9 +155,9 @@ ordered t =
     (alphaBeta-ordered (valuation t) (tree t))
 
 -- MTD and SSS* evaluate the same leaves in the same order
-pub one-order : (t : List ℕ) → Accepted t → sssLeaves t ≡ mtdLeaves t
-one-order t a =
-    let p = tree-proper t (accepted-formed t a) in
+pub one-order : (t : List ℕ) → WellFormed t → sssLeaves t ≡ mtdLeaves t
+one-order t wf =
+    let p = tree-proper t wf in
     sss-mtd (valuation t) (tree t) (p .scored) (layoutOf (tree t)) (layout-own (tree t) (p .distinct))
 
 -- MTD's passes are those of its rule, and at most one more than there are different scores among the evaluated leaves

@@ -3,7 +3,7 @@ use Prim.Native.Nat.{ℕ}
 use native.Mathlib.Omega.{arith}
 use mathlib.Core.Path.{_≡_, ap}
 use mathlib.Core.Option.{none}
-use mathlib.Core.List.{List, [], _∷_}
+use mathlib.Core.List.{List, _∷_}
 use lib.ListN.{length}
 use Rattle.gametree.specs.Searches.{Searched, byMtd}
 use Rattle.frames.specs.declared.Rejection.{Rejection}
@@ -26,14 +26,10 @@ use Rattle.sss.specs.declared.Answer.the-variants as sss-answer
 use Rattle.sss.specs.Outcome.{sssFound, sssSearch, check15, sssRejection}
 use Rattle.sss.proofs.Whole.{searched}
 use Rattle.sss.proofs.Whole.{passed as passed-rooms}
-use Rattle.demands.specs.Calls.{Buffers, AlphaBetaCall, MtdCall, SssCall}
+use Rattle.demands.specs.Calls.{Buffers, lengths, AlphaBetaCall, MtdCall, SssCall}
 use Rattle.demands.specs.Calls.{Call, alphaBeta, mtd, sss, found, lent, left, leaves}
 use Rattle.demands.specs.Handed.{Room}
 use Rattle.demands.proofs.Parts.{Result, Refusal, Apart, result-of, refusal-of}
-
--- the lengths of the buffers that question 10 asks for
-abbrev pub lengths : Buffers → List ℕ
-lengths b = length (b .marks) ∷ length (b .flags) ∷ []
 
 -- the answers of each search
 ab-apart : Apart ab-answer.Found ab-answer.Rejected

@@ -1,7 +1,8 @@
 -- The calls of the searches: what each is lent, what it answers, and what it leaves, as its contract says.
 use Prim.Native.Nat.{ℕ}
 use mathlib.Core.Path.{_≡_}
-use mathlib.Core.List.{List}
+use mathlib.Core.List.{List, [], _∷_}
+use lib.ListN.{length}
 use Rattle.certificate.specs.declared.Findings.{Findings}
 use Rattle.certificate.specs.Search.{Outcome}
 use Rattle.alphabeta.specs.declared.Answer.{Answer as AlphaBetaAnswer}
@@ -21,6 +22,10 @@ use Rattle.sss.specs.Outcome.{sssLeaves, sssOutcome, solveOutcome}
 pub record Buffers : Type 0 where
   pub marks : List ℕ
   pub flags : List ℕ
+
+-- their lengths, of which question 10 asks
+abbrev pub lengths : Buffers → List ℕ
+lengths b = length (b .marks) ∷ length (b .flags) ∷ []
 
 -- what a contract says of an answer and of the buffers that are left
 abbrev pub outcomeOf : {A : Type 0} → A → Buffers → Outcome A

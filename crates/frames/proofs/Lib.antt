@@ -13,4 +13,6 @@ pub mod Stated
 pub mod Asked
 pub mod Levels
 pub mod Acceptance
+pub mod TreeOfTable
+pub mod FirstNo
 pub mod Cases

@@ -8,4 +8,5 @@ pub mod Rejection
 pub mod Check
 pub mod Shape
 pub mod Stated
+pub mod FirstNo
 pub mod Cases

@@ -8,4 +8,5 @@ mod Decoding
 mod Counts
 mod Reading
 pub mod Acceptance
+pub mod FirstLine
 pub mod Cases
