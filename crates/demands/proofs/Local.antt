@@ -10,7 +10,7 @@ use Rattle.gametree.specs.Lists.{All, among}
 use Rattle.gametree.specs.Tree.{minimax, Proper}
 use Rattle.gametree.specs.Certificate.{flag}
 use Rattle.gametree.specs.Move.{rootMove}
-use Rattle.gametree.specs.Searches.{SameResults}
+use Rattle.gametree.proofs.Searches.{SameResults}
 use Rattle.gametree.proofs.Lists.{all-among, all-zip}
 use Rattle.gametree.proofs.Theorems.{local-results}
 use Rattle.frames.specs.Frame.{frames}
