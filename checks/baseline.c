@@ -428,22 +428,20 @@ struct answer c_verify(const uint8_t *table, size_t length, const uint8_t *flags
 
 /* ---- the program's text */
 
-struct answer c_report(const uint8_t *file, size_t length, uint8_t *text, size_t room) {
+struct text c_report(const uint8_t *file, size_t length) {
     uint8_t table[TABLE_BYTES], marks[NODES], proof[NODES];
-    char line[TEXT_BYTES];
-    int size;
-    if (room < TEXT_BYTES) return no(10, 0);
+    struct text text = { { 0 }, 0 };
+    char *bytes = (char *)text.bytes;
     struct answer r = c_read(file, length, table, sizeof table);
     if (r.refused) {
-        size = snprintf(line, sizeof line, "refused %d %zu\n", r.refused, r.place);
-        memcpy(text, line, size);
-        return (struct answer){ .count = size };
+        text.length = snprintf(bytes, TEXT_BYTES, "refused %d %zu\n", r.refused, r.place);
+        return text;
     }
     struct answer a = c_alphabeta(table, FRAME * r.count, marks, sizeof marks, proof, sizeof proof);
     struct answer m = c_mtd(table, FRAME * r.count, marks, sizeof marks, proof, sizeof proof);
     struct answer s = c_sss(table, FRAME * r.count, marks, sizeof marks, proof, sizeof proof);
-    size = snprintf(line, sizeof line, "method value move leaves\nab %d %zu %zu\nmtd %d %zu %zu\nsss %d %zu %zu\n",
-                    a.value, a.root_move, a.leaves, m.value, m.root_move, m.leaves, s.value, s.root_move, s.leaves);
-    memcpy(text, line, size);
-    return (struct answer){ .count = size };
+    text.length =
+        snprintf(bytes, TEXT_BYTES, "method value move leaves\nab %d %zu %zu\nmtd %d %zu %zu\nsss %d %zu %zu\n",
+                 a.value, a.root_move, a.leaves, m.value, m.root_move, m.leaves, s.value, s.root_move, s.leaves);
+    return text;
 }

@@ -12,22 +12,30 @@ struct answer {
     uint8_t refused;
     int16_t value;
     size_t place;
-    size_t count; /* nodes, or bytes of text */
+    size_t count; /* nodes */
     size_t root_move;
     size_t leaves;
     size_t steps; /* passes of MTD, replacements of SSS* */
 };
 
-typedef struct answer read_call(const uint8_t *file, size_t length, uint8_t *out, size_t room);
+/* The program's text, and zeros behind it. */
+struct text {
+    uint8_t bytes[TEXT_BYTES];
+    size_t length;
+};
+
+typedef struct answer read_call(const uint8_t *file, size_t length, uint8_t *table, size_t room);
 typedef struct answer check_call(const uint8_t *table, size_t length);
 typedef struct answer search_call(const uint8_t *table, size_t length, uint8_t *marks, size_t marks_room,
                                   uint8_t *proof, size_t proof_room);
 typedef struct answer verify_call(const uint8_t *table, size_t length, const uint8_t *flags, size_t flags_room);
+typedef struct text report_call(const uint8_t *file, size_t length);
 
 /* c_sss keeps its list by node number with a front of greatest merits, c_sss_list is the textbook's list, scanned at
-   each step; c_report writes the program's text. */
-read_call c_read, c_report;
+   each step. */
+read_call c_read;
 check_call c_check;
 search_call c_alphabeta, c_mtd, c_sss, c_sss_list;
 verify_call c_verify;
+report_call c_report;
 #endif

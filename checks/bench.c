@@ -13,10 +13,11 @@
 #include <time.h>
 #include <valgrind/callgrind.h>
 
-read_call rattle_read, rattle_report;
+read_call rattle_read;
 check_call rattle_check;
 search_call rattle_alphabeta, rattle_mtd, rattle_sss;
 verify_call rattle_verify;
+report_call rattle_report;
 
 enum call { READ, CHECK, ALPHABETA, MTD, SSS, VERIFY, REPORT, CALLS };
 
@@ -28,7 +29,7 @@ static const struct side {
     check_call *check;
     search_call *searches[3];
     verify_call *verify;
-    read_call *report;
+    report_call *report;
 } sides[] = {
     { "rattle", rattle_read, rattle_check, { rattle_alphabeta, rattle_mtd, rattle_sss }, rattle_verify, rattle_report },
     { "c", c_read, c_check, { c_alphabeta, c_mtd, c_sss }, c_verify, c_report },
@@ -41,14 +42,17 @@ enum { SIDES = sizeof sides / sizeof *sides, FILLED = 170, LEAST_RUNS = 20, LONG
 /* What a call is given, and what it may write. */
 static uint8_t file[FILE_BYTES], table[TABLE_BYTES], flags[NODES];
 static size_t file_length, nodes;
-static struct lent { uint8_t table[TABLE_BYTES], marks[NODES], proof[NODES], text[TEXT_BYTES]; } lent[2];
+static struct lent {
+    uint8_t table[TABLE_BYTES], marks[NODES], proof[NODES];
+    struct text text; /* not lent: what comes back */
+} lent[2];
 
 static struct answer perform(const struct side *s, enum call call, struct lent *l) {
     switch (call) {
     case READ: return s->read(file, file_length, l->table, sizeof l->table);
     case CHECK: return s->check(table, FRAME * nodes);
     case VERIFY: return s->verify(table, FRAME * nodes, flags, nodes);
-    case REPORT: return s->report(file, file_length, l->text, sizeof l->text);
+    case REPORT: l->text = s->report(file, file_length); return (struct answer){ 0 };
     default: return s->searches[call - ALPHABETA](table, FRAME * nodes, l->marks, NODES, l->proof, NODES);
     }
 }

@@ -19,12 +19,16 @@ import library
 import oracle as o
 import selfcheck
 
-FILLED, GUARD, TEXT = 170, 64, 256
+FILLED, GUARD, TEXT_SIZE = 170, 64, 256
 
 
 class Answer(ctypes.Structure):
     _fields_ = [("refused", ctypes.c_uint8), ("value", ctypes.c_int16)] + [
         (name, ctypes.c_size_t) for name in ("place", "count", "root_move", "leaves", "steps")]
+
+
+class Text(ctypes.Structure):
+    _fields_ = [("bytes", ctypes.c_uint8 * TEXT_SIZE), ("length", ctypes.c_size_t)]
 
 
 def libraries():
@@ -46,13 +50,16 @@ def call(side, name, *buffers):
     """The answer, and what the buffers hold afterwards; the guards must be as they were."""
     lib, prefix = side
     function = getattr(lib, prefix + name)
-    function.restype = Answer
+    function.restype = Text if name == "report" else Answer
     lent = [lend(bytes(data)) for data in buffers]
     got = function(*itertools.chain.from_iterable(words for _, words in lent))
     for room, _ in lent:
         if set(room[:GUARD] + room[-GUARD:]) != {FILLED}:
             return "%s wrote outside its memory" % name
-    return tuple(getattr(got, field) for field, _ in Answer._fields_), [bytes(room[GUARD:-GUARD]) for room, _ in lent]
+    left = [bytes(room[GUARD:-GUARD]) for room, _ in lent]
+    if name == "report":
+        return (bytes(got.bytes), got.length), left
+    return tuple(getattr(got, field) for field, _ in Answer._fields_), left
 
 
 def flat(answer, **fields):
@@ -88,16 +95,12 @@ def checked(table):
     yield "check", (table,), flat(r, count=r), (table,)
 
 
-def reports(file, room, text):
+def reports(file, room):
     lent = filled(room)
     r = o.read_file(file, lent)
     yield "read", (file, filled(room)), flat(r, count=r), (file, lent)
-    printed = o.report(file)
-    r = o.Refusal(10, 0) if text < TEXT else len(printed)
-    lent = filled(text)
-    if text >= TEXT:
-        lent[:r] = printed
-    yield "report", (file, filled(text)), flat(r, count=r), (file, lent)
+    text = o.report(file)
+    yield "report", (file,), (text.ljust(TEXT_SIZE, b"\0"), len(text)), (file,)
 
 
 def small_trees():
@@ -130,7 +133,7 @@ def random_calls(rng):
     yield from verified(table, bytes(rng.choice((0, 1, 2, 3)) for _ in range(size())))
     file = fuzz.damaged(rng, 60)[1] if kind < 3 else fuzz.as_file(rng, table)
     room = rng.choice((6 * n, 6 * n, 6 * n + 7, 6 * n - 1, 0, o.MAX_TABLE))
-    yield from reports(file, room, rng.choice((TEXT, TEXT, 300, 255, 0)))
+    yield from reports(file, room)
 
 
 def main():
