@@ -1,0 +1,8 @@
+-- The steps of a walk by hand.
+pub mod Values
+pub mod Rows
+pub mod Loans
+pub mod Arrays
+pub mod Calls
+pub mod Locals
+pub mod Leaving
