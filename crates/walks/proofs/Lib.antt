@@ -6,3 +6,5 @@ pub mod Arrays
 pub mod Calls
 pub mod Locals
 pub mod Leaving
+pub mod Parameters
+pub mod Walk

@@ -1,1 +1,2 @@
-// Steps of proofs by hand, of functions that hold slices of structs: proofs/ has them, and they say nothing of what a caller computes. The crate has no code.
+// Steps of proofs by hand, of functions that hold slices of structs: proofs/ has them, and they say nothing of what a
+// caller computes. The crate has no code.
