@@ -15,7 +15,7 @@ use Rattle.gametree.specs.Mtd.{memoHigh, memoHighKids}
 use Rattle.gametree.specs.MemoArrays.{Bits, readMemo, readMemoKids}
 use Rattle.certificate.specs.Buffer.{marked, markAll}
 use Rattle.certificate.proofs.Buffers.{markAll-append}
-use Rattle.mtd.specs.Memory.{Memory, Room, Evaluated}
+use Rattle.mtd.specs.engine.Memory.{Memory, MemoryRoom, Evaluated}
 
 -- what stands there already is stored
 pub set-same : (l : List ℕ) (i v : ℕ) → getD l i 0 ≡ v → set l i v ≡ l
@@ -53,24 +53,24 @@ mutual
 pub record Long (m m′ : Memory) : Type 0 where
   pub evaluated : length (m′ .evaluated) ≡ length (m .evaluated)
   pub highs : length (m′ .highs) ≡ length (m .highs)
-  pub found : length (m′ .found) ≡ length (m .found)
+  pub notBelow : length (m′ .notBelow) ≡ length (m .notBelow)
 
 -- so there is room in them as before
-pub room-kept : {n : ℕ} {m m′ : Memory} → Room n m → Long m m′ → Room n m′
+pub room-kept : {n : ℕ} {m m′ : Memory} → MemoryRoom n m → Long m m′ → MemoryRoom n m′
 room-kept r l =
     record {
       evaluated = omega (arith, r .evaluated, l .evaluated);
       highs = omega (arith, r .highs, l .highs);
-      found = omega (arith, r .found, l .found);
+      notBelow = omega (arith, r .notBelow, l .notBelow);
     }
 
 -- and room for one of the nodes
-pub room-at : {n i : ℕ} {m : Memory} → Room n m → i < n → Room (suc i) m
+pub room-at : {n i : ℕ} {m : Memory} → MemoryRoom n m → i < n → MemoryRoom (suc i) m
 room-at r h =
     record {
       evaluated = omega (arith, r .evaluated);
       highs = omega (arith, r .highs);
-      found = omega (arith, r .found);
+      notBelow = omega (arith, r .notBelow);
     }
 
 -- nothing was evaluated

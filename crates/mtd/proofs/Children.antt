@@ -16,7 +16,7 @@ use Rattle.gametree.proofs.MemoArrays.{rest-same, visit-ended, visit-joined}
 use Rattle.frames.specs.Tree.{kidsFrom, valuation}
 use Rattle.certificate.specs.Buffer.{marked}
 use Rattle.mtd.specs.declared.Tried.{Tried}
-use Rattle.mtd.specs.Memory.{Memory, passOf, Evaluated, Passed}
+use Rattle.mtd.specs.engine.Memory.{Memory, passOf, Evaluated, Passed}
 use Rattle.mtd.proofs.Arrays.{evaluated-none, evaluated-more}
 
 mutual
@@ -52,7 +52,7 @@ mutual
 
 -- what the arrays remember of the children of a node
 abbrev pub memoKidsOf : Memory → (ks : Kids) → MemoKids ks
-memoKidsOf m ks = readMemoKids (marked (m .evaluated)) (marked (m .found)) ks
+memoKidsOf m ks = readMemoKids (marked (m .evaluated)) (marked (m .notBelow)) ks
 
 -- the pass over the children of a node
 abbrev pub passKidsOf : List ℕ → ℕ → Side → Memory → (ks : Kids) → PassKids ks
@@ -61,8 +61,8 @@ passKidsOf t γ s m ks = passKids (valuation t) γ s ks (memoKidsOf m ks)
 -- the arrays after a visit of the children hold the memory after the pass over them
 abbrev pub Remembers : List ℕ → ℕ → Side → Kids → Memory → Memory → Type 0
 Remembers t γ s ks m m′ =
-    VisitedKids (valuation t) γ s ks (marked (m .evaluated)) (marked (m .found)) (marked (m′ .evaluated))
-    (marked (m′ .found))
+    VisitedKids (valuation t) γ s ks (marked (m .evaluated)) (marked (m .notBelow)) (marked (m′ .evaluated))
+    (marked (m′ .notBelow))
 
 -- what a visit of the children of a node does
 pub record PassedKids (t : List ℕ) (γ : ℕ) (s : Side) (ks : Kids) (m m′ : Memory) (b : Bool) (n : ℕ) : Type 0 where
@@ -117,12 +117,12 @@ module _ {t : List ℕ} {γ : ℕ} {s : Side} {ks : Kids} {m m′ m″ : Memory}
         let on : passKidsOf t γ s m′ (T then ts) ≡ joined T ts (passOf t γ m′ T) (passKidsOf t γ s m′ ts) = rw e in
         let same = ap (λ x. passKids (valuation t) γ s ts x)
         (sym (rest-same (valuation t) γ s T ts d _ _ _ _ (p .memo))) in
+        let next : passKidsOf t γ s m′ (T then ts) .evaluated ≡ w ++ passKidsOf t γ s m″ ts .evaluated =
+        _∙_ {c = w ++ passKidsOf t γ s m″ ts .evaluated} (ap (λ q. q .evaluated) on) (ap (λ q. w ++ q .evaluated) same) in
         record {
           done = o .done ++ w;
           so-far = evaluated-more (o .so-far) (p .evaluated);
-          evaluated =
-              o .evaluated ∙ ap (λ q. o .done ++ q .evaluated) on ∙ ap (λ q. o .done ++ (w ++ q .evaluated)) same
-              ∙ sym (append-assoc (o .done) w _);
+          evaluated = o .evaluated ∙ ap (λ l. o .done ++ l) next ∙ sym (append-assoc (o .done) w _);
           answer = o .answer ∙ ap (λ q. q .notBelow) on ∙ ap (λ q. q .notBelow) same;
           memo = λ m‴ v. o .memo m‴ (visit-joined (valuation t) γ s T ts d _ _ _ _ (p .memo) _ _ e v);
         }

@@ -20,13 +20,13 @@ use Rattle.frames.specs.Tree.{treeAt, valuation}
 use Rattle.certificate.specs.Buffer.{marked, markAll}
 use Rattle.certificate.proofs.Buffers.{marked-other}
 use Rattle.mtd.specs.declared.Tried.{Tried}
-use Rattle.mtd.specs.Memory.{Memory, memory, memoOf, passOf, Room, HighsRight, Evaluated, Passed}
+use Rattle.mtd.specs.engine.Memory.{Memory, memory, memoOf, passOf, MemoryRoom, HighsRight, Evaluated, Passed}
 use Rattle.mtd.proofs.Arrays.{set-same, marked-same, read-high, evaluated-none}
 use Rattle.mtd.proofs.Children.{passKidsOf, PassedKids}
 
 -- a leaf that was tried: evaluated now, if it was not before, and compared with the test
 module _ (t : List ℕ) (i γ : ℕ) (m : Memory) (r : Tried) (is-leaf : treeAt t i ≡ leaf i)
-    (room : Room (suc i) m) (a : r .answer ≡ leb γ (valuation t i))
+    (room : MemoryRoom (suc i) m) (a : r .answer ≡ leb γ (valuation t i))
     (n : r .leaves ≡ cond (marked (m .evaluated) i) 0 1) where
   -- its mark is 1 now
   leaf-marked : marked (set (m .evaluated) i 1) i ≡ true
@@ -54,7 +54,7 @@ module _ (t : List ℕ) (i γ : ℕ) (m : Memory) (r : Tried) (is-leaf : treeAt 
       })
 
   pub leaf-passed : Passed t (leaf i) γ m
-      (memory (set (m .evaluated) i 1) (set (m .highs) i (valuation t i)) (m .found)) r
+      (memory (set (m .evaluated) i 1) (set (m .highs) i (valuation t i)) (m .notBelow)) r
   leaf-passed =
       record {
         answer = leaf-done .answer;
@@ -95,13 +95,13 @@ module _ (t : List ℕ) (i γ : ℕ) (m : Memory) (s : Side) (ks : Kids) (is-inn
   below-passed r n a h =
       stay-passed t (inner i s ks) γ m r n (rw (a, lt-ltb _ _ (rw stored at h))) right
 
-  pub found-passed : (r : Tried) → r .leaves ≡ 0 → r .answer ≡ true → γ ≤ getD (m .highs) i 0
-      → marked (m .found) i ≡ true → Passed t (inner i s ks) γ m m r
-  found-passed r n a h f =
+  pub not-below-passed : (r : Tried) → r .leaves ≡ 0 → r .answer ≡ true → γ ≤ getD (m .highs) i 0
+      → marked (m .notBelow) i ≡ true → Passed t (inner i s ks) γ m m r
+  not-below-passed r n a h f =
       stay-passed t (inner i s ks) γ m r n (rw (a, le-ltb _ _ (rw stored at h), f)) right
 
-  module _ (m′ : Memory) (r : Tried) (v : ℕ) (h : γ ≤ getD (m .highs) i 0) (f : marked (m .found) i ≡ false)
-      (room : Room (suc i) m′) (apart : InKids i ks → ⊥) (q : PassedKids t γ s ks m m′ (r .answer) (r .leaves))
+  module _ (m′ : Memory) (r : Tried) (v : ℕ) (h : γ ≤ getD (m .highs) i 0) (f : marked (m .notBelow) i ≡ false)
+      (room : MemoryRoom (suc i) m′) (apart : InKids i ks → ⊥) (q : PassedKids t γ s ks m m′ (r .answer) (r .leaves))
       (kids-right : (k : ℕ) → InKids k ks
       → getD (m′ .highs) k 0 ≡ high (valuation t) (marked (m′ .evaluated)) (treeAt t k))
       (others : (k : ℕ) → (InKids k ks → ⊥) → getD (m′ .highs) k 0 ≡ getD (m .highs) k 0)
@@ -113,10 +113,10 @@ module _ (t : List ℕ) (i γ : ℕ) (m : Memory) (s : Side) (ks : Kids) (is-inn
     not-own p x e = apart (subst (λ k. InKids k ks) e x)
 
     pub entered-passed : Passed t (inner i s ks) γ m
-        (memory (m′ .evaluated) (set (m′ .highs) i v) (set (m′ .found) i (cond (r .answer) 1 0))) r
+        (memory (m′ .evaluated) (set (m′ .highs) i v) (set (m′ .notBelow) i (cond (r .answer) 1 0))) r
     entered-passed =
-        let own = marked-same (m′ .found) i (r .answer) (omega (arith, room .found)) in
-        let flags = readMemoKids-same _ _ _ _ ks (λ p x. (refl, marked-other (m′ .found) i p _ (not-own p x))) in
+        let own = marked-same (m′ .notBelow) i (r .answer) (omega (arith, room .notBelow)) in
+        let flags = readMemoKids-same _ _ _ _ ks (λ p x. (refl, marked-other (m′ .notBelow) i p _ (not-own p x))) in
         record {
           answer = q .answer ∙ ap (λ x. x .notBelow) (sym enters);
           evaluated =
@@ -130,7 +130,7 @@ module _ (t : List ℕ) (i γ : ℕ) (m : Memory) (s : Side) (ks : Kids) (is-inn
                     ∙ ap (λ x. x .next) (sym enters);
                 elsewhere = λ p x. (
                   q .memo .elsewhere p (λ y. x (inr y)) .0,
-                  marked-other (m′ .found) i p _ (λ e. x (inl e)) ∙ q .memo .elsewhere p (λ y. x (inr y)) .1,
+                  marked-other (m′ .notBelow) i p _ (λ e. x (inl e)) ∙ q .memo .elsewhere p (λ y. x (inr y)) .1,
                 );
               };
           right = λ k x.

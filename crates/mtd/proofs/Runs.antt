@@ -27,7 +27,8 @@ use Rattle.frames.proofs.Totals.{tree-size}
 use Rattle.frames.proofs.Proper.{tree-proper}
 use Rattle.certificate.specs.Buffer.{marked, markAll}
 use Rattle.mtd.specs.declared.Tried.{Tried}
-use Rattle.mtd.specs.Memory.{Memory, memoOf, passOf, Room, HighsRight, Ready, Evaluated, Passed, Fresh, settledOf}
+use Rattle.mtd.specs.engine.Memory.{Memory, memoOf, passOf, MemoryRoom, HighsRight, VisitReady, Evaluated}
+use Rattle.mtd.specs.engine.Memory.{Passed, Fresh, settledOf}
 use Rattle.mtd.proofs.Arrays.{read-high, Long, room-kept, evaluated-none, evaluated-more}
 
 mutual
@@ -90,17 +91,17 @@ pub record Passing (t : List ℕ) (q : Run (tree t)) (m m′ : Memory) (test lea
 passing-from : (t : List ℕ) (m : Memory) → Fresh t m → (f : ℕ) → greatest ≤ f
     → Passing t (run (valuation t) (suc f) greatest (tree t) (fresh (tree t))) m m greatest 0 0
 passing-from t m h f l =
-    let bits : (p : ℕ) → p < frames t → (marked (m .evaluated) p ≡ false) × (marked (m .found) p ≡ false) =
-    λ p x. (h .evaluated p x, h .found p x) in
+    let bits : (p : ℕ) → p < frames t → (marked (m .evaluated) p ≡ false) × (marked (m .notBelow) p ≡ false) =
+    λ p x. (h .evaluated p x, h .notBelow p x) in
     let inside = tree-range t (h .formed) in
     let start = read-fresh _ _ (tree t) (λ p i. bits p (inside 0 (h .formed .some) p i .1)) in
     record {
-      long = record { evaluated = refl; highs = refl; found = refl };
+      long = record { evaluated = refl; highs = refl; notBelow = refl };
       right = λ k i.
           let own = inside 0 (h .formed .some) k i .1 in
           let at-start = read-fresh _ _ (treeAt t k) (λ p j. bits p (inside k own p j .1)) in
           h .highs k own
-          ∙ sym (sym (read-high (valuation t) (marked (m .evaluated)) (marked (m .found)) (treeAt t k))
+          ∙ sym (sym (read-high (valuation t) (marked (m .evaluated)) (marked (m .notBelow)) (treeAt t k))
           ∙ ap (memoHigh (valuation t) (treeAt t k)) at-start ∙ fresh-memoHigh (valuation t) (treeAt t k));
       kept = subst (Kept (valuation t) greatest (tree t)) (sym start) (fresh-kept (valuation t) greatest (tree t));
       few = omega arith;
@@ -145,7 +146,7 @@ run-first ν f γ T m =
 module _ {t : List ℕ} {q : Run (tree t)} {m m′ : Memory} {test leaves passes : ℕ} (wf : WellFormed t)
     (u : Passing t q m m′ test leaves passes) where
   -- what the next pass asks
-  pub passing-ready : Room (frames t) m → Ready t m′ 0 rootPlace
+  pub passing-ready : MemoryRoom (frames t) m → VisitReady t m′ 0 rootPlace
   passing-ready room =
       record {
         formed = wf;
@@ -179,7 +180,7 @@ module _ {t : List ℕ} {q : Run (tree t)} {m m′ : Memory} {test leaves passes
         let all = subst (Evaluated (m .evaluated) (m″ .evaluated) (leaves + r .leaves)) (sym w)
         (evaluated-more (u .so-far) (p .evaluated)) in
         let n = all .leaves in
-        let k : passes + 1 ≡ q .passes = sym (u .passed ∙ ap (λ x. passes + x .passes) is) in
+        let k : passes + 1 ≡ q .passes = omega (arith, u .passed, ap (λ x. x .passes) is) in
         (cc, all .marks)
 
     -- another pass: the next test is the root's high
@@ -189,7 +190,7 @@ module _ {t : List ℕ} {q : Run (tree t)} {m m′ : Memory} {test leaves passes
 
       next-high : getD (m″ .highs) 0 0 ≡ memoHigh (valuation t) (tree t) (passOf t test m′ (tree t) .next)
       next-high =
-          p .right 0 (in-own t wf 0) ∙ sym (read-high (valuation t) _ (marked (m″ .found)) (tree t))
+          p .right 0 (in-own t wf 0) ∙ sym (read-high (valuation t) _ (marked (m″ .notBelow)) (tree t))
           ∙ ap (memoHigh (valuation t) (tree t)) (p .memo .got)
 
       pub next-falls : getD (m″ .highs) 0 0 < test

@@ -23,7 +23,7 @@ use Rattle.frames.proofs.Places.{place-child}
 use Rattle.frames.proofs.Trees.{in-kids, kids-in, kid-size, tree-inner}
 use Rattle.frames.proofs.Nodes.{in-parent, in-trans, children-apart}
 use Rattle.mtd.specs.declared.Tried.{Tried}
-use Rattle.mtd.specs.Memory.{Memory, HighsRight, Ready, Passed}
+use Rattle.mtd.specs.engine.Memory.{Memory, HighsRight, VisitReady, Passed}
 use Rattle.mtd.proofs.Arrays.{high-local, Long, room-kept}
 use Rattle.mtd.proofs.Children.{PassedKids, Owes, owes-all, owes-last, owes-settled, owes-rest, owes-few}
 
@@ -88,13 +88,13 @@ module _ {t : List ℕ} {i first end : ℕ} (family : Family t i first end) wher
       omega (arith, children-within t wf i inside (omega (arith, family .to)), family .from, family .to)
 
   -- before the first child
-  pub turn-first : {γ : ℕ} {m : Memory} {p : Place} → Ready t m i p → first < end
+  pub turn-first : {γ : ℕ} {m : Memory} {p : Place} → VisitReady t m i p → first < end
       → Turn t (p .side) γ first end m m 0 first
   turn-first {γ} {m} {p} ready some =
       record {
         from = omega arith;
         to = some;
-        long = record { evaluated = refl; highs = refl; found = refl };
+        long = record { evaluated = refl; highs = refl; notBelow = refl };
         owes = owes-all t γ (p .side) (kidsUpTo t first end) m;
         highs =
             record {
@@ -109,8 +109,8 @@ module _ {t : List ℕ} {i first end : ℕ} (family : Family t i first end) wher
   turn-child u = child _ (u .from) (u .to)
 
   -- what the visit of the next child asks
-  pub turn-ready : {s : Side} {γ : ℕ} {m m′ : Memory} {leaves now : ℕ} {p q : Place} → Ready t m i p
-      → Turn t s γ first end m m′ leaves now → q ≡ childPlace t now p → Ready t m′ now q
+  pub turn-ready : {s : Side} {γ : ℕ} {m m′ : Memory} {leaves now : ℕ} {p q : Place} → VisitReady t m i p
+      → Turn t s γ first end m m′ leaves now → q ≡ childPlace t now p → VisitReady t m′ now q
   turn-ready {s} {γ} {m} {m′} {leaves} {now} {p} {q} r u e =
       let c = turn-child u in
       let n = end - (first + 1) in

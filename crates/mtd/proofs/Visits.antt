@@ -1,4 +1,4 @@
--- Visits of the table's nodes, in the terms of the code: a leaf, and each way out of an inner node.
+-- Visits of the table's nodes, in the terms of the code: a look at a node, a leaf, and each way out of an inner node.
 use Prim.Native.Nat.{ℕ, _+_, _-_, _≤_, _<_}
 use native.Mathlib.Omega.{arith}
 use mathlib.Core.Path.{_≡_, sym, ap, _∙_, subst}
@@ -18,10 +18,13 @@ use Rattle.frames.proofs.Nodes.{in-own, tree-distinct}
 use Rattle.certificate.specs.Buffer.{marked}
 use Rattle.certificate.specs.Ranges.{bestIn}
 use Rattle.certificate.proofs.Bounds.{best-same, minimax-best}
+use Rattle.mtd.specs.declared.Seen.{Seen}
+use Rattle.mtd.specs.declared.Seen.the-variants.{Answered, Open}
 use Rattle.mtd.specs.declared.Tried.{Tried}
-use Rattle.mtd.specs.Memory.{Memory, memory, Room, HighsRight, Ready, Passed}
+use Rattle.mtd.specs.engine.Memory.{Memory, memory, MemoryRoom, HighsRight, VisitReady, Enterable, Passed}
+use Rattle.mtd.specs.engine.Memory.{Looked}
 use Rattle.mtd.proofs.Arrays.{room-at}
-use Rattle.mtd.proofs.Passes.{leaf-passed, below-passed, found-passed, entered-passed}
+use Rattle.mtd.proofs.Passes.{leaf-passed, below-passed, not-below-passed, entered-passed}
 use Rattle.mtd.proofs.Turns.{kidsUpTo, Left, Family, tree-kids}
 
 -- a visit of the same tree
@@ -29,8 +32,37 @@ passed-at : {t : List ℕ} {T U : Tree} {γ : ℕ} {m m′ : Memory} {r : Tried}
     → Passed t U γ m m′ r
 passed-at {t} {T} {U} {γ} {m} {m′} {r} e p = subst (λ T. Passed t T γ m m′ r) (sym e) p
 
+-- what a look at node i gives, by what it saw
+module _ (t : List ℕ) (i γ : ℕ) (m m′ : Memory) (s : Seen) where
+  -- a node that was not entered
+  pub looked-answer : (r : Tried) → s ≡ Answered r → Passed t (treeAt t i) γ m m′ r → Looked t i γ m m′ s
+  looked-answer r e p = subst (Looked t i γ m m′) (sym e) p
+
+  module _ (l : Looked t i γ m m′ s) where
+    -- the node was answered
+    pub looked-passed : (r : Tried) → s ≡ Answered r → Passed t (treeAt t i) γ m m′ r
+    looked-passed r e = subst (Looked t i γ m m′) e l
+
+    -- the node is open, and ready to be entered
+    module _ (e : s ≡ Open) where
+      open-known : (m′ ≡ m) × Enterable t m i γ
+      open-known = subst (Looked t i γ m m′) e l
+
+      pub open-ready : {p : Place} → VisitReady t m i p → VisitReady t m′ i p × Enterable t m′ i γ
+      open-ready {p} ready =
+          let k = open-known in
+          (subst (λ x. VisitReady t x i p) (sym (k .0)) ready, subst (λ x. Enterable t x i γ) (sym (k .0)) (k .1))
+
+      pub open-passed : {m″ : Memory} {r : Tried} → Passed t (treeAt t i) γ m′ m″ r → Passed t (treeAt t i) γ m m″ r
+      open-passed {m″} {r} p = subst (λ x. Passed t (treeAt t i) γ x m″ r) (open-known .0) p
+
+-- a visit that left the same arrays and gave the same
+pub passed-same : {t : List ℕ} {T : Tree} {γ : ℕ} {m : Memory} {e e′ h h′ f f′ : List ℕ} {r r′ : Tried}
+    → e ≡ e′ → h ≡ h′ → f ≡ f′ → r ≡ r′ → Passed t T γ m (memory e′ h′ f′) r′ → Passed t T γ m (memory e h f) r
+passed-same p q u v x = rw (p, q, u, v) x
+
 -- a node's depth is small
-pub ready-shallow : {t : List ℕ} {m : Memory} {p : Place} {i : ℕ} → Ready t m i p → p .depth ≤ maxNodes
+pub ready-shallow : {t : List ℕ} {m : Memory} {p : Place} {i : ℕ} → VisitReady t m i p → p .depth ≤ maxNodes
 ready-shallow {t} {m} {p} {i} r =
     omega (arith, depth-at-most t i, r .inside, r .formed .few, ap (λ p. p .depth) (r .placed))
 
@@ -41,17 +73,17 @@ module _ (t : List ℕ) (wf : WellFormed t) (i : ℕ) (inside : i < frames t) (n
   leaf-known right e = right i (in-own t wf i) ∙ rw (tree-leaf t wf i inside none, e)
 
   -- it is tried: evaluated, if it was not before, and compared with the test
-  pub visit-leaf : (γ : ℕ) (e h : List ℕ) (r : Tried) → Room (frames t) m
+  pub visit-leaf : (γ : ℕ) (e h : List ℕ) (r : Tried) → MemoryRoom (frames t) m
       → e ≡ set (m .evaluated) i 1 → h ≡ set (m .highs) i (valuation t i)
       → r .answer ≡ leb γ (valuation t i) → r .leaves ≡ cond (marked (m .evaluated) i) 0 1
-      → Passed t (treeAt t i) γ m (memory e h (m .found)) r
+      → Passed t (treeAt t i) γ m (memory e h (m .notBelow)) r
   visit-leaf γ e h r room p q a l =
       let is-leaf = tree-leaf t wf i inside none in
       rw (p, q) (passed-at is-leaf (leaf-passed t i γ m r is-leaf (room-at room inside) a l))
 
 -- an inner node
-module _ {t : List ℕ} {i first end : ℕ} (family : Family t i first end) {m : Memory} {p : Place} (ready : Ready t m i p)
-    (some : first < end) where
+module _ {t : List ℕ} {i first end : ℕ} (family : Family t i first end) {m : Memory} {p : Place}
+    (ready : VisitReady t m i p) (some : first < end) where
   node-inner : treeAt t i ≡ inner i (p .side) (kidsUpTo t first end)
   node-inner = tree-kids family (p .side) (ap (λ p. p .side) (ready .placed)) some
 
@@ -64,16 +96,17 @@ module _ {t : List ℕ} {i first end : ℕ} (family : Family t i first end) {m :
   visit-below {γ} n a h = passed-at node-inner (below-passed t i γ m (p .side) _ node-inner right-inner _ n a h)
 
   -- a node that a pass found not below is not below
-  pub visit-found : {γ : ℕ} {r : Tried} → r .leaves ≡ 0 → r .answer ≡ true → γ ≤ getD (m .highs) i 0
-      → marked (m .found) i ≡ true → Passed t (treeAt t i) γ m m r
-  visit-found {γ} n a h b = passed-at node-inner (found-passed t i γ m (p .side) _ node-inner right-inner _ n a h b)
+  pub visit-not-below : {γ : ℕ} {r : Tried} → r .leaves ≡ 0 → r .answer ≡ true → γ ≤ getD (m .highs) i 0
+      → marked (m .notBelow) i ≡ true → Passed t (treeAt t i) γ m m r
+  visit-not-below {γ} n a h b =
+      passed-at node-inner (not-below-passed t i γ m (p .side) _ node-inner right-inner _ n a h b)
 
   -- any other is entered, and gets the best of its children's highs and their answer
-  pub visit-entered : {γ v : ℕ} {m′ : Memory} {r : Tried} → γ ≤ getD (m .highs) i 0 → marked (m .found) i ≡ false
-      → Room (frames t) m′ → Left t (p .side) γ first end m m′ (r .answer) (r .leaves)
+  pub visit-entered : {γ v : ℕ} {m′ : Memory} {r : Tried} → γ ≤ getD (m .highs) i 0 → marked (m .notBelow) i ≡ false
+      → MemoryRoom (frames t) m′ → Left t (p .side) γ first end m m′ (r .answer) (r .leaves)
       → v ≡ bestIn (p .side) (λ k. getD (m′ .highs) k 0) first (end - (first + 1))
       → Passed t (treeAt t i) γ m
-      (memory (m′ .evaluated) (set (m′ .highs) i v) (set (m′ .found) i (cond (r .answer) 1 0))) r
+      (memory (m′ .evaluated) (set (m′ .highs) i v) (set (m′ .notBelow) i (cond (r .answer) 1 0))) r
   visit-entered {γ} {v} {m′} {r} h b room left best =
       let wf = family .formed in
       let n = end - (first + 1) in

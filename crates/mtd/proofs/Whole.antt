@@ -23,7 +23,7 @@ use Rattle.certificate.specs.Search.{marksOf, flagsOf}
 use Rattle.certificate.proofs.Buffers.{written-at, written-length}
 use Rattle.certificate.proofs.Outcomes.{search-concludes}
 use Rattle.mtd.specs.declared.Settled.{Settled}
-use Rattle.mtd.specs.Memory.{memory, Fresh, settledOf}
+use Rattle.mtd.specs.engine.Memory.{memory, Fresh, settledOf}
 use Rattle.mtd.specs.Outcome.{mtdLeaves, mtdFound}
 
 module _ (t : List ℕ) (wf : WellFormed t) where
@@ -38,10 +38,10 @@ module _ (t : List ℕ) (wf : WellFormed t) where
             record {
               evaluated = omega (arith, written-length (λ k. 0) (frames t) e room);
               highs = omega (arith, length-replicate maxNodes greatest, wf .few);
-              found = omega (arith, length-replicate {A = ℕ} maxNodes 0, wf .few);
+              notBelow = omega (arith, length-replicate {A = ℕ} maxNodes 0, wf .few);
             };
         evaluated = λ k l. ap (λ x. eqb x 1) (written-at (λ k. 0) (frames t) k e l);
-        found = λ k l. ap (λ x. eqb x 1) (getD-replicate maxNodes k 0 0 (omega (arith, wf .few)));
+        notBelow = λ k l. ap (λ x. eqb x 1) (getD-replicate maxNodes k 0 0 (omega (arith, wf .few)));
         highs = λ k l. getD-replicate maxNodes k greatest 0 (omega (arith, wf .few));
       })
 

@@ -1,3 +1,3 @@
 -- Definitions for MTD over a table: what a search gives and hands back, and what its engine keeps.
 pub mod Outcome
-pub mod Memory
+pub mod engine

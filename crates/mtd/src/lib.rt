@@ -1,4 +1,5 @@
-// MTD over a byte table: the public search, and its engine of passes with falling tests, each asking whether the root is below its test.
+// MTD over a byte table: the public search, and its engine of passes with falling tests, each asking whether the root
+// is below its test.
 use certificate::Findings;
 use certificate::ask;
 use certificate::best;
@@ -27,9 +28,10 @@ ghost use Rattle.frames.specs.Place.{depthOf};
 ghost use Rattle.frames.specs.Tree.{treeAt, tree, valuation};
 ghost use Rattle.frames.specs.Formed.{WellFormed};
 ghost use Rattle.certificate.specs.Buffer.{marked, markAll};
+ghost use Rattle.certificate.specs.Evaluable.{Evaluable};
 ghost use Rattle.certificate.specs.Search.{marksOf, flagsOf};
 ghost use Rattle.mtd.specs.Outcome.{mtdLeaves, mtdFound, mtdOutcome};
-ghost use Rattle.mtd.specs.Memory.{memory, Fresh, Ready, Passed, settledOf};
+ghost use Rattle.mtd.specs.engine.Memory.{memory, Fresh, VisitReady, Enterable, Passed, Looked, settledOf};
 
 // What MTD finds: what every search finds, and how many passes were made.
 pub struct Found {
@@ -43,8 +45,8 @@ pub enum Answer {
     Rejected(Rejection),
 }
 
-// MTD of the whole tree: questions 1 to 10, then the value, the root move and the counts of evaluated leaves and of passes; the marks of these leaves
-// and the certificate (01: the proof) go into the buffers.
+// MTD of the whole tree: questions 1 to 10, then the value, the root move and the counts of evaluated leaves and of
+// passes; the marks of these leaves and the certificate (01: the proof) go into the buffers.
 pub fn search(table: &[u8], evaluated: &mut [u8], certificate: &mut [u8]) -> Answer
     ensures { λ r. ⌜ record { answer = r; evaluated = now (evaluated .exit); certificate = now (certificate .exit) }
         ≡ mtdOutcome (now (table .entry)) (now (evaluated .entry)) (now (certificate .entry)) ⌝ }
@@ -60,13 +62,15 @@ fn run(table: &[u8], evaluated: &mut [u8], certificate: &mut [u8]) -> Found
     requires { ⌜ WellFormed (now table) ⌝ }
     requires { ⌜ (frames (now table) ≤ length (now evaluated)) × (frames (now table) ≤ length (now certificate)) ⌝ }
     ensures { λ r. ⌜ r ≡ mtdFound (now (table .entry)) ⌝ }
-    ensures { λ _. ⌜ now (evaluated .exit) ≡ marksOf (mtdLeaves (now (table .entry))) (now (table .entry)) (now (evaluated .entry)) ⌝ }
-    ensures { λ _. ⌜ now (certificate .exit) ≡ flagsOf (mtdLeaves (now (table .entry))) (now (table .entry)) (now (certificate .entry)) ⌝ }
+    ensures { λ _. ⌜ now (evaluated .exit)
+        ≡ marksOf (mtdLeaves (now (table .entry))) (now (table .entry)) (now (evaluated .entry)) ⌝ }
+    ensures { λ _. ⌜ now (certificate .exit)
+        ≡ flagsOf (mtdLeaves (now (table .entry))) (now (table .entry)) (now (certificate .entry)) ⌝ }
 {
     clear(evaluated, frame_count(table));
     let mut highs = [GREATEST; MAX_NODES];
-    let mut found = [0u8; MAX_NODES];
-    let settled = run_passes(table, evaluated, &mut highs, &mut found);
+    let mut not_below = [0u8; MAX_NODES];
+    let settled = run_passes(table, evaluated, &mut highs, &mut not_below);
     let root_move = conclude(table, evaluated, certificate);
     let value = value(settled.score);
     Found {
@@ -79,7 +83,8 @@ fn run(table: &[u8], evaluated: &mut [u8], certificate: &mut [u8]) -> Found
     }
 }
 
-// What the passes end with: the test that the root is not below, how many leaves were evaluated, and how many passes were made.
+// What the passes end with: the test that the root is not below, how many leaves were evaluated, and how many passes
+// were made.
 struct Settled {
     score: u32,
     leaves: usize,
@@ -87,10 +92,15 @@ struct Settled {
 }
 
 // Passes from the greatest test, each with the root's high for the next test, until the root is not below.
-fn run_passes(table: &[u8], evaluated: &mut [u8], highs: &mut [u32], found: &mut [u8]) -> Settled
-    requires { ⌜ Fresh (now table) (memory (now evaluated) (now highs) (now found)) ⌝ }
+fn run_passes(
+    table: &[u8],
+    evaluated: &mut [u8],
+    highs: &mut [u32],
+    not_below: &mut [u8],
+) -> Settled
+    requires { ⌜ Fresh (now table) (memory (now evaluated) (now highs) (now «not_below»)) ⌝ }
     ensures { λ r. ⌜ r ≡ settledOf (mtd (valuation (now (table .entry))) (tree (now (table .entry)))) ⌝ }
-    ensures { λ _. ⌜ now (evaluated .exit) ≡ markAll (now (evaluated .entry)) (mtd (valuation (now (table .entry))) (tree (now (table .entry))) .evaluated) ⌝ }
+    ensures { λ _. ⌜ now (evaluated .exit) ≡ markAll (now (evaluated .entry)) (mtdLeaves (now (table .entry))) ⌝ }
 {
     let root = Place {
         depth: 0,
@@ -100,7 +110,7 @@ fn run_passes(table: &[u8], evaluated: &mut [u8], highs: &mut [u32], found: &mut
     let mut leaves = 0;
     let mut passes = 0;
     loop {
-        let tried = visit(table, evaluated, highs, found, 0, root, test);
+        let tried = visit(table, evaluated, highs, not_below, 0, root, test);
         leaves += tried.leaves;
         passes += 1;
         if tried.answer {
@@ -123,53 +133,96 @@ fn next_test(highs: &[u32]) -> u32
     highs[0]
 }
 
-// What a node that was tried gives: the answer, true where the node is not below the test, and how many leaves were evaluated.
+// What a node that was tried gives: the answer, true where the node is not below the test, and how many leaves were
+// evaluated.
 struct Tried {
     answer: bool,
     leaves: usize,
 }
 
-// A pass at a node: a leaf is compared with the test; an inner node is entered unless its high is below the test or a pass has found it not below. Its
-// children are tried from the left, and it keeps their answer and the best of their highs.
+// A pass at a node: it is answered at once, or entered.
 fn visit(
     table: &[u8],
     evaluated: &mut [u8],
     highs: &mut [u32],
-    found: &mut [u8],
+    not_below: &mut [u8],
     node: usize,
     place: Place,
     test: u32,
 ) -> Tried
-    requires { ⌜ Ready (now table) (memory (now evaluated) (now highs) (now found)) node place ⌝ }
+    requires { ⌜ VisitReady (now table) (memory (now evaluated) (now highs) (now «not_below»)) node place ⌝ }
     ensures { λ r. ⌜ Passed (now (table .entry)) (treeAt (now (table .entry)) node) test
-        (memory (now (evaluated .entry)) (now (highs .entry)) (now (found .entry)))
-        (memory (now (evaluated .exit)) (now (highs .exit)) (now (found .exit))) r ⌝ }
+        (memory (now (evaluated .entry)) (now (highs .entry)) (now («not_below» .entry)))
+        (memory (now (evaluated .exit)) (now (highs .exit)) (now («not_below» .exit))) r ⌝ }
 {
-    let count = child_count(table, node);
-    if count == 0 {
-        return visit_leaf(table, evaluated, highs, node, place.depth, test);
+    match look(table, evaluated, highs, not_below, node, place, test) {
+        Seen::Answered(tried) => tried,
+        Seen::Open => enter(table, evaluated, highs, not_below, node, place, test),
+    }
+}
+
+// What a look at a node gives: the node's answer, or that the pass has to enter it.
+enum Seen {
+    Answered(Tried),
+    Open,
+}
+
+// A look at a node: a leaf is compared with the test, and an inner node is below where its high is, and not below where
+// a pass has found it so; any other is open.
+fn look(
+    table: &[u8],
+    evaluated: &mut [u8],
+    highs: &mut [u32],
+    not_below: &[u8],
+    node: usize,
+    place: Place,
+    test: u32,
+) -> Seen
+    requires { ⌜ VisitReady (now table) (memory (now evaluated) (now highs) (now «not_below»)) node place ⌝ }
+    ensures { λ r. ⌜ Looked (now (table .entry)) node test
+        (memory (now (evaluated .entry)) (now (highs .entry)) (now («not_below» .entry)))
+        (memory (now (evaluated .exit)) (now (highs .exit)) (now («not_below» .entry))) r ⌝ }
+{
+    if child_count(table, node) == 0 {
+        return Seen::Answered(visit_leaf(table, evaluated, highs, node, place.depth, test));
     }
     if highs[node] < test {
         return not_entered(false);
     }
-    if found[node] == 1 {
+    if not_below[node] == 1 {
         return not_entered(true);
     }
+    Seen::Open
+}
+
+// A pass at an open node: its children are tried from the left, and entered only where they are open; the node keeps
+// their answer and the best of their highs.
+fn enter(
+    table: &[u8],
+    evaluated: &mut [u8],
+    highs: &mut [u32],
+    not_below: &mut [u8],
+    node: usize,
+    place: Place,
+    test: u32,
+) -> Tried
+    requires { ⌜ VisitReady (now table) (memory (now evaluated) (now highs) (now «not_below»)) node place ⌝ }
+    requires { ⌜ Enterable (now table) (memory (now evaluated) (now highs) (now «not_below»)) node test ⌝ }
+    ensures { λ r. ⌜ Passed (now (table .entry)) (treeAt (now (table .entry)) node) test
+        (memory (now (evaluated .entry)) (now (highs .entry)) (now («not_below» .entry)))
+        (memory (now (evaluated .exit)) (now (highs .exit)) (now («not_below» .exit))) r ⌝ }
+{
     let side = place.side;
     let first = first_child(table, node);
-    let end = first + count;
+    let end = first + child_count(table, node);
     let mut child = first;
     let mut leaves = 0;
     let answer = loop {
-        let tried = visit(
-            table,
-            evaluated,
-            highs,
-            found,
-            child,
-            child_place(table, child, place),
-            test,
-        );
+        let at = child_place(table, child, place);
+        let tried = match look(table, evaluated, highs, not_below, child, at, test) {
+            Seen::Answered(tried) => tried,
+            Seen::Open => enter(table, evaluated, highs, not_below, child, at, test),
+        };
         leaves += tried.leaves;
         child += 1;
         if last_tried(side, tried.answer, child, end) {
@@ -178,15 +231,15 @@ fn visit(
     };
     let high = best(highs, first, end, side);
     highs[node] = high;
-    found[node] = found_entry(answer);
+    not_below[node] = not_below_entry(answer);
     Tried { answer, leaves }
 }
 
 // A node that is not entered has its answer at once.
-fn not_entered(answer: bool) -> Tried
-    ensures { λ r. ⌜ r ≡ record { answer = answer; leaves = 0 } ⌝ }
+fn not_entered(answer: bool) -> Seen
+    ensures { λ r. ⌜ r ≡ Seen.Answered (record { answer = answer; leaves = 0 }) ⌝ }
 {
-    Tried { answer, leaves: 0 }
+    Seen::Answered(Tried { answer, leaves: 0 })
 }
 
 // Is the child with this answer the last one tried: it settles its parent, or there is no other.
@@ -210,7 +263,8 @@ fn settles(side: Side, answer: bool) -> bool
     }
 }
 
-// A pass at a leaf: its score is compared with the test.
+// A pass at a leaf: its score is compared with the test. A leaf with a mark is not evaluated again: its score is its
+// high.
 fn visit_leaf(
     table: &[u8],
     evaluated: &mut [u8],
@@ -227,30 +281,36 @@ fn visit_leaf(
     ensures { λ _. ⌜ now (evaluated .exit) ≡ set (now (evaluated .entry)) node 1 ⌝ }
     ensures { λ _. ⌜ now (highs .exit) ≡ set (now (highs .entry)) node (valuation (now (table .entry)) node) ⌝ }
 {
-    let leaves = try_leaf(table, evaluated, highs, node, depth);
-    let answer = test <= highs[node];
-    Tried { answer, leaves }
+    if evaluated[node] == 1 {
+        let answer = test <= highs[node];
+        return Tried { answer, leaves: 0 };
+    }
+    let score = evaluate_leaf(table, evaluated, highs, node, depth);
+    let answer = test <= score;
+    Tried { answer, leaves: 1 }
 }
 
-// A leaf that is tried for the first time is evaluated, and its score is its high from then on; how many leaves were evaluated.
-fn try_leaf(table: &[u8], evaluated: &mut [u8], highs: &mut [u32], node: usize, depth: u32) -> usize
-    requires { ⌜ (node < frames (now table)) × (node < length (now evaluated)) × (node < length (now highs)) ⌝ }
-    requires { ⌜ (childCount (now table) node ≡ 0) × (depth ≡ depthOf (now table) node) × (depth ≤ maxNodes) ⌝ }
-    requires { ⌜ (marked (now evaluated) node ≡ true → getD (now highs) node 0 ≡ valuation (now table) node) ⌝ }
-    ensures { λ r. ⌜ r ≡ cond (marked (now (evaluated .entry)) node) 0 1 ⌝ }
+// A leaf without a mark is evaluated, and its score is its high from then on.
+fn evaluate_leaf(
+    table: &[u8],
+    evaluated: &mut [u8],
+    highs: &mut [u32],
+    node: usize,
+    depth: u32,
+) -> u32
+    requires { ⌜ Evaluable (now table) (now evaluated) node depth ⌝ }
+    requires { ⌜ node < length (now highs) ⌝ }
+    ensures { λ r. ⌜ r ≡ valuation (now (table .entry)) node ⌝ }
     ensures { λ _. ⌜ now (evaluated .exit) ≡ set (now (evaluated .entry)) node 1 ⌝ }
-    ensures { λ _. ⌜ now (highs .exit) ≡ set (now (highs .entry)) node (valuation (now (table .entry)) node) ⌝ }
+    ensures { λ r. ⌜ now (highs .exit) ≡ set (now (highs .entry)) node r ⌝ }
 {
-    if evaluated[node] == 1 {
-        return 0;
-    }
     let score = evaluate(table, evaluated, node, depth);
     highs[node] = score;
-    1
+    score
 }
 
-// The entry of `found` for an answer: 1 where the node is not below.
-fn found_entry(answer: bool) -> u8
+// The entry of `not_below` for an answer: 1 where the node is not below.
+fn not_below_entry(answer: bool) -> u8
     ensures { λ r. ⌜ r ≡ cond answer 1 0 ⌝ }
 {
     if answer { 1 } else { 0 }

@@ -2,7 +2,7 @@
 use native.Mathlib.Omega.{arith}
 use Rattle.gametree.specs.Mtd.{mtd}
 use Rattle.frames.specs.Tree.{tree, valuation}
-use Rattle.mtd.specs.Memory.{memory}
+use Rattle.mtd.specs.engine.Memory.{Memory, memory}
 use Rattle.mtd.proofs.Arrays.{Long}
 use Rattle.mtd.proofs.Runs.{Passing, mtd-few, passing-first, passing-ready, passing-few, passing-last}
 use Rattle.mtd.proofs.Runs.{next-falls, passing-next}
@@ -10,12 +10,12 @@ use Rattle.mtd.proofs.run_passes.Statement.{statement}
 use Rattle.mtd.proofs.run_passes.Tie as tie
 
 abbrev Inv-loop : tie.InvT-loop
-Inv-loop table evaluated₀ highs₀ found₀ root test₀ leaves₀ passes₀ evaluated highs found test leaves passes =
-    Passing table (mtd (valuation table) (tree table)) (memory evaluated₀ highs₀ found₀) (memory evaluated highs found)
-    test leaves passes
+Inv-loop table evaluated₀ highs₀ not-below₀ root test₀ leaves₀ passes₀ evaluated highs not-below test leaves passes =
+    Passing table (mtd (valuation table) (tree table)) (memory evaluated₀ highs₀ not-below₀)
+    (memory evaluated highs not-below) test leaves passes
 
 abbrev μ-loop : tie.MeasureT-loop
-μ-loop table evaluated₀ highs₀ found₀ root test₀ leaves₀ passes₀ evaluated highs found test leaves passes = test
+μ-loop table evaluated₀ highs₀ not-below₀ root test₀ leaves₀ passes₀ evaluated highs not-below test leaves passes = test
 
 loop-holds : tie.Need-loop-holds Inv-loop μ-loop
 loop-holds c =
@@ -28,11 +28,15 @@ head c = c .before .before .before .before
 abbrev entry : tie.After-visit Inv-loop μ-loop → tie.Start Inv-loop μ-loop
 entry c = head c .before .before .before .before .before
 
+-- the arrays after the pass
+abbrev after : tie.After-visit Inv-loop μ-loop → Memory
+after c = memory (c .visit .last .1 .0) (c .visit .last .1 .1 .0) (c .visit .last .1 .1 .1 .0)
+
 -- the arrays keep their lengths
 long : (c : tie.After-visit Inv-loop μ-loop)
-    → Long (memory (entry c .args .evaluated .now) (entry c .args .highs .now) (entry c .args .found .now))
-    (memory (c .visit .last .1 .0) (c .visit .last .1 .1 .0) (c .visit .last .1 .1 .1 .0))
-long c = record { evaluated = omega arith; highs = omega arith; found = omega arith }
+    → Long (memory (entry c .args .evaluated .now) (entry c .args .highs .now) (entry c .args .not-below .now))
+    (after c)
+long c = record { evaluated = omega arith; highs = omega arith; notBelow = omega arith }
 
 visit-requires : tie.Need-visit-requires Inv-loop μ-loop
 visit-requires c κs =
@@ -44,7 +48,10 @@ add-leaves : tie.Need-add-leaves Inv-loop μ-loop
 add-leaves c =
     let v = c .before .before .before .before .before .before .before in
     let wf = entry v .pre .formed in
-    omega (arith, passing-few wf (head v .loop .inv) (v .visit .ensures) (mtd-few (entry v .args .table .now) wf))
+    omega (
+      arith,
+      passing-few wf (head v .loop .inv) {m″ = after v} (v .visit .ensures) (mtd-few (entry v .args .table .now) wf),
+    )
 
 add-passes : tie.Need-add-passes Inv-loop μ-loop
 add-passes c = omega (arith, head (c .before .before .before .before .before .before .before) .loop .inv .few)
@@ -59,15 +66,16 @@ loop-less c =
     let v = c .before .before .before .before .before .before .before .before .before .before in
     omega (
       arith,
-      next-falls (entry v .pre .formed) (head v .loop .inv) (v .visit .ensures) (c .before .before .if1 .left),
+      next-falls (entry v .pre .formed) (head v .loop .inv) {m″ = after v} (v .visit .ensures)
+          (c .before .before .if1 .left),
       c .next-test .ensures,
     )
 
 loop-again : tie.Need-loop-again Inv-loop μ-loop
 loop-again c =
     let v = c .before .before .before .before .before .before .before .before .before .before in
-    passing-next (entry v .pre .formed) (head v .loop .inv) (v .visit .ensures) (c .before .before .if1 .left)
-    (long v) _ (c .next-test .ensures)
+    passing-next (entry v .pre .formed) (head v .loop .inv) {m″ = after v} (v .visit .ensures)
+    (c .before .before .if1 .left) (long v) _ (c .next-test .ensures)
 
 same-length : tie.Need-same-length Inv-loop μ-loop
 same-length c = long (c .before .before .before .before .before .before .before .before) .evaluated
@@ -76,12 +84,12 @@ same-length-2 : tie.Need-same-length-2 Inv-loop μ-loop
 same-length-2 c = long (c .before .before .before .before .before .before .before .before) .highs
 
 same-length-3 : tie.Need-same-length-3 Inv-loop μ-loop
-same-length-3 c = long (c .before .before .before .before .before .before .before .before) .found
+same-length-3 c = long (c .before .before .before .before .before .before .before .before) .notBelow
 
 returns : tie.Need-returns Inv-loop μ-loop
 returns c =
     let v = c .before .before .before .before .before .before .before .before in
-    passing-last (entry v .pre .formed) (head v .loop .inv) (v .visit .ensures) (c .if1 .taken)
+    passing-last (entry v .pre .formed) (head v .loop .inv) {m″ = after v} (v .visit .ensures) (c .if1 .taken)
 
 pub run-passes-spec : {M : Type 1} → statement M
 run-passes-spec =

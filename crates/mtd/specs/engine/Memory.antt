@@ -10,11 +10,13 @@ use Rattle.gametree.specs.Tree.{Tree, greatest, size, In}
 use Rattle.gametree.specs.Bounds.{high}
 use Rattle.gametree.specs.Mtd.{Memo, Pass, pass, Run}
 use Rattle.gametree.specs.MemoArrays.{readMemo, Visited}
-use Rattle.frames.specs.Frame.{maxNodes, frames}
+use Rattle.frames.specs.Frame.{maxNodes, frames, childCount}
 use Rattle.frames.specs.Place.{placeOf}
 use Rattle.frames.specs.Tree.{treeAt, valuation}
 use Rattle.frames.specs.Formed.{WellFormed}
 use Rattle.certificate.specs.Buffer.{marked, markAll}
+use Rattle.mtd.specs.declared.Seen.{Seen}
+use Rattle.mtd.specs.declared.Seen.the-variants.{Answered, Open}
 use Rattle.mtd.specs.declared.Tried.{Tried}
 use Rattle.mtd.specs.declared.Settled.{Settled}
 
@@ -23,24 +25,24 @@ use Rattle.mtd.specs.declared.Settled.{Settled}
 pub record Memory : Type 0 where
   pub evaluated : List ℕ
   pub highs : List ℕ
-  pub found : List ℕ
+  pub notBelow : List ℕ
 
 abbrev pub memory : List ℕ → List ℕ → List ℕ → Memory
-memory e h f = record { evaluated = e; highs = h; found = f }
+memory e h f = record { evaluated = e; highs = h; notBelow = f }
 
 -- what the arrays remember of a tree
 abbrev pub memoOf : Memory → (T : Tree) → Memo T
-memoOf m T = readMemo (marked (m .evaluated)) (marked (m .found)) T
+memoOf m T = readMemo (marked (m .evaluated)) (marked (m .notBelow)) T
 
 -- the pass with the test γ over a tree that the arrays remember
 abbrev pub passOf : List ℕ → ℕ → Memory → (T : Tree) → Pass T
 passOf t γ m T = pass (valuation t) γ T (memoOf m T)
 
 -- each array has an entry for each of n nodes
-pub record Room (n : ℕ) (m : Memory) : Type 0 where
+pub record MemoryRoom (n : ℕ) (m : Memory) : Type 0 where
   pub evaluated : n ≤ length (m .evaluated)
   pub highs : n ≤ length (m .highs)
-  pub found : n ≤ length (m .found)
+  pub notBelow : n ≤ length (m .notBelow)
 
 -- the high of each node of a tree is the one that the leaves evaluated so far give it
 abbrev pub HighsRight : List ℕ → Memory → Tree → Type 0
@@ -48,13 +50,20 @@ HighsRight t m T =
     (k : ℕ) → In k T → getD (m .highs) k 0 ≡ high (valuation t) (marked (m .evaluated)) (treeAt t k)
 
 -- what a visit of node i at the place p asks
-pub record Ready (t : List ℕ) (m : Memory) (i : ℕ) (p : Place) : Type 0 where
+pub record VisitReady (t : List ℕ) (m : Memory) (i : ℕ) (p : Place) : Type 0 where
   pub formed : WellFormed t
   pub inside : i < frames t
   pub few : size (treeAt t i) ≤ maxNodes
   pub placed : p ≡ placeOf t i
-  pub room : Room (frames t) m
+  pub room : MemoryRoom (frames t) m
   pub right : HighsRight t m (treeAt t i)
+
+-- node i is entered by the pass with the test γ: it has children, its high is not below the test, and no pass has found
+-- it not below
+pub record Enterable (t : List ℕ) (m : Memory) (i γ : ℕ) : Type 0 where
+  pub some : 0 < childCount t i
+  pub high : γ ≤ getD (m .highs) i 0
+  pub notBelow : marked (m .notBelow) i ≡ false
 
 -- the leaves w were evaluated in turn: n of them, and the marks e have become e′
 pub record Evaluated (e e′ : List ℕ) (n : ℕ) (w : List ℕ) : Type 0 where
@@ -66,17 +75,22 @@ pub record Passed (t : List ℕ) (T : Tree) (γ : ℕ) (m m′ : Memory) (r : Tr
   pub answer : r .answer ≡ passOf t γ m T .notBelow
   pub evaluated : Evaluated (m .evaluated) (m′ .evaluated) (r .leaves) (passOf t γ m T .evaluated)
   pub memo :
-      Visited (valuation t) γ T (marked (m .evaluated)) (marked (m .found)) (marked (m′ .evaluated))
-      (marked (m′ .found))
+      Visited (valuation t) γ T (marked (m .evaluated)) (marked (m .notBelow)) (marked (m′ .evaluated))
+      (marked (m′ .notBelow))
   pub right : HighsRight t m′ T
   pub others : (k : ℕ) → (In k T → ⊥) → getD (m′ .highs) k 0 ≡ getD (m .highs) k 0
 
--- what the passes ask: nothing is evaluated, nothing was found, and every high is the greatest
+-- what a look at node i does: the pass, where the node is answered; nothing, where it is to be entered
+abbrev pub Looked : (t : List ℕ) (i γ : ℕ) (m m′ : Memory) → Seen → Type 0
+Looked t i γ m m′ (Answered r) = Passed t (treeAt t i) γ m m′ r
+Looked t i γ m m′ Open = (m′ ≡ m) × Enterable t m i γ
+
+-- what the passes ask: nothing is evaluated, no node was found not below, and every high is the greatest
 pub record Fresh (t : List ℕ) (m : Memory) : Type 0 where
   pub formed : WellFormed t
-  pub room : Room (frames t) m
+  pub room : MemoryRoom (frames t) m
   pub evaluated : (k : ℕ) → k < frames t → marked (m .evaluated) k ≡ false
-  pub found : (k : ℕ) → k < frames t → marked (m .found) k ≡ false
+  pub notBelow : (k : ℕ) → k < frames t → marked (m .notBelow) k ≡ false
   pub highs : (k : ℕ) → k < frames t → getD (m .highs) k 0 ≡ greatest
 
 -- what a run of passes gives, in numbers
