@@ -118,7 +118,8 @@ module _ {t : List ℕ} {γ : ℕ} {s : Side} {ks : Kids} {m m′ m″ : Memory}
         let same = ap (λ x. passKids (valuation t) γ s ts x)
         (sym (rest-same (valuation t) γ s T ts d _ _ _ _ (p .memo))) in
         let next : passKidsOf t γ s m′ (T then ts) .evaluated ≡ w ++ passKidsOf t γ s m″ ts .evaluated =
-        _∙_ {c = w ++ passKidsOf t γ s m″ ts .evaluated} (ap (λ q. q .evaluated) on) (ap (λ q. w ++ q .evaluated) same) in
+        _∙_ {c = w ++ passKidsOf t γ s m″ ts .evaluated} (ap (λ q. q .evaluated) on)
+        (ap (λ q. w ++ q .evaluated) same) in
         record {
           done = o .done ++ w;
           so-far = evaluated-more (o .so-far) (p .evaluated);
