@@ -16,7 +16,6 @@ use Rattle.gametree.proofs.MtdValue.{mtd-right}
 use Rattle.gametree.proofs.Merits.{steps-fall}
 use Rattle.gametree.proofs.Work.{full, full-size}
 use Rattle.gametree.proofs.SssRun.{root-stops, mtd-steps}
-use Rattle.gametree.proofs.Choice.{clash}
 
 -- what is ahead of the list L in a run of SSS* that ends at N, evaluates the leaves W and makes at most A replacements
 record Ahead (ν : ℕ → ℕ) (Y : Layout) (N : List State) (W : List ℕ) (A k : ℕ) (w : List ℕ)
