@@ -16,8 +16,10 @@ use Rattle.frames.specs.Frame.{frames}
 use Rattle.frames.specs.Tree.{treeAt, tree}
 use Rattle.frames.specs.Formed.{WellFormed, ChildOf}
 use Rattle.frames.proofs.Nodes.{in-parent, tree-range, children-apart}
-use Rattle.certificate.specs.Buffer.{written, markAll}
-use Rattle.certificate.proofs.Buffers.{written-at, markAll-other}
+use Rattle.places.specs.Buffer.{written}
+use Rattle.certificate.specs.Marks.{markAll}
+use Rattle.places.proofs.Buffers.{written-at}
+use Rattle.certificate.proofs.Marking.{markAll-other}
 use Rattle.alphabeta.specs.Engine.{Unmarked}
 
 onward-all : (P : ℕ → Type 0) (b : Bool) (r q : Found) → All P (r .evaluated) → All P (q .evaluated)

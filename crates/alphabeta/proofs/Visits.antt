@@ -14,7 +14,7 @@ use Rattle.frames.specs.Formed.{WellFormed, ChildOf}
 use Rattle.frames.proofs.Next.{child-within}
 use Rattle.frames.proofs.Places.{depth-at-most, place-child}
 use Rattle.frames.proofs.Trees.{tree-leaf, tree-inner}
-use Rattle.certificate.specs.Buffer.{markAll}
+use Rattle.certificate.specs.Marks.{markAll}
 use Rattle.alphabeta.specs.Engine.{Unmarked, Ready}
 use Rattle.alphabeta.proofs.Pass.{Gives, Owes, owes-all, rest}
 use Rattle.alphabeta.proofs.Unmarked.{Waiting}

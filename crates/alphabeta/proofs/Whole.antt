@@ -15,8 +15,9 @@ use Rattle.frames.specs.Frame.{frames}
 use Rattle.frames.specs.Tree.{tree, valuation}
 use Rattle.frames.specs.Formed.{WellFormed}
 use Rattle.frames.proofs.Proper.{tree-proper}
-use Rattle.certificate.specs.Buffer.{written, marked, markAll}
-use Rattle.certificate.specs.Value.{valueOf}
+use Rattle.places.specs.Buffer.{written}
+use Rattle.certificate.specs.Marks.{marked, markAll}
+use Rattle.frames.specs.Value.{valueOf}
 use Rattle.certificate.specs.Search.{marksOf, flagsOf, findings}
 use Rattle.certificate.proofs.Outcomes.{search-concludes}
 use Rattle.alphabeta.specs.declared.Visited.{Visited}

@@ -11,7 +11,7 @@ use Rattle.frames.specs.Frame.{frames}
 use Rattle.frames.specs.Place.{placeOf}
 use Rattle.frames.specs.Tree.{treeAt}
 use Rattle.frames.specs.Formed.{WellFormed}
-use Rattle.certificate.specs.Buffer.{marked}
+use Rattle.certificate.specs.Marks.{marked}
 use Rattle.alphabeta.specs.declared.Visited.{Visited}
 
 -- no node of the tree is marked

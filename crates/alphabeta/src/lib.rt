@@ -1,21 +1,22 @@
 // Alpha-beta over a byte table: the public search, and its recursive engine.
 use certificate::Findings;
 use certificate::ask;
-use certificate::better;
 use certificate::clear;
 use certificate::conclude;
 use certificate::evaluate;
-use certificate::value;
 use frames::Checked;
 use frames::GREATEST;
 use frames::LEAST;
+use frames::MAX_NODES;
 use frames::Rejection;
 use frames::child_count;
 use frames::child_place;
 use frames::first_child;
 use frames::frame_count;
+use frames::value;
 use gametree::Place;
 use gametree::Side;
+use gametree::better;
 ghost use mathlib.Core.Path.{_≡_};
 ghost use Prim.Native.Nat.{_≤_};
 ghost use lib.ListN.{length, set};
@@ -23,7 +24,7 @@ ghost use Rattle.gametree.specs.AlphaBeta.{raise, lower, clamp, alphaBeta};
 ghost use Rattle.frames.specs.Frame.{frames};
 ghost use Rattle.frames.specs.Formed.{WellFormed};
 ghost use Rattle.frames.specs.Tree.{treeAt, valuation};
-ghost use Rattle.certificate.specs.Buffer.{markAll};
+ghost use Rattle.certificate.specs.Marks.{markAll};
 ghost use Rattle.certificate.specs.Evaluable.{Evaluable};
 ghost use Rattle.certificate.specs.Search.{marksOf, flagsOf, findings};
 ghost use Rattle.alphabeta.specs.Outcome.{reachedLeaves, alphaBetaOutcome};
@@ -61,7 +62,9 @@ fn run(table: &[u8], evaluated: &mut [u8], certificate: &mut [u8]) -> Findings
         side: Side::Max,
     };
     let visited = alpha_beta(table, evaluated, 0, root, LEAST, GREATEST);
-    let root_move = conclude(table, evaluated, certificate);
+    let mut places = [0u32; MAX_NODES];
+    places::fill(table, &mut places);
+    let root_move = conclude(table, &places, evaluated, certificate);
     let value = value(visited.score);
     Findings {
         value,

@@ -8,7 +8,7 @@ use lib.ListN.{getD, set}
 use lib.Seq.{set-getD}
 use borrow.Author.Tests.{eq-eqb, ne-eqb}
 use Rattle.gametree.specs.declared.Side.{Side}
-use Rattle.gametree.specs.Tree.{Tree, better, minimax, minimaxKids}
+use Rattle.gametree.specs.Tree.{Tree, least, greatest, better, minimax, minimaxKids}
 use Rattle.gametree.specs.Bounds.{known}
 use Rattle.frames.specs.Frame.{frames, firstChild, childCount}
 use Rattle.frames.specs.Place.{sideOf}
@@ -16,17 +16,19 @@ use Rattle.frames.specs.Tree.{kidsFrom, treeAt, valuation}
 use Rattle.frames.specs.Formed.{WellFormed, ChildOf}
 use Rattle.frames.proofs.Next.{child-later, child-within}
 use Rattle.frames.proofs.Trees.{tree-leaf, tree-inner}
-use Rattle.certificate.specs.Buffer.{marked}
+use Rattle.certificate.specs.Marks.{marked}
 use Rattle.certificate.specs.Ranges.{bestIn}
-use Rattle.certificate.specs.Bounds.{boundOf}
+use Rattle.certificate.specs.Bounds.{boundOf, leafBounds}
 use Rattle.certificate.proofs.BottomUp.{Rising, rising-at}
 
--- a marked leaf has its score, another one the score x
-pub known-marked : (ν : ℕ → ℕ) (e : List ℕ) (x k : ℕ) → getD e k 0 ≡ 1 → known ν (marked e) x k ≡ ν k
-known-marked ν e x k h = rw (eq-eqb _ 1 h)
+-- a marked leaf has its score for both bounds, another one the least and the greatest score
+pub bounds-marked : (t e : List ℕ) (k v : ℕ) → getD e k 0 ≡ 1 → v ≡ valuation t k
+    → record { low = v; high = v } ≡ leafBounds t (marked e) k
+bounds-marked t e k v h d = rw (eq-eqb (getD e k 0) 1 h, d)
 
-pub known-unmarked : (ν : ℕ → ℕ) (e : List ℕ) (x k : ℕ) → (getD e k 0 ≡ 1 → ⊥) → known ν (marked e) x k ≡ x
-known-unmarked ν e x k h = rw (ne-eqb (getD e k 0) 1 h)
+pub bounds-unmarked : (t e : List ℕ) (k : ℕ) → (getD e k 0 ≡ 1 → ⊥)
+    → record { low = least; high = greatest } ≡ leafBounds t (marked e) k
+bounds-unmarked t e k h = rw (ne-eqb (getD e k 0) 1 h)
 
 -- a mark of 1 stays when the leaf is evaluated once more
 pub mark-again : (e : List ℕ) (k : ℕ) → getD e k 0 ≡ 1 → set e k 1 ≡ e

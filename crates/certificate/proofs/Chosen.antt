@@ -19,33 +19,29 @@ use Rattle.frames.specs.Tree.{kidsFrom, treeAt, tree, valuation}
 use Rattle.frames.specs.Formed.{WellFormed}
 use Rattle.frames.proofs.Next.{next-more, next-within}
 use Rattle.frames.proofs.Trees.{zero-or-suc, tree-leaf, tree-inner, tree-number}
-use Rattle.certificate.specs.Buffer.{written, marked}
-use Rattle.certificate.specs.Places.{sideNumber, numberSide}
+use Rattle.places.specs.Buffer.{written}
+use Rattle.places.specs.Places.{sideIn, Placed}
+use Rattle.places.proofs.Buffers.{written-at}
+use Rattle.places.proofs.Places.{placed-side}
 use Rattle.certificate.specs.Ranges.{firstEqual}
 use Rattle.certificate.specs.Bounds.{boundOf}
 use Rattle.certificate.specs.Flags.{bySide, chosenChild}
-use Rattle.certificate.proofs.Buffers.{written-at}
-use Rattle.certificate.proofs.Places.{side-again}
 
 -- the arrays hold the side and both bounds of each node
-pub record Bounded (t : List ℕ) (E : ℕ → Bool) (sides lows highs : List ℕ) : Type 0 where
-  pub sidesAre : (k : ℕ) → k < frames t → getD sides k 0 ≡ sideNumber (sideOf t k)
+pub record Bounded (t : List ℕ) (E : ℕ → Bool) (places lows highs : List ℕ) : Type 0 where
+  pub sidesAre : (k : ℕ) → k < frames t → sideIn places k ≡ sideOf t k
   pub lowsAre : (k : ℕ) → k < frames t → getD lows k 0 ≡ boundOf t E least k
   pub highsAre : (k : ℕ) → k < frames t → getD highs k 0 ≡ boundOf t E greatest k
 
 -- arrays that were written so hold them
-pub bounded : (t : List ℕ) (e e′ s l h : List ℕ) {sides lows highs : List ℕ}
-    → sides ≡ written (λ k. sideNumber (sideOf t k)) (frames t) s
-    → lows ≡ written (boundOf t (marked e) least) (frames t) l
-    → highs ≡ written (boundOf t (marked e′) greatest) (frames t) h → e′ ≡ e
-    → Bounded t (marked e) sides lows highs
-bounded t e e′ s l h p q r d =
+pub bounded : (t : List ℕ) (E : ℕ → Bool) (l h : List ℕ) {places lows highs : List ℕ} → Placed t places
+    → lows ≡ written (boundOf t E least) (frames t) l → highs ≡ written (boundOf t E greatest) (frames t) h
+    → Bounded t E places lows highs
+bounded t E l h {places} p q r =
     record {
-      sidesAre = λ k m. ap (λ x. getD x k 0) p ∙ written-at (λ k. sideNumber (sideOf t k)) (frames t) k s m;
-      lowsAre = λ k m. ap (λ x. getD x k 0) q ∙ written-at (boundOf t (marked e) least) (frames t) k l m;
-      highsAre = λ k m.
-          ap (λ x. getD x k 0) r ∙ written-at (boundOf t (marked e′) greatest) (frames t) k h m
-          ∙ ap (λ x. boundOf t (marked x) greatest k) d;
+      sidesAre = placed-side t places p;
+      lowsAre = λ k m. ap (λ x. getD x k 0) q ∙ written-at (boundOf t E least) (frames t) k l m;
+      highsAre = λ k m. ap (λ x. getD x k 0) r ∙ written-at (boundOf t E greatest) (frames t) k h m;
     }
 
 -- the same entries, the same first one
@@ -71,19 +67,19 @@ module _ (t : List ℕ) (wf : WellFormed t) (E : ℕ → Bool) where
       (λ k l m. e k (omega (arith, next-more t i, next-within t wf (i + 1) (omega arith))))
       ∙ ap (λ v. firstEqual (boundOf t E x) v (next t i) (childCount t i)) (e i h)
 
-  by-side : {sides lows highs : List ℕ} → Bounded t E sides lows highs → (s : Side) (i : ℕ) → i < frames t
+  by-side : {places lows highs : List ℕ} → Bounded t E places lows highs → (s : Side) (i : ℕ) → i < frames t
       → chosenChild (bySide s lows highs) i (next t i) (childCount t i) ≡ chosenOf t E s i
   unfolding chosenOf
   by-side {lows = lows} b Max i h = by-bounds lows least i h (b .lowsAre)
   by-side {highs = highs} b Min i h = by-bounds highs greatest i h (b .highsAre)
 
   -- the arrays give it
-  pub chosen-arrays : {sides lows highs : List ℕ} → Bounded t E sides lows highs → (i : ℕ) → i < frames t
-      → chosenChild (bySide (numberSide (getD sides i 0)) lows highs) i (next t i) (childCount t i)
+  pub chosen-arrays : {places lows highs : List ℕ} → Bounded t E places lows highs → (i : ℕ) → i < frames t
+      → chosenChild (bySide (sideIn places i) lows highs) i (next t i) (childCount t i)
       ≡ chosenOf t E (sideOf t i) i
-  chosen-arrays {sides} {lows} {highs} b i h =
+  chosen-arrays {places} {lows} {highs} b i h =
       ap (λ s. chosenChild (bySide s lows highs) i (next t i) (childCount t i))
-      (ap numberSide (b .sidesAre i h) ∙ side-again (sideOf t i))
+      (b .sidesAre i h)
       ∙ by-side b (sideOf t i) i h
 
 -- the first child with a value, by number
@@ -110,11 +106,11 @@ module _ (t : List ℕ) (wf : WellFormed t) (E : ℕ → Bool) where
       rw (e, tree-inner t wf 0 n (wf .some) e, p) (move-inner (sideOf t 0) 1 n))
 
   -- so the arrays give the move
-  pub chosen-move : {sides lows highs : List ℕ} → Bounded t E sides lows highs → (n : ℕ) → n ≡ childCount t 0
-      → chosenChild (bySide (numberSide (getD sides 0 0)) lows highs) 0 1 (1 + n - 1)
+  pub chosen-move : {places lows highs : List ℕ} → Bounded t E places lows highs → (n : ℕ) → n ≡ childCount t 0
+      → chosenChild (bySide (sideIn places 0) lows highs) 0 1 (1 + n - 1)
       ≡ boundMove (valuation t) E (tree t)
   unfolding next
-  chosen-move {sides} {lows} {highs} b n e =
+  chosen-move {places} {lows} {highs} b n e =
       let d : 1 + n - 1 ≡ childCount t 0 = omega arith in
-      ap (chosenChild (bySide (numberSide (getD sides 0 0)) lows highs) 0 1) d
+      ap (chosenChild (bySide (sideIn places 0) lows highs) 0 1) d
       ∙ chosen-arrays t wf E b 0 (wf .some) ∙ chosen-root

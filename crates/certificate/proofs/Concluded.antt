@@ -19,10 +19,11 @@ use Rattle.frames.specs.Formed.{WellFormed}
 use Rattle.frames.proofs.Next.{next-more, next-within}
 use Rattle.frames.proofs.Parents.{top-down}
 use Rattle.frames.proofs.Proper.{every-leaf}
-use Rattle.certificate.specs.Buffer.{written, mark, marked}
+use Rattle.places.specs.Buffer.{written}
+use Rattle.certificate.specs.Marks.{mark, marked}
 use Rattle.certificate.specs.Ranges.{firstEqual}
 use Rattle.certificate.specs.Bounds.{boundOf}
-use Rattle.certificate.proofs.Buffers.{written-same}
+use Rattle.places.proofs.Buffers.{written-same}
 use Rattle.certificate.proofs.Chosen.{first-same, chosenOf, chosen-root}
 use Rattle.certificate.proofs.Solutions.{childIn, solution, solution-root, solution-child}
 use Rattle.certificate.proofs.Marks.{marked-written}

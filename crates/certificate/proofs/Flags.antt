@@ -13,30 +13,39 @@ use Rattle.frames.specs.Frame.{frames, childCount, next}
 use Rattle.frames.specs.Place.{sideOf}
 use Rattle.frames.specs.Tree.{tree, valuation}
 use Rattle.frames.specs.Formed.{WellFormed}
-use Rattle.certificate.specs.Buffer.{stored}
-use Rattle.certificate.specs.Places.{numberSide}
+use Rattle.places.specs.Buffer.{stored}
+use Rattle.places.specs.Places.{sideIn}
+use Rattle.places.proofs.TopDown.{Filled, filled-at, filled-step}
 use Rattle.certificate.specs.Flags.{ownPart, childFlag, bySide, chosenChild, FlagsFrom}
-use Rattle.certificate.proofs.Places.{side-again}
-use Rattle.certificate.proofs.TopDown.{Filled, filled-at, filled-step}
 use Rattle.certificate.proofs.Chosen.{Bounded, chosenOf, chosen-arrays}
 use Rattle.certificate.proofs.Solutions.{solution, solution-root, solution-child}
 
 -- the flags of a node's children are stored as the rule says
-pub flags-step : (t : List ℕ) → WellFormed t → (sides lows highs : List ℕ) (f : ℕ → ℕ) → FlagsFrom t sides lows highs f
-    → {b₀ b : List ℕ} {at i : ℕ} → Filled t f b₀ b at i → i < frames t → (n : ℕ) → n ≡ childCount t i → {s : Side}
-    → s ≡ numberSide (getD sides i 0) → (others chosen : ℕ) → others ≡ ownPart s (getD b i 0)
-    → chosen ≡ chosenChild (bySide (numberSide (getD sides i 0)) lows highs) i at (at + n - at)
+pub flags-step : (t : List ℕ) → WellFormed t → (places lows highs : List ℕ) (f : ℕ → ℕ)
+    → FlagsFrom t places lows highs f → {b₀ b : List ℕ} {at i : ℕ} → Filled t f b₀ b at i → i < frames t
+    → (n : ℕ) → n ≡ childCount t i → {s : Side} → s ≡ sideIn places i → (others chosen : ℕ)
+    → others ≡ ownPart s (getD b i 0)
+    → ((k : ℕ) → cond (eqb k chosen) (getD b i 0) others
+    ≡ cond (eqb k (chosenChild (bySide (sideIn places i) lows highs) i at (at + n - at))) (getD b i 0) others)
     → (b′ : List ℕ) → b′ ≡ stored (λ k. cond (eqb k chosen) (getD b i 0) others) at (at + n - at) b
     → Filled t f b₀ b′ (at + n) (i + 1)
-flags-step t wf sides lows highs f r {b₀} {b} {at} {i} q h n e {s} p others chosen o c b′ w =
-    let here = q .visit .here in
+flags-step t wf places lows highs f r {b₀} {b} {at} {i} q h n e {s} p others chosen o c b′ w =
     let own = filled-at t wf f q h in
     let d : at + n - at ≡ childCount t i = omega arith in
-    let x : chosen ≡ chosenChild (bySide (numberSide (getD sides i 0)) lows highs) i (next t i) (childCount t i) =
-    c ∙ ap₂ (λ j m. chosenChild (bySide (numberSide (getD sides i 0)) lows highs) i j m) here d in
-    let y : others ≡ ownPart (numberSide (getD sides i 0)) (f i) = o ∙ ap₂ ownPart p own in
+    let x : chosenChild (bySide (sideIn places i) lows highs) i at (at + n - at)
+    ≡ chosenChild (bySide (sideIn places i) lows highs) i (next t i) (childCount t i) =
+    ap₂ (λ j m. chosenChild (bySide (sideIn places i) lows highs) i j m) (q .visit .here) d in
+    let y : others ≡ ownPart (sideIn places i) (f i) = o ∙ ap₂ ownPart p own in
     filled-step t wf f q h n e (λ k. cond (eqb k chosen) (getD b i 0) others)
-    (λ k z. rw (x, y, own) (sym (r .atChild i k h z))) b′ w
+    (λ k z. c k ∙ rw (x, y, own) (sym (r .atChild i k h z))) b′ w
+
+-- where a node's flag is that of all its children, none of them has to be chosen
+pub none-chosen : (a b f g : ℕ) → f ≡ g → (k : ℕ) → cond (eqb k a) f g ≡ cond (eqb k b) f g
+none-chosen a b f g e k = rw e (same-either (eqb k a) g ∙ sym (same-either (eqb k b) g))
+  where
+    same-either : (c : Bool) (v : ℕ) → cond c v v ≡ v
+    same-either true v = refl
+    same-either false v = refl
 
 -- the rule for the two parts of a flag is the rule for the flag
 flag-rule : (q : Side) (x y e : Bool)
@@ -60,9 +69,9 @@ flag-rule Min false false true = refl
 flag-rule Min false false false = refl
 
 -- the flags of the solution trees follow from arrays that hold the sides and the bounds
-pub flags-follow : (t : List ℕ) → WellFormed t → (E : ℕ → Bool) {sides lows highs : List ℕ}
-    → Bounded t E sides lows highs → FlagsFrom t sides lows highs (flag (valuation t) E (tree t))
-flags-follow t wf E {sides} {lows} {highs} b =
+pub flags-follow : (t : List ℕ) → WellFormed t → (E : ℕ → Bool) {places lows highs : List ℕ}
+    → Bounded t E places lows highs → FlagsFrom t places lows highs (flag (valuation t) E (tree t))
+flags-follow t wf E {places} {lows} {highs} b =
     record {
       atRoot = ap₂ (λ x y. cond x 1 0 + cond y 2 0) (solution-root t wf E Max) (solution-root t wf E Min);
       atChild = λ i k h c.
@@ -71,6 +80,6 @@ flags-follow t wf E {sides} {lows} {highs} b =
           ap₂ (λ x y. cond x 1 0 + cond y 2 0) (solution-child t wf E Max i k h c) (solution-child t wf E Min i k h c)
           ∙ flag-rule q (solution t wf E Max i) (solution t wf E Min i) (eqb k (chosenOf t E q i))
           ∙ ap₂ (λ s x. childFlag s (f i) x k)
-          (sym (ap numberSide (b .sidesAre i h) ∙ side-again q))
+          (sym (b .sidesAre i h))
           (sym (chosen-arrays t wf E b i h));
     }

@@ -18,9 +18,10 @@ use Rattle.frames.specs.Formed.{WellFormed}
 use Rattle.frames.specs.Rejection.{answer}
 use Rattle.frames.proofs.Asked.{answer-nodes, answer-rejected}
 use Rattle.frames.proofs.Proper.{tree-proper}
-use Rattle.certificate.specs.Buffer.{written, marked, markAll}
+use Rattle.places.specs.Buffer.{written}
+use Rattle.certificate.specs.Marks.{marked, markAll}
 use Rattle.certificate.specs.Search.{Search, searchRejection, marksOf, flagsOf, outcome}
-use Rattle.certificate.proofs.Buffers.{marks-from-clear}
+use Rattle.certificate.proofs.Marking.{marks-from-clear}
 use Rattle.certificate.proofs.Marks.{searched-within}
 use Rattle.certificate.proofs.Concluded.{concluded}
 

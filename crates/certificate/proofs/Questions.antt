@@ -13,11 +13,11 @@ use Rattle.frames.specs.declared.Checked.the-variants.{Nodes, Rejected}
 use Rattle.frames.specs.Frame.{frames}
 use Rattle.frames.specs.Formed.{WellFormed}
 use Rattle.frames.specs.Rejection.{answer}
-use Rattle.frames.specs.Check.{rejection, Accepted, checked}
+use Rattle.frames.specs.Check.{rejection, check10, Accepted, checked}
 use Rattle.frames.proofs.Stated.{ask-yes, both-passed}
 use Rattle.frames.proofs.Asked.{refused, answer-nodes, answer-rejected}
 use Rattle.frames.proofs.Acceptance.{accepted-formed, nodes-accepted}
-use Rattle.certificate.specs.Search.{check10, searchRejection}
+use Rattle.certificate.specs.Search.{searchRejection}
 
 module _ (t : List ℕ) (a b : ℕ) where
   -- passed questions: an accepted table, and room in both buffers

@@ -8,9 +8,10 @@ use Rattle.gametree.specs.Certificate.{flag}
 use Rattle.gametree.specs.Move.{boundMove}
 use Rattle.frames.specs.Frame.{frames}
 use Rattle.frames.specs.Tree.{tree, valuation}
+use Rattle.frames.specs.Value.{valueOf}
 use Rattle.frames.specs.Cases.{small, lone, single}
-use Rattle.certificate.specs.Buffer.{written, marked}
-use Rattle.certificate.specs.Value.{valueOf}
+use Rattle.places.specs.Buffer.{written}
+use Rattle.certificate.specs.Marks.{marked}
 
 -- a table, the marks of its nodes, and a buffer for the flags
 pub record Case : Type 0 where

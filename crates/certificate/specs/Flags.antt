@@ -9,7 +9,7 @@ use Rattle.gametree.specs.declared.Side.{Side}
 use Rattle.gametree.specs.declared.Side.the-variants.{Max, Min}
 use Rattle.frames.specs.Frame.{frames, childCount, next}
 use Rattle.frames.specs.Formed.{ChildOf}
-use Rattle.certificate.specs.Places.{numberSide}
+use Rattle.places.specs.Places.{sideIn}
 use Rattle.certificate.specs.Ranges.{firstEqual}
 
 -- what a flag says of the side's own tree: 1 in the max tree, 2 in the min tree, 0 outside it
@@ -32,9 +32,9 @@ abbrev pub chosenChild : (bounds : List ℕ) → (node i n : ℕ) → ℕ
 chosenChild bounds node i n = firstEqual (λ k. getD bounds k 0) (getD bounds node 0) i n
 
 -- the flags f follow from the arrays: 3 at the root, and each child's from its parent's
-pub record FlagsFrom (t sides lows highs : List ℕ) (f : ℕ → ℕ) : Type 0 where
+pub record FlagsFrom (t places lows highs : List ℕ) (f : ℕ → ℕ) : Type 0 where
   pub atRoot : f 0 ≡ 3
   pub atChild : (i k : ℕ) → i < frames t → ChildOf t i k
       → f k
-      ≡ childFlag (numberSide (getD sides i 0)) (f i)
-      (chosenChild (bySide (numberSide (getD sides i 0)) lows highs) i (next t i) (childCount t i)) k
+      ≡ childFlag (sideIn places i) (f i)
+      (chosenChild (bySide (sideIn places i) lows highs) i (next t i) (childCount t i)) k

@@ -1,9 +1,7 @@
 -- What every search has in common: its questions, what it finds, and what it leaves in its buffers.
 use Prim.Native.Nat.{ℕ}
-use mathlib.Core.Bool.{Bool, true, _&&_}
 use mathlib.Core.Option.{Option, none, some}
-use mathlib.Core.List.{List, [], _∷_}
-use lib.Dec.{leb}
+use mathlib.Core.List.{List}
 use lib.ListN.{length}
 use Rattle.gametree.specs.Lists.{among}
 use Rattle.gametree.specs.Tree.{minimax}
@@ -12,20 +10,12 @@ use Rattle.gametree.specs.Certificate.{flag}
 use Rattle.frames.specs.declared.Rejection.{Rejection}
 use Rattle.frames.specs.Frame.{frames}
 use Rattle.frames.specs.Tree.{tree, valuation}
-use Rattle.frames.specs.Rejection.{ask, _andThen_}
-use Rattle.frames.specs.Check.{rejection}
+use Rattle.frames.specs.Rejection.{_andThen_}
+use Rattle.frames.specs.Check.{rejection, check10}
+use Rattle.places.specs.Buffer.{written}
+use Rattle.certificate.specs.Marks.{mark}
 use Rattle.certificate.specs.declared.Findings.{Findings}
-use Rattle.certificate.specs.Value.{valueOf}
-use Rattle.certificate.specs.Buffer.{written, mark}
-
--- has each of the buffers, given by their lengths, at least n entries
-abbrev pub roomy : ℕ → List ℕ → Bool
-roomy n [] = true
-roomy n (l ∷ ls) = leb n l && roomy n ls
-
--- 10: has each lent buffer an entry per node?
-abbrev pub check10 : ℕ → List ℕ → Option Rejection
-check10 n lengths = ask (roomy n lengths) 10 0
+use Rattle.frames.specs.Value.{valueOf}
 
 -- the first "no" to questions 1 to 10, for buffers of these lengths
 abbrev pub searchRejection : List ℕ → List ℕ → Option Rejection

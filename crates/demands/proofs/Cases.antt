@@ -7,7 +7,7 @@ use Rattle.frames.specs.Place.{parentBefore, placeWithin, placeOf}
 use Rattle.frames.specs.Tree.{kidsFrom, grow, treeAt, valuation}
 use Rattle.frames.specs.Rejection.{eachNode}
 use Rattle.frames.specs.Check.{framesRejection, rejection}
-use Rattle.certificate.specs.Buffer.{tabulate, written}
+use Rattle.places.specs.Buffer.{tabulate, written}
 use Rattle.demands.specs.Cases.{rowOf, tables, rows}
 
 -- every row of the table is what the definitions give

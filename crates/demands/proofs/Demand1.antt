@@ -28,7 +28,8 @@ use Rattle.treefile.specs.File.{fileCheck3, readRejection, readAnswer, tableAft
 use Rattle.treefile.proofs.FirstLine.{line-first}
 use Rattle.verify.specs.Flags.{ruleHolds}
 use Rattle.verify.specs.Check.{check11, check12, check13}
-use Rattle.certificate.specs.Search.{check10, searchRejection}
+use Rattle.certificate.specs.Search.{searchRejection}
+use Rattle.frames.specs.Check.{check10}
 use Rattle.alphabeta.specs.declared.Answer.the-variants as ab-answer
 use Rattle.mtd.specs.declared.Answer.the-variants as mtd-answer
 use Rattle.sss.specs.declared.State.{State}

@@ -15,11 +15,11 @@ use Rattle.frames.specs.Tree.{tree, valuation}
 use Rattle.frames.specs.Check.{Accepted}
 use Rattle.frames.proofs.Acceptance.{accepted-formed}
 use Rattle.frames.proofs.TreeOfTable.{leaf-score}
-use Rattle.certificate.specs.Buffer.{mark}
-use Rattle.certificate.specs.Value.{valueOf, signed}
+use Rattle.certificate.specs.Marks.{mark}
+use Rattle.frames.specs.Value.{valueOf, signed}
 use Rattle.certificate.specs.Search.{marksOf, flagsOf, findings}
 use Rattle.certificate.proofs.Questions.{room-passed}
-use Rattle.certificate.proofs.Values.{value-stored}
+use Rattle.frames.proofs.Values.{value-stored}
 use Rattle.verify.specs.declared.Verdict.the-variants.{Value}
 use Rattle.verify.specs.Check.{verdict}
 use Rattle.verify.specs.Certificate.{Certificate}

@@ -23,9 +23,11 @@ use Rattle.frames.specs.Formed.{WellFormed}
 use Rattle.frames.proofs.Acceptance.{accepted-formed}
 use Rattle.frames.proofs.Nodes.{tree-range}
 use Rattle.frames.proofs.Proper.{tree-proper}
-use Rattle.certificate.specs.Buffer.{mark, marked, member, ones}
-use Rattle.certificate.specs.Value.{valueOf}
-use Rattle.certificate.proofs.Buffers.{written-length, written-at}
+use Rattle.certificate.specs.Marks.{mark}
+use Rattle.certificate.specs.Marks.{marked, ones}
+use Rattle.verify.specs.Flags.{member}
+use Rattle.frames.specs.Value.{valueOf}
+use Rattle.places.proofs.Buffers.{written-length, written-at}
 use Rattle.certificate.proofs.Marks.{marked-written, searched-within, ones-searched}
 use Rattle.alphabeta.specs.Outcome.{reachedLeaves}
 use Rattle.verify.specs.declared.Verdict.the-variants.{Value}

@@ -17,9 +17,10 @@ use Rattle.frames.specs.Frame.{frames}
 use Rattle.frames.specs.Tree.{tree, valuation}
 use Rattle.frames.specs.Shape.{SameShape}
 use Rattle.frames.proofs.Shapes.{same-score, same-tree}
-use Rattle.certificate.specs.Buffer.{tabulate, written, mark}
+use Rattle.certificate.specs.Marks.{mark}
+use Rattle.places.specs.Buffer.{tabulate, written}
 use Rattle.certificate.specs.Search.{findings}
-use Rattle.certificate.proofs.Buffers.{length-tabulate, tabulate-same}
+use Rattle.places.proofs.Buffers.{length-tabulate, tabulate-same}
 use Rattle.certificate.proofs.Marks.{searched-within}
 use Rattle.demands.specs.Calls.{Call, found, lent, left, leaves}
 use Rattle.demands.specs.Handed.{AgreeOnMarked, Alike}

@@ -13,7 +13,8 @@ use Rattle.frames.specs.Check.{rejection, Accepted}
 use Rattle.frames.proofs.Stated.{both-passed}
 use Rattle.frames.proofs.Acceptance.{accepted-formed}
 use Rattle.certificate.specs.declared.Findings.{Findings}
-use Rattle.certificate.specs.Search.{check10, searchRejection, marksOf, flagsOf, findings}
+use Rattle.certificate.specs.Search.{searchRejection, marksOf, flagsOf, findings}
+use Rattle.frames.specs.Check.{check10}
 use Rattle.certificate.proofs.Questions.{passed-room}
 use Rattle.alphabeta.specs.declared.Answer.the-variants as ab-answer
 use Rattle.alphabeta.specs.Outcome.{reachedLeaves, alphaBetaSearch}

@@ -79,6 +79,14 @@ module _ (q : ℕ → Option Rejection) (n : ℕ) where
     pub passed-until : (r : Rejection) → q i ≡ some r → eachNode q 0 n ≡ some r
     passed-until r e = passed-head ∙ rw e
 
+  -- nodes that pass leave the later ones
+  pub passed-below : (i : ℕ) → i ≤ n → ((k : ℕ) → k < i → q k ≡ none) → Passed q n i
+  passed-below zero h p = passed-none
+  passed-below (suc i) h p =
+      let e : i + 1 ≡ suc i = omega arith in
+      let q = passed-below i (omega arith) (λ k l. p k (omega arith)) in
+      rw e at (passed-more i (omega arith) q (p i (omega arith)))
+
 -- where questions 4 to 7 stand before node i: m is 1 plus the child counts so far
 pub record Asking (t : List ℕ) (i m : ℕ) : Type 0 where
   pub within : i ≤ frames t

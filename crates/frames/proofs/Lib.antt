@@ -5,6 +5,7 @@ pub mod Places
 pub mod Sides
 pub mod Trees
 pub mod Nodes
+pub mod Values
 pub mod Totals
 pub mod Proper
 pub mod Shapes

@@ -43,6 +43,10 @@ module _ (t : List ℕ) (wf : WellFormed t) where
   pub next-within : (i : ℕ) → i ≤ frames t → next t i ≤ frames t
   next-within i h = omega (arith, next-mono t i (frames t) h, wf .total)
 
+  -- once it has reached that number, no node from i on has children
+  pub none-after : (i k : ℕ) → frames t ≤ next t i → i ≤ k → k < frames t → childCount t k ≡ 0
+  none-after i k e l h = omega (arith, next-mono t i k l, next-more t k, next-within (k + 1) (omega arith))
+
   -- the children of node i are the numbers from next t i up to next t (i + 1)
   pub child-next : {i k : ℕ} → i < frames t → ChildOf t i k → (next t i ≤ k) × (k < next t (i + 1))
   child-next {i} {k} h c =

@@ -1,9 +1,9 @@
 -- The check of a table: questions 1 to 9 of 01, in order.
 use Prim.Native.Nat.{ℕ, zero, suc, _%_}
 use mathlib.Core.Path.{_≡_}
-use mathlib.Core.Bool.{Bool, _&&_}
+use mathlib.Core.Bool.{Bool, true, _&&_}
 use mathlib.Core.Option.{Option, none}
-use mathlib.Core.List.{List}
+use mathlib.Core.List.{List, [], _∷_}
 use lib.Dec.{ltb, leb, eqb}
 use lib.ListN.{length}
 use Rattle.frames.specs.declared.Rejection.{Rejection}
@@ -79,6 +79,15 @@ framesRejection t = nodesRejection t andThen check8 t andThen depthsRejection t
 -- the first "no" to questions 1 to 9
 unfoldable pub rejection : List ℕ → Option Rejection
 rejection t = check1 t andThen check2 t andThen check3 t andThen framesRejection t
+
+-- has each of the buffers, given by their lengths, at least n entries
+abbrev pub roomy : ℕ → List ℕ → Bool
+roomy n [] = true
+roomy n (l ∷ ls) = leb n l && roomy n ls
+
+-- 10: has each lent buffer an entry per node?
+abbrev pub check10 : ℕ → List ℕ → Option Rejection
+check10 n lengths = ask (roomy n lengths) 10 0
 
 -- 01's accepted tree: questions 1 to 9 get no "no"
 abbrev pub Accepted : List ℕ → Type 0

@@ -3,6 +3,7 @@ pub mod Frame
 pub mod Children
 pub mod Place
 pub mod Tree
+pub mod Value
 pub mod Formed
 pub mod Rejection
 pub mod Check

@@ -3,11 +3,13 @@ use gametree::Place;
 use gametree::other;
 ghost use mathlib.Core.Path.{_≡_};
 ghost use Prim.Native.Nat.{_+_, _*_, _<_, _≤_};
+ghost use Rattle.gametree.specs.Tree.{greatest};
 ghost use Rattle.frames.specs.Frame.{frameSize, maxNodes, maxChildren, frames, next as nextOf, twoBytes};
 ghost use Rattle.frames.specs.Frame.{byteOf, firstChild, childCount, byte3, valueBytes, storedScore};
 ghost use Rattle.frames.specs.Children.{childrenOf};
 ghost use Rattle.frames.specs.Place.{childPlace};
 ghost use Rattle.frames.specs.Tree.{leafScore};
+ghost use Rattle.frames.specs.Value.{valueOf};
 ghost use Rattle.frames.specs.Formed.{WellFormed};
 ghost use Rattle.frames.specs.Rejection.{answer};
 ghost use Rattle.frames.specs.Check.{firstChildRight, valueRight, checkNode, nodesRejection, depthsRejection};
@@ -33,6 +35,16 @@ pub const GREATEST: u32 = 64002;
 pub const ZERO_SCORE: usize = 32001;
 
 pub const TWO_BYTES: usize = 65536;
+
+// The score of the value 0, for signed differences.
+const ZERO: i32 = ZERO_SCORE as i32;
+
+// The flags of a certificate: a node in the max tree only, in the min tree only, and in both.
+pub const IN_MAX: u8 = 1;
+
+pub const IN_MIN: u8 = 2;
+
+pub const IN_BOTH: u8 = 3;
 
 // The numbers of 01's questions about a table and the buffers lent with it, by what a "no" means.
 pub const EMPTY: u8 = 1;
@@ -186,7 +198,9 @@ fn value_right(table: &[u8], node: usize) -> bool
     score < GREATEST
 }
 
-// Question 9, level by level: in a well-formed table a level ends where the children of its nodes begin.
+// Question 9, level by level: in a well-formed table a level ends where the children of its nodes begin. If the last
+// level begins before every node has been reached as a child, the first one that has not is too deep; once every node
+// has been reached, none is.
 fn check_depths(table: &[u8]) -> Checked
     requires { ⌜ WellFormed (now table) ⌝ }
     ensures { λ r. ⌜ r ≡ answer (frames (now (table .entry))) (depthsRejection (now (table .entry))) ⌝ }
@@ -195,15 +209,17 @@ fn check_depths(table: &[u8]) -> Checked
     let mut depth: usize = 0;
     let mut end: usize = 1;
     let mut next: usize = 1;
-    for node in 0..n {
+    let mut node: usize = 0;
+    while next < n {
         if node == end {
             depth += 1;
+            if depth == MAX_DEPTH {
+                return rejected(TOO_DEEP, next);
+            }
             end = next;
         }
-        if MAX_DEPTH < depth {
-            return rejected(TOO_DEEP, node);
-        }
         next += child_count(table, node);
+        node += 1;
     }
     Checked::Nodes(n)
 }
@@ -276,6 +292,14 @@ pub fn leaf_score(table: &[u8], node: usize, depth: u32) -> u32
     ensures { λ r. ⌜ (r ≡ leafScore depth (storedScore (now (table .entry)) node)) × (r < twoBytes) ⌝ }
 {
     stored_score(table, node)
+}
+
+// The value of a score (01: from -32,001 to 32,001).
+pub fn value(score: u32) -> i16
+    requires { ⌜ score ≤ greatest ⌝ }
+    ensures { λ r. ⌜ r ≡ valueOf score ⌝ }
+{
+    (score as i32 - ZERO) as i16
 }
 
 // Where a child of a node at `place` stands.

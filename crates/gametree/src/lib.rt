@@ -1,7 +1,7 @@
 // The theory of game-tree search: definitions in specs/, theorems in proofs/ (Theorems states what is for use).
 // The code holds the two plain types that the theory and the searches share.
 ghost use mathlib.Core.Path.{_≡_};
-ghost use Rattle.gametree.specs.Tree.{other as otherSide};
+ghost use Rattle.gametree.specs.Tree.{other as otherSide, better as betterOf};
 
 // Who moves at an inner node.
 pub enum Side {
@@ -22,5 +22,15 @@ pub fn other(side: Side) -> Side
     match side {
         Side::Max => Side::Min,
         Side::Min => Side::Max,
+    }
+}
+
+// The better of two scores for a side.
+pub fn better(side: Side, a: u32, b: u32) -> u32
+    ensures { λ r. ⌜ r ≡ betterOf side a b ⌝ }
+{
+    match side {
+        Side::Max => if a < b { b } else { a },
+        Side::Min => if a < b { a } else { b },
     }
 }

@@ -14,7 +14,7 @@ use Rattle.gametree.proofs.Choice.{cond-cases}
 use Rattle.gametree.specs.MemoArrays.{readMemoKids, VisitedKids}
 use Rattle.gametree.proofs.MemoArrays.{rest-same, visit-ended, visit-joined}
 use Rattle.frames.specs.Tree.{kidsFrom, valuation}
-use Rattle.certificate.specs.Buffer.{marked}
+use Rattle.certificate.specs.Marks.{marked}
 use Rattle.mtd.specs.declared.Tried.{Tried}
 use Rattle.mtd.specs.engine.Memory.{Memory, passOf, Evaluated, Passed}
 use Rattle.mtd.proofs.Arrays.{evaluated-none, evaluated-more}

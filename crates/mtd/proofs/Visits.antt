@@ -15,7 +15,7 @@ use Rattle.frames.specs.Formed.{WellFormed}
 use Rattle.frames.proofs.Places.{depth-at-most}
 use Rattle.frames.proofs.Trees.{in-kids, tree-leaf}
 use Rattle.frames.proofs.Nodes.{in-own, tree-distinct}
-use Rattle.certificate.specs.Buffer.{marked}
+use Rattle.certificate.specs.Marks.{marked}
 use Rattle.certificate.specs.Ranges.{bestIn}
 use Rattle.certificate.proofs.Bounds.{best-same, minimax-best}
 use Rattle.mtd.specs.declared.Seen.{Seen}

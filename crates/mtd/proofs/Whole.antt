@@ -17,10 +17,11 @@ use Rattle.frames.specs.Frame.{maxNodes, frames}
 use Rattle.frames.specs.Tree.{tree, valuation}
 use Rattle.frames.specs.Formed.{WellFormed}
 use Rattle.frames.proofs.Proper.{tree-proper}
-use Rattle.certificate.specs.Buffer.{written, marked, markAll}
-use Rattle.certificate.specs.Value.{valueOf}
+use Rattle.places.specs.Buffer.{written}
+use Rattle.certificate.specs.Marks.{marked, markAll}
+use Rattle.frames.specs.Value.{valueOf}
 use Rattle.certificate.specs.Search.{marksOf, flagsOf}
-use Rattle.certificate.proofs.Buffers.{written-at, written-length}
+use Rattle.places.proofs.Buffers.{written-at, written-length}
 use Rattle.certificate.proofs.Outcomes.{search-concludes}
 use Rattle.mtd.specs.declared.Settled.{Settled}
 use Rattle.mtd.specs.engine.Memory.{memory, Fresh, settledOf}

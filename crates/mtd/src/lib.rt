@@ -6,7 +6,6 @@ use certificate::best;
 use certificate::clear;
 use certificate::conclude;
 use certificate::evaluate;
-use certificate::value;
 use frames::Checked;
 use frames::GREATEST;
 use frames::MAX_NODES;
@@ -15,6 +14,7 @@ use frames::child_count;
 use frames::child_place;
 use frames::first_child;
 use frames::frame_count;
+use frames::value;
 use gametree::Place;
 use gametree::Side;
 ghost use mathlib.Core.Path.{_≡_};
@@ -27,7 +27,7 @@ ghost use Rattle.frames.specs.Frame.{maxNodes, frames, childCount};
 ghost use Rattle.frames.specs.Place.{depthOf};
 ghost use Rattle.frames.specs.Tree.{treeAt, tree, valuation};
 ghost use Rattle.frames.specs.Formed.{WellFormed};
-ghost use Rattle.certificate.specs.Buffer.{marked, markAll};
+ghost use Rattle.certificate.specs.Marks.{marked, markAll};
 ghost use Rattle.certificate.specs.Evaluable.{Evaluable};
 ghost use Rattle.certificate.specs.Search.{marksOf, flagsOf};
 ghost use Rattle.mtd.specs.Outcome.{mtdLeaves, mtdFound, mtdOutcome};
@@ -71,7 +71,9 @@ fn run(table: &[u8], evaluated: &mut [u8], certificate: &mut [u8]) -> Found
     let mut highs = [GREATEST; MAX_NODES];
     let mut not_below = [0u8; MAX_NODES];
     let settled = run_passes(table, evaluated, &mut highs, &mut not_below);
-    let root_move = conclude(table, evaluated, certificate);
+    let mut places = [0u32; MAX_NODES];
+    places::fill(table, &mut places);
+    let root_move = conclude(table, &places, evaluated, certificate);
     let value = value(settled.score);
     Found {
         findings: Findings {

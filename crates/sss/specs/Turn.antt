@@ -5,7 +5,7 @@ use mathlib.Core.List.{List, [], _∷_}
 use lib.Dec.{eqb}
 use lib.ListN.{length, getD}
 use Rattle.frames.specs.Frame.{frames, childCount}
-use Rattle.certificate.specs.Buffer.{markAll}
+use Rattle.certificate.specs.Marks.{markAll}
 use Rattle.sss.specs.declared.Status.{Status}
 use Rattle.sss.specs.declared.Status.the-variants.{Live, Solved}
 use Rattle.sss.specs.declared.State.{State}

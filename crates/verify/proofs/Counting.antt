@@ -5,7 +5,7 @@ use mathlib.Core.Path.{_≡_}
 use mathlib.Core.Bool.{Bool, true, false, cond}
 use mathlib.Core.List.{List}
 use Rattle.gametree.specs.declared.Side.{Side}
-use Rattle.certificate.specs.Buffer.{member}
+use Rattle.verify.specs.Flags.{member}
 use Rattle.verify.specs.Flags.{membersFrom}
 
 -- of the n nodes from i on, m before node k are members, and those from k on are still to be counted

@@ -4,6 +4,7 @@ mod Rules
 mod Values
 mod Counting
 mod Asking
+mod Ruling
 mod Judging
 pub mod Theorems
 mod Cases

@@ -18,8 +18,7 @@ use Rattle.frames.specs.Tree.{kidsFrom, treeAt, tree}
 use Rattle.frames.specs.Formed.{WellFormed}
 use Rattle.frames.proofs.Parents.{bottom-up}
 use Rattle.frames.proofs.Trees.{zero-or-suc, tree-leaf, tree-inner, tree-number}
-use Rattle.certificate.specs.Buffer.{member}
-use Rattle.verify.specs.Flags.{membersFrom, requiredOf, rootMember, ruleHolds}
+use Rattle.verify.specs.Flags.{member, membersFrom, requiredOf, rootMember, ruleHolds}
 use Rattle.verify.proofs.Subtrees.{Inherited, each-subtree}
 
 module _ (p : Side) (t flags : List ℕ) where
@@ -54,6 +53,12 @@ rules-inherited p g = record { ofInner = λ n q ks x. x .1; ofLast = λ t x. x; 
 pub root-member : (p : Side) (flags : List ℕ) (i : ℕ) → (i ≡ 0 → member p flags i ≡ true) → rootMember p flags i ≡ true
 root-member p flags zero f = f refl
 root-member p flags (suc i) f = refl
+
+-- of a leaf that is not the root nothing is asked
+pub leaf-rule : (p : Side) (t flags : List ℕ) (i : ℕ) → 0 < i → childCount t i ≡ 0 → ruleHolds p t flags i ≡ true
+unfolding ruleHolds membersFrom
+leaf-rule p t flags zero h e = absurd (omega arith)
+leaf-rule p t flags (suc i) h e = rw e
 
 module _ (p : Side) (t flags : List ℕ) (wf : WellFormed t) where
   -- as many children of node i are in the tree as required

@@ -18,12 +18,11 @@ use Rattle.frames.specs.declared.Rejection.{Rejection}
 use Rattle.frames.specs.Frame.{frames}
 use Rattle.frames.specs.Tree.{tree, valuation}
 use Rattle.frames.specs.Rejection.{ask, eachNode}
-use Rattle.frames.specs.Check.{rejection}
+use Rattle.frames.specs.Check.{rejection, check10}
 use Rattle.frames.proofs.Asked.{each-passed, passed-each}
 use Rattle.frames.proofs.Stated.{ask-yes, yes-ask, both-passed, passed-both}
 use Rattle.frames.proofs.Acceptance.{accepted-formed}
-use Rattle.certificate.specs.Search.{check10}
-use Rattle.certificate.specs.Value.{valueOf}
+use Rattle.frames.specs.Value.{valueOf}
 use Rattle.verify.specs.declared.Verdict.the-variants.{Value}
 use Rattle.verify.specs.Flags.{ruleHolds}
 use Rattle.verify.specs.Value.{treeValue}

@@ -20,7 +20,7 @@ use Rattle.frames.specs.Tree.{tree, valuation}
 use Rattle.frames.specs.Formed.{WellFormed}
 use Rattle.frames.proofs.Trees.{tree-leaf}
 use Rattle.frames.proofs.Proper.{every-leaf, leaf-scored, tree-proper}
-use Rattle.certificate.specs.Buffer.{member}
+use Rattle.verify.specs.Flags.{member}
 use Rattle.verify.specs.Value.{leafIn, bestBefore, treeValue}
 use Rattle.verify.proofs.Subtrees.{Inherited, each-subtree}
 

@@ -7,7 +7,7 @@ use Rattle.gametree.specs.Certificate.{Certifies, inBoth}
 use Rattle.frames.specs.Frame.{frames}
 use Rattle.frames.specs.Tree.{tree, valuation}
 use Rattle.frames.specs.Check.{Accepted}
-use Rattle.certificate.specs.Buffer.{member}
+use Rattle.verify.specs.Flags.{member}
 
 -- the table is accepted, each node has a flag from 0 to 3, and the nodes flagged 1 or 3 are a max solution tree, those
 -- flagged 2 or 3 a min solution tree, both of value v

@@ -10,9 +10,8 @@ use Rattle.gametree.specs.Certificate.{inBoth}
 use Rattle.frames.specs.declared.Rejection.{Rejection}
 use Rattle.frames.specs.Frame.{frames}
 use Rattle.frames.specs.Rejection.{ask, _andThen_, eachNode}
-use Rattle.frames.specs.Check.{rejection}
-use Rattle.certificate.specs.Search.{check10}
-use Rattle.certificate.specs.Value.{valueOf}
+use Rattle.frames.specs.Check.{rejection, check10}
+use Rattle.frames.specs.Value.{valueOf}
 use Rattle.verify.specs.declared.Verdict.{Verdict}
 use Rattle.verify.specs.declared.Verdict.the-variants.{Value, Rejected}
 use Rattle.verify.specs.Flags.{ruleHolds}

@@ -3,11 +3,15 @@ use Prim.Native.Nat.{ℕ, zero, suc, _+_}
 use mathlib.Core.Bool.{Bool, true, false, cond, _&&_}
 use mathlib.Core.List.{List}
 use lib.Dec.{eqb}
+use lib.ListN.{getD}
 use Rattle.gametree.specs.declared.Side.{Side}
-use Rattle.gametree.specs.Certificate.{same}
+use Rattle.gametree.specs.Certificate.{inside, same}
 use Rattle.frames.specs.Frame.{firstChild, childCount}
 use Rattle.frames.specs.Place.{sideOf}
-use Rattle.certificate.specs.Buffer.{member}
+
+-- the set of the nodes that the flags put into side p's tree: flagged 1 or 3 for Max, 2 or 3 for Min
+abbrev pub member : Side → List ℕ → ℕ → Bool
+member p flags k = inside p (getD flags k 0)
 
 -- how many of the nodes i, i + 1, .., n of them, are in side p's tree
 unfoldable pub membersFrom : Side → List ℕ → ℕ → ℕ → ℕ

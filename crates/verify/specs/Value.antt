@@ -8,7 +8,7 @@ use Rattle.gametree.specs.Tree.{better}
 use Rattle.gametree.specs.Certificate.{worst}
 use Rattle.frames.specs.Frame.{frames, childCount}
 use Rattle.frames.specs.Tree.{valuation}
-use Rattle.certificate.specs.Buffer.{member}
+use Rattle.verify.specs.Flags.{member}
 
 -- the score of node i if it is a leaf of side p's tree, else the score that each other is better than
 abbrev pub leafIn : Side → List ℕ → List ℕ → ℕ → ℕ

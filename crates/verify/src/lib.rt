@@ -1,11 +1,9 @@
 // The check of a lent certificate (01: the proof check).
-use certificate::IN_BOTH;
-use certificate::better;
-use certificate::fill_places;
-use certificate::side_at;
-use certificate::value;
 use frames::Checked;
 use frames::GREATEST;
+use frames::IN_BOTH;
+use frames::IN_MAX;
+use frames::IN_MIN;
 use frames::LEAST;
 use frames::MAX_NODES;
 use frames::Rejection;
@@ -15,25 +13,24 @@ use frames::first_child;
 use frames::frame_count;
 use frames::leaf_score;
 use frames::rejected;
+use frames::value;
 use gametree::Side;
+use gametree::better;
+use places::depth_at;
+use places::side_at;
 ghost use mathlib.Core.Path.{_≡_};
-ghost use Prim.Native.Nat.{ℕ, _+_, _≤_, _<_};
+ghost use Prim.Native.Nat.{_+_, _≤_, _<_};
 ghost use mathlib.Core.Bool.{true};
-ghost use lib.ListN.{length, getD};
+ghost use lib.ListN.{length};
 ghost use Rattle.gametree.specs.Certificate.{inside, same as sameSide, worst as worstOf};
 ghost use Rattle.frames.specs.Frame.{maxNodes, frames};
 ghost use Rattle.frames.specs.Place.{depthOf, sideOf};
 ghost use Rattle.frames.specs.Formed.{WellFormed};
 ghost use Rattle.frames.specs.Rejection.{answer};
-ghost use Rattle.certificate.specs.Places.{sideNumber, Placed};
+ghost use Rattle.places.specs.Places.{Placed};
 ghost use Rattle.verify.specs.Flags.{membersFrom, requiredOf, ruleHolds};
 ghost use Rattle.verify.specs.Value.{leafIn, treeValue};
 ghost use Rattle.verify.specs.Check.{check11, checkTree, treesRejection, flagsRejection, judged, verdict};
-
-// The flag of a node in the max tree only, and in the min tree only.
-const IN_MAX: u8 = 1;
-
-const IN_MIN: u8 = 2;
 
 // The numbers of 01's questions about a certificate, by what a "no" means.
 pub const WRONG_FLAG: u8 = 11;
@@ -84,28 +81,27 @@ fn check_trees(table: &[u8], flags: &[u8]) -> Verdict
     requires { ⌜ (WellFormed (now table)) × (frames (now table) ≤ length (now flags)) ⌝ }
     ensures { λ r. ⌜ r ≡ judged (now (table .entry)) (now (flags .entry)) (treesRejection (now (table .entry)) (now (flags .entry))) ⌝ }
 {
-    let mut depths = [0u32; MAX_NODES];
-    let mut sides = [0u8; MAX_NODES];
-    fill_places(table, &mut depths, &mut sides);
-    judge(table, flags, &depths, &sides)
+    let mut places = [0u32; MAX_NODES];
+    places::fill(table, &mut places);
+    judge(table, flags, &places)
 }
 
-// The same, with the depth and the side of each node.
-fn judge(table: &[u8], flags: &[u8], depths: &[u32], sides: &[u8]) -> Verdict
-    requires { ⌜ (WellFormed (now table)) × (frames (now table) ≤ length (now flags)) ⌝ }
-    requires { ⌜ Placed (now table) (now depths) (now sides) ⌝ }
+// The same, with the places of the nodes.
+fn judge(table: &[u8], flags: &[u8], places: &[u32]) -> Verdict
+    requires { ⌜ (WellFormed (now table)) × (frames (now table) ≤ length (now flags))
+        × (Placed (now table) (now places)) ⌝ }
     ensures { λ r. ⌜ r ≡ judged (now (table .entry)) (now (flags .entry)) (treesRejection (now (table .entry)) (now (flags .entry))) ⌝ }
 {
-    let max_tree = check_rules(table, flags, sides, Side::Max, NO_MAX_TREE);
+    let max_tree = check_rules(table, flags, places, Side::Max, NO_MAX_TREE);
     if let Checked::Rejected(r) = max_tree {
         return Verdict::Rejected(r);
     }
-    let min_tree = check_rules(table, flags, sides, Side::Min, NO_MIN_TREE);
+    let min_tree = check_rules(table, flags, places, Side::Min, NO_MIN_TREE);
     if let Checked::Rejected(r) = min_tree {
         return Verdict::Rejected(r);
     }
-    let score = tree_value(table, flags, depths, Side::Max);
-    if score != tree_value(table, flags, depths, Side::Min) {
+    let score = tree_value(table, flags, places, Side::Max);
+    if score != tree_value(table, flags, places, Side::Min) {
         return Verdict::Rejected(Rejection {
             number: UNEQUAL_VALUES,
             place: 0,
@@ -128,19 +124,26 @@ fn check_flags(table: &[u8], flags: &[u8]) -> Checked
     Checked::Nodes(n)
 }
 
-// Questions 12 and 13, put to one node after the other: do the side's flags form a solution tree?
-fn check_rules(table: &[u8], flags: &[u8], sides: &[u8], side: Side, number: u8) -> Checked
-    requires { ⌜ (WellFormed (now table)) × (frames (now table) ≤ length (now flags)) ⌝ }
-    requires { ⌜ frames (now table) ≤ length (now sides) ⌝ }
-    requires { ⌜ ((k : ℕ) → k < frames (now table) → getD (now sides) k 0 ≡ sideNumber (sideOf (now table) k)) ⌝ }
+// Questions 12 and 13, put to one node after the other: do the side's flags form a solution tree? Once every node has
+// been reached as a child, those that are left are leaves, of which nothing is asked.
+fn check_rules(table: &[u8], flags: &[u8], places: &[u32], side: Side, number: u8) -> Checked
+    requires { ⌜ (WellFormed (now table)) × (frames (now table) ≤ length (now flags))
+        × (Placed (now table) (now places)) ⌝ }
     ensures { λ r. ⌜ r ≡ answer (frames (now (table .entry))) (checkTree number side (now (table .entry)) (now (flags .entry))) ⌝ }
 {
     let n = frame_count(table);
-    for node in 0..n {
-        let mover = side_at(sides, node);
+    let mut node: usize = 0;
+    let mut next: usize = 1;
+    loop {
+        let mover = side_at(places, node);
         if !rule_holds(table, flags, node, mover, side) {
             return rejected(number, node);
         }
+        next += child_count(table, node);
+        if next == n {
+            break;
+        }
+        node += 1;
     }
     Checked::Nodes(n)
 }
@@ -193,16 +196,16 @@ fn required(side: Side, mover: Side, count: usize) -> usize
 }
 
 // The value of the side's tree: the best score of its leaves.
-fn tree_value(table: &[u8], flags: &[u8], depths: &[u32], side: Side) -> u32
-    requires { ⌜ (WellFormed (now table)) × (frames (now table) ≤ length (now flags)) ⌝ }
-    requires { ⌜ frames (now table) ≤ length (now depths) ⌝ }
-    requires { ⌜ ((k : ℕ) → k < frames (now table) → getD (now depths) k 0 ≡ depthOf (now table) k) ⌝ }
+fn tree_value(table: &[u8], flags: &[u8], places: &[u32], side: Side) -> u32
+    requires { ⌜ (WellFormed (now table)) × (frames (now table) ≤ length (now flags))
+        × (Placed (now table) (now places)) ⌝ }
     ensures { λ r. ⌜ r ≡ treeValue side (now (table .entry)) (now (flags .entry)) ⌝ }
 {
     let n = frame_count(table);
     let mut best = worst(side);
     for node in 0..n {
-        best = better(side, best, leaf_in(table, flags, node, depths[node], side));
+        let leaf = leaf_in(table, flags, node, depth_at(places, node), side);
+        best = better(side, best, leaf);
     }
     best
 }

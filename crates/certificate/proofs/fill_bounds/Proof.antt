@@ -1,10 +1,12 @@
 -- `certificate::fill_bounds` meets its contract: from the last node to the first, each bound follows from later ones.
+use Prim.Native.Nat.{_-_, _<_}
 use native.Mathlib.Omega.{arith}
 use mathlib.Core.Path.{_≡_, refl, ap, _∙_}
 use lib.ListN.{length}
 use borrow.Author.Needs.{needs}
+use Rattle.gametree.specs.Tree.{least, greatest}
 use Rattle.frames.specs.Frame.{frames}
-use Rattle.certificate.specs.Buffer.{marked}
+use Rattle.certificate.specs.Marks.{marked}
 use Rattle.certificate.specs.Bounds.{boundOf}
 use Rattle.certificate.proofs.BottomUp.{Rising, rising-begins, rising-step, rising-ends}
 use Rattle.certificate.proofs.Bounds.{children-bounded}
@@ -12,11 +14,16 @@ use Rattle.certificate.proofs.fill_bounds.Statement.{statement}
 use Rattle.certificate.proofs.fill_bounds.Tie as tie
 
 abbrev Inv-loop : tie.InvT-loop
-Inv-loop table evaluated₀ depths sides bounds₀ unknown node₀ evaluated bounds node =
-    (evaluated ≡ evaluated₀) × Rising (boundOf table (marked evaluated₀) unknown) (frames table) bounds₀ bounds node
+Inv-loop table places evaluated₀ lows₀ highs₀ node₀ evaluated lows highs node =
+    (evaluated ≡ evaluated₀) × Rising (boundOf table (marked evaluated₀) least) (frames table) lows₀ lows node
+    × Rising (boundOf table (marked evaluated₀) greatest) (frames table) highs₀ highs node
 
 abbrev μ-loop : tie.MeasureT-loop
-μ-loop table evaluated₀ depths sides bounds₀ unknown node₀ evaluated bounds node = node
+μ-loop table places evaluated₀ lows₀ highs₀ node₀ evaluated lows highs node = node
+
+-- from a turn to the start
+abbrev at-start : tie.In-loop Inv-loop μ-loop → tie.Start Inv-loop μ-loop
+at-start c = c .before .before .before .before .before .before .before .before
 
 frame-count-requires : tie.Need-frame-count-requires Inv-loop μ-loop
 frame-count-requires c κs = search needs
@@ -24,37 +31,48 @@ frame-count-requires c κs = search needs
 loop-holds : tie.Need-loop-holds Inv-loop μ-loop
 loop-holds c =
     let a = c .before .before .before .before .before .before in
-    (refl, rw (c .frame-count .ensures) (rising-begins _ (a .pre .1 .1 .1)))
+    rw (c .frame-count .ensures) (refl, rising-begins _ (a .pre .1 .0), rising-begins _ (a .pre .1 .1))
 
 sub-node : tie.Need-sub-node Inv-loop μ-loop
 sub-node c = search needs
 
-bound-requires : tie.Need-bound-requires Inv-loop μ-loop
-bound-requires c κs =
+node-bounds-requires : tie.Need-node-bounds-requires Inv-loop μ-loop
+node-bounds-requires c κs =
     let l = c .before .before .before in
-    let a = l .before .before .before .before .before .before .before in
-    let m = l .loop .inv in
-    let r = m .1 in
-    let l = ap length (m .0) in (
-      a .pre .0,
+    let a = at-start l in
+    let m = l .before .loop .inv in
+    let n = ap length (m .0) in (
+      (a .pre .0 .0, a .pre .0 .1, omega (arith, n)),
       (
-        a .pre .1 .0,
+        (omega (arith, m .1 .inside), m .1 .room, m .2 .room),
         (
-          (omega (arith, r .inside), omega (arith, l), omega (arith, r .room)),
-          λ k d. rw (m .0) (children-bounded _ (a .pre .0) _ r (omega arith) k d),
+          λ k d. rw (m .0) (children-bounded _ (a .pre .0 .0) _ (m .1) (omega arith) k d),
+          λ k d. rw (m .0) (children-bounded _ (a .pre .0 .0) _ (m .2) (omega arith) k d),
         ),
       ),
     )
 
-mul-bounds : tie.Need-mul-bounds Inv-loop μ-loop
-mul-bounds c =
-    let l = c .before .before .before .before .before .before in
-    omega (arith, l .loop .inv .1 .inside, l .before .before .before .before .before .before .before .pre .0 .few)
+-- the node lies within the table
+inside : (c : tie.In-loop Inv-loop μ-loop) → c .before .loop .node - 1 < frames (at-start c .args .table .now)
+inside c = omega (arith, c .before .loop .inv .1 .inside)
 
-slice-write-bounds : tie.Need-slice-write-bounds Inv-loop μ-loop
-slice-write-bounds c =
+mul-lows : tie.Need-mul-lows Inv-loop μ-loop
+mul-lows c =
+    let l = c .before .before .before .before .before .before in omega (arith, inside l, at-start l .pre .0 .0 .few)
+
+slice-write-lows : tie.Need-slice-write-lows Inv-loop μ-loop
+slice-write-lows c =
     let l = c .before .before .before .before .before .before in
-    omega (arith, l .loop .inv .1 .inside, l .loop .inv .1 .room)
+    omega (arith, inside l, l .before .loop .inv .1 .room)
+
+mul-highs : tie.Need-mul-highs Inv-loop μ-loop
+mul-highs c =
+    let l = c .before .before .before .before .before .before in omega (arith, inside l, at-start l .pre .0 .0 .few)
+
+slice-write-highs : tie.Need-slice-write-highs Inv-loop μ-loop
+slice-write-highs c =
+    let l = c .before .before .before .before .before .before in
+    omega (arith, inside l, l .before .loop .inv .2 .room)
 
 loop-less : tie.Need-loop-less Inv-loop μ-loop
 loop-less c = search needs
@@ -62,9 +80,13 @@ loop-less c = search needs
 loop-again : tie.Need-loop-again Inv-loop μ-loop
 loop-again c =
     let l = c .before .before .before .before .before .before in
-    let b = c .before .before .bound .ensures in
-    let m = l .loop .inv in
-    (b .1 ∙ m .0, rising-step _ (m .1) (omega arith) _ (rw (m .0) at (b .0)))
+    let b = c .before .before .node-bounds .ensures in
+    let m = l .before .loop .inv in
+    let e = rw (m .0) at (b .0) in (
+      b .1 ∙ m .0,
+      rising-step _ (m .1) (omega arith) _ (ap (λ x. x .low) e),
+      rising-step _ (m .2) (omega arith) _ (ap (λ x. x .high) e),
+    )
 
 same-length : tie.Need-same-length Inv-loop μ-loop
 same-length c = ap length (c .before .loop .inv .0)
@@ -72,8 +94,13 @@ same-length c = ap length (c .before .loop .inv .0)
 same-length-2 : tie.Need-same-length-2 Inv-loop μ-loop
 same-length-2 c = c .before .loop .inv .1 .long
 
+same-length-3 : tie.Need-same-length-3 Inv-loop μ-loop
+same-length-3 c = c .before .loop .inv .2 .long
+
 returns : tie.Need-returns Inv-loop μ-loop
-returns c = (rising-ends _ (c .before .loop .inv .1) (omega arith), c .before .loop .inv .0)
+returns c =
+    let m = c .before .loop .inv in
+    (rising-ends _ (m .1) (omega arith), (rising-ends _ (m .2) (omega arith), m .0))
 
 pub fill-bounds-spec : {M : Type 1} → statement M
 fill-bounds-spec =
@@ -84,11 +111,14 @@ fill-bounds-spec =
     frame-count-requires
     loop-holds
     sub-node
-    bound-requires
-    mul-bounds
-    slice-write-bounds
+    node-bounds-requires
+    mul-lows
+    slice-write-lows
+    mul-highs
+    slice-write-highs
     loop-less
     loop-again
     same-length
     same-length-2
+    same-length-3
     returns)

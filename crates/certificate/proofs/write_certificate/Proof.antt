@@ -1,24 +1,40 @@
 -- `certificate::write_certificate` meets its contract: each turn stores the flags of one node's children.
-use Prim.Native.Nat.{ℕ, _-_, _<_}
+use Prim.Native.Nat.{ℕ, _+_, _-_, _≤_, _<_}
 use native.Mathlib.Omega.{arith}
 use mathlib.Core.Path.{sym, _∙_}
 use lib.ListN.{length-set}
 use borrow.Author.Needs.{needs}
 use Rattle.frames.specs.Frame.{frames}
+use Rattle.places.proofs.TopDown.{Visit, visit-root, visit-goes, visit-within, visit-step}
+use Rattle.places.proofs.TopDown.{Filled, filled-root, filled-all}
 use Rattle.certificate.specs.Flags.{FlagsFrom}
-use Rattle.certificate.proofs.TopDown.{Visit, visit-root, visit-within, visit-step}
-use Rattle.certificate.proofs.TopDown.{Filled, filled-root, filled-all}
 use Rattle.certificate.proofs.Flags.{flags-step}
 use Rattle.certificate.proofs.write_certificate.Statement.{statement}
 use Rattle.certificate.proofs.write_certificate.Tie as tie
 
 abbrev Inv-loop : tie.InvT-loop
-Inv-loop table sides lows highs certificate₀ next₀ n node₀ certificate next node =
+Inv-loop table places lows highs certificate₀ n node₀ next₀ certificate node next =
     Visit table certificate₀ certificate next node
-    × ((f : ℕ → ℕ) → FlagsFrom table sides lows highs f → Filled table f certificate₀ certificate next node)
+    × ((f : ℕ → ℕ) → FlagsFrom table places lows highs f → Filled table f certificate₀ certificate next node)
 
 abbrev μ-loop : tie.MeasureT-loop
-μ-loop table sides lows highs certificate₀ next₀ n node₀ certificate next node = n - node
+μ-loop table places lows highs certificate₀ n node₀ next₀ certificate node next = n - node
+
+-- from a turn to the start
+abbrev at-start : tie.In-loop Inv-loop μ-loop → tie.Start Inv-loop μ-loop
+at-start c = c .before .before .before .before .before .before .before .before
+
+-- a turn has a node to visit
+inside : (c : tie.In-loop Inv-loop μ-loop) → c .before .loop .node < frames (at-start c .args .table .now)
+inside c = visit-goes _ (c .before .loop .inv .0) (at-start c .pre .0) (omega arith)
+
+-- and its children lie within the table
+within : (c : tie.After-child-count Inv-loop μ-loop) →
+    let l = c .before in
+    l .before .loop .next + c .child-count .result ≤ frames (at-start l .args .table .now)
+within c =
+    let l = c .before in
+    visit-within _ (l .before .loop .inv .0) (inside l) _ (c .child-count .ensures .0) (at-start l .pre .0)
 
 slice-write-certificate : tie.Need-slice-write-certificate Inv-loop μ-loop
 slice-write-certificate c = omega (arith, c .before .before .before .before .before .pre .0 .some)
@@ -37,56 +53,52 @@ loop-holds c =
     )
 
 child-count-requires : tie.Need-child-count-requires Inv-loop μ-loop
-child-count-requires c κs = search needs
+child-count-requires c κs = inside c
 
 add-end : tie.Need-add-end Inv-loop μ-loop
-add-end c =
-    let l = c .before .before in
-    let a = l .before .before .before .before .before .before .before in
-    let w = visit-within _ (l .loop .inv .0) (omega arith) _ (c .child-count .ensures .0) (a .pre .0) in
-    omega (arith, a .pre .0 .few)
-
-chosen-child-requires : tie.Need-chosen-child-requires Inv-loop μ-loop
-chosen-child-requires c κs =
-    let l = c .before .before in
-    let a = l .before .before .before .before .before .before .before in
-    let w = visit-within _ (l .loop .inv .0) (omega arith) _ (c .child-count .ensures .0) (a .pre .0) in
-    ((omega arith, omega arith, omega arith), (omega arith, omega arith, omega arith))
+add-end c = omega (arith, within c, at-start (c .before) .pre .0 .few)
 
 slice-read-flag : tie.Need-slice-read-flag Inv-loop μ-loop
-slice-read-flag c = omega (arith, c .before .before .before .before .loop .inv .0 .room)
+slice-read-flag c = let l = c .before .before in omega (arith, inside l, l .before .loop .inv .0 .room)
 
 side-at-requires : tie.Need-side-at-requires Inv-loop μ-loop
-side-at-requires c κs = search needs
+side-at-requires c κs = omega (arith, inside (c .before .before))
 
 own-part-requires : tie.Need-own-part-requires Inv-loop μ-loop
 own-part-requires c κs = search needs
 
+apart-requires : tie.Need-apart-requires Inv-loop μ-loop
+apart-requires c κs =
+    let n = c .before .before .before in
+    let w = within n in
+    let h = inside (n .before) in
+    ((omega arith, omega arith, omega arith), (omega arith, omega arith, omega arith))
+
 flag-children-requires : tie.Need-flag-children-requires Inv-loop μ-loop
 flag-children-requires c κs =
-    let l = c .before .before .before .before .before .before .before in
-    let a = l .before .before .before .before .before .before .before in
-    let n = c .before .before .before .before .before .child-count .ensures .0 in
-    (omega arith, omega (arith, l .loop .inv .0 .room, visit-within _ (l .loop .inv .0) (omega arith) _ n (a .pre .0)))
+    let n = c .before .before .before .before .before in
+    (omega arith, omega (arith, within n, n .before .before .loop .inv .0 .room))
 
 add-node : tie.Need-add-node Inv-loop μ-loop
-add-node c = search needs
+add-node c =
+    let l = c .before .before .before .before .before .before .before .before .before in
+    omega (arith, inside l, at-start l .pre .0 .few)
 
 loop-less : tie.Need-loop-less Inv-loop μ-loop
-loop-less c = search needs
+loop-less c = omega (arith, inside (c .before .before .before .before .before .before .before .before .before))
 
 loop-again : tie.Need-loop-again Inv-loop μ-loop
 loop-again c =
     let w = c .before .before .flag-children .ensures in
-    let o = c .before .before .before .before .own-part .ensures in
-    let s = c .before .before .before .before .before .side-at .ensures in
-    let d = c .before .before .before .before .before .before .before .chosen-child .ensures in
-    let n = c .before .before .before .before .before .before .before .before .child-count .ensures .0 in
-    let l = c .before .before .before .before .before .before .before .before .before .before in
-    let a = l .before .before .before .before .before .before .before in
-    let h : l .loop .node < frames (a .args .table .now) = omega arith in (
-      visit-step _ (l .loop .inv .0) h _ n _ _ w,
-      λ f r. flags-step _ (a .pre .0) _ _ _ f r (l .loop .inv .1 f r) h _ n s _ _ o d _ w,
+    let p = c .before .before .before .before in
+    let o = p .before in
+    let s = o .before in
+    let n = s .before .before in
+    let l = n .before in
+    let m = l .before .loop .inv in (
+      visit-step _ (m .0) (inside l) _ (n .child-count .ensures .0) _ _ w,
+      λ f r. flags-step _ (at-start l .pre .0) _ _ _ f r (m .1 f r) (inside l) _ (n .child-count .ensures .0)
+          (s .side-at .ensures) _ _ (o .own-part .ensures) (p .apart .ensures) _ w,
     )
 
 same-length : tie.Need-same-length Inv-loop μ-loop
@@ -110,10 +122,10 @@ write-certificate-spec =
     loop-holds
     child-count-requires
     add-end
-    chosen-child-requires
     slice-read-flag
     side-at-requires
     own-part-requires
+    apart-requires
     flag-children-requires
     add-node
     loop-less

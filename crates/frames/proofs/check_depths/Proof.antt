@@ -1,12 +1,13 @@
 -- `check_depths` meets its contract: the loop goes down level by level (Levels).
-use Prim.Native.Nat.{_-_}
+use Prim.Native.Nat.{_-_, _<_}
 use native.Mathlib.Omega.{arith}
 use mathlib.Core.Path.{ap, _∙_}
 use mathlib.Core.Logic.{⊎-elim}
 use borrow.Author.Needs.{needs}
 use Rattle.frames.specs.declared.Checked.the-variants.{Nodes}
+use Rattle.frames.specs.Frame.{maxDepth, frames}
 use Rattle.frames.proofs.Levels.{Descending, descending-none, descending-more, descending-until, descending-all}
-use Rattle.frames.proofs.Levels.{Standing, enters, stays, counts-within}
+use Rattle.frames.proofs.Levels.{Standing, visits, enters, stays, counts-within}
 use Rattle.frames.proofs.check_depths.Statement.{statement}
 use Rattle.frames.proofs.check_depths.Tie as tie
 
@@ -16,15 +17,28 @@ Inv-loop table n depth₀ end₀ next₀ node₀ depth end next node = Descendin
 abbrev μ-loop : tie.MeasureT-loop
 μ-loop table n depth₀ end₀ next₀ node₀ depth end next node = n - node
 
--- after the first branch the node stands on the level of the depth that is kept
+-- from a turn to the start
+abbrev at-start : tie.In-loop Inv-loop μ-loop → tie.Start Inv-loop μ-loop
+at-start c = c .before .before .before .before
+
+-- some node is not known yet
+open-yet : (c : tie.In-loop Inv-loop μ-loop) → c .before .loop .next < frames (at-start c .args .table .now)
+open-yet c = omega arith
+
+inside : (c : tie.In-loop Inv-loop μ-loop) → c .before .loop .node < frames (at-start c .args .table .now)
+inside c = visits _ (at-start c .pre) _ _ _ _ (c .before .loop .inv) (open-yet c)
+
+-- after the first branch the node stands on the level of the depth that is kept, which is not the last one allowed
 standing : (c : tie.Joined1 Inv-loop μ-loop)
-    → Standing (c .before .before .before .before .before .args .table .now) (c .before .before .loop .node)
-    (c .if1 .depth) (c .if1 .end)
+    → Standing (at-start (c .before) .args .table .now) (c .before .before .loop .node) (c .if1 .depth) (c .if1 .end)
+    × (c .if1 .depth < maxDepth)
 standing c =
-    let l = c .before .before in
-    let wf = l .before .before .before .pre in
-    ⊎-elim (λ w. rw (w .1, w .2) (enters _ wf _ _ _ _ (omega arith) (l .loop .inv) (w .0 .taken)))
-    (λ w. rw (w .1, w .2) (stays _ wf _ _ _ _ (omega arith) (l .loop .inv) (w .0 .left)))
+    let l = c .before in
+    let i = l .before .loop .inv in
+    ⊎-elim (λ w.
+    rw (w .2, w .3)
+    (enters _ (at-start l .pre) _ _ _ _ i (open-yet l) (w .0 .taken), omega (arith, i .shallow, w .1 .left)))
+    (λ w. rw (w .1, w .2) (stays _ (at-start l .pre) _ _ _ _ i (open-yet l) (w .0 .left), i .shallow))
     (c .if1 .came)
 
 frame-count-requires : tie.Need-frame-count-requires Inv-loop μ-loop
@@ -34,48 +48,49 @@ loop-holds : tie.Need-loop-holds Inv-loop μ-loop
 loop-holds c = descending-none _
 
 add-depth : tie.Need-add-depth Inv-loop μ-loop
-add-depth c = search needs
+add-depth c = omega (arith, c .before .before .loop .inv .shallow)
 
 rejected-requires : tie.Need-rejected-requires Inv-loop μ-loop
 rejected-requires c κs = search needs
 
 returns : tie.Need-returns Inv-loop μ-loop
 returns c =
-    let j = c .before .before in
-    let l = j .before .before in
+    let l = c .before .before .before in
     c .rejected .ensures
-    ∙ descending-until _ (l .before .before .before .pre) _ _ _ _ (omega arith) (l .loop .inv) _ _ (standing j)
-    (omega arith)
+    ∙ descending-until _ (at-start l .pre) _ _ _ _ (l .before .loop .inv) (open-yet l) (c .before .before .if1 .taken)
+    (c .before .if2 .taken)
 
 child-count-requires : tie.Need-child-count-requires Inv-loop μ-loop
-child-count-requires c κs = search needs
+child-count-requires c κs = inside (c .before)
 
 add-next : tie.Need-add-next Inv-loop μ-loop
 add-next c =
-    let l = c .before .before .before .before in
-    let s = l .before .before .before in
+    let l = c .before .before in
     omega (
       arith,
-      counts-within (s .args .table .now) (s .pre) _ _ _ _ (omega arith) (l .loop .inv) (c .child-count .result)
-          (c .child-count .ensures .0),
+      counts-within (at-start l .args .table .now) (at-start l .pre) _ _ _ _ (l .before .loop .inv) (open-yet l)
+          (c .child-count .result) (c .child-count .ensures .0),
     )
 
 add-node : tie.Need-add-node Inv-loop μ-loop
-add-node c = search needs
+add-node c = omega (arith, inside (c .before .before))
 
 loop-less : tie.Need-loop-less Inv-loop μ-loop
-loop-less c = search needs
+loop-less c = omega (arith, inside (c .before .before))
 
 loop-again : tie.Need-loop-again Inv-loop μ-loop
 loop-again c =
-    let j = c .before .before in
-    let l = j .before .before in
-    descending-more _ (l .before .before .before .pre) _ _ _ _ (omega arith) (l .loop .inv) _ _ (standing j) _
-    (c .child-count .ensures .0) (omega arith)
+    let j = c .before in
+    let l = j .before in
+    let s = standing j in
+    descending-more _ (at-start l .pre) _ _ _ _ (l .before .loop .inv) (open-yet l) _ _ (s .0) _
+    (c .child-count .ensures .0) (s .1)
 
 returns-2 : tie.Need-returns-2 Inv-loop μ-loop
 returns-2 c =
-    ap Nodes (c .before .before .frame-count .ensures) ∙ descending-all _ _ _ _ _ (omega arith) (c .before .loop .inv)
+    let l = c .before in
+    ap Nodes (l .before .frame-count .ensures)
+    ∙ descending-all _ (l .before .before .before .pre) _ _ _ _ (l .loop .inv) (omega arith)
 
 pub check-depths-spec : {M : Type 1} → statement M
 check-depths-spec =

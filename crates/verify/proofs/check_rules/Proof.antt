@@ -1,43 +1,49 @@
--- `check_rules` meets its contract: before each node the rules of the nodes behind it hold.
+-- `check_rules` meets its contract: before each node the rules of the nodes behind it hold (Ruling).
 use Prim.Native.Nat.{_-_}
 use native.Mathlib.Omega.{arith}
-use mathlib.Core.Path.{sym, ap, _∙_}
+use mathlib.Core.Path.{_≡_, sym, ap, _∙_}
+use mathlib.Core.Bool.{true}
 use borrow.Author.Tests.{not-true, not-false}
 use borrow.Author.Needs.{needs}
 use Rattle.frames.specs.declared.Checked.the-variants.{Nodes}
-use Rattle.frames.specs.Frame.{frames}
-use Rattle.certificate.specs.Places.{numberSide}
-use Rattle.certificate.proofs.Places.{side-again}
+use Rattle.places.proofs.Places.{placed-side}
 use Rattle.verify.specs.Flags.{ruleHolds}
-use Rattle.verify.proofs.Asking.{Asking, asking-none, asking-more, asking-until, asking-all}
+use Rattle.verify.proofs.Ruling.{Ruling, ruling-none, ruling-until, ruling-within, ruling-more, ruling-all}
 use Rattle.verify.proofs.check_rules.Statement.{statement}
 use Rattle.verify.proofs.check_rules.Tie as tie
 
 abbrev Inv-loop : tie.InvT-loop
-Inv-loop table flags sides side number n node₀ node = Asking (ruleHolds side table flags) number (frames table) node
+Inv-loop table flags places side number n node₀ next₀ node next = Ruling side number table flags node next
 
 abbrev μ-loop : tie.MeasureT-loop
-μ-loop table flags sides side number n node₀ node = n - node
+μ-loop table flags places side number n node₀ next₀ node next = n - node
+
+-- from a turn to the start
+abbrev at-start : tie.At-loop Inv-loop μ-loop → tie.Start Inv-loop μ-loop
+at-start c = c .before .before .before .before .before
+
+-- the rule of the node holds
+holds : (c : tie.Else1 Inv-loop μ-loop) →
+    let l = c .before .before .before in
+    let a = at-start l .args in
+    ruleHolds (a .side) (a .table .now) (a .flags .now) (l .loop .node) ≡ true
+holds c = sym (c .before .rule-holds .ensures) ∙ not-false _ (c .if1 .left)
 
 frame-count-requires : tie.Need-frame-count-requires Inv-loop μ-loop
 frame-count-requires c κs = search needs
 
 loop-holds : tie.Need-loop-holds Inv-loop μ-loop
-loop-holds c = asking-none _ _ _
+loop-holds c = ruling-none _ _ _ _ (c .before .before .before .before .pre .0)
 
 side-at-requires : tie.Need-side-at-requires Inv-loop μ-loop
-side-at-requires c κs = search needs
+side-at-requires c κs = omega (arith, c .loop .inv .inside, at-start c .pre .2 .room)
 
 rule-holds-requires : tie.Need-rule-holds-requires Inv-loop μ-loop
 rule-holds-requires c κs =
-    let l = c .before .before in
-    let s = l .before .before .before .before .before in (
-      s .pre .0 .0,
-      (
-        (omega arith, s .pre .0 .1),
-        c .side-at .ensures ∙ ap numberSide (s .pre .1 .1 (l .loop .node) (omega arith)) ∙ side-again _,
-      ),
-    )
+    let l = c .before in
+    let p = at-start l .pre in
+    let h = l .loop .inv .inside in
+    (p .0, ((h, p .1), c .side-at .ensures ∙ placed-side _ _ (p .2) _ h))
 
 rejected-requires : tie.Need-rejected-requires Inv-loop μ-loop
 rejected-requires c κs = search needs
@@ -45,25 +51,42 @@ rejected-requires c κs = search needs
 returns : tie.Need-returns Inv-loop μ-loop
 returns c =
     let r = c .before .before in
+    let l = r .before .before in
     c .rejected .ensures
-    ∙ asking-until _ _ _ _ (r .before .before .before .loop .inv) (omega arith)
+    ∙ ruling-until _ _ _ _ (at-start l .pre .0) _ _ (l .loop .inv)
     (sym (r .rule-holds .ensures) ∙ not-true _ (c .before .if1 .taken))
 
+child-count-requires : tie.Need-child-count-requires Inv-loop μ-loop
+child-count-requires c κs = c .before .before .before .loop .inv .inside
+
+add-next : tie.Need-add-next Inv-loop μ-loop
+add-next c =
+    let l = c .before .before .before .before in
+    let w =
+    ruling-within _ _ _ _ (at-start l .pre .0) _ _ (l .loop .inv) (holds (c .before)) _ (c .child-count .ensures .0) in
+    omega (arith, at-start l .pre .0 .few)
+
 add-node : tie.Need-add-node Inv-loop μ-loop
-add-node c = search needs
+add-node c = omega (arith, c .before .before .before .before .before .loop .inv .inside)
 
 loop-less : tie.Need-loop-less Inv-loop μ-loop
-loop-less c = search needs
+loop-less c = omega (arith, c .before .before .before .before .before .loop .inv .inside)
 
 loop-again : tie.Need-loop-again Inv-loop μ-loop
 loop-again c =
-    let r = c .before in
-    asking-more _ _ _ _ (r .before .before .before .loop .inv) (omega arith)
-    (sym (r .rule-holds .ensures) ∙ not-false _ (c .if1 .left))
+    let n = c .before in
+    let l = n .before .before .before .before in
+    ruling-more _ _ _ _ (at-start l .pre .0) _ _ (l .loop .inv) (holds (n .before)) _ (n .child-count .ensures .0) (λ e.
+    c .if2 .left (e ∙ sym (l .before .frame-count .ensures)))
 
 returns-2 : tie.Need-returns-2 Inv-loop μ-loop
 returns-2 c =
-    ap Nodes (c .before .before .frame-count .ensures) ∙ asking-all _ _ _ _ (c .before .loop .inv) (omega arith)
+    let n = c .before in
+    let l = n .before .before .before .before in
+    let e = l .before .frame-count .ensures in
+    ap Nodes e
+    ∙ ruling-all _ _ _ _ (at-start l .pre .0) _ _ (l .loop .inv) (holds (n .before)) _ (n .child-count .ensures .0)
+    (c .if2 .taken ∙ e)
 
 pub check-rules-spec : {M : Type 1} → statement M
 check-rules-spec =
@@ -77,6 +100,8 @@ check-rules-spec =
     rule-holds-requires
     rejected-requires
     returns
+    child-count-requires
+    add-next
     add-node
     loop-less
     loop-again

@@ -12,7 +12,7 @@ use Rattle.frames.specs.Frame.{frames}
 use Rattle.frames.specs.declared.Rejection.{Rejection}
 use Rattle.frames.specs.declared.Checked.the-variants as checked
 use Rattle.frames.specs.Rejection.{_andThen_, answer}
-use Rattle.certificate.specs.Value.{valueOf}
+use Rattle.frames.specs.Value.{valueOf}
 use Rattle.verify.specs.declared.Verdict.{Verdict}
 use Rattle.verify.specs.declared.Verdict.the-variants.{Value, Rejected}
 use Rattle.verify.specs.Value.{treeValue}
@@ -62,7 +62,7 @@ enum-known-max-tree c = search needs
 returns : tie.Need-returns
 returns c =
     let m = c .before .before .before in
-    let a = m .before .before .before .before .before .args in
+    let a = m .before .before .before .before .args in
     no-max (a .table .now) (a .flags .now) _ (sym (c .before .max-tree .given .1) ∙ m .check-rules .ensures)
 
 enum-told : tie.Need-enum-told
@@ -79,7 +79,7 @@ returns-2 c =
     let n = c .before .before .before in
     let e = n .before in
     let m = e .before .before in
-    let a = m .before .before .before .before .before .args in
+    let a = m .before .before .before .before .args in
     no-min (a .table .now) (a .flags .now) _ (sym (e .enum-told .given .1) ∙ m .check-rules .ensures) _
     (sym (c .before .min-tree .given .1) ∙ n .check-rules2 .ensures)
 
@@ -94,7 +94,7 @@ tree-value-requires-2 c κs = search needs
 
 -- questions 12 and 13 have passed
 passed : (c : tie.After-enum-told2) →
-    let a = c .before .before .before .before .before .before .before .before .before .before .args in
+    let a = c .before .before .before .before .before .before .before .before .before .args in
     let t = a .table .now in
     let flags = a .flags .now in
     judged t flags (check14 t flags) ≡ due t flags
@@ -102,7 +102,7 @@ passed c =
     let n = c .before .before in
     let e = n .before in
     let m = e .before .before in
-    let a = m .before .before .before .before .before .args in
+    let a = m .before .before .before .before .args in
     both-hold (a .table .now) (a .flags .now) _ (sym (e .enum-told .given .1) ∙ m .check-rules .ensures) _
     (sym (c .enum-told2 .given .1) ∙ n .check-rules2 .ensures)
 
@@ -115,8 +115,8 @@ returns-3 c =
 value-requires : tie.Need-value-requires
 value-requires c κs =
     let x = c .before .before in
-    let s = x .before .before .before .before .before .before .before .before .before .before .before in
-    omega (arith, x .tree-value .ensures, value-within Max (s .args .table .now) (s .args .flags .now) (s .pre .0 .0))
+    let s = x .before .before .before .before .before .before .before .before .before .before in
+    omega (arith, x .tree-value .ensures, value-within Max (s .args .table .now) (s .args .flags .now) (s .pre .0))
 
 returns-4 : tie.Need-returns-4
 returns-4 c =

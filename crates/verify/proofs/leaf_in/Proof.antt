@@ -5,7 +5,7 @@ use borrow.Author.Needs.{needs}
 use Rattle.gametree.specs.Certificate.{worst}
 use Rattle.frames.specs.Frame.{storedScore}
 use Rattle.frames.specs.Tree.{leafScore, valuation}
-use Rattle.certificate.specs.Buffer.{member}
+use Rattle.verify.specs.Flags.{member}
 use Rattle.verify.specs.Value.{leafIn}
 use Rattle.verify.proofs.Values.{leaf-in, inner-in}
 use Rattle.verify.proofs.leaf_in.Statement.{statement}

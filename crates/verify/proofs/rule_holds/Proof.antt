@@ -12,7 +12,7 @@ use Rattle.gametree.specs.declared.Side.{Side}
 use Rattle.frames.specs.Frame.{firstChild, childCount}
 use Rattle.frames.specs.Place.{sideOf}
 use Rattle.frames.proofs.Next.{children-within}
-use Rattle.certificate.specs.Buffer.{member}
+use Rattle.verify.specs.Flags.{member}
 use Rattle.verify.specs.Flags.{membersFrom, requiredOf, rootMember, ruleHolds}
 use Rattle.verify.proofs.Rules.{root-member}
 use Rattle.verify.proofs.rule_holds.Statement.{statement}

@@ -3,17 +3,17 @@ use Prim.Native.Nat.{_-_, _≤_}
 use native.Mathlib.Omega.{arith}
 use mathlib.Core.Path.{_≡_, ap, _∙_}
 use borrow.Author.Needs.{needs}
-use Rattle.frames.proofs.Places.{depth-at-most}
+use Rattle.places.proofs.Places.{placed-few, placed-depth}
 use Rattle.verify.specs.Value.{bestBefore}
 use Rattle.verify.proofs.Values.{best-more}
 use Rattle.verify.proofs.tree_value.Statement.{statement}
 use Rattle.verify.proofs.tree_value.Tie as tie
 
 abbrev Inv-loop : tie.InvT-loop
-Inv-loop table flags depths side n best₀ node₀ best node = (best ≡ bestBefore side table flags node) × (node ≤ n)
+Inv-loop table flags places side n best₀ node₀ best node = (best ≡ bestBefore side table flags node) × (node ≤ n)
 
 abbrev μ-loop : tie.MeasureT-loop
-μ-loop table flags depths side n best₀ node₀ best node = n - node
+μ-loop table flags places side n best₀ node₀ best node = n - node
 
 frame-count-requires : tie.Need-frame-count-requires Inv-loop μ-loop
 frame-count-requires c κs = search needs
@@ -25,18 +25,15 @@ loop-holds : tie.Need-loop-holds Inv-loop μ-loop
 unfolding bestBefore
 loop-holds c = (c .worst .ensures, omega arith)
 
-mul-leaf-in : tie.Need-mul-leaf-in Inv-loop μ-loop
-mul-leaf-in c = search needs
-
-shared-slice-read-leaf-in : tie.Need-shared-slice-read-leaf-in Inv-loop μ-loop
-shared-slice-read-leaf-in c = search needs
+depth-at-requires : tie.Need-depth-at-requires Inv-loop μ-loop
+depth-at-requires c κs = search needs
 
 leaf-in-requires : tie.Need-leaf-in-requires Inv-loop μ-loop
 leaf-in-requires c κs =
     let l = c .before .before in
-    let s = l .before .before .before .before .before .before in
-    let d = s .pre .1 .1 (l .loop .node) (omega arith) in
-    (omega arith, (d, omega (arith, depth-at-most (s .args .table .now) (l .loop .node), s .pre .0 .0 .few)))
+    let p = l .before .before .before .before .before .before .pre .2 in
+    let d = c .depth-at .ensures ∙ placed-depth _ _ p (l .loop .node) (omega arith) in
+    (omega arith, (d, omega (arith, d, placed-few _ _ p (l .loop .node) (omega arith))))
 
 better-requires : tie.Need-better-requires Inv-loop μ-loop
 better-requires c κs = search needs
@@ -72,8 +69,7 @@ tree-value-spec =
     frame-count-requires
     worst-requires
     loop-holds
-    mul-leaf-in
-    shared-slice-read-leaf-in
+    depth-at-requires
     leaf-in-requires
     better-requires
     add-node

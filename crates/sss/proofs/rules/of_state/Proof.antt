@@ -4,10 +4,10 @@ use mathlib.Core.Path.{_≡_, sym, ap, ap₂, _∙_}
 use Rattle.frames.specs.Frame.{childCount}
 use Rattle.frames.specs.Place.{sideOf}
 use Rattle.frames.proofs.Parents.{parent-child}
-use Rattle.certificate.specs.Buffer.{markAll}
+use Rattle.certificate.specs.Marks.{markAll}
 use Rattle.sss.specs.declared.Status.the-variants.{Live}
 use Rattle.sss.specs.Rules.{ofInner, ofChild}
-use Rattle.sss.proofs.Families.{family-parent, family-side}
+use Rattle.places.proofs.Places.{placed-parent, placed-side}
 use Rattle.sss.proofs.Taking.{live-inner, inner-none, solved-none}
 use borrow.Author.Needs.{needs}
 use Rattle.sss.proofs.rules.of_state.Statement.{statement}
@@ -28,10 +28,10 @@ of-leaf-requires c κs =
     let p = c9 .pre in
     let z = sym (c .before .before .child-count .ensures .0) ∙ c .before .if1 .taken in
     let m = p .unmarked (c .before .before .before .enum-told .given .1) z in
-    (p .family, ((p .node, z, p .test), (omega (arith, p .node, p .marks), m)))
+    (p .places, ((p .node, z, p .test), (omega (arith, p .node, p .marks), m)))
 
-side-in-requires : tie.Need-side-in-requires
-side-in-requires c κs = search needs
+side-at-requires : tie.Need-side-at-requires
+side-at-requires c κs = search needs
 
 of-inner-requires : tie.Need-of-inner-requires
 of-inner-requires c κs = search needs
@@ -39,22 +39,22 @@ of-inner-requires c κs = search needs
 enum-told-2 : tie.Need-enum-told-2
 enum-told-2 c = search needs
 
-parent-in-requires : tie.Need-parent-in-requires
-parent-in-requires c κs = search needs
+parent-at-requires : tie.Need-parent-at-requires
+parent-at-requires c κs = search needs
 
-side-in-requires-2 : tie.Need-side-in-requires-2
-side-in-requires-2 c κs =
+side-at-requires-2 : tie.Need-side-at-requires-2
+side-at-requires-2 c κs =
     let c7 = c .before .before .before .before .before .before .before in
     let p = c7 .pre in
-    let u = c .parent-in .ensures ∙ family-parent _ _ (p .family) _ (p .node) in
+    let u = c .parent-at .ensures ∙ placed-parent _ _ (p .places) _ (p .node) in
     let h = parent-child _ (p .formed) _ (p .lower (c .before .enum-told2 .given .1)) (p .node) in
-    omega (arith, u, h .0, p .family .room)
+    omega (arith, u, h .0, p .places .room)
 
 of-child-requires : tie.Need-of-child-requires
 of-child-requires c κs =
     let c8 = c .before .before .before .before .before .before .before .before in
     let p = c8 .pre in
-    let u = c .before .parent-in .ensures ∙ family-parent _ _ (p .family) _ (p .node) in
+    let u = c .before .parent-at .ensures ∙ placed-parent _ _ (p .places) _ (p .node) in
     let h = parent-child _ (p .formed) _ (p .lower (c .before .before .enum-told2 .given .1)) (p .node) in
     (omega (arith, p .node, p .formed .few), omega (arith, u, h .0))
 
@@ -76,7 +76,7 @@ returns-2 c =
     let a = c10 .args in
     let p = c10 .pre in
     let n = c .before .before .before .child-count .ensures .0 in
-    let s = c .before .side-in .ensures ∙ family-side _ _ (p .family) _ (p .node) in
+    let s = c .before .side-at .ensures ∙ placed-side _ _ (p .places) _ (p .node) in
     let z : childCount (a .table .now) (a .entry .node) ≡ 0 → ⊥ = λ e. c .before .before .if1 .left (n ∙ e) in
     let r = c .of-inner .ensures ∙ ap₂ (λ q k. ofInner (a .table .now) (a .entry .node) (a .test) q k) s n ∙ live-inner
     _ _ _ _ _ z in
@@ -89,9 +89,9 @@ returns-3 c =
     let c9 = c .before .before .before .before .before .before .before .before .before in
     let a = c9 .args in
     let p = c9 .pre in
-    let u = c .before .before .parent-in .ensures ∙ family-parent _ _ (p .family) _ (p .node) in
+    let u = c .before .before .parent-at .ensures ∙ placed-parent _ _ (p .places) _ (p .node) in
     let h = parent-child _ (p .formed) _ (p .lower (c .before .before .before .enum-told2 .given .1)) (p .node) in
-    let s = c .before .side-in2 .ensures ∙ family-side _ _ (p .family) _ (rw u (h .0)) in
+    let s = c .before .side-at2 .ensures ∙ placed-side _ _ (p .places) _ (rw u (h .0)) in
     let r = c .of-child .ensures ∙ ap (ofChild (a .table .now) (a .entry .node) (a .test) _) s ∙ ap (λ d. ofChild (a
     .table .now) (a .entry .node) (a .test) d (sideOf (a .table .now) d)) u in
     let v = solved-none (childCount (a .table .now) (a .entry .node)) (a .entry .node) in
@@ -100,5 +100,5 @@ returns-3 c =
 pub of-state-spec : {M : Type 1} → statement M
 of-state-spec =
     tie.close
-    (tie.spec cast-node enum-told child-count-requires of-leaf-requires side-in-requires of-inner-requires enum-told-2
-    parent-in-requires side-in-requires-2 of-child-requires same-length returns returns-2 returns-3)
+    (tie.spec cast-node enum-told child-count-requires of-leaf-requires side-at-requires of-inner-requires enum-told-2
+    parent-at-requires side-at-requires-2 of-child-requires same-length returns returns-2 returns-3)

@@ -5,7 +5,7 @@ use lib.IntN.{pos}
 use mir.Syntax.{w32}
 use mir.Val.{toZ}
 use mir.ValLaws.{toZ-pos, toZ-ofZ}
-use Rattle.certificate.specs.Value.{valueOf}
+use Rattle.frames.specs.Value.{valueOf}
 use Rattle.sss.proofs.Merits.{value-fits}
 use borrow.Author.Needs.{needs}
 use Rattle.sss.proofs.turn.of_change.Statement.{statement}

@@ -14,7 +14,7 @@ fall-requires c κs =
     let p = c8 .pre in
     let e = c .before .before .before .place .ensures in
     let s = changed-sound _ _ _ _ _ p in
-    (record { formed = p .fits .formed; family = p .fits .family; sound = rw e s }, p .here .node)
+    (record { formed = p .fits .formed; places = p .fits .places; sound = rw e s }, p .here .node)
 
 descend-requires : tie.Need-descend-requires
 descend-requires c κs =
@@ -24,7 +24,7 @@ descend-requires c κs =
     let e = c7 .place .ensures in
     let f = c .before .before .before .fall .ensures in
     let k = fallen-keeps _ (p .fits .formed) _ _ _ _ (changed-sound _ _ _ _ _ p) (p .here .node) in
-    (record { formed = p .fits .formed; family = p .fits .family; sound = rw (f .1, e) (k .0) }, rw (f .0, e) (k .1))
+    (record { formed = p .fits .formed; places = p .fits .places; sound = rw (f .1, e) (k .0) }, rw (f .0, e) (k .1))
 
 best-in-requires : tie.Need-best-in-requires
 best-in-requires c κs = search needs

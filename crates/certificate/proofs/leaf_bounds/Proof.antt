@@ -1,0 +1,32 @@
+-- `certificate::leaf_bounds` meets its contract: only a marked leaf is read, so no mark changes.
+use mathlib.Core.Path.{refl, _∙_}
+use Rattle.certificate.proofs.Bounds.{bounds-marked, bounds-unmarked, mark-again}
+use borrow.Author.Needs.{needs}
+use Rattle.certificate.proofs.leaf_bounds.Statement.{statement}
+use Rattle.certificate.proofs.leaf_bounds.Tie as tie
+
+slice-read-if1 : tie.Need-slice-read-if1
+slice-read-if1 c = search needs
+
+read-leaf-requires : tie.Need-read-leaf-requires
+read-leaf-requires c κs = search needs
+
+same-length : tie.Need-same-length
+same-length c = search needs
+
+returns : tie.Need-returns
+returns c =
+    let a = c .before .before .before .before .before .before .before .before .args in
+    let m = c .before .before .before .before .if1 .taken in
+    let e = c .before .before .read-leaf .ensures in (
+      bounds-marked (a .table .now) (a .evaluated .now) (a .node) _ m (e .0 .0),
+      e .1 ∙ mark-again (a .evaluated .now) (a .node) m,
+    )
+
+returns-2 : tie.Need-returns-2
+returns-2 c =
+    let a = c .before .before .before .before .args in
+    (bounds-unmarked (a .table .now) (a .evaluated .now) (a .node) (c .if1 .left), refl)
+
+pub leaf-bounds-spec : {M : Type 1} → statement M
+leaf-bounds-spec = tie.close (tie.spec slice-read-if1 read-leaf-requires same-length returns returns-2)

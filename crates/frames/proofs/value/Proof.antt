@@ -1,0 +1,39 @@
+-- `frames::value` meets its contract: no step leaves the range of its type.
+use mathlib.Core.Path.{_≡_}
+use native.Mathlib.Omega.{arith}
+use lib.IntN.{pos}
+use mir.Syntax.{w16, w32}
+use mir.Val.{SFits, toZ}
+use mir.ValLaws.{toZ-pos, toZ-ofZ}
+use Rattle.frames.specs.Value.{valueOf}
+use Rattle.frames.proofs.Values.{value-small}
+use borrow.Author.Needs.{needs}
+use Rattle.frames.proofs.value.Statement.{statement}
+use Rattle.frames.proofs.value.Tie as tie
+
+cast-result : tie.Need-cast-result
+cast-result c = search needs
+
+-- the cast reads the score as it is
+plain : (c : tie.Start) → toZ w32 (c .args .score) ≡ pos (c .args .score)
+plain c = toZ-pos w32 (c .args .score) (omega arith)
+
+fits32 : (c : tie.Start) → SFits w32 (valueOf (c .args .score))
+fits32 c = record { sfits = omega (arith, value-small (c .args .score) (c .pre)) }
+
+fits16 : (c : tie.Start) → SFits w16 (valueOf (c .args .score))
+fits16 c = record { sfits = value-small (c .args .score) (c .pre) }
+
+sub-result : tie.Need-sub-result
+sub-result c = rw (plain c) (fits32 c)
+
+cast-result-2 : tie.Need-cast-result-2
+cast-result-2 c = rw (plain c, toZ-ofZ w32 (valueOf (c .args .score)) (fits32 c)) (fits16 c)
+
+returns : tie.Need-returns
+returns c =
+    let v = valueOf (c .args .score) in
+    rw (plain c, toZ-ofZ w32 v (fits32 c), toZ-ofZ w16 v (fits16 c))
+
+pub value-spec : {M : Type 1} → statement M
+value-spec = tie.close (tie.spec cast-result sub-result cast-result-2 returns)

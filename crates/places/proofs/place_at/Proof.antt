@@ -1,0 +1,17 @@
+-- `places::place_at` meets its contract: what is read are the two parts of the place.
+use mathlib.Core.Path.{ap₂}
+use borrow.Author.Needs.{needs}
+use Rattle.places.proofs.place_at.Statement.{statement}
+use Rattle.places.proofs.place_at.Tie as tie
+
+depth-at-requires : tie.Need-depth-at-requires
+depth-at-requires c κs = search needs
+
+side-at-requires : tie.Need-side-at-requires
+side-at-requires c κs = search needs
+
+returns : tie.Need-returns
+returns c = ap₂ (λ d s. record { depth = d; side = s }) (c .before .depth-at .ensures) (c .side-at .ensures)
+
+pub place-at-spec : {M : Type 1} → statement M
+place-at-spec = tie.close (tie.spec depth-at-requires side-at-requires returns)
