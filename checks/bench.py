@@ -170,7 +170,8 @@ def calls(first, rows):
 
 
 def programs(paths):
-    """The whole program, in C with both kinds of SSS*."""
+    """The whole program as it stands, in C with both kinds of SSS*."""
+    run(["rt", "check", "analyse"], cwd=ROOT)
     rows = []
     for name, path in paths:
         ours, front, textbook = (whole(words, path) for words in ([PROGRAM], [BASELINE], [BASELINE, "-l"]))
