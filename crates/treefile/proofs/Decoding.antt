@@ -1,24 +1,21 @@
 -- The loop that decodes a file: what holds after n lines, and that each line, stored behind the ones before, keeps it.
-use Prim.Native.Nat.{ℕ, _+_, _*_, _≤_, _<_, min}
+use Prim.Native.Nat.{ℕ, _+_, _*_, _≤_, _<_}
 use mathlib.Core.Path.{_≡_, refl, sym, ap, _∙_}
-use mathlib.Core.Bool.{true}
+use mathlib.Core.Bool.{true, false}
 use mathlib.Core.Option.{Option, none, some}
-use mathlib.Core.List.{List, _∷_, _++_, append-nil, append-assoc}
+use mathlib.Core.List.{List, _++_, append-nil, append-assoc}
 use lib.ListN.{length, take, drop, length-append, drop-of-length-le}
 use lib.Seq.{sets, sets-eq, take-at, length-take-le}
 use native.Mathlib.Omega.{arith}
 use Rattle.frames.specs.declared.Rejection.{Rejection}
 use Rattle.frames.specs.declared.Checked.the-variants.{Nodes, Rejected}
 use Rattle.frames.specs.Frame.{frameSize, frames, maxTable}
-use Rattle.treefile.specs.declared.Frame.{Frame}
-use Rattle.treefile.specs.declared.Cursor.{Cursor}
-use Rattle.treefile.specs.declared.Line.the-variants.{Read, NoLine}
-use Rattle.treefile.specs.Line.{lineDigits, bytesOf, frameOf, frameBytes, isLineAt, lineAt}
+use Rattle.treefile.specs.Line.{lineDigits, bytesOf, bytesAt, isLineAt}
 use Rattle.treefile.specs.Lines.{linesOf, decode, decoded}
 use Rattle.treefile.specs.File.{maxFile, eachLine, lineCheck3, fileCheck3}
 use Rattle.treefile.specs.Decoded.{Decoded}
-use Rattle.treefile.proofs.Lines.{line-bytes, frame-bytes}
-use Rattle.treefile.proofs.Positions.{lineBytes, line-is, line-fits, line-read, read-is, none-is}
+use Rattle.treefile.proofs.Lines.{line-bytes}
+use Rattle.treefile.proofs.Positions.{lineBytes, line-is, line-fits}
 use Rattle.treefile.proofs.Left.{lines-next, lines-stop}
 use Rattle.gametree.proofs.Choice.{clash}
 
@@ -43,7 +40,7 @@ decoded-refused f x table r e =
 -- after n lines the position is past them, question 3 is left for the lines from there on, and the table's front holds
 -- their frames
 pub record Decoding (f table : List ℕ) (at n : ℕ) : Type 0 where
-  pub position : at ≡ min ((lineDigits + 1) * n) (length f)
+  pub position : at ≡ (lineDigits + 1) * n
   pub few : (lineDigits + 1) * n ≤ length f + 1
   pub passed : fileCheck3 f ≡ eachLine lineCheck3 n (linesOf (drop at f))
   pub filled : decoded f ≡ take (frameSize * n) table ++ decode (linesOf (drop at f))
@@ -77,32 +74,23 @@ module _ (f table : List ℕ) (at n : ℕ) (room : maxTable ≤ length table) (s
 
   module _ (inside : at < length f) where
     -- a line that is not as it must be
-    pub decoding-stop : (c : Cursor) → NoLine c ≡ lineAt f at
-        → Decoded f (fileCheck3 f) table (Rejected (record { number = 3; place = n }))
-    decoding-stop c e =
-        decoded-refused f (fileCheck3 f) table _ (d .passed ∙ lines-stop f at n inside (none-is f at c e))
+    pub decoding-stop : (after : List ℕ) → isLineAt f at ≡ false
+        → Decoded f (fileCheck3 f) after (Rejected (record { number = 3; place = n }))
+    decoding-stop after e = decoded-refused f (fileCheck3 f) after _ (d .passed ∙ lines-stop f at n inside e)
 
     -- a line stored behind the ones before
-    pub decoding-next : (x : Frame) (c : Cursor) → Read x c ≡ lineAt f at
-        → Decoding f (sets table (frameSize * n) (frameBytes x)) (c .at) (n + 1)
+    pub decoding-next : isLineAt f at ≡ true
+        → Decoding f (sets table (frameSize * n) (bytesAt f at)) (at + (lineDigits + 1)) (n + 1)
     unfolding eachLine decode
-    decoding-next x c e =
-        let is : isLineAt f at ≡ true = read-is f at x c e in
+    decoding-next is =
         let fits : at + lineDigits ≤ length f = line-fits f at is in
         let line = lineBytes f at in
-        let read = e ∙ line-read f at is in
-        let frame : x ≡ frameOf (bytesOf line) = cc in
-        let next : c ≡ record { at = min (at + lineDigits + 1) (length f) } = cc in
         let six : length (bytesOf line) ≡ frameSize = line-bytes line (line-is f at is) in
-        let bytes : frameBytes x ≡ bytesOf line = ap frameBytes frame ∙ frame-bytes (bytesOf line) six in
-        let left : linesOf (drop at f) ≡ line ∷ linesOf (drop (c .at) f) = rw next (lines-next f at is) in
-        let rest = decode (linesOf (drop (c .at) f)) in
-        let front : take (frameSize * (n + 1)) (sets table (frameSize * n) (frameBytes x))
-        ≡ take (frameSize * n) table ++ bytesOf line =
-        ap (λ (bs : List ℕ). take (frameSize * (n + 1)) (sets table (frameSize * n) bs)) bytes
-        ∙ stored table (bytesOf line) n (omega (arith, d .position)) six in
+        let left = lines-next f at is in
+        let rest = decode (linesOf (drop (at + (lineDigits + 1)) f)) in
+        let front = stored table (bytesOf line) n (omega (arith, d .position)) six in
         record {
-          position = omega (arith, d .position, ap (λ (c : Cursor). c .at) next);
+          position = omega (arith, d .position);
           few = omega (arith, d .position);
           passed = d .passed ∙ rw (left, line-is f at is);
           filled =

@@ -1,28 +1,18 @@
 -- The lines that are left at a position: reading one line takes the first of them.
-use Prim.Native.Nat.{ℕ, suc, _+_, _<_, min}
-use mathlib.Core.Path.{_≡_, sym, ap, _∙_}
+use Prim.Native.Nat.{ℕ, suc, _+_, _<_}
+use mathlib.Core.Path.{_≡_, ap, _∙_}
 use mathlib.Core.Bool.{true, false}
 use mathlib.Core.Option.{some}
 use mathlib.Core.List.{List, _∷_}
-use lib.ListN.{length, getD, take, drop, drop-of-length-le}
-use lib.Seq.{drop-cons, drop-drop, drop-length}
+use lib.ListN.{length, getD, take, drop}
+use lib.Seq.{drop-cons, drop-drop}
 use native.Mathlib.Omega.{arith}
-use native.Mathlib.Decide.{decLe}
 use Rattle.treefile.specs.Line.{lineDigits, isLine, isLineAt}
 use Rattle.treefile.specs.Lines.{linesOf}
 use Rattle.treefile.specs.File.{eachLine, lineCheck3}
 use Rattle.treefile.proofs.Lines.{line-length}
 use Rattle.treefile.proofs.Positions.{lineBytes, line-fits}
 use Rattle.treefile.proofs.Splits.{firstLine, afterLine, lines-first, first-take, after-drop, first-digits}
-
--- past the end nothing is left to drop
-drop-min : (n : ℕ) (l : List ℕ) → drop (min n (length l)) l ≡ drop n l
-drop-min n l =
-    elim (decLe n (length l)) [
-      | yes h ↦ (let e : min n (length l) ≡ n = omega arith in rw e)
-      | no h ↦ (let e : min n (length l) ≡ length l = omega arith in
-          rw (e, drop-length l) (sym (drop-of-length-le l {i = n} (omega arith))))
-    ]
 
 module _ (f : List ℕ) (at : ℕ) where
   abbrev left : List ℕ
@@ -39,15 +29,14 @@ module _ (f : List ℕ) (at : ℕ) where
 
   -- a line that stands at the position is the first that is left
   pub lines-next : isLineAt f at ≡ true
-      → linesOf left ≡ lineBytes f at ∷ linesOf (drop (min (at + lineDigits + 1) (length f)) f)
+      → linesOf left ≡ lineBytes f at ∷ linesOf (drop (at + (lineDigits + 1)) f)
   lines-next is =
       let twelve : length (firstLine left) ≡ lineDigits = line-length (firstLine left) (first-is ∙ is) in
       let first : firstLine left ≡ lineBytes f at =
       first-take left ∙ ap (λ (n : ℕ). take n left) twelve in
-      let next : at + (lineDigits + 1) ≡ at + lineDigits + 1 = omega arith in
-      let after : afterLine left ≡ drop (at + lineDigits + 1) f =
-      after-drop left ∙ rw (twelve, drop-drop (lineDigits + 1) at f, next) in
-      lines-left (omega (arith, line-fits f at is)) ∙ rw (first, after, drop-min (at + lineDigits + 1) f)
+      let after : afterLine left ≡ drop (at + (lineDigits + 1)) f =
+      after-drop left ∙ rw (twelve, drop-drop (lineDigits + 1) at f) in
+      lines-left (omega (arith, line-fits f at is)) ∙ rw (first, after)
 
   -- where none stands, the first that is left is not as 01 says
   pub lines-stop : (n : ℕ) → at < length f → isLineAt f at ≡ false

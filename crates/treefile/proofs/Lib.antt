@@ -1,6 +1,7 @@
 -- Lemmas on digits, lines and files, and the theorems on the reader.
 mod Digits
 mod Lines
+mod Storing
 mod Positions
 mod Splits
 mod Left

@@ -10,7 +10,7 @@ use native.Mathlib.Omega.{arith}
 use native.Mathlib.Numerals.{add-one}
 use borrow.Author.Tests.{lt-ltb, le-ltb, ltb-true, eqb-true}
 use Rattle.treefile.specs.Digit.{noDigit, digitOf}
-use Rattle.treefile.specs.Line.{lineDigits, allDigits, isLine, hexByte, bytesOf, frameOf, frameBytes}
+use Rattle.treefile.specs.Line.{lineDigits, allDigits, isLine, hexByte, bytesOf}
 use Rattle.frames.specs.Frame.{frameSize}
 use Rattle.treefile.proofs.Digits.{digit-small}
 
@@ -59,7 +59,7 @@ byte-at (suc k) (a ∷ b ∷ l) h =
     rw (low, high) (byte-at k l (omega arith))
 
 -- two digits make a byte
-bytes-length : (n : ℕ) (l : List ℕ) → length l ≡ 2 * n → length (bytesOf l) ≡ n
+pub bytes-length : (n : ℕ) (l : List ℕ) → length l ≡ 2 * n → length (bytesOf l) ≡ n
 unfolding bytesOf
 bytes-length zero [] h = refl
 bytes-length (suc n) [] h = absurd (omega arith)
@@ -70,14 +70,3 @@ bytes-length (suc n) (a ∷ b ∷ l) h = ap suc (bytes-length n l (omega arith))
 -- a line has six bytes
 pub line-bytes : (l : List ℕ) → isLine l ≡ true → length (bytesOf l) ≡ frameSize
 line-bytes l e = bytes-length frameSize l (line-length l e)
-
--- six bytes are those of their frame
-pub frame-bytes : (bs : List ℕ) → length bs ≡ frameSize → frameBytes (frameOf bs) ≡ bs
-frame-bytes [] h = absurd (omega arith)
-frame-bytes (a ∷ []) h = absurd (omega arith)
-frame-bytes (a ∷ b ∷ []) h = absurd (omega arith)
-frame-bytes (a ∷ b ∷ c ∷ []) h = absurd (omega arith)
-frame-bytes (a ∷ b ∷ c ∷ d ∷ []) h = absurd (omega arith)
-frame-bytes (a ∷ b ∷ c ∷ d ∷ e ∷ []) h = absurd (omega arith)
-frame-bytes (a ∷ b ∷ c ∷ d ∷ e ∷ g ∷ []) h = refl
-frame-bytes (a ∷ b ∷ c ∷ d ∷ e ∷ g ∷ i ∷ bs) h = absurd (omega arith)

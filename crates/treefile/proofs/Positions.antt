@@ -1,21 +1,16 @@
 -- What stands at a position of a file, case by case, and what reading a line there gives.
 use Prim.Native.Nat.{ℕ, _+_, _-_, _≤_, _<_, min}
-use mathlib.Core.Path.{_≡_, refl, _∙_}
-use mathlib.Core.Bool.{Bool, true, false, and-eq-true-iff}
+use mathlib.Core.Path.{_≡_}
+use mathlib.Core.Bool.{true, false, and-true, and-false, and-eq-true-iff}
 use mathlib.Core.List.{List}
-use lib.Dec.{eqb}
-use lib.ListN.{length, getD, take, drop, length-take, length-drop}
-use lib.Seq.{drop-cons, drop-length}
+use lib.ListN.{length, take, drop, length-take, length-drop}
 use native.Mathlib.Nat.{add-sub-cancel-left}
 use native.Mathlib.Omega.{arith}
 use borrow.Author.Tests.{ne-eqb}
-use Rattle.treefile.specs.Line.{lineDigits, lineFeed, allDigits, isLine, bytesOf}
+use Rattle.treefile.specs.Line.{lineDigits, allDigits, isLine, bytesOf}
 use Rattle.treefile.specs.Line.{frameOf, closed, isLineAt, lineAt}
-use Rattle.treefile.specs.declared.Frame.{Frame}
-use Rattle.treefile.specs.declared.Cursor.{Cursor}
 use Rattle.treefile.specs.declared.Line.the-variants.{Read, NoLine}
 use Rattle.treefile.proofs.Lines.{line-length}
-use Rattle.gametree.proofs.Choice.{clash}
 
 module _ (f : List ℕ) (at : ℕ) where
   -- the twelve bytes at the position
@@ -33,28 +28,18 @@ module _ (f : List ℕ) (at : ℕ) where
       let short : length lineBytes < lineDigits = simp (length-take, length-drop) (omega arith) in
       rw (ne-eqb (length lineBytes) lineDigits (omega arith))
 
-  module _ (fits : at + lineDigits ≤ length f) where
-    twelve : length lineBytes ≡ lineDigits
-    twelve = simp (length-take, length-drop) (omega arith)
+  -- what follows the twelve bytes closes no line
+  pub line-open : closed (drop (at + lineDigits) f) ≡ false → isLineAt f at ≡ false
+  unfolding isLineAt
+  line-open e = rw e (and-false (isLine lineBytes))
 
-    -- one of them is no digit
-    pub line-undigit : allDigits lineBytes ≡ false → isLineAt f at ≡ false
-    unfolding isLineAt isLine
-    line-undigit e = rw (twelve, e)
-
-    -- they are digits: what follows decides
-    digits-then : allDigits lineBytes ≡ true → isLineAt f at ≡ closed (drop (at + lineDigits) f)
-    unfolding isLineAt isLine
-    digits-then e = rw (twelve, e)
-
-    -- the file ends after them
-    pub line-last : allDigits lineBytes ≡ true → at + lineDigits ≡ length f → isLineAt f at ≡ true
-    line-last d e = digits-then d ∙ rw (e, drop-length f)
-
-    -- a byte follows, which is a line feed or not
-    pub line-inside : allDigits lineBytes ≡ true → at + lineDigits < length f
-        → isLineAt f at ≡ eqb (getD f (at + lineDigits) 0) lineFeed
-    line-inside d h = digits-then d ∙ rw (drop-cons f (at + lineDigits) 0 h)
+  -- what follows them closes a line: the digits decide
+  pub line-closed : at + lineDigits ≤ length f → closed (drop (at + lineDigits) f) ≡ true
+      → isLineAt f at ≡ allDigits lineBytes
+  unfolding isLineAt isLine
+  line-closed fits e =
+      let twelve : length lineBytes ≡ lineDigits = simp (length-take, length-drop) (omega arith) in
+      rw (e, twelve) (and-true (allDigits lineBytes))
 
   -- no line is read
   pub line-none : isLineAt f at ≡ false → lineAt f at ≡ NoLine (record { at = at })
@@ -76,23 +61,3 @@ module _ (f : List ℕ) (at : ℕ) where
     -- twelve bytes are left
     pub line-fits : at + lineDigits ≤ length f
     line-fits = omega (arith, simp (length-take, length-drop) at (line-length lineBytes line-is))
-
-  -- what was read says that a line stands there
-  pub read-is : (x : Frame) (c : Cursor) → Read x c ≡ lineAt f at → isLineAt f at ≡ true
-  read-is x c e = go (isLineAt f at) refl
-    where
-      go : (b : Bool) → isLineAt f at ≡ b → b ≡ true
-      go true h = refl
-      go false h =
-          let r : Read x c ≡ NoLine (record { at = at }) = e ∙ line-none h in
-          clash (cc)
-
-  -- or that none does
-  pub none-is : (c : Cursor) → NoLine c ≡ lineAt f at → isLineAt f at ≡ false
-  none-is c e = go (isLineAt f at) refl
-    where
-      go : (b : Bool) → isLineAt f at ≡ b → b ≡ false
-      go false h = refl
-      go true h =
-          let r = e ∙ line-read h in
-          clash (cc)

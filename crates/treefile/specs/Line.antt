@@ -48,10 +48,6 @@ frameOf bs =
       byte5 = getD bs 5 0;
     }
 
--- the bytes of a frame
-abbrev pub frameBytes : Frame → List ℕ
-frameBytes x = x .byte0 ∷ x .byte1 ∷ x .byte2 ∷ x .byte3 ∷ x .byte4 ∷ x .byte5 ∷ []
-
 -- after the digits comes the end of the file or a line feed
 abbrev pub closed : List ℕ → Bool
 closed [] = true
@@ -60,6 +56,10 @@ closed (b ∷ bs) = eqb b lineFeed
 -- do twelve digits stand at a position, and then a line feed or the end of the file
 unfoldable pub isLineAt : List ℕ → ℕ → Bool
 isLineAt f at = isLine (take lineDigits (drop at f)) && closed (drop (at + lineDigits) f)
+
+-- the bytes that the twelve digits at a position stand for
+abbrev pub bytesAt : List ℕ → ℕ → List ℕ
+bytesAt f at = bytesOf (take lineDigits (drop at f))
 
 -- reading one line at a position: its frame and the position past it, or no line and the position as it is
 unfoldable pub lineAt : List ℕ → ℕ → Line

@@ -10,15 +10,13 @@ use frames::TOO_LONG;
 use frames::check_frames;
 use frames::rejected;
 ghost use mathlib.Core.Path.{_≡_};
-ghost use mathlib.Core.Bool.{true};
-ghost use Prim.Native.Nat.{_+_, _*_, _<_, _≤_};
-ghost use lib.ListN.{length, getD};
-ghost use lib.Seq.{sets};
+ghost use Prim.Native.Nat.{_+_, _≤_};
+ghost use lib.ListN.{length, drop};
 ghost use Rattle.frames.specs.Frame.{frameSize, maxTable};
 ghost use Rattle.treefile.specs.Digit.{digitOf};
-ghost use Rattle.treefile.specs.Line.{allDigits, isLine, isLineAt, bytesOf, frameOf, frameBytes, lineAt};
+ghost use Rattle.treefile.specs.Line.{lineDigits, allDigits, isLineAt, bytesOf, bytesAt, frameOf, closed, lineAt};
 ghost use Rattle.treefile.specs.File.{maxFile, fileCheck3, fileRejection, readAnswer, tableAfter};
-ghost use Rattle.treefile.specs.Decoded.{Decoded};
+ghost use Rattle.treefile.specs.Decoded.{Decoded, Stored};
 
 // The digits of a line, the byte that closes it, and what a byte that is no digit gives.
 const LINE_DIGITS: usize = 12;
@@ -53,7 +51,8 @@ pub enum Line {
 
 // Reads a file into the table: the number of nodes, or the first rejection, and then the table is as it was.
 pub fn read(file: &[u8], table: &mut [u8]) -> Checked
-    ensures { λ r. ⌜ (r ≡ readAnswer (now (file .entry)) (now (table .entry))) × (now (table .exit) ≡ tableAfter (now (file .entry)) (now (table .entry))) ⌝ }
+    ensures { λ r. ⌜ (r ≡ readAnswer (now (file .entry)) (now (table .entry)))
+        × (now (table .exit) ≡ tableAfter (now (file .entry)) (now (table .entry))) ⌝ }
 {
     let mut decoded = [0u8; MAX_TABLE];
     let checked = check_file(file, &mut decoded);
@@ -74,11 +73,12 @@ impl Cursor {
         ensures { λ r. ⌜ r ≡ lineAt (now (file .entry)) (self .at) ⌝ }
     {
         let at = self.at;
-        if !is_line(file, at) {
+        let mut bytes = [0u8; FRAME_SIZE];
+        if !decode_line(file, at, &mut bytes, 0) {
             return Line::NoLine(Cursor { at });
         }
+        let frame = frame_of(&bytes);
         let end = at + LINE_DIGITS;
-        let frame = frame_of(&file[at..end]);
         if end == file.len() {
             return Line::Read(frame, Cursor { at: end });
         }
@@ -122,90 +122,83 @@ fn decode(file: &[u8], table: &mut [u8]) -> Checked
     requires { ⌜ (length (now file) ≤ maxFile) × (maxTable ≤ length (now table)) ⌝ }
     ensures { λ r. ⌜ Decoded (now (file .entry)) (fileCheck3 (now (file .entry))) (now (table .exit)) r ⌝ }
 {
-    let mut cursor = Cursor { at: 0 };
+    let mut at = 0;
     let mut lines = 0;
-    while cursor.at < file.len() {
-        match cursor.read_line(file) {
-            Line::Read(frame, next) => {
-                store(table, FRAME_SIZE * lines, frame);
-                cursor = next;
-                lines += 1;
-            }
-            Line::NoLine(_) => return rejected(NOT_WHOLE, lines),
+    while at < file.len() {
+        if !decode_line(file, at, table, FRAME_SIZE * lines) {
+            return rejected(NOT_WHOLE, lines);
         }
+        at += LINE_DIGITS + 1;
+        lines += 1;
     }
     Checked::Nodes(lines)
 }
 
-// Stores a frame's six bytes from an index on.
-fn store(table: &mut [u8], at: usize, frame: Frame)
-    requires { ⌜ at + frameSize ≤ length (now table) ⌝ }
-    ensures { λ _. ⌜ now (table .exit) ≡ sets (now (table .entry)) at (frameBytes frame) ⌝ }
-{
-    table[at] = frame.byte0;
-    table[at + 1] = frame.byte1;
-    table[at + 2] = frame.byte2;
-    table[at + 3] = frame.byte3;
-    table[at + 4] = frame.byte4;
-    table[at + 5] = frame.byte5;
-}
-
-// Do twelve digits stand at the position, and then a line feed or the end of the file?
-fn is_line(file: &[u8], at: usize) -> bool
-    ensures { λ r. ⌜ r ≡ isLineAt (now (file .entry)) at ⌝ }
+// Do twelve digits stand at the position, and then a line feed or the end of the file? If so, stores the six bytes that
+// the digits stand for from an index on.
+fn decode_line(file: &[u8], at: usize, table: &mut [u8], to: usize) -> bool
+    requires { ⌜ to + frameSize ≤ length (now table) ⌝ }
+    ensures { λ r. ⌜ Stored (isLineAt (now (file .entry)) at) (bytesAt (now (file .entry)) at)
+        (now (table .entry)) to (now (table .exit)) r ⌝ }
 {
     let size = file.len();
-    if size < LINE_DIGITS {
+    if size < at {
         return false;
     }
-    if size - LINE_DIGITS < at {
+    if size - at < LINE_DIGITS {
         return false;
     }
     let end = at + LINE_DIGITS;
-    if !all_digits(&file[at..end]) {
+    if !is_closed(file, end) {
         return false;
     }
-    if end == size {
+    decode_digits(&file[at..end], table, to)
+}
+
+// Does the file end at the index, or a line feed stand there?
+fn is_closed(file: &[u8], end: usize) -> bool
+    requires { ⌜ end ≤ length (now file) ⌝ }
+    ensures { λ r. ⌜ r ≡ closed (drop end (now (file .entry))) ⌝ }
+{
+    if end == file.len() {
         return true;
     }
     file[end] == LINE_FEED
 }
 
-// Is every byte a digit?
-fn all_digits(bytes: &[u8]) -> bool
-    ensures { λ r. ⌜ r ≡ allDigits (now (bytes .entry)) ⌝ }
+// Are the twelve bytes of a line digits? If so, stores the six bytes that they stand for from an index on, each of two
+// digits, the high one first.
+fn decode_digits(line: &[u8], table: &mut [u8], to: usize) -> bool
+    requires { ⌜ (length (now line) ≡ lineDigits) × (to + frameSize ≤ length (now table)) ⌝ }
+    ensures { λ r. ⌜ Stored (allDigits (now (line .entry))) (bytesOf (now (line .entry)))
+        (now (table .entry)) to (now (table .exit)) r ⌝ }
 {
-    let mut i = 0;
-    while i < bytes.len() {
-        if digit(bytes[i]) == NO_DIGIT {
+    let mut k = 0;
+    while k < FRAME_SIZE {
+        let high = digit(line[2 * k]);
+        if high == NO_DIGIT {
             return false;
         }
-        i += 1;
+        let low = digit(line[2 * k + 1]);
+        if low == NO_DIGIT {
+            return false;
+        }
+        table[to + k] = 16 * high + low;
+        k += 1;
     }
     true
 }
 
-// The frame of a line.
-fn frame_of(line: &[u8]) -> Frame
-    requires { ⌜ isLine (now line) ≡ true ⌝ }
-    ensures { λ r. ⌜ r ≡ frameOf (bytesOf (now (line .entry))) ⌝ }
+// Six bytes as a frame.
+fn frame_of(bytes: &[u8; FRAME_SIZE]) -> Frame
+    ensures { λ r. ⌜ r ≡ frameOf (now (bytes .entry)) ⌝ }
 {
     Frame {
-        byte0: byte_of(line, 0),
-        byte1: byte_of(line, 1),
-        byte2: byte_of(line, 2),
-        byte3: byte_of(line, 3),
-        byte4: byte_of(line, 4),
-        byte5: byte_of(line, 5),
+        byte0: bytes[0],
+        byte1: bytes[1],
+        byte2: bytes[2],
+        byte3: bytes[3],
+        byte4: bytes[4],
+        byte5: bytes[5],
     }
-}
-
-// Byte k of a line's frame: two digits, the high one first.
-fn byte_of(line: &[u8], k: usize) -> u8
-    requires { ⌜ (isLine (now line) ≡ true) × (k < frameSize) ⌝ }
-    ensures { λ r. ⌜ r ≡ getD (bytesOf (now (line .entry))) k 0 ⌝ }
-{
-    let high = digit(line[2 * k]);
-    let low = digit(line[2 * k + 1]);
-    16 * high + low
 }
