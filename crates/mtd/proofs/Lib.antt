@@ -7,5 +7,3 @@ pub mod Visits
 pub mod Runs
 -- The whole search: its questions, what it hands back, its steps.
 pub mod Whole
-
--- What holds of its results.

@@ -27,8 +27,9 @@ pub record Memory : Type 0 where
   pub highs : List ℕ
   pub notBelow : List ℕ
 
+-- the memory of three arrays
 abbrev pub memory : List ℕ → List ℕ → List ℕ → Memory
-memory e h f = record { evaluated = e; highs = h; notBelow = f }
+memory e h n = record { evaluated = e; highs = h; notBelow = n }
 
 -- what the arrays remember of a tree
 abbrev pub memoOf : Memory → (T : Tree) → Memo T
