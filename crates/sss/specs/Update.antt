@@ -1,10 +1,8 @@
 -- What entries of the list become.
 use Prim.Native.Nat.{ℕ, _+_, _≤_}
 use mathlib.Core.List.{List}
-use lib.IntN.{ℤ}
 use Rattle.frames.specs.Frame.{maxNodes}
 use Rattle.frames.specs.Value.{valueOf}
-use Rattle.sss.specs.declared.Status.{Status}
 use Rattle.sss.specs.declared.State.{State}
 use Rattle.sss.specs.declared.Change.{Change}
 use Rattle.sss.specs.declared.Content.{Content}

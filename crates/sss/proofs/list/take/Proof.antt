@@ -1,5 +1,5 @@
 -- `sss::list::take` meets its contract: a walk of its MIR by hand, since it holds a slice of structs.
-use mathlib.Core.Path.{_≡_, refl}
+use mathlib.Core.Path.{refl}
 use Prim.Native.Nat.{ℕ, _<_, _+_, _*_, _-_, _^_}
 use native.Mathlib.Omega.{arith}
 use mathlib.Core.List.{List, [], _∷_}
