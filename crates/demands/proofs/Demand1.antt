@@ -11,23 +11,25 @@ use lib.Dec.{leb}
 use lib.ListN.{length, getD, replicate, length-replicate}
 use Rattle.gametree.specs.declared.Side.the-variants.{Max, Min}
 use Rattle.gametree.specs.Certificate.{inBoth}
+use Rattle.gametree.proofs.Choice.{clash}
 use Rattle.frames.specs.declared.Rejection.{Rejection}
-use Rattle.frames.specs.declared.Checked.the-variants.{Rejected as RejectedFile}
+use Rattle.frames.specs.declared.Checked.the-variants.{Rejected as RejectedTable}
 use Rattle.frames.specs.Frame.{maxNodes, maxDepth, frames}
 use Rattle.frames.specs.Place.{depthOf}
 use Rattle.frames.specs.Rejection.{_andThen_}
-use Rattle.frames.specs.Check.{checkNode, nodesRejection, depthsRejection, rejection}
+use Rattle.frames.specs.Check.{checkNode, nodesRejection, depthsRejection, rejection, checked}
 use Rattle.frames.specs.FirstNo.{LowestNo}
 use Rattle.frames.proofs.Asked.{answer-rejected}
 use Rattle.frames.proofs.Stated.{both-passed}
-use Rattle.frames.proofs.Acceptance.{accepted-formed}
+use Rattle.frames.proofs.Acceptance.{accepted-formed, rejected-first}
 use Rattle.frames.proofs.FirstNo.{then-first, lowest-no, nodes-first, depth-first}
 use Rattle.treefile.specs.Line.{isLine}
 use Rattle.treefile.specs.Lines.{linesOf, decoded}
 use Rattle.treefile.specs.File.{fileCheck3, readRejection, readAnswer, tableAfter, written}
 use Rattle.treefile.proofs.FirstLine.{line-first}
 use Rattle.verify.specs.Flags.{ruleHolds}
-use Rattle.verify.specs.Check.{check11, check12, check13}
+use Rattle.verify.specs.declared.Verdict.the-variants.{Rejected as RejectedFlags}
+use Rattle.verify.specs.Check.{check11, check12, check13, certificateRejection, judged, verdict}
 use Rattle.certificate.specs.Search.{searchRejection}
 use Rattle.frames.specs.Check.{check10}
 use Rattle.alphabeta.specs.declared.Answer.the-variants as ab-answer
@@ -76,9 +78,21 @@ module _ {t : List ℕ} {r : Rejection} where
       → sssRejection t (length (c .lentList) ∷ lengths (c .lent)) ≡ some r
   first-sss c = sss-refusal c .first
 
-pub first-file : (f table : List ℕ) (r : Rejection) → readAnswer f table ≡ RejectedFile r
+pub first-file : (f table : List ℕ) (r : Rejection) → readAnswer f table ≡ RejectedTable r
     → readRejection f table ≡ some r
 first-file f table r e = answer-rejected (frames (decoded f)) r (readRejection f table) (sym e)
+
+pub first-table : (t : List ℕ) (r : Rejection) → checked t ≡ RejectedTable r → rejection t ≡ some r
+first-table t r e = rejected-first t r (sym e)
+
+pub first-certificate : (t flags : List ℕ) (r : Rejection) → verdict t flags ≡ RejectedFlags r
+    → certificateRejection t flags ≡ some r
+unfolding verdict
+first-certificate t flags r e = by-questions (certificateRejection t flags) e
+  where
+    by-questions : (q : Option Rejection) → judged t flags q ≡ RejectedFlags r → q ≡ some r
+    by-questions none e = clash (cc)
+    by-questions (some x) e = cc
 
 -- questions in order, and to line after line or node after node: the first "no" is the first
 pub in-order : (x y : Option Rejection) (r : Rejection) → (x andThen y) ≡ some r
@@ -148,5 +162,5 @@ module _ {t : List ℕ} {r : Rejection} where
       let d = own-list c (replicate maxNodes blank) (omega (arith, length-replicate {A = State} maxNodes blank)) in
       sym (d .2) ∙ sss-refusal (d .0) .kept ∙ d .1
 
-pub kept-table : (f table : List ℕ) (r : Rejection) → readAnswer f table ≡ RejectedFile r → tableAfter f table ≡ table
+pub kept-table : (f table : List ℕ) (r : Rejection) → readAnswer f table ≡ RejectedTable r → tableAfter f table ≡ table
 kept-table f table r e = ap (λ q. written q (decoded f) table) (first-file f table r e)

@@ -1,6 +1,6 @@
 -- Two calls with tables of one shape that agree on the leaves marked 1 in the first: if the same leaves are evaluated
 -- in both, they find the same and leave the same marks and flags.
-use Prim.Native.Nat.{ℕ, _<_}
+use Prim.Native.Nat.{ℕ}
 use mathlib.Core.Path.{_≡_, sym, ap, ap₂, _∙_, subst}
 use mathlib.Core.Bool.{cond}
 use mathlib.Core.List.{List}

@@ -1,10 +1,10 @@
 -- What is common to the calls that give a result, from their contracts.
 use Prim.Native.Nat.{ℕ}
-use native.Mathlib.Omega.{arith}
 use mathlib.Core.Path.{_≡_, ap}
 use mathlib.Core.Option.{none}
 use mathlib.Core.List.{List, _∷_}
 use lib.ListN.{length}
+use Rattle.gametree.proofs.Choice.{clash}
 use Rattle.gametree.proofs.Searches.{Searched, byMtd}
 use Rattle.frames.specs.declared.Rejection.{Rejection}
 use Rattle.frames.specs.Frame.{frames}
@@ -38,7 +38,7 @@ ab-apart =
     record {
       sameFound = λ g h e. cc;
       sameRejected = λ x y e. cc;
-      neverBoth = λ g x e. let z : _≡_ {A = ℕ} 0 1 = cc in omega arith;
+      neverBoth = λ g x e. clash (cc);
     }
 
 mtd-apart : Apart mtd-answer.Found mtd-answer.Rejected
@@ -46,7 +46,7 @@ mtd-apart =
     record {
       sameFound = λ g h e. cc;
       sameRejected = λ x y e. cc;
-      neverBoth = λ g x e. let z : _≡_ {A = ℕ} 0 1 = cc in omega arith;
+      neverBoth = λ g x e. clash (cc);
     }
 
 sss-apart : Apart sss-answer.Found sss-answer.Rejected
@@ -54,7 +54,7 @@ sss-apart =
     record {
       sameFound = λ g h e. cc;
       sameRejected = λ x y e. cc;
-      neverBoth = λ g x e. let z : _≡_ {A = ℕ} 0 1 = cc in omega arith;
+      neverBoth = λ g x e. clash (cc);
     }
 
 -- what a result of each search says

@@ -10,6 +10,7 @@ use mathlib.Core.Option.{Option, none, some}
 use mathlib.Core.List.{List}
 use lib.Dec.{leb, eqb}
 use borrow.Author.Tests.{leb-true, leb-false}
+use Rattle.gametree.proofs.Choice.{clash}
 use Rattle.frames.specs.declared.Rejection.{Rejection}
 use Rattle.frames.specs.Frame.{maxChildren, maxDepth, frames, childCount, byte3}
 use Rattle.frames.specs.Place.{depthOf}
@@ -20,7 +21,7 @@ use Rattle.frames.specs.FirstNo.{FirstAt, LowestNo}
 use Rattle.frames.proofs.Stated.{ask-yes}
 
 none-some : {r : Rejection} → none ≡ some r → ⊥
-none-some e = let z : _≡_ {A = ℕ} 0 1 = cc in omega arith
+none-some e = clash (cc)
 
 -- a "no" to one question has its number and the place that is asked
 pub ask-no : (b : Bool) (q p : ℕ) (r : Rejection) → ask b q p ≡ some r

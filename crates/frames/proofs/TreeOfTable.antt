@@ -1,7 +1,6 @@
 -- The tree of an accepted table is the one that its frames describe (01, "Frames"): laws of `tree`, `treeAt` and
 -- `valuation`, by which they are determined.
 use Prim.Native.Nat.{ℕ, suc, _<_}
-use native.Mathlib.Omega.{arith}
 use mathlib.Core.Path.{_≡_, refl}
 use mathlib.Core.Logic.{_↔_}
 use mathlib.Core.List.{List}

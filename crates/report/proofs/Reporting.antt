@@ -6,6 +6,7 @@ use mathlib.Core.Path.{_≡_, refl, sym, ap, _∙_}
 use mathlib.Core.Option.{Option, none, some}
 use mathlib.Core.List.{List, _++_}
 use lib.ListN.{length, take, drop, replicate, length-append}
+use Rattle.gametree.proofs.Choice.{clash}
 use Rattle.frames.specs.declared.Rejection.{Rejection}
 use Rattle.frames.specs.declared.Checked.{Checked}
 use Rattle.frames.specs.declared.Checked.the-variants.{Nodes, Rejected as RejectedFile}
@@ -46,7 +47,7 @@ module _ (f : List ℕ) where
         }
 
   nodes-rejected : {m : ℕ} {r : Rejection} → RejectedFile r ≡ Nodes m → ⊥
-  nodes-rejected e = let z : _≡_ {A = ℕ} 0 1 = cc in omega arith
+  nodes-rejected e = clash (cc)
 
   module _ (fresh : List ℕ) (room : maxTable ≤ length fresh) (r : Rejection)
       (e : RejectedFile r ≡ readAnswer f fresh) where

@@ -1,14 +1,14 @@
 -- Question 3 of a file: the place of a "no" is the number of the first line that is not twelve hexadecimal digits.
 use Prim.Native.Nat.{ℕ, zero, suc, _+_, _<_}
 use native.Mathlib.Omega.{arith}
-use mathlib.Core.Path.{_≡_, refl, ap, subst}
+use mathlib.Core.Path.{_≡_, ap, subst}
 use mathlib.Core.Logic.{⊎-elim}
 use mathlib.Core.Bool.{true, false}
-use mathlib.Core.Option.{none, some}
+use mathlib.Core.Option.{some}
 use mathlib.Core.List.{List, [], _∷_}
 use lib.ListN.{length, getD}
+use Rattle.gametree.proofs.Choice.{clash}
 use Rattle.frames.specs.declared.Rejection.{Rejection}
-use Rattle.frames.specs.Rejection.{_andThen_}
 use Rattle.frames.proofs.Stated.{ask-yes}
 use Rattle.frames.proofs.FirstNo.{ask-no, then-first}
 use Rattle.treefile.specs.Line.{isLine}
@@ -54,7 +54,7 @@ module _ (i : ℕ) (l : List ℕ) (ls : List (List ℕ)) (r : Rejection) where
 
 lines-first : (i : ℕ) (ls : List (List ℕ)) (r : Rejection) → eachLine lineCheck3 i ls ≡ some r → FirstLine i ls r
 unfolding eachLine
-lines-first i [] r e = absurd (let z : _≡_ {A = ℕ} 0 1 = cc in omega arith)
+lines-first i [] r e = clash (cc)
 lines-first i (l ∷ ls) r e =
     ⊎-elim (here i l ls r)
     (λ h. later i l ls r (ask-yes (isLine l) 3 i (h .0)) (lines-first (i + 1) ls r (h .1)))

@@ -1,10 +1,9 @@
 -- `report::put_mtd` meets its contract: the search finds, and the line says what it found.
-use Prim.Native.Nat.{ℕ}
-use native.Mathlib.Omega.{arith}
-use mathlib.Core.Path.{_≡_, refl}
+use mathlib.Core.Path.{refl}
 use lib.ListN.{replicate}
 use borrow.Author.Needs.{needs}
 use denote.Ref.{now}
+use Rattle.gametree.proofs.Choice.{clash}
 use Rattle.frames.specs.Frame.{maxNodes}
 use Rattle.mtd.specs.declared.Answer.the-variants.{Found as FoundAnswer, Rejected}
 use Rattle.certificate.specs.Search.{Search}
@@ -26,7 +25,7 @@ asked c = mtdSearch (now (start c .args .table)) (replicate maxNodes 0) (replica
 found : (c : tie.After-search) → let s = asked c in
     Answered FoundAnswer Rejected (mtdFound (s .table)) (c .search .result)
 found c =
-    answered FoundAnswer Rejected (λ r f e. cc) (λ r x e. let z : _≡_ {A = ℕ} 0 1 = cc in omega arith) (asked c)
+    answered FoundAnswer Rejected (λ r f e. cc) (λ r x e. clash (cc)) (asked c)
     (start c .pre .0) refl refl (c .search .ensures)
 
 slice-aggregate-search : tie.Need-slice-aggregate-search
