@@ -2,7 +2,7 @@
 -- the visit of a child.
 use Prim.Native.Nat.{ℕ, suc, _+_, _-_, _≤_, _<_}
 use native.Mathlib.Omega.{arith}
-use mathlib.Core.Path.{_≡_, refl, sym, ap, _∙_}
+use mathlib.Core.Path.{_≡_, sym, ap, ap₂, _∙_}
 use mathlib.Core.List.{List}
 use lib.ListN.{length, set}
 use Rattle.gametree.specs.declared.Place.{Place}
@@ -15,6 +15,7 @@ use Rattle.frames.proofs.Next.{child-within}
 use Rattle.frames.proofs.Places.{depth-at-most, place-child}
 use Rattle.frames.proofs.Trees.{tree-leaf, tree-inner}
 use Rattle.certificate.specs.Marks.{markAll}
+use Rattle.alphabeta.specs.declared.Visited.{Visited}
 use Rattle.alphabeta.specs.Engine.{Unmarked, Ready}
 use Rattle.alphabeta.proofs.Pass.{Gives, Owes, owes-all, rest}
 use Rattle.alphabeta.proofs.Unmarked.{Waiting}
@@ -31,10 +32,11 @@ pub record Turn (t : List ℕ) (i : ℕ) (p : Place) (α β : ℕ) (e₀ : List 
 
 module _ (t : List ℕ) (wf : WellFormed t) (i : ℕ) (inside : i < frames t) (α β : ℕ) (e : List ℕ) where
   -- a leaf is evaluated, and its score brought into the window
-  pub leaf-gives : (v x : ℕ) → childCount t i ≡ 0 → v ≡ valuation t i → x ≡ clamp α β v
-      → Gives (alphaBeta (valuation t) α β (treeAt t i)) e (set e i 1) (record { score = x; leaves = 1 })
+  pub leaf-gives : (e′ : List ℕ) (r : Visited) → childCount t i ≡ 0 → r .score ≡ clamp α β (valuation t i)
+      → r .leaves ≡ 1 → e′ ≡ set e i 1 → Gives (alphaBeta (valuation t) α β (treeAt t i)) e e′ r
   unfolding markAll
-  leaf-gives v x z p q = rw (tree-leaf t wf i inside z, q, p) (refl, refl)
+  leaf-gives e′ r z p q d =
+      rw (tree-leaf t wf i inside z) (ap₂ (λ s n. record { score = s; leaves = n }) p q, d)
 
   -- an inner node owes what all its children give
   pub inner-owes : (p : Place) (first end n : ℕ) → p ≡ placeOf t i → 0 < childCount t i → first ≡ firstChild t i

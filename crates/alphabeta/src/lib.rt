@@ -96,26 +96,15 @@ fn alpha_beta(
 {
     let count = child_count(table, node);
     if count == 0 {
-        let leaf = visit_leaf(table, evaluated, node, place.depth);
-        let score = clamped(alpha, beta, leaf.score);
-        return Visited {
-            score,
-            leaves: leaf.leaves,
-        };
+        return visit_leaf(table, evaluated, node, place.depth, alpha, beta);
     }
     let side = place.side;
     let mut leaves: usize = 0;
     let mut child = first_child(table, node);
     let last = child + (count - 1);
     let score = loop {
-        let visited = alpha_beta(
-            table,
-            evaluated,
-            child,
-            child_place(table, child, place),
-            alpha,
-            beta,
-        );
+        let below = child_place(table, child, place);
+        let visited = alpha_beta(table, evaluated, child, below, alpha, beta);
         leaves += visited.leaves;
         if child == last {
             break visited.score;
@@ -130,13 +119,21 @@ fn alpha_beta(
     Visited { score, leaves }
 }
 
-// A leaf is evaluated, and counted.
-fn visit_leaf(table: &[u8], evaluated: &mut [u8], node: usize, depth: u32) -> Visited
+// The score of a leaf that has no mark yet, brought into the window; the leaf is marked and counted.
+fn visit_leaf(
+    table: &[u8],
+    evaluated: &mut [u8],
+    node: usize,
+    depth: u32,
+    alpha: u32,
+    beta: u32,
+) -> Visited
     requires { ⌜ Evaluable (now table) (now evaluated) node depth ⌝ }
-    ensures { λ r. ⌜ (r .score ≡ valuation (now (table .entry)) node) × (r .leaves ≡ 1) ⌝ }
+    ensures { λ r. ⌜ (r .score ≡ clamp alpha beta (valuation (now (table .entry)) node)) × (r .leaves ≡ 1) ⌝ }
     ensures { λ _. ⌜ now (evaluated .exit) ≡ set (now (evaluated .entry)) node 1 ⌝ }
 {
-    let score = evaluate(table, evaluated, node, depth);
+    let leaf = evaluate(table, evaluated, node, depth);
+    let score = clamped(alpha, beta, leaf);
     Visited { score, leaves: 1 }
 }
 

@@ -19,7 +19,6 @@ use Rattle.alphabeta.proofs.Counts.{evaluated-few, size-few}
 use Rattle.alphabeta.proofs.alpha_beta.Reads as own
 use Rattle.alphabeta.proofs.alpha_beta.Kinds as own-kinds
 use Rattle.alphabeta.proofs.+alpha_beta.Lts-alpha_beta as lts
-use Rattle.alphabeta.proofs.clamped.Reads as clamped-reads
 use Rattle.alphabeta.proofs.lowered.Reads as lowered-reads
 use Rattle.alphabeta.proofs.raised.Reads as raised-reads
 use Rattle.alphabeta.proofs.visit_leaf.Reads as visit-leaf-reads
@@ -52,8 +51,6 @@ calls t = (
   child-count-reads.Learnt,
   visit-leaf-reads.Asked,
   visit-leaf-reads.Learnt,
-  clamped-reads.Asked,
-  clamped-reads.Learnt,
   first-child-reads.Asked,
   first-child-reads.Learnt,
   child-place-reads.Asked,
@@ -96,19 +93,15 @@ module _ (t : ℕ) where
         shallow = ready-depth _ _ _ _ (a .pre .1) .1;
       }
 
-  clamped-requires : lts.Need-clamped-requires (calls t) (at t) own.Post Inv μ-loop
-  clamped-requires c κs = search needs
-
   same-length : lts.Need-same-length (calls t) (at t) own.Post Inv μ-loop
   same-length c = search needs
 
   returns : lts.Need-returns (calls t) (at t) own.Post Inv μ-loop
   returns c =
-      let a = c .before .before .before .before .before .before .before .before .before in
-      let e = c .before .before .before .visit-leaf .ensures in
-      rw (e .1, e .0 .1)
-      (leaf-gives (a .args .table .now) (a .pre .1 .formed) (a .args .node) (a .pre .1 .inside) (a .args .alpha)
-      (a .args .beta) (a .args .evaluated .now) _ _ (omega arith) (e .0 .0) (c .clamped .ensures))
+      let a = c .before .before .before .before .before .before .before .before in
+      let l = c .before .before .visit-leaf .ensures in
+      leaf-gives (a .args .table .now) (a .pre .1 .formed) (a .args .node) (a .pre .1 .inside) (a .args .alpha)
+      (a .args .beta) (a .args .evaluated .now) _ _ (omega arith) (l .0 .0) (l .0 .1) (l .1)
 
   first-child-requires : lts.Need-first-child-requires (calls t) (at t) own.Post Inv μ-loop
   first-child-requires c κs = search needs
@@ -136,8 +129,8 @@ module _ (t : ℕ) where
 
   child-place-requires : lts.Need-child-place-requires (calls t) (at t) own.Post Inv μ-loop
   child-place-requires c κs =
-      let r = start (c .before) .pre .1 in
-      (child-within _ (r .formed) (r .inside) (child-of (c .before)), ready-depth _ _ _ _ r .1)
+      let r = start c .pre .1 in
+      (child-within _ (r .formed) (r .inside) (child-of c), ready-depth _ _ _ _ r .1)
 
   alpha-beta-requires : lts.Need-alpha-beta-requires (calls t) (at t) own.Post Inv μ-loop
   alpha-beta-requires c κs =
@@ -145,7 +138,7 @@ module _ (t : ℕ) where
       let a = start l in (
         omega (arith, child-later _ (a .pre .1 .formed) (a .pre .1 .inside) (child-of l)),
         ready-child _ _ _ _ (a .pre .1) _ _ _ (child-of l) (l .loop .inv .kept)
-            (l .loop .inv .waiting _ (omega arith) (child-of l)) (c .child-place .ensures),
+            (l .loop .inv .waiting _ (omega arith) (child-of l)) (c .before .child-place .ensures),
       )
 
   add-leaves : lts.Need-add-leaves (calls t) (at t) own.Post Inv μ-loop
@@ -218,7 +211,6 @@ pub +alpha-beta-spec : {M : Type 1} → statement M
     μ-loop
     (child-count-requires t)
     (visit-leaf-requires t)
-    (clamped-requires t)
     (same-length t)
     (returns t)
     (first-child-requires t)
