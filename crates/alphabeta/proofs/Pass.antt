@@ -16,7 +16,7 @@ use Rattle.frames.specs.Tree.{kidsFrom}
 use Rattle.certificate.specs.Marks.{markAll}
 use Rattle.certificate.proofs.Marking.{markAll-append}
 use Rattle.alphabeta.specs.declared.Visited.{Visited}
-use Rattle.alphabeta.specs.Engine.{visitedOf}
+use Rattle.alphabeta.specs.engine.Visit.{visitedOf}
 
 -- r and the marks e′ are what the result f gives, from the marks e
 abbrev pub Gives : Found → List ℕ → List ℕ → Visited → Type 0

@@ -8,10 +8,10 @@ use mathlib.Core.Bool.{Bool, true, false}
 use mathlib.Core.List.{List}
 use lib.Dec.{ltb, eqb}
 use Rattle.gametree.specs.declared.Side.{Side}
-use Rattle.gametree.specs.Lists.{All}
+use Rattle.lists.specs.Lists.{All}
 use Rattle.gametree.specs.Tree.{Tree, leaf, inner, Kids, last, _then_, In, InKids}
 use Rattle.gametree.specs.AlphaBeta.{raise, lower, Found, onward, alphaBeta, alphaBetaKids}
-use Rattle.gametree.proofs.Lists.{all-append}
+use Rattle.lists.proofs.Lists.{all-append}
 use Rattle.frames.specs.Frame.{frames}
 use Rattle.frames.specs.Tree.{treeAt, tree}
 use Rattle.frames.specs.Formed.{WellFormed, ChildOf}
@@ -20,7 +20,7 @@ use Rattle.places.specs.Buffer.{written}
 use Rattle.certificate.specs.Marks.{markAll}
 use Rattle.places.proofs.Buffers.{written-at}
 use Rattle.certificate.proofs.Marking.{markAll-other}
-use Rattle.alphabeta.specs.Engine.{Unmarked}
+use Rattle.alphabeta.specs.engine.Visit.{Unmarked}
 
 onward-all : (P : ℕ → Type 0) (b : Bool) (r q : Found) → All P (r .evaluated) → All P (q .evaluated)
     → All P (onward b r q .evaluated)

@@ -16,7 +16,7 @@ use Rattle.frames.proofs.Places.{depth-at-most, place-child}
 use Rattle.frames.proofs.Trees.{tree-leaf, tree-inner}
 use Rattle.certificate.specs.Marks.{markAll}
 use Rattle.alphabeta.specs.declared.Visited.{Visited}
-use Rattle.alphabeta.specs.Engine.{Unmarked, Ready}
+use Rattle.alphabeta.specs.engine.Visit.{Unmarked, Ready}
 use Rattle.alphabeta.proofs.Pass.{Gives, Owes, owes-all, rest}
 use Rattle.alphabeta.proofs.Unmarked.{Waiting}
 

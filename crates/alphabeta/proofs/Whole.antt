@@ -21,7 +21,7 @@ use Rattle.frames.specs.Value.{valueOf}
 use Rattle.certificate.specs.Search.{marksOf, flagsOf, findings}
 use Rattle.certificate.proofs.Outcomes.{search-concludes}
 use Rattle.alphabeta.specs.declared.Visited.{Visited}
-use Rattle.alphabeta.specs.Engine.{visitedOf}
+use Rattle.alphabeta.specs.engine.Visit.{visitedOf}
 use Rattle.alphabeta.specs.Outcome.{reachedLeaves}
 use Rattle.alphabeta.proofs.Reached.{searched}
 

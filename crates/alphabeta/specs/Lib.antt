@@ -1,3 +1,3 @@
 -- Definitions of the alpha-beta search over a table.
 pub mod Outcome
-pub mod Engine
+pub mod engine

@@ -25,10 +25,10 @@ ghost use Rattle.frames.specs.Frame.{frames};
 ghost use Rattle.frames.specs.Formed.{WellFormed};
 ghost use Rattle.frames.specs.Tree.{treeAt, valuation};
 ghost use Rattle.certificate.specs.Marks.{markAll};
-ghost use Rattle.certificate.specs.Evaluable.{Evaluable};
+ghost use Rattle.certificate.specs.engine.Evaluable.{Evaluable};
 ghost use Rattle.certificate.specs.Search.{marksOf, flagsOf, findings};
 ghost use Rattle.alphabeta.specs.Outcome.{reachedLeaves, alphaBetaOutcome};
-ghost use Rattle.alphabeta.specs.Engine.{Ready, visitedOf};
+ghost use Rattle.alphabeta.specs.engine.Visit.{Ready, visitedOf};
 
 // The answer of a call: what was found, or the first question that got a "no".
 pub enum Answer {

@@ -3,7 +3,7 @@ use Prim.Native.Nat.{ℕ, _≤_}
 use mathlib.Core.Path.{_≡_, subst}
 use mathlib.Core.List.{List}
 use lib.ListN.{length}
-use Rattle.analyse.specs.Input.{Fits}
+use Rattle.analyse.specs.engine.Input.{Fits}
 use Rattle.analyse.specs.declared.Input.{Input}
 use Rattle.analyse.specs.declared.Input.the-variants.{Bytes}
 

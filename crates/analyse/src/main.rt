@@ -2,7 +2,7 @@
 use libc::STDERR_FILENO;
 use libc::STDIN_FILENO;
 use libc::STDOUT_FILENO;
-ghost use Rattle.analyse.specs.Input.{Fits};
+ghost use Rattle.analyse.specs.engine.Input.{Fits};
 
 // What reading gives: how many bytes the input has, as far as there is room for them, or that a read failed.
 enum Input {

@@ -9,7 +9,7 @@ ghost use lib.ListN.{length};
 // The bytes of a line, its line feed included.
 const LINE_SIZE: usize = 13;
 
-// The reports of the trees at the limits of 01, and just past them.
+// The reports of the trees at the limits (SPEC 3.2), and just past them.
 pub fn print_made_trees() {
     print_tree(b"# 40 children\n", 40, 1);
     print_tree(b"# 41 children\n", 41, 1);

@@ -17,8 +17,8 @@ use Rattle.frames.specs.Formed.{WellFormed, ChildOf}
 use Rattle.frames.proofs.Next.{child-later, child-within}
 use Rattle.frames.proofs.Trees.{tree-leaf, tree-inner}
 use Rattle.certificate.specs.Marks.{marked}
-use Rattle.certificate.specs.Ranges.{bestIn}
-use Rattle.certificate.specs.Bounds.{boundOf, leafBounds}
+use Rattle.certificate.specs.engine.Ranges.{bestIn}
+use Rattle.certificate.specs.engine.Bounds.{boundOf, leafBounds}
 use Rattle.certificate.proofs.BottomUp.{Rising, rising-at}
 
 -- a marked leaf has its score for both bounds, another one the least and the greatest score

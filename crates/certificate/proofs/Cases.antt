@@ -4,7 +4,7 @@ use mathlib.Core.List.{map}
 use Rattle.frames.specs.Place.{parentBefore, placeWithin, placeOf}
 use Rattle.frames.specs.Tree.{kidsFrom, grow, treeAt, valuation}
 use Rattle.places.specs.Buffer.{tabulate, written}
-use Rattle.certificate.specs.Cases.{resultOf, cases, results}
+use Rattle.certificate.specs.results.Cases.{resultOf, cases, results}
 
 -- the bounds, the moves and the flags are as the table of results says
 pub small-certificates : map resultOf cases ≡ results

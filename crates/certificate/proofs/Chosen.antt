@@ -20,12 +20,12 @@ use Rattle.frames.specs.Formed.{WellFormed}
 use Rattle.frames.proofs.Next.{next-more, next-within}
 use Rattle.frames.proofs.Trees.{zero-or-suc, tree-leaf, tree-inner, tree-number}
 use Rattle.places.specs.Buffer.{written}
-use Rattle.places.specs.Places.{sideIn, Placed}
+use Rattle.places.specs.engine.Places.{sideIn, Placed}
 use Rattle.places.proofs.Buffers.{written-at}
 use Rattle.places.proofs.Places.{placed-side}
-use Rattle.certificate.specs.Ranges.{firstEqual}
-use Rattle.certificate.specs.Bounds.{boundOf}
-use Rattle.certificate.specs.Flags.{bySide, chosenChild}
+use Rattle.certificate.specs.engine.Ranges.{firstEqual}
+use Rattle.certificate.specs.engine.Bounds.{boundOf}
+use Rattle.certificate.specs.engine.Flags.{bySide, chosenChild}
 
 -- the arrays hold the side and both bounds of each node
 pub record Bounded (t : List ℕ) (E : ℕ → Bool) (places lows highs : List ℕ) : Type 0 where

@@ -11,7 +11,7 @@ use Rattle.gametree.specs.Tree.{other}
 use Rattle.gametree.specs.Bounds.{known}
 use Rattle.gametree.specs.Certificate.{fill, flag}
 use Rattle.gametree.specs.Move.{boundMove}
-use Rattle.gametree.proofs.Bounds.{minimax-mono}
+use Rattle.gametree.proofs.minimax.Bounds.{minimax-mono}
 use Rattle.frames.specs.Frame.{frames, childCount, next}
 use Rattle.frames.specs.Place.{sideOf}
 use Rattle.frames.specs.Tree.{treeAt, tree, valuation}
@@ -21,8 +21,8 @@ use Rattle.frames.proofs.Parents.{top-down}
 use Rattle.frames.proofs.Proper.{every-leaf}
 use Rattle.places.specs.Buffer.{written}
 use Rattle.certificate.specs.Marks.{mark, marked}
-use Rattle.certificate.specs.Ranges.{firstEqual}
-use Rattle.certificate.specs.Bounds.{boundOf}
+use Rattle.certificate.specs.engine.Ranges.{firstEqual}
+use Rattle.certificate.specs.engine.Bounds.{boundOf}
 use Rattle.places.proofs.Buffers.{written-same}
 use Rattle.certificate.proofs.Chosen.{first-same, chosenOf, chosen-root}
 use Rattle.certificate.proofs.Solutions.{childIn, solution, solution-root, solution-child}

@@ -14,9 +14,9 @@ use Rattle.frames.specs.Place.{sideOf}
 use Rattle.frames.specs.Tree.{tree, valuation}
 use Rattle.frames.specs.Formed.{WellFormed}
 use Rattle.places.specs.Buffer.{stored}
-use Rattle.places.specs.Places.{sideIn}
+use Rattle.places.specs.engine.Places.{sideIn}
 use Rattle.places.proofs.TopDown.{Filled, filled-at, filled-step}
-use Rattle.certificate.specs.Flags.{ownPart, childFlag, bySide, chosenChild, FlagsFrom}
+use Rattle.certificate.specs.engine.Flags.{ownPart, childFlag, bySide, chosenChild, FlagsFrom}
 use Rattle.certificate.proofs.Chosen.{Bounded, chosenOf, chosen-arrays}
 use Rattle.certificate.proofs.Solutions.{solution, solution-root, solution-child}
 

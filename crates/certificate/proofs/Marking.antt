@@ -6,7 +6,7 @@ use mathlib.Core.List.{List, [], _∷_, _++_}
 use lib.Dec.{eqb}
 use lib.ListN.{length, set, length-set}
 use lib.Seq.{getD-set-other}
-use Rattle.gametree.specs.Lists.{All, among}
+use Rattle.lists.specs.Lists.{All, among}
 use Rattle.places.specs.Buffer.{written}
 use Rattle.places.proofs.Buffers.{written-same, put, written-set}
 use Rattle.certificate.specs.Marks.{mark, marked, markAll}

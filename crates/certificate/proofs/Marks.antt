@@ -6,12 +6,12 @@ use mathlib.Core.Bool.{Bool, true, false, cond}
 use mathlib.Core.List.{List}
 use lib.Dec.{eqb}
 use lib.ListN.{length}
-use Rattle.gametree.specs.Lists.{All, among}
+use Rattle.lists.specs.Lists.{All, among}
 use Rattle.gametree.specs.Tree.{Tree, leaf, inner, Kids, last, _then_, leaves, leavesKids, leafCount, EveryLeaf}
 use Rattle.gametree.specs.Tree.{EveryLeafKids}
 use Rattle.gametree.proofs.Searches.{Searched}
-use Rattle.gametree.proofs.Choice.{is-false}
-use Rattle.gametree.proofs.Lists.{all-map, all-append, all-at}
+use Rattle.lists.proofs.Choice.{is-false}
+use Rattle.lists.proofs.Lists.{all-map, all-append, all-at}
 use Rattle.gametree.proofs.Theorems.{search-leaves, search-count}
 use Rattle.frames.specs.Frame.{frames, childCount}
 use Rattle.frames.specs.Tree.{tree, valuation}

@@ -6,8 +6,8 @@ use mathlib.Core.List.{List}
 use borrow.Author.Tests.{eq-eqb, ne-eqb}
 use Rattle.gametree.specs.declared.Side.{Side}
 use Rattle.gametree.specs.Tree.{better}
-use Rattle.certificate.specs.Ranges.{bestIn, firstEqual}
-use Rattle.certificate.specs.Flags.{bySide, chosenChild}
+use Rattle.certificate.specs.engine.Ranges.{bestIn, firstEqual}
+use Rattle.certificate.specs.engine.Flags.{bySide, chosenChild}
 
 -- the best of the last entry alone
 pub best-last : (s : Side) (f : ℕ → ℕ) (i to : ℕ) → to ≡ i + 1 → bestIn s f i (to - (i + 1)) ≡ f i

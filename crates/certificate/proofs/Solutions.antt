@@ -13,8 +13,8 @@ use Rattle.gametree.specs.declared.Side.the-variants.{Max, Min}
 use Rattle.gametree.specs.Tree.{Tree, other, minimax, minimaxKids}
 use Rattle.gametree.specs.Bounds.{known}
 use Rattle.gametree.specs.Certificate.{same, fill, solutionOf}
-use Rattle.gametree.proofs.Choice.{cond-cases}
-use Rattle.gametree.proofs.ReadOff.{ReadOff, ReadEach, ReadFirst, read-root, fits}
+use Rattle.lists.proofs.Choice.{cond-cases}
+use Rattle.gametree.proofs.certificates.ReadOff.{ReadOff, ReadEach, ReadFirst, read-root, fits}
 use Rattle.frames.specs.Frame.{frames, firstChild, childCount, next}
 use Rattle.frames.specs.Place.{sideOf}
 use Rattle.frames.specs.Tree.{kidsFrom, treeAt, tree, valuation}
@@ -22,8 +22,8 @@ use Rattle.frames.specs.Formed.{WellFormed, ChildOf}
 use Rattle.frames.proofs.Parents.{top-down}
 use Rattle.frames.proofs.Trees.{zero-or-suc, tree-inner, tree-number}
 use Rattle.frames.proofs.Nodes.{tree-distinct}
-use Rattle.certificate.specs.Ranges.{firstEqual}
-use Rattle.certificate.specs.Bounds.{boundOf}
+use Rattle.certificate.specs.engine.Ranges.{firstEqual}
+use Rattle.certificate.specs.engine.Bounds.{boundOf}
 use Rattle.certificate.proofs.Chosen.{chosenOf}
 
 -- the first of later numbers is no earlier one but 0

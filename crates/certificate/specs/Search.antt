@@ -3,7 +3,7 @@ use Prim.Native.Nat.{ℕ}
 use mathlib.Core.Option.{Option, none, some}
 use mathlib.Core.List.{List}
 use lib.ListN.{length}
-use Rattle.gametree.specs.Lists.{among}
+use Rattle.lists.specs.Lists.{among}
 use Rattle.gametree.specs.Tree.{minimax}
 use Rattle.gametree.specs.Move.{rootMove}
 use Rattle.gametree.specs.Certificate.{flag}

@@ -30,13 +30,13 @@ ghost use Rattle.frames.specs.Tree.{tree, valuation};
 ghost use Rattle.frames.specs.Rejection.{answer};
 ghost use Rattle.frames.specs.Formed.{WellFormed, ChildOf};
 ghost use Rattle.places.specs.Buffer.{written, stored};
-ghost use Rattle.places.specs.Places.{sideIn, Placed};
+ghost use Rattle.places.specs.engine.Places.{sideIn, Placed};
 ghost use Rattle.certificate.specs.Marks.{marked};
-ghost use Rattle.certificate.specs.Evaluable.{Evaluable};
-ghost use Rattle.certificate.specs.Ranges.{bestIn, firstEqual};
-ghost use Rattle.certificate.specs.Bounds.{boundOf, boundsOf, leafBounds};
+ghost use Rattle.certificate.specs.engine.Evaluable.{Evaluable};
+ghost use Rattle.certificate.specs.engine.Ranges.{bestIn, firstEqual};
+ghost use Rattle.certificate.specs.engine.Bounds.{boundOf, boundsOf, leafBounds};
 ghost use Rattle.certificate.specs.Search.{searchRejection};
-ghost use Rattle.certificate.specs.Flags.{ownPart, bySide, chosenChild, FlagsFrom};
+ghost use Rattle.certificate.specs.engine.Flags.{ownPart, bySide, chosenChild, FlagsFrom};
 
 // What every search finds: the minimax value, the first root move that reaches it (0 for a leaf), and how many leaves were evaluated.
 pub struct Findings {

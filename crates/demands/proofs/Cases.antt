@@ -1,4 +1,4 @@
--- The cases of 01 that are marked P, computed from the definitions over byte tables.
+-- The cases of SPEC 12.2 (01: those marked P), computed from the definitions over byte tables.
 use mathlib.Core.Path.{_≡_, refl}
 use mathlib.Core.List.{map}
 use Rattle.gametree.specs.Mtd.{mtd}

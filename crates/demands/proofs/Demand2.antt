@@ -7,7 +7,7 @@ use mathlib.Core.List.{List, _++_}
 use lib.IntN.{ℤ}
 use lib.ListN.{length, getD, drop, replicate}
 use borrow.Author.Tests.{le-leb}
-use Rattle.gametree.specs.Lists.{among}
+use Rattle.lists.specs.Lists.{among}
 use Rattle.gametree.specs.Tree.{minimax}
 use Rattle.gametree.specs.Move.{rootMove}
 use Rattle.frames.specs.Frame.{frames, byteOf, childCount}

@@ -1,10 +1,10 @@
--- Demand 3, sentence by sentence, over the calls of Calls.antt; and what 01 says of the other counts and of the list.
+-- Demand 3, sentence by sentence, over the calls of Calls.antt; and what SPEC 8 to 10 say of the other counts and of the list.
 use Prim.Native.Nat.{ℕ, suc, _*_, _≤_, _<_}
 use mathlib.Core.Path.{_≡_, sym, ap, ap₂, _∙_, subst}
 use mathlib.Core.Bool.{Bool, true, cond}
 use mathlib.Core.List.{List, _++_, map}
 use lib.ListN.{length, drop, replicate}
-use Rattle.gametree.specs.Lists.{All, Once, Subsequence, among, different}
+use Rattle.lists.specs.Lists.{All, Once, Subsequence, among, different}
 use Rattle.gametree.specs.Tree.{leaves as treeLeaves}
 use Rattle.gametree.specs.AlphaBeta.{fullWindow}
 use Rattle.gametree.specs.Mtd as rule
@@ -146,7 +146,7 @@ local-sss {t} {u} c d h a =
       same-left x y h a e,
     )
 
--- WHAT 01 SAYS BESIDES
+-- BESIDES (SPEC 7 TO 10)
 
 -- alpha-beta evaluates its leaves from left to right
 pub ordered : (t : List ℕ) → Subsequence (reachedLeaves t) (treeLeaves (tree t))

@@ -8,14 +8,14 @@ use lib.ListN.{length, getD}
 use borrow.Author.Tests.{eq-eqb}
 use Rattle.gametree.specs.declared.Side.{Side}
 use Rattle.gametree.specs.declared.Side.the-variants.{Max, Min}
-use Rattle.gametree.specs.Lists.{All, among}
+use Rattle.lists.specs.Lists.{All, among}
 use Rattle.gametree.specs.Tree.{minimax, Proper}
 use Rattle.gametree.specs.Bounds.{known}
 use Rattle.gametree.specs.Certificate.{inside, solutionOf, flag, fill}
-use Rattle.gametree.proofs.Lists.{all-at}
-use Rattle.gametree.proofs.Bounds.{every-map}
-use Rattle.gametree.proofs.ReadOff.{ReadOff, fits}
-use Rattle.gametree.proofs.Certificates.{flag-inside, read-bounds}
+use Rattle.lists.proofs.Lists.{all-at}
+use Rattle.gametree.proofs.minimax.Bounds.{every-map}
+use Rattle.gametree.proofs.certificates.ReadOff.{ReadOff, fits}
+use Rattle.gametree.proofs.certificates.Flags.{flag-inside, read-bounds}
 use Rattle.gametree.proofs.Theorems.{alphaBeta-leaves, search-decides, domination, domination-count}
 use Rattle.frames.specs.Frame.{frames}
 use Rattle.frames.specs.Tree.{tree, valuation}

@@ -6,12 +6,12 @@ use mathlib.Core.Bool.{cond}
 use mathlib.Core.List.{List}
 use lib.ListN.{length, take, drop}
 use lib.Seq.{take-at}
-use Rattle.gametree.specs.Lists.{All, among}
+use Rattle.lists.specs.Lists.{All, among}
 use Rattle.gametree.specs.Tree.{minimax, Proper}
 use Rattle.gametree.specs.Certificate.{flag}
 use Rattle.gametree.specs.Move.{rootMove}
 use Rattle.gametree.proofs.Searches.{SameResults}
-use Rattle.gametree.proofs.Lists.{all-among, all-zip}
+use Rattle.lists.proofs.Lists.{all-among, all-zip}
 use Rattle.gametree.proofs.Theorems.{local-results}
 use Rattle.frames.specs.Frame.{frames}
 use Rattle.frames.specs.Tree.{tree, valuation}

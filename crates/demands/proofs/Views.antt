@@ -4,7 +4,7 @@ use mathlib.Core.Path.{_≡_, ap}
 use mathlib.Core.Option.{none}
 use mathlib.Core.List.{List, _∷_}
 use lib.ListN.{length}
-use Rattle.gametree.proofs.Choice.{clash}
+use Rattle.lists.proofs.Choice.{clash}
 use Rattle.gametree.proofs.Searches.{Searched, byMtd}
 use Rattle.frames.specs.declared.Rejection.{Rejection}
 use Rattle.frames.specs.Frame.{frames}

@@ -1,10 +1,10 @@
--- The cases of 01 that are marked P, as byte tables, with what is said of them.
+-- The cases of SPEC 12.2 (01: those marked P), as byte tables, with what is said of them.
 use Prim.Native.Nat.{ℕ}
 use mathlib.Core.List.{List, [], _∷_}
 use lib.IntN.{ℤ, pos, negsuc}
 use lib.ListN.{replicate, take}
 use Rattle.frames.specs.Frame.{frames}
-use Rattle.frames.specs.Cases.{small, lone, single}
+use Rattle.frames.specs.results.Cases.{small, lone, single}
 use Rattle.certificate.specs.declared.Findings.{Findings}
 use Rattle.alphabeta.specs.declared.Answer as ab
 use Rattle.alphabeta.specs.declared.Answer.the-variants as ab-answer

@@ -1,4 +1,4 @@
--- A table is accepted exactly when it is as 01 states it, clause by clause; and an accepted table is well-formed.
+-- A table is accepted exactly when it is as SPEC 3 states it, clause by clause; and an accepted table is well-formed.
 use Prim.Native.Nat.{ℕ, _%_, _≤_, _<_}
 use native.Mathlib.Omega.{arith}
 use mathlib.Core.Path.{_≡_}
@@ -12,7 +12,7 @@ use Rattle.frames.specs.Frame.{frameSize, maxNodes, frames, next, maxTab
 use Rattle.frames.specs.Formed.{WellFormed}
 use Rattle.frames.specs.Check.{check1, check2, check3, checkNode, check8, check9, framesRejection, rejection}
 use Rattle.frames.specs.Check.{nodesRejection, Accepted, checked}
-use Rattle.frames.specs.Stated.{FrameAsStated, TableAsStated}
+use Rattle.frames.specs.results.Stated.{FrameAsStated, TableAsStated}
 use Rattle.frames.proofs.Next.{next-mono}
 use Rattle.frames.proofs.Stated.{ask-yes, yes-ask, both-passed, passed-both, passed-stated, stated-passed}
 use Rattle.frames.proofs.Asked.{answer-nodes, answer-rejected, each-passed, passed-each}

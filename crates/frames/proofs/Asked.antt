@@ -13,7 +13,7 @@ use Rattle.frames.specs.Rejection.{_andThen_, eachNode, answer}
 use Rattle.frames.specs.Check.{checkNode, nodesRejection}
 use Rattle.frames.proofs.Next.{next-more}
 use Rattle.frames.proofs.Stated.{both-passed, passed-both, passed-stated}
-use Rattle.gametree.proofs.Choice.{clash}
+use Rattle.lists.proofs.Choice.{clash}
 
 -- the answer of a question that gets a "no"
 abbrev pub refused : ℕ → ℕ → Checked

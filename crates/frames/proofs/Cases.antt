@@ -6,7 +6,7 @@ use Rattle.frames.specs.Place.{parentBefore, placeWithin, placeOf}
 use Rattle.frames.specs.Rejection.{eachNode}
 use Rattle.frames.specs.Check.{framesRejection, rejection, checked}
 use Rattle.frames.specs.Children.{childrenOf}
-use Rattle.frames.specs.Cases.{leaves, chain, accepted, rejected, families}
+use Rattle.frames.specs.results.Cases.{leaves, chain, accepted, rejected, families}
 
 -- the check answers as the table of cases says
 pub small-tables : map (λ c. checked (c .table)) (accepted ++ rejected) ≡ map (λ c. c .answer) (accepted ++ rejected)

@@ -11,7 +11,7 @@ use lib.Dec.{ltb}
 use borrow.Author.Tests.{lt-ltb, le-ltb}
 use Rattle.gametree.specs.declared.Side.{Side}
 use Rattle.gametree.specs.Layout.{Layout, tip, fork, root, under, firstOf, othersOf}
-use Rattle.gametree.proofs.Described.{Answers, AnswersKids, Describes}
+use Rattle.gametree.proofs.sss.Described.{Answers, AnswersKids, Describes}
 use Rattle.frames.specs.Frame.{frames, firstChild, childCount}
 use Rattle.frames.specs.Place.{sideOf}
 use Rattle.frames.specs.Tree.{upFrom, kidsFrom, treeAt, tree}

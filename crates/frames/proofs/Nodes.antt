@@ -5,7 +5,7 @@ use mathlib.Core.Path.{_≡_, sym, ap, _∙_, subst}
 use mathlib.Core.Logic.{inl, inr}
 use mathlib.Core.List.{List}
 use Rattle.gametree.specs.Tree.{In, Distinct, DistinctKids}
-use Rattle.gametree.proofs.Nodes.{number-in}
+use Rattle.gametree.proofs.minimax.Nodes.{number-in}
 use Rattle.frames.specs.Frame.{frames, firstChild, childCount}
 use Rattle.frames.specs.Place.{parentOf, depthOf}
 use Rattle.frames.specs.Tree.{kidsFrom, treeAt, tree}

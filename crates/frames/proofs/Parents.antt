@@ -7,7 +7,7 @@ use mathlib.Core.Path.{_≡_}
 use mathlib.Core.Bool.{true, false}
 use mathlib.Core.List.{List}
 use borrow.Author.Tests.{le-ltb, lt-ltb, le-leb, lt-leb}
-use Rattle.gametree.proofs.Choice.{cond-cases}
+use Rattle.lists.proofs.Choice.{cond-cases}
 use Rattle.frames.specs.Frame.{frames, firstChild, childCount, next}
 use Rattle.frames.specs.Place.{isChild, parentBefore, parentOf}
 use Rattle.frames.specs.Formed.{WellFormed, ChildOf}

@@ -1,4 +1,4 @@
--- Who moves goes by the depth: at even depth Max, at odd depth Min (01, "Frames").
+-- Who moves goes by the depth: at even depth Max, at odd depth Min (SPEC 3.5).
 use Prim.Native.Nat.{ℕ, zero, suc, _+_, _%_}
 use native.Mathlib.Omega.{arith}
 use native.Mathlib.Decide.{decLt}

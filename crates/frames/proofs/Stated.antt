@@ -7,12 +7,12 @@ use mathlib.Core.Option.{Option, none, some}
 use mathlib.Core.List.{List}
 use borrow.Author.Tests.{ltb-true, leb-true, eqb-true, lt-ltb, le-leb, eq-eqb}
 use Rattle.gametree.specs.Tree.{Score}
-use Rattle.gametree.proofs.Choice.{clash, and-both}
+use Rattle.lists.proofs.Choice.{clash, and-both}
 use Rattle.frames.specs.declared.Rejection.{Rejection}
 use Rattle.frames.specs.Frame.{firstChild, valueBytes, storedScore, next}
 use Rattle.frames.specs.Rejection.{ask, _andThen_}
 use Rattle.frames.specs.Check.{firstChildRight, valueRight, check4, check5, check6, check7, checkNode}
-use Rattle.frames.specs.Stated.{FrameAsStated}
+use Rattle.frames.specs.results.Stated.{FrameAsStated}
 
 -- a rejection is not none
 some-none : {r : Rejection} → some r ≡ none → ⊥

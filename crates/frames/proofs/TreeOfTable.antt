@@ -1,4 +1,4 @@
--- The tree of an accepted table is the one that its frames describe (01, "Frames"): laws of `tree`, `treeAt` and
+-- The tree of an accepted table is the one that its frames describe (SPEC 3): laws of `tree`, `treeAt` and
 -- `valuation`, by which they are determined.
 use Prim.Native.Nat.{ℕ, suc, _<_}
 use mathlib.Core.Path.{_≡_, refl}

@@ -1,4 +1,4 @@
--- The check of a table: questions 1 to 9 of 01, in order.
+-- The check of a table: questions 1 to 9 in order (SPEC 4.2, 4.3).
 use Prim.Native.Nat.{ℕ, zero, suc, _%_}
 use mathlib.Core.Path.{_≡_}
 use mathlib.Core.Bool.{Bool, true, _&&_}
@@ -89,7 +89,7 @@ roomy n (l ∷ ls) = leb n l && roomy n ls
 abbrev pub check10 : ℕ → List ℕ → Option Rejection
 check10 n lengths = ask (roomy n lengths) 10 0
 
--- 01's accepted tree: questions 1 to 9 get no "no"
+-- an accepted table (01: an accepted tree): questions 1 to 9 get no "no"
 abbrev pub Accepted : List ℕ → Type 0
 Accepted t = rejection t ≡ none
 

@@ -1,11 +1,11 @@
--- A table is a list of bytes; a node is a frame of six of them (01, "Frames"). Fields are read by node number, and are
+-- A table is a list of bytes; a node is a frame of six of them (SPEC 3.1). Fields are read by node number, and are
 -- 0 past the table's end.
 use Prim.Native.Nat.{ℕ, zero, suc, _+_, _*_, _/_, _%_}
 use mathlib.Core.List.{List}
 use lib.ListN.{length, getD}
 use Rattle.gametree.specs.Tree.{zeroScore}
 
--- the limits of 01
+-- the limits (SPEC 3.2)
 abbrev pub frameSize : ℕ
 frameSize = 6
 

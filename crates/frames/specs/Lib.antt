@@ -8,6 +8,5 @@ pub mod Formed
 pub mod Rejection
 pub mod Check
 pub mod Shape
-pub mod Stated
 pub mod FirstNo
-pub mod Cases
+pub mod results

@@ -1,4 +1,4 @@
--- Two tables of one shape, and tables that agree on a leaf (01, "Three searches").
+-- Two tables of one shape, and tables that agree on a leaf (SPEC 3.8).
 use Prim.Native.Nat.{ℕ, _<_}
 use mathlib.Core.Path.{_≡_}
 use mathlib.Core.List.{List}

@@ -15,7 +15,7 @@ ghost use Rattle.frames.specs.Rejection.{answer};
 ghost use Rattle.frames.specs.Check.{firstChildRight, valueRight, checkNode, nodesRejection, depthsRejection};
 ghost use Rattle.frames.specs.Check.{framesRejection, checked};
 
-// The limits of 01.
+// The limits (SPEC 3.2).
 pub const FRAME_SIZE: usize = 6;
 
 pub const MAX_NODES: usize = 4096;
@@ -46,7 +46,7 @@ pub const IN_MIN: u8 = 2;
 
 pub const IN_BOTH: u8 = 3;
 
-// The numbers of 01's questions about a table and the buffers lent with it, by what a "no" means.
+// The numbers of the questions about a table and the buffers lent with it, by what a "no" means (SPEC 4.2).
 pub const EMPTY: u8 = 1;
 
 pub const TOO_LONG: u8 = 2;
@@ -67,7 +67,7 @@ pub const TOO_DEEP: u8 = 9;
 
 pub const SHORT_BUFFER: u8 = 10;
 
-// A "no" of 01: the question's number and a place.
+// A rejection (01: the first "no"): the question's number and a place (SPEC 4.1).
 pub struct Rejection {
     pub number: u8,
     pub place: usize,

@@ -2,7 +2,7 @@
 use Prim.Native.Nat.{ℕ}
 use mathlib.Core.Path.{_≡_}
 use mathlib.Core.List.{List}
-use Rattle.gametree.specs.Lists.{among}
+use Rattle.lists.specs.Lists.{among}
 use Rattle.gametree.specs.Tree.{Tree, minimax}
 use Rattle.gametree.specs.AlphaBeta.{fullWindow}
 use Rattle.gametree.specs.Mtd.{mtd}

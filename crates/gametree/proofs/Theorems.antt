@@ -8,49 +8,50 @@ use mathlib.Core.Logic.{_↔_}
 use mathlib.Core.Bool.{Bool, true, false, cond}
 use mathlib.Core.List.{List, _∷_, _++_, map}
 use lib.ListN.{length}
-use Rattle.gametree.specs.Lists.{All, among, Once, Subsequence, different}
+use Rattle.lists.specs.Lists.{All, among, Once, Subsequence, different}
 use Rattle.gametree.specs.Tree.{Side, Max, Min, Tree, leaf, inner, Kids, least, greatest, minimax, size, leaves}
 use Rattle.gametree.specs.Tree.{leafCount, In, EveryLeaf, Score, Scored, Distinct, Proper}
 use Rattle.gametree.specs.Bounds.{known, low, high, bestOf, Decided}
 use Rattle.gametree.specs.AlphaBeta.{reached, fullWindow}
 use Rattle.gametree.specs.Mtd.{fresh, mtd}
 use Rattle.gametree.specs.Layout.{Layout, layoutOf}
-use Rattle.gametree.proofs.Described.{Describes}
+use Rattle.gametree.proofs.sss.Described.{Describes}
 use Rattle.gametree.specs.Sss.{takenMerit, State, replace, step, finished, runFrom, start}
 use Rattle.gametree.specs.Sss.{sssOver, sss, ListAfter, resumed}
 use Rattle.gametree.specs.Certificate.{Rule, SolutionTree, solutionValue, Certifies, pairLeaves, chosen}
 use Rattle.gametree.specs.Certificate.{Smallest}
-use Rattle.gametree.proofs.Certificates.{FlagsCertify}
-use Rattle.gametree.proofs.Counting.{members, required}
+use Rattle.gametree.proofs.certificates.Flags.{FlagsCertify}
+use Rattle.gametree.proofs.certificates.Counting.{members, required}
 use Rattle.gametree.specs.Move.{rootMove, boundMove}
 use Rattle.gametree.proofs.Searches.{Searched, byAlphaBeta, byMtd, bySss, SameResults}
-use Rattle.gametree.specs.ClosedForm.{unrivalled}
-use Rattle.gametree.proofs.Lists.{all-map, all-among, all-at, once-length, sub-all, sub-once}
-use Rattle.gametree.proofs.Nodes.{leaves-once}
-use Rattle.gametree.proofs.Bounds.{minimax-score, minimaxKids-best}
-use Rattle.gametree.proofs.Bounds.{known-local}
-use Rattle.gametree.proofs.Window.{alphaBeta-value, alphaBeta-evaluated, reached-ordered, alphaBeta-local}
-use Rattle.gametree.proofs.Window.{alphaBeta-decided}
-use Rattle.gametree.proofs.MtdValue.{mtd-right}
-use Rattle.gametree.proofs.MtdMarks.{mtd-marks}
-use Rattle.gametree.proofs.MtdPasses.{passes-few}
-use Rattle.gametree.proofs.MtdLocal.{run-local, fresh-agree}
-use Rattle.gametree.proofs.Work.{full-size}
-use Rattle.gametree.proofs.SssRun.{sss-is-mtd}
-use Rattle.gametree.proofs.Merits.{list-unique, run-falls, first-merit}
-use Rattle.gametree.proofs.SssLists.{list-reached, resume}
-use Rattle.gametree.proofs.SssLocal.{runFrom-local}
-use Rattle.gametree.proofs.OwnLayout.{own-layout}
-use Rattle.gametree.proofs.Fronts.{Front}
-use Rattle.gametree.proofs.FrontSteps.{front-length, front-in, front-reached, front-taken}
-use Rattle.gametree.proofs.Solution.{solution-bound, certified, rule-counted, counted-rule}
-use Rattle.gametree.proofs.Certificates.{decided-certify}
-use Rattle.gametree.proofs.Counts.{once-count}
-use Rattle.gametree.proofs.SmallestPair.{smallest≤, smallest-found}
-use Rattle.gametree.proofs.Moves.{alphaBeta-move, boundMove-local}
-use Rattle.gametree.proofs.MtdMoves.{mtd-decided, mtd-move}
-use Rattle.gametree.proofs.Domination.{mtd-reaches}
-use Rattle.gametree.proofs.ClosedForm.{mtd-unrivalled}
+use Rattle.gametree.specs.results.ClosedForm.{unrivalled}
+use Rattle.lists.proofs.Lists.{all-map, all-among, all-at, once-length, sub-all, sub-once}
+use Rattle.gametree.proofs.minimax.Nodes.{leaves-once}
+use Rattle.gametree.proofs.minimax.Bounds.{minimax-score, minimaxKids-best}
+use Rattle.gametree.proofs.minimax.Bounds.{known-local}
+use Rattle.gametree.proofs.alphabeta.Window.{alphaBeta-value, alphaBeta-evaluated, reached-ordered}
+use Rattle.gametree.proofs.alphabeta.Window.{alphaBeta-local}
+use Rattle.gametree.proofs.alphabeta.Window.{alphaBeta-decided}
+use Rattle.gametree.proofs.mtd.Value.{mtd-right}
+use Rattle.gametree.proofs.mtd.Marks.{mtd-marks}
+use Rattle.gametree.proofs.mtd.Passes.{passes-few}
+use Rattle.gametree.proofs.mtd.Local.{run-local, fresh-agree}
+use Rattle.gametree.proofs.sss.Work.{full-size}
+use Rattle.gametree.proofs.sss.Run.{sss-is-mtd}
+use Rattle.gametree.proofs.results.Merits.{list-unique, run-falls, first-merit}
+use Rattle.gametree.proofs.sss.Lists.{list-reached, resume}
+use Rattle.gametree.proofs.sss.Local.{runFrom-local}
+use Rattle.gametree.proofs.sss.OwnLayout.{own-layout}
+use Rattle.gametree.proofs.sss.Fronts.{Front}
+use Rattle.gametree.proofs.sss.FrontSteps.{front-length, front-in, front-reached, front-taken}
+use Rattle.gametree.proofs.certificates.Solution.{solution-bound, certified, rule-counted, counted-rule}
+use Rattle.gametree.proofs.certificates.Flags.{decided-certify}
+use Rattle.gametree.proofs.minimax.Counts.{once-count}
+use Rattle.gametree.proofs.certificates.SmallestPair.{smallest≤, smallest-found}
+use Rattle.gametree.proofs.minimax.Moves.{alphaBeta-move, boundMove-local}
+use Rattle.gametree.proofs.mtd.Moves.{mtd-decided, mtd-move}
+use Rattle.gametree.proofs.results.Domination.{mtd-reaches}
+use Rattle.gametree.proofs.results.ClosedForm.{mtd-unrivalled}
 
 -- BOUNDS
 

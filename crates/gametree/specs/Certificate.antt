@@ -1,4 +1,4 @@
--- Certificates (document 01 calls a certificate a proof): a max and a min solution tree of equal value, as sets of
+-- Certificates (SPEC 5.4; 01: the proof): a max and a min solution tree of equal value, as sets of
 -- nodes and as flags, and the one read off the bounds.
 use Prim.Native.Nat.{ℕ, _+_, _≤_}
 use mathlib.Core.Path.{_≡_}

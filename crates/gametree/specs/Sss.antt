@@ -1,5 +1,5 @@
 -- SSS*: its states, its list, one replacement, and the run, over a layout of the tree. State, LIVE, SOLVED, merit and
--- replacement are document 01's words, and Stockman's (source 002).
+-- replacement are Stockman's words (source 002; SPEC 10).
 use Prim.Native.Nat.{ℕ, zero, suc, _+_, _*_, min}
 use mathlib.Core.Path.{_≡_}
 use mathlib.Core.Bool.{Bool, true, false, cond, _||_, _&&_}

@@ -30,7 +30,7 @@ mutual
 abbrev pub zeroScore : ℕ
 zeroScore = 32001
 
--- document 01's -32,001 and 32,001 (minus and plus infinity in the sources)
+-- the scores of -32,001 and 32,001, which no leaf has (minus and plus infinity in the sources)
 abbrev pub least : ℕ
 least = 0
 

@@ -9,7 +9,7 @@ pub enum Side {
     Min,
 }
 
-// Where a node stands: its depth (the root has 0), and who moves there. (01's place is that of a rejection, a number.)
+// Where a node stands: its depth (the root has 0), and who moves there. (A rejection's place is a number: SPEC 4.1.)
 pub struct Place {
     pub depth: u32,
     pub side: Side,

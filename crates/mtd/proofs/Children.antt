@@ -10,9 +10,9 @@ use lib.ListN.{length, length-append}
 use Rattle.gametree.specs.declared.Side.{Side}
 use Rattle.gametree.specs.Tree.{Tree, leaf, inner, Kids, last, _then_, size, sizeKids, In, InKids}
 use Rattle.gametree.specs.Mtd.{Memo, MemoKids, Pass, PassKids, memoHighKids, settles, joined, pass, passKids}
-use Rattle.gametree.proofs.Choice.{cond-cases}
-use Rattle.gametree.specs.MemoArrays.{readMemoKids, VisitedKids}
-use Rattle.gametree.proofs.MemoArrays.{rest-same, visit-ended, visit-joined}
+use Rattle.lists.proofs.Choice.{cond-cases}
+use Rattle.gametree.specs.engine.MemoArrays.{readMemoKids, VisitedKids}
+use Rattle.gametree.proofs.mtd.MemoArrays.{rest-same, visit-ended, visit-joined}
 use Rattle.frames.specs.Tree.{kidsFrom, valuation}
 use Rattle.certificate.specs.Marks.{marked}
 use Rattle.mtd.specs.declared.Tried.{Tried}

@@ -14,8 +14,8 @@ use Rattle.gametree.specs.declared.Side.{Side}
 use Rattle.gametree.specs.Tree.{Tree, leaf, inner, Kids, InKids}
 use Rattle.gametree.specs.Bounds.{high}
 use Rattle.gametree.specs.Mtd.{Memo, memoHigh, Pass, stay, entered}
-use Rattle.gametree.proofs.Choice.{cond-cases}
-use Rattle.gametree.proofs.MemoArrays.{readMemoKids-same}
+use Rattle.lists.proofs.Choice.{cond-cases}
+use Rattle.gametree.proofs.mtd.MemoArrays.{readMemoKids-same}
 use Rattle.frames.specs.Tree.{treeAt, valuation}
 use Rattle.certificate.specs.Marks.{marked, markAll}
 use Rattle.certificate.proofs.Marking.{marked-other}

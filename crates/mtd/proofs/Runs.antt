@@ -6,15 +6,15 @@ use mathlib.Core.Logic.{inl, inr}
 use mathlib.Core.Bool.{Bool, true, false}
 use mathlib.Core.List.{List, [], _++_, append-assoc}
 use lib.ListN.{length, getD, length-append}
-use Rattle.gametree.specs.Lists.{among}
+use Rattle.lists.specs.Lists.{among}
 use Rattle.gametree.specs.Tree.{Tree, leaf, inner, Kids, last, _then_, greatest, size, sizeKids, leafCount}
 use Rattle.gametree.specs.Tree.{leafCountKids, In, InKids}
 use Rattle.gametree.specs.Mtd.{Memo, MemoKids, memoHigh, pass, Run, settled, followed, run, fresh, freshKids, mtd}
 use Rattle.gametree.proofs.Searches.{byMtd}
-use Rattle.gametree.proofs.Choice.{cond-cases}
-use Rattle.gametree.specs.MemoArrays.{Bits, readMemo, readMemoKids}
-use Rattle.gametree.proofs.MtdSound.{Kept, Sound, sound}
-use Rattle.gametree.proofs.MtdValue.{kept-lower, fresh-kept, fresh-memoHigh}
+use Rattle.lists.proofs.Choice.{cond-cases}
+use Rattle.gametree.specs.engine.MemoArrays.{Bits, readMemo, readMemoKids}
+use Rattle.gametree.proofs.mtd.Sound.{Kept, Sound, sound}
+use Rattle.gametree.proofs.mtd.Value.{kept-lower, fresh-kept, fresh-memoHigh}
 use Rattle.gametree.proofs.Theorems.{search-count}
 use Rattle.frames.specs.Frame.{maxNodes, frames}
 use Rattle.frames.specs.Place.{rootPlace}

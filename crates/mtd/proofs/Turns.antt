@@ -13,7 +13,7 @@ use Rattle.gametree.specs.declared.Place.{Place}
 use Rattle.gametree.specs.declared.Side.{Side}
 use Rattle.gametree.specs.Tree.{inner, Kids, last, _then_, size, In, InKids}
 use Rattle.gametree.specs.Mtd.{settles}
-use Rattle.gametree.proofs.Choice.{or-false-both}
+use Rattle.lists.proofs.Choice.{or-false-both}
 use Rattle.frames.specs.Frame.{maxNodes, frames, firstChild, childCount}
 use Rattle.frames.specs.Place.{childPlace, sideOf}
 use Rattle.frames.specs.Tree.{kidsFrom, treeAt, valuation}

@@ -28,7 +28,7 @@ ghost use Rattle.frames.specs.Place.{depthOf};
 ghost use Rattle.frames.specs.Tree.{treeAt, tree, valuation};
 ghost use Rattle.frames.specs.Formed.{WellFormed};
 ghost use Rattle.certificate.specs.Marks.{marked, markAll};
-ghost use Rattle.certificate.specs.Evaluable.{Evaluable};
+ghost use Rattle.certificate.specs.engine.Evaluable.{Evaluable};
 ghost use Rattle.certificate.specs.Search.{marksOf, flagsOf};
 ghost use Rattle.mtd.specs.Outcome.{mtdLeaves, mtdFound, mtdOutcome};
 ghost use Rattle.mtd.specs.engine.Memory.{memory, Fresh, VisitReady, Enterable, Passed, Looked, settledOf};

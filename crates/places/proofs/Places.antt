@@ -14,8 +14,8 @@ use Rattle.frames.specs.Formed.{WellFormed, ChildOf}
 use Rattle.frames.proofs.Parents.{parent-is}
 use Rattle.frames.proofs.Places.{place-root, place-child, depth-at-most}
 use Rattle.places.specs.Buffer.{written, stored}
-use Rattle.places.specs.Places.{sideCount, sideNumber, numberSide, packed, placeEntry}
-use Rattle.places.specs.Places.{parentIn, depthIn, sideIn, placeIn, Placed}
+use Rattle.places.specs.engine.Places.{sideCount, sideNumber, numberSide, packed, placeEntry}
+use Rattle.places.specs.engine.Places.{parentIn, depthIn, sideIn, placeIn, Placed}
 use Rattle.places.proofs.Buffers.{written-length, written-at}
 use Rattle.places.proofs.TopDown.{Filled, filled-at, filled-step}
 

@@ -12,8 +12,8 @@ ghost use Rattle.frames.specs.Frame.{maxNodes, frames};
 ghost use Rattle.frames.specs.Place.{childPlace};
 ghost use Rattle.frames.specs.Formed.{WellFormed};
 ghost use Rattle.places.specs.Buffer.{written, stored};
-ghost use Rattle.places.specs.Places.{sideNumber, packed as packedOf, placeEntry};
-ghost use Rattle.places.specs.Places.{parentIn, depthIn, sideIn, placeIn};
+ghost use Rattle.places.specs.engine.Places.{sideNumber, packed as packedOf, placeEntry};
+ghost use Rattle.places.specs.engine.Places.{parentIn, depthIn, sideIn, placeIn};
 
 // How many depths and sides an entry tells apart.
 const DEPTHS: u32 = MAX_NODES as u32;

@@ -13,7 +13,7 @@ use Rattle.treefile.specs.Lines.{linesOf, decode}
 use Rattle.treefile.specs.File.{eachLine, fileRejection}
 use Rattle.report.specs.Text.{decimalWithin}
 use Rattle.report.specs.Report.{abLine, mtdLine, sssLine}
-use Rattle.report.specs.Cases.{computed, expected, cases}
+use Rattle.report.specs.results.Cases.{computed, expected, cases}
 
 -- each case is as stated
 pub small-files : map computed cases ≡ map expected cases

@@ -10,7 +10,7 @@ use borrow.Author.Tests.{lt-ltb, le-ltb}
 use native.Mathlib.Nat.{pow-suc, div-lt-iff-lt-mul}
 use mathlib.Core.Bool.{cond}
 use lib.Dec.{ltb}
-use Rattle.gametree.proofs.Choice.{cond-cases}
+use Rattle.lists.proofs.Choice.{cond-cases}
 use Rattle.report.specs.Text.{decimalWithin, decimal, laid, Room, Put}
 
 -- nothing laid

@@ -9,7 +9,7 @@ use lib.IntN.{ℤ, pos, negsuc, _-ℤ_, natAbs}
 use lib.Signed.{ltZ, nonNeg}
 use mir.Syntax.{w16, w64}
 use mir.Val.{Fits, SFits}
-use Rattle.gametree.proofs.Choice.{true-not-false}
+use Rattle.lists.proofs.Choice.{true-not-false}
 use Rattle.report.specs.Text.{decimal, signedDecimal}
 
 -- a value of 16 bits takes 64 too

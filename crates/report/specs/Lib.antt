@@ -1,4 +1,4 @@
 -- Definitions of what the program prints.
 pub mod Text
 pub mod Report
-pub mod Cases
+pub mod results

@@ -1,4 +1,4 @@
--- What the program prints for a file (01, "What a contract says, and the cases"), as a text by value.
+-- What the program prints for a file (SPEC 12.1), as a text by value.
 use Prim.Native.Nat.{ℕ, _-_}
 use mathlib.Core.Option.{Option, none, some}
 use mathlib.Core.List.{List, [], _∷_, _++_}

@@ -1,5 +1,4 @@
--- The program's text as bytes: numbers in base ten, a method's line, a rejection's line (01, "What a contract says, and
--- the cases").
+-- The program's text as bytes: numbers in base ten, a method's line, a rejection's line (SPEC 12.1).
 use Prim.Native.Nat.{ℕ, zero, suc, _+_, _/_, _%_, _≤_}
 use mathlib.Core.Path.{_≡_}
 use mathlib.Core.Bool.{cond}

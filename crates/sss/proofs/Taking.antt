@@ -5,12 +5,12 @@ use mathlib.Core.Path.{_≡_, refl}
 use mathlib.Core.Bool.{false}
 use mathlib.Core.List.{List, []}
 use lib.ListN.{length}
-use Rattle.gametree.proofs.Choice.{true-not-false}
+use Rattle.lists.proofs.Choice.{true-not-false}
 use Rattle.gametree.specs.declared.Side.{Side}
 use Rattle.sss.specs.declared.Status.{Status}
 use Rattle.sss.specs.declared.Status.the-variants.{Live, Solved}
-use Rattle.sss.specs.Rules.{ofInner, ofLive}
-use Rattle.sss.specs.Turn.{isSolvedRoot, valued}
+use Rattle.sss.specs.engine.Rules.{ofInner, ofLive}
+use Rattle.sss.specs.engine.Turn.{isSolvedRoot, valued}
 
 -- a SOLVED state that is not the root's
 pub not-root : (s : Status) (i : ℕ) → isSolvedRoot s i ≡ false → s ≡ Solved → 0 < i

@@ -9,8 +9,8 @@ use lib.Seq.{drop-set-lt}
 use Rattle.sss.specs.declared.State.{State}
 use Rattle.sss.specs.declared.Update.{Update}
 use Rattle.sss.specs.Entry.{blank}
-use Rattle.sss.specs.Kept.{stored}
-use Rattle.sss.specs.Update.{entryIn, updated, blanks}
+use Rattle.sss.specs.engine.Kept.{stored}
+use Rattle.sss.specs.engine.Update.{entryIn, updated, blanks}
 
 -- entries from n on are kept
 pub stored-drop : {A : Type 0} (f : ℕ → A) (n i c : ℕ) (xs : List A) → i + c ≤ n → drop n (stored f i c xs) ≡ drop n xs

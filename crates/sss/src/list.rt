@@ -8,7 +8,7 @@ ghost use Prim.Native.Nat.{_<_};
 ghost use lib.ListN.{length, getD};
 ghost use Rattle.frames.specs.Frame.{maxNodes};
 ghost use Rattle.sss.specs.Entry.{blank as blankEntry};
-ghost use Rattle.sss.specs.Update.{entryIn, updated, Within};
+ghost use Rattle.sss.specs.engine.Update.{entryIn, updated, Within};
 
 // The entry of a node.
 pub fn take(list: &[State], at: usize) -> State

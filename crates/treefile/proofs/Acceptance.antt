@@ -1,4 +1,4 @@
--- A file is accepted exactly if its lines are as 01 says and they hold an accepted table; what the reader then gives.
+-- A file is accepted exactly if its lines are right (SPEC 2.2) and hold an accepted table; what the reader then gives.
 use Prim.Native.Nat.{ℕ, zero, suc, _+_, _*_, _/_, _%_, _≤_, _<_}
 use mathlib.Core.Path.{_≡_, refl, sym, _∙_}
 use mathlib.Core.Logic.{_↔_}
@@ -20,7 +20,7 @@ use Rattle.treefile.specs.Line.{lineDigits, allDigits, isLine}
 use Rattle.treefile.specs.Lines.{linesOf, decoded}
 use Rattle.treefile.specs.File.{maxFile, eachLine, lineCheck3, fileCheck2, fileCheck3}
 use Rattle.treefile.specs.File.{fileRejection, AcceptedFile, readRejection, readAnswer, tableAfter}
-use Rattle.treefile.specs.Stated.{LineAsStated, FileAsStated}
+use Rattle.treefile.specs.results.Stated.{LineAsStated, FileAsStated}
 use Rattle.treefile.proofs.Lines.{line-length, line-digits, digit-at}
 use Rattle.treefile.proofs.Counts.{line-count, decoded-length, frame-count}
 use Rattle.treefile.proofs.Reading.{accepted-parts}
@@ -90,7 +90,7 @@ module _ (f : List ℕ) where
       (passed-both (fileCheck2 f) _ (yes-ask _ _ _ (le-leb (length f) maxFile (omega arith)))
       (passed-both (fileCheck3 f) _ e (c .1)))
 
-  -- a file is accepted exactly if it is as 01 states it
+  -- a file is accepted exactly if it is as SPEC 2 and 3 state it
   pub accepted-exactly : AcceptedFile f ↔ FileAsStated f
   accepted-exactly = (
     λ e. (let p = accepted-table e in

@@ -15,7 +15,7 @@ use Rattle.treefile.specs.Digit.{digitOf}
 use Rattle.treefile.specs.Line.{lineFeed, allDigits, isLine, bytesOf}
 use Rattle.treefile.specs.Lines.{putBefore, linesOf, decode, decoded}
 use Rattle.treefile.specs.File.{eachLine, fileCheck3, fileRejection, AcceptedFile, readRejection}
-use Rattle.treefile.specs.Cases.{computed, cases}
+use Rattle.treefile.specs.results.Cases.{computed, cases}
 use Rattle.treefile.proofs.Reading.{sized, long-refused, accepted-parts}
 use Rattle.treefile.proofs.Acceptance.{accepted-nodes}
 

@@ -13,11 +13,11 @@ use Rattle.frames.specs.Frame.{frameSize, frames, maxTable}
 use Rattle.treefile.specs.Line.{lineDigits, bytesOf, bytesAt, isLineAt}
 use Rattle.treefile.specs.Lines.{linesOf, decode, decoded}
 use Rattle.treefile.specs.File.{maxFile, eachLine, lineCheck3, fileCheck3}
-use Rattle.treefile.specs.Decoded.{Decoded}
+use Rattle.treefile.specs.engine.Decoded.{Decoded}
 use Rattle.treefile.proofs.Lines.{line-bytes}
 use Rattle.treefile.proofs.Positions.{lineBytes, line-is, line-fits}
 use Rattle.treefile.proofs.Left.{lines-next, lines-stop}
-use Rattle.gametree.proofs.Choice.{clash}
+use Rattle.lists.proofs.Choice.{clash}
 
 -- six bytes stored behind n frames
 stored : (table bs : List ℕ) (n : ℕ) → frameSize * (n + 1) ≤ length table → length bs ≡ frameSize

@@ -7,7 +7,7 @@ use mathlib.Core.Bool.{true, false}
 use mathlib.Core.Option.{some}
 use mathlib.Core.List.{List, [], _∷_}
 use lib.ListN.{length, getD}
-use Rattle.gametree.proofs.Choice.{clash}
+use Rattle.lists.proofs.Choice.{clash}
 use Rattle.frames.specs.declared.Rejection.{Rejection}
 use Rattle.frames.proofs.Stated.{ask-yes}
 use Rattle.frames.proofs.FirstNo.{ask-no, then-first}

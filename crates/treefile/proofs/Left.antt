@@ -22,7 +22,7 @@ module _ (f : List ℕ) (at : ℕ) where
   lines-left : at < length f → linesOf left ≡ firstLine left ∷ linesOf (afterLine left)
   lines-left h = rw (drop-cons f at 0 h) (lines-first (getD f at 0) (drop (suc at) f))
 
-  -- it is as 01 says exactly if a line stands at the position
+  -- it is as SPEC 2.2 says exactly if a line stands at the position
   first-is : isLine (firstLine left) ≡ isLineAt f at
   unfolding isLine isLineAt
   first-is = first-digits lineDigits left ∙ rw (drop-drop lineDigits at f)
@@ -38,7 +38,7 @@ module _ (f : List ℕ) (at : ℕ) where
       after-drop left ∙ rw (twelve, drop-drop (lineDigits + 1) at f) in
       lines-left (omega (arith, line-fits f at is)) ∙ rw (first, after)
 
-  -- where none stands, the first that is left is not as 01 says
+  -- where none stands, the first that is left is not as SPEC 2.2 says
   pub lines-stop : (n : ℕ) → at < length f → isLineAt f at ≡ false
       → eachLine lineCheck3 n (linesOf left) ≡ some (record { number = 3; place = n })
   unfolding eachLine

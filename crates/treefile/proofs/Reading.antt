@@ -18,7 +18,7 @@ use Rattle.frames.proofs.Asked.{answer-nodes, answer-rejected}
 use Rattle.treefile.specs.Lines.{linesOf, decoded}
 use Rattle.treefile.specs.File.{maxFile, fileCheck2, fileCheck3, fileRejection}
 use Rattle.treefile.specs.File.{readRejection, readAnswer, tableAfter}
-use Rattle.treefile.specs.Decoded.{Decoded}
+use Rattle.treefile.specs.engine.Decoded.{Decoded}
 use Rattle.treefile.proofs.Decoding.{decoded-refused}
 use Rattle.treefile.proofs.Counts.{decoded-length, frame-count, frames-few}
 

@@ -1,5 +1,5 @@
--- A file's first line and what follows it. The first line is what stands before the first line feed; it is as 01 says
--- exactly if twelve digits stand at the front, and then a line feed or the end.
+-- A file's first line and what follows it. The first line is what stands before the first line feed; it is right
+-- (SPEC 2.2) exactly if twelve digits stand at the front, and then a line feed or the end.
 use Prim.Native.Nat.{ℕ, zero, suc}
 use mathlib.Core.Path.{_≡_, refl, sym, ap}
 use mathlib.Core.Bool.{Bool, true, false, cond, _&&_, and-false, and-assoc}

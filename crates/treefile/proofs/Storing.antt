@@ -7,11 +7,11 @@ use lib.ListN.{length, getD, set, take, drop, drop-of-length-le}
 use lib.Seq.{sets, sets-eq, take-suc, take-length, length-take-le}
 use native.Mathlib.Omega.{arith}
 use native.Mathlib.Numerals.{add-one}
-use Rattle.gametree.proofs.Choice.{clash}
+use Rattle.lists.proofs.Choice.{clash}
 use Rattle.frames.specs.Frame.{frameSize}
 use Rattle.treefile.specs.Digit.{noDigit, digitOf}
 use Rattle.treefile.specs.Line.{lineDigits, allDigits, hexByte, bytesOf}
-use Rattle.treefile.specs.Decoded.{Stored}
+use Rattle.treefile.specs.engine.Decoded.{Stored}
 use Rattle.treefile.proofs.Lines.{digits-stop, digits-more, byte-at, bytes-length}
 
 -- a byte stored behind others

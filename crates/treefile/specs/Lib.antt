@@ -3,6 +3,5 @@ pub mod Digit
 pub mod Line
 pub mod Lines
 pub mod File
-pub mod Decoded
-pub mod Stated
-pub mod Cases
+pub mod engine
+pub mod results

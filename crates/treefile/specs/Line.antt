@@ -22,7 +22,7 @@ unfoldable pub allDigits : List ℕ → Bool
 allDigits [] = true
 allDigits (b ∷ l) = ltb (digitOf b) noDigit && allDigits l
 
--- is a line, without its line feed, as 01 says
+-- is a line, without its line feed, as SPEC 2.2 says
 unfoldable pub isLine : List ℕ → Bool
 isLine l = eqb (length l) lineDigits && allDigits l
 

@@ -16,7 +16,7 @@ ghost use Rattle.frames.specs.Frame.{frameSize, maxTable};
 ghost use Rattle.treefile.specs.Digit.{digitOf};
 ghost use Rattle.treefile.specs.Line.{lineDigits, allDigits, isLineAt, bytesOf, bytesAt, frameOf, closed, lineAt};
 ghost use Rattle.treefile.specs.File.{maxFile, fileCheck3, fileRejection, readAnswer, tableAfter};
-ghost use Rattle.treefile.specs.Decoded.{Decoded, Stored};
+ghost use Rattle.treefile.specs.engine.Decoded.{Decoded, Stored};
 
 // The digits of a line, the byte that closes it, and what a byte that is no digit gives.
 const LINE_DIGITS: usize = 12;

@@ -9,7 +9,7 @@ use Rattle.frames.specs.Check.{framesRejection, rejection}
 use Rattle.verify.specs.Flags.{membersFrom, ruleHolds}
 use Rattle.verify.specs.Value.{bestBefore}
 use Rattle.verify.specs.Check.{treesRejection, flagsRejection, certificateRejection, verdict}
-use Rattle.verify.specs.Cases.{cases}
+use Rattle.verify.specs.results.Cases.{cases}
 
 -- each certificate gets its verdict
 pub small-verdicts : map (λ c. verdict (c .table) (c .flags)) cases ≡ map (λ c. c .verdict) cases

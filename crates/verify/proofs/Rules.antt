@@ -9,8 +9,8 @@ use borrow.Author.Tests.{eq-eqb, eqb-true}
 use Rattle.gametree.specs.declared.Side.{Side}
 use Rattle.gametree.specs.Tree.{Tree, Kids}
 use Rattle.gametree.specs.Certificate.{Rule, Rules, RulesKids, SolutionTree}
-use Rattle.gametree.proofs.Counting.{kidCount, members, required}
-use Rattle.gametree.proofs.Choice.{and-both}
+use Rattle.gametree.proofs.certificates.Counting.{kidCount, members, required}
+use Rattle.lists.proofs.Choice.{and-both}
 use Rattle.gametree.proofs.Theorems.{rule-counting}
 use Rattle.frames.specs.Frame.{frames, firstChild, childCount}
 use Rattle.frames.specs.Place.{sideOf}

@@ -13,8 +13,8 @@ use Rattle.gametree.specs.declared.Side.the-variants.{Max, Min}
 use Rattle.gametree.specs.Tree.{Tree, leaf, inner, Kids, last, _then_, greatest, better, EveryLeaf, EveryLeafKids}
 use Rattle.gametree.specs.Tree.{Score, Scored, ScoredKids}
 use Rattle.gametree.specs.Certificate.{worst, solutionValue, solutionValueKids}
-use Rattle.gametree.proofs.Choice.{cond-cases}
-use Rattle.gametree.proofs.Solution.{Under, under-refl, under-both}
+use Rattle.lists.proofs.Choice.{cond-cases}
+use Rattle.gametree.proofs.certificates.Solution.{Under, under-refl, under-both}
 use Rattle.frames.specs.Frame.{frames, childCount}
 use Rattle.frames.specs.Tree.{tree, valuation}
 use Rattle.frames.specs.Formed.{WellFormed}

@@ -1,4 +1,4 @@
--- The check of a lent certificate: questions 1 to 14 of 01, in order.
+-- The check of a lent certificate: questions 1 to 14 in order (SPEC 4.2, 5.5).
 use Prim.Native.Nat.{ℕ}
 use mathlib.Core.Option.{Option, none, some}
 use mathlib.Core.List.{List, [], _∷_}

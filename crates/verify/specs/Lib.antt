@@ -3,4 +3,4 @@ pub mod Flags
 pub mod Value
 pub mod Check
 pub mod Certificate
-pub mod Cases
+pub mod results

@@ -27,12 +27,12 @@ ghost use Rattle.frames.specs.Frame.{maxNodes, frames};
 ghost use Rattle.frames.specs.Place.{depthOf, sideOf};
 ghost use Rattle.frames.specs.Formed.{WellFormed};
 ghost use Rattle.frames.specs.Rejection.{answer};
-ghost use Rattle.places.specs.Places.{Placed};
+ghost use Rattle.places.specs.engine.Places.{Placed};
 ghost use Rattle.verify.specs.Flags.{membersFrom, requiredOf, ruleHolds};
 ghost use Rattle.verify.specs.Value.{leafIn, treeValue};
 ghost use Rattle.verify.specs.Check.{check11, checkTree, treesRejection, flagsRejection, judged, verdict};
 
-// The numbers of 01's questions about a certificate, by what a "no" means.
+// The numbers of the questions about a certificate, by what a "no" means (SPEC 4.2).
 pub const WRONG_FLAG: u8 = 11;
 
 pub const NO_MAX_TREE: u8 = 12;

@@ -4,7 +4,7 @@ use native.Mathlib.Omega.{arith}
 use mathlib.Core.Path.{_≡_, sym, _∙_}
 use lib.ListN.{getD}
 use borrow.Author.Needs.{needs}
-use Rattle.certificate.specs.Ranges.{bestIn}
+use Rattle.certificate.specs.engine.Ranges.{bestIn}
 use Rattle.certificate.proofs.Ranges.{best-last, best-before}
 use Rattle.certificate.proofs.best.Statement.{statement}
 use Rattle.certificate.proofs.best.Tie as tie

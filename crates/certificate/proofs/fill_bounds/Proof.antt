@@ -7,7 +7,7 @@ use borrow.Author.Needs.{needs}
 use Rattle.gametree.specs.Tree.{least, greatest}
 use Rattle.frames.specs.Frame.{frames}
 use Rattle.certificate.specs.Marks.{marked}
-use Rattle.certificate.specs.Bounds.{boundOf}
+use Rattle.certificate.specs.engine.Bounds.{boundOf}
 use Rattle.certificate.proofs.BottomUp.{Rising, rising-begins, rising-step, rising-ends}
 use Rattle.certificate.proofs.Bounds.{children-bounded}
 use Rattle.certificate.proofs.fill_bounds.Statement.{statement}

@@ -4,7 +4,7 @@ use native.Mathlib.Omega.{arith}
 use mathlib.Core.Path.{_≡_, refl, sym, _∙_}
 use lib.ListN.{getD}
 use borrow.Author.Needs.{needs}
-use Rattle.certificate.specs.Ranges.{firstEqual}
+use Rattle.certificate.specs.engine.Ranges.{firstEqual}
 use Rattle.certificate.proofs.Ranges.{first-here, first-later, first-none}
 use Rattle.certificate.proofs.first_equal.Statement.{statement}
 use Rattle.certificate.proofs.first_equal.Tie as tie

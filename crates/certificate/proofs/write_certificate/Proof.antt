@@ -7,7 +7,7 @@ use borrow.Author.Needs.{needs}
 use Rattle.frames.specs.Frame.{frames}
 use Rattle.places.proofs.TopDown.{Visit, visit-root, visit-goes, visit-within, visit-step}
 use Rattle.places.proofs.TopDown.{Filled, filled-root, filled-all}
-use Rattle.certificate.specs.Flags.{FlagsFrom}
+use Rattle.certificate.specs.engine.Flags.{FlagsFrom}
 use Rattle.certificate.proofs.Flags.{flags-step}
 use Rattle.certificate.proofs.write_certificate.Statement.{statement}
 use Rattle.certificate.proofs.write_certificate.Tie as tie

@@ -9,7 +9,7 @@ use Rattle.gametree.specs.declared.Place.{Place}
 use Rattle.gametree.specs.Tree.{Tree, greatest, size, In}
 use Rattle.gametree.specs.Bounds.{high}
 use Rattle.gametree.specs.Mtd.{Memo, Pass, pass, Run}
-use Rattle.gametree.specs.MemoArrays.{readMemo, Visited}
+use Rattle.gametree.specs.engine.MemoArrays.{readMemo, Visited}
 use Rattle.frames.specs.Frame.{maxNodes, frames, childCount}
 use Rattle.frames.specs.Place.{placeOf}
 use Rattle.frames.specs.Tree.{treeAt, valuation}

@@ -5,7 +5,7 @@ use mathlib.Core.Path.{_∙_}
 use lib.ListN.{length-set}
 use borrow.Author.Needs.{needs}
 use Rattle.frames.specs.Frame.{frames}
-use Rattle.places.specs.Places.{placeEntry}
+use Rattle.places.specs.engine.Places.{placeEntry}
 use Rattle.places.proofs.TopDown.{Filled, visit-goes, visit-within, filled-root, filled-all}
 use Rattle.places.proofs.Places.{root-entry, filling-few, filling-step}
 use Rattle.places.proofs.fill.Statement.{statement}

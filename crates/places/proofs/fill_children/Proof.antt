@@ -4,7 +4,7 @@ use native.Mathlib.Omega.{arith}
 use mathlib.Core.Path.{refl, ap, _∙_}
 use borrow.Author.Needs.{needs}
 use Rattle.frames.specs.Place.{childPlace}
-use Rattle.places.specs.Places.{packed}
+use Rattle.places.specs.engine.Places.{packed}
 use Rattle.places.proofs.Runs.{Run, run-begins, run-step, run-ends}
 use Rattle.places.proofs.fill_children.Statement.{statement}
 use Rattle.places.proofs.fill_children.Tie as tie

@@ -3,7 +3,7 @@ use mathlib.Core.Path.{refl}
 use lib.ListN.{replicate}
 use borrow.Author.Needs.{needs}
 use denote.Ref.{now}
-use Rattle.gametree.proofs.Choice.{clash}
+use Rattle.lists.proofs.Choice.{clash}
 use Rattle.frames.specs.Frame.{maxNodes}
 use Rattle.mtd.specs.declared.Answer.the-variants.{Found as FoundAnswer, Rejected}
 use Rattle.certificate.specs.Search.{Search}

@@ -28,7 +28,7 @@ use denote.Struct.Laws as LL
 use Rattle.sss.specs.declared.State.{State}
 use Rattle.sss.specs.declared.Update.{Update}
 use Rattle.sss.specs.Entry.{blank}
-use Rattle.sss.specs.Update.{entryIn, updated, Within}
+use Rattle.sss.specs.engine.Update.{entryIn, updated, Within}
 use Rattle.sss.proofs.Updates.{Replacing, replacing-start, replacing-on, replacing-end}
 use Rattle.sss.proofs.State as S
 use Rattle.sss.proofs.State.Laws as S′

@@ -6,7 +6,7 @@ use Rattle.frames.specs.Place.{sideOf}
 use Rattle.frames.proofs.Parents.{parent-child}
 use Rattle.certificate.specs.Marks.{markAll}
 use Rattle.sss.specs.declared.Status.the-variants.{Live}
-use Rattle.sss.specs.Rules.{ofInner, ofChild}
+use Rattle.sss.specs.engine.Rules.{ofInner, ofChild}
 use Rattle.places.proofs.Places.{placed-parent, placed-side}
 use Rattle.sss.proofs.Taking.{live-inner, inner-none, solved-none}
 use borrow.Author.Needs.{needs}

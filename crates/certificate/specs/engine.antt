@@ -1,0 +1,5 @@
+-- What private functions and proofs are stated with, and no public contract or demand cites.
+pub mod Bounds
+pub mod Evaluable
+pub mod Flags
+pub mod Ranges

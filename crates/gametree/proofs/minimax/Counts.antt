@@ -1,0 +1,138 @@
+-- How many leaves a set, a pair of sets and a list have.
+use Prim.Native.Nat.{ℕ, _+_, _≤_}
+use native.Mathlib.Nat.{le-refl}
+use native.Mathlib.Omega.{arith}
+use mathlib.Core.Path.{_≡_, refl, sym, _∙_, ap, ap₂, subst}
+use mathlib.Core.Logic.{inl, inr, ⊎-elim}
+use mathlib.Core.Bool.{Bool, true, false, cond, _||_}
+use mathlib.Core.List.{List, [], _∷_, _++_, append-assoc}
+use lib.Dec.{eqb}
+use lib.ListN.{length, length-append}
+use borrow.Author.Tests.{eqb-true, ne-eqb}
+use Rattle.lists.specs.Lists.{All, among, Once}
+use Rattle.gametree.specs.Tree.{Tree, leaf, inner, Kids, last, _then_, In, InKids, EveryLeafKids, Distinct}
+use Rattle.gametree.specs.Tree.{DistinctKids, leaves, leavesKids, leafCount, leafCountKids}
+use Rattle.gametree.specs.Layout.{has}
+use Rattle.gametree.specs.Certificate.{pairLeaves, pairLeavesKids, LeavesIn}
+use Rattle.lists.proofs.Choice.{cond-cases, true-not-false, or-left, or-cases}
+use Rattle.lists.proofs.Lists.{among-left, among-right, all-zip, all-among, once-length}
+use Rattle.gametree.proofs.minimax.Nodes.{in-has, has-in}
+
+-- a leaf in one of two sets of evaluated leaves is evaluated
+pair-leaf : (a b c : Bool) → (a ≡ true → c ≡ true) → (b ≡ true → c ≡ true) → cond (a || b) 1 0 ≤ cond c 1 0
+pair-leaf true b c f g = rw (f refl) (le-refl 1)
+pair-leaf false true c f g = rw (g refl) (le-refl 1)
+pair-leaf false false c f g = omega arith
+
+-- two sets of evaluated leaves have no more leaves than are evaluated
+mutual
+  pub pairLeaves≤ : (g h E : ℕ → Bool) (t : Tree) → LeavesIn g E t → LeavesIn h E t → pairLeaves g h t ≤ leafCount E t
+  pairLeaves≤ g h E (leaf n) i j = pair-leaf (g n) (h n) (E n) i j
+  pairLeaves≤ g h E (inner n q ks) i j = pairLeavesKids≤ g h E ks i j
+
+  pairLeavesKids≤ : (g h E : ℕ → Bool) (ks : Kids) → EveryLeafKids (λ n. g n ≡ true → E n ≡ true) ks
+      → EveryLeafKids (λ n. h n ≡ true → E n ≡ true) ks → pairLeavesKids g h ks ≤ leafCountKids E ks
+  pairLeavesKids≤ g h E (last t) i j = pairLeaves≤ g h E t i j
+  pairLeavesKids≤ g h E (t then ts) i j =
+      omega (arith, pairLeaves≤ g h E t (i .0) (j .0), pairLeavesKids≤ g h E ts (i .1) (j .1))
+
+-- a number that is no node's is no leaf's
+mutual
+  count-absent : (x : ℕ) (t : Tree) → (In x t → ⊥) → leafCount (λ n. eqb n x) t ≡ 0
+  count-absent x (leaf n) h = rw (ne-eqb n x (λ e. h (sym e))) refl
+  count-absent x (inner n q ks) h = countKids-absent x ks (λ i. h (inr i))
+
+  countKids-absent : (x : ℕ) (ks : Kids) → (InKids x ks → ⊥) → leafCountKids (λ n. eqb n x) ks ≡ 0
+  countKids-absent x (last t) h = count-absent x t h
+  countKids-absent x (t then ts) h =
+      omega (arith, count-absent x t (λ i. h (inl i)), countKids-absent x ts (λ i. h (inr i)))
+
+-- and else of one leaf at most
+mutual
+  count-one : (x : ℕ) (t : Tree) → Distinct t → leafCount (λ n. eqb n x) t ≤ 1
+  count-one x (leaf n) d = cond-cases (λ k. k ≤ 1) (eqb n x) 1 0 (λ _. omega arith) (λ _. omega arith)
+  count-one x (inner n q ks) d = countKids-one x ks (d .1)
+
+  countKids-one : (x : ℕ) (ks : Kids) → DistinctKids ks → leafCountKids (λ n. eqb n x) ks ≤ 1
+  countKids-one x (last t) d = count-one x t d
+  countKids-one x (t then ts) d = either (has x t) refl (count-one x t (d .0)) (countKids-one x ts (d .1))
+    where
+      either : (b : Bool) → has x t ≡ b → leafCount (λ n. eqb n x) t ≤ 1 → leafCountKids (λ n. eqb n x) ts ≤ 1
+          → leafCount (λ n. eqb n x) t + leafCountKids (λ n. eqb n x) ts ≤ 1
+      either true e i j = omega (arith, countKids-absent x ts (λ k. d .2 x (has-in x t e) k))
+      either false e i j = omega (arith, count-absent x t (λ k. true-not-false (in-has x t k) e))
+
+or-count : (a b : Bool) → cond (a || b) 1 0 ≤ cond a 1 0 + cond b 1 0
+or-count true b = omega arith
+or-count false b = omega arith
+
+mutual
+  count-or : (E F : ℕ → Bool) (t : Tree) → leafCount (λ n. E n || F n) t ≤ leafCount E t + leafCount F t
+  count-or E F (leaf n) = or-count (E n) (F n)
+  count-or E F (inner n q ks) = countKids-or E F ks
+
+  countKids-or : (E F : ℕ → Bool) (ks : Kids)
+      → leafCountKids (λ n. E n || F n) ks ≤ leafCountKids E ks + leafCountKids F ks
+  countKids-or E F (last t) = count-or E F t
+  countKids-or E F (t then ts) = omega (arith, count-or E F t, countKids-or E F ts)
+
+mutual
+  count-none : (t : Tree) → leafCount (λ n. false) t ≡ 0
+  count-none (leaf n) = refl
+  count-none (inner n q ks) = countKids-none ks
+
+  countKids-none : (ks : Kids) → leafCountKids (λ n. false) ks ≡ 0
+  countKids-none (last t) = count-none t
+  countKids-none (t then ts) = omega (arith, count-none t, countKids-none ts)
+
+-- a list names no more leaves than it is long
+pub count-list : (w : List ℕ) (t : Tree) → Distinct t → leafCount (among w) t ≤ length w
+count-list [] t d = omega (arith, count-none t)
+count-list (x ∷ w) t d = omega (arith, count-or (λ n. eqb n x) (among w) t, count-one x t d, count-list w t d)
+
+-- the elements of a list that are in the set E
+abbrev filter : (ℕ → Bool) → List ℕ → List ℕ
+filter E [] = []
+filter E (x ∷ xs) = cond (E x) (x ∷ []) [] ++ filter E xs
+
+filter-append : (E : ℕ → Bool) (xs ys : List ℕ) → filter E (xs ++ ys) ≡ filter E xs ++ filter E ys
+filter-append E [] ys = refl
+filter-append E (x ∷ xs) ys =
+    ap (_++_ (cond (E x) (x ∷ []) [])) (filter-append E xs ys)
+    ∙ sym (append-assoc (cond (E x) (x ∷ []) []) (filter E xs) (filter E ys))
+
+filter-among : (E : ℕ → Bool) (xs : List ℕ) (k : ℕ) → E k ≡ true → among xs k ≡ true → among (filter E xs) k ≡ true
+filter-among E [] k e h = h
+filter-among E (x ∷ xs) k e h =
+    ⊎-elim
+    (λ d.
+    let z : E x ≡ true = subst (λ y. E y ≡ true) (eqb-true k x d) e in
+    among-left (cond (E x) (x ∷ []) []) (filter E xs) k (rw z (or-left (eqb k x) false d)))
+    (λ d. among-right (cond (E x) (x ∷ []) []) (filter E xs) k (filter-among E xs k e d))
+    (or-cases (eqb k x) (among xs k) h)
+
+leaf-length : (b : Bool) (n : ℕ) → length (cond b (n ∷ []) [] ++ []) ≡ cond b 1 0
+leaf-length true n = refl
+leaf-length false n = refl
+
+-- the leaves of the tree that are in E are as many as are counted
+mutual
+  filter-count : (E : ℕ → Bool) (t : Tree) → length (filter E (leaves t)) ≡ leafCount E t
+  filter-count E (leaf n) = leaf-length (E n) n
+  filter-count E (inner n q ks) = filterKids-count E ks
+
+  filterKids-count : (E : ℕ → Bool) (ks : Kids) → length (filter E (leavesKids ks)) ≡ leafCountKids E ks
+  filterKids-count E (last t) = filter-count E t
+  filterKids-count E (t then ts) =
+      ap length (filter-append E (leaves t) (leavesKids ts))
+      ∙ length-append (filter E (leaves t)) (filter E (leavesKids ts))
+      ∙ ap₂ _+_ (filter-count E t) (filterKids-count E ts)
+
+-- a list without repetition of a tree's leaves names as many leaves as it is long
+pub once-count : (w : List ℕ) (t : Tree) → Distinct t → Once w → All (λ k. among (leaves t) k ≡ true) w
+    → leafCount (among w) t ≡ length w
+once-count w t d o a =
+    let b =
+    all-zip _ _ (λ k. among (filter (among w) (leaves t)) k ≡ true)
+    (λ k x y. filter-among (among w) (leaves t) k x y) w (all-among w) a in
+    omega (arith, count-list w t d, once-length w (filter (among w) (leaves t)) o b, filter-count (among w) t)

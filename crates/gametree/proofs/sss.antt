@@ -1,0 +1,13 @@
+-- SSS*: layouts, steps, that it does what MTD does, and the lists that it reaches.
+pub mod Described
+pub mod OwnLayout
+pub mod Steps
+pub mod Frontier
+pub mod Around
+pub mod Work
+pub mod Simulation
+pub mod Run
+pub mod Lists
+pub mod Fronts
+pub mod FrontSteps
+pub mod Local

@@ -1,0 +1,3 @@
+-- Choices by a test, and lists.
+pub mod Choice
+pub mod Lists

@@ -1,0 +1,2 @@
+-- What is said of lists.
+pub mod Lists

@@ -1,0 +1,11 @@
+-- What private functions and proofs are stated with, and no public contract or demand cites.
+pub mod Driven
+pub mod Finish
+pub mod Invariant
+pub mod Kept
+pub mod Ready
+pub mod Rules
+pub mod Shown
+pub mod Start
+pub mod Turn
+pub mod Update

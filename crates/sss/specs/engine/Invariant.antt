@@ -1,0 +1,50 @@
+-- What holds between two turns of the run: the list and the front show a list that SSS* reaches, and the next entry to
+-- take is its best state; or the run has ended, and the entries are blank.
+use Prim.Native.Nat.{ℕ, _≤_}
+use mathlib.Core.Path.{_≡_}
+use mathlib.Core.Bool.{Bool, true, false}
+use mathlib.Core.List.{List, _++_}
+use lib.ListN.{length, drop, replicate}
+use Rattle.gametree.specs.Tree.{greatest}
+use Rattle.gametree.specs.Sss as theory
+use Rattle.frames.specs.Frame.{frames}
+use Rattle.frames.specs.Tree.{tree, valuation}
+use Rattle.places.specs.Buffer.{written}
+use Rattle.certificate.specs.Marks.{markAll}
+use Rattle.sss.specs.declared.State.{State}
+use Rattle.sss.specs.Entry.{blank}
+use Rattle.sss.specs.engine.Shown.{Found}
+use Rattle.sss.specs.engine.Kept.{arraysOf, Sound}
+use Rattle.sss.specs.engine.Rules.{Reaches}
+use Rattle.sss.specs.engine.Turn.{Config}
+
+-- the list ls and the front w show a list that SSS* reaches, and node i is the one to take, with merit γ
+pub record Keeps (t : List ℕ) (ls : List State) (w : List ℕ) (γ i k : ℕ) (v : List ℕ) : Type 0 where
+  pub states : List theory.State
+  pub found : Found (arraysOf ls w) (tree t) γ states i
+  pub reaches : Reaches t k v states
+
+-- the run has ended with the value γ after k replacements that evaluated the leaves v, and its entries of ls are blank
+pub record Over (t : List ℕ) (ls : List State) (γ k : ℕ) (v : List ℕ) : Type 0 where
+  pub ended :
+      theory.sss (valuation t) (tree t) ≡ record { end = theory.finished γ; evaluated = v; replacements = k }
+  pub blank-all : ls ≡ replicate (frames t) blank ++ drop (frames t) ls
+
+-- what holds of a run that goes on, or does not
+abbrev pub Stands : Bool → (t : List ℕ) → List State → List ℕ → ℕ → ℕ → ℕ → List ℕ → Type 0
+Stands true t ls w γ i k v = Keeps t ls w γ i k v
+Stands false t ls w γ i k v = Over t ls γ k v
+
+-- the invariant, for a table t, entries l and marks b at entry
+pub record Running (t : List ℕ) (l : List State) (b : List ℕ) (c : Config) : Type 0 where
+  pub evaluated : List ℕ
+  pub entries : length (c .list) ≡ length l
+  pub room : frames t ≤ length l
+  pub kept : drop (frames t) (c .list) ≡ drop (frames t) l
+  pub markRoom : frames t ≤ length b
+  pub marks : c .marks ≡ markAll (written (λ k. 0) (frames t) b) evaluated
+  pub leaves : c .run .counts .leaves ≡ length evaluated
+  pub test : c .run .test ≤ greatest
+  pub sound : Sound t (c .front)
+  pub stands :
+      Stands (c .run .going) t (c .list) (c .front) (c .run .test) (c .run .at) (c .run .counts .replacements) evaluated

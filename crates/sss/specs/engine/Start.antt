@@ -1,0 +1,60 @@
+-- What a search starts with: its questions, and the run, the places and the marks that follow from the answers.
+use Prim.Native.Nat.{ℕ}
+use mathlib.Core.Path.{_≡_}
+use mathlib.Core.Bool.{Bool, true, false}
+use mathlib.Core.Option.{Option, none, some}
+use mathlib.Core.List.{List, [], _∷_}
+use lib.ListN.{length}
+use Rattle.gametree.specs.Tree.{greatest}
+use Rattle.frames.specs.declared.Rejection.{Rejection}
+use Rattle.frames.specs.declared.Checked.{Checked}
+use Rattle.frames.specs.declared.Checked.the-variants.{Nodes, Rejected}
+use Rattle.frames.specs.Frame.{frames}
+use Rattle.frames.specs.Rejection.{answer}
+use Rattle.places.specs.Buffer.{written}
+use Rattle.certificate.specs.Search.{searchRejection}
+use Rattle.sss.specs.declared.Status.the-variants.{Live}
+use Rattle.sss.specs.declared.Counts.{Counts}
+use Rattle.sss.specs.declared.Sizes.{Sizes}
+use Rattle.sss.specs.declared.Run.{Run}
+use Rattle.places.specs.engine.Places.{placeEntry}
+use Rattle.sss.specs.engine.Update.{ofChange}
+
+-- the first "no" to questions 1 to 10, for a list and a certificate of these sizes and the marks b
+abbrev pub startRejection : List ℕ → Sizes → List ℕ → Option Rejection
+startRejection t n b = searchRejection t (n .entries ∷ length b ∷ n .flags ∷ [])
+
+-- nothing is counted yet
+abbrev pub noCounts : Counts
+noCounts = record { leaves = 0; replacements = 0 }
+
+-- a run at its start, with so many states: the root's, LIVE, with the greatest merit, or none
+abbrev pub beginning : Bool → ℕ → Run
+beginning on n =
+    record {
+      going = on;
+      at = 0;
+      test = greatest;
+      counts = noCounts;
+      update = ofChange (record { node = 0; first = 0; count = n; status = Live; score = greatest });
+    }
+
+-- the run after the questions: one that was rejected does not go
+abbrev pub begun : Checked → Run
+begun (Nodes n) = beginning true 1
+begun (Rejected r) = beginning false 0
+
+-- the places F and the marks b after the questions
+abbrev pub placesAfter : (t F : List ℕ) → Option Rejection → List ℕ
+placesAfter t F none = written (placeEntry t) (frames t) F
+placesAfter t F (some r) = F
+
+abbrev pub marksAfter : (t b : List ℕ) → Option Rejection → List ℕ
+marksAfter t b none = written (λ k. 0) (frames t) b
+marksAfter t b (some r) = b
+
+-- what a start with the places F and the marks b gives, and leaves in F′ and b′
+pub record Started (t : List ℕ) (n : Sizes) (F b : List ℕ) (q : Checked) (F′ b′ : List ℕ) : Type 0 where
+  pub checked : q ≡ answer (frames t) (startRejection t n b)
+  pub places : F′ ≡ placesAfter t F (startRejection t n b)
+  pub marks : b′ ≡ marksAfter t b (startRejection t n b)

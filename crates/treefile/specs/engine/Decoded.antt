@@ -1,0 +1,24 @@
+-- What decoding a file gives, and what decoding one of its lines gives.
+use mathlib.Core.Path.{_≡_}
+use mathlib.Core.Bool.{Bool, true}
+use mathlib.Core.Option.{Option, none}
+use mathlib.Core.List.{List}
+use Prim.Native.Nat.{ℕ}
+use lib.ListN.{length, take}
+use lib.Seq.{sets}
+use Rattle.frames.specs.declared.Rejection.{Rejection}
+use Rattle.frames.specs.declared.Checked.{Checked}
+use Rattle.frames.specs.Frame.{frames}
+use Rattle.frames.specs.Rejection.{answer}
+use Rattle.treefile.specs.Lines.{decoded}
+
+-- the answer r to questions about a file, of which x is the first "no"; where there is none, the table begins with the
+-- bytes that the file's lines stand for
+pub record Decoded (f : List ℕ) (x : Option Rejection) (table : List ℕ) (r : Checked) : Type 0 where
+  pub answered : r ≡ answer (frames (decoded f)) x
+  pub filled : x ≡ none → take (length (decoded f)) table ≡ decoded f
+
+-- the answer r to whether a line is right (SPEC 2.2); where it is, its bytes are stored in the table from an index on
+pub record Stored (is : Bool) (bytes table : List ℕ) (to : ℕ) (after : List ℕ) (r : Bool) : Type 0 where
+  pub answered : r ≡ is
+  pub stored : r ≡ true → after ≡ sets table to bytes

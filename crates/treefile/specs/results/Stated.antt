@@ -1,0 +1,19 @@
+-- What SPEC 2 says of a file, clause by clause. Acceptance.antt shows that the questions ask exactly this.
+use Prim.Native.Nat.{ℕ, _<_}
+use mathlib.Core.Path.{_≡_}
+use mathlib.Core.List.{List, []}
+use lib.ListN.{length, getD}
+use Rattle.frames.specs.results.Stated.{TableAsStated}
+use Rattle.treefile.specs.Digit.{noDigit, digitOf}
+use Rattle.treefile.specs.Line.{lineDigits}
+use Rattle.treefile.specs.Lines.{linesOf, decoded}
+
+-- a line is twelve hexadecimal digits
+pub record LineAsStated (l : List ℕ) : Type 0 where
+  pub twelve : length l ≡ lineDigits
+  pub digits : (k : ℕ) → k < lineDigits → digitOf (getD l k 0) < noDigit
+
+-- the lines of a file are as stated, and so is the table that they hold
+pub record FileAsStated (f : List ℕ) : Type 0 where
+  pub line : (i : ℕ) → i < length (linesOf f) → LineAsStated (getD (linesOf f) i [])
+  pub table : TableAsStated (decoded f)
