@@ -1,6 +1,6 @@
--- Small trees, with what the three searches make of them: those of SPEC 12.2, and those on which a rule
--- that is read wrongly gives something else.
-use Prim.Native.Nat.{ℕ, suc, _+_, _-_}
+-- Small trees on which a rule that is read wrongly gives something else, with what the three searches make of them. (The
+-- cases of SPEC 12.2 stand in one table over bytes, in the crate `demands`.)
+use Prim.Native.Nat.{ℕ, suc, _+_}
 use mathlib.Core.Path.{_≡_}
 use mathlib.Core.List.{List, [], _∷_, map}
 use lib.ListN.{getD}
@@ -36,13 +36,9 @@ small = inner 0 Max (inner 1 Min (leaf 3 then last (leaf 4)) then last (inner 2 
 abbrev pub leavesOf : ℕ → ℕ → ℕ → ℕ → Case
 leavesOf a b c d = valued small (0 ∷ 0 ∷ 0 ∷ a ∷ b ∷ c ∷ d ∷ [])
 
--- the root is a leaf of -5
-abbrev pub lone : Case
-lone = record { tree = leaf 0; scores = (zeroScore - 5) ∷ [] }
-
--- the root has the single leaf 9
-abbrev pub single : Case
-single = valued (inner 0 Max (last (leaf 1))) (0 ∷ 9 ∷ [])
+-- Max(Min(3, 6), Min(3, 1)): of equal merits the leftmost comes first, whichever arrived first
+abbrev pub equalMerits : Case
+equalMerits = leavesOf 3 6 3 1
 
 -- Max(Min(7, 1), Min(7)): the second child is the move
 abbrev pub secondMove : Case
@@ -145,14 +141,7 @@ line v m a w p r f =
 
 abbrev pub cases : List Case
 cases =
-    leavesOf 1 2 3 4
-    ∷ leavesOf 2 3 1 4
-    ∷ leavesOf 2 3 4 1
-    ∷ leavesOf 4 1 2 3
-    ∷ leavesOf 2 5 2 1
-    ∷ leavesOf 7 7 7 7
-    ∷ lone
-    ∷ single
+    equalMerits
     ∷ secondMove
     ∷ leftIsGreater
     ∷ leftIsDeeper
@@ -165,14 +154,7 @@ cases =
 
 abbrev pub table : List Row
 table =
-    line (score 3) 2 (3 ∷ 4 ∷ 5 ∷ 6 ∷ []) (3 ∷ 5 ∷ 6 ∷ []) 2 9 (3 ∷ 1 ∷ 3 ∷ 1 ∷ 0 ∷ 3 ∷ 2 ∷ [])
-    ∷ line (score 2) 1 (3 ∷ 4 ∷ 5 ∷ []) (3 ∷ 5 ∷ 4 ∷ []) 2 9 (3 ∷ 3 ∷ 1 ∷ 3 ∷ 2 ∷ 1 ∷ 0 ∷ [])
-    ∷ line (score 2) 1 (3 ∷ 4 ∷ 5 ∷ 6 ∷ []) (3 ∷ 5 ∷ 6 ∷ 4 ∷ []) 3 11 (3 ∷ 3 ∷ 1 ∷ 3 ∷ 2 ∷ 0 ∷ 1 ∷ [])
-    ∷ line (score 2) 2 (3 ∷ 4 ∷ 5 ∷ 6 ∷ []) (3 ∷ 5 ∷ 4 ∷ 6 ∷ []) 3 11 (3 ∷ 1 ∷ 3 ∷ 0 ∷ 1 ∷ 3 ∷ 2 ∷ [])
-    ∷ line (score 2) 1 (3 ∷ 4 ∷ 5 ∷ []) (3 ∷ 5 ∷ 4 ∷ []) 2 9 (3 ∷ 3 ∷ 1 ∷ 3 ∷ 2 ∷ 1 ∷ 0 ∷ [])
-    ∷ line (score 7) 1 (3 ∷ 4 ∷ 5 ∷ []) (3 ∷ 5 ∷ 4 ∷ []) 2 9 (3 ∷ 3 ∷ 1 ∷ 3 ∷ 2 ∷ 1 ∷ 0 ∷ [])
-    ∷ line (zeroScore - 5) 0 (0 ∷ []) (0 ∷ []) 2 1 (3 ∷ [])
-    ∷ line (score 9) 1 (1 ∷ []) (1 ∷ []) 2 3 (3 ∷ 3 ∷ [])
+    line (score 3) 1 (3 ∷ 4 ∷ 5 ∷ []) (3 ∷ 5 ∷ 4 ∷ []) 2 9 (3 ∷ 3 ∷ 1 ∷ 3 ∷ 2 ∷ 1 ∷ 0 ∷ [])
     ∷ line (score 7) 2 (3 ∷ 4 ∷ 5 ∷ []) (3 ∷ 5 ∷ 4 ∷ []) 2 9 (3 ∷ 1 ∷ 3 ∷ 0 ∷ 1 ∷ 3 ∷ [])
     ∷ line (score 1) 1 (3 ∷ 2 ∷ []) (3 ∷ 2 ∷ []) 2 6 (3 ∷ 3 ∷ 1 ∷ 3 ∷ [])
     ∷ line (score 1) 1 (6 ∷ 4 ∷ []) (6 ∷ 4 ∷ []) 2 9 (3 ∷ 3 ∷ 1 ∷ 3 ∷ 1 ∷ 0 ∷ 3 ∷ [])
