@@ -16,7 +16,7 @@ use Rattle.frames.proofs.Places.{depth-at-most, place-child}
 use Rattle.frames.proofs.Trees.{tree-leaf, tree-inner}
 use Rattle.certificate.specs.Marks.{markAll}
 use Rattle.alphabeta.specs.declared.Visited.{Visited}
-use Rattle.alphabeta.specs.engine.Visit.{Unmarked, Ready}
+use Rattle.alphabeta.specs.engine.Visit.{Unmarked, Searchable}
 use Rattle.alphabeta.proofs.Pass.{Gives, Owes, owes-all, rest}
 use Rattle.alphabeta.proofs.Unmarked.{Waiting}
 
@@ -47,7 +47,7 @@ module _ (t : List ℕ) (wf : WellFormed t) (i : ℕ) (inside : i < frames t) (�
       let m : childCount t i ≡ suc (end - first) = omega arith in
       rw (tree-inner t wf i (end - first) inside m, l, q, z) (owes-all _ e)
 
-module _ (t e : List ℕ) (i : ℕ) (p : Place) (r : Ready t e i p) where
+module _ (t e : List ℕ) (i : ℕ) (p : Place) (r : Searchable t e i p) where
   -- the depth of the place is the node's own, and small
   pub ready-depth : (p .depth ≡ depthOf t i) × (p .depth ≤ maxNodes)
   ready-depth =
@@ -56,7 +56,7 @@ module _ (t e : List ℕ) (i : ℕ) (p : Place) (r : Ready t e i p) where
 
   -- each child of a node that is ready is ready
   pub ready-child : (k : ℕ) (e′ : List ℕ) (q : Place) → ChildOf t i k → length e′ ≡ length e
-      → Unmarked e′ (treeAt t k) → q ≡ childPlace t k p → Ready t e′ k q
+      → Unmarked e′ (treeAt t k) → q ≡ childPlace t k p → Searchable t e′ k q
   ready-child k e′ q c l u h =
       record {
         formed = r .formed;

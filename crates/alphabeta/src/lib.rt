@@ -28,7 +28,7 @@ ghost use Rattle.certificate.specs.Marks.{markAll};
 ghost use Rattle.certificate.specs.engine.Evaluable.{Evaluable};
 ghost use Rattle.certificate.specs.Search.{marksOf, flagsOf, findings};
 ghost use Rattle.alphabeta.specs.Outcome.{reachedLeaves, alphaBetaOutcome};
-ghost use Rattle.alphabeta.specs.engine.Visit.{Ready, visitedOf};
+ghost use Rattle.alphabeta.specs.engine.Visit.{Searchable, visitedOf};
 
 // The answer of a call: what was found, or the first question that got a "no".
 pub enum Answer {
@@ -36,8 +36,8 @@ pub enum Answer {
     Rejected(Rejection),
 }
 
-// Alpha-beta of the whole tree: questions 1 to 10, then the value, the root move and the count of evaluated leaves; the marks of these leaves and the
-// certificate (01: the proof) go into the buffers.
+// Alpha-beta of the whole tree: questions 1 to 10, then the value, the root move and the count of evaluated leaves; the
+// marks of these leaves and the certificate (01: the proof) go into the buffers.
 pub fn search(table: &[u8], evaluated: &mut [u8], certificate: &mut [u8]) -> Answer
     ensures { λ r. ⌜ record { answer = r; evaluated = now (evaluated .exit); certificate = now (certificate .exit) }
         ≡ alphaBetaOutcome (now (table .entry)) (now (evaluated .entry)) (now (certificate .entry)) ⌝ }
@@ -53,8 +53,10 @@ fn run(table: &[u8], evaluated: &mut [u8], certificate: &mut [u8]) -> Findings
     requires { ⌜ WellFormed (now table) ⌝ }
     requires { ⌜ (frames (now table) ≤ length (now evaluated)) × (frames (now table) ≤ length (now certificate)) ⌝ }
     ensures { λ r. ⌜ r ≡ findings (reachedLeaves (now (table .entry))) (now (table .entry)) ⌝ }
-    ensures { λ _. ⌜ now (evaluated .exit) ≡ marksOf (reachedLeaves (now (table .entry))) (now (table .entry)) (now (evaluated .entry)) ⌝ }
-    ensures { λ _. ⌜ now (certificate .exit) ≡ flagsOf (reachedLeaves (now (table .entry))) (now (table .entry)) (now (certificate .entry)) ⌝ }
+    ensures { λ _. ⌜ now (evaluated .exit)
+        ≡ marksOf (reachedLeaves (now (table .entry))) (now (table .entry)) (now (evaluated .entry)) ⌝ }
+    ensures { λ _. ⌜ now (certificate .exit)
+        ≡ flagsOf (reachedLeaves (now (table .entry))) (now (table .entry)) (now (certificate .entry)) ⌝ }
 {
     clear(evaluated, frame_count(table));
     let root = Place {
@@ -79,8 +81,8 @@ struct Visited {
     leaves: usize,
 }
 
-// Alpha-beta of the tree below a node, with the window from alpha to beta: the pass over the children stops at the first one that closes the window.
-// No node of that tree is marked yet, so that no leaf is evaluated twice.
+// Alpha-beta of the tree below a node, with the window from alpha to beta: the pass over the children stops at the
+// first one that closes the window. No node of that tree is marked yet, so that no leaf is evaluated twice.
 fn alpha_beta(
     table: &[u8],
     evaluated: &mut [u8],
@@ -89,10 +91,12 @@ fn alpha_beta(
     mut alpha: u32,
     mut beta: u32,
 ) -> Visited
-    requires { ⌜ Ready (now table) (now evaluated) node place ⌝ }
-    ensures { λ r. ⌜ r ≡ visitedOf (alphaBeta (valuation (now (table .entry))) alpha beta (treeAt (now (table .entry)) node)) ⌝ }
+    requires { ⌜ Searchable (now table) (now evaluated) node place ⌝ }
+    ensures { λ r. ⌜ r
+        ≡ visitedOf (alphaBeta (valuation (now (table .entry))) alpha beta (treeAt (now (table .entry)) node)) ⌝ }
     ensures { λ _. ⌜ now (evaluated .exit)
-        ≡ markAll (now (evaluated .entry)) (alphaBeta (valuation (now (table .entry))) alpha beta (treeAt (now (table .entry)) node) .evaluated) ⌝ }
+        ≡ markAll (now (evaluated .entry))
+        (alphaBeta (valuation (now (table .entry))) alpha beta (treeAt (now (table .entry)) node) .evaluated) ⌝ }
 {
     let count = child_count(table, node);
     if count == 0 {

@@ -10,8 +10,9 @@ enum Input {
     Failed,
 }
 
-// Where a read fails there is no file to judge: one line goes to standard error, and no report that would blame the file. The room is for 65,536 bytes,
-// more than a file may have: a longer one is seen to be too long, and is never cut to one that passes.
+// Where a read fails there is no file to judge: one line goes to standard error, and no report that would blame the
+// file. The room is for 65,536 bytes, more than a file may have: a longer one is seen to be too long, and is never cut
+// to one that passes.
 fn main() {
     let mut file = io::large_buffer();
     match read_all(&mut file) {

@@ -1,4 +1,5 @@
-// Regular trees, made here because their files are long: the first nodes have `width` children each, and a leaf's value is its number.
+// Regular trees, made here because their files are long: the first nodes have `width` children each, and a leaf's value
+// is its number.
 use crate::LINE_FEED;
 use crate::print::print_report;
 use frames::TWO_BYTES;

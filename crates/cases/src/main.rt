@@ -1,5 +1,5 @@
-// Runs the cases of standard input and prints their results. A case is a line with its title, the bytes of a file, and, unless the report of the file
-// is asked for, a line with a call and its numbers (checks/README.md).
+// Runs the cases of standard input and prints their results. A case is a line with its title, the bytes of a file, and,
+// unless the report of the file is asked for, a line with a call and its numbers (checks/README.md).
 mod calls;
 mod made;
 mod print;

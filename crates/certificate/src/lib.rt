@@ -38,7 +38,8 @@ ghost use Rattle.certificate.specs.engine.Bounds.{boundOf, boundsOf, lea
 ghost use Rattle.certificate.specs.Search.{searchRejection};
 ghost use Rattle.certificate.specs.engine.Flags.{ownPart, bySide, chosenChild, FlagsFrom};
 
-// What every search finds: the minimax value, the first root move that reaches it (0 for a leaf), and how many leaves were evaluated.
+// What every search finds: the minimax value, the first root move that reaches it (0 for a leaf), and how many leaves
+// were evaluated.
 pub struct Findings {
     pub value: i16,
     pub root_move: usize,
@@ -47,7 +48,8 @@ pub struct Findings {
 
 // Questions 1 to 10, for buffers of these lengths: the number of nodes, or the first rejection.
 pub fn ask(table: &[u8], evaluated: usize, certificate: usize) -> Checked
-    ensures { λ r. ⌜ r ≡ answer (frames (now (table .entry))) (searchRejection (now (table .entry)) (evaluated ∷ certificate ∷ [])) ⌝ }
+    ensures { λ r. ⌜ r ≡ answer (frames (now (table .entry)))
+        (searchRejection (now (table .entry)) (evaluated ∷ certificate ∷ [])) ⌝ }
 {
     let checked = check(table);
     let Checked::Nodes(n) = checked else {
@@ -62,8 +64,8 @@ pub fn ask(table: &[u8], evaluated: usize, certificate: usize) -> Checked
     checked
 }
 
-// The one routine from which a search gets a leaf's score, for the certificate and the root move too: the leaf's mark is then 1, and every other mark
-// is as it was.
+// The one routine from which a search gets a leaf's score, for the certificate and the root move too: the leaf's mark
+// is then 1, and every other mark is as it was.
 fn read_leaf(table: &[u8], evaluated: &mut [u8], node: usize, depth: u32) -> u32
     requires { ⌜ (node < frames (now table)) × (node < length (now evaluated)) ⌝ }
     requires { ⌜ (depth ≡ depthOf (now table) node) × (depth ≤ maxNodes) ⌝ }
@@ -74,7 +76,8 @@ fn read_leaf(table: &[u8], evaluated: &mut [u8], node: usize, depth: u32) -> u32
     leaf_score(table, node, depth)
 }
 
-// What a search counts, and its only way to a score: the evaluation of a leaf that has no mark yet, so that no leaf is evaluated twice.
+// What a search counts, and its only way to a score: the evaluation of a leaf that has no mark yet, so that no leaf is
+// evaluated twice.
 pub fn evaluate(table: &[u8], evaluated: &mut [u8], node: usize, depth: u32) -> u32
     requires { ⌜ Evaluable (now table) (now evaluated) node depth ⌝ }
     ensures { λ r. ⌜ (r ≡ valuation (now (table .entry)) node) × (r < twoBytes) ⌝ }
@@ -95,13 +98,16 @@ pub fn clear(evaluated: &mut [u8], n: usize)
     }
 }
 
-// The certificate (01: the proof) read off the bounds of the marked leaves, into the buffer's first entries; the result is the root move.
+// The certificate (01: the proof) read off the bounds of the marked leaves, into the buffer's first entries; the result
+// is the root move.
 pub fn conclude(table: &[u8], places: &[u32], evaluated: &mut [u8], certificate: &mut [u8]) -> usize
     requires { ⌜ (WellFormed (now table)) × (Placed (now table) (now places)) ⌝ }
     requires { ⌜ (frames (now table) ≤ length (now evaluated)) × (frames (now table) ≤ length (now certificate)) ⌝ }
-    ensures { λ r. ⌜ r ≡ boundMove (valuation (now (table .entry))) (marked (now (evaluated .entry))) (tree (now (table .entry))) ⌝ }
+    ensures { λ r. ⌜ r
+        ≡ boundMove (valuation (now (table .entry))) (marked (now (evaluated .entry))) (tree (now (table .entry))) ⌝ }
     ensures { λ _. ⌜ now (certificate .exit)
-        ≡ written (flag (valuation (now (table .entry))) (marked (now (evaluated .entry))) (tree (now (table .entry)))) (frames (now (table .entry)))
+        ≡ written (flag (valuation (now (table .entry))) (marked (now (evaluated .entry)))
+        (tree (now (table .entry)))) (frames (now (table .entry)))
         (now (certificate .entry)) ⌝ }
     ensures { λ _. ⌜ now (evaluated .exit) ≡ now (evaluated .entry) ⌝ }
 {
@@ -278,7 +284,8 @@ fn flag_children(
     chosen: usize,
 )
     requires { ⌜ (from ≤ to) × (to ≤ length (now certificate)) ⌝ }
-    ensures { λ _. ⌜ now (certificate .exit) ≡ stored (λ k. cond (eqb k chosen) flag others) from (to - from) (now (certificate .entry)) ⌝ }
+    ensures { λ _. ⌜ now (certificate .exit)
+        ≡ stored (λ k. cond (eqb k chosen) flag others) from (to - from) (now (certificate .entry)) ⌝ }
 {
     for child in from..to {
         if child == chosen {
@@ -299,7 +306,8 @@ fn own_part(side: Side, flag: u8) -> u8
     }
 }
 
-// The first child of those from `from` up to `to` whose bound equals the node's, by the lows at a Max node, by the highs at a Min node; 0 where there is none.
+// The first child of those from `from` up to `to` whose bound equals the node's, by the lows at a Max node, by the
+// highs at a Min node; 0 where there is none.
 fn chosen_child(
     places: &[u32],
     lows: &[u32],
@@ -310,7 +318,8 @@ fn chosen_child(
 ) -> usize
     requires { ⌜ (node < length (now places)) × (node < length (now lows)) × (node < length (now highs)) ⌝ }
     requires { ⌜ (from ≤ to) × (to ≤ length (now lows)) × (to ≤ length (now highs)) ⌝ }
-    ensures { λ r. ⌜ r ≡ chosenChild (bySide (sideIn (now (places .entry)) node) (now (lows .entry)) (now (highs .entry)))
+    ensures { λ r. ⌜ r
+        ≡ chosenChild (bySide (sideIn (now (places .entry)) node) (now (lows .entry)) (now (highs .entry)))
         node from (to - from) ⌝ }
 {
     match side_at(places, node) {

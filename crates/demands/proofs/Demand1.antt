@@ -25,7 +25,7 @@ use Rattle.frames.proofs.Acceptance.{accepted-formed, rejected-first}
 use Rattle.frames.proofs.FirstNo.{then-first, lowest-no, nodes-first, depth-first}
 use Rattle.treefile.specs.Line.{isLine}
 use Rattle.treefile.specs.Lines.{linesOf, decoded}
-use Rattle.treefile.specs.File.{fileCheck3, readRejection, readAnswer, tableAfter, written}
+use Rattle.treefile.specs.File.{fileCheck3, readRejection, readAnswer, tableAfter, filled}
 use Rattle.treefile.proofs.FirstLine.{line-first}
 use Rattle.verify.specs.Flags.{ruleHolds}
 use Rattle.verify.specs.declared.Verdict.the-variants.{Rejected as RejectedFlags}
@@ -163,4 +163,4 @@ module _ {t : List ℕ} {r : Rejection} where
       sym (d .2) ∙ sss-refusal (d .0) .kept ∙ d .1
 
 pub kept-table : (f table : List ℕ) (r : Rejection) → readAnswer f table ≡ RejectedTable r → tableAfter f table ≡ table
-kept-table f table r e = ap (λ q. written q (decoded f) table) (first-file f table r e)
+kept-table f table r e = ap (λ q. filled q (decoded f) table) (first-file f table r e)

@@ -1,4 +1,5 @@
--- Demand 3, sentence by sentence, over the calls of Calls.antt; and what SPEC 8 to 10 say of the other counts and of the list.
+-- Demand 3, sentence by sentence, over the calls of Calls.antt; and what SPEC 8 to 10 say of the other counts and of
+-- the list.
 use Prim.Native.Nat.{ℕ, suc, _*_, _≤_, _<_}
 use mathlib.Core.Path.{_≡_, sym, ap, ap₂, _∙_, subst}
 use mathlib.Core.Bool.{Bool, true, cond}

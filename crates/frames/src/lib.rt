@@ -133,7 +133,8 @@ pub fn check_frames(table: &[u8]) -> Checked
 // Questions 4 to 7, put to one node after the other: 1 plus all child counts, or the first rejection.
 fn check_nodes(table: &[u8]) -> Checked
     requires { ⌜ frames (now table) ≤ maxNodes ⌝ }
-    ensures { λ r. ⌜ r ≡ answer (nextOf (now (table .entry)) (frames (now (table .entry)))) (nodesRejection (now (table .entry))) ⌝ }
+    ensures { λ r. ⌜ r
+        ≡ answer (nextOf (now (table .entry)) (frames (now (table .entry)))) (nodesRejection (now (table .entry))) ⌝ }
 {
     let n = frame_count(table);
     let mut next: usize = 1;
@@ -149,7 +150,8 @@ fn check_nodes(table: &[u8]) -> Checked
 
 // Questions 4 to 7 of one node; `next` is 1 plus the child counts before it, and the answer 1 plus those up to it.
 fn check_node(table: &[u8], node: usize, next: usize) -> Checked
-    requires { ⌜ (node < frames (now table)) × (next ≡ nextOf (now table) node) × (next ≤ 1 + maxChildren * maxNodes) ⌝ }
+    requires { ⌜ (node < frames (now table)) × (next ≡ nextOf (now table) node)
+        × (next ≤ 1 + maxChildren * maxNodes) ⌝ }
     ensures { λ r. ⌜ r ≡ answer (nextOf (now (table .entry)) (node + 1)) (checkNode (now (table .entry)) node) ⌝ }
 {
     let count = child_count(table, node);

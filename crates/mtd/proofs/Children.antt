@@ -11,7 +11,7 @@ use Rattle.gametree.specs.declared.Side.{Side}
 use Rattle.gametree.specs.Tree.{Tree, leaf, inner, Kids, last, _then_, size, sizeKids, In, InKids}
 use Rattle.gametree.specs.Mtd.{Memo, MemoKids, Pass, PassKids, memoHighKids, settles, joined, pass, passKids}
 use Rattle.lists.proofs.Choice.{cond-cases}
-use Rattle.gametree.specs.engine.MemoArrays.{readMemoKids, VisitedKids}
+use Rattle.gametree.specs.engine.MemoArrays.{readMemoKids, KidsRemembered}
 use Rattle.gametree.proofs.mtd.MemoArrays.{rest-same, visit-ended, visit-joined}
 use Rattle.frames.specs.Tree.{kidsFrom, valuation}
 use Rattle.certificate.specs.Marks.{marked}
@@ -61,7 +61,7 @@ passKidsOf t γ s m ks = passKids (valuation t) γ s ks (memoKidsOf m ks)
 -- the arrays after a visit of the children hold the memory after the pass over them
 abbrev pub Remembers : List ℕ → ℕ → Side → Kids → Memory → Memory → Type 0
 Remembers t γ s ks m m′ =
-    VisitedKids (valuation t) γ s ks (marked (m .evaluated)) (marked (m .notBelow)) (marked (m′ .evaluated))
+    KidsRemembered (valuation t) γ s ks (marked (m .evaluated)) (marked (m .notBelow)) (marked (m′ .evaluated))
     (marked (m′ .notBelow))
 
 -- what a visit of the children of a node does

@@ -11,7 +11,7 @@ use native.Mathlib.Nat.{pow-suc, div-lt-iff-lt-mul}
 use mathlib.Core.Bool.{cond}
 use lib.Dec.{ltb}
 use Rattle.lists.proofs.Choice.{cond-cases}
-use Rattle.report.specs.Text.{decimalWithin, decimal, laid, Room, Put}
+use Rattle.report.specs.Text.{decimalWithin, decimal, laid, TextRoom, Put}
 
 -- nothing laid
 pub laid-none : (at : ℕ) (b : List ℕ) → laid at [] b ≡ b
@@ -50,21 +50,21 @@ laid-more at x y b h =
     ∙ ap (λ k. take at b ++ k) (sym (append-assoc x y (drop (at + length (x ++ y)) b)))
 
 -- room for a text is room for its front
-pub room-front : {at : ℕ} {x b : List ℕ} (y : List ℕ) → Room at (x ++ y) b → Room at x b
+pub room-front : {at : ℕ} {x b : List ℕ} (y : List ℕ) → TextRoom at (x ++ y) b → TextRoom at x b
 room-front {x} y h = record { enough = omega (arith, length-append x y) }
 
 module _ {at : ℕ} {x b : List ℕ} {n : ℕ} {b′ : List ℕ} where
   -- once the front is laid, there is room for the rest behind it
-  pub room-rest : (y : List ℕ) → Put at x b n b′ → Room at (x ++ y) b → Room n y b′
+  pub room-rest : (y : List ℕ) → Put at x b n b′ → TextRoom at (x ++ y) b → TextRoom n y b′
   room-rest y p h =
       let l = length-append x y in
       record { enough = omega (arith, p .behind, ap length (p .text), laid-length at x b (omega arith)) }
 
   -- and the rest laid there makes the whole
-  pub put-then : {y : List ℕ} {m : ℕ} {b″ : List ℕ} → Put at x b n b′ → Room at (x ++ y) b → Put n y b′ m b″
+  pub put-then : {y : List ℕ} {m : ℕ} {b″ : List ℕ} → Put at x b n b′ → TextRoom at (x ++ y) b → Put n y b′ m b″
       → Put at (x ++ y) b m b″
   put-then {y} p h q =
-      let r : Room at x b = room-front y h in
+      let r : TextRoom at x b = room-front y h in
       record {
         behind = omega (arith, p .behind, q .behind, length-append x y);
         text = q .text ∙ ap₂ (λ i t. laid i y t) (p .behind) (p .text) ∙ laid-more at x y b (r .enough);

@@ -17,7 +17,7 @@ use Rattle.treefile.specs.Lines.{decoded}
 use Rattle.treefile.specs.File.{fileRejection, readRejection, readAnswer, tableAfter}
 use Rattle.treefile.proofs.Acceptance.{read-nodes, accepted-table, accepted-read}
 use Rattle.report.specs.declared.Text.{Text}
-use Rattle.report.specs.Text.{refusedLine, laid, Room, Put}
+use Rattle.report.specs.Text.{refusedLine, laid, TextRoom, Put}
 use Rattle.report.specs.Report.{analysis, printed, report, textSize, textOf}
 use Rattle.report.proofs.Sizes.{report-few}
 
@@ -64,7 +64,7 @@ module _ (f : List ℕ) where
     read-rejected = ap (printed f) (file-rejected (fileRejection f) refl)
 
   -- a report has room in a text
-  pub report-room : {b : List ℕ} → textSize ≤ length b → Room 0 (report f) b
+  pub report-room : {b : List ℕ} → textSize ≤ length b → TextRoom 0 (report f) b
   report-room h = record { enough = omega (arith, report-few f) }
 
   -- what was laid into zeros is the text of the report

@@ -23,8 +23,8 @@ signedDecimal (pos n) = decimal n
 signedDecimal (negsuc n) = 45 ∷ decimal (suc n)
 
 -- a blank, and the end of a line
-abbrev pub blank : ℕ
-blank = 32
+abbrev pub space : ℕ
+space = 32
 
 abbrev pub lineFeed : ℕ
 lineFeed = 10
@@ -39,20 +39,20 @@ heading =
 abbrev pub methodLine : List ℕ → Findings → List ℕ
 methodLine name f =
     name
-    ++ (blank ∷ (signedDecimal (f .value)
-    ++ (blank ∷ (decimal (f .«root_move») ++ (blank ∷ (decimal (f .leaves) ++ (lineFeed ∷ [])))))))
+    ++ (space ∷ (signedDecimal (f .value)
+    ++ (space ∷ (decimal (f .«root_move») ++ (space ∷ (decimal (f .leaves) ++ (lineFeed ∷ [])))))))
 
 -- "refused", the number and the place
 abbrev pub refusedLine : ℕ → ℕ → List ℕ
 refusedLine number place =
-    114 ∷ 101 ∷ 102 ∷ 117 ∷ 115 ∷ 101 ∷ 100 ∷ blank ∷ (decimal number ++ (blank ∷ (decimal place ++ (lineFeed ∷ []))))
+    114 ∷ 101 ∷ 102 ∷ 117 ∷ 115 ∷ 101 ∷ 100 ∷ space ∷ (decimal number ++ (space ∷ (decimal place ++ (lineFeed ∷ []))))
 
 -- the bytes x laid into a buffer from a position on
 unfoldable pub laid : ℕ → List ℕ → List ℕ → List ℕ
 laid at x b = take at b ++ (x ++ drop (at + length x) b)
 
 -- there is room for the bytes x from a position on
-pub record Room (at : ℕ) (x b : List ℕ) : Type 0 where
+pub record TextRoom (at : ℕ) (x b : List ℕ) : Type 0 where
   pub enough : at + length x ≤ length b
 
 -- the bytes x were laid into the buffer b from a position on: the position behind them, and what the buffer holds then

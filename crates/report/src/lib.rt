@@ -9,7 +9,7 @@ ghost use mathlib.Core.Path.{_≡_};
 ghost use mathlib.Core.List.{_∷_, []};
 ghost use lib.IntN.{natAbs};
 ghost use Rattle.frames.specs.Check.{Accepted};
-ghost use Rattle.report.specs.Text.{blank, decimal, signedDecimal, methodLine, refusedLine, Room, Put};
+ghost use Rattle.report.specs.Text.{space, decimal, signedDecimal, methodLine, refusedLine, TextRoom, Put};
 ghost use Rattle.report.specs.Report.{abLine, mtdLine, sssLine, analysis, report, textOf};
 
 // How many bytes a text has: room for every report.
@@ -44,7 +44,7 @@ pub fn write(file: &[u8]) -> Text
 
 // The report of a file at the beginning of the text; the position behind it.
 fn put_report(file: &[u8], text: &mut [u8]) -> usize
-    requires { ⌜ Room 0 (report (now file)) (now text) ⌝ }
+    requires { ⌜ TextRoom 0 (report (now file)) (now text) ⌝ }
     ensures { λ r. ⌜ Put 0 (report (now (file .entry))) (now (text .entry)) r (now (text .exit)) ⌝ }
 {
     let mut table = [0u8; MAX_TABLE];
@@ -59,7 +59,7 @@ fn put_report(file: &[u8], text: &mut [u8]) -> usize
 
 // The heading and the line of each method, at the beginning of the text; the position behind them.
 fn put_analysis(table: &[u8], text: &mut [u8]) -> usize
-    requires { ⌜ Accepted (now table) × Room 0 (analysis (now table)) (now text) ⌝ }
+    requires { ⌜ Accepted (now table) × TextRoom 0 (analysis (now table)) (now text) ⌝ }
     ensures { λ r. ⌜ Put 0 (analysis (now (table .entry))) (now (text .entry)) r (now (text .exit)) ⌝ }
 {
     let first = put_bytes(text, 0, b"method value move leaves\n");
@@ -70,7 +70,7 @@ fn put_analysis(table: &[u8], text: &mut [u8]) -> usize
 
 // The line of alpha-beta, which rejects no accepted table; the position behind it.
 fn put_ab(table: &[u8], text: &mut [u8], at: usize) -> usize
-    requires { ⌜ Accepted (now table) × Room at (abLine (now table)) (now text) ⌝ }
+    requires { ⌜ Accepted (now table) × TextRoom at (abLine (now table)) (now text) ⌝ }
     ensures { λ r. ⌜ Put at (abLine (now (table .entry))) (now (text .entry)) r (now (text .exit)) ⌝ }
 {
     let mut evaluated = [0u8; MAX_NODES];
@@ -87,7 +87,7 @@ fn put_ab(table: &[u8], text: &mut [u8], at: usize) -> usize
 
 // The line of MTD.
 fn put_mtd(table: &[u8], text: &mut [u8], at: usize) -> usize
-    requires { ⌜ Accepted (now table) × Room at (mtdLine (now table)) (now text) ⌝ }
+    requires { ⌜ Accepted (now table) × TextRoom at (mtdLine (now table)) (now text) ⌝ }
     ensures { λ r. ⌜ Put at (mtdLine (now (table .entry))) (now (text .entry)) r (now (text .exit)) ⌝ }
 {
     let mut evaluated = [0u8; MAX_NODES];
@@ -101,7 +101,7 @@ fn put_mtd(table: &[u8], text: &mut [u8], at: usize) -> usize
 
 // The line of SSS*.
 fn put_sss(table: &[u8], text: &mut [u8], at: usize) -> usize
-    requires { ⌜ Accepted (now table) × Room at (sssLine (now table)) (now text) ⌝ }
+    requires { ⌜ Accepted (now table) × TextRoom at (sssLine (now table)) (now text) ⌝ }
     ensures { λ r. ⌜ Put at (sssLine (now (table .entry))) (now (text .entry)) r (now (text .exit)) ⌝ }
 {
     let mut evaluated = [0u8; MAX_NODES];
@@ -115,8 +115,9 @@ fn put_sss(table: &[u8], text: &mut [u8], at: usize) -> usize
 
 // A rejection's line at the beginning of the text; the position behind it.
 fn put_refused(text: &mut [u8], rejection: Rejection) -> usize
-    requires { ⌜ Room 0 (refusedLine (rejection .number) (rejection .place)) (now text) ⌝ }
-    ensures { λ r. ⌜ Put 0 (refusedLine (rejection .number) (rejection .place)) (now (text .entry)) r (now (text .exit)) ⌝ }
+    requires { ⌜ TextRoom 0 (refusedLine (rejection .number) (rejection .place)) (now text) ⌝ }
+    ensures { λ r. ⌜ Put 0 (refusedLine (rejection .number) (rejection .place)) (now (text .entry)) r
+        (now (text .exit)) ⌝ }
 {
     let number = rejection.number as usize;
     let refused = put_bytes(text, 0, b"refused");
@@ -127,7 +128,7 @@ fn put_refused(text: &mut [u8], rejection: Rejection) -> usize
 
 // A method's line; the position behind it.
 fn put_line(text: &mut [u8], at: usize, name: &[u8], findings: Findings) -> usize
-    requires { ⌜ Room at (methodLine (now name) findings) (now text) ⌝ }
+    requires { ⌜ TextRoom at (methodLine (now name) findings) (now text) ⌝ }
     ensures { λ r. ⌜ Put at (methodLine (now (name .entry)) findings) (now (text .entry)) r (now (text .exit)) ⌝ }
 {
     let named = put_bytes(text, at, name);
@@ -139,8 +140,8 @@ fn put_line(text: &mut [u8], at: usize, name: &[u8], findings: Findings) -> usiz
 
 // A blank and a signed value; the position behind them.
 fn put_value(text: &mut [u8], at: usize, value: i16) -> usize
-    requires { ⌜ Room at (blank ∷ signedDecimal value) (now text) ⌝ }
-    ensures { λ r. ⌜ Put at (blank ∷ signedDecimal value) (now (text .entry)) r (now (text .exit)) ⌝ }
+    requires { ⌜ TextRoom at (space ∷ signedDecimal value) (now text) ⌝ }
+    ensures { λ r. ⌜ Put at (space ∷ signedDecimal value) (now (text .entry)) r (now (text .exit)) ⌝ }
 {
     let next = put_byte(text, at, BLANK);
     if value < 0 {
@@ -152,8 +153,8 @@ fn put_value(text: &mut [u8], at: usize, value: i16) -> usize
 
 // A blank and a number; the position behind them.
 fn put_count(text: &mut [u8], at: usize, n: usize) -> usize
-    requires { ⌜ Room at (blank ∷ decimal n) (now text) ⌝ }
-    ensures { λ r. ⌜ Put at (blank ∷ decimal n) (now (text .entry)) r (now (text .exit)) ⌝ }
+    requires { ⌜ TextRoom at (space ∷ decimal n) (now text) ⌝ }
+    ensures { λ r. ⌜ Put at (space ∷ decimal n) (now (text .entry)) r (now (text .exit)) ⌝ }
 {
     let next = put_byte(text, at, BLANK);
     put_number(text, next, n)
@@ -161,7 +162,7 @@ fn put_count(text: &mut [u8], at: usize, n: usize) -> usize
 
 // The bytes of a word; the position behind them.
 fn put_bytes(text: &mut [u8], at: usize, word: &[u8]) -> usize
-    requires { ⌜ Room at (now word) (now text) ⌝ }
+    requires { ⌜ TextRoom at (now word) (now text) ⌝ }
     ensures { λ r. ⌜ Put at (now (word .entry)) (now (text .entry)) r (now (text .exit)) ⌝ }
 {
     let mut i = 0;
@@ -174,7 +175,7 @@ fn put_bytes(text: &mut [u8], at: usize, word: &[u8]) -> usize
 
 // A number in base ten; the position behind it.
 fn put_number(text: &mut [u8], at: usize, n: usize) -> usize
-    requires { ⌜ Room at (decimal n) (now text) ⌝ }
+    requires { ⌜ TextRoom at (decimal n) (now text) ⌝ }
     ensures { λ r. ⌜ Put at (decimal n) (now (text .entry)) r (now (text .exit)) ⌝ }
 {
     if n < BASE {
@@ -186,7 +187,7 @@ fn put_number(text: &mut [u8], at: usize, n: usize) -> usize
 
 // One byte at a position; the position behind it.
 fn put_byte(text: &mut [u8], at: usize, byte: u8) -> usize
-    requires { ⌜ Room at (byte ∷ []) (now text) ⌝ }
+    requires { ⌜ TextRoom at (byte ∷ []) (now text) ⌝ }
     ensures { λ r. ⌜ Put at (byte ∷ []) (now (text .entry)) r (now (text .exit)) ⌝ }
 {
     text[at] = byte;

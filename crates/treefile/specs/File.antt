@@ -55,10 +55,10 @@ abbrev pub readAnswer : List ℕ → List ℕ → Checked
 readAnswer f table = answer (frames (decoded f)) (readRejection f table)
 
 -- a table as it was on a rejection, else with bytes at its front and what it held past them
-abbrev pub written : Option Rejection → List ℕ → List ℕ → List ℕ
-written none bytes table = bytes ++ drop (length bytes) table
-written (some r) bytes table = table
+abbrev pub filled : Option Rejection → List ℕ → List ℕ → List ℕ
+filled none bytes table = bytes ++ drop (length bytes) table
+filled (some r) bytes table = table
 
 -- the lent table afterwards
 abbrev pub tableAfter : List ℕ → List ℕ → List ℕ
-tableAfter f table = written (readRejection f table) (decoded f) table
+tableAfter f table = filled (readRejection f table) (decoded f) table

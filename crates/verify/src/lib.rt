@@ -61,7 +61,8 @@ pub fn check(table: &[u8], flags: &[u8]) -> Verdict
 // Questions 10 to 14, for a well-formed table.
 fn check_certificate(table: &[u8], flags: &[u8]) -> Verdict
     requires { ⌜ WellFormed (now table) ⌝ }
-    ensures { λ r. ⌜ r ≡ judged (now (table .entry)) (now (flags .entry)) (flagsRejection (now (table .entry)) (now (flags .entry))) ⌝ }
+    ensures { λ r. ⌜ r ≡ judged (now (table .entry)) (now (flags .entry))
+        (flagsRejection (now (table .entry)) (now (flags .entry))) ⌝ }
 {
     if flags.len() < frame_count(table) {
         return Verdict::Rejected(Rejection {
@@ -79,7 +80,8 @@ fn check_certificate(table: &[u8], flags: &[u8]) -> Verdict
 // Questions 12 to 14, for a well-formed table and a flag for each node.
 fn check_trees(table: &[u8], flags: &[u8]) -> Verdict
     requires { ⌜ (WellFormed (now table)) × (frames (now table) ≤ length (now flags)) ⌝ }
-    ensures { λ r. ⌜ r ≡ judged (now (table .entry)) (now (flags .entry)) (treesRejection (now (table .entry)) (now (flags .entry))) ⌝ }
+    ensures { λ r. ⌜ r ≡ judged (now (table .entry)) (now (flags .entry))
+        (treesRejection (now (table .entry)) (now (flags .entry))) ⌝ }
 {
     let mut places = [0u32; MAX_NODES];
     places::fill(table, &mut places);
@@ -90,7 +92,8 @@ fn check_trees(table: &[u8], flags: &[u8]) -> Verdict
 fn judge(table: &[u8], flags: &[u8], places: &[u32]) -> Verdict
     requires { ⌜ (WellFormed (now table)) × (frames (now table) ≤ length (now flags))
         × (Placed (now table) (now places)) ⌝ }
-    ensures { λ r. ⌜ r ≡ judged (now (table .entry)) (now (flags .entry)) (treesRejection (now (table .entry)) (now (flags .entry))) ⌝ }
+    ensures { λ r. ⌜ r ≡ judged (now (table .entry)) (now (flags .entry))
+        (treesRejection (now (table .entry)) (now (flags .entry))) ⌝ }
 {
     let max_tree = check_rules(table, flags, places, Side::Max, NO_MAX_TREE);
     if let Checked::Rejected(r) = max_tree {
@@ -129,7 +132,8 @@ fn check_flags(table: &[u8], flags: &[u8]) -> Checked
 fn check_rules(table: &[u8], flags: &[u8], places: &[u32], side: Side, number: u8) -> Checked
     requires { ⌜ (WellFormed (now table)) × (frames (now table) ≤ length (now flags))
         × (Placed (now table) (now places)) ⌝ }
-    ensures { λ r. ⌜ r ≡ answer (frames (now (table .entry))) (checkTree number side (now (table .entry)) (now (flags .entry))) ⌝ }
+    ensures { λ r. ⌜ r
+        ≡ answer (frames (now (table .entry))) (checkTree number side (now (table .entry)) (now (flags .entry))) ⌝ }
 {
     let n = frame_count(table);
     let mut node: usize = 0;

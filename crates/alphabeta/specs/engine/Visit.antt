@@ -19,7 +19,7 @@ abbrev pub Unmarked : List ℕ → Tree → Type 0
 Unmarked e T = (k : ℕ) → In k T → marked e k ≡ false
 
 -- a well-formed table, a node of it with its place, an entry for the mark of each node, and no mark in the node's tree
-pub record Ready (t e : List ℕ) (i : ℕ) (p : Place) : Type 0 where
+pub record Searchable (t e : List ℕ) (i : ℕ) (p : Place) : Type 0 where
   pub formed : WellFormed t
   pub inside : i < frames t
   pub placed : p ≡ placeOf t i

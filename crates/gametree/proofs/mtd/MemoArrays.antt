@@ -5,7 +5,7 @@ use mathlib.Core.Logic.{inl, inr}
 use mathlib.Core.Bool.{true, false}
 use Rattle.gametree.specs.Tree.{Side, Tree, leaf, inner, Kids, last, _then_, In, InKids}
 use Rattle.gametree.specs.Mtd.{Memo, MemoKids, settles, pass, passKids}
-use Rattle.gametree.specs.engine.MemoArrays.{Bits, readMemo, readMemoKids, Visited, VisitedKids}
+use Rattle.gametree.specs.engine.MemoArrays.{Bits, readMemo, readMemoKids, Remembered, KidsRemembered}
 
 mutual
   -- arrays that agree on a tree's nodes give the same memo
@@ -25,13 +25,14 @@ mutual
       (readMemo-same M F M′ F′ t (λ p i. h p (inl i))) (readMemoKids-same M F M′ F′ ts (λ p i. h p (inr i)))
 
 module _ (ν : ℕ → ℕ) (γ : ℕ) (s : Side) (t : Tree) (ts : Kids) (d : (p : ℕ) → In p t → InKids p ts → ⊥)
-    (M F M₁ F₁ : Bits) (a : Visited ν γ t M F M₁ F₁) where
+    (M F M₁ F₁ : Bits) (a : Remembered ν γ t M F M₁ F₁) where
   -- the brothers' memo is untouched by the first child's visit
   pub rest-same : readMemoKids M₁ F₁ ts ≡ readMemoKids M F ts
   rest-same = readMemoKids-same M₁ F₁ M F ts (λ p i. a .elsewhere p (λ j. d p j i))
 
   -- the first child settles its parent
-  pub visit-ended : settles s (pass ν γ t (readMemo M F t) .notBelow) ≡ true → VisitedKids ν γ s (t then ts) M F M₁ F₁
+  pub visit-ended : settles s (pass ν γ t (readMemo M F t) .notBelow) ≡ true
+      → KidsRemembered ν γ s (t then ts) M F M₁ F₁
   visit-ended e =
       record {
         got = rw e (ap₂ {C = MemoKids (t then ts)} (λ x y. record { first = x; rest = y }) (a .got) rest-same);
@@ -40,7 +41,7 @@ module _ (ν : ℕ → ℕ) (γ : ℕ) (s : Side) (t : Tree) (ts : Kids) (d : (p
 
   -- it does not, and its brothers are visited next
   pub visit-joined : (M₂ F₂ : Bits) → settles s (pass ν γ t (readMemo M F t) .notBelow) ≡ false
-      → VisitedKids ν γ s ts M₁ F₁ M₂ F₂ → VisitedKids ν γ s (t then ts) M F M₂ F₂
+      → KidsRemembered ν γ s ts M₁ F₁ M₂ F₂ → KidsRemembered ν γ s (t then ts) M F M₂ F₂
   visit-joined M₂ F₂ e b =
       let first = readMemo-same M₂ F₂ M₁ F₁ t (λ p i. b .elsewhere p (λ j. d p i j)) ∙ a .got in
       let rest = b .got ∙ ap (λ x. passKids ν γ s ts x .next) rest-same in

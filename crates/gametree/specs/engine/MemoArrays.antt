@@ -21,11 +21,11 @@ abbrev mutual
   readMemoKids marks flags (t then ts) = record { first = readMemo marks flags t; rest = readMemoKids marks flags ts }
 
 -- the arrays after a visit of a node hold the pass's memo there, and are as they were elsewhere
-pub record Visited (ν : ℕ → ℕ) (γ : ℕ) (t : Tree) (M F M′ F′ : Bits) : Type 0 where
+pub record Remembered (ν : ℕ → ℕ) (γ : ℕ) (t : Tree) (M F M′ F′ : Bits) : Type 0 where
   pub got : readMemo M′ F′ t ≡ pass ν γ t (readMemo M F t) .next
   pub elsewhere : (p : ℕ) → (In p t → ⊥) → (M′ p ≡ M p) × (F′ p ≡ F p)
 
 -- the same of the children of a node
-pub record VisitedKids (ν : ℕ → ℕ) (γ : ℕ) (s : Side) (ks : Kids) (M F M′ F′ : Bits) : Type 0 where
+pub record KidsRemembered (ν : ℕ → ℕ) (γ : ℕ) (s : Side) (ks : Kids) (M F M′ F′ : Bits) : Type 0 where
   pub got : readMemoKids M′ F′ ks ≡ passKids ν γ s ks (readMemoKids M F ks) .next
   pub elsewhere : (p : ℕ) → (InKids p ks → ⊥) → (M′ p ≡ M p) × (F′ p ≡ F p)

@@ -1,5 +1,5 @@
--- Small trees on which a rule that is read wrongly gives something else, with what the three searches make of them. (The
--- cases of SPEC 12.2 stand in one table over bytes, in the crate `demands`.)
+-- Small trees on which a rule that is read wrongly gives something else, with what the three searches make of them.
+-- (The cases of SPEC 12.2 stand in one table over bytes, in the crate `demands`.)
 use Prim.Native.Nat.{ℕ, suc, _+_}
 use mathlib.Core.Path.{_≡_}
 use mathlib.Core.List.{List, [], _∷_, map}

@@ -9,7 +9,7 @@ use Rattle.gametree.specs.declared.Place.{Place}
 use Rattle.gametree.specs.Tree.{Tree, greatest, size, In}
 use Rattle.gametree.specs.Bounds.{high}
 use Rattle.gametree.specs.Mtd.{Memo, Pass, pass, Run}
-use Rattle.gametree.specs.engine.MemoArrays.{readMemo, Visited}
+use Rattle.gametree.specs.engine.MemoArrays.{readMemo, Remembered}
 use Rattle.frames.specs.Frame.{maxNodes, frames, childCount}
 use Rattle.frames.specs.Place.{placeOf}
 use Rattle.frames.specs.Tree.{treeAt, valuation}
@@ -76,7 +76,7 @@ pub record Passed (t : List ℕ) (T : Tree) (γ : ℕ) (m m′ : Memory) (r : Tr
   pub answer : r .answer ≡ passOf t γ m T .notBelow
   pub evaluated : Evaluated (m .evaluated) (m′ .evaluated) (r .leaves) (passOf t γ m T .evaluated)
   pub memo :
-      Visited (valuation t) γ T (marked (m .evaluated)) (marked (m .notBelow)) (marked (m′ .evaluated))
+      Remembered (valuation t) γ T (marked (m .evaluated)) (marked (m .notBelow)) (marked (m′ .evaluated))
       (marked (m′ .notBelow))
   pub right : HighsRight t m′ T
   pub others : (k : ℕ) → (In k T → ⊥) → getD (m′ .highs) k 0 ≡ getD (m .highs) k 0

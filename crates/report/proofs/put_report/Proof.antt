@@ -5,7 +5,7 @@ use lib.Seq.{length-take-le}
 use borrow.Author.Needs.{needs}
 use denote.Ref.{now}
 use Rattle.frames.specs.Check.{Accepted}
-use Rattle.report.specs.Text.{refusedLine, Room, Put}
+use Rattle.report.specs.Text.{refusedLine, TextRoom, Put}
 use Rattle.report.specs.Report.{analysis, report}
 use Rattle.report.proofs.Reporting.{Read, read-accepted, read-rejected}
 use Rattle.report.proofs.put_report.Statement.{statement}
@@ -55,8 +55,8 @@ put-analysis-requires : tie.Need-put-analysis-requires
 put-analysis-requires c κs =
     let w = accepted (c .before .before) in
     let s = start (c .before .before .before .before .before .before) in
-    subst (λ t. Accepted t × Room 0 (analysis t) (now (s .args .text))) (sym (w .bytes))
-    (w .accepted, subst (λ x. Room 0 x (now (s .args .text))) (w .reported) (s .pre))
+    subst (λ t. Accepted t × TextRoom 0 (analysis t) (now (s .args .text))) (sym (w .bytes))
+    (w .accepted, subst (λ x. TextRoom 0 x (now (s .args .text))) (w .reported) (s .pre))
 
 enum-known-rejection : tie.Need-enum-known-rejection
 enum-known-rejection c = search needs
@@ -64,7 +64,7 @@ enum-known-rejection c = search needs
 put-refused-requires : tie.Need-put-refused-requires
 put-refused-requires c κs =
     let s = start (c .before .before .before .before .before) in
-    subst (λ x. Room 0 x (now (s .args .text))) (rejected (c .before)) (s .pre)
+    subst (λ x. TextRoom 0 x (now (s .args .text))) (rejected (c .before)) (s .pre)
 
 same-length : tie.Need-same-length
 same-length c = search needs

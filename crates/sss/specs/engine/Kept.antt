@@ -22,11 +22,11 @@ use Rattle.sss.specs.engine.Shown.{Arrays}
 abbrev pub linkCount : ℕ
 linkCount = 4096
 
-abbrev pub bestIn : List ℕ → ℕ → ℕ
-bestIn w k = getD w k 0 / linkCount
+abbrev pub bestAt : List ℕ → ℕ → ℕ
+bestAt w k = getD w k 0 / linkCount
 
-abbrev pub linkIn : List ℕ → ℕ → ℕ
-linkIn w k = getD w k 0 % linkCount
+abbrev pub linkAt : List ℕ → ℕ → ℕ
+linkAt w k = getD w k 0 % linkCount
 
 abbrev pub packed : ℕ → ℕ → ℕ
 packed b l = b * linkCount + l
@@ -36,16 +36,16 @@ abbrev pub arraysOf : List State → List ℕ → Arrays
 arraysOf ls w =
     record {
       says = λ k s m. getD ls k blank ≡ entry k (statusOf s) m;
-      link = λ k. linkIn w k;
-      best = λ k. bestIn w k;
+      link = λ k. linkAt w k;
+      best = λ k. bestAt w k;
     }
 
 -- a front of the length that the code gives it: each link is 0 or a child, and each merit is one
 pub record Sound (t w : List ℕ) : Type 0 where
   pub room : frames t ≤ length w
   pub few : length w ≡ maxNodes
-  pub merits : (k : ℕ) → k < length w → bestIn w k ≤ greatest
-  pub links : (k : ℕ) → k < frames t → (linkIn w k ≡ 0) ⊎ ChildOf t k (linkIn w k)
+  pub merits : (k : ℕ) → k < length w → bestAt w k ≤ greatest
+  pub links : (k : ℕ) → k < frames t → (linkAt w k ≡ 0) ⊎ ChildOf t k (linkAt w k)
 
 -- what the functions over a front ask
 pub record Fits (t F w : List ℕ) : Type 0 where
@@ -57,25 +57,25 @@ pub record Fits (t F w : List ℕ) : Type 0 where
 unfoldable pub leftmostBest : List ℕ → ℕ → ℕ → ℕ
 leftmostBest w i zero = i
 leftmostBest w i (suc n) =
-    cond (leb (bestIn w (leftmostBest w (i + 1) n)) (bestIn w i)) i (leftmostBest w (i + 1) n)
+    cond (leb (bestAt w (leftmostBest w (i + 1) n)) (bestAt w i)) i (leftmostBest w (i + 1) n)
 
 -- the child that node p goes down to
 abbrev pub chosenBy : List ℕ → List ℕ → ℕ → Side → ℕ → ℕ
 chosenBy t w p s zero = 0
 chosenBy t w p Max (suc n) = leftmostBest w (firstChild t p) n
-chosenBy t w p Min (suc n) = linkIn w p
+chosenBy t w p Min (suc n) = linkAt w p
 
 abbrev pub chosenOf : List ℕ → List ℕ → ℕ → ℕ
 chosenOf t w p = chosenBy t w p (sideOf t p) (childCount t p)
 
 -- the front with node p's entry made anew from its children's
 abbrev pub renewed : List ℕ → List ℕ → ℕ → List ℕ
-renewed t w p = set w p (packed (bestIn w (chosenOf t w p)) (chosenOf t w p))
+renewed t w p = set w p (packed (bestAt w (chosenOf t w p)) (chosenOf t w p))
 
 -- node k is not the root, and its merit is below the test γ
 abbrev pub falls : List ℕ → ℕ → ℕ → Bool
 falls w γ zero = false
-falls w γ (suc k) = ltb (bestIn w (suc k)) γ
+falls w γ (suc k) = ltb (bestAt w (suc k)) γ
 
 -- a front, and the node up to which it was made anew
 pub record Fallen : Type 0 where
@@ -91,7 +91,7 @@ fallen (suc f) t γ w k =
 -- from node k down by the links; the first number bounds the steps
 unfoldable pub descended : ℕ → List ℕ → ℕ → ℕ
 descended zero w k = k
-descended (suc f) w k = cond (eqb (linkIn w k) 0) k (descended f w (linkIn w k))
+descended (suc f) w k = cond (eqb (linkAt w k) 0) k (descended f w (linkAt w k))
 
 -- xs after f i, f (i + 1), .., n of them, have been stored at their numbers
 unfoldable pub stored : {A : Type 0} → (ℕ → A) → ℕ → ℕ → List A → List A

@@ -37,8 +37,8 @@ pub record Placing (t F w : List ℕ) (γ : ℕ) (c : Change) : Type 0 where
   pub score : c .score ≤ greatest
 
 -- node i with status s, if it is a LIVE leaf, has no mark yet
-abbrev pub Unmarked : List ℕ → List ℕ → Status → ℕ → Type 0
-Unmarked t b s i = s ≡ Live → childCount t i ≡ 0 → marked b i ≡ false
+abbrev pub LeafUnmarked : List ℕ → List ℕ → Status → ℕ → Type 0
+LeafUnmarked t b s i = s ≡ Live → childCount t i ≡ 0 → marked b i ≡ false
 
 -- what the rules ask of a state that is not the SOLVED root
 pub record Replaceable (t F b : List ℕ) (e : State) (γ : ℕ) : Type 0 where
@@ -47,14 +47,14 @@ pub record Replaceable (t F b : List ℕ) (e : State) (γ : ℕ) : Type 0 where
   pub marks : frames t ≤ length b
   pub node : e .node < frames t
   pub lower : e .status ≡ Solved → 0 < e .node
-  pub unmarked : Unmarked t b (e .status) (e .node)
+  pub unmarked : LeafUnmarked t b (e .status) (e .node)
   pub test : γ ≤ greatest
 
 -- what a turn asks
-pub record Ready (t F w b : List ℕ) (r : Run) (e : State) : Type 0 where
+pub record Takeable (t F w b : List ℕ) (r : Run) (e : State) : Type 0 where
   pub fits : Fits t F w
   pub marks : frames t ≤ length b
   pub node : e .node < frames t
-  pub unmarked : Unmarked t b (e .status) (e .node)
+  pub unmarked : LeafUnmarked t b (e .status) (e .node)
   pub test : r .test ≤ greatest
   pub few : Few (r .counts)

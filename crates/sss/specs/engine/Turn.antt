@@ -13,7 +13,7 @@ use Rattle.sss.specs.declared.Change.{Change}
 use Rattle.sss.specs.declared.Counts.{Counts}
 use Rattle.sss.specs.declared.Run.{Run}
 use Rattle.sss.specs.Entry.{blank}
-use Rattle.sss.specs.engine.Kept.{bestIn, Fallen, fallen, descended, changed}
+use Rattle.sss.specs.engine.Kept.{bestAt, Fallen, fallen, descended, changed}
 use Rattle.sss.specs.engine.Rules.{ofState}
 use Rattle.sss.specs.engine.Update.{updated, ofChange, blanks}
 
@@ -49,7 +49,7 @@ replaced t w c γ k =
     record {
       going = true;
       at = nextAt t (settled t γ c w);
-      test = bestIn (settled t γ c w .front) 0;
+      test = bestAt (settled t γ c w .front) 0;
       counts = k;
       update = ofChange c;
     }

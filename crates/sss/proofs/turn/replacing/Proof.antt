@@ -26,8 +26,8 @@ descend-requires c κs =
     let k = fallen-keeps _ (p .fits .formed) _ _ _ _ (changed-sound _ _ _ _ _ p) (p .here .node) in
     (record { formed = p .fits .formed; places = p .fits .places; sound = rw (f .1, e) (k .0) }, rw (f .0, e) (k .1))
 
-best-in-requires : tie.Need-best-in-requires
-best-in-requires c κs = search needs
+best-at-requires : tie.Need-best-at-requires
+best-at-requires c κs = search needs
 
 of-change-requires : tie.Need-of-change-requires
 of-change-requires c κs = search needs
@@ -43,9 +43,9 @@ returns c =
     let a = c16 .args in
     replaced-by (a .table .now) (a .front .now) (a .change) _ _ _ _ _ _ _ _ (c11 .place .ensures) (c7 .fall .ensures .0)
     (c7 .fall .ensures .1)
-    (c .before .before .before .descend .ensures) (c .before .best-in .ensures) (c .of-change .ensures)
+    (c .before .before .before .descend .ensures) (c .before .best-at .ensures) (c .of-change .ensures)
 
 pub replacing-spec : {M : Type 1} → statement M
 replacing-spec =
     tie.close
-    (tie.spec place-requires fall-requires descend-requires best-in-requires of-change-requires same-length returns)
+    (tie.spec place-requires fall-requires descend-requires best-at-requires of-change-requires same-length returns)
