@@ -1,4 +1,4 @@
--- What private functions and proofs are stated with, and no public contract or demand cites.
+-- What building blocks and proofs are stated with, and no contract of a public entry and no demand cites.
 pub mod Bounds
 pub mod Evaluable
 pub mod Flags

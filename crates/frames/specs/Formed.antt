@@ -1,4 +1,4 @@
--- What questions 1 to 8 establish, as the loops over a table use it.
+-- What the loops over a table use of questions 1 to 8.
 use Prim.Native.Nat.{ℕ, _+_, _≤_, _<_}
 use mathlib.Core.Path.{_≡_}
 use mathlib.Core.List.{List}

@@ -26,7 +26,8 @@ parentOf t k = parentBefore t k k
 abbrev pub rootPlace : Place
 rootPlace = record { depth = 0; side = Max }
 
--- a child k of a node that stands at p is one deeper, and the other side moves there
+-- a child k of a node that stands at p is one deeper, and the other side moves there; the table t and the number k play
+-- no part yet (request N8 uses them)
 abbrev pub childPlace : List ℕ → ℕ → Place → Place
 childPlace t k p = record { depth = p .depth + 1; side = other (p .side) }
 

@@ -26,7 +26,7 @@ unfoldable pub grow : ℕ → List ℕ → ℕ → Tree
 grow zero t i = leaf i
 grow (suc f) t i = node i (sideOf t i) (grow f t) (firstChild t i) (childCount t i)
 
--- the tree below node i; children have larger numbers, so no line is longer than the frames that are left
+-- the tree below node i; children have larger numbers, so no path down has more nodes than frames are left
 unfoldable pub treeAt : List ℕ → ℕ → Tree
 treeAt t i = grow (frames t - i) t i
 
@@ -34,7 +34,7 @@ treeAt t i = grow (frames t - i) t i
 abbrev pub tree : List ℕ → Tree
 tree t = treeAt t 0
 
--- the score of a leaf from its depth and its stored score
+-- the score of a leaf from its depth and its stored score; the depth plays no part yet (request N5 uses it)
 abbrev pub leafScore : ℕ → ℕ → ℕ
 leafScore depth stored = stored
 

@@ -96,7 +96,8 @@ pub fn check(table: &[u8]) -> Checked
     check_frames(table)
 }
 
-// The frames of a node's children, as a part of the table; empty where there are none.
+// The frames of a node's children, as a part of the table; empty on a leaf, past the last frame, and where it would
+// reach past the table.
 pub fn children(table: &[u8], node: usize) -> &[u8]
     ensures { λ r. ⌜ now r ≡ childrenOf (now (table .entry)) node ⌝ }
 {

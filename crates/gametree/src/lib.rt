@@ -1,5 +1,5 @@
 // The theory of game-tree search: definitions in specs/, theorems in proofs/ (Theorems states what is for use).
-// The code holds the two plain types that the theory and the searches share.
+// The code holds what the theory and the searches share: two plain types, the opponent, and the better of two scores.
 ghost use mathlib.Core.Path.{_≡_};
 ghost use Rattle.gametree.specs.Tree.{other as otherSide, better as betterOf};
 
