@@ -7,7 +7,6 @@ use certificate::evaluate;
 use frames::Checked;
 use frames::GREATEST;
 use frames::LEAST;
-use frames::MAX_NODES;
 use frames::Rejection;
 use frames::child_count;
 use frames::child_place;
@@ -64,9 +63,7 @@ fn run(table: &[u8], evaluated: &mut [u8], certificate: &mut [u8]) -> Findings
         side: Side::Max,
     };
     let visited = alpha_beta(table, evaluated, 0, root, LEAST, GREATEST);
-    let mut places = [0u32; MAX_NODES];
-    places::fill(table, &mut places);
-    let root_move = conclude(table, &places, evaluated, certificate);
+    let root_move = conclude(table, evaluated, certificate);
     let value = value(visited.score);
     Findings {
         value,

@@ -14,6 +14,7 @@ use frames::rejected;
 use gametree::Side;
 use gametree::better;
 use places::depth_at;
+use places::fill;
 use places::side_at;
 ghost use mathlib.Core.Path.{_≡_};
 ghost use mathlib.Core.List.{[], _∷_};
@@ -37,6 +38,9 @@ ghost use Rattle.certificate.specs.engine.Ranges.{bestIn, firstEqual};
 ghost use Rattle.certificate.specs.engine.Bounds.{boundOf, boundsOf, leafBounds};
 ghost use Rattle.certificate.specs.Search.{searchRejection};
 ghost use Rattle.certificate.specs.engine.Flags.{ownPart, bySide, chosenChild, FlagsFrom};
+
+// How many nodes a small table has at most.
+pub const SMALL: usize = 64;
 
 // What every search finds: the minimax value, the first root move that reaches it (0 for a leaf), and how many leaves
 // were evaluated.
@@ -99,24 +103,67 @@ pub fn clear(evaluated: &mut [u8], n: usize)
 }
 
 // The certificate (01: the proof) read off the bounds of the marked leaves, into the buffer's first entries; the result
-// is the root move.
-pub fn conclude(table: &[u8], places: &[u32], evaluated: &mut [u8], certificate: &mut [u8]) -> usize
-    requires { ⌜ (WellFormed (now table)) × (Placed (now table) (now places)) ⌝ }
+// is the root move. A small table gets small work arrays, since their clearing takes time.
+pub fn conclude(table: &[u8], evaluated: &mut [u8], certificate: &mut [u8]) -> usize
+    requires { ⌜ WellFormed (now table) ⌝ }
     requires { ⌜ (frames (now table) ≤ length (now evaluated)) × (frames (now table) ≤ length (now certificate)) ⌝ }
-    ensures { λ r. ⌜ r
-        ≡ boundMove (valuation (now (table .entry))) (marked (now (evaluated .entry))) (tree (now (table .entry))) ⌝ }
+    ensures { λ r. ⌜ r ≡ boundMove (valuation (now (table .entry))) (marked (now (evaluated .entry)))
+        (tree (now (table .entry))) ⌝ }
     ensures { λ _. ⌜ now (certificate .exit)
-        ≡ written (flag (valuation (now (table .entry))) (marked (now (evaluated .entry)))
-        (tree (now (table .entry)))) (frames (now (table .entry)))
-        (now (certificate .entry)) ⌝ }
+        ≡ written (flag (valuation (now (table .entry))) (marked (now (evaluated .entry))) (tree (now (table .entry))))
+        (frames (now (table .entry))) (now (certificate .entry)) ⌝ }
     ensures { λ _. ⌜ now (evaluated .exit) ≡ now (evaluated .entry) ⌝ }
 {
+    if frame_count(table) <= SMALL {
+        let mut places = [0u32; SMALL];
+        let mut lows = [0u32; SMALL];
+        let mut highs = [0u32; SMALL];
+        return conclude_in(
+            table,
+            &mut places,
+            &mut lows,
+            &mut highs,
+            evaluated,
+            certificate,
+        );
+    }
+    let mut places = [0u32; MAX_NODES];
     let mut lows = [0u32; MAX_NODES];
     let mut highs = [0u32; MAX_NODES];
-    fill_bounds(table, places, evaluated, &mut lows, &mut highs);
-    write_certificate(table, places, &lows, &highs, certificate);
+    conclude_in(
+        table,
+        &mut places,
+        &mut lows,
+        &mut highs,
+        evaluated,
+        certificate,
+    )
+}
+
+// The certificate and the root move, by work arrays with an entry per node.
+fn conclude_in(
+    table: &[u8],
+    places: &mut [u32],
+    lows: &mut [u32],
+    highs: &mut [u32],
+    evaluated: &mut [u8],
+    certificate: &mut [u8],
+) -> usize
+    requires { ⌜ (WellFormed (now table)) × (frames (now table) ≤ length (now places)) ⌝ }
+    requires { ⌜ (frames (now table) ≤ length (now lows)) × (frames (now table) ≤ length (now highs)) ⌝ }
+    requires { ⌜ (frames (now table) ≤ length (now evaluated)) × (frames (now table) ≤ length (now certificate)) ⌝ }
+    ensures { λ r. ⌜ r ≡ boundMove (valuation (now (table .entry))) (marked (now (evaluated .entry)))
+        (tree (now (table .entry))) ⌝ }
+    ensures { λ _. ⌜ now (certificate .exit)
+        ≡ written (flag (valuation (now (table .entry))) (marked (now (evaluated .entry))) (tree (now (table .entry))))
+        (frames (now (table .entry))) (now (certificate .entry)) ⌝ }
+    ensures { λ _. ⌜ now (evaluated .exit) ≡ now (evaluated .entry) ⌝ }
+{
+    fill(table, places);
+    fill_bounds(table, places, evaluated, lows, highs);
+    write_certificate(table, places, lows, highs, certificate);
     let end = 1 + child_count(table, 0);
-    chosen_child(places, &lows, &highs, 0, 1, end)
+    chosen_child(places, lows, highs, 0, 1, end)
 }
 
 // The two bounds of a node.

@@ -71,9 +71,7 @@ fn run(table: &[u8], evaluated: &mut [u8], certificate: &mut [u8]) -> Found
     let mut highs = [GREATEST; MAX_NODES];
     let mut not_below = [0u8; MAX_NODES];
     let settled = run_passes(table, evaluated, &mut highs, &mut not_below);
-    let mut places = [0u32; MAX_NODES];
-    places::fill(table, &mut places);
-    let root_move = conclude(table, &places, evaluated, certificate);
+    let root_move = conclude(table, evaluated, certificate);
     let value = value(settled.score);
     Found {
         findings: Findings {

@@ -6,7 +6,6 @@ use mir.ValLaws.{toZ-ofZ}
 use borrow.Author.Needs.{needs}
 use Rattle.frames.proofs.Places.{place-root}
 use Rattle.places.specs.Buffer.{written}
-use Rattle.places.proofs.Places.{placed}
 use Rattle.alphabeta.proofs.Unmarked.{cleared-unmarked}
 use Rattle.alphabeta.proofs.Whole.{run-small, run-gives}
 use Rattle.alphabeta.proofs.run.Statement.{statement}
@@ -34,28 +33,16 @@ alpha-beta-requires c κs =
       unmarked = cleared-unmarked _ (a .pre .0) _ _ _ (k .clear .ensures) (k .before .frame-count .ensures);
     }
 
-slice-aggregate-fill : tie.Need-slice-aggregate-fill
-slice-aggregate-fill c = search needs
-
-fill-requires : tie.Need-fill-requires
-fill-requires c κs = search needs
-
-slice-aggregate-conclude : tie.Need-slice-aggregate-conclude
-slice-aggregate-conclude c = search needs
-
 conclude-requires : tie.Need-conclude-requires
 conclude-requires c κs =
-    let p = c .before .before .before .before in
-    let f = p .before .before .before .before in
+    let f = c .before .before .before .before in
     let a = start f .pre in
-    let kept = f .before .before .before .before .clear .kept in (
-      (a .0, placed _ (a .0) _ (a .0 .few) (p .fill .ensures)),
-      (omega (arith, kept, f .alpha-beta .kept, a .1 .0), a .1 .1),
-    )
+    let kept = f .before .before .before .before .clear .kept in
+    (a .0, (omega (arith, kept, f .alpha-beta .kept, a .1 .0), a .1 .1))
 
 value-requires : tie.Need-value-requires
 value-requires c κs =
-    let f = c .before .before .before .before .before .before .before .before .before .before .before .before .before in
+    let f = c .before .before .before .before .before .before .before .before .before in
     run-small _ (start f .pre .0) _ (f .alpha-beta .ensures .0)
 
 same-length : tie.Need-same-length
@@ -67,7 +54,7 @@ same-length-2 c = search needs
 returns : tie.Need-returns
 returns c =
     let g = c .before .before .before .before .before in
-    let f = g .before .before .before .before .before .before .before .before .before in
+    let f = g .before .before .before .before .before in
     let k = f .before .before .before .before in
     let n = k .before .frame-count .ensures in
     let cleared = k .clear .ensures ∙ ap (λ m. written (λ _. 0) m (start f .args .evaluated .now)) n in
@@ -82,9 +69,6 @@ run-spec =
     frame-count-requires
     clear-requires
     alpha-beta-requires
-    slice-aggregate-fill
-    fill-requires
-    slice-aggregate-conclude
     conclude-requires
     value-requires
     same-length

@@ -6,7 +6,6 @@ use mir.ValLaws.{toZ-ofZ}
 use borrow.Author.Needs.{needs}
 use Rattle.frames.specs.Frame.{frames}
 use Rattle.places.specs.Buffer.{written}
-use Rattle.places.proofs.Places.{placed}
 use Rattle.mtd.proofs.Whole.{start-fresh, run-small, run-gives}
 use Rattle.mtd.proofs.run.Statement.{statement}
 use Rattle.mtd.proofs.run.Tie as tie
@@ -39,29 +38,16 @@ run-passes-requires c κs =
     let k = c .before .before .before .before .before in
     start-fresh _ (start k .pre .0) _ _ _ _ (start k .pre .1 .0) (cleared k) refl refl
 
-slice-aggregate-fill : tie.Need-slice-aggregate-fill
-slice-aggregate-fill c = search needs
-
-fill-requires : tie.Need-fill-requires
-fill-requires c κs = search needs
-
-slice-aggregate-conclude : tie.Need-slice-aggregate-conclude
-slice-aggregate-conclude c = search needs
-
 conclude-requires : tie.Need-conclude-requires
 conclude-requires c κs =
-    let p = c .before .before .before .before in
-    let f = p .before .before .before .before .before .before in
+    let f = c .before .before .before .before .before .before in
     let k = f .before .before .before .before .before .before in
-    let a = start k .pre in (
-      (a .0, placed _ (a .0) _ (a .0 .few) (p .fill .ensures)),
-      (omega (arith, k .clear .kept, f .run-passes .kept, a .1 .0), a .1 .1),
-    )
+    let a = start k .pre in
+    (a .0, (omega (arith, k .clear .kept, f .run-passes .kept, a .1 .0), a .1 .1))
 
 value-requires : tie.Need-value-requires
 value-requires c κs =
-    let p = c .before .before .before .before .before .before .before .before .before in
-    let f = p .before .before .before .before .before .before in
+    let f = c .before .before .before .before .before .before .before .before .before .before .before in
     run-small _ (start (f .before .before .before .before .before .before) .pre .0) _ (f .run-passes .ensures .0)
 
 same-length : tie.Need-same-length
@@ -73,7 +59,7 @@ same-length-2 c = search needs
 returns : tie.Need-returns
 returns c =
     let g = c .before .before .before .before .before in
-    let f = g .before .before .before .before .before .before .before .before .before .before .before in
+    let f = g .before .before .before .before .before .before .before in
     let k = f .before .before .before .before .before .before in
     let value = toZ-ofZ w16 (c .value .result) (record { sfits = c .value .ok }) ∙ c .value .ensures in
     run-gives _ (start k .pre .0) _ _ _ _ _ _ _ _ _ (cleared k) (f .run-passes .ensures .0) (f .run-passes .ensures .1)
@@ -88,9 +74,6 @@ run-spec =
     slice-aggregate-run-passes
     slice-aggregate-run-passes-2
     run-passes-requires
-    slice-aggregate-fill
-    fill-requires
-    slice-aggregate-conclude
     conclude-requires
     value-requires
     same-length
