@@ -1,8 +1,9 @@
 -- The steps of a whole search: the cleared memory is the fresh one, the passes end with the minimax value, and the
 -- marks are those of MTD's leaves.
-use Prim.Native.Nat.{ℕ, _≤_}
+use Prim.Native.Nat.{ℕ, _≤_, _<_}
 use native.Mathlib.Omega.{arith}
 use mathlib.Core.Path.{_≡_, ap, _∙_}
+use mathlib.Core.Bool.{false}
 use mathlib.Core.List.{List}
 use lib.Dec.{eqb}
 use lib.ListN.{length, replicate, length-replicate, getD-replicate}
@@ -13,7 +14,7 @@ use Rattle.gametree.specs.Move.{rootMove, boundMove}
 use Rattle.gametree.specs.Certificate.{flag}
 use Rattle.gametree.proofs.Searches.{byMtd}
 use Rattle.gametree.proofs.Theorems.{value-score, mtd-minimax}
-use Rattle.frames.specs.Frame.{maxNodes, frames}
+use Rattle.frames.specs.Frame.{frames}
 use Rattle.frames.specs.Tree.{tree, valuation}
 use Rattle.frames.specs.Formed.{WellFormed}
 use Rattle.frames.proofs.Proper.{tree-proper}
@@ -21,30 +22,35 @@ use Rattle.places.specs.Buffer.{written}
 use Rattle.certificate.specs.Marks.{marked, markAll}
 use Rattle.frames.specs.Value.{valueOf}
 use Rattle.certificate.specs.Search.{marksOf, flagsOf}
-use Rattle.places.proofs.Buffers.{written-at, written-length}
+use Rattle.places.proofs.Buffers.{written-at}
 use Rattle.certificate.proofs.Outcomes.{search-concludes}
 use Rattle.mtd.specs.declared.Settled.{Settled}
 use Rattle.mtd.specs.engine.Memory.{memory, Fresh, settledOf}
 use Rattle.mtd.specs.Outcome.{mtdLeaves, mtdFound}
 
+-- after the clearing none of the n nodes has a mark
+pub cleared-unmarked : (n : ℕ) (e : List ℕ) {e₁ : List ℕ} → e₁ ≡ written (λ k. 0) n e → (k : ℕ) → k < n
+    → marked e₁ k ≡ false
+cleared-unmarked n e p k l = ap (λ x. marked x k) p ∙ ap (λ x. eqb x 1) (written-at (λ k. 0) n k e l)
+
 module _ (t : List ℕ) (wf : WellFormed t) where
-  -- cleared marks, flags of zeros and the greatest highs are the memory to start with
-  pub start-fresh : (e e₁ h f : List ℕ) → frames t ≤ length e → e₁ ≡ written (λ k. 0) (frames t) e
-      → h ≡ replicate maxNodes greatest → f ≡ replicate maxNodes 0 → Fresh t (memory e₁ h f)
-  start-fresh e e₁ h f room p q r =
-      rw (p, q, r)
-      (record {
+  -- where no node has a mark, the greatest highs and flags of zeros are the memory to start with
+  pub start-fresh : (m : ℕ) → frames t ≤ m → (e : List ℕ) → frames t ≤ length e
+      → ((k : ℕ) → k < frames t → marked e k ≡ false)
+      → Fresh t (memory e (replicate m greatest) (replicate m 0))
+  start-fresh m few e room unmarked =
+      record {
         formed = wf;
         room =
             record {
-              evaluated = omega (arith, written-length (λ k. 0) (frames t) e room);
-              highs = omega (arith, length-replicate maxNodes greatest, wf .few);
-              notBelow = omega (arith, length-replicate {A = ℕ} maxNodes 0, wf .few);
+              evaluated = room;
+              highs = omega (arith, length-replicate m greatest);
+              notBelow = omega (arith, length-replicate {A = ℕ} m 0);
             };
-        evaluated = λ k l. ap (λ x. eqb x 1) (written-at (λ k. 0) (frames t) k e l);
-        notBelow = λ k l. ap (λ x. eqb x 1) (getD-replicate maxNodes k 0 0 (omega (arith, wf .few)));
-        highs = λ k l. getD-replicate maxNodes k greatest 0 (omega (arith, wf .few));
-      })
+        evaluated = unmarked;
+        notBelow = λ k l. ap (λ x. eqb x 1) (getD-replicate m k 0 0 (omega arith));
+        highs = λ k l. getD-replicate m k greatest 0 (omega arith);
+      }
 
   module _ (r : Settled) (d : r ≡ settledOf (mtd (valuation t) (tree t))) where
     run-score : r .score ≡ minimax (valuation t) (tree t)

@@ -1,6 +1,7 @@
 // MTD over a byte table: the public search, and its engine of passes with falling tests, each asking whether the root
 // is below its test.
 use certificate::Findings;
+use certificate::SMALL;
 use certificate::ask;
 use certificate::best;
 use certificate::clear;
@@ -18,8 +19,8 @@ use frames::value;
 use gametree::Place;
 use gametree::Side;
 ghost use mathlib.Core.Path.{_≡_};
-ghost use mathlib.Core.Bool.{true, cond, _||_};
-ghost use Prim.Native.Nat.{_+_, _<_, _≤_};
+ghost use mathlib.Core.Bool.{true, false, cond, _||_};
+ghost use Prim.Native.Nat.{ℕ, _+_, _<_, _≤_};
 ghost use lib.Dec.{leb, eqb};
 ghost use lib.ListN.{length, getD, set};
 ghost use Rattle.gametree.specs.Mtd.{settles as settlesOf, mtd};
@@ -68,9 +69,7 @@ fn run(table: &[u8], evaluated: &mut [u8], certificate: &mut [u8]) -> Found
         ≡ flagsOf (mtdLeaves (now (table .entry))) (now (table .entry)) (now (certificate .entry)) ⌝ }
 {
     clear(evaluated, frame_count(table));
-    let mut highs = [GREATEST; MAX_NODES];
-    let mut not_below = [0u8; MAX_NODES];
-    let settled = run_passes(table, evaluated, &mut highs, &mut not_below);
+    let settled = settle(table, evaluated);
     let root_move = conclude(table, evaluated, certificate);
     let value = value(settled.score);
     Found {
@@ -89,6 +88,23 @@ struct Settled {
     score: u32,
     leaves: usize,
     passes: usize,
+}
+
+// The passes over a table without marks. A small table gets small work arrays, since their clearing takes time.
+fn settle(table: &[u8], evaluated: &mut [u8]) -> Settled
+    requires { ⌜ (WellFormed (now table)) × (frames (now table) ≤ length (now evaluated)) ⌝ }
+    requires { ⌜ ((k : ℕ) → k < frames (now table) → marked (now evaluated) k ≡ false) ⌝ }
+    ensures { λ r. ⌜ r ≡ settledOf (mtd (valuation (now (table .entry))) (tree (now (table .entry)))) ⌝ }
+    ensures { λ _. ⌜ now (evaluated .exit) ≡ markAll (now (evaluated .entry)) (mtdLeaves (now (table .entry))) ⌝ }
+{
+    if frame_count(table) <= SMALL {
+        let mut highs = [GREATEST; SMALL];
+        let mut not_below = [0u8; SMALL];
+        return run_passes(table, evaluated, &mut highs, &mut not_below);
+    }
+    let mut highs = [GREATEST; MAX_NODES];
+    let mut not_below = [0u8; MAX_NODES];
+    run_passes(table, evaluated, &mut highs, &mut not_below)
 }
 
 // Passes from the greatest test, each with the root's high for the next test, until the root is not below.

@@ -1,12 +1,12 @@
 -- `run` meets its contract: the steps of a search, in order.
 use native.Mathlib.Omega.{arith}
-use mathlib.Core.Path.{_≡_, refl, ap, _∙_}
+use mathlib.Core.Path.{_≡_, ap, _∙_}
 use mir.Syntax.{w16}
 use mir.ValLaws.{toZ-ofZ}
 use borrow.Author.Needs.{needs}
 use Rattle.frames.specs.Frame.{frames}
 use Rattle.places.specs.Buffer.{written}
-use Rattle.mtd.proofs.Whole.{start-fresh, run-small, run-gives}
+use Rattle.mtd.proofs.Whole.{cleared-unmarked, run-small, run-gives}
 use Rattle.mtd.proofs.run.Statement.{statement}
 use Rattle.mtd.proofs.run.Tie as tie
 
@@ -27,28 +27,19 @@ frame-count-requires c κs = search needs
 clear-requires : tie.Need-clear-requires
 clear-requires c κs = search needs
 
-slice-aggregate-run-passes : tie.Need-slice-aggregate-run-passes
-slice-aggregate-run-passes c = search needs
-
-slice-aggregate-run-passes-2 : tie.Need-slice-aggregate-run-passes-2
-slice-aggregate-run-passes-2 c = search needs
-
-run-passes-requires : tie.Need-run-passes-requires
-run-passes-requires c κs =
-    let k = c .before .before .before .before .before in
-    start-fresh _ (start k .pre .0) _ _ _ _ (start k .pre .1 .0) (cleared k) refl refl
+settle-requires : tie.Need-settle-requires
+settle-requires c κs =
+    let k = c .before .before .before in
+    let a = start k .pre in
+    ((a .0, omega (arith, k .clear .kept, a .1 .0)), cleared-unmarked _ _ (cleared k))
 
 conclude-requires : tie.Need-conclude-requires
-conclude-requires c κs =
-    let f = c .before .before .before .before .before .before in
-    let k = f .before .before .before .before .before .before in
-    let a = start k .pre in
-    (a .0, (omega (arith, k .clear .kept, f .run-passes .kept, a .1 .0), a .1 .1))
+conclude-requires c κs = search needs
 
 value-requires : tie.Need-value-requires
 value-requires c κs =
-    let f = c .before .before .before .before .before .before .before .before .before .before .before in
-    run-small _ (start (f .before .before .before .before .before .before) .pre .0) _ (f .run-passes .ensures .0)
+    let f = c .before .before .before .before .before .before .before .before .before in
+    run-small _ (start (f .before .before .before .before) .pre .0) _ (f .settle .ensures .0)
 
 same-length : tie.Need-same-length
 same-length c = search needs
@@ -59,10 +50,10 @@ same-length-2 c = search needs
 returns : tie.Need-returns
 returns c =
     let g = c .before .before .before .before .before in
-    let f = g .before .before .before .before .before .before .before in
-    let k = f .before .before .before .before .before .before in
+    let f = g .before .before .before .before .before in
+    let k = f .before .before .before .before in
     let value = toZ-ofZ w16 (c .value .result) (record { sfits = c .value .ok }) ∙ c .value .ensures in
-    run-gives _ (start k .pre .0) _ _ _ _ _ _ _ _ _ (cleared k) (f .run-passes .ensures .0) (f .run-passes .ensures .1)
+    run-gives _ (start k .pre .0) _ _ _ _ _ _ _ _ _ (cleared k) (f .settle .ensures .0) (f .settle .ensures .1)
     (g .conclude .ensures .0) (g .conclude .ensures .1 .0) (g .conclude .ensures .1 .1) value
 
 pub run-spec : {M : Type 1} → statement M
@@ -71,9 +62,7 @@ run-spec =
     (tie.spec
     frame-count-requires
     clear-requires
-    slice-aggregate-run-passes
-    slice-aggregate-run-passes-2
-    run-passes-requires
+    settle-requires
     conclude-requires
     value-requires
     same-length

@@ -1,0 +1,60 @@
+-- `settle` meets its contract: a table has at most as many nodes as the arrays have entries, in both cases.
+use native.Mathlib.Omega.{arith}
+use borrow.Author.Needs.{needs}
+use Rattle.frames.specs.Frame.{maxNodes}
+use Rattle.mtd.proofs.Whole.{start-fresh}
+use Rattle.mtd.proofs.settle.Statement.{statement}
+use Rattle.mtd.proofs.settle.Tie as tie
+
+frame-count-requires : tie.Need-frame-count-requires
+frame-count-requires c κs = search needs
+
+slice-aggregate-run-passes : tie.Need-slice-aggregate-run-passes
+slice-aggregate-run-passes c = search needs
+
+slice-aggregate-run-passes-2 : tie.Need-slice-aggregate-run-passes-2
+slice-aggregate-run-passes-2 c = search needs
+
+run-passes-requires : tie.Need-run-passes-requires
+run-passes-requires c κs =
+    let a = c .before .before .before .before .before .before .before .pre in
+    start-fresh _ (a .0 .0) 64 (omega arith) _ (a .0 .1) (a .1)
+
+same-length : tie.Need-same-length
+same-length c = search needs
+
+returns : tie.Need-returns
+returns c = search needs
+
+slice-aggregate-run-passes-3 : tie.Need-slice-aggregate-run-passes-3
+slice-aggregate-run-passes-3 c = search needs
+
+slice-aggregate-run-passes-4 : tie.Need-slice-aggregate-run-passes-4
+slice-aggregate-run-passes-4 c = search needs
+
+run-passes-requires-2 : tie.Need-run-passes-requires-2
+run-passes-requires-2 c κs =
+    let a = c .before .before .before .before .before .before .before .pre in
+    start-fresh _ (a .0 .0) maxNodes (a .0 .0 .few) _ (a .0 .1) (a .1)
+
+same-length-2 : tie.Need-same-length-2
+same-length-2 c = search needs
+
+returns-2 : tie.Need-returns-2
+returns-2 c = search needs
+
+pub settle-spec : {M : Type 1} → statement M
+settle-spec =
+    tie.close
+    (tie.spec
+    frame-count-requires
+    slice-aggregate-run-passes
+    slice-aggregate-run-passes-2
+    run-passes-requires
+    same-length
+    returns
+    slice-aggregate-run-passes-3
+    slice-aggregate-run-passes-4
+    run-passes-requires-2
+    same-length-2
+    returns-2)
