@@ -34,11 +34,7 @@ alpha-beta-requires c κs =
     }
 
 conclude-requires : tie.Need-conclude-requires
-conclude-requires c κs =
-    let f = c .before .before .before .before in
-    let a = start f .pre in
-    let kept = f .before .before .before .before .clear .kept in
-    (a .0, (omega (arith, kept, f .alpha-beta .kept, a .1 .0), a .1 .1))
+conclude-requires c κs = search needs
 
 value-requires : tie.Need-value-requires
 value-requires c κs =
