@@ -1,7 +1,4 @@
 -- `certificate::apart` meets its contract: where the flags are the same, it makes no difference which child is chosen.
-use mathlib.Core.Path.{refl, ap}
-use mathlib.Core.Bool.{cond}
-use lib.Dec.{eqb}
 use borrow.Author.Needs.{needs}
 use Rattle.certificate.proofs.Flags.{none-chosen}
 use Rattle.certificate.proofs.apart.Statement.{statement}
@@ -14,9 +11,7 @@ chosen-child-requires : tie.Need-chosen-child-requires
 chosen-child-requires c κs = search needs
 
 returns-2 : tie.Need-returns-2
-returns-2 c =
-    let a = c .before .before .before .before .before .args in
-    λ k. ap (λ x. cond (eqb k x) (a .flag) (a .others)) (c .chosen-child .ensures)
+returns-2 c = λ k. rw (c .chosen-child .ensures)
 
 pub apart-spec : {M : Type 1} → statement M
 apart-spec = tie.close (tie.spec returns chosen-child-requires returns-2)

@@ -35,12 +35,12 @@ first-equal-requires-2 c κs = search needs
 returns : tie.Need-returns
 returns c =
     let s = c .before .before .before .before .side-at .ensures in
-    c .first-equal .ensures ∙ chosen-by _ _ _ _ _ (sym s ∙ c .before .before .enum-told .given .1)
+    rw (c .first-equal .ensures) (chosen-by _ _ _ _ _ (sym s ∙ c .before .before .enum-told .given .1))
 
 returns-2 : tie.Need-returns-2
 returns-2 c =
     let s = c .before .before .before .before .side-at .ensures in
-    c .first-equal2 .ensures ∙ chosen-by _ _ _ _ _ (sym s ∙ c .before .before .enum-told2 .given .1)
+    rw (c .first-equal2 .ensures) (chosen-by _ _ _ _ _ (sym s ∙ c .before .before .enum-told2 .given .1))
 
 pub chosen-child-spec : {M : Type 1} → statement M
 chosen-child-spec =

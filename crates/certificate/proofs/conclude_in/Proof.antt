@@ -108,7 +108,7 @@ returns c =
     let b = bounds w in
     let wf = start (filled b) .pre .0 .0 in
     let h = holds-bounds b in (
-      c .chosen-child .ensures ∙ chosen-move _ wf _ h _ (c .before .before .before .before .child-count .ensures .0),
+      rw (c .chosen-child .ensures) (chosen-move _ wf _ h _ (c .before .before .before .before .child-count .ensures .0)),
       (w .write-certificate .ensures _ (flags-follow _ wf _ h), b .fill-bounds .ensures .1 .1),
     )
 

@@ -84,8 +84,8 @@ loop-again c =
     let m = l .before .loop .inv in
     let e = rw (m .0) at (b .0) in (
       b .1 ∙ m .0,
-      rising-step _ (m .1) (omega arith) _ (ap (λ x. x .low) e),
-      rising-step _ (m .2) (omega arith) _ (ap (λ x. x .high) e),
+      rising-step _ (m .1) (omega arith) _ (rw e),
+      rising-step _ (m .2) (omega arith) _ (rw e),
     )
 
 same-length : tie.Need-same-length Inv-loop μ-loop

@@ -52,9 +52,9 @@ returns : tie.Need-returns Inv-loop μ-loop
 returns c =
     let r = c .before .before in
     let l = r .before .before in
-    c .rejected .ensures
-    ∙ ruling-until _ _ _ _ (at-start l .pre .0) _ _ (l .loop .inv)
-    (sym (r .rule-holds .ensures) ∙ not-true _ (c .before .if1 .taken))
+    rw (c .rejected .ensures)
+    (ruling-until _ _ _ _ (at-start l .pre .0) _ _ (l .loop .inv)
+    (rw (← r .rule-holds .ensures) (not-true _ (c .before .if1 .taken))))
 
 child-count-requires : tie.Need-child-count-requires Inv-loop μ-loop
 child-count-requires c κs = c .before .before .before .loop .inv .inside

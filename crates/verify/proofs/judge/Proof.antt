@@ -63,7 +63,7 @@ returns : tie.Need-returns
 returns c =
     let m = c .before .before .before in
     let a = m .before .before .before .before .args in
-    no-max (a .table .now) (a .flags .now) _ (sym (c .before .max-tree .given .1) ∙ m .check-rules .ensures)
+    no-max (a .table .now) (a .flags .now) _ (rw (c .before .max-tree .given .1) at (m .check-rules .ensures))
 
 enum-told : tie.Need-enum-told
 enum-told c = search needs
@@ -80,8 +80,8 @@ returns-2 c =
     let e = n .before in
     let m = e .before .before in
     let a = m .before .before .before .before .args in
-    no-min (a .table .now) (a .flags .now) _ (sym (e .enum-told .given .1) ∙ m .check-rules .ensures) _
-    (sym (c .before .min-tree .given .1) ∙ n .check-rules2 .ensures)
+    no-min (a .table .now) (a .flags .now) _ (rw (e .enum-told .given .1) at (m .check-rules .ensures)) _
+    (rw (c .before .min-tree .given .1) at (n .check-rules2 .ensures))
 
 enum-told-2 : tie.Need-enum-told-2
 enum-told-2 c = search needs
@@ -103,8 +103,8 @@ passed c =
     let e = n .before in
     let m = e .before .before in
     let a = m .before .before .before .before .args in
-    both-hold (a .table .now) (a .flags .now) _ (sym (e .enum-told .given .1) ∙ m .check-rules .ensures) _
-    (sym (c .enum-told2 .given .1) ∙ n .check-rules2 .ensures)
+    both-hold (a .table .now) (a .flags .now) _ (rw (e .enum-told .given .1) at (m .check-rules .ensures)) _
+    (rw (c .enum-told2 .given .1) at (n .check-rules2 .ensures))
 
 returns-3 : tie.Need-returns-3
 returns-3 c =

@@ -78,10 +78,11 @@ returns-2 c =
     let n = c .before .before .before .child-count .ensures .0 in
     let s = c .before .side-at .ensures ∙ placed-side _ _ (p .places) _ (p .node) in
     let z : childCount (a .table .now) (a .entry .node) ≡ 0 → ⊥ = λ e. c .before .before .if1 .left (n ∙ e) in
-    let r = c .of-inner .ensures ∙ ap₂ (λ q k. ofInner (a .table .now) (a .entry .node) (a .test) q k) s n ∙ live-inner
-    _ _ _ _ _ z in
     let v = inner-none _ Live (a .entry .node) z in
-    rw (c .before .before .before .before .enum-told .given .1) (r, sym (ap (markAll (a .evaluated .now)) v))
+    rw (c .before .before .before .before .enum-told .given .1, c .of-inner .ensures) (
+      ap₂ (λ q k. ofInner (a .table .now) (a .entry .node) (a .test) q k) s n ∙ live-inner _ _ _ _ _ z,
+      sym (ap (markAll (a .evaluated .now)) v),
+    )
 
 returns-3 : tie.Need-returns-3
 unfolding markAll
@@ -92,10 +93,12 @@ returns-3 c =
     let u = c .before .before .parent-at .ensures ∙ placed-parent _ _ (p .places) _ (p .node) in
     let h = parent-child _ (p .formed) _ (p .lower (c .before .before .before .enum-told2 .given .1)) (p .node) in
     let s = c .before .side-at2 .ensures ∙ placed-side _ _ (p .places) _ (rw u (h .0)) in
-    let r = c .of-child .ensures ∙ ap (ofChild (a .table .now) (a .entry .node) (a .test) _) s ∙ ap (λ d. ofChild (a
-    .table .now) (a .entry .node) (a .test) d (sideOf (a .table .now) d)) u in
     let v = solved-none (childCount (a .table .now) (a .entry .node)) (a .entry .node) in
-    rw (c .before .before .before .enum-told2 .given .1) (r, sym (ap (markAll (a .evaluated .now)) v))
+    rw (c .before .before .before .enum-told2 .given .1, c .of-child .ensures) (
+      ap (ofChild (a .table .now) (a .entry .node) (a .test) _) s
+          ∙ ap (λ d. ofChild (a .table .now) (a .entry .node) (a .test) d (sideOf (a .table .now) d)) u,
+      sym (ap (markAll (a .evaluated .now)) v),
+    )
 
 pub of-state-spec : {M : Type 1} → statement M
 of-state-spec =
