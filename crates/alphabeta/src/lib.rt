@@ -120,7 +120,7 @@ fn alpha_beta(
     Visited { score, leaves }
 }
 
-// The score of a leaf that has no mark yet, brought into the window; the leaf is marked and counted.
+// The visit of a leaf: its score, brought into the window.
 fn visit_leaf(
     table: &[u8],
     evaluated: &mut [u8],
@@ -133,8 +133,21 @@ fn visit_leaf(
     ensures { λ r. ⌜ (r .score ≡ clamp alpha beta (valuation (now (table .entry)) node)) × (r .leaves ≡ 1) ⌝ }
     ensures { λ _. ⌜ now (evaluated .exit) ≡ set (now (evaluated .entry)) node 1 ⌝ }
 {
-    let leaf = evaluate(table, evaluated, node, depth);
-    let score = clamped(alpha, beta, leaf);
+    let leaf = evaluate_leaf(table, evaluated, node, depth);
+    let score = clamped(alpha, beta, leaf.score);
+    Visited {
+        score,
+        leaves: leaf.leaves,
+    }
+}
+
+// A leaf that has no mark yet is evaluated and counted.
+fn evaluate_leaf(table: &[u8], evaluated: &mut [u8], node: usize, depth: u32) -> Visited
+    requires { ⌜ Evaluable (now table) (now evaluated) node depth ⌝ }
+    ensures { λ r. ⌜ (r .score ≡ valuation (now (table .entry)) node) × (r .leaves ≡ 1) ⌝ }
+    ensures { λ _. ⌜ now (evaluated .exit) ≡ set (now (evaluated .entry)) node 1 ⌝ }
+{
+    let score = evaluate(table, evaluated, node, depth);
     Visited { score, leaves: 1 }
 }
 

@@ -1,12 +1,12 @@
 -- `alphabeta::visit_leaf` meets its contract: the score is the leaf's, brought into the window.
-use mathlib.Core.Path.{refl, ap, _∙_}
+use mathlib.Core.Path.{ap, _∙_}
 use borrow.Author.Needs.{needs}
 use Rattle.gametree.specs.AlphaBeta.{clamp}
 use Rattle.alphabeta.proofs.visit_leaf.Statement.{statement}
 use Rattle.alphabeta.proofs.visit_leaf.Tie as tie
 
-evaluate-requires : tie.Need-evaluate-requires
-evaluate-requires c κs = search needs
+evaluate-leaf-requires : tie.Need-evaluate-leaf-requires
+evaluate-leaf-requires c κs = search needs
 
 clamped-requires : tie.Need-clamped-requires
 clamped-requires c κs = search needs
@@ -16,8 +16,8 @@ same-length c = search needs
 
 returns : tie.Need-returns
 returns c =
-    let e = c .before .before .before .evaluate .ensures in
-    ((c .clamped .ensures ∙ ap (clamp _ _) (e .0 .0), refl), e .1)
+    let e = c .before .before .before .evaluate-leaf .ensures in
+    ((c .clamped .ensures ∙ ap (clamp _ _) (e .0 .0), e .0 .1), e .1)
 
 pub visit-leaf-spec : {M : Type 1} → statement M
-visit-leaf-spec = tie.close (tie.spec evaluate-requires clamped-requires same-length returns)
+visit-leaf-spec = tie.close (tie.spec evaluate-leaf-requires clamped-requires same-length returns)
