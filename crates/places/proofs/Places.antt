@@ -10,7 +10,7 @@ use Rattle.gametree.specs.declared.Side.{Side}
 use Rattle.gametree.specs.declared.Side.the-variants.{Max, Min}
 use Rattle.frames.specs.Frame.{maxNodes, frames, childCount}
 use Rattle.frames.specs.Place.{parentBefore, parentOf, rootPlace, childPlace, placeOf, depthOf, sideOf}
-use Rattle.frames.specs.Formed.{WellFormed, ChildOf}
+use Rattle.frames.specs.Formed.{WellFormed}
 use Rattle.frames.proofs.Parents.{parent-is}
 use Rattle.frames.proofs.Places.{place-root, place-child, depth-at-most}
 use Rattle.places.specs.Buffer.{written, stored}

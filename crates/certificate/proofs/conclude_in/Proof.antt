@@ -1,7 +1,6 @@
 -- `certificate::conclude_in` meets its contract: the arrays hold the sides and the bounds, and flags and move follow.
 use Prim.Native.Nat.{ℕ, _+_, _≤_}
 use native.Mathlib.Omega.{arith}
-use mathlib.Core.Path.{_∙_}
 use mathlib.Core.List.{List}
 use Rattle.frames.specs.Frame.{frames, childCount, next}
 use Rattle.frames.specs.Formed.{WellFormed}
@@ -108,7 +107,8 @@ returns c =
     let b = bounds w in
     let wf = start (filled b) .pre .0 .0 in
     let h = holds-bounds b in (
-      rw (c .chosen-child .ensures) (chosen-move _ wf _ h _ (c .before .before .before .before .child-count .ensures .0)),
+      rw (c .chosen-child .ensures)
+          (chosen-move _ wf _ h _ (c .before .before .before .before .child-count .ensures .0)),
       (w .write-certificate .ensures _ (flags-follow _ wf _ h), b .fill-bounds .ensures .1 .1),
     )
 

@@ -2,7 +2,7 @@
 -- recursion is the number of frames after the node, that of the loop the number of children left.
 use Prim.Native.Nat.{ℕ, _+_, _-_, _<_}
 use native.Mathlib.Omega.{arith}
-use mathlib.Core.Path.{_≡_, sym, ap, _∙_}
+use mathlib.Core.Path.{sym, ap, _∙_}
 use mathlib.Core.Logic.{inl, inr}
 use lib.ListN.{length, length-set}
 use borrow.Author.Needs.{needs}

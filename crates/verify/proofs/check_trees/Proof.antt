@@ -1,5 +1,4 @@
 -- `check_trees` meets its contract: the array that it lends holds the place of each node.
-use native.Mathlib.Omega.{arith}
 use borrow.Author.Needs.{needs}
 use Rattle.places.proofs.Places.{placed}
 use Rattle.verify.proofs.check_trees.Statement.{statement}

@@ -1,7 +1,7 @@
 -- `judge` meets its contract: a "no" settles the verdict, and equal values give it.
 use Prim.Native.Nat.{ℕ}
 use native.Mathlib.Omega.{arith}
-use mathlib.Core.Path.{_≡_, sym, ap, _∙_}
+use mathlib.Core.Path.{_≡_, ap, _∙_}
 use mathlib.Core.List.{List}
 use mir.Syntax.{w16}
 use mir.ValLaws.{toZ-ofZ}
