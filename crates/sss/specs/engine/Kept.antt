@@ -40,10 +40,10 @@ arraysOf ls w =
       best = λ k. bestAt w k;
     }
 
--- a front of the length that the code gives it: each link is 0 or a child, and each merit is one
+-- a front with an entry per node and not too many: each link is 0 or a child, and each merit is one
 pub record Sound (t w : List ℕ) : Type 0 where
   pub room : frames t ≤ length w
-  pub few : length w ≡ maxNodes
+  pub few : length w ≤ maxNodes
   pub merits : (k : ℕ) → k < length w → bestAt w k ≤ greatest
   pub links : (k : ℕ) → k < frames t → (linkAt w k ≡ 0) ⊎ ChildOf t k (linkAt w k)
 

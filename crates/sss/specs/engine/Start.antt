@@ -1,5 +1,5 @@
 -- What a search starts with: its questions, and the run, the places and the marks that follow from the answers.
-use Prim.Native.Nat.{ℕ}
+use Prim.Native.Nat.{ℕ, _≤_}
 use mathlib.Core.Path.{_≡_}
 use mathlib.Core.Bool.{Bool, true, false}
 use mathlib.Core.Option.{Option, none, some}
@@ -10,6 +10,7 @@ use Rattle.frames.specs.declared.Rejection.{Rejection}
 use Rattle.frames.specs.declared.Checked.{Checked}
 use Rattle.frames.specs.declared.Checked.the-variants.{Nodes, Rejected}
 use Rattle.frames.specs.Frame.{frames}
+use Rattle.frames.specs.Formed.{WellFormed}
 use Rattle.frames.specs.Rejection.{answer}
 use Rattle.places.specs.Buffer.{written}
 use Rattle.certificate.specs.Search.{searchRejection}
@@ -18,11 +19,16 @@ use Rattle.sss.specs.declared.Counts.{Counts}
 use Rattle.sss.specs.declared.Sizes.{Sizes}
 use Rattle.sss.specs.declared.Run.{Run}
 use Rattle.places.specs.engine.Places.{placeEntry}
+use Rattle.sss.specs.engine.Kept.{Sound}
 use Rattle.sss.specs.engine.Update.{ofChange}
 
 -- the first "no" to questions 1 to 10, for a list and a certificate of these sizes and the marks b
 abbrev pub startRejection : List ℕ → Sizes → List ℕ → Option Rejection
 startRejection t n b = searchRejection t (n .entries ∷ length b ∷ n .flags ∷ [])
+
+-- what a search asks of its work arrays, if the table is well formed: room for the places, and a sound front
+abbrev pub Workable : (t F w : List ℕ) → Type 0
+Workable t F w = WellFormed t → (frames t ≤ length F) × Sound t w
 
 -- nothing is counted yet
 abbrev pub noCounts : Counts
