@@ -234,7 +234,8 @@ module _ {M : Type 1} (𝓤 : URA M) (H : Heap 𝓤) (A : Atoms 𝓤) (W : Given
         pass1 ! (init ! (pos 2 - 2) refl (vU .typed u is .0)) $ pass0 ! $
         -- [the locals; 20: the token; the list; the update]
         move ! (21 ∷ 20 ∷ []) $ opens R ls (named 0) ! tt $ move ! (22 ∷ []) $ drop ! $
-        sets ! (of-opd ! (part ! (pos 2) refl refl refl)) (init ! (pos 3) refl (vC .typed (u .content) content-is .0)) $
+        sets ! (of-opd ! (part ! (pos 2) {d = 16} refl refl refl))
+        (init ! (pos 3) refl (vC .typed (u .content) content-is .0)) $
         sets ! (of-opd ! (part ! (pos 2) refl refl refl)) (init ! (pos 4) refl (tt, record { fits = f })) $
         sets ! (bin ! (held ! (pos 4) refl) (part ! (pos 2) refl refl refl) (record { fits = g }))
         (init ! (pos 5) refl (tt, record { fits = g })) $
