@@ -1,5 +1,5 @@
 -- What taking a state does, in the cases that the code tells apart.
-use Prim.Native.Nat.{ℕ, zero, suc, _≤_, _<_}
+use Prim.Native.Nat.{ℕ, zero, suc, _+_, _≤_, _<_}
 use native.Mathlib.Omega.{arith}
 use mathlib.Core.Path.{_≡_, refl}
 use mathlib.Core.Bool.{false}
@@ -7,10 +7,14 @@ use mathlib.Core.List.{List, []}
 use lib.ListN.{length}
 use Rattle.lists.proofs.Choice.{true-not-false}
 use Rattle.gametree.specs.declared.Side.{Side}
+use Rattle.certificate.specs.Marks.{markAll}
 use Rattle.sss.specs.declared.Status.{Status}
 use Rattle.sss.specs.declared.Status.the-variants.{Live, Solved}
-use Rattle.sss.specs.engine.Rules.{ofInner, ofLive}
-use Rattle.sss.specs.engine.Turn.{isSolvedRoot, valued}
+use Rattle.sss.specs.declared.State.{State}
+use Rattle.sss.specs.declared.Change.{Change}
+use Rattle.sss.specs.declared.Run.{Run}
+use Rattle.sss.specs.engine.Rules.{ofInner, ofLive, ofState}
+use Rattle.sss.specs.engine.Turn.{isSolvedRoot, valued, newLeaves, settled, replaced, taken}
 
 -- a SOLVED state that is not the root's
 pub not-root : (s : Status) (i : ℕ) → isSolvedRoot s i ≡ false → s ≡ Solved → 0 < i
@@ -35,3 +39,14 @@ pub few-leaves : (n : ℕ) (s : Status) (i : ℕ) → length (valued n s i) ≤ 
 few-leaves zero Live i = omega arith
 few-leaves zero Solved i = omega arith
 few-leaves (suc n) s i = omega arith
+
+-- a state that is not the SOLVED root is replaced, by the change c and with n leaves evaluated
+pub stepped-is : (t w b : List ℕ) (r : Run) (e : State) (c : Change) (n : ℕ) {w′ b′ : List ℕ} {r′ : Run}
+    → isSolvedRoot (e .status) (e .node) ≡ false → c ≡ ofState t (e .node) (r .test) (e .status)
+    → n ≡ length (newLeaves t e) → w′ ≡ settled t (r .test) c w .front → b′ ≡ markAll b (newLeaves t e)
+    → r′ ≡ replaced t w c (r .test) (record {
+      leaves = r .counts .leaves + n;
+      replacements = r .counts .replacements + 1;
+    })
+    → record { front = w′; marks = b′; run = r′ } ≡ taken t w b r e
+stepped-is t w b r e c n q i k f m o = rw (q, o, f, m, i, k)
