@@ -5,7 +5,7 @@ pub use mir.Syntax.{Body, Place, Opd as Operand, seq, call}
 pub use mir.Syntax.{Ty, named, erased, imm, mut, w8, w32, w64, tyInt, tyBool, tyRef, tyUnit, tyArray, tyPtr}
 pub use mir.Val.{Val, vbool, vint, vunit}
 pub use base.Logic.{SProp, ent, emp, via, id⊢, fst∗}
-pub use base.Fml.{Fml, GName, fat, froom, fdies, flft, fsep, feq}
+pub use base.Fml.{Fml, GName, fat, froom, flft, fsep, feq}
 pub use prog.Memory.{Memory}
 pub use prog.Routine.{Routine}
 pub use prog.Wp.{Heap, Out, Env, afterSeq, afterBlock, Wp, atReturn, WpFn, Tables}
@@ -18,7 +18,7 @@ unfoldable pub use contract.Running.{tablesOf}
 pub use sound.WpLaws.{fmOf}
 pub use types.Kit.{Go, Post, lands}
 pub use types.Kit.{Given, Item, ‵, ⋆, runs, anyQ, atRet, Sq, _$_, _∵_, !, qed, by, move, keep, drop, group, rewrite}
-pub use types.Kit.{suffices, frame, done, use1, fsplit, feqL, feqI}
+pub use types.Kit.{suffices, frame, done, fsplit, feqL, feqI}
 pub use types.Run.{look, store, init, forget, stop, from, and-then, no-more, of-opd, assigns-last, land, first, blocks}
 pub use types.Run.{stays, leaves-loop, returns, enter, alloc1, alloc0, params1, pass1, pass0, exec, Below, again, loops}
 pub use types.Run.{lit, addr, hop, load, bin, unit-lit, assigns, Opds, returns-within}
@@ -42,7 +42,6 @@ pub use Rattle.walks.proofs.Locals.{by-test, forks, homes, held, part, 
 pub use Rattle.walks.proofs.Leaving.{none, room, full, frees}
 pub use types.Part.{agg, rep}
 pub use denote.Array.{arrayVal}
-pub use denote.Index.{row}
 pub use denote.Triple.Walked.{says, needs, Stays, walkOf, ends-at}
 pub use Rattle.walks.proofs.Parameters.{Parameters, shared, lent, passed, valued, stays-of, by-walk}
 pub use Rattle.walks.proofs.Arrays.{big-lit, repeats, lends-array, array-back}
