@@ -10,7 +10,7 @@ use Rattle.gametree.specs.Tree.{greatest, minimax}
 use Rattle.gametree.specs.Move.{rootMove, boundMove}
 use Rattle.gametree.specs.AlphaBeta.{fullWindow}
 use Rattle.gametree.specs.Certificate.{flag}
-use Rattle.gametree.proofs.Theorems.{value-score, alphaBeta-leaves, alphaBeta-minimax}
+use Rattle.gametree.proofs.Theorems.{value-score, alphaBeta-leaves, alphaBeta-minimax, search-deciding}
 use Rattle.frames.specs.Frame.{frames}
 use Rattle.frames.specs.Tree.{tree, valuation}
 use Rattle.frames.specs.Formed.{WellFormed}
@@ -56,6 +56,7 @@ module _ (t : List ℕ) (wf : WellFormed t) where
       × ((e₃ ≡ marksOf (reachedLeaves t) t e) × (c₂ ≡ flagsOf (reachedLeaves t) t c))
   run-gives e e₁ e₂ e₃ c c₂ r m v cleared d marks move flags kept value =
       let b =
-      search-concludes t wf (reachedLeaves t) (searched t) e e₁ e₂ e₃ c c₂ m cleared
+      search-concludes t wf (reachedLeaves t) (search-deciding (valuation t) (tree t) (tree-proper t wf) (searched t))
+      e e₁ e₂ e₃ c c₂ m cleared
       (marks ∙ ap (markAll e₁) (alphaBeta-leaves (valuation t) (tree t))) move flags kept in
       (run-finds r d v m value (b .0), b .1)

@@ -25,9 +25,10 @@ ghost use Rattle.frames.specs.Formed.{WellFormed};
 ghost use Rattle.frames.specs.Tree.{treeAt, valuation};
 ghost use Rattle.certificate.specs.Marks.{markAll};
 ghost use Rattle.certificate.specs.engine.Evaluable.{Evaluable};
+ghost use Rattle.certificate.specs.engine.Searchable.{Searchable};
 ghost use Rattle.certificate.specs.Search.{marksOf, flagsOf, findings};
 ghost use Rattle.alphabeta.specs.Outcome.{reachedLeaves, alphaBetaOutcome};
-ghost use Rattle.alphabeta.specs.engine.Visit.{Searchable, visitedOf};
+ghost use Rattle.alphabeta.specs.engine.Visit.{visitedOf};
 
 // The answer of a call: what was found, or the first question that got a "no".
 pub enum Answer {

@@ -1,5 +1,7 @@
 -- The lemmas on buffers and searches, grouped by idea.
 pub mod Marking
+pub mod Unmarked
+pub mod Searchable
 pub mod BottomUp
 pub mod Ranges
 pub mod Bounds

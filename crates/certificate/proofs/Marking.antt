@@ -8,7 +8,7 @@ use lib.ListN.{length, set, length-set}
 use lib.Seq.{getD-set-other}
 use Rattle.lists.specs.Lists.{All, among}
 use Rattle.places.specs.Buffer.{written}
-use Rattle.places.proofs.Buffers.{written-same, put, written-set}
+use Rattle.places.proofs.Buffers.{written-at, written-same, put, written-set}
 use Rattle.certificate.specs.Marks.{mark, marked, markAll}
 
 pub markAll-append : (b v w : List ℕ) → markAll b (v ++ w) ≡ markAll (markAll b v) w
@@ -56,6 +56,11 @@ markAll-written E n b (k ∷ w) a =
 or-false : (b : Bool) → b || false ≡ b
 or-false true = refl
 or-false false = refl
+
+-- after the clearing none of the n nodes has a mark
+pub cleared-unmarked : (n : ℕ) (e : List ℕ) {e₁ : List ℕ} → e₁ ≡ written (λ k. 0) n e → (k : ℕ) → k < n
+    → marked e₁ k ≡ false
+cleared-unmarked n e p k l = ap (λ x. marked x k) p ∙ ap (λ x. eqb x 1) (written-at (λ k. 0) n k e l)
 
 -- the marks of the leaves w, from a cleared buffer
 pub marks-from-clear : (n : ℕ) (b w : List ℕ) → All (λ k. k < n) w

@@ -9,10 +9,10 @@ use lib.ListN.{length}
 use Rattle.lists.specs.Lists.{All, among}
 use Rattle.gametree.specs.Tree.{Tree, leaf, inner, Kids, last, _then_, leaves, leavesKids, leafCount, EveryLeaf}
 use Rattle.gametree.specs.Tree.{EveryLeafKids}
-use Rattle.gametree.proofs.Searches.{Searched}
+use Rattle.gametree.proofs.Searches.{Deciding}
 use Rattle.lists.proofs.Choice.{is-false}
 use Rattle.lists.proofs.Lists.{all-map, all-append, all-at}
-use Rattle.gametree.proofs.Theorems.{search-leaves, search-count}
+use Rattle.gametree.proofs.Theorems.{deciding-count}
 use Rattle.frames.specs.Frame.{frames, childCount}
 use Rattle.frames.specs.Tree.{tree, valuation}
 use Rattle.frames.specs.Formed.{WellFormed}
@@ -44,16 +44,15 @@ mutual
 
 module _ (t : List ℕ) (wf : WellFormed t) where
   -- what holds of each node without children holds of each leaf that a search evaluates
-  pub searched-hold : (P : ℕ → Type 0) → ((i : ℕ) → i < frames t → childCount t i ≡ 0 → P i) → {w : List ℕ}
-      → Searched (valuation t) (tree t) w → All P w
-  searched-hold P f {w} s =
+  pub evaluated-hold : (P : ℕ → Type 0) → ((i : ℕ) → i < frames t → childCount t i ≡ 0 → P i) → {w : List ℕ}
+      → Deciding (valuation t) (tree t) w → All P w
+  evaluated-hold P f {w} d =
       all-map (λ k. among (leaves (tree t)) k ≡ true) P
-      (all-at P (leaves (tree t)) (every-all P (tree t) (every-leaf t wf P f 0 (wf .some)))) w
-      (search-leaves (valuation t) (tree t) (tree-proper t wf) s)
+      (all-at P (leaves (tree t)) (every-all P (tree t) (every-leaf t wf P f 0 (wf .some)))) w (d .own)
 
   -- its number lies within the table
-  pub searched-within : {w : List ℕ} → Searched (valuation t) (tree t) w → All (λ k. k < frames t) w
-  searched-within s = searched-hold (λ k. k < frames t) (λ i h e. h) s
+  pub evaluated-within : {w : List ℕ} → Deciding (valuation t) (tree t) w → All (λ k. k < frames t) w
+  evaluated-within d = evaluated-hold (λ k. k < frames t) (λ i h e. h) d
 
   ones-sum : (e : List ℕ) (n : ℕ) → ones e n ≡ sumTo (λ k. cond (marked e k) 1 0) n
   unfolding ones sumTo
@@ -71,10 +70,10 @@ module _ (t : List ℕ) (wf : WellFormed t) where
       ∙ sym (tree-leaf-count t wf E)
 
   -- the ones among the marks of a search are as many as the leaves that it evaluates
-  pub ones-searched : {w : List ℕ} → Searched (valuation t) (tree t) w → (b : List ℕ)
+  pub ones-evaluated : {w : List ℕ} → Deciding (valuation t) (tree t) w → (b : List ℕ)
       → ones (written (mark (among w)) (frames t) b) (frames t) ≡ length w
-  ones-searched {w} s b =
-      let l = searched-hold (λ k. childCount t k ≡ 0) (λ i _ e. e) s in
+  ones-evaluated {w} d b =
+      let l = evaluated-hold (λ k. childCount t k ≡ 0) (λ i _ e. e) d in
       ones-leaves (among w) (λ k _ p. all-at (λ k. childCount t k ≡ 0) w l k p)
       (written (mark (among w)) (frames t) b) (marked-written (among w) (frames t) b)
-      ∙ search-count (valuation t) (tree t) (tree-proper t wf) s
+      ∙ deciding-count (valuation t) (tree t) (tree-proper t wf) d

@@ -8,8 +8,7 @@ use lib.ListN.{length}
 use Rattle.lists.specs.Lists.{among}
 use Rattle.gametree.specs.Move.{rootMove, boundMove}
 use Rattle.gametree.specs.Certificate.{flag}
-use Rattle.gametree.proofs.Searches.{Searched}
-use Rattle.gametree.proofs.Theorems.{search-move}
+use Rattle.gametree.proofs.Searches.{Deciding}
 use Rattle.frames.specs.declared.Rejection.{Rejection}
 use Rattle.frames.specs.declared.Checked.the-variants.{Nodes, Rejected}
 use Rattle.frames.specs.Frame.{frames}
@@ -17,26 +16,25 @@ use Rattle.frames.specs.Tree.{tree, valuation}
 use Rattle.frames.specs.Formed.{WellFormed}
 use Rattle.frames.specs.Rejection.{answer}
 use Rattle.frames.proofs.Asked.{answer-nodes, answer-rejected}
-use Rattle.frames.proofs.Proper.{tree-proper}
 use Rattle.places.specs.Buffer.{written}
 use Rattle.certificate.specs.Marks.{marked, markAll}
 use Rattle.certificate.specs.Search.{Search, searchRejection, marksOf, flagsOf, outcome}
 use Rattle.certificate.proofs.Marking.{marks-from-clear}
-use Rattle.certificate.proofs.Marks.{searched-within}
+use Rattle.certificate.proofs.Marks.{evaluated-within}
 use Rattle.certificate.proofs.Concluded.{concluded}
 
 -- a search that evaluates the leaves w: e is cleared to e₁ and marked to e₂, and the move m and the flags c₂ follow
 -- from that
-pub search-concludes : (t : List ℕ) → WellFormed t → (w : List ℕ) → Searched (valuation t) (tree t) w
+pub search-concludes : (t : List ℕ) → WellFormed t → (w : List ℕ) → Deciding (valuation t) (tree t) w
     → (e e₁ e₂ e₃ c c₂ : List ℕ) (m : ℕ) → e₁ ≡ written (λ k. 0) (frames t) e → e₂ ≡ markAll e₁ w
     → m ≡ boundMove (valuation t) (marked e₂) (tree t)
     → c₂ ≡ written (flag (valuation t) (marked e₂) (tree t)) (frames t) c → e₃ ≡ e₂
     → (m ≡ rootMove (valuation t) (tree t)) × ((e₃ ≡ marksOf w t e) × (c₂ ≡ flagsOf w t c))
-search-concludes t wf w s e e₁ e₂ e₃ c c₂ m cleared marks move flags kept =
+search-concludes t wf w d e e₁ e₂ e₃ c c₂ m cleared marks move flags kept =
     let a : e₂ ≡ marksOf w t e =
-    marks ∙ ap (λ x. markAll x w) cleared ∙ marks-from-clear (frames t) e w (searched-within t wf s) in
+    marks ∙ ap (λ x. markAll x w) cleared ∙ marks-from-clear (frames t) e w (evaluated-within t wf d) in
     let b = concluded t wf (among w) e e₂ c a in
-    (move ∙ b .0 ∙ search-move (valuation t) (tree t) (tree-proper t wf) s, (kept ∙ a, flags ∙ b .1))
+    (move ∙ b .0 ∙ d .move, (kept ∙ a, flags ∙ b .1))
 
 -- what a call gives once its questions are answered, for any type of answers
 module _ {A : Type 0} (rejected : Rejection → A) (found : A) (s : Search) where

@@ -3,3 +3,4 @@ pub mod Bounds
 pub mod Evaluable
 pub mod Flags
 pub mod Ranges
+pub mod Searchable

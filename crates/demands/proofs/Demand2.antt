@@ -43,7 +43,7 @@ use Rattle.demands.proofs.Handed.{marks-at, flags-certify, flags-verifi
 -- marked 1, and every other node 0
 pub marks-rule : {t : List ℕ} (c : Call t) (k : ℕ) → k < frames t
     → getD (left c .marks) k 0 ≡ mark (among (leaves c)) k
-marks-rule c = marks-at c
+marks-rule c = marks-at (view c .handed)
 
 -- "give for every accepted tree": with an accepted table and room in what is lent, each search gives a result
 module _ (t : List ℕ) (a : Accepted t) (b : Buffers) (h : Room t b) where
@@ -100,7 +100,7 @@ module _ (t : List ℕ) (a : Accepted t) (b : Buffers) (h : Room t b) where
 
 -- and none other: only an accepted table gets a result
 pub only-accepted : {t : List ℕ} → Call t → Accepted t
-only-accepted c = view c .accepted
+only-accepted c = view c .handed .accepted
 
 -- what a call gives and leaves follows from the leaves of its rule: the findings, the marks and the flags, with what
 -- the buffers held behind them
@@ -109,7 +109,7 @@ gives-exactly c = view c .results
 
 pub leaves-exactly : {t : List ℕ} (c : Call t)
     → (left c .marks ≡ marksOf (leaves c) t (lent c .marks)) × (left c .flags ≡ flagsOf (leaves c) t (lent c .flags))
-leaves-exactly c = (view c .marks, view c .flags)
+leaves-exactly c = (view c .handed .marks, view c .handed .flags)
 
 -- "the minimax value"
 pub value-minimax : {t : List ℕ} (c : Call t) → found c .value ≡ valueOf (minimax (valuation t) (tree t))
@@ -121,7 +121,7 @@ move-first c = ap (λ x. x .«root_move») (view c .results)
 
 -- "with a max and a min solution tree made only of leaves they valued"
 pub certified : {t : List ℕ} (c : Call t) → CertifiedBy t (left c)
-certified c = flags-certify c
+certified c = flags-certify (view c .handed)
 
 -- "The checker accepts a pair exactly when both are solution trees of that tree with equal value"
 pub accepts-exactly : (t flags : List ℕ) → ((z : ℤ) × (verdict t flags ≡ Value z)) ↔ ((v : ℕ) × Certificate t flags v)
@@ -134,7 +134,7 @@ verdict-minimax t flags z e = accepted-minimax t flags z e
 
 -- so the checker accepts what each search hands back, and gives the value that the search found
 pub verified : {t : List ℕ} (c : Call t) → verdict t (left c .flags) ≡ Value (found c .value)
-verified c = flags-verified c ∙ ap Value (sym (value-minimax c))
+verified c = flags-verified (view c .handed) ∙ ap Value (sym (value-minimax c))
 
 -- "Guessing past the leaves was never wanted, so the value is that of the tree handed over": `tree t` is the tree that
 -- the frames of the table describe (frames/proofs/TreeOfTable.antt), and a leaf's value is the number that its bytes 4

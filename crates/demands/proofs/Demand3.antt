@@ -55,7 +55,7 @@ module _ {t : List ℕ} {f : Findings} (a : AlphaBetaCall t (ab-answer.Found f))
   dominated k m =
       record {
         node = m .node;
-        mark = marks-at (alphaBeta a) k (m .node) ∙ ap (λ x. cond x 1 0) (reached-only c k m);
+        mark = marks-at (view (alphaBeta a) .handed) k (m .node) ∙ ap (λ x. cond x 1 0) (reached-only c k m);
       }
 
   pub no-more : found c .leaves ≤ f .leaves
@@ -76,19 +76,19 @@ counts-less s a = no-more a (sss s)
 
 -- "Neither values a leaf twice": in the list of evaluated leaves no number stands twice
 pub once : {t : List ℕ} (c : Call t) → Once (leaves c)
-once {t} c = search-once (valuation t) (tree t) (proper c) (view c .searched)
+once {t} c = search-once (valuation t) (tree t) (proper (view c .handed)) (view c .searched)
 
 -- "each count is exactly the number of leaves valued": the length of that list, and the number of marks that are 1
 pub count : {t : List ℕ} (c : Call t)
     → (found c .leaves ≡ length (leaves c)) × (found c .leaves ≡ ones (left c .marks) (frames t))
-count c = let n = ap (λ x. x .leaves) (view c .results) in (n, n ∙ marks-count c)
+count c = let n = ap (λ x. x .leaves) (view c .results) in (n, n ∙ marks-count (view c .handed))
 
 -- "Neither count is below the number of leaves, a shared one counted once, in the smallest pair of max and min solution
 -- trees of equal value, where every other such pair of that tree has at least as many" (`Smallest`)
 pub smallest : {t : List ℕ} (c : Call t) (g h : ℕ → Bool) → Smallest (valuation t) (tree t) g h
     → pairLeaves g h (tree t) ≤ found c .leaves
 smallest {t} c g h m =
-    rw (count c .0) (search-smallest (valuation t) (tree t) (proper c) g h m (view c .searched))
+    rw (count c .0) (search-smallest (valuation t) (tree t) (proper (view c .handed)) g h m (view c .searched))
 
 -- and there is such a pair
 pub smallest-pair : (t : List ℕ) → Accepted t → (g : ℕ → Bool) × (h : ℕ → Bool) × Smallest (valuation t) (tree t) g h
@@ -167,17 +167,17 @@ pub passes : {t : List ℕ} {f : MtdFound} (c : MtdCall t (mtd-answer.Found f))
     × (f .passes ≤ suc (different (map (valuation t) (mtdLeaves t))))
 passes {t} c =
     let n = ap (λ x. x .passes) (mtd-result c .found) in
-    (n, rw n (mtd-passes (valuation t) (tree t) (proper (mtd c))))
+    (n, rw n (mtd-passes (valuation t) (tree t) (proper (view (mtd c) .handed))))
 
 -- SSS* makes the replacements of its run, at most twice the number of nodes less 1
 pub replacements : {t : List ℕ} {f : SssFound} (c : SssCall t (sss-answer.Found f))
     → (f .replacements ≡ runOf t .replacements) × (f .replacements < 2 * frames t)
 replacements {t} c =
-    let p = proper (sss c) in
+    let p = proper (view (sss c) .handed) in
     let n = ap (λ x. x .replacements) (sss-result c .found) in
     let k = sss-replacements (valuation t) (tree t) (p .scored) (layoutOf (tree t))
     (layout-own (tree t) (p .distinct)) in
-    (n, rw n (subst (λ m. runOf t .replacements < 2 * m) (tree-size t (formed (sss c))) k))
+    (n, rw n (subst (λ m. runOf t .replacements < 2 * m) (tree-size t (formed (view (sss c) .handed))) k))
 
 -- and its list's first entries, one a node, are reset, and later ones are kept
 pub list-reset : {t : List ℕ} {f : SssFound} (c : SssCall t (sss-answer.Found f))

@@ -1,4 +1,4 @@
--- What a call that gives a result hands back in its buffers: the theory's theorems, carried to the bytes.
+-- What is handed back in the buffers: the theory's theorems, carried to the bytes.
 use Prim.Native.Nat.{ℕ, _+_, _≤_, _<_}
 use native.Mathlib.Omega.{arith}
 use mathlib.Core.Path.{_≡_, sym, ap, _∙_, subst}
@@ -16,7 +16,7 @@ use Rattle.lists.proofs.Lists.{all-at}
 use Rattle.gametree.proofs.minimax.Bounds.{every-map}
 use Rattle.gametree.proofs.certificates.ReadOff.{ReadOff, fits}
 use Rattle.gametree.proofs.certificates.Flags.{flag-inside, read-bounds}
-use Rattle.gametree.proofs.Theorems.{alphaBeta-leaves, search-decides, domination, domination-count}
+use Rattle.gametree.proofs.Theorems.{alphaBeta-leaves, domination, domination-count}
 use Rattle.frames.specs.Frame.{frames}
 use Rattle.frames.specs.Tree.{tree, valuation}
 use Rattle.frames.specs.Formed.{WellFormed}
@@ -28,14 +28,14 @@ use Rattle.certificate.specs.Marks.{marked, ones}
 use Rattle.verify.specs.Flags.{member}
 use Rattle.frames.specs.Value.{valueOf}
 use Rattle.places.proofs.Buffers.{written-length, written-at}
-use Rattle.certificate.proofs.Marks.{marked-written, searched-within, ones-searched}
+use Rattle.certificate.proofs.Marks.{marked-written, evaluated-within, ones-evaluated}
 use Rattle.alphabeta.specs.Outcome.{reachedLeaves}
 use Rattle.verify.specs.declared.Verdict.the-variants.{Value}
 use Rattle.verify.specs.Check.{verdict}
 use Rattle.verify.proofs.Theorems.{certificate-verdict}
-use Rattle.demands.specs.Calls.{Call, lent, left, leaves}
+use Rattle.demands.specs.Calls.{Buffers, Call, left, leaves}
 use Rattle.demands.specs.Handed.{Marked, CertifiedBy}
-use Rattle.demands.proofs.Views.{view}
+use Rattle.demands.proofs.Views.{HandedBack, view}
 
 -- a flag is at most 3
 two-bits : (x y : Bool) → cond x 1 0 + cond y 2 0 ≤ 3
@@ -44,45 +44,44 @@ two-bits true false = omega arith
 two-bits false true = omega arith
 two-bits false false = omega arith
 
-module _ {t : List ℕ} (c : Call t) where
+module _ {t w : List ℕ} {lent left : Buffers} (handed : HandedBack t w lent left) where
   pub formed : WellFormed t
-  formed = accepted-formed t (view c .accepted)
+  formed = accepted-formed t (handed .accepted)
 
   pub proper : Proper (valuation t) (tree t)
   proper = tree-proper t formed
 
   -- the evaluated leaves are marked 1, and every other node 0
-  pub marks-at : (k : ℕ) → k < frames t → getD (left c .marks) k 0 ≡ mark (among (leaves c)) k
+  pub marks-at : (k : ℕ) → k < frames t → getD (left .marks) k 0 ≡ mark (among w) k
   marks-at k h =
-      ap (λ x. getD x k 0) (view c .marks)
-      ∙ written-at (mark (among (leaves c))) (frames t) k (lent c .marks) h
+      ap (λ x. getD x k 0) (handed .marks) ∙ written-at (mark (among w)) (frames t) k (lent .marks) h
 
-  marked-at : (k : ℕ) → k < frames t → marked (left c .marks) k ≡ among (leaves c) k
+  marked-at : (k : ℕ) → k < frames t → marked (left .marks) k ≡ among w k
   marked-at k h =
-      ap (λ x. marked x k) (view c .marks) ∙ marked-written (among (leaves c)) (frames t) (lent c .marks) k h
+      ap (λ x. marked x k) (handed .marks) ∙ marked-written (among w) (frames t) (lent .marks) k h
 
-  flags-at : (k : ℕ) → k < frames t → getD (left c .flags) k 0 ≡ flag (valuation t) (among (leaves c)) (tree t) k
+  flags-at : (k : ℕ) → k < frames t → getD (left .flags) k 0 ≡ flag (valuation t) (among w) (tree t) k
   flags-at k h =
-      ap (λ x. getD x k 0) (view c .flags)
-      ∙ written-at (flag (valuation t) (among (leaves c)) (tree t)) (frames t) k (lent c .flags) h
+      ap (λ x. getD x k 0) (handed .flags)
+      ∙ written-at (flag (valuation t) (among w) (tree t)) (frames t) k (lent .flags) h
 
-  leaf-marked : (k : ℕ) → among (leaves c) k ≡ true → marked (left c .marks) k ≡ true
+  leaf-marked : (k : ℕ) → among w k ≡ true → marked (left .marks) k ≡ true
   leaf-marked k h =
-      marked-at k (all-at (λ k. k < frames t) (leaves c) (searched-within t formed (view c .searched)) k h) ∙ h
+      marked-at k (all-at (λ k. k < frames t) w (evaluated-within t formed (handed .deciding)) k h) ∙ h
 
   reads : (p : Side)
-      → ReadOff p (known (valuation t) (among (leaves c)) (fill p)) (member p (left c .flags)) true (tree t)
+      → ReadOff p (known (valuation t) (among w) (fill p)) (member p (left .flags)) true (tree t)
   reads p =
-      fits p _ (member p (left c .flags)) true (tree t) (proper .distinct) (λ k i.
+      fits p _ (member p (left .flags)) true (tree t) (proper .distinct) (λ k i.
       ap (inside p) (flags-at k (tree-range t formed 0 (formed .some) k i .1))
-      ∙ flag-inside p (valuation t) (among (leaves c)) (tree t) k)
+      ∙ flag-inside p (valuation t) (among w) (tree t) k)
 
   -- the flags certify the minimax value, by leaves that are marked 1 only
-  pub flags-certify : CertifiedBy t (left c)
+  pub flags-certify : CertifiedBy t left
   flags-certify =
-      let d = search-decides (valuation t) (tree t) proper (view c .searched) in
-      let x = read-bounds Max (valuation t) (among (leaves c)) (tree t) proper d _ (reads Max) in
-      let y = read-bounds Min (valuation t) (among (leaves c)) (tree t) proper d _ (reads Min) in
+      let d = handed .deciding .decided in
+      let x = read-bounds Max (valuation t) (among w) (tree t) proper d _ (reads Max) in
+      let y = read-bounds Min (valuation t) (among w) (tree t) proper d _ (reads Min) in
       record {
         certifies = record { maxTree = x .0; minTree = y .0; maxValue = x .1; minValue = y .1 };
         maxLeaves = every-map _ _ (λ k f h. leaf-marked k (f h)) (tree t) (x .2);
@@ -90,33 +89,34 @@ module _ {t : List ℕ} (c : Call t) where
       }
 
   -- the check of certificates accepts them, and gives the minimax value
-  pub flags-verified : verdict t (left c .flags) ≡ Value (valueOf (minimax (valuation t) (tree t)))
+  pub flags-verified : verdict t (left .flags) ≡ Value (valueOf (minimax (valuation t) (tree t)))
   flags-verified =
-      let handed = flag (valuation t) (among (leaves c)) (tree t) in
-      let h = view c .room .flags in
-      certificate-verdict t (left c .flags) (minimax (valuation t) (tree t)) (record {
-        accepted = view c .accepted;
-        enough = omega (arith, h, ap length (view c .flags), written-length handed (frames t) (lent c .flags) h);
+      let f = flag (valuation t) (among w) (tree t) in
+      let h = handed .room .flags in
+      certificate-verdict t (left .flags) (minimax (valuation t) (tree t)) (record {
+        accepted = handed .accepted;
+        enough = omega (arith, h, ap length (handed .flags), written-length f (frames t) (lent .flags) h);
         inRange = λ i l.
             omega (
               arith,
               flags-at i l,
-              two-bits (solutionOf Max (valuation t) (among (leaves c)) (tree t) i)
-                  (solutionOf Min (valuation t) (among (leaves c)) (tree t) i),
+              two-bits (solutionOf Max (valuation t) (among w) (tree t) i)
+                  (solutionOf Min (valuation t) (among w) (tree t) i),
             );
         certifies = flags-certify .certifies;
       })
 
   -- there are as many marks at 1 as evaluated leaves
-  pub marks-count : length (leaves c) ≡ ones (left c .marks) (frames t)
+  pub marks-count : length w ≡ ones (left .marks) (frames t)
   marks-count =
-      sym (ap (λ x. ones x (frames t)) (view c .marks) ∙ ones-searched t formed (view c .searched) (lent c .marks))
+      sym (ap (λ x. ones x (frames t)) (handed .marks) ∙ ones-evaluated t formed (handed .deciding) (lent .marks))
 
+module _ {t : List ℕ} (c : Call t) where
   -- each leaf marked 1 is one that Baudet's condition reaches
   pub marks-reached : (k : ℕ) → Marked t (left c) k → among (reachedLeaves t) k ≡ true
   marks-reached k m =
-      let leaf = sym (marked-at k (m .node)) ∙ eq-eqb _ _ (m .mark) in
-      let all = domination (valuation t) (tree t) proper (view c .searched) in
+      let leaf = sym (marked-at (view c .handed) k (m .node)) ∙ eq-eqb _ _ (m .mark) in
+      let all = domination (valuation t) (tree t) (proper (view c .handed)) (view c .searched) in
       all-at (λ k. among (reachedLeaves t) k ≡ true) (leaves c)
       (subst (λ v. All (λ k. among v k ≡ true) (leaves c)) (alphaBeta-leaves (valuation t) (tree t)) all) k leaf
 
@@ -124,4 +124,4 @@ module _ {t : List ℕ} (c : Call t) where
   pub count-most : length (leaves c) ≤ length (reachedLeaves t)
   count-most =
       rw (← alphaBeta-leaves (valuation t) (tree t))
-      (domination-count (valuation t) (tree t) proper (view c .searched))
+      (domination-count (valuation t) (tree t) (proper (view c .handed)) (view c .searched))

@@ -21,7 +21,7 @@ use Rattle.certificate.specs.Marks.{mark}
 use Rattle.places.specs.Buffer.{tabulate, written}
 use Rattle.certificate.specs.Search.{findings}
 use Rattle.places.proofs.Buffers.{length-tabulate, tabulate-same}
-use Rattle.certificate.proofs.Marks.{searched-within}
+use Rattle.certificate.proofs.Marks.{evaluated-within}
 use Rattle.demands.specs.Calls.{Call, found, lent, left, leaves}
 use Rattle.demands.specs.Handed.{AgreeOnMarked, Alike}
 use Rattle.demands.proofs.Views.{view}
@@ -35,18 +35,18 @@ take-written f n b = take-at (tabulate f n) (drop n b) n (length-tabulate f n)
 module _ {t u : List ℕ} (c : Call t) (d : Call u) (h : SameShape t u) (a : AgreeOnMarked t u (left c)) where
   -- the trees are one, and the scores agree on the evaluated leaves
   pub one-tree : tree t ≡ tree u
-  one-tree = same-tree t u h (formed c) (formed d)
+  one-tree = same-tree t u h (formed (view c .handed)) (formed (view d .handed))
 
   pub agreed-scores : All (λ k. valuation t k ≡ valuation u k) (leaves c)
   agreed-scores =
       all-zip _ _ _ (λ k l m.
-      same-score t u h k l (a k (record { node = l; mark = marks-at c k l ∙ ap (λ b. cond b 1 0) m })))
-      (leaves c) (searched-within t (formed c) (view c .searched)) (all-among (leaves c))
+      same-score t u h k l (a k (record { node = l; mark = marks-at (view c .handed) k l ∙ ap (λ b. cond b 1 0) m })))
+      (leaves c) (evaluated-within t (formed (view c .handed)) (view c .handed .deciding)) (all-among (leaves c))
 
   agreed : SameResults (valuation t) (valuation u) (tree t) (leaves c)
   agreed =
-      local-results (valuation t) (valuation u) (tree t) (proper c)
-      (subst (Proper (valuation u)) (sym one-tree) (proper d)) (view c .searched) agreed-scores
+      local-results (valuation t) (valuation u) (tree t) (proper (view c .handed))
+      (subst (Proper (valuation u)) (sym one-tree) (proper (view d .handed))) (view c .searched) agreed-scores
 
   module _ (e : leaves c ≡ leaves d) where
     -- what is to be found is the same
@@ -71,15 +71,15 @@ module _ {t u : List ℕ} (c : Call t) (d : Call u) (h : SameShape t u) (a : Agr
     same-left =
         record {
           marks =
-              ap (take (frames t)) (view c .marks)
+              ap (take (frames t)) (view c .handed .marks)
               ∙ take-written (mark (among (leaves c))) (frames t) (lent c .marks)
               ∙ ap₂ (λ w n. tabulate (mark (among w)) n) e (h .sameFrames)
-              ∙ sym (ap₂ take (h .sameFrames) (view d .marks)
+              ∙ sym (ap₂ take (h .sameFrames) (view d .handed .marks)
               ∙ take-written (mark (among (leaves d))) (frames u) (lent d .marks));
           flags =
-              ap (take (frames t)) (view c .flags)
+              ap (take (frames t)) (view c .handed .flags)
               ∙ take-written _ (frames t) (lent c .flags)
               ∙ tabulate-same _ _ (frames t) (λ k l. flags-agree k)
               ∙ ap (tabulate _) (h .sameFrames)
-              ∙ sym (ap₂ take (h .sameFrames) (view d .flags) ∙ take-written _ (frames u) (lent d .flags));
+              ∙ sym (ap₂ take (h .sameFrames) (view d .handed .flags) ∙ take-written _ (frames u) (lent d .flags));
         }

@@ -5,13 +5,15 @@ use mathlib.Core.Option.{none}
 use mathlib.Core.List.{List, _∷_}
 use lib.ListN.{length}
 use Rattle.lists.proofs.Choice.{clash}
-use Rattle.gametree.proofs.Searches.{Searched, byMtd}
+use Rattle.gametree.proofs.Searches.{Searched, byMtd, Deciding}
+use Rattle.gametree.proofs.Theorems.{search-deciding}
 use Rattle.frames.specs.declared.Rejection.{Rejection}
 use Rattle.frames.specs.Frame.{frames}
 use Rattle.frames.specs.Tree.{tree, valuation}
 use Rattle.frames.specs.Check.{rejection, Accepted}
 use Rattle.frames.proofs.Stated.{both-passed}
 use Rattle.frames.proofs.Acceptance.{accepted-formed}
+use Rattle.frames.proofs.Proper.{tree-proper}
 use Rattle.certificate.specs.declared.Findings.{Findings}
 use Rattle.certificate.specs.Search.{searchRejection, marksOf, flagsOf, findings}
 use Rattle.frames.specs.Check.{check10}
@@ -90,15 +92,21 @@ module _ {t : List ℕ} {r : Rejection} where
       (sssSearch t (c .lent .marks) (c .lent .flags)) r (c .left)
   sss-refusal c = refusal-of sss-apart _ _ _ _ (ap (λ x. x .search) (c .outcome))
 
--- a call that gives a result: its table is accepted, its buffers have room, its leaves are those of a search of the
--- theory, and what it finds and leaves follows from them
-pub record View {t : List ℕ} (c : Call t) : Type 0 where
+-- the leaves w of an accepted table were evaluated: they decide its value and its move, and what was left in the
+-- buffers, which have room, follows from them
+pub record HandedBack (t w : List ℕ) (lent left : Buffers) : Type 0 where
   pub accepted : Accepted t
-  pub room : Room t (lent c)
+  pub room : Room t lent
+  pub deciding : Deciding (valuation t) (tree t) w
+  pub marks : left .marks ≡ marksOf w t (lent .marks)
+  pub flags : left .flags ≡ flagsOf w t (lent .flags)
+
+-- a call that gives a result: its leaves are those of a search of the theory, and what it finds and hands back follows
+-- from them
+pub record View {t : List ℕ} (c : Call t) : Type 0 where
+  pub handed : HandedBack t (leaves c) (lent c) (left c)
   pub searched : Searched (valuation t) (tree t) (leaves c)
   pub results : found c ≡ findings (leaves c) t
-  pub marks : left c .marks ≡ marksOf (leaves c) t (lent c .marks)
-  pub flags : left c .flags ≡ flagsOf (leaves c) t (lent c .flags)
 
 -- passed questions: an accepted table, and room
 module _ (t : List ℕ) (b : Buffers) where
@@ -112,40 +120,58 @@ module _ (t : List ℕ) (b : Buffers) where
       let p = passed-rooms t n (length (b .marks)) (length (b .flags)) e in
       (both-passed (rejection t) (check10 (frames t) (n ∷ lengths b)) e .0, record { marks = p .1 .1; flags = p .1 .2 })
 
+-- the leaves of a search of an accepted table decide
+decides : (t : List ℕ) → Accepted t → {w : List ℕ} → Searched (valuation t) (tree t) w
+    → Deciding (valuation t) (tree t) w
+decides t a s = search-deciding (valuation t) (tree t) (tree-proper t (accepted-formed t a)) s
+
 -- each call that gives a result is such a call
 pub view : {t : List ℕ} (c : Call t) → View c
 view {t} (alphaBeta c) =
     let x = alphaBeta-result c in
     let p = both-room t (c .lent) (x .passed) in
     record {
-      accepted = p .0;
-      room = p .1;
+      handed =
+          record {
+            accepted = p .0;
+            room = p .1;
+            deciding = decides t (p .0) (reached.searched t);
+            marks = x .marks;
+            flags = x .flags;
+          };
       searched = reached.searched t;
       results = x .found;
-      marks = x .marks;
-      flags = x .flags;
     }
 view {t} (mtd c) =
     let x = mtd-result c in
     let p = both-room t (c .lent) (x .passed) in
     record {
-      accepted = p .0;
-      room = p .1;
+      handed =
+          record {
+            accepted = p .0;
+            room = p .1;
+            deciding = decides t (p .0) byMtd;
+            marks = x .marks;
+            flags = x .flags;
+          };
       searched = byMtd;
       results = ap (λ f. f .findings) (x .found);
-      marks = x .marks;
-      flags = x .flags;
     }
 view {t} (sss c) =
     let x = sss-result c in
     let n = length (c .lentList) in
     let p = all-room t (c .lent) n
     (both-passed (searchRejection t (n ∷ lengths (c .lent))) (check15 t) (x .passed) .0) in
+    let s = searched t (accepted-formed t (p .0)) in
     record {
-      accepted = p .0;
-      room = p .1;
-      searched = searched t (accepted-formed t (p .0));
+      handed =
+          record {
+            accepted = p .0;
+            room = p .1;
+            deciding = decides t (p .0) s;
+            marks = x .marks;
+            flags = x .flags;
+          };
+      searched = s;
       results = ap (λ f. f .findings) (x .found);
-      marks = x .marks;
-      flags = x .flags;
     }

@@ -23,7 +23,7 @@ use Rattle.gametree.specs.Certificate.{Smallest}
 use Rattle.gametree.proofs.certificates.Flags.{FlagsCertify}
 use Rattle.gametree.proofs.certificates.Counting.{members, required}
 use Rattle.gametree.specs.Move.{rootMove, boundMove}
-use Rattle.gametree.proofs.Searches.{Searched, byAlphaBeta, byMtd, bySss, SameResults}
+use Rattle.gametree.proofs.Searches.{Searched, byAlphaBeta, byMtd, bySss, Deciding, SameResults}
 use Rattle.gametree.specs.results.ClosedForm.{unrivalled}
 use Rattle.lists.proofs.Lists.{all-map, all-among, all-at, once-length, sub-all, sub-once}
 use Rattle.gametree.proofs.minimax.Nodes.{leaves-once}
@@ -31,7 +31,7 @@ use Rattle.gametree.proofs.minimax.Bounds.{minimax-score, minimaxKids-b
 use Rattle.gametree.proofs.minimax.Bounds.{known-local}
 use Rattle.gametree.proofs.alphabeta.Window.{alphaBeta-value, alphaBeta-evaluated, reached-ordered}
 use Rattle.gametree.proofs.alphabeta.Window.{alphaBeta-local}
-use Rattle.gametree.proofs.alphabeta.Window.{alphaBeta-decided}
+use Rattle.gametree.proofs.alphabeta.Window.{covered-decided}
 use Rattle.gametree.proofs.mtd.Value.{mtd-right}
 use Rattle.gametree.proofs.mtd.Marks.{mtd-marks}
 use Rattle.gametree.proofs.mtd.Passes.{passes-few}
@@ -48,7 +48,7 @@ use Rattle.gametree.proofs.certificates.Solution.{solution-bound, certi
 use Rattle.gametree.proofs.certificates.Flags.{decided-certify}
 use Rattle.gametree.proofs.minimax.Counts.{once-count}
 use Rattle.gametree.proofs.certificates.SmallestPair.{smallest≤, smallest-found}
-use Rattle.gametree.proofs.minimax.Moves.{alphaBeta-move, boundMove-local}
+use Rattle.gametree.proofs.minimax.Moves.{covered-move, boundMove-local}
 use Rattle.gametree.proofs.mtd.Moves.{mtd-decided, mtd-move}
 use Rattle.gametree.proofs.results.Domination.{mtd-reaches}
 use Rattle.gametree.proofs.results.ClosedForm.{mtd-unrivalled}
@@ -202,7 +202,7 @@ module _ (ν : ℕ → ℕ) (t : Tree) (r : Proper ν t) where
 
   -- the bounds of the leaves that a search evaluates meet at the minimax value
   pub search-decides : {w : List ℕ} → Searched ν t w → Decided ν (among w) t
-  search-decides byAlphaBeta = alphaBeta-decided ν t (r .scored)
+  search-decides byAlphaBeta = covered-decided ν _ t (r .scored) (all-among (fullWindow ν t .evaluated))
   search-decides byMtd = mtd-decided ν t r
   search-decides bySss = as-mtd (λ w. Decided ν (among w) t) (mtd-decided ν t r)
 
@@ -212,7 +212,7 @@ module _ (ν : ℕ → ℕ) (t : Tree) (r : Proper ν t) where
 
   -- the move: the first child of the root that they prove to have the root's value is the first that has it
   pub search-move : {w : List ℕ} → Searched ν t w → boundMove ν (among w) t ≡ rootMove ν t
-  search-move byAlphaBeta = alphaBeta-move ν t (r .scored)
+  search-move byAlphaBeta = covered-move ν _ t (r .scored) (all-among (fullWindow ν t .evaluated))
   search-move byMtd = mtd-move ν t r
   search-move bySss = as-mtd (λ w. boundMove ν (among w) t ≡ rootMove ν t) (mtd-move ν t r)
 
@@ -234,15 +234,33 @@ module _ (ν : ℕ → ℕ) (t : Tree) (r : Proper ν t) where
   pub domination-count : {w : List ℕ} → Searched ν t w → length w ≤ length (fullWindow ν t .evaluated)
   domination-count {w} s = once-length w (fullWindow ν t .evaluated) (search-once s) (domination s)
 
-  -- every number that is listed is a leaf of the tree
-  pub search-leaves : {w : List ℕ} → Searched ν t w → All (λ k. among (leaves t) k ≡ true) w
-  search-leaves {w} s =
-      let a = sub-all _ (alphaBeta-ordered ν t) (all-among (leaves t)) in
-      all-map _ _ (λ k e. all-at (λ k. among (leaves t) k ≡ true) (fullWindow ν t .evaluated) a k e) w (domination s)
+  -- alpha-beta's leaves are leaves of the tree
+  alphaBeta-own : All (λ k. among (leaves t) k ≡ true) (fullWindow ν t .evaluated)
+  alphaBeta-own = sub-all _ (alphaBeta-ordered ν t) (all-among (leaves t))
 
-  -- so the count of a search, the length of its list, is the number of leaves that are marked as evaluated
-  pub search-count : {w : List ℕ} → Searched ν t w → leafCount (among w) t ≡ length w
-  search-count {w} s = once-count w t (r .distinct) (search-once s) (search-leaves s)
+  -- so a search lists leaves of the tree, none twice, and they decide its value and its move
+  pub search-deciding : {w : List ℕ} → Searched ν t w → Deciding ν t w
+  search-deciding {w} s =
+      record {
+        own = all-map _ _ (all-at _ (fullWindow ν t .evaluated) alphaBeta-own) w (domination s);
+        once = search-once s;
+        decided = search-decides s;
+        move = search-move s;
+      }
+
+  -- all leaves together decide them too, as alpha-beta's are among them
+  pub all-deciding : Deciding ν t (leaves t)
+  all-deciding =
+      record {
+        own = all-among (leaves t);
+        once = leaves-once t (r .distinct);
+        decided = covered-decided ν _ t (r .scored) alphaBeta-own;
+        move = covered-move ν _ t (r .scored) alphaBeta-own;
+      }
+
+  -- the length of such a list is the number of leaves that are marked as evaluated
+  pub deciding-count : {w : List ℕ} → Deciding ν t w → leafCount (among w) t ≡ length w
+  deciding-count {w} d = once-count w t (r .distinct) (d .once) (d .own)
 
   -- no search evaluates fewer leaves than a smallest certificate has
   pub search-smallest : (g h : ℕ → Bool) → Smallest ν t g h → {w : List ℕ} → Searched ν t w

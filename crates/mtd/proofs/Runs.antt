@@ -15,7 +15,7 @@ use Rattle.lists.proofs.Choice.{cond-cases}
 use Rattle.gametree.specs.engine.MemoArrays.{Bits, readMemo, readMemoKids}
 use Rattle.gametree.proofs.mtd.Sound.{Kept, Sound, sound}
 use Rattle.gametree.proofs.mtd.Value.{kept-lower, fresh-kept, fresh-memoHigh}
-use Rattle.gametree.proofs.Theorems.{search-count}
+use Rattle.gametree.proofs.Theorems.{search-deciding, deciding-count}
 use Rattle.frames.specs.Frame.{maxNodes, frames}
 use Rattle.frames.specs.Place.{rootPlace}
 use Rattle.frames.specs.Tree.{treeAt, tree, valuation}
@@ -63,7 +63,8 @@ mtd-few t wf =
     let w = mtd (valuation t) (tree t) .evaluated in
     omega (
       arith,
-      search-count (valuation t) (tree t) (tree-proper t wf) byMtd,
+      deciding-count (valuation t) (tree t) (tree-proper t wf)
+          (search-deciding (valuation t) (tree t) (tree-proper t wf) byMtd),
       count-size (among w) (tree t),
       tree-size t wf,
       wf .few,

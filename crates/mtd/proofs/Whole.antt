@@ -13,7 +13,7 @@ use Rattle.gametree.specs.Mtd.{mtd}
 use Rattle.gametree.specs.Move.{rootMove, boundMove}
 use Rattle.gametree.specs.Certificate.{flag}
 use Rattle.gametree.proofs.Searches.{byMtd}
-use Rattle.gametree.proofs.Theorems.{value-score, mtd-minimax}
+use Rattle.gametree.proofs.Theorems.{value-score, mtd-minimax, search-deciding}
 use Rattle.frames.specs.Frame.{frames}
 use Rattle.frames.specs.Tree.{tree, valuation}
 use Rattle.frames.specs.Formed.{WellFormed}
@@ -22,16 +22,10 @@ use Rattle.places.specs.Buffer.{written}
 use Rattle.certificate.specs.Marks.{marked, markAll}
 use Rattle.frames.specs.Value.{valueOf}
 use Rattle.certificate.specs.Search.{marksOf, flagsOf}
-use Rattle.places.proofs.Buffers.{written-at}
 use Rattle.certificate.proofs.Outcomes.{search-concludes}
 use Rattle.mtd.specs.declared.Settled.{Settled}
 use Rattle.mtd.specs.engine.Memory.{memory, Fresh, settledOf}
 use Rattle.mtd.specs.Outcome.{mtdLeaves, mtdFound}
-
--- after the clearing none of the n nodes has a mark
-pub cleared-unmarked : (n : ℕ) (e : List ℕ) {e₁ : List ℕ} → e₁ ≡ written (λ k. 0) n e → (k : ℕ) → k < n
-    → marked e₁ k ≡ false
-cleared-unmarked n e p k l = ap (λ x. marked x k) p ∙ ap (λ x. eqb x 1) (written-at (λ k. 0) n k e l)
 
 module _ (t : List ℕ) (wf : WellFormed t) where
   -- where no node has a mark, the greatest highs and flags of zeros are the memory to start with
@@ -85,6 +79,7 @@ module _ (t : List ℕ) (wf : WellFormed t) where
       → (record { findings = record { value = v; «root_move» = m; leaves = r .leaves }; passes = r .passes }
       ≡ mtdFound t)
       × ((e₃ ≡ marksOf (mtdLeaves t) t e) × (c₂ ≡ flagsOf (mtdLeaves t) t c))
-  run-gives e e₁ e₂ e₃ c c₂ r m v cleared d marks move flags kept value =
-      let b = search-concludes t wf (mtdLeaves t) byMtd e e₁ e₂ e₃ c c₂ m cleared marks move flags kept in
-      (run-finds r d v m value (b .0), b .1)
+  run-gives e e₁ e₂ e₃ c c₂ r m v cleared settled marks move flags kept value =
+      let d = search-deciding (valuation t) (tree t) (tree-proper t wf) byMtd in
+      let b = search-concludes t wf (mtdLeaves t) d e e₁ e₂ e₃ c c₂ m cleared marks move flags kept in
+      (run-finds r settled v m value (b .0), b .1)

@@ -13,8 +13,10 @@ use Rattle.frames.specs.Formed.{ChildOf}
 use Rattle.frames.proofs.Next.{child-later, child-within}
 use Rattle.frames.proofs.Nodes.{in-own}
 use Rattle.alphabeta.proofs.Pass.{pass-few, pass-ends, pass-stops, pass-goes-on}
-use Rattle.alphabeta.proofs.Unmarked.{all-wait, younger-wait}
-use Rattle.alphabeta.proofs.Visits.{Turn, leaf-gives, inner-owes, ready-depth, ready-child}
+use Rattle.certificate.proofs.Unmarked.{all-wait}
+use Rattle.certificate.proofs.Searchable.{searchable-depth, searchable-child}
+use Rattle.alphabeta.proofs.Evaluated.{visit-waits}
+use Rattle.alphabeta.proofs.Visits.{Turn, leaf-gives, inner-owes}
 use Rattle.alphabeta.proofs.Counts.{evaluated-few, size-few}
 use Rattle.alphabeta.proofs.alpha_beta.Reads as own
 use Rattle.alphabeta.proofs.alpha_beta.Kinds as own-kinds
@@ -89,8 +91,8 @@ module _ (t : ℕ) where
         leaf = omega arith;
         room = omega (arith, a .pre .1 .inside, a .pre .1 .marks);
         unmarked = a .pre .1 .unmarked (a .args .node) (in-own _ (a .pre .1 .formed) _);
-        depth = ready-depth _ _ _ _ (a .pre .1) .0;
-        shallow = ready-depth _ _ _ _ (a .pre .1) .1;
+        depth = searchable-depth _ _ _ _ (a .pre .1) .0;
+        shallow = searchable-depth _ _ _ _ (a .pre .1) .1;
       }
 
   same-length : lts.Need-same-length (calls t) (at t) own.Post Inv μ-loop
@@ -130,14 +132,14 @@ module _ (t : ℕ) where
   child-place-requires : lts.Need-child-place-requires (calls t) (at t) own.Post Inv μ-loop
   child-place-requires c κs =
       let r = start c .pre .1 in
-      (child-within _ (r .formed) (r .inside) (child-of c), ready-depth _ _ _ _ r .1)
+      (child-within _ (r .formed) (r .inside) (child-of c), searchable-depth _ _ _ _ r .1)
 
   alpha-beta-requires : lts.Need-alpha-beta-requires (calls t) (at t) own.Post Inv μ-loop
   alpha-beta-requires c κs =
       let l = c .before .before in
       let a = start l in (
         omega (arith, child-later _ (a .pre .1 .formed) (a .pre .1 .inside) (child-of l)),
-        ready-child _ _ _ _ (a .pre .1) _ _ _ (child-of l) (l .loop .inv .kept)
+        searchable-child _ _ _ _ (a .pre .1) _ _ _ (child-of l) (l .loop .inv .kept)
             (l .loop .inv .waiting _ (omega arith) (child-of l)) (c .before .child-place .ensures),
       )
 
@@ -177,7 +179,7 @@ module _ (t : ℕ) where
         to = omega arith;
         kept = f .alpha-beta .kept .1 .0 ∙ l .loop .inv .kept;
         waiting =
-            younger-wait _ (a .pre .1 .formed) _ (a .pre .1 .inside) _ _ _ _ _ _ (child-of l) (l .loop .inv .waiting)
+            visit-waits _ (a .pre .1 .formed) _ (a .pre .1 .inside) _ _ _ _ _ _ (child-of l) (l .loop .inv .waiting)
             (f .alpha-beta .ensures .1);
         owes =
             pass-goes-on _ _ _ _ _ _ _ _ _ _ _ _ _ (l .loop .inv .owes) (f .alpha-beta .ensures) _ _ (omega arith)

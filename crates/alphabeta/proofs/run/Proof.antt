@@ -1,12 +1,11 @@
 -- `alphabeta::run` meets its contract: the steps of a search, in order.
 use native.Mathlib.Omega.{arith}
-use mathlib.Core.Path.{sym, ap, _∙_}
+use mathlib.Core.Path.{ap, _∙_}
 use mir.Syntax.{w16}
 use mir.ValLaws.{toZ-ofZ}
 use borrow.Author.Needs.{needs}
-use Rattle.frames.proofs.Places.{place-root}
 use Rattle.places.specs.Buffer.{written}
-use Rattle.alphabeta.proofs.Unmarked.{cleared-unmarked}
+use Rattle.certificate.proofs.Searchable.{searchable-root}
 use Rattle.alphabeta.proofs.Whole.{run-small, run-gives}
 use Rattle.alphabeta.proofs.run.Statement.{statement}
 use Rattle.alphabeta.proofs.run.Tie as tie
@@ -25,13 +24,8 @@ alpha-beta-requires : tie.Need-alpha-beta-requires
 alpha-beta-requires c κs =
     let k = c .before .before .before in
     let a = k .before .before .before .before .before .before in
-    record {
-      formed = a .pre .0;
-      inside = a .pre .0 .some;
-      placed = sym (place-root _);
-      marks = omega (arith, k .clear .kept .0, a .pre .1);
-      unmarked = cleared-unmarked _ (a .pre .0) _ _ _ (k .clear .ensures) (k .before .frame-count .ensures);
-    }
+    searchable-root _ (a .pre .0) _ _ _ (k .clear .ensures) (k .before .frame-count .ensures)
+    (omega (arith, k .clear .kept .0, a .pre .1))
 
 conclude-requires : tie.Need-conclude-requires
 conclude-requires c κs = search needs

@@ -1,30 +1,7 @@
--- What the recursive engine asks, and what it hands back.
-use Prim.Native.Nat.{ℕ, _≤_, _<_}
-use mathlib.Core.Path.{_≡_}
-use mathlib.Core.Bool.{false}
-use mathlib.Core.List.{List}
+-- What the recursive engine hands back.
 use lib.ListN.{length}
-use Rattle.gametree.specs.declared.Place.{Place}
-use Rattle.gametree.specs.Tree.{Tree, In}
 use Rattle.gametree.specs.AlphaBeta.{Found}
-use Rattle.frames.specs.Frame.{frames}
-use Rattle.frames.specs.Place.{placeOf}
-use Rattle.frames.specs.Tree.{treeAt}
-use Rattle.frames.specs.Formed.{WellFormed}
-use Rattle.certificate.specs.Marks.{marked}
 use Rattle.alphabeta.specs.declared.Visited.{Visited}
-
--- no node of the tree is marked
-abbrev pub Unmarked : List ℕ → Tree → Type 0
-Unmarked e T = (k : ℕ) → In k T → marked e k ≡ false
-
--- a well-formed table, a node of it with its place, an entry for the mark of each node, and no mark in the node's tree
-pub record Searchable (t e : List ℕ) (i : ℕ) (p : Place) : Type 0 where
-  pub formed : WellFormed t
-  pub inside : i < frames t
-  pub placed : p ≡ placeOf t i
-  pub marks : frames t ≤ length e
-  pub unmarked : Unmarked e (treeAt t i)
 
 -- the value and the number of evaluated leaves of the rule's result
 abbrev pub visitedOf : Found → Visited

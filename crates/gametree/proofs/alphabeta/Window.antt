@@ -7,14 +7,14 @@ use mathlib.Core.Bool.{Bool, true, false, cond}
 use mathlib.Core.List.{List, [], _∷_, _++_, append-nil}
 use lib.Dec.{ltb}
 use borrow.Author.Tests.{ltb-true, ltb-false, lt-ltb, le-ltb}
-use Rattle.lists.specs.Lists.{All, among, Subsequence, end, skip, keep}
+use Rattle.lists.specs.Lists.{All, Subsequence, end, skip, keep}
 use Rattle.gametree.specs.Tree.{Side, Max, Min, Tree, leaf, inner, Kids, last, _then_, better, minimax, least}
 use Rattle.gametree.specs.Tree.{greatest, minimaxKids, leaves, leavesKids, Scored}
 use Rattle.gametree.specs.Bounds.{known, Decided}
 use Rattle.gametree.specs.AlphaBeta.{raise, lower, reached, reachedKids, clamp, Found, after, onward, alphaBeta}
-use Rattle.gametree.specs.AlphaBeta.{alphaBetaKids, fullWindow}
+use Rattle.gametree.specs.AlphaBeta.{alphaBetaKids}
 use Rattle.lists.proofs.Choice.{true-not-false}
-use Rattle.lists.proofs.Lists.{all-left, all-right, all-map, all-among}
+use Rattle.lists.proofs.Lists.{all-left, all-right, all-map}
 use Rattle.gametree.proofs.minimax.Bounds.{minimax-score}
 
 -- a closed window stays closed
@@ -206,12 +206,10 @@ pub known-exact : (ν : ℕ → ℕ) (E : ℕ → Bool) (α β x : ℕ) (t : Tre
     → minimax (known ν E x) t ≡ minimax ν t
 known-exact ν E α β x t c h k = let e = known-clamp ν E α β x t (omega arith) c in omega arith
 
--- with the full window they are the value
-pub alphaBeta-decided : (ν : ℕ → ℕ) (t : Tree) → Scored ν t → Decided ν (among (fullWindow ν t .evaluated)) t
-alphaBeta-decided ν t h =
-    let E = among (fullWindow ν t .evaluated) in
+-- with the full window they are the value, whatever other leaves are known
+pub covered-decided : (ν : ℕ → ℕ) (E : ℕ → Bool) (t : Tree) → Scored ν t → Covers ν E least greatest t → Decided ν E t
+covered-decided ν E t h c =
     let s = minimax-score ν t h in
-    let c = all-among (fullWindow ν t .evaluated) in
     record {
       lowIs = known-exact ν E least greatest least t c (s .0) (s .1);
       highIs = known-exact ν E least greatest greatest t c (s .0) (s .1);

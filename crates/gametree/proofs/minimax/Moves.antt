@@ -10,13 +10,12 @@ use Rattle.lists.specs.Lists.{All, among}
 use Rattle.gametree.specs.Tree.{Side, Max, Min, Tree, leaf, inner, Kids, last, _then_, least, greatest, minimax}
 use Rattle.gametree.specs.Tree.{minimaxKids, number, Scored, ScoredKids}
 use Rattle.gametree.specs.Bounds.{known, Decided}
-use Rattle.gametree.specs.AlphaBeta.{raise, lower, clamp, alphaBeta, alphaBetaKids, fullWindow}
+use Rattle.gametree.specs.AlphaBeta.{raise, lower, clamp, alphaBeta, alphaBetaKids}
 use Rattle.gametree.specs.Certificate.{worst}
 use Rattle.gametree.specs.Move.{firstWith, rootMove, boundMove}
 use Rattle.gametree.proofs.minimax.Bounds.{minimax-score, low≤, ≤high, known-local}
-use Rattle.lists.proofs.Lists.{all-among}
 use Rattle.gametree.proofs.alphabeta.Window.{alphaBeta-value, onward-first, onward-rest, known-exact}
-use Rattle.gametree.proofs.alphabeta.Window.{alphaBeta-decided}
+use Rattle.gametree.proofs.alphabeta.Window.{Covers, covered-decided}
 use Rattle.gametree.proofs.certificates.Solution.{Under, under-refl, under-both}
 
 -- of each child up to the first that has the value v under ν: if it has it under ν, it has it under μ
@@ -89,15 +88,14 @@ alphaBeta-shown ν E p α β v x (t then ts) h k u c =
           alphaBeta-shown ν E p a b v x ts (i .0) (i .1) (w .1) (onward-rest (λ n. E n ≡ true) (ltb a b) r q l c),
     )
 
--- so the move by the bounds of alpha-beta's leaves is the move
-pub alphaBeta-move : (ν : ℕ → ℕ) (t : Tree) → Scored ν t
-    → boundMove ν (among (fullWindow ν t .evaluated)) t ≡ rootMove ν t
-alphaBeta-move ν (leaf n) h = refl
-alphaBeta-move ν (inner n p ks) h =
-    let t = inner n p ks in
-    let v = minimax-score ν t h in
-    move-same ν _ n p ks h (alphaBeta-decided ν t h)
-    (alphaBeta-shown ν _ p least greatest _ _ ks (v .0) (v .1) (under-refl p _) (all-among (fullWindow ν t .evaluated)))
+-- so the move by the bounds of alpha-beta's leaves, and of any others with them, is the move
+pub covered-move : (ν : ℕ → ℕ) (E : ℕ → Bool) (t : Tree) → Scored ν t → Covers ν E least greatest t
+    → boundMove ν E t ≡ rootMove ν t
+covered-move ν E (leaf n) h c = refl
+covered-move ν E (inner n p ks) h c =
+    let v = minimax-score ν (inner n p ks) h in
+    move-same ν E n p ks h (covered-decided ν E (inner n p ks) h c)
+    (alphaBeta-shown ν E p least greatest _ _ ks (v .0) (v .1) (under-refl p _) c)
 
 -- the move by the bounds depends only on the scores of the evaluated leaves
 pub boundMove-local : (ν μ : ℕ → ℕ) (w : List ℕ) → All (λ k. ν k ≡ μ k) w → (t : Tree)

@@ -61,7 +61,7 @@ out-hasKids p ks h = is-false (hasKids p ks) (λ e. h (hasKids-in p ks e))
 
 -- the leaves of a tree are nodes of it
 mutual
-  leaves-in : (t : Tree) → All (λ k. In k t) (leaves t)
+  pub leaves-in : (t : Tree) → All (λ k. In k t) (leaves t)
   leaves-in (leaf n) = (refl, tt)
   leaves-in (inner n s ks) = all-map _ _ (λ k i. inr i) (leavesKids ks) (leavesKids-in ks)
 

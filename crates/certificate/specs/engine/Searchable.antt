@@ -1,0 +1,25 @@
+-- What an engine asks that searches the tree of a node from the node down.
+use Prim.Native.Nat.{ℕ, _≤_, _<_}
+use mathlib.Core.Path.{_≡_}
+use mathlib.Core.Bool.{false}
+use mathlib.Core.List.{List}
+use lib.ListN.{length}
+use Rattle.gametree.specs.declared.Place.{Place}
+use Rattle.gametree.specs.Tree.{Tree, In}
+use Rattle.frames.specs.Frame.{frames}
+use Rattle.frames.specs.Place.{placeOf}
+use Rattle.frames.specs.Tree.{treeAt}
+use Rattle.frames.specs.Formed.{WellFormed}
+use Rattle.certificate.specs.Marks.{marked}
+
+-- no node of the tree is marked
+abbrev pub Unmarked : List ℕ → Tree → Type 0
+Unmarked e T = (k : ℕ) → In k T → marked e k ≡ false
+
+-- a well-formed table, a node of it with its place, an entry for the mark of each node, and no mark in the node's tree
+pub record Searchable (t e : List ℕ) (i : ℕ) (p : Place) : Type 0 where
+  pub formed : WellFormed t
+  pub inside : i < frames t
+  pub placed : p ≡ placeOf t i
+  pub marks : frames t ≤ length e
+  pub unmarked : Unmarked e (treeAt t i)
