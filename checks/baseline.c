@@ -180,6 +180,34 @@ struct answer c_alphabeta(const uint8_t *table, size_t length, uint8_t *marks, s
     return (struct answer){ .value = value, .root_move = move, .leaves = v.leaves };
 }
 
+/* ---- the plain engine */
+
+static int min_turn(const uint8_t *table, uint8_t *marks, int k);
+
+static int max_turn(const uint8_t *table, uint8_t *marks, int k) {
+    int count = child_count(table, k), first = first_child(table, k), best = LEAST;
+    if (count == 0) return evaluate(table, marks, k);
+    for (int c = first; c < first + count; c++) best = greater(best, min_turn(table, marks, c));
+    return best;
+}
+
+static int min_turn(const uint8_t *table, uint8_t *marks, int k) {
+    int count = child_count(table, k), first = first_child(table, k), best = GREATEST;
+    if (count == 0) return evaluate(table, marks, k);
+    for (int c = first; c < first + count; c++) best = lesser(best, max_turn(table, marks, c));
+    return best;
+}
+
+struct answer c_plain(const uint8_t *table, size_t length, uint8_t *marks, size_t marks_room, uint8_t *proof,
+                      size_t proof_room) {
+    struct answer asked = ask(table, length, marks_room, proof_room);
+    if (asked.refused) return asked;
+    memset(marks, 0, asked.count);
+    int value = max_turn(table, marks, 0);
+    int move = conclude(table, asked.count, marks, proof);
+    return (struct answer){ .value = value, .root_move = move };
+}
+
 /* ---- MTD */
 
 struct passes {

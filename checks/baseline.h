@@ -7,7 +7,7 @@
 enum { FRAME = 6, NODES = 4096, TABLE_BYTES = FRAME * NODES, LINE = 13, FILE_BYTES = LINE * NODES, TEXT_BYTES = 256 };
 
 /* `refused` is 0 for a result; else the number of the question that got a "no", with its place. What a call does not
-   give is 0. */
+   give is 0; the plain engine gives no count. */
 struct answer {
     uint8_t refused;
     int16_t value;
@@ -35,7 +35,7 @@ typedef struct text report_call(const uint8_t *file, size_t length);
    each step. */
 read_call c_read;
 check_call c_check;
-search_call c_alphabeta, c_mtd, c_sss, c_sss_list;
+search_call c_alphabeta, c_plain, c_mtd, c_sss, c_sss_list;
 verify_call c_verify;
 report_call c_report;
 #endif

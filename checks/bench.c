@@ -15,24 +15,25 @@
 
 read_call rattle_read;
 check_call rattle_check;
-search_call rattle_alphabeta, rattle_mtd, rattle_sss;
+search_call rattle_alphabeta, rattle_plain, rattle_mtd, rattle_sss;
 verify_call rattle_verify;
 report_call rattle_report;
 
-enum call { READ, CHECK, ALPHABETA, MTD, SSS, VERIFY, REPORT, CALLS };
+enum call { READ, CHECK, ALPHABETA, PLAIN, MTD, SSS, VERIFY, REPORT, CALLS };
 
-static const char *const call_names[] = { "read", "check", "alphabeta", "mtd", "sss", "verify", "report" };
+static const char *const call_names[] = { "read", "check", "alphabeta", "plain", "mtd", "sss", "verify", "report" };
 
 static const struct side {
     const char *name;
     read_call *read;
     check_call *check;
-    search_call *searches[3];
+    search_call *searches[4];
     verify_call *verify;
     report_call *report;
 } sides[] = {
-    { "rattle", rattle_read, rattle_check, { rattle_alphabeta, rattle_mtd, rattle_sss }, rattle_verify, rattle_report },
-    { "c", c_read, c_check, { c_alphabeta, c_mtd, c_sss }, c_verify, c_report },
+    { "rattle", rattle_read, rattle_check, { rattle_alphabeta, rattle_plain, rattle_mtd, rattle_sss }, rattle_verify,
+      rattle_report },
+    { "c", c_read, c_check, { c_alphabeta, c_plain, c_mtd, c_sss }, c_verify, c_report },
 };
 
 /* What buffers are filled with; for how many runs and nanoseconds a call is timed, and for how long between two looks

@@ -76,12 +76,14 @@ def filled(size):
 
 
 def searches(table, marks, flags):
-    for name, rule in (("alphabeta", o.ab), ("mtd", o.mtd), ("sss", o.sss)):
+    for name, rule in (("alphabeta", o.ab), ("plain", o.plain), ("mtd", o.mtd), ("sss", o.sss)):
         lent = filled(marks), filled(flags)
         r = o.search(rule, table, *lent)
         fields = {}
         if not isinstance(r, o.Refusal):
             fields = {"value": r.value, "root_move": r.move, "leaves": r.leaves, "steps": r.extra or 0}
+            if name == "plain":         # it gives no count
+                del fields["leaves"]
         yield name, (table, filled(marks), filled(flags)), flat(r, **fields), (table, *lent)
 
 

@@ -172,16 +172,19 @@ def verdict(table, flags):
 
 
 def searches(table, marks, flags):
-    """The three searches with `marks` and `flags` bytes of filled buffers: results, buffers, and the verdict on what they wrote."""
+    """The three searches and the plain engine with `marks` and `flags` bytes of filled buffers: results, buffers, and the verdict on
+    what they wrote. The plain engine gives no count."""
     text = ""
-    for name, call in (("ab", o.alpha_beta), ("mtd", o.mtd_search), ("sss", lambda t, m, p: o.sss_search(t, None, m, p))):
+    for name, call in (("ab", o.alpha_beta), ("mtd", o.mtd_search), ("sss", lambda t, m, p: o.sss_search(t, None, m, p)),
+                       ("plain", o.plain_search)):
         lent, proof = bytearray((FILLED,) * marks), bytearray((FILLED,) * flags)
         r = call(table, lent, proof)
         if isinstance(r, o.Refusal):
             assert set(lent + proof) <= {FILLED}
             text += "%s %s\n" % (name, answered(r))
         else:
-            text += name + numbers(x for x in (r.value, r.move, r.leaves, r.extra) if x is not None) + "\n"
+            counts = () if name == "plain" else (r.leaves, r.extra)
+            text += name + numbers(x for x in (r.value, r.move, *counts) if x is not None) + "\n"
         text += "evaluated%s\ncertificate%s\n" % (numbers(lent), numbers(proof)) + verdict(table, proof)
     return text
 
@@ -223,7 +226,7 @@ def buffer_cases():
     """Question 10 of the searches; what they write where it passes."""
     row = table_of_file(ROW)
     got = searches(row, 7, 7)
-    assert "sss 3 2 3 9\n" in got and got.count("certificate 3 1 3 1 0 3 2") == 3      # 01, the cases marked P
+    assert "sss 3 2 3 9\n" in got and got.count("certificate 3 1 3 1 0 3 2") == 4      # 01, the cases marked P
     assert "sss -5 0 1 1\n" in searches(table_of_file(tree_file(-5)), 1, 1)
     for marks, flags in ((7, 7), (10, 10), (6, 7), (7, 6), (0, 10), (10, 0), (0, 0)):
         want = searches(row, marks, flags)

@@ -256,6 +256,21 @@ def ab(tree):
     return visit(0, LEAST, GREATEST), leaves
 
 
+# ---------------------------------------------------------------- the plain engine
+
+def plain(tree):
+    """02, N1: every leaf, from left to right; Max's turn asks Min's for each child, and Min's asks Max's."""
+    leaves = []
+
+    def turn(k, best, other):
+        if not tree.kids[k]:
+            leaves.append(k)
+            return tree.value[k]
+        return best([turn(c, other, best) for c in tree.kids[k]])
+
+    return turn(0, max, min), leaves
+
+
 # ---------------------------------------------------------------- MTD
 
 def mtd_by_rule(tree):
@@ -500,6 +515,10 @@ def search(rule, table, marks, proof, states=None):
 
 def alpha_beta(table, marks, proof):
     return search(ab, table, marks, proof)
+
+
+def plain_search(table, marks, proof):
+    return search(plain, table, marks, proof)
 
 
 def mtd_search(table, marks, proof):

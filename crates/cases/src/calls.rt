@@ -34,7 +34,7 @@ pub fn print_verdict_of(file: &[u8], numbers: &[u32]) {
     print_verdict(&table[..size], &flags[..count]);
 }
 
-// The three searches with buffers of these lengths for the marks and for the certificate.
+// The searches with buffers of these lengths for the marks and for the certificate.
 pub fn print_searches(file: &[u8], marks: u32, flags: u32) {
     let mut table = [0u8; TABLE_SIZE];
     let size = read_table(file, &mut table);
@@ -122,17 +122,19 @@ fn flag(numbers: &[u32], i: usize) -> u8 {
     0
 }
 
-// The three searches.
+// The three searches and the plain engine.
 fn print_all(table: &[u8], marks: u32, flags: u32) {
     print_search(Method::AlphaBeta, table, marks, flags);
     print_search(Method::Mtd, table, marks, flags);
     print_search(Method::Sss, table, marks, flags);
+    print_search(Method::Plain, table, marks, flags);
 }
 
 enum Method {
     AlphaBeta,
     Mtd,
     Sss,
+    Plain,
 }
 
 // A search with parts of filled buffers.
@@ -145,6 +147,7 @@ fn print_search(method: Method, table: &[u8], marks: u32, flags: u32) {
         Method::AlphaBeta => print_alphabeta(table, &mut evaluated[..m], &mut certificate[..f]),
         Method::Mtd => print_mtd(table, &mut evaluated[..m], &mut certificate[..f]),
         Method::Sss => print_sss(table, &mut evaluated[..m], &mut certificate[..f]),
+        Method::Plain => print_plain(table, &mut evaluated[..m], &mut certificate[..f]),
     }
 }
 
@@ -181,6 +184,19 @@ fn print_sss(table: &[u8], evaluated: &mut [u8], certificate: &mut [u8]) {
             print_count(found.replacements);
         }
         sss::Answer::Rejected(rejection) => print_rejection(rejection),
+    }
+    print_line_feed();
+    print_buffers(table, evaluated, certificate);
+}
+
+fn print_plain(table: &[u8], evaluated: &mut [u8], certificate: &mut [u8]) {
+    io::write_all(STDOUT_FILENO, b"plain");
+    match plain::search(table, evaluated, certificate) {
+        plain::Answer::Found(found) => {
+            print_value(found.value);
+            print_count(found.root_move);
+        }
+        plain::Answer::Rejected(rejection) => print_rejection(rejection),
     }
     print_line_feed();
     print_buffers(table, evaluated, certificate);

@@ -8,10 +8,11 @@ use Rattle.frames.specs.Tree.{kidsFrom, grow, treeAt, valuation}
 use Rattle.frames.specs.Rejection.{eachNode}
 use Rattle.frames.specs.Check.{framesRejection, rejection}
 use Rattle.places.specs.Buffer.{tabulate, written}
+use Rattle.certificate.specs.Marks.{ones}
 use Rattle.demands.specs.Cases.{rowOf, tables, rows}
 
 -- every row of the table is what the definitions give
 pub marked-cases : map rowOf tables ≡ rows
 unfolding mtd next parentBefore placeWithin placeOf kidsFrom grow treeAt valuation eachNode
-    framesRejection rejection tabulate written
+    framesRejection rejection tabulate written ones
 marked-cases = refl

@@ -1,5 +1,5 @@
--- The demands, sentence by sentence: Demand1, Demand2 and Demand3. The other files carry the theory's theorems to calls
--- over byte tables.
+-- The demands, sentence by sentence: Demand1, Demand2 and Demand3; the plain engine of request N1: Plain. The other
+-- files carry the theory's theorems to calls over byte tables.
 mod Parts
 mod Views
 mod Handed
@@ -7,4 +7,5 @@ mod Local
 pub mod Demand1
 pub mod Demand2
 pub mod Demand3
+pub mod Plain
 pub mod Cases

@@ -110,7 +110,7 @@ pub record View {t : List ℕ} (c : Call t) : Type 0 where
 
 -- passed questions: an accepted table, and room
 module _ (t : List ℕ) (b : Buffers) where
-  both-room : searchRejection t (lengths b) ≡ none → Accepted t × Room t b
+  pub both-room : searchRejection t (lengths b) ≡ none → Accepted t × Room t b
   both-room e =
       let p = passed-room t (length (b .marks)) (length (b .flags)) e in
       (p .0, record { marks = p .1; flags = p .2 })

@@ -8,6 +8,8 @@ use Rattle.certificate.specs.Search.{Outcome}
 use Rattle.alphabeta.specs.declared.Answer.{Answer as AlphaBetaAnswer}
 use Rattle.alphabeta.specs.declared.Answer.the-variants as ab-answer
 use Rattle.alphabeta.specs.Outcome.{reachedLeaves, alphaBetaOutcome}
+use Rattle.plain.specs.declared.Answer.{Answer as PlainAnswer}
+use Rattle.plain.specs.Outcome.{plainOutcome}
 use Rattle.mtd.specs.declared.Found.{Found as MtdFound}
 use Rattle.mtd.specs.declared.Answer.{Answer as MtdAnswer}
 use Rattle.mtd.specs.declared.Answer.the-variants as mtd-answer
@@ -36,6 +38,12 @@ pub record AlphaBetaCall (t : List ℕ) (a : AlphaBetaAnswer) : Type 0 where
   pub lent : Buffers
   pub left : Buffers
   pub outcome : outcomeOf a left ≡ alphaBetaOutcome t (lent .marks) (lent .flags)
+
+-- a call of the plain engine with the table t that answers a
+pub record PlainCall (t : List ℕ) (a : PlainAnswer) : Type 0 where
+  pub lent : Buffers
+  pub left : Buffers
+  pub outcome : outcomeOf a left ≡ plainOutcome t (lent .marks) (lent .flags)
 
 -- a call of MTD with the table t that answers a
 pub record MtdCall (t : List ℕ) (a : MtdAnswer) : Type 0 where

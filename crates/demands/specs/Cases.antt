@@ -6,9 +6,13 @@ use lib.ListN.{replicate, take}
 use Rattle.frames.specs.Frame.{frames}
 use Rattle.frames.specs.results.Cases.{small, lone, single}
 use Rattle.certificate.specs.declared.Findings.{Findings}
+use Rattle.certificate.specs.Marks.{ones}
 use Rattle.alphabeta.specs.declared.Answer as ab
 use Rattle.alphabeta.specs.declared.Answer.the-variants as ab-answer
 use Rattle.alphabeta.specs.Outcome.{alphaBetaOutcome}
+use Rattle.plain.specs.declared.Answer as plain
+use Rattle.plain.specs.declared.Answer.the-variants as plain-answer
+use Rattle.plain.specs.Outcome.{plainOutcome}
 use Rattle.mtd.specs.declared.Answer as mtd
 use Rattle.mtd.specs.declared.Answer.the-variants as mtd-answer
 use Rattle.mtd.specs.Outcome.{mtdOutcome}
@@ -38,6 +42,11 @@ abbrev byAlphaBeta : ab.Answer → Given
 byAlphaBeta (ab-answer.Found f) = given f 0
 byAlphaBeta (ab-answer.Rejected r) = rejected (r .number)
 
+-- the plain engine gives no count: it is that of the marks at 1
+abbrev byPlain : (marks : ℕ) → plain.Answer → Given
+byPlain n (plain-answer.Found f) = found (f .value) (f .«root_move») n 0
+byPlain n (plain-answer.Rejected r) = rejected (r .number)
+
 abbrev byMtd : mtd.Answer → Given
 byMtd (mtd-answer.Found f) = given (f .findings) (f .passes)
 byMtd (mtd-answer.Rejected r) = rejected (r .number)
@@ -46,27 +55,45 @@ abbrev bySss : sss.Answer → Given
 bySss (sss-answer.Found f) = given (f .findings) (f .replacements)
 bySss (sss-answer.Rejected r) = rejected (r .number)
 
--- a line of the table: what the three searches give, and the flags that SSS* writes
+-- a line of the table: what the three searches and the plain engine give, and the flags that SSS* and the plain engine
+-- write
 pub record Row : Type 0 where
   pub alphaBeta : Given
+  pub plain : Given
   pub mtd : Given
   pub sss : Given
   pub flags : List ℕ
+  pub plainFlags : List ℕ
 
 abbrev pub rowOf : List ℕ → Row
 rowOf t =
     let s = sssOutcome t list buffer buffer .search in
+    let p = plainOutcome t buffer buffer in
     record {
       alphaBeta = byAlphaBeta (alphaBetaOutcome t buffer buffer .answer);
+      plain = byPlain (ones (p .evaluated) (frames t)) (p .answer);
       mtd = byMtd (mtdOutcome t buffer buffer .answer);
       sss = bySss (s .answer);
       flags = take (frames t) (s .certificate);
+      plainFlags = take (frames t) (p .certificate);
     }
 
--- value, move, alpha-beta's leaves, MTD's leaves and passes, SSS*'s leaves and replacements, flags
-abbrev row : ℤ → (move ab mtd passes sss replacements : ℕ) → List ℕ → Row
-row v m a d p s r f =
-    record { alphaBeta = found v m a 0; mtd = found v m d p; sss = found v m s r; flags = f }
+-- value, move, all leaves, alpha-beta's leaves, MTD's leaves and passes, SSS*'s leaves and replacements, the flags of
+-- SSS* and those of the plain engine
+abbrev rowWith : ℤ → (move all ab mtd passes sss replacements : ℕ) → (flags plainFlags : List ℕ) → Row
+rowWith v m l a d p s r f g =
+    record {
+      alphaBeta = found v m a 0;
+      plain = found v m l 0;
+      mtd = found v m d p;
+      sss = found v m s r;
+      flags = f;
+      plainFlags = g;
+    }
+
+-- both write the same flags
+abbrev row : ℤ → (move all ab mtd passes sss replacements : ℕ) → List ℕ → Row
+row v m l a d p s r f = rowWith v m l a d p s r f f
 
 abbrev pub tables : List (List ℕ)
 tables =
@@ -82,12 +109,13 @@ tables =
 
 abbrev pub rows : List Row
 rows =
-    row (pos 3) 2 4 3 2 3 9 (3 ∷ 1 ∷ 3 ∷ 1 ∷ 0 ∷ 3 ∷ 2 ∷ [])
-    ∷ row (pos 2) 1 3 3 2 3 9 (3 ∷ 3 ∷ 1 ∷ 3 ∷ 2 ∷ 1 ∷ 0 ∷ [])
-    ∷ row (pos 2) 1 4 4 3 4 11 (3 ∷ 3 ∷ 1 ∷ 3 ∷ 2 ∷ 0 ∷ 1 ∷ [])
-    ∷ row (pos 2) 2 4 4 3 4 11 (3 ∷ 1 ∷ 3 ∷ 0 ∷ 1 ∷ 3 ∷ 2 ∷ [])
-    ∷ row (pos 2) 1 3 3 2 3 9 (3 ∷ 3 ∷ 1 ∷ 3 ∷ 2 ∷ 1 ∷ 0 ∷ [])
-    ∷ row (pos 7) 1 3 3 2 3 9 (3 ∷ 3 ∷ 1 ∷ 3 ∷ 2 ∷ 1 ∷ 0 ∷ [])
-    ∷ row (negsuc 4) 0 1 1 2 1 1 (3 ∷ [])
-    ∷ row (pos 9) 1 1 1 2 1 3 (3 ∷ 3 ∷ [])
+    row (pos 3) 2 4 4 3 2 3 9 (3 ∷ 1 ∷ 3 ∷ 1 ∷ 0 ∷ 3 ∷ 2 ∷ [])
+    ∷ row (pos 2) 1 4 3 3 2 3 9 (3 ∷ 3 ∷ 1 ∷ 3 ∷ 2 ∷ 1 ∷ 0 ∷ [])
+    ∷ row (pos 2) 1 4 4 4 3 4 11 (3 ∷ 3 ∷ 1 ∷ 3 ∷ 2 ∷ 0 ∷ 1 ∷ [])
+    ∷ row (pos 2) 2 4 4 4 3 4 11 (3 ∷ 1 ∷ 3 ∷ 0 ∷ 1 ∷ 3 ∷ 2 ∷ [])
+    -- the plain engine evaluates the last leaf, which the searches pass over, and takes it
+    ∷ rowWith (pos 2) 1 4 3 3 2 3 9 (3 ∷ 3 ∷ 1 ∷ 3 ∷ 2 ∷ 1 ∷ 0 ∷ []) (3 ∷ 3 ∷ 1 ∷ 3 ∷ 2 ∷ 0 ∷ 1 ∷ [])
+    ∷ row (pos 7) 1 4 3 3 2 3 9 (3 ∷ 3 ∷ 1 ∷ 3 ∷ 2 ∷ 1 ∷ 0 ∷ [])
+    ∷ row (negsuc 4) 0 1 1 1 2 1 1 (3 ∷ [])
+    ∷ row (pos 9) 1 1 1 1 2 1 3 (3 ∷ 3 ∷ [])
     ∷ []

@@ -1,0 +1,312 @@
+-- `plain::max_turn` and `plain::min_turn` meet their contracts. The remaining depth falls with each call. At the head
+-- of either loop stands `Turn`: the children that are left make of score and marks what the turn is to give, and their
+-- trees are without a mark.
+use Prim.Native.Nat.{ℕ, _+_, _-_, _<_}
+use native.Mathlib.Omega.{arith}
+use borrow.Author.Needs.{needs}
+use borrow.Fn.Kinds.{In}
+use borrow.Fn.PlainCycle.{Measures, is, falls, and}
+use Rattle.gametree.specs.declared.Side.the-variants.{Max, Min}
+use Rattle.gametree.proofs.better.Reads as better-reads
+use Rattle.frames.specs.Formed.{ChildOf}
+use Rattle.frames.proofs.child_count.Reads as child-count-reads
+use Rattle.frames.proofs.first_child.Reads as first-child-reads
+use Rattle.certificate.proofs.evaluate.Reads as evaluate-reads
+use Rattle.plain.proofs.Turns.{Turn, leaf-evaluable, leaf-gives, turn-starts, child-left, ready-child}
+use Rattle.plain.proofs.Turns.{turn-goes-on, turn-ends}
+use Rattle.plain.proofs.max_turn.Reads as max-turn
+use Rattle.plain.proofs.max_turn.Kinds as max-kinds
+use Rattle.plain.proofs.min_turn.Reads as min-turn
+use Rattle.plain.proofs.min_turn.Kinds as min-kinds
+use Rattle.plain.proofs.+max_turn+min_turn.Lts-max_turn as max-lts
+use Rattle.plain.proofs.+max_turn+min_turn.Lts-min_turn as min-lts
+use Rattle.plain.proofs.+max_turn+min_turn.{statement}
+use Rattle.plain.proofs.+max_turn+min_turn.Tie.{close}
+
+abbrev μ-max : Measures 2 max-kinds.ps ℕ
+μ-max κs a = a .1 .1 .1 .0
+
+abbrev max-at : ℕ → In 2 max-kinds.ps
+max-at t = and 2 max-kinds.ps (is 2 max-kinds.ps μ-max t) max-turn.Pre
+
+abbrev max-below : ℕ → In 2 max-kinds.ps
+max-below t = and 2 max-kinds.ps (falls 2 max-kinds.ps _<_ μ-max t) max-turn.Pre
+
+abbrev μ-min : Measures 2 min-kinds.ps ℕ
+μ-min κs a = a .1 .1 .1 .0
+
+abbrev min-at : ℕ → In 2 min-kinds.ps
+min-at t = and 2 min-kinds.ps (is 2 min-kinds.ps μ-min t) min-turn.Pre
+
+abbrev min-below : ℕ → In 2 min-kinds.ps
+min-below t = and 2 min-kinds.ps (falls 2 min-kinds.ps _<_ μ-min t) min-turn.Pre
+
+abbrev min-inv : min-lts.InvT-loop
+min-inv table evaluated₀ node left count score₀ child₀ last evaluated score child =
+    Turn table Min node evaluated₀ child₀ (last + 1) evaluated score child
+
+abbrev min-loop : min-lts.MeasureT-loop
+min-loop table evaluated₀ node left count score₀ child₀ last evaluated score child = last + 1 - child
+
+abbrev min-calls : ℕ → min-lts.Claims
+min-calls t = (
+  child-count-reads.Asked,
+  child-count-reads.Learnt,
+  evaluate-reads.Asked,
+  evaluate-reads.Learnt,
+  first-child-reads.Asked,
+  first-child-reads.Learnt,
+  max-below t,
+  max-turn.Post,
+  better-reads.Asked,
+  better-reads.Learnt,
+)
+
+module _ (t : ℕ) where
+  -- the function's entry, from the head of the loop
+  abbrev min-start : min-lts.At-loop (min-calls t) (min-at t) min-turn.Post min-inv min-loop
+      → min-lts.Start (min-calls t) (min-at t) min-turn.Post min-inv min-loop
+  min-start l = l .before .before .before .before .before .before
+
+  -- the loop is at a child of the node
+  min-child : (l : min-lts.At-loop (min-calls t) (min-at t) min-turn.Post min-inv min-loop)
+      → l .loop .child < l .before .first-child .result + l .before .before .before .child-count .result
+      → ChildOf (min-start l .args .table .now) (min-start l .args .node) (l .loop .child)
+  min-child l h =
+      let f = l .before in
+      record {
+        from = omega (arith, l .loop .inv .from, f .first-child .ensures);
+        to = omega (arith, h, f .first-child .ensures, f .before .before .child-count .ensures);
+      }
+
+  min-child-count-requires : min-lts.Need-child-count-requires (min-calls t) (min-at t) min-turn.Post min-inv min-loop
+  min-child-count-requires c κs = search needs
+
+  min-sub-evaluate : min-lts.Need-sub-evaluate (min-calls t) (min-at t) min-turn.Post min-inv min-loop
+  min-sub-evaluate c = omega (arith, c .before .before .before .before .before .pre .1 .remaining)
+
+  min-evaluate-requires : min-lts.Need-evaluate-requires (min-calls t) (min-at t) min-turn.Post min-inv min-loop
+  min-evaluate-requires c κs =
+      let a = c .before .before .before .before .before in
+      leaf-evaluable _ _ Min _ _ (a .pre .1) _ (omega arith) (omega arith)
+
+  min-same-length : min-lts.Need-same-length (min-calls t) (min-at t) min-turn.Post min-inv min-loop
+  min-same-length c = search needs
+
+  min-returns : min-lts.Need-returns (min-calls t) (min-at t) min-turn.Post min-inv min-loop
+  min-returns c =
+      let a = c .before .before .before .before .before .before .before .before in
+      let e = c .before .before .evaluate .ensures in
+      leaf-gives _ _ Min _ _ (a .pre .1) _ _ (omega arith) (e .0 .0) (e .1)
+
+  min-first-child-requires : min-lts.Need-first-child-requires (min-calls t) (min-at t) min-turn.Post min-inv min-loop
+  min-first-child-requires c κs = search needs
+
+  min-sub-last-child : min-lts.Need-sub-last-child (min-calls t) (min-at t) min-turn.Post min-inv min-loop
+  min-sub-last-child c = search needs
+
+  min-add-last-child : min-lts.Need-add-last-child (min-calls t) (min-at t) min-turn.Post min-inv min-loop
+  min-add-last-child c = search needs
+
+  min-loop-holds : min-lts.Need-loop-holds (min-calls t) (min-at t) min-turn.Post min-inv min-loop
+  min-loop-holds c =
+      let a = c .before .before .before .before .before in
+      turn-starts _ _ Min _ _ (a .pre .1) _ _ _ (omega arith) (c .first-child .ensures .0) (omega arith) (omega arith)
+
+  min-sub-max-turn : min-lts.Need-sub-max-turn (min-calls t) (min-at t) min-turn.Post min-inv min-loop
+  min-sub-max-turn c =
+      let l = c .before .before in
+      omega (arith, child-left _ _ Min _ _ (min-start l .pre .1) _ (min-child l (omega arith)))
+
+  min-max-turn-requires : min-lts.Need-max-turn-requires (min-calls t) (min-at t) min-turn.Post min-inv min-loop
+  min-max-turn-requires c κs =
+      let l = c .before .before in
+      let a = min-start l in
+      let i = l .loop .inv in
+      let k = min-child l (omega arith) in (
+        omega (arith, child-left _ _ Min _ _ (a .pre .1) _ k),
+        ready-child _ _ Min _ _ (a .pre .1) _ _ k (i .kept) (i .waiting _ (omega arith) k),
+      )
+
+  min-better-requires : min-lts.Need-better-requires (min-calls t) (min-at t) min-turn.Post min-inv min-loop
+  min-better-requires c κs = search needs
+
+  min-add-child : min-lts.Need-add-child (min-calls t) (min-at t) min-turn.Post min-inv min-loop
+  min-add-child c = search needs
+
+  min-loop-less : min-lts.Need-loop-less (min-calls t) (min-at t) min-turn.Post min-inv min-loop
+  min-loop-less c = search needs
+
+  min-loop-again : min-lts.Need-loop-again (min-calls t) (min-at t) min-turn.Post min-inv min-loop
+  min-loop-again c =
+      let f = c .before .before .before in
+      let l = f .before .before .before in
+      let a = min-start l in
+      turn-goes-on _ _ Min _ _ (a .pre .1) _ _ _ _ _ (l .loop .inv) (min-child l (omega arith))
+      (omega arith) _ _ _ (f .max-turn .kept .1 .0) (f .max-turn .ensures) (c .better .ensures)
+
+  min-same-length-2 : min-lts.Need-same-length-2 (min-calls t) (min-at t) min-turn.Post min-inv min-loop
+  min-same-length-2 c = search needs
+
+  min-returns-2 : min-lts.Need-returns-2 (min-calls t) (min-at t) min-turn.Post min-inv min-loop
+  min-returns-2 c =
+      let l = c .before in
+      turn-ends _ _ Min _ _ (min-start l .pre .1) _ _ _ _ _ (l .loop .inv) (omega arith)
+
+abbrev max-inv : max-lts.InvT-loop
+max-inv table evaluated₀ node left count score₀ child₀ last evaluated score child =
+    Turn table Max node evaluated₀ child₀ (last + 1) evaluated score child
+
+abbrev max-loop : max-lts.MeasureT-loop
+max-loop table evaluated₀ node left count score₀ child₀ last evaluated score child = last + 1 - child
+
+abbrev max-calls : ℕ → max-lts.Claims
+max-calls t = (
+  child-count-reads.Asked,
+  child-count-reads.Learnt,
+  evaluate-reads.Asked,
+  evaluate-reads.Learnt,
+  first-child-reads.Asked,
+  first-child-reads.Learnt,
+  min-below t,
+  min-turn.Post,
+  better-reads.Asked,
+  better-reads.Learnt,
+)
+
+module _ (t : ℕ) where
+  -- the function's entry, from the head of the loop
+  abbrev max-start : max-lts.At-loop (max-calls t) (max-at t) max-turn.Post max-inv max-loop
+      → max-lts.Start (max-calls t) (max-at t) max-turn.Post max-inv max-loop
+  max-start l = l .before .before .before .before .before .before
+
+  -- the loop is at a child of the node
+  max-child : (l : max-lts.At-loop (max-calls t) (max-at t) max-turn.Post max-inv max-loop)
+      → l .loop .child < l .before .first-child .result + l .before .before .before .child-count .result
+      → ChildOf (max-start l .args .table .now) (max-start l .args .node) (l .loop .child)
+  max-child l h =
+      let f = l .before in
+      record {
+        from = omega (arith, l .loop .inv .from, f .first-child .ensures);
+        to = omega (arith, h, f .first-child .ensures, f .before .before .child-count .ensures);
+      }
+
+  max-child-count-requires : max-lts.Need-child-count-requires (max-calls t) (max-at t) max-turn.Post max-inv max-loop
+  max-child-count-requires c κs = search needs
+
+  max-sub-evaluate : max-lts.Need-sub-evaluate (max-calls t) (max-at t) max-turn.Post max-inv max-loop
+  max-sub-evaluate c = omega (arith, c .before .before .before .before .before .pre .1 .remaining)
+
+  max-evaluate-requires : max-lts.Need-evaluate-requires (max-calls t) (max-at t) max-turn.Post max-inv max-loop
+  max-evaluate-requires c κs =
+      let a = c .before .before .before .before .before in
+      leaf-evaluable _ _ Max _ _ (a .pre .1) _ (omega arith) (omega arith)
+
+  max-same-length : max-lts.Need-same-length (max-calls t) (max-at t) max-turn.Post max-inv max-loop
+  max-same-length c = search needs
+
+  max-returns : max-lts.Need-returns (max-calls t) (max-at t) max-turn.Post max-inv max-loop
+  max-returns c =
+      let a = c .before .before .before .before .before .before .before .before in
+      let e = c .before .before .evaluate .ensures in
+      leaf-gives _ _ Max _ _ (a .pre .1) _ _ (omega arith) (e .0 .0) (e .1)
+
+  max-first-child-requires : max-lts.Need-first-child-requires (max-calls t) (max-at t) max-turn.Post max-inv max-loop
+  max-first-child-requires c κs = search needs
+
+  max-sub-last : max-lts.Need-sub-last (max-calls t) (max-at t) max-turn.Post max-inv max-loop
+  max-sub-last c = search needs
+
+  max-add-last : max-lts.Need-add-last (max-calls t) (max-at t) max-turn.Post max-inv max-loop
+  max-add-last c = search needs
+
+  max-loop-holds : max-lts.Need-loop-holds (max-calls t) (max-at t) max-turn.Post max-inv max-loop
+  max-loop-holds c =
+      let a = c .before .before .before .before .before in
+      turn-starts _ _ Max _ _ (a .pre .1) _ _ _ (omega arith) (c .first-child .ensures .0) (omega arith) (omega arith)
+
+  max-sub-min-turn : max-lts.Need-sub-min-turn (max-calls t) (max-at t) max-turn.Post max-inv max-loop
+  max-sub-min-turn c =
+      let l = c .before .before in
+      omega (arith, child-left _ _ Max _ _ (max-start l .pre .1) _ (max-child l (omega arith)))
+
+  max-min-turn-requires : max-lts.Need-min-turn-requires (max-calls t) (max-at t) max-turn.Post max-inv max-loop
+  max-min-turn-requires c κs =
+      let l = c .before .before in
+      let a = max-start l in
+      let i = l .loop .inv in
+      let k = max-child l (omega arith) in (
+        omega (arith, child-left _ _ Max _ _ (a .pre .1) _ k),
+        ready-child _ _ Max _ _ (a .pre .1) _ _ k (i .kept) (i .waiting _ (omega arith) k),
+      )
+
+  max-better-requires : max-lts.Need-better-requires (max-calls t) (max-at t) max-turn.Post max-inv max-loop
+  max-better-requires c κs = search needs
+
+  max-add-child : max-lts.Need-add-child (max-calls t) (max-at t) max-turn.Post max-inv max-loop
+  max-add-child c = search needs
+
+  max-loop-less : max-lts.Need-loop-less (max-calls t) (max-at t) max-turn.Post max-inv max-loop
+  max-loop-less c = search needs
+
+  max-loop-again : max-lts.Need-loop-again (max-calls t) (max-at t) max-turn.Post max-inv max-loop
+  max-loop-again c =
+      let f = c .before .before .before in
+      let l = f .before .before .before in
+      let a = max-start l in
+      turn-goes-on _ _ Max _ _ (a .pre .1) _ _ _ _ _ (l .loop .inv) (max-child l (omega arith))
+      (omega arith) _ _ _ (f .min-turn .kept .1 .0) (f .min-turn .ensures) (c .better .ensures)
+
+  max-same-length-2 : max-lts.Need-same-length-2 (max-calls t) (max-at t) max-turn.Post max-inv max-loop
+  max-same-length-2 c = search needs
+
+  max-returns-2 : max-lts.Need-returns-2 (max-calls t) (max-at t) max-turn.Post max-inv max-loop
+  max-returns-2 c =
+      let l = c .before in
+      turn-ends _ _ Max _ _ (max-start l .pre .1) _ _ _ _ _ (l .loop .inv) (omega arith)
+
+pub +max-turn+min-turn-spec : {M : Type 1} → statement M
++max-turn+min-turn-spec = close μ-max μ-min (λ t. max-lts.spec (max-calls t)
+    (max-at t)
+    max-turn.Post
+    max-inv
+    max-loop
+    (max-child-count-requires t)
+    (max-sub-evaluate t)
+    (max-evaluate-requires t)
+    (max-same-length t)
+    (max-returns t)
+    (max-first-child-requires t)
+    (max-sub-last t)
+    (max-add-last t)
+    (max-loop-holds t)
+    (max-sub-min-turn t)
+    (max-min-turn-requires t)
+    (max-better-requires t)
+    (max-add-child t)
+    (max-loop-less t)
+    (max-loop-again t)
+    (max-same-length-2 t)
+    (max-returns-2 t))
+    λ t. min-lts.spec (min-calls t)
+    (min-at t)
+    min-turn.Post
+    min-inv
+    min-loop
+    (min-child-count-requires t)
+    (min-sub-evaluate t)
+    (min-evaluate-requires t)
+    (min-same-length t)
+    (min-returns t)
+    (min-first-child-requires t)
+    (min-sub-last-child t)
+    (min-add-last-child t)
+    (min-loop-holds t)
+    (min-sub-max-turn t)
+    (min-max-turn-requires t)
+    (min-better-requires t)
+    (min-add-child t)
+    (min-loop-less t)
+    (min-loop-again t)
+    (min-same-length-2 t)
+    (min-returns-2 t)

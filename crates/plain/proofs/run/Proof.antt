@@ -1,0 +1,72 @@
+-- `plain::run` meets its contract: the steps of a search, in order.
+use native.Mathlib.Omega.{arith}
+use mathlib.Core.Path.{refl, ap, _∙_}
+use mir.Syntax.{w16}
+use mir.ValLaws.{toZ-ofZ}
+use borrow.Author.Needs.{needs}
+use Rattle.frames.proofs.Acceptance.{accepted-formed}
+use Rattle.places.specs.Buffer.{written}
+use Rattle.plain.proofs.Whole.{root-ready, score-small, run-gives}
+use Rattle.plain.proofs.run.Statement.{statement}
+use Rattle.plain.proofs.run.Tie as tie
+
+-- the function's entry, from the turn's score on
+abbrev start : tie.After-max-turn → tie.Start
+start f = f .before .before .before .before .before .before .before .before .before .before
+
+frame-count-requires : tie.Need-frame-count-requires
+frame-count-requires c κs = search needs
+
+clear-requires : tie.Need-clear-requires
+clear-requires c κs = search needs
+
+max-turn-requires : tie.Need-max-turn-requires
+max-turn-requires c κs =
+    let k = c .before .before .before in
+    let a = k .before .before .before .before .before .before in
+    root-ready _ (a .pre .0) _ _ _ _ (k .clear .ensures) (k .before .frame-count .ensures)
+    (omega (arith, k .clear .kept .0, a .pre .1)) refl
+
+conclude-requires : tie.Need-conclude-requires
+conclude-requires c κs =
+    let f = c .before .before .before .before in
+    let a = start f in
+    let k = f .before .before .before .before .clear .kept .0 in (
+      accepted-formed _ (a .pre .0),
+      (omega (arith, f .max-turn .kept, k, a .pre .1), omega (arith, a .pre .1)),
+    )
+
+value-requires : tie.Need-value-requires
+value-requires c κs =
+    let f = c .before .before .before .before .before .before .before .before .before in
+    score-small _ (start f .pre .0) _ (f .max-turn .ensures .0)
+
+same-length : tie.Need-same-length
+same-length c = search needs
+
+same-length-2 : tie.Need-same-length-2
+same-length-2 c = search needs
+
+returns : tie.Need-returns
+returns c =
+    let g = c .before .before .before .before .before in
+    let f = g .before .before .before .before .before in
+    let k = f .before .before .before .before in
+    let n = k .before .frame-count .ensures in
+    let cleared = k .clear .ensures ∙ ap (λ m. written (λ _. 0) m (start f .args .evaluated .now)) n in
+    let value = toZ-ofZ w16 (c .value .result) (record { sfits = c .value .ok }) ∙ c .value .ensures in
+    run-gives _ (start f .pre .0) _ _ _ _ _ _ _ _ _ cleared (f .max-turn .ensures .0) (f .max-turn .ensures .1)
+    (g .conclude .ensures .0) (g .conclude .ensures .1 .0) (g .conclude .ensures .1 .1) value
+
+pub run-spec : {M : Type 1} → statement M
+run-spec =
+    tie.close
+    (tie.spec
+    frame-count-requires
+    clear-requires
+    max-turn-requires
+    conclude-requires
+    value-requires
+    same-length
+    same-length-2
+    returns)

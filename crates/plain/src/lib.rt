@@ -1,0 +1,117 @@
+// The plain engine over a byte table: minimax without cuts. Max's turn asks Min's turn for each child, and Min's turn
+// asks Max's.
+use certificate::ask;
+use certificate::clear;
+use certificate::conclude;
+use certificate::evaluate;
+use frames::Checked;
+use frames::GREATEST;
+use frames::LEAST;
+use frames::MAX_DEPTH;
+use frames::Rejection;
+use frames::child_count;
+use frames::first_child;
+use frames::frame_count;
+use frames::value;
+use gametree::Side;
+use gametree::better;
+ghost use mathlib.Core.Path.{_≡_};
+ghost use Prim.Native.Nat.{_≤_};
+ghost use lib.ListN.{length};
+ghost use Rattle.gametree.specs.Tree.{minimax, leaves};
+ghost use Rattle.frames.specs.Frame.{frames};
+ghost use Rattle.frames.specs.Check.{Accepted};
+ghost use Rattle.frames.specs.Tree.{treeAt, valuation};
+ghost use Rattle.certificate.specs.Marks.{markAll};
+ghost use Rattle.certificate.specs.Search.{marksOf, flagsOf};
+ghost use Rattle.plain.specs.Outcome.{allLeaves, plainFound, plainOutcome};
+ghost use Rattle.plain.specs.engine.Ready.{Ready};
+
+// The greatest depth, from which the remaining depth counts down.
+const DEPTH: u32 = MAX_DEPTH as u32;
+
+// What the plain engine finds: the minimax value, and the first root move that reaches it (0 for a leaf).
+pub struct Found {
+    pub value: i16,
+    pub root_move: usize,
+}
+
+// The answer of a call: what was found, or the first question that got a "no".
+pub enum Answer {
+    Found(Found),
+    Rejected(Rejection),
+}
+
+// Minimax of the whole tree: questions 1 to 10, then the value and the root move; the marks of all leaves and the
+// certificate (01: the proof) go into the buffers.
+pub fn search(table: &[u8], evaluated: &mut [u8], certificate: &mut [u8]) -> Answer
+    ensures { λ r. ⌜ record { answer = r; evaluated = now (evaluated .exit); certificate = now (certificate .exit) }
+        ≡ plainOutcome (now (table .entry)) (now (evaluated .entry)) (now (certificate .entry)) ⌝ }
+{
+    match ask(table, evaluated.len(), certificate.len()) {
+        Checked::Nodes(_) => Answer::Found(run(table, evaluated, certificate)),
+        Checked::Rejected(rejection) => Answer::Rejected(rejection),
+    }
+}
+
+// The search of an accepted table, into buffers with an entry per node.
+fn run(table: &[u8], evaluated: &mut [u8], certificate: &mut [u8]) -> Found
+    requires { ⌜ Accepted (now table) ⌝ }
+    requires { ⌜ (frames (now table) ≤ length (now evaluated)) × (frames (now table) ≤ length (now certificate)) ⌝ }
+    ensures { λ r. ⌜ r ≡ plainFound (now (table .entry)) ⌝ }
+    ensures { λ _. ⌜ now (evaluated .exit)
+        ≡ marksOf (allLeaves (now (table .entry))) (now (table .entry)) (now (evaluated .entry)) ⌝ }
+    ensures { λ _. ⌜ now (certificate .exit)
+        ≡ flagsOf (allLeaves (now (table .entry))) (now (table .entry)) (now (certificate .entry)) ⌝ }
+{
+    clear(evaluated, frame_count(table));
+    let score = max_turn(table, evaluated, 0, DEPTH);
+    let root_move = conclude(table, evaluated, certificate);
+    let value = value(score);
+    Found { value, root_move }
+}
+
+// Max's turn at a node: the greatest of what Min's turn gives for its children. `left` is how many levels may still
+// follow below the node; it falls at every call.
+fn max_turn(table: &[u8], evaluated: &mut [u8], node: usize, left: u32) -> u32
+    requires { ⌜ Ready (now table) (now evaluated) Side.Max node left ⌝ }
+    ensures { λ r. ⌜ r ≡ minimax (valuation (now (table .entry))) (treeAt (now (table .entry)) node) ⌝ }
+    ensures { λ _. ⌜ now (evaluated .exit)
+        ≡ markAll (now (evaluated .entry)) (leaves (treeAt (now (table .entry)) node)) ⌝ }
+{
+    let count = child_count(table, node);
+    if count == 0 {
+        return evaluate(table, evaluated, node, DEPTH - left);
+    }
+    let mut greatest = LEAST;
+    let mut child = first_child(table, node);
+    let last = child + (count - 1);
+    while child <= last {
+        let answer = min_turn(table, evaluated, child, left - 1);
+        greatest = better(Side::Max, greatest, answer);
+        child += 1;
+    }
+    greatest
+}
+
+// Min's turn at a node: the least of what Max's turn gives for its children.
+fn min_turn(table: &[u8], evaluated: &mut [u8], node: usize, left: u32) -> u32
+    requires { ⌜ Ready (now table) (now evaluated) Side.Min node left ⌝ }
+    ensures { λ r. ⌜ r ≡ minimax (valuation (now (table .entry))) (treeAt (now (table .entry)) node) ⌝ }
+    ensures { λ _. ⌜ now (evaluated .exit)
+        ≡ markAll (now (evaluated .entry)) (leaves (treeAt (now (table .entry)) node)) ⌝ }
+{
+    let count = child_count(table, node);
+    if count == 0 {
+        return evaluate(table, evaluated, node, DEPTH - left);
+    }
+    let mut least = GREATEST;
+    let mut child = first_child(table, node);
+    let last_child = child + (count - 1);
+    while child <= last_child {
+        let answer = max_turn(table, evaluated, child, left - 1);
+        least = better(Side::Min, least, answer);
+        child += 1;
+    }
+    least
+}
