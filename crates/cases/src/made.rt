@@ -14,8 +14,8 @@ const LINE_SIZE: usize = 13;
 pub fn print_made_trees() {
     print_tree(b"# 40 children\n", 40, 1);
     print_tree(b"# 41 children\n", 41, 1);
-    print_tree(b"# depth 24\n", 1, 24);
-    print_tree(b"# depth 25\n", 1, 25);
+    print_tree(b"# depth 18\n", 1, 18);
+    print_tree(b"# depth 19\n", 1, 19);
     print_tree(b"# 4096 frames\n", 15, 273);
     print_tree(b"# 4097 frames\n", 16, 256);
 }

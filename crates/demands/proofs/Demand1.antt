@@ -17,15 +17,16 @@ use Rattle.frames.specs.declared.Checked.the-variants.{Rejected as RejectedTabl
 use Rattle.frames.specs.Frame.{maxNodes, maxDepth, frames}
 use Rattle.frames.specs.Place.{depthOf}
 use Rattle.frames.specs.Rejection.{_andThen_}
-use Rattle.frames.specs.Check.{checkNode, nodesRejection, depthsRejection, rejection, checked}
-use Rattle.frames.specs.FirstNo.{LowestNo}
+use Rattle.frames.specs.Check.{check1, checkNode, nodesRejection, depthsRejection, rejection, checked}
+use Rattle.frames.specs.FirstNo.{LowestNo, LowestDeep, framesBefore9, rejectionBefore9}
 use Rattle.frames.proofs.Asked.{answer-rejected}
-use Rattle.frames.proofs.Stated.{both-passed}
+use Rattle.frames.proofs.Stated.{both-passed, passed-then}
 use Rattle.frames.proofs.Acceptance.{accepted-formed, rejected-first}
 use Rattle.frames.proofs.FirstNo.{then-first, lowest-no, nodes-first, depth-first}
+use Rattle.frames.proofs.FirstNo.{deeper-frames, deeper-rejected}
 use Rattle.treefile.specs.Line.{isLine}
 use Rattle.treefile.specs.Lines.{linesOf, decoded}
-use Rattle.treefile.specs.File.{fileCheck3, readRejection, readAnswer, tableAfter, filled}
+use Rattle.treefile.specs.File.{fileCheck2, fileCheck3, fileRejection, readRejection, readAnswer, tableAfter, filled}
 use Rattle.treefile.proofs.FirstLine.{line-first}
 use Rattle.verify.specs.Flags.{ruleHolds}
 use Rattle.verify.specs.declared.Verdict.the-variants.{Rejected as RejectedFlags}
@@ -111,10 +112,34 @@ pub lowest-node : (t : List ℕ) (r : Rejection) → nodesRejection t ≡ some r
 lowest-node t r e = nodes-first t r e
 
 -- 9
-pub lowest-deep : (t : List ℕ) (r : Rejection) → depthsRejection t ≡ some r
-    → (r .number ≡ 9) × (r .place < frames t) × (maxDepth < depthOf t (r .place))
-    × ((k : ℕ) → k < r .place → depthOf t k ≤ maxDepth)
+pub lowest-deep : (t : List ℕ) (r : Rejection) → depthsRejection t ≡ some r → LowestDeep t r
 lowest-deep t r e = depth-first t r e
+
+-- 02, N2: "Deeper trees are answered with 9": a table by the check, by every search (SSS*: with `never-15`) and by the
+-- check of certificates
+pub deeper-answered : (t : List ℕ) → rejectionBefore9 t ≡ none → (k : ℕ) → k < frames t → maxDepth < depthOf t k
+    → (r : Rejection) × LowestDeep t r × (checked t ≡ RejectedTable r)
+    × ((lengths : List ℕ) → searchRejection t lengths ≡ some r)
+    × ((flags : List ℕ) → certificateRejection t flags ≡ some r)
+unfolding certificateRejection
+deeper-answered t e k l d =
+    let p = deeper-rejected t e k l d in (p .0, p .2, rw (p .1), λ _. rw (p .1), λ _. rw (p .1))
+
+-- and a file by the reader
+pub deeper-read : (f : List ℕ)
+    → (check1 f andThen fileCheck2 f andThen fileCheck3 f andThen framesBefore9 (decoded f)) ≡ none
+    → (k : ℕ) → k < frames (decoded f) → maxDepth < depthOf (decoded f) k
+    → (r : Rejection) × LowestDeep (decoded f) r × ((table : List ℕ) → readAnswer f table ≡ RejectedTable r)
+unfolding readRejection fileRejection
+deeper-read f e k l d =
+    let a = both-passed (check1 f) _ e in
+    let b = both-passed (fileCheck2 f) _ (a .1) in
+    let c = both-passed (fileCheck3 f) _ (b .1) in
+    let p = deeper-frames (decoded f) (c .1) k l d in
+    let q : fileRejection f ≡ some (p .0) =
+    passed-then (check1 f) _ (a .0) ∙ passed-then (fileCheck2 f) _ (b .0)
+    ∙ passed-then (fileCheck3 f) _ (c .0) ∙ p .1 in
+    (p .0, p .2, λ _. rw q)
 
 -- 11
 pub lowest-flag : (t flags : List ℕ) (r : Rejection) → check11 t flags ≡ some r
@@ -141,8 +166,9 @@ never-15 t lengths = by-questions (searchRejection t lengths) refl
         rw (p, states-found t (accepted-formed t a))
     by-questions (some x) p = rw p
 
--- "After a refusal all lent memory holds what it held before": the buffers of each search, the list of SSS*, the table
--- of the reader; the other entries are lent nothing that they could change
+-- "After a refusal all lent memory holds what it held before": the buffers of each search (those of the plain engine:
+-- `kept-plain` in Plain.antt), the list of SSS*, the table of the reader; the other entries are lent nothing that they
+-- could change
 
 module _ {t : List ℕ} {r : Rejection} where
   pub kept-alphaBeta : (c : AlphaBetaCall t (ab-answer.Rejected r)) → c .left ≡ c .lent

@@ -3,7 +3,7 @@
 use Prim.Native.Nat.{ℕ, zero, suc, _+_, _≤_, _<_}
 use native.Mathlib.Omega.{arith}
 use native.Mathlib.Decide.{decLt}
-use mathlib.Core.Path.{_≡_, refl, sym, ap, subst}
+use mathlib.Core.Path.{_≡_, refl, sym, ap, subst, _∙_}
 use mathlib.Core.Logic.{_⊎_, inl, inr, ⊎-elim}
 use mathlib.Core.Bool.{Bool, true, false}
 use mathlib.Core.Option.{Option, none, some}
@@ -16,9 +16,11 @@ use Rattle.frames.specs.Frame.{maxChildren, maxDepth, frames, childCount
 use Rattle.frames.specs.Place.{depthOf}
 use Rattle.frames.specs.Rejection.{ask, _andThen_, eachNode}
 use Rattle.frames.specs.Check.{firstChildRight, valueRight, check4, check5, check6, check7, checkNode}
-use Rattle.frames.specs.Check.{nodesRejection, depthsRejection}
-use Rattle.frames.specs.FirstNo.{FirstAt, LowestNo}
-use Rattle.frames.proofs.Stated.{ask-yes}
+use Rattle.frames.specs.Check.{check1, check2, check3, nodesRejection, check8, check9, depthsRejection}
+use Rattle.frames.specs.Check.{framesRejection, rejection}
+use Rattle.frames.specs.FirstNo.{FirstAt, LowestNo, LowestDeep, framesBefore9, rejectionBefore9}
+use Rattle.frames.proofs.Stated.{ask-yes, both-passed, passed-then}
+use Rattle.frames.proofs.Asked.{each-passed}
 
 none-some : {r : Rejection} → none ≡ some r → ⊥
 none-some e = clash (cc)
@@ -108,14 +110,43 @@ module _ (t : List ℕ) (r : Rejection) where
         λ k l. a .before k (omega arith) (omega (arith, p)),
       )
 
-  -- question 9: the place is the lowest node that is deeper than 24
-  pub depth-first : depthsRejection t ≡ some r
-      → (r .number ≡ 9) × (r .place < frames t) × (maxDepth < depthOf t (r .place))
-      × ((k : ℕ) → k < r .place → depthOf t k ≤ maxDepth)
+  -- question 9: the place is the lowest node that is too deep
+  pub depth-first : depthsRejection t ≡ some r → LowestDeep t r
   depth-first e =
-      let a = lowest-no _ 9 (frames t) r e in (
-        a .number,
-        a .within,
-        leb-false _ _ (a .no),
-        λ k l. leb-true _ _ (a .before k l),
-      )
+      let a = lowest-no _ 9 (frames t) r e in
+      record {
+        number = a .number;
+        within = a .within;
+        deeper = leb-false _ _ (a .no);
+        before = λ k l. leb-true _ _ (a .before k l);
+      }
+
+-- frames that pass questions 4 to 8 and have a node that is too deep are rejected by question 9, at the lowest
+pub deeper-frames : (t : List ℕ) → framesBefore9 t ≡ none → (k : ℕ) → k < frames t → maxDepth < depthOf t k
+    → (r : Rejection) × (framesRejection t ≡ some r) × LowestDeep t r
+unfolding framesRejection
+deeper-frames t e k l d = by-depths (depthsRejection t) refl
+  where
+    by-depths : (o : Option Rejection) → depthsRejection t ≡ o
+        → (r : Rejection) × (framesRejection t ≡ some r) × LowestDeep t r
+    by-depths none h =
+        let a : depthOf t k ≤ maxDepth =
+        leb-true _ _ (ask-yes _ _ _ (each-passed (check9 t) 0 (frames t) h k (omega arith) (omega (arith, l)))) in
+        absurd (omega (arith, d, a))
+    by-depths (some r) h =
+        let n = both-passed (nodesRejection t) (check8 t) e in
+        (r, rw (n .0, n .1) h, depth-first t r h)
+
+-- and so is a table that passes questions 1 to 8
+pub deeper-rejected : (t : List ℕ) → rejectionBefore9 t ≡ none → (k : ℕ) → k < frames t → maxDepth < depthOf t k
+    → (r : Rejection) × (rejection t ≡ some r) × LowestDeep t r
+unfolding rejection
+deeper-rejected t e k l d =
+    let a = both-passed (check1 t) _ e in
+    let b = both-passed (check2 t) _ (a .1) in
+    let c = both-passed (check3 t) _ (b .1) in
+    let p = deeper-frames t (c .1) k l d in (
+      p .0,
+      passed-then (check1 t) _ (a .0) ∙ passed-then (check2 t) _ (b .0) ∙ passed-then (check3 t) _ (c .0) ∙ p .1,
+      p .2,
+    )

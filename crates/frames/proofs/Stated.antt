@@ -34,6 +34,10 @@ both-passed (some r) y e = absurd (some-none e)
 pub passed-both : (x y : Option Rejection) → x ≡ none → y ≡ none → (x andThen y) ≡ none
 passed-both x y e f = rw e f
 
+-- past a question that passes the next ones decide
+pub passed-then : (x y : Option Rejection) → x ≡ none → (x andThen y) ≡ y
+passed-then x y e = rw e
+
 module _ (t : List ℕ) (i : ℕ) where
   -- what question 6 says of a node with n children
   record FirstChild (n : ℕ) : Type 0 where

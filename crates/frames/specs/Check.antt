@@ -60,7 +60,7 @@ checkNode t i = check4 t i andThen check5 t i andThen check6 t i andThen check7 
 abbrev pub check8 : List ℕ → Option Rejection
 check8 t = ask (eqb (next t (frames t)) (frames t)) 8 (frames t)
 
--- 9: is no node deeper than 24?
+-- 9: is no node deeper than 18?
 abbrev pub check9 : List ℕ → ℕ → Option Rejection
 check9 t i = ask (leb (depthOf t i) maxDepth) 9 i
 

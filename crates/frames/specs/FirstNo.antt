@@ -3,7 +3,12 @@ use Prim.Native.Nat.{ℕ, _+_, _≤_, _<_}
 use mathlib.Core.Path.{_≡_}
 use mathlib.Core.Bool.{Bool, true, false}
 use mathlib.Core.Option.{Option, none, some}
+use mathlib.Core.List.{List}
 use Rattle.frames.specs.declared.Rejection.{Rejection}
+use Rattle.frames.specs.Frame.{maxDepth, frames}
+use Rattle.frames.specs.Place.{depthOf}
+use Rattle.frames.specs.Rejection.{_andThen_}
+use Rattle.frames.specs.Check.{check1, check2, check3, nodesRejection, check8}
 
 -- the rejection r is the check q's at some node of those from i on, n of them, and the check has none before it
 pub record FirstAt (q : ℕ → Option Rejection) (i n : ℕ) (r : Rejection) : Type 0 where
@@ -19,3 +24,17 @@ pub record LowestNo (f : ℕ → Bool) (q n : ℕ) (r : Rejection) : Type 0 wher
   pub within : r .place < n
   pub no : f (r .place) ≡ false
   pub before : (k : ℕ) → k < r .place → f k ≡ true
+
+-- question 9 got its "no" at the lowest node that is deeper than the greatest depth
+pub record LowestDeep (t : List ℕ) (r : Rejection) : Type 0 where
+  pub number : r .number ≡ 9
+  pub within : r .place < frames t
+  pub deeper : maxDepth < depthOf t (r .place)
+  pub before : (k : ℕ) → k < r .place → depthOf t k ≤ maxDepth
+
+-- the first "no" to the questions that come before it: 4 to 8, and 1 to 8
+abbrev pub framesBefore9 : List ℕ → Option Rejection
+framesBefore9 t = nodesRejection t andThen check8 t
+
+abbrev pub rejectionBefore9 : List ℕ → Option Rejection
+rejectionBefore9 t = check1 t andThen check2 t andThen check3 t andThen framesBefore9 t

@@ -20,7 +20,7 @@ abbrev pub maxChildren : ℕ
 maxChildren = 40
 
 abbrev pub maxDepth : ℕ
-maxDepth = 24
+maxDepth = 18
 
 -- the number of whole frames
 abbrev pub frames : List ℕ → ℕ

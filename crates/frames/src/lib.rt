@@ -24,7 +24,7 @@ pub const MAX_TABLE: usize = FRAME_SIZE * MAX_NODES;
 
 pub const MAX_CHILDREN: usize = 40;
 
-pub const MAX_DEPTH: usize = 24;
+pub const MAX_DEPTH: usize = 18;
 
 // -32,001 and 32,001 as scores: those of leaves are between them.
 pub const LEAST: u32 = 0;

@@ -55,9 +55,9 @@ accepted =
     -- the values 32,000 and -32,000
     ∷ accepts (leafFrame 125 0) 1
     ∷ accepts (leafFrame 131 0) 1
-    -- 40 children; depth 24
+    -- 40 children; depth 18
     ∷ accepts (innerFrame 1 40 ++ leaves 40) 41
-    ∷ accepts (chain 0 24) 25
+    ∷ accepts (chain 0 18) 19
     ∷ []
 
 -- what is not
@@ -81,8 +81,8 @@ rejected =
     -- more frames than children, and fewer
     ∷ rejects (leaves 2) 8 2
     ∷ rejects (innerFrame 1 2 ++ leaves 1) 8 2
-    -- depth 25
-    ∷ rejects (chain 0 25) 9 25
+    -- depth 19
+    ∷ rejects (chain 0 19) 9 19
     ∷ []
 
 -- a table, a node and its children's frames
