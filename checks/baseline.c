@@ -1,4 +1,4 @@
-/* The public calls of document 01 in plain C, written from the paper; baseline.h says what each gives.
+/* The public calls of documents 01 and 02 in plain C, written from the papers; baseline.h says what each gives.
    Compiled with -O2 and with DEPTH, the greatest depth of a node, from oracle.py. */
 #include "baseline.h"
 #include <stdbool.h>
@@ -78,6 +78,26 @@ struct answer c_read(const uint8_t *file, size_t length, uint8_t *table, size_t 
     if (room < FRAME * n) return no(10, 0);
     memcpy(table, decoded, FRAME * n);
     return answer;
+}
+
+/* ---- the writer */
+
+static void write_line(uint8_t *line, const uint8_t *frame) {
+    static const char capital[] = "0123456789ABCDEF";
+    for (int i = 0; i < FRAME; i++) {
+        line[2 * i] = capital[frame[i] >> 4];
+        line[2 * i + 1] = capital[frame[i] & 15];
+    }
+    line[DIGITS] = '\n';
+}
+
+struct answer c_write(const uint8_t *table, size_t length, uint8_t *file, size_t room) {
+    struct answer answer = c_check(table, length);
+    if (answer.refused) return answer;
+    size_t n = answer.count;
+    if (room < LINE * n) return no(10, 0);
+    for (size_t k = 0; k < n; k++) write_line(file + LINE * k, table + FRAME * k);
+    return (struct answer){ .count = LINE * n };
 }
 
 /* ---- what the searches share */

@@ -1,4 +1,4 @@
-/* The public calls of document 01 in plain C: the baseline that the crates are measured against. */
+/* The public calls of documents 01 and 02 in plain C: the baseline that the crates are measured against. */
 #ifndef BASELINE_H
 #define BASELINE_H
 #include <stddef.h>
@@ -12,7 +12,7 @@ struct answer {
     uint8_t refused;
     int16_t value;
     size_t place;
-    size_t count; /* nodes */
+    size_t count; /* nodes; bytes of a written file */
     size_t root_move;
     size_t leaves;
     size_t steps; /* passes of MTD, replacements of SSS* */
@@ -25,6 +25,7 @@ struct text {
 };
 
 typedef struct answer read_call(const uint8_t *file, size_t length, uint8_t *table, size_t room);
+typedef struct answer write_call(const uint8_t *table, size_t length, uint8_t *file, size_t room);
 typedef struct answer check_call(const uint8_t *table, size_t length);
 typedef struct answer search_call(const uint8_t *table, size_t length, uint8_t *marks, size_t marks_room,
                                   uint8_t *proof, size_t proof_room);
@@ -34,6 +35,7 @@ typedef struct text report_call(const uint8_t *file, size_t length);
 /* c_sss keeps its list by node number with a front of greatest merits, c_sss_list is the textbook's list, scanned at
    each step. */
 read_call c_read;
+write_call c_write;
 check_call c_check;
 search_call c_alphabeta, c_plain, c_mtd, c_sss, c_sss_list;
 verify_call c_verify;

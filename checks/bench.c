@@ -14,26 +14,30 @@
 #include <valgrind/callgrind.h>
 
 read_call rattle_read;
+write_call rattle_write;
 check_call rattle_check;
 search_call rattle_alphabeta, rattle_plain, rattle_mtd, rattle_sss;
 verify_call rattle_verify;
 report_call rattle_report;
 
-enum call { READ, CHECK, ALPHABETA, PLAIN, MTD, SSS, VERIFY, REPORT, CALLS };
+enum call { READ, WRITE, CHECK, ALPHABETA, PLAIN, MTD, SSS, VERIFY, REPORT, CALLS };
 
-static const char *const call_names[] = { "read", "check", "alphabeta", "plain", "mtd", "sss", "verify", "report" };
+static const char *const call_names[] = {
+    "read", "write", "check", "alphabeta", "plain", "mtd", "sss", "verify", "report"
+};
 
 static const struct side {
     const char *name;
     read_call *read;
+    write_call *write;
     check_call *check;
     search_call *searches[4];
     verify_call *verify;
     report_call *report;
 } sides[] = {
-    { "rattle", rattle_read, rattle_check, { rattle_alphabeta, rattle_plain, rattle_mtd, rattle_sss }, rattle_verify,
-      rattle_report },
-    { "c", c_read, c_check, { c_alphabeta, c_plain, c_mtd, c_sss }, c_verify, c_report },
+    { "rattle", rattle_read, rattle_write, rattle_check, { rattle_alphabeta, rattle_plain, rattle_mtd, rattle_sss },
+      rattle_verify, rattle_report },
+    { "c", c_read, c_write, c_check, { c_alphabeta, c_plain, c_mtd, c_sss }, c_verify, c_report },
 };
 
 /* What buffers are filled with; for how many runs and nanoseconds a call is timed, and for how long between two looks
@@ -44,13 +48,14 @@ enum { SIDES = sizeof sides / sizeof *sides, FILLED = 170, LEAST_RUNS = 20, LONG
 static uint8_t file[FILE_BYTES], table[TABLE_BYTES], flags[NODES];
 static size_t file_length, nodes;
 static struct lent {
-    uint8_t table[TABLE_BYTES], marks[NODES], proof[NODES];
+    uint8_t table[TABLE_BYTES], file[FILE_BYTES], marks[NODES], proof[NODES];
     struct text text; /* not lent: what comes back */
 } lent[2];
 
 static struct answer perform(const struct side *s, enum call call, struct lent *l) {
     switch (call) {
     case READ: return s->read(file, file_length, l->table, sizeof l->table);
+    case WRITE: return s->write(table, FRAME * nodes, l->file, sizeof l->file);
     case CHECK: return s->check(table, FRAME * nodes);
     case VERIFY: return s->verify(table, FRAME * nodes, flags, nodes);
     case REPORT: l->text = s->report(file, file_length); return (struct answer){ 0 };

@@ -97,6 +97,15 @@ def checked(table):
     yield "check", (table,), flat(r, count=r), (table,)
 
 
+def written(table, room):
+    """The writer, and the reader on what was written."""
+    lent = filled(room)
+    r = o.write_file(table, lent)
+    yield "write", (table, filled(room)), flat(r, count=r), (table, lent)
+    if not isinstance(r, o.Refusal):
+        yield from reports(lent[:r], len(table))
+
+
 def reports(file, room):
     lent = filled(room)
     r = o.read_file(file, lent)
@@ -112,6 +121,7 @@ def small_trees():
             for values in itertools.product((0, 1, 2), repeat=counts.count(0)):
                 table = o.table_of(counts, values)
                 yield from searches(table, n, n)
+                yield from written(table, 13 * n)
                 flags = bytearray(n)
                 o.mtd_search(table, bytearray(n), flags)
                 yield from verified(table, flags)
@@ -133,9 +143,14 @@ def random_calls(rng):
     yield from checked(table)
     yield from searches(table, size(), size())
     yield from verified(table, bytes(rng.choice((0, 1, 2, 3)) for _ in range(size())))
+    yield from written(table, rng.choice((13 * n, 13 * n, 13 * n + 1, 13 * n + 40, max(13 * n - 1, 0), 12 * n, 0)))
     file = fuzz.damaged(rng, 60)[1] if kind < 3 else fuzz.as_file(rng, table)
     room = rng.choice((6 * n, 6 * n, 6 * n + 7, 6 * n - 1, 0, o.MAX_TABLE))
     yield from reports(file, room)
+    read = bytearray(o.MAX_TABLE)
+    nodes = o.read_file(file, read)
+    if not isinstance(nodes, o.Refusal):
+        yield from written(read[:6 * nodes], 13 * nodes)
 
 
 def main():

@@ -269,6 +269,39 @@ def reader_cases():
         add(title, file, "table %d" % size, "read %s\ntable%s\n" % (got, numbers(table)))
 
 
+def written(table, room):
+    """The writer with so many bytes of a filled buffer; and the reader on what it wrote, with a table as long as the first."""
+    lent = bytearray((FILLED,) * room)
+    got = o.write_file(table, lent)
+    text = "write %s\nfile%s\n" % (answered(got), numbers(lent))
+    if isinstance(got, o.Refusal):
+        assert set(lent) <= {FILLED}
+        return text
+    back = bytearray((FILLED,) * len(table))
+    nodes = o.read_file(lent[:got], back)
+    assert back == table
+    return text + "read %d\ntable%s\n" % (nodes, numbers(back))
+
+
+def writer_cases():
+    """Questions 1 to 10 of the writer; what it writes is read back."""
+    for title, file, room, size, want in (("a leaf in 13 bytes", LEAF, 13, 6, "13"), ("a leaf in 12 bytes", LEAF, 12, 6, "refused 10 0"),
+                                          ("letters are capitals", tree_file(-5).lower(), 13, 6, "13"),
+                                          ("a missing line feed is supplied", ROW[:-1], 91, 42, "91"),
+                                          ("91 bytes for 7 nodes", ROW, 91, 42, "91"), ("longer file keeps its rest", ROW, 99, 42, "91"),
+                                          ("90 bytes for 7 nodes", ROW, 90, 42, "refused 10 0"), ("no file", ROW, 0, 42, "refused 10 0"),
+                                          ("no table, no file", LEAF, 0, 0, "refused 1 0"),
+                                          ("too many frames, no file", LEAF, 0, 24582, "refused 2 0"),
+                                          ("a byte left over, no file", ROW, 0, 43, "refused 3 7"),
+                                          ("a leaf too many, no file", ROW, 0, 48, "refused 8 8"),
+                                          ("a leaf too many, a short file", ROW, 5, 48, "refused 8 8")):
+        table = table_of_file(file)
+        table = (table + bytes(TABLE_SIZE - len(table)))[:size]
+        got = written(table, room)
+        assert got.startswith("write %s\n" % want), (title, got)
+        add("writer: " + title, file, "write %d %d" % (room, size), got)
+
+
 def service_cases():
     """One line, and the children of a node."""
     for title, file, at in (("first line", ROW, 0), ("second line", ROW, 13), ("last line", ROW, 78),
@@ -289,7 +322,7 @@ def service_cases():
 def main():
     directory = sys.argv[1] if len(sys.argv) > 1 else os.path.join(os.path.dirname(HERE), "crates", "cases")
     for part in (made_trees, files_of_01, rows_of_002, rejected_files, accepted_files, flags_cases, buffer_cases, table_cases,
-                 reader_cases, service_cases):
+                 reader_cases, writer_cases, service_cases):
         part()
     assert len(stdin) < 65536
     for name, data in (("stdin", stdin), ("stdout", made + asked)):

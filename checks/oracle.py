@@ -486,6 +486,18 @@ def read_file(file, table):
     return len(got) // 6
 
 
+def write_file(table, file):
+    """Questions 1 to 10; writes a line of capital digits for each frame to the start of the file; its length (02, N3)."""
+    no = table_no(table)
+    if no:
+        return no
+    text = b"".join(b"%02X%02X%02X%02X%02X%02X\n" % tuple(table[k:k + 6]) for k in range(0, len(table), 6))
+    if len(file) < len(text):
+        return Refusal(10, 0)
+    file[:len(text)] = text
+    return len(text)
+
+
 def check_table(table):
     return table_no(table) or len(table) // 6
 

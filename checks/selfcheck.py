@@ -43,6 +43,12 @@ def run(call, table):
     return r, list(marks), list(proof)
 
 
+def saved(table, room):
+    """What the writer answers for a filled buffer of so many bytes, and what the buffer holds then."""
+    file = bytearray(b"\x55" * room)
+    return o.write_file(table, file), bytes(file)
+
+
 def cases_of_01():
     for leaves, (value, move, ab, sss) in papers.rows(papers.SMALL_TREES):
         for call, count in ((o.alpha_beta, ab), (o.sss_search, sss), (o.mtd_search, sss)):
@@ -124,6 +130,9 @@ def obligations():
     same("B7", (o.read_file(b"000000000005", table), bytes(table)), (1, bytes.fromhex("000000000005") + b"\xaa" * 14))
     f = b"000000000005\n00000000000A"
     same("B8", [o.read_line(f, p)[1] for p in (0, 1, 13, 14, 25, 26, 2 ** 64 - 1)], [13, 1, 25, 14, 25, 26, 2 ** 64 - 1])
+    same("B48", saved(o.table_of_nest([-5]), 27), (26, b"000101000000\n00000000FFFB\n\x55"))
+    same("B48 no table", saved(b"", 0), ((1, 0), b""))
+    same("B48 table before buffer", saved(bytes(12), 0), ((8, 2), b""))
     same("B12", [o.table_no(bytes(k)) for k in (1, 13, 24577, 24582)], [(3, 0), (3, 2), (2, 0), (2, 0)])
     same("B13", o.report(b"000100000005"), refused(6, 0))
     same("B16", o.report(b"000000000005\n000000000005"), refused(8, 2))
@@ -221,6 +230,8 @@ def one_tree(rng, table, literal, pairs):
             if not r[1][k]:
                 other[6 * k + 4:6 * k + 6] = (rng.randint(-32000, 32000) & 65535).to_bytes(2, "big")
         same("passed-over leaves have no influence", run(call, other), r)
+    same("written", saved(table, 13 * n + 3), (13 * n, o.file_of(table, upper=True) + b"\x55" * 3))
+    same("a buffer one byte short", saved(table, 13 * n - 1), ((10, 0), b"\x55" * (13 * n - 1)))
     file = o.file_of(table, upper=rng.random() < 0.5, last=rng.random() < 0.5)
     buffer = bytearray(b"\x55" * o.MAX_TABLE)
     same("read back", (o.read_file(file, buffer), bytes(buffer)), (n, bytes(table) + b"\x55" * (o.MAX_TABLE - 6 * n)))

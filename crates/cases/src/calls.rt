@@ -15,12 +15,17 @@ use frames::MAX_TABLE;
 use libc::STDOUT_FILENO;
 use treefile::Cursor;
 use treefile::Frame;
+use treefile::LINE_SIZE;
 use treefile::Line;
+use treefile::Written;
 use verify::Verdict;
 ghost use Rattle.io.specs.Counts.{Counts};
 
 // A table with one frame more than a tree may have.
 const TABLE_SIZE: usize = FRAME_SIZE * (MAX_NODES + 1);
+
+// The longest file.
+const FILE_SIZE: usize = LINE_SIZE * MAX_NODES;
 
 // What lent buffers are filled with: no call writes this byte.
 const FILLED: u8 = 170;
@@ -61,6 +66,43 @@ pub fn print_reading(file: &[u8], size: u32) {
 fn print_read(file: &[u8], table: &mut [u8]) {
     print_checked(b"read", treefile::read(file, table));
     print_bytes(b"table", table);
+}
+
+// The writer on so many bytes of the table, with a buffer of this length, and what that holds afterwards: zeros follow
+// the frames of the file. What was written is read back.
+pub fn print_writing(file: &[u8], room: u32, size: u32) {
+    let mut table = [0u8; TABLE_SIZE];
+    read_table(file, &mut table);
+    let mut buffer = [FILLED; FILE_SIZE];
+    let end = io::count(size as isize, &table);
+    let written = io::count(room as isize, &buffer);
+    print_written(&table[..end], &mut buffer[..written], size);
+}
+
+fn print_written(table: &[u8], file: &mut [u8], size: u32) {
+    io::write_all(STDOUT_FILENO, b"write");
+    match treefile::write(table, file) {
+        Written::Length(length) => {
+            print_count(length);
+            print_line_feed();
+            print_bytes(b"file", file);
+            let end = io::count(file_size(length), file);
+            print_reading(&file[..end], size);
+        }
+        Written::Rejected(rejection) => {
+            print_rejection(rejection);
+            print_line_feed();
+            print_bytes(b"file", file);
+        }
+    }
+}
+
+// The length of a file as a size to count with.
+fn file_size(length: usize) -> isize {
+    if length < FILE_SIZE {
+        return length as isize;
+    }
+    FILE_SIZE as isize
 }
 
 // The line at a position, and the position then.

@@ -4,11 +4,9 @@ use crate::LINE_FEED;
 use crate::print::print_report;
 use frames::TWO_BYTES;
 use libc::STDOUT_FILENO;
+use treefile::LINE_SIZE;
 ghost use Prim.Native.Nat.{_+_, _*_, _<_, _≤_};
 ghost use lib.ListN.{length};
-
-// The bytes of a line, its line feed included.
-const LINE_SIZE: usize = 13;
 
 // The reports of the trees at the limits (SPEC 3.2), and just past them.
 pub fn print_made_trees() {

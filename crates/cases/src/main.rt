@@ -53,7 +53,8 @@ fn print_case(case: &[u8]) {
     print_answer(&case[start..call], &case[call..]);
 }
 
-// What a call gives for a file, by the first letter of its name: flags, buffers, table, check, line or kids.
+// What a call gives for a file, by the first letter of its name: flags, buffers, table, write, check, line or
+// kids.
 fn print_answer(file: &[u8], call: &[u8]) {
     let mut numbers = [0u32; NUMBERS];
     let count = read_numbers(call, &mut numbers);
@@ -61,6 +62,7 @@ fn print_answer(file: &[u8], call: &[u8]) {
         b'f' => calls::print_verdict_of(file, &numbers[..count]),
         b'b' => calls::print_searches(file, numbers[0], numbers[1]),
         b't' => calls::print_reading(file, numbers[0]),
+        b'w' => calls::print_writing(file, numbers[0], numbers[1]),
         b'c' => calls::print_checks(file, numbers[0]),
         b'l' => calls::print_line(file, numbers[0]),
         b'k' => calls::print_children(file, numbers[0]),

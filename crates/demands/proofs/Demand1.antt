@@ -27,7 +27,10 @@ use Rattle.frames.proofs.FirstNo.{deeper-frames, deeper-rejected}
 use Rattle.treefile.specs.Line.{isLine}
 use Rattle.treefile.specs.Lines.{linesOf, decoded}
 use Rattle.treefile.specs.File.{fileCheck2, fileCheck3, fileRejection, readRejection, readAnswer, tableAfter, filled}
+use Rattle.treefile.specs.Write.{writeRejection, writeOutcome}
+use Rattle.treefile.specs.declared.Written.the-variants.{Rejected as RejectedWrite}
 use Rattle.treefile.proofs.FirstLine.{line-first}
+use Rattle.treefile.proofs.Saving.{write-keeps}
 use Rattle.verify.specs.Flags.{ruleHolds}
 use Rattle.verify.specs.declared.Verdict.the-variants.{Rejected as RejectedFlags}
 use Rattle.verify.specs.Check.{check11, check12, check13, certificateRejection, judged, verdict}
@@ -83,6 +86,10 @@ pub first-file : (f table : List ℕ) (r : Rejection) → readAnswer f table ≡
     → readRejection f table ≡ some r
 first-file f table r e = answer-rejected (frames (decoded f)) r (readRejection f table) (sym e)
 
+pub first-written : (t file : List ℕ) (r : Rejection) → writeOutcome t file .answer ≡ RejectedWrite r
+    → writeRejection t (length file) ≡ some r
+first-written t file r e = write-keeps t file r e .0
+
 pub first-table : (t : List ℕ) (r : Rejection) → checked t ≡ RejectedTable r → rejection t ≡ some r
 first-table t r e = rejected-first t r (sym e)
 
@@ -115,15 +122,16 @@ lowest-node t r e = nodes-first t r e
 pub lowest-deep : (t : List ℕ) (r : Rejection) → depthsRejection t ≡ some r → LowestDeep t r
 lowest-deep t r e = depth-first t r e
 
--- 02, N2: "Deeper trees are answered with 9": a table by the check, by every search (SSS*: with `never-15`) and by the
--- check of certificates
+-- 02, N2: "Deeper trees are answered with 9": a table by the check, by every search (SSS*: with `never-15`), by the
+-- check of certificates and by the writer
 pub deeper-answered : (t : List ℕ) → rejectionBefore9 t ≡ none → (k : ℕ) → k < frames t → maxDepth < depthOf t k
     → (r : Rejection) × LowestDeep t r × (checked t ≡ RejectedTable r)
     × ((lengths : List ℕ) → searchRejection t lengths ≡ some r)
-    × ((flags : List ℕ) → certificateRejection t flags ≡ some r)
-unfolding certificateRejection
+    × ((flags : List ℕ) → certificateRejection t flags ≡ some r) × ((room : ℕ) → writeRejection t room ≡ some r)
+unfolding certificateRejection writeRejection
 deeper-answered t e k l d =
-    let p = deeper-rejected t e k l d in (p .0, p .2, rw (p .1), λ _. rw (p .1), λ _. rw (p .1))
+    let p = deeper-rejected t e k l d in
+    (p .0, p .2, rw (p .1), λ _. rw (p .1), λ _. rw (p .1), λ _. rw (p .1))
 
 -- and a file by the reader
 pub deeper-read : (f : List ℕ)
@@ -167,8 +175,8 @@ never-15 t lengths = by-questions (searchRejection t lengths) refl
     by-questions (some x) p = rw p
 
 -- "After a refusal all lent memory holds what it held before": the buffers of each search (those of the plain engine:
--- `kept-plain` in Plain.antt), the list of SSS*, the table of the reader; the other entries are lent nothing that they
--- could change
+-- `kept-plain` in Plain.antt), the list of SSS*, the table of the reader, the buffer of the writer; the other entries
+-- are lent nothing that they could change
 
 module _ {t : List ℕ} {r : Rejection} where
   pub kept-alphaBeta : (c : AlphaBetaCall t (ab-answer.Rejected r)) → c .left ≡ c .lent
@@ -190,3 +198,7 @@ module _ {t : List ℕ} {r : Rejection} where
 
 pub kept-table : (f table : List ℕ) (r : Rejection) → readAnswer f table ≡ RejectedTable r → tableAfter f table ≡ table
 kept-table f table r e = ap (λ q. filled q (decoded f) table) (first-file f table r e)
+
+pub kept-file : (t file : List ℕ) (r : Rejection) → writeOutcome t file .answer ≡ RejectedWrite r
+    → writeOutcome t file .file ≡ file
+kept-file t file r e = write-keeps t file r e .1

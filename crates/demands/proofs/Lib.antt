@@ -1,5 +1,5 @@
--- The demands, sentence by sentence: Demand1, Demand2 and Demand3; the plain engine of request N1: Plain. The other
--- files carry the theory's theorems to calls over byte tables.
+-- The demands, sentence by sentence: Demand1, Demand2 and Demand3; the plain engine of request N1: Plain; the writer of
+-- request N3: Saving. The other files carry the theory's theorems to calls over byte tables.
 mod Parts
 mod Views
 mod Handed
@@ -8,4 +8,5 @@ pub mod Demand1
 pub mod Demand2
 pub mod Demand3
 pub mod Plain
+pub mod Saving
 pub mod Cases

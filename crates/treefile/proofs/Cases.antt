@@ -1,4 +1,4 @@
--- The small files, computed from the definitions; files at the limit; and the last line feed.
+-- The small files and tables, computed from the definitions; files at the limit; and the last line feed.
 use Prim.Native.Nat.{ℕ, _≤_}
 use mathlib.Core.Path.{_≡_, refl, ap}
 use mathlib.Core.Option.{some}
@@ -10,12 +10,14 @@ use borrow.Author.Tests.{ne-eqb}
 use Rattle.frames.specs.Frame.{maxNodes, frames, next}
 use Rattle.frames.specs.Place.{placeWithin, placeOf}
 use Rattle.frames.specs.Rejection.{_andThen_, eachNode}
-use Rattle.frames.specs.Check.{framesRejection}
+use Rattle.frames.specs.Check.{framesRejection, rejection}
 use Rattle.treefile.specs.Digit.{digitOf}
 use Rattle.treefile.specs.Line.{lineFeed, allDigits, isLine, bytesOf}
 use Rattle.treefile.specs.Lines.{putBefore, linesOf, decode, decoded}
 use Rattle.treefile.specs.File.{eachLine, fileCheck3, fileRejection, AcceptedFile, readRejection}
-use Rattle.treefile.specs.results.Cases.{computed, cases}
+use Rattle.treefile.specs.Encoded.{capitalOf, digitsOf, lineOf, encode}
+use Rattle.treefile.specs.Write.{writeRejection}
+use Rattle.treefile.specs.results.Cases.{computed, cases, performed, writings}
 use Rattle.treefile.proofs.Reading.{sized, long-refused, accepted-parts}
 use Rattle.treefile.proofs.Acceptance.{accepted-nodes}
 
@@ -24,6 +26,11 @@ pub small-files : map computed cases ≡ cases
 unfolding digitOf allDigits isLine bytesOf linesOf decode eachLine fileRejection readRejection
     next placeWithin placeOf eachNode framesRejection
 small-files = refl
+
+-- and so is each writing
+pub small-writings : map performed writings ≡ writings
+unfolding capitalOf digitsOf lineOf encode rejection writeRejection next placeWithin placeOf eachNode framesRejection
+small-writings = refl
 
 module _ (f : List ℕ) where
   -- 53,248 bytes are never too many: question 3 and those on frames decide

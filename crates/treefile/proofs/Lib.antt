@@ -1,4 +1,4 @@
--- Lemmas on digits, lines and files, and the theorems on the reader.
+-- Lemmas on digits, lines and files, and the theorems on the reader and the writer.
 mod Digits
 mod Lines
 mod Storing
@@ -8,6 +8,12 @@ mod Left
 mod Decoding
 mod Counts
 mod Reading
+mod Laying
+mod Writing
+mod Questions
+mod Capitals
 pub mod Acceptance
+pub mod RoundTrip
+pub mod Saving
 pub mod FirstLine
 pub mod Cases

@@ -71,7 +71,7 @@ abbrev digits : ℕ → List ℕ → Bool
 digits n l = eqb (length l) n && allDigits l
 
 -- a line feed is no digit
-feed-no-digit : (b : ℕ) → eqb b lineFeed ≡ true → ltb (digitOf b) noDigit ≡ false
+pub feed-no-digit : (b : ℕ) → eqb b lineFeed ≡ true → ltb (digitOf b) noDigit ≡ false
 unfolding digitOf
 feed-no-digit b e = rw (eqb-true b lineFeed e)
 

@@ -22,7 +22,7 @@ stored-last t (a ∷ vs) i v =
     rw next (stored-last (set t i a) vs (suc i) v)
 
 -- byte k stored behind the k bytes before it
-stored-next : (t bs : List ℕ) (i k : ℕ) → k < length bs
+pub stored-next : (t bs : List ℕ) (i k : ℕ) → k < length bs
     → set (sets t i (take k bs)) (i + k) (getD bs k 0) ≡ sets t i (take (k + 1) bs)
 stored-next t bs i k h =
     let many : length (take k bs) ≡ k = length-take-le k bs (omega arith) in

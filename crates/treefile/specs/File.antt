@@ -10,12 +10,12 @@ use Rattle.frames.specs.declared.Checked.{Checked}
 use Rattle.frames.specs.Frame.{frameSize, maxNodes, frames}
 use Rattle.frames.specs.Rejection.{ask, _andThen_, answer}
 use Rattle.frames.specs.Check.{check1, framesRejection}
-use Rattle.treefile.specs.Line.{lineDigits, isLine}
+use Rattle.treefile.specs.Line.{lineSize, isLine}
 use Rattle.treefile.specs.Lines.{linesOf, decoded}
 
 -- the most bytes of a file, 53,248: a line and its line feed for each node
 abbrev pub maxFile : ℕ
-maxFile = (lineDigits + 1) * maxNodes
+maxFile = lineSize * maxNodes
 
 -- 2: is the file no longer?
 abbrev pub fileCheck2 : List ℕ → Option Rejection

@@ -3,5 +3,7 @@ pub mod Digit
 pub mod Line
 pub mod Lines
 pub mod File
+pub mod Encoded
+pub mod Write
 pub mod engine
 pub mod results

@@ -17,6 +17,10 @@ lineDigits = 12
 abbrev pub lineFeed : ℕ
 lineFeed = 10
 
+-- how many bytes a line takes with it
+abbrev pub lineSize : ℕ
+lineSize = lineDigits + 1
+
 -- is every byte a digit
 unfoldable pub allDigits : List ℕ → Bool
 allDigits [] = true

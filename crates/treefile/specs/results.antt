@@ -1,3 +1,4 @@
 -- What results beside the contracts are stated with: small cases as tables, and the papers' wording clause by clause.
 pub mod Cases
 pub mod Stated
+pub mod Saved

@@ -1,21 +1,28 @@
-// Tree files: the reader of a whole file, of one line, and of one hexadecimal digit.
+// Tree files: the reader of a whole file, of one line, and of one hexadecimal digit; and the writer of a file.
 use frames::Checked;
 use frames::EMPTY;
 use frames::FRAME_SIZE;
 use frames::MAX_NODES;
 use frames::MAX_TABLE;
 use frames::NOT_WHOLE;
+use frames::Rejection;
 use frames::SHORT_BUFFER;
 use frames::TOO_LONG;
+use frames::check;
 use frames::check_frames;
 use frames::rejected;
 ghost use mathlib.Core.Path.{_≡_};
-ghost use Prim.Native.Nat.{_+_, _≤_};
+ghost use mathlib.Core.List.{_++_};
+ghost use Prim.Native.Nat.{_+_, _*_, _<_, _≤_};
 ghost use lib.ListN.{length, drop};
-ghost use Rattle.frames.specs.Frame.{frameSize, maxTable};
-ghost use Rattle.treefile.specs.Digit.{digitOf};
-ghost use Rattle.treefile.specs.Line.{lineDigits, allDigits, isLineAt, bytesOf, bytesAt, frameOf, closed, lineAt};
+ghost use Rattle.frames.specs.Frame.{frameSize, maxNodes, maxTable, frames};
+ghost use Rattle.frames.specs.Rejection.{answer};
+ghost use Rattle.treefile.specs.Digit.{noDigit, digitOf};
+ghost use Rattle.treefile.specs.Line.{lineDigits, lineSize, allDigits, bytesOf, frameOf};
+ghost use Rattle.treefile.specs.Line.{closed, isLineAt, bytesAt, lineAt};
 ghost use Rattle.treefile.specs.File.{maxFile, fileCheck3, fileRejection, readAnswer, tableAfter};
+ghost use Rattle.treefile.specs.Encoded.{capitalOf, lineOf, encode};
+ghost use Rattle.treefile.specs.Write.{writeRejection, writeOutcome};
 ghost use Rattle.treefile.specs.engine.Decoded.{Decoded, Stored};
 
 // The digits of a line, the byte that closes it, and what a byte that is no digit gives.
@@ -25,8 +32,15 @@ const LINE_FEED: u8 = 10;
 
 const NO_DIGIT: u8 = 16;
 
-// The most bytes of a file.
-const MAX_FILE: usize = (LINE_DIGITS + 1) * MAX_NODES;
+// How many digits there are, and how many of them are figures.
+const BASE: u8 = 16;
+
+const FIGURES: u8 = 10;
+
+// The bytes of a line with its line feed, and the most bytes of a file.
+pub const LINE_SIZE: usize = LINE_DIGITS + 1;
+
+const MAX_FILE: usize = LINE_SIZE * MAX_NODES;
 
 // A node's six bytes (01: a frame).
 pub struct Frame {
@@ -49,6 +63,12 @@ pub enum Line {
     NoLine(Cursor),
 }
 
+// The answer of the writer: the file's length in bytes, or the first question that got a "no".
+pub enum Written {
+    Length(usize),
+    Rejected(Rejection),
+}
+
 // Reads a file into the table: the number of nodes, or the first rejection, and then the table is as it was.
 pub fn read(file: &[u8], table: &mut [u8]) -> Checked
     ensures { λ r. ⌜ (r ≡ readAnswer (now (file .entry)) (now (table .entry)))
@@ -65,6 +85,21 @@ pub fn read(file: &[u8], table: &mut [u8]) -> Checked
     }
     bytes::copy(&decoded[..size], table);
     checked
+}
+
+// Writes the file of an accepted table, in capital letters and with every line closed: its length in bytes, or the
+// first rejection, and then the buffer is as it was.
+pub fn write(table: &[u8], file: &mut [u8]) -> Written
+    ensures { λ r. ⌜ record { answer = r; file = now (file .exit) }
+        ≡ writeOutcome (now (table .entry)) (now (file .entry)) ⌝ }
+{
+    match ask(table, file.len()) {
+        Checked::Nodes(nodes) => {
+            write_lines(table, file, nodes);
+            Written::Length(LINE_SIZE * nodes)
+        }
+        Checked::Rejected(rejection) => Written::Rejected(rejection),
+    }
 }
 
 impl Cursor {
@@ -128,7 +163,7 @@ fn decode(file: &[u8], table: &mut [u8]) -> Checked
         if !decode_line(file, at, table, FRAME_SIZE * lines) {
             return rejected(NOT_WHOLE, lines);
         }
-        at += LINE_DIGITS + 1;
+        at += LINE_SIZE;
         lines += 1;
     }
     Checked::Nodes(lines)
@@ -201,4 +236,57 @@ fn frame_of(bytes: &[u8; FRAME_SIZE]) -> Frame
         byte4: bytes[4],
         byte5: bytes[5],
     }
+}
+
+// Questions 1 to 10, for a buffer of so many bytes: the number of nodes, or the first rejection.
+fn ask(table: &[u8], room: usize) -> Checked
+    ensures { λ r. ⌜ r ≡ answer (frames (now (table .entry))) (writeRejection (now (table .entry)) room) ⌝ }
+{
+    let checked = check(table);
+    let Checked::Nodes(nodes) = checked else {
+        return checked;
+    };
+    if room < LINE_SIZE * nodes {
+        return rejected(SHORT_BUFFER, 0);
+    }
+    checked
+}
+
+// The lines of the first nodes of a table, each laid behind the ones before it.
+fn write_lines(table: &[u8], file: &mut [u8], nodes: usize)
+    requires { ⌜ (nodes ≤ maxNodes) × (frameSize * nodes ≤ length (now table)) ⌝ }
+    requires { ⌜ lineSize * nodes ≤ length (now file) ⌝ }
+    ensures { λ _. ⌜ now (file .exit)
+        ≡ encode nodes (now (table .entry)) ++ drop (lineSize * nodes) (now (file .entry)) ⌝ }
+{
+    for node in 0..nodes {
+        let from = FRAME_SIZE * node;
+        let to = from + FRAME_SIZE;
+        let at = LINE_SIZE * node;
+        write_line(&mut file[at..], &table[from..to]);
+    }
+}
+
+// The line of a frame, at the front of what is left of the file.
+fn write_line(file: &mut [u8], frame: &[u8])
+    requires { ⌜ (lineSize ≤ length (now file)) × (length (now frame) ≡ frameSize) ⌝ }
+    ensures { λ _. ⌜ now (file .exit) ≡ lineOf (now (frame .entry)) ++ drop lineSize (now (file .entry)) ⌝ }
+{
+    for k in 0..FRAME_SIZE {
+        let byte = frame[k];
+        file[2 * k] = capital(byte / BASE);
+        file[2 * k + 1] = capital(byte % BASE);
+    }
+    file[LINE_DIGITS] = LINE_FEED;
+}
+
+// The digit of a number, in capital letters.
+fn capital(number: u8) -> u8
+    requires { ⌜ number < noDigit ⌝ }
+    ensures { λ r. ⌜ r ≡ capitalOf number ⌝ }
+{
+    if number < FIGURES {
+        return b'0' + number;
+    }
+    b'A' + (number - FIGURES)
 }

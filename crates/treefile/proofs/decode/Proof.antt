@@ -43,9 +43,6 @@ returns c =
 add-at : tie.Need-add-at Inv-loop μ-loop
 add-at c = search needs
 
-add-at-2 : tie.Need-add-at-2 Inv-loop μ-loop
-add-at-2 c = search needs
-
 add-lines : tie.Need-add-lines Inv-loop μ-loop
 add-lines c = search needs
 
@@ -84,7 +81,6 @@ decode-spec =
     same-length
     returns
     add-at
-    add-at-2
     add-lines
     loop-less
     loop-again

@@ -1,0 +1,78 @@
+-- What a call of the writer leaves, and that the reader takes it back: N3's sentences, over the outcome that the
+-- writer's contract cites.
+use Prim.Native.Nat.{ℕ, _*_, _≤_, _<_}
+use mathlib.Core.Path.{_≡_, refl, sym, ap, _∙_}
+use mathlib.Core.Option.{Option, none, some}
+use mathlib.Core.List.{List, _++_}
+use lib.ListN.{length, take, drop}
+use lib.Seq.{take-at, drop-at}
+use borrow.Author.Tests.{lt-leb}
+use Rattle.lists.proofs.Choice.{clash}
+use Rattle.frames.specs.declared.Rejection.{Rejection}
+use Rattle.frames.specs.declared.Checked.the-variants.{Nodes}
+use Rattle.frames.specs.Frame.{frames}
+use Rattle.frames.specs.Check.{Accepted}
+use Rattle.treefile.specs.File.{readAnswer, tableAfter}
+use Rattle.treefile.specs.Line.{lineSize}
+use Rattle.treefile.specs.Encoded.{fileOf}
+use Rattle.treefile.specs.Write.{writeRejection, written, writeOutcome}
+use Rattle.treefile.specs.declared.Written.the-variants.{Length, Rejected}
+use Rattle.treefile.specs.results.Saved.{Bytes, Saved}
+use Rattle.treefile.proofs.Questions.{passed-room, room-passed}
+use Rattle.treefile.proofs.RoundTrip.{written-length, written-read, written-once}
+
+module _ (t file : List ℕ) where
+  -- an accepted table and room for its file give a length
+  pub write-gives : Accepted t → lineSize * frames t ≤ length file
+      → writeOutcome t file .answer ≡ Length (lineSize * frames t)
+  write-gives a room = rw (room-passed t (length file) a room) (ap Length (written-length t a))
+
+  -- an accepted table and no room for its file give 10
+  pub write-short : Accepted t → length file < lineSize * frames t
+      → writeOutcome t file .answer ≡ Rejected (record { number = 10; place = 0 })
+  unfolding writeRejection
+  write-short a short = rw (a, lt-leb (lineSize * frames t) (length file) short)
+
+  -- where there is a length, the buffer begins with the file of an accepted table, and keeps what lies past it
+  pub write-saves : (n : ℕ) → writeOutcome t file .answer ≡ Length n → Saved t file n
+  write-saves n e = by-questions (writeRejection t (length file)) refl e
+    where
+      by-questions : (q : Option Rejection) → writeRejection t (length file) ≡ q → written t file q .answer ≡ Length n
+          → Saved t file n
+      by-questions none p e =
+          let a = passed-room t (length file) p .0 in
+          let same : length (fileOf t) ≡ n = cc in
+          record {
+            accepted = a;
+            size = sym same ∙ written-length t a;
+            front = rw p (take-at (fileOf t) _ n same);
+            past = rw (p, drop-at (fileOf t) _ n same, same);
+          }
+      by-questions (some r) p e = clash (cc)
+
+  -- where there is a rejection, it is the first "no", and the buffer is as it was
+  pub write-keeps : (r : Rejection) → writeOutcome t file .answer ≡ Rejected r
+      → (writeRejection t (length file) ≡ some r) × (writeOutcome t file .file ≡ file)
+  write-keeps r e = by-questions (writeRejection t (length file)) refl e
+    where
+      by-questions : (q : Option Rejection) → writeRejection t (length file) ≡ q → written t file q .answer ≡ Rejected r
+          → (writeRejection t (length file) ≡ some r) × (writeOutcome t file .file ≡ file)
+      by-questions none p e = clash (cc)
+      by-questions (some x) p e = (p ∙ cc, rw p)
+
+  -- reading the bytes that were written into any table with room restores the table exactly
+  pub saved-read : (n : ℕ) → writeOutcome t file .answer ≡ Length n → Bytes t → (table : List ℕ)
+      → length t ≤ length table →
+      let f = take n (writeOutcome t file .file) in
+      (readAnswer f table ≡ Nodes (frames t)) × (tableAfter f table ≡ t ++ drop (length t) table)
+  saved-read n e h table room =
+      let s = write-saves n e in rw (s .front) (written-read t (s .accepted) h table room)
+
+-- two calls leave the same file only for the same table
+pub saved-once : (t u file other : List ℕ) (n m : ℕ) → writeOutcome t file .answer ≡ Length n
+    → writeOutcome u other .answer ≡ Length m → Bytes t → Bytes u
+    → take n (writeOutcome t file .file) ≡ take m (writeOutcome u other .file) → t ≡ u
+saved-once t u file other n m e g h k same =
+    let a = write-saves t file n e in
+    let b = write-saves u other m g in
+    written-once t u (a .accepted) h (b .accepted) k (sym (a .front) ∙ same ∙ b .front)
