@@ -13,6 +13,7 @@ use frames::leaf_score;
 use frames::rejected;
 use gametree::Side;
 use gametree::better;
+use places::SMALL;
 use places::depth_at;
 use places::fill;
 use places::side_at;
@@ -38,9 +39,6 @@ ghost use Rattle.certificate.specs.engine.Ranges.{bestIn, firstEqual};
 ghost use Rattle.certificate.specs.engine.Bounds.{boundOf, boundsOf, leafBounds};
 ghost use Rattle.certificate.specs.Search.{searchRejection};
 ghost use Rattle.certificate.specs.engine.Flags.{ownPart, bySide, chosenChild, FlagsFrom};
-
-// How many nodes a small table has at most.
-pub const SMALL: usize = 64;
 
 // What every search finds: the minimax value, the first root move that reaches it (0 for a leaf), and how many leaves
 // were evaluated.

@@ -1,7 +1,6 @@
 // MTD over a byte table: the public search, and its engine of passes with falling tests, each asking whether the root
 // is below its test.
 use certificate::Findings;
-use certificate::SMALL;
 use certificate::ask;
 use certificate::best;
 use certificate::clear;
@@ -18,6 +17,7 @@ use frames::frame_count;
 use frames::value;
 use gametree::Place;
 use gametree::Side;
+use places::SMALL;
 ghost use mathlib.Core.Path.{_≡_};
 ghost use mathlib.Core.Bool.{true, false, cond, _||_};
 ghost use Prim.Native.Nat.{ℕ, _+_, _<_, _≤_};

@@ -15,6 +15,9 @@ ghost use Rattle.places.specs.Buffer.{written, stored};
 ghost use Rattle.places.specs.engine.Places.{sideNumber, packed as packedOf, placeEntry};
 ghost use Rattle.places.specs.engine.Places.{parentIn, depthIn, sideIn, placeIn};
 
+// How many nodes a small table has at most: it gets small work arrays.
+pub const SMALL: usize = 64;
+
 // How many depths and sides an entry tells apart.
 const DEPTHS: u32 = MAX_NODES as u32;
 

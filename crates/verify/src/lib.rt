@@ -16,6 +16,7 @@ use frames::rejected;
 use frames::value;
 use gametree::Side;
 use gametree::better;
+use places::SMALL;
 use places::depth_at;
 use places::side_at;
 ghost use mathlib.Core.Path.{_≡_};
@@ -83,9 +84,23 @@ fn check_trees(table: &[u8], flags: &[u8]) -> Verdict
     ensures { λ r. ⌜ r ≡ judged (now (table .entry)) (now (flags .entry))
         (treesRejection (now (table .entry)) (now (flags .entry))) ⌝ }
 {
+    if frame_count(table) <= SMALL {
+        let mut places = [0u32; SMALL];
+        return judge_in(table, flags, &mut places);
+    }
     let mut places = [0u32; MAX_NODES];
-    places::fill(table, &mut places);
-    judge(table, flags, &places)
+    judge_in(table, flags, &mut places)
+}
+
+// The same, over a work array for the places of the nodes.
+fn judge_in(table: &[u8], flags: &[u8], places: &mut [u32]) -> Verdict
+    requires { ⌜ (WellFormed (now table)) × (frames (now table) ≤ length (now flags))
+        × (frames (now table) ≤ length (now places)) ⌝ }
+    ensures { λ r. ⌜ r ≡ judged (now (table .entry)) (now (flags .entry))
+        (treesRejection (now (table .entry)) (now (flags .entry))) ⌝ }
+{
+    places::fill(table, places);
+    judge(table, flags, places)
 }
 
 // The same, with the places of the nodes.
