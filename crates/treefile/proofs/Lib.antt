@@ -1,7 +1,9 @@
 -- Lemmas on digits, lines and files, and the theorems on the reader and the writer.
 mod Digits
+mod DigitArithmetic
 mod Lines
 mod Storing
+mod Numbering
 mod Positions
 mod Splits
 mod Left

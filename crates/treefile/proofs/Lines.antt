@@ -1,18 +1,15 @@
--- A line's digits, which a loop tests one by one, and the six bytes that they stand for.
+-- A line's digits, and the six bytes that they stand for.
 use Prim.Native.Nat.{ℕ, zero, suc, _+_, _*_, _<_}
 use mathlib.Core.Path.{_≡_, refl, ap}
-use mathlib.Core.Bool.{true, false, and-eq-true-iff}
+use mathlib.Core.Bool.{true, and-eq-true-iff}
 use mathlib.Core.List.{List, [], _∷_}
 use lib.Dec.{ltb, eqb}
-use lib.ListN.{length, getD, drop}
-use lib.Seq.{drop-cons}
+use lib.ListN.{length, getD}
 use native.Mathlib.Omega.{arith}
-use native.Mathlib.Numerals.{add-one}
-use borrow.Author.Tests.{lt-ltb, le-ltb, ltb-true, eqb-true}
+use borrow.Author.Tests.{ltb-true, eqb-true}
 use Rattle.treefile.specs.Digit.{noDigit, digitOf}
 use Rattle.treefile.specs.Line.{lineDigits, allDigits, isLine, hexByte, bytesOf}
 use Rattle.frames.specs.Frame.{frameSize}
-use Rattle.treefile.proofs.Digits.{digit-small}
 
 -- a line has twelve bytes
 pub line-length : (l : List ℕ) → isLine l ≡ true → length l ≡ lineDigits
@@ -32,19 +29,6 @@ digit-at (b ∷ l) zero e h =
     ltb-true (digitOf b) noDigit (and-eq-true-iff (ltb (digitOf b) noDigit) (allDigits l) .0 e .0)
 digit-at (b ∷ l) (suc i) e h =
     digit-at l i (and-eq-true-iff (ltb (digitOf b) noDigit) (allDigits l) .0 e .1) (omega arith)
-
-module _ (l : List ℕ) (i : ℕ) (inside : i < length l) where
-  -- a byte that is no digit ends the test
-  pub digits-stop : digitOf (getD l i 0) ≡ noDigit → allDigits (drop i l) ≡ false
-  unfolding allDigits
-  digits-stop e = rw (drop-cons l i 0 inside, le-ltb (digitOf (getD l i 0)) noDigit (omega arith))
-
-  -- past a digit the test goes on
-  pub digits-more : (digitOf (getD l i 0) ≡ noDigit → ⊥) → allDigits (drop i l) ≡ allDigits (drop (i + 1) l)
-  unfolding allDigits
-  digits-more n =
-      let small : digitOf (getD l i 0) < noDigit = omega (arith, digit-small (getD l i 0)) in
-      rw (add-one, drop-cons l i 0 inside, lt-ltb (digitOf (getD l i 0)) noDigit small)
 
 -- byte k of a line is made of its digits 2k and 2k + 1
 pub byte-at : (k : ℕ) (l : List ℕ) → 2 * k + 1 < length l

@@ -1,18 +1,18 @@
--- Decoding one line: what holds after k of its bytes, and that each byte, stored behind the ones before, keeps it.
-use Prim.Native.Nat.{ℕ, suc, _+_, _*_, _≤_, _<_}
-use mathlib.Core.Path.{_≡_, refl, sym, ap, _∙_}
+-- Storing the bytes of one line, each behind the ones before.
+use Prim.Native.Nat.{ℕ, suc, _+_, _*_, _<_}
+use mathlib.Core.Path.{_≡_, sym, _∙_}
 use mathlib.Core.Bool.{Bool, true, false}
 use mathlib.Core.List.{List, [], _∷_, _++_, append-nil}
-use lib.ListN.{length, getD, set, take, drop, drop-of-length-le}
+use lib.ListN.{length, getD, set, take, drop-of-length-le}
 use lib.Seq.{sets, sets-eq, take-suc, take-length, length-take-le}
 use native.Mathlib.Omega.{arith}
 use native.Mathlib.Numerals.{add-one}
 use Rattle.lists.proofs.Choice.{clash}
 use Rattle.frames.specs.Frame.{frameSize}
 use Rattle.treefile.specs.Digit.{noDigit, digitOf}
-use Rattle.treefile.specs.Line.{lineDigits, allDigits, hexByte, bytesOf}
+use Rattle.treefile.specs.Line.{lineDigits, allDigits, bytesOf}
 use Rattle.treefile.specs.engine.Decoded.{Stored}
-use Rattle.treefile.proofs.Lines.{digits-stop, digits-more, byte-at, bytes-length}
+use Rattle.treefile.proofs.Lines.{byte-at, bytes-length}
 
 -- a byte stored behind others
 stored-last : (t vs : List ℕ) (i v : ℕ) → set (sets t i vs) (i + length vs) v ≡ sets t i (vs ++ (v ∷ []))
@@ -46,58 +46,22 @@ stored-whole is bytes t after r s h e =
     s .stored h ∙ sets-eq bytes t 0 (omega arith)
     ∙ rw (drop-of-length-le t {i = 0 + length bytes} (omega arith)) (append-nil bytes)
 
--- after k bytes the digits from 2k on decide, and the table holds the k bytes
-pub record Storing (line t : List ℕ) (to : ℕ) (table : List ℕ) (k : ℕ) : Type 0 where
-  pub few : k ≤ frameSize
-  pub left : allDigits line ≡ allDigits (drop (2 * k) line)
-  pub stored : table ≡ sets t to (take k (bytesOf line))
+module _ (line t : List ℕ) (to k : ℕ) (twelve : length line ≡ lineDigits) (inside : k < frameSize) where
+  -- byte k, made of the numbers of its two digits and stored behind the ones before
+  pub byte-stored : (table : List ℕ) (high low : ℕ) → table ≡ sets t to (take k (bytesOf line))
+      → high ≡ digitOf (getD line (2 * k) 0) → low ≡ digitOf (getD line (2 * k + 1) 0)
+      → set table (to + k) (noDigit * high + low) ≡ sets t to (take (k + 1) (bytesOf line))
+  byte-stored table high low e h l =
+      let byte : noDigit * high + low ≡ getD (bytesOf line) k 0 = rw (h, l, byte-at k line (omega arith)) in
+      rw (e, byte) (stored-next t (bytesOf line) to k (omega (arith, bytes-length frameSize line twelve)))
 
-module _ (line t : List ℕ) (to : ℕ) where
-  -- before the first byte
-  pub storing-none : Storing line t to t 0
-  storing-none =
-      record {
-        few = omega arith;
-        left = refl;
-        stored = refl;
-      }
-
-  module _ (table : List ℕ) (k : ℕ) (twelve : length line ≡ lineDigits) (d : Storing line t to table k) where
-    -- after the last byte
-    pub storing-all : frameSize ≤ k → Stored (allDigits line) (bytesOf line) t to table true
-    unfolding allDigits
-    storing-all h =
-        let six : length (bytesOf line) ≡ k = bytes-length frameSize line twelve ∙ omega (arith, d .few) in
-        record {
-          answered = sym (d .left ∙ ap allDigits (drop-of-length-le line {i = 2 * k} (omega arith)));
-          stored = λ p. d .stored ∙ rw (← six, take-length (bytesOf line));
-        }
-
-    module _ (inside : k < frameSize) where
-      -- the high digit is none
-      pub storing-high : digitOf (getD line (2 * k) 0) ≡ noDigit
-          → Stored (allDigits line) (bytesOf line) t to table false
-      storing-high e = stored-refused _ _ t to table (d .left ∙ digits-stop line (2 * k) (omega arith) e)
-
-      module _ (high : digitOf (getD line (2 * k) 0) ≡ noDigit → ⊥) where
-        past-high : allDigits line ≡ allDigits (drop (2 * k + 1) line)
-        past-high = d .left ∙ digits-more line (2 * k) (omega arith) high
-
-        -- the low digit is none
-        pub storing-low : digitOf (getD line (2 * k + 1) 0) ≡ noDigit
-            → Stored (allDigits line) (bytesOf line) t to table false
-        storing-low e = stored-refused _ _ t to table (past-high ∙ digits-stop line (2 * k + 1) (omega arith) e)
-
-        -- a byte stored behind the ones before
-        pub storing-next : (digitOf (getD line (2 * k + 1) 0) ≡ noDigit → ⊥)
-            → (b : ℕ) → b ≡ hexByte (getD line (2 * k) 0) (getD line (2 * k + 1) 0)
-            → Storing line t to (set table (to + k) b) (k + 1)
-        storing-next low b e =
-            let next : 2 * (k + 1) ≡ 2 * k + 1 + 1 = omega arith in
-            record {
-              few = omega arith;
-              left = past-high ∙ rw next (digits-more line (2 * k + 1) (omega arith) low);
-              stored =
-                  rw (d .stored, e, ← byte-at k line (omega arith))
-                  (stored-next t (bytesOf line) to k (omega (arith, bytes-length frameSize line twelve)));
-            }
+-- after the last byte the answer is yes, if every byte of the line is a digit
+pub stored-all : (line t : List ℕ) (to : ℕ) (table : List ℕ) (k : ℕ) → length line ≡ lineDigits → k ≡ frameSize
+    → table ≡ sets t to (take k (bytesOf line)) → allDigits line ≡ true
+    → Stored (allDigits line) (bytesOf line) t to table true
+stored-all line t to table k twelve h e a =
+    let six : length (bytesOf line) ≡ k = bytes-length frameSize line twelve ∙ sym h in
+    record {
+      answered = sym a;
+      stored = λ p. e ∙ rw (← six, take-length (bytesOf line));
+    }

@@ -18,6 +18,8 @@ ghost use lib.ListN.{length, drop};
 ghost use Rattle.frames.specs.Frame.{frameSize, maxNodes, maxTable, frames};
 ghost use Rattle.frames.specs.Rejection.{answer};
 ghost use Rattle.treefile.specs.Digit.{noDigit, digitOf};
+ghost use Rattle.treefile.specs.engine.Kinds.{oneWithin};
+ghost use Rattle.treefile.specs.engine.Numbered.{abreast, Numbered};
 ghost use Rattle.treefile.specs.Line.{lineDigits, lineSize, allDigits, bytesOf, frameOf};
 ghost use Rattle.treefile.specs.Line.{closed, isLineAt, bytesAt, lineAt};
 ghost use Rattle.treefile.specs.File.{maxFile, fileCheck3, fileRejection, readAnswer, tableAfter};
@@ -25,17 +27,30 @@ ghost use Rattle.treefile.specs.Encoded.{capitalOf, lineOf, encode};
 ghost use Rattle.treefile.specs.Write.{writeRejection, writeOutcome};
 ghost use Rattle.treefile.specs.engine.Decoded.{Decoded, Stored};
 
-// The digits of a line, the byte that closes it, and what a byte that is no digit gives.
+// The digits of a line, and the byte that closes it.
 const LINE_DIGITS: usize = 12;
 
 const LINE_FEED: u8 = 10;
 
-const NO_DIGIT: u8 = 16;
+// How many digits are read abreast: a line's and some more, to a power of two, so that the compiler reads them in one
+// register.
+const ABREAST: usize = 16;
 
 // How many digits there are, and how many of them are figures.
 const BASE: u8 = 16;
 
 const FIGURES: u8 = 10;
+
+// What a byte that is no digit gives; what a letter's number is more than its low four bits, and what that lacks to the
+// number of no digit.
+const NO_DIGIT: u32 = 16;
+
+const LETTER_MORE: u32 = 9;
+
+const LETTER_LACKS: u32 = NO_DIGIT - LETTER_MORE;
+
+// How many bytes there are.
+const BYTES: u32 = 256;
 
 // The bytes of a line with its line feed, and the most bytes of a file.
 pub const LINE_SIZE: usize = LINE_DIGITS + 1;
@@ -121,16 +136,26 @@ impl Cursor {
     }
 }
 
-// The number of a hexadecimal digit in either letter case, 0 to 15; NO_DIGIT for any other byte.
+// The number of a hexadecimal digit in either letter case, 0 to 15; NO_DIGIT for any other byte. It is arithmetic on
+// the byte: a figure's number is its low four bits, a letter's is LETTER_MORE more.
 pub fn digit(byte: u8) -> u8
     ensures { λ r. ⌜ r ≡ digitOf byte ⌝ }
 {
-    match byte {
-        b'0'..=b'9' => byte - b'0',
-        b'A'..=b'F' => byte - b'A' + 10,
-        b'a'..=b'f' => byte - b'a' + 10,
-        _ => NO_DIGIT,
-    }
+    let figure = one_within(b'0', b'9', byte);
+    let upper = one_within(b'A', b'F', byte);
+    let lower = one_within(b'a', b'f', byte);
+    let letter = upper + lower;
+    let low = (byte % BASE) as u32;
+    (NO_DIGIT + (figure + letter) * low - (NO_DIGIT * figure + LETTER_LACKS * letter)) as u8
+}
+
+// 1 if the byte is one of those from the first to the last, else 0: (byte + BYTES - c) / BYTES is 1 from the byte c on.
+fn one_within(first: u8, last: u8, byte: u8) -> u32
+    requires { ⌜ first ≤ last ⌝ }
+    ensures { λ r. ⌜ r ≡ oneWithin first last byte ⌝ }
+{
+    let b = byte as u32;
+    (b + BYTES - first as u32) / BYTES - (b + BYTES - 1 - last as u32) / BYTES
 }
 
 // Questions 1 to 9: the number of nodes, whose frames then stand at the table's front, or the first rejection.
@@ -208,20 +233,30 @@ fn decode_digits(line: &[u8], table: &mut [u8], to: usize) -> bool
     ensures { λ r. ⌜ Stored (allDigits (now (line .entry))) (bytesOf (now (line .entry)))
         (now (table .entry)) to (now (table .exit)) r ⌝ }
 {
-    let mut k = 0;
-    while k < FRAME_SIZE {
-        let high = digit(line[2 * k]);
-        if high == NO_DIGIT {
-            return false;
-        }
-        let low = digit(line[2 * k + 1]);
-        if low == NO_DIGIT {
-            return false;
-        }
-        table[to + k] = 16 * high + low;
-        k += 1;
+    let mut digits = [b'0'; ABREAST];
+    bytes::copy(line, &mut digits);
+    let mut numbers = [0u8; ABREAST];
+    if read_digits(&digits, &mut numbers) != 0 {
+        return false;
+    }
+    for k in 0..FRAME_SIZE {
+        table[to + k] = BASE * numbers[2 * k] + numbers[2 * k + 1];
     }
     true
+}
+
+// The number of each digit; and how many are no digits, so that no turn branches.
+fn read_digits(digits: &[u8], numbers: &mut [u8]) -> u8
+    requires { ⌜ (length (now digits) ≡ abreast) × (length (now numbers) ≡ abreast) ⌝ }
+    ensures { λ r. ⌜ Numbered (now (digits .entry)) (now (numbers .exit)) r abreast ⌝ }
+{
+    let mut others = 0;
+    for k in 0..ABREAST {
+        let number = digit(digits[k]);
+        numbers[k] = number;
+        others += number / BASE;
+    }
+    others
 }
 
 // Six bytes as a frame.

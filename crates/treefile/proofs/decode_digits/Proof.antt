@@ -1,87 +1,102 @@
--- `treefile::decode_digits` meets its contract: each turn decodes two digits and stores their byte behind the ones
--- before.
---
-use Prim.Native.Nat.{_+_, _*_, _-_, _<_}
-use mathlib.Core.Path.{_≡_, sym, _∙_}
+-- `treefile::decode_digits` meets its contract: the line's digits stand in front of four zeros when they are read, and
+-- each turn stores the byte of two of them behind the ones before.
+use Prim.Native.Nat.{ℕ, _+_, _-_, _*_, _≤_, _<_}
+use mathlib.Core.Path.{_≡_, refl, sym}
 use native.Mathlib.Omega.{arith}
 use borrow.Author.Needs.{needs}
-use lib.ListN.{length, getD, length-set}
+use lib.ListN.{length, length-set, getD, take}
+use lib.Seq.{sets}
 use Rattle.frames.specs.Frame.{frameSize}
-use Rattle.treefile.specs.Digit.{noDigit}
-use Rattle.treefile.proofs.Digits.{digit-small}
-use Rattle.treefile.proofs.Storing.{Storing, storing-none, storing-all, storing-high, storing-low, storing-next}
+use Rattle.treefile.specs.Digit.{noDigit, digitOf}
+use Rattle.treefile.specs.Line.{lineDigits, bytesOf}
+use Rattle.treefile.proofs.Storing.{stored-refused, byte-stored, stored-all}
+use Rattle.treefile.proofs.Numbering.{padded-length, line-number, number-small, line-right, line-wrong}
 use Rattle.treefile.proofs.decode_digits.Statement.{statement}
 use Rattle.treefile.proofs.decode_digits.Tie as tie
 
 abbrev Inv-loop : tie.InvT-loop
-Inv-loop line table₀ to k₀ table k = (length table ≡ length table₀) × Storing line table₀ to table k
+Inv-loop line table₀ to numbers k₀ table k =
+    (length table ≡ length table₀) × (k ≤ frameSize) × (table ≡ sets table₀ to (take k (bytesOf line)))
 
 abbrev μ-loop : tie.MeasureT-loop
-μ-loop line table₀ to k₀ table k = frameSize - k
+μ-loop line table₀ to numbers k₀ table k = frameSize - k
 
-loop-holds : tie.Need-loop-holds Inv-loop μ-loop
-loop-holds c = (search needs, storing-none _ _ _)
+slice-aggregate-copy : tie.Need-slice-aggregate-copy Inv-loop μ-loop
+slice-aggregate-copy c = search needs
 
-mul-digit : tie.Need-mul-digit Inv-loop μ-loop
-mul-digit c = search needs
+copy-requires : tie.Need-copy-requires Inv-loop μ-loop
+copy-requires c κs = search needs
 
-shared-slice-read-digit : tie.Need-shared-slice-read-digit Inv-loop μ-loop
-shared-slice-read-digit c = search needs
+slice-aggregate-read-digits : tie.Need-slice-aggregate-read-digits Inv-loop μ-loop
+slice-aggregate-read-digits c =
+    let k = c .before .before in
+    let s = k .before .before .before .before in
+    sym (padded-length (s .args .line .now) _ (s .pre .0) (k .copy .ensures .1))
 
-digit-requires : tie.Need-digit-requires Inv-loop μ-loop
-digit-requires c κs = search needs
+slice-aggregate-read-digits-2 : tie.Need-slice-aggregate-read-digits-2 Inv-loop μ-loop
+slice-aggregate-read-digits-2 c = search needs
 
-same-length : tie.Need-same-length Inv-loop μ-loop
-same-length c = search needs
+read-digits-requires : tie.Need-read-digits-requires Inv-loop μ-loop
+read-digits-requires c κs =
+    let k = c .before .before .before in
+    let s = k .before .before .before .before in
+    (padded-length (s .args .line .now) _ (s .pre .0) (k .copy .ensures .1), refl)
 
 returns : tie.Need-returns Inv-loop μ-loop
 returns c =
-    let l = c .before .before .before .before in
-    storing-high _ _ _ _ _ (l .before .before .before .pre .0) (l .loop .inv .1) (omega arith)
-    (sym (c .before .digit .ensures) ∙ c .if1 .taken)
+    let r = c .before .before in
+    let k = r .before .before .before .before in
+    let s = k .before .before .before .before in
+    stored-refused _ _ _ _ _
+    (line-wrong (s .args .line .now) _ (s .pre .0) (k .copy .ensures .1) _ _ (r .read-digits .ensures) (omega arith))
 
-mul-digit-2 : tie.Need-mul-digit-2 Inv-loop μ-loop
-mul-digit-2 c = search needs
+loop-holds : tie.Need-loop-holds Inv-loop μ-loop
+loop-holds c = (search needs, omega arith, refl)
 
-add-digit : tie.Need-add-digit Inv-loop μ-loop
-add-digit c = search needs
+-- the number of each digit of the line, which is below 16
+number : (c : tie.In-loop Inv-loop μ-loop) (i : ℕ) → i < lineDigits
+    → getD (c .before .before .before .before .read-digits .last .1 .0) i 0
+    ≡ digitOf (getD (c .before .before .before .before .before .before .before .before .before .before .before .before .args .line .now) i 0)
+number c i h =
+    let r = c .before .before .before .before in
+    let k = r .before .before .before .before in
+    let s = k .before .before .before .before in
+    line-number (s .args .line .now) _ (s .pre .0) (k .copy .ensures .1) _ _ (r .read-digits .ensures) i h
 
-shared-slice-read-digit-2 : tie.Need-shared-slice-read-digit-2 Inv-loop μ-loop
-shared-slice-read-digit-2 c = search needs
-
-digit-requires-2 : tie.Need-digit-requires-2 Inv-loop μ-loop
-digit-requires-2 c κs = search needs
-
-same-length-2 : tie.Need-same-length-2 Inv-loop μ-loop
-same-length-2 c = search needs
-
-returns-2 : tie.Need-returns-2 Inv-loop μ-loop
-returns-2 c =
-    let l = c .before .before .before .before .before .before .before in
-    storing-low _ _ _ _ _ (l .before .before .before .pre .0) (l .loop .inv .1) (omega arith)
-    (λ e. c .before .before .before .if1 .left (c .before .before .before .before .digit .ensures ∙ e))
-    (sym (c .before .digit2 .ensures) ∙ c .if2 .taken)
-
--- two bytes that are digits have numbers below 16
-small : (c : tie.Else2 Inv-loop μ-loop)
-    → (c .before .before .before .before .digit .result < noDigit) × (c .before .digit2 .result < noDigit)
-small c =
-    let l = c .before .before .before .before .before .before .before in
-    let line = l .before .before .before .args .line .now in
-    let high = digit-small (getD line (2 * l .loop .k) 0) in
-    let low = digit-small (getD line (2 * l .loop .k + 1) 0) in (
-      omega (arith, c .before .before .before .before .digit .ensures, c .before .before .before .if1 .left),
-      omega (arith, c .before .digit2 .ensures, c .if2 .left),
-    )
+small : (c : tie.In-loop Inv-loop μ-loop) (i : ℕ) → i < lineDigits
+    → getD (c .before .before .before .before .read-digits .last .1 .0) i 0 < noDigit
+small c i h =
+    let r = c .before .before .before .before in
+    let k = r .before .before .before .before in
+    let s = k .before .before .before .before in
+    number-small (s .args .line .now) _ (s .pre .0) (k .copy .ensures .1) _ _ (r .read-digits .ensures) (omega arith)
+    i h
 
 mul-table : tie.Need-mul-table Inv-loop μ-loop
-mul-table c = omega (arith, small c)
+mul-table c = search needs
+
+array-read-table : tie.Need-array-read-table Inv-loop μ-loop
+array-read-table c = search needs
+
+mul-table-2 : tie.Need-mul-table-2 Inv-loop μ-loop
+mul-table-2 c = record { fits = omega (arith, small c (2 * c .before .loop .k) (omega arith)) }
+
+mul-table-3 : tie.Need-mul-table-3 Inv-loop μ-loop
+mul-table-3 c = search needs
 
 add-table : tie.Need-add-table Inv-loop μ-loop
-add-table c = omega (arith, small c)
+add-table c = search needs
+
+array-read-table-2 : tie.Need-array-read-table-2 Inv-loop μ-loop
+array-read-table-2 c = search needs
 
 add-table-2 : tie.Need-add-table-2 Inv-loop μ-loop
-add-table-2 c = search needs
+add-table-2 c =
+    let k = c .before .loop .k in
+    record { fits = omega (arith, small c (2 * k) (omega arith), small c (2 * k + 1) (omega arith)) }
+
+add-table-3 : tie.Need-add-table-3 Inv-loop μ-loop
+add-table-3 c = search needs
 
 slice-write-table : tie.Need-slice-write-table Inv-loop μ-loop
 slice-write-table c = search needs
@@ -94,22 +109,23 @@ loop-less c = search needs
 
 loop-again : tie.Need-loop-again Inv-loop μ-loop
 loop-again c =
-    let l = c .before .before .before .before .before .before .before in (
-      simp length-set (omega arith),
-      storing-next _ _ _ _ _ (l .before .before .before .pre .0) (l .loop .inv .1) (omega arith)
-          (λ e. c .before .before .before .if1 .left (c .before .before .before .before .digit .ensures ∙ e))
-          (λ e. c .if2 .left (c .before .digit2 .ensures ∙ e))
-          _
-          (omega (arith, c .before .before .before .before .digit .ensures, c .before .digit2 .ensures)),
+    let l = c .before .loop in (
+      simp length-set (l .inv .0),
+      omega arith,
+      byte-stored _ _ _ _ (c .before .before .before .before .before .before .before .before .before .before .before .before .pre .0) (omega arith) _ _ _ (l .inv .2) (number c _ (omega arith))
+          (number c _ (omega arith)),
     )
 
-same-length-3 : tie.Need-same-length-3 Inv-loop μ-loop
-same-length-3 c = search needs
+same-length : tie.Need-same-length Inv-loop μ-loop
+same-length c = search needs
 
-returns-3 : tie.Need-returns-3 Inv-loop μ-loop
-returns-3 c =
-    let l = c .before in
-    storing-all _ _ _ _ _ (l .before .before .before .pre .0) (l .loop .inv .1) (omega arith)
+returns-2 : tie.Need-returns-2 Inv-loop μ-loop
+returns-2 c =
+    let r = c .before .before .before .before in
+    let k = r .before .before .before .before in
+    let s = k .before .before .before .before in
+    stored-all _ _ _ _ (c .before .loop .k) (s .pre .0) (omega arith) (c .before .loop .inv .2)
+    (line-right (s .args .line .now) _ (s .pre .0) (k .copy .ensures .1) _ _ (r .read-digits .ensures) (omega arith))
 
 pub decode-digits-spec : {M : Type 1} → statement M
 decode-digits-spec =
@@ -117,24 +133,24 @@ decode-digits-spec =
     (tie.spec
     Inv-loop
     μ-loop
-    loop-holds
-    mul-digit
-    shared-slice-read-digit
-    digit-requires
-    same-length
+    slice-aggregate-copy
+    copy-requires
+    slice-aggregate-read-digits
+    slice-aggregate-read-digits-2
+    read-digits-requires
     returns
-    mul-digit-2
-    add-digit
-    shared-slice-read-digit-2
-    digit-requires-2
-    same-length-2
-    returns-2
+    loop-holds
     mul-table
+    array-read-table
+    mul-table-2
+    mul-table-3
     add-table
+    array-read-table-2
     add-table-2
+    add-table-3
     slice-write-table
     add-k
     loop-less
     loop-again
-    same-length-3
-    returns-3)
+    same-length
+    returns-2)
