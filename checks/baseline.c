@@ -5,7 +5,7 @@
 #include <stdio.h>
 #include <string.h>
 
-enum { DIGITS = 12, CHILDREN = 40, VALUE = 32000, LEAST = -32001, GREATEST = 32001 };
+enum { DIGITS = 12, CHILDREN = 40, VALUE = 32000, WIN = 31000, LEAST = -32001, GREATEST = 32001 };
 
 static struct answer no(int number, size_t place) { return (struct answer){ .refused = number, .place = place }; }
 
@@ -109,20 +109,28 @@ static struct answer ask(const uint8_t *table, size_t length, size_t marks_room,
     return answer;
 }
 
-static inline int evaluate(const uint8_t *table, uint8_t *marks, int k) {
-    marks[k] = 1;
-    return stored_value(table, k);
+/* What the leaf k counts at this depth. */
+static inline int worth(const uint8_t *table, int k, int depth) {
+    int value = stored_value(table, k);
+    return value >= WIN ? value - depth : value <= -WIN ? value + depth : value;
 }
 
-/* Who moves at each node. */
-static void fill_sides(const uint8_t *table, int n, uint8_t *is_max) {
-    int next = 1, end = 1, max = 1;
+static inline int evaluate(const uint8_t *table, uint8_t *marks, int k, int depth) {
+    marks[k] = 1;
+    return worth(table, k, depth);
+}
+
+/* The depth of each node: Max moves where it is even. */
+static void fill_depths(const uint8_t *table, int n, uint8_t *depths) {
+    int next = 1, end = 1, depth = 0;
     for (int k = 0; k < n; k++) {
-        if (k == end) max = !max, end = next;
-        is_max[k] = max;
+        if (k == end) depth++, end = next;
+        depths[k] = depth;
         next += child_count(table, k);
     }
 }
+
+static inline bool max_moves(int depth) { return depth % 2 == 0; }
 
 static void fill_parents(const uint8_t *table, int n, uint16_t *parent) {
     parent[0] = 0;
@@ -132,18 +140,18 @@ static void fill_parents(const uint8_t *table, int n, uint16_t *parent) {
 
 /* The bounds of every node from the marked leaves, the proof that is read off them, and the root move. */
 static int conclude(const uint8_t *table, int n, uint8_t *marks, uint8_t *proof) {
-    uint8_t is_max[NODES];
+    uint8_t depth[NODES];
     int low[NODES], high[NODES];
-    fill_sides(table, n, is_max);
+    fill_depths(table, n, depth);
     for (int k = n - 1; k >= 0; k--) {
         int count = child_count(table, k), first = first_child(table, k);
         if (count == 0) {
             low[k] = LEAST, high[k] = GREATEST;
-            if (marks[k]) low[k] = high[k] = evaluate(table, marks, k);
+            if (marks[k]) low[k] = high[k] = evaluate(table, marks, k, depth[k]);
             continue;
         }
         int l = low[first], h = high[first];
-        if (is_max[k])
+        if (max_moves(depth[k]))
             for (int c = first + 1; c < first + count; c++) l = greater(l, low[c]), h = greater(h, high[c]);
         else
             for (int c = first + 1; c < first + count; c++) l = lesser(l, low[c]), h = lesser(h, high[c]);
@@ -153,8 +161,9 @@ static int conclude(const uint8_t *table, int n, uint8_t *marks, uint8_t *proof)
     for (int k = 0; k < n; k++) {
         int count = child_count(table, k), first = first_child(table, k);
         if (count == 0) continue;
-        int all = proof[k] & (is_max[k] ? 1 : 2);
-        const int *bound = is_max[k] ? low : high;
+        bool is_max = max_moves(depth[k]);
+        int all = proof[k] & (is_max ? 1 : 2);
+        const int *bound = is_max ? low : high;
         memset(proof + first, all, count);
         if (proof[k] == all) continue;
         int c = first;
@@ -175,14 +184,15 @@ struct visits {
     int leaves;
 };
 
-static int alpha_beta(struct visits *v, int k, bool is_max, int alpha, int beta) {
+static int alpha_beta(struct visits *v, int k, int depth, int alpha, int beta) {
     int count = child_count(v->table, k), first = first_child(v->table, k);
+    bool is_max = max_moves(depth);
     if (count == 0) {
         v->leaves++;
-        return evaluate(v->table, v->marks, k);
+        return evaluate(v->table, v->marks, k, depth);
     }
     for (int c = first; c < first + count && alpha < beta; c++) {
-        int value = alpha_beta(v, c, !is_max, alpha, beta);
+        int value = alpha_beta(v, c, depth + 1, alpha, beta);
         if (is_max) alpha = greater(alpha, value);
         else beta = lesser(beta, value);
     }
@@ -195,26 +205,26 @@ struct answer c_alphabeta(const uint8_t *table, size_t length, uint8_t *marks, s
     if (asked.refused) return asked;
     struct visits v = { table, marks, 0 };
     memset(marks, 0, asked.count);
-    int value = alpha_beta(&v, 0, true, LEAST, GREATEST);
+    int value = alpha_beta(&v, 0, 0, LEAST, GREATEST);
     int move = conclude(table, asked.count, marks, proof);
     return (struct answer){ .value = value, .root_move = move, .leaves = v.leaves };
 }
 
 /* ---- the plain engine */
 
-static int min_turn(const uint8_t *table, uint8_t *marks, int k);
+static int min_turn(const uint8_t *table, uint8_t *marks, int k, int depth);
 
-static int max_turn(const uint8_t *table, uint8_t *marks, int k) {
+static int max_turn(const uint8_t *table, uint8_t *marks, int k, int depth) {
     int count = child_count(table, k), first = first_child(table, k), best = LEAST;
-    if (count == 0) return evaluate(table, marks, k);
-    for (int c = first; c < first + count; c++) best = greater(best, min_turn(table, marks, c));
+    if (count == 0) return evaluate(table, marks, k, depth);
+    for (int c = first; c < first + count; c++) best = greater(best, min_turn(table, marks, c, depth + 1));
     return best;
 }
 
-static int min_turn(const uint8_t *table, uint8_t *marks, int k) {
+static int min_turn(const uint8_t *table, uint8_t *marks, int k, int depth) {
     int count = child_count(table, k), first = first_child(table, k), best = GREATEST;
-    if (count == 0) return evaluate(table, marks, k);
-    for (int c = first; c < first + count; c++) best = lesser(best, max_turn(table, marks, c));
+    if (count == 0) return evaluate(table, marks, k, depth);
+    for (int c = first; c < first + count; c++) best = lesser(best, max_turn(table, marks, c, depth + 1));
     return best;
 }
 
@@ -223,7 +233,7 @@ struct answer c_plain(const uint8_t *table, size_t length, uint8_t *marks, size_
     struct answer asked = ask(table, length, marks_room, proof_room);
     if (asked.refused) return asked;
     memset(marks, 0, asked.count);
-    int value = max_turn(table, marks, 0);
+    int value = max_turn(table, marks, 0, 0);
     int move = conclude(table, asked.count, marks, proof);
     return (struct answer){ .value = value, .root_move = move };
 }
@@ -238,7 +248,7 @@ struct passes {
     uint8_t not_below[NODES];
 };
 
-static bool below(struct passes *p, int k, bool is_max, int test) {
+static bool below(struct passes *p, int k, int depth, int test) {
     if (p->high[k] < test) return true;
     if (p->not_below[k]) return false;
     int count = child_count(p->table, k), first = first_child(p->table, k), high;
@@ -246,11 +256,12 @@ static bool below(struct passes *p, int k, bool is_max, int test) {
     if (count == 0) {
         if (p->marks[k]) return false;
         p->leaves++;
-        high = evaluate(p->table, p->marks, k);
+        high = evaluate(p->table, p->marks, k, depth);
         answer = high < test;
     } else {
+        bool is_max = max_moves(depth);
         answer = is_max;
-        for (int c = first; c < first + count && answer == is_max; c++) answer = below(p, c, !is_max, test);
+        for (int c = first; c < first + count && answer == is_max; c++) answer = below(p, c, depth + 1, test);
         high = p->high[first];
         for (int c = first + 1; c < first + count; c++)
             high = is_max ? greater(high, p->high[c]) : lesser(high, p->high[c]);
@@ -270,7 +281,7 @@ struct answer c_mtd(const uint8_t *table, size_t length, uint8_t *marks, size_t 
     memset(marks, 0, n);
     memset(p.not_below, 0, n);
     for (int k = 0; k < n; k++) p.high[k] = GREATEST;
-    for (; below(&p, 0, true, test); passes++) test = p.high[0];
+    for (; below(&p, 0, 0, test); passes++) test = p.high[0];
     int move = conclude(table, n, marks, proof);
     return (struct answer){ .value = test, .root_move = move, .leaves = p.leaves, .steps = passes };
 }
@@ -298,7 +309,7 @@ struct front {
     const uint8_t *table;
     struct state *list;
     uint16_t parent[NODES];
-    uint8_t is_max[NODES];
+    uint8_t depth[NODES];
     uint32_t front[NODES];
 };
 
@@ -315,7 +326,7 @@ static inline void put(struct front *f, int k, enum status status, int merit) {
 static int fall(struct front *f, int k, int test) {
     while (k != 0 && merit_of(f->front[k]) < test) {
         int up = f->parent[k], best = link_of(f->front[up]), merit = merit_of(f->front[best]);
-        if (f->is_max[up]) {
+        if (max_moves(f->depth[up])) {
             int first = first_child(f->table, up), end = first + child_count(f->table, up);
             best = first, merit = merit_of(f->front[first]);
             for (int c = first + 1; c < end; c++)
@@ -333,14 +344,14 @@ static int run_front(const uint8_t *table, int n, struct state *list, uint8_t *m
     int k = 0, test = GREATEST;
     f.table = table, f.list = list;
     fill_parents(table, n, f.parent);
-    fill_sides(table, n, f.is_max);
+    fill_depths(table, n, f.depth);
     put(&f, 0, LIVE, GREATEST);
     for (;; counts->steps++) {
         for (int link = link_of(f.front[k]); link; link = link_of(f.front[k])) k = link;
         if (list[k].status == SOLVED) {
             int up = f.parent[k];
             if (k == 0) break;
-            if (f.is_max[up] || k + 1 == first_child(table, up) + child_count(table, up)) {
+            if (max_moves(f.depth[up]) || k + 1 == first_child(table, up) + child_count(table, up)) {
                 put(&f, up, SOLVED, test);
             } else {
                 put(&f, k + 1, LIVE, test);
@@ -349,11 +360,11 @@ static int run_front(const uint8_t *table, int n, struct state *list, uint8_t *m
             k = up;
         } else if (child_count(table, k) == 0) {
             counts->leaves++;
-            put(&f, k, SOLVED, lesser(test, evaluate(table, marks, k)));
+            put(&f, k, SOLVED, lesser(test, evaluate(table, marks, k, f.depth[k])));
             k = fall(&f, k, test);
             test = merit_of(f.front[0]);
         } else {
-            int first = first_child(table, k), end = f.is_max[k] ? first + child_count(table, k) : first + 1;
+            int first = first_child(table, k), end = max_moves(f.depth[k]) ? first + child_count(table, k) : first + 1;
             for (int c = first; c < end; c++) put(&f, c, LIVE, test);
             f.front[k] = packed(test, first);
         }
@@ -365,10 +376,10 @@ static int run_front(const uint8_t *table, int n, struct state *list, uint8_t *m
 /* The textbook's list, in no order: every step scans it for the best state, leftmost in the tree on equal merit. */
 static int run_list(const uint8_t *table, int n, struct state *list, uint8_t *marks, struct answer *counts) {
     uint16_t parent[NODES], size[NODES], left[NODES];
-    uint8_t is_max[NODES];
+    uint8_t depth[NODES];
     int length = 1, value;
     fill_parents(table, n, parent);
-    fill_sides(table, n, is_max);
+    fill_depths(table, n, depth);
     for (int k = 0; k < n; k++) size[k] = 1;
     for (int k = n - 1; k > 0; k--) size[parent[k]] += size[k];
     left[0] = 0;
@@ -391,12 +402,12 @@ static int run_list(const uint8_t *table, int n, struct state *list, uint8_t *ma
         if (s.status == LIVE && count == 0) {
             counts->leaves++;
             list[best].status = SOLVED;
-            list[best].merit = lesser(s.merit, evaluate(table, marks, s.node));
+            list[best].merit = lesser(s.merit, evaluate(table, marks, s.node, depth[s.node]));
         } else if (s.status == LIVE) {
             list[best].node = first;
-            for (int i = 1; is_max[s.node] && i < count; i++)
+            for (int i = 1; max_moves(depth[s.node]) && i < count; i++)
                 list[length++] = (struct state){ first + i, LIVE, s.merit };
-        } else if (is_max[up]) {
+        } else if (max_moves(depth[up])) {
             int kept = 0;
             for (int i = 0; i < length; i++) {
                 int at = left[list[i].node];
@@ -440,19 +451,19 @@ struct answer c_sss_list(const uint8_t *table, size_t length, uint8_t *marks, si
 /* ---- the check of a proof */
 
 /* The lowest node whose rule for the max tree (bit 1) or the min tree (bit 2) breaks, or -1. */
-static int broken(const uint8_t *table, int n, const uint8_t *is_max, const uint8_t *flags, int bit) {
+static int broken(const uint8_t *table, int n, const uint8_t *depth, const uint8_t *flags, int bit) {
     if (!(flags[0] & bit)) return 0;
     for (int k = 0; k < n; k++) {
         int count = child_count(table, k), first = first_child(table, k), members = 0, required = 0;
         for (int c = first; c < first + count; c++) members += (flags[c] & bit) != 0;
-        if (flags[k] & bit) required = count == 0 ? 0 : is_max[k] == (bit == 1) ? count : 1;
+        if (flags[k] & bit) required = count == 0 ? 0 : max_moves(depth[k]) == (bit == 1) ? count : 1;
         if (members != required) return k;
     }
     return -1;
 }
 
 struct answer c_verify(const uint8_t *table, size_t length, const uint8_t *flags, size_t flags_room) {
-    uint8_t is_max[NODES];
+    uint8_t depth[NODES];
     int greatest = LEAST, least = GREATEST;
     struct answer asked = c_check(table, length);
     if (asked.refused) return asked;
@@ -460,15 +471,15 @@ struct answer c_verify(const uint8_t *table, size_t length, const uint8_t *flags
     if (flags_room < asked.count) return no(10, 0);
     for (int k = 0; k < n; k++)
         if (flags[k] > 3) return no(11, k);
-    fill_sides(table, n, is_max);
+    fill_depths(table, n, depth);
     for (int bit = 1; bit <= 2; bit++) {
-        int k = broken(table, n, is_max, flags, bit);
+        int k = broken(table, n, depth, flags, bit);
         if (k >= 0) return no(11 + bit, k);
     }
     for (int k = 0; k < n; k++) {
         if (child_count(table, k)) continue;
-        if (flags[k] & 1) greatest = greater(greatest, stored_value(table, k));
-        if (flags[k] & 2) least = lesser(least, stored_value(table, k));
+        if (flags[k] & 1) greatest = greater(greatest, worth(table, k, depth[k]));
+        if (flags[k] & 2) least = lesser(least, worth(table, k, depth[k]));
     }
     if (greatest != least) return no(14, 0);
     return (struct answer){ .value = greatest };

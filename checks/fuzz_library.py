@@ -115,10 +115,10 @@ def reports(file, room):
 
 
 def small_trees():
-    """Every tree of up to 6 nodes with leaves 0, 1, 2."""
+    """Every tree of up to 6 nodes with leaves 0, 1, 2, and with leaves around the border of a win."""
     for n in range(1, 7):
         for counts in selfcheck.shapes(n):
-            for values in itertools.product((0, 1, 2), repeat=counts.count(0)):
+            for values in selfcheck.small_values(counts.count(0)):
                 table = o.table_of(counts, values)
                 yield from searches(table, n, n)
                 yield from written(table, 13 * n)

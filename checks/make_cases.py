@@ -149,6 +149,27 @@ def accepted_files():
         file_case(title, file)
 
 
+# one value of a win at two depths
+TWO_DEPTHS = tree_file([[31000, [31000]]])
+
+
+def wins_and_losses():
+    """02, N5: worths in the place of values, worked out by hand."""
+    for title, nest, rows in (
+            ("a win at depth 1 and 30999", [30999, 31000], all_three(30999, 1, 2)),
+            ("a win at depth 18 and 30990", [30990, chain(17, 31000)], all_three(30990, 1, 2)),
+            ("a loss at depth 1 and -30999", [-31000, -30999], all_three(-30999, 1, 2)),
+            ("a loss at depth 18 and -30990", [-30990, chain(17, -31000)], all_three(-30982, 2, 2)),
+            ("the sooner of two wins", [[[31500]], 31500], all_three(31499, 2, 2)),
+            ("the later of two losses", [-31500, [[-31500]]], all_three(-31497, 2, 2)),
+            ("30999 at depth 18 is no win", chain(18, 30999), all_three(30999, 1, 1)),
+            ("-30999 at depth 18 is no loss", chain(18, -30999), all_three(-30999, 1, 1)),
+            ("32000 at depth 18", chain(18, 32000), all_three(31982, 1, 1)),
+            ("-32000 at depth 18", chain(18, -32000), all_three(-31982, 1, 1))):
+        file_case(title, tree_file(nest), rows=rows)
+    file_case("a win at two depths", TWO_DEPTHS, rows=all_three(30997, 1, 2))
+
+
 # ---------------------------------------------------------------- calls on lent memory
 
 LEAF, DEEP = tree_file(5), tree_file([[[1, 2], [3, 4]], 5])
@@ -216,7 +237,9 @@ def flags_cases():
             ("a child of Min missing in the min tree", ROW, "3 1 3 1 0 3 0", "refused 13 2"),
             ("child of a node outside the min tree", ROW, "3 1 3 1 2 3 2", "refused 13 1"),
             ("unequal values", ROW, "3 1 3 1 0 2 3", "refused 14 0"),
-            ("unequal values, other branch", ROW, "3 3 1 3 2 1 0", "refused 14 0")):
+            ("unequal values, other branch", ROW, "3 3 1 3 2 1 0", "refused 14 0"),
+            ("equal values of unequal worths", tree_file([31000, [31000]]), "3 1 3 3", "refused 14 0"),
+            ("unequal values of equal worths", tree_file([31000, [31001]]), "3 1 3 3", "30999")):
         got = verdict(table_of_file(file), bytes(int(x) for x in flags.split()))
         assert got == "verify %s\n" % want, (title, got)
         add(title, file, ("flags " + flags).strip(), got)
@@ -228,6 +251,9 @@ def buffer_cases():
     got = searches(row, 7, 7)
     assert "sss 3 2 3 9\n" in got and got.count("certificate 3 1 3 1 0 3 2") == 4      # 01, the cases marked P
     assert "sss -5 0 1 1\n" in searches(table_of_file(tree_file(-5)), 1, 1)
+    got = searches(table_of_file(TWO_DEPTHS), 5, 5)
+    assert "mtd 30997 1 2 3\n" in got                                                    # 02, N5: three passes
+    add("marks and certificates: a win at two depths", TWO_DEPTHS, "buffers 5 5", got)
     for marks, flags in ((7, 7), (10, 10), (6, 7), (7, 6), (0, 10), (10, 0), (0, 0)):
         want = searches(row, marks, flags)
         assert ("refused 10 0" in want) == (marks < 7 or flags < 7)
@@ -321,8 +347,8 @@ def service_cases():
 
 def main():
     directory = sys.argv[1] if len(sys.argv) > 1 else os.path.join(os.path.dirname(HERE), "crates", "cases")
-    for part in (made_trees, files_of_01, rows_of_002, rejected_files, accepted_files, flags_cases, buffer_cases, table_cases,
-                 reader_cases, writer_cases, service_cases):
+    for part in (made_trees, files_of_01, rows_of_002, rejected_files, accepted_files, wins_and_losses, flags_cases, buffer_cases,
+                 table_cases, reader_cases, writer_cases, service_cases):
         part()
     assert len(stdin) < 65536
     for name, data in (("stdin", stdin), ("stdout", made + asked)):

@@ -12,6 +12,9 @@ import oracle as o
 # Alpha-beta values 15 of the 19 leaves, SSS* 11.
 ENDING = [[-50, [20, 70, -70], [-60, -70, 70]], [0, -20], [[-20, 0, 10], [-60, -60, 40], -70], [-20, 90, 0]]
 
+# Three moves for White: a win after two more moves whatever Black answers, a win at once, and a doubtful one.
+WINS = [[[31500], [31500, 80]], 31500, [31500, 20]]
+
 
 def chain(nodes):
     """A path of nodes, the last one a leaf of value 1."""
@@ -27,6 +30,7 @@ def samples():
     return {
         "seven": first,                                             # 01's own sample
         "ending": ending,                                           # wider: negative values, ties, two depths of leaves
+        "wins": o.file_of(o.table_of_nest(WINS), upper=True),       # the sooner win is the better one: worths
         "cut-off": ending[:200],                                    # a transfer that broke off in line 15
         "miscounted": b"\n".join(miscounted),
         "refused-1": b"",

@@ -1,5 +1,5 @@
 #!/usr/bin/env python3
-"""A plain model of document 01 ("Minimax analysis of club trees"), written from its sentences.
+"""A plain model of document 01 ("Minimax analysis of club trees") with request N5 of 02, written from their sentences.
 
 It shares nothing with the Rattle code: values are signed, lines are split at line feeds, SSS* keeps
 Stockman's list. Everything public takes bytes and bytearrays as a caller lends them and changes them
@@ -20,6 +20,7 @@ MAX_TABLE = 24576
 MAX_CHILDREN = 40
 MAX_DEPTH = 18
 MAX_VALUE = 32000
+WIN = 31000
 LEAST, GREATEST = -32001, 32001
 
 Refusal = namedtuple("Refusal", "number place")
@@ -138,23 +139,35 @@ def decode(file):
 
 # ---------------------------------------------------------------- the tree of an accepted table
 
+def worth(depth, value):
+    """What a leaf of this value counts at this depth (N5)."""
+    if value >= WIN:
+        return value - depth
+    if value <= -WIN:
+        return value + depth
+    return value
+
+
 class Tree:
-    """Node numbers, sides, values of an accepted table."""
+    """Node numbers, sides, and the leaves' worths of an accepted table."""
 
     def __init__(self, table):
         self.n = n = len(table) // 6
         self.kids = kids = []
-        self.value = []
+        values = []
         for k in range(n):
             first, count, _, value = frame(table, k)
             kids.append(range(first, first + count))
-            self.value.append(value)
+            values.append(value)
         self.parent = parent = [None] * n
         self.is_max = is_max = [True] * n
+        self.depth = depth = [0] * n
         for k in range(n):
             for c in kids[k]:
                 parent[c] = k
                 is_max[c] = not is_max[k]
+                depth[c] = depth[k] + 1
+        self.worth = [worth(depth[k], values[k]) for k in range(n)]
         self.left = left = [0] * n      # place in left-to-right (depth-first) order
         size = [1] * n
         for k in range(n - 1, 0, -1):
@@ -181,12 +194,12 @@ class Tree:
         return got
 
     def minimax(self):
-        return self.fold(lambda k: self.value[k])
+        return self.fold(lambda k: self.worth[k])
 
     def bounds(self, valued):
         """Low and high of each node, from a set of valued leaves."""
-        low = self.fold(lambda k: self.value[k] if k in valued else LEAST)
-        high = self.fold(lambda k: self.value[k] if k in valued else GREATEST)
+        low = self.fold(lambda k: self.worth[k] if k in valued else LEAST)
+        high = self.fold(lambda k: self.worth[k] if k in valued else GREATEST)
         return low, high
 
     def move(self):
@@ -233,12 +246,12 @@ def ab_by_rule(tree):
 def ab(tree):
     """The pass over the children that stops at the first one that closes the window."""
     leaves = []
-    kids, is_max, value = tree.kids, tree.is_max, tree.value
+    kids, is_max, worth = tree.kids, tree.is_max, tree.worth
 
     def visit(k, alpha, beta):
         if not kids[k]:
             leaves.append(k)
-            return value[k]
+            return worth[k]
         if is_max[k]:
             best = LEAST
             for c in kids[k]:
@@ -265,7 +278,7 @@ def plain(tree):
     def turn(k, best, other):
         if not tree.kids[k]:
             leaves.append(k)
-            return tree.value[k]
+            return tree.worth[k]
         return best([turn(c, other, best) for c in tree.kids[k]])
 
     return turn(0, max, min), leaves
@@ -280,17 +293,17 @@ def mtd_by_rule(tree):
 
     def high(k):
         if not tree.kids[k]:
-            return tree.value[k] if k in leaves else GREATEST
+            return tree.worth[k] if k in leaves else GREATEST
         return (max if tree.is_max[k] else min)(high(c) for c in tree.kids[k])
 
     def below(k, earlier, now):
         if high(k) < test:
             return True
-        if k in earlier or (k in leaves and tree.value[k] >= test):
+        if k in earlier or (k in leaves and tree.worth[k] >= test):
             return False
         if not tree.kids[k]:
             leaves.append(k)
-            answer = tree.value[k] < test
+            answer = tree.worth[k] < test
         elif tree.is_max[k]:
             answer = not any(not below(c, earlier, now) for c in tree.kids[k])
         else:
@@ -310,7 +323,7 @@ def mtd_by_rule(tree):
 
 def mtd(tree):
     """The same with kept highs, each set anew when its node is left."""
-    n, kids, is_max, value = tree.n, tree.kids, tree.is_max, tree.value
+    n, kids, is_max, worth = tree.n, tree.kids, tree.is_max, tree.worth
     high, not_below = [GREATEST] * n, [False] * n
     leaves = []
     test, passes = GREATEST, 0
@@ -322,8 +335,8 @@ def mtd(tree):
             return False                # found so earlier, or a valued leaf: it was below a greater test
         if not kids[k]:
             leaves.append(k)
-            high[k] = value[k]
-            answer = value[k] < test
+            high[k] = worth[k]
+            answer = worth[k] < test
         elif is_max[k]:
             answer = True
             for c in kids[k]:
@@ -367,7 +380,7 @@ def sss_by_rule(tree, tie=None):
         parent = tree.parent[node]
         if status == LIVE and not tree.kids[node]:
             leaves.append(node)
-            states.append((node, SOLVED, min(merit, tree.value[node])))
+            states.append((node, SOLVED, min(merit, tree.worth[node])))
         elif status == LIVE and tree.is_max[node]:
             states += [(c, LIVE, merit) for c in tree.kids[node]]
         elif status == LIVE:
@@ -384,7 +397,7 @@ def sss_by_rule(tree, tie=None):
 
 def sss(tree):
     """The same with a heap; a purged state stays in it until it comes up, and is then dropped."""
-    kids, is_max, parent_of, left, value = tree.kids, tree.is_max, tree.parent, tree.left, tree.value
+    kids, is_max, parent_of, left, worth = tree.kids, tree.is_max, tree.parent, tree.left, tree.worth
     heap = [(-GREATEST, 0, 0, LIVE)]
     purged_below = [False] * tree.n
     leaves, replacements = [], 0
@@ -408,7 +421,7 @@ def sss(tree):
         if status == LIVE:
             if not kids[node]:
                 leaves.append(node)
-                heapq.heappush(heap, (-min(merit, value[node]), left[node], node, SOLVED))
+                heapq.heappush(heap, (-min(merit, worth[node]), left[node], node, SOLVED))
             elif is_max[node]:
                 for c in kids[node]:
                     heapq.heappush(heap, (-merit, left[c], c, LIVE))
@@ -462,8 +475,8 @@ def check_proof(table, flags):
         k = solution_no(tree, flags, bit)
         if k is not None:
             return Refusal(number, k)
-    greatest = max(tree.value[k] for k in tree.leaves() if flags[k] & 1)
-    least = min(tree.value[k] for k in tree.leaves() if flags[k] & 2)
+    greatest = max(tree.worth[k] for k in tree.leaves() if flags[k] & 1)
+    least = min(tree.worth[k] for k in tree.leaves() if flags[k] & 2)
     return greatest if greatest == least else Refusal(14, 0)
 
 

@@ -169,6 +169,25 @@ def obligations():
     same("D mtd note: passes of Max(Min(4, 3))", run(o.mtd_search, t)[0].extra, 3)
 
 
+def worths():
+    """Request N5, worked out by hand: the border on both sides, and trees that values alone would settle otherwise."""
+    for depth, value, want in ((0, 31000, 31000), (1, 31000, 30999), (18, 31000, 30982), (18, 30999, 30999),
+                               (18, 32000, 31982), (0, -31000, -31000), (1, -31000, -30999), (18, -31000, -30982),
+                               (18, -30999, -30999), (18, -32000, -31982), (18, 0, 0)):
+        same("worth of %d at depth %d" % (value, depth), o.worth(depth, value), want)
+    late = lambda value: [[[[[[[[[[[[[[[[[value]]]]]]]]]]]]]]]]]      # below a root: depth 18
+    for nest, value, move, passes in (([30999, 31000], 30999, 1, 2), ([[31000, [31000]]], 30997, 1, 3),
+                                      ([30990, late(31000)], 30990, 1, 2), ([-31000, -30999], -30999, 1, 2),
+                                      ([[-31000, [-31000]]], -30998, 1, 2), ([-30990, late(-31000)], -30982, 2, 2)):
+        for call in (o.alpha_beta, o.mtd_search, o.sss_search):
+            r = run(call, o.table_of_nest(nest))[0]
+            same("N5 %r %s" % (nest, call.__name__), (r.value, r.move, r.leaves), (value, move, 2))
+        same("N5 %r passes" % nest, run(o.mtd_search, o.table_of_nest(nest))[0].extra, passes)
+    flags = bytes((3, 1, 3, 3))
+    same("N5: 14 by worths", o.check_proof(o.table_of_nest([31000, [31000]]), flags), (14, 0))
+    same("N5: one worth", o.check_proof(o.table_of_nest([31000, [31001]]), flags), 30999)
+
+
 def solution_trees(tree, k, bit):
     """All sets of flagged nodes of one kind below k."""
     if not tree.kids[k]:
@@ -187,7 +206,7 @@ def smallest_pair(tree):
     if len(most) * len(least) > 40000:
         return None
     return min(len(a | b) for a in most for b in least
-               if max(tree.value[k] for k in a) == min(tree.value[k] for k in b))
+               if max(tree.worth[k] for k in a) == min(tree.worth[k] for k in b))
 
 
 def one_tree(rng, table, literal, pairs):
@@ -213,7 +232,10 @@ def one_tree(rng, table, literal, pairs):
     same("mtd list is sss list", m[0].order, s[0].order)
     same("ab left to right", a[0].order, sorted(a[0].order, key=lambda k: tree.left[k]))
     same("replacements", s[0].extra <= 2 * n - 1, True)
-    same("passes", m[0].extra <= 1 + len({tree.value[k] for k in m[0].order}), True)
+    values = [o.frame(table, k)[3] for k in range(n)]
+    same("worths", all(abs(tree.worth[k]) <= 32000 - tree.depth[k] for k in tree.leaves()), True)
+    same("worth is value", all(tree.worth[k] == values[k] for k in tree.leaves() if abs(values[k]) < 31000), True)
+    same("passes", m[0].extra <= 1 + len({tree.worth[k] for k in m[0].order}), True)
     if literal:
         same("ab by rule", o.ab_by_rule(tree), a[0].order)
         same("mtd by rule", o.mtd_by_rule(tree), (value, m[0].order, m[0].extra))
@@ -271,12 +293,18 @@ def shapes(n):
     yield from grow([], 1)
 
 
+def small_values(leaves):
+    """Every way to give so many leaves 0, 1, 2; or 30,998, 31,000, 31,001, of which the last two are wins."""
+    for of in (0, 1, 2), (30998, 31000, 31001):
+        yield from itertools.product(of, repeat=leaves)
+
+
 def every_small_tree(most):
-    """All trees of up to `most` nodes with leaves 0, 1, 2."""
+    """All trees of up to `most` nodes with leaves 0, 1, 2, and with leaves around the border of a win."""
     rng = random.Random(6)
     for n in range(1, most + 1):
         for counts in shapes(n):
-            for values in itertools.product((0, 1, 2), repeat=counts.count(0)):
+            for values in small_values(counts.count(0)):
                 one_tree(rng, o.table_of(counts, values), literal=True, pairs=True)
 
 
@@ -287,6 +315,7 @@ def main():
     table_2()
     figure_1()
     obligations()
+    worths()
     print("papers and examples: %d checks, %d wrong" % (checks, len(wrong)))
     every_small_tree(6)
     print("all trees of up to 6 nodes: %d checks, %d wrong" % (checks, len(wrong)))

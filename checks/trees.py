@@ -1,9 +1,9 @@
 #!/usr/bin/env python3
 """Random and regular trees for selfcheck.py, fuzz.py and speed.py. Tables are built by oracle.table_of."""
-import oracle
+import oracle as o
 
 
-def random_counts(rng, most, width, inner_chance, depth_limit=oracle.MAX_DEPTH):
+def random_counts(rng, most, width, inner_chance, depth_limit=o.MAX_DEPTH):
     """Child counts in breadth-first order: at most `most` nodes, `width` children, `depth_limit` plies."""
     counts, depths, total, k = [], [0], 1, 0
     while k < total:
@@ -42,6 +42,8 @@ VALUES = {
     "ties": lambda rng, i, n: rng.randint(0, 2),
     "few": lambda rng, i, n: rng.randint(-4, 4),
     "many": lambda rng, i, n: rng.randint(-32000, 32000),
+    "wins": lambda rng, i, n: rng.choice((-1, 1)) * rng.randint(o.WIN - 3, o.WIN + 3),
+    "late wins": lambda rng, i, n: rng.choice((-1, 1)) * rng.randint(o.WIN - o.MAX_DEPTH - 1, o.WIN + o.MAX_DEPTH + 1),
     "extremes": lambda rng, i, n: rng.choice((-32000, 32000, 0, -31999, 31999)),
     "equal": lambda rng, i, n: 7,
     "rising": lambda rng, i, n: i - n // 2,
@@ -51,7 +53,7 @@ VALUES = {
 
 def fill(rng, counts, kind):
     n = sum(1 for c in counts if c == 0)
-    return oracle.table_of(counts, [VALUES[kind](rng, i, n) for i in range(n)])
+    return o.table_of(counts, [VALUES[kind](rng, i, n) for i in range(n)])
 
 
 def regular_counts(width, inner):
@@ -60,7 +62,7 @@ def regular_counts(width, inner):
 
 def ranked(counts, best_first):
     """Ranks for the leaves so that alpha-beta does best (best child first) or worst (best child last) at every node."""
-    tree = oracle.Tree(oracle.table_of(counts, [0] * len(counts)))
+    tree = o.Tree(o.table_of(counts, [0] * len(counts)))
     rank = [0] * tree.n
     size = [1 if not tree.kids[k] else 0 for k in range(tree.n)]
     for k in range(tree.n - 1, 0, -1):
@@ -74,4 +76,4 @@ def ranked(counts, best_first):
         for c in kids:
             rank[c] = at
             at += size[c]
-    return oracle.table_of(counts, [rank[k] for k in tree.leaves()])
+    return o.table_of(counts, [rank[k] for k in tree.leaves()])

@@ -11,12 +11,13 @@ use Rattle.lists.specs.Lists.{among}
 use Rattle.gametree.specs.Tree.{minimax}
 use Rattle.gametree.specs.Move.{rootMove}
 use Rattle.frames.specs.Frame.{frames, byteOf, childCount}
+use Rattle.frames.specs.Place.{depthOf}
 use Rattle.frames.specs.Tree.{tree, valuation}
 use Rattle.frames.specs.Check.{Accepted}
 use Rattle.frames.proofs.Acceptance.{accepted-formed}
-use Rattle.frames.proofs.TreeOfTable.{leaf-score}
+use Rattle.frames.proofs.TreeOfTable.{score-worth}
 use Rattle.certificate.specs.Marks.{mark}
-use Rattle.frames.specs.Value.{valueOf, signed}
+use Rattle.frames.specs.Value.{valueOf, signed, worth}
 use Rattle.certificate.specs.Search.{marksOf, flagsOf, findings}
 use Rattle.certificate.proofs.Questions.{room-passed}
 use Rattle.frames.proofs.Values.{value-stored}
@@ -137,9 +138,10 @@ pub verified : {t : List ℕ} (c : Call t) → verdict t (left c .flags) ≡ Val
 verified c = flags-verified (view c .handed) ∙ ap Value (sym (value-minimax c))
 
 -- "Guessing past the leaves was never wanted, so the value is that of the tree handed over": `tree t` is the tree that
--- the frames of the table describe (frames/proofs/TreeOfTable.antt), and a leaf's value is the number that its bytes 4
--- and 5 hold in two's complement
-pub leaf-value : (t : List ℕ) → Accepted t → (i : ℕ) → i < frames t → childCount t i ≡ 0
-    → byteOf t i 4 < 256 → byteOf t i 5 < 256 → valueOf (valuation t i) ≡ signed (byteOf t i 4) (byteOf t i 5)
-leaf-value t a i h e x y =
-    ap valueOf (leaf-score t i) ∙ value-stored t i x y (accepted-formed t a .scored i h e)
+-- the frames of the table describe (frames/proofs/TreeOfTable.antt), and a leaf counts with the worth, at its depth, of
+-- the number that its bytes 4 and 5 hold in two's complement
+pub leaf-worth : (t : List ℕ) → Accepted t → (i : ℕ) → i < frames t → childCount t i ≡ 0
+    → byteOf t i 4 < 256 → byteOf t i 5 < 256
+    → valueOf (valuation t i) ≡ worth (depthOf t i) (signed (byteOf t i 4) (byteOf t i 5))
+leaf-worth t a i h e x y =
+    score-worth t a i h ∙ ap (worth (depthOf t i)) (value-stored t i x y (accepted-formed t a .scored i h e))

@@ -161,7 +161,8 @@ one-order t wf =
     let p = tree-proper t wf in
     sss-mtd (valuation t) (tree t) (p .scored) (layoutOf (tree t)) (layout-own (tree t) (p .distinct))
 
--- MTD's passes are those of its rule, and at most one more than there are different scores among the evaluated leaves
+-- MTD's passes are those of its rule, and at most one more than there are different worths, as scores, among the
+-- evaluated leaves
 pub passes : {t : List ℕ} {f : MtdFound} (c : MtdCall t (mtd-answer.Found f))
     → (f .passes ≡ rule.mtd (valuation t) (tree t) .passes)
     × (f .passes ≤ suc (different (map (valuation t) (mtdLeaves t))))

@@ -1,10 +1,10 @@
--- The cases of SPEC 12.2 (01: those marked P), as byte tables, with what is said of them.
-use Prim.Native.Nat.{ℕ}
-use mathlib.Core.List.{List, [], _∷_}
-use lib.IntN.{ℤ, pos, negsuc}
+-- The cases of SPEC 12.2 (01: those marked P; and wins and losses), as byte tables, with what is said of them.
+use Prim.Native.Nat.{ℕ, zero, suc, _+_}
+use mathlib.Core.List.{List, [], _∷_, _++_}
+use lib.IntN.{ℤ, pos, negℤ, negsuc}
 use lib.ListN.{replicate, take}
 use Rattle.frames.specs.Frame.{frames}
-use Rattle.frames.specs.results.Cases.{small, lone, single}
+use Rattle.frames.specs.results.Cases.{leafFrame, innerFrame, small, lone, single}
 use Rattle.certificate.specs.declared.Findings.{Findings}
 use Rattle.certificate.specs.Marks.{ones}
 use Rattle.alphabeta.specs.declared.Answer as ab
@@ -16,18 +16,10 @@ use Rattle.plain.specs.Outcome.{plainOutcome}
 use Rattle.mtd.specs.declared.Answer as mtd
 use Rattle.mtd.specs.declared.Answer.the-variants as mtd-answer
 use Rattle.mtd.specs.Outcome.{mtdOutcome}
-use Rattle.sss.specs.declared.State.{State}
 use Rattle.sss.specs.declared.Answer as sss
 use Rattle.sss.specs.declared.Answer.the-variants as sss-answer
 use Rattle.sss.specs.Entry.{blank}
 use Rattle.sss.specs.Outcome.{sssOutcome}
-
--- buffers and a list of seven entries
-abbrev buffer : List ℕ
-buffer = replicate 7 0
-
-abbrev list : List State
-list = replicate 7 blank
 
 -- what a search gives: the value, the move, the count of evaluated leaves and, if it has one, its second count, or a
 -- rejection's number
@@ -67,7 +59,8 @@ pub record Row : Type 0 where
 
 abbrev pub rowOf : List ℕ → Row
 rowOf t =
-    let s = sssOutcome t list buffer buffer .search in
+    let buffer : List ℕ = replicate (frames t) 0 in
+    let s = sssOutcome t (replicate (frames t) blank) buffer buffer .search in
     let p = plainOutcome t buffer buffer in
     record {
       alphaBeta = byAlphaBeta (alphaBetaOutcome t buffer buffer .answer);
@@ -118,4 +111,50 @@ rows =
     ∷ row (pos 7) 1 4 3 3 2 3 9 (3 ∷ 3 ∷ 1 ∷ 3 ∷ 2 ∷ 1 ∷ 0 ∷ [])
     ∷ row (negsuc 4) 0 1 1 1 2 1 1 (3 ∷ [])
     ∷ row (pos 9) 1 1 1 1 2 1 3 (3 ∷ 3 ∷ [])
+    ∷ []
+
+-- leaves of 31,000 and -31,000
+abbrev winLeaf : List ℕ
+winLeaf = leafFrame 121 24
+
+abbrev lossLeaf : List ℕ
+lossLeaf = leafFrame 134 232
+
+-- a root with the leaves a and b; Max(Min(a, Max(a)))
+abbrev pair : (a b : List ℕ) → List ℕ
+pair a b = innerFrame 1 2 ++ a ++ b
+
+abbrev nested : List ℕ → List ℕ
+nested a = innerFrame 1 1 ++ innerFrame 2 2 ++ a ++ innerFrame 4 1 ++ a
+
+-- n nodes from number i on with one child each, and the leaf a
+unfoldable pub path : List ℕ → ℕ → ℕ → List ℕ
+path a i zero = a
+path a i (suc n) = innerFrame (i + 1) 1 ++ path a (i + 1) n
+
+-- a root with the leaf a, and with the leaf b at depth 18
+abbrev late : (a b : List ℕ) → List ℕ
+late a b = innerFrame 1 2 ++ a ++ path b 2 17
+
+-- Max(30999, 31000), Max(Min(31000, Max(31000))), Max of 30,990 and a win at depth 18; and the same with losses
+abbrev pub winTables : List (List ℕ)
+winTables =
+    pair (leafFrame 121 23) winLeaf
+    ∷ nested winLeaf
+    ∷ late (leafFrame 121 14) winLeaf
+    ∷ pair lossLeaf (leafFrame 134 233)
+    ∷ nested lossLeaf
+    ∷ late (leafFrame 134 242) lossLeaf
+    ∷ []
+
+-- a win at depth 1 is worth 30,999, which is no more than an ordinary 30,999; one value has two worths at two
+-- depths, and MTD makes three passes; a win at depth 18 is worth less than 30,990; and the same of losses
+abbrev pub winRows : List Row
+winRows =
+    row (pos 30999) 1 2 2 2 2 2 4 (3 ∷ 3 ∷ 1 ∷ [])
+    ∷ row (pos 30997) 1 2 2 2 3 2 9 (3 ∷ 3 ∷ 2 ∷ 3 ∷ 3 ∷ [])
+    ∷ row (pos 30990) 1 2 2 2 2 2 21 (3 ∷ 3 ∷ replicate 18 1)
+    ∷ row (negℤ (pos 30999)) 1 2 2 2 2 2 4 (3 ∷ 3 ∷ 1 ∷ [])
+    ∷ row (negℤ (pos 30998)) 1 2 2 2 2 2 9 (3 ∷ 3 ∷ 3 ∷ 2 ∷ 2 ∷ [])
+    ∷ row (negℤ (pos 30982)) 2 2 2 2 2 2 38 (3 ∷ 1 ∷ replicate 18 3)
     ∷ []

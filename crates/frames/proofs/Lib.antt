@@ -6,6 +6,7 @@ pub mod Sides
 pub mod Trees
 pub mod Nodes
 pub mod Values
+pub mod Worth
 pub mod Totals
 pub mod Proper
 pub mod Shapes

@@ -4,12 +4,15 @@ use native.Mathlib.Omega.{arith}
 use mathlib.Core.Path.{_≡_}
 use mathlib.Core.List.{List}
 use Rattle.gametree.specs.Tree.{Tree, EveryLeaf, EveryLeafKids, Score, Proper}
-use Rattle.frames.specs.Frame.{frames, firstChild, childCount}
+use Rattle.frames.specs.Frame.{frames, firstChild, childCount, storedScore}
+use Rattle.frames.specs.Place.{depthOf}
 use Rattle.frames.specs.Tree.{kidsFrom, treeAt, tree, valuation}
 use Rattle.frames.specs.Formed.{WellFormed}
 use Rattle.frames.proofs.Parents.{bottom-up}
 use Rattle.frames.proofs.Trees.{zero-or-suc, tree-leaf, tree-inner}
 use Rattle.frames.proofs.Nodes.{tree-distinct}
+use Rattle.frames.proofs.Places.{depth-at-most}
+use Rattle.frames.proofs.Worth.{score-kept}
 
 -- what holds at each number holds of each leaf of the children
 every-kids : (P : ℕ → Type 0) (g : ℕ → Tree) (i n : ℕ) → ((k : ℕ) → i ≤ k → k ≤ i + n → EveryLeaf P (g k))
@@ -32,7 +35,8 @@ module _ (t : List ℕ) (wf : WellFormed t) where
   -- the score of each leaf is in range
   pub leaf-scored : (i : ℕ) → i < frames t → childCount t i ≡ 0 → Score (valuation t i)
   unfolding valuation
-  leaf-scored i h e = wf .scored i h e
+  leaf-scored i h e =
+      score-kept (depthOf t i) (storedScore t i) (omega (arith, depth-at-most t i, wf .few)) (wf .scored i h e)
 
   pub tree-proper : Proper (valuation t) (tree t)
   tree-proper =

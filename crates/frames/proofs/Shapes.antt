@@ -3,7 +3,7 @@ use Prim.Native.Nat.{ℕ, zero, suc, _+_, _*_, _≤_, _<_}
 use native.Mathlib.Omega.{arith}
 use mathlib.Core.Path.{_≡_, refl, sym, ap, ap₂, _∙_}
 use mathlib.Core.List.{List}
-use Rattle.frames.specs.Frame.{frames, firstChild, childCount}
+use Rattle.frames.specs.Frame.{frames, firstChild, childCount, storedScore}
 use Rattle.frames.specs.Place.{parentBefore, parentOf, childPlace, placeOf, sideOf}
 use Rattle.frames.specs.Tree.{node, treeAt, tree, leafScore, valuation}
 use Rattle.frames.specs.Formed.{WellFormed}
@@ -44,7 +44,9 @@ module _ (t u : List ℕ) (s : SameShape t u) where
   -- a leaf on which they agree has the same score
   pub same-score : (i : ℕ) → i < frames t → AgreeOn t u i → valuation t i ≡ valuation u i
   unfolding valuation
-  same-score i h a = ap₂ leafScore (ap (λ p. p .depth) (same-place i h)) (rw (a .sameHigh, a .sameLow))
+  same-score i h a =
+      let e : storedScore t i ≡ storedScore u i = rw (a .sameHigh, a .sameLow) in
+      ap₂ leafScore (ap (λ p. p .depth) (same-place i h)) e
 
   -- the trees at each node are the same
   pub same-trees : WellFormed t → WellFormed u → (i : ℕ) → i < frames t → treeAt t i ≡ treeAt u i

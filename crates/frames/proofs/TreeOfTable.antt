@@ -1,29 +1,32 @@
 -- The tree of an accepted table is the one that its frames describe (SPEC 3): laws of `tree`, `treeAt` and
 -- `valuation`, by which they are determined.
-use Prim.Native.Nat.{ℕ, suc, _<_}
-use mathlib.Core.Path.{_≡_, refl}
+use Prim.Native.Nat.{ℕ, suc, _-_, _≤_, _<_}
+use native.Mathlib.Omega.{arith}
+use native.Mathlib.Decide.{decLt}
+use mathlib.Core.Path.{_≡_, fun-ext}
 use mathlib.Core.Logic.{_↔_}
 use mathlib.Core.List.{List}
+use lib.IntN.{natAbs}
+use lib.ListN.{List·getD-eq-default}
 use Rattle.gametree.specs.Tree.{leaf, inner, number, size, In, Distinct}
-use Rattle.frames.specs.Frame.{frames, firstChild, childCount, storedScore}
-use Rattle.frames.specs.Place.{sideOf}
+use Rattle.frames.specs.Frame.{frames, byteOf, firstChild, childCount, storedScore}
+use Rattle.frames.specs.Place.{depthOf, sideOf}
 use Rattle.frames.specs.Formed.{ChildOf}
-use Rattle.frames.specs.Tree.{kidsFrom, treeAt, tree, valuation}
+use Rattle.frames.specs.Value.{valueOf, maxValue, worth, Ordinary}
+use Rattle.frames.specs.Tree.{kidsFrom, treeAt, tree, won, lost, valuation}
 use Rattle.frames.specs.Check.{Accepted}
-use Rattle.frames.proofs.Acceptance.{accepted-formed}
+use Rattle.frames.proofs.Acceptance.{accepted-stated, accepted-formed}
 use Rattle.frames.proofs.Parents.{one-parent, parent-child}
-use Rattle.frames.proofs.Trees.{tree-leaf, tree-inner, tree-number}
+use Rattle.frames.proofs.Places.{depth-at-most}
+use Rattle.frames.proofs.Values.{value-range}
+use Rattle.frames.proofs.Trees.{zero-or-suc, tree-leaf, tree-inner, tree-number}
 use Rattle.frames.proofs.Nodes.{in-tree, tree-range, tree-distinct}
 use Rattle.frames.proofs.Totals.{tree-size}
+use Rattle.frames.proofs.Worth.{score-other, worth-range, ordinary-score, worth-stated}
 
 -- node 0 is the root
 pub root-number : (t : List ℕ) → number (tree t) ≡ 0
 root-number t = tree-number t 0
-
--- a leaf's score is the one that its bytes 4 and 5 hold
-pub leaf-score : (t : List ℕ) (i : ℕ) → valuation t i ≡ storedScore t i
-unfolding valuation
-leaf-score t i = refl
 
 module _ (t : List ℕ) (a : Accepted t) where
   -- a frame with the count 0 is a leaf
@@ -55,3 +58,39 @@ module _ (t : List ℕ) (a : Accepted t) where
       let wf = accepted-formed t a in
       let p = parent-child t wf k l h in
       (_, p .0, p .1, λ j g c. one-parent t wf g (p .0) c (p .1))
+
+  -- a leaf's score is that of the worth, at its depth, of the value that its bytes 4 and 5 hold
+  pub score-worth : (i : ℕ) → i < frames t → valueOf (valuation t i) ≡ worth (depthOf t i) (valueOf (storedScore t i))
+  unfolding valuation
+  score-worth i h =
+      worth-stated (depthOf t i) (storedScore t i)
+      (omega (arith, depth-at-most t i, accepted-formed t a .few))
+
+  -- worths at depth d are from -(32,000 - d) to 32,000 - d
+  pub worth-within : (i : ℕ) → i < frames t → childCount t i ≡ 0
+      → natAbs (valueOf (valuation t i)) ≤ maxValue - depthOf t i
+  worth-within i h e =
+      rw (score-worth i h)
+      (worth-range (depthOf t i) (valueOf (storedScore t i)) (accepted-stated t a .shallow i h)
+      (value-range (storedScore t i) (accepted-formed t a .scored i h e)))
+
+  ordinary-stored : Ordinary t → (i : ℕ) → (lost < storedScore t i) × (storedScore t i < won)
+  ordinary-stored p i =
+      let w = accepted-stated t a in
+      elim (decLt i (frames t)) [
+        | yes h ↦
+            zero-or-suc (childCount t i) (λ e. ordinary-score (storedScore t i) .1 (p i h e)) (λ n e.
+            let z = w .frame i h .innerValue (omega (arith, e)) in (omega arith, omega arith))
+        | no h ↦
+            let x : byteOf t i 4 ≡ 0 = List·getD-eq-default t 0 (omega (arith, w .whole)) in
+            let y : byteOf t i 5 ≡ 0 = List·getD-eq-default t 0 (omega (arith, w .whole)) in
+            (omega arith, omega arith)
+      ]
+
+  -- without a win or a loss the scores are those that are stored; inner nodes, and numbers past the table, hold 0
+  pub ordinary-scores : Ordinary t → valuation t ≡ storedScore t
+  unfolding valuation
+  ordinary-scores p =
+      fun-ext (λ i.
+      let b : (lost < storedScore t i) × (storedScore t i < won) = ordinary-stored p i in
+      score-other (depthOf t i) (storedScore t i) (b .1) (b .0))

@@ -8,25 +8,37 @@ use mathlib.Core.List.{List}
 use borrow.Author.Tests.{lt-ltb, le-ltb}
 use lib.IntN.{pos, negsuc, natAbs, _-ℤ_}
 use lib.Signed.{mag}
-use Rattle.gametree.specs.Tree.{Score}
+use Rattle.gametree.specs.Tree.{Score, zeroScore}
 use Rattle.frames.specs.Frame.{byteOf, valueBytes, storedScore, twoBytes}
-use Rattle.frames.specs.Value.{valueOf, signed}
+use Rattle.frames.specs.Value.{valueOf, signed, maxValue}
 
 -- the value of a score takes 16 bits
 pub value-small : (s : ℕ) → s ≤ 64002 → mag (valueOf s) < 2 ^ 15
 value-small s h =
-    elim (decLt s 32001) [
-      | yes p ↦ rw (lt-ltb s 32001 p) (omega arith)
-      | no p ↦ rw (le-ltb s 32001 (omega arith)) (omega arith)
+    elim (decLt s zeroScore) [
+      | yes p ↦ rw (lt-ltb s zeroScore p) (omega arith)
+      | no p ↦ rw (le-ltb s zeroScore (omega arith)) (omega arith)
+    ]
+
+-- the value of a leaf's score is from -32,000 to 32,000
+pub value-range : (s : ℕ) → Score s → natAbs (valueOf s) ≤ maxValue
+value-range s h =
+    elim (decLt s zeroScore) [
+      | yes p ↦ rw (lt-ltb s zeroScore p) (omega (arith, h .0))
+      | no p ↦ rw (le-ltb s zeroScore (omega arith)) (omega (arith, h .1))
     ]
 
 -- a score from 32,001 on is that much more than its value
-value-plus : (s v : ℕ) → s ≡ v + 32001 → valueOf s ≡ pos v
-value-plus s v e = rw (le-ltb s 32001 (omega arith)) (ap pos (omega arith))
+pub value-plus : (s v : ℕ) → s ≡ v + zeroScore → valueOf s ≡ pos v
+value-plus s v e = rw (le-ltb s zeroScore (omega arith)) (ap pos (omega arith))
+
+-- a smaller one has a negative value
+pub value-below : (s v : ℕ) → s + v ≡ maxValue → valueOf s ≡ negsuc v
+value-below s v e = rw (lt-ltb s zeroScore (omega arith)) (ap negsuc (omega arith))
 
 -- a smaller one is that of the number less 65,536
 value-minus : (s v : ℕ) → s + 33535 ≡ v → v < twoBytes → valueOf s ≡ pos v -ℤ pos twoBytes
-value-minus s v e h = rw (lt-ltb s 32001 (omega arith), lt-ltb v twoBytes h) (ap negsuc (omega arith))
+value-minus s v e h = rw (lt-ltb s zeroScore (omega arith), lt-ltb v twoBytes h) (ap negsuc (omega arith))
 
 -- the value of a stored score in range is the number that bytes 4 and 5 hold
 pub value-stored : (t : List ℕ) (i : ℕ) → byteOf t i 4 < 256 → byteOf t i 5 < 256 → Score (storedScore t i)
@@ -40,7 +52,7 @@ value-stored t i a b s =
 
 -- bytes 4 and 5 hold a score exactly if the number that they hold in two's complement is from -32,000 to 32,000
 pub score-stored : (t : List ℕ) (i : ℕ) → byteOf t i 4 < 256 → byteOf t i 5 < 256
-    → Score (storedScore t i) ↔ (natAbs (signed (byteOf t i 4) (byteOf t i 5)) ≤ 32000)
+    → Score (storedScore t i) ↔ (natAbs (signed (byteOf t i 4) (byteOf t i 5)) ≤ maxValue)
 score-stored t i a b =
     elim (decLt (byteOf t i 4) 128) [
       | yes p ↦ rw (lt-ltb (byteOf t i 4) 128 p) (λ s. omega arith, λ s. (omega arith, omega arith))

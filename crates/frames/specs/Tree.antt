@@ -1,10 +1,13 @@
 -- The tree that a table describes, and the scores of its leaves.
 use Prim.Native.Nat.{ℕ, zero, suc, _+_, _-_}
+use mathlib.Core.Bool.{cond}
 use mathlib.Core.List.{List, [], _∷_}
+use lib.Dec.{leb}
 use Rattle.gametree.specs.declared.Side.{Side}
-use Rattle.gametree.specs.Tree.{Tree, leaf, inner, Kids, last, _then_}
+use Rattle.gametree.specs.Tree.{Tree, leaf, inner, Kids, last, _then_, zeroScore}
 use Rattle.frames.specs.Frame.{frames, firstChild, childCount, storedScore}
 use Rattle.frames.specs.Place.{depthOf, sideOf}
+use Rattle.frames.specs.Value.{win}
 
 -- i, i + 1, .., n numbers
 unfoldable pub upFrom : ℕ → ℕ → List ℕ
@@ -34,9 +37,16 @@ treeAt t i = grow (frames t - i) t i
 abbrev pub tree : List ℕ → Tree
 tree t = treeAt t 0
 
--- the score of a leaf from its depth and its stored score; the depth plays no part yet (request N5 uses it)
+-- the scores of 31,000 and -31,000
+abbrev pub won : ℕ
+won = zeroScore + win
+
+abbrev pub lost : ℕ
+lost = zeroScore - win
+
+-- the score of a leaf from its depth and its stored score: the worth (Value.antt), as a score
 abbrev pub leafScore : ℕ → ℕ → ℕ
-leafScore depth stored = stored
+leafScore depth stored = cond (leb won stored) (stored - depth) (cond (leb stored lost) (stored + depth) stored)
 
 -- the score of each leaf
 unfoldable pub valuation : List ℕ → ℕ → ℕ

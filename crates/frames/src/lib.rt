@@ -39,6 +39,13 @@ pub const TWO_BYTES: usize = 65536;
 // The score of the value 0, for signed differences.
 const ZERO: i32 = ZERO_SCORE as i32;
 
+// From this value up a leaf is a win, from its negative down a loss; and the scores of both.
+const WIN: u32 = 31000;
+
+const WON: u32 = ZERO_SCORE as u32 + WIN;
+
+const LOST: u32 = ZERO_SCORE as u32 - WIN;
+
 // The flags of a certificate: a node in the max tree only, in the min tree only, and in both.
 pub const IN_MAX: u8 = 1;
 
@@ -289,12 +296,19 @@ fn stored_score(table: &[u8], node: usize) -> u32
     ((value_bytes(table, node) + ZERO_SCORE) % TWO_BYTES) as u32
 }
 
-// The score of a leaf at this depth.
+// The score of a leaf at this depth: that of its worth.
 pub fn leaf_score(table: &[u8], node: usize, depth: u32) -> u32
     requires { ⌜ (node < frames (now table)) × (depth ≤ maxNodes) ⌝ }
     ensures { λ r. ⌜ (r ≡ leafScore depth (storedScore (now (table .entry)) node)) × (r < twoBytes) ⌝ }
 {
-    stored_score(table, node)
+    let stored = stored_score(table, node);
+    if WON <= stored {
+        return stored - depth;
+    }
+    if stored <= LOST {
+        return stored + depth;
+    }
+    stored
 }
 
 // The value of a score (01: from -32,001 to 32,001).

@@ -32,8 +32,9 @@ leaf-in-requires : tie.Need-leaf-in-requires Inv-loop μ-loop
 leaf-in-requires c κs =
     let l = c .before .before in
     let p = l .before .before .before .before .before .before .pre .2 in
-    let d = c .depth-at .ensures ∙ placed-depth _ _ p (l .loop .node) (omega arith) in
-    (omega arith, (d, omega (arith, d, placed-few _ _ p (l .loop .node) (omega arith))))
+    let d = placed-depth _ _ p (l .loop .node) (omega arith) in
+    let few = placed-few _ _ p (l .loop .node) (omega arith) in
+    (omega arith, (omega (arith, c .depth-at .ensures, d), omega (arith, c .depth-at .ensures, d, few)))
 
 better-requires : tie.Need-better-requires Inv-loop μ-loop
 better-requires c κs = search needs

@@ -1,14 +1,18 @@
 -- Small certificates, with the verdict on each.
 use Prim.Native.Nat.{ℕ}
-use mathlib.Core.List.{List, [], _∷_}
+use mathlib.Core.List.{List, [], _∷_, _++_}
 use lib.IntN.{pos, negsuc}
-use Rattle.frames.specs.results.Cases.{small, lone}
+use Rattle.frames.specs.results.Cases.{leafFrame, innerFrame, small, lone}
 use Rattle.verify.specs.declared.Verdict.{Verdict}
 use Rattle.verify.specs.declared.Verdict.the-variants.{Value, Rejected}
 
 -- a rejection with its number and place
 abbrev pub rejectedAt : ℕ → ℕ → Verdict
 rejectedAt number place = Rejected (record { number = number; place = place })
+
+-- a root with a leaf of 31,000 and a Min node above one leaf, of the value of these two bytes
+abbrev pub twoWins : ℕ → ℕ → List ℕ
+twoWins high low = innerFrame 1 2 ++ leafFrame 121 24 ++ innerFrame 3 1 ++ leafFrame high low
 
 -- flags lent for a table, and the verdict on them
 pub record Case : Type 0 where
@@ -38,6 +42,10 @@ cases =
     ∷ case (small 1 2 3 4) (3 ∷ 1 ∷ 3 ∷ 1 ∷ 2 ∷ 3 ∷ 0 ∷ []) (rejectedAt 13 1)
     -- both are solution trees, of values 4 and 3
     ∷ case (small 1 2 3 4) (3 ∷ 1 ∷ 3 ∷ 1 ∷ 0 ∷ 2 ∷ 3 ∷ []) (rejectedAt 14 0)
+    -- solution trees of the values 31,000 and 31,000, but of the worths 30,999 and 30,998; and of 31,000 and 31,001, of
+    -- one worth
+    ∷ case (twoWins 121 24) (3 ∷ 1 ∷ 3 ∷ 3 ∷ []) (rejectedAt 14 0)
+    ∷ case (twoWins 121 25) (3 ∷ 1 ∷ 3 ∷ 3 ∷ []) (Value (pos 30999))
     ∷ case lone (3 ∷ []) (Value (negsuc 4))
     ∷ case lone (2 ∷ []) (rejectedAt 12 0)
     ∷ case lone (1 ∷ []) (rejectedAt 13 0)
