@@ -338,8 +338,9 @@ static int fall(struct front *f, int k, int test) {
     return k;
 }
 
-/* SSS* of an accepted tree over a lent list; the value. */
-static int run_front(const uint8_t *table, int n, struct state *list, uint8_t *marks, struct answer *counts) {
+/* SSS* of an accepted tree over a lent list; the value, or the merit at which the allowance is spent. */
+static int run_front(const uint8_t *table, int n, struct state *list, uint8_t *marks, size_t allowance,
+                     struct answer *counts) {
     struct front f;
     int k = 0, test = GREATEST;
     f.table = table, f.list = list;
@@ -359,6 +360,10 @@ static int run_front(const uint8_t *table, int n, struct state *list, uint8_t *m
             }
             k = up;
         } else if (child_count(table, k) == 0) {
+            if (counts->leaves == allowance) {
+                counts->spent = 1;
+                break;
+            }
             counts->leaves++;
             put(&f, k, SOLVED, lesser(test, evaluate(table, marks, k, f.depth[k])));
             k = fall(&f, k, test);
@@ -374,7 +379,8 @@ static int run_front(const uint8_t *table, int n, struct state *list, uint8_t *m
 }
 
 /* The textbook's list, in no order: every step scans it for the best state, leftmost in the tree on equal merit. */
-static int run_list(const uint8_t *table, int n, struct state *list, uint8_t *marks, struct answer *counts) {
+static int run_list(const uint8_t *table, int n, struct state *list, uint8_t *marks, size_t allowance,
+                    struct answer *counts) {
     uint16_t parent[NODES], size[NODES], left[NODES];
     uint8_t depth[NODES];
     int length = 1, value;
@@ -395,7 +401,8 @@ static int run_list(const uint8_t *table, int n, struct state *list, uint8_t *ma
                 best = i;
         struct state s = list[best];
         int up = parent[s.node], count = child_count(table, s.node), first = first_child(table, s.node);
-        if (s.status == SOLVED && s.node == 0) {
+        counts->spent = s.status == LIVE && count == 0 && counts->leaves == allowance;
+        if (counts->spent || (s.status == SOLVED && s.node == 0)) {
             value = s.merit;
             break;
         }
@@ -425,27 +432,43 @@ static int run_list(const uint8_t *table, int n, struct state *list, uint8_t *ma
     return value;
 }
 
-typedef int run(const uint8_t *table, int n, struct state *list, uint8_t *marks, struct answer *counts);
+typedef int run(const uint8_t *table, int n, struct state *list, uint8_t *marks, size_t allowance,
+                struct answer *counts);
 
 static inline struct answer sss(run *run, const uint8_t *table, size_t length, uint8_t *marks, size_t marks_room,
-                                uint8_t *proof, size_t proof_room) {
+                                uint8_t *proof, size_t proof_room, size_t allowance) {
     struct state list[NODES];
     struct answer asked = ask(table, length, marks_room, proof_room), found = { 0 };
     if (asked.refused) return asked;
     memset(marks, 0, asked.count);
-    found.value = run(table, asked.count, list, marks, &found);
-    found.root_move = conclude(table, asked.count, marks, proof);
+    int test = run(table, asked.count, list, marks, allowance, &found);
+    if (found.spent) {
+        found.merit = test;
+    } else {
+        found.value = test;
+        found.root_move = conclude(table, asked.count, marks, proof);
+    }
     return found;
 }
 
 struct answer c_sss(const uint8_t *table, size_t length, uint8_t *marks, size_t marks_room, uint8_t *proof,
                     size_t proof_room) {
-    return sss(run_front, table, length, marks, marks_room, proof, proof_room);
+    return sss(run_front, table, length, marks, marks_room, proof, proof_room, NODES);
 }
 
 struct answer c_sss_list(const uint8_t *table, size_t length, uint8_t *marks, size_t marks_room, uint8_t *proof,
                          size_t proof_room) {
-    return sss(run_list, table, length, marks, marks_room, proof, proof_room);
+    return sss(run_list, table, length, marks, marks_room, proof, proof_room, NODES);
+}
+
+struct answer c_allowed(const uint8_t *table, size_t length, uint8_t *marks, size_t marks_room, uint8_t *proof,
+                        size_t proof_room, size_t allowance) {
+    return sss(run_front, table, length, marks, marks_room, proof, proof_room, allowance);
+}
+
+struct answer c_allowed_list(const uint8_t *table, size_t length, uint8_t *marks, size_t marks_room, uint8_t *proof,
+                             size_t proof_room, size_t allowance) {
+    return sss(run_list, table, length, marks, marks_room, proof, proof_room, allowance);
 }
 
 /* ---- the check of a proof */

@@ -7,9 +7,11 @@
 enum { FRAME = 6, NODES = 4096, TABLE_BYTES = FRAME * NODES, LINE = 13, FILE_BYTES = LINE * NODES, TEXT_BYTES = 256 };
 
 /* `refused` is 0 for a result; else the number of the question that got a "no", with its place. What a call does not
-   give is 0; the plain engine gives no count. */
+   give is 0; the plain engine gives no count. Where an allowance is spent, there is a merit, and no value or move. */
 struct answer {
     uint8_t refused;
+    uint8_t spent;
+    int32_t merit;
     int16_t value;
     size_t place;
     size_t count; /* nodes; bytes of a written file */
@@ -29,15 +31,18 @@ typedef struct answer write_call(const uint8_t *table, size_t length, uint8_t *f
 typedef struct answer check_call(const uint8_t *table, size_t length);
 typedef struct answer search_call(const uint8_t *table, size_t length, uint8_t *marks, size_t marks_room,
                                   uint8_t *proof, size_t proof_room);
+typedef struct answer allowed_call(const uint8_t *table, size_t length, uint8_t *marks, size_t marks_room,
+                                   uint8_t *proof, size_t proof_room, size_t allowance);
 typedef struct answer verify_call(const uint8_t *table, size_t length, const uint8_t *flags, size_t flags_room);
 typedef struct text report_call(const uint8_t *file, size_t length);
 
 /* c_sss keeps its list by node number with a front of greatest merits, c_sss_list is the textbook's list, scanned at
-   each step. */
+   each step. c_allowed and c_allowed_list are the same with an allowance of leaves. */
 read_call c_read;
 write_call c_write;
 check_call c_check;
 search_call c_alphabeta, c_plain, c_mtd, c_sss, c_sss_list;
+allowed_call c_allowed, c_allowed_list;
 verify_call c_verify;
 report_call c_report;
 #endif

@@ -64,7 +64,8 @@ static struct answer perform(const struct side *s, enum call call, struct lent *
 }
 
 static int same(struct answer a, struct answer b) {
-    return a.refused == b.refused && a.value == b.value && a.place == b.place && a.count == b.count
+    return a.refused == b.refused && a.spent == b.spent && a.merit == b.merit && a.value == b.value
+        && a.place == b.place && a.count == b.count
         && a.root_move == b.root_move && a.leaves == b.leaves && a.steps == b.steps;
 }
 

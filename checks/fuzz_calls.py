@@ -1,6 +1,6 @@
 #!/usr/bin/env python3
 """Runs a compiled `cases` on generated calls over lent memory and compares with oracle.py: marks, certificates, passes, replacements,
-verdicts on right and on damaged flags, short buffers, parts of tables, written files, lines and children.
+allowances, verdicts on right and on damaged flags, short buffers, parts of tables, written files, lines and children.
 
     fuzz_calls.py PROGRAM [--runs N] [--seed S]     N inputs of up to 65,000 bytes each (default 40)
 """
@@ -39,7 +39,7 @@ def call(rng):
     """A file, a call and the lines that it prints."""
     table = bytes(fuzz.good_table(rng, rng.choice((7, 12, 30, 60))))
     file, n = o.file_of(table), len(table) // 6
-    kind = rng.randrange(9)
+    kind = rng.randrange(10)
     if kind <= 2:
         marks, flags = (rng.choice((n, n, n, n + 1, n + 9, n - 1, 0)) for _ in range(2))
         return file, "buffers %d %d" % (marks, flags), m.searches(table, marks, flags)
@@ -59,6 +59,10 @@ def call(rng):
         room = rng.choice((13 * n, 13 * n, 13 * n + 1, 13 * n + 20, 13 * n - 1, 12 * n, 0))
         part = (table + bytes(m.TABLE_SIZE - len(table)))[:size]
         return file, "write %d %d" % (room, size), m.written(part, room)
+    if kind == 8:
+        marks, flags = (rng.choice((n, n, n, n + 1, n - 1)) for _ in range(2))
+        allowance = rng.choice((0, 1, 2, rng.randrange(n + 1), rng.randrange(n + 1)))
+        return file, "allowance %d %d %d" % (allowance, marks, flags), m.allowed(table, allowance, marks, flags)
     if rng.random() < 0.5:
         file, at = rng.choice((file, file[:-1], fuzz.other_byte(rng, file))), rng.choice((13 * rng.randrange(n + 1), rng.randrange(13 * n + 3)))
         if set(b"#@") & set(file):

@@ -20,10 +20,12 @@ import oracle as o
 import selfcheck
 
 FILLED, GUARD, TEXT_SIZE = 170, 64, 256
+ONLY_IN_C = ("allowed_list",)
 
 
 class Answer(ctypes.Structure):
-    _fields_ = [("refused", ctypes.c_uint8), ("value", ctypes.c_int16)] + [
+    _fields_ = [("refused", ctypes.c_uint8), ("spent", ctypes.c_uint8), ("merit", ctypes.c_int32),
+                ("value", ctypes.c_int16)] + [
         (name, ctypes.c_size_t) for name in ("place", "count", "root_move", "leaves", "steps")]
 
 
@@ -46,13 +48,14 @@ def lend(data):
     return room, (ctypes.byref((ctypes.c_uint8 * len(room)).from_buffer(room), GUARD), ctypes.c_size_t(len(data)))
 
 
-def call(side, name, *buffers):
-    """The answer, and what the buffers hold afterwards; the guards must be as they were."""
+def call(side, name, numbers, *buffers):
+    """The answer, and what the buffers hold afterwards; the guards must be as they were. Numbers follow the buffers."""
     lib, prefix = side
     function = getattr(lib, prefix + name)
     function.restype = Text if name == "report" else Answer
     lent = [lend(bytes(data)) for data in buffers]
-    got = function(*itertools.chain.from_iterable(words for _, words in lent))
+    words = itertools.chain.from_iterable(words for _, words in lent)
+    got = function(*words, *map(ctypes.c_size_t, numbers))
     for room, _ in lent:
         if set(room[:GUARD] + room[-GUARD:]) != {FILLED}:
             return "%s wrote outside its memory" % name
@@ -84,24 +87,37 @@ def searches(table, marks, flags):
             fields = {"value": r.value, "root_move": r.move, "leaves": r.leaves, "steps": r.extra or 0}
             if name == "plain":         # it gives no count
                 del fields["leaves"]
-        yield name, (table, filled(marks), filled(flags)), flat(r, **fields), (table, *lent)
+        yield name, (), (table, filled(marks), filled(flags)), flat(r, **fields), (table, *lent)
+
+
+def allowed(table, marks, flags, allowance):
+    """02, N6: SSS* within an allowance, of the crate and of both lists in C."""
+    lent = filled(marks), filled(flags)
+    r = o.sss_search(table, None, *lent, allowance)
+    fields = {}
+    if isinstance(r, o.Spent):
+        fields = {"spent": 1, "merit": r.merit, "leaves": r.leaves, "steps": r.extra}
+    elif not isinstance(r, o.Refusal):
+        fields = {"value": r.value, "root_move": r.move, "leaves": r.leaves, "steps": r.extra}
+    for name in ("allowed", "allowed_list"):
+        yield name, (allowance,), (table, filled(marks), filled(flags)), flat(r, **fields), (table, *lent)
 
 
 def verified(table, flags):
     r = o.check_proof(table, flags)
-    yield "verify", (table, flags), flat(r, value=r), (table, flags)
+    yield "verify", (), (table, flags), flat(r, value=r), (table, flags)
 
 
 def checked(table):
     r = o.check_table(table)
-    yield "check", (table,), flat(r, count=r), (table,)
+    yield "check", (), (table,), flat(r, count=r), (table,)
 
 
 def written(table, room):
     """The writer, and the reader on what was written."""
     lent = filled(room)
     r = o.write_file(table, lent)
-    yield "write", (table, filled(room)), flat(r, count=r), (table, lent)
+    yield "write", (), (table, filled(room)), flat(r, count=r), (table, lent)
     if not isinstance(r, o.Refusal):
         yield from reports(lent[:r], len(table))
 
@@ -109,9 +125,9 @@ def written(table, room):
 def reports(file, room):
     lent = filled(room)
     r = o.read_file(file, lent)
-    yield "read", (file, filled(room)), flat(r, count=r), (file, lent)
+    yield "read", (), (file, filled(room)), flat(r, count=r), (file, lent)
     text = o.report(file)
-    yield "report", (file,), (text.ljust(TEXT_SIZE, b"\0"), len(text)), (file,)
+    yield "report", (), (file,), (text.ljust(TEXT_SIZE, b"\0"), len(text)), (file,)
 
 
 def small_trees():
@@ -121,6 +137,8 @@ def small_trees():
             for values in selfcheck.small_values(counts.count(0)):
                 table = o.table_of(counts, values)
                 yield from searches(table, n, n)
+                for allowance in range(n + 1):
+                    yield from allowed(table, n, n, allowance)
                 yield from written(table, 13 * n)
                 flags = bytearray(n)
                 o.mtd_search(table, bytearray(n), flags)
@@ -142,6 +160,7 @@ def random_calls(rng):
         yield from verified(table, fuzz_calls.damaged_flags(rng, table))
     yield from checked(table)
     yield from searches(table, size(), size())
+    yield from allowed(table, size(), size(), rng.choice((0, 1, 2, rng.randrange(n + 2), rng.randrange(n + 2), 2 ** 64 - 1)))
     yield from verified(table, bytes(rng.choice((0, 1, 2, 3)) for _ in range(size())))
     yield from written(table, rng.choice((13 * n, 13 * n, 13 * n + 1, 13 * n + 40, max(13 * n - 1, 0), 12 * n, 0)))
     file = fuzz.damaged(rng, 60)[1] if kind < 3 else fuzz.as_file(rng, table)
@@ -160,16 +179,16 @@ def main():
     args = parser.parse_args()
     sides, rng, asked, bad = libraries(), random.Random(args.seed), Counter(), 0
     todo = itertools.chain(small_trees(), itertools.chain.from_iterable(random_calls(rng) for _ in range(args.count)))
-    for name, lent, answer, left in todo:
+    for name, numbers, lent, answer, left in todo:
         asked[name] += 1
         want = answer, [bytes(data) for data in left]
-        for side in sides:
-            got = call(side, name, *lent)
+        for side in sides[1:] if name in ONLY_IN_C else sides:
+            got = call(side, name, numbers, *lent)
             if got != want:
                 bad += 1
                 if bad <= 10:
                     given = [bytes(data)[:60] for data in lent]
-                    print("DIFFERS %s%s of %r: got %r, want %r" % (side[1], name, given, got[0], answer))
+                    print("DIFFERS %s%s of %r %r: got %r, want %r" % (side[1], name, given, numbers, got[0], answer))
     print("%d differ; calls on each side: %s" % (bad, ", ".join("%s %d" % item for item in sorted(asked.items()))))
     sys.exit(1 if bad else 0)
 

@@ -210,6 +210,19 @@ def searches(table, marks, flags):
     return text
 
 
+def allowed(table, allowance, marks, flags):
+    """SSS* within an allowance (02, N6), with `marks` and `flags` bytes of filled buffers."""
+    lent, proof = bytearray((FILLED,) * marks), bytearray((FILLED,) * flags)
+    r = o.sss_search(table, None, lent, proof, allowance)
+    if isinstance(r, o.Refusal):
+        text = " " + answered(r)
+    elif isinstance(r, o.Spent):
+        text = " spent" + numbers((r.merit, r.leaves, r.extra))
+    else:
+        text = numbers((r.value, r.move, r.leaves, r.extra))
+    return "sss%s\nevaluated%s\ncertificate%s\n" % (text, numbers(lent), numbers(proof)) + verdict(table, proof)
+
+
 def flags_cases():
     """Questions 10 to 14, the expected answers worked out by hand from 01."""
     for title, file, flags, want in (
@@ -264,6 +277,27 @@ def buffer_cases():
                         ("a chain", chain(6, 32000))):
         file = tree_file(nest)
         add("marks and certificates: " + title, file, "buffers 10 10", searches(table_of_file(file), 10, 10))
+
+
+def allowance_cases():
+    """01's small trees at every allowance from 0 to what the full run needs; those of the plan, worked out by hand."""
+    by_hand = {("1 2 3 4", 0): "spent 32001 0 2", ("1 2 3 4", 1): "spent 32001 1 4", ("1 2 3 4", 2): "spent 3 2 6", ("1 2 3 4", 3): "3 2 3 9",
+               ("2 3 4 1", 2): "spent 4 2 6", ("2 3 4 1", 3): "spent 2 3 8", ("leaf -5", 0): "spent 32001 0 0"}
+    trees = [("%d %d %d %d" % tuple(leaves), [leaves[:2], leaves[2:]]) for leaves, _ in papers.rows(papers.SMALL_TREES)]
+    for name, nest in trees + [("leaf -5", -5), ("single leaf 9", [9])]:
+        file = tree_file(nest)
+        table = table_of_file(file)
+        n = len(table) // 6
+        for allowance in range(len(o.sss(o.Tree(table))[1]) + 1):
+            want = allowed(table, allowance, n + 1, n + 1)
+            assert "sss %s\n" % by_hand.pop((name, allowance), "") in want + "sss \n", (name, allowance, want)
+            add("allowance of %d: %s" % (allowance, name), file, "allowance %d %d %d" % (allowance, n + 1, n + 1), want)
+    assert not by_hand
+    table = table_of_file(ROW)
+    for allowance, marks, flags in ((0, 6, 7), (0, 7, 6), (0, 0, 0), (2, 7, 6)):
+        want = allowed(table, allowance, marks, flags)
+        assert want.startswith("sss refused 10 0\n")
+        add("allowance of %d, buffers of %d and %d bytes" % (allowance, marks, flags), ROW, "allowance %d %d %d" % (allowance, marks, flags), want)
 
 
 def table_cases():
@@ -348,7 +382,7 @@ def service_cases():
 def main():
     directory = sys.argv[1] if len(sys.argv) > 1 else os.path.join(os.path.dirname(HERE), "crates", "cases")
     for part in (made_trees, files_of_01, rows_of_002, rejected_files, accepted_files, wins_and_losses, flags_cases, buffer_cases,
-                 table_cases, reader_cases, writer_cases, service_cases):
+                 allowance_cases, table_cases, reader_cases, writer_cases, service_cases):
         part()
     assert len(stdin) < 65536
     for name, data in (("stdin", stdin), ("stdout", made + asked)):

@@ -1,5 +1,5 @@
 #!/usr/bin/env python3
-"""A plain model of document 01 ("Minimax analysis of club trees") with request N5 of 02, written from their sentences.
+"""A plain model of document 01 ("Minimax analysis of club trees") with requests of 02, written from their sentences.
 
 It shares nothing with the Rattle code: values are signed, lines are split at line feeds, SSS* keeps
 Stockman's list. Everything public takes bytes and bytearrays as a caller lends them and changes them
@@ -24,6 +24,7 @@ WIN = 31000
 LEAST, GREATEST = -32001, 32001
 
 Refusal = namedtuple("Refusal", "number place")
+Spent = namedtuple("Spent", "merit leaves extra order")     # 02, N6: extra, the replacements so far
 LIVE, SOLVED = "LIVE", "SOLVED"
 
 HEX = {c: i for i, c in enumerate(b"0123456789")}
@@ -363,8 +364,9 @@ def mtd(tree):
 
 # ---------------------------------------------------------------- SSS*
 
-def sss_by_rule(tree, tie=None):
-    """Stockman's list word by word: (node, status, merit), greatest merit, leftmost in the tree."""
+def sss_by_rule(tree, tie=None, allowance=None):
+    """Stockman's list word by word: (node, status, merit), greatest merit, leftmost in the tree. A leaf that the
+    allowance does not cover ends the run with its state's merit, and the state is not replaced (02, N6)."""
     tie = tie or (lambda k: tree.left[k])
     states = [(0, LIVE, GREATEST)]
     leaves, replacements = [], 0
@@ -375,6 +377,8 @@ def sss_by_rule(tree, tie=None):
         node, status, merit = best
         if node == 0 and status == SOLVED:
             return merit, leaves, replacements
+        if status == LIVE and not tree.kids[node] and len(leaves) == allowance:
+            return Spent(merit, len(leaves), replacements, leaves)
         states.remove(best)
         replacements += 1
         parent = tree.parent[node]
@@ -395,7 +399,7 @@ def sss_by_rule(tree, tie=None):
             states.append((parent, SOLVED, merit))
 
 
-def sss(tree):
+def sss(tree, allowance=None):
     """The same with a heap; a purged state stays in it until it comes up, and is then dropped."""
     kids, is_max, parent_of, left, worth = tree.kids, tree.is_max, tree.parent, tree.left, tree.worth
     heap = [(-GREATEST, 0, 0, LIVE)]
@@ -417,6 +421,8 @@ def sss(tree):
             continue
         if node == 0 and status == SOLVED:
             return merit, leaves, replacements
+        if status == LIVE and not kids[node] and len(leaves) == allowance:
+            return Spent(merit, len(leaves), replacements, leaves)
         replacements += 1
         if status == LIVE:
             if not kids[node]:
@@ -515,12 +521,19 @@ def check_table(table):
     return table_no(table) or len(table) // 6
 
 
-def finish(tree, outcome, marks, proof):
-    value, order = outcome[0], outcome[1]
-    extra = outcome[2] if len(outcome) > 2 else None
+def write_marks(tree, order, marks):
     valued = set(order)
     marks[:tree.n] = bytes(1 if k in valued else 0 for k in range(tree.n))
-    proof[:tree.n] = bytes(tree.flags(valued))
+
+
+def finish(tree, outcome, marks, proof):
+    if isinstance(outcome, Spent):
+        write_marks(tree, outcome.order, marks)
+        return outcome
+    value, order = outcome[0], outcome[1]
+    extra = outcome[2] if len(outcome) > 2 else None
+    write_marks(tree, order, marks)
+    proof[:tree.n] = bytes(tree.flags(set(order)))
     return Result(value, tree.move(), len(order), extra, order)
 
 
@@ -550,8 +563,9 @@ def mtd_search(table, marks, proof):
     return search(mtd, table, marks, proof)
 
 
-def sss_search(table, states, marks, proof):
-    return search(sss, table, marks, proof, states)
+def sss_search(table, states, marks, proof, allowance=None):
+    """Without an allowance the run is never stopped, as in the program."""
+    return search(lambda tree: sss(tree, allowance), table, marks, proof, states)
 
 
 # ---------------------------------------------------------------- the program

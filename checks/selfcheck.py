@@ -13,6 +13,7 @@ import oracle as o
 import papers
 import trees
 
+FILLED = 170
 checks = 0
 wrong = []
 
@@ -41,6 +42,23 @@ def run(call, table):
     else:
         r = call(table, marks, proof)
     return r, list(marks), list(proof)
+
+
+def allowed(table, allowance):
+    """SSS* within an allowance, on zeroed marks and a filled proof."""
+    n = len(table) // 6
+    marks, proof = bytearray(n), bytearray((FILLED,) * n)
+    r = o.sss_search(table, [None] * n, marks, proof, allowance)
+    return r, list(marks), list(proof)
+
+
+def changed_elsewhere(rng, table, marks):
+    """The table with other values on the leaves without a mark."""
+    other = bytearray(table)
+    for k in range(len(marks)):
+        if o.frame(table, k)[1] == 0 and not marks[k]:
+            other[6 * k + 4:6 * k + 6] = (rng.randint(-32000, 32000) & 65535).to_bytes(2, "big")
+    return other
 
 
 def saved(table, room):
@@ -188,6 +206,36 @@ def worths():
     same("N5: one worth", o.check_proof(o.table_of_nest([31000, [31001]]), flags), 30999)
 
 
+def allowances():
+    """Request N6, worked out by hand: (allowance, merit, leaves, replacements) where it is spent."""
+    for nest, rows in (([[1, 2], [3, 4]], ((0, 32001, 0, 2), (1, 32001, 1, 4), (2, 3, 2, 6))),
+                       ([[2, 3], [4, 1]], ((0, 32001, 0, 2), (1, 32001, 1, 4), (2, 4, 2, 6), (3, 2, 3, 8))),
+                       (-5, ((0, 32001, 0, 0),))):
+        table = o.table_of_nest(nest)
+        for allowance, *want in rows:
+            r = allowed(table, allowance)[0]
+            same("N6 %r within %d" % (nest, allowance), [r.merit, r.leaves, r.extra], want)
+        same("N6 %r within enough" % nest, allowed(table, len(rows)), run(o.sss_search, table))
+
+
+def one_allowance(rng, table, full, value):
+    """What N6 says of a run within an allowance, beside the full run."""
+    allowance = rng.randrange(full[0].leaves + 1)
+    r, marks, proof = allowed(table, allowance)
+    same("spent exactly", isinstance(r, o.Spent), allowance < full[0].leaves)
+    if not isinstance(r, o.Spent):
+        same("enough", (r, marks, proof), full)
+        return
+    same("the first leaves", (r.order, sum(marks)), (full[0].order[:allowance], allowance))
+    same("merit", value <= r.merit <= o.GREATEST, True)
+    same("no more replacements", r.extra <= full[0].extra, True)
+    same("the proof is left", set(proof), {FILLED})
+    if allowance:
+        same("merit never rises", r.merit <= allowed(table, rng.randrange(allowance))[0].merit, True)
+    other = changed_elsewhere(rng, table, marks)
+    same("spent: passed-over leaves have no influence", allowed(other, allowance), (r, marks, proof))
+
+
 def solution_trees(tree, k, bit):
     """All sets of flagged nodes of one kind below k."""
     if not tree.kids[k]:
@@ -240,6 +288,8 @@ def one_tree(rng, table, literal, pairs):
         same("ab by rule", o.ab_by_rule(tree), a[0].order)
         same("mtd by rule", o.mtd_by_rule(tree), (value, m[0].order, m[0].extra))
         same("sss by rule", o.sss_by_rule(tree), (value, s[0].order, s[0].extra))
+        allowance = rng.randrange(s[0].leaves)
+        same("allowance by rule", o.sss_by_rule(tree, allowance=allowance), o.sss(tree, allowance))
     if pairs:
         least = smallest_pair(tree)
         if least is not None:
@@ -247,11 +297,8 @@ def one_tree(rng, table, literal, pairs):
                 same("smallest pair", least <= r[0].leaves, True)
     # demand 3's last sentence: other values on the leaves passed over change nothing
     for call, r in ((o.alpha_beta, a), (o.mtd_search, m), (o.sss_search, s)):
-        other = bytearray(table)
-        for k in tree.leaves():
-            if not r[1][k]:
-                other[6 * k + 4:6 * k + 6] = (rng.randint(-32000, 32000) & 65535).to_bytes(2, "big")
-        same("passed-over leaves have no influence", run(call, other), r)
+        same("passed-over leaves have no influence", run(call, changed_elsewhere(rng, table, r[1])), r)
+    one_allowance(rng, table, s, value)
     same("written", saved(table, 13 * n + 3), (13 * n, o.file_of(table, upper=True) + b"\x55" * 3))
     same("a buffer one byte short", saved(table, 13 * n - 1), ((10, 0), b"\x55" * (13 * n - 1)))
     file = o.file_of(table, upper=rng.random() < 0.5, last=rng.random() < 0.5)
@@ -316,6 +363,7 @@ def main():
     figure_1()
     obligations()
     worths()
+    allowances()
     print("papers and examples: %d checks, %d wrong" % (checks, len(wrong)))
     every_small_tree(6)
     print("all trees of up to 6 nodes: %d checks, %d wrong" % (checks, len(wrong)))

@@ -5,6 +5,7 @@ use crate::print::print_bytes;
 use crate::print::print_checked;
 use crate::print::print_count;
 use crate::print::print_line_feed;
+use crate::print::print_merit;
 use crate::print::print_rejection;
 use crate::print::print_value;
 use certificate::Findings;
@@ -44,6 +45,18 @@ pub fn print_searches(file: &[u8], marks: u32, flags: u32) {
     let mut table = [0u8; TABLE_SIZE];
     let size = read_table(file, &mut table);
     print_all(&table[..size], marks, flags);
+}
+
+// SSS* with an allowance of so many leaves and buffers of these lengths.
+pub fn print_allowed(file: &[u8], allowance: u32, marks: u32, flags: u32) {
+    let mut table = [0u8; TABLE_SIZE];
+    let size = read_table(file, &mut table);
+    print_search(
+        Method::Sss(allowance as usize),
+        &table[..size],
+        marks,
+        flags,
+    );
 }
 
 // The calls that check a table, on so many bytes of it and with empty buffers: zeros follow the frames of the file.
@@ -168,14 +181,15 @@ fn flag(numbers: &[u32], i: usize) -> u8 {
 fn print_all(table: &[u8], marks: u32, flags: u32) {
     print_search(Method::AlphaBeta, table, marks, flags);
     print_search(Method::Mtd, table, marks, flags);
-    print_search(Method::Sss, table, marks, flags);
+    print_search(Method::Sss(MAX_NODES), table, marks, flags);
     print_search(Method::Plain, table, marks, flags);
 }
 
+// The searches; SSS* has an allowance of leaves.
 enum Method {
     AlphaBeta,
     Mtd,
-    Sss,
+    Sss(usize),
     Plain,
 }
 
@@ -188,7 +202,9 @@ fn print_search(method: Method, table: &[u8], marks: u32, flags: u32) {
     match method {
         Method::AlphaBeta => print_alphabeta(table, &mut evaluated[..m], &mut certificate[..f]),
         Method::Mtd => print_mtd(table, &mut evaluated[..m], &mut certificate[..f]),
-        Method::Sss => print_sss(table, &mut evaluated[..m], &mut certificate[..f]),
+        Method::Sss(allowance) => {
+            print_sss(table, &mut evaluated[..m], &mut certificate[..f], allowance)
+        }
         Method::Plain => print_plain(table, &mut evaluated[..m], &mut certificate[..f]),
     }
 }
@@ -217,13 +233,19 @@ fn print_mtd(table: &[u8], evaluated: &mut [u8], certificate: &mut [u8]) {
     print_buffers(table, evaluated, certificate);
 }
 
-fn print_sss(table: &[u8], evaluated: &mut [u8], certificate: &mut [u8]) {
+fn print_sss(table: &[u8], evaluated: &mut [u8], certificate: &mut [u8], allowance: usize) {
     io::write_all(STDOUT_FILENO, b"sss");
-    match sss::solve(table, evaluated, certificate) {
+    match sss::solve(table, evaluated, certificate, allowance) {
         sss::Answer::Found(found) => {
             let findings = found.findings;
             print_findings(findings);
             print_count(found.replacements);
+        }
+        sss::Answer::Spent(spent) => {
+            io::write_all(STDOUT_FILENO, b" spent");
+            print_merit(spent.merit);
+            print_count(spent.leaves);
+            print_count(spent.replacements);
         }
         sss::Answer::Rejected(rejection) => print_rejection(rejection),
     }

@@ -53,14 +53,15 @@ fn print_case(case: &[u8]) {
     print_answer(&case[start..call], &case[call..]);
 }
 
-// What a call gives for a file, by the first letter of its name: flags, buffers, table, write, check, line or
-// kids.
+// What a call gives for a file, by the first letter of its name: flags, buffers, allowance, table, write, check, line
+// or kids.
 fn print_answer(file: &[u8], call: &[u8]) {
     let mut numbers = [0u32; NUMBERS];
     let count = read_numbers(call, &mut numbers);
     match name(call) {
         b'f' => calls::print_verdict_of(file, &numbers[..count]),
         b'b' => calls::print_searches(file, numbers[0], numbers[1]),
+        b'a' => calls::print_allowed(file, numbers[0], numbers[1], numbers[2]),
         b't' => calls::print_reading(file, numbers[0]),
         b'w' => calls::print_writing(file, numbers[0], numbers[1]),
         b'c' => calls::print_checks(file, numbers[0]),

@@ -42,9 +42,14 @@ pub fn print_count(n: usize) {
     io::print_decimal(STDOUT_FILENO, n as u64);
 }
 
-// A blank and a value in base ten, a minus sign before a negative one.
+// A blank and a value in base ten.
 pub fn print_value(value: i16) {
-    let wide = value as i64;
+    print_merit(value as i32);
+}
+
+// A blank and a merit in base ten, a minus sign before a negative one.
+pub fn print_merit(merit: i32) {
+    let wide = merit as i64;
     if wide < 0 {
         io::write_all(STDOUT_FILENO, b" -");
         io::print_decimal(STDOUT_FILENO, (0 - wide) as u64);

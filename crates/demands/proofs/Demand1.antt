@@ -51,18 +51,21 @@ use Rattle.demands.proofs.Views.{alphaBeta-refusal, mtd-refusal, sss-re
 -- The call `sss::solve`, which has a list of its own, is a call of SSS* that is lent so long a list, with the same
 -- answer and the same buffers: all that is said of SSS* in these files holds of it.
 pub own-list : {t : List ℕ} {a : SssAnswer} (c : SolveCall t a) (l : List State) → maxNodes ≤ length l
-    → (d : SssCall t a) × (d .lent ≡ c .lent) × (d .left ≡ c .left) × (d .lentList ≡ l)
+    → (d : SssCall t a) × (d .allowance ≡ c .allowance) × (d .lent ≡ c .lent) × (d .left ≡ c .left)
+    × (d .lentList ≡ l)
 own-list {t} c l n =
-    let o = sssOutcome t l (c .lent .marks) (c .lent .flags) in (
+    let o = sssOutcome (c .allowance) t l (c .lent .marks) (c .lent .flags) in (
       record {
+        allowance = c .allowance;
         lent = c .lent;
         left = c .left;
         lentList = l;
         leftList = o .list;
         outcome =
             ap (λ x. record { list = o .list; search = x })
-            (c .outcome ∙ sym (same-outcome t l (c .lent .marks) (c .lent .flags) n));
+            (c .outcome ∙ sym (same-outcome (c .allowance) t l (c .lent .marks) (c .lent .flags) n));
       },
+      refl,
       refl,
       refl,
       refl,
@@ -79,7 +82,7 @@ module _ {t : List ℕ} {r : Rejection} where
   first-mtd c = mtd-refusal c .first
 
   pub first-sss : (c : SssCall t (sss-answer.Rejected r))
-      → sssRejection t (length (c .lentList) ∷ lengths (c .lent)) ≡ some r
+      → sssRejection (c .allowance) t (length (c .lentList) ∷ lengths (c .lent)) ≡ some r
   first-sss c = sss-refusal c .first
 
 pub first-file : (f table : List ℕ) (r : Rejection) → readAnswer f table ≡ RejectedTable r
@@ -163,15 +166,15 @@ pub lowest-min : (t flags : List ℕ) (r : Rejection) → check13 t flags ≡ so
     → LowestNo (ruleHolds Min t flags) 13 (frames t) r
 lowest-min t flags r e = lowest-no _ 13 (frames t) r e
 
--- question 15 never gets a "no", whatever the bytes: the questions of SSS* are those of every search
-pub never-15 : (t lengths : List ℕ) → sssRejection t lengths ≡ searchRejection t lengths
-never-15 t lengths = by-questions (searchRejection t lengths) refl
+-- question 15 never gets a "no", whatever the bytes and the allowance: the questions of SSS* are those of every search
+pub never-15 : (a : ℕ) (t lengths : List ℕ) → sssRejection a t lengths ≡ searchRejection t lengths
+never-15 a t lengths = by-questions (searchRejection t lengths) refl
   where
     by-questions : (q : Option Rejection) → searchRejection t lengths ≡ q
-        → sssRejection t lengths ≡ searchRejection t lengths
+        → sssRejection a t lengths ≡ searchRejection t lengths
     by-questions none p =
-        let a = both-passed (rejection t) (check10 (frames t) lengths) p .0 in
-        rw (p, states-found t (accepted-formed t a))
+        let ok = both-passed (rejection t) (check10 (frames t) lengths) p .0 in
+        rw (p, states-found t (accepted-formed t ok) a)
     by-questions (some x) p = rw p
 
 -- "After a refusal all lent memory holds what it held before": the buffers of each search (those of the plain engine:
@@ -194,7 +197,7 @@ module _ {t : List ℕ} {r : Rejection} where
   pub kept-solve : (c : SolveCall t (sss-answer.Rejected r)) → c .left ≡ c .lent
   kept-solve c =
       let d = own-list c (replicate maxNodes blank) (omega (arith, length-replicate {A = State} maxNodes blank)) in
-      sym (d .2) ∙ sss-refusal (d .0) .kept ∙ d .1
+      sym (d .3) ∙ sss-refusal (d .0) .kept ∙ d .2
 
 pub kept-table : (f table : List ℕ) (r : Rejection) → readAnswer f table ≡ RejectedTable r → tableAfter f table ≡ table
 kept-table f table r e = ap (λ q. filled q (decoded f) table) (first-file f table r e)

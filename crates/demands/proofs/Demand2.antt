@@ -3,10 +3,10 @@
 use Prim.Native.Nat.{ℕ, _≤_, _<_}
 use mathlib.Core.Path.{_≡_, refl, sym, ap, _∙_}
 use mathlib.Core.Logic.{_↔_}
+use mathlib.Core.Option.{none}
 use mathlib.Core.List.{List, _++_}
 use lib.IntN.{ℤ}
 use lib.ListN.{length, getD, drop, replicate}
-use borrow.Author.Tests.{le-leb}
 use Rattle.lists.specs.Lists.{among}
 use Rattle.gametree.specs.Tree.{minimax}
 use Rattle.gametree.specs.Move.{rootMove}
@@ -32,12 +32,13 @@ use Rattle.mtd.specs.Outcome.{mtdLeaves, mtdFound}
 use Rattle.sss.specs.declared.State.{State}
 use Rattle.sss.specs.declared.Answer.the-variants as sss-answer
 use Rattle.sss.specs.Entry.{blank}
-use Rattle.sss.specs.Outcome.{sssLeaves, sssFound}
-use Rattle.sss.proofs.Whole.{found-outcome}
+use Rattle.sss.specs.Outcome.{sssRun, sssLeaves, sssFound}
+use Rattle.sss.proofs.Whole.{passed-outcome}
+use Rattle.sss.proofs.Allowed.{leaves-few, enough as run-enough, full-outcome}
 use Rattle.demands.specs.Calls.{Buffers, AlphaBetaCall, MtdCall, SssCall, SolveCall}
 use Rattle.demands.specs.Calls.{Call, found, lent, left, leaves}
 use Rattle.demands.specs.Handed.{Room, CertifiedBy}
-use Rattle.demands.proofs.Views.{view}
+use Rattle.demands.proofs.Views.{rooms-passed, view}
 use Rattle.demands.proofs.Handed.{marks-at, flags-certify, flags-verified}
 
 -- "Alpha-beta, MTD and SSS*, each valuing the leaves that its rule names and no others": the leaves of its rule are
@@ -68,36 +69,50 @@ module _ (t : List ℕ) (a : Accepted t) (b : Buffers) (h : Room t b) where
     refl,
   )
 
-  pub solve-gives : (c : SolveCall t (sss-answer.Found (sssFound t))) × (c .lent ≡ b)
-  solve-gives = (
-    record {
-      lent = b;
-      left = record { marks = marksOf (sssLeaves t) t (b .marks); flags = flagsOf (sssLeaves t) t (b .flags) };
-      outcome = rw (room-passed t (length (b .marks)) (length (b .flags)) a (h .marks) (h .flags));
-    },
-    refl,
-  )
+  -- SSS* under every allowance that is enough: as many leaves as its full run evaluates (no more than nodes: `few`)
+  module _ (n : ℕ) (enough : length (sssLeaves t) ≤ n) where
+    abbrev found-leaves : Buffers
+    found-leaves =
+        record { marks = marksOf (sssLeaves t) t (b .marks); flags = flagsOf (sssLeaves t) t (b .flags) }
 
-  pub sss-gives : (l : List State) → frames t ≤ length l
-      → (c : SssCall t (sss-answer.Found (sssFound t))) × (c .lent ≡ b) × (c .lentList ≡ l)
-  sss-gives l n = (
-    record {
-      lent = b;
-      left = record { marks = marksOf (sssLeaves t) t (b .marks); flags = flagsOf (sssLeaves t) t (b .flags) };
-      lentList = l;
-      leftList = replicate (frames t) blank ++ drop (frames t) l;
-      outcome =
-          sym (found-outcome t l (b .marks) (b .flags) (accepted-formed t a)
-          (rw (
-            a,
-            le-leb (frames t) (length l) n,
-            le-leb (frames t) (length (b .marks)) (h .marks),
-            le-leb (frames t) (length (b .flags)) (h .flags),
-          )));
-    },
-    refl,
-    refl,
-  )
+    pub solve-gives : (c : SolveCall t (sss-answer.Found (sssFound t))) × (c .allowance ≡ n) × (c .lent ≡ b)
+    solve-gives = (
+      record {
+        allowance = n;
+        lent = b;
+        left = found-leaves;
+        outcome =
+            sym (full-outcome t (accepted-formed t a) (b .marks) (b .flags) _ (sssRun n t)
+            (run-enough t (accepted-formed t a) n enough)
+            ∙ rw (room-passed t (length (b .marks)) (length (b .flags)) a (h .marks) (h .flags)) refl);
+      },
+      refl,
+      refl,
+    )
+
+    pub sss-gives : (l : List State) → frames t ≤ length l
+        → (c : SssCall t (sss-answer.Found (sssFound t))) × (c .allowance ≡ n) × (c .lent ≡ b) × (c .lentList ≡ l)
+    sss-gives l m = (
+      record {
+        allowance = n;
+        lent = b;
+        left = found-leaves;
+        lentList = l;
+        leftList = replicate (frames t) blank ++ drop (frames t) l;
+        outcome =
+            sym (passed-outcome n t l (b .marks) (b .flags) (accepted-formed t a) (rooms-passed t b a h (length l) m)
+            ∙ ap (λ x. record { list = replicate (frames t) blank ++ drop (frames t) l; search = x })
+            (full-outcome t (accepted-formed t a) (b .marks) (b .flags) none (sssRun n t)
+            (run-enough t (accepted-formed t a) n enough)));
+      },
+      refl,
+      refl,
+      refl,
+    )
+
+  -- it evaluates no more leaves than there are nodes
+  pub few : length (sssLeaves t) ≤ frames t
+  few = leaves-few t (accepted-formed t a)
 
 -- and none other: only an accepted table gets a result
 pub only-accepted : {t : List ℕ} → Call t → Accepted t

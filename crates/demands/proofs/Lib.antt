@@ -1,14 +1,16 @@
 -- The demands, sentence by sentence: Demand1, Demand2 and Demand3; the plain engine of request N1: Plain; the writer of
--- request N3: Saving; tables without wins and losses (request N5): Ordinary. The other files carry the theory's
--- theorems to calls over byte tables.
+-- request N3: Saving; tables without wins and losses (request N5): Ordinary; SSS* within an allowance (request N6):
+-- Allowance. The other files carry the theory's theorems to calls over byte tables.
 mod Parts
 mod Views
 mod Handed
 mod Local
+mod Spending
 pub mod Demand1
 pub mod Demand2
 pub mod Demand3
 pub mod Plain
 pub mod Saving
 pub mod Ordinary
+pub mod Allowance
 pub mod Cases

@@ -28,7 +28,7 @@ use Rattle.demands.proofs.Views.{view}
 use Rattle.demands.proofs.Handed.{formed, proper, marks-at}
 
 -- the first n entries of a buffer that was written for n nodes
-take-written : (f : ℕ → ℕ) (n : ℕ) (b : List ℕ) → take n (written f n b) ≡ tabulate f n
+pub take-written : (f : ℕ → ℕ) (n : ℕ) (b : List ℕ) → take n (written f n b) ≡ tabulate f n
 unfolding written
 take-written f n b = take-at (tabulate f n) (drop n b) n (length-tabulate f n)
 

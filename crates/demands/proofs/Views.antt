@@ -1,9 +1,10 @@
 -- What is common to the calls that give a result, from their contracts.
-use Prim.Native.Nat.{ℕ}
-use mathlib.Core.Path.{_≡_, ap}
+use Prim.Native.Nat.{ℕ, _≤_}
+use mathlib.Core.Path.{_≡_, sym, ap, _∙_}
 use mathlib.Core.Option.{none}
 use mathlib.Core.List.{List, _∷_}
 use lib.ListN.{length}
+use borrow.Author.Tests.{le-leb}
 use Rattle.lists.proofs.Choice.{clash}
 use Rattle.gametree.proofs.Searches.{Searched, byMtd, Deciding}
 use Rattle.gametree.proofs.Theorems.{search-deciding}
@@ -26,9 +27,10 @@ use Rattle.mtd.specs.declared.Answer.the-variants as mtd-answer
 use Rattle.mtd.specs.Outcome.{mtdFound, mtdSearch}
 use Rattle.sss.specs.declared.Found.{Found as SssFound}
 use Rattle.sss.specs.declared.Answer.the-variants as sss-answer
-use Rattle.sss.specs.Outcome.{sssFound, sssSearch, check15, sssRejection}
+use Rattle.sss.specs.Outcome.{sssRun, spentMerit, check15, sssRejection, sssFound, sssSearch}
 use Rattle.sss.proofs.Whole.{searched}
 use Rattle.sss.proofs.Whole.{passed as passed-rooms}
+use Rattle.sss.proofs.Allowed.{by-rejection, full-found}
 use Rattle.demands.specs.Calls.{Buffers, lengths, AlphaBetaCall, MtdCall, SssCall}
 use Rattle.demands.specs.Calls.{Call, alphaBeta, mtd, sss, found, lent, left, leaves}
 use Rattle.demands.specs.Handed.{Room}
@@ -72,9 +74,12 @@ module _ {t : List ℕ} where
   mtd-result c = result-of mtd-apart _ _ _ _ (c .outcome)
 
   pub sss-result : {f : SssFound} (c : SssCall t (sss-answer.Found f))
-      → Result (sssRejection t (length (c .lentList) ∷ lengths (c .lent)))
+      → Result (sssRejection (c .allowance) t (length (c .lentList) ∷ lengths (c .lent)))
       (sssSearch t (c .lent .marks) (c .lent .flags)) (sssFound t) f (c .left)
-  sss-result c = result-of sss-apart _ _ _ _ (ap (λ x. x .search) (c .outcome))
+  sss-result c =
+      let o = ap (λ x. x .search) (c .outcome) in
+      result-of sss-apart _ _ _ _ (o ∙ full-found (c .allowance) t (c .lentList) (c .lent .marks) (c .lent .flags) _
+      (sym (ap (λ x. x .answer) o)))
 
 -- and what its refusal says
 module _ {t : List ℕ} {r : Rejection} where
@@ -88,9 +93,16 @@ module _ {t : List ℕ} {r : Rejection} where
   mtd-refusal c = refusal-of mtd-apart _ _ _ _ (c .outcome)
 
   pub sss-refusal : (c : SssCall t (sss-answer.Rejected r))
-      → Refusal (sssRejection t (length (c .lentList) ∷ lengths (c .lent)))
+      → Refusal (sssRejection (c .allowance) t (length (c .lentList) ∷ lengths (c .lent)))
       (sssSearch t (c .lent .marks) (c .lent .flags)) r (c .left)
-  sss-refusal c = refusal-of sss-apart _ _ _ _ (ap (λ x. x .search) (c .outcome))
+  sss-refusal c =
+      let o = ap (λ x. x .search) (c .outcome) in
+      let p = by-rejection t (c .lent .marks) (c .lent .flags) (sssRun (c .allowance) t)
+      (spentMerit (sssRun (c .allowance) t .end)) _ r (sym (ap (λ x. x .answer) o)) in
+      record {
+        first = p .0;
+        kept = ap (λ x. record { marks = x .evaluated; flags = x .certificate }) (o ∙ p .1);
+      }
 
 -- the leaves w of an accepted table were evaluated: they decide its value and its move, and what was left in the
 -- buffers, which have room, follows from them
@@ -115,10 +127,20 @@ module _ (t : List ℕ) (b : Buffers) where
       let p = passed-room t (length (b .marks)) (length (b .flags)) e in
       (p .0, record { marks = p .1; flags = p .2 })
 
-  all-room : (n : ℕ) → searchRejection t (n ∷ lengths b) ≡ none → Accepted t × Room t b
+  pub all-room : (n : ℕ) → searchRejection t (n ∷ lengths b) ≡ none → Accepted t × Room t b
   all-room n e =
       let p = passed-rooms t n (length (b .marks)) (length (b .flags)) e in
       (both-passed (rejection t) (check10 (frames t) (n ∷ lengths b)) e .0, record { marks = p .1 .1; flags = p .1 .2 })
+
+  -- and the other way round
+  pub rooms-passed : Accepted t → Room t b → (n : ℕ) → frames t ≤ n → searchRejection t (n ∷ lengths b) ≡ none
+  rooms-passed a h n m =
+      rw (
+        a,
+        le-leb (frames t) n m,
+        le-leb (frames t) (length (b .marks)) (h .marks),
+        le-leb (frames t) (length (b .flags)) (h .flags),
+      )
 
 -- the leaves of a search of an accepted table decide
 decides : (t : List ℕ) → Accepted t → {w : List ℕ} → Searched (valuation t) (tree t) w
@@ -161,7 +183,7 @@ view {t} (sss c) =
     let x = sss-result c in
     let n = length (c .lentList) in
     let p = all-room t (c .lent) n
-    (both-passed (searchRejection t (n ∷ lengths (c .lent))) (check15 t) (x .passed) .0) in
+    (both-passed (searchRejection t (n ∷ lengths (c .lent))) (check15 (c .allowance) t) (x .passed) .0) in
     let s = searched t (accepted-formed t (p .0)) in
     record {
       handed =

@@ -51,22 +51,24 @@ pub record MtdCall (t : List ℕ) (a : MtdAnswer) : Type 0 where
   pub left : Buffers
   pub outcome : outcomeOf a left ≡ mtdOutcome t (lent .marks) (lent .flags)
 
--- a call of SSS* with the table t that answers a; it is lent a list of states too
+-- a call of SSS* with the table t that answers a; it has an allowance of leaves, and is lent a list of states too
 pub record SssCall (t : List ℕ) (a : SssAnswer) : Type 0 where
+  pub allowance : ℕ
   pub lent : Buffers
   pub left : Buffers
   pub lentList : List State
   pub leftList : List State
   pub outcome : record { list = leftList; search = outcomeOf a left }
-      ≡ sssOutcome t lentList (lent .marks) (lent .flags)
+      ≡ sssOutcome allowance t lentList (lent .marks) (lent .flags)
 
 -- a call of SSS* that has a list of its own; it is a call of SSS* with a long lent list (`own-list`, Demand1.antt)
 pub record SolveCall (t : List ℕ) (a : SssAnswer) : Type 0 where
+  pub allowance : ℕ
   pub lent : Buffers
   pub left : Buffers
-  pub outcome : outcomeOf a left ≡ solveOutcome t (lent .marks) (lent .flags)
+  pub outcome : outcomeOf a left ≡ solveOutcome allowance t (lent .marks) (lent .flags)
 
--- a call of one of the three searches with the table t that gives a result
+-- a call of one of the three searches with the table t that gives a result; SSS* under whatever allowance
 pub data Call (t : List ℕ) : Type 0 where
   alphaBeta : {f : Findings} → AlphaBetaCall t (ab-answer.Found f) → Call t
   mtd : {f : MtdFound} → MtdCall t (mtd-answer.Found f) → Call t
@@ -90,7 +92,7 @@ module _ {t : List ℕ} where
   left (mtd c) = c .left
   left (sss c) = c .left
 
-  -- the leaves that its rule names, in order: Baudet's condition, MTD's passes, the run of SSS*
+  -- the leaves that its rule names, in order: Baudet's condition, MTD's passes, the full run of SSS*
   abbrev pub leaves : Call t → List ℕ
   leaves (alphaBeta c) = reachedLeaves t
   leaves (mtd c) = mtdLeaves t

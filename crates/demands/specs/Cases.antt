@@ -21,10 +21,11 @@ use Rattle.sss.specs.declared.Answer.the-variants as sss-answer
 use Rattle.sss.specs.Entry.{blank}
 use Rattle.sss.specs.Outcome.{sssOutcome}
 
--- what a search gives: the value, the move, the count of evaluated leaves and, if it has one, its second count, or a
--- rejection's number
+-- what a search gives: the value, the move, the count of evaluated leaves and, if it has one, its second count; of an
+-- allowance that is spent the merit and the counts; or a rejection's number
 pub data Given : Type 0 where
   found : (value : ℤ) (move leaves second : ℕ) → Given
+  spent : (merit : ℤ) (leaves replacements : ℕ) → Given
   rejected : (number : ℕ) → Given
 
 abbrev given : Findings → ℕ → Given
@@ -45,6 +46,7 @@ byMtd (mtd-answer.Rejected r) = rejected (r .number)
 
 abbrev bySss : sss.Answer → Given
 bySss (sss-answer.Found f) = given (f .findings) (f .replacements)
+bySss (sss-answer.Spent s) = spent (s .merit) (s .leaves) (s .replacements)
 bySss (sss-answer.Rejected r) = rejected (r .number)
 
 -- a line of the table: what the three searches and the plain engine give, and the flags that SSS* and the plain engine
@@ -60,7 +62,7 @@ pub record Row : Type 0 where
 abbrev pub rowOf : List ℕ → Row
 rowOf t =
     let buffer : List ℕ = replicate (frames t) 0 in
-    let s = sssOutcome t (replicate (frames t) blank) buffer buffer .search in
+    let s = sssOutcome (frames t) t (replicate (frames t) blank) buffer buffer .search in
     let p = plainOutcome t buffer buffer in
     record {
       alphaBeta = byAlphaBeta (alphaBetaOutcome t buffer buffer .answer);

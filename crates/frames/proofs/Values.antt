@@ -1,13 +1,14 @@
 -- Scores as signed values.
-use Prim.Native.Nat.{ℕ, _+_, _^_, _≤_, _<_}
+use Prim.Native.Nat.{ℕ, suc, _+_, _-_, _^_, _≤_, _<_}
 use native.Mathlib.Omega.{arith}
 use native.Mathlib.Decide.{decLt}
 use mathlib.Core.Path.{_≡_, ap}
 use mathlib.Core.Logic.{_↔_}
 use mathlib.Core.List.{List}
+use lib.Dec.{le→leb}
 use borrow.Author.Tests.{lt-ltb, le-ltb}
 use lib.IntN.{pos, negsuc, natAbs, _-ℤ_}
-use lib.Signed.{mag}
+use lib.Signed.{mag, _≤ℤ_}
 use Rattle.gametree.specs.Tree.{Score, zeroScore}
 use Rattle.frames.specs.Frame.{byteOf, valueBytes, storedScore, twoBytes}
 use Rattle.frames.specs.Value.{valueOf, signed, maxValue}
@@ -19,6 +20,21 @@ value-small s h =
       | yes p ↦ rw (lt-ltb s zeroScore p) (omega arith)
       | no p ↦ rw (le-ltb s zeroScore (omega arith)) (omega arith)
     ]
+
+-- values are ordered as their scores are
+pub value-order : (m n : ℕ) → m ≤ n → valueOf m ≤ℤ valueOf n
+value-order m n h =
+    record {
+      le =
+          elim (decLt m zeroScore) [
+            | yes p ↦ elim (decLt n zeroScore) [
+              | yes q ↦ rw (lt-ltb m zeroScore p, lt-ltb n zeroScore q) (le→leb (zeroScore - suc n) (zeroScore - suc m) (omega arith))
+              | no q ↦ rw (lt-ltb m zeroScore p, le-ltb n zeroScore (omega arith)) tt
+            ]
+            | no p ↦ rw (le-ltb m zeroScore (omega arith), le-ltb n zeroScore (omega arith))
+                (le→leb (m - zeroScore) (n - zeroScore) (omega arith))
+          ];
+    }
 
 -- the value of a leaf's score is from -32,000 to 32,000
 pub value-range : (s : ℕ) → Score s → natAbs (valueOf s) ≤ maxValue

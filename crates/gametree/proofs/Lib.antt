@@ -1,9 +1,12 @@
--- Lemmas, in a folder for each subject; the theorems for use are in Theorems, in the words of Searches.
+-- Lemmas, in a folder for each subject; the theorems for use are in Theorems, in the words of Searches, and, for SSS*
+-- within an allowance, in Within.
 pub mod minimax
 pub mod alphabeta
 pub mod mtd
 pub mod sss
+pub mod allowance
 pub mod certificates
 pub mod results
 pub mod Searches
 pub mod Theorems
+pub mod Within

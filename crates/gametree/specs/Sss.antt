@@ -90,10 +90,12 @@ abbrev pub step : (ℕ → ℕ) → Layout → List State → Step
 step ν Y [] = empty
 step ν Y (s ∷ ss) = replace ν Y (pick Y s ss) (pick Y s ss .state .status)
 
--- how a run ends: with the root's value, when the root, SOLVED, is taken; or with no state found while the root is
--- unsolved (01: a "no" to question 15), which never happens: `sss-minimax` in Theorems
+-- how a run ends: with the root's value, when the root, SOLVED, is taken; before a leaf that its allowance does not
+-- cover, with the merit of that leaf's state (Within); or with no state found while the root is unsolved (01: a "no" to
+-- question 15), which never happens: `sss-minimax` in Theorems, `within-ends` in Within
 pub data End : Type 0 where
   finished : (value : ℕ) → End
+  spent : (merit : ℕ) → End
   noState : End
 
 -- what a run gives: its end, the leaves evaluated, in order, and how many replacements there were

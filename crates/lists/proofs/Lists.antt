@@ -81,6 +81,11 @@ once-append P Q f (k ∷ v) w a b p q = (
   once-append P Q f v w (a .1) b (p .1) q,
 )
 
+-- the first part of a list without repetition has none
+pub once-left : (v w : List ℕ) → Once (v ++ w) → Once v
+once-left [] w o = tt
+once-left (k ∷ v) w o = (all-left (λ j. k ≡ j → ⊥) v w (o .0), once-left v w (o .1))
+
 -- a list without the first place of k
 abbrev without : ℕ → List ℕ → List ℕ
 without k [] = []

@@ -2,7 +2,7 @@
 -- value that it found.
 use Prim.Native.Nat.{ℕ, _^_, _≤_, _<_}
 use native.Mathlib.Omega.{arith}
-use mathlib.Core.Path.{_≡_, sym, ap, _∙_}
+use mathlib.Core.Path.{_≡_, ap}
 use mathlib.Core.List.{List, [], _∷_}
 use lib.IntN.{ℤ}
 use lib.ListN.{length, replicate, length-replicate}
@@ -22,29 +22,18 @@ fresh-room : (t e : List ℕ) → Accepted t → e ≡ replicate maxNodes 0 → 
 fresh-room t e accepted fresh =
     omega (arith, accepted-formed t accepted .few, ap length fresh, length-replicate {A = ℕ} maxNodes 0)
 
--- an answer a that finds f, and is no rejection
-pub record Answered {F A : Type 0} (found : F → A) (rejected : Rejection → A) (f : F) (a : A) : Type 0 where
-  pub same : (r : F) → a ≡ found r → r ≡ f
-  pub not-rejected : (x : Rejection) → a ≡ rejected x → ⊥
-
--- the search of an accepted table into fresh buffers finds; the answer's two constructors are told apart
-pub answered : {F A : Type 0} (found : F → A) (rejected : Rejection → A) → ((r f : F) → found r ≡ found f → r ≡ f)
-    → ((r : F) (x : Rejection) → found r ≡ rejected x → ⊥)
-    → {f : F} (s : Search) {a : A} {e c : List ℕ}
+-- the search of an accepted table into fresh buffers finds
+pub answered : {F A : Type 0} (found : F → A) (rejected : Rejection → A) {f : F} (s : Search) {a : A} {e c : List ℕ}
     → Accepted (s .table) → s .evaluated ≡ replicate maxNodes 0 → s .certificate ≡ replicate maxNodes 0
     → record { answer = a; evaluated = e; certificate = c }
     ≡ outcome rejected (found f) s
     (searchRejection (s .table) (length (s .evaluated) ∷ length (s .certificate) ∷ []))
-    → Answered found rejected f a
-answered found rejected same apart {f} s {a} accepted p q o =
+    → a ≡ found f
+answered found rejected {f} s {a} accepted p q o =
     let passed =
     room-passed (s .table) (length (s .evaluated)) (length (s .certificate)) accepted
     (fresh-room (s .table) (s .evaluated) accepted p) (fresh-room (s .table) (s .certificate) accepted q) in
-    let answer : a ≡ found f = ap (λ x. x .answer) (rw passed at o) in
-    record {
-      same = λ r g. same r f (sym g ∙ answer);
-      not-rejected = λ x g. apart f x (sym answer ∙ g);
-    }
+    ap (λ x. x .answer) (rw passed at o)
 
 -- a value that was found is passed on as the bits that hold it
 pub value-passed : (v : ℤ) → mag v < 2 ^ hbits w16 → toZ w16 (ofZ w16 v) ≡ v

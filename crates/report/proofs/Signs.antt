@@ -7,14 +7,17 @@ use lib.Dec.{T}
 use borrow.Author.Tests.{le-ltb}
 use lib.IntN.{ℤ, pos, negsuc, _-ℤ_, natAbs}
 use lib.Signed.{ltZ, nonNeg}
-use mir.Syntax.{w16, w64}
+use mir.Syntax.{w16, w32, w64}
 use mir.Val.{Fits, SFits}
 use Rattle.lists.proofs.Choice.{true-not-false}
 use Rattle.report.specs.Text.{decimal, signedDecimal}
 
--- a value of 16 bits takes 64 too
-pub widened : (v : ℤ) → SFits w16 v → SFits w64 v
-widened v f = record { sfits = omega (arith, f .sfits) }
+-- a value of 16 bits takes 32 too, and one of 32 bits 64
+pub wide32 : (v : ℤ) → SFits w16 v → SFits w32 v
+wide32 v f = record { sfits = omega (arith, f .sfits) }
+
+pub wide64 : (v : ℤ) → SFits w32 v → SFits w64 v
+wide64 v f = record { sfits = omega (arith, f .sfits) }
 
 -- what its negation is, where it is negative
 pub record Negative (v : ℤ) : Type 0 where
@@ -24,7 +27,7 @@ pub record Negative (v : ℤ) : Type 0 where
   pub same : natAbs (pos 0 -ℤ v) ≡ natAbs v
   pub text : signedDecimal v ≡ 45 ∷ decimal (natAbs v)
 
-pub negative : (v : ℤ) → SFits w16 v → ltZ v (pos 0) ≡ true → Negative v
+pub negative : (v : ℤ) → SFits w32 v → ltZ v (pos 0) ≡ true → Negative v
 negative (pos n) f e = absurd (true-not-false e (le-ltb n 0 (omega arith)))
 negative (negsuc n) f e =
     record {
@@ -41,6 +44,6 @@ pub record Positive (v : ℤ) : Type 0 where
   pub small : Fits w64 (natAbs v)
   pub text : signedDecimal v ≡ decimal (natAbs v)
 
-pub positive : (v : ℤ) → SFits w16 v → ltZ v (pos 0) ≡ false → Positive v
+pub positive : (v : ℤ) → SFits w32 v → ltZ v (pos 0) ≡ false → Positive v
 positive (pos n) f e = record { positive = tt; small = record { fits = omega (arith, f .sfits) }; text = refl }
 positive (negsuc n) f e = absurd (true-not-false refl e)

@@ -99,14 +99,15 @@ fn put_mtd(table: &[u8], text: &mut [u8], at: usize) -> usize
     put_line(text, at, b"mtd", findings)
 }
 
-// The line of SSS*.
+// The line of SSS*, with an allowance that never stops it: no tree has more leaves.
 fn put_sss(table: &[u8], text: &mut [u8], at: usize) -> usize
     requires { ⌜ Accepted (now table) × TextRoom at (sssLine (now table)) (now text) ⌝ }
     ensures { λ r. ⌜ Put at (sssLine (now (table .entry))) (now (text .entry)) r (now (text .exit)) ⌝ }
 {
     let mut evaluated = [0u8; MAX_NODES];
     let mut certificate = [0u8; MAX_NODES];
-    let sss::Answer::Found(found) = sss::solve(table, &mut evaluated, &mut certificate) else {
+    let answer = sss::solve(table, &mut evaluated, &mut certificate, MAX_NODES);
+    let sss::Answer::Found(found) = answer else {
         return at;
     };
     let findings = found.findings;

@@ -4,7 +4,7 @@ use Prim.Native.Nat.{ℕ, _≤_, _<_}
 use native.Mathlib.Omega.{arith}
 use mathlib.Core.Path.{_≡_, refl, ap, fun-ext}
 use mathlib.Core.Bool.{Bool, true, false, cond}
-use mathlib.Core.List.{List}
+use mathlib.Core.List.{List, []}
 use Rattle.lists.specs.Lists.{All, among}
 use Rattle.gametree.specs.Tree.{Side, Max, Min, Tree, leaf, inner, Kids, last, _then_, least, greatest, better}
 use Rattle.gametree.specs.Tree.{minimax, minimaxKids, EveryLeaf, EveryLeafKids, Score, Scored}
@@ -84,6 +84,13 @@ known-greatest false v h = omega arith
 -- the low bound is at most the minimax value
 pub low≤ : (ν : ℕ → ℕ) (E : ℕ → Bool) (t : Tree) → low ν E t ≤ minimax ν t
 low≤ ν E t = minimax-mono (known ν E least) ν t (every-leaf _ (λ n. known-least (E n) (ν n)) t)
+
+-- and `least` where no leaf is evaluated
+pub low-none : (ν : ℕ → ℕ) (t : Tree) → low ν (among []) t ≡ least
+low-none ν t =
+    let w = minimax-within least least (known ν (among []) least) t
+    (every-leaf (λ n. (least ≤ least) × (least ≤ least)) (λ n. (omega arith, omega arith)) t) in
+    omega arith
 
 -- the minimax value is at most the high bound
 pub ≤high : (ν : ℕ → ℕ) (E : ℕ → Bool) (t : Tree) → Scored ν t → minimax ν t ≤ high ν E t

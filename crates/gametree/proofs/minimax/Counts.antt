@@ -11,7 +11,7 @@ use lib.ListN.{length, length-append}
 use borrow.Author.Tests.{eqb-true, ne-eqb}
 use Rattle.lists.specs.Lists.{All, among, Once}
 use Rattle.gametree.specs.Tree.{Tree, leaf, inner, Kids, last, _then_, In, InKids, EveryLeafKids, Distinct}
-use Rattle.gametree.specs.Tree.{DistinctKids, leaves, leavesKids, leafCount, leafCountKids}
+use Rattle.gametree.specs.Tree.{DistinctKids, size, sizeKids, leaves, leavesKids, leafCount, leafCountKids}
 use Rattle.gametree.specs.Layout.{has}
 use Rattle.gametree.specs.Certificate.{pairLeaves, pairLeavesKids, LeavesIn}
 use Rattle.lists.proofs.Choice.{cond-cases, true-not-false, or-left, or-cases}
@@ -136,3 +136,13 @@ once-count w t d o a =
     all-zip _ _ (λ k. among (filter (among w) (leaves t)) k ≡ true)
     (λ k x y. filter-among (among w) (leaves t) k x y) w (all-among w) a in
     omega (arith, count-list w t d, once-length w (filter (among w) (leaves t)) o b, filter-count (among w) t)
+
+-- a tree has no more leaves than nodes
+mutual
+  pub leaves-size : (t : Tree) → length (leaves t) ≤ size t
+  leaves-size (leaf n) = le-refl 1
+  leaves-size (inner n s ks) = omega (arith, leavesKids-size ks)
+
+  leavesKids-size : (ks : Kids) → length (leavesKids ks) ≤ sizeKids ks
+  leavesKids-size (last t) = leaves-size t
+  leavesKids-size (t then ts) = simp length-append (omega (arith, leaves-size t, leavesKids-size ts))

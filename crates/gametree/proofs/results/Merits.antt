@@ -7,7 +7,7 @@ use mathlib.Core.Path.{_≡_, refl, subst}
 use mathlib.Core.Logic.{⊎-elim}
 use mathlib.Core.Bool.{Bool, true, false}
 use mathlib.Core.Option.{none, some}
-use mathlib.Core.List.{List, [], _∷_, map}
+use mathlib.Core.List.{List, [], _∷_, _++_, map}
 use lib.Dec.{ltb}
 use lib.ListN.{length, length-append}
 use borrow.Author.Tests.{ltb-true, ltb-false, eqb-true}
@@ -18,7 +18,7 @@ use Rattle.gametree.specs.Sss.{Status, LIVE, SOLVED, State, live, solved
 use Rattle.gametree.specs.Sss.{put, Step, empty, stop, quiet, evaluating, purge, replaceLive, replaceSolved}
 use Rattle.gametree.specs.Sss.{replace, step, ListAfter, atStart, afterQuiet, afterEvaluating}
 use Rattle.lists.proofs.Choice.{clash, or-cases, or-false-both, and-both}
-use Rattle.lists.proofs.Lists.{all-append, all-map}
+use Rattle.lists.proofs.Lists.{all-append, all-map, all-right}
 use Rattle.gametree.proofs.sss.Steps.{Steps, done, quietly, evaluates, OfTaken, pick-all, put-all, purge-all}
 use Rattle.gametree.proofs.sss.Frontier.{AtMost}
 
@@ -51,6 +51,16 @@ taken-greatest Y (s ∷ ss) = pick-greatest Y s ss
 taken-atMost : (Y : Layout) (γ : ℕ) (L : List State) → AtMost γ L → takenMerit Y L ≤ γ
 taken-atMost Y γ [] h = omega arith
 taken-atMost Y γ (s ∷ ss) h = pick-all Y (λ x. x .merit ≤ γ) s ss (h .0) (h .1) .1
+
+-- so the merit taken is that of any state that no other on the list exceeds
+pub taken-merit : (Y : Layout) (A B : List State) (s : State) → AtMost (s .merit) (A ++ (s ∷ B))
+    → takenMerit Y (A ++ (s ∷ B)) ≡ s .merit
+taken-merit Y A B s h =
+    omega (
+      arith,
+      taken-atMost Y (s .merit) (A ++ (s ∷ B)) h,
+      all-right (λ x. x .merit ≤ takenMerit Y (A ++ (s ∷ B))) A (s ∷ B) (taken-greatest Y (A ++ (s ∷ B))) .0,
+    )
 
 -- REPLACEMENTS
 

@@ -88,7 +88,8 @@ module _ (ν : ℕ → ℕ) (Y : Layout) (t : Tree) (d : Describes Y t) (h : Sco
         whole = a .whole;
       }
 
-ran-path : {e : End} {u w : List ℕ} {m n : ℕ} → u ≡ w → m ≡ n
+-- a run by its parts
+pub ran-path : {e : End} {u w : List ℕ} {m n : ℕ} → u ≡ w → m ≡ n
     → _≡_ {A = Ran} (record { end = e; evaluated = u; replacements = m })
     (record { end = e; evaluated = w; replacements = n })
 ran-path p q = cc

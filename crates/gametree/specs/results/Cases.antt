@@ -5,10 +5,11 @@ use mathlib.Core.Path.{_≡_}
 use mathlib.Core.List.{List, [], _∷_, map}
 use lib.ListN.{getD}
 use Rattle.lists.specs.Lists.{among}
-use Rattle.gametree.specs.Tree.{Max, Min, Tree, leaf, inner, last, _then_, zeroScore}
+use Rattle.gametree.specs.Tree.{Max, Min, Tree, leaf, inner, last, _then_, greatest, zeroScore}
 use Rattle.gametree.specs.AlphaBeta.{Found, fullWindow}
 use Rattle.gametree.specs.Mtd.{mtd}
-use Rattle.gametree.specs.Sss.{End, finished, sss}
+use Rattle.gametree.specs.Sss.{End, finished, spent, Ran, sss}
+use Rattle.gametree.specs.Within.{sssWithin}
 use Rattle.gametree.specs.Certificate.{flag}
 use Rattle.gametree.specs.Move.{rootMove}
 
@@ -35,6 +36,10 @@ small = inner 0 Max (inner 1 Min (leaf 3 then last (leaf 4)) then last (inner 2 
 -- the small tree with values given for its leaves
 abbrev pub leavesOf : ℕ → ℕ → ℕ → ℕ → Case
 leavesOf a b c d = valued small (0 ∷ 0 ∷ 0 ∷ a ∷ b ∷ c ∷ d ∷ [])
+
+-- a leaf of -5
+abbrev pub loneLeaf : Case
+loneLeaf = record { tree = leaf 0; scores = 31996 ∷ [] }
 
 -- Max(Min(3, 6), Min(3, 1)): of equal merits the leftmost comes first, whichever arrived first
 abbrev pub equalMerits : Case
@@ -168,3 +173,35 @@ table =
 -- the definitions give a column of the table
 abbrev pub Column : {A : Type 0} → (Row → A) → Type 0
 Column f = map (λ c. f (rowOf c)) cases ≡ map f table
+
+-- a run of SSS* within an allowance: the tree, how many leaves are allowed, and how it ends, which leaves it evaluates
+-- and how many replacements it makes
+pub record Allowed : Type 0 where
+  pub case : Case
+  pub allowance : ℕ
+  pub gives : Ran
+
+abbrev allowed : Case → (allowance : ℕ) → End → (evaluated : List ℕ) → (replacements : ℕ) → Allowed
+allowed c a e w k = record { case = c; allowance = a; gives = record { end = e; evaluated = w; replacements = k } }
+
+-- Max(Min(1, 2), Min(3, 4)), up to the greatest allowance that a call can be given, Max(Min(2, 3), Min(4, 1)), and a
+-- leaf of -5
+abbrev pub allowances : List Allowed
+allowances =
+    allowed (leavesOf 1 2 3 4) 0 (spent greatest) [] 2
+    ∷ allowed (leavesOf 1 2 3 4) 1 (spent greatest) (3 ∷ []) 4
+    ∷ allowed (leavesOf 1 2 3 4) 2 (spent (score 3)) (3 ∷ 5 ∷ []) 6
+    ∷ allowed (leavesOf 1 2 3 4) 3 (finished (score 3)) (3 ∷ 5 ∷ 6 ∷ []) 9
+    ∷ allowed (leavesOf 1 2 3 4) 18446744073709551615 (finished (score 3)) (3 ∷ 5 ∷ 6 ∷ []) 9
+    ∷ allowed (leavesOf 2 3 4 1) 2 (spent (score 4)) (3 ∷ 5 ∷ []) 6
+    ∷ allowed (leavesOf 2 3 4 1) 3 (spent (score 2)) (3 ∷ 5 ∷ 6 ∷ []) 8
+    ∷ allowed (leavesOf 2 3 4 1) 4 (finished (score 2)) (3 ∷ 5 ∷ 6 ∷ 4 ∷ []) 11
+    ∷ allowed loneLeaf 0 (spent greatest) [] 0
+    ∷ allowed loneLeaf 1 (finished 31996) (0 ∷ []) 1
+    ∷ []
+
+-- the definitions give them
+abbrev pub AllowancesRight : Type 0
+AllowancesRight =
+    map (λ x. sssWithin (x .allowance) (valuation (x .case)) (x .case .tree)) allowances
+    ≡ map (λ x. x .gives) allowances

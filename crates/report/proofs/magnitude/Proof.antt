@@ -2,45 +2,53 @@
 use lib.IntN.{pos, _-ℤ_}
 use mir.Syntax.{w16, w64}
 use mir.ValLaws.{toZ-ofZ}
-use Rattle.report.proofs.Signs.{widened, negative, positive}
+use Rattle.report.proofs.Signs.{wide32, wide64, negative, positive}
 use Rattle.report.proofs.magnitude.Statement.{statement}
 use Rattle.report.proofs.magnitude.Tie as tie
 
 cast-wide : tie.Need-cast-wide
-cast-wide c = rw (toZ-ofZ w16 (c .args .value) (c .fits .value)) (widened (c .args .value) (c .fits .value))
+cast-wide c =
+    let v = c .args .value in
+    let f = c .fits .value in
+    rw (toZ-ofZ w16 v f) (wide64 v (wide32 v f))
 
 sub-result : tie.Need-sub-result
 sub-result c =
     let v = c .before .args .value in
     let f = c .before .fits .value in
-    rw (toZ-ofZ w16 v f, toZ-ofZ w64 v (widened v f)) (negative v f (rw (toZ-ofZ w16 v f) at (c .if1 .taken)) .fits)
+    let w = wide32 v f in
+    rw (toZ-ofZ w16 v f, toZ-ofZ w64 v (wide64 v w)) (negative v w (rw (toZ-ofZ w16 v f) at (c .if1 .taken)) .fits)
 
 cast-result : tie.Need-cast-result
 cast-result c =
     let v = c .before .args .value in
     let f = c .before .fits .value in
-    let n = negative v f (rw (toZ-ofZ w16 v f) at (c .if1 .taken)) in
-    rw (toZ-ofZ w16 v f, toZ-ofZ w64 v (widened v f), toZ-ofZ w64 (pos 0 -ℤ v) (n .fits)) (n .positive, n .small)
+    let w = wide32 v f in
+    let n = negative v w (rw (toZ-ofZ w16 v f) at (c .if1 .taken)) in
+    rw (toZ-ofZ w16 v f, toZ-ofZ w64 v (wide64 v w), toZ-ofZ w64 (pos 0 -ℤ v) (n .fits)) (n .positive, n .small)
 
 cast-result-2 : tie.Need-cast-result-2
 cast-result-2 c =
     let v = c .before .args .value in
     let f = c .before .fits .value in
-    let p = positive v f (rw (toZ-ofZ w16 v f) at (c .if1 .left)) in
-    rw (toZ-ofZ w16 v f, toZ-ofZ w64 v (widened v f)) (p .positive, p .small)
+    let w = wide32 v f in
+    let p = positive v w (rw (toZ-ofZ w16 v f) at (c .if1 .left)) in
+    rw (toZ-ofZ w16 v f, toZ-ofZ w64 v (wide64 v w)) (p .positive, p .small)
 
 returns : tie.Need-returns
 returns c =
     let v = c .before .args .value in
     let f = c .before .fits .value in
-    let n = negative v f (rw (toZ-ofZ w16 v f) at (c .if1 .taken)) in
-    rw (toZ-ofZ w16 v f, toZ-ofZ w64 v (widened v f), toZ-ofZ w64 (pos 0 -ℤ v) (n .fits)) (n .same)
+    let w = wide32 v f in
+    let n = negative v w (rw (toZ-ofZ w16 v f) at (c .if1 .taken)) in
+    rw (toZ-ofZ w16 v f, toZ-ofZ w64 v (wide64 v w), toZ-ofZ w64 (pos 0 -ℤ v) (n .fits)) (n .same)
 
 returns-2 : tie.Need-returns-2
 returns-2 c =
     let v = c .before .args .value in
     let f = c .before .fits .value in
-    rw (toZ-ofZ w16 v f, toZ-ofZ w64 v (widened v f))
+    let w = wide32 v f in
+    rw (toZ-ofZ w16 v f, toZ-ofZ w64 v (wide64 v w))
 
 pub magnitude-spec : {M : Type 1} → statement M
 magnitude-spec =

@@ -1,15 +1,16 @@
 -- `report::put_mtd` meets its contract: the search finds, and the line says what it found.
-use mathlib.Core.Path.{refl}
+use mathlib.Core.Path.{_≡_, refl}
 use lib.ListN.{replicate}
 use borrow.Author.Needs.{needs}
 use denote.Ref.{now}
 use Rattle.lists.proofs.Choice.{clash}
 use Rattle.frames.specs.Frame.{maxNodes}
+use Rattle.mtd.specs.declared.Found.{Found}
 use Rattle.mtd.specs.declared.Answer.the-variants.{Found as FoundAnswer, Rejected}
 use Rattle.certificate.specs.Search.{Search}
 use Rattle.mtd.specs.Outcome.{mtdFound, mtdSearch}
 use Rattle.report.specs.Report.{mtdLine}
-use Rattle.report.proofs.Searches.{Answered, answered}
+use Rattle.report.proofs.Searches.{answered}
 use Rattle.report.proofs.put_mtd.Statement.{statement}
 use Rattle.report.proofs.put_mtd.Tie as tie
 
@@ -23,10 +24,13 @@ asked c = mtdSearch (now (start c .args .table)) (replicate maxNodes 0) (replica
 
 -- the search finds
 found : (c : tie.After-search) → let s = asked c in
-    Answered FoundAnswer Rejected (mtdFound (s .table)) (c .search .result)
-found c =
-    answered FoundAnswer Rejected (λ r f e. cc) (λ r x e. clash (cc)) (asked c)
-    (start c .pre .0) refl refl (c .search .ensures)
+    c .search .result ≡ FoundAnswer (mtdFound (s .table))
+found c = answered FoundAnswer Rejected (asked c) (start c .pre .0) refl refl (c .search .ensures)
+
+-- and what is told of the answer is what it found
+same : (c : tie.After-search) → let s = asked c in
+    (f : Found) → c .search .result ≡ FoundAnswer f → f ≡ mtdFound (s .table)
+same c f e = let i = found c in cc
 
 slice-aggregate-search : tie.Need-slice-aggregate-search
 slice-aggregate-search c = search needs
@@ -44,7 +48,7 @@ enum-told : tie.Need-enum-told
 enum-told c = search needs
 
 returns : tie.Need-returns
-returns c = absurd (found (c .before .before .before .before) .not-rejected _ (c .enum-told .given .1))
+returns c = clash (cc (found (c .before .before .before .before), c .enum-told .given .1))
 
 slice-aggregate-put-line : tie.Need-slice-aggregate-put-line
 slice-aggregate-put-line c = search needs
@@ -54,7 +58,7 @@ unfolding mtdLine
 put-line-requires c κs =
     let r = c .before .before .before .before in
     let s = r .before .before .before .before in
-    rw (found s .same _ (r .found .given .1)) (start s .pre .1)
+    rw (same s _ (r .found .given .1)) (start s .pre .1)
 
 same-length : tie.Need-same-length
 same-length c = search needs
@@ -65,7 +69,7 @@ returns-2 c =
     let t = c .before .before .before in
     let r = t .before .before .before .before in
     let s = r .before .before .before .before in
-    rw (found s .same _ (r .found .given .1)) at (c .before .before .put-line .ensures)
+    rw (same s _ (r .found .given .1)) at (c .before .before .put-line .ensures)
 
 pub put-mtd-spec : {M : Type 1} → statement M
 put-mtd-spec =

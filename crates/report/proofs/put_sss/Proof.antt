@@ -1,15 +1,19 @@
--- `report::put_sss` meets its contract: the search finds, and the line says what it found.
-use mathlib.Core.Path.{refl}
+-- `report::put_sss` meets its contract: the allowance is enough, so the search finds, and the line says what it found.
+use native.Mathlib.Omega.{arith}
+use mathlib.Core.Path.{_≡_, refl, _∙_}
+use mathlib.Core.Logic.{⊎-elim}
 use lib.ListN.{replicate}
 use borrow.Author.Needs.{needs}
 use denote.Ref.{now}
-use Rattle.lists.proofs.Choice.{clash}
 use Rattle.frames.specs.Frame.{maxNodes}
+use Rattle.frames.proofs.Acceptance.{accepted-formed}
+use Rattle.sss.specs.declared.Found.{Found}
 use Rattle.sss.specs.declared.Answer.the-variants.{Found as FoundAnswer, Rejected}
 use Rattle.certificate.specs.Search.{Search}
-use Rattle.sss.specs.Outcome.{sssFound, sssSearch}
+use Rattle.sss.specs.Outcome.{sssRun, sssFound, sssSearch}
+use Rattle.sss.proofs.Allowed.{leaves-few, enough, full-outcome}
 use Rattle.report.specs.Report.{sssLine}
-use Rattle.report.proofs.Searches.{Answered, answered}
+use Rattle.report.proofs.Searches.{answered}
 use Rattle.report.proofs.put_sss.Statement.{statement}
 use Rattle.report.proofs.put_sss.Tie as tie
 
@@ -21,12 +25,20 @@ start c = c .before .before .before .before .before
 abbrev asked : tie.After-solve → Search
 asked c = sssSearch (now (start c .args .table)) (replicate maxNodes 0) (replicate maxNodes 0)
 
--- the search finds
+-- no tree has more leaves than are allowed, so the search finds
 found : (c : tie.After-solve) → let s = asked c in
-    Answered FoundAnswer Rejected (sssFound (s .table)) (c .solve .result)
+    c .solve .result ≡ FoundAnswer (sssFound (s .table))
 found c =
-    answered FoundAnswer Rejected (λ r f e. cc) (λ r x e. clash (cc)) (asked c)
-    (start c .pre .0) refl refl (c .solve .ensures)
+    let t = now (start c .args .table) in
+    let wf = accepted-formed t (start c .pre .0) in
+    let run = enough t wf maxNodes (omega (arith, leaves-few t wf, wf .few)) in
+    answered FoundAnswer Rejected (asked c) (start c .pre .0) refl refl
+    (c .solve .ensures ∙ full-outcome t wf (replicate maxNodes 0) (replicate maxNodes 0) _ (sssRun maxNodes t) run)
+
+-- and what is told of the answer is what it found
+same : (c : tie.After-solve) → let s = asked c in
+    (f : Found) → c .solve .result ≡ FoundAnswer f → f ≡ sssFound (s .table)
+same c f e = let i = found c in cc
 
 slice-aggregate-solve : tie.Need-slice-aggregate-solve
 slice-aggregate-solve c = search needs
@@ -37,14 +49,13 @@ slice-aggregate-solve-2 c = search needs
 solve-requires : tie.Need-solve-requires
 solve-requires c κs = search needs
 
-enum-known-found : tie.Need-enum-known-found
-enum-known-found c = search needs
-
-enum-told : tie.Need-enum-told
-enum-told c = search needs
+enum-known-answer : tie.Need-enum-known-answer
+enum-known-answer c = search needs
 
 returns : tie.Need-returns
-returns c = absurd (found (c .before .before .before .before) .not-rejected _ (c .enum-told .given .1))
+returns c =
+    ⊎-elim (λ e. absurd (omega arith)) (λ e. absurd (omega arith))
+    (rw (found (c .before .before .before)) at (c .match .keys2))
 
 slice-aggregate-put-line : tie.Need-slice-aggregate-put-line
 slice-aggregate-put-line c = search needs
@@ -54,7 +65,7 @@ unfolding sssLine
 put-line-requires c κs =
     let r = c .before .before .before .before in
     let s = r .before .before .before .before in
-    rw (found s .same _ (r .found .given .1)) (start s .pre .1)
+    rw (same s _ (r .answer .given .1)) (start s .pre .1)
 
 same-length : tie.Need-same-length
 same-length c = search needs
@@ -62,10 +73,9 @@ same-length c = search needs
 returns-2 : tie.Need-returns-2
 unfolding sssLine
 returns-2 c =
-    let t = c .before .before .before in
-    let r = t .before .before .before .before in
+    let r = c .before .before .before .before .before .before .before in
     let s = r .before .before .before .before in
-    rw (found s .same _ (r .found .given .1)) at (c .before .before .put-line .ensures)
+    rw (same s _ (r .answer .given .1)) at (c .before .before .put-line .ensures)
 
 pub put-sss-spec : {M : Type 1} → statement M
 put-sss-spec =
@@ -74,8 +84,7 @@ put-sss-spec =
     slice-aggregate-solve
     slice-aggregate-solve-2
     solve-requires
-    enum-known-found
-    enum-told
+    enum-known-answer
     returns
     slice-aggregate-put-line
     put-line-requires

@@ -9,7 +9,7 @@ use mir.ValLaws.{toZ-ofZ}
 use borrow.Author.Needs.{needs}
 use Rattle.report.specs.Text.{decimal, signedDecimal}
 use Rattle.report.proofs.Laying.{room-rest, put-then}
-use Rattle.report.proofs.Signs.{negative, positive}
+use Rattle.report.proofs.Signs.{wide32, negative, positive}
 use Rattle.report.proofs.put_value.Statement.{statement}
 use Rattle.report.proofs.put_value.Tie as tie
 
@@ -22,7 +22,7 @@ below c =
     let s = t .before .before .before .before .before .before in
     let v = s .args .value in
     let e = toZ-ofZ w16 v (s .fits .value) in
-    negative v (s .fits .value) (rw e at (t .if1 .taken)) .text
+    negative v (wide32 v (s .fits .value)) (rw e at (t .if1 .taken)) .text
     ∙ ap (λ n. 45 ∷ decimal n) (sym (c .magnitude .ensures ∙ ap natAbs e))
 
 above : (c : tie.After-magnitude2) →
@@ -33,7 +33,7 @@ above c =
     let s = t .before .before .before .before .before .before in
     let v = s .args .value in
     let e = toZ-ofZ w16 v (s .fits .value) in
-    positive v (s .fits .value) (rw e at (t .if1 .left)) .text
+    positive v (wide32 v (s .fits .value)) (rw e at (t .if1 .left)) .text
     ∙ ap decimal (sym (c .magnitude2 .ensures ∙ ap natAbs e))
 
 put-byte-requires : tie.Need-put-byte-requires
@@ -43,8 +43,9 @@ put-byte-requires-2 : tie.Need-put-byte-requires-2
 put-byte-requires-2 c κs =
     let t = c .before in
     let s = t .before .before .before .before .before .before in
-    let e = toZ-ofZ w16 (s .args .value) (s .fits .value) in
-    let l = ap length (negative (s .args .value) (s .fits .value) (rw e at (t .if1 .taken)) .text) in
+    let v = s .args .value in
+    let e = toZ-ofZ w16 v (s .fits .value) in
+    let l = ap length (negative v (wide32 v (s .fits .value)) (rw e at (t .if1 .taken)) .text) in
     room-rest (45 ∷ []) (t .before .before .before .put-byte .ensures) (omega arith)
 
 magnitude-requires : tie.Need-magnitude-requires

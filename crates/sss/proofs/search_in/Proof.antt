@@ -3,7 +3,7 @@
 -- passed on for good; the other slices are opened as rows (`Rows.antt`), and each call is lent what it takes
 -- (`Loans.antt`, `Calls.antt`).
 use mathlib.Core.Path.{_≡_, refl, _∙_}
-use Prim.Native.Nat.{ℕ, _+_, _-_, _*_}
+use Prim.Native.Nat.{ℕ, _<_, _+_, _-_, _*_, _^_}
 use mathlib.Core.List.{List, [], _∷_}
 use lib.ListN.{length}
 use Rattle.walks.proofs.Walk.{ !, Args, Atoms, ByValue, Contract, Fml, Fun, GName, Given, Heap, Is, Lfts, Meets}
@@ -15,7 +15,8 @@ use Rattle.walks.proofs.Walk.{full, fullShare, givenOf, group, held, id⊢, ini
 use Rattle.walks.proofs.Walk.{move, named, needs, no-more, none, nothing, of-enum, of-opd, of-struct, onEntry, opens}
 use Rattle.walks.proofs.Walk.{owned, params1, part, pass0, pass1, passed, qed, reborrows, ref-to, returns, row-back}
 use Rattle.walks.proofs.Walk.{says, sets, share-back, shared, shares-row, shuts, slice-vals, sliceVal, stays-of, stop}
-use Rattle.walks.proofs.Walk.{suffices, tables, tablesOf, tripleOf, u32, u8, via, walkOf, ‵, ⋆}
+use Rattle.walks.proofs.Walk.{suffices, tables, tablesOf, tripleOf, u32, u8, uint-tells, uint-vals}
+use Rattle.walks.proofs.Walk.{usize, valued, via, vint, w64, walkOf, ‵, ⋆}
 use denote.Struct.Laws as LL
 use Rattle.frames.specs.declared.Checked.{Checked}
 use Rattle.frames.proofs.Checked as Q
@@ -66,7 +67,16 @@ R = S.the-row
 abbrev params : Parameters 6 (fn.ended .signature .params) (fn.ended .kept)
 params = (
   shared 6 0 tt u8,
-  (lent 6 1 tt u32, (passed 6 2 tt u32, (lent 6 3 tt R, (lent 6 4 tt u8, (lent 6 5 tt u8, tt))))),
+  (
+    lent 6 1 tt u32,
+    (
+      passed 6 2 tt u32,
+      (
+        lent 6 3 tt R,
+        (lent 6 4 tt u8, (lent 6 5 tt u8, (valued 6 usize (uint-vals w64) (uint-tells w64) (λ x f. refl), tt))),
+      ),
+    ),
+  ),
 )
 
 abbrev stayed : Stays (fn.ended .signature .params) (fn.ended .kept)
@@ -74,7 +84,7 @@ stayed = stays-of 6 (fn.ended .signature .params) (fn.ended .kept) params
 
 -- where local j stands after k other entries, the last local first
 abbrev pos : ℕ → ℕ → ℕ
-pos k j = k + 2 * (28 - j)
+pos k j = k + 2 * (29 - j)
 
 -- the contracts that the proof cites
 module _ {M : Type 1} (𝓤 : URA M) (H : Heap 𝓤) (A : Atoms 𝓤) (mem : Memory → SProp 𝓤) (run : Routine → Fun 𝓤) where
@@ -124,11 +134,17 @@ module _ {M : Type 1} (𝓤 : URA M) (H : Heap 𝓤) (A : Atoms 𝓤) (W : Given
   abbrev cs : RefT (List ℕ)
   cs = a .1 .1 .1 .1 .1 .0
 
+  abbrev allowance : ℕ
+  allowance = a .1 .1 .1 .1 .1 .1 .0
+
   -- the machine values of the arguments, and what the triple binds outside
   abbrev at : Vals fn.signature κs
   at = (
     slice-vals tb,
-    (slice-vals fm, (slice-vals fr, (slice-vals ls, (slice-vals vs, (slice-vals cs, tt))))),
+    (
+      slice-vals fm,
+      (slice-vals fr, (slice-vals ls, (slice-vals vs, (slice-vals cs, (vint w64 allowance ∷ [], tt))))),
+    ),
   )
 
   abbrev bound : walkOf 𝓤 H A fn.ended stayed (fn.clauses 𝓤 H A mem run) .Ghost
@@ -191,7 +207,7 @@ module _ {M : Type 1} (𝓤 : URA M) (H : Heap 𝓤) (A : Atoms 𝓤) (W : Given
   )
 
   abbrev to-begun : Checked → Begun 𝓤 H A mem run .Ghost
-  to-begun q = ((tt, tt, tt, (q, tt), (vQ .val q ∷ [], tt)), tt)
+  to-begun q = ((tt, tt, tt, (q, (allowance, tt)), (vQ .val q ∷ [], (vint w64 allowance ∷ [], tt))), tt)
 
   abbrev to-drive : Run → List ℕ → List ℕ → ℕ → GName → ℕ → GName → ℕ → GName → Drive 𝓤 H A mem run .Ghost
   to-drive m F ms νf δf νl δl νv δv = (
@@ -231,7 +247,7 @@ module _ {M : Type 1} (𝓤 : URA M) (H : Heap 𝓤) (A : Atoms 𝓤) (W : Given
       → length F ≡ length (fm .now) → length es ≡ length (ls .now) → length ms ≡ length (vs .now)
       → length ps ≡ length (cs .now)
       → record { list = es; search = record { answer = r; evaluated = ms; certificate = ps } }
-      ≡ sssOutcome (tb .now) (ls .now) (vs .now) (cs .now)
+      ≡ sssOutcome allowance (tb .now) (ls .now) (vs .now) (cs .now)
       → ent 𝓤 (⋆ 𝓤 H A (‵ (LastFront ws) ∷ ‵ (Places F) ∷ ‵ (Entries es) ∷ ‵ (Marks ms) ∷ ‵ (Flags ps) ∷ ‵ tokT
       ∷ ‵ tokF ∷ ‵ tokW ∷ ‵ tokL ∷ ‵ tokV ∷ ‵ tokC ∷ [])) (Post (vB .val r))
   exits r F ws es ms ps is ef el ev ec e =
@@ -239,14 +255,14 @@ module _ {M : Type 1} (𝓤 : URA M) (H : Heap 𝓤) (A : Atoms 𝓤) (W : Given
       ∷ ‵ tokW ∷ ‵ tokL ∷ ‵ tokV ∷ ‵ tokC ∷ []) ∵
       fsplit ! $ move ! (1 ∷ []) $ feqL ! (λ ew.
       suffices ! _ (ends-at 𝓤 H A fn.ended stayed (fn.clauses 𝓤 H A mem run) W bound (vB .val r) r
-      (tt, (F, (ws, (es, (ms, (ps, tt)))))) (tt, (ef, (ew, (el, (ev, (ec, tt))))))) $ says ! e $
+      (tt, (F, (ws, (es, (ms, (ps, (tt, tt))))))) (tt, (ef, (ew, (el, (ev, (ec, (tt, tt)))))))) $ says ! e $
       nothing ! $ move ! (6 ∷ 7 ∷ 8 ∷ 9 ∷ 10 ∷ 11 ∷ 0 ∷ []) $ group ! 7 $ frame ! $
-      nothing ! $ nothing ! $ move ! (0 ∷ 3 ∷ 2 ∷ 4 ∷ 5 ∷ 6 ∷ 1 ∷ []) $ group ! 7 $ frame ! $
+      nothing ! $ nothing ! $ nothing ! $ move ! (0 ∷ 4 ∷ 3 ∷ 5 ∷ 6 ∷ 7 ∷ 1 ∷ 2 ∷ []) $ group ! 8 $ frame ! $
       owned ! B.the-row (Is B.the-row) (vB .makes) r _ is $ done !)
 
   module _ (gt : Room u8 (length (tb .now))) (gf : Room u32 (length (fm .now))) (gw : Room u32 (length (fr .now)))
       (gl : Room R (length (ls .now))) (gv : Room u8 (length (vs .now))) (gc : Room u8 (length (cs .now)))
-      (work : Workable (tb .now) (fm .now) (fr .now))
+      (ga : allowance < 2 ^ 64) (work : Workable (tb .now) (fm .now) (fr .now))
       (𝓣 : Tables 𝓤 H) (starts : Triple 𝓤 (𝓣 .C #start) (Start 𝓤 H A mem run))
       (begins : Triple 𝓤 (𝓣 .C #begun) (Begun 𝓤 H A mem run)) (drives : Triple 𝓤 (𝓣 .C #drive) (Drive 𝓤 H A mem run))
       (ends : Triple 𝓤 (𝓣 .C #finish) (Finish 𝓤 H A mem run)) where
@@ -259,77 +275,83 @@ module _ {M : Type 1} (𝓤 : URA M) (H : Heap 𝓤) (A : Atoms 𝓤) (W : Given
     walk : ent 𝓤 (onEntry 𝓤 H A fn.signature κs qs a at) (WpFn 𝓤 H (𝓣 .C) (𝓣 .Λ) code.function
         (sliceVal (tb .ptr) (length (tb .now)) ∷ sliceVal (fm .ptr) (length (fm .now))
         ∷ sliceVal (fr .ptr) (length (fr .now)) ∷ sliceVal (ls .ptr) (length (ls .now))
-        ∷ sliceVal (vs .ptr) (length (vs .now)) ∷ sliceVal (cs .ptr) (length (cs .now)) ∷ []) Post)
+        ∷ sliceVal (vs .ptr) (length (vs .now)) ∷ sliceVal (cs .ptr) (length (cs .now)) ∷ vint w64 allowance ∷ []) Post)
     walk =
         via 𝓤 _ (entry-out 𝓤 H A fn.signature κs qs a at) ∵
         qed W (‵ tokT ∷ ‵ tokF ∷ ‵ tokW ∷ ‵ tokL ∷ ‵ tokV ∷ ‵ tokC ∷ ‵ Table ∷ ‵ (Places (fm .now)) ∷ ‵ Front
-        ∷ ‵ (Entries (ls .now)) ∷ ‵ (Marks (vs .now)) ∷ ‵ (Flags (cs .now)) ∷ []) ∵
+        ∷ ‵ (Entries (ls .now)) ∷ ‵ (Marks (vs .now)) ∷ ‵ (Flags (cs .now))
+        ∷ ‵ (usize .own allowance (vint w64 allowance ∷ [])) ∷ []) ∵
         enter ! (𝓣 .C) (𝓣 .Λ) code.function _ _ $
         alloc1 ! (λ l₀. alloc1 ! (λ l₁. alloc1 ! (λ l₂. alloc1 ! (λ l₃. alloc1 ! (λ l₄. alloc1 ! (λ l₅.
         alloc1 ! (λ l₆. alloc1 ! (λ l₇. alloc1 ! (λ l₈. alloc1 ! (λ l₉. alloc1 ! (λ l₁₀. alloc1 ! (λ l₁₁.
         alloc1 ! (λ l₁₂. alloc1 ! (λ l₁₃. alloc1 ! (λ l₁₄. alloc1 ! (λ l₁₅. alloc1 ! (λ l₁₆. alloc1 ! (λ l₁₇.
         alloc1 ! (λ l₁₈. alloc1 ! (λ l₁₉. alloc1 ! (λ l₂₀. alloc1 ! (λ l₂₁. alloc1 ! (λ l₂₂. alloc1 ! (λ l₂₃.
-        alloc1 ! (λ l₂₄. alloc1 ! (λ l₂₅. alloc1 ! (λ l₂₆. alloc1 ! (λ l₂₇. alloc1 ! (λ l₂₈. alloc0 ! $ params1 ! $
+        alloc1 ! (λ l₂₄. alloc1 ! (λ l₂₅. alloc1 ! (λ l₂₆. alloc1 ! (λ l₂₇. alloc1 ! (λ l₂₈. alloc1 ! (λ l₂₉.
+        alloc0 ! $ params1 ! $
         pass1 ! (init ! (pos 0 1) refl (tt, (tt, (record { fits = gt .0 }, tt)))) $
         pass1 ! (init ! (pos 0 2) refl (tt, (tt, (record { fits = gf .0 }, tt)))) $
         pass1 ! (init ! (pos 0 3) refl (tt, (tt, (record { fits = gw .0 }, tt)))) $
         pass1 ! (init ! (pos 0 4) refl (tt, (tt, (record { fits = gl .0 }, tt)))) $
         pass1 ! (init ! (pos 0 5) refl (tt, (tt, (record { fits = gv .0 }, tt)))) $
-        pass1 ! (init ! (pos 0 6) refl (tt, (tt, (record { fits = gc .0 }, tt)))) $ pass0 ! $
+        pass1 ! (init ! (pos 0 6) refl (tt, (tt, (record { fits = gc .0 }, tt)))) $
+        pass1 ! (init ! (pos 0 7) refl (tt, record { fits = ga })) $ pass0 ! $
         -- the sizes
-        sets ! (of-opd ! (part ! (pos 0 4) refl refl refl)) (init ! (pos 0 10) refl (tt, record { fits = gl .0 })) $
-        sets ! (of-opd ! (part ! (pos 0 6) refl refl refl)) (init ! (pos 0 11) refl (tt, record { fits = gc .0 })) $
-        sets ! (agg ! (and-then ! (held ! (pos 0 10) refl) (and-then ! (held ! (pos 0 11) refl) (no-more !))))
-        (init ! (pos 0 7) refl (vZ .typed sizes sized .0)) $
+        sets ! (of-opd ! (part ! (pos 0 4) refl refl refl)) (init ! (pos 0 11) refl (tt, record { fits = gl .0 })) $
+        sets ! (of-opd ! (part ! (pos 0 6) refl refl refl)) (init ! (pos 0 12) refl (tt, record { fits = gc .0 })) $
+        sets ! (agg ! (and-then ! (held ! (pos 0 11) refl) (and-then ! (held ! (pos 0 12) refl) (no-more !))))
+        (init ! (pos 0 8) refl (vZ .typed sizes sized .0)) $
         -- checked = start(sizes, table, places, evaluated)
-        reborrows ! (pos 0 2) (pos 0 12) (pos 0 13) (gf .0) (refl, refl, refl) (refl, refl) (refl, refl, refl) $
-        reborrows ! (pos 0 5) (pos 0 14) (pos 0 15) (gv .0) (refl, refl, refl) (refl, refl) (refl, refl, refl) $
-        -- [the locals; 58 ‥ 63: the tokens; the table; the places; the front; the list; the marks; the certificate]
-        move ! (69 ∷ 63 ∷ []) $ opens u8 cs (named 5) ! tt $ move ! (69 ∷ 64 ∷ []) $ opens u8 vs (named 4) ! tt $
-        move ! (69 ∷ 65 ∷ []) $ opens R ls (named 3) ! tt $ move ! (68 ∷ 65 ∷ []) $ opens u32 fm (named 1) ! tt $
-        -- [the places, the list, the marks and the certificate, each with what is open; the locals; 66: tokT; tokW; the
-        -- table; the front]
+        reborrows ! (pos 0 2) (pos 0 13) (pos 0 14) (gf .0) (refl, refl, refl) (refl, refl) (refl, refl, refl) $
+        reborrows ! (pos 0 5) (pos 0 15) (pos 0 16) (gv .0) (refl, refl, refl) (refl, refl) (refl, refl, refl) $
+        -- [the locals; 60 ‥ 65: the tokens; the table; the places; the front; the list; the marks; the certificate; the
+        -- allowance]
+        move ! (71 ∷ 65 ∷ []) $ opens u8 cs (named 5) ! tt $ move ! (71 ∷ 66 ∷ []) $ opens u8 vs (named 4) ! tt $
+        move ! (71 ∷ 67 ∷ []) $ opens R ls (named 3) ! tt $ move ! (70 ∷ 67 ∷ []) $ opens u32 fm (named 1) ! tt $
+        -- [the places, the list, the marks and the certificate, each with what is open; the locals; 68: tokT; tokW; the
+        -- table; the front; the allowance]
         lends-row u32 (fm .ptr) ! tt (named 1) (fm .now) refl gf (λ ν₁ δ₁. move ! (6 ∷ []) $
-        lends-row u8 (vs .ptr) ! tt (named 2) (vs .now) refl gv (λ ν₂ δ₂. move ! (72 ∷ []) $
+        lends-row u8 (vs .ptr) ! tt (named 2) (vs .now) refl gv (λ ν₂ δ₂. move ! (74 ∷ []) $
         copies u8 tb (named 0) (κs .0) ! $
         owned ! Z.the-row (Is Z.the-row) (vZ .makes) sizes (vZ .val sizes ∷ []) sized $
-        move ! (73 ∷ 7 ∷ 4 ∷ 0 ∷ 1 ∷ 6 ∷ 3 ∷ []) $
+        move ! (75 ∷ 7 ∷ 4 ∷ 0 ∷ 1 ∷ 6 ∷ 3 ∷ []) $
         called W start.ended (start.clauses 𝓤 H A mem run) (to-start sizes ν₁ δ₁ ν₂ δ₂) vQ
         (λ r (_, (_, (F, (ms, _)))). Started (tb .now) sizes (fm .now) (vs .now) r F ms) (λ r ws. refl)
         (fmOf 𝓤 H (W .laws) 𝓣) starts (factI 𝓤 _ (emp 𝓤) (λ wf. work wf .0))
-        (and-then ! (held ! (pos 10 7) refl) (and-then ! (held ! (pos 10 1) refl) (and-then ! (held ! (pos 10 13) refl)
-        (and-then ! (held ! (pos 10 15) refl) (no-more !))))) (λ checked (_, (_, (F, (ms, _)))) checked-is started.
+        (and-then ! (held ! (pos 10 8) refl) (and-then ! (held ! (pos 10 1) refl) (and-then ! (held ! (pos 10 14) refl)
+        (and-then ! (held ! (pos 10 16) refl) (no-more !))))) (λ checked (_, (_, (F, (ms, _)))) checked-is started.
         -- [tokT; ν₁; ν₂; the last places; the last marks; the table; two lenders' parts; …]
         move ! (3 ∷ 1 ∷ 7 ∷ []) $ row-back u32 (fm .ptr) ! tt ν₁ δ₁ F (λ eF. move ! (3 ∷ 2 ∷ 5 ∷ []) $
         row-back u8 (vs .ptr) ! tt ν₂ δ₂ ms (λ em.
         -- [the marks; the places; tokT; the table; one that is open; the list; two that are open; the certificate; its
         -- open; the locals; tokW; the front]
-        land ! (from ! (stop !)) (init ! (pos 10 8) refl (vQ .typed checked checked-is .0)) $
-        -- begun(checked)
+        land ! (from ! (stop !)) (init ! (pos 10 9) refl (vQ .typed checked checked-is .0)) $
+        -- begun(checked, allowance)
+        move ! (72 ∷ []) $
         owned ! Q.the-row (Is Q.the-row) (vQ .makes) checked (vQ .val checked ∷ []) checked-is $
-        called W begun.ended (begun.clauses 𝓤 H A mem run) (to-begun checked) vN (λ r _. r ≡ begunOf checked)
-        (λ r ws. refl) (fmOf 𝓤 H (W .laws) 𝓣) begins (id⊢ 𝓤 (emp 𝓤)) (and-then ! (held ! (pos 11 8) refl) (no-more !))
-        (λ begun _ begun-is begun-so. land ! (from ! (stop !)) (init ! (pos 10 16) refl (vN .typed begun begun-is .0)) $
+        called W begun.ended (begun.clauses 𝓤 H A mem run) (to-begun checked) vN (λ r _. r ≡ begunOf allowance checked)
+        (λ r ws. refl) (fmOf 𝓤 H (W .laws) 𝓣) begins (id⊢ 𝓤 (emp 𝓤))
+        (and-then ! (held ! (pos 11 9) refl) (and-then ! (held ! (pos 11 7) refl) (no-more !)))
+        (λ begun _ begun-is begun-so. land ! (from ! (stop !)) (init ! (pos 10 17) refl (vN .typed begun begun-is .0)) $
         -- ended = drive(begun, table, places, front, list, evaluated)
-        reborrows ! (pos 10 2) (pos 10 17) (pos 10 18) (gf .0) (refl, refl, refl) (refl, refl) (refl, refl, refl) $
-        reborrows ! (pos 10 3) (pos 10 19) (pos 10 20) (gw .0) (refl, refl, refl) (refl, refl) (refl, refl, refl) $
-        reborrows ! (pos 10 4) (pos 10 21) (pos 10 22) (gl .0) (refl, refl, refl) (refl, refl) (refl, refl, refl) $
-        reborrows ! (pos 10 5) (pos 10 23) (pos 10 24) (gv .0) (refl, refl, refl) (refl, refl) (refl, refl, refl) $
+        reborrows ! (pos 10 2) (pos 10 18) (pos 10 19) (gf .0) (refl, refl, refl) (refl, refl) (refl, refl, refl) $
+        reborrows ! (pos 10 3) (pos 10 20) (pos 10 21) (gw .0) (refl, refl, refl) (refl, refl) (refl, refl, refl) $
+        reborrows ! (pos 10 4) (pos 10 22) (pos 10 23) (gl .0) (refl, refl, refl) (refl, refl) (refl, refl, refl) $
+        reborrows ! (pos 10 5) (pos 10 24) (pos 10 25) (gv .0) (refl, refl, refl) (refl, refl) (refl, refl, refl) $
         move ! (1 ∷ []) $
         shares-row u32 (fm .ptr) ! tt (named 1) F eF gf (λ ν₃ δ₃. move ! (7 ∷ []) $
         lends-row R (ls .ptr) ! tt (named 3) (ls .now) refl gl (λ ν₄ δ₄. move ! (6 ∷ []) $
         lends-row u8 (vs .ptr) ! tt (named 4) ms em gv (λ ν₅ δ₅. move ! (10 ∷ []) $ copies u8 tb (named 0) (κs .0) ! $
         owned ! N.the-row (Is N.the-row) (vN .makes) begun (vN .val begun ∷ []) begun-is $
-        move ! (12 ∷ 10 ∷ 76 ∷ 7 ∷ 4 ∷ 0 ∷ 1 ∷ 9 ∷ 77 ∷ 6 ∷ 3 ∷ []) $
+        move ! (12 ∷ 10 ∷ 78 ∷ 7 ∷ 4 ∷ 0 ∷ 1 ∷ 9 ∷ 79 ∷ 6 ∷ 3 ∷ []) $
         called W drive.ended (drive.clauses 𝓤 H A mem run) (to-drive begun F ms ν₃ δ₃ ν₄ δ₄ ν₅ δ₅) vN
         (λ r (_, (_, (_, (ws, (es, (ms′, _)))))). Driven (tb .now) (fr .now) (ls .now) ms begun
         (record { front = ws; list = es; marks = ms′; run = r })) (λ r ws. refl)
         (fmOf 𝓤 H (W .laws) 𝓣) drives
-        (factI 𝓤 _ (emp 𝓤) (start-prepared (tb .now) (fm .now) (vs .now) (fr .now) sizes (ls .now) work refl
+        (factI 𝓤 _ (emp 𝓤) (start-prepared allowance (tb .now) (fm .now) (vs .now) (fr .now) sizes (ls .now) work refl
         checked F ms started begun begun-so))
-        (and-then ! (held ! (pos 10 16) refl) (and-then ! (held ! (pos 10 1) refl)
-        (and-then ! (held ! (pos 10 18) refl) (and-then ! (held ! (pos 10 20) refl)
-        (and-then ! (held ! (pos 10 22) refl) (and-then ! (held ! (pos 10 24) refl) (no-more !)))))))
+        (and-then ! (held ! (pos 10 17) refl) (and-then ! (held ! (pos 10 1) refl)
+        (and-then ! (held ! (pos 10 19) refl) (and-then ! (held ! (pos 10 21) refl)
+        (and-then ! (held ! (pos 10 23) refl) (and-then ! (held ! (pos 10 25) refl) (no-more !)))))))
         (λ ended (_, (_, (_, (ws, (es, (ms′, _)))))) ended-is driven.
         -- [tokT; ν₃; tokW; ν₄; ν₅; the last front, list and marks; the table; the lenders' parts of the marks, the list
         -- and the places; three that are open; the certificate; its open; the locals]
@@ -339,10 +361,10 @@ module _ {M : Type 1} (𝓤 : URA M) (H : Heap 𝓤) (A : Atoms 𝓤) (W : Given
         row-back u8 (vs .ptr) ! tt ν₅ δ₅ ms′ (λ em′.
         -- [the marks; the list; the places; tokF; tokT; tokW; the last front; the table; two that are open; the
         -- certificate; its open; the locals]
-        land ! (from ! (stop !)) (init ! (pos 12 9) refl (vN .typed ended ended-is .0)) $
+        land ! (from ! (stop !)) (init ! (pos 12 10) refl (vN .typed ended ended-is .0)) $
         -- finish(checked, ended, table, evaluated, certificate)
-        reborrows ! (pos 12 5) (pos 12 25) (pos 12 26) (gv .0) (refl, refl, refl) (refl, refl) (refl, refl, refl) $
-        reborrows ! (pos 12 6) (pos 12 27) (pos 12 28) (gc .0) (refl, refl, refl) (refl, refl) (refl, refl, refl) $
+        reborrows ! (pos 12 5) (pos 12 26) (pos 12 27) (gv .0) (refl, refl, refl) (refl, refl) (refl, refl, refl) $
+        reborrows ! (pos 12 6) (pos 12 28) (pos 12 29) (gc .0) (refl, refl, refl) (refl, refl) (refl, refl, refl) $
         lends-row u8 (vs .ptr) ! tt (named 1) ms′ (em′ ∙ em) gv (λ ν₆ δ₆. move ! (12 ∷ []) $
         lends-row u8 (cs .ptr) ! tt (named 2) (cs .now) refl gc (λ ν₇ δ₇.
         owned ! N.the-row (Is N.the-row) (vN .makes) ended (vN .val ended ∷ []) ended-is $
@@ -351,10 +373,10 @@ module _ {M : Type 1} (𝓤 : URA M) (H : Heap 𝓤) (A : Atoms 𝓤) (W : Given
         called W finish.ended (finish.clauses 𝓤 H A mem run) (to-finish checked ended ms′ ν₆ δ₆ ν₇ δ₇) vB
         (λ r (_, (_, (_, (ms″, (ps, _))))). Finished (tb .now) ms′ (cs .now) ended checked r ms″ ps) (λ r ws. refl)
         (fmOf 𝓤 H (W .laws) 𝓣) ends
-        (factI 𝓤 _ (emp 𝓤) (finish-asks (tb .now) (ls .now) (vs .now) (cs .now) sizes refl refl started begun-so
-        driven))
-        (and-then ! (held ! (pos 11 8) refl) (and-then ! (held ! (pos 11 9) refl) (and-then ! (held ! (pos 11 1) refl)
-        (and-then ! (held ! (pos 11 26) refl) (and-then ! (held ! (pos 11 28) refl) (no-more !))))))
+        (factI 𝓤 _ (emp 𝓤) (finish-asks allowance (tb .now) (ls .now) (vs .now) (cs .now) sizes refl refl started
+        begun-so driven))
+        (and-then ! (held ! (pos 11 9) refl) (and-then ! (held ! (pos 11 10) refl) (and-then ! (held ! (pos 11 1) refl)
+        (and-then ! (held ! (pos 11 27) refl) (and-then ! (held ! (pos 11 29) refl) (no-more !))))))
         (λ r (_, (_, (_, (ms″, (ps, _))))) r-is finished.
         -- [tokT; ν₆; ν₇; the last marks; the last certificate; two lenders' parts; the list; the places; tokF; tokW;
         -- the last front; three that are open; the locals]
@@ -366,11 +388,11 @@ module _ {M : Type 1} (𝓤 : URA M) (H : Heap 𝓤) (A : Atoms 𝓤) (W : Given
         -- locals]
         land ! (from ! (stop !)) (init ! (pos 11 0) refl (vB .typed r r-is .0)) $ returns ! (look ! (pos 11 0) refl) $
         frees ! 11 (full (full (full (full (full (full (full (full (full (full (full (full (full (full (full (full
-        (full (full (full (full (full (full (full (full (full (full (full (full (full none
-        ))))))))))))))))))))))))))))) refl $
+        (full (full (full (full (full (full (full (full (full (full (full (full (full (full none
+        )))))))))))))))))))))))))))))) refl $
         keep ! (10 ∷ 7 ∷ 0 ∷ 4 ∷ 2 ∷ 6 ∷ 8 ∷ 9 ∷ 1 ∷ 5 ∷ 3 ∷ []) $
-        by ! (exits r F ws es ms″ ps r-is eF ee (em″ ∙ em′ ∙ em) ep (whole (tb .now) (ls .now) (vs .now) (cs .now) sizes
-        refl refl started begun-so driven finished))))))))))))))))))))))))))))))))))))))))))))))))
+        by ! (exits r F ws es ms″ ps r-is eF ee (em″ ∙ em′ ∙ em) ep (whole allowance (tb .now) (ls .now) (vs .now)
+        (cs .now) sizes refl refl started begun-so driven finished)))))))))))))))))))))))))))))))))))))))))))))))))
 
 module _ {M : Type 1} (𝓤 : URA M) (H : Heap 𝓤) (A : Atoms 𝓤) (W : Given 𝓤 H A) (mem : Memory → SProp 𝓤)
     (run : Routine → Fun 𝓤) (𝓣 : Tables 𝓤 H) (starts : Triple 𝓤 (𝓣 .C #start) (Start 𝓤 H A mem run))
@@ -381,7 +403,8 @@ module _ {M : Type 1} (𝓤 : URA M) (H : Heap 𝓤) (A : Atoms 𝓤) (W : Given
       by-walk 𝓤 H A W 𝓣 fn.ended params (fn.clauses 𝓤 H A mem run) code.function
       (λ κs qs bounds a g are. needs 𝓤 (Workable (a .0 .now) (a .1 .0 .now) (a .1 .1 .0 .now)) _ (λ work.
       walk 𝓤 H A W mem run κs qs a (are .0 .0 .1) (are .1 .0 .0 .1) (are .1 .1 .0 .0 .1) (are .1 .1 .1 .0 .0 .1)
-      (are .1 .1 .1 .1 .0 .0 .1) (are .1 .1 .1 .1 .1 .0 .0 .1) work 𝓣 starts begins drives ends))
+      (are .1 .1 .1 .1 .0 .0 .1) (are .1 .1 .1 .1 .1 .0 .0 .1) (are .1 .1 .1 .1 .1 .1 .0 .1) work 𝓣 starts begins
+      drives ends))
 
 pub search-in-spec : {M : Type 1} → stated.statement M
 unfolding code.routine tablesOf

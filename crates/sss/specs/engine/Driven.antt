@@ -17,11 +17,16 @@ pub record Prepared (t F w : List ℕ) (l : List State) (b : List ℕ) (r : Run)
   pub within : Within (r .update) (length l)
   pub formed : r .going ≡ true → WellFormed t
   pub places : r .going ≡ true → Placed t F
-  pub running : r .going ≡ true → Running t l b (record { front = w; list = updated (r .update) l; marks = b; run = r })
+  pub running : r .going ≡ true → Running (r .counts .allowance) t l b (record {
+    front = w;
+    list = updated (r .update) l;
+    marks = b;
+    run = r;
+  })
   pub idle : r .going ≡ false → r .update .count ≡ 0
 
 -- the run has ended, or did not go at all
 pub record Driven (t w : List ℕ) (l : List State) (b : List ℕ) (r : Run) (c : Config) : Type 0 where
   pub stopped : c .run .going ≡ false
-  pub ran : r .going ≡ true → Running t l b c
+  pub ran : r .going ≡ true → Running (r .counts .allowance) t l b c
   pub stayed : r .going ≡ false → c ≡ record { front = w; list = l; marks = b; run = r }

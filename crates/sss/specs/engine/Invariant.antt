@@ -8,11 +8,12 @@ use lib.ListN.{length, drop, replicate}
 use Rattle.gametree.specs.Tree.{greatest}
 use Rattle.gametree.specs.Sss as theory
 use Rattle.frames.specs.Frame.{frames}
-use Rattle.frames.specs.Tree.{tree, valuation}
+use Rattle.frames.specs.Tree.{tree}
 use Rattle.places.specs.Buffer.{written}
 use Rattle.certificate.specs.Marks.{markAll}
 use Rattle.sss.specs.declared.State.{State}
 use Rattle.sss.specs.Entry.{blank}
+use Rattle.sss.specs.Outcome.{sssRun}
 use Rattle.sss.specs.engine.Shown.{Found}
 use Rattle.sss.specs.engine.Kept.{arraysOf, Sound}
 use Rattle.sss.specs.engine.Rules.{Reaches}
@@ -24,19 +25,24 @@ pub record Keeps (t : List ℕ) (ls : List State) (w : List ℕ) (γ i k : ℕ) 
   pub found : Found (arraysOf ls w) (tree t) γ states i
   pub reaches : Reaches t k v states
 
--- the run has ended with the value γ after k replacements that evaluated the leaves v, and its entries of ls are blank
-pub record Over (t : List ℕ) (ls : List State) (γ k : ℕ) (v : List ℕ) : Type 0 where
-  pub ended :
-      theory.sss (valuation t) (tree t) ≡ record { end = theory.finished γ; evaluated = v; replacements = k }
+-- how a run ends with the merit γ, with its allowance spent or not
+abbrev pub endOf : Bool → ℕ → theory.End
+endOf true γ = theory.spent γ
+endOf false γ = theory.finished γ
+
+-- the run within an allowance of a leaves has ended so, after k replacements that evaluated the leaves v, and its
+-- entries of ls are blank
+pub record Over (a : ℕ) (t : List ℕ) (ls : List State) (x : Bool) (γ k : ℕ) (v : List ℕ) : Type 0 where
+  pub ended : sssRun a t ≡ record { end = endOf x γ; evaluated = v; replacements = k }
   pub blank-all : ls ≡ replicate (frames t) blank ++ drop (frames t) ls
 
 -- what holds of a run that goes on, or does not
-abbrev pub Stands : Bool → (t : List ℕ) → List State → List ℕ → ℕ → ℕ → ℕ → List ℕ → Type 0
-Stands true t ls w γ i k v = Keeps t ls w γ i k v
-Stands false t ls w γ i k v = Over t ls γ k v
+abbrev pub Stands : Bool → (a : ℕ) (t : List ℕ) → List State → List ℕ → Bool → ℕ → ℕ → ℕ → List ℕ → Type 0
+Stands true a t ls w x γ i k v = Keeps t ls w γ i k v
+Stands false a t ls w x γ i k v = Over a t ls x γ k v
 
--- the invariant, for a table t, entries l and marks b at entry
-pub record Running (t : List ℕ) (l : List State) (b : List ℕ) (c : Config) : Type 0 where
+-- the invariant, for an allowance of a leaves, a table t, entries l and marks b at entry
+pub record Running (a : ℕ) (t : List ℕ) (l : List State) (b : List ℕ) (c : Config) : Type 0 where
   pub evaluated : List ℕ
   pub entries : length (c .list) ≡ length l
   pub room : frames t ≤ length l
@@ -44,7 +50,10 @@ pub record Running (t : List ℕ) (l : List State) (b : List ℕ) (c : Config) :
   pub markRoom : frames t ≤ length b
   pub marks : c .marks ≡ markAll (written (λ k. 0) (frames t) b) evaluated
   pub leaves : c .run .counts .leaves ≡ length evaluated
+  pub allowance : c .run .counts .allowance ≡ a
+  pub allowed : length evaluated ≤ a
   pub test : c .run .test ≤ greatest
   pub sound : Sound t (c .front)
   pub stands :
-      Stands (c .run .going) t (c .list) (c .front) (c .run .test) (c .run .at) (c .run .counts .replacements) evaluated
+      Stands (c .run .going) a t (c .list) (c .front) (c .run .spent) (c .run .test) (c .run .at)
+      (c .run .counts .replacements) evaluated

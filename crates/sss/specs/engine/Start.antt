@@ -30,25 +30,26 @@ startRejection t n b = searchRejection t (n .entries ∷ length b ∷ n .flags �
 abbrev pub Workable : (t F w : List ℕ) → Type 0
 Workable t F w = WellFormed t → (frames t ≤ length F) × Sound t w
 
--- nothing is counted yet
-abbrev pub noCounts : Counts
-noCounts = record { leaves = 0; replacements = 0 }
+-- nothing is counted yet, and a leaves may be evaluated
+abbrev pub noCounts : (a : ℕ) → Counts
+noCounts a = record { leaves = 0; replacements = 0; allowance = a }
 
 -- a run at its start, with so many states: the root's, LIVE, with the greatest merit, or none
-abbrev pub beginning : Bool → ℕ → Run
-beginning on n =
+abbrev pub beginning : (a : ℕ) → Bool → ℕ → Run
+beginning a on n =
     record {
       going = on;
       at = 0;
       test = greatest;
-      counts = noCounts;
+      counts = noCounts a;
       update = ofChange (record { node = 0; first = 0; count = n; status = Live; score = greatest });
+      spent = false;
     }
 
 -- the run after the questions: one that was rejected does not go
-abbrev pub begun : Checked → Run
-begun (Nodes n) = beginning true 1
-begun (Rejected r) = beginning false 0
+abbrev pub begun : (a : ℕ) → Checked → Run
+begun a (Nodes n) = beginning a true 1
+begun a (Rejected r) = beginning a false 0
 
 -- the places F and the marks b after the questions
 abbrev pub placesAfter : (t F : List ℕ) → Option Rejection → List ℕ

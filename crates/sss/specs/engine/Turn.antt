@@ -1,8 +1,9 @@
--- One turn of the run of SSS*: the state that is taken is replaced, or is the SOLVED root and ends the run.
+-- One turn of the run of SSS*: the state that is taken is replaced, or, if it is the SOLVED root or a leaf that the
+-- allowance does not cover, ends the run.
 use Prim.Native.Nat.{ℕ, zero, suc, _+_, _-_}
 use mathlib.Core.Bool.{Bool, true, false, cond}
 use mathlib.Core.List.{List, [], _∷_}
-use lib.Dec.{eqb}
+use lib.Dec.{eqb, ltb}
 use lib.ListN.{length, getD}
 use Rattle.frames.specs.Frame.{frames, childCount}
 use Rattle.certificate.specs.Marks.{markAll}
@@ -34,7 +35,15 @@ newLeaves t e = valued (childCount t (e .node)) (e .status) (e .node)
 -- the counts after a replacement of the state e
 abbrev pub counted : List ℕ → State → Counts → Counts
 counted t e k =
-    record { leaves = k .leaves + length (newLeaves t e); replacements = k .replacements + 1 }
+    record {
+      leaves = k .leaves + length (newLeaves t e);
+      replacements = k .replacements + 1;
+      allowance = k .allowance;
+    }
+
+-- would a replacement of the state e evaluate a leaf that the allowance does not cover?
+abbrev pub uncovered : List ℕ → State → Counts → Bool
+uncovered t e k = ltb (k .allowance) (k .leaves + length (newLeaves t e))
 
 -- the front after a change and the fall from its node, and the node to take next
 abbrev pub settled : List ℕ → ℕ → Change → List ℕ → Fallen
@@ -52,11 +61,12 @@ replaced t w c γ k =
       test = bestAt (settled t γ c w .front) 0;
       counts = k;
       update = ofChange c;
+      spent = false;
     }
 
 -- the run at its end, with an entry for each node blank
-abbrev pub ended : List ℕ → ℕ → Counts → Run
-ended t γ k = record { going = false; at = 0; test = γ; counts = k; update = blanks (frames t) }
+abbrev pub ended : List ℕ → ℕ → Counts → Bool → Run
+ended t γ k x = record { going = false; at = 0; test = γ; counts = k; update = blanks (frames t); spent = x }
 
 -- the front, the marks and the run after a state is taken
 pub record Taken : Type 0 where
@@ -64,11 +74,11 @@ pub record Taken : Type 0 where
   pub marks : List ℕ
   pub run : Run
 
--- the SOLVED root ends the run
-abbrev pub stopped : (t w b : List ℕ) → Run → Taken
-stopped t w b r = record { front = w; marks = b; run = ended t (r .test) (r .counts) }
+-- the run ends, with its allowance spent or not
+abbrev pub stopped : (t w b : List ℕ) → Run → Bool → Taken
+stopped t w b r x = record { front = w; marks = b; run = ended t (r .test) (r .counts) x }
 
--- any other state e is replaced
+-- the state e is replaced
 abbrev pub stepped : (t w b : List ℕ) → Run → State → Taken
 stepped t w b r e =
     let c = ofState t (e .node) (r .test) (e .status) in
@@ -80,7 +90,9 @@ stepped t w b r e =
 
 -- the state e is taken
 abbrev pub taken : (t w b : List ℕ) → Run → State → Taken
-taken t w b r e = cond (isSolvedRoot (e .status) (e .node)) (stopped t w b r) (stepped t w b r e)
+taken t w b r e =
+    cond (isSolvedRoot (e .status) (e .node)) (stopped t w b r false)
+    (cond (uncovered t e (r .counts)) (stopped t w b r true) (stepped t w b r e))
 
 -- the front, the list, the marks and the run between two turns
 pub record Config : Type 0 where

@@ -1,71 +1,19 @@
--- `cases::print::print_value` is safe and ends: a value and its negation fit 64 bits.
+-- `cases::print::print_value` is safe and ends: a value fits 32 bits.
 use borrow.Author.Needs.{needs}
-use mathlib.Core.Path.{_≡_}
-use lib.IntN.{pos, _-ℤ_}
-use mir.Syntax.{w16, w64}
-use mir.Val.{toZ, ofZ}
+use mir.Syntax.{w16}
 use mir.ValLaws.{toZ-ofZ}
-use Rattle.report.proofs.Signs.{widened, negative, positive}
+use Rattle.report.proofs.Signs.{wide32}
 use Rattle.cases.proofs.print.print_value.Statement.{statement}
 use Rattle.cases.proofs.print.print_value.Tie as tie
 
-cast-wide : tie.Need-cast-wide
-cast-wide c = rw (toZ-ofZ w16 (c .args .value) (c .fits .value)) (widened (c .args .value) (c .fits .value))
+cast-print-merit : tie.Need-cast-print-merit
+cast-print-merit c = rw (toZ-ofZ w16 (c .args .value) (c .fits .value)) (wide32 (c .args .value) (c .fits .value))
 
--- the value, as its cast holds it
-held : (c : tie.Start) → toZ w64 (ofZ w64 (toZ w16 (ofZ w16 (c .args .value)))) ≡ c .args .value
-held c =
-    let v = c .args .value in
-    let f = c .fits .value in
-    rw (toZ-ofZ w16 v f, toZ-ofZ w64 v (widened v f))
-
-slice-aggregate-write-all : tie.Need-slice-aggregate-write-all
-slice-aggregate-write-all c = search needs
-
-write-all-requires : tie.Need-write-all-requires
-write-all-requires c κs = search needs
-
-sub-print-decimal : tie.Need-sub-print-decimal
-sub-print-decimal c =
-    let s = c .before .before .before in
-    let n = negative (s .args .value) (s .fits .value) (rw (held s) at (c .before .before .if1 .taken)) in
-    rw (held s) (n .fits)
-
-cast-print-decimal : tie.Need-cast-print-decimal
-cast-print-decimal c =
-    let s = c .before .before .before in
-    let n = negative (s .args .value) (s .fits .value) (rw (held s) at (c .before .before .if1 .taken)) in
-    rw (held s, toZ-ofZ w64 (pos 0 -ℤ s .args .value) (n .fits)) (n .positive, n .small)
-
-print-decimal-requires : tie.Need-print-decimal-requires
-print-decimal-requires c κs = search needs
-
-cast-print-count : tie.Need-cast-print-count
-cast-print-count c =
-    let s = c .before in
-    let p = positive (s .args .value) (s .fits .value) (rw (held s) at (c .if1 .left)) in
-    rw (held s) (p .positive, p .small)
-
-print-count-requires : tie.Need-print-count-requires
-print-count-requires c κs = search needs
+print-merit-requires : tie.Need-print-merit-requires
+print-merit-requires c κs = search needs
 
 returns : tie.Need-returns
 returns c = search needs
 
-returns-2 : tie.Need-returns-2
-returns-2 c = search needs
-
 pub print-value-spec : {M : Type 1} → statement M
-print-value-spec =
-    tie.close
-    (tie.spec
-    cast-wide
-    slice-aggregate-write-all
-    write-all-requires
-    sub-print-decimal
-    cast-print-decimal
-    print-decimal-requires
-    cast-print-count
-    print-count-requires
-    returns
-    returns-2)
+print-value-spec = tie.close (tie.spec cast-print-merit print-merit-requires returns)

@@ -1,0 +1,22 @@
+-- What is said of a call of SSS* that its allowance ended.
+use Prim.Native.Nat.{ℕ}
+use mathlib.Core.Path.{_≡_}
+use mathlib.Core.List.{List}
+use lib.ListN.{length}
+use Rattle.gametree.specs.Layout.{layoutOf}
+use Rattle.gametree.specs.Sss.{State, takenMerit, evaluating, step, ListAfter}
+use Rattle.frames.specs.Tree.{tree, valuation}
+use Rattle.frames.specs.Value.{valueOf}
+use Rattle.sss.specs.declared.Spent.{Spent}
+
+-- where the full run was cut short: after the counted replacements, which evaluated the leaves so far, a list of states
+-- is reached from which the rule takes a state of the given merit and would evaluate its leaf
+pub record CutShort (t : List ℕ) (s : Spent) : Type 0 where
+  pub evaluated : List ℕ
+  pub states : List State
+  pub leaf : ℕ
+  pub next : List State
+  pub reached : ListAfter (valuation t) (layoutOf (tree t)) (tree t) (s .replacements) evaluated states
+  pub evaluates : step (valuation t) (layoutOf (tree t)) states ≡ evaluating leaf next
+  pub leaves : s .leaves ≡ length evaluated
+  pub merit : s .merit ≡ valueOf (takenMerit (layoutOf (tree t)) states)
