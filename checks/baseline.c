@@ -5,7 +5,7 @@
 #include <stdio.h>
 #include <string.h>
 
-enum { DIGITS = 12, CHILDREN = 40, VALUE = 32000, WIN = 31000, LEAST = -32001, GREATEST = 32001 };
+enum { DIGITS = 12, SMALL = 32, CHILDREN = 40, VALUE = 32000, WIN = 31000, LEAST = -32001, GREATEST = 32001 };
 
 static struct answer no(int number, size_t place) { return (struct answer){ .refused = number, .place = place }; }
 
@@ -17,7 +17,7 @@ static inline int stored_value(const uint8_t *table, int k) {
 static inline int greater(int a, int b) { return a > b ? a : b; }
 static inline int lesser(int a, int b) { return a < b ? a : b; }
 
-/* ---- questions 1 to 9, and the reader */
+/* ---- questions 1 to 9 and 16, and the reader */
 
 /* Questions 4 to 9. Nodes of one depth are consecutive, and end where the children of the first of them begin. */
 static struct answer check_frames(const uint8_t *table, int n) {
@@ -46,19 +46,23 @@ struct answer c_check(const uint8_t *table, size_t length) {
     return check_frames(table, length / FRAME);
 }
 
-/* 16 plus the number of a hexadecimal digit; 0 for any other byte. */
+/* 16 plus the number of a hexadecimal digit, and SMALL for a small letter; 0 for any other byte. */
 static const uint8_t digit[256] = {
     ['0'] = 16, ['1'] = 17, ['2'] = 18, ['3'] = 19, ['4'] = 20, ['5'] = 21, ['6'] = 22, ['7'] = 23, ['8'] = 24,
     ['9'] = 25,
     ['A'] = 26, ['B'] = 27, ['C'] = 28, ['D'] = 29, ['E'] = 30, ['F'] = 31,
-    ['a'] = 26, ['b'] = 27, ['c'] = 28, ['d'] = 29, ['e'] = 30, ['f'] = 31,
+    ['a'] = SMALL + 26, ['b'] = SMALL + 27, ['c'] = SMALL + 28, ['d'] = SMALL + 29, ['e'] = SMALL + 30,
+    ['f'] = SMALL + 31,
 };
 
-static bool read_line(const uint8_t *line, size_t left, uint8_t *frame) {
+/* Whether twelve digits stand there, and then a line feed or the end; `kinds` has SMALL if one is a small letter. */
+static bool read_line(const uint8_t *line, size_t left, uint8_t *frame, int *kinds) {
     if (left < DIGITS) return false;
+    *kinds = 0;
     for (int i = 0; i < FRAME; i++) {
         int high = digit[line[2 * i]], low = digit[line[2 * i + 1]];
         if (!high || !low) return false;
+        *kinds |= high | low;
         frame[i] = (high & 15) << 4 | (low & 15);
     }
     return left == DIGITS || line[DIGITS] == '\n';
@@ -66,13 +70,16 @@ static bool read_line(const uint8_t *line, size_t left, uint8_t *frame) {
 
 struct answer c_read(const uint8_t *file, size_t length, uint8_t *table, size_t room) {
     uint8_t decoded[TABLE_BYTES];
-    size_t n = 0;
+    size_t n = 0, small = NODES;
+    int kinds;
     if (length == 0) return no(1, 0);
     if (length > FILE_BYTES) return no(2, 0);
     do {
-        if (!read_line(file + LINE * n, length - LINE * n, decoded + FRAME * n)) return no(3, n);
+        if (!read_line(file + LINE * n, length - LINE * n, decoded + FRAME * n, &kinds)) return no(3, n);
+        if (kinds & SMALL && small == NODES) small = n;
         n++;
     } while (LINE * n < length);
+    if (small < n) return no(16, small);
     struct answer answer = check_frames(decoded, n);
     if (answer.refused) return answer;
     if (room < FRAME * n) return no(10, 0);
@@ -98,6 +105,16 @@ struct answer c_write(const uint8_t *table, size_t length, uint8_t *file, size_t
     if (room < LINE * n) return no(10, 0);
     for (size_t k = 0; k < n; k++) write_line(file + LINE * k, table + FRAME * k);
     return (struct answer){ .count = LINE * n };
+}
+
+/* ---- the converter */
+
+struct answer c_convert(const uint8_t *file, size_t length, uint8_t *converted, size_t room) {
+    uint8_t lifted[FILE_BYTES], table[TABLE_BYTES];
+    if (length > FILE_BYTES) return no(2, 0);
+    for (size_t i = 0; i < length; i++) lifted[i] = file[i] >= 'a' && file[i] <= 'f' ? file[i] - 'a' + 'A' : file[i];
+    struct answer answer = c_read(lifted, length, table, sizeof table);
+    return answer.refused ? answer : c_write(table, FRAME * answer.count, converted, room);
 }
 
 /* ---- what the searches share */

@@ -14,7 +14,7 @@ struct answer {
     int32_t merit;
     int16_t value;
     size_t place;
-    size_t count; /* nodes; bytes of a written file */
+    size_t count; /* nodes; bytes of a written or converted file */
     size_t root_move;
     size_t leaves;
     size_t steps; /* passes of MTD, replacements of SSS* */
@@ -38,7 +38,7 @@ typedef struct text report_call(const uint8_t *file, size_t length);
 
 /* c_sss keeps its list by node number with a front of greatest merits, c_sss_list is the textbook's list, scanned at
    each step. c_allowed and c_allowed_list are the same with an allowance of leaves. */
-read_call c_read;
+read_call c_read, c_convert;
 write_call c_write;
 check_call c_check;
 search_call c_alphabeta, c_plain, c_mtd, c_sss, c_sss_list;

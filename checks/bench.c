@@ -13,31 +13,32 @@
 #include <time.h>
 #include <valgrind/callgrind.h>
 
-read_call rattle_read;
+read_call rattle_read, rattle_convert;
 write_call rattle_write;
 check_call rattle_check;
 search_call rattle_alphabeta, rattle_plain, rattle_mtd, rattle_sss;
 verify_call rattle_verify;
 report_call rattle_report;
 
-enum call { READ, WRITE, CHECK, ALPHABETA, PLAIN, MTD, SSS, VERIFY, REPORT, CALLS };
+enum call { READ, WRITE, CONVERT, CHECK, ALPHABETA, PLAIN, MTD, SSS, VERIFY, REPORT, CALLS };
 
 static const char *const call_names[] = {
-    "read", "write", "check", "alphabeta", "plain", "mtd", "sss", "verify", "report"
+    "read", "write", "convert", "check", "alphabeta", "plain", "mtd", "sss", "verify", "report"
 };
 
 static const struct side {
     const char *name;
     read_call *read;
     write_call *write;
+    read_call *convert;
     check_call *check;
     search_call *searches[4];
     verify_call *verify;
     report_call *report;
 } sides[] = {
-    { "rattle", rattle_read, rattle_write, rattle_check, { rattle_alphabeta, rattle_plain, rattle_mtd, rattle_sss },
-      rattle_verify, rattle_report },
-    { "c", c_read, c_write, c_check, { c_alphabeta, c_plain, c_mtd, c_sss }, c_verify, c_report },
+    { "rattle", rattle_read, rattle_write, rattle_convert, rattle_check,
+      { rattle_alphabeta, rattle_plain, rattle_mtd, rattle_sss }, rattle_verify, rattle_report },
+    { "c", c_read, c_write, c_convert, c_check, { c_alphabeta, c_plain, c_mtd, c_sss }, c_verify, c_report },
 };
 
 /* What buffers are filled with; for how many runs and nanoseconds a call is timed, and for how long between two looks
@@ -56,6 +57,7 @@ static struct answer perform(const struct side *s, enum call call, struct lent *
     switch (call) {
     case READ: return s->read(file, file_length, l->table, sizeof l->table);
     case WRITE: return s->write(table, FRAME * nodes, l->file, sizeof l->file);
+    case CONVERT: return s->convert(file, file_length, l->file, sizeof l->file);
     case CHECK: return s->check(table, FRAME * nodes);
     case VERIFY: return s->verify(table, FRAME * nodes, flags, nodes);
     case REPORT: l->text = s->report(file, file_length); return (struct answer){ 0 };

@@ -1,13 +1,14 @@
 #!/usr/bin/env python3
 """Runs a compiled program (standard input to standard output) on generated files and compares it with oracle.py.
 
-    fuzz.py PROGRAM [--good N] [--damaged N] [--large N] [--every] [--seed S] [--keep DIR] [--detail]
+    fuzz.py PROGRAM [--good N] [--damaged N] [--large N] [--every] [--seed S] [--keep DIR] [--detail] [--capitals]
 
 Good files: random shapes, widths and depths to the limits, ties, extremes. Damaged files: every kind below.
 Large files: 4,096 nodes, whole and damaged. A few are fed in pieces, with pauses, and a few from a file.
 Limits: files of 53,247 to 53,250 bytes and around the size of the program's buffer, always. With --every also each change of one
-byte of a small file: cut there, lost, put in, or another byte. A question from 1 to 9 that no file got a "no" to is an error.
+byte of a small file: cut there, lost, put in, or another byte. A question from 1 to 9 or 16 that no file got a "no" to is an error.
 The program's output, its standard error (must be empty) and its exit status (must be 0) are compared.
+With --capitals the program is `capitals`; what it wrote is given to it again, and must not change.
 With --detail (for baseline.c) the program gets the word -d and has to print marks, flags, passes and replacements too, those of SSS* twice.
 Files that differ are kept in DIR (default target/checks); the exit status is 1 if there is one.
 """
@@ -46,10 +47,13 @@ def good_table(rng, most):
 
 
 def as_file(rng, table):
-    file = o.file_of(table, upper=rng.random() < 0.4, last=rng.random() < 0.7)
-    if rng.random() < 0.3:
-        file = bytes(c ^ 32 if chr(c).isalpha() and rng.random() < 0.5 else c for c in file)
-    return file
+    """Some in small letters, some in both letter cases, which 16 refuses; and some without the last line feed."""
+    file = o.file_of(table, last=rng.random() < 0.7)
+    case = rng.random()
+    if case < 0.1:
+        return file.lower()
+    share = rng.choice((0.5, 0.01))
+    return bytes(c ^ 32 if case < 0.2 and chr(c).isalpha() and rng.random() < share else c for c in file)
 
 
 def large_table(rng):
@@ -253,8 +257,8 @@ OTHER_BYTES = bytes(range(128)) + b"\x80\xaf\xc1\xff"
 
 
 def every_change():
-    for name, nest in (("leaf", -5), ("first row", [[1, 2], [3, 4]])):
-        file = o.file_of(o.table_of_nest(nest))
+    leaf, row = (o.file_of(o.table_of_nest(nest)) for nest in (-5, [[1, 2], [3, 4]]))
+    for name, file in (("leaf", leaf), ("leaf in small letters", leaf.lower()), ("first row", row)):
         for i in range(len(file) + 1):
             yield "%s cut at %d" % (name, i), file[:i]
             yield "%s from %d" % (name, i), file[i:]
@@ -324,6 +328,7 @@ def main():
     parser.add_argument("--seed", type=int, default=1)
     parser.add_argument("--keep", default=os.path.join(ROOT, "target", "checks"))
     parser.add_argument("--detail", action="store_true")
+    parser.add_argument("--capitals", action="store_true")
     args = parser.parse_args()
     program = [os.path.abspath(args.program)] + (["-d"] if args.detail else [])
     os.makedirs(args.keep, exist_ok=True)
@@ -333,7 +338,7 @@ def main():
     for name, file in cases(rng, args):
         total += 1
         before = time.time()
-        want = o.report(file)
+        want = o.capitals(file) if args.capitals else o.report(file)
         if args.detail:
             lines = [line for line in o.detail(file).splitlines(True) if " order " not in line]
             want += "".join(lines + [line for line in lines if line.startswith("sss ")]).encode()
@@ -346,6 +351,8 @@ def main():
             how, got = "from a file", run_from_file(program, file, os.path.join(args.keep, "stdin"))
         else:
             how, got = "piped", run_plain(program, file)
+        if args.capitals and not want.startswith(b"refused") and run_plain(program, want) != (want, b"", 0):
+            how, got = how + ", twice", run_plain(program, want)
         if got != (want, b"", 0):
             bad += 1
             path = os.path.join(args.keep, "%d-%d" % (args.seed, total))
@@ -356,10 +363,11 @@ def main():
     print("%d files, %d differ, %.1f s (model %.1f s); answers: %s" % (
         total, bad, time.time() - start, model_time,
         ", ".join("%s %d" % (k, v) for k, v in sorted(answers.items(), key=lambda x: (x[0] == "result", x[0])))))
-    unasked = [str(number) for number in range(1, 10) if str(number) not in answers]
-    if unasked:
-        print("no file was refused with " + ", ".join(unasked))
-    sys.exit(1 if bad or unasked else 0)
+    due = {str(number) for number in (*range(1, 10), *((16,) if not args.capitals else ()))}
+    unasked, wrong = due - set(answers), {"16"} & set(answers) - due
+    if unasked or wrong:
+        print("no file was refused with %s; refused with %s" % (sorted(unasked), sorted(wrong)))
+    sys.exit(1 if bad or unasked or wrong else 0)
 
 
 if __name__ == "__main__":

@@ -122,6 +122,15 @@ def written(table, room):
         yield from reports(lent[:r], len(table))
 
 
+def converted(file, room):
+    """The converter, and once more on what it wrote."""
+    lent = filled(room)
+    r = o.convert(file, lent)
+    yield "convert", (), (file, filled(room)), flat(r, count=r), (file, lent)
+    if not isinstance(r, o.Refusal):
+        yield "convert", (), (lent[:r], filled(r)), flat(r, count=r), (lent[:r], lent[:r])
+
+
 def reports(file, room):
     lent = filled(room)
     r = o.read_file(file, lent)
@@ -140,6 +149,7 @@ def small_trees():
                 for allowance in range(n + 1):
                     yield from allowed(table, n, n, allowance)
                 yield from written(table, 13 * n)
+                yield from converted(o.file_of(table, last=False).lower(), 13 * n)
                 flags = bytearray(n)
                 o.mtd_search(table, bytearray(n), flags)
                 yield from verified(table, flags)
@@ -166,6 +176,7 @@ def random_calls(rng):
     file = fuzz.damaged(rng, 60)[1] if kind < 3 else fuzz.as_file(rng, table)
     room = rng.choice((6 * n, 6 * n, 6 * n + 7, 6 * n - 1, 0, o.MAX_TABLE))
     yield from reports(file, room)
+    yield from converted(file, rng.choice((13 * n, 13 * n + 7, max(13 * n - 1, 0), 0, o.MAX_FILE)))
     read = bytearray(o.MAX_TABLE)
     nodes = o.read_file(file, read)
     if not isinstance(nodes, o.Refusal):

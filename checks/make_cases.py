@@ -46,7 +46,7 @@ def file_case(title, file, refused=None, rows=None, made_by_program=False):
 
 
 def tree_file(nest, last=True):
-    return o.file_of(o.table_of_nest(nest), upper=True, last=last)
+    return o.file_of(o.table_of_nest(nest), last=last)
 
 
 def all_three(value, move, leaves):
@@ -75,7 +75,7 @@ def made_trees():
     for title, width, inner, refused in (("40 children", 40, 1, None), ("41 children", 41, 1, (5, 0)), ("depth %d" % depth, 1, depth, None),
                                          ("depth %d" % (depth + 1), 1, depth + 1, (9, depth + 1)), ("4096 frames", 15, 273, None),
                                          ("4097 frames", 16, 256, (2, 0))):
-        file_case(title, o.file_of(o.regular(width, inner, lambda k: k), upper=True), refused=refused, made_by_program=True)
+        file_case(title, o.file_of(o.regular(width, inner, lambda k: k)), refused=refused, made_by_program=True)
 
 
 def files_of_01():
@@ -85,7 +85,7 @@ def files_of_01():
     file_case("value 32001", tree_file(32001), refused=(7, 0))
     table = o.table_of([2, 41] + [0] * 42, [0] * 42)
     table[6 * 2 + 3] = 1
-    file_case("byte 3 wrong at node 2, 41 children at node 1", o.file_of(table, upper=True), refused=(5, 1))
+    file_case("byte 3 wrong at node 2, 41 children at node 1", o.file_of(table), refused=(5, 1))
     file_case("one line feed", b"\n", refused=(3, 0))
 
 
@@ -114,6 +114,12 @@ def rejected_files():
             (3, 0, "two lines without a line feed between", ROW.replace(b"\n", b"", 1)),
             (3, 6, "bad line before a bad node", lines({0: "000102010000", 6: "0000"})),
             (3, 6, "cut off in the last line", ROW[:-3]),
+            (3, 5, "a small letter in line 0, a g in line 5", lines({0: "000102000000".replace("1", "a"), 5: "00000000000g"})),
+            (16, 0, "small letters", tree_file(-5).lower()),
+            (16, 0, "both letter cases in one line", b"00000000fFfB\n"),
+            (16, 6, "a small letter in the last line, which is not closed", lines({6: "00000000000f"})[:-1]),
+            (16, 1, "the first of two lines with small letters", lines({1: "000302000a00", 3: "00000000000a"})),
+            (16, 3, "a small letter in line 3, byte 3 wrong in line 0", lines({0: "000102010000", 3: "00000000000a"})),
             (4, 0, "byte 3 at the root", lines({0: "000102010000"})),
             (4, 6, "byte 3 at a leaf", lines({6: "000000FF0004"})),
             (4, 1, "byte 3 before 41 children of one node", lines({1: "000329010000"})),
@@ -137,8 +143,6 @@ def accepted_files():
     for title, file in (
             ("last line feed missing", ROW[:-1]),
             ("value -32000", tree_file(-32000)),
-            ("small letters", tree_file(-5).lower()),
-            ("both letter cases in one line", b"00000000fFfB\n"),
             ("negative values and ties", tree_file([[-3, 5, -3], [-7, -3, 2], [-3, -1], -3])),
             ("equal merits: 2 5 2 1", tree_file([[2, 5], [2, 1]])),
             ("equal leaves: 7 7 7 7", tree_file([[7, 7], [7, 7]])),
@@ -322,6 +326,7 @@ def reader_cases():
     for title, size, file, want in (("table of 41 bytes", 41, ROW, "refused 10 0"), ("table of 42 bytes", 42, ROW, "7"),
                                     ("longer table keeps its rest", 48, ROW, "7"), ("no table", 0, LEAF, "refused 10 0"),
                                     ("no table, byte 3 wrong", 0, b"000000010005\n", "refused 4 0"),
+                                    ("no table, small letters", 0, b"00000000fffb\n", "refused 16 0"),
                                     ("no table, no file", 0, b"", "refused 1 0")):
         table = bytearray((FILLED,) * size)
         got = answered(o.read_file(file, table))
@@ -346,7 +351,7 @@ def written(table, room):
 def writer_cases():
     """Questions 1 to 10 of the writer; what it writes is read back."""
     for title, file, room, size, want in (("a leaf in 13 bytes", LEAF, 13, 6, "13"), ("a leaf in 12 bytes", LEAF, 12, 6, "refused 10 0"),
-                                          ("letters are capitals", tree_file(-5).lower(), 13, 6, "13"),
+                                          ("letters are capitals", tree_file(-5), 13, 6, "13"),
                                           ("a missing line feed is supplied", ROW[:-1], 91, 42, "91"),
                                           ("91 bytes for 7 nodes", ROW, 91, 42, "91"), ("longer file keeps its rest", ROW, 99, 42, "91"),
                                           ("90 bytes for 7 nodes", ROW, 90, 42, "refused 10 0"), ("no file", ROW, 0, 42, "refused 10 0"),

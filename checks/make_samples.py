@@ -1,5 +1,6 @@
 #!/usr/bin/env python3
-"""Writes sample files, *.tree with *.expected, what the program prints for each, by oracle.py.
+"""Writes sample files, *.tree with *.expected, what `analyse` prints for each, and one for `capitals`, *.tree with
+*.capitals, by oracle.py.
 
     make_samples.py [DIRECTORY]     (default: samples)
 """
@@ -22,15 +23,16 @@ def chain(nodes):
 
 
 def samples():
-    first = o.file_of(o.table_of_nest([[1, 2], [3, 4]]), upper=True)
-    ending = o.file_of(o.table_of_nest(ENDING), upper=True)
+    first = o.file_of(o.table_of_nest([[1, 2], [3, 4]]))
+    ending = o.file_of(o.table_of_nest(ENDING))
+    wins = o.file_of(o.table_of_nest(WINS))
     # a child count that went up by one: the next inner node's first child no longer fits
     miscounted = ending.split(b"\n")
     miscounted[2] = miscounted[2][:4] + b"03" + miscounted[2][6:]
     return {
         "seven": first,                                             # 01's own sample
         "ending": ending,                                           # wider: negative values, ties, two depths of leaves
-        "wins": o.file_of(o.table_of_nest(WINS), upper=True),       # the sooner win is the better one: worths
+        "wins": wins,                                               # the sooner win is the better one: worths
         "cut-off": ending[:200],                                    # a transfer that broke off in line 15
         "miscounted": b"\n".join(miscounted),
         "refused-1": b"",
@@ -41,6 +43,7 @@ def samples():
         "refused-7": b"000000007D01\n",                             # 32,001
         "refused-8": b"000000000005\n000000000006\n",               # two leaves
         "refused-9": chain(o.MAX_DEPTH + 2),
+        "stored": wins.lower()[:-1],                                # refused with 16; converted it is wins.tree
     }
 
 
@@ -48,7 +51,7 @@ def main():
     root = os.path.dirname(os.path.dirname(os.path.abspath(__file__)))
     directory = sys.argv[1] if len(sys.argv) > 1 else os.path.join(root, "samples")
     for name, file in samples().items():
-        for ending, data in (("tree", file), ("expected", o.report(file))):
+        for ending, data in [("tree", file), ("expected", o.report(file))] + [("capitals", o.capitals(file))] * (name == "stored"):
             with open(os.path.join(directory, name + "." + ending), "wb") as f:
                 f.write(data)
     print("%d samples" % len(samples()))

@@ -7,6 +7,7 @@ as 01 says; a refused call changes nothing.
 
     oracle.py < FILE        prints what the program has to print
     oracle.py --detail < FILE   the same, then leaves in order, passes, replacements, marks and flags
+    oracle.py --capitals < FILE     what the program `capitals` has to print
 
 Where a rule is given twice here (`..._by_rule`, and a faster one), selfcheck.py compares the two.
 """
@@ -30,6 +31,7 @@ LIVE, SOLVED = "LIVE", "SOLVED"
 HEX = {c: i for i, c in enumerate(b"0123456789")}
 HEX.update({c: 10 + i for i, c in enumerate(b"ABCDEF")})
 HEX.update({c: 10 + i for i, c in enumerate(b"abcdef")})
+SMALL = b"abcdef"
 
 
 # ---------------------------------------------------------------- frames and the two services
@@ -124,17 +126,20 @@ def table_no(table):
 
 
 def decode(file):
-    """The table of a file, or the refusal by questions 1 to 3."""
+    """The table of a file, or the refusal by questions 1 to 3 and 16; 3 is put to all lines before 16 is."""
     if len(file) == 0:
         return Refusal(1, 0)
     if len(file) > MAX_FILE:
         return Refusal(2, 0)
-    table = bytearray()
-    for i, line in enumerate(lines_of(file)):
+    lines, table = lines_of(file), bytearray()
+    for i, line in enumerate(lines):
         got = six_bytes(line)
         if got is None:
             return Refusal(3, i)
         table += got
+    for i, line in enumerate(lines):
+        if any(c in SMALL for c in line):
+            return Refusal(16, i)
     return table
 
 
@@ -492,7 +497,7 @@ Result = namedtuple("Result", "value move leaves extra order")   # extra: passes
 
 
 def read_file(file, table):
-    """Questions 1 to 10; writes the frames to the start of the table; the number of nodes."""
+    """Questions 1 to 3, 16, 4 to 10; writes the frames to the start of the table; the number of nodes."""
     got = decode(file)
     if isinstance(got, Refusal):
         return got
@@ -515,6 +520,13 @@ def write_file(table, file):
         return Refusal(10, 0)
     file[:len(text)] = text
     return len(text)
+
+
+def convert(file, new):
+    """02, N7: the letters a to f lifted to capitals, then read and written; the length of the new file."""
+    table = bytearray(MAX_TABLE)
+    n = read_file(bytes(c - 32 if c in SMALL else c for c in file), table)
+    return n if isinstance(n, Refusal) else write_file(table[:6 * n], new)
 
 
 def check_table(table):
@@ -585,6 +597,13 @@ def report(file):
     return text
 
 
+def capitals(file):
+    """What the program `capitals` prints, as bytes."""
+    new = bytearray(MAX_FILE)
+    n = convert(file, new)
+    return b"refused %d %d\n" % n if isinstance(n, Refusal) else bytes(new[:n])
+
+
 def detail(file):
     """What the program does not print: leaves in order, passes, replacements, marks, flags."""
     table = bytearray(MAX_TABLE)
@@ -617,10 +636,9 @@ def table_of(counts, values):
     return table
 
 
-def file_of(table, upper=False, last=True):
-    lines = [bytes(table[i:i + 6]).hex() for i in range(0, len(table), 6)]
-    text = "\n".join(line.upper() if upper else line for line in lines) + ("\n" if last else "")
-    return text.encode()
+def file_of(table, last=True):
+    lines = [bytes(table[i:i + 6]).hex().upper() for i in range(0, len(table), 6)]
+    return ("\n".join(lines) + ("\n" if last else "")).encode()
 
 
 def table_of_nest(nest):
@@ -650,7 +668,7 @@ def regular(width, inner, leaf):
 
 def main():
     file = sys.stdin.buffer.read()
-    sys.stdout.buffer.write(report(file))
+    sys.stdout.buffer.write(capitals(file) if "--capitals" in sys.argv[1:] else report(file))
     if "--detail" in sys.argv[1:]:
         sys.stdout.write(detail(file))
 

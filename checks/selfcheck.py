@@ -235,6 +235,23 @@ def one_allowance(rng, table, full, value):
     other = changed_elsewhere(rng, table, marks)
     same("spent: passed-over leaves have no influence", allowed(other, allowance), (r, marks, proof))
 
+def letters():
+    """Request N7, worked out by hand: where 16 is asked, its place, and what the converter writes."""
+    leaf, bad, other = b"000000000005\n", b"00000000000g\n", b"00000000000a\n"
+    for file, no in ((b"00000000fffb", (16, 0)), (leaf + b"00000000000F\n", (8, 2)), (leaf + b"00000000000f\n", (16, 1)),
+                     (other + leaf * 4 + bad, (3, 5)), (b"000000010005\n" + leaf * 2 + other, (16, 3)), (b"f" * 53249, (2, 0)),
+                     (b"f", (3, 0)), (b"\nf", (3, 0)), (b"00000000000G", (3, 0))):
+        same("N7 %r" % file[:30], o.report(file), refused(*no))
+        same("N7 %r, no table" % file[:30], o.read_file(file, bytearray()), no)
+    same("N7 one line takes small letters", o.read_line(b"00000000fffb\n", 0), (bytes.fromhex("00000000fffb"), 13))
+    for file, want in ((b"00000000fFfb", b"00000000FFFB\n"), (b"00000000000g", refused(3, 0)), (b"", refused(1, 0)),
+                       (b"0000000a0005", refused(4, 0)), (b"a" * 53249, refused(2, 0)), (b"00000000\x86000", refused(3, 0))):
+        same("N7 convert %r" % file[:30], o.capitals(file), want)
+    new = bytearray(b"\x55" * 14)
+    same("N7 rest of the buffer", (o.convert(b"00000000fffb", new), bytes(new)), (13, b"00000000FFFB\n\x55"))
+    new = bytearray(b"\x55" * 12)
+    same("N7 short buffer", (o.convert(b"00000000fffb", new), bytes(new)), ((10, 0), b"\x55" * 12))
+
 
 def solution_trees(tree, k, bit):
     """All sets of flagged nodes of one kind below k."""
@@ -299,11 +316,13 @@ def one_tree(rng, table, literal, pairs):
     for call, r in ((o.alpha_beta, a), (o.mtd_search, m), (o.sss_search, s)):
         same("passed-over leaves have no influence", run(call, changed_elsewhere(rng, table, r[1])), r)
     one_allowance(rng, table, s, value)
-    same("written", saved(table, 13 * n + 3), (13 * n, o.file_of(table, upper=True) + b"\x55" * 3))
+    same("written", saved(table, 13 * n + 3), (13 * n, o.file_of(table) + b"\x55" * 3))
     same("a buffer one byte short", saved(table, 13 * n - 1), ((10, 0), b"\x55" * (13 * n - 1)))
-    file = o.file_of(table, upper=rng.random() < 0.5, last=rng.random() < 0.5)
+    file = o.file_of(table, last=rng.random() < 0.5)
     buffer = bytearray(b"\x55" * o.MAX_TABLE)
     same("read back", (o.read_file(file, buffer), bytes(buffer)), (n, bytes(table) + b"\x55" * (o.MAX_TABLE - 6 * n)))
+    for stored in (file, file.lower(), file.title()):
+        same("converted", o.capitals(stored), o.file_of(table))
 
 
 def random_trees(count):
@@ -364,6 +383,7 @@ def main():
     obligations()
     worths()
     allowances()
+    letters()
     print("papers and examples: %d checks, %d wrong" % (checks, len(wrong)))
     every_small_tree(6)
     print("all trees of up to 6 nodes: %d checks, %d wrong" % (checks, len(wrong)))

@@ -26,7 +26,8 @@ use Rattle.frames.proofs.FirstNo.{then-first, lowest-no, nodes-first, depth-fir
 use Rattle.frames.proofs.FirstNo.{deeper-frames, deeper-rejected}
 use Rattle.treefile.specs.Line.{isLine}
 use Rattle.treefile.specs.Lines.{linesOf, decoded}
-use Rattle.treefile.specs.File.{fileCheck2, fileCheck3, fileRejection, readRejection, readAnswer, tableAfter, filled}
+use Rattle.treefile.specs.File.{fileCheck2, fileCheck3, fileCheck16, fileRejection}
+use Rattle.treefile.specs.File.{readRejection, readAnswer, tableAfter, filled}
 use Rattle.treefile.specs.Write.{writeRejection, writeOutcome}
 use Rattle.treefile.specs.declared.Written.the-variants.{Rejected as RejectedWrite}
 use Rattle.treefile.proofs.FirstLine.{line-first}
@@ -114,7 +115,7 @@ in-order x y r e = then-first x y r e
 pub lowest-line : (f : List ℕ) (r : Rejection) → fileCheck3 f ≡ some r
     → (r .number ≡ 3) × (r .place < length (linesOf f)) × (isLine (getD (linesOf f) (r .place) []) ≡ false)
     × ((k : ℕ) → k < r .place → isLine (getD (linesOf f) k []) ≡ true)
-lowest-line f r e = line-first f r e
+lowest-line f r e = line-first 3 isLine f r e
 
 -- 4 to 7
 pub lowest-node : (t : List ℕ) (r : Rejection) → nodesRejection t ≡ some r
@@ -138,7 +139,8 @@ deeper-answered t e k l d =
 
 -- and a file by the reader
 pub deeper-read : (f : List ℕ)
-    → (check1 f andThen fileCheck2 f andThen fileCheck3 f andThen framesBefore9 (decoded f)) ≡ none
+    → (check1 f andThen fileCheck2 f andThen fileCheck3 f andThen fileCheck16 f andThen framesBefore9 (decoded f))
+    ≡ none
     → (k : ℕ) → k < frames (decoded f) → maxDepth < depthOf (decoded f) k
     → (r : Rejection) × LowestDeep (decoded f) r × ((table : List ℕ) → readAnswer f table ≡ RejectedTable r)
 unfolding readRejection fileRejection
@@ -146,10 +148,11 @@ deeper-read f e k l d =
     let a = both-passed (check1 f) _ e in
     let b = both-passed (fileCheck2 f) _ (a .1) in
     let c = both-passed (fileCheck3 f) _ (b .1) in
-    let p = deeper-frames (decoded f) (c .1) k l d in
+    let g = both-passed (fileCheck16 f) _ (c .1) in
+    let p = deeper-frames (decoded f) (g .1) k l d in
     let q : fileRejection f ≡ some (p .0) =
     passed-then (check1 f) _ (a .0) ∙ passed-then (fileCheck2 f) _ (b .0)
-    ∙ passed-then (fileCheck3 f) _ (c .0) ∙ p .1 in
+    ∙ passed-then (fileCheck3 f) _ (c .0) ∙ passed-then (fileCheck16 f) _ (g .0) ∙ p .1 in
     (p .0, p .2, λ _. rw q)
 
 -- 11

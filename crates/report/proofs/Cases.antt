@@ -8,7 +8,7 @@ use Rattle.frames.specs.Tree.{kidsFrom, grow, treeAt, valuation}
 use Rattle.frames.specs.Rejection.{eachNode}
 use Rattle.frames.specs.Check.{framesRejection}
 use Rattle.treefile.specs.Digit.{digitOf}
-use Rattle.treefile.specs.Line.{allDigits, isLine, bytesOf}
+use Rattle.treefile.specs.Line.{allDigits, isLine, hasSmall, bytesOf}
 use Rattle.treefile.specs.Lines.{linesOf, decode}
 use Rattle.treefile.specs.File.{eachLine, fileRejection}
 use Rattle.report.specs.Text.{decimalWithin}
@@ -18,5 +18,5 @@ use Rattle.report.specs.results.Cases.{computed, expected, cases}
 -- each case is as stated
 pub small-files : map computed cases ≡ map expected cases
 unfolding mtd next parentBefore placeWithin placeOf kidsFrom grow treeAt valuation eachNode framesRejection digitOf
-    allDigits isLine bytesOf linesOf decode eachLine fileRejection decimalWithin abLine mtdLine sssLine
+    allDigits isLine hasSmall bytesOf linesOf decode eachLine fileRejection decimalWithin abLine mtdLine sssLine
 small-files = refl

@@ -1,12 +1,11 @@
--- What the reader of a file gives is what the report goes by: an accepted table, or the first rejection of the file.
+-- What the reader of a file gives is what the report goes by: an accepted table, or the first rejection of the file;
+-- and what is laid into zeros is a text.
 use Prim.Native.Nat.{ℕ, zero, suc, _-_, _*_, _≤_}
 use native.Mathlib.Omega.{arith}
 use native.Mathlib.Nat.{zero-add}
-use mathlib.Core.Path.{_≡_, refl, sym, ap, _∙_}
-use mathlib.Core.Option.{Option, none, some}
+use mathlib.Core.Path.{_≡_, sym, ap, _∙_}
 use mathlib.Core.List.{List, _++_}
 use lib.ListN.{length, take, drop, replicate, length-append}
-use Rattle.lists.proofs.Choice.{clash}
 use Rattle.frames.specs.declared.Rejection.{Rejection}
 use Rattle.frames.specs.declared.Checked.{Checked}
 use Rattle.frames.specs.declared.Checked.the-variants.{Nodes, Rejected as RejectedFile}
@@ -14,12 +13,11 @@ use Rattle.frames.specs.Frame.{frameSize, maxNodes, maxTable}
 use Rattle.frames.specs.Check.{Accepted}
 use Rattle.frames.proofs.Acceptance.{accepted-formed}
 use Rattle.treefile.specs.Lines.{decoded}
-use Rattle.treefile.specs.File.{fileRejection, readRejection, readAnswer, tableAfter}
-use Rattle.treefile.proofs.Acceptance.{read-nodes, accepted-table, accepted-read}
+use Rattle.treefile.specs.File.{readAnswer, tableAfter}
+use Rattle.treefile.proofs.Acceptance.{read-nodes, roomy-rejected}
 use Rattle.report.specs.declared.Text.{Text}
 use Rattle.report.specs.Text.{refusedLine, laid, TextRoom, Put}
 use Rattle.report.specs.Report.{analysis, printed, report, textSize, textOf}
-use Rattle.report.proofs.Sizes.{report-few}
 
 -- what is left of zeros
 drop-replicate : (k n : ℕ) → drop {A = ℕ} k (replicate n 0) ≡ replicate (n - k) 0
@@ -46,46 +44,36 @@ module _ (f : List ℕ) where
           reported = ap (printed f) (p .0);
         }
 
-  nodes-rejected : {m : ℕ} {r : Rejection} → RejectedFile r ≡ Nodes m → ⊥
-  nodes-rejected e = clash (cc)
+  -- the rejection of a file that is read into a roomy table is printed
+  pub read-rejected : (fresh : List ℕ) → maxTable ≤ length fresh → (r : Rejection)
+      → RejectedFile r ≡ readAnswer f fresh → report f ≡ refusedLine (r .number) (r .place)
+  read-rejected fresh room r e = ap (printed f) (roomy-rejected f fresh room r e)
 
-  module _ (fresh : List ℕ) (room : maxTable ≤ length fresh) (r : Rejection)
-      (e : RejectedFile r ≡ readAnswer f fresh) where
-    -- with a roomy table the reader rejects by questions 1 to 9 only
-    file-rejected : (q : Option Rejection) → fileRejection f ≡ q → q ≡ some r
-    unfolding readRejection
-    file-rejected none p =
-        let few = accepted-formed (decoded f) (accepted-table f p .1) .few in
-        absurd (nodes-rejected (e ∙ accepted-read f fresh p (omega arith) .0))
-    file-rejected (some x) p = let d : RejectedFile r ≡ RejectedFile x = (rw p at e) in cc
+-- bytes that a text has room for
+module _ (x : List ℕ) where
+  -- they have room in a buffer of its size
+  pub text-room : {b : List ℕ} → length x ≤ textSize → textSize ≤ length b → TextRoom 0 x b
+  text-room few h = record { enough = omega arith }
 
-    -- and its rejection is printed
-    pub read-rejected : report f ≡ refusedLine (r .number) (r .place)
-    read-rejected = ap (printed f) (file-rejected (fileRejection f) refl)
-
-  -- a report has room in a text
-  pub report-room : {b : List ℕ} → textSize ≤ length b → TextRoom 0 (report f) b
-  report-room h = record { enough = omega (arith, report-few f) }
-
-  -- what was laid into zeros is the text of the report
-  pub text-laid : {n : ℕ} {b : List ℕ} → Put 0 (report f) (replicate textSize 0) n b
-      → record { bytes = b; length = n } ≡ textOf (report f)
+  -- what was laid into zeros is the text of them
+  pub text-laid : {n : ℕ} {b : List ℕ} → Put 0 x (replicate textSize 0) n b
+      → record { bytes = b; length = n } ≡ textOf x
   unfolding textOf laid
   text-laid {n} {b} p =
-      let k : n ≡ length (report f) = omega (arith, p .behind) in
-      let z : b ≡ report f ++ replicate (textSize - length (report f)) 0 =
+      let k : n ≡ length x = omega (arith, p .behind) in
+      let z : b ≡ x ++ replicate (textSize - length x) 0 =
       p .text
-      ∙ ap (λ i. report f ++ drop {A = ℕ} i (replicate textSize 0)) (zero-add (length (report f)))
-      ∙ ap (λ x. report f ++ x) (drop-replicate (length (report f)) textSize) in
+      ∙ ap (λ i. x ++ drop {A = ℕ} i (replicate textSize 0)) (zero-add (length x))
+      ∙ ap (λ y. x ++ y) (drop-replicate (length x) textSize) in
       cc
 
   -- the length of a text is within it
-  pub length-within : {r : Text} → r ≡ textOf (report f) → r .length ≤ length (r .bytes)
+  pub length-within : {r : Text} → r ≡ textOf x → r .length ≤ length (r .bytes)
   unfolding textOf
   length-within e =
       omega (
         arith,
-        ap (λ x. x .length) e,
-        ap (λ x. length (x .bytes)) e,
-        length-append (report f) (replicate (textSize - length (report f)) 0),
+        ap (λ t. t .length) e,
+        ap (λ t. length (t .bytes)) e,
+        length-append x (replicate (textSize - length x) 0),
       )

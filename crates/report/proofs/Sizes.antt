@@ -29,7 +29,7 @@ line-few name f =
     simp length-append
     (omega (arith, signedDecimal-few (f .value), decimal-few 20 (f .«root_move»), decimal-few 20 (f .leaves)))
 
-refused-few : (r : Rejection) → length (refusedLine (r .number) (r .place)) ≤ textSize
+pub refused-few : (r : Rejection) → length (refusedLine (r .number) (r .place)) ≤ textSize
 refused-few r = simp length-append (omega (arith, decimal-few 20 (r .number), decimal-few 20 (r .place)))
 
 -- the three lines

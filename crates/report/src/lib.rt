@@ -42,6 +42,18 @@ pub fn write(file: &[u8]) -> Text
     Text { bytes, length }
 }
 
+// The line of a rejection.
+pub fn refused(rejection: Rejection) -> Text
+    ensures { λ r. ⌜ r ≡ textOf (refusedLine (rejection .number) (rejection .place)) ⌝ }
+{
+    let mut line = [0u8; TEXT_SIZE];
+    let length = put_refused(&mut line, rejection);
+    Text {
+        bytes: line,
+        length,
+    }
+}
+
 // The report of a file at the beginning of the text; the position behind it.
 fn put_report(file: &[u8], text: &mut [u8]) -> usize
     requires { ⌜ TextRoom 0 (report (now file)) (now text) ⌝ }

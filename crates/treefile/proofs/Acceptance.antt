@@ -1,63 +1,66 @@
--- A file is accepted exactly if its lines are right (SPEC 2.2) and hold an accepted table; what the reader then gives.
+-- A file is accepted exactly if its lines are right (SPEC 2.2), without small letters, and hold an accepted table; what
+-- the reader then gives.
 use Prim.Native.Nat.{ℕ, zero, suc, _+_, _*_, _/_, _%_, _≤_, _<_}
 use mathlib.Core.Path.{_≡_, refl, sym, _∙_}
 use mathlib.Core.Logic.{_↔_}
-use mathlib.Core.Bool.{true}
-use mathlib.Core.Option.{none}
+use mathlib.Core.Bool.{true, false}
+use mathlib.Core.Option.{Option, none, some}
 use mathlib.Core.List.{List, [], _∷_, _++_}
 use lib.ListN.{length, getD, take, drop}
 use lib.Seq.{take-at}
 use native.Mathlib.Omega.{arith}
-use borrow.Author.Tests.{lt-ltb, le-leb, eq-eqb, ltb-true, leb-true}
-use Rattle.frames.specs.declared.Checked.the-variants.{Nodes}
+use borrow.Author.Tests.{lt-ltb, le-leb, eq-eqb, ltb-true, leb-true, not-true}
+use Rattle.lists.proofs.Choice.{clash}
+use Rattle.frames.specs.declared.Rejection.{Rejection}
+use Rattle.frames.specs.declared.Checked.the-variants.{Nodes, Rejected}
 use Rattle.frames.specs.Frame.{frameSize, frames, maxTable}
 use Rattle.frames.specs.Check.{check1, check2, check3, rejection, Accepted}
 use Rattle.frames.proofs.Stated.{ask-yes, yes-ask, both-passed, passed-both}
 use Rattle.frames.proofs.Asked.{answer-nodes}
-use Rattle.frames.proofs.Acceptance.{accepted-stated, stated-accepted}
-use Rattle.treefile.specs.Digit.{noDigit, digitOf}
-use Rattle.treefile.specs.Line.{lineDigits, allDigits, isLine}
+use Rattle.frames.proofs.Acceptance.{accepted-stated, stated-accepted, accepted-formed}
+use Rattle.treefile.specs.Line.{lineDigits, isLine, hasSmall}
 use Rattle.treefile.specs.Lines.{linesOf, decoded}
-use Rattle.treefile.specs.File.{maxFile, eachLine, lineCheck3, fileCheck2, fileCheck3}
+use Rattle.treefile.specs.File.{maxFile, eachLine, lineCheck3, fileCheck2, fileCheck3, lineCheck16, fileCheck16}
 use Rattle.treefile.specs.File.{fileRejection, AcceptedFile, readRejection, readAnswer, tableAfter}
 use Rattle.treefile.specs.results.Stated.{LineAsStated, FileAsStated}
+use Rattle.treefile.proofs.CapitalDigits.{capital-at, capitals-all}
 use Rattle.treefile.proofs.Lines.{line-length, line-digits, digit-at}
 use Rattle.treefile.proofs.Counts.{line-count, decoded-length, frame-count}
 use Rattle.treefile.proofs.Reading.{accepted-parts}
 
-digits-all : (l : List ℕ) → ((k : ℕ) → k < length l → digitOf (getD l k 0) < noDigit) → allDigits l ≡ true
-unfolding allDigits
-digits-all [] p = refl
-digits-all (b ∷ l) p =
-    rw (lt-ltb (digitOf b) noDigit (p 0 (omega arith))) (digits-all l (λ k h. p (suc k) (omega arith)))
-
-line-stated : (l : List ℕ) → isLine l ≡ true → LineAsStated l
-line-stated l e =
+line-stated : (l : List ℕ) → isLine l ≡ true → hasSmall l ≡ false → LineAsStated l
+line-stated l e g =
+    let twelve = line-length l e in
     record {
-      twelve = line-length l e;
-      digits = λ k h. digit-at l k (line-digits l e) (rw (line-length l e) h);
+      twelve = twelve;
+      digits = λ k h. (let i : k < length l = rw twelve h in capital-at l k (digit-at l k (line-digits l e) i) g i);
     }
 
-stated-line : (l : List ℕ) → LineAsStated l → isLine l ≡ true
+stated-line : (l : List ℕ) → LineAsStated l → (isLine l ≡ true) × (hasSmall l ≡ false)
 unfolding isLine
 stated-line l s =
-    rw (s .twelve, eq-eqb lineDigits lineDigits refl) (digits-all l (λ k h. s .digits k (rw (s .twelve) at h)))
+    let p = capitals-all l (λ k h. s .digits k (rw (s .twelve) at h)) in
+    (rw (s .twelve, eq-eqb lineDigits lineDigits refl) (p .0), p .1)
 
--- question 3 passes exactly if each line is as stated
-lines-stated : (i : ℕ) (ls : List (List ℕ)) → eachLine lineCheck3 i ls ≡ none
+-- questions 3 and 16 pass exactly if each line is as stated
+lines-stated : (i : ℕ) (ls : List (List ℕ)) → eachLine lineCheck3 i ls ≡ none → eachLine lineCheck16 i ls ≡ none
     → (k : ℕ) → k < length ls → LineAsStated (getD ls k [])
 unfolding eachLine
-lines-stated i [] e k h = absurd (omega arith)
-lines-stated i (l ∷ ls) e zero h = line-stated l (ask-yes _ _ _ (both-passed (lineCheck3 i l) _ e .0))
-lines-stated i (l ∷ ls) e (suc k) h = lines-stated (i + 1) ls (both-passed (lineCheck3 i l) _ e .1) k (omega arith)
+lines-stated i [] e g k h = absurd (omega arith)
+lines-stated i (l ∷ ls) e g zero h =
+    line-stated l (ask-yes _ _ _ (both-passed (lineCheck3 i l) _ e .0))
+    (not-true _ (ask-yes _ _ _ (both-passed (lineCheck16 i l) _ g .0)))
+lines-stated i (l ∷ ls) e g (suc k) h =
+    lines-stated (i + 1) ls (both-passed (lineCheck3 i l) _ e .1) (both-passed (lineCheck16 i l) _ g .1) k (omega arith)
 
 stated-lines : (i : ℕ) (ls : List (List ℕ)) → ((k : ℕ) → k < length ls → LineAsStated (getD ls k []))
-    → eachLine lineCheck3 i ls ≡ none
+    → (eachLine lineCheck3 i ls ≡ none) × (eachLine lineCheck16 i ls ≡ none)
 unfolding eachLine
-stated-lines i [] p = refl
+stated-lines i [] p = (refl, refl)
 stated-lines i (l ∷ ls) p =
-    passed-both (lineCheck3 i l) _ (yes-ask _ _ _ (stated-line l (p 0 (omega arith))))
-    (stated-lines (i + 1) ls (λ k h. p (suc k) (omega arith)))
+    let first = stated-line l (p 0 (omega arith)) in
+    let rest = stated-lines (i + 1) ls (λ k h. p (suc k) (omega arith)) in
+    (passed-both (lineCheck3 i l) _ (yes-ask _ _ _ (first .0)) (rest .0), rw (first .1) (rest .1))
 
 module _ (f : List ℕ) where
   -- the lines of an accepted file pass question 3, and hold an accepted table
@@ -71,13 +74,17 @@ module _ (f : List ℕ) where
         q .2,
         passed-both (check1 t) _ (yes-ask _ _ _ (lt-ltb 0 (length t) (omega arith)))
             (passed-both (check2 t) _ (yes-ask _ _ _ (le-leb (length t) maxTable (omega arith)))
-            (passed-both (check3 t) _ (yes-ask _ _ _ (eq-eqb (length t % frameSize) 0 (omega arith))) (q .3))),
+            (passed-both (check3 t) _ (yes-ask _ _ _ (eq-eqb (length t % frameSize) 0 (omega arith))) (q .4))),
       )
 
-  -- a file whose lines pass question 3 and hold an accepted table is accepted
-  pub table-accepted : fileCheck3 f ≡ none → Accepted (decoded f) → AcceptedFile f
+  -- and question 16
+  pub accepted-letters : AcceptedFile f → fileCheck16 f ≡ none
+  accepted-letters e = accepted-parts f e .3
+
+  -- a file whose lines pass questions 3 and 16 and hold an accepted table is accepted
+  pub table-accepted : fileCheck3 f ≡ none → fileCheck16 f ≡ none → Accepted (decoded f) → AcceptedFile f
   unfolding rejection fileRejection
-  table-accepted e accepted =
+  table-accepted e g accepted =
       let n = line-count f e in
       let m = decoded-length f e in
       let t = decoded f in
@@ -88,17 +95,18 @@ module _ (f : List ℕ) where
       let few-bytes = leb-true (length t) maxTable (ask-yes _ _ _ (b .0)) in
       passed-both (check1 f) _ (yes-ask _ _ _ (lt-ltb 0 (length f) (omega arith)))
       (passed-both (fileCheck2 f) _ (yes-ask _ _ _ (le-leb (length f) maxFile (omega arith)))
-      (passed-both (fileCheck3 f) _ e (c .1)))
+      (passed-both (fileCheck3 f) _ e (passed-both (fileCheck16 f) _ g (c .1))))
 
   -- a file is accepted exactly if it is as SPEC 2 and 3 state it
   pub accepted-exactly : AcceptedFile f ↔ FileAsStated f
   accepted-exactly = (
     λ e. (let p = accepted-table e in
         record {
-          line = lines-stated 0 (linesOf f) (p .0);
+          line = lines-stated 0 (linesOf f) (p .0) (accepted-letters e);
           table = accepted-stated (decoded f) (p .1);
         }),
-    λ s. table-accepted (stated-lines 0 (linesOf f) (s .line)) (stated-accepted (decoded f) (s .table)),
+    λ s. (let p = stated-lines 0 (linesOf f) (s .line) in
+        table-accepted (p .0) (p .1) (stated-accepted (decoded f) (s .table))),
   )
 
   -- an accepted file has a node for every 13 bytes, and for the last 12 if the last line feed is missing
@@ -127,3 +135,15 @@ module _ (f : List ℕ) where
       let p = accepted-table e .0 in
       let fits = le-leb (frameSize * length (linesOf f)) (length table) (omega (arith, frame-count f p)) in
       (rw (e, fits), rw (e, fits))
+
+  -- into a table that has room for every file, the reader rejects by questions 1 to 9 and 16 only
+  pub roomy-rejected : (table : List ℕ) → maxTable ≤ length table → (r : Rejection) → Rejected r ≡ readAnswer f table
+      → fileRejection f ≡ some r
+  unfolding readRejection
+  roomy-rejected table room r e = by-questions (fileRejection f) refl
+    where
+      by-questions : (q : Option Rejection) → fileRejection f ≡ q → q ≡ some r
+      by-questions none p =
+          let few = accepted-formed (decoded f) (accepted-table p .1) .few in
+          let nodes = e ∙ accepted-read table p (omega arith) .0 in clash (cc)
+      by-questions (some x) p = let same : Rejected r ≡ Rejected x = (rw p at e) in cc

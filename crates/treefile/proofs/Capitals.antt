@@ -12,11 +12,12 @@ use borrow.Author.Tests.{lt-ltb, le-ltb, eq-eqb}
 use Rattle.lists.proofs.Choice.{true-not-false, and-both, or-right}
 use Rattle.frames.specs.Frame.{frameSize}
 use Rattle.treefile.specs.Digit.{within, noDigit, digitOf}
-use Rattle.treefile.specs.Line.{lineDigits, lineFeed, allDigits, isLine, bytesOf}
+use Rattle.treefile.specs.Line.{lineDigits, lineFeed, allDigits, isLine, hasSmall, bytesOf}
 use Rattle.treefile.specs.Lines.{putBefore, linesOf}
 use Rattle.treefile.specs.Encoded.{capitalOf, digitsOf}
 use Rattle.treefile.specs.results.Saved.{Bytes, isCapitalDigit}
 use Rattle.treefile.proofs.Digits.{inside, above}
+use Rattle.treefile.proofs.CapitalDigits.{capitals-all}
 use Rattle.treefile.proofs.Laying.{digits-length}
 use Rattle.treefile.proofs.Splits.{feed-no-digit}
 
@@ -54,19 +55,17 @@ digits-capital (b ∷ bs) h zero l = capital-is (b / 16) (omega (arith, h 0 (ome
 digits-capital (b ∷ bs) h (suc zero) l = capital-is (b % 16) (omega arith)
 digits-capital (b ∷ bs) h (suc (suc k)) l = digits-capital bs (later b bs h) k (omega arith)
 
--- they are digits to the reader
-pub digits-read : (bs : List ℕ) → Bytes bs → allDigits (digitsOf bs) ≡ true
-unfolding digitsOf allDigits
-digits-read [] h = refl
-digits-read (b ∷ bs) h =
-    let high : b / 16 < noDigit = omega (arith, h 0 (omega arith)) in
-    let low : b % 16 < noDigit = omega arith in
-    rw (
-      digit-capital (b / 16) high,
-      digit-capital (b % 16) low,
-      lt-ltb (b / 16) noDigit high,
-      lt-ltb (b % 16) noDigit low,
-    ) (digits-read bs (later b bs h))
+module _ (bs : List ℕ) (h : Bytes bs) where
+  digits-are : (allDigits (digitsOf bs) ≡ true) × (hasSmall (digitsOf bs) ≡ false)
+  digits-are = capitals-all (digitsOf bs) (λ k l. digits-capital bs h k (omega (arith, digits-length bs)))
+
+  -- they are digits to the reader
+  pub digits-read : allDigits (digitsOf bs) ≡ true
+  digits-read = digits-are .0
+
+  -- and none is a small letter
+  pub digits-large : hasSmall (digitsOf bs) ≡ false
+  digits-large = digits-are .1
 
 -- and stand for the bytes
 pub bytes-back : (bs : List ℕ) → Bytes bs → bytesOf (digitsOf bs) ≡ bs

@@ -12,9 +12,9 @@ use Rattle.frames.specs.Place.{placeWithin, placeOf}
 use Rattle.frames.specs.Rejection.{_andThen_, eachNode}
 use Rattle.frames.specs.Check.{framesRejection, rejection}
 use Rattle.treefile.specs.Digit.{digitOf}
-use Rattle.treefile.specs.Line.{lineFeed, allDigits, isLine, bytesOf}
+use Rattle.treefile.specs.Line.{lineFeed, allDigits, isLine, hasSmall, bytesOf}
 use Rattle.treefile.specs.Lines.{putBefore, linesOf, decode, decoded}
-use Rattle.treefile.specs.File.{eachLine, fileCheck3, fileRejection, AcceptedFile, readRejection}
+use Rattle.treefile.specs.File.{eachLine, fileCheck3, fileCheck16, fileRejection, AcceptedFile, readRejection}
 use Rattle.treefile.specs.Encoded.{capitalOf, digitsOf, lineOf, encode}
 use Rattle.treefile.specs.Write.{writeRejection}
 use Rattle.treefile.specs.results.Cases.{computed, cases, performed, writings}
@@ -23,7 +23,7 @@ use Rattle.treefile.proofs.Acceptance.{accepted-nodes}
 
 -- each case is as stated
 pub small-files : map computed cases ≡ cases
-unfolding digitOf allDigits isLine bytesOf linesOf decode eachLine fileRejection readRejection
+unfolding digitOf allDigits isLine hasSmall bytesOf linesOf decode eachLine fileRejection readRejection
     next placeWithin placeOf eachNode framesRejection
 small-files = refl
 
@@ -33,8 +33,9 @@ unfolding capitalOf digitsOf lineOf encode rejection writeRejection next placeWi
 small-writings = refl
 
 module _ (f : List ℕ) where
-  -- 53,248 bytes are never too many: question 3 and those on frames decide
-  pub full-file : length f ≡ 53248 → fileRejection f ≡ (fileCheck3 f andThen framesRejection (decoded f))
+  -- 53,248 bytes are never too many: questions 3 and 16 and those on frames decide
+  pub full-file : length f ≡ 53248
+      → fileRejection f ≡ (fileCheck3 f andThen fileCheck16 f andThen framesRejection (decoded f))
   full-file e = sized f (omega arith) (omega arith)
 
   -- 53,249 bytes are too many, whatever they are

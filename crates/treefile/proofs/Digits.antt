@@ -20,12 +20,16 @@ module _ (a z b : ℕ) where
   pub above : z < b → within a z b ≡ false
   above p = rw (lt-leb b z p) (and-false (leb a b))
 
+  -- and a byte in it is neither
+  pub bounds : within a z b ≡ true → (a ≤ b) × (b ≤ z)
+  bounds e = let p = and-eq-true-iff (leb a b) (leb b z) .0 e in (leb-true a b (p .0), leb-true b z (p .1))
+
   -- what a range gives is at most 16 if what it gives to its last byte is, and what stands for the others
   bounded : (x y : ℕ) → (b ≤ z → x ≤ noDigit) → y ≤ noDigit → cond (within a z b) x y ≤ noDigit
   bounded x y p q = go (within a z b) refl
     where
       go : (w : Bool) → within a z b ≡ w → cond w x y ≤ noDigit
-      go true e = p (leb-true b z (and-eq-true-iff (leb a b) (leb b z) .0 e .1))
+      go true e = p (bounds e .1)
       go false e = q
 
 -- every byte gives 0 to 15, or 16

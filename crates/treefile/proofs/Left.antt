@@ -1,12 +1,13 @@
 -- The lines that are left at a position: reading one line takes the first of them.
 use Prim.Native.Nat.{ℕ, suc, _+_, _<_}
-use mathlib.Core.Path.{_≡_, ap, _∙_}
+use mathlib.Core.Path.{_≡_, sym, ap, _∙_}
 use mathlib.Core.Bool.{true, false}
-use mathlib.Core.Option.{some}
+use mathlib.Core.Option.{none, some}
 use mathlib.Core.List.{List, _∷_}
 use lib.ListN.{length, getD, take, drop}
 use lib.Seq.{drop-cons, drop-drop}
 use native.Mathlib.Omega.{arith}
+use Rattle.frames.proofs.Stated.{ask-yes, both-passed}
 use Rattle.treefile.specs.Line.{lineDigits, isLine, isLineAt}
 use Rattle.treefile.specs.Lines.{linesOf}
 use Rattle.treefile.specs.File.{eachLine, lineCheck3}
@@ -26,6 +27,12 @@ module _ (f : List ℕ) (at : ℕ) where
   first-is : isLine (firstLine left) ≡ isLineAt f at
   unfolding isLine isLineAt
   first-is = first-digits lineDigits left ∙ rw (drop-drop lineDigits at f)
+
+  -- where question 3 passes for the lines that are left, a line stands at the position
+  pub line-stands : (n : ℕ) → at < length f → eachLine lineCheck3 n (linesOf left) ≡ none → isLineAt f at ≡ true
+  unfolding eachLine
+  line-stands n h e =
+      sym first-is ∙ ask-yes _ _ _ (both-passed (lineCheck3 n (firstLine left)) _ (rw (lines-left h) at e) .0)
 
   -- a line that stands at the position is the first that is left
   pub lines-next : isLineAt f at ≡ true

@@ -1,6 +1,7 @@
 -- Lemmas on digits, lines and files, and the theorems on the reader and the writer.
-mod Digits
+pub mod Digits
 mod DigitArithmetic
+mod CapitalDigits
 mod Lines
 mod Storing
 mod Numbering
@@ -8,13 +9,15 @@ mod Positions
 mod Splits
 mod Left
 mod Decoding
+mod Letters
 mod Counts
-mod Reading
+pub mod Reading
 mod Laying
 mod Writing
 mod Questions
 mod Capitals
 pub mod Acceptance
+pub mod DecodedBytes
 pub mod RoundTrip
 pub mod Saving
 pub mod FirstLine

@@ -16,7 +16,7 @@ use Rattle.frames.specs.Check.{check1, framesRejection}
 use Rattle.frames.proofs.Stated.{ask-yes, both-passed}
 use Rattle.frames.proofs.Asked.{answer-nodes, answer-rejected}
 use Rattle.treefile.specs.Lines.{linesOf, decoded}
-use Rattle.treefile.specs.File.{maxFile, fileCheck2, fileCheck3, fileRejection}
+use Rattle.treefile.specs.File.{maxFile, fileCheck2, fileCheck3, fileCheck16, fileRejection}
 use Rattle.treefile.specs.File.{readRejection, readAnswer, tableAfter}
 use Rattle.treefile.specs.engine.Decoded.{Decoded}
 use Rattle.treefile.proofs.Decoding.{decoded-refused}
@@ -33,24 +33,27 @@ module _ (f : List ℕ) where
   unfolding fileRejection
   long-refused h = rw (lt-ltb 0 (length f) (omega arith), lt-leb (length f) maxFile h)
 
-  -- a file that passes both is left to question 3 and the questions on frames
+  -- a file that passes both is left to questions 3 and 16 and to those on frames
   pub sized : 0 < length f → length f ≤ maxFile
-      → fileRejection f ≡ (fileCheck3 f andThen framesRejection (decoded f))
+      → fileRejection f ≡ (fileCheck3 f andThen fileCheck16 f andThen framesRejection (decoded f))
   unfolding fileRejection
   sized h k = rw (lt-ltb 0 (length f) h, le-leb (length f) maxFile k)
 
   -- what an accepted file has passed
   pub accepted-parts : fileRejection f ≡ none
-      → (0 < length f) × (length f ≤ maxFile) × (fileCheck3 f ≡ none) × (framesRejection (decoded f) ≡ none)
+      → (0 < length f) × (length f ≤ maxFile) × (fileCheck3 f ≡ none) × (fileCheck16 f ≡ none)
+      × (framesRejection (decoded f) ≡ none)
   unfolding fileRejection
   accepted-parts e =
       let a = both-passed (check1 f) _ e in
       let b = both-passed (fileCheck2 f) _ (a .1) in
-      let c = both-passed (fileCheck3 f) _ (b .1) in (
+      let c = both-passed (fileCheck3 f) _ (b .1) in
+      let d = both-passed (fileCheck16 f) _ (c .1) in (
         ltb-true 0 (length f) (ask-yes _ _ _ (a .0)),
         leb-true (length f) maxFile (ask-yes _ _ _ (b .0)),
         c .0,
-        c .1,
+        d .0,
+        d .1,
       )
 
 -- a table whose front holds a file's n frames, after questions that passed
@@ -84,21 +87,27 @@ module _ (f : List ℕ) (x : Option Rejection) (table : List ℕ) (r : Checked) 
   pub decoded-rejected : (y : Rejection) → r ≡ Rejected y → x ≡ some y
   decoded-rejected y e = answer-rejected (frames (decoded f)) y x (sym e ∙ d .answered)
 
-module _ (f table : List ℕ) (r : Checked) (some-bytes : 0 < length f) (few-bytes : length f ≤ maxFile) where
+module _ (f table : List ℕ) (some-bytes : 0 < length f) (few-bytes : length f ≤ maxFile) where
   -- question 3
-  pub lines-refused : Decoded f (fileCheck3 f) table r → (y : Rejection) → r ≡ Rejected y
+  pub lines-refused : (r : Checked) → Decoded f (fileCheck3 f) table r → (y : Rejection) → r ≡ Rejected y
       → Decoded f (fileRejection f) table r
-  lines-refused d y e =
+  lines-refused r d y e =
       let refused = decoded-rejected f (fileCheck3 f) table r d y e in
       rw e (decoded-refused f (fileRejection f) table y (sized f some-bytes few-bytes ∙ rw refused))
 
+  -- question 16
+  pub letters-refused : (n : ℕ) → Front f (fileCheck3 f) table n → (y : Rejection) → fileCheck16 f ≡ some y
+      → Decoded f (fileRejection f) table (Rejected y)
+  letters-refused n w y e =
+      decoded-refused f (fileRejection f) table y (sized f some-bytes few-bytes ∙ rw (w .passed, e))
+
   -- questions 4 to 9, put to the front of the table
-  pub frames-asked : (n : ℕ) → Front f (fileCheck3 f) table n
+  pub frames-asked : (r : Checked) (n : ℕ) → Front f (fileCheck3 f) table n → fileCheck16 f ≡ none
       → r ≡ answer (frames (take (frameSize * n) table)) (framesRejection (take (frameSize * n) table))
       → Decoded f (fileRejection f) table r
-  frames-asked n w e =
+  frames-asked r n w c e =
       record {
-        answered = e ∙ rw (w .bytes, sized f some-bytes few-bytes, w .passed);
+        answered = e ∙ rw (w .bytes, sized f some-bytes few-bytes, w .passed, c);
         filled = λ p. rw (← w .size) (w .bytes);
       }
 

@@ -16,11 +16,12 @@ use Rattle.frames.proofs.Stated.{yes-ask, passed-both}
 use Rattle.frames.proofs.Acceptance.{accepted-stated}
 use Rattle.treefile.specs.Line.{lineDigits, lineFeed, lineSize}
 use Rattle.treefile.specs.Lines.{linesOf, decode, decoded}
-use Rattle.treefile.specs.File.{eachLine, lineCheck3, AcceptedFile, readAnswer, tableAfter}
+use Rattle.treefile.specs.File.{eachLine, lineCheck3, lineCheck16, AcceptedFile, readAnswer, tableAfter}
 use Rattle.treefile.specs.Encoded.{digitsOf, lineOf, encode, fileOf}
 use Rattle.treefile.specs.results.Saved.{Bytes, isCapitalDigit, InCapitals}
 use Rattle.treefile.proofs.Acceptance.{table-accepted, accepted-read}
-use Rattle.treefile.proofs.Capitals.{digits-capital, digits-read, bytes-back, frame-line, digits-first}
+use Rattle.treefile.proofs.Capitals.{digits-capital, digits-large, digits-read, bytes-back}
+use Rattle.treefile.proofs.Capitals.{frame-line, digits-first}
 use Rattle.treefile.proofs.Laying.{digits-length, line-size, line-feed}
 use Rattle.treefile.proofs.Questions.{file-length}
 
@@ -151,6 +152,7 @@ module _ (t : List ℕ) (accepted : Accepted t) where
     written-accepted =
         table-accepted (fileOf t)
         (each-written lineCheck3 (λ i frame six h. yes-ask _ _ _ (frame-line frame six h)) (frames t) 0 t whole bytes)
+        (each-written lineCheck16 (λ i frame six h. rw (digits-large frame h)) (frames t) 0 t whole bytes)
         (rw written-decoded accepted)
 
     -- reading a written file into any table with room restores the table exactly, and keeps what lies past it

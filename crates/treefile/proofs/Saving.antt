@@ -21,7 +21,32 @@ use Rattle.treefile.specs.results.Saved.{Bytes, Saved}
 use Rattle.treefile.proofs.Questions.{passed-room, room-passed}
 use Rattle.treefile.proofs.RoundTrip.{written-length, written-read, written-once}
 
+-- what the outcome of writing a table holds, by the first "no" x to the questions before it, where it gives a length
+pub record LengthWritten (t file : List ℕ) (x : Option Rejection) (n : ℕ) : Type 0 where
+  pub passed : x ≡ none
+  pub size : n ≡ length (fileOf t)
+  pub front : take n (written t file x .file) ≡ fileOf t
+  pub past : drop n (written t file x .file) ≡ drop n file
+
 module _ (t file : List ℕ) where
+  pub length-written : (x : Option Rejection) (n : ℕ) → written t file x .answer ≡ Length n
+      → LengthWritten t file x n
+  length-written none n e =
+      let same : length (fileOf t) ≡ n = cc in
+      record {
+        passed = refl;
+        size = sym same;
+        front = take-at (fileOf t) _ n same;
+        past = rw (drop-at (fileOf t) _ n same, same);
+      }
+  length-written (some r) n e = clash (cc)
+
+  -- and where it gives a rejection
+  pub rejection-written : (x : Option Rejection) (r : Rejection) → written t file x .answer ≡ Rejected r
+      → (x ≡ some r) × (written t file x .file ≡ file)
+  rejection-written none r e = clash (cc)
+  rejection-written (some x) r e = (cc, refl)
+
   -- an accepted table and room for its file give a length
   pub write-gives : Accepted t → lineSize * frames t ≤ length file
       → writeOutcome t file .answer ≡ Length (lineSize * frames t)
@@ -35,30 +60,15 @@ module _ (t file : List ℕ) where
 
   -- where there is a length, the buffer begins with the file of an accepted table, and keeps what lies past it
   pub write-saves : (n : ℕ) → writeOutcome t file .answer ≡ Length n → Saved t file n
-  write-saves n e = by-questions (writeRejection t (length file)) refl e
-    where
-      by-questions : (q : Option Rejection) → writeRejection t (length file) ≡ q → written t file q .answer ≡ Length n
-          → Saved t file n
-      by-questions none p e =
-          let a = passed-room t (length file) p .0 in
-          let same : length (fileOf t) ≡ n = cc in
-          record {
-            accepted = a;
-            size = sym same ∙ written-length t a;
-            front = rw p (take-at (fileOf t) _ n same);
-            past = rw (p, drop-at (fileOf t) _ n same, same);
-          }
-      by-questions (some r) p e = clash (cc)
+  write-saves n e =
+      let w = length-written (writeRejection t (length file)) n e in
+      let a = passed-room t (length file) (w .passed) .0 in
+      record { accepted = a; size = w .size ∙ written-length t a; front = w .front; past = w .past }
 
   -- where there is a rejection, it is the first "no", and the buffer is as it was
   pub write-keeps : (r : Rejection) → writeOutcome t file .answer ≡ Rejected r
       → (writeRejection t (length file) ≡ some r) × (writeOutcome t file .file ≡ file)
-  write-keeps r e = by-questions (writeRejection t (length file)) refl e
-    where
-      by-questions : (q : Option Rejection) → writeRejection t (length file) ≡ q → written t file q .answer ≡ Rejected r
-          → (writeRejection t (length file) ≡ some r) × (writeOutcome t file .file ≡ file)
-      by-questions none p e = clash (cc)
-      by-questions (some x) p e = (p ∙ cc, rw p)
+  write-keeps = rejection-written (writeRejection t (length file))
 
   -- reading the bytes that were written into any table with room restores the table exactly
   pub saved-read : (n : ℕ) → writeOutcome t file .answer ≡ Length n → Bytes t → (table : List ℕ)

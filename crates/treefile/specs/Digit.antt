@@ -7,6 +7,10 @@ use lib.Dec.{leb}
 abbrev pub within : ℕ → ℕ → ℕ → Bool
 within a z b = leb a b && leb b z
 
+-- is the byte a small letter, a to f
+abbrev pub isSmall : ℕ → Bool
+isSmall b = within 97 102 b
+
 -- what stands for no digit
 abbrev pub noDigit : ℕ
 noDigit = 16

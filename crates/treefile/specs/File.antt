@@ -1,6 +1,7 @@
 -- The reader of a file: its questions in order, its answer, and what it leaves in the lent table.
 use Prim.Native.Nat.{ℕ, _+_, _*_}
 use mathlib.Core.Path.{_≡_}
+use mathlib.Core.Bool.{not}
 use mathlib.Core.Option.{Option, none, some}
 use mathlib.Core.List.{List, [], _∷_, _++_}
 use lib.Dec.{leb}
@@ -10,7 +11,7 @@ use Rattle.frames.specs.declared.Checked.{Checked}
 use Rattle.frames.specs.Frame.{frameSize, maxNodes, frames}
 use Rattle.frames.specs.Rejection.{ask, _andThen_, answer}
 use Rattle.frames.specs.Check.{check1, framesRejection}
-use Rattle.treefile.specs.Line.{lineSize, isLine}
+use Rattle.treefile.specs.Line.{lineSize, isLine, hasSmall}
 use Rattle.treefile.specs.Lines.{linesOf, decoded}
 
 -- the most bytes of a file, 53,248: a line and its line feed for each node
@@ -34,15 +35,24 @@ lineCheck3 i l = ask (isLine l) 3 i
 abbrev pub fileCheck3 : List ℕ → Option Rejection
 fileCheck3 f = eachLine lineCheck3 0 (linesOf f)
 
+-- 16: has the line no small letter?
+abbrev pub lineCheck16 : ℕ → List ℕ → Option Rejection
+lineCheck16 i l = ask (not (hasSmall l)) 16 i
+
+-- the place is the number of the first line that has one
+abbrev pub fileCheck16 : List ℕ → Option Rejection
+fileCheck16 f = eachLine lineCheck16 0 (linesOf f)
+
 -- 10: has the lent table six bytes for each line?
 abbrev pub fileCheck10 : List ℕ → List ℕ → Option Rejection
 fileCheck10 f table = ask (leb (frameSize * length (linesOf f)) (length table)) 10 0
 
--- the first "no" to questions 1 to 9: 1 to 3 concern the file, 4 to 9 its frames
+-- the first "no" to questions 1 to 3 and 16, which concern the file, and 4 to 9, which concern its frames
 unfoldable pub fileRejection : List ℕ → Option Rejection
-fileRejection f = check1 f andThen fileCheck2 f andThen fileCheck3 f andThen framesRejection (decoded f)
+fileRejection f =
+    check1 f andThen fileCheck2 f andThen fileCheck3 f andThen fileCheck16 f andThen framesRejection (decoded f)
 
--- a file that is accepted: questions 1 to 9 get no "no"
+-- a file that is accepted: none of these gets a "no"
 abbrev pub AcceptedFile : List ℕ → Type 0
 AcceptedFile f = fileRejection f ≡ none
 

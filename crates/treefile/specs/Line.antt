@@ -1,10 +1,10 @@
 -- One line of a file: twelve digits, and the six bytes that they stand for.
 use Prim.Native.Nat.{ℕ, _+_, _*_, min}
-use mathlib.Core.Bool.{Bool, true, cond, _&&_}
+use mathlib.Core.Bool.{Bool, true, false, cond, _&&_, _||_}
 use mathlib.Core.List.{List, [], _∷_}
 use lib.Dec.{ltb, eqb}
 use lib.ListN.{length, getD, take, drop}
-use Rattle.treefile.specs.Digit.{noDigit, digitOf}
+use Rattle.treefile.specs.Digit.{isSmall, noDigit, digitOf}
 use Rattle.treefile.specs.declared.Frame.{Frame}
 use Rattle.treefile.specs.declared.Line.{Line}
 use Rattle.treefile.specs.declared.Line.the-variants.{Read, NoLine}
@@ -29,6 +29,11 @@ allDigits (b ∷ l) = ltb (digitOf b) noDigit && allDigits l
 -- is a line, without its line feed, as SPEC 2.2 says
 unfoldable pub isLine : List ℕ → Bool
 isLine l = eqb (length l) lineDigits && allDigits l
+
+-- has it a small letter
+unfoldable pub hasSmall : List ℕ → Bool
+hasSmall [] = false
+hasSmall (b ∷ l) = isSmall b || hasSmall l
 
 -- the byte of two digits, the high one first
 abbrev pub hexByte : ℕ → ℕ → ℕ

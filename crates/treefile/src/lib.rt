@@ -13,16 +13,18 @@ use frames::check_frames;
 use frames::rejected;
 ghost use mathlib.Core.Path.{_≡_};
 ghost use mathlib.Core.List.{_++_};
+ghost use mathlib.Core.Option.{none};
 ghost use Prim.Native.Nat.{_+_, _*_, _<_, _≤_};
 ghost use lib.ListN.{length, drop};
 ghost use Rattle.frames.specs.Frame.{frameSize, maxNodes, maxTable, frames};
 ghost use Rattle.frames.specs.Rejection.{answer};
-ghost use Rattle.treefile.specs.Digit.{noDigit, digitOf};
+ghost use Rattle.treefile.specs.Digit.{isSmall, noDigit, digitOf};
 ghost use Rattle.treefile.specs.engine.Kinds.{oneWithin};
 ghost use Rattle.treefile.specs.engine.Numbered.{abreast, Numbered};
-ghost use Rattle.treefile.specs.Line.{lineDigits, lineSize, allDigits, bytesOf, frameOf};
+ghost use Rattle.treefile.specs.Line.{lineDigits, lineSize, allDigits, hasSmall, bytesOf, frameOf};
 ghost use Rattle.treefile.specs.Line.{closed, isLineAt, bytesAt, lineAt};
-ghost use Rattle.treefile.specs.File.{maxFile, fileCheck3, fileRejection, readAnswer, tableAfter};
+ghost use Rattle.treefile.specs.Lines.{linesOf};
+ghost use Rattle.treefile.specs.File.{maxFile, fileCheck3, fileCheck16, fileRejection, readAnswer, tableAfter};
 ghost use Rattle.treefile.specs.Encoded.{capitalOf, lineOf, encode};
 ghost use Rattle.treefile.specs.Write.{writeRejection, writeOutcome};
 ghost use Rattle.treefile.specs.engine.Decoded.{Decoded, Stored};
@@ -55,7 +57,10 @@ const BYTES: u32 = 256;
 // The bytes of a line with its line feed, and the most bytes of a file.
 pub const LINE_SIZE: usize = LINE_DIGITS + 1;
 
-const MAX_FILE: usize = LINE_SIZE * MAX_NODES;
+pub const MAX_FILE: usize = LINE_SIZE * MAX_NODES;
+
+// The number of the question about small letters (SPEC 4.2).
+const SMALL_LETTER: u8 = 16;
 
 // A node's six bytes (01: a frame).
 pub struct Frame {
@@ -158,7 +163,7 @@ fn one_within(first: u8, last: u8, byte: u8) -> u32
     (b + BYTES - first as u32) / BYTES - (b + BYTES - 1 - last as u32) / BYTES
 }
 
-// Questions 1 to 9: the number of nodes, whose frames then stand at the table's front, or the first rejection.
+// Questions 1 to 9 and 16: the number of nodes, whose frames then stand at the table's front, or the first rejection.
 fn check_file(file: &[u8], table: &mut [u8]) -> Checked
     requires { ⌜ maxTable ≤ length (now table) ⌝ }
     ensures { λ r. ⌜ Decoded (now (file .entry)) (fileRejection (now (file .entry))) (now (table .exit)) r ⌝ }
@@ -173,6 +178,9 @@ fn check_file(file: &[u8], table: &mut [u8]) -> Checked
     let Checked::Nodes(nodes) = lines else {
         return lines;
     };
+    if let Checked::Rejected(rejection) = check_letters(file, nodes) {
+        return Checked::Rejected(rejection);
+    }
     let end = FRAME_SIZE * nodes;
     check_frames(&table[..end])
 }
@@ -257,6 +265,42 @@ fn read_digits(digits: &[u8], numbers: &mut [u8]) -> u8
         others += number / BASE;
     }
     others
+}
+
+// Question 16, for a file whose lines have passed question 3: the number of lines, or the rejection.
+fn check_letters(file: &[u8], lines: usize) -> Checked
+    requires { ⌜ (fileCheck3 (now file) ≡ none) × (lines ≡ length (linesOf (now file))) ⌝ }
+    ensures { λ r. ⌜ r ≡ answer lines (fileCheck16 (now (file .entry))) ⌝ }
+{
+    for line in 0..lines {
+        let at = LINE_SIZE * line;
+        let end = at + LINE_DIGITS;
+        if has_small(&file[at..end]) {
+            return rejected(SMALL_LETTER, line);
+        }
+    }
+    Checked::Nodes(lines)
+}
+
+// Has a line a small letter? Every byte is looked at, so that no turn branches.
+fn has_small(line: &[u8]) -> bool
+    requires { ⌜ length (now line) ≡ lineDigits ⌝ }
+    ensures { λ r. ⌜ r ≡ hasSmall (now (line .entry)) ⌝ }
+{
+    let mut small = false;
+    for k in 0..LINE_DIGITS {
+        if is_small(line[k]) {
+            small = true;
+        }
+    }
+    small
+}
+
+// Is the byte a letter from a to f?
+fn is_small(byte: u8) -> bool
+    ensures { λ r. ⌜ r ≡ isSmall byte ⌝ }
+{
+    b'a' <= byte && byte <= b'f'
 }
 
 // Six bytes as a frame.

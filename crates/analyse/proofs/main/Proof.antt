@@ -2,7 +2,7 @@
 --
 use mathlib.Core.Path.{sym}
 use lib.Seq.{length-take-le}
-use Rattle.analyse.proofs.Reading.{fits}
+use Rattle.input.proofs.Reading.{fits}
 use borrow.Author.Needs.{needs}
 use Rattle.analyse.proofs.main.Statement.{statement}
 use Rattle.analyse.proofs.main.Tie as tie

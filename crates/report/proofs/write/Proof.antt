@@ -4,7 +4,8 @@ use Prim.Native.Nat.{ℕ}
 use lib.ListN.{length-replicate}
 use borrow.Author.Needs.{needs}
 use Rattle.report.specs.Report.{textSize}
-use Rattle.report.proofs.Reporting.{report-room, text-laid}
+use Rattle.report.proofs.Sizes.{report-few}
+use Rattle.report.proofs.Reporting.{text-room, text-laid}
 use Rattle.report.proofs.write.Statement.{statement}
 use Rattle.report.proofs.write.Tie as tie
 
@@ -12,7 +13,7 @@ slice-aggregate-put-report : tie.Need-slice-aggregate-put-report
 slice-aggregate-put-report c = search needs
 
 put-report-requires : tie.Need-put-report-requires
-put-report-requires c κs = report-room _ (omega (arith, length-replicate {A = ℕ} textSize 0))
+put-report-requires c κs = text-room _ (report-few _) (omega (arith, length-replicate {A = ℕ} textSize 0))
 
 returns : tie.Need-returns
 returns c = text-laid _ (c .before .put-report .ensures)

@@ -16,7 +16,7 @@ computed c = report (text (c .file))
 abbrev pub expected : Case → List ℕ
 expected c = text (c .prints)
 
--- the example of SPEC 12.1; a root that is a leaf of -5; a file of one line feed; no byte
+-- the example of SPEC 12.1; a root that is a leaf of -5, and in small letters; a file of one line feed; no byte
 abbrev pub cases : List Case
 cases =
     record {
@@ -24,6 +24,7 @@ cases =
       prints = "method value move leaves\nab 3 2 4\nmtd 3 2 3\nsss 3 2 3\n";
     }
     ∷ record { file = "00000000FFFB\n"; prints = "method value move leaves\nab -5 0 1\nmtd -5 0 1\nsss -5 0 1\n" }
+    ∷ record { file = "00000000fffb\n"; prints = "refused 16 0\n" }
     ∷ record { file = "\n"; prints = "refused 3 0\n" }
     ∷ record { file = ""; prints = "refused 1 0\n" }
     ∷ []

@@ -1,14 +1,16 @@
 -- `treefile::check_file` meets its contract: each way out is that of one question, or of the questions on frames.
 --
-use mathlib.Core.Path.{sym}
+use mathlib.Core.Path.{_≡_, sym, _∙_}
+use mathlib.Core.Option.{none}
 use native.Mathlib.Omega.{arith}
 use borrow.Author.Needs.{needs}
 use denote.Ref.{now}
 use lib.Seq.{length-take-le}
-use Rattle.treefile.specs.File.{fileCheck3}
+use Rattle.frames.proofs.Asked.{answer-nodes, answer-rejected}
+use Rattle.treefile.specs.File.{fileCheck3, fileCheck16}
 use Rattle.treefile.proofs.Decoding.{decoded-refused}
 use Rattle.treefile.proofs.Reading.{Front, decoded-front, empty-refused, long-refused}
-use Rattle.treefile.proofs.Reading.{lines-refused, frames-asked}
+use Rattle.treefile.proofs.Reading.{lines-refused, letters-refused, frames-asked}
 use Rattle.treefile.proofs.check_file.Statement.{statement}
 use Rattle.treefile.proofs.check_file.Tie as tie
 
@@ -21,6 +23,14 @@ front : (c : tie.After-known-told) →
 front c =
     let d = c .before .before .before .before .before .decode in
     decoded-front _ _ _ _ (d .ensures) (λ p. (omega arith, p)) _ (c .before .lines .given .1)
+
+-- and question 16
+letters : (c : tie.After-enum-told2) →
+    let k = c .before .before .before in
+    let s = k .before .before .before .before .before .before .before .before .before .before .before in
+    fileCheck16 (now (s .args .file)) ≡ none
+letters c =
+    answer-nodes _ _ _ (sym (c .enum-told2 .given .1) ∙ c .before .before .check-letters .ensures) .0
 
 rejected-requires : tie.Need-rejected-requires
 rejected-requires c κs = search needs
@@ -49,25 +59,48 @@ same-length c = search needs
 returns-3 : tie.Need-returns-3
 returns-3 c =
     let d = c .before .before .before .before .decode in
-    lines-refused _ _ _ (omega arith) (omega arith) (d .ensures) _ (c .enum-told .given .1)
+    lines-refused _ _ (omega arith) (omega arith) _ (d .ensures) _ (c .enum-told .given .1)
 
-mul-end : tie.Need-mul-end
-mul-end c = omega (arith, front c .few)
+check-letters-requires : tie.Need-check-letters-requires
+check-letters-requires c κs = let w = front c in (w .passed, w .lines)
 
-slice-reshare-prefix-check-frames : tie.Need-slice-reshare-prefix-check-frames
-slice-reshare-prefix-check-frames c = omega (arith, front c .few)
-
-slice-aggregate-check-frames : tie.Need-slice-aggregate-check-frames
-slice-aggregate-check-frames c = sym (length-take-le _ _ (omega (arith, front (c .before) .few)))
-
-check-frames-requires : tie.Need-check-frames-requires
-check-frames-requires c κs = let w = front (c .before) in rw (w .bytes) (omega (arith, w .few, w .nodes))
+enum-known-rejection : tie.Need-enum-known-rejection
+enum-known-rejection c = search needs
 
 same-length-2 : tie.Need-same-length-2
 same-length-2 c = search needs
 
 returns-4 : tie.Need-returns-4
-returns-4 c = frames-asked _ _ _ (omega arith) (omega arith) _ (front (c .before .before)) (c .check-frames .ensures)
+returns-4 c =
+    let l = c .before .before .before in
+    letters-refused _ _ (omega arith) (omega arith) _ (front (l .before)) _
+    (answer-rejected _ _ _ (sym (c .before .rejection .given .1) ∙ l .check-letters .ensures))
+
+enum-told-2 : tie.Need-enum-told-2
+enum-told-2 c = search needs
+
+mul-end : tie.Need-mul-end
+mul-end c = omega (arith, front (c .before .before .before) .few)
+
+slice-reshare-prefix-check-frames : tie.Need-slice-reshare-prefix-check-frames
+slice-reshare-prefix-check-frames c = omega (arith, front (c .before .before .before) .few)
+
+slice-aggregate-check-frames : tie.Need-slice-aggregate-check-frames
+slice-aggregate-check-frames c =
+    sym (length-take-le _ _ (omega (arith, front (c .before .before .before .before) .few)))
+
+check-frames-requires : tie.Need-check-frames-requires
+check-frames-requires c κs =
+    let w = front (c .before .before .before .before) in rw (w .bytes) (omega (arith, w .few, w .nodes))
+
+same-length-3 : tie.Need-same-length-3
+same-length-3 c = search needs
+
+returns-5 : tie.Need-returns-5
+returns-5 c =
+    let t = c .before .before in
+    frames-asked _ _ (omega arith) (omega arith) _ _ (front (t .before .before .before)) (letters t)
+    (c .check-frames .ensures)
 
 pub check-file-spec : {M : Type 1} → statement M
 check-file-spec =
@@ -82,9 +115,14 @@ check-file-spec =
     enum-told
     same-length
     returns-3
+    check-letters-requires
+    enum-known-rejection
+    same-length-2
+    returns-4
+    enum-told-2
     mul-end
     slice-reshare-prefix-check-frames
     slice-aggregate-check-frames
     check-frames-requires
-    same-length-2
-    returns-4)
+    same-length-3
+    returns-5)

@@ -58,10 +58,10 @@ refused f table q p =
 -- the cases that proofs/Cases.antt computes
 abbrev pub cases : List Case
 cases =
-    -- one line, with its line feed or without, in either letter case
+    -- one line, with its line feed or without
     leaf "000000000005\n" 0 5
     ∷ leaf "000000000005" 0 5
-    ∷ leaf "00000000fFFb\n" 255 251
+    ∷ leaf "00000000FFFB\n" 255 251
     -- no byte; a lone line feed; a blank line at the end; CR LF; a digit too few or too many; a letter that is no digit
     ∷ refused "" eight 1 0
     ∷ refused "\n" eight 3 0
@@ -70,6 +70,11 @@ cases =
     ∷ refused "00000000005\n" eight 3 0
     ∷ refused "0000000000005\n" eight 3 0
     ∷ refused "000000000005\n00000000000g\n" eight 3 1
+    -- a small letter; every line is asked 3 before the first is asked 16; the frames are asked after 16, 10 after all
+    ∷ refused "00000000fFFB\n" eight 16 0
+    ∷ refused "00000000FFFb" [] 16 0
+    ∷ refused "00000000000f\n00000000000g\n" eight 3 1
+    ∷ refused "000000010005\n00000000000a\n" eight 16 1
     -- the frames are asked before the lent table
     ∷ refused "000000010005\n" [] 4 0
     ∷ refused "000000000005\n" (9 ∷ 9 ∷ 9 ∷ 9 ∷ 9 ∷ []) 10 0

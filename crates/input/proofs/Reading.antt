@@ -3,9 +3,9 @@ use Prim.Native.Nat.{ℕ, _≤_}
 use mathlib.Core.Path.{_≡_, subst}
 use mathlib.Core.List.{List}
 use lib.ListN.{length}
-use Rattle.analyse.specs.engine.Input.{Fits}
-use Rattle.analyse.specs.declared.Input.{Input}
-use Rattle.analyse.specs.declared.Input.the-variants.{Bytes}
+use Rattle.input.specs.Input.{Fits}
+use Rattle.input.specs.declared.Input.{Input}
+use Rattle.input.specs.declared.Input.the-variants.{Bytes}
 
 -- what was read fits
 pub fits : (file : List ℕ) (r : Input) (n : ℕ) → Fits file r → r ≡ Bytes n → n ≤ length file

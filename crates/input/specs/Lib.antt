@@ -1,2 +1,2 @@
 -- Definitions of what reading the input promises.
-pub mod engine
+pub mod Input

@@ -1,13 +1,13 @@
--- `analyse::read_all` meets its contract: the bytes read so far fit. The measure is the room that is left.
+-- `input::read_all` meets its contract: the bytes read so far fit. The measure is the room that is left.
 --
 use Prim.Native.Nat.{_≤_, _-_}
 use mathlib.Core.Path.{_≡_}
 use native.Mathlib.Omega.{arith}
 use borrow.Author.Needs.{needs}
 use lib.ListN.{length}
-use Rattle.analyse.proofs.Reading.{fits}
-use Rattle.analyse.proofs.read_all.Statement.{statement}
-use Rattle.analyse.proofs.read_all.Tie as tie
+use Rattle.input.proofs.Reading.{fits}
+use Rattle.input.proofs.read_all.Statement.{statement}
+use Rattle.input.proofs.read_all.Tie as tie
 
 abbrev Inv-loop : tie.InvT-loop
 Inv-loop file₀ size₀ file size = (size ≤ length file) × (length file ≡ length file₀)

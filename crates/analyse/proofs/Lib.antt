@@ -1,2 +1,0 @@
--- Why the program meets its contracts.
-mod Reading

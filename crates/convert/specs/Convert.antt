@@ -1,0 +1,19 @@
+-- The converter of a file: its questions in order, its answer, and what it leaves in the lent buffer.
+use Prim.Native.Nat.{ℕ}
+use mathlib.Core.Option.{Option}
+use mathlib.Core.List.{List}
+use lib.ListN.{length}
+use Rattle.frames.specs.declared.Rejection.{Rejection}
+use Rattle.frames.specs.Rejection.{_andThen_}
+use Rattle.treefile.specs.Lines.{decoded}
+use Rattle.treefile.specs.File.{fileRejection}
+use Rattle.treefile.specs.Write.{Outcome, writeCheck10, written}
+use Rattle.convert.specs.Lift.{lifted}
+
+-- the first "no": the reader's questions to the lifted file, and then 10 for a buffer of so many bytes
+unfoldable pub convertRejection : List ℕ → ℕ → Option Rejection
+convertRejection f room = fileRejection (lifted f) andThen writeCheck10 (decoded (lifted f)) room
+
+-- the outcome of a call with a file and a buffer: that of writing the table of the lifted file
+unfoldable pub convertOutcome : List ℕ → List ℕ → Outcome
+convertOutcome f buffer = written (decoded (lifted f)) buffer (convertRejection f (length buffer))

@@ -1,0 +1,4 @@
+-- Definitions of what converting a file means.
+pub mod Lift
+pub mod Convert
+pub mod results

@@ -1,0 +1,13 @@
+-- Small letters lifted to capitals.
+use Prim.Native.Nat.{ℕ, _-_}
+use mathlib.Core.Bool.{cond}
+use mathlib.Core.List.{List, map}
+use Rattle.treefile.specs.Digit.{isSmall}
+
+-- the capital of a letter a to f, the bytes 97 to 102; any other byte as it is
+unfoldable pub lift : ℕ → ℕ
+lift b = cond (isSmall b) (b - 32) b
+
+-- the bytes of a file so lifted
+abbrev pub lifted : List ℕ → List ℕ
+lifted f = map lift f

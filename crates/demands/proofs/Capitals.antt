@@ -1,0 +1,116 @@
+-- Capitals only (02: N7), sentence by sentence, over the definitions that the contracts of the reader and of the
+-- converter cite. "lifts the letters a to f to capitals and then reads and writes as in N3": `convertOutcome` in
+-- convert/specs/Convert.antt.
+use Prim.Native.Nat.{ℕ, _*_, _≤_, _<_}
+use native.Mathlib.Omega.{arith}
+use mathlib.Core.Path.{_≡_, ap, _∙_}
+use mathlib.Core.Logic.{_↔_}
+use mathlib.Core.Bool.{true, false, not}
+use mathlib.Core.Option.{none, some}
+use mathlib.Core.List.{List, [], _++_}
+use lib.ListN.{length, getD, take, drop}
+use borrow.Author.Tests.{not-true, not-false}
+use Rattle.frames.specs.declared.Rejection.{Rejection}
+use Rattle.frames.specs.declared.Checked.the-variants.{Rejected as RejectedTable}
+use Rattle.frames.specs.Frame.{frames}
+use Rattle.frames.specs.Rejection.{_andThen_}
+use Rattle.frames.specs.Check.{check1}
+use Rattle.frames.proofs.Stated.{both-passed, passed-then}
+use Rattle.frames.proofs.Acceptance.{accepted-stated}
+use Rattle.treefile.specs.Line.{lineDigits, lineSize, hasSmall, lineAt}
+use Rattle.treefile.specs.Lines.{linesOf, decoded}
+use Rattle.treefile.specs.File.{maxFile, fileCheck2, fileCheck3, fileCheck16, fileRejection, AcceptedFile}
+use Rattle.treefile.specs.File.{readRejection, readAnswer}
+use Rattle.treefile.specs.Write.{writeCheck10}
+use Rattle.treefile.specs.declared.Written.the-variants.{Length, Rejected as RejectedWrite}
+use Rattle.treefile.specs.results.Saved.{isCapitalDigit}
+use Rattle.treefile.proofs.Acceptance.{accepted-exactly}
+use Rattle.treefile.proofs.FirstLine.{line-first, line-asked}
+use Rattle.convert.specs.Lift.{lifted}
+use Rattle.convert.specs.Convert.{convertOutcome}
+use Rattle.convert.specs.results.Converted.{baseRejection, Converted}
+use Rattle.convert.proofs.Kept.{lifted-table, lifted-check3, lifted-rejection, lifted-line}
+use Rattle.convert.proofs.Converted.{base-table, convert-gives, convert-keeps, convert-leaves}
+use Rattle.convert.proofs.Converted.{converted-accepted, converted-table, converted-again, converted-once}
+
+module _ (f : List ℕ) where
+  -- "The reader takes capital hexadecimal letters and no others": every byte of every line of an accepted file is a
+  -- digit from 0 to 9 or A to F
+  pub capitals-only : AcceptedFile f → (i k : ℕ) → i < length (linesOf f) → k < lineDigits
+      → isCapitalDigit (getD (getD (linesOf f) i []) k 0) ≡ true
+  capitals-only e i k h l = accepted-exactly f .0 e .line i h .digits k l
+
+  -- "a small letter a to f in a line, 16, place the first such line"
+  pub lowest-small : (r : Rejection) → fileCheck16 f ≡ some r
+      → (r .number ≡ 16) × (r .place < length (linesOf f)) × (hasSmall (getD (linesOf f) (r .place) []) ≡ true)
+      × ((k : ℕ) → k < r .place → hasSmall (getD (linesOf f) k []) ≡ false)
+  lowest-small r e =
+      let p = line-first 16 (λ l. not (hasSmall l)) f r e in
+      (p .0, p .1, not-false _ (p .2), λ k h. not-true _ (p .3 k h))
+
+  -- "asked after question 3 .. has passed for all lines and before 4": a file that passes 1 to 3 and has a line with a
+  -- small letter gets it, whatever its frames and the lent table are
+  pub small-refused : (check1 f andThen fileCheck2 f andThen fileCheck3 f) ≡ none → (i : ℕ) → i < length (linesOf f)
+      → hasSmall (getD (linesOf f) i []) ≡ true
+      → (r : Rejection) × (fileCheck16 f ≡ some r) × ((table : List ℕ) → readAnswer f table ≡ RejectedTable r)
+  unfolding readRejection fileRejection
+  small-refused e i h s =
+      let a = both-passed (check1 f) _ e in
+      let b = both-passed (fileCheck2 f) _ (a .1) in
+      let p = line-asked 16 (λ l. not (hasSmall l)) f i h (ap not s) in
+      let q : fileRejection f ≡ some (p .0) =
+      passed-then (check1 f) _ (a .0) ∙ passed-then (fileCheck2 f) _ (b .0) ∙ passed-then (fileCheck3 f) _ (b .1)
+      ∙ rw (p .1) in
+      (p .0, p .1, λ _. rw q)
+
+  -- "(which still passes small letters)"
+  pub three-either-case : fileCheck3 (lifted f) ≡ fileCheck3 f
+  three-either-case = lifted-check3 f
+
+  -- "Reading one line by itself takes what it took": its contract is as it was, and takes either letter case
+  pub line-either-case : (at : ℕ) → lineAt (lifted f) at ≡ lineAt f at
+  line-either-case = lifted-line f
+
+  -- "their trees do not change": a lifted file gets the answers that the base gave to the file, and has its table
+  pub same-questions : fileRejection (lifted f) ≡ baseRejection f
+  same-questions = lifted-rejection f
+
+  pub same-table : decoded (lifted f) ≡ decoded f
+  same-table = lifted-table f
+
+  module _ (buffer : List ℕ) where
+    -- a file that the base accepted is converted, into any buffer that has room for a longest file
+    pub length-converted : baseRejection f ≡ none → maxFile ≤ length buffer
+        → convertOutcome f buffer .answer ≡ Length (lineSize * frames (decoded f))
+    length-converted e room =
+        let few = accepted-stated (decoded f) (base-table f e) .most in
+        ap (λ o. o .answer) (convert-gives f buffer e (omega arith))
+
+    -- only such a file is; its own table's file stands then at the buffer's front
+    pub file-converted : (n : ℕ) → convertOutcome f buffer .answer ≡ Length n → Converted f buffer n
+    file-converted = convert-leaves f buffer
+
+    -- "For a file still refused": it is refused as the base refused it, or by 10, and nothing is written
+    pub still-refused : (r : Rejection) → convertOutcome f buffer .answer ≡ RejectedWrite r
+        → ((baseRejection f andThen writeCheck10 (decoded f) (length buffer)) ≡ some r)
+        × (convertOutcome f buffer .file ≡ buffer)
+    still-refused = convert-keeps f buffer
+
+    module _ (n : ℕ) (e : convertOutcome f buffer .answer ≡ Length n) where
+      -- what is written is accepted by the reader, and its table is that of the file
+      pub converted-read : AcceptedFile (take n (convertOutcome f buffer .file))
+          × (decoded (take n (convertOutcome f buffer .file)) ≡ decoded f)
+      converted-read = (converted-accepted f buffer n e, converted-table f buffer n e)
+
+      -- converting it once more changes nothing
+      pub converted-twice : (other : List ℕ) → n ≤ length other →
+          let new = take n (convertOutcome f buffer .file) in
+          convertOutcome new other ≡ record { answer = Length n; file = new ++ drop n other }
+      converted-twice = converted-again f buffer n e
+
+-- "the same tree .. is filed twice": no more; two files are converted to one file, byte for byte, exactly if they have
+-- one table
+pub one-file-each : (f g buffer other : List ℕ) (n m : ℕ) → convertOutcome f buffer .answer ≡ Length n
+    → convertOutcome g other .answer ≡ Length m
+    → (decoded f ≡ decoded g) ↔ (take n (convertOutcome f buffer .file) ≡ take m (convertOutcome g other .file))
+one-file-each = converted-once

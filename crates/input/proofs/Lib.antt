@@ -1,0 +1,2 @@
+-- Why the reading meets its contracts.
+pub mod Reading

@@ -1,0 +1,68 @@
+# What ./analyse and ./capitals do: run the program $name on the file that is named, or on standard input. The program is
+# built first where it is missing or older than its sources.
+# Exit status: 0 what the program gives for a file, 1 a refused file, 2 wrong use or a file that cannot be read,
+# 3 a program that cannot be built or output that cannot be written.
+root=$(CDPATH='' cd -- "$(dirname -- "$0")" && pwd) || exit 3
+program=$root/target/bin/$name
+log=$root/target/$name.log
+
+# Says why nothing is printed, and ends with this status.
+fail() { # STATUS TEXT
+    echo "$name: $2" >&2
+    exit "$1"
+}
+
+is_current() {
+    [ -x "$program" ] && [ -z "$(find "$root/crates" "$root/crates.txt" -type f -newer "$program" | head -n 1)" ]
+}
+
+# The crates that the program needs; crates.txt lists each behind those that it needs itself.
+needed() {
+    sed 's/#.*//; /:/!d; s/:/ /' "$root/crates.txt" | awk -v name="$name" '
+        { line[NR] = $0 }
+        END {
+            need[name] = 1
+            for (i = NR; i > 0; i--) {
+                count = split(line[i], word, " ")
+                if (word[1] in need) { print word[1]; for (k = 2; k <= count; k++) need[word[k]] = 1 }
+            }
+        }'
+}
+
+# Shows a line for each crate that is proved, out of what the prover says.
+progress() {
+    total=$(needed | wc -l) number=0
+    while IFS= read -r line; do
+        case $line in
+        "rt: "*" proved ("*)
+            line=${line#rt: } number=$((number + 1))
+            time=${line#*(} time=${time%)}
+            case $time in unchanged*) time=already ;; esac
+            echo "$number/$((total)) ${line%% *} proved, $time"
+            ;;
+        esac
+    done
+}
+
+build() {
+    command -v rt >/dev/null || fail 3 "the program is not built, and the Rattle kit's command rt is not on the path"
+    echo "$name: building the program; its proofs are checked first, which takes some minutes" >&2
+    mkdir -p "$root/target" || exit 3
+    (cd "$root" && rt check "$name") 2>&1 | tee "$log" | progress >&2
+    grep -q '^rt: ok,' "$log" || fail 3 "not proved:$(sed -n 's/^rt: FAILED://p' "$log"); what the prover said is in $log"
+    touch "$program"
+}
+
+[ $# -le 1 ] || fail 2 "usage: ./$name [FILE]"
+if [ $# -eq 1 ]; then
+    case $1 in -*) fail 2 "usage: ./$name [FILE]" ;; esac
+    { [ -r "$1" ] && [ ! -d "$1" ]; } || fail 2 "$1 cannot be read"
+    exec <"$1"
+fi
+is_current || build </dev/null
+printed=$("$program") || fail 3 "the program ended with status $?"
+[ -n "$printed" ] || exit 2 # the program has said that its input cannot be read
+printf '%s\n' "$printed" 2>/dev/null || fail 3 "what it prints cannot be written"
+case $printed in
+refused*) exit 1 ;;
+esac
