@@ -11,6 +11,7 @@ static struct answer no(int number, size_t place) { return (struct answer){ .ref
 
 static inline int first_child(const uint8_t *table, int k) { return table[FRAME * k] << 8 | table[FRAME * k + 1]; }
 static inline int child_count(const uint8_t *table, int k) { return table[FRAME * k + 2]; }
+static inline bool same_mover(const uint8_t *table, int k) { return table[FRAME * k + 3] == 1; }
 static inline int stored_value(const uint8_t *table, int k) {
     return (int16_t)(table[FRAME * k + 4] << 8 | table[FRAME * k + 5]);
 }
@@ -24,7 +25,7 @@ static struct answer check_frames(const uint8_t *table, int n) {
     int next = 1, depth = 0, end = 1, too_deep = -1;
     for (int k = 0; k < n; k++) {
         int first = first_child(table, k), count = child_count(table, k), value = stored_value(table, k);
-        if (table[FRAME * k + 3]) return no(4, k);
+        if (table[FRAME * k + 3] && !(same_mover(table, k) && count && k)) return no(4, k);
         if (count > CHILDREN) return no(5, k);
         if (count == 0 ? first != 0 : first != next || first <= k) return no(6, k);
         if (count == 0 ? value < -VALUE || value > VALUE : value != 0) return no(7, k);
@@ -126,6 +127,11 @@ static struct answer ask(const uint8_t *table, size_t length, size_t marks_room,
     return answer;
 }
 
+/* A place is twice a depth, plus 1 where Min moves: at a child that is the other side, or by byte 3 the same one. */
+static inline int child_place(const uint8_t *table, int c, int place) { return (place + 2) ^ !same_mover(table, c); }
+static inline bool max_moves(int place) { return place % 2 == 0; }
+static inline int depth_of(int place) { return place / 2; }
+
 /* What the leaf k counts at this depth. */
 static inline int worth(const uint8_t *table, int k, int depth) {
     int value = stored_value(table, k);
@@ -137,17 +143,12 @@ static inline int evaluate(const uint8_t *table, uint8_t *marks, int k, int dept
     return worth(table, k, depth);
 }
 
-/* The depth of each node: Max moves where it is even. */
-static void fill_depths(const uint8_t *table, int n, uint8_t *depths) {
-    int next = 1, end = 1, depth = 0;
-    for (int k = 0; k < n; k++) {
-        if (k == end) depth++, end = next;
-        depths[k] = depth;
-        next += child_count(table, k);
-    }
+static void fill_places(const uint8_t *table, int n, uint8_t *places) {
+    places[0] = 0;
+    for (int k = 0, next = 1; k < n; k++)
+        for (int end = next + child_count(table, k); next < end; next++)
+            places[next] = child_place(table, next, places[k]);
 }
-
-static inline bool max_moves(int depth) { return depth % 2 == 0; }
 
 static void fill_parents(const uint8_t *table, int n, uint16_t *parent) {
     parent[0] = 0;
@@ -157,18 +158,18 @@ static void fill_parents(const uint8_t *table, int n, uint16_t *parent) {
 
 /* The bounds of every node from the marked leaves, the proof that is read off them, and the root move. */
 static int conclude(const uint8_t *table, int n, uint8_t *marks, uint8_t *proof) {
-    uint8_t depth[NODES];
+    uint8_t place[NODES];
     int low[NODES], high[NODES];
-    fill_depths(table, n, depth);
+    fill_places(table, n, place);
     for (int k = n - 1; k >= 0; k--) {
         int count = child_count(table, k), first = first_child(table, k);
         if (count == 0) {
             low[k] = LEAST, high[k] = GREATEST;
-            if (marks[k]) low[k] = high[k] = evaluate(table, marks, k, depth[k]);
+            if (marks[k]) low[k] = high[k] = evaluate(table, marks, k, depth_of(place[k]));
             continue;
         }
         int l = low[first], h = high[first];
-        if (max_moves(depth[k]))
+        if (max_moves(place[k]))
             for (int c = first + 1; c < first + count; c++) l = greater(l, low[c]), h = greater(h, high[c]);
         else
             for (int c = first + 1; c < first + count; c++) l = lesser(l, low[c]), h = lesser(h, high[c]);
@@ -178,7 +179,7 @@ static int conclude(const uint8_t *table, int n, uint8_t *marks, uint8_t *proof)
     for (int k = 0; k < n; k++) {
         int count = child_count(table, k), first = first_child(table, k);
         if (count == 0) continue;
-        bool is_max = max_moves(depth[k]);
+        bool is_max = max_moves(place[k]);
         int all = proof[k] & (is_max ? 1 : 2);
         const int *bound = is_max ? low : high;
         memset(proof + first, all, count);
@@ -201,15 +202,15 @@ struct visits {
     int leaves;
 };
 
-static int alpha_beta(struct visits *v, int k, int depth, int alpha, int beta) {
+static int alpha_beta(struct visits *v, int k, int place, int alpha, int beta) {
     int count = child_count(v->table, k), first = first_child(v->table, k);
-    bool is_max = max_moves(depth);
+    bool is_max = max_moves(place);
     if (count == 0) {
         v->leaves++;
-        return evaluate(v->table, v->marks, k, depth);
+        return evaluate(v->table, v->marks, k, depth_of(place));
     }
     for (int c = first; c < first + count && alpha < beta; c++) {
-        int value = alpha_beta(v, c, depth + 1, alpha, beta);
+        int value = alpha_beta(v, c, child_place(v->table, c, place), alpha, beta);
         if (is_max) alpha = greater(alpha, value);
         else beta = lesser(beta, value);
     }
@@ -234,14 +235,16 @@ static int min_turn(const uint8_t *table, uint8_t *marks, int k, int depth);
 static int max_turn(const uint8_t *table, uint8_t *marks, int k, int depth) {
     int count = child_count(table, k), first = first_child(table, k), best = LEAST;
     if (count == 0) return evaluate(table, marks, k, depth);
-    for (int c = first; c < first + count; c++) best = greater(best, min_turn(table, marks, c, depth + 1));
+    for (int c = first; c < first + count; c++)
+        best = greater(best, (same_mover(table, c) ? max_turn : min_turn)(table, marks, c, depth + 1));
     return best;
 }
 
 static int min_turn(const uint8_t *table, uint8_t *marks, int k, int depth) {
     int count = child_count(table, k), first = first_child(table, k), best = GREATEST;
     if (count == 0) return evaluate(table, marks, k, depth);
-    for (int c = first; c < first + count; c++) best = lesser(best, max_turn(table, marks, c, depth + 1));
+    for (int c = first; c < first + count; c++)
+        best = lesser(best, (same_mover(table, c) ? min_turn : max_turn)(table, marks, c, depth + 1));
     return best;
 }
 
@@ -265,7 +268,7 @@ struct passes {
     uint8_t not_below[NODES];
 };
 
-static bool below(struct passes *p, int k, int depth, int test) {
+static bool below(struct passes *p, int k, int place, int test) {
     if (p->high[k] < test) return true;
     if (p->not_below[k]) return false;
     int count = child_count(p->table, k), first = first_child(p->table, k), high;
@@ -273,12 +276,13 @@ static bool below(struct passes *p, int k, int depth, int test) {
     if (count == 0) {
         if (p->marks[k]) return false;
         p->leaves++;
-        high = evaluate(p->table, p->marks, k, depth);
+        high = evaluate(p->table, p->marks, k, depth_of(place));
         answer = high < test;
     } else {
-        bool is_max = max_moves(depth);
+        bool is_max = max_moves(place);
         answer = is_max;
-        for (int c = first; c < first + count && answer == is_max; c++) answer = below(p, c, depth + 1, test);
+        for (int c = first; c < first + count && answer == is_max; c++)
+            answer = below(p, c, child_place(p->table, c, place), test);
         high = p->high[first];
         for (int c = first + 1; c < first + count; c++)
             high = is_max ? greater(high, p->high[c]) : lesser(high, p->high[c]);
@@ -326,7 +330,7 @@ struct front {
     const uint8_t *table;
     struct state *list;
     uint16_t parent[NODES];
-    uint8_t depth[NODES];
+    uint8_t place[NODES];
     uint32_t front[NODES];
 };
 
@@ -343,7 +347,7 @@ static inline void put(struct front *f, int k, enum status status, int merit) {
 static int fall(struct front *f, int k, int test) {
     while (k != 0 && merit_of(f->front[k]) < test) {
         int up = f->parent[k], best = link_of(f->front[up]), merit = merit_of(f->front[best]);
-        if (max_moves(f->depth[up])) {
+        if (max_moves(f->place[up])) {
             int first = first_child(f->table, up), end = first + child_count(f->table, up);
             best = first, merit = merit_of(f->front[first]);
             for (int c = first + 1; c < end; c++)
@@ -362,14 +366,14 @@ static int run_front(const uint8_t *table, int n, struct state *list, uint8_t *m
     int k = 0, test = GREATEST;
     f.table = table, f.list = list;
     fill_parents(table, n, f.parent);
-    fill_depths(table, n, f.depth);
+    fill_places(table, n, f.place);
     put(&f, 0, LIVE, GREATEST);
     for (;; counts->steps++) {
         for (int link = link_of(f.front[k]); link; link = link_of(f.front[k])) k = link;
         if (list[k].status == SOLVED) {
             int up = f.parent[k];
             if (k == 0) break;
-            if (max_moves(f.depth[up]) || k + 1 == first_child(table, up) + child_count(table, up)) {
+            if (max_moves(f.place[up]) || k + 1 == first_child(table, up) + child_count(table, up)) {
                 put(&f, up, SOLVED, test);
             } else {
                 put(&f, k + 1, LIVE, test);
@@ -382,11 +386,11 @@ static int run_front(const uint8_t *table, int n, struct state *list, uint8_t *m
                 break;
             }
             counts->leaves++;
-            put(&f, k, SOLVED, lesser(test, evaluate(table, marks, k, f.depth[k])));
+            put(&f, k, SOLVED, lesser(test, evaluate(table, marks, k, depth_of(f.place[k]))));
             k = fall(&f, k, test);
             test = merit_of(f.front[0]);
         } else {
-            int first = first_child(table, k), end = max_moves(f.depth[k]) ? first + child_count(table, k) : first + 1;
+            int first = first_child(table, k), end = max_moves(f.place[k]) ? first + child_count(table, k) : first + 1;
             for (int c = first; c < end; c++) put(&f, c, LIVE, test);
             f.front[k] = packed(test, first);
         }
@@ -399,10 +403,10 @@ static int run_front(const uint8_t *table, int n, struct state *list, uint8_t *m
 static int run_list(const uint8_t *table, int n, struct state *list, uint8_t *marks, size_t allowance,
                     struct answer *counts) {
     uint16_t parent[NODES], size[NODES], left[NODES];
-    uint8_t depth[NODES];
+    uint8_t place[NODES];
     int length = 1, value;
     fill_parents(table, n, parent);
-    fill_depths(table, n, depth);
+    fill_places(table, n, place);
     for (int k = 0; k < n; k++) size[k] = 1;
     for (int k = n - 1; k > 0; k--) size[parent[k]] += size[k];
     left[0] = 0;
@@ -426,12 +430,12 @@ static int run_list(const uint8_t *table, int n, struct state *list, uint8_t *ma
         if (s.status == LIVE && count == 0) {
             counts->leaves++;
             list[best].status = SOLVED;
-            list[best].merit = lesser(s.merit, evaluate(table, marks, s.node, depth[s.node]));
+            list[best].merit = lesser(s.merit, evaluate(table, marks, s.node, depth_of(place[s.node])));
         } else if (s.status == LIVE) {
             list[best].node = first;
-            for (int i = 1; max_moves(depth[s.node]) && i < count; i++)
+            for (int i = 1; max_moves(place[s.node]) && i < count; i++)
                 list[length++] = (struct state){ first + i, LIVE, s.merit };
-        } else if (max_moves(depth[up])) {
+        } else if (max_moves(place[up])) {
             int kept = 0;
             for (int i = 0; i < length; i++) {
                 int at = left[list[i].node];
@@ -491,19 +495,19 @@ struct answer c_allowed_list(const uint8_t *table, size_t length, uint8_t *marks
 /* ---- the check of a proof */
 
 /* The lowest node whose rule for the max tree (bit 1) or the min tree (bit 2) breaks, or -1. */
-static int broken(const uint8_t *table, int n, const uint8_t *depth, const uint8_t *flags, int bit) {
+static int broken(const uint8_t *table, int n, const uint8_t *place, const uint8_t *flags, int bit) {
     if (!(flags[0] & bit)) return 0;
     for (int k = 0; k < n; k++) {
         int count = child_count(table, k), first = first_child(table, k), members = 0, required = 0;
         for (int c = first; c < first + count; c++) members += (flags[c] & bit) != 0;
-        if (flags[k] & bit) required = count == 0 ? 0 : max_moves(depth[k]) == (bit == 1) ? count : 1;
+        if (flags[k] & bit) required = count == 0 ? 0 : max_moves(place[k]) == (bit == 1) ? count : 1;
         if (members != required) return k;
     }
     return -1;
 }
 
 struct answer c_verify(const uint8_t *table, size_t length, const uint8_t *flags, size_t flags_room) {
-    uint8_t depth[NODES];
+    uint8_t place[NODES];
     int greatest = LEAST, least = GREATEST;
     struct answer asked = c_check(table, length);
     if (asked.refused) return asked;
@@ -511,15 +515,15 @@ struct answer c_verify(const uint8_t *table, size_t length, const uint8_t *flags
     if (flags_room < asked.count) return no(10, 0);
     for (int k = 0; k < n; k++)
         if (flags[k] > 3) return no(11, k);
-    fill_depths(table, n, depth);
+    fill_places(table, n, place);
     for (int bit = 1; bit <= 2; bit++) {
-        int k = broken(table, n, depth, flags, bit);
+        int k = broken(table, n, place, flags, bit);
         if (k >= 0) return no(11 + bit, k);
     }
     for (int k = 0; k < n; k++) {
         if (child_count(table, k)) continue;
-        if (flags[k] & 1) greatest = greater(greatest, worth(table, k, depth[k]));
-        if (flags[k] & 2) least = lesser(least, worth(table, k, depth[k]));
+        if (flags[k] & 1) greatest = greater(greatest, worth(table, k, depth_of(place[k])));
+        if (flags[k] & 2) least = lesser(least, worth(table, k, depth_of(place[k])));
     }
     if (greatest != least) return no(14, 0);
     return (struct answer){ .value = greatest };

@@ -3,7 +3,7 @@
 
     fuzz.py PROGRAM [--good N] [--damaged N] [--large N] [--every] [--seed S] [--keep DIR] [--detail] [--capitals]
 
-Good files: random shapes, widths and depths to the limits, ties, extremes. Damaged files: every kind below.
+Good files: random shapes, widths and depths to the limits, second captures, ties, extremes. Damaged files: every kind below.
 Large files: 4,096 nodes, whole and damaged. A few are fed in pieces, with pauses, and a few from a file.
 Limits: files of 53,247 to 53,250 bytes and around the size of the program's buffer, always. With --every also each change of one
 byte of a small file: cut there, lost, put in, or another byte. A question from 1 to 9 or 16 that no file got a "no" to is an error.
@@ -43,7 +43,7 @@ def good_table(rng, most):
         counts = trees.regular_counts(width, rng.randint(0, min(o.MAX_DEPTH, (most - 1) // width)))
     else:
         counts = trees.regular_counts(2, min((most - 1) // 2, rng.choice((1, 3, 7, 15, 31))))
-    return trees.fill(rng, counts, rng.choice(list(trees.VALUES)))
+    return trees.fill(rng, counts, rng.choice(list(trees.VALUES)), trees.second_captures(rng, counts))
 
 
 def as_file(rng, table):
@@ -66,9 +66,10 @@ def large_table(rng):
         counts = trees.random_counts(rng, 4096, rng.choice((2, 3, 5, 15, 40)), 0.9)
     else:
         counts = trees.regular_counts(rng.choice((2, 4, 6, 10, 40)), 102)
+    again = trees.second_captures(rng, counts)
     if rng.random() < 0.3:
-        return trees.ranked(counts, rng.random() < 0.5)
-    return trees.fill(rng, counts, kind)
+        return trees.ranked(counts, rng.random() < 0.5, again)
+    return trees.fill(rng, counts, kind, again)
 
 
 # ---------------------------------------------------------------- damage

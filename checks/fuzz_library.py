@@ -140,19 +140,17 @@ def reports(file, room):
 
 
 def small_trees():
-    """Every tree of up to 6 nodes with leaves 0, 1, 2, and with leaves around the border of a win."""
-    for n in range(1, 7):
-        for counts in selfcheck.shapes(n):
-            for values in selfcheck.small_values(counts.count(0)):
-                table = o.table_of(counts, values)
-                yield from searches(table, n, n)
-                for allowance in range(n + 1):
-                    yield from allowed(table, n, n, allowance)
-                yield from written(table, 13 * n)
-                yield from converted(o.file_of(table, last=False).lower(), 13 * n)
-                flags = bytearray(n)
-                o.mtd_search(table, bytearray(n), flags)
-                yield from verified(table, flags)
+    """Every tree of up to 6 nodes with every set of second captures, with leaves 0, 1, 2, and with leaves around the border of a win."""
+    for table in selfcheck.small_tables(6):
+        n = len(table) // 6
+        yield from searches(table, n, n)
+        for allowance in range(n + 1):
+            yield from allowed(table, n, n, allowance)
+        yield from written(table, 13 * n)
+        yield from converted(o.file_of(table, last=False).lower(), 13 * n)
+        flags = bytearray(n)
+        o.mtd_search(table, bytearray(n), flags)
+        yield from verified(table, flags)
 
 
 def random_calls(rng):

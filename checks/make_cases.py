@@ -69,6 +69,13 @@ def chain(plies, nest):
     return nest
 
 
+def tuple_chain(plies, nest):
+    """A root and so many nodes below it, one under the other, where its side moves again; the last of them is `nest`."""
+    for _ in range(plies - 1):
+        nest = (nest,)
+    return [nest]
+
+
 def made_trees():
     """01, "Also run": what the limits let pass and what they stop."""
     depth = o.MAX_DEPTH
@@ -121,8 +128,12 @@ def rejected_files():
             (16, 1, "the first of two lines with small letters", lines({1: "000302000a00", 3: "00000000000a"})),
             (16, 3, "a small letter in line 3, byte 3 wrong in line 0", lines({0: "000102010000", 3: "00000000000a"})),
             (4, 0, "byte 3 at the root", lines({0: "000102010000"})),
-            (4, 6, "byte 3 at a leaf", lines({6: "000000FF0004"})),
-            (4, 1, "byte 3 before 41 children of one node", lines({1: "000329010000"})),
+            (4, 6, "byte 3 at a leaf", lines({6: "000000010004"})),
+            (4, 6, "byte 3 = 255 at a leaf", lines({6: "000000FF0004"})),
+            (4, 1, "byte 3 = 2", lines({1: "000302020000"})),
+            (4, 1, "byte 3 = 2 before 41 children of one node", lines({1: "000329020000"})),
+            (5, 1, "byte 3 at a node of 41 children", lines({1: "000329010000"})),
+            (4, 0, "byte 3 at a root that is a leaf", b"000000010005\n"),
             (6, 0, "leaf with a first child", b"000100000005\n"),
             (6, 1, "first child one too high", lines({1: "000402000000"})),
             (6, 0, "first child zero", lines({0: "000002000000"})),
@@ -172,6 +183,26 @@ def wins_and_losses():
             ("-32000 at depth 18", chain(18, -32000), all_three(-31982, 1, 1))):
         file_case(title, tree_file(nest), rows=rows)
     file_case("a win at two depths", TWO_DEPTHS, rows=all_three(30997, 1, 2))
+
+
+# Max(Max(1, 2)); a chain in which Max moves five times; chains of each side, mixed
+TWICE, FIVE_TIMES = [(1, 2)], [((((1, 2),),),)]
+MIXED = [[(1, 2), (3, 4)], ([2, 5], [2, 1])]
+
+
+def second_captures():
+    """02, N8: the side that moves at a node goes by its byte 3, worked out by hand."""
+    for title, nest, rows in (
+            ("Max twice above 1 and 2", TWICE, all_three(2, 1, 2)),
+            ("Max, then Min", [[1, 2]], all_three(1, 1, 2)),
+            ("Max, then Min twice", [[(2, 1)]], all_three(1, 1, 2)),
+            ("Max five times", FIVE_TIMES, all_three(2, 1, 2)),
+            ("Max 18 times, leaves at depth 18", tuple_chain(17, (3, 8)), all_three(8, 1, 2)),
+            ("Max twice, Min, Min twice", [([4, (6, 2)], 1), [(5, 7), 3]], all_three(3, 2, 7)),
+            ("a win after a second capture", [(31000, 5), 31000], all_three(30999, 2, 3)),
+            ("the row 1 2 3 4 below a second capture", [([1, 2], [3, 4])], [("ab", 3, 1, 4), ("mtd", 3, 1, 3), ("sss", 3, 1, 3)]),
+            ("chains of both sides", MIXED, [("ab", 2, 2, 7), ("mtd", 2, 2, 4), ("sss", 2, 2, 4)])):
+        file_case(title, tree_file(nest), rows=rows)
 
 
 # ---------------------------------------------------------------- calls on lent memory
@@ -256,7 +287,11 @@ def flags_cases():
             ("unequal values", ROW, "3 1 3 1 0 2 3", "refused 14 0"),
             ("unequal values, other branch", ROW, "3 3 1 3 2 1 0", "refused 14 0"),
             ("equal values of unequal worths", tree_file([31000, [31000]]), "3 1 3 3", "refused 14 0"),
-            ("unequal values of equal worths", tree_file([31000, [31001]]), "3 1 3 3", "30999")):
+            ("unequal values of equal worths", tree_file([31000, [31001]]), "3 1 3 3", "30999"),
+            ("certificate where Max moves twice", tree_file(TWICE), "3 3 1 3", "2"),
+            ("certificate by the depth where Max moves twice", tree_file(TWICE), "3 3 3 2", "refused 12 1"),
+            ("certificate where Min moves twice", tree_file([[(2, 1)]]), "3 3 3 2 3", "1"),
+            ("two children in the max tree where Min moves twice", tree_file([[(2, 1)]]), "3 3 3 3 3", "refused 12 2")):
         got = verdict(table_of_file(file), bytes(int(x) for x in flags.split()))
         assert got == "verify %s\n" % want, (title, got)
         add(title, file, ("flags " + flags).strip(), got)
@@ -278,9 +313,11 @@ def buffer_cases():
     for title, nest in (("2 3 1 4", [[2, 3], [1, 4]]), ("2 3 4 1", [[2, 3], [4, 1]]), ("4 1 2 3", [[4, 1], [2, 3]]),
                         ("2 5 2 1", [[2, 5], [2, 1]]), ("7 7 7 7", [[7, 7], [7, 7]]), ("7 1 / 7", [[7, 1], [7]]), ("leaf -5", -5),
                         ("single leaf 9", [9]), ("three plies", [[[1, 2], [3, 4]], 5]), ("negative values", [[-1, -9, 4], [-2], -8]),
-                        ("a chain", chain(6, 32000))):
+                        ("a chain", chain(6, 32000)), ("Max twice", TWICE), ("Max five times", FIVE_TIMES),
+                        ("chains of both sides", MIXED)):
         file = tree_file(nest)
-        add("marks and certificates: " + title, file, "buffers 10 10", searches(table_of_file(file), 10, 10))
+        room = max(10, len(file) // 13)
+        add("marks and certificates: " + title, file, "buffers %d %d" % (room, room), searches(table_of_file(file), room, room))
 
 
 def allowance_cases():
@@ -355,6 +392,7 @@ def writer_cases():
                                           ("a missing line feed is supplied", ROW[:-1], 91, 42, "91"),
                                           ("91 bytes for 7 nodes", ROW, 91, 42, "91"), ("longer file keeps its rest", ROW, 99, 42, "91"),
                                           ("90 bytes for 7 nodes", ROW, 90, 42, "refused 10 0"), ("no file", ROW, 0, 42, "refused 10 0"),
+                                          ("byte 3 is written", tree_file(TWICE), 52, 24, "52"),
                                           ("no table, no file", LEAF, 0, 0, "refused 1 0"),
                                           ("too many frames, no file", LEAF, 0, 24582, "refused 2 0"),
                                           ("a byte left over, no file", ROW, 0, 43, "refused 3 7"),
@@ -386,8 +424,8 @@ def service_cases():
 
 def main():
     directory = sys.argv[1] if len(sys.argv) > 1 else os.path.join(os.path.dirname(HERE), "crates", "cases")
-    for part in (made_trees, files_of_01, rows_of_002, rejected_files, accepted_files, wins_and_losses, flags_cases, buffer_cases,
-                 allowance_cases, table_cases, reader_cases, writer_cases, service_cases):
+    for part in (made_trees, files_of_01, rows_of_002, rejected_files, accepted_files, wins_and_losses, second_captures, flags_cases,
+                 buffer_cases, allowance_cases, table_cases, reader_cases, writer_cases, service_cases):
         part()
     assert len(stdin) < 65536
     for name, data in (("stdin", stdin), ("stdout", made + asked)):

@@ -13,6 +13,10 @@ import oracle as o
 # Alpha-beta values 15 of the 19 leaves, SSS* 11.
 ENDING = [[-50, [20, 70, -70], [-60, -70, 70]], [0, -20], [[-20, 0, 10], [-60, -60, 40], -70], [-20, 90, 0]]
 
+# Two moves for White: a capture, after which White moves again, and one after which Black may capture and move again.
+# By the depth alone the value would be 45, with move 2.
+CAPTURES = [(-10, 40, [30, 60]), [50, ([45], 20)]]
+
 # Three moves for White: a win after two more moves whatever Black answers, a win at once, and a doubtful one.
 WINS = [[[31500], [31500, 80]], 31500, [31500, 20]]
 
@@ -33,6 +37,7 @@ def samples():
         "seven": first,                                             # 01's own sample
         "ending": ending,                                           # wider: negative values, ties, two depths of leaves
         "wins": wins,                                               # the sooner win is the better one: worths
+        "captures": o.file_of(o.table_of_nest(CAPTURES)),           # second captures: byte 3
         "cut-off": ending[:200],                                    # a transfer that broke off in line 15
         "miscounted": b"\n".join(miscounted),
         "refused-1": b"",

@@ -38,9 +38,9 @@ SMALL = b"abcdef"
 
 def frame(table, k):
     """First child, count of children, byte 3 and value of node k."""
-    a, b, count, spare, c, d = table[6 * k:6 * k + 6]
+    a, b, count, again, c, d = table[6 * k:6 * k + 6]
     value = 256 * c + d
-    return 256 * a + b, count, spare, value - 65536 if value >= 32768 else value
+    return 256 * a + b, count, again, value - 65536 if value >= 32768 else value
 
 
 def children(table, node):
@@ -87,8 +87,8 @@ def frames_no(table):
     below = 0                       # child counts of all lower-numbered nodes
     firsts, counts = [], []
     for k in range(n):
-        first, count, spare, value = frame(table, k)
-        if spare != 0:
+        first, count, again, value = frame(table, k)
+        if again != 0 and not (again == 1 and count != 0 and k != 0):
             return Refusal(4, k)
         if count > MAX_CHILDREN:
             return Refusal(5, k)
@@ -160,10 +160,12 @@ class Tree:
     def __init__(self, table):
         self.n = n = len(table) // 6
         self.kids = kids = []
+        self.again = moves_again = []   # the same side moves as at the parent (N8)
         values = []
         for k in range(n):
-            first, count, _, value = frame(table, k)
+            first, count, again, value = frame(table, k)
             kids.append(range(first, first + count))
+            moves_again.append(again == 1)
             values.append(value)
         self.parent = parent = [None] * n
         self.is_max = is_max = [True] * n
@@ -171,7 +173,7 @@ class Tree:
         for k in range(n):
             for c in kids[k]:
                 parent[c] = k
-                is_max[c] = not is_max[k]
+                is_max[c] = is_max[k] == moves_again[c]
                 depth[c] = depth[k] + 1
         self.worth = [worth(depth[k], values[k]) for k in range(n)]
         self.left = left = [0] * n      # place in left-to-right (depth-first) order
@@ -278,14 +280,15 @@ def ab(tree):
 # ---------------------------------------------------------------- the plain engine
 
 def plain(tree):
-    """02, N1: every leaf, from left to right; Max's turn asks Min's for each child, and Min's asks Max's."""
+    """02, N1: every leaf, from left to right; Max's turn asks Min's for each child, and Min's asks Max's; where the same side
+    moves again, a turn asks itself (N8)."""
     leaves = []
 
     def turn(k, best, other):
         if not tree.kids[k]:
             leaves.append(k)
             return tree.worth[k]
-        return best([turn(c, other, best) for c in tree.kids[k]])
+        return best([turn(c, best, other) if tree.again[c] else turn(c, other, best) for c in tree.kids[k]])
 
     return turn(0, max, min), leaves
 
@@ -625,13 +628,13 @@ def detail(file):
 
 # ---------------------------------------------------------------- making tables and files
 
-def table_of(counts, values):
-    """A table from the child counts in breadth-first order and the leaf values in node order."""
+def table_of(counts, values, again=()):
+    """A table from the child counts in breadth-first order and the leaf values in node order; the nodes in `again` have byte 3 = 1."""
     table, first, values = bytearray(), 1, iter(values)
-    for count in counts:
+    for k, count in enumerate(counts):
         value = 0 if count else next(values)
         table += bytes((first >> 8 & 255, first & 255) if count else (0, 0))
-        table += bytes((count & 255, 0)) + (value & 65535).to_bytes(2, "big")
+        table += bytes((count & 255, k in again)) + (value & 65535).to_bytes(2, "big")
         first += count
     return table
 
@@ -642,19 +645,22 @@ def file_of(table, last=True):
 
 
 def table_of_nest(nest):
-    """A table from nested lists, as [[1, 2], [3, 4]] for Max(Min(1, 2), Min(3, 4))."""
-    level, counts, values = [nest], [], []
+    """A table from nested lists, as [[1, 2], [3, 4]] for Max(Min(1, 2), Min(3, 4)); a tuple in the place of a list is a node
+    where the same side moves as at its parent, as [(1, 2), [3, 4]] for Max(Max(1, 2), Min(3, 4))."""
+    level, counts, values, again = [nest], [], [], set()
     while level:
         below = []
         for x in level:
-            if isinstance(x, list):
+            if isinstance(x, (list, tuple)):
+                if isinstance(x, tuple):
+                    again.add(len(counts))
                 counts.append(len(x))
                 below += x
             else:
                 counts.append(0)
                 values.append(x)
         level = below
-    return table_of(counts, values)
+    return table_of(counts, values, again)
 
 
 def regular(width, inner, leaf):

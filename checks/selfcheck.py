@@ -235,6 +235,7 @@ def one_allowance(rng, table, full, value):
     other = changed_elsewhere(rng, table, marks)
     same("spent: passed-over leaves have no influence", allowed(other, allowance), (r, marks, proof))
 
+
 def letters():
     """Request N7, worked out by hand: where 16 is asked, its place, and what the converter writes."""
     leaf, bad, other = b"000000000005\n", b"00000000000g\n", b"00000000000a\n"
@@ -251,6 +252,24 @@ def letters():
     same("N7 rest of the buffer", (o.convert(b"00000000fffb", new), bytes(new)), (13, b"00000000FFFB\n\x55"))
     new = bytearray(b"\x55" * 12)
     same("N7 short buffer", (o.convert(b"00000000fffb", new), bytes(new)), ((10, 0), b"\x55" * 12))
+
+
+def second_captures():
+    """Request N8, worked out by hand: what question 4 passes, who moves, and trees that the depth would settle otherwise."""
+    chain = o.file_of(o.table_of_nest([[1, 2]]))
+    for node, count, byte, want in ((1, 2, 1, None), (0, 1, 1, (4, 0)), (2, 0, 1, (4, 2)), (1, 2, 2, (4, 1)), (1, 41, 1, (5, 1)),
+                                    (1, 41, 2, (4, 1)), (1, 2, 255, (4, 1))):
+        table = o.decode(chain)
+        table[6 * node + 2], table[6 * node + 3] = count, byte
+        same("N8 question 4: %r" % ((node, count, byte),), o.table_no(table), want)
+    same("N8 movers", o.Tree(o.table_of_nest([([([1],)],)])).is_max, [True, True, False, False, True, False])
+    for nest, value, move, leaves in (([(1, 2)], 2, 1, (2, 2, 2)), ([[1, 2]], 1, 1, (2, 2, 2)), ([([(1, 2), 3],)], 1, 1, (3, 3, 3)),
+                                      ([(5, 3), [4, (6, 2)]], 5, 1, (3, 3, 3)), ([[(3, 2), 1], (0, 2)], 2, 2, (5, 5, 5))):
+        for call, count in zip((o.alpha_beta, o.mtd_search, o.sss_search), leaves):
+            r = run(call, o.table_of_nest(nest))[0]
+            same("N8 %r %s" % (nest, call.__name__), (r.value, r.move, r.leaves), (value, move, count))
+    for nest, flags, want in (([(1, 2)], "3 3 1 3", 2), ([(1, 2)], "3 3 3 2", (12, 1)), ([[1, 2]], "3 3 3 2", 1)):
+        same("N8 certificate %s of %r" % (flags, nest), o.check_proof(o.table_of_nest(nest), bytes(map(int, flags.split()))), want)
 
 
 def solution_trees(tree, k, bit):
@@ -301,6 +320,8 @@ def one_tree(rng, table, literal, pairs):
     same("worths", all(abs(tree.worth[k]) <= 32000 - tree.depth[k] for k in tree.leaves()), True)
     same("worth is value", all(tree.worth[k] == values[k] for k in tree.leaves() if abs(values[k]) < 31000), True)
     same("passes", m[0].extra <= 1 + len({tree.worth[k] for k in m[0].order}), True)
+    if not any(tree.again):
+        same("sides by depth", tree.is_max, [d % 2 == 0 for d in tree.depth])
     if literal:
         same("ab by rule", o.ab_by_rule(tree), a[0].order)
         same("mtd by rule", o.mtd_by_rule(tree), (value, m[0].order, m[0].extra))
@@ -339,12 +360,13 @@ def random_trees(count):
         else:
             width = rng.randint(1, 5)
             counts = trees.regular_counts(width, rng.randint(0, o.MAX_DEPTH if width == 1 else 12))
-        table = trees.fill(rng, counts, rng.choice(kinds))
+        table = trees.fill(rng, counts, rng.choice(kinds), trees.second_captures(rng, counts))
         same("accepted", o.table_no(table), None)
         one_tree(rng, table, literal=True, pairs=shape == 0)
     for i in range(24):
         counts = trees.random_counts(rng, 4096, rng.choice((2, 3, 5, 15, 40)), 0.9)
-        one_tree(rng, trees.fill(rng, counts, kinds[i % len(kinds)]), literal=False, pairs=False)
+        table = trees.fill(rng, counts, kinds[i % len(kinds)], trees.second_captures(rng, counts))
+        one_tree(rng, table, literal=False, pairs=False)
 
 
 def shapes(n):
@@ -365,13 +387,21 @@ def small_values(leaves):
         yield from itertools.product(of, repeat=leaves)
 
 
-def every_small_tree(most):
-    """All trees of up to `most` nodes with leaves 0, 1, 2, and with leaves around the border of a win."""
-    rng = random.Random(6)
+def small_tables(most):
+    """All trees of up to `most` nodes, with every set of second captures and with `small_values`."""
     for n in range(1, most + 1):
         for counts in shapes(n):
-            for values in small_values(counts.count(0)):
-                one_tree(rng, o.table_of(counts, values), literal=True, pairs=True)
+            inner = [k for k in range(1, n) if counts[k]]
+            for size in range(len(inner) + 1):
+                for again in itertools.combinations(inner, size):
+                    for values in small_values(counts.count(0)):
+                        yield o.table_of(counts, values, again)
+
+
+def every_small_tree(most):
+    rng = random.Random(6)
+    for table in small_tables(most):
+        one_tree(rng, table, literal=True, pairs=True)
 
 
 def main():
@@ -384,6 +414,7 @@ def main():
     worths()
     allowances()
     letters()
+    second_captures()
     print("papers and examples: %d checks, %d wrong" % (checks, len(wrong)))
     every_small_tree(6)
     print("all trees of up to 6 nodes: %d checks, %d wrong" % (checks, len(wrong)))

@@ -51,18 +51,24 @@ VALUES = {
 }
 
 
-def fill(rng, counts, kind):
+def second_captures(rng, counts):
+    """Some of the inner nodes other than the root, none, or all: there the same side moves again."""
+    chance = rng.choice((0, 0, 0.2, 0.5, 0.8, 1))
+    return {k for k in range(1, len(counts)) if counts[k] and rng.random() < chance}
+
+
+def fill(rng, counts, kind, again=()):
     n = sum(1 for c in counts if c == 0)
-    return o.table_of(counts, [VALUES[kind](rng, i, n) for i in range(n)])
+    return o.table_of(counts, [VALUES[kind](rng, i, n) for i in range(n)], again)
 
 
 def regular_counts(width, inner):
     return [width] * inner + [0] * (1 + width * inner - inner)
 
 
-def ranked(counts, best_first):
+def ranked(counts, best_first, again=()):
     """Ranks for the leaves so that alpha-beta does best (best child first) or worst (best child last) at every node."""
-    tree = o.Tree(o.table_of(counts, [0] * len(counts)))
+    tree = o.Tree(o.table_of(counts, [0] * len(counts), again))
     rank = [0] * tree.n
     size = [1 if not tree.kids[k] else 0 for k in range(tree.n)]
     for k in range(tree.n - 1, 0, -1):
@@ -76,4 +82,4 @@ def ranked(counts, best_first):
         for c in kids:
             rank[c] = at
             at += size[c]
-    return o.table_of(counts, [rank[k] for k in tree.leaves()])
+    return o.table_of(counts, [rank[k] for k in tree.leaves()], again)

@@ -1,4 +1,5 @@
--- The cases of SPEC 12.2 (01: those marked P; and wins and losses), computed from the definitions over byte tables.
+-- The cases of SPEC 12.2 (01: those marked P; wins and losses; second captures), computed from the definitions over
+-- byte tables.
 use mathlib.Core.Path.{_≡_, refl}
 use mathlib.Core.List.{map}
 use Rattle.gametree.specs.Mtd.{mtd}
@@ -10,6 +11,7 @@ use Rattle.frames.specs.Check.{framesRejection, rejection}
 use Rattle.places.specs.Buffer.{tabulate, written}
 use Rattle.certificate.specs.Marks.{ones}
 use Rattle.demands.specs.Cases.{rowOf, tables, rows, path, winTables, winRows}
+use Rattle.demands.specs.Cases.{leavesOf, captureTables, captureRows}
 
 -- every row of the table is what the definitions give
 pub marked-cases : map rowOf tables ≡ rows
@@ -21,3 +23,8 @@ pub win-cases : map rowOf winTables ≡ winRows
 unfolding mtd next parentBefore placeWithin placeOf kidsFrom grow treeAt valuation eachNode
     framesRejection rejection tabulate written ones path
 win-cases = refl
+
+pub capture-cases : map rowOf captureTables ≡ captureRows
+unfolding mtd next parentBefore placeWithin placeOf kidsFrom grow treeAt valuation eachNode
+    framesRejection rejection tabulate written ones leavesOf
+capture-cases = refl

@@ -1,10 +1,11 @@
--- The cases of SPEC 12.2 (01: those marked P; and wins and losses), as byte tables, with what is said of them.
+-- The cases of SPEC 12.2 (01: those marked P; wins and losses; second captures), as byte tables, with what is said of
+-- them.
 use Prim.Native.Nat.{ℕ, zero, suc, _+_}
 use mathlib.Core.List.{List, [], _∷_, _++_}
 use lib.IntN.{ℤ, pos, negℤ, negsuc}
 use lib.ListN.{replicate, take}
 use Rattle.frames.specs.Frame.{frames}
-use Rattle.frames.specs.results.Cases.{leafFrame, innerFrame, small, lone, single}
+use Rattle.frames.specs.results.Cases.{leafFrame, innerFrame, againFrame, small, capture, lone, single}
 use Rattle.certificate.specs.declared.Findings.{Findings}
 use Rattle.certificate.specs.Marks.{ones}
 use Rattle.alphabeta.specs.declared.Answer as ab
@@ -159,4 +160,34 @@ winRows =
     ∷ row (negℤ (pos 30999)) 1 2 2 2 2 2 4 (3 ∷ 3 ∷ 1 ∷ [])
     ∷ row (negℤ (pos 30998)) 1 2 2 2 2 2 9 (3 ∷ 3 ∷ 3 ∷ 2 ∷ 2 ∷ [])
     ∷ row (negℤ (pos 30982)) 2 2 2 2 2 2 38 (3 ∷ 1 ∷ replicate 18 3)
+    ∷ []
+
+-- leaves of these values, from 0 to 255
+unfoldable pub leavesOf : List ℕ → List ℕ
+leavesOf [] = []
+leavesOf (v ∷ vs) = leafFrame 0 v ++ leavesOf vs
+
+-- Max(Max(1, 2)); Max(Min(Min(2, 1))); Max five times in a row above 1 and 2; Max(Max(Min(1, 2), Min(3, 4))); and
+-- Max(Min(Min(1, 2), Min(3, 4)), Max(Min(2, 5), Min(2, 1)))
+abbrev pub captureTables : List (List ℕ)
+captureTables =
+    capture
+    ∷ (innerFrame 1 1 ++ innerFrame 2 1 ++ againFrame 3 2 ++ leavesOf (2 ∷ 1 ∷ []))
+    ∷ (innerFrame 1 1 ++ againFrame 2 1 ++ againFrame 3 1 ++ againFrame 4 1 ++ againFrame 5 2
+    ++ leavesOf (1 ∷ 2 ∷ []))
+    ∷ (innerFrame 1 1 ++ againFrame 2 2 ++ innerFrame 4 2 ++ innerFrame 6 2 ++ leavesOf (1 ∷ 2 ∷ 3 ∷ 4 ∷ []))
+    ∷ (innerFrame 1 2 ++ innerFrame 3 2 ++ againFrame 5 2
+    ++ againFrame 7 2 ++ againFrame 9 2 ++ innerFrame 11 2 ++ innerFrame 13 2
+    ++ leavesOf (1 ∷ 2 ∷ 3 ∷ 4 ∷ 2 ∷ 5 ∷ 2 ∷ 1 ∷ []))
+    ∷ []
+
+-- by the depth the first would be 1
+abbrev pub captureRows : List Row
+captureRows =
+    row (pos 2) 1 2 2 2 2 2 6 (3 ∷ 3 ∷ 1 ∷ 3 ∷ [])
+    ∷ row (pos 1) 1 2 2 2 3 2 9 (3 ∷ 3 ∷ 3 ∷ 2 ∷ 3 ∷ [])
+    ∷ row (pos 2) 1 2 2 2 2 2 12 (3 ∷ 3 ∷ 3 ∷ 3 ∷ 3 ∷ 1 ∷ 3 ∷ [])
+    ∷ row (pos 3) 1 4 4 3 2 3 11 (3 ∷ 3 ∷ 1 ∷ 3 ∷ 1 ∷ 0 ∷ 3 ∷ 2 ∷ [])
+    ∷ rowWith (pos 2) 2 8 7 4 2 4 14 (3 ∷ 1 ∷ 3 ∷ 1 ∷ 0 ∷ 3 ∷ 1 ∷ 1 ∷ 0 ∷ 0 ∷ 0 ∷ 3 ∷ 2 ∷ 1 ∷ 0 ∷ [])
+    (3 ∷ 1 ∷ 3 ∷ 1 ∷ 0 ∷ 3 ∷ 1 ∷ 1 ∷ 0 ∷ 0 ∷ 0 ∷ 3 ∷ 2 ∷ 0 ∷ 1 ∷ [])
     ∷ []

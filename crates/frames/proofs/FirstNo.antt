@@ -8,16 +8,16 @@ use mathlib.Core.Logic.{_⊎_, inl, inr, ⊎-elim}
 use mathlib.Core.Bool.{Bool, true, false}
 use mathlib.Core.Option.{Option, none, some}
 use mathlib.Core.List.{List}
-use lib.Dec.{leb, eqb}
+use lib.Dec.{leb}
 use borrow.Author.Tests.{leb-true, leb-false}
 use Rattle.lists.proofs.Choice.{clash}
 use Rattle.frames.specs.declared.Rejection.{Rejection}
-use Rattle.frames.specs.Frame.{maxChildren, maxDepth, frames, childCount, byte3}
+use Rattle.frames.specs.Frame.{maxChildren, maxDepth, frames, childCount}
 use Rattle.frames.specs.Place.{depthOf}
 use Rattle.frames.specs.Rejection.{ask, _andThen_, eachNode}
-use Rattle.frames.specs.Check.{firstChildRight, valueRight, check4, check5, check6, check7, checkNode}
-use Rattle.frames.specs.Check.{check1, check2, check3, nodesRejection, check8, check9, depthsRejection}
-use Rattle.frames.specs.Check.{framesRejection, rejection}
+use Rattle.frames.specs.Check.{byte3Right, firstChildRight, valueRight, check4, check5, check6, check7}
+use Rattle.frames.specs.Check.{checkNode, check1, check2, check3, nodesRejection, check8, check9}
+use Rattle.frames.specs.Check.{depthsRejection, framesRejection, rejection}
 use Rattle.frames.specs.FirstNo.{FirstAt, LowestNo, LowestDeep, framesBefore9, rejectionBefore9}
 use Rattle.frames.proofs.Stated.{ask-yes, both-passed, passed-then}
 use Rattle.frames.proofs.Asked.{each-passed}
@@ -90,7 +90,7 @@ module _ (t : List ℕ) (r : Rejection) where
 
   node-place : (i : ℕ) → checkNode t i ≡ some r → r .place ≡ i
   node-place i e =
-      ⊎-elim (asked-place (eqb (byte3 t i) 0) 4 i) (λ x.
+      ⊎-elim (asked-place (byte3Right t i) 4 i) (λ x.
       ⊎-elim (asked-place (leb (childCount t i) maxChildren) 5 i) (λ y.
       ⊎-elim (asked-place (firstChildRight t i (childCount t i)) 6 i) (λ z.
       asked-place (valueRight t i (childCount t i)) 7 i (z .1))

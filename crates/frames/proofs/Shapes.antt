@@ -3,6 +3,7 @@ use Prim.Native.Nat.{ℕ, zero, suc, _+_, _*_, _≤_, _<_}
 use native.Mathlib.Omega.{arith}
 use mathlib.Core.Path.{_≡_, refl, sym, ap, ap₂, _∙_}
 use mathlib.Core.List.{List}
+use Rattle.gametree.specs.declared.Place.{Place}
 use Rattle.frames.specs.Frame.{frames, firstChild, childCount, storedScore}
 use Rattle.frames.specs.Place.{parentBefore, parentOf, childPlace, placeOf, sideOf}
 use Rattle.frames.specs.Tree.{node, treeAt, tree, leafScore, valuation}
@@ -26,6 +27,9 @@ module _ (t u : List ℕ) (s : SameShape t u) where
   same-before k (suc n) h =
       rw (same-first n (omega arith), same-count n (omega arith), same-before k n (omega arith))
 
+  same-child : (k : ℕ) (p : Place) → k < frames t → childPlace t k p ≡ childPlace u k p
+  same-child k p h = rw (s .sameBytes k 3 h (omega arith))
+
   same-within : (n k : ℕ) → k < n → k < frames t → placeOf t k ≡ placeOf u k
   same-within zero k l h = absurd (omega arith)
   same-within (suc n) zero l h = place-root t ∙ sym (place-root u)
@@ -35,6 +39,7 @@ module _ (t u : List ℕ) (s : SameShape t u) where
       place-step t (suc k) (omega arith)
       ∙ ap (λ p. childPlace t (suc k) p)
       (same-within n (parentOf t (suc k)) (omega arith) (omega arith) ∙ ap (placeOf u) e)
+      ∙ same-child (suc k) (placeOf u (parentOf u (suc k))) h
       ∙ sym (place-step u (suc k) (omega arith))
 
   -- each node stands at the same place

@@ -1,20 +1,45 @@
--- Who moves goes by the depth: at even depth Max, at odd depth Min (SPEC 3.5).
-use Prim.Native.Nat.{ℕ, zero, suc, _+_, _%_}
+-- Who moves at a node goes by the mover at its parent and by byte 3 (SPEC 3.5). Where no byte 3 is 1 it goes by the
+-- depth, and the questions and the tree are what they were before byte 3 had a meaning.
+use Prim.Native.Nat.{ℕ, zero, suc, _+_, _%_, _≤_, _<_}
 use native.Mathlib.Omega.{arith}
 use native.Mathlib.Decide.{decLt}
-use mathlib.Core.Path.{_≡_, refl, ap, _∙_}
-use mathlib.Core.Bool.{cond}
+use mathlib.Core.Path.{_≡_, refl, sym, ap, ap₂, subst, _∙_}
+use mathlib.Core.Bool.{and-false, or-false}
+use mathlib.Core.Option.{Option}
 use mathlib.Core.List.{List}
-use lib.Dec.{eqb}
+use lib.Dec.{ltb, eqb}
 use borrow.Author.Tests.{eq-eqb, ne-eqb}
-use Rattle.gametree.specs.declared.Side.{Side}
-use Rattle.gametree.specs.declared.Side.the-variants.{Max, Min}
 use Rattle.gametree.specs.Tree.{other}
-use Rattle.frames.specs.Place.{parentOf, placeWithin, placeOf, depthOf, sideOf}
+use Rattle.frames.specs.declared.Rejection.{Rejection}
+use Rattle.frames.specs.Frame.{frames, firstChild, childCount, byte3, sameMover}
+use Rattle.frames.specs.Place.{parentOf, placeOf, depthOf, sideOf}
+use Rattle.frames.specs.Tree.{node, treeAt, tree}
+use Rattle.frames.specs.Formed.{WellFormed, ChildOf}
+use Rattle.frames.specs.Rejection.{_andThen_, eachNode}
+use Rattle.frames.specs.Check.{check1, check2, check3, check4, check5, check6, check7, check8, depthsRejection}
+use Rattle.frames.specs.Check.{framesRejection, rejection}
+use Rattle.frames.specs.results.Alternating.{Alternating, zeroCheck4, zeroRejection, sideByDepth, growByDepth}
+use Rattle.frames.specs.results.Alternating.{treeByDepth}
+use Rattle.frames.proofs.Parents.{parent-less}
+use Rattle.frames.proofs.Places.{place-root, place-step, place-child, depth-child}
+use Rattle.frames.proofs.Next.{child-later, child-within}
+use Rattle.frames.proofs.Trees.{node-same, tree-node}
 
--- Max at even depth, Min at odd depth
-abbrev pub sideByDepth : ℕ → Side
-sideByDepth d = cond (eqb (d % 2) 0) Max Min
+module _ (t : List ℕ) (wf : WellFormed t) {i k : ℕ} (h : i < frames t) (c : ChildOf t i k) where
+  -- where byte 3 is 1 the same side moves as at the parent
+  pub mover-same : byte3 t k ≡ sameMover → sideOf t k ≡ sideOf t i
+  mover-same e = ap (λ p. p .side) (place-child t wf h c) ∙ rw (eq-eqb (byte3 t k) sameMover e)
+
+  -- where it is zero the other side
+  pub mover-other : byte3 t k ≡ 0 → sideOf t k ≡ other (sideOf t i)
+  mover-other e = ap (λ p. p .side) (place-child t wf h c) ∙ rw (ne-eqb (byte3 t k) sameMover (λ o. omega arith))
+
+-- the same checks of each node have the same first "no"
+each-same : (p q : ℕ → Option Rejection) (i n : ℕ) → ((k : ℕ) → k < i + n → p k ≡ q k) → eachNode p i n ≡ eachNode q i n
+unfolding eachNode
+each-same p q i zero e = refl
+each-same p q i (suc n) e =
+    ap₂ _andThen_ (e i (omega arith)) (each-same p q (i + 1) n (λ k h. e k (omega arith)))
 
 one-deeper : (d : ℕ) → other (sideByDepth d) ≡ sideByDepth (d + 1)
 one-deeper d =
@@ -23,15 +48,56 @@ one-deeper d =
       | no p ↦ rw (ne-eqb (d % 2) 0 (λ e. omega arith), eq-eqb ((d + 1) % 2) 0 (omega arith))
     ]
 
-within-parity : (f : ℕ) (t : List ℕ) (k : ℕ) → placeWithin f t k .side ≡ sideByDepth (placeWithin f t k .depth)
-unfolding placeWithin
-within-parity zero t k = refl
-within-parity (suc f) t zero = refl
-within-parity (suc f) t (suc k) =
-    let p = placeWithin f t (parentOf t (suc k)) in
-    ap other (within-parity f t (parentOf t (suc k))) ∙ one-deeper (p .depth)
+-- bytes 3 that are all zero are none of them 1
+pub zeros-alternate : (t : List ℕ) → ((i : ℕ) → i < frames t → byte3 t i ≡ 0) → Alternating t
+zeros-alternate t z i h e = omega (arith, z i h)
 
--- at even depth Max moves, at odd depth Min
-pub side-parity : (t : List ℕ) (k : ℕ) → sideOf t k ≡ sideByDepth (depthOf t k)
-unfolding placeOf
-side-parity t k = within-parity k t k
+module _ (t : List ℕ) (a : Alternating t) where
+  -- question 4 passes what it passed
+  pub check4-before : (i : ℕ) → i < frames t → check4 t i ≡ zeroCheck4 t i
+  check4-before i h =
+      rw (
+        ne-eqb (byte3 t i) sameMover (a i h),
+        and-false (ltb 0 (childCount t i)),
+        and-false (ltb 0 i),
+        or-false (eqb (byte3 t i) 0),
+      )
+
+  -- and the first "no" to questions 1 to 9 is what it was
+  pub rejection-before : rejection t ≡ zeroRejection t
+  unfolding rejection framesRejection
+  rejection-before =
+      ap (λ x. check1 t andThen check2 t andThen check3 t andThen (x andThen check8 t andThen depthsRejection t))
+      (each-same _ _ 0 (frames t) (λ k h.
+      ap (λ x. x andThen check5 t k andThen check6 t k andThen check7 t k) (check4-before k (omega arith))))
+
+  within-parity : (n k : ℕ) → k < n → k < frames t → sideOf t k ≡ sideByDepth (depthOf t k)
+  within-parity zero k l h = absurd (omega arith)
+  within-parity (suc n) zero l h = subst (λ p. p .side ≡ sideByDepth (p .depth)) (sym (place-root t)) refl
+  within-parity (suc n) (suc k) l h =
+      let b = parent-less t (suc k) (omega arith) in
+      let p = placeOf t (parentOf t (suc k)) in
+      subst (λ q. q .side ≡ sideByDepth (q .depth)) (sym (place-step t (suc k) (omega arith)))
+      (rw (ne-eqb (byte3 t (suc k)) sameMover (a (suc k) h))
+      (ap other (within-parity n (parentOf t (suc k)) (omega arith) (omega arith)) ∙ one-deeper (p .depth)))
+
+  -- at even depth Max moves, at odd depth Min
+  pub side-parity : (k : ℕ) → k < frames t → sideOf t k ≡ sideByDepth (depthOf t k)
+  side-parity k h = within-parity (suc k) k (omega arith) h
+
+  module _ (wf : WellFormed t) where
+    grown-before : (f i d : ℕ) → i < frames t → frames t ≤ i + f → d ≡ depthOf t i → treeAt t i ≡ growByDepth f t d i
+    unfolding growByDepth
+    grown-before zero i d h l e = absurd (omega arith)
+    grown-before (suc f) i d h l e =
+        tree-node t wf i h
+        ∙ node-same i (sideOf t i) (treeAt t) (growByDepth f t (d + 1)) (firstChild t i) (childCount t i) (λ k a b.
+        let c : ChildOf t i k = record { from = a; to = b } in
+        grown-before f k (d + 1) (child-within t wf h c) (omega (arith, child-later t wf h c))
+        (omega (arith, depth-child t wf h c)))
+        ∙ ap (λ s. node i s (growByDepth f t (d + 1)) (firstChild t i) (childCount t i))
+        (side-parity i h ∙ ap sideByDepth (sym e))
+
+    -- and the tree is the one whose sides go by the depth
+    pub tree-before : tree t ≡ treeByDepth t
+    tree-before = grown-before (frames t) 0 0 (wf .some) (omega arith) (sym (ap (λ p. p .depth) (place-root t)))

@@ -2,16 +2,20 @@
 use Prim.Native.Nat.{ℕ, zero, suc, _<_}
 use native.Mathlib.Omega.{arith}
 use mathlib.Core.Path.{_≡_, refl}
-use mathlib.Core.Bool.{Bool, true, false}
+use mathlib.Core.Logic.{_⊎_, inl, inr, ⊎-elim}
+use mathlib.Core.Bool.{Bool, true, false, _&&_}
 use mathlib.Core.Option.{Option, none, some}
 use mathlib.Core.List.{List}
+use lib.Dec.{ltb, eqb}
 use borrow.Author.Tests.{ltb-true, leb-true, eqb-true, lt-ltb, le-leb, eq-eqb}
 use Rattle.gametree.specs.Tree.{Score}
-use Rattle.lists.proofs.Choice.{clash, and-both}
+use Rattle.lists.proofs.Choice.{clash, or-cases, or-right, and-both}
 use Rattle.frames.specs.declared.Rejection.{Rejection}
-use Rattle.frames.specs.Frame.{firstChild, valueBytes, storedScore, next}
+use Rattle.frames.specs.Frame.{firstChild, childCount, byte3, sameMover, valueBytes, storedScore}
+use Rattle.frames.specs.Frame.{next}
 use Rattle.frames.specs.Rejection.{ask, _andThen_}
-use Rattle.frames.specs.Check.{firstChildRight, valueRight, check4, check5, check6, check7, checkNode}
+use Rattle.frames.specs.Check.{byte3Right, firstChildRight, valueRight, check4, check5, check6, check7}
+use Rattle.frames.specs.Check.{checkNode}
 use Rattle.frames.specs.results.Stated.{FrameAsStated}
 
 -- a rejection is not none
@@ -39,6 +43,24 @@ pub passed-then : (x y : Option Rejection) → x ≡ none → (x andThen y) ≡ 
 passed-then x y e = rw e
 
 module _ (t : List ℕ) (i : ℕ) where
+  -- what question 4 says of a node
+  abbrev Mover : Type 0
+  Mover = (byte3 t i ≡ 0) ⊎ ((byte3 t i ≡ sameMover) × (0 < i) × (0 < childCount t i))
+
+  right-mover : byte3Right t i ≡ true → Mover
+  right-mover e =
+      ⊎-elim (λ z. inl (eqb-true _ _ z)) (λ s.
+      let p = and-both _ _ s in
+      let q = and-both _ _ (p .1) in
+      inr (eqb-true _ _ (q .1), ltb-true _ _ (p .0), ltb-true _ _ (q .0)))
+      (or-cases (eqb (byte3 t i) 0) (ltb 0 i && (ltb 0 (childCount t i) && eqb (byte3 t i) sameMover)) e)
+
+  mover-right : Mover → byte3Right t i ≡ true
+  mover-right (inl z) = rw (eq-eqb _ _ z)
+  mover-right (inr s) =
+      or-right (eqb (byte3 t i) 0) (ltb 0 i && (ltb 0 (childCount t i) && eqb (byte3 t i) sameMover))
+      (rw (lt-ltb 0 i (s .1), lt-ltb 0 (childCount t i) (s .2), eq-eqb (byte3 t i) sameMover (s .0)))
+
   -- what question 6 says of a node with n children
   record FirstChild (n : ℕ) : Type 0 where
     leaf : n ≡ 0 → firstChild t i ≡ 0
@@ -83,7 +105,7 @@ module _ (t : List ℕ) (i : ℕ) where
       let f = right-first _ (ask-yes _ _ _ (c .0)) in
       let v = right-value _ (ask-yes _ _ _ (c .1)) in
       record {
-        byte3Zero = eqb-true _ _ (ask-yes _ _ _ (a .0));
+        mover = right-mover (ask-yes _ _ _ (a .0));
         fewChildren = leb-true _ _ (ask-yes _ _ _ (b .0));
         leafFirst = f .leaf;
         leafValue = v .leaf;
@@ -94,7 +116,7 @@ module _ (t : List ℕ) (i : ℕ) where
 
   pub stated-passed : FrameAsStated t i → checkNode t i ≡ none
   stated-passed s =
-      passed-both (check4 t i) _ (yes-ask _ _ _ (eq-eqb _ _ (s .byte3Zero)))
+      passed-both (check4 t i) _ (yes-ask _ _ _ (mover-right (s .mover)))
       (passed-both (check5 t i) _ (yes-ask _ _ _ (le-leb _ _ (s .fewChildren)))
       (passed-both (check6 t i) (check7 t i)
       (yes-ask _ _ _ (first-right _ (record { leaf = s .leafFirst; first = s .innerFirst; later = s .innerLater })))

@@ -1,15 +1,15 @@
 -- The check of a table: questions 1 to 9 in order (SPEC 4.2, 4.3).
 use Prim.Native.Nat.{ℕ, zero, suc, _%_}
 use mathlib.Core.Path.{_≡_}
-use mathlib.Core.Bool.{Bool, true, _&&_}
+use mathlib.Core.Bool.{Bool, true, _&&_, _||_}
 use mathlib.Core.Option.{Option, none}
 use mathlib.Core.List.{List, [], _∷_}
 use lib.Dec.{ltb, leb, eqb}
 use lib.ListN.{length}
 use Rattle.frames.specs.declared.Rejection.{Rejection}
 use Rattle.frames.specs.declared.Checked.{Checked}
-use Rattle.frames.specs.Frame.{frameSize, maxChildren, maxDepth, frames, firstChild, childCount, byte3, maxTable}
-use Rattle.frames.specs.Frame.{valueBytes, storedScore, next}
+use Rattle.frames.specs.Frame.{frameSize, maxChildren, maxDepth, frames, firstChild, childCount, byte3, sameMover}
+use Rattle.frames.specs.Frame.{maxTable, valueBytes, storedScore, next}
 use Rattle.frames.specs.Place.{depthOf}
 use Rattle.gametree.specs.Tree.{least, greatest}
 use Rattle.frames.specs.Rejection.{ask, _andThen_, eachNode, answer}
@@ -26,9 +26,13 @@ check2 t = ask (leb (length t) maxTable) 2 0
 abbrev pub check3 : List ℕ → Option Rejection
 check3 t = ask (eqb (length t % frameSize) 0) 3 (frames t)
 
--- 4: is byte 3 zero?
+-- byte 3 is zero, or 1 on an inner node other than the root
+abbrev pub byte3Right : List ℕ → ℕ → Bool
+byte3Right t i = eqb (byte3 t i) 0 || (ltb 0 i && (ltb 0 (childCount t i) && eqb (byte3 t i) sameMover))
+
+-- 4: is byte 3 as it must be?
 abbrev pub check4 : List ℕ → ℕ → Option Rejection
-check4 t i = ask (eqb (byte3 t i) 0) 4 i
+check4 t i = ask (byte3Right t i) 4 i
 
 -- 5: at most 40 children?
 abbrev pub check5 : List ℕ → ℕ → Option Rejection

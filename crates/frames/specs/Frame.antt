@@ -38,9 +38,13 @@ firstChild t i = byteOf t i 0 * 256 + byteOf t i 1
 abbrev pub childCount : List ℕ → ℕ → ℕ
 childCount t i = byteOf t i 2
 
--- byte 3
+-- byte 3: who moves there
 abbrev pub byte3 : List ℕ → ℕ → ℕ
 byte3 t i = byteOf t i 3
+
+-- its number at a node where the same side moves as at the parent (02: a second capture); 0 means the other side
+abbrev pub sameMover : ℕ
+sameMover = 1
 
 -- bytes 4 and 5 as one unsigned number, high byte first
 abbrev pub valueBytes : List ℕ → ℕ → ℕ

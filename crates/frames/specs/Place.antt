@@ -2,12 +2,12 @@
 use Prim.Native.Nat.{ℕ, zero, suc, _+_}
 use mathlib.Core.Bool.{Bool, cond, _&&_}
 use mathlib.Core.List.{List}
-use lib.Dec.{ltb, leb}
+use lib.Dec.{ltb, leb, eqb}
 use Rattle.gametree.specs.declared.Place.{Place}
 use Rattle.gametree.specs.declared.Side.{Side}
 use Rattle.gametree.specs.declared.Side.the-variants.{Max}
 use Rattle.gametree.specs.Tree.{other}
-use Rattle.frames.specs.Frame.{firstChild, childCount}
+use Rattle.frames.specs.Frame.{firstChild, childCount, byte3, sameMover}
 
 -- is k one of node i's children, which are consecutive
 abbrev pub isChild : List ℕ → ℕ → ℕ → Bool
@@ -26,10 +26,13 @@ parentOf t k = parentBefore t k k
 abbrev pub rootPlace : Place
 rootPlace = record { depth = 0; side = Max }
 
--- a child k of a node that stands at p is one deeper, and the other side moves there; the table t and the number k play
--- no part yet (request N8 uses them)
+-- who moves at a child k of a node where the side s moves: the same side if byte 3 of the child says so, else the other
+abbrev pub childSide : List ℕ → ℕ → Side → Side
+childSide t k s = cond (eqb (byte3 t k) sameMover) s (other s)
+
+-- a child k of a node that stands at p is one deeper
 abbrev pub childPlace : List ℕ → ℕ → Place → Place
-childPlace t k p = record { depth = p .depth + 1; side = other (p .side) }
+childPlace t k p = record { depth = p .depth + 1; side = childSide t k (p .side) }
 
 -- where node k stands, from its parent's place; the first number bounds the steps to the root
 unfoldable pub placeWithin : ℕ → List ℕ → ℕ → Place

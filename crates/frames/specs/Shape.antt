@@ -4,10 +4,10 @@ use mathlib.Core.Path.{_≡_}
 use mathlib.Core.List.{List}
 use Rattle.frames.specs.Frame.{frames, byteOf}
 
--- equally many frames, alike in bytes 0 to 2
+-- equally many frames, alike in bytes 0 to 3
 pub record SameShape (t u : List ℕ) : Type 0 where
   pub sameFrames : frames t ≡ frames u
-  pub sameBytes : (i k : ℕ) → i < frames t → k < 3 → byteOf t i k ≡ byteOf u i k
+  pub sameBytes : (i k : ℕ) → i < frames t → k < 4 → byteOf t i k ≡ byteOf u i k
 
 -- leaf i has the same bytes 4 and 5 in both
 pub record AgreeOn (t u : List ℕ) (i : ℕ) : Type 0 where

@@ -1,3 +1,5 @@
--- What results beside the contracts are stated with: small cases as tables, and the papers' wording clause by clause.
+-- What results beside the contracts are stated with: small cases as tables, the papers' wording clause by clause, and
+-- what tables meant before byte 3 had a meaning.
 pub mod Stated
 pub mod Cases
+pub mod Alternating

@@ -1,5 +1,6 @@
 // Byte tables of six-byte frames: the check of a table, a node's children, and the fields of a frame.
 use gametree::Place;
+use gametree::Side;
 use gametree::other;
 ghost use mathlib.Core.Path.{_≡_};
 ghost use Prim.Native.Nat.{_+_, _*_, _<_, _≤_};
@@ -7,13 +8,13 @@ ghost use Rattle.gametree.specs.Tree.{greatest};
 ghost use Rattle.frames.specs.Frame.{frameSize, maxNodes, maxChildren, frames, next as nextOf, twoBytes};
 ghost use Rattle.frames.specs.Frame.{byteOf, firstChild, childCount, byte3, valueBytes, storedScore};
 ghost use Rattle.frames.specs.Children.{childrenOf};
-ghost use Rattle.frames.specs.Place.{childPlace};
+ghost use Rattle.frames.specs.Place.{childSide, childPlace};
 ghost use Rattle.frames.specs.Tree.{leafScore};
 ghost use Rattle.frames.specs.Value.{valueOf};
 ghost use Rattle.frames.specs.Formed.{WellFormed};
 ghost use Rattle.frames.specs.Rejection.{answer};
-ghost use Rattle.frames.specs.Check.{firstChildRight, valueRight, checkNode, nodesRejection, depthsRejection};
-ghost use Rattle.frames.specs.Check.{framesRejection, checked};
+ghost use Rattle.frames.specs.Check.{byte3Right, firstChildRight, valueRight, checkNode, nodesRejection};
+ghost use Rattle.frames.specs.Check.{depthsRejection, framesRejection, checked};
 
 // The limits (SPEC 3.2).
 pub const FRAME_SIZE: usize = 6;
@@ -45,6 +46,9 @@ const WIN: u32 = 31000;
 const WON: u32 = ZERO_SCORE as u32 + WIN;
 
 const LOST: u32 = ZERO_SCORE as u32 - WIN;
+
+// Byte 3 of a node where the same side moves as at its parent (SPEC 3.5).
+const SAME_MOVER: usize = 1;
 
 // The flags of a certificate: a node in the max tree only, in the min tree only, and in both.
 pub const IN_MAX: u8 = 1;
@@ -163,7 +167,7 @@ fn check_node(table: &[u8], node: usize, next: usize) -> Checked
     ensures { λ r. ⌜ r ≡ answer (nextOf (now (table .entry)) (node + 1)) (checkNode (now (table .entry)) node) ⌝ }
 {
     let count = child_count(table, node);
-    if byte_3(table, node) != 0 {
+    if !byte_3_right(table, node) {
         return rejected(WRONG_BYTE_3, node);
     }
     if MAX_CHILDREN < count {
@@ -176,6 +180,23 @@ fn check_node(table: &[u8], node: usize, next: usize) -> Checked
         return rejected(WRONG_VALUE, node);
     }
     Checked::Nodes(next + count)
+}
+
+// Question 4 of a node: is its byte 3 as it must be?
+fn byte_3_right(table: &[u8], node: usize) -> bool
+    requires { ⌜ node < frames (now table) ⌝ }
+    ensures { λ r. ⌜ r ≡ byte3Right (now (table .entry)) node ⌝ }
+{
+    let byte = byte_3(table, node);
+    if byte == 0 {
+        return true;
+    }
+    if 0 < node {
+        if 0 < child_count(table, node) {
+            return byte == SAME_MOVER;
+        }
+    }
+    false
 }
 
 // Question 6 of a node: is its first child as it must be?
@@ -324,10 +345,23 @@ pub fn child_place(table: &[u8], child: usize, place: Place) -> Place
     requires { ⌜ (child < frames (now table)) × (place .depth ≤ maxNodes) ⌝ }
     ensures { λ r. ⌜ r ≡ childPlace (now (table .entry)) child place ⌝ }
 {
-    let side = place.side;
-    let opponent = other(side);
+    let mover = place.side;
+    let side = child_side(table, child, mover);
     Place {
         depth: place.depth + 1,
-        side: opponent,
+        side,
+    }
+}
+
+// Who moves at a child of a node where `mover` moves.
+pub fn child_side(table: &[u8], child: usize, mover: Side) -> Side
+    requires { ⌜ child < frames (now table) ⌝ }
+    ensures { λ r. ⌜ r ≡ childSide (now (table .entry)) child mover ⌝ }
+{
+    let opponent = other(mover);
+    if byte_3(table, child) == SAME_MOVER {
+        mover
+    } else {
+        opponent
     }
 }

@@ -2,7 +2,7 @@
 -- of the side that moves at a child.
 use Prim.Native.Nat.{ℕ, suc, _+_, _-_, _≤_, _<_}
 use native.Mathlib.Omega.{arith}
-use mathlib.Core.Path.{_≡_, refl, ap, _∙_}
+use mathlib.Core.Path.{_≡_, refl, ap, ap₂, _∙_}
 use mathlib.Core.List.{List}
 use lib.ListN.{length, set}
 use Rattle.gametree.specs.declared.Side.{Side}
@@ -11,7 +11,7 @@ use Rattle.gametree.specs.Certificate.{worst}
 use Rattle.gametree.proofs.minimax.Nodes.{leaves-in}
 use Rattle.gametree.proofs.Theorems.{value-score}
 use Rattle.frames.specs.Frame.{maxDepth, firstChild, childCount}
-use Rattle.frames.specs.Place.{childPlace}
+use Rattle.frames.specs.Place.{childSide}
 use Rattle.frames.specs.Tree.{treeAt, valuation}
 use Rattle.frames.specs.Formed.{ChildOf}
 use Rattle.frames.proofs.Nodes.{in-own}
@@ -22,6 +22,7 @@ use Rattle.frames.proofs.Trees.{tree-leaf, tree-inner}
 use Rattle.certificate.specs.Marks.{markAll}
 use Rattle.certificate.specs.engine.Evaluable.{Evaluable}
 use Rattle.certificate.specs.engine.Searchable.{Unmarked}
+use Rattle.certificate.proofs.Marking.{markAll-length}
 use Rattle.certificate.proofs.Unmarked.{Waiting, all-wait, younger-wait}
 use Rattle.certificate.proofs.Searchable.{searchable-depth, searchable-child}
 use Rattle.plain.specs.engine.Ready.{turnPlace, Ready}
@@ -85,27 +86,28 @@ module _ (t e : List ℕ) (s : Side) (i left : ℕ) (r : Ready t e s i left) whe
       }
 
   -- a node that has a child is not of the greatest depth
-  pub child-left : (k : ℕ) → ChildOf t i k → 0 < left
-  child-left k c =
+  pub inner-left : 0 < childCount t i → 0 < left
+  inner-left n =
       let x = r .searchable in
+      let c : ChildOf t i (firstChild t i) = record { from = omega arith; to = omega arith } in
       omega (
         arith,
-        r .shallow k (child-within t (x .formed) (x .inside) c),
+        r .shallow (firstChild t i) (child-within t (x .formed) (x .inside) c),
         depth-child t (x .formed) (x .inside) c,
         searchable-depth t e i (turnPlace s left) x,
         r .remaining,
       )
 
-  -- the child may be searched by the side that moves there, with one level less
-  pub ready-child : (k : ℕ) (e′ : List ℕ) → ChildOf t i k → length e′ ≡ length e → Unmarked e′ (treeAt t k)
-      → Ready t e′ (childPlace t k (turnPlace s left) .side) k (left - 1)
-  ready-child k e′ c l u =
-      let p = childPlace t k (turnPlace s left) in
-      let q : maxDepth - (left - 1) ≡ (maxDepth - left) + 1 = omega (arith, child-left k c, r .remaining) in
+  -- the child may be searched by the side q that moves there, with one level less
+  pub ready-child : (k : ℕ) (q : Side) (e′ : List ℕ) → ChildOf t i k → q ≡ childSide t k s → length e′ ≡ length e
+      → Unmarked e′ (treeAt t k) → Ready t e′ q k (left - 1)
+  ready-child k q e′ c m l u =
+      let d : maxDepth - (left - 1) ≡ (maxDepth - left) + 1 =
+      omega (arith, inner-left (omega (arith, c .from, c .to)), r .remaining) in
       record {
         searchable =
-            searchable-child t e i (turnPlace s left) (r .searchable) k e′ (turnPlace (p .side) (left - 1)) c l u
-            (ap (λ d. record { depth = d; side = p .side }) q);
+            searchable-child t e i (turnPlace s left) (r .searchable) k e′ (turnPlace q (left - 1)) c l u
+            (ap₂ (λ d q. record { depth = d; side = q }) d m);
         remaining = omega (arith, r .remaining);
         shallow = r .shallow;
       }
@@ -113,16 +115,16 @@ module _ (t e : List ℕ) (s : Side) (i left : ℕ) (r : Ready t e s i left) whe
 module _ (t e : List ℕ) (s : Side) (i left : ℕ) (r : Ready t e s i left) (first end : ℕ) (e₁ : List ℕ) (v k : ℕ)
     (h : Turn t s i e first end e₁ v k) where
   -- after the turn of a child the children behind it are to come
-  pub turn-goes-on : ChildOf t i k → k < end → (e₂ : List ℕ) (x w : ℕ) → length e₂ ≡ length e₁ → Gives t k e₁ e₂ x
-      → w ≡ better s v x → Turn t s i e first end e₂ w (k + 1)
+  pub turn-goes-on : ChildOf t i k → k < end → (e₂ : List ℕ) (x w : ℕ) → Gives t k e₁ e₂ x → w ≡ better s v x
+      → Turn t s i e first end e₂ w (k + 1)
   unfolding scoreAfter marksAfter
-  turn-goes-on c l e₂ x w n d b =
+  turn-goes-on c l e₂ x w d b =
       let m : end - k ≡ suc (end - (k + 1)) = omega arith in
       let z = r .searchable in
       record {
         from = omega (arith, h .from);
         to = omega arith;
-        kept = n ∙ h .kept;
+        kept = ap length (d .1) ∙ markAll-length e₁ _ ∙ h .kept;
         waiting =
             younger-wait t (z .formed) i (z .inside) k e₁ e₂ _ c (leaves-in (treeAt t k)) (h .waiting) (d .1);
         gives = rw (b, d .0, d .1) (rw m at (h .gives));

@@ -1,5 +1,5 @@
 // The plain engine over a byte table: minimax without cuts. Max's turn asks Min's turn for each child, and Min's turn
-// asks Max's.
+// asks Max's; where the same side moves again, a turn asks itself.
 use certificate::ask;
 use certificate::clear;
 use certificate::conclude;
@@ -10,6 +10,7 @@ use frames::LEAST;
 use frames::MAX_DEPTH;
 use frames::Rejection;
 use frames::child_count;
+use frames::child_side;
 use frames::first_child;
 use frames::frame_count;
 use frames::value;
@@ -71,8 +72,8 @@ fn run(table: &[u8], evaluated: &mut [u8], certificate: &mut [u8]) -> Found
     Found { value, root_move }
 }
 
-// Max's turn at a node: the greatest of what Min's turn gives for its children. `left` is how many levels may still
-// follow below the node; it falls at every call.
+// Max's turn at a node: the greatest of what the turn of the side that moves there gives for each child. `left` is how
+// many levels may still follow below the node; it falls at every call.
 fn max_turn(table: &[u8], evaluated: &mut [u8], node: usize, left: u32) -> u32
     requires { ⌜ Ready (now table) (now evaluated) Side.Max node left ⌝ }
     ensures { λ r. ⌜ r ≡ minimax (valuation (now (table .entry))) (treeAt (now (table .entry)) node) ⌝ }
@@ -86,15 +87,19 @@ fn max_turn(table: &[u8], evaluated: &mut [u8], node: usize, left: u32) -> u32
     let mut greatest = LEAST;
     let mut child = first_child(table, node);
     let last = child + (count - 1);
+    let below = left - 1;
     while child <= last {
-        let answer = min_turn(table, evaluated, child, left - 1);
+        let answer = match child_side(table, child, Side::Max) {
+            Side::Max => max_turn(table, evaluated, child, below),
+            Side::Min => min_turn(table, evaluated, child, below),
+        };
         greatest = better(Side::Max, greatest, answer);
         child += 1;
     }
     greatest
 }
 
-// Min's turn at a node: the least of what Max's turn gives for its children.
+// Min's turn at a node: the least of what the turn of the side that moves there gives for each child.
 fn min_turn(table: &[u8], evaluated: &mut [u8], node: usize, left: u32) -> u32
     requires { ⌜ Ready (now table) (now evaluated) Side.Min node left ⌝ }
     ensures { λ r. ⌜ r ≡ minimax (valuation (now (table .entry))) (treeAt (now (table .entry)) node) ⌝ }
@@ -108,8 +113,12 @@ fn min_turn(table: &[u8], evaluated: &mut [u8], node: usize, left: u32) -> u32
     let mut least = GREATEST;
     let mut child = first_child(table, node);
     let last_child = child + (count - 1);
+    let left_below = left - 1;
     while child <= last_child {
-        let answer = max_turn(table, evaluated, child, left - 1);
+        let answer = match child_side(table, child, Side::Min) {
+            Side::Max => max_turn(table, evaluated, child, left_below),
+            Side::Min => min_turn(table, evaluated, child, left_below),
+        };
         least = better(Side::Min, least, answer);
         child += 1;
     }

@@ -4,22 +4,22 @@ use native.Mathlib.Omega.{arith}
 use mathlib.Core.Path.{_≡_, sym, ap, _∙_}
 use mathlib.Core.Bool.{true, false}
 use mathlib.Core.List.{List}
-use borrow.Author.Tests.{ne-eqb, le-leb, lt-leb, not-true, not-false}
+use borrow.Author.Tests.{le-leb, lt-leb, not-true, not-false}
 use borrow.Author.Needs.{needs}
 use Rattle.frames.specs.declared.Checked.the-variants.{Nodes}
-use Rattle.frames.specs.Frame.{maxChildren, childCount, byte3, next}
+use Rattle.frames.specs.Frame.{maxChildren, childCount, next}
 use Rattle.frames.specs.Rejection.{answer}
-use Rattle.frames.specs.Check.{firstChildRight, valueRight, checkNode}
+use Rattle.frames.specs.Check.{byte3Right, firstChildRight, valueRight, checkNode}
 use Rattle.frames.proofs.Next.{next-more}
 use Rattle.frames.proofs.Asked.{refused}
 use Rattle.frames.proofs.check_node.Statement.{statement}
 use Rattle.frames.proofs.check_node.Tie as tie
 
 module _ (t : List ℕ) (i m : ℕ) where
-  no-4 : (byte3 t i ≡ 0 → ⊥) → refused 4 i ≡ answer m (checkNode t i)
-  no-4 h = rw (ne-eqb (byte3 t i) 0 h)
+  no-4 : byte3Right t i ≡ false → refused 4 i ≡ answer m (checkNode t i)
+  no-4 h = rw h
 
-  module _ (z : byte3 t i ≡ 0) where
+  module _ (z : byte3Right t i ≡ true) where
     no-5 : maxChildren < childCount t i → refused 5 i ≡ answer m (checkNode t i)
     no-5 h = rw (z, lt-leb (childCount t i) maxChildren h)
 
@@ -34,11 +34,16 @@ module _ (t : List ℕ) (i m : ℕ) where
         all-right : valueRight t i (childCount t i) ≡ true → Nodes m ≡ answer m (checkNode t i)
         all-right f = rw (z, le-leb (childCount t i) maxChildren h, e, f)
 
+-- past question 4 byte 3 is right
+byte-right : (c : tie.Else1)
+    → let a = c .before .before .before .before .args in byte3Right (a .table .now) (a .node) ≡ true
+byte-right c = sym (c .before .byte-3-right .ensures) ∙ not-false _ (c .if1 .left)
+
 child-count-requires : tie.Need-child-count-requires
 child-count-requires c κs = search needs
 
-byte-3-requires : tie.Need-byte-3-requires
-byte-3-requires c κs = search needs
+byte-3-right-requires : tie.Need-byte-3-right-requires
+byte-3-right-requires c κs = search needs
 
 rejected-requires : tie.Need-rejected-requires
 rejected-requires c κs = search needs
@@ -46,7 +51,9 @@ rejected-requires c κs = search needs
 returns : tie.Need-returns
 returns c =
     let a = c .before .before .before .before .before .args in
-    c .rejected .ensures ∙ no-4 (a .table .now) (a .node) _ (omega arith)
+    c .rejected .ensures
+    ∙ no-4 (a .table .now) (a .node) _
+    (sym (c .before .before .byte-3-right .ensures) ∙ not-true _ (c .before .if1 .taken))
 
 rejected-requires-2 : tie.Need-rejected-requires-2
 rejected-requires-2 c κs = search needs
@@ -54,7 +61,7 @@ rejected-requires-2 c κs = search needs
 returns-2 : tie.Need-returns-2
 returns-2 c =
     let a = c .before .before .before .before .before .before .args in
-    c .rejected2 .ensures ∙ no-5 (a .table .now) (a .node) _ (omega arith) (omega arith)
+    c .rejected2 .ensures ∙ no-5 (a .table .now) (a .node) _ (byte-right (c .before .before)) (omega arith)
 
 first-child-right-requires : tie.Need-first-child-right-requires
 first-child-right-requires c κs = search needs
@@ -67,7 +74,7 @@ returns-3 c =
     let e = c .before .before in
     let a = e .before .before .before .before .before .before .args in
     c .rejected3 .ensures
-    ∙ no-6 (a .table .now) (a .node) _ (omega arith) (omega arith)
+    ∙ no-6 (a .table .now) (a .node) _ (byte-right (e .before .before)) (omega arith)
     (sym (e .first-child-right .ensures) ∙ not-true _ (c .before .if3 .taken))
 
 value-right-requires : tie.Need-value-right-requires
@@ -82,12 +89,12 @@ returns-4 c =
     let e = f .before .before in
     let a = e .before .before .before .before .before .before .args in
     c .rejected4 .ensures
-    ∙ no-7 (a .table .now) (a .node) _ (omega arith) (omega arith)
+    ∙ no-7 (a .table .now) (a .node) _ (byte-right (e .before .before)) (omega arith)
     (sym (e .first-child-right .ensures) ∙ not-false _ (f .before .if3 .left))
     (sym (f .value-right .ensures) ∙ not-true _ (c .before .if4 .taken))
 
-add-t5 : tie.Need-add-t5
-add-t5 c = search needs
+add-t7 : tie.Need-add-t7
+add-t7 c = search needs
 
 returns-5 : tie.Need-returns-5
 returns-5 c =
@@ -96,7 +103,7 @@ returns-5 c =
     let a = e .before .before .before .before .before .before .args in
     let t = a .table .now in
     ap Nodes (omega (arith, next-more t (a .node)))
-    ∙ all-right t (a .node) (next t (a .node + 1)) (omega arith) (omega arith)
+    ∙ all-right t (a .node) (next t (a .node + 1)) (byte-right (e .before .before)) (omega arith)
     (sym (e .first-child-right .ensures) ∙ not-false _ (f .before .if3 .left))
     (sym (f .value-right .ensures) ∙ not-false _ (c .if4 .left))
 
@@ -105,7 +112,7 @@ check-node-spec =
     tie.close
     (tie.spec
     child-count-requires
-    byte-3-requires
+    byte-3-right-requires
     rejected-requires
     returns
     rejected-requires-2
@@ -116,5 +123,5 @@ check-node-spec =
     value-right-requires
     rejected-requires-4
     returns-4
-    add-t5
+    add-t7
     returns-5)

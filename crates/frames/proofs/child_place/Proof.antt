@@ -1,16 +1,16 @@
--- `child_place` meets its contract: the side is the parent's opponent.
+-- `child_place` meets its contract.
 use borrow.Author.Needs.{needs}
 use Rattle.frames.proofs.child_place.Statement.{statement}
 use Rattle.frames.proofs.child_place.Tie as tie
 
-other-requires : tie.Need-other-requires
-other-requires c κs = search needs
+child-side-requires : tie.Need-child-side-requires
+child-side-requires c κs = search needs
 
 add-t6 : tie.Need-add-t6
 add-t6 c = search needs
 
 returns : tie.Need-returns
-returns c = rw (c .before .other .ensures)
+returns c = rw (c .before .child-side .ensures)
 
 pub child-place-spec : {M : Type 1} → statement M
-child-place-spec = tie.close (tie.spec other-requires add-t6 returns)
+child-place-spec = tie.close (tie.spec child-side-requires add-t6 returns)

@@ -12,6 +12,10 @@ leafFrame high low = 0 ∷ 0 ∷ 0 ∷ 0 ∷ high ∷ low ∷ []
 abbrev pub innerFrame : ℕ → ℕ → List ℕ
 innerFrame f n = 0 ∷ f ∷ n ∷ 0 ∷ 0 ∷ 0 ∷ []
 
+-- one where the same side moves as at its parent
+abbrev pub againFrame : ℕ → ℕ → List ℕ
+againFrame f n = 0 ∷ f ∷ n ∷ 1 ∷ 0 ∷ 0 ∷ []
+
 -- n leaves of 0
 unfoldable pub leaves : ℕ → List ℕ
 leaves zero = []
@@ -27,6 +31,10 @@ abbrev pub small : ℕ → ℕ → ℕ → ℕ → List ℕ
 small a b c d =
     innerFrame 1 2 ++ innerFrame 3 2 ++ innerFrame 5 2
     ++ leafFrame 0 a ++ leafFrame 0 b ++ leafFrame 0 c ++ leafFrame 0 d
+
+-- Max(Max(1, 2)), where Max moves twice (SPEC 12.2)
+abbrev pub capture : List ℕ
+capture = innerFrame 1 1 ++ againFrame 2 2 ++ leafFrame 0 1 ++ leafFrame 0 2
 
 -- a root that is a leaf of -5; a root with the single leaf 9
 abbrev pub lone : List ℕ
@@ -52,6 +60,7 @@ accepted =
     accepts lone 1
     ∷ accepts single 2
     ∷ accepts (small 1 2 3 4) 7
+    ∷ accepts capture 4
     -- the values 32,000 and -32,000
     ∷ accepts (leafFrame 125 0) 1
     ∷ accepts (leafFrame 131 0) 1
@@ -70,6 +79,11 @@ rejected =
     -- 41 children come before a wrong byte 3 of a later node, and after one of the same node
     ∷ rejects (innerFrame 1 2 ++ innerFrame 3 41 ++ 0 ∷ 0 ∷ 0 ∷ 1 ∷ 0 ∷ 0 ∷ []) 5 1
     ∷ rejects (0 ∷ 1 ∷ 41 ∷ 1 ∷ 0 ∷ 0 ∷ []) 4 0
+    -- byte 3 is 1 at the root, at a leaf, at a node with 41 children; it is 2
+    ∷ rejects (againFrame 1 1 ++ leafFrame 0 5) 4 0
+    ∷ rejects (innerFrame 1 1 ++ 0 ∷ 0 ∷ 0 ∷ 1 ∷ 0 ∷ 5 ∷ []) 4 1
+    ∷ rejects (innerFrame 1 1 ++ againFrame 2 41) 5 1
+    ∷ rejects (innerFrame 1 1 ++ 0 ∷ 2 ∷ 1 ∷ 2 ∷ 0 ∷ 0 ∷ leafFrame 0 5) 4 1
     -- a leaf with a first child; an inner node that leaves a number out; a leaf root and a node that names itself
     ∷ rejects (0 ∷ 1 ∷ 0 ∷ 0 ∷ 0 ∷ 5 ∷ []) 6 0
     ∷ rejects (innerFrame 2 1 ++ leaves 2) 6 0

@@ -1,16 +1,17 @@
 -- What SPEC 3 says of a table, clause by clause. Acceptance.antt shows that the questions ask exactly this.
 use Prim.Native.Nat.{ℕ, _*_, _≤_, _<_}
 use mathlib.Core.Path.{_≡_}
+use mathlib.Core.Logic.{_⊎_}
 use mathlib.Core.List.{List}
 use lib.ListN.{length}
 use Rattle.gametree.specs.Tree.{Score}
 use Rattle.frames.specs.Frame.{frameSize, maxNodes, maxChildren, maxDepth, frames, firstChild, childCount, byte3}
-use Rattle.frames.specs.Frame.{valueBytes, storedScore, next}
+use Rattle.frames.specs.Frame.{sameMover, valueBytes, storedScore, next}
 use Rattle.frames.specs.Place.{depthOf}
 
 -- node i's frame is as stated
 pub record FrameAsStated (t : List ℕ) (i : ℕ) : Type 0 where
-  pub byte3Zero : byte3 t i ≡ 0
+  pub mover : (byte3 t i ≡ 0) ⊎ ((byte3 t i ≡ sameMover) × (0 < i) × (0 < childCount t i))
   pub fewChildren : childCount t i ≤ maxChildren
   pub leafFirst : childCount t i ≡ 0 → firstChild t i ≡ 0
   pub leafValue : childCount t i ≡ 0 → Score (storedScore t i)

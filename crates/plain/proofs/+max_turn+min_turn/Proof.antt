@@ -3,16 +3,20 @@
 -- trees are without a mark.
 use Prim.Native.Nat.{ℕ, _+_, _-_, _<_}
 use native.Mathlib.Omega.{arith}
+use mathlib.Core.Path.{sym, _∙_}
+use mathlib.Core.Logic.{inl, inr}
 use borrow.Author.Needs.{needs}
 use borrow.Fn.Kinds.{In}
 use borrow.Fn.PlainCycle.{Measures, is, falls, and}
 use Rattle.gametree.specs.declared.Side.the-variants.{Max, Min}
 use Rattle.gametree.proofs.better.Reads as better-reads
 use Rattle.frames.specs.Formed.{ChildOf}
+use Rattle.frames.proofs.Next.{child-within}
 use Rattle.frames.proofs.child_count.Reads as child-count-reads
+use Rattle.frames.proofs.child_side.Reads as child-side-reads
 use Rattle.frames.proofs.first_child.Reads as first-child-reads
 use Rattle.certificate.proofs.evaluate.Reads as evaluate-reads
-use Rattle.plain.proofs.Turns.{Turn, leaf-evaluable, leaf-gives, turn-starts, child-left, ready-child}
+use Rattle.plain.proofs.Turns.{Gives, Turn, leaf-evaluable, leaf-gives, turn-starts, inner-left, ready-child}
 use Rattle.plain.proofs.Turns.{turn-goes-on, turn-ends}
 use Rattle.plain.proofs.max_turn.Reads as max-turn
 use Rattle.plain.proofs.max_turn.Kinds as max-kinds
@@ -42,11 +46,11 @@ abbrev min-below : ℕ → In 2 min-kinds.ps
 min-below t = and 2 min-kinds.ps (falls 2 min-kinds.ps _<_ μ-min t) min-turn.Pre
 
 abbrev min-inv : min-lts.InvT-loop
-min-inv table evaluated₀ node left count score₀ child₀ last evaluated score child =
+min-inv table evaluated₀ node left count score₀ child₀ last below evaluated score child =
     Turn table Min node evaluated₀ child₀ (last + 1) evaluated score child
 
 abbrev min-loop : min-lts.MeasureT-loop
-min-loop table evaluated₀ node left count score₀ child₀ last evaluated score child = last + 1 - child
+min-loop table evaluated₀ node left count score₀ child₀ last below evaluated score child = last + 1 - child
 
 abbrev min-calls : ℕ → min-lts.Claims
 min-calls t = (
@@ -56,17 +60,25 @@ min-calls t = (
   evaluate-reads.Learnt,
   first-child-reads.Asked,
   first-child-reads.Learnt,
+  child-side-reads.Asked,
+  child-side-reads.Learnt,
   max-below t,
   max-turn.Post,
+  min-below t,
+  min-turn.Post,
   better-reads.Asked,
   better-reads.Learnt,
 )
 
 module _ (t : ℕ) where
-  -- the function's entry, from the head of the loop
+  -- the function's entry, from the head of the loop; and this head, from the side that moves at a child
   abbrev min-start : min-lts.At-loop (min-calls t) (min-at t) min-turn.Post min-inv min-loop
       → min-lts.Start (min-calls t) (min-at t) min-turn.Post min-inv min-loop
   min-start l = l .before .before .before .before .before .before
+
+  abbrev min-head : min-lts.After-child-side (min-calls t) (min-at t) min-turn.Post min-inv min-loop
+      → min-lts.At-loop (min-calls t) (min-at t) min-turn.Post min-inv min-loop
+  min-head c = c .before .before
 
   -- the loop is at a child of the node
   min-child : (l : min-lts.At-loop (min-calls t) (min-at t) min-turn.Post min-inv min-loop)
@@ -78,6 +90,17 @@ module _ (t : ℕ) where
         from = omega (arith, l .loop .inv .from, f .first-child .ensures);
         to = omega (arith, h, f .first-child .ensures, f .before .before .child-count .ensures);
       }
+
+  -- the turn of either side gives what is due for the child
+  min-given : (c : min-lts.At-match-came (min-calls t) (min-at t) min-turn.Post min-inv min-loop)
+      → let l = min-head (c .before) in
+      let t = min-start l .args .table .now in
+      Gives t (l .loop .child) (l .loop .evaluated) (c .match .evaluated) (c .match .answer)
+  min-given c =
+      elim (c .match .came) [
+        | inl x ↦ (x .7 ∙ x .3 .ensures .0, x .6 ∙ x .3 .ensures .1)
+        | inr y ↦ (y .7 ∙ y .3 .ensures .0, y .6 ∙ y .3 .ensures .1)
+      ]
 
   min-child-count-requires : min-lts.Need-child-count-requires (min-calls t) (min-at t) min-turn.Post min-inv min-loop
   min-child-count-requires c κs = search needs
@@ -102,30 +125,56 @@ module _ (t : ℕ) where
   min-first-child-requires : min-lts.Need-first-child-requires (min-calls t) (min-at t) min-turn.Post min-inv min-loop
   min-first-child-requires c κs = search needs
 
-  min-sub-last-child : min-lts.Need-sub-last-child (min-calls t) (min-at t) min-turn.Post min-inv min-loop
-  min-sub-last-child c = search needs
+  min-sub-last : min-lts.Need-sub-last-child (min-calls t) (min-at t) min-turn.Post min-inv min-loop
+  min-sub-last c = search needs
 
-  min-add-last-child : min-lts.Need-add-last-child (min-calls t) (min-at t) min-turn.Post min-inv min-loop
-  min-add-last-child c = search needs
+  min-add-last : min-lts.Need-add-last-child (min-calls t) (min-at t) min-turn.Post min-inv min-loop
+  min-add-last c = search needs
+
+  min-sub-below : min-lts.Need-sub-left-below (min-calls t) (min-at t) min-turn.Post min-inv min-loop
+  min-sub-below c =
+      let a = c .before .before .before .before .before in
+      omega (arith, inner-left _ _ Min _ _ (a .pre .1) (omega arith))
 
   min-loop-holds : min-lts.Need-loop-holds (min-calls t) (min-at t) min-turn.Post min-inv min-loop
   min-loop-holds c =
       let a = c .before .before .before .before .before in
       turn-starts _ _ Min _ _ (a .pre .1) _ _ _ (omega arith) (c .first-child .ensures .0) (omega arith) (omega arith)
 
-  min-sub-max-turn : min-lts.Need-sub-max-turn (min-calls t) (min-at t) min-turn.Post min-inv min-loop
-  min-sub-max-turn c =
-      let l = c .before .before in
-      omega (arith, child-left _ _ Min _ _ (min-start l .pre .1) _ (min-child l (omega arith)))
+  min-child-side-requires : min-lts.Need-child-side-requires (min-calls t) (min-at t) min-turn.Post min-inv min-loop
+  min-child-side-requires c κs =
+      let l = c .before in
+      let x = min-start l .pre .1 .searchable in
+      child-within _ (x .formed) (x .inside) (min-child l (omega arith))
+
+  min-enum-told : min-lts.Need-enum-told (min-calls t) (min-at t) min-turn.Post min-inv min-loop
+  min-enum-told c = search needs
 
   min-max-turn-requires : min-lts.Need-max-turn-requires (min-calls t) (min-at t) min-turn.Post min-inv min-loop
   min-max-turn-requires c κs =
-      let l = c .before .before in
+      let m = c .before .before .before in
+      let l = min-head m in
       let a = min-start l in
       let i = l .loop .inv in
       let k = min-child l (omega arith) in (
-        omega (arith, child-left _ _ Min _ _ (a .pre .1) _ k),
-        ready-child _ _ Min _ _ (a .pre .1) _ _ k (i .kept) (i .waiting _ (omega arith) k),
+        omega (arith, inner-left _ _ Min _ _ (a .pre .1) (omega (arith, k .from, k .to))),
+        ready-child _ _ Min _ _ (a .pre .1) _ Max _ k (sym (c .before .enum-told .given .1) ∙ m .child-side .ensures)
+            (i .kept) (i .waiting _ (omega arith) k),
+      )
+
+  min-enum-told-2 : min-lts.Need-enum-told-2 (min-calls t) (min-at t) min-turn.Post min-inv min-loop
+  min-enum-told-2 c = search needs
+
+  min-min-turn-requires : min-lts.Need-min-turn-requires (min-calls t) (min-at t) min-turn.Post min-inv min-loop
+  min-min-turn-requires c κs =
+      let m = c .before .before .before in
+      let l = min-head m in
+      let a = min-start l in
+      let i = l .loop .inv in
+      let k = min-child l (omega arith) in (
+        omega (arith, inner-left _ _ Min _ _ (a .pre .1) (omega (arith, k .from, k .to))),
+        ready-child _ _ Min _ _ (a .pre .1) _ Min _ k (sym (c .before .enum-told2 .given .1) ∙ m .child-side .ensures)
+            (i .kept) (i .waiting _ (omega arith) k),
       )
 
   min-better-requires : min-lts.Need-better-requires (min-calls t) (min-at t) min-turn.Post min-inv min-loop
@@ -139,11 +188,9 @@ module _ (t : ℕ) where
 
   min-loop-again : min-lts.Need-loop-again (min-calls t) (min-at t) min-turn.Post min-inv min-loop
   min-loop-again c =
-      let f = c .before .before .before in
-      let l = f .before .before .before in
-      let a = min-start l in
-      turn-goes-on _ _ Min _ _ (a .pre .1) _ _ _ _ _ (l .loop .inv) (min-child l (omega arith))
-      (omega arith) _ _ _ (f .max-turn .kept .1 .0) (f .max-turn .ensures) (c .better .ensures)
+      let l = min-head (c .before .before) in
+      turn-goes-on _ _ Min _ _ (min-start l .pre .1) _ _ _ _ _ (l .loop .inv) (min-child l (omega arith))
+      (omega arith) _ _ _ (min-given (c .before)) (c .better .ensures)
 
   min-same-length-2 : min-lts.Need-same-length-2 (min-calls t) (min-at t) min-turn.Post min-inv min-loop
   min-same-length-2 c = search needs
@@ -154,11 +201,11 @@ module _ (t : ℕ) where
       turn-ends _ _ Min _ _ (min-start l .pre .1) _ _ _ _ _ (l .loop .inv) (omega arith)
 
 abbrev max-inv : max-lts.InvT-loop
-max-inv table evaluated₀ node left count score₀ child₀ last evaluated score child =
+max-inv table evaluated₀ node left count score₀ child₀ last below evaluated score child =
     Turn table Max node evaluated₀ child₀ (last + 1) evaluated score child
 
 abbrev max-loop : max-lts.MeasureT-loop
-max-loop table evaluated₀ node left count score₀ child₀ last evaluated score child = last + 1 - child
+max-loop table evaluated₀ node left count score₀ child₀ last below evaluated score child = last + 1 - child
 
 abbrev max-calls : ℕ → max-lts.Claims
 max-calls t = (
@@ -168,6 +215,10 @@ max-calls t = (
   evaluate-reads.Learnt,
   first-child-reads.Asked,
   first-child-reads.Learnt,
+  child-side-reads.Asked,
+  child-side-reads.Learnt,
+  max-below t,
+  max-turn.Post,
   min-below t,
   min-turn.Post,
   better-reads.Asked,
@@ -175,10 +226,14 @@ max-calls t = (
 )
 
 module _ (t : ℕ) where
-  -- the function's entry, from the head of the loop
+  -- the function's entry, from the head of the loop; and this head, from the side that moves at a child
   abbrev max-start : max-lts.At-loop (max-calls t) (max-at t) max-turn.Post max-inv max-loop
       → max-lts.Start (max-calls t) (max-at t) max-turn.Post max-inv max-loop
   max-start l = l .before .before .before .before .before .before
+
+  abbrev max-head : max-lts.After-child-side (max-calls t) (max-at t) max-turn.Post max-inv max-loop
+      → max-lts.At-loop (max-calls t) (max-at t) max-turn.Post max-inv max-loop
+  max-head c = c .before .before
 
   -- the loop is at a child of the node
   max-child : (l : max-lts.At-loop (max-calls t) (max-at t) max-turn.Post max-inv max-loop)
@@ -190,6 +245,17 @@ module _ (t : ℕ) where
         from = omega (arith, l .loop .inv .from, f .first-child .ensures);
         to = omega (arith, h, f .first-child .ensures, f .before .before .child-count .ensures);
       }
+
+  -- the turn of either side gives what is due for the child
+  max-given : (c : max-lts.At-match-came (max-calls t) (max-at t) max-turn.Post max-inv max-loop)
+      → let l = max-head (c .before) in
+      let t = max-start l .args .table .now in
+      Gives t (l .loop .child) (l .loop .evaluated) (c .match .evaluated) (c .match .answer)
+  max-given c =
+      elim (c .match .came) [
+        | inl x ↦ (x .7 ∙ x .3 .ensures .0, x .6 ∙ x .3 .ensures .1)
+        | inr y ↦ (y .7 ∙ y .3 .ensures .0, y .6 ∙ y .3 .ensures .1)
+      ]
 
   max-child-count-requires : max-lts.Need-child-count-requires (max-calls t) (max-at t) max-turn.Post max-inv max-loop
   max-child-count-requires c κs = search needs
@@ -220,24 +286,50 @@ module _ (t : ℕ) where
   max-add-last : max-lts.Need-add-last (max-calls t) (max-at t) max-turn.Post max-inv max-loop
   max-add-last c = search needs
 
+  max-sub-below : max-lts.Need-sub-below (max-calls t) (max-at t) max-turn.Post max-inv max-loop
+  max-sub-below c =
+      let a = c .before .before .before .before .before in
+      omega (arith, inner-left _ _ Max _ _ (a .pre .1) (omega arith))
+
   max-loop-holds : max-lts.Need-loop-holds (max-calls t) (max-at t) max-turn.Post max-inv max-loop
   max-loop-holds c =
       let a = c .before .before .before .before .before in
       turn-starts _ _ Max _ _ (a .pre .1) _ _ _ (omega arith) (c .first-child .ensures .0) (omega arith) (omega arith)
 
-  max-sub-min-turn : max-lts.Need-sub-min-turn (max-calls t) (max-at t) max-turn.Post max-inv max-loop
-  max-sub-min-turn c =
-      let l = c .before .before in
-      omega (arith, child-left _ _ Max _ _ (max-start l .pre .1) _ (max-child l (omega arith)))
+  max-child-side-requires : max-lts.Need-child-side-requires (max-calls t) (max-at t) max-turn.Post max-inv max-loop
+  max-child-side-requires c κs =
+      let l = c .before in
+      let x = max-start l .pre .1 .searchable in
+      child-within _ (x .formed) (x .inside) (max-child l (omega arith))
 
-  max-min-turn-requires : max-lts.Need-min-turn-requires (max-calls t) (max-at t) max-turn.Post max-inv max-loop
-  max-min-turn-requires c κs =
-      let l = c .before .before in
+  max-enum-told : max-lts.Need-enum-told (max-calls t) (max-at t) max-turn.Post max-inv max-loop
+  max-enum-told c = search needs
+
+  max-max-turn-requires : max-lts.Need-max-turn-requires (max-calls t) (max-at t) max-turn.Post max-inv max-loop
+  max-max-turn-requires c κs =
+      let m = c .before .before .before in
+      let l = max-head m in
       let a = max-start l in
       let i = l .loop .inv in
       let k = max-child l (omega arith) in (
-        omega (arith, child-left _ _ Max _ _ (a .pre .1) _ k),
-        ready-child _ _ Max _ _ (a .pre .1) _ _ k (i .kept) (i .waiting _ (omega arith) k),
+        omega (arith, inner-left _ _ Max _ _ (a .pre .1) (omega (arith, k .from, k .to))),
+        ready-child _ _ Max _ _ (a .pre .1) _ Max _ k (sym (c .before .enum-told .given .1) ∙ m .child-side .ensures)
+            (i .kept) (i .waiting _ (omega arith) k),
+      )
+
+  max-enum-told-2 : max-lts.Need-enum-told-2 (max-calls t) (max-at t) max-turn.Post max-inv max-loop
+  max-enum-told-2 c = search needs
+
+  max-min-turn-requires : max-lts.Need-min-turn-requires (max-calls t) (max-at t) max-turn.Post max-inv max-loop
+  max-min-turn-requires c κs =
+      let m = c .before .before .before in
+      let l = max-head m in
+      let a = max-start l in
+      let i = l .loop .inv in
+      let k = max-child l (omega arith) in (
+        omega (arith, inner-left _ _ Max _ _ (a .pre .1) (omega (arith, k .from, k .to))),
+        ready-child _ _ Max _ _ (a .pre .1) _ Min _ k (sym (c .before .enum-told2 .given .1) ∙ m .child-side .ensures)
+            (i .kept) (i .waiting _ (omega arith) k),
       )
 
   max-better-requires : max-lts.Need-better-requires (max-calls t) (max-at t) max-turn.Post max-inv max-loop
@@ -251,11 +343,9 @@ module _ (t : ℕ) where
 
   max-loop-again : max-lts.Need-loop-again (max-calls t) (max-at t) max-turn.Post max-inv max-loop
   max-loop-again c =
-      let f = c .before .before .before in
-      let l = f .before .before .before in
-      let a = max-start l in
-      turn-goes-on _ _ Max _ _ (a .pre .1) _ _ _ _ _ (l .loop .inv) (max-child l (omega arith))
-      (omega arith) _ _ _ (f .min-turn .kept .1 .0) (f .min-turn .ensures) (c .better .ensures)
+      let l = max-head (c .before .before) in
+      turn-goes-on _ _ Max _ _ (max-start l .pre .1) _ _ _ _ _ (l .loop .inv) (max-child l (omega arith))
+      (omega arith) _ _ _ (max-given (c .before)) (c .better .ensures)
 
   max-same-length-2 : max-lts.Need-same-length-2 (max-calls t) (max-at t) max-turn.Post max-inv max-loop
   max-same-length-2 c = search needs
@@ -279,8 +369,12 @@ pub +max-turn+min-turn-spec : {M : Type 1} → statement M
     (max-first-child-requires t)
     (max-sub-last t)
     (max-add-last t)
+    (max-sub-below t)
     (max-loop-holds t)
-    (max-sub-min-turn t)
+    (max-child-side-requires t)
+    (max-enum-told t)
+    (max-max-turn-requires t)
+    (max-enum-told-2 t)
     (max-min-turn-requires t)
     (max-better-requires t)
     (max-add-child t)
@@ -299,11 +393,15 @@ pub +max-turn+min-turn-spec : {M : Type 1} → statement M
     (min-same-length t)
     (min-returns t)
     (min-first-child-requires t)
-    (min-sub-last-child t)
-    (min-add-last-child t)
+    (min-sub-last t)
+    (min-add-last t)
+    (min-sub-below t)
     (min-loop-holds t)
-    (min-sub-max-turn t)
+    (min-child-side-requires t)
+    (min-enum-told t)
     (min-max-turn-requires t)
+    (min-enum-told-2 t)
+    (min-min-turn-requires t)
     (min-better-requires t)
     (min-add-child t)
     (min-loop-less t)

@@ -2,7 +2,7 @@
 use Prim.Native.Nat.{ℕ}
 use mathlib.Core.List.{List, [], _∷_, _++_}
 use lib.IntN.{pos, negsuc}
-use Rattle.frames.specs.results.Cases.{leafFrame, innerFrame, small, lone}
+use Rattle.frames.specs.results.Cases.{leafFrame, innerFrame, small, capture, lone}
 use Rattle.verify.specs.declared.Verdict.{Verdict}
 use Rattle.verify.specs.declared.Verdict.the-variants.{Value, Rejected}
 
@@ -46,6 +46,9 @@ cases =
     -- one worth
     ∷ case (twoWins 121 24) (3 ∷ 1 ∷ 3 ∷ 3 ∷ []) (rejectedAt 14 0)
     ∷ case (twoWins 121 25) (3 ∷ 1 ∷ 3 ∷ 3 ∷ []) (Value (pos 30999))
+    -- where Max moves twice the max tree has all children at both nodes, the min tree one
+    ∷ case capture (3 ∷ 3 ∷ 1 ∷ 3 ∷ []) (Value (pos 2))
+    ∷ case capture (3 ∷ 3 ∷ 3 ∷ 2 ∷ []) (rejectedAt 12 1)
     ∷ case lone (3 ∷ []) (Value (negsuc 4))
     ∷ case lone (2 ∷ []) (rejectedAt 12 0)
     ∷ case lone (1 ∷ []) (rejectedAt 13 0)

@@ -1,0 +1,32 @@
+-- `child_side` meets its contract.
+use native.Mathlib.Omega.{arith}
+use borrow.Author.Needs.{needs}
+use borrow.Author.Tests.{eq-eqb, ne-eqb}
+use Rattle.frames.specs.Frame.{byte3, sameMover}
+use Rattle.frames.proofs.child_side.Statement.{statement}
+use Rattle.frames.proofs.child_side.Tie as tie
+
+other-requires : tie.Need-other-requires
+other-requires c κs = search needs
+
+byte-3-requires : tie.Need-byte-3-requires
+byte-3-requires c κs = search needs
+
+returns : tie.Need-returns
+returns c =
+    let b = c .before in
+    let a = b .before .before .before .args in
+    rw (eq-eqb (byte3 (a .table .now) (a .child)) sameMover (omega (arith, b .byte-3 .ensures .0)))
+
+returns-2 : tie.Need-returns-2
+returns-2 c =
+    let b = c .before in
+    let o = b .before in
+    let a = o .before .before .args in
+    rw (
+      ne-eqb (byte3 (a .table .now) (a .child)) sameMover (λ e. omega (arith, b .byte-3 .ensures .0)),
+      o .other .ensures,
+    )
+
+pub child-side-spec : {M : Type 1} → statement M
+child-side-spec = tie.close (tie.spec other-requires byte-3-requires returns returns-2)
