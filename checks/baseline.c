@@ -529,6 +529,52 @@ struct answer c_verify(const uint8_t *table, size_t length, const uint8_t *flags
     return (struct answer){ .value = greatest };
 }
 
+/* ---- grafts */
+
+/* A node of a graft's result: its number in the table that it comes from, which is the second one or the first. */
+struct source {
+    const uint8_t *table;
+    uint16_t number;
+    bool grafted;
+};
+
+/* Questions 1 to 9 of both tables, 17, 18 and 10: the result's number of nodes. */
+static struct answer ask_graft(const uint8_t *first, size_t first_length, size_t node, const uint8_t *second,
+                               size_t second_length, size_t room) {
+    uint8_t place[NODES], second_place[NODES];
+    struct answer a = c_check(first, first_length);
+    if (a.refused) return a;
+    struct answer b = c_check(second, second_length);
+    if (b.refused) return b;
+    fill_places(first, a.count, place);
+    if (node >= a.count || child_count(first, node) || !max_moves(place[node])) return no(17, node);
+    size_t n = a.count + b.count - 1;
+    fill_places(second, b.count, second_place);
+    if (n > NODES || depth_of(place[node]) + depth_of(second_place[b.count - 1]) > DEPTH) return no(18, 0);
+    if (room < FRAME * n) return no(10, 0);
+    return (struct answer){ .count = n };
+}
+
+struct answer c_graft(const uint8_t *first, size_t first_length, size_t node, const uint8_t *second,
+                      size_t second_length, uint8_t *result, size_t room) {
+    struct source queue[NODES];
+    struct answer asked = ask_graft(first, first_length, node, second, second_length, room);
+    if (asked.refused) return asked;
+    queue[0] = node == 0 ? (struct source){ second, 0, true } : (struct source){ first, 0, false };
+    for (size_t i = 0, next = 1; i < asked.count; i++) {
+        struct source s = queue[i];
+        uint8_t *frame = result + FRAME * i;
+        int count = child_count(s.table, s.number), c = first_child(s.table, s.number);
+        memcpy(frame, s.table + FRAME * s.number, FRAME);
+        frame[0] = count ? next >> 8 : 0;
+        frame[1] = count ? next & 255 : 0;
+        for (size_t end = next + count; next < end; next++, c++)
+            queue[next] = !s.grafted && (size_t)c == node ? (struct source){ second, 0, true }
+                                                           : (struct source){ s.table, c, s.grafted };
+    }
+    return asked;
+}
+
 /* ---- the program's text */
 
 struct text c_report(const uint8_t *file, size_t length) {

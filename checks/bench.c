@@ -18,12 +18,13 @@ write_call rattle_write;
 check_call rattle_check;
 search_call rattle_alphabeta, rattle_plain, rattle_mtd, rattle_sss;
 verify_call rattle_verify;
+graft_call rattle_graft;
 report_call rattle_report;
 
-enum call { READ, WRITE, CONVERT, CHECK, ALPHABETA, PLAIN, MTD, SSS, VERIFY, REPORT, CALLS };
+enum call { READ, WRITE, CONVERT, CHECK, ALPHABETA, PLAIN, MTD, SSS, VERIFY, GRAFT, REPORT, CALLS };
 
 static const char *const call_names[] = {
-    "read", "write", "convert", "check", "alphabeta", "plain", "mtd", "sss", "verify", "report"
+    "read", "write", "convert", "check", "alphabeta", "plain", "mtd", "sss", "verify", "graft", "report"
 };
 
 static const struct side {
@@ -34,18 +35,20 @@ static const struct side {
     check_call *check;
     search_call *searches[4];
     verify_call *verify;
+    graft_call *graft;
     report_call *report;
 } sides[] = {
     { "rattle", rattle_read, rattle_write, rattle_convert, rattle_check,
-      { rattle_alphabeta, rattle_plain, rattle_mtd, rattle_sss }, rattle_verify, rattle_report },
-    { "c", c_read, c_write, c_convert, c_check, { c_alphabeta, c_plain, c_mtd, c_sss }, c_verify, c_report },
+      { rattle_alphabeta, rattle_plain, rattle_mtd, rattle_sss }, rattle_verify, rattle_graft, rattle_report },
+    { "c", c_read, c_write, c_convert, c_check, { c_alphabeta, c_plain, c_mtd, c_sss }, c_verify, c_graft, c_report },
 };
 
 /* What buffers are filled with; for how many runs and nanoseconds a call is timed, and for how long between two looks
    at the clock. */
 enum { SIDES = sizeof sides / sizeof *sides, FILLED = 170, LEAST_RUNS = 20, LONG_ENOUGH = 100000000, BETWEEN = 30000 };
 
-/* What a call is given, and what it may write. */
+/* What a call is given, and what it may write; the tree is grafted at a lone leaf. */
+static const uint8_t lone_leaf[FRAME] = { 0 };
 static uint8_t file[FILE_BYTES], table[TABLE_BYTES], flags[NODES];
 static size_t file_length, nodes;
 static struct lent {
@@ -60,6 +63,7 @@ static struct answer perform(const struct side *s, enum call call, struct lent *
     case CONVERT: return s->convert(file, file_length, l->file, sizeof l->file);
     case CHECK: return s->check(table, FRAME * nodes);
     case VERIFY: return s->verify(table, FRAME * nodes, flags, nodes);
+    case GRAFT: return s->graft(lone_leaf, FRAME, 0, table, FRAME * nodes, l->table, sizeof l->table);
     case REPORT: l->text = s->report(file, file_length); return (struct answer){ 0 };
     default: return s->searches[call - ALPHABETA](table, FRAME * nodes, l->marks, NODES, l->proof, NODES);
     }

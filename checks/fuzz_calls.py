@@ -1,6 +1,7 @@
 #!/usr/bin/env python3
 """Runs a compiled `cases` on generated calls over lent memory and compares with oracle.py: marks, certificates, passes, replacements,
-allowances, verdicts on right and on damaged flags, short buffers, parts of tables, written files, lines and children.
+allowances, verdicts on right and on damaged flags, short buffers, parts of tables, written files, grafts, lines and
+children.
 
     fuzz_calls.py PROGRAM [--runs N] [--seed S]     N inputs of up to 65,000 bytes each (default 40)
 """
@@ -35,11 +36,20 @@ def damaged_flags(rng, table):
     return flags
 
 
+def graft_of(rng, first, second):
+    """A node to graft at, mostly a leaf where Max would move; a buffer's length; and the lengths of both tables, mostly whole."""
+    tree, most = o.Tree(first), len(first) + len(second) - 6
+    fit = [k for k in tree.leaves() if tree.is_max[k]]
+    node = rng.choice(fit) if fit and rng.random() < 0.8 else rng.choice((rng.randrange(tree.n), tree.n, 9999999))
+    size = lambda t: rng.choice((len(t),) * 12 + (len(t) - 1, len(t) + 6, rng.randrange(len(t) + 1)))
+    return node, rng.choice((most, most, most + 9, most - 1, 0)), (size(first), size(second))
+
+
 def call(rng):
     """A file, a call and the lines that it prints."""
     table = bytes(fuzz.good_table(rng, rng.choice((7, 12, 30, 60))))
     file, n = o.file_of(table), len(table) // 6
-    kind = rng.randrange(10)
+    kind = rng.randrange(11)
     if kind <= 2:
         marks, flags = (rng.choice((n, n, n, n + 1, n + 9, n - 1, 0)) for _ in range(2))
         return file, "buffers %d %d" % (marks, flags), m.searches(table, marks, flags)
@@ -63,6 +73,11 @@ def call(rng):
         marks, flags = (rng.choice((n, n, n, n + 1, n - 1)) for _ in range(2))
         allowance = rng.choice((0, 1, 2, rng.randrange(n + 1), rng.randrange(n + 1)))
         return file, "allowance %d %d %d" % (allowance, marks, flags), m.allowed(table, allowance, marks, flags)
+    if kind == 9:
+        second = bytes(fuzz.good_table(rng, rng.choice((2, 7, 30))))
+        node, room, sizes = graft_of(rng, table, second)
+        parts = [(t + bytes(m.TABLE_SIZE - len(t)))[:size] for t, size in zip((table, second), sizes)]
+        return file + o.file_of(second), "graft %d %d %d %d %d" % (n, node, room, *sizes), m.grafted(parts[0], node, parts[1], room)
     if rng.random() < 0.5:
         file, at = rng.choice((file, file[:-1], fuzz.other_byte(rng, file))), rng.choice((13 * rng.randrange(n + 1), rng.randrange(13 * n + 3)))
         if set(b"#@") & set(file):

@@ -43,23 +43,24 @@ def libraries():
 
 
 def lend(data):
-    """The bytes with guards on both sides, and the words of an argument."""
+    """The bytes with guards on both sides, and the words of an argument; a number is its own word."""
+    if isinstance(data, int):
+        return bytearray((FILLED,) * 2 * GUARD), (ctypes.c_size_t(data),)
     room = bytearray((FILLED,) * GUARD) + data + bytearray((FILLED,) * GUARD)
     return room, (ctypes.byref((ctypes.c_uint8 * len(room)).from_buffer(room), GUARD), ctypes.c_size_t(len(data)))
 
 
-def call(side, name, numbers, *buffers):
-    """The answer, and what the buffers hold afterwards; the guards must be as they were. Numbers follow the buffers."""
+def call(side, name, *buffers):
+    """The answer, and what the buffers hold afterwards; the guards must be as they were."""
     lib, prefix = side
     function = getattr(lib, prefix + name)
     function.restype = Text if name == "report" else Answer
-    lent = [lend(bytes(data)) for data in buffers]
-    words = itertools.chain.from_iterable(words for _, words in lent)
-    got = function(*words, *map(ctypes.c_size_t, numbers))
+    lent = [lend(data if isinstance(data, int) else bytes(data)) for data in buffers]
+    got = function(*itertools.chain.from_iterable(words for _, words in lent))
     for room, _ in lent:
         if set(room[:GUARD] + room[-GUARD:]) != {FILLED}:
             return "%s wrote outside its memory" % name
-    left = [bytes(room[GUARD:-GUARD]) for room, _ in lent]
+    left = [bytes(room[GUARD:-GUARD]) for room, words in lent if len(words) > 1]
     if name == "report":
         return (bytes(got.bytes), got.length), left
     return tuple(getattr(got, field) for field, _ in Answer._fields_), left
@@ -87,7 +88,7 @@ def searches(table, marks, flags):
             fields = {"value": r.value, "root_move": r.move, "leaves": r.leaves, "steps": r.extra or 0}
             if name == "plain":         # it gives no count
                 del fields["leaves"]
-        yield name, (), (table, filled(marks), filled(flags)), flat(r, **fields), (table, *lent)
+        yield name, (table, filled(marks), filled(flags)), flat(r, **fields), (table, *lent)
 
 
 def allowed(table, marks, flags, allowance):
@@ -100,24 +101,24 @@ def allowed(table, marks, flags, allowance):
     elif not isinstance(r, o.Refusal):
         fields = {"value": r.value, "root_move": r.move, "leaves": r.leaves, "steps": r.extra}
     for name in ("allowed", "allowed_list"):
-        yield name, (allowance,), (table, filled(marks), filled(flags)), flat(r, **fields), (table, *lent)
+        yield name, (table, filled(marks), filled(flags), allowance), flat(r, **fields), (table, *lent)
 
 
 def verified(table, flags):
     r = o.check_proof(table, flags)
-    yield "verify", (), (table, flags), flat(r, value=r), (table, flags)
+    yield "verify", (table, flags), flat(r, value=r), (table, flags)
 
 
 def checked(table):
     r = o.check_table(table)
-    yield "check", (), (table,), flat(r, count=r), (table,)
+    yield "check", (table,), flat(r, count=r), (table,)
 
 
 def written(table, room):
     """The writer, and the reader on what was written."""
     lent = filled(room)
     r = o.write_file(table, lent)
-    yield "write", (), (table, filled(room)), flat(r, count=r), (table, lent)
+    yield "write", (table, filled(room)), flat(r, count=r), (table, lent)
     if not isinstance(r, o.Refusal):
         yield from reports(lent[:r], len(table))
 
@@ -126,21 +127,46 @@ def converted(file, room):
     """The converter, and once more on what it wrote."""
     lent = filled(room)
     r = o.convert(file, lent)
-    yield "convert", (), (file, filled(room)), flat(r, count=r), (file, lent)
+    yield "convert", (file, filled(room)), flat(r, count=r), (file, lent)
     if not isinstance(r, o.Refusal):
-        yield "convert", (), (lent[:r], filled(r)), flat(r, count=r), (lent[:r], lent[:r])
+        yield "convert", (lent[:r], filled(r)), flat(r, count=r), (lent[:r], lent[:r])
 
 
 def reports(file, room):
     lent = filled(room)
     r = o.read_file(file, lent)
-    yield "read", (), (file, filled(room)), flat(r, count=r), (file, lent)
+    yield "read", (file, filled(room)), flat(r, count=r), (file, lent)
     text = o.report(file)
-    yield "report", (), (file,), (text.ljust(TEXT_SIZE, b"\0"), len(text)), (file,)
+    yield "report", (file,), (text.ljust(TEXT_SIZE, b"\0"), len(text)), (file,)
+
+
+def grafted(first, node, second, room):
+    """A graft; and its result through the writer, the reader and the searches."""
+    lent = filled(room)
+    r = o.graft(first, node, second, lent)
+    yield "graft", (first, node, second, filled(room)), flat(r, count=r), (first, second, lent)
+    if not isinstance(r, o.Refusal):
+        yield from written(lent[:6 * r], 13 * r)
+        yield from searches(lent[:6 * r], r, r)
+
+
+def random_graft(rng, table):
+    """The table, good or damaged, and a second one: itself, a large or a small one, now and then damaged."""
+    kind = rng.randrange(20)
+    second = table if kind == 0 else fuzz.large_table(rng) if kind == 1 else fuzz.good_table(rng, rng.choice((2, 7, 20, 60)))
+    node, room = (0, 60) if o.table_no(table) else fuzz_calls.graft_of(rng, table, second)[:2]
+    if kind == 2:
+        rng.choice(fuzz.TABLE_DAMAGE)(rng, second)
+    yield from grafted(table, node, second, room)
+
+
+# Max moves twice, and at the leaves there are a value just below a win and a win
+SECOND = o.table_of_nest([(30990, 31000), 7])
 
 
 def small_trees():
-    """Every tree of up to 6 nodes with every set of second captures, with leaves 0, 1, 2, and with leaves around the border of a win."""
+    """Every tree of up to 6 nodes with every set of second captures, with leaves 0, 1, 2, and with leaves around the border of a win;
+    of those of up to 4 nodes, grafts at each node."""
     for table in selfcheck.small_tables(6):
         n = len(table) // 6
         yield from searches(table, n, n)
@@ -151,6 +177,9 @@ def small_trees():
         flags = bytearray(n)
         o.mtd_search(table, bytearray(n), flags)
         yield from verified(table, flags)
+        if n <= 4:
+            for node in range(n + 1):
+                yield from grafted(table, node, SECOND, 6 * (n + 4))
 
 
 def random_calls(rng):
@@ -171,6 +200,7 @@ def random_calls(rng):
     yield from allowed(table, size(), size(), rng.choice((0, 1, 2, rng.randrange(n + 2), rng.randrange(n + 2), 2 ** 64 - 1)))
     yield from verified(table, bytes(rng.choice((0, 1, 2, 3)) for _ in range(size())))
     yield from written(table, rng.choice((13 * n, 13 * n, 13 * n + 1, 13 * n + 40, max(13 * n - 1, 0), 12 * n, 0)))
+    yield from random_graft(rng, table)
     file = fuzz.damaged(rng, 60)[1] if kind < 3 else fuzz.as_file(rng, table)
     room = rng.choice((6 * n, 6 * n, 6 * n + 7, 6 * n - 1, 0, o.MAX_TABLE))
     yield from reports(file, room)
@@ -188,16 +218,16 @@ def main():
     args = parser.parse_args()
     sides, rng, asked, bad = libraries(), random.Random(args.seed), Counter(), 0
     todo = itertools.chain(small_trees(), itertools.chain.from_iterable(random_calls(rng) for _ in range(args.count)))
-    for name, numbers, lent, answer, left in todo:
+    for name, lent, answer, left in todo:
         asked[name] += 1
         want = answer, [bytes(data) for data in left]
         for side in sides[1:] if name in ONLY_IN_C else sides:
-            got = call(side, name, numbers, *lent)
+            got = call(side, name, *lent)
             if got != want:
                 bad += 1
                 if bad <= 10:
-                    given = [bytes(data)[:60] for data in lent]
-                    print("DIFFERS %s%s of %r %r: got %r, want %r" % (side[1], name, given, numbers, got[0], answer))
+                    given = [data if isinstance(data, int) else bytes(data)[:60] for data in lent]
+                    print("DIFFERS %s%s of %r: got %r, want %r" % (side[1], name, given, got[0], answer))
     print("%d differ; calls on each side: %s" % (bad, ", ".join("%s %d" % item for item in sorted(asked.items()))))
     sys.exit(1 if bad else 0)
 

@@ -85,6 +85,16 @@ def made_trees():
         file_case(title, o.file_of(o.regular(width, inner, lambda k: k)), refused=refused, made_by_program=True)
 
 
+def made_grafts():
+    """02, N9: 4,096 nodes pass, one more is stopped; at the first leaf of a tree of 2,049 nodes."""
+    global made
+    first = o.regular(16, 128, lambda k: k)
+    for title, width, inner, want in (("4096", 23, 89, "4096"), ("4097", 16, 128, "refused 18 0")):
+        got = answered(o.graft(first, 128, o.regular(width, inner, lambda k: k), bytearray(o.MAX_TABLE)))
+        assert got == want, (title, got)
+        made += b"# a graft of %s nodes\ngraft %s\n" % (title.encode(), got.encode())
+
+
 def files_of_01():
     file_case("sample of 01", ROW, rows=[("ab", 3, 2, 4), ("mtd", 3, 2, 3), ("sss", 3, 2, 3)])
     file_case("7 1 / 7", tree_file([[7, 1], [7]]), rows=all_three(7, 2, 3))
@@ -405,6 +415,57 @@ def writer_cases():
         add("writer: " + title, file, "write %d %d" % (room, size), got)
 
 
+def longer(file, size):
+    """So many bytes of a file's table; zeros follow its frames."""
+    table = table_of_file(file)
+    return (table + bytes(TABLE_SIZE - len(table)))[:size]
+
+
+def grafted(first, node, second, room):
+    """A graft with so many bytes of a filled buffer; and the report of the result's file."""
+    lent = bytearray((FILLED,) * room)
+    got = o.graft(first, node, second, lent)
+    text = "graft %s\nresult%s\n" % (answered(got), numbers(lent))
+    if isinstance(got, o.Refusal):
+        assert set(lent) <= {FILLED}
+        return text
+    return text + o.report(o.file_of(lent[:6 * got])).decode()
+
+
+# Max(30990, 31000), a value just below a win and a win; Max moves twice; and Min does
+NEAR_WIN, MAX_TWICE, MIN_TWICE = tree_file([30990, 31000]), tree_file([(5, 6)]), tree_file([[(9,)]])
+
+
+def graft_cases():
+    """Questions 1 to 9 of both tables, 17, 18 and 10; the result is read back through the writer and the reader."""
+    pair, chained = tree_file([5, 6]), tree_file(chain(18, 1))
+    for title, first, node, second, room, want in (
+            ("among other leaves, with a rest", ROW, 4, pair, 60, "9"), ("before an inner node", tree_file([[1, [3]]]), 2, pair, 42, "7"),
+            ("two levels", ROW, 4, tree_file([[5, 6], [7, 8]]), 78, "13"), ("a lone leaf grafted", ROW, 4, LEAF, 42, "7"),
+            ("at a lone leaf", LEAF, 0, pair, 18, "3"), ("a lone leaf at a lone leaf", LEAF, 0, tree_file(-5), 6, "1"),
+            ("Max moves twice below", tree_file([[1]]), 2, MAX_TWICE, 36, "6"), ("Min moves twice above", MIN_TWICE, 3, pair, 36, "6"),
+            ("twice above and below", MIN_TWICE, 3, MAX_TWICE, 42, "7"), ("a near win at depth 0", LEAF, 0, NEAR_WIN, 18, "3"),
+            ("a near win at depth 10", tree_file(chain(10, 1)), 10, NEAR_WIN, 78, "13"), ("depth 18", chained, 18, LEAF, 114, "19"),
+            ("no node of this number", ROW, 9999999, pair, 60, "refused 17 9999999"), ("an inner node", ROW, 2, pair, 60, "refused 17 2"),
+            ("a leaf where Min would move", tree_file([9]), 1, pair, 60, "refused 17 1"),
+            ("a leaf where Max moved twice", MAX_TWICE, 2, pair, 60, "refused 17 2"),
+            ("depth 19", chained, 18, tree_file([9]), 0, "refused 18 0"), ("17 before 18", tree_file([9]), 1, chained, 0, "refused 17 1"), ("a byte too few", ROW, 4, pair, 53, "refused 10 0"),
+            ("no buffer", LEAF, 0, LEAF, 0, "refused 10 0")):
+        tables = table_of_file(first), table_of_file(second)
+        got = grafted(tables[0], node, tables[1], room)
+        assert got.startswith("graft %s\n" % want), (title, got)
+        call = (len(tables[0]) // 6, node, room, len(tables[0]), len(tables[1]))
+        add("graft: " + title, first + second, "graft %d %d %d %d %d" % call, got)
+    for title, first_size, node, second_size, want in (
+            ("no tables", 0, 0, 0, "refused 1 0"), ("the first table is too long", 24582, 9, 0, "refused 2 0"),
+            ("bytes left over in the first", 43, 9, 13, "refused 3 7"), ("the first table before the second", 48, 9, 0, "refused 8 8"),
+            ("no second table", 42, 9, 0, "refused 1 0"), ("the second table before the node", 42, 9, 13, "refused 3 2"),
+            ("a leaf too many in the second", 42, 9, 24, "refused 8 4")):
+        got = grafted(longer(ROW, first_size), node, longer(pair, second_size), 0)
+        assert got.startswith("graft %s\n" % want), (title, got)
+        add("graft: " + title, ROW + pair, "graft 7 %d 0 %d %d" % (node, first_size, second_size), got)
+
+
 def service_cases():
     """One line, and the children of a node."""
     for title, file, at in (("first line", ROW, 0), ("second line", ROW, 13), ("last line", ROW, 78),
@@ -424,8 +485,8 @@ def service_cases():
 
 def main():
     directory = sys.argv[1] if len(sys.argv) > 1 else os.path.join(os.path.dirname(HERE), "crates", "cases")
-    for part in (made_trees, files_of_01, rows_of_002, rejected_files, accepted_files, wins_and_losses, second_captures, flags_cases,
-                 buffer_cases, allowance_cases, table_cases, reader_cases, writer_cases, service_cases):
+    for part in (made_trees, made_grafts, files_of_01, rows_of_002, rejected_files, accepted_files, wins_and_losses, second_captures,
+                 flags_cases, buffer_cases, allowance_cases, table_cases, reader_cases, writer_cases, graft_cases, service_cases):
         part()
     assert len(stdin) < 65536
     for name, data in (("stdin", stdin), ("stdout", made + asked)):

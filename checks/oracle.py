@@ -536,6 +536,24 @@ def check_table(table):
     return table_no(table) or len(table) // 6
 
 
+def graft(first, node, second, result):
+    """Questions 1 to 9 of the first table, then of the second, 17, 18, 10; writes the table of the first tree with the second in
+    the leaf's place to the start of the result; its number of nodes (02, N9)."""
+    no = table_no(first) or table_no(second)
+    if no:
+        return no
+    tree, grafted = Tree(first), Tree(second)
+    if node >= tree.n or tree.kids[node] or not tree.is_max[node]:
+        return Refusal(17, node)
+    if tree.n + grafted.n - 1 > MAX_NODES or tree.depth[node] + max(grafted.depth) > MAX_DEPTH:
+        return Refusal(18, 0)
+    table = table_of_nest(nest_of_table(first, {node: nest_of_table(second)}))
+    if len(result) < len(table):
+        return Refusal(10, 0)
+    result[:len(table)] = table
+    return len(table) // 6
+
+
 def write_marks(tree, order, marks):
     valued = set(order)
     marks[:tree.n] = bytes(1 if k in valued else 0 for k in range(tree.n))
@@ -661,6 +679,15 @@ def table_of_nest(nest):
                 values.append(x)
         level = below
     return table_of(counts, values, again)
+
+
+def nest_of_table(table, instead={}, k=0):
+    """The nested lists of an accepted table, from node k down; a node in `instead` has the nest given there."""
+    if k in instead:
+        return instead[k]
+    first, count, again, value = frame(table, k)
+    kids = [nest_of_table(table, instead, c) for c in range(first, first + count)]
+    return (tuple(kids) if again else kids) if count else value
 
 
 def regular(width, inner, leaf):

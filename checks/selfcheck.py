@@ -67,6 +67,12 @@ def saved(table, room):
     return o.write_file(table, file), bytes(file)
 
 
+def joined(first, node, second, room):
+    """What a graft answers for a filled buffer of so many bytes, and what the buffer holds then."""
+    result = bytearray(b"\x55" * room)
+    return o.graft(first, node, second, result), bytes(result)
+
+
 def cases_of_01():
     for leaves, (value, move, ab, sss) in papers.rows(papers.SMALL_TREES):
         for call, count in ((o.alpha_beta, ab), (o.sss_search, sss), (o.mtd_search, sss)):
@@ -272,6 +278,59 @@ def second_captures():
         same("N8 certificate %s of %r" % (flags, nest), o.check_proof(o.table_of_nest(nest), bytes(map(int, flags.split()))), want)
 
 
+def grafts():
+    """Request N9, worked out by hand: the numbering, the order of the questions, the mover at a leaf, and depths in the result."""
+    table, row, pair, lone = o.table_of_nest, small((1, 2, 3, 4)), o.table_of_nest([5, 6]), o.table_of_nest(-5)
+    want = bytes.fromhex("000102000000 000302000000 000502000000 000000000001 000702000000 000000000003 000000000004"
+                         " 000000000005 000000000006")
+    same("B64", joined(row, 4, pair, 60), (9, want + b"\x55" * 6))
+    want = bytes.fromhex("000101000000 000202000000 000402000000 000601000000 000000000005 000000000006 000000000003")
+    same("B64 before an inner node", joined(table([[1, [3]]]), 2, pair, 42), (7, want))
+    same("B63 a lone leaf grafted", joined(row, 4, lone, 42)[1], bytes(table([[1, -5], [3, 4]])))
+    same("B63 at a lone leaf", joined(lone, 0, pair, 18)[1], bytes(pair))
+    same("B63 one table for both", joined(pair, 1, pair, 30)[0], (17, 1))
+    same("B61 named", joined(row, 9999999, pair, 60), ((17, 9999999), b"\x55" * 60))
+    same("B61 inner", joined(row, 2, pair, 60)[0], (17, 2))
+    same("B61 Min's leaf", joined(table([9]), 1, pair, 60)[0], (17, 1))
+    same("B61 after Max twice", joined(table([(1, 2)]), 2, pair, 60)[0], (17, 2))
+    same("B61 after Min twice", joined(table([[(9,)]]), 3, pair, 36)[1], bytes(table([[([5, 6],)]])))
+    same("B62 first table", joined(bytes(12), 9, bytes(6), 0)[0], (8, 2))
+    same("B62 second table", joined(row, 9, bytes(12), 0)[0], (8, 2))
+    chain = lambda n: o.regular(1, n, lambda k: k)
+    same("B63 18 before 10", joined(chain(18), 18, chain(1), 0)[0], (18, 0))
+    same("B63 17 before 18", joined(chain(17), 17, chain(18), 0)[0], (17, 17))
+    same("B63 depth 18", joined(chain(16), 16, chain(2), 114)[0], 19)
+    same("B63 10", joined(row, 4, pair, 53)[0], (10, 0))
+    first = o.regular(16, 128, lambda k: k)
+    same("B63 4,096 nodes", joined(first, 128, o.regular(23, 89, lambda k: k), o.MAX_TABLE)[0], 4096)
+    same("B63 4,097 nodes", joined(first, 128, first, o.MAX_TABLE)[0], (18, 0))
+    wins = table([30990, 31000])
+    same("B60 alone", o.Tree(wins).minimax()[0], 30999)
+    same("B60 at depth 10", o.Tree(joined(chain(10), 10, wins, 78)[1]).minimax()[0], 30990)
+
+
+def one_graft(rng, first, second):
+    """What 02 says of a graft, of any two tables: at a leaf where Max would move, or at any number."""
+    a, b = o.Tree(first), o.Tree(second)
+    fit = [k for k in a.leaves() if a.is_max[k]]
+    node = rng.choice(fit) if fit and rng.random() < 0.8 else rng.randrange(a.n + 2)
+    got, result = joined(first, node, second, 6 * (a.n + b.n))
+    if node not in fit:
+        same("no leaf of Max's", (got, result), ((17, node), b"\x55" * len(result)))
+        return
+    depth = a.depth[node]
+    if a.n + b.n - 1 > o.MAX_NODES or depth + max(b.depth) > o.MAX_DEPTH:
+        same("too large", (got, result), ((18, 0), b"\x55" * len(result)))
+        return
+    n = a.n + b.n - 1
+    same("nodes of a graft", (got, result[6 * n:]), (n, b"\x55" * 6))
+    same("accepted graft", o.table_no(result[:6 * n]), None)
+    below = b.fold(lambda k: o.worth(depth + b.depth[k], o.frame(second, k)[3]))[0]
+    value = a.fold(lambda k: below if k == node else a.worth[k])[0]
+    same("value of a graft", o.Tree(result[:6 * n]).minimax()[0], value)
+    same("a short buffer", joined(first, node, second, 6 * n - 1)[0], (10, 0))
+
+
 def solution_trees(tree, k, bit):
     """All sets of flagged nodes of one kind below k."""
     if not tree.kids[k]:
@@ -348,7 +407,7 @@ def one_tree(rng, table, literal, pairs):
 
 def random_trees(count):
     rng = random.Random(20)
-    kinds = list(trees.VALUES)
+    kinds, before = list(trees.VALUES), None
     for i in range(count):
         shape = i % 4
         if shape == 0:
@@ -363,6 +422,8 @@ def random_trees(count):
         table = trees.fill(rng, counts, rng.choice(kinds), trees.second_captures(rng, counts))
         same("accepted", o.table_no(table), None)
         one_tree(rng, table, literal=True, pairs=shape == 0)
+        one_graft(rng, before or table, table)
+        before = table
     for i in range(24):
         counts = trees.random_counts(rng, 4096, rng.choice((2, 3, 5, 15, 40)), 0.9)
         table = trees.fill(rng, counts, kinds[i % len(kinds)], trees.second_captures(rng, counts))
@@ -415,6 +476,7 @@ def main():
     allowances()
     letters()
     second_captures()
+    grafts()
     print("papers and examples: %d checks, %d wrong" % (checks, len(wrong)))
     every_small_tree(6)
     print("all trees of up to 6 nodes: %d checks, %d wrong" % (checks, len(wrong)))

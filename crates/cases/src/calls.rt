@@ -7,6 +7,7 @@ use crate::print::print_count;
 use crate::print::print_line_feed;
 use crate::print::print_merit;
 use crate::print::print_rejection;
+use crate::print::print_report;
 use crate::print::print_value;
 use certificate::Findings;
 use frames::Checked;
@@ -110,6 +111,55 @@ fn print_written(table: &[u8], file: &mut [u8], size: u32) {
     }
 }
 
+// A graft at a node, on so many bytes of each table and with a buffer of this length, and what that holds afterwards:
+// the first tree has so many lines of the file, the second the rest, and zeros follow the frames of each.
+pub fn print_grafting(
+    file: &[u8],
+    lines: u32,
+    node: u32,
+    room: u32,
+    first_size: u32,
+    second_size: u32,
+) {
+    let middle = io::count((LINE_SIZE * lines as usize) as isize, file);
+    let mut first = [0u8; TABLE_SIZE];
+    read_table(&file[..middle], &mut first);
+    let mut second = [0u8; TABLE_SIZE];
+    read_table(&file[middle..], &mut second);
+    let mut result = [FILLED; TABLE_SIZE];
+    let f = io::count(first_size as isize, &first);
+    let s = io::count(second_size as isize, &second);
+    let r = io::count(room as isize, &result);
+    print_grafted(&first[..f], node as usize, &second[..s], &mut result[..r]);
+}
+
+// The answer of a graft and its buffer; the result is written as a file, and its report is that of the file.
+fn print_grafted(first: &[u8], node: usize, second: &[u8], result: &mut [u8]) {
+    let checked = graft::graft(first, node, second, result);
+    print_checked(b"graft", checked);
+    print_bytes(b"result", result);
+    if let Checked::Nodes(nodes) = checked {
+        let size = io::count(frames_size(nodes), result);
+        print_saved(&result[..size]);
+    }
+}
+
+// The report of a table's file.
+fn print_saved(table: &[u8]) {
+    let mut file = [FILLED; FILE_SIZE];
+    match treefile::write(table, &mut file) {
+        Written::Length(length) => {
+            let end = io::count(file_size(length), &file);
+            print_report(&file[..end]);
+        }
+        Written::Rejected(rejection) => {
+            io::write_all(STDOUT_FILENO, b"write");
+            print_rejection(rejection);
+            print_line_feed();
+        }
+    }
+}
+
 // The length of a file as a size to count with.
 fn file_size(length: usize) -> isize {
     if length < FILE_SIZE {
@@ -142,7 +192,7 @@ pub fn print_children(file: &[u8], node: u32) {
 }
 
 // Reads a file into a table: how many bytes its frames have, 0 where the file is refused.
-fn read_table(file: &[u8], table: &mut [u8]) -> usize
+pub fn read_table(file: &[u8], table: &mut [u8]) -> usize
     ensures { λ r. ⌜ Counts r (now (table .exit)) ⌝ }
 {
     match treefile::read(file, table) {

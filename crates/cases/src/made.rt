@@ -1,12 +1,22 @@
 // Regular trees, made here because their files are long: the first nodes have `width` children each, and a leaf's value
 // is its number.
 use crate::LINE_FEED;
+use crate::calls::read_table;
+use crate::print::print_checked;
 use crate::print::print_report;
+use frames::MAX_TABLE;
 use frames::TWO_BYTES;
 use libc::STDOUT_FILENO;
 use treefile::LINE_SIZE;
 ghost use Prim.Native.Nat.{_+_, _*_, _<_, _≤_};
+ghost use Rattle.io.specs.Counts.{Counts};
 ghost use lib.ListN.{length};
+
+// The first tree of the grafts, of 2,049 nodes: its first leaf has the number of the inner nodes, and Max would move
+// there.
+const FIRST_WIDTH: usize = 16;
+
+const FIRST_INNER: usize = 128;
 
 // The reports of the trees at the limits (SPEC 3.2), and just past them.
 pub fn print_made_trees() {
@@ -16,6 +26,40 @@ pub fn print_made_trees() {
     print_tree(b"# depth 19\n", 1, 19);
     print_tree(b"# 4096 frames\n", 15, 273);
     print_tree(b"# 4097 frames\n", 16, 256);
+}
+
+// The answers of grafts at the limit of nodes, and just past it.
+pub fn print_made_grafts() {
+    print_graft(b"# a graft of 4096 nodes\n", 23, 89);
+    print_graft(b"# a graft of 4097 nodes\n", 16, 128);
+}
+
+// The title and the answer of a graft of the tree whose first `inner` nodes have `width` children each.
+fn print_graft(title: &[u8], width: usize, inner: usize)
+    requires { ⌜ (width < 42) × (inner < 274) × (width * inner < 4097) ⌝ }
+{
+    let mut first = [0u8; MAX_TABLE];
+    let f = make_table(&mut first, FIRST_WIDTH, FIRST_INNER);
+    let mut second = [0u8; MAX_TABLE];
+    let s = make_table(&mut second, width, inner);
+    let mut result = [0u8; MAX_TABLE];
+    io::write_all(STDOUT_FILENO, title);
+    print_checked(
+        b"graft",
+        graft::graft(&first[..f], FIRST_INNER, &second[..s], &mut result),
+    );
+}
+
+// The frames of a tree; how many bytes they have.
+fn make_table(table: &mut [u8], width: usize, inner: usize) -> usize
+    requires { ⌜ (width < 42) × (inner < 274) × (width * inner < 4097) ⌝ }
+    ensures { λ r. ⌜ Counts r (now (table .exit)) ⌝ }
+{
+    let mut file = io::large_buffer();
+    let nodes = 1 + width * inner;
+    write_tree(&mut file, width, inner, nodes);
+    let size = io::count((LINE_SIZE * nodes) as isize, &file);
+    read_table(&file[..size], table)
 }
 
 // The title and the report of the tree whose first `inner` nodes have `width` children each.

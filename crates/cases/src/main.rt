@@ -21,10 +21,11 @@ const LINE_FEED: u8 = 10;
 // The most numbers of a call, and of a number's digits all but the last.
 const NUMBERS: usize = 80;
 
-const FOUR_DIGITS: u32 = 10000;
+const SEVEN_DIGITS: u32 = 10000000;
 
 fn main() {
     made::print_made_trees();
+    made::print_made_grafts();
     let mut input = io::large_buffer();
     let size = io::read_full(STDIN_FILENO, &mut input);
     print_cases(&input[..size]);
@@ -53,8 +54,8 @@ fn print_case(case: &[u8]) {
     print_answer(&case[start..call], &case[call..]);
 }
 
-// What a call gives for a file, by the first letter of its name: flags, buffers, allowance, table, write, check, line
-// or kids.
+// What a call gives for a file, by the first letter of its name: flags, buffers, allowance, table, write, graft, check,
+// line or kids.
 fn print_answer(file: &[u8], call: &[u8]) {
     let mut numbers = [0u32; NUMBERS];
     let count = read_numbers(call, &mut numbers);
@@ -64,6 +65,14 @@ fn print_answer(file: &[u8], call: &[u8]) {
         b'a' => calls::print_allowed(file, numbers[0], numbers[1], numbers[2]),
         b't' => calls::print_reading(file, numbers[0]),
         b'w' => calls::print_writing(file, numbers[0], numbers[1]),
+        b'g' => calls::print_grafting(
+            file,
+            numbers[0],
+            numbers[1],
+            numbers[2],
+            numbers[3],
+            numbers[4],
+        ),
         b'c' => calls::print_checks(file, numbers[0]),
         b'l' => calls::print_line(file, numbers[0]),
         b'k' => calls::print_children(file, numbers[0]),
@@ -116,10 +125,10 @@ fn start_number(numbers: &mut [u32], count: usize) -> usize
     count
 }
 
-// The number with one digit more; of a longer one the last five digits stay. A byte that is no digit adds nothing.
+// The number with one digit more; of a longer one the last eight digits stay. A byte that is no digit adds nothing.
 fn longer(number: u32, byte: u8) -> u32 {
     match byte {
-        b'0'..=b'9' => number % FOUR_DIGITS * 10 + (byte - b'0') as u32,
+        b'0'..=b'9' => number % SEVEN_DIGITS * 10 + (byte - b'0') as u32,
         _ => number,
     }
 }

@@ -1,7 +1,7 @@
 -- The demands, sentence by sentence: Demand1, Demand2 and Demand3; the plain engine of request N1: Plain; the writer of
 -- request N3: Saving; tables without wins and losses (request N5): Ordinary; SSS* within an allowance (request N6):
--- Allowance; capital letters (request N7): Capitals; tables without a second capture (request N8): Alternating. The
--- other files carry the theory's theorems to calls over byte tables.
+-- Allowance; capital letters (request N7): Capitals; tables without a second capture (request N8): Alternating; grafts
+-- (request N9): Grafting. The other files carry the theory's theorems to calls over byte tables.
 mod Parts
 mod Views
 mod Handed
@@ -16,4 +16,5 @@ pub mod Ordinary
 pub mod Allowance
 pub mod Capitals
 pub mod Alternating
+pub mod Grafting
 pub mod Cases

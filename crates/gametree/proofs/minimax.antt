@@ -1,5 +1,6 @@
--- Nodes and leaves, the minimax value and its bounds, counts of leaves, the root move.
+-- Nodes and leaves, the minimax value and its bounds, counts of leaves, the root move, a tree in the place of a leaf.
 pub mod Nodes
 pub mod Bounds
 pub mod Counts
 pub mod Moves
+pub mod Grafts

@@ -1,0 +1,110 @@
+-- Grafting a deeper analysis (02: N9), sentence by sentence, over the definition that the contract of the call cites.
+-- The first table is t, the named node k, the second table u, the lent buffer b; the table at the buffer's front after
+-- a call that gives n nodes is `handed t k u b n`.
+use Prim.Native.Nat.{ℕ, _+_, _*_, _≤_, _<_}
+use mathlib.Core.Path.{_≡_, ap}
+use mathlib.Core.Option.{some}
+use mathlib.Core.List.{List, _++_}
+use lib.ListN.{length, getD, drop}
+use Rattle.gametree.specs.declared.Side.the-variants.{Max}
+use Rattle.gametree.specs.Tree.{other, minimax}
+use Rattle.gametree.specs.Graft.{relabelled}
+use Rattle.frames.specs.declared.Rejection.{Rejection}
+use Rattle.frames.specs.declared.Checked.the-variants.{Nodes, Rejected}
+use Rattle.frames.specs.Frame.{frameSize, frames, byteOf, childCount}
+use Rattle.frames.specs.Place.{parentOf, sideOf}
+use Rattle.frames.specs.Tree.{tree, valuation}
+use Rattle.frames.specs.Check.{rejection, Accepted}
+use Rattle.frames.proofs.Places.{place-root}
+use Rattle.graft.specs.Sources.{graftSize, sources}
+use Rattle.graft.specs.Table.{graftTable}
+use Rattle.graft.specs.Graftable.{MaxLeaf, Graftable}
+use Rattle.graft.specs.Outcome.{graftRejection, graftOutcome}
+use Rattle.graft.specs.results.Grafted.{graftTree, graftValue, handed}
+use Rattle.graft.proofs.Acceptance.{accepted-graftable}
+use Rattle.graft.proofs.Grafting.{leaf-other, graft-keeps, graft-first, graft-second, graft-no-leaf, graft-too-large}
+use Rattle.graft.proofs.Grafting.{graft-short, graft-gives, given-graftable, grafted-nodes, grafted-rest}
+use Rattle.graft.proofs.Grafting.{grafted-accepted, grafted-tree, grafted-bytes, grafted-value}
+
+-- "A leaf's mover is the other side of its parent's"
+pub leaf-mover : (t : List ℕ) (k : ℕ) → Accepted t → 0 < k → k < frames t → childCount t k ≡ 0
+    → sideOf t k ≡ other (sideOf t (parentOf t k))
+leaf-mover = leaf-other
+
+-- "a leaf at node 0 belongs to Max"
+pub root-mover : (t : List ℕ) → sideOf t 0 ≡ Max
+root-mover t = ap (λ p. p .side) (place-root t)
+
+module _ (t : List ℕ) (k : ℕ) (u b : List ℕ) where
+  -- "Add a call that puts the second tree in that leaf's place, .. and gives its number of nodes": with room there is
+  -- one
+  pub nodes-given : Graftable t k u → frameSize * graftSize t u ≤ length b
+      → graftOutcome t k u b .answer ≡ Nodes (graftSize t u)
+  nodes-given = graft-gives t k u b
+
+  module _ (n : ℕ) (e : graftOutcome t k u b .answer ≡ Nodes n) where
+    -- only what can be grafted gets one
+    pub only-graftable : Graftable t k u
+    only-graftable = given-graftable t k u b n e
+
+    -- it is one node less than both tables have together
+    pub one-node-less : n + 1 ≡ frames t + frames u
+    one-node-less = grafted-nodes t k u b n e
+
+    -- "numbers the result breadth-first, writes it as a table to a third buffer": an accepted table of n frames
+    pub result-accepted : Accepted (handed t k u b n) × (frames (handed t k u b n) ≡ n)
+    result-accepted = grafted-accepted t k u b n e
+
+    -- its tree is the first with the second in the leaf's place: each node i numbered by its source, a number of a node
+    -- in the first table followed by the second
+    pub second-in-place : relabelled (λ i. getD (sources t k u) i 0) (tree (handed t k u b n)) ≡ graftTree t k u
+    second-in-place = grafted-tree t k u b n e
+
+    -- and each node has the count of children, the byte 3 and the value of its source
+    pub bytes-carried : (i j : ℕ) → i < n → 2 ≤ j → j < frameSize
+        → byteOf (handed t k u b n) i j ≡ byteOf (t ++ u) (getD (sources t k u) i 0) j
+    bytes-carried = grafted-bytes t k u b n e
+
+    -- "Bytes past the result keep their contents"
+    pub rest-kept : drop (frameSize * n) (graftOutcome t k u b .result) ≡ drop (frameSize * n) b
+    rest-kept = grafted-rest t k u b n e
+
+    -- "Its minimax value equals that of the first tree with the leaf's worth replaced by the grafted tree's value,
+    -- depths counted in the result"
+    pub result-value : minimax (valuation (handed t k u b n)) (tree (handed t k u b n)) ≡ graftValue t k u
+    result-value = grafted-value t k u b n e
+
+  -- "The tables are questioned in turn, the first before the second"
+  pub first-in-turn : (r : Rejection) → rejection t ≡ some r → graftOutcome t k u b .answer ≡ Rejected r
+  first-in-turn = graft-first t k u b
+
+  pub second-in-turn : (r : Rejection) → Accepted t → rejection u ≡ some r
+      → graftOutcome t k u b .answer ≡ Rejected r
+  second-in-turn = graft-second t k u b
+
+  -- "the named node is no leaf with Max to move, 17, place the node as named"
+  pub no-max-leaf : Accepted t → Accepted u → (MaxLeaf t k → ⊥)
+      → graftOutcome t k u b .answer ≡ Rejected (record { number = 17; place = k })
+  no-max-leaf = graft-no-leaf t k u b
+
+  -- "a result of more than 4,096 nodes or 18 plies, 18, place 0": 17 passes, and the grafted table is not accepted
+  pub too-large : Accepted t → Accepted u → MaxLeaf t k → (Accepted (graftTable t k u) → ⊥)
+      → graftOutcome t k u b .answer ≡ Rejected (record { number = 18; place = 0 })
+  too-large = graft-too-large t k u b
+
+  -- and where it is, 18 passes
+  pub not-too-large : Accepted t → Accepted u → MaxLeaf t k → Accepted (graftTable t k u) → Graftable t k u
+  not-too-large = accepted-graftable t k u
+
+  -- "before 10, which wants six bytes for each node of the result"
+  pub short-result : Graftable t k u → length b < frameSize * graftSize t u
+      → graftOutcome t k u b .answer ≡ Rejected (record { number = 10; place = 0 })
+  short-result = graft-short t k u b
+
+  -- demand 1: a refusal is the first "no", and after it the buffer holds what it held before
+  pub first-graft : (r : Rejection) → graftOutcome t k u b .answer ≡ Rejected r
+      → graftRejection t k u (length b) ≡ some r
+  first-graft r e = graft-keeps t k u b r e .0
+
+  pub kept-result : (r : Rejection) → graftOutcome t k u b .answer ≡ Rejected r → graftOutcome t k u b .result ≡ b
+  kept-result r e = graft-keeps t k u b r e .1

@@ -1,0 +1,194 @@
+-- `graft::ask_leaf` meets its contract: one law for each of its returns.
+use Prim.Native.Nat.{ℕ, _+_, _-_}
+use native.Mathlib.Omega.{arith}
+use mathlib.Core.Path.{_≡_, sym, ap, _∙_}
+use mathlib.Core.Bool.{true}
+use mathlib.Core.Option.{none}
+use mathlib.Core.List.{List}
+use borrow.Author.Tests.{not-true, not-false}
+use borrow.Author.Needs.{needs}
+use Rattle.frames.specs.Frame.{frames}
+use Rattle.frames.specs.Place.{depthOf}
+use Rattle.frames.specs.Rejection.{answer}
+use Rattle.places.proofs.Places.{placed, placed-depth}
+use Rattle.graft.specs.Sources.{graftSize}
+use Rattle.graft.specs.Outcome.{isMaxLeaf, deepest}
+use Rattle.graft.proofs.Questions.{max-leaf, no-leaf, too-many, too-deep, too-short, all-right}
+use Rattle.graft.proofs.ask_leaf.Statement.{statement}
+use Rattle.graft.proofs.ask_leaf.Tie as tie
+
+-- the way back to the start, and the tables and the node there
+abbrev at-start : tie.After-is-max-leaf → tie.Start
+at-start m = m .before .before .before .before .before .before .before
+
+abbrev first : tie.After-is-max-leaf → List ℕ
+first m = at-start m .args .first .now
+
+abbrev second : tie.After-is-max-leaf → List ℕ
+second m = at-start m .args .second .now
+
+abbrev node : tie.After-is-max-leaf → ℕ
+node m = at-start m .args .node
+
+-- what is known once 17 has passed: the leaf, the size and the depth of the result
+passed : (e : tie.Else1) → isMaxLeaf (first (e .before)) (node (e .before)) ≡ true
+passed e = sym (e .before .is-max-leaf .ensures) ∙ not-false _ (e .if1 .left)
+
+sizes : (n : tie.After-frame-count2) →
+    let m = n .before .before .before in
+    n .before .frame-count .result + n .frame-count2 .result - 1 ≡ graftSize (first m) (second m)
+sizes n = omega (arith, n .before .frame-count .ensures, n .frame-count2 .ensures)
+
+depths : (h : tie.After-height) →
+    let m = h .before .before .before .before .before .before .before in
+    h .before .depth-at .result + h .height .result
+    ≡ depthOf (first m) (node m) + deepest (second m) (frames (second m))
+depths h =
+    let e = h .before .before .before .before .before .before in
+    let m = e .before in
+    let f = m .before .before .before in
+    let wf = at-start m .pre .0 in
+    let p = placed (first m) wf _ (wf .few) (f .fill .ensures) in
+    let l = max-leaf (first m) (node m) (passed e) in
+    omega (arith, h .before .depth-at .ensures, h .height .ensures, placed-depth (first m) _ p (node m) (l .inside))
+
+slice-aggregate-fill : tie.Need-slice-aggregate-fill
+slice-aggregate-fill c = search needs
+
+fill-requires : tie.Need-fill-requires
+fill-requires c κs = search needs
+
+slice-aggregate-is-max-leaf : tie.Need-slice-aggregate-is-max-leaf
+slice-aggregate-is-max-leaf c = search needs
+
+is-max-leaf-requires : tie.Need-is-max-leaf-requires
+is-max-leaf-requires c κs =
+    let f = c .before .before in
+    let wf = f .before .before .before .before .pre .0 in
+    placed _ wf _ (wf .few) (f .fill .ensures)
+
+rejected-requires : tie.Need-rejected-requires
+rejected-requires c κs = search needs
+
+returns : tie.Need-returns
+returns c =
+    let m = c .before .before in
+    c .rejected .ensures
+    ∙ ap (answer _) (sym (no-leaf (first m) (node m) (second m) (at-start m .args .room)
+    (sym (m .is-max-leaf .ensures) ∙ not-true _ (c .before .if1 .taken))))
+
+frame-count-requires : tie.Need-frame-count-requires
+frame-count-requires c κs = search needs
+
+frame-count-requires-2 : tie.Need-frame-count-requires-2
+frame-count-requires-2 c κs = search needs
+
+add-size : tie.Need-add-size
+add-size c = search needs
+
+sub-size : tie.Need-sub-size
+sub-size c = search needs
+
+rejected-requires-2 : tie.Need-rejected-requires-2
+rejected-requires-2 c κs = search needs
+
+returns-2 : tie.Need-returns-2
+returns-2 c =
+    let n = c .before .before in
+    let e = n .before .before in
+    let m = e .before in
+    c .rejected2 .ensures
+    ∙ ap (answer _) (sym (too-many (first m) (node m) (second m) (at-start m .args .room) (passed e)
+    (omega (arith, sizes n, c .before .if2 .taken))))
+
+slice-aggregate-depth-at : tie.Need-slice-aggregate-depth-at
+slice-aggregate-depth-at c = search needs
+
+depth-at-requires : tie.Need-depth-at-requires
+depth-at-requires c κs =
+    let e = c .before .before .before .before in
+    let m = e .before in
+    omega (arith, max-leaf (first m) (node m) (passed e) .inside, at-start m .pre .0 .few)
+
+height-requires : tie.Need-height-requires
+height-requires c κs = search needs
+
+add-depth : tie.Need-add-depth
+add-depth c = search needs
+
+cast-if3 : tie.Need-cast-if3
+cast-if3 c = search needs
+
+rejected-requires-3 : tie.Need-rejected-requires-3
+rejected-requires-3 c κs = search needs
+
+returns-3 : tie.Need-returns-3
+returns-3 c =
+    let h = c .before .before in
+    let i = h .before .before .before in
+    let n = i .before in
+    let e = n .before .before in
+    let m = e .before in
+    c .rejected3 .ensures
+    ∙ ap (answer _) (sym (too-deep (first m) (node m) (second m) (at-start m .args .room) (passed e)
+    (omega (arith, sizes n, i .if2 .left)) (omega (arith, depths h, c .before .if3 .taken))))
+
+mul-if4 : tie.Need-mul-if4
+mul-if4 c = search needs
+
+rejected-requires-4 : tie.Need-rejected-requires-4
+rejected-requires-4 c κs = search needs
+
+returns-4 : tie.Need-returns-4
+returns-4 c =
+    let j = c .before .before in
+    let h = j .before in
+    let i = h .before .before .before in
+    let n = i .before in
+    let e = n .before .before in
+    let m = e .before in
+    c .rejected4 .ensures
+    ∙ ap (answer _) (sym (too-short (first m) (node m) (second m) (at-start m .args .room) (passed e)
+    (omega (arith, sizes n, i .if2 .left)) (omega (arith, depths h, j .if3 .left))
+    (omega (arith, sizes n, c .before .if4 .taken))))
+
+returns-5 : tie.Need-returns-5
+returns-5 c =
+    let j = c .before in
+    let h = j .before in
+    let i = h .before .before .before in
+    let n = i .before in
+    let e = n .before .before in
+    let m = e .before in
+    ap (λ s. answer s none) (sizes n)
+    ∙ ap (answer _) (sym (all-right (first m) (node m) (second m) (at-start m .args .room) (passed e)
+    (omega (arith, sizes n, i .if2 .left)) (omega (arith, depths h, j .if3 .left))
+    (omega (arith, sizes n, c .if4 .left))))
+
+pub ask-leaf-spec : {M : Type 1} → statement M
+ask-leaf-spec =
+    tie.close
+    (tie.spec
+    slice-aggregate-fill
+    fill-requires
+    slice-aggregate-is-max-leaf
+    is-max-leaf-requires
+    rejected-requires
+    returns
+    frame-count-requires
+    frame-count-requires-2
+    add-size
+    sub-size
+    rejected-requires-2
+    returns-2
+    slice-aggregate-depth-at
+    depth-at-requires
+    height-requires
+    add-depth
+    cast-if3
+    rejected-requires-3
+    returns-3
+    mul-if4
+    rejected-requires-4
+    returns-4
+    returns-5)

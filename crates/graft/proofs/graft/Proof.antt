@@ -1,0 +1,60 @@
+-- `graft::graft` meets its contract: the questions are answered, and then the result is written or nothing is done.
+use native.Mathlib.Omega.{arith}
+use mathlib.Core.Path.{sym, ap, _∙_}
+use borrow.Author.Needs.{needs}
+use Rattle.graft.proofs.Questions.{nodes-graftable, graft-written, graft-rejected}
+use Rattle.graft.proofs.graft.Statement.{statement}
+use Rattle.graft.proofs.graft.Tie as tie
+
+ask-requires : tie.Need-ask-requires
+ask-requires c κs = search needs
+
+enum-known-checked : tie.Need-enum-known-checked
+enum-known-checked c = search needs
+
+enum-told : tie.Need-enum-told
+enum-told c = search needs
+
+returns : tie.Need-returns
+returns c =
+    let g = c .enum-told .given .1 in
+    let k = c .before .before in
+    let a = k .before .before .before .before .args in
+    ap (λ x. record { answer = x; result = a .result .now }) g
+    ∙ graft-rejected (a .first .now) (a .node) (a .second .now) (a .result .now) _ (sym g ∙ k .ask .ensures)
+
+slice-aggregate-write-frames : tie.Need-slice-aggregate-write-frames
+slice-aggregate-write-frames c = search needs
+
+write-frames-requires : tie.Need-write-frames-requires
+write-frames-requires c κs =
+    let k = c .before .before .before in
+    let a = k .before .before .before .before .before .before .args in
+    let p = nodes-graftable (a .first .now) (a .node) (a .second .now) (a .result .now) _
+    (sym (k .checked .given .1) ∙ k .before .before .ask .ensures) in
+    (p .1, (p .0, omega (arith, p), omega (arith, p .0, p .1 .few)))
+
+same-length : tie.Need-same-length
+same-length c = search needs
+
+returns-2 : tie.Need-returns-2
+returns-2 c =
+    let w = c .before .before .before in
+    let k = w .before .before .before .before in
+    let a = k .before .before .before .before .before .before .args in
+    let g = k .checked .given .1 in
+    graft-written (a .first .now) (a .node) (a .second .now) (a .result .now) _ _
+    (sym g ∙ k .before .before .ask .ensures) (w .write-frames .ensures)
+
+pub graft-spec : {M : Type 1} → statement M
+graft-spec =
+    tie.close
+    (tie.spec
+    ask-requires
+    enum-known-checked
+    enum-told
+    returns
+    slice-aggregate-write-frames
+    write-frames-requires
+    same-length
+    returns-2)

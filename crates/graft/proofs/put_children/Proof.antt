@@ -1,0 +1,74 @@
+-- `graft::put_children` meets its contract: it stores a run of entries.
+use Prim.Native.Nat.{_≤_, _+_, _-_}
+use native.Mathlib.Omega.{arith}
+use mathlib.Core.Path.{refl}
+use mathlib.Core.Bool.{cond}
+use lib.Dec.{eqb}
+use borrow.Author.Needs.{needs}
+use Rattle.places.proofs.Runs.{Run, run-begins, run-step, run-ends}
+use Rattle.graft.proofs.put_children.Statement.{statement}
+use Rattle.graft.proofs.put_children.Tie as tie
+
+abbrev Inv-loop : tie.InvT-loop
+Inv-loop sources₀ next end from node root at₀ sources at =
+    (next ≤ at) × Run (λ k. cond (eqb (from + (k - next)) node) root (from + (k - next))) next end sources₀ sources at
+
+abbrev μ-loop : tie.MeasureT-loop
+μ-loop sources₀ next end from node root at₀ sources at = end - at
+
+loop-holds : tie.Need-loop-holds Inv-loop μ-loop
+loop-holds c = (omega arith, run-begins _ _ _ _ (omega arith))
+
+sub-replaced : tie.Need-sub-replaced Inv-loop μ-loop
+sub-replaced c = search needs
+
+add-replaced : tie.Need-add-replaced Inv-loop μ-loop
+add-replaced c = search needs
+
+replaced-requires : tie.Need-replaced-requires Inv-loop μ-loop
+replaced-requires c κs = search needs
+
+cast-sources : tie.Need-cast-sources Inv-loop μ-loop
+cast-sources c = omega (arith, c .before .before .loop .inv .1 .inside)
+
+mul-sources : tie.Need-mul-sources Inv-loop μ-loop
+mul-sources c = search needs
+
+slice-write-sources : tie.Need-slice-write-sources Inv-loop μ-loop
+slice-write-sources c = search needs
+
+add-at : tie.Need-add-at Inv-loop μ-loop
+add-at c = search needs
+
+loop-less : tie.Need-loop-less Inv-loop μ-loop
+loop-less c = search needs
+
+loop-again : tie.Need-loop-again Inv-loop μ-loop
+loop-again c =
+    let i = c .before .before .loop .inv in
+    (omega arith, run-step _ _ _ _ _ _ _ _ (omega arith) (c .replaced .ensures .0) refl (i .1))
+
+same-length : tie.Need-same-length Inv-loop μ-loop
+same-length c = search needs
+
+returns : tie.Need-returns Inv-loop μ-loop
+returns c = run-ends _ _ _ _ _ _ (omega arith) (c .before .loop .inv .1)
+
+pub put-children-spec : {M : Type 1} → statement M
+put-children-spec =
+    tie.close
+    (tie.spec
+    Inv-loop
+    μ-loop
+    loop-holds
+    sub-replaced
+    add-replaced
+    replaced-requires
+    cast-sources
+    mul-sources
+    slice-write-sources
+    add-at
+    loop-less
+    loop-again
+    same-length
+    returns)

@@ -1,0 +1,6 @@
+-- Definitions for grafting: the tree of a second table in the place of a leaf of a first.
+pub mod Sources
+pub mod Table
+pub mod Outcome
+pub mod Graftable
+pub mod results

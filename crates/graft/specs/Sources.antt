@@ -1,0 +1,40 @@
+-- The nodes of a grafted tree, by where they come from: a source is the number of a node in the first table followed by
+-- the second, so the second's numbers begin at the number of the first's frames.
+use Prim.Native.Nat.{ℕ, zero, suc, _+_, _-_}
+use mathlib.Core.Bool.{cond}
+use mathlib.Core.List.{List, [], _∷_, _++_, map}
+use lib.Dec.{ltb, eqb}
+use lib.ListN.{getD}
+use Rattle.frames.specs.Frame.{frames, firstChild, childCount}
+use Rattle.frames.specs.Tree.{upFrom}
+
+-- the second table's root for the leaf k of the first, every other source as it is
+unfoldable pub replaced : (t : List ℕ) (k : ℕ) → ℕ → ℕ
+replaced t k s = cond (eqb s k) (frames t) s
+
+-- the number at which the sources of the table begin that source s is of
+unfoldable pub base : List ℕ → ℕ → ℕ
+base t s = cond (ltb s (frames t)) 0 (frames t)
+
+-- the children of a source, from left to right
+unfoldable pub childSources : (t : List ℕ) (k : ℕ) (u : List ℕ) → ℕ → List ℕ
+childSources t k u s = map (replaced t k) (upFrom (base t s + firstChild (t ++ u) s) (childCount (t ++ u) s))
+
+-- what is known of a tree in breadth-first order after i of its nodes have been visited: the root, and the children of
+-- each of these nodes in turn
+unfoldable pub breadthFirst : (children : ℕ → List ℕ) (root : ℕ) → ℕ → List ℕ
+breadthFirst children root zero = root ∷ []
+breadthFirst children root (suc i) =
+    breadthFirst children root i ++ children (getD (breadthFirst children root i) i 0)
+
+-- the sources that are known after i nodes of the grafted tree
+abbrev pub known : (t : List ℕ) (k : ℕ) (u : List ℕ) → ℕ → List ℕ
+known t k u i = breadthFirst (childSources t k u) (replaced t k 0) i
+
+-- the number of nodes of the grafted tree: those of both, without the leaf
+abbrev pub graftSize : (t u : List ℕ) → ℕ
+graftSize t u = frames t + frames u - 1
+
+-- the sources of the grafted tree's nodes, in breadth-first order
+abbrev pub sources : (t : List ℕ) (k : ℕ) (u : List ℕ) → List ℕ
+sources t k u = known t k u (graftSize t u)

@@ -1,0 +1,248 @@
+// Grafting: the tree of a second table in the place of a leaf of a first.
+use frames::Checked;
+use frames::FRAME_SIZE;
+use frames::MAX_DEPTH;
+use frames::MAX_NODES;
+use frames::SHORT_BUFFER;
+use frames::check;
+use frames::child_count;
+use frames::frame_count;
+use frames::rejected;
+use gametree::Side;
+use places::depth_at;
+use places::fill;
+use places::side_at;
+ghost use mathlib.Core.Path.{_≡_};
+ghost use mathlib.Core.List.{_++_};
+ghost use mathlib.Core.Bool.{cond};
+ghost use Prim.Native.Nat.{_+_, _-_, _*_, _<_, _≤_};
+ghost use lib.Dec.{eqb};
+ghost use lib.ListN.{length, getD, drop};
+ghost use lib.Seq.{sets};
+ghost use Rattle.gametree.specs.declared.Side.the-variants.{Max};
+ghost use Rattle.gametree.specs.Certificate.{same};
+ghost use Rattle.frames.specs.Frame.{frameSize, maxNodes, twoBytes, frames, firstChild, childCount};
+ghost use Rattle.frames.specs.Formed.{WellFormed};
+ghost use Rattle.frames.specs.Rejection.{answer};
+ghost use Rattle.places.specs.Buffer.{stored};
+ghost use Rattle.places.specs.engine.Places.{Placed};
+ghost use Rattle.graft.specs.Sources.{base, graftSize};
+ghost use Rattle.graft.specs.Table.{firstNumber, renumbered, graftTable};
+ghost use Rattle.graft.specs.Graftable.{Graftable};
+ghost use Rattle.graft.specs.Outcome.{isMaxLeaf, deepest, leafRejection, graftRejection, graftOutcome};
+
+// The numbers of the questions about a graft, by what a "no" means (SPEC 4.2).
+pub const NO_MAX_LEAF: u8 = 17;
+
+pub const TOO_LARGE: u8 = 18;
+
+// Puts the second tree in the place of the first's named leaf: the number of nodes of the result, whose table then
+// stands at the buffer's front, or the first rejection, and then the buffer is as it was.
+pub fn graft(first: &[u8], node: usize, second: &[u8], result: &mut [u8]) -> Checked
+    ensures { λ r. ⌜ record { answer = r; result = now (result .exit) }
+        ≡ graftOutcome (now (first .entry)) node (now (second .entry)) (now (result .entry)) ⌝ }
+{
+    let checked = ask(first, node, second, result.len());
+    let Checked::Nodes(size) = checked else {
+        return checked;
+    };
+    let mut sources = [0u32; MAX_NODES];
+    write_frames(first, node, second, result, &mut sources, size);
+    checked
+}
+
+// All questions, for a buffer of this length: the number of nodes of the result, or the first rejection.
+fn ask(first: &[u8], node: usize, second: &[u8], room: usize) -> Checked
+    ensures { λ r. ⌜ r ≡ answer (graftSize (now (first .entry)) (now (second .entry)))
+        (graftRejection (now (first .entry)) node (now (second .entry)) room) ⌝ }
+{
+    let checked = check(first);
+    let Checked::Nodes(_) = checked else {
+        return checked;
+    };
+    let checked_second = check(second);
+    let Checked::Nodes(_) = checked_second else {
+        return checked_second;
+    };
+    ask_leaf(first, node, second, room)
+}
+
+// Questions 17, 18 and 10.
+fn ask_leaf(first: &[u8], node: usize, second: &[u8], room: usize) -> Checked
+    requires { ⌜ WellFormed (now first) × WellFormed (now second) ⌝ }
+    ensures { λ r. ⌜ r ≡ answer (graftSize (now (first .entry)) (now (second .entry)))
+        (leafRejection (now (first .entry)) node (now (second .entry)) room) ⌝ }
+{
+    let mut places = [0u32; MAX_NODES];
+    fill(first, &mut places);
+    if !is_max_leaf(first, &places, node) {
+        return rejected(NO_MAX_LEAF, node);
+    }
+    let size = frame_count(first) + frame_count(second) - 1;
+    if MAX_NODES < size {
+        return rejected(TOO_LARGE, 0);
+    }
+    let depth = depth_at(&places, node) + height(second);
+    if MAX_DEPTH < depth as usize {
+        return rejected(TOO_LARGE, 0);
+    }
+    if room < FRAME_SIZE * size {
+        return rejected(SHORT_BUFFER, 0);
+    }
+    Checked::Nodes(size)
+}
+
+// Is this node a leaf with Max to move?
+fn is_max_leaf(table: &[u8], places: &[u32], node: usize) -> bool
+    requires { ⌜ Placed (now table) (now places) ⌝ }
+    ensures { λ r. ⌜ r ≡ isMaxLeaf (now (table .entry)) node ⌝ }
+{
+    if frame_count(table) <= node {
+        return false;
+    }
+    if child_count(table, node) != 0 {
+        return false;
+    }
+    let side = side_at(places, node);
+    is_max(side)
+}
+
+// Is it Max?
+fn is_max(side: Side) -> bool
+    ensures { λ r. ⌜ r ≡ same side Max ⌝ }
+{
+    match side {
+        Side::Max => true,
+        Side::Min => false,
+    }
+}
+
+// The greatest depth of a node: in breadth-first order that of the last one.
+fn height(table: &[u8]) -> u32
+    requires { ⌜ WellFormed (now table) ⌝ }
+    ensures { λ r. ⌜ (r ≡ deepest (now (table .entry)) (frames (now (table .entry)))) × (r < maxNodes) ⌝ }
+{
+    let mut places = [0u32; MAX_NODES];
+    fill(table, &mut places);
+    depth_at(&places, frame_count(table) - 1)
+}
+
+// The frames of the result, one source after the other, each followed by the sources of its children.
+fn write_frames(
+    first: &[u8],
+    node: usize,
+    second: &[u8],
+    result: &mut [u8],
+    sources: &mut [u32],
+    size: usize,
+)
+    requires { ⌜ Graftable (now first) node (now second) ⌝ }
+    requires { ⌜ (size ≡ graftSize (now first) (now second)) × (frameSize * size ≤ length (now result))
+        × (size ≤ length (now sources)) ⌝ }
+    ensures { λ _. ⌜ now (result .exit) ≡ graftTable (now (first .entry)) node (now (second .entry))
+        ++ drop (frameSize * size) (now (result .entry)) ⌝ }
+{
+    let root = frame_count(first);
+    sources[0] = replaced(root, node, 0) as u32;
+    let mut next: usize = 1;
+    for i in 0..size {
+        let source = sources[i] as usize;
+        let count = count_of(first, second, source);
+        let end = next + count;
+        put_frame(
+            first,
+            second,
+            result,
+            source,
+            first_number(count, next),
+            FRAME_SIZE * i,
+        );
+        put_children(
+            sources,
+            next,
+            end,
+            first_of(first, second, source),
+            node,
+            root,
+        );
+        next = end;
+    }
+}
+
+// The root for the named node, every other source as it is.
+fn replaced(root: usize, node: usize, source: usize) -> usize
+    ensures { λ r. ⌜ (r ≡ cond (eqb source node) root source) × (r ≤ root + source) ⌝ }
+{
+    if source == node { root } else { source }
+}
+
+// The first child of a node with so many children, numbered from `next` on: a leaf's is 0.
+fn first_number(count: usize, next: usize) -> usize
+    ensures { λ r. ⌜ (r ≡ firstNumber count next) × (r ≤ next) ⌝ }
+{
+    if count == 0 { 0 } else { next }
+}
+
+// A byte of the two tables, the second behind the first.
+fn byte_at(first: &[u8], second: &[u8], at: usize) -> u8
+    requires { ⌜ at < length (now first) + length (now second) ⌝ }
+    ensures { λ r. ⌜ r ≡ getD (now (first .entry) ++ now (second .entry)) at 0 ⌝ }
+{
+    let n = first.len();
+    if at < n { first[at] } else { second[at - n] }
+}
+
+// The number of children of a source.
+fn count_of(first: &[u8], second: &[u8], source: usize) -> usize
+    requires { ⌜ frameSize * source + frameSize ≤ length (now first) + length (now second) ⌝ }
+    ensures { λ r. ⌜ (r ≡ childCount (now (first .entry) ++ now (second .entry)) source) × (r < 256) ⌝ }
+{
+    byte_at(first, second, FRAME_SIZE * source + 2) as usize
+}
+
+// The number of a source's first child, as a source.
+fn first_of(first: &[u8], second: &[u8], source: usize) -> usize
+    requires { ⌜ (frameSize * source + frameSize ≤ length (now first) + length (now second))
+        × (frames (now first) ≤ maxNodes) ⌝ }
+    ensures { λ r. ⌜ (r ≡ base (now (first .entry)) source
+        + firstChild (now (first .entry) ++ now (second .entry)) source) × (r < maxNodes + twoBytes) ⌝ }
+{
+    let at = FRAME_SIZE * source;
+    let high = byte_at(first, second, at) as usize;
+    let low = byte_at(first, second, at + 1) as usize;
+    let n = frame_count(first);
+    if source < n {
+        high * 256 + low
+    } else {
+        n + (high * 256 + low)
+    }
+}
+
+// A source's frame with another first child.
+fn put_frame(first: &[u8], second: &[u8], result: &mut [u8], source: usize, child: usize, at: usize)
+    requires { ⌜ frameSize * source + frameSize ≤ length (now first) + length (now second) ⌝ }
+    requires { ⌜ (child < twoBytes) × (at + frameSize ≤ length (now result)) ⌝ }
+    ensures { λ _. ⌜ now (result .exit) ≡ sets (now (result .entry)) at
+        (renumbered (now (first .entry) ++ now (second .entry)) source child) ⌝ }
+{
+    let from = FRAME_SIZE * source;
+    result[at] = (child / 256) as u8;
+    result[at + 1] = (child % 256) as u8;
+    result[at + 2] = byte_at(first, second, from + 2);
+    result[at + 3] = byte_at(first, second, from + 3);
+    result[at + 4] = byte_at(first, second, from + 4);
+    result[at + 5] = byte_at(first, second, from + 5);
+}
+
+// The sources from `from` on, the named node's replaced, in the entries from `next` up to `end`.
+fn put_children(sources: &mut [u32], next: usize, end: usize, from: usize, node: usize, root: usize)
+    requires { ⌜ (next ≤ end) × (end ≤ length (now sources)) × (end ≤ maxNodes) × (from < maxNodes + twoBytes)
+        × (root ≤ maxNodes) ⌝ }
+    ensures { λ _. ⌜ now (sources .exit)
+        ≡ stored (λ c. cond (eqb (from + (c - next)) node) root (from + (c - next))) next (end - next)
+        (now (sources .entry)) ⌝ }
+{
+    for at in next..end {
+        sources[at] = replaced(root, node, from + (at - next)) as u32;
+    }
+}
