@@ -9,11 +9,11 @@ use lib.Seq.{sets, sets-eq, take-at, length-take-le}
 use native.Mathlib.Omega.{arith}
 use Rattle.frames.specs.declared.Rejection.{Rejection}
 use Rattle.frames.specs.declared.Checked.the-variants.{Nodes, Rejected}
-use Rattle.frames.specs.Frame.{frameSize, frames, maxTable}
+use Rattle.frames.specs.Frame.{frameSize, frames}
 use Rattle.treefile.specs.Line.{lineDigits, bytesOf, bytesAt, isLineAt}
 use Rattle.treefile.specs.Lines.{linesOf, decode, decoded}
-use Rattle.treefile.specs.File.{maxFile, eachLine, lineCheck3, fileCheck3}
-use Rattle.treefile.specs.engine.Decoded.{Decoded}
+use Rattle.treefile.specs.File.{eachLine, lineCheck3, fileCheck3}
+use Rattle.treefile.specs.engine.Decoded.{Decoded, Roomy}
 use Rattle.treefile.proofs.Lines.{line-bytes}
 use Rattle.treefile.proofs.Positions.{lineBytes, line-is, line-fits}
 use Rattle.treefile.proofs.Left.{lines-next, lines-stop}
@@ -55,8 +55,7 @@ decoding-none f table =
       filled = refl;
     }
 
-module _ (f table : List ℕ) (at n : ℕ) (room : maxTable ≤ length table) (size : length f ≤ maxFile)
-    (d : Decoding f table at n) where
+module _ (f table : List ℕ) (at n : ℕ) (room : Roomy f table) (d : Decoding f table at n) where
   -- at the end of the file
   pub decoding-all : length f ≤ at → Decoded f (fileCheck3 f) table (Nodes n)
   unfolding linesOf eachLine decode

@@ -3,7 +3,7 @@ use Prim.Native.Nat.{ℕ, _*_, _≤_, _<_}
 use mathlib.Core.Path.{_≡_, sym, ap, _∙_}
 use mathlib.Core.Option.{Option, none, some}
 use mathlib.Core.List.{List, _++_}
-use lib.ListN.{length, take, drop}
+use lib.ListN.{length, take, drop, length-take}
 use lib.Seq.{take-length}
 use native.Mathlib.Omega.{arith}
 use borrow.Author.Tests.{lt-ltb, le-ltb, le-leb, lt-leb, ltb-true, leb-true}
@@ -64,6 +64,12 @@ pub record Front (f : List ℕ) (x : Option Rejection) (table : List ℕ) (n : �
   pub few : n ≤ maxNodes
   pub size : frameSize * n ≡ length (decoded f)
   pub bytes : take (frameSize * n) table ≡ decoded f
+
+-- it has room for them
+pub front-room : (f : List ℕ) (x : Option Rejection) (table : List ℕ) (n : ℕ) → Front f x table n
+    → frameSize * n ≤ length table
+front-room f x table n w =
+    omega (arith, simp length-take at (ap length (w .bytes)), w .size)
 
 module _ (f : List ℕ) (x : Option Rejection) (table : List ℕ) (r : Checked) (d : Decoded f x table r) where
   -- where they give n nodes

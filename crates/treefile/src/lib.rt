@@ -16,7 +16,7 @@ ghost use mathlib.Core.List.{_++_};
 ghost use mathlib.Core.Option.{none};
 ghost use Prim.Native.Nat.{_+_, _*_, _<_, _≤_};
 ghost use lib.ListN.{length, drop};
-ghost use Rattle.frames.specs.Frame.{frameSize, maxNodes, maxTable, frames};
+ghost use Rattle.frames.specs.Frame.{frameSize, maxNodes, frames};
 ghost use Rattle.frames.specs.Rejection.{answer};
 ghost use Rattle.treefile.specs.Digit.{isSmall, noDigit, digitOf};
 ghost use Rattle.treefile.specs.engine.Kinds.{oneWithin};
@@ -27,7 +27,7 @@ ghost use Rattle.treefile.specs.Lines.{linesOf};
 ghost use Rattle.treefile.specs.File.{maxFile, fileCheck3, fileCheck16, fileRejection, readAnswer, tableAfter};
 ghost use Rattle.treefile.specs.Encoded.{capitalOf, lineOf, encode};
 ghost use Rattle.treefile.specs.Write.{writeRejection, writeOutcome};
-ghost use Rattle.treefile.specs.engine.Decoded.{Decoded, Stored};
+ghost use Rattle.treefile.specs.engine.Decoded.{Decoded, Stored, Roomy};
 
 // The digits of a line, and the byte that closes it.
 const LINE_DIGITS: usize = 12;
@@ -58,6 +58,13 @@ const BYTES: u32 = 256;
 pub const LINE_SIZE: usize = LINE_DIGITS + 1;
 
 pub const MAX_FILE: usize = LINE_SIZE * MAX_NODES;
+
+// A file of at most so many lines is small, and so are then its bytes and the work array for its frames.
+const SMALL_LINES: usize = 64;
+
+const SMALL_FILE: usize = LINE_SIZE * SMALL_LINES;
+
+const SMALL_TABLE: usize = FRAME_SIZE * SMALL_LINES;
 
 // The number of the question about small letters (SPEC 4.2).
 const SMALL_LETTER: u8 = 16;
@@ -94,8 +101,21 @@ pub fn read(file: &[u8], table: &mut [u8]) -> Checked
     ensures { λ r. ⌜ (r ≡ readAnswer (now (file .entry)) (now (table .entry)))
         × (now (table .exit) ≡ tableAfter (now (file .entry)) (now (table .entry))) ⌝ }
 {
+    if file.len() <= SMALL_FILE {
+        let mut decoded = [0u8; SMALL_TABLE];
+        return read_by(file, &mut decoded, table);
+    }
     let mut decoded = [0u8; MAX_TABLE];
-    let checked = check_file(file, &mut decoded);
+    read_by(file, &mut decoded, table)
+}
+
+// The same, with a work array for the frames: the lent table is written to once no question is left.
+fn read_by(file: &[u8], decoded: &mut [u8], table: &mut [u8]) -> Checked
+    requires { ⌜ (length (now file) ≤ maxFile → Roomy (now file) (now decoded)) ⌝ }
+    ensures { λ r. ⌜ (r ≡ readAnswer (now (file .entry)) (now (table .entry)))
+        × (now (table .exit) ≡ tableAfter (now (file .entry)) (now (table .entry))) ⌝ }
+{
+    let checked = check_file(file, decoded);
     let Checked::Nodes(nodes) = checked else {
         return checked;
     };
@@ -165,7 +185,7 @@ fn one_within(first: u8, last: u8, byte: u8) -> u32
 
 // Questions 1 to 9 and 16: the number of nodes, whose frames then stand at the table's front, or the first rejection.
 fn check_file(file: &[u8], table: &mut [u8]) -> Checked
-    requires { ⌜ maxTable ≤ length (now table) ⌝ }
+    requires { ⌜ (length (now file) ≤ maxFile → Roomy (now file) (now table)) ⌝ }
     ensures { λ r. ⌜ Decoded (now (file .entry)) (fileRejection (now (file .entry))) (now (table .exit)) r ⌝ }
 {
     if file.len() == 0 {
@@ -187,7 +207,7 @@ fn check_file(file: &[u8], table: &mut [u8]) -> Checked
 
 // Question 3: the number of lines, whose frames then stand at the table's front, or the rejection.
 fn decode(file: &[u8], table: &mut [u8]) -> Checked
-    requires { ⌜ (length (now file) ≤ maxFile) × (maxTable ≤ length (now table)) ⌝ }
+    requires { ⌜ (length (now file) ≤ maxFile) × (Roomy (now file) (now table)) ⌝ }
     ensures { λ r. ⌜ Decoded (now (file .entry)) (fileCheck3 (now (file .entry))) (now (table .exit)) r ⌝ }
 {
     let mut at = 0;

@@ -9,7 +9,7 @@ use lib.Seq.{length-take-le}
 use Rattle.frames.proofs.Asked.{answer-nodes, answer-rejected}
 use Rattle.treefile.specs.File.{fileCheck3, fileCheck16}
 use Rattle.treefile.proofs.Decoding.{decoded-refused}
-use Rattle.treefile.proofs.Reading.{Front, decoded-front, empty-refused, long-refused}
+use Rattle.treefile.proofs.Reading.{Front, front-room, decoded-front, empty-refused, long-refused}
 use Rattle.treefile.proofs.Reading.{lines-refused, letters-refused, frames-asked}
 use Rattle.treefile.proofs.check_file.Statement.{statement}
 use Rattle.treefile.proofs.check_file.Tie as tie
@@ -45,7 +45,7 @@ returns-2 : tie.Need-returns-2
 returns-2 c = rw (c .rejected2 .ensures) (decoded-refused _ _ _ _ (long-refused _ (omega arith)))
 
 decode-requires : tie.Need-decode-requires
-decode-requires c κs = search needs
+decode-requires c κs = (omega arith, c .before .before .before .before .before .pre (omega arith))
 
 enum-known-lines : tie.Need-enum-known-lines
 enum-known-lines c = search needs
@@ -83,11 +83,11 @@ mul-end : tie.Need-mul-end
 mul-end c = omega (arith, front (c .before .before .before) .few)
 
 slice-reshare-prefix-check-frames : tie.Need-slice-reshare-prefix-check-frames
-slice-reshare-prefix-check-frames c = omega (arith, front (c .before .before .before) .few)
+slice-reshare-prefix-check-frames c = front-room _ _ _ _ (front (c .before .before .before))
 
 slice-aggregate-check-frames : tie.Need-slice-aggregate-check-frames
 slice-aggregate-check-frames c =
-    sym (length-take-le _ _ (omega (arith, front (c .before .before .before .before) .few)))
+    sym (length-take-le _ _ (front-room _ _ _ _ (front (c .before .before .before .before))))
 
 check-frames-requires : tie.Need-check-frames-requires
 check-frames-requires c κs =

@@ -37,7 +37,7 @@ returns c =
     let l = c .before .before .before .before .before .before .before in
     let d = c .before .before .before .before .decode-line in
     rw (c .rejected .ensures)
-    (decoding-stop _ _ _ _ (omega arith) (omega arith) (l .loop .inv .1) (omega arith) _
+    (decoding-stop _ _ _ _ (omega arith) (l .loop .inv .1) (omega arith) _
     (sym (d .ensures .answered) ∙ not-true _ (c .before .if1 .taken)))
 
 add-at : tie.Need-add-at Inv-loop μ-loop
@@ -56,7 +56,7 @@ loop-again c =
     let is : d .result ≡ true = not-false _ (c .if1 .left) in (
       search needs,
       rw (d .ensures .stored is)
-          (decoding-next _ _ _ _ (omega arith) (omega arith) (l .loop .inv .1) (omega arith)
+          (decoding-next _ _ _ _ (omega arith) (l .loop .inv .1) (omega arith)
           (sym (d .ensures .answered) ∙ is)),
     )
 
@@ -66,7 +66,7 @@ same-length-2 c = search needs
 returns-2 : tie.Need-returns-2 Inv-loop μ-loop
 returns-2 c =
     let l = c .before in
-    decoding-all _ _ _ _ (omega arith) (omega arith) (l .loop .inv .1) (omega arith)
+    decoding-all _ _ _ _ (omega arith) (l .loop .inv .1) (omega arith)
 
 pub decode-spec : {M : Type 1} → statement M
 decode-spec =

@@ -72,6 +72,12 @@ small c i h =
     number-small (s .args .line .now) _ (s .pre .0) (k .copy .ensures .1) _ _ (r .read-digits .ensures) (omega arith)
     i h
 
+-- two of them make a byte
+byte-fits : (c : tie.In-loop Inv-loop μ-loop) → let n = c .before .before .before .before .read-digits .last .1 .0 in
+    let k = c .before .loop .k in
+    (getD n (2 * k) 0 < noDigit) × (getD n (2 * k + 1) 0 < noDigit)
+byte-fits c = (small c (2 * c .before .loop .k) (omega arith), small c (2 * c .before .loop .k + 1) (omega arith))
+
 mul-table : tie.Need-mul-table Inv-loop μ-loop
 mul-table c = search needs
 
@@ -79,7 +85,7 @@ array-read-table : tie.Need-array-read-table Inv-loop μ-loop
 array-read-table c = search needs
 
 mul-table-2 : tie.Need-mul-table-2 Inv-loop μ-loop
-mul-table-2 c = record { fits = omega (arith, small c (2 * c .before .loop .k) (omega arith)) }
+mul-table-2 c = record { fits = omega (arith, byte-fits c) }
 
 mul-table-3 : tie.Need-mul-table-3 Inv-loop μ-loop
 mul-table-3 c = search needs
@@ -91,9 +97,7 @@ array-read-table-2 : tie.Need-array-read-table-2 Inv-loop μ-loop
 array-read-table-2 c = search needs
 
 add-table-2 : tie.Need-add-table-2 Inv-loop μ-loop
-add-table-2 c =
-    let k = c .before .loop .k in
-    record { fits = omega (arith, small c (2 * k) (omega arith), small c (2 * k + 1) (omega arith)) }
+add-table-2 c = record { fits = omega (arith, byte-fits c) }
 
 add-table-3 : tie.Need-add-table-3 Inv-loop μ-loop
 add-table-3 c = search needs

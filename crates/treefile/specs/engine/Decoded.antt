@@ -3,13 +3,14 @@ use mathlib.Core.Path.{_≡_}
 use mathlib.Core.Bool.{Bool, true}
 use mathlib.Core.Option.{Option, none}
 use mathlib.Core.List.{List}
-use Prim.Native.Nat.{ℕ}
+use Prim.Native.Nat.{ℕ, _*_, _/_, _≤_}
 use lib.ListN.{length, take}
 use lib.Seq.{sets}
 use Rattle.frames.specs.declared.Rejection.{Rejection}
 use Rattle.frames.specs.declared.Checked.{Checked}
-use Rattle.frames.specs.Frame.{frames}
+use Rattle.frames.specs.Frame.{frameSize, frames}
 use Rattle.frames.specs.Rejection.{answer}
+use Rattle.treefile.specs.Line.{lineSize}
 use Rattle.treefile.specs.Lines.{decoded}
 
 -- the answer r to questions about a file, of which x is the first "no"; where there is none, the table begins with the
@@ -22,3 +23,7 @@ pub record Decoded (f : List ℕ) (x : Option Rejection) (table : List ℕ) (r :
 pub record Stored (is : Bool) (bytes table : List ℕ) (to : ℕ) (after : List ℕ) (r : Bool) : Type 0 where
   pub answered : r ≡ is
   pub stored : r ≡ true → after ≡ sets table to bytes
+
+-- the table has room for the frames of a file's lines
+abbrev pub Roomy : (f table : List ℕ) → Type 0
+Roomy f table = length f ≤ lineSize * (length table / frameSize)
