@@ -1,5 +1,5 @@
--- What lifting keeps of a file: its lines, and the digit that each byte is. So the lifted file has the file's table, and
--- gets the answers that the file gets, but to question 16, which passes.
+-- What lifting keeps of a file: its lines, and the digit that each byte is. So the lifted file has the file's table,
+-- and gets the answers that the file gets, but to question 16, which passes.
 use Prim.Native.Nat.{ℕ, zero, suc, _+_, _-_}
 use mathlib.Core.Path.{_≡_, refl, ap, _∙_}
 use mathlib.Core.Bool.{Bool, true, false, cond}

@@ -28,7 +28,8 @@ value-order m n h =
       le =
           elim (decLt m zeroScore) [
             | yes p ↦ elim (decLt n zeroScore) [
-              | yes q ↦ rw (lt-ltb m zeroScore p, lt-ltb n zeroScore q) (le→leb (zeroScore - suc n) (zeroScore - suc m) (omega arith))
+              | yes q ↦ rw (lt-ltb m zeroScore p, lt-ltb n zeroScore q)
+                  (le→leb (zeroScore - suc n) (zeroScore - suc m) (omega arith))
               | no q ↦ rw (lt-ltb m zeroScore p, le-ltb n zeroScore (omega arith)) tt
             ]
             | no p ↦ rw (le-ltb m zeroScore (omega arith), le-ltb n zeroScore (omega arith))

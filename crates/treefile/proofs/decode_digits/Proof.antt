@@ -53,10 +53,14 @@ returns c =
 loop-holds : tie.Need-loop-holds Inv-loop μ-loop
 loop-holds c = (search needs, omega arith, refl)
 
+-- the function's entry, from the loop on
+abbrev start : tie.In-loop Inv-loop μ-loop → tie.Start Inv-loop μ-loop
+start c = c .before .before .before .before .before .before .before .before .before .before .before .before
+
 -- the number of each digit of the line, which is below 16
 number : (c : tie.In-loop Inv-loop μ-loop) (i : ℕ) → i < lineDigits
     → getD (c .before .before .before .before .read-digits .last .1 .0) i 0
-    ≡ digitOf (getD (c .before .before .before .before .before .before .before .before .before .before .before .before .args .line .now) i 0)
+    ≡ digitOf (getD (start c .args .line .now) i 0)
 number c i h =
     let r = c .before .before .before .before in
     let k = r .before .before .before .before in
@@ -116,7 +120,7 @@ loop-again c =
     let l = c .before .loop in (
       simp length-set (l .inv .0),
       omega arith,
-      byte-stored _ _ _ _ (c .before .before .before .before .before .before .before .before .before .before .before .before .pre .0) (omega arith) _ _ _ (l .inv .2) (number c _ (omega arith))
+      byte-stored _ _ _ _ (start c .pre .0) (omega arith) _ _ _ (l .inv .2) (number c _ (omega arith))
           (number c _ (omega arith)),
     )
 

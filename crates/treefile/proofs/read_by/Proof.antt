@@ -34,8 +34,9 @@ same-length c = search needs
 
 returns : tie.Need-returns
 returns c =
+    let k = c .before .before .before .before .check-file in
     let e = c .enum-told .given .1 in
-    let o = read-refused _ _ _ (decoded-rejected _ _ _ _ (c .before .before .before .before .check-file .ensures) _ e) in
+    let o = read-refused _ _ _ (decoded-rejected _ _ _ _ (k .ensures) _ e) in
     (e ∙ o .0, o .1)
 
 mul-size : tie.Need-mul-size

@@ -32,7 +32,9 @@ slice-write-numbers c = search needs
 add-others : tie.Need-add-others Inv-loop μ-loop
 add-others c =
     let l = c .before .before .before .loop in
-    record { fits = omega (arith, l .inv .1, l .inv .2 .few, c .digit .ensures, digit-small (getD (c .before .before .before .before .before .before .args .digits .now) (l .k) 0)) }
+    let s = c .before .before .before .before .before .before in
+    let few = digit-small (getD (s .args .digits .now) (l .k) 0) in
+    record { fits = omega (arith, l .inv .1, l .inv .2 .few, c .digit .ensures, few) }
 
 add-k : tie.Need-add-k Inv-loop μ-loop
 add-k c = search needs
