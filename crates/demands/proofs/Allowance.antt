@@ -34,12 +34,12 @@ use Rattle.certificate.specs.Search.{marksOf}
 use Rattle.certificate.proofs.Questions.{room-passed}
 use Rattle.alphabeta.specs.declared.Answer.the-variants as ab-answer
 use Rattle.alphabeta.specs.Outcome.{reachedLeaves}
-use Rattle.sss.specs.declared.State.{State}
+use Rattle.states.specs.declared.State.{State}
 use Rattle.sss.specs.declared.Found.{Found as SssFound}
 use Rattle.sss.specs.declared.Spent.{Spent}
 use Rattle.sss.specs.declared.Answer.{Answer as SssAnswer}
 use Rattle.sss.specs.declared.Answer.the-variants as sss-answer
-use Rattle.sss.specs.Entry.{blank}
+use Rattle.states.specs.Entry.{blank}
 use Rattle.sss.specs.Outcome.{sssRun, runSpent, runOutcome, spentMerit, sssOutcome, runOf, sssLeaves, sssFound}
 use Rattle.sss.proofs.Replacements.{own}
 use Rattle.sss.proofs.Whole.{passed-outcome}

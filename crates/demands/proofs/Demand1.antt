@@ -39,10 +39,10 @@ use Rattle.certificate.specs.Search.{searchRejection}
 use Rattle.frames.specs.Check.{check10}
 use Rattle.alphabeta.specs.declared.Answer.the-variants as ab-answer
 use Rattle.mtd.specs.declared.Answer.the-variants as mtd-answer
-use Rattle.sss.specs.declared.State.{State}
+use Rattle.states.specs.declared.State.{State}
 use Rattle.sss.specs.declared.Answer.{Answer as SssAnswer}
 use Rattle.sss.specs.declared.Answer.the-variants as sss-answer
-use Rattle.sss.specs.Entry.{blank}
+use Rattle.states.specs.Entry.{blank}
 use Rattle.sss.specs.Outcome.{sssRejection, listAfter, sssOutcome}
 use Rattle.sss.proofs.Whole.{states-found}
 use Rattle.sss.proofs.OwnList.{own-list as same-outcome}

@@ -32,7 +32,7 @@ use Rattle.mtd.specs.declared.Answer.the-variants as mtd-answer
 use Rattle.mtd.specs.Outcome.{mtdLeaves}
 use Rattle.sss.specs.declared.Found.{Found as SssFound}
 use Rattle.sss.specs.declared.Answer.the-variants as sss-answer
-use Rattle.sss.specs.Entry.{blank}
+use Rattle.states.specs.Entry.{blank}
 use Rattle.sss.specs.Outcome.{runOf, sssLeaves, listAfter}
 use Rattle.demands.specs.Calls.{AlphaBetaCall, MtdCall, SssCall}
 use Rattle.demands.specs.Calls.{Call, alphaBeta, mtd, sss, found, left, leaves}

@@ -34,7 +34,7 @@ use Rattle.certificate.proofs.Marks.{marked-written, evaluated-hold, ones-leave
 use Rattle.alphabeta.specs.Outcome.{reachedLeaves}
 use Rattle.sss.specs.declared.Spent.{Spent}
 use Rattle.sss.specs.declared.Answer.the-variants as sss-answer
-use Rattle.sss.specs.Entry.{blank}
+use Rattle.states.specs.Entry.{blank}
 use Rattle.sss.specs.Outcome.{sssRun, runSpent, runOutcome, spentMerit, check15, listAfter}
 use Rattle.sss.specs.Outcome.{sssLeaves}
 use Rattle.sss.proofs.Replacements.{own}

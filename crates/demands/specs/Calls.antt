@@ -14,7 +14,7 @@ use Rattle.mtd.specs.declared.Found.{Found as MtdFound}
 use Rattle.mtd.specs.declared.Answer.{Answer as MtdAnswer}
 use Rattle.mtd.specs.declared.Answer.the-variants as mtd-answer
 use Rattle.mtd.specs.Outcome.{mtdLeaves, mtdOutcome}
-use Rattle.sss.specs.declared.State.{State}
+use Rattle.states.specs.declared.State.{State}
 use Rattle.sss.specs.declared.Found.{Found as SssFound}
 use Rattle.sss.specs.declared.Answer.{Answer as SssAnswer}
 use Rattle.sss.specs.declared.Answer.the-variants as sss-answer

@@ -19,7 +19,7 @@ use Rattle.mtd.specs.declared.Answer.the-variants as mtd-answer
 use Rattle.mtd.specs.Outcome.{mtdOutcome}
 use Rattle.sss.specs.declared.Answer as sss
 use Rattle.sss.specs.declared.Answer.the-variants as sss-answer
-use Rattle.sss.specs.Entry.{blank}
+use Rattle.states.specs.Entry.{blank}
 use Rattle.sss.specs.Outcome.{sssOutcome}
 
 -- what a search gives: the value, the move, the count of evaluated leaves and, if it has one, its second count; of an

@@ -20,7 +20,7 @@ use Rattle.frames.proofs.Stated.{both-passed}
 use Rattle.frames.proofs.Totals.{tree-size}
 use Rattle.frames.proofs.Proper.{tree-proper}
 use Rattle.certificate.specs.Search.{searchRejection, Outcome, outcome}
-use Rattle.sss.specs.declared.State.{State}
+use Rattle.states.specs.declared.State.{State}
 use Rattle.sss.specs.declared.Found.{Found}
 use Rattle.sss.specs.declared.Spent.{Spent}
 use Rattle.sss.specs.declared.Answer.{Answer}

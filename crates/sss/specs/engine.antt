@@ -2,10 +2,4 @@
 pub mod Driven
 pub mod Finish
 pub mod Invariant
-pub mod Kept
-pub mod Ready
-pub mod Rules
-pub mod Shown
 pub mod Start
-pub mod Turn
-pub mod Update

@@ -21,9 +21,9 @@ use denote.Struct.Laws as LL
 use Rattle.frames.specs.declared.Checked.{Checked}
 use Rattle.frames.proofs.Checked as Q
 use Rattle.frames.proofs.Checked.Laws as Q′
-use Rattle.sss.specs.declared.State.{State}
+use Rattle.states.specs.declared.State.{State}
 use Rattle.sss.specs.declared.Sizes.{Sizes}
-use Rattle.sss.specs.declared.Run.{Run}
+use Rattle.turns.specs.declared.Run.{Run}
 use Rattle.sss.specs.declared.Answer.{Answer}
 use Rattle.sss.specs.engine.Driven.{Driven}
 use Rattle.sss.specs.engine.Start.{begun as begunOf, Workable, Started}
@@ -31,11 +31,11 @@ use Rattle.sss.specs.engine.Finish.{Finished}
 use Rattle.sss.specs.Outcome.{sssOutcome}
 use Rattle.sss.proofs.Starting.{start-prepared}
 use Rattle.sss.proofs.Whole.{finish-asks, whole}
-use Rattle.sss.proofs.State as S
+use Rattle.states.proofs.State as S
 use Rattle.sss.proofs.Sizes as Z
 use Rattle.sss.proofs.Sizes.Laws as Z′
-use Rattle.sss.proofs.Run as N
-use Rattle.sss.proofs.Run.Laws as N′
+use Rattle.turns.proofs.Run as N
+use Rattle.turns.proofs.Run.Laws as N′
 use Rattle.sss.proofs.Answer as B
 use Rattle.sss.proofs.Answer.Laws as B′
 use Rattle.sss.proofs.ends.start as start

@@ -5,11 +5,11 @@ use mathlib.Core.List.{List}
 use Prim.Native.Nat.{ℕ}
 use lib.ListN.{length}
 use Rattle.frames.specs.Formed.{WellFormed}
-use Rattle.sss.specs.declared.State.{State}
-use Rattle.sss.specs.declared.Run.{Run}
+use Rattle.states.specs.declared.State.{State}
+use Rattle.turns.specs.declared.Run.{Run}
 use Rattle.places.specs.engine.Places.{Placed}
-use Rattle.sss.specs.engine.Update.{updated, Within}
-use Rattle.sss.specs.engine.Turn.{Config}
+use Rattle.turns.specs.engine.Update.{updated, Within}
+use Rattle.turns.specs.engine.Turn.{Config}
 use Rattle.sss.specs.engine.Invariant.{Running}
 
 -- a run that goes is at its start, over the front w, the list l and the marks b; one that does not changes no entry

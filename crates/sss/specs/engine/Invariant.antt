@@ -6,18 +6,22 @@ use mathlib.Core.Bool.{Bool, true, false}
 use mathlib.Core.List.{List, _++_}
 use lib.ListN.{length, drop, replicate}
 use Rattle.gametree.specs.Tree.{greatest}
+use Rattle.gametree.specs.Layout.{layoutOf}
 use Rattle.gametree.specs.Sss as theory
 use Rattle.frames.specs.Frame.{frames}
-use Rattle.frames.specs.Tree.{tree}
+use Rattle.frames.specs.Tree.{tree, valuation}
 use Rattle.places.specs.Buffer.{written}
 use Rattle.certificate.specs.Marks.{markAll}
-use Rattle.sss.specs.declared.State.{State}
-use Rattle.sss.specs.Entry.{blank}
+use Rattle.states.specs.declared.State.{State}
+use Rattle.states.specs.Entry.{blank}
 use Rattle.sss.specs.Outcome.{sssRun}
-use Rattle.sss.specs.engine.Shown.{Found}
-use Rattle.sss.specs.engine.Kept.{arraysOf, Sound}
-use Rattle.sss.specs.engine.Rules.{Reaches}
-use Rattle.sss.specs.engine.Turn.{Config}
+use Rattle.states.specs.engine.Shown.{Found}
+use Rattle.states.specs.engine.Kept.{arraysOf, Sound}
+use Rattle.turns.specs.engine.Turn.{Config}
+
+-- after k replacements that evaluated the leaves v, SSS* has the list L
+abbrev pub Reaches : List ℕ → ℕ → List ℕ → List theory.State → Type 0
+Reaches t k v L = theory.ListAfter (valuation t) (layoutOf (tree t)) (tree t) k v L
 
 -- the list ls and the front w show a list that SSS* reaches, and node i is the one to take, with merit γ
 pub record Keeps (t : List ℕ) (ls : List State) (w : List ℕ) (γ i k : ℕ) (v : List ℕ) : Type 0 where

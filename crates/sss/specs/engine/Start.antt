@@ -14,13 +14,13 @@ use Rattle.frames.specs.Formed.{WellFormed}
 use Rattle.frames.specs.Rejection.{answer}
 use Rattle.places.specs.Buffer.{written}
 use Rattle.certificate.specs.Search.{searchRejection}
-use Rattle.sss.specs.declared.Status.the-variants.{Live}
-use Rattle.sss.specs.declared.Counts.{Counts}
+use Rattle.states.specs.declared.Status.the-variants.{Live}
+use Rattle.turns.specs.declared.Counts.{Counts}
 use Rattle.sss.specs.declared.Sizes.{Sizes}
-use Rattle.sss.specs.declared.Run.{Run}
+use Rattle.turns.specs.declared.Run.{Run}
 use Rattle.places.specs.engine.Places.{placeEntry}
-use Rattle.sss.specs.engine.Kept.{Sound}
-use Rattle.sss.specs.engine.Update.{ofChange}
+use Rattle.states.specs.engine.Kept.{Sound}
+use Rattle.turns.specs.engine.Update.{ofChange}
 
 -- the first "no" to questions 1 to 10, for a list and a certificate of these sizes and the marks b
 abbrev pub startRejection : List ℕ → Sizes → List ℕ → Option Rejection

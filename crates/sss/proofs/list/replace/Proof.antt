@@ -25,17 +25,17 @@ use Rattle.walks.proofs.Walk.{needs, Stays, walkOf, ends-at, ByValue, of-struct
 use Rattle.walks.proofs.Walk.{store-at, entry-out, called, by-test, homes, held, part, sets, none, room, full, frees}
 use Rattle.walks.proofs.Walk.{Parameters, stays-of, by-walk, lent, valued}
 use denote.Struct.Laws as LL
-use Rattle.sss.specs.declared.State.{State}
-use Rattle.sss.specs.declared.Update.{Update}
-use Rattle.sss.specs.Entry.{blank}
-use Rattle.sss.specs.engine.Update.{entryIn, updated, Within}
+use Rattle.states.specs.declared.State.{State}
+use Rattle.turns.specs.declared.Update.{Update}
+use Rattle.states.specs.Entry.{blank}
+use Rattle.turns.specs.engine.Update.{entryIn, updated, Within}
 use Rattle.sss.proofs.Updates.{Replacing, replacing-start, replacing-on, replacing-end}
-use Rattle.sss.proofs.State as S
-use Rattle.sss.proofs.State.Laws as S′
-use Rattle.sss.proofs.Content as C
-use Rattle.sss.proofs.Content.Laws as C′
-use Rattle.sss.proofs.Update as U
-use Rattle.sss.proofs.Update.Laws as U′
+use Rattle.states.proofs.State as S
+use Rattle.states.proofs.State.Laws as S′
+use Rattle.turns.proofs.Content as C
+use Rattle.turns.proofs.Content.Laws as C′
+use Rattle.turns.proofs.Update as U
+use Rattle.turns.proofs.Update.Laws as U′
 use Rattle.sss.proofs.list.entry_in as entry-in
 use Rattle.sss.proofs.list.entry_in.Symbol as entry-in-def
 use Rattle.sss.proofs.list.entry_in.Symbol.{name as #entry-in}
@@ -237,7 +237,7 @@ module _ {M : Type 1} (𝓤 : URA M) (H : Heap 𝓤) (A : Atoms 𝓤) (W : Given
         sets ! (of-opd ! (part ! (pos 2) {d = 16} refl refl refl))
         (init ! (pos 3) refl (vC .typed (u .content) content-is .0)) $
         sets ! (of-opd ! (part ! (pos 2) refl refl refl)) (init ! (pos 4) refl (tt, record { fits = f })) $
-        sets ! (bin ! (held ! (pos 4) refl) (part ! (pos 2) refl refl refl) (record { fits = g }))
+        sets ! (bin ! (held ! (pos 4) refl) (part ! (pos 2) {d = 8} refl refl refl) (record { fits = g }))
         (init ! (pos 5) refl (tt, record { fits = g })) $
         runs-on l₀ l₁ l₂ l₃ l₄ l₅ l₆ l₇ l₈ l₉ (ls .now, u .first, replacing-start u (ls .now))))))))))))
 

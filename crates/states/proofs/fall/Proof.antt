@@ -1,0 +1,110 @@
+-- `states::fall` meets its contract: what is still to be done stays the same.
+use Prim.Native.Nat.{_-_}
+use native.Mathlib.Omega.{arith}
+use mathlib.Core.Path.{_≡_, refl, sym, _∙_, ap}
+use mathlib.Core.Bool.{true}
+use Rattle.frames.specs.Place.{parentOf}
+use Rattle.states.specs.engine.Kept.{bestAt, falls}
+use Rattle.places.proofs.Places.{placed-room, placed-parent}
+use Rattle.states.proofs.Risings.{Falling, Rises, rises, falling-again, fallen-top}
+use Rattle.states.proofs.fall.Statement.{statement}
+use Rattle.states.proofs.fall.Tie as tie
+
+abbrev Inv-loop : tie.InvT-loop
+Inv-loop table places front₀ node test at₀ front at = Falling table places test front₀ node front at
+
+abbrev μ-loop : tie.MeasureT-loop
+μ-loop table places front₀ node test at₀ front at = at
+
+-- from where the parent is read, the loop's head and the entry
+abbrev head : tie.After-parent-at Inv-loop μ-loop → tie.At-loop Inv-loop μ-loop
+head s = s .before .before .before .before
+
+abbrev start : tie.After-parent-at Inv-loop μ-loop → tie.Start Inv-loop μ-loop
+start s = head s .before .before .before .before
+
+-- the node at the head is below the test
+lower : (s : tie.After-parent-at Inv-loop μ-loop)
+    → falls (head s .loop .front) (start s .args .test) (head s .loop .at) ≡ true
+lower s = sym (s .before .before .is-lower .ensures) ∙ s .before .if1 .taken
+
+-- its parent
+parent : (s : tie.After-parent-at Inv-loop μ-loop)
+    → s .parent-at .result ≡ parentOf (start s .args .table .now) (head s .loop .at)
+parent s =
+    let f = head s .loop .inv in s .parent-at .ensures ∙ placed-parent _ _ (f .fits .places) _ (f .inside)
+
+risen : (s : tie.After-parent-at Inv-loop μ-loop)
+    → Rises (start s .args .table .now) (head s .loop .front) (head s .loop .at) (s .parent-at .result)
+risen s = rises (head s .loop .inv) (lower s) (parent s)
+
+loop-holds : tie.Need-loop-holds Inv-loop μ-loop
+loop-holds c =
+    let a = c .before .before .before in record { inside = a .pre .1; fits = a .pre .0; same = refl; size = refl }
+
+is-lower-requires : tie.Need-is-lower-requires Inv-loop μ-loop
+is-lower-requires c κs = let f = c .before .loop .inv in omega (arith, f .inside, f .fits .sound .room)
+
+parent-at-requires : tie.Need-parent-at-requires Inv-loop μ-loop
+parent-at-requires c κs =
+    let f = c .before .before .before .loop .inv in placed-room _ _ (f .fits .places) _ (f .inside)
+
+chosen-requires : tie.Need-chosen-requires Inv-loop μ-loop
+chosen-requires c κs = (head (c .before) .loop .inv .fits, risen (c .before) .inside)
+
+best-at-requires : tie.Need-best-at-requires Inv-loop μ-loop
+best-at-requires c κs =
+    let s = c .before .before .before in
+    omega (arith, c .before .chosen .ensures, risen s .child, head s .loop .inv .fits .sound .room)
+
+packed-requires : tie.Need-packed-requires Inv-loop μ-loop
+packed-requires c κs =
+    let s = c .before .before .before .before in
+    let i = c .before .before .chosen .ensures in
+    let j = c .best-at .ensures ∙ ap (bestAt (head s .loop .front)) i in
+    (omega (arith, j, risen s .merit), omega (arith, i, risen s .child, head s .loop .inv .fits .formed .few))
+
+mul-front : tie.Need-mul-front Inv-loop μ-loop
+mul-front c =
+    let s = c .before .before .before .before .before in
+    omega (arith, risen s .inside, head s .loop .inv .fits .formed .few)
+
+slice-write-front : tie.Need-slice-write-front Inv-loop μ-loop
+slice-write-front c =
+    let s = c .before .before .before .before .before in
+    omega (arith, risen s .inside, head s .loop .inv .fits .sound .room)
+
+loop-less : tie.Need-loop-less Inv-loop μ-loop
+loop-less c = risen (c .before .before .before .before .before) .less
+
+loop-again : tie.Need-loop-again Inv-loop μ-loop
+loop-again c =
+    let s = c .before .before .before .before .before in
+    falling-again (head s .loop .inv) _ _ _ _ (lower s) (parent s) (c .before .before .before .chosen .ensures)
+    (c .before .best-at .ensures) (c .packed .ensures)
+
+same-length : tie.Need-same-length Inv-loop μ-loop
+same-length c = c .before .before .before .loop .inv .size
+
+returns : tie.Need-returns Inv-loop μ-loop
+returns c =
+    fallen-top (c .before .before .before .loop .inv) (sym (c .before .is-lower .ensures) ∙ c .if1 .left)
+
+pub fall-spec : {M : Type 1} → statement M
+fall-spec =
+    tie.close
+    (tie.spec
+    Inv-loop
+    μ-loop
+    loop-holds
+    is-lower-requires
+    parent-at-requires
+    chosen-requires
+    best-at-requires
+    packed-requires
+    mul-front
+    slice-write-front
+    loop-less
+    loop-again
+    same-length
+    returns)

@@ -1,0 +1,84 @@
+-- `states::place` meets its contract.
+use native.Mathlib.Omega.{arith}
+use mathlib.Core.Path.{_≡_, refl, _∙_}
+use Prim.Native.Nat.{_-_}
+use lib.ListN.{length, length-set}
+use Rattle.states.proofs.Stores.{placed, Storing, store-on, store-end}
+use Rattle.states.proofs.place.Statement.{statement}
+use Rattle.states.proofs.place.Tie as tie
+
+abbrev Inv-loop : tie.InvT-loop
+Inv-loop front₀ test node first end fresh at₀ front at = Storing fresh first end front₀ front at
+
+abbrev μ-loop : tie.MeasureT-loop
+μ-loop front₀ test node first end fresh at₀ front at = end - at
+
+-- the front is as long as it was at entry
+kept : (c : tie.At-loop Inv-loop μ-loop)
+    → length (c .loop .front) ≡ length (c .before .before .before .before .before .args .front .now)
+kept c =
+    let a = c .before .before .before .before .before .args in
+    c .loop .inv .size ∙ length-set (a .front .now) (a .change .node) (c .before .packed2 .result)
+
+add-end : tie.Need-add-end Inv-loop μ-loop
+add-end c = omega arith
+
+packed-requires : tie.Need-packed-requires Inv-loop μ-loop
+packed-requires c κs = (omega arith, omega arith)
+
+packed-requires-2 : tie.Need-packed-requires-2 Inv-loop μ-loop
+packed-requires-2 c κs = (omega arith, omega arith)
+
+mul-front : tie.Need-mul-front Inv-loop μ-loop
+mul-front c = omega arith
+
+slice-write-front : tie.Need-slice-write-front Inv-loop μ-loop
+slice-write-front c = omega arith
+
+loop-holds : tie.Need-loop-holds Inv-loop μ-loop
+loop-holds c = record { from = omega arith; to = omega arith; same = refl; size = refl }
+
+mul-front-2 : tie.Need-mul-front-2 Inv-loop μ-loop
+mul-front-2 c = omega arith
+
+slice-write-front-2 : tie.Need-slice-write-front-2 Inv-loop μ-loop
+slice-write-front-2 c = omega (arith, kept (c .before))
+
+add-at : tie.Need-add-at Inv-loop μ-loop
+add-at c = omega arith
+
+loop-less : tie.Need-loop-less Inv-loop μ-loop
+loop-less c = omega arith
+
+loop-again : tie.Need-loop-again Inv-loop μ-loop
+loop-again c = store-on (c .before .loop .inv) (c .loop-test .taken)
+
+same-length : tie.Need-same-length Inv-loop μ-loop
+same-length c = kept (c .before)
+
+returns : tie.Need-returns Inv-loop μ-loop
+returns c =
+    let a = c .before .before .before .before .before .before in
+    store-end (c .before .loop .inv) (c .loop-test .left)
+    ∙ placed (a .args .test) (a .args .change) (a .args .front .now) _ _ _ (c .before .before .before .packed .ensures)
+    (c .before .before .packed2 .ensures) (omega arith)
+
+pub place-spec : {M : Type 1} → statement M
+place-spec =
+    tie.close
+    (tie.spec
+    Inv-loop
+    μ-loop
+    add-end
+    packed-requires
+    packed-requires-2
+    mul-front
+    slice-write-front
+    loop-holds
+    mul-front-2
+    slice-write-front-2
+    add-at
+    loop-less
+    loop-again
+    same-length
+    returns)

@@ -1,0 +1,156 @@
+// The states of SSS*, and their front: of each node on the list or above a state, the greatest merit there and the
+// child to go down to, in one number.
+use frames::child_count;
+use frames::first_child;
+use gametree::Side;
+use places::parent_at;
+use places::side_at;
+ghost use mathlib.Core.Path.{_≡_};
+ghost use Prim.Native.Nat.{_+_, _-_, _≤_, _<_};
+ghost use lib.ListN.{length};
+ghost use Rattle.gametree.specs.Tree.{greatest};
+ghost use Rattle.frames.specs.Frame.{maxNodes, frames};
+ghost use Rattle.states.specs.engine.Kept.{bestAt, linkAt, packed as packedOf, leftmostBest, chosenOf, falls};
+ghost use Rattle.states.specs.engine.Kept.{fallen, descended, changed, Placeable, Fits};
+
+// LIVE and SOLVED (SPEC 10.1).
+pub enum Status {
+    Live,
+    Solved,
+}
+
+// An entry of the lent list (SPEC 10.6): a state, with its merit as a value.
+pub struct State {
+    pub node: u16,
+    pub status: Status,
+    pub merit: i32,
+}
+
+// What replaces a state: `count` nodes from `first` on get a state with this status and score; nothing changes but at
+// and below `node`.
+pub struct Change {
+    pub node: usize,
+    pub first: usize,
+    pub count: usize,
+    pub status: Status,
+    pub score: u32,
+}
+
+// How many links an entry tells apart: as many as a tree may have nodes.
+const LINKS: u32 = 4096;
+
+// The new states' entries, and the node's, which goes down to the first of them.
+pub fn place(front: &mut [u32], change: Change, test: u32)
+    requires { ⌜ Placeable test change (now front) ⌝ }
+    ensures { λ _. ⌜ now (front .exit) ≡ changed test change (now (front .entry)) ⌝ }
+{
+    let node = change.node;
+    let first = change.first;
+    let end = first + change.count;
+    let fresh = packed(change.score, 0);
+    front[node] = packed(test, first);
+    let mut at = first;
+    while at < end {
+        front[at] = fresh;
+        at += 1;
+    }
+}
+
+// The greatest merits above a node whose merit fell, up to the first node whose greatest merit stays, or the root:
+// that is the result.
+pub fn fall(table: &[u8], places: &[u32], front: &mut [u32], node: usize, test: u32) -> usize
+    requires { ⌜ Fits (now table) (now places) (now front) ⌝ }
+    requires { ⌜ node < frames (now table) ⌝ }
+    ensures { λ r. ⌜ r ≡ fallen node (now (table .entry)) test (now (front .entry)) node .top ⌝ }
+    ensures { λ _. ⌜ now (front .exit) ≡ fallen node (now (table .entry)) test (now (front .entry)) node .front ⌝ }
+{
+    let mut at = node;
+    while is_lower(front, at, test) {
+        at = parent_at(places, at);
+        let child = chosen(table, places, front, at);
+        front[at] = packed(best_at(front, child), child);
+    }
+    at
+}
+
+// The state to take, from a node down by the links.
+pub fn descend(table: &[u8], places: &[u32], front: &[u32], node: usize) -> usize
+    requires { ⌜ Fits (now table) (now places) (now front) ⌝ }
+    requires { ⌜ node < frames (now table) ⌝ }
+    ensures { λ r. ⌜ r ≡ descended (frames (now (table .entry)) - node) (now (front .entry)) node ⌝ }
+{
+    let mut at = node;
+    let mut link = link_at(front, at);
+    while link != 0 {
+        at = link;
+        link = link_at(front, at);
+    }
+    at
+}
+
+// The greatest merit at and below a node.
+pub fn best_at(front: &[u32], node: usize) -> u32
+    requires { ⌜ node < length (now front) ⌝ }
+    ensures { λ r. ⌜ r ≡ bestAt (now (front .entry)) node ⌝ }
+{
+    front[node] / LINKS
+}
+
+// The child that an expanded node goes down to, from the merits of its children.
+fn chosen(table: &[u8], places: &[u32], front: &[u32], node: usize) -> usize
+    requires { ⌜ Fits (now table) (now places) (now front) ⌝ }
+    requires { ⌜ node < frames (now table) ⌝ }
+    ensures { λ r. ⌜ r ≡ chosenOf (now (table .entry)) (now (front .entry)) node ⌝ }
+{
+    let count = child_count(table, node);
+    if count == 0 {
+        return 0;
+    }
+    match side_at(places, node) {
+        Side::Max => leftmost_best(front, first_child(table, node), count),
+        Side::Min => link_at(front, node),
+    }
+}
+
+// The leftmost of `count` nodes of greatest merit.
+fn leftmost_best(front: &[u32], first: usize, count: usize) -> usize
+    requires { ⌜ (0 < count) × (first + count ≤ length (now front)) × (length (now front) ≤ maxNodes) ⌝ }
+    ensures { λ r. ⌜ r ≡ leftmostBest (now (front .entry)) first (count - 1) ⌝ }
+{
+    let mut at = first + (count - 1);
+    let mut best = at;
+    while first < at {
+        at -= 1;
+        if best_at(front, best) <= best_at(front, at) {
+            best = at;
+        }
+    }
+    best
+}
+
+// Is a node other than the root below the test?
+fn is_lower(front: &[u32], node: usize, test: u32) -> bool
+    requires { ⌜ node < length (now front) ⌝ }
+    ensures { λ r. ⌜ r ≡ falls (now (front .entry)) test node ⌝ }
+{
+    if node == 0 {
+        false
+    } else {
+        best_at(front, node) < test
+    }
+}
+
+// The child to go down to; 0 where the node is on the list.
+fn link_at(front: &[u32], node: usize) -> usize
+    requires { ⌜ node < length (now front) ⌝ }
+    ensures { λ r. ⌜ r ≡ linkAt (now (front .entry)) node ⌝ }
+{
+    (front[node] % LINKS) as usize
+}
+
+fn packed(best: u32, link: usize) -> u32
+    requires { ⌜ (best ≤ greatest) × (link < maxNodes) ⌝ }
+    ensures { λ r. ⌜ r ≡ packedOf best link ⌝ }
+{
+    best * LINKS + link as u32
+}

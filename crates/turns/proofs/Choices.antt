@@ -1,0 +1,44 @@
+-- The cases of the rules and the steps of a replacement that the code tells apart by tests.
+use Prim.Native.Nat.{ℕ, _+_, _-_, _≤_, _<_}
+use native.Mathlib.Omega.{arith}
+use mathlib.Core.Path.{_≡_, ap, ap₂, _∙_}
+use mathlib.Core.Bool.{true, false}
+use mathlib.Core.List.{List}
+use borrow.Author.Tests.{lt-ltb, le-ltb}
+use Rattle.gametree.specs.declared.Side.{Side}
+use Rattle.gametree.specs.declared.Side.the-variants.{Max, Min}
+use Rattle.frames.specs.Frame.{frames, firstChild, childCount}
+use Rattle.states.specs.declared.Status.the-variants.{Live, Solved}
+use Rattle.states.specs.declared.Change.{Change}
+use Rattle.turns.specs.declared.Counts.{Counts}
+use Rattle.turns.specs.engine.Rules.{one, ofChild}
+use Rattle.turns.specs.declared.Update.{Update}
+use Rattle.turns.specs.declared.Run.{Run}
+use Rattle.turns.specs.engine.Update.{ofChange}
+use Rattle.turns.specs.engine.Turn.{nextAt, replaced, settled}
+use Rattle.states.specs.engine.Kept.{bestAt, fallen, descended, changed}
+
+module _ (t : List ℕ) (i γ p : ℕ) (s : Side) (r : Change) where
+  pub child-max : s ≡ Max → r ≡ one p p Solved γ → r ≡ ofChild t i γ p s
+  child-max e h = rw e h
+
+  module _ (e : s ≡ Min) (f n : ℕ) (g : f ≡ firstChild t p) (k : n ≡ childCount t p) where
+    pub child-next : i + 1 < f + n → r ≡ one p (i + 1) Live γ → r ≡ ofChild t i γ p s
+    child-next l h = rw (e, lt-ltb (i + 1) (firstChild t p + childCount t p) (omega arith)) h
+
+    pub child-last : f + n ≤ i + 1 → r ≡ one p p Solved γ → r ≡ ofChild t i γ p s
+    child-last l h = rw (e, le-ltb (i + 1) (firstChild t p + childCount t p) (omega arith)) h
+
+-- the steps of a replacement
+pub replaced-by : (t w : List ℕ) (c : Change) (γ : ℕ) (k : Counts) (w₁ w₂ : List ℕ) (top at b : ℕ) (u : Update)
+    → w₁ ≡ changed γ c w → top ≡ fallen (c .node) t γ w₁ (c .node) .top → w₂ ≡ fallen (c .node) t γ w₁ (c .node) .front
+    → at ≡ descended (frames t - top) w₂ top → b ≡ bestAt w₂ 0 → u ≡ ofChange c
+    → (_≡_ {A = Run} (record { going = true; at = at; test = b; counts = k; update = u; spent = false })
+    (replaced t w c γ k))
+    × (w₂ ≡ settled t γ c w .front)
+replaced-by t w c γ k w₁ w₂ top at b u e₁ e₂ e₃ e₄ e₅ e₆ =
+    let x : top ≡ settled t γ c w .top = e₂ ∙ ap (λ z. fallen (c .node) t γ z (c .node) .top) e₁ in
+    let y : w₂ ≡ settled t γ c w .front = e₃ ∙ ap (λ z. fallen (c .node) t γ z (c .node) .front) e₁ in
+    let i : at ≡ nextAt t (settled t γ c w) = e₄ ∙ ap₂ (λ u v. descended (frames t - u) v u) x y in
+    let m : b ≡ bestAt (settled t γ c w .front) 0 = e₅ ∙ ap (λ z. bestAt z 0) y in
+    (cc, y)

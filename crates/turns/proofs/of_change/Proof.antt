@@ -1,0 +1,16 @@
+-- `turns::of_change` meets its contract: the merit is the score's value.
+use mathlib.Core.Path.{_∙_}
+use mir.Syntax.{w32}
+use mir.ValLaws.{toZ-ofZ}
+use borrow.Author.Needs.{needs}
+use Rattle.turns.proofs.of_change.Statement.{statement}
+use Rattle.turns.proofs.of_change.Tie as tie
+
+merit-requires : tie.Need-merit-requires
+merit-requires c κs = search needs
+
+returns : tie.Need-returns
+returns c = rw (toZ-ofZ w32 (c .merit .result) (record { sfits = c .merit .ok }) ∙ c .merit .ensures)
+
+pub of-change-spec : {M : Type 1} → statement M
+of-change-spec = tie.close (tie.spec merit-requires returns)

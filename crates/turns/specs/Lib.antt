@@ -1,0 +1,2 @@
+-- Definitions for one turn of SSS*.
+pub mod engine

@@ -1,0 +1,114 @@
+-- One turn of the run of SSS*: the state that is taken is replaced, or, if it is the SOLVED root or a leaf that the
+-- allowance does not cover, ends the run.
+use Prim.Native.Nat.{ℕ, zero, suc, _+_, _-_}
+use mathlib.Core.Bool.{Bool, true, false, cond}
+use mathlib.Core.List.{List, [], _∷_}
+use lib.Dec.{eqb, ltb}
+use lib.ListN.{length, getD}
+use Rattle.frames.specs.Frame.{frames, childCount}
+use Rattle.certificate.specs.Marks.{markAll}
+use Rattle.states.specs.declared.Status.{Status}
+use Rattle.states.specs.declared.Status.the-variants.{Live, Solved}
+use Rattle.states.specs.declared.State.{State}
+use Rattle.states.specs.declared.Change.{Change}
+use Rattle.turns.specs.declared.Counts.{Counts}
+use Rattle.turns.specs.declared.Run.{Run}
+use Rattle.states.specs.Entry.{blank}
+use Rattle.states.specs.engine.Kept.{bestAt, Fallen, fallen, descended, changed}
+use Rattle.turns.specs.engine.Rules.{ofState}
+use Rattle.turns.specs.engine.Update.{updated, ofChange, blanks}
+
+-- is a state of node i with this status the SOLVED root?
+abbrev pub isSolvedRoot : Status → ℕ → Bool
+isSolvedRoot Live i = false
+isSolvedRoot Solved i = eqb i 0
+
+-- the leaves that a replacement of node i, with n children, evaluates: a LIVE leaf
+abbrev pub valued : ℕ → Status → ℕ → List ℕ
+valued zero Live i = i ∷ []
+valued zero Solved i = []
+valued (suc n) s i = []
+
+abbrev pub newLeaves : List ℕ → State → List ℕ
+newLeaves t e = valued (childCount t (e .node)) (e .status) (e .node)
+
+-- the counts after a replacement of the state e
+abbrev pub counted : List ℕ → State → Counts → Counts
+counted t e k =
+    record {
+      leaves = k .leaves + length (newLeaves t e);
+      replacements = k .replacements + 1;
+      allowance = k .allowance;
+    }
+
+-- would a replacement of the state e evaluate a leaf that the allowance does not cover?
+abbrev pub uncovered : List ℕ → State → Counts → Bool
+uncovered t e k = ltb (k .allowance) (k .leaves + length (newLeaves t e))
+
+-- the front after a change and the fall from its node, and the node to take next
+abbrev pub settled : List ℕ → ℕ → Change → List ℕ → Fallen
+settled t γ c w = fallen (c .node) t γ (changed γ c w) (c .node)
+
+abbrev pub nextAt : List ℕ → Fallen → ℕ
+nextAt t r = descended (frames t - r .top) (r .front) (r .top)
+
+-- the run after a replacement
+abbrev pub replaced : List ℕ → List ℕ → Change → ℕ → Counts → Run
+replaced t w c γ k =
+    record {
+      going = true;
+      at = nextAt t (settled t γ c w);
+      test = bestAt (settled t γ c w .front) 0;
+      counts = k;
+      update = ofChange c;
+      spent = false;
+    }
+
+-- the run at its end, with an entry for each node blank
+abbrev pub ended : List ℕ → ℕ → Counts → Bool → Run
+ended t γ k x = record { going = false; at = 0; test = γ; counts = k; update = blanks (frames t); spent = x }
+
+-- the front, the marks and the run after a state is taken
+pub record Taken : Type 0 where
+  pub front : List ℕ
+  pub marks : List ℕ
+  pub run : Run
+
+-- the run ends, with its allowance spent or not
+abbrev pub stopped : (t w b : List ℕ) → Run → Bool → Taken
+stopped t w b r x = record { front = w; marks = b; run = ended t (r .test) (r .counts) x }
+
+-- the state e is replaced
+abbrev pub stepped : (t w b : List ℕ) → Run → State → Taken
+stepped t w b r e =
+    let c = ofState t (e .node) (r .test) (e .status) in
+    record {
+      front = settled t (r .test) c w .front;
+      marks = markAll b (newLeaves t e);
+      run = replaced t w c (r .test) (counted t e (r .counts));
+    }
+
+-- the state e is taken
+abbrev pub taken : (t w b : List ℕ) → Run → State → Taken
+taken t w b r e =
+    cond (isSolvedRoot (e .status) (e .node)) (stopped t w b r false)
+    (cond (uncovered t e (r .counts)) (stopped t w b r true) (stepped t w b r e))
+
+-- the front, the list, the marks and the run between two turns
+pub record Config : Type 0 where
+  pub front : List ℕ
+  pub list : List State
+  pub marks : List ℕ
+  pub run : Run
+
+-- the front, the marks and the run after the best state is taken
+abbrev pub best : List ℕ → Config → Taken
+best t c = taken t (c .front) (c .marks) (c .run) (getD (c .list) (c .run .at) blank)
+
+-- the list, too, once the update is made
+abbrev pub after : List State → Taken → Config
+after ls x = record { front = x .front; list = updated (x .run .update) ls; marks = x .marks; run = x .run }
+
+-- one turn: the best state is taken and replaced
+abbrev pub turn : List ℕ → Config → Config
+turn t c = after (c .list) (best t c)

@@ -1,0 +1,116 @@
+// The five rules (SPEC 10.3): what replaces the state that is taken.
+use certificate::evaluate;
+use frames::child_count;
+use frames::first_child;
+use gametree::Side;
+use gametree::better;
+use places::depth_at;
+use places::parent_at;
+use places::side_at;
+use states::Change;
+use states::State;
+use states::Status;
+ghost use mathlib.Core.Path.{_≡_};
+ghost use mathlib.Core.Bool.{false};
+ghost use Prim.Native.Nat.{_+_, _<_, _≤_, min};
+ghost use lib.ListN.{length, set};
+ghost use Rattle.gametree.specs.Tree.{greatest};
+ghost use Rattle.frames.specs.Frame.{maxNodes, frames, childCount};
+ghost use Rattle.frames.specs.Tree.{valuation};
+ghost use Rattle.certificate.specs.Marks.{marked, markAll};
+ghost use Rattle.places.specs.engine.Places.{Placed};
+ghost use Rattle.turns.specs.engine.Rules.{one as oneOf, ofInner, ofChild, ofState};
+ghost use Rattle.turns.specs.engine.Turn.{newLeaves};
+ghost use Rattle.turns.specs.engine.Ready.{Replaceable};
+
+// What replaces a state.
+pub fn of_state(
+    table: &[u8],
+    places: &[u32],
+    evaluated: &mut [u8],
+    entry: State,
+    test: u32,
+) -> Change
+    requires { ⌜ Replaceable (now table) (now places) (now evaluated) entry test ⌝ }
+    ensures { λ r. ⌜ r ≡ ofState (now (table .entry)) (entry .node) test (entry .status) ⌝ }
+    ensures { λ _. ⌜ now (evaluated .exit) ≡ markAll (now (evaluated .entry)) (newLeaves (now (table .entry)) entry) ⌝ }
+{
+    let node = entry.node as usize;
+    let status = entry.status;
+    match status {
+        Status::Live => {
+            let count = child_count(table, node);
+            if count == 0 {
+                of_leaf(table, places, evaluated, node, test)
+            } else {
+                of_inner(table, node, count, side_at(places, node), test)
+            }
+        }
+        Status::Solved => {
+            let parent = parent_at(places, node);
+            of_child(table, node, parent, side_at(places, parent), test)
+        }
+    }
+}
+
+// One new state.
+fn one(node: usize, first: usize, status: Status, score: u32) -> Change
+    ensures { λ r. ⌜ r ≡ oneOf node first status score ⌝ }
+{
+    Change {
+        node,
+        first,
+        count: 1,
+        status,
+        score,
+    }
+}
+
+// A LIVE leaf is evaluated, and SOLVED with the lesser of its merit and its score.
+fn of_leaf(table: &[u8], places: &[u32], evaluated: &mut [u8], node: usize, test: u32) -> Change
+    requires { ⌜ Placed (now table) (now places) ⌝ }
+    requires { ⌜ (node < frames (now table)) × (childCount (now table) node ≡ 0) × (test ≤ greatest) ⌝ }
+    requires { ⌜ (node < length (now evaluated)) × (marked (now evaluated) node ≡ false) ⌝ }
+    ensures { λ r. ⌜ r ≡ oneOf node node Status.Solved (min test (valuation (now (table .entry)) node)) ⌝ }
+    ensures { λ _. ⌜ now (evaluated .exit) ≡ set (now (evaluated .entry)) node 1 ⌝ }
+{
+    let score = evaluate(table, evaluated, node, depth_at(places, node));
+    one(node, node, Status::Solved, better(Side::Min, test, score))
+}
+
+// Of a LIVE Max node all children are LIVE, of a Min node the first.
+fn of_inner(table: &[u8], node: usize, count: usize, side: Side, test: u32) -> Change
+    requires { ⌜ node < frames (now table) ⌝ }
+    ensures { λ r. ⌜ r ≡ ofInner (now (table .entry)) node test side count ⌝ }
+{
+    let first = first_child(table, node);
+    match side {
+        Side::Max => Change {
+            node,
+            first,
+            count,
+            status: Status::Live,
+            score: test,
+        },
+        Side::Min => one(node, first, Status::Live, test),
+    }
+}
+
+// Under Max the parent of a SOLVED state is SOLVED; under Min the next brother is LIVE, after the last the parent is
+// SOLVED.
+fn of_child(table: &[u8], node: usize, parent: usize, side: Side, test: u32) -> Change
+    requires { ⌜ (node < maxNodes) × (parent < frames (now table)) ⌝ }
+    ensures { λ r. ⌜ r ≡ ofChild (now (table .entry)) node test parent side ⌝ }
+{
+    match side {
+        Side::Max => one(parent, parent, Status::Solved, test),
+        Side::Min => {
+            let brother = node + 1;
+            if brother < first_child(table, parent) + child_count(table, parent) {
+                one(parent, brother, Status::Live, test)
+            } else {
+                one(parent, parent, Status::Solved, test)
+            }
+        }
+    }
+}
