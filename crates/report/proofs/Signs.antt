@@ -1,49 +1,20 @@
--- A signed value, its sign and its magnitude.
+-- The text of a signed value, by its sign.
 use native.Mathlib.Omega.{arith}
 use mathlib.Core.Path.{_≡_, refl}
 use mathlib.Core.Bool.{true, false}
 use mathlib.Core.List.{_∷_}
-use lib.Dec.{T}
 use borrow.Author.Tests.{le-ltb}
-use lib.IntN.{ℤ, pos, negsuc, _-ℤ_, natAbs}
-use lib.Signed.{ltZ, nonNeg}
-use mir.Syntax.{w16, w32, w64}
-use mir.Val.{Fits, SFits}
+use lib.IntN.{ℤ, pos, negsuc, natAbs}
+use lib.Signed.{ltZ}
 use Rattle.lists.proofs.Choice.{true-not-false}
 use Rattle.report.specs.Text.{decimal, signedDecimal}
 
--- a value of 16 bits takes 32 too, and one of 32 bits 64
-pub wide32 : (v : ℤ) → SFits w16 v → SFits w32 v
-wide32 v f = record { sfits = omega (arith, f .sfits) }
+-- a minus sign stands before the magnitude of a negative one
+pub negative-text : (v : ℤ) → ltZ v (pos 0) ≡ true → signedDecimal v ≡ 45 ∷ decimal (natAbs v)
+negative-text (pos n) e = absurd (true-not-false e (le-ltb n 0 (omega arith)))
+negative-text (negsuc n) e = refl
 
-pub wide64 : (v : ℤ) → SFits w32 v → SFits w64 v
-wide64 v f = record { sfits = omega (arith, f .sfits) }
-
--- what its negation is, where it is negative
-pub record Negative (v : ℤ) : Type 0 where
-  pub fits : SFits w64 (pos 0 -ℤ v)
-  pub positive : T (nonNeg (pos 0 -ℤ v))
-  pub small : Fits w64 (natAbs (pos 0 -ℤ v))
-  pub same : natAbs (pos 0 -ℤ v) ≡ natAbs v
-  pub text : signedDecimal v ≡ 45 ∷ decimal (natAbs v)
-
-pub negative : (v : ℤ) → SFits w32 v → ltZ v (pos 0) ≡ true → Negative v
-negative (pos n) f e = absurd (true-not-false e (le-ltb n 0 (omega arith)))
-negative (negsuc n) f e =
-    record {
-      fits = record { sfits = omega (arith, f .sfits) };
-      positive = tt;
-      small = record { fits = omega (arith, f .sfits) };
-      same = omega arith;
-      text = refl;
-    }
-
--- and what it is where it is not
-pub record Positive (v : ℤ) : Type 0 where
-  pub positive : T (nonNeg v)
-  pub small : Fits w64 (natAbs v)
-  pub text : signedDecimal v ≡ decimal (natAbs v)
-
-pub positive : (v : ℤ) → SFits w32 v → ltZ v (pos 0) ≡ false → Positive v
-positive (pos n) f e = record { positive = tt; small = record { fits = omega (arith, f .sfits) }; text = refl }
-positive (negsuc n) f e = absurd (true-not-false refl e)
+-- and nothing before that of another
+pub positive-text : (v : ℤ) → ltZ v (pos 0) ≡ false → signedDecimal v ≡ decimal (natAbs v)
+positive-text (pos n) e = refl
+positive-text (negsuc n) e = absurd (true-not-false refl e)

@@ -2,7 +2,7 @@
 use lib.IntN.{pos, _-ℤ_}
 use mir.Syntax.{w16, w64}
 use mir.ValLaws.{toZ-ofZ}
-use Rattle.report.proofs.Signs.{wide32, wide64, negative, positive}
+use Rattle.signs.proofs.Signs.{wide32, wide64, negative, positive}
 use Rattle.report.proofs.magnitude.Statement.{statement}
 use Rattle.report.proofs.magnitude.Tie as tie
 

@@ -9,7 +9,7 @@ use mir.ValLaws.{toZ-ofZ}
 use borrow.Author.Needs.{needs}
 use Rattle.report.specs.Text.{decimal, signedDecimal}
 use Rattle.report.proofs.Laying.{room-rest, put-then}
-use Rattle.report.proofs.Signs.{wide32, negative, positive}
+use Rattle.report.proofs.Signs.{negative-text, positive-text}
 use Rattle.report.proofs.put_value.Statement.{statement}
 use Rattle.report.proofs.put_value.Tie as tie
 
@@ -22,7 +22,7 @@ below c =
     let s = t .before .before .before .before .before .before in
     let v = s .args .value in
     let e = toZ-ofZ w16 v (s .fits .value) in
-    negative v (wide32 v (s .fits .value)) (rw e at (t .if1 .taken)) .text
+    negative-text v (rw e at (t .if1 .taken))
     ∙ ap (λ n. 45 ∷ decimal n) (sym (c .magnitude .ensures ∙ ap natAbs e))
 
 above : (c : tie.After-magnitude2) →
@@ -33,7 +33,7 @@ above c =
     let s = t .before .before .before .before .before .before in
     let v = s .args .value in
     let e = toZ-ofZ w16 v (s .fits .value) in
-    positive v (wide32 v (s .fits .value)) (rw e at (t .if1 .left)) .text
+    positive-text v (rw e at (t .if1 .left))
     ∙ ap decimal (sym (c .magnitude2 .ensures ∙ ap natAbs e))
 
 put-byte-requires : tie.Need-put-byte-requires
@@ -45,7 +45,7 @@ put-byte-requires-2 c κs =
     let s = t .before .before .before .before .before .before in
     let v = s .args .value in
     let e = toZ-ofZ w16 v (s .fits .value) in
-    let l = ap length (negative v (wide32 v (s .fits .value)) (rw e at (t .if1 .taken)) .text) in
+    let l = ap length (negative-text v (rw e at (t .if1 .taken))) in
     room-rest (45 ∷ []) (t .before .before .before .put-byte .ensures) (omega arith)
 
 magnitude-requires : tie.Need-magnitude-requires

@@ -1,0 +1,3 @@
+// The text of the cases: how the numbers of a call are read, and how what calls leave is printed.
+pub mod numbers;
+pub mod print;

@@ -1,0 +1,88 @@
+// A graft of two trees of one file.
+use casetext::print::print_bytes;
+use tablecalls::answers::print_checked;
+use tablecalls::files::file_size;
+use tablecalls::tables::FILLED;
+use tablecalls::tables::TABLE_SIZE;
+use tablecalls::tables::frames_size;
+use treefile::LINE_SIZE;
+ghost use Rattle.io.specs.Counts.{Counts};
+
+// A graft at a node, on so many bytes of each table and with a buffer of this length, and what that holds afterwards:
+// the first tree has so many lines of the file, the second the rest, and zeros follow the frames of each. The result is
+// saved as a file; how many bytes that has, 0 where there is none.
+pub fn print_grafting(
+    file: &[u8],
+    lines: u32,
+    node: u32,
+    room: u32,
+    first_size: u32,
+    second_size: u32,
+    saved: &mut [u8],
+) -> usize
+    ensures { λ r. ⌜ Counts r (now (saved .exit)) ⌝ }
+{
+    let middle = io::count((LINE_SIZE * lines as usize) as isize, file);
+    let mut first = [0u8; TABLE_SIZE];
+    treefile::read(&file[..middle], &mut first);
+    let size = io::count(first_size as isize, &first);
+    print_onto(
+        &first[..size],
+        node as usize,
+        &file[middle..],
+        second_size,
+        room,
+        saved,
+    )
+}
+
+// The graft onto the first table of the tree of a file.
+fn print_onto(
+    first: &[u8],
+    node: usize,
+    file: &[u8],
+    second_size: u32,
+    room: u32,
+    saved: &mut [u8],
+) -> usize
+    ensures { λ r. ⌜ Counts r (now (saved .exit)) ⌝ }
+{
+    let mut second = [0u8; TABLE_SIZE];
+    treefile::read(file, &mut second);
+    let size = io::count(second_size as isize, &second);
+    print_in(first, node, &second[..size], room, saved)
+}
+
+// The graft of two tables in a buffer of this length.
+fn print_in(first: &[u8], node: usize, second: &[u8], room: u32, saved: &mut [u8]) -> usize
+    ensures { λ r. ⌜ Counts r (now (saved .exit)) ⌝ }
+{
+    let mut result = [FILLED; TABLE_SIZE];
+    let end = io::count(room as isize, &result);
+    print_grafted(first, node, second, &mut result[..end], saved)
+}
+
+// The answer of a graft and its buffer.
+fn print_grafted(
+    first: &[u8],
+    node: usize,
+    second: &[u8],
+    result: &mut [u8],
+    saved: &mut [u8],
+) -> usize
+    ensures { λ r. ⌜ Counts r (now (saved .exit)) ⌝ }
+{
+    let checked = graft::graft(first, node, second, result);
+    print_checked(b"graft", checked);
+    print_bytes(b"result", result);
+    let size = io::count(frames_size(checked), result);
+    save(&result[..size], saved)
+}
+
+// Saves a table as a file: how many bytes that has, 0 where the table is refused.
+fn save(table: &[u8], saved: &mut [u8]) -> usize
+    ensures { λ r. ⌜ Counts r (now (saved .exit)) ⌝ }
+{
+    let written = treefile::write(table, saved);
+    io::count(file_size(written), saved)
+}

@@ -1,0 +1,100 @@
+// The calls of the searches, on lent memory, and what they leave there.
+mod found;
+
+use casetext::print::print_bytes;
+use casetext::print::print_line_feed;
+use found::print_alphabeta;
+use found::print_mtd;
+use found::print_plain;
+use found::print_sss;
+use frames::MAX_NODES;
+use tablecalls::answers::print_checked;
+use tablecalls::certificates::print_verdict;
+use tablecalls::tables::FILLED;
+use tablecalls::tables::TABLE_SIZE;
+use tablecalls::tables::read_table;
+
+// The searches with buffers of these lengths for the marks and for the certificate.
+pub fn print_searches(file: &[u8], marks: u32, flags: u32) {
+    let mut table = [0u8; TABLE_SIZE];
+    let size = read_table(file, &mut table);
+    print_all(&table[..size], marks, flags);
+}
+
+// SSS* with an allowance of so many leaves and buffers of these lengths.
+pub fn print_allowed(file: &[u8], allowance: u32, marks: u32, flags: u32) {
+    let mut table = [0u8; TABLE_SIZE];
+    let size = read_table(file, &mut table);
+    print_search(
+        Method::Sss(allowance as usize),
+        &table[..size],
+        marks,
+        flags,
+    );
+}
+
+// The calls that check a table, on so many bytes of it and with empty buffers: zeros follow the frames of the file.
+pub fn print_checks(file: &[u8], size: u32) {
+    let mut table = [0u8; TABLE_SIZE];
+    treefile::read(file, &mut table);
+    let end = io::count(size as isize, &table);
+    print_checks_of(&table[..end]);
+}
+
+fn print_checks_of(table: &[u8]) {
+    print_checked(b"check", frames::check(table));
+    print_verdict(table, b"");
+    print_all(table, 0, 0);
+}
+
+// The three searches and the plain engine.
+fn print_all(table: &[u8], marks: u32, flags: u32) {
+    print_search(Method::AlphaBeta, table, marks, flags);
+    print_search(Method::Mtd, table, marks, flags);
+    print_search(Method::Sss(MAX_NODES), table, marks, flags);
+    print_search(Method::Plain, table, marks, flags);
+}
+
+// The searches; SSS* has an allowance of leaves.
+enum Method {
+    AlphaBeta,
+    Mtd,
+    Sss(usize),
+    Plain,
+}
+
+// A search with parts of filled buffers.
+fn print_search(method: Method, table: &[u8], marks: u32, flags: u32) {
+    let mut evaluated = [FILLED; MAX_NODES];
+    let end = io::count(marks as isize, &evaluated);
+    print_marked(method, table, &mut evaluated[..end], flags);
+}
+
+fn print_marked(method: Method, table: &[u8], evaluated: &mut [u8], flags: u32) {
+    let mut certificate = [FILLED; MAX_NODES];
+    let end = io::count(flags as isize, &certificate);
+    print_lent(method, table, evaluated, &mut certificate[..end]);
+}
+
+// What a search answers, the marks, the certificate, and the verdict on it.
+fn print_lent(method: Method, table: &[u8], evaluated: &mut [u8], certificate: &mut [u8]) {
+    print_answer(method, table, evaluated, certificate);
+    print_line_feed();
+    print_bytes(b"evaluated", evaluated);
+    print_bytes(b"certificate", certificate);
+    print_verdict(table, certificate);
+}
+
+// Each arm returns, so that no branches meet behind the calls that write.
+fn print_answer(method: Method, table: &[u8], evaluated: &mut [u8], certificate: &mut [u8]) {
+    match method {
+        Method::AlphaBeta => {
+            return print_alphabeta(alphabeta::search(table, evaluated, certificate));
+        }
+        Method::Mtd => return print_mtd(mtd::search(table, evaluated, certificate)),
+        Method::Sss(allowance) => {
+            return print_sss(sss::solve(table, evaluated, certificate, allowance));
+        }
+        Method::Plain => return print_plain(plain::search(table, evaluated, certificate)),
+    }
+}

@@ -1,0 +1,2 @@
+-- Signed values.
+pub mod Signs

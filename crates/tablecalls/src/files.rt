@@ -1,0 +1,105 @@
+// The reader, the writer and the reader of one line.
+use crate::answers::print_checked;
+use crate::answers::print_rejection;
+use crate::tables::FILLED;
+use crate::tables::TABLE_SIZE;
+use casetext::print::print_byte;
+use casetext::print::print_bytes;
+use casetext::print::print_count;
+use casetext::print::print_line_feed;
+use frames::MAX_NODES;
+use libc::STDOUT_FILENO;
+use treefile::Cursor;
+use treefile::Frame;
+use treefile::LINE_SIZE;
+use treefile::Line;
+use treefile::Written;
+
+// The longest file.
+pub const FILE_SIZE: usize = LINE_SIZE * MAX_NODES;
+
+// The writer on so many bytes of the table, with a buffer of this length, and what that holds afterwards: zeros follow
+// the frames of the file. What was written is read back.
+pub fn print_writing(file: &[u8], room: u32, size: u32) {
+    let mut table = [0u8; TABLE_SIZE];
+    treefile::read(file, &mut table);
+    let end = io::count(size as isize, &table);
+    print_written_in(&table[..end], room, size);
+}
+
+fn print_written_in(table: &[u8], room: u32, size: u32) {
+    let mut buffer = [FILLED; FILE_SIZE];
+    let end = io::count(room as isize, &buffer);
+    print_written(table, &mut buffer[..end], size);
+}
+
+fn print_written(table: &[u8], file: &mut [u8], size: u32) {
+    let written = treefile::write(table, file);
+    print_length(written);
+    print_bytes(b"file", file);
+    let end = io::count(file_size(written), file);
+    if 0 < end {
+        print_reading(&file[..end], size);
+    }
+}
+
+// What the writer answers, as a line.
+fn print_length(written: Written) {
+    io::write_all(STDOUT_FILENO, b"write");
+    match written {
+        Written::Length(n) => print_count(n),
+        Written::Rejected(rejection) => print_rejection(rejection),
+    }
+    print_line_feed();
+}
+
+// How many bytes a written file has, 0 where the table is refused.
+pub fn file_size(written: Written) -> isize {
+    match written {
+        Written::Length(length) => {
+            if length < FILE_SIZE {
+                return length as isize;
+            }
+            FILE_SIZE as isize
+        }
+        Written::Rejected(_) => 0,
+    }
+}
+
+// The reader with a table of this length, and what that holds afterwards.
+pub fn print_reading(file: &[u8], size: u32) {
+    let mut table = [FILLED; TABLE_SIZE];
+    let end = io::count(size as isize, &table);
+    print_read(file, &mut table[..end]);
+}
+
+fn print_read(file: &[u8], table: &mut [u8]) {
+    print_checked(b"read", treefile::read(file, table));
+    print_bytes(b"table", table);
+}
+
+// The line at a position, and the position then.
+pub fn print_line(file: &[u8], at: u32) {
+    let cursor = Cursor { at: at as usize };
+    match cursor.read_line(file) {
+        Line::Read(frame, next) => {
+            print_frame(frame);
+            print_count(next.at);
+        }
+        Line::NoLine(same) => {
+            io::write_all(STDOUT_FILENO, b"no line");
+            print_count(same.at);
+        }
+    }
+    print_line_feed();
+}
+
+fn print_frame(frame: Frame) {
+    io::write_all(STDOUT_FILENO, b"line");
+    print_byte(frame.byte0);
+    print_byte(frame.byte1);
+    print_byte(frame.byte2);
+    print_byte(frame.byte3);
+    print_byte(frame.byte4);
+    print_byte(frame.byte5);
+}
