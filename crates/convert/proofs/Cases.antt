@@ -5,11 +5,11 @@ use Rattle.frames.specs.Frame.{next}
 use Rattle.frames.specs.Place.{placeWithin, placeOf}
 use Rattle.frames.specs.Rejection.{eachNode}
 use Rattle.frames.specs.Check.{framesRejection}
-use Rattle.treefile.specs.Digit.{digitOf}
-use Rattle.treefile.specs.Line.{allDigits, isLine, hasSmall, bytesOf}
-use Rattle.treefile.specs.Lines.{linesOf, decode}
-use Rattle.treefile.specs.File.{eachLine, fileRejection}
-use Rattle.treefile.specs.Encoded.{capitalOf, digitsOf, lineOf, encode}
+use Rattle.hex.specs.Digit.{digitOf, capitalOf}
+use Rattle.lines.specs.Line.{allDigits, isLine, hasSmall, bytesOf}
+use Rattle.lines.specs.Lines.{linesOf, decode}
+use Rattle.reader.specs.File.{eachLine, fileRejection}
+use Rattle.writer.specs.Encoded.{digitsOf, lineOf, encode}
 use Rattle.convert.specs.Lift.{lift}
 use Rattle.convert.specs.Convert.{convertRejection, convertOutcome}
 use Rattle.convert.specs.results.Cases.{computed, cases}

@@ -15,14 +15,14 @@ use Rattle.frames.specs.Frame.{frames}
 use Rattle.frames.specs.Rejection.{_andThen_}
 use Rattle.frames.specs.Check.{check1, Accepted}
 use Rattle.frames.proofs.Stated.{ask-yes, both-passed}
-use Rattle.treefile.specs.Line.{lineSize}
-use Rattle.treefile.specs.Lines.{decoded}
-use Rattle.treefile.specs.File.{fileCheck2, fileCheck3, fileRejection, AcceptedFile}
-use Rattle.treefile.specs.Encoded.{fileOf}
-use Rattle.treefile.specs.Write.{writeCheck10, written}
-use Rattle.treefile.specs.declared.Written.the-variants.{Length, Rejected}
+use Rattle.lines.specs.Line.{lineSize}
+use Rattle.lines.specs.Lines.{decoded}
+use Rattle.reader.specs.File.{fileCheck2, fileCheck3, fileRejection, AcceptedFile}
+use Rattle.reader.proofs.Acceptance.{accepted-table, accepted-letters}
+use Rattle.writer.specs.Encoded.{fileOf}
+use Rattle.writer.specs.Write.{writeCheck10, written}
+use Rattle.writer.specs.declared.Written.the-variants.{Length, Rejected}
 use Rattle.treefile.specs.results.Saved.{Bytes}
-use Rattle.treefile.proofs.Acceptance.{accepted-table, accepted-letters}
 use Rattle.treefile.proofs.DecodedBytes.{decoded-bytes}
 use Rattle.treefile.proofs.RoundTrip.{written-length, written-decoded, written-accepted}
 use Rattle.treefile.proofs.Saving.{length-written, rejection-written}

@@ -10,12 +10,12 @@ use Rattle.frames.specs.declared.Checked.{Checked}
 use Rattle.frames.specs.declared.Checked.the-variants.{Nodes, Rejected}
 use Rattle.frames.specs.Frame.{frameSize, maxNodes, maxTable}
 use Rattle.frames.proofs.Acceptance.{accepted-formed}
-use Rattle.treefile.specs.Lines.{decoded}
-use Rattle.treefile.specs.File.{maxFile, fileRejection, AcceptedFile, readAnswer, tableAfter}
-use Rattle.treefile.specs.Write.{writeRejection, writeOutcome}
-use Rattle.treefile.specs.declared.Written.the-variants.{Rejected as RejectedWrite}
-use Rattle.treefile.proofs.Reading.{long-refused}
-use Rattle.treefile.proofs.Acceptance.{accepted-table, read-nodes, roomy-rejected}
+use Rattle.lines.specs.Lines.{decoded}
+use Rattle.reader.specs.File.{maxFile, fileRejection, AcceptedFile, readAnswer, tableAfter}
+use Rattle.reader.proofs.Reading.{long-refused}
+use Rattle.reader.proofs.Acceptance.{accepted-table, read-nodes, roomy-rejected}
+use Rattle.writer.specs.Write.{writeRejection, writeOutcome}
+use Rattle.writer.specs.declared.Written.the-variants.{Rejected as RejectedWrite}
 use Rattle.convert.specs.Lift.{lifted}
 use Rattle.convert.specs.Convert.{convertRejection, convertOutcome}
 use Rattle.convert.proofs.Lifting.{lifted-length}

@@ -9,11 +9,11 @@ use lib.Dec.{eqb}
 use lib.ListN.{take, drop}
 use native.Mathlib.Omega.{arith}
 use borrow.Author.Tests.{ne-eqb}
-use Rattle.treefile.specs.Digit.{isSmall, digitOf}
-use Rattle.treefile.specs.Line.{lineDigits, lineFeed, allDigits, isLine, hasSmall, bytesOf, closed, isLineAt, lineAt}
-use Rattle.treefile.specs.Lines.{putBefore, linesOf, decode, decoded}
-use Rattle.treefile.specs.File.{eachLine, lineCheck3, lineCheck16, fileCheck3, fileCheck16, fileRejection}
-use Rattle.treefile.proofs.Digits.{inside, below, above, bounds}
+use Rattle.hex.specs.Digit.{isSmall, digitOf}
+use Rattle.hex.proofs.Digits.{inside, below, above, bounds}
+use Rattle.lines.specs.Line.{lineDigits, lineFeed, allDigits, isLine, hasSmall, bytesOf, closed, isLineAt, lineAt}
+use Rattle.lines.specs.Lines.{putBefore, linesOf, decode, decoded}
+use Rattle.reader.specs.File.{eachLine, lineCheck3, lineCheck16, fileCheck3, fileCheck16, fileRejection}
 use Rattle.convert.specs.Lift.{lift, lifted}
 use Rattle.convert.specs.results.Converted.{baseRejection}
 use Rattle.convert.proofs.Lifting.{lifted-length}

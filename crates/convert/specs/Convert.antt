@@ -5,9 +5,9 @@ use mathlib.Core.List.{List}
 use lib.ListN.{length}
 use Rattle.frames.specs.declared.Rejection.{Rejection}
 use Rattle.frames.specs.Rejection.{_andThen_}
-use Rattle.treefile.specs.Lines.{decoded}
-use Rattle.treefile.specs.File.{fileRejection}
-use Rattle.treefile.specs.Write.{Outcome, writeCheck10, written}
+use Rattle.lines.specs.Lines.{decoded}
+use Rattle.reader.specs.File.{fileRejection}
+use Rattle.writer.specs.Write.{Outcome, writeCheck10, written}
 use Rattle.convert.specs.Lift.{lifted}
 
 -- the first "no": the reader's questions to the lifted file, and then 10 for a buffer of so many bytes

@@ -2,7 +2,7 @@
 use Prim.Native.Nat.{ℕ, _-_}
 use mathlib.Core.Bool.{cond}
 use mathlib.Core.List.{List, map}
-use Rattle.treefile.specs.Digit.{isSmall}
+use Rattle.hex.specs.Digit.{isSmall}
 
 -- the capital of a letter a to f, the bytes 97 to 102; any other byte as it is
 unfoldable pub lift : ℕ → ℕ

@@ -17,15 +17,15 @@ use Rattle.frames.specs.Rejection.{_andThen_}
 use Rattle.frames.specs.Check.{check1}
 use Rattle.frames.proofs.Stated.{both-passed, passed-then}
 use Rattle.frames.proofs.Acceptance.{accepted-stated}
-use Rattle.treefile.specs.Line.{lineDigits, lineSize, hasSmall, lineAt}
-use Rattle.treefile.specs.Lines.{linesOf, decoded}
-use Rattle.treefile.specs.File.{maxFile, fileCheck2, fileCheck3, fileCheck16, fileRejection, AcceptedFile}
-use Rattle.treefile.specs.File.{readRejection, readAnswer}
-use Rattle.treefile.specs.Write.{writeCheck10}
-use Rattle.treefile.specs.declared.Written.the-variants.{Length, Rejected as RejectedWrite}
-use Rattle.treefile.specs.results.Saved.{isCapitalDigit}
-use Rattle.treefile.proofs.Acceptance.{accepted-exactly}
-use Rattle.treefile.proofs.FirstLine.{line-first, line-asked}
+use Rattle.hex.specs.Digit.{isCapitalDigit}
+use Rattle.lines.specs.Line.{lineDigits, lineSize, hasSmall, lineAt}
+use Rattle.lines.specs.Lines.{linesOf, decoded}
+use Rattle.reader.specs.File.{maxFile, fileCheck2, fileCheck3, fileCheck16, fileRejection, AcceptedFile}
+use Rattle.reader.specs.File.{readRejection, readAnswer}
+use Rattle.reader.proofs.Acceptance.{accepted-exactly}
+use Rattle.reader.proofs.FirstLine.{line-first, line-asked}
+use Rattle.writer.specs.Write.{writeCheck10}
+use Rattle.writer.specs.declared.Written.the-variants.{Length, Rejected as RejectedWrite}
 use Rattle.convert.specs.Lift.{lifted}
 use Rattle.convert.specs.Convert.{convertOutcome}
 use Rattle.convert.specs.results.Converted.{baseRejection, Converted}

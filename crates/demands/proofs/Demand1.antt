@@ -9,9 +9,9 @@ use mathlib.Core.Option.{Option, none, some}
 use mathlib.Core.List.{List, [], _∷_}
 use lib.Dec.{leb}
 use lib.ListN.{length, getD, replicate, length-replicate}
+use Rattle.lists.proofs.Choice.{clash}
 use Rattle.gametree.specs.declared.Side.the-variants.{Max, Min}
 use Rattle.gametree.specs.Certificate.{inBoth}
-use Rattle.lists.proofs.Choice.{clash}
 use Rattle.frames.specs.declared.Rejection.{Rejection}
 use Rattle.frames.specs.declared.Checked.the-variants.{Rejected as RejectedTable}
 use Rattle.frames.specs.Frame.{maxNodes, maxDepth, frames}
@@ -24,13 +24,13 @@ use Rattle.frames.proofs.Stated.{both-passed, passed-then}
 use Rattle.frames.proofs.Acceptance.{accepted-formed, rejected-first}
 use Rattle.frames.proofs.FirstNo.{then-first, lowest-no, nodes-first, depth-first}
 use Rattle.frames.proofs.FirstNo.{deeper-frames, deeper-rejected}
-use Rattle.treefile.specs.Line.{isLine}
-use Rattle.treefile.specs.Lines.{linesOf, decoded}
-use Rattle.treefile.specs.File.{fileCheck2, fileCheck3, fileCheck16, fileRejection}
-use Rattle.treefile.specs.File.{readRejection, readAnswer, tableAfter, filled}
-use Rattle.treefile.specs.Write.{writeRejection, writeOutcome}
-use Rattle.treefile.specs.declared.Written.the-variants.{Rejected as RejectedWrite}
-use Rattle.treefile.proofs.FirstLine.{line-first}
+use Rattle.lines.specs.Line.{isLine}
+use Rattle.lines.specs.Lines.{linesOf, decoded}
+use Rattle.reader.specs.File.{fileCheck2, fileCheck3, fileCheck16, fileRejection}
+use Rattle.reader.specs.File.{readRejection, readAnswer, tableAfter, filled}
+use Rattle.reader.proofs.FirstLine.{line-first}
+use Rattle.writer.specs.Write.{writeRejection, writeOutcome}
+use Rattle.writer.specs.declared.Written.the-variants.{Rejected as RejectedWrite}
 use Rattle.treefile.proofs.Saving.{write-keeps}
 use Rattle.verify.specs.Flags.{ruleHolds}
 use Rattle.verify.specs.declared.Verdict.the-variants.{Rejected as RejectedFlags}

@@ -7,10 +7,10 @@ use Rattle.frames.specs.Place.{parentBefore, placeWithin, placeOf}
 use Rattle.frames.specs.Tree.{kidsFrom, grow, treeAt, valuation}
 use Rattle.frames.specs.Rejection.{eachNode}
 use Rattle.frames.specs.Check.{framesRejection}
-use Rattle.treefile.specs.Digit.{digitOf}
-use Rattle.treefile.specs.Line.{allDigits, isLine, hasSmall, bytesOf}
-use Rattle.treefile.specs.Lines.{linesOf, decode}
-use Rattle.treefile.specs.File.{eachLine, fileRejection}
+use Rattle.hex.specs.Digit.{digitOf}
+use Rattle.lines.specs.Line.{allDigits, isLine, hasSmall, bytesOf}
+use Rattle.lines.specs.Lines.{linesOf, decode}
+use Rattle.reader.specs.File.{eachLine, fileRejection}
 use Rattle.report.specs.Text.{decimalWithin}
 use Rattle.report.specs.Report.{abLine, mtdLine, sssLine}
 use Rattle.report.specs.results.Cases.{computed, expected, cases}

@@ -12,9 +12,9 @@ use Rattle.frames.specs.declared.Checked.the-variants.{Nodes, Rejected as Rejec
 use Rattle.frames.specs.Frame.{frameSize, maxNodes, maxTable}
 use Rattle.frames.specs.Check.{Accepted}
 use Rattle.frames.proofs.Acceptance.{accepted-formed}
-use Rattle.treefile.specs.Lines.{decoded}
-use Rattle.treefile.specs.File.{readAnswer, tableAfter}
-use Rattle.treefile.proofs.Acceptance.{read-nodes, roomy-rejected}
+use Rattle.lines.specs.Lines.{decoded}
+use Rattle.reader.specs.File.{readAnswer, tableAfter}
+use Rattle.reader.proofs.Acceptance.{read-nodes, roomy-rejected}
 use Rattle.report.specs.declared.Text.{Text}
 use Rattle.report.specs.Text.{refusedLine, laid, TextRoom, Put}
 use Rattle.report.specs.Report.{analysis, printed, report, textSize, textOf}

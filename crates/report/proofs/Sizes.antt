@@ -6,8 +6,8 @@ use mathlib.Core.List.{List}
 use lib.IntN.{ℤ, pos, negsuc}
 use lib.ListN.{length, length-append}
 use Rattle.frames.specs.declared.Rejection.{Rejection}
-use Rattle.treefile.specs.Lines.{decoded}
-use Rattle.treefile.specs.File.{fileRejection}
+use Rattle.lines.specs.Lines.{decoded}
+use Rattle.reader.specs.File.{fileRejection}
 use Rattle.certificate.specs.declared.Findings.{Findings}
 use Rattle.certificate.specs.Search.{findings}
 use Rattle.alphabeta.specs.Outcome.{reachedLeaves}

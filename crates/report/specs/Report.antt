@@ -4,8 +4,8 @@ use mathlib.Core.Option.{Option, none, some}
 use mathlib.Core.List.{List, [], _∷_, _++_}
 use lib.ListN.{length, replicate}
 use Rattle.frames.specs.declared.Rejection.{Rejection}
-use Rattle.treefile.specs.Lines.{decoded}
-use Rattle.treefile.specs.File.{fileRejection}
+use Rattle.lines.specs.Lines.{decoded}
+use Rattle.reader.specs.File.{fileRejection}
 use Rattle.certificate.specs.Search.{findings}
 use Rattle.alphabeta.specs.Outcome.{reachedLeaves}
 use Rattle.mtd.specs.Outcome.{mtdLeaves}

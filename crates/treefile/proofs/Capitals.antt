@@ -11,15 +11,15 @@ use native.Mathlib.Decide.{decLt}
 use borrow.Author.Tests.{lt-ltb, le-ltb, eq-eqb}
 use Rattle.lists.proofs.Choice.{true-not-false, and-both, or-right}
 use Rattle.frames.specs.Frame.{frameSize}
-use Rattle.treefile.specs.Digit.{within, noDigit, digitOf}
-use Rattle.treefile.specs.Line.{lineDigits, lineFeed, allDigits, isLine, hasSmall, bytesOf}
-use Rattle.treefile.specs.Lines.{putBefore, linesOf}
-use Rattle.treefile.specs.Encoded.{capitalOf, digitsOf}
-use Rattle.treefile.specs.results.Saved.{Bytes, isCapitalDigit}
-use Rattle.treefile.proofs.Digits.{inside, above}
-use Rattle.treefile.proofs.CapitalDigits.{capitals-all}
-use Rattle.treefile.proofs.Laying.{digits-length}
-use Rattle.treefile.proofs.Splits.{feed-no-digit}
+use Rattle.hex.specs.Digit.{within, noDigit, digitOf, capitalOf, isCapitalDigit}
+use Rattle.hex.proofs.Digits.{inside, above}
+use Rattle.lines.specs.Line.{lineDigits, lineFeed, allDigits, isLine, hasSmall, bytesOf}
+use Rattle.lines.specs.Lines.{putBefore, linesOf}
+use Rattle.lines.proofs.CapitalDigits.{capitals-all}
+use Rattle.lines.proofs.Splits.{feed-no-digit}
+use Rattle.writer.specs.Encoded.{digitsOf}
+use Rattle.writer.proofs.Laying.{digits-length}
+use Rattle.treefile.specs.results.Saved.{Bytes}
 
 module _ (n : ℕ) (small : n < noDigit) where
   -- the digit of a number is a capital

@@ -12,12 +12,12 @@ use native.Mathlib.Decide.{decLt}
 use borrow.Author.Tests.{ltb-true}
 use Rattle.lists.proofs.Choice.{and-both}
 use Rattle.frames.proofs.Stated.{ask-yes, both-passed}
-use Rattle.treefile.specs.Digit.{noDigit, digitOf}
-use Rattle.treefile.specs.Line.{allDigits, bytesOf}
-use Rattle.treefile.specs.Lines.{linesOf, decode, decoded}
-use Rattle.treefile.specs.File.{eachLine, lineCheck3, fileCheck3}
+use Rattle.hex.specs.Digit.{noDigit, digitOf}
+use Rattle.lines.specs.Line.{allDigits, bytesOf}
+use Rattle.lines.specs.Lines.{linesOf, decode, decoded}
+use Rattle.lines.proofs.Lines.{line-digits}
+use Rattle.reader.specs.File.{eachLine, lineCheck3, fileCheck3}
 use Rattle.treefile.specs.results.Saved.{Bytes}
-use Rattle.treefile.proofs.Lines.{line-digits}
 
 -- of a line
 line-bytes : (l : List ℕ) → allDigits l ≡ true → Bytes (bytesOf l)

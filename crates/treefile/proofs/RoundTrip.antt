@@ -14,16 +14,17 @@ use Rattle.frames.specs.Frame.{frameSize, frames}
 use Rattle.frames.specs.Check.{Accepted}
 use Rattle.frames.proofs.Stated.{yes-ask, passed-both}
 use Rattle.frames.proofs.Acceptance.{accepted-stated}
-use Rattle.treefile.specs.Line.{lineDigits, lineFeed, lineSize}
-use Rattle.treefile.specs.Lines.{linesOf, decode, decoded}
-use Rattle.treefile.specs.File.{eachLine, lineCheck3, lineCheck16, AcceptedFile, readAnswer, tableAfter}
-use Rattle.treefile.specs.Encoded.{digitsOf, lineOf, encode, fileOf}
-use Rattle.treefile.specs.results.Saved.{Bytes, isCapitalDigit, InCapitals}
-use Rattle.treefile.proofs.Acceptance.{table-accepted, accepted-read}
+use Rattle.hex.specs.Digit.{isCapitalDigit}
+use Rattle.lines.specs.Line.{lineDigits, lineFeed, lineSize}
+use Rattle.lines.specs.Lines.{linesOf, decode, decoded}
+use Rattle.reader.specs.File.{eachLine, lineCheck3, lineCheck16, AcceptedFile, readAnswer, tableAfter}
+use Rattle.reader.proofs.Acceptance.{table-accepted, accepted-read}
+use Rattle.writer.specs.Encoded.{digitsOf, lineOf, encode, fileOf}
+use Rattle.writer.proofs.Laying.{digits-length, line-size, line-feed}
+use Rattle.writer.proofs.Questions.{file-length}
+use Rattle.treefile.specs.results.Saved.{Bytes, InCapitals}
 use Rattle.treefile.proofs.Capitals.{digits-capital, digits-large, digits-read, bytes-back}
 use Rattle.treefile.proofs.Capitals.{frame-line, digits-first}
-use Rattle.treefile.proofs.Laying.{digits-length, line-size, line-feed}
-use Rattle.treefile.proofs.Questions.{file-length}
 
 -- a part of bytes is bytes
 part-bytes : (t : List ℕ) (a n : ℕ) → Bytes t → Bytes (take n (drop a t))

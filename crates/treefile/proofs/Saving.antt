@@ -12,13 +12,13 @@ use Rattle.frames.specs.declared.Rejection.{Rejection}
 use Rattle.frames.specs.declared.Checked.the-variants.{Nodes}
 use Rattle.frames.specs.Frame.{frames}
 use Rattle.frames.specs.Check.{Accepted}
-use Rattle.treefile.specs.File.{readAnswer, tableAfter}
-use Rattle.treefile.specs.Line.{lineSize}
-use Rattle.treefile.specs.Encoded.{fileOf}
-use Rattle.treefile.specs.Write.{writeRejection, written, writeOutcome}
-use Rattle.treefile.specs.declared.Written.the-variants.{Length, Rejected}
+use Rattle.lines.specs.Line.{lineSize}
+use Rattle.reader.specs.File.{readAnswer, tableAfter}
+use Rattle.writer.specs.Encoded.{fileOf}
+use Rattle.writer.specs.Write.{writeRejection, written, writeOutcome}
+use Rattle.writer.specs.declared.Written.the-variants.{Length, Rejected}
+use Rattle.writer.proofs.Questions.{passed-room, room-passed}
 use Rattle.treefile.specs.results.Saved.{Bytes, Saved}
-use Rattle.treefile.proofs.Questions.{passed-room, room-passed}
 use Rattle.treefile.proofs.RoundTrip.{written-length, written-read, written-once}
 
 -- what the outcome of writing a table holds, by the first "no" x to the questions before it, where it gives a length

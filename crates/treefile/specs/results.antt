@@ -1,4 +1,2 @@
--- What results beside the contracts are stated with: small cases as tables, and the papers' wording clause by clause.
-pub mod Cases
-pub mod Stated
+-- What results beside the contracts are stated with: 02's wording of saving a tree.
 pub mod Saved

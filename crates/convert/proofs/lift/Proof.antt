@@ -1,7 +1,7 @@
 -- `convert::lift` meets its contract: each way out is a case of where the byte lies.
 use borrow.Author.Needs.{needs}
 use native.Mathlib.Omega.{arith}
-use Rattle.treefile.proofs.Digits.{inside, below, above}
+use Rattle.hex.proofs.Digits.{inside, below, above}
 use Rattle.convert.specs.Lift.{lift}
 use Rattle.convert.proofs.lift.Statement.{statement}
 use Rattle.convert.proofs.lift.Tie as tie

@@ -2,9 +2,9 @@
 use Prim.Native.Nat.{ℕ}
 use Prim.Native.String.{String}
 use mathlib.Core.List.{List, [], _∷_, _++_}
-use Rattle.treefile.specs.Write.{Outcome}
-use Rattle.treefile.specs.declared.Written.the-variants.{Length, Rejected}
-use Rattle.treefile.specs.results.Cases.{text}
+use Rattle.lines.specs.results.Text.{text}
+use Rattle.writer.specs.Write.{Outcome}
+use Rattle.writer.specs.declared.Written.the-variants.{Length, Rejected}
 use Rattle.convert.specs.Convert.{convertOutcome}
 
 -- a file, the lent buffer, and what the converter answers and leaves there

@@ -1,23 +1,19 @@
 -- What 02 says of saving a tree (N3): the letters and lines of a written file, and what a call of the writer leaves.
 use Prim.Native.Nat.{ℕ, _+_, _*_, _<_}
 use mathlib.Core.Path.{_≡_}
-use mathlib.Core.Bool.{Bool, true, _||_}
+use mathlib.Core.Bool.{true}
 use mathlib.Core.List.{List}
 use lib.ListN.{length, getD, take, drop}
 use Rattle.frames.specs.Frame.{frames}
 use Rattle.frames.specs.Check.{Accepted}
-use Rattle.treefile.specs.Digit.{within}
-use Rattle.treefile.specs.Line.{lineDigits, lineFeed, lineSize}
-use Rattle.treefile.specs.Encoded.{fileOf}
-use Rattle.treefile.specs.Write.{writeOutcome}
+use Rattle.hex.specs.Digit.{isCapitalDigit}
+use Rattle.lines.specs.Line.{lineDigits, lineFeed, lineSize}
+use Rattle.writer.specs.Encoded.{fileOf}
+use Rattle.writer.specs.Write.{writeOutcome}
 
 -- every entry is a byte, as in any lent memory
 abbrev pub Bytes : List ℕ → Type 0
 Bytes t = (k : ℕ) → k < length t → getD t k 0 < 256
-
--- is a digit from 0 to 9 or from A to F
-abbrev pub isCapitalDigit : ℕ → Bool
-isCapitalDigit b = within 48 57 b || within 65 70 b
 
 -- n lines of twelve such digits, each closed by a line feed, the last included
 pub record InCapitals (f : List ℕ) (n : ℕ) : Type 0 where

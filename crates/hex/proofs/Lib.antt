@@ -1,0 +1,3 @@
+-- Lemmas on hexadecimal digits.
+pub mod Digits
+mod DigitArithmetic

@@ -1,0 +1,67 @@
+-- `lines::decode_line` meets its contract: each way out is a case of what stands at the position.
+--
+use mathlib.Core.Path.{sym, _∙_}
+use native.Mathlib.Omega.{arith}
+use borrow.Author.Needs.{needs}
+use borrow.Author.Tests.{not-true, not-false}
+use denote.Ref.{now}
+use lib.ListN.{length-take, length-drop}
+use Rattle.lines.proofs.Positions.{line-part, line-short, line-open, line-closed}
+use Rattle.lines.proofs.Storing.{stored-refused}
+use Rattle.lines.proofs.decode_line.Statement.{statement}
+use Rattle.lines.proofs.decode_line.Tie as tie
+
+returns : tie.Need-returns
+returns c = stored-refused _ _ _ _ _ (line-short _ _ (omega arith))
+
+returns-2 : tie.Need-returns-2
+returns-2 c = stored-refused _ _ _ _ _ (line-short _ _ (omega arith))
+
+add-end : tie.Need-add-end
+add-end c = search needs
+
+is-closed-requires : tie.Need-is-closed-requires
+is-closed-requires c κs = search needs
+
+returns-3 : tie.Need-returns-3
+returns-3 c =
+    stored-refused _ _ _ _ _ (line-open _ _ (sym (c .before .is-closed .ensures) ∙ not-true _ (c .if3 .taken)))
+
+sub-decode-digits : tie.Need-sub-decode-digits
+sub-decode-digits c = search needs
+
+part-decode-digits-start : tie.Need-part-decode-digits-start
+part-decode-digits-start c = search needs
+
+part-decode-digits-end : tie.Need-part-decode-digits-end
+part-decode-digits-end c = search needs
+
+decode-digits-requires : tie.Need-decode-digits-requires
+decode-digits-requires c κs = (simp (length-take, length-drop) (omega arith), search needs)
+
+same-length : tie.Need-same-length
+same-length c = search needs
+
+returns-4 : tie.Need-returns-4
+returns-4 c =
+    let e = c .before .before .before .before .before in
+    let a = e .before .before .before .before .before .before .args in
+    let closes = sym (e .before .is-closed .ensures) ∙ not-false _ (e .if3 .left) in
+    rw (line-closed (now (a .file)) (a .at) (omega arith) closes, ← line-part (now (a .file)) (a .at))
+    (c .before .before .decode-digits .ensures)
+
+pub decode-line-spec : {M : Type 1} → statement M
+decode-line-spec =
+    tie.close
+    (tie.spec
+    returns
+    returns-2
+    add-end
+    is-closed-requires
+    returns-3
+    sub-decode-digits
+    part-decode-digits-start
+    part-decode-digits-end
+    decode-digits-requires
+    same-length
+    returns-4)

@@ -1,0 +1,60 @@
+-- `lines::has_small` meets its contract: each turn looks at one byte.
+use Prim.Native.Nat.{_-_}
+use mathlib.Core.Path.{sym, _∙_}
+use mathlib.Core.Logic.{⊎-elim}
+use mathlib.Core.Bool.{or-true, or-false}
+use native.Mathlib.Omega.{arith}
+use borrow.Author.Needs.{needs}
+use Rattle.lines.specs.Line.{lineDigits}
+use Rattle.lines.proofs.SmallLetters.{Looking, looking-none, looking-all, looking-next}
+use Rattle.lines.proofs.has_small.Statement.{statement}
+use Rattle.lines.proofs.has_small.Tie as tie
+
+abbrev Inv-loop : tie.InvT-loop
+Inv-loop line small₀ k₀ small k = Looking line small k
+
+abbrev μ-loop : tie.MeasureT-loop
+μ-loop line small₀ k₀ small k = lineDigits - k
+
+loop-holds : tie.Need-loop-holds Inv-loop μ-loop
+loop-holds c = looking-none _
+
+shared-slice-read-is-small : tie.Need-shared-slice-read-is-small Inv-loop μ-loop
+shared-slice-read-is-small c = search needs
+
+is-small-requires : tie.Need-is-small-requires Inv-loop μ-loop
+is-small-requires c κs = search needs
+
+add-k : tie.Need-add-k Inv-loop μ-loop
+add-k c = search needs
+
+loop-less : tie.Need-loop-less Inv-loop μ-loop
+loop-less c = search needs
+
+loop-again : tie.Need-loop-again Inv-loop μ-loop
+loop-again c =
+    let l = c .before .before .before .before in
+    looking-next _ _ _ (l .before .before .pre) (l .loop .inv) _ (omega arith)
+    (⊎-elim
+    (λ w. rw (← c .before .is-small .ensures, w .0 .taken) (w .1 ∙ sym (or-true (l .loop .small))))
+    (λ w. rw (← c .before .is-small .ensures, w .0 .left) (w .1 ∙ sym (or-false (l .loop .small))))
+    (c .if1 .came))
+
+returns : tie.Need-returns Inv-loop μ-loop
+returns c =
+    let l = c .before in
+    looking-all _ _ _ (l .before .before .pre) (l .loop .inv) (omega arith)
+
+pub has-small-spec : {M : Type 1} → statement M
+has-small-spec =
+    tie.close
+    (tie.spec
+    Inv-loop
+    μ-loop
+    loop-holds
+    shared-slice-read-is-small
+    is-small-requires
+    add-k
+    loop-less
+    loop-again
+    returns)

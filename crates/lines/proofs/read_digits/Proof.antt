@@ -1,0 +1,77 @@
+-- `lines::read_digits` meets its contract: each turn reads one digit more.
+use Prim.Native.Nat.{_-_, _≤_}
+use mathlib.Core.Path.{_≡_}
+use native.Mathlib.Omega.{arith}
+use borrow.Author.Needs.{needs}
+use lib.ListN.{length, getD, length-set}
+use Rattle.hex.proofs.Digits.{digit-small}
+use Rattle.lines.specs.engine.Numbered.{abreast, Numbered}
+use Rattle.lines.proofs.Numbering.{numbered-none, numbered-next}
+use Rattle.lines.proofs.read_digits.Statement.{statement}
+use Rattle.lines.proofs.read_digits.Tie as tie
+
+abbrev Inv-loop : tie.InvT-loop
+Inv-loop digits numbers₀ others₀ k₀ numbers others k =
+    (length numbers ≡ length numbers₀) × (k ≤ abreast) × Numbered digits numbers others k
+
+abbrev μ-loop : tie.MeasureT-loop
+μ-loop digits numbers₀ others₀ k₀ numbers others k = abreast - k
+
+loop-holds : tie.Need-loop-holds Inv-loop μ-loop
+loop-holds c = (search needs, omega arith, numbered-none _ _)
+
+shared-slice-read-digit : tie.Need-shared-slice-read-digit Inv-loop μ-loop
+shared-slice-read-digit c = search needs
+
+digit-requires : tie.Need-digit-requires Inv-loop μ-loop
+digit-requires c κs = search needs
+
+slice-write-numbers : tie.Need-slice-write-numbers Inv-loop μ-loop
+slice-write-numbers c = search needs
+
+add-others : tie.Need-add-others Inv-loop μ-loop
+add-others c =
+    let l = c .before .before .before .loop in
+    let s = c .before .before .before .before .before .before in
+    let few = digit-small (getD (s .args .digits .now) (l .k) 0) in
+    record { fits = omega (arith, l .inv .1, l .inv .2 .few, c .digit .ensures, few) }
+
+add-k : tie.Need-add-k Inv-loop μ-loop
+add-k c = search needs
+
+loop-less : tie.Need-loop-less Inv-loop μ-loop
+loop-less c = search needs
+
+loop-again : tie.Need-loop-again Inv-loop μ-loop
+loop-again c =
+    let l = c .before .before .before in (
+      simp length-set (l .loop .inv .0),
+      omega arith,
+      numbered-next _ _ _ _ _ (l .loop .inv .2) (omega arith) (c .digit .ensures),
+    )
+
+same-length : tie.Need-same-length Inv-loop μ-loop
+same-length c = search needs
+
+returns : tie.Need-returns Inv-loop μ-loop
+returns c =
+    let l = c .before .loop in
+    let all : l .k ≡ abreast = omega arith in
+    rw (← all) (l .inv .2)
+
+pub read-digits-spec : {M : Type 1} → statement M
+read-digits-spec =
+    tie.close
+    (tie.spec
+    Inv-loop
+    μ-loop
+    loop-holds
+    shared-slice-read-digit
+    digit-requires
+    slice-write-numbers
+    add-others
+    add-k
+    loop-less
+    loop-again
+    same-length
+    returns)

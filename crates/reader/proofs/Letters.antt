@@ -1,0 +1,75 @@
+-- Question 16: the loop over the lines of a file whose lines have passed question 3; what holds after n lines.
+use Prim.Native.Nat.{ℕ, _+_, _*_, _≤_, _<_}
+use mathlib.Core.Path.{_≡_, refl, _∙_}
+use mathlib.Core.Bool.{true, false}
+use mathlib.Core.Option.{none, some}
+use mathlib.Core.List.{List, [], _∷_}
+use lib.ListN.{length, drop, drop-of-length-le}
+use native.Mathlib.Omega.{arith}
+use native.Mathlib.Decide.{decLt}
+use Rattle.frames.specs.declared.Checked.the-variants.{Nodes}
+use Rattle.frames.specs.Rejection.{answer}
+use Rattle.frames.proofs.Stated.{both-passed}
+use Rattle.lines.specs.Line.{lineDigits, lineSize, hasSmall, isLineAt}
+use Rattle.lines.specs.Lines.{linesOf}
+use Rattle.lines.proofs.Positions.{lineBytes, line-fits}
+use Rattle.reader.specs.File.{eachLine, lineCheck3, fileCheck3, lineCheck16, fileCheck16}
+use Rattle.reader.proofs.Left.{lines-next, line-stands}
+
+-- after n lines question 16 is left for the lines from there on, which have passed question 3
+pub record Lettering (f : List ℕ) (n : ℕ) : Type 0 where
+  pub right : eachLine lineCheck3 n (linesOf (drop (lineSize * n) f)) ≡ none
+  pub many : n + length (linesOf (drop (lineSize * n) f)) ≡ length (linesOf f)
+  pub passed : fileCheck16 f ≡ eachLine lineCheck16 n (linesOf (drop (lineSize * n) f))
+
+module _ (f : List ℕ) where
+  -- before the first line
+  pub lettering-none : fileCheck3 f ≡ none → Lettering f 0
+  lettering-none e = record { right = e; many = omega arith; passed = refl }
+
+  module _ (n : ℕ) (l : Lettering f n) where
+    abbrev at : ℕ
+    at = lineSize * n
+
+    -- past the last line
+    pub lettering-all : length (linesOf f) ≤ n
+        → Nodes (length (linesOf f)) ≡ answer (length (linesOf f)) (fileCheck16 f)
+    unfolding eachLine
+    lettering-all h = rw (l .passed ∙ no-lines (linesOf (drop at f)) (omega (arith, l .many)))
+      where
+        no-lines : (ls : List (List ℕ)) → length ls ≤ 0 → eachLine lineCheck16 n ls ≡ none
+        no-lines [] h = refl
+        no-lines (x ∷ ls) h = absurd (omega arith)
+
+    module _ (inside : n < length (linesOf f)) where
+      -- a line stands at the position
+      not-past : length f ≤ at → ⊥
+      unfolding linesOf
+      not-past h =
+          let e : length (linesOf (drop at f)) ≡ 0 = rw (drop-of-length-le f {i = at} h) in omega (arith, l .many)
+
+      pub line-here : isLineAt f at ≡ true
+      line-here = elim (decLt at (length f)) [
+        | yes h ↦ line-stands f at n h (l .right)
+        | no h ↦ absurd (not-past (omega arith))
+      ]
+
+      pub line-room : at + lineDigits ≤ length f
+      line-room = line-fits f at line-here
+
+      -- it has a small letter
+      pub lettering-stop : hasSmall (lineBytes f at) ≡ true → fileCheck16 f ≡ some (record { number = 16; place = n })
+      unfolding eachLine
+      lettering-stop e = l .passed ∙ rw (lines-next f at line-here, e)
+
+      -- it has none
+      pub lettering-next : hasSmall (lineBytes f at) ≡ false → Lettering f (n + 1)
+      unfolding eachLine
+      lettering-next e =
+          let next : at + lineSize ≡ lineSize * (n + 1) = omega arith in
+          let lines = lines-next f at line-here in
+          record {
+            right = rw (← next) (both-passed (lineCheck3 n (lineBytes f at)) _ (rw lines at (l .right)) .1);
+            many = rw (← next) (omega (arith, rw lines at (l .many)));
+            passed = l .passed ∙ rw (lines, e, next);
+          }

@@ -1,0 +1,22 @@
+-- What decoding a file gives.
+use mathlib.Core.Path.{_≡_}
+use mathlib.Core.Option.{Option, none}
+use mathlib.Core.List.{List}
+use Prim.Native.Nat.{ℕ, _*_, _/_, _≤_}
+use lib.ListN.{length, take}
+use Rattle.frames.specs.declared.Rejection.{Rejection}
+use Rattle.frames.specs.declared.Checked.{Checked}
+use Rattle.frames.specs.Frame.{frameSize, frames}
+use Rattle.frames.specs.Rejection.{answer}
+use Rattle.lines.specs.Line.{lineSize}
+use Rattle.lines.specs.Lines.{decoded}
+
+-- the answer r to questions about a file, of which x is the first "no"; where there is none, the table begins with the
+-- bytes that the file's lines stand for
+pub record Decoded (f : List ℕ) (x : Option Rejection) (table : List ℕ) (r : Checked) : Type 0 where
+  pub answered : r ≡ answer (frames (decoded f)) x
+  pub filled : x ≡ none → take (length (decoded f)) table ≡ decoded f
+
+-- the table has room for the frames of a file's lines
+abbrev pub Roomy : (f table : List ℕ) → Type 0
+Roomy f table = length f ≤ lineSize * (length table / frameSize)

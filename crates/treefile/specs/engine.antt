@@ -1,4 +1,0 @@
--- What private functions and proofs are stated with, and no public contract or demand cites.
-pub mod Decoded
-pub mod Kinds
-pub mod Numbered

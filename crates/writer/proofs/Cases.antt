@@ -1,0 +1,16 @@
+-- The small tables, computed from the definitions.
+use mathlib.Core.Path.{_≡_, refl}
+use mathlib.Core.List.{map}
+use Rattle.frames.specs.Frame.{next}
+use Rattle.frames.specs.Place.{placeWithin, placeOf}
+use Rattle.frames.specs.Rejection.{eachNode}
+use Rattle.frames.specs.Check.{framesRejection, rejection}
+use Rattle.hex.specs.Digit.{capitalOf}
+use Rattle.writer.specs.Encoded.{digitsOf, lineOf, encode}
+use Rattle.writer.specs.Write.{writeRejection}
+use Rattle.writer.specs.results.Cases.{performed, writings}
+
+-- each writing is as stated
+pub small-writings : map performed writings ≡ writings
+unfolding capitalOf digitsOf lineOf encode rejection writeRejection next placeWithin placeOf eachNode framesRejection
+small-writings = refl

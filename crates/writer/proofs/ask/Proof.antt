@@ -1,0 +1,52 @@
+-- `writer::ask` meets its contract: one lemma for each of its three returns.
+use mathlib.Core.Path.{sym, _∙_}
+use native.Mathlib.Omega.{arith}
+use borrow.Author.Needs.{needs}
+use Rattle.writer.proofs.Questions.{table-refused, nodes-few, buffer-short, buffer-roomy}
+use Rattle.writer.proofs.ask.Statement.{statement}
+use Rattle.writer.proofs.ask.Tie as tie
+
+check-requires : tie.Need-check-requires
+check-requires c κs = search needs
+
+enum-known-checked : tie.Need-enum-known-checked
+enum-known-checked c = search needs
+
+enum-told : tie.Need-enum-told
+enum-told c = search needs
+
+returns : tie.Need-returns
+returns c =
+    let g = c .enum-told .given .1 in g ∙ table-refused _ _ _ (sym g ∙ c .before .before .check .ensures)
+
+mul-if1 : tie.Need-mul-if1
+mul-if1 c =
+    let k = c .before in
+    omega (arith, nodes-few _ 0 _ (sym (k .checked .given .1) ∙ k .before .before .check .ensures))
+
+rejected-requires : tie.Need-rejected-requires
+rejected-requires c κs = search needs
+
+returns-2 : tie.Need-returns-2
+returns-2 c =
+    let k = c .before .before .before in
+    c .rejected .ensures
+    ∙ buffer-short _ _ _ (sym (k .checked .given .1) ∙ k .before .before .check .ensures) (c .before .if1 .taken)
+
+returns-3 : tie.Need-returns-3
+returns-3 c =
+    let k = c .before .before in
+    buffer-roomy _ _ _ (sym (k .checked .given .1) ∙ k .before .before .check .ensures) (c .if1 .left)
+
+pub ask-spec : {M : Type 1} → statement M
+ask-spec =
+    tie.close
+    (tie.spec
+    check-requires
+    enum-known-checked
+    enum-told
+    returns
+    mul-if1
+    rejected-requires
+    returns-2
+    returns-3)

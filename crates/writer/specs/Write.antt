@@ -1,0 +1,37 @@
+-- The writer of a file: its questions in order, its answer, and what it leaves in the lent buffer.
+use Prim.Native.Nat.{ℕ, _*_}
+use mathlib.Core.Option.{Option, none, some}
+use mathlib.Core.List.{List, _++_}
+use lib.Dec.{leb}
+use lib.ListN.{length, drop}
+use Rattle.frames.specs.declared.Rejection.{Rejection}
+use Rattle.frames.specs.Frame.{frames}
+use Rattle.frames.specs.Rejection.{ask, _andThen_}
+use Rattle.frames.specs.Check.{rejection}
+use Rattle.lines.specs.Line.{lineSize}
+use Rattle.writer.specs.Encoded.{fileOf}
+use Rattle.writer.specs.declared.Written.{Written}
+use Rattle.writer.specs.declared.Written.the-variants.{Length, Rejected}
+
+-- 10: has the lent buffer 13 bytes for each node?
+abbrev pub writeCheck10 : List ℕ → ℕ → Option Rejection
+writeCheck10 t room = ask (leb (lineSize * frames t) room) 10 0
+
+-- the first "no" to the writer's questions, for a buffer of so many bytes
+unfoldable pub writeRejection : List ℕ → ℕ → Option Rejection
+writeRejection t room = rejection t andThen writeCheck10 t room
+
+-- what the writer answers, and what the lent buffer holds then
+pub record Outcome : Type 0 where
+  pub answer : Written
+  pub file : List ℕ
+
+-- the file of the table at the buffer's front, with what it held past the file; on a rejection the buffer as it was
+abbrev pub written : List ℕ → List ℕ → Option Rejection → Outcome
+written t file none =
+    record { answer = Length (length (fileOf t)); file = fileOf t ++ drop (length (fileOf t)) file }
+written t file (some r) = record { answer = Rejected r; file = file }
+
+-- the outcome of a call with a table and a buffer
+abbrev pub writeOutcome : List ℕ → List ℕ → Outcome
+writeOutcome t file = written t file (writeRejection t (length file))

@@ -1,0 +1,2 @@
+-- What results beside the contracts are stated with: small cases as a table.
+pub mod Cases

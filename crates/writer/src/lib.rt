@@ -1,0 +1,84 @@
+// The writer of a file: a line for each frame of an accepted table.
+use frames::Checked;
+use frames::FRAME_SIZE;
+use frames::Rejection;
+use frames::SHORT_BUFFER;
+use frames::check;
+use frames::rejected;
+use hex::BASE;
+use hex::capital;
+use lines::LINE_DIGITS;
+use lines::LINE_FEED;
+use lines::LINE_SIZE;
+ghost use mathlib.Core.Path.{_≡_};
+ghost use mathlib.Core.List.{_++_};
+ghost use Prim.Native.Nat.{_*_, _≤_};
+ghost use lib.ListN.{length, drop};
+ghost use Rattle.frames.specs.Frame.{frameSize, maxNodes, frames};
+ghost use Rattle.frames.specs.Rejection.{answer};
+ghost use Rattle.lines.specs.Line.{lineSize};
+ghost use Rattle.writer.specs.Encoded.{lineOf, encode};
+ghost use Rattle.writer.specs.Write.{writeRejection, writeOutcome};
+
+// The answer of the writer: the file's length in bytes, or the first question that got a "no".
+pub enum Written {
+    Length(usize),
+    Rejected(Rejection),
+}
+
+// Writes the file of an accepted table, in capital letters and with every line closed: its length in bytes, or the
+// first rejection, and then the buffer is as it was.
+pub fn write(table: &[u8], file: &mut [u8]) -> Written
+    ensures { λ r. ⌜ record { answer = r; file = now (file .exit) }
+        ≡ writeOutcome (now (table .entry)) (now (file .entry)) ⌝ }
+{
+    match ask(table, file.len()) {
+        Checked::Nodes(nodes) => {
+            write_lines(table, file, nodes);
+            Written::Length(LINE_SIZE * nodes)
+        }
+        Checked::Rejected(rejection) => Written::Rejected(rejection),
+    }
+}
+
+// Questions 1 to 10, for a buffer of so many bytes: the number of nodes, or the first rejection.
+fn ask(table: &[u8], room: usize) -> Checked
+    ensures { λ r. ⌜ r ≡ answer (frames (now (table .entry))) (writeRejection (now (table .entry)) room) ⌝ }
+{
+    let checked = check(table);
+    let Checked::Nodes(nodes) = checked else {
+        return checked;
+    };
+    if room < LINE_SIZE * nodes {
+        return rejected(SHORT_BUFFER, 0);
+    }
+    checked
+}
+
+// The lines of the first nodes of a table, each laid behind the ones before it.
+fn write_lines(table: &[u8], file: &mut [u8], nodes: usize)
+    requires { ⌜ (nodes ≤ maxNodes) × (frameSize * nodes ≤ length (now table)) ⌝ }
+    requires { ⌜ lineSize * nodes ≤ length (now file) ⌝ }
+    ensures { λ _. ⌜ now (file .exit)
+        ≡ encode nodes (now (table .entry)) ++ drop (lineSize * nodes) (now (file .entry)) ⌝ }
+{
+    for node in 0..nodes {
+        let from = FRAME_SIZE * node;
+        let to = from + FRAME_SIZE;
+        let at = LINE_SIZE * node;
+        write_line(&mut file[at..], &table[from..to]);
+    }
+}
+
+// The line of a frame, at the front of what is left of the file.
+fn write_line(file: &mut [u8], frame: &[u8])
+    requires { ⌜ (lineSize ≤ length (now file)) × (length (now frame) ≡ frameSize) ⌝ }
+    ensures { λ _. ⌜ now (file .exit) ≡ lineOf (now (frame .entry)) ++ drop lineSize (now (file .entry)) ⌝ }
+{
+    for k in 0..FRAME_SIZE {
+        let byte = frame[k];
+        file[2 * k] = capital(byte / BASE);
+        file[2 * k + 1] = capital(byte % BASE);
+    }
+    file[LINE_DIGITS] = LINE_FEED;
+}
