@@ -1,8 +1,8 @@
 -- The chosen child of a node: the first one whose bound equals the node's, by the lows where Max moves and by the highs
 -- where Min moves. The arrays give the one that the definitions name, and under the root it is the move.
-use Prim.Native.Nat.{ℕ, zero, suc, _+_, _-_, _≤_, _<_}
+use Prim.Native.Nat.{ℕ, zero, suc, _+_, _<_}
 use native.Mathlib.Omega.{arith}
-use mathlib.Core.Path.{_≡_, refl, sym, ap, ap₂, _∙_}
+use mathlib.Core.Path.{_≡_, sym, ap, ap₂, _∙_}
 use mathlib.Core.Bool.{Bool, cond}
 use mathlib.Core.List.{List}
 use lib.Dec.{eqb}
@@ -23,9 +23,9 @@ use Rattle.places.specs.Buffer.{written}
 use Rattle.places.specs.engine.Places.{sideIn, Placed}
 use Rattle.places.proofs.Buffers.{written-at}
 use Rattle.places.proofs.Places.{placed-side}
-use Rattle.certificate.specs.engine.Ranges.{firstEqual}
+use Rattle.flags.specs.engine.Chosen.{firstEqual, bySide, chosenChild}
+use Rattle.flags.proofs.Chosen.{first-same}
 use Rattle.certificate.specs.engine.Bounds.{boundOf}
-use Rattle.certificate.specs.engine.Flags.{bySide, chosenChild}
 
 -- the arrays hold the side and both bounds of each node
 pub record Bounded (t : List ℕ) (E : ℕ → Bool) (places lows highs : List ℕ) : Type 0 where
@@ -43,15 +43,6 @@ bounded t E l h {places} p q r =
       lowsAre = λ k m. ap (λ x. getD x k 0) q ∙ written-at (boundOf t E least) (frames t) k l m;
       highsAre = λ k m. ap (λ x. getD x k 0) r ∙ written-at (boundOf t E greatest) (frames t) k h m;
     }
-
--- the same entries, the same first one
-pub first-same : (f g : ℕ → ℕ) (v i n : ℕ) → ((k : ℕ) → i ≤ k → k < i + n → f k ≡ g k)
-    → firstEqual f v i n ≡ firstEqual g v i n
-unfolding firstEqual
-first-same f g v i zero e = refl
-first-same f g v i (suc n) e =
-    ap₂ (λ x y. cond (eqb x v) i y) (e i (omega arith) (omega arith))
-    (first-same f g v (i + 1) n (λ k l m. e k (omega arith) (omega arith)))
 
 -- the chosen child of node i by the definitions
 unfoldable pub chosenOf : List ℕ → (ℕ → Bool) → Side → ℕ → ℕ
@@ -106,11 +97,8 @@ module _ (t : List ℕ) (wf : WellFormed t) (E : ℕ → Bool) where
       rw (e, tree-inner t wf 0 n (wf .some) e, p) (move-inner (sideOf t 0) 1 n))
 
   -- so the arrays give the move
-  pub chosen-move : {places lows highs : List ℕ} → Bounded t E places lows highs → (n : ℕ) → n ≡ childCount t 0
-      → chosenChild (bySide (sideIn places 0) lows highs) 0 1 (1 + n - 1)
+  pub chosen-move : {places lows highs : List ℕ} → Bounded t E places lows highs
+      → chosenChild (bySide (sideIn places 0) lows highs) 0 1 (childCount t 0)
       ≡ boundMove (valuation t) E (tree t)
   unfolding next
-  chosen-move {places} {lows} {highs} b n e =
-      let d : 1 + n - 1 ≡ childCount t 0 = omega arith in
-      ap (chosenChild (bySide (sideIn places 0) lows highs) 0 1) d
-      ∙ chosen-arrays t wf E b 0 (wf .some) ∙ chosen-root
+  chosen-move b = chosen-arrays t wf E b 0 (wf .some) ∙ chosen-root

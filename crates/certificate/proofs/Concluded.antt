@@ -21,10 +21,11 @@ use Rattle.frames.proofs.Parents.{top-down}
 use Rattle.frames.proofs.Proper.{every-leaf}
 use Rattle.places.specs.Buffer.{written}
 use Rattle.certificate.specs.Marks.{mark, marked}
-use Rattle.certificate.specs.engine.Ranges.{firstEqual}
+use Rattle.flags.specs.engine.Chosen.{firstEqual}
 use Rattle.certificate.specs.engine.Bounds.{boundOf}
 use Rattle.places.proofs.Buffers.{written-same}
-use Rattle.certificate.proofs.Chosen.{first-same, chosenOf, chosen-root}
+use Rattle.flags.proofs.Chosen.{first-same}
+use Rattle.certificate.proofs.Chosen.{chosenOf, chosen-root}
 use Rattle.certificate.proofs.Solutions.{childIn, solution, solution-root, solution-child}
 use Rattle.certificate.proofs.Marks.{marked-written}
 

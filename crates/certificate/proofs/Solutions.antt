@@ -22,7 +22,7 @@ use Rattle.frames.specs.Formed.{WellFormed, ChildOf}
 use Rattle.frames.proofs.Parents.{top-down}
 use Rattle.frames.proofs.Trees.{zero-or-suc, tree-inner, tree-number}
 use Rattle.frames.proofs.Nodes.{tree-distinct}
-use Rattle.certificate.specs.engine.Ranges.{firstEqual}
+use Rattle.flags.specs.engine.Chosen.{firstEqual}
 use Rattle.certificate.specs.engine.Bounds.{boundOf}
 use Rattle.certificate.proofs.Chosen.{chosenOf}
 

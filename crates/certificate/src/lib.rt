@@ -1,7 +1,7 @@
 // Evaluating leaves, and what follows from the evaluated ones: bounds, the certificate and the root move.
+use flags::read_off;
 use frames::Checked;
 use frames::GREATEST;
-use frames::IN_BOTH;
 use frames::LEAST;
 use frames::MAX_NODES;
 use frames::SHORT_BUFFER;
@@ -20,8 +20,6 @@ use places::side_at;
 ghost use mathlib.Core.Path.{_≡_};
 ghost use mathlib.Core.List.{[], _∷_};
 ghost use Prim.Native.Nat.{ℕ, _+_, _-_, _<_, _≤_};
-ghost use mathlib.Core.Bool.{cond};
-ghost use lib.Dec.{eqb};
 ghost use lib.ListN.{length, getD, set};
 ghost use Rattle.gametree.specs.Tree.{least, greatest};
 ghost use Rattle.gametree.specs.Certificate.{flag};
@@ -31,14 +29,13 @@ ghost use Rattle.frames.specs.Place.{depthOf};
 ghost use Rattle.frames.specs.Tree.{tree, valuation};
 ghost use Rattle.frames.specs.Rejection.{answer};
 ghost use Rattle.frames.specs.Formed.{WellFormed, ChildOf};
-ghost use Rattle.places.specs.Buffer.{written, stored};
-ghost use Rattle.places.specs.engine.Places.{sideIn, Placed};
+ghost use Rattle.places.specs.Buffer.{written};
+ghost use Rattle.places.specs.engine.Places.{Placed};
 ghost use Rattle.certificate.specs.Marks.{marked};
 ghost use Rattle.certificate.specs.engine.Evaluable.{Evaluable};
-ghost use Rattle.certificate.specs.engine.Ranges.{bestIn, firstEqual};
+ghost use Rattle.certificate.specs.engine.Ranges.{bestIn};
 ghost use Rattle.certificate.specs.engine.Bounds.{boundOf, boundsOf, leafBounds};
 ghost use Rattle.certificate.specs.Search.{searchRejection};
-ghost use Rattle.certificate.specs.engine.Flags.{ownPart, bySide, chosenChild, FlagsFrom};
 
 // What every search finds: the minimax value, the first root move that reaches it (0 for a leaf), and how many leaves
 // were evaluated.
@@ -159,9 +156,7 @@ fn conclude_in(
 {
     fill(table, places);
     fill_bounds(table, places, evaluated, lows, highs);
-    write_certificate(table, places, lows, highs, certificate);
-    let end = 1 + child_count(table, 0);
-    chosen_child(places, lows, highs, 0, 1, end)
+    read_off(table, places, lows, highs, certificate)
 }
 
 // The two bounds of a node.
@@ -263,125 +258,4 @@ pub fn best(bounds: &[u32], from: usize, to: usize, side: Side) -> u32
         value = better(side, bounds[at], value);
     }
     value
-}
-
-// The flags, from the root down, by the rule that reads them off the arrays, until every node has been reached as a
-// child.
-fn write_certificate(
-    table: &[u8],
-    places: &[u32],
-    lows: &[u32],
-    highs: &[u32],
-    certificate: &mut [u8],
-)
-    requires { ⌜ WellFormed (now table) ⌝ }
-    requires { ⌜ (frames (now table) ≤ length (now places)) × (frames (now table) ≤ length (now lows)) ⌝ }
-    requires { ⌜ (frames (now table) ≤ length (now highs)) × (frames (now table) ≤ length (now certificate)) ⌝ }
-    ensures { λ _. ⌜ ((f : ℕ → ℕ)
-        → FlagsFrom (now (table .entry)) (now (places .entry)) (now (lows .entry)) (now (highs .entry)) f
-        → now (certificate .exit) ≡ written f (frames (now (table .entry))) (now (certificate .entry))) ⌝ }
-{
-    certificate[0] = IN_BOTH;
-    let n = frame_count(table);
-    let mut node: usize = 0;
-    let mut next: usize = 1;
-    while next < n {
-        let end = next + child_count(table, node);
-        let flag = certificate[node];
-        let others = own_part(side_at(places, node), flag);
-        let chosen = apart(places, lows, highs, node, next, end, flag, others);
-        flag_children(certificate, next, end, flag, others, chosen);
-        next = end;
-        node += 1;
-    }
-}
-
-// The chosen child, which is looked for only where its flag is not that of the others.
-fn apart(
-    places: &[u32],
-    lows: &[u32],
-    highs: &[u32],
-    node: usize,
-    from: usize,
-    to: usize,
-    flag: u8,
-    others: u8,
-) -> usize
-    requires { ⌜ (node < length (now places)) × (node < length (now lows)) × (node < length (now highs)) ⌝ }
-    requires { ⌜ (from ≤ to) × (to ≤ length (now lows)) × (to ≤ length (now highs)) ⌝ }
-    ensures { λ r. ⌜ ((k : ℕ) → cond (eqb k r) flag others
-        ≡ cond (eqb k (chosenChild (bySide (sideIn (now (places .entry)) node) (now (lows .entry)) (now (highs .entry)))
-        node from (to - from))) flag others) ⌝ }
-{
-    if flag == others {
-        return 0;
-    }
-    chosen_child(places, lows, highs, node, from, to)
-}
-
-// The children from `from` up to `to`: the chosen one gets the node's flag, the others what is the side's own of it.
-fn flag_children(
-    certificate: &mut [u8],
-    from: usize,
-    to: usize,
-    flag: u8,
-    others: u8,
-    chosen: usize,
-)
-    requires { ⌜ (from ≤ to) × (to ≤ length (now certificate)) ⌝ }
-    ensures { λ _. ⌜ now (certificate .exit)
-        ≡ stored (λ k. cond (eqb k chosen) flag others) from (to - from) (now (certificate .entry)) ⌝ }
-{
-    for child in from..to {
-        if child == chosen {
-            certificate[child] = flag;
-        } else {
-            certificate[child] = others;
-        }
-    }
-}
-
-// What a flag says of the side's own tree.
-fn own_part(side: Side, flag: u8) -> u8
-    ensures { λ r. ⌜ r ≡ ownPart side flag ⌝ }
-{
-    match side {
-        Side::Max => flag % 2,
-        Side::Min => flag - flag % 2,
-    }
-}
-
-// The first child of those from `from` up to `to` whose bound equals the node's, by the lows at a Max node, by the
-// highs at a Min node; 0 where there is none.
-fn chosen_child(
-    places: &[u32],
-    lows: &[u32],
-    highs: &[u32],
-    node: usize,
-    from: usize,
-    to: usize,
-) -> usize
-    requires { ⌜ (node < length (now places)) × (node < length (now lows)) × (node < length (now highs)) ⌝ }
-    requires { ⌜ (from ≤ to) × (to ≤ length (now lows)) × (to ≤ length (now highs)) ⌝ }
-    ensures { λ r. ⌜ r
-        ≡ chosenChild (bySide (sideIn (now (places .entry)) node) (now (lows .entry)) (now (highs .entry)))
-        node from (to - from) ⌝ }
-{
-    match side_at(places, node) {
-        Side::Max => first_equal(lows, from, to, lows[node]),
-        Side::Min => first_equal(highs, from, to, highs[node]),
-    }
-}
-
-// The first node of those from `from` up to `to` whose bound is v; 0 where there is none.
-fn first_equal(bounds: &[u32], from: usize, to: usize, v: u32) -> usize
-    requires { ⌜ (from ≤ to) × (to ≤ length (now bounds)) ⌝ }
-    ensures { λ r. ⌜ r ≡ firstEqual (λ k. getD (now (bounds .entry)) k 0) v from (to - from) ⌝ }
-{
-    for node in from..to {
-        if bounds[node] == v {
-            return node;
-        }
-    }
-    0
 }

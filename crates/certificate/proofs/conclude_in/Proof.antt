@@ -1,10 +1,6 @@
 -- `certificate::conclude_in` meets its contract: the arrays hold the sides and the bounds, and flags and move follow.
-use Prim.Native.Nat.{ℕ, _+_, _≤_}
 use native.Mathlib.Omega.{arith}
-use mathlib.Core.List.{List}
-use Rattle.frames.specs.Frame.{frames, childCount, next}
-use Rattle.frames.specs.Formed.{WellFormed}
-use Rattle.frames.proofs.Next.{next-within}
+use mathlib.Core.Path.{_∙_}
 use Rattle.places.specs.engine.Places.{Placed}
 use Rattle.places.proofs.Places.{placed}
 use Rattle.certificate.specs.Marks.{marked}
@@ -14,15 +10,12 @@ use borrow.Author.Needs.{needs}
 use Rattle.certificate.proofs.conclude_in.Statement.{statement}
 use Rattle.certificate.proofs.conclude_in.Tie as tie
 
--- from the places to the start, from the bounds to the places, and from the flags to the bounds
+-- from the places to the start, and from the bounds to the places
 abbrev start : tie.After-fill → tie.Start
 start c = c .before .before .before .before .before .before .before .before
 
 abbrev filled : tie.After-fill-bounds → tie.After-fill
 filled c = c .before .before .before .before .before .before .before
-
-abbrev bounds : tie.After-write-certificate → tie.After-fill-bounds
-bounds c = c .before .before .before .before .before .before .before .before .before .before .before
 
 -- the first array holds the places
 holds-places : (c : tie.After-fill) → Placed (start c .args .table .now) (c .fill .last .1 .0)
@@ -36,11 +29,6 @@ holds-bounds c =
     let e = c .fill-bounds .ensures in
     bounded _ _ _ _ (holds-places (filled c)) (e .0) (e .1 .0)
 
--- the root's children are nodes of the table
-root-within : (t : List ℕ) → WellFormed t → 1 + childCount t 0 ≤ frames t
-unfolding next
-root-within t wf = omega (arith, next-within t wf 1 (wf .some))
-
 fill-requires : tie.Need-fill-requires
 fill-requires c κs = search needs
 
@@ -50,39 +38,14 @@ fill-bounds-requires c κs =
     let a = start f .pre in
     ((a .0 .0, holds-places f, a .1 .1 .0), a .1 .0)
 
-write-certificate-requires : tie.Need-write-certificate-requires
-write-certificate-requires c κs =
+read-off-requires : tie.Need-read-off-requires
+read-off-requires c κs =
     let b = c .before .before .before .before .before .before .before .before .before .before in
     let a = start (filled b) .pre in (
       a .0 .0,
       (
         (holds-places (filled b) .room, omega (arith, a .1 .0 .0, b .fill-bounds .kept)),
         (omega (arith, a .1 .0 .1, b .fill-bounds .kept), a .1 .1 .1),
-      ),
-    )
-
-child-count-requires : tie.Need-child-count-requires
-child-count-requires c κs = search needs
-
-add-end : tie.Need-add-end
-add-end c = search needs
-
-chosen-child-requires : tie.Need-chosen-child-requires
-chosen-child-requires c κs =
-    let b = bounds (c .before .before .before .before .before .before) in
-    let a = start (filled b) .pre in
-    let k = b .fill-bounds .kept in
-    let n = c .before .before .before .child-count .ensures .0 in
-    let end = root-within _ (a .0 .0) in (
-      (
-        omega (arith, end, holds-places (filled b) .room),
-        omega (arith, end, a .1 .0 .0, k),
-        omega (arith, end, a .1 .0 .1, k),
-      ),
-      (
-        omega arith,
-        omega (arith, end, n, a .1 .0 .0, k),
-        omega (arith, end, n, a .1 .0 .1, k),
       ),
     )
 
@@ -103,14 +66,11 @@ same-length-5 c = search needs
 
 returns : tie.Need-returns
 returns c =
-    let w = c .before .before .before .before .before .before .before in
-    let b = bounds w in
+    let r = c .before .before .read-off .ensures in
+    let b = c .before .before .before .before .before .before .before .before .before .before .before .before .before in
     let wf = start (filled b) .pre .0 .0 in
-    let h = holds-bounds b in (
-      rw (c .chosen-child .ensures)
-          (chosen-move _ wf _ h _ (c .before .before .before .before .child-count .ensures .0)),
-      (w .write-certificate .ensures _ (flags-follow _ wf _ h), b .fill-bounds .ensures .1 .1),
-    )
+    let h = holds-bounds b in
+    (r .0 ∙ chosen-move _ wf _ h, (r .1 _ (flags-follow _ wf _ h), b .fill-bounds .ensures .1 .1))
 
 pub conclude-in-spec : {M : Type 1} → statement M
 conclude-in-spec =
@@ -118,10 +78,7 @@ conclude-in-spec =
     (tie.spec
     fill-requires
     fill-bounds-requires
-    write-certificate-requires
-    child-count-requires
-    add-end
-    chosen-child-requires
+    read-off-requires
     same-length
     same-length-2
     same-length-3

@@ -1,13 +1,13 @@
--- `certificate::first_equal` meets its contract: what is left to be searched gives what all of it was to give.
+-- `flags::first_equal` meets its contract: what is left to be searched gives what all of it was to give.
 use Prim.Native.Nat.{_-_, _≤_}
 use native.Mathlib.Omega.{arith}
 use mathlib.Core.Path.{_≡_, refl, sym, _∙_}
 use lib.ListN.{getD}
 use borrow.Author.Needs.{needs}
-use Rattle.certificate.specs.engine.Ranges.{firstEqual}
-use Rattle.certificate.proofs.Ranges.{first-here, first-later, first-none}
-use Rattle.certificate.proofs.first_equal.Statement.{statement}
-use Rattle.certificate.proofs.first_equal.Tie as tie
+use Rattle.flags.specs.engine.Chosen.{firstEqual}
+use Rattle.flags.proofs.Chosen.{first-here, first-later, first-none}
+use Rattle.flags.proofs.first_equal.Statement.{statement}
+use Rattle.flags.proofs.first_equal.Tie as tie
 
 abbrev Inv-loop : tie.InvT-loop
 Inv-loop bounds from to v node₀ node =

@@ -1,7 +1,7 @@
--- `certificate::own_part` meets its contract.
+-- `flags::own_part` meets its contract.
 use borrow.Author.Needs.{needs}
-use Rattle.certificate.proofs.own_part.Statement.{statement}
-use Rattle.certificate.proofs.own_part.Tie as tie
+use Rattle.flags.proofs.own_part.Statement.{statement}
+use Rattle.flags.proofs.own_part.Tie as tie
 
 enum-told : tie.Need-enum-told
 enum-told c = search needs

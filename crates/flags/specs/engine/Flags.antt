@@ -4,13 +4,12 @@ use mathlib.Core.Path.{_≡_}
 use mathlib.Core.Bool.{cond}
 use mathlib.Core.List.{List}
 use lib.Dec.{eqb}
-use lib.ListN.{getD}
 use Rattle.gametree.specs.declared.Side.{Side}
 use Rattle.gametree.specs.declared.Side.the-variants.{Max, Min}
 use Rattle.frames.specs.Frame.{frames, childCount, next}
 use Rattle.frames.specs.Formed.{ChildOf}
 use Rattle.places.specs.engine.Places.{sideIn}
-use Rattle.certificate.specs.engine.Ranges.{firstEqual}
+use Rattle.flags.specs.engine.Chosen.{bySide, chosenChild}
 
 -- what a flag says of the side's own tree: 1 in the max tree, 2 in the min tree, 0 outside it
 abbrev pub ownPart : Side → ℕ → ℕ
@@ -21,15 +20,6 @@ ownPart Min f = f - f % 2
 -- is, the chosen child in the other one too
 abbrev pub childFlag : Side → (f chosen k : ℕ) → ℕ
 childFlag s f chosen k = cond (eqb k chosen) f (ownPart s f)
-
--- the bounds by which a child is chosen: lows where Max moves, highs where Min moves
-abbrev pub bySide : Side → (lows highs : List ℕ) → List ℕ
-bySide Max lows highs = lows
-bySide Min lows highs = highs
-
--- the first of the n numbers from i on whose bound equals that of the node
-abbrev pub chosenChild : (bounds : List ℕ) → (node i n : ℕ) → ℕ
-chosenChild bounds node i n = firstEqual (λ k. getD bounds k 0) (getD bounds node 0) i n
 
 -- the flags f follow from the arrays: 3 at the root, and each child's from its parent's
 pub record FlagsFrom (t places lows highs : List ℕ) (f : ℕ → ℕ) : Type 0 where

@@ -1,8 +1,8 @@
--- `certificate::apart` meets its contract: where the flags are the same, it makes no difference which child is chosen.
+-- `flags::apart` meets its contract: where the flags are the same, it makes no difference which child is chosen.
 use borrow.Author.Needs.{needs}
-use Rattle.certificate.proofs.Flags.{none-chosen}
-use Rattle.certificate.proofs.apart.Statement.{statement}
-use Rattle.certificate.proofs.apart.Tie as tie
+use Rattle.flags.proofs.Flags.{none-chosen}
+use Rattle.flags.proofs.apart.Statement.{statement}
+use Rattle.flags.proofs.apart.Tie as tie
 
 returns : tie.Need-returns
 returns c = none-chosen 0 _ _ _ (c .if1 .taken)

@@ -1,4 +1,4 @@
--- `certificate::flag_children` meets its contract: it stores a run of flags.
+-- `flags::flag_children` meets its contract: it stores a run of flags.
 use Prim.Native.Nat.{_-_}
 use native.Mathlib.Omega.{arith}
 use mathlib.Core.Logic.{⊎-elim}
@@ -7,8 +7,8 @@ use lib.Dec.{eqb}
 use borrow.Author.Needs.{needs}
 use borrow.Author.Tests.{eq-eqb, ne-eqb}
 use Rattle.places.proofs.Runs.{Run, run-begins, run-step, run-ends}
-use Rattle.certificate.proofs.flag_children.Statement.{statement}
-use Rattle.certificate.proofs.flag_children.Tie as tie
+use Rattle.flags.proofs.flag_children.Statement.{statement}
+use Rattle.flags.proofs.flag_children.Tie as tie
 
 abbrev Inv-loop : tie.InvT-loop
 Inv-loop certificate₀ from to flag others chosen child₀ certificate child =

@@ -1,9 +1,9 @@
--- `certificate::chosen_child` meets its contract: the side says by which bounds a child is chosen.
+-- `flags::chosen_child` meets its contract: the side says by which bounds a child is chosen.
 use mathlib.Core.Path.{sym, _∙_}
-use Rattle.certificate.proofs.Ranges.{chosen-by}
+use Rattle.flags.proofs.Chosen.{chosen-by}
 use borrow.Author.Needs.{needs}
-use Rattle.certificate.proofs.chosen_child.Statement.{statement}
-use Rattle.certificate.proofs.chosen_child.Tie as tie
+use Rattle.flags.proofs.chosen_child.Statement.{statement}
+use Rattle.flags.proofs.chosen_child.Tie as tie
 
 side-at-requires : tie.Need-side-at-requires
 side-at-requires c κs = search needs

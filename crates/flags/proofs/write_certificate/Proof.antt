@@ -1,4 +1,4 @@
--- `certificate::write_certificate` meets its contract: each turn stores the flags of one node's children.
+-- `flags::write_certificate` meets its contract: each turn stores the flags of one node's children.
 use Prim.Native.Nat.{ℕ, _+_, _-_, _≤_, _<_}
 use native.Mathlib.Omega.{arith}
 use mathlib.Core.Path.{sym, _∙_}
@@ -7,10 +7,10 @@ use borrow.Author.Needs.{needs}
 use Rattle.frames.specs.Frame.{frames}
 use Rattle.places.proofs.TopDown.{Visit, visit-root, visit-goes, visit-within, visit-step}
 use Rattle.places.proofs.TopDown.{Filled, filled-root, filled-all}
-use Rattle.certificate.specs.engine.Flags.{FlagsFrom}
-use Rattle.certificate.proofs.Flags.{flags-step}
-use Rattle.certificate.proofs.write_certificate.Statement.{statement}
-use Rattle.certificate.proofs.write_certificate.Tie as tie
+use Rattle.flags.specs.engine.Flags.{FlagsFrom}
+use Rattle.flags.proofs.Flags.{flags-step}
+use Rattle.flags.proofs.write_certificate.Statement.{statement}
+use Rattle.flags.proofs.write_certificate.Tie as tie
 
 abbrev Inv-loop : tie.InvT-loop
 Inv-loop table places lows highs certificate₀ n node₀ next₀ certificate node next =

@@ -1,0 +1,57 @@
+-- `flags::read_off` meets its contract: the root's children are the nodes from 1 on.
+use Prim.Native.Nat.{ℕ, _+_, _-_, _≤_}
+use native.Mathlib.Omega.{arith}
+use mathlib.Core.Path.{_≡_, _∙_}
+use mathlib.Core.List.{List}
+use borrow.Author.Needs.{needs}
+use Rattle.frames.specs.Frame.{frames, childCount, next}
+use Rattle.frames.specs.Formed.{WellFormed}
+use Rattle.frames.proofs.Next.{next-within}
+use Rattle.flags.proofs.read_off.Statement.{statement}
+use Rattle.flags.proofs.read_off.Tie as tie
+
+-- the root's children are nodes of the table
+root-within : (t : List ℕ) → WellFormed t → 1 + childCount t 0 ≤ frames t
+unfolding next
+root-within t wf = omega (arith, next-within t wf 1 (wf .some))
+
+-- so they are as many as the numbers from 1 up to their end
+from-one : {n m : ℕ} → n ≡ m → 1 + n - 1 ≡ m
+from-one e = omega arith
+
+write-certificate-requires : tie.Need-write-certificate-requires
+write-certificate-requires c κs = search needs
+
+child-count-requires : tie.Need-child-count-requires
+child-count-requires c κs = search needs
+
+add-end : tie.Need-add-end
+add-end c = search needs
+
+chosen-child-requires : tie.Need-chosen-child-requires
+chosen-child-requires c κs =
+    let a = c .before .before .before .before .before .before .before .before .before .before .pre in
+    let n = c .child-count .ensures .0 in
+    let end = root-within _ (a .0) in (
+      (omega (arith, end), omega (arith, end), omega (arith, end)),
+      (omega arith, omega (arith, end, n), omega (arith, end, n)),
+    )
+
+same-length : tie.Need-same-length
+same-length c = search needs
+
+returns : tie.Need-returns
+returns c =
+    let n = from-one (c .before .child-count .ensures .0) in
+    (c .chosen-child .ensures ∙ rw n, c .before .before .before .before .write-certificate .ensures)
+
+pub read-off-spec : {M : Type 1} → statement M
+read-off-spec =
+    tie.close
+    (tie.spec
+    write-certificate-requires
+    child-count-requires
+    add-end
+    chosen-child-requires
+    same-length
+    returns)

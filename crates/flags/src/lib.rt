@@ -1,0 +1,162 @@
+// The flags of a certificate and the root move, read off the sides and the two bounds of every node, whatever the
+// arrays hold.
+use frames::IN_BOTH;
+use frames::child_count;
+use frames::frame_count;
+use gametree::Side;
+use places::side_at;
+ghost use mathlib.Core.Path.{_≡_};
+ghost use Prim.Native.Nat.{ℕ, _-_, _<_, _≤_};
+ghost use mathlib.Core.Bool.{cond};
+ghost use lib.Dec.{eqb};
+ghost use lib.ListN.{length, getD};
+ghost use Rattle.frames.specs.Frame.{frames, childCount};
+ghost use Rattle.frames.specs.Formed.{WellFormed};
+ghost use Rattle.places.specs.Buffer.{written, stored};
+ghost use Rattle.places.specs.engine.Places.{sideIn};
+ghost use Rattle.flags.specs.engine.Chosen.{firstEqual, bySide, chosenChild};
+ghost use Rattle.flags.specs.engine.Flags.{ownPart, FlagsFrom};
+
+// The flags into the certificate's first entries; the result is the root's chosen child, which is the root move.
+pub fn read_off(
+    table: &[u8],
+    places: &[u32],
+    lows: &[u32],
+    highs: &[u32],
+    certificate: &mut [u8],
+) -> usize
+    requires { ⌜ WellFormed (now table) ⌝ }
+    requires { ⌜ (frames (now table) ≤ length (now places)) × (frames (now table) ≤ length (now lows)) ⌝ }
+    requires { ⌜ (frames (now table) ≤ length (now highs)) × (frames (now table) ≤ length (now certificate)) ⌝ }
+    ensures { λ r. ⌜ r
+        ≡ chosenChild (bySide (sideIn (now (places .entry)) 0) (now (lows .entry)) (now (highs .entry)))
+        0 1 (childCount (now (table .entry)) 0) ⌝ }
+    ensures { λ _. ⌜ ((f : ℕ → ℕ)
+        → FlagsFrom (now (table .entry)) (now (places .entry)) (now (lows .entry)) (now (highs .entry)) f
+        → now (certificate .exit) ≡ written f (frames (now (table .entry))) (now (certificate .entry))) ⌝ }
+{
+    write_certificate(table, places, lows, highs, certificate);
+    let end = 1 + child_count(table, 0);
+    chosen_child(places, lows, highs, 0, 1, end)
+}
+
+// The flags, from the root down, by the rule that reads them off the arrays, until every node has been reached as a
+// child.
+fn write_certificate(
+    table: &[u8],
+    places: &[u32],
+    lows: &[u32],
+    highs: &[u32],
+    certificate: &mut [u8],
+)
+    requires { ⌜ WellFormed (now table) ⌝ }
+    requires { ⌜ (frames (now table) ≤ length (now places)) × (frames (now table) ≤ length (now lows)) ⌝ }
+    requires { ⌜ (frames (now table) ≤ length (now highs)) × (frames (now table) ≤ length (now certificate)) ⌝ }
+    ensures { λ _. ⌜ ((f : ℕ → ℕ)
+        → FlagsFrom (now (table .entry)) (now (places .entry)) (now (lows .entry)) (now (highs .entry)) f
+        → now (certificate .exit) ≡ written f (frames (now (table .entry))) (now (certificate .entry))) ⌝ }
+{
+    certificate[0] = IN_BOTH;
+    let n = frame_count(table);
+    let mut node: usize = 0;
+    let mut next: usize = 1;
+    while next < n {
+        let end = next + child_count(table, node);
+        let flag = certificate[node];
+        let others = own_part(side_at(places, node), flag);
+        let chosen = apart(places, lows, highs, node, next, end, flag, others);
+        flag_children(certificate, next, end, flag, others, chosen);
+        next = end;
+        node += 1;
+    }
+}
+
+// The chosen child, which is looked for only where its flag is not that of the others.
+fn apart(
+    places: &[u32],
+    lows: &[u32],
+    highs: &[u32],
+    node: usize,
+    from: usize,
+    to: usize,
+    flag: u8,
+    others: u8,
+) -> usize
+    requires { ⌜ (node < length (now places)) × (node < length (now lows)) × (node < length (now highs)) ⌝ }
+    requires { ⌜ (from ≤ to) × (to ≤ length (now lows)) × (to ≤ length (now highs)) ⌝ }
+    ensures { λ r. ⌜ ((k : ℕ) → cond (eqb k r) flag others
+        ≡ cond (eqb k (chosenChild (bySide (sideIn (now (places .entry)) node) (now (lows .entry)) (now (highs .entry)))
+        node from (to - from))) flag others) ⌝ }
+{
+    if flag == others {
+        return 0;
+    }
+    chosen_child(places, lows, highs, node, from, to)
+}
+
+// The children from `from` up to `to`: the chosen one gets the node's flag, the others what is the side's own of it.
+fn flag_children(
+    certificate: &mut [u8],
+    from: usize,
+    to: usize,
+    flag: u8,
+    others: u8,
+    chosen: usize,
+)
+    requires { ⌜ (from ≤ to) × (to ≤ length (now certificate)) ⌝ }
+    ensures { λ _. ⌜ now (certificate .exit)
+        ≡ stored (λ k. cond (eqb k chosen) flag others) from (to - from) (now (certificate .entry)) ⌝ }
+{
+    for child in from..to {
+        if child == chosen {
+            certificate[child] = flag;
+        } else {
+            certificate[child] = others;
+        }
+    }
+}
+
+// What a flag says of the side's own tree.
+fn own_part(side: Side, flag: u8) -> u8
+    ensures { λ r. ⌜ r ≡ ownPart side flag ⌝ }
+{
+    match side {
+        Side::Max => flag % 2,
+        Side::Min => flag - flag % 2,
+    }
+}
+
+// The first child of those from `from` up to `to` whose bound equals the node's, by the lows at a Max node, by the
+// highs at a Min node; 0 where there is none.
+fn chosen_child(
+    places: &[u32],
+    lows: &[u32],
+    highs: &[u32],
+    node: usize,
+    from: usize,
+    to: usize,
+) -> usize
+    requires { ⌜ (node < length (now places)) × (node < length (now lows)) × (node < length (now highs)) ⌝ }
+    requires { ⌜ (from ≤ to) × (to ≤ length (now lows)) × (to ≤ length (now highs)) ⌝ }
+    ensures { λ r. ⌜ r
+        ≡ chosenChild (bySide (sideIn (now (places .entry)) node) (now (lows .entry)) (now (highs .entry)))
+        node from (to - from) ⌝ }
+{
+    match side_at(places, node) {
+        Side::Max => first_equal(lows, from, to, lows[node]),
+        Side::Min => first_equal(highs, from, to, highs[node]),
+    }
+}
+
+// The first node of those from `from` up to `to` whose bound is v; 0 where there is none.
+fn first_equal(bounds: &[u32], from: usize, to: usize, v: u32) -> usize
+    requires { ⌜ (from ≤ to) × (to ≤ length (now bounds)) ⌝ }
+    ensures { λ r. ⌜ r ≡ firstEqual (λ k. getD (now (bounds .entry)) k 0) v from (to - from) ⌝ }
+{
+    for node in from..to {
+        if bounds[node] == v {
+            return node;
+        }
+    }
+    0
+}
