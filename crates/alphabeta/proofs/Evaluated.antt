@@ -14,7 +14,7 @@ use Rattle.lists.proofs.Lists.{all-append}
 use Rattle.frames.specs.Frame.{frames}
 use Rattle.frames.specs.Tree.{treeAt}
 use Rattle.frames.specs.Formed.{WellFormed, ChildOf}
-use Rattle.certificate.specs.Marks.{markAll}
+use Rattle.bounds.specs.Marks.{markAll}
 use Rattle.certificate.proofs.Unmarked.{Waiting, younger-wait}
 
 onward-all : (P : ℕ → Type 0) (b : Bool) (r q : Found) → All P (r .evaluated) → All P (q .evaluated)

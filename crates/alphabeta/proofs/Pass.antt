@@ -13,8 +13,8 @@ use Rattle.gametree.specs.declared.Side.{Side}
 use Rattle.gametree.specs.Tree.{Tree}
 use Rattle.gametree.specs.AlphaBeta.{raise, lower, Found, after, onward, alphaBeta, alphaBetaKids}
 use Rattle.frames.specs.Tree.{kidsFrom}
-use Rattle.certificate.specs.Marks.{markAll}
-use Rattle.certificate.proofs.Marking.{markAll-append}
+use Rattle.bounds.specs.Marks.{markAll}
+use Rattle.bounds.proofs.Marking.{markAll-append}
 use Rattle.alphabeta.specs.declared.Visited.{Visited}
 use Rattle.alphabeta.specs.engine.Visit.{visitedOf}
 

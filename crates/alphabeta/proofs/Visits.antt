@@ -11,7 +11,7 @@ use Rattle.frames.specs.Place.{placeOf}
 use Rattle.frames.specs.Tree.{treeAt, valuation}
 use Rattle.frames.specs.Formed.{WellFormed}
 use Rattle.frames.proofs.Trees.{tree-leaf, tree-inner}
-use Rattle.certificate.specs.Marks.{markAll}
+use Rattle.bounds.specs.Marks.{markAll}
 use Rattle.alphabeta.specs.declared.Visited.{Visited}
 use Rattle.alphabeta.proofs.Pass.{Gives, Owes, owes-all, rest}
 use Rattle.certificate.proofs.Unmarked.{Waiting}

@@ -16,7 +16,7 @@ use Rattle.frames.specs.Tree.{tree, valuation}
 use Rattle.frames.specs.Formed.{WellFormed}
 use Rattle.frames.proofs.Proper.{tree-proper}
 use Rattle.places.specs.Buffer.{written}
-use Rattle.certificate.specs.Marks.{marked, markAll}
+use Rattle.bounds.specs.Marks.{marked, markAll}
 use Rattle.frames.specs.Value.{valueOf}
 use Rattle.certificate.specs.Search.{marksOf, flagsOf, findings}
 use Rattle.certificate.proofs.Outcomes.{search-concludes}

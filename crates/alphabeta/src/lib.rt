@@ -1,9 +1,9 @@
 // Alpha-beta over a byte table: the public search, and its recursive engine.
+use bounds::clear;
+use bounds::evaluate;
 use certificate::Findings;
 use certificate::ask;
-use certificate::clear;
 use certificate::conclude;
-use certificate::evaluate;
 use frames::Checked;
 use frames::GREATEST;
 use frames::LEAST;
@@ -23,8 +23,8 @@ ghost use Rattle.gametree.specs.AlphaBeta.{raise, lower, clamp, alphaBeta};
 ghost use Rattle.frames.specs.Frame.{frames};
 ghost use Rattle.frames.specs.Formed.{WellFormed};
 ghost use Rattle.frames.specs.Tree.{treeAt, valuation};
-ghost use Rattle.certificate.specs.Marks.{markAll};
-ghost use Rattle.certificate.specs.engine.Evaluable.{Evaluable};
+ghost use Rattle.bounds.specs.Marks.{markAll};
+ghost use Rattle.bounds.specs.engine.Evaluable.{Evaluable};
 ghost use Rattle.certificate.specs.engine.Searchable.{Searchable};
 ghost use Rattle.certificate.specs.Search.{marksOf, flagsOf, findings};
 ghost use Rattle.alphabeta.specs.Outcome.{reachedLeaves, alphaBetaOutcome};

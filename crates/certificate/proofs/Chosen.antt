@@ -25,7 +25,7 @@ use Rattle.places.proofs.Buffers.{written-at}
 use Rattle.places.proofs.Places.{placed-side}
 use Rattle.flags.specs.engine.Chosen.{firstEqual, bySide, chosenChild}
 use Rattle.flags.proofs.Chosen.{first-same}
-use Rattle.certificate.specs.engine.Bounds.{boundOf}
+use Rattle.bounds.specs.engine.Bounds.{boundOf}
 
 -- the arrays hold the side and both bounds of each node
 pub record Bounded (t : List ℕ) (E : ℕ → Bool) (places lows highs : List ℕ) : Type 0 where

@@ -20,9 +20,9 @@ use Rattle.frames.proofs.Next.{next-more, next-within}
 use Rattle.frames.proofs.Parents.{top-down}
 use Rattle.frames.proofs.Proper.{every-leaf}
 use Rattle.places.specs.Buffer.{written}
-use Rattle.certificate.specs.Marks.{mark, marked}
+use Rattle.bounds.specs.Marks.{mark, marked}
 use Rattle.flags.specs.engine.Chosen.{firstEqual}
-use Rattle.certificate.specs.engine.Bounds.{boundOf}
+use Rattle.bounds.specs.engine.Bounds.{boundOf}
 use Rattle.places.proofs.Buffers.{written-same}
 use Rattle.flags.proofs.Chosen.{first-same}
 use Rattle.certificate.proofs.Chosen.{chosenOf, chosen-root}

@@ -1,10 +1,6 @@
--- The lemmas on buffers and searches, grouped by idea.
-pub mod Marking
+-- The lemmas on searches and certificates, grouped by idea.
 pub mod Unmarked
 pub mod Searchable
-pub mod BottomUp
-pub mod Ranges
-pub mod Bounds
 pub mod Flags
 pub mod Chosen
 pub mod Solutions

@@ -17,9 +17,9 @@ use Rattle.frames.specs.Formed.{WellFormed}
 use Rattle.frames.specs.Rejection.{answer}
 use Rattle.frames.proofs.Asked.{answer-nodes, answer-rejected}
 use Rattle.places.specs.Buffer.{written}
-use Rattle.certificate.specs.Marks.{marked, markAll}
+use Rattle.bounds.specs.Marks.{marked, markAll}
 use Rattle.certificate.specs.Search.{Search, searchRejection, marksOf, flagsOf, outcome}
-use Rattle.certificate.proofs.Marking.{marks-from-clear}
+use Rattle.bounds.proofs.Marking.{marks-from-clear}
 use Rattle.certificate.proofs.Marks.{evaluated-within}
 use Rattle.certificate.proofs.Concluded.{concluded}
 

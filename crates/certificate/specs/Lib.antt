@@ -1,5 +1,4 @@
 -- Definitions for searches over a table: what their buffers hold, and what they give.
-pub mod Marks
 pub mod Search
 pub mod engine
 pub mod results

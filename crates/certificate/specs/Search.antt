@@ -13,7 +13,7 @@ use Rattle.frames.specs.Tree.{tree, valuation}
 use Rattle.frames.specs.Rejection.{_andThen_}
 use Rattle.frames.specs.Check.{rejection, check10}
 use Rattle.places.specs.Buffer.{written}
-use Rattle.certificate.specs.Marks.{mark}
+use Rattle.bounds.specs.Marks.{mark}
 use Rattle.certificate.specs.declared.Findings.{Findings}
 use Rattle.frames.specs.Value.{valueOf}
 

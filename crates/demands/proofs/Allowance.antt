@@ -29,7 +29,7 @@ use Rattle.frames.proofs.Proper.{tree-proper}
 use Rattle.frames.proofs.Values.{value-order}
 use Rattle.places.specs.Buffer.{tabulate}
 use Rattle.certificate.specs.declared.Findings.{Findings}
-use Rattle.certificate.specs.Marks.{mark, ones}
+use Rattle.bounds.specs.Marks.{mark, ones}
 use Rattle.certificate.specs.Search.{marksOf}
 use Rattle.certificate.proofs.Questions.{room-passed}
 use Rattle.alphabeta.specs.declared.Answer.the-variants as ab-answer

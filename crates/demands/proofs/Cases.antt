@@ -9,7 +9,7 @@ use Rattle.frames.specs.Tree.{kidsFrom, grow, treeAt, valuation}
 use Rattle.frames.specs.Rejection.{eachNode}
 use Rattle.frames.specs.Check.{framesRejection, rejection}
 use Rattle.places.specs.Buffer.{tabulate, written}
-use Rattle.certificate.specs.Marks.{ones}
+use Rattle.bounds.specs.Marks.{ones}
 use Rattle.demands.specs.Cases.{rowOf, tables, rows, path, winTables, winRows}
 use Rattle.demands.specs.Cases.{leavesOf, captureTables, captureRows}
 

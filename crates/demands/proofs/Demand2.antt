@@ -16,7 +16,7 @@ use Rattle.frames.specs.Tree.{tree, valuation}
 use Rattle.frames.specs.Check.{Accepted}
 use Rattle.frames.proofs.Acceptance.{accepted-formed}
 use Rattle.frames.proofs.TreeOfTable.{score-worth}
-use Rattle.certificate.specs.Marks.{mark}
+use Rattle.bounds.specs.Marks.{mark}
 use Rattle.frames.specs.Value.{valueOf, signed, worth}
 use Rattle.certificate.specs.Search.{marksOf, flagsOf, findings}
 use Rattle.certificate.proofs.Questions.{room-passed}

@@ -23,8 +23,8 @@ use Rattle.frames.specs.Formed.{WellFormed}
 use Rattle.frames.proofs.Acceptance.{accepted-formed}
 use Rattle.frames.proofs.Nodes.{tree-range}
 use Rattle.frames.proofs.Proper.{tree-proper}
-use Rattle.certificate.specs.Marks.{mark}
-use Rattle.certificate.specs.Marks.{marked, ones}
+use Rattle.bounds.specs.Marks.{mark}
+use Rattle.bounds.specs.Marks.{marked, ones}
 use Rattle.verify.specs.Flags.{member}
 use Rattle.frames.specs.Value.{valueOf}
 use Rattle.places.proofs.Buffers.{written-length, written-at}

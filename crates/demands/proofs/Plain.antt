@@ -19,7 +19,7 @@ use Rattle.frames.specs.Check.{Accepted}
 use Rattle.frames.proofs.Acceptance.{accepted-formed}
 use Rattle.frames.proofs.Proper.{tree-proper}
 use Rattle.certificate.specs.declared.Findings.{Findings}
-use Rattle.certificate.specs.Marks.{ones}
+use Rattle.bounds.specs.Marks.{ones}
 use Rattle.certificate.specs.Search.{searchRejection, marksOf, flagsOf}
 use Rattle.certificate.proofs.Questions.{room-passed}
 use Rattle.verify.specs.declared.Verdict.the-variants.{Value}

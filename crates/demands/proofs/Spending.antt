@@ -28,7 +28,7 @@ use Rattle.frames.proofs.Acceptance.{accepted-formed}
 use Rattle.frames.proofs.Proper.{tree-proper}
 use Rattle.frames.proofs.Shapes.{same-score, same-tree}
 use Rattle.places.proofs.Buffers.{written-at}
-use Rattle.certificate.specs.Marks.{mark, ones}
+use Rattle.bounds.specs.Marks.{mark, ones}
 use Rattle.certificate.specs.Search.{searchRejection, marksOf}
 use Rattle.certificate.proofs.Marks.{marked-written, evaluated-hold, ones-leaves}
 use Rattle.alphabeta.specs.Outcome.{reachedLeaves}

@@ -7,7 +7,7 @@ use lib.ListN.{replicate, take}
 use Rattle.frames.specs.Frame.{frames}
 use Rattle.frames.specs.results.Cases.{leafFrame, innerFrame, againFrame, small, capture, lone, single}
 use Rattle.certificate.specs.declared.Findings.{Findings}
-use Rattle.certificate.specs.Marks.{ones}
+use Rattle.bounds.specs.Marks.{ones}
 use Rattle.alphabeta.specs.declared.Answer as ab
 use Rattle.alphabeta.specs.declared.Answer.the-variants as ab-answer
 use Rattle.alphabeta.specs.Outcome.{alphaBetaOutcome}

@@ -9,7 +9,7 @@ use Rattle.gametree.specs.Certificate.{Certifies, LeavesIn}
 use Rattle.frames.specs.Frame.{frames}
 use Rattle.frames.specs.Tree.{tree, valuation}
 use Rattle.frames.specs.Shape.{AgreeOn}
-use Rattle.certificate.specs.Marks.{marked}
+use Rattle.bounds.specs.Marks.{marked}
 use Rattle.verify.specs.Flags.{member}
 use Rattle.demands.specs.Calls.{Buffers}
 

@@ -13,8 +13,8 @@ use Rattle.gametree.specs.Tree.{Tree, leaf, inner, Kids, last, _then_, greatest
 use Rattle.gametree.specs.Bounds.{known, high}
 use Rattle.gametree.specs.Mtd.{memoHigh, memoHighKids}
 use Rattle.gametree.specs.engine.MemoArrays.{Bits, readMemo, readMemoKids}
-use Rattle.certificate.specs.Marks.{marked, markAll}
-use Rattle.certificate.proofs.Marking.{markAll-append}
+use Rattle.bounds.specs.Marks.{marked, markAll}
+use Rattle.bounds.proofs.Marking.{markAll-append}
 use Rattle.mtd.specs.engine.Memory.{Memory, MemoryRoom, Evaluated}
 
 -- what stands there already is stored

@@ -14,7 +14,7 @@ use Rattle.lists.proofs.Choice.{cond-cases}
 use Rattle.gametree.specs.engine.MemoArrays.{readMemoKids, KidsRemembered}
 use Rattle.gametree.proofs.mtd.MemoArrays.{rest-same, visit-ended, visit-joined}
 use Rattle.frames.specs.Tree.{kidsFrom, valuation}
-use Rattle.certificate.specs.Marks.{marked}
+use Rattle.bounds.specs.Marks.{marked}
 use Rattle.mtd.specs.declared.Tried.{Tried}
 use Rattle.mtd.specs.engine.Memory.{Memory, passOf, Evaluated, Passed}
 use Rattle.mtd.proofs.Arrays.{evaluated-none, evaluated-more}

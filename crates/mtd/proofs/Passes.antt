@@ -17,8 +17,8 @@ use Rattle.gametree.specs.Mtd.{Memo, memoHigh, Pass, stay, entered}
 use Rattle.lists.proofs.Choice.{cond-cases}
 use Rattle.gametree.proofs.mtd.MemoArrays.{readMemoKids-same}
 use Rattle.frames.specs.Tree.{treeAt, valuation}
-use Rattle.certificate.specs.Marks.{marked, markAll}
-use Rattle.certificate.proofs.Marking.{marked-other}
+use Rattle.bounds.specs.Marks.{marked, markAll}
+use Rattle.bounds.proofs.Marking.{marked-other}
 use Rattle.mtd.specs.declared.Tried.{Tried}
 use Rattle.mtd.specs.engine.Memory.{Memory, memory, memoOf, passOf, MemoryRoom, HighsRight, Evaluated, Passed}
 use Rattle.mtd.proofs.Arrays.{set-same, marked-same, read-high, evaluated-none}

@@ -25,7 +25,7 @@ use Rattle.frames.proofs.Trees.{zero-or-suc}
 use Rattle.frames.proofs.Nodes.{in-own, tree-range}
 use Rattle.frames.proofs.Totals.{tree-size}
 use Rattle.frames.proofs.Proper.{tree-proper}
-use Rattle.certificate.specs.Marks.{marked, markAll}
+use Rattle.bounds.specs.Marks.{marked, markAll}
 use Rattle.mtd.specs.declared.Tried.{Tried}
 use Rattle.mtd.specs.engine.Memory.{Memory, memoOf, passOf, MemoryRoom, HighsRight, VisitReady, Evaluated}
 use Rattle.mtd.specs.engine.Memory.{Passed, Fresh, settledOf}

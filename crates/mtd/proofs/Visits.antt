@@ -15,9 +15,9 @@ use Rattle.frames.specs.Formed.{WellFormed}
 use Rattle.frames.proofs.Places.{depth-at-most}
 use Rattle.frames.proofs.Trees.{in-kids, tree-leaf}
 use Rattle.frames.proofs.Nodes.{in-own, tree-distinct}
-use Rattle.certificate.specs.Marks.{marked}
-use Rattle.certificate.specs.engine.Ranges.{bestIn}
-use Rattle.certificate.proofs.Bounds.{best-same, minimax-best}
+use Rattle.bounds.specs.Marks.{marked}
+use Rattle.bounds.specs.engine.Ranges.{bestIn}
+use Rattle.bounds.proofs.Bounds.{best-same, minimax-best}
 use Rattle.mtd.specs.declared.Seen.{Seen}
 use Rattle.mtd.specs.declared.Seen.the-variants.{Answered, Open}
 use Rattle.mtd.specs.declared.Tried.{Tried}

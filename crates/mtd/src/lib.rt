@@ -1,11 +1,11 @@
 // MTD over a byte table: the public search, and its engine of passes with falling tests, each asking whether the root
 // is below its test.
+use bounds::best;
+use bounds::clear;
+use bounds::evaluate;
 use certificate::Findings;
 use certificate::ask;
-use certificate::best;
-use certificate::clear;
 use certificate::conclude;
-use certificate::evaluate;
 use frames::Checked;
 use frames::GREATEST;
 use frames::MAX_NODES;
@@ -28,8 +28,8 @@ ghost use Rattle.frames.specs.Frame.{maxNodes, frames, childCount};
 ghost use Rattle.frames.specs.Place.{depthOf};
 ghost use Rattle.frames.specs.Tree.{treeAt, tree, valuation};
 ghost use Rattle.frames.specs.Formed.{WellFormed};
-ghost use Rattle.certificate.specs.Marks.{marked, markAll};
-ghost use Rattle.certificate.specs.engine.Evaluable.{Evaluable};
+ghost use Rattle.bounds.specs.Marks.{marked, markAll};
+ghost use Rattle.bounds.specs.engine.Evaluable.{Evaluable};
 ghost use Rattle.certificate.specs.Search.{marksOf, flagsOf};
 ghost use Rattle.mtd.specs.Outcome.{mtdLeaves, mtdFound, mtdOutcome};
 ghost use Rattle.mtd.specs.engine.Memory.{memory, Fresh, VisitReady, Enterable, Passed, Looked, settledOf};

@@ -19,10 +19,10 @@ use Rattle.frames.proofs.Next.{child-within}
 use Rattle.frames.proofs.Places.{depth-child}
 use Rattle.frames.proofs.Proper.{every-leaf, leaf-scored}
 use Rattle.frames.proofs.Trees.{tree-leaf, tree-inner}
-use Rattle.certificate.specs.Marks.{markAll}
-use Rattle.certificate.specs.engine.Evaluable.{Evaluable}
+use Rattle.bounds.specs.Marks.{markAll}
+use Rattle.bounds.specs.engine.Evaluable.{Evaluable}
 use Rattle.certificate.specs.engine.Searchable.{Unmarked}
-use Rattle.certificate.proofs.Marking.{markAll-length}
+use Rattle.bounds.proofs.Marking.{markAll-length}
 use Rattle.certificate.proofs.Unmarked.{Waiting, all-wait, younger-wait}
 use Rattle.certificate.proofs.Searchable.{searchable-depth, searchable-child}
 use Rattle.plain.specs.engine.Ready.{turnPlace, Ready}

@@ -1,9 +1,9 @@
 // The plain engine over a byte table: minimax without cuts. Max's turn asks Min's turn for each child, and Min's turn
 // asks Max's; where the same side moves again, a turn asks itself.
+use bounds::clear;
+use bounds::evaluate;
 use certificate::ask;
-use certificate::clear;
 use certificate::conclude;
-use certificate::evaluate;
 use frames::Checked;
 use frames::GREATEST;
 use frames::LEAST;
@@ -23,7 +23,7 @@ ghost use Rattle.gametree.specs.Tree.{minimax, leaves};
 ghost use Rattle.frames.specs.Frame.{frames};
 ghost use Rattle.frames.specs.Check.{Accepted};
 ghost use Rattle.frames.specs.Tree.{treeAt, valuation};
-ghost use Rattle.certificate.specs.Marks.{markAll};
+ghost use Rattle.bounds.specs.Marks.{markAll};
 ghost use Rattle.certificate.specs.Search.{marksOf, flagsOf};
 ghost use Rattle.plain.specs.Outcome.{allLeaves, plainFound, plainOutcome};
 ghost use Rattle.plain.specs.engine.Ready.{Ready};

@@ -9,7 +9,7 @@ use lib.ListN.{length}
 use borrow.Author.Tests.{ltb-true, lt-ltb, le-ltb}
 use Rattle.lists.proofs.Choice.{true-not-false}
 use Rattle.gametree.specs.declared.Side.{Side}
-use Rattle.certificate.specs.Marks.{markAll}
+use Rattle.bounds.specs.Marks.{markAll}
 use Rattle.states.specs.declared.Status.{Status}
 use Rattle.states.specs.declared.Status.the-variants.{Live, Solved}
 use Rattle.states.specs.declared.State.{State}

@@ -1,5 +1,5 @@
 // The five rules (SPEC 10.3): what replaces the state that is taken.
-use certificate::evaluate;
+use bounds::evaluate;
 use frames::child_count;
 use frames::first_child;
 use gametree::Side;
@@ -17,7 +17,7 @@ ghost use lib.ListN.{length, set};
 ghost use Rattle.gametree.specs.Tree.{greatest};
 ghost use Rattle.frames.specs.Frame.{maxNodes, frames, childCount};
 ghost use Rattle.frames.specs.Tree.{valuation};
-ghost use Rattle.certificate.specs.Marks.{marked, markAll};
+ghost use Rattle.bounds.specs.Marks.{marked, markAll};
 ghost use Rattle.places.specs.engine.Places.{Placed};
 ghost use Rattle.turns.specs.engine.Rules.{one as oneOf, ofInner, ofChild, ofState};
 ghost use Rattle.turns.specs.engine.Turn.{newLeaves};

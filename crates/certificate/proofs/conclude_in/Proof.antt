@@ -3,7 +3,7 @@ use native.Mathlib.Omega.{arith}
 use mathlib.Core.Path.{_∙_}
 use Rattle.places.specs.engine.Places.{Placed}
 use Rattle.places.proofs.Places.{placed}
-use Rattle.certificate.specs.Marks.{marked}
+use Rattle.bounds.specs.Marks.{marked}
 use Rattle.certificate.proofs.Chosen.{Bounded, bounded, chosen-move}
 use Rattle.certificate.proofs.Flags.{flags-follow}
 use borrow.Author.Needs.{needs}

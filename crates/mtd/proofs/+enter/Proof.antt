@@ -22,7 +22,7 @@ use Rattle.mtd.proofs.+enter.Lts-enter as lts
 use Rattle.frames.proofs.child_count.Reads as child-count-reads
 use Rattle.frames.proofs.child_place.Reads as child-place-reads
 use Rattle.frames.proofs.first_child.Reads as first-child-reads
-use Rattle.certificate.proofs.best.Reads as best-reads
+use Rattle.bounds.proofs.best.Reads as best-reads
 use Rattle.mtd.proofs.not_below_entry.Reads as not-below-entry-reads
 use Rattle.mtd.proofs.last_tried.Reads as last-tried-reads
 use Rattle.mtd.proofs.look.Reads as look-reads

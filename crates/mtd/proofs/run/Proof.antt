@@ -6,7 +6,7 @@ use mir.ValLaws.{toZ-ofZ}
 use borrow.Author.Needs.{needs}
 use Rattle.frames.specs.Frame.{frames}
 use Rattle.places.specs.Buffer.{written}
-use Rattle.certificate.proofs.Marking.{cleared-unmarked}
+use Rattle.bounds.proofs.Marking.{cleared-unmarked}
 use Rattle.mtd.proofs.Whole.{run-small, run-gives}
 use Rattle.mtd.proofs.run.Statement.{statement}
 use Rattle.mtd.proofs.run.Tie as tie

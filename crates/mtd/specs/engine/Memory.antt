@@ -14,7 +14,7 @@ use Rattle.frames.specs.Frame.{maxNodes, frames, childCount}
 use Rattle.frames.specs.Place.{placeOf}
 use Rattle.frames.specs.Tree.{treeAt, valuation}
 use Rattle.frames.specs.Formed.{WellFormed}
-use Rattle.certificate.specs.Marks.{marked, markAll}
+use Rattle.bounds.specs.Marks.{marked, markAll}
 use Rattle.mtd.specs.declared.Seen.{Seen}
 use Rattle.mtd.specs.declared.Seen.the-variants.{Answered, Open}
 use Rattle.mtd.specs.declared.Tried.{Tried}

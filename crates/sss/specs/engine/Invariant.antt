@@ -11,7 +11,7 @@ use Rattle.gametree.specs.Sss as theory
 use Rattle.frames.specs.Frame.{frames}
 use Rattle.frames.specs.Tree.{tree, valuation}
 use Rattle.places.specs.Buffer.{written}
-use Rattle.certificate.specs.Marks.{markAll}
+use Rattle.bounds.specs.Marks.{markAll}
 use Rattle.states.specs.declared.State.{State}
 use Rattle.states.specs.Entry.{blank}
 use Rattle.sss.specs.Outcome.{sssRun}

@@ -7,7 +7,7 @@ use lib.ListN.{length}
 use Rattle.gametree.specs.Tree.{greatest}
 use Rattle.frames.specs.Frame.{maxNodes, frames, childCount}
 use Rattle.frames.specs.Formed.{WellFormed}
-use Rattle.certificate.specs.Marks.{marked}
+use Rattle.bounds.specs.Marks.{marked}
 use Rattle.states.specs.declared.Status.{Status}
 use Rattle.states.specs.declared.Status.the-variants.{Live, Solved}
 use Rattle.states.specs.declared.State.{State}

@@ -6,7 +6,7 @@ use mathlib.Core.List.{List, [], _∷_}
 use lib.Dec.{eqb, ltb}
 use lib.ListN.{length, getD}
 use Rattle.frames.specs.Frame.{frames, childCount}
-use Rattle.certificate.specs.Marks.{markAll}
+use Rattle.bounds.specs.Marks.{markAll}
 use Rattle.states.specs.declared.Status.{Status}
 use Rattle.states.specs.declared.Status.the-variants.{Live, Solved}
 use Rattle.states.specs.declared.State.{State}

@@ -4,7 +4,7 @@ use mathlib.Core.Path.{_≡_, sym, ap, ap₂, _∙_}
 use Rattle.frames.specs.Frame.{childCount}
 use Rattle.frames.specs.Place.{sideOf}
 use Rattle.frames.proofs.Parents.{parent-child}
-use Rattle.certificate.specs.Marks.{markAll}
+use Rattle.bounds.specs.Marks.{markAll}
 use Rattle.states.specs.declared.Status.the-variants.{Live}
 use Rattle.turns.specs.engine.Rules.{ofInner, ofChild}
 use Rattle.places.proofs.Places.{placed-parent, placed-side}

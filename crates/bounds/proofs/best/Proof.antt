@@ -1,13 +1,13 @@
--- `certificate::best` meets its contract: from right to left, the value is the best of the entries passed.
+-- `bounds::best` meets its contract: from right to left, the value is the best of the entries passed.
 use Prim.Native.Nat.{_+_, _-_, _≤_, _<_}
 use native.Mathlib.Omega.{arith}
 use mathlib.Core.Path.{_≡_, sym, _∙_}
 use lib.ListN.{getD}
 use borrow.Author.Needs.{needs}
-use Rattle.certificate.specs.engine.Ranges.{bestIn}
-use Rattle.certificate.proofs.Ranges.{best-last, best-before}
-use Rattle.certificate.proofs.best.Statement.{statement}
-use Rattle.certificate.proofs.best.Tie as tie
+use Rattle.bounds.specs.engine.Ranges.{bestIn}
+use Rattle.bounds.proofs.Ranges.{best-last, best-before}
+use Rattle.bounds.proofs.best.Statement.{statement}
+use Rattle.bounds.proofs.best.Tie as tie
 
 abbrev Inv-loop : tie.InvT-loop
 Inv-loop bounds from to side at₀ value₀ at value =

@@ -16,10 +16,10 @@ use Rattle.frames.specs.Tree.{kidsFrom, treeAt, valuation}
 use Rattle.frames.specs.Formed.{WellFormed, ChildOf}
 use Rattle.frames.proofs.Next.{child-later, child-within}
 use Rattle.frames.proofs.Trees.{tree-leaf, tree-inner}
-use Rattle.certificate.specs.Marks.{marked}
-use Rattle.certificate.specs.engine.Ranges.{bestIn}
-use Rattle.certificate.specs.engine.Bounds.{boundOf, leafBounds}
-use Rattle.certificate.proofs.BottomUp.{Rising, rising-at}
+use Rattle.bounds.specs.Marks.{marked}
+use Rattle.bounds.specs.engine.Ranges.{bestIn}
+use Rattle.bounds.specs.engine.Bounds.{boundOf, leafBounds}
+use Rattle.bounds.proofs.BottomUp.{Rising, rising-at}
 
 -- a marked leaf has its score for both bounds, another one the least and the greatest score
 pub bounds-marked : (t e : List ℕ) (k v : ℕ) → getD e k 0 ≡ 1 → v ≡ valuation t k

@@ -4,7 +4,7 @@ use native.Mathlib.Omega.{arith}
 use mathlib.Core.Path.{_≡_, sym, ap, ap₂, _∙_}
 use Rattle.gametree.specs.declared.Side.{Side}
 use Rattle.gametree.specs.Tree.{better}
-use Rattle.certificate.specs.engine.Ranges.{bestIn}
+use Rattle.bounds.specs.engine.Ranges.{bestIn}
 
 -- the best of the last entry alone
 pub best-last : (s : Side) (f : ℕ → ℕ) (i to : ℕ) → to ≡ i + 1 → bestIn s f i (to - (i + 1)) ≡ f i

@@ -6,7 +6,7 @@ use mathlib.Core.List.{List}
 use lib.ListN.{length}
 use Rattle.frames.specs.Frame.{maxNodes, frames, childCount}
 use Rattle.frames.specs.Place.{depthOf}
-use Rattle.certificate.specs.Marks.{marked}
+use Rattle.bounds.specs.Marks.{marked}
 
 -- node i is a leaf of the table t, at the depth d, with an entry among the marks e and no mark yet
 pub record Evaluable (t e : List ℕ) (i d : ℕ) : Type 0 where

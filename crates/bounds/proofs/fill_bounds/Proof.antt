@@ -1,4 +1,4 @@
--- `certificate::fill_bounds` meets its contract: from the last node to the first, each bound follows from later ones.
+-- `bounds::fill_bounds` meets its contract: from the last node to the first, each bound follows from later ones.
 use Prim.Native.Nat.{_-_, _<_}
 use native.Mathlib.Omega.{arith}
 use mathlib.Core.Path.{_≡_, refl, ap, _∙_}
@@ -6,12 +6,12 @@ use lib.ListN.{length}
 use borrow.Author.Needs.{needs}
 use Rattle.gametree.specs.Tree.{least, greatest}
 use Rattle.frames.specs.Frame.{frames}
-use Rattle.certificate.specs.Marks.{marked}
-use Rattle.certificate.specs.engine.Bounds.{boundOf}
-use Rattle.certificate.proofs.BottomUp.{Rising, rising-begins, rising-step, rising-ends}
-use Rattle.certificate.proofs.Bounds.{children-bounded}
-use Rattle.certificate.proofs.fill_bounds.Statement.{statement}
-use Rattle.certificate.proofs.fill_bounds.Tie as tie
+use Rattle.bounds.specs.Marks.{marked}
+use Rattle.bounds.specs.engine.Bounds.{boundOf}
+use Rattle.bounds.proofs.BottomUp.{Rising, rising-begins, rising-step, rising-ends}
+use Rattle.bounds.proofs.Bounds.{children-bounded}
+use Rattle.bounds.proofs.fill_bounds.Statement.{statement}
+use Rattle.bounds.proofs.fill_bounds.Tie as tie
 
 abbrev Inv-loop : tie.InvT-loop
 Inv-loop table places evaluated₀ lows₀ highs₀ node₀ evaluated lows highs node =

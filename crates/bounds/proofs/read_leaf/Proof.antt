@@ -1,10 +1,10 @@
--- `certificate::read_leaf` meets its contract: the depth is the leaf's own, so its score is that of the valuation.
+-- `bounds::read_leaf` meets its contract: the depth is the leaf's own, so its score is that of the valuation.
 use mathlib.Core.Path.{refl, ap, _∙_}
 use Rattle.frames.specs.Frame.{storedScore}
 use Rattle.frames.specs.Tree.{leafScore, valuation}
 use borrow.Author.Needs.{needs}
-use Rattle.certificate.proofs.read_leaf.Statement.{statement}
-use Rattle.certificate.proofs.read_leaf.Tie as tie
+use Rattle.bounds.proofs.read_leaf.Statement.{statement}
+use Rattle.bounds.proofs.read_leaf.Tie as tie
 
 slice-write-evaluated : tie.Need-slice-write-evaluated
 slice-write-evaluated c = search needs

@@ -1,4 +1,4 @@
--- `certificate::node_bounds` meets its contract: a leaf's bounds, or the best of the children's.
+-- `bounds::node_bounds` meets its contract: a leaf's bounds, or the best of the children's.
 use Prim.Native.Nat.{_+_, _<_, _≤_}
 use native.Mathlib.Omega.{arith}
 use mathlib.Core.Path.{refl, ap₂, _∙_}
@@ -6,11 +6,11 @@ use Rattle.gametree.specs.Tree.{least, greatest}
 use Rattle.frames.specs.Frame.{frames, childCount}
 use Rattle.frames.proofs.Next.{children-within}
 use Rattle.places.proofs.Places.{placed-few, placed-depth, placed-side}
-use Rattle.certificate.specs.Marks.{marked}
-use Rattle.certificate.proofs.Bounds.{bound-leaf, bound-inner}
+use Rattle.bounds.specs.Marks.{marked}
+use Rattle.bounds.proofs.Bounds.{bound-leaf, bound-inner}
 use borrow.Author.Needs.{needs}
-use Rattle.certificate.proofs.node_bounds.Statement.{statement}
-use Rattle.certificate.proofs.node_bounds.Tie as tie
+use Rattle.bounds.proofs.node_bounds.Statement.{statement}
+use Rattle.bounds.proofs.node_bounds.Tie as tie
 
 child-count-requires : tie.Need-child-count-requires
 child-count-requires c κs = search needs

@@ -9,7 +9,7 @@ use lib.Seq.{getD-set-other}
 use Rattle.lists.specs.Lists.{All, among}
 use Rattle.places.specs.Buffer.{written}
 use Rattle.places.proofs.Buffers.{written-at, written-same, put, written-set}
-use Rattle.certificate.specs.Marks.{mark, marked, markAll}
+use Rattle.bounds.specs.Marks.{mark, marked, markAll}
 
 pub markAll-append : (b v w : List ℕ) → markAll b (v ++ w) ≡ markAll (markAll b v) w
 unfolding markAll

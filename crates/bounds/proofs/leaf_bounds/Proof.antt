@@ -1,9 +1,9 @@
--- `certificate::leaf_bounds` meets its contract: only a marked leaf is read, so no mark changes.
+-- `bounds::leaf_bounds` meets its contract: only a marked leaf is read, so no mark changes.
 use mathlib.Core.Path.{refl, _∙_}
-use Rattle.certificate.proofs.Bounds.{bounds-marked, bounds-unmarked, mark-again}
+use Rattle.bounds.proofs.Bounds.{bounds-marked, bounds-unmarked, mark-again}
 use borrow.Author.Needs.{needs}
-use Rattle.certificate.proofs.leaf_bounds.Statement.{statement}
-use Rattle.certificate.proofs.leaf_bounds.Tie as tie
+use Rattle.bounds.proofs.leaf_bounds.Statement.{statement}
+use Rattle.bounds.proofs.leaf_bounds.Tie as tie
 
 slice-read-if1 : tie.Need-slice-read-if1
 slice-read-if1 c = search needs

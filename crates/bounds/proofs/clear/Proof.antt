@@ -1,12 +1,12 @@
--- `certificate::clear` meets its contract: before mark i, the first i marks are 0.
+-- `bounds::clear` meets its contract: before mark i, the first i marks are 0.
 use Prim.Native.Nat.{_≤_, _-_}
 use native.Mathlib.Omega.{arith}
 use mathlib.Core.Path.{_≡_, sym, ap, _∙_}
 use lib.ListN.{length, set}
 use Rattle.places.specs.Buffer.{written}
 use Rattle.places.proofs.Buffers.{written-none, written-next, written-length}
-use Rattle.certificate.proofs.clear.Statement.{statement}
-use Rattle.certificate.proofs.clear.Tie as tie
+use Rattle.bounds.proofs.clear.Statement.{statement}
+use Rattle.bounds.proofs.clear.Tie as tie
 
 abbrev Inv-loop : tie.InvT-loop
 Inv-loop evaluated₀ n i₀ evaluated i = (evaluated ≡ written (λ k. 0) i evaluated₀) × (i ≤ n)

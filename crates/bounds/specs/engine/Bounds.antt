@@ -5,7 +5,7 @@ use mathlib.Core.List.{List}
 use Rattle.gametree.specs.Tree.{least, greatest, minimax}
 use Rattle.gametree.specs.Bounds.{known}
 use Rattle.frames.specs.Tree.{treeAt, valuation}
-use Rattle.certificate.specs.declared.Interval.{Interval}
+use Rattle.bounds.specs.declared.Interval.{Interval}
 
 -- the bound of node k where the leaves of the set E are evaluated and each other leaf has the score x: the low bound of
 -- gametree for x = least, the high bound for x = greatest

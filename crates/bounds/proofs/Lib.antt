@@ -1,0 +1,5 @@
+-- The lemmas on marks and bounds, grouped by idea.
+pub mod Marking
+pub mod BottomUp
+pub mod Ranges
+pub mod Bounds
