@@ -16,10 +16,11 @@ use Rattle.frames.specs.Place.{parentOf, sideOf}
 use Rattle.frames.specs.Tree.{tree, valuation}
 use Rattle.frames.specs.Check.{rejection, Accepted}
 use Rattle.frames.proofs.Places.{place-root}
-use Rattle.graft.specs.Sources.{graftSize, sources}
+use Rattle.graftable.specs.Questions.{graftSize, graftRejection}
+use Rattle.graft.specs.Sources.{sources}
 use Rattle.graft.specs.Table.{graftTable}
-use Rattle.graft.specs.Graftable.{MaxLeaf, Graftable}
-use Rattle.graft.specs.Outcome.{graftRejection, graftOutcome}
+use Rattle.graftable.specs.Graftable.{MaxLeaf, Graftable}
+use Rattle.graft.specs.Outcome.{graftOutcome}
 use Rattle.graft.specs.results.Grafted.{graftTree, graftValue, handed}
 use Rattle.graft.proofs.Acceptance.{accepted-graftable}
 use Rattle.graft.proofs.Grafting.{leaf-other, graft-keeps, graft-first, graft-second, graft-no-leaf, graft-too-large}

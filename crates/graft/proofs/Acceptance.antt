@@ -13,9 +13,10 @@ use Rattle.frames.specs.Check.{Accepted}
 use Rattle.frames.proofs.Next.{child-within}
 use Rattle.frames.proofs.Parents.{top-down}
 use Rattle.frames.proofs.Acceptance.{accepted-stated, stated-accepted}
-use Rattle.graft.specs.Sources.{replaced, graftSize, sources}
+use Rattle.graftable.specs.Questions.{graftSize}
+use Rattle.graft.specs.Sources.{replaced, sources}
 use Rattle.graft.specs.Table.{graftTable}
-use Rattle.graft.specs.Graftable.{MaxLeaf, Graftable}
+use Rattle.graftable.specs.Graftable.{MaxLeaf, Graftable}
 use Rattle.graft.proofs.Joined.{source-cases}
 use Rattle.graft.proofs.Sources.{Fitting, fitting, Source, placeAt, firstIn, countIn, first-stated, first-formed}
 use Rattle.graft.proofs.Sources.{second-formed, graft-some, place-first, place-second, first-first}

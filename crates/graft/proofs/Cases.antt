@@ -11,7 +11,8 @@ use Rattle.frames.specs.Check.{framesRejection, rejection, Accepted}
 use Rattle.frames.specs.results.Cases.{leaves, chain, small}
 use Rattle.graft.specs.Sources.{replaced, base, childSources, breadthFirst}
 use Rattle.graft.specs.Table.{frameAt, laid}
-use Rattle.graft.specs.Outcome.{deepest, graftOutcome}
+use Rattle.graftable.specs.Questions.{deepest}
+use Rattle.graft.specs.Outcome.{graftOutcome}
 use Rattle.graft.specs.results.Grafted.{valuationFrom, graftValue}
 use Rattle.graft.specs.results.Cases.{pair, chainTo, buffer, given, refused, far, values}
 use Rattle.graft.proofs.Grafting.{graft-keeps, graft-no-leaf}

@@ -16,7 +16,8 @@ use Rattle.frames.proofs.Next.{child-within}
 use Rattle.frames.proofs.Parents.{top-down}
 use Rattle.frames.proofs.Places.{place-root, place-child}
 use Rattle.frames.proofs.Acceptance.{stated-formed}
-use Rattle.graft.specs.Sources.{replaced, childSources, breadthFirst, known, graftSize, sources}
+use Rattle.graftable.specs.Questions.{graftSize}
+use Rattle.graft.specs.Sources.{replaced, childSources, breadthFirst, known, sources}
 use Rattle.graft.specs.Table.{firstNumber, sourceAt, frameAt, laid, graftTable}
 use Rattle.graft.proofs.Listing.{list-kept, list-child}
 use Rattle.graft.proofs.Nodes.{length-up, up-at}

@@ -7,8 +7,7 @@ pub mod Sources
 pub mod Laid
 pub mod Acceptance
 pub mod Result
-pub mod Heights
-pub mod Questions
+pub mod Outcomes
 pub mod Writing
 pub mod Grafting
 pub mod Cases

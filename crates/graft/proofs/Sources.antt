@@ -23,8 +23,9 @@ use Rattle.frames.proofs.Next.{child-within}
 use Rattle.frames.proofs.Acceptance.{accepted-stated, accepted-formed}
 use Rattle.frames.proofs.Places.{place-root, place-child}
 use Rattle.frames.proofs.Trees.{tree-node, tree-leaf, node-same}
-use Rattle.graft.specs.Sources.{replaced, base, childSources, known, graftSize, sources}
-use Rattle.graft.specs.Graftable.{MaxLeaf, Graftable}
+use Rattle.graftable.specs.Questions.{graftSize}
+use Rattle.graft.specs.Sources.{replaced, base, childSources, known, sources}
+use Rattle.graftable.specs.Graftable.{MaxLeaf, Graftable}
 use Rattle.graft.specs.results.Grafted.{graftTree}
 use Rattle.graft.proofs.Sizes.{graft-size}
 use Rattle.graft.proofs.Listing.{Weighs, waits, kind, list-all}

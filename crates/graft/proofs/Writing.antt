@@ -12,7 +12,8 @@ use lib.Seq.{sets, sets-eq, length-sets, take-at, drop-append-add, drop-drop}
 use Rattle.frames.specs.Frame.{frameSize, frames, firstChild, childCount}
 use Rattle.places.specs.Buffer.{stored}
 use Rattle.places.proofs.TopDown.{Filled, filled-root, filled-at, filled-step, visit-within}
-use Rattle.graft.specs.Sources.{replaced, base, graftSize, sources}
+use Rattle.graftable.specs.Questions.{graftSize}
+use Rattle.graft.specs.Sources.{replaced, base, sources}
 use Rattle.graft.specs.Table.{firstNumber, renumbered, frameAt, laid, graftTable}
 use Rattle.graft.proofs.Sources.{Fitting, first-stated, second-stated, firstIn, countIn}
 use Rattle.graft.proofs.Laid.{laid-length, frame-length, result-frames, result-formed, result-next}

@@ -2,5 +2,4 @@
 pub mod Sources
 pub mod Table
 pub mod Outcome
-pub mod Graftable
 pub mod results

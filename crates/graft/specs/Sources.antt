@@ -1,12 +1,13 @@
 -- The nodes of a grafted tree, by where they come from: a source is the number of a node in the first table followed by
 -- the second, so the second's numbers begin at the number of the first's frames.
-use Prim.Native.Nat.{ℕ, zero, suc, _+_, _-_}
+use Prim.Native.Nat.{ℕ, zero, suc, _+_}
 use mathlib.Core.Bool.{cond}
 use mathlib.Core.List.{List, [], _∷_, _++_, map}
 use lib.Dec.{ltb, eqb}
 use lib.ListN.{getD}
 use Rattle.frames.specs.Frame.{frames, firstChild, childCount}
 use Rattle.frames.specs.Tree.{upFrom}
+use Rattle.graftable.specs.Questions.{graftSize}
 
 -- the second table's root for the leaf k of the first, every other source as it is
 unfoldable pub replaced : (t : List ℕ) (k : ℕ) → ℕ → ℕ
@@ -30,10 +31,6 @@ breadthFirst children root (suc i) =
 -- the sources that are known after i nodes of the grafted tree
 abbrev pub known : (t : List ℕ) (k : ℕ) (u : List ℕ) → ℕ → List ℕ
 known t k u i = breadthFirst (childSources t k u) (replaced t k 0) i
-
--- the number of nodes of the grafted tree: those of both, without the leaf
-abbrev pub graftSize : (t u : List ℕ) → ℕ
-graftSize t u = frames t + frames u - 1
 
 -- the sources of the grafted tree's nodes, in breadth-first order
 abbrev pub sources : (t : List ℕ) (k : ℕ) (u : List ℕ) → List ℕ

@@ -2,7 +2,7 @@
 use native.Mathlib.Omega.{arith}
 use mathlib.Core.Path.{sym, ap, _∙_}
 use borrow.Author.Needs.{needs}
-use Rattle.graft.proofs.Questions.{nodes-graftable, graft-written, graft-rejected}
+use Rattle.graft.proofs.Outcomes.{nodes-graftable, graft-written, graft-rejected}
 use Rattle.graft.proofs.graft.Statement.{statement}
 use Rattle.graft.proofs.graft.Tie as tie
 

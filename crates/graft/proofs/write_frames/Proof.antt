@@ -9,7 +9,7 @@ use borrow.Author.Needs.{needs}
 use Rattle.places.specs.Buffer.{stored}
 use Rattle.frames.specs.Frame.{frameSize, maxNodes, frames}
 use Rattle.frames.proofs.Acceptance.{accepted-formed}
-use Rattle.graft.specs.Sources.{graftSize}
+use Rattle.graftable.specs.Questions.{graftSize}
 use Rattle.graft.proofs.Sources.{fitting, graft-some}
 use Rattle.graft.proofs.Laid.{result-frames}
 use Rattle.graft.proofs.Writing.{Writing, writing-begins, writing-inside, writing-within, writing-step}

@@ -1,13 +1,13 @@
--- `graft::height` meets its contract: the depth that it reads is the last node's.
+-- `graftable::height` meets its contract: the depth that it reads is the last node's.
 use Prim.Native.Nat.{_-_}
 use native.Mathlib.Omega.{arith}
 use mathlib.Core.Path.{ap, _∙_}
 use borrow.Author.Needs.{needs}
 use Rattle.frames.specs.Place.{depthOf}
 use Rattle.places.proofs.Places.{placed, placed-depth}
-use Rattle.graft.proofs.Heights.{last-deepest}
-use Rattle.graft.proofs.height.Statement.{statement}
-use Rattle.graft.proofs.height.Tie as tie
+use Rattle.graftable.proofs.Heights.{last-deepest}
+use Rattle.graftable.proofs.height.Statement.{statement}
+use Rattle.graftable.proofs.height.Tie as tie
 
 slice-aggregate-fill : tie.Need-slice-aggregate-fill
 slice-aggregate-fill c = search needs

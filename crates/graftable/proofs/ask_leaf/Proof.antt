@@ -1,4 +1,4 @@
--- `graft::ask_leaf` meets its contract: one law for each of its returns.
+-- `graftable::ask_leaf` meets its contract: one law for each of its returns.
 use Prim.Native.Nat.{ℕ, _+_, _-_}
 use native.Mathlib.Omega.{arith}
 use mathlib.Core.Path.{_≡_, sym, ap, _∙_}
@@ -11,11 +11,11 @@ use Rattle.frames.specs.Frame.{frames}
 use Rattle.frames.specs.Place.{depthOf}
 use Rattle.frames.specs.Rejection.{answer}
 use Rattle.places.proofs.Places.{placed, placed-depth}
-use Rattle.graft.specs.Sources.{graftSize}
-use Rattle.graft.specs.Outcome.{isMaxLeaf, deepest}
-use Rattle.graft.proofs.Questions.{max-leaf, no-leaf, too-many, too-deep, too-short, all-right}
-use Rattle.graft.proofs.ask_leaf.Statement.{statement}
-use Rattle.graft.proofs.ask_leaf.Tie as tie
+use Rattle.graftable.specs.Questions.{graftSize}
+use Rattle.graftable.specs.Questions.{isMaxLeaf, deepest}
+use Rattle.graftable.proofs.Questions.{max-leaf, no-leaf, too-many, too-deep, too-short, all-right}
+use Rattle.graftable.proofs.ask_leaf.Statement.{statement}
+use Rattle.graftable.proofs.ask_leaf.Tie as tie
 
 -- the way back to the start, and the tables and the node there
 abbrev at-start : tie.After-is-max-leaf → tie.Start

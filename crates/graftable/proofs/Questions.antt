@@ -4,30 +4,23 @@ use native.Mathlib.Omega.{arith}
 use mathlib.Core.Path.{_≡_, refl, sym, ap, _∙_}
 use mathlib.Core.Bool.{true, false, _&&_}
 use mathlib.Core.Option.{none, some}
-use mathlib.Core.List.{List, _++_}
+use mathlib.Core.List.{List}
 use lib.Dec.{ltb, leb, eqb}
-use lib.ListN.{length, drop}
 use borrow.Author.Tests.{lt-ltb, le-ltb, le-leb, lt-leb, eq-eqb, ne-eqb, ltb-true, leb-true, eqb-true}
 use Rattle.lists.proofs.Choice.{and-both, true-not-false}
 use Rattle.gametree.specs.declared.Side.{Side}
 use Rattle.gametree.specs.declared.Side.the-variants.{Max, Min}
 use Rattle.gametree.specs.Certificate.{same}
 use Rattle.frames.specs.declared.Rejection.{Rejection}
-use Rattle.frames.specs.declared.Checked.{Checked}
-use Rattle.frames.specs.declared.Checked.the-variants.{Nodes, Rejected}
 use Rattle.frames.specs.Frame.{frameSize, maxNodes, maxDepth, frames, childCount}
 use Rattle.frames.specs.Place.{depthOf, sideOf}
-use Rattle.frames.specs.Rejection.{answer}
 use Rattle.frames.specs.Check.{rejection, Accepted}
 use Rattle.frames.proofs.Stated.{ask-yes, both-passed}
-use Rattle.frames.proofs.Asked.{answer-nodes, answer-rejected}
 use Rattle.frames.proofs.Acceptance.{accepted-formed}
-use Rattle.graft.specs.Sources.{graftSize}
-use Rattle.graft.specs.Table.{graftTable}
-use Rattle.graft.specs.Graftable.{MaxLeaf, Graftable}
-use Rattle.graft.specs.Outcome.{isMaxLeaf, deepest, check17, check18, graftCheck10, leafRejection}
-use Rattle.graft.specs.Outcome.{graftRejection, graftOutcome}
-use Rattle.graft.proofs.Heights.{deepest-at, deepest-most}
+use Rattle.graftable.specs.Questions.{graftSize, isMaxLeaf, deepest, check17, check18, graftCheck10}
+use Rattle.graftable.specs.Questions.{leafRejection, graftRejection}
+use Rattle.graftable.specs.Graftable.{MaxLeaf, Graftable}
+use Rattle.graftable.proofs.Heights.{deepest-at, deepest-most}
 
 same-max : (s : Side) → same s Max ≡ true → s ≡ Max
 same-max Max e = refl
@@ -134,24 +127,3 @@ module _ (t : List ℕ) (k : ℕ) (u : List ℕ) (room : ℕ) where
         arith,
         deepest-most u (maxDepth - depthOf t k) (frames u) (λ v l. omega (arith, g .shallow v l)),
       )
-
--- the outcome of a call: what is written where there are nodes, and the buffer as it was where there is a rejection
-module _ (t : List ℕ) (k : ℕ) (u b : List ℕ) where
-  abbrev pub asked : Checked
-  asked = answer (graftSize t u) (graftRejection t k u (length b))
-
-  pub nodes-graftable : (n : ℕ) → Nodes n ≡ asked
-      → (n ≡ graftSize t u) × Graftable t k u × (frameSize * graftSize t u ≤ length b)
-  nodes-graftable n e =
-      let p = answer-nodes (graftSize t u) n (graftRejection t k u (length b)) e in
-      let g = passed-graftable t k u (length b) (p .0) in
-      (p .1, g .0, g .1)
-
-  pub graft-written : (n : ℕ) (b′ : List ℕ) → Nodes n ≡ asked → b′ ≡ graftTable t k u ++ drop (frameSize * n) b
-      → record { answer = Nodes n; result = b′ } ≡ graftOutcome t k u b
-  graft-written n b′ e f =
-      let p = answer-nodes (graftSize t u) n (graftRejection t k u (length b)) e in rw (p .0, f, p .1)
-
-  pub graft-rejected : (r : Rejection) → Rejected r ≡ asked
-      → record { answer = Rejected r; result = b } ≡ graftOutcome t k u b
-  graft-rejected r e = rw (answer-rejected (graftSize t u) r (graftRejection t k u (length b)) e)

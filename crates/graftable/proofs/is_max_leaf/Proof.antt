@@ -1,4 +1,4 @@
--- `graft::is_max_leaf` meets its contract: one case for each of its returns.
+-- `graftable::is_max_leaf` meets its contract: one case for each of its returns.
 use Prim.Native.Nat.{_<_}
 use native.Mathlib.Omega.{arith}
 use mathlib.Core.Path.{ap, _∙_}
@@ -7,9 +7,9 @@ use Rattle.gametree.specs.declared.Side.the-variants.{Max}
 use Rattle.gametree.specs.Certificate.{same}
 use Rattle.frames.specs.Frame.{frames}
 use Rattle.places.proofs.Places.{placed-side}
-use Rattle.graft.proofs.Questions.{not-inside, not-childless, leaf-test}
-use Rattle.graft.proofs.is_max_leaf.Statement.{statement}
-use Rattle.graft.proofs.is_max_leaf.Tie as tie
+use Rattle.graftable.proofs.Questions.{not-inside, not-childless, leaf-test}
+use Rattle.graftable.proofs.is_max_leaf.Statement.{statement}
+use Rattle.graftable.proofs.is_max_leaf.Tie as tie
 
 frame-count-requires : tie.Need-frame-count-requires
 frame-count-requires c κs = search needs

@@ -6,7 +6,7 @@ use Rattle.gametree.specs.declared.Side.the-variants.{Max}
 use Rattle.frames.specs.Frame.{maxNodes, maxDepth, frames, childCount}
 use Rattle.frames.specs.Place.{depthOf, sideOf}
 use Rattle.frames.specs.Check.{Accepted}
-use Rattle.graft.specs.Sources.{graftSize}
+use Rattle.graftable.specs.Questions.{graftSize}
 
 -- node k of the table is a leaf with Max to move
 pub record MaxLeaf (t : List ℕ) (k : ℕ) : Type 0 where

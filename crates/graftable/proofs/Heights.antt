@@ -11,7 +11,7 @@ use Rattle.frames.specs.Formed.{WellFormed}
 use Rattle.frames.proofs.Next.{next-mono, child-next}
 use Rattle.frames.proofs.Parents.{parent-less, parent-child}
 use Rattle.frames.proofs.Places.{place-root, depth-child}
-use Rattle.graft.specs.Outcome.{deepest}
+use Rattle.graftable.specs.Questions.{deepest}
 
 -- no node is deeper
 pub deepest-at : (t : List ℕ) (v n : ℕ) → v < n → depthOf t v ≤ deepest t n

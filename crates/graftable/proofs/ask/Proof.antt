@@ -1,11 +1,11 @@
--- `graft::ask` meets its contract: the first table's rejection, the second's, or what 17, 18 and 10 answer.
+-- `graftable::ask` meets its contract: the first table's rejection, the second's, or what 17, 18 and 10 answer.
 use mathlib.Core.Path.{sym, ap, _∙_}
 use borrow.Author.Needs.{needs}
 use Rattle.frames.specs.Rejection.{answer}
 use Rattle.frames.proofs.Acceptance.{accepted-formed, nodes-accepted, rejected-first}
-use Rattle.graft.proofs.Questions.{first-refused, second-refused, both-accepted}
-use Rattle.graft.proofs.ask.Statement.{statement}
-use Rattle.graft.proofs.ask.Tie as tie
+use Rattle.graftable.proofs.Questions.{first-refused, second-refused, both-accepted}
+use Rattle.graftable.proofs.ask.Statement.{statement}
+use Rattle.graftable.proofs.ask.Tie as tie
 
 check-requires : tie.Need-check-requires
 check-requires c κs = search needs

@@ -1,0 +1,3 @@
+-- The lemmas on a graft's questions.
+pub mod Heights
+pub mod Questions

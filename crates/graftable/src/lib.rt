@@ -1,0 +1,104 @@
+// The questions of a graft: may the tree of a second table stand in the place of a leaf of a first?
+use frames::Checked;
+use frames::FRAME_SIZE;
+use frames::MAX_DEPTH;
+use frames::MAX_NODES;
+use frames::SHORT_BUFFER;
+use frames::check;
+use frames::child_count;
+use frames::frame_count;
+use frames::rejected;
+use gametree::Side;
+use places::depth_at;
+use places::fill;
+use places::side_at;
+ghost use mathlib.Core.Path.{_≡_};
+ghost use Prim.Native.Nat.{_<_};
+ghost use Rattle.gametree.specs.declared.Side.the-variants.{Max};
+ghost use Rattle.gametree.specs.Certificate.{same};
+ghost use Rattle.frames.specs.Frame.{maxNodes, frames};
+ghost use Rattle.frames.specs.Formed.{WellFormed};
+ghost use Rattle.frames.specs.Rejection.{answer};
+ghost use Rattle.places.specs.engine.Places.{Placed};
+ghost use Rattle.graftable.specs.Questions.{graftSize, isMaxLeaf, deepest, leafRejection, graftRejection};
+
+// The numbers of the questions about a graft, by what a "no" means (SPEC 4.2).
+pub const NO_MAX_LEAF: u8 = 17;
+
+pub const TOO_LARGE: u8 = 18;
+
+// All questions, for a buffer of this length: the number of nodes of the result, or the first rejection.
+pub fn ask(first: &[u8], node: usize, second: &[u8], room: usize) -> Checked
+    ensures { λ r. ⌜ r ≡ answer (graftSize (now (first .entry)) (now (second .entry)))
+        (graftRejection (now (first .entry)) node (now (second .entry)) room) ⌝ }
+{
+    let checked = check(first);
+    let Checked::Nodes(_) = checked else {
+        return checked;
+    };
+    let checked_second = check(second);
+    let Checked::Nodes(_) = checked_second else {
+        return checked_second;
+    };
+    ask_leaf(first, node, second, room)
+}
+
+// Questions 17, 18 and 10.
+fn ask_leaf(first: &[u8], node: usize, second: &[u8], room: usize) -> Checked
+    requires { ⌜ WellFormed (now first) × WellFormed (now second) ⌝ }
+    ensures { λ r. ⌜ r ≡ answer (graftSize (now (first .entry)) (now (second .entry)))
+        (leafRejection (now (first .entry)) node (now (second .entry)) room) ⌝ }
+{
+    let mut places = [0u32; MAX_NODES];
+    fill(first, &mut places);
+    if !is_max_leaf(first, &places, node) {
+        return rejected(NO_MAX_LEAF, node);
+    }
+    let size = frame_count(first) + frame_count(second) - 1;
+    if MAX_NODES < size {
+        return rejected(TOO_LARGE, 0);
+    }
+    let depth = depth_at(&places, node) + height(second);
+    if MAX_DEPTH < depth as usize {
+        return rejected(TOO_LARGE, 0);
+    }
+    if room < FRAME_SIZE * size {
+        return rejected(SHORT_BUFFER, 0);
+    }
+    Checked::Nodes(size)
+}
+
+// Is this node a leaf with Max to move?
+fn is_max_leaf(table: &[u8], places: &[u32], node: usize) -> bool
+    requires { ⌜ Placed (now table) (now places) ⌝ }
+    ensures { λ r. ⌜ r ≡ isMaxLeaf (now (table .entry)) node ⌝ }
+{
+    if frame_count(table) <= node {
+        return false;
+    }
+    if child_count(table, node) != 0 {
+        return false;
+    }
+    let side = side_at(places, node);
+    is_max(side)
+}
+
+// Is it Max?
+fn is_max(side: Side) -> bool
+    ensures { λ r. ⌜ r ≡ same side Max ⌝ }
+{
+    match side {
+        Side::Max => true,
+        Side::Min => false,
+    }
+}
+
+// The greatest depth of a node: in breadth-first order that of the last one.
+fn height(table: &[u8]) -> u32
+    requires { ⌜ WellFormed (now table) ⌝ }
+    ensures { λ r. ⌜ (r ≡ deepest (now (table .entry)) (frames (now (table .entry)))) × (r < maxNodes) ⌝ }
+{
+    let mut places = [0u32; MAX_NODES];
+    fill(table, &mut places);
+    depth_at(&places, frame_count(table) - 1)
+}
