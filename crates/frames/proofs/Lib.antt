@@ -13,7 +13,6 @@ pub mod Shapes
 pub mod Layouts
 pub mod Stated
 pub mod Asked
-pub mod Levels
 pub mod Acceptance
 pub mod TreeOfTable
 pub mod FirstNo

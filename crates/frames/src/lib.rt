@@ -1,20 +1,17 @@
-// Byte tables of six-byte frames: the check of a table, a node's children, and the fields of a frame.
+// Byte tables of six-byte frames: a node's children, the fields of a frame, and what is asked of one node.
 use gametree::Place;
 use gametree::Side;
 use gametree::other;
 ghost use mathlib.Core.Path.{_≡_};
-ghost use Prim.Native.Nat.{_+_, _*_, _<_, _≤_};
+ghost use Prim.Native.Nat.{_<_, _≤_};
 ghost use Rattle.gametree.specs.Tree.{greatest};
-ghost use Rattle.frames.specs.Frame.{frameSize, maxNodes, maxChildren, frames, next as nextOf, twoBytes};
+ghost use Rattle.frames.specs.Frame.{frameSize, maxNodes, frames, next as nextOf, twoBytes};
 ghost use Rattle.frames.specs.Frame.{byteOf, firstChild, childCount, byte3, valueBytes, storedScore};
 ghost use Rattle.frames.specs.Children.{childrenOf};
 ghost use Rattle.frames.specs.Place.{childSide, childPlace};
 ghost use Rattle.frames.specs.Tree.{leafScore};
 ghost use Rattle.frames.specs.Value.{valueOf};
-ghost use Rattle.frames.specs.Formed.{WellFormed};
-ghost use Rattle.frames.specs.Rejection.{answer};
-ghost use Rattle.frames.specs.Check.{byte3Right, firstChildRight, valueRight, checkNode, nodesRejection};
-ghost use Rattle.frames.specs.Check.{depthsRejection, framesRejection, checked};
+ghost use Rattle.frames.specs.Check.{byte3Right, firstChildRight, valueRight};
 
 // The limits (SPEC 3.2).
 pub const FRAME_SIZE: usize = 6;
@@ -90,23 +87,6 @@ pub enum Checked {
     Rejected(Rejection),
 }
 
-// Questions 1 to 9 in order: the number of nodes, or the first rejection.
-pub fn check(table: &[u8]) -> Checked
-    ensures { λ r. ⌜ r ≡ checked (now (table .entry)) ⌝ }
-{
-    let length = table.len();
-    if length == 0 {
-        return rejected(EMPTY, 0);
-    }
-    if MAX_TABLE < length {
-        return rejected(TOO_LONG, 0);
-    }
-    if length % FRAME_SIZE != 0 {
-        return rejected(NOT_WHOLE, length / FRAME_SIZE);
-    }
-    check_frames(table)
-}
-
 // The frames of a node's children, as a part of the table; empty on a leaf, past the last frame, and where it would
 // reach past the table.
 pub fn children(table: &[u8], node: usize) -> &[u8]
@@ -126,64 +106,8 @@ pub fn children(table: &[u8], node: usize) -> &[u8]
     }
 }
 
-// Questions 4 to 9, which concern the frames.
-pub fn check_frames(table: &[u8]) -> Checked
-    requires { ⌜ frames (now table) ≤ maxNodes ⌝ }
-    ensures { λ r. ⌜ r ≡ answer (frames (now (table .entry))) (framesRejection (now (table .entry))) ⌝ }
-{
-    let checked = check_nodes(table);
-    let Checked::Nodes(total) = checked else {
-        return checked;
-    };
-    let n = frame_count(table);
-    if total != n {
-        return rejected(WRONG_TOTAL, n);
-    }
-    check_depths(table)
-}
-
-// Questions 4 to 7, put to one node after the other: 1 plus all child counts, or the first rejection.
-fn check_nodes(table: &[u8]) -> Checked
-    requires { ⌜ frames (now table) ≤ maxNodes ⌝ }
-    ensures { λ r. ⌜ r
-        ≡ answer (nextOf (now (table .entry)) (frames (now (table .entry)))) (nodesRejection (now (table .entry))) ⌝ }
-{
-    let n = frame_count(table);
-    let mut next: usize = 1;
-    for node in 0..n {
-        let checked = check_node(table, node, next);
-        let Checked::Nodes(after) = checked else {
-            return checked;
-        };
-        next = after;
-    }
-    Checked::Nodes(next)
-}
-
-// Questions 4 to 7 of one node; `next` is 1 plus the child counts before it, and the answer 1 plus those up to it.
-fn check_node(table: &[u8], node: usize, next: usize) -> Checked
-    requires { ⌜ (node < frames (now table)) × (next ≡ nextOf (now table) node)
-        × (next ≤ 1 + maxChildren * maxNodes) ⌝ }
-    ensures { λ r. ⌜ r ≡ answer (nextOf (now (table .entry)) (node + 1)) (checkNode (now (table .entry)) node) ⌝ }
-{
-    let count = child_count(table, node);
-    if !byte_3_right(table, node) {
-        return rejected(WRONG_BYTE_3, node);
-    }
-    if MAX_CHILDREN < count {
-        return rejected(TOO_MANY_CHILDREN, node);
-    }
-    if !first_child_right(table, node, next) {
-        return rejected(WRONG_FIRST_CHILD, node);
-    }
-    if !value_right(table, node) {
-        return rejected(WRONG_VALUE, node);
-    }
-    Checked::Nodes(next + count)
-}
-
 // Question 4 of a node: is its byte 3 as it must be?
-fn byte_3_right(table: &[u8], node: usize) -> bool
+pub fn byte_3_right(table: &[u8], node: usize) -> bool
     requires { ⌜ node < frames (now table) ⌝ }
     ensures { λ r. ⌜ r ≡ byte3Right (now (table .entry)) node ⌝ }
 {
@@ -200,7 +124,7 @@ fn byte_3_right(table: &[u8], node: usize) -> bool
 }
 
 // Question 6 of a node: is its first child as it must be?
-fn first_child_right(table: &[u8], node: usize, next: usize) -> bool
+pub fn first_child_right(table: &[u8], node: usize, next: usize) -> bool
     requires { ⌜ (node < frames (now table)) × (next ≡ nextOf (now table) node) ⌝ }
     ensures { λ r. ⌜ r ≡ firstChildRight (now (table .entry)) node (childCount (now (table .entry)) node) ⌝ }
 {
@@ -215,7 +139,7 @@ fn first_child_right(table: &[u8], node: usize, next: usize) -> bool
 }
 
 // Question 7 of a node: is its value as it must be?
-fn value_right(table: &[u8], node: usize) -> bool
+pub fn value_right(table: &[u8], node: usize) -> bool
     requires { ⌜ node < frames (now table) ⌝ }
     ensures { λ r. ⌜ r ≡ valueRight (now (table .entry)) node (childCount (now (table .entry)) node) ⌝ }
 {
@@ -227,32 +151,6 @@ fn value_right(table: &[u8], node: usize) -> bool
         return false;
     }
     score < GREATEST
-}
-
-// Question 9, level by level: in a well-formed table a level ends where the children of its nodes begin. If the last
-// level begins before every node has been reached as a child, the first one that has not is too deep; once every node
-// has been reached, none is.
-fn check_depths(table: &[u8]) -> Checked
-    requires { ⌜ WellFormed (now table) ⌝ }
-    ensures { λ r. ⌜ r ≡ answer (frames (now (table .entry))) (depthsRejection (now (table .entry))) ⌝ }
-{
-    let n = frame_count(table);
-    let mut depth: usize = 0;
-    let mut end: usize = 1;
-    let mut next: usize = 1;
-    let mut node: usize = 0;
-    while next < n {
-        if node == end {
-            depth += 1;
-            if depth == MAX_DEPTH {
-                return rejected(TOO_DEEP, next);
-            }
-            end = next;
-        }
-        next += child_count(table, node);
-        node += 1;
-    }
-    Checked::Nodes(n)
 }
 
 // A rejection with its number and place.

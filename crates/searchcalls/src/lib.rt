@@ -42,7 +42,7 @@ pub fn print_checks(file: &[u8], size: u32) {
 }
 
 fn print_checks_of(table: &[u8]) {
-    print_checked(b"check", frames::check(table));
+    print_checked(b"check", tables::check(table));
     print_verdict(table, b"");
     print_all(table, 0, 0);
 }

@@ -52,7 +52,7 @@ pub enum Verdict {
 pub fn check(table: &[u8], flags: &[u8]) -> Verdict
     ensures { λ r. ⌜ r ≡ verdict (now (table .entry)) (now (flags .entry)) ⌝ }
 {
-    let checked = frames::check(table);
+    let checked = tables::check(table);
     match checked {
         Checked::Rejected(r) => Verdict::Rejected(r),
         Checked::Nodes(_) => check_certificate(table, flags),

@@ -3,9 +3,9 @@ use Prim.Native.Nat.{_-_}
 use native.Mathlib.Omega.{arith}
 use mathlib.Core.Path.{sym, _∙_}
 use borrow.Author.Needs.{needs}
 use Rattle.frames.proofs.Asked.{Asking, asking-none, asking-more, asking-until, asking-all}
-use Rattle.frames.proofs.check_nodes.Statement.{statement}
-use Rattle.frames.proofs.check_nodes.Tie as tie
+use Rattle.tables.proofs.check_nodes.Statement.{statement}
+use Rattle.tables.proofs.check_nodes.Tie as tie
 
 abbrev Inv-loop : tie.InvT-loop
 Inv-loop table n next₀ node₀ next node = Asking table node next

@@ -4,12 +4,12 @@ use native.Mathlib.Omega.{arith}
 use mathlib.Core.Path.{ap, _∙_}
 use mathlib.Core.Logic.{⊎-elim}
 use borrow.Author.Needs.{needs}
 use Rattle.frames.specs.declared.Checked.the-variants.{Nodes}
 use Rattle.frames.specs.Frame.{maxDepth, frames}
-use Rattle.frames.proofs.Levels.{Descending, descending-none, descending-more, descending-until, descending-all}
-use Rattle.frames.proofs.Levels.{Standing, visits, enters, stays, counts-within}
-use Rattle.frames.proofs.check_depths.Statement.{statement}
-use Rattle.frames.proofs.check_depths.Tie as tie
+use Rattle.tables.proofs.Levels.{Descending, descending-none, descending-more, descending-until, descending-all}
+use Rattle.tables.proofs.Levels.{Standing, visits, enters, stays, counts-within}
+use Rattle.tables.proofs.check_depths.Statement.{statement}
+use Rattle.tables.proofs.check_depths.Tie as tie
 
 abbrev Inv-loop : tie.InvT-loop
 Inv-loop table n depth₀ end₀ next₀ node₀ depth end next node = Descending table node depth end next

@@ -6,13 +6,13 @@ use mathlib.Core.List.{List}
 use lib.ListN.{length}
 use borrow.Author.Tests.{lt-ltb, le-ltb, le-leb, lt-leb, ne-eqb}
 use borrow.Author.Needs.{needs}
 use Rattle.frames.specs.Frame.{frameSize, frames, maxTable}
 use Rattle.frames.specs.Rejection.{answer}
 use Rattle.frames.specs.Check.{framesRejection, rejection, checked}
 use Rattle.frames.proofs.Asked.{refused}
 use Rattle.frames.proofs.Acceptance.{rejection-frames}
-use Rattle.frames.proofs.check.Statement.{statement}
-use Rattle.frames.proofs.check.Tie as tie
+use Rattle.tables.proofs.check.Statement.{statement}
+use Rattle.tables.proofs.check.Tie as tie
 
 module _ (t : List ℕ) where
   empty : length t ≡ 0 → refused 1 0 ≡ checked t

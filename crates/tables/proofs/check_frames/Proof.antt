@@ -5,17 +5,17 @@ use mathlib.Core.Option.{none}
 use mathlib.Core.List.{List}
 use borrow.Author.Tests.{eq-eqb, ne-eqb}
 use borrow.Author.Needs.{needs}
 use Rattle.frames.specs.declared.Rejection.{Rejection}
 use Rattle.frames.specs.declared.Checked.{Checked}
 use Rattle.frames.specs.declared.Checked.the-variants.{Nodes, Rejected}
 use Rattle.frames.specs.Frame.{maxNodes, frames, next}
 use Rattle.frames.specs.Formed.{WellFormed}
 use Rattle.frames.specs.Rejection.{answer}
 use Rattle.frames.specs.Check.{nodesRejection, depthsRejection, framesRejection}
 use Rattle.frames.proofs.Asked.{refused, answer-nodes, answer-rejected}
 use Rattle.frames.proofs.Acceptance.{all-stated, stated-formed}
-use Rattle.frames.proofs.check_frames.Statement.{statement}
-use Rattle.frames.proofs.check_frames.Tie as tie
+use Rattle.tables.proofs.check_frames.Statement.{statement}
+use Rattle.tables.proofs.check_frames.Tie as tie
 
 abbrev framesAnswer : List ℕ → Checked
 framesAnswer t = answer (frames t) (framesRejection t)

@@ -6,14 +6,14 @@ use mathlib.Core.Bool.{true, false}
 use mathlib.Core.List.{List}
 use borrow.Author.Tests.{le-leb, lt-leb, not-true, not-false}
 use borrow.Author.Needs.{needs}
 use Rattle.frames.specs.declared.Checked.the-variants.{Nodes}
 use Rattle.frames.specs.Frame.{maxChildren, childCount, next}
 use Rattle.frames.specs.Rejection.{answer}
 use Rattle.frames.specs.Check.{byte3Right, firstChildRight, valueRight, checkNode}
 use Rattle.frames.proofs.Next.{next-more}
 use Rattle.frames.proofs.Asked.{refused}
-use Rattle.frames.proofs.check_node.Statement.{statement}
-use Rattle.frames.proofs.check_node.Tie as tie
+use Rattle.tables.proofs.check_node.Statement.{statement}
+use Rattle.tables.proofs.check_node.Tie as tie
 
 module _ (t : List ℕ) (i m : ℕ) where
   no-4 : byte3Right t i ≡ false → refused 4 i ≡ answer m (checkNode t i)

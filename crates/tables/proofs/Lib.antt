@@ -1,0 +1,2 @@
+-- The lemmas on the check of a table.
+pub mod Levels
