@@ -220,7 +220,14 @@ pub fn leaf_score(table: &[u8], node: usize, depth: u32) -> u32
     requires { ⌜ (node < frames (now table)) × (depth ≤ maxNodes) ⌝ }
     ensures { λ r. ⌜ (r ≡ leafScore depth (storedScore (now (table .entry)) node)) × (r < twoBytes) ⌝ }
 {
-    let stored = stored_score(table, node);
+    score_at(stored_score(table, node), depth)
+}
+
+// The score that a stored score counts with at this depth.
+pub fn score_at(stored: u32, depth: u32) -> u32
+    requires { ⌜ (stored < twoBytes) × (depth ≤ maxNodes) ⌝ }
+    ensures { λ r. ⌜ (r ≡ leafScore depth stored) × (r < twoBytes) ⌝ }
+{
     if WON <= stored {
         return stored - depth;
     }
