@@ -132,11 +132,12 @@ static inline int child_place(const uint8_t *table, int c, int place) { return (
 static inline bool max_moves(int place) { return place % 2 == 0; }
 static inline int depth_of(int place) { return place / 2; }
 
-/* What the leaf k counts at this depth. */
-static inline int worth(const uint8_t *table, int k, int depth) {
-    int value = stored_value(table, k);
+/* What a value counts at this depth, and what the leaf k does. */
+static inline int counts(int value, int depth) {
     return value >= WIN ? value - depth : value <= -WIN ? value + depth : value;
 }
+
+static inline int worth(const uint8_t *table, int k, int depth) { return counts(stored_value(table, k), depth); }
 
 static inline int evaluate(const uint8_t *table, uint8_t *marks, int k, int depth) {
     marks[k] = 1;
@@ -573,6 +574,41 @@ struct answer c_graft(const uint8_t *first, size_t first_length, size_t node, co
                                                            : (struct source){ s.table, c, s.grafted };
     }
     return asked;
+}
+
+/* ---- a leaf's value for a wanted root value */
+
+/* The root's value where the leaf counts x. */
+static int root_value(const uint8_t *table, int n, const uint8_t *place, int16_t *value, int leaf, int x) {
+    for (int k = n - 1; k >= 0; k--) {
+        int count = child_count(table, k), c = first_child(table, k);
+        if (!count) {
+            value[k] = k == leaf ? x : worth(table, k, depth_of(place[k]));
+            continue;
+        }
+        int best = value[c];
+        for (int i = c + 1; i < c + count; i++) best = max_moves(place[k]) ? greater(best, value[i]) : lesser(best, value[i]);
+        value[k] = best;
+    }
+    return value[0];
+}
+
+struct answer c_needed(const uint8_t *table, size_t length, size_t node, int32_t wanted) {
+    uint8_t place[NODES];
+    int16_t value[NODES];
+    struct answer a = c_check(table, length);
+    if (a.refused) return a;
+    if (node >= a.count || child_count(table, node)) return no(19, node);
+    if (wanted < -VALUE || wanted > VALUE) return no(20, 0);
+    fill_places(table, a.count, place);
+    int depth = depth_of(place[node]);
+    int low = root_value(table, a.count, place, value, node, LEAST);
+    int high = root_value(table, a.count, place, value, node, GREATEST);
+    int tried[] = { -VALUE, wanted - depth, wanted, wanted + depth };
+    for (int i = 0; i < 4; i++)
+        if (tried[i] >= -VALUE && tried[i] <= VALUE && lesser(high, greater(low, counts(tried[i], depth))) == wanted)
+            return (struct answer){ .value = tried[i] };
+    return no(21, node);
 }
 
 /* ---- the program's text */

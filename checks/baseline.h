@@ -36,6 +36,7 @@ typedef struct answer allowed_call(const uint8_t *table, size_t length, uint8_t 
 typedef struct answer verify_call(const uint8_t *table, size_t length, const uint8_t *flags, size_t flags_room);
 typedef struct answer graft_call(const uint8_t *first, size_t first_length, size_t node, const uint8_t *second,
                                  size_t second_length, uint8_t *result, size_t room);
+typedef struct answer needed_call(const uint8_t *table, size_t length, size_t node, int32_t wanted);
 typedef struct text report_call(const uint8_t *file, size_t length);
 
 /* c_sss keeps its list by node number with a front of greatest merits, c_sss_list is the textbook's list, scanned at
@@ -47,5 +48,6 @@ search_call c_alphabeta, c_plain, c_mtd, c_sss, c_sss_list;
 allowed_call c_allowed, c_allowed_list;
 verify_call c_verify;
 graft_call c_graft;
+needed_call c_needed;
 report_call c_report;
 #endif

@@ -19,12 +19,13 @@ check_call rattle_check;
 search_call rattle_alphabeta, rattle_plain, rattle_mtd, rattle_sss;
 verify_call rattle_verify;
 graft_call rattle_graft;
+needed_call rattle_needed;
 report_call rattle_report;
 
-enum call { READ, WRITE, CONVERT, CHECK, ALPHABETA, PLAIN, MTD, SSS, VERIFY, GRAFT, REPORT, CALLS };
+enum call { READ, WRITE, CONVERT, CHECK, ALPHABETA, PLAIN, MTD, SSS, VERIFY, GRAFT, NEEDED, REPORT, CALLS };
 
 static const char *const call_names[] = {
-    "read", "write", "convert", "check", "alphabeta", "plain", "mtd", "sss", "verify", "graft", "report"
+    "read", "write", "convert", "check", "alphabeta", "plain", "mtd", "sss", "verify", "graft", "needed", "report"
 };
 
 static const struct side {
@@ -36,18 +37,22 @@ static const struct side {
     search_call *searches[4];
     verify_call *verify;
     graft_call *graft;
+    needed_call *needed;
     report_call *report;
 } sides[] = {
     { "rattle", rattle_read, rattle_write, rattle_convert, rattle_check,
-      { rattle_alphabeta, rattle_plain, rattle_mtd, rattle_sss }, rattle_verify, rattle_graft, rattle_report },
-    { "c", c_read, c_write, c_convert, c_check, { c_alphabeta, c_plain, c_mtd, c_sss }, c_verify, c_graft, c_report },
+      { rattle_alphabeta, rattle_plain, rattle_mtd, rattle_sss }, rattle_verify, rattle_graft, rattle_needed,
+      rattle_report },
+    { "c", c_read, c_write, c_convert, c_check, { c_alphabeta, c_plain, c_mtd, c_sss }, c_verify, c_graft, c_needed,
+      c_report },
 };
 
 /* What buffers are filled with; for how many runs and nanoseconds a call is timed, and for how long between two looks
    at the clock. */
 enum { SIDES = sizeof sides / sizeof *sides, FILLED = 170, LEAST_RUNS = 20, LONG_ENOUGH = 100000000, BETWEEN = 30000 };
 
-/* What a call is given, and what it may write; the tree is grafted at a lone leaf. */
+/* What a call is given, and what it may write; the tree is grafted at a lone leaf, and 0 is wanted of its
+   last leaf. */
 static const uint8_t lone_leaf[FRAME] = { 0 };
 static uint8_t file[FILE_BYTES], table[TABLE_BYTES], flags[NODES];
 static size_t file_length, nodes;
@@ -64,6 +69,7 @@ static struct answer perform(const struct side *s, enum call call, struct lent *
     case CHECK: return s->check(table, FRAME * nodes);
     case VERIFY: return s->verify(table, FRAME * nodes, flags, nodes);
     case GRAFT: return s->graft(lone_leaf, FRAME, 0, table, FRAME * nodes, l->table, sizeof l->table);
+    case NEEDED: return s->needed(table, FRAME * nodes, nodes - 1, 0);
     case REPORT: l->text = s->report(file, file_length); return (struct answer){ 0 };
     default: return s->searches[call - ALPHABETA](table, FRAME * nodes, l->marks, NODES, l->proof, NODES);
     }

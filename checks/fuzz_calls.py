@@ -1,7 +1,7 @@
 #!/usr/bin/env python3
 """Runs a compiled `cases` on generated calls over lent memory and compares with oracle.py: marks, certificates, passes, replacements,
-allowances, verdicts on right and on damaged flags, short buffers, parts of tables, written files, grafts, lines and
-children.
+allowances, verdicts on right and on damaged flags, short buffers, parts of tables, written files, grafts, values for a
+wanted root value, lines and children.
 
     fuzz_calls.py PROGRAM [--runs N] [--seed S]     N inputs of up to 65,000 bytes each (default 40)
 """
@@ -45,11 +45,19 @@ def graft_of(rng, first, second):
     return node, rng.choice((most, most, most + 9, most - 1, 0)), (size(first), size(second))
 
 
+def wanted_of(rng, table):
+    """A node, mostly a leaf, and a wanted value: near the root's, near a border or a limit, or any."""
+    tree = o.Tree(table)
+    node = rng.choice(tree.leaves()) if rng.random() < 0.9 else rng.choice((rng.randrange(tree.n), tree.n, 9999999))
+    about = rng.choice((tree.minimax()[0],) * 3 + (0, o.WIN, -o.WIN, o.MAX_VALUE, -o.MAX_VALUE, rng.randint(-33000, 33000)))
+    return node, about + rng.choice((0, 0, rng.randint(-2, 2), rng.randint(-20, 20)))
+
+
 def call(rng):
     """A file, a call and the lines that it prints."""
     table = bytes(fuzz.good_table(rng, rng.choice((7, 12, 30, 60))))
     file, n = o.file_of(table), len(table) // 6
-    kind = rng.randrange(11)
+    kind = rng.randrange(12)
     if kind <= 2:
         marks, flags = (rng.choice((n, n, n, n + 1, n + 9, n - 1, 0)) for _ in range(2))
         return file, "buffers %d %d" % (marks, flags), m.searches(table, marks, flags)
@@ -78,6 +86,11 @@ def call(rng):
         node, room, sizes = graft_of(rng, table, second)
         parts = [(t + bytes(m.TABLE_SIZE - len(t)))[:size] for t, size in zip((table, second), sizes)]
         return file + o.file_of(second), "graft %d %d %d %d %d" % (n, node, room, *sizes), m.grafted(parts[0], node, parts[1], room)
+    if kind == 10:
+        size = rng.choice((6 * n,) * 12 + (6 * n - 1, 6 * n + 6, rng.randrange(6 * n + 1)))
+        node, wanted = wanted_of(rng, table)
+        part = (table + bytes(m.TABLE_SIZE - len(table)))[:size]
+        return file, "value %d %d %d %d" % (size, node, *m.difference(wanted)), m.needed(part, node, wanted)
     if rng.random() < 0.5:
         file, at = rng.choice((file, file[:-1], fuzz.other_byte(rng, file))), rng.choice((13 * rng.randrange(n + 1), rng.randrange(13 * n + 3)))
         if set(b"#@") & set(file):

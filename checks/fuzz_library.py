@@ -160,13 +160,28 @@ def random_graft(rng, table):
     yield from grafted(table, node, second, room)
 
 
+def needed(table, node, wanted):
+    """The smallest value of a leaf; and, where there is one, the value of the tree that holds it."""
+    r = o.least_value(table, node, wanted)
+    yield "needed", (table, node, wanted), flat(r, value=r), (table,)
+    if not isinstance(r, o.Refusal):
+        held = bytearray(table)
+        held[6 * node + 4:6 * node + 6] = (r & 65535).to_bytes(2, "big")
+        n = len(table) // 6
+        yield from searches(held, n, n)
+
+
+def random_needed(rng, table):
+    yield from needed(table, *((0, 7) if o.table_no(table) else fuzz_calls.wanted_of(rng, table)))
+
+
 # Max moves twice, and at the leaves there are a value just below a win and a win
 SECOND = o.table_of_nest([(30990, 31000), 7])
 
 
 def small_trees():
     """Every tree of up to 6 nodes with every set of second captures, with leaves 0, 1, 2, and with leaves around the border of a win;
-    of those of up to 4 nodes, grafts at each node."""
+    of those of up to 4 nodes, grafts and a wanted value at each node."""
     for table in selfcheck.small_tables(6):
         n = len(table) // 6
         yield from searches(table, n, n)
@@ -180,6 +195,7 @@ def small_trees():
         if n <= 4:
             for node in range(n + 1):
                 yield from grafted(table, node, SECOND, 6 * (n + 4))
+                yield from needed(table, node, 1)
 
 
 def random_calls(rng):
@@ -201,6 +217,8 @@ def random_calls(rng):
     yield from verified(table, bytes(rng.choice((0, 1, 2, 3)) for _ in range(size())))
     yield from written(table, rng.choice((13 * n, 13 * n, 13 * n + 1, 13 * n + 40, max(13 * n - 1, 0), 12 * n, 0)))
     yield from random_graft(rng, table)
+    if rng.random() < 0.2:
+        yield from random_needed(rng, table)
     file = fuzz.damaged(rng, 60)[1] if kind < 3 else fuzz.as_file(rng, table)
     room = rng.choice((6 * n, 6 * n, 6 * n + 7, 6 * n - 1, 0, o.MAX_TABLE))
     yield from reports(file, room)

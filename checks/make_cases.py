@@ -466,6 +466,50 @@ def graft_cases():
         add("graft: " + title, ROW + pair, "graft 7 %d 0 %d %d" % (node, first_size, second_size), got)
 
 
+def needed(table, node, wanted):
+    """The smallest value of a leaf for a wanted root value."""
+    return "value %s\n" % answered(o.least_value(table, node, wanted))
+
+
+def difference(number):
+    """A number as two that are not negative."""
+    return (max(number, 0), max(-number, 0))
+
+
+def wanted_cases():
+    """02, N10: questions 1 to 9, 19, 20 and 21, and the values around the borders of losses and wins."""
+    one, deep, depth = tree_file(chain(1, 0)), tree_file(chain(18, 0)), o.MAX_DEPTH
+    pair, settled = tree_file([5, 0]), tree_file([5, [3, 0]])
+    capped, floored = tree_file([[chain(16, 0), -30985]]), tree_file([chain(17, 0), -31986])
+    below = lambda file: len(file) // 13 - 1
+    for title, file, node, wanted, want in (
+            ("a lone leaf", LEAF, 0, 7, 7), ("a lone leaf, the least value", LEAF, 0, -32000, -32000),
+            ("a loss one ply away", one, 1, -30999, -31000), ("above the losses", one, 1, -30998, -30998),
+            ("a win one ply away", one, 1, 31000, 31001), ("no loss is worth so little", one, 1, -32000, "refused 21 1"),
+            ("no win is worth so much", one, 1, 32000, "refused 21 1"),
+            ("a loss at depth 18", deep, depth, -30990, -31008), ("the last loss at depth 18", deep, depth, -30982, -31000),
+            ("above it", deep, depth, -30981, -30981), ("a win at depth 18", deep, depth, 31982, 32000),
+            ("no win at depth 18", deep, depth, 31983, "refused 21 18"), ("far above", deep, depth, 31990, "refused 21 18"),
+            ("at the upper bound", capped, below(capped), -30985, -31003), ("above the upper bound", capped, below(capped), -30984, "refused 21 19"),
+            ("below what -32,000 is worth", floored, below(floored), -31985, "refused 21 19"),
+            ("what -32,000 is worth", floored, below(floored), -31982, -32000),
+            ("below the other choice", pair, 2, 4, "refused 21 2"), ("at the other choice", pair, 2, 5, -32000),
+            ("above the other choice", pair, 2, 6, 6), ("settled", settled, 4, 5, -32000), ("settled otherwise", settled, 4, 3, "refused 21 4"),
+            ("Max moves twice", tree_file([(5, 6)]), 2, 6, -32000), ("the first row", ROW, 4, 3, -32000), ("the first row's other move", ROW, 5, 1, -32000),
+            ("no such node", ROW, 9999999, 3, "refused 19 9999999"), ("an inner node", ROW, 2, 3, "refused 19 2"),
+            ("19 before 20", ROW, 7, 40000, "refused 19 7"), ("too much", ROW, 3, 32001, "refused 20 0"),
+            ("too little", ROW, 3, -32001, "refused 20 0"), ("20 before 21", LEAF, 0, 40000, "refused 20 0")):
+        table = table_of_file(file)
+        got = needed(table, node, wanted)
+        assert got == "value %s\n" % want, (title, got)
+        add("wanted: " + title, file, "value %d %d %d %d" % (len(table), node, *difference(wanted)), got)
+    for title, size, want in (("no table", 0, "refused 1 0"), ("too many frames", 24582, "refused 2 0"),
+                              ("a byte left over", 43, "refused 3 7"), ("a leaf too many", 48, "refused 8 8")):
+        got = needed(longer(ROW, size), 9, 40000)
+        assert got == "value %s\n" % want, (title, got)
+        add("wanted: " + title, ROW, "value %d 9 40000 0" % size, got)
+
+
 def service_cases():
     """One line, and the children of a node."""
     for title, file, at in (("first line", ROW, 0), ("second line", ROW, 13), ("last line", ROW, 78),
@@ -486,7 +530,7 @@ def service_cases():
 def main():
     directory = sys.argv[1] if len(sys.argv) > 1 else os.path.join(os.path.dirname(HERE), "crates", "cases")
     for part in (made_trees, made_grafts, files_of_01, rows_of_002, rejected_files, accepted_files, wins_and_losses, second_captures,
-                 flags_cases, buffer_cases, allowance_cases, table_cases, reader_cases, writer_cases, graft_cases, service_cases):
+                 flags_cases, buffer_cases, allowance_cases, table_cases, reader_cases, writer_cases, graft_cases, wanted_cases, service_cases):
         part()
     assert len(stdin) < 65536
     for name, data in (("stdin", stdin), ("stdout", made + asked)):

@@ -554,6 +554,37 @@ def graft(first, node, second, result):
     return len(table) // 6
 
 
+def least_values(tree, leaf):
+    """Each value that the root can have, with the smallest value of the leaf that gives it: all values are tried."""
+    value, path, k = tree.minimax(), [], leaf
+    while k:
+        k, below = tree.parent[k], k
+        best = max if tree.is_max[k] else min
+        others = [value[c] for c in tree.kids[k] if c != below]
+        if others:
+            path.append((best, best(others)))
+    least = {}
+    for v in range(-MAX_VALUE, MAX_VALUE + 1):
+        root = worth(tree.depth[leaf], v)
+        for best, others in path:
+            root = best(root, others)
+        least.setdefault(root, v)
+    return least
+
+
+def least_value(table, node, wanted):
+    """Questions 1 to 9, 19, 20, 21; the smallest value of the leaf that gives the root the wanted one (02, N10)."""
+    no = table_no(table)
+    if no:
+        return no
+    tree = Tree(table)
+    if node >= tree.n or tree.kids[node]:
+        return Refusal(19, node)
+    if abs(wanted) > MAX_VALUE:
+        return Refusal(20, 0)
+    return least_values(tree, node).get(wanted, Refusal(21, node))
+
+
 def write_marks(tree, order, marks):
     valued = set(order)
     marks[:tree.n] = bytes(1 if k in valued else 0 for k in range(tree.n))

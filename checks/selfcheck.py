@@ -331,6 +331,41 @@ def one_graft(rng, first, second):
     same("a short buffer", joined(first, node, second, 6 * n - 1)[0], (10, 0))
 
 
+def wanted_values():
+    """Request N10, worked out by hand: the borders of losses and wins, the root's bounds, and the order of the questions."""
+    table, chain = o.table_of_nest, lambda n: o.regular(1, n, lambda k: k)
+    capped = table([[[[[[[[[[[[[[[[[[0]]]]]]]]]]]]]]]], -30985]])
+    floored = table([[[[[[[[[[[[[[[[[[0]]]]]]]]]]]]]]]]], -31986])
+    for name, given, node, wanted, want in (
+            ("B65 d = 1", chain(1), 1, -30999, -31000), ("B65 d = 18", chain(18), 18, -30990, -31008),
+            ("B65 no win", chain(18), 18, 31990, (21, 18)), ("B65 high", capped, 19, -30985, -31003),
+            ("B65 low", floored, 19, -31985, (21, 19)), ("B65 settled", table([5, [3, 0]]), 4, 5, -32000),
+            ("B65 at the low", table([5, 0]), 2, 5, -32000), ("B65 below it", table([5, 0]), 2, 4, (21, 2)),
+            ("B65 a win", chain(18), 18, 31982, 32000), ("B65 itself", chain(18), 18, 30999, 30999),
+            ("B66 named", chain(1), 9999999, 0, (19, 9999999)), ("B66 inner", chain(1), 0, 40000, (19, 0)),
+            ("B66 outside", chain(1), 1, 40000, (20, 0)), ("B66 below", chain(1), 1, -32001, (20, 0)),
+            ("B66 the table first", bytes(12), 0, 40000, (8, 2))):
+        same(name, o.least_value(given, node, wanted), want)
+
+
+def one_wanted(rng, table):
+    """What 02 says of a leaf's value for a wanted root value, of any table; each root value is folded anew."""
+    tree = o.Tree(table)
+    leaf, wanted = rng.choice(tree.leaves()), tree.minimax()[0] + rng.choice((0, 0, rng.randint(-20, 20)))
+    if abs(wanted) > o.MAX_VALUE:
+        return
+    root = lambda v: tree.fold(lambda k: o.worth(tree.depth[k], v) if k == leaf else tree.worth[k])[0]
+    got = o.least_value(table, leaf, wanted)
+    if isinstance(got, o.Refusal):
+        same("no value", (got, [v for v in rng.sample(range(-32000, 32001), 20) if root(v) == wanted]), ((21, leaf), []))
+    else:
+        smaller = [v for v in rng.sample(range(-32000, got + 1), min(20, got + 32001)) if v < got and root(v) == wanted]
+        same("smallest value", (root(got), smaller), (wanted, []))
+    other = bytearray(table)
+    other[6 * leaf + 4:6 * leaf + 6] = (rng.randint(-32000, 32000) & 65535).to_bytes(2, "big")
+    same("what the leaf held", o.least_value(other, leaf, wanted), got)
+
+
 def solution_trees(tree, k, bit):
     """All sets of flagged nodes of one kind below k."""
     if not tree.kids[k]:
@@ -423,6 +458,8 @@ def random_trees(count):
         same("accepted", o.table_no(table), None)
         one_tree(rng, table, literal=True, pairs=shape == 0)
         one_graft(rng, before or table, table)
+        if i % 20 == 0:
+            one_wanted(rng, table)
         before = table
     for i in range(24):
         counts = trees.random_counts(rng, 4096, rng.choice((2, 3, 5, 15, 40)), 0.9)
@@ -477,6 +514,7 @@ def main():
     letters()
     second_captures()
     grafts()
+    wanted_values()
     print("papers and examples: %d checks, %d wrong" % (checks, len(wrong)))
     every_small_tree(6)
     print("all trees of up to 6 nodes: %d checks, %d wrong" % (checks, len(wrong)))

@@ -19,6 +19,7 @@ use tablecalls::files::print_line;
 use tablecalls::files::print_reading;
 use tablecalls::files::print_writing;
 use tablecalls::tables::print_children;
+use tablecalls::wanted::print_needed;
 
 // What a title and a call start with, and what ends a line.
 const TITLE: u8 = b'#';
@@ -76,8 +77,8 @@ fn name(call: &[u8]) -> u8 {
     call[1]
 }
 
-// What a call with numbers gives, by the first letter of its name: buffers, allowance, table, write, graft, check, line
-// or kids.
+// What a call with numbers gives, by the first letter of its name: buffers, allowance, table, write, graft, value,
+// check, line or kids.
 fn print_call(letter: u8, file: &[u8], numbers: &[u32; NUMBERS]) {
     match letter {
         b'b' => print_searches(file, numbers[0], numbers[1]),
@@ -85,6 +86,7 @@ fn print_call(letter: u8, file: &[u8], numbers: &[u32; NUMBERS]) {
         b't' => print_reading(file, numbers[0]),
         b'w' => print_writing(file, numbers[0], numbers[1]),
         b'g' => print_graft(file, numbers),
+        b'v' => print_needed(file, numbers[0], numbers[1], numbers[2], numbers[3]),
         b'c' => print_checks(file, numbers[0]),
         b'l' => print_line(file, numbers[0]),
         b'k' => print_children(file, numbers[0]),

@@ -4,3 +4,4 @@ pub mod Bounds
 pub mod Counts
 pub mod Moves
 pub mod Grafts
+pub mod OneLeaf

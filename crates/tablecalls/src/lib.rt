@@ -3,3 +3,4 @@ pub mod answers;
 pub mod certificates;
 pub mod files;
 pub mod tables;
+pub mod wanted;

@@ -1,0 +1,70 @@
+-- What score would save it (02: N10), sentence by sentence, over the definition that the contract of the call cites.
+-- The table is t, the named node k, the wanted root value w; a leaf's value is an integer from -32,000 to 32,000, and
+-- `rootValue t k v` is the root's value where the leaf k holds v and each other leaf what it holds in t.
+use Prim.Native.Nat.{ℕ, _≤_, _<_}
+use mathlib.Core.Path.{_≡_, _∙_}
+use mathlib.Core.Option.{some}
+use mathlib.Core.List.{List}
+use lib.IntN.{ℤ, natAbs}
+use lib.Signed.{_<ℤ_}
+use borrow.Author.Tests.{lt-leb}
+use Rattle.lists.proofs.Choice.{is-false}
+use Rattle.gametree.specs.Tree.{minimax}
+use Rattle.frames.specs.declared.Rejection.{Rejection}
+use Rattle.frames.specs.Tree.{tree, valuation}
+use Rattle.frames.specs.Value.{valueOf, maxValue}
+use Rattle.frames.specs.Check.{rejection, Accepted}
+use Rattle.leafvalue.specs.declared.Needed.the-variants.{Value, Rejected}
+use Rattle.leafvalue.specs.Wanted.{needed}
+use Rattle.leafvalue.specs.results.Root.{Leaf, rootValue, SameBut, heldValue}
+use Rattle.leafvalue.proofs.Questions.{table-refused, table-accepted, no-leaf, out-of-range}
+use Rattle.leafvalue.proofs.Theorems.{leaf-test, test-leaf, given, value-exists, none-exists, only-none}
+use Rattle.leafvalue.proofs.Influence.{value-held, same-answer}
+
+module _ (t : List ℕ) (k : ℕ) (w : ℤ) where
+  -- "The call gives the smallest leaf value from -32,000 to 32,000 that makes the root's value exactly the wanted one,
+  -- with the other leaves as given": the value that is given does
+  pub value-reaches : (v : ℤ) → needed t k w ≡ Value v → (natAbs v ≤ maxValue) × (rootValue t k v ≡ w)
+  value-reaches v e = let g = given t k w v e in (g .ranged, g .reaches)
+
+  -- and no smaller one does
+  pub value-smallest : (v : ℤ) → needed t k w ≡ Value v
+      → (u : ℤ) → natAbs u ≤ maxValue → u <ℤ v → rootValue t k u ≡ w → ⊥
+  value-smallest v e = given t k w v e .smallest
+
+  module _ (a : Accepted t) (l : Leaf t k) (r : natAbs w ≤ maxValue) where
+    -- where some value does, one is given
+    pub value-given : (u : ℤ) → natAbs u ≤ maxValue → rootValue t k u ≡ w → (v : ℤ) × (needed t k w ≡ Value v)
+    value-given = value-exists t k w (record { accepted = a; leaf = l; ranged = r })
+
+    -- "None is answered exactly if no such value exists", "none, 21, place the leaf"
+    pub none-answered : ((u : ℤ) → natAbs u ≤ maxValue → rootValue t k u ≡ w → ⊥)
+        → needed t k w ≡ Rejected (record { number = 21; place = k })
+    none-answered = none-exists t k w (record { accepted = a; leaf = l; ranged = r })
+
+  pub none-only : Accepted t → (p : ℕ) → needed t k w ≡ Rejected (record { number = 21; place = p })
+      → (p ≡ k) × Leaf t k × (natAbs w ≤ maxValue) × ((u : ℤ) → natAbs u ≤ maxValue → rootValue t k u ≡ w → ⊥)
+  none-only = only-none t k w
+
+  -- "Turned away, asked in this order after 9"
+  pub table-in-turn : (r : Rejection) → rejection t ≡ some r → needed t k w ≡ Rejected r
+  table-in-turn = table-refused t k w
+
+  -- "the named node is no leaf, 19, place the node as named"
+  pub no-leaf-named : Accepted t → (Leaf t k → ⊥) → needed t k w ≡ Rejected (record { number = 19; place = k })
+  no-leaf-named a f = table-accepted t k w a ∙ no-leaf t k w (is-false _ (λ e. f (test-leaf t k e)))
+
+  -- "the wanted value is outside -32,000 to 32,000, 20, place 0"
+  pub wanted-outside : Accepted t → Leaf t k → maxValue < natAbs w
+      → needed t k w ≡ Rejected (record { number = 20; place = 0 })
+  wanted-outside a l h =
+      table-accepted t k w a ∙ out-of-range t k w (leaf-test t k l) (lt-leb (natAbs w) maxValue h)
+
+module _ (t u : List ℕ) (k : ℕ) (s : SameBut t u k) (a : Accepted t) (b : Accepted u) where
+  -- `rootValue` is what it says: a table that holds v at the leaf, and otherwise what t holds, has that minimax value
+  pub held-value : Leaf t k → valueOf (minimax (valuation u) (tree u)) ≡ rootValue t k (heldValue u k)
+  held-value = value-held t u k s a b
+
+  -- "What the leaf held before has no influence once question 7 has passed it"
+  pub no-influence : (w : ℤ) → needed t k w ≡ needed u k w
+  no-influence = same-answer t u k s a b

@@ -1,0 +1,62 @@
+-- The questions about a leaf and a wanted value: one law for each answer.
+use Prim.Native.Nat.{ℕ, zero, suc, _≤_, _<_}
+use mathlib.Core.Path.{_≡_, refl, sym, ap, _∙_}
+use mathlib.Core.Bool.{true, false}
+use mathlib.Core.Option.{Option, some}
+use mathlib.Core.List.{List}
+use lib.Dec.{leb, eqb}
+use lib.IntN.{ℤ, natAbs}
+use borrow.Author.Tests.{lt-ltb, le-ltb}
+use Rattle.frames.specs.declared.Rejection.{Rejection}
+use Rattle.frames.specs.Frame.{frames, childCount}
+use Rattle.frames.specs.Value.{valueOf, maxValue}
+use Rattle.frames.specs.Rejection.{_andThen_}
+use Rattle.frames.specs.Check.{rejection, Accepted}
+use Rattle.leafvalue.specs.declared.Needed.{Needed}
+use Rattle.leafvalue.specs.declared.Needed.the-variants.{Value, Rejected}
+use Rattle.leafvalue.specs.Wanted.{isLeaf, check19, check20, smallest, scoreOf, found, unless, needed}
+use Rattle.leafvalue.specs.engine.Candidates.{held}
+
+-- a "no" to question q, with its place
+abbrev pub refused : ℕ → ℕ → Needed
+refused q p = Rejected (record { number = q; place = p })
+
+module _ (t : List ℕ) (k : ℕ) where
+  -- the test of a leaf: no node, and a node
+  pub not-inside : frames t ≤ k → false ≡ isLeaf t k
+  not-inside h = rw (le-ltb k (frames t) h)
+
+  pub childless : k < frames t → eqb (childCount t k) 0 ≡ isLeaf t k
+  childless h = rw (lt-ltb k (frames t) h)
+
+  module _ (v : ℤ) where
+    -- the answer that is due to 19 to 21
+    abbrev pub due : Needed
+    due = unless (check19 t k andThen check20 v) (found k (smallest t k (scoreOf v)))
+
+    pub no-leaf : isLeaf t k ≡ false → due ≡ refused 19 k
+    no-leaf e = rw e
+
+    module _ (e : isLeaf t k ≡ true) where
+      pub out-of-range : leb (natAbs v) maxValue ≡ false → due ≡ refused 20 0
+      out-of-range f = rw (e, f)
+
+      pub in-range : leb (natAbs v) maxValue ≡ true → due ≡ found k (smallest t k (scoreOf v))
+      in-range f = rw (e, f)
+
+    -- questions 1 to 9 come before them
+    pub table-refused : (r : Rejection) → rejection t ≡ some r → needed t k v ≡ Rejected r
+    unfolding needed
+    table-refused r e = rw e
+
+    pub table-accepted : Accepted t → needed t k v ≡ due
+    unfolding needed
+    table-accepted a = rw a
+
+-- what is found, by the score that stands for it
+pub found-none : (k r : ℕ) (o : Option ℕ) → held r ≡ o → r ≡ 0 → found k o ≡ refused 21 k
+found-none k r o e z = ap (found k) (sym e ∙ ap held z)
+
+pub found-value : (k r : ℕ) (o : Option ℕ) → held r ≡ o → (r ≡ 0 → ⊥) → found k o ≡ Value (valueOf r)
+found-value k zero o e z = absurd (z refl)
+found-value k (suc r) o e z = rw (← e)

@@ -1,0 +1,113 @@
+-- `leafvalue::candidate` meets its contract: one case for each of its returns.
+use Prim.Native.Nat.{_-_}
+use mathlib.Core.Path.{_≡_, sym, _∙_}
+use mathlib.Core.Logic.{⊎-elim}
+use mathlib.Core.Bool.{false, _&&_}
+use lib.Dec.{ltb}
+use borrow.Author.Tests.{lt-ltb, le-ltb}
+use borrow.Author.Needs.{needs}
+use Rattle.leafvalue.specs.Wanted.{firstScore}
+use Rattle.leafvalue.specs.engine.Candidates.{reaches}
+use Rattle.leafvalue.proofs.candidate.Statement.{statement}
+use Rattle.leafvalue.proofs.candidate.Tie as tie
+
+-- the first two candidates do not reach the wanted score
+not-first : (c : tie.Else1) →
+    let a = c .before .before .args in
+    reaches (a .low) (a .high) (a .depth) (a .wanted) firstScore ≡ false
+not-first c = sym (c .before .reaches .ensures) ∙ c .if1 .left
+
+not-loss : (c : tie.Joined2) →
+    let a = c .before .before .before .args in
+    ltb (a .depth) (a .wanted) && reaches (a .low) (a .high) (a .depth) (a .wanted) (a .wanted - a .depth) ≡ false
+not-loss c =
+    ⊎-elim (λ m. rw (lt-ltb _ _ (m .0 .taken)) (sym (m .1 .ensures) ∙ m .2 .left)) (λ m. rw (le-ltb _ _ (m .left)))
+    (c .if2 .came)
+
+reaches-requires : tie.Need-reaches-requires
+reaches-requires c κs = search needs
+
+returns : tie.Need-returns
+returns c = rw (sym (c .before .reaches .ensures) ∙ c .if1 .taken)
+
+sub-as-loss : tie.Need-sub-as-loss
+sub-as-loss c = search needs
+
+reaches-requires-2 : tie.Need-reaches-requires-2
+reaches-requires-2 c κs = search needs
+
+returns-2 : tie.Need-returns-2
+returns-2 c =
+    let r = c .before in
+    let k = r .before in
+    rw (not-first (k .before), lt-ltb _ _ (k .if2 .taken), sym (r .reaches2 .ensures) ∙ c .if3 .taken)
+
+reaches-requires-3 : tie.Need-reaches-requires-3
+reaches-requires-3 c κs = search needs
+
+returns-3 : tie.Need-returns-3
+returns-3 c =
+    let r = c .before in
+    rw (not-first (r .before .before), not-loss (r .before), sym (r .reaches3 .ensures) ∙ c .if4 .taken)
+
+add-as-win : tie.Need-add-as-win
+add-as-win c = search needs
+
+reaches-requires-4 : tie.Need-reaches-requires-4
+reaches-requires-4 c κs = search needs
+
+returns-4 : tie.Need-returns-4
+returns-4 c =
+    let q = c .before in
+    let k = q .before in
+    let e = k .before in
+    let r = e .before in
+    rw (
+      not-first (r .before .before),
+      not-loss (r .before),
+      sym (r .reaches3 .ensures) ∙ e .if4 .left,
+      lt-ltb _ _ (k .if5 .taken),
+      sym (q .reaches4 .ensures) ∙ c .if6 .taken,
+    )
+
+returns-5 : tie.Need-returns-5
+returns-5 c =
+    let q = c .before in
+    let k = q .before in
+    let e = k .before in
+    let r = e .before in
+    rw (
+      not-first (r .before .before),
+      not-loss (r .before),
+      sym (r .reaches3 .ensures) ∙ e .if4 .left,
+      lt-ltb _ _ (k .if5 .taken),
+      sym (q .reaches4 .ensures) ∙ c .if6 .left,
+    )
+
+returns-6 : tie.Need-returns-6
+returns-6 c =
+    let e = c .before in
+    let r = e .before in
+    rw (
+      not-first (r .before .before),
+      not-loss (r .before),
+      sym (r .reaches3 .ensures) ∙ e .if4 .left,
+      le-ltb _ _ (c .if5 .left),
+    )
+
+pub candidate-spec : {M : Type 1} → statement M
+candidate-spec =
+    tie.close
+    (tie.spec
+    reaches-requires
+    returns
+    sub-as-loss
+    reaches-requires-2
+    returns-2
+    reaches-requires-3
+    returns-3
+    add-as-win
+    reaches-requires-4
+    returns-4
+    returns-5
+    returns-6)

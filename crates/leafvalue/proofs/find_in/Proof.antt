@@ -1,0 +1,128 @@
+-- `leafvalue::find_in` meets its contract: the root's bounds where the leaf alone is unknown give the smallest score.
+use Prim.Native.Nat.{_<_}
+use native.Mathlib.Omega.{arith}
+use mathlib.Core.Path.{_≡_, ap, _∙_}
+use lib.ListN.{length, getD, length-set}
+use borrow.Author.Needs.{needs}
+use Rattle.gametree.specs.Tree.{least, greatest}
+use Rattle.frames.specs.Frame.{frames}
+use Rattle.frames.specs.Place.{depthOf}
+use Rattle.frames.specs.Formed.{WellFormed}
+use Rattle.frames.proofs.Acceptance.{accepted-formed}
+use Rattle.places.specs.engine.Places.{Placed}
+use Rattle.places.proofs.Buffers.{written-at}
+use Rattle.places.proofs.Places.{placed, placed-depth}
+use Rattle.leafvalue.proofs.Bounds.{leaf-is, leaf-shallow, root-bound, found-smallest}
+use Rattle.leafvalue.proofs.find_in.Statement.{statement}
+use Rattle.leafvalue.proofs.find_in.Tie as tie
+
+-- from the places to the start, from the bounds to the places, and from the depth to the bounds
+abbrev start : tie.After-fill → tie.Start
+start c = c .before .before .before .before .before .before .before
+
+abbrev filled : tie.After-fill-bounds → tie.After-fill
+filled c = c .before .before .before .before .before .before .before
+
+abbrev bounds : tie.After-depth-at → tie.After-fill-bounds
+bounds c = c .before .before .before .before .before .before .before .before .before .before
+
+formed : (c : tie.Start) → WellFormed (c .args .table .now)
+formed c = accepted-formed _ (c .pre .0 .0)
+
+-- the leaf is a node of the table
+inside : (c : tie.Start) → c .args .leaf < frames (c .args .table .now)
+inside c = leaf-is (c .args .table .now) (c .args .leaf) (c .pre .0 .1) .0
+
+-- the first array holds the places
+holds-places : (c : tie.After-fill) → Placed (start c .args .table .now) (c .fill .last .1 .0)
+holds-places c = placed _ (formed (start c)) _ (start c .pre .1 .0 .0) (c .fill .ensures)
+
+-- the depth that is read is the leaf's
+depth : (c : tie.After-depth-at) →
+    let a = start (filled (bounds c)) .args in c .depth-at .result ≡ depthOf (a .table .now) (a .leaf)
+depth c =
+    let f = filled (bounds c) in
+    let s = start f in
+    c .depth-at .ensures ∙ placed-depth (s .args .table .now) _ (holds-places f) (s .args .leaf) (inside s)
+
+fill-requires : tie.Need-fill-requires
+fill-requires c κs =
+    let s = c .before .before .before .before .before .before in (formed s, s .pre .1 .0 .0)
+
+slice-write-known : tie.Need-slice-write-known
+slice-write-known c =
+    let s = start (c .before .before) in
+    omega (arith, inside s, s .pre .1 .0)
+
+fill-bounds-requires : tie.Need-fill-bounds-requires
+fill-bounds-requires c κs =
+    let f = c .before .before .before .before .before .before in
+    let s = start f in
+    ((formed s, holds-places f, simp length-set (s .pre .1 .0 .1)), s .pre .1 .1 .0)
+
+slice-read-candidate : tie.Need-slice-read-candidate
+slice-read-candidate c =
+    let b = c .before .before .before .before .before .before .before in
+    let s = start (filled b) in
+    omega (arith, formed s .some, s .pre .1 .1 .0, b .fill-bounds .kept)
+
+slice-read-candidate-2 : tie.Need-slice-read-candidate-2
+slice-read-candidate-2 c =
+    let b = c .before .before .before .before .before .before .before .before in
+    let s = start (filled b) in
+    omega (arith, formed s .some, s .pre .1 .1 .0, b .fill-bounds .kept)
+
+depth-at-requires : tie.Need-depth-at-requires
+depth-at-requires c κs =
+    let f = filled (c .before .before .before .before .before .before .before .before .before) in
+    omega (arith, inside (start f), holds-places f .room)
+
+candidate-requires : tie.Need-candidate-requires
+candidate-requires c κs =
+    let s = start (filled (bounds c)) in
+    let a = s .args in
+    (omega (arith, depth c, leaf-shallow (a .table .now) (s .pre .0 .0) (a .leaf) (inside s)), s .pre .0 .2)
+
+same-length : tie.Need-same-length
+same-length c = search needs
+
+same-length-2 : tie.Need-same-length-2
+same-length-2 c = ap length (bounds (c .before) .fill-bounds .ensures .1 .1) ∙ simp length-set
+
+same-length-3 : tie.Need-same-length-3
+same-length-3 c = search needs
+
+same-length-4 : tie.Need-same-length-4
+same-length-4 c = search needs
+
+returns : tie.Need-returns
+returns c =
+    let b = bounds (c .before) in
+    let e = b .fill-bounds .ensures in
+    let s = start (filled b) in
+    let a = s .args in
+    let t = a .table .now in
+    let h = inside s in
+    let wf = formed s in
+    let r = root-bound t wf (a .leaf) (a .known .now) (omega (arith, h, s .pre .1 .0 .1)) (s .pre .1 .1 .1) in
+    found-smallest t (s .pre .0 .0) (a .leaf) h (a .wanted) (s .pre .0 .2) _ _ _ _ (c .candidate .ensures)
+    (ap (λ x. getD x 0 0) (e .0) ∙ written-at _ _ 0 _ (wf .some) ∙ r least)
+    (ap (λ x. getD x 0 0) (e .1 .0) ∙ written-at _ _ 0 _ (wf .some) ∙ r greatest)
+    (depth (c .before))
+
+pub find-in-spec : {M : Type 1} → statement M
+find-in-spec =
+    tie.close
+    (tie.spec
+    fill-requires
+    slice-write-known
+    fill-bounds-requires
+    slice-read-candidate
+    slice-read-candidate-2
+    depth-at-requires
+    candidate-requires
+    same-length
+    same-length-2
+    same-length-3
+    same-length-4
+    returns)

@@ -1,0 +1,49 @@
+-- `leafvalue::least_value` meets its contract: a rejected table settles the answer, an accepted one leaves it to 19 to
+-- 21.
+use mathlib.Core.Path.{sym, ap, _∙_}
+use mir.Syntax.{w32}
+use mir.ValLaws.{toZ-ofZ}
+use borrow.Author.Needs.{needs}
+use Rattle.frames.proofs.Acceptance.{nodes-accepted, rejected-first}
+use Rattle.leafvalue.proofs.Questions.{due, table-refused, table-accepted}
+use Rattle.leafvalue.proofs.least_value.Statement.{statement}
+use Rattle.leafvalue.proofs.least_value.Tie as tie
+
+check-requires : tie.Need-check-requires
+check-requires c κs = search needs
+
+enum-known-checked : tie.Need-enum-known-checked
+enum-known-checked c = search needs
+
+enum-told : tie.Need-enum-told
+enum-told c = search needs
+
+ask-requires : tie.Need-ask-requires
+ask-requires c κs =
+    let k = c .before .before in
+    nodes-accepted (k .before .before .args .table .now) _
+    (sym (c .enum-told .given .1) ∙ k .check .ensures) .0
+
+returns : tie.Need-returns
+returns c =
+    let k = c .before .before .before in
+    let a = k .before .before .args in
+    let t = a .table .now in
+    sym (table-refused t (a .node) (a .wanted) _
+    (rejected-first t _ (sym (c .before .checked .given .1) ∙ k .check .ensures)))
+
+returns-2 : tie.Need-returns-2
+returns-2 c =
+    let e = c .before in
+    let k = e .before .before in
+    let s = k .before .before in
+    let a = s .args in
+    let t = a .table .now in
+    c .ask .ensures
+    ∙ ap (due t (a .node)) (toZ-ofZ w32 (a .wanted) (s .fits .wanted))
+    ∙ sym (table-accepted t (a .node) (a .wanted)
+    (nodes-accepted t _ (sym (e .enum-told .given .1) ∙ k .check .ensures) .0))
+
+pub least-value-spec : {M : Type 1} → statement M
+least-value-spec =
+    tie.close (tie.spec check-requires enum-known-checked enum-told ask-requires returns returns-2)

@@ -1,0 +1,28 @@
+-- `leafvalue::reaches` meets its contract: what the leaf counts, brought between the bounds.
+use mathlib.Core.Path.{ap, _∙_}
+use lib.Dec.{eqb}
+use Prim.Native.Nat.{max, min}
+use borrow.Author.Needs.{needs}
+use Rattle.leafvalue.proofs.reaches.Statement.{statement}
+use Rattle.leafvalue.proofs.reaches.Tie as tie
+
+score-at-requires : tie.Need-score-at-requires
+score-at-requires c κs = search needs
+
+better-requires : tie.Need-better-requires
+better-requires c κs = search needs
+
+better-requires-2 : tie.Need-better-requires-2
+better-requires-2 c κs = search needs
+
+returns : tie.Need-returns
+returns c =
+    let b = c .before in
+    let s = b .before in
+    let a = s .before .args in
+    ap (λ r. eqb r (a .wanted))
+    (c .better2 .ensures
+    ∙ ap (min (a .high)) (b .better .ensures ∙ ap (max (a .low)) (s .score-at .ensures .0)))
+
+pub reaches-spec : {M : Type 1} → statement M
+reaches-spec = tie.close (tie.spec score-at-requires better-requires better-requires-2 returns)

@@ -1,0 +1,27 @@
+-- The root's value as a function of the value of one leaf.
+use Prim.Native.Nat.{ℕ, _<_}
+use mathlib.Core.Path.{_≡_}
+use mathlib.Core.List.{List}
+use lib.IntN.{ℤ}
+use Rattle.frames.specs.Frame.{frames, childCount, storedScore}
+use Rattle.frames.specs.Value.{valueOf}
+use Rattle.frames.specs.Shape.{SameShape, AgreeOn}
+use Rattle.leafvalue.specs.Wanted.{scoreOf, rootScore}
+
+-- node k of the table is a leaf
+pub record Leaf (t : List ℕ) (k : ℕ) : Type 0 where
+  pub inside : k < frames t
+  pub childless : childCount t k ≡ 0
+
+-- the root's value where the leaf k holds the value v, and each other leaf what it holds
+abbrev pub rootValue : (t : List ℕ) (k : ℕ) (v : ℤ) → ℤ
+rootValue t k v = valueOf (rootScore t k (scoreOf v))
+
+-- the table u is t with other bytes 4 and 5 at node k, or the same
+pub record SameBut (t u : List ℕ) (k : ℕ) : Type 0 where
+  pub shape : SameShape t u
+  pub others : (i : ℕ) → i < frames t → (i ≡ k → ⊥) → AgreeOn t u i
+
+-- the value that node k holds
+abbrev pub heldValue : (t : List ℕ) (k : ℕ) → ℤ
+heldValue t k = valueOf (storedScore t k)

@@ -1,0 +1,31 @@
+// The smallest value of a leaf for a wanted root value.
+use crate::answers::print_rejection;
+use crate::tables::TABLE_SIZE;
+use crate::tables::read_table;
+use casetext::print::print_line_feed;
+use casetext::print::print_value;
+use leafvalue::Needed;
+use leafvalue::least_value;
+use libc::STDOUT_FILENO;
+
+// More than a wanted value of a case is away from zero.
+const MOST: u32 = 1000000;
+
+// The smallest value of a node for the wanted value `plus` less `minus`, on so many bytes of the table: zeros follow
+// the frames of the file.
+pub fn print_needed(file: &[u8], size: u32, node: u32, plus: u32, minus: u32) {
+    let mut table = [0u8; TABLE_SIZE];
+    read_table(file, &mut table);
+    let end = io::count(size as isize, &table);
+    io::write_all(STDOUT_FILENO, b"value");
+    match least_value(&table[..end], node as usize, difference(plus, minus)) {
+        Needed::Value(value) => print_value(value),
+        Needed::Rejected(rejection) => print_rejection(rejection),
+    }
+    print_line_feed();
+}
+
+// The difference of two numbers, of which the last six digits count.
+fn difference(plus: u32, minus: u32) -> i32 {
+    (plus % MOST) as i32 - (minus % MOST) as i32
+}
