@@ -611,6 +611,29 @@ struct answer c_needed(const uint8_t *table, size_t length, size_t node, int32_t
     return no(21, node);
 }
 
+/* ---- the dearest filling */
+
+/* Ranks from `rank` on for the leaves below node k, the children in the order of the side that moves; the next rank. */
+static int put_ranks(uint8_t *table, int k, int place, int rank) {
+    int count = child_count(table, k), first = first_child(table, k);
+    if (count == 0) {
+        table[FRAME * k + 4] = rank >> 8;
+        table[FRAME * k + 5] = rank & 255;
+        return rank + 1;
+    }
+    for (int i = 0; i < count; i++) {
+        int c = max_moves(place) ? first + i : first + count - 1 - i;
+        rank = put_ranks(table, c, child_place(table, c, place), rank);
+    }
+    return rank;
+}
+
+struct answer c_fill(uint8_t *table, size_t length) {
+    struct answer asked = c_check(table, length);
+    if (asked.refused) return asked;
+    return (struct answer){ .leaves = put_ranks(table, 0, 0, 0) };
+}
+
 /* ---- the program's text */
 
 struct text c_report(const uint8_t *file, size_t length) {

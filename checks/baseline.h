@@ -37,6 +37,7 @@ typedef struct answer verify_call(const uint8_t *table, size_t length, const uin
 typedef struct answer graft_call(const uint8_t *first, size_t first_length, size_t node, const uint8_t *second,
                                  size_t second_length, uint8_t *result, size_t room);
 typedef struct answer needed_call(const uint8_t *table, size_t length, size_t node, int32_t wanted);
+typedef struct answer fill_call(uint8_t *table, size_t length);
 typedef struct text report_call(const uint8_t *file, size_t length);
 
 /* c_sss keeps its list by node number with a front of greatest merits, c_sss_list is the textbook's list, scanned at
@@ -49,5 +50,6 @@ allowed_call c_allowed, c_allowed_list;
 verify_call c_verify;
 graft_call c_graft;
 needed_call c_needed;
+fill_call c_fill;
 report_call c_report;
 #endif

@@ -20,12 +20,13 @@ search_call rattle_alphabeta, rattle_plain, rattle_mtd, rattle_sss;
 verify_call rattle_verify;
 graft_call rattle_graft;
 needed_call rattle_needed;
+fill_call rattle_fill;
 report_call rattle_report;
 
-enum call { READ, WRITE, CONVERT, CHECK, ALPHABETA, PLAIN, MTD, SSS, VERIFY, GRAFT, NEEDED, REPORT, CALLS };
+enum call { READ, WRITE, CONVERT, CHECK, ALPHABETA, PLAIN, MTD, SSS, VERIFY, GRAFT, NEEDED, FILL, REPORT, CALLS };
 
 static const char *const call_names[] = {
-    "read", "write", "convert", "check", "alphabeta", "plain", "mtd", "sss", "verify", "graft", "needed", "report"
+    "read", "write", "convert", "check", "alphabeta", "plain", "mtd", "sss", "verify", "graft", "needed", "fill", "report"
 };
 
 static const struct side {
@@ -38,12 +39,13 @@ static const struct side {
     verify_call *verify;
     graft_call *graft;
     needed_call *needed;
+    fill_call *fill;
     report_call *report;
 } sides[] = {
     { "rattle", rattle_read, rattle_write, rattle_convert, rattle_check,
-      { rattle_alphabeta, rattle_plain, rattle_mtd, rattle_sss }, rattle_verify, rattle_graft, rattle_needed,
+      { rattle_alphabeta, rattle_plain, rattle_mtd, rattle_sss }, rattle_verify, rattle_graft, rattle_needed, rattle_fill,
       rattle_report },
-    { "c", c_read, c_write, c_convert, c_check, { c_alphabeta, c_plain, c_mtd, c_sss }, c_verify, c_graft, c_needed,
+    { "c", c_read, c_write, c_convert, c_check, { c_alphabeta, c_plain, c_mtd, c_sss }, c_verify, c_graft, c_needed, c_fill,
       c_report },
 };
 
@@ -51,8 +53,8 @@ static const struct side {
    at the clock. */
 enum { SIDES = sizeof sides / sizeof *sides, FILLED = 170, LEAST_RUNS = 20, LONG_ENOUGH = 100000000, BETWEEN = 30000 };
 
-/* What a call is given, and what it may write; the tree is grafted at a lone leaf, and 0 is wanted of its
-   last leaf. */
+/* What a call is given, and what it may write; the tree is grafted at a lone leaf, 0 is wanted of its last
+   leaf, and a copy of the table filled. */
 static const uint8_t lone_leaf[FRAME] = { 0 };
 static uint8_t file[FILE_BYTES], table[TABLE_BYTES], flags[NODES];
 static size_t file_length, nodes;
@@ -70,6 +72,7 @@ static struct answer perform(const struct side *s, enum call call, struct lent *
     case VERIFY: return s->verify(table, FRAME * nodes, flags, nodes);
     case GRAFT: return s->graft(lone_leaf, FRAME, 0, table, FRAME * nodes, l->table, sizeof l->table);
     case NEEDED: return s->needed(table, FRAME * nodes, nodes - 1, 0);
+    case FILL: return s->fill(memcpy(l->table, table, FRAME * nodes), FRAME * nodes);
     case REPORT: l->text = s->report(file, file_length); return (struct answer){ 0 };
     default: return s->searches[call - ALPHABETA](table, FRAME * nodes, l->marks, NODES, l->proof, NODES);
     }

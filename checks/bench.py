@@ -23,7 +23,7 @@ from library import CHECKS, ROOT, WORK, read, run
 
 PROGRAM = os.path.join(ROOT, "target", "bin", "analyse")
 BENCH, BASELINE = os.path.join(WORK, "bench"), os.path.join(WORK, "baseline")
-CALLS = ("read", "write", "convert", "check", "alphabeta", "plain", "mtd", "sss", "verify", "graft", "needed", "report")
+CALLS = ("read", "write", "convert", "check", "alphabeta", "plain", "mtd", "sss", "verify", "graft", "needed", "fill", "report")
 
 # A string instruction of the processor counts once for each byte in valgrind: the C library is told to use none.
 TUNABLES = "glibc.cpu.x86_rep_stosb_threshold=100000000:glibc.cpu.x86_rep_movsb_threshold=100000000"

@@ -150,6 +150,15 @@ def grafted(first, node, second, room):
         yield from searches(lent[:6 * r], r, r)
 
 
+def dearest(table):
+    """The dearest filling; and the filled table through the searches."""
+    lent = bytearray(table)
+    r = o.dearest(lent)
+    yield "fill", (table,), flat(r, leaves=r), (lent,)
+    if not isinstance(r, o.Refusal):
+        yield from searches(lent, len(lent) // 6, len(lent) // 6)
+
+
 def random_graft(rng, table):
     """The table, good or damaged, and a second one: itself, a large or a small one, now and then damaged."""
     kind = rng.randrange(20)
@@ -192,6 +201,7 @@ def small_trees():
         flags = bytearray(n)
         o.mtd_search(table, bytearray(n), flags)
         yield from verified(table, flags)
+        yield from dearest(table)
         if n <= 4:
             for node in range(n + 1):
                 yield from grafted(table, node, SECOND, 6 * (n + 4))
@@ -219,6 +229,7 @@ def random_calls(rng):
     yield from random_graft(rng, table)
     if rng.random() < 0.2:
         yield from random_needed(rng, table)
+    yield from dearest(table)
     file = fuzz.damaged(rng, 60)[1] if kind < 3 else fuzz.as_file(rng, table)
     room = rng.choice((6 * n, 6 * n, 6 * n + 7, 6 * n - 1, 0, o.MAX_TABLE))
     yield from reports(file, room)

@@ -510,6 +510,34 @@ def wanted_cases():
         add("wanted: " + title, ROW, "value %d 9 40000 0" % size, got)
 
 
+def dearest(table):
+    """The dearest filling of a table, and what it costs alpha-beta."""
+    lent = bytearray(table)
+    got = o.dearest(lent)
+    if isinstance(got, o.Refusal):
+        assert lent == table
+    cost = o.alpha_beta(lent, bytearray(o.MAX_NODES), bytearray(o.MAX_NODES))
+    return "dearest %s\ntable%s\nab %s\n" % (answered(got), numbers(lent), answered(cost if isinstance(cost, o.Refusal) else cost.leaves))
+
+
+# Max(a leaf, Min of two, a leaf); Min over blocks of different sizes; and 266 leaves, so that ranks have a high byte
+UNEVEN, BLOCKS, MANY = tree_file([7, [7, 7], 7]), tree_file([[[9, 8], 7]]), tree_file([[0] * 38] * 7)
+
+
+def dearest_cases():
+    """Questions 1 to 9; the ranks in the lent table, by the mover."""
+    for title, file, size, want in (
+            ("the first row's shape", ROW, 42, "4"), ("a lone leaf", tree_file(-5), 6, "1"), ("a single leaf", tree_file([9]), 12, "1"),
+            ("a chain", tree_file(chain(18, 1)), 114, "1"), ("Max moves twice", MAX_TWICE, 24, "2"),
+            ("Min moves twice", tree_file([[(9, 9, 9)]]), 36, "3"), ("uneven", UNEVEN, 36, "4"), ("blocks", BLOCKS, 36, "3"),
+            ("266 leaves", MANY, 1644, "266"), ("no table", LEAF, 0, "refused 1 0"), ("a byte left over", ROW, 43, "refused 3 7"),
+            ("a leaf too few", ROW, 36, "refused 8 6"), ("a leaf too many", ROW, 48, "refused 8 8")):
+        got = dearest(longer(file, size))
+        assert got.startswith("dearest %s\n" % want), (title, got)
+        assert want.startswith("refused") or got.endswith("\nab %s\n" % want), (title, got)
+        add("dearest: " + title, file, "dearest %d" % size, got)
+
+
 def service_cases():
     """One line, and the children of a node."""
     for title, file, at in (("first line", ROW, 0), ("second line", ROW, 13), ("last line", ROW, 78),
@@ -530,7 +558,8 @@ def service_cases():
 def main():
     directory = sys.argv[1] if len(sys.argv) > 1 else os.path.join(os.path.dirname(HERE), "crates", "cases")
     for part in (made_trees, made_grafts, files_of_01, rows_of_002, rejected_files, accepted_files, wins_and_losses, second_captures,
-                 flags_cases, buffer_cases, allowance_cases, table_cases, reader_cases, writer_cases, graft_cases, wanted_cases, service_cases):
+                 flags_cases, buffer_cases, allowance_cases, table_cases, reader_cases, writer_cases, graft_cases, wanted_cases, dearest_cases,
+                 service_cases):
         part()
     assert len(stdin) < 65536
     for name, data in (("stdin", stdin), ("stdout", made + asked)):

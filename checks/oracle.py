@@ -585,6 +585,26 @@ def least_value(table, node, wanted):
     return least_values(tree, node).get(wanted, Refusal(21, node))
 
 
+def dearest(table):
+    """Questions 1 to 9; writes the ranks to the leaves of the table itself: a node's ranks are a block, and those of its children lie
+    in it one behind the other, rising from left to right at Max, falling at Min; the number of leaves (02, N11)."""
+    no = table_no(table)
+    if no:
+        return no
+    tree = Tree(table)
+    leaves, start = [0 if kids else 1 for kids in tree.kids], [0] * tree.n
+    for k in range(tree.n - 1, 0, -1):
+        leaves[tree.parent[k]] += leaves[k]
+    for k in range(tree.n):
+        at = start[k]
+        for c in tree.kids[k] if tree.is_max[k] else reversed(tree.kids[k]):
+            start[c] = at
+            at += leaves[c]
+    for k in tree.leaves():
+        table[6 * k + 4:6 * k + 6] = start[k].to_bytes(2, "big")
+    return leaves[0]
+
+
 def write_marks(tree, order, marks):
     valued = set(order)
     marks[:tree.n] = bytes(1 if k in valued else 0 for k in range(tree.n))

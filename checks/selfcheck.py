@@ -309,6 +309,44 @@ def grafts():
     same("B60 at depth 10", o.Tree(joined(chain(10), 10, wins, 78)[1]).minimax()[0], 30990)
 
 
+def dearest_fillings():
+    """Request N11, worked out by hand: the ranks by the mover, and the answer; the values that came play no part but for question 7."""
+    for nest, leaves, want in (([[1, 2], [3, 4]], 4, [[1, 0], [3, 2]]), (-5, 1, 0), ([9], 1, [0]), ([[[9]]], 1, [[[0]]]),
+                               ([(1, 2)], 2, [(0, 1)]), ([[(9, 9, 9)]], 3, [[(2, 1, 0)]]), ([7, [7, 7], 7], 4, [0, [2, 1], 3]),
+                               ([[[9, 8], 7]], 3, [[[1, 2], 0]]), ([[5, ([6], 7)], 8], 4, [[2, ([1], 0)], 3])):
+        table = o.table_of_nest(nest)
+        same("B67 %r" % (nest,), (o.dearest(table), bytes(table)), (leaves, bytes(o.table_of_nest(want))))
+        same("B67 %r costs" % (nest,), run(o.alpha_beta, table)[0].leaves, leaves)
+    for table, want in ((bytearray(), (1, 0)), (bytearray(7), (3, 1)), (o.table_of_nest([7, 32001]), (7, 2)), (bytearray(12), (8, 2))):
+        before = bytes(table)
+        same("B67 refused", (o.dearest(table), bytes(table)), (want, before))
+    table = o.regular(40, 41, lambda k: k)
+    same("B67 a high byte", (o.dearest(table), bytes(table[6 * 41 + 4:6 * 41 + 6])), (1600, (39).to_bytes(2, "big")))
+
+
+def one_filling(rng, table):
+    """What 02 says of the dearest filling, of any accepted table."""
+    tree, filled = o.Tree(table), bytearray(table)
+    leaves = tree.leaves()
+    same("leaves of a filling", o.dearest(filled), len(leaves))
+    same("an accepted filling", o.table_no(filled), None)
+    rank = {k: o.frame(filled, k)[3] for k in leaves}
+    same("ranks", sorted(rank.values()), list(range(len(leaves))))
+    same("other bytes", [filled[6 * k:6 * k + (6 if tree.kids[k] else 4)] for k in range(tree.n)],
+         [table[6 * k:6 * k + (6 if tree.kids[k] else 4)] for k in range(tree.n)])
+    below = [[k] if k in rank else [] for k in range(tree.n)]
+    for k in range(tree.n - 1, 0, -1):
+        below[tree.parent[k]] += below[k]
+    for k in range(tree.n):
+        blocks = [sorted(rank[x] for x in below[c]) for c in (tree.kids[k] if tree.is_max[k] else reversed(tree.kids[k]))]
+        whole = [r for block in blocks for r in block]
+        same("blocks", whole == list(range(whole[0], whole[0] + len(whole))) if whole else True, True)
+    same("every leaf is valued", run(o.alpha_beta, filled)[0].leaves, len(leaves))
+    other = changed_elsewhere(rng, table, bytes(tree.n))
+    same("values play no part", (o.dearest(other), other), (len(leaves), filled))
+    same("ranks again", (o.dearest(other), other), (len(leaves), filled))
+
+
 def one_graft(rng, first, second):
     """What 02 says of a graft, of any two tables: at a leaf where Max would move, or at any number."""
     a, b = o.Tree(first), o.Tree(second)
@@ -460,6 +498,7 @@ def random_trees(count):
         one_graft(rng, before or table, table)
         if i % 20 == 0:
             one_wanted(rng, table)
+        one_filling(rng, table)
         before = table
     for i in range(24):
         counts = trees.random_counts(rng, 4096, rng.choice((2, 3, 5, 15, 40)), 0.9)
@@ -515,6 +554,7 @@ def main():
     second_captures()
     grafts()
     wanted_values()
+    dearest_fillings()
     print("papers and examples: %d checks, %d wrong" % (checks, len(wrong)))
     every_small_tree(6)
     print("all trees of up to 6 nodes: %d checks, %d wrong" % (checks, len(wrong)))

@@ -11,6 +11,7 @@ use libc::STDOUT_FILENO;
 use reports::print_graft;
 use reports::print_made_trees;
 use reports::print_report;
+use searchcalls::dearest::print_filling;
 use searchcalls::print_allowed;
 use searchcalls::print_checks;
 use searchcalls::print_searches;
@@ -78,7 +79,7 @@ fn name(call: &[u8]) -> u8 {
 }
 
 // What a call with numbers gives, by the first letter of its name: buffers, allowance, table, write, graft, value,
-// check, line or kids.
+// dearest, check, line or kids.
 fn print_call(letter: u8, file: &[u8], numbers: &[u32; NUMBERS]) {
     match letter {
         b'b' => print_searches(file, numbers[0], numbers[1]),
@@ -87,6 +88,7 @@ fn print_call(letter: u8, file: &[u8], numbers: &[u32; NUMBERS]) {
         b'w' => print_writing(file, numbers[0], numbers[1]),
         b'g' => print_graft(file, numbers),
         b'v' => print_needed(file, numbers[0], numbers[1], numbers[2], numbers[3]),
+        b'd' => print_filling(file, numbers[0]),
         b'c' => print_checks(file, numbers[0]),
         b'l' => print_line(file, numbers[0]),
         b'k' => print_children(file, numbers[0]),

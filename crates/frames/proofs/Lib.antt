@@ -10,6 +10,8 @@ pub mod Worth
 pub mod Totals
 pub mod Proper
 pub mod Shapes
+pub mod OtherValues
+pub mod Leaves
 pub mod Layouts
 pub mod Stated
 pub mod Asked

@@ -14,11 +14,12 @@ use Rattle.frames.proofs.Places.{place-root, place-step}
 use Rattle.frames.proofs.Trees.{tree-node, node-same}
 
 module _ (t u : List ℕ) (s : SameShape t u) where
-  same-first : (i : ℕ) → i < frames t → firstChild t i ≡ firstChild u i
+  -- each node has the same first child, and as many children
+  pub same-first : (i : ℕ) → i < frames t → firstChild t i ≡ firstChild u i
   same-first i h =
       ap₂ (λ x y. x * 256 + y) (s .sameBytes i 0 h (omega arith)) (s .sameBytes i 1 h (omega arith))
 
-  same-count : (i : ℕ) → i < frames t → childCount t i ≡ childCount u i
+  pub same-count : (i : ℕ) → i < frames t → childCount t i ≡ childCount u i
   same-count i h = s .sameBytes i 2 h (omega arith)
 
   same-before : (k n : ℕ) → n ≤ frames t → parentBefore t k n ≡ parentBefore u k n

@@ -130,3 +130,9 @@ pub sub-once : {xs ys : List ℕ} → Subsequence xs ys → Once ys → Once xs
 sub-once end h = tt
 sub-once (skip s) h = sub-once s (h .1)
 sub-once (keep {y = y} s) h = (sub-all (λ x. y ≡ x → ⊥) s (h .0), sub-once s (h .1))
+
+-- some elements of a list are no more than all
+pub sub-length : {xs ys : List ℕ} → Subsequence xs ys → length xs ≤ length ys
+sub-length end = omega arith
+sub-length (skip s) = omega (arith, sub-length s)
+sub-length (keep s) = omega (arith, sub-length s)

@@ -1,4 +1,5 @@
 // The calls of the searches, on lent memory, and what they leave there.
+pub mod dearest;
 mod found;
 
 use casetext::print::print_bytes;

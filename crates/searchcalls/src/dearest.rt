@@ -1,0 +1,41 @@
+// The dearest filling of a table, and what it costs.
+use casetext::print::print_bytes;
+use casetext::print::print_count;
+use casetext::print::print_line_feed;
+use frames::MAX_NODES;
+use libc::STDOUT_FILENO;
+use tablecalls::answers::print_rejection;
+use tablecalls::tables::TABLE_SIZE;
+use tablecalls::tables::read_table;
+use worstcase::Filled;
+
+// The filling of so many bytes of the table, and what they hold afterwards: zeros follow the frames of the file.
+pub fn print_filling(file: &[u8], size: u32) {
+    let mut table = [0u8; TABLE_SIZE];
+    read_table(file, &mut table);
+    let end = io::count(size as isize, &table);
+    print_filled(&mut table[..end]);
+}
+
+fn print_filled(table: &mut [u8]) {
+    io::write_all(STDOUT_FILENO, b"dearest");
+    match worstcase::fill(table) {
+        Filled::Leaves(leaves) => print_count(leaves),
+        Filled::Rejected(rejection) => print_rejection(rejection),
+    }
+    print_line_feed();
+    print_bytes(b"table", table);
+    print_cost(table);
+}
+
+// How many leaves alpha-beta evaluates.
+fn print_cost(table: &[u8]) {
+    let mut evaluated = [0u8; MAX_NODES];
+    let mut certificate = [0u8; MAX_NODES];
+    io::write_all(STDOUT_FILENO, b"ab");
+    match alphabeta::search(table, &mut evaluated, &mut certificate) {
+        alphabeta::Answer::Found(findings) => print_count(findings.leaves),
+        alphabeta::Answer::Rejected(rejection) => print_rejection(rejection),
+    }
+    print_line_feed();
+}

@@ -1,0 +1,156 @@
+-- `worstcase::fill_node` meets its contract. The number of frames from the node on falls with each call; at the head of
+-- the loop stands `Turn`: the turns that are left make of the next rank and the table what is due.
+use Prim.Native.Nat.{ℕ, _-_, _<_}
+use native.Mathlib.Omega.{arith}
+use borrow.Author.Needs.{needs}
+use borrow.Fn.Kinds.{In}
+use borrow.Fn.PlainCycle.{Measures, is, falls, and}
+use Rattle.frames.specs.Frame.{frames}
+use Rattle.worstcase.proofs.Nodes.{Turn, leaf-few, leaf-due, turns-begin, turn-inside, turn-later}
+use Rattle.worstcase.proofs.Nodes.{turn-fillable, turn-goes-on, turns-end}
+use Rattle.worstcase.proofs.fill_node.Reads as own
+use Rattle.worstcase.proofs.fill_node.Kinds as own-kinds
+use Rattle.worstcase.proofs.+fill_node.Lts-fill_node as lts
+use Rattle.frames.proofs.child_count.Reads as child-count-reads
+use Rattle.frames.proofs.child_side.Reads as child-side-reads
+use Rattle.frames.proofs.first_child.Reads as first-child-reads
+use Rattle.worstcase.proofs.in_turn.Reads as in-turn-reads
+use Rattle.worstcase.proofs.put_rank.Reads as put-rank-reads
+use Rattle.worstcase.proofs.+fill_node.{statement}
+use Rattle.worstcase.proofs.+fill_node.Tie.{close}
+
+abbrev μ : Measures 1 own-kinds.ps ℕ
+μ κs a = frames (a .0 .now) - a .1 .0
+
+abbrev at : ℕ → In 1 own-kinds.ps
+at t = and 1 own-kinds.ps (is 1 own-kinds.ps μ t) own.Pre
+
+abbrev below : ℕ → In 1 own-kinds.ps
+below t = and 1 own-kinds.ps (falls 1 own-kinds.ps _<_ μ t) own.Pre
+
+abbrev Inv : lts.InvT-loop
+Inv table₀ node mover rank count first next₀ turn₀ table next turn =
+    Turn table₀ node mover rank first count table next turn
+
+abbrev μ-loop : lts.MeasureT-loop
+μ-loop table₀ node mover rank count first next₀ turn₀ table next turn = count - turn
+
+abbrev calls : ℕ → lts.Claims
+calls t = (
+  child-count-reads.Asked,
+  child-count-reads.Learnt,
+  put-rank-reads.Asked,
+  put-rank-reads.Learnt,
+  first-child-reads.Asked,
+  first-child-reads.Learnt,
+  in-turn-reads.Asked,
+  in-turn-reads.Learnt,
+  child-side-reads.Asked,
+  child-side-reads.Learnt,
+  below t,
+  own.Post,
+)
+
+module _ (t : ℕ) where
+  -- the function's entry, from the head of the loop
+  abbrev start : lts.At-loop (calls t) (at t) own.Post Inv μ-loop → lts.Start (calls t) (at t) own.Post Inv μ-loop
+  start l = l .before .before .before .before .before .before .before
+
+  child-count-requires : lts.Need-child-count-requires (calls t) (at t) own.Post Inv μ-loop
+  child-count-requires c κs = search needs
+
+  put-rank-requires : lts.Need-put-rank-requires (calls t) (at t) own.Post Inv μ-loop
+  put-rank-requires c κs =
+      let a = c .before .before .before .before .before in
+      (a .pre .1 .inside, omega (arith, leaf-few _ _ _ _ (a .pre .1) (omega arith)))
+
+  add-result : lts.Need-add-result (calls t) (at t) own.Post Inv μ-loop
+  add-result c =
+      let a = c .before .before .before .before .before .before .before .before in
+      omega (arith, leaf-few _ _ _ _ (a .pre .1) (omega arith))
+
+  same-length : lts.Need-same-length (calls t) (at t) own.Post Inv μ-loop
+  same-length c = search needs
+
+  returns : lts.Need-returns (calls t) (at t) own.Post Inv μ-loop
+  returns c =
+      let a = c .before .before .before .before .before .before .before .before in
+      leaf-due _ _ _ _ (a .pre .1) (omega arith) _ (c .before .before .put-rank .ensures)
+
+  first-child-requires : lts.Need-first-child-requires (calls t) (at t) own.Post Inv μ-loop
+  first-child-requires c κs = search needs
+
+  loop-holds : lts.Need-loop-holds (calls t) (at t) own.Post Inv μ-loop
+  loop-holds c =
+      let a = c .before .before .before .before .before .before in
+      turns-begin _ _ _ _ (a .pre .1) _ _ (omega arith) (c .first-child .ensures .0)
+      (c .before .before .before .child-count .ensures .0)
+
+  in-turn-requires : lts.Need-in-turn-requires (calls t) (at t) own.Post Inv μ-loop
+  in-turn-requires c κs = search needs
+
+  child-side-requires : lts.Need-child-side-requires (calls t) (at t) own.Post Inv μ-loop
+  child-side-requires c κs =
+      let l = c .before .before .before in
+      turn-inside _ _ _ _ (start l .pre .1) _ _ _ _ _ (l .loop .inv) (l .before .first-child .ensures .0)
+      (l .before .before .before .before .child-count .ensures .0) (omega arith) _ (c .before .in-turn .ensures)
+
+  fill-node-requires : lts.Need-fill-node-requires (calls t) (at t) own.Post Inv μ-loop
+  fill-node-requires c κs =
+      let k = c .before .before .before in
+      let l = k .before .before in
+      let a = start l .pre .1 in
+      let first = l .before .first-child .ensures .0 in
+      let count = l .before .before .before .before .child-count .ensures .0 in (
+        omega (
+          arith,
+          start l .pre .0,
+          turn-later _ _ _ _ a _ _ _ _ _ (l .loop .inv) first count (omega arith) _ (k .in-turn .ensures),
+        ),
+        turn-fillable _ _ _ _ a _ _ _ _ _ (l .loop .inv) first count (omega arith) _ (k .in-turn .ensures) _
+            (c .before .child-side .ensures),
+      )
+
+  add-turn : lts.Need-add-turn (calls t) (at t) own.Post Inv μ-loop
+  add-turn c = search needs
+
+  loop-less : lts.Need-loop-less (calls t) (at t) own.Post Inv μ-loop
+  loop-less c = search needs
+
+  loop-again : lts.Need-loop-again (calls t) (at t) own.Post Inv μ-loop
+  loop-again c =
+      let f = c .before .before in
+      let k = f .before .before .before .before in
+      let l = k .before .before in
+      turn-goes-on _ _ _ _ (start l .pre .1) _ _ _ _ _ (l .loop .inv) (l .before .first-child .ensures .0)
+      (l .before .before .before .before .child-count .ensures .0) (omega arith) _ (k .in-turn .ensures) _ _
+      (f .fill-node .ensures .0) (f .fill-node .ensures .1)
+
+  same-length-2 : lts.Need-same-length-2 (calls t) (at t) own.Post Inv μ-loop
+  same-length-2 c = search needs
+
+  returns-2 : lts.Need-returns-2 (calls t) (at t) own.Post Inv μ-loop
+  returns-2 c =
+      let l = c .before in turns-end _ _ _ _ (start l .pre .1) _ _ _ _ _ (l .loop .inv) (omega arith)
+
+pub +fill-node-spec : {M : Type 1} → statement M
++fill-node-spec = close μ λ t. lts.spec (calls t)
+    (at t)
+    own.Post
+    Inv
+    μ-loop
+    (child-count-requires t)
+    (put-rank-requires t)
+    (add-result t)
+    (same-length t)
+    (returns t)
+    (first-child-requires t)
+    (loop-holds t)
+    (in-turn-requires t)
+    (child-side-requires t)
+    (fill-node-requires t)
+    (add-turn t)
+    (loop-less t)
+    (loop-again t)
+    (same-length-2 t)
+    (returns-2 t)

@@ -1,0 +1,74 @@
+-- The call: from the answer to the questions to the outcome.
+use Prim.Native.Nat.{ℕ, _+_}
+use native.Mathlib.Omega.{arith}
+use mathlib.Core.Path.{_≡_, refl, sym, ap}
+use mathlib.Core.Option.{Option, none, some}
+use mathlib.Core.List.{List}
+use lib.ListN.{length}
+use Rattle.lists.proofs.Choice.{clash}
+use Rattle.gametree.specs.declared.Side.the-variants.{Max}
+use Rattle.gametree.specs.Tree.{leaves}
+use Rattle.gametree.proofs.minimax.Counts.{leaves-size}
+use Rattle.frames.specs.declared.Rejection.{Rejection}
+use Rattle.frames.specs.declared.Checked.the-variants as checked-answer
+use Rattle.frames.specs.Tree.{tree}
+use Rattle.frames.specs.Check.{rejection, Accepted, checked}
+use Rattle.frames.proofs.Acceptance.{accepted-formed, nodes-accepted, rejected-first}
+use Rattle.frames.proofs.Places.{place-root}
+use Rattle.frames.proofs.Totals.{tree-size}
+use Rattle.worstcase.specs.declared.Filled.the-variants.{Leaves, Rejected}
+use Rattle.worstcase.specs.Ranks.{ranked, dearest}
+use Rattle.worstcase.specs.Outcome.{filling, fillOutcome}
+use Rattle.worstcase.specs.engine.Fillable.{Fillable}
+
+module _ (t : List ℕ) where
+  -- an accepted table can be filled from the root on
+  pub root-fillable : Accepted t → Fillable t 0 Max 0
+  root-fillable a =
+      let wf = accepted-formed t a in
+      record {
+        formed = wf;
+        inside = wf .some;
+        mover = sym (ap (λ p. p .side) (place-root t));
+        few = omega (arith, leaves-size (tree t), tree-size t wf, wf .few);
+      }
+
+  module _ (n : ℕ) (e : checked-answer.Nodes n ≡ checked t) where
+    -- a table whose check gives nodes can be filled
+    pub checked-fillable : Fillable t 0 Max 0
+    checked-fillable = root-fillable (nodes-accepted t n e .0)
+
+    -- and what the recursion gives is the outcome
+    pub fill-gives : (x : ℕ) (u : List ℕ) → x ≡ 0 + length (leaves (tree t)) → u ≡ ranked 0 (tree t) t
+        → record { answer = Leaves x; table = u } ≡ fillOutcome t
+    unfolding dearest
+    fill-gives x u p q =
+        let z : x ≡ length (leaves (tree t)) = omega arith in rw (nodes-accepted t n e .0, z, q)
+
+  -- a rejection leaves the table
+  pub fill-refused : (r : Rejection) → checked-answer.Rejected r ≡ checked t
+      → record { answer = Rejected r; table = t } ≡ fillOutcome t
+  fill-refused r e = rw (rejected-first t r e)
+
+  -- what a number of leaves for an answer says, and what a rejection
+  given-parts : (q : Option Rejection) (n : ℕ) → filling t q .answer ≡ Leaves n
+      → (q ≡ none) × (n ≡ length (leaves (tree t))) × (filling t q .table ≡ dearest t)
+  given-parts none n e = (refl, cc, refl)
+  given-parts (some r) n e = clash (cc)
+
+  refused-parts : (q : Option Rejection) (r : Rejection) → filling t q .answer ≡ Rejected r
+      → (q ≡ some r) × (filling t q .table ≡ t)
+  refused-parts none r e = clash (cc)
+  refused-parts (some x) r e = (cc, refl)
+
+  pub fill-given : (n : ℕ) → fillOutcome t .answer ≡ Leaves n
+      → Accepted t × (n ≡ length (leaves (tree t))) × (fillOutcome t .table ≡ dearest t)
+  fill-given n e = given-parts (rejection t) n e
+
+  pub fill-kept : (r : Rejection) → fillOutcome t .answer ≡ Rejected r
+      → (rejection t ≡ some r) × (fillOutcome t .table ≡ t)
+  fill-kept r e = refused-parts (rejection t) r e
+
+  -- an accepted table is filled
+  pub fill-accepted : Accepted t → fillOutcome t ≡ filling t none
+  fill-accepted a = ap (filling t) a

@@ -1,0 +1,51 @@
+-- `worstcase::fill` meets its contract: the questions are answered, and then the leaves are filled or nothing is done.
+use mathlib.Core.Path.{sym, _∙_}
+use borrow.Author.Needs.{needs}
+use Rattle.worstcase.proofs.Whole.{checked-fillable, fill-gives, fill-refused}
+use Rattle.worstcase.proofs.fill.Statement.{statement}
+use Rattle.worstcase.proofs.fill.Tie as tie
+
+check-requires : tie.Need-check-requires
+check-requires c κs = search needs
+
+enum-told : tie.Need-enum-told
+enum-told c = search needs
+
+fill-node-requires : tie.Need-fill-node-requires
+fill-node-requires c κs =
+    let k = c .before in
+    checked-fillable _ _ (sym (k .enum-told .given .1) ∙ k .before .before .check .ensures)
+
+enum-known-rejection : tie.Need-enum-known-rejection
+enum-known-rejection c = search needs
+
+same-length : tie.Need-same-length
+same-length c = search needs
+
+returns : tie.Need-returns
+returns c =
+    let f = c .before .before in
+    let k = f .before .before in
+    fill-gives _ _ (sym (k .enum-told .given .1) ∙ k .before .before .check .ensures) _ _ (f .fill-node .ensures .0)
+    (f .fill-node .ensures .1)
+
+same-length-2 : tie.Need-same-length-2
+same-length-2 c = search needs
+
+returns-2 : tie.Need-returns-2
+returns-2 c =
+    let k = c .before in
+    fill-refused _ _ (sym (k .rejection .given .1) ∙ k .before .before .check .ensures)
+
+pub fill-spec : {M : Type 1} → statement M
+fill-spec =
+    tie.close
+    (tie.spec
+    check-requires
+    enum-told
+    fill-node-requires
+    enum-known-rejection
+    same-length
+    returns
+    same-length-2
+    returns-2)

@@ -1,0 +1,29 @@
+-- The dearest filling of a table (02: N11): the ranks 0, 1, 2 and so on at its leaves, in blocks.
+use Prim.Native.Nat.{ℕ, _+_, _*_, _/_, _%_}
+use mathlib.Core.List.{List}
+use lib.ListN.{length, set}
+use Rattle.gametree.specs.declared.Side.{Side}
+use Rattle.gametree.specs.declared.Side.the-variants.{Max, Min}
+use Rattle.gametree.specs.Tree.{Tree, leaf, inner, Kids, last, _then_, leaves, leavesKids}
+use Rattle.frames.specs.Frame.{frameSize}
+use Rattle.frames.specs.Tree.{tree}
+
+-- the table with the rank r at leaf i: in its bytes 4 and 5, high byte first
+unfoldable pub withRank : (i r : ℕ) → List ℕ → List ℕ
+withRank i r t = set (set t (frameSize * i + 4) (r / 256)) (frameSize * i + 5) (r % 256)
+
+-- the table with the ranks from r on at the leaves of a tree, a child's ranks being a block: at Max the first child's
+-- block comes before those of its younger brothers, so that they rise from left to right, at Min behind them
+abbrev mutual
+  pub ranked : (r : ℕ) → Tree → List ℕ → List ℕ
+  ranked r (leaf i) t = withRank i r t
+  ranked r (inner i s ks) t = rankedKids r s ks t
+
+  pub rankedKids : (r : ℕ) → Side → Kids → List ℕ → List ℕ
+  rankedKids r s (last v) t = ranked r v t
+  rankedKids r Max (v then vs) t = rankedKids (r + length (leaves v)) Max vs (ranked r v t)
+  rankedKids r Min (v then vs) t = ranked (r + length (leavesKids vs)) v (rankedKids r Min vs t)
+
+-- the dearest filling of the table's shape
+unfoldable pub dearest : List ℕ → List ℕ
+dearest t = ranked 0 (tree t) t
