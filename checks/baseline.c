@@ -634,6 +634,17 @@ struct answer c_fill(uint8_t *table, size_t length) {
     return (struct answer){ .leaves = put_ranks(table, 0, 0, 0) };
 }
 
+/* ---- the least count of a regular tree */
+
+struct answer c_least(size_t width, size_t depth) {
+    if (width < 1 || width > CHILDREN) return no(22, 0);
+    if (depth > DEPTH) return no(23, 0);
+    uint64_t power = 1; /* of half the depth, rounded down */
+    for (size_t i = 0; i < depth / 2; i++) power *= width;
+    uint64_t leaves = power + (depth % 2 ? power * width : power) - 1;
+    return (struct answer){ .count = leaves < UINT16_MAX ? leaves : UINT16_MAX };
+}
+
 /* ---- the program's text */
 
 struct text c_report(const uint8_t *file, size_t length) {

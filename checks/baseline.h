@@ -14,7 +14,7 @@ struct answer {
     int32_t merit;
     int16_t value;
     size_t place;
-    size_t count; /* nodes; bytes of a written or converted file */
+    size_t count; /* nodes; bytes of a written or converted file; a least count */
     size_t root_move;
     size_t leaves;
     size_t steps; /* passes of MTD, replacements of SSS* */
@@ -38,6 +38,7 @@ typedef struct answer graft_call(const uint8_t *first, size_t first_length, size
                                  size_t second_length, uint8_t *result, size_t room);
 typedef struct answer needed_call(const uint8_t *table, size_t length, size_t node, int32_t wanted);
 typedef struct answer fill_call(uint8_t *table, size_t length);
+typedef struct answer least_call(size_t width, size_t depth);
 typedef struct text report_call(const uint8_t *file, size_t length);
 
 /* c_sss keeps its list by node number with a front of greatest merits, c_sss_list is the textbook's list, scanned at
@@ -51,5 +52,6 @@ verify_call c_verify;
 graft_call c_graft;
 needed_call c_needed;
 fill_call c_fill;
+least_call c_least;
 report_call c_report;
 #endif

@@ -1,7 +1,7 @@
 #!/usr/bin/env python3
 """Runs a compiled `cases` on generated calls over lent memory and compares with oracle.py: marks, certificates, passes, replacements,
 allowances, verdicts on right and on damaged flags, short buffers, parts of tables, written files, grafts, values for a
-wanted root value, dearest fillings, lines and children.
+wanted root value, dearest fillings, least counts, lines and children.
 
     fuzz_calls.py PROGRAM [--runs N] [--seed S]     N inputs of up to 65,000 bytes each (default 40)
 """
@@ -57,7 +57,7 @@ def call(rng):
     """A file, a call and the lines that it prints."""
     table = bytes(fuzz.good_table(rng, rng.choice((7, 12, 30, 60))))
     file, n = o.file_of(table), len(table) // 6
-    kind = rng.randrange(13)
+    kind = rng.randrange(14)
     if kind <= 2:
         marks, flags = (rng.choice((n, n, n, n + 1, n + 9, n - 1, 0)) for _ in range(2))
         return file, "buffers %d %d" % (marks, flags), m.searches(table, marks, flags)
@@ -94,6 +94,9 @@ def call(rng):
     if kind == 11:
         size = rng.choice((6 * n, 6 * n, 6 * n, 6 * n - 1, 6 * n + 6, rng.randrange(6 * n + 1)))
         return file, "dearest %d" % size, m.dearest((table + bytes(m.TABLE_SIZE - len(table)))[:size])
+    if kind == 12:
+        width, depth = rng.choice((rng.randrange(43), 99999999)), rng.choice((rng.randrange(21), 99999999))
+        return file, "regular %d %d" % (width, depth), "least %s\n" % m.answered(o.least_leaves(width, depth))
     if rng.random() < 0.5:
         file, at = rng.choice((file, file[:-1], fuzz.other_byte(rng, file))), rng.choice((13 * rng.randrange(n + 1), rng.randrange(13 * n + 3)))
         if set(b"#@") & set(file):

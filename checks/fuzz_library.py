@@ -208,6 +208,14 @@ def small_trees():
                 yield from needed(table, node, 1)
 
 
+def least_counts():
+    """02, N12: the whole table, and what lies around it and far from it."""
+    far = (255, 256, 65535, 65536, 2 ** 32, 2 ** 64 - 1)
+    for width, depth in itertools.product((*range(43), *far), (*range(21), *far)):
+        r = o.least_leaves(width, depth)
+        yield "least", (width, depth), flat(r, count=r), ()
+
+
 def random_calls(rng):
     table = fuzz.large_table(rng) if rng.random() < 0.01 else fuzz.good_table(rng, rng.choice((7, 20, 60, 200)))
     n = len(table) // 6
@@ -246,7 +254,7 @@ def main():
     parser.add_argument("--seed", type=int, default=1)
     args = parser.parse_args()
     sides, rng, asked, bad = libraries(), random.Random(args.seed), Counter(), 0
-    todo = itertools.chain(small_trees(), itertools.chain.from_iterable(random_calls(rng) for _ in range(args.count)))
+    todo = itertools.chain(least_counts(), small_trees(), itertools.chain.from_iterable(random_calls(rng) for _ in range(args.count)))
     for name, lent, answer, left in todo:
         asked[name] += 1
         want = answer, [bytes(data) for data in left]

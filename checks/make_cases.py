@@ -95,6 +95,14 @@ def made_grafts():
         made += b"# a graft of %s nodes\ngraft %s\n" % (title.encode(), got.encode())
 
 
+def least_counts():
+    """02, N12: the whole table, a line for each width."""
+    global made
+    made += b"# the least counts\n"
+    for width in range(1, o.MAX_CHILDREN + 1):
+        made += b"least%s\n" % numbers(o.least_leaves(width, d) for d in range(o.MAX_DEPTH + 1)).encode()
+
+
 def files_of_01():
     file_case("sample of 01", ROW, rows=[("ab", 3, 2, 4), ("mtd", 3, 2, 3), ("sss", 3, 2, 3)])
     file_case("7 1 / 7", tree_file([[7, 1], [7]]), rows=all_three(7, 2, 3))
@@ -538,6 +546,19 @@ def dearest_cases():
         add("dearest: " + title, file, "dearest %d" % size, got)
 
 
+def regular_cases():
+    """02, N12: the table's corners, the two entries that meet the cap, the questions and their order."""
+    for title, width, depth, want in (
+            ("width 1, depth 18", 1, 18, "1"), ("width 40, depth 0", 40, 0, "1"), ("width 2, depth 2", 2, 2, "3"),
+            ("width 40, depth 4", 40, 4, "3199"), ("just below the cap", 39, 5, "60839"), ("the cap met, 8 and 10", 8, 10, "65535"),
+            ("the cap met, 32 and 6", 32, 6, "65535"), ("above the cap", 40, 18, "65535"), ("width 0", 0, 4, "refused 22 0"),
+            ("width 41", 41, 4, "refused 22 0"), ("depth 19", 2, 19, "refused 23 0"), ("width before depth", 0, 99, "refused 22 0"),
+            ("a large width", 65537, 99999999, "refused 22 0"), ("a large depth", 1, 65536, "refused 23 0")):
+        got = answered(o.least_leaves(width, depth))
+        assert got == want, (title, got)
+        add("regular: " + title, b"", "regular %d %d" % (width, depth), "least %s\n" % got)
+
+
 def service_cases():
     """One line, and the children of a node."""
     for title, file, at in (("first line", ROW, 0), ("second line", ROW, 13), ("last line", ROW, 78),
@@ -557,9 +578,10 @@ def service_cases():
 
 def main():
     directory = sys.argv[1] if len(sys.argv) > 1 else os.path.join(os.path.dirname(HERE), "crates", "cases")
-    for part in (made_trees, made_grafts, files_of_01, rows_of_002, rejected_files, accepted_files, wins_and_losses, second_captures,
+    for part in (made_trees, made_grafts, least_counts, files_of_01, rows_of_002, rejected_files, accepted_files, wins_and_losses,
+                 second_captures,
                  flags_cases, buffer_cases, allowance_cases, table_cases, reader_cases, writer_cases, graft_cases, wanted_cases, dearest_cases,
-                 service_cases):
+                 regular_cases, service_cases):
         part()
     assert len(stdin) < 65536
     for name, data in (("stdin", stdin), ("stdout", made + asked)):

@@ -22,6 +22,7 @@ MAX_CHILDREN = 40
 MAX_DEPTH = 18
 MAX_VALUE = 32000
 WIN = 31000
+MAX_LEAST = 65535
 LEAST, GREATEST = -32001, 32001
 
 Refusal = namedtuple("Refusal", "number place")
@@ -603,6 +604,15 @@ def dearest(table):
     for k in tree.leaves():
         table[6 * k + 4:6 * k + 6] = start[k].to_bytes(2, "big")
     return leaves[0]
+
+
+def least_leaves(width, depth):
+    """02, N12: 22 and 23, the width first; the fewest leaves that decide a regular tree, capped."""
+    if not 1 <= width <= MAX_CHILDREN:
+        return Refusal(22, 0)
+    if depth > MAX_DEPTH:
+        return Refusal(23, 0)
+    return min(width ** ((depth + 1) // 2) + width ** (depth // 2) - 1, MAX_LEAST)
 
 
 def write_marks(tree, order, marks):

@@ -425,6 +425,34 @@ def smallest_pair(tree):
                if max(tree.worth[k] for k in a) == min(tree.worth[k] for k in b))
 
 
+def regular_tree(rng, width, depth, kind):
+    """All leaves at this depth."""
+    return trees.fill(rng, trees.regular_counts(width, sum(width ** i for i in range(depth))), kind)
+
+
+def least_counts():
+    """Request N12: every pair of equal value in small regular trees, and the searches of larger ones; the cap, the questions."""
+    rng = random.Random(12)
+    for width, depth in ((1, 0), (1, 3), (1, 18), (2, 0), (2, 1), (2, 2), (2, 3), (3, 1), (3, 2), (4, 2), (40, 1)):
+        for kind in trees.VALUES:
+            tree = o.Tree(regular_tree(rng, width, depth, kind))
+            leaf = lambda s: frozenset(k for k in s if not tree.kids[k])
+            sizes = {len(a | b) for a in set(map(leaf, solution_trees(tree, 0, 1))) for b in set(map(leaf, solution_trees(tree, 0, 2)))
+                     if max(tree.worth[k] for k in a) == min(tree.worth[k] for k in b)}
+            same("N12 pairs of %d and %d" % (width, depth), sizes, {o.least_leaves(width, depth)})
+    shapes_ = [(w, d) for w in range(1, 41) for d in range(19) if sum(w ** i for i in range(d + 1)) <= o.MAX_NODES]
+    same("N12 accepted shapes", (len(shapes_), max(o.least_leaves(*s) for s in shapes_)), (168, 239))
+    for width, depth in shapes_:
+        table = regular_tree(rng, width, depth, rng.choice(list(trees.VALUES)))
+        for search in (o.alpha_beta, o.mtd_search, o.sss_search):
+            same("N12 no fewer in %d and %d" % (width, depth), run(search, table)[0].leaves >= o.least_leaves(width, depth), True)
+    capped = [(w, d) for w in range(1, 41) for d in range(19) if o.least_leaves(w, d) == o.MAX_LEAST]
+    above = [(w, d) for w, d in capped if w ** ((d + 1) // 2) + w ** (d // 2) > 65536]
+    same("B68 the cap", (len(above), [s for s in capped if s not in above]), (414, [(8, 10), (32, 6)]))
+    for width, depth, want in ((0, 99, (22, 0)), (41, 0, (22, 0)), (40, 19, (23, 0)), (1, 18, 1), (40, 3, 1639), (12, 5, 1871)):
+        same("B69 %d and %d" % (width, depth), o.least_leaves(width, depth), want)
+
+
 def one_tree(rng, table, literal, pairs):
     tree = o.Tree(table)
     n = tree.n
@@ -555,6 +583,7 @@ def main():
     grafts()
     wanted_values()
     dearest_fillings()
+    least_counts()
     print("papers and examples: %d checks, %d wrong" % (checks, len(wrong)))
     every_small_tree(6)
     print("all trees of up to 6 nodes: %d checks, %d wrong" % (checks, len(wrong)))

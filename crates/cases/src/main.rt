@@ -19,6 +19,8 @@ use tablecalls::certificates::print_verdict_of;
 use tablecalls::files::print_line;
 use tablecalls::files::print_reading;
 use tablecalls::files::print_writing;
+use tablecalls::least::print_least_counts;
+use tablecalls::least::print_regular;
 use tablecalls::tables::print_children;
 use tablecalls::wanted::print_needed;
 
@@ -32,6 +34,7 @@ const LINE_FEED: u8 = 10;
 fn main() {
     print_made_trees();
     print_made_grafts();
+    print_least_counts();
     let mut input = io::large_buffer();
     let size = io::read_full(STDIN_FILENO, &mut input);
     print_cases(&input[..size]);
@@ -79,7 +82,7 @@ fn name(call: &[u8]) -> u8 {
 }
 
 // What a call with numbers gives, by the first letter of its name: buffers, allowance, table, write, graft, value,
-// dearest, check, line or kids.
+// dearest, regular, check, line or kids.
 fn print_call(letter: u8, file: &[u8], numbers: &[u32; NUMBERS]) {
     match letter {
         b'b' => print_searches(file, numbers[0], numbers[1]),
@@ -89,6 +92,7 @@ fn print_call(letter: u8, file: &[u8], numbers: &[u32; NUMBERS]) {
         b'g' => print_graft(file, numbers),
         b'v' => print_needed(file, numbers[0], numbers[1], numbers[2], numbers[3]),
         b'd' => print_filling(file, numbers[0]),
+        b'r' => print_regular(numbers[0], numbers[1]),
         b'c' => print_checks(file, numbers[0]),
         b'l' => print_line(file, numbers[0]),
         b'k' => print_children(file, numbers[0]),

@@ -2,7 +2,8 @@
 -- request N3: Saving; tables without wins and losses (request N5): Ordinary; SSS* within an allowance (request N6):
 -- Allowance; capital letters (request N7): Capitals; tables without a second capture (request N8): Alternating; grafts
 -- (request N9): Grafting; a leaf's value for a wanted root value (request N10): Wanted; the dearest filling
--- (request N11): Dearest. The other files carry the theory's theorems to calls over byte tables.
+-- (request N11): Dearest; least counts (request N12): LeastCounts. The other files carry the theory's theorems to calls
+-- over byte tables.
 mod Parts
 mod Views
 mod Handed
@@ -20,4 +21,5 @@ pub mod Alternating
 pub mod Grafting
 pub mod Wanted
 pub mod Dearest
+pub mod LeastCounts
 pub mod Cases

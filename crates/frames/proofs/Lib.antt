@@ -17,5 +17,6 @@ pub mod Stated
 pub mod Asked
 pub mod Acceptance
 pub mod TreeOfTable
+pub mod Regular
 pub mod FirstNo
 pub mod Cases

@@ -7,6 +7,7 @@ use mathlib.Core.Logic.{inl, inr}
 use mathlib.Core.List.{List}
 use Rattle.gametree.specs.declared.Side.{Side}
 use Rattle.gametree.specs.Tree.{Tree, leaf, inner, last, _then_, number, size, sizeKids, In, InKids}
+use Rattle.gametree.proofs.certificates.Counting.{kidCount}
 use Rattle.frames.specs.Frame.{frames, firstChild, childCount}
 use Rattle.frames.specs.Place.{sideOf}
 use Rattle.frames.specs.Tree.{kidsFrom, node, grow, treeAt}
@@ -24,6 +25,12 @@ pub node-same : (i : ℕ) (s : Side) (g h : ℕ → Tree) (first n : ℕ)
     → ((k : ℕ) → first ≤ k → k < first + n → g k ≡ h k) → node i s g first n ≡ node i s h first n
 node-same i s g h first zero e = refl
 node-same i s g h first (suc n) e = ap (inner i s) (kids-same g h first n (λ k a b. e k a (omega arith)))
+
+-- they are as many as are counted
+pub kids-count : (g : ℕ → Tree) (i n : ℕ) → kidCount (kidsFrom g i n) ≡ suc n
+unfolding kidsFrom
+kids-count g i zero = refl
+kids-count g i (suc n) = ap suc (kids-count g (i + 1) n)
 
 -- a number is in one of the children's trees exactly if it is in the tree of one of the numbers
 pub in-kids : (g : ℕ → Tree) (i n p : ℕ) → InKids p (kidsFrom g i n) → (k : ℕ) × (i ≤ k) × (k ≤ i + n) × In p (g k)

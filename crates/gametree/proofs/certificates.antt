@@ -5,3 +5,5 @@ pub mod Checker
 pub mod ReadOff
 pub mod Flags
 pub mod SmallestPair
+pub mod SharedLeaf
+pub mod Regular

@@ -2,5 +2,6 @@
 pub mod answers;
 pub mod certificates;
 pub mod files;
+pub mod least;
 pub mod tables;
 pub mod wanted;

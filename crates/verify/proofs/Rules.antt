@@ -2,7 +2,7 @@
 -- tree.
 use Prim.Native.Nat.{ℕ, zero, suc, _+_, _≤_, _<_}
 use native.Mathlib.Omega.{arith}
-use mathlib.Core.Path.{_≡_, refl, sym, ap, ap₂, _∙_}
+use mathlib.Core.Path.{_≡_, refl, sym, ap₂, _∙_}
 use mathlib.Core.Bool.{Bool, true, false, cond}
 use mathlib.Core.List.{List}
 use borrow.Author.Tests.{eq-eqb, eqb-true}
@@ -17,7 +17,7 @@ use Rattle.frames.specs.Place.{sideOf}
 use Rattle.frames.specs.Tree.{kidsFrom, treeAt, tree}
 use Rattle.frames.specs.Formed.{WellFormed}
 use Rattle.frames.proofs.Parents.{bottom-up}
-use Rattle.frames.proofs.Trees.{zero-or-suc, tree-leaf, tree-inner, tree-number}
+use Rattle.frames.proofs.Trees.{kids-count, zero-or-suc, tree-leaf, tree-inner, tree-number}
 use Rattle.verify.specs.Flags.{member, membersFrom, requiredOf, rootMember, ruleHolds}
 use Rattle.verify.proofs.Subtrees.{Inherited, each-subtree}
 
@@ -28,11 +28,6 @@ module _ (p : Side) (t flags : List ℕ) where
   members-kids i zero = rw (tree-number t i) (omega arith)
   members-kids i (suc n) =
       ap₂ (λ k m. cond (member p flags k) 1 0 + m) (tree-number t i) (members-kids (i + 1) n)
-
-count-kids : (h : ℕ → Tree) (i n : ℕ) → kidCount (kidsFrom h i n) ≡ suc n
-unfolding kidsFrom
-count-kids h i zero = refl
-count-kids h i (suc n) = ap suc (count-kids h (i + 1) n)
 
 required-same : (p q : Side) (b : Bool) (ks : Kids) (n : ℕ) → kidCount ks ≡ suc n
     → required p q b ks ≡ requiredOf p q b (suc n)
@@ -76,7 +71,7 @@ module _ (p : Side) (t flags : List ℕ) (wf : WellFormed t) where
       rw e
       (sym (members-kids p t flags (firstChild t i) n)
       ∙ rule-counting p (sideOf t i) (member p flags i) (member p flags) ks .0 r
-      ∙ required-same p (sideOf t i) (member p flags i) ks n (count-kids (treeAt t) (firstChild t i) n))
+      ∙ required-same p (sideOf t i) (member p flags i) ks n (kids-count (treeAt t) (firstChild t i) n))
 
   count-rule : (i n : ℕ) → childCount t i ≡ suc n
       → Counted i
@@ -85,7 +80,7 @@ module _ (p : Side) (t flags : List ℕ) (wf : WellFormed t) where
       let ks = kidsFrom (treeAt t) (firstChild t i) n in
       rule-counting p (sideOf t i) (member p flags i) (member p flags) ks .1
       (members-kids p t flags (firstChild t i) n ∙ rw e at c
-      ∙ sym (required-same p (sideOf t i) (member p flags i) ks n (count-kids (treeAt t) (firstChild t i) n)))
+      ∙ sym (required-same p (sideOf t i) (member p flags i) ks n (kids-count (treeAt t) (firstChild t i) n)))
 
   -- flags whose rule holds at each node are a solution tree
   pub rules-solve : ((i : ℕ) → i < frames t → ruleHolds p t flags i ≡ true) → SolutionTree p (member p flags) (tree t)

@@ -146,3 +146,18 @@ mutual
   leavesKids-size : (ks : Kids) → length (leavesKids ks) ≤ sizeKids ks
   leavesKids-size (last t) = leaves-size t
   leavesKids-size (t then ts) = simp length-append (omega (arith, leaves-size t, leavesKids-size ts))
+
+leaf-once : (b : Bool) → cond b 1 0 ≤ 1
+leaf-once true = le-refl 1
+leaf-once false = omega arith
+
+-- two sets have no more leaves of a tree than there are
+mutual
+  pub pairLeaves-all : (g h : ℕ → Bool) (t : Tree) → pairLeaves g h t ≤ length (leaves t)
+  pairLeaves-all g h (leaf n) = leaf-once (g n || h n)
+  pairLeaves-all g h (inner n s ks) = pairLeavesKids-all g h ks
+
+  pairLeavesKids-all : (g h : ℕ → Bool) (ks : Kids) → pairLeavesKids g h ks ≤ length (leavesKids ks)
+  pairLeavesKids-all g h (last t) = pairLeaves-all g h t
+  pairLeavesKids-all g h (t then ts) =
+      simp length-append (omega (arith, pairLeaves-all g h t, pairLeavesKids-all g h ts))

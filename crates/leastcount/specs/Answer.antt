@@ -1,0 +1,32 @@
+-- The questions of a width and a depth in order, and the answer (SPEC 18.4).
+use Prim.Native.Nat.{ℕ}
+use mathlib.Core.Bool.{_&&_}
+use mathlib.Core.Option.{Option, none, some}
+use lib.Dec.{ltb, leb}
+use Rattle.frames.specs.declared.Rejection.{Rejection}
+use Rattle.frames.specs.Frame.{maxChildren, maxDepth}
+use Rattle.frames.specs.Rejection.{ask, _andThen_}
+use Rattle.leastcount.specs.declared.Least.{Least}
+use Rattle.leastcount.specs.declared.Least.the-variants.{Leaves, Rejected}
+use Rattle.leastcount.specs.Rule.{leastCount}
+
+-- 22: is the width from 1 to 40?
+abbrev pub check22 : (width : ℕ) → Option Rejection
+check22 w = ask (ltb 0 w && leb w maxChildren) 22 0
+
+-- 23: is the depth at most 18?
+abbrev pub check23 : (depth : ℕ) → Option Rejection
+check23 d = ask (leb d maxDepth) 23 0
+
+-- the first "no", the width before the depth
+abbrev pub leastRejection : (width depth : ℕ) → Option Rejection
+leastRejection w d = check22 w andThen check23 d
+
+-- a count where no question got a "no"
+abbrev pub leastGiven : ℕ → Option Rejection → Least
+leastGiven n none = Leaves n
+leastGiven n (some r) = Rejected r
+
+-- the answer of a call
+abbrev pub leastAnswer : (width depth : ℕ) → Least
+leastAnswer w d = leastGiven (leastCount w d) (leastRejection w d)

@@ -1,0 +1,2 @@
+-- What only private functions cite.
+pub mod Ruled
