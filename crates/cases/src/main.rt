@@ -11,7 +11,7 @@ use libc::STDOUT_FILENO;
 use reports::print_graft;
 use reports::print_made_trees;
 use reports::print_report;
-use searchcalls::dearest::print_filling;
+use searchcalls::fillings::print_filling;
 use searchcalls::print_allowed;
 use searchcalls::print_checks;
 use searchcalls::print_searches;

@@ -6,7 +6,7 @@ use frames::MAX_TABLE;
 use frames::Rejection;
 use frames::TOO_LONG;
 use treefile::MAX_FILE;
-use treefile::Written;
+use writer::Written;
 ghost use mathlib.Core.Path.{_≡_};
 ghost use mathlib.Core.List.{_++_};
 ghost use Prim.Native.Nat.{_≤_};

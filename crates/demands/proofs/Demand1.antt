@@ -181,8 +181,9 @@ never-15 a t lengths = by-questions (searchRejection t lengths) refl
     by-questions (some x) p = rw p
 
 -- "After a refusal all lent memory holds what it held before": the buffers of each search (those of the plain engine:
--- `kept-plain` in Plain.antt), the list of SSS*, the table of the reader, the buffer of the writer (that of a graft:
--- `kept-result` in Grafting.antt); the other entries are lent nothing that they could change
+-- `kept-plain` in Plain.antt), the list of SSS*, the table of the reader, the buffer of the writer (that of the
+-- converter: `still-refused` in Capitals.antt; of a graft: `kept-result` in Grafting.antt; the table that is filled:
+-- `kept-table` in WorstCase.antt); the other entries are lent nothing that they could change
 
 module _ {t : List ℕ} {r : Rejection} where
   pub kept-alphaBeta : (c : AlphaBetaCall t (ab-answer.Rejected r)) → c .left ≡ c .lent

@@ -1,8 +1,8 @@
 -- The demands, sentence by sentence: Demand1, Demand2 and Demand3; the plain engine of request N1: Plain; the writer of
 -- request N3: Saving; tables without wins and losses (request N5): Ordinary; SSS* within an allowance (request N6):
 -- Allowance; capital letters (request N7): Capitals; tables without a second capture (request N8): Alternating; grafts
--- (request N9): Grafting; a leaf's value for a wanted root value (request N10): Wanted; the dearest filling
--- (request N11): Dearest; least counts (request N12): LeastCounts. The other files carry the theory's theorems to calls
+-- (request N9): Grafting; a leaf's value for a wanted root value (request N10): Wanted; the worst-case filling
+-- (request N11): WorstCase; least counts (request N12): LeastCounts. The other files carry the theory's theorems to calls
 -- over byte tables.
 mod Parts
 mod Views
@@ -20,6 +20,6 @@ pub mod Capitals
 pub mod Alternating
 pub mod Grafting
 pub mod Wanted
-pub mod Dearest
+pub mod WorstCase
 pub mod LeastCounts
 pub mod Cases

@@ -3,7 +3,8 @@
 -- `rootValue t k v` is the root's value where the leaf k holds v and each other leaf what it holds in t.
 use Prim.Native.Nat.{ℕ, _≤_, _<_}
 use mathlib.Core.Path.{_≡_, _∙_}
-use mathlib.Core.Option.{some}
+use mathlib.Core.Logic.{_⊎_}
+use mathlib.Core.Option.{none, some}
 use mathlib.Core.List.{List}
 use lib.IntN.{ℤ, natAbs}
 use lib.Signed.{_<ℤ_}
@@ -14,10 +15,11 @@ use Rattle.frames.specs.declared.Rejection.{Rejection}
 use Rattle.frames.specs.Tree.{tree, valuation}
 use Rattle.frames.specs.Value.{valueOf, maxValue}
 use Rattle.frames.specs.Check.{rejection, Accepted}
+use Rattle.frames.specs.results.Leaf.{Leaf}
 use Rattle.leafvalue.specs.declared.Needed.the-variants.{Value, Rejected}
-use Rattle.leafvalue.specs.Wanted.{needed}
-use Rattle.leafvalue.specs.results.Root.{Leaf, rootValue, SameBut, heldValue}
-use Rattle.leafvalue.proofs.Questions.{table-refused, table-accepted, no-leaf, out-of-range}
+use Rattle.leafvalue.specs.Wanted.{valueRejection, needed}
+use Rattle.leafvalue.specs.results.Root.{rootValue, SameBut, heldValue}
+use Rattle.leafvalue.proofs.Questions.{table-refused, table-accepted, no-leaf, out-of-range, first-no}
 use Rattle.leafvalue.proofs.Theorems.{leaf-test, test-leaf, given, value-exists, none-exists, only-none}
 use Rattle.leafvalue.proofs.Influence.{value-held, same-answer}
 
@@ -59,6 +61,11 @@ module _ (t : List ℕ) (k : ℕ) (w : ℤ) where
       → needed t k w ≡ Rejected (record { number = 20; place = 0 })
   wanted-outside a l h =
       table-accepted t k w a ∙ out-of-range t k w (leaf-test t k l) (lt-leb (natAbs w) maxValue h)
+
+  -- demand 1: a refusal is the first "no" to 1 to 9, 19 and 20, or, where these have none, 21 at the leaf
+  pub first-needed : (r : Rejection) → needed t k w ≡ Rejected r
+      → (valueRejection t k w ≡ some r) ⊎ ((valueRejection t k w ≡ none) × (r ≡ record { number = 21; place = k }))
+  first-needed = first-no t k w
 
 module _ (t u : List ℕ) (k : ℕ) (s : SameBut t u k) (a : Accepted t) (b : Accepted u) where
   -- `rootValue` is what it says: a table that holds v at the leaf, and otherwise what t holds, has that minimax value

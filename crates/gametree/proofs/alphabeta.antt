@@ -1,3 +1,3 @@
 -- Alpha-beta in a window: its value, and the leaves that it evaluates; scores for which these are all leaves.
 pub mod Window
-pub mod Dearest
+pub mod WorstCase

@@ -1,5 +1,5 @@
 // Trees that are made: the first `inner` nodes have `width` children each, and a leaf's value is its number.
-use crate::regular::write_tree;
+use crate::levels::write_tree;
 use frames::MAX_TABLE;
 use libc::STDOUT_FILENO;
 use tablecalls::answers::print_checked;

@@ -17,12 +17,13 @@ use Rattle.frames.specs.Tree.{tree, valuation, leafScore}
 use Rattle.frames.specs.Value.{valueOf}
 use Rattle.frames.specs.Formed.{WellFormed}
 use Rattle.frames.specs.Check.{Accepted}
+use Rattle.frames.specs.results.Leaf.{Leaf}
 use Rattle.frames.proofs.Acceptance.{accepted-formed}
 use Rattle.frames.proofs.Proper.{every-leaf}
 use Rattle.frames.proofs.Shapes.{same-place, same-score, same-tree}
 use Rattle.leafvalue.specs.Wanted.{isLeaf, check20, rootScore, firstScore, scoreCount, smallest, scoreOf}
 use Rattle.leafvalue.specs.Wanted.{found, unless, needed}
-use Rattle.leafvalue.specs.results.Root.{Leaf, rootValue, SameBut, heldValue}
+use Rattle.leafvalue.specs.results.Root.{rootValue, SameBut, heldValue}
 use Rattle.leafvalue.proofs.First.{first-same}
 use Rattle.leafvalue.proofs.Values.{score-again}
 use Rattle.leafvalue.proofs.Bounds.{leaf-is}

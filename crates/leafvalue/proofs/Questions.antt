@@ -2,11 +2,13 @@
 use Prim.Native.Nat.{ℕ, zero, suc, _≤_, _<_}
 use mathlib.Core.Path.{_≡_, refl, sym, ap, _∙_}
 use mathlib.Core.Bool.{true, false}
-use mathlib.Core.Option.{Option, some}
+use mathlib.Core.Option.{Option, none, some}
+use mathlib.Core.Logic.{_⊎_, inl, inr}
 use mathlib.Core.List.{List}
 use lib.Dec.{leb, eqb}
 use lib.IntN.{ℤ, natAbs}
 use borrow.Author.Tests.{lt-ltb, le-ltb}
+use Rattle.lists.proofs.Choice.{clash}
 use Rattle.frames.specs.declared.Rejection.{Rejection}
 use Rattle.frames.specs.Frame.{frames, childCount}
 use Rattle.frames.specs.Value.{valueOf, maxValue}
@@ -14,7 +16,8 @@ use Rattle.frames.specs.Rejection.{_andThen_}
 use Rattle.frames.specs.Check.{rejection, Accepted}
 use Rattle.leafvalue.specs.declared.Needed.{Needed}
 use Rattle.leafvalue.specs.declared.Needed.the-variants.{Value, Rejected}
-use Rattle.leafvalue.specs.Wanted.{isLeaf, check19, check20, smallest, scoreOf, found, unless, needed}
+use Rattle.leafvalue.specs.Wanted.{isLeaf, check19, check20, smallest, scoreOf, found, unless}
+use Rattle.leafvalue.specs.Wanted.{valueRejection, needed}
 use Rattle.leafvalue.specs.engine.Candidates.{held}
 
 -- a "no" to question q, with its place
@@ -60,3 +63,19 @@ found-none k r o e z = ap (found k) (sym e ∙ ap held z)
 pub found-value : (k r : ℕ) (o : Option ℕ) → held r ≡ o → (r ≡ 0 → ⊥) → found k o ≡ Value (valueOf r)
 found-value k zero o e z = absurd (z refl)
 found-value k (suc r) o e z = rw (← e)
+
+-- an answer that rejects comes from an earlier question, or from 21
+rejected-found : (k : ℕ) (o : Option ℕ) (r : Rejection) → found k o ≡ Rejected r → r ≡ record { number = 21; place = k }
+rejected-found k none r e = cc
+rejected-found k (some s) r e = clash (cc)
+
+rejected-unless : (k : ℕ) (o : Option Rejection) (p : Option ℕ) (r : Rejection) → unless o (found k p) ≡ Rejected r
+    → (o ≡ some r) ⊎ ((o ≡ none) × (r ≡ record { number = 21; place = k }))
+rejected-unless k none p r e = inr (refl, rejected-found k p r e)
+rejected-unless k (some s) p r e = inl (cc)
+
+-- a rejection is the first "no" to 1 to 9, 19 and 20, or, where these have none, 21 at the leaf
+pub first-no : (t : List ℕ) (k : ℕ) (w : ℤ) (r : Rejection) → needed t k w ≡ Rejected r
+    → (valueRejection t k w ≡ some r) ⊎ ((valueRejection t k w ≡ none) × (r ≡ record { number = 21; place = k }))
+unfolding needed
+first-no t k w r e = rejected-unless k (valueRejection t k w) (smallest t k (scoreOf w)) r e

@@ -19,6 +19,7 @@ use Rattle.frames.specs.Place.{depthOf}
 use Rattle.frames.specs.Tree.{tree}
 use Rattle.frames.specs.Value.{valueOf, maxValue}
 use Rattle.frames.specs.Check.{rejection, Accepted}
+use Rattle.frames.specs.results.Leaf.{Leaf}
 use Rattle.frames.proofs.Stated.{ask-yes, both-passed}
 use Rattle.frames.proofs.Acceptance.{accepted-formed}
 use Rattle.frames.proofs.Values.{value-range}
@@ -28,7 +29,7 @@ use Rattle.leafvalue.specs.declared.Needed.{Needed}
 use Rattle.leafvalue.specs.declared.Needed.the-variants.{Value, Rejected}
 use Rattle.leafvalue.specs.Wanted.{isLeaf, check19, check20, rootScore, firstScore, scoreCount, smallest, scoreOf}
 use Rattle.leafvalue.specs.Wanted.{found, unless, valueRejection, needed}
-use Rattle.leafvalue.specs.results.Root.{Leaf, rootValue}
+use Rattle.leafvalue.specs.results.Root.{rootValue}
 use Rattle.leafvalue.proofs.First.{found-first, found-none, none-found}
 use Rattle.leafvalue.proofs.Values.{score-range, score-value, score-again, same-scores, smaller}
 use Rattle.leafvalue.proofs.Bounds.{leaf-is, leaf-shallow}

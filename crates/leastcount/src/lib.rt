@@ -4,7 +4,7 @@ mod table;
 use frames::MAX_CHILDREN;
 use frames::MAX_DEPTH;
 use frames::Rejection;
-use table::LEAST;
+use table::LEAST_COUNTS;
 ghost use mathlib.Core.Path.{_≡_};
 ghost use Prim.Native.Nat.{_<_, _≤_};
 ghost use Rattle.frames.specs.Frame.{maxChildren, maxDepth};
@@ -59,5 +59,5 @@ fn entry(width: usize, depth: usize) -> u16
 fn whole_table() -> [[u16; MAX_DEPTH + 1]; MAX_CHILDREN]
     ensures { λ r. ⌜ r ≡ ruled ⌝ }
 {
-    LEAST
+    LEAST_COUNTS
 }

@@ -2,7 +2,7 @@
 use frames::MAX_CHILDREN;
 use frames::MAX_DEPTH;
 
-pub const LEAST: [[u16; MAX_DEPTH + 1]; MAX_CHILDREN] = [
+pub const LEAST_COUNTS: [[u16; MAX_DEPTH + 1]; MAX_CHILDREN] = [
     // width 1
     [1, 1, 1, 1, 1, 1, 1, 1, 1, 1, 1, 1, 1, 1, 1, 1, 1, 1, 1],
     // width 2

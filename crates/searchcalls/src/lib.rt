@@ -1,5 +1,5 @@
 // The calls of the searches, on lent memory, and what they leave there.
-pub mod dearest;
+pub mod fillings;
 mod found;
 
 use casetext::print::print_bytes;

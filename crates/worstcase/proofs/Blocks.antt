@@ -10,7 +10,7 @@ use Rattle.gametree.specs.declared.Side.the-variants.{Max, Min}
 use Rattle.gametree.specs.Tree.{Tree, leaf, inner, Kids, last, _then_, leaves, leavesKids, EveryLeaf, EveryLeafKids}
 use Rattle.gametree.specs.Tree.{In, InKids, Distinct, DistinctKids}
 use Rattle.gametree.proofs.minimax.Bounds.{every-map, every-map-kids}
-use Rattle.gametree.proofs.alphabeta.Dearest.{Blocks, BlocksKids, blocks-more, blocksKids-more}
+use Rattle.gametree.proofs.alphabeta.WorstCase.{Blocks, BlocksKids, blocks-more, blocksKids-more}
 use Rattle.frames.specs.Frame.{frameSize, frames, valueBytes}
 use Rattle.worstcase.specs.Ranks.{ranked, rankedKids}
 use Rattle.worstcase.proofs.Ranks.{Off, off-other, rank-value, ranked-length, rankedKids-length, ranked-other}

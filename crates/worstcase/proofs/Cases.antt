@@ -10,20 +10,21 @@ use Rattle.frames.specs.Tree.{kidsFrom, grow, treeAt, tree, valuation}
 use Rattle.frames.specs.Rejection.{eachNode}
 use Rattle.frames.specs.Check.{framesRejection, rejection}
 use Rattle.frames.specs.results.Cases.{leafFrame, lone}
-use Rattle.worstcase.specs.Ranks.{withRank, dearest}
+use Rattle.worstcase.specs.Ranks.{withRank, worstCase}
 use Rattle.worstcase.specs.Outcome.{fillOutcome}
 use Rattle.worstcase.specs.results.Cases.{given, refused}
 
 -- answers and tables
 pub small-fillings : map (λ c. fillOutcome (c .table)) (given ++ refused) ≡ map (λ c. c .outcome) (given ++ refused)
-unfolding next parentBefore placeWithin placeOf kidsFrom grow treeAt eachNode framesRejection rejection withRank dearest
+unfolding next parentBefore placeWithin placeOf kidsFrom grow treeAt eachNode framesRejection rejection withRank
+    worstCase
 small-fillings = refl
 
 -- alpha-beta reaches as many leaves as the tables have
 pub all-reached-there :
-    map (λ c. length (reached (valuation (dearest (c .table))) least greatest (tree (c .table)))) given
+    map (λ c. length (reached (valuation (worstCase (c .table))) least greatest (tree (c .table)))) given
     ≡ map (λ c. length (leaves (tree (c .table)))) given
-unfolding parentBefore placeWithin placeOf kidsFrom grow treeAt valuation withRank dearest
+unfolding parentBefore placeWithin placeOf kidsFrom grow treeAt valuation withRank worstCase
 all-reached-there = refl
 
 -- the high byte first: 300 is 1 and 44

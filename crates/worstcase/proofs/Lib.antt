@@ -1,4 +1,4 @@
--- The dearest filling: what it changes, the loop that writes it, and why it is the dearest.
+-- The worst-case filling: what it changes, the loop that writes it, and why it is the worstCase.
 pub mod Ranks
 pub mod Blocks
 pub mod Kept
@@ -6,5 +6,5 @@ pub mod Turns
 pub mod Nodes
 pub mod Whole
 pub mod Order
-pub mod Dearest
+pub mod WorstCase
 pub mod Cases

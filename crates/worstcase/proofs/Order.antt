@@ -10,8 +10,8 @@ use Rattle.lists.specs.Lists.{among}
 use Rattle.gametree.specs.declared.Side.{Side}
 use Rattle.gametree.specs.declared.Side.the-variants.{Max, Min}
 use Rattle.gametree.specs.Tree.{Tree, leaves}
-use Rattle.gametree.proofs.alphabeta.Dearest.{total, totalKids, elderFrom, youngerFrom, Blocks, BlocksKids}
-use Rattle.gametree.proofs.alphabeta.Dearest.{blocks-at, blocksKids-at}
+use Rattle.gametree.proofs.alphabeta.WorstCase.{total, totalKids, elderFrom, youngerFrom, Blocks, BlocksKids}
+use Rattle.gametree.proofs.alphabeta.WorstCase.{blocks-at, blocksKids-at}
 use Rattle.frames.specs.Frame.{frames, firstChild, childCount}
 use Rattle.frames.specs.Place.{sideOf}
 use Rattle.frames.specs.Tree.{kidsFrom, treeAt, tree}

@@ -17,7 +17,7 @@ use Rattle.frames.proofs.Acceptance.{accepted-formed, nodes-accepted, rejected-
 use Rattle.frames.proofs.Places.{place-root}
 use Rattle.frames.proofs.Totals.{tree-size}
 use Rattle.worstcase.specs.declared.Filled.the-variants.{Leaves, Rejected}
-use Rattle.worstcase.specs.Ranks.{ranked, dearest}
+use Rattle.worstcase.specs.Ranks.{ranked, worstCase}
 use Rattle.worstcase.specs.Outcome.{filling, fillOutcome}
 use Rattle.worstcase.specs.engine.Fillable.{Fillable}
 
@@ -41,7 +41,7 @@ module _ (t : List ℕ) where
     -- and what the recursion gives is the outcome
     pub fill-gives : (x : ℕ) (u : List ℕ) → x ≡ 0 + length (leaves (tree t)) → u ≡ ranked 0 (tree t) t
         → record { answer = Leaves x; table = u } ≡ fillOutcome t
-    unfolding dearest
+    unfolding worstCase
     fill-gives x u p q =
         let z : x ≡ length (leaves (tree t)) = omega arith in rw (nodes-accepted t n e .0, z, q)
 
@@ -52,7 +52,7 @@ module _ (t : List ℕ) where
 
   -- what a number of leaves for an answer says, and what a rejection
   given-parts : (q : Option Rejection) (n : ℕ) → filling t q .answer ≡ Leaves n
-      → (q ≡ none) × (n ≡ length (leaves (tree t))) × (filling t q .table ≡ dearest t)
+      → (q ≡ none) × (n ≡ length (leaves (tree t))) × (filling t q .table ≡ worstCase t)
   given-parts none n e = (refl, cc, refl)
   given-parts (some r) n e = clash (cc)
 
@@ -62,7 +62,7 @@ module _ (t : List ℕ) where
   refused-parts (some x) r e = (cc, refl)
 
   pub fill-given : (n : ℕ) → fillOutcome t .answer ≡ Leaves n
-      → Accepted t × (n ≡ length (leaves (tree t))) × (fillOutcome t .table ≡ dearest t)
+      → Accepted t × (n ≡ length (leaves (tree t))) × (fillOutcome t .table ≡ worstCase t)
   fill-given n e = given-parts (rejection t) n e
 
   pub fill-kept : (r : Rejection) → fillOutcome t .answer ≡ Rejected r

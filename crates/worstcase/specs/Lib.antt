@@ -1,4 +1,4 @@
--- Definitions for the dearest filling: the table of a shape in which alpha-beta evaluates every leaf.
+-- Definitions for the worst-case filling: the table of a shape in which alpha-beta evaluates every leaf.
 pub mod Ranks
 pub mod Outcome
 pub mod engine

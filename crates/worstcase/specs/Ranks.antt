@@ -1,4 +1,5 @@
--- The dearest filling of a table (02: N11): the ranks 0, 1, 2 and so on at its leaves, in blocks.
+-- The worst-case filling of a table (02: N11, the dearest filling): the ranks 0, 1, 2 and so on at its leaves, in
+-- blocks.
 use Prim.Native.Nat.{ℕ, _+_, _*_, _/_, _%_}
 use mathlib.Core.List.{List}
 use lib.ListN.{length, set}
@@ -24,6 +25,6 @@ abbrev mutual
   rankedKids r Max (v then vs) t = rankedKids (r + length (leaves v)) Max vs (ranked r v t)
   rankedKids r Min (v then vs) t = ranked (r + length (leavesKids vs)) v (rankedKids r Min vs t)
 
--- the dearest filling of the table's shape
-unfoldable pub dearest : List ℕ → List ℕ
-dearest t = ranked 0 (tree t) t
+-- the worst-case filling of the table's shape
+unfoldable pub worstCase : List ℕ → List ℕ
+worstCase t = ranked 0 (tree t) t

@@ -1,4 +1,5 @@
-// The dearest filling: the ranks 0, 1, 2 and so on at the leaves of a table, so that alpha-beta evaluates every leaf.
+// The worst-case filling: the ranks 0, 1, 2 and so on at the leaves of a table, so that alpha-beta evaluates every
+// leaf.
 use frames::Checked;
 use frames::FRAME_SIZE;
 use frames::Rejection;

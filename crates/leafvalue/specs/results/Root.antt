@@ -3,15 +3,10 @@ use Prim.Native.Nat.{ℕ, _<_}
 use mathlib.Core.Path.{_≡_}
 use mathlib.Core.List.{List}
 use lib.IntN.{ℤ}
-use Rattle.frames.specs.Frame.{frames, childCount, storedScore}
+use Rattle.frames.specs.Frame.{frames, storedScore}
 use Rattle.frames.specs.Value.{valueOf}
 use Rattle.frames.specs.Shape.{SameShape, AgreeOn}
 use Rattle.leafvalue.specs.Wanted.{scoreOf, rootScore}
-
--- node k of the table is a leaf
-pub record Leaf (t : List ℕ) (k : ℕ) : Type 0 where
-  pub inside : k < frames t
-  pub childless : childCount t k ≡ 0
 
 -- the root's value where the leaf k holds the value v, and each other leaf what it holds
 abbrev pub rootValue : (t : List ℕ) (k : ℕ) (v : ℤ) → ℤ

@@ -1,4 +1,4 @@
--- `cases::least::print_row` is safe and ends.
+-- `tablecalls::least::print_row` is safe and ends.
 use Prim.Native.Nat.{suc, _≤_, _-_}
 use borrow.Author.Needs.{needs}
 use Rattle.frames.specs.Frame.{maxDepth}

@@ -1,4 +1,4 @@
--- `cases::wanted::difference` is safe: numbers of six digits, and their difference, are in the range of the type.
+-- `tablecalls::wanted::difference` is safe: numbers of six digits, and their difference, are in the type's range.
 use Prim.Native.Nat.{ℕ, zero, suc, _%_, _<_}
 use native.Mathlib.Omega.{arith}
 use native.Mathlib.Decide.{decLt}

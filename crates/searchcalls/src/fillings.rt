@@ -1,4 +1,4 @@
-// The dearest filling of a table, and what it costs.
+// The worst-case filling of a table, and what it costs.
 use casetext::print::print_bytes;
 use casetext::print::print_count;
 use casetext::print::print_line_feed;

@@ -2,8 +2,8 @@
 use native.Mathlib.Omega.{arith}
 use lib.ListN.{length-set}
 use borrow.Author.Needs.{needs}
-use Rattle.graftcalls.proofs.regular.write_line.Statement.{statement}
-use Rattle.graftcalls.proofs.regular.write_line.Tie as tie
+use Rattle.graftcalls.proofs.levels.write_line.Statement.{statement}
+use Rattle.graftcalls.proofs.levels.write_line.Tie as tie
 
 write-number-requires : tie.Need-write-number-requires
 write-number-requires c κs = search needs

@@ -1,4 +1,4 @@
--- The dearest filling of an accepted table: an accepted table of the same shape, whose leaves hold the ranks, each
+-- The worst-case filling of an accepted table: an accepted table of the same shape, whose leaves hold the ranks, each
 -- once; alpha-beta reaches every leaf, and what the leaves held has no influence.
 use Prim.Native.Nat.{ℕ, _+_, _*_, _/_, _%_, _≤_, _<_}
 use native.Mathlib.Omega.{arith}
@@ -12,7 +12,7 @@ use Rattle.lists.specs.Lists.{among}
 use Rattle.lists.proofs.Lists.{all-at}
 use Rattle.gametree.specs.Tree.{zeroScore, least, greatest, leaves, EveryLeaf}
 use Rattle.gametree.specs.AlphaBeta.{reached}
-use Rattle.gametree.proofs.alphabeta.Dearest.{Blocks, blocks-more, blocks-at, blocks-once, blocks-all, all-reached}
+use Rattle.gametree.proofs.alphabeta.WorstCase.{Blocks, blocks-more, blocks-at, blocks-once, blocks-all, all-reached}
 use Rattle.gametree.proofs.minimax.Counts.{leaves-size}
 use Rattle.frames.specs.Frame.{frameSize, maxNodes, frames, byteOf, childCount, valueBytes, storedScore}
 use Rattle.frames.specs.Place.{depthOf}
@@ -20,6 +20,7 @@ use Rattle.frames.specs.Tree.{tree, valuation}
 use Rattle.frames.specs.Formed.{WellFormed}
 use Rattle.frames.specs.Shape.{SameShape, AgreeOn}
 use Rattle.frames.specs.Check.{Accepted}
+use Rattle.frames.specs.results.Leaf.{Leaf}
 use Rattle.frames.proofs.Acceptance.{accepted-stated, accepted-formed}
 use Rattle.frames.proofs.Leaves.{leaf-listed}
 use Rattle.frames.proofs.Nodes.{in-tree, tree-distinct}
@@ -29,8 +30,7 @@ use Rattle.frames.proofs.Shapes.{same-count, same-tree}
 use Rattle.frames.proofs.Totals.{tree-size}
 use Rattle.frames.proofs.Trees.{zero-or-suc}
 use Rattle.frames.proofs.Worth.{score-other}
-use Rattle.worstcase.specs.Ranks.{ranked, dearest}
-use Rattle.worstcase.specs.results.Filled.{Leaf}
+use Rattle.worstcase.specs.Ranks.{ranked, worstCase}
 use Rattle.worstcase.proofs.Ranks.{Off, off-other, ranked-length, ranked-other, ranked-alike, ranked-same}
 use Rattle.worstcase.proofs.Blocks.{ranked-blocks}
 use Rattle.worstcase.proofs.Kept.{Kept, ranked-kept, ranked-front}
@@ -47,27 +47,27 @@ module _ (t : List ℕ) (a : Accepted t) where
   pub leaves-few : length (leaves (tree t)) ≤ maxNodes
   leaves-few = omega (arith, leaves-size (tree t), tree-size t formed, formed .few)
 
-  pub dearest-kept : Kept t (dearest t)
-  unfolding dearest
-  dearest-kept = ranked-kept 0 (tree t) t formed leaves-inside (omega (arith, leaves-few))
+  pub worst-kept : Kept t (worstCase t)
+  unfolding worstCase
+  worst-kept = ranked-kept 0 (tree t) t formed leaves-inside (omega (arith, leaves-few))
 
   -- bytes 0 to 3 stay
-  pub dearest-front : (i k : ℕ) → k < 4 → byteOf (dearest t) i k ≡ byteOf t i k
-  unfolding dearest
-  dearest-front i k h = ranked-front 0 (tree t) t i k h
+  pub worst-front : (i k : ℕ) → k < 4 → byteOf (worstCase t) i k ≡ byteOf t i k
+  unfolding worstCase
+  worst-front i k h = ranked-front 0 (tree t) t i k h
 
   -- and all bytes of inner nodes
-  pub dearest-inner : (i k : ℕ) → k < frameSize → 0 < childCount t i → byteOf (dearest t) i k ≡ byteOf t i k
-  unfolding dearest
-  dearest-inner i k h c =
+  pub worst-inner : (i k : ℕ) → k < frameSize → 0 < childCount t i → byteOf (worstCase t) i k ≡ byteOf t i k
+  unfolding worstCase
+  worst-inner i k h c =
       ranked-other 0 (tree t) t (frameSize * i + k)
       (every-leaf t formed (Off (frameSize * i + k))
       (λ n _ z. off-other i k n h (λ e. omega (arith, rw e at c))) 0 (formed .some))
 
   -- the ranks stand in blocks
-  pub dearest-blocks : Blocks (valueBytes (dearest t)) 0 (tree t)
-  unfolding dearest
-  dearest-blocks =
+  pub worst-blocks : Blocks (valueBytes (worstCase t)) 0 (tree t)
+  unfolding worstCase
+  worst-blocks =
       ranked-blocks (frames t) 0 (tree t) t (omega arith) leaves-inside (tree-distinct t formed 0 (formed .some))
 
   -- a leaf is listed among the leaves
@@ -76,55 +76,55 @@ module _ (t : List ℕ) (a : Accepted t) where
       leaf-listed t formed 0 (formed .some) x (in-tree t formed x (l .inside)) (l .childless)
 
   -- each rank is below the number of leaves
-  pub rank-below : {x : ℕ} → Leaf t x → valueBytes (dearest t) x < length (leaves (tree t))
-  rank-below {x} l = omega (arith, blocks-at (valueBytes (dearest t)) 0 (tree t) dearest-blocks x (listed l))
+  pub rank-below : {x : ℕ} → Leaf t x → valueBytes (worstCase t) x < length (leaves (tree t))
+  rank-below {x} l = omega (arith, blocks-at (valueBytes (worstCase t)) 0 (tree t) worst-blocks x (listed l))
 
   -- no two leaves have one rank
-  pub rank-once : {x y : ℕ} → Leaf t x → Leaf t y → valueBytes (dearest t) x ≡ valueBytes (dearest t) y → x ≡ y
+  pub rank-once : {x y : ℕ} → Leaf t x → Leaf t y → valueBytes (worstCase t) x ≡ valueBytes (worstCase t) y → x ≡ y
   rank-once {x} {y} l m e =
-      blocks-once (valueBytes (dearest t)) 0 (tree t) dearest-blocks x y (listed l) (listed m) e
+      blocks-once (valueBytes (worstCase t)) 0 (tree t) worst-blocks x y (listed l) (listed m) e
 
   -- each number below that of the leaves is a rank
-  pub rank-every : (r : ℕ) → r < length (leaves (tree t)) → (x : ℕ) × Leaf t x × (valueBytes (dearest t) x ≡ r)
+  pub rank-every : (r : ℕ) → r < length (leaves (tree t)) → (x : ℕ) × Leaf t x × (valueBytes (worstCase t) x ≡ r)
   rank-every r h =
-      blocks-all (Leaf t) (valueBytes (dearest t)) 0 (tree t)
-      (every-leaf t formed (Leaf t) (λ i l z. record { inside = l; childless = z }) 0 (formed .some)) dearest-blocks r
+      blocks-all (Leaf t) (valueBytes (worstCase t)) 0 (tree t)
+      (every-leaf t formed (Leaf t) (λ i l z. record { inside = l; childless = z }) 0 (formed .some)) worst-blocks r
       (omega arith) (omega arith)
 
   -- a leaf's score is that of its rank
-  pub rank-score : {x : ℕ} → Leaf t x → valuation (dearest t) x ≡ valueBytes (dearest t) x + zeroScore
+  pub rank-score : {x : ℕ} → Leaf t x → valuation (worstCase t) x ≡ valueBytes (worstCase t) x + zeroScore
   unfolding valuation
   rank-score {x} l =
       let h = rank-below l in
-      let s : storedScore (dearest t) x ≡ valueBytes (dearest t) x + zeroScore = omega (arith, leaves-few) in
-      score-other (depthOf (dearest t) x) (storedScore (dearest t) x) (omega (arith, leaves-few)) (omega arith) ∙ s
+      let s : storedScore (worstCase t) x ≡ valueBytes (worstCase t) x + zeroScore = omega (arith, leaves-few) in
+      score-other (depthOf (worstCase t) x) (storedScore (worstCase t) x) (omega (arith, leaves-few)) (omega arith) ∙ s
 
   -- the filled table is accepted
-  pub dearest-accepted : Accepted (dearest t)
-  dearest-accepted =
-      let k = dearest-kept in
+  pub worst-accepted : Accepted (worstCase t)
+  worst-accepted =
+      let k = worst-kept in
       let n = k .shape .sameFrames in
-      same-accepted t (dearest t) (k .shape) a
-      (λ i h z. k .formed .scored i (omega arith) (dearest-front i 2 (omega arith) ∙ z))
+      same-accepted t (worstCase t) (k .shape) a
+      (λ i h z. k .formed .scored i (omega arith) (worst-front i 2 (omega arith) ∙ z))
       (λ i h c.
-      let p = dearest-inner i 4 (omega arith) c in
-      let q = dearest-inner i 5 (omega arith) c in
+      let p = worst-inner i 4 (omega arith) c in
+      let q = worst-inner i 5 (omega arith) c in
       omega (arith, accepted-stated t a .frame i h .innerValue c))
       (k .long)
 
   -- its tree is that of the table
-  pub dearest-tree : tree (dearest t) ≡ tree t
-  dearest-tree = sym (same-tree t (dearest t) (dearest-kept .shape) formed (dearest-kept .formed))
+  pub worst-tree : tree (worstCase t) ≡ tree t
+  worst-tree = sym (same-tree t (worstCase t) (worst-kept .shape) formed (worst-kept .formed))
 
   -- alpha-beta reaches every leaf
-  pub dearest-reached : reached (valuation (dearest t)) least greatest (tree (dearest t)) ≡ leaves (tree t)
-  dearest-reached =
-      rw dearest-tree
-      (all-reached (valuation (dearest t)) (0 + zeroScore) least greatest (tree t)
-      (blocks-more (valueBytes (dearest t)) (valuation (dearest t)) zeroScore 0 (tree t)
-      (every-leaf t formed (λ n. valuation (dearest t) n ≡ valueBytes (dearest t) n + zeroScore)
+  pub worst-reached : reached (valuation (worstCase t)) least greatest (tree (worstCase t)) ≡ leaves (tree t)
+  worst-reached =
+      rw worst-tree
+      (all-reached (valuation (worstCase t)) (0 + zeroScore) least greatest (tree t)
+      (blocks-more (valueBytes (worstCase t)) (valuation (worstCase t)) zeroScore 0 (tree t)
+      (every-leaf t formed (λ n. valuation (worstCase t) n ≡ valueBytes (worstCase t) n + zeroScore)
       (λ i l z. rank-score (record { inside = l; childless = z })) 0 (formed .some))
-      dearest-blocks)
+      worst-blocks)
       (omega arith) (omega (arith, leaves-few)))
 
 -- two accepted tables of one shape become one table
@@ -161,9 +161,9 @@ module _ (t u : List ℕ) (a : Accepted t) (b : Accepted u) (s : SameShape t u) 
             | no q ↦ (let q : k ≡ 5 = omega arith in rw q (e .sameLow))
           ]
 
-  pub same-dearest : dearest t ≡ dearest u
-  unfolding dearest
-  same-dearest =
+  pub same-worst : worstCase t ≡ worstCase u
+  unfolding worstCase
+  same-worst =
       rw (← same-tree t u s (accepted-formed t a) (accepted-formed u b))
       (ext-getD 0 (ranked 0 (tree t) t) (ranked 0 (tree t) u)
       (ranked-length 0 (tree t) t ∙ same-length ∙ sym (ranked-length 0 (tree t) u)) (λ p h.

@@ -4,8 +4,8 @@ use mathlib.Core.Path.{_≡_}
 use lib.ListN.{length}
 use Rattle.frames.specs.Frame.{twoBytes}
 use borrow.Author.Needs.{needs}
-use Rattle.graftcalls.proofs.regular.write_tree.Statement.{statement}
-use Rattle.graftcalls.proofs.regular.write_tree.Tie as tie
+use Rattle.graftcalls.proofs.levels.write_tree.Statement.{statement}
+use Rattle.graftcalls.proofs.levels.write_tree.Tie as tie
 
 abbrev Inv-loop : tie.InvT-loop
 Inv-loop file₀ width inner nodes first₀ node₀ file first node =

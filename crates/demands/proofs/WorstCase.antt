@@ -1,5 +1,6 @@
--- The dearest filling (02: N11), sentence by sentence, over the definition that the contract of the call cites. The
--- lent table is t, and after the call it is `handed t`; a leaf's rank there is what its bytes 4 and 5 hold.
+-- The worst-case filling (02: N11, the dearest filling), sentence by sentence, over the definition that the contract of
+-- the call cites. The lent table is t, and after the call it is `handed t`; a leaf's rank there is what its bytes 4 and
+-- 5 hold.
 use Prim.Native.Nat.{ℕ, _+_, _≤_, _<_}
 use native.Mathlib.Omega.{arith}
 use mathlib.Core.Path.{_≡_, sym, ap, ap₂, _∙_, subst}
@@ -14,7 +15,7 @@ use Rattle.lists.specs.Lists.{among}
 use Rattle.lists.proofs.Lists.{sub-length}
 use Rattle.gametree.specs.declared.Side.the-variants.{Max, Min}
 use Rattle.gametree.specs.Tree.{leaves}
-use Rattle.gametree.proofs.alphabeta.Dearest.{blocks-at}
+use Rattle.gametree.proofs.alphabeta.WorstCase.{blocks-at}
 use Rattle.gametree.proofs.Theorems.{alphaBeta-leaves, alphaBeta-ordered}
 use Rattle.frames.specs.declared.Rejection.{Rejection}
 use Rattle.frames.specs.Frame.{frameSize, frames, byteOf, childCount, valueBytes}
@@ -24,6 +25,7 @@ use Rattle.frames.specs.Value.{valueOf}
 use Rattle.frames.specs.Formed.{ChildOf}
 use Rattle.frames.specs.Shape.{SameShape}
 use Rattle.frames.specs.Check.{rejection, Accepted}
+use Rattle.frames.specs.results.Leaf.{Leaf}
 use Rattle.frames.proofs.Acceptance.{accepted-formed}
 use Rattle.frames.proofs.Leaves.{leaf-listed}
 use Rattle.frames.proofs.Next.{child-within}
@@ -34,13 +36,13 @@ use Rattle.alphabeta.specs.declared.Answer.the-variants as ab-answer
 use Rattle.alphabeta.specs.Outcome.{reachedLeaves}
 use Rattle.plain.proofs.Leaves.{leaves-are}
 use Rattle.worstcase.specs.declared.Filled.the-variants.{Leaves, Rejected}
-use Rattle.worstcase.specs.Ranks.{dearest}
+use Rattle.worstcase.specs.Ranks.{worstCase}
 use Rattle.worstcase.specs.Outcome.{fillOutcome}
-use Rattle.worstcase.specs.results.Filled.{handed, Leaf, LeafBelow}
+use Rattle.worstcase.specs.results.Filled.{handed, LeafBelow}
 use Rattle.worstcase.proofs.Whole.{fill-given, fill-kept, fill-accepted}
 use Rattle.worstcase.proofs.Order.{Before, node-block, node-order}
-use Rattle.worstcase.proofs.Dearest.{dearest-kept, dearest-front, dearest-inner, dearest-blocks, dearest-accepted}
-use Rattle.worstcase.proofs.Dearest.{dearest-reached, rank-below, rank-once, rank-every, rank-score, same-dearest}
+use Rattle.worstcase.proofs.WorstCase.{worst-kept, worst-front, worst-inner, worst-blocks, worst-accepted}
+use Rattle.worstcase.proofs.WorstCase.{worst-reached, rank-below, rank-once, rank-every, rank-score, same-worst}
 use Rattle.demands.specs.Calls.{AlphaBetaCall, alphaBeta}
 use Rattle.demands.proofs.Views.{view}
 use Rattle.demands.proofs.Handed.{marks-at}
@@ -59,8 +61,8 @@ module _ (t : List ℕ) where
     pub only-accepted : Accepted t
     only-accepted = fill-given t n e .0
 
-    is-dearest : dearest t ≡ handed t
-    is-dearest = sym (fill-given t n e .2)
+    is-worst : worstCase t ≡ handed t
+    is-worst = sym (fill-given t n e .2)
 
     -- "The call gives the number of leaves"
     pub leaf-count : n ≡ length (leaves (tree t))
@@ -68,61 +70,61 @@ module _ (t : List ℕ) where
 
     -- "to the leaves of the lent table itself": an accepted table of the same length and shape
     pub filled-accepted : Accepted (handed t)
-    filled-accepted = subst Accepted is-dearest (dearest-accepted t only-accepted)
+    filled-accepted = subst Accepted is-worst (worst-accepted t only-accepted)
 
     pub filled-shape : SameShape t (handed t) × (length (handed t) ≡ length t)
     filled-shape =
-        let k = dearest-kept t only-accepted in
-        subst (λ u. SameShape t u × (length u ≡ length t)) is-dearest (k .shape, k .long)
+        let k = worst-kept t only-accepted in
+        subst (λ u. SameShape t u × (length u ≡ length t)) is-worst (k .shape, k .long)
 
     -- "The other fields keep their bytes": bytes 0 to 3 of every frame, and all of an inner node's
     pub fields-kept : (i k : ℕ) → k < frameSize → (k < 4) ⊎ (0 < childCount t i)
         → byteOf (handed t) i k ≡ byteOf t i k
     fields-kept i k h c =
-        subst (λ u. byteOf u i k ≡ byteOf t i k) is-dearest
+        subst (λ u. byteOf u i k ≡ byteOf t i k) is-worst
         (elim c [
-          | inl l ↦ dearest-front t only-accepted i k l
-          | inr l ↦ dearest-inner t only-accepted i k h l
+          | inl l ↦ worst-front t only-accepted i k l
+          | inr l ↦ worst-inner t only-accepted i k h l
         ])
 
     -- "the ranks 0, 1, 2 and so on": each leaf's rank is below the number of leaves, no two have the same, and each
     -- number below that of the leaves is one
     pub ranks-below : {x : ℕ} → Leaf t x → valueBytes (handed t) x < n
     ranks-below {x} l =
-        rw leaf-count (subst (λ u. valueBytes u x < length (leaves (tree t))) is-dearest (rank-below t only-accepted l))
+        rw leaf-count (subst (λ u. valueBytes u x < length (leaves (tree t))) is-worst (rank-below t only-accepted l))
 
     pub ranks-once : {x y : ℕ} → Leaf t x → Leaf t y → valueBytes (handed t) x ≡ valueBytes (handed t) y → x ≡ y
     ranks-once {x} {y} l m =
-        subst (λ u. valueBytes u x ≡ valueBytes u y → x ≡ y) is-dearest (rank-once t only-accepted l m)
+        subst (λ u. valueBytes u x ≡ valueBytes u y → x ≡ y) is-worst (rank-once t only-accepted l m)
 
     pub ranks-every : (r : ℕ) → r < n → (x : ℕ) × Leaf t x × (valueBytes (handed t) x ≡ r)
     ranks-every r h =
-        subst (λ u. (x : ℕ) × Leaf t x × (valueBytes u x ≡ r)) is-dearest
+        subst (λ u. (x : ℕ) × Leaf t x × (valueBytes u x ≡ r)) is-worst
         (rank-every t only-accepted r (rw leaf-count at h))
 
     -- a leaf's worth is its rank
     pub worth-rank : {x : ℕ} → Leaf t x → valueOf (valuation (handed t) x) ≡ pos (valueBytes (handed t) x)
     worth-rank {x} l =
-        subst (λ u. valueOf (valuation u x) ≡ pos (valueBytes u x)) is-dearest
-        (value-plus (valuation (dearest t) x) (valueBytes (dearest t) x) (rank-score t only-accepted l))
+        subst (λ u. valueOf (valuation u x) ≡ pos (valueBytes u x)) is-worst
+        (value-plus (valuation (worstCase t) x) (valueBytes (worstCase t) x) (rank-score t only-accepted l))
 
     -- "the children's ranks form .. blocks": the ranks below a node are consecutive
     pub ranks-block : (i : ℕ) → i < frames t → (b : ℕ) × ((x : ℕ) → LeafBelow t i x
         → (b ≤ valueBytes (handed t) x) × (valueBytes (handed t) x < b + length (leaves (treeAt t i))))
     ranks-block i h =
         let wf = accepted-formed t only-accepted in
-        let b = node-block t wf (valueBytes (dearest t)) (dearest-blocks t only-accepted) i h in
+        let b = node-block t wf (valueBytes (worstCase t)) (worst-blocks t only-accepted) i h in
         subst
         (λ u. (b : ℕ) × ((x : ℕ) → LeafBelow t i x
-        → (b ≤ valueBytes u x) × (valueBytes u x < b + length (leaves (treeAt t i))))) is-dearest
+        → (b ≤ valueBytes u x) × (valueBytes u x < b + length (leaves (treeAt t i))))) is-worst
         (b .0, λ x l. blocks-at _ (b .0) (treeAt t i) (b .1) x (leaf-listed t wf i h x (l .below) (l .leaf .childless)))
 
     in-order : (i c d x y : ℕ) → i < frames t → ChildOf t i c → ChildOf t i d → c < d → LeafBelow t c x
         → LeafBelow t d y → Before (sideOf t i) (valueBytes (handed t) x) (valueBytes (handed t) y)
     in-order i c d x y h p q l v w =
         let wf = accepted-formed t only-accepted in
-        subst (λ u. Before (sideOf t i) (valueBytes u x) (valueBytes u y)) is-dearest
-        (node-order t wf (valueBytes (dearest t)) (dearest-blocks t only-accepted) i c d x y h p q l
+        subst (λ u. Before (sideOf t i) (valueBytes u x) (valueBytes u y)) is-worst
+        (node-order t wf (valueBytes (worstCase t)) (worst-blocks t only-accepted) i c d x y h p q l
         (leaf-listed t wf c (child-within t wf h p) x (v .below) (v .leaf .childless))
         (leaf-listed t wf d (child-within t wf h q) y (w .below) (w .leaf .childless)))
 
@@ -137,7 +139,7 @@ module _ (t : List ℕ) where
     falling i c d x y h s p q l v w = rw s at (in-order i c d x y h p q l v w)
 
     all-leaves : reachedLeaves (handed t) ≡ leaves (tree t)
-    all-leaves = subst (λ u. reachedLeaves u ≡ leaves (tree t)) is-dearest (dearest-reached t only-accepted)
+    all-leaves = subst (λ u. reachedLeaves u ≡ leaves (tree t)) is-worst (worst-reached t only-accepted)
 
     -- "In that tree alpha-beta values every leaf": its count is the number of leaves, and a node's mark is 1 if it has
     -- no children, and else 0
@@ -152,9 +154,9 @@ module _ (t : List ℕ) where
         ∙ ap (λ b. cond b 1 0) (leaves-are t (accepted-formed t only-accepted) k h)
 
     -- "so no filling of the shape costs it more"
-    pub none-dearer : (u : List ℕ) → SameShape t u → {f : Findings} → AlphaBetaCall u (ab-answer.Found f)
+    pub none-costlier : (u : List ℕ) → SameShape t u → {f : Findings} → AlphaBetaCall u (ab-answer.Found f)
         → f .leaves ≤ n
-    none-dearer u s c =
+    none-costlier u s c =
         let w = accepted-formed u (view (alphaBeta c) .handed .accepted) in
         omega (
           arith,
@@ -178,5 +180,5 @@ pub values-no-part : (t u : List ℕ) → Accepted t → Accepted u → SameShap
 values-no-part t u a b s =
     fill-accepted t a
     ∙ ap₂ (λ T v. record { answer = Leaves (length (leaves T)); table = v })
-    (same-tree t u s (accepted-formed t a) (accepted-formed u b)) (same-dearest t u a b s)
+    (same-tree t u s (accepted-formed t a) (accepted-formed u b)) (same-worst t u a b s)
     ∙ sym (fill-accepted u b)

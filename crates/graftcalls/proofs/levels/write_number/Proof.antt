@@ -2,8 +2,8 @@
 use native.Mathlib.Omega.{arith}
 use lib.ListN.{length-set}
 use borrow.Author.Needs.{needs}
-use Rattle.graftcalls.proofs.regular.write_number.Statement.{statement}
-use Rattle.graftcalls.proofs.regular.write_number.Tie as tie
+use Rattle.graftcalls.proofs.levels.write_number.Statement.{statement}
+use Rattle.graftcalls.proofs.levels.write_number.Tie as tie
 
 digit-requires : tie.Need-digit-requires
 digit-requires c κs = search needs

@@ -1,4 +1,5 @@
-// The file of a regular tree: the first nodes have `width` children each, and a leaf's value is its number.
+// The file of a tree that is filled level by level: the first nodes have `width` children each, and a leaf's value is
+// its number.
 use frames::TWO_BYTES;
 use treefile::LINE_SIZE;
 ghost use Prim.Native.Nat.{_+_, _*_, _<_, _≤_};
