@@ -1,6 +1,5 @@
 -- `certificate::conclude_in` meets its contract: the arrays hold the sides and the bounds, and flags and move follow.
 use native.Mathlib.Omega.{arith}
-use mathlib.Core.Path.{_∙_}
 use Rattle.places.specs.engine.Places.{Placed}
 use Rattle.places.proofs.Places.{placed}
 use Rattle.bounds.specs.Marks.{marked}
@@ -70,7 +69,7 @@ returns c =
     let b = c .before .before .before .before .before .before .before .before .before .before .before .before .before in
     let wf = start (filled b) .pre .0 .0 in
     let h = holds-bounds b in
-    (r .0 ∙ chosen-move _ wf _ h, (r .1 _ (flags-follow _ wf _ h), b .fill-bounds .ensures .1 .1))
+    (rw (r .0) (chosen-move _ wf _ h), (r .1 _ (flags-follow _ wf _ h), b .fill-bounds .ensures .1 .1))
 
 pub conclude-in-spec : {M : Type 1} → statement M
 conclude-in-spec =

@@ -1,7 +1,7 @@
 -- `flags::read_off` meets its contract: the root's children are the nodes from 1 on.
 use Prim.Native.Nat.{ℕ, _+_, _-_, _≤_}
 use native.Mathlib.Omega.{arith}
-use mathlib.Core.Path.{_≡_, _∙_}
+use mathlib.Core.Path.{_≡_}
 use mathlib.Core.List.{List}
 use borrow.Author.Needs.{needs}
 use Rattle.frames.specs.Frame.{frames, childCount, next}
@@ -43,7 +43,7 @@ same-length c = search needs
 returns : tie.Need-returns
 returns c =
     let n = from-one (c .before .child-count .ensures .0) in
-    (c .chosen-child .ensures ∙ rw n, c .before .before .before .before .write-certificate .ensures)
+    (rw n at (c .chosen-child .ensures), c .before .before .before .before .write-certificate .ensures)
 
 pub read-off-spec : {M : Type 1} → statement M
 read-off-spec =

@@ -1,6 +1,6 @@
 -- `graft::graft` meets its contract: the questions are answered, and then the result is written or nothing is done.
 use native.Mathlib.Omega.{arith}
-use mathlib.Core.Path.{sym, ap, _∙_}
+use mathlib.Core.Path.{ap, _∙_}
 use borrow.Author.Needs.{needs}
 use Rattle.graft.proofs.Outcomes.{nodes-graftable, graft-written, graft-rejected}
 use Rattle.graft.proofs.graft.Statement.{statement}
@@ -21,7 +21,7 @@ returns c =
     let k = c .before .before in
     let a = k .before .before .before .before .args in
     ap (λ x. record { answer = x; result = a .result .now }) g
-    ∙ graft-rejected (a .first .now) (a .node) (a .second .now) (a .result .now) _ (sym g ∙ k .ask .ensures)
+    ∙ graft-rejected (a .first .now) (a .node) (a .second .now) (a .result .now) _ (rw g at (k .ask .ensures))
 
 slice-aggregate-write-frames : tie.Need-slice-aggregate-write-frames
 slice-aggregate-write-frames c = search needs
@@ -31,7 +31,7 @@ write-frames-requires c κs =
     let k = c .before .before .before in
     let a = k .before .before .before .before .before .before .args in
     let p = nodes-graftable (a .first .now) (a .node) (a .second .now) (a .result .now) _
-    (sym (k .checked .given .1) ∙ k .before .before .ask .ensures) in
+    (rw (k .checked .given .1) at (k .before .before .ask .ensures)) in
     (p .1, (p .0, omega (arith, p), omega (arith, p .0, p .1 .few)))
 
 same-length : tie.Need-same-length
@@ -44,7 +44,7 @@ returns-2 c =
     let a = k .before .before .before .before .before .before .args in
     let g = k .checked .given .1 in
     graft-written (a .first .now) (a .node) (a .second .now) (a .result .now) _ _
-    (sym g ∙ k .before .before .ask .ensures) (w .write-frames .ensures)
+    (rw g at (k .before .before .ask .ensures)) (w .write-frames .ensures)
 
 pub graft-spec : {M : Type 1} → statement M
 graft-spec =

@@ -6,7 +6,6 @@ use mathlib.Core.Bool.{cond}
 use lib.ListN.{length, getD, length-set}
 use lib.Dec.{eqb}
 use borrow.Author.Needs.{needs}
-use Rattle.places.specs.Buffer.{stored}
 use Rattle.frames.specs.Frame.{frameSize, maxNodes, frames}
 use Rattle.frames.proofs.Acceptance.{accepted-formed}
 use Rattle.graftable.specs.Questions.{graftSize}
@@ -158,15 +157,11 @@ loop-again c =
     let l = k .before .before .before in
     let a = at-start l in
     let p = f .before .before .before .before in
-    let from = f .first-of .result in
-    let at = l .loop .next in
     writing-step (a .args .first .now) (a .args .node) (a .args .second .now) (fitting (a .pre .0)) (l .loop .inv)
     (inside (k .before .before))
-    _ _ refl (k .count-of .ensures .0) from (p .before .first-number .result) _ _ (f .first-of .ensures .0)
+    _ _ refl (k .count-of .ensures .0) _ (p .before .first-number .result) _ _ (f .first-of .ensures .0)
     (p .before .first-number .ensures .0) (omega (arith, a .pre .1)) (p .put-frame .ensures)
-    (c .before .before .put-children .ensures
-    ∙ ap (λ r. stored (λ x. cond (eqb (from + (x - at)) (a .args .node)) r (from + (x - at))) at
-    (at + k .count-of .result - at) (l .loop .sources)) (l .before .before .frame-count .ensures))
+    (rw (l .before .before .frame-count .ensures) at (c .before .before .put-children .ensures))
 
 same-length : tie.Need-same-length Inv-loop μ-loop
 same-length c = c .before .loop .inv .long

@@ -63,10 +63,9 @@ returns-3 c =
     let a = k .before .before .before .before .before .args in
     let t = a .first .now in
     let u = a .second .now in
-    c .ask-leaf .ensures
-    ∙ ap (answer _) (sym (both-accepted t (a .node) u (a .room)
+    rw (c .ask-leaf .ensures) (ap (answer _) (sym (both-accepted t (a .node) u (a .room)
     (nodes-accepted t _ (sym (k .enum-told .given .1) ∙ k .before .before .check .ensures) .0)
-    (nodes-accepted u _ (sym (d .enum-told3 .given .1) ∙ d .before .before .check2 .ensures) .0)))
+    (nodes-accepted u _ (sym (d .enum-told3 .given .1) ∙ d .before .before .check2 .ensures) .0))))
 
 pub ask-spec : {M : Type 1} → statement M
 ask-spec =

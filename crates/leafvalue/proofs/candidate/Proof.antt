@@ -40,7 +40,7 @@ returns-2 : tie.Need-returns-2
 returns-2 c =
     let r = c .before in
     let k = r .before in
-    rw (not-first (k .before), lt-ltb _ _ (k .if2 .taken), sym (r .reaches2 .ensures) ∙ c .if3 .taken)
+    rw (not-first (k .before), lt-ltb _ _ (k .if2 .taken), ← r .reaches2 .ensures, c .if3 .taken)
 
 reaches-requires-3 : tie.Need-reaches-requires-3
 reaches-requires-3 c κs = search needs
@@ -48,7 +48,7 @@ reaches-requires-3 c κs = search needs
 returns-3 : tie.Need-returns-3
 returns-3 c =
     let r = c .before in
-    rw (not-first (r .before .before), not-loss (r .before), sym (r .reaches3 .ensures) ∙ c .if4 .taken)
+    rw (not-first (r .before .before), not-loss (r .before), ← r .reaches3 .ensures, c .if4 .taken)
 
 add-as-win : tie.Need-add-as-win
 add-as-win c = search needs
@@ -65,9 +65,11 @@ returns-4 c =
     rw (
       not-first (r .before .before),
       not-loss (r .before),
-      sym (r .reaches3 .ensures) ∙ e .if4 .left,
+      ← r .reaches3 .ensures,
+      e .if4 .left,
       lt-ltb _ _ (k .if5 .taken),
-      sym (q .reaches4 .ensures) ∙ c .if6 .taken,
+      ← q .reaches4 .ensures,
+      c .if6 .taken,
     )
 
 returns-5 : tie.Need-returns-5
@@ -79,9 +81,11 @@ returns-5 c =
     rw (
       not-first (r .before .before),
       not-loss (r .before),
-      sym (r .reaches3 .ensures) ∙ e .if4 .left,
+      ← r .reaches3 .ensures,
+      e .if4 .left,
       lt-ltb _ _ (k .if5 .taken),
-      sym (q .reaches4 .ensures) ∙ c .if6 .left,
+      ← q .reaches4 .ensures,
+      c .if6 .left,
     )
 
 returns-6 : tie.Need-returns-6
@@ -91,7 +95,8 @@ returns-6 c =
     rw (
       not-first (r .before .before),
       not-loss (r .before),
-      sym (r .reaches3 .ensures) ∙ e .if4 .left,
+      ← r .reaches3 .ensures,
+      e .if4 .left,
       le-ltb _ _ (c .if5 .left),
     )
 

@@ -1,7 +1,8 @@
 -- `leafvalue::find_in` meets its contract: the root's bounds where the leaf alone is unknown give the smallest score.
-use Prim.Native.Nat.{_<_}
+use Prim.Native.Nat.{ℕ, _<_}
 use native.Mathlib.Omega.{arith}
 use mathlib.Core.Path.{_≡_, ap, _∙_}
+use mathlib.Core.List.{List}
 use lib.ListN.{length, getD, length-set}
 use borrow.Author.Needs.{needs}
 use Rattle.gametree.specs.Tree.{least, greatest}
@@ -9,6 +10,7 @@ use Rattle.frames.specs.Frame.{frames}
 use Rattle.frames.specs.Place.{depthOf}
 use Rattle.frames.specs.Formed.{WellFormed}
 use Rattle.frames.proofs.Acceptance.{accepted-formed}
+use Rattle.places.specs.Buffer.{written}
 use Rattle.places.specs.engine.Places.{Placed}
 use Rattle.places.proofs.Buffers.{written-at}
 use Rattle.places.proofs.Places.{placed, placed-depth}
@@ -44,6 +46,11 @@ depth c =
     let f = filled (bounds c) in
     let s = start f in
     c .depth-at .ensures ∙ placed-depth (s .args .table .now) _ (holds-places f) (s .args .leaf) (inside s)
+
+-- an array of the bounds begins with the root's
+at-root : (f : ℕ → ℕ) (n : ℕ) (b : List ℕ) → 0 < n → (x : List ℕ) → x ≡ written f n b → (m : ℕ) → f 0 ≡ m
+    → getD x 0 0 ≡ m
+at-root f n b h x e m i = rw e (written-at f n 0 b h ∙ i)
 
 fill-requires : tie.Need-fill-requires
 fill-requires c κs =
@@ -106,8 +113,8 @@ returns c =
     let wf = formed s in
     let r = root-bound t wf (a .leaf) (a .known .now) (omega (arith, h, s .pre .1 .0 .1)) (s .pre .1 .1 .1) in
     found-smallest t (s .pre .0 .0) (a .leaf) h (a .wanted) (s .pre .0 .2) _ _ _ _ (c .candidate .ensures)
-    (ap (λ x. getD x 0 0) (e .0) ∙ written-at _ _ 0 _ (wf .some) ∙ r least)
-    (ap (λ x. getD x 0 0) (e .1 .0) ∙ written-at _ _ 0 _ (wf .some) ∙ r greatest)
+    (at-root _ _ _ (wf .some) _ (e .0) _ (r least))
+    (at-root _ _ _ (wf .some) _ (e .1 .0) _ (r greatest))
     (depth (c .before))
 
 pub find-in-spec : {M : Type 1} → statement M

@@ -1,11 +1,11 @@
 -- `leafvalue::least_value` meets its contract: a rejected table settles the answer, an accepted one leaves it to 19 to
 -- 21.
-use mathlib.Core.Path.{sym, ap, _∙_}
+use mathlib.Core.Path.{sym, _∙_}
 use mir.Syntax.{w32}
 use mir.ValLaws.{toZ-ofZ}
 use borrow.Author.Needs.{needs}
 use Rattle.frames.proofs.Acceptance.{nodes-accepted, rejected-first}
-use Rattle.leafvalue.proofs.Questions.{due, table-refused, table-accepted}
+use Rattle.leafvalue.proofs.Questions.{table-refused, table-accepted}
 use Rattle.leafvalue.proofs.least_value.Statement.{statement}
 use Rattle.leafvalue.proofs.least_value.Tie as tie
 
@@ -39,10 +39,8 @@ returns-2 c =
     let s = k .before .before in
     let a = s .args in
     let t = a .table .now in
-    c .ask .ensures
-    ∙ ap (due t (a .node)) (toZ-ofZ w32 (a .wanted) (s .fits .wanted))
-    ∙ sym (table-accepted t (a .node) (a .wanted)
-    (nodes-accepted t _ (sym (e .enum-told .given .1) ∙ k .check .ensures) .0))
+    rw (c .ask .ensures, toZ-ofZ w32 (a .wanted) (s .fits .wanted)) (sym (table-accepted t (a .node) (a .wanted)
+    (nodes-accepted t _ (sym (e .enum-told .given .1) ∙ k .check .ensures) .0)))
 
 pub least-value-spec : {M : Type 1} → statement M
 least-value-spec =

@@ -1,6 +1,6 @@
 -- `report::put_sss` meets its contract: the allowance is enough, so the search finds, and the line says what it found.
 use native.Mathlib.Omega.{arith}
-use mathlib.Core.Path.{_≡_, refl, _∙_}
+use mathlib.Core.Path.{_≡_, refl}
 use mathlib.Core.Logic.{⊎-elim}
 use lib.ListN.{replicate}
 use borrow.Author.Needs.{needs}
@@ -33,7 +33,8 @@ found c =
     let wf = accepted-formed t (start c .pre .0) in
     let run = enough t wf maxNodes (omega (arith, leaves-few t wf, wf .few)) in
     answered FoundAnswer Rejected (asked c) (start c .pre .0) refl refl
-    (c .solve .ensures ∙ full-outcome t wf (replicate maxNodes 0) (replicate maxNodes 0) _ (sssRun maxNodes t) run)
+    (rw (full-outcome t wf (replicate maxNodes 0) (replicate maxNodes 0) _ (sssRun maxNodes t) run) at
+    (c .solve .ensures))
 
 -- and what is told of the answer is what it found
 same : (c : tie.After-solve) → let s = asked c in
