@@ -530,6 +530,24 @@ struct answer c_verify(const uint8_t *table, size_t length, const uint8_t *flags
     return (struct answer){ .value = greatest };
 }
 
+static size_t flagged_leaves(const uint8_t *table, size_t n, const uint8_t *flags) {
+    size_t leaves = 0;
+    for (size_t k = 0; k < n; k++) leaves += !child_count(table, k) && flags[k];
+    return leaves;
+}
+
+/* The certificate with fewer flagged leaves, 1 or 2, and how many flags it has, one a node. */
+struct answer c_shorter(const uint8_t *table, size_t length, const uint8_t *first, size_t first_room,
+                        const uint8_t *second, size_t second_room) {
+    struct answer asked = c_check(table, length);
+    if (asked.refused) return asked;
+    size_t n = asked.count;
+    struct answer a = c_verify(table, length, first, first_room), b = c_verify(table, length, second, second_room);
+    if (a.refused && b.refused) return a;
+    bool fewer = !a.refused && !b.refused && flagged_leaves(table, n, second) < flagged_leaves(table, n, first);
+    return (struct answer){ .count = a.refused || fewer ? 2 : 1, .leaves = n };
+}
+
 /* ---- grafts */
 
 /* A node of a graft's result: its number in the table that it comes from, which is the second one or the first. */

@@ -14,7 +14,8 @@ struct answer {
     int32_t merit;
     int16_t value;
     size_t place;
-    size_t count; /* nodes; bytes of a written or converted file; a least count */
+    size_t count; /* nodes; bytes of a written or converted file; a least count; 1 or 2
+                     for the chosen certificate */
     size_t root_move;
     size_t leaves;
     size_t steps; /* passes of MTD, replacements of SSS* */
@@ -34,6 +35,8 @@ typedef struct answer search_call(const uint8_t *table, size_t length, uint8_t *
 typedef struct answer allowed_call(const uint8_t *table, size_t length, uint8_t *marks, size_t marks_room,
                                    uint8_t *proof, size_t proof_room, size_t allowance);
 typedef struct answer verify_call(const uint8_t *table, size_t length, const uint8_t *flags, size_t flags_room);
+typedef struct answer shorter_call(const uint8_t *table, size_t length, const uint8_t *first, size_t first_room,
+                                   const uint8_t *second, size_t second_room);
 typedef struct answer graft_call(const uint8_t *first, size_t first_length, size_t node, const uint8_t *second,
                                  size_t second_length, uint8_t *result, size_t room);
 typedef struct answer needed_call(const uint8_t *table, size_t length, size_t node, int32_t wanted);
@@ -49,6 +52,7 @@ check_call c_check;
 search_call c_alphabeta, c_plain, c_mtd, c_sss, c_sss_list;
 allowed_call c_allowed, c_allowed_list;
 verify_call c_verify;
+shorter_call c_shorter;
 graft_call c_graft;
 needed_call c_needed;
 fill_call c_fill;

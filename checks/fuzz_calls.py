@@ -63,6 +63,9 @@ def call(rng):
         return file, "buffers %d %d" % (marks, flags), m.searches(table, marks, flags)
     if kind <= 4:
         flags = damaged_flags(rng, table)
+        if n < 40 and rng.random() < 0.5:
+            other = damaged_flags(rng, table)
+            return file, "pair %d%s%s" % (len(flags), m.numbers(flags), m.numbers(other)), m.choice(table, flags, other)
         return file, "flags" + m.numbers(flags), m.verdict(table, flags)
     if kind == 5:
         size = rng.choice((6 * n, 6 * n - 1, 6 * n + 1, 6 * n + 6, 6 * rng.randrange(n + 1), rng.randrange(400), 24582))

@@ -109,6 +109,13 @@ def verified(table, flags):
     yield "verify", (table, flags), flat(r, value=r), (table, flags)
 
 
+def shorter(table, first, second):
+    """02, N13: 1 or 2 for the certificate that is handed back, and how many flags that are."""
+    r = o.shorter(table, first, second)
+    fields = {} if isinstance(r, o.Refusal) else {"count": r[0] + 1, "leaves": len(r[1])}
+    yield "shorter", (table, first, second), flat(r, **fields), (table, first, second)
+
+
 def checked(table):
     r = o.check_table(table)
     yield "check", (table,), flat(r, count=r), (table,)
@@ -229,6 +236,7 @@ def random_calls(rng):
         table = table + bytes(rng.choice((1, 6, o.MAX_TABLE - len(table), o.MAX_TABLE - len(table) + 1)))
     else:
         yield from verified(table, fuzz_calls.damaged_flags(rng, table))
+        yield from shorter(table, fuzz_calls.damaged_flags(rng, table), fuzz_calls.damaged_flags(rng, table))
     yield from checked(table)
     yield from searches(table, size(), size())
     yield from allowed(table, size(), size(), rng.choice((0, 1, 2, rng.randrange(n + 2), rng.randrange(n + 2), 2 ** 64 - 1)))

@@ -245,6 +245,14 @@ def verdict(table, flags):
     return "verify %s\n" % answered(o.check_proof(table, flags))
 
 
+def choice(table, first, second):
+    """Which of two certificates is handed back (02, N13), and its flags."""
+    r = o.shorter(table, first, second)
+    if isinstance(r, o.Refusal):
+        return "shorter %s\nflags\n" % answered(r)
+    return "shorter %s\nflags%s\n" % (("first", "second")[r[0]], numbers(r[1]))
+
+
 def searches(table, marks, flags):
     """The three searches and the plain engine with `marks` and `flags` bytes of filled buffers: results, buffers, and the verdict on
     what they wrote. The plain engine gives no count."""
@@ -313,6 +321,30 @@ def flags_cases():
         got = verdict(table_of_file(file), bytes(int(x) for x in flags.split()))
         assert got == "verify %s\n" % want, (title, got)
         add(title, file, ("flags " + flags).strip(), got)
+
+
+def choice_cases():
+    """02, N13: the shorter of two certificates, the expected answers worked out by hand."""
+    one, other = "3 1 3 1 0 3 2", "3 1 3 0 1 3 2"
+    uneven, two_leaves, three_leaves = tree_file([[5, 6], 5]), "3 1 3 1 0", "3 3 1 3 2"
+    for title, file, first, second, want in (
+            ("two certificates, a tie", ROW, one, other, "first"),
+            ("the same, exchanged", ROW, other, one, "first"),
+            ("the second is one byte short", ROW, other, "3 1 3 1 0 3", "first"),
+            ("the first is one byte short", ROW, "3 1 3 1 0 3", other, "second"),
+            ("the second breaks a rule", ROW, one, "3 3 3 3 3 3 3", "first"),
+            ("the first has a wrong flag", ROW, "3 1 3 1 0 3 4", one, "second"),
+            ("neither: the first one's refusal", ROW, "3 1 3 1 0 3 4", "3 1 3 1 0 3", "refused 11 6"),
+            ("neither: the first one's refusal, exchanged", ROW, "3 1 3 1 0 3", "3 1 3 1 0 3 4", "refused 10 0"),
+            ("neither, unequal values first", ROW, "3 1 3 1 0 2 3", "0 0 0 0 0 0 0", "refused 14 0"),
+            ("flags past the last node are not handed back", ROW, one + " 200 7", "", "first"),
+            ("the second has fewer leaves", uneven, three_leaves, two_leaves, "second"),
+            ("the first has fewer leaves", uneven, two_leaves, three_leaves, "first"),
+            ("a leaf root", LEAF, "3", "3", "first")):
+        flags = [bytes(int(x) for x in f.split()) for f in (first, second)]
+        got = choice(table_of_file(file), *flags)
+        assert got.startswith("shorter %s\n" % want), (title, got)
+        add("choice: " + title, file, ("pair %d%s%s" % (len(flags[0]), numbers(flags[0]), numbers(flags[1]))).strip(), got)
 
 
 def buffer_cases():
@@ -581,7 +613,7 @@ def main():
     for part in (made_trees, made_grafts, least_counts, files_of_01, rows_of_002, rejected_files, accepted_files, wins_and_losses,
                  second_captures,
                  flags_cases, buffer_cases, allowance_cases, table_cases, reader_cases, writer_cases, graft_cases, wanted_cases, dearest_cases,
-                 regular_cases, service_cases):
+                 regular_cases, choice_cases, service_cases):
         part()
     assert len(stdin) < 65536
     for name, data in (("stdin", stdin), ("stdout", made + asked)):

@@ -495,6 +495,21 @@ def check_proof(table, flags):
     return greatest if greatest == least else Refusal(14, 0)
 
 
+def shorter(table, first, second):
+    """02, N13: 0 or 1 for the proof that is handed back, with its flags, one a node; or the refusal that stands."""
+    no = table_no(table)
+    if no:
+        return no
+    nos = [check_proof(table, flags) for flags in (first, second)]
+    good = [i for i in (0, 1) if not isinstance(nos[i], Refusal)]
+    if not good:
+        return nos[0]
+    tree = Tree(table)
+    flagged = [sum(1 for k in tree.leaves() if k < len(flags) and flags[k]) for flags in (first, second)]
+    i = min(good, key=lambda i: (flagged[i], i))
+    return i, bytes((first, second)[i][:tree.n])
+
+
 # ---------------------------------------------------------------- public calls over lent memory
 
 Result = namedtuple("Result", "value move leaves extra order")   # extra: passes, replacements, or None

@@ -467,6 +467,10 @@ def one_tree(rng, table, literal, pairs):
         same("flags that break are found", isinstance(o.check_proof(table, [f ^ 3 for f in proof]), o.Refusal), True)
         low, high = tree.bounds(set(r.order))
         same("bounds meet at the root", (low[0], high[0]), (value, value))
+    counts = [sum(1 for k in tree.leaves() if r[2][k]) for r in (a, s)]
+    fewer = int(counts[1] < counts[0])
+    same("N13: the shorter proof", o.shorter(table, a[2], s[2]), (fewer, bytes((a[2], s[2])[fewer])))
+    same("N13: the only proof", o.shorter(table, b"", s[2]), (1, bytes(s[2])))
     p = run(o.plain_search, table)
     same("plain", (p[0].value, p[0].move, sum(p[1])), (value, a[0].move, len(tree.leaves())))
     same("plain marks the leaves", all(p[1][k] for k in tree.leaves()), True)

@@ -15,6 +15,7 @@ use searchcalls::fillings::print_filling;
 use searchcalls::print_allowed;
 use searchcalls::print_checks;
 use searchcalls::print_searches;
+use tablecalls::certificates::print_choice_of;
 use tablecalls::certificates::print_verdict_of;
 use tablecalls::files::print_line;
 use tablecalls::files::print_reading;
@@ -69,6 +70,7 @@ fn print_answer(file: &[u8], call: &[u8]) {
     let count = read_numbers(call, &mut numbers);
     match name(call) {
         b'f' => print_verdict_of(file, &numbers[..count]),
+        b'p' => print_choice_of(file, &numbers[..count]),
         letter => print_call(letter, file, &numbers),
     }
 }

@@ -2,8 +2,8 @@
 -- request N3: Saving; tables without wins and losses (request N5): Ordinary; SSS* within an allowance (request N6):
 -- Allowance; capital letters (request N7): Capitals; tables without a second capture (request N8): Alternating; grafts
 -- (request N9): Grafting; a leaf's value for a wanted root value (request N10): Wanted; the worst-case filling
--- (request N11): WorstCase; least counts (request N12): LeastCounts. The other files carry the theory's theorems to calls
--- over byte tables.
+-- (request N11): WorstCase; least counts (request N12): LeastCounts; the shorter of two certificates (request
+-- N13): Shorter. The other files carry the theory's theorems to calls over byte tables.
 mod Parts
 mod Views
 mod Handed
@@ -22,4 +22,5 @@ pub mod Grafting
 pub mod Wanted
 pub mod WorstCase
 pub mod LeastCounts
+pub mod Shorter
 pub mod Cases

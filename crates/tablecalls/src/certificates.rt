@@ -1,12 +1,15 @@
-// The check of a certificate.
+// The check of a certificate, and the choice between two.
 use crate::answers::print_rejection;
 use crate::tables::TABLE_SIZE;
 use crate::tables::read_table;
 use casetext::numbers::NUMBERS;
+use casetext::print::print_bytes;
 use casetext::print::print_line_feed;
 use casetext::print::print_value;
 use libc::STDOUT_FILENO;
+use shorter::Choice;
 use verify::Verdict;
+ghost use Prim.Native.Nat.{_<_};
 ghost use Rattle.io.specs.Counts.{Counts};
 
 // The verdict on flags that are given.
@@ -48,4 +51,51 @@ pub fn print_verdict(table: &[u8], flags: &[u8]) {
         Verdict::Rejected(rejection) => print_rejection(rejection),
     }
     print_line_feed();
+}
+
+// Which of two certificates is chosen, of flags that are given: before them stands how many the first one has.
+pub fn print_choice_of(file: &[u8], numbers: &[u32]) {
+    let mut flags = [0u8; NUMBERS];
+    let count = copy_flags(numbers, &mut flags);
+    print_choice_on(file, &flags[..count]);
+}
+
+fn print_choice_on(file: &[u8], flags: &[u8]) {
+    let mut table = [0u8; TABLE_SIZE];
+    let size = read_table(file, &mut table);
+    print_pair(&table[..size], flags);
+}
+
+// The two certificates taken apart; nothing is printed where the first has fewer flags than said.
+fn print_pair(table: &[u8], flags: &[u8]) {
+    if flags.len() == 0 {
+        return;
+    }
+    let end = length_in(flags[0]) + 1;
+    if end <= flags.len() {
+        print_choice(table, &flags[1..end], &flags[end..]);
+    }
+}
+
+// A byte as a length.
+fn length_in(byte: u8) -> usize
+    ensures { λ r. ⌜ r < 256 ⌝ }
+{
+    byte as usize
+}
+
+// What the choice gives, and the flags that are handed back.
+fn print_choice<'a>(table: &[u8], first: &'a [u8], second: &'a [u8]) {
+    io::write_all(STDOUT_FILENO, b"shorter");
+    match shorter::choose(table, first, second) {
+        Choice::First => {
+            io::write_all(STDOUT_FILENO, b" first");
+        }
+        Choice::Second => {
+            io::write_all(STDOUT_FILENO, b" second");
+        }
+        Choice::Rejected(rejection) => print_rejection(rejection),
+    }
+    print_line_feed();
+    print_bytes(b"flags", shorter::flags(table, first, second));
 }

@@ -7,4 +7,5 @@ mod Asking
 mod Ruling
 mod Judging
 pub mod Theorems
+pub mod Parts
 mod Cases

@@ -60,7 +60,7 @@ pub fn check(table: &[u8], flags: &[u8]) -> Verdict
 }
 
 // Questions 10 to 14, for a well-formed table.
-fn check_certificate(table: &[u8], flags: &[u8]) -> Verdict
+pub fn check_certificate(table: &[u8], flags: &[u8]) -> Verdict
     requires { ⌜ WellFormed (now table) ⌝ }
     ensures { λ r. ⌜ r ≡ judged (now (table .entry)) (now (flags .entry))
         (flagsRejection (now (table .entry)) (now (flags .entry))) ⌝ }

@@ -1,0 +1,81 @@
+-- The shorter of two certificates (02: N13, of two proofs), sentence by sentence, over the definitions that the
+-- contracts of `shorter::choose` and `shorter::flags` cite. The table is t, the lent certificates are f and s. Both are
+-- lent to be read only, and so keep their bytes.
+use Prim.Native.Nat.{ℕ, _≤_, _<_}
+use mathlib.Core.Path.{_≡_}
+use mathlib.Core.Logic.{_⊎_}
+use mathlib.Core.Option.{some}
+use mathlib.Core.List.{List, []}
+use lib.ListN.{length, take}
+use Rattle.gametree.specs.declared.Side.the-variants.{Max, Min}
+use Rattle.gametree.specs.Tree.{minimax}
+use Rattle.gametree.specs.Certificate.{pairLeaves}
+use Rattle.frames.specs.declared.Rejection.{Rejection}
+use Rattle.frames.specs.Frame.{frames}
+use Rattle.frames.specs.Tree.{tree, valuation}
+use Rattle.frames.specs.Value.{valueOf}
+use Rattle.frames.specs.Check.{rejection}
+use Rattle.verify.specs.declared.Verdict.the-variants as verdicts
+use Rattle.verify.specs.Flags.{member}
+use Rattle.verify.specs.Check.{verdict}
+use Rattle.verify.specs.Certificate.{Certificate}
+use Rattle.shorter.specs.declared.Choice.the-variants.{First, Second, Rejected}
+use Rattle.shorter.specs.Choice.{flaggedLeaves, choice, chosenFlags}
+use Rattle.shorter.proofs.Leaves.{flagged-pair}
+use Rattle.shorter.proofs.Theorems.{table-rejected, both-first, both-second, only-first, only-second, neither}
+use Rattle.shorter.proofs.Theorems.{handed-first, handed-second, handed-none, handed-size, handed-value}
+use Rattle.shorter.proofs.Theorems.{empty-refused, refused-first}
+
+-- a flagged leaf is a leaf of the max or the min solution tree, a shared one counted once
+pub flagged-leaves : (t flags : List ℕ) (v : ℕ) → Certificate t flags v
+    → flaggedLeaves t flags ≡ pairLeaves (member Max flags) (member Min flags) (tree t)
+flagged-leaves t flags v c = flagged-pair t flags c
+
+module _ (t f s : List ℕ) where
+  -- "Questions 1 to 9 are put to the tree"
+  pub table-asked : (r : Rejection) → rejection t ≡ some r → choice t f s ≡ Rejected r
+  table-asked r e = table-rejected t f s e
+
+  -- "hands back the flags of the one with fewer flagged leaves"
+  pub fewer-handed : (v w : ℕ) → Certificate t f v → Certificate t s w → flaggedLeaves t s < flaggedLeaves t f
+      → (choice t f s ≡ Second) × (chosenFlags t f s ≡ take (frames t) s)
+  fewer-handed v w c d h = let e = both-second t f s c d h in (e, handed-second t f s e)
+
+  -- the first where it has fewer, and "the first on a tie"
+  pub tie-handed : (v w : ℕ) → Certificate t f v → Certificate t s w → flaggedLeaves t f ≤ flaggedLeaves t s
+      → (choice t f s ≡ First) × (chosenFlags t f s ≡ take (frames t) f)
+  tie-handed v w c d h = let e = both-first t f s c d h in (e, handed-first t f s e)
+
+  -- "If only one is accepted, that one is handed back"
+  pub first-alone : (v : ℕ) (q : Rejection) → Certificate t f v → verdict t s ≡ verdicts.Rejected q
+      → (choice t f s ≡ First) × (chosenFlags t f s ≡ take (frames t) f)
+  first-alone v q c e = let d = only-first t f s c e in (d, handed-first t f s d)
+
+  pub second-alone : (w : ℕ) (r : Rejection) → verdict t f ≡ verdicts.Rejected r → Certificate t s w
+      → (choice t f s ≡ Second) × (chosenFlags t f s ≡ take (frames t) s)
+  second-alone w r e d = let c = only-second t f s e d in (c, handed-second t f s c)
+
+  -- "If neither is, the first proof's refusal stands", and nothing is handed back
+  pub first-refusal : (r q : Rejection) → verdict t f ≡ verdicts.Rejected r → verdict t s ≡ verdicts.Rejected q
+      → (choice t f s ≡ Rejected r) × (chosenFlags t f s ≡ [])
+  first-refusal r q e d = let c = neither t f s e d in (c, handed-none t f s c)
+
+  -- demand 1: a refusal is the first "no" to the questions of the first certificate, the table's among them
+  pub first-choice : (r : Rejection) → choice t f s ≡ Rejected r → verdict t f ≡ verdicts.Rejected r
+  first-choice r e = refused-first t f s e
+
+  -- nothing is handed back on a rejection, and on nothing else
+  pub rejected-empty : (r : Rejection) → choice t f s ≡ Rejected r → chosenFlags t f s ≡ []
+  rejected-empty r e = handed-none t f s e
+
+  pub empty-rejected : chosenFlags t f s ≡ [] → (r : Rejection) × (choice t f s ≡ Rejected r)
+  empty-rejected = empty-refused t f s
+
+  -- "The part handed back has one flag a node"
+  pub one-flag-a-node : (choice t f s ≡ First) ⊎ (choice t f s ≡ Second) → length (chosenFlags t f s) ≡ frames t
+  one-flag-a-node = handed-size t f s
+
+  -- and is itself accepted, with the minimax value
+  pub handed-accepted : (choice t f s ≡ First) ⊎ (choice t f s ≡ Second)
+      → verdict t (chosenFlags t f s) ≡ verdicts.Value (valueOf (minimax (valuation t) (tree t)))
+  handed-accepted = handed-value t f s

@@ -1,0 +1,54 @@
+-- The flagged leaves of a certificate are the leaves of its pair of solution trees, a shared one counted once.
+use Prim.Native.Nat.{ℕ, zero, suc, _+_, _≤_}
+use native.Mathlib.Omega.{arith}
+use mathlib.Core.Path.{_≡_, refl, sym, ap, ap₂, _∙_}
+use mathlib.Core.Bool.{Bool, cond, _||_}
+use mathlib.Core.List.{List}
+use lib.Dec.{ltb}
+use lib.ListN.{getD}
+use borrow.Author.Tests.{ne-eqb}
+use Rattle.gametree.specs.declared.Side.the-variants.{Max, Min}
+use Rattle.gametree.specs.Tree.{Tree, leaf, inner, Kids, last, _then_, leafCount, leafCountKids}
+use Rattle.gametree.specs.Certificate.{inBoth, inside, pairLeaves, pairLeavesKids}
+use Rattle.frames.specs.Frame.{frames, childCount}
+use Rattle.frames.specs.Tree.{tree}
+use Rattle.frames.proofs.Trees.{zero-or-suc}
+use Rattle.frames.proofs.Totals.{sumTo, atNode, sum-same, tree-leaf-count}
+use Rattle.frames.proofs.Acceptance.{accepted-formed}
+use Rattle.verify.specs.Flags.{member}
+use Rattle.verify.specs.Certificate.{Certificate}
+use Rattle.shorter.specs.Choice.{flaggedLeaf, flaggedBefore, flaggedLeaves}
+
+mutual
+  pair-count : (g h : ℕ → Bool) (t : Tree) → pairLeaves g h t ≡ leafCount (λ n. g n || h n) t
+  pair-count g h (leaf n) = refl
+  pair-count g h (inner n s ks) = pair-countKids g h ks
+
+  pair-countKids : (g h : ℕ → Bool) (ks : Kids) → pairLeavesKids g h ks ≡ leafCountKids (λ n. g n || h n) ks
+  pair-countKids g h (last t) = pair-count g h t
+  pair-countKids g h (t then ts) = ap₂ _+_ (pair-count g h t) (pair-countKids g h ts)
+
+-- a flag from 1 to 3 puts its node into one of the two trees, or both
+in-a-tree : (f : ℕ) → f ≤ inBoth → ltb 0 f ≡ (inside Max f || inside Min f)
+in-a-tree zero h = refl
+in-a-tree (suc zero) h = refl
+in-a-tree (suc (suc zero)) h = refl
+in-a-tree (suc (suc (suc zero))) h = refl
+in-a-tree (suc (suc (suc (suc f)))) h = absurd (omega arith)
+
+before-sum : (t flags : List ℕ) (n : ℕ) → flaggedBefore t flags n ≡ sumTo (λ i. cond (flaggedLeaf t flags i) 1 0) n
+unfolding flaggedBefore sumTo
+before-sum t flags zero = refl
+before-sum t flags (suc n) = ap (λ x. x + cond (flaggedLeaf t flags n) 1 0) (before-sum t flags n)
+
+-- the flagged leaves of a certificate
+pub flagged-pair : (t flags : List ℕ) {v : ℕ} → Certificate t flags v
+    → flaggedLeaves t flags ≡ pairLeaves (member Max flags) (member Min flags) (tree t)
+flagged-pair t flags c =
+    before-sum t flags (frames t)
+    ∙ sum-same _ (λ i. atNode (λ n. cond (member Max flags n || member Min flags n) 1 0) (λ _. 0) (childCount t i) i)
+    (frames t) (λ i h.
+    zero-or-suc (childCount t i) (λ z. rw (z, in-a-tree (getD flags i 0) (c .inRange i h)))
+    (λ n z. rw (z, ne-eqb (suc n) 0 (λ e. omega arith))))
+    ∙ sym (tree-leaf-count t (accepted-formed t (c .accepted)) (λ n. member Max flags n || member Min flags n))
+    ∙ sym (pair-count (member Max flags) (member Min flags) (tree t))

@@ -1,0 +1,68 @@
+-- `choose` meets its contract: a rejected table settles the answer, an accepted one leaves it to the certificates.
+use Prim.Native.Nat.{ℕ}
+use mathlib.Core.Path.{_≡_, sym, _∙_}
+use mathlib.Core.List.{List}
+use borrow.Author.Needs.{needs}
+use Rattle.frames.specs.declared.Rejection.{Rejection}
+use Rattle.frames.specs.declared.Checked.the-variants as answers
+use Rattle.frames.specs.Frame.{frames}
+use Rattle.frames.specs.Check.{rejection, checked}
+use Rattle.frames.proofs.Asked.{answer-nodes, answer-rejected}
+use Rattle.frames.proofs.Acceptance.{accepted-formed, nodes-accepted}
+use Rattle.verify.specs.Check.{flagsRejection}
+use Rattle.shorter.specs.declared.Choice.{Choice}
+use Rattle.shorter.specs.declared.Choice.the-variants.{Rejected}
+use Rattle.shorter.specs.Choice.{fewerSecond, choiceBy, choice}
+use Rattle.shorter.proofs.choose.Statement.{statement}
+use Rattle.shorter.proofs.choose.Tie as tie
+
+module _ (t f s : List ℕ) where
+  table-rejected : (r : Rejection) → answers.Rejected r ≡ checked t → Rejected r ≡ choice t f s
+  unfolding choice
+  table-rejected r e = rw (answer-rejected (frames t) r (rejection t) e)
+
+  table-accepted : (n : ℕ) → answers.Nodes n ≡ checked t → (c : Choice)
+      → c ≡ choiceBy (flagsRejection t f) (flagsRejection t s) (fewerSecond t f s) → c ≡ choice t f s
+  unfolding choice
+  table-accepted n e c h = rw (answer-nodes (frames t) n (rejection t) e .0) h
+
+check-requires : tie.Need-check-requires
+check-requires c κs = search needs
+
+enum-known-checked : tie.Need-enum-known-checked
+enum-known-checked c = search needs
+
+enum-told : tie.Need-enum-told
+enum-told c = search needs
+
+choose-certificate-requires : tie.Need-choose-certificate-requires
+choose-certificate-requires c κs =
+    let k = c .before .before in
+    let t = k .before .before .before .before .args .table .now in
+    accepted-formed t (nodes-accepted t _ (sym (c .enum-told .given .1) ∙ k .check .ensures) .0)
+
+returns : tie.Need-returns
+returns c =
+    let k = c .before .before .before in
+    let a = k .before .before .before .before .args in
+    table-rejected (a .table .now) (a .first .now) (a .second .now) _
+    (sym (c .before .checked .given .1) ∙ k .check .ensures)
+
+returns-2 : tie.Need-returns-2
+returns-2 c =
+    let e = c .before in
+    let k = e .before .before in
+    let a = k .before .before .before .before .args in
+    table-accepted (a .table .now) (a .first .now) (a .second .now) _
+    (sym (e .enum-told .given .1) ∙ k .check .ensures) _ (c .choose-certificate .ensures)
+
+pub choose-spec : {M : Type 1} → statement M
+choose-spec =
+    tie.close
+    (tie.spec
+    check-requires
+    enum-known-checked
+    enum-told
+    choose-certificate-requires
+    returns
+    returns-2)

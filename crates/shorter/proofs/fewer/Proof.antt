@@ -1,0 +1,40 @@
+-- `fewer` meets its contract: the two numbers of flagged leaves are compared.
+use Prim.Native.Nat.{ℕ, _≤_, _<_}
+use native.Mathlib.Omega.{arith}
+use mathlib.Core.Path.{_≡_}
+use mathlib.Core.Bool.{cond}
+use mathlib.Core.List.{List}
+use borrow.Author.Tests.{lt-ltb, le-ltb}
+use borrow.Author.Needs.{needs}
+use Rattle.shorter.specs.declared.Choice.the-variants.{First, Second}
+use Rattle.shorter.specs.Choice.{flaggedLeaves, fewerSecond}
+use Rattle.shorter.proofs.fewer.Statement.{statement}
+use Rattle.shorter.proofs.fewer.Tie as tie
+
+module _ (t f s : List ℕ) (a b : ℕ) (p : a ≡ flaggedLeaves t f) (q : b ≡ flaggedLeaves t s) where
+  second : b < a → Second ≡ cond (fewerSecond t f s) Second First
+  second h = rw (← p, ← q, lt-ltb _ _ h)
+
+  first : a ≤ b → First ≡ cond (fewerSecond t f s) Second First
+  first h = rw (← p, ← q, le-ltb _ _ h)
+
+flagged-leaves-requires : tie.Need-flagged-leaves-requires
+flagged-leaves-requires c κs = search needs
+
+flagged-leaves-requires-2 : tie.Need-flagged-leaves-requires-2
+flagged-leaves-requires-2 c κs = search needs
+
+returns : tie.Need-returns
+returns c =
+    let a = c .before .before .before .before .before .before .args in
+    second (a .table .now) (a .first .now) (a .second .now) _ _ (c .before .before .flagged-leaves .ensures)
+    (c .before .flagged-leaves2 .ensures) (omega arith)
+
+returns-2 : tie.Need-returns-2
+returns-2 c =
+    let a = c .before .before .before .before .before .before .args in
+    first (a .table .now) (a .first .now) (a .second .now) _ _ (c .before .before .flagged-leaves .ensures)
+    (c .before .flagged-leaves2 .ensures) (omega arith)
+
+pub fewer-spec : {M : Type 1} → statement M
+fewer-spec = tie.close (tie.spec flagged-leaves-requires flagged-leaves-requires-2 returns returns-2)

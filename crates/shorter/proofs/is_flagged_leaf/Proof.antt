@@ -1,0 +1,40 @@
+-- `is_flagged_leaf` meets its contract: an inner node is no leaf, and of a leaf the flag decides.
+use Prim.Native.Nat.{ℕ}
+use mathlib.Core.Path.{_≡_, sym, _∙_}
+use mathlib.Core.Bool.{false}
+use mathlib.Core.List.{List}
+use lib.Dec.{ltb}
+use lib.ListN.{getD}
+use borrow.Author.Tests.{eq-eqb, ne-eqb}
+use borrow.Author.Needs.{needs}
+use Rattle.frames.specs.Frame.{childCount}
+use Rattle.shorter.specs.Choice.{flaggedLeaf}
+use Rattle.shorter.proofs.is_flagged_leaf.Statement.{statement}
+use Rattle.shorter.proofs.is_flagged_leaf.Tie as tie
+
+module _ (t flags : List ℕ) (i k : ℕ) (e : k ≡ childCount t i) where
+  at-inner : (k ≡ 0 → ⊥) → false ≡ flaggedLeaf t flags i
+  at-inner n = rw (ne-eqb _ _ (λ z. n (e ∙ z)))
+
+  at-leaf : k ≡ 0 → ltb 0 (getD flags i 0) ≡ flaggedLeaf t flags i
+  at-leaf z = rw (eq-eqb _ _ (sym e ∙ z))
+
+child-count-requires : tie.Need-child-count-requires
+child-count-requires c κs = search needs
+
+returns : tie.Need-returns
+returns c =
+    let a = c .before .before .before .before .args in
+    at-inner (a .table .now) (a .flags .now) (a .node) _ (c .before .child-count .ensures .0) (c .if1 .taken)
+
+shared-slice-read-result : tie.Need-shared-slice-read-result
+shared-slice-read-result c = search needs
+
+returns-2 : tie.Need-returns-2
+returns-2 c =
+    let a = c .before .before .before .before .before .args in
+    at-leaf (a .table .now) (a .flags .now) (a .node) _ (c .before .before .child-count .ensures .0)
+    (c .before .if1 .left)
+
+pub is-flagged-leaf-spec : {M : Type 1} → statement M
+is-flagged-leaf-spec = tie.close (tie.spec child-count-requires returns shared-slice-read-result returns-2)

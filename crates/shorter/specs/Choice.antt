@@ -1,0 +1,59 @@
+-- Which of two lent certificates is handed back (02: the shorter of two proofs).
+use Prim.Native.Nat.{ℕ, zero, suc, _+_}
+use mathlib.Core.Bool.{Bool, cond, _&&_}
+use mathlib.Core.Option.{Option, none, some}
+use mathlib.Core.List.{List, []}
+use lib.Dec.{eqb, ltb}
+use lib.ListN.{getD, take}
+use Rattle.frames.specs.declared.Rejection.{Rejection}
+use Rattle.frames.specs.Frame.{frames, childCount}
+use Rattle.frames.specs.Check.{rejection}
+use Rattle.verify.specs.Check.{flagsRejection}
+use Rattle.shorter.specs.declared.Choice.{Choice}
+use Rattle.shorter.specs.declared.Choice.the-variants.{First, Second, Rejected}
+
+-- node i is a leaf with a flag: in one of the two trees, or in both
+abbrev pub flaggedLeaf : (t flags : List ℕ) → ℕ → Bool
+flaggedLeaf t flags i = eqb (childCount t i) 0 && ltb 0 (getD flags i 0)
+
+-- how many of the nodes before n are flagged leaves, a shared one counted once
+unfoldable pub flaggedBefore : (t flags : List ℕ) → ℕ → ℕ
+flaggedBefore t flags zero = 0
+flaggedBefore t flags (suc n) = flaggedBefore t flags n + cond (flaggedLeaf t flags n) 1 0
+
+-- the flagged leaves of a table
+abbrev pub flaggedLeaves : (t flags : List ℕ) → ℕ
+flaggedLeaves t flags = flaggedBefore t flags (frames t)
+
+-- has the second certificate fewer?
+abbrev pub fewerSecond : (t first second : List ℕ) → Bool
+fewerSecond t first second = ltb (flaggedLeaves t second) (flaggedLeaves t first)
+
+-- the choice by what each certificate is rejected for: an accepted one, of two the one with fewer flagged leaves, the
+-- first on a tie; if neither is accepted, the first one's rejection
+abbrev pub choiceBy : Option Rejection → Option Rejection → Bool → Choice
+choiceBy none none b = cond b Second First
+choiceBy none (some s) b = First
+choiceBy (some r) none b = Second
+choiceBy (some r) (some s) b = Rejected r
+
+-- the same after questions 1 to 9 of the table
+abbrev pub afterTable : Option Rejection → Choice → Choice
+afterTable none c = c
+afterTable (some r) c = Rejected r
+
+-- the answer: questions 1 to 9 of the table, then 10 to 14 of each certificate by itself
+unfoldable pub choice : (t first second : List ℕ) → Choice
+choice t first second =
+    afterTable (rejection t)
+    (choiceBy (flagsRejection t first) (flagsRejection t second) (fewerSecond t first second))
+
+-- the flags of the choice, one a node; none on a rejection
+abbrev pub flagsBy : (t first second : List ℕ) → Choice → List ℕ
+flagsBy t first second First = take (frames t) first
+flagsBy t first second Second = take (frames t) second
+flagsBy t first second (Rejected r) = []
+
+-- what is handed back
+abbrev pub chosenFlags : (t first second : List ℕ) → List ℕ
+chosenFlags t first second = flagsBy t first second (choice t first second)

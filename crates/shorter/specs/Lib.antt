@@ -1,0 +1,2 @@
+-- Definitions of the choice between two certificates.
+pub mod Choice

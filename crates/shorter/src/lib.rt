@@ -1,0 +1,116 @@
+// The certificate with fewer leaves, of two that are lent (02: the shorter of two proofs).
+use frames::Checked;
+use frames::Rejection;
+use frames::child_count;
+use frames::frame_count;
+use tables::check;
+use verify::Verdict;
+use verify::check_certificate;
+ghost use mathlib.Core.Path.{_≡_};
+ghost use mathlib.Core.Bool.{cond};
+ghost use Prim.Native.Nat.{_<_, _≤_};
+ghost use lib.ListN.{length};
+ghost use Rattle.frames.specs.Frame.{frames};
+ghost use Rattle.frames.specs.Formed.{WellFormed};
+ghost use Rattle.verify.specs.Check.{flagsRejection};
+ghost use Rattle.shorter.specs.Choice.{flaggedLeaf, flaggedLeaves, fewerSecond, choiceBy, choice, chosenFlags};
+ghost use Rattle.shorter.specs.declared.Choice.the-variants.{First, Second};
+
+// Which of two certificates is handed back, or a rejection.
+pub enum Choice {
+    First,
+    Second,
+    Rejected(Rejection),
+}
+
+// Questions 1 to 9 of the table, then 10 to 14 of each certificate by itself: which one is accepted, of both the one
+// with fewer flagged leaves, the first on a tie; where neither is, the first one's rejection.
+pub fn choose(table: &[u8], first: &[u8], second: &[u8]) -> Choice
+    ensures { λ r. ⌜ r ≡ choice (now (table .entry)) (now (first .entry)) (now (second .entry)) ⌝ }
+{
+    let checked = check(table);
+    match checked {
+        Checked::Rejected(r) => Choice::Rejected(r),
+        Checked::Nodes(_) => choose_certificate(table, first, second),
+    }
+}
+
+// The flags of the one that is chosen, one a node, as a part of its own memory; empty exactly on a rejection.
+pub fn flags<'a>(table: &[u8], first: &'a [u8], second: &'a [u8]) -> &'a [u8]
+    ensures { λ r. ⌜ now r ≡ chosenFlags (now (table .entry)) (now (first .entry)) (now (second .entry)) ⌝ }
+{
+    let chosen = choose(table, first, second);
+    let n = frame_count(table);
+    match chosen {
+        Choice::First => {
+            return &first[0..n];
+        }
+        Choice::Second => {
+            return &second[0..n];
+        }
+        Choice::Rejected(_) => {
+            return &first[0..0];
+        }
+    }
+}
+
+// Questions 10 to 14 of each certificate by itself, for a well-formed table.
+fn choose_certificate(table: &[u8], first: &[u8], second: &[u8]) -> Choice
+    requires { ⌜ WellFormed (now table) ⌝ }
+    ensures { λ r. ⌜ r ≡ choiceBy (flagsRejection (now (table .entry)) (now (first .entry)))
+        (flagsRejection (now (table .entry)) (now (second .entry)))
+        (fewerSecond (now (table .entry)) (now (first .entry)) (now (second .entry))) ⌝ }
+{
+    let of_first = check_certificate(table, first);
+    let of_second = check_certificate(table, second);
+    if let Verdict::Rejected(r) = of_first {
+        if let Verdict::Value(_) = of_second {
+            return Choice::Second;
+        }
+        return Choice::Rejected(r);
+    }
+    if let Verdict::Rejected(_) = of_second {
+        return Choice::First;
+    }
+    fewer(table, first, second)
+}
+
+// The certificate with fewer flagged leaves, the first on a tie.
+fn fewer(table: &[u8], first: &[u8], second: &[u8]) -> Choice
+    requires { ⌜ (frames (now table) ≤ length (now first)) × (frames (now table) ≤ length (now second)) ⌝ }
+    ensures { λ r. ⌜ r
+        ≡ cond (fewerSecond (now (table .entry)) (now (first .entry)) (now (second .entry))) Second First ⌝ }
+{
+    let of_first = flagged_leaves(table, first);
+    if flagged_leaves(table, second) < of_first {
+        Choice::Second
+    } else {
+        Choice::First
+    }
+}
+
+// How many leaves have a flag.
+fn flagged_leaves(table: &[u8], flags: &[u8]) -> usize
+    requires { ⌜ frames (now table) ≤ length (now flags) ⌝ }
+    ensures { λ r. ⌜ r ≡ flaggedLeaves (now (table .entry)) (now (flags .entry)) ⌝ }
+{
+    let n = frame_count(table);
+    let mut leaves: usize = 0;
+    for node in 0..n {
+        if is_flagged_leaf(table, flags, node) {
+            leaves += 1;
+        }
+    }
+    leaves
+}
+
+// Is a node a leaf with a flag?
+fn is_flagged_leaf(table: &[u8], flags: &[u8], node: usize) -> bool
+    requires { ⌜ (node < frames (now table)) × (node < length (now flags)) ⌝ }
+    ensures { λ r. ⌜ r ≡ flaggedLeaf (now (table .entry)) (now (flags .entry)) node ⌝ }
+{
+    if child_count(table, node) != 0 {
+        return false;
+    }
+    0 < flags[node]
+}
