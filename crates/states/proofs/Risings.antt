@@ -195,7 +195,7 @@ module _ (t F w : List ℕ) (γ : ℕ) (c : Change) (p : Placing t F w γ c) whe
         run = omega (arith, o .room);
         few = omega (arith, o .few);
         some = omega (arith, p .here .some, o .room);
-        test = p .test;
+        merit = p .merit;
         score = p .score;
       }
 
@@ -232,7 +232,7 @@ module _ (t F w : List ℕ) (γ : ℕ) (c : Change) (p : Placing t F w γ c) whe
         room = rw n (o .room);
         few = rw n (o .few);
         merits = λ k h. changed-at (λ v. v / linkCount ≤ greatest) k (rw n at h) (omega (arith, p .score))
-            (λ e i. omega (arith, p .test, small i)) (o .merits k (rw n at h));
+            (λ e i. omega (arith, p .merit, small i)) (o .merits k (rw n at h));
         links = λ k h. changed-at (λ v. LinkOf t k (v % linkCount)) k (omega (arith, o .room)) (inl (omega arith))
             (λ e i. let m : packed γ (c .first) % linkCount ≡ c .first = omega (arith, small i) in inr (rw (m, e) i))
             (o .links k h);

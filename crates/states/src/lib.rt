@@ -40,15 +40,15 @@ pub struct Change {
 const LINKS: u32 = 4096;
 
 // The new states' entries, and the node's, which goes down to the first of them.
-pub fn place(front: &mut [u32], change: Change, test: u32)
-    requires { ⌜ Placeable test change (now front) ⌝ }
-    ensures { λ _. ⌜ now (front .exit) ≡ changed test change (now (front .entry)) ⌝ }
+pub fn place(front: &mut [u32], change: Change, merit: u32)
+    requires { ⌜ Placeable merit change (now front) ⌝ }
+    ensures { λ _. ⌜ now (front .exit) ≡ changed merit change (now (front .entry)) ⌝ }
 {
     let node = change.node;
     let first = change.first;
     let end = first + change.count;
     let fresh = packed(change.score, 0);
-    front[node] = packed(test, first);
+    front[node] = packed(merit, first);
     let mut at = first;
     while at < end {
         front[at] = fresh;
@@ -58,14 +58,14 @@ pub fn place(front: &mut [u32], change: Change, test: u32)
 
 // The greatest merits above a node whose merit fell, up to the first node whose greatest merit stays, or the root:
 // that is the result.
-pub fn fall(table: &[u8], places: &[u32], front: &mut [u32], node: usize, test: u32) -> usize
+pub fn fall(table: &[u8], places: &[u32], front: &mut [u32], node: usize, merit: u32) -> usize
     requires { ⌜ Fits (now table) (now places) (now front) ⌝ }
     requires { ⌜ node < frames (now table) ⌝ }
-    ensures { λ r. ⌜ r ≡ fallen node (now (table .entry)) test (now (front .entry)) node .top ⌝ }
-    ensures { λ _. ⌜ now (front .exit) ≡ fallen node (now (table .entry)) test (now (front .entry)) node .front ⌝ }
+    ensures { λ r. ⌜ r ≡ fallen node (now (table .entry)) merit (now (front .entry)) node .top ⌝ }
+    ensures { λ _. ⌜ now (front .exit) ≡ fallen node (now (table .entry)) merit (now (front .entry)) node .front ⌝ }
 {
     let mut at = node;
-    while is_lower(front, at, test) {
+    while is_lower(front, at, merit) {
         at = parent_at(places, at);
         let child = chosen(table, places, front, at);
         front[at] = packed(best_at(front, child), child);
@@ -128,15 +128,15 @@ fn leftmost_best(front: &[u32], first: usize, count: usize) -> usize
     best
 }
 
-// Is a node other than the root below the test?
-fn is_lower(front: &[u32], node: usize, test: u32) -> bool
+// Is a node other than the root below this merit?
+fn is_lower(front: &[u32], node: usize, merit: u32) -> bool
     requires { ⌜ node < length (now front) ⌝ }
-    ensures { λ r. ⌜ r ≡ falls (now (front .entry)) test node ⌝ }
+    ensures { λ r. ⌜ r ≡ falls (now (front .entry)) merit node ⌝ }
 {
     if node == 0 {
         false
     } else {
-        best_at(front, node) < test
+        best_at(front, node) < merit
     }
 }
 

@@ -38,7 +38,7 @@ module _ (t : List ℕ) where
 
 module _ (t F w : List ℕ) (γ : ℕ) (f : Fits t F w) (g : γ ≤ greatest) where
   placing : (c : Change) → Local t c → c .score ≤ greatest → Placing t F w γ c
-  placing c o b = record { fits = f; here = o; test = g; score = b }
+  placing c o b = record { fits = f; here = o; merit = g; score = b }
 
   -- a state of the node itself
   pub own-place : (i : ℕ) (s : Status) (m : ℕ) → i < frames t → m ≤ greatest → Placing t F w γ (one i i s m)

@@ -1,22 +1,28 @@
 -- What taking a state does, in the cases that the code tells apart.
 use Prim.Native.Nat.{ℕ, zero, suc, _+_, _≤_, _<_}
 use native.Mathlib.Omega.{arith}
+use native.Mathlib.Decide.{decLt}
 use mathlib.Core.Path.{_≡_, refl}
 use mathlib.Core.Bool.{true, false}
 use mathlib.Core.List.{List, []}
-use lib.Dec.{ltb}
+use lib.Dec.{eqb}
 use lib.ListN.{length}
-use borrow.Author.Tests.{ltb-true, lt-ltb, le-ltb}
+use borrow.Author.Tests.{eq-eqb, ne-eqb, lt-ltb, le-ltb}
 use Rattle.lists.proofs.Choice.{true-not-false}
 use Rattle.gametree.specs.declared.Side.{Side}
+use Rattle.frames.specs.Frame.{childCount}
 use Rattle.bounds.specs.Marks.{markAll}
 use Rattle.states.specs.declared.Status.{Status}
 use Rattle.states.specs.declared.Status.the-variants.{Live, Solved}
 use Rattle.states.specs.declared.State.{State}
 use Rattle.states.specs.declared.Change.{Change}
+use Rattle.turns.specs.declared.Counts.{Counts}
+use Rattle.turns.specs.declared.Stage.the-variants.{Spent}
 use Rattle.turns.specs.declared.Run.{Run}
+use Rattle.turns.specs.engine.Merit.{scoreOf}
 use Rattle.turns.specs.engine.Rules.{ofInner, ofLive, ofState}
-use Rattle.turns.specs.engine.Turn.{isSolvedRoot, valued, newLeaves, settled, replaced, ended, taken}
+use Rattle.turns.specs.engine.Turn.{isSolvedRoot, valued, newLeaves, isLiveLeaf, uncovered, settled, replaced}
+use Rattle.turns.specs.engine.Turn.{ended, taken}
 
 -- a SOLVED state that is not the root's
 pub not-root : (s : Status) (i : ℕ) → isSolvedRoot s i ≡ false → s ≡ Solved → 0 < i
@@ -37,34 +43,71 @@ pub solved-none : (n i : ℕ) → valued n Solved i ≡ []
 solved-none zero i = refl
 solved-none (suc n) i = refl
 
--- a leaf is evaluated where that is one too many
-pub uncovered-leaf : (n : ℕ) (s : Status) (i a k : ℕ) → ltb a (k + length (valued n s i)) ≡ true → k ≤ a
-    → (s ≡ Live) × (n ≡ 0) × (k ≡ a)
-uncovered-leaf zero Live i a k u h = (refl, refl, omega (arith, ltb-true a (k + 1) u))
-uncovered-leaf zero Solved i a k u h = absurd (omega (arith, ltb-true a (k + 0) u))
-uncovered-leaf (suc n) s i a k u h = absurd (omega (arith, ltb-true a (k + 0) u))
+-- a LIVE leaf
+pub live-leaf : (n : ℕ) (s : Status) → isLiveLeaf n s ≡ true → (s ≡ Live) × (n ≡ 0)
+live-leaf zero Live e = (refl, refl)
+live-leaf zero Solved e = absurd (true-not-false e refl)
+live-leaf (suc n) s e = absurd (true-not-false e refl)
 
-pub few-leaves : (n : ℕ) (s : Status) (i : ℕ) → length (valued n s i) ≤ 1
+-- as the code asks
+pub live-count : (m n : ℕ) → m ≡ n → eqb m 0 ≡ isLiveLeaf n Live
+live-count m zero e = eq-eqb m 0 e
+live-count m (suc n) e = ne-eqb m 0 (λ z. omega arith)
+
+pub solved-not : (n : ℕ) → false ≡ isLiveLeaf n Solved
+solved-not zero = refl
+solved-not (suc n) = refl
+
+-- no other state evaluates a leaf
+no-leaves : (n : ℕ) (s : Status) (i : ℕ) → isLiveLeaf n s ≡ false → length (valued n s i) ≡ 0
+no-leaves zero Live i e = absurd (true-not-false refl e)
+no-leaves zero Solved i e = refl
+no-leaves (suc n) s i e = refl
+
+few-leaves : (n : ℕ) (s : Status) (i : ℕ) → length (valued n s i) ≤ 1
 few-leaves zero Live i = omega arith
 few-leaves zero Solved i = omega arith
 few-leaves (suc n) s i = omega arith
 
--- a state e that is not the SOLVED root, and evaluates n leaves
-module _ (t w b : List ℕ) (r : Run) (e : State) (n : ℕ) (q : isSolvedRoot (e .status) (e .node) ≡ false)
-    (k : n ≡ length (newLeaves t e)) where
-  -- where the allowance does not cover them the run ends
-  pub ended-is : {r′ : Run} → r .counts .allowance < r .counts .leaves + n → r′ ≡ ended t (r .test) (r .counts) true
+module _ (t : List ℕ) (e : State) (k : Counts) (h : k .leaves ≤ k .allowance) where
+  -- a leaf is evaluated where that is one too many
+  pub uncovered-leaf : uncovered t e k ≡ true
+      → (e .status ≡ Live) × (childCount t (e .node) ≡ 0) × (k .leaves ≡ k .allowance)
+  uncovered-leaf u =
+      elim (decLt (k .leaves) (k .allowance)) [
+        | yes l ↦ absurd (true-not-false u (rw (lt-ltb (k .leaves) (k .allowance) l)))
+        | no l ↦ (let p = live-leaf (childCount t (e .node)) (e .status)
+            (rw (le-ltb (k .leaves) (k .allowance) (omega arith)) at u) in (p .0, p .1, omega arith))
+      ]
+
+  -- else the allowance covers what is evaluated
+  pub covered : uncovered t e k ≡ false → k .leaves + length (newLeaves t e) ≤ k .allowance
+  covered u =
+      elim (decLt (k .leaves) (k .allowance)) [
+        | yes l ↦ omega (arith, few-leaves (childCount t (e .node)) (e .status) (e .node))
+        | no l ↦ omega (
+          arith,
+          no-leaves (childCount t (e .node)) (e .status) (e .node)
+              (rw (le-ltb (k .leaves) (k .allowance) (omega arith)) at u),
+        )
+      ]
+
+-- a state e that is not the SOLVED root, and whose merit has the score m
+module _ (t w b : List ℕ) (r : Run) (e : State) (q : isSolvedRoot (e .status) (e .node) ≡ false) (m : ℕ)
+    (is : m ≡ scoreOf (e .merit)) where
+  -- where the allowance does not cover its leaf the run ends
+  pub ended-is : {r′ : Run} → uncovered t e (r .counts) ≡ true → r′ ≡ ended t (Spent m) (r .counts)
       → record { front = w; marks = b; run = r′ } ≡ taken t w b r e
-  ended-is h o = rw (q, ← k, lt-ltb _ _ h, o)
+  ended-is h o = rw (q, h, o, is)
 
   -- and else e is replaced, by the change c
-  pub stepped-is : (c : Change) {w′ b′ : List ℕ} {r′ : Run} → r .counts .leaves + n ≤ r .counts .allowance
-      → c ≡ ofState t (e .node) (r .test) (e .status) → w′ ≡ settled t (r .test) c w .front
-      → b′ ≡ markAll b (newLeaves t e)
-      → r′ ≡ replaced t w c (r .test) (record {
-        leaves = r .counts .leaves + n;
+  pub stepped-is : (c : Change) (n : ℕ) {w′ b′ : List ℕ} {r′ : Run} → uncovered t e (r .counts) ≡ false
+      → c ≡ ofState t (e .node) m (e .status) → w′ ≡ settled t m c w .front
+      → n ≡ r .counts .leaves + length (newLeaves t e) → b′ ≡ markAll b (newLeaves t e)
+      → r′ ≡ replaced t w c m (record {
+        leaves = n;
         replacements = r .counts .replacements + 1;
         allowance = r .counts .allowance;
       })
       → record { front = w′; marks = b′; run = r′ } ≡ taken t w b r e
-  stepped-is c h i f m o = rw (q, ← k, le-ltb (r .counts .allowance) (r .counts .leaves + n) h, o, f, m, i)
+  stepped-is c n h i f k d o = rw (q, h, o, f, d, k, i, is)

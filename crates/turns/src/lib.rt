@@ -8,19 +8,18 @@ use rules::of_state;
 use states::Change;
 use states::State;
 use states::Status;
-use states::best_at;
 use states::descend;
 use states::fall;
 use states::place;
 ghost use mathlib.Core.Path.{_≡_};
-ghost use Prim.Native.Nat.{_+_, _<_, _≤_};
-ghost use lib.ListN.{length};
+ghost use Prim.Native.Nat.{_<_, _≤_};
 ghost use Rattle.gametree.specs.Tree.{greatest};
-ghost use Rattle.frames.specs.Frame.{frames};
+ghost use Rattle.frames.specs.Frame.{frames, childCount};
 ghost use Rattle.frames.specs.Value.{valueOf};
 ghost use Rattle.turns.specs.engine.Update.{ofChange, blanks as blanksOf};
-ghost use Rattle.turns.specs.engine.Turn.{isSolvedRoot, newLeaves, replaced, settled};
-ghost use Rattle.turns.specs.engine.Turn.{ended as endedOf, taken};
+ghost use Rattle.turns.specs.engine.Turn.{isSolvedRoot, isLiveLeaf, uncovered, replaced, settled};
+ghost use Rattle.turns.specs.engine.Turn.{going, ended as endedOf, taken};
+ghost use Rattle.turns.specs.engine.Merit.{scoreOf, IsMerit};
 ghost use Rattle.states.specs.engine.Placing.{Placing};
 ghost use Rattle.turns.specs.engine.Ready.{Takeable};
 
@@ -44,21 +43,26 @@ pub struct Counts {
     pub allowance: usize,
 }
 
-// The run between two replacements: whether it goes on, which entry is best, the greatest merit on the list, the
-// counts, what the list is to become, and whether the allowance ended the run.
+// Whether a run goes on, has taken the SOLVED root, or has taken a leaf's state that its allowance does not cover; at
+// its end it holds the score of the merit of the state that was taken last.
+pub enum Stage {
+    Going,
+    Finished(u32),
+    Spent(u32),
+}
+
+// The run between two replacements: its stage, which entry is best, the counts, and what the list is to become.
 pub struct Run {
-    pub going: bool,
-    pub at: usize,
-    pub test: u32,
+    pub stage: Stage,
+    pub best: usize,
     pub counts: Counts,
     pub update: Update,
-    pub spent: bool,
 }
 
 const ZERO: i32 = ZERO_SCORE as i32;
 
-// What the run makes of the entry that was taken: it ends at the SOLVED root, and before a leaf that its allowance does
-// not cover.
+// What the run makes of the entry that was taken, whose node, status and merit decide: it ends at the SOLVED root, and
+// before a leaf that its allowance does not cover.
 pub fn next(
     run: Run,
     entry: State,
@@ -71,22 +75,22 @@ pub fn next(
     ensures { λ r. ⌜ record { front = now (front .exit); marks = now (evaluated .exit); run = r }
         ≡ taken (now (table .entry)) (now (front .entry)) (now (evaluated .entry)) run entry ⌝ }
 {
-    let test = run.test;
     let counts = run.counts;
+    let merit = merit_score(entry);
     if is_solved_root(entry) {
-        return ended(table, test, counts, false);
+        return ended(table, Stage::Finished(merit), counts);
     }
-    let leaves = counts.leaves + evaluations(table, entry);
-    if counts.allowance < leaves {
-        return ended(table, test, counts, true);
+    if is_uncovered(table, entry, counts) {
+        return ended(table, Stage::Spent(merit), counts);
     }
+    let replacement = of_state(table, places, evaluated, entry, merit, counts.leaves);
     let counts = Counts {
-        leaves,
+        leaves: replacement.leaves,
         replacements: counts.replacements + 1,
         allowance: counts.allowance,
     };
-    let change = of_state(table, places, evaluated, entry, test);
-    replacing(table, places, front, change, test, counts)
+    let change = replacement.change;
+    replacing(table, places, front, change, merit, counts)
 }
 
 // The entries that a change puts on the list.
@@ -100,17 +104,37 @@ pub fn of_change(change: Change) -> Update
         count: change.count,
         content: Content::Own {
             status,
-            merit: merit(change.score),
+            merit: as_value(change.score),
         },
     }
 }
 
-// The value of a score, as a merit.
-pub fn merit(score: u32) -> i32
+// A merit's value from its score.
+pub fn as_value(score: u32) -> i32
     requires { ⌜ score ≤ greatest ⌝ }
     ensures { λ r. ⌜ r ≡ valueOf score ⌝ }
 {
     score as i32 - ZERO
+}
+
+// The score of a state's merit.
+fn merit_score(entry: State) -> u32
+    requires { ⌜ IsMerit (entry .merit) ⌝ }
+    ensures { λ r. ⌜ r ≡ scoreOf (entry .merit) ⌝ }
+{
+    (entry.merit + ZERO) as u32
+}
+
+// Does the run go on?
+pub fn goes_on(run: Run) -> bool
+    ensures { λ r. ⌜ r ≡ going (run .stage) ⌝ }
+{
+    let stage = run.stage;
+    match stage {
+        Stage::Going => true,
+        Stage::Finished(_) => false,
+        Stage::Spent(_) => false,
+    }
 }
 
 // Is this state the SOLVED root?
@@ -124,21 +148,26 @@ fn is_solved_root(entry: State) -> bool
     }
 }
 
-// How many leaves a replacement of this state evaluates.
-fn evaluations(table: &[u8], entry: State) -> usize
+// Would a replacement of this state evaluate a leaf that the allowance does not cover?
+fn is_uncovered(table: &[u8], entry: State, counts: Counts) -> bool
     requires { ⌜ entry .node < frames (now table) ⌝ }
-    ensures { λ r. ⌜ r ≡ length (newLeaves (now (table .entry)) entry) ⌝ }
+    ensures { λ r. ⌜ r ≡ uncovered (now (table .entry)) entry counts ⌝ }
+{
+    if counts.leaves < counts.allowance {
+        return false;
+    }
+    is_live_leaf(table, entry)
+}
+
+// Is this the state of a LIVE leaf?
+fn is_live_leaf(table: &[u8], entry: State) -> bool
+    requires { ⌜ entry .node < frames (now table) ⌝ }
+    ensures { λ r. ⌜ r ≡ isLiveLeaf (childCount (now (table .entry)) (entry .node)) (entry .status) ⌝ }
 {
     let status = entry.status;
     match status {
-        Status::Live => {
-            if child_count(table, entry.node as usize) == 0 {
-                1
-            } else {
-                0
-            }
-        }
-        Status::Solved => 0,
+        Status::Live => child_count(table, entry.node as usize) == 0,
+        Status::Solved => false,
     }
 }
 
@@ -148,37 +177,33 @@ fn replacing(
     places: &[u32],
     front: &mut [u32],
     change: Change,
-    test: u32,
+    merit: u32,
     counts: Counts,
 ) -> Run
-    requires { ⌜ Placing (now table) (now places) (now front) test change ⌝ }
-    ensures { λ r. ⌜ r ≡ replaced (now (table .entry)) (now (front .entry)) change test counts ⌝ }
-    ensures { λ _. ⌜ now (front .exit) ≡ settled (now (table .entry)) test change (now (front .entry)) .front ⌝ }
+    requires { ⌜ Placing (now table) (now places) (now front) merit change ⌝ }
+    ensures { λ r. ⌜ r ≡ replaced (now (table .entry)) (now (front .entry)) change merit counts ⌝ }
+    ensures { λ _. ⌜ now (front .exit) ≡ settled (now (table .entry)) merit change (now (front .entry)) .front ⌝ }
 {
-    place(front, change, test);
-    let top = fall(table, places, front, change.node, test);
-    let at = descend(table, places, front, top);
+    place(front, change, merit);
+    let top = fall(table, places, front, change.node, merit);
+    let best = descend(table, places, front, top);
     Run {
-        going: true,
-        at,
-        test: best_at(front, 0),
+        stage: Stage::Going,
+        best,
         counts,
         update: of_change(change),
-        spent: false,
     }
 }
 
 // The run at its end, with an entry for each node blank.
-fn ended(table: &[u8], test: u32, counts: Counts, spent: bool) -> Run
-    ensures { λ r. ⌜ r ≡ endedOf (now (table .entry)) test counts spent ⌝ }
+fn ended(table: &[u8], stage: Stage, counts: Counts) -> Run
+    ensures { λ r. ⌜ r ≡ endedOf (now (table .entry)) stage counts ⌝ }
 {
     Run {
-        going: false,
-        at: 0,
-        test,
+        stage,
+        best: 0,
         counts,
         update: blanks(frame_count(table)),
-        spent,
     }
 }
 

@@ -12,7 +12,7 @@ use states::State;
 use states::Status;
 ghost use mathlib.Core.Path.{_≡_};
 ghost use mathlib.Core.Bool.{false};
-ghost use Prim.Native.Nat.{_+_, _<_, _≤_, min};
+ghost use Prim.Native.Nat.{_+_, _*_, _<_, _≤_, min};
 ghost use lib.ListN.{length, set};
 ghost use Rattle.gametree.specs.Tree.{greatest};
 ghost use Rattle.frames.specs.Frame.{maxNodes, frames, childCount};
@@ -23,16 +23,24 @@ ghost use Rattle.turns.specs.engine.Rules.{one as oneOf, ofInner, ofChil
 ghost use Rattle.turns.specs.engine.Turn.{newLeaves};
 ghost use Rattle.turns.specs.engine.Ready.{Replaceable};
 
-// What replaces a state.
+// What replaces a state, and how many leaves are evaluated then.
+pub struct Replacement {
+    pub change: Change,
+    pub leaves: usize,
+}
+
+// The replacement of a state, after so many evaluated leaves.
 pub fn of_state(
     table: &[u8],
     places: &[u32],
     evaluated: &mut [u8],
     entry: State,
-    test: u32,
-) -> Change
-    requires { ⌜ Replaceable (now table) (now places) (now evaluated) entry test ⌝ }
-    ensures { λ r. ⌜ r ≡ ofState (now (table .entry)) (entry .node) test (entry .status) ⌝ }
+    merit: u32,
+    leaves: usize,
+) -> Replacement
+    requires { ⌜ Replaceable (now table) (now places) (now evaluated) entry merit leaves ⌝ }
+    ensures { λ r. ⌜ r .change ≡ ofState (now (table .entry)) (entry .node) merit (entry .status) ⌝ }
+    ensures { λ r. ⌜ r .leaves ≡ leaves + length (newLeaves (now (table .entry)) entry) ⌝ }
     ensures { λ _. ⌜ now (evaluated .exit) ≡ markAll (now (evaluated .entry)) (newLeaves (now (table .entry)) entry) ⌝ }
 {
     let node = entry.node as usize;
@@ -41,14 +49,16 @@ pub fn of_state(
         Status::Live => {
             let count = child_count(table, node);
             if count == 0 {
-                of_leaf(table, places, evaluated, node, test)
+                of_leaf(table, places, evaluated, node, merit, leaves)
             } else {
-                of_inner(table, node, count, side_at(places, node), test)
+                let change = of_inner(table, node, count, side_at(places, node), merit);
+                Replacement { change, leaves }
             }
         }
         Status::Solved => {
             let parent = parent_at(places, node);
-            of_child(table, node, parent, side_at(places, parent), test)
+            let change = of_child(table, node, parent, side_at(places, parent), merit);
+            Replacement { change, leaves }
         }
     }
 }
@@ -67,21 +77,33 @@ fn one(node: usize, first: usize, status: Status, score: u32) -> Change
 }
 
 // A LIVE leaf is evaluated, and SOLVED with the lesser of its merit and its score.
-fn of_leaf(table: &[u8], places: &[u32], evaluated: &mut [u8], node: usize, test: u32) -> Change
+fn of_leaf(
+    table: &[u8],
+    places: &[u32],
+    evaluated: &mut [u8],
+    node: usize,
+    merit: u32,
+    leaves: usize,
+) -> Replacement
     requires { ⌜ Placed (now table) (now places) ⌝ }
-    requires { ⌜ (node < frames (now table)) × (childCount (now table) node ≡ 0) × (test ≤ greatest) ⌝ }
-    requires { ⌜ (node < length (now evaluated)) × (marked (now evaluated) node ≡ false) ⌝ }
-    ensures { λ r. ⌜ r ≡ oneOf node node Status.Solved (min test (valuation (now (table .entry)) node)) ⌝ }
+    requires { ⌜ (node < frames (now table)) × (childCount (now table) node ≡ 0) × (merit ≤ greatest) ⌝ }
+    requires { ⌜ (node < length (now evaluated)) × (marked (now evaluated) node ≡ false) × (leaves < 2 * maxNodes) ⌝ }
+    ensures { λ r. ⌜ r .change ≡ oneOf node node Status.Solved (min merit (valuation (now (table .entry)) node)) ⌝ }
+    ensures { λ r. ⌜ r .leaves ≡ leaves + 1 ⌝ }
     ensures { λ _. ⌜ now (evaluated .exit) ≡ set (now (evaluated .entry)) node 1 ⌝ }
 {
     let score = evaluate(table, evaluated, node, depth_at(places, node));
-    one(node, node, Status::Solved, better(Side::Min, test, score))
+    let change = one(node, node, Status::Solved, better(Side::Min, merit, score));
+    Replacement {
+        change,
+        leaves: leaves + 1,
+    }
 }
 
 // Of a LIVE Max node all children are LIVE, of a Min node the first.
-fn of_inner(table: &[u8], node: usize, count: usize, side: Side, test: u32) -> Change
+fn of_inner(table: &[u8], node: usize, count: usize, side: Side, merit: u32) -> Change
     requires { ⌜ node < frames (now table) ⌝ }
-    ensures { λ r. ⌜ r ≡ ofInner (now (table .entry)) node test side count ⌝ }
+    ensures { λ r. ⌜ r ≡ ofInner (now (table .entry)) node merit side count ⌝ }
 {
     let first = first_child(table, node);
     match side {
@@ -90,26 +112,26 @@ fn of_inner(table: &[u8], node: usize, count: usize, side: Side, test: u32) -> C
             first,
             count,
             status: Status::Live,
-            score: test,
+            score: merit,
         },
-        Side::Min => one(node, first, Status::Live, test),
+        Side::Min => one(node, first, Status::Live, merit),
     }
 }
 
 // Under Max the parent of a SOLVED state is SOLVED; under Min the next brother is LIVE, after the last the parent is
 // SOLVED.
-fn of_child(table: &[u8], node: usize, parent: usize, side: Side, test: u32) -> Change
+fn of_child(table: &[u8], node: usize, parent: usize, side: Side, merit: u32) -> Change
     requires { ⌜ (node < maxNodes) × (parent < frames (now table)) ⌝ }
-    ensures { λ r. ⌜ r ≡ ofChild (now (table .entry)) node test parent side ⌝ }
+    ensures { λ r. ⌜ r ≡ ofChild (now (table .entry)) node merit parent side ⌝ }
 {
     match side {
-        Side::Max => one(parent, parent, Status::Solved, test),
+        Side::Max => one(parent, parent, Status::Solved, merit),
         Side::Min => {
             let brother = node + 1;
             if brother < first_child(table, parent) + child_count(table, parent) {
-                one(parent, brother, Status::Live, test)
+                one(parent, brother, Status::Live, merit)
             } else {
-                one(parent, parent, Status::Solved, test)
+                one(parent, parent, Status::Solved, merit)
             }
         }
     }

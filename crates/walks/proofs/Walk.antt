@@ -28,13 +28,13 @@ pub use denote.Plain.{uint-makes, uint-copy, uint-lawful, uint-vals, uint-tells}
 pub use denote.Memory.{pointee}
 pub use denote.Ref.{RefT, at-last}
 pub use denote.Slice.{sliceTy, sliceVal, slice-vals, MutSlice, ShrSlice, Room, finally}
-pub use denote.Builtin.{u8, u32, usize, unit}
+pub use denote.Builtin.{u8, u32, usize, bool, unit}
 pub use denote.Steps.{nothing, owned}
 pub use denote.Triple.Entry.{Args, Vals, onEntry}
 pub use denote.Triple.Spec.{Meets, tripleOf}
 pub use denote.Triple.Statement.{Contract, Triple}
 pub use denote.Triple.Table.{entered, cited}
-pub use Rattle.walks.proofs.Values.{ByValue, of-struct, of-unit, of-enum, of-number}
+pub use Rattle.walks.proofs.Values.{ByValue, of-struct, of-unit, of-bool, of-enum, of-number}
 pub use Rattle.walks.proofs.Rows.{Row, Open, opens, shuts, looks, looked, store-at}
 pub use Rattle.walks.proofs.Loans.{ref-to, lends-row, row-back, shares-row, share-back, copies}
 pub use Rattle.walks.proofs.Calls.{entry-out, called}

@@ -2,7 +2,6 @@
 -- take is its best state; or the run has ended, and the entries are blank.
 use Prim.Native.Nat.{ℕ, _≤_}
 use mathlib.Core.Path.{_≡_}
-use mathlib.Core.Bool.{Bool, true, false}
 use mathlib.Core.List.{List, _++_}
 use lib.ListN.{length, drop, replicate}
 use Rattle.gametree.specs.Tree.{greatest}
@@ -17,6 +16,8 @@ use Rattle.states.specs.Entry.{blank}
 use Rattle.sss.specs.Outcome.{sssRun}
 use Rattle.states.specs.engine.Shown.{Found}
 use Rattle.states.specs.engine.Kept.{arraysOf, Sound}
+use Rattle.turns.specs.declared.Stage.{Stage}
+use Rattle.turns.specs.declared.Stage.the-variants.{Going, Finished, Spent}
 use Rattle.turns.specs.engine.Turn.{Config}
 
 -- after k replacements that evaluated the leaves v, SSS* has the list L
@@ -29,21 +30,24 @@ pub record Keeps (t : List ℕ) (ls : List State) (w : List ℕ) (γ i k : ℕ) 
   pub found : Found (arraysOf ls w) (tree t) γ states i
   pub reaches : Reaches t k v states
 
--- how a run ends with the merit γ, with its allowance spent or not
-abbrev pub endOf : Bool → ℕ → theory.End
-endOf true γ = theory.spent γ
-endOf false γ = theory.finished γ
+-- a run that goes on: node i is to be taken, with the merit that its entry says
+pub record GoesOn (t : List ℕ) (ls : List State) (w : List ℕ) (i k : ℕ) (v : List ℕ) : Type 0 where
+  pub merit : ℕ
+  pub few : merit ≤ greatest
+  pub keeps : Keeps t ls w merit i k v
 
--- the run within an allowance of a leaves has ended so, after k replacements that evaluated the leaves v, and its
--- entries of ls are blank
-pub record Over (a : ℕ) (t : List ℕ) (ls : List State) (x : Bool) (γ k : ℕ) (v : List ℕ) : Type 0 where
-  pub ended : sssRun a t ≡ record { end = endOf x γ; evaluated = v; replacements = k }
+-- the run within an allowance of a leaves has ended so with the merit γ, after k replacements that evaluated the leaves
+-- v, and its entries of ls are blank
+pub record Over (a : ℕ) (t : List ℕ) (ls : List State) (end : ℕ → theory.End) (γ k : ℕ) (v : List ℕ) : Type 0 where
+  pub ended : sssRun a t ≡ record { end = end γ; evaluated = v; replacements = k }
+  pub few : γ ≤ greatest
   pub blank-all : ls ≡ replicate (frames t) blank ++ drop (frames t) ls
 
--- what holds of a run that goes on, or does not
-abbrev pub Stands : Bool → (a : ℕ) (t : List ℕ) → List State → List ℕ → Bool → ℕ → ℕ → ℕ → List ℕ → Type 0
-Stands true a t ls w x γ i k v = Keeps t ls w γ i k v
-Stands false a t ls w x γ i k v = Over a t ls x γ k v
+-- what holds of a run at each stage
+abbrev pub Stands : Stage → (a : ℕ) (t : List ℕ) → List State → List ℕ → ℕ → ℕ → List ℕ → Type 0
+Stands Going a t ls w i k v = GoesOn t ls w i k v
+Stands (Finished γ) a t ls w i k v = Over a t ls theory.finished γ k v
+Stands (Spent γ) a t ls w i k v = Over a t ls theory.spent γ k v
 
 -- the invariant, for an allowance of a leaves, a table t, entries l and marks b at entry
 pub record Running (a : ℕ) (t : List ℕ) (l : List State) (b : List ℕ) (c : Config) : Type 0 where
@@ -56,8 +60,6 @@ pub record Running (a : ℕ) (t : List ℕ) (l : List State) (b : List ℕ) (c :
   pub leaves : c .run .counts .leaves ≡ length evaluated
   pub allowance : c .run .counts .allowance ≡ a
   pub allowed : length evaluated ≤ a
-  pub test : c .run .test ≤ greatest
   pub sound : Sound t (c .front)
   pub stands :
-      Stands (c .run .going) a t (c .list) (c .front) (c .run .spent) (c .run .test) (c .run .at)
-      (c .run .counts .replacements) evaluated
+      Stands (c .run .stage) a t (c .list) (c .front) (c .run .best) (c .run .counts .replacements) evaluated

@@ -1,7 +1,6 @@
 -- What a search starts with: its questions, and the run, the places and the marks that follow from the answers.
 use Prim.Native.Nat.{ℕ, _≤_}
 use mathlib.Core.Path.{_≡_}
-use mathlib.Core.Bool.{Bool, true, false}
 use mathlib.Core.Option.{Option, none, some}
 use mathlib.Core.List.{List, [], _∷_}
 use lib.ListN.{length}
@@ -17,6 +16,8 @@ use Rattle.certificate.specs.Search.{searchRejection}
 use Rattle.states.specs.declared.Status.the-variants.{Live}
 use Rattle.turns.specs.declared.Counts.{Counts}
 use Rattle.sss.specs.declared.Sizes.{Sizes}
+use Rattle.turns.specs.declared.Stage.{Stage}
+use Rattle.turns.specs.declared.Stage.the-variants.{Going, Finished}
 use Rattle.turns.specs.declared.Run.{Run}
 use Rattle.places.specs.engine.Places.{placeEntry}
 use Rattle.states.specs.engine.Kept.{Sound}
@@ -35,21 +36,19 @@ abbrev pub noCounts : (a : ℕ) → Counts
 noCounts a = record { leaves = 0; replacements = 0; allowance = a }
 
 -- a run at its start, with so many states: the root's, LIVE, with the greatest merit, or none
-abbrev pub beginning : (a : ℕ) → Bool → ℕ → Run
-beginning a on n =
+abbrev pub beginning : (a : ℕ) → Stage → ℕ → Run
+beginning a s n =
     record {
-      going = on;
-      at = 0;
-      test = greatest;
+      stage = s;
+      best = 0;
       counts = noCounts a;
       update = ofChange (record { node = 0; first = 0; count = n; status = Live; score = greatest });
-      spent = false;
     }
 
--- the run after the questions: one that was rejected does not go
+-- the run after the questions: one that was rejected is over before its first turn
 abbrev pub begun : (a : ℕ) → Checked → Run
-begun a (Nodes n) = beginning a true 1
-begun a (Rejected r) = beginning a false 0
+begun a (Nodes n) = beginning a Going 1
+begun a (Rejected r) = beginning a (Finished greatest) 0
 
 -- the places F and the marks b after the questions
 abbrev pub placesAfter : (t F : List ℕ) → Option Rejection → List ℕ

@@ -11,10 +11,10 @@ use Rattle.states.proofs.fall.Statement.{statement}
 use Rattle.states.proofs.fall.Tie as tie
 
 abbrev Inv-loop : tie.InvT-loop
-Inv-loop table places front₀ node test at₀ front at = Falling table places test front₀ node front at
+Inv-loop table places front₀ node merit at₀ front at = Falling table places merit front₀ node front at
 
 abbrev μ-loop : tie.MeasureT-loop
-μ-loop table places front₀ node test at₀ front at = at
+μ-loop table places front₀ node merit at₀ front at = at
 
 -- from where the parent is read, the loop's head and the entry
 abbrev head : tie.After-parent-at Inv-loop μ-loop → tie.At-loop Inv-loop μ-loop
@@ -23,9 +23,9 @@ head s = s .before .before .before .before
 abbrev start : tie.After-parent-at Inv-loop μ-loop → tie.Start Inv-loop μ-loop
 start s = head s .before .before .before .before
 
--- the node at the head is below the test
+-- the node at the head is below the merit
 lower : (s : tie.After-parent-at Inv-loop μ-loop)
-    → falls (head s .loop .front) (start s .args .test) (head s .loop .at) ≡ true
+    → falls (head s .loop .front) (start s .args .merit) (head s .loop .at) ≡ true
 lower s = sym (s .before .before .is-lower .ensures) ∙ s .before .if1 .taken
 
 -- its parent

@@ -8,10 +8,10 @@ use Rattle.states.proofs.place.Statement.{statement}
 use Rattle.states.proofs.place.Tie as tie
 
 abbrev Inv-loop : tie.InvT-loop
-Inv-loop front₀ test node first end fresh at₀ front at = Storing fresh first end front₀ front at
+Inv-loop front₀ merit node first end fresh at₀ front at = Storing fresh first end front₀ front at
 
 abbrev μ-loop : tie.MeasureT-loop
-μ-loop front₀ test node first end fresh at₀ front at = end - at
+μ-loop front₀ merit node first end fresh at₀ front at = end - at
 
 -- the front is as long as it was at entry
 kept : (c : tie.At-loop Inv-loop μ-loop)
@@ -60,7 +60,7 @@ returns : tie.Need-returns Inv-loop μ-loop
 returns c =
     let a = c .before .before .before .before .before .before in
     store-end (c .before .loop .inv) (c .loop-test .left)
-    ∙ placed (a .args .test) (a .args .change) (a .args .front .now) _ _ _ (c .before .before .before .packed .ensures)
+    ∙ placed (a .args .merit) (a .args .change) (a .args .front .now) _ _ _ (c .before .before .before .packed .ensures)
     (c .before .before .packed2 .ensures) (omega arith)
 
 pub place-spec : {M : Type 1} → statement M

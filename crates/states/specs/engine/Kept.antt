@@ -72,7 +72,7 @@ chosenOf t w p = chosenBy t w p (sideOf t p) (childCount t p)
 abbrev pub renewed : List ℕ → List ℕ → ℕ → List ℕ
 renewed t w p = set w p (packed (bestAt w (chosenOf t w p)) (chosenOf t w p))
 
--- node k is not the root, and its merit is below the test γ
+-- node k is not the root, and its greatest merit is below γ
 abbrev pub falls : List ℕ → ℕ → ℕ → Bool
 falls w γ zero = false
 falls w γ (suc k) = ltb (bestAt w (suc k)) γ
@@ -111,5 +111,5 @@ pub record Placeable (γ : ℕ) (c : Change) (w : List ℕ) : Type 0 where
   pub run : c .first + c .count ≤ length w
   pub few : length w ≤ maxNodes
   pub some : c .first < length w
-  pub test : γ ≤ greatest
+  pub merit : γ ≤ greatest
   pub score : c .score ≤ greatest

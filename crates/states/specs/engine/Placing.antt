@@ -19,5 +19,5 @@ pub record Local (t : List ℕ) (c : Change) : Type 0 where
 pub record Placing (t F w : List ℕ) (γ : ℕ) (c : Change) : Type 0 where
   pub fits : Fits t F w
   pub here : Local t c
-  pub test : γ ≤ greatest
+  pub merit : γ ≤ greatest
   pub score : c .score ≤ greatest

@@ -6,11 +6,11 @@ use borrow.Author.Needs.{needs}
 use Rattle.turns.proofs.of_change.Statement.{statement}
 use Rattle.turns.proofs.of_change.Tie as tie
 
-merit-requires : tie.Need-merit-requires
-merit-requires c κs = search needs
+as-value-requires : tie.Need-as-value-requires
+as-value-requires c κs = search needs
 
 returns : tie.Need-returns
-returns c = rw (toZ-ofZ w32 (c .merit .result) (record { sfits = c .merit .ok }) ∙ c .merit .ensures)
+returns c = rw (toZ-ofZ w32 (c .as-value .result) (record { sfits = c .as-value .ok }) ∙ c .as-value .ensures)
 
 pub of-change-spec : {M : Type 1} → statement M
-of-change-spec = tie.close (tie.spec merit-requires returns)
+of-change-spec = tie.close (tie.spec as-value-requires returns)

@@ -26,9 +26,6 @@ descend-requires c κs =
     let k = fallen-keeps _ (p .fits .formed) _ _ _ _ (changed-sound _ _ _ _ _ p) (p .here .node) in
     (record { formed = p .fits .formed; places = p .fits .places; sound = rw (f .1, e) (k .0) }, rw (f .0, e) (k .1))
 
-best-at-requires : tie.Need-best-at-requires
-best-at-requires c κs = search needs
-
 of-change-requires : tie.Need-of-change-requires
 of-change-requires c κs = search needs
 
@@ -37,15 +34,14 @@ same-length c = search needs
 
 returns : tie.Need-returns
 returns c =
-    let c7 = c .before .before .before .before .before .before .before in
-    let c11 = c7 .before .before .before .before in
-    let c16 = c11 .before .before .before .before .before in
-    let a = c16 .args in
-    replaced-by (a .table .now) (a .front .now) (a .change) _ _ _ _ _ _ _ _ (c11 .place .ensures) (c7 .fall .ensures .0)
-    (c7 .fall .ensures .1)
-    (c .before .before .before .descend .ensures) (c .before .best-at .ensures) (c .of-change .ensures)
+    let c5 = c .before .before .before .before .before in
+    let c9 = c5 .before .before .before .before in
+    let c14 = c9 .before .before .before .before .before in
+    let a = c14 .args in
+    replaced-by (a .table .now) (a .front .now) (a .change) _ _ _ _ _ _ _ (c9 .place .ensures) (c5 .fall .ensures .0)
+    (c5 .fall .ensures .1) (c .before .descend .ensures) (c .of-change .ensures)
 
 pub replacing-spec : {M : Type 1} → statement M
 replacing-spec =
     tie.close
-    (tie.spec place-requires fall-requires descend-requires best-at-requires of-change-requires same-length returns)
+    (tie.spec place-requires fall-requires descend-requires of-change-requires same-length returns)

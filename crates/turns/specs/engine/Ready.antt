@@ -15,6 +15,7 @@ use Rattle.turns.specs.declared.Counts.{Counts}
 use Rattle.turns.specs.declared.Run.{Run}
 use Rattle.places.specs.engine.Places.{Placed}
 use Rattle.states.specs.engine.Kept.{Fits}
+use Rattle.turns.specs.engine.Merit.{IsMerit}
 
 -- so few replacements, and no more evaluations, that one more can be counted
 pub record Few (c : Counts) : Type 0 where
@@ -26,14 +27,15 @@ abbrev pub LeafUnmarked : List ℕ → List ℕ → Status → ℕ → Type 0
 LeafUnmarked t b s i = s ≡ Live → childCount t i ≡ 0 → marked b i ≡ false
 
 -- what the rules ask of a state that is not the SOLVED root
-pub record Replaceable (t F b : List ℕ) (e : State) (γ : ℕ) : Type 0 where
+pub record Replaceable (t F b : List ℕ) (e : State) (γ leaves : ℕ) : Type 0 where
   pub formed : WellFormed t
   pub places : Placed t F
   pub marks : frames t ≤ length b
   pub node : e .node < frames t
   pub lower : e .status ≡ Solved → 0 < e .node
   pub unmarked : LeafUnmarked t b (e .status) (e .node)
-  pub test : γ ≤ greatest
+  pub merit : γ ≤ greatest
+  pub few : leaves < 2 * maxNodes
 
 -- what a turn asks
 pub record Takeable (t F w b : List ℕ) (r : Run) (e : State) : Type 0 where
@@ -41,5 +43,5 @@ pub record Takeable (t F w b : List ℕ) (r : Run) (e : State) : Type 0 where
   pub marks : frames t ≤ length b
   pub node : e .node < frames t
   pub unmarked : LeafUnmarked t b (e .status) (e .node)
-  pub test : r .test ≤ greatest
+  pub merit : IsMerit (e .merit)
   pub few : Few (r .counts)

@@ -12,11 +12,20 @@ use Rattle.states.specs.declared.Status.the-variants.{Live, Solved}
 use Rattle.states.specs.declared.State.{State}
 use Rattle.states.specs.declared.Change.{Change}
 use Rattle.turns.specs.declared.Counts.{Counts}
+use Rattle.turns.specs.declared.Stage.{Stage}
+use Rattle.turns.specs.declared.Stage.the-variants.{Going, Finished, Spent}
 use Rattle.turns.specs.declared.Run.{Run}
 use Rattle.states.specs.Entry.{blank}
-use Rattle.states.specs.engine.Kept.{bestAt, Fallen, fallen, descended, changed}
+use Rattle.states.specs.engine.Kept.{Fallen, fallen, descended, changed}
+use Rattle.turns.specs.engine.Merit.{scoreOf}
 use Rattle.turns.specs.engine.Rules.{ofState}
 use Rattle.turns.specs.engine.Update.{updated, ofChange, blanks}
+
+-- does a run go on?
+abbrev pub going : Stage → Bool
+going Going = true
+going (Finished m) = false
+going (Spent m) = false
 
 -- is a state of node i with this status the SOLVED root?
 abbrev pub isSolvedRoot : Status → ℕ → Bool
@@ -41,9 +50,15 @@ counted t e k =
       allowance = k .allowance;
     }
 
+-- is a state of a node with n children, with this status, that of a LIVE leaf?
+abbrev pub isLiveLeaf : ℕ → Status → Bool
+isLiveLeaf zero Live = true
+isLiveLeaf zero Solved = false
+isLiveLeaf (suc n) s = false
+
 -- would a replacement of the state e evaluate a leaf that the allowance does not cover?
 abbrev pub uncovered : List ℕ → State → Counts → Bool
-uncovered t e k = ltb (k .allowance) (k .leaves + length (newLeaves t e))
+uncovered t e k = cond (ltb (k .leaves) (k .allowance)) false (isLiveLeaf (childCount t (e .node)) (e .status))
 
 -- the front after a change and the fall from its node, and the node to take next
 abbrev pub settled : List ℕ → ℕ → Change → List ℕ → Fallen
@@ -55,18 +70,11 @@ nextAt t r = descended (frames t - r .top) (r .front) (r .top)
 -- the run after a replacement
 abbrev pub replaced : List ℕ → List ℕ → Change → ℕ → Counts → Run
 replaced t w c γ k =
-    record {
-      going = true;
-      at = nextAt t (settled t γ c w);
-      test = bestAt (settled t γ c w .front) 0;
-      counts = k;
-      update = ofChange c;
-      spent = false;
-    }
+    record { stage = Going; best = nextAt t (settled t γ c w); counts = k; update = ofChange c }
 
 -- the run at its end, with an entry for each node blank
-abbrev pub ended : List ℕ → ℕ → Counts → Bool → Run
-ended t γ k x = record { going = false; at = 0; test = γ; counts = k; update = blanks (frames t); spent = x }
+abbrev pub ended : List ℕ → Stage → Counts → Run
+ended t s k = record { stage = s; best = 0; counts = k; update = blanks (frames t) }
 
 -- the front, the marks and the run after a state is taken
 pub record Taken : Type 0 where
@@ -74,25 +82,26 @@ pub record Taken : Type 0 where
   pub marks : List ℕ
   pub run : Run
 
--- the run ends, with its allowance spent or not
-abbrev pub stopped : (t w b : List ℕ) → Run → Bool → Taken
-stopped t w b r x = record { front = w; marks = b; run = ended t (r .test) (r .counts) x }
+-- the run ends
+abbrev pub stopped : (t w b : List ℕ) → Run → Stage → Taken
+stopped t w b r s = record { front = w; marks = b; run = ended t s (r .counts) }
 
 -- the state e is replaced
 abbrev pub stepped : (t w b : List ℕ) → Run → State → Taken
 stepped t w b r e =
-    let c = ofState t (e .node) (r .test) (e .status) in
+    let γ = scoreOf (e .merit) in
+    let c = ofState t (e .node) γ (e .status) in
     record {
-      front = settled t (r .test) c w .front;
+      front = settled t γ c w .front;
       marks = markAll b (newLeaves t e);
-      run = replaced t w c (r .test) (counted t e (r .counts));
+      run = replaced t w c γ (counted t e (r .counts));
     }
 
 -- the state e is taken
 abbrev pub taken : (t w b : List ℕ) → Run → State → Taken
 taken t w b r e =
-    cond (isSolvedRoot (e .status) (e .node)) (stopped t w b r false)
-    (cond (uncovered t e (r .counts)) (stopped t w b r true) (stepped t w b r e))
+    cond (isSolvedRoot (e .status) (e .node)) (stopped t w b r (Finished (scoreOf (e .merit))))
+    (cond (uncovered t e (r .counts)) (stopped t w b r (Spent (scoreOf (e .merit)))) (stepped t w b r e))
 
 -- the front, the list, the marks and the run between two turns
 pub record Config : Type 0 where
@@ -103,7 +112,7 @@ pub record Config : Type 0 where
 
 -- the front, the marks and the run after the best state is taken
 abbrev pub best : List ℕ → Config → Taken
-best t c = taken t (c .front) (c .marks) (c .run) (getD (c .list) (c .run .at) blank)
+best t c = taken t (c .front) (c .marks) (c .run) (getD (c .list) (c .run .best) blank)
 
 -- the list, too, once the update is made
 abbrev pub after : List State → Taken → Config

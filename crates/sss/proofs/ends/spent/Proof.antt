@@ -1,4 +1,4 @@
--- `sss::ends::spent` meets its contract: the merit is the test's value.
+-- `sss::ends::spent` meets its contract: the merit is the score's value.
 use mathlib.Core.Path.{_∙_}
 use mir.Syntax.{w32}
 use mir.ValLaws.{toZ-ofZ}
@@ -6,11 +6,11 @@ use borrow.Author.Needs.{needs}
 use Rattle.sss.proofs.ends.spent.Statement.{statement}
 use Rattle.sss.proofs.ends.spent.Tie as tie
 
-merit-requires : tie.Need-merit-requires
-merit-requires c κs = search needs
+as-value-requires : tie.Need-as-value-requires
+as-value-requires c κs = search needs
 
 returns : tie.Need-returns
-returns c = rw (toZ-ofZ w32 (c .merit .result) (record { sfits = c .merit .ok }) ∙ c .merit .ensures)
+returns c = rw (toZ-ofZ w32 (c .as-value .result) (record { sfits = c .as-value .ok }) ∙ c .as-value .ensures)
 
 pub spent-spec : {M : Type 1} → statement M
-spent-spec = tie.close (tie.spec merit-requires returns)
+spent-spec = tie.close (tie.spec as-value-requires returns)

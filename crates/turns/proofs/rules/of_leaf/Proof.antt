@@ -1,6 +1,6 @@
 -- `turns::rules::of_leaf` meets its contract.
 use native.Mathlib.Omega.{arith}
-use mathlib.Core.Path.{_∙_}
+use mathlib.Core.Path.{refl, _∙_}
 use Rattle.places.proofs.Places.{placed-few, placed-depth}
 use borrow.Author.Needs.{needs}
 use Rattle.turns.proofs.rules.of_leaf.Statement.{statement}
@@ -29,13 +29,18 @@ better-requires c κs = search needs
 one-requires : tie.Need-one-requires
 one-requires c κs = search needs
 
+add-t14 : tie.Need-add-t14
+add-t14 c = search needs
+
 same-length : tie.Need-same-length
 same-length c = search needs
 
 returns : tie.Need-returns
 returns c =
-    let e = c .before .before .before .before in
-    (rw (c .one .ensures, c .before .better .ensures, e .evaluate .ensures .0 .0), e .evaluate .ensures .1)
+    let e = c .before .before .before .before in (
+      rw (c .one .ensures, c .before .better .ensures, e .evaluate .ensures .0 .0),
+      (refl, e .evaluate .ensures .1),
+    )
 
 pub of-leaf-spec : {M : Type 1} → statement M
 of-leaf-spec =
@@ -45,5 +50,6 @@ of-leaf-spec =
     evaluate-requires
     better-requires
     one-requires
+    add-t14
     same-length
     returns)

@@ -1,6 +1,7 @@
 -- `turns::rules::of_state` meets its contract: by the status, and by the count of children.
 use native.Mathlib.Omega.{arith}
 use mathlib.Core.Path.{_≡_, sym, ap, ap₂, _∙_}
+use lib.ListN.{length}
 use Rattle.frames.specs.Frame.{childCount}
 use Rattle.frames.specs.Place.{sideOf}
 use Rattle.frames.proofs.Parents.{parent-child}
@@ -28,7 +29,7 @@ of-leaf-requires c κs =
     let p = c9 .pre in
     let z = sym (c .before .before .child-count .ensures .0) ∙ c .before .if1 .taken in
     let m = p .unmarked (c .before .before .before .enum-told .given .1) z in
-    (p .places, ((p .node, z, p .test), (omega (arith, p .node, p .marks), m)))
+    (p .places, ((p .node, z, p .merit), (omega (arith, p .node, p .marks), m, p .few)))
 
 side-at-requires : tie.Need-side-at-requires
 side-at-requires c κs = search needs
@@ -67,7 +68,8 @@ returns c =
     let c5 = c .before .before .before .before .before in
     let c6 = c5 .before in
     let z = sym (c5 .child-count .ensures .0) ∙ c .before .before .before .before .if1 .taken in
-    rw (c6 .enum-told .given .1, z) (c .before .before .of-leaf .ensures .0, c .before .before .of-leaf .ensures .1)
+    let o = c .before .before .of-leaf .ensures in
+    rw (c6 .enum-told .given .1, z) (o .0, (o .1 .0, o .1 .1))
 
 returns-2 : tie.Need-returns-2
 unfolding markAll
@@ -80,8 +82,8 @@ returns-2 c =
     let z : childCount (a .table .now) (a .entry .node) ≡ 0 → ⊥ = λ e. c .before .before .if1 .left (n ∙ e) in
     let v = inner-none _ Live (a .entry .node) z in
     rw (c .before .before .before .before .enum-told .given .1, c .of-inner .ensures) (
-      ap₂ (λ q k. ofInner (a .table .now) (a .entry .node) (a .test) q k) s n ∙ live-inner _ _ _ _ _ z,
-      sym (ap (markAll (a .evaluated .now)) v),
+      ap₂ (λ q k. ofInner (a .table .now) (a .entry .node) (a .merit) q k) s n ∙ live-inner _ _ _ _ _ z,
+      (omega (arith, ap length v), sym (ap (markAll (a .evaluated .now)) v)),
     )
 
 returns-3 : tie.Need-returns-3
@@ -95,9 +97,9 @@ returns-3 c =
     let s = c .before .side-at2 .ensures ∙ placed-side _ _ (p .places) _ (rw u (h .0)) in
     let v = solved-none (childCount (a .table .now) (a .entry .node)) (a .entry .node) in
     rw (c .before .before .before .enum-told2 .given .1, c .of-child .ensures) (
-      ap (ofChild (a .table .now) (a .entry .node) (a .test) _) s
-          ∙ ap (λ d. ofChild (a .table .now) (a .entry .node) (a .test) d (sideOf (a .table .now) d)) u,
-      sym (ap (markAll (a .evaluated .now)) v),
+      ap (ofChild (a .table .now) (a .entry .node) (a .merit) _) s
+          ∙ ap (λ d. ofChild (a .table .now) (a .entry .node) (a .merit) d (sideOf (a .table .now) d)) u,
+      (omega (arith, ap length v), sym (ap (markAll (a .evaluated .now)) v)),
     )
 
 pub of-state-spec : {M : Type 1} → statement M

@@ -1,4 +1,4 @@
--- `turns::merit` meets its contract: the score's value takes 32 bits.
+-- `turns::as_value` meets its contract: the score's value takes 32 bits.
 use native.Mathlib.Omega.{arith}
 use mathlib.Core.Path.{_≡_}
 use lib.IntN.{pos}
@@ -8,8 +8,8 @@ use mir.ValLaws.{toZ-pos, toZ-ofZ}
 use Rattle.frames.specs.Value.{valueOf}
 use Rattle.turns.proofs.Merits.{value-fits}
 use borrow.Author.Needs.{needs}
-use Rattle.turns.proofs.merit.Statement.{statement}
-use Rattle.turns.proofs.merit.Tie as tie
+use Rattle.turns.proofs.as_value.Statement.{statement}
+use Rattle.turns.proofs.as_value.Tie as tie
 
 -- the cast reads the score as it is
 plain : (c : tie.Start) → toZ w32 (c .args .score) ≡ pos (c .args .score)
@@ -25,5 +25,5 @@ returns : tie.Need-returns
 returns c =
     rw (plain c, toZ-ofZ w32 (valueOf (c .args .score)) (value-fits (c .args .score) (c .pre)))
 
-pub merit-spec : {M : Type 1} → statement M
-merit-spec = tie.close (tie.spec cast-result sub-result returns)
+pub as-value-spec : {M : Type 1} → statement M
+as-value-spec = tie.close (tie.spec cast-result sub-result returns)
