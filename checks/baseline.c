@@ -120,11 +120,12 @@ struct answer c_convert(const uint8_t *file, size_t length, uint8_t *converted, 
 
 /* ---- what the searches share */
 
-/* Questions 1 to 10. */
-static struct answer ask(const uint8_t *table, size_t length, size_t marks_room, size_t proof_room) {
+static inline size_t smaller(size_t a, size_t b) { return a < b ? a : b; }
+
+/* Questions 1 to 10; `room` is the least that is lent. */
+static struct answer ask(const uint8_t *table, size_t length, size_t room) {
     struct answer answer = c_check(table, length);
-    if (!answer.refused && (marks_room < answer.count || proof_room < answer.count)) return no(10, 0);
-    return answer;
+    return answer.refused || room >= answer.count ? answer : no(10, 0);
 }
 
 /* A place is twice a depth, plus 1 where Min moves: at a child that is the other side, or by byte 3 the same one. */
@@ -142,6 +143,18 @@ static inline int worth(const uint8_t *table, int k, int depth) { return counts(
 static inline int evaluate(const uint8_t *table, uint8_t *marks, int k, int depth) {
     marks[k] = 1;
     return worth(table, k, depth);
+}
+
+/* What a search has valued: the leaves' marks, their numbers in order, and how many they are. */
+struct valued {
+    uint8_t *marks;
+    uint16_t *order;
+    size_t leaves;
+};
+
+static inline int evaluate_next(const uint8_t *table, struct valued *v, int k, int depth) {
+    v->order[v->leaves++] = k;
+    return evaluate(table, v->marks, k, depth);
 }
 
 static void fill_places(const uint8_t *table, int n, uint8_t *places) {
@@ -197,21 +210,12 @@ static int conclude(const uint8_t *table, int n, uint8_t *marks, uint8_t *proof)
 
 /* ---- alpha-beta */
 
-struct visits {
-    const uint8_t *table;
-    uint8_t *marks;
-    int leaves;
-};
-
-static int alpha_beta(struct visits *v, int k, int place, int alpha, int beta) {
-    int count = child_count(v->table, k), first = first_child(v->table, k);
+static int alpha_beta(const uint8_t *table, struct valued *v, int k, int place, int alpha, int beta) {
+    int count = child_count(table, k), first = first_child(table, k);
     bool is_max = max_moves(place);
-    if (count == 0) {
-        v->leaves++;
-        return evaluate(v->table, v->marks, k, depth_of(place));
-    }
+    if (count == 0) return evaluate_next(table, v, k, depth_of(place));
     for (int c = first; c < first + count && alpha < beta; c++) {
-        int value = alpha_beta(v, c, child_place(v->table, c, place), alpha, beta);
+        int value = alpha_beta(table, v, c, child_place(table, c, place), alpha, beta);
         if (is_max) alpha = greater(alpha, value);
         else beta = lesser(beta, value);
     }
@@ -219,12 +223,12 @@ static int alpha_beta(struct visits *v, int k, int place, int alpha, int beta) {
 }
 
 struct answer c_alphabeta(const uint8_t *table, size_t length, uint8_t *marks, size_t marks_room, uint8_t *proof,
-                          size_t proof_room) {
-    struct answer asked = ask(table, length, marks_room, proof_room);
+                          size_t proof_room, uint16_t *order, size_t order_room) {
+    struct answer asked = ask(table, length, smaller(smaller(marks_room, proof_room), order_room));
     if (asked.refused) return asked;
-    struct visits v = { table, marks, 0 };
+    struct valued v = { marks, order, 0 };
     memset(marks, 0, asked.count);
-    int value = alpha_beta(&v, 0, 0, LEAST, GREATEST);
+    int value = alpha_beta(table, &v, 0, 0, LEAST, GREATEST);
     int move = conclude(table, asked.count, marks, proof);
     return (struct answer){ .value = value, .root_move = move, .leaves = v.leaves };
 }
@@ -251,7 +255,7 @@ static int min_turn(const uint8_t *table, uint8_t *marks, int k, int depth) {
 
 struct answer c_plain(const uint8_t *table, size_t length, uint8_t *marks, size_t marks_room, uint8_t *proof,
                       size_t proof_room) {
-    struct answer asked = ask(table, length, marks_room, proof_room);
+    struct answer asked = ask(table, length, smaller(marks_room, proof_room));
     if (asked.refused) return asked;
     memset(marks, 0, asked.count);
     int value = max_turn(table, marks, 0, 0);
@@ -263,8 +267,7 @@ struct answer c_plain(const uint8_t *table, size_t length, uint8_t *marks, size_
 
 struct passes {
     const uint8_t *table;
-    uint8_t *marks;
-    int leaves;
+    struct valued valued;
     int high[NODES];
     uint8_t not_below[NODES];
 };
@@ -275,9 +278,8 @@ static bool below(struct passes *p, int k, int place, int test) {
     int count = child_count(p->table, k), first = first_child(p->table, k), high;
     bool answer;
     if (count == 0) {
-        if (p->marks[k]) return false;
-        p->leaves++;
-        high = evaluate(p->table, p->marks, k, depth_of(place));
+        if (p->valued.marks[k]) return false;
+        high = evaluate_next(p->table, &p->valued, k, depth_of(place));
         answer = high < test;
     } else {
         bool is_max = max_moves(place);
@@ -294,18 +296,18 @@ static bool below(struct passes *p, int k, int place, int test) {
 }
 
 struct answer c_mtd(const uint8_t *table, size_t length, uint8_t *marks, size_t marks_room, uint8_t *proof,
-                    size_t proof_room) {
-    struct answer asked = ask(table, length, marks_room, proof_room);
+                    size_t proof_room, uint16_t *order, size_t order_room) {
+    struct answer asked = ask(table, length, smaller(smaller(marks_room, proof_room), order_room));
     if (asked.refused) return asked;
     int n = asked.count, test = GREATEST, passes = 1;
     struct passes p;
-    p.table = table, p.marks = marks, p.leaves = 0;
+    p.table = table, p.valued = (struct valued){ marks, order, 0 };
     memset(marks, 0, n);
     memset(p.not_below, 0, n);
     for (int k = 0; k < n; k++) p.high[k] = GREATEST;
     for (; below(&p, 0, 0, test); passes++) test = p.high[0];
     int move = conclude(table, n, marks, proof);
-    return (struct answer){ .value = test, .root_move = move, .leaves = p.leaves, .steps = passes };
+    return (struct answer){ .value = test, .root_move = move, .leaves = p.valued.leaves, .steps = passes };
 }
 
 /* ---- SSS* */
@@ -361,7 +363,7 @@ static int fall(struct front *f, int k, int test) {
 }
 
 /* SSS* of an accepted tree over a lent list; the value, or the merit at which the allowance is spent. */
-static int run_front(const uint8_t *table, int n, struct state *list, uint8_t *marks, size_t allowance,
+static int run_front(const uint8_t *table, int n, struct state *list, struct valued *v, size_t allowance,
                      struct answer *counts) {
     struct front f;
     int k = 0, test = GREATEST;
@@ -382,12 +384,11 @@ static int run_front(const uint8_t *table, int n, struct state *list, uint8_t *m
             }
             k = up;
         } else if (child_count(table, k) == 0) {
-            if (counts->leaves == allowance) {
+            if (v->leaves == allowance) {
                 counts->spent = 1;
                 break;
             }
-            counts->leaves++;
-            put(&f, k, SOLVED, lesser(test, evaluate(table, marks, k, depth_of(f.place[k]))));
+            put(&f, k, SOLVED, lesser(test, evaluate_next(table, v, k, depth_of(f.place[k]))));
             k = fall(&f, k, test);
             test = merit_of(f.front[0]);
         } else {
@@ -401,7 +402,7 @@ static int run_front(const uint8_t *table, int n, struct state *list, uint8_t *m
 }
 
 /* The textbook's list, in no order: every step scans it for the best state, leftmost in the tree on equal merit. */
-static int run_list(const uint8_t *table, int n, struct state *list, uint8_t *marks, size_t allowance,
+static int run_list(const uint8_t *table, int n, struct state *list, struct valued *v, size_t allowance,
                     struct answer *counts) {
     uint16_t parent[NODES], size[NODES], left[NODES];
     uint8_t place[NODES];
@@ -423,15 +424,14 @@ static int run_list(const uint8_t *table, int n, struct state *list, uint8_t *ma
                 best = i;
         struct state s = list[best];
         int up = parent[s.node], count = child_count(table, s.node), first = first_child(table, s.node);
-        counts->spent = s.status == LIVE && count == 0 && counts->leaves == allowance;
+        counts->spent = s.status == LIVE && count == 0 && v->leaves == allowance;
         if (counts->spent || (s.status == SOLVED && s.node == 0)) {
             value = s.merit;
             break;
         }
         if (s.status == LIVE && count == 0) {
-            counts->leaves++;
             list[best].status = SOLVED;
-            list[best].merit = lesser(s.merit, evaluate(table, marks, s.node, depth_of(place[s.node])));
+            list[best].merit = lesser(s.merit, evaluate_next(table, v, s.node, depth_of(place[s.node])));
         } else if (s.status == LIVE) {
             list[best].node = first;
             for (int i = 1; max_moves(place[s.node]) && i < count; i++)
@@ -454,16 +454,19 @@ static int run_list(const uint8_t *table, int n, struct state *list, uint8_t *ma
     return value;
 }
 
-typedef int run(const uint8_t *table, int n, struct state *list, uint8_t *marks, size_t allowance,
+typedef int run(const uint8_t *table, int n, struct state *list, struct valued *v, size_t allowance,
                 struct answer *counts);
 
 static inline struct answer sss(run *run, const uint8_t *table, size_t length, uint8_t *marks, size_t marks_room,
-                                uint8_t *proof, size_t proof_room, size_t allowance) {
+                                uint8_t *proof, size_t proof_room, uint16_t *order, size_t order_room,
+                                size_t allowance) {
     struct state list[NODES];
-    struct answer asked = ask(table, length, marks_room, proof_room), found = { 0 };
+    struct answer asked = ask(table, length, smaller(smaller(marks_room, proof_room), order_room)), found = { 0 };
     if (asked.refused) return asked;
+    struct valued v = { marks, order, 0 };
     memset(marks, 0, asked.count);
-    int test = run(table, asked.count, list, marks, allowance, &found);
+    int test = run(table, asked.count, list, &v, allowance, &found);
+    found.leaves = v.leaves;
     if (found.spent) {
         found.merit = test;
     } else {
@@ -474,23 +477,23 @@ static inline struct answer sss(run *run, const uint8_t *table, size_t length, u
 }
 
 struct answer c_sss(const uint8_t *table, size_t length, uint8_t *marks, size_t marks_room, uint8_t *proof,
-                    size_t proof_room) {
-    return sss(run_front, table, length, marks, marks_room, proof, proof_room, NODES);
+                    size_t proof_room, uint16_t *order, size_t order_room) {
+    return sss(run_front, table, length, marks, marks_room, proof, proof_room, order, order_room, NODES);
 }
 
 struct answer c_sss_list(const uint8_t *table, size_t length, uint8_t *marks, size_t marks_room, uint8_t *proof,
-                         size_t proof_room) {
-    return sss(run_list, table, length, marks, marks_room, proof, proof_room, NODES);
+                         size_t proof_room, uint16_t *order, size_t order_room) {
+    return sss(run_list, table, length, marks, marks_room, proof, proof_room, order, order_room, NODES);
 }
 
 struct answer c_allowed(const uint8_t *table, size_t length, uint8_t *marks, size_t marks_room, uint8_t *proof,
-                        size_t proof_room, size_t allowance) {
-    return sss(run_front, table, length, marks, marks_room, proof, proof_room, allowance);
+                        size_t proof_room, uint16_t *order, size_t order_room, size_t allowance) {
+    return sss(run_front, table, length, marks, marks_room, proof, proof_room, order, order_room, allowance);
 }
 
 struct answer c_allowed_list(const uint8_t *table, size_t length, uint8_t *marks, size_t marks_room, uint8_t *proof,
-                             size_t proof_room, size_t allowance) {
-    return sss(run_list, table, length, marks, marks_room, proof, proof_room, allowance);
+                             size_t proof_room, uint16_t *order, size_t order_room, size_t allowance) {
+    return sss(run_list, table, length, marks, marks_room, proof, proof_room, order, order_room, allowance);
 }
 
 /* ---- the check of a proof */
@@ -667,6 +670,7 @@ struct answer c_least(size_t width, size_t depth) {
 
 struct text c_report(const uint8_t *file, size_t length) {
     uint8_t table[TABLE_BYTES], marks[NODES], proof[NODES];
+    uint16_t order[NODES];
     struct text text = { { 0 }, 0 };
     char *bytes = (char *)text.bytes;
     struct answer r = c_read(file, length, table, sizeof table);
@@ -674,9 +678,9 @@ struct text c_report(const uint8_t *file, size_t length) {
         text.length = snprintf(bytes, TEXT_BYTES, "refused %d %zu\n", r.refused, r.place);
         return text;
     }
-    struct answer a = c_alphabeta(table, FRAME * r.count, marks, sizeof marks, proof, sizeof proof);
-    struct answer m = c_mtd(table, FRAME * r.count, marks, sizeof marks, proof, sizeof proof);
-    struct answer s = c_sss(table, FRAME * r.count, marks, sizeof marks, proof, sizeof proof);
+    struct answer a = c_alphabeta(table, FRAME * r.count, marks, NODES, proof, NODES, order, NODES);
+    struct answer m = c_mtd(table, FRAME * r.count, marks, NODES, proof, NODES, order, NODES);
+    struct answer s = c_sss(table, FRAME * r.count, marks, NODES, proof, NODES, order, NODES);
     text.length =
         snprintf(bytes, TEXT_BYTES, "method value move leaves\nab %d %zu %zu\nmtd %d %zu %zu\nsss %d %zu %zu\n",
                  a.value, a.root_move, a.leaves, m.value, m.root_move, m.leaves, s.value, s.root_move, s.leaves);

@@ -31,9 +31,12 @@ typedef struct answer read_call(const uint8_t *file, size_t length, uint8_t *tab
 typedef struct answer write_call(const uint8_t *table, size_t length, uint8_t *file, size_t room);
 typedef struct answer check_call(const uint8_t *table, size_t length);
 typedef struct answer search_call(const uint8_t *table, size_t length, uint8_t *marks, size_t marks_room,
-                                  uint8_t *proof, size_t proof_room);
+                                  uint8_t *proof, size_t proof_room, uint16_t *order, size_t order_room);
+typedef struct answer plain_call(const uint8_t *table, size_t length, uint8_t *marks, size_t marks_room,
+                                 uint8_t *proof, size_t proof_room);
 typedef struct answer allowed_call(const uint8_t *table, size_t length, uint8_t *marks, size_t marks_room,
-                                   uint8_t *proof, size_t proof_room, size_t allowance);
+                                   uint8_t *proof, size_t proof_room, uint16_t *order, size_t order_room,
+                                   size_t allowance);
 typedef struct answer verify_call(const uint8_t *table, size_t length, const uint8_t *flags, size_t flags_room);
 typedef struct answer shorter_call(const uint8_t *table, size_t length, const uint8_t *first, size_t first_room,
                                    const uint8_t *second, size_t second_room);
@@ -49,7 +52,8 @@ typedef struct text report_call(const uint8_t *file, size_t length);
 read_call c_read, c_convert;
 write_call c_write;
 check_call c_check;
-search_call c_alphabeta, c_plain, c_mtd, c_sss, c_sss_list;
+search_call c_alphabeta, c_mtd, c_sss, c_sss_list;
+plain_call c_plain;
 allowed_call c_allowed, c_allowed_list;
 verify_call c_verify;
 shorter_call c_shorter;

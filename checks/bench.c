@@ -16,7 +16,8 @@
 read_call rattle_read, rattle_convert;
 write_call rattle_write;
 check_call rattle_check;
-search_call rattle_alphabeta, rattle_plain, rattle_mtd, rattle_sss;
+search_call rattle_alphabeta, rattle_mtd, rattle_sss;
+plain_call rattle_plain;
 verify_call rattle_verify;
 graft_call rattle_graft;
 needed_call rattle_needed;
@@ -35,7 +36,9 @@ static const struct side {
     write_call *write;
     read_call *convert;
     check_call *check;
-    search_call *searches[4];
+    search_call *alphabeta;
+    plain_call *plain;
+    search_call *mtd, *sss;
     verify_call *verify;
     graft_call *graft;
     needed_call *needed;
@@ -43,9 +46,9 @@ static const struct side {
     report_call *report;
 } sides[] = {
     { "rattle", rattle_read, rattle_write, rattle_convert, rattle_check,
-      { rattle_alphabeta, rattle_plain, rattle_mtd, rattle_sss }, rattle_verify, rattle_graft, rattle_needed, rattle_fill,
+      rattle_alphabeta, rattle_plain, rattle_mtd, rattle_sss, rattle_verify, rattle_graft, rattle_needed, rattle_fill,
       rattle_report },
-    { "c", c_read, c_write, c_convert, c_check, { c_alphabeta, c_plain, c_mtd, c_sss }, c_verify, c_graft, c_needed, c_fill,
+    { "c", c_read, c_write, c_convert, c_check, c_alphabeta, c_plain, c_mtd, c_sss, c_verify, c_graft, c_needed, c_fill,
       c_report },
 };
 
@@ -60,8 +63,13 @@ static uint8_t file[FILE_BYTES], table[TABLE_BYTES], flags[NODES];
 static size_t file_length, nodes;
 static struct lent {
     uint8_t table[TABLE_BYTES], file[FILE_BYTES], marks[NODES], proof[NODES];
+    uint16_t order[NODES];
     struct text text; /* not lent: what comes back */
 } lent[2];
+
+static struct answer searched(search_call *search, struct lent *l) {
+    return search(table, FRAME * nodes, l->marks, NODES, l->proof, NODES, l->order, NODES);
+}
 
 static struct answer perform(const struct side *s, enum call call, struct lent *l) {
     switch (call) {
@@ -69,12 +77,15 @@ static struct answer perform(const struct side *s, enum call call, struct lent *
     case WRITE: return s->write(table, FRAME * nodes, l->file, sizeof l->file);
     case CONVERT: return s->convert(file, file_length, l->file, sizeof l->file);
     case CHECK: return s->check(table, FRAME * nodes);
+    case ALPHABETA: return searched(s->alphabeta, l);
+    case PLAIN: return s->plain(table, FRAME * nodes, l->marks, NODES, l->proof, NODES);
+    case MTD: return searched(s->mtd, l);
+    case SSS: return searched(s->sss, l);
     case VERIFY: return s->verify(table, FRAME * nodes, flags, nodes);
     case GRAFT: return s->graft(lone_leaf, FRAME, 0, table, FRAME * nodes, l->table, sizeof l->table);
     case NEEDED: return s->needed(table, FRAME * nodes, nodes - 1, 0);
     case FILL: return s->fill(memcpy(l->table, table, FRAME * nodes), FRAME * nodes);
-    case REPORT: l->text = s->report(file, file_length); return (struct answer){ 0 };
-    default: return s->searches[call - ALPHABETA](table, FRAME * nodes, l->marks, NODES, l->proof, NODES);
+    default: l->text = s->report(file, file_length); return (struct answer){ 0 };
     }
 }
 
@@ -169,7 +180,7 @@ int main(int argc, char **argv) {
     }
     file_length = fread(file, 1, sizeof file, f);
     nodes = c_read(file, file_length, table, sizeof table).count;
-    c_alphabeta(table, FRAME * nodes, lent[0].marks, NODES, flags, NODES);
+    c_alphabeta(table, FRAME * nodes, lent[0].marks, NODES, flags, NODES, lent[0].order, NODES);
     for (enum call call = 0; call < CALLS; call++) {
         compare(call);
         if (!strcmp(argv[2], "time")) print_times(call);

@@ -9,7 +9,7 @@ Limits: files of 53,247 to 53,250 bytes and around the size of the program's buf
 byte of a small file: cut there, lost, put in, or another byte. A question from 1 to 9 or 16 that no file got a "no" to is an error.
 The program's output, its standard error (must be empty) and its exit status (must be 0) are compared.
 With --capitals the program is `capitals`; what it wrote is given to it again, and must not change.
-With --detail (for baseline.c) the program gets the word -d and has to print marks, flags, passes and replacements too, those of SSS* twice.
+With --detail (for baseline.c) the program gets the word -d and has to print leaves in order, marks, flags, passes and replacements too, those of SSS* twice.
 Files that differ are kept in DIR (default target/checks); the exit status is 1 if there is one.
 """
 import argparse
@@ -341,7 +341,7 @@ def main():
         before = time.time()
         want = o.capitals(file) if args.capitals else o.report(file)
         if args.detail:
-            lines = [line for line in o.detail(file).splitlines(True) if " order " not in line]
+            lines = o.detail(file).splitlines(True)
             want += "".join(lines + [line for line in lines if line.startswith("sss ")]).encode()
         model_time += time.time() - before
         answers[want.split()[1].decode() if want.startswith(b"refused") else "result"] += 1

@@ -1,6 +1,6 @@
 #!/usr/bin/env python3
-"""Runs a compiled `cases` on generated calls over lent memory and compares with oracle.py: marks, certificates, passes, replacements,
-allowances, verdicts on right and on damaged flags, short buffers, parts of tables, written files, grafts, values for a
+"""Runs a compiled `cases` on generated calls over lent memory and compares with oracle.py: marks, certificates, lists of leaves, passes,
+replacements, allowances, verdicts on right and on damaged flags, short buffers, parts of tables, written files, grafts, values for a
 wanted root value, dearest fillings, least counts, lines and children.
 
     fuzz_calls.py PROGRAM [--runs N] [--seed S]     N inputs of up to 65,000 bytes each (default 40)
@@ -23,7 +23,7 @@ def damaged_flags(rng, table):
     """The certificate of a search, as it is or with a few flags changed, or flags at random."""
     n = len(table) // 6
     marks, flags = bytearray(n), bytearray(n)
-    rng.choice((o.alpha_beta, o.mtd_search))(table, marks, flags)
+    o.search(rng.choice((o.ab, o.mtd)), table, marks, flags)
     kind = rng.randrange(6)
     if kind == 0:
         return flags
@@ -59,8 +59,8 @@ def call(rng):
     file, n = o.file_of(table), len(table) // 6
     kind = rng.randrange(14)
     if kind <= 2:
-        marks, flags = (rng.choice((n, n, n, n + 1, n + 9, n - 1, 0)) for _ in range(2))
-        return file, "buffers %d %d" % (marks, flags), m.searches(table, marks, flags)
+        sizes = [rng.choice((n, n, n, n, n + 1, n + 9, n - 1, 0)) for _ in range(3)]
+        return file, "buffers" + m.numbers(sizes), m.searches(table, *sizes)
     if kind <= 4:
         flags = damaged_flags(rng, table)
         if n < 40 and rng.random() < 0.5:
@@ -70,7 +70,7 @@ def call(rng):
     if kind == 5:
         size = rng.choice((6 * n, 6 * n - 1, 6 * n + 1, 6 * n + 6, 6 * rng.randrange(n + 1), rng.randrange(400), 24582))
         part = (table + bytes(m.TABLE_SIZE - len(table)))[:size]
-        return file, "check %d" % size, "check %s\n" % m.answered(o.check_table(part)) + m.verdict(part, b"") + m.searches(part, 0, 0)
+        return file, "check %d" % size, "check %s\n" % m.answered(o.check_table(part)) + m.verdict(part, b"") + m.searches(part, 0, 0, 0)
     if kind == 6:
         size = rng.choice((6 * n, 6 * n - 1, 6 * n + 5, rng.randrange(6 * n + 1)))
         lent = bytearray((m.FILLED,) * size)
@@ -81,9 +81,9 @@ def call(rng):
         part = (table + bytes(m.TABLE_SIZE - len(table)))[:size]
         return file, "write %d %d" % (room, size), m.written(part, room)
     if kind == 8:
-        marks, flags = (rng.choice((n, n, n, n + 1, n - 1)) for _ in range(2))
+        sizes = [rng.choice((n, n, n, n, n + 1, n - 1)) for _ in range(3)]
         allowance = rng.choice((0, 1, 2, rng.randrange(n + 1), rng.randrange(n + 1)))
-        return file, "allowance %d %d %d" % (allowance, marks, flags), m.allowed(table, allowance, marks, flags)
+        return file, "allowance" + m.numbers((allowance, *sizes)), m.allowed(table, allowance, *sizes)
     if kind == 9:
         second = bytes(fuzz.good_table(rng, rng.choice((2, 7, 30))))
         node, room, sizes = graft_of(rng, table, second)

@@ -11,6 +11,7 @@ import itertools
 import os
 import random
 import sys
+from array import array
 from collections import Counter
 
 import fuzz
@@ -19,7 +20,7 @@ import library
 import oracle as o
 import selfcheck
 
-FILLED, GUARD, TEXT_SIZE = 170, 64, 256
+FILLED, UNLISTED, GUARD, TEXT_SIZE = 170, 43690, 64, 256
 ONLY_IN_C = ("allowed_list",)
 
 
@@ -43,10 +44,10 @@ def libraries():
 
 
 def lend(data):
-    """The bytes with guards on both sides, and the words of an argument; a number is its own word."""
+    """The bytes, or the numbers of an array, with guards on both sides, and the words of an argument; a number is its own word."""
     if isinstance(data, int):
         return bytearray((FILLED,) * 2 * GUARD), (ctypes.c_size_t(data),)
-    room = bytearray((FILLED,) * GUARD) + data + bytearray((FILLED,) * GUARD)
+    room = bytearray((FILLED,) * GUARD) + bytes(data) + bytearray((FILLED,) * GUARD)
     return room, (ctypes.byref((ctypes.c_uint8 * len(room)).from_buffer(room), GUARD), ctypes.c_size_t(len(data)))
 
 
@@ -55,7 +56,7 @@ def call(side, name, *buffers):
     lib, prefix = side
     function = getattr(lib, prefix + name)
     function.restype = Text if name == "report" else Answer
-    lent = [lend(data if isinstance(data, int) else bytes(data)) for data in buffers]
+    lent = [lend(data) for data in buffers]
     got = function(*itertools.chain.from_iterable(words for _, words in lent))
     for room, _ in lent:
         if set(room[:GUARD] + room[-GUARD:]) != {FILLED}:
@@ -79,21 +80,30 @@ def filled(size):
     return bytearray((FILLED,) * size)
 
 
-def searches(table, marks, flags):
+def unlisted(entries):
+    return array("H", (UNLISTED,) * entries)
+
+
+def lent_to(name, marks, flags, entries):
+    """What a search may write: marks, certificate, and the list of leaves (02, N14), which the plain engine has not."""
+    return (filled(marks), filled(flags)) + (() if name == "plain" else (unlisted(entries),))
+
+
+def searches(table, *sizes):
     for name, rule in (("alphabeta", o.ab), ("plain", o.plain), ("mtd", o.mtd), ("sss", o.sss)):
-        lent = filled(marks), filled(flags)
+        lent = lent_to(name, *sizes)
         r = o.search(rule, table, *lent)
         fields = {}
         if not isinstance(r, o.Refusal):
             fields = {"value": r.value, "root_move": r.move, "leaves": r.leaves, "steps": r.extra or 0}
             if name == "plain":         # it gives no count
                 del fields["leaves"]
-        yield name, (table, filled(marks), filled(flags)), flat(r, **fields), (table, *lent)
+        yield name, (table, *lent_to(name, *sizes)), flat(r, **fields), (table, *lent)
 
 
-def allowed(table, marks, flags, allowance):
+def allowed(table, *sizes, allowance):
     """02, N6: SSS* within an allowance, of the crate and of both lists in C."""
-    lent = filled(marks), filled(flags)
+    lent = lent_to("sss", *sizes)
     r = o.sss_search(table, None, *lent, allowance)
     fields = {}
     if isinstance(r, o.Spent):
@@ -101,7 +111,7 @@ def allowed(table, marks, flags, allowance):
     elif not isinstance(r, o.Refusal):
         fields = {"value": r.value, "root_move": r.move, "leaves": r.leaves, "steps": r.extra}
     for name in ("allowed", "allowed_list"):
-        yield name, (table, filled(marks), filled(flags), allowance), flat(r, **fields), (table, *lent)
+        yield name, (table, *lent_to(name, *sizes), allowance), flat(r, **fields), (table, *lent)
 
 
 def verified(table, flags):
@@ -154,7 +164,7 @@ def grafted(first, node, second, room):
     yield "graft", (first, node, second, filled(room)), flat(r, count=r), (first, second, lent)
     if not isinstance(r, o.Refusal):
         yield from written(lent[:6 * r], 13 * r)
-        yield from searches(lent[:6 * r], r, r)
+        yield from searches(lent[:6 * r], r, r, r)
 
 
 def dearest(table):
@@ -163,7 +173,8 @@ def dearest(table):
     r = o.dearest(lent)
     yield "fill", (table,), flat(r, leaves=r), (lent,)
     if not isinstance(r, o.Refusal):
-        yield from searches(lent, len(lent) // 6, len(lent) // 6)
+        n = len(lent) // 6
+        yield from searches(lent, n, n, n)
 
 
 def random_graft(rng, table):
@@ -184,7 +195,7 @@ def needed(table, node, wanted):
         held = bytearray(table)
         held[6 * node + 4:6 * node + 6] = (r & 65535).to_bytes(2, "big")
         n = len(table) // 6
-        yield from searches(held, n, n)
+        yield from searches(held, n, n, n)
 
 
 def random_needed(rng, table):
@@ -200,13 +211,13 @@ def small_trees():
     of those of up to 4 nodes, grafts and a wanted value at each node."""
     for table in selfcheck.small_tables(6):
         n = len(table) // 6
-        yield from searches(table, n, n)
+        yield from searches(table, n, n, n)
         for allowance in range(n + 1):
-            yield from allowed(table, n, n, allowance)
+            yield from allowed(table, n, n, n + 1, allowance=allowance)
         yield from written(table, 13 * n)
         yield from converted(o.file_of(table, last=False).lower(), 13 * n)
         flags = bytearray(n)
-        o.mtd_search(table, bytearray(n), flags)
+        o.search(o.mtd, table, bytearray(n), flags)
         yield from verified(table, flags)
         yield from dearest(table)
         if n <= 4:
@@ -226,7 +237,7 @@ def least_counts():
 def random_calls(rng):
     table = fuzz.large_table(rng) if rng.random() < 0.01 else fuzz.good_table(rng, rng.choice((7, 20, 60, 200)))
     n = len(table) // 6
-    size = lambda: rng.choice((n, n, n, n + 1, n + 50, max(n - 1, 0), 0))
+    size = lambda: rng.choice((n, n, n, n, n + 1, n + 50, max(n - 1, 0), 0))
     kind = rng.randrange(6)
     if kind == 0:
         rng.choice(fuzz.TABLE_DAMAGE)(rng, table)
@@ -238,8 +249,9 @@ def random_calls(rng):
         yield from verified(table, fuzz_calls.damaged_flags(rng, table))
         yield from shorter(table, fuzz_calls.damaged_flags(rng, table), fuzz_calls.damaged_flags(rng, table))
     yield from checked(table)
-    yield from searches(table, size(), size())
-    yield from allowed(table, size(), size(), rng.choice((0, 1, 2, rng.randrange(n + 2), rng.randrange(n + 2), 2 ** 64 - 1)))
+    yield from searches(table, size(), size(), size())
+    allowance = rng.choice((0, 1, 2, rng.randrange(n + 2), rng.randrange(n + 2), 2 ** 64 - 1))
+    yield from allowed(table, size(), size(), size(), allowance=allowance)
     yield from verified(table, bytes(rng.choice((0, 1, 2, 3)) for _ in range(size())))
     yield from written(table, rng.choice((13 * n, 13 * n, 13 * n + 1, 13 * n + 40, max(13 * n - 1, 0), 12 * n, 0)))
     yield from random_graft(rng, table)

@@ -8,13 +8,14 @@ compared with the oracle. README.md has the form of the input.
 """
 import os
 import sys
+from array import array
 
 import oracle as o
 import papers
 
 HERE = os.path.dirname(os.path.abspath(__file__))
-# the bytes of the program's longest table, and the byte that its buffers are filled with
-TABLE_SIZE, FILLED = 6 * 4097, 170
+# the bytes of the program's longest table, the byte that its buffers are filled with, and the number that its lists are
+TABLE_SIZE, FILLED, UNLISTED = 6 * 4097, 170, 43690
 
 made, asked = b"", b""      # the expected output for the trees that the program makes, and for the input
 stdin = b""
@@ -253,35 +254,45 @@ def choice(table, first, second):
     return "shorter %s\nflags%s\n" % (("first", "second")[r[0]], numbers(r[1]))
 
 
-def searches(table, marks, flags):
-    """The three searches and the plain engine with `marks` and `flags` bytes of filled buffers: results, buffers, and the verdict on
-    what they wrote. The plain engine gives no count."""
+def lend(marks, flags, entries):
+    """So many bytes of filled buffers for the marks and the certificate, and so many entries of a filled list."""
+    return bytearray((FILLED,) * marks), bytearray((FILLED,) * flags), array("H", (UNLISTED,) * entries)
+
+
+def left(table, marks, proof, order):
+    """What a search leaves in its buffers and its list, and the verdict on the certificate."""
+    return "evaluated%s\ncertificate%s\norder%s\n" % (numbers(marks), numbers(proof), numbers(order)) + verdict(table, proof)
+
+
+def searches(table, marks, flags, entries):
+    """The three searches and the plain engine with filled buffers and lists of these lengths: results, what they leave, and the verdict.
+    The plain engine gives no count and fills no list."""
     text = ""
-    for name, call in (("ab", o.alpha_beta), ("mtd", o.mtd_search), ("sss", lambda t, m, p: o.sss_search(t, None, m, p)),
-                       ("plain", o.plain_search)):
-        lent, proof = bytearray((FILLED,) * marks), bytearray((FILLED,) * flags)
-        r = call(table, lent, proof)
+    for name, call in (("ab", o.alpha_beta), ("mtd", o.mtd_search), ("sss", lambda t, *memory: o.sss_search(t, None, *memory)),
+                       ("plain", lambda t, m, p, _: o.plain_search(t, m, p))):
+        memory = lend(marks, flags, 0 if name == "plain" else entries)
+        r = call(table, *memory)
         if isinstance(r, o.Refusal):
-            assert set(lent + proof) <= {FILLED}
+            assert set(memory[0] + memory[1]) <= {FILLED} and set(memory[2]) <= {UNLISTED}
             text += "%s %s\n" % (name, answered(r))
         else:
             counts = () if name == "plain" else (r.leaves, r.extra)
             text += name + numbers(x for x in (r.value, r.move, *counts) if x is not None) + "\n"
-        text += "evaluated%s\ncertificate%s\n" % (numbers(lent), numbers(proof)) + verdict(table, proof)
+        text += left(table, *memory)
     return text
 
 
-def allowed(table, allowance, marks, flags):
-    """SSS* within an allowance (02, N6), with `marks` and `flags` bytes of filled buffers."""
-    lent, proof = bytearray((FILLED,) * marks), bytearray((FILLED,) * flags)
-    r = o.sss_search(table, None, lent, proof, allowance)
+def allowed(table, allowance, marks, flags, entries):
+    """SSS* within an allowance (02, N6), with filled buffers and a filled list of these lengths."""
+    memory = lend(marks, flags, entries)
+    r = o.sss_search(table, None, *memory, allowance)
     if isinstance(r, o.Refusal):
         text = " " + answered(r)
     elif isinstance(r, o.Spent):
         text = " spent" + numbers((r.merit, r.leaves, r.extra))
     else:
         text = numbers((r.value, r.move, r.leaves, r.extra))
-    return "sss%s\nevaluated%s\ncertificate%s\n" % (text, numbers(lent), numbers(proof)) + verdict(table, proof)
+    return "sss%s\n" % text + left(table, *memory)
 
 
 def flags_cases():
@@ -350,16 +361,19 @@ def choice_cases():
 def buffer_cases():
     """Question 10 of the searches; what they write where it passes."""
     row = table_of_file(ROW)
-    got = searches(row, 7, 7)
+    got = searches(row, 7, 7, 7)
     assert "sss 3 2 3 9\n" in got and got.count("certificate 3 1 3 1 0 3 2") == 4      # 01, the cases marked P
-    assert "sss -5 0 1 1\n" in searches(table_of_file(tree_file(-5)), 1, 1)
-    got = searches(table_of_file(TWO_DEPTHS), 5, 5)
+    assert "sss -5 0 1 1\n" in searches(table_of_file(tree_file(-5)), 1, 1, 1)
+    got = searches(table_of_file(TWO_DEPTHS), 5, 5, 5)
     assert "mtd 30997 1 2 3\n" in got                                                    # 02, N5: three passes
-    add("marks and certificates: a win at two depths", TWO_DEPTHS, "buffers 5 5", got)
-    for marks, flags in ((7, 7), (10, 10), (6, 7), (7, 6), (0, 10), (10, 0), (0, 0)):
-        want = searches(row, marks, flags)
-        assert ("refused 10 0" in want) == (marks < 7 or flags < 7)
-        add("buffers of %d and %d bytes for 7 nodes" % (marks, flags), ROW, "buffers %d %d" % (marks, flags), want)
+    add("marks and certificates: a win at two depths", TWO_DEPTHS, "buffers 5 5 5", got)
+    for marks, flags, entries in ((7, 7, 7), (10, 10, 10), (6, 7, 7), (7, 6, 7), (0, 10, 10), (10, 0, 10), (0, 0, 0), (7, 7, 6), (7, 7, 4),
+                                  (10, 10, 0), (7, 7, 9)):
+        want = searches(row, marks, flags, entries)
+        refused = 4 if min(marks, flags) < 7 else 3 if entries < 7 else 0               # the plain engine has no list
+        assert want.count("refused 10 0") - want.count("verify refused 10 0") == refused
+        add("buffers of %d and %d bytes and %d entries for 7 nodes" % (marks, flags, entries), ROW,
+            "buffers %d %d %d" % (marks, flags, entries), want)
     for title, nest in (("2 3 1 4", [[2, 3], [1, 4]]), ("2 3 4 1", [[2, 3], [4, 1]]), ("4 1 2 3", [[4, 1], [2, 3]]),
                         ("2 5 2 1", [[2, 5], [2, 1]]), ("7 7 7 7", [[7, 7], [7, 7]]), ("7 1 / 7", [[7, 1], [7]]), ("leaf -5", -5),
                         ("single leaf 9", [9]), ("three plies", [[[1, 2], [3, 4]], 5]), ("negative values", [[-1, -9, 4], [-2], -8]),
@@ -367,7 +381,22 @@ def buffer_cases():
                         ("chains of both sides", MIXED)):
         file = tree_file(nest)
         room = max(10, len(file) // 13)
-        add("marks and certificates: " + title, file, "buffers %d %d" % (room, room), searches(table_of_file(file), room, room))
+        add("marks and certificates: " + title, file, "buffers %d %d %d" % (room, room, room), searches(table_of_file(file), room, room, room))
+
+
+def order_cases():
+    """02, N14: the leaves of alpha-beta from left to right, those of MTD and SSS* in one other order, worked out by hand; the list is one
+    entry longer than the nodes. Numbers are given breadth-first, so that left to right is not by number where leaves lie at two depths."""
+    for title, nest, ab, others in (
+            ("the first row", [[1, 2], [3, 4]], "3 4 5 6", "3 5 6"), ("a leaf is passed over first", [[4, 1], [2, 3]], "3 4 5 6", "3 5 4 6"),
+            ("a leaf at depth 3 comes first", [[[1]], [2, 3]], "6 4 5", "6 4 5"), ("leaves at three depths", [[[2]], [1, 3], 4], "7 5 3", "7 5 3"),
+            ("a leaf between deeper ones", [[3, 1], 2, [[4, 5]]], "4 5 2 7 8", "4 2 7 8")):
+        table, n = o.table_of_nest(nest), len(tree_file(nest)) // 13
+        got = searches(table, n, n, n + 1)
+        for name, want in (("ab", ab), ("mtd", others), ("sss", others)):
+            rest = " %d" % UNLISTED * (n + 1 - len(want.split()))
+            assert "\norder %s%s\n" % (want, rest) in got[got.index(name + " "):], (title, name, got)
+        add("order of leaves: " + title, tree_file(nest), "buffers %d %d %d" % (n, n, n + 1), got)
 
 
 def allowance_cases():
@@ -380,15 +409,19 @@ def allowance_cases():
         table = table_of_file(file)
         n = len(table) // 6
         for allowance in range(len(o.sss(o.Tree(table))[1]) + 1):
-            want = allowed(table, allowance, n + 1, n + 1)
+            want = allowed(table, allowance, n + 1, n + 1, n + 1)
             assert "sss %s\n" % by_hand.pop((name, allowance), "") in want + "sss \n", (name, allowance, want)
-            add("allowance of %d: %s" % (allowance, name), file, "allowance %d %d %d" % (allowance, n + 1, n + 1), want)
+            add("allowance of %d: %s" % (allowance, name), file, "allowance %d %d %d %d" % (allowance, n + 1, n + 1, n + 1), want)
     assert not by_hand
     table = table_of_file(ROW)
-    for allowance, marks, flags in ((0, 6, 7), (0, 7, 6), (0, 0, 0), (2, 7, 6)):
-        want = allowed(table, allowance, marks, flags)
+    for allowance, order in ((0, ""), (1, " 3"), (2, " 3 5"), (3, " 3 5 6")):       # 02, N14: the first leaves of the full run's list
+        rest = " %d" % UNLISTED * (9 - len(order.split()))
+        assert "\norder%s%s\n" % (order, rest) in allowed(table, allowance, 7, 7, 9)
+    for allowance, marks, flags, entries in ((0, 6, 7, 7), (0, 7, 6, 7), (0, 0, 0, 0), (2, 7, 6, 7), (2, 7, 7, 6), (0, 7, 7, 4)):
+        want = allowed(table, allowance, marks, flags, entries)
         assert want.startswith("sss refused 10 0\n")
-        add("allowance of %d, buffers of %d and %d bytes" % (allowance, marks, flags), ROW, "allowance %d %d %d" % (allowance, marks, flags), want)
+        add("allowance of %d, buffers of %d and %d bytes, %d entries" % (allowance, marks, flags, entries), ROW,
+            "allowance %d %d %d %d" % (allowance, marks, flags, entries), want)
 
 
 def table_cases():
@@ -405,7 +438,7 @@ def table_cases():
         table = (table + bytes(TABLE_SIZE - len(table)))[:size]
         got = answered(o.check_table(table))
         assert got == want, (title, got)
-        add(title, file, "check %d" % size, "check %s\n" % got + verdict(table, b"") + searches(table, 0, 0))
+        add(title, file, "check %d" % size, "check %s\n" % got + verdict(table, b"") + searches(table, 0, 0, 0))
 
 
 def reader_cases():
@@ -556,7 +589,7 @@ def dearest(table):
     got = o.dearest(lent)
     if isinstance(got, o.Refusal):
         assert lent == table
-    cost = o.alpha_beta(lent, bytearray(o.MAX_NODES), bytearray(o.MAX_NODES))
+    cost = o.search(o.ab, lent, bytearray(o.MAX_NODES), bytearray(o.MAX_NODES))
     return "dearest %s\ntable%s\nab %s\n" % (answered(got), numbers(lent), answered(cost if isinstance(cost, o.Refusal) else cost.leaves))
 
 
@@ -612,7 +645,7 @@ def main():
     directory = sys.argv[1] if len(sys.argv) > 1 else os.path.join(os.path.dirname(HERE), "crates", "cases")
     for part in (made_trees, made_grafts, least_counts, files_of_01, rows_of_002, rejected_files, accepted_files, wins_and_losses,
                  second_captures,
-                 flags_cases, buffer_cases, allowance_cases, table_cases, reader_cases, writer_cases, graft_cases, wanted_cases, dearest_cases,
+                 flags_cases, buffer_cases, order_cases, allowance_cases, table_cases, reader_cases, writer_cases, graft_cases, wanted_cases, dearest_cases,
                  regular_cases, choice_cases, service_cases):
         part()
     assert len(stdin) < 65536

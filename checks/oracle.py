@@ -2,8 +2,8 @@
 """A plain model of document 01 ("Minimax analysis of club trees") with requests of 02, written from their sentences.
 
 It shares nothing with the Rattle code: values are signed, lines are split at line feeds, SSS* keeps
-Stockman's list. Everything public takes bytes and bytearrays as a caller lends them and changes them
-as 01 says; a refused call changes nothing.
+Stockman's list. Everything public takes bytes, bytearrays and arrays of numbers as a caller lends them
+and changes them as 01 and 02 say; a refused call changes nothing.
 
     oracle.py < FILE        prints what the program has to print
     oracle.py --detail < FILE   the same, then leaves in order, passes, replacements, marks and flags
@@ -13,6 +13,7 @@ Where a rule is given twice here (`..._by_rule`, and a faster one), selfcheck.py
 """
 import heapq
 import sys
+from array import array
 from collections import namedtuple
 
 MAX_NODES = 4096
@@ -380,8 +381,7 @@ def sss_by_rule(tree, tie=None, allowance=None):
     states = [(0, LIVE, GREATEST)]
     leaves, replacements = [], 0
     while True:
-        if not states:
-            return Refusal(15, 0), leaves, replacements
+        assert states                   # 02, N14: until the root is taken SOLVED
         best = min(states, key=lambda s: (-s[2], tie(s[0])))
         node, status, merit = best
         if node == 0 and status == SOLVED:
@@ -646,35 +646,38 @@ def finish(tree, outcome, marks, proof):
     return Result(value, tree.move(), len(order), extra, order)
 
 
-def search(rule, table, marks, proof, states=None):
-    """Questions 1 to 10; then the rule. `states` is the lent list of SSS*."""
+def search(rule, table, marks, proof, order=None, states=None):
+    """Questions 1 to 10; then the rule. `order` is the lent list whose beginning gets the valued leaves in the order valued (02, N14),
+    `states` the lent list of SSS*."""
     no = table_no(table)
     if no:
         return no
     tree = Tree(table)
-    if any(b is not None and len(b) < tree.n for b in (marks, proof, states)):
+    if any(b is not None and len(b) < tree.n for b in (marks, proof, order, states)):
         return Refusal(10, 0)
     result = finish(tree, rule(tree), marks, proof)
+    if order is not None:
+        order[:len(result.order)] = array("H", result.order)
     if states is not None:
         states[:tree.n] = [(0, LIVE, 0)] * tree.n
     return result
 
 
-def alpha_beta(table, marks, proof):
-    return search(ab, table, marks, proof)
+def alpha_beta(table, marks, proof, order):
+    return search(ab, table, marks, proof, order)
 
 
 def plain_search(table, marks, proof):
     return search(plain, table, marks, proof)
 
 
-def mtd_search(table, marks, proof):
-    return search(mtd, table, marks, proof)
+def mtd_search(table, marks, proof, order):
+    return search(mtd, table, marks, proof, order)
 
 
-def sss_search(table, states, marks, proof, allowance=None):
+def sss_search(table, states, marks, proof, order, allowance=None):
     """Without an allowance the run is never stopped, as in the program."""
-    return search(lambda tree: sss(tree, allowance), table, marks, proof, states)
+    return search(lambda tree: sss(tree, allowance), table, marks, proof, order, states)
 
 
 # ---------------------------------------------------------------- the program
@@ -710,11 +713,11 @@ def detail(file):
     table = table[:6 * n]
     text = ""
     for name, call in (("ab", alpha_beta), ("mtd", mtd_search),
-                       ("sss", lambda t, m, p: sss_search(t, [None] * n, m, p))):
-        marks, proof = bytearray(n), bytearray(n)
-        r = call(table, marks, proof)
+                       ("sss", lambda t, m, p, l: sss_search(t, [None] * n, m, p, l))):
+        marks, proof, order = bytearray(n), bytearray(n), array("H", bytes(2 * n))
+        r = call(table, marks, proof, order)
         text += "%s order %s\n%s marks %s\n%s flags %s\n" % (
-            name, " ".join(map(str, r.order)), name, " ".join(map(str, marks)), name, " ".join(map(str, proof)))
+            name, " ".join(map(str, order[:r.leaves])), name, " ".join(map(str, marks)), name, " ".join(map(str, proof)))
         if r.extra is not None:
             text += "%s %s %d\n" % (name, "passes" if name == "mtd" else "replacements", r.extra)
     return text

@@ -2,18 +2,25 @@
 
    baseline < FILE        prints what 01 says
    baseline -l < FILE     the same, SSS* with the textbook's list
-   baseline -d < FILE     the same as the first, then marks, flags, passes and replacements, as oracle.py --detail, by
-                          both kinds of SSS* */
+   baseline -d < FILE     the same as the first, then leaves in order, marks, flags, passes and replacements, as
+                          oracle.py --detail, by both kinds of SSS* */
 #include "baseline.h"
 #include <stdio.h>
 #include <string.h>
 #include <unistd.h>
 
 static uint8_t file[FILE_BYTES + 1], table[TABLE_BYTES], marks[NODES], proof[NODES];
+static uint16_t order[NODES];
 static size_t nodes;
 
 static struct answer run(search_call *search) {
-    return search(table, FRAME * nodes, marks, sizeof marks, proof, sizeof proof);
+    return search(table, FRAME * nodes, marks, NODES, proof, NODES, order, NODES);
+}
+
+static void show_order(const char *name, size_t leaves) {
+    printf("%s order", name);
+    for (size_t i = 0; i < leaves; i++) printf(" %d", order[i]);
+    printf("\n");
 }
 
 static void show(const char *name, const char *what, const uint8_t *bytes) {
@@ -24,6 +31,7 @@ static void show(const char *name, const char *what, const uint8_t *bytes) {
 
 static void detail(const char *name, search_call *search, const char *steps) {
     struct answer found = run(search);
+    show_order(name, found.leaves);
     show(name, "marks", marks);
     show(name, "flags", proof);
     if (steps) printf("%s %s %zu\n", name, steps, found.steps);

@@ -8,12 +8,13 @@ import itertools
 import random
 import sys
 import time
+from array import array
 
 import oracle as o
 import papers
 import trees
 
-FILLED = 170
+FILLED, UNLISTED = 170, 43690
 checks = 0
 wrong = []
 
@@ -34,21 +35,31 @@ def small(leaves):
     return o.table_of_nest([[a, b], [c, d]])
 
 
+def listed(r, order):
+    """What a search answers; the lent list must hold its leaves in order, and behind them what it held."""
+    if not isinstance(r, o.Refusal):
+        same("N14 the list", list(order), r.order + [UNLISTED] * (len(order) - len(r.order)))
+        same("N14 as many as the count", len(r.order), r.leaves)
+    return r
+
+
 def run(call, table):
     n = len(table) // 6
-    marks, proof = bytearray(n), bytearray(n)
-    if call is o.sss_search:
-        r = call(table, [None] * n, marks, proof)
-    else:
+    marks, proof, order = bytearray(n), bytearray(n), array("H", (UNLISTED,) * (n + 1))
+    if call is o.plain_search:
         r = call(table, marks, proof)
+    elif call is o.sss_search:
+        r = listed(call(table, [None] * n, marks, proof, order), order)
+    else:
+        r = listed(call(table, marks, proof, order), order)
     return r, list(marks), list(proof)
 
 
 def allowed(table, allowance):
     """SSS* within an allowance, on zeroed marks and a filled proof."""
     n = len(table) // 6
-    marks, proof = bytearray(n), bytearray((FILLED,) * n)
-    r = o.sss_search(table, [None] * n, marks, proof, allowance)
+    marks, proof, order = bytearray(n), bytearray((FILLED,) * n), array("H", (UNLISTED,) * (n + 1))
+    r = listed(o.sss_search(table, [None] * n, marks, proof, order, allowance), order)
     return r, list(marks), list(proof)
 
 
@@ -240,6 +251,25 @@ def one_allowance(rng, table, full, value):
         same("merit never rises", r.merit <= allowed(table, rng.randrange(allowance))[0].merit, True)
     other = changed_elsewhere(rng, table, marks)
     same("spent: passed-over leaves have no influence", allowed(other, allowance), (r, marks, proof))
+
+
+def orders():
+    """Request N14, worked out by hand: the leaves in the order valued, of alpha-beta, and of MTD and SSS*; the numbering is breadth-first,
+    so that left to right is not by number where leaves lie at two depths."""
+    for nest, ab, others in (([[1, 2], [3, 4]], [3, 4, 5, 6], [3, 5, 6]), ([[4, 1], [2, 3]], [3, 4, 5, 6], [3, 5, 4, 6]), (-5, [0], [0]),
+                             ([9], [1], [1]), ([[[1]], [2, 3]], [6, 4, 5], [6, 4, 5]), ([[[2]], [1, 3], 4], [7, 5, 3], [7, 5, 3]),
+                             ([[3, 1], 2, [[4, 5]]], [4, 5, 2, 7, 8], [4, 2, 7, 8])):
+        table = o.table_of_nest(nest)
+        for call, want in ((o.alpha_beta, ab), (o.mtd_search, others), (o.sss_search, others)):
+            same("N14 %r %s" % (nest, call.__name__), run(call, table)[0].order, want)
+    table = small((1, 2, 3, 4))
+    for entries, want in ((0, (10, 0)), (4, (10, 0)), (6, (10, 0)), (7, None), (9, None)):
+        for rule in (o.ab, o.mtd, o.sss):
+            order = array("H", (UNLISTED,) * entries)
+            r = o.search(rule, table, bytearray(7), bytearray(7), order)
+            same("N14 a list of %d entries" % entries, r if isinstance(r, o.Refusal) else None, want)
+            same("N14 what it holds", list(order), [UNLISTED] * entries if want else r.order + [UNLISTED] * (entries - r.leaves))
+    same("N14 questions 1 to 9 come first", o.search(o.mtd, table[:-1], bytearray(7), bytearray(7), array("H")), (3, 6))
 
 
 def letters():
@@ -582,6 +612,7 @@ def main():
     obligations()
     worths()
     allowances()
+    orders()
     letters()
     second_captures()
     grafts()

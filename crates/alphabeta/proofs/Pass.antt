@@ -2,60 +2,44 @@
 -- completes what the node was to give.
 use Prim.Native.Nat.{ℕ, suc, _+_, _-_, _≤_, _<_}
 use native.Mathlib.Omega.{arith}
-use native.Mathlib.Decide.{decLt}
-use mathlib.Core.Path.{_≡_, refl, ap, ap₂, _∙_}
+use mathlib.Core.Path.{_≡_, refl, sym, ap, _∙_}
 use mathlib.Core.Bool.{Bool, true, false}
-use mathlib.Core.List.{List}
 use lib.Dec.{ltb}
-use lib.ListN.{length, length-append}
 use borrow.Author.Tests.{lt-ltb, le-ltb}
 use Rattle.gametree.specs.declared.Side.{Side}
 use Rattle.gametree.specs.Tree.{Tree}
 use Rattle.gametree.specs.AlphaBeta.{raise, lower, Found, after, onward, alphaBeta, alphaBetaKids}
 use Rattle.frames.specs.Tree.{kidsFrom}
-use Rattle.bounds.specs.Marks.{markAll}
-use Rattle.bounds.proofs.Marking.{markAll-append}
-use Rattle.alphabeta.specs.declared.Visited.{Visited}
-use Rattle.alphabeta.specs.engine.Visit.{visitedOf}
+use Rattle.bounds.specs.engine.Progress.{Progress, evaluateAll}
+use Rattle.bounds.proofs.Listing.{evaluateAll-append}
 
--- r and the marks e′ are what the result f gives, from the marks e
-abbrev pub Gives : Found → List ℕ → List ℕ → Visited → Type 0
-Gives f e e′ r = (r ≡ visitedOf f) × (e′ ≡ markAll e (f .evaluated))
+-- the score v and the progress p′ are what the result f gives, from the progress p
+abbrev pub Gives : Found → (p p′ : Progress) → ℕ → Type 0
+Gives f p p′ v = (v ≡ f .value) × (p′ ≡ evaluateAll p (f .evaluated))
 
--- with n leaves counted, and marks that were e₀ and are e, the rest completes the whole
-pub record Owes (whole rest : Found) (e₀ e : List ℕ) (n : ℕ) : Type 0 where
+-- with a progress that was p₀ and is p, the rest completes the whole
+pub record Owes (whole rest : Found) (p₀ p : Progress) : Type 0 where
   pub value : rest .value ≡ whole .value
-  pub count : n + length (rest .evaluated) ≡ length (whole .evaluated)
-  pub marks : markAll e (rest .evaluated) ≡ markAll e₀ (whole .evaluated)
+  pub evaluated : evaluateAll p (rest .evaluated) ≡ evaluateAll p₀ (whole .evaluated)
 
 -- before the first child all is owed
-pub owes-all : (f : Found) (e : List ℕ) → Owes f f e e 0
-owes-all f e = record { value = refl; count = omega arith; marks = refl }
+pub owes-all : (f : Found) (p : Progress) → Owes f f p p
+owes-all f p = record { value = refl; evaluated = refl }
 
-module _ (w f : Found) (e₀ e e′ : List ℕ) (n : ℕ) (r : Visited) (d : Gives f e e′ r) where
-  leaves-are : r .leaves ≡ length (f .evaluated)
-  leaves-are = ap (λ x. x .leaves) (d .0)
-
+module _ (w f : Found) (p₀ p p′ : Progress) (v : ℕ) (d : Gives f p p′ v) where
   -- the last result that is owed completes the whole
-  owes-done : Owes w f e₀ e n → Gives w e₀ e′ (record { score = r .score; leaves = n + r .leaves })
-  owes-done o = (
-    ap₂ (λ x y. record { score = x; leaves = y }) (ap (λ x. x .score) (d .0) ∙ o .value)
-        (omega (arith, o .count, leaves-are)),
-    d .1 ∙ o .marks,
-  )
+  owes-done : Owes w f p₀ p → Gives w p₀ p′ v
+  owes-done o = (d .0 ∙ o .value, d .1 ∙ o .evaluated)
 
   -- a result with more behind it leaves the rest owed
-  owes-after : (q : Found) → Owes w (after f q) e₀ e n → Owes w q e₀ e′ (n + r .leaves)
+  owes-after : (q : Found) → Owes w (after f q) p₀ p → Owes w q p₀ p′
   owes-after q o =
       record {
         value = o .value;
-        count = omega (arith, o .count, length-append (f .evaluated) (q .evaluated), leaves-are);
-        marks = rw (d .1, ← markAll-append e (f .evaluated) (q .evaluated)) (o .marks);
+        evaluated =
+            ap (λ x. evaluateAll x (q .evaluated)) (d .1) ∙ sym (evaluateAll-append p (f .evaluated) (q .evaluated))
+            ∙ o .evaluated;
       }
-
-onward-more : (b : Bool) (r q : Found) → length (r .evaluated) ≤ length (onward b r q .evaluated)
-onward-more true r q = omega (arith, length-append (r .evaluated) (q .evaluated))
-onward-more false r q = omega arith
 
 module _ (ν : ℕ → ℕ) (g : ℕ → Tree) (s : Side) where
   -- what the children from k to m give, from the window a b
@@ -74,35 +58,20 @@ module _ (ν : ℕ → ℕ) (g : ℕ → Tree) (s : Side) where
   unfolding rest kidsFrom
   rest-more a b k m h v e = let z : m - k ≡ suc (m - (k + 1)) = omega arith in rw (z, e)
 
-  -- the first child's leaves are among those of the rest
-  rest-starts : (a b k m : ℕ) → k ≤ m → length (alphaBeta ν a b (g k) .evaluated) ≤ length (rest a b k m .evaluated)
-  rest-starts a b k m l =
-      let f = alphaBeta ν a b (g k) in
-      let a′ = raise s a (f .value) in
-      let b′ = lower s b (f .value) in
-      elim (decLt k m) [
-        | yes h ↦ rw (rest-more a b k m h (f .value) refl) (onward-more (ltb a′ b′) f (rest a′ b′ (k + 1) m))
-        | no h ↦ rw (rest-last a b k m (omega arith)) (omega arith)
-      ]
-
-  module _ (a b k m : ℕ) (w : Found) (e₀ e e′ : List ℕ) (n : ℕ) (r : Visited)
-      (o : Owes w (rest a b k m) e₀ e n) (d : Gives (alphaBeta ν a b (g k)) e e′ r) where
+  module _ (a b k m : ℕ) (w : Found) (p₀ p p′ : Progress) (v : ℕ)
+      (o : Owes w (rest a b k m) p₀ p) (d : Gives (alphaBeta ν a b (g k)) p p′ v) where
     -- after the last child the whole is given
-    pub pass-ends : k ≡ m → Gives w e₀ e′ (record { score = r .score; leaves = n + r .leaves })
-    pass-ends h = owes-done w _ e₀ e e′ n r d (rw (rest-last a b k m h) at o)
+    pub pass-ends : k ≡ m → Gives w p₀ p′ v
+    pass-ends h = owes-done w _ p₀ p p′ v d (rw (rest-last a b k m h) at o)
 
-    -- no more leaves are counted than the whole has
-    pub pass-few : k ≤ m → n + r .leaves ≤ length (w .evaluated)
-    pass-few l = omega (arith, o .count, ap (λ x. x .leaves) (d .0), rest-starts a b k m l)
-
-    module _ (a′ b′ : ℕ) (h : k < m) (p : a′ ≡ raise s a (r .score)) (q : b′ ≡ lower s b (r .score)) where
+    module _ (a′ b′ : ℕ) (h : k < m) (x : a′ ≡ raise s a v) (y : b′ ≡ lower s b v) where
       step : (t : Bool) → ltb a′ b′ ≡ t → rest a b k m ≡ onward t (alphaBeta ν a b (g k)) (rest a′ b′ (k + 1) m)
-      step t z = rest-more a b k m h (r .score) (ap (λ x. x .score) (d .0)) ∙ rw (← z, p, q)
+      step t z = rest-more a b k m h v (d .0) ∙ rw (← z, x, y)
 
       -- a child that closes the window is the last one
-      pub pass-stops : b′ ≤ a′ → Gives w e₀ e′ (record { score = r .score; leaves = n + r .leaves })
-      pass-stops z = owes-done w _ e₀ e e′ n r d (rw (step false (le-ltb a′ b′ z)) at o)
+      pub pass-stops : b′ ≤ a′ → Gives w p₀ p′ v
+      pass-stops z = owes-done w _ p₀ p p′ v d (rw (step false (le-ltb a′ b′ z)) at o)
 
       -- after one that leaves it open the next is owed, in the narrower window
-      pub pass-goes-on : a′ < b′ → Owes w (rest a′ b′ (k + 1) m) e₀ e′ (n + r .leaves)
-      pass-goes-on z = owes-after w _ e₀ e e′ n r d _ (rw (step true (lt-ltb a′ b′ z)) at o)
+      pub pass-goes-on : a′ < b′ → Owes w (rest a′ b′ (k + 1) m) p₀ p′
+      pass-goes-on z = owes-after w _ p₀ p p′ v d _ (rw (step true (lt-ltb a′ b′ z)) at o)

@@ -1,7 +1,7 @@
--- What a visit of a node hands back: at a leaf, and at the head of the loop over an inner node's children.
+-- What a visit of a node asks and hands back: at a leaf, and at the head of the loop over an inner node's children.
 use Prim.Native.Nat.{ℕ, suc, _+_, _-_, _≤_, _<_}
 use native.Mathlib.Omega.{arith}
-use mathlib.Core.Path.{_≡_, ap₂}
+use mathlib.Core.Path.{_≡_, refl, sym, ap, _∙_}
 use mathlib.Core.List.{List}
 use lib.ListN.{length, set}
 use Rattle.gametree.specs.declared.Place.{Place}
@@ -10,35 +10,71 @@ use Rattle.frames.specs.Frame.{frames, firstChild, childCount}
 use Rattle.frames.specs.Place.{placeOf}
 use Rattle.frames.specs.Tree.{treeAt, valuation}
 use Rattle.frames.specs.Formed.{WellFormed}
+use Rattle.frames.proofs.Nodes.{in-own}
 use Rattle.frames.proofs.Trees.{tree-leaf, tree-inner}
-use Rattle.bounds.specs.Marks.{markAll}
+use Rattle.bounds.specs.Marks.{ones, markAll}
+use Rattle.bounds.specs.engine.Evaluable.{Evaluable}
+use Rattle.bounds.specs.engine.Progress.{Progress, progress, Listable}
+use Rattle.bounds.proofs.Listing.{next-counted}
+use Rattle.certificate.specs.engine.Searchable.{Searchable}
+use Rattle.certificate.proofs.Searchable.{searchable-depth}
+use Rattle.certificate.proofs.Unmarked.{Waiting}
 use Rattle.alphabeta.specs.declared.Visited.{Visited}
 use Rattle.alphabeta.proofs.Pass.{Gives, Owes, owes-all, rest}
-use Rattle.certificate.proofs.Unmarked.{Waiting}
 
--- at the head of the loop over the children of node i, from `first` to `end`: child k is next, the window is a b,
--- n leaves are counted and e are the marks
-pub record Turn (t : List ℕ) (i : ℕ) (p : Place) (α β : ℕ) (e₀ : List ℕ) (first end : ℕ) (e : List ℕ) (a b n k : ℕ)
+-- at the head of the loop over the children of node i, from `first` to `end`: child k is next, the window is a b, and
+-- the progress was p₀ and is p
+pub record Turn (t : List ℕ) (i : ℕ) (q : Place) (α β : ℕ) (p₀ : Progress) (first end : ℕ) (p : Progress) (a b k : ℕ)
     : Type 0 where
   pub from : first ≤ k
   pub to : k ≤ end
-  pub kept : length e ≡ length e₀
-  pub waiting : Waiting t e i k
-  pub owes : Owes (alphaBeta (valuation t) α β (treeAt t i)) (rest (valuation t) (treeAt t) (p .side) a b k end) e₀ e n
+  pub marksKept : length (p .marks) ≡ length (p₀ .marks)
+  pub orderKept : length (p .order) ≡ length (p₀ .order)
+  pub listable : Listable t p
+  pub waiting : Waiting t (p .marks) i k
+  pub owes : Owes (alphaBeta (valuation t) α β (treeAt t i)) (rest (valuation t) (treeAt t) (q .side) a b k end) p₀ p
 
-module _ (t : List ℕ) (wf : WellFormed t) (i : ℕ) (inside : i < frames t) (α β : ℕ) (e : List ℕ) where
+-- a visit of node i in the window α β, from the progress p, leaves the marks e and the list o and hands back x: what
+-- the rule gives, with the count of the marks
+pub record Visits (t : List ℕ) (i α β : ℕ) (p : Progress) (e o : List ℕ) (x : Visited) : Type 0 where
+  pub gives : Gives (alphaBeta (valuation t) α β (treeAt t i)) p (progress (x .leaves) e o) (x .score)
+  pub counted : x .leaves ≡ ones e (frames t)
+
+pub visits-same : {t : List ℕ} {i α β : ℕ} {p : Progress} {e e′ o o′ : List ℕ} {x x′ : Visited}
+    → e ≡ e′ → o ≡ o′ → x ≡ x′ → Visits t i α β p e′ o′ x′ → Visits t i α β p e o x
+visits-same a b c v = rw (a, b, c) v
+
+-- a node without children whose tree is without a mark may be evaluated
+pub searchable-leaf : (t e : List ℕ) (i : ℕ) (q : Place) → Searchable t e i q → childCount t i ≡ 0
+    → Evaluable t e i (q .depth)
+searchable-leaf t e i q r z =
+    record {
+      inside = r .inside;
+      leaf = z;
+      room = omega (arith, r .inside, r .marks);
+      unmarked = r .unmarked i (in-own t (r .formed) i);
+      depth = searchable-depth t e i q r .0;
+      shallow = searchable-depth t e i q r .1;
+    }
+
+module _ (t : List ℕ) (wf : WellFormed t) (i : ℕ) (inside : i < frames t) (α β : ℕ) (p : Progress) where
   -- a leaf is evaluated, and its score brought into the window
-  pub leaf-gives : (e′ : List ℕ) (r : Visited) → childCount t i ≡ 0 → r .score ≡ clamp α β (valuation t i)
-      → r .leaves ≡ 1 → e′ ≡ set e i 1 → Gives (alphaBeta (valuation t) α β (treeAt t i)) e e′ r
+  pub leaf-visits : (d : ℕ) (e o : List ℕ) (x : Visited) → Evaluable t (p .marks) i d → Listable t p
+      → x .score ≡ clamp α β (valuation t i) → x .leaves ≡ p .leaves + 1
+      → e ≡ set (p .marks) i 1 → o ≡ set (p .order) (p .leaves) i
+      → Visits t i α β p e o x
   unfolding markAll
-  leaf-gives e′ r z p q d =
-      rw (tree-leaf t wf i inside z) (ap₂ (λ s n. record { score = s; leaves = n }) p q, d)
+  leaf-visits d e o x r s q n y w =
+      record {
+        gives = rw (tree-leaf t wf i inside (r .leaf), n, y, w) (q, refl);
+        counted = n ∙ next-counted t s r ∙ ap (λ m. ones m (frames t)) (sym y);
+      }
 
   -- an inner node owes what all its children give
-  pub inner-owes : (p : Place) (first end n : ℕ) → p ≡ placeOf t i → 0 < childCount t i → first ≡ firstChild t i
-      → end ≡ first + (childCount t i - 1) → n ≡ 0
-      → Owes (alphaBeta (valuation t) α β (treeAt t i)) (rest (valuation t) (treeAt t) (p .side) α β first end) e e n
+  pub inner-owes : (q : Place) (first end : ℕ) → q ≡ placeOf t i → 0 < childCount t i → first ≡ firstChild t i
+      → end ≡ first + (childCount t i - 1)
+      → Owes (alphaBeta (valuation t) α β (treeAt t i)) (rest (valuation t) (treeAt t) (q .side) α β first end) p p
   unfolding rest
-  inner-owes p first end n l c q r z =
+  inner-owes q first end l c x r =
       let m : childCount t i ≡ suc (end - first) = omega arith in
-      rw (tree-inner t wf i (end - first) inside m, l, q, z) (owes-all _ e)
+      rw (tree-inner t wf i (end - first) inside m, l, x) (owes-all _ p)

@@ -1,5 +1,5 @@
--- The steps of a whole search: the engine's result from the full window is the minimax value, and its marks are those
--- of the leaves that Baudet's condition reaches.
+-- The steps of a whole search: the engine's result from the full window is the minimax value, and it counts, marks and
+-- lists the leaves that Baudet's condition reaches.
 use Prim.Native.Nat.{ℕ, _≤_}
 use native.Mathlib.Omega.{arith}
 use mathlib.Core.Path.{_≡_, ap, _∙_}
@@ -7,7 +7,7 @@ use mathlib.Core.List.{List}
 use lib.ListN.{length}
 use lib.IntN.{ℤ}
 use Rattle.gametree.specs.Tree.{greatest, minimax}
-use Rattle.gametree.specs.Move.{rootMove, boundMove}
+use Rattle.gametree.specs.Move.{boundMove}
 use Rattle.gametree.specs.AlphaBeta.{fullWindow}
 use Rattle.gametree.specs.Certificate.{flag}
 use Rattle.gametree.proofs.Theorems.{value-score, alphaBeta-leaves, alphaBeta-minimax, search-deciding}
@@ -16,47 +16,47 @@ use Rattle.frames.specs.Tree.{tree, valuation}
 use Rattle.frames.specs.Formed.{WellFormed}
 use Rattle.frames.proofs.Proper.{tree-proper}
 use Rattle.places.specs.Buffer.{written}
-use Rattle.bounds.specs.Marks.{marked, markAll}
+use Rattle.bounds.specs.Marks.{marked, ones}
+use Rattle.bounds.specs.engine.Progress.{progress, evaluateAll}
+use Rattle.bounds.proofs.Listing.{first-evaluated}
 use Rattle.frames.specs.Value.{valueOf}
-use Rattle.certificate.specs.Search.{marksOf, flagsOf, findings}
+use Rattle.certificate.specs.Search.{marksOf, flagsOf, findings, listed}
 use Rattle.certificate.proofs.Outcomes.{search-concludes}
-use Rattle.alphabeta.specs.declared.Visited.{Visited}
-use Rattle.alphabeta.specs.engine.Visit.{visitedOf}
 use Rattle.alphabeta.specs.Outcome.{reachedLeaves}
 use Rattle.alphabeta.proofs.Reached.{searched}
 
 module _ (t : List ℕ) (wf : WellFormed t) where
-  module _ (r : Visited) (d : r ≡ visitedOf (fullWindow (valuation t) (tree t))) where
-    run-score : r .score ≡ minimax (valuation t) (tree t)
-    run-score = ap (λ x. x .score) d ∙ alphaBeta-minimax (valuation t) (tree t) (tree-proper t wf)
+  module _ (s : ℕ) (d : s ≡ fullWindow (valuation t) (tree t) .value) where
+    run-score : s ≡ minimax (valuation t) (tree t)
+    run-score = d ∙ alphaBeta-minimax (valuation t) (tree t) (tree-proper t wf)
 
     -- the engine's score has a value
-    pub run-small : r .score ≤ greatest
+    pub run-small : s ≤ greatest
     run-small = omega (arith, run-score, value-score (valuation t) (tree t) (tree-proper t wf .scored))
 
-    -- the engine's result, with the value and the move, is what is to be found
-    run-finds : (v : ℤ) (m : ℕ) → v ≡ valueOf (r .score) → m ≡ rootMove (valuation t) (tree t)
-        → record { value = v; «root_move» = m; leaves = r .leaves } ≡ findings (reachedLeaves t) t
-    run-finds v m p q =
-        let a : v ≡ valueOf (minimax (valuation t) (tree t)) = p ∙ ap valueOf run-score in
-        let b : r .leaves ≡ length (reachedLeaves t) =
-        ap (λ x. x .leaves) d ∙ ap length (alphaBeta-leaves (valuation t) (tree t)) in
-        cc
-
-  -- the steps together: e is cleared to e₁ and marked to e₂, and c₂, m and v follow from that
-  pub run-gives : (e e₁ e₂ e₃ c c₂ : List ℕ) (r : Visited) (m : ℕ) (v : ℤ)
+  -- the steps together: e is cleared to e₁, the engine makes it e₂ and the list o₂, and c₂, m and v follow from that
+  pub run-gives : (e e₁ e₂ e₃ c c₂ o o₂ : List ℕ) (s n m : ℕ) (v : ℤ)
       → e₁ ≡ written (λ k. 0) (frames t) e
-      → r ≡ visitedOf (fullWindow (valuation t) (tree t))
-      → e₂ ≡ markAll e₁ (fullWindow (valuation t) (tree t) .evaluated)
+      → s ≡ fullWindow (valuation t) (tree t) .value
+      → progress n e₂ o₂ ≡ evaluateAll (progress 0 e₁ o) (fullWindow (valuation t) (tree t) .evaluated)
+      → n ≡ ones e₂ (frames t)
+      → frames t ≤ length o
       → m ≡ boundMove (valuation t) (marked e₂) (tree t)
       → c₂ ≡ written (flag (valuation t) (marked e₂) (tree t)) (frames t) c
       → e₃ ≡ e₂
-      → v ≡ valueOf (r .score)
-      → (record { value = v; «root_move» = m; leaves = r .leaves } ≡ findings (reachedLeaves t) t)
-      × ((e₃ ≡ marksOf (reachedLeaves t) t e) × (c₂ ≡ flagsOf (reachedLeaves t) t c))
-  run-gives e e₁ e₂ e₃ c c₂ r m v cleared d marks move flags kept value =
+      → v ≡ valueOf s
+      → (record { value = v; «root_move» = m; leaves = n } ≡ findings (reachedLeaves t) t)
+      × ((e₃ ≡ marksOf (reachedLeaves t) t e)
+      × ((c₂ ≡ flagsOf (reachedLeaves t) t c) × (o₂ ≡ listed (reachedLeaves t) o)))
+  run-gives e e₁ e₂ e₃ c c₂ o o₂ s n m v cleared score evaluated counted room move flags kept value =
+      let w = reachedLeaves t in
+      let g =
+      first-evaluated n (frames t) e₁ e₂ o o₂ w
+      (evaluated ∙ ap (evaluateAll (progress 0 e₁ o)) (alphaBeta-leaves (valuation t) (tree t))) counted room in
       let b =
-      search-concludes t wf (reachedLeaves t) (search-deciding (valuation t) (tree t) (tree-proper t wf) (searched t))
-      e e₁ e₂ e₃ c c₂ m cleared
-      (marks ∙ ap (markAll e₁) (alphaBeta-leaves (valuation t) (tree t))) move flags kept in
-      (run-finds r d v m value (b .0), b .1)
+      search-concludes t wf w (search-deciding (valuation t) (tree t) (tree-proper t wf) (searched t))
+      e e₁ e₂ e₃ c c₂ m cleared (g .1 .0) move flags kept in
+      let x : v ≡ valueOf (minimax (valuation t) (tree t)) = value ∙ ap valueOf (run-score s score) in
+      let y = b .0 in
+      let z = g .0 in
+      (cc, (b .1 .0, (b .1 .1, g .1 .1)))

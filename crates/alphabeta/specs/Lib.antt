@@ -1,3 +1,2 @@
 -- Definitions of the alpha-beta search over a table.
 pub mod Outcome
-pub mod engine

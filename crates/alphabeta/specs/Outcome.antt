@@ -1,11 +1,12 @@
--- What a call of the search gives: its answer and what its two buffers hold then, from the table and the buffers alone.
+-- What a call of the search gives: its answer and what its buffers and its list hold then, from these and the table
+-- alone.
 use Prim.Native.Nat.{ℕ}
 use mathlib.Core.List.{List, [], _∷_}
 use lib.ListN.{length}
 use Rattle.gametree.specs.Tree.{least, greatest}
 use Rattle.gametree.specs.AlphaBeta.{reached}
 use Rattle.frames.specs.Tree.{tree, valuation}
-use Rattle.certificate.specs.Search.{searchRejection, findings, Search, Outcome, outcome}
+use Rattle.certificate.specs.Search.{searchRejection, findings, Search, Listed, listedOutcome}
 use Rattle.alphabeta.specs.declared.Answer.{Answer}
 use Rattle.alphabeta.specs.declared.Answer.the-variants.{Found, Rejected}
 
@@ -17,8 +18,9 @@ reachedLeaves t = reached (valuation t) least greatest (tree t)
 abbrev pub alphaBetaSearch : (t e c : List ℕ) → Search
 alphaBetaSearch t e c = record { table = t; evaluated = e; certificate = c; leaves = reachedLeaves t }
 
--- the outcome of a call with the table t and the buffers e and c: the first "no" to questions 1 to 10, or the findings
-abbrev pub alphaBetaOutcome : (t e c : List ℕ) → Outcome Answer
-alphaBetaOutcome t e c =
-    outcome Rejected (Found (findings (reachedLeaves t) t))
-    (alphaBetaSearch t e c) (searchRejection t (length e ∷ length c ∷ []))
+-- the outcome of a call with the table t, the buffers e and c and the list o: the first "no" to questions 1 to 10, or
+-- the findings
+abbrev pub alphaBetaOutcome : (t e c o : List ℕ) → Listed Answer
+alphaBetaOutcome t e c o =
+    listedOutcome Rejected (Found (findings (reachedLeaves t) t))
+    (alphaBetaSearch t e c) o (searchRejection t (length e ∷ length c ∷ length o ∷ []))

@@ -1,9 +1,10 @@
 // Alpha-beta over a byte table: the public search, and its recursive engine.
 use bounds::clear;
-use bounds::evaluate;
+use bounds::evaluate_next;
 use certificate::Findings;
 use certificate::ask;
 use certificate::conclude;
+use certificate::shorter;
 use frames::Checked;
 use frames::GREATEST;
 use frames::LEAST;
@@ -17,18 +18,18 @@ use gametree::Place;
 use gametree::Side;
 use gametree::better;
 ghost use mathlib.Core.Path.{_≡_};
-ghost use Prim.Native.Nat.{_≤_};
+ghost use Prim.Native.Nat.{_+_, _≤_};
 ghost use lib.ListN.{length, set};
 ghost use Rattle.gametree.specs.AlphaBeta.{raise, lower, clamp, alphaBeta};
 ghost use Rattle.frames.specs.Frame.{frames};
 ghost use Rattle.frames.specs.Formed.{WellFormed};
 ghost use Rattle.frames.specs.Tree.{treeAt, valuation};
-ghost use Rattle.bounds.specs.Marks.{markAll};
+ghost use Rattle.bounds.specs.Marks.{ones};
 ghost use Rattle.bounds.specs.engine.Evaluable.{Evaluable};
+ghost use Rattle.bounds.specs.engine.Progress.{progress, evaluateAll, Listable};
 ghost use Rattle.certificate.specs.engine.Searchable.{Searchable};
-ghost use Rattle.certificate.specs.Search.{marksOf, flagsOf, findings};
+ghost use Rattle.certificate.specs.Search.{marksOf, flagsOf, findings, listed};
 ghost use Rattle.alphabeta.specs.Outcome.{reachedLeaves, alphaBetaOutcome};
-ghost use Rattle.alphabeta.specs.engine.Visit.{visitedOf};
 
 // The answer of a call: what was found, or the first question that got a "no".
 pub enum Answer {
@@ -37,33 +38,44 @@ pub enum Answer {
 }
 
 // Alpha-beta of the whole tree: questions 1 to 10, then the value, the root move and the count of evaluated leaves; the
-// marks of these leaves and the certificate (01: the proof) go into the buffers.
-pub fn search(table: &[u8], evaluated: &mut [u8], certificate: &mut [u8]) -> Answer
-    ensures { λ r. ⌜ record { answer = r; evaluated = now (evaluated .exit); certificate = now (certificate .exit) }
-        ≡ alphaBetaOutcome (now (table .entry)) (now (evaluated .entry)) (now (certificate .entry)) ⌝ }
+// marks of these leaves and the certificate (01: the proof) go into the buffers, and the leaves' numbers into the list.
+pub fn search(
+    table: &[u8],
+    evaluated: &mut [u8],
+    certificate: &mut [u8],
+    order: &mut [u16],
+) -> Answer
+    ensures { λ r. ⌜ record {
+      order = now (order .exit);
+      search = record { answer = r; evaluated = now (evaluated .exit); certificate = now (certificate .exit) };
+    } ≡ alphaBetaOutcome (now (table .entry)) (now (evaluated .entry)) (now (certificate .entry))
+        (now (order .entry)) ⌝ }
 {
-    match ask(table, evaluated.len(), certificate.len()) {
-        Checked::Nodes(_) => Answer::Found(run(table, evaluated, certificate)),
+    let shortest = shorter(shorter(evaluated.len(), certificate.len()), order.len());
+    match ask(table, shortest) {
+        Checked::Nodes(_) => Answer::Found(run(table, evaluated, certificate, order)),
         Checked::Rejected(rejection) => Answer::Rejected(rejection),
     }
 }
 
 // The search of an accepted table, into buffers with an entry per node.
-fn run(table: &[u8], evaluated: &mut [u8], certificate: &mut [u8]) -> Findings
+fn run(table: &[u8], evaluated: &mut [u8], certificate: &mut [u8], order: &mut [u16]) -> Findings
     requires { ⌜ WellFormed (now table) ⌝ }
     requires { ⌜ (frames (now table) ≤ length (now evaluated)) × (frames (now table) ≤ length (now certificate)) ⌝ }
+    requires { ⌜ frames (now table) ≤ length (now order) ⌝ }
     ensures { λ r. ⌜ r ≡ findings (reachedLeaves (now (table .entry))) (now (table .entry)) ⌝ }
     ensures { λ _. ⌜ now (evaluated .exit)
         ≡ marksOf (reachedLeaves (now (table .entry))) (now (table .entry)) (now (evaluated .entry)) ⌝ }
     ensures { λ _. ⌜ now (certificate .exit)
         ≡ flagsOf (reachedLeaves (now (table .entry))) (now (table .entry)) (now (certificate .entry)) ⌝ }
+    ensures { λ _. ⌜ now (order .exit) ≡ listed (reachedLeaves (now (table .entry))) (now (order .entry)) ⌝ }
 {
     clear(evaluated, frame_count(table));
     let root = Place {
         depth: 0,
         side: Side::Max,
     };
-    let visited = alpha_beta(table, evaluated, 0, root, LEAST, GREATEST);
+    let visited = alpha_beta(table, evaluated, order, 0, root, LEAST, GREATEST, 0);
     let root_move = conclude(table, evaluated, certificate);
     let value = value(visited.score);
     Findings {
@@ -73,41 +85,49 @@ fn run(table: &[u8], evaluated: &mut [u8], certificate: &mut [u8]) -> Findings
     }
 }
 
-// What the engine gives for a subtree: its score in the window, and how many leaves it evaluated.
+// What the engine gives for a subtree: its score in the window, and how many leaves are evaluated by then.
 struct Visited {
     score: u32,
     leaves: usize,
 }
 
-// Alpha-beta of the tree below a node, with the window from alpha to beta: the pass over the children stops at the
-// first one that closes the window. No node of that tree is marked yet, so that no leaf is evaluated twice.
+// Alpha-beta of the tree below a node, with the window from alpha to beta, where so many leaves are evaluated already:
+// the pass over the children stops at the first one that closes the window, and a child that is a leaf costs no call.
+// No node of that tree is marked yet, so that no leaf is evaluated twice.
 fn alpha_beta(
     table: &[u8],
     evaluated: &mut [u8],
+    order: &mut [u16],
     node: usize,
     place: Place,
     mut alpha: u32,
     mut beta: u32,
+    mut leaves: usize,
 ) -> Visited
     requires { ⌜ Searchable (now table) (now evaluated) node place ⌝ }
-    ensures { λ r. ⌜ r
-        ≡ visitedOf (alphaBeta (valuation (now (table .entry))) alpha beta (treeAt (now (table .entry)) node)) ⌝ }
-    ensures { λ _. ⌜ now (evaluated .exit)
-        ≡ markAll (now (evaluated .entry))
+    requires { ⌜ Listable (now table) (progress leaves (now evaluated) (now order)) ⌝ }
+    ensures { λ r. ⌜ r .score
+        ≡ alphaBeta (valuation (now (table .entry))) alpha beta (treeAt (now (table .entry)) node) .value ⌝ }
+    ensures { λ r. ⌜ progress (r .leaves) (now (evaluated .exit)) (now (order .exit))
+        ≡ evaluateAll (progress leaves (now (evaluated .entry)) (now (order .entry)))
         (alphaBeta (valuation (now (table .entry))) alpha beta (treeAt (now (table .entry)) node) .evaluated) ⌝ }
+    ensures { λ r. ⌜ r .leaves ≡ ones (now (evaluated .exit)) (frames (now (table .entry))) ⌝ }
 {
     let count = child_count(table, node);
     if count == 0 {
-        return visit_leaf(table, evaluated, node, place.depth, alpha, beta);
+        return visit_leaf(table, evaluated, order, node, place, alpha, beta, leaves);
     }
     let side = place.side;
-    let mut leaves: usize = 0;
     let mut child = first_child(table, node);
     let last = child + (count - 1);
     let score = loop {
         let below = child_place(table, child, place);
-        let visited = alpha_beta(table, evaluated, child, below, alpha, beta);
-        leaves += visited.leaves;
+        let visited = if child_count(table, child) == 0 {
+            visit_leaf(table, evaluated, order, child, below, alpha, beta, leaves)
+        } else {
+            alpha_beta(table, evaluated, order, child, below, alpha, beta, leaves)
+        };
+        leaves = visited.leaves;
         if child == last {
             break visited.score;
         }
@@ -125,31 +145,26 @@ fn alpha_beta(
 fn visit_leaf(
     table: &[u8],
     evaluated: &mut [u8],
+    order: &mut [u16],
     node: usize,
-    depth: u32,
+    place: Place,
     alpha: u32,
     beta: u32,
+    leaves: usize,
 ) -> Visited
-    requires { ⌜ Evaluable (now table) (now evaluated) node depth ⌝ }
-    ensures { λ r. ⌜ (r .score ≡ clamp alpha beta (valuation (now (table .entry)) node)) × (r .leaves ≡ 1) ⌝ }
+    requires { ⌜ Evaluable (now table) (now evaluated) node (place .depth) ⌝ }
+    requires { ⌜ Listable (now table) (progress leaves (now evaluated) (now order)) ⌝ }
+    ensures { λ r. ⌜ (r .score ≡ clamp alpha beta (valuation (now (table .entry)) node))
+        × (r .leaves ≡ leaves + 1) ⌝ }
     ensures { λ _. ⌜ now (evaluated .exit) ≡ set (now (evaluated .entry)) node 1 ⌝ }
+    ensures { λ _. ⌜ now (order .exit) ≡ set (now (order .entry)) leaves node ⌝ }
 {
-    let leaf = evaluate_leaf(table, evaluated, node, depth);
+    let leaf = evaluate_next(table, evaluated, order, node, place.depth, leaves);
     let score = clamped(alpha, beta, leaf.score);
     Visited {
         score,
         leaves: leaf.leaves,
     }
-}
-
-// A leaf that has no mark yet is evaluated and counted.
-fn evaluate_leaf(table: &[u8], evaluated: &mut [u8], node: usize, depth: u32) -> Visited
-    requires { ⌜ Evaluable (now table) (now evaluated) node depth ⌝ }
-    ensures { λ r. ⌜ (r .score ≡ valuation (now (table .entry)) node) × (r .leaves ≡ 1) ⌝ }
-    ensures { λ _. ⌜ now (evaluated .exit) ≡ set (now (evaluated .entry)) node 1 ⌝ }
-{
-    let score = evaluate(table, evaluated, node, depth);
-    Visited { score, leaves: 1 }
 }
 
 // The score, brought into the window.

@@ -21,6 +21,7 @@ ghost use Rattle.places.specs.Buffer.{written};
 ghost use Rattle.places.specs.engine.Places.{Placed};
 ghost use Rattle.bounds.specs.Marks.{marked};
 ghost use Rattle.bounds.specs.engine.Evaluable.{Evaluable};
+ghost use Rattle.bounds.specs.engine.Progress.{progress, Listable};
 ghost use Rattle.bounds.specs.engine.Ranges.{bestIn};
 ghost use Rattle.bounds.specs.engine.Bounds.{boundOf, boundsOf, leafBounds};
 
@@ -44,6 +45,34 @@ pub fn evaluate(table: &[u8], evaluated: &mut [u8], node: usize, depth: u32) -> 
     ensures { λ r. ⌜ now (evaluated .exit) ≡ set (now (evaluated .entry)) node 1 ⌝ }
 {
     read_leaf(table, evaluated, node, depth)
+}
+
+// What the evaluation of a leaf gives: its score, and how many leaves are evaluated with it.
+pub struct Evaluation {
+    pub score: u32,
+    pub leaves: usize,
+}
+
+// The evaluation of a leaf that is counted and listed: the leaf's number goes into the list behind the `leaves` numbers
+// that are there.
+pub fn evaluate_next(
+    table: &[u8],
+    evaluated: &mut [u8],
+    order: &mut [u16],
+    node: usize,
+    depth: u32,
+    mut leaves: usize,
+) -> Evaluation
+    requires { ⌜ Evaluable (now table) (now evaluated) node depth ⌝ }
+    requires { ⌜ Listable (now table) (progress leaves (now evaluated) (now order)) ⌝ }
+    ensures { λ r. ⌜ (r .score ≡ valuation (now (table .entry)) node) × (r .leaves ≡ leaves + 1) ⌝ }
+    ensures { λ _. ⌜ now (evaluated .exit) ≡ set (now (evaluated .entry)) node 1 ⌝ }
+    ensures { λ _. ⌜ now (order .exit) ≡ set (now (order .entry)) leaves node ⌝ }
+{
+    let score = evaluate(table, evaluated, node, depth);
+    order[leaves] = node as u16;
+    leaves += 1;
+    Evaluation { score, leaves }
 }
 
 // The first n marks become 0.

@@ -87,8 +87,8 @@ fn name(call: &[u8]) -> u8 {
 // dearest, regular, check, line or kids.
 fn print_call(letter: u8, file: &[u8], numbers: &[u32; NUMBERS]) {
     match letter {
-        b'b' => print_searches(file, numbers[0], numbers[1]),
-        b'a' => print_allowed(file, numbers[0], numbers[1], numbers[2]),
+        b'b' => print_searches(file, numbers[0], numbers[1], numbers[2]),
+        b'a' => print_allowed(file, numbers[0], numbers[1], numbers[2], numbers[3]),
         b't' => print_reading(file, numbers[0]),
         b'w' => print_writing(file, numbers[0], numbers[1]),
         b'g' => print_graft(file, numbers),

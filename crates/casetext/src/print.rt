@@ -1,4 +1,4 @@
-// What the cases print: numbers, and the bytes of a buffer.
+// What the cases print: numbers, the bytes of a buffer, and the numbers of a list.
 use libc::STDOUT_FILENO;
 
 // A word and the bytes of a buffer in base ten, as a line.
@@ -8,6 +8,20 @@ pub fn print_bytes(word: &[u8], buffer: &[u8]) {
         print_byte(buffer[i]);
     }
     print_line_feed();
+}
+
+// A word and the numbers of a list in base ten, as a line.
+pub fn print_numbers(word: &[u8], list: &[u16]) {
+    io::write_all(STDOUT_FILENO, word);
+    for i in 0..list.len() {
+        print_number(list[i]);
+    }
+    print_line_feed();
+}
+
+// A blank and a number of a list in base ten.
+fn print_number(number: u16) {
+    print_count(number as usize);
 }
 
 // A blank and a byte in base ten.

@@ -1,10 +1,9 @@
--- A search over two buffers, from its steps to its outcome: questions, cleared marks, the engine's marks, and what
--- `conclude` reads off them.
+-- A search, from its steps to its outcome: questions, cleared marks, the engine's marks, what `conclude` reads off
+-- them, and the list of the leaves.
 use Prim.Native.Nat.{ℕ}
 use mathlib.Core.Path.{_≡_, refl, ap, _∙_}
 use mathlib.Core.Option.{Option, none, some}
-use mathlib.Core.List.{List, [], _∷_}
-use lib.ListN.{length}
+use mathlib.Core.List.{List}
 use Rattle.lists.specs.Lists.{among}
 use Rattle.gametree.specs.Move.{rootMove, boundMove}
 use Rattle.gametree.specs.Certificate.{flag}
@@ -18,7 +17,7 @@ use Rattle.frames.specs.Rejection.{answer}
 use Rattle.frames.proofs.Asked.{answer-nodes, answer-rejected}
 use Rattle.places.specs.Buffer.{written}
 use Rattle.bounds.specs.Marks.{marked, markAll}
-use Rattle.certificate.specs.Search.{Search, searchRejection, marksOf, flagsOf, outcome}
+use Rattle.certificate.specs.Search.{Search, searchRejection, marksOf, flagsOf, outcome, listed, orderAfter}
 use Rattle.bounds.proofs.Marking.{marks-from-clear}
 use Rattle.certificate.proofs.Marks.{evaluated-within}
 use Rattle.certificate.proofs.Concluded.{concluded}
@@ -36,10 +35,10 @@ search-concludes t wf w d e e₁ e₂ e₃ c c₂ m cleared marks move flags kep
     let b = concluded t wf (among w) e e₂ c a in
     (move ∙ b .0 ∙ d .move, (kept ∙ a, flags ∙ b .1))
 
--- what a call gives once its questions are answered, for any type of answers
-module _ {A : Type 0} (rejected : Rejection → A) (found : A) (s : Search) where
+-- what a call gives once its questions are answered, for any type of answers and buffers of any lengths
+module _ {A : Type 0} (rejected : Rejection → A) (found : A) (s : Search) (lengths : List ℕ) where
   abbrev questions : Option Rejection
-  questions = searchRejection (s .table) (length (s .evaluated) ∷ length (s .certificate) ∷ [])
+  questions = searchRejection (s .table) lengths
 
   -- with nodes the search is run, and its results are the outcome
   pub finding : (n : ℕ) (a : A) (e c : List ℕ) → Nodes n ≡ answer (frames (s .table)) questions → a ≡ found
@@ -54,5 +53,18 @@ module _ {A : Type 0} (rejected : Rejection → A) (found : A) (s : Search) wher
       → record { answer = rejected r; evaluated = s .evaluated; certificate = s .certificate }
       ≡ outcome rejected found s questions
   rejecting r p =
+      let z : questions ≡ some r = answer-rejected (frames (s .table)) r _ p in
+      rw z
+
+  -- the list of leaves beside them
+  pub listing : (n : ℕ) (o o′ : List ℕ) → Nodes n ≡ answer (frames (s .table)) questions → o′ ≡ listed (s .leaves) o
+      → o′ ≡ orderAfter questions (s .leaves) o
+  listing n o o′ p d =
+      let z : questions ≡ none = answer-nodes (frames (s .table)) n _ p .0 in
+      rw z d
+
+  pub not-listing : (r : Rejection) (o : List ℕ) → Rejected r ≡ answer (frames (s .table)) questions
+      → o ≡ orderAfter questions (s .leaves) o
+  not-listing r o p =
       let z : questions ≡ some r = answer-rejected (frames (s .table)) r _ p in
       rw z

@@ -1,64 +1,95 @@
--- Questions 1 to 10, for two buffers: they pass exactly if the table is accepted and each buffer has an entry per node.
-use Prim.Native.Nat.{ℕ, _≤_, _<_}
-use mathlib.Core.Path.{_≡_}
-use mathlib.Core.Bool.{true, _&&_}
+-- Questions 1 to 10, for any number of buffers: they pass exactly if the table is accepted and each buffer has an entry
+-- per node, so that the shortest decides.
+use Prim.Native.Nat.{ℕ, _≤_, _<_, min}
+use native.Mathlib.Omega.{arith}
+use native.Mathlib.Decide.{decLe}
+use mathlib.Core.Path.{_≡_, refl, ap, _∙_}
+use mathlib.Core.Bool.{Bool, true, _&&_}
 use mathlib.Core.Option.{none}
 use mathlib.Core.List.{List, [], _∷_}
 use lib.Dec.{leb}
 use borrow.Author.Tests.{le-leb, lt-leb, leb-true}
+use Rattle.lists.specs.Lists.{All}
 use Rattle.lists.proofs.Choice.{and-both}
 use Rattle.frames.specs.declared.Rejection.{Rejection}
 use Rattle.frames.specs.declared.Checked.{Checked}
 use Rattle.frames.specs.declared.Checked.the-variants.{Nodes, Rejected}
 use Rattle.frames.specs.Frame.{frames}
 use Rattle.frames.specs.Formed.{WellFormed}
-use Rattle.frames.specs.Rejection.{answer}
-use Rattle.frames.specs.Check.{rejection, check10, Accepted, checked}
+use Rattle.frames.specs.Rejection.{answer, ask, _andThen_}
+use Rattle.frames.specs.Check.{rejection, roomy, check10, Accepted, checked}
 use Rattle.frames.proofs.Stated.{ask-yes, both-passed}
 use Rattle.frames.proofs.Asked.{refused, answer-nodes, answer-rejected}
 use Rattle.frames.proofs.Acceptance.{accepted-formed, nodes-accepted}
 use Rattle.certificate.specs.Search.{searchRejection}
 
-module _ (t : List ℕ) (a b : ℕ) where
-  -- passed questions: an accepted table, and room in both buffers
-  pub passed-room : searchRejection t (a ∷ b ∷ []) ≡ none → Accepted t × (frames t ≤ a) × (frames t ≤ b)
+-- each of the buffers has n entries
+abbrev pub Room : ℕ → List ℕ → Type 0
+Room n ls = All (λ l. n ≤ l) ls
+
+roomy-each : (n : ℕ) (ls : List ℕ) → roomy n ls ≡ true → Room n ls
+roomy-each n [] e = tt
+roomy-each n (l ∷ ls) e =
+    let p = and-both (leb n l) (roomy n ls) e in
+    (leb-true n l (p .0), roomy-each n ls (p .1))
+
+each-roomy : (n : ℕ) (ls : List ℕ) → Room n ls → roomy n ls ≡ true
+each-roomy n [] r = refl
+each-roomy n (l ∷ ls) r = rw (le-leb n l (r .0)) (each-roomy n ls (r .1))
+
+-- of two lengths the lesser decides
+room-min : (n a b : ℕ) (c : Bool) → leb n (min a b) && c ≡ leb n a && (leb n b && c)
+room-min n a b c =
+    elim (decLe n a) [
+      | yes h ↦ elim (decLe n b) [
+        | yes k ↦ rw (le-leb n a h, le-leb n b k, le-leb n (min a b) (omega arith))
+        | no k ↦ rw (le-leb n a h, lt-leb n b (omega arith), lt-leb n (min a b) (omega arith))
+      ]
+      | no h ↦ rw (lt-leb n a (omega arith), lt-leb n (min a b) (omega arith))
+    ]
+
+module _ (t ls : List ℕ) where
+  -- passed questions: an accepted table, and room in each buffer
+  pub passed-room : searchRejection t ls ≡ none → Accepted t × Room (frames t) ls
   passed-room e =
-      let p = both-passed (rejection t) (check10 (frames t) (a ∷ b ∷ [])) e in
-      let r = and-both (leb (frames t) a) (leb (frames t) b && true) (ask-yes _ _ _ (p .1)) in
-      (p .0, leb-true (frames t) a (r .0), leb-true (frames t) b (and-both (leb (frames t) b) true (r .1) .0))
+      let p = both-passed (rejection t) (check10 (frames t) ls) e in
+      (p .0, roomy-each (frames t) ls (ask-yes _ _ _ (p .1)))
 
   -- and the other way round
-  pub room-passed : Accepted t → frames t ≤ a → frames t ≤ b → searchRejection t (a ∷ b ∷ []) ≡ none
-  room-passed e h k = rw (e, le-leb (frames t) a h, le-leb (frames t) b k)
+  pub room-passed : Accepted t → Room (frames t) ls → searchRejection t ls ≡ none
+  room-passed e r = rw (e, each-roomy (frames t) ls r)
 
   -- what the questions answer
   abbrev pub asked : Checked
-  asked = answer (frames t) (searchRejection t (a ∷ b ∷ []))
+  asked = answer (frames t) (searchRejection t ls)
 
   -- with nodes for an answer the search may be run
-  pub nodes-roomy : (n : ℕ) → Nodes n ≡ asked → WellFormed t × ((frames t ≤ a) × (frames t ≤ b))
+  pub nodes-roomy : (n : ℕ) → Nodes n ≡ asked → WellFormed t × Room (frames t) ls
   nodes-roomy n e =
-      let p = passed-room (answer-nodes (frames t) n (searchRejection t (a ∷ b ∷ [])) e .0) in
-      (accepted-formed t (p .0), (p .1, p .2))
+      let p = passed-room (answer-nodes (frames t) n (searchRejection t ls) e .0) in
+      (accepted-formed t (p .0), p .1)
 
+-- an answer for the lesser of two lengths is the answer for both
+pub of-shorter : (t : List ℕ) (a b : ℕ) (ls : List ℕ) {r : Checked} {k : ℕ} → r ≡ asked t (k ∷ ls) → k ≡ min a b
+    → r ≡ asked t (a ∷ b ∷ ls)
+of-shorter t a b ls e m =
+    e ∙ ap (λ k. asked t (k ∷ ls)) m
+    ∙ ap (λ r. answer (frames t) (rejection t andThen ask r 10 0)) (room-min (frames t) a b (roomy (frames t) ls))
+
+-- what `ask` answers for the length of the shortest buffer
+module _ (t : List ℕ) (l : ℕ) where
   -- a rejection of the table is the first
-  pub table-refused : (r : Rejection) → Rejected r ≡ checked t → Rejected r ≡ asked
+  pub table-refused : (r : Rejection) → Rejected r ≡ checked t → Rejected r ≡ asked t (l ∷ [])
   table-refused r e = rw (answer-rejected (frames t) r (rejection t) e)
 
+  -- the shortest buffer is too short, or long enough
   module _ (n : ℕ) (e : Nodes n ≡ checked t) where
-    -- the first or the second buffer is too short
-    pub first-short : a < n → refused 10 0 ≡ asked
-    first-short h =
+    pub too-short : l < n → refused 10 0 ≡ asked t (l ∷ [])
+    too-short h =
         let p = nodes-accepted t n e in
-        rw (p .0, ← p .1, lt-leb n a h)
+        rw (p .0, ← p .1, lt-leb n l h)
 
-    pub second-short : n ≤ a → b < n → refused 10 0 ≡ asked
-    second-short h k =
+    pub long-enough : n ≤ l → Nodes n ≡ asked t (l ∷ [])
+    long-enough h =
         let p = nodes-accepted t n e in
-        rw (p .0, ← p .1, le-leb n a h, lt-leb n b k)
-
-    -- both have room
-    pub both-roomy : n ≤ a → n ≤ b → Nodes n ≡ asked
-    both-roomy h k =
-        let p = nodes-accepted t n e in
-        rw (p .0, ← p .1, le-leb n a h, le-leb n b k)
+        rw (p .0, ← p .1, le-leb n l h)

@@ -1,8 +1,8 @@
 -- What every search has in common: its questions, what it finds, and what it leaves in its buffers.
 use Prim.Native.Nat.{ℕ}
 use mathlib.Core.Option.{Option, none, some}
-use mathlib.Core.List.{List}
-use lib.ListN.{length}
+use mathlib.Core.List.{List, _++_}
+use lib.ListN.{length, drop}
 use Rattle.lists.specs.Lists.{among}
 use Rattle.gametree.specs.Tree.{minimax}
 use Rattle.gametree.specs.Move.{rootMove}
@@ -62,3 +62,21 @@ outcome rejected found s none =
     }
 outcome rejected found s (some r) =
     record { answer = rejected r; evaluated = s .evaluated; certificate = s .certificate }
+
+-- the list o after a search that evaluates the leaves w: their numbers in the order of their evaluation, then what it
+-- held before
+abbrev pub listed : (w o : List ℕ) → List ℕ
+listed w o = w ++ drop (length w) o
+
+abbrev pub orderAfter : Option Rejection → (w o : List ℕ) → List ℕ
+orderAfter none w o = listed w o
+orderAfter (some r) w o = o
+
+-- what a search gives that lists its leaves too: the list, and the rest
+pub record Listed (A : Type 0) : Type 0 where
+  pub order : List ℕ
+  pub search : Outcome A
+
+abbrev pub listedOutcome : {A : Type 0} → (Rejection → A) → A → Search → (o : List ℕ) → Option Rejection → Listed A
+listedOutcome rejected found s o q =
+    record { order = orderAfter q (s .leaves) o; search = outcome rejected found s q }

@@ -12,7 +12,7 @@ use places::fill;
 use tables::check;
 ghost use mathlib.Core.Path.{_≡_};
 ghost use mathlib.Core.List.{[], _∷_};
-ghost use Prim.Native.Nat.{_≤_};
+ghost use Prim.Native.Nat.{_≤_, min};
 ghost use lib.ListN.{length};
 ghost use Rattle.gametree.specs.Certificate.{flag};
 ghost use Rattle.gametree.specs.Move.{boundMove};
@@ -21,6 +21,7 @@ ghost use Rattle.frames.specs.Tree.{tree, valuation};
 ghost use Rattle.frames.specs.Rejection.{answer};
 ghost use Rattle.frames.specs.Formed.{WellFormed};
 ghost use Rattle.places.specs.Buffer.{written};
+ghost use Rattle.places.specs.engine.Places.{Placed};
 ghost use Rattle.bounds.specs.Marks.{marked};
 ghost use Rattle.certificate.specs.Search.{searchRejection};
 
@@ -32,22 +33,25 @@ pub struct Findings {
     pub leaves: usize,
 }
 
-// Questions 1 to 10, for buffers of these lengths: the number of nodes, or the first rejection.
-pub fn ask(table: &[u8], evaluated: usize, certificate: usize) -> Checked
-    ensures { λ r. ⌜ r ≡ answer (frames (now (table .entry)))
-        (searchRejection (now (table .entry)) (evaluated ∷ certificate ∷ [])) ⌝ }
+// Questions 1 to 10, for buffers of which the shortest has this length: the number of nodes, or the first rejection.
+pub fn ask(table: &[u8], shortest: usize) -> Checked
+    ensures { λ r. ⌜ r ≡ answer (frames (now (table .entry))) (searchRejection (now (table .entry)) (shortest ∷ [])) ⌝ }
 {
     let checked = check(table);
     let Checked::Nodes(n) = checked else {
         return checked;
     };
-    if evaluated < n {
-        return rejected(SHORT_BUFFER, 0);
-    }
-    if certificate < n {
+    if shortest < n {
         return rejected(SHORT_BUFFER, 0);
     }
     checked
+}
+
+// The lesser of two lengths.
+pub fn shorter(a: usize, b: usize) -> usize
+    ensures { λ r. ⌜ r ≡ min a b ⌝ }
+{
+    if a < b { a } else { b }
 }
 
 // The certificate (01: the proof) read off the bounds of the marked leaves, into the buffer's first entries; the result
@@ -64,41 +68,20 @@ pub fn conclude(table: &[u8], evaluated: &mut [u8], certificate: &mut [u8]) -> u
 {
     if frame_count(table) <= SMALL {
         let mut places = [0u32; SMALL];
-        let mut lows = [0u32; SMALL];
-        let mut highs = [0u32; SMALL];
-        return conclude_in(
-            table,
-            &mut places,
-            &mut lows,
-            &mut highs,
-            evaluated,
-            certificate,
-        );
+        return fill_and_conclude(table, &mut places, evaluated, certificate);
     }
     let mut places = [0u32; MAX_NODES];
-    let mut lows = [0u32; MAX_NODES];
-    let mut highs = [0u32; MAX_NODES];
-    conclude_in(
-        table,
-        &mut places,
-        &mut lows,
-        &mut highs,
-        evaluated,
-        certificate,
-    )
+    fill_and_conclude(table, &mut places, evaluated, certificate)
 }
 
-// The certificate and the root move, by work arrays with an entry per node.
-fn conclude_in(
+// The same by a work array for the places.
+fn fill_and_conclude(
     table: &[u8],
     places: &mut [u32],
-    lows: &mut [u32],
-    highs: &mut [u32],
     evaluated: &mut [u8],
     certificate: &mut [u8],
 ) -> usize
     requires { ⌜ (WellFormed (now table)) × (frames (now table) ≤ length (now places)) ⌝ }
-    requires { ⌜ (frames (now table) ≤ length (now lows)) × (frames (now table) ≤ length (now highs)) ⌝ }
     requires { ⌜ (frames (now table) ≤ length (now evaluated)) × (frames (now table) ≤ length (now certificate)) ⌝ }
     ensures { λ r. ⌜ r ≡ boundMove (valuation (now (table .entry))) (marked (now (evaluated .entry)))
         (tree (now (table .entry))) ⌝ }
@@ -108,6 +91,54 @@ fn conclude_in(
     ensures { λ _. ⌜ now (evaluated .exit) ≡ now (evaluated .entry) ⌝ }
 {
     fill(table, places);
+    conclude_at(table, places, evaluated, certificate)
+}
+
+// The same by places that are filled already.
+pub fn conclude_at(
+    table: &[u8],
+    places: &[u32],
+    evaluated: &mut [u8],
+    certificate: &mut [u8],
+) -> usize
+    requires { ⌜ (WellFormed (now table)) × (Placed (now table) (now places)) ⌝ }
+    requires { ⌜ (frames (now table) ≤ length (now evaluated)) × (frames (now table) ≤ length (now certificate)) ⌝ }
+    ensures { λ r. ⌜ r ≡ boundMove (valuation (now (table .entry))) (marked (now (evaluated .entry)))
+        (tree (now (table .entry))) ⌝ }
+    ensures { λ _. ⌜ now (certificate .exit)
+        ≡ written (flag (valuation (now (table .entry))) (marked (now (evaluated .entry))) (tree (now (table .entry))))
+        (frames (now (table .entry))) (now (certificate .entry)) ⌝ }
+    ensures { λ _. ⌜ now (evaluated .exit) ≡ now (evaluated .entry) ⌝ }
+{
+    if frame_count(table) <= SMALL {
+        let mut lows = [0u32; SMALL];
+        let mut highs = [0u32; SMALL];
+        return conclude_in(table, places, &mut lows, &mut highs, evaluated, certificate);
+    }
+    let mut lows = [0u32; MAX_NODES];
+    let mut highs = [0u32; MAX_NODES];
+    conclude_in(table, places, &mut lows, &mut highs, evaluated, certificate)
+}
+
+// The certificate and the root move, by work arrays with an entry per node for the bounds.
+fn conclude_in(
+    table: &[u8],
+    places: &[u32],
+    lows: &mut [u32],
+    highs: &mut [u32],
+    evaluated: &mut [u8],
+    certificate: &mut [u8],
+) -> usize
+    requires { ⌜ (WellFormed (now table)) × (Placed (now table) (now places)) ⌝ }
+    requires { ⌜ (frames (now table) ≤ length (now lows)) × (frames (now table) ≤ length (now highs)) ⌝ }
+    requires { ⌜ (frames (now table) ≤ length (now evaluated)) × (frames (now table) ≤ length (now certificate)) ⌝ }
+    ensures { λ r. ⌜ r ≡ boundMove (valuation (now (table .entry))) (marked (now (evaluated .entry)))
+        (tree (now (table .entry))) ⌝ }
+    ensures { λ _. ⌜ now (certificate .exit)
+        ≡ written (flag (valuation (now (table .entry))) (marked (now (evaluated .entry))) (tree (now (table .entry))))
+        (frames (now (table .entry))) (now (certificate .entry)) ⌝ }
+    ensures { λ _. ⌜ now (evaluated .exit) ≡ now (evaluated .entry) ⌝ }
+{
     fill_bounds(table, places, evaluated, lows, highs);
     read_off(table, places, lows, highs, certificate)
 }

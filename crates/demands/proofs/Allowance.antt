@@ -6,18 +6,19 @@ use Prim.Native.Nat.{ℕ, _≤_, _<_}
 use mathlib.Core.Path.{_≡_, refl, sym, ap, ap₂, _∙_, subst}
 use mathlib.Core.Logic.{_⊎_, inl, inr}
 use mathlib.Core.Bool.{true, cond}
-use mathlib.Core.Option.{none}
-use mathlib.Core.List.{List, _++_}
+use mathlib.Core.List.{List, _∷_, _++_}
 use lib.IntN.{pos}
 use lib.ListN.{length, take, drop, replicate}
+use lib.Seq.{take-append-seam}
 use lib.Signed.{_≤ℤ_}
 use native.Mathlib.Decide.{decLt}
 use native.Mathlib.Omega.{arith}
 use Rattle.lists.specs.Lists.{among}
-use Rattle.lists.proofs.Choice.{clash}
 use Rattle.gametree.specs.Tree.{greatest, minimax}
 use Rattle.gametree.specs.Layout.{layoutOf}
-use Rattle.gametree.specs.Sss.{spent, ListAfter}
+use Rattle.gametree.specs.Sss.{ListAfter}
+use Rattle.gametree.specs.Allowance.{Evaluation}
+use Rattle.gametree.specs.engine.Within.{sssWithin}
 use Rattle.gametree.proofs.Within as within
 use Rattle.frames.specs.Frame.{frames}
 use Rattle.frames.specs.Tree.{tree, valuation}
@@ -30,8 +31,7 @@ use Rattle.frames.proofs.Values.{value-order}
 use Rattle.places.specs.Buffer.{tabulate}
 use Rattle.certificate.specs.declared.Findings.{Findings}
 use Rattle.bounds.specs.Marks.{mark, ones}
-use Rattle.certificate.specs.Search.{marksOf}
-use Rattle.certificate.proofs.Questions.{room-passed}
+use Rattle.certificate.specs.Search.{searchRejection, marksOf, listed}
 use Rattle.alphabeta.specs.declared.Answer.the-variants as ab-answer
 use Rattle.alphabeta.specs.Outcome.{reachedLeaves}
 use Rattle.states.specs.declared.State.{State}
@@ -40,17 +40,18 @@ use Rattle.sss.specs.declared.Spent.{Spent}
 use Rattle.sss.specs.declared.Answer.{Answer as SssAnswer}
 use Rattle.sss.specs.declared.Answer.the-variants as sss-answer
 use Rattle.states.specs.Entry.{blank}
-use Rattle.sss.specs.Outcome.{sssRun, runSpent, runOutcome, spentMerit, sssOutcome, runOf, sssLeaves, sssFound}
+use Rattle.sss.specs.Outcome.{runOf, sssLeaves, sssFound, sssUncovered, sssSpent, outcomeBy, withinOutcome, sssOutcome}
 use Rattle.sss.proofs.Replacements.{own}
-use Rattle.sss.proofs.Whole.{passed-outcome}
-use Rattle.sss.proofs.Allowed.{enough, by-value}
-use Rattle.demands.specs.Calls.{Buffers, outcomeOf, AlphaBetaCall, SssCall, SolveCall, alphaBeta, sss}
+use Rattle.sss.proofs.Allowed.{enough, outcome-spent}
+use Rattle.demands.specs.Calls.{Buffers, stateLengths, outcomeOf, listedOf, AlphaBetaCall, SssCall, SolveCall}
+use Rattle.demands.specs.Calls.{alphaBeta, sss}
 use Rattle.demands.specs.Handed.{Room, Marked, AgreeOnMarked}
 use Rattle.demands.specs.Allowance.{CutShort}
-use Rattle.demands.proofs.Views.{rooms-passed, view}
+use Rattle.demands.proofs.Views.{all-covered, sssBy, list-passed, rooms-passed, view}
 use Rattle.demands.proofs.Handed.{marks-at}
 use Rattle.demands.proofs.Local.{take-written}
-use Rattle.demands.proofs.Spending.{spent-outcome, run-spent, ones-within, run-reached, spent-view, spent-formed}
+use Rattle.demands.proofs.Spending.{firstLeaves, none-more, left-more, run-is, more-left, ones-within}
+use Rattle.demands.proofs.Spending.{run-reached, spent-view, spent-formed, spent-run, spent-end, first-count}
 use Rattle.demands.proofs.Spending.{spent-marked, spent-local}
 use Rattle.demands.proofs.Demand2.{sss-gives}
 
@@ -65,10 +66,11 @@ module _ {t : List ℕ} {s : Spent} (c : SssCall t (sss-answer.Spent s)) where
       let wf = spent-formed c in
       let h = tree-proper t wf .scored in
       let n = c .allowance in
-      let x = within.within-cut (valuation t) (tree t) h (layoutOf (tree t)) (own t wf) n (v .score) (v .end) in
-      let m = within.within-cut-merit (valuation t) (tree t) h (layoutOf (tree t)) (own t wf) n (v .score) (v .end) in
+      let γ = v .next .merit in
+      let x = within.within-cut (valuation t) (tree t) h (layoutOf (tree t)) (own t wf) n γ (spent-end c) in
+      let m = within.within-cut-merit (valuation t) (tree t) h (layoutOf (tree t)) (own t wf) n γ (spent-end c) in
       let k : s .replacements ≡ x .made =
-      ap (λ y. y .replacements) (v .gives) ∙ ap (λ r. r .replacements) (x .gives) in
+      ap (λ y. y .replacements) (v .gives) ∙ ap (λ r. r .replacements) (sym (spent-run c) ∙ x .gives) in
       record {
         evaluated = x .leaves;
         states = x .list;
@@ -78,104 +80,106 @@ module _ {t : List ℕ} {s : Spent} (c : SssCall t (sss-answer.Spent s)) where
             subst (λ j. ListAfter (valuation t) (layoutOf (tree t)) (tree t) j (x .leaves) (x .list)) (sym k)
             (x .reached);
         evaluates = x .more;
-        leaves = ap (λ y. y .leaves) (v .gives) ∙ ap (λ r. length (r .evaluated)) (x .gives);
+        leaves = ap (λ y. y .leaves) (v .gives) ∙ sym (x .all);
         merit = ap (λ y. y .merit) (v .gives) ∙ ap valueOf (sym m);
       }
 
   -- the full run needs more leaves
   pub needs-more : c .allowance < length (sssLeaves t)
-  needs-more = let v = spent-view c in run-spent t (spent-formed c) (c .allowance) .0 (v .score, v .end)
+  needs-more = let v = spent-view c in left-more t (c .allowance) (v .next) (v .later) (v .uncovered)
 
 -- where it does, and the table is accepted and has room, the answer is spent; where not, it is the value (`sss-gives`,
 -- `solve-gives`)
-module _ (t : List ℕ) (a : Accepted t) (b : Buffers) (h : Room t b) where
+module _ (t : List ℕ) (a : Accepted t) (b : Buffers) (h : Room t b) (o : List ℕ) (long : frames t ≤ length o) where
   abbrev spent-left : ℕ → Buffers
-  spent-left n = record { marks = marksOf (sssRun n t .evaluated) t (b .marks); flags = b .flags }
+  spent-left n = record { marks = marksOf (take n (sssLeaves t)) t (b .marks); flags = b .flags }
 
   pub solve-spends : (n : ℕ) → n < length (sssLeaves t)
-      → (s : Spent) × (c : SolveCall t (sss-answer.Spent s)) × (c .allowance ≡ n) × (c .lent ≡ b)
+      → (s : Spent) × (c : SolveCall t (sss-answer.Spent s)) × (c .allowance ≡ n) × (c .lent ≡ b) × (c .lentOrder ≡ o)
   solve-spends n i =
-      let x = run-spent t (accepted-formed t a) n .1 i in
-      let q = room-passed t (length (b .marks)) (length (b .flags)) a (h .marks) (h .flags) in (
-        runSpent (sssRun n t) (x .0),
+      let x = more-left t n i in (
+        sssSpent n (x .0),
         record {
           allowance = n;
           lent = b;
           left = spent-left n;
+          lentOrder = o;
+          leftOrder = listed (take n (sssLeaves t)) o;
           outcome =
-              sym (ap (runOutcome (sssRun n t) t (b .marks) (b .flags)) q
-              ∙ spent-outcome (sssRun n t) (x .0) (x .1) t (b .marks) (b .flags));
+              sym (ap₂ (λ xs q. outcomeBy xs n t (b .marks) (b .flags) o q) (x .1 .1) (list-passed t b o a h long));
         },
+        refl,
         refl,
         refl,
       )
 
-module _ (t : List ℕ) (a : Accepted t) (b : Buffers) (h : Room t b) (l : List State) (m : frames t ≤ length l) where
-  -- a call with such a run
-  spent-call : (n k : ℕ) → sssRun n t .end ≡ spent k
-      → (c : SssCall t (sss-answer.Spent (runSpent (sssRun n t) k))) × (c .allowance ≡ n) × (c .lent ≡ b)
-      × (c .lentList ≡ l)
-  spent-call n k e = (
-    record {
-      allowance = n;
-      lent = b;
-      left = spent-left t a b h n;
-      lentList = l;
-      leftList = replicate (frames t) blank ++ drop (frames t) l;
-      outcome =
-          sym (passed-outcome n t l (b .marks) (b .flags) (accepted-formed t a) (rooms-passed t b a h (length l) m)
-          ∙ ap (λ y. record { list = replicate (frames t) blank ++ drop (frames t) l; search = y })
-          (spent-outcome (sssRun n t) k e t (b .marks) (b .flags)));
-    },
-    refl,
-    refl,
-    refl,
-  )
+  module _ (l : List State) (m : frames t ≤ length l) where
+    -- a call with the answer s, under an allowance of n leaves
+    abbrev Spends : ℕ → Spent → Type 0
+    Spends n s = (c : SssCall t (sss-answer.Spent s)) × (c .allowance ≡ n) × (c .lent ≡ b) × (c .lentOrder ≡ o)
+        × (c .lentList ≡ l)
 
-  pub spends : (n : ℕ) → n < length (sssLeaves t)
-      → (s : Spent) × (c : SssCall t (sss-answer.Spent s)) × (c .allowance ≡ n) × (c .lent ≡ b) × (c .lentList ≡ l)
-  spends n i =
-      let x = run-spent t (accepted-formed t a) n .1 i in
-      let c = spent-call n (x .0) (x .1) in
-      (runSpent (sssRun n t) (x .0), c .0, c .1, c .2, c .3)
+    spent-call : (n : ℕ) (x : Evaluation) (xs : List Evaluation) → sssUncovered n t ≡ x ∷ xs → Spends n (sssSpent n x)
+    spent-call n x xs e = (
+      record {
+        allowance = n;
+        lent = b;
+        left = spent-left n;
+        lentOrder = o;
+        leftOrder = listed (take n (sssLeaves t)) o;
+        lentList = l;
+        leftList = replicate (frames t) blank ++ drop (frames t) l;
+        outcome = sym (ap₂ (sssBy n t l b o) e (rooms-passed t b o a h long l m));
+      },
+      refl,
+      refl,
+      refl,
+      refl,
+    )
 
-  -- so each allowance gets the value or spent
-  pub value-or-spent : (n : ℕ) → ((c : SssCall t (sss-answer.Found (sssFound t))) × (c .allowance ≡ n) × (c .lent ≡ b)
-      × (c .lentList ≡ l))
-      ⊎ ((s : Spent) × (c : SssCall t (sss-answer.Spent s)) × (c .allowance ≡ n) × (c .lent ≡ b) × (c .lentList ≡ l))
-  value-or-spent n =
-      elim (decLt n (length (sssLeaves t))) [
-        | yes i ↦ inr (spends n i)
-        | no i ↦ inl (sss-gives t a b h n (omega arith) l m)
-      ]
+    pub spends : (n : ℕ) → n < length (sssLeaves t)
+        → (s : Spent) × (c : SssCall t (sss-answer.Spent s)) × (c .allowance ≡ n) × (c .lent ≡ b)
+        × (c .lentOrder ≡ o) × (c .lentList ≡ l)
+    spends n i =
+        let x = more-left t n i in
+        let c = spent-call n (x .0) (x .1 .0) (x .1 .1) in
+        (sssSpent n (x .0), c .0, c .1, c .2, c .3, c .4)
 
-  -- "With allowance 0 the answer is spent with 32,001": whatever the tree, and so where the root is a leaf
-  pub none-allowed : (k : ℕ) × (c : SssCall t (sss-answer.Spent (record {
-    merit = pos 32001;
-    leaves = 0;
-    replacements = k;
-  }))) × (c .allowance ≡ 0) × (c .lent ≡ b) × (c .lentList ≡ l)
-  none-allowed =
-      let wf = accepted-formed t a in
-      let x = within.within-none (valuation t) (tree t) (tree-proper t wf) (layoutOf (tree t)) (own t wf) in
-      let e : runSpent (sssRun 0 t) greatest
-      ≡ record { merit = pos 32001; leaves = 0; replacements = sssRun 0 t .replacements } =
-      ap (λ w. record { merit = pos 32001; leaves = length w; replacements = sssRun 0 t .replacements }) (x .1) in
-      let c = subst (λ s. (c : SssCall t (sss-answer.Spent s)) × (c .allowance ≡ 0) × (c .lent ≡ b) × (c .lentList ≡ l))
-      e (spent-call 0 greatest (x .0)) in
-      (sssRun 0 t .replacements, c .0, c .1, c .2, c .3)
+    -- so each allowance gets the value or spent
+    pub value-or-spent : (n : ℕ)
+        → ((c : SssCall t (sss-answer.Found (sssFound t))) × (c .allowance ≡ n) × (c .lent ≡ b) × (c .lentOrder ≡ o)
+        × (c .lentList ≡ l))
+        ⊎ ((s : Spent) × (c : SssCall t (sss-answer.Spent s)) × (c .allowance ≡ n) × (c .lent ≡ b)
+        × (c .lentOrder ≡ o) × (c .lentList ≡ l))
+    value-or-spent n =
+        elim (decLt n (length (sssLeaves t))) [
+          | yes i ↦ inr (spends n i)
+          | no i ↦ inl (sss-gives t a b h o long n (omega arith) l m)
+        ]
+
+    -- "With allowance 0 the answer is spent with 32,001": whatever the tree, and so where the root is a leaf
+    pub none-allowed : (k : ℕ) × (c : SssCall t (sss-answer.Spent (record {
+      merit = pos 32001;
+      leaves = 0;
+      replacements = k;
+    }))) × (c .allowance ≡ 0) × (c .lent ≡ b) × (c .lentOrder ≡ o) × (c .lentList ≡ l)
+    none-allowed =
+        let wf = accepted-formed t a in
+        let p = tree-proper t wf in
+        let e = within.within-none (valuation t) (tree t) p (layoutOf (tree t)) (own t wf) .0 in
+        let i = within.within-spent (valuation t) (tree t) (p .scored) (layoutOf (tree t)) (own t wf) 0 .0
+        (greatest, e) in
+        let x = more-left t 0 i in
+        let r = run-is t 0 (x .0) (x .1 .0) (x .1 .1) in
+        let γ : x .0 .merit ≡ greatest = cc (e, ap (λ r. r .end) r) in
+        let k = x .0 .replacements in
+        let c = subst (λ m. Spends 0 (record { merit = valueOf m; leaves = 0; replacements = k })) γ
+        (spent-call 0 (x .0) (x .1 .0) (x .1 .1)) in
+        (k, c .0, c .1, c .2, c .3, c .4)
 
 -- a call that gives the value was allowed leaves enough
 pub had-enough : {t : List ℕ} {f : SssFound} (c : SssCall t (sss-answer.Found f)) → length (sssLeaves t) ≤ c .allowance
-had-enough {t} {f} c =
-    let wf = accepted-formed t (view (sss c) .handed .accepted) in
-    let n = c .allowance in
-    let p = by-value t (c .lent .marks) (c .lent .flags) (sssRun n t) (spentMerit (sssRun n t .end)) _ f
-    (sym (ap (λ x. x .search .answer) (c .outcome))) in
-    elim (decLt n (length (sssLeaves t))) [
-      | yes i ↦ clash (cc (p .1, ap spentMerit (run-spent t wf n .1 i .1)))
-      | no i ↦ omega arith
-    ]
+had-enough {t} c = none-more t (c .allowance) (all-covered c)
 
 -- "That merit is never below the root's value" (nor above 32,001)
 pub merit-bounds : {t : List ℕ} {s : Spent} → SssCall t (sss-answer.Spent s)
@@ -184,7 +188,7 @@ merit-bounds {t} c =
     let v = spent-view c in
     let wf = spent-formed c in
     let m = within.within-merit (valuation t) (tree t) (tree-proper t wf .scored) (layoutOf (tree t))
-    (own t wf) (c .allowance) (v .score) (v .end) in
+    (own t wf) (c .allowance) (v .next .merit) (spent-end c) in
     let i = ap (λ x. x .merit) (v .gives) in
     (rw i (value-order _ _ (m .0)), rw i (value-order _ _ (m .1)))
 
@@ -197,17 +201,19 @@ merit-falls {t} c d l =
     let wf = spent-formed c in
     rw (ap (λ x. x .merit) (v .gives), ap (λ x. x .merit) (w .gives))
     (value-order _ _ (within.within-falls (valuation t) (tree t) (tree-proper t wf .scored) (layoutOf (tree t))
-    (own t wf) (c .allowance) (d .allowance) (v .score) (w .score) l (v .end) (w .end)))
+    (own t wf) (c .allowance) (d .allowance) (v .next .merit) (w .next .merit) l (spent-end c) (spent-end d)))
 
 -- "A value once given is the same under every larger allowance": so is all that the call gives and leaves
 pub value-stays : {t : List ℕ} {f : SssFound} (c : SssCall t (sss-answer.Found f)) (n : ℕ) → c .allowance ≤ n
-    → record { list = c .leftList; search = outcomeOf (sss-answer.Found f) (c .left) }
-    ≡ sssOutcome n t (c .lentList) (c .lent .marks) (c .lent .flags)
+    → record { list = c .leftList; order = c .leftOrder; search = outcomeOf (sss-answer.Found f) (c .left) }
+    ≡ sssOutcome n t (c .lentList) (c .lent .marks) (c .lent .flags) (c .lentOrder)
 value-stays {t} c n l =
     let wf = accepted-formed t (view (sss c) .handed .accepted) in
-    let e : length (sssLeaves t) ≤ n = omega (arith, had-enough c) in
-    let r : sssRun n t ≡ sssRun (c .allowance) t = enough t wf n e ∙ sym (enough t wf (c .allowance) (had-enough c)) in
-    c .outcome ∙ sym (rw r refl)
+    let q = searchRejection t (stateLengths (c .lentList) (c .lent) (c .lentOrder)) in
+    c .outcome
+    ∙ ap (λ xs. sssBy (c .allowance) t (c .lentList) (c .lent) (c .lentOrder) xs q) (all-covered c)
+    ∙ sym (ap (λ xs. sssBy n t (c .lentList) (c .lent) (c .lentOrder) xs q)
+    (enough t wf n (omega (arith, had-enough c))))
 
 -- "Spent carries no move and the counts so far" (`cut-short`): the leaves are as many as are allowed, and as the marks
 -- at 1; the replacements are no more than those of the full run
@@ -217,24 +223,19 @@ pub spent-counts : {t : List ℕ} {s : Spent} (c : SssCall t (sss-answer.Spent s
 spent-counts {t} c =
     let v = spent-view c in
     let wf = spent-formed c in
-    let h = tree-proper t wf .scored in
     let n = c .allowance in
     let k = ap (λ x. x .leaves) (v .gives) in
-    let r = within.within-replacements (valuation t) (tree t) h (layoutOf (tree t)) (own t wf) n .0 in (
-      k ∙ within.within-count (valuation t) (tree t) h (layoutOf (tree t)) (own t wf) n (v .score) (v .end),
-      k ∙ sym (ap (λ x. ones x (frames t)) (v .marks) ∙ ones-within t wf n (c .lent .marks)),
-      rw (ap (λ x. x .replacements) (v .gives)) r,
+    let r = within.within-replacements (valuation t) (tree t) (tree-proper t wf .scored) (layoutOf (tree t)) (own t wf)
+    n .0 in (
+      k,
+      k ∙ sym (ap (λ x. ones x (frames t)) (v .marks) ∙ ones-within t wf n (c .lent .marks) ∙ first-count c),
+      rw (ap (λ x. x .replacements) (v .gives)) (rw (spent-run c) at r),
     )
 
 -- "it writes the marks so far": those of the first leaves of the full run, as many as are allowed
 pub first-marks : {t : List ℕ} {s : Spent} (c : SssCall t (sss-answer.Spent s))
     → c .left .marks ≡ marksOf (take (c .allowance) (sssLeaves t)) t (c .lent .marks)
-first-marks {t} c =
-    let wf = spent-formed c in
-    let n = c .allowance in
-    spent-view c .marks
-    ∙ ap (λ w. marksOf w t (c .lent .marks))
-    (within.within-leaves (valuation t) (tree t) (tree-proper t wf .scored) (layoutOf (tree t)) (own t wf) n)
+first-marks c = spent-view c .marks
 
 -- so each marked 1 is one that Baudet's condition reaches, and that alpha-beta evaluates
 pub spent-reached : {t : List ℕ} {s : Spent} (c : SssCall t (sss-answer.Spent s)) (k : ℕ) → Marked t (c .left) k
@@ -259,24 +260,32 @@ pub flags-kept : {t : List ℕ} {s : Spent} (c : SssCall t (sss-answer.Spent s))
 flags-kept c = spent-view c .flags
 
 -- "trees that agree on valued leaves also agree on spent answers under one allowance": the answer is the same, and so
--- are the marks
+-- are the marks and the list of leaves
 pub local-spent : {t u : List ℕ} {s : Spent} {x : SssAnswer} (c : SssCall t (sss-answer.Spent s)) (d : SssCall u x)
-    → d .allowance ≡ c .allowance → Accepted u → Room u (d .lent) → frames u ≤ length (d .lentList) → SameShape t u
-    → AgreeOnMarked t u (c .left)
+    → d .allowance ≡ c .allowance → Accepted u → Room u (d .lent) → frames u ≤ length (d .lentOrder)
+    → frames u ≤ length (d .lentList) → SameShape t u → AgreeOnMarked t u (c .left)
     → (x ≡ sss-answer.Spent s) × (take (frames t) (d .left .marks) ≡ take (frames t) (c .left .marks))
-local-spent {t} {u} c d q a r n h g =
+    × (take (s .leaves) (d .leftOrder) ≡ take (s .leaves) (c .leftOrder))
+local-spent {t} {u} {s} c d q a r k n h g =
     let v = spent-view c in
-    let w = sssRun (c .allowance) t .evaluated in
-    let e : sssRun (d .allowance) u ≡ sssRun (c .allowance) t = ap (λ n. sssRun n u) q ∙ sym (spent-local c u a h g) in
-    let o = ap (λ y. y .search) (d .outcome
-    ∙ passed-outcome (d .allowance) u (d .lentList) (d .lent .marks) (d .lent .flags) (accepted-formed u a)
-    (rooms-passed u (d .lent) a r (length (d .lentList)) n))
-    ∙ ap (λ z. runOutcome z u (d .lent .marks) (d .lent .flags) none) e
-    ∙ spent-outcome (sssRun (c .allowance) t) (v .score) (v .end) u (d .lent .marks) (d .lent .flags) in (
-      ap (λ y. y .answer) o ∙ ap sss-answer.Spent (sym (v .gives)),
-      ap₂ (λ k y. take k (y .evaluated)) (h .sameFrames) o
+    let w = firstLeaves t (c .allowance) in
+    let passed = rooms-passed u (d .lent) (d .lentOrder) a r k (d .lentList) n in
+    let run = ap (λ n. sssWithin n (valuation u) (tree u)) q ∙ sym (spent-local c u a h g) ∙ spent-run c in
+    let o = ap (λ y. listedOf (y .search .answer) (record {
+      marks = y .search .evaluated;
+      flags = y .search .certificate;
+    }) (y .order)) (d .outcome)
+    ∙ ap (withinOutcome (d .allowance) u (d .lent .marks) (d .lent .flags) (d .lentOrder)) passed
+    ∙ outcome-spent u (accepted-formed u a) (d .allowance) (d .lent .marks) (d .lent .flags) (d .lentOrder)
+    (v .next .merit) (v .next .replacements) w run in
+    let l : s .leaves ≡ length w = ap (λ y. y .leaves) (v .gives) ∙ sym (first-count c) in
+    let same = ap (λ m. sssSpent m (v .next)) (first-count c) in (
+      ap (λ y. y .search .answer) o ∙ ap sss-answer.Spent (same ∙ sym (v .gives)),
+      ap₂ (λ k y. take k (y .search .evaluated)) (h .sameFrames) o
           ∙ take-written (mark (among w)) (frames u) (d .lent .marks)
           ∙ ap (tabulate (mark (among w))) (sym (h .sameFrames))
           ∙ sym (take-written (mark (among w)) (frames t) (c .lent .marks))
           ∙ ap (take (frames t)) (sym (v .marks)),
+      ap₂ (λ k y. take k (y .order)) l o ∙ take-append-seam w _
+          ∙ sym (ap₂ take l (v .order) ∙ take-append-seam w _),
     )

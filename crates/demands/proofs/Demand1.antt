@@ -6,7 +6,7 @@ use mathlib.Core.Path.{_≡_, refl, sym, ap, _∙_}
 use mathlib.Core.Logic.{_⊎_}
 use mathlib.Core.Bool.{true, false}
 use mathlib.Core.Option.{Option, none, some}
-use mathlib.Core.List.{List, [], _∷_}
+use mathlib.Core.List.{List, []}
 use lib.Dec.{leb}
 use lib.ListN.{length, getD, replicate, length-replicate}
 use Rattle.lists.proofs.Choice.{clash}
@@ -21,7 +21,7 @@ use Rattle.frames.specs.Check.{check1, checkNode, nodesRejection, depthsRejecti
 use Rattle.frames.specs.FirstNo.{LowestNo, LowestDeep, framesBefore9, rejectionBefore9}
 use Rattle.frames.proofs.Asked.{answer-rejected}
 use Rattle.frames.proofs.Stated.{both-passed, passed-then}
-use Rattle.frames.proofs.Acceptance.{accepted-formed, rejected-first}
+use Rattle.frames.proofs.Acceptance.{rejected-first}
 use Rattle.frames.proofs.FirstNo.{then-first, lowest-no, nodes-first, depth-first}
 use Rattle.frames.proofs.FirstNo.{deeper-frames, deeper-rejected}
 use Rattle.lines.specs.Line.{isLine}
@@ -35,37 +35,41 @@ use Rattle.treefile.proofs.Saving.{write-keeps}
 use Rattle.verify.specs.Flags.{ruleHolds}
 use Rattle.verify.specs.declared.Verdict.the-variants.{Rejected as RejectedFlags}
 use Rattle.verify.specs.Check.{check11, check12, check13, certificateRejection, judged, verdict}
-use Rattle.certificate.specs.Search.{searchRejection}
-use Rattle.frames.specs.Check.{check10}
+use Rattle.certificate.specs.Search.{searchRejection, orderAfter}
+use Rattle.alphabeta.specs.Outcome.{reachedLeaves}
+use Rattle.mtd.specs.Outcome.{mtdLeaves}
 use Rattle.alphabeta.specs.declared.Answer.the-variants as ab-answer
 use Rattle.mtd.specs.declared.Answer.the-variants as mtd-answer
 use Rattle.states.specs.declared.State.{State}
 use Rattle.sss.specs.declared.Answer.{Answer as SssAnswer}
 use Rattle.sss.specs.declared.Answer.the-variants as sss-answer
 use Rattle.states.specs.Entry.{blank}
-use Rattle.sss.specs.Outcome.{sssRejection, listAfter, sssOutcome}
-use Rattle.sss.proofs.Whole.{states-found}
+use Rattle.sss.specs.Outcome.{listAfter, sssOutcome}
 use Rattle.sss.proofs.OwnList.{own-list as same-outcome}
-use Rattle.demands.specs.Calls.{lengths, AlphaBetaCall, MtdCall, SssCall, SolveCall}
-use Rattle.demands.proofs.Views.{alphaBeta-refusal, mtd-refusal, sss-refusal}
+use Rattle.demands.specs.Calls.{listLengths, stateLengths, AlphaBetaCall, MtdCall, SssCall, SolveCall}
+use Rattle.demands.proofs.Views.{alphaBeta-refusal, mtd-refusal, sss-refusal, sss-order-kept}
 
--- The call `sss::solve`, which has a list of its own, is a call of SSS* that is lent so long a list, with the same
--- answer and the same buffers: all that is said of SSS* in these files holds of it.
+-- The call `sss::solve`, which has a list of states of its own, is a call of SSS* that is lent so long a list, with the
+-- same answer, the same buffers and the same list of leaves: all that is said of SSS* in these files holds of it.
 pub own-list : {t : List ℕ} {a : SssAnswer} (c : SolveCall t a) (l : List State) → maxNodes ≤ length l
     → (d : SssCall t a) × (d .allowance ≡ c .allowance) × (d .lent ≡ c .lent) × (d .left ≡ c .left)
-    × (d .lentList ≡ l)
+    × (d .lentOrder ≡ c .lentOrder) × (d .leftOrder ≡ c .leftOrder) × (d .lentList ≡ l)
 own-list {t} c l n =
-    let o = sssOutcome (c .allowance) t l (c .lent .marks) (c .lent .flags) in (
+    let o = sssOutcome (c .allowance) t l (c .lent .marks) (c .lent .flags) (c .lentOrder) in (
       record {
         allowance = c .allowance;
         lent = c .lent;
         left = c .left;
+        lentOrder = c .lentOrder;
+        leftOrder = c .leftOrder;
         lentList = l;
         leftList = o .list;
         outcome =
-            ap (λ x. record { list = o .list; search = x })
-            (c .outcome ∙ sym (same-outcome (c .allowance) t l (c .lent .marks) (c .lent .flags) n));
+            ap (λ x. record { list = o .list; order = x .order; search = x .search })
+            (c .outcome ∙ sym (same-outcome (c .allowance) t l (c .lent .marks) (c .lent .flags) (c .lentOrder) n));
       },
+      refl,
+      refl,
       refl,
       refl,
       refl,
@@ -76,14 +80,16 @@ own-list {t} c l n =
 -- call puts
 
 module _ {t : List ℕ} {r : Rejection} where
-  pub first-alphaBeta : (c : AlphaBetaCall t (ab-answer.Rejected r)) → searchRejection t (lengths (c .lent)) ≡ some r
+  pub first-alphaBeta : (c : AlphaBetaCall t (ab-answer.Rejected r))
+      → searchRejection t (listLengths (c .lent) (c .lentOrder)) ≡ some r
   first-alphaBeta c = alphaBeta-refusal c .first
 
-  pub first-mtd : (c : MtdCall t (mtd-answer.Rejected r)) → searchRejection t (lengths (c .lent)) ≡ some r
+  pub first-mtd : (c : MtdCall t (mtd-answer.Rejected r))
+      → searchRejection t (listLengths (c .lent) (c .lentOrder)) ≡ some r
   first-mtd c = mtd-refusal c .first
 
   pub first-sss : (c : SssCall t (sss-answer.Rejected r))
-      → sssRejection (c .allowance) t (length (c .lentList) ∷ lengths (c .lent)) ≡ some r
+      → searchRejection t (stateLengths (c .lentList) (c .lent) (c .lentOrder)) ≡ some r
   first-sss c = sss-refusal c .first
 
 pub first-file : (f table : List ℕ) (r : Rejection) → readAnswer f table ≡ RejectedTable r
@@ -126,8 +132,8 @@ lowest-node t r e = nodes-first t r e
 pub lowest-deep : (t : List ℕ) (r : Rejection) → depthsRejection t ≡ some r → LowestDeep t r
 lowest-deep t r e = depth-first t r e
 
--- 02, N2: "Deeper trees are answered with 9": a table by the check, by every search (SSS*: with `never-15`), by the
--- check of certificates and by the writer
+-- 02, N2: "Deeper trees are answered with 9": a table by the check, by every search, by the check of certificates and
+-- by the writer
 pub deeper-answered : (t : List ℕ) → rejectionBefore9 t ≡ none → (k : ℕ) → k < frames t → maxDepth < depthOf t k
     → (r : Rejection) × LowestDeep t r × (checked t ≡ RejectedTable r)
     × ((lengths : List ℕ) → searchRejection t lengths ≡ some r)
@@ -169,39 +175,39 @@ pub lowest-min : (t flags : List ℕ) (r : Rejection) → check13 t flags ≡ so
     → LowestNo (ruleHolds Min t flags) 13 (frames t) r
 lowest-min t flags r e = lowest-no _ 13 (frames t) r e
 
--- question 15 never gets a "no", whatever the bytes and the allowance: the questions of SSS* are those of every search
-pub never-15 : (a : ℕ) (t lengths : List ℕ) → sssRejection a t lengths ≡ searchRejection t lengths
-never-15 a t lengths = by-questions (searchRejection t lengths) refl
-  where
-    by-questions : (q : Option Rejection) → searchRejection t lengths ≡ q
-        → sssRejection a t lengths ≡ searchRejection t lengths
-    by-questions none p =
-        let ok = both-passed (rejection t) (check10 (frames t) lengths) p .0 in
-        rw (p, states-found t (accepted-formed t ok) a)
-    by-questions (some x) p = rw p
-
 -- "After a refusal all lent memory holds what it held before": the buffers of each search (those of the plain engine:
--- `kept-plain` in Plain.antt), the list of SSS*, the table of the reader, the buffer of the writer (that of the
--- converter: `still-refused` in Capitals.antt; of a graft: `kept-result` in Grafting.antt; the table that is filled:
--- `kept-table` in WorstCase.antt); the other entries are lent nothing that they could change
+-- `kept-plain` in Plain.antt) and its list of leaves, the list of states of SSS*, the table of the reader, the buffer
+-- of the writer (that of the converter: `still-refused` in Capitals.antt; of a graft: `kept-result` in Grafting.antt;
+-- the table that is filled: `kept-table` in WorstCase.antt); the other entries are lent nothing that they could change
 
 module _ {t : List ℕ} {r : Rejection} where
-  pub kept-alphaBeta : (c : AlphaBetaCall t (ab-answer.Rejected r)) → c .left ≡ c .lent
-  kept-alphaBeta c = alphaBeta-refusal c .kept
+  pub kept-alphaBeta : (c : AlphaBetaCall t (ab-answer.Rejected r))
+      → (c .left ≡ c .lent) × (c .leftOrder ≡ c .lentOrder)
+  kept-alphaBeta c = (
+    alphaBeta-refusal c .kept,
+    ap (λ x. x .order) (c .outcome)
+        ∙ ap (λ q. orderAfter q (reachedLeaves t) (c .lentOrder)) (alphaBeta-refusal c .first),
+  )
 
-  pub kept-mtd : (c : MtdCall t (mtd-answer.Rejected r)) → c .left ≡ c .lent
-  kept-mtd c = mtd-refusal c .kept
+  pub kept-mtd : (c : MtdCall t (mtd-answer.Rejected r)) → (c .left ≡ c .lent) × (c .leftOrder ≡ c .lentOrder)
+  kept-mtd c = (
+    mtd-refusal c .kept,
+    ap (λ x. x .order) (c .outcome) ∙ ap (λ q. orderAfter q (mtdLeaves t) (c .lentOrder)) (mtd-refusal c .first),
+  )
 
-  pub kept-sss : (c : SssCall t (sss-answer.Rejected r)) → (c .left ≡ c .lent) × (c .leftList ≡ c .lentList)
+  pub kept-sss : (c : SssCall t (sss-answer.Rejected r))
+      → (c .left ≡ c .lent) × (c .leftOrder ≡ c .lentOrder) × (c .leftList ≡ c .lentList)
   kept-sss c = (
     sss-refusal c .kept,
+    sss-order-kept c,
     ap (λ x. x .list) (c .outcome) ∙ ap (λ q. listAfter q (frames t) (c .lentList)) (sss-refusal c .first),
   )
 
-  pub kept-solve : (c : SolveCall t (sss-answer.Rejected r)) → c .left ≡ c .lent
+  pub kept-solve : (c : SolveCall t (sss-answer.Rejected r)) → (c .left ≡ c .lent) × (c .leftOrder ≡ c .lentOrder)
   kept-solve c =
       let d = own-list c (replicate maxNodes blank) (omega (arith, length-replicate {A = State} maxNodes blank)) in
-      sym (d .3) ∙ sss-refusal (d .0) .kept ∙ d .2
+      let k = kept-sss (d .0) in
+      (sym (d .3) ∙ k .0 ∙ d .2, sym (d .5) ∙ k .1 ∙ d .4)
 
 pub kept-table : (f table : List ℕ) (r : Rejection) → readAnswer f table ≡ RejectedTable r → tableAfter f table ≡ table
 kept-table f table r e = ap (λ q. filled q (decoded f) table) (first-file f table r e)

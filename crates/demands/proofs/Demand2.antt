@@ -1,10 +1,9 @@
 -- Demand 2, sentence by sentence, over the calls of Calls.antt: `Call t` is a call of any of the three searches with
 -- the table t that gives a result.
 use Prim.Native.Nat.{ℕ, _≤_, _<_}
-use mathlib.Core.Path.{_≡_, refl, sym, ap, _∙_}
+use mathlib.Core.Path.{_≡_, refl, sym, ap, ap₂, _∙_}
 use mathlib.Core.Logic.{_↔_}
-use mathlib.Core.Option.{none}
-use mathlib.Core.List.{List, _++_}
+use mathlib.Core.List.{List, [], _++_}
 use lib.IntN.{ℤ}
 use lib.ListN.{length, getD, drop, replicate}
 use Rattle.lists.specs.Lists.{among}
@@ -18,8 +17,7 @@ use Rattle.frames.proofs.Acceptance.{accepted-formed}
 use Rattle.frames.proofs.TreeOfTable.{score-worth}
 use Rattle.bounds.specs.Marks.{mark}
 use Rattle.frames.specs.Value.{valueOf, signed, worth}
-use Rattle.certificate.specs.Search.{marksOf, flagsOf, findings}
-use Rattle.certificate.proofs.Questions.{room-passed}
+use Rattle.certificate.specs.Search.{marksOf, flagsOf, findings, listed}
 use Rattle.frames.proofs.Values.{value-stored}
 use Rattle.verify.specs.declared.Verdict.the-variants.{Value}
 use Rattle.verify.specs.Check.{verdict}
@@ -32,13 +30,12 @@ use Rattle.mtd.specs.Outcome.{mtdLeaves, mtdFound}
 use Rattle.states.specs.declared.State.{State}
 use Rattle.sss.specs.declared.Answer.the-variants as sss-answer
 use Rattle.states.specs.Entry.{blank}
-use Rattle.sss.specs.Outcome.{sssRun, sssLeaves, sssFound}
-use Rattle.sss.proofs.Whole.{passed-outcome}
-use Rattle.sss.proofs.Allowed.{leaves-few, enough as run-enough, full-outcome}
-use Rattle.demands.specs.Calls.{Buffers, AlphaBetaCall, MtdCall, SssCall, SolveCall}
-use Rattle.demands.specs.Calls.{Call, found, lent, left, leaves}
+use Rattle.sss.specs.Outcome.{sssLeaves, sssFound, sssUncovered, outcomeBy}
+use Rattle.sss.proofs.Allowed.{leaves-few, enough as covered}
+use Rattle.demands.specs.Calls.{Buffers, AlphaBetaCall, MtdCall, SssCall, SolveCall, Call, found, lent, left}
+use Rattle.demands.specs.Calls.{leaves}
 use Rattle.demands.specs.Handed.{Room, CertifiedBy}
-use Rattle.demands.proofs.Views.{rooms-passed, view}
+use Rattle.demands.proofs.Views.{sssBy, list-passed, rooms-passed, view}
 use Rattle.demands.proofs.Handed.{marks-at, flags-certify, flags-verified}
 
 -- "Alpha-beta, MTD and SSS*, each valuing the leaves that its rule names and no others": the leaves of its rule are
@@ -49,66 +46,81 @@ marks-rule c = marks-at (view c .handed)
 
 -- "give for every accepted tree": with an accepted table and room in what is lent, each search gives a result
 module _ (t : List ℕ) (a : Accepted t) (b : Buffers) (h : Room t b) where
-  pub alphaBeta-gives : (c : AlphaBetaCall t (ab-answer.Found (findings (reachedLeaves t) t))) × (c .lent ≡ b)
-  alphaBeta-gives = (
-    record {
-      lent = b;
-      left = record { marks = marksOf (reachedLeaves t) t (b .marks); flags = flagsOf (reachedLeaves t) t (b .flags) };
-      outcome = rw (room-passed t (length (b .marks)) (length (b .flags)) a (h .marks) (h .flags));
-    },
-    refl,
-  )
-
-  pub mtd-gives : (c : MtdCall t (mtd-answer.Found (mtdFound t))) × (c .lent ≡ b)
-  mtd-gives = (
-    record {
-      lent = b;
-      left = record { marks = marksOf (mtdLeaves t) t (b .marks); flags = flagsOf (mtdLeaves t) t (b .flags) };
-      outcome = rw (room-passed t (length (b .marks)) (length (b .flags)) a (h .marks) (h .flags));
-    },
-    refl,
-  )
-
-  -- SSS* under every allowance that is enough: as many leaves as its full run evaluates (no more than nodes: `few`)
-  module _ (n : ℕ) (enough : length (sssLeaves t) ≤ n) where
-    abbrev found-leaves : Buffers
-    found-leaves =
-        record { marks = marksOf (sssLeaves t) t (b .marks); flags = flagsOf (sssLeaves t) t (b .flags) }
-
-    pub solve-gives : (c : SolveCall t (sss-answer.Found (sssFound t))) × (c .allowance ≡ n) × (c .lent ≡ b)
-    solve-gives = (
+  -- the list of leaves has an entry per node
+  module _ (o : List ℕ) (long : frames t ≤ length o) where
+    pub alphaBeta-gives : (c : AlphaBetaCall t (ab-answer.Found (findings (reachedLeaves t) t))) × (c .lent ≡ b)
+        × (c .lentOrder ≡ o)
+    alphaBeta-gives = (
       record {
-        allowance = n;
         lent = b;
-        left = found-leaves;
-        outcome =
-            sym (full-outcome t (accepted-formed t a) (b .marks) (b .flags) _ (sssRun n t)
-            (run-enough t (accepted-formed t a) n enough)
-            ∙ rw (room-passed t (length (b .marks)) (length (b .flags)) a (h .marks) (h .flags)) refl);
+        left =
+            record { marks = marksOf (reachedLeaves t) t (b .marks); flags = flagsOf (reachedLeaves t) t (b .flags) };
+        lentOrder = o;
+        leftOrder = listed (reachedLeaves t) o;
+        outcome = rw (list-passed t b o a h long);
       },
       refl,
       refl,
     )
 
-    pub sss-gives : (l : List State) → frames t ≤ length l
-        → (c : SssCall t (sss-answer.Found (sssFound t))) × (c .allowance ≡ n) × (c .lent ≡ b) × (c .lentList ≡ l)
-    sss-gives l m = (
+    pub mtd-gives : (c : MtdCall t (mtd-answer.Found (mtdFound t))) × (c .lent ≡ b) × (c .lentOrder ≡ o)
+    mtd-gives = (
       record {
-        allowance = n;
         lent = b;
-        left = found-leaves;
-        lentList = l;
-        leftList = replicate (frames t) blank ++ drop (frames t) l;
-        outcome =
-            sym (passed-outcome n t l (b .marks) (b .flags) (accepted-formed t a) (rooms-passed t b a h (length l) m)
-            ∙ ap (λ x. record { list = replicate (frames t) blank ++ drop (frames t) l; search = x })
-            (full-outcome t (accepted-formed t a) (b .marks) (b .flags) none (sssRun n t)
-            (run-enough t (accepted-formed t a) n enough)));
+        left = record { marks = marksOf (mtdLeaves t) t (b .marks); flags = flagsOf (mtdLeaves t) t (b .flags) };
+        lentOrder = o;
+        leftOrder = listed (mtdLeaves t) o;
+        outcome = rw (list-passed t b o a h long);
       },
       refl,
       refl,
-      refl,
     )
+
+    -- SSS* under every allowance that is enough: as many leaves as its full run evaluates (no more than nodes: `few`)
+    module _ (n : ℕ) (enough : length (sssLeaves t) ≤ n) where
+      abbrev found-leaves : Buffers
+      found-leaves =
+          record { marks = marksOf (sssLeaves t) t (b .marks); flags = flagsOf (sssLeaves t) t (b .flags) }
+
+      none-left : sssUncovered n t ≡ []
+      none-left = covered t (accepted-formed t a) n enough
+
+      pub solve-gives : (c : SolveCall t (sss-answer.Found (sssFound t))) × (c .allowance ≡ n) × (c .lent ≡ b)
+          × (c .lentOrder ≡ o)
+      solve-gives = (
+        record {
+          allowance = n;
+          lent = b;
+          left = found-leaves;
+          lentOrder = o;
+          leftOrder = listed (sssLeaves t) o;
+          outcome =
+              sym (ap₂ (λ xs q. outcomeBy xs n t (b .marks) (b .flags) o q) none-left (list-passed t b o a h long));
+        },
+        refl,
+        refl,
+        refl,
+      )
+
+      pub sss-gives : (l : List State) → frames t ≤ length l
+          → (c : SssCall t (sss-answer.Found (sssFound t))) × (c .allowance ≡ n) × (c .lent ≡ b) × (c .lentOrder ≡ o)
+          × (c .lentList ≡ l)
+      sss-gives l m = (
+        record {
+          allowance = n;
+          lent = b;
+          left = found-leaves;
+          lentOrder = o;
+          leftOrder = listed (sssLeaves t) o;
+          lentList = l;
+          leftList = replicate (frames t) blank ++ drop (frames t) l;
+          outcome = sym (ap₂ (sssBy n t l b o) none-left (rooms-passed t b o a h long l m));
+        },
+        refl,
+        refl,
+        refl,
+        refl,
+      )
 
   -- it evaluates no more leaves than there are nodes
   pub few : length (sssLeaves t) ≤ frames t

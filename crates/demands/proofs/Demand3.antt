@@ -4,7 +4,7 @@ use Prim.Native.Nat.{ℕ, suc, _*_, _≤_, _<_}
 use mathlib.Core.Path.{_≡_, sym, ap, ap₂, _∙_, subst}
 use mathlib.Core.Bool.{Bool, true, cond}
 use mathlib.Core.List.{List, _++_, map}
-use lib.ListN.{length, drop, replicate}
+use lib.ListN.{length, take, drop, replicate}
 use Rattle.lists.specs.Lists.{All, Once, Subsequence, among, different}
 use Rattle.gametree.specs.Tree.{leaves as treeLeaves}
 use Rattle.gametree.specs.AlphaBeta.{fullWindow}
@@ -39,7 +39,7 @@ use Rattle.demands.specs.Calls.{Call, alphaBeta, mtd, sss, found, left, 
 use Rattle.demands.specs.Handed.{Marked, AgreeOnMarked, Alike}
 use Rattle.demands.proofs.Views.{view, mtd-result, sss-result}
 use Rattle.demands.proofs.Handed.{formed, proper, marks-at, marks-count, marks-reached, count-most}
-use Rattle.demands.proofs.Local.{one-tree, agreed-scores, same-findings, same-found, same-left}
+use Rattle.demands.proofs.Local.{one-tree, agreed-scores, same-findings, same-found, same-left, same-order}
 
 -- What any of the three searches marks, Baudet's condition reaches, and a call of alpha-beta with that table marks.
 
@@ -96,11 +96,12 @@ smallest-pair t a = smallest-exists (valuation t) (tree t) (tree-proper t (accep
 
 -- "For each of the three searches, whatever the leaves it passed over hold: two accepted trees of one shape that agree
 -- on the leaves it valued in one of them get results from it that are alike in value, move and every count, with the
--- same valued leaves and the same solution trees"
+-- same valued leaves and the same solution trees"; and the same lists of leaves (N14)
 
 pub local-alphaBeta : {t u : List ℕ} {f g : Findings} (c : AlphaBetaCall t (ab-answer.Found f))
     (d : AlphaBetaCall u (ab-answer.Found g)) → SameShape t u → AgreeOnMarked t u (c .left)
     → (f ≡ g) × Alike (frames t) (c .left) (d .left)
+    × (take (f .leaves) (c .leftOrder) ≡ take (g .leaves) (d .leftOrder))
 local-alphaBeta {t} {u} c d h a =
     let x = alphaBeta c in
     let y = alphaBeta d in
@@ -112,11 +113,12 @@ local-alphaBeta {t} {u} c d h a =
     ∙ ap (λ r. r .evaluated) (theory.local-alphaBeta (valuation t) (valuation u) (tree t) scores)
     ∙ ap (λ v. fullWindow (valuation u) v .evaluated) (one-tree x y h a)
     ∙ leaves-are u in
-    (same-found x y h a e, same-left x y h a e)
+    (same-found x y h a e, same-left x y h a e, same-order x y h a e)
 
 pub local-mtd : {t u : List ℕ} {f g : MtdFound} (c : MtdCall t (mtd-answer.Found f))
     (d : MtdCall u (mtd-answer.Found g)) → SameShape t u → AgreeOnMarked t u (c .left)
     → (f ≡ g) × Alike (frames t) (c .left) (d .left)
+    × (take (f .findings .leaves) (c .leftOrder) ≡ take (g .findings .leaves) (d .leftOrder))
 local-mtd {t} {u} c d h a =
     let x = mtd c in
     let y = mtd d in
@@ -128,11 +130,13 @@ local-mtd {t} {u} c d h a =
           ∙ ap₂ (λ f p. record { findings = f; passes = p }) (same-findings x y h a e) n
           ∙ sym (mtd-result d .found),
       same-left x y h a e,
+      same-order x y h a e,
     )
 
 pub local-sss : {t u : List ℕ} {f g : SssFound} (c : SssCall t (sss-answer.Found f))
     (d : SssCall u (sss-answer.Found g)) → SameShape t u → AgreeOnMarked t u (c .left)
     → (f ≡ g) × Alike (frames t) (c .left) (d .left)
+    × (take (f .findings .leaves) (c .leftOrder) ≡ take (g .findings .leaves) (d .leftOrder))
 local-sss {t} {u} c d h a =
     let x = sss c in
     let y = sss d in
@@ -145,6 +149,7 @@ local-sss {t} {u} c d h a =
           ∙ ap₂ (λ f m. record { findings = f; replacements = m }) (same-findings x y h a e) n
           ∙ sym (sss-result d .found),
       same-left x y h a e,
+      same-order x y h a e,
     )
 
 -- BESIDES (SPEC 7 TO 10)

@@ -1,11 +1,11 @@
 -- Two calls with tables of one shape that agree on the leaves marked 1 in the first: if the same leaves are evaluated
--- in both, they find the same and leave the same marks and flags.
+-- in both, they find the same and leave the same marks, flags and lists of leaves.
 use Prim.Native.Nat.{ℕ}
 use mathlib.Core.Path.{_≡_, sym, ap, ap₂, _∙_, subst}
 use mathlib.Core.Bool.{cond}
 use mathlib.Core.List.{List}
 use lib.ListN.{length, take, drop}
-use lib.Seq.{take-at}
+use lib.Seq.{take-at, take-append-seam}
 use Rattle.lists.specs.Lists.{All, among}
 use Rattle.gametree.specs.Tree.{minimax, Proper}
 use Rattle.gametree.specs.Certificate.{flag}
@@ -22,7 +22,7 @@ use Rattle.places.specs.Buffer.{tabulate, written}
 use Rattle.certificate.specs.Search.{findings}
 use Rattle.places.proofs.Buffers.{length-tabulate, tabulate-same}
 use Rattle.certificate.proofs.Marks.{evaluated-within}
-use Rattle.demands.specs.Calls.{Call, found, lent, left, leaves}
+use Rattle.demands.specs.Calls.{Call, found, lent, left, leftOrder, leaves}
 use Rattle.demands.specs.Handed.{AgreeOnMarked, Alike}
 use Rattle.demands.proofs.Views.{view}
 use Rattle.demands.proofs.Handed.{formed, proper, marks-at}
@@ -31,6 +31,11 @@ use Rattle.demands.proofs.Handed.{formed, proper, marks-at}
 pub take-written : (f : ℕ → ℕ) (n : ℕ) (b : List ℕ) → take n (written f n b) ≡ tabulate f n
 unfolding written
 take-written f n b = take-at (tabulate f n) (drop n b) n (length-tabulate f n)
+
+-- the list of leaves that a call leaves begins with its leaves, as many as the count says
+pub first-leaves : {t : List ℕ} (c : Call t) → take (found c .leaves) (leftOrder c) ≡ leaves c
+first-leaves c =
+    ap₂ take (ap (λ f. f .leaves) (view c .results)) (view c .order) ∙ take-append-seam (leaves c) _
 
 module _ {t u : List ℕ} (c : Call t) (d : Call u) (h : SameShape t u) (a : AgreeOnMarked t u (left c)) where
   -- the trees are one, and the scores agree on the evaluated leaves
@@ -58,6 +63,10 @@ module _ {t u : List ℕ} (c : Call t) (d : Call u) (h : SameShape t u) (a : Agr
         agreed .sameMove ∙ ap (rootMove (valuation u)) one-tree in
         let n = ap length e in
         cc
+
+    -- the lists of leaves begin with the same leaves, as many as the counts say
+    pub same-order : take (found c .leaves) (leftOrder c) ≡ take (found d .leaves) (leftOrder d)
+    same-order = first-leaves c ∙ e ∙ sym (first-leaves d)
 
     pub same-found : found c ≡ found d
     same-found = view c .results ∙ same-findings ∙ sym (view d .results)

@@ -51,7 +51,7 @@ plain-gives t a b h = (
   record {
     lent = b;
     left = record { marks = marksOf (allLeaves t) t (b .marks); flags = flagsOf (allLeaves t) t (b .flags) };
-    outcome = rw (room-passed t (length (b .marks)) (length (b .flags)) a (h .marks) (h .flags));
+    outcome = rw (room-passed t (lengths b) a (h .marks, (h .flags, tt)));
   },
   refl,
 )

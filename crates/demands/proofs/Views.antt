@@ -1,38 +1,36 @@
 -- What is common to the calls that give a result, from their contracts.
 use Prim.Native.Nat.{ℕ, _≤_}
 use mathlib.Core.Path.{_≡_, sym, ap, _∙_}
-use mathlib.Core.Option.{none}
-use mathlib.Core.List.{List, _∷_}
+use mathlib.Core.Option.{Option, none, some}
+use mathlib.Core.List.{List, []}
 use lib.ListN.{length}
-use borrow.Author.Tests.{le-leb}
 use Rattle.lists.proofs.Choice.{clash}
+use Rattle.gametree.specs.Allowance.{Evaluation}
 use Rattle.gametree.proofs.Searches.{Searched, byMtd, Deciding}
 use Rattle.gametree.proofs.Theorems.{search-deciding}
 use Rattle.frames.specs.declared.Rejection.{Rejection}
 use Rattle.frames.specs.Frame.{frames}
 use Rattle.frames.specs.Tree.{tree, valuation}
-use Rattle.frames.specs.Check.{rejection, Accepted}
-use Rattle.frames.proofs.Stated.{both-passed}
+use Rattle.frames.specs.Check.{Accepted}
 use Rattle.frames.proofs.Acceptance.{accepted-formed}
 use Rattle.frames.proofs.Proper.{tree-proper}
 use Rattle.certificate.specs.declared.Findings.{Findings}
-use Rattle.certificate.specs.Search.{searchRejection, marksOf, flagsOf, findings}
-use Rattle.frames.specs.Check.{check10}
-use Rattle.certificate.proofs.Questions.{passed-room}
+use Rattle.certificate.specs.Search.{searchRejection, marksOf, flagsOf, findings, listed, orderAfter, listedOutcome}
+use Rattle.certificate.proofs.Questions.{passed-room, room-passed}
 use Rattle.alphabeta.specs.declared.Answer.the-variants as ab-answer
 use Rattle.alphabeta.specs.Outcome.{reachedLeaves, alphaBetaSearch}
 use Rattle.alphabeta.proofs.Reached as reached
 use Rattle.mtd.specs.declared.Found.{Found as MtdFound}
 use Rattle.mtd.specs.declared.Answer.the-variants as mtd-answer
-use Rattle.mtd.specs.Outcome.{mtdFound, mtdSearch}
+use Rattle.mtd.specs.Outcome.{mtdLeaves, mtdFound, mtdSearch}
+use Rattle.states.specs.declared.State.{State}
 use Rattle.sss.specs.declared.Found.{Found as SssFound}
 use Rattle.sss.specs.declared.Answer.the-variants as sss-answer
-use Rattle.sss.specs.Outcome.{sssRun, spentMerit, check15, sssRejection, sssFound, sssSearch}
-use Rattle.sss.proofs.Whole.{searched}
-use Rattle.sss.proofs.Whole.{passed as passed-rooms}
-use Rattle.sss.proofs.Allowed.{by-rejection, full-found}
-use Rattle.demands.specs.Calls.{Buffers, lengths, AlphaBetaCall, MtdCall, SssCall}
-use Rattle.demands.specs.Calls.{Call, alphaBeta, mtd, sss, found, lent, left, leaves}
+use Rattle.sss.specs.Outcome.{sssLeaves, sssFound, sssSearch, sssUncovered, outcomeBy, listAfter, SssOutcome}
+use Rattle.sss.proofs.Allowed.{searched, by-rejection, by-value}
+use Rattle.demands.specs.Calls.{Buffers, lengths, listLengths, stateLengths, listedOf, AlphaBetaCall, MtdCall}
+use Rattle.demands.specs.Calls.{SssCall, Call, alphaBeta, mtd, sss, found, lent, left, lentOrder, leftOrder}
+use Rattle.demands.specs.Calls.{leaves}
 use Rattle.demands.specs.Handed.{Room}
 use Rattle.demands.proofs.Parts.{Result, Refusal, Apart, result-of, refusal-of}
 
@@ -64,45 +62,96 @@ sss-apart =
 -- what a result of each search says
 module _ {t : List ℕ} where
   pub alphaBeta-result : {f : Findings} (c : AlphaBetaCall t (ab-answer.Found f))
-      → Result (searchRejection t (lengths (c .lent))) (alphaBetaSearch t (c .lent .marks) (c .lent .flags))
-      (findings (reachedLeaves t) t) f (c .left)
-  alphaBeta-result c = result-of ab-apart _ _ _ _ (c .outcome)
+      → Result (searchRejection t (listLengths (c .lent) (c .lentOrder)))
+      (alphaBetaSearch t (c .lent .marks) (c .lent .flags)) (findings (reachedLeaves t) t) f (c .left)
+  alphaBeta-result c = result-of ab-apart _ _ _ _ (ap (λ x. x .search) (c .outcome))
 
   pub mtd-result : {f : MtdFound} (c : MtdCall t (mtd-answer.Found f))
-      → Result (searchRejection t (lengths (c .lent))) (mtdSearch t (c .lent .marks) (c .lent .flags)) (mtdFound t) f
-      (c .left)
-  mtd-result c = result-of mtd-apart _ _ _ _ (c .outcome)
+      → Result (searchRejection t (listLengths (c .lent) (c .lentOrder)))
+      (mtdSearch t (c .lent .marks) (c .lent .flags)) (mtdFound t) f (c .left)
+  mtd-result c = result-of mtd-apart _ _ _ _ (ap (λ x. x .search) (c .outcome))
+
+  -- with findings the allowance of SSS* covers all evaluations, so the outcome is that of the full run
+  pub all-covered : {f : SssFound} (c : SssCall t (sss-answer.Found f)) → sssUncovered (c .allowance) t ≡ []
+  all-covered {f} c =
+      by-value (c .allowance) t (c .lent .marks) (c .lent .flags) (c .lentOrder) (sssUncovered (c .allowance) t)
+      (searchRejection t (stateLengths (c .lentList) (c .lent) (c .lentOrder))) f
+      (sym (ap (λ x. x .search .answer) (c .outcome))) .1
+
+  full-outcome : {f : SssFound} (c : SssCall t (sss-answer.Found f))
+      → listedOf (sss-answer.Found f) (c .left) (c .leftOrder)
+      ≡ listedOutcome sss-answer.Rejected (sss-answer.Found (sssFound t))
+      (sssSearch t (c .lent .marks) (c .lent .flags))
+      (c .lentOrder) (searchRejection t (stateLengths (c .lentList) (c .lent) (c .lentOrder)))
+  full-outcome c =
+      ap (λ x. record { order = x .order; search = x .search }) (c .outcome)
+      ∙ ap (λ xs. outcomeBy xs (c .allowance) t (c .lent .marks) (c .lent .flags) (c .lentOrder)
+      (searchRejection t (stateLengths (c .lentList) (c .lent) (c .lentOrder)))) (all-covered c)
 
   pub sss-result : {f : SssFound} (c : SssCall t (sss-answer.Found f))
-      → Result (sssRejection (c .allowance) t (length (c .lentList) ∷ lengths (c .lent)))
+      → Result (searchRejection t (stateLengths (c .lentList) (c .lent) (c .lentOrder)))
       (sssSearch t (c .lent .marks) (c .lent .flags)) (sssFound t) f (c .left)
-  sss-result c =
-      let o = ap (λ x. x .search) (c .outcome) in
-      result-of sss-apart _ _ _ _ (o ∙ full-found (c .allowance) t (c .lentList) (c .lent .marks) (c .lent .flags) _
-      (sym (ap (λ x. x .answer) o)))
+  sss-result c = result-of sss-apart _ _ _ _ (ap (λ x. x .search) (full-outcome c))
+
+  -- and what each leaves in its list
+  alphaBeta-order : {f : Findings} (c : AlphaBetaCall t (ab-answer.Found f))
+      → c .leftOrder ≡ listed (reachedLeaves t) (c .lentOrder)
+  alphaBeta-order c =
+      ap (λ x. x .order) (c .outcome)
+      ∙ ap (λ q. orderAfter q (reachedLeaves t) (c .lentOrder)) (alphaBeta-result c .passed)
+
+  mtd-order : {f : MtdFound} (c : MtdCall t (mtd-answer.Found f)) → c .leftOrder ≡ listed (mtdLeaves t) (c .lentOrder)
+  mtd-order c =
+      ap (λ x. x .order) (c .outcome) ∙ ap (λ q. orderAfter q (mtdLeaves t) (c .lentOrder)) (mtd-result c .passed)
+
+  sss-order : {f : SssFound} (c : SssCall t (sss-answer.Found f)) → c .leftOrder ≡ listed (sssLeaves t) (c .lentOrder)
+  sss-order c =
+      ap (λ x. x .order) (full-outcome c) ∙ ap (λ q. orderAfter q (sssLeaves t) (c .lentOrder)) (sss-result c .passed)
+
+-- what a call of SSS* with an allowance of n leaves gives and leaves, by the evaluations that are not covered and the
+-- first "no" to its questions
+abbrev pub sssBy : (n : ℕ) (t : List ℕ) → List State → Buffers → (order : List ℕ) → List Evaluation → Option Rejection
+    → SssOutcome
+sssBy n t l b o xs q =
+    record {
+      list = listAfter q (frames t) l;
+      order = outcomeBy xs n t (b .marks) (b .flags) o q .order;
+      search = outcomeBy xs n t (b .marks) (b .flags) o q .search;
+    }
 
 -- and what its refusal says
 module _ {t : List ℕ} {r : Rejection} where
   pub alphaBeta-refusal : (c : AlphaBetaCall t (ab-answer.Rejected r))
-      → Refusal (searchRejection t (lengths (c .lent))) (alphaBetaSearch t (c .lent .marks) (c .lent .flags)) r
-      (c .left)
-  alphaBeta-refusal c = refusal-of ab-apart _ _ _ _ (c .outcome)
+      → Refusal (searchRejection t (listLengths (c .lent) (c .lentOrder)))
+      (alphaBetaSearch t (c .lent .marks) (c .lent .flags)) r (c .left)
+  alphaBeta-refusal c = refusal-of ab-apart _ _ _ _ (ap (λ x. x .search) (c .outcome))
 
   pub mtd-refusal : (c : MtdCall t (mtd-answer.Rejected r))
-      → Refusal (searchRejection t (lengths (c .lent))) (mtdSearch t (c .lent .marks) (c .lent .flags)) r (c .left)
-  mtd-refusal c = refusal-of mtd-apart _ _ _ _ (c .outcome)
+      → Refusal (searchRejection t (listLengths (c .lent) (c .lentOrder)))
+      (mtdSearch t (c .lent .marks) (c .lent .flags)) r (c .left)
+  mtd-refusal c = refusal-of mtd-apart _ _ _ _ (ap (λ x. x .search) (c .outcome))
 
-  pub sss-refusal : (c : SssCall t (sss-answer.Rejected r))
-      → Refusal (sssRejection (c .allowance) t (length (c .lentList) ∷ lengths (c .lent)))
-      (sssSearch t (c .lent .marks) (c .lent .flags)) r (c .left)
-  sss-refusal c =
-      let o = ap (λ x. x .search) (c .outcome) in
-      let p = by-rejection t (c .lent .marks) (c .lent .flags) (sssRun (c .allowance) t)
-      (spentMerit (sssRun (c .allowance) t .end)) _ r (sym (ap (λ x. x .answer) o)) in
-      record {
-        first = p .0;
-        kept = ap (λ x. record { marks = x .evaluated; flags = x .certificate }) (o ∙ p .1);
-      }
+  -- the refusal of SSS*, whatever its allowance
+  module _ (c : SssCall t (sss-answer.Rejected r)) where
+    refused : (searchRejection t (stateLengths (c .lentList) (c .lent) (c .lentOrder)) ≡ some r)
+        × (listedOf (sss-answer.Rejected r) (c .left) (c .leftOrder)
+        ≡ listedOf (sss-answer.Rejected r) (c .lent) (c .lentOrder))
+    refused =
+        let p = by-rejection (c .allowance) t (c .lent .marks) (c .lent .flags) (c .lentOrder)
+        (sssUncovered (c .allowance) t) (searchRejection t (stateLengths (c .lentList) (c .lent) (c .lentOrder))) r
+        (sym (ap (λ x. x .search .answer) (c .outcome))) in
+        (p .0, ap (λ x. record { order = x .order; search = x .search }) (c .outcome) ∙ p .1)
+
+    pub sss-refusal : Refusal (searchRejection t (stateLengths (c .lentList) (c .lent) (c .lentOrder)))
+        (sssSearch t (c .lent .marks) (c .lent .flags)) r (c .left)
+    sss-refusal =
+        record {
+          first = refused .0;
+          kept = ap (λ x. record { marks = x .search .evaluated; flags = x .search .certificate }) (refused .1);
+        }
+
+    pub sss-order-kept : c .leftOrder ≡ c .lentOrder
+    sss-order-kept = ap (λ x. x .order) (refused .1)
 
 -- the leaves w of an accepted table were evaluated: they decide its value and its move, and what was left in the
 -- buffers, which have room, follows from them
@@ -119,28 +168,35 @@ pub record View {t : List ℕ} (c : Call t) : Type 0 where
   pub handed : HandedBack t (leaves c) (lent c) (left c)
   pub searched : Searched (valuation t) (tree t) (leaves c)
   pub results : found c ≡ findings (leaves c) t
+  pub long : frames t ≤ length (lentOrder c)
+  pub order : leftOrder c ≡ listed (leaves c) (lentOrder c)
 
 -- passed questions: an accepted table, and room
 module _ (t : List ℕ) (b : Buffers) where
   pub both-room : searchRejection t (lengths b) ≡ none → Accepted t × Room t b
   both-room e =
-      let p = passed-room t (length (b .marks)) (length (b .flags)) e in
-      (p .0, record { marks = p .1; flags = p .2 })
+      let p = passed-room t (lengths b) e in
+      (p .0, record { marks = p .1 .0; flags = p .1 .1 .0 })
 
-  pub all-room : (n : ℕ) → searchRejection t (n ∷ lengths b) ≡ none → Accepted t × Room t b
-  all-room n e =
-      let p = passed-rooms t n (length (b .marks)) (length (b .flags)) e in
-      (both-passed (rejection t) (check10 (frames t) (n ∷ lengths b)) e .0, record { marks = p .1 .1; flags = p .1 .2 })
+  module _ (o : List ℕ) where
+    pub list-room : searchRejection t (listLengths b o) ≡ none → Accepted t × Room t b × (frames t ≤ length o)
+    list-room e =
+        let p = passed-room t (listLengths b o) e in
+        (p .0, record { marks = p .1 .0; flags = p .1 .1 .0 }, p .1 .1 .1 .0)
 
-  -- and the other way round
-  pub rooms-passed : Accepted t → Room t b → (n : ℕ) → frames t ≤ n → searchRejection t (n ∷ lengths b) ≡ none
-  rooms-passed a h n m =
-      rw (
-        a,
-        le-leb (frames t) n m,
-        le-leb (frames t) (length (b .marks)) (h .marks),
-        le-leb (frames t) (length (b .flags)) (h .flags),
-      )
+    pub all-room : (l : List State) → searchRejection t (stateLengths l b o) ≡ none
+        → Accepted t × Room t b × (frames t ≤ length o)
+    all-room l e =
+        let p = passed-room t (stateLengths l b o) e in
+        (p .0, record { marks = p .1 .1 .0; flags = p .1 .1 .1 .0 }, p .1 .1 .1 .1 .0)
+
+    -- and the other way round
+    module _ (a : Accepted t) (h : Room t b) (long : frames t ≤ length o) where
+      pub list-passed : searchRejection t (listLengths b o) ≡ none
+      list-passed = room-passed t (listLengths b o) a (h .marks, (h .flags, (long, tt)))
+
+      pub rooms-passed : (l : List State) → frames t ≤ length l → searchRejection t (stateLengths l b o) ≡ none
+      rooms-passed l m = room-passed t (stateLengths l b o) a (m, (h .marks, (h .flags, (long, tt))))
 
 -- the leaves of a search of an accepted table decide
 decides : (t : List ℕ) → Accepted t → {w : List ℕ} → Searched (valuation t) (tree t) w
@@ -151,7 +207,7 @@ decides t a s = search-deciding (valuation t) (tree t) (tree-proper t (accepted-
 pub view : {t : List ℕ} (c : Call t) → View c
 view {t} (alphaBeta c) =
     let x = alphaBeta-result c in
-    let p = both-room t (c .lent) (x .passed) in
+    let p = list-room t (c .lent) (c .lentOrder) (x .passed) in
     record {
       handed =
           record {
@@ -163,10 +219,12 @@ view {t} (alphaBeta c) =
           };
       searched = reached.searched t;
       results = x .found;
+      long = p .2;
+      order = alphaBeta-order c;
     }
 view {t} (mtd c) =
     let x = mtd-result c in
-    let p = both-room t (c .lent) (x .passed) in
+    let p = list-room t (c .lent) (c .lentOrder) (x .passed) in
     record {
       handed =
           record {
@@ -178,12 +236,12 @@ view {t} (mtd c) =
           };
       searched = byMtd;
       results = ap (λ f. f .findings) (x .found);
+      long = p .2;
+      order = mtd-order c;
     }
 view {t} (sss c) =
     let x = sss-result c in
-    let n = length (c .lentList) in
-    let p = all-room t (c .lent) n
-    (both-passed (searchRejection t (n ∷ lengths (c .lent))) (check15 (c .allowance) t) (x .passed) .0) in
+    let p = all-room t (c .lent) (c .lentOrder) (c .lentList) (x .passed) in
     let s = searched t (accepted-formed t (p .0)) in
     record {
       handed =
@@ -196,4 +254,6 @@ view {t} (sss c) =
           };
       searched = s;
       results = ap (λ f. f .findings) (x .found);
+      long = p .2;
+      order = sss-order c;
     }

@@ -4,7 +4,7 @@ use mathlib.Core.Path.{_≡_}
 use mathlib.Core.List.{List, [], _∷_}
 use lib.ListN.{length}
 use Rattle.certificate.specs.declared.Findings.{Findings}
-use Rattle.certificate.specs.Search.{Outcome}
+use Rattle.certificate.specs.Search.{Outcome, Listed}
 use Rattle.alphabeta.specs.declared.Answer.{Answer as AlphaBetaAnswer}
 use Rattle.alphabeta.specs.declared.Answer.the-variants as ab-answer
 use Rattle.alphabeta.specs.Outcome.{reachedLeaves, alphaBetaOutcome}
@@ -29,15 +29,29 @@ pub record Buffers : Type 0 where
 abbrev pub lengths : Buffers → List ℕ
 lengths b = length (b .marks) ∷ length (b .flags) ∷ []
 
+-- and with that of a list of leaves
+abbrev pub listLengths : Buffers → (order : List ℕ) → List ℕ
+listLengths b o = length (b .marks) ∷ length (b .flags) ∷ length o ∷ []
+
+-- and with that of a list of states
+abbrev pub stateLengths : List State → Buffers → (order : List ℕ) → List ℕ
+stateLengths l b o = length l ∷ listLengths b o
+
 -- what a contract says of an answer and of the buffers that are left
 abbrev pub outcomeOf : {A : Type 0} → A → Buffers → Outcome A
 outcomeOf a b = record { answer = a; evaluated = b .marks; certificate = b .flags }
 
--- a call of alpha-beta with the table t that answers a
+-- and of the list of leaves that is left
+abbrev pub listedOf : {A : Type 0} → A → Buffers → (order : List ℕ) → Listed A
+listedOf a b o = record { order = o; search = outcomeOf a b }
+
+-- a call of alpha-beta with the table t that answers a; it is lent a list of leaves too
 pub record AlphaBetaCall (t : List ℕ) (a : AlphaBetaAnswer) : Type 0 where
   pub lent : Buffers
   pub left : Buffers
-  pub outcome : outcomeOf a left ≡ alphaBetaOutcome t (lent .marks) (lent .flags)
+  pub lentOrder : List ℕ
+  pub leftOrder : List ℕ
+  pub outcome : listedOf a left leftOrder ≡ alphaBetaOutcome t (lent .marks) (lent .flags) lentOrder
 
 -- a call of the plain engine with the table t that answers a
 pub record PlainCall (t : List ℕ) (a : PlainAnswer) : Type 0 where
@@ -45,28 +59,35 @@ pub record PlainCall (t : List ℕ) (a : PlainAnswer) : Type 0 where
   pub left : Buffers
   pub outcome : outcomeOf a left ≡ plainOutcome t (lent .marks) (lent .flags)
 
--- a call of MTD with the table t that answers a
+-- a call of MTD with the table t that answers a; it is lent a list of leaves too
 pub record MtdCall (t : List ℕ) (a : MtdAnswer) : Type 0 where
   pub lent : Buffers
   pub left : Buffers
-  pub outcome : outcomeOf a left ≡ mtdOutcome t (lent .marks) (lent .flags)
+  pub lentOrder : List ℕ
+  pub leftOrder : List ℕ
+  pub outcome : listedOf a left leftOrder ≡ mtdOutcome t (lent .marks) (lent .flags) lentOrder
 
 -- a call of SSS* with the table t that answers a; it has an allowance of leaves, and is lent a list of states too
 pub record SssCall (t : List ℕ) (a : SssAnswer) : Type 0 where
   pub allowance : ℕ
   pub lent : Buffers
   pub left : Buffers
+  pub lentOrder : List ℕ
+  pub leftOrder : List ℕ
   pub lentList : List State
   pub leftList : List State
-  pub outcome : record { list = leftList; search = outcomeOf a left }
-      ≡ sssOutcome allowance t lentList (lent .marks) (lent .flags)
+  pub outcome : record { list = leftList; order = leftOrder; search = outcomeOf a left }
+      ≡ sssOutcome allowance t lentList (lent .marks) (lent .flags) lentOrder
 
--- a call of SSS* that has a list of its own; it is a call of SSS* with a long lent list (`own-list`, Demand1.antt)
+-- a call of SSS* that has a list of states of its own; it is a call of SSS* with a long lent one (`own-list`,
+-- Demand1.antt)
 pub record SolveCall (t : List ℕ) (a : SssAnswer) : Type 0 where
   pub allowance : ℕ
   pub lent : Buffers
   pub left : Buffers
-  pub outcome : outcomeOf a left ≡ solveOutcome allowance t (lent .marks) (lent .flags)
+  pub lentOrder : List ℕ
+  pub leftOrder : List ℕ
+  pub outcome : listedOf a left leftOrder ≡ solveOutcome allowance t (lent .marks) (lent .flags) lentOrder
 
 -- a call of one of the three searches with the table t that gives a result; SSS* under whatever allowance
 pub data Call (t : List ℕ) : Type 0 where
@@ -91,6 +112,17 @@ module _ {t : List ℕ} where
   left (alphaBeta c) = c .left
   left (mtd c) = c .left
   left (sss c) = c .left
+
+  -- the list of leaves that it is lent, and the one that it leaves
+  abbrev pub lentOrder : Call t → List ℕ
+  lentOrder (alphaBeta c) = c .lentOrder
+  lentOrder (mtd c) = c .lentOrder
+  lentOrder (sss c) = c .lentOrder
+
+  abbrev pub leftOrder : Call t → List ℕ
+  leftOrder (alphaBeta c) = c .leftOrder
+  leftOrder (mtd c) = c .leftOrder
+  leftOrder (sss c) = c .leftOrder
 
   -- the leaves that its rule names, in order: Baudet's condition, MTD's passes, the full run of SSS*
   abbrev pub leaves : Call t → List ℕ

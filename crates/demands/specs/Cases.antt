@@ -1,5 +1,5 @@
--- The cases of SPEC 12.2 (01: those marked P; wins and losses; second captures), as byte tables, with what is said of
--- them.
+-- The cases of SPEC 12.2 (01: those marked P; wins and losses; second captures; leaves at two depths), as byte tables,
+-- with what is said of them.
 use Prim.Native.Nat.{ℕ, zero, suc, _+_}
 use mathlib.Core.List.{List, [], _∷_, _++_}
 use lib.IntN.{ℤ, pos, negℤ, negsuc}
@@ -20,7 +20,7 @@ use Rattle.mtd.specs.Outcome.{mtdOutcome}
 use Rattle.sss.specs.declared.Answer as sss
 use Rattle.sss.specs.declared.Answer.the-variants as sss-answer
 use Rattle.states.specs.Entry.{blank}
-use Rattle.sss.specs.Outcome.{sssOutcome}
+use Rattle.sss.specs.Outcome.{sssOutcome, solveOutcome}
 
 -- what a search gives: the value, the move, the count of evaluated leaves and, if it has one, its second count; of an
 -- allowance that is spent the merit and the counts; or a rejection's number
@@ -50,46 +50,63 @@ bySss (sss-answer.Found f) = given (f .findings) (f .replacements)
 bySss (sss-answer.Spent s) = spent (s .merit) (s .leaves) (s .replacements)
 bySss (sss-answer.Rejected r) = rejected (r .number)
 
--- a line of the table: what the three searches and the plain engine give, and the flags that SSS* and the plain engine
--- write
+-- the numbers of leaves that a search lists: the first of what it leaves in its list, as many as it counts
+abbrev orderOf : Given → (left : List ℕ) → List ℕ
+orderOf (found v m n k) o = take n o
+orderOf (spent m n k) o = take n o
+orderOf (rejected r) o = []
+
+-- a line of the table: what the three searches and the plain engine give, the order in which each search evaluates its
+-- leaves, and the flags that SSS* and the plain engine write
 pub record Row : Type 0 where
   pub alphaBeta : Given
   pub plain : Given
   pub mtd : Given
   pub sss : Given
+  pub alphaBetaOrder : List ℕ
+  pub mtdOrder : List ℕ
+  pub sssOrder : List ℕ
   pub flags : List ℕ
   pub plainFlags : List ℕ
 
 abbrev pub rowOf : List ℕ → Row
 rowOf t =
     let buffer : List ℕ = replicate (frames t) 0 in
-    let s = sssOutcome (frames t) t (replicate (frames t) blank) buffer buffer .search in
+    let a = alphaBetaOutcome t buffer buffer buffer in
+    let m = mtdOutcome t buffer buffer buffer in
+    let s = sssOutcome (frames t) t (replicate (frames t) blank) buffer buffer buffer in
     let p = plainOutcome t buffer buffer in
     record {
-      alphaBeta = byAlphaBeta (alphaBetaOutcome t buffer buffer .answer);
+      alphaBeta = byAlphaBeta (a .search .answer);
       plain = byPlain (ones (p .evaluated) (frames t)) (p .answer);
-      mtd = byMtd (mtdOutcome t buffer buffer .answer);
-      sss = bySss (s .answer);
-      flags = take (frames t) (s .certificate);
+      mtd = byMtd (m .search .answer);
+      sss = bySss (s .search .answer);
+      alphaBetaOrder = orderOf (byAlphaBeta (a .search .answer)) (a .order);
+      mtdOrder = orderOf (byMtd (m .search .answer)) (m .order);
+      sssOrder = orderOf (bySss (s .search .answer)) (s .order);
+      flags = take (frames t) (s .search .certificate);
       plainFlags = take (frames t) (p .certificate);
     }
 
--- value, move, all leaves, alpha-beta's leaves, MTD's leaves and passes, SSS*'s leaves and replacements, the flags of
--- SSS* and those of the plain engine
-abbrev rowWith : ℤ → (move all ab mtd passes sss replacements : ℕ) → (flags plainFlags : List ℕ) → Row
-rowWith v m l a d p s r f g =
+-- value, move, all leaves, alpha-beta's leaves, MTD's leaves and passes, SSS*'s leaves and replacements; the leaves of
+-- alpha-beta in order, and those of MTD and SSS*, which are the same; the flags of SSS* and those of the plain engine
+abbrev rowWith : ℤ → (move all ab mtd passes sss replacements : ℕ) → (abOrder order flags plainFlags : List ℕ) → Row
+rowWith v m l a d p s r u w f g =
     record {
       alphaBeta = found v m a 0;
       plain = found v m l 0;
       mtd = found v m d p;
       sss = found v m s r;
+      alphaBetaOrder = u;
+      mtdOrder = w;
+      sssOrder = w;
       flags = f;
       plainFlags = g;
     }
 
 -- both write the same flags
-abbrev row : ℤ → (move all ab mtd passes sss replacements : ℕ) → List ℕ → Row
-row v m l a d p s r f = rowWith v m l a d p s r f f
+abbrev row : ℤ → (move all ab mtd passes sss replacements : ℕ) → (abOrder order flags : List ℕ) → Row
+row v m l a d p s r u w f = rowWith v m l a d p s r u w f f
 
 abbrev pub tables : List (List ℕ)
 tables =
@@ -105,15 +122,16 @@ tables =
 
 abbrev pub rows : List Row
 rows =
-    row (pos 3) 2 4 4 3 2 3 9 (3 ∷ 1 ∷ 3 ∷ 1 ∷ 0 ∷ 3 ∷ 2 ∷ [])
-    ∷ row (pos 2) 1 4 3 3 2 3 9 (3 ∷ 3 ∷ 1 ∷ 3 ∷ 2 ∷ 1 ∷ 0 ∷ [])
-    ∷ row (pos 2) 1 4 4 4 3 4 11 (3 ∷ 3 ∷ 1 ∷ 3 ∷ 2 ∷ 0 ∷ 1 ∷ [])
-    ∷ row (pos 2) 2 4 4 4 3 4 11 (3 ∷ 1 ∷ 3 ∷ 0 ∷ 1 ∷ 3 ∷ 2 ∷ [])
+    row (pos 3) 2 4 4 3 2 3 9 (3 ∷ 4 ∷ 5 ∷ 6 ∷ []) (3 ∷ 5 ∷ 6 ∷ []) (3 ∷ 1 ∷ 3 ∷ 1 ∷ 0 ∷ 3 ∷ 2 ∷ [])
+    ∷ row (pos 2) 1 4 3 3 2 3 9 (3 ∷ 4 ∷ 5 ∷ []) (3 ∷ 5 ∷ 4 ∷ []) (3 ∷ 3 ∷ 1 ∷ 3 ∷ 2 ∷ 1 ∷ 0 ∷ [])
+    ∷ row (pos 2) 1 4 4 4 3 4 11 (3 ∷ 4 ∷ 5 ∷ 6 ∷ []) (3 ∷ 5 ∷ 6 ∷ 4 ∷ []) (3 ∷ 3 ∷ 1 ∷ 3 ∷ 2 ∷ 0 ∷ 1 ∷ [])
+    ∷ row (pos 2) 2 4 4 4 3 4 11 (3 ∷ 4 ∷ 5 ∷ 6 ∷ []) (3 ∷ 5 ∷ 4 ∷ 6 ∷ []) (3 ∷ 1 ∷ 3 ∷ 0 ∷ 1 ∷ 3 ∷ 2 ∷ [])
     -- the plain engine evaluates the last leaf, which the searches pass over, and takes it
-    ∷ rowWith (pos 2) 1 4 3 3 2 3 9 (3 ∷ 3 ∷ 1 ∷ 3 ∷ 2 ∷ 1 ∷ 0 ∷ []) (3 ∷ 3 ∷ 1 ∷ 3 ∷ 2 ∷ 0 ∷ 1 ∷ [])
-    ∷ row (pos 7) 1 4 3 3 2 3 9 (3 ∷ 3 ∷ 1 ∷ 3 ∷ 2 ∷ 1 ∷ 0 ∷ [])
-    ∷ row (negsuc 4) 0 1 1 1 2 1 1 (3 ∷ [])
-    ∷ row (pos 9) 1 1 1 1 2 1 3 (3 ∷ 3 ∷ [])
+    ∷ rowWith (pos 2) 1 4 3 3 2 3 9 (3 ∷ 4 ∷ 5 ∷ []) (3 ∷ 5 ∷ 4 ∷ []) (3 ∷ 3 ∷ 1 ∷ 3 ∷ 2 ∷ 1 ∷ 0 ∷ [])
+    (3 ∷ 3 ∷ 1 ∷ 3 ∷ 2 ∷ 0 ∷ 1 ∷ [])
+    ∷ row (pos 7) 1 4 3 3 2 3 9 (3 ∷ 4 ∷ 5 ∷ []) (3 ∷ 5 ∷ 4 ∷ []) (3 ∷ 3 ∷ 1 ∷ 3 ∷ 2 ∷ 1 ∷ 0 ∷ [])
+    ∷ row (negsuc 4) 0 1 1 1 2 1 1 (0 ∷ []) (0 ∷ []) (3 ∷ [])
+    ∷ row (pos 9) 1 1 1 1 2 1 3 (1 ∷ []) (1 ∷ []) (3 ∷ 3 ∷ [])
     ∷ []
 
 -- leaves of 31,000 and -31,000
@@ -154,12 +172,12 @@ winTables =
 -- depths, and MTD makes three passes; a win at depth 18 is worth less than 30,990; and the same of losses
 abbrev pub winRows : List Row
 winRows =
-    row (pos 30999) 1 2 2 2 2 2 4 (3 ∷ 3 ∷ 1 ∷ [])
-    ∷ row (pos 30997) 1 2 2 2 3 2 9 (3 ∷ 3 ∷ 2 ∷ 3 ∷ 3 ∷ [])
-    ∷ row (pos 30990) 1 2 2 2 2 2 21 (3 ∷ 3 ∷ replicate 18 1)
-    ∷ row (negℤ (pos 30999)) 1 2 2 2 2 2 4 (3 ∷ 3 ∷ 1 ∷ [])
-    ∷ row (negℤ (pos 30998)) 1 2 2 2 2 2 9 (3 ∷ 3 ∷ 3 ∷ 2 ∷ 2 ∷ [])
-    ∷ row (negℤ (pos 30982)) 2 2 2 2 2 2 38 (3 ∷ 1 ∷ replicate 18 3)
+    row (pos 30999) 1 2 2 2 2 2 4 (1 ∷ 2 ∷ []) (1 ∷ 2 ∷ []) (3 ∷ 3 ∷ 1 ∷ [])
+    ∷ row (pos 30997) 1 2 2 2 3 2 9 (2 ∷ 4 ∷ []) (2 ∷ 4 ∷ []) (3 ∷ 3 ∷ 2 ∷ 3 ∷ 3 ∷ [])
+    ∷ row (pos 30990) 1 2 2 2 2 2 21 (1 ∷ 19 ∷ []) (1 ∷ 19 ∷ []) (3 ∷ 3 ∷ replicate 18 1)
+    ∷ row (negℤ (pos 30999)) 1 2 2 2 2 2 4 (1 ∷ 2 ∷ []) (1 ∷ 2 ∷ []) (3 ∷ 3 ∷ 1 ∷ [])
+    ∷ row (negℤ (pos 30998)) 1 2 2 2 2 2 9 (2 ∷ 4 ∷ []) (2 ∷ 4 ∷ []) (3 ∷ 3 ∷ 3 ∷ 2 ∷ 2 ∷ [])
+    ∷ row (negℤ (pos 30982)) 2 2 2 2 2 2 38 (1 ∷ 19 ∷ []) (1 ∷ 19 ∷ []) (3 ∷ 1 ∷ replicate 18 3)
     ∷ []
 
 -- leaves of these values, from 0 to 255
@@ -184,10 +202,54 @@ captureTables =
 -- by the depth the first would be 1
 abbrev pub captureRows : List Row
 captureRows =
-    row (pos 2) 1 2 2 2 2 2 6 (3 ∷ 3 ∷ 1 ∷ 3 ∷ [])
-    ∷ row (pos 1) 1 2 2 2 3 2 9 (3 ∷ 3 ∷ 3 ∷ 2 ∷ 3 ∷ [])
-    ∷ row (pos 2) 1 2 2 2 2 2 12 (3 ∷ 3 ∷ 3 ∷ 3 ∷ 3 ∷ 1 ∷ 3 ∷ [])
-    ∷ row (pos 3) 1 4 4 3 2 3 11 (3 ∷ 3 ∷ 1 ∷ 3 ∷ 1 ∷ 0 ∷ 3 ∷ 2 ∷ [])
-    ∷ rowWith (pos 2) 2 8 7 4 2 4 14 (3 ∷ 1 ∷ 3 ∷ 1 ∷ 0 ∷ 3 ∷ 1 ∷ 1 ∷ 0 ∷ 0 ∷ 0 ∷ 3 ∷ 2 ∷ 1 ∷ 0 ∷ [])
+    row (pos 2) 1 2 2 2 2 2 6 (2 ∷ 3 ∷ []) (2 ∷ 3 ∷ []) (3 ∷ 3 ∷ 1 ∷ 3 ∷ [])
+    ∷ row (pos 1) 1 2 2 2 3 2 9 (3 ∷ 4 ∷ []) (3 ∷ 4 ∷ []) (3 ∷ 3 ∷ 3 ∷ 2 ∷ 3 ∷ [])
+    ∷ row (pos 2) 1 2 2 2 2 2 12 (5 ∷ 6 ∷ []) (5 ∷ 6 ∷ []) (3 ∷ 3 ∷ 3 ∷ 3 ∷ 3 ∷ 1 ∷ 3 ∷ [])
+    ∷ row (pos 3) 1 4 4 3 2 3 11 (4 ∷ 5 ∷ 6 ∷ 7 ∷ []) (4 ∷ 6 ∷ 7 ∷ []) (3 ∷ 3 ∷ 1 ∷ 3 ∷ 1 ∷ 0 ∷ 3 ∷ 2 ∷ [])
+    ∷ rowWith (pos 2) 2 8 7 4 2 4 14 (7 ∷ 8 ∷ 9 ∷ 10 ∷ 11 ∷ 12 ∷ 13 ∷ []) (7 ∷ 11 ∷ 13 ∷ 12 ∷ [])
+    (3 ∷ 1 ∷ 3 ∷ 1 ∷ 0 ∷ 3 ∷ 1 ∷ 1 ∷ 0 ∷ 0 ∷ 0 ∷ 3 ∷ 2 ∷ 1 ∷ 0 ∷ [])
     (3 ∷ 1 ∷ 3 ∷ 1 ∷ 0 ∷ 3 ∷ 1 ∷ 1 ∷ 0 ∷ 0 ∷ 0 ∷ 3 ∷ 2 ∷ 0 ∷ 1 ∷ [])
+    ∷ []
+
+-- Max(Min(2, 3), 1), whose leaves lie at two depths: from left to right they are the nodes 3, 4 and 2
+abbrev pub deeperTables : List (List ℕ)
+deeperTables = (innerFrame 1 2 ++ innerFrame 3 2 ++ leavesOf (1 ∷ 2 ∷ 3 ∷ [])) ∷ []
+
+abbrev pub deeperRows : List Row
+deeperRows = row (pos 2) 1 3 3 3 2 3 8 (3 ∷ 4 ∷ 2 ∷ []) (3 ∷ 2 ∷ 4 ∷ []) (3 ∷ 3 ∷ 1 ∷ 3 ∷ 2 ∷ []) ∷ []
+
+-- Max(Min(2, 3), Min(4, 1)) by SSS* within an allowance of n leaves: what it gives, and its list, lent with a 9 in each
+-- of the 7 entries
+pub record StoppedRow : Type 0 where
+  pub gives : Given
+  pub order : List ℕ
+
+abbrev pub stoppedAt : ℕ → StoppedRow
+stoppedAt n =
+    let buffer : List ℕ = replicate 7 0 in
+    let s = sssOutcome n (small 2 3 4 1) (replicate 7 blank) buffer buffer (replicate 7 9) in
+    record { gives = bySss (s .search .answer); order = s .order }
+
+abbrev stoppedRow : Given → List ℕ → StoppedRow
+stoppedRow g o = record { gives = g; order = o }
+
+-- from no leaf to the 4 that it needs
+abbrev pub stoppedRows : List StoppedRow
+stoppedRows =
+    stoppedRow (spent (pos 32001) 0 2) (replicate 7 9)
+    ∷ stoppedRow (spent (pos 32001) 1 4) (3 ∷ replicate 6 9)
+    ∷ stoppedRow (spent (pos 4) 2 6) (3 ∷ 5 ∷ replicate 5 9)
+    ∷ stoppedRow (spent (pos 2) 3 8) (3 ∷ 5 ∷ 6 ∷ replicate 4 9)
+    ∷ stoppedRow (found (pos 2) 1 4 11) (3 ∷ 5 ∷ 6 ∷ 4 ∷ replicate 3 9)
+    ∷ []
+
+-- the same tree by each search with a list of n entries
+abbrev pub withEntries : ℕ → List Given
+withEntries n =
+    let t = small 2 3 4 1 in
+    let buffer : List ℕ = replicate 7 0 in
+    byAlphaBeta (alphaBetaOutcome t buffer buffer (replicate n 0) .search .answer)
+    ∷ byMtd (mtdOutcome t buffer buffer (replicate n 0) .search .answer)
+    ∷ bySss (sssOutcome 7 t (replicate 7 blank) buffer buffer (replicate n 0) .search .answer)
+    ∷ bySss (solveOutcome 7 t buffer buffer (replicate n 0) .search .answer)
     ∷ []

@@ -2,4 +2,5 @@
 pub mod Calls
 pub mod Handed
 pub mod Allowance
+pub mod Order
 pub mod Cases

@@ -1,12 +1,12 @@
 -- The theorems for use, on proper trees: distinct node numbers and real scores. Each says in one sentence what it
 -- gives. Sections: bounds, alpha-beta, MTD, SSS*, certificates, the three searches together, locality.
-use Prim.Native.Nat.{ℕ, suc, _+_, _*_, _≤_, _<_}
+use Prim.Native.Nat.{ℕ, suc, _+_, _-_, _*_, _≤_, _<_}
 use native.Mathlib.Nat.{lt-of-le-of-lt}
 use native.Mathlib.Omega.{arith}
 use mathlib.Core.Path.{_≡_, refl, sym, _∙_, ap, ap₂, subst}
-use mathlib.Core.Logic.{_↔_}
+use mathlib.Core.Logic.{_↔_, _⊎_, inl, inr}
 use mathlib.Core.Bool.{Bool, true, false, cond}
-use mathlib.Core.List.{List, _∷_, _++_, map}
+use mathlib.Core.List.{List, [], _∷_, _++_, map}
 use lib.ListN.{length}
 use Rattle.lists.specs.Lists.{All, among, Once, Subsequence, different}
 use Rattle.gametree.specs.Tree.{Side, Max, Min, Tree, leaf, inner, Kids, least, greatest, minimax, size, leaves}
@@ -16,8 +16,8 @@ use Rattle.gametree.specs.AlphaBeta.{reached, fullWindow}
 use Rattle.gametree.specs.Mtd.{fresh, mtd}
 use Rattle.gametree.specs.Layout.{Layout, layoutOf}
 use Rattle.gametree.proofs.sss.Described.{Describes}
-use Rattle.gametree.specs.Sss.{takenMerit, State, replace, step, finished, runFrom, start}
-use Rattle.gametree.specs.Sss.{sssOver, sss, ListAfter, resumed}
+use Rattle.gametree.specs.Sss.{takenMerit, State, Step, empty, stop, quiet, evaluating, replace, step, finished}
+use Rattle.gametree.specs.Sss.{runFrom, start, sssOver, sss, ListAfter, afterQuiet, afterEvaluating, resumed}
 use Rattle.gametree.specs.Certificate.{Rule, SolutionTree, solutionValue, Certifies, pairLeaves, chosen}
 use Rattle.gametree.specs.Certificate.{Smallest}
 use Rattle.gametree.proofs.certificates.Flags.{FlagsCertify}
@@ -25,6 +25,7 @@ use Rattle.gametree.proofs.certificates.Counting.{members, required}
 use Rattle.gametree.specs.Move.{rootMove, boundMove}
 use Rattle.gametree.proofs.Searches.{Searched, byAlphaBeta, byMtd, bySss, Deciding, SameResults}
 use Rattle.gametree.specs.results.ClosedForm.{unrivalled}
+use Rattle.lists.proofs.Choice.{clash}
 use Rattle.lists.proofs.Lists.{all-map, all-among, all-at, once-length, sub-all, sub-once}
 use Rattle.gametree.proofs.minimax.Nodes.{leaves-once}
 use Rattle.gametree.proofs.minimax.Bounds.{minimax-score, minimaxKids-best}
@@ -43,6 +44,7 @@ use Rattle.gametree.proofs.sss.Lists.{list-reached, resume}
 use Rattle.gametree.proofs.sss.Local.{runFrom-local}
 use Rattle.gametree.proofs.sss.OwnLayout.{own-layout}
 use Rattle.gametree.proofs.sss.Fronts.{Front}
+use Rattle.gametree.proofs.allowance.Ending.{never-empty}
 use Rattle.gametree.proofs.sss.FrontSteps.{front-length, front-in, front-reached, front-taken}
 use Rattle.gametree.proofs.certificates.Solution.{solution-bound, certified, rule-counted, counted-rule}
 use Rattle.gametree.proofs.certificates.Flags.{decided-certify}
@@ -97,7 +99,7 @@ pub layout-own : (t : Tree) → Distinct t → Describes (layoutOf t) t
 layout-own t d = own-layout t d
 
 module _ (ν : ℕ → ℕ) (t : Tree) (h : Scored ν t) (Y : Layout) (d : Describes Y t) where
-  -- SSS* ends with the minimax value, so it never lacks a state
+  -- SSS* ends with the minimax value
   pub sss-minimax : sssOver ν Y t .end ≡ finished (minimax ν t)
   sss-minimax = sss-is-mtd ν Y t d h .end-is
 
@@ -114,9 +116,11 @@ module _ (ν : ℕ → ℕ) (t : Tree) (h : Scored ν t) (Y : Layout) (d : Descr
     pub list-front : Front t L
     list-front = front-reached ν Y t d r
 
-    -- so it holds a state, and no more of them than there are nodes
-    pub list-state : 0 < length L
-    list-state = front-length t L list-front .0
+    -- so it holds a state
+    pub state-held : 0 < length L
+    state-held = front-length t L list-front .0
+
+    -- and no more of them than there are nodes
 
     pub list-fits : length L ≤ size t
     list-fits = front-length t L list-front .1
@@ -135,13 +139,26 @@ module _ (ν : ℕ → ℕ) (t : Tree) (h : Scored ν t) (Y : Layout) (d : Descr
     pub list-few : k < 2 * size t
     list-few = list-reached ν Y t d h r .few
 
+    -- from it the root is taken, SOLVED, or a state is replaced, which leads to the next list
+    pub held-until : ((v : ℕ) × (step ν Y L ≡ stop v))
+        ⊎ ((v : List ℕ) × ((M : List State) × ListAfter ν Y t (suc k) v M))
+    held-until = by-step (step ν Y L) refl
+      where
+        by-step : (x : Step) → step ν Y L ≡ x
+            → ((v : ℕ) × (step ν Y L ≡ stop v)) ⊎ ((v : List ℕ) × ((M : List State) × ListAfter ν Y t (suc k) v M))
+        by-step empty e =
+            clash (cc (never-empty ν t h Y d r (2 * size t - suc k) (omega (arith, list-few)) e, sss-minimax))
+        by-step (stop v) e = inl (v, e)
+        by-step (quiet M) e = inr (w, (M, afterQuiet r e))
+        by-step (evaluating n M) e = inr (w ++ (n ∷ []), (M, afterEvaluating r e))
+
     -- the merit of the state taken from it is not below the minimax value
     pub merit-bound : minimax ν t ≤ takenMerit Y L
     merit-bound = list-reached ν Y t d h r .merit
 
     -- and is `greatest` until a leaf is evaluated
     pub merit-start : length w ≡ 0 → takenMerit Y L ≡ greatest
-    merit-start e = first-merit ν Y t L r e list-state
+    merit-start e = first-merit ν Y t L r e state-held
 
     -- the leaves so far are the first of the whole run's list
     pub list-prefix : (u : List ℕ) × (w ++ u ≡ sssOver ν Y t .evaluated)

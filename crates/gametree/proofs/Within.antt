@@ -1,13 +1,14 @@
 -- The theorems for use on SSS* within an allowance of leaves, in the manner of Theorems: each says in one sentence what
--- it gives. `sssWithin` is `sssWithinOver` with the tree's own layout (`layout-own`).
-use Prim.Native.Nat.{ℕ, _+_, _-_, _*_, _≤_, _<_}
+-- it gives. `sssWithin` is `sssWithinOver` with the tree's own layout (`layout-own`); what it is by the evaluations of
+-- the full run is said first.
+use Prim.Native.Nat.{ℕ, _-_, _*_, _≤_, _<_}
 use native.Mathlib.Nat.{le-refl, le-of-lt}
 use native.Mathlib.Omega.{arith}
 use mathlib.Core.Path.{_≡_, refl, sym, _∙_, ap, subst}
 use mathlib.Core.Logic.{_↔_, _⊎_, inl, inr, ⊎-elim}
 use mathlib.Core.Bool.{Bool, true, false}
-use mathlib.Core.List.{List, [], _∷_, _++_}
-use lib.ListN.{length, length-append, take, take-append-drop, drop}
+use mathlib.Core.List.{List, [], _∷_, _++_, map}
+use lib.ListN.{length, length-append, length-map, take, take-append-drop, drop}
 use lib.Dec.{leb}
 use lib.Seq.{take-all, take-at}
 use borrow.Author.Tests.{leb-true, leb-false}
@@ -17,9 +18,11 @@ use Rattle.gametree.specs.AlphaBeta.{fullWindow}
 use Rattle.gametree.specs.Layout.{Layout}
 use Rattle.gametree.proofs.sss.Described.{Describes}
 use Rattle.gametree.specs.Bounds.{Decided}
-use Rattle.gametree.specs.Sss.{State, takenMerit, stop, evaluating, step, finished, spent, start, sssOver}
+use Rattle.gametree.specs.Sss.{State, takenMerit, stop, evaluating, step, finished, spent, noState, start}
+use Rattle.gametree.specs.Sss.{sssOver}
+use Rattle.gametree.specs.Allowance.{Evaluation, evaluationsOver}
 use Rattle.gametree.specs.Sss.{ListAfter, atStart, afterEvaluating}
-use Rattle.gametree.specs.Within.{sssWithinOver}
+use Rattle.gametree.specs.engine.Within.{sssWithinOver}
 use Rattle.gametree.proofs.Searches.{Searched, byMtd}
 use Rattle.lists.proofs.Choice.{clash}
 use Rattle.lists.proofs.Lists.{all-left, once-left, once-length}
@@ -28,9 +31,43 @@ use Rattle.gametree.proofs.minimax.Counts.{once-count, leaves-size}
 use Rattle.gametree.proofs.Theorems.{value-score, sss-minimax, sss-replacements, list-few, merit-bound}
 use Rattle.gametree.proofs.Theorems.{merit-start, list-prefix, list-resumes, merit-falls, search-decides}
 use Rattle.gametree.proofs.Theorems.{search-once, domination, search-deciding, sss-mtd}
+use Rattle.gametree.proofs.sss.Lists.{ran-path}
 use Rattle.gametree.proofs.allowance.Ending.{Whole, Cut, stopped, stopped-within, spent-within}
 use Rattle.gametree.proofs.allowance.Ending.{within-ending, leaves-grow}
 use Rattle.gametree.proofs.allowance.Local.{runWithin-local}
+use Rattle.gametree.proofs.allowance.Evaluations.{run-leaves, run-covered, run-spent}
+
+module _ (ν : ℕ → ℕ) (t : Tree) (Y : Layout) where
+  -- the evaluations of SSS* are of the leaves of the full run, in its order
+  pub evaluations-leaves : map (λ x. x .leaf) (evaluationsOver ν Y t) ≡ sssOver ν Y t .evaluated
+  evaluations-leaves = run-leaves ν Y (2 * size t) 0 (start t)
+
+  pub evaluations-count : length (evaluationsOver ν Y t) ≡ length (sssOver ν Y t .evaluated)
+  evaluations-count = sym (length-map (evaluationsOver ν Y t) (λ x. x .leaf)) ∙ ap length evaluations-leaves
+
+  module _ (a : ℕ) where
+    -- where an allowance covers them all, the run is the full run
+    pub covered-full : drop a (evaluationsOver ν Y t) ≡ [] → sssWithinOver a ν Y t ≡ sssOver ν Y t
+    covered-full h = run-covered ν Y (2 * size t) 0 a (start t) h
+
+    -- where it does not, the run is spent at the first that is left: with the merit of its state, the replacements
+    -- before it, and as many first leaves of the full run as are allowed
+    pub spent-first : (x : Evaluation) (xs : List Evaluation) → drop a (evaluationsOver ν Y t) ≡ x ∷ xs
+        → sssWithinOver a ν Y t
+        ≡ record {
+          end = spent (x .merit);
+          evaluated = take a (sssOver ν Y t .evaluated);
+          replacements = x .replacements;
+        }
+    spent-first x xs h =
+        let r = run-spent ν Y (2 * size t) 0 a (start t) x xs h in
+        let k : sssWithinOver a ν Y t .replacements ≡ x .replacements = omega (arith, r .replaced) in
+        ap (λ e. record {
+          end = e;
+          evaluated = sssWithinOver a ν Y t .evaluated;
+          replacements = sssWithinOver a ν Y t .replacements;
+        }) (r .end-is)
+        ∙ ran-path (r .leaves-are) k
 
 module _ (ν : ℕ → ℕ) (t : Tree) (h : Scored ν t) (Y : Layout) (d : Describes Y t) where
   -- the leaves of the full run, over any layout, are those of a search
@@ -66,6 +103,10 @@ module _ (ν : ℕ → ℕ) (t : Tree) (h : Scored ν t) (Y : Layout) (d : Descr
     within-ends =
         ⊎-elim (λ x. inl (ap (λ r. r .end) (whole-full x .0) ∙ sss-minimax ν t h Y d))
         (λ x. inr (takenMerit Y (x .list), ap (λ r. r .end) (x .gives))) (within-ending ν t h Y d a)
+
+    -- so no run ends without a state to take
+    pub no-empty : sssWithinOver a ν Y t .end ≡ noState → ⊥
+    no-empty e = ⊎-elim (λ f. clash (cc (e, f))) (λ s. clash (cc (e, s .1))) within-ends
 
     finished-few : (v : ℕ) → sssWithinOver a ν Y t .end ≡ finished v → length (sssOver ν Y t .evaluated) ≤ a
     finished-few v e =

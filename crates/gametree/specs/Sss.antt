@@ -49,8 +49,8 @@ abbrev pub takenMerit : Layout → List State → ℕ
 takenMerit Y [] = 0
 takenMerit Y (s ∷ ss) = pick Y s ss .state .merit
 
--- what one step does: nothing is on the list; the root, SOLVED, is taken; a state is replaced; a state is replaced
--- and a leaf evaluated
+-- what one step does: there is no state to take (no run comes to this: `state-held` in Theorems); the root, SOLVED, is
+-- taken; a state is replaced; a state is replaced and a leaf evaluated
 pub data Step : Type 0 where
   empty : Step
   stop : (value : ℕ) → Step
@@ -91,8 +91,8 @@ step ν Y [] = empty
 step ν Y (s ∷ ss) = replace ν Y (pick Y s ss) (pick Y s ss .state .status)
 
 -- how a run ends: with the root's value, when the root, SOLVED, is taken; before a leaf that its allowance does not
--- cover, with the merit of that leaf's state (Within); or with no state found while the root is unsolved (01: a "no" to
--- question 15), which never happens: `sss-minimax` in Theorems, `within-ends` in Within
+-- cover, with the merit of that leaf's state (engine/Within); or with no state to take, or past its bound on states
+-- taken, which no run on a scored tree does: `no-empty` in Within
 pub data End : Type 0 where
   finished : (value : ℕ) → End
   spent : (merit : ℕ) → End
@@ -115,7 +115,7 @@ follow (quiet M) rest =
 follow (evaluating n M) rest =
     record { end = rest M .end; evaluated = n ∷ rest M .evaluated; replacements = suc (rest M .replacements) }
 
--- the run from a list by a step function; the number bounds the states taken, and a run past it finds no state
+-- the run from a list by a step function; the number bounds the states taken
 abbrev pub runFrom : (List State → Step) → ℕ → List State → Ran
 runFrom next zero L = ends noState
 runFrom next (suc f) L = follow (next L) (λ M. runFrom next f M)

@@ -1,2 +1,3 @@
 -- For the code of the searches: what their private functions are proved against, and no public contract cites.
 pub mod MemoArrays
+pub mod Within

@@ -4,18 +4,19 @@ use native.Mathlib.Omega.{arith}
 use mathlib.Core.Path.{_≡_, refl, sym, ap, ap₂, _∙_}
 use mathlib.Core.Logic.{inl, inr}
 use mathlib.Core.Bool.{Bool, true, false, cond}
-use mathlib.Core.List.{List, [], _++_}
+use mathlib.Core.List.{List, [], _∷_, _++_}
 use lib.Dec.{eqb}
-use lib.ListN.{length, getD, set, length-append}
+use lib.ListN.{length, getD, set}
 use lib.Seq.{getD-set-same, set-getD}
 use Rattle.gametree.specs.declared.Side.{Side}
 use Rattle.gametree.specs.Tree.{Tree, leaf, inner, Kids, last, _then_, greatest, better, minimaxKids, In, InKids}
 use Rattle.gametree.specs.Bounds.{known, high}
 use Rattle.gametree.specs.Mtd.{memoHigh, memoHighKids}
 use Rattle.gametree.specs.engine.MemoArrays.{Bits, readMemo, readMemoKids}
-use Rattle.bounds.specs.Marks.{marked, markAll}
-use Rattle.bounds.proofs.Marking.{markAll-append}
-use Rattle.mtd.specs.engine.Memory.{Memory, MemoryRoom, Evaluated}
+use Rattle.bounds.specs.Marks.{marked}
+use Rattle.bounds.specs.engine.Progress.{progress, evaluateAll}
+use Rattle.bounds.proofs.Listing.{none-evaluated, one-evaluated, evaluateAll-append}
+use Rattle.mtd.specs.engine.Memory.{Memory, progressOf, MemoryRoom, Evaluated}
 
 -- what stands there already is stored
 pub set-same : (l : List ℕ) (i v : ℕ) → getD l i 0 ≡ v → set l i v ≡ l
@@ -52,6 +53,7 @@ mutual
 -- the arrays keep their lengths
 pub record Long (m m′ : Memory) : Type 0 where
   pub evaluated : length (m′ .evaluated) ≡ length (m .evaluated)
+  pub order : length (m′ .order) ≡ length (m .order)
   pub highs : length (m′ .highs) ≡ length (m .highs)
   pub notBelow : length (m′ .notBelow) ≡ length (m .notBelow)
 
@@ -60,6 +62,7 @@ pub room-kept : {n : ℕ} {m m′ : Memory} → MemoryRoom n m → Long m m′ �
 room-kept r l =
     record {
       evaluated = omega (arith, r .evaluated, l .evaluated);
+      order = omega (arith, r .order, l .order);
       highs = omega (arith, r .highs, l .highs);
       notBelow = omega (arith, r .notBelow, l .notBelow);
     }
@@ -69,20 +72,25 @@ pub room-at : {n i : ℕ} {m : Memory} → MemoryRoom n m → i < n → MemoryRo
 room-at r h =
     record {
       evaluated = omega (arith, r .evaluated);
+      order = omega (arith, r .order);
       highs = omega (arith, r .highs);
       notBelow = omega (arith, r .notBelow);
     }
 
 -- nothing was evaluated
-pub evaluated-none : (e : List ℕ) → Evaluated e e 0 []
-unfolding markAll
-evaluated-none e = record { leaves = refl; marks = refl }
+pub evaluated-none : (m : Memory) → Evaluated m m []
+evaluated-none m = record { all = none-evaluated (m .leaves) (m .evaluated) (m .order) refl }
 
 -- more leaves were evaluated behind the first
-pub evaluated-more : {e e′ e″ v w : List ℕ} {m n : ℕ} → Evaluated e e′ m v → Evaluated e′ e″ n w
-    → Evaluated e e″ (m + n) (v ++ w)
-evaluated-more {e} {e′} {e″} {v} {w} a b =
-    record {
-      leaves = ap₂ _+_ (a .leaves) (b .leaves) ∙ sym (length-append v w);
-      marks = b .marks ∙ ap (λ l. markAll l w) (a .marks) ∙ sym (markAll-append e v w);
-    }
+pub evaluated-more : {m m′ m″ : Memory} {v w : List ℕ} → Evaluated m m′ v → Evaluated m′ m″ w → Evaluated m m″ (v ++ w)
+evaluated-more {m} {m′} {m″} {v} {w} a b =
+    record { all = b .all ∙ ap (λ p. evaluateAll p w) (a .all) ∙ sym (evaluateAll-append (progressOf m) v w) }
+
+-- a leaf with a mark is not evaluated again, and one without is
+pub leaf-again : (n i : ℕ) (e o : List ℕ) → marked e i ≡ true
+    → progress n e o ≡ evaluateAll (progress n e o) (cond (marked e i) [] (i ∷ []))
+leaf-again n i e o h = rw h (none-evaluated n e o refl)
+
+pub leaf-first : (n n′ i : ℕ) (e e′ o o′ : List ℕ) → marked e i ≡ false → n′ ≡ n + 1 → e′ ≡ set e i 1 → o′ ≡ set o n i
+    → progress n′ e′ o′ ≡ evaluateAll (progress n e o) (cond (marked e i) [] (i ∷ []))
+leaf-first n n′ i e e′ o o′ h p q r = rw h (one-evaluated n i e o p q r)

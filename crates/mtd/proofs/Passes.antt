@@ -5,11 +5,11 @@ use native.Mathlib.Omega.{arith}
 use mathlib.Core.Path.{_≡_, refl, sym, ap, ap₂, _∙_, subst}
 use mathlib.Core.Logic.{inl, inr}
 use mathlib.Core.Bool.{true, false, cond}
-use mathlib.Core.List.{List}
+use mathlib.Core.List.{List, [], _∷_}
 use lib.Dec.{leb}
 use lib.ListN.{getD, set}
 use lib.Seq.{getD-set-same, getD-set-other}
-use borrow.Author.Tests.{lt-ltb, le-ltb, eqb-true}
+use borrow.Author.Tests.{lt-ltb, le-ltb}
 use Rattle.gametree.specs.declared.Side.{Side}
 use Rattle.gametree.specs.Tree.{Tree, leaf, inner, Kids, InKids}
 use Rattle.gametree.specs.Bounds.{high}
@@ -17,48 +17,56 @@ use Rattle.gametree.specs.Mtd.{Memo, memoHigh, Pass, stay, entered}
 use Rattle.lists.proofs.Choice.{cond-cases}
 use Rattle.gametree.proofs.mtd.MemoArrays.{readMemoKids-same}
 use Rattle.frames.specs.Tree.{treeAt, valuation}
-use Rattle.bounds.specs.Marks.{marked, markAll}
+use Rattle.frames.specs.Frame.{frames}
+use Rattle.bounds.specs.Marks.{marked, ones}
+use Rattle.bounds.specs.engine.Progress.{progress, evaluateAll}
 use Rattle.bounds.proofs.Marking.{marked-other}
 use Rattle.mtd.specs.declared.Tried.{Tried}
-use Rattle.mtd.specs.engine.Memory.{Memory, memory, memoOf, passOf, MemoryRoom, HighsRight, Evaluated, Passed}
-use Rattle.mtd.proofs.Arrays.{set-same, marked-same, read-high, evaluated-none}
+use Rattle.mtd.specs.engine.Memory.{Memory, memory, progressOf, memoOf, passOf, MemoryRoom, HighsRight}
+use Rattle.mtd.specs.engine.Memory.{Counted, Evaluated, Passed}
+use Rattle.mtd.proofs.Arrays.{marked-same, read-high, evaluated-none}
 use Rattle.mtd.proofs.Children.{passKidsOf, PassedKids}
 
 -- a leaf that was tried: evaluated now, if it was not before, and compared with the test
-module _ (t : List ℕ) (i γ : ℕ) (m : Memory) (r : Tried) (is-leaf : treeAt t i ≡ leaf i)
+module _ (t : List ℕ) (i γ : ℕ) (m : Memory) (n : ℕ) (o : List ℕ) (r : Tried) (is-leaf : treeAt t i ≡ leaf i)
     (room : MemoryRoom (suc i) m) (a : r .answer ≡ leb γ (valuation t i))
-    (n : r .leaves ≡ cond (marked (m .evaluated) i) 0 1) where
+    (w : progress n (set (m .evaluated) i 1) o
+    ≡ evaluateAll (progressOf m) (cond (marked (m .evaluated) i) [] (i ∷ [])))
+    (c : n ≡ ones (set (m .evaluated) i 1) (frames t)) where
   -- its mark is 1 now
   leaf-marked : marked (set (m .evaluated) i 1) i ≡ true
   leaf-marked = marked-same (m .evaluated) i true (omega (arith, room .evaluated))
 
+  -- the memory afterwards
+  abbrev tried : Memory
+  tried = memory n (set (m .evaluated) i 1) o (set (m .highs) i (valuation t i)) (m .notBelow)
+
   -- what the pass says, by whether it was evaluated before
   record Done (q : Pass (leaf i)) : Type 0 where
     answer : r .answer ≡ q .notBelow
-    evaluated : Evaluated (m .evaluated) (set (m .evaluated) i 1) (r .leaves) (q .evaluated)
+    evaluated : Evaluated m tried (q .evaluated)
     next : marked (set (m .evaluated) i 1) i ≡ q .next .evaluated
 
   leaf-done : Done (passOf t γ m (leaf i))
-  unfolding markAll
   leaf-done =
       cond-cases Done (marked (m .evaluated) i) _ _
       (λ e. record {
         answer = a;
-        evaluated = record { leaves = rw e at n; marks = set-same (m .evaluated) i 1 (eqb-true _ _ e) };
+        evaluated = record { all = rw e at w };
         next = leaf-marked ∙ sym e;
       })
       (λ e. record {
         answer = a;
-        evaluated = record { leaves = rw e at n; marks = refl };
+        evaluated = record { all = rw e at w };
         next = leaf-marked;
       })
 
-  pub leaf-passed : Passed t (leaf i) γ m
-      (memory (set (m .evaluated) i 1) (set (m .highs) i (valuation t i)) (m .notBelow)) r
+  pub leaf-passed : Passed t (leaf i) γ m tried r
   leaf-passed =
       record {
         answer = leaf-done .answer;
         evaluated = leaf-done .evaluated;
+        counted = c;
         memo =
             record {
               got = ap {B = Memo (leaf i)} (λ x. record { evaluated = x }) (leaf-done .next);
@@ -71,14 +79,13 @@ module _ (t : List ℕ) (i γ : ℕ) (m : Memory) (r : Tried) (is-leaf : treeAt 
       }
 
 -- a node that is not entered
-stay-passed : (t : List ℕ) (T : Tree) (γ : ℕ) (m : Memory) (r : Tried) → r .leaves ≡ 0
+stay-passed : (t : List ℕ) (T : Tree) (γ : ℕ) (m : Memory) (r : Tried) → Counted t m
     → passOf t γ m T ≡ stay T (memoOf m T) (r .answer) → HighsRight t m T → Passed t T γ m m r
 stay-passed t T γ m r n e h =
     record {
       answer = ap (λ q. q .notBelow) (sym e);
-      evaluated =
-          subst (λ q. Evaluated (m .evaluated) (m .evaluated) (r .leaves) (q .evaluated)) (sym e)
-          (rw n (evaluated-none (m .evaluated)));
+      evaluated = subst (λ q. Evaluated m m (q .evaluated)) (sym e) (evaluated-none m);
+      counted = n;
       memo = record { got = ap (λ q. q .next) (sym e); elsewhere = λ p h. (refl, refl) };
       right = h;
       others = λ k h. refl;
@@ -90,18 +97,18 @@ module _ (t : List ℕ) (i γ : ℕ) (m : Memory) (s : Side) (ks : Kids) (is-inn
   stored : getD (m .highs) i 0 ≡ memoHigh (valuation t) (inner i s ks) (memoOf m (inner i s ks))
   stored = (rw is-inner at (right i (inl refl))) ∙ sym (read-high (valuation t) _ _ (inner i s ks))
 
-  pub below-passed : (r : Tried) → r .leaves ≡ 0 → r .answer ≡ false → getD (m .highs) i 0 < γ
+  pub below-passed : (r : Tried) → Counted t m → r .answer ≡ false → getD (m .highs) i 0 < γ
       → Passed t (inner i s ks) γ m m r
   below-passed r n a h =
       stay-passed t (inner i s ks) γ m r n (rw (a, lt-ltb _ _ (rw stored at h))) right
 
-  pub not-below-passed : (r : Tried) → r .leaves ≡ 0 → r .answer ≡ true → γ ≤ getD (m .highs) i 0
+  pub not-below-passed : (r : Tried) → Counted t m → r .answer ≡ true → γ ≤ getD (m .highs) i 0
       → marked (m .notBelow) i ≡ true → Passed t (inner i s ks) γ m m r
   not-below-passed r n a h f =
       stay-passed t (inner i s ks) γ m r n (rw (a, le-ltb _ _ (rw stored at h), f)) right
 
   module _ (m′ : Memory) (r : Tried) (v : ℕ) (h : γ ≤ getD (m .highs) i 0) (f : marked (m .notBelow) i ≡ false)
-      (room : MemoryRoom (suc i) m′) (apart : InKids i ks → ⊥) (q : PassedKids t γ s ks m m′ (r .answer) (r .leaves))
+      (room : MemoryRoom (suc i) m′) (apart : InKids i ks → ⊥) (q : PassedKids t γ s ks m m′ (r .answer))
       (kids-right : (k : ℕ) → InKids k ks
       → getD (m′ .highs) k 0 ≡ high (valuation t) (marked (m′ .evaluated)) (treeAt t k))
       (others : (k : ℕ) → (InKids k ks → ⊥) → getD (m′ .highs) k 0 ≡ getD (m .highs) k 0)
@@ -113,15 +120,17 @@ module _ (t : List ℕ) (i γ : ℕ) (m : Memory) (s : Side) (ks : Kids) (is-inn
     not-own p x e = apart (subst (λ k. InKids k ks) e x)
 
     pub entered-passed : Passed t (inner i s ks) γ m
-        (memory (m′ .evaluated) (set (m′ .highs) i v) (set (m′ .notBelow) i (cond (r .answer) 1 0))) r
+        (memory (m′ .leaves) (m′ .evaluated) (m′ .order) (set (m′ .highs) i v)
+        (set (m′ .notBelow) i (cond (r .answer) 1 0))) r
     entered-passed =
         let own = marked-same (m′ .notBelow) i (r .answer) (omega (arith, room .notBelow)) in
         let flags = readMemoKids-same _ _ _ _ ks (λ p x. (refl, marked-other (m′ .notBelow) i p _ (not-own p x))) in
         record {
           answer = q .answer ∙ ap (λ x. x .notBelow) (sym enters);
-          evaluated =
-              subst (λ x. Evaluated (m .evaluated) (m′ .evaluated) (r .leaves) (x .evaluated)) (sym enters)
-              (q .evaluated);
+          evaluated = record {
+            all = q .evaluated .all ∙ ap (λ x. evaluateAll (progressOf m) (x .evaluated)) (sym enters);
+          };
+          counted = q .counted;
           memo =
               record {
                 got =

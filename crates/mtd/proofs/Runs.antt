@@ -3,32 +3,28 @@ use Prim.Native.Nat.{ℕ, suc, _+_, _≤_, _<_}
 use native.Mathlib.Omega.{arith}
 use mathlib.Core.Path.{_≡_, refl, sym, ap, ap₂, _∙_, subst}
 use mathlib.Core.Logic.{inl, inr}
-use mathlib.Core.Bool.{Bool, true, false}
+use mathlib.Core.Bool.{true, false}
 use mathlib.Core.List.{List, [], _++_, append-assoc}
-use lib.ListN.{length, getD, length-append}
-use Rattle.lists.specs.Lists.{among}
-use Rattle.gametree.specs.Tree.{Tree, leaf, inner, Kids, last, _then_, greatest, size, sizeKids, leafCount}
-use Rattle.gametree.specs.Tree.{leafCountKids, In, InKids}
+use lib.ListN.{getD}
+use Rattle.gametree.specs.Tree.{Tree, leaf, inner, Kids, last, _then_, greatest, In, InKids}
 use Rattle.gametree.specs.Mtd.{Memo, MemoKids, memoHigh, pass, Run, settled, followed, run, fresh, freshKids, mtd}
-use Rattle.gametree.proofs.Searches.{byMtd}
-use Rattle.lists.proofs.Choice.{cond-cases}
 use Rattle.gametree.specs.engine.MemoArrays.{Bits, readMemo, readMemoKids}
 use Rattle.gametree.proofs.mtd.Sound.{Kept, Sound, sound}
 use Rattle.gametree.proofs.mtd.Value.{kept-lower, fresh-kept, fresh-memoHigh}
-use Rattle.gametree.proofs.Theorems.{search-deciding, deciding-count}
-use Rattle.frames.specs.Frame.{maxNodes, frames}
+use Rattle.frames.specs.Frame.{frames}
 use Rattle.frames.specs.Place.{rootPlace}
 use Rattle.frames.specs.Tree.{treeAt, tree, valuation}
 use Rattle.frames.specs.Formed.{WellFormed}
 use Rattle.frames.proofs.Places.{place-root}
 use Rattle.frames.proofs.Trees.{zero-or-suc}
 use Rattle.frames.proofs.Nodes.{in-own, tree-range}
-use Rattle.frames.proofs.Totals.{tree-size}
 use Rattle.frames.proofs.Proper.{tree-proper}
-use Rattle.bounds.specs.Marks.{marked, markAll}
+use Rattle.bounds.specs.Marks.{marked}
+use Rattle.bounds.specs.engine.Progress.{evaluateAll}
+use Rattle.bounds.proofs.Listing.{ones-none}
 use Rattle.mtd.specs.declared.Tried.{Tried}
-use Rattle.mtd.specs.engine.Memory.{Memory, memoOf, passOf, MemoryRoom, HighsRight, VisitReady, Evaluated}
-use Rattle.mtd.specs.engine.Memory.{Passed, Fresh, settledOf}
+use Rattle.mtd.specs.engine.Memory.{Memory, progressOf, memoOf, passOf, MemoryRoom, HighsRight}
+use Rattle.mtd.specs.engine.Memory.{Counted, VisitReady, Evaluated, Passed, Fresh}
 use Rattle.mtd.proofs.Arrays.{read-high, Long, room-kept, evaluated-none, evaluated-more}
 
 mutual
@@ -47,57 +43,36 @@ mutual
       ap₂ {C = MemoKids (T then ts)} (λ x y. record { first = x; rest = y }) (read-fresh M F T (λ p i. h p (inl i)))
       (read-fresh-kids M F ts (λ p i. h p (inr i)))
 
-mutual
-  -- a tree has at most as many leaves as nodes
-  count-size : (E : ℕ → Bool) (T : Tree) → leafCount E T ≤ size T
-  count-size E (leaf n) = cond-cases (λ x. x ≤ 1) (E n) 1 0 (λ _. omega arith) (λ _. omega arith)
-  count-size E (inner n s ks) = omega (arith, count-size-kids E ks)
-
-  count-size-kids : (E : ℕ → Bool) (ks : Kids) → leafCountKids E ks ≤ sizeKids ks
-  count-size-kids E (last T) = count-size E T
-  count-size-kids E (T then ts) = omega (arith, count-size E T, count-size-kids E ts)
-
--- MTD evaluates at most as many leaves as the table has nodes
-pub mtd-few : (t : List ℕ) → WellFormed t → length (mtd (valuation t) (tree t) .evaluated) ≤ maxNodes
-mtd-few t wf =
-    let w = mtd (valuation t) (tree t) .evaluated in
-    omega (
-      arith,
-      deciding-count (valuation t) (tree t) (tree-proper t wf)
-          (search-deciding (valuation t) (tree t) (tree-proper t wf) byMtd),
-      count-size (among w) (tree t),
-      tree-size t wf,
-      wf .few,
-    )
-
 -- the run of a table's tree from the memory that the arrays hold
 abbrev pub runOf : (t : List ℕ) → ℕ → ℕ → Memory → Run (tree t)
 runOf t f γ m = run (valuation t) f γ (tree t) (memoOf m (tree t))
 
 -- before a pass: the passes so far and the run from here make the whole run q
-pub record Passing (t : List ℕ) (q : Run (tree t)) (m m′ : Memory) (test leaves passes : ℕ) : Type 0 where
+pub record Passing (t : List ℕ) (q : Run (tree t)) (m m′ : Memory) (test passes : ℕ) : Type 0 where
   pub long : Long m m′
+  pub counted : Counted t m′
   pub right : HighsRight t m′ (tree t)
   pub kept : Kept (valuation t) test (tree t) (memoOf m′ (tree t))
   pub few : passes + test ≤ greatest
   pub spare : ℕ
   pub enough : test ≤ spare
   pub done : List ℕ
-  pub so-far : Evaluated (m .evaluated) (m′ .evaluated) leaves done
+  pub so-far : Evaluated m m′ done
   pub value : q .value ≡ runOf t (suc spare) test m′ .value
   pub evaluated : q .evaluated ≡ done ++ runOf t (suc spare) test m′ .evaluated
   pub passed : q .passes ≡ passes + runOf t (suc spare) test m′ .passes
 
 -- the first pass, for any bound on the passes that is large enough
 passing-from : (t : List ℕ) (m : Memory) → Fresh t m → (f : ℕ) → greatest ≤ f
-    → Passing t (run (valuation t) (suc f) greatest (tree t) (fresh (tree t))) m m greatest 0 0
+    → Passing t (run (valuation t) (suc f) greatest (tree t) (fresh (tree t))) m m greatest 0
 passing-from t m h f l =
     let bits : (p : ℕ) → p < frames t → (marked (m .evaluated) p ≡ false) × (marked (m .notBelow) p ≡ false) =
     λ p x. (h .evaluated p x, h .notBelow p x) in
     let inside = tree-range t (h .formed) in
     let start = read-fresh _ _ (tree t) (λ p i. bits p (inside 0 (h .formed .some) p i .1)) in
     record {
-      long = record { evaluated = refl; highs = refl; notBelow = refl };
+      long = record { evaluated = refl; order = refl; highs = refl; notBelow = refl };
+      counted = h .leaves ∙ sym (ones-none (m .evaluated) (frames t) (h .evaluated));
       right = λ k i.
           let own = inside 0 (h .formed .some) k i .1 in
           let at-start = read-fresh _ _ (treeAt t k) (λ p j. bits p (inside k own p j .1)) in
@@ -109,21 +84,20 @@ passing-from t m h f l =
       spare = f;
       enough = l;
       done = [];
-      so-far = evaluated-none (m .evaluated);
+      so-far = evaluated-none m;
       value = ap (λ x. run (valuation t) (suc f) greatest (tree t) x .value) (sym start);
       evaluated = ap (λ x. run (valuation t) (suc f) greatest (tree t) x .evaluated) (sym start);
       passed = omega (arith, ap (λ x. run (valuation t) (suc f) greatest (tree t) x .passes) (sym start));
     }
 
-mtd-passing : (t : List ℕ) (m : Memory) → Fresh t m → Passing t (mtd (valuation t) (tree t)) m m greatest 0 0
+mtd-passing : (t : List ℕ) (m : Memory) → Fresh t m → Passing t (mtd (valuation t) (tree t)) m m greatest 0
 unfolding mtd
 mtd-passing t m h = passing-from t m h 64002 (omega arith)
 
 -- before the first pass: the greatest test, and nothing counted
-pub passing-first : (t : List ℕ) (m : Memory) → Fresh t m → (test leaves passes : ℕ) → test ≡ greatest → leaves ≡ 0
-    → passes ≡ 0
-    → Passing t (mtd (valuation t) (tree t)) m m test leaves passes
-passing-first t m h test leaves passes p q r = rw (p, q, r) (mtd-passing t m h)
+pub passing-first : (t : List ℕ) (m : Memory) → Fresh t m → (test passes : ℕ) → test ≡ greatest → passes ≡ 0
+    → Passing t (mtd (valuation t) (tree t)) m m test passes
+passing-first t m h test passes p r = rw (p, r) (mtd-passing t m h)
 
 -- a run of one pass more, where the root is not below, and where it is
 run-settled : (ν : ℕ → ℕ) (f γ : ℕ) (T : Tree) (m : Memo T) → pass ν γ T m .notBelow ≡ true
@@ -135,54 +109,32 @@ run-followed : (ν : ℕ → ℕ) (f γ : ℕ) (T : Tree) (m : Memo T) → pass 
     ≡ followed T (pass ν γ T m) (run ν f (memoHigh ν T (pass ν γ T m .next)) T (pass ν γ T m .next))
 run-followed ν f γ T m e = rw e
 
--- the first pass gives some of the run's leaves
-run-first : (ν : ℕ → ℕ) (f γ : ℕ) (T : Tree) (m : Memo T)
-    → length (pass ν γ T m .evaluated) ≤ length (run ν (suc f) γ T m .evaluated)
-run-first ν f γ T m =
-    let later = run ν f (memoHigh ν T (pass ν γ T m .next)) T (pass ν γ T m .next) .evaluated in
-    cond-cases (λ (x : Run T). length (pass ν γ T m .evaluated) ≤ length (x .evaluated)) (pass ν γ T m .notBelow) _ _
-    (λ _. omega arith)
-    (λ _. omega (arith, length-append (pass ν γ T m .evaluated) later))
-
-module _ {t : List ℕ} {q : Run (tree t)} {m m′ : Memory} {test leaves passes : ℕ} (wf : WellFormed t)
-    (u : Passing t q m m′ test leaves passes) where
+module _ {t : List ℕ} {q : Run (tree t)} {m m′ : Memory} {test passes : ℕ} (wf : WellFormed t)
+    (u : Passing t q m m′ test passes) where
   -- what the next pass asks
   pub passing-ready : MemoryRoom (frames t) m → VisitReady t m′ 0 rootPlace
   passing-ready room =
       record {
         formed = wf;
         inside = wf .some;
-        few = omega (arith, tree-size t wf, wf .few);
         placed = sym (place-root t);
         room = room-kept room (u .long);
+        counted = u .counted;
         right = u .right;
       }
 
   module _ {m″ : Memory} {r : Tried} (p : Passed t (tree t) test m′ m″ r) where
-    -- the count of leaves fits
-    pub passing-few : length (q .evaluated) ≤ maxNodes → leaves + r .leaves ≤ maxNodes
-    passing-few few =
-        omega (
-          arith,
-          u .so-far .leaves,
-          p .evaluated .leaves,
-          run-first (valuation t) (u .spare) test (tree t) (memoOf m′ (tree t)),
-          ap length (u .evaluated) ∙ length-append (u .done) (runOf t (suc (u .spare)) test m′ .evaluated),
-        )
-
     -- the last pass: the root is not below
     pub passing-last : r .answer ≡ true
-        → (record { score = test; leaves = leaves + r .leaves; passes = passes + 1 } ≡ settledOf q)
-        × (m″ .evaluated ≡ markAll (m .evaluated) (q .evaluated))
+        → ((test ≡ q .value) × (passes + 1 ≡ q .passes))
+        × ((progressOf m″ ≡ evaluateAll (progressOf m) (q .evaluated)) × Counted t m″)
     passing-last e =
         let is = run-settled (valuation t) (u .spare) test (tree t) _ (sym (p .answer) ∙ e) in
-        let v : test ≡ q .value = sym (u .value ∙ ap (λ x. x .value) is) in
         let w = u .evaluated ∙ ap (λ x. u .done ++ x .evaluated) is in
-        let all = subst (Evaluated (m .evaluated) (m″ .evaluated) (leaves + r .leaves)) (sym w)
-        (evaluated-more (u .so-far) (p .evaluated)) in
-        let n = all .leaves in
-        let k : passes + 1 ≡ q .passes = omega (arith, u .passed, ap (λ x. x .passes) is) in
-        (cc, all .marks)
+        let all = subst (Evaluated m m″) (sym w) (evaluated-more (u .so-far) (p .evaluated)) in (
+          (sym (u .value ∙ ap (λ x. x .value) is), omega (arith, u .passed, ap (λ x. x .passes) is)),
+          (all .all, p .counted),
+        )
 
     -- another pass: the next test is the root's high
     module _ (e : r .answer ≡ false) where
@@ -204,7 +156,7 @@ module _ {t : List ℕ} {q : Run (tree t)} {m m′ : Memory} {test leaves passes
           ∙ ap₂ (λ γ x. followed (tree t) (passOf t test m′ (tree t)) (run (valuation t) (u .spare) γ (tree t) x))
           (sym next-high) (sym (p .memo .got))
 
-      next-passing : Long m m″ → Passing t q m m″ (getD (m″ .highs) 0 0) (leaves + r .leaves) (passes + 1)
+      next-passing : Long m m″ → Passing t q m m″ (getD (m″ .highs) 0 0) (passes + 1)
       next-passing long =
           zero-or-suc (u .spare) (λ z. absurd (omega (arith, u .enough, next-falls))) (λ f z.
           let r = passOf t test m′ (tree t) in
@@ -212,6 +164,7 @@ module _ {t : List ℕ} {q : Run (tree t)} {m m′ : Memory} {test leaves passes
           let is = next-run ∙ ap (λ n. followed (tree t) r (runOf t n (getD (m″ .highs) 0 0) m″)) z in
           record {
             long = long;
+            counted = p .counted;
             right = p .right;
             kept =
                 subst (Kept (valuation t) (getD (m″ .highs) 0 0) (tree t)) (sym (p .memo .got))
@@ -228,5 +181,5 @@ module _ {t : List ℕ} {q : Run (tree t)} {m m′ : Memory} {test leaves passes
           })
 
       pub passing-next : Long m m″ → (test′ : ℕ) → test′ ≡ getD (m″ .highs) 0 0
-          → Passing t q m m″ test′ (leaves + r .leaves) (passes + 1)
+          → Passing t q m m″ test′ (passes + 1)
       passing-next long test′ h = rw h (next-passing long)

@@ -11,21 +11,21 @@ use lib.ListN.{getD}
 use borrow.Author.Tests.{eqb-false, ne-eqb}
 use Rattle.gametree.specs.declared.Place.{Place}
 use Rattle.gametree.specs.declared.Side.{Side}
-use Rattle.gametree.specs.Tree.{inner, Kids, last, _then_, size, In, InKids}
+use Rattle.gametree.specs.Tree.{inner, Kids, last, _then_, In, InKids}
 use Rattle.gametree.specs.Mtd.{settles}
 use Rattle.lists.proofs.Choice.{or-false-both}
-use Rattle.frames.specs.Frame.{maxNodes, frames, firstChild, childCount}
+use Rattle.frames.specs.Frame.{frames, firstChild, childCount}
 use Rattle.frames.specs.Place.{childPlace, sideOf}
 use Rattle.frames.specs.Tree.{kidsFrom, treeAt, valuation}
 use Rattle.frames.specs.Formed.{WellFormed, ChildOf}
 use Rattle.frames.proofs.Next.{child-within, children-within}
 use Rattle.frames.proofs.Places.{place-child}
-use Rattle.frames.proofs.Trees.{in-kids, kids-in, kid-size, tree-inner}
+use Rattle.frames.proofs.Trees.{in-kids, kids-in, tree-inner}
 use Rattle.frames.proofs.Nodes.{in-parent, in-trans, children-apart}
 use Rattle.mtd.specs.declared.Tried.{Tried}
-use Rattle.mtd.specs.engine.Memory.{Memory, HighsRight, VisitReady, Passed}
+use Rattle.mtd.specs.engine.Memory.{Memory, HighsRight, Counted, VisitReady, Passed}
 use Rattle.mtd.proofs.Arrays.{high-local, Long, room-kept}
-use Rattle.mtd.proofs.Children.{PassedKids, Owes, owes-all, owes-last, owes-settled, owes-rest, owes-few}
+use Rattle.mtd.proofs.Children.{PassedKids, Owes, owes-all, owes-last, owes-settled, owes-rest}
 
 -- the trees of the children of a node from number i up to `end`
 abbrev pub kidsUpTo : List ℕ → ℕ → ℕ → Kids
@@ -36,17 +36,18 @@ pub record Highs (t : List ℕ) (first end : ℕ) (m m′ : Memory) : Type 0 whe
   pub right : (k : ℕ) → first ≤ k → k < end → HighsRight t m′ (treeAt t k)
   pub others : (k : ℕ) → (InKids k (kidsUpTo t first end) → ⊥) → getD (m′ .highs) k 0 ≡ getD (m .highs) k 0
 
--- the head of the loop: the children before `now` have been tried, and n leaves were evaluated
-pub record Turn (t : List ℕ) (s : Side) (γ first end : ℕ) (m m′ : Memory) (n now : ℕ) : Type 0 where
+-- the head of the loop: the children before `now` have been tried
+pub record Turn (t : List ℕ) (s : Side) (γ first end : ℕ) (m m′ : Memory) (now : ℕ) : Type 0 where
   pub from : first ≤ now
   pub to : now < end
   pub long : Long m m′
-  pub owes : Owes t γ s (kidsUpTo t first end) (kidsUpTo t now end) m m′ n
+  pub counted : Counted t m′
+  pub owes : Owes t γ s (kidsUpTo t first end) (kidsUpTo t now end) m m′
   pub highs : Highs t first end m m′
 
 -- after the loop: the children's answer is b
-pub record Left (t : List ℕ) (s : Side) (γ first end : ℕ) (m m′ : Memory) (b : Bool) (n : ℕ) : Type 0 where
-  pub passed : PassedKids t γ s (kidsUpTo t first end) m m′ b n
+pub record Left (t : List ℕ) (s : Side) (γ first end : ℕ) (m m′ : Memory) (b : Bool) : Type 0 where
+  pub passed : PassedKids t γ s (kidsUpTo t first end) m m′ b
   pub highs : Highs t first end m m′
 
 -- the first of the children left, alone or with younger brothers
@@ -89,12 +90,13 @@ module _ {t : List ℕ} {i first end : ℕ} (family : Family t i first end) wher
 
   -- before the first child
   pub turn-first : {γ : ℕ} {m : Memory} {p : Place} → VisitReady t m i p → first < end
-      → Turn t (p .side) γ first end m m 0 first
+      → Turn t (p .side) γ first end m m first
   turn-first {γ} {m} {p} ready some =
       record {
         from = omega arith;
         to = some;
-        long = record { evaluated = refl; highs = refl; notBelow = refl };
+        long = record { evaluated = refl; order = refl; highs = refl; notBelow = refl };
+        counted = ready .counted;
         owes = owes-all t γ (p .side) (kidsUpTo t first end) m;
         highs =
             record {
@@ -104,34 +106,26 @@ module _ {t : List ℕ} {i first end : ℕ} (family : Family t i first end) wher
       }
 
   -- the next child
-  pub turn-child : {s : Side} {γ : ℕ} {m m′ : Memory} {leaves now : ℕ} → Turn t s γ first end m m′ leaves now
+  pub turn-child : {s : Side} {γ : ℕ} {m m′ : Memory} {now : ℕ} → Turn t s γ first end m m′ now
       → ChildOf t i now
   turn-child u = child _ (u .from) (u .to)
 
   -- what the visit of the next child asks
-  pub turn-ready : {s : Side} {γ : ℕ} {m m′ : Memory} {leaves now : ℕ} {p q : Place} → VisitReady t m i p
-      → Turn t s γ first end m m′ leaves now → q ≡ childPlace t now p → VisitReady t m′ now q
-  turn-ready {s} {γ} {m} {m′} {leaves} {now} {p} {q} r u e =
+  pub turn-ready : {s : Side} {γ : ℕ} {m m′ : Memory} {now : ℕ} {p q : Place} → VisitReady t m i p
+      → Turn t s γ first end m m′ now → q ≡ childPlace t now p → VisitReady t m′ now q
+  turn-ready {s} {γ} {m} {m′} {now} {p} {q} r u e =
       let c = turn-child u in
-      let n = end - (first + 1) in
-      let is = ap size (tree-kids (sideOf t i) refl (omega (arith, u .from, u .to))) in
       record {
         formed = wf;
         inside = child-within t wf inside c;
-        few = omega (arith, kid-size (treeAt t) first n now (u .from) (omega (arith, u .to)), r .few);
         placed = e ∙ ap (λ p. childPlace t now p) (r .placed) ∙ sym (place-child t wf inside c);
         room = room-kept (r .room) (u .long);
+        counted = u .counted;
         right = u .highs .right now (u .from) (u .to);
       }
 
-  module _ {s : Side} {γ : ℕ} {m m′ m″ : Memory} {leaves now : ℕ} {r : Tried} (u : Turn t s γ first end m m′ leaves now)
+  module _ {s : Side} {γ : ℕ} {m m′ m″ : Memory} {now : ℕ} {r : Tried} (u : Turn t s γ first end m m′ now)
       (p : Passed t (treeAt t now) γ m′ m″ r) where
-    -- the leaves are no more than the nodes
-    pub turn-few : size (treeAt t i) ≤ maxNodes → leaves + r .leaves ≤ maxNodes
-    turn-few few =
-        let is = ap size (tree-kids (sideOf t i) refl (omega (arith, u .from, u .to))) in
-        omega (arith, owes-few (treeAt t) now (end - (now + 1)) (u .owes) p)
-
     -- the highs below the other children are as they were
     still-right : (k : ℕ) → first ≤ k → k < end → HighsRight t m″ (treeAt t k)
     still-right k a b =
@@ -163,12 +157,12 @@ module _ {t : List ℕ} {i first end : ℕ} (family : Family t i first end) wher
           (child (j .0) (omega (arith, u .from, j .1)) (omega (arith, j .2))) k x (j .3) in
           omega (arith, j .1)
 
-      owes-more : Owes t γ s (kidsUpTo t first end) (treeAt t now then kidsUpTo t (now + 1) end) m m′ leaves
-      owes-more = subst (λ ks. Owes t γ s (kidsUpTo t first end) ks m m′ leaves) (kids-more t now end more) (u .owes)
+      owes-more : Owes t γ s (kidsUpTo t first end) (treeAt t now then kidsUpTo t (now + 1) end) m m′
+      owes-more = subst (λ ks. Owes t γ s (kidsUpTo t first end) ks m m′) (kids-more t now end more) (u .owes)
 
     -- after a child that is not the last one tried
     pub turn-next : Long m m″ → eqb (now + 1) end || settles s (r .answer) ≡ false
-        → Turn t s γ first end m m″ (leaves + r .leaves) (now + 1)
+        → Turn t s γ first end m m″ (now + 1)
     turn-next long e =
         let b = or-false-both (eqb (now + 1) end) (settles s (r .answer)) e in
         let o = u .to in
@@ -177,19 +171,20 @@ module _ {t : List ℕ} {i first end : ℕ} (family : Family t i first end) wher
           from = omega (arith, u .from);
           to = more;
           long = long;
+          counted = p .counted;
           owes = owes-rest p (younger-apart more) (owes-more more) (b .1);
           highs = still;
         }
 
     -- after the last one tried
     pub turn-last : eqb (now + 1) end || settles s (r .answer) ≡ true
-        → Left t s γ first end m m″ (r .answer) (leaves + r .leaves)
+        → Left t s γ first end m m″ (r .answer)
     turn-last e =
         record {
           passed =
               elim (ℕ-discrete (now + 1) end) [
                 | yes z ↦ owes-last p
-                    (subst (λ ks. Owes t γ s (kidsUpTo t first end) ks m m′ leaves) (kids-last t now end z) (u .owes))
+                    (subst (λ ks. Owes t γ s (kidsUpTo t first end) ks m m′) (kids-last t now end z) (u .owes))
                 | no z ↦ (let o = u .to in
                     let more : now + 1 < end = omega arith in
                     owes-settled p (younger-apart more) (owes-more more) (rw (ne-eqb _ _ z) at e))

@@ -3,7 +3,7 @@ use Prim.Native.Nat.{ℕ, _+_, _-_, _≤_, _<_}
 use native.Mathlib.Omega.{arith}
 use mathlib.Core.Path.{_≡_, sym, ap, _∙_, subst}
 use mathlib.Core.Bool.{true, false, cond}
-use mathlib.Core.List.{List}
+use mathlib.Core.List.{List, [], _∷_}
 use lib.Dec.{leb}
 use lib.ListN.{getD, set}
 use Rattle.gametree.specs.declared.Place.{Place}
@@ -15,13 +15,15 @@ use Rattle.frames.specs.Formed.{WellFormed}
 use Rattle.frames.proofs.Places.{depth-at-most}
 use Rattle.frames.proofs.Trees.{in-kids, tree-leaf}
 use Rattle.frames.proofs.Nodes.{in-own, tree-distinct}
-use Rattle.bounds.specs.Marks.{marked}
+use Rattle.bounds.specs.Marks.{marked, ones}
+use Rattle.bounds.specs.engine.Progress.{progress, evaluateAll}
 use Rattle.bounds.specs.engine.Ranges.{bestIn}
 use Rattle.bounds.proofs.Bounds.{best-same, minimax-best}
 use Rattle.mtd.specs.declared.Seen.{Seen}
 use Rattle.mtd.specs.declared.Seen.the-variants.{Answered, Open}
 use Rattle.mtd.specs.declared.Tried.{Tried}
-use Rattle.mtd.specs.engine.Memory.{Memory, memory, MemoryRoom, HighsRight, VisitReady, Enterable, Passed}
+use Rattle.mtd.specs.engine.Memory.{Memory, memory, progressOf, MemoryRoom, HighsRight, VisitReady}
+use Rattle.mtd.specs.engine.Memory.{Enterable, Passed}
 use Rattle.mtd.specs.engine.Memory.{Looked}
 use Rattle.mtd.proofs.Arrays.{room-at}
 use Rattle.mtd.proofs.Passes.{leaf-passed, below-passed, not-below-passed, entered-passed}
@@ -33,33 +35,36 @@ passed-at : {t : List ℕ} {T U : Tree} {γ : ℕ} {m m′ : Memory} {r : Tried}
 passed-at {t} {T} {U} {γ} {m} {m′} {r} e p = subst (λ T. Passed t T γ m m′ r) (sym e) p
 
 -- what a look at node i gives, by what it saw
-module _ (t : List ℕ) (i γ : ℕ) (m m′ : Memory) (s : Seen) where
+module _ (t : List ℕ) (i γ : ℕ) (m : Memory) (m′ : ℕ → Memory) (s : Seen) where
   -- a node that was not entered
-  pub looked-answer : (r : Tried) → s ≡ Answered r → Passed t (treeAt t i) γ m m′ r → Looked t i γ m m′ s
+  pub looked-answer : (r : Tried) → s ≡ Answered r → Passed t (treeAt t i) γ m (m′ (r .leaves)) r → Looked t i γ m m′ s
   looked-answer r e p = subst (Looked t i γ m m′) (sym e) p
 
   module _ (l : Looked t i γ m m′ s) where
     -- the node was answered
-    pub looked-passed : (r : Tried) → s ≡ Answered r → Passed t (treeAt t i) γ m m′ r
+    pub looked-passed : (r : Tried) → s ≡ Answered r → Passed t (treeAt t i) γ m (m′ (r .leaves)) r
     looked-passed r e = subst (Looked t i γ m m′) e l
 
     -- the node is open, and ready to be entered
     module _ (e : s ≡ Open) where
-      open-known : (m′ ≡ m) × Enterable t m i γ
+      open-known : (m′ (m .leaves) ≡ m) × Enterable t m i γ
       open-known = subst (Looked t i γ m m′) e l
 
-      pub open-ready : {p : Place} → VisitReady t m i p → VisitReady t m′ i p × Enterable t m′ i γ
+      pub open-ready : {p : Place} → VisitReady t m i p
+          → VisitReady t (m′ (m .leaves)) i p × Enterable t (m′ (m .leaves)) i γ
       open-ready {p} ready =
           let k = open-known in
           (subst (λ x. VisitReady t x i p) (sym (k .0)) ready, subst (λ x. Enterable t x i γ) (sym (k .0)) (k .1))
 
-      pub open-passed : {m″ : Memory} {r : Tried} → Passed t (treeAt t i) γ m′ m″ r → Passed t (treeAt t i) γ m m″ r
+      pub open-passed : {m″ : Memory} {r : Tried} → Passed t (treeAt t i) γ (m′ (m .leaves)) m″ r
+          → Passed t (treeAt t i) γ m m″ r
       open-passed {m″} {r} p = subst (λ x. Passed t (treeAt t i) γ x m″ r) (open-known .0) p
 
 -- a visit that left the same arrays and gave the same
-pub passed-same : {t : List ℕ} {T : Tree} {γ : ℕ} {m : Memory} {e e′ h h′ f f′ : List ℕ} {r r′ : Tried}
-    → e ≡ e′ → h ≡ h′ → f ≡ f′ → r ≡ r′ → Passed t T γ m (memory e′ h′ f′) r′ → Passed t T γ m (memory e h f) r
-passed-same p q u v x = rw (p, q, u, v) x
+pub passed-same : {t : List ℕ} {T : Tree} {γ : ℕ} {m : Memory} {e e′ o o′ h h′ f f′ : List ℕ} {r r′ : Tried}
+    → e ≡ e′ → o ≡ o′ → h ≡ h′ → f ≡ f′ → r ≡ r′ → Passed t T γ m (memory (r′ .leaves) e′ o′ h′ f′) r′
+    → Passed t T γ m (memory (r .leaves) e o h f) r
+passed-same p z q u v x = rw (p, z, q, u, v) x
 
 -- a node's depth is small
 pub ready-shallow : {t : List ℕ} {m : Memory} {p : Place} {i : ℕ} → VisitReady t m i p → p .depth ≤ maxNodes
@@ -73,13 +78,16 @@ module _ (t : List ℕ) (wf : WellFormed t) (i : ℕ) (inside : i < frames t) (n
   leaf-known right e = right i (in-own t wf i) ∙ rw (tree-leaf t wf i inside none, e)
 
   -- it is tried: evaluated, if it was not before, and compared with the test
-  pub visit-leaf : (γ : ℕ) (e h : List ℕ) (r : Tried) → MemoryRoom (frames t) m
+  pub visit-leaf : (γ : ℕ) (e o h : List ℕ) (r : Tried) → MemoryRoom (frames t) m
+      → r .answer ≡ leb γ (valuation t i)
+      → progress (r .leaves) e o ≡ evaluateAll (progressOf m) (cond (marked (m .evaluated) i) [] (i ∷ []))
       → e ≡ set (m .evaluated) i 1 → h ≡ set (m .highs) i (valuation t i)
-      → r .answer ≡ leb γ (valuation t i) → r .leaves ≡ cond (marked (m .evaluated) i) 0 1
-      → Passed t (treeAt t i) γ m (memory e h (m .notBelow)) r
-  visit-leaf γ e h r room p q a l =
+      → r .leaves ≡ ones e (frames t)
+      → Passed t (treeAt t i) γ m (memory (r .leaves) e o h (m .notBelow)) r
+  visit-leaf γ e o h r room a w p q c =
       let is-leaf = tree-leaf t wf i inside none in
-      rw (p, q) (passed-at is-leaf (leaf-passed t i γ m r is-leaf (room-at room inside) a l))
+      rw (p, q) (passed-at is-leaf (leaf-passed t i γ m (r .leaves) o r is-leaf (room-at room inside) a
+      (rw p at w) (rw p at c)))
 
 -- an inner node
 module _ {t : List ℕ} {i first end : ℕ} (family : Family t i first end) {m : Memory} {p : Place}
@@ -91,22 +99,24 @@ module _ {t : List ℕ} {i first end : ℕ} (family : Family t i first end) {m :
   right-inner = subst (HighsRight t m) node-inner (ready .right)
 
   -- a node whose high is below the test is below
-  pub visit-below : {γ : ℕ} {r : Tried} → r .leaves ≡ 0 → r .answer ≡ false → getD (m .highs) i 0 < γ
+  pub visit-below : {γ : ℕ} {r : Tried} → r .answer ≡ false → getD (m .highs) i 0 < γ
       → Passed t (treeAt t i) γ m m r
-  visit-below {γ} n a h = passed-at node-inner (below-passed t i γ m (p .side) _ node-inner right-inner _ n a h)
+  visit-below {γ} a h =
+      passed-at node-inner (below-passed t i γ m (p .side) _ node-inner right-inner _ (ready .counted) a h)
 
   -- a node that a pass found not below is not below
-  pub visit-not-below : {γ : ℕ} {r : Tried} → r .leaves ≡ 0 → r .answer ≡ true → γ ≤ getD (m .highs) i 0
+  pub visit-not-below : {γ : ℕ} {r : Tried} → r .answer ≡ true → γ ≤ getD (m .highs) i 0
       → marked (m .notBelow) i ≡ true → Passed t (treeAt t i) γ m m r
-  visit-not-below {γ} n a h b =
-      passed-at node-inner (not-below-passed t i γ m (p .side) _ node-inner right-inner _ n a h b)
+  visit-not-below {γ} a h b =
+      passed-at node-inner (not-below-passed t i γ m (p .side) _ node-inner right-inner _ (ready .counted) a h b)
 
   -- any other is entered, and gets the best of its children's highs and their answer
   pub visit-entered : {γ v : ℕ} {m′ : Memory} {r : Tried} → γ ≤ getD (m .highs) i 0 → marked (m .notBelow) i ≡ false
-      → MemoryRoom (frames t) m′ → Left t (p .side) γ first end m m′ (r .answer) (r .leaves)
+      → MemoryRoom (frames t) m′ → Left t (p .side) γ first end m m′ (r .answer)
       → v ≡ bestIn (p .side) (λ k. getD (m′ .highs) k 0) first (end - (first + 1))
       → Passed t (treeAt t i) γ m
-      (memory (m′ .evaluated) (set (m′ .highs) i v) (set (m′ .notBelow) i (cond (r .answer) 1 0))) r
+      (memory (m′ .leaves) (m′ .evaluated) (m′ .order) (set (m′ .highs) i v)
+      (set (m′ .notBelow) i (cond (r .answer) 1 0))) r
   visit-entered {γ} {v} {m′} {r} h b room left best =
       let wf = family .formed in
       let n = end - (first + 1) in

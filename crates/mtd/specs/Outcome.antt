@@ -1,10 +1,11 @@
--- What a call of the search gives: its answer and what its two buffers hold then, from the table and the buffers alone.
+-- What a call of the search gives: its answer and what its buffers and its list hold then, from these and the table
+-- alone.
 use Prim.Native.Nat.{ℕ}
 use mathlib.Core.List.{List, [], _∷_}
 use lib.ListN.{length}
 use Rattle.gametree.specs.Mtd.{mtd}
 use Rattle.frames.specs.Tree.{tree, valuation}
-use Rattle.certificate.specs.Search.{searchRejection, findings, Search, Outcome, outcome}
+use Rattle.certificate.specs.Search.{searchRejection, findings, Search, Listed, listedOutcome}
 use Rattle.mtd.specs.declared.Found.{Found}
 use Rattle.mtd.specs.declared.Answer.{Answer}
 use Rattle.mtd.specs.declared.Answer.the-variants.{Found as FoundAnswer, Rejected}
@@ -21,8 +22,9 @@ mtdFound t = record { findings = findings (mtdLeaves t) t; passes = mtd (valuati
 abbrev pub mtdSearch : (t e c : List ℕ) → Search
 mtdSearch t e c = record { table = t; evaluated = e; certificate = c; leaves = mtdLeaves t }
 
--- the outcome of a call with the table t and the buffers e and c: the first "no" to questions 1 to 10, or the findings
-abbrev pub mtdOutcome : (t e c : List ℕ) → Outcome Answer
-mtdOutcome t e c =
-    outcome Rejected (FoundAnswer (mtdFound t))
-    (mtdSearch t e c) (searchRejection t (length e ∷ length c ∷ []))
+-- the outcome of a call with the table t, the buffers e and c and the list o: the first "no" to questions 1 to 10, or
+-- the findings
+abbrev pub mtdOutcome : (t e c o : List ℕ) → Listed Answer
+mtdOutcome t e c o =
+    listedOutcome Rejected (FoundAnswer (mtdFound t))
+    (mtdSearch t e c) o (searchRejection t (length e ∷ length c ∷ length o ∷ []))

@@ -1,11 +1,13 @@
 // MTD over a byte table: the public search, and its engine of passes with falling tests, each asking whether the root
 // is below its test.
+use bounds::Evaluation;
 use bounds::best;
 use bounds::clear;
-use bounds::evaluate;
+use bounds::evaluate_next;
 use certificate::Findings;
 use certificate::ask;
 use certificate::conclude;
+use certificate::shorter;
 use frames::Checked;
 use frames::GREATEST;
 use frames::MAX_NODES;
@@ -20,6 +22,7 @@ use gametree::Side;
 use places::SMALL;
 ghost use mathlib.Core.Path.{_≡_};
 ghost use mathlib.Core.Bool.{true, false, cond, _||_};
+ghost use mathlib.Core.List.{[], _∷_};
 ghost use Prim.Native.Nat.{ℕ, _+_, _<_, _≤_};
 ghost use lib.Dec.{leb, eqb};
 ghost use lib.ListN.{length, getD, set};
@@ -28,11 +31,12 @@ ghost use Rattle.frames.specs.Frame.{maxNodes, frames, childCount};
 ghost use Rattle.frames.specs.Place.{depthOf};
 ghost use Rattle.frames.specs.Tree.{treeAt, tree, valuation};
 ghost use Rattle.frames.specs.Formed.{WellFormed};
-ghost use Rattle.bounds.specs.Marks.{marked, markAll};
+ghost use Rattle.bounds.specs.Marks.{marked, ones};
 ghost use Rattle.bounds.specs.engine.Evaluable.{Evaluable};
-ghost use Rattle.certificate.specs.Search.{marksOf, flagsOf};
+ghost use Rattle.bounds.specs.engine.Progress.{progress, evaluateAll, Listable};
+ghost use Rattle.certificate.specs.Search.{marksOf, flagsOf, listed};
 ghost use Rattle.mtd.specs.Outcome.{mtdLeaves, mtdFound, mtdOutcome};
-ghost use Rattle.mtd.specs.engine.Memory.{memory, Fresh, VisitReady, Enterable, Passed, Looked, settledOf};
+ghost use Rattle.mtd.specs.engine.Memory.{memory, Fresh, VisitReady, Enterable, Passed, Looked};
 
 // What MTD finds: what every search finds, and how many passes were made.
 pub struct Found {
@@ -47,29 +51,41 @@ pub enum Answer {
 }
 
 // MTD of the whole tree: questions 1 to 10, then the value, the root move and the counts of evaluated leaves and of
-// passes; the marks of these leaves and the certificate (01: the proof) go into the buffers.
-pub fn search(table: &[u8], evaluated: &mut [u8], certificate: &mut [u8]) -> Answer
-    ensures { λ r. ⌜ record { answer = r; evaluated = now (evaluated .exit); certificate = now (certificate .exit) }
-        ≡ mtdOutcome (now (table .entry)) (now (evaluated .entry)) (now (certificate .entry)) ⌝ }
+// passes; the marks of these leaves and the certificate (01: the proof) go into the buffers, and the leaves' numbers
+// into the list.
+pub fn search(
+    table: &[u8],
+    evaluated: &mut [u8],
+    certificate: &mut [u8],
+    order: &mut [u16],
+) -> Answer
+    ensures { λ r. ⌜ record {
+      order = now (order .exit);
+      search = record { answer = r; evaluated = now (evaluated .exit); certificate = now (certificate .exit) };
+    } ≡ mtdOutcome (now (table .entry)) (now (evaluated .entry)) (now (certificate .entry))
+        (now (order .entry)) ⌝ }
 {
-    match ask(table, evaluated.len(), certificate.len()) {
-        Checked::Nodes(_) => Answer::Found(run(table, evaluated, certificate)),
+    let shortest = shorter(shorter(evaluated.len(), certificate.len()), order.len());
+    match ask(table, shortest) {
+        Checked::Nodes(_) => Answer::Found(run(table, evaluated, certificate, order)),
         Checked::Rejected(rejection) => Answer::Rejected(rejection),
     }
 }
 
 // The search of an accepted table, into buffers with an entry per node.
-fn run(table: &[u8], evaluated: &mut [u8], certificate: &mut [u8]) -> Found
+fn run(table: &[u8], evaluated: &mut [u8], certificate: &mut [u8], order: &mut [u16]) -> Found
     requires { ⌜ WellFormed (now table) ⌝ }
     requires { ⌜ (frames (now table) ≤ length (now evaluated)) × (frames (now table) ≤ length (now certificate)) ⌝ }
+    requires { ⌜ frames (now table) ≤ length (now order) ⌝ }
     ensures { λ r. ⌜ r ≡ mtdFound (now (table .entry)) ⌝ }
     ensures { λ _. ⌜ now (evaluated .exit)
         ≡ marksOf (mtdLeaves (now (table .entry))) (now (table .entry)) (now (evaluated .entry)) ⌝ }
     ensures { λ _. ⌜ now (certificate .exit)
         ≡ flagsOf (mtdLeaves (now (table .entry))) (now (table .entry)) (now (certificate .entry)) ⌝ }
+    ensures { λ _. ⌜ now (order .exit) ≡ listed (mtdLeaves (now (table .entry))) (now (order .entry)) ⌝ }
 {
     clear(evaluated, frame_count(table));
-    let settled = settle(table, evaluated);
+    let settled = settle(table, evaluated, order);
     let root_move = conclude(table, evaluated, certificate);
     let value = value(settled.score);
     Found {
@@ -91,32 +107,40 @@ struct Settled {
 }
 
 // The passes over a table without marks. A small table gets small work arrays, since their clearing takes time.
-fn settle(table: &[u8], evaluated: &mut [u8]) -> Settled
-    requires { ⌜ (WellFormed (now table)) × (frames (now table) ≤ length (now evaluated)) ⌝ }
+fn settle(table: &[u8], evaluated: &mut [u8], order: &mut [u16]) -> Settled
+    requires { ⌜ (WellFormed (now table)) × (frames (now table) ≤ length (now evaluated))
+        × (frames (now table) ≤ length (now order)) ⌝ }
     requires { ⌜ ((k : ℕ) → k < frames (now table) → marked (now evaluated) k ≡ false) ⌝ }
-    ensures { λ r. ⌜ r ≡ settledOf (mtd (valuation (now (table .entry))) (tree (now (table .entry)))) ⌝ }
-    ensures { λ _. ⌜ now (evaluated .exit) ≡ markAll (now (evaluated .entry)) (mtdLeaves (now (table .entry))) ⌝ }
+    ensures { λ r. ⌜ (r .score ≡ mtd (valuation (now (table .entry))) (tree (now (table .entry))) .value)
+        × (r .passes ≡ mtd (valuation (now (table .entry))) (tree (now (table .entry))) .passes) ⌝ }
+    ensures { λ r. ⌜ progress (r .leaves) (now (evaluated .exit)) (now (order .exit))
+        ≡ evaluateAll (progress 0 (now (evaluated .entry)) (now (order .entry))) (mtdLeaves (now (table .entry))) ⌝ }
+    ensures { λ r. ⌜ r .leaves ≡ ones (now (evaluated .exit)) (frames (now (table .entry))) ⌝ }
 {
     if frame_count(table) <= SMALL {
         let mut highs = [GREATEST; SMALL];
         let mut not_below = [0u8; SMALL];
-        return run_passes(table, evaluated, &mut highs, &mut not_below);
+        return run_passes(table, evaluated, order, &mut highs, &mut not_below);
     }
     let mut highs = [GREATEST; MAX_NODES];
     let mut not_below = [0u8; MAX_NODES];
-    run_passes(table, evaluated, &mut highs, &mut not_below)
+    run_passes(table, evaluated, order, &mut highs, &mut not_below)
 }
 
 // Passes from the greatest test, each with the root's high for the next test, until the root is not below.
 fn run_passes(
     table: &[u8],
     evaluated: &mut [u8],
+    order: &mut [u16],
     highs: &mut [u32],
     not_below: &mut [u8],
 ) -> Settled
-    requires { ⌜ Fresh (now table) (memory (now evaluated) (now highs) (now «not_below»)) ⌝ }
-    ensures { λ r. ⌜ r ≡ settledOf (mtd (valuation (now (table .entry))) (tree (now (table .entry)))) ⌝ }
-    ensures { λ _. ⌜ now (evaluated .exit) ≡ markAll (now (evaluated .entry)) (mtdLeaves (now (table .entry))) ⌝ }
+    requires { ⌜ Fresh (now table) (memory 0 (now evaluated) (now order) (now highs) (now «not_below»)) ⌝ }
+    ensures { λ r. ⌜ (r .score ≡ mtd (valuation (now (table .entry))) (tree (now (table .entry))) .value)
+        × (r .passes ≡ mtd (valuation (now (table .entry))) (tree (now (table .entry))) .passes) ⌝ }
+    ensures { λ r. ⌜ progress (r .leaves) (now (evaluated .exit)) (now (order .exit))
+        ≡ evaluateAll (progress 0 (now (evaluated .entry)) (now (order .entry))) (mtdLeaves (now (table .entry))) ⌝ }
+    ensures { λ r. ⌜ r .leaves ≡ ones (now (evaluated .exit)) (frames (now (table .entry))) ⌝ }
 {
     let root = Place {
         depth: 0,
@@ -126,8 +150,18 @@ fn run_passes(
     let mut leaves = 0;
     let mut passes = 0;
     loop {
-        let tried = visit(table, evaluated, highs, not_below, 0, root, test);
-        leaves += tried.leaves;
+        let tried = visit(
+            table,
+            evaluated,
+            order,
+            highs,
+            not_below,
+            0,
+            root,
+            test,
+            leaves,
+        );
+        leaves = tried.leaves;
         passes += 1;
         if tried.answer {
             break;
@@ -149,8 +183,8 @@ fn next_test(highs: &[u32]) -> u32
     highs[0]
 }
 
-// What a node that was tried gives: the answer, true where the node is not below the test, and how many leaves were
-// evaluated.
+// What a node that was tried gives: the answer, true where the node is not below the test, and how many leaves are
+// evaluated by then.
 struct Tried {
     answer: bool,
     leaves: usize,
@@ -160,20 +194,44 @@ struct Tried {
 fn visit(
     table: &[u8],
     evaluated: &mut [u8],
+    order: &mut [u16],
     highs: &mut [u32],
     not_below: &mut [u8],
     node: usize,
     place: Place,
     test: u32,
+    leaves: usize,
 ) -> Tried
-    requires { ⌜ VisitReady (now table) (memory (now evaluated) (now highs) (now «not_below»)) node place ⌝ }
+    requires { ⌜ VisitReady (now table) (memory leaves (now evaluated) (now order) (now highs) (now «not_below»)) node
+        place ⌝ }
     ensures { λ r. ⌜ Passed (now (table .entry)) (treeAt (now (table .entry)) node) test
-        (memory (now (evaluated .entry)) (now (highs .entry)) (now («not_below» .entry)))
-        (memory (now (evaluated .exit)) (now (highs .exit)) (now («not_below» .exit))) r ⌝ }
+        (memory leaves (now (evaluated .entry)) (now (order .entry)) (now (highs .entry)) (now («not_below» .entry)))
+        (memory (r .leaves) (now (evaluated .exit)) (now (order .exit)) (now (highs .exit)) (now («not_below» .exit)))
+        r ⌝ }
 {
-    match look(table, evaluated, highs, not_below, node, place, test) {
+    match look(
+        table,
+        evaluated,
+        order,
+        highs,
+        not_below,
+        node,
+        place,
+        test,
+        leaves,
+    ) {
         Seen::Answered(tried) => tried,
-        Seen::Open => enter(table, evaluated, highs, not_below, node, place, test),
+        Seen::Open => enter(
+            table,
+            evaluated,
+            order,
+            highs,
+            not_below,
+            node,
+            place,
+            test,
+            leaves,
+        ),
     }
 }
 
@@ -188,25 +246,38 @@ enum Seen {
 fn look(
     table: &[u8],
     evaluated: &mut [u8],
+    order: &mut [u16],
     highs: &mut [u32],
     not_below: &[u8],
     node: usize,
     place: Place,
     test: u32,
+    leaves: usize,
 ) -> Seen
-    requires { ⌜ VisitReady (now table) (memory (now evaluated) (now highs) (now «not_below»)) node place ⌝ }
+    requires { ⌜ VisitReady (now table) (memory leaves (now evaluated) (now order) (now highs) (now «not_below»)) node
+        place ⌝ }
     ensures { λ r. ⌜ Looked (now (table .entry)) node test
-        (memory (now (evaluated .entry)) (now (highs .entry)) (now («not_below» .entry)))
-        (memory (now (evaluated .exit)) (now (highs .exit)) (now («not_below» .entry))) r ⌝ }
+        (memory leaves (now (evaluated .entry)) (now (order .entry)) (now (highs .entry)) (now («not_below» .entry)))
+        (λ n. memory n (now (evaluated .exit)) (now (order .exit)) (now (highs .exit)) (now («not_below» .entry)))
+        r ⌝ }
 {
     if child_count(table, node) == 0 {
-        return Seen::Answered(visit_leaf(table, evaluated, highs, node, place.depth, test));
+        return Seen::Answered(visit_leaf(
+            table,
+            evaluated,
+            order,
+            highs,
+            node,
+            place.depth,
+            test,
+            leaves,
+        ));
     }
     if highs[node] < test {
-        return not_entered(false);
+        return not_entered(false, leaves);
     }
     if not_below[node] == 1 {
-        return not_entered(true);
+        return not_entered(true, leaves);
     }
     Seen::Open
 }
@@ -216,30 +287,54 @@ fn look(
 fn enter(
     table: &[u8],
     evaluated: &mut [u8],
+    order: &mut [u16],
     highs: &mut [u32],
     not_below: &mut [u8],
     node: usize,
     place: Place,
     test: u32,
+    mut leaves: usize,
 ) -> Tried
-    requires { ⌜ VisitReady (now table) (memory (now evaluated) (now highs) (now «not_below»)) node place ⌝ }
-    requires { ⌜ Enterable (now table) (memory (now evaluated) (now highs) (now «not_below»)) node test ⌝ }
+    requires { ⌜ VisitReady (now table) (memory leaves (now evaluated) (now order) (now highs) (now «not_below»)) node
+        place ⌝ }
+    requires { ⌜ Enterable (now table) (memory leaves (now evaluated) (now order) (now highs) (now «not_below»)) node
+        test ⌝ }
     ensures { λ r. ⌜ Passed (now (table .entry)) (treeAt (now (table .entry)) node) test
-        (memory (now (evaluated .entry)) (now (highs .entry)) (now («not_below» .entry)))
-        (memory (now (evaluated .exit)) (now (highs .exit)) (now («not_below» .exit))) r ⌝ }
+        (memory leaves (now (evaluated .entry)) (now (order .entry)) (now (highs .entry)) (now («not_below» .entry)))
+        (memory (r .leaves) (now (evaluated .exit)) (now (order .exit)) (now (highs .exit)) (now («not_below» .exit)))
+        r ⌝ }
 {
     let side = place.side;
     let first = first_child(table, node);
     let end = first + child_count(table, node);
     let mut child = first;
-    let mut leaves = 0;
     let answer = loop {
         let at = child_place(table, child, place);
-        let tried = match look(table, evaluated, highs, not_below, child, at, test) {
+        let tried = match look(
+            table,
+            evaluated,
+            order,
+            highs,
+            not_below,
+            child,
+            at,
+            test,
+            leaves,
+        ) {
             Seen::Answered(tried) => tried,
-            Seen::Open => enter(table, evaluated, highs, not_below, child, at, test),
+            Seen::Open => enter(
+                table,
+                evaluated,
+                order,
+                highs,
+                not_below,
+                child,
+                at,
+                test,
+                leaves,
+            ),
         };
-        leaves += tried.leaves;
+        leaves = tried.leaves;
         child += 1;
         if last_tried(side, tried.answer, child, end) {
             break tried.answer;
@@ -252,10 +347,10 @@ fn enter(
 }
 
 // A node that is not entered has its answer at once.
-fn not_entered(answer: bool) -> Seen
-    ensures { λ r. ⌜ r ≡ Seen.Answered (record { answer = answer; leaves = 0 }) ⌝ }
+fn not_entered(answer: bool, leaves: usize) -> Seen
+    ensures { λ r. ⌜ r ≡ Seen.Answered (record { answer = answer; leaves = leaves }) ⌝ }
 {
-    Seen::Answered(Tried { answer, leaves: 0 })
+    Seen::Answered(Tried { answer, leaves })
 }
 
 // Is the child with this answer the last one tried: it settles its parent, or there is no other.
@@ -284,45 +379,58 @@ fn settles(side: Side, answer: bool) -> bool
 fn visit_leaf(
     table: &[u8],
     evaluated: &mut [u8],
+    order: &mut [u16],
     highs: &mut [u32],
     node: usize,
     depth: u32,
     test: u32,
+    leaves: usize,
 ) -> Tried
     requires { ⌜ (node < frames (now table)) × (node < length (now evaluated)) × (node < length (now highs)) ⌝ }
     requires { ⌜ (childCount (now table) node ≡ 0) × (depth ≡ depthOf (now table) node) × (depth ≤ maxNodes) ⌝ }
     requires { ⌜ (marked (now evaluated) node ≡ true → getD (now highs) node 0 ≡ valuation (now table) node) ⌝ }
+    requires { ⌜ Listable (now table) (progress leaves (now evaluated) (now order)) ⌝ }
     ensures { λ r. ⌜ r .answer ≡ leb test (valuation (now (table .entry)) node) ⌝ }
-    ensures { λ r. ⌜ r .leaves ≡ cond (marked (now (evaluated .entry)) node) 0 1 ⌝ }
+    ensures { λ r. ⌜ progress (r .leaves) (now (evaluated .exit)) (now (order .exit))
+        ≡ evaluateAll (progress leaves (now (evaluated .entry)) (now (order .entry)))
+        (cond (marked (now (evaluated .entry)) node) [] (node ∷ [])) ⌝ }
     ensures { λ _. ⌜ now (evaluated .exit) ≡ set (now (evaluated .entry)) node 1 ⌝ }
     ensures { λ _. ⌜ now (highs .exit) ≡ set (now (highs .entry)) node (valuation (now (table .entry)) node) ⌝ }
+    ensures { λ r. ⌜ r .leaves ≡ ones (now (evaluated .exit)) (frames (now (table .entry))) ⌝ }
 {
     if evaluated[node] == 1 {
         let answer = test <= highs[node];
-        return Tried { answer, leaves: 0 };
+        return Tried { answer, leaves };
     }
-    let score = evaluate_leaf(table, evaluated, highs, node, depth);
-    let answer = test <= score;
-    Tried { answer, leaves: 1 }
+    let leaf = evaluate_leaf(table, evaluated, order, highs, node, depth, leaves);
+    let answer = test <= leaf.score;
+    Tried {
+        answer,
+        leaves: leaf.leaves,
+    }
 }
 
 // A leaf without a mark is evaluated, and its score is its high from then on.
 fn evaluate_leaf(
     table: &[u8],
     evaluated: &mut [u8],
+    order: &mut [u16],
     highs: &mut [u32],
     node: usize,
     depth: u32,
-) -> u32
+    leaves: usize,
+) -> Evaluation
     requires { ⌜ Evaluable (now table) (now evaluated) node depth ⌝ }
+    requires { ⌜ Listable (now table) (progress leaves (now evaluated) (now order)) ⌝ }
     requires { ⌜ node < length (now highs) ⌝ }
-    ensures { λ r. ⌜ r ≡ valuation (now (table .entry)) node ⌝ }
+    ensures { λ r. ⌜ (r .score ≡ valuation (now (table .entry)) node) × (r .leaves ≡ leaves + 1) ⌝ }
     ensures { λ _. ⌜ now (evaluated .exit) ≡ set (now (evaluated .entry)) node 1 ⌝ }
-    ensures { λ r. ⌜ now (highs .exit) ≡ set (now (highs .entry)) node r ⌝ }
+    ensures { λ _. ⌜ now (order .exit) ≡ set (now (order .entry)) leaves node ⌝ }
+    ensures { λ r. ⌜ now (highs .exit) ≡ set (now (highs .entry)) node (r .score) ⌝ }
 {
-    let score = evaluate(table, evaluated, node, depth);
-    highs[node] = score;
-    score
+    let leaf = evaluate_next(table, evaluated, order, node, depth, leaves);
+    highs[node] = leaf.score;
+    leaf
 }
 
 // The entry of `not_below` for an answer: 1 where the node is not below.

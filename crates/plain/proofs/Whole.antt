@@ -28,10 +28,11 @@ use Rattle.plain.specs.Outcome.{allLeaves, plainFound}
 use Rattle.plain.specs.engine.Ready.{Ready}
 
 -- with nodes for an answer to the questions the search may be run
-pub may-run : (t : List ℕ) (e c n : ℕ) → Nodes n ≡ asked t e c → Accepted t × ((frames t ≤ e) × (frames t ≤ c))
+pub may-run : (t : List ℕ) (e c n : ℕ) → Nodes n ≡ asked t (e ∷ c ∷ [])
+    → Accepted t × ((frames t ≤ e) × (frames t ≤ c))
 may-run t e c n h =
-    let p = passed-room t e c (answer-nodes (frames t) n (searchRejection t (e ∷ c ∷ [])) h .0) in
-    (p .0, (p .1, p .2))
+    let p = passed-room t (e ∷ c ∷ []) (answer-nodes (frames t) n (searchRejection t (e ∷ c ∷ [])) h .0) in
+    (p .0, (p .1 .0, p .1 .1 .0))
 
 module _ (t : List ℕ) (a : Accepted t) where
   -- after the clearing it is Max's turn at the root

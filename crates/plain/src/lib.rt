@@ -4,6 +4,7 @@ use bounds::clear;
 use bounds::evaluate;
 use certificate::ask;
 use certificate::conclude;
+use certificate::shorter;
 use frames::Checked;
 use frames::GREATEST;
 use frames::LEAST;
@@ -49,7 +50,7 @@ pub fn search(table: &[u8], evaluated: &mut [u8], certificate: &mut [u8]) -> Ans
     ensures { λ r. ⌜ record { answer = r; evaluated = now (evaluated .exit); certificate = now (certificate .exit) }
         ≡ plainOutcome (now (table .entry)) (now (evaluated .entry)) (now (certificate .entry)) ⌝ }
 {
-    match ask(table, evaluated.len(), certificate.len()) {
+    match ask(table, shorter(evaluated.len(), certificate.len())) {
         Checked::Nodes(_) => Answer::Found(run(table, evaluated, certificate)),
         Checked::Rejected(rejection) => Answer::Rejected(rejection),
     }

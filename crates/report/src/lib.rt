@@ -87,10 +87,12 @@ fn put_ab(table: &[u8], text: &mut [u8], at: usize) -> usize
 {
     let mut evaluated = [0u8; MAX_NODES];
     let mut certificate = [0u8; MAX_NODES];
+    let mut order = [0u16; MAX_NODES];
     let alphabeta::Answer::Found(findings) = alphabeta::search(
         table,
         &mut evaluated,
         &mut certificate,
+        &mut order,
     ) else {
         return at;
     };
@@ -104,7 +106,9 @@ fn put_mtd(table: &[u8], text: &mut [u8], at: usize) -> usize
 {
     let mut evaluated = [0u8; MAX_NODES];
     let mut certificate = [0u8; MAX_NODES];
-    let mtd::Answer::Found(found) = mtd::search(table, &mut evaluated, &mut certificate) else {
+    let mut order = [0u16; MAX_NODES];
+    let mtd::Answer::Found(found) = mtd::search(table, &mut evaluated, &mut certificate, &mut order)
+    else {
         return at;
     };
     let findings = found.findings;
@@ -118,7 +122,14 @@ fn put_sss(table: &[u8], text: &mut [u8], at: usize) -> usize
 {
     let mut evaluated = [0u8; MAX_NODES];
     let mut certificate = [0u8; MAX_NODES];
-    let answer = sss::solve(table, &mut evaluated, &mut certificate, MAX_NODES);
+    let mut order = [0u16; MAX_NODES];
+    let answer = sss::solve(
+        table,
+        &mut evaluated,
+        &mut certificate,
+        &mut order,
+        MAX_NODES,
+    );
     let sss::Answer::Found(found) = answer else {
         return at;
     };

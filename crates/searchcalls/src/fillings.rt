@@ -32,8 +32,9 @@ fn print_filled(table: &mut [u8]) {
 fn print_cost(table: &[u8]) {
     let mut evaluated = [0u8; MAX_NODES];
     let mut certificate = [0u8; MAX_NODES];
+    let mut order = [0u16; MAX_NODES];
     io::write_all(STDOUT_FILENO, b"ab");
-    match alphabeta::search(table, &mut evaluated, &mut certificate) {
+    match alphabeta::search(table, &mut evaluated, &mut certificate, &mut order) {
         alphabeta::Answer::Found(findings) => print_count(findings.leaves),
         alphabeta::Answer::Rejected(rejection) => print_rejection(rejection),
     }

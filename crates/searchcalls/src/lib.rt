@@ -4,6 +4,7 @@ mod found;
 
 use casetext::print::print_bytes;
 use casetext::print::print_line_feed;
+use casetext::print::print_numbers;
 use found::print_alphabeta;
 use found::print_mtd;
 use found::print_plain;
@@ -14,16 +15,20 @@ use tablecalls::certificates::print_verdict;
 use tablecalls::tables::FILLED;
 use tablecalls::tables::TABLE_SIZE;
 use tablecalls::tables::read_table;
+ghost use Rattle.io.specs.Counts.{Counts};
 
-// The searches with buffers of these lengths for the marks and for the certificate.
-pub fn print_searches(file: &[u8], marks: u32, flags: u32) {
+// What lent lists are filled with: it is no node's number.
+const UNLISTED: u16 = 43690;
+
+// The searches with buffers of these lengths for the marks and the certificate, and a list of so many entries.
+pub fn print_searches(file: &[u8], marks: u32, flags: u32, entries: u32) {
     let mut table = [0u8; TABLE_SIZE];
     let size = read_table(file, &mut table);
-    print_all(&table[..size], marks, flags);
+    print_all(&table[..size], marks, flags, entries);
 }
 
-// SSS* with an allowance of so many leaves and buffers of these lengths.
-pub fn print_allowed(file: &[u8], allowance: u32, marks: u32, flags: u32) {
+// SSS* with an allowance of so many leaves, and buffers and a list of these lengths.
+pub fn print_allowed(file: &[u8], allowance: u32, marks: u32, flags: u32, entries: u32) {
     let mut table = [0u8; TABLE_SIZE];
     let size = read_table(file, &mut table);
     print_search(
@@ -31,6 +36,7 @@ pub fn print_allowed(file: &[u8], allowance: u32, marks: u32, flags: u32) {
         &table[..size],
         marks,
         flags,
+        entries,
     );
 }
 
@@ -45,15 +51,15 @@ pub fn print_checks(file: &[u8], size: u32) {
 fn print_checks_of(table: &[u8]) {
     print_checked(b"check", tables::check(table));
     print_verdict(table, b"");
-    print_all(table, 0, 0);
+    print_all(table, 0, 0, 0);
 }
 
-// The three searches and the plain engine.
-fn print_all(table: &[u8], marks: u32, flags: u32) {
-    print_search(Method::AlphaBeta, table, marks, flags);
-    print_search(Method::Mtd, table, marks, flags);
-    print_search(Method::Sss(MAX_NODES), table, marks, flags);
-    print_search(Method::Plain, table, marks, flags);
+// The three searches, and the plain engine, which fills no list.
+fn print_all(table: &[u8], marks: u32, flags: u32, entries: u32) {
+    print_search(Method::AlphaBeta, table, marks, flags, entries);
+    print_search(Method::Mtd, table, marks, flags, entries);
+    print_search(Method::Sss(MAX_NODES), table, marks, flags, entries);
+    print_search(Method::Plain, table, marks, flags, 0);
 }
 
 // The searches; SSS* has an allowance of leaves.
@@ -64,37 +70,74 @@ enum Method {
     Plain,
 }
 
-// A search with parts of filled buffers.
-fn print_search(method: Method, table: &[u8], marks: u32, flags: u32) {
+// A search with parts of filled buffers and of a filled list.
+fn print_search(method: Method, table: &[u8], marks: u32, flags: u32, entries: u32) {
     let mut evaluated = [FILLED; MAX_NODES];
     let end = io::count(marks as isize, &evaluated);
-    print_marked(method, table, &mut evaluated[..end], flags);
+    print_marked(method, table, &mut evaluated[..end], flags, entries);
 }
 
-fn print_marked(method: Method, table: &[u8], evaluated: &mut [u8], flags: u32) {
+fn print_marked(method: Method, table: &[u8], evaluated: &mut [u8], flags: u32, entries: u32) {
     let mut certificate = [FILLED; MAX_NODES];
     let end = io::count(flags as isize, &certificate);
-    print_lent(method, table, evaluated, &mut certificate[..end]);
+    print_listed(method, table, evaluated, &mut certificate[..end], entries);
 }
 
-// What a search answers, the marks, the certificate, and the verdict on it.
-fn print_lent(method: Method, table: &[u8], evaluated: &mut [u8], certificate: &mut [u8]) {
-    print_answer(method, table, evaluated, certificate);
+fn print_listed(
+    method: Method,
+    table: &[u8],
+    evaluated: &mut [u8],
+    certificate: &mut [u8],
+    entries: u32,
+) {
+    let mut order = [UNLISTED; MAX_NODES];
+    let end = count_entries(entries, &order);
+    print_lent(method, table, evaluated, certificate, &mut order[..end]);
+}
+
+// So many of a list's entries, at most all: `io::count` for a list of numbers.
+fn count_entries(entries: u32, order: &[u16]) -> usize
+    ensures { λ r. ⌜ Counts r (now (order .entry)) ⌝ }
+{
+    let most = order.len();
+    let wanted = entries as usize;
+    if wanted < most {
+        return wanted;
+    }
+    most
+}
+
+// What a search answers, the marks, the certificate, the list of leaves, and the verdict on the certificate.
+fn print_lent(
+    method: Method,
+    table: &[u8],
+    evaluated: &mut [u8],
+    certificate: &mut [u8],
+    order: &mut [u16],
+) {
+    print_answer(method, table, evaluated, certificate, order);
     print_line_feed();
     print_bytes(b"evaluated", evaluated);
     print_bytes(b"certificate", certificate);
+    print_numbers(b"order", order);
     print_verdict(table, certificate);
 }
 
 // Each arm returns, so that no branches meet behind the calls that write.
-fn print_answer(method: Method, table: &[u8], evaluated: &mut [u8], certificate: &mut [u8]) {
+fn print_answer(
+    method: Method,
+    table: &[u8],
+    evaluated: &mut [u8],
+    certificate: &mut [u8],
+    order: &mut [u16],
+) {
     match method {
         Method::AlphaBeta => {
-            return print_alphabeta(alphabeta::search(table, evaluated, certificate));
+            return print_alphabeta(alphabeta::search(table, evaluated, certificate, order));
         }
-        Method::Mtd => return print_mtd(mtd::search(table, evaluated, certificate)),
+        Method::Mtd => return print_mtd(mtd::search(table, evaluated, certificate, order)),
         Method::Sss(allowance) => {
-            return print_sss(sss::solve(table, evaluated, certificate, allowance));
+            return print_sss(sss::solve(table, evaluated, certificate, order, allowance));
         }
         Method::Plain => return print_plain(plain::search(table, evaluated, certificate)),
     }

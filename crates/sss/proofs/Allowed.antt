@@ -1,100 +1,161 @@
--- Whether an allowance is enough: the run within it is then the full run, and what a call gives is what the full run
--- finds; and what an answer says of the run.
-use Prim.Native.Nat.{ℕ, _≤_}
+-- What a call gives and leaves within an allowance, by how the run ends that the code makes; and what an answer says of
+-- the evaluations that are not covered.
+use Prim.Native.Nat.{ℕ, _≤_, _<_}
 use native.Mathlib.Omega.{arith}
-use mathlib.Core.Path.{_≡_, refl, ap}
-use mathlib.Core.Logic.{⊎-elim}
+use mathlib.Core.Path.{_≡_, refl, sym, ap, _∙_}
 use mathlib.Core.Option.{Option, none, some}
 use mathlib.Core.List.{List, [], _∷_}
-use lib.ListN.{length}
+use lib.ListN.{length, drop-of-length-le}
+use Rattle.lists.specs.Lists.{All}
+use Rattle.gametree.specs.Tree.{minimax}
 use Rattle.gametree.specs.Layout.{layoutOf}
 use Rattle.gametree.specs.Sss as theory
+use Rattle.gametree.specs.Allowance.{Evaluation, evaluationsOver}
+use Rattle.gametree.specs.engine.Within.{sssWithin}
 use Rattle.lists.proofs.Choice.{clash}
-use Rattle.gametree.proofs.Theorems.{sss-minimax}
-use Rattle.gametree.proofs.Within.{within-full, within-ends, full-few}
+use Rattle.gametree.proofs.Theorems.{sss-minimax, search-deciding}
+use Rattle.gametree.proofs.Searches.{Searched, bySss, Deciding}
+use Rattle.gametree.proofs.Within.{evaluations-count, covered-full, spent-first, within-value, within-count, within-all}
+use Rattle.gametree.proofs.Within.{full-few}
 use Rattle.frames.specs.declared.Rejection.{Rejection}
 use Rattle.frames.specs.Frame.{frames}
 use Rattle.frames.specs.Tree.{tree, valuation}
+use Rattle.frames.specs.Value.{valueOf}
 use Rattle.frames.specs.Formed.{WellFormed}
-use Rattle.frames.proofs.Stated.{both-passed}
 use Rattle.frames.proofs.Totals.{tree-size}
 use Rattle.frames.proofs.Proper.{tree-proper}
-use Rattle.certificate.specs.Search.{searchRejection, Outcome, outcome}
-use Rattle.states.specs.declared.State.{State}
+use Rattle.certificate.specs.Search.{marksOf, listed, Listed, listedOutcome}
+use Rattle.certificate.proofs.Marks.{evaluated-within}
 use Rattle.sss.specs.declared.Found.{Found}
 use Rattle.sss.specs.declared.Spent.{Spent}
 use Rattle.sss.specs.declared.Answer.{Answer}
 use Rattle.sss.specs.declared.Answer.the-variants.{Found as FoundAnswer, Spent as SpentAnswer}
 use Rattle.sss.specs.declared.Answer.the-variants.{Rejected as RejectedAnswer}
-use Rattle.sss.specs.Outcome.{sssRun, runSpent, runOutcome, outcomeBy, spentMerit, runOf, sssLeaves, sssFound}
-use Rattle.sss.specs.Outcome.{sssSearch, check15, sssRejection, sssOutcome}
+use Rattle.sss.specs.Outcome.{runOf, sssLeaves, sssFound, sssSearch, sssUncovered, sssSpent, outcomeBy}
+use Rattle.sss.specs.Outcome.{withinOutcome}
 use Rattle.sss.proofs.Replacements.{own}
-use Rattle.sss.proofs.Whole.{value-full, passed}
 
 module _ (t : List ℕ) (wf : WellFormed t) where
-  -- the full run evaluates no more leaves than there are nodes
+  pub searched : Searched (valuation t) (tree t) (sssLeaves t)
+  searched = bySss
+
+  pub decides : Deciding (valuation t) (tree t) (sssLeaves t)
+  decides = search-deciding (valuation t) (tree t) (tree-proper t wf) searched
+
+  -- the full run ends with the minimax value
+  pub full-ends : runOf t .end ≡ theory.finished (minimax (valuation t) (tree t))
+  full-ends = sss-minimax (valuation t) (tree t) (tree-proper t wf .scored) (layoutOf (tree t)) (own t wf)
+
+  -- it evaluates no more leaves than there are nodes
   pub leaves-few : length (sssLeaves t) ≤ frames t
   leaves-few =
       omega (arith, full-few (valuation t) (tree t) (tree-proper t wf) (layoutOf (tree t)) (own t wf), tree-size t wf)
 
-  -- an allowance of as many leaves as it evaluates, or more, gives the full run
-  pub enough : (a : ℕ) → length (sssLeaves t) ≤ a → sssRun a t ≡ runOf t
-  enough a h = within-full (valuation t) (tree t) (tree-proper t wf .scored) (layoutOf (tree t)) (own t wf) a h
+  module _ (a : ℕ) where
+    abbrev within : theory.Ran
+    within = sssWithin a (valuation t) (tree t)
 
-  -- no allowance ended the full run
-  full-ends : spentMerit (runOf t .end) ≡ none
-  full-ends =
-      ap spentMerit (sss-minimax (valuation t) (tree t) (tree-proper t wf .scored) (layoutOf (tree t)) (own t wf))
+    -- an allowance of as many leaves as the full run evaluates, or more, covers them all
+    pub enough : length (sssLeaves t) ≤ a → sssUncovered a t ≡ []
+    enough h =
+        drop-of-length-le (evaluationsOver (valuation t) (layoutOf (tree t)) (tree t)) {i = a}
+        (omega (arith, evaluations-count (valuation t) (tree t) (layoutOf (tree t))))
 
-  module _ (e c : List ℕ) (q : Option Rejection) where
-    -- what a call gives and leaves whose questions were answered so, and whose run is the full run
-    abbrev pub Full : Outcome Answer
-    Full = outcome RejectedAnswer (FoundAnswer (sssFound t)) (sssSearch t e c) q
+    -- with a value the run is the full run, and the value is the minimax value
+    pub value-full : {v : ℕ} → within .end ≡ theory.finished v → within ≡ runOf t
+    value-full {v} e =
+        within-value (valuation t) (tree t) (tree-proper t wf .scored) (layoutOf (tree t)) (own t wf) a v e
 
-    pub full-outcome : (r : theory.Ran) → r ≡ runOf t → runOutcome r t e c q ≡ Full
-    full-outcome r p = rw (p, full-ends)
+    pub value-minimax : {v : ℕ} → within .end ≡ theory.finished v → v ≡ minimax (valuation t) (tree t)
+    value-minimax e = cc (e, ap (λ r. r .end) (value-full e), full-ends)
 
--- the answers of a run by what ended it
-module _ (t e c : List ℕ) (r : theory.Ran) where
-  -- a rejection is the first "no", and the buffers are as they were
-  pub by-rejection : (m : Option ℕ) (q : Option Rejection) (x : Rejection)
-      → outcomeBy m r t e c q .answer ≡ RejectedAnswer x
-      → (q ≡ some x) × (outcomeBy m r t e c q ≡ record { answer = RejectedAnswer x; evaluated = e; certificate = c })
-  by-rejection none none x o = clash (cc)
-  by-rejection (some m) none x o = clash (cc)
-  by-rejection none (some y) x o = let i : y ≡ x = cc in (rw i refl, rw i refl)
-  by-rejection (some m) (some y) x o = let i : y ≡ x = cc in (rw i refl, rw i refl)
+    -- its leaves lie within the table
+    pub leaves-within : All (λ k. k < frames t) (within .evaluated)
+    leaves-within =
+        within-all (valuation t) (tree t) (tree-proper t wf) (layoutOf (tree t)) (own t wf) a (λ k. k < frames t)
+        (evaluated-within t wf decides)
 
-  -- with findings every question was passed, and no allowance ended the run
-  pub by-value : (m : Option ℕ) (q : Option Rejection) (f : Found) → outcomeBy m r t e c q .answer ≡ FoundAnswer f
-      → (q ≡ none) × (m ≡ none)
-  by-value none none f o = (refl, refl)
-  by-value none (some y) f o = clash (cc)
-  by-value (some m) none f o = clash (cc)
-  by-value (some m) (some y) f o = clash (cc)
+    -- where it ends with a value, the allowance covers all evaluations
+    pub finished-covered : {v : ℕ} → within .end ≡ theory.finished v → sssUncovered a t ≡ []
+    finished-covered {v} e = by-left (sssUncovered a t) refl
+      where
+        by-left : (xs : List Evaluation) → sssUncovered a t ≡ xs → sssUncovered a t ≡ []
+        by-left [] i = i
+        by-left (x ∷ xs) i =
+            let s = spent-first (valuation t) (tree t) (layoutOf (tree t)) a x xs i in
+            clash (cc (e, ap (λ r. r .end) s))
 
-  -- where the allowance is spent, every question was passed, and it ended the run
-  pub by-allowance : (m : Option ℕ) (q : Option Rejection) (s : Spent) → outcomeBy m r t e c q .answer ≡ SpentAnswer s
-      → (q ≡ none) × ((k : ℕ) × ((m ≡ some k) × (s ≡ runSpent r k)))
-  by-allowance none none s o = clash (cc)
-  by-allowance none (some y) s o = clash (cc)
-  by-allowance (some m) (some y) s o = clash (cc)
-  by-allowance (some m) none s o = (refl, (m, (refl, cc)))
+    module _ (e c o : List ℕ) where
+      -- so the outcome is that of the full run
+      pub outcome-found : {v : ℕ} → within .end ≡ theory.finished v
+          → withinOutcome a t e c o none
+          ≡ listedOutcome RejectedAnswer (FoundAnswer (sssFound t)) (sssSearch t e c) o none
+      outcome-found h = ap (λ xs. outcomeBy xs a t e c o none) (finished-covered h)
 
--- a run that no allowance ended is the full run
-pub value-run : (a : ℕ) (t : List ℕ) → WellFormed t → spentMerit (sssRun a t .end) ≡ none → sssRun a t ≡ runOf t
-value-run a t wf e =
-    ⊎-elim (λ f. value-full t wf a _ f) (λ s. clash (cc (e, ap spentMerit (s .1))))
-    (within-ends (valuation t) (tree t) (tree-proper t wf .scored) (layoutOf (tree t)) (own t wf) a)
+      -- where it ends spent, the outcome has its merit, its counts and its leaves
+      module _ (m k : ℕ) (w : List ℕ) where
+        abbrev Spending : Listed Answer
+        Spending = record {
+          order = listed w o;
+          search =
+              record {
+                answer = SpentAnswer (record { merit = valueOf m; leaves = length w; replacements = k });
+                evaluated = marksOf w t e;
+                certificate = c;
+              };
+        }
 
--- so a call that gives findings gives those of the full run
-pub full-found : (a : ℕ) (t : List ℕ) (l : List State) (e c : List ℕ) (f : Found)
-    → sssOutcome a t l e c .search .answer ≡ FoundAnswer f
-    → sssOutcome a t l e c .search
-    ≡ outcome RejectedAnswer (FoundAnswer (sssFound t)) (sssSearch t e c)
-    (sssRejection a t (length l ∷ length e ∷ length c ∷ []))
-full-found a t l e c f o =
-    let p = by-value t e c (sssRun a t) (spentMerit (sssRun a t .end)) _ f o in
-    let q = both-passed (searchRejection t (length l ∷ length e ∷ length c ∷ [])) (check15 a t) (p .0) in
-    let wf = passed t (length l) (length e) (length c) (q .0) .0 in
-    full-outcome t wf e c _ (sssRun a t) (value-run a t wf (p .1))
+        pub outcome-spent : within ≡ record { end = theory.spent m; evaluated = w; replacements = k }
+            → withinOutcome a t e c o none ≡ Spending
+        outcome-spent h = by-left (sssUncovered a t) refl
+          where
+            by-left : (xs : List Evaluation) → sssUncovered a t ≡ xs → outcomeBy xs a t e c o none ≡ Spending
+            by-left [] i =
+                let f = covered-full (valuation t) (tree t) (layoutOf (tree t)) a i in
+                clash (cc (ap (λ r. r .end) h, f, full-ends))
+            by-left (x ∷ xs) i =
+                let s = sym (spent-first (valuation t) (tree t) (layoutOf (tree t)) a x xs i) ∙ h in
+                let n =
+                within-count (valuation t) (tree t) (tree-proper t wf .scored) (layoutOf (tree t)) (own t wf) a m
+                (ap (λ r. r .end) h) in
+                let l : a ≡ length w = sym n ∙ ap (λ r. length (r .evaluated)) h in
+                let y : x .merit ≡ m = cc (ap (λ r. r .end) s) in
+                rw (y, ap (λ r. r .replacements) s, ap (λ r. r .evaluated) s, ← l) refl
+
+-- after a rejection the buffers and the list are as they were
+module _ (a : ℕ) (t e c o : List ℕ) where
+  abbrev Rejecting : Rejection → Listed Answer
+  Rejecting r = record { order = o; search = record { answer = RejectedAnswer r; evaluated = e; certificate = c } }
+
+  rejects : (xs : List Evaluation) (r : Rejection) → outcomeBy xs a t e c o (some r) ≡ Rejecting r
+  rejects [] r = refl
+  rejects (x ∷ xs) r = refl
+
+  pub outcome-rejected : (r : Rejection) → withinOutcome a t e c o (some r) ≡ Rejecting r
+  outcome-rejected r = rejects (sssUncovered a t) r
+
+  -- a rejection is the first "no"
+  pub by-rejection : (xs : List Evaluation) (q : Option Rejection) (r : Rejection)
+      → outcomeBy xs a t e c o q .search .answer ≡ RejectedAnswer r
+      → (q ≡ some r) × (outcomeBy xs a t e c o q ≡ Rejecting r)
+  by-rejection [] none r h = clash (cc)
+  by-rejection (x ∷ xs) none r h = clash (cc)
+  by-rejection [] (some y) r h = let i : y ≡ r = cc in (rw i refl, rw i refl)
+  by-rejection (x ∷ xs) (some y) r h = let i : y ≡ r = cc in (rw i refl, rw i refl)
+
+  -- with findings every question was passed, and the allowance covers all evaluations
+  pub by-value : (xs : List Evaluation) (q : Option Rejection) (f : Found)
+      → outcomeBy xs a t e c o q .search .answer ≡ FoundAnswer f → (q ≡ none) × (xs ≡ [])
+  by-value [] none f h = (refl, refl)
+  by-value [] (some y) f h = clash (cc)
+  by-value (x ∷ xs) none f h = clash (cc)
+  by-value (x ∷ xs) (some y) f h = clash (cc)
+
+  -- where the allowance is spent, every question was passed, and an evaluation is left
+  pub by-allowance : (xs : List Evaluation) (q : Option Rejection) (s : Spent)
+      → outcomeBy xs a t e c o q .search .answer ≡ SpentAnswer s
+      → (q ≡ none) × ((x : Evaluation) × ((ys : List Evaluation) × ((xs ≡ x ∷ ys) × (s ≡ sssSpent a x))))
+  by-allowance [] none s h = clash (cc)
+  by-allowance [] (some y) s h = clash (cc)
+  by-allowance (x ∷ xs) (some y) s h = clash (cc)
+  by-allowance (x ∷ xs) none s h = (refl, (x, (xs, (refl, cc))))

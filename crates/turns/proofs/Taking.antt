@@ -2,7 +2,7 @@
 use Prim.Native.Nat.{ℕ, zero, suc, _+_, _≤_, _<_}
 use native.Mathlib.Omega.{arith}
 use native.Mathlib.Decide.{decLt}
-use mathlib.Core.Path.{_≡_, refl}
+use mathlib.Core.Path.{_≡_, refl, ap}
 use mathlib.Core.Bool.{true, false}
 use mathlib.Core.List.{List, []}
 use lib.Dec.{eqb}
@@ -10,8 +10,10 @@ use lib.ListN.{length}
 use borrow.Author.Tests.{eq-eqb, ne-eqb, lt-ltb, le-ltb}
 use Rattle.lists.proofs.Choice.{true-not-false}
 use Rattle.gametree.specs.declared.Side.{Side}
-use Rattle.frames.specs.Frame.{childCount}
-use Rattle.bounds.specs.Marks.{markAll}
+use Rattle.frames.specs.Frame.{frames, childCount}
+use Rattle.bounds.specs.Marks.{marked, ones, markAll}
+use Rattle.bounds.specs.engine.Progress.{progress, evaluateAll}
+use Rattle.bounds.proofs.Listing.{ones-set}
 use Rattle.states.specs.declared.Status.{Status}
 use Rattle.states.specs.declared.Status.the-variants.{Live, Solved}
 use Rattle.states.specs.declared.State.{State}
@@ -22,7 +24,7 @@ use Rattle.turns.specs.declared.Run.{Run}
 use Rattle.turns.specs.engine.Merit.{scoreOf}
 use Rattle.turns.specs.engine.Rules.{ofInner, ofLive, ofState}
 use Rattle.turns.specs.engine.Turn.{isSolvedRoot, valued, newLeaves, isLiveLeaf, uncovered, settled, replaced}
-use Rattle.turns.specs.engine.Turn.{ended, taken}
+use Rattle.turns.specs.engine.Turn.{counted, ended, taken}
 
 -- a SOLVED state that is not the root's
 pub not-root : (s : Status) (i : ℕ) → isSolvedRoot s i ≡ false → s ≡ Solved → 0 < i
@@ -92,22 +94,28 @@ module _ (t : List ℕ) (e : State) (k : Counts) (h : k .leaves ≤ k .allowance
         )
       ]
 
+-- where the count is that of the marks, it is so after a replacement too
+pub counted-on : (t b : List ℕ) (n : ℕ) (s : Status) (i k : ℕ) → k ≡ ones b (frames t) → i < frames t
+    → frames t ≤ length b → (s ≡ Live → n ≡ 0 → marked b i ≡ false)
+    → k + length (valued n s i) ≡ ones (markAll b (valued n s i)) (frames t)
+unfolding markAll
+counted-on t b zero Live i k c h r u = omega (arith, c, ones-set b (frames t) i h (omega arith) (u refl refl))
+counted-on t b zero Solved i k c h r u = omega (arith, c)
+counted-on t b (suc n) s i k c h r u = omega (arith, c)
+
 -- a state e that is not the SOLVED root, and whose merit has the score m
-module _ (t w b : List ℕ) (r : Run) (e : State) (q : isSolvedRoot (e .status) (e .node) ≡ false) (m : ℕ)
+module _ (t w b o : List ℕ) (r : Run) (e : State) (q : isSolvedRoot (e .status) (e .node) ≡ false) (m : ℕ)
     (is : m ≡ scoreOf (e .merit)) where
   -- where the allowance does not cover its leaf the run ends
   pub ended-is : {r′ : Run} → uncovered t e (r .counts) ≡ true → r′ ≡ ended t (Spent m) (r .counts)
-      → record { front = w; marks = b; run = r′ } ≡ taken t w b r e
-  ended-is h o = rw (q, h, o, is)
+      → record { front = w; marks = b; order = o; run = r′ } ≡ taken t w b o r e
+  ended-is h x = rw (q, h, x, is)
 
   -- and else e is replaced, by the change c
-  pub stepped-is : (c : Change) (n : ℕ) {w′ b′ : List ℕ} {r′ : Run} → uncovered t e (r .counts) ≡ false
+  pub stepped-is : (c : Change) (n : ℕ) {w′ b′ o′ : List ℕ} {r′ : Run} → uncovered t e (r .counts) ≡ false
       → c ≡ ofState t (e .node) m (e .status) → w′ ≡ settled t m c w .front
-      → n ≡ r .counts .leaves + length (newLeaves t e) → b′ ≡ markAll b (newLeaves t e)
-      → r′ ≡ replaced t w c m (record {
-        leaves = n;
-        replacements = r .counts .replacements + 1;
-        allowance = r .counts .allowance;
-      })
-      → record { front = w′; marks = b′; run = r′ } ≡ taken t w b r e
-  stepped-is c n h i f k d o = rw (q, h, o, f, d, k, i, is)
+      → progress n b′ o′ ≡ evaluateAll (progress (r .counts .leaves) b o) (newLeaves t e)
+      → r′ ≡ replaced t w c m (counted n (r .counts))
+      → record { front = w′; marks = b′; order = o′; run = r′ } ≡ taken t w b o r e
+  stepped-is c n h i f p x =
+      rw (q, h, x, f, ap (λ y. y .marks) p, ap (λ y. y .order) p, ap (λ y. y .leaves) p, i, is)

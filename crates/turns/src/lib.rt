@@ -18,7 +18,7 @@ ghost use Rattle.frames.specs.Frame.{frames, childCount};
 ghost use Rattle.frames.specs.Value.{valueOf};
 ghost use Rattle.turns.specs.engine.Update.{ofChange, blanks as blanksOf};
 ghost use Rattle.turns.specs.engine.Turn.{isSolvedRoot, isLiveLeaf, uncovered, replaced, settled};
-ghost use Rattle.turns.specs.engine.Turn.{going, ended as endedOf, taken};
+ghost use Rattle.turns.specs.engine.Turn.{ended as endedOf, taken};
 ghost use Rattle.turns.specs.engine.Merit.{scoreOf, IsMerit};
 ghost use Rattle.states.specs.engine.Placing.{Placing};
 ghost use Rattle.turns.specs.engine.Ready.{Takeable};
@@ -70,10 +70,16 @@ pub fn next(
     places: &[u32],
     front: &mut [u32],
     evaluated: &mut [u8],
+    order: &mut [u16],
 ) -> Run
-    requires { ⌜ Takeable (now table) (now places) (now front) (now evaluated) run entry ⌝ }
-    ensures { λ r. ⌜ record { front = now (front .exit); marks = now (evaluated .exit); run = r }
-        ≡ taken (now (table .entry)) (now (front .entry)) (now (evaluated .entry)) run entry ⌝ }
+    requires { ⌜ Takeable (now table) (now places) (now front) (now evaluated) (now order) run entry ⌝ }
+    ensures { λ r. ⌜ record {
+      front = now (front .exit);
+      marks = now (evaluated .exit);
+      order = now (order .exit);
+      run = r;
+    }
+        ≡ taken (now (table .entry)) (now (front .entry)) (now (evaluated .entry)) (now (order .entry)) run entry ⌝ }
 {
     let counts = run.counts;
     let merit = merit_score(entry);
@@ -83,7 +89,7 @@ pub fn next(
     if is_uncovered(table, entry, counts) {
         return ended(table, Stage::Spent(merit), counts);
     }
-    let replacement = of_state(table, places, evaluated, entry, merit, counts.leaves);
+    let replacement = of_state(table, places, evaluated, order, entry, merit, counts.leaves);
     let counts = Counts {
         leaves: replacement.leaves,
         replacements: counts.replacements + 1,
@@ -123,18 +129,6 @@ fn merit_score(entry: State) -> u32
     ensures { λ r. ⌜ r ≡ scoreOf (entry .merit) ⌝ }
 {
     (entry.merit + ZERO) as u32
-}
-
-// Does the run go on?
-pub fn goes_on(run: Run) -> bool
-    ensures { λ r. ⌜ r ≡ going (run .stage) ⌝ }
-{
-    let stage = run.stage;
-    match stage {
-        Stage::Going => true,
-        Stage::Finished(_) => false,
-        Stage::Spent(_) => false,
-    }
 }
 
 // Is this state the SOLVED root?

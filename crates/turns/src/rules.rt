@@ -1,5 +1,5 @@
 // The five rules (SPEC 10.3): what replaces the state that is taken.
-use bounds::evaluate;
+use bounds::evaluate_next;
 use frames::child_count;
 use frames::first_child;
 use gametree::Side;
@@ -12,12 +12,14 @@ use states::State;
 use states::Status;
 ghost use mathlib.Core.Path.{_≡_};
 ghost use mathlib.Core.Bool.{false};
-ghost use Prim.Native.Nat.{_+_, _*_, _<_, _≤_, min};
-ghost use lib.ListN.{length, set};
+ghost use mathlib.Core.List.{[], _∷_};
+ghost use Prim.Native.Nat.{_<_, _≤_, min};
+ghost use lib.ListN.{length};
 ghost use Rattle.gametree.specs.Tree.{greatest};
 ghost use Rattle.frames.specs.Frame.{maxNodes, frames, childCount};
 ghost use Rattle.frames.specs.Tree.{valuation};
-ghost use Rattle.bounds.specs.Marks.{marked, markAll};
+ghost use Rattle.bounds.specs.Marks.{marked};
+ghost use Rattle.bounds.specs.engine.Progress.{progress, evaluateAll, Listable};
 ghost use Rattle.places.specs.engine.Places.{Placed};
 ghost use Rattle.turns.specs.engine.Rules.{one as oneOf, ofInner, ofChild, ofState};
 ghost use Rattle.turns.specs.engine.Turn.{newLeaves};
@@ -34,14 +36,16 @@ pub fn of_state(
     table: &[u8],
     places: &[u32],
     evaluated: &mut [u8],
+    order: &mut [u16],
     entry: State,
     merit: u32,
     leaves: usize,
 ) -> Replacement
-    requires { ⌜ Replaceable (now table) (now places) (now evaluated) entry merit leaves ⌝ }
+    requires { ⌜ Replaceable (now table) (now places) (progress leaves (now evaluated) (now order)) entry merit ⌝ }
     ensures { λ r. ⌜ r .change ≡ ofState (now (table .entry)) (entry .node) merit (entry .status) ⌝ }
-    ensures { λ r. ⌜ r .leaves ≡ leaves + length (newLeaves (now (table .entry)) entry) ⌝ }
-    ensures { λ _. ⌜ now (evaluated .exit) ≡ markAll (now (evaluated .entry)) (newLeaves (now (table .entry)) entry) ⌝ }
+    ensures { λ r. ⌜ progress (r .leaves) (now (evaluated .exit)) (now (order .exit))
+        ≡ evaluateAll (progress leaves (now (evaluated .entry)) (now (order .entry)))
+        (newLeaves (now (table .entry)) entry) ⌝ }
 {
     let node = entry.node as usize;
     let status = entry.status;
@@ -49,7 +53,7 @@ pub fn of_state(
         Status::Live => {
             let count = child_count(table, node);
             if count == 0 {
-                of_leaf(table, places, evaluated, node, merit, leaves)
+                of_leaf(table, places, evaluated, order, node, merit, leaves)
             } else {
                 let change = of_inner(table, node, count, side_at(places, node), merit);
                 Replacement { change, leaves }
@@ -81,22 +85,31 @@ fn of_leaf(
     table: &[u8],
     places: &[u32],
     evaluated: &mut [u8],
+    order: &mut [u16],
     node: usize,
     merit: u32,
     leaves: usize,
 ) -> Replacement
     requires { ⌜ Placed (now table) (now places) ⌝ }
     requires { ⌜ (node < frames (now table)) × (childCount (now table) node ≡ 0) × (merit ≤ greatest) ⌝ }
-    requires { ⌜ (node < length (now evaluated)) × (marked (now evaluated) node ≡ false) × (leaves < 2 * maxNodes) ⌝ }
+    requires { ⌜ (node < length (now evaluated)) × (marked (now evaluated) node ≡ false) ⌝ }
+    requires { ⌜ Listable (now table) (progress leaves (now evaluated) (now order)) ⌝ }
     ensures { λ r. ⌜ r .change ≡ oneOf node node Status.Solved (min merit (valuation (now (table .entry)) node)) ⌝ }
-    ensures { λ r. ⌜ r .leaves ≡ leaves + 1 ⌝ }
-    ensures { λ _. ⌜ now (evaluated .exit) ≡ set (now (evaluated .entry)) node 1 ⌝ }
+    ensures { λ r. ⌜ progress (r .leaves) (now (evaluated .exit)) (now (order .exit))
+        ≡ evaluateAll (progress leaves (now (evaluated .entry)) (now (order .entry))) (node ∷ []) ⌝ }
 {
-    let score = evaluate(table, evaluated, node, depth_at(places, node));
-    let change = one(node, node, Status::Solved, better(Side::Min, merit, score));
+    let evaluation = evaluate_next(
+        table,
+        evaluated,
+        order,
+        node,
+        depth_at(places, node),
+        leaves,
+    );
+    let merit = better(Side::Min, merit, evaluation.score);
     Replacement {
-        change,
-        leaves: leaves + 1,
+        change: one(node, node, Status::Solved, merit),
+        leaves: evaluation.leaves,
     }
 }
 

@@ -6,18 +6,20 @@ use native.Mathlib.Omega.{arith}
 use borrow.Author.Needs.{needs}
 use borrow.Fn.Kinds.{In}
 use borrow.Fn.PlainCycle.{Measures, is, falls, and}
-use mathlib.Core.Path.{refl, _∙_}
+use mathlib.Core.Path.{_≡_, refl, ap, _∙_}
+use mathlib.Core.Logic.{inl, inr}
+use lib.ListN.{length}
 use Rattle.frames.specs.Frame.{frames}
-use Rattle.frames.specs.Tree.{treeAt, valuation}
 use Rattle.frames.specs.Formed.{ChildOf}
 use Rattle.frames.proofs.Next.{child-later, child-within}
-use Rattle.frames.proofs.Nodes.{in-own}
-use Rattle.alphabeta.proofs.Pass.{pass-few, pass-ends, pass-stops, pass-goes-on}
+use Rattle.bounds.specs.engine.Evaluable.{Evaluable}
+use Rattle.bounds.specs.engine.Progress.{Progress, progress}
+use Rattle.certificate.specs.engine.Searchable.{Searchable}
+use Rattle.alphabeta.proofs.Pass.{pass-ends, pass-stops, pass-goes-on}
 use Rattle.certificate.proofs.Unmarked.{all-wait}
 use Rattle.certificate.proofs.Searchable.{searchable-depth, searchable-child}
 use Rattle.alphabeta.proofs.Evaluated.{visit-waits}
-use Rattle.alphabeta.proofs.Visits.{Turn, leaf-gives, inner-owes}
-use Rattle.alphabeta.proofs.Counts.{evaluated-few, size-few}
+use Rattle.alphabeta.proofs.Visits.{Turn, Visits, visits-same, searchable-leaf, leaf-visits, inner-owes}
 use Rattle.alphabeta.proofs.alpha_beta.Reads as own
 use Rattle.alphabeta.proofs.alpha_beta.Kinds as own-kinds
 use Rattle.alphabeta.proofs.+alpha_beta.Lts-alpha_beta as lts
@@ -30,21 +32,24 @@ use Rattle.frames.proofs.first_child.Reads as first-child-reads
 use Rattle.alphabeta.proofs.+alpha_beta.{statement}
 use Rattle.alphabeta.proofs.+alpha_beta.Tie.{close}
 
-abbrev μ : Measures 2 own-kinds.ps ℕ
-μ κs a = frames (a .0 .now) - a .1 .1 .0
+abbrev μ : Measures 3 own-kinds.ps ℕ
+μ κs a = frames (a .0 .now) - a .1 .1 .1 .0
 
-abbrev at : ℕ → In 2 own-kinds.ps
-at t = and 2 own-kinds.ps (is 2 own-kinds.ps μ t) own.Pre
+abbrev at : ℕ → In 3 own-kinds.ps
+at t = and 3 own-kinds.ps (is 3 own-kinds.ps μ t) own.Pre
 
-abbrev below : ℕ → In 2 own-kinds.ps
-below t = and 2 own-kinds.ps (falls 2 own-kinds.ps _<_ μ t) own.Pre
+abbrev below : ℕ → In 3 own-kinds.ps
+below t = and 3 own-kinds.ps (falls 3 own-kinds.ps _<_ μ t) own.Pre
 
 abbrev Inv : lts.InvT-loop
-Inv table evaluated₀ node place alpha₀ beta₀ count side leaves₀ child₀ last evaluated alpha beta leaves child =
-    Turn table node place alpha₀ beta₀ evaluated₀ child₀ last evaluated alpha beta leaves child
+Inv table evaluated₀ order₀ node place alpha₀ beta₀ leaves₀ count side child₀ last evaluated order alpha beta leaves
+    child =
+    Turn table node place alpha₀ beta₀ (progress leaves₀ evaluated₀ order₀) child₀ last
+    (progress leaves evaluated order) alpha beta child
 
 abbrev μ-loop : lts.MeasureT-loop
-μ-loop table evaluated₀ node place alpha₀ beta₀ count side leaves₀ child₀ last evaluated alpha beta leaves child =
+μ-loop table evaluated₀ order₀ node place alpha₀ beta₀ leaves₀ count side child₀ last evaluated order alpha beta leaves
+    child =
     last - child
 
 abbrev calls : ℕ → lts.Claims
@@ -66,9 +71,16 @@ calls t = (
 )
 
 module _ (t : ℕ) where
-  -- the function's entry, from the head of the loop
+  -- the function's entry, from the head of the loop, and the loop from the call
   abbrev start : lts.At-loop (calls t) (at t) own.Post Inv μ-loop → lts.Start (calls t) (at t) own.Post Inv μ-loop
-  start l = l .before .before .before .before .before .before
+  start l = l .before .before .before .before .before .before .before
+
+  abbrev looping : lts.Joined2 (calls t) (at t) own.Post Inv μ-loop → lts.At-loop (calls t) (at t) own.Post Inv μ-loop
+  looping j = j .before .before .before
+
+  -- the progress at the head of the loop
+  abbrev present : lts.At-loop (calls t) (at t) own.Post Inv μ-loop → Progress
+  present l = progress (l .loop .leaves) (l .loop .evaluated) (l .loop .order)
 
   -- the loop is at a child of the node
   child-of : (l : lts.At-loop (calls t) (at t) own.Post Inv μ-loop)
@@ -80,30 +92,77 @@ module _ (t : ℕ) where
         to = omega (arith, l .loop .inv .to, f .first-child .ensures, f .before .before .child-count .ensures);
       }
 
+  -- the tree of that child is without a mark
+  searchable : (k : lts.After-child-place (calls t) (at t) own.Post Inv μ-loop) → let l = k .before in
+      Searchable (start l .args .table .now) (l .loop .evaluated) (l .loop .child) (k .child-place .result)
+  searchable k =
+      let l = k .before in
+      searchable-child _ _ _ _ (start l .pre .1 .0) _ _ _ (child-of l) (l .loop .inv .marksKept)
+      (l .loop .inv .waiting _ (omega arith) (child-of l)) (k .child-place .ensures)
+
+  -- a child without children may be evaluated
+  leaf-child : (c : lts.Then2 (calls t) (at t) own.Post Inv μ-loop) → let k = c .before .before in let l = k .before in
+      Evaluable (start l .args .table .now) (l .loop .evaluated) (l .loop .child) (k .child-place .result .depth)
+  leaf-child c = searchable-leaf _ _ _ _ (searchable (c .before .before)) (omega arith)
+
+  -- what the visit of the child did
+  visits : (j : lts.Joined2 (calls t) (at t) own.Post Inv μ-loop) → let l = looping j in
+      Visits (start l .args .table .now) (l .loop .child) (l .loop .alpha) (l .loop .beta) (present l)
+      (j .if2 .evaluated) (j .if2 .order) (j .if2 .visited)
+  visits j =
+      let l = looping j in
+      let r = searchable (j .before .before) in
+      elim (j .if2 .came) [
+        | inl x ↦ let e = x .3 .ensures in
+            visits-same (x .8) (x .9) (x .10)
+            (leaf-visits _ (r .formed) _ (r .inside) _ _ (present l) _ _ _ _
+            (leaf-child (record { before = j .before; if2 = x .0 })) (l .loop .inv .listable)
+            (e .0 .0) (e .0 .1) (e .1 .0) (e .1 .1))
+        | inr y ↦ let e = y .3 .ensures in
+            visits-same (y .8) (y .9) (y .10) (record { gives = (e .0, e .1 .0); counted = e .1 .1 })
+      ]
+
+  -- marks and list keep their lengths
+  kept : (j : lts.Joined2 (calls t) (at t) own.Post Inv μ-loop) → let a = start (looping j) .args in
+      (length (j .if2 .evaluated) ≡ length (a .evaluated .now)) × (length (j .if2 .order) ≡ length (a .order .now))
+  kept j =
+      let v = looping j .loop .inv in
+      elim (j .if2 .came) [
+        | inl x ↦ (
+          ap length (x .8) ∙ x .3 .kept .1 .0 ∙ v .marksKept,
+          ap length (x .9) ∙ x .3 .kept .1 .1 .0 ∙ v .orderKept,
+        )
+        | inr y ↦ (
+          ap length (y .8) ∙ y .3 .kept .1 .0 ∙ v .marksKept,
+          ap length (y .9) ∙ y .3 .kept .1 .1 .0 ∙ v .orderKept,
+        )
+      ]
+
   child-count-requires : lts.Need-child-count-requires (calls t) (at t) own.Post Inv μ-loop
   child-count-requires c κs = search needs
 
   visit-leaf-requires : lts.Need-visit-leaf-requires (calls t) (at t) own.Post Inv μ-loop
   visit-leaf-requires c κs =
-      let a = c .before .before .before .before .before in
-      record {
-        inside = a .pre .1 .inside;
-        leaf = omega arith;
-        room = omega (arith, a .pre .1 .inside, a .pre .1 .marks);
-        unmarked = a .pre .1 .unmarked (a .args .node) (in-own _ (a .pre .1 .formed) _);
-        depth = searchable-depth _ _ _ _ (a .pre .1) .0;
-        shallow = searchable-depth _ _ _ _ (a .pre .1) .1;
-      }
+      let a = c .before .before .before .before .before .before .before in
+      (searchable-leaf _ _ _ _ (a .pre .1 .0) (omega arith), a .pre .1 .1)
 
   same-length : lts.Need-same-length (calls t) (at t) own.Post Inv μ-loop
   same-length c = search needs
 
+  same-length-2 : lts.Need-same-length-2 (calls t) (at t) own.Post Inv μ-loop
+  same-length-2 c = search needs
+
   returns : lts.Need-returns (calls t) (at t) own.Post Inv μ-loop
   returns c =
-      let a = c .before .before .before .before .before .before .before .before in
-      let l = c .before .before .visit-leaf .ensures in
-      leaf-gives (a .args .table .now) (a .pre .1 .formed) (a .args .node) (a .pre .1 .inside) (a .args .alpha)
-      (a .args .beta) (a .args .evaluated .now) _ _ (omega arith) (l .0 .0) (l .0 .1) (l .1)
+      let v = c .before .before .before .before in
+      let a = v .before .before .before .before .before .before .before .before in
+      let r = a .pre .1 .0 in
+      let l = v .visit-leaf .ensures in
+      let p = progress (a .args .leaves) (a .args .evaluated .now) (a .args .order .now) in
+      let g =
+      leaf-visits _ (r .formed) _ (r .inside) _ _ p _ _ _ _ (searchable-leaf _ _ _ _ r (omega arith)) (a .pre .1 .1)
+      (l .0 .0) (l .0 .1) (l .1 .0) (l .1 .1) in
+      (g .gives .0, (g .gives .1, g .counted))
 
   first-child-requires : lts.Need-first-child-requires (calls t) (at t) own.Post Inv μ-loop
   first-child-requires c κs = search needs
@@ -116,45 +175,41 @@ module _ (t : ℕ) where
 
   loop-holds : lts.Need-loop-holds (calls t) (at t) own.Post Inv μ-loop
   loop-holds c =
-      let a = c .before .before .before .before .before in
+      let a = c .before .before .before .before .before .before in
+      let r = a .pre .1 .0 in
       record {
         from = omega arith;
         to = omega arith;
-        kept = refl;
-        waiting =
-            all-wait _ (a .pre .1 .formed) _ (a .pre .1 .inside) (a .args .evaluated .now) _ (a .pre .1 .unmarked);
+        marksKept = refl;
+        orderKept = refl;
+        listable = a .pre .1 .1;
+        waiting = all-wait _ (r .formed) _ (r .inside) (a .args .evaluated .now) _ (r .unmarked);
         owes =
-            inner-owes (a .args .table .now) (a .pre .1 .formed) (a .args .node) (a .pre .1 .inside) (a .args .alpha)
-            (a .args .beta) (a .args .evaluated .now) (a .args .place) _ _ _ (a .pre .1 .placed) (omega arith)
-            (c .first-child .ensures .0) (omega arith) (omega arith);
+            inner-owes (a .args .table .now) (r .formed) (a .args .node) (r .inside) (a .args .alpha) (a .args .beta)
+            (progress (a .args .leaves) (a .args .evaluated .now) (a .args .order .now)) (a .args .place) _ _
+            (r .placed) (omega arith) (c .first-child .ensures .0) (omega arith);
       }
 
   child-place-requires : lts.Need-child-place-requires (calls t) (at t) own.Post Inv μ-loop
   child-place-requires c κs =
-      let r = start c .pre .1 in
+      let r = start c .pre .1 .0 in
       (child-within _ (r .formed) (r .inside) (child-of c), searchable-depth _ _ _ _ r .1)
+
+  child-count-requires-2 : lts.Need-child-count-requires-2 (calls t) (at t) own.Post Inv μ-loop
+  child-count-requires-2 c κs = searchable c .inside
+
+  visit-leaf-requires-2 : lts.Need-visit-leaf-requires-2 (calls t) (at t) own.Post Inv μ-loop
+  visit-leaf-requires-2 c κs =
+      let k = c .before .before in
+      (leaf-child k, k .before .before .before .loop .inv .listable)
 
   alpha-beta-requires : lts.Need-alpha-beta-requires (calls t) (at t) own.Post Inv μ-loop
   alpha-beta-requires c κs =
-      let l = c .before .before in
-      let a = start l in (
-        omega (arith, child-later _ (a .pre .1 .formed) (a .pre .1 .inside) (child-of l)),
-        searchable-child _ _ _ _ (a .pre .1) _ _ _ (child-of l) (l .loop .inv .kept)
-            (l .loop .inv .waiting _ (omega arith) (child-of l)) (c .before .child-place .ensures),
-      )
-
-  add-leaves : lts.Need-add-leaves (calls t) (at t) own.Post Inv μ-loop
-  add-leaves c =
-      let f = c .before .before .before in
-      let l = f .before .before .before in
-      let a = start l in
-      let b = a .args .table .now in
-      omega (
-        arith,
-        pass-few _ _ _ _ _ _ _ _ _ _ _ _ _ (l .loop .inv .owes) (f .alpha-beta .ensures) (l .loop .inv .to),
-        evaluated-few (valuation b) (a .args .alpha) (a .args .beta) (treeAt b (a .args .node)),
-        size-few b (a .pre .1 .formed) (a .args .node) (a .pre .1 .inside),
-        a .pre .1 .formed .few,
+      let k = c .before .before .before .before in
+      let l = k .before in
+      let r = start l .pre .1 .0 in (
+        omega (arith, child-later _ (r .formed) (r .inside) (child-of l)),
+        (searchable k, l .loop .inv .listable),
       )
 
   raised-requires : lts.Need-raised-requires (calls t) (at t) own.Post Inv μ-loop
@@ -171,39 +226,55 @@ module _ (t : ℕ) where
 
   loop-again : lts.Need-loop-again (calls t) (at t) own.Post Inv μ-loop
   loop-again c =
-      let f = c .before .before .before .before .before .before .before in
-      let l = f .before .before .before in
-      let a = start l in
+      let j = c .before .before .before .before in
+      let l = looping j in
+      let r = start l .pre .1 .0 in
+      let v = visits j in
       record {
         from = omega arith;
         to = omega arith;
-        kept = f .alpha-beta .kept .1 .0 ∙ l .loop .inv .kept;
+        marksKept = kept j .0;
+        orderKept = kept j .1;
+        listable =
+            record {
+              few = l .loop .inv .listable .few;
+              room = omega (arith, kept j .1, l .loop .inv .orderKept, l .loop .inv .listable .room);
+              counted = v .counted;
+            };
         waiting =
-            visit-waits _ (a .pre .1 .formed) _ (a .pre .1 .inside) _ _ _ _ _ _ (child-of l) (l .loop .inv .waiting)
-            (f .alpha-beta .ensures .1);
+            visit-waits _ (r .formed) _ (r .inside) _ _ _ _ _ _ (child-of l) (l .loop .inv .waiting)
+            (ap (λ p. p .marks) (v .gives .1));
         owes =
-            pass-goes-on _ _ _ _ _ _ _ _ _ _ _ _ _ (l .loop .inv .owes) (f .alpha-beta .ensures) _ _ (omega arith)
+            pass-goes-on _ _ _ _ _ _ _ _ _ _ _ _ (l .loop .inv .owes) (v .gives) _ _ (omega arith)
             (c .before .before .raised .ensures) (c .before .lowered .ensures) (omega arith);
       }
 
-  same-length-2 : lts.Need-same-length-2 (calls t) (at t) own.Post Inv μ-loop
-  same-length-2 c = search needs
+  same-length-3 : lts.Need-same-length-3 (calls t) (at t) own.Post Inv μ-loop
+  same-length-3 c = kept (c .before) .0
+
+  same-length-4 : lts.Need-same-length-4 (calls t) (at t) own.Post Inv μ-loop
+  same-length-4 c = kept (c .before) .1
 
   returns-2 : lts.Need-returns-2 (calls t) (at t) own.Post Inv μ-loop
   returns-2 c =
-      let f = c .before .before .before .before in
-      let l = f .before .before .before in
-      pass-ends _ _ _ _ _ _ _ _ _ _ _ _ _ (l .loop .inv .owes) (f .alpha-beta .ensures) (c .if2 .taken)
+      let v = visits (c .before) in
+      let g = pass-ends _ _ _ _ _ _ _ _ _ _ _ _ (looping (c .before) .loop .inv .owes) (v .gives) (c .if3 .taken) in
+      (g .0, (g .1, v .counted))
 
-  same-length-3 : lts.Need-same-length-3 (calls t) (at t) own.Post Inv μ-loop
-  same-length-3 c = search needs
+  same-length-5 : lts.Need-same-length-5 (calls t) (at t) own.Post Inv μ-loop
+  same-length-5 c = kept (c .before .before .before .before) .0
+
+  same-length-6 : lts.Need-same-length-6 (calls t) (at t) own.Post Inv μ-loop
+  same-length-6 c = kept (c .before .before .before .before) .1
 
   returns-3 : lts.Need-returns-3 (calls t) (at t) own.Post Inv μ-loop
   returns-3 c =
-      let f = c .before .before .before .before .before .before .before in
-      let l = f .before .before .before in
-      pass-stops _ _ _ _ _ _ _ _ _ _ _ _ _ (l .loop .inv .owes) (f .alpha-beta .ensures) _ _ (omega arith)
-      (c .before .before .raised .ensures) (c .before .lowered .ensures) (omega arith)
+      let j = c .before .before .before .before in
+      let v = visits j in
+      let g =
+      pass-stops _ _ _ _ _ _ _ _ _ _ _ _ (looping j .loop .inv .owes) (v .gives) _ _ (omega arith)
+      (c .before .before .raised .ensures) (c .before .lowered .ensures) (omega arith) in
+      (g .0, (g .1, v .counted))
 
 pub +alpha-beta-spec : {M : Type 1} → statement M
 +alpha-beta-spec = close μ λ t. lts.spec (calls t)
@@ -214,20 +285,24 @@ pub +alpha-beta-spec : {M : Type 1} → statement M
     (child-count-requires t)
     (visit-leaf-requires t)
     (same-length t)
+    (same-length-2 t)
     (returns t)
     (first-child-requires t)
     (sub-last t)
     (add-last t)
     (loop-holds t)
     (child-place-requires t)
+    (child-count-requires-2 t)
+    (visit-leaf-requires-2 t)
     (alpha-beta-requires t)
-    (add-leaves t)
     (raised-requires t)
     (lowered-requires t)
     (add-child t)
     (loop-less t)
     (loop-again t)
-    (same-length-2 t)
-    (returns-2 t)
     (same-length-3 t)
+    (same-length-4 t)
+    (returns-2 t)
+    (same-length-5 t)
+    (same-length-6 t)
     (returns-3 t)

@@ -5,6 +5,7 @@ use mir.Syntax.{w16}
 use mir.ValLaws.{toZ-ofZ}
 use borrow.Author.Needs.{needs}
 use Rattle.places.specs.Buffer.{written}
+use Rattle.bounds.proofs.Listing.{listable-first}
 use Rattle.certificate.proofs.Searchable.{searchable-root}
 use Rattle.alphabeta.proofs.Whole.{run-small, run-gives}
 use Rattle.alphabeta.proofs.run.Statement.{statement}
@@ -12,7 +13,7 @@ use Rattle.alphabeta.proofs.run.Tie as tie
 
 -- the function's entry, from the engine's result on
 abbrev start : tie.After-alpha-beta → tie.Start
-start f = f .before .before .before .before .before .before .before .before .before .before
+start f = f .before .before .before .before .before .before .before .before .before .before .before .before
 
 frame-count-requires : tie.Need-frame-count-requires
 frame-count-requires c κs = search needs
@@ -22,17 +23,19 @@ clear-requires c κs = search needs
 
 alpha-beta-requires : tie.Need-alpha-beta-requires
 alpha-beta-requires c κs =
-    let k = c .before .before .before in
-    let a = k .before .before .before .before .before .before in
-    searchable-root _ (a .pre .0) _ _ _ (k .clear .ensures) (k .before .frame-count .ensures)
-    (omega (arith, k .clear .kept .0, a .pre .1))
+    let k = c .before .before .before .before in
+    let a = k .before .before .before .before .before .before .before in
+    let n = k .before .frame-count .ensures in (
+      searchable-root _ (a .pre .0) _ _ _ (k .clear .ensures) n (omega (arith, k .clear .kept .0, a .pre .1 .0)),
+      listable-first _ _ _ _ _ (k .clear .ensures) n (a .pre .0 .few) (a .pre .1 .1),
+    )
 
 conclude-requires : tie.Need-conclude-requires
 conclude-requires c κs = search needs
 
 value-requires : tie.Need-value-requires
 value-requires c κs =
-    let f = c .before .before .before .before .before .before .before .before .before in
+    let f = c .before .before .before .before .before .before .before .before .before .before .before in
     run-small _ (start f .pre .0) _ (f .alpha-beta .ensures .0)
 
 same-length : tie.Need-same-length
@@ -41,15 +44,19 @@ same-length c = search needs
 same-length-2 : tie.Need-same-length-2
 same-length-2 c = search needs
 
+same-length-3 : tie.Need-same-length-3
+same-length-3 c = search needs
+
 returns : tie.Need-returns
 returns c =
     let g = c .before .before .before .before .before in
-    let f = g .before .before .before .before .before in
-    let k = f .before .before .before .before in
+    let f = c .before .before .before .before .before .before .before .before .before .before .before .before in
+    let k = f .before .before .before .before .before in
+    let e = f .alpha-beta .ensures in
     let n = k .before .frame-count .ensures in
     let cleared = k .clear .ensures ∙ ap (λ m. written (λ _. 0) m (start f .args .evaluated .now)) n in
     let value = toZ-ofZ w16 (c .value .result) (record { sfits = c .value .ok }) ∙ c .value .ensures in
-    run-gives _ (start f .pre .0) _ _ _ _ _ _ _ _ _ cleared (f .alpha-beta .ensures .0) (f .alpha-beta .ensures .1)
+    run-gives _ (start f .pre .0) _ _ _ _ _ _ _ _ _ _ _ _ cleared (e .0) (e .1 .0) (e .1 .1) (start f .pre .1 .1)
     (g .conclude .ensures .0) (g .conclude .ensures .1 .0) (g .conclude .ensures .1 .1) value
 
 pub run-spec : {M : Type 1} → statement M
@@ -63,4 +70,5 @@ run-spec =
     value-requires
     same-length
     same-length-2
+    same-length-3
     returns)

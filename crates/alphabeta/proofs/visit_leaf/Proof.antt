@@ -5,8 +5,8 @@ use Rattle.gametree.specs.AlphaBeta.{clamp}
 use Rattle.alphabeta.proofs.visit_leaf.Statement.{statement}
 use Rattle.alphabeta.proofs.visit_leaf.Tie as tie
 
-evaluate-leaf-requires : tie.Need-evaluate-leaf-requires
-evaluate-leaf-requires c κs = search needs
+evaluate-next-requires : tie.Need-evaluate-next-requires
+evaluate-next-requires c κs = search needs
 
 clamped-requires : tie.Need-clamped-requires
 clamped-requires c κs = search needs
@@ -14,10 +14,14 @@ clamped-requires c κs = search needs
 same-length : tie.Need-same-length
 same-length c = search needs
 
+same-length-2 : tie.Need-same-length-2
+same-length-2 c = search needs
+
 returns : tie.Need-returns
 returns c =
-    let e = c .before .before .before .evaluate-leaf .ensures in
+    let e = c .before .before .before .before .before .evaluate-next .ensures in
     ((c .clamped .ensures ∙ ap (clamp _ _) (e .0 .0), e .0 .1), e .1)
 
 pub visit-leaf-spec : {M : Type 1} → statement M
-visit-leaf-spec = tie.close (tie.spec evaluate-leaf-requires clamped-requires same-length returns)
+visit-leaf-spec =
+    tie.close (tie.spec evaluate-next-requires clamped-requires same-length same-length-2 returns)

@@ -1,6 +1,6 @@
--- `certificate::ask` meets its contract: one lemma for each of its four returns.
+-- `certificate::ask` meets its contract: one lemma for each of its three returns.
 use mathlib.Core.Path.{sym, _∙_}
-use Rattle.certificate.proofs.Questions.{table-refused, first-short, second-short, both-roomy}
+use Rattle.certificate.proofs.Questions.{table-refused, too-short, long-enough}
 use borrow.Author.Needs.{needs}
 use Rattle.certificate.proofs.ask.Statement.{statement}
 use Rattle.certificate.proofs.ask.Tie as tie
@@ -15,8 +15,7 @@ enum-told : tie.Need-enum-told
 enum-told c = search needs
 
 returns : tie.Need-returns
-returns c =
-    let g = c .enum-told .given .1 in g ∙ table-refused _ _ _ _ (sym g ∙ c .before .before .check .ensures)
+returns c = let g = c .enum-told .given .1 in g ∙ table-refused _ _ _ (sym g ∙ c .before .before .check .ensures)
 
 rejected-requires : tie.Need-rejected-requires
 rejected-requires c κs = search needs
@@ -25,24 +24,12 @@ returns-2 : tie.Need-returns-2
 returns-2 c =
     let k = c .before .before .before in
     c .rejected .ensures
-    ∙ first-short _ _ _ _ (sym (k .checked .given .1) ∙ k .before .before .check .ensures) (c .before .if1 .taken)
-
-rejected-requires-2 : tie.Need-rejected-requires-2
-rejected-requires-2 c κs = search needs
+    ∙ too-short _ _ _ (sym (k .checked .given .1) ∙ k .before .before .check .ensures) (c .before .if1 .taken)
 
 returns-3 : tie.Need-returns-3
 returns-3 c =
-    let i = c .before .before in
-    let k = i .before .before in
-    c .rejected2 .ensures
-    ∙ second-short _ _ _ _ (sym (k .checked .given .1) ∙ k .before .before .check .ensures) (i .if1 .left)
-    (c .before .if2 .taken)
-
-returns-4 : tie.Need-returns-4
-returns-4 c =
-    let i = c .before in
-    let k = i .before .before in
-    both-roomy _ _ _ _ (sym (k .checked .given .1) ∙ k .before .before .check .ensures) (i .if1 .left) (c .if2 .left)
+    let k = c .before .before in
+    long-enough _ _ _ (sym (k .checked .given .1) ∙ k .before .before .check .ensures) (c .if1 .left)
 
 pub ask-spec : {M : Type 1} → statement M
 ask-spec =
@@ -54,6 +41,4 @@ ask-spec =
     returns
     rejected-requires
     returns-2
-    rejected-requires-2
-    returns-3
-    returns-4)
+    returns-3)

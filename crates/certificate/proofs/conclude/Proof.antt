@@ -8,19 +8,13 @@ use Rattle.certificate.proofs.conclude.Tie as tie
 frame-count-requires : tie.Need-frame-count-requires
 frame-count-requires c κs = search needs
 
-slice-aggregate-conclude-in : tie.Need-slice-aggregate-conclude-in
-slice-aggregate-conclude-in c = search needs
+slice-aggregate-fill-and-conclude : tie.Need-slice-aggregate-fill-and-conclude
+slice-aggregate-fill-and-conclude c = search needs
 
-slice-aggregate-conclude-in-2 : tie.Need-slice-aggregate-conclude-in-2
-slice-aggregate-conclude-in-2 c = search needs
-
-slice-aggregate-conclude-in-3 : tie.Need-slice-aggregate-conclude-in-3
-slice-aggregate-conclude-in-3 c = search needs
-
-conclude-in-requires : tie.Need-conclude-in-requires
-conclude-in-requires c κs =
-    let a = c .before .before .before .before .before .before .before .before .before .before .pre in
-    ((a .0, omega arith), ((omega arith, omega arith), a .1))
+fill-and-conclude-requires : tie.Need-fill-and-conclude-requires
+fill-and-conclude-requires c κs =
+    let a = c .before .before .before .before .before .before .before .before .pre in
+    ((a .0, omega arith), a .1)
 
 same-length : tie.Need-same-length
 same-length c = search needs
@@ -31,19 +25,13 @@ same-length-2 c = search needs
 returns : tie.Need-returns
 returns c = search needs
 
-slice-aggregate-conclude-in-4 : tie.Need-slice-aggregate-conclude-in-4
-slice-aggregate-conclude-in-4 c = search needs
+slice-aggregate-fill-and-conclude-2 : tie.Need-slice-aggregate-fill-and-conclude-2
+slice-aggregate-fill-and-conclude-2 c = search needs
 
-slice-aggregate-conclude-in-5 : tie.Need-slice-aggregate-conclude-in-5
-slice-aggregate-conclude-in-5 c = search needs
-
-slice-aggregate-conclude-in-6 : tie.Need-slice-aggregate-conclude-in-6
-slice-aggregate-conclude-in-6 c = search needs
-
-conclude-in-requires-2 : tie.Need-conclude-in-requires-2
-conclude-in-requires-2 c κs =
-    let a = c .before .before .before .before .before .before .before .before .before .before .pre in
-    ((a .0, a .0 .few), ((a .0 .few, a .0 .few), a .1))
+fill-and-conclude-requires-2 : tie.Need-fill-and-conclude-requires-2
+fill-and-conclude-requires-2 c κs =
+    let a = c .before .before .before .before .before .before .before .before .pre in
+    ((a .0, a .0 .few), a .1)
 
 same-length-3 : tie.Need-same-length-3
 same-length-3 c = search needs
@@ -59,17 +47,13 @@ conclude-spec =
     tie.close
     (tie.spec
     frame-count-requires
-    slice-aggregate-conclude-in
-    slice-aggregate-conclude-in-2
-    slice-aggregate-conclude-in-3
-    conclude-in-requires
+    slice-aggregate-fill-and-conclude
+    fill-and-conclude-requires
     same-length
     same-length-2
     returns
-    slice-aggregate-conclude-in-4
-    slice-aggregate-conclude-in-5
-    slice-aggregate-conclude-in-6
-    conclude-in-requires-2
+    slice-aggregate-fill-and-conclude-2
+    fill-and-conclude-requires-2
     same-length-3
     same-length-4
     returns-2)

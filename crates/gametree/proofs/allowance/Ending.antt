@@ -12,7 +12,7 @@ use Rattle.gametree.proofs.sss.Described.{Describes}
 use Rattle.gametree.specs.Sss.{Step, State, takenMerit, empty, stop, quiet, evaluating, step, finished, spent}
 use Rattle.gametree.specs.Sss.{noState, start, sssOver, ListAfter, atStart, afterQuiet}
 use Rattle.gametree.specs.Sss.{afterEvaluating, resumed}
-use Rattle.gametree.specs.Within.{runWithin, sssWithinOver}
+use Rattle.gametree.specs.engine.Within.{runWithin, sssWithinOver}
 use Rattle.lists.proofs.Choice.{clash}
 use Rattle.gametree.proofs.results.Merits.{list-unique}
 use Rattle.gametree.proofs.sss.Run.{sss-is-mtd}
@@ -61,7 +61,7 @@ resume-within a ν Y t (afterEvaluating {n = n} {w = w} r s) f b e l =
 
 module _ (ν : ℕ → ℕ) (t : Tree) (h : Scored ν t) (Y : Layout) (d : Describes Y t) where
   -- the full run would find no state, where none is on the list
-  never-empty : {k : ℕ} {w : List ℕ} {L : List State} → ListAfter ν Y t k w L → (f : ℕ) → k + suc f ≡ 2 * size t
+  pub never-empty : {k : ℕ} {w : List ℕ} {L : List State} → ListAfter ν Y t k w L → (f : ℕ) → k + suc f ≡ 2 * size t
       → step ν Y L ≡ empty → sssOver ν Y t .end ≡ noState
   never-empty r f e s = rw (resume ν Y t r (suc f) e, s) refl
 

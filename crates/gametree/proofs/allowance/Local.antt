@@ -7,7 +7,7 @@ use Rattle.gametree.specs.Tree.{Max, Min}
 use Rattle.gametree.specs.Layout.{Kind, tip, fork, Layout}
 use Rattle.gametree.specs.Sss.{Status, LIVE, SOLVED, State, Taken, pick, Step, empty, stop, quiet, evaluating}
 use Rattle.gametree.specs.Sss.{solved, put, replaceLive, replace, step, takenMerit, Ran}
-use Rattle.gametree.specs.Within.{followWithin, runWithin}
+use Rattle.gametree.specs.engine.Within.{followWithin, runWithin}
 
 module _ (ν μ : ℕ → ℕ) where
   -- two steps that differ at most by the score of the leaf that they evaluate

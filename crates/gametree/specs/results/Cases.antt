@@ -8,8 +8,8 @@ use Rattle.lists.specs.Lists.{among}
 use Rattle.gametree.specs.Tree.{Max, Min, Tree, leaf, inner, last, _then_, greatest, zeroScore}
 use Rattle.gametree.specs.AlphaBeta.{Found, fullWindow}
 use Rattle.gametree.specs.Mtd.{mtd}
-use Rattle.gametree.specs.Sss.{End, finished, spent, Ran, sss}
-use Rattle.gametree.specs.Within.{sssWithin}
+use Rattle.gametree.specs.Sss.{End, finished, sss}
+use Rattle.gametree.specs.Allowance.{Evaluation, uncovered}
 use Rattle.gametree.specs.Certificate.{flag}
 use Rattle.gametree.specs.Move.{rootMove}
 
@@ -174,34 +174,37 @@ table =
 abbrev pub Column : {A : Type 0} → (Row → A) → Type 0
 Column f = map (λ c. f (rowOf c)) cases ≡ map f table
 
--- a run of SSS* within an allowance: the tree, how many leaves are allowed, and how it ends, which leaves it evaluates
--- and how many replacements it makes
+-- an evaluation by its parts
+abbrev at : (leaf merit replacements : ℕ) → Evaluation
+at n m k = record { leaf = n; merit = m; replacements = k }
+
+-- a tree, how many leaves are allowed, and the evaluations of SSS* that are not covered
 pub record Allowed : Type 0 where
   pub case : Case
   pub allowance : ℕ
-  pub gives : Ran
+  pub uncovered : List Evaluation
 
-abbrev allowed : Case → (allowance : ℕ) → End → (evaluated : List ℕ) → (replacements : ℕ) → Allowed
-allowed c a e w k = record { case = c; allowance = a; gives = record { end = e; evaluated = w; replacements = k } }
+abbrev allowed : Case → (allowance : ℕ) → List Evaluation → Allowed
+allowed c a xs = record { case = c; allowance = a; uncovered = xs }
 
 -- Max(Min(1, 2), Min(3, 4)), up to the greatest allowance that a call can be given, Max(Min(2, 3), Min(4, 1)), and a
 -- leaf of -5
 abbrev pub allowances : List Allowed
 allowances =
-    allowed (leavesOf 1 2 3 4) 0 (spent greatest) [] 2
-    ∷ allowed (leavesOf 1 2 3 4) 1 (spent greatest) (3 ∷ []) 4
-    ∷ allowed (leavesOf 1 2 3 4) 2 (spent (score 3)) (3 ∷ 5 ∷ []) 6
-    ∷ allowed (leavesOf 1 2 3 4) 3 (finished (score 3)) (3 ∷ 5 ∷ 6 ∷ []) 9
-    ∷ allowed (leavesOf 1 2 3 4) 18446744073709551615 (finished (score 3)) (3 ∷ 5 ∷ 6 ∷ []) 9
-    ∷ allowed (leavesOf 2 3 4 1) 2 (spent (score 4)) (3 ∷ 5 ∷ []) 6
-    ∷ allowed (leavesOf 2 3 4 1) 3 (spent (score 2)) (3 ∷ 5 ∷ 6 ∷ []) 8
-    ∷ allowed (leavesOf 2 3 4 1) 4 (finished (score 2)) (3 ∷ 5 ∷ 6 ∷ 4 ∷ []) 11
-    ∷ allowed loneLeaf 0 (spent greatest) [] 0
-    ∷ allowed loneLeaf 1 (finished 31996) (0 ∷ []) 1
+    allowed (leavesOf 1 2 3 4) 0 (at 3 greatest 2 ∷ at 5 greatest 4 ∷ at 6 (score 3) 6 ∷ [])
+    ∷ allowed (leavesOf 1 2 3 4) 1 (at 5 greatest 4 ∷ at 6 (score 3) 6 ∷ [])
+    ∷ allowed (leavesOf 1 2 3 4) 2 (at 6 (score 3) 6 ∷ [])
+    ∷ allowed (leavesOf 1 2 3 4) 3 []
+    ∷ allowed (leavesOf 1 2 3 4) 18446744073709551615 []
+    ∷ allowed (leavesOf 2 3 4 1) 2 (at 6 (score 4) 6 ∷ at 4 (score 2) 8 ∷ [])
+    ∷ allowed (leavesOf 2 3 4 1) 3 (at 4 (score 2) 8 ∷ [])
+    ∷ allowed (leavesOf 2 3 4 1) 4 []
+    ∷ allowed loneLeaf 0 (at 0 greatest 0 ∷ [])
+    ∷ allowed loneLeaf 1 []
     ∷ []
 
 -- the definitions give them
 abbrev pub AllowancesRight : Type 0
 AllowancesRight =
-    map (λ x. sssWithin (x .allowance) (valuation (x .case)) (x .case .tree)) allowances
-    ≡ map (λ x. x .gives) allowances
+    map (λ x. uncovered (x .allowance) (valuation (x .case)) (x .case .tree)) allowances
+    ≡ map (λ x. x .uncovered) allowances

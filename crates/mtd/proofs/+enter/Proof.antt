@@ -13,7 +13,7 @@ use Rattle.frames.specs.Tree.{treeAt}
 use Rattle.frames.proofs.Next.{child-later, child-within}
 use Rattle.mtd.specs.engine.Memory.{Memory, memory, MemoryRoom, VisitReady, Passed}
 use Rattle.mtd.proofs.Arrays.{Long, room-kept}
-use Rattle.mtd.proofs.Turns.{Turn, Family, family-within, turn-first, turn-child, turn-ready, turn-few}
+use Rattle.mtd.proofs.Turns.{Turn, Family, family-within, turn-first, turn-child, turn-ready}
 use Rattle.mtd.proofs.Turns.{turn-next, turn-last}
 use Rattle.mtd.proofs.Visits.{looked-passed, open-ready, open-passed, passed-same, ready-shallow, visit-entered}
 use Rattle.mtd.proofs.enter.Reads as enter′
@@ -29,23 +29,24 @@ use Rattle.mtd.proofs.look.Reads as look-reads
 use Rattle.mtd.proofs.+enter.{statement}
 use Rattle.mtd.proofs.+enter.Tie.{close}
 
-abbrev μ : Measures 4 enter-kinds.ps ℕ
-μ κs a = frames (a .0 .now) - a .1 .1 .1 .1 .0
+abbrev μ : Measures 5 enter-kinds.ps ℕ
+μ κs a = frames (a .0 .now) - a .1 .1 .1 .1 .1 .0
 
-abbrev at : ℕ → In 4 enter-kinds.ps
-at t = and 4 enter-kinds.ps (is 4 enter-kinds.ps μ t) enter′.Pre
+abbrev at : ℕ → In 5 enter-kinds.ps
+at t = and 5 enter-kinds.ps (is 5 enter-kinds.ps μ t) enter′.Pre
 
-abbrev below : ℕ → In 4 enter-kinds.ps
-below t = and 4 enter-kinds.ps (falls 4 enter-kinds.ps _<_ μ t) enter′.Pre
+abbrev below : ℕ → In 5 enter-kinds.ps
+below t = and 5 enter-kinds.ps (falls 5 enter-kinds.ps _<_ μ t) enter′.Pre
 
 abbrev Inv : lts.InvT-loop
-Inv table evaluated₀ highs₀ not-below₀ node place test side first end child₀ leaves₀ evaluated highs not-below child
-    leaves =
-    Turn table side test first end (memory evaluated₀ highs₀ not-below₀) (memory evaluated highs not-below) leaves child
+Inv table evaluated₀ order₀ highs₀ not-below₀ node place test leaves₀ side first end child₀ evaluated order highs
+    not-below leaves child =
+    Turn table side test first end (memory leaves₀ evaluated₀ order₀ highs₀ not-below₀)
+    (memory leaves evaluated order highs not-below) child
 
 abbrev μ-loop : lts.MeasureT-loop
-μ-loop table evaluated₀ highs₀ not-below₀ node place test side first end child₀ leaves₀ evaluated highs not-below child
-    leaves =
+μ-loop table evaluated₀ order₀ highs₀ not-below₀ node place test leaves₀ side first end child₀ evaluated order highs
+    not-below leaves child =
     end - child
 
 abbrev calls : ℕ → lts.Claims
@@ -72,32 +73,36 @@ module _ (t : ℕ) where
   -- the function's entry, the head of the loop, and the look at a child
   abbrev entry : lts.After-child-count (calls t) (at t) enter′.Post Inv μ-loop
       → lts.Start (calls t) (at t) enter′.Post Inv μ-loop
-  entry c = c .before .before .before .before .before .before
+  entry c = c .before .before .before .before .before .before .before
 
   abbrev head : lts.After-look (calls t) (at t) enter′.Post Inv μ-loop
       → lts.At-loop (calls t) (at t) enter′.Post Inv μ-loop
-  head c = c .before .before .before .before .before
+  head c = c .before .before .before .before .before .before
 
   abbrev seen : lts.At-match-came (calls t) (at t) enter′.Post Inv μ-loop
       → lts.After-look (calls t) (at t) enter′.Post Inv μ-loop
-  seen c = c .before .before .before .before .before
+  seen c = c .before .before .before .before .before .before .before
 
   abbrev child : lts.After-last-tried (calls t) (at t) enter′.Post Inv μ-loop
       → lts.At-match-came (calls t) (at t) enter′.Post Inv μ-loop
-  child c = c .before .before
+  child c = c .before
 
   -- the arrays at the entry, at the head of the loop, after the look, and after the child
   abbrev before : lts.Start (calls t) (at t) enter′.Post Inv μ-loop → Memory
-  before c = memory (c .args .evaluated .now) (c .args .highs .now) (c .args .not-below .now)
+  before c =
+      memory (c .args .leaves) (c .args .evaluated .now) (c .args .order .now) (c .args .highs .now)
+      (c .args .not-below .now)
 
   abbrev present : lts.At-loop (calls t) (at t) enter′.Post Inv μ-loop → Memory
-  present c = memory (c .loop .evaluated) (c .loop .highs) (c .loop .not-below)
+  present c = memory (c .loop .leaves) (c .loop .evaluated) (c .loop .order) (c .loop .highs) (c .loop .not-below)
 
-  abbrev looked : lts.After-look (calls t) (at t) enter′.Post Inv μ-loop → Memory
-  looked c = memory (c .look .last .1 .0) (c .look .last .1 .1 .0) (head c .loop .not-below)
+  abbrev looked : lts.After-look (calls t) (at t) enter′.Post Inv μ-loop → ℕ → Memory
+  looked c n =
+      memory n (c .look .last .1 .0) (c .look .last .1 .1 .0) (c .look .last .1 .1 .1 .0) (head c .loop .not-below)
 
   abbrev after : lts.At-match-came (calls t) (at t) enter′.Post Inv μ-loop → Memory
-  after c = memory (c .match .evaluated) (c .match .highs) (c .match .not-below)
+  after c =
+      memory (c .match .tried .leaves) (c .match .evaluated) (c .match .order) (c .match .highs) (c .match .not-below)
 
   -- the node's children
   family : (c : lts.After-child-count (calls t) (at t) enter′.Post Inv μ-loop)
@@ -129,12 +134,12 @@ module _ (t : ℕ) where
       let l = head k in
       let a = entry (l .before) .args in
       elim (c .match .came) [
-        | inl x ↦ passed-same (x .3) (x .4) (x .5) (x .6)
+        | inl x ↦ passed-same (x .3) (x .4) (x .5) (x .6) (x .7)
             (looked-passed (a .table .now) (l .loop .child) (a .test) (present l) (looked k) (k .look .result)
             (k .look .ensures) (x .1 .given .0 .0) (x .1 .given .1))
-        | inr y ↦ passed-same (y .12) (y .13) (y .14) (y .15)
+        | inr y ↦ passed-same (y .15) (y .16) (y .17) (y .18) (y .19)
             (open-passed (a .table .now) (l .loop .child) (a .test) (present l) (looked k) (k .look .result)
-            (k .look .ensures) (y .1 .given .1) (y .5 .ensures))
+            (k .look .ensures) (y .1 .given .1) (y .6 .ensures))
       ]
 
   -- the arrays keep their lengths
@@ -146,13 +151,15 @@ module _ (t : ℕ) where
       elim (c .match .came) [
         | inl x ↦ record {
           evaluated = ap length (x .3) ∙ k .look .kept .1 .0 ∙ u .evaluated;
-          highs = ap length (x .4) ∙ k .look .kept .1 .1 .0 ∙ u .highs;
-          notBelow = ap length (x .5) ∙ u .notBelow;
+          order = ap length (x .4) ∙ k .look .kept .1 .1 .0 ∙ u .order;
+          highs = ap length (x .5) ∙ k .look .kept .1 .1 .1 .0 ∙ u .highs;
+          notBelow = ap length (x .6) ∙ u .notBelow;
         }
         | inr y ↦ record {
-          evaluated = ap length (y .12) ∙ y .5 .kept .1 .0 ∙ k .look .kept .1 .0 ∙ u .evaluated;
-          highs = ap length (y .13) ∙ y .5 .kept .1 .1 .0 ∙ k .look .kept .1 .1 .0 ∙ u .highs;
-          notBelow = ap length (y .14) ∙ y .5 .kept .1 .1 .1 .0 ∙ u .notBelow;
+          evaluated = ap length (y .15) ∙ y .6 .kept .1 .0 ∙ k .look .kept .1 .0 ∙ u .evaluated;
+          order = ap length (y .16) ∙ y .6 .kept .1 .1 .0 ∙ k .look .kept .1 .1 .0 ∙ u .order;
+          highs = ap length (y .17) ∙ y .6 .kept .1 .1 .1 .0 ∙ k .look .kept .1 .1 .1 .0 ∙ u .highs;
+          notBelow = ap length (y .18) ∙ y .6 .kept .1 .1 .1 .1 .0 ∙ u .notBelow;
         }
       ]
 
@@ -182,7 +189,7 @@ module _ (t : ℕ) where
       (child-within _ (p .formed) (p .inside) (turn-child (family (c .before)) (c .loop .inv)), ready-shallow p)
 
   look-requires : lts.Need-look-requires (calls t) (at t) enter′.Post Inv μ-loop
-  look-requires c κs = ready (c .before .before .before)
+  look-requires c κs = ready (c .before .before .before .before)
 
   enum-known-tried : lts.Need-enum-known-tried (calls t) (at t) enter′.Post Inv μ-loop
   enum-known-tried c = search needs
@@ -192,8 +199,8 @@ module _ (t : ℕ) where
 
   enter-requires : lts.Need-enter-requires (calls t) (at t) enter′.Post Inv μ-loop
   enter-requires c κs =
-      let g = c .before .before .before in
-      let k = g .before .before .before .before .before .before in
+      let g = c .before .before .before .before in
+      let k = g .before .before .before .before .before .before .before .before in
       let l = head k in
       let a = entry (l .before) .args in
       let p = entry (l .before) .pre .1 .0 in
@@ -205,16 +212,7 @@ module _ (t : ℕ) where
           child-within _ (p .formed) (p .inside) j,
         ),
         open-ready (a .table .now) (l .loop .child) (a .test) (present l) (looked k) (k .look .result)
-            (k .look .ensures) (g .enum-told .given .1) (ready (k .before .before .before .before)),
-      )
-
-  add-leaves : lts.Need-add-leaves (calls t) (at t) enter′.Post Inv μ-loop
-  add-leaves c =
-      let l = head (seen (c .before)) in
-      omega (
-        arith,
-        turn-few (family (l .before)) {m″ = after (c .before)} (l .loop .inv) (passed (c .before))
-            (entry (l .before) .pre .1 .0 .few),
+            (k .look .ensures) (g .enum-told .given .1) (ready (k .before .before .before .before .before)),
       )
 
   add-child : lts.Need-add-child (calls t) (at t) enter′.Post Inv μ-loop
@@ -261,10 +259,13 @@ module _ (t : ℕ) where
   same-length c = long (child (c .before .before .before .before)) .evaluated
 
   same-length-2 : lts.Need-same-length-2 (calls t) (at t) enter′.Post Inv μ-loop
-  same-length-2 c = simp length-set (long (child (c .before .before .before .before)) .highs)
+  same-length-2 c = long (child (c .before .before .before .before)) .order
 
   same-length-3 : lts.Need-same-length-3 (calls t) (at t) enter′.Post Inv μ-loop
-  same-length-3 c = simp length-set (long (child (c .before .before .before .before)) .notBelow)
+  same-length-3 c = simp length-set (long (child (c .before .before .before .before)) .highs)
+
+  same-length-4 : lts.Need-same-length-4 (calls t) (at t) enter′.Post Inv μ-loop
+  same-length-4 c = simp length-set (long (child (c .before .before .before .before)) .notBelow)
 
   returns : lts.Need-returns (calls t) (at t) enter′.Post Inv μ-loop
   returns c =
@@ -293,7 +294,6 @@ pub +enter-spec : {M : Type 1} → statement M
     (enum-known-tried t)
     (enum-told t)
     (enter-requires t)
-    (add-leaves t)
     (add-child t)
     (last-tried-requires t)
     (loop-less t)
@@ -306,4 +306,5 @@ pub +enter-spec : {M : Type 1} → statement M
     (same-length t)
     (same-length-2 t)
     (same-length-3 t)
+    (same-length-4 t)
     (returns t)

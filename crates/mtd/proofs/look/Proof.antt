@@ -1,4 +1,5 @@
 -- `look` meets its contract: a leaf is tried, an inner node is answered by its high or its entry, or is open.
+use Prim.Native.Nat.{ℕ}
 use native.Mathlib.Omega.{arith}
 use mathlib.Core.Path.{_≡_, refl, ap}
 use mathlib.Core.Bool.{true, false}
@@ -10,22 +11,29 @@ use Rattle.mtd.proofs.Visits.{looked-answer, ready-shallow, leaf-known,
 use Rattle.mtd.proofs.look.Statement.{statement}
 use Rattle.mtd.proofs.look.Tie as tie
 
--- the arrays at the entry
+-- the arrays at the entry, with a count
+abbrev counting : tie.Start → ℕ → Memory
+counting c n =
+    memory n (c .args .evaluated .now) (c .args .order .now) (c .args .highs .now) (c .args .not-below .now)
+
 abbrev before : tie.Start → Memory
-before c = memory (c .args .evaluated .now) (c .args .highs .now) (c .args .not-below .now)
+before c = counting c (c .args .leaves)
 
 child-count-requires : tie.Need-child-count-requires
 child-count-requires c κs = search needs
 
 visit-leaf-requires : tie.Need-visit-leaf-requires
 visit-leaf-requires c κs =
-    let a = c .before .before .before .before .before .before .before .before in
+    let a = c .before .before .before .before .before .before .before .before .before .before in
     let p = a .pre in
     let none : childCount (a .args .table .now) (a .args .node) ≡ 0 = search needs in (
       (p .inside, omega (arith, p .inside, p .room .evaluated), omega (arith, p .inside, p .room .highs)),
       (
         (none, ap (λ p. p .depth) (p .placed), ready-shallow p),
-        leaf-known (a .args .table .now) (p .formed) (a .args .node) (p .inside) none (before a) (p .right),
+        (
+          leaf-known (a .args .table .now) (p .formed) (a .args .node) (p .inside) none (before a) (p .right),
+          record { few = p .formed .few; room = p .room .order; counted = p .counted },
+        ),
       ),
     )
 
@@ -35,15 +43,18 @@ same-length c = search needs
 same-length-2 : tie.Need-same-length-2
 same-length-2 c = search needs
 
+same-length-3 : tie.Need-same-length-3
+same-length-3 c = search needs
+
 returns : tie.Need-returns
 returns c =
-    let v = c .before .before .before .before in
-    let a = v .before .before .before .before .before .before .before .before .before in
+    let v = c .before .before .before .before .before .before in
+    let a = v .before .before .before .before .before .before .before .before .before .before .before in
     let p = a .pre in
     let l = v .visit-leaf .ensures in
     let none : childCount (a .args .table .now) (a .args .node) ≡ 0 = search needs in
-    visit-leaf (a .args .table .now) (p .formed) (a .args .node) (p .inside) none (before a) (a .args .test) _ _ _
-    (p .room) (l .1 .1 .0) (l .1 .1 .1) (l .0) (l .1 .0)
+    visit-leaf (a .args .table .now) (p .formed) (a .args .node) (p .inside) none (before a) (a .args .test) _ _ _ _
+    (p .room) (l .0) (l .1 .0) (l .1 .1 .0) (l .1 .1 .1 .0) (l .1 .1 .1 .1)
 
 mul-if2 : tie.Need-mul-if2
 mul-if2 c = search needs
@@ -56,11 +67,11 @@ not-entered-requires c κs = search needs
 
 returns-2 : tie.Need-returns-2
 returns-2 c =
-    let a = c .before .before .before .before .before .before .before .before .before in
-    looked-answer (a .args .table .now) (a .args .node) (a .args .test) (before a) (before a) (c .not-entered .result)
-    (record { answer = false; leaves = 0 }) (c .not-entered .ensures)
+    let a = c .before .before .before .before .before .before .before .before .before .before in
+    looked-answer (a .args .table .now) (a .args .node) (a .args .test) (before a) (counting a) (c .not-entered .result)
+    (record { answer = false; leaves = a .args .leaves }) (c .not-entered .ensures)
     (visit-below (record { formed = a .pre .formed; inside = a .pre .inside; from = refl; to = refl }) (a .pre)
-    (omega arith) refl refl (omega (arith, c .before .if2 .taken)))
+    (omega arith) refl (omega (arith, c .before .if2 .taken)))
 
 shared-slice-read-if3 : tie.Need-shared-slice-read-if3
 shared-slice-read-if3 c = search needs
@@ -70,11 +81,11 @@ not-entered-requires-2 c κs = search needs
 
 returns-3 : tie.Need-returns-3
 returns-3 c =
-    let a = c .before .before .before .before .before .before .before .before .before .before .before in
-    looked-answer (a .args .table .now) (a .args .node) (a .args .test) (before a) (before a) (c .not-entered2 .result)
-    (record { answer = true; leaves = 0 }) (c .not-entered2 .ensures)
+    let a = c .before .before .before .before .before .before .before .before .before .before .before .before in
+    looked-answer (a .args .table .now) (a .args .node) (a .args .test) (before a) (counting a)
+    (c .not-entered2 .result) (record { answer = true; leaves = a .args .leaves }) (c .not-entered2 .ensures)
     (visit-not-below (record { formed = a .pre .formed; inside = a .pre .inside; from = refl; to = refl }) (a .pre)
-    (omega arith) refl refl (c .before .before .before .if2 .left) (eq-eqb _ _ (c .before .if3 .taken)))
+    (omega arith) refl (c .before .before .before .if2 .left) (eq-eqb _ _ (c .before .if3 .taken)))
 
 returns-4 : tie.Need-returns-4
 returns-4 c =
@@ -88,6 +99,7 @@ look-spec =
     visit-leaf-requires
     same-length
     same-length-2
+    same-length-3
     returns
     mul-if2
     slice-read-if2

@@ -13,7 +13,7 @@ use Rattle.mtd.proofs.run.Tie as tie
 
 -- the function's entry, from the clearing on
 abbrev start : tie.After-clear → tie.Start
-start c = c .before .before .before .before .before .before
+start c = c .before .before .before .before .before .before .before
 
 -- the marks after the clearing
 cleared : (c : tie.After-clear)
@@ -30,17 +30,17 @@ clear-requires c κs = search needs
 
 settle-requires : tie.Need-settle-requires
 settle-requires c κs =
-    let k = c .before .before .before in
+    let k = c .before .before .before .before in
     let a = start k .pre in
-    ((a .0, omega (arith, k .clear .kept, a .1 .0)), cleared-unmarked _ _ (cleared k))
+    ((a .0, omega (arith, k .clear .kept, a .1 .0), a .1 .1), cleared-unmarked _ _ (cleared k))
 
 conclude-requires : tie.Need-conclude-requires
 conclude-requires c κs = search needs
 
 value-requires : tie.Need-value-requires
 value-requires c κs =
-    let f = c .before .before .before .before .before .before .before .before .before in
-    run-small _ (start (f .before .before .before .before) .pre .0) _ (f .settle .ensures .0)
+    let f = c .before .before .before .before .before .before .before .before .before .before .before in
+    run-small _ (start (f .before .before .before .before .before) .pre .0) _ (f .settle .ensures .0 .0)
 
 same-length : tie.Need-same-length
 same-length c = search needs
@@ -48,13 +48,17 @@ same-length c = search needs
 same-length-2 : tie.Need-same-length-2
 same-length-2 c = search needs
 
+same-length-3 : tie.Need-same-length-3
+same-length-3 c = search needs
+
 returns : tie.Need-returns
 returns c =
     let g = c .before .before .before .before .before in
-    let f = g .before .before .before .before .before in
-    let k = f .before .before .before .before in
+    let f = c .before .before .before .before .before .before .before .before .before .before .before .before in
+    let k = f .before .before .before .before .before in
+    let e = f .settle .ensures in
     let value = toZ-ofZ w16 (c .value .result) (record { sfits = c .value .ok }) ∙ c .value .ensures in
-    run-gives _ (start k .pre .0) _ _ _ _ _ _ _ _ _ (cleared k) (f .settle .ensures .0) (f .settle .ensures .1)
+    run-gives _ (start k .pre .0) _ _ _ _ _ _ _ _ _ _ _ (cleared k) (e .0) (e .1 .0) (e .1 .1) (start k .pre .1 .1)
     (g .conclude .ensures .0) (g .conclude .ensures .1 .0) (g .conclude .ensures .1 .1) value
 
 pub run-spec : {M : Type 1} → statement M
@@ -68,4 +72,5 @@ run-spec =
     value-requires
     same-length
     same-length-2
+    same-length-3
     returns)

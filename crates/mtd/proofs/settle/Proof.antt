@@ -17,11 +17,14 @@ slice-aggregate-run-passes-2 c = search needs
 
 run-passes-requires : tie.Need-run-passes-requires
 run-passes-requires c κs =
-    let a = c .before .before .before .before .before .before .before .pre in
-    start-fresh _ (a .0 .0) 64 (omega arith) _ (a .0 .1) (a .1)
+    let a = c .before .before .before .before .before .before .before .before .before .pre in
+    start-fresh _ (a .0 .0) 64 (omega arith) _ _ (a .0 .1) (a .0 .2) (a .1)
 
 same-length : tie.Need-same-length
 same-length c = search needs
+
+same-length-2 : tie.Need-same-length-2
+same-length-2 c = search needs
 
 returns : tie.Need-returns
 returns c = search needs
@@ -34,11 +37,14 @@ slice-aggregate-run-passes-4 c = search needs
 
 run-passes-requires-2 : tie.Need-run-passes-requires-2
 run-passes-requires-2 c κs =
-    let a = c .before .before .before .before .before .before .before .pre in
-    start-fresh _ (a .0 .0) maxNodes (a .0 .0 .few) _ (a .0 .1) (a .1)
+    let a = c .before .before .before .before .before .before .before .before .before .pre in
+    start-fresh _ (a .0 .0) maxNodes (a .0 .0 .few) _ _ (a .0 .1) (a .0 .2) (a .1)
 
-same-length-2 : tie.Need-same-length-2
-same-length-2 c = search needs
+same-length-3 : tie.Need-same-length-3
+same-length-3 c = search needs
+
+same-length-4 : tie.Need-same-length-4
+same-length-4 c = search needs
 
 returns-2 : tie.Need-returns-2
 returns-2 c = search needs
@@ -52,9 +58,11 @@ settle-spec =
     slice-aggregate-run-passes-2
     run-passes-requires
     same-length
+    same-length-2
     returns
     slice-aggregate-run-passes-3
     slice-aggregate-run-passes-4
     run-passes-requires-2
-    same-length-2
+    same-length-3
+    same-length-4
     returns-2)

@@ -1,4 +1,5 @@
 -- `visit` meets its contract: the look answers, or the node is entered.
+use Prim.Native.Nat.{ℕ}
 use borrow.Author.Needs.{needs}
 use Rattle.mtd.specs.engine.Memory.{Memory, memory}
 use Rattle.mtd.proofs.Visits.{looked-passed, open-ready, open-passed}
@@ -7,21 +8,26 @@ use Rattle.mtd.proofs.visit.Tie as tie
 
 -- the function's entry, from the look on
 abbrev start : tie.After-look → tie.Start
-start c = c .before .before .before .before .before .before .before .before
+start c = c .before .before .before .before .before .before .before .before .before .before
 
 -- the arrays at the entry, and after the look
 abbrev before : tie.After-look → Memory
-before c = memory (start c .args .evaluated .now) (start c .args .highs .now) (start c .args .not-below .now)
+before c =
+    let a = start c .args in
+    memory (a .leaves) (a .evaluated .now) (a .order .now) (a .highs .now) (a .not-below .now)
 
-abbrev after : tie.After-look → Memory
-after c = memory (c .look .last .1 .0) (c .look .last .1 .1 .0) (start c .args .not-below .now)
+abbrev after : tie.After-look → ℕ → Memory
+after c n =
+    memory n (c .look .last .1 .0) (c .look .last .1 .1 .0) (c .look .last .1 .1 .1 .0) (start c .args .not-below .now)
 
 -- the arrays after the node was entered
 abbrev left : tie.After-enter → Memory
-left c = memory (c .enter .last .1 .0) (c .enter .last .1 .1 .0) (c .enter .last .1 .1 .1 .0)
+left c =
+    memory (c .enter .result .leaves) (c .enter .last .1 .0) (c .enter .last .1 .1 .0) (c .enter .last .1 .1 .1 .0)
+    (c .enter .last .1 .1 .1 .1 .0)
 
 look-requires : tie.Need-look-requires
-look-requires c κs = c .before .before .before .before .before .before .before .pre
+look-requires c κs = c .before .before .before .before .before .before .before .before .before .pre
 
 enum-known-tried : tie.Need-enum-known-tried
 enum-known-tried c = search needs
@@ -31,8 +37,8 @@ enum-told c = search needs
 
 enter-requires : tie.Need-enter-requires
 enter-requires c κs =
-    let g = c .before .before .before in
-    let k = g .before .before .before .before .before .before in
+    let g = c .before .before .before .before in
+    let k = g .before .before .before .before .before .before .before .before in
     let a = start k .args in
     open-ready (a .table .now) (a .node) (a .test) (before k) (after k) (k .look .result) (k .look .ensures)
     (g .enum-told .given .1) (start k .pre)
@@ -46,15 +52,15 @@ same-length-2 c = search needs
 same-length-3 : tie.Need-same-length-3
 same-length-3 c = search needs
 
+same-length-4 : tie.Need-same-length-4
+same-length-4 c = search needs
+
 returns : tie.Need-returns
 returns c =
-    let k = c .before .before .before .before .before .before .before in
+    let k = c .before .before .before .before .before .before .before .before .before in
     let a = start k .args in
     looked-passed (a .table .now) (a .node) (a .test) (before k) (after k) (k .look .result) (k .look .ensures)
     (c .before .tried .given .0 .0) (c .before .tried .given .1)
-
-same-length-4 : tie.Need-same-length-4
-same-length-4 c = search needs
 
 same-length-5 : tie.Need-same-length-5
 same-length-5 c = search needs
@@ -62,11 +68,17 @@ same-length-5 c = search needs
 same-length-6 : tie.Need-same-length-6
 same-length-6 c = search needs
 
+same-length-7 : tie.Need-same-length-7
+same-length-7 c = search needs
+
+same-length-8 : tie.Need-same-length-8
+same-length-8 c = search needs
+
 returns-2 : tie.Need-returns-2
 returns-2 c =
-    let f = c .before .before .before .before .before .before in
-    let g = f .before .before .before .before in
-    let k = g .before .before .before .before .before .before in
+    let f = c .before .before .before .before .before .before .before .before in
+    let g = f .before .before .before .before .before in
+    let k = g .before .before .before .before .before .before .before .before in
     let a = start k .args in
     open-passed (a .table .now) (a .node) (a .test) (before k) (after k) (k .look .result) (k .look .ensures)
     (g .enum-told .given .1) {m″ = left f} (f .enter .ensures)
@@ -82,8 +94,10 @@ visit-spec =
     same-length
     same-length-2
     same-length-3
-    returns
     same-length-4
+    returns
     same-length-5
     same-length-6
+    same-length-7
+    same-length-8
     returns-2)

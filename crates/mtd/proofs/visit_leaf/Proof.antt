@@ -4,9 +4,27 @@ use lib.Dec.{leb}
 use lib.ListN.{set}
 use borrow.Author.Needs.{needs}
 use borrow.Author.Tests.{eq-eqb, ne-eqb}
-use Rattle.mtd.proofs.Arrays.{set-same}
+use Rattle.frames.specs.Frame.{frames}
+use Rattle.bounds.specs.Marks.{ones}
+use Rattle.bounds.specs.engine.Evaluable.{Evaluable}
+use Rattle.bounds.proofs.Listing.{next-counted}
+use Rattle.mtd.proofs.Arrays.{set-same, leaf-again, leaf-first}
 use Rattle.mtd.proofs.visit_leaf.Statement.{statement}
 use Rattle.mtd.proofs.visit_leaf.Tie as tie
+
+-- a leaf without a mark may be evaluated
+leaf-of : (c : tie.Else1) → let a = c .before .before .before .before .before .before .args in
+    Evaluable (a .table .now) (a .evaluated .now) (a .node) (a .depth)
+leaf-of c =
+    let p = c .before .before .before .before .before .before .pre in
+    record {
+      inside = p .0 .0;
+      leaf = p .1 .0 .0;
+      room = p .0 .1;
+      unmarked = ne-eqb _ _ (c .if1 .left);
+      depth = p .1 .0 .1;
+      shallow = p .1 .0 .2;
+    }
 
 slice-read-if1 : tie.Need-slice-read-if1
 slice-read-if1 c = search needs
@@ -19,26 +37,20 @@ slice-read-answer c = search needs
 
 returns : tie.Need-returns
 returns c =
-    let a = c .before .before .before .before .before .before in
-    let marked = c .before .if1 .taken in
-    let known = a .pre .1 .1 (eq-eqb _ _ marked) in (
+    let a = c .before .before .before .before .before .before .before in
+    let h = c .before .if1 .taken in
+    let known = a .pre .1 .1 .0 (eq-eqb _ _ h) in (
       ap (leb (a .args .test)) known,
-      (rw (eq-eqb _ _ marked), (sym (set-same _ _ 1 marked), sym (set-same _ _ _ known))),
+      (
+        leaf-again _ _ _ _ (eq-eqb _ _ h),
+        (sym (set-same _ _ 1 h), (sym (set-same _ _ _ known), a .pre .1 .1 .1 .counted)),
+      ),
     )
 
 evaluate-leaf-requires : tie.Need-evaluate-leaf-requires
 evaluate-leaf-requires c κs =
-    let a = c .before .before .before .before .before .before .before in (
-      record {
-        inside = a .pre .0 .0;
-        leaf = a .pre .1 .0 .0;
-        room = a .pre .0 .1;
-        unmarked = ne-eqb _ _ (c .before .before .if1 .left);
-        depth = a .pre .1 .0 .1;
-        shallow = a .pre .1 .0 .2;
-      },
-      a .pre .0 .2,
-    )
+    let p = c .before .before .before .before .before .before .before .before .before .pre in
+    (leaf-of (c .before .before .before), (p .1 .1 .1, p .0 .2))
 
 same-length : tie.Need-same-length
 same-length c = search needs
@@ -46,13 +58,27 @@ same-length c = search needs
 same-length-2 : tie.Need-same-length-2
 same-length-2 c = search needs
 
+same-length-3 : tie.Need-same-length-3
+same-length-3 c = search needs
+
 returns-2 : tie.Need-returns-2
 returns-2 c =
-    let f = c .before .before .before .before .before .before .before in
-    let a = f .before .before .before .before .before .args in
-    let v = c .before .before .before .before .evaluate-leaf .ensures in (
-      ap (leb (a .test)) (v .0),
-      (rw (ne-eqb _ _ (f .if1 .left)), (v .1 .0, v .1 .1 ∙ ap (set (a .highs .now) (a .node)) (v .0))),
+    let f = c .before .before .before .before .before .before .before .before .before .before .before in
+    let s = f .before .before .before .before .before .before in
+    let a = s .args in
+    let v = c .before .before .before .before .before .before .before .evaluate-leaf .ensures in (
+      ap (leb (a .test)) (v .0 .0),
+      (
+        leaf-first _ _ _ _ _ _ _ (ne-eqb _ _ (f .if1 .left)) (v .0 .1) (v .1 .0) (v .1 .1 .0),
+        (
+          v .1 .0,
+          (
+            v .1 .1 .1 ∙ ap (set (a .highs .now) (a .node)) (v .0 .0),
+            v .0 .1 ∙ next-counted _ (s .pre .1 .1 .1) (leaf-of f)
+                ∙ ap (λ e. ones e (frames (a .table .now))) (sym (v .1 .0)),
+          ),
+        ),
+      ),
     )
 
 pub visit-leaf-spec : {M : Type 1} → statement M
@@ -66,4 +92,5 @@ visit-leaf-spec =
     evaluate-leaf-requires
     same-length
     same-length-2
+    same-length-3
     returns-2)

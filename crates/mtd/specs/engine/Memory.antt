@@ -1,35 +1,41 @@
--- MTD's memory as the engine keeps it, three arrays over the node numbers, and what a visit of a node asks of it and
--- does to it.
+-- MTD's memory as the engine keeps it, a count, the list of leaves and three arrays over the node numbers, and what a
+-- visit of a node asks of it and does to it.
 use Prim.Native.Nat.{ℕ, _≤_, _<_}
 use mathlib.Core.Path.{_≡_}
 use mathlib.Core.Bool.{false}
 use mathlib.Core.List.{List}
 use lib.ListN.{length, getD}
 use Rattle.gametree.specs.declared.Place.{Place}
-use Rattle.gametree.specs.Tree.{Tree, greatest, size, In}
+use Rattle.gametree.specs.Tree.{Tree, greatest, In}
 use Rattle.gametree.specs.Bounds.{high}
-use Rattle.gametree.specs.Mtd.{Memo, Pass, pass, Run}
+use Rattle.gametree.specs.Mtd.{Memo, Pass, pass}
 use Rattle.gametree.specs.engine.MemoArrays.{readMemo, Remembered}
-use Rattle.frames.specs.Frame.{maxNodes, frames, childCount}
+use Rattle.frames.specs.Frame.{frames, childCount}
 use Rattle.frames.specs.Place.{placeOf}
 use Rattle.frames.specs.Tree.{treeAt, valuation}
 use Rattle.frames.specs.Formed.{WellFormed}
-use Rattle.bounds.specs.Marks.{marked, markAll}
+use Rattle.bounds.specs.Marks.{marked, ones}
+use Rattle.bounds.specs.engine.Progress.{Progress, progress, evaluateAll}
 use Rattle.mtd.specs.declared.Seen.{Seen}
 use Rattle.mtd.specs.declared.Seen.the-variants.{Answered, Open}
 use Rattle.mtd.specs.declared.Tried.{Tried}
-use Rattle.mtd.specs.declared.Settled.{Settled}
 
--- the marks of the evaluated leaves, the high of each node, and a 1 for each inner node that a pass found not below its
--- test
+-- how many leaves are evaluated, their marks, the list of them, the high of each node, and a 1 for each inner node that
+-- a pass found not below its test
 pub record Memory : Type 0 where
+  pub leaves : ℕ
   pub evaluated : List ℕ
+  pub order : List ℕ
   pub highs : List ℕ
   pub notBelow : List ℕ
 
--- the memory of three arrays
-abbrev pub memory : List ℕ → List ℕ → List ℕ → Memory
-memory e h n = record { evaluated = e; highs = h; notBelow = n }
+-- the memory of a count and four arrays
+abbrev pub memory : ℕ → (e o h n : List ℕ) → Memory
+memory k e o h n = record { leaves = k; evaluated = e; order = o; highs = h; notBelow = n }
+
+-- how far the evaluation of leaves has come
+abbrev pub progressOf : Memory → Progress
+progressOf m = progress (m .leaves) (m .evaluated) (m .order)
 
 -- what the arrays remember of a tree
 abbrev pub memoOf : Memory → (T : Tree) → Memo T
@@ -42,6 +48,7 @@ passOf t γ m T = pass (valuation t) γ T (memoOf m T)
 -- each array has an entry for each of n nodes
 pub record MemoryRoom (n : ℕ) (m : Memory) : Type 0 where
   pub evaluated : n ≤ length (m .evaluated)
+  pub order : n ≤ length (m .order)
   pub highs : n ≤ length (m .highs)
   pub notBelow : n ≤ length (m .notBelow)
 
@@ -50,13 +57,17 @@ abbrev pub HighsRight : List ℕ → Memory → Tree → Type 0
 HighsRight t m T =
     (k : ℕ) → In k T → getD (m .highs) k 0 ≡ high (valuation t) (marked (m .evaluated)) (treeAt t k)
 
+-- the count is the number of marks
+abbrev pub Counted : List ℕ → Memory → Type 0
+Counted t m = m .leaves ≡ ones (m .evaluated) (frames t)
+
 -- what a visit of node i at the place p asks
 pub record VisitReady (t : List ℕ) (m : Memory) (i : ℕ) (p : Place) : Type 0 where
   pub formed : WellFormed t
   pub inside : i < frames t
-  pub few : size (treeAt t i) ≤ maxNodes
   pub placed : p ≡ placeOf t i
   pub room : MemoryRoom (frames t) m
+  pub counted : Counted t m
   pub right : HighsRight t m (treeAt t i)
 
 -- node i is entered by the pass with the test γ: it has children, its high is not below the test, and no pass has found
@@ -66,34 +77,32 @@ pub record Enterable (t : List ℕ) (m : Memory) (i γ : ℕ) : Type 0 where
   pub high : γ ≤ getD (m .highs) i 0
   pub notBelow : marked (m .notBelow) i ≡ false
 
--- the leaves w were evaluated in turn: n of them, and the marks e have become e′
-pub record Evaluated (e e′ : List ℕ) (n : ℕ) (w : List ℕ) : Type 0 where
-  pub leaves : n ≡ length w
-  pub marks : e′ ≡ markAll e w
+-- the leaves w were evaluated in turn: they are counted, marked and listed
+pub record Evaluated (m m′ : Memory) (w : List ℕ) : Type 0 where
+  pub all : progressOf m′ ≡ evaluateAll (progressOf m) w
 
 -- what a visit of the root of the tree T does: the pass, and nothing to nodes outside the tree
 pub record Passed (t : List ℕ) (T : Tree) (γ : ℕ) (m m′ : Memory) (r : Tried) : Type 0 where
   pub answer : r .answer ≡ passOf t γ m T .notBelow
-  pub evaluated : Evaluated (m .evaluated) (m′ .evaluated) (r .leaves) (passOf t γ m T .evaluated)
+  pub evaluated : Evaluated m m′ (passOf t γ m T .evaluated)
+  pub counted : Counted t m′
   pub memo :
       Remembered (valuation t) γ T (marked (m .evaluated)) (marked (m .notBelow)) (marked (m′ .evaluated))
       (marked (m′ .notBelow))
   pub right : HighsRight t m′ T
   pub others : (k : ℕ) → (In k T → ⊥) → getD (m′ .highs) k 0 ≡ getD (m .highs) k 0
 
--- what a look at node i does: the pass, where the node is answered; nothing, where it is to be entered
-abbrev pub Looked : (t : List ℕ) (i γ : ℕ) (m m′ : Memory) → Seen → Type 0
-Looked t i γ m m′ (Answered r) = Passed t (treeAt t i) γ m m′ r
-Looked t i γ m m′ Open = (m′ ≡ m) × Enterable t m i γ
+-- what a look at node i does, which leaves the memory m′ with a count: the pass, where the node is answered; nothing,
+-- where it is to be entered
+abbrev pub Looked : (t : List ℕ) (i γ : ℕ) (m : Memory) (m′ : ℕ → Memory) → Seen → Type 0
+Looked t i γ m m′ (Answered r) = Passed t (treeAt t i) γ m (m′ (r .leaves)) r
+Looked t i γ m m′ Open = (m′ (m .leaves) ≡ m) × Enterable t m i γ
 
 -- what the passes ask: nothing is evaluated, no node was found not below, and every high is the greatest
 pub record Fresh (t : List ℕ) (m : Memory) : Type 0 where
   pub formed : WellFormed t
   pub room : MemoryRoom (frames t) m
+  pub leaves : m .leaves ≡ 0
   pub evaluated : (k : ℕ) → k < frames t → marked (m .evaluated) k ≡ false
   pub notBelow : (k : ℕ) → k < frames t → marked (m .notBelow) k ≡ false
   pub highs : (k : ℕ) → k < frames t → getD (m .highs) k 0 ≡ greatest
-
--- what a run of passes gives, in numbers
-abbrev pub settledOf : {T : Tree} → Run T → Settled
-settledOf q = record { score = q .value; leaves = length (q .evaluated); passes = q .passes }

@@ -1,7 +1,11 @@
 -- `plain::search` meets its contract: the questions are answered, and then the search is run or nothing is done.
-use mathlib.Core.Path.{sym, ap, _∙_}
+use Prim.Native.Nat.{ℕ}
+use mathlib.Core.Path.{_≡_, sym, ap, _∙_}
+use mathlib.Core.List.{List, [], _∷_}
+use lib.ListN.{length}
 use borrow.Author.Needs.{needs}
 use Rattle.certificate.specs.Search.{Search}
+use Rattle.certificate.proofs.Questions.{asked, of-shorter}
 use Rattle.certificate.proofs.Outcomes.{finding, rejecting}
 use Rattle.plain.specs.declared.Answer.the-variants.{Found, Rejected}
 use Rattle.plain.specs.Outcome.{plainFound, plainSearch}
@@ -9,11 +13,25 @@ use Rattle.plain.proofs.Whole.{may-run}
 use Rattle.plain.proofs.search.Statement.{statement}
 use Rattle.plain.proofs.search.Tie as tie
 
--- the search, from the answer to the questions on
-abbrev asked : tie.After-ask → Search
-asked c =
-    let a = c .before .before .before .before .args in
+-- the function's entry, from the answer to the questions on
+abbrev start : tie.After-ask → tie.Start
+start c = c .before .before .before .before .before
+
+-- the search, and the lengths of which question 10 asks
+abbrev searching : tie.After-ask → Search
+searching c =
+    let a = start c .args in
     plainSearch (a .table .now) (a .evaluated .now) (a .certificate .now)
+
+abbrev lengths : tie.After-ask → List ℕ
+lengths c = length (start c .args .evaluated .now) ∷ length (start c .args .certificate .now) ∷ []
+
+-- what the questions answer: the shorter buffer stands for both
+told : (c : tie.After-ask) → c .ask .result ≡ asked (start c .args .table .now) (lengths c)
+told c = of-shorter _ _ _ [] (c .ask .ensures) (c .before .shorter .ensures)
+
+shorter-requires : tie.Need-shorter-requires
+shorter-requires c κs = search needs
 
 ask-requires : tie.Need-ask-requires
 ask-requires c κs = search needs
@@ -24,7 +42,7 @@ enum-told c = search needs
 run-requires : tie.Need-run-requires
 run-requires c κs =
     let k = c .before .before in
-    may-run _ _ _ _ (sym (k .enum-told .given .1) ∙ k .before .before .ask .ensures)
+    may-run _ _ _ _ (sym (k .enum-told .given .1) ∙ told (k .before .before))
 
 enum-known-rejection : tie.Need-enum-known-rejection
 enum-known-rejection c = search needs
@@ -39,22 +57,25 @@ returns : tie.Need-returns
 returns c =
     let f = c .before .before .before .before in
     let k = f .before .before .before in
-    let s = asked (k .before .before) in
-    finding Rejected (Found (plainFound (s .table))) s _ _ _ _
-    (sym (k .enum-told .given .1) ∙ k .before .before .ask .ensures) (ap Found (f .run .ensures .0))
+    let q = k .before .before in
+    let s = searching q in
+    finding Rejected (Found (plainFound (s .table))) s (lengths q) _ _ _ _
+    (sym (k .enum-told .given .1) ∙ told q) (ap Found (f .run .ensures .0))
     (f .run .ensures .1 .0) (f .run .ensures .1 .1)
 
 returns-2 : tie.Need-returns-2
 returns-2 c =
     let k = c .before in
-    let s = asked (k .before .before) in
-    rejecting Rejected (Found (plainFound (s .table))) s _
-    (sym (k .rejection .given .1) ∙ k .before .before .ask .ensures)
+    let q = k .before .before in
+    let s = searching q in
+    rejecting Rejected (Found (plainFound (s .table))) s (lengths q) _
+    (sym (k .rejection .given .1) ∙ told q)
 
 pub search-spec : {M : Type 1} → statement M
 search-spec =
     tie.close
     (tie.spec
+    shorter-requires
     ask-requires
     enum-told
     run-requires

@@ -1,6 +1,8 @@
 -- `report::put_mtd` meets its contract: the search finds, and the line says what it found.
-use mathlib.Core.Path.{_≡_, refl}
-use lib.ListN.{replicate}
+use Prim.Native.Nat.{ℕ}
+use mathlib.Core.Path.{_≡_, ap}
+use mathlib.Core.List.{[], _∷_}
+use lib.ListN.{length, replicate}
 use borrow.Author.Needs.{needs}
 use denote.Ref.{now}
 use Rattle.lists.proofs.Choice.{clash}
@@ -10,22 +12,27 @@ use Rattle.mtd.specs.declared.Answer.the-variants.{Found as FoundAnswer, Reject
 use Rattle.certificate.specs.Search.{Search}
 use Rattle.mtd.specs.Outcome.{mtdFound, mtdSearch}
 use Rattle.report.specs.Report.{mtdLine}
-use Rattle.report.proofs.Searches.{answered}
+use Rattle.report.proofs.Searches.{fresh-room, answered}
 use Rattle.report.proofs.put_mtd.Statement.{statement}
 use Rattle.report.proofs.put_mtd.Tie as tie
 
 -- the function's entry, from the search on
 abbrev start : tie.After-search → tie.Start
-start c = c .before .before .before .before .before
+start c = c .before .before .before .before .before .before
 
--- the search, of the table that is lent and two arrays of zeros
+-- the search, of the table that is lent and arrays of zeros
 abbrev asked : tie.After-search → Search
 asked c = mtdSearch (now (start c .args .table)) (replicate maxNodes 0) (replicate maxNodes 0)
 
 -- the search finds
 found : (c : tie.After-search) → let s = asked c in
     c .search .result ≡ FoundAnswer (mtdFound (s .table))
-found c = answered FoundAnswer Rejected (asked c) (start c .pre .0) refl refl (c .search .ensures)
+found c =
+    let accepted = start c .pre .0 in
+    let n = length (replicate {A = ℕ} maxNodes 0) in
+    let room = fresh-room (now (start c .args .table)) accepted in
+    answered FoundAnswer Rejected (asked c) (n ∷ n ∷ n ∷ []) accepted (room, (room, (room, tt)))
+    (ap (λ x. x .search) (c .search .ensures))
 
 -- and what is told of the answer is what it found
 same : (c : tie.After-search) → let s = asked c in
@@ -38,6 +45,9 @@ slice-aggregate-search c = search needs
 slice-aggregate-search-2 : tie.Need-slice-aggregate-search-2
 slice-aggregate-search-2 c = search needs
 
+slice-aggregate-search-3 : tie.Need-slice-aggregate-search-3
+slice-aggregate-search-3 c = search needs
+
 search-requires : tie.Need-search-requires
 search-requires c κs = search needs
 
@@ -48,7 +58,7 @@ enum-told : tie.Need-enum-told
 enum-told c = search needs
 
 returns : tie.Need-returns
-returns c = clash (cc (found (c .before .before .before .before), c .enum-told .given .1))
+returns c = clash (cc (found (c .before .before .before .before .before), c .enum-told .given .1))
 
 slice-aggregate-put-line : tie.Need-slice-aggregate-put-line
 slice-aggregate-put-line c = search needs
@@ -57,7 +67,7 @@ put-line-requires : tie.Need-put-line-requires
 unfolding mtdLine
 put-line-requires c κs =
     let r = c .before .before .before .before in
-    let s = r .before .before .before .before in
+    let s = r .before .before .before .before .before in
     rw (same s _ (r .found .given .1)) (start s .pre .1)
 
 same-length : tie.Need-same-length
@@ -68,7 +78,7 @@ unfolding mtdLine
 returns-2 c =
     let t = c .before .before .before in
     let r = t .before .before .before .before in
-    let s = r .before .before .before .before in
+    let s = r .before .before .before .before .before in
     rw (same s _ (r .found .given .1)) at (c .before .before .put-line .ensures)
 
 pub put-mtd-spec : {M : Type 1} → statement M
@@ -77,6 +87,7 @@ put-mtd-spec =
     (tie.spec
     slice-aggregate-search
     slice-aggregate-search-2
+    slice-aggregate-search-3
     search-requires
     enum-known-found
     enum-told

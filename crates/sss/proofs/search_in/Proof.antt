@@ -15,7 +15,7 @@ use Rattle.walks.proofs.Walk.{full, fullShare, givenOf, group, held, id⊢, ini
 use Rattle.walks.proofs.Walk.{move, named, needs, no-more, none, nothing, of-enum, of-opd, of-struct, onEntry, opens}
 use Rattle.walks.proofs.Walk.{owned, params1, part, pass0, pass1, passed, qed, reborrows, ref-to, returns, row-back}
 use Rattle.walks.proofs.Walk.{says, sets, share-back, shared, shares-row, shuts, slice-vals, sliceVal, stays-of, stop}
-use Rattle.walks.proofs.Walk.{suffices, tables, tablesOf, tripleOf, u32, u8, uint-tells, uint-vals}
+use Rattle.walks.proofs.Walk.{suffices, tables, tablesOf, tripleOf, u16, u32, u8, uint-tells, uint-vals}
 use Rattle.walks.proofs.Walk.{usize, valued, via, vint, w64, walkOf, ‵, ⋆}
 use denote.Struct.Laws as LL
 use Rattle.frames.specs.declared.Checked.{Checked}
@@ -62,29 +62,35 @@ use Rattle.sss.proofs.search_in.Code as code
 abbrev R : RattleType
 R = S.the-row
 
--- what is had of each parameter at exit: the places, the list, the marks and the certificate, and of the front what
+-- what is had of each parameter at exit: the places, the lists, the marks and the certificate, and of the front what
 -- says its last value
-abbrev params : Parameters 6 (fn.ended .signature .params) (fn.ended .kept)
+abbrev params : Parameters 7 (fn.ended .signature .params) (fn.ended .kept)
 params = (
-  shared 6 0 tt u8,
+  shared 7 0 tt u8,
   (
-    lent 6 1 tt u32,
+    lent 7 1 tt u32,
     (
-      passed 6 2 tt u32,
+      passed 7 2 tt u32,
       (
-        lent 6 3 tt R,
-        (lent 6 4 tt u8, (lent 6 5 tt u8, (valued 6 usize (uint-vals w64) (uint-tells w64) (λ x f. refl), tt))),
+        lent 7 3 tt R,
+        (
+          lent 7 4 tt u8,
+          (
+            lent 7 5 tt u8,
+            (lent 7 6 tt u16, (valued 7 usize (uint-vals w64) (uint-tells w64) (λ x f. refl), tt)),
+          ),
+        ),
       ),
     ),
   ),
 )
 
 abbrev stayed : Stays (fn.ended .signature .params) (fn.ended .kept)
-stayed = stays-of 6 (fn.ended .signature .params) (fn.ended .kept) params
+stayed = stays-of 7 (fn.ended .signature .params) (fn.ended .kept) params
 
 -- where local j stands after k other entries, the last local first
 abbrev pos : ℕ → ℕ → ℕ
-pos k j = k + 2 * (29 - j)
+pos k j = k + 2 * (35 - j)
 
 -- the contracts that the proof cites
 module _ {M : Type 1} (𝓤 : URA M) (H : Heap 𝓤) (A : Atoms 𝓤) (mem : Memory → SProp 𝓤) (run : Routine → Fun 𝓤) where
@@ -100,10 +106,10 @@ module _ {M : Type 1} (𝓤 : URA M) (H : Heap 𝓤) (A : Atoms 𝓤) (mem : Mem
   abbrev Finish : Contract 𝓤
   Finish = tripleOf 𝓤 H A finish.signature (finish.spec 𝓤 H A mem run)
 
--- κs, qs and a are the lifetimes of table, places, front, list, evaluated and certificate, the shares of their tokens,
--- and the arguments
+-- κs, qs and a are the lifetimes of table, places, front, list, evaluated, certificate and order, the shares of their
+-- tokens, and the arguments
 module _ {M : Type 1} (𝓤 : URA M) (H : Heap 𝓤) (A : Atoms 𝓤) (W : Given 𝓤 H A) (mem : Memory → SProp 𝓤)
-    (run : Routine → Fun 𝓤) (κs : Lfts 6) (qs : Shares 6) (a : Args fn.signature κs) where
+    (run : Routine → Fun 𝓤) (κs : Lfts 7) (qs : Shares 7) (a : Args fn.signature κs) where
   abbrev vZ : ByValue 𝓤 H A Z.the-row
   vZ = of-struct 𝓤 H A W Z.the-type Z′.the-laws Z′.the-plain
 
@@ -134,8 +140,11 @@ module _ {M : Type 1} (𝓤 : URA M) (H : Heap 𝓤) (A : Atoms 𝓤) (W : Given
   abbrev cs : RefT (List ℕ)
   cs = a .1 .1 .1 .1 .1 .0
 
+  abbrev od : RefT (List ℕ)
+  od = a .1 .1 .1 .1 .1 .1 .0
+
   abbrev allowance : ℕ
-  allowance = a .1 .1 .1 .1 .1 .1 .0
+  allowance = a .1 .1 .1 .1 .1 .1 .1 .0
 
   -- the machine values of the arguments, and what the triple binds outside
   abbrev at : Vals fn.signature κs
@@ -143,7 +152,10 @@ module _ {M : Type 1} (𝓤 : URA M) (H : Heap 𝓤) (A : Atoms 𝓤) (W : Given
     slice-vals tb,
     (
       slice-vals fm,
-      (slice-vals fr, (slice-vals ls, (slice-vals vs, (slice-vals cs, (vint w64 allowance ∷ [], tt))))),
+      (
+        slice-vals fr,
+        (slice-vals ls, (slice-vals vs, (slice-vals cs, (slice-vals od, (vint w64 allowance ∷ [], tt))))),
+      ),
     ),
   )
 
@@ -172,6 +184,9 @@ module _ {M : Type 1} (𝓤 : URA M) (H : Heap 𝓤) (A : Atoms 𝓤) (W : Given
   abbrev tokC : Fml
   tokC = flft (κs .1 .1 .1 .1 .1 .0) (qs .1 .1 .1 .1 .1 .0)
 
+  abbrev tokO : Fml
+  tokO = flft (κs .1 .1 .1 .1 .1 .1 .0) (qs .1 .1 .1 .1 .1 .1 .0)
+
   abbrev Table : Fml
   Table = ShrSlice (named 0) (κs .0) u8 .own tb (slice-vals tb)
 
@@ -193,6 +208,9 @@ module _ {M : Type 1} (𝓤 : URA M) (H : Heap 𝓤) (A : Atoms 𝓤) (W : Given
   abbrev Flags : List ℕ → Fml
   Flags ys = MutSlice (named 5) (κs .1 .1 .1 .1 .1 .0) u8 .own (at-last cs ys) (slice-vals cs)
 
+  abbrev Order : List ℕ → Fml
+  Order ys = MutSlice (named 6) (κs .1 .1 .1 .1 .1 .1 .0) u16 .own (at-last od ys) (slice-vals od)
+
   -- what the callees are passed: ν and δ are the lifetime and the name of a loan
   abbrev to-start : Sizes → ℕ → GName → ℕ → GName → Start 𝓤 H A mem run .Ghost
   to-start n νf δf νv δv = (
@@ -209,77 +227,88 @@ module _ {M : Type 1} (𝓤 : URA M) (H : Heap 𝓤) (A : Atoms 𝓤) (W : Given
   abbrev to-begun : Checked → Begun 𝓤 H A mem run .Ghost
   to-begun q = ((tt, tt, tt, (q, (allowance, tt)), (vQ .val q ∷ [], (vint w64 allowance ∷ [], tt))), tt)
 
-  abbrev to-drive : Run → List ℕ → List ℕ → ℕ → GName → ℕ → GName → ℕ → GName → Drive 𝓤 H A mem run .Ghost
-  to-drive m F ms νf δf νl δl νv δv = (
+  abbrev to-drive : Run → List ℕ → List ℕ → ℕ → GName → ℕ → GName → ℕ → GName → ℕ → GName
+      → Drive 𝓤 H A mem run .Ghost
+  to-drive m F ms νf δf νl δl νv δv νo δo = (
     (
-      (κs .0, (νf ∷ [], (κs .1 .1 .0, (νl ∷ [], (νv ∷ [], tt))))),
-      (qs .0, (fullShare, (qs .1 .1 .0, (fullShare, (fullShare, tt))))),
+      (κs .0, (νf ∷ [], (κs .1 .1 .0, (νl ∷ [], (νv ∷ [], (νo ∷ [], tt)))))),
+      (qs .0, (fullShare, (qs .1 .1 .0, (fullShare, (fullShare, (fullShare, tt)))))),
       tt,
       (
         m,
         (
           tb,
-          (ref-to (fm .ptr) δf F, (fr, (ref-to (ls .ptr) δl (ls .now), (ref-to (vs .ptr) δv ms, tt)))),
+          (
+            ref-to (fm .ptr) δf F,
+            (
+              fr,
+              (
+                ref-to (ls .ptr) δl (ls .now),
+                (ref-to (vs .ptr) δv ms, (ref-to (od .ptr) δo (od .now), tt)),
+              ),
+            ),
+          ),
         ),
       ),
       (
         vN .val m ∷ [],
-        (slice-vals tb, (slice-vals fm, (slice-vals fr, (slice-vals ls, (slice-vals vs, tt))))),
+        (slice-vals tb, (slice-vals fm, (slice-vals fr, (slice-vals ls, (slice-vals vs, (slice-vals od, tt)))))),
       ),
     ),
     tt,
   )
 
-  abbrev to-finish : Checked → Run → List ℕ → ℕ → GName → ℕ → GName → Finish 𝓤 H A mem run .Ghost
-  to-finish q m ms νv δv νc δc = (
+  abbrev to-finish : Checked → Run → List ℕ → List ℕ → ℕ → GName → ℕ → GName → ℕ → GName → Finish 𝓤 H A mem run .Ghost
+  to-finish q m F ms νf δf νv δv νc δc = (
     (
-      (κs .0, (νv ∷ [], (νc ∷ [], tt))),
-      (qs .0, (fullShare, (fullShare, tt))),
+      (κs .0, (νf ∷ [], (νv ∷ [], (νc ∷ [], tt)))),
+      (qs .0, (fullShare, (fullShare, (fullShare, tt)))),
       tt,
-      (q, (m, (tb, (ref-to (vs .ptr) δv ms, (ref-to (cs .ptr) δc (cs .now), tt))))),
-      (vQ .val q ∷ [], (vN .val m ∷ [], (slice-vals tb, (slice-vals vs, (slice-vals cs, tt))))),
+      (q, (m, (tb, (ref-to (fm .ptr) δf F, (ref-to (vs .ptr) δv ms, (ref-to (cs .ptr) δc (cs .now), tt)))))),
+      (vQ .val q ∷ [], (vN .val m ∷ [], (slice-vals tb, (slice-vals fm, (slice-vals vs, (slice-vals cs, tt)))))),
     ),
     tt,
   )
 
   -- from what is had at exit to the `post` of `walkOf`
-  exits : (r : Answer) (F ws : List ℕ) (es : List State) (ms ps : List ℕ) → Is B.the-row r (vB .val r ∷ [])
+  exits : (r : Answer) (F ws : List ℕ) (es : List State) (ms ps ns : List ℕ) → Is B.the-row r (vB .val r ∷ [])
       → length F ≡ length (fm .now) → length es ≡ length (ls .now) → length ms ≡ length (vs .now)
-      → length ps ≡ length (cs .now)
-      → record { list = es; search = record { answer = r; evaluated = ms; certificate = ps } }
-      ≡ sssOutcome allowance (tb .now) (ls .now) (vs .now) (cs .now)
-      → ent 𝓤 (⋆ 𝓤 H A (‵ (LastFront ws) ∷ ‵ (Places F) ∷ ‵ (Entries es) ∷ ‵ (Marks ms) ∷ ‵ (Flags ps) ∷ ‵ tokT
-      ∷ ‵ tokF ∷ ‵ tokW ∷ ‵ tokL ∷ ‵ tokV ∷ ‵ tokC ∷ [])) (Post (vB .val r))
-  exits r F ws es ms ps is ef el ev ec e =
-      qed W (‵ (LastFront ws) ∷ ‵ (Places F) ∷ ‵ (Entries es) ∷ ‵ (Marks ms) ∷ ‵ (Flags ps) ∷ ‵ tokT ∷ ‵ tokF
-      ∷ ‵ tokW ∷ ‵ tokL ∷ ‵ tokV ∷ ‵ tokC ∷ []) ∵
+      → length ps ≡ length (cs .now) → length ns ≡ length (od .now)
+      → record { list = es; order = ns; search = record { answer = r; evaluated = ms; certificate = ps } }
+      ≡ sssOutcome allowance (tb .now) (ls .now) (vs .now) (cs .now) (od .now)
+      → ent 𝓤 (⋆ 𝓤 H A (‵ (LastFront ws) ∷ ‵ (Places F) ∷ ‵ (Entries es) ∷ ‵ (Marks ms) ∷ ‵ (Flags ps) ∷ ‵ (Order ns)
+      ∷ ‵ tokT ∷ ‵ tokF ∷ ‵ tokW ∷ ‵ tokL ∷ ‵ tokV ∷ ‵ tokC ∷ ‵ tokO ∷ [])) (Post (vB .val r))
+  exits r F ws es ms ps ns is ef el ev ec eo e =
+      qed W (‵ (LastFront ws) ∷ ‵ (Places F) ∷ ‵ (Entries es) ∷ ‵ (Marks ms) ∷ ‵ (Flags ps) ∷ ‵ (Order ns) ∷ ‵ tokT
+      ∷ ‵ tokF ∷ ‵ tokW ∷ ‵ tokL ∷ ‵ tokV ∷ ‵ tokC ∷ ‵ tokO ∷ []) ∵
       fsplit ! $ move ! (1 ∷ []) $ feqL ! (λ ew.
       suffices ! _ (ends-at 𝓤 H A fn.ended stayed (fn.clauses 𝓤 H A mem run) W bound (vB .val r) r
-      (tt, (F, (ws, (es, (ms, (ps, (tt, tt))))))) (tt, (ef, (ew, (el, (ev, (ec, (tt, tt)))))))) $ says ! e $
-      nothing ! $ move ! (6 ∷ 7 ∷ 8 ∷ 9 ∷ 10 ∷ 11 ∷ 0 ∷ []) $ group ! 7 $ frame ! $
-      nothing ! $ nothing ! $ nothing ! $ move ! (0 ∷ 4 ∷ 3 ∷ 5 ∷ 6 ∷ 7 ∷ 1 ∷ 2 ∷ []) $ group ! 8 $ frame ! $
+      (tt, (F, (ws, (es, (ms, (ps, (ns, (tt, tt)))))))) (tt, (ef, (ew, (el, (ev, (ec, (eo, (tt, tt))))))))) $ says ! e $
+      nothing ! $ move ! (7 ∷ 8 ∷ 9 ∷ 10 ∷ 11 ∷ 12 ∷ 13 ∷ 0 ∷ []) $ group ! 8 $ frame ! $
+      nothing ! $ nothing ! $ nothing ! $ move ! (0 ∷ 4 ∷ 3 ∷ 5 ∷ 6 ∷ 7 ∷ 8 ∷ 1 ∷ 2 ∷ []) $ group ! 9 $ frame ! $
       owned ! B.the-row (Is B.the-row) (vB .makes) r _ is $ done !)
 
   module _ (gt : Room u8 (length (tb .now))) (gf : Room u32 (length (fm .now))) (gw : Room u32 (length (fr .now)))
       (gl : Room R (length (ls .now))) (gv : Room u8 (length (vs .now))) (gc : Room u8 (length (cs .now)))
-      (ga : allowance < 2 ^ 64) (work : Workable (tb .now) (fm .now) (fr .now))
+      (go : Room u16 (length (od .now))) (ga : allowance < 2 ^ 64) (work : Workable (tb .now) (fm .now) (fr .now))
       (𝓣 : Tables 𝓤 H) (starts : Triple 𝓤 (𝓣 .C #start) (Start 𝓤 H A mem run))
       (begins : Triple 𝓤 (𝓣 .C #begun) (Begun 𝓤 H A mem run)) (drives : Triple 𝓤 (𝓣 .C #drive) (Drive 𝓤 H A mem run))
       (ends : Triple 𝓤 (𝓣 .C #finish) (Finish 𝓤 H A mem run)) where
     abbrev sizes : Sizes
-    sizes = record { entries = length (ls .now); flags = length (cs .now) }
+    sizes = record { entries = length (ls .now); flags = length (cs .now); order = length (od .now) }
 
     sized : Is Z.the-row sizes (vZ .val sizes ∷ [])
-    sized = LL.owes Z.the-type Z′.the-laws sizes ((refl, gl .0), ((refl, gc .0), tt))
+    sized = LL.owes Z.the-type Z′.the-laws sizes ((refl, gl .0), ((refl, gc .0), ((refl, go .0), tt)))
 
     walk : ent 𝓤 (onEntry 𝓤 H A fn.signature κs qs a at) (WpFn 𝓤 H (𝓣 .C) (𝓣 .Λ) code.function
         (sliceVal (tb .ptr) (length (tb .now)) ∷ sliceVal (fm .ptr) (length (fm .now))
         ∷ sliceVal (fr .ptr) (length (fr .now)) ∷ sliceVal (ls .ptr) (length (ls .now))
-        ∷ sliceVal (vs .ptr) (length (vs .now)) ∷ sliceVal (cs .ptr) (length (cs .now)) ∷ vint w64 allowance ∷ []) Post)
+        ∷ sliceVal (vs .ptr) (length (vs .now)) ∷ sliceVal (cs .ptr) (length (cs .now))
+        ∷ sliceVal (od .ptr) (length (od .now)) ∷ vint w64 allowance ∷ []) Post)
     walk =
         via 𝓤 _ (entry-out 𝓤 H A fn.signature κs qs a at) ∵
-        qed W (‵ tokT ∷ ‵ tokF ∷ ‵ tokW ∷ ‵ tokL ∷ ‵ tokV ∷ ‵ tokC ∷ ‵ Table ∷ ‵ (Places (fm .now)) ∷ ‵ Front
-        ∷ ‵ (Entries (ls .now)) ∷ ‵ (Marks (vs .now)) ∷ ‵ (Flags (cs .now))
+        qed W (‵ tokT ∷ ‵ tokF ∷ ‵ tokW ∷ ‵ tokL ∷ ‵ tokV ∷ ‵ tokC ∷ ‵ tokO ∷ ‵ Table ∷ ‵ (Places (fm .now)) ∷ ‵ Front
+        ∷ ‵ (Entries (ls .now)) ∷ ‵ (Marks (vs .now)) ∷ ‵ (Flags (cs .now)) ∷ ‵ (Order (od .now))
         ∷ ‵ (usize .own allowance (vint w64 allowance ∷ [])) ∷ []) ∵
         enter ! (𝓣 .C) (𝓣 .Λ) code.function _ _ $
         alloc1 ! (λ l₀. alloc1 ! (λ l₁. alloc1 ! (λ l₂. alloc1 ! (λ l₃. alloc1 ! (λ l₄. alloc1 ! (λ l₅.
@@ -287,6 +316,7 @@ module _ {M : Type 1} (𝓤 : URA M) (H : Heap 𝓤) (A : Atoms 𝓤) (W : Given
         alloc1 ! (λ l₁₂. alloc1 ! (λ l₁₃. alloc1 ! (λ l₁₄. alloc1 ! (λ l₁₅. alloc1 ! (λ l₁₆. alloc1 ! (λ l₁₇.
         alloc1 ! (λ l₁₈. alloc1 ! (λ l₁₉. alloc1 ! (λ l₂₀. alloc1 ! (λ l₂₁. alloc1 ! (λ l₂₂. alloc1 ! (λ l₂₃.
         alloc1 ! (λ l₂₄. alloc1 ! (λ l₂₅. alloc1 ! (λ l₂₆. alloc1 ! (λ l₂₇. alloc1 ! (λ l₂₈. alloc1 ! (λ l₂₉.
+        alloc1 ! (λ l₃₀. alloc1 ! (λ l₃₁. alloc1 ! (λ l₃₂. alloc1 ! (λ l₃₃. alloc1 ! (λ l₃₄. alloc1 ! (λ l₃₅.
         alloc0 ! $ params1 ! $
         pass1 ! (init ! (pos 0 1) refl (tt, (tt, (record { fits = gt .0 }, tt)))) $
         pass1 ! (init ! (pos 0 2) refl (tt, (tt, (record { fits = gf .0 }, tt)))) $
@@ -294,105 +324,124 @@ module _ {M : Type 1} (𝓤 : URA M) (H : Heap 𝓤) (A : Atoms 𝓤) (W : Given
         pass1 ! (init ! (pos 0 4) refl (tt, (tt, (record { fits = gl .0 }, tt)))) $
         pass1 ! (init ! (pos 0 5) refl (tt, (tt, (record { fits = gv .0 }, tt)))) $
         pass1 ! (init ! (pos 0 6) refl (tt, (tt, (record { fits = gc .0 }, tt)))) $
-        pass1 ! (init ! (pos 0 7) refl (tt, record { fits = ga })) $ pass0 ! $
+        pass1 ! (init ! (pos 0 7) refl (tt, (tt, (record { fits = go .0 }, tt)))) $
+        pass1 ! (init ! (pos 0 8) refl (tt, record { fits = ga })) $ pass0 ! $
         -- the sizes
-        sets ! (of-opd ! (part ! (pos 0 4) refl refl refl)) (init ! (pos 0 11) refl (tt, record { fits = gl .0 })) $
-        sets ! (of-opd ! (part ! (pos 0 6) refl refl refl)) (init ! (pos 0 12) refl (tt, record { fits = gc .0 })) $
-        sets ! (agg ! (and-then ! (held ! (pos 0 11) refl) (and-then ! (held ! (pos 0 12) refl) (no-more !))))
-        (init ! (pos 0 8) refl (vZ .typed sizes sized .0)) $
+        sets ! (of-opd ! (part ! (pos 0 4) refl refl refl)) (init ! (pos 0 12) refl (tt, record { fits = gl .0 })) $
+        sets ! (of-opd ! (part ! (pos 0 6) refl refl refl)) (init ! (pos 0 13) refl (tt, record { fits = gc .0 })) $
+        sets ! (of-opd ! (part ! (pos 0 7) refl refl refl)) (init ! (pos 0 14) refl (tt, record { fits = go .0 })) $
+        sets ! (agg ! (and-then ! (held ! (pos 0 12) refl) (and-then ! (held ! (pos 0 13) refl)
+        (and-then ! (held ! (pos 0 14) refl) (no-more !)))))
+        (init ! (pos 0 9) refl (vZ .typed sizes sized .0)) $
         -- checked = start(sizes, table, places, evaluated)
-        reborrows ! (pos 0 2) (pos 0 13) (pos 0 14) (gf .0) (refl, refl, refl) (refl, refl) (refl, refl, refl) $
-        reborrows ! (pos 0 5) (pos 0 15) (pos 0 16) (gv .0) (refl, refl, refl) (refl, refl) (refl, refl, refl) $
-        -- [the locals; 60 ‥ 65: the tokens; the table; the places; the front; the list; the marks; the certificate; the
-        -- allowance]
-        move ! (71 ∷ 65 ∷ []) $ opens u8 cs (named 5) ! tt $ move ! (71 ∷ 66 ∷ []) $ opens u8 vs (named 4) ! tt $
-        move ! (71 ∷ 67 ∷ []) $ opens R ls (named 3) ! tt $ move ! (70 ∷ 67 ∷ []) $ opens u32 fm (named 1) ! tt $
-        -- [the places, the list, the marks and the certificate, each with what is open; the locals; 68: tokT; tokW; the
-        -- table; the front; the allowance]
+        reborrows ! (pos 0 2) (pos 0 15) (pos 0 16) (gf .0) (refl, refl, refl) (refl, refl) (refl, refl, refl) $
+        reborrows ! (pos 0 5) (pos 0 17) (pos 0 18) (gv .0) (refl, refl, refl) (refl, refl) (refl, refl, refl) $
+        -- [the locals; 72 ‥ 78: the tokens; the table; the places; the front; the list; the marks; the certificate; the
+        -- order; the allowance]
+        move ! (85 ∷ 78 ∷ []) $ opens u16 od (named 6) ! tt $ move ! (85 ∷ 79 ∷ []) $ opens u8 cs (named 5) ! tt $
+        move ! (85 ∷ 80 ∷ []) $ opens u8 vs (named 4) ! tt $ move ! (85 ∷ 81 ∷ []) $ opens R ls (named 3) ! tt $
+        move ! (84 ∷ 81 ∷ []) $ opens u32 fm (named 1) ! tt $
+        -- [the places, the list, the marks, the certificate and the order, each with what is open; the locals; 82:
+        -- tokT; tokW; the table; the front; the allowance]
         lends-row u32 (fm .ptr) ! tt (named 1) (fm .now) refl gf (λ ν₁ δ₁. move ! (6 ∷ []) $
-        lends-row u8 (vs .ptr) ! tt (named 2) (vs .now) refl gv (λ ν₂ δ₂. move ! (74 ∷ []) $
+        lends-row u8 (vs .ptr) ! tt (named 2) (vs .now) refl gv (λ ν₂ δ₂. move ! (88 ∷ []) $
         copies u8 tb (named 0) (κs .0) ! $
         owned ! Z.the-row (Is Z.the-row) (vZ .makes) sizes (vZ .val sizes ∷ []) sized $
-        move ! (75 ∷ 7 ∷ 4 ∷ 0 ∷ 1 ∷ 6 ∷ 3 ∷ []) $
+        move ! (89 ∷ 7 ∷ 4 ∷ 0 ∷ 1 ∷ 6 ∷ 3 ∷ []) $
         called W start.ended (start.clauses 𝓤 H A mem run) (to-start sizes ν₁ δ₁ ν₂ δ₂) vQ
         (λ r (_, (_, (F, (ms, _)))). Started (tb .now) sizes (fm .now) (vs .now) r F ms) (λ r ws. refl)
         (fmOf 𝓤 H (W .laws) 𝓣) starts (factI 𝓤 _ (emp 𝓤) (λ wf. work wf .0))
-        (and-then ! (held ! (pos 10 8) refl) (and-then ! (held ! (pos 10 1) refl) (and-then ! (held ! (pos 10 14) refl)
-        (and-then ! (held ! (pos 10 16) refl) (no-more !))))) (λ checked (_, (_, (F, (ms, _)))) checked-is started.
+        (and-then ! (held ! (pos 12 9) refl) (and-then ! (held ! (pos 12 1) refl) (and-then ! (held ! (pos 12 16) refl)
+        (and-then ! (held ! (pos 12 18) refl) (no-more !))))) (λ checked (_, (_, (F, (ms, _)))) checked-is started.
         -- [tokT; ν₁; ν₂; the last places; the last marks; the table; two lenders' parts; …]
         move ! (3 ∷ 1 ∷ 7 ∷ []) $ row-back u32 (fm .ptr) ! tt ν₁ δ₁ F (λ eF. move ! (3 ∷ 2 ∷ 5 ∷ []) $
         row-back u8 (vs .ptr) ! tt ν₂ δ₂ ms (λ em.
-        -- [the marks; the places; tokT; the table; one that is open; the list; two that are open; the certificate; its
-        -- open; the locals; tokW; the front]
-        land ! (from ! (stop !)) (init ! (pos 10 9) refl (vQ .typed checked checked-is .0)) $
+        -- [the marks; the places; tokT; the table; one that is open; the list; two that are open; the certificate and
+        -- the order, each with what is open; the locals; tokW; the front]
+        land ! (from ! (stop !)) (init ! (pos 12 10) refl (vQ .typed checked checked-is .0)) $
         -- begun(checked, allowance)
-        move ! (72 ∷ []) $
+        move ! (86 ∷ []) $
         owned ! Q.the-row (Is Q.the-row) (vQ .makes) checked (vQ .val checked ∷ []) checked-is $
         called W begun.ended (begun.clauses 𝓤 H A mem run) (to-begun checked) vN (λ r _. r ≡ begunOf allowance checked)
         (λ r ws. refl) (fmOf 𝓤 H (W .laws) 𝓣) begins (id⊢ 𝓤 (emp 𝓤))
-        (and-then ! (held ! (pos 11 9) refl) (and-then ! (held ! (pos 11 7) refl) (no-more !)))
-        (λ begun _ begun-is begun-so. land ! (from ! (stop !)) (init ! (pos 10 17) refl (vN .typed begun begun-is .0)) $
-        -- ended = drive(begun, table, places, front, list, evaluated)
-        reborrows ! (pos 10 2) (pos 10 18) (pos 10 19) (gf .0) (refl, refl, refl) (refl, refl) (refl, refl, refl) $
-        reborrows ! (pos 10 3) (pos 10 20) (pos 10 21) (gw .0) (refl, refl, refl) (refl, refl) (refl, refl, refl) $
-        reborrows ! (pos 10 4) (pos 10 22) (pos 10 23) (gl .0) (refl, refl, refl) (refl, refl) (refl, refl, refl) $
-        reborrows ! (pos 10 5) (pos 10 24) (pos 10 25) (gv .0) (refl, refl, refl) (refl, refl) (refl, refl, refl) $
+        (and-then ! (held ! (pos 13 10) refl) (and-then ! (held ! (pos 13 8) refl) (no-more !)))
+        (λ begun _ begun-is begun-so. land ! (from ! (stop !)) (init ! (pos 12 19) refl (vN .typed begun begun-is .0)) $
+        -- ended = drive(begun, table, places, front, list, evaluated, order)
+        reborrows ! (pos 12 2) (pos 12 20) (pos 12 21) (gf .0) (refl, refl, refl) (refl, refl) (refl, refl, refl) $
+        reborrows ! (pos 12 3) (pos 12 22) (pos 12 23) (gw .0) (refl, refl, refl) (refl, refl) (refl, refl, refl) $
+        reborrows ! (pos 12 4) (pos 12 24) (pos 12 25) (gl .0) (refl, refl, refl) (refl, refl) (refl, refl, refl) $
+        reborrows ! (pos 12 5) (pos 12 26) (pos 12 27) (gv .0) (refl, refl, refl) (refl, refl) (refl, refl, refl) $
+        reborrows ! (pos 12 7) (pos 12 28) (pos 12 29) (go .0) (refl, refl, refl) (refl, refl) (refl, refl, refl) $
         move ! (1 ∷ []) $
         shares-row u32 (fm .ptr) ! tt (named 1) F eF gf (λ ν₃ δ₃. move ! (7 ∷ []) $
         lends-row R (ls .ptr) ! tt (named 3) (ls .now) refl gl (λ ν₄ δ₄. move ! (6 ∷ []) $
-        lends-row u8 (vs .ptr) ! tt (named 4) ms em gv (λ ν₅ δ₅. move ! (10 ∷ []) $ copies u8 tb (named 0) (κs .0) ! $
+        lends-row u8 (vs .ptr) ! tt (named 4) ms em gv (λ ν₅ δ₅. move ! (16 ∷ []) $
+        lends-row u16 (od .ptr) ! tt (named 5) (od .now) refl go (λ ν₈ δ₈. move ! (13 ∷ []) $
+        copies u8 tb (named 0) (κs .0) ! $
         owned ! N.the-row (Is N.the-row) (vN .makes) begun (vN .val begun ∷ []) begun-is $
-        move ! (12 ∷ 10 ∷ 78 ∷ 7 ∷ 4 ∷ 0 ∷ 1 ∷ 9 ∷ 79 ∷ 6 ∷ 3 ∷ []) $
-        called W drive.ended (drive.clauses 𝓤 H A mem run) (to-drive begun F ms ν₃ δ₃ ν₄ δ₄ ν₅ δ₅) vN
-        (λ r (_, (_, (_, (ws, (es, (ms′, _)))))). Driven (tb .now) (fr .now) (ls .now) ms begun
-        (record { front = ws; list = es; marks = ms′; run = r })) (λ r ws. refl)
+        move ! (15 ∷ 13 ∷ 94 ∷ 10 ∷ 7 ∷ 4 ∷ 0 ∷ 1 ∷ 12 ∷ 95 ∷ 9 ∷ 6 ∷ 3 ∷ []) $
+        called W drive.ended (drive.clauses 𝓤 H A mem run) (to-drive begun F ms ν₃ δ₃ ν₄ δ₄ ν₅ δ₅ ν₈ δ₈) vN
+        (λ r (_, (_, (_, (ws, (es, (ms′, (ns, _))))))). Driven (tb .now) (fr .now) (ls .now) ms (od .now) begun
+        (record { front = ws; list = es; marks = ms′; order = ns; run = r })) (λ r ws. refl)
         (fmOf 𝓤 H (W .laws) 𝓣) drives
-        (factI 𝓤 _ (emp 𝓤) (start-prepared allowance (tb .now) (fm .now) (vs .now) (fr .now) sizes (ls .now) work refl
-        checked F ms started begun begun-so))
-        (and-then ! (held ! (pos 10 17) refl) (and-then ! (held ! (pos 10 1) refl)
-        (and-then ! (held ! (pos 10 19) refl) (and-then ! (held ! (pos 10 21) refl)
-        (and-then ! (held ! (pos 10 23) refl) (and-then ! (held ! (pos 10 25) refl) (no-more !)))))))
-        (λ ended (_, (_, (_, (ws, (es, (ms′, _)))))) ended-is driven.
-        -- [tokT; ν₃; tokW; ν₄; ν₅; the last front, list and marks; the table; the lenders' parts of the marks, the list
-        -- and the places; three that are open; the certificate; its open; the locals]
-        move ! (1 ∷ 11 ∷ []) $ share-back u32 (fm .ptr) ! tt ν₃ F $ move ! (0 ∷ 11 ∷ []) $
-        shuts u32 fm (named 1) ! tt gf F eF $ move ! (7 ∷ 4 ∷ 11 ∷ []) $
-        row-back R (ls .ptr) ! tt ν₄ δ₄ es (λ ee. move ! (7 ∷ 5 ∷ 9 ∷ []) $
-        row-back u8 (vs .ptr) ! tt ν₅ δ₅ ms′ (λ em′.
-        -- [the marks; the list; the places; tokF; tokT; tokW; the last front; the table; two that are open; the
-        -- certificate; its open; the locals]
-        land ! (from ! (stop !)) (init ! (pos 12 10) refl (vN .typed ended ended-is .0)) $
-        -- finish(checked, ended, table, evaluated, certificate)
-        reborrows ! (pos 12 5) (pos 12 26) (pos 12 27) (gv .0) (refl, refl, refl) (refl, refl) (refl, refl, refl) $
-        reborrows ! (pos 12 6) (pos 12 28) (pos 12 29) (gc .0) (refl, refl, refl) (refl, refl) (refl, refl, refl) $
-        lends-row u8 (vs .ptr) ! tt (named 1) ms′ (em′ ∙ em) gv (λ ν₆ δ₆. move ! (12 ∷ []) $
-        lends-row u8 (cs .ptr) ! tt (named 2) (cs .now) refl gc (λ ν₇ δ₇.
+        (factI 𝓤 _ (emp 𝓤) (start-prepared allowance (tb .now) (fm .now) (vs .now) (od .now) (fr .now) sizes (ls .now)
+        work refl refl checked F ms started begun begun-so))
+        (and-then ! (held ! (pos 12 19) refl) (and-then ! (held ! (pos 12 1) refl)
+        (and-then ! (held ! (pos 12 21) refl) (and-then ! (held ! (pos 12 23) refl)
+        (and-then ! (held ! (pos 12 25) refl) (and-then ! (held ! (pos 12 27) refl)
+        (and-then ! (held ! (pos 12 29) refl) (no-more !))))))))
+        (λ ended (_, (_, (_, (ws, (es, (ms′, (ns, _))))))) ended-is driven.
+        -- [tokT; ν₃; tokW; ν₄; ν₅; ν₈; the last front, list, marks and order; the table; the lenders' parts of the
+        -- order, the marks, the list and the places; three that are open; the certificate; its open; the order's
+        -- open; the locals]
+        move ! (1 ∷ 14 ∷ []) $ share-back u32 (fm .ptr) ! tt ν₃ F $ move ! (0 ∷ 14 ∷ []) $
+        move ! (8 ∷ 4 ∷ 14 ∷ []) $
+        row-back R (ls .ptr) ! tt ν₄ δ₄ es (λ ee. move ! (8 ∷ 5 ∷ 12 ∷ []) $
+        row-back u8 (vs .ptr) ! tt ν₅ δ₅ ms′ (λ em′. move ! (8 ∷ 6 ∷ 10 ∷ []) $
+        row-back u16 (od .ptr) ! tt ν₈ δ₈ ns (λ eo. move ! (0 ∷ 13 ∷ []) $
+        shuts u16 od (named 6) ! tt go ns eo $ move ! (2 ∷ []) $
+        -- [the marks; the order; tokO; the list; the places; their open; tokT; tokW; the last front; the table; two
+        -- that are open; the certificate; its open; the locals]
+        land ! (from ! (stop !)) (init ! (pos 14 11) refl (vN .typed ended ended-is .0)) $
+        -- finish(checked, ended, table, places, evaluated, certificate)
+        reborrows ! (pos 14 2) (pos 14 30) (pos 14 31) (gf .0) (refl, refl, refl) (refl, refl) (refl, refl, refl) $
+        reborrows ! (pos 14 5) (pos 14 32) (pos 14 33) (gv .0) (refl, refl, refl) (refl, refl) (refl, refl, refl) $
+        reborrows ! (pos 14 6) (pos 14 34) (pos 14 35) (gc .0) (refl, refl, refl) (refl, refl) (refl, refl, refl) $
+        lends-row u8 (vs .ptr) ! tt (named 2) ms′ (em′ ∙ em) gv (λ ν₆ δ₆. move ! (6 ∷ []) $
+        shares-row u32 (fm .ptr) ! tt (named 1) F eF gf (λ ν₉ δ₉. move ! (16 ∷ []) $
+        lends-row u8 (cs .ptr) ! tt (named 3) (cs .now) refl gc (λ ν₇ δ₇.
         owned ! N.the-row (Is N.the-row) (vN .makes) ended (vN .val ended ∷ []) ended-is $
         owned ! Q.the-row (Is Q.the-row) (vQ .makes) checked (vQ .val checked ∷ []) checked-is $
-        move ! (11 ∷ 6 ∷ 3 ∷ 0 ∷ 1 ∷ 14 ∷ 5 ∷ 2 ∷ []) $
-        called W finish.ended (finish.clauses 𝓤 H A mem run) (to-finish checked ended ms′ ν₆ δ₆ ν₇ δ₇) vB
-        (λ r (_, (_, (_, (ms″, (ps, _))))). Finished (tb .now) ms′ (cs .now) ended checked r ms″ ps) (λ r ws. refl)
+        move ! (15 ∷ 6 ∷ 9 ∷ 3 ∷ 0 ∷ 1 ∷ 18 ∷ 5 ∷ 8 ∷ 2 ∷ []) $
+        called W finish.ended (finish.clauses 𝓤 H A mem run) (to-finish checked ended F ms′ ν₉ δ₉ ν₆ δ₆ ν₇ δ₇) vB
+        (λ r (_, (_, (_, (_, (ms″, (ps, _)))))). Finished (tb .now) ms′ (cs .now) ended checked r ms″ ps) (λ r ws. refl)
         (fmOf 𝓤 H (W .laws) 𝓣) ends
-        (factI 𝓤 _ (emp 𝓤) (finish-asks allowance (tb .now) (ls .now) (vs .now) (cs .now) sizes refl refl started
-        begun-so driven))
-        (and-then ! (held ! (pos 11 9) refl) (and-then ! (held ! (pos 11 10) refl) (and-then ! (held ! (pos 11 1) refl)
-        (and-then ! (held ! (pos 11 27) refl) (and-then ! (held ! (pos 11 29) refl) (no-more !))))))
-        (λ r (_, (_, (_, (ms″, (ps, _))))) r-is finished.
-        -- [tokT; ν₆; ν₇; the last marks; the last certificate; two lenders' parts; the list; the places; tokF; tokW;
-        -- the last front; three that are open; the locals]
-        move ! (3 ∷ 1 ∷ 6 ∷ []) $ row-back u8 (vs .ptr) ! tt ν₆ δ₆ ms″ (λ em″. move ! (0 ∷ 11 ∷ []) $
+        (factI 𝓤 _ (emp 𝓤) (finish-asks allowance (tb .now) (ls .now) (vs .now) (cs .now) (od .now) sizes refl started
+        begun-so driven (λ wf. work wf .0)))
+        (and-then ! (held ! (pos 13 10) refl) (and-then ! (held ! (pos 13 11) refl) (and-then ! (held ! (pos 13 1) refl)
+        (and-then ! (held ! (pos 13 31) refl) (and-then ! (held ! (pos 13 33) refl)
+        (and-then ! (held ! (pos 13 35) refl) (no-more !)))))))
+        (λ r (_, (_, (_, (_, (ms″, (ps, _)))))) r-is finished.
+        -- [tokT; ν₉; ν₆; ν₇; the last marks; the last certificate; three lenders' parts; the order; tokO; the list; the
+        -- places' open; tokW; the last front; three that are open; the locals]
+        move ! (1 ∷ 7 ∷ []) $ share-back u32 (fm .ptr) ! tt ν₉ F $ move ! (0 ∷ 11 ∷ []) $
+        shuts u32 fm (named 1) ! tt gf F eF $ move ! (2 ∷ 3 ∷ 4 ∷ 5 ∷ 6 ∷ 7 ∷ 8 ∷ 9 ∷ 10 ∷ 11 ∷ []) $
+        -- [tokT; ν₆; ν₇; the last marks; the last certificate; two lenders' parts; the order; tokO; the list; the
+        -- places; tokF; tokW; the last front; three that are open; the locals]
+        move ! (3 ∷ 1 ∷ 6 ∷ []) $ row-back u8 (vs .ptr) ! tt ν₆ δ₆ ms″ (λ em″. move ! (0 ∷ 13 ∷ []) $
         shuts u8 vs (named 4) ! tt gv ms″ (em″ ∙ em′ ∙ em) $ move ! (4 ∷ 3 ∷ 5 ∷ []) $
-        row-back u8 (cs .ptr) ! tt ν₇ δ₇ ps (λ ep. move ! (0 ∷ 10 ∷ []) $ shuts u8 cs (named 5) ! tt gc ps ep $
-        move ! (5 ∷ 10 ∷ []) $ shuts R ls (named 3) ! tt gl es ee $
-        -- [the list; tokL; the certificate; tokC; the marks; tokV; tokT; the places; tokF; tokW; the last front; the
-        -- locals]
-        land ! (from ! (stop !)) (init ! (pos 11 0) refl (vB .typed r r-is .0)) $ returns ! (look ! (pos 11 0) refl) $
-        frees ! 11 (full (full (full (full (full (full (full (full (full (full (full (full (full (full (full (full
-        (full (full (full (full (full (full (full (full (full (full (full (full (full (full none
-        )))))))))))))))))))))))))))))) refl $
-        keep ! (10 ∷ 7 ∷ 0 ∷ 4 ∷ 2 ∷ 6 ∷ 8 ∷ 9 ∷ 1 ∷ 5 ∷ 3 ∷ []) $
-        by ! (exits r F ws es ms″ ps r-is eF ee (em″ ∙ em′ ∙ em) ep (whole allowance (tb .now) (ls .now) (vs .now)
-        (cs .now) sizes refl refl started begun-so driven finished)))))))))))))))))))))))))))))))))))))))))))))))))
+        row-back u8 (cs .ptr) ! tt ν₇ δ₇ ps (λ ep. move ! (0 ∷ 12 ∷ []) $ shuts u8 cs (named 5) ! tt gc ps ep $
+        move ! (7 ∷ 12 ∷ []) $ shuts R ls (named 3) ! tt gl es ee $
+        -- [the list; tokL; the certificate; tokC; the marks; tokV; tokT; the order; tokO; the places; tokF; tokW; the
+        -- last front; the locals]
+        land ! (from ! (stop !)) (init ! (pos 13 0) refl (vB .typed r r-is .0)) $ returns ! (look ! (pos 13 0) refl) $
+        frees ! 13 (full (full (full (full (full (full (full (full (full (full (full (full (full (full (full (full
+        (full (full (full (full (full (full (full (full (full (full (full (full (full (full (full (full (full (full
+        (full (full none)))))))))))))))))))))))))))))))))))) refl $
+        keep ! (12 ∷ 9 ∷ 0 ∷ 4 ∷ 2 ∷ 7 ∷ 6 ∷ 10 ∷ 11 ∷ 1 ∷ 5 ∷ 3 ∷ 8 ∷ []) $
+        by ! (exits r F ws es ms″ ps ns r-is eF ee (em″ ∙ em′ ∙ em) ep eo (whole allowance (tb .now) (ls .now)
+        (vs .now) (cs .now) (od .now) sizes refl started begun-so driven finished
+        ))))))))))))))))))))))))))))))))))))))))))))))))))))))))))
 
 module _ {M : Type 1} (𝓤 : URA M) (H : Heap 𝓤) (A : Atoms 𝓤) (W : Given 𝓤 H A) (mem : Memory → SProp 𝓤)
     (run : Routine → Fun 𝓤) (𝓣 : Tables 𝓤 H) (starts : Triple 𝓤 (𝓣 .C #start) (Start 𝓤 H A mem run))
@@ -403,8 +452,8 @@ module _ {M : Type 1} (𝓤 : URA M) (H : Heap 𝓤) (A : Atoms 𝓤) (W : Given
       by-walk 𝓤 H A W 𝓣 fn.ended params (fn.clauses 𝓤 H A mem run) code.function
       (λ κs qs bounds a g are. needs 𝓤 (Workable (a .0 .now) (a .1 .0 .now) (a .1 .1 .0 .now)) _ (λ work.
       walk 𝓤 H A W mem run κs qs a (are .0 .0 .1) (are .1 .0 .0 .1) (are .1 .1 .0 .0 .1) (are .1 .1 .1 .0 .0 .1)
-      (are .1 .1 .1 .1 .0 .0 .1) (are .1 .1 .1 .1 .1 .0 .0 .1) (are .1 .1 .1 .1 .1 .1 .0 .1) work 𝓣 starts begins
-      drives ends))
+      (are .1 .1 .1 .1 .0 .0 .1) (are .1 .1 .1 .1 .1 .0 .0 .1) (are .1 .1 .1 .1 .1 .1 .0 .0 .1)
+      (are .1 .1 .1 .1 .1 .1 .1 .0 .1) work 𝓣 starts begins drives ends))
 
 pub search-in-spec : {M : Type 1} → stated.statement M
 unfolding code.routine tablesOf

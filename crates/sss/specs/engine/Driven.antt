@@ -12,21 +12,23 @@ use Rattle.turns.specs.engine.Update.{updated, Within}
 use Rattle.turns.specs.engine.Turn.{going, Config}
 use Rattle.sss.specs.engine.Invariant.{Running}
 
--- a run that goes is at its start, over the front w, the list l and the marks b; one that does not changes no entry
-pub record Prepared (t F w : List ℕ) (l : List State) (b : List ℕ) (r : Run) : Type 0 where
+-- a run that goes is at its start, over the front w, the states l, the marks b and the leaves o; one that does not
+-- changes no entry
+pub record Prepared (t F w : List ℕ) (l : List State) (b o : List ℕ) (r : Run) : Type 0 where
   pub within : Within (r .update) (length l)
   pub formed : going (r .stage) ≡ true → WellFormed t
   pub places : going (r .stage) ≡ true → Placed t F
-  pub running : going (r .stage) ≡ true → Running (r .counts .allowance) t l b (record {
+  pub running : going (r .stage) ≡ true → Running (r .counts .allowance) t l b o (record {
     front = w;
     list = updated (r .update) l;
     marks = b;
+    order = o;
     run = r;
   })
   pub idle : going (r .stage) ≡ false → r .update .count ≡ 0
 
 -- the run has ended, or did not go at all
-pub record Driven (t w : List ℕ) (l : List State) (b : List ℕ) (r : Run) (c : Config) : Type 0 where
+pub record Driven (t w : List ℕ) (l : List State) (b o : List ℕ) (r : Run) (c : Config) : Type 0 where
   pub stopped : going (c .run .stage) ≡ false
-  pub ran : going (r .stage) ≡ true → Running (r .counts .allowance) t l b c
-  pub stayed : going (r .stage) ≡ false → c ≡ record { front = w; list = l; marks = b; run = r }
+  pub ran : going (r .stage) ≡ true → Running (r .counts .allowance) t l b o c
+  pub stayed : going (r .stage) ≡ false → c ≡ record { front = w; list = l; marks = b; order = o; run = r }

@@ -10,15 +10,20 @@ use Rattle.gametree.specs.Sss as theory
 use Rattle.frames.specs.Frame.{frames}
 use Rattle.frames.specs.Tree.{tree, valuation}
 use Rattle.places.specs.Buffer.{written}
-use Rattle.bounds.specs.Marks.{markAll}
+use Rattle.bounds.specs.Marks.{ones}
+use Rattle.bounds.specs.engine.Progress.{progress, evaluateAll}
 use Rattle.states.specs.declared.State.{State}
 use Rattle.states.specs.Entry.{blank}
-use Rattle.sss.specs.Outcome.{sssRun}
+use Rattle.gametree.specs.engine.Within.{sssWithin}
 use Rattle.states.specs.engine.Shown.{Found}
 use Rattle.states.specs.engine.Kept.{arraysOf, Sound}
 use Rattle.turns.specs.declared.Stage.{Stage}
 use Rattle.turns.specs.declared.Stage.the-variants.{Going, Finished, Spent}
 use Rattle.turns.specs.engine.Turn.{Config}
+
+-- the run of SSS* on the tree of a table within an allowance of a leaves
+abbrev pub sssRun : (a : ℕ) → List ℕ → theory.Ran
+sssRun a t = sssWithin a (valuation t) (tree t)
 
 -- after k replacements that evaluated the leaves v, SSS* has the list L
 abbrev pub Reaches : List ℕ → ℕ → List ℕ → List theory.State → Type 0
@@ -49,15 +54,17 @@ Stands Going a t ls w i k v = GoesOn t ls w i k v
 Stands (Finished γ) a t ls w i k v = Over a t ls theory.finished γ k v
 Stands (Spent γ) a t ls w i k v = Over a t ls theory.spent γ k v
 
--- the invariant, for an allowance of a leaves, a table t, entries l and marks b at entry
-pub record Running (a : ℕ) (t : List ℕ) (l : List State) (b : List ℕ) (c : Config) : Type 0 where
+-- the invariant, for an allowance of a leaves, a table t, and at entry the states l, the marks b and the leaves o
+pub record Running (a : ℕ) (t : List ℕ) (l : List State) (b o : List ℕ) (c : Config) : Type 0 where
   pub evaluated : List ℕ
   pub entries : length (c .list) ≡ length l
   pub room : frames t ≤ length l
   pub kept : drop (frames t) (c .list) ≡ drop (frames t) l
   pub markRoom : frames t ≤ length b
-  pub marks : c .marks ≡ markAll (written (λ k. 0) (frames t) b) evaluated
-  pub leaves : c .run .counts .leaves ≡ length evaluated
+  pub orderRoom : frames t ≤ length o
+  pub all : progress (c .run .counts .leaves) (c .marks) (c .order)
+      ≡ evaluateAll (progress 0 (written (λ k. 0) (frames t) b) o) evaluated
+  pub counted : c .run .counts .leaves ≡ ones (c .marks) (frames t)
   pub allowance : c .run .counts .allowance ≡ a
   pub allowed : length evaluated ≤ a
   pub sound : Sound t (c .front)

@@ -23,9 +23,9 @@ use Rattle.places.specs.engine.Places.{placeEntry}
 use Rattle.states.specs.engine.Kept.{Sound}
 use Rattle.turns.specs.engine.Update.{ofChange}
 
--- the first "no" to questions 1 to 10, for a list and a certificate of these sizes and the marks b
+-- the first "no" to questions 1 to 10, for buffers of these sizes and the marks b
 abbrev pub startRejection : List ℕ → Sizes → List ℕ → Option Rejection
-startRejection t n b = searchRejection t (n .entries ∷ length b ∷ n .flags ∷ [])
+startRejection t n b = searchRejection t (n .entries ∷ length b ∷ n .flags ∷ n .order ∷ [])
 
 -- what a search asks of its work arrays, if the table is well formed: room for the places, and a sound front
 abbrev pub Workable : (t F w : List ℕ) → Type 0

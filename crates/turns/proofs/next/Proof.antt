@@ -10,7 +10,7 @@ use Rattle.turns.proofs.next.Tie as tie
 
 -- the way back to the start
 abbrev at-start : tie.After-is-solved-root → tie.Start
-at-start c = c .before .before .before .before .before .before .before
+at-start c = c .before .before .before .before .before .before .before .before
 
 -- a state other than the SOLVED root
 other : (c : tie.Else1) → let e = at-start (c .before) .args .entry in isSolvedRoot (e .status) (e .node) ≡ false
@@ -41,13 +41,13 @@ returns-2 c =
     let u = c .before .before in
     let o = u .before in
     let a = at-start (o .before) .args in
-    ended-is (a .table .now) (a .front .now) (a .evaluated .now) (a .run) (a .entry) (other o) _
+    ended-is (a .table .now) (a .front .now) (a .evaluated .now) (a .order .now) (a .run) (a .entry) (other o) _
     (o .before .before .merit-score .ensures) (sym (u .is-uncovered .ensures) ∙ c .before .if2 .taken)
     (c .ended2 .ensures)
 
 of-state-requires : tie.Need-of-state-requires
 of-state-requires c κs =
-    let o = c .before .before .before in
+    let o = c .before .before .before .before in
     let p = at-start (o .before) .pre in
     record {
       formed = p .fits .formed;
@@ -57,20 +57,21 @@ of-state-requires c κs =
       lower = not-root _ _ (other o);
       unmarked = p .unmarked;
       merit = rw (o .before .before .merit-score .ensures) (p .merit .few);
-      few = search needs;
+      listable = p .listable;
     }
 
-add-t18 : tie.Need-add-t18
-add-t18 c = search needs
+add-t21 : tie.Need-add-t21
+add-t21 c = search needs
 
 replacing-requires : tie.Need-replacing-requires
 replacing-requires c κs =
-    let s = c .before .before .before .before .before in
-    let o = s .before .before .before .before in
+    let s = c .before .before .before .before .before .before .before in
+    let o = s .before .before .before .before .before in
     let a = at-start (o .before) .args in
     let p = at-start (o .before) .pre in
     rw (s .of-state .ensures .0, o .before .before .merit-score .ensures)
-    (state-place _ _ _ _ (p .fits) (p .merit .few) _ (a .entry .status) (p .node) (not-root (a .entry .status) _ (other o)))
+    (state-place _ _ _ _ (p .fits) (p .merit .few) _ (a .entry .status) (p .node)
+    (not-root (a .entry .status) _ (other o)))
 
 same-length : tie.Need-same-length
 same-length c = search needs
@@ -78,19 +79,22 @@ same-length c = search needs
 same-length-2 : tie.Need-same-length-2
 same-length-2 c = search needs
 
+same-length-3 : tie.Need-same-length-3
+same-length-3 c = search needs
+
 returns-3 : tie.Need-returns-3
 returns-3 c =
-    let f = c .before .before .before .before .before .before .before .before in
-    let u = f .before .before .before in
+    let s = c .before .before .before .before .before .before .before .before .before .before in
+    let u = s .before .before .before .before in
     let o = u .before in
     let a = at-start (o .before) .args in
     let r = c .before .before .replacing .ensures in
-    let s = f .of-state .ensures in
-    stepped-is _ _ _ (a .run) (a .entry) (other o) _ (o .before .before .merit-score .ensures) _ _
-    (sym (u .is-uncovered .ensures) ∙ f .before .before .if2 .left) (s .0) (r .1) (s .1 .0) (s .1 .1) (r .0)
+    stepped-is _ _ _ _ (a .run) (a .entry) (other o) _ (o .before .before .merit-score .ensures) _ _
+    (sym (u .is-uncovered .ensures) ∙ s .before .before .before .if2 .left) (s .of-state .ensures .0) (r .1)
+    (s .of-state .ensures .1) (r .0)
 
 pub next-spec : {M : Type 1} → statement M
 next-spec =
     tie.close
     (tie.spec merit-score-requires is-solved-root-requires ended-requires returns is-uncovered-requires ended-requires-2
-    returns-2 of-state-requires add-t18 replacing-requires same-length same-length-2 returns-3)
+    returns-2 of-state-requires add-t21 replacing-requires same-length same-length-2 same-length-3 returns-3)

@@ -4,9 +4,9 @@ use Prim.Native.Nat.{ℕ, zero, suc, _+_, _-_}
 use mathlib.Core.Bool.{Bool, true, false, cond}
 use mathlib.Core.List.{List, [], _∷_}
 use lib.Dec.{eqb, ltb}
-use lib.ListN.{length, getD}
+use lib.ListN.{getD}
 use Rattle.frames.specs.Frame.{frames, childCount}
-use Rattle.bounds.specs.Marks.{markAll}
+use Rattle.bounds.specs.engine.Progress.{progress, evaluateAll}
 use Rattle.states.specs.declared.Status.{Status}
 use Rattle.states.specs.declared.Status.the-variants.{Live, Solved}
 use Rattle.states.specs.declared.State.{State}
@@ -41,14 +41,9 @@ valued (suc n) s i = []
 abbrev pub newLeaves : List ℕ → State → List ℕ
 newLeaves t e = valued (childCount t (e .node)) (e .status) (e .node)
 
--- the counts after a replacement of the state e
-abbrev pub counted : List ℕ → State → Counts → Counts
-counted t e k =
-    record {
-      leaves = k .leaves + length (newLeaves t e);
-      replacements = k .replacements + 1;
-      allowance = k .allowance;
-    }
+-- the counts after a replacement, with which n leaves are evaluated
+abbrev pub counted : (n : ℕ) → Counts → Counts
+counted n k = record { leaves = n; replacements = k .replacements + 1; allowance = k .allowance }
 
 -- is a state of a node with n children, with this status, that of a LIVE leaf?
 abbrev pub isLiveLeaf : ℕ → Status → Bool
@@ -76,47 +71,58 @@ replaced t w c γ k =
 abbrev pub ended : List ℕ → Stage → Counts → Run
 ended t s k = record { stage = s; best = 0; counts = k; update = blanks (frames t) }
 
--- the front, the marks and the run after a state is taken
+-- the front, the marks, the list of leaves and the run after a state is taken
 pub record Taken : Type 0 where
   pub front : List ℕ
   pub marks : List ℕ
+  pub order : List ℕ
   pub run : Run
 
 -- the run ends
-abbrev pub stopped : (t w b : List ℕ) → Run → Stage → Taken
-stopped t w b r s = record { front = w; marks = b; run = ended t s (r .counts) }
+abbrev pub stopped : (t w b o : List ℕ) → Run → Stage → Taken
+stopped t w b o r s = record { front = w; marks = b; order = o; run = ended t s (r .counts) }
 
 -- the state e is replaced
-abbrev pub stepped : (t w b : List ℕ) → Run → State → Taken
-stepped t w b r e =
+abbrev pub stepped : (t w b o : List ℕ) → Run → State → Taken
+stepped t w b o r e =
     let γ = scoreOf (e .merit) in
     let c = ofState t (e .node) γ (e .status) in
+    let p = evaluateAll (progress (r .counts .leaves) b o) (newLeaves t e) in
     record {
       front = settled t γ c w .front;
-      marks = markAll b (newLeaves t e);
-      run = replaced t w c γ (counted t e (r .counts));
+      marks = p .marks;
+      order = p .order;
+      run = replaced t w c γ (counted (p .leaves) (r .counts));
     }
 
 -- the state e is taken
-abbrev pub taken : (t w b : List ℕ) → Run → State → Taken
-taken t w b r e =
-    cond (isSolvedRoot (e .status) (e .node)) (stopped t w b r (Finished (scoreOf (e .merit))))
-    (cond (uncovered t e (r .counts)) (stopped t w b r (Spent (scoreOf (e .merit)))) (stepped t w b r e))
+abbrev pub taken : (t w b o : List ℕ) → Run → State → Taken
+taken t w b o r e =
+    cond (isSolvedRoot (e .status) (e .node)) (stopped t w b o r (Finished (scoreOf (e .merit))))
+    (cond (uncovered t e (r .counts)) (stopped t w b o r (Spent (scoreOf (e .merit)))) (stepped t w b o r e))
 
--- the front, the list, the marks and the run between two turns
+-- the front, the list of states, the marks, the list of leaves and the run between two turns
 pub record Config : Type 0 where
   pub front : List ℕ
   pub list : List State
   pub marks : List ℕ
+  pub order : List ℕ
   pub run : Run
 
--- the front, the marks and the run after the best state is taken
+-- what is left after the best state is taken
 abbrev pub best : List ℕ → Config → Taken
-best t c = taken t (c .front) (c .marks) (c .run) (getD (c .list) (c .run .best) blank)
+best t c = taken t (c .front) (c .marks) (c .order) (c .run) (getD (c .list) (c .run .best) blank)
 
--- the list, too, once the update is made
+-- the list of states, too, once the update is made
 abbrev pub after : List State → Taken → Config
-after ls x = record { front = x .front; list = updated (x .run .update) ls; marks = x .marks; run = x .run }
+after ls x =
+    record {
+      front = x .front;
+      list = updated (x .run .update) ls;
+      marks = x .marks;
+      order = x .order;
+      run = x .run;
+    }
 
 -- one turn: the best state is taken and replaced
 abbrev pub turn : List ℕ → Config → Config

@@ -1,11 +1,10 @@
 -- `turns::rules::of_state` meets its contract: by the status, and by the count of children.
 use native.Mathlib.Omega.{arith}
 use mathlib.Core.Path.{_≡_, sym, ap, ap₂, _∙_}
-use lib.ListN.{length}
 use Rattle.frames.specs.Frame.{childCount}
 use Rattle.frames.specs.Place.{sideOf}
 use Rattle.frames.proofs.Parents.{parent-child}
-use Rattle.bounds.specs.Marks.{markAll}
+use Rattle.bounds.proofs.Listing.{none-evaluated}
 use Rattle.states.specs.declared.Status.the-variants.{Live}
 use Rattle.turns.specs.engine.Rules.{ofInner, ofChild}
 use Rattle.places.proofs.Places.{placed-parent, placed-side}
@@ -25,11 +24,11 @@ child-count-requires c κs = search needs
 
 of-leaf-requires : tie.Need-of-leaf-requires
 of-leaf-requires c κs =
-    let c9 = c .before .before .before .before .before .before .before .before .before in
-    let p = c9 .pre in
-    let z = sym (c .before .before .child-count .ensures .0) ∙ c .before .if1 .taken in
-    let m = p .unmarked (c .before .before .before .enum-told .given .1) z in
-    (p .places, ((p .node, z, p .merit), (omega (arith, p .node, p .marks), m, p .few)))
+    let n = c .before .before .before in
+    let p = n .before .before .before .before .before .before .before .before .pre in
+    let z = sym (n .child-count .ensures .0) ∙ c .before .before .if1 .taken in
+    let m = p .unmarked (n .before .enum-told .given .1) z in
+    (p .places, ((p .node, z, p .merit), ((omega (arith, p .node, p .marks), m), p .listable)))
 
 side-at-requires : tie.Need-side-at-requires
 side-at-requires c κs = search needs
@@ -45,16 +44,14 @@ parent-at-requires c κs = search needs
 
 side-at-requires-2 : tie.Need-side-at-requires-2
 side-at-requires-2 c κs =
-    let c7 = c .before .before .before .before .before .before .before in
-    let p = c7 .pre in
+    let p = c .before .before .before .before .before .before .before .before .pre in
     let u = c .parent-at .ensures ∙ placed-parent _ _ (p .places) _ (p .node) in
     let h = parent-child _ (p .formed) _ (p .lower (c .before .enum-told2 .given .1)) (p .node) in
     omega (arith, u, h .0, p .places .room)
 
 of-child-requires : tie.Need-of-child-requires
 of-child-requires c κs =
-    let c8 = c .before .before .before .before .before .before .before .before in
-    let p = c8 .pre in
+    let p = c .before .before .before .before .before .before .before .before .before .pre in
     let u = c .before .parent-at .ensures ∙ placed-parent _ _ (p .places) _ (p .node) in
     let h = parent-child _ (p .formed) _ (p .lower (c .before .before .enum-told2 .given .1)) (p .node) in
     (omega (arith, p .node, p .formed .few), omega (arith, u, h .0))
@@ -62,48 +59,49 @@ of-child-requires c κs =
 same-length : tie.Need-same-length
 same-length c = search needs
 
+same-length-2 : tie.Need-same-length-2
+same-length-2 c = search needs
+
 returns : tie.Need-returns
-unfolding markAll
 returns c =
-    let c5 = c .before .before .before .before .before in
-    let c6 = c5 .before in
-    let z = sym (c5 .child-count .ensures .0) ∙ c .before .before .before .before .if1 .taken in
-    let o = c .before .before .of-leaf .ensures in
-    rw (c6 .enum-told .given .1, z) (o .0, (o .1 .0, o .1 .1))
+    let o = c .before .before .before .before in
+    let n = o .before .before .before .before in
+    let z = sym (n .child-count .ensures .0) ∙ o .before .before .before .if1 .taken in
+    rw (n .before .enum-told .given .1, z) (o .of-leaf .ensures)
 
 returns-2 : tie.Need-returns-2
-unfolding markAll
 returns-2 c =
-    let c10 = c .before .before .before .before .before .before .before .before .before .before in
-    let a = c10 .args in
-    let p = c10 .pre in
-    let n = c .before .before .before .child-count .ensures .0 in
-    let s = c .before .side-at .ensures ∙ placed-side _ _ (p .places) _ (p .node) in
-    let z : childCount (a .table .now) (a .entry .node) ≡ 0 → ⊥ = λ e. c .before .before .if1 .left (n ∙ e) in
-    let v = inner-none _ Live (a .entry .node) z in
-    rw (c .before .before .before .before .enum-told .given .1, c .of-inner .ensures) (
-      ap₂ (λ q k. ofInner (a .table .now) (a .entry .node) (a .merit) q k) s n ∙ live-inner _ _ _ _ _ z,
-      (omega (arith, ap length v), sym (ap (markAll (a .evaluated .now)) v)),
+    let n = c .before .before .before in
+    let s = n .before .before .before .before .before .before .before .before in
+    let a = s .args in
+    let p = s .pre in
+    let k = n .child-count .ensures .0 in
+    let q = c .before .side-at .ensures ∙ placed-side _ _ (p .places) _ (p .node) in
+    let z : childCount (a .table .now) (a .entry .node) ≡ 0 → ⊥ = λ e. c .before .before .if1 .left (k ∙ e) in
+    rw (n .before .enum-told .given .1, c .of-inner .ensures) (
+      ap₂ (λ q k. ofInner (a .table .now) (a .entry .node) (a .merit) q k) q k ∙ live-inner _ _ _ _ _ z,
+      none-evaluated (a .leaves) (a .evaluated .now) (a .order .now) (inner-none _ Live (a .entry .node) z),
     )
 
 returns-3 : tie.Need-returns-3
-unfolding markAll
 returns-3 c =
-    let c9 = c .before .before .before .before .before .before .before .before .before in
-    let a = c9 .args in
-    let p = c9 .pre in
+    let n = c .before .before .before in
+    let s = n .before .before .before .before .before .before .before in
+    let a = s .args in
+    let p = s .pre in
     let u = c .before .before .parent-at .ensures ∙ placed-parent _ _ (p .places) _ (p .node) in
-    let h = parent-child _ (p .formed) _ (p .lower (c .before .before .before .enum-told2 .given .1)) (p .node) in
-    let s = c .before .side-at2 .ensures ∙ placed-side _ _ (p .places) _ (rw u (h .0)) in
-    let v = solved-none (childCount (a .table .now) (a .entry .node)) (a .entry .node) in
-    rw (c .before .before .before .enum-told2 .given .1, c .of-child .ensures) (
-      ap (ofChild (a .table .now) (a .entry .node) (a .merit) _) s
+    let h = parent-child _ (p .formed) _ (p .lower (n .enum-told2 .given .1)) (p .node) in
+    let q = c .before .side-at2 .ensures ∙ placed-side _ _ (p .places) _ (rw u (h .0)) in
+    rw (n .enum-told2 .given .1, c .of-child .ensures) (
+      ap (ofChild (a .table .now) (a .entry .node) (a .merit) _) q
           ∙ ap (λ d. ofChild (a .table .now) (a .entry .node) (a .merit) d (sideOf (a .table .now) d)) u,
-      (omega (arith, ap length v), sym (ap (markAll (a .evaluated .now)) v)),
+      none-evaluated (a .leaves) (a .evaluated .now) (a .order .now)
+          (solved-none (childCount (a .table .now) (a .entry .node)) (a .entry .node)),
     )
 
 pub of-state-spec : {M : Type 1} → statement M
 of-state-spec =
     tie.close
     (tie.spec cast-node enum-told child-count-requires of-leaf-requires side-at-requires of-inner-requires enum-told-2
-    parent-at-requires side-at-requires-2 of-child-requires same-length returns returns-2 returns-3)
+    parent-at-requires side-at-requires-2 of-child-requires same-length same-length-2 returns
+    returns-2 returns-3)

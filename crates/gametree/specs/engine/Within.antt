@@ -1,5 +1,6 @@
--- SSS* within an allowance of leaves: the run of Sss, which ends before the first leaf that the allowance does not
--- cover.
+-- SSS* within an allowance of leaves, step by step, as the code makes it: the run of Sss, which ends before the first
+-- leaf that the allowance does not cover. `covered-full` and `spent-first` of proofs/Within say the same by the
+-- evaluations of the full run, in the words of Allowance.
 use Prim.Native.Nat.{ℕ, zero, suc, _*_}
 use mathlib.Core.List.{List}
 use Rattle.gametree.specs.Tree.{Tree, size}

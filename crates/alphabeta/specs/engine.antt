@@ -1,2 +1,0 @@
--- What private functions and proofs are stated with, and no public contract or demand cites.
-pub mod Visit

@@ -1,0 +1,55 @@
+-- `bounds::evaluate_next` meets its contract: fewer leaves are counted than the table has nodes, so that there is an
+-- entry for one more.
+use Prim.Native.Nat.{_<_}
+use native.Mathlib.Omega.{arith}
+use borrow.Author.Needs.{needs}
+use lib.ListN.{length}
+use Rattle.frames.specs.Frame.{maxNodes}
+use Rattle.bounds.proofs.Listing.{next-fits}
+use Rattle.bounds.proofs.evaluate_next.Statement.{statement}
+use Rattle.bounds.proofs.evaluate_next.Tie as tie
+
+-- there is an entry for one more leaf
+fits : (c : tie.After-slice-known3) → let a = c .before .before .before .before .before .before .before .args in
+    (a .leaves < length (a .order .now)) × (a .leaves < maxNodes)
+fits c =
+    let p = c .before .before .before .before .before .before .before .pre in
+    let l = next-fits _ (p .1) (p .0) in
+    (omega (arith, l, p .1 .room), omega (arith, l, p .1 .few))
+
+evaluate-requires : tie.Need-evaluate-requires
+evaluate-requires c κs = search needs
+
+cast-order : tie.Need-cast-order
+cast-order c = search needs
+
+mul-order : tie.Need-mul-order
+mul-order c = omega (arith, fits c .1)
+
+slice-write-order : tie.Need-slice-write-order
+slice-write-order c = fits c .0
+
+add-leaves : tie.Need-add-leaves
+add-leaves c = omega (arith, fits c .1)
+
+same-length : tie.Need-same-length
+same-length c = search needs
+
+same-length-2 : tie.Need-same-length-2
+same-length-2 c = search needs
+
+returns : tie.Need-returns
+returns c = search needs
+
+pub evaluate-next-spec : {M : Type 1} → statement M
+evaluate-next-spec =
+    tie.close
+    (tie.spec
+    evaluate-requires
+    cast-order
+    mul-order
+    slice-write-order
+    add-leaves
+    same-length
+    same-length-2
+    returns)
