@@ -28,7 +28,7 @@ mutual
   closed ν α β h (leaf n) = simp (le-ltb α β h)
   closed ν α β h (inner n s ks) = closedKids ν s α β h ks
 
-  closedKids : (ν : ℕ → ℕ) (s : Side) (α β : ℕ) → β ≤ α → (ks : Kids) → reachedKids ν s α β ks ≡ []
+  pub closedKids : (ν : ℕ → ℕ) (s : Side) (α β : ℕ) → β ≤ α → (ks : Kids) → reachedKids ν s α β ks ≡ []
   closedKids ν s α β h (last t) = closed ν α β h t
   closedKids ν s α β h (t then ts) =
       ap₂ _++_ (closed ν α β h t)

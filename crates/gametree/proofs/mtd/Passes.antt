@@ -21,11 +21,11 @@ use Rattle.gametree.proofs.mtd.Value.{kept-lower, fresh-kept}
 use Rattle.gametree.proofs.mtd.Marks.{pass-marks, fresh-marks, memoBound-is}
 
 -- how many numbers below b pass the test
-how-many : (ℕ → Bool) → ℕ → ℕ
+pub how-many : (ℕ → Bool) → ℕ → ℕ
 how-many g zero = 0
 how-many g (suc b) = cond (g b) 1 0 + how-many g b
 
-more-there : (g : ℕ → Bool) (a b : ℕ) → a < b → g a ≡ true → suc (how-many g a) ≤ how-many g b
+pub more-there : (g : ℕ → Bool) (a b : ℕ) → a < b → g a ≡ true → suc (how-many g a) ≤ how-many g b
 unfolding how-many
 more-there g a zero h e = absurd (omega (arith, h))
 more-there g a (suc b) h e =
@@ -58,7 +58,7 @@ one-more g x (suc b) = here (one-more g x b) (eqb b x) refl
     here i false e = omega arith
 
 -- the numbers of a list are no more than its different ones
-how-many-different : (xs : List ℕ) (b : ℕ) → how-many (among xs) b ≤ different xs
+pub how-many-different : (xs : List ℕ) (b : ℕ) → how-many (among xs) b ≤ different xs
 unfolding how-many
 how-many-different [] b = nothing b
   where
@@ -67,7 +67,7 @@ how-many-different [] b = nothing b
     nothing (suc b) = omega (arith, nothing b)
 how-many-different (x ∷ xs) b = omega (arith, one-more (among xs) x b, how-many-different xs b)
 
-among-map : (ν : ℕ → ℕ) (w : List ℕ) (n : ℕ) → among w n ≡ true → among (map ν w) (ν n) ≡ true
+pub among-map : (ν : ℕ → ℕ) (w : List ℕ) (n : ℕ) → among w n ≡ true → among (map ν w) (ν n) ≡ true
 among-map ν [] n e = e
 among-map ν (x ∷ w) n e =
     ⊎-elim (λ d. or-left (eqb (ν n) (ν x)) _ (eq-eqb (ν n) (ν x) (ap ν (eqb-true n x d))))
@@ -89,7 +89,7 @@ better-one Min a b P h f g = pick (leb a b) refl
 
 -- a high below `greatest` is the score of an evaluated leaf
 mutual
-  high-score : (ν : ℕ → ℕ) (w : List ℕ) (t : Tree) → high ν (among w) t < greatest
+  pub high-score : (ν : ℕ → ℕ) (w : List ℕ) (t : Tree) → high ν (among w) t < greatest
       → among (map ν w) (high ν (among w) t) ≡ true
   high-score ν w (leaf n) h = at (among w n) refl h
     where
