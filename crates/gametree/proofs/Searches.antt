@@ -1,4 +1,4 @@
--- The three searches, as what they evaluate, and what follows from the leaves of any search.
+-- The searches, as what they evaluate, and what follows from the leaves of any search.
 use Prim.Native.Nat.{ℕ}
 use mathlib.Core.Path.{_≡_}
 use mathlib.Core.Bool.{true}
@@ -9,17 +9,21 @@ use Rattle.gametree.specs.Bounds.{Decided}
 use Rattle.gametree.specs.AlphaBeta.{fullWindow}
 use Rattle.gametree.specs.Mtd.{mtd}
 use Rattle.gametree.specs.Sss.{sss}
+use Rattle.gametree.specs.Tests.{Strategy}
+use Rattle.gametree.specs.FirstMove.{decideBy}
 use Rattle.gametree.specs.Certificate.{flag}
 use Rattle.gametree.specs.Move.{rootMove, boundMove}
 
--- the list of leaves is what one of the searches evaluates in the tree, in order
+-- the list of leaves is what one of the searches evaluates in the tree, in order; one made of tests, by any strategy,
+-- is taken with its last phase
 pub data Searched (ν : ℕ → ℕ) (t : Tree) : List ℕ → Type 0 where
   byAlphaBeta : Searched ν t (fullWindow ν t .evaluated)
   byMtd : Searched ν t (mtd ν t .evaluated)
   bySss : Searched ν t (sss ν t .evaluated)
+  byTests : (σ : Strategy) → Searched ν t (decideBy σ ν t .evaluated)
 
 -- a list of leaves of the tree, none twice, whose bounds meet at the minimax value and prove the root move: so it is
--- with each of the three searches, and with all leaves together
+-- with each of the searches, and with all leaves together
 pub record Deciding (ν : ℕ → ℕ) (t : Tree) (w : List ℕ) : Type 0 where
   pub own : All (λ k. among (leaves t) k ≡ true) w
   pub once : Once w

@@ -1,5 +1,6 @@
 -- The theorems for use on searches made of null-window tests with memory, in the manner of Theorems: each says in one
--- sentence what it gives. Sections: one test, a search by any strategy, MTD(f), its two ends, bisection, Scout.
+-- sentence what it gives. Sections: one test, a search by any strategy, the last phase, MTD(f), its two ends,
+-- bisection, Scout.
 use Prim.Native.Nat.{ℕ, suc, _+_, _≤_, _<_}
 use native.Mathlib.Omega.{arith}
 use mathlib.Core.Path.{_≡_, refl, sym, _∙_, ap, ap₂, subst}
@@ -15,10 +16,11 @@ use Rattle.gametree.specs.AlphaBeta.{alphaBeta, fullWindow}
 use Rattle.gametree.specs.Layout.{layoutOf}
 use Rattle.gametree.specs.Sss.{sss}
 use Rattle.gametree.specs.Certificate.{pairLeaves, chosen, flag, Smallest}
-use Rattle.gametree.specs.Move.{boundMove}
+use Rattle.gametree.specs.Move.{rootMove, boundMove}
 use Rattle.gametree.specs.results.Mirror.{mirror, mirrored, oppositeTest}
 use Rattle.gametree.specs.results.Scout.{scout}
 use Rattle.gametree.specs.Tests.{test, Strategy, Driven, searchBy, mtdFrom, falling, rising, bisection}
+use Rattle.gametree.specs.FirstMove.{decideBy, mtdf}
 use Rattle.lists.proofs.Lists.{once-length}
 use Rattle.gametree.proofs.minimax.Bounds.{every-leaf, known-local}
 use Rattle.gametree.proofs.minimax.Moves.{boundMove-local}
@@ -37,9 +39,11 @@ use Rattle.gametree.proofs.tests.Move.{BestMove, decided-best}
 use Rattle.gametree.proofs.tests.Guess.{right-guess}
 use Rattle.gametree.proofs.tests.Few.{guess-scores}
 use Rattle.gametree.proofs.tests.Bisection.{bisection-tests}
+use Rattle.gametree.proofs.tests.FirstMove.{ElderMovesWorse, decide-right}
 use Rattle.gametree.proofs.tests.Falling.{falling-mtd}
+use Rattle.gametree.proofs.tests.FallingMove.{falling-decides-mtd}
 use Rattle.gametree.proofs.tests.Scout.{scout-value, scout-decides, scout-once}
-use Rattle.gametree.proofs.tests.Mirror.{proper-mirror, RunMirrors, search-mirror}
+use Rattle.gametree.proofs.tests.Mirror.{proper-mirror, RunMirrors, search-mirror, decide-mirror}
 
 -- ONE TEST
 
@@ -161,10 +165,42 @@ local-tests-results σ ν μ t h i w e a = (
   boundMove-local ν μ w a t,
 )
 
+-- THE LAST PHASE
+
+-- With it a search made of tests is `Searched` (by `byTests`), so that its leaves are `Deciding`: the certificate, the
+-- move by the bounds, domination, the smallest certificate and locality are those of Theorems.
+
+module _ (σ : Strategy) (ν : ℕ → ℕ) (t : Tree) (h : Scored ν t) where
+  -- the value is the minimax value
+  pub decide-minimax : decideBy σ ν t .value ≡ minimax ν t
+  decide-minimax = decide-right σ ν t h .value
+
+  -- the move is the first child with the root's value
+  pub decide-move : decideBy σ ν t .move ≡ rootMove ν t
+  decide-move = decide-right σ ν t h .move
+
+  -- the bounds show each elder brother of the move to be worse: under Max its high is below the value, under Min its
+  -- low is above it
+  pub decide-elders : ElderMovesWorse ν (among (decideBy σ ν t .evaluated)) t
+  decide-elders = decide-right σ ν t h .elders
+
+-- so the strategy matters neither for the value nor for the move
+pub decide-same : (σ τ : Strategy) (ν : ℕ → ℕ) (t : Tree) → Scored ν t
+    → (decideBy σ ν t .value ≡ decideBy τ ν t .value) × (decideBy σ ν t .move ≡ decideBy τ ν t .move)
+decide-same σ τ ν t h = (
+  decide-minimax σ ν t h ∙ sym (decide-minimax τ ν t h),
+  decide-move σ ν t h ∙ sym (decide-move τ ν t h),
+)
+
 -- MTD(f)
 
--- two tests suffice where the first guess is the value
-pub guess-two : (ν : ℕ → ℕ) (t : Tree) → Scored ν t → length (searchBy (mtdFrom (minimax ν t)) ν t .tests) ≤ 2
+-- the first guess matters neither for the value nor for the move
+pub guess-same : (f g : ℕ) (ν : ℕ → ℕ) (t : Tree) → Scored ν t
+    → (mtdf f ν t .value ≡ mtdf g ν t .value) × (mtdf f ν t .move ≡ mtdf g ν t .move)
+guess-same f g ν t h = decide-same (mtdFrom f) (mtdFrom g) ν t h
+
+-- two tests of the root suffice where it is the value
+pub guess-two : (ν : ℕ → ℕ) (t : Tree) → Scored ν t → mtdf (minimax ν t) ν t .tests ≤ 2
 guess-two ν t h = right-guess ν t h
 
 -- whatever the guess, it makes at most one test more than there are different scores among the leaves that it evaluates
@@ -176,6 +212,11 @@ guess-few ν f t h = guess-scores ν f t h
 pub guess-mirror : (ν : ℕ → ℕ) (f : ℕ) (t : Tree) → Scored ν t
     → RunMirrors (searchBy (mtdFrom f) ν t) (searchBy (mtdFrom (oppositeTest f)) (mirrored ν) (mirror t))
 guess-mirror ν f t h = search-mirror ν f t h
+
+-- with the last phase the leaves are the same, too
+pub guess-mirror-decides : (ν : ℕ → ℕ) (f : ℕ) (t : Tree) → Scored ν t
+    → mtdf (oppositeTest f) (mirrored ν) (mirror t) .evaluated ≡ mtdf f ν t .evaluated
+guess-mirror-decides ν f t h = decide-mirror ν f t h
 
 -- ITS TWO ENDS
 
@@ -192,6 +233,12 @@ module _ (ν : ℕ → ℕ) (t : Tree) (r : Proper ν t) where
       once-length (searchBy falling ν t .evaluated) (sss ν t .evaluated) (tests-once falling ν t (r .scored))
       falling-sss
 
+  -- with the last phase too
+  pub falling-decides-sss : All (λ k. among (sss ν t .evaluated) k ≡ true) (mtdf greatest ν t .evaluated)
+  falling-decides-sss =
+      subst (λ w. All (λ k. among w k ≡ true) (mtdf greatest ν t .evaluated))
+      (sym (sss-mtd ν t (r .scored) (layoutOf t) (layout-own t (r .distinct)))) (falling-decides-mtd ν t r)
+
 -- DUAL*, from `least`, evaluates only leaves that SSS* evaluates in the game with the sides exchanged
 pub rising-sss : (ν : ℕ → ℕ) (t : Tree) → Proper ν t
     → All (λ k. among (sss (mirrored ν) (mirror t) .evaluated) k ≡ true) (searchBy rising ν t .evaluated)
@@ -199,6 +246,14 @@ rising-sss ν t r =
     subst (All (λ k. among (sss (mirrored ν) (mirror t) .evaluated) k ≡ true))
     (search-mirror ν (suc least) t (r .scored) .leaves-are)
     (falling-sss (mirrored ν) (mirror t) (proper-mirror ν t r))
+
+-- with the last phase too
+pub rising-decides-sss : (ν : ℕ → ℕ) (t : Tree) → Proper ν t
+    → All (λ k. among (sss (mirrored ν) (mirror t) .evaluated) k ≡ true) (mtdf (suc least) ν t .evaluated)
+rising-decides-sss ν t r =
+    subst (All (λ k. among (sss (mirrored ν) (mirror t) .evaluated) k ≡ true))
+    (decide-mirror ν (suc least) t (r .scored))
+    (falling-decides-sss (mirrored ν) (mirror t) (proper-mirror ν t r))
 
 -- BISECTION
 

@@ -1,5 +1,5 @@
 -- The theorems for use, on proper trees: distinct node numbers and real scores. Each says in one sentence what it
--- gives. Sections: bounds, alpha-beta, MTD, SSS*, certificates, the three searches together, locality.
+-- gives. Sections: bounds, alpha-beta, MTD, SSS*, certificates, the searches together, locality.
 use Prim.Native.Nat.{ℕ, suc, _+_, _-_, _*_, _≤_, _<_}
 use native.Mathlib.Nat.{lt-of-le-of-lt}
 use native.Mathlib.Omega.{arith}
@@ -18,12 +18,14 @@ use Rattle.gametree.specs.Layout.{Layout, layoutOf}
 use Rattle.gametree.proofs.sss.Described.{Describes}
 use Rattle.gametree.specs.Sss.{takenMerit, State, Step, empty, stop, quiet, evaluating, replace, step, finished}
 use Rattle.gametree.specs.Sss.{runFrom, start, sssOver, sss, ListAfter, afterQuiet, afterEvaluating, resumed}
+use Rattle.gametree.specs.Tests.{Strategy}
+use Rattle.gametree.specs.FirstMove.{decideBy}
 use Rattle.gametree.specs.Certificate.{Rule, SolutionTree, solutionValue, Certifies, pairLeaves, chosen}
 use Rattle.gametree.specs.Certificate.{Smallest}
 use Rattle.gametree.proofs.certificates.Flags.{FlagsCertify}
 use Rattle.gametree.proofs.certificates.Counting.{members, required}
 use Rattle.gametree.specs.Move.{rootMove, boundMove}
-use Rattle.gametree.proofs.Searches.{Searched, byAlphaBeta, byMtd, bySss, Deciding, SameResults}
+use Rattle.gametree.proofs.Searches.{Searched, byAlphaBeta, byMtd, bySss, byTests, Deciding, SameResults}
 use Rattle.gametree.specs.results.ClosedForm.{unrivalled}
 use Rattle.lists.proofs.Choice.{clash}
 use Rattle.lists.proofs.Lists.{all-map, all-among, all-at, once-length, sub-all, sub-once}
@@ -52,6 +54,8 @@ use Rattle.gametree.proofs.minimax.Counts.{once-count}
 use Rattle.gametree.proofs.certificates.SmallestPair.{smallest≤, smallest-found}
 use Rattle.gametree.proofs.minimax.Moves.{covered-move, boundMove-local}
 use Rattle.gametree.proofs.mtd.Moves.{mtd-decided, mtd-move}
+use Rattle.gametree.proofs.tests.Local.{decide-local}
+use Rattle.gametree.proofs.tests.FirstMove.{decide-right}
 use Rattle.gametree.proofs.results.Domination.{mtd-reaches}
 use Rattle.gametree.proofs.results.ClosedForm.{mtd-unrivalled}
 
@@ -199,7 +203,7 @@ certificate-minimax ν t g h v c = certified ν t g h v c
 pub smallest-exists : (ν : ℕ → ℕ) (t : Tree) → Proper ν t → (g : ℕ → Bool) × (h : ℕ → Bool) × Smallest ν t g h
 smallest-exists ν t r = smallest-found ν t r
 
--- THE THREE SEARCHES
+-- THE SEARCHES
 
 module _ (ν : ℕ → ℕ) (t : Tree) (r : Proper ν t) where
   -- alpha-beta with the full window gives the minimax value
@@ -222,6 +226,7 @@ module _ (ν : ℕ → ℕ) (t : Tree) (r : Proper ν t) where
   search-decides byAlphaBeta = covered-decided ν _ t (r .scored) (all-among (fullWindow ν t .evaluated))
   search-decides byMtd = mtd-decided ν t r
   search-decides bySss = as-mtd (λ w. Decided ν (among w) t) (mtd-decided ν t r)
+  search-decides (byTests σ) = decide-right σ ν t (r .scored) .decided
 
   -- the flags read off them are a certificate of that value, made of evaluated leaves only
   pub search-certifies : {w : List ℕ} → Searched ν t w → FlagsCertify ν (among w) t
@@ -232,12 +237,14 @@ module _ (ν : ℕ → ℕ) (t : Tree) (r : Proper ν t) where
   search-move byAlphaBeta = covered-move ν _ t (r .scored) (all-among (fullWindow ν t .evaluated))
   search-move byMtd = mtd-move ν t r
   search-move bySss = as-mtd (λ w. boundMove ν (among w) t ≡ rootMove ν t) (mtd-move ν t r)
+  search-move (byTests σ) = decide-right σ ν t (r .scored) .shown
 
   -- no leaf is evaluated twice
   pub search-once : {w : List ℕ} → Searched ν t w → Once w
   search-once byAlphaBeta = sub-once (alphaBeta-ordered ν t) (leaves-once t (r .distinct))
   search-once byMtd = mtd-marks ν t (r .distinct) .once
   search-once bySss = as-mtd Once (mtd-marks ν t (r .distinct) .once)
+  search-once (byTests σ) = decide-right σ ν t (r .scored) .once
 
   -- domination: every leaf that a search evaluates is one that alpha-beta evaluates
   pub domination : {w : List ℕ} → Searched ν t w → All (λ k. among (fullWindow ν t .evaluated) k ≡ true) w
@@ -246,6 +253,7 @@ module _ (ν : ℕ → ℕ) (t : Tree) (r : Proper ν t) where
   domination bySss =
       as-mtd (λ w. All (λ k. among (fullWindow ν t .evaluated) k ≡ true) w)
       (rw (alphaBeta-leaves ν t) (mtd-reaches ν t (r .scored)))
+  domination (byTests σ) = rw (alphaBeta-leaves ν t) (decide-right σ ν t (r .scored) .reaches)
 
   -- so no search evaluates more leaves than alpha-beta
   pub domination-count : {w : List ℕ} → Searched ν t w → length w ≤ length (fullWindow ν t .evaluated)
@@ -311,11 +319,18 @@ pub local-sss : (ν μ : ℕ → ℕ) (Y : Layout) (t : Tree) → All (λ k. ν 
     → sssOver ν Y t ≡ sssOver μ Y t
 local-sss ν μ Y t a = runFrom-local ν μ Y (2 * size t) (start t) a
 
+-- a search made of tests gives the same value, move, list and number of tests
+pub local-decide : (σ : Strategy) (ν μ : ℕ → ℕ) (t : Tree) → All (λ k. ν k ≡ μ k) (decideBy σ ν t .evaluated)
+    → decideBy σ ν t ≡ decideBy σ μ t
+local-decide σ ν μ t a = decide-local ν μ σ t a
+
 -- each search evaluates the same leaves
 pub local-search : (ν μ : ℕ → ℕ) (t : Tree) {w : List ℕ} → Searched ν t w → All (λ k. ν k ≡ μ k) w → Searched μ t w
 local-search ν μ t byAlphaBeta a = subst (λ x. Searched μ t (x .evaluated)) (sym (local-alphaBeta ν μ t a)) byAlphaBeta
 local-search ν μ t byMtd a = subst (λ x. Searched μ t (x .evaluated)) (sym (local-mtd ν μ t a)) byMtd
 local-search ν μ t bySss a = subst (λ x. Searched μ t (x .evaluated)) (sym (local-sss ν μ (layoutOf t) t a)) bySss
+local-search ν μ t (byTests σ) a =
+    subst (λ x. Searched μ t (x .evaluated)) (sym (local-decide σ ν μ t a)) (byTests σ)
 
 -- and hands over the same value, move and flags
 pub local-results : (ν μ : ℕ → ℕ) (t : Tree) → Proper ν t → Proper μ t → {w : List ℕ} → Searched ν t w

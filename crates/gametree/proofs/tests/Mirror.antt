@@ -21,7 +21,11 @@ use Rattle.gametree.specs.Mtd.{settles}
 use Rattle.gametree.specs.results.Mirror.{mirror, mirrorKids, opposite, mirrored, oppositeTest}
 use Rattle.gametree.specs.Tests.{Tested, unopened, passedOn, byBounds, test, testKids, view, chosenTest, Driven}
 use Rattle.gametree.specs.Tests.{met, tested, drive, searchBy, afterGuess, mtdFrom}
+use Rattle.gametree.specs.FirstMove.{equalTest, lastPhase, decideBy}
+use Rattle.gametree.proofs.minimax.Bounds.{minimax-score}
 use Rattle.gametree.proofs.minimax.Closer.{bounds≤, high≤}
+use Rattle.gametree.proofs.tests.Runs.{search-right}
+use Rattle.gametree.proofs.tests.FirstMove.{moveAmong-leaves, equal-inside}
 
 -- VALUES
 
@@ -279,3 +283,37 @@ pub search-mirror : (ν : ℕ → ℕ) (g : ℕ) (t : Tree) → Scored ν t
     → RunMirrors (searchBy (mtdFrom g) ν t) (searchBy (mtdFrom (oppositeTest g)) (mirrored ν) (mirror t))
 search-mirror ν g t h =
     rw (leaves-mirror t) (drive-mirror ν g (suc (length (leaves t))) t [] [] h)
+
+-- THE LAST PHASE
+
+-- its test is the opposite
+equal-mirror : (s : Side) (v : ℕ) → v ≤ greatest → equalTest (other s) (opposite v) ≡ oppositeTest (equalTest s v)
+equal-mirror Max v h = omega arith
+equal-mirror Min v h = omega arith
+
+lastPhase-mirror : (ν : ℕ → ℕ) (w : List ℕ) (t : Tree) → Scored ν t
+    → lastPhase (mirrored ν) (opposite (minimax ν t)) w (mirror t) .evaluated
+    ≡ lastPhase ν (minimax ν t) w t .evaluated
+lastPhase-mirror ν w (leaf n) h = refl
+lastPhase-mirror ν w (inner n s ks) h =
+    let v = minimaxKids ν s ks in
+    let γ = equalTest s v in
+    let i = minimax-score ν (inner n s ks) h in
+    moveAmong-leaves (mirrored ν) _ w (other s) (mirrorKids ks)
+    ∙ ap (λ x. testKids (mirrored ν) x w (other s) (mirrorKids ks) .evaluated) (equal-mirror s v (omega arith))
+    ∙ testKids-mirror ν γ w s ks h (equal-inside s v i .1) .leaves-are
+    ∙ sym (moveAmong-leaves ν γ w s ks)
+
+-- with it the leaves are the same, too
+pub decide-mirror : (ν : ℕ → ℕ) (g : ℕ) (t : Tree) → Scored ν t
+    → decideBy (mtdFrom (oppositeTest g)) (mirrored ν) (mirror t) .evaluated ≡ decideBy (mtdFrom g) ν t .evaluated
+decide-mirror ν g t h =
+    let w = searchBy (mtdFrom g) ν t .evaluated in
+    let u = searchBy (mtdFrom (oppositeTest g)) (mirrored ν) (mirror t) in
+    let e = search-mirror ν g t h .leaves-are in
+    let v = search-right (mtdFrom g) ν t h .value in
+    let x =
+    search-right (mtdFrom (oppositeTest g)) (mirrored ν) (mirror t) (scored-mirror ν t h) .value
+    ∙ minimax-mirror ν t in
+    ap₂ (λ y z. y ++ lastPhase (mirrored ν) z y (mirror t) .evaluated) e x
+    ∙ ap (λ y. w ++ y) (lastPhase-mirror ν w t h ∙ ap (λ y. lastPhase ν y w t .evaluated) (sym v))
