@@ -62,4 +62,7 @@ needed_call c_needed;
 fill_call c_fill;
 least_call c_least;
 report_call c_report;
+
+/* The same report with no more work than it needs (lean.c). */
+report_call lean_report;
 #endif

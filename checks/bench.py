@@ -4,9 +4,10 @@
     bench.py [--readme]     all trees, growth, stack and the whole program; --readme puts the tables into README.md
     bench.py TREE..         these trees alone
 
-A cell of a table is the cost of the call in Rattle, then how many times that of the call in C.
-Instructions are counted by valgrind's callgrind, for each call alone; times are the least of many runs of both sides
-in turn. The crates' calls are taken from a static library that `rt staticlib` proves and compiles (library.py); the C
+A cell of a table is the cost of the call in Rattle, then how many times that of the call in C; `lean` is the report
+against one in C that does no more work than the report needs (lean.c). Instructions are counted by valgrind's
+callgrind, for each call alone. Times are of the processor, the least of many calls of both sides in turn; this is done
+some times over, and a cell has the median and the range of the ratios. The crates' calls are taken from a static library that `rt staticlib` proves and compiles (library.py); the C
 calls are in baseline.c. Both sides must give the same answers and buffers. Needs the kit, gcc and valgrind.
 """
 import argparse
@@ -14,6 +15,7 @@ import glob
 import os
 import random
 import re
+import statistics
 import subprocess
 
 import library
@@ -23,7 +25,11 @@ from library import CHECKS, ROOT, WORK, read, run
 
 PROGRAM = os.path.join(ROOT, "target", "bin", "analyse")
 BENCH, BASELINE = os.path.join(WORK, "bench"), os.path.join(WORK, "baseline")
-CALLS = ("read", "write", "convert", "check", "alphabeta", "plain", "mtd", "sss", "verify", "graft", "needed", "fill", "report")
+CALLS = ("read", "write", "convert", "check", "alphabeta", "plain", "mtd", "sss", "verify", "graft", "needed", "fill", "report",
+         "lean")
+
+# How often the times are taken.
+RUNS = 5
 
 # A string instruction of the processor counts once for each byte in valgrind: the C library is told to use none.
 TUNABLES = "glibc.cpu.x86_rep_stosb_threshold=100000000:glibc.cpu.x86_rep_movsb_threshold=100000000"
@@ -54,6 +60,13 @@ def below_path(width, leaves):
     return counts + [1] * 40 + [width] * 40 + [leaves] * (40 * width) + [0] * (40 * width * leaves)
 
 
+def club():
+    """What a club may send: 300 nodes to depth 9, some second captures."""
+    rng = random.Random(35)
+    counts = trees.random_counts(rng, 300, 8, 0.3)
+    return trees.fill(rng, counts, "many", {k for k in range(1, 300) if counts[k] and rng.random() < 0.1})
+
+
 def many(counts):
     return trees.fill(random.Random(7), counts, "many")
 
@@ -82,6 +95,7 @@ def worst(counts):
 
 
 TREES = {
+    "club": club,
     "width 2": lambda: many(trees.regular_counts(2, 2047)),
     "width 5": lambda: many(trees.regular_counts(5, 819)),
     "width 15": lambda: many(trees.regular_counts(15, 273)),
@@ -98,7 +112,7 @@ def growing(inner):
     return lambda: many(trees.regular_counts(2, inner))
 
 
-GROWTH = {str(2 * inner + 1): growing(inner) for inner in (31, 127, 511, 2047)}
+GROWTH = {str(2 * inner + 1): growing(inner) for inner in (31, 63, 127, 511, 2047)}
 
 
 # ---------------------------------------------------------------- what is measured
@@ -107,8 +121,8 @@ def build():
     """The bench program and the baseline's own."""
     c = ["gcc", "-O2", "-Wall", "-pthread", "-DDEPTH=%d" % o.MAX_DEPTH]
     source = os.path.join(CHECKS, "%s.c")
-    run(c + ["-o", BENCH, source % "bench", source % "baseline", library.build()])
-    run(c + ["-o", BASELINE, source % "program", source % "baseline"])
+    run(c + ["-o", BENCH, source % "bench", source % "baseline", source % "lean", library.build()])
+    run(c + ["-o", BASELINE, source % "program", source % "baseline", source % "lean"])
 
 
 def tree_file(name, table):
@@ -139,6 +153,11 @@ def said(path, mode):
     return {tuple(line.split()[:2]): float(line.split()[2]) for line in run([BENCH, path, mode]).splitlines()}
 
 
+def times(path):
+    """Several runs of the time of each call."""
+    return [said(path, "time") for _ in range(RUNS)]
+
+
 def whole(words, path):
     """The instructions of a whole run of a program."""
     with open(path, "rb") as f:
@@ -157,6 +176,13 @@ def against(ours, other, unit=1000):
     return "%s (%.2f)" % (number(ours / unit), ours / other)
 
 
+def ranging(runs, call):
+    """The median time in microseconds, and the least and the greatest ratio."""
+    ratios = [got["rattle", call] / got["c", call] for got in runs]
+    middle = statistics.median(got["rattle", call] for got in runs)
+    return "%s (%.2f–%.2f)" % (number(middle / 1000), min(ratios), max(ratios))
+
+
 def lines(head, rows):
     """A markdown table."""
     top, *below = ("| %s |\n" % " | ".join(row) for row in [head] + rows)
@@ -169,14 +195,18 @@ def calls(first, rows):
                                    for name, got, unit in rows])
 
 
+def timed(rows):
+    return lines(["tree", *CALLS], [[name] + [ranging(runs, call) for call in CALLS] for name, runs in rows])
+
+
 def programs(paths):
-    """The whole program as it stands, in C with both kinds of SSS*."""
+    """The whole program as it stands, in C with both kinds of SSS*, and in lean C."""
     run(["rt", "check", "analyse"], cwd=ROOT)
     rows = []
     for name, path in paths:
-        ours, front, textbook = (whole(words, path) for words in ([PROGRAM], [BASELINE], [BASELINE, "-l"]))
-        rows.append([name, number(ours / 1000), "%.2f" % (ours / front), "%.2f" % (ours / textbook)])
-    return lines(["tree", "analyse", "times C", "times C with the textbook's list"], rows)
+        ours, *others = (whole(words, path) for words in ([PROGRAM], [BASELINE], [BASELINE, "-l"], [BASELINE, "-s"]))
+        rows.append([name, number(ours / 1000)] + ["%.2f" % (ours / other) for other in others])
+    return lines(["tree", "analyse", "times C", "times C with the textbook's list", "times lean C"], rows)
 
 
 def into_readme(tables):
@@ -201,12 +231,12 @@ def measure(chosen, everything):
     yield ("Thousands of instructions, and how many times those of C:",
            calls("tree", [(name, counted[name], 1000) for name in chosen]))
     yield ("Microseconds, and how many times those of C:",
-           calls("tree", [(name, said(paths[name], "time"), 1000) for name in chosen]))
+           timed([(name, times(paths[name])) for name in chosen]))
     if everything:
         yield ("Instructions a node, and how many times those of C, in full trees of width 2:",
                calls("nodes", [("{:,}".format(int(name)), counted[name], int(name)) for name in GROWTH]))
         yield ("Thousands of bytes, and how many times those of C:",
-               calls("", [("stack", said(paths["chain"], "stack"), 1000)]))
+               calls("tree", [(name, said(paths[name], "stack"), 1000) for name in ("chain", "club", "width 5")]))
         yield ("Whole runs of the program, thousands of instructions:",
                programs([(name, paths[name]) for name in chosen]))
 

@@ -1,7 +1,8 @@
 #!/usr/bin/env python3
 """Runs a compiled program (standard input to standard output) on generated files and compares it with oracle.py.
 
-    fuzz.py PROGRAM [--good N] [--damaged N] [--large N] [--every] [--seed S] [--keep DIR] [--detail] [--capitals]
+    fuzz.py PROGRAM [--good N] [--damaged N] [--large N] [--every] [--seed S] [--keep DIR] [--detail] [--lean]
+            [--capitals]
 
 Good files: random shapes, widths and depths to the limits, second captures, ties, extremes. Damaged files: every kind below.
 Large files: 4,096 nodes, whole and damaged. A few are fed in pieces, with pauses, and a few from a file.
@@ -10,6 +11,7 @@ byte of a small file: cut there, lost, put in, or another byte. A question from 
 The program's output, its standard error (must be empty) and its exit status (must be 0) are compared.
 With --capitals the program is `capitals`; what it wrote is given to it again, and must not change.
 With --detail (for baseline.c) the program gets the word -d and has to print leaves in order, marks, flags, passes and replacements too, those of SSS* twice.
+With --lean it gets the word -s, for the report of lean.c.
 Files that differ are kept in DIR (default target/checks); the exit status is 1 if there is one.
 """
 import argparse
@@ -329,9 +331,10 @@ def main():
     parser.add_argument("--seed", type=int, default=1)
     parser.add_argument("--keep", default=os.path.join(ROOT, "target", "checks"))
     parser.add_argument("--detail", action="store_true")
+    parser.add_argument("--lean", action="store_true")
     parser.add_argument("--capitals", action="store_true")
     args = parser.parse_args()
-    program = [os.path.abspath(args.program)] + (["-d"] if args.detail else [])
+    program = [os.path.abspath(args.program)] + ["-d"] * args.detail + ["-s"] * args.lean
     os.makedirs(args.keep, exist_ok=True)
     rng = random.Random(args.seed)
     start, total, bad, model_time = time.time(), 0, 0, 0.0

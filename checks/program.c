@@ -1,7 +1,8 @@
-/* The program of document 01 over the calls of baseline.c.
+/* The program of document 01 over the calls of baseline.c, and over the report of lean.c.
 
    baseline < FILE        prints what 01 says
    baseline -l < FILE     the same, SSS* with the textbook's list
+   baseline -s < FILE     the same, by the report of lean.c
    baseline -d < FILE     the same as the first, then leaves in order, marks, flags, passes and replacements, as
                           oracle.py --detail, by both kinds of SSS* */
 #include "baseline.h"
@@ -41,6 +42,11 @@ int main(int argc, char **argv) {
     const char *option = argc > 1 ? argv[1] : "";
     size_t length = 0;
     for (ssize_t got; length < sizeof file && (got = read(0, file + length, sizeof file - length)) > 0;) length += got;
+    if (!strcmp(option, "-s")) {
+        struct text text = lean_report(file, length);
+        fwrite(text.bytes, 1, text.length, stdout);
+        return 0;
+    }
     struct answer r = c_read(file, length, table, sizeof table);
     if (r.refused) {
         printf("refused %d %zu\n", r.refused, r.place);
