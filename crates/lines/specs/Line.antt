@@ -30,7 +30,7 @@ allDigits (b ∷ l) = ltb (digitOf b) noDigit && allDigits l
 unfoldable pub isLine : List ℕ → Bool
 isLine l = eqb (length l) lineDigits && allDigits l
 
--- has it a small letter
+-- has a text a small letter
 unfoldable pub hasSmall : List ℕ → Bool
 hasSmall [] = false
 hasSmall (b ∷ l) = isSmall b || hasSmall l

@@ -143,14 +143,13 @@ fn frame_of(bytes: &[u8; FRAME_SIZE]) -> Frame
     }
 }
 
-// Has a line a small letter? Every byte is looked at, so that no turn branches.
-pub fn has_small(line: &[u8]) -> bool
-    requires { ⌜ length (now line) ≡ lineDigits ⌝ }
-    ensures { λ r. ⌜ r ≡ hasSmall (now (line .entry)) ⌝ }
+// Has a text a small letter? Every byte is looked at, so that no turn branches.
+pub fn has_small(text: &[u8]) -> bool
+    ensures { λ r. ⌜ r ≡ hasSmall (now (text .entry)) ⌝ }
 {
     let mut small = false;
-    for k in 0..LINE_DIGITS {
-        if is_small(line[k]) {
+    for k in 0..text.len() {
+        if is_small(text[k]) {
             small = true;
         }
     }

@@ -1,20 +1,41 @@
 -- Question 16: the loop over the lines of a file whose lines have passed question 3; what holds after n lines.
 use Prim.Native.Nat.{ℕ, _+_, _*_, _≤_, _<_}
 use mathlib.Core.Path.{_≡_, refl, _∙_}
-use mathlib.Core.Bool.{true, false}
+use mathlib.Core.Bool.{Bool, true, false}
 use mathlib.Core.Option.{none, some}
 use mathlib.Core.List.{List, [], _∷_}
 use lib.ListN.{length, drop, drop-of-length-le}
+use lib.Dec.{eqb}
 use native.Mathlib.Omega.{arith}
 use native.Mathlib.Decide.{decLt}
+use Rattle.lists.proofs.Choice.{or-false-both}
 use Rattle.frames.specs.declared.Checked.the-variants.{Nodes}
 use Rattle.frames.specs.Rejection.{answer}
 use Rattle.frames.proofs.Stated.{both-passed}
-use Rattle.lines.specs.Line.{lineDigits, lineSize, hasSmall, isLineAt}
-use Rattle.lines.specs.Lines.{linesOf}
+use Rattle.hex.specs.Digit.{isSmall}
+use Rattle.lines.specs.Line.{lineFeed, lineDigits, lineSize, hasSmall, isLineAt}
+use Rattle.lines.specs.Lines.{putBefore, linesOf}
 use Rattle.lines.proofs.Positions.{lineBytes, line-fits}
 use Rattle.reader.specs.File.{eachLine, lineCheck3, fileCheck3, lineCheck16, fileCheck16}
 use Rattle.reader.proofs.Left.{lines-next, line-stands}
+
+-- where a file has no small letter, none of its lines has one
+lines-small : (f : List ℕ) (i : ℕ) → hasSmall f ≡ false → eachLine lineCheck16 i (linesOf f) ≡ none
+unfolding linesOf eachLine hasSmall
+lines-small [] i e = refl
+lines-small (b ∷ f) i e = go (eqb b lineFeed) (linesOf f) (λ j. lines-small f j (p .1))
+  where
+    p : (isSmall b ≡ false) × (hasSmall f ≡ false)
+    p = or-false-both (isSmall b) (hasSmall f) e
+
+    go : (x : Bool) (ls : List (List ℕ)) → ((j : ℕ) → eachLine lineCheck16 j ls ≡ none)
+        → eachLine lineCheck16 i (putBefore x b ls) ≡ none
+    go true ls h = h (i + 1)
+    go false [] h = rw (p .0)
+    go false (l ∷ ls) h = rw (p .0) (h i)
+
+pub file-small : (f : List ℕ) → hasSmall f ≡ false → fileCheck16 f ≡ none
+file-small f e = lines-small f 0 e
 
 -- after n lines question 16 is left for the lines from there on, which have passed question 3
 pub record Lettering (f : List ℕ) (n : ℕ) : Type 0 where

@@ -110,6 +110,17 @@ fn check_letters(file: &[u8], lines: usize) -> Checked
     requires { ⌜ (fileCheck3 (now file) ≡ none) × (lines ≡ length (linesOf (now file))) ⌝ }
     ensures { λ r. ⌜ r ≡ answer lines (fileCheck16 (now (file .entry))) ⌝ }
 {
+    if has_small(file) {
+        return find_small(file, lines);
+    }
+    Checked::Nodes(lines)
+}
+
+// The same, line by line.
+fn find_small(file: &[u8], lines: usize) -> Checked
+    requires { ⌜ (fileCheck3 (now file) ≡ none) × (lines ≡ length (linesOf (now file))) ⌝ }
+    ensures { λ r. ⌜ r ≡ answer lines (fileCheck16 (now (file .entry))) ⌝ }
+{
     for line in 0..lines {
         let at = LINE_SIZE * line;
         let end = at + LINE_DIGITS;

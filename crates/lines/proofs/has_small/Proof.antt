@@ -5,16 +5,16 @@ use mathlib.Core.Logic.{⊎-elim}
 use mathlib.Core.Bool.{or-true, or-false}
 use native.Mathlib.Omega.{arith}
 use borrow.Author.Needs.{needs}
-use Rattle.lines.specs.Line.{lineDigits}
+use lib.ListN.{length}
 use Rattle.lines.proofs.SmallLetters.{Looking, looking-none, looking-all, looking-next}
 use Rattle.lines.proofs.has_small.Statement.{statement}
 use Rattle.lines.proofs.has_small.Tie as tie
 
 abbrev Inv-loop : tie.InvT-loop
-Inv-loop line small₀ k₀ small k = Looking line small k
+Inv-loop text small₀ k₀ k-end small k = Looking text small k
 
 abbrev μ-loop : tie.MeasureT-loop
-μ-loop line small₀ k₀ small k = lineDigits - k
+μ-loop text small₀ k₀ k-end small k = length text - k
 
 loop-holds : tie.Need-loop-holds Inv-loop μ-loop
 loop-holds c = looking-none _
@@ -34,7 +34,7 @@ loop-less c = search needs
 loop-again : tie.Need-loop-again Inv-loop μ-loop
 loop-again c =
     let l = c .before .before .before .before in
-    looking-next _ _ _ (l .before .before .pre) (l .loop .inv) _ (omega arith)
+    looking-next _ _ _ (l .loop .inv) _ (omega arith)
     (⊎-elim
     (λ w. rw (← c .before .is-small .ensures, w .0 .taken) (w .1 ∙ sym (or-true (l .loop .small))))
     (λ w. rw (← c .before .is-small .ensures, w .0 .left) (w .1 ∙ sym (or-false (l .loop .small))))
@@ -42,8 +42,7 @@ loop-again c =
 
 returns : tie.Need-returns Inv-loop μ-loop
 returns c =
-    let l = c .before in
-    looking-all _ _ _ (l .before .before .pre) (l .loop .inv) (omega arith)
+    looking-all _ _ _ (c .before .loop .inv) (omega arith)
 
 pub has-small-spec : {M : Type 1} → statement M
 has-small-spec =

@@ -1,96 +1,22 @@
--- `reader::check_letters` meets its contract: each turn looks at the line that stands at the next position.
-use Prim.Native.Nat.{_+_, _*_, _-_, _≤_}
+-- `reader::check_letters` meets its contract: a file without a small letter has no line with one.
 use mathlib.Core.Path.{sym, _∙_}
-use native.Mathlib.Omega.{arith}
 use borrow.Author.Needs.{needs}
-use denote.Ref.{now}
-use lib.ListN.{length, length-take, length-drop}
-use Rattle.lines.specs.Line.{lineDigits, lineSize}
-use Rattle.lines.proofs.Positions.{line-part}
-use Rattle.reader.proofs.Letters.{Lettering, lettering-none, lettering-all, lettering-stop, lettering-next}
-use Rattle.reader.proofs.Letters.{line-room}
+use borrow.Author.Tests.{not-true}
+use Rattle.reader.proofs.Letters.{file-small}
 use Rattle.reader.proofs.check_letters.Statement.{statement}
 use Rattle.reader.proofs.check_letters.Tie as tie
 
-abbrev Inv-loop : tie.InvT-loop
-Inv-loop file lines line₀ line = Lettering file line
+has-small-requires : tie.Need-has-small-requires
+has-small-requires c κs = search needs
 
-abbrev μ-loop : tie.MeasureT-loop
-μ-loop file lines line₀ line = lines - line
+find-small-requires : tie.Need-find-small-requires
+find-small-requires c κs = search needs
 
--- the line's twelve bytes are there
-room : (c : tie.In-loop Inv-loop μ-loop) →
-    let l = c .before in
-    lineSize * l .loop .line + lineDigits ≤ length (now (l .before .before .args .file))
-room c = let l = c .before in line-room _ _ (l .loop .inv) (omega (arith, l .before .before .pre .1))
+returns : tie.Need-returns
+returns c = search needs
 
-loop-holds : tie.Need-loop-holds Inv-loop μ-loop
-loop-holds c = lettering-none _ (c .before .pre .0)
-
-mul-at : tie.Need-mul-at Inv-loop μ-loop
-mul-at c = omega (arith, room c)
-
-add-end : tie.Need-add-end Inv-loop μ-loop
-add-end c = omega (arith, room c)
-
-sub-has-small : tie.Need-sub-has-small Inv-loop μ-loop
-sub-has-small c = search needs
-
-part-has-small-start : tie.Need-part-has-small-start Inv-loop μ-loop
-part-has-small-start c = search needs
-
-part-has-small-end : tie.Need-part-has-small-end Inv-loop μ-loop
-part-has-small-end c = omega (arith, room c)
-
-has-small-requires : tie.Need-has-small-requires Inv-loop μ-loop
-has-small-requires c κs = simp (length-take, length-drop) (omega (arith, room (c .before)))
-
-rejected-requires : tie.Need-rejected-requires Inv-loop μ-loop
-rejected-requires c κs = search needs
-
-returns : tie.Need-returns Inv-loop μ-loop
-returns c =
-    let t = c .before in
-    let l = t .before .before .before .before in
-    let f = now (l .before .before .args .file) in
-    let stop = lettering-stop f _ (l .loop .inv) (omega (arith, l .before .before .pre .1))
-    (rw (← line-part f (lineSize * l .loop .line)) (sym (t .before .has-small .ensures) ∙ t .if1 .taken)) in
-    c .rejected .ensures ∙ rw stop
-
-add-line : tie.Need-add-line Inv-loop μ-loop
-add-line c = search needs
-
-loop-less : tie.Need-loop-less Inv-loop μ-loop
-loop-less c = search needs
-
-loop-again : tie.Need-loop-again Inv-loop μ-loop
-loop-again c =
-    let l = c .before .before .before .before in
-    let f = now (l .before .before .args .file) in
-    lettering-next f _ (l .loop .inv) (omega (arith, l .before .before .pre .1))
-    (rw (← line-part f (lineSize * l .loop .line)) (sym (c .before .has-small .ensures) ∙ c .if1 .left))
-
-returns-2 : tie.Need-returns-2 Inv-loop μ-loop
-returns-2 c =
-    let l = c .before in
-    let many = l .before .before .pre .1 in rw many (lettering-all _ _ (l .loop .inv) (omega (arith, many)))
+returns-2 : tie.Need-returns-2
+returns-2 c = rw (file-small _ (sym (c .before .has-small .ensures) ∙ c .if1 .left))
 
 pub check-letters-spec : {M : Type 1} → statement M
-check-letters-spec =
-    tie.close
-    (tie.spec
-    Inv-loop
-    μ-loop
-    loop-holds
-    mul-at
-    add-end
-    sub-has-small
-    part-has-small-start
-    part-has-small-end
-    has-small-requires
-    rejected-requires
-    returns
-    add-line
-    loop-less
-    loop-again
-    returns-2)
+check-letters-spec = tie.close (tie.spec has-small-requires find-small-requires returns returns-2)
