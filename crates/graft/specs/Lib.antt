@@ -2,4 +2,5 @@
 pub mod Sources
 pub mod Table
 pub mod Outcome
+pub mod engine
 pub mod results

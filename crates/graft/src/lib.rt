@@ -2,14 +2,17 @@
 use frames::Checked;
 use frames::FRAME_SIZE;
 use frames::MAX_NODES;
+use frames::child_count;
+use frames::first_child;
 use frames::frame_count;
 use graftable::ask;
+use places::SMALL;
 ghost use mathlib.Core.Path.{_≡_};
 ghost use mathlib.Core.List.{_++_};
 ghost use mathlib.Core.Bool.{cond};
 ghost use Prim.Native.Nat.{_+_, _-_, _*_, _<_, _≤_};
 ghost use lib.Dec.{eqb};
-ghost use lib.ListN.{length, getD, drop};
+ghost use lib.ListN.{length, drop};
 ghost use lib.Seq.{sets};
 ghost use Rattle.frames.specs.Frame.{frameSize, maxNodes, twoBytes, frames, firstChild, childCount};
 ghost use Rattle.places.specs.Buffer.{stored};
@@ -18,6 +21,7 @@ ghost use Rattle.graftable.specs.Graftable.{Graftable};
 ghost use Rattle.graft.specs.Sources.{base};
 ghost use Rattle.graft.specs.Table.{firstNumber, renumbered, graftTable};
 ghost use Rattle.graft.specs.Outcome.{graftOutcome};
+ghost use Rattle.graft.specs.engine.Joined.{Joined};
 
 // Puts the second tree in the place of the first's named leaf: the number of nodes of the result, whose table then
 // stands at the buffer's front, or the first rejection, and then the buffer is as it was.
@@ -29,9 +33,24 @@ pub fn graft(first: &[u8], node: usize, second: &[u8], result: &mut [u8]) -> Che
     let Checked::Nodes(size) = checked else {
         return checked;
     };
+    write(first, node, second, result, size);
+    checked
+}
+
+// The table of the result, which has so many nodes. A small one gets a small work array.
+fn write(first: &[u8], node: usize, second: &[u8], result: &mut [u8], size: usize)
+    requires { ⌜ Graftable (now first) node (now second) ⌝ }
+    requires { ⌜ (size ≡ graftSize (now first) (now second)) × (frameSize * size ≤ length (now result)) ⌝ }
+    ensures { λ _. ⌜ now (result .exit) ≡ graftTable (now (first .entry)) node (now (second .entry))
+        ++ drop (frameSize * size) (now (result .entry)) ⌝ }
+{
+    if size <= SMALL {
+        let mut sources = [0u32; SMALL];
+        write_frames(first, node, second, result, &mut sources, size);
+        return;
+    }
     let mut sources = [0u32; MAX_NODES];
     write_frames(first, node, second, result, &mut sources, size);
-    checked
 }
 
 // The frames of the result, one source after the other, each followed by the sources of its children.
@@ -56,7 +75,7 @@ fn write_frames(
         let source = sources[i] as usize;
         let count = count_of(first, second, source);
         let end = next + count;
-        put_frame(
+        put_source(
             first,
             second,
             result,
@@ -90,55 +109,68 @@ fn first_number(count: usize, next: usize) -> usize
     if count == 0 { 0 } else { next }
 }
 
-// A byte of the two tables, the second behind the first.
-fn byte_at(first: &[u8], second: &[u8], at: usize) -> u8
-    requires { ⌜ at < length (now first) + length (now second) ⌝ }
-    ensures { λ r. ⌜ r ≡ getD (now (first .entry) ++ now (second .entry)) at 0 ⌝ }
-{
-    let n = first.len();
-    if at < n { first[at] } else { second[at - n] }
-}
-
 // The number of children of a source.
 fn count_of(first: &[u8], second: &[u8], source: usize) -> usize
-    requires { ⌜ frameSize * source + frameSize ≤ length (now first) + length (now second) ⌝ }
+    requires { ⌜ Joined (now first) (now second) source ⌝ }
     ensures { λ r. ⌜ (r ≡ childCount (now (first .entry) ++ now (second .entry)) source) × (r < 256) ⌝ }
 {
-    byte_at(first, second, FRAME_SIZE * source + 2) as usize
+    let n = frame_count(first);
+    if source < n {
+        child_count(first, source)
+    } else {
+        child_count(second, source - n)
+    }
 }
 
 // The number of a source's first child, as a source.
 fn first_of(first: &[u8], second: &[u8], source: usize) -> usize
-    requires { ⌜ (frameSize * source + frameSize ≤ length (now first) + length (now second))
-        × (frames (now first) ≤ maxNodes) ⌝ }
+    requires { ⌜ (Joined (now first) (now second) source) × (frames (now first) ≤ maxNodes) ⌝ }
     ensures { λ r. ⌜ (r ≡ base (now (first .entry)) source
         + firstChild (now (first .entry) ++ now (second .entry)) source) × (r < maxNodes + twoBytes) ⌝ }
 {
-    let at = FRAME_SIZE * source;
-    let high = byte_at(first, second, at) as usize;
-    let low = byte_at(first, second, at + 1) as usize;
     let n = frame_count(first);
     if source < n {
-        high * 256 + low
+        first_child(first, source)
     } else {
-        n + (high * 256 + low)
+        n + first_child(second, source - n)
     }
 }
 
 // A source's frame with another first child.
-fn put_frame(first: &[u8], second: &[u8], result: &mut [u8], source: usize, child: usize, at: usize)
-    requires { ⌜ frameSize * source + frameSize ≤ length (now first) + length (now second) ⌝ }
+fn put_source(
+    first: &[u8],
+    second: &[u8],
+    result: &mut [u8],
+    source: usize,
+    child: usize,
+    at: usize,
+)
+    requires { ⌜ Joined (now first) (now second) source ⌝ }
     requires { ⌜ (child < twoBytes) × (at + frameSize ≤ length (now result)) ⌝ }
     ensures { λ _. ⌜ now (result .exit) ≡ sets (now (result .entry)) at
         (renumbered (now (first .entry) ++ now (second .entry)) source child) ⌝ }
 {
-    let from = FRAME_SIZE * source;
+    let n = frame_count(first);
+    if source < n {
+        put_frame(first, result, source, child, at);
+    } else {
+        put_frame(second, result, source - n, child, at);
+    }
+}
+
+// A node's frame with another first child.
+fn put_frame(table: &[u8], result: &mut [u8], node: usize, child: usize, at: usize)
+    requires { ⌜ node < frames (now table) ⌝ }
+    requires { ⌜ (child < twoBytes) × (at + frameSize ≤ length (now result)) ⌝ }
+    ensures { λ _. ⌜ now (result .exit) ≡ sets (now (result .entry)) at (renumbered (now (table .entry)) node child) ⌝ }
+{
+    let from = FRAME_SIZE * node;
     result[at] = (child / 256) as u8;
     result[at + 1] = (child % 256) as u8;
-    result[at + 2] = byte_at(first, second, from + 2);
-    result[at + 3] = byte_at(first, second, from + 3);
-    result[at + 4] = byte_at(first, second, from + 4);
-    result[at + 5] = byte_at(first, second, from + 5);
+    result[at + 2] = table[from + 2];
+    result[at + 3] = table[from + 3];
+    result[at + 4] = table[from + 4];
+    result[at + 5] = table[from + 5];
 }
 
 // The sources from `from` on, the named node's replaced, in the entries from `next` up to `end`.

@@ -8,12 +8,14 @@ use frames::child_count;
 use frames::frame_count;
 use frames::rejected;
 use gametree::Side;
+use places::SMALL;
 use places::depth_at;
 use places::fill;
 use places::side_at;
 use tables::check;
 ghost use mathlib.Core.Path.{_≡_};
-ghost use Prim.Native.Nat.{_<_};
+ghost use Prim.Native.Nat.{_<_, _≤_};
+ghost use lib.ListN.{length};
 ghost use Rattle.gametree.specs.declared.Side.the-variants.{Max};
 ghost use Rattle.gametree.specs.Certificate.{same};
 ghost use Rattle.frames.specs.Frame.{maxNodes, frames};
@@ -43,22 +45,36 @@ pub fn ask(first: &[u8], node: usize, second: &[u8], room: usize) -> Checked
     ask_leaf(first, node, second, room)
 }
 
-// Questions 17, 18 and 10.
+// Questions 17, 18 and 10. Two small tables get a small work array.
 fn ask_leaf(first: &[u8], node: usize, second: &[u8], room: usize) -> Checked
     requires { ⌜ WellFormed (now first) × WellFormed (now second) ⌝ }
     ensures { λ r. ⌜ r ≡ answer (graftSize (now (first .entry)) (now (second .entry)))
         (leafRejection (now (first .entry)) node (now (second .entry)) room) ⌝ }
 {
+    if frame_count(first) + frame_count(second) <= SMALL {
+        let mut places = [0u32; SMALL];
+        return ask_leaf_in(first, node, second, &mut places, room);
+    }
     let mut places = [0u32; MAX_NODES];
-    fill(first, &mut places);
-    if !is_max_leaf(first, &places, node) {
+    ask_leaf_in(first, node, second, &mut places, room)
+}
+
+// The same, over a work array for the places of the nodes of one table and then of the other.
+fn ask_leaf_in(first: &[u8], node: usize, second: &[u8], places: &mut [u32], room: usize) -> Checked
+    requires { ⌜ WellFormed (now first) × WellFormed (now second) ⌝ }
+    requires { ⌜ (frames (now first) ≤ length (now places)) × (frames (now second) ≤ length (now places)) ⌝ }
+    ensures { λ r. ⌜ r ≡ answer (graftSize (now (first .entry)) (now (second .entry)))
+        (leafRejection (now (first .entry)) node (now (second .entry)) room) ⌝ }
+{
+    fill(first, places);
+    if !is_max_leaf(first, places, node) {
         return rejected(NO_MAX_LEAF, node);
     }
     let size = frame_count(first) + frame_count(second) - 1;
     if MAX_NODES < size {
         return rejected(TOO_LARGE, 0);
     }
-    let depth = depth_at(&places, node) + height(second);
+    let depth = depth_at(places, node) + height(second, places);
     if MAX_DEPTH < depth as usize {
         return rejected(TOO_LARGE, 0);
     }
@@ -94,11 +110,10 @@ fn is_max(side: Side) -> bool
 }
 
 // The greatest depth of a node: in breadth-first order that of the last one.
-fn height(table: &[u8]) -> u32
-    requires { ⌜ WellFormed (now table) ⌝ }
+fn height(table: &[u8], places: &mut [u32]) -> u32
+    requires { ⌜ (WellFormed (now table)) × (frames (now table) ≤ length (now places)) ⌝ }
     ensures { λ r. ⌜ (r ≡ deepest (now (table .entry)) (frames (now (table .entry)))) × (r < maxNodes) ⌝ }
 {
-    let mut places = [0u32; MAX_NODES];
-    fill(table, &mut places);
-    depth_at(&places, frame_count(table) - 1)
+    fill(table, places);
+    depth_at(places, frame_count(table) - 1)
 }

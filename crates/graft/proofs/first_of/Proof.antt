@@ -1,81 +1,57 @@
--- `graft::first_of` meets its contract: its two bytes, and the number at which its table's sources begin.
+-- `graft::first_of` meets its contract: a source is a node of the first table, or of the second, whose sources begin
+-- behind the first's.
 use native.Mathlib.Omega.{arith}
+use mathlib.Core.Path.{ap, ap₂, _∙_}
+use Prim.Native.Nat.{_+_, _-_}
 use borrow.Author.Needs.{needs}
-use Rattle.graft.proofs.Joined.{first-of-first, first-of-second}
+use Rattle.frames.specs.Frame.{firstChild}
+use Rattle.graft.proofs.Joined.{first-first, first-second}
 use Rattle.graft.proofs.first_of.Statement.{statement}
 use Rattle.graft.proofs.first_of.Tie as tie
-
-mul-at : tie.Need-mul-at
-mul-at c = search needs
-
-byte-at-requires : tie.Need-byte-at-requires
-byte-at-requires c κs = search needs
-
-cast-high : tie.Need-cast-high
-cast-high c = search needs
-
-add-byte-at : tie.Need-add-byte-at
-add-byte-at c = search needs
-
-byte-at-requires-2 : tie.Need-byte-at-requires-2
-byte-at-requires-2 c κs = search needs
-
-cast-low : tie.Need-cast-low
-cast-low c = search needs
 
 frame-count-requires : tie.Need-frame-count-requires
 frame-count-requires c κs = search needs
 
-mul-result : tie.Need-mul-result
-mul-result c = search needs
+first-child-requires : tie.Need-first-child-requires
+first-child-requires c κs = search needs
+
+first-child-requires-2 : tie.Need-first-child-requires-2
+first-child-requires-2 c κs = search needs
 
 add-result : tie.Need-add-result
 add-result c = search needs
 
-mul-result-2 : tie.Need-mul-result-2
-mul-result-2 c = search needs
-
-add-result-2 : tie.Need-add-result-2
-add-result-2 c = search needs
-
-add-result-3 : tie.Need-add-result-3
-add-result-3 c = search needs
-
 returns : tie.Need-returns
 returns c =
-    let b = c .before .before .before in
-    let a = b .before .before .before .args in
-    let n = c .before .frame-count .ensures in (
-      first-of-first (a .first .now) (a .second .now) (a .source) (b .byte-at .result)
-          (c .before .before .byte-at2 .result)
-          (omega arith) (b .byte-at .ensures) (c .before .before .byte-at2 .ensures),
-      omega arith,
+    let n = c .before .before in
+    let a = n .before .before .before in
+    let t = a .args .first .now in
+    let u = a .args .second .now in
+    let e = n .frame-count .ensures in (
+      c .first-child .ensures .0 ∙ first-first t u (a .args .source) (a .pre .0) (omega (arith, e)),
+      omega (arith, c .first-child .ensures .1),
     )
 
 returns-2 : tie.Need-returns-2
 returns-2 c =
-    let b = c .before .before .before in
-    let a = b .before .before .before .args in
-    let n = c .before .frame-count .ensures in
-    let f = first-of-second (a .first .now) (a .second .now) (a .source) (b .byte-at .result)
-    (c .before .before .byte-at2 .result) (omega arith) (b .byte-at .ensures) (c .before .before .byte-at2 .ensures) in
-    (omega arith, omega arith)
+    let n = c .before .before in
+    let a = n .before .before .before in
+    let t = a .args .first .now in
+    let u = a .args .second .now in
+    let s = a .args .source in
+    let e = n .frame-count .ensures in (
+      ap₂ (λ m f. m + f) e (c .first-child2 .ensures .0 ∙ ap (λ m. firstChild u (s - m)) e)
+          ∙ first-second t u s (a .pre .0) (omega (arith, e)),
+      omega (arith, e, c .first-child2 .ensures .1, a .pre .1),
+    )
 
 pub first-of-spec : {M : Type 1} → statement M
 first-of-spec =
     tie.close
     (tie.spec
-    mul-at
-    byte-at-requires
-    cast-high
-    add-byte-at
-    byte-at-requires-2
-    cast-low
     frame-count-requires
-    mul-result
+    first-child-requires
+    first-child-requires-2
     add-result
-    mul-result-2
-    add-result-2
-    add-result-3
     returns
     returns-2)

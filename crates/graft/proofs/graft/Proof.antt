@@ -23,28 +23,25 @@ returns c =
     ap (λ x. record { answer = x; result = a .result .now }) g
     ∙ graft-rejected (a .first .now) (a .node) (a .second .now) (a .result .now) _ (rw g at (k .ask .ensures))
 
-slice-aggregate-write-frames : tie.Need-slice-aggregate-write-frames
-slice-aggregate-write-frames c = search needs
-
-write-frames-requires : tie.Need-write-frames-requires
-write-frames-requires c κs =
-    let k = c .before .before .before in
+write-requires : tie.Need-write-requires
+write-requires c κs =
+    let k = c .before .before in
     let a = k .before .before .before .before .before .before .args in
     let p = nodes-graftable (a .first .now) (a .node) (a .second .now) (a .result .now) _
     (rw (k .checked .given .1) at (k .before .before .ask .ensures)) in
-    (p .1, (p .0, omega (arith, p), omega (arith, p .0, p .1 .few)))
+    (p .1, (p .0, omega (arith, p)))
 
 same-length : tie.Need-same-length
 same-length c = search needs
 
 returns-2 : tie.Need-returns-2
 returns-2 c =
-    let w = c .before .before .before in
-    let k = w .before .before .before .before in
+    let w = c .before .before in
+    let k = w .before .before .before in
     let a = k .before .before .before .before .before .before .args in
     let g = k .checked .given .1 in
     graft-written (a .first .now) (a .node) (a .second .now) (a .result .now) _ _
-    (rw g at (k .before .before .ask .ensures)) (w .write-frames .ensures)
+    (rw g at (k .before .before .ask .ensures)) (w .write .ensures)
 
 pub graft-spec : {M : Type 1} → statement M
 graft-spec =
@@ -54,7 +51,6 @@ graft-spec =
     enum-known-checked
     enum-told
     returns
-    slice-aggregate-write-frames
-    write-frames-requires
+    write-requires
     same-length
     returns-2)

@@ -1,15 +1,16 @@
 -- `graft::write_frames` meets its contract: each turn lays one frame and adds its children's sources.
-use Prim.Native.Nat.{_+_, _*_, _≤_, _<_, _-_}
+use Prim.Native.Nat.{_+_, _≤_, _<_, _-_}
 use native.Mathlib.Omega.{arith}
 use mathlib.Core.Path.{refl, ap, _∙_}
 use mathlib.Core.Bool.{cond}
-use lib.ListN.{length, getD, length-set}
+use lib.ListN.{getD, length-set}
 use lib.Dec.{eqb}
 use borrow.Author.Needs.{needs}
-use Rattle.frames.specs.Frame.{frameSize, maxNodes, frames}
+use Rattle.frames.specs.Frame.{maxNodes, frames}
 use Rattle.frames.proofs.Acceptance.{accepted-formed}
 use Rattle.graftable.specs.Questions.{graftSize}
-use Rattle.graft.proofs.Sources.{fitting, graft-some}
+use Rattle.graft.specs.engine.Joined.{Joined}
+use Rattle.graft.proofs.Sources.{fitting, first-stated, graft-some}
 use Rattle.graft.proofs.Laid.{result-frames}
 use Rattle.graft.proofs.Writing.{Writing, writing-begins, writing-inside, writing-within, writing-step}
 use Rattle.graft.proofs.Writing.{writing-ends}
@@ -37,12 +38,17 @@ inside c = omega (arith, at-start (c .before) .pre .1 .0, c .loop-test .taken)
 source-inside : (c : tie.After-slice-known3 Inv-loop μ-loop) →
     let l = c .before .before in
     let a = at-start l .args in
-    frameSize * getD (l .loop .sources) (l .loop .i) 0 + frameSize ≤ length (a .first .now) + length (a .second .now)
+    Joined (a .first .now) (a .second .now) (getD (l .loop .sources) (l .loop .i) 0)
 source-inside c =
     let l = c .before .before in
     let a = at-start l in
-    writing-inside (a .args .first .now) (a .args .node) (a .args .second .now) (fitting (a .pre .0)) (l .loop .inv)
-    (inside (c .before)) _ refl
+    let g = fitting (a .pre .0) in
+    record {
+      whole = first-stated (a .args .first .now) (a .args .node) (a .args .second .now) g .whole;
+      inside =
+          writing-inside (a .args .first .now) (a .args .node) (a .args .second .now) g (l .loop .inv)
+          (inside (c .before)) _ refl;
+    }
 
 children-inside : (c : tie.After-count-of Inv-loop μ-loop) →
     let l = c .before .before .before in
@@ -105,11 +111,11 @@ add-end c = omega (arith, children-inside c, at-start (c .before .before .before
 first-number-requires : tie.Need-first-number-requires Inv-loop μ-loop
 first-number-requires c κs = search needs
 
-mul-put-frame : tie.Need-mul-put-frame Inv-loop μ-loop
-mul-put-frame c = search needs
+mul-put-source : tie.Need-mul-put-source Inv-loop μ-loop
+mul-put-source c = search needs
 
-put-frame-requires : tie.Need-put-frame-requires Inv-loop μ-loop
-put-frame-requires c κs =
+put-source-requires : tie.Need-put-source-requires Inv-loop μ-loop
+put-source-requires c κs =
     let k = c .before .before in
     let l = k .before .before .before in
     let a = at-start l in (
@@ -160,7 +166,7 @@ loop-again c =
     writing-step (a .args .first .now) (a .args .node) (a .args .second .now) (fitting (a .pre .0)) (l .loop .inv)
     (inside (k .before .before))
     _ _ refl (k .count-of .ensures .0) _ (p .before .first-number .result) _ _ (f .first-of .ensures .0)
-    (p .before .first-number .ensures .0) (omega (arith, a .pre .1)) (p .put-frame .ensures)
+    (p .before .first-number .ensures .0) (omega (arith, a .pre .1)) (p .put-source .ensures)
     (rw (l .before .before .frame-count .ensures) at (c .before .before .put-children .ensures))
 
 same-length : tie.Need-same-length Inv-loop μ-loop
@@ -194,8 +200,8 @@ write-frames-spec =
     count-of-requires
     add-end
     first-number-requires
-    mul-put-frame
-    put-frame-requires
+    mul-put-source
+    put-source-requires
     first-of-requires
     put-children-requires
     add-i

@@ -9,14 +9,8 @@ use Rattle.graftable.proofs.Heights.{last-deepest}
 use Rattle.graftable.proofs.height.Statement.{statement}
 use Rattle.graftable.proofs.height.Tie as tie
 
-slice-aggregate-fill : tie.Need-slice-aggregate-fill
-slice-aggregate-fill c = search needs
-
 fill-requires : tie.Need-fill-requires
 fill-requires c κs = search needs
-
-slice-aggregate-depth-at : tie.Need-slice-aggregate-depth-at
-slice-aggregate-depth-at c = search needs
 
 frame-count-requires : tie.Need-frame-count-requires
 frame-count-requires c κs = search needs
@@ -27,14 +21,17 @@ sub-depth-at c = search needs
 depth-at-requires : tie.Need-depth-at-requires
 depth-at-requires c κs = search needs
 
+same-length : tie.Need-same-length
+same-length c = search needs
+
 returns : tie.Need-returns
 returns c =
     let n = c .before in
-    let f = n .before .before .before in
-    let a = f .before .before .before in
-    let wf = a .pre in
+    let f = n .before .before .before .before in
+    let a = f .before .before .before .before in
+    let wf = a .pre .0 in
     let t = a .args .table .now in
-    let p = placed t wf _ (wf .few) (f .fill .ensures) in (
+    let p = placed t wf _ (a .pre .1) (f .fill .ensures) in (
       c .depth-at .ensures
           ∙ placed-depth t _ p _ (omega (arith, n .frame-count .ensures, wf .some))
           ∙ ap (λ m. depthOf t (m - 1)) (n .frame-count .ensures) ∙ last-deepest t wf,
@@ -45,10 +42,9 @@ pub height-spec : {M : Type 1} → statement M
 height-spec =
     tie.close
     (tie.spec
-    slice-aggregate-fill
     fill-requires
-    slice-aggregate-depth-at
     frame-count-requires
     sub-depth-at
     depth-at-requires
+    same-length
     returns)

@@ -1,4 +1,4 @@
--- `graftable::ask_leaf` meets its contract: one law for each of its returns.
+-- `graftable::ask_leaf_in` meets its contract: one law for each of its returns.
 use Prim.Native.Nat.{ℕ, _+_, _-_}
 use native.Mathlib.Omega.{arith}
 use mathlib.Core.Path.{_≡_, sym, ap, _∙_}
@@ -10,16 +10,16 @@ use borrow.Author.Needs.{needs}
 use Rattle.frames.specs.Frame.{frames}
 use Rattle.frames.specs.Place.{depthOf}
 use Rattle.frames.specs.Rejection.{answer}
-use Rattle.places.proofs.Places.{placed, placed-depth}
+use Rattle.places.proofs.Places.{placed, placed-room, placed-depth}
 use Rattle.graftable.specs.Questions.{graftSize}
 use Rattle.graftable.specs.Questions.{isMaxLeaf, deepest}
 use Rattle.graftable.proofs.Questions.{max-leaf, no-leaf, too-many, too-deep, too-short, all-right}
-use Rattle.graftable.proofs.ask_leaf.Statement.{statement}
-use Rattle.graftable.proofs.ask_leaf.Tie as tie
+use Rattle.graftable.proofs.ask_leaf_in.Statement.{statement}
+use Rattle.graftable.proofs.ask_leaf_in.Tie as tie
 
 -- the way back to the start, and the tables and the node there
 abbrev at-start : tie.After-is-max-leaf → tie.Start
-at-start m = m .before .before .before .before .before .before .before
+at-start m = m .before .before .before .before .before .before .before .before .before
 
 abbrev first : tie.After-is-max-leaf → List ℕ
 first m = at-start m .args .first .now
@@ -40,35 +40,37 @@ sizes : (n : tie.After-frame-count2) →
 sizes n = omega (arith, n .before .frame-count .ensures, n .frame-count2 .ensures)
 
 depths : (h : tie.After-height) →
-    let m = h .before .before .before .before .before .before .before in
-    h .before .depth-at .result + h .height .result
+    let m = h .before .before .before .before .before .before .before .before in
+    h .before .before .depth-at .result + h .height .result
     ≡ depthOf (first m) (node m) + deepest (second m) (frames (second m))
 depths h =
-    let e = h .before .before .before .before .before .before in
+    let e = h .before .before .before .before .before .before .before in
     let m = e .before in
-    let f = m .before .before .before in
-    let wf = at-start m .pre .0 in
-    let p = placed (first m) wf _ (wf .few) (f .fill .ensures) in
+    let f = m .before .before .before .before in
+    let s = at-start m in
+    let p = placed (first m) (s .pre .0 .0) _ (s .pre .1 .0) (f .fill .ensures) in
     let l = max-leaf (first m) (node m) (passed e) in
-    omega (arith, h .before .depth-at .ensures, h .height .ensures, placed-depth (first m) _ p (node m) (l .inside))
-
-slice-aggregate-fill : tie.Need-slice-aggregate-fill
-slice-aggregate-fill c = search needs
+    omega (
+      arith,
+      h .before .before .depth-at .ensures,
+      h .height .ensures,
+      placed-depth (first m) _ p (node m) (l .inside),
+    )
 
 fill-requires : tie.Need-fill-requires
 fill-requires c κs = search needs
 
-slice-aggregate-is-max-leaf : tie.Need-slice-aggregate-is-max-leaf
-slice-aggregate-is-max-leaf c = search needs
-
 is-max-leaf-requires : tie.Need-is-max-leaf-requires
 is-max-leaf-requires c κs =
-    let f = c .before .before in
-    let wf = f .before .before .before .before .pre .0 in
-    placed _ wf _ (wf .few) (f .fill .ensures)
+    let f = c .before .before .before in
+    let s = f .before .before .before .before .before in
+    placed _ (s .pre .0 .0) _ (s .pre .1 .0) (f .fill .ensures)
 
 rejected-requires : tie.Need-rejected-requires
 rejected-requires c κs = search needs
+
+same-length : tie.Need-same-length
+same-length c = search needs
 
 returns : tie.Need-returns
 returns c =
@@ -92,6 +94,9 @@ sub-size c = search needs
 rejected-requires-2 : tie.Need-rejected-requires-2
 rejected-requires-2 c κs = search needs
 
+same-length-2 : tie.Need-same-length-2
+same-length-2 c = search needs
+
 returns-2 : tie.Need-returns-2
 returns-2 c =
     let n = c .before .before in
@@ -101,14 +106,14 @@ returns-2 c =
     ∙ ap (answer _) (sym (too-many (first m) (node m) (second m) (at-start m .args .room) (passed e)
     (omega (arith, sizes n, c .before .if2 .taken))))
 
-slice-aggregate-depth-at : tie.Need-slice-aggregate-depth-at
-slice-aggregate-depth-at c = search needs
-
 depth-at-requires : tie.Need-depth-at-requires
 depth-at-requires c κs =
     let e = c .before .before .before .before in
     let m = e .before in
-    omega (arith, max-leaf (first m) (node m) (passed e) .inside, at-start m .pre .0 .few)
+    let f = m .before .before .before .before in
+    let s = at-start m in
+    placed-room _ _ (placed _ (s .pre .0 .0) _ (s .pre .1 .0) (f .fill .ensures)) _
+    (max-leaf (first m) (node m) (passed e) .inside)
 
 height-requires : tie.Need-height-requires
 height-requires c κs = search needs
@@ -122,10 +127,13 @@ cast-if3 c = search needs
 rejected-requires-3 : tie.Need-rejected-requires-3
 rejected-requires-3 c κs = search needs
 
+same-length-3 : tie.Need-same-length-3
+same-length-3 c = search needs
+
 returns-3 : tie.Need-returns-3
 returns-3 c =
-    let h = c .before .before in
-    let i = h .before .before .before in
+    let h = c .before .before .before .before in
+    let i = h .before .before .before .before in
     let n = i .before in
     let e = n .before .before in
     let m = e .before in
@@ -139,11 +147,14 @@ mul-if4 c = search needs
 rejected-requires-4 : tie.Need-rejected-requires-4
 rejected-requires-4 c κs = search needs
 
+same-length-4 : tie.Need-same-length-4
+same-length-4 c = search needs
+
 returns-4 : tie.Need-returns-4
 returns-4 c =
     let j = c .before .before in
-    let h = j .before in
-    let i = h .before .before .before in
+    let h = j .before .before .before in
+    let i = h .before .before .before .before in
     let n = i .before in
     let e = n .before .before in
     let m = e .before in
@@ -152,11 +163,14 @@ returns-4 c =
     (omega (arith, sizes n, i .if2 .left)) (omega (arith, depths h, j .if3 .left))
     (omega (arith, sizes n, c .before .if4 .taken))))
 
+same-length-5 : tie.Need-same-length-5
+same-length-5 c = search needs
+
 returns-5 : tie.Need-returns-5
 returns-5 c =
     let j = c .before in
-    let h = j .before in
-    let i = h .before .before .before in
+    let h = j .before .before .before in
+    let i = h .before .before .before .before in
     let n = i .before in
     let e = n .before .before in
     let m = e .before in
@@ -165,30 +179,32 @@ returns-5 c =
     (omega (arith, sizes n, i .if2 .left)) (omega (arith, depths h, j .if3 .left))
     (omega (arith, sizes n, c .if4 .left))))
 
-pub ask-leaf-spec : {M : Type 1} → statement M
-ask-leaf-spec =
+pub ask-leaf-in-spec : {M : Type 1} → statement M
+ask-leaf-in-spec =
     tie.close
     (tie.spec
-    slice-aggregate-fill
     fill-requires
-    slice-aggregate-is-max-leaf
     is-max-leaf-requires
     rejected-requires
+    same-length
     returns
     frame-count-requires
     frame-count-requires-2
     add-size
     sub-size
     rejected-requires-2
+    same-length-2
     returns-2
-    slice-aggregate-depth-at
     depth-at-requires
     height-requires
     add-depth
     cast-if3
     rejected-requires-3
+    same-length-3
     returns-3
     mul-if4
     rejected-requires-4
+    same-length-4
     returns-4
+    same-length-5
     returns-5)
