@@ -74,6 +74,7 @@ fn write_frames(
     for i in 0..size {
         let source = sources[i] as usize;
         let count = count_of(first, second, source);
+        let from = first_of(first, second, source);
         let end = next + count;
         put_source(
             first,
@@ -83,14 +84,7 @@ fn write_frames(
             first_number(count, next),
             FRAME_SIZE * i,
         );
-        put_children(
-            sources,
-            next,
-            end,
-            first_of(first, second, source),
-            node,
-            root,
-        );
+        put_children(sources, next, end, from, node, root);
         next = end;
     }
 }

@@ -105,8 +105,12 @@ cast-source c = omega (arith, c .slice-known3 .given (c .before .before .loop .i
 count-of-requires : tie.Need-count-of-requires Inv-loop μ-loop
 count-of-requires c κs = source-inside c
 
+first-of-requires : tie.Need-first-of-requires Inv-loop μ-loop
+first-of-requires c κs = (source-inside (c .before), first-few (at-start (c .before .before .before)))
+
 add-end : tie.Need-add-end Inv-loop μ-loop
-add-end c = omega (arith, children-inside c, at-start (c .before .before .before) .pre .0 .few)
+add-end c =
+    let k = c .before in omega (arith, children-inside k, at-start (k .before .before .before) .pre .0 .few)
 
 first-number-requires : tie.Need-first-number-requires Inv-loop μ-loop
 first-number-requires c κs = search needs
@@ -116,7 +120,7 @@ mul-put-source c = search needs
 
 put-source-requires : tie.Need-put-source-requires Inv-loop μ-loop
 put-source-requires c κs =
-    let k = c .before .before in
+    let k = c .before .before .before in
     let l = k .before .before .before in
     let a = at-start l in (
       source-inside (k .before),
@@ -127,14 +131,10 @@ put-source-requires c κs =
       ),
     )
 
-first-of-requires : tie.Need-first-of-requires Inv-loop μ-loop
-first-of-requires c κs =
-    let k = c .before .before .before .before .before .before in
-    (source-inside (k .before), first-few (at-start (k .before .before .before)))
-
 put-children-requires : tie.Need-put-children-requires Inv-loop μ-loop
 put-children-requires c κs =
-    let k = c .before .before .before .before .before .before .before in
+    let f = c .before .before .before .before .before .before in
+    let k = f .before in
     let l = k .before .before .before in
     let a = at-start l in
     let w = children-inside k in (
@@ -146,7 +146,7 @@ put-children-requires c κs =
             (a .args .second .now),
       ),
       omega (arith, a .pre .0 .few),
-      c .first-of .ensures .1,
+      f .first-of .ensures .1,
       omega (arith, l .before .before .frame-count .ensures, first-few a),
     )
 
@@ -158,11 +158,11 @@ loop-less c = search needs
 
 loop-again : tie.Need-loop-again Inv-loop μ-loop
 loop-again c =
-    let f = c .before .before .before in
-    let k = f .before .before .before .before .before .before .before in
+    let p = c .before .before .before .before .before .before in
+    let f = p .before .before .before in
+    let k = f .before in
     let l = k .before .before .before in
     let a = at-start l in
-    let p = f .before .before .before .before in
     writing-step (a .args .first .now) (a .args .node) (a .args .second .now) (fitting (a .pre .0)) (l .loop .inv)
     (inside (k .before .before))
     _ _ refl (k .count-of .ensures .0) _ (p .before .first-number .result) _ _ (f .first-of .ensures .0)
@@ -198,11 +198,11 @@ write-frames-spec =
     slice-read-source
     cast-source
     count-of-requires
+    first-of-requires
     add-end
     first-number-requires
     mul-put-source
     put-source-requires
-    first-of-requires
     put-children-requires
     add-i
     loop-less
