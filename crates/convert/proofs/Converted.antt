@@ -13,11 +13,13 @@ use borrow.Author.Tests.{le-leb, leb-true}
 use Rattle.frames.specs.declared.Rejection.{Rejection}
 use Rattle.frames.specs.Frame.{frames}
 use Rattle.frames.specs.Rejection.{_andThen_}
-use Rattle.frames.specs.Check.{check1, Accepted}
+use Rattle.frames.specs.Check.{framesRejection, Accepted}
 use Rattle.frames.proofs.Stated.{ask-yes, both-passed}
 use Rattle.lines.specs.Line.{lineSize}
 use Rattle.lines.specs.Lines.{decoded}
-use Rattle.reader.specs.File.{fileCheck2, fileCheck3, fileRejection, AcceptedFile}
+use Rattle.reader.specs.File.{maxFile, fileCheck3, fileRejection, AcceptedFile}
+use Rattle.reader.specs.engine.Decoded.{linesRejection}
+use Rattle.reader.proofs.Reading.{lines-parts, lines-then}
 use Rattle.reader.proofs.Acceptance.{accepted-table, accepted-letters}
 use Rattle.writer.specs.Encoded.{fileOf}
 use Rattle.writer.specs.Write.{writeCheck10, written}
@@ -31,9 +33,14 @@ use Rattle.convert.specs.results.Converted.{baseRejection, Converted}
 use Rattle.convert.proofs.Kept.{lifted-table, lifted-rejection}
 
 module _ (f : List ℕ) where
-  -- a file that the base accepted has right lines, and an accepted table
+  -- a file that the base accepted is not too long, and has right lines and an accepted table
+  pub base-sized : baseRejection f ≡ none → (length f ≤ maxFile) × (fileCheck3 f ≡ none)
+  base-sized e =
+      let p = lines-parts f (both-passed (linesRejection f) _ (sym (lines-then f (framesRejection (decoded f))) ∙ e) .0) in
+      (p .1, p .2)
+
   base-lines : baseRejection f ≡ none → fileCheck3 f ≡ none
-  base-lines e = both-passed (fileCheck3 f) _ (both-passed (fileCheck2 f) _ (both-passed (check1 f) _ e .1) .1) .0
+  base-lines e = base-sized e .1
 
   pub base-table : baseRejection f ≡ none → Accepted (decoded f)
   base-table e = rw (lifted-table f) at (accepted-table _ (lifted-rejection f ∙ e) .1)

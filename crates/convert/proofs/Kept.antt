@@ -6,7 +6,7 @@ use mathlib.Core.Bool.{Bool, true, false, cond}
 use mathlib.Core.Option.{none}
 use mathlib.Core.List.{List, [], _∷_, map}
 use lib.Dec.{eqb}
-use lib.ListN.{take, drop}
+use lib.ListN.{length, take, drop, length-map}
 use native.Mathlib.Omega.{arith}
 use borrow.Author.Tests.{ne-eqb}
 use Rattle.hex.specs.Digit.{isSmall, digitOf}
@@ -16,7 +16,6 @@ use Rattle.lines.specs.Lines.{putBefore, linesOf, decode, decoded}
 use Rattle.reader.specs.File.{eachLine, lineCheck3, lineCheck16, fileCheck3, fileCheck16, fileRejection}
 use Rattle.convert.specs.Lift.{lift, lifted}
 use Rattle.convert.specs.results.Converted.{baseRejection}
-use Rattle.convert.proofs.Lifting.{lifted-length}
 
 module _ (b : ℕ) where
   -- a capital has the number of its small letter
@@ -55,6 +54,10 @@ module _ (b : ℕ) where
       go : (small : Bool) → isSmall b ≡ small → isSmall (cond small (b - 32) b) ≡ false
       go true e = let p = bounds 97 102 b e in below 97 102 (b - 32) (omega arith)
       go false e = e
+
+-- a lifted file is as long as the file
+lifted-length : (f : List ℕ) → length (lifted f) ≡ length f
+lifted-length f = length-map f lift
 
 -- of a line
 lifted-digits : (l : List ℕ) → allDigits (lifted l) ≡ allDigits l

@@ -3,19 +3,19 @@
 use frames::Checked;
 use frames::FRAME_SIZE;
 use frames::MAX_TABLE;
-use frames::Rejection;
-use frames::TOO_LONG;
-use treefile::MAX_FILE;
+use reader::SMALL_FILE;
+use reader::SMALL_TABLE;
+use reader::check_lines;
+use tables::check_frames;
 use writer::Written;
+use writer::write_accepted;
 ghost use mathlib.Core.Path.{_≡_};
-ghost use mathlib.Core.List.{_++_};
 ghost use Prim.Native.Nat.{_≤_};
-ghost use lib.ListN.{length, drop};
-ghost use Rattle.convert.specs.Lift.{lift, lifted};
+ghost use lib.ListN.{length};
+ghost use Rattle.reader.specs.File.{maxFile};
+ghost use Rattle.reader.specs.engine.Decoded.{Decoded, Roomy};
 ghost use Rattle.convert.specs.Convert.{convertOutcome};
-
-// How much a small letter is more than its capital.
-const SMALL_MORE: u8 = b'a' - b'A';
+ghost use Rattle.convert.specs.results.Converted.{baseRejection};
 
 // Lifts the letters a to f of a file to capitals, reads it, and writes its table's file: the length in bytes, or the
 // first rejection, and then the buffer is as it was.
@@ -23,45 +23,39 @@ pub fn convert(file: &[u8], converted: &mut [u8]) -> Written
     ensures { λ r. ⌜ record { answer = r; file = now (converted .exit) }
         ≡ convertOutcome (now (file .entry)) (now (converted .entry)) ⌝ }
 {
-    let size = file.len();
-    if MAX_FILE < size {
-        return Written::Rejected(Rejection {
-            number: TOO_LONG,
-            place: 0,
-        });
+    if file.len() <= SMALL_FILE {
+        let mut table = [0u8; SMALL_TABLE];
+        return convert_by(file, &mut table, converted);
     }
-    let mut lifted = [0u8; MAX_FILE];
-    lift_all(file, &mut lifted);
     let mut table = [0u8; MAX_TABLE];
-    match treefile::read(&lifted[..size], &mut table) {
+    convert_by(file, &mut table, converted)
+}
+
+// The same, with a work array for the frames. A digit has one number in either letter case, and is written in capitals:
+// so no letter needs to be lifted before.
+fn convert_by(file: &[u8], table: &mut [u8], converted: &mut [u8]) -> Written
+    requires { ⌜ (length (now file) ≤ maxFile → Roomy (now file) (now table)) ⌝ }
+    ensures { λ r. ⌜ record { answer = r; file = now (converted .exit) }
+        ≡ convertOutcome (now (file .entry)) (now (converted .entry)) ⌝ }
+{
+    match check_file(file, table) {
         Checked::Nodes(nodes) => {
             let end = FRAME_SIZE * nodes;
-            treefile::write(&table[..end], converted)
+            write_accepted(&table[..end], converted, nodes)
         }
         Checked::Rejected(rejection) => Written::Rejected(rejection),
     }
 }
 
-// Lays a file's bytes at the front of a buffer, each small letter as a capital.
-fn lift_all(file: &[u8], buffer: &mut [u8])
-    requires { ⌜ length (now file) ≤ length (now buffer) ⌝ }
-    ensures { λ _. ⌜ now (buffer .exit)
-        ≡ lifted (now (file .entry)) ++ drop (length (now (file .entry))) (now (buffer .entry)) ⌝ }
+// Questions 1 to 9: the number of nodes, whose frames then stand at the table's front, or the first rejection.
+fn check_file(file: &[u8], table: &mut [u8]) -> Checked
+    requires { ⌜ (length (now file) ≤ maxFile → Roomy (now file) (now table)) ⌝ }
+    ensures { λ r. ⌜ Decoded (now (file .entry)) (baseRejection (now (file .entry))) (now (table .exit)) r ⌝ }
 {
-    for i in 0..file.len() {
-        buffer[i] = lift(file[i]);
-    }
-}
-
-// The capital of a letter from a to f; any other byte as it is.
-fn lift(byte: u8) -> u8
-    ensures { λ r. ⌜ r ≡ lift byte ⌝ }
-{
-    if byte < b'a' {
-        return byte;
-    }
-    if b'f' < byte {
-        return byte;
-    }
-    byte - SMALL_MORE
+    let lines = check_lines(file, table);
+    let Checked::Nodes(nodes) = lines else {
+        return lines;
+    };
+    let end = FRAME_SIZE * nodes;
+    check_frames(&table[..end])
 }

@@ -1,6 +1,6 @@
 -- The small files, computed from the definitions; files at the limit; and the last line feed.
 use Prim.Native.Nat.{ℕ, _≤_}
-use mathlib.Core.Path.{_≡_, refl, ap}
+use mathlib.Core.Path.{_≡_, refl, ap, _∙_}
 use mathlib.Core.Option.{some}
 use mathlib.Core.List.{List, [], _∷_, _++_, map}
 use lib.Dec.{eqb}
@@ -16,7 +16,7 @@ use Rattle.lines.specs.Line.{lineFeed, allDigits, isLine, hasSmall, bytesOf}
 use Rattle.lines.specs.Lines.{putBefore, linesOf, decode, decoded}
 use Rattle.reader.specs.File.{eachLine, fileCheck3, fileCheck16, fileRejection, AcceptedFile, readRejection}
 use Rattle.reader.specs.results.Cases.{computed, cases}
-use Rattle.reader.proofs.Reading.{sized, long-refused, accepted-parts}
+use Rattle.reader.proofs.Reading.{file-then, sized, long-refused, accepted-parts}
 use Rattle.reader.proofs.Acceptance.{accepted-nodes}
 
 -- each case is as stated
@@ -29,11 +29,11 @@ module _ (f : List ℕ) where
   -- 53,248 bytes are never too many: questions 3 and 16 and those on frames decide
   pub full-file : length f ≡ 53248
       → fileRejection f ≡ (fileCheck3 f andThen fileCheck16 f andThen framesRejection (decoded f))
-  full-file e = sized f (omega arith) (omega arith)
+  full-file e = file-then f ∙ rw (sized f (omega arith) (omega arith))
 
   -- 53,249 bytes are too many, whatever they are
   pub too-long-file : length f ≡ 53249 → fileRejection f ≡ some (record { number = 2; place = 0 })
-  too-long-file e = long-refused f (omega arith)
+  too-long-file e = file-then f ∙ rw (long-refused f (omega arith))
 
   -- an accepted file of 53,248 bytes has 4,096 nodes, and so has one without the last line feed
   pub full-nodes : AcceptedFile f → 53247 ≤ length f → frames (decoded f) ≡ maxNodes

@@ -1,6 +1,6 @@
 -- The reader, question by question: what it answers and what it leaves in the lent table at each way out.
 use Prim.Native.Nat.{ℕ, _*_, _≤_, _<_}
-use mathlib.Core.Path.{_≡_, sym, ap, _∙_}
+use mathlib.Core.Path.{_≡_, refl, sym, ap, _∙_}
 use mathlib.Core.Option.{Option, none, some}
 use mathlib.Core.List.{List, _++_}
 use lib.ListN.{length, take, drop, length-take}
@@ -18,43 +18,62 @@ use Rattle.frames.proofs.Asked.{answer-nodes, answer-rejected}
 use Rattle.lines.specs.Lines.{linesOf, decoded}
 use Rattle.reader.specs.File.{maxFile, fileCheck2, fileCheck3, fileCheck16, fileRejection}
 use Rattle.reader.specs.File.{readRejection, readAnswer, tableAfter}
-use Rattle.reader.specs.engine.Decoded.{Decoded}
+use Rattle.reader.specs.engine.Decoded.{linesRejection, Decoded}
 use Rattle.reader.proofs.Decoding.{decoded-refused}
 use Rattle.reader.proofs.Counts.{decoded-length, frame-count, frames-few}
 
+-- three questions and then another
+then-three : (a b c x : Option Rejection) → (a andThen b andThen c andThen x) ≡ ((a andThen b andThen c) andThen x)
+then-three (some r) b c x = refl
+then-three none (some r) c x = refl
+then-three none none c x = refl
+
 module _ (f : List ℕ) where
-  -- question 1
-  pub empty-refused : length f ≡ 0 → fileRejection f ≡ some (record { number = 1; place = 0 })
+  -- what comes after questions 1 to 3
+  pub lines-then : (x : Option Rejection)
+      → (check1 f andThen fileCheck2 f andThen fileCheck3 f andThen x) ≡ (linesRejection f andThen x)
+  unfolding linesRejection
+  lines-then x = then-three (check1 f) (fileCheck2 f) (fileCheck3 f) x
+
+  pub file-then : fileRejection f ≡ (linesRejection f andThen fileCheck16 f andThen framesRejection (decoded f))
   unfolding fileRejection
+  file-then = lines-then (fileCheck16 f andThen framesRejection (decoded f))
+
+  -- question 1
+  pub empty-refused : length f ≡ 0 → linesRejection f ≡ some (record { number = 1; place = 0 })
+  unfolding linesRejection
   empty-refused e = rw (le-ltb 0 (length f) (omega arith))
 
   -- question 2
-  pub long-refused : maxFile < length f → fileRejection f ≡ some (record { number = 2; place = 0 })
-  unfolding fileRejection
+  pub long-refused : maxFile < length f → linesRejection f ≡ some (record { number = 2; place = 0 })
+  unfolding linesRejection
   long-refused h = rw (lt-ltb 0 (length f) (omega arith), lt-leb (length f) maxFile h)
 
-  -- a file that passes both is left to questions 3 and 16 and to those on frames
-  pub sized : 0 < length f → length f ≤ maxFile
-      → fileRejection f ≡ (fileCheck3 f andThen fileCheck16 f andThen framesRejection (decoded f))
-  unfolding fileRejection
+  -- a file that passes both is left to question 3
+  pub sized : 0 < length f → length f ≤ maxFile → linesRejection f ≡ fileCheck3 f
+  unfolding linesRejection
   sized h k = rw (lt-ltb 0 (length f) h, le-leb (length f) maxFile k)
+
+  -- what lines that are right have passed
+  pub lines-parts : linesRejection f ≡ none → (0 < length f) × (length f ≤ maxFile) × (fileCheck3 f ≡ none)
+  unfolding linesRejection
+  lines-parts e =
+      let a = both-passed (check1 f) _ e in
+      let b = both-passed (fileCheck2 f) _ (a .1) in (
+        ltb-true 0 (length f) (ask-yes _ _ _ (a .0)),
+        leb-true (length f) maxFile (ask-yes _ _ _ (b .0)),
+        b .1,
+      )
 
   -- what an accepted file has passed
   pub accepted-parts : fileRejection f ≡ none
       → (0 < length f) × (length f ≤ maxFile) × (fileCheck3 f ≡ none) × (fileCheck16 f ≡ none)
       × (framesRejection (decoded f) ≡ none)
-  unfolding fileRejection
   accepted-parts e =
-      let a = both-passed (check1 f) _ e in
-      let b = both-passed (fileCheck2 f) _ (a .1) in
-      let c = both-passed (fileCheck3 f) _ (b .1) in
-      let d = both-passed (fileCheck16 f) _ (c .1) in (
-        ltb-true 0 (length f) (ask-yes _ _ _ (a .0)),
-        leb-true (length f) maxFile (ask-yes _ _ _ (b .0)),
-        c .0,
-        d .0,
-        d .1,
-      )
+      let a = both-passed (linesRejection f) _ (sym file-then ∙ e) in
+      let b = both-passed (fileCheck16 f) _ (a .1) in
+      let p = lines-parts (a .0) in
+      (p .0, p .1, p .2, b .0, b .1)
 
 -- a table whose front holds a file's n frames, after questions that passed
 pub record Front (f : List ℕ) (x : Option Rejection) (table : List ℕ) (n : ℕ) : Type 0 where
@@ -93,29 +112,30 @@ module _ (f : List ℕ) (x : Option Rejection) (table : List ℕ) (r : Checked) 
   pub decoded-rejected : (y : Rejection) → r ≡ Rejected y → x ≡ some y
   decoded-rejected y e = answer-rejected (frames (decoded f)) y x (sym e ∙ d .answered)
 
-module _ (f table : List ℕ) (some-bytes : 0 < length f) (few-bytes : length f ≤ maxFile) where
-  -- question 3
-  pub lines-refused : (r : Checked) → Decoded f (fileCheck3 f) table r → (y : Rejection) → r ≡ Rejected y
-      → Decoded f (fileRejection f) table r
-  lines-refused r d y e =
-      let refused = decoded-rejected f (fileCheck3 f) table r d y e in
-      rw e (decoded-refused f (fileRejection f) table y (sized f some-bytes few-bytes ∙ rw refused))
+module _ (f table : List ℕ) where
+  -- questions 1 to 3, whatever comes after them
+  pub lines-refused : (x : Option Rejection) (r : Checked) → Decoded f (linesRejection f) table r → (y : Rejection)
+      → r ≡ Rejected y → Decoded f (linesRejection f andThen x) table r
+  lines-refused x r d y e =
+      let refused = decoded-rejected f (linesRejection f) table r d y e in
+      rw e (decoded-refused f (linesRejection f andThen x) table y (rw refused))
 
-  -- question 16
-  pub letters-refused : (n : ℕ) → Front f (fileCheck3 f) table n → (y : Rejection) → fileCheck16 f ≡ some y
-      → Decoded f (fileRejection f) table (Rejected y)
-  letters-refused n w y e =
-      decoded-refused f (fileRejection f) table y (sized f some-bytes few-bytes ∙ rw (w .passed, e))
+  module _ (n : ℕ) (w : Front f (linesRejection f) table n) where
+    -- the question after them
+    pub next-refused : (q x : Option Rejection) (y : Rejection) → q ≡ some y
+        → Decoded f (linesRejection f andThen q andThen x) table (Rejected y)
+    next-refused q x y e =
+        decoded-refused f (linesRejection f andThen q andThen x) table y (rw (w .passed, e))
 
-  -- questions 4 to 9, put to the front of the table
-  pub frames-asked : (r : Checked) (n : ℕ) → Front f (fileCheck3 f) table n → fileCheck16 f ≡ none
-      → r ≡ answer (frames (take (frameSize * n) table)) (framesRejection (take (frameSize * n) table))
-      → Decoded f (fileRejection f) table r
-  frames-asked r n w c e =
-      record {
-        answered = e ∙ rw (w .bytes, sized f some-bytes few-bytes, w .passed, c);
-        filled = λ p. rw (← w .size) (w .bytes);
-      }
+    -- questions 4 to 9, put to the front of the table
+    pub frames-asked : (q : Option Rejection) (r : Checked) → q ≡ none
+        → r ≡ answer (frames (take (frameSize * n) table)) (framesRejection (take (frameSize * n) table))
+        → Decoded f (linesRejection f andThen q andThen framesRejection (decoded f)) table r
+    frames-asked q r c e =
+        record {
+          answered = e ∙ rw (w .bytes, w .passed, c);
+          filled = λ p. rw (← w .size) (w .bytes);
+        }
 
 -- what the reader leaves
 abbrev pub Outcome : List ℕ → List ℕ → Checked → List ℕ → Type 0

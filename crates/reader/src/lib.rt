@@ -20,7 +20,7 @@ ghost use lib.ListN.{length};
 ghost use Rattle.frames.specs.Rejection.{answer};
 ghost use Rattle.lines.specs.Lines.{linesOf};
 ghost use Rattle.reader.specs.File.{maxFile, fileCheck3, fileCheck16, fileRejection, readAnswer, tableAfter};
-ghost use Rattle.reader.specs.engine.Decoded.{Decoded, Roomy};
+ghost use Rattle.reader.specs.engine.Decoded.{linesRejection, Decoded, Roomy};
 
 // The most bytes of a file.
 pub const MAX_FILE: usize = LINE_SIZE * MAX_NODES;
@@ -28,9 +28,9 @@ pub const MAX_FILE: usize = LINE_SIZE * MAX_NODES;
 // A file of at most so many lines is small, and so are then its bytes and the work array for its frames.
 const SMALL_LINES: usize = 64;
 
-const SMALL_FILE: usize = LINE_SIZE * SMALL_LINES;
+pub const SMALL_FILE: usize = LINE_SIZE * SMALL_LINES;
 
-const SMALL_TABLE: usize = FRAME_SIZE * SMALL_LINES;
+pub const SMALL_TABLE: usize = FRAME_SIZE * SMALL_LINES;
 
 // The number of the question about small letters (SPEC 4.2).
 const SMALL_LETTER: u8 = 16;
@@ -71,13 +71,7 @@ fn check_file(file: &[u8], table: &mut [u8]) -> Checked
     requires { ⌜ (length (now file) ≤ maxFile → Roomy (now file) (now table)) ⌝ }
     ensures { λ r. ⌜ Decoded (now (file .entry)) (fileRejection (now (file .entry))) (now (table .exit)) r ⌝ }
 {
-    if file.len() == 0 {
-        return rejected(EMPTY, 0);
-    }
-    if MAX_FILE < file.len() {
-        return rejected(TOO_LONG, 0);
-    }
-    let lines = decode(file, table);
+    let lines = check_lines(file, table);
     let Checked::Nodes(nodes) = lines else {
         return lines;
     };
@@ -86,6 +80,21 @@ fn check_file(file: &[u8], table: &mut [u8]) -> Checked
     }
     let end = FRAME_SIZE * nodes;
     check_frames(&table[..end])
+}
+
+// Questions 1 to 3, which take letters in either case: the number of lines, whose frames then stand at the table's
+// front, or the first rejection.
+pub fn check_lines(file: &[u8], table: &mut [u8]) -> Checked
+    requires { ⌜ (length (now file) ≤ maxFile → Roomy (now file) (now table)) ⌝ }
+    ensures { λ r. ⌜ Decoded (now (file .entry)) (linesRejection (now (file .entry))) (now (table .exit)) r ⌝ }
+{
+    if file.len() == 0 {
+        return rejected(EMPTY, 0);
+    }
+    if MAX_FILE < file.len() {
+        return rejected(TOO_LONG, 0);
+    }
+    decode(file, table)
 }
 
 // Question 3: the number of lines, whose frames then stand at the table's front, or the rejection.

@@ -3,7 +3,6 @@ use frames::Checked;
 use frames::FRAME_SIZE;
 use frames::Rejection;
 use frames::SHORT_BUFFER;
-use frames::rejected;
 use hex::BASE;
 use hex::capital;
 use lines::LINE_DIGITS;
@@ -15,10 +14,10 @@ ghost use mathlib.Core.List.{_++_};
 ghost use Prim.Native.Nat.{_*_, _≤_};
 ghost use lib.ListN.{length, drop};
 ghost use Rattle.frames.specs.Frame.{frameSize, maxNodes, frames};
-ghost use Rattle.frames.specs.Rejection.{answer};
+ghost use Rattle.frames.specs.Check.{Accepted};
 ghost use Rattle.lines.specs.Line.{lineSize};
 ghost use Rattle.writer.specs.Encoded.{lineOf, encode};
-ghost use Rattle.writer.specs.Write.{writeRejection, writeOutcome};
+ghost use Rattle.writer.specs.Write.{writeOutcome};
 
 // The answer of the writer: the file's length in bytes, or the first question that got a "no".
 pub enum Written {
@@ -32,27 +31,26 @@ pub fn write(table: &[u8], file: &mut [u8]) -> Written
     ensures { λ r. ⌜ record { answer = r; file = now (file .exit) }
         ≡ writeOutcome (now (table .entry)) (now (file .entry)) ⌝ }
 {
-    match ask(table, file.len()) {
-        Checked::Nodes(nodes) => {
-            write_lines(table, file, nodes);
-            Written::Length(LINE_SIZE * nodes)
-        }
+    match check(table) {
+        Checked::Nodes(nodes) => write_accepted(table, file, nodes),
         Checked::Rejected(rejection) => Written::Rejected(rejection),
     }
 }
 
-// Questions 1 to 10, for a buffer of so many bytes: the number of nodes, or the first rejection.
-fn ask(table: &[u8], room: usize) -> Checked
-    ensures { λ r. ⌜ r ≡ answer (frames (now (table .entry))) (writeRejection (now (table .entry)) room) ⌝ }
+// The same for an accepted table of so many nodes: question 10 is left.
+pub fn write_accepted(table: &[u8], file: &mut [u8], nodes: usize) -> Written
+    requires { ⌜ (Accepted (now table)) × (nodes ≡ frames (now table)) ⌝ }
+    ensures { λ r. ⌜ record { answer = r; file = now (file .exit) }
+        ≡ writeOutcome (now (table .entry)) (now (file .entry)) ⌝ }
 {
-    let checked = check(table);
-    let Checked::Nodes(nodes) = checked else {
-        return checked;
-    };
-    if room < LINE_SIZE * nodes {
-        return rejected(SHORT_BUFFER, 0);
+    if file.len() < LINE_SIZE * nodes {
+        return Written::Rejected(Rejection {
+            number: SHORT_BUFFER,
+            place: 0,
+        });
     }
-    checked
+    write_lines(table, file, nodes);
+    Written::Length(LINE_SIZE * nodes)
 }
 
 // The lines of the first nodes of a table, each laid behind the ones before it.

@@ -7,9 +7,15 @@ use lib.ListN.{length, take}
 use Rattle.frames.specs.declared.Rejection.{Rejection}
 use Rattle.frames.specs.declared.Checked.{Checked}
 use Rattle.frames.specs.Frame.{frameSize, frames}
-use Rattle.frames.specs.Rejection.{answer}
+use Rattle.frames.specs.Rejection.{_andThen_, answer}
+use Rattle.frames.specs.Check.{check1}
 use Rattle.lines.specs.Line.{lineSize}
 use Rattle.lines.specs.Lines.{decoded}
+use Rattle.reader.specs.File.{fileCheck2, fileCheck3}
+
+-- the first "no" to questions 1 to 3, which see no letter case
+unfoldable pub linesRejection : List ℕ → Option Rejection
+linesRejection f = check1 f andThen fileCheck2 f andThen fileCheck3 f
 
 -- the answer r to questions about a file, of which x is the first "no"; where there is none, the table begins with the
 -- bytes that the file's lines stand for

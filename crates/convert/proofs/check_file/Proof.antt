@@ -1,0 +1,85 @@
+-- `convert::check_file` meets its contract: each way out is that of the questions on lines or of the questions on frames.
+use mathlib.Core.Path.{refl, sym}
+use mathlib.Core.Option.{none}
+use native.Mathlib.Omega.{arith}
+use borrow.Author.Needs.{needs}
+use denote.Ref.{now}
+use lib.Seq.{length-take-le}
+use Rattle.frames.specs.Check.{framesRejection}
+use Rattle.lines.specs.Lines.{decoded}
+use Rattle.reader.specs.engine.Decoded.{linesRejection}
+use Rattle.reader.proofs.Reading.{Front, front-room, decoded-front, lines-parts, lines-then}
+use Rattle.reader.proofs.Reading.{lines-refused, frames-asked}
+use Rattle.convert.proofs.check_file.Statement.{statement}
+use Rattle.convert.proofs.check_file.Tie as tie
+
+-- the function's entry, from the lines on
+abbrev start : tie.After-known-told → tie.Start
+start c = c .before .before .before .before .before .before .before .before .before
+
+-- the lines have passed questions 1 to 3
+front : (c : tie.After-known-told) →
+    let f = now (start c .args .file) in
+    let table = c .before .before .before .before .before .check-lines .last .1 .0 in
+    Front f (linesRejection f) table (c .before .lines .given .0 .0)
+front c =
+    let d = c .before .before .before .before .before .check-lines in
+    decoded-front _ _ _ _ (d .ensures) (λ p. (let q = lines-parts _ p in (q .1, q .2))) _ (c .before .lines .given .1)
+
+check-lines-requires : tie.Need-check-lines-requires
+check-lines-requires c κs = search needs
+
+enum-known-lines : tie.Need-enum-known-lines
+enum-known-lines c = search needs
+
+enum-told : tie.Need-enum-told
+enum-told c = search needs
+
+same-length : tie.Need-same-length
+same-length c = search needs
+
+returns : tie.Need-returns
+returns c =
+    let l = c .before .before .before .before in
+    let f = now (l .before .before .before .before .args .file) in
+    let frames = framesRejection (decoded f) in
+    rw (lines-then f frames) (lines-refused _ _ frames _ (l .check-lines .ensures) _ (c .enum-told .given .1))
+
+mul-end : tie.Need-mul-end
+mul-end c = omega (arith, front c .few)
+
+slice-reshare-prefix-check-frames : tie.Need-slice-reshare-prefix-check-frames
+slice-reshare-prefix-check-frames c = front-room _ _ _ _ (front c)
+
+slice-aggregate-check-frames : tie.Need-slice-aggregate-check-frames
+slice-aggregate-check-frames c = sym (length-take-le _ _ (front-room _ _ _ _ (front (c .before))))
+
+check-frames-requires : tie.Need-check-frames-requires
+check-frames-requires c κs =
+    let w = front (c .before) in rw (w .bytes) (omega (arith, w .few, w .nodes))
+
+same-length-2 : tie.Need-same-length-2
+same-length-2 c = search needs
+
+returns-2 : tie.Need-returns-2
+returns-2 c =
+    let k = c .before .before in
+    let f = now (start k .args .file) in
+    rw (lines-then f (framesRejection (decoded f)))
+    (frames-asked _ _ _ (front k) none _ refl (c .check-frames .ensures))
+
+pub check-file-spec : {M : Type 1} → statement M
+check-file-spec =
+    tie.close
+    (tie.spec
+    check-lines-requires
+    enum-known-lines
+    enum-told
+    same-length
+    returns
+    mul-end
+    slice-reshare-prefix-check-frames
+    slice-aggregate-check-frames
+    check-frames-requires
+    same-length-2
+    returns-2)
