@@ -1,14 +1,14 @@
 -- What `digit` computes is the number of a digit, for each of the 256 bytes: one test, computed over all of them.
-use Prim.Native.Nat.{ℕ, zero, suc, _+_, _-_, _*_, _%_, _≤_, _<_}
+use Prim.Native.Nat.{ℕ, zero, suc, _+_, _-_, _*_, _/_, _%_, _≤_, _<_}
 use mathlib.Core.Path.{_≡_, refl, subst}
 use mathlib.Core.Bool.{Bool, true, _&&_}
 use lib.Dec.{leb, eqb}
 use native.Mathlib.Omega.{arith}
 use native.Mathlib.Decide.{decLt}
-use borrow.Author.Tests.{leb-true, eqb-true}
+use borrow.Author.Tests.{le-leb, lt-leb, leb-true, eqb-true}
 use Rattle.lists.proofs.Choice.{and-both}
 use Rattle.hex.specs.Digit.{noDigit, digitOf}
-use Rattle.hex.specs.engine.Kinds.{oneWithin}
+use Rattle.hex.specs.engine.Kinds.{oneFrom, oneWithin}
 
 -- the test f passes for each number below n
 unfoldable every : (ℕ → Bool) → ℕ → Bool
@@ -25,16 +25,45 @@ every-at f (suc n) e b h =
     ]
 every-at f zero e b h = absurd (omega arith)
 
+-- times 0 or 1
+pub times-bit : (x y : ℕ) → y ≤ 1 → x * y ≤ x
+times-bit x zero h = omega arith
+times-bit x (suc zero) h = omega arith
+times-bit x (suc (suc y)) h = absurd (omega arith)
+
+-- half of a byte, rounded as half of a is, tells whether the byte is less than a
+pub halves : (a b : ℕ) → 0 < a → a < 256 → b < 256
+    → (b / 2 + b % 2 * (a % 2) + (128 - (a / 2 + a % 2))) / 128 ≡ oneFrom a b
+halves a b h l m = go (a % 2) refl (omega arith)
+  where
+    from : (q : ℕ) → (a ≤ b → q ≡ 1) → (b < a → q ≡ 0) → q ≡ oneFrom a b
+    from q f g =
+        elim (decLt b a) [
+          | yes p ↦ rw (lt-leb a b p) (g p)
+          | no p ↦ (let k : a ≤ b = omega arith in rw (le-leb a b k) (f k))
+        ]
+
+    go : (odd : ℕ) → a % 2 ≡ odd → odd < 2 → (b / 2 + b % 2 * odd + (128 - (a / 2 + odd))) / 128 ≡ oneFrom a b
+    go zero e p = from _ (λ k. omega arith) (λ k. omega arith)
+    go (suc zero) e p = from _ (λ k. omega arith) (λ k. omega arith)
+    go (suc (suc n)) e p = absurd (omega arith)
+
+-- a range is what is from its first byte on and not behind its last
+pub ranges : (a z b : ℕ) → a ≤ z → (oneFrom (z + 1) b ≤ oneFrom a b) × (oneFrom a b - oneFrom (z + 1) b ≡ oneWithin a z b)
+ranges a z b h =
+    elim (decLt b a) [
+      | yes p ↦ rw (lt-leb a b p, lt-leb (z + 1) b (omega arith)) (omega arith, refl)
+      | no p ↦ elim (decLt z b) [
+        | yes q ↦ (let k : a ≤ b = omega arith in
+            rw (le-leb a b k, le-leb (z + 1) b (omega arith), lt-leb b z q) (omega arith, refl))
+        | no q ↦ (let k : a ≤ b = omega arith in
+            rw (le-leb a b k, lt-leb (z + 1) b (omega arith), le-leb b z (omega arith)) (omega arith, refl))
+      ]
+    ]
+
 -- what a letter's number is more than its low four bits
 abbrev letterMore : ℕ
 letterMore = 9
-
--- what is added to the number of no digit, and what is taken from it, where it is known of which kind a byte is
-abbrev pub added : (figure letter b : ℕ) → ℕ
-added figure letter b = (figure + letter) * (b % noDigit)
-
-abbrev pub taken : (figure letter : ℕ) → ℕ
-taken figure letter = noDigit * figure + (noDigit - letterMore) * letter
 
 -- of which kind it is
 abbrev figureAt : ℕ → ℕ
@@ -43,12 +72,12 @@ figureAt b = oneWithin 48 57 b
 abbrev letterAt : ℕ → ℕ
 letterAt b = oneWithin 65 70 b + oneWithin 97 102 b
 
--- it is of one kind at most, nothing goes past a byte or below 0, and the number is the digit's
+-- it is of one kind at most, and the number is the digit's
 unfoldable right : ℕ → Bool
 right b =
-    let a = noDigit + added (figureAt b) (letterAt b) b in
-    let t = taken (figureAt b) (letterAt b) in
-    leb (figureAt b + letterAt b) 1 && (leb a 255 && (leb t a && eqb (a - t) (digitOf b)))
+    let letter = letterAt b in
+    let other = 1 - (figureAt b + letter) in
+    leb (figureAt b + letter) 1 && eqb (b % noDigit + letterMore * letter + (noDigit - b % noDigit) * other) (digitOf b)
 
 -- for each of the 256 bytes
 all-right : every right 256 ≡ true
@@ -58,21 +87,12 @@ all-right = refl
 -- what the arithmetic of `digit` needs, and gives
 pub record Right (figure letter b : ℕ) : Type 0 where
   pub few : figure + letter ≤ 1
-  pub fits : noDigit + added figure letter b ≤ 255
-  pub less : taken figure letter ≤ noDigit + added figure letter b
-  pub number : noDigit + added figure letter b - taken figure letter ≡ digitOf b
+  pub number :
+      b % noDigit + letterMore * letter + (noDigit - b % noDigit) * (1 - (figure + letter)) ≡ digitOf b
 
 pub digit-right : (b figure upper lower : ℕ) → b < 256 → figure ≡ oneWithin 48 57 b
     → upper ≡ oneWithin 65 70 b → lower ≡ oneWithin 97 102 b → Right figure (upper + lower) b
 unfolding right
 digit-right b figure upper lower h e f g =
     let p = and-both _ _ (every-at right 256 all-right b h) in
-    let q = and-both _ _ (p .1) in
-    let r = and-both _ _ (q .1) in
-    rw (e, f, g)
-    (record {
-      few = leb-true _ _ (p .0);
-      fits = leb-true _ _ (q .0);
-      less = leb-true _ _ (r .0);
-      number = eqb-true _ _ (r .1);
-    })
+    rw (e, f, g) (record { few = leb-true _ _ (p .0); number = eqb-true _ _ (p .1) })

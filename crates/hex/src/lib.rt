@@ -2,26 +2,24 @@
 ghost use mathlib.Core.Path.{_≡_};
 ghost use Prim.Native.Nat.{_<_, _≤_};
 ghost use Rattle.hex.specs.Digit.{isSmall, noDigit, digitOf, capitalOf};
-ghost use Rattle.hex.specs.engine.Kinds.{oneWithin};
+ghost use Rattle.hex.specs.engine.Kinds.{oneFrom, oneWithin};
 
 // How many digits there are, and how many of them are figures.
 pub const BASE: u8 = 16;
 
 const FIGURES: u8 = 10;
 
-// What a byte that is no digit gives; what a letter's number is more than its low four bits, and what that lacks to the
-// number of no digit.
-const NO_DIGIT: u32 = 16;
+// What a byte that is no digit gives, and what a letter's number is more than its low four bits.
+const NO_DIGIT: u8 = 16;
 
-const LETTER_MORE: u32 = 9;
+const LETTER_MORE: u8 = 9;
 
-const LETTER_LACKS: u32 = NO_DIGIT - LETTER_MORE;
-
-// How many bytes there are.
-const BYTES: u32 = 256;
+// How many numbers half a byte's may be.
+const HALVES: u8 = 128;
 
 // The number of a hexadecimal digit in either letter case, 0 to 15; NO_DIGIT for any other byte. It is arithmetic on
-// the byte: a figure's number is its low four bits, a letter's is LETTER_MORE more.
+// the byte: a figure's number is its low four bits, a letter's is LETTER_MORE more. No sum goes past a byte, so that the
+// compiler reads many digits in one register.
 pub fn digit(byte: u8) -> u8
     ensures { λ r. ⌜ r ≡ digitOf byte ⌝ }
 {
@@ -29,17 +27,26 @@ pub fn digit(byte: u8) -> u8
     let upper = one_within(b'A', b'F', byte);
     let lower = one_within(b'a', b'f', byte);
     let letter = upper + lower;
-    let low = (byte % BASE) as u32;
-    (NO_DIGIT + (figure + letter) * low - (NO_DIGIT * figure + LETTER_LACKS * letter)) as u8
+    let other = 1 - (figure + letter);
+    let low = byte % BASE;
+    low + LETTER_MORE * letter + (NO_DIGIT - low) * other
 }
 
-// 1 if the byte is one of those from the first to the last, else 0: (byte + BYTES - c) / BYTES is 1 from the byte c on.
-fn one_within(first: u8, last: u8, byte: u8) -> u32
-    requires { ⌜ first ≤ last ⌝ }
+// 1 if the byte is one of those from the first to the last, else 0.
+fn one_within(first: u8, last: u8, byte: u8) -> u8
+    requires { ⌜ (0 < first) × (first ≤ last) × (last < 255) ⌝ }
     ensures { λ r. ⌜ r ≡ oneWithin first last byte ⌝ }
 {
-    let b = byte as u32;
-    (b + BYTES - first as u32) / BYTES - (b + BYTES - 1 - last as u32) / BYTES
+    one_from(first, byte) - one_from(last + 1, byte)
+}
+
+// 1 from the byte `first` on, else 0: half the byte, rounded as half of `first` is, is compared by a quotient.
+fn one_from(first: u8, byte: u8) -> u8
+    requires { ⌜ 0 < first ⌝ }
+    ensures { λ r. ⌜ r ≡ oneFrom first byte ⌝ }
+{
+    let odd = first % 2;
+    (byte / 2 + byte % 2 * odd + (HALVES - (first / 2 + odd))) / HALVES
 }
 
 // The digit of a number, in capital letters.

@@ -1,6 +1,13 @@
 -- Whether a byte is in a range, as a number that the arithmetic on a digit counts with.
-use Prim.Native.Nat.{ℕ, _+_, _-_, _/_}
+use Prim.Native.Nat.{ℕ}
+use mathlib.Core.Bool.{cond}
+use lib.Dec.{leb}
+use Rattle.hex.specs.Digit.{within}
 
--- 1 if the byte b is one of those from a to z, else 0, by two quotients
+-- 1 from the byte a on, else 0
+abbrev pub oneFrom : (a b : ℕ) → ℕ
+oneFrom a b = cond (leb a b) 1 0
+
+-- 1 if the byte b is one of those from a to z, else 0
 abbrev pub oneWithin : (a z b : ℕ) → ℕ
-oneWithin a z b = (b + 256 - a) / 256 - (b + 256 - 1 - z) / 256
+oneWithin a z b = cond (within a z b) 1 0

@@ -1,0 +1,33 @@
+-- `hex::one_from` meets its contract: the quotient is 1 from half of the first byte on.
+use Prim.Native.Nat.{_*_, _%_, _≤_}
+use native.Mathlib.Omega.{arith}
+use borrow.Author.Needs.{needs}
+use Rattle.hex.proofs.DigitArithmetic.{times-bit, halves}
+use Rattle.hex.proofs.one_from.Statement.{statement}
+use Rattle.hex.proofs.one_from.Tie as tie
+
+-- the product is a bit
+bit : (c : tie.Start) → c .args .byte % 2 * (c .args .first % 2) ≤ 1
+bit c = omega (arith, times-bit (c .args .byte % 2) (c .args .first % 2) (omega arith))
+
+mul-result : tie.Need-mul-result
+mul-result c = record { fits = omega (arith, bit c) }
+
+add-result : tie.Need-add-result
+add-result c = record { fits = omega (arith, bit c) }
+
+add-result-2 : tie.Need-add-result-2
+add-result-2 c = search needs
+
+sub-result : tie.Need-sub-result
+sub-result c = search needs
+
+add-result-3 : tie.Need-add-result-3
+add-result-3 c = record { fits = omega (arith, bit c) }
+
+returns : tie.Need-returns
+returns c = halves (c .args .first) (c .args .byte) (c .pre) (omega arith) (omega arith)
+
+pub one-from-spec : {M : Type 1} → statement M
+one-from-spec =
+    tie.close (tie.spec mul-result add-result add-result-2 sub-result add-result-3 returns)
