@@ -1,13 +1,12 @@
 -- Storing the bytes of one line, each behind the ones before.
 use Prim.Native.Nat.{ℕ, suc, _+_, _*_, _<_}
-use mathlib.Core.Path.{_≡_, sym, _∙_}
+use mathlib.Core.Path.{_≡_, refl, sym, _∙_}
 use mathlib.Core.Bool.{Bool, true, false}
 use mathlib.Core.List.{List, [], _∷_, _++_, append-nil}
 use lib.ListN.{length, getD, set, take, drop-of-length-le}
 use lib.Seq.{sets, sets-eq, take-suc, take-length, length-take-le}
 use native.Mathlib.Omega.{arith}
 use native.Mathlib.Numerals.{add-one}
-use Rattle.lists.proofs.Choice.{clash}
 use Rattle.frames.specs.Frame.{frameSize}
 use Rattle.hex.specs.Digit.{noDigit, digitOf}
 use Rattle.lines.specs.Line.{lineDigits, allDigits, bytesOf}
@@ -30,20 +29,19 @@ stored-next t bs i k h =
     ≡ sets t i (take k bs ++ (getD bs k 0 ∷ [])) = stored-last t (take k bs) i (getD bs k 0) in
     rw (add-one, take-suc bs k 0 h) (rw many at last)
 
--- where the answer is no, nothing is said of the table
-pub stored-refused : (is : Bool) (bytes t : List ℕ) (to : ℕ) (after : List ℕ) → is ≡ false
-    → Stored is bytes t to after false
-stored-refused is bytes t to after e =
+-- where the answer is no, the table is as it was
+pub stored-refused : (is : Bool) (bytes t : List ℕ) (to : ℕ) → is ≡ false → Stored is bytes t to t false
+stored-refused is bytes t to e =
     record {
       answered = sym e;
-      stored = λ p. clash (cc);
+      stored = refl;
     }
 
 -- where the answer is yes, bytes that fill the table are its content
 pub stored-whole : (is : Bool) (bytes t after : List ℕ) (r : Bool) → Stored is bytes t 0 after r → r ≡ true
     → length bytes ≡ length t → after ≡ bytes
 stored-whole is bytes t after r s h e =
-    s .stored h ∙ sets-eq bytes t 0 (omega arith)
+    rw h at (s .stored) ∙ sets-eq bytes t 0 (omega arith)
     ∙ rw (drop-of-length-le t {i = 0 + length bytes} (omega arith)) (append-nil bytes)
 
 module _ (line t : List ℕ) (to k : ℕ) (twelve : length line ≡ lineDigits) (inside : k < frameSize) where
@@ -63,5 +61,5 @@ stored-all line t to table k twelve h e a =
     let six : length (bytesOf line) ≡ k = bytes-length frameSize line twelve ∙ sym h in
     record {
       answered = sym a;
-      stored = λ p. e ∙ rw (← six, take-length (bytesOf line));
+      stored = e ∙ rw (← six, take-length (bytesOf line));
     }

@@ -47,7 +47,7 @@ returns c =
     let r = c .before .before in
     let k = r .before .before .before .before in
     let s = k .before .before .before .before in
-    stored-refused _ _ _ _ _
+    stored-refused _ _ _ _
     (line-wrong (s .args .line .now) _ (s .pre .0) (k .copy .ensures .1) _ _ (r .read-digits .ensures) (omega arith))
 
 loop-holds : tie.Need-loop-holds Inv-loop μ-loop

@@ -12,10 +12,10 @@ use Rattle.lines.proofs.decode_line.Statement.{statement}
 use Rattle.lines.proofs.decode_line.Tie as tie
 
 returns : tie.Need-returns
-returns c = stored-refused _ _ _ _ _ (line-short _ _ (omega arith))
+returns c = stored-refused _ _ _ _ (line-short _ _ (omega arith))
 
 returns-2 : tie.Need-returns-2
-returns-2 c = stored-refused _ _ _ _ _ (line-short _ _ (omega arith))
+returns-2 c = stored-refused _ _ _ _ (line-short _ _ (omega arith))
 
 add-end : tie.Need-add-end
 add-end c = search needs
@@ -25,7 +25,7 @@ is-closed-requires c κs = search needs
 
 returns-3 : tie.Need-returns-3
 returns-3 c =
-    stored-refused _ _ _ _ _ (line-open _ _ (sym (c .before .is-closed .ensures) ∙ not-true _ (c .if3 .taken)))
+    stored-refused _ _ _ _ (line-open _ _ (sym (c .before .is-closed .ensures) ∙ not-true _ (c .if3 .taken)))
 
 sub-decode-digits : tie.Need-sub-decode-digits
 sub-decode-digits c = search needs

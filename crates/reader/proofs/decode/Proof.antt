@@ -55,7 +55,7 @@ loop-again c =
     let d = c .before .before .before .decode-line in
     let is : d .result ≡ true = not-false _ (c .if1 .left) in (
       search needs,
-      rw (d .ensures .stored is)
+      rw (rw is at (d .ensures .stored))
           (decoding-next _ _ _ _ (omega arith) (l .loop .inv .1) (omega arith)
           (sym (d .ensures .answered) ∙ is)),
     )
