@@ -1,6 +1,6 @@
 -- The shorter of two certificates (02: N13, of two proofs), sentence by sentence, over the definitions that the
--- contracts of `shorter::choose` and `shorter::flags` cite. The table is t, the lent certificates are f and s. Both are
--- lent to be read only, and so keep their bytes.
+-- contract of `shorter::select` cites: `choice`, `chosenFlags` and `pointerBy`. The table is t, the lent certificates
+-- are f and s. Both are lent to be read only, and so keep their bytes.
 use Prim.Native.Nat.{ℕ, _≤_, _<_}
 use mathlib.Core.Path.{_≡_}
 use mathlib.Core.Logic.{_⊎_}
@@ -20,7 +20,7 @@ use Rattle.verify.specs.Flags.{member}
 use Rattle.verify.specs.Check.{verdict}
 use Rattle.verify.specs.Certificate.{Certificate}
 use Rattle.shorter.specs.declared.Choice.the-variants.{First, Second, Rejected}
-use Rattle.shorter.specs.Choice.{flaggedLeaves, choice, chosenFlags}
+use Rattle.shorter.specs.Choice.{flaggedLeaves, choice, chosenFlags, pointerBy}
 use Rattle.shorter.proofs.Leaves.{flagged-pair}
 use Rattle.shorter.proofs.Theorems.{table-rejected, both-first, both-second, only-first, only-second, neither}
 use Rattle.shorter.proofs.Theorems.{handed-first, handed-second, handed-none, handed-size, handed-value}
@@ -79,3 +79,8 @@ module _ (t f s : List ℕ) where
   pub handed-accepted : (choice t f s ≡ First) ⊎ (choice t f s ≡ Second)
       → verdict t (chosenFlags t f s) ≡ verdicts.Value (valueOf (minimax (valuation t) (tree t)))
   handed-accepted = handed-value t f s
+
+  -- and begins where the chosen certificate does, in its own memory
+  pub own-memory : (p q : ℕ × ℕ) → (choice t f s ≡ First → pointerBy p q (choice t f s) ≡ p)
+      × (choice t f s ≡ Second → pointerBy p q (choice t f s) ≡ q)
+  own-memory p q = (λ e. rw e, λ e. rw e)

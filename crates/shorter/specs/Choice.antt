@@ -57,3 +57,9 @@ flagsBy t first second (Rejected r) = []
 -- what is handed back
 abbrev pub chosenFlags : (t first second : List ℕ) → List ℕ
 chosenFlags t first second = flagsBy t first second (choice t first second)
+
+-- where they begin: at the front of the chosen certificate, and on a rejection at that of the first
+abbrev pub pointerBy : (first second : ℕ × ℕ) → Choice → ℕ × ℕ
+pointerBy first second First = first
+pointerBy first second Second = second
+pointerBy first second (Rejected r) = first

@@ -14,6 +14,7 @@ ghost use Rattle.frames.specs.Frame.{frames};
 ghost use Rattle.frames.specs.Formed.{WellFormed};
 ghost use Rattle.verify.specs.Check.{flagsRejection};
 ghost use Rattle.shorter.specs.Choice.{flaggedLeaf, flaggedLeaves, fewerSecond, choiceBy, choice, chosenFlags};
+ghost use Rattle.shorter.specs.Choice.{pointerBy};
 ghost use Rattle.shorter.specs.declared.Choice.the-variants.{First, Second};
 
 // Which of two certificates is handed back, or a rejection.
@@ -23,8 +24,30 @@ pub enum Choice {
     Rejected(Rejection),
 }
 
-// Questions 1 to 9 of the table, then 10 to 14 of each certificate by itself: which one is accepted, of both the one
+// What is handed back of two certificates: the flags of the chosen one, one a node, as a part of its own memory, and
+// which one it is; on a rejection an empty part, and the rejection.
+pub struct Selection<'r> {
+    pub flags: &'r [u8],
+    pub choice: Choice,
+}
+
+// Questions 1 to 9 of the table, then 10 to 14 of each certificate by itself: the one that is accepted, of both the one
 // with fewer flagged leaves, the first on a tie; where neither is, the first one's rejection.
+pub fn select<'t, 'a: 'r, 'b: 'r, 'r>(
+    table: &'t [u8],
+    first: &'a [u8],
+    second: &'b [u8],
+) -> Selection<'r>
+    ensures { λ r. ⌜ (r .choice ≡ choice (now (table .entry)) (now (first .entry)) (now (second .entry)))
+        × (now (r .flags) ≡ chosenFlags (now (table .entry)) (now (first .entry)) (now (second .entry)))
+        × (r .flags .ptr ≡ pointerBy (first .entry .ptr) (second .entry .ptr) (r .choice)) ⌝ }
+{
+    let chosen = choose(table, first, second);
+    let part = flags(table, first, second, chosen);
+    paired(part, chosen)
+}
+
+// Which of two certificates is handed back, or the rejection.
 pub fn choose(table: &[u8], first: &[u8], second: &[u8]) -> Choice
     ensures { λ r. ⌜ r ≡ choice (now (table .entry)) (now (first .entry)) (now (second .entry)) ⌝ }
 {
@@ -35,11 +58,12 @@ pub fn choose(table: &[u8], first: &[u8], second: &[u8]) -> Choice
     }
 }
 
-// The flags of the one that is chosen, one a node, as a part of its own memory; empty exactly on a rejection.
-pub fn flags<'a>(table: &[u8], first: &'a [u8], second: &'a [u8]) -> &'a [u8]
-    ensures { λ r. ⌜ now r ≡ chosenFlags (now (table .entry)) (now (first .entry)) (now (second .entry)) ⌝ }
+// The flags of the one that is chosen, one a node, as a part of its own memory; empty on a rejection.
+pub fn flags<'r>(table: &[u8], first: &'r [u8], second: &'r [u8], chosen: Choice) -> &'r [u8]
+    requires { ⌜ chosen ≡ choice (now table) (now first) (now second) ⌝ }
+    ensures { λ r. ⌜ (now r ≡ chosenFlags (now (table .entry)) (now (first .entry)) (now (second .entry)))
+        × (r .ptr ≡ pointerBy (first .entry .ptr) (second .entry .ptr) chosen) ⌝ }
 {
-    let chosen = choose(table, first, second);
     let n = frame_count(table);
     match chosen {
         Choice::First => {
@@ -51,6 +75,16 @@ pub fn flags<'a>(table: &[u8], first: &'a [u8], second: &'a [u8]) -> &'a [u8]
         Choice::Rejected(_) => {
             return &first[0..0];
         }
+    }
+}
+
+// A part and the choice that it belongs to.
+fn paired<'r>(flags: &'r [u8], chosen: Choice) -> Selection<'r>
+    ensures { λ r. ⌜ (r .flags ≡ flags .entry) × (r .choice ≡ chosen) ⌝ }
+{
+    Selection {
+        flags,
+        choice: chosen,
     }
 }
 

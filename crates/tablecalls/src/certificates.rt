@@ -84,10 +84,15 @@ fn length_in(byte: u8) -> usize
     byte as usize
 }
 
-// What the choice gives, and the flags that are handed back.
-fn print_choice<'a>(table: &[u8], first: &'a [u8], second: &'a [u8]) {
+// What the choice gives, with the flags that are handed back.
+fn print_choice<'t, 'a: 'r, 'b: 'r, 'r>(table: &'t [u8], first: &'a [u8], second: &'b [u8]) {
+    let selection = shorter::select(table, first, second);
+    print_selection(selection.choice, selection.flags);
+}
+
+fn print_selection(choice: Choice, flags: &[u8]) {
     io::write_all(STDOUT_FILENO, b"shorter");
-    match shorter::choose(table, first, second) {
+    match choice {
         Choice::First => {
             io::write_all(STDOUT_FILENO, b" first");
         }
@@ -97,5 +102,5 @@ fn print_choice<'a>(table: &[u8], first: &'a [u8], second: &'a [u8]) {
         Choice::Rejected(rejection) => print_rejection(rejection),
     }
     print_line_feed();
-    print_bytes(b"flags", shorter::flags(table, first, second));
+    print_bytes(b"flags", flags);
 }

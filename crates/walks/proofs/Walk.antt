@@ -36,10 +36,10 @@ pub use denote.Triple.Statement.{Contract, Triple}
 pub use denote.Triple.Table.{entered, cited}
 pub use Rattle.walks.proofs.Values.{ByValue, of-struct, of-unit, of-bool, of-enum, of-number}
 pub use Rattle.walks.proofs.Rows.{Row, Open, opens, shuts, looks, looked, store-at}
-pub use Rattle.walks.proofs.Loans.{ref-to, lends-row, row-back, shares-row, share-back, copies}
-pub use Rattle.walks.proofs.Calls.{entry-out, called}
+pub use Rattle.walks.proofs.Loans.{ref-to, lends-row, row-back, shares-row, share-back, copies, shortens}
+pub use Rattle.walks.proofs.Calls.{entry-out, called, called-for}
 pub use Rattle.walks.proofs.Locals.{by-test, forks, homes, held, part, sets, reborrows, returns-to}
-pub use Rattle.walks.proofs.Leaving.{none, room, full, frees}
+pub use Rattle.walks.proofs.Leaving.{none, room, full, frees, silent}
 pub use types.Part.{agg, rep}
 pub use denote.Array.{arrayVal}
 pub use denote.Triple.Walked.{says, needs, Stays, walkOf, ends-at}

@@ -1,30 +1,37 @@
--- `flags` meets its contract: the part is that of the choice, and a chosen certificate has a flag for each node.
-use Prim.Native.Nat.{ℕ, _-_}
+-- `flags` meets its contract: the part is that of the choice, it begins where the chosen certificate does, and that one
+-- has a flag for each node.
+use Prim.Native.Nat.{ℕ, _+_, _-_}
 use native.Mathlib.Omega.{arith}
-use mathlib.Core.Path.{_≡_, sym, _∙_}
+use mathlib.Core.Path.{_≡_, sym, ap, _∙_}
 use mathlib.Core.List.{List, []}
 use lib.ListN.{take}
 use borrow.Author.Needs.{needs}
 use Rattle.frames.specs.declared.Rejection.{Rejection}
 use Rattle.frames.specs.Frame.{frames}
+use Rattle.shorter.specs.declared.Choice.{Choice}
 use Rattle.shorter.specs.declared.Choice.the-variants.{First, Second, Rejected}
-use Rattle.shorter.specs.Choice.{choice, chosenFlags}
+use Rattle.shorter.specs.Choice.{choice, chosenFlags, pointerBy}
 use Rattle.shorter.proofs.Choosing.{passed-enough, first-accepted, second-accepted}
 use Rattle.shorter.proofs.flags.Statement.{statement}
 use Rattle.shorter.proofs.flags.Tie as tie
 
-module _ (t f s : List ℕ) (n : ℕ) (e : n ≡ frames t) where
-  of-first : First ≡ choice t f s → take (n - 0) f ≡ chosenFlags t f s
-  of-first h = let m : n - 0 ≡ frames t = omega arith in rw (← h, m)
+-- a part that begins 0 bytes behind a pointer begins there
+same-pointer : (p : ℕ × ℕ) → _≡_ {A = ℕ × ℕ} (p .0, 0 + p .1) p
+same-pointer p = ap (λ x. (p .0, x)) (omega arith)
 
-  of-second : Second ≡ choice t f s → take (n - 0) s ≡ chosenFlags t f s
-  of-second h = let m : n - 0 ≡ frames t = omega arith in rw (← h, m)
+-- the part for each choice: its flags, and where it begins
+module _ (t f s : List ℕ) (n : ℕ) (e : n ≡ frames t) (pf ps : ℕ × ℕ) (chosen : Choice) (h : chosen ≡ choice t f s) where
+  of-first : chosen ≡ First
+      → (take (n - 0) f ≡ chosenFlags t f s) × (_≡_ {A = ℕ × ℕ} (pf .0, 0 + pf .1) (pointerBy pf ps chosen))
+  of-first k = let m : n - 0 ≡ frames t = omega arith in (rw (← h, k, m), rw k (same-pointer pf))
 
-  of-rejection : (r : Rejection) → Rejected r ≡ choice t f s → _≡_ {A = List ℕ} [] (chosenFlags t f s)
-  of-rejection r h = rw (← h)
+  of-second : chosen ≡ Second
+      → (take (n - 0) s ≡ chosenFlags t f s) × (_≡_ {A = ℕ × ℕ} (ps .0, 0 + ps .1) (pointerBy pf ps chosen))
+  of-second k = let m : n - 0 ≡ frames t = omega arith in (rw (← h, k, m), rw k (same-pointer ps))
 
-choose-requires : tie.Need-choose-requires
-choose-requires c κs = search needs
+  of-rejection : (r : Rejection) → chosen ≡ Rejected r → (_≡_ {A = List ℕ} [] (chosenFlags t f s))
+      × (_≡_ {A = ℕ × ℕ} (pf .0, 0 + pf .1) (pointerBy pf ps chosen))
+  of-rejection r k = (rw (← h, k), rw k (same-pointer pf))
 
 frame-count-requires : tie.Need-frame-count-requires
 frame-count-requires c κs = search needs
@@ -40,18 +47,17 @@ part-result-start c = search needs
 
 part-result-end : tie.Need-part-result-end
 part-result-end c =
-    let k = c .before .before .before in
-    let a = k .before .before .before .before .args in
-    let l = passed-enough _ _ (first-accepted (a .table .now) (a .first .now) (a .second .now)
-    (sym (c .enum-told .given .1) ∙ k .choose .ensures) .1) in
+    let s = c .before .before .before .before .before .before in
+    let l = passed-enough _ _ (first-accepted (s .args .table .now) (s .args .first .now) (s .args .second .now)
+    (sym (c .enum-told .given .1) ∙ s .pre) .1) in
     omega (arith, l)
 
 returns : tie.Need-returns
 returns c =
     let g = c .before .before .before in
-    let a = g .before .before .before .before .before .args in
-    of-first (a .table .now) (a .first .now) (a .second .now) _ (g .frame-count .ensures)
-    (sym (c .before .enum-told .given .1) ∙ g .before .choose .ensures)
+    let s = g .before .before .before .before in
+    of-first (s .args .table .now) (s .args .first .now) (s .args .second .now) _ (g .frame-count .ensures)
+    (s .args .first .ptr) (s .args .second .ptr) _ (s .pre) (c .before .enum-told .given .1)
 
 enum-told-2 : tie.Need-enum-told-2
 enum-told-2 c = search needs
@@ -64,18 +70,17 @@ part-result-start-2 c = search needs
 
 part-result-end-2 : tie.Need-part-result-end-2
 part-result-end-2 c =
-    let k = c .before .before .before in
-    let a = k .before .before .before .before .args in
-    let l = passed-enough _ _ (second-accepted (a .table .now) (a .first .now) (a .second .now)
-    (sym (c .enum-told2 .given .1) ∙ k .choose .ensures) .1) in
+    let s = c .before .before .before .before .before .before in
+    let l = passed-enough _ _ (second-accepted (s .args .table .now) (s .args .first .now) (s .args .second .now)
+    (sym (c .enum-told2 .given .1) ∙ s .pre) .1) in
     omega (arith, l)
 
 returns-2 : tie.Need-returns-2
 returns-2 c =
     let g = c .before .before .before in
-    let a = g .before .before .before .before .before .args in
-    of-second (a .table .now) (a .first .now) (a .second .now) _ (g .frame-count .ensures)
-    (sym (c .before .enum-told2 .given .1) ∙ g .before .choose .ensures)
+    let s = g .before .before .before .before in
+    of-second (s .args .table .now) (s .args .first .now) (s .args .second .now) _ (g .frame-count .ensures)
+    (s .args .first .ptr) (s .args .second .ptr) _ (s .pre) (c .before .enum-told2 .given .1)
 
 enum-told-3 : tie.Need-enum-told-3
 enum-told-3 c = search needs
@@ -92,15 +97,14 @@ part-result-end-3 c = search needs
 returns-3 : tie.Need-returns-3
 returns-3 c =
     let g = c .before .before .before in
-    let a = g .before .before .before .before .before .args in
-    of-rejection (a .table .now) (a .first .now) (a .second .now) _ (g .frame-count .ensures) _
-    (sym (c .before .enum-told3 .given .1) ∙ g .before .choose .ensures)
+    let s = g .before .before .before .before in
+    of-rejection (s .args .table .now) (s .args .first .now) (s .args .second .now) _ (g .frame-count .ensures)
+    (s .args .first .ptr) (s .args .second .ptr) _ (s .pre) _ (c .before .enum-told3 .given .1)
 
 pub flags-spec : {M : Type 1} → statement M
 flags-spec =
     tie.close
     (tie.spec
-    choose-requires
     frame-count-requires
     enum-told
     sub-result
