@@ -488,6 +488,35 @@ def writer_cases():
         add("writer: " + title, file, "write %d %d" % (room, size), got)
 
 
+def printed(file, room):
+    """What the converting program lays in so many bytes of a filled buffer."""
+    lent = bytearray((FILLED,) * room)
+    got = o.output(file, lent)
+    assert not isinstance(got, o.Refusal) or set(lent) <= {FILLED}
+    return "output %s\ntext%s\n" % (answered(got), numbers(lent))
+
+
+def long_output():
+    """02, N7: the converter is lent a file of one byte too many."""
+    global made
+    made += b"# output: one byte too many\n" + printed(b"0" * (o.MAX_FILE + 1), 16).encode()
+
+
+def output_cases():
+    """02, N7: a file with small letters, files that are still refused, each with its line, and short buffers."""
+    deep = o.file_of(o.regular(1, o.MAX_DEPTH + 1, lambda k: k))
+    for title, file, room, line in (("small letters", b"00000000fffb\n", 16, None), ("capitals stay", tree_file(-5), 13, None),
+                                    ("a missing line feed is supplied", b"00000000FfFb", 13, None), ("seven lines", ROW, 96, None),
+                                    ("no byte", b"", 16, b"refused 1 0\n"), ("a short line", b"00000000fff\n", 16, b"refused 3 0\n"),
+                                    ("byte 3 of a leaf", b"00000001fffb\n", 16, b"refused 4 0\n"),
+                                    ("a node too deep", deep, 16, b"refused 9 19\n"),
+                                    ("room for the line only", ROW, 13, b"refused 10 0\n"),
+                                    ("a short buffer", ROW, 12, None), ("a refusal in a short buffer", b"", 11, None), ("no buffer", LEAF, 0, None)):
+        got = printed(file, room)
+        assert line is None or got == "output %d\ntext%s\n" % (len(line), numbers(line + bytes((FILLED,) * (room - len(line))))), title
+        add("output: " + title, file, "output %d" % room, got)
+
+
 def longer(file, size):
     """So many bytes of a file's table; zeros follow its frames."""
     table = table_of_file(file)
@@ -643,9 +672,9 @@ def service_cases():
 
 def main():
     directory = sys.argv[1] if len(sys.argv) > 1 else os.path.join(os.path.dirname(HERE), "crates", "cases")
-    for part in (made_trees, made_grafts, least_counts, files_of_01, rows_of_002, rejected_files, accepted_files, wins_and_losses,
+    for part in (made_trees, made_grafts, least_counts, long_output, files_of_01, rows_of_002, rejected_files, accepted_files, wins_and_losses,
                  second_captures,
-                 flags_cases, buffer_cases, order_cases, allowance_cases, table_cases, reader_cases, writer_cases, graft_cases, wanted_cases, dearest_cases,
+                 flags_cases, buffer_cases, order_cases, allowance_cases, table_cases, reader_cases, writer_cases, output_cases, graft_cases, wanted_cases, dearest_cases,
                  regular_cases, choice_cases, service_cases):
         part()
     assert len(stdin) < 65536

@@ -548,6 +548,18 @@ def convert(file, new):
     return n if isinstance(n, Refusal) else write_file(table[:6 * n], new)
 
 
+def output(file, text):
+    """02, N7: what the converting program prints, at the front of a buffer: the new file, or the line of the refusal; its length."""
+    n = convert(file, text)
+    if not isinstance(n, Refusal):
+        return n
+    line = b"refused %d %d\n" % n
+    if len(text) < len(line):
+        return Refusal(10, 0)
+    text[:len(line)] = line
+    return len(line)
+
+
 def check_table(table):
     return table_no(table) or len(table) // 6
 

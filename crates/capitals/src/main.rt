@@ -1,11 +1,10 @@
 // The program: reads a tree file from standard input, lifts its letters a to f to capitals, and writes its tree's file
 // to standard output, or, where the file is still refused, the line of the refusal.
-use frames::Rejection;
 use input::Input;
 use libc::STDERR_FILENO;
 use libc::STDOUT_FILENO;
 use treefile::MAX_FILE;
-use treefile::Written;
+use writer::length_given;
 
 // Where a read fails there is no file to judge: one line goes to standard error. The room is for 65,536 bytes, more
 // than a file may have: a longer one is seen to be too long, and is never cut to one that passes.
@@ -17,23 +16,12 @@ fn main() {
     }
 }
 
-// The converted file, or the refusal; there is room for every file.
+// The converted file, or the refusal; there is room for either.
 fn print_converted(file: &[u8]) {
-    let mut converted = [0u8; MAX_FILE];
-    match convert::convert(file, &mut converted) {
-        Written::Length(length) => {
-            io::write_all(STDOUT_FILENO, &converted[..length]);
-        }
-        Written::Rejected(rejection) => print_refused(rejection),
-    }
-}
-
-// The line of a refusal.
-fn print_refused(rejection: Rejection) {
-    let text = report::refused(rejection);
-    let bytes = text.bytes;
-    let end = text.length;
-    io::write_all(STDOUT_FILENO, &bytes[..end]);
+    let mut text = [0u8; MAX_FILE];
+    let written = convert::output(file, &mut text);
+    let end = length_given(written);
+    io::write_all(STDOUT_FILENO, &text[..end]);
 }
 
 fn print_failure() {

@@ -18,6 +18,8 @@ use searchcalls::print_searches;
 use tablecalls::certificates::print_choice_of;
 use tablecalls::certificates::print_verdict_of;
 use tablecalls::files::print_line;
+use tablecalls::files::print_long_output;
+use tablecalls::files::print_output;
 use tablecalls::files::print_reading;
 use tablecalls::files::print_writing;
 use tablecalls::least::print_least_counts;
@@ -36,6 +38,7 @@ fn main() {
     print_made_trees();
     print_made_grafts();
     print_least_counts();
+    print_long_output();
     let mut input = io::large_buffer();
     let size = io::read_full(STDIN_FILENO, &mut input);
     print_cases(&input[..size]);
@@ -83,14 +86,15 @@ fn name(call: &[u8]) -> u8 {
     call[1]
 }
 
-// What a call with numbers gives, by the first letter of its name: buffers, allowance, table, write, graft, value,
-// dearest, regular, check, line or kids.
+// What a call with numbers gives, by the first letter of its name: buffers, allowance, table, write, output, graft,
+// value, dearest, regular, check, line or kids.
 fn print_call(letter: u8, file: &[u8], numbers: &[u32; NUMBERS]) {
     match letter {
         b'b' => print_searches(file, numbers[0], numbers[1], numbers[2]),
         b'a' => print_allowed(file, numbers[0], numbers[1], numbers[2], numbers[3]),
         b't' => print_reading(file, numbers[0]),
         b'w' => print_writing(file, numbers[0], numbers[1]),
+        b'o' => print_output(file, numbers[0]),
         b'g' => print_graft(file, numbers),
         b'v' => print_needed(file, numbers[0], numbers[1], numbers[2], numbers[3]),
         b'd' => print_filling(file, numbers[0]),

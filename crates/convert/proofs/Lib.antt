@@ -2,4 +2,5 @@
 pub mod Kept
 pub mod Converted
 mod Converting
+pub mod Printing
 pub mod Cases

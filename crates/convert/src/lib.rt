@@ -3,6 +3,8 @@
 use frames::Checked;
 use frames::FRAME_SIZE;
 use frames::MAX_TABLE;
+use frames::Rejection;
+use frames::SHORT_BUFFER;
 use reader::SMALL_FILE;
 use reader::SMALL_TABLE;
 use reader::check_lines;
@@ -12,9 +14,11 @@ use writer::write_accepted;
 ghost use mathlib.Core.Path.{_≡_};
 ghost use Prim.Native.Nat.{_≤_};
 ghost use lib.ListN.{length};
+ghost use Rattle.text.specs.Text.{refusedLine};
 ghost use Rattle.reader.specs.File.{maxFile};
 ghost use Rattle.reader.specs.engine.Decoded.{Decoded, Roomy};
 ghost use Rattle.convert.specs.Convert.{convertOutcome};
+ghost use Rattle.convert.specs.Printed.{laidText, outputOutcome};
 ghost use Rattle.convert.specs.results.Converted.{baseRejection};
 
 // Lifts the letters a to f of a file to capitals, reads it, and writes its table's file: the length in bytes, or the
@@ -45,6 +49,37 @@ fn convert_by(file: &[u8], table: &mut [u8], converted: &mut [u8]) -> Written
         }
         Checked::Rejected(rejection) => Written::Rejected(rejection),
     }
+}
+
+// What the program prints for a file, at the front of the lent buffer: the converted file, or the line of the refusal.
+// Its length in bytes; or 10, where it has no room there, and then the buffer is as it was.
+pub fn output(file: &[u8], buffer: &mut [u8]) -> Written
+    ensures { λ r. ⌜ record { answer = r; file = now (buffer .exit) }
+        ≡ outputOutcome (now (file .entry)) (now (buffer .entry)) ⌝ }
+{
+    let answer = convert(file, buffer);
+    match answer {
+        Written::Length(_) => answer,
+        Written::Rejected(rejection) => lay_refused(rejection, buffer),
+    }
+}
+
+// The line of a refusal at the front of the buffer.
+fn lay_refused(rejection: Rejection, buffer: &mut [u8]) -> Written
+    ensures { λ r. ⌜ record { answer = r; file = now (buffer .exit) }
+        ≡ laidText (refusedLine (rejection .number) (rejection .place)) (now (buffer .entry)) ⌝ }
+{
+    let line = text::refused(rejection);
+    let bytes = line.bytes;
+    let length = line.length;
+    if buffer.len() < length {
+        return Written::Rejected(Rejection {
+            number: SHORT_BUFFER,
+            place: 0,
+        });
+    }
+    bytes::copy(&bytes[..length], buffer);
+    Written::Length(length)
 }
 
 // Questions 1 to 9: the number of nodes, whose frames then stand at the table's front, or the first rejection.

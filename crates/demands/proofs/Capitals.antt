@@ -24,13 +24,17 @@ use Rattle.reader.specs.File.{maxFile, fileCheck2, fileCheck3, fileCheck16, fil
 use Rattle.reader.specs.File.{readRejection, readAnswer}
 use Rattle.reader.proofs.Acceptance.{accepted-exactly}
 use Rattle.reader.proofs.FirstLine.{line-first, line-asked}
+use Rattle.writer.specs.Encoded.{fileOf}
 use Rattle.writer.specs.Write.{writeCheck10}
 use Rattle.writer.specs.declared.Written.the-variants.{Length, Rejected as RejectedWrite}
 use Rattle.convert.specs.Lift.{lifted}
+use Rattle.text.specs.Text.{refusedLine}
 use Rattle.convert.specs.Convert.{convertOutcome}
+use Rattle.convert.specs.Printed.{outputOutcome}
 use Rattle.convert.specs.results.Converted.{baseRejection, Converted}
 use Rattle.convert.proofs.Kept.{lifted-table, lifted-check3, lifted-rejection, lifted-line}
 use Rattle.convert.proofs.Converted.{base-table, convert-gives, convert-keeps, convert-leaves}
+use Rattle.convert.proofs.Printing.{line-printed, file-printed}
 use Rattle.convert.proofs.Converted.{converted-accepted, converted-table, converted-again, converted-once}
 
 module _ (f : List ℕ) where
@@ -95,6 +99,22 @@ module _ (f : List ℕ) where
         → ((baseRejection f andThen writeCheck10 (decoded f) (length buffer)) ≡ some r)
         × (convertOutcome f buffer .file ≡ buffer)
     still-refused = convert-keeps f buffer
+
+    -- "it prints 01's `refused` line only": in a buffer with room for every file, what is printed for a file that the
+    -- base refused is the line of that refusal and nothing else,
+    pub line-only : maxFile ≤ length buffer → (r : Rejection) → baseRejection f ≡ some r →
+        let line = refusedLine (r .number) (r .place) in
+        outputOutcome f buffer ≡ record { answer = Length (length line); file = line ++ drop (length line) buffer }
+    line-only = line-printed f buffer
+
+    -- and for any other the file of its table
+    pub file-only : maxFile ≤ length buffer → baseRejection f ≡ none
+        → outputOutcome f buffer
+        ≡ record {
+          answer = Length (lineSize * frames (decoded f));
+          file = fileOf (decoded f) ++ drop (lineSize * frames (decoded f)) buffer;
+        }
+    file-only = file-printed f buffer
 
     module _ (n : ℕ) (e : convertOutcome f buffer .answer ≡ Length n) where
       -- what is written is accepted by the reader, and its table is that of the file

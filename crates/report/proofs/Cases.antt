@@ -11,7 +11,7 @@ use Rattle.hex.specs.Digit.{digitOf}
 use Rattle.lines.specs.Line.{allDigits, isLine, hasSmall, bytesOf}
 use Rattle.lines.specs.Lines.{linesOf, decode}
 use Rattle.reader.specs.File.{eachLine, fileRejection}
-use Rattle.report.specs.Text.{decimalWithin}
+use Rattle.text.specs.Text.{decimalWithin}
 use Rattle.report.specs.Report.{abLine, mtdLine, sssLine}
 use Rattle.report.specs.results.Cases.{computed, expected, cases}
 

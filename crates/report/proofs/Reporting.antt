@@ -1,11 +1,9 @@
--- What the reader of a file gives is what the report goes by: an accepted table, or the first rejection of the file;
--- and what is laid into zeros is a text.
-use Prim.Native.Nat.{ℕ, zero, suc, _-_, _*_, _≤_}
+-- What the reader of a file gives is what the report goes by: an accepted table, or the first rejection of the file.
+use Prim.Native.Nat.{ℕ, _*_, _≤_}
 use native.Mathlib.Omega.{arith}
-use native.Mathlib.Nat.{zero-add}
 use mathlib.Core.Path.{_≡_, sym, ap, _∙_}
-use mathlib.Core.List.{List, _++_}
-use lib.ListN.{length, take, drop, replicate, length-append}
+use mathlib.Core.List.{List}
+use lib.ListN.{length, take}
 use Rattle.frames.specs.declared.Rejection.{Rejection}
 use Rattle.frames.specs.declared.Checked.{Checked}
 use Rattle.frames.specs.declared.Checked.the-variants.{Nodes, Rejected as RejectedFile}
@@ -15,15 +13,8 @@ use Rattle.frames.proofs.Acceptance.{accepted-formed}
 use Rattle.lines.specs.Lines.{decoded}
 use Rattle.reader.specs.File.{readAnswer, tableAfter}
 use Rattle.reader.proofs.Acceptance.{read-nodes, roomy-rejected}
-use Rattle.report.specs.declared.Text.{Text}
-use Rattle.report.specs.Text.{refusedLine, laid, TextRoom, Put}
-use Rattle.report.specs.Report.{analysis, printed, report, textSize, textOf}
-
--- what is left of zeros
-drop-replicate : (k n : ℕ) → drop {A = ℕ} k (replicate n 0) ≡ replicate (n - k) 0
-drop-replicate zero n = let e : n - 0 ≡ n = omega arith in rw e
-drop-replicate (suc k) zero = let e : 0 - suc k ≡ 0 = omega arith in rw e
-drop-replicate (suc k) (suc n) = let e : suc n - suc k ≡ n - k = omega arith in rw e (drop-replicate k n)
+use Rattle.text.specs.Text.{refusedLine}
+use Rattle.report.specs.Report.{analysis, printed, report}
 
 module _ (f : List ℕ) where
   -- what is known once a file was read into a table: its first n frames are the file's, and accepted
@@ -48,32 +39,3 @@ module _ (f : List ℕ) where
   pub read-rejected : (fresh : List ℕ) → maxTable ≤ length fresh → (r : Rejection)
       → RejectedFile r ≡ readAnswer f fresh → report f ≡ refusedLine (r .number) (r .place)
   read-rejected fresh room r e = ap (printed f) (roomy-rejected f fresh room r e)
-
--- bytes that a text has room for
-module _ (x : List ℕ) where
-  -- they have room in a buffer of its size
-  pub text-room : {b : List ℕ} → length x ≤ textSize → textSize ≤ length b → TextRoom 0 x b
-  text-room few h = record { enough = omega arith }
-
-  -- what was laid into zeros is the text of them
-  pub text-laid : {n : ℕ} {b : List ℕ} → Put 0 x (replicate textSize 0) n b
-      → record { bytes = b; length = n } ≡ textOf x
-  unfolding textOf laid
-  text-laid {n} {b} p =
-      let k : n ≡ length x = omega (arith, p .behind) in
-      let z : b ≡ x ++ replicate (textSize - length x) 0 =
-      p .text
-      ∙ ap (λ i. x ++ drop {A = ℕ} i (replicate textSize 0)) (zero-add (length x))
-      ∙ ap (λ y. x ++ y) (drop-replicate (length x) textSize) in
-      cc
-
-  -- the length of a text is within it
-  pub length-within : {r : Text} → r ≡ textOf x → r .length ≤ length (r .bytes)
-  unfolding textOf
-  length-within e =
-      omega (
-        arith,
-        ap (λ t. t .length) e,
-        ap (λ t. length (t .bytes)) e,
-        length-append x (replicate (textSize - length x) 0),
-      )

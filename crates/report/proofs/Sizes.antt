@@ -1,9 +1,8 @@
 -- Every report fits a text of the size that is asked for.
-use Prim.Native.Nat.{ℕ, suc, _+_, _≤_}
+use Prim.Native.Nat.{ℕ, _+_, _≤_}
 use native.Mathlib.Omega.{arith}
 use mathlib.Core.Option.{Option, none, some}
 use mathlib.Core.List.{List}
-use lib.IntN.{ℤ, pos, negsuc}
 use lib.ListN.{length, length-append}
 use Rattle.frames.specs.declared.Rejection.{Rejection}
 use Rattle.lines.specs.Lines.{decoded}
@@ -13,24 +12,17 @@ use Rattle.certificate.specs.Search.{findings}
 use Rattle.alphabeta.specs.Outcome.{reachedLeaves}
 use Rattle.mtd.specs.Outcome.{mtdLeaves}
 use Rattle.sss.specs.Outcome.{sssLeaves}
-use Rattle.report.specs.Text.{signedDecimal, methodLine, refusedLine}
-use Rattle.report.specs.Report.{abName, mtdName, sssName, abLine, mtdLine, sssLine}
-use Rattle.report.specs.Report.{analysis, printed, report, textSize}
-use Rattle.report.proofs.Laying.{decimal-few}
-
--- 20 digits and a sign
-signedDecimal-few : (v : ℤ) → length (signedDecimal v) ≤ 21
-signedDecimal-few (pos n) = omega (arith, decimal-few 20 n)
-signedDecimal-few (negsuc n) = omega (arith, decimal-few 20 (suc n))
+use Rattle.text.specs.Text.{textSize}
+use Rattle.text.proofs.Laying.{decimal-few}
+use Rattle.text.proofs.Sizes.{signedDecimal-few, refused-few}
+use Rattle.report.specs.Report.{methodLine, abName, mtdName, sssName, abLine, mtdLine, sssLine}
+use Rattle.report.specs.Report.{analysis, printed, report}
 
 -- a line besides the name
 line-few : (name : List ℕ) (f : Findings) → length (methodLine name f) ≤ length name + 65
 line-few name f =
     simp length-append
     (omega (arith, signedDecimal-few (f .value), decimal-few 20 (f .«root_move»), decimal-few 20 (f .leaves)))
-
-pub refused-few : (r : Rejection) → length (refusedLine (r .number) (r .place)) ≤ textSize
-refused-few r = simp length-append (omega (arith, decimal-few 20 (r .number), decimal-few 20 (r .place)))
 
 -- the three lines
 lines-few : (t : List ℕ) → (length (abLine t) ≤ 67) × (length (mtdLine t) ≤ 68) × (length (sssLine t) ≤ 68)

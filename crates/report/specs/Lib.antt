@@ -1,4 +1,3 @@
 -- Definitions of what the program prints.
-pub mod Text
 pub mod Report
 pub mod results

@@ -1,8 +1,7 @@
--- What the program prints for a file (SPEC 12.1), as a text by value.
-use Prim.Native.Nat.{ℕ, _-_}
+-- What the program prints for a file (SPEC 12.1).
+use Prim.Native.Nat.{ℕ}
 use mathlib.Core.Option.{Option, none, some}
 use mathlib.Core.List.{List, [], _∷_, _++_}
-use lib.ListN.{length, replicate}
 use Rattle.frames.specs.declared.Rejection.{Rejection}
 use Rattle.lines.specs.Lines.{decoded}
 use Rattle.reader.specs.File.{fileRejection}
@@ -10,8 +9,21 @@ use Rattle.certificate.specs.Search.{findings}
 use Rattle.alphabeta.specs.Outcome.{reachedLeaves}
 use Rattle.mtd.specs.Outcome.{mtdLeaves}
 use Rattle.sss.specs.Outcome.{sssLeaves}
-use Rattle.report.specs.declared.Text.{Text}
-use Rattle.report.specs.Text.{heading, methodLine, refusedLine}
+use Rattle.certificate.specs.declared.Findings.{Findings}
+use Rattle.text.specs.Text.{decimal, signedDecimal, space, lineFeed, refusedLine}
+
+-- "method value move leaves"
+abbrev pub heading : List ℕ
+heading =
+    109 ∷ 101 ∷ 116 ∷ 104 ∷ 111 ∷ 100 ∷ 32 ∷ 118 ∷ 97 ∷ 108 ∷ 117 ∷ 101 ∷ 32 ∷ 109 ∷ 111 ∷ 118 ∷ 101 ∷ 32 ∷ 108 ∷ 101
+    ∷ 97 ∷ 118 ∷ 101 ∷ 115 ∷ 10 ∷ []
+
+-- a method's name, the value, the move and the count of evaluated leaves, with one blank between
+abbrev pub methodLine : List ℕ → Findings → List ℕ
+methodLine name f =
+    name
+    ++ (space ∷ (signedDecimal (f .value)
+    ++ (space ∷ (decimal (f .«root_move») ++ (space ∷ (decimal (f .leaves) ++ (lineFeed ∷ [])))))))
 
 -- "ab", "mtd" and "sss"
 abbrev pub abName : List ℕ
@@ -42,14 +54,6 @@ abbrev pub printed : List ℕ → Option Rejection → List ℕ
 printed f none = analysis (decoded f)
 printed f (some r) = refusedLine (r .number) (r .place)
 
--- what the program prints for a file, by the first "no" to questions 1 to 9
+-- what the program prints for a file, by the first "no" to the reader's questions, 1 to 9 and 16
 abbrev pub report : List ℕ → List ℕ
 report f = printed f (fileRejection f)
-
--- how many bytes a text has: room for every report
-abbrev pub textSize : ℕ
-textSize = 256
-
--- the text that begins with the bytes x, and has zeros behind them
-unfoldable pub textOf : List ℕ → Text
-textOf x = record { bytes = x ++ replicate (textSize - length x) 0; length = length x }

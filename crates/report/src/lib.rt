@@ -4,34 +4,19 @@ use frames::Checked;
 use frames::FRAME_SIZE;
 use frames::MAX_NODES;
 use frames::MAX_TABLE;
-use frames::Rejection;
+use text::LINE_FEED;
+pub use text::TEXT_SIZE;
+pub use text::Text;
+use text::put_byte;
+use text::put_bytes;
+use text::put_count;
+use text::put_refused;
+use text::put_value;
+pub use text::refused;
 ghost use mathlib.Core.Path.{_≡_};
-ghost use mathlib.Core.List.{_∷_, []};
-ghost use lib.IntN.{natAbs};
 ghost use Rattle.frames.specs.Check.{Accepted};
-ghost use Rattle.report.specs.Text.{space, decimal, signedDecimal, methodLine, refusedLine, TextRoom, Put};
-ghost use Rattle.report.specs.Report.{abLine, mtdLine, sssLine, analysis, report, textOf};
-
-// How many bytes a text has: room for every report.
-pub const TEXT_SIZE: usize = 256;
-
-// A minus sign, a blank and the end of a line.
-const MINUS: u8 = b'-';
-
-const BLANK: u8 = b' ';
-
-const LINE_FEED: u8 = 10;
-
-// The digit 0, and the base of the numbers.
-const ZERO: usize = b'0' as usize;
-
-const BASE: usize = 10;
-
-// The text of a report: its bytes, as many as `length` says, and zeros behind them.
-pub struct Text {
-    pub bytes: [u8; TEXT_SIZE],
-    pub length: usize,
-}
+ghost use Rattle.text.specs.Text.{TextRoom, Put, textOf};
+ghost use Rattle.report.specs.Report.{methodLine, abLine, mtdLine, sssLine, analysis, report};
 
 // The report of a file: the analysis of its tree, or the line of its rejection.
 pub fn write(file: &[u8]) -> Text
@@ -40,18 +25,6 @@ pub fn write(file: &[u8]) -> Text
     let mut bytes = [0u8; TEXT_SIZE];
     let length = put_report(file, &mut bytes);
     Text { bytes, length }
-}
-
-// The line of a rejection.
-pub fn refused(rejection: Rejection) -> Text
-    ensures { λ r. ⌜ r ≡ textOf (refusedLine (rejection .number) (rejection .place)) ⌝ }
-{
-    let mut line = [0u8; TEXT_SIZE];
-    let length = put_refused(&mut line, rejection);
-    Text {
-        bytes: line,
-        length,
-    }
 }
 
 // The report of a file at the beginning of the text; the position behind it.
@@ -137,19 +110,6 @@ fn put_sss(table: &[u8], text: &mut [u8], at: usize) -> usize
     put_line(text, at, b"sss", findings)
 }
 
-// A rejection's line at the beginning of the text; the position behind it.
-fn put_refused(text: &mut [u8], rejection: Rejection) -> usize
-    requires { ⌜ TextRoom 0 (refusedLine (rejection .number) (rejection .place)) (now text) ⌝ }
-    ensures { λ r. ⌜ Put 0 (refusedLine (rejection .number) (rejection .place)) (now (text .entry)) r
-        (now (text .exit)) ⌝ }
-{
-    let number = rejection.number as usize;
-    let refused = put_bytes(text, 0, b"refused");
-    let numbered = put_count(text, refused, number);
-    let placed = put_count(text, numbered, rejection.place);
-    put_byte(text, placed, LINE_FEED)
-}
-
 // A method's line; the position behind it.
 fn put_line(text: &mut [u8], at: usize, name: &[u8], findings: Findings) -> usize
     requires { ⌜ TextRoom at (methodLine (now name) findings) (now text) ⌝ }
@@ -160,72 +120,4 @@ fn put_line(text: &mut [u8], at: usize, name: &[u8], findings: Findings) -> usiz
     let moved = put_count(text, valued, findings.root_move);
     let counted = put_count(text, moved, findings.leaves);
     put_byte(text, counted, LINE_FEED)
-}
-
-// A blank and a signed value; the position behind them.
-fn put_value(text: &mut [u8], at: usize, value: i16) -> usize
-    requires { ⌜ TextRoom at (space ∷ signedDecimal value) (now text) ⌝ }
-    ensures { λ r. ⌜ Put at (space ∷ signedDecimal value) (now (text .entry)) r (now (text .exit)) ⌝ }
-{
-    let next = put_byte(text, at, BLANK);
-    if value < 0 {
-        let signed = put_byte(text, next, MINUS);
-        return put_number(text, signed, magnitude(value));
-    }
-    put_number(text, next, magnitude(value))
-}
-
-// A blank and a number; the position behind them.
-fn put_count(text: &mut [u8], at: usize, n: usize) -> usize
-    requires { ⌜ TextRoom at (space ∷ decimal n) (now text) ⌝ }
-    ensures { λ r. ⌜ Put at (space ∷ decimal n) (now (text .entry)) r (now (text .exit)) ⌝ }
-{
-    let next = put_byte(text, at, BLANK);
-    put_number(text, next, n)
-}
-
-// The bytes of a word; the position behind them.
-fn put_bytes(text: &mut [u8], at: usize, word: &[u8]) -> usize
-    requires { ⌜ TextRoom at (now word) (now text) ⌝ }
-    ensures { λ r. ⌜ Put at (now (word .entry)) (now (text .entry)) r (now (text .exit)) ⌝ }
-{
-    let mut i = 0;
-    while i < word.len() {
-        text[at + i] = word[i];
-        i += 1;
-    }
-    at + word.len()
-}
-
-// A number in base ten; the position behind it.
-fn put_number(text: &mut [u8], at: usize, n: usize) -> usize
-    requires { ⌜ TextRoom at (decimal n) (now text) ⌝ }
-    ensures { λ r. ⌜ Put at (decimal n) (now (text .entry)) r (now (text .exit)) ⌝ }
-{
-    if n < BASE {
-        return put_byte(text, at, (ZERO + n) as u8);
-    }
-    let next = put_number(text, at, n / BASE);
-    put_byte(text, next, (ZERO + n % BASE) as u8)
-}
-
-// One byte at a position; the position behind it.
-fn put_byte(text: &mut [u8], at: usize, byte: u8) -> usize
-    requires { ⌜ TextRoom at (byte ∷ []) (now text) ⌝ }
-    ensures { λ r. ⌜ Put at (byte ∷ []) (now (text .entry)) r (now (text .exit)) ⌝ }
-{
-    text[at] = byte;
-    at + 1
-}
-
-// How far a value is from zero.
-fn magnitude(value: i16) -> usize
-    ensures { λ r. ⌜ r ≡ natAbs value ⌝ }
-{
-    let wide = value as i64;
-    if value < 0 {
-        (0 - wide) as usize
-    } else {
-        wide as usize
-    }
 }

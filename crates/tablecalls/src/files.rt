@@ -1,4 +1,4 @@
-// The reader, the writer and the reader of one line.
+// The reader, the writer, the converter and the reader of one line.
 use crate::answers::print_checked;
 use crate::answers::print_rejection;
 use crate::tables::FILLED;
@@ -18,6 +18,9 @@ use treefile::Written;
 // The longest file.
 pub const FILE_SIZE: usize = LINE_SIZE * MAX_NODES;
 
+// Room for the line of a rejection, and some bytes more.
+const LINE_ROOM: u32 = 16;
+
 // The writer on so many bytes of the table, with a buffer of this length, and what that holds afterwards: zeros follow
 // the frames of the file. What was written is read back.
 pub fn print_writing(file: &[u8], room: u32, size: u32) {
@@ -35,7 +38,7 @@ fn print_written_in(table: &[u8], room: u32, size: u32) {
 
 fn print_written(table: &[u8], file: &mut [u8], size: u32) {
     let written = treefile::write(table, file);
-    print_length(written);
+    print_length(b"write", written);
     print_bytes(b"file", file);
     let end = io::count(file_size(written), file);
     if 0 < end {
@@ -43,9 +46,9 @@ fn print_written(table: &[u8], file: &mut [u8], size: u32) {
     }
 }
 
-// What the writer answers, as a line.
-fn print_length(written: Written) {
-    io::write_all(STDOUT_FILENO, b"write");
+// A word and the length that is given, or the rejection, as a line.
+fn print_length(word: &[u8], written: Written) {
+    io::write_all(STDOUT_FILENO, word);
     match written {
         Written::Length(n) => print_count(n),
         Written::Rejected(rejection) => print_rejection(rejection),
@@ -64,6 +67,25 @@ pub fn file_size(written: Written) -> isize {
         }
         Written::Rejected(_) => 0,
     }
+}
+
+// What the converting program prints for a file of one byte too many.
+pub fn print_long_output() {
+    let file = [b'0'; FILE_SIZE + 1];
+    io::write_all(STDOUT_FILENO, b"# output: one byte too many\n");
+    print_output(&file, LINE_ROOM);
+}
+
+// What the converting program prints for a file, in a buffer of this length, and what that holds afterwards.
+pub fn print_output(file: &[u8], room: u32) {
+    let mut buffer = [FILLED; FILE_SIZE];
+    let end = io::count(room as isize, &buffer);
+    print_output_in(file, &mut buffer[..end]);
+}
+
+fn print_output_in(file: &[u8], buffer: &mut [u8]) {
+    print_length(b"output", convert::output(file, buffer));
+    print_bytes(b"text", buffer);
 }
 
 // The reader with a table of this length, and what that holds afterwards.

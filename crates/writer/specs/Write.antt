@@ -35,3 +35,8 @@ written t file (some r) = record { answer = Rejected r; file = file }
 -- the outcome of a call with a table and a buffer
 abbrev pub writeOutcome : List ℕ → List ℕ → Outcome
 writeOutcome t file = written t file (writeRejection t (length file))
+
+-- the length that is given, 0 on a rejection
+abbrev pub lengthGiven : Written → ℕ
+lengthGiven (Length n) = n
+lengthGiven (Rejected r) = 0

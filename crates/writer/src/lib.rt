@@ -17,7 +17,7 @@ ghost use Rattle.frames.specs.Frame.{frameSize, maxNodes, frames};
 ghost use Rattle.frames.specs.Check.{Accepted};
 ghost use Rattle.lines.specs.Line.{lineSize};
 ghost use Rattle.writer.specs.Encoded.{lineOf, encode};
-ghost use Rattle.writer.specs.Write.{writeOutcome};
+ghost use Rattle.writer.specs.Write.{lengthGiven, writeOutcome};
 
 // The answer of the writer: the file's length in bytes, or the first question that got a "no".
 pub enum Written {
@@ -34,6 +34,16 @@ pub fn write(table: &[u8], file: &mut [u8]) -> Written
     match check(table) {
         Checked::Nodes(nodes) => write_accepted(table, file, nodes),
         Checked::Rejected(rejection) => Written::Rejected(rejection),
+    }
+}
+
+// The length that is given; 0 on a rejection.
+pub fn length_given(written: Written) -> usize
+    ensures { λ r. ⌜ r ≡ lengthGiven written ⌝ }
+{
+    match written {
+        Written::Length(length) => length,
+        Written::Rejected(_) => 0,
     }
 }
 

@@ -2,7 +2,7 @@
 use mathlib.Core.Path.{sym}
 use lib.Seq.{length-take-le}
 use borrow.Author.Needs.{needs}
-use Rattle.report.proofs.Reporting.{length-within}
+use Rattle.text.proofs.Sizes.{length-within}
 use Rattle.analyse.proofs.print_report.Statement.{statement}
 use Rattle.analyse.proofs.print_report.Tie as tie
 

@@ -1,33 +1,36 @@
 -- `capitals::print_converted` is safe and ends: the buffer has the bytes that are printed.
 use Prim.Native.Nat.{_≤_}
-use mathlib.Core.Path.{sym, ap, _∙_}
+use mathlib.Core.Path.{sym}
 use native.Mathlib.Omega.{arith}
-use lib.ListN.{length}
+use lib.ListN.{length, replicate}
 use lib.Seq.{length-take-le}
 use borrow.Author.Needs.{needs}
-use Rattle.convert.proofs.Converted.{converted-within}
+use Rattle.writer.specs.Write.{lengthGiven}
+use Rattle.reader.specs.File.{maxFile}
+use Rattle.convert.proofs.Printing.{printed-within}
 use Rattle.capitals.proofs.print_converted.Statement.{statement}
 use Rattle.capitals.proofs.print_converted.Tie as tie
 
--- the file that was written is within the buffer
-within : (c : tie.After-known-told) →
-    c .before .length .given .0 .0 ≤ length (c .before .before .before .before .convert .last .1 .0)
+-- what is printed is within the buffer
+within : (c : tie.After-length-given) → c .length-given .result ≤ length (c .before .before .output .last .1 .0)
 within c =
-    let k = c .before .before .before .before .convert in
-    let fits = converted-within _ _ _ (sym (ap (λ o. o .answer) (k .ensures)) ∙ c .before .length .given .1) in
-    omega arith
+    let o = c .before .before .output in
+    let file = c .before .before .before .before .before .args .file .now in
+    let fits : lengthGiven (o .result) ≤ length (o .last .1 .0) =
+    printed-within file (replicate maxFile 0) _ (o .ensures) in
+    omega (arith, c .length-given .ensures)
 
-slice-aggregate-convert : tie.Need-slice-aggregate-convert
-slice-aggregate-convert c = search needs
+slice-aggregate-output : tie.Need-slice-aggregate-output
+slice-aggregate-output c = search needs
 
-convert-requires : tie.Need-convert-requires
-convert-requires c κs = search needs
+output-requires : tie.Need-output-requires
+output-requires c κs = search needs
 
-enum-known-length : tie.Need-enum-known-length
-enum-known-length c = search needs
+length-given-requires : tie.Need-length-given-requires
+length-given-requires c κs = search needs
 
-array-share-prefix-converted : tie.Need-array-share-prefix-converted
-array-share-prefix-converted c = within c
+array-share-prefix-text : tie.Need-array-share-prefix-text
+array-share-prefix-text c = within c
 
 slice-aggregate-write-all : tie.Need-slice-aggregate-write-all
 slice-aggregate-write-all c = sym (length-take-le _ _ (within (c .before)))
@@ -35,29 +38,17 @@ slice-aggregate-write-all c = sym (length-take-le _ _ (within (c .before)))
 write-all-requires : tie.Need-write-all-requires
 write-all-requires c κs = search needs
 
-enum-known-rejection : tie.Need-enum-known-rejection
-enum-known-rejection c = search needs
-
-print-refused-requires : tie.Need-print-refused-requires
-print-refused-requires c κs = search needs
-
 returns : tie.Need-returns
 returns c = search needs
-
-returns-2 : tie.Need-returns-2
-returns-2 c = search needs
 
 pub print-converted-spec : {M : Type 1} → statement M
 print-converted-spec =
     tie.close
     (tie.spec
-    slice-aggregate-convert
-    convert-requires
-    enum-known-length
-    array-share-prefix-converted
+    slice-aggregate-output
+    output-requires
+    length-given-requires
+    array-share-prefix-text
     slice-aggregate-write-all
     write-all-requires
-    enum-known-rejection
-    print-refused-requires
-    returns
-    returns-2)
+    returns)

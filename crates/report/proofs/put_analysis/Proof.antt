@@ -1,6 +1,6 @@
 -- `report::put_analysis` meets its contract: each line is laid behind the one before.
 use borrow.Author.Needs.{needs}
-use Rattle.report.proofs.Laying.{room-front, room-rest, put-then}
+use Rattle.text.proofs.Laying.{room-front, room-rest, put-then}
 use Rattle.report.proofs.put_analysis.Statement.{statement}
 use Rattle.report.proofs.put_analysis.Tie as tie
 

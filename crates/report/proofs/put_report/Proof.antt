@@ -5,7 +5,7 @@ use lib.Seq.{length-take-le}
 use borrow.Author.Needs.{needs}
 use denote.Ref.{now}
 use Rattle.frames.specs.Check.{Accepted}
-use Rattle.report.specs.Text.{refusedLine, TextRoom, Put}
+use Rattle.text.specs.Text.{refusedLine, TextRoom, Put}
 use Rattle.report.specs.Report.{analysis, report}
 use Rattle.report.proofs.Reporting.{Read, read-accepted, read-rejected}
 use Rattle.report.proofs.put_report.Statement.{statement}

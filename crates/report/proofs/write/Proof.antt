@@ -3,9 +3,9 @@ use native.Mathlib.Omega.{arith}
 use Prim.Native.Nat.{ℕ}
 use lib.ListN.{length-replicate}
 use borrow.Author.Needs.{needs}
-use Rattle.report.specs.Report.{textSize}
+use Rattle.text.specs.Text.{textSize}
 use Rattle.report.proofs.Sizes.{report-few}
-use Rattle.report.proofs.Reporting.{text-room, text-laid}
+use Rattle.text.proofs.Sizes.{text-room, text-laid}
 use Rattle.report.proofs.write.Statement.{statement}
 use Rattle.report.proofs.write.Tie as tie
 

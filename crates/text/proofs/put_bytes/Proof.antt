@@ -1,12 +1,12 @@
--- `report::put_bytes` meets its contract: before byte i, the first i bytes of the word are laid.
+-- `text::put_bytes` meets its contract: before byte i, the first i bytes of the word are laid.
 use Prim.Native.Nat.{_+_, _≤_, _-_}
 use native.Mathlib.Omega.{arith}
 use mathlib.Core.Path.{_≡_, refl, sym, ap, _∙_}
 use lib.ListN.{length, getD, set, take, length-take}
-use Rattle.report.specs.Text.{laid}
-use Rattle.report.proofs.Laying.{laid-none, laid-length, laid-next, take-whole}
-use Rattle.report.proofs.put_bytes.Statement.{statement}
-use Rattle.report.proofs.put_bytes.Tie as tie
+use Rattle.text.specs.Text.{laid}
+use Rattle.text.proofs.Laying.{laid-none, laid-length, laid-next, take-whole}
+use Rattle.text.proofs.put_bytes.Statement.{statement}
+use Rattle.text.proofs.put_bytes.Tie as tie
 
 abbrev Inv-loop : tie.InvT-loop
 Inv-loop text₀ at word i₀ text i = (text ≡ laid at (take i word) text₀) × (i ≤ length word)

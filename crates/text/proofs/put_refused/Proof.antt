@@ -1,8 +1,8 @@
--- `report::put_refused` meets its contract: each piece is laid behind the one before.
+-- `text::put_refused` meets its contract: each piece is laid behind the one before.
 use borrow.Author.Needs.{needs}
-use Rattle.report.proofs.Laying.{room-front, room-rest, put-then}
-use Rattle.report.proofs.put_refused.Statement.{statement}
-use Rattle.report.proofs.put_refused.Tie as tie
+use Rattle.text.proofs.Laying.{room-front, room-rest, put-then}
+use Rattle.text.proofs.put_refused.Statement.{statement}
+use Rattle.text.proofs.put_refused.Tie as tie
 
 cast-number : tie.Need-cast-number
 cast-number c = search needs

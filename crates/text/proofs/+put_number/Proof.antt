@@ -1,21 +1,21 @@
--- `report::put_number` meets its contract: the number falls with each call, and the last digit is laid behind the
+-- `text::put_number` meets its contract: the number falls with each call, and the last digit is laid behind the
 -- others.
 use native.Mathlib.Omega.{arith}
 use mathlib.Core.Path.{sym, ap, _∙_}
 use mathlib.Core.List.{[], _∷_}
 use lib.ListN.{length, length-append}
-use Rattle.report.specs.Text.{decimal, laid}
-use Rattle.report.proofs.Laying.{decimal-one, decimal-more, room-rest, put-then}
+use Rattle.text.specs.Text.{decimal, laid}
+use Rattle.text.proofs.Laying.{decimal-one, decimal-more, room-rest, put-then}
 use borrow.Author.Needs.{needs}
 use Prim.Native.Nat.{ℕ, _+_, _/_, _%_, _<_}
 use borrow.Fn.Kinds.{In}
 use borrow.Fn.PlainCycle.{Measures, is, falls, and}
-use Rattle.report.proofs.put_number.Reads as put-number
-use Rattle.report.proofs.put_number.Kinds as put-number-kinds
-use Rattle.report.proofs.+put_number.Lts-put_number as put-number-lts
-use Rattle.report.proofs.put_byte.Reads as put-byte-reads
-use Rattle.report.proofs.+put_number.{statement}
-use Rattle.report.proofs.+put_number.Tie.{close}
+use Rattle.text.proofs.put_number.Reads as put-number
+use Rattle.text.proofs.put_number.Kinds as put-number-kinds
+use Rattle.text.proofs.+put_number.Lts-put_number as put-number-lts
+use Rattle.text.proofs.put_byte.Reads as put-byte-reads
+use Rattle.text.proofs.+put_number.{statement}
+use Rattle.text.proofs.+put_number.Tie.{close}
 
 abbrev μ-put-number : Measures 1 put-number-kinds.ps ℕ
 μ-put-number κs a = a .1 .1 .0

@@ -1,10 +1,10 @@
--- `report::put_byte` meets its contract: a byte stored is a byte laid.
+-- `text::put_byte` meets its contract: a byte stored is a byte laid.
 use native.Mathlib.Omega.{arith}
 use mathlib.Core.Path.{refl}
-use Rattle.report.proofs.Laying.{laid-one}
+use Rattle.text.proofs.Laying.{laid-one}
 use borrow.Author.Needs.{needs}
-use Rattle.report.proofs.put_byte.Statement.{statement}
-use Rattle.report.proofs.put_byte.Tie as tie
+use Rattle.text.proofs.put_byte.Statement.{statement}
+use Rattle.text.proofs.put_byte.Tie as tie
 
 slice-write-text : tie.Need-slice-write-text
 slice-write-text c = search needs

@@ -1,10 +1,10 @@
--- `report::magnitude` meets its contract: the value is read as it is, and negated where it is negative.
+-- `text::magnitude` meets its contract: the value is read as it is, and negated where it is negative.
 use lib.IntN.{pos, _-ℤ_}
 use mir.Syntax.{w16, w64}
 use mir.ValLaws.{toZ-ofZ}
 use Rattle.signs.proofs.Signs.{wide32, wide64, negative, positive}
-use Rattle.report.proofs.magnitude.Statement.{statement}
-use Rattle.report.proofs.magnitude.Tie as tie
+use Rattle.text.proofs.magnitude.Statement.{statement}
+use Rattle.text.proofs.magnitude.Tie as tie
 
 cast-wide : tie.Need-cast-wide
 cast-wide c =

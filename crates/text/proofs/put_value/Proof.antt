@@ -1,4 +1,4 @@
--- `report::put_value` meets its contract: behind the blank stand the minus sign of a negative value, and its magnitude.
+-- `text::put_value` meets its contract: behind the blank stand the minus sign of a negative value, and its magnitude.
 use native.Mathlib.Omega.{arith}
 use mathlib.Core.Path.{_≡_, sym, ap, _∙_}
 use mathlib.Core.List.{[], _∷_}
@@ -7,11 +7,11 @@ use lib.IntN.{natAbs}
 use mir.Syntax.{w16}
 use mir.ValLaws.{toZ-ofZ}
 use borrow.Author.Needs.{needs}
-use Rattle.report.specs.Text.{decimal, signedDecimal}
-use Rattle.report.proofs.Laying.{room-rest, put-then}
-use Rattle.report.proofs.Signs.{negative-text, positive-text}
-use Rattle.report.proofs.put_value.Statement.{statement}
-use Rattle.report.proofs.put_value.Tie as tie
+use Rattle.text.specs.Text.{decimal, signedDecimal}
+use Rattle.text.proofs.Laying.{room-rest, put-then}
+use Rattle.text.proofs.Signs.{negative-text, positive-text}
+use Rattle.text.proofs.put_value.Statement.{statement}
+use Rattle.text.proofs.put_value.Tie as tie
 
 -- the text of the value in each branch
 below : (c : tie.After-magnitude) →

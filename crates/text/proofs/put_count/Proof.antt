@@ -1,9 +1,9 @@
--- `report::put_count` meets its contract: the number is laid behind the blank.
+-- `text::put_count` meets its contract: the number is laid behind the blank.
 use native.Mathlib.Omega.{arith}
 use borrow.Author.Needs.{needs}
-use Rattle.report.proofs.Laying.{put-then}
-use Rattle.report.proofs.put_count.Statement.{statement}
-use Rattle.report.proofs.put_count.Tie as tie
+use Rattle.text.proofs.Laying.{put-then}
+use Rattle.text.proofs.put_count.Statement.{statement}
+use Rattle.text.proofs.put_count.Tie as tie
 
 put-byte-requires : tie.Need-put-byte-requires
 put-byte-requires c κs = search needs

@@ -7,7 +7,7 @@ use borrow.Author.Tests.{le-ltb}
 use lib.IntN.{ℤ, pos, negsuc, natAbs}
 use lib.Signed.{ltZ}
 use Rattle.lists.proofs.Choice.{true-not-false}
-use Rattle.report.specs.Text.{decimal, signedDecimal}
+use Rattle.text.specs.Text.{decimal, signedDecimal}
 
 -- a minus sign stands before the magnitude of a negative one
 pub negative-text : (v : ℤ) → ltZ v (pos 0) ≡ true → signedDecimal v ≡ 45 ∷ decimal (natAbs v)

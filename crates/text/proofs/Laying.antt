@@ -11,7 +11,7 @@ use native.Mathlib.Nat.{pow-suc, div-lt-iff-lt-mul}
 use mathlib.Core.Bool.{cond}
 use lib.Dec.{ltb}
 use Rattle.lists.proofs.Choice.{cond-cases}
-use Rattle.report.specs.Text.{decimalWithin, decimal, laid, TextRoom, Put}
+use Rattle.text.specs.Text.{decimalWithin, decimal, laid, TextRoom, Put}
 
 -- nothing laid
 pub laid-none : (at : ℕ) (b : List ℕ) → laid at [] b ≡ b

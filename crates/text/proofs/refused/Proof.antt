@@ -1,13 +1,12 @@
--- `report::refused` meets its contract: what is laid into zeros is the text of the line.
+-- `text::refused` meets its contract: what is laid into zeros is the text of the line.
 use native.Mathlib.Omega.{arith}
 use Prim.Native.Nat.{ℕ}
 use lib.ListN.{length-replicate}
 use borrow.Author.Needs.{needs}
-use Rattle.report.specs.Report.{textSize}
-use Rattle.report.proofs.Sizes.{refused-few}
-use Rattle.report.proofs.Reporting.{text-room, text-laid}
-use Rattle.report.proofs.refused.Statement.{statement}
-use Rattle.report.proofs.refused.Tie as tie
+use Rattle.text.specs.Text.{textSize}
+use Rattle.text.proofs.Sizes.{refused-few, text-room, text-laid}
+use Rattle.text.proofs.refused.Statement.{statement}
+use Rattle.text.proofs.refused.Tie as tie
 
 slice-aggregate-put-refused : tie.Need-slice-aggregate-put-refused
 slice-aggregate-put-refused c = search needs

@@ -1,12 +1,12 @@
--- The program's text as bytes: numbers in base ten, a method's line, a rejection's line (SPEC 12.1).
-use Prim.Native.Nat.{ℕ, zero, suc, _+_, _/_, _%_, _≤_}
+-- Text as bytes: numbers in base ten, and the line of a rejection (SPEC 12.1).
+use Prim.Native.Nat.{ℕ, zero, suc, _+_, _-_, _/_, _%_, _≤_}
 use mathlib.Core.Path.{_≡_}
 use mathlib.Core.Bool.{cond}
 use mathlib.Core.List.{List, [], _∷_, _++_}
 use lib.Dec.{ltb}
 use lib.IntN.{ℤ, pos, negsuc}
-use lib.ListN.{length, take, drop}
-use Rattle.certificate.specs.declared.Findings.{Findings}
+use lib.ListN.{length, take, drop, replicate}
+use Rattle.text.specs.declared.Text.{Text}
 
 -- the text of a number in base ten, of at most so many digits
 unfoldable pub decimalWithin : ℕ → ℕ → List ℕ
@@ -29,19 +29,6 @@ space = 32
 abbrev pub lineFeed : ℕ
 lineFeed = 10
 
--- "method value move leaves"
-abbrev pub heading : List ℕ
-heading =
-    109 ∷ 101 ∷ 116 ∷ 104 ∷ 111 ∷ 100 ∷ 32 ∷ 118 ∷ 97 ∷ 108 ∷ 117 ∷ 101 ∷ 32 ∷ 109 ∷ 111 ∷ 118 ∷ 101 ∷ 32 ∷ 108 ∷ 101
-    ∷ 97 ∷ 118 ∷ 101 ∷ 115 ∷ 10 ∷ []
-
--- a method's name, the value, the move and the count of evaluated leaves, with one blank between
-abbrev pub methodLine : List ℕ → Findings → List ℕ
-methodLine name f =
-    name
-    ++ (space ∷ (signedDecimal (f .value)
-    ++ (space ∷ (decimal (f .«root_move») ++ (space ∷ (decimal (f .leaves) ++ (lineFeed ∷ [])))))))
-
 -- "refused", the number and the place
 abbrev pub refusedLine : ℕ → ℕ → List ℕ
 refusedLine number place =
@@ -59,3 +46,11 @@ pub record TextRoom (at : ℕ) (x b : List ℕ) : Type 0 where
 pub record Put (at : ℕ) (x b : List ℕ) (next : ℕ) (after : List ℕ) : Type 0 where
   pub behind : next ≡ at + length x
   pub text : after ≡ laid at x b
+
+-- how many bytes a text has: room for every report of a file, and for the line of every rejection
+abbrev pub textSize : ℕ
+textSize = 256
+
+-- the text that begins with the bytes x, and has zeros behind them
+unfoldable pub textOf : List ℕ → Text
+textOf x = record { bytes = x ++ replicate (textSize - length x) 0; length = length x }

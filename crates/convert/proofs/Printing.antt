@@ -1,0 +1,118 @@
+-- What the converter gives decides what is printed: a file that it wrote is printed as it stands, a rejection as its
+-- line.
+use Prim.Native.Nat.{ℕ, _*_, _≤_, _<_}
+use native.Mathlib.Omega.{arith}
+use mathlib.Core.Path.{_≡_, refl, sym, ap, _∙_}
+use mathlib.Core.Bool.{Bool, true, false}
+use mathlib.Core.Option.{Option, none, some}
+use mathlib.Core.List.{List, _++_}
+use lib.Dec.{leb}
+use lib.ListN.{length, take, drop, length-append}
+use lib.Seq.{take-length}
+use borrow.Author.Tests.{le-leb, lt-leb}
+use Rattle.frames.specs.declared.Rejection.{Rejection}
+use Rattle.frames.specs.Rejection.{ask}
+use Rattle.frames.specs.Frame.{frames}
+use Rattle.frames.proofs.Acceptance.{accepted-formed}
+use Rattle.lines.specs.Line.{lineSize}
+use Rattle.lines.specs.Lines.{decoded}
+use Rattle.reader.specs.File.{maxFile}
+use Rattle.writer.specs.Encoded.{fileOf}
+use Rattle.writer.specs.Write.{Outcome, written, lengthGiven}
+use Rattle.writer.specs.declared.Written.the-variants.{Length, Rejected}
+use Rattle.treefile.proofs.Saving.{length-written, rejection-written}
+use Rattle.text.specs.declared.Text.{Text}
+use Rattle.text.specs.Text.{refusedLine, textOf}
+use Rattle.text.proofs.Sizes.{refused-few, text-bytes}
+use Rattle.convert.specs.Lift.{lifted}
+use Rattle.convert.specs.Convert.{convertRejection, convertOutcome}
+use Rattle.convert.specs.Printed.{printed, laidBy, laidText, outputOutcome}
+use Rattle.convert.specs.results.Converted.{baseRejection}
+use Rattle.convert.proofs.Kept.{lifted-rejection}
+use Rattle.convert.proofs.Converted.{base-table, convert-gives, converted-within}
+
+-- bytes that have room in the buffer are laid; where they have none, the answer is 10
+module _ (x buffer : List ℕ) where
+  pub text-laid : length x ≤ length buffer
+      → record { answer = Length (length x); file = x ++ drop (length x) buffer } ≡ laidText x buffer
+  unfolding laidText
+  text-laid h = rw (le-leb (length x) (length buffer) h)
+
+  pub text-short : length buffer < length x
+      → record { answer = Rejected (record { number = 10; place = 0 }); file = buffer } ≡ laidText x buffer
+  unfolding laidText
+  text-short h = rw (lt-leb (length x) (length buffer) h)
+
+  -- so are the bytes of a text, where they are copied
+  pub copied-laid : (r : Text) (after : List ℕ) → r ≡ textOf x → r .length ≤ length buffer
+      → after ≡ take (length (take (r .length) (r .bytes))) (take (r .length) (r .bytes))
+      ++ drop (length (take (r .length) (r .bytes))) buffer
+      → record { answer = Length (r .length); file = after } ≡ laidText x buffer
+  copied-laid r after e room h =
+      let b = text-bytes x e in
+      let same : after ≡ x ++ drop (length x) buffer = h ∙ rw (b .1, take-length x) in
+      rw (same, b .0) (text-laid (omega (arith, b .0)))
+
+  -- the length that is given is within the buffer
+  within-by : (b : Bool) → leb (length x) (length buffer) ≡ b
+      → lengthGiven (laidBy x buffer (ask b 10 0) .answer) ≤ length (laidBy x buffer (ask b 10 0) .file)
+  within-by true e = omega (arith, length-append x (drop (length x) buffer))
+  within-by false e = omega arith
+
+  pub laid-within : lengthGiven (laidText x buffer .answer) ≤ length (laidText x buffer .file)
+  unfolding laidText
+  laid-within = within-by _ refl
+
+module _ (f buffer : List ℕ) where
+  abbrev asked : Option Rejection
+  asked = convertRejection f (length buffer)
+
+  abbrev table : List ℕ
+  table = decoded (lifted f)
+
+  convert-is : convertOutcome f buffer ≡ written table buffer asked
+  unfolding convertOutcome
+  convert-is = refl
+
+  -- a file that was written is printed
+  pub written-printed : (o : Outcome) (n : ℕ) → o ≡ convertOutcome f buffer → o .answer ≡ Length n
+      → o ≡ outputOutcome f buffer
+  unfolding printed
+  written-printed o n e h =
+      let given = sym (ap (λ x. x .answer) e) ∙ h in
+      let w = length-written table buffer asked n (sym (ap (λ x. x .answer) convert-is) ∙ given) in
+      e ∙ convert-is
+      ∙ rw (w .passed) (text-laid (fileOf table) buffer (omega (arith, w .size, converted-within f buffer n given)))
+
+  -- a rejection leaves the buffer as it was, and its line is printed
+  pub rejection-printed : (o : Outcome) (r : Rejection) → o ≡ convertOutcome f buffer → o .answer ≡ Rejected r
+      → (o .file ≡ buffer) × (outputOutcome f buffer ≡ laidText (refusedLine (r .number) (r .place)) buffer)
+  unfolding printed
+  rejection-printed o r e h =
+      let w = rejection-written table buffer asked r (sym (ap (λ x. x .answer) (e ∙ convert-is)) ∙ h) in
+      (ap (λ x. x .file) (e ∙ convert-is) ∙ w .1, rw (w .0))
+
+  -- the length that is given is within the buffer
+  pub printed-within : (o : Outcome) → o ≡ outputOutcome f buffer → lengthGiven (o .answer) ≤ length (o .file)
+  printed-within o e = rw e (laid-within (printed f (length buffer)) buffer)
+
+  -- in a buffer with room for every file, what the base accepted is printed as its table's file
+  pub file-printed : maxFile ≤ length buffer → baseRejection f ≡ none
+      → outputOutcome f buffer
+      ≡ record {
+        answer = Length (lineSize * frames (decoded f));
+        file = fileOf (decoded f) ++ drop (lineSize * frames (decoded f)) buffer;
+      }
+  file-printed room e =
+      let few = accepted-formed (decoded f) (base-table f e) .few in
+      let g = convert-gives f buffer e (omega arith) in
+      sym (written-printed _ _ (sym g) refl)
+
+  -- and what it refused as the line of that refusal
+  pub line-printed : maxFile ≤ length buffer → (r : Rejection) → baseRejection f ≡ some r →
+      let line = refusedLine (r .number) (r .place) in
+      outputOutcome f buffer ≡ record { answer = Length (length line); file = line ++ drop (length line) buffer }
+  unfolding printed convertRejection
+  line-printed room r e =
+      rw (lifted-rejection f, e)
+      (sym (text-laid (refusedLine (r .number) (r .place)) buffer (omega (arith, refused-few r))))

@@ -1,0 +1,64 @@
+-- How long numbers and a rejection's line are; and what is laid into zeros is a text.
+use Prim.Native.Nat.{ℕ, zero, suc, _-_, _≤_}
+use native.Mathlib.Omega.{arith}
+use native.Mathlib.Nat.{zero-add}
+use mathlib.Core.Path.{_≡_, refl, ap, ap₂, _∙_}
+use mathlib.Core.List.{List, _++_}
+use lib.IntN.{ℤ, pos, negsuc}
+use lib.ListN.{length, take, drop, replicate, length-append}
+use lib.Seq.{take-at}
+use Rattle.frames.specs.declared.Rejection.{Rejection}
+use Rattle.text.specs.declared.Text.{Text}
+use Rattle.text.specs.Text.{signedDecimal, refusedLine, laid, TextRoom, Put, textSize, textOf}
+use Rattle.text.proofs.Laying.{decimal-few}
+
+-- 20 digits and a sign
+pub signedDecimal-few : (v : ℤ) → length (signedDecimal v) ≤ 21
+signedDecimal-few (pos n) = omega (arith, decimal-few 20 n)
+signedDecimal-few (negsuc n) = omega (arith, decimal-few 20 (suc n))
+
+-- a rejection's line
+pub refused-few : (r : Rejection) → length (refusedLine (r .number) (r .place)) ≤ textSize
+refused-few r = simp length-append (omega (arith, decimal-few 20 (r .number), decimal-few 20 (r .place)))
+
+-- what is left of zeros
+drop-replicate : (k n : ℕ) → drop {A = ℕ} k (replicate n 0) ≡ replicate (n - k) 0
+drop-replicate zero n = let e : n - 0 ≡ n = omega arith in rw e
+drop-replicate (suc k) zero = let e : 0 - suc k ≡ 0 = omega arith in rw e
+drop-replicate (suc k) (suc n) = let e : suc n - suc k ≡ n - k = omega arith in rw e (drop-replicate k n)
+
+-- bytes that a text has room for
+module _ (x : List ℕ) where
+  -- they have room in a buffer of its size
+  pub text-room : {b : List ℕ} → length x ≤ textSize → textSize ≤ length b → TextRoom 0 x b
+  text-room few h = record { enough = omega arith }
+
+  -- what was laid into zeros is the text of them
+  pub text-laid : {n : ℕ} {b : List ℕ} → Put 0 x (replicate textSize 0) n b
+      → record { bytes = b; length = n } ≡ textOf x
+  unfolding textOf laid
+  text-laid {n} {b} p =
+      let k : n ≡ length x = omega (arith, p .behind) in
+      let z : b ≡ x ++ replicate (textSize - length x) 0 =
+      p .text
+      ∙ ap (λ i. x ++ drop {A = ℕ} i (replicate textSize 0)) (zero-add (length x))
+      ∙ ap (λ y. x ++ y) (drop-replicate (length x) textSize) in
+      cc
+
+  -- the length of a text is within it
+  pub length-within : {r : Text} → r ≡ textOf x → r .length ≤ length (r .bytes)
+  unfolding textOf
+  length-within e =
+      omega (
+        arith,
+        ap (λ t. t .length) e,
+        ap (λ t. length (t .bytes)) e,
+        length-append x (replicate (textSize - length x) 0),
+      )
+
+  -- and so many of its bytes are those that were laid
+  pub text-bytes : {r : Text} → r ≡ textOf x → (r .length ≡ length x) × (take (r .length) (r .bytes) ≡ x)
+  unfolding textOf
+  text-bytes {r} e =
+      let n : r .length ≡ length x = ap (λ t. t .length) e in
+      (n, ap₂ take n (ap (λ t. t .bytes) e) ∙ take-at x _ (length x) refl)

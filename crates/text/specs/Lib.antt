@@ -1,0 +1,2 @@
+-- Definitions of text as bytes.
+pub mod Text
