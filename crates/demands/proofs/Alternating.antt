@@ -1,9 +1,14 @@
--- A table without a second capture gives what it gave before byte 3 had a meaning (N8): everything is as the tree makes
--- it whose sides go by the depth.
-use Prim.Native.Nat.{ℕ}
-use mathlib.Core.Path.{_≡_, ap, _∙_}
-use mathlib.Core.List.{List}
+-- A table or a file without a second capture gives what it gave before byte 3 had a meaning (N8): the questions are what
+-- they were, and everything else is as the tree makes it whose sides go by the depth.
+use Prim.Native.Nat.{ℕ, zero, suc, _+_, _<_}
+use native.Mathlib.Omega.{arith}
+use mathlib.Core.Path.{_≡_, refl, ap, ap₂, _∙_}
+use mathlib.Core.Option.{Option, none, some}
+use mathlib.Core.List.{List, [], _∷_}
+use lib.ListN.{length}
 use Rattle.lists.specs.Lists.{among}
+use Rattle.gametree.specs.declared.Side.{Side}
+use Rattle.gametree.specs.declared.Side.the-variants.{Max, Min}
 use Rattle.gametree.specs.Tree.{least, greatest, minimax}
 use Rattle.gametree.specs.Move.{rootMove}
 use Rattle.gametree.specs.Certificate.{flag}
@@ -13,18 +18,68 @@ use Rattle.gametree.specs.Sss.{sss as run}
 use Rattle.frames.specs.Frame.{frames}
 use Rattle.frames.specs.Value.{valueOf}
 use Rattle.frames.specs.Tree.{tree, valuation}
-use Rattle.frames.specs.Check.{Accepted}
-use Rattle.frames.specs.results.Alternating.{Alternating, treeByDepth}
+use Rattle.frames.specs.declared.Rejection.{Rejection}
+use Rattle.frames.specs.Rejection.{ask, answer, _andThen_, eachNode}
+use Rattle.frames.specs.Check.{Accepted, check1, check5, check6, check7, check8, check10, depthsRejection}
+use Rattle.frames.specs.Check.{framesRejection}
+use Rattle.frames.specs.results.Alternating.{Alternating, zeroRejection, treeByDepth}
 use Rattle.frames.proofs.Acceptance.{accepted-formed}
-use Rattle.frames.proofs.Sides.{tree-before}
+use Rattle.frames.proofs.Sides.{check4-before, rejection-before, side-parity, tree-before}
+use Rattle.lines.specs.Lines.{decoded}
+use Rattle.reader.specs.File.{fileCheck2, fileCheck3, fileCheck16, fileCheck10, fileRejection, readRejection, readAnswer}
+use Rattle.reader.specs.File.{filled, tableAfter}
+use Rattle.reader.proofs.Acceptance.{accepted-table}
+use Rattle.verify.specs.Flags.{ruleHolds}
+use Rattle.verify.specs.Check.{checkTree, check11, check14, treesRejection, flagsRejection, certificateRejection}
+use Rattle.verify.specs.Check.{judged, verdict}
+use Rattle.plain.specs.declared.Found.{Found}
+use Rattle.plain.specs.declared.Answer.the-variants as plain-answer
+use Rattle.plain.specs.Outcome.{allLeaves}
+use Rattle.report.specs.Report.{abLine, mtdLine, sssLine, printed, report}
 use Rattle.places.specs.Buffer.{written}
 use Rattle.alphabeta.specs.Outcome.{reachedLeaves}
 use Rattle.mtd.specs.Outcome.{mtdLeaves}
 use Rattle.sss.specs.Outcome.{runOf}
-use Rattle.demands.specs.Calls.{Call, found, lent, left, leaves}
+use Rattle.demands.specs.Calls.{PlainCall, Call, found, lent, left, leaves}
+use Rattle.demands.specs.Alternating.{zeroFrames, zeroFile, zeroRead, ruleByDepth, treeRuleByDepth}
+use Rattle.demands.specs.Alternating.{verdictByDepth, analysisOn, printedByDepth, reportByDepth}
 use Rattle.demands.proofs.Demand2.{only-accepted, value-minimax, move-first, leaves-exactly}
+use Rattle.demands.proofs.Plain.{plain-accepted, plain-value, plain-move, same-bounds}
+
+-- a check put to each node says what another says that is the same at each
+each-same : (p q : ℕ → Option Rejection) (i n : ℕ) → ((k : ℕ) → k < i + n → p k ≡ q k)
+    → eachNode p i n ≡ eachNode q i n
+unfolding eachNode
+each-same p q i zero e = refl
+each-same p q i (suc n) e =
+    ap₂ _andThen_ (e i (omega arith)) (each-same p q (i + 1) n (λ k h. e k (omega arith)))
 
 module _ (t : List ℕ) (p : Alternating t) where
+  -- the first "no" to questions 4 to 9 is what it was
+  pub frames-before : framesRejection t ≡ zeroFrames t
+  unfolding framesRejection
+  frames-before =
+      ap (λ x. x andThen check8 t andThen depthsRejection t)
+      (each-same _ _ 0 (frames t) (λ k h.
+      ap (λ x. x andThen check5 t k andThen check6 t k andThen check7 t k) (check4-before t p k (omega arith))))
+
+  rule-before : (s : Side) (flags : List ℕ) (i : ℕ) → i < frames t → ruleHolds s t flags i ≡ ruleByDepth s t flags i
+  unfolding ruleHolds
+  rule-before s flags i h = rw (side-parity t p i h)
+
+  tree-rule-before : (q : ℕ) (s : Side) (flags : List ℕ) → checkTree q s t flags ≡ treeRuleByDepth q s t flags
+  tree-rule-before q s flags =
+      each-same _ _ 0 (frames t) (λ i h. ap (λ b. ask b q i) (rule-before s flags i (omega arith)))
+
+  -- the check of certificates answers what it answered
+  pub alternating-verdict : (flags : List ℕ) → verdict t flags ≡ verdictByDepth t flags
+  unfolding verdict certificateRejection flagsRejection treesRejection
+  alternating-verdict flags =
+      ap (λ x. judged t flags (x andThen flagsRejection t flags)) (rejection-before t p)
+      ∙ ap₂ (λ x y. judged t flags (zeroRejection t andThen check10 (frames t) (length flags ∷ [])
+      andThen check11 t flags andThen x andThen y andThen check14 t flags)) (tree-rule-before 12 Max flags)
+      (tree-rule-before 13 Min flags)
+
   pub alternating-tree : Accepted t → tree t ≡ treeByDepth t
   alternating-tree a = tree-before t p (accepted-formed t a)
 
@@ -55,3 +110,48 @@ module _ (t : List ℕ) (p : Alternating t) where
 
   pub alternating-sss : Accepted t → runOf t ≡ run (valuation t) (treeByDepth t)
   alternating-sss a = ap (run (valuation t)) (alternating-tree a)
+
+  -- the plain engine gives what it gave
+  module _ {f : Found} (c : PlainCall t (plain-answer.Found f)) where
+    pub alternating-plain-value : f .value ≡ valueOf (minimax (valuation t) (treeByDepth t))
+    alternating-plain-value =
+        plain-value c ∙ ap (λ x. valueOf (minimax (valuation t) x)) (alternating-tree (plain-accepted c))
+
+    pub alternating-plain-move : f .«root_move» ≡ rootMove (valuation t) (treeByDepth t)
+    alternating-plain-move = plain-move c ∙ ap (rootMove (valuation t)) (alternating-tree (plain-accepted c))
+
+    pub alternating-plain-flags : c .left .flags
+        ≡ written (flag (valuation t) (among (allLeaves t)) (treeByDepth t)) (frames t) (c .lent .flags)
+    alternating-plain-flags =
+        same-bounds c
+        ∙ ap (λ x. written (flag (valuation t) (among (allLeaves t)) x) (frames t) (c .lent .flags))
+        (alternating-tree (plain-accepted c))
+
+-- of files
+module _ (f : List ℕ) (p : Alternating (decoded f)) where
+  -- the questions put to a file say what they said,
+  pub alternating-file : fileRejection f ≡ zeroFile f
+  unfolding fileRejection
+  alternating-file =
+      ap (λ x. check1 f andThen fileCheck2 f andThen fileCheck3 f andThen fileCheck16 f andThen x)
+      (frames-before (decoded f) p)
+
+  -- and so the reader answers what it answered, and leaves what it left
+  pub alternating-read : (table : List ℕ)
+      → (readAnswer f table ≡ answer (frames (decoded f)) (zeroRead f table))
+      × (tableAfter f table ≡ filled (zeroRead f table) (decoded f) table)
+  unfolding readRejection
+  alternating-read table =
+      let e = ap (λ x. x andThen fileCheck10 f table) alternating-file in
+      (ap (answer (frames (decoded f))) e, ap (λ x. filled x (decoded f) table) e)
+
+  -- and the program prints what it printed
+  printed-before : (q : Option Rejection) → fileRejection f ≡ q → printed f q ≡ printedByDepth f q
+  unfolding abLine mtdLine sssLine
+  printed-before none e =
+      ap (analysisOn (valuation (decoded f)))
+      (tree-before (decoded f) p (accepted-formed (decoded f) (accepted-table f e .1)))
+  printed-before (some r) e = refl
+
+  pub alternating-report : report f ≡ reportByDepth f
+  alternating-report = printed-before (fileRejection f) refl ∙ ap (printedByDepth f) alternating-file

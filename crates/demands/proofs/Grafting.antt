@@ -1,8 +1,11 @@
 -- Grafting a deeper analysis (02: N9), sentence by sentence, over the definition that the contract of the call cites.
 -- The first table is t, the named node k, the second table u, the lent buffer b; the table at the buffer's front after
 -- a call that gives n nodes is `handed t k u b n`.
-use Prim.Native.Nat.{ℕ, _+_, _*_, _≤_, _<_}
+use Prim.Native.Nat.{ℕ, _+_, _-_, _*_, _≤_, _<_}
+use native.Mathlib.Omega.{arith}
+use native.Mathlib.Decide.{decLe}
 use mathlib.Core.Path.{_≡_, ap}
+use mathlib.Core.Logic.{_⊎_, inl, inr}
 use mathlib.Core.Option.{some}
 use mathlib.Core.List.{List, _++_}
 use lib.ListN.{length, getD, drop}
@@ -11,11 +14,12 @@ use Rattle.gametree.specs.Tree.{other, minimax}
 use Rattle.gametree.specs.Graft.{relabelled}
 use Rattle.frames.specs.declared.Rejection.{Rejection}
 use Rattle.frames.specs.declared.Checked.the-variants.{Nodes, Rejected}
-use Rattle.frames.specs.Frame.{frameSize, frames, byteOf, childCount}
-use Rattle.frames.specs.Place.{parentOf, sideOf}
+use Rattle.frames.specs.Frame.{frameSize, maxNodes, maxDepth, frames, byteOf, childCount}
+use Rattle.frames.specs.Place.{parentOf, depthOf, sideOf}
 use Rattle.frames.specs.Tree.{tree, valuation}
 use Rattle.frames.specs.Check.{rejection, Accepted}
 use Rattle.frames.proofs.Places.{place-root}
+use Rattle.frames.proofs.Acceptance.{accepted-formed}
 use Rattle.graftable.specs.Questions.{graftSize, graftRejection}
 use Rattle.graft.specs.Sources.{sources}
 use Rattle.graft.specs.Table.{graftTable}
@@ -24,7 +28,7 @@ use Rattle.graft.specs.Outcome.{graftOutcome}
 use Rattle.graft.specs.results.Grafted.{graftTree, graftValue, handed}
 use Rattle.graft.proofs.Acceptance.{accepted-graftable}
 use Rattle.graft.proofs.Grafting.{leaf-other, graft-keeps, graft-first, graft-second, graft-no-leaf, graft-too-large}
-use Rattle.graft.proofs.Grafting.{graft-short, graft-gives, given-graftable, grafted-nodes, grafted-rest}
+use Rattle.graft.proofs.Grafting.{graft-deep, graft-short, graft-gives, given-graftable, grafted-nodes, grafted-rest}
 use Rattle.graft.proofs.Grafting.{grafted-accepted, grafted-tree, grafted-bytes, grafted-value}
 
 -- "A leaf's mover is the other side of its parent's"
@@ -88,7 +92,33 @@ module _ (t : List ℕ) (k : ℕ) (u b : List ℕ) where
       → graftOutcome t k u b .answer ≡ Rejected (record { number = 17; place = k })
   no-max-leaf = graft-no-leaf t k u b
 
-  -- "a result of more than 4,096 nodes or 18 plies, 18, place 0": 17 passes, and the grafted table is not accepted
+  -- "a result of more than 4,096 nodes .. 18, place 0", where 17 passes
+  pub too-many-nodes : Accepted t → Accepted u → MaxLeaf t k → maxNodes < graftSize t u
+      → graftOutcome t k u b .answer ≡ Rejected (record { number = 18; place = 0 })
+  too-many-nodes a c l h = graft-too-large t k u b a c l (λ r. omega (arith, accepted-graftable t k u a c l r .few))
+
+  -- "or 18 plies": a node of the second tree would stand deeper in the result
+  pub too-many-plies : Accepted t → Accepted u → MaxLeaf t k → (v : ℕ) → v < frames u
+      → maxDepth < depthOf t k + depthOf u v
+      → graftOutcome t k u b .answer ≡ Rejected (record { number = 18; place = 0 })
+  too-many-plies a c l v h d =
+      graft-too-large t k u b a c l (λ r. omega (arith, accepted-graftable t k u a c l r .shallow v h))
+
+  -- and 18 is given in no other case
+  pub eighteen-only : Accepted t → Accepted u → MaxLeaf t k
+      → graftOutcome t k u b .answer ≡ Rejected (record { number = 18; place = 0 })
+      → (maxNodes < graftSize t u) ⊎ ((v : ℕ) × (v < frames u) × (maxDepth < depthOf t k + depthOf u v))
+  eighteen-only a c l e =
+      elim (decLe (graftSize t u) maxNodes) [
+        | no f ↦ inl (omega arith)
+        | yes f ↦ inr (
+          frames u - 1,
+          omega (arith, accepted-formed u c .some),
+          graft-deep t k u b a c l f e,
+        )
+      ]
+
+  -- so the grafted table would not be accepted
   pub too-large : Accepted t → Accepted u → MaxLeaf t k → (Accepted (graftTable t k u) → ⊥)
       → graftOutcome t k u b .answer ≡ Rejected (record { number = 18; place = 0 })
   too-large = graft-too-large t k u b

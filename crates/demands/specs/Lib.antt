@@ -3,4 +3,5 @@ pub mod Calls
 pub mod Handed
 pub mod Allowance
 pub mod Order
+pub mod Alternating
 pub mod Cases

@@ -1,6 +1,6 @@
 -- What a call leaves, over the outcome that the contract cites: when it gives a number of nodes, what the table at the
 -- buffer's front is then, and what each rejection means.
-use Prim.Native.Nat.{ℕ, _+_, _*_, _≤_, _<_}
+use Prim.Native.Nat.{ℕ, _+_, _-_, _*_, _≤_, _<_}
 use native.Mathlib.Omega.{arith}
 use native.Mathlib.Decide.{decLe}
 use mathlib.Core.Path.{_≡_, sym, ap, subst, _∙_}
@@ -9,7 +9,7 @@ use mathlib.Core.Option.{none, some}
 use mathlib.Core.List.{List, _++_}
 use lib.ListN.{length, getD, take, drop}
 use lib.Seq.{take-at, drop-at}
-use Rattle.lists.proofs.Choice.{is-false}
+use Rattle.lists.proofs.Choice.{is-false, clash}
 use Rattle.gametree.specs.Tree.{other, minimax}
 use Rattle.gametree.specs.Graft.{relabelled}
 use Rattle.frames.specs.declared.Rejection.{Rejection}
@@ -32,7 +32,7 @@ use Rattle.graft.specs.results.Grafted.{graftTree, graftValue, handed}
 use Rattle.graftable.proofs.Questions.{max-leaf, leaf-max, refusal, no-leaf, too-many, too-deep, too-short}
 use Rattle.graftable.proofs.Questions.{all-right, first-refused, second-refused, both-accepted, passed-graftable}
 use Rattle.graftable.proofs.Questions.{graftable-deepest}
-use Rattle.graftable.proofs.Heights.{deepest-at}
+use Rattle.graftable.proofs.Heights.{deepest-at, last-deepest}
 use Rattle.graft.proofs.Sources.{fitting}
 use Rattle.graft.proofs.Laid.{laid-length, result-frames, result-carried}
 use Rattle.graft.proofs.Acceptance.{result-accepted}
@@ -46,6 +46,13 @@ leaf-other t k a l h e =
     let p = parent-child t wf k l h in
     mover-other t wf (p .0) (p .1)
     (⊎-elim (λ z. z) (λ m. absurd (omega (arith, m .2))) (accepted-stated t a .frame k h .mover))
+
+-- a number of nodes is no refusal, and a refusal has one number
+nodes-apart : (n q p : ℕ) → Nodes n ≡ refused q p → ⊥
+nodes-apart n q p e = clash (cc)
+
+refused-number : (q q′ : ℕ) {p p′ : ℕ} → refused q p ≡ refused q′ p′ → q ≡ q′
+refused-number q q′ {p} {p′} e = let r : refusal q p ≡ refusal q′ p′ = cc in ap (λ x. x .number) r
 
 module _ (t : List ℕ) (k : ℕ) (u b : List ℕ) where
   -- what the questions say is what is answered
@@ -98,6 +105,31 @@ module _ (t : List ℕ) (k : ℕ) (u b : List ℕ) where
                 shallow = λ v h. omega (arith, deepest-at u v (frames u) h);
               })))
               | no d ↦ omega arith
+            ]
+
+    -- so 18 is given for a result of few enough nodes only where its last node, the deepest, is too deep
+    pub graft-deep : MaxLeaf t k → graftSize t u ≤ maxNodes → graftOutcome t k u b .answer ≡ refused 18 0
+        → maxDepth < depthOf t k + depthOf u (frames u - 1)
+    graft-deep l f e =
+        elim (decLe (depthOf t k + depthOf u (frames u - 1)) maxDepth) [
+          | no d ↦ omega arith
+          | yes d ↦ absurd (passes d)
+        ]
+      where
+        passes : depthOf t k + depthOf u (frames u - 1) ≤ maxDepth → ⊥
+        passes d =
+            let m = leaf-max t k l in
+            let deep : depthOf t k + deepest u (frames u) ≤ maxDepth =
+            omega (arith, last-deepest u (accepted-formed u c)) in
+            let asked = both-accepted t k u (length b) a c in
+            elim (decLe (frameSize * graftSize t u) (length b)) [
+              | yes h ↦ nodes-apart _ 18 0
+                  (sym (ap (answer (graftSize t u)) (asked ∙ all-right t k u (length b) m f deep h)) ∙ e)
+              | no h ↦ omega (
+                arith,
+                refused-number 10 18
+                    (sym (by-leaf (refusal 10 0) (too-short t k u (length b) m f deep (omega arith))) ∙ e),
+              )
             ]
 
   module _ (g : Graftable t k u) where
