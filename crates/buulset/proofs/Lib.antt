@@ -1,0 +1,2 @@
+-- Why the exported calls give what they do.
+mod Listing

@@ -1,0 +1,19 @@
+-- `buulset::buulset_shorter` meets its contract: what the calls that it makes give, flat.
+use borrow.Author.Needs.{needs}
+use Rattle.buulset.proofs.buulset_shorter.Statement.{statement}
+use Rattle.buulset.proofs.buulset_shorter.Tie as tie
+
+choose-requires : tie.Need-choose-requires
+choose-requires c κs = search needs
+
+flags-requires : tie.Need-flags-requires
+flags-requires c κs = search needs
+
+flat-choice-requires : tie.Need-flat-choice-requires
+flat-choice-requires c κs = search needs
+
+returns : tie.Need-returns
+returns c = cc
+
+pub buulset-shorter-spec : {M : Type 1} → statement M
+buulset-shorter-spec = tie.close (tie.spec choose-requires flags-requires flat-choice-requires returns)
