@@ -1,0 +1,213 @@
+/* The linked library by results: every sample, every call, refusals, exact buffers from malloc (so that valgrind or a
+ * sanitizer sees a byte too far), null with length 0.
+ *   selftest SAMPLES   compares SAMPLES/NAME.tree with SAMPLES/NAME.expected and NAME.capitals */
+#include "buulset.h"
+#include <dirent.h>
+#include <stdio.h>
+#include <stdlib.h>
+#include <string.h>
+
+static int tests, failed;
+
+static void expect(int good, int line, const char *what) {
+    tests++;
+    if (!good) {
+        failed++;
+        printf("line %d: %s\n", line, what);
+    }
+}
+#define EXPECT(x) expect(!!(x), __LINE__, #x)
+
+/* A file in exactly as much memory as it has bytes; its length, or SIZE_MAX where it cannot be read. */
+static size_t slurp(const char *path, uint8_t **bytes) {
+    FILE *f = fopen(path, "rb");
+    *bytes = NULL;
+    if (!f) return SIZE_MAX;
+    fseek(f, 0, SEEK_END);
+    size_t n = (size_t)ftell(f);
+    rewind(f);
+    *bytes = malloc(n ? n : 1);
+    if (fread(*bytes, 1, n, f) != n) exit(2);
+    fclose(f);
+    return n;
+}
+
+static uint8_t *filled(size_t n, uint8_t with) {
+    uint8_t *p = malloc(n ? n : 1);
+    memset(p, with, n ? n : 1);
+    return p;
+}
+
+static int all(const uint8_t *p, size_t n, uint8_t with) {
+    for (size_t i = 0; i < n; i++)
+        if (p[i] != with) return 0;
+    return 1;
+}
+
+/* The searches with one list of parameters. */
+static buulset_answer full_sss(const uint8_t *t, size_t n, uint8_t *e, size_t el, uint8_t *c, size_t cl, uint16_t *o,
+                               size_t ol) {
+    return buulset_sss(t, n, e, el, c, cl, o, ol, BUULSET_NO_LIMIT);
+}
+
+static buulset_answer plain(const uint8_t *t, size_t n, uint8_t *e, size_t el, uint8_t *c, size_t cl, uint16_t *o,
+                            size_t ol) {
+    (void)o, (void)ol;
+    return buulset_plain(t, n, e, el, c, cl);
+}
+
+/* Every call on an accepted table of n nodes, with the file that it was read from. */
+static void accepted(const uint8_t *table, size_t n, const uint8_t *file, size_t length) {
+    typedef buulset_answer (*search)(const uint8_t *, size_t, uint8_t *, size_t, uint8_t *, size_t, uint16_t *, size_t);
+    static const search searches[] = {plain, buulset_alphabeta, buulset_mtd, full_sss};
+    uint16_t *order = malloc(n * sizeof *order);
+    size_t size = BUULSET_FRAME_SIZE * n, leaves = 0;
+    for (size_t k = 0; k < n; k++) leaves += buulset_children(table, size, k).count == 0;
+    uint8_t *marks = filled(n, 7), *flags = filled(n, 7), *other = filled(n, 7);
+    int16_t value = 0;
+    for (int i = 0; i < 4; i++) {
+        memset(order, 0xFF, n * sizeof *order);
+        buulset_answer r = searches[i](table, size, marks, n, flags, n, order, n);
+        EXPECT(!r.refused && !r.spent && (i == 0 || r.value == value));
+        value = r.value;
+        size_t marked = 0;
+        for (size_t k = 0; k < n; k++) marked += marks[k];
+        EXPECT(marked == (i == 0 ? leaves : r.leaves));
+        for (size_t k = 0; k < n; k++) EXPECT(k < r.leaves ? order[k] < n && marks[order[k]] : order[k] == 0xFFFF);
+        EXPECT(buulset_verify(table, size, flags, n).value == value && !buulset_verify(table, size, flags, n).refused);
+        if (i == 0) memcpy(other, flags, n);
+        memset(marks, 7, n);
+        memset(flags, 7, n);
+        r = searches[i](table, size, marks, n - 1, flags, n, order, n); /* a short buffer: nothing is written */
+        EXPECT(r.refused == BUULSET_SHORT_BUFFER && r.place == 0 && all(marks, n, 7) && all(flags, n, 7));
+        if (i > 0) {
+            r = searches[i](table, size, marks, n, flags, n, order, n - 1);
+            EXPECT(r.refused == BUULSET_SHORT_BUFFER && all(marks, n, 7) && all(flags, n, 7));
+        }
+        searches[i](table, size, marks, n, flags, n, order, n);
+    }
+    buulset_choice choice = buulset_shorter(table, size, other, n, flags, n);
+    EXPECT(!choice.refused && (choice.chosen == 1 || choice.chosen == 2) && choice.count == n);
+    memset(flags, 7, n);
+    buulset_answer r = buulset_sss(table, size, marks, n, flags, n, order, n, 0);
+    EXPECT(!r.refused && r.spent == 1 && r.merit == BUULSET_NOTHING_YET && r.leaves == 0);
+    EXPECT(all(marks, n, 0) && all(flags, n, 7));
+    EXPECT(buulset_verify(table, size, flags, n).refused == BUULSET_WRONG_FLAG);
+    choice = buulset_shorter(table, size, flags, n, other, n);
+    EXPECT(!choice.refused && choice.chosen == 2 && choice.count == n);
+    choice = buulset_shorter(table, size, flags, n, flags, n);
+    EXPECT(choice.refused == BUULSET_WRONG_FLAG && !choice.chosen && !choice.count);
+
+    uint8_t *written = filled(BUULSET_LINE_SIZE * n + 3, 7);
+    r = buulset_write(table, size, written, BUULSET_LINE_SIZE * n + 3);
+    EXPECT(!r.refused && r.count == BUULSET_LINE_SIZE * n && all(written + r.count, 3, 7));
+    EXPECT(memcmp(written, file, length) == 0);
+    uint8_t *again = filled(size, 7);
+    EXPECT(buulset_read(written, r.count, again, size).count == n && memcmp(again, table, size) == 0);
+    EXPECT(buulset_read(written, r.count, again, size - 1).refused == BUULSET_SHORT_BUFFER);
+    buulset_line line = buulset_read_line(written, r.count, 0);
+    EXPECT(line.read == 1 && line.at == 13 && memcmp(line.bytes, table, 6) == 0);
+
+    /* the last node is a leaf */
+    r = buulset_least_value(table, size, n - 1, value);
+    EXPECT(!r.refused);
+    r = buulset_fill(again, size);
+    EXPECT(!r.refused && r.leaves == leaves);
+    EXPECT(searches[1](again, size, marks, n, flags, n, order, n).leaves == leaves);
+
+    for (size_t k = 0; k < n; k++) {
+        uint8_t *result = filled(2 * size, 7);
+        r = buulset_graft(table, size, k, table, size, result, 2 * size);
+        if (!r.refused) {
+            EXPECT(r.count == 2 * n - 1 && buulset_check(result, 6 * r.count).count == r.count);
+            EXPECT(all(result + 6 * r.count, 6, 7));
+        } else {
+            EXPECT(r.refused == BUULSET_NO_MAX_LEAF || r.refused == BUULSET_TOO_LARGE);
+        }
+        free(result);
+    }
+    size_t next = 1; /* the children are all nodes behind the root, in their order */
+    for (size_t k = 0; k < n; k++) {
+        buulset_children_of children = buulset_children(table, size, k);
+        EXPECT(children.first == (children.count ? next : 0));
+        next += children.count;
+    }
+    EXPECT(next == n);
+    free(marks), free(flags), free(order), free(other), free(written), free(again);
+}
+
+int main(int argc, char **argv) {
+    if (argc < 2) return 2;
+    int files = 0;
+    DIR *d = opendir(argv[1]);
+    for (struct dirent *e; d && (e = readdir(d));) {
+        size_t l = strlen(e->d_name);
+        if (l < 5 || strcmp(e->d_name + l - 5, ".tree")) continue;
+        char path[4096];
+        uint8_t *file, *want;
+        snprintf(path, sizeof path, "%s/%s", argv[1], e->d_name);
+        size_t n = slurp(path, &file);
+        snprintf(path, sizeof path, "%s/%.*s.expected", argv[1], (int)(l - 5), e->d_name);
+        size_t w = slurp(path, &want);
+        if (!file || !want) {
+            perror(path);
+            return 2;
+        }
+        buulset_text text = buulset_report(file, n);
+        EXPECT(text.length == w && !memcmp(text.bytes, want, w) && all(text.bytes + w, sizeof text.bytes - w, 0));
+        uint8_t *table = malloc(BUULSET_MAX_TABLE);
+        buulset_answer r = buulset_read(file, n, table, BUULSET_MAX_TABLE);
+        if (r.refused) {
+            text = buulset_refused(r.refused, r.place);
+            EXPECT(text.length == w && !memcmp(text.bytes, want, w));
+        } else {
+            uint8_t *exact = malloc(6 * r.count);
+            memcpy(exact, table, 6 * r.count);
+            accepted(exact, r.count, file, n);
+            free(exact);
+        }
+        free(want), free(table);
+        snprintf(path, sizeof path, "%s/%.*s.capitals", argv[1], (int)(l - 5), e->d_name);
+        w = slurp(path, &want);
+        if (w != SIZE_MAX) {
+            uint8_t *converted = malloc(BUULSET_MAX_FILE);
+            r = buulset_convert(file, n, converted, BUULSET_MAX_FILE);
+            EXPECT(!r.refused && r.count == w && !memcmp(converted, want, w));
+            free(converted), free(want);
+        }
+        free(file);
+        files++;
+    }
+    if (d) closedir(d);
+    EXPECT(files > 0);
+
+    static const uint8_t leaf[6] = {0};
+    uint8_t scratch[6] = {0};
+    EXPECT(buulset_read(NULL, 0, NULL, 0).refused == BUULSET_EMPTY);
+    EXPECT(buulset_convert(NULL, 0, NULL, 0).refused == BUULSET_EMPTY);
+    EXPECT(buulset_check(NULL, 0).refused == BUULSET_EMPTY);
+    EXPECT(buulset_write(leaf, 6, NULL, 0).refused == BUULSET_SHORT_BUFFER);
+    EXPECT(buulset_alphabeta(leaf, 6, NULL, 0, NULL, 0, NULL, 0).refused == BUULSET_SHORT_BUFFER);
+    EXPECT(buulset_sss(leaf, 6, NULL, 0, NULL, 0, NULL, 0, SIZE_MAX).refused == BUULSET_SHORT_BUFFER);
+    EXPECT(buulset_verify(leaf, 6, NULL, 0).refused == BUULSET_SHORT_BUFFER);
+    EXPECT(buulset_shorter(leaf, 6, NULL, 0, NULL, 0).refused == BUULSET_SHORT_BUFFER);
+    EXPECT(buulset_graft(leaf, 6, 0, leaf, 6, NULL, 0).refused == BUULSET_SHORT_BUFFER);
+    EXPECT(buulset_graft(leaf, 6, SIZE_MAX, leaf, 6, NULL, 0).place == SIZE_MAX);
+    EXPECT(buulset_fill(NULL, 0).refused == BUULSET_EMPTY);
+    EXPECT(buulset_fill(scratch, 6).leaves == 1);
+    EXPECT(buulset_report(NULL, 0).length == 12);
+    EXPECT(buulset_check((const uint8_t *)"", SIZE_MAX).refused == BUULSET_TOO_LONG); /* before a byte is read */
+    EXPECT(buulset_children(leaf, 6, SIZE_MAX).count == 0);
+    EXPECT(buulset_version() == BUULSET_VERSION);
+    EXPECT(buulset_read_line(leaf, 6, SIZE_MAX).read == 0 && buulset_read_line(leaf, 6, SIZE_MAX).at == SIZE_MAX);
+    EXPECT(buulset_digit('F') == 15 && buulset_digit('f') == 15 && buulset_digit('G') == 16);
+    EXPECT(buulset_least_value(leaf, 6, 0, -32000).value == -32000);
+    EXPECT(buulset_least_value(leaf, 6, 0, INT32_MIN).refused == BUULSET_OUT_OF_RANGE);
+    EXPECT(buulset_least_value(leaf, 6, 1, 0).refused == BUULSET_NO_LEAF);
+    EXPECT(buulset_least_leaves(2, 3).leaves == 5 && buulset_least_leaves(40, 18).leaves == 65535);
+    EXPECT(buulset_least_leaves(0, 99).refused == BUULSET_WRONG_WIDTH);
+    EXPECT(buulset_least_leaves(SIZE_MAX, 0).refused == BUULSET_WRONG_WIDTH);
+    EXPECT(buulset_least_leaves(1, 19).refused == BUULSET_WRONG_DEPTH);
+    printf("%d files, %d tests, %d failed\n", files, tests, failed);
+    return failed != 0;
+}

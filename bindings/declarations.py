@@ -1,0 +1,181 @@
+#!/usr/bin/env python3
+"""Holds the declarations in C, Rust and Python to the exported functions of the Rattle source.
+
+    declarations.py [ARCHIVE]       compares; the last line says how many declarations there are, and how many differ
+    declarations.py --try           tries wrong declarations: each must be found
+
+It reads each `#[no_mangle] pub extern "C" fn` and each `#[repr(C)]` struct of crates/buulset/src/lib.rt, and compares,
+in order, the kinds and names of the parameters, the result, and the members of the structs; the constants that stand in
+both; the version; and, where an archive is given, its symbols."""
+import ctypes
+import importlib.util
+import pathlib
+import re
+import subprocess
+import sys
+
+HERE = pathlib.Path(__file__).resolve().parent
+SOURCE, HEADER, FFI, LIB, MODULE = (HERE / p for p in ("../crates/buulset/src/lib.rt", "c/buulset.h", "rust/src/ffi.rs",
+                                                        "rust/src/lib.rs", "python/buulset.py"))
+KINDS = {"size_t": "usize", "uint8_t": "u8", "uint16_t": "u16", "uint32_t": "u32", "int16_t": "i16", "int32_t": "i32",
+         "children_of": "children"}
+SIZES = {"FRAME_SIZE": "6", "TEXT_SIZE": "256", "BUULSET_FRAME_SIZE": "6", "BUULSET_TEXT_SIZE": "256"}
+
+
+def kind(name):
+    name = name.replace("buulset_", "").strip()
+    return KINDS.get(name, name.lower())
+
+
+def array(t):
+    m = re.fullmatch(r"\[(\w+); (\w+)\]", t)
+    return "%s[%s]" % (kind(m[1]), SIZES.get(m[2], m[2])) if m else kind(t)
+
+
+def split(parameters):
+    return [p.strip() for p in parameters.split(",") if p.strip() and p.strip() != "void"]
+
+
+def members(body):
+    return [(n, array(t)) for n, t in re.findall(r"pub (\w+): (\[\w+; \w+\]|\w+)", body)]
+
+
+def rattle(text):
+    """Calls with the kinds and names of their parameters and their result; structs with their members."""
+    text = re.sub(r"//.*", "", text)
+    calls = {}
+    declared = r'#\[no_mangle\]\s*pub extern "C" fn (\w+)(?:<[^>]*>)?\(([^)]*)\)\s*->\s*(\w+)'
+    for call, parameters, result in re.findall(declared, text):
+        kinds = []
+        for p in split(parameters):
+            name, t = (x.strip() for x in p.split(":"))
+            m = re.fullmatch(r"&(?:'\w+ )?(mut )?\[(\w+)\]", t)
+            if m:
+                kinds += [("%s %s*" % ("mut" if m[1] else "const", kind(m[2])), name), ("usize", name + "_len")]
+            else:
+                kinds.append((kind(t), name))
+        calls[call] = kinds, kind(result)
+    structs = re.findall(r"#\[repr\(C\)\]\s*pub struct (\w+) \{(.*?)\n\}", text, re.S)
+    return calls, {name.lower(): members(body) for name, body in structs}
+
+
+def c(text):
+    text = re.sub(r"/\*.*?\*/", "", text, flags=re.S).replace("BUULSET_RESTRICT ", "").replace("BUULSET_RESTRICT", "")
+    calls, structs = {}, {}
+    for result, name, parameters in re.findall(r"^(\w+) (buulset_\w+)\(([^)]*)\);", text, re.M):
+        kinds = []
+        for p in split(parameters):
+            m = re.fullmatch(r"(const )?(\w+) (\*?)(\w+)", p)
+            kinds.append(("%s %s*" % ("const" if m[1] else "mut", kind(m[2])) if m[3] else kind(m[2]), m[4]))
+        calls[name] = kinds, kind(result)
+    for body, name in re.findall(r"typedef struct \w+ \{([^}]*)\} (\w+);", text):
+        structs[kind(name)] = [(n, "%s[%s]" % (kind(t), SIZES.get(a, a)) if a else kind(t))
+                               for t, n, a in re.findall(r"(\w+) (\w+)(?:\[(\w+)\])?;", body)]
+    return calls, structs
+
+
+def rust(text):
+    text = re.sub(r"//.*", "", text)
+    calls = {}
+    for name, parameters, result in re.findall(r"pub fn (buulset_\w+)\(([^)]*)\)\s*->\s*(\w+);", text):
+        kinds = []
+        for p in split(parameters):
+            own, t = (x.strip() for x in p.split(":"))
+            m = re.fullmatch(r"\*(mut|const) (\w+)", t)
+            kinds.append(("%s %s*" % (m[1], kind(m[2])) if m else kind(t), own))
+        calls[name] = kinds, kind(result)
+    structs = re.findall(r"#\[repr\(C\)\]\s*(?:#\[[^\]]*\]\s*)*pub struct (\w+) \{(.*?)\n\}", text, re.S)
+    return calls, {name.lower(): members(body) for name, body in structs}
+
+
+def python(text):
+    module = importlib.util.module_from_spec(importlib.util.spec_from_loader("buulset", None))
+    exec(compile(text, str(MODULE), "exec"), module.__dict__)
+    structures = {s: n.lower() for n, s in vars(module).items()
+                  if isinstance(s, type) and issubclass(s, ctypes.Structure) and s is not ctypes.Structure}
+    names = {ctypes.c_size_t: "usize", ctypes.c_uint8: "u8", ctypes.c_uint32: "u32", ctypes.c_int16: "i16",
+             ctypes.c_int32: "i32", module.READ: "const u8*", module.WRITE: "mut u8*", module.LIST: "mut u16*",
+             **structures}
+
+    def of(t):
+        return names[t] if t in names else "%s[%d]" % (names[t._type_], t._length_)
+
+    calls = {"buulset_" + n: ([names[p] for p in ps], names[r]) for n, (ps, r) in module.CALLS.items()}
+    return calls, {name: [(n, of(t)) for n, t in s._fields_] for s, name in structures.items()}
+
+
+def constants(pattern, text):
+    return {n: int(v.replace("_", "")) for n, v in re.findall(pattern, text)}
+
+
+def differences(source, header, ffi, lib, module, archive=None):
+    """The number of comparisons, and a line for each that fails."""
+    compared, lines = 0, []
+
+    def compare(where, name, got, wanted):
+        nonlocal compared
+        compared += 1
+        if got != wanted:
+            lines.append("%s: %s is %s and should be %s" % (where, name, got, wanted))
+
+    want = rattle(source)
+    unnamed = {call: ([k for k, _ in kinds], result) for call, (kinds, result) in want[0].items()}, want[1]
+    for where, got, wanted in (("C", c(header), want), ("Rust", rust(ffi), want), ("Python", python(module), unnamed)):
+        for i in (0, 1):
+            for name in sorted(set(wanted[i]) | set(got[i])):
+                compare(where, name, got[i].get(name), wanted[i].get(name))
+    # the limits and the version that the Rattle crates name
+    sources = "".join(p.read_text() for p in sorted((HERE / "../crates").glob("*/src/*.rt")) if p != SOURCE.resolve())
+    named = constants(r"const (\w+): \w+ = ([\d_]+);", sources) | constants(r"const (\w+): \w+ = ([\d_]+);", source)
+    for where, of in (("C", constants(r"#define BUULSET_(\w+) (\d+)\b", header)),
+                      ("Rust", constants(r"pub const (\w+): \w+ = ([\d_]+);", lib))):
+        for name in sorted(set(of) & set(named)):
+            compare(where, name, of[name], named[name])
+        compare(where, "that it has the version", "VERSION" in of, True)
+    if archive:
+        symbols = subprocess.run(["nm", archive], capture_output=True, text=True, check=True).stdout
+        compare(archive, "its functions", sorted(re.findall(r" T (\w+)", symbols)), sorted(want[0]))
+        compare(archive, "what it needs", sorted(re.findall(r" U (\w+)", symbols)), ["memcpy", "memset"])
+    return compared, lines, len(want[0]), len(want[1])
+
+
+# (which text, what stands there, what is put instead): each is a wrong declaration
+WRONG = (
+    (1, "const uint8_t *first, size_t first_len, size_t node", "uint8_t *first, size_t first_len, size_t node"),
+    (1, "size_t node, int32_t wanted", "size_t node, int16_t wanted"),
+    (1, "uint8_t buulset_digit(uint8_t byte);", "uint16_t buulset_digit(uint8_t byte);"),
+    (1, "    uint8_t spent; ", "    uint16_t spent; "),
+    (1, "uint32_t buulset_version(void);", ""),
+    (1, "uint16_t *BUULSET_RESTRICT order", "uint8_t *BUULSET_RESTRICT order"),
+    (1, "#define BUULSET_MAX_DEPTH 18", "#define BUULSET_MAX_DEPTH 24"),
+    (1, "#define BUULSET_VERSION 10000", "#define BUULSET_VERSION 10001"),
+    (2, "pub fn buulset_fill(table: *mut u8,", "pub fn buulset_fill(table: *const u8,"),
+    (2, "node: usize, wanted: i32", "wanted: i32, node: usize"),
+    (2, "    pub leaves: usize,\n    pub steps: usize,", "    pub steps: usize,\n    pub leaves: usize,"),
+    (2, "pub fn buulset_refused(number: u8, place: usize) -> Text;", ""),
+    (3, "pub const MAX_CHILDREN: usize = 40;", "pub const MAX_CHILDREN: usize = 41;"),
+    (4, '("merit", ctypes.c_int32)', '("merit", ctypes.c_int16)'),
+    (4, '"fill": (_LENT, Answer)', '"fill": (_BYTES, Answer)'),
+    (0, "pub extern \"C\" fn buulset_digit(byte: u8) -> u8", "pub extern \"C\" fn buulset_digit(byte: u16) -> u8"),
+)
+
+
+def main():
+    texts = [p.read_text() for p in (SOURCE, HEADER, FFI, LIB, MODULE)]
+    if sys.argv[1:] == ["--try"]:
+        missed = 0
+        for which, old, new in WRONG:
+            assert old in texts[which], old
+            wrong = [t.replace(old, new, 1) if i == which else t for i, t in enumerate(texts)]
+            if not differences(*wrong)[1]:
+                missed += 1
+                print("not found: %s for %s" % (new, old))
+        print("%d wrong declarations, %d not found" % (len(WRONG), missed))
+        sys.exit(missed != 0)
+    compared, lines, calls, structs = differences(*texts, *sys.argv[1:])
+    print(*lines, sep="\n", end="\n" if lines else "")
+    print("%d functions, %d structs: %d declarations compared, %d differ" % (calls, structs, compared, len(lines)))
+    sys.exit(bool(lines))
+
+
+main()
