@@ -1,6 +1,6 @@
 #!/usr/bin/env python3
-"""Writes sample files, *.tree with *.expected, what `analyse` prints for each, and one for `capitals`, *.tree with
-*.capitals, by oracle.py.
+"""Writes sample files, *.tree with *.expected, what `analyse` prints for each, one for `capitals`, *.tree with
+*.capitals, and two certificates, by oracle.py.
 
     make_samples.py [DIRECTORY]     (default: samples)
 """
@@ -52,6 +52,19 @@ def samples():
     }
 
 
+def certificates():
+    """Two of the value of ENDING, a digit a node: as SSS* finds it, and one by move 4 that has a leaf more."""
+    table = o.table_of_nest(ENDING)
+    tree = o.Tree(table)
+    found = bytes(tree.flags(set(o.sss(tree)[1])))
+    longer = bytearray(found)
+    for node, flag in {2: 1, 4: 3, 8: 0, 9: 1, 13: 3, 14: 2, 15: 2}.items():
+        longer[node] = flag
+    assert o.check_proof(table, longer) == o.check_proof(table, found) and o.shorter(table, longer, found) == (1, found)
+    return {name: bytes(b"0"[0] + flag for flag in flags) + b"\n"
+            for name, flags in (("ending", found), ("ending-long", longer))}
+
+
 def main():
     root = os.path.dirname(os.path.dirname(os.path.abspath(__file__)))
     directory = sys.argv[1] if len(sys.argv) > 1 else os.path.join(root, "samples")
@@ -59,7 +72,10 @@ def main():
         for ending, data in [("tree", file), ("expected", o.report(file))] + [("capitals", o.capitals(file))] * (name == "stored"):
             with open(os.path.join(directory, name + "." + ending), "wb") as f:
                 f.write(data)
-    print("%d samples" % len(samples()))
+    for name, data in certificates().items():
+        with open(os.path.join(directory, name + ".certificate"), "wb") as f:
+            f.write(data)
+    print("%d samples" % (len(samples()) + len(certificates())))
 
 
 if __name__ == "__main__":
