@@ -7,6 +7,7 @@ cannot be read, and compares; then the root's scripts of these names: their exit
 import os
 import subprocess
 import sys
+import tempfile
 
 import oracle as o
 
@@ -32,18 +33,38 @@ def script(name, printed):
     path, bad = os.path.join(ROOT, name), 0
     for status, words, given in (
             (0, [seven], None), (0, [], seven), (1, [refused], None), (1, [], refused),
-            (2, [seven + ".no"], None), (2, [SAMPLES], None), (2, ["one", "two"], None), (2, ["--help"], None)):
+            (2, [seven + ".no"], None), (2, [SAMPLES], None), (2, ["one", "two"], None), (2, ["--what"], None)):
         file = read(given) if given else b""
         want = printed(read(given or words[0])) if status < 2 else b""
         got = subprocess.run([path] + words, input=file, capture_output=True, cwd="/", timeout=600)
         if (got.returncode, got.stdout, bool(got.stderr)) != (status, want, status == 2):
             bad += 1
             print("DIFFERS ./%s %s: got %r, want status %d and %r" % (name, " ".join(words), got, status, want))
+    bad += elsewhere(path, seven, printed(read(seven)))
     with open("/dev/full", "wb") as disk:
         got = subprocess.run([path, seven], stdout=disk, stderr=subprocess.PIPE, timeout=600)
     if got.returncode != 3 or not got.stderr:
         bad += 1
         print("DIFFERS ./%s on a full disk: got %r, want status 3 and a line on standard error" % (name, got))
+    return bad
+
+
+def elsewhere(path, file, want):
+    """How many runs of a script fail that is called through a link, without the kit on the path, or for its help."""
+    bad = 0
+    with tempfile.TemporaryDirectory() as folder:
+        link = os.path.join(folder, "link")
+        os.symlink(path, link)
+        for what, words, environment in (
+                ("through a link", [link, file], None), ("without the kit", [path, file], {"PATH": "/usr/bin:/bin"})):
+            got = subprocess.run(words, capture_output=True, cwd=folder, env=environment, timeout=600)
+            if (got.returncode, got.stdout, got.stderr) != (0, want, b""):
+                bad += 1
+                print("DIFFERS %s %s: got %r" % (path, what, got))
+    got = subprocess.run([path, "--help"], capture_output=True, timeout=600)
+    if got.returncode or got.stderr or b"Exit status" not in got.stdout:
+        bad += 1
+        print("DIFFERS %s --help: got %r" % (path, got))
     return bad
 
 

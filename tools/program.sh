@@ -1,8 +1,8 @@
-# What ./analyse and ./capitals do: run the program $name on the file that is named, or on standard input. The program is
-# built first where it is missing or older than its sources.
+# What ./analyse and ./capitals do: run the program $name of the repository $root on the file that is named, or on
+# standard input. The program is built first where it is missing; where the Rattle kit is on the path, also where it is
+# older than its sources.
 # Exit status: 0 what the program gives for a file, 1 a refused file, 2 wrong use or a file that cannot be read,
 # 3 a program that cannot be built or output that cannot be written.
-root=$(CDPATH='' cd -- "$(dirname -- "$0")" && pwd) || exit 3
 program=$root/target/bin/$name
 log=$root/target/$name.log
 
@@ -12,8 +12,13 @@ fail() { # STATUS TEXT
     exit "$1"
 }
 
+# Only code makes a program: definitions and proofs that are newer do not.
 is_current() {
-    [ -x "$program" ] && [ -z "$(find "$root/crates" "$root/crates.txt" -type f -newer "$program" | head -n 1)" ]
+    [ -x "$program" ] || return 1
+    command -v rt >/dev/null || return 0
+    for source in "$root/crates.txt" "$root"/crates/*/src/*.rt; do
+        [ ! "$source" -nt "$program" ] || return 1
+    done
 }
 
 # The crates that the program needs; crates.txt lists each behind those that it needs itself.
@@ -49,16 +54,26 @@ build() {
     echo "$name: building the program; its proofs are checked first, which takes some minutes" >&2
     mkdir -p "$root/target" || exit 3
     (cd "$root" && rt check "$name") 2>&1 | tee "$log" | progress >&2
-    grep -q '^rt: ok,' "$log" || fail 3 "not proved:$(sed -n 's/^rt: FAILED://p' "$log"); what the prover said is in $log"
+    grep -q '^rt: ok,' "$log" ||
+        fail 3 "not proved:$(sed -n 's/^rt: FAILED://p' "$log"); what the prover said is in $log"
     touch "$program"
 }
 
-[ $# -le 1 ] || fail 2 "usage: ./$name [FILE]"
-if [ $# -eq 1 ]; then
-    case $1 in -*) fail 2 "usage: ./$name [FILE]" ;; esac
-    { [ -r "$1" ] && [ ! -d "$1" ]; } || fail 2 "$1 cannot be read"
+case $#:$1 in
+0: | 1:-) ;;
+1:-h | 1:--help)
+    sed -n '2,5s/^# //p' "$root/$name"
+    exit 0
+    ;;
+1:-*) fail 2 "usage: ./$name [FILE]" ;;
+1:*)
+    [ -e "$1" ] || fail 2 "$1: there is no such file"
+    [ ! -d "$1" ] || fail 2 "$1: it is a directory"
+    [ -r "$1" ] || fail 2 "$1: no permission to read it"
     exec <"$1"
-fi
+    ;;
+*) fail 2 "usage: ./$name [FILE]" ;;
+esac
 is_current || build </dev/null
 printed=$("$program") || fail 3 "the program ended with status $?"
 [ -n "$printed" ] || exit 2 # the program has said that its input cannot be read
