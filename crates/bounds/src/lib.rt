@@ -37,8 +37,8 @@ fn read_leaf(table: &[u8], evaluated: &mut [u8], node: usize, depth: u32) -> u32
     leaf_score(table, node, depth)
 }
 
-// What a search counts, and its only way to a score: the evaluation of a leaf that has no mark yet, so that no leaf is
-// evaluated twice.
+// The evaluation of a leaf that has no mark yet: while marks stay, no leaf is evaluated twice. That a search has no
+// other way to a score is read by `checks/doors`.
 pub fn evaluate(table: &[u8], evaluated: &mut [u8], node: usize, depth: u32) -> u32
     requires { ⌜ Evaluable (now table) (now evaluated) node depth ⌝ }
     ensures { λ r. ⌜ (r ≡ valuation (now (table .entry)) node) × (r < twoBytes) ⌝ }
