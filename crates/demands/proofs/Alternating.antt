@@ -1,5 +1,5 @@
--- A table or a file without a second capture gives what it gave before byte 3 had a meaning (N8): the questions are what
--- they were, and everything else is as the tree makes it whose sides go by the depth.
+-- A table or a file without a second capture gives what it gave before byte 3 had a meaning (N8): the questions are
+-- what they were, and everything else is as the tree makes it whose sides go by the depth.
 use Prim.Native.Nat.{ℕ, zero, suc, _+_, _<_}
 use native.Mathlib.Omega.{arith}
 use mathlib.Core.Path.{_≡_, refl, ap, ap₂, _∙_}
@@ -26,8 +26,8 @@ use Rattle.frames.specs.results.Alternating.{Alternating, zeroRejection, treeBy
 use Rattle.frames.proofs.Acceptance.{accepted-formed}
 use Rattle.frames.proofs.Sides.{check4-before, rejection-before, side-parity, tree-before}
 use Rattle.lines.specs.Lines.{decoded}
-use Rattle.reader.specs.File.{fileCheck2, fileCheck3, fileCheck16, fileCheck10, fileRejection, readRejection, readAnswer}
-use Rattle.reader.specs.File.{filled, tableAfter}
+use Rattle.reader.specs.File.{fileCheck2, fileCheck3, fileCheck16, fileCheck10, fileRejection, readRejection}
+use Rattle.reader.specs.File.{readAnswer, filled, tableAfter}
 use Rattle.reader.proofs.Acceptance.{accepted-table}
 use Rattle.verify.specs.Flags.{ruleHolds}
 use Rattle.verify.specs.Check.{checkTree, check11, check14, treesRejection, flagsRejection, certificateRejection}

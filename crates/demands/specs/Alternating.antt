@@ -1,5 +1,5 @@
--- What calls gave for a table or a file before byte 3 had a meaning (02: N8): question 4 asked for zero, and who moves was
--- read from the depth.
+-- What calls gave for a table or a file before byte 3 had a meaning (02: N8): question 4 asked for zero, and who moves
+-- was read from the depth.
 use Prim.Native.Nat.{ℕ}
 use mathlib.Core.Bool.{Bool, _&&_}
 use mathlib.Core.Option.{Option, none, some}
