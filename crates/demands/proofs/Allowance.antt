@@ -8,7 +8,7 @@ use mathlib.Core.Logic.{_⊎_, inl, inr}
 use mathlib.Core.Bool.{true, cond}
 use mathlib.Core.List.{List, _∷_, _++_}
 use lib.IntN.{pos}
-use lib.ListN.{length, take, drop, replicate}
+use lib.ListN.{length, take, drop, replicate, length-replicate}
 use lib.Seq.{take-append-seam}
 use lib.Signed.{_≤ℤ_}
 use native.Mathlib.Decide.{decLt}
@@ -53,7 +53,8 @@ use Rattle.demands.proofs.Local.{take-written}
 use Rattle.demands.proofs.Spending.{firstLeaves, none-more, left-more, run-is, more-left, ones-within}
 use Rattle.demands.proofs.Spending.{run-reached, spent-view, spent-formed, spent-run, spent-end, first-count}
 use Rattle.demands.proofs.Spending.{spent-marked, spent-local}
-use Rattle.demands.proofs.Demand2.{sss-gives}
+use Rattle.demands.proofs.Demand2.{sss-gives, few}
+use Rattle.demands.proofs.Demand3.{count, counts-less, local-sss}
 
 -- "SSS* takes an allowance and answers with the value, or with "spent" and the merit of the state whose leaf it
 -- couldn't value. Spent is given exactly when the full run needs more leaves than the allowance."
@@ -250,6 +251,17 @@ spent-dominated c a k m =
       mark = marks-at (view (alphaBeta a) .handed) k (m .node) ∙ ap (λ x. cond x 1 0) (spent-reached c k m);
     }
 
+-- so the count of a spent run is at most alpha-beta's
+pub spent-fewer : {t : List ℕ} {s : Spent} {g : Findings} → SssCall t (sss-answer.Spent s)
+    → AlphaBetaCall t (ab-answer.Found g) → s .leaves ≤ g .leaves
+spent-fewer {t} c a =
+    let p = view (alphaBeta a) .handed in
+    let n = frames t in
+    let y = sss-gives t (p .accepted) (a .lent) (p .room) (replicate n 0)
+    (omega (arith, length-replicate {A = ℕ} n 0)) n (few t (p .accepted) (a .lent) (p .room)) (replicate n blank)
+    (omega (arith, length-replicate n blank)) .0 in
+    omega (arith, spent-counts c .0, needs-more c, counts-less y a)
+
 -- "restores the list as after a full run" (`list-reset` in Demand3)
 pub list-restored : {t : List ℕ} {s : Spent} (c : SssCall t (sss-answer.Spent s))
     → c .leftList ≡ replicate (frames t) blank ++ drop (frames t) (c .lentList)
@@ -289,3 +301,18 @@ local-spent {t} {u} {s} c d q a r k n h g =
       ap₂ (λ k y. take k (y .order)) l o ∙ take-append-seam w _
           ∙ sym (ap₂ take l (v .order) ∙ take-append-seam w _),
     )
+
+-- and agree on finished ones: under one allowance the second call finishes too, with the same result
+pub finishes-too : {t u : List ℕ} {f : SssFound} {x : SssAnswer} (c : SssCall t (sss-answer.Found f)) (d : SssCall u x)
+    → d .allowance ≡ c .allowance → Accepted u → Room u (d .lent) → frames u ≤ length (d .lentOrder)
+    → frames u ≤ length (d .lentList) → SameShape t u → AgreeOnMarked t u (c .left) → x ≡ sss-answer.Found f
+finishes-too {t} {u} {f} c d q a r k n h g =
+    let y = sss-gives u a (d .lent) r (d .lentOrder) k (frames u) (few u a (d .lent) r) (d .lentList) n .0 in
+    let same = local-sss c y h g .0 in
+    let leaves : length (sssLeaves u) ≡ length (sssLeaves t) =
+    ap (λ z. z .findings .leaves) (sym same) ∙ count (sss c) .0 in
+    let passed = rooms-passed u (d .lent) (d .lentOrder) a r k (d .lentList) n in
+    let all = enough u (accepted-formed u a) (d .allowance) (omega (arith, had-enough c)) in
+    ap (λ z. z .search .answer)
+    (d .outcome ∙ ap₂ (sssBy (d .allowance) u (d .lentList) (d .lent) (d .lentOrder)) all passed)
+    ∙ ap sss-answer.Found (sym same)

@@ -15,6 +15,7 @@ use Rattle.gametree.specs.Certificate.{flag}
 use Rattle.gametree.specs.AlphaBeta.{reached}
 use Rattle.gametree.specs.Mtd as rule
 use Rattle.gametree.specs.Sss.{sss as run}
+use Rattle.gametree.specs.Allowance.{uncovered}
 use Rattle.frames.specs.Frame.{frames}
 use Rattle.frames.specs.Value.{valueOf}
 use Rattle.frames.specs.Tree.{tree, valuation}
@@ -39,7 +40,7 @@ use Rattle.report.specs.Report.{abLine, mtdLine, sssLine, printed, report}
 use Rattle.places.specs.Buffer.{written}
 use Rattle.alphabeta.specs.Outcome.{reachedLeaves}
 use Rattle.mtd.specs.Outcome.{mtdLeaves}
-use Rattle.sss.specs.Outcome.{runOf}
+use Rattle.sss.specs.Outcome.{runOf, sssUncovered}
 use Rattle.demands.specs.Calls.{PlainCall, Call, found, lent, left, leaves}
 use Rattle.demands.specs.Alternating.{zeroFrames, zeroFile, zeroRead, ruleByDepth, treeRuleByDepth}
 use Rattle.demands.specs.Alternating.{verdictByDepth, analysisOn, printedByDepth, reportByDepth}
@@ -110,6 +111,10 @@ module _ (t : List ℕ) (p : Alternating t) where
 
   pub alternating-sss : Accepted t → runOf t ≡ run (valuation t) (treeByDepth t)
   alternating-sss a = ap (run (valuation t)) (alternating-tree a)
+
+  -- and so what an allowance does not cover is what it did not cover: a spent answer is the first of it (`sssSpent`)
+  pub alternating-spent : Accepted t → (n : ℕ) → sssUncovered n t ≡ uncovered n (valuation t) (treeByDepth t)
+  alternating-spent a n = ap (uncovered n (valuation t)) (alternating-tree a)
 
   -- the plain engine gives what it gave
   module _ {f : Found} (c : PlainCall t (plain-answer.Found f)) where
