@@ -149,6 +149,11 @@ buulset_answer buulset_write(const uint8_t *table, size_t table_len, uint8_t *BU
 buulset_answer buulset_convert(const uint8_t *file, size_t file_len, uint8_t *BUULSET_RESTRICT converted,
                                size_t converted_len);
 
+/* What the program `capitals` prints for a file: the converted file, or the line of the refusal, which is 10 where the
+ * converted file has no room. Gives count: its bytes. Refused with 10 alone, where not even the line has room. */
+buulset_answer buulset_capitals(const uint8_t *file, size_t file_len, uint8_t *BUULSET_RESTRICT printed,
+                                size_t printed_len);
+
 /* Checks a table. Gives count: the nodes. The table of an accepted tree is exactly six bytes a node. */
 buulset_answer buulset_check(const uint8_t *table, size_t table_len);
 

@@ -173,6 +173,8 @@ int main(int argc, char **argv) {
             uint8_t *converted = malloc(BUULSET_MAX_FILE);
             r = buulset_convert(file, n, converted, BUULSET_MAX_FILE);
             EXPECT(!r.refused && r.count == w && !memcmp(converted, want, w));
+            r = buulset_capitals(file, n, converted, BUULSET_MAX_FILE);
+            EXPECT(!r.refused && r.count == w && !memcmp(converted, want, w));
             free(converted), free(want);
         }
         free(file);
@@ -185,6 +187,7 @@ int main(int argc, char **argv) {
     uint8_t scratch[6] = {0};
     EXPECT(buulset_read(NULL, 0, NULL, 0).refused == BUULSET_EMPTY);
     EXPECT(buulset_convert(NULL, 0, NULL, 0).refused == BUULSET_EMPTY);
+    EXPECT(buulset_capitals(NULL, 0, NULL, 0).refused == BUULSET_SHORT_BUFFER);
     EXPECT(buulset_check(NULL, 0).refused == BUULSET_EMPTY);
     EXPECT(buulset_write(leaf, 6, NULL, 0).refused == BUULSET_SHORT_BUFFER);
     EXPECT(buulset_alphabeta(leaf, 6, NULL, 0, NULL, 0, NULL, 0).refused == BUULSET_SHORT_BUFFER);

@@ -18,8 +18,8 @@ static const uint8_t leaf[6];
 static size_t length, size, nodes;
 
 static const char *const names[] = {
-    "",    "read",   "read_line", "write", "convert",     "check", "children",     "alphabeta", "plain",  "mtd",
-    "sss", "verify", "shorter",   "graft", "least_value", "fill",  "least_leaves", "report",    "refused"};
+    "",    "read",   "read_line", "write", "convert",     "check", "children",     "alphabeta", "plain",   "mtd",
+    "sss", "verify", "shorter",   "graft", "least_value", "fill",  "least_leaves", "report",    "refused", "capitals"};
 enum { CALLS = sizeof names / sizeof *names };
 
 static void *run(void *which) {
@@ -47,6 +47,7 @@ static void *run(void *which) {
     case 16: buulset_least_leaves(3, 9); break;
     case 17: buulset_report(file, length); break;
     case 18: buulset_refused(3, 15); break;
+    case 19: buulset_capitals(file, length, text, sizeof text); break;
     }
     return NULL;
 }

@@ -48,6 +48,7 @@ CALLS = {
     "digit": ([ctypes.c_uint8], ctypes.c_uint8),
     "write": (_BYTES + _LENT, Answer),
     "convert": (_BYTES + _LENT, Answer),
+    "capitals": (_BYTES + _LENT, Answer),
     "check": (_BYTES, Answer),
     "children": (_BYTES + [SIZE], Children),
     "alphabeta": (_SEARCH + _ORDER, Answer),

@@ -60,6 +60,7 @@ mod declared {
         pub fn buulset_digit(byte: u8) -> u8;
         pub fn buulset_write(table: *const u8, table_len: usize, file: *mut u8, file_len: usize) -> Answer;
         pub fn buulset_convert(file: *const u8, file_len: usize, converted: *mut u8, converted_len: usize) -> Answer;
+        pub fn buulset_capitals(file: *const u8, file_len: usize, printed: *mut u8, printed_len: usize) -> Answer;
         pub fn buulset_check(table: *const u8, table_len: usize) -> Answer;
         pub fn buulset_children(table: *const u8, table_len: usize, node: usize) -> Children;
         pub fn buulset_alphabeta(
@@ -170,6 +171,10 @@ pub fn write(table: &[u8], file: &mut [u8]) -> Answer {
 
 pub fn convert(file: &[u8], converted: &mut [u8]) -> Answer {
     call!(buulset_convert [file] [mut converted])
+}
+
+pub fn capitals(file: &[u8], printed: &mut [u8]) -> Answer {
+    call!(buulset_capitals [file] [mut printed])
 }
 
 pub fn check(table: &[u8]) -> Answer {

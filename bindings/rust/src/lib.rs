@@ -223,6 +223,18 @@ pub fn convert(file: &[u8], converted: &mut [u8]) -> Result<usize, Refusal> {
     answered(ffi::convert(file, converted)).map(|a| a.count)
 }
 
+/// What the program `capitals` prints for a file, and its length in bytes: the converted file, or the line of the
+/// refusal, which is 10 where the converted file has no room. Refused with 10 alone, where not even the line has room.
+///
+/// ```
+/// let mut printed = [0; 12];
+/// assert_eq!(buulset::capitals(b"", &mut printed), Ok(12));
+/// assert_eq!(&printed, b"refused 1 0\n");
+/// ```
+pub fn capitals(file: &[u8], printed: &mut [u8]) -> Result<usize, Refusal> {
+    answered(ffi::capitals(file, printed)).map(|a| a.count)
+}
+
 /// Checks a table, and gives the number of nodes.
 pub fn check(table: &[u8]) -> Result<usize, Refusal> {
     answered(ffi::check(table)).map(|a| a.count)

@@ -232,6 +232,8 @@ fn compare_file(file: &[u8], rng: &mut Rng) {
     for room in [13 * lines, (13 * lines).saturating_sub(1 + rng.below(30)), 13 * lines + rng.below(40)] {
         let before = lent(rng, room);
         same("convert", &before, |b| buulset::convert(file, b), |b| model::convert(file, b)).ok();
+        let before = lent(rng, room.min(rng.pick(&[room, 13, 12, 11, 0])));
+        same("capitals", &before, |b| buulset::capitals(file, b), |b| model::capitals(file, b)).ok();
     }
     for _ in 0..4 {
         let at = match rng.below(4) {
@@ -340,6 +342,7 @@ fn files() {
     }
     was_given("read", &[0, 1, 3, 4, 5, 6, 7, 8, 9, 10, 16]);
     was_given("convert", &[0, 1, 3, 4, 5, 6, 7, 8, 9, 10]);
+    was_given("capitals", &[0, 10]);
     println!("{rounds} rounds of files; {} comparisons so far", compared());
 }
 

@@ -15,6 +15,7 @@ ghost use Rattle.lines.specs.Line.{lineAt};
 ghost use Rattle.reader.specs.File.{readAnswer, tableAfter};
 ghost use Rattle.writer.specs.Write.{writeOutcome};
 ghost use Rattle.convert.specs.Convert.{convertOutcome};
+ghost use Rattle.convert.specs.Printed.{outputOutcome};
 ghost use Rattle.alphabeta.specs.Outcome.{alphaBetaOutcome};
 ghost use Rattle.plain.specs.Outcome.{plainOutcome};
 ghost use Rattle.mtd.specs.Outcome.{mtdOutcome};
@@ -138,6 +139,15 @@ pub extern "C" fn buulset_convert(file: &[u8], converted: &mut [u8]) -> Answer
         ≡ flatWrite (convertOutcome (now (file .entry)) (now (converted .entry))) ⌝ }
 {
     flat_written(convert::convert(file, converted))
+}
+
+// `convert::output`: what `capitals` prints for the file in the buffer; `count` is its length in bytes.
+#[no_mangle]
+pub extern "C" fn buulset_capitals(file: &[u8], printed: &mut [u8]) -> Answer
+    ensures { λ r. ⌜ record { answer = r; buffer = now (printed .exit) }
+        ≡ flatWrite (outputOutcome (now (file .entry)) (now (printed .entry))) ⌝ }
+{
+    flat_written(convert::output(file, printed))
 }
 
 // `tables::check`: `count` is the number of nodes.

@@ -106,6 +106,21 @@ pub fn convert(file: &[u8], buffer: &mut [u8]) -> Answer<usize> {
     write(&decoded(&lifted)?, buffer)
 }
 
+/// What the program prints: the converted file, or the line of its refusal where there is room for that.
+pub fn capitals(file: &[u8], buffer: &mut [u8]) -> Answer<usize> {
+    match convert(file, buffer) {
+        Ok(length) => Ok(length),
+        Err(refusal) => {
+            let line = format!("{refusal}\n");
+            match buffer.get_mut(..line.len()) {
+                Some(front) => front.copy_from_slice(line.as_bytes()),
+                None => return no(10, 0),
+            }
+            Ok(line.len())
+        }
+    }
+}
+
 // ---- tables
 
 pub fn check(table: &[u8]) -> Answer<usize> {
