@@ -1,5 +1,5 @@
--- Demand 1, sentence by sentence. "each public entry takes whatever bytes it is lent, stays inside them, finishes": the
--- public entries have no `requires`, and Rattle proves of each that it stays inside what it is lent and ends.
+-- Demand 1, sentence by sentence. "each public entry takes whatever bytes it is lent, stays inside them, finishes":
+-- Contracts.antt says it of each entry.
 use Prim.Native.Nat.{ℕ, _≤_, _<_}
 use native.Mathlib.Omega.{arith}
 use mathlib.Core.Path.{_≡_, refl, sym, ap, _∙_}

@@ -25,6 +25,9 @@ pub record Buffers : Type 0 where
   pub marks : List ℕ
   pub flags : List ℕ
 
+abbrev pub buffers : List ℕ → List ℕ → Buffers
+buffers m f = record { marks = m; flags = f }
+
 -- their lengths, of which question 10 asks
 abbrev pub lengths : Buffers → List ℕ
 lengths b = length (b .marks) ∷ length (b .flags) ∷ []
@@ -45,29 +48,47 @@ outcomeOf a b = record { answer = a; evaluated = b .marks; certificate = b .flag
 abbrev pub listedOf : {A : Type 0} → A → Buffers → (order : List ℕ) → Listed A
 listedOf a b o = record { order = o; search = outcomeOf a b }
 
--- a call of alpha-beta with the table t that answers a; it is lent a list of leaves too
+-- what the contract of `alphabeta::search` says: lent the table t, the buffers b and the list of leaves o, it answers a
+-- and leaves the buffers d and the list p
+abbrev pub AlphaBetaSays : List ℕ → Buffers → List ℕ → AlphaBetaAnswer → Buffers → List ℕ → Type 0
+AlphaBetaSays t b o a d p = listedOf a d p ≡ alphaBetaOutcome t (b .marks) (b .flags) o
+
+-- a call of alpha-beta with the table t that answers a
 pub record AlphaBetaCall (t : List ℕ) (a : AlphaBetaAnswer) : Type 0 where
   pub lent : Buffers
   pub left : Buffers
   pub lentOrder : List ℕ
   pub leftOrder : List ℕ
-  pub outcome : listedOf a left leftOrder ≡ alphaBetaOutcome t (lent .marks) (lent .flags) lentOrder
+  pub outcome : AlphaBetaSays t lent lentOrder a left leftOrder
+
+-- what that of `plain::search` says, which lists no leaves
+abbrev pub PlainSays : List ℕ → Buffers → PlainAnswer → Buffers → Type 0
+PlainSays t b a d = outcomeOf a d ≡ plainOutcome t (b .marks) (b .flags)
 
 -- a call of the plain engine with the table t that answers a
 pub record PlainCall (t : List ℕ) (a : PlainAnswer) : Type 0 where
   pub lent : Buffers
   pub left : Buffers
-  pub outcome : outcomeOf a left ≡ plainOutcome t (lent .marks) (lent .flags)
+  pub outcome : PlainSays t lent a left
 
--- a call of MTD with the table t that answers a; it is lent a list of leaves too
+-- what that of `mtd::search` says
+abbrev pub MtdSays : List ℕ → Buffers → List ℕ → MtdAnswer → Buffers → List ℕ → Type 0
+MtdSays t b o a d p = listedOf a d p ≡ mtdOutcome t (b .marks) (b .flags) o
+
+-- a call of MTD with the table t that answers a
 pub record MtdCall (t : List ℕ) (a : MtdAnswer) : Type 0 where
   pub lent : Buffers
   pub left : Buffers
   pub lentOrder : List ℕ
   pub leftOrder : List ℕ
-  pub outcome : listedOf a left leftOrder ≡ mtdOutcome t (lent .marks) (lent .flags) lentOrder
+  pub outcome : MtdSays t lent lentOrder a left leftOrder
 
--- a call of SSS* with the table t that answers a; it has an allowance of leaves, and is lent a list of states too
+-- what that of `sss::search` says, which has an allowance of n leaves: lent the list of states l too, it leaves there m
+abbrev pub SssSays : ℕ → List ℕ → List State → Buffers → List ℕ → SssAnswer → List State → Buffers → List ℕ → Type 0
+SssSays n t l b o a m d p =
+    record { list = m; order = p; search = outcomeOf a d } ≡ sssOutcome n t l (b .marks) (b .flags) o
+
+-- a call of SSS* with the table t that answers a
 pub record SssCall (t : List ℕ) (a : SssAnswer) : Type 0 where
   pub allowance : ℕ
   pub lent : Buffers
@@ -76,8 +97,11 @@ pub record SssCall (t : List ℕ) (a : SssAnswer) : Type 0 where
   pub leftOrder : List ℕ
   pub lentList : List State
   pub leftList : List State
-  pub outcome : record { list = leftList; order = leftOrder; search = outcomeOf a left }
-      ≡ sssOutcome allowance t lentList (lent .marks) (lent .flags) lentOrder
+  pub outcome : SssSays allowance t lentList lent lentOrder a leftList left leftOrder
+
+-- what that of `sss::solve` says
+abbrev pub SolveSays : ℕ → List ℕ → Buffers → List ℕ → SssAnswer → Buffers → List ℕ → Type 0
+SolveSays n t b o a d p = listedOf a d p ≡ solveOutcome n t (b .marks) (b .flags) o
 
 -- a call of SSS* that has a list of states of its own; it is a call of SSS* with a long lent one (`own-list`,
 -- Demand1.antt)
@@ -87,7 +111,7 @@ pub record SolveCall (t : List ℕ) (a : SssAnswer) : Type 0 where
   pub left : Buffers
   pub lentOrder : List ℕ
   pub leftOrder : List ℕ
-  pub outcome : listedOf a left leftOrder ≡ solveOutcome allowance t (lent .marks) (lent .flags) lentOrder
+  pub outcome : SolveSays allowance t lent lentOrder a left leftOrder
 
 -- a call of one of the three searches with the table t that gives a result; SSS* under whatever allowance
 pub data Call (t : List ℕ) : Type 0 where

@@ -1,4 +1,5 @@
 -- The words in which the demands are stated.
+pub mod Runs
 pub mod Calls
 pub mod Handed
 pub mod Allowance

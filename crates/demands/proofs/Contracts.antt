@@ -1,0 +1,138 @@
+-- "each public entry takes whatever bytes it is lent, stays inside them, finishes" (demand 1): each public function asks
+-- nothing of its caller, and leaves what is said here of its arguments, its answer r and its parameters at exit, which
+-- are marked ′. This is the function's own contract, compared with it by computing: a contract that promises less, or
+-- asks for something, is refused here. The theorems of the other files are about the definitions that are cited here.
+use mathlib.Core.Path.{_≡_}
+use Rattle.alphabeta.proofs as alphabeta
+use Rattle.plain.proofs as plain
+use Rattle.mtd.proofs as mtd
+use Rattle.sss.proofs as sss
+use Rattle.graft.proofs as graft
+use Rattle.graft.specs.Outcome.{graftOutcome}
+use Rattle.shorter.proofs as shorter
+use Rattle.shorter.specs.Choice.{choice, chosenFlags}
+use Rattle.verify.proofs as verify
+use Rattle.verify.specs.Check.{verdict}
+use Rattle.leafvalue.proofs as leafvalue
+use Rattle.leafvalue.specs.Wanted.{needed}
+use Rattle.worstcase.proofs as worstcase
+use Rattle.worstcase.specs.Outcome.{fillOutcome}
+use Rattle.leastcount.proofs as leastcount
+use Rattle.leastcount.specs.Answer.{leastAnswer}
+use Rattle.writer.proofs as writer
+use Rattle.writer.specs.Write.{writeOutcome}
+use Rattle.convert.proofs as convert
+use Rattle.convert.specs.Convert.{convertOutcome}
+use Rattle.reader.proofs as reader
+use Rattle.reader.specs.File.{readAnswer, tableAfter}
+use Rattle.tables.proofs as tables
+use Rattle.frames.proofs as frames
+use Rattle.frames.specs.Check.{checked}
+use Rattle.frames.specs.Children.{childrenOf}
+use Rattle.hex.proofs as hex
+use Rattle.hex.specs.Digit.{digitOf}
+use Rattle.lines.proofs as lines
+use Rattle.lines.specs.Line.{lineAt}
+use Rattle.report.proofs as report
+use Rattle.report.specs.Text.{refusedLine}
+use Rattle.report.specs.Report.{textOf}
+use Rattle.report.specs.Report as reports
+use Rattle.demands.specs.Runs.{Runs}
+use Rattle.demands.specs.Calls.{buffers, AlphaBetaSays, PlainSays, MtdSays, SssSays, SolveSays}
+
+-- the searches
+
+pub alphabeta-search : Runs alphabeta.search.ended alphabeta.search.Symbol.routine
+    (λ κs (t, (m, (f, (o, _)))) r (_, (m′, (f′, (o′, _)))).
+    AlphaBetaSays (t .now) (buffers (m .now) (f .now)) (o .now) r (buffers (m′ .now) (f′ .now)) (o′ .now))
+alphabeta-search = record { meets = alphabeta.search.Met.met }
+
+pub plain-search : Runs plain.search.ended plain.search.Symbol.routine
+    (λ κs (t, (m, (f, _))) r (_, (m′, (f′, _))).
+    PlainSays (t .now) (buffers (m .now) (f .now)) r (buffers (m′ .now) (f′ .now)))
+plain-search = record { meets = plain.search.Met.met }
+
+pub mtd-search : Runs mtd.search.ended mtd.search.Symbol.routine
+    (λ κs (t, (m, (f, (o, _)))) r (_, (m′, (f′, (o′, _)))).
+    MtdSays (t .now) (buffers (m .now) (f .now)) (o .now) r (buffers (m′ .now) (f′ .now)) (o′ .now))
+mtd-search = record { meets = mtd.search.Met.met }
+
+pub sss-search : Runs sss.search.ended sss.search.Symbol.routine
+    (λ κs (t, (l, (m, (f, (o, (n, _)))))) r (_, (l′, (m′, (f′, (o′, _))))).
+    SssSays n (t .now) (l .now) (buffers (m .now) (f .now)) (o .now) r (l′ .now) (buffers (m′ .now) (f′ .now))
+    (o′ .now))
+sss-search = record { meets = sss.search.Met.met }
+
+pub sss-solve : Runs sss.solve.ended sss.solve.Symbol.routine
+    (λ κs (t, (m, (f, (o, (n, _))))) r (_, (m′, (f′, (o′, _)))).
+    SolveSays n (t .now) (buffers (m .now) (f .now)) (o .now) r (buffers (m′ .now) (f′ .now)) (o′ .now))
+sss-solve = record { meets = sss.solve.Met.met }
+
+-- the check of a table, of a certificate, and the children of a node
+
+pub tables-check : Runs tables.check.ended tables.check.Symbol.routine (λ κs (t, _) r e. r ≡ checked (t .now))
+tables-check = record { meets = tables.check.Met.met }
+
+pub verify-check : Runs verify.check.ended verify.check.Symbol.routine
+    (λ κs (t, (f, _)) r e. r ≡ verdict (t .now) (f .now))
+verify-check = record { meets = verify.check.Met.met }
+
+pub frames-children : Runs frames.children.ended frames.children.Symbol.routine
+    (λ κs (t, (k, _)) r e. r .now ≡ childrenOf (t .now) k)
+frames-children = record { meets = frames.children.Met.met }
+
+-- files
+
+pub treefile-digit : Runs hex.digit.ended hex.digit.Symbol.routine (λ κs (b, _) r e. r ≡ digitOf b)
+treefile-digit = record { meets = hex.digit.Met.met }
+
+pub treefile-read-line : Runs lines.Cursor.read_line.ended lines.Cursor.read_line.Symbol.routine
+    (λ κs (c, (f, _)) r e. r ≡ lineAt (f .now) (c .at))
+treefile-read-line = record { meets = lines.Cursor.read_line.Met.met }
+
+pub treefile-read : Runs reader.read.ended reader.read.Symbol.routine
+    (λ κs (f, (t, _)) r (_, (t′, _)). (r ≡ readAnswer (f .now) (t .now)) × (t′ .now ≡ tableAfter (f .now) (t .now)))
+treefile-read = record { meets = reader.read.Met.met }
+
+pub treefile-write : Runs writer.write.ended writer.write.Symbol.routine
+    (λ κs (t, (f, _)) r (_, (f′, _)). record { answer = r; file = f′ .now } ≡ writeOutcome (t .now) (f .now))
+treefile-write = record { meets = writer.write.Met.met }
+
+pub convert-convert : Runs convert.convert.ended convert.convert.Symbol.routine
+    (λ κs (f, (b, _)) r (_, (b′, _)). record { answer = r; file = b′ .now } ≡ convertOutcome (f .now) (b .now))
+convert-convert = record { meets = convert.convert.Met.met }
+
+pub report-write : Runs report.write.ended report.write.Symbol.routine
+    (λ κs (f, _) r e. r ≡ textOf (reports.report (f .now)))
+report-write = record { meets = report.write.Met.met }
+
+pub report-refused : Runs report.refused.ended report.refused.Symbol.routine
+    (λ κs (q, _) r e. r ≡ textOf (refusedLine (q .number) (q .place)))
+report-refused = record { meets = report.refused.Met.met }
+
+-- the requests' own calls
+
+pub graft-graft : Runs graft.graft.ended graft.graft.Symbol.routine
+    (λ κs (t, (k, (u, (b, _)))) r (_, (_, (_, (b′, _)))).
+    record { answer = r; result = b′ .now } ≡ graftOutcome (t .now) k (u .now) (b .now))
+graft-graft = record { meets = graft.graft.Met.met }
+
+pub leafvalue-least-value : Runs leafvalue.least_value.ended leafvalue.least_value.Symbol.routine
+    (λ κs (t, (k, (w, _))) r e. r ≡ needed (t .now) k w)
+leafvalue-least-value = record { meets = leafvalue.least_value.Met.met }
+
+pub worstcase-fill : Runs worstcase.fill.ended worstcase.fill.Symbol.routine
+    (λ κs (t, _) r (t′, _). record { answer = r; table = t′ .now } ≡ fillOutcome (t .now))
+worstcase-fill = record { meets = worstcase.fill.Met.met }
+
+pub leastcount-least-leaves : Runs leastcount.least_leaves.ended leastcount.least_leaves.Symbol.routine
+    (λ κs (w, (d, _)) r e. r ≡ leastAnswer w d)
+leastcount-least-leaves = record { meets = leastcount.least_leaves.Met.met }
+
+pub shorter-choose : Runs shorter.choose.ended shorter.choose.Symbol.routine
+    (λ κs (t, (f, (s, _))) r e. r ≡ choice (t .now) (f .now) (s .now))
+shorter-choose = record { meets = shorter.choose.Met.met }
+
+pub shorter-flags : Runs shorter.flags.ended shorter.flags.Symbol.routine
+    (λ κs (t, (f, (s, _))) r e. r .now ≡ chosenFlags (t .now) (f .now) (s .now))
+shorter-flags = record { meets = shorter.flags.Met.met }
