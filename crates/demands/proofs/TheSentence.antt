@@ -1,0 +1,188 @@
+-- The sentence of the release note, then the value and the bytes behind it (demands 3, 2 and 1), each said of the
+-- functions that run: of their lowered code, which a back end that is not verified then compiles (`Runs`, `RunBoth` and
+-- `EachSearch` in specs/). It rests on what is said by `Marked` and `CertifiedBy` (specs/Handed.antt), by the tree of a
+-- table (`tree` and `valuation` in frames/specs/Tree.antt) and by `minimax` and `rootMove` (gametree/specs); and that
+-- what the searches do is what the papers call by their names, on `reached`, `mtd` and `sss` (gametree/specs). The
+-- other sentences: Sentences.antt.
+use Prim.Native.Nat.{ℕ}
+use mathlib.Core.Path.{_≡_, sym, ap, _∙_}
+use mathlib.Core.Logic.{_↔_}
+use lib.IntN.{ℤ}
+use Rattle.gametree.specs.Tree.{minimax}
+use Rattle.gametree.specs.Move.{rootMove}
+use Rattle.frames.specs.declared.Rejection.{Rejection}
+use Rattle.frames.specs.declared.Checked.the-variants.{Rejected as RejectedTable}
+use Rattle.frames.specs.Value.{valueOf}
+use Rattle.frames.specs.Tree.{tree, valuation}
+use Rattle.alphabeta.proofs as alphabeta
+use Rattle.alphabeta.specs.declared.Answer.the-variants as ab-answer
+use Rattle.mtd.proofs as mtd
+use Rattle.mtd.specs.declared.Answer.the-variants as mtd-answer
+use Rattle.sss.proofs as sss
+use Rattle.sss.specs.declared.Answer.the-variants as sss-answer
+use Rattle.plain.proofs as plain
+use Rattle.plain.specs.declared.Answer.the-variants as plain-answer
+use Rattle.verify.proofs as verify
+use Rattle.verify.specs.declared.Verdict.the-variants.{Value}
+use Rattle.verify.specs.Certificate.{Certificate}
+use Rattle.reader.proofs as reader
+use Rattle.writer.proofs as writer
+use Rattle.writer.specs.declared.Written.the-variants.{Rejected as RejectedWrite}
+use Rattle.convert.proofs as convert
+use Rattle.graft.proofs as graft
+use Rattle.worstcase.proofs as worstcase
+use Rattle.worstcase.specs.declared.Filled.the-variants.{Rejected as RejectedFill}
+use Rattle.demands.specs.Runs.{Runs, RunBoth}
+use Rattle.demands.specs.Calls.{buffers}
+use Rattle.demands.specs.Searches.{EachSearch}
+use Rattle.demands.specs.Handed.{Marked, CertifiedBy}
+use Rattle.demands.proofs.Running.{follows, each-search, alphaBetaCall, mtdCall, sssCall, solveCall}
+use Rattle.demands.proofs.Running.{given-dominated}
+use Rattle.demands.proofs.Contracts as contracts
+use Rattle.demands.proofs.Demand1.{kept-alphaBeta, kept-mtd, kept-sss, kept-solve, kept-table, kept-file}
+use Rattle.demands.proofs.Demand2.{value-minimax, move-first, certified, accepts-exactly, verdict-minimax}
+use Rattle.demands.proofs.Plain.{kept-plain}
+use Rattle.demands.proofs.Capitals.{still-refused}
+use Rattle.demands.proofs.Grafting.{kept-result}
+use Rattle.demands.proofs.WorstCase.{kept-table as kept-shape}
+
+-- THE SENTENCE
+
+-- "it values no leaf that alpha-beta would have passed over": of one table, each leaf that `sss::search` marks,
+-- `alphabeta::search` marks; neither call is refused, and SSS* may be stopped by its allowance
+pub no-leaf-passed-over : RunBoth sss.search.ended alphabeta.search.ended sss.search.Symbol.routine
+    alphabeta.search.Symbol.routine
+    (λ κs (t, _) r (_, (_, (m, (f, _)))) κs′ (u, _) r′ (_, (m′, (f′, _))). u .now ≡ t .now
+    → ((q : Rejection) → r ≡ sss-answer.Rejected q → ⊥) → ((q : Rejection) → r′ ≡ ab-answer.Rejected q → ⊥)
+    → (k : ℕ) → Marked (t .now) (buffers (m .now) (f .now)) k → Marked (t .now) (buffers (m′ .now) (f′ .now)) k)
+no-leaf-passed-over =
+    record {
+      one = _;
+      other = _;
+      oneRuns = contracts.sss-search;
+      otherRuns = contracts.alphabeta-search;
+      both = λ κs (t, (l, (m, (f, (o, (n, _)))))) r (_, (l′, (m′, (f′, (o′, _))))) s.
+          λ κs′ (u, (x, (y, (z, _)))) r′ (_, (x′, (y′, (z′, _)))) c same.
+          given-dominated
+          (sssCall (t .now) (buffers (m .now) (f .now)) (o .now) n (l .now) r (l′ .now)
+          (buffers (m′ .now) (f′ .now)) (o′ .now) s)
+          (alphaBetaCall (t .now) (buffers (x .now) (y .now)) (z .now) r′ (buffers (x′ .now) (y′ .now)) (z′ .now)
+          (rw same at c));
+    }
+
+-- THE VALUE
+
+-- "give for every accepted tree the minimax value and the first root move that reaches it, with a max and a min solution
+-- tree made only of leaves they valued" (that there is a result for every accepted tree: `gives` in Sentences.antt)
+pub minimax-value : EachSearch (λ t rule f b o. f .value ≡ valueOf (minimax (valuation t) (tree t)))
+minimax-value = each-search _ (λ t c. value-minimax c)
+
+pub first-move : EachSearch (λ t rule f b o. f .«root_move» ≡ rootMove (valuation t) (tree t))
+first-move = each-search _ (λ t c. move-first c)
+
+pub solution-trees : EachSearch (λ t rule f b o. CertifiedBy t b)
+solution-trees = each-search _ (λ t c. certified c)
+
+-- "The checker accepts a pair exactly when both are solution trees of that tree with equal value, and that value is then
+-- the minimax value"
+pub checker : Runs verify.check.ended verify.check.Symbol.routine
+    (λ κs (t, (f, _)) r e. (((z : ℤ) × (r ≡ Value z)) ↔ ((v : ℕ) × Certificate (t .now) (f .now) v))
+    × ((z : ℤ) → r ≡ Value z → z ≡ valueOf (minimax (valuation (t .now)) (tree (t .now)))))
+checker =
+    follows contracts.verify-check
+    (λ κs (t, (f, _)) r e o.
+    let a = accepts-exactly (t .now) (f .now) in (
+      (λ p. a .0 (p .0, sym o ∙ p .1), λ p. (a .1 p .0, o ∙ a .1 p .1)),
+      λ z p. verdict-minimax (t .now) (f .now) z (sym o ∙ p),
+    ))
+
+-- THE BYTES
+
+-- "After a refusal all lent memory holds what it held before": the other public functions are lent nothing that they
+-- could change
+pub alphabeta-keeps : Runs alphabeta.search.ended alphabeta.search.Symbol.routine
+    (λ κs (_, (m, (f, (o, _)))) r (_, (m′, (f′, (o′, _)))). (q : Rejection) → r ≡ ab-answer.Rejected q
+    → (m′ .now ≡ m .now) × (f′ .now ≡ f .now) × (o′ .now ≡ o .now))
+alphabeta-keeps =
+    follows contracts.alphabeta-search
+    (λ κs (t, (m, (f, (o, _)))) r (_, (m′, (f′, (o′, _)))) s q e.
+    let k = kept-alphaBeta (alphaBetaCall (t .now) (buffers (m .now) (f .now)) (o .now) (ab-answer.Rejected q)
+    (buffers (m′ .now) (f′ .now)) (o′ .now) (rw e at s)) in
+    (ap (λ b. b .marks) (k .0), ap (λ b. b .flags) (k .0), k .1))
+
+pub mtd-keeps : Runs mtd.search.ended mtd.search.Symbol.routine
+    (λ κs (_, (m, (f, (o, _)))) r (_, (m′, (f′, (o′, _)))). (q : Rejection) → r ≡ mtd-answer.Rejected q
+    → (m′ .now ≡ m .now) × (f′ .now ≡ f .now) × (o′ .now ≡ o .now))
+mtd-keeps =
+    follows contracts.mtd-search
+    (λ κs (t, (m, (f, (o, _)))) r (_, (m′, (f′, (o′, _)))) s q e.
+    let k = kept-mtd (mtdCall (t .now) (buffers (m .now) (f .now)) (o .now) (mtd-answer.Rejected q)
+    (buffers (m′ .now) (f′ .now)) (o′ .now) (rw e at s)) in
+    (ap (λ b. b .marks) (k .0), ap (λ b. b .flags) (k .0), k .1))
+
+pub sss-keeps : Runs sss.search.ended sss.search.Symbol.routine
+    (λ κs (_, (l, (m, (f, (o, _))))) r (_, (l′, (m′, (f′, (o′, _))))). (q : Rejection) → r ≡ sss-answer.Rejected q
+    → (l′ .now ≡ l .now) × (m′ .now ≡ m .now) × (f′ .now ≡ f .now) × (o′ .now ≡ o .now))
+sss-keeps =
+    follows contracts.sss-search
+    (λ κs (t, (l, (m, (f, (o, (n, _)))))) r (_, (l′, (m′, (f′, (o′, _))))) s q e.
+    let k = kept-sss (sssCall (t .now) (buffers (m .now) (f .now)) (o .now) n (l .now) (sss-answer.Rejected q)
+    (l′ .now) (buffers (m′ .now) (f′ .now)) (o′ .now) (rw e at s)) in
+    (k .2, ap (λ b. b .marks) (k .0), ap (λ b. b .flags) (k .0), k .1))
+
+pub solve-keeps : Runs sss.solve.ended sss.solve.Symbol.routine
+    (λ κs (_, (m, (f, (o, _)))) r (_, (m′, (f′, (o′, _)))). (q : Rejection) → r ≡ sss-answer.Rejected q
+    → (m′ .now ≡ m .now) × (f′ .now ≡ f .now) × (o′ .now ≡ o .now))
+solve-keeps =
+    follows contracts.sss-solve
+    (λ κs (t, (m, (f, (o, (n, _))))) r (_, (m′, (f′, (o′, _)))) s q e.
+    let k = kept-solve (solveCall (t .now) (buffers (m .now) (f .now)) (o .now) n (sss-answer.Rejected q)
+    (buffers (m′ .now) (f′ .now)) (o′ .now) (rw e at s)) in
+    (ap (λ b. b .marks) (k .0), ap (λ b. b .flags) (k .0), k .1))
+
+pub plain-keeps : Runs plain.search.ended plain.search.Symbol.routine
+    (λ κs (_, (m, (f, _))) r (_, (m′, (f′, _))). (q : Rejection) → r ≡ plain-answer.Rejected q
+    → (m′ .now ≡ m .now) × (f′ .now ≡ f .now))
+plain-keeps =
+    follows contracts.plain-search
+    (λ κs (t, (m, (f, _))) r (_, (m′, (f′, _))) s q e.
+    let k = kept-plain {t = t .now} {r = q} (record {
+      lent = buffers (m .now) (f .now);
+      left = buffers (m′ .now) (f′ .now);
+      outcome = rw e at s;
+    }) in
+    (ap (λ b. b .marks) k, ap (λ b. b .flags) k))
+
+pub read-keeps : Runs reader.read.ended reader.read.Symbol.routine
+    (λ κs (_, (t, _)) r (_, (t′, _)). (q : Rejection) → r ≡ RejectedTable q → t′ .now ≡ t .now)
+read-keeps =
+    follows contracts.treefile-read
+    (λ κs (f, (t, _)) r (_, (t′, _)) s q e. s .1 ∙ kept-table (f .now) (t .now) q (sym (s .0) ∙ e))
+
+pub write-keeps : Runs writer.write.ended writer.write.Symbol.routine
+    (λ κs (_, (b, _)) r (_, (b′, _)). (q : Rejection) → r ≡ RejectedWrite q → b′ .now ≡ b .now)
+write-keeps =
+    follows contracts.treefile-write
+    (λ κs (t, (b, _)) r (_, (b′, _)) s q e.
+    ap (λ o. o .file) s ∙ kept-file (t .now) (b .now) q (sym (ap (λ o. o .answer) s) ∙ e))
+
+pub convert-keeps : Runs convert.convert.ended convert.convert.Symbol.routine
+    (λ κs (_, (b, _)) r (_, (b′, _)). (q : Rejection) → r ≡ RejectedWrite q → b′ .now ≡ b .now)
+convert-keeps =
+    follows contracts.convert-convert
+    (λ κs (f, (b, _)) r (_, (b′, _)) s q e.
+    ap (λ o. o .file) s ∙ still-refused (f .now) (b .now) q (sym (ap (λ o. o .answer) s) ∙ e) .1)
+
+pub graft-keeps : Runs graft.graft.ended graft.graft.Symbol.routine
+    (λ κs (_, (_, (_, (b, _)))) r (_, (_, (_, (b′, _)))). (q : Rejection) → r ≡ RejectedTable q → b′ .now ≡ b .now)
+graft-keeps =
+    follows contracts.graft-graft
+    (λ κs (t, (k, (u, (b, _)))) r (_, (_, (_, (b′, _)))) s q e.
+    ap (λ o. o .result) s ∙ kept-result (t .now) k (u .now) (b .now) q (sym (ap (λ o. o .answer) s) ∙ e))
+
+pub fill-keeps : Runs worstcase.fill.ended worstcase.fill.Symbol.routine
+    (λ κs (t, _) r (t′, _). (q : Rejection) → r ≡ RejectedFill q → t′ .now ≡ t .now)
+fill-keeps =
+    follows contracts.worstcase-fill
+    (λ κs (t, _) r (t′, _) s q e.
+    ap (λ o. o .table) s ∙ kept-shape (t .now) q (sym (ap (λ o. o .answer) s) ∙ e))

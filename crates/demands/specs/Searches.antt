@@ -1,0 +1,34 @@
+-- What is said of each of the three searches as it runs.
+use Prim.Native.Nat.{ℕ}
+use mathlib.Core.Path.{_≡_}
+use mathlib.Core.List.{List}
+use Rattle.certificate.specs.declared.Findings.{Findings}
+use Rattle.alphabeta.proofs as alphabeta
+use Rattle.alphabeta.specs.declared.Answer.the-variants as ab-answer
+use Rattle.alphabeta.specs.Outcome.{reachedLeaves}
+use Rattle.mtd.proofs as mtd
+use Rattle.mtd.specs.declared.Found.{Found as MtdFound}
+use Rattle.mtd.specs.declared.Answer.the-variants as mtd-answer
+use Rattle.mtd.specs.Outcome.{mtdLeaves}
+use Rattle.sss.proofs as sss
+use Rattle.sss.specs.declared.Found.{Found as SssFound}
+use Rattle.sss.specs.declared.Answer.the-variants as sss-answer
+use Rattle.sss.specs.Outcome.{sssLeaves}
+use Rattle.demands.specs.Runs.{Runs}
+use Rattle.demands.specs.Calls.{Buffers, buffers}
+
+-- whenever `alphabeta::search`, `mtd::search`, `sss::search` or `sss::solve` gives a result, P holds: of the table, the
+-- leaves that the search's rule names there, what it found, and the buffers and the list of leaves that it left
+pub record EachSearch (P : (t rule : List ℕ) → Findings → Buffers → (order : List ℕ) → Type 0) : Type 2 where
+  pub alphabetaSearch : Runs alphabeta.search.ended alphabeta.search.Symbol.routine
+      (λ κs (t, _) r (_, (m, (f, (o, _)))). (g : Findings) → r ≡ ab-answer.Found g
+      → P (t .now) (reachedLeaves (t .now)) g (buffers (m .now) (f .now)) (o .now))
+  pub mtdSearch : Runs mtd.search.ended mtd.search.Symbol.routine
+      (λ κs (t, _) r (_, (m, (f, (o, _)))). (g : MtdFound) → r ≡ mtd-answer.Found g
+      → P (t .now) (mtdLeaves (t .now)) (g .findings) (buffers (m .now) (f .now)) (o .now))
+  pub sssSearch : Runs sss.search.ended sss.search.Symbol.routine
+      (λ κs (t, _) r (_, (_, (m, (f, (o, _))))). (g : SssFound) → r ≡ sss-answer.Found g
+      → P (t .now) (sssLeaves (t .now)) (g .findings) (buffers (m .now) (f .now)) (o .now))
+  pub sssSolve : Runs sss.solve.ended sss.solve.Symbol.routine
+      (λ κs (t, _) r (_, (m, (f, (o, _)))). (g : SssFound) → r ≡ sss-answer.Found g
+      → P (t .now) (sssLeaves (t .now)) (g .findings) (buffers (m .now) (f .now)) (o .now))
