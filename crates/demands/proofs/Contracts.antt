@@ -10,7 +10,7 @@ use Rattle.sss.proofs as sss
 use Rattle.graft.proofs as graft
 use Rattle.graft.specs.Outcome.{graftOutcome}
 use Rattle.shorter.proofs as shorter
-use Rattle.shorter.specs.Choice.{choice, chosenFlags}
+use Rattle.shorter.specs.Choice.{choice, chosenFlags, pointerBy}
 use Rattle.verify.proofs as verify
 use Rattle.verify.specs.Check.{verdict}
 use Rattle.leafvalue.proofs as leafvalue
@@ -23,6 +23,7 @@ use Rattle.writer.proofs as writer
 use Rattle.writer.specs.Write.{writeOutcome}
 use Rattle.convert.proofs as convert
 use Rattle.convert.specs.Convert.{convertOutcome}
+use Rattle.convert.specs.Printed.{outputOutcome}
 use Rattle.reader.proofs as reader
 use Rattle.reader.specs.File.{readAnswer, tableAfter}
 use Rattle.tables.proofs as tables
@@ -34,8 +35,8 @@ use Rattle.hex.specs.Digit.{digitOf}
 use Rattle.lines.proofs as lines
 use Rattle.lines.specs.Line.{lineAt}
 use Rattle.report.proofs as report
-use Rattle.report.specs.Text.{refusedLine}
-use Rattle.report.specs.Report.{textOf}
+use Rattle.text.proofs as text
+use Rattle.text.specs.Text.{refusedLine, textOf}
 use Rattle.report.specs.Report as reports
 use Rattle.demands.specs.Runs.{Runs}
 use Rattle.demands.specs.Calls.{buffers, AlphaBetaSays, PlainSays, MtdSays, SssSays, SolveSays}
@@ -102,13 +103,17 @@ pub convert-convert : Runs convert.convert.ended convert.convert.Symbol.routine
     (λ κs (f, (b, _)) r (_, (b′, _)). record { answer = r; file = b′ .now } ≡ convertOutcome (f .now) (b .now))
 convert-convert = record { meets = convert.convert.Met.met }
 
+pub convert-output : Runs convert.output.ended convert.output.Symbol.routine
+    (λ κs (f, (b, _)) r (_, (b′, _)). record { answer = r; file = b′ .now } ≡ outputOutcome (f .now) (b .now))
+convert-output = record { meets = convert.output.Met.met }
+
 pub report-write : Runs report.write.ended report.write.Symbol.routine
     (λ κs (f, _) r e. r ≡ textOf (reports.report (f .now)))
 report-write = record { meets = report.write.Met.met }
 
-pub report-refused : Runs report.refused.ended report.refused.Symbol.routine
+pub text-refused : Runs text.refused.ended text.refused.Symbol.routine
     (λ κs (q, _) r e. r ≡ textOf (refusedLine (q .number) (q .place)))
-report-refused = record { meets = report.refused.Met.met }
+text-refused = record { meets = text.refused.Met.met }
 
 -- the requests' own calls
 
@@ -133,6 +138,8 @@ pub shorter-choose : Runs shorter.choose.ended shorter.choose.Symbol.routine
     (λ κs (t, (f, (s, _))) r e. r ≡ choice (t .now) (f .now) (s .now))
 shorter-choose = record { meets = shorter.choose.Met.met }
 
-pub shorter-flags : Runs shorter.flags.ended shorter.flags.Symbol.routine
-    (λ κs (t, (f, (s, _))) r e. r .now ≡ chosenFlags (t .now) (f .now) (s .now))
-shorter-flags = record { meets = shorter.flags.Met.met }
+pub shorter-select : Runs shorter.select.ended shorter.select.Symbol.routine
+    (λ κs (t, (f, (s, _))) r e. (r .choice ≡ choice (t .now) (f .now) (s .now))
+    × (r .flags .now ≡ chosenFlags (t .now) (f .now) (s .now))
+    × (r .flags .ptr ≡ pointerBy (f .ptr) (s .ptr) (r .choice)))
+shorter-select = record { meets = shorter.select.Met.met }

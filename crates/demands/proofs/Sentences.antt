@@ -399,15 +399,17 @@ pub counts-no-fewer : EachSearch (λ t rule f b o. (w d n : ℕ) → RegularTabl
 counts-no-fewer = each-search _ (λ t c w d n regular e. no-fewer t w d regular n e c)
 
 -- N13: "the call hands back the flags of the one with fewer flagged leaves, the first on a tie"
-pub fewer-leaves : Runs shorter.flags.ended shorter.flags.Symbol.routine
+pub fewer-leaves : Runs shorter.select.ended shorter.select.Symbol.routine
     (λ κs (t, (f, (s, _))) r e. (v w : ℕ) → Certificate (t .now) (f .now) v → Certificate (t .now) (s .now) w
-    → (flaggedLeaves (t .now) (s .now) < flaggedLeaves (t .now) (f .now) → r .now ≡ take (frames (t .now)) (s .now))
-    × (flaggedLeaves (t .now) (f .now) ≤ flaggedLeaves (t .now) (s .now) → r .now ≡ take (frames (t .now)) (f .now)))
+    → (flaggedLeaves (t .now) (s .now) < flaggedLeaves (t .now) (f .now)
+    → r .flags .now ≡ take (frames (t .now)) (s .now))
+    × (flaggedLeaves (t .now) (f .now) ≤ flaggedLeaves (t .now) (s .now)
+    → r .flags .now ≡ take (frames (t .now)) (f .now)))
 fewer-leaves =
-    follows contracts.shorter-flags
+    follows contracts.shorter-select
     (λ κs (t, (f, (s, _))) r e o v w c d. (
-      λ l. o ∙ fewer-handed (t .now) (f .now) (s .now) v w c d l .1,
-      λ l. o ∙ tie-handed (t .now) (f .now) (s .now) v w c d l .1,
+      λ l. o .1 ∙ fewer-handed (t .now) (f .now) (s .now) v w c d l .1,
+      λ l. o .1 ∙ tie-handed (t .now) (f .now) (s .now) v w c d l .1,
     ))
 
 -- N14: "For every accepted tree MTD and a finished SSS* give the same list"
