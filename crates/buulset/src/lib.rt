@@ -1,5 +1,5 @@
-// The calls for programs in other languages: numbers, byte slices, and answers by value. The comment of a call names the
-// call of the other crates that it makes, and what it gives; every other member of the answer is 0.
+// The calls for programs in other languages: numbers, byte slices, and answers by value. The comment of a call names
+// the call of the other crates that it makes, and what it gives; every other member of the answer is 0.
 use certificate::Findings;
 use frames::Checked;
 use frames::FRAME_SIZE;

@@ -36,7 +36,8 @@ module _ (f : List ℕ) where
   -- a file that the base accepted is not too long, and has right lines and an accepted table
   pub base-sized : baseRejection f ≡ none → (length f ≤ maxFile) × (fileCheck3 f ≡ none)
   base-sized e =
-      let p = lines-parts f (both-passed (linesRejection f) _ (sym (lines-then f (framesRejection (decoded f))) ∙ e) .0) in
+      let p = lines-parts f
+      (both-passed (linesRejection f) _ (sym (lines-then f (framesRejection (decoded f))) ∙ e) .0) in
       (p .1, p .2)
 
   base-lines : baseRejection f ≡ none → fileCheck3 f ≡ none

@@ -1,7 +1,8 @@
--- "each public entry takes whatever bytes it is lent, stays inside them, finishes" (demand 1): each public function asks
--- nothing of its caller, and leaves what is said here of its arguments, its answer r and its parameters at exit, which
--- are marked ′. This is the function's own contract, compared with it by computing: a contract that promises less, or
--- asks for something, is refused here. The theorems of the other files are about the definitions that are cited here.
+-- "each public entry takes whatever bytes it is lent, stays inside them, finishes" (demand 1): each public function
+-- asks nothing of its caller, and leaves what is said here of its arguments, its answer r and its parameters at exit,
+-- which are marked ′. This is the function's own contract, compared with it by computing: a contract that promises
+-- less, or asks for something, is refused here. The theorems of the other files are about the definitions that are
+-- cited here.
 use mathlib.Core.Path.{_≡_}
 use Rattle.alphabeta.proofs as alphabeta
 use Rattle.plain.proofs as plain

@@ -165,8 +165,8 @@ pub smallest-pair : EachSearch (λ t rule f b o. (g h : ℕ → Bool) → Smalle
     → pairLeaves g h (tree t) ≤ f .leaves)
 smallest-pair = each-search _ (λ t c. smallest c)
 
--- "whatever the leaves it passed over hold: two accepted trees of one shape that agree on the leaves it valued in one of
--- them get results from it that are alike in value, move and every count, with the same valued leaves and the same
+-- "whatever the leaves it passed over hold: two accepted trees of one shape that agree on the leaves it valued in one
+-- of them get results from it that are alike in value, move and every count, with the same valued leaves and the same
 -- solution trees"; and the same lists of leaves
 pub alphabeta-local : RunBoth alphabeta.search.ended alphabeta.search.ended alphabeta.search.Symbol.routine
     alphabeta.search.Symbol.routine
@@ -353,7 +353,8 @@ graft-value =
     ≡ graftValue (t .now) k (u .now)) (sym (ap (λ o. o .result) s))
     (result-value (t .now) k (u .now) (b .now) n (sym (ap (λ o. o .answer) s) ∙ i)))
 
--- N10: "The call gives the smallest leaf value from -32,000 to 32,000 that makes the root's value exactly the wanted one"
+-- N10: "The call gives the smallest leaf value from -32,000 to 32,000 that makes the root's value exactly the wanted
+-- one"
 pub smallest-value : Runs leafvalue.least_value.ended leafvalue.least_value.Symbol.routine
     (λ κs (t, (k, (w, _))) r e. (v : ℤ) → r ≡ Value v → (natAbs v ≤ maxValue) × (rootValue (t .now) k v ≡ w)
     × ((u : ℤ) → natAbs u ≤ maxValue → u <ℤ v → rootValue (t .now) k u ≡ w → ⊥))
@@ -384,8 +385,8 @@ costs-most =
           );
     }
 
--- N12: "each entry is the number of leaves, a shared one counted once, in every max and min pair of equal value, in each
--- such tree that is accepted"
+-- N12: "each entry is the number of leaves, a shared one counted once, in every max and min pair of equal value, in
+-- each such tree that is accepted"
 pub least-leaves : Runs leastcount.least_leaves.ended leastcount.least_leaves.Symbol.routine
     (λ κs (w, (d, _)) r e. (n : ℕ) → r ≡ least.Leaves n → (t : List ℕ) → RegularTable w d t → Accepted t
     → (g h : ℕ → Bool) (v : ℕ) → Certifies (valuation t) (tree t) g h v → pairLeaves g h (tree t) ≡ n)

@@ -72,8 +72,9 @@ no-leaf-passed-over =
 
 -- THE VALUE
 
--- "give for every accepted tree the minimax value and the first root move that reaches it, with a max and a min solution
--- tree made only of leaves they valued" (that there is a result for every accepted tree: `gives` in Sentences.antt)
+-- "give for every accepted tree the minimax value and the first root move that reaches it, with a max and a min
+-- solution tree made only of leaves they valued" (that there is a result for every accepted tree: `gives` in
+-- Sentences.antt)
 pub minimax-value : EachSearch (λ t rule f b o. f .value ≡ valueOf (minimax (valuation t) (tree t)))
 minimax-value = each-search _ (λ t c. value-minimax c)
 
@@ -83,8 +84,8 @@ first-move = each-search _ (λ t c. move-first c)
 pub solution-trees : EachSearch (λ t rule f b o. CertifiedBy t b)
 solution-trees = each-search _ (λ t c. certified c)
 
--- "The checker accepts a pair exactly when both are solution trees of that tree with equal value, and that value is then
--- the minimax value"
+-- "The checker accepts a pair exactly when both are solution trees of that tree with equal value, and that value is
+-- then the minimax value"
 pub checker : Runs verify.check.ended verify.check.Symbol.routine
     (λ κs (t, (f, _)) r e. (((z : ℤ) × (r ≡ Value z)) ↔ ((v : ℕ) × Certificate (t .now) (f .now) v))
     × ((z : ℤ) → r ≡ Value z → z ≡ valueOf (minimax (valuation (t .now)) (tree (t .now)))))

@@ -49,7 +49,8 @@ halves a b h l m = go (a % 2) refl (omega arith)
     go (suc (suc n)) e p = absurd (omega arith)
 
 -- a range is what is from its first byte on and not behind its last
-pub ranges : (a z b : ℕ) → a ≤ z → (oneFrom (z + 1) b ≤ oneFrom a b) × (oneFrom a b - oneFrom (z + 1) b ≡ oneWithin a z b)
+pub ranges : (a z b : ℕ) → a ≤ z
+    → (oneFrom (z + 1) b ≤ oneFrom a b) × (oneFrom a b - oneFrom (z + 1) b ≡ oneWithin a z b)
 ranges a z b h =
     elim (decLt b a) [
       | yes p ↦ rw (lt-leb a b p, lt-leb (z + 1) b (omega arith)) (omega arith, refl)

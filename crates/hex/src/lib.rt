@@ -18,8 +18,8 @@ const LETTER_MORE: u8 = 9;
 const HALVES: u8 = 128;
 
 // The number of a hexadecimal digit in either letter case, 0 to 15; NO_DIGIT for any other byte. It is arithmetic on
-// the byte: a figure's number is its low four bits, a letter's is LETTER_MORE more. No sum goes past a byte, so that the
-// compiler reads many digits in one register.
+// the byte: a figure's number is its low four bits, a letter's is LETTER_MORE more. No sum goes past a byte, so that
+// the compiler reads many digits in one register.
 pub fn digit(byte: u8) -> u8
     ensures { λ r. ⌜ r ≡ digitOf byte ⌝ }
 {

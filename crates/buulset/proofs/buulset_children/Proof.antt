@@ -60,7 +60,8 @@ module _ (t : List ℕ) (i : ℕ) where
   inside =
       cond-cases (λ p. 0 < length p / frameSize → i < frames t)
       (ltb i (frames t) && leb (firstChild t i + childCount t i) (frames t)) _ []
-      (λ h _. ltb-true _ _ (and-both _ (leb (firstChild t i + childCount t i) (frames t)) h .0)) (λ _ r. absurd (omega arith))
+      (λ h _. ltb-true _ _ (and-both _ (leb (firstChild t i + childCount t i) (frames t)) h .0))
+      (λ _ r. absurd (omega arith))
 
   -- so the two numbers stand for the part
   abbrev Stands : Children → Type 0

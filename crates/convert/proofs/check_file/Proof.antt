@@ -1,4 +1,5 @@
--- `convert::check_file` meets its contract: each way out is that of the questions on lines or of the questions on frames.
+-- `convert::check_file` meets its contract: each way out is that of the questions on lines or of the questions on
+-- frames.
 use mathlib.Core.Path.{refl, sym}
 use mathlib.Core.Option.{none}
 use native.Mathlib.Omega.{arith}

@@ -44,7 +44,8 @@ write-accepted-requires : tie.Need-write-accepted-requires
 write-accepted-requires c κs =
     let k = c .before .before in
     let w = front k in
-    rw (w .bytes) (base-table (now (start (k .before .before .before .before .before) .args .file)) (w .passed), w .nodes)
+    rw (w .bytes)
+    (base-table (now (start (k .before .before .before .before .before) .args .file)) (w .passed), w .nodes)
 
 enum-known-rejection : tie.Need-enum-known-rejection
 enum-known-rejection c = search needs

@@ -1,5 +1,5 @@
--- `reader::check_file` meets its contract: each way out is that of the questions on lines, of 16, or of the questions on
--- frames.
+-- `reader::check_file` meets its contract: each way out is that of the questions on lines, of 16, or of the questions
+-- on frames.
 use mathlib.Core.Path.{_≡_, sym, _∙_}
 use mathlib.Core.Option.{none}
 use native.Mathlib.Omega.{arith}
