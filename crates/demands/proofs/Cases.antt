@@ -1,8 +1,6 @@
--- The cases of SPEC 12.2 (01: those marked P; wins and losses; second captures; leaves at two depths), computed from
--- the definitions over byte tables.
+-- The cases of 01 marked P (SPEC 12.2), computed from the definitions over byte tables.
 use mathlib.Core.Path.{_≡_, refl}
-use mathlib.Core.List.{[], _∷_, map}
-use lib.ListN.{replicate}
+use mathlib.Core.List.{map}
 use Rattle.gametree.specs.Mtd.{mtd}
 use Rattle.frames.specs.Frame.{next}
 use Rattle.frames.specs.Place.{parentBefore, placeWithin, placeOf}
@@ -11,39 +9,10 @@ use Rattle.frames.specs.Rejection.{eachNode}
 use Rattle.frames.specs.Check.{framesRejection, rejection}
 use Rattle.places.specs.Buffer.{tabulate, written}
 use Rattle.bounds.specs.Marks.{ones}
-use Rattle.demands.specs.Cases.{rowOf, tables, rows, path, winTables, winRows}
-use Rattle.demands.specs.Cases.{leavesOf, captureTables, captureRows, deeperTables, deeperRows, rejected}
-use Rattle.demands.specs.Cases.{stoppedAt, stoppedRows, withEntries}
+use Rattle.demands.specs.Cases.{rowOf, tables, rows}
 
 -- every row of the table is what the definitions give
 pub marked-cases : map rowOf tables ≡ rows
 unfolding mtd next parentBefore placeWithin placeOf kidsFrom grow treeAt valuation eachNode
     framesRejection rejection tabulate written ones
 marked-cases = refl
-
-pub win-cases : map rowOf winTables ≡ winRows
-unfolding mtd next parentBefore placeWithin placeOf kidsFrom grow treeAt valuation eachNode
-    framesRejection rejection tabulate written ones path
-win-cases = refl
-
-pub capture-cases : map rowOf captureTables ≡ captureRows
-unfolding mtd next parentBefore placeWithin placeOf kidsFrom grow treeAt valuation eachNode
-    framesRejection rejection tabulate written ones leavesOf
-capture-cases = refl
-
-pub deeper-cases : map rowOf deeperTables ≡ deeperRows
-unfolding mtd next parentBefore placeWithin placeOf kidsFrom grow treeAt valuation eachNode
-    framesRejection rejection tabulate written ones leavesOf
-deeper-cases = refl
-
--- a run of SSS* under allowances of 0 to 4 leaves
-pub stopped-cases : map stoppedAt (0 ∷ 1 ∷ 2 ∷ 3 ∷ 4 ∷ []) ≡ stoppedRows
-unfolding mtd next parentBefore placeWithin placeOf kidsFrom grow treeAt valuation eachNode
-    framesRejection rejection tabulate written ones
-stopped-cases = refl
-
--- 7 nodes and 4 entries get 10, as do 6 entries
-pub short-cases : map withEntries (4 ∷ 6 ∷ []) ≡ replicate 2 (replicate 4 (rejected 10))
-unfolding mtd next parentBefore placeWithin placeOf kidsFrom grow treeAt valuation eachNode
-    framesRejection rejection tabulate written ones
-short-cases = refl

@@ -7,6 +7,7 @@ use mathlib.Core.Path.{_≡_}
 use Rattle.alphabeta.proofs as alphabeta
 use Rattle.plain.proofs as plain
 use Rattle.mtd.proofs as mtd
+use Rattle.states.specs.Entry.{blank}
 use Rattle.sss.proofs as sss
 use Rattle.graft.proofs as graft
 use Rattle.graft.specs.Outcome.{graftOutcome}
@@ -69,6 +70,10 @@ pub sss-solve : Runs sss.solve.ended sss.solve.Symbol.routine
     (λ κs (t, (m, (f, (o, (n, _))))) r (_, (m′, (f′, (o′, _)))).
     SolveSays n (t .now) (buffers (m .now) (f .now)) (o .now) r (buffers (m′ .now) (f′ .now)) (o′ .now))
 sss-solve = record { meets = sss.solve.Met.met }
+
+-- an entry for a list of states to lend
+pub sss-blank : Runs sss.blank.ended sss.blank.Symbol.routine (λ κs x r e. r ≡ blank)
+sss-blank = record { meets = sss.blank.Met.met }
 
 -- the check of a table, of a certificate, and the children of a node
 

@@ -32,3 +32,4 @@ pub mod LeastCounts
 pub mod Shorter
 pub mod Order
 pub mod Cases
+mod Tests

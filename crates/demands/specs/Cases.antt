@@ -1,11 +1,11 @@
--- The cases of SPEC 12.2 (01: those marked P; wins and losses; second captures; leaves at two depths), as byte tables,
--- with what is said of them.
-use Prim.Native.Nat.{ℕ, zero, suc, _+_}
-use mathlib.Core.List.{List, [], _∷_, _++_}
-use lib.IntN.{ℤ, pos, negℤ, negsuc}
+-- The cases of 01 marked P (SPEC 12.2), as byte tables, with what is said of them; the other cases are tests
+-- (results/Cases.antt).
+use Prim.Native.Nat.{ℕ}
+use mathlib.Core.List.{List, [], _∷_}
+use lib.IntN.{ℤ, pos, negsuc}
 use lib.ListN.{replicate, take}
 use Rattle.frames.specs.Frame.{frames}
-use Rattle.frames.specs.results.Cases.{leafFrame, innerFrame, againFrame, small, capture, lone, single}
+use Rattle.frames.specs.results.Cases.{small, lone, single}
 use Rattle.certificate.specs.declared.Findings.{Findings}
 use Rattle.bounds.specs.Marks.{ones}
 use Rattle.alphabeta.specs.declared.Answer as ab
@@ -20,7 +20,7 @@ use Rattle.mtd.specs.Outcome.{mtdOutcome}
 use Rattle.sss.specs.declared.Answer as sss
 use Rattle.sss.specs.declared.Answer.the-variants as sss-answer
 use Rattle.states.specs.Entry.{blank}
-use Rattle.sss.specs.Outcome.{sssOutcome, solveOutcome}
+use Rattle.sss.specs.Outcome.{sssOutcome}
 
 -- what a search gives: the value, the move, the count of evaluated leaves and, if it has one, its second count; of an
 -- allowance that is spent the merit and the counts; or a rejection's number
@@ -32,7 +32,7 @@ pub data Given : Type 0 where
 abbrev given : Findings → ℕ → Given
 given f second = found (f .value) (f .«root_move») (f .leaves) second
 
-abbrev byAlphaBeta : ab.Answer → Given
+abbrev pub byAlphaBeta : ab.Answer → Given
 byAlphaBeta (ab-answer.Found f) = given f 0
 byAlphaBeta (ab-answer.Rejected r) = rejected (r .number)
 
@@ -41,11 +41,11 @@ abbrev byPlain : (marks : ℕ) → plain.Answer → Given
 byPlain n (plain-answer.Found f) = found (f .value) (f .«root_move») n 0
 byPlain n (plain-answer.Rejected r) = rejected (r .number)
 
-abbrev byMtd : mtd.Answer → Given
+abbrev pub byMtd : mtd.Answer → Given
 byMtd (mtd-answer.Found f) = given (f .findings) (f .passes)
 byMtd (mtd-answer.Rejected r) = rejected (r .number)
 
-abbrev bySss : sss.Answer → Given
+abbrev pub bySss : sss.Answer → Given
 bySss (sss-answer.Found f) = given (f .findings) (f .replacements)
 bySss (sss-answer.Spent s) = spent (s .merit) (s .leaves) (s .replacements)
 bySss (sss-answer.Rejected r) = rejected (r .number)
@@ -90,7 +90,7 @@ rowOf t =
 
 -- value, move, all leaves, alpha-beta's leaves, MTD's leaves and passes, SSS*'s leaves and replacements; the leaves of
 -- alpha-beta in order, and those of MTD and SSS*, which are the same; the flags of SSS* and those of the plain engine
-abbrev rowWith : ℤ → (move all ab mtd passes sss replacements : ℕ) → (abOrder order flags plainFlags : List ℕ) → Row
+abbrev pub rowWith : ℤ → (move all ab mtd passes sss replacements : ℕ) → (abOrder order flags plainFlags : List ℕ) → Row
 rowWith v m l a d p s r u w f g =
     record {
       alphaBeta = found v m a 0;
@@ -105,7 +105,7 @@ rowWith v m l a d p s r u w f g =
     }
 
 -- both write the same flags
-abbrev row : ℤ → (move all ab mtd passes sss replacements : ℕ) → (abOrder order flags : List ℕ) → Row
+abbrev pub row : ℤ → (move all ab mtd passes sss replacements : ℕ) → (abOrder order flags : List ℕ) → Row
 row v m l a d p s r u w f = rowWith v m l a d p s r u w f f
 
 abbrev pub tables : List (List ℕ)
@@ -132,124 +132,4 @@ rows =
     ∷ row (pos 7) 1 4 3 3 2 3 9 (3 ∷ 4 ∷ 5 ∷ []) (3 ∷ 5 ∷ 4 ∷ []) (3 ∷ 3 ∷ 1 ∷ 3 ∷ 2 ∷ 1 ∷ 0 ∷ [])
     ∷ row (negsuc 4) 0 1 1 1 2 1 1 (0 ∷ []) (0 ∷ []) (3 ∷ [])
     ∷ row (pos 9) 1 1 1 1 2 1 3 (1 ∷ []) (1 ∷ []) (3 ∷ 3 ∷ [])
-    ∷ []
-
--- leaves of 31,000 and -31,000
-abbrev winLeaf : List ℕ
-winLeaf = leafFrame 121 24
-
-abbrev lossLeaf : List ℕ
-lossLeaf = leafFrame 134 232
-
--- a root with the leaves a and b; Max(Min(a, Max(a)))
-abbrev pair : (a b : List ℕ) → List ℕ
-pair a b = innerFrame 1 2 ++ a ++ b
-
-abbrev nested : List ℕ → List ℕ
-nested a = innerFrame 1 1 ++ innerFrame 2 2 ++ a ++ innerFrame 4 1 ++ a
-
--- n nodes from number i on with one child each, and the leaf a
-unfoldable pub path : List ℕ → ℕ → ℕ → List ℕ
-path a i zero = a
-path a i (suc n) = innerFrame (i + 1) 1 ++ path a (i + 1) n
-
--- a root with the leaf a, and with the leaf b at depth 18
-abbrev late : (a b : List ℕ) → List ℕ
-late a b = innerFrame 1 2 ++ a ++ path b 2 17
-
--- Max(30999, 31000), Max(Min(31000, Max(31000))), Max of 30,990 and a win at depth 18; and the same with losses
-abbrev pub winTables : List (List ℕ)
-winTables =
-    pair (leafFrame 121 23) winLeaf
-    ∷ nested winLeaf
-    ∷ late (leafFrame 121 14) winLeaf
-    ∷ pair lossLeaf (leafFrame 134 233)
-    ∷ nested lossLeaf
-    ∷ late (leafFrame 134 242) lossLeaf
-    ∷ []
-
--- a win at depth 1 is worth 30,999, which is no more than an ordinary 30,999; one value has two worths at two
--- depths, and MTD makes three passes; a win at depth 18 is worth less than 30,990; and the same of losses
-abbrev pub winRows : List Row
-winRows =
-    row (pos 30999) 1 2 2 2 2 2 4 (1 ∷ 2 ∷ []) (1 ∷ 2 ∷ []) (3 ∷ 3 ∷ 1 ∷ [])
-    ∷ row (pos 30997) 1 2 2 2 3 2 9 (2 ∷ 4 ∷ []) (2 ∷ 4 ∷ []) (3 ∷ 3 ∷ 2 ∷ 3 ∷ 3 ∷ [])
-    ∷ row (pos 30990) 1 2 2 2 2 2 21 (1 ∷ 19 ∷ []) (1 ∷ 19 ∷ []) (3 ∷ 3 ∷ replicate 18 1)
-    ∷ row (negℤ (pos 30999)) 1 2 2 2 2 2 4 (1 ∷ 2 ∷ []) (1 ∷ 2 ∷ []) (3 ∷ 3 ∷ 1 ∷ [])
-    ∷ row (negℤ (pos 30998)) 1 2 2 2 2 2 9 (2 ∷ 4 ∷ []) (2 ∷ 4 ∷ []) (3 ∷ 3 ∷ 3 ∷ 2 ∷ 2 ∷ [])
-    ∷ row (negℤ (pos 30982)) 2 2 2 2 2 2 38 (1 ∷ 19 ∷ []) (1 ∷ 19 ∷ []) (3 ∷ 1 ∷ replicate 18 3)
-    ∷ []
-
--- leaves of these values, from 0 to 255
-unfoldable pub leavesOf : List ℕ → List ℕ
-leavesOf [] = []
-leavesOf (v ∷ vs) = leafFrame 0 v ++ leavesOf vs
-
--- Max(Max(1, 2)); Max(Min(Min(2, 1))); Max five times in a row above 1 and 2; Max(Max(Min(1, 2), Min(3, 4))); and
--- Max(Min(Min(1, 2), Min(3, 4)), Max(Min(2, 5), Min(2, 1)))
-abbrev pub captureTables : List (List ℕ)
-captureTables =
-    capture
-    ∷ (innerFrame 1 1 ++ innerFrame 2 1 ++ againFrame 3 2 ++ leavesOf (2 ∷ 1 ∷ []))
-    ∷ (innerFrame 1 1 ++ againFrame 2 1 ++ againFrame 3 1 ++ againFrame 4 1 ++ againFrame 5 2
-    ++ leavesOf (1 ∷ 2 ∷ []))
-    ∷ (innerFrame 1 1 ++ againFrame 2 2 ++ innerFrame 4 2 ++ innerFrame 6 2 ++ leavesOf (1 ∷ 2 ∷ 3 ∷ 4 ∷ []))
-    ∷ (innerFrame 1 2 ++ innerFrame 3 2 ++ againFrame 5 2
-    ++ againFrame 7 2 ++ againFrame 9 2 ++ innerFrame 11 2 ++ innerFrame 13 2
-    ++ leavesOf (1 ∷ 2 ∷ 3 ∷ 4 ∷ 2 ∷ 5 ∷ 2 ∷ 1 ∷ []))
-    ∷ []
-
--- by the depth the first would be 1
-abbrev pub captureRows : List Row
-captureRows =
-    row (pos 2) 1 2 2 2 2 2 6 (2 ∷ 3 ∷ []) (2 ∷ 3 ∷ []) (3 ∷ 3 ∷ 1 ∷ 3 ∷ [])
-    ∷ row (pos 1) 1 2 2 2 3 2 9 (3 ∷ 4 ∷ []) (3 ∷ 4 ∷ []) (3 ∷ 3 ∷ 3 ∷ 2 ∷ 3 ∷ [])
-    ∷ row (pos 2) 1 2 2 2 2 2 12 (5 ∷ 6 ∷ []) (5 ∷ 6 ∷ []) (3 ∷ 3 ∷ 3 ∷ 3 ∷ 3 ∷ 1 ∷ 3 ∷ [])
-    ∷ row (pos 3) 1 4 4 3 2 3 11 (4 ∷ 5 ∷ 6 ∷ 7 ∷ []) (4 ∷ 6 ∷ 7 ∷ []) (3 ∷ 3 ∷ 1 ∷ 3 ∷ 1 ∷ 0 ∷ 3 ∷ 2 ∷ [])
-    ∷ rowWith (pos 2) 2 8 7 4 2 4 14 (7 ∷ 8 ∷ 9 ∷ 10 ∷ 11 ∷ 12 ∷ 13 ∷ []) (7 ∷ 11 ∷ 13 ∷ 12 ∷ [])
-    (3 ∷ 1 ∷ 3 ∷ 1 ∷ 0 ∷ 3 ∷ 1 ∷ 1 ∷ 0 ∷ 0 ∷ 0 ∷ 3 ∷ 2 ∷ 1 ∷ 0 ∷ [])
-    (3 ∷ 1 ∷ 3 ∷ 1 ∷ 0 ∷ 3 ∷ 1 ∷ 1 ∷ 0 ∷ 0 ∷ 0 ∷ 3 ∷ 2 ∷ 0 ∷ 1 ∷ [])
-    ∷ []
-
--- Max(Min(2, 3), 1), whose leaves lie at two depths: from left to right they are the nodes 3, 4 and 2
-abbrev pub deeperTables : List (List ℕ)
-deeperTables = (innerFrame 1 2 ++ innerFrame 3 2 ++ leavesOf (1 ∷ 2 ∷ 3 ∷ [])) ∷ []
-
-abbrev pub deeperRows : List Row
-deeperRows = row (pos 2) 1 3 3 3 2 3 8 (3 ∷ 4 ∷ 2 ∷ []) (3 ∷ 2 ∷ 4 ∷ []) (3 ∷ 3 ∷ 1 ∷ 3 ∷ 2 ∷ []) ∷ []
-
--- Max(Min(2, 3), Min(4, 1)) by SSS* within an allowance of n leaves: what it gives, and its list, lent with a 9 in each
--- of the 7 entries
-pub record StoppedRow : Type 0 where
-  pub gives : Given
-  pub order : List ℕ
-
-abbrev pub stoppedAt : ℕ → StoppedRow
-stoppedAt n =
-    let buffer : List ℕ = replicate 7 0 in
-    let s = sssOutcome n (small 2 3 4 1) (replicate 7 blank) buffer buffer (replicate 7 9) in
-    record { gives = bySss (s .search .answer); order = s .order }
-
-abbrev stoppedRow : Given → List ℕ → StoppedRow
-stoppedRow g o = record { gives = g; order = o }
-
--- from no leaf to the 4 that it needs
-abbrev pub stoppedRows : List StoppedRow
-stoppedRows =
-    stoppedRow (spent (pos 32001) 0 2) (replicate 7 9)
-    ∷ stoppedRow (spent (pos 32001) 1 4) (3 ∷ replicate 6 9)
-    ∷ stoppedRow (spent (pos 4) 2 6) (3 ∷ 5 ∷ replicate 5 9)
-    ∷ stoppedRow (spent (pos 2) 3 8) (3 ∷ 5 ∷ 6 ∷ replicate 4 9)
-    ∷ stoppedRow (found (pos 2) 1 4 11) (3 ∷ 5 ∷ 6 ∷ 4 ∷ replicate 3 9)
-    ∷ []
-
--- the same tree by each search with a list of n entries
-abbrev pub withEntries : ℕ → List Given
-withEntries n =
-    let t = small 2 3 4 1 in
-    let buffer : List ℕ = replicate 7 0 in
-    byAlphaBeta (alphaBetaOutcome t buffer buffer (replicate n 0) .search .answer)
-    ∷ byMtd (mtdOutcome t buffer buffer (replicate n 0) .search .answer)
-    ∷ bySss (sssOutcome 7 t (replicate 7 blank) buffer buffer (replicate n 0) .search .answer)
-    ∷ bySss (solveOutcome 7 t buffer buffer (replicate n 0) .search .answer)
     ∷ []

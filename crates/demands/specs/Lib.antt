@@ -7,3 +7,4 @@ pub mod Allowance
 pub mod Order
 pub mod Alternating
 pub mod Cases
+pub mod results

@@ -1,0 +1,2 @@
+-- What only tests cite.
+pub mod Cases
