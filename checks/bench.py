@@ -1,7 +1,7 @@
 #!/usr/bin/env python3
 """What each public call costs: the crates against the same work in plain C, by instructions and by time.
 
-    bench.py [--readme]     all trees, growth, stack and the whole program; --readme puts the tables into README.md
+    bench.py [--write]      all trees, growth, stack and the whole program; --write puts the tables into docs/COSTS.md
     bench.py TREE..         these trees alone
 
 A cell of a table is the cost of the call in Rattle, then how many times that of the call in C; `lean` is the report
@@ -209,19 +209,16 @@ def programs(paths):
     return lines(["tree", "analyse", "times C", "times C with the textbook's list", "times lean C"], rows)
 
 
-def into_readme(tables):
-    """Puts the tables into the section of README.md that has them, in its order."""
-    path = os.path.join(ROOT, "README.md")
+def into_costs(tables):
+    """Puts the tables into docs/COSTS.md, in its order."""
+    path = os.path.join(ROOT, "docs", "COSTS.md")
     text = read(path)
-    start = text.index("## What a call costs")
-    end = text.index("\n# ", start)
-    old = re.findall(r"(?:^\|.*\n)+", text[start:end], re.M)
-    assert len(old) == len(tables), "README.md has %d tables in this section" % len(old)
-    section = text[start:end]
+    old = re.findall(r"(?:^\|.*\n)+", text, re.M)
+    assert len(old) == len(tables), "docs/COSTS.md has %d tables" % len(old)
     for was, now in zip(old, tables):
-        section = section.replace(was, now)
+        text = text.replace(was, now)
     with open(path, "w") as f:
-        f.write(text[:start] + section + text[end:])
+        f.write(text)
 
 
 def measure(chosen, everything):
@@ -244,7 +241,7 @@ def measure(chosen, everything):
 def main():
     parser = argparse.ArgumentParser()
     parser.add_argument("trees", nargs="*", metavar="TREE", help=", ".join(TREES))
-    parser.add_argument("--readme", action="store_true", help="put the tables into README.md")
+    parser.add_argument("--write", action="store_true", help="put the tables into docs/COSTS.md")
     args = parser.parse_args()
     unknown = set(args.trees) - set(TREES)
     if unknown:
@@ -254,8 +251,8 @@ def main():
     for title, table in measure({name: TREES[name] for name in args.trees or TREES}, not args.trees):
         print("%s\n\n%s" % (title, table), flush=True)
         made.append(table)
-    if args.readme and not args.trees:
-        into_readme(made)
+    if args.write and not args.trees:
+        into_costs(made)
 
 
 if __name__ == "__main__":
