@@ -16,10 +16,10 @@
  * STACK, in thousands of bytes, the most over small, deep and large trees (bindings/c/stack.c measures it). Give a
  * thread 256: no call takes the heap instead, and none looks whether its stack is enough.
  *
- *     report       163    alphabeta    54    graft          50    verify   17
- *     sss          116    least_value  54    read           25    shorter  18
- *     convert      103    plain        52    least_leaves    3    fill      2
- *     mtd           56                                            every other call under 1
+ *     report       162    least_value  54    convert        25    verify   17
+ *     sss           99    alphabeta    51    read           25    shorter  17
+ *     mtd           55    plain        50    capitals       25    graft    17
+ *     least_leaves   3    fill          2                         every other call under 1
  */
 #ifndef BUULSET_H
 #define BUULSET_H

@@ -232,7 +232,8 @@ fn compare_file(file: &[u8], rng: &mut Rng) {
     for room in [13 * lines, (13 * lines).saturating_sub(1 + rng.below(30)), 13 * lines + rng.below(40)] {
         let before = lent(rng, room);
         same("convert", &before, |b| buulset::convert(file, b), |b| model::convert(file, b)).ok();
-        let before = lent(rng, room.min(rng.pick(&[room, 13, 12, 11, 0])));
+        let less = rng.pick(&[room, 13, 12, 11, 0]);
+        let before = lent(rng, room.min(less));
         same("capitals", &before, |b| buulset::capitals(file, b), |b| model::capitals(file, b)).ok();
     }
     for _ in 0..4 {
