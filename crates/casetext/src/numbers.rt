@@ -1,6 +1,8 @@
 // The numbers of a call.
+ghost use mathlib.Core.Path.{_≡_};
 ghost use Prim.Native.Nat.{_≤_};
 ghost use Rattle.io.specs.Counts.{Counts};
+ghost use Rattle.casetext.specs.Numbers.{longer as longerBy, started, byteRead, bytesRead};
 ghost use lib.ListN.{length};
 
 // The most numbers of a call, and of a number's digits all but the last.
@@ -11,6 +13,8 @@ const SEVEN_DIGITS: u32 = 10000000;
 // The numbers of a call, each in base ten behind a blank; how many they are.
 pub fn read_numbers(call: &[u8], numbers: &mut [u32]) -> usize
     ensures { λ r. ⌜ Counts r (now (numbers .exit)) ⌝ }
+    ensures { λ r. ⌜ record { numbers = now (numbers .exit); count = r }
+        ≡ bytesRead (now (call .entry)) (record { numbers = now (numbers .entry); count = 0 }) ⌝ }
 {
     let mut count = 0;
     for i in 0..call.len() {
@@ -23,6 +27,8 @@ pub fn read_numbers(call: &[u8], numbers: &mut [u32]) -> usize
 fn read_byte(byte: u8, numbers: &mut [u32], count: usize) -> usize
     requires { ⌜ count ≤ length (now numbers) ⌝ }
     ensures { λ r. ⌜ r ≤ length (now (numbers .exit)) ⌝ }
+    ensures { λ r. ⌜ record { numbers = now (numbers .exit); count = r }
+        ≡ byteRead byte (record { numbers = now (numbers .entry); count = count }) ⌝ }
 {
     if byte == b' ' {
         return start_number(numbers, count);
@@ -37,6 +43,7 @@ fn read_byte(byte: u8, numbers: &mut [u32], count: usize) -> usize
 fn start_number(numbers: &mut [u32], count: usize) -> usize
     requires { ⌜ count ≤ length (now numbers) ⌝ }
     ensures { λ r. ⌜ r ≤ length (now (numbers .exit)) ⌝ }
+    ensures { λ r. ⌜ record { numbers = now (numbers .exit); count = r } ≡ started (now (numbers .entry)) count ⌝ }
 {
     if count < numbers.len() {
         numbers[count] = 0;
@@ -46,7 +53,9 @@ fn start_number(numbers: &mut [u32], count: usize) -> usize
 }
 
 // The number with one digit more; of a longer one the last eight digits stay. A byte that is no digit adds nothing.
-fn longer(number: u32, byte: u8) -> u32 {
+fn longer(number: u32, byte: u8) -> u32
+    ensures { λ r. ⌜ r ≡ longerBy number byte ⌝ }
+{
     match byte {
         b'0'..=b'9' => number % SEVEN_DIGITS * 10 + (byte - b'0') as u32,
         _ => number,

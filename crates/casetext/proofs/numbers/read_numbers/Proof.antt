@@ -1,9 +1,11 @@
 -- `casetext::numbers::read_numbers` meets its contract: no more numbers are started than there is room for.
 use Prim.Native.Nat.{_≤_, _-_}
-use mathlib.Core.Path.{_≡_, sym}
+use mathlib.Core.Path.{_≡_, refl, sym}
 use lib.Seq.{length-take-le}
 use native.Mathlib.Omega.{arith}
-use lib.ListN.{length}
+use lib.ListN.{length, drop}
+use Rattle.casetext.specs.Numbers.{bytesRead}
+use Rattle.casetext.proofs.Reading.{bytes-next, bytes-all}
 use borrow.Author.Needs.{needs}
 use Rattle.casetext.proofs.numbers.read_numbers.Statement.{statement}
 use Rattle.casetext.proofs.numbers.read_numbers.Tie as tie
@@ -11,12 +13,14 @@ use Rattle.casetext.proofs.numbers.read_numbers.Tie as tie
 abbrev Inv-loop : tie.InvT-loop
 Inv-loop call numbers₀ count₀ i₀ i-end numbers count i =
     (i ≤ i-end) × (length numbers ≡ length numbers₀) × (count ≤ length numbers)
+    × (bytesRead (drop i call) (record { numbers = numbers; count = count })
+    ≡ bytesRead call (record { numbers = numbers₀; count = 0 }))
 
 abbrev μ-loop : tie.MeasureT-loop
 μ-loop call numbers₀ count₀ i₀ i-end numbers count i = i-end - i
 
 loop-holds : tie.Need-loop-holds Inv-loop μ-loop
-loop-holds c = search needs
+loop-holds c = (omega arith, refl, omega arith, refl)
 
 shared-slice-read-read-byte : tie.Need-shared-slice-read-read-byte Inv-loop μ-loop
 shared-slice-read-read-byte c = search needs
@@ -31,13 +35,24 @@ loop-less : tie.Need-loop-less Inv-loop μ-loop
 loop-less c = search needs
 
 loop-again : tie.Need-loop-again Inv-loop μ-loop
-loop-again c = search needs
+loop-again c =
+    let l = c .before .before .before .before .before .before .loop in
+    let b = c .before .before .read-byte .ensures in (
+      omega arith,
+      omega arith,
+      b .0,
+      bytes-next _ (l .i) _ _ _ (omega arith) (l .inv .3) (b .1),
+    )
 
 same-length : tie.Need-same-length Inv-loop μ-loop
 same-length c = search needs
 
 returns : tie.Need-returns Inv-loop μ-loop
-returns c = (search needs, sym (length-take-le _ _ (omega arith)))
+returns c =
+    let l = c .before .loop in (
+      (omega arith, sym (length-take-le _ _ (omega arith))),
+      bytes-all _ (l .i) _ _ (omega arith) (l .inv .3),
+    )
 
 pub read-numbers-spec : {M : Type 1} → statement M
 read-numbers-spec =

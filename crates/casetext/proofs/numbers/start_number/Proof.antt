@@ -1,6 +1,8 @@
 -- `casetext::numbers::start_number` meets its contract.
 use native.Mathlib.Omega.{arith}
+use mathlib.Core.Path.{sym}
 use lib.ListN.{length-set}
+use Rattle.casetext.proofs.Reading.{started-one, started-none}
 use borrow.Author.Needs.{needs}
 use Rattle.casetext.proofs.numbers.start_number.Statement.{statement}
 use Rattle.casetext.proofs.numbers.start_number.Tie as tie
@@ -18,10 +20,10 @@ same-length : tie.Need-same-length
 same-length c = search needs
 
 returns : tie.Need-returns
-returns c = simp length-set (omega arith)
+returns c = (simp length-set (omega arith), sym (started-one (c .before .args .numbers .now) _ (omega arith)))
 
 returns-2 : tie.Need-returns-2
-returns-2 c = search needs
+returns-2 c = (omega arith, sym (started-none _ _ (omega arith)))
 
 pub start-number-spec : {M : Type 1} → statement M
 start-number-spec =

@@ -1,0 +1,2 @@
+-- Proofs about the text of the cases.
+pub mod Reading

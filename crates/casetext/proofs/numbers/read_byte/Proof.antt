@@ -1,0 +1,78 @@
+-- `casetext::numbers::read_byte` meets its contract: one case for each of its returns.
+use native.Mathlib.Omega.{arith}
+use mathlib.Core.Path.{sym, ap, _∙_}
+use Prim.Native.Nat.{_-_}
+use lib.ListN.{set, length-set}
+use Rattle.casetext.proofs.Reading.{byte-starts, byte-continues, byte-ignored}
+use borrow.Author.Needs.{needs}
+use Rattle.casetext.proofs.numbers.read_byte.Statement.{statement}
+use Rattle.casetext.proofs.numbers.read_byte.Tie as tie
+
+start-number-requires : tie.Need-start-number-requires
+start-number-requires c κs = search needs
+
+same-length : tie.Need-same-length
+same-length c = search needs
+
+returns : tie.Need-returns
+returns c =
+    let a = c .before .before .before .before .before .before .args in
+    let s = c .before .before .start-number .ensures in
+    (s .0, s .1 ∙ sym (byte-starts (a .byte) (a .count) (a .numbers .now) (omega arith)))
+
+sub-longer : tie.Need-sub-longer
+sub-longer c = search needs
+
+mul-longer : tie.Need-mul-longer
+mul-longer c = search needs
+
+slice-read-longer : tie.Need-slice-read-longer
+slice-read-longer c = search needs
+
+longer-requires : tie.Need-longer-requires
+longer-requires c κs = search needs
+
+sub-numbers : tie.Need-sub-numbers
+sub-numbers c = search needs
+
+mul-numbers : tie.Need-mul-numbers
+mul-numbers c = search needs
+
+slice-write-numbers : tie.Need-slice-write-numbers
+slice-write-numbers c = search needs
+
+same-length-2 : tie.Need-same-length-2
+same-length-2 c = search needs
+
+returns-2 : tie.Need-returns-2
+returns-2 c =
+    let a = c .before .before .before .before .before .args in
+    let n = a .numbers .now in
+    let at = a .count - 1 in (
+      simp length-set (omega arith),
+      ap (λ v. record { numbers = set n at v; count = a .count }) (c .longer .ensures)
+          ∙ sym (byte-continues (a .byte) (a .count) n (λ e. absurd (omega (arith, e))) (omega arith)),
+    )
+
+returns-3 : tie.Need-returns-3
+returns-3 c =
+    let a = c .before .before .before .args in
+    (search needs, sym (byte-ignored (a .byte) (a .count) (a .numbers .now) (λ e. absurd (omega (arith, e))) (omega arith)))
+
+pub read-byte-spec : {M : Type 1} → statement M
+read-byte-spec =
+    tie.close
+    (tie.spec
+    start-number-requires
+    same-length
+    returns
+    sub-longer
+    mul-longer
+    slice-read-longer
+    longer-requires
+    sub-numbers
+    mul-numbers
+    slice-write-numbers
+    same-length-2
+    returns-2
+    returns-3)

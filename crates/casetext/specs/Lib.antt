@@ -1,0 +1,2 @@
+-- Definitions for the text of the cases.
+pub mod Numbers
