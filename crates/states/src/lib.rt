@@ -89,7 +89,7 @@ pub fn descend(table: &[u8], places: &[u32], front: &[u32], node: usize) -> usiz
 }
 
 // The greatest merit at and below a node.
-pub fn best_at(front: &[u32], node: usize) -> u32
+fn best_at(front: &[u32], node: usize) -> u32
     requires { ⌜ node < length (now front) ⌝ }
     ensures { λ r. ⌜ r ≡ bestAt (now (front .entry)) node ⌝ }
 {
