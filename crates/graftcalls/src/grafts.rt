@@ -1,12 +1,18 @@
 // A graft of two trees of one file.
 use casetext::print::print_bytes;
 use tablecalls::answers::print_checked;
-use tablecalls::files::file_size;
 use tablecalls::tables::FILLED;
 use tablecalls::tables::TABLE_SIZE;
+use tablecalls::tables::fitted;
 use tablecalls::tables::frames_size;
 use treefile::LINE_SIZE;
+use writer::length_given;
+ghost use mathlib.Core.Path.{_≡_};
+ghost use lib.ListN.{replicate};
 ghost use Rattle.io.specs.Counts.{Counts};
+ghost use Rattle.writer.specs.Write.{writeOutcome};
+ghost use Rattle.graftcalls.specs.Grafts.{front, tableRoom, filledWith, tableOf, graftResult, graftSaved, graftingSaved};
+ghost use Rattle.graftcalls.specs.Grafts.{SavedAs};
 
 // A graft at a node, on so many bytes of each table and with a buffer of this length, and what that holds afterwards:
 // the first tree has so many lines of the file, the second the rest, and zeros follow the frames of each. The result is
@@ -21,11 +27,14 @@ pub fn print_grafting(
     saved: &mut [u8],
 ) -> usize
     ensures { λ r. ⌜ Counts r (now (saved .exit)) ⌝ }
+    ensures { λ r. ⌜ SavedAs
+        (graftingSaved (now (file .entry)) lines node room «first_size» «second_size» (now (saved .entry)))
+        r (now (saved .exit)) ⌝ }
 {
-    let middle = io::count((LINE_SIZE * lines as usize) as isize, file);
+    let middle = fitted(LINE_SIZE * lines as usize, file);
     let mut first = [0u8; TABLE_SIZE];
     treefile::read(&file[..middle], &mut first);
-    let size = io::count(first_size as isize, &first);
+    let size = fitted(first_size as usize, &first);
     print_onto(
         &first[..size],
         node as usize,
@@ -46,19 +55,27 @@ fn print_onto(
     saved: &mut [u8],
 ) -> usize
     ensures { λ r. ⌜ Counts r (now (saved .exit)) ⌝ }
+    ensures { λ r. ⌜ SavedAs
+        (graftSaved (now (first .entry)) node (tableOf (now (file .entry)) «second_size»)
+        (front room (replicate tableRoom filledWith)) (now (saved .entry)))
+        r (now (saved .exit)) ⌝ }
 {
     let mut second = [0u8; TABLE_SIZE];
     treefile::read(file, &mut second);
-    let size = io::count(second_size as isize, &second);
+    let size = fitted(second_size as usize, &second);
     print_in(first, node, &second[..size], room, saved)
 }
 
 // The graft of two tables in a buffer of this length.
 fn print_in(first: &[u8], node: usize, second: &[u8], room: u32, saved: &mut [u8]) -> usize
     ensures { λ r. ⌜ Counts r (now (saved .exit)) ⌝ }
+    ensures { λ r. ⌜ SavedAs
+        (graftSaved (now (first .entry)) node (now (second .entry))
+        (front room (replicate tableRoom filledWith)) (now (saved .entry)))
+        r (now (saved .exit)) ⌝ }
 {
     let mut result = [FILLED; TABLE_SIZE];
-    let end = io::count(room as isize, &result);
+    let end = fitted(room as usize, &result);
     print_grafted(first, node, second, &mut result[..end], saved)
 }
 
@@ -71,18 +88,24 @@ fn print_grafted(
     saved: &mut [u8],
 ) -> usize
     ensures { λ r. ⌜ Counts r (now (saved .exit)) ⌝ }
+    ensures { λ r. ⌜ SavedAs
+        (graftSaved (now (first .entry)) node (now (second .entry)) (now (result .entry)) (now (saved .entry)))
+        r (now (saved .exit)) ⌝ }
+    ensures { λ _. ⌜ now (result .exit)
+        ≡ graftResult (now (first .entry)) node (now (second .entry)) (now (result .entry)) ⌝ }
 {
     let checked = graft::graft(first, node, second, result);
     print_checked(b"graft", checked);
     print_bytes(b"result", result);
-    let size = io::count(frames_size(checked), result);
+    let size = fitted(frames_size(checked), result);
     save(&result[..size], saved)
 }
 
 // Saves a table as a file: how many bytes that has, 0 where the table is refused.
 fn save(table: &[u8], saved: &mut [u8]) -> usize
     ensures { λ r. ⌜ Counts r (now (saved .exit)) ⌝ }
+    ensures { λ r. ⌜ SavedAs (writeOutcome (now (table .entry)) (now (saved .entry))) r (now (saved .exit)) ⌝ }
 {
     let written = treefile::write(table, saved);
-    io::count(file_size(written), saved)
+    fitted(length_given(written), saved)
 }

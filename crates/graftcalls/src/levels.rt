@@ -1,61 +1,84 @@
 // The file of a tree that is filled level by level: the first nodes have `width` children each, and a leaf's value is
 // its number.
-use frames::TWO_BYTES;
-use treefile::LINE_SIZE;
-ghost use Prim.Native.Nat.{_+_, _*_, _<_, _≤_};
-ghost use lib.ListN.{length};
+use hex::BASE;
+use hex::capital;
+use lines::LINE_DIGITS;
+use lines::LINE_FEED;
+use lines::LINE_SIZE;
+ghost use mathlib.Core.Path.{_≡_};
+ghost use mathlib.Core.List.{_++_};
+ghost use Prim.Native.Nat.{_+_, _*_, _/_, _<_, _≤_};
+ghost use lib.ListN.{length, drop};
+ghost use Rattle.lines.specs.Line.{lineSize};
+ghost use Rattle.graftcalls.specs.Levels.{innerByte, leafByte, frameByte, lineByte, fileByte, levelFile};
 
-const LINE_FEED: u8 = 10;
+// How many numbers a byte can be.
+const BYTES: usize = 256;
 
 // The lines of a tree of so many nodes.
 pub fn write_tree(file: &mut [u8], width: usize, inner: usize, nodes: usize)
-    requires { ⌜ (width < 42) × (13 * nodes ≤ length (now file)) ⌝ }
+    requires { ⌜ (width < 42) × (inner < 274) × (nodes < 65536) × (lineSize * nodes ≤ length (now file)) ⌝ }
+    ensures { λ _. ⌜ now (file .exit)
+        ≡ levelFile width inner nodes ++ drop (lineSize * nodes) (now (file .entry)) ⌝ }
 {
-    let mut first = 1;
-    for node in 0..nodes {
-        write_node(file, width, inner, node, first);
-        first = (first + width) % TWO_BYTES;
+    for i in 0..LINE_SIZE * nodes {
+        file[i] = line_byte(width, inner, i / LINE_SIZE, i % LINE_SIZE);
     }
 }
 
-// The line of a node: an inner one with this first child, or a leaf.
-fn write_node(file: &mut [u8], width: usize, inner: usize, node: usize, first: usize)
-    requires { ⌜ (width < 42) × (13 * node + 13 ≤ length (now file)) ⌝ }
+// The byte at a column of a node's line.
+fn line_byte(width: usize, inner: usize, node: usize, column: usize) -> u8
+    requires { ⌜ (width < 42) × (inner < 274) × (node < 65536) × (column < lineSize) ⌝ }
+    ensures { λ r. ⌜ r ≡ lineByte width inner node column ⌝ }
+{
+    if column == LINE_DIGITS {
+        return LINE_FEED;
+    }
+    let byte = frame_byte(width, inner, node, column / 2);
+    if column % 2 == 0 {
+        return capital(byte / BASE);
+    }
+    capital(byte % BASE)
+}
+
+// A byte of a node's frame.
+fn frame_byte(width: usize, inner: usize, node: usize, at: usize) -> u8
+    requires { ⌜ (width < 42) × (inner < 274) × (node < 65536) ⌝ }
+    ensures { λ r. ⌜ r ≡ frameByte width inner node at ⌝ }
 {
     if node < inner {
-        write_line(file, LINE_SIZE * node, first, width, 0);
-        return;
+        return inner_byte(1 + width * node, width, at);
     }
-    write_line(file, LINE_SIZE * node, 0, 0, node);
+    leaf_byte(node, at)
 }
 
-// A node's line from an index on: its first child, its count of children with a zero byte, and its value.
-fn write_line(file: &mut [u8], at: usize, first: usize, count: usize, value: usize)
-    requires { ⌜ (at + 13 ≤ length (now file)) × (count < 42) ⌝ }
+// A byte of an inner node's frame, which has its first child and how many children it has.
+fn inner_byte(first: usize, width: usize, at: usize) -> u8
+    requires { ⌜ (first < 65536) × (width < 42) ⌝ }
+    ensures { λ r. ⌜ r ≡ innerByte first width at ⌝ }
 {
-    write_number(file, at, first);
-    write_number(file, at + 4, 256 * count);
-    write_number(file, at + 8, value);
-    file[at + 12] = LINE_FEED;
-}
-
-// The two low bytes of n as four digits, from an index on.
-fn write_number(file: &mut [u8], at: usize, n: usize)
-    requires { ⌜ at + 4 ≤ length (now file) ⌝ }
-{
-    file[at] = digit(n / 4096 % 16);
-    file[at + 1] = digit(n / 256 % 16);
-    file[at + 2] = digit(n / 16 % 16);
-    file[at + 3] = digit(n % 16);
-}
-
-// The hexadecimal digit of a number.
-fn digit(n: usize) -> u8
-    requires { ⌜ n < 16 ⌝ }
-{
-    if n < 10 {
-        b'0' + n as u8
-    } else {
-        b'A' + (n - 10) as u8
+    if at == 0 {
+        return (first / BYTES) as u8;
     }
+    if at == 1 {
+        return (first % BYTES) as u8;
+    }
+    if at == 2 {
+        return width as u8;
+    }
+    0
+}
+
+// A byte of a leaf's frame, which has its number as its value.
+fn leaf_byte(node: usize, at: usize) -> u8
+    requires { ⌜ node < 65536 ⌝ }
+    ensures { λ r. ⌜ r ≡ leafByte node at ⌝ }
+{
+    if at == 4 {
+        return (node / BYTES) as u8;
+    }
+    if at == 5 {
+        return (node % BYTES) as u8;
+    }
+    0
 }

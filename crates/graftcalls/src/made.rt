@@ -5,9 +5,15 @@ use libc::STDOUT_FILENO;
 use tablecalls::answers::print_checked;
 use tablecalls::tables::read_table;
 use treefile::LINE_SIZE;
-ghost use Prim.Native.Nat.{_*_, _<_, _≤_};
+ghost use mathlib.Core.Path.{_≡_};
+ghost use mathlib.Core.List.{_++_};
+ghost use Prim.Native.Nat.{_+_, _*_, _<_, _≤_, min};
+ghost use lib.ListN.{length, drop};
 ghost use Rattle.io.specs.Counts.{Counts};
-ghost use lib.ListN.{length};
+ghost use Rattle.lines.specs.Line.{lineSize};
+ghost use Rattle.reader.specs.File.{readAnswer, tableAfter};
+ghost use Rattle.tablecalls.specs.Sizes.{framesSize};
+ghost use Rattle.graftcalls.specs.Levels.{levelFile};
 
 // The first tree of the grafts, of 2,049 nodes: its first leaf has the number of the inner nodes, and Max would move
 // there.
@@ -45,6 +51,9 @@ fn print_onto(first: &[u8], second: &[u8]) {
 fn make_table(table: &mut [u8], width: usize, inner: usize) -> usize
     requires { ⌜ (width < 42) × (inner < 274) × (width * inner < 4097) ⌝ }
     ensures { λ r. ⌜ Counts r (now (table .exit)) ⌝ }
+    ensures { λ r. ⌜ r ≡ min (framesSize (readAnswer (levelFile width inner (1 + width * inner)) (now (table .entry))))
+        (length (now (table .exit))) ⌝ }
+    ensures { λ r. ⌜ now (table .exit) ≡ tableAfter (levelFile width inner (1 + width * inner)) (now (table .entry)) ⌝ }
 {
     let mut file = io::large_buffer();
     let size = make_file(&mut file, width, inner);
@@ -55,8 +64,11 @@ fn make_table(table: &mut [u8], width: usize, inner: usize) -> usize
 pub fn make_file(file: &mut [u8], width: usize, inner: usize) -> usize
     requires { ⌜ (width < 42) × (inner < 274) × (width * inner < 4097) × (65536 ≤ length (now file)) ⌝ }
     ensures { λ r. ⌜ Counts r (now (file .exit)) ⌝ }
+    ensures { λ r. ⌜ r ≡ lineSize * (1 + width * inner) ⌝ }
+    ensures { λ r. ⌜ now (file .exit)
+        ≡ levelFile width inner (1 + width * inner) ++ drop (lineSize * (1 + width * inner)) (now (file .entry)) ⌝ }
 {
     let nodes = 1 + width * inner;
     write_tree(file, width, inner, nodes);
-    io::count((LINE_SIZE * nodes) as isize, file)
+    LINE_SIZE * nodes
 }

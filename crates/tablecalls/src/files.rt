@@ -3,6 +3,7 @@ use crate::answers::print_checked;
 use crate::answers::print_rejection;
 use crate::tables::FILLED;
 use crate::tables::TABLE_SIZE;
+use crate::tables::fitted;
 use casetext::print::print_byte;
 use casetext::print::print_bytes;
 use casetext::print::print_count;
@@ -40,7 +41,7 @@ fn print_written(table: &[u8], file: &mut [u8], size: u32) {
     let written = treefile::write(table, file);
     print_length(b"write", written);
     print_bytes(b"file", file);
-    let end = io::count(file_size(written), file);
+    let end = fitted(writer::length_given(written), file);
     if 0 < end {
         print_reading(&file[..end], size);
     }
@@ -54,19 +55,6 @@ fn print_length(word: &[u8], written: Written) {
         Written::Rejected(rejection) => print_rejection(rejection),
     }
     print_line_feed();
-}
-
-// How many bytes a written file has, 0 where the table is refused.
-pub fn file_size(written: Written) -> isize {
-    match written {
-        Written::Length(length) => {
-            if length < FILE_SIZE {
-                return length as isize;
-            }
-            FILE_SIZE as isize
-        }
-        Written::Rejected(_) => 0,
-    }
 }
 
 // What the converting program prints for a file of one byte too many.

@@ -4,7 +4,12 @@ use frames::Checked;
 use frames::FRAME_SIZE;
 use frames::MAX_NODES;
 use frames::MAX_TABLE;
+ghost use mathlib.Core.Path.{_≡_};
+ghost use Prim.Native.Nat.{min};
+ghost use lib.ListN.{length};
 ghost use Rattle.io.specs.Counts.{Counts};
+ghost use Rattle.reader.specs.File.{readAnswer, tableAfter};
+ghost use Rattle.tablecalls.specs.Sizes.{framesSize};
 
 // A table with one frame more than a tree may have.
 pub const TABLE_SIZE: usize = FRAME_SIZE * (MAX_NODES + 1);
@@ -22,19 +27,35 @@ pub fn print_children(file: &[u8], node: u32) {
 // Reads a file into a table: how many bytes its frames have, 0 where the file is refused.
 pub fn read_table(file: &[u8], table: &mut [u8]) -> usize
     ensures { λ r. ⌜ Counts r (now (table .exit)) ⌝ }
+    ensures { λ r. ⌜ r ≡ min (framesSize (readAnswer (now (file .entry)) (now (table .entry))))
+        (length (now (table .exit))) ⌝ }
+    ensures { λ r. ⌜ now (table .exit) ≡ tableAfter (now (file .entry)) (now (table .entry)) ⌝ }
 {
     let size = frames_size(treefile::read(file, table));
-    io::count(size, table)
+    fitted(size, table)
+}
+
+// The count, or the buffer's length where the buffer is shorter.
+pub fn fitted(count: usize, buffer: &[u8]) -> usize
+    ensures { λ r. ⌜ Counts r (now (buffer .entry)) ⌝ }
+    ensures { λ r. ⌜ r ≡ min count (length (now (buffer .entry))) ⌝ }
+{
+    if count < buffer.len() {
+        return count;
+    }
+    buffer.len()
 }
 
 // How many bytes the frames of a checked table have, 0 where it is refused.
-pub fn frames_size(checked: Checked) -> isize {
+pub fn frames_size(checked: Checked) -> usize
+    ensures { λ r. ⌜ r ≡ framesSize checked ⌝ }
+{
     match checked {
         Checked::Nodes(nodes) => {
             if nodes < MAX_NODES {
-                return (FRAME_SIZE * nodes) as isize;
+                return FRAME_SIZE * nodes;
             }
-            MAX_TABLE as isize
+            MAX_TABLE
         }
         Checked::Rejected(_) => 0,
     }

@@ -1,42 +1,53 @@
--- `graftcalls::regular::write_tree` is safe and ends: each node has its line.
-use Prim.Native.Nat.{_≤_, _<_, _-_}
-use mathlib.Core.Path.{_≡_}
-use lib.ListN.{length}
-use Rattle.frames.specs.Frame.{twoBytes}
+-- `graftcalls::levels::write_tree` meets its contract: each turn writes one byte behind the ones before.
+use Prim.Native.Nat.{_-_, _≤_, _*_}
+use mathlib.Core.Path.{_≡_, refl}
+use mathlib.Core.List.{_++_}
+use lib.ListN.{length, length-set, drop}
+use native.Mathlib.Omega.{arith}
 use borrow.Author.Needs.{needs}
+use Rattle.graftcalls.specs.Levels.{fileByte, eachBelow}
+use Rattle.graftcalls.proofs.Bytes.{each-none, each-next}
 use Rattle.graftcalls.proofs.levels.write_tree.Statement.{statement}
 use Rattle.graftcalls.proofs.levels.write_tree.Tie as tie
 
 abbrev Inv-loop : tie.InvT-loop
-Inv-loop file₀ width inner nodes first₀ node₀ file first node =
-    (node ≤ nodes) × (length file ≡ length file₀) × (first < twoBytes)
+Inv-loop file₀ width inner nodes i₀ i-end file i =
+    (i ≤ i-end) × (length file ≡ length file₀) × (file ≡ eachBelow (fileByte width inner) i ++ drop i file₀)
 
 abbrev μ-loop : tie.MeasureT-loop
-μ-loop file₀ width inner nodes first₀ node₀ file first node = nodes - node
+μ-loop file₀ width inner nodes i₀ i-end file i = i-end - i
+
+mul-i-end : tie.Need-mul-i-end Inv-loop μ-loop
+mul-i-end c = search needs
 
 loop-holds : tie.Need-loop-holds Inv-loop μ-loop
-loop-holds c = search needs
+loop-holds c = (omega arith, refl, each-none _ _)
 
-write-node-requires : tie.Need-write-node-requires Inv-loop μ-loop
-write-node-requires c κs = search needs
+line-byte-requires : tie.Need-line-byte-requires Inv-loop μ-loop
+line-byte-requires c κs = search needs
 
-add-first : tie.Need-add-first Inv-loop μ-loop
-add-first c = search needs
+slice-write-file : tie.Need-slice-write-file Inv-loop μ-loop
+slice-write-file c = search needs
 
-add-node : tie.Need-add-node Inv-loop μ-loop
-add-node c = search needs
+add-i : tie.Need-add-i Inv-loop μ-loop
+add-i c = search needs
 
 loop-less : tie.Need-loop-less Inv-loop μ-loop
 loop-less c = search needs
 
 loop-again : tie.Need-loop-again Inv-loop μ-loop
-loop-again c = search needs
+loop-again c =
+    let l = c .before .before .loop in
+    (omega arith, simp length-set (omega arith), each-next _ _ _ (l .i) _ (omega arith) (l .inv .2) (c .line-byte .ensures))
 
 same-length : tie.Need-same-length Inv-loop μ-loop
 same-length c = search needs
 
 returns : tie.Need-returns Inv-loop μ-loop
-returns c = search needs
+returns c =
+    let l = c .before .loop in
+    let all : l .i ≡ 13 * c .before .before .before .args .nodes = omega arith in
+    rw all at (l .inv .2)
 
 pub write-tree-spec : {M : Type 1} → statement M
 write-tree-spec =
@@ -44,10 +55,11 @@ write-tree-spec =
     (tie.spec
     Inv-loop
     μ-loop
+    mul-i-end
     loop-holds
-    write-node-requires
-    add-first
-    add-node
+    line-byte-requires
+    slice-write-file
+    add-i
     loop-less
     loop-again
     same-length

@@ -1,0 +1,25 @@
+-- `graftcalls::levels::leaf_byte` meets its contract: one case for each of its returns.
+use native.Mathlib.Omega.{arith}
+use mathlib.Core.Path.{sym}
+use Rattle.graftcalls.proofs.Bytes.{leaf-4, leaf-5, leaf-rest}
+use borrow.Author.Needs.{needs}
+use Rattle.graftcalls.proofs.levels.leaf_byte.Statement.{statement}
+use Rattle.graftcalls.proofs.levels.leaf_byte.Tie as tie
+
+cast-result : tie.Need-cast-result
+cast-result c = search needs
+
+returns : tie.Need-returns
+returns c = sym (leaf-4 _ (c .before .args .at) (omega arith))
+
+cast-result-2 : tie.Need-cast-result-2
+cast-result-2 c = search needs
+
+returns-2 : tie.Need-returns-2
+returns-2 c = sym (leaf-5 _ (c .before .before .args .at) (λ e. absurd (omega (arith, e))) (omega arith))
+
+returns-3 : tie.Need-returns-3
+returns-3 c = sym (leaf-rest _ (c .before .before .args .at) (λ e. absurd (omega (arith, e))) (λ e. absurd (omega (arith, e))))
+
+pub leaf-byte-spec : {M : Type 1} → statement M
+leaf-byte-spec = tie.close (tie.spec cast-result returns cast-result-2 returns-2 returns-3)

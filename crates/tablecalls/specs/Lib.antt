@@ -1,0 +1,2 @@
+-- Definitions for the calls on tables.
+pub mod Sizes

@@ -1,0 +1,10 @@
+-- How many bytes the frames of a checked table have.
+use Prim.Native.Nat.{ℕ, _*_, min}
+use Rattle.frames.specs.declared.Checked.{Checked}
+use Rattle.frames.specs.declared.Checked.the-variants.{Nodes, Rejected}
+use Rattle.frames.specs.Frame.{frameSize, maxNodes}
+
+-- those of at most as many nodes as a tree may have, and none where the table is refused
+abbrev pub framesSize : Checked → ℕ
+framesSize (Nodes n) = frameSize * min n maxNodes
+framesSize (Rejected r) = 0
