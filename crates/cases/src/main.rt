@@ -26,6 +26,8 @@ use tablecalls::least::print_least_counts;
 use tablecalls::least::print_regular;
 use tablecalls::tables::print_children;
 use tablecalls::wanted::print_needed;
+ghost use mathlib.Core.Path.{_≡_};
+ghost use lib.ListN.{getD};
 
 // What a title and a call start with, and what ends a line.
 const TITLE: u8 = b'#';
@@ -79,7 +81,9 @@ fn print_answer(file: &[u8], call: &[u8]) {
 }
 
 // The first letter of a call's name; 0 where there is no call.
-fn name(call: &[u8]) -> u8 {
+fn name(call: &[u8]) -> u8
+    ensures { λ r. ⌜ r ≡ getD (now (call .entry)) 1 0 ⌝ }
+{
     if call.len() < 2 {
         return 0;
     }

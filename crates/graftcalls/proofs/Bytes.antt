@@ -1,16 +1,12 @@
 -- The bytes of a tree's file, case by case as the code writes them.
-use Prim.Native.Nat.{ℕ, zero, suc, _+_, _*_, _/_, _%_, _<_, _≤_}
-use mathlib.Core.Path.{_≡_, refl, sym, ap, _∙_}
-use mathlib.Core.List.{List, [], _∷_, _++_}
-use lib.ListN.{length, length-append, getD, set, take, drop}
-use lib.Seq.{set-at, drop-cons, take-at, append-snoc}
+use Prim.Native.Nat.{ℕ, _+_, _*_, _/_, _%_, _<_, _≤_}
+use mathlib.Core.Path.{_≡_}
 use native.Mathlib.Omega.{arith}
 use native.Mathlib.Nat.{mul-le-mul-right}
-use native.Mathlib.Numerals.{add-one}
 use borrow.Author.Tests.{lt-ltb, le-ltb, eq-eqb, ne-eqb}
 use Rattle.hex.specs.Digit.{capitalOf}
 use Rattle.lines.specs.Line.{lineSize, lineDigits, lineFeed}
-use Rattle.graftcalls.specs.Levels.{innerByte, leafByte, frameByte, lineByte, fileByte, eachBelow}
+use Rattle.graftcalls.specs.Levels.{innerByte, leafByte, frameByte, lineByte}
 
 -- a first child has two bytes
 pub first-small : (width node : ℕ) → width < 42 → node < 274 → 1 + width * node < 65536
@@ -64,27 +60,3 @@ module _ (width inner node column : ℕ) where
     pub line-low : (column % 2 ≡ 0 → ⊥)
         → lineByte width inner node column ≡ capitalOf (frameByte width inner node (column / 2) % 16)
     line-low q = rw (ne-eqb column lineDigits p, ne-eqb (column % 2) 0 q)
-
-module _ (f : ℕ → ℕ) where
-  pub each-length : (n : ℕ) → length (eachBelow f n) ≡ n
-  unfolding eachBelow
-  each-length zero = refl
-  each-length (suc n) = length-append (eachBelow f n) (f n ∷ []) ∙ omega (arith, each-length n)
-
-  -- nothing is written yet
-  pub each-none : (b : List ℕ) → b ≡ eachBelow f 0 ++ drop 0 b
-  unfolding eachBelow
-  each-none b = refl
-
-  -- one byte more, behind the ones before
-  pub each-next : (b after : List ℕ) (i v : ℕ) → i < length b → after ≡ eachBelow f i ++ drop i b → v ≡ f i
-      → set after i v ≡ eachBelow f (i + 1) ++ drop (i + 1) b
-  unfolding eachBelow
-  each-next b after i v h e w =
-      rw (e, w, add-one, drop-cons b i 0 h)
-      (set-at (eachBelow f i) (getD b i 0) (drop (suc i) b) (f i) i (each-length i)
-      ∙ sym (append-snoc (eachBelow f i) (f i) (drop (suc i) b)))
-
-  -- the front of a buffer in which n were written
-  pub each-front : (n : ℕ) (b rest : List ℕ) → b ≡ eachBelow f n ++ rest → take n b ≡ eachBelow f n
-  each-front n b rest e = rw e (take-at (eachBelow f n) rest n (each-length n))

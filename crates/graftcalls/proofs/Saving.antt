@@ -9,8 +9,8 @@ use Rattle.reader.specs.File.{tableAfter}
 use Rattle.writer.specs.Write.{writeOutcome}
 use Rattle.graft.specs.Outcome.{Outcome, graftOutcome}
 use Rattle.tablecalls.specs.Sizes.{framesSize}
-use Rattle.graftcalls.specs.Grafts.{front, tableRoom, filledWith, tableOf, graftResult, graftSaved, graftingSaved}
-use Rattle.graftcalls.specs.Grafts.{SavedAs}
+use Rattle.tablecalls.specs.Buffers.{tableRoom, filledWith, front}
+use Rattle.graftcalls.specs.Grafts.{tableOf, graftResult, graftSaved, graftingSaved, SavedAs}
 
 module _ (t : List ℕ) (k : ℕ) (u b : List ℕ) (answer : Checked) (result : List ℕ)
     (made : record { answer = answer; result = result } ≡ graftOutcome t k u b) where

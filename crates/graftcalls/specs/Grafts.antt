@@ -1,25 +1,14 @@
 -- A graft of two trees of one file, and the file of the result.
-use Prim.Native.Nat.{ℕ, suc, _*_, min}
+use Prim.Native.Nat.{ℕ, _*_, min}
 use mathlib.Core.Path.{_≡_}
 use mathlib.Core.List.{List}
-use lib.ListN.{length, take, drop, replicate}
-use Rattle.frames.specs.Frame.{frameSize, maxNodes}
+use lib.ListN.{length, drop, replicate}
 use Rattle.lines.specs.Line.{lineSize}
 use Rattle.reader.specs.File.{tableAfter}
 use Rattle.writer.specs.Write.{Outcome, writeOutcome, lengthGiven}
 use Rattle.graft.specs.Outcome.{graftOutcome}
 use Rattle.tablecalls.specs.Sizes.{framesSize}
-
--- the first n bytes of a buffer, or all of a shorter one
-abbrev pub front : ℕ → List ℕ → List ℕ
-front n b = take (min n (length b)) b
-
--- what lent tables have room for, one frame more than a tree may have, and the byte that fills a lent buffer
-abbrev pub tableRoom : ℕ
-tableRoom = frameSize * suc maxNodes
-
-abbrev pub filledWith : ℕ
-filledWith = 170
+use Rattle.tablecalls.specs.Buffers.{tableRoom, filledWith, front}
 
 -- so many bytes of the table that a file is read into; zeros follow its frames
 unfoldable pub tableOf : List ℕ → ℕ → List ℕ

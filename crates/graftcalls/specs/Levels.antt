@@ -1,11 +1,12 @@
 -- The file of a tree that is filled level by level: the first `inner` nodes have `width` children each, and a leaf's
 -- value is its number.
-use Prim.Native.Nat.{ℕ, zero, suc, _+_, _*_, _/_, _%_}
+use Prim.Native.Nat.{ℕ, _+_, _*_, _/_, _%_}
 use mathlib.Core.Bool.{cond}
-use mathlib.Core.List.{List, [], _∷_, _++_}
+use mathlib.Core.List.{List}
 use lib.Dec.{ltb, eqb}
 use Rattle.hex.specs.Digit.{capitalOf}
 use Rattle.lines.specs.Line.{lineSize, lineDigits, lineFeed}
+use Rattle.tablecalls.specs.Buffers.{eachBelow}
 
 -- byte `at` of an inner node's frame: its first child and how many children it has
 abbrev pub innerByte : (first width at : ℕ) → ℕ
@@ -34,11 +35,6 @@ lineByte width inner node column =
 -- the byte at an index of the file
 abbrev pub fileByte : (width inner index : ℕ) → ℕ
 fileByte width inner index = lineByte width inner (index / lineSize) (index % lineSize)
-
--- f of the numbers below n, in order
-unfoldable pub eachBelow : (ℕ → ℕ) → ℕ → List ℕ
-eachBelow f zero = []
-eachBelow f (suc n) = eachBelow f n ++ (f n ∷ [])
 
 -- the file of a tree of so many nodes
 abbrev pub levelFile : (width inner nodes : ℕ) → List ℕ

@@ -11,8 +11,8 @@ ghost use mathlib.Core.Path.{_≡_};
 ghost use lib.ListN.{replicate};
 ghost use Rattle.io.specs.Counts.{Counts};
 ghost use Rattle.writer.specs.Write.{writeOutcome};
-ghost use Rattle.graftcalls.specs.Grafts.{front, tableRoom, filledWith, tableOf, graftResult, graftSaved, graftingSaved};
-ghost use Rattle.graftcalls.specs.Grafts.{SavedAs};
+ghost use Rattle.tablecalls.specs.Buffers.{tableRoom, filledWith, front};
+ghost use Rattle.graftcalls.specs.Grafts.{tableOf, graftResult, graftSaved, graftingSaved, SavedAs};
 
 // A graft at a node, on so many bytes of each table and with a buffer of this length, and what that holds afterwards:
 // the first tree has so many lines of the file, the second the rest, and zeros follow the frames of each. The result is

@@ -8,6 +8,8 @@ use tablecalls::answers::print_rejection;
 use tablecalls::tables::TABLE_SIZE;
 use tablecalls::tables::read_table;
 use worstcase::Filled;
+ghost use mathlib.Core.Path.{_≡_};
+ghost use Rattle.worstcase.specs.Outcome.{fillOutcome};
 
 // The filling of so many bytes of the table, and what they hold afterwards: zeros follow the frames of the file.
 pub fn print_filling(file: &[u8], size: u32) {
@@ -17,7 +19,9 @@ pub fn print_filling(file: &[u8], size: u32) {
     print_filled(&mut table[..end]);
 }
 
-fn print_filled(table: &mut [u8]) {
+fn print_filled(table: &mut [u8])
+    ensures { λ _. ⌜ now (table .exit) ≡ fillOutcome (now (table .entry)) .table ⌝ }
+{
     io::write_all(STDOUT_FILENO, b"dearest");
     match worstcase::fill(table) {
         Filled::Leaves(leaves) => print_count(leaves),

@@ -14,8 +14,13 @@ use tablecalls::answers::print_checked;
 use tablecalls::certificates::print_verdict;
 use tablecalls::tables::FILLED;
 use tablecalls::tables::TABLE_SIZE;
+use tablecalls::tables::fitted;
 use tablecalls::tables::read_table;
+ghost use mathlib.Core.Path.{_≡_};
+ghost use Prim.Native.Nat.{min};
+ghost use lib.ListN.{length};
 ghost use Rattle.io.specs.Counts.{Counts};
+ghost use Rattle.searchcalls.specs.Lent.{lentAfter, lentList, lentFlags};
 
 // What lent lists are filled with: it is no node's number.
 const UNLISTED: u16 = 43690;
@@ -73,13 +78,17 @@ enum Method {
 // A search with parts of filled buffers and of a filled list.
 fn print_search(method: Method, table: &[u8], marks: u32, flags: u32, entries: u32) {
     let mut evaluated = [FILLED; MAX_NODES];
-    let end = io::count(marks as isize, &evaluated);
+    let end = fitted(marks as usize, &evaluated);
     print_marked(method, table, &mut evaluated[..end], flags, entries);
 }
 
-fn print_marked(method: Method, table: &[u8], evaluated: &mut [u8], flags: u32, entries: u32) {
+fn print_marked(method: Method, table: &[u8], evaluated: &mut [u8], flags: u32, entries: u32)
+    ensures { λ _. ⌜ now (evaluated .exit)
+        ≡ lentAfter method (now (table .entry)) (now (evaluated .entry)) (lentFlags flags) (lentList entries)
+        .evaluated ⌝ }
+{
     let mut certificate = [FILLED; MAX_NODES];
-    let end = io::count(flags as isize, &certificate);
+    let end = fitted(flags as usize, &certificate);
     print_listed(method, table, evaluated, &mut certificate[..end], entries);
 }
 
@@ -89,7 +98,14 @@ fn print_listed(
     evaluated: &mut [u8],
     certificate: &mut [u8],
     entries: u32,
-) {
+)
+    ensures { λ _. ⌜ now (evaluated .exit)
+        ≡ lentAfter method (now (table .entry)) (now (evaluated .entry)) (now (certificate .entry)) (lentList entries)
+        .evaluated ⌝ }
+    ensures { λ _. ⌜ now (certificate .exit)
+        ≡ lentAfter method (now (table .entry)) (now (evaluated .entry)) (now (certificate .entry)) (lentList entries)
+        .certificate ⌝ }
+{
     let mut order = [UNLISTED; MAX_NODES];
     let end = count_entries(entries, &order);
     print_lent(method, table, evaluated, certificate, &mut order[..end]);
@@ -98,6 +114,7 @@ fn print_listed(
 // So many of a list's entries, at most all: `io::count` for a list of numbers.
 fn count_entries(entries: u32, order: &[u16]) -> usize
     ensures { λ r. ⌜ Counts r (now (order .entry)) ⌝ }
+    ensures { λ r. ⌜ r ≡ min entries (length (now (order .entry))) ⌝ }
 {
     let most = order.len();
     let wanted = entries as usize;
@@ -114,7 +131,14 @@ fn print_lent(
     evaluated: &mut [u8],
     certificate: &mut [u8],
     order: &mut [u16],
-) {
+)
+    ensures { λ _. ⌜ record {
+      evaluated = now (evaluated .exit);
+      certificate = now (certificate .exit);
+      order = now (order .exit);
+    } ≡ lentAfter method (now (table .entry)) (now (evaluated .entry)) (now (certificate .entry))
+        (now (order .entry)) ⌝ }
+{
     print_answer(method, table, evaluated, certificate, order);
     print_line_feed();
     print_bytes(b"evaluated", evaluated);
@@ -130,7 +154,14 @@ fn print_answer(
     evaluated: &mut [u8],
     certificate: &mut [u8],
     order: &mut [u16],
-) {
+)
+    ensures { λ _. ⌜ record {
+      evaluated = now (evaluated .exit);
+      certificate = now (certificate .exit);
+      order = now (order .exit);
+    } ≡ lentAfter method (now (table .entry)) (now (evaluated .entry)) (now (certificate .entry))
+        (now (order .entry)) ⌝ }
+{
     match method {
         Method::AlphaBeta => {
             return print_alphabeta(alphabeta::search(table, evaluated, certificate, order));

@@ -1,2 +1,4 @@
 -- Definitions for the calls on tables.
 pub mod Sizes
+pub mod Buffers
+pub mod Numbers

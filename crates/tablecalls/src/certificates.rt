@@ -1,6 +1,7 @@
 // The check of a certificate, and the choice between two.
 use crate::answers::print_rejection;
 use crate::tables::TABLE_SIZE;
+use crate::tables::fitted;
 use crate::tables::read_table;
 use casetext::numbers::NUMBERS;
 use casetext::print::print_bytes;
@@ -9,8 +10,12 @@ use casetext::print::print_value;
 use libc::STDOUT_FILENO;
 use shorter::Choice;
 use verify::Verdict;
-ghost use Prim.Native.Nat.{_<_};
+ghost use mathlib.Core.Path.{_≡_};
+ghost use Prim.Native.Nat.{_<_, min};
+ghost use lib.ListN.{length};
 ghost use Rattle.io.specs.Counts.{Counts};
+ghost use Rattle.tablecalls.specs.Buffers.{eachBelow};
+ghost use Rattle.tablecalls.specs.Numbers.{flagAt};
 
 // The verdict on flags that are given.
 pub fn print_verdict_of(file: &[u8], numbers: &[u32]) {
@@ -22,15 +27,19 @@ pub fn print_verdict_of(file: &[u8], numbers: &[u32]) {
 // The numbers as flags; how many they are.
 fn copy_flags(numbers: &[u32], flags: &mut [u8]) -> usize
     ensures { λ r. ⌜ Counts r (now (flags .exit)) ⌝ }
+    ensures { λ r. ⌜ r ≡ min (length (now (numbers .entry))) (length (now (flags .exit))) ⌝ }
+    ensures { λ _. ⌜ now (flags .exit) ≡ eachBelow (flagAt (now (numbers .entry))) (length (now (flags .entry))) ⌝ }
 {
     for i in 0..flags.len() {
         flags[i] = flag(numbers, i);
     }
-    io::count(numbers.len() as isize, flags)
+    fitted(numbers.len(), flags)
 }
 
 // The flag at an index; 0 past the last one.
-fn flag(numbers: &[u32], i: usize) -> u8 {
+fn flag(numbers: &[u32], i: usize) -> u8
+    ensures { λ r. ⌜ r ≡ flagAt (now (numbers .entry)) i ⌝ }
+{
     if i < numbers.len() {
         return (numbers[i] % 256) as u8;
     }

@@ -15,6 +15,10 @@ use treefile::Frame;
 use treefile::LINE_SIZE;
 use treefile::Line;
 use treefile::Written;
+ghost use mathlib.Core.Path.{_≡_};
+ghost use Rattle.reader.specs.File.{tableAfter};
+ghost use Rattle.writer.specs.Write.{writeOutcome};
+ghost use Rattle.convert.specs.Printed.{outputOutcome};
 
 // The longest file.
 pub const FILE_SIZE: usize = LINE_SIZE * MAX_NODES;
@@ -37,7 +41,9 @@ fn print_written_in(table: &[u8], room: u32, size: u32) {
     print_written(table, &mut buffer[..end], size);
 }
 
-fn print_written(table: &[u8], file: &mut [u8], size: u32) {
+fn print_written(table: &[u8], file: &mut [u8], size: u32)
+    ensures { λ _. ⌜ now (file .exit) ≡ writeOutcome (now (table .entry)) (now (file .entry)) .file ⌝ }
+{
     let written = treefile::write(table, file);
     print_length(b"write", written);
     print_bytes(b"file", file);
@@ -71,7 +77,9 @@ pub fn print_output(file: &[u8], room: u32) {
     print_output_in(file, &mut buffer[..end]);
 }
 
-fn print_output_in(file: &[u8], buffer: &mut [u8]) {
+fn print_output_in(file: &[u8], buffer: &mut [u8])
+    ensures { λ _. ⌜ now (buffer .exit) ≡ outputOutcome (now (file .entry)) (now (buffer .entry)) .file ⌝ }
+{
     print_length(b"output", convert::output(file, buffer));
     print_bytes(b"text", buffer);
 }
@@ -83,7 +91,9 @@ pub fn print_reading(file: &[u8], size: u32) {
     print_read(file, &mut table[..end]);
 }
 
-fn print_read(file: &[u8], table: &mut [u8]) {
+fn print_read(file: &[u8], table: &mut [u8])
+    ensures { λ _. ⌜ now (table .exit) ≡ tableAfter (now (file .entry)) (now (table .entry)) ⌝ }
+{
     print_checked(b"read", treefile::read(file, table));
     print_bytes(b"table", table);
 }

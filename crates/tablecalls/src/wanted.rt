@@ -7,6 +7,8 @@ use casetext::print::print_value;
 use leafvalue::Needed;
 use leafvalue::least_value;
 use libc::STDOUT_FILENO;
+ghost use mathlib.Core.Path.{_≡_};
+ghost use Rattle.tablecalls.specs.Numbers.{difference as differenceOf};
 
 // More than a wanted value of a case is away from zero.
 const MOST: u32 = 1000000;
@@ -26,6 +28,8 @@ pub fn print_needed(file: &[u8], size: u32, node: u32, plus: u32, minus: u32) {
 }
 
 // The difference of two numbers, of which the last six digits count.
-fn difference(plus: u32, minus: u32) -> i32 {
+fn difference(plus: u32, minus: u32) -> i32
+    ensures { λ r. ⌜ r ≡ differenceOf plus minus ⌝ }
+{
     (plus % MOST) as i32 - (minus % MOST) as i32
 }

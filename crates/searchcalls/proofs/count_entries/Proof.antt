@@ -6,10 +6,10 @@ use Rattle.searchcalls.proofs.count_entries.Statement.{statement}
 use Rattle.searchcalls.proofs.count_entries.Tie as tie
 
 returns : tie.Need-returns
-returns c = (omega arith, sym (length-take-le _ _ (omega arith)))
+returns c = ((omega arith, sym (length-take-le _ _ (omega arith))), omega arith)
 
 returns-2 : tie.Need-returns-2
-returns-2 c = (omega arith, sym (length-take-le _ _ (omega arith)))
+returns-2 c = ((omega arith, sym (length-take-le _ _ (omega arith))), omega arith)
 
 pub count-entries-spec : {M : Type 1} → statement M
 count-entries-spec = tie.close (tie.spec returns returns-2)

@@ -5,8 +5,9 @@ use mathlib.Core.List.{_++_}
 use lib.ListN.{length, length-set, drop}
 use native.Mathlib.Omega.{arith}
 use borrow.Author.Needs.{needs}
-use Rattle.graftcalls.specs.Levels.{fileByte, eachBelow}
-use Rattle.graftcalls.proofs.Bytes.{each-none, each-next}
+use Rattle.tablecalls.specs.Buffers.{eachBelow}
+use Rattle.graftcalls.specs.Levels.{fileByte}
+use Rattle.tablecalls.proofs.Each.{each-none, each-next}
 use Rattle.graftcalls.proofs.levels.write_tree.Statement.{statement}
 use Rattle.graftcalls.proofs.levels.write_tree.Tie as tie
 

@@ -4,7 +4,7 @@ use mathlib.Core.Path.{ap, _∙_}
 use lib.ListN.{take}
 use Rattle.lines.specs.Line.{lineSize}
 use Rattle.graftcalls.specs.Levels.{fileByte}
-use Rattle.graftcalls.proofs.Bytes.{each-front}
+use Rattle.tablecalls.proofs.Each.{each-front}
 use borrow.Author.Needs.{needs}
 use Rattle.graftcalls.proofs.made.make_table.Statement.{statement}
 use Rattle.graftcalls.proofs.made.make_table.Tie as tie

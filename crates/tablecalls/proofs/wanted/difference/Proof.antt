@@ -5,7 +5,7 @@ use native.Mathlib.Decide.{decLt}
 use lib.IntN.{pos, _-ℤ_}
 use mir.Syntax.{w32}
 use mir.Val.{SFits}
-use mir.ValLaws.{toZ-pos}
+use mir.ValLaws.{toZ-pos, toZ-ofZ}
 use borrow.Author.Tests.{lt-ltb, le-ltb}
 use borrow.Author.Needs.{needs}
 use Rattle.tablecalls.proofs.wanted.difference.Statement.{statement}
@@ -32,7 +32,11 @@ sub-result c =
     rw (toZ-pos w32 a (omega arith), toZ-pos w32 b (omega arith)) (fits a b (omega arith) (omega arith))
 
 returns : tie.Need-returns
-returns c = search needs
+returns c =
+    let a = c .args .plus % 1000000 in
+    let b = c .args .minus % 1000000 in
+    rw (toZ-pos w32 a (omega arith), toZ-pos w32 b (omega arith))
+    (toZ-ofZ w32 (pos a -ℤ pos b) (fits a b (omega arith) (omega arith)))
 
 pub difference-spec : {M : Type 1} → statement M
 difference-spec = tie.close (tie.spec cast-result cast-result-2 sub-result returns)

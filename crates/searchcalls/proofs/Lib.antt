@@ -1,0 +1,2 @@
+-- Proofs about the calls of the searches.
+pub mod Lent

@@ -1,0 +1,122 @@
+-- `searchcalls::print_answer` meets its contract: one case for each method.
+use Rattle.searchcalls.proofs.Lent.{by-alphabeta, by-mtd, by-sss, by-plain}
+use borrow.Author.Needs.{needs}
+use Rattle.searchcalls.proofs.print_answer.Statement.{statement}
+use Rattle.searchcalls.proofs.print_answer.Tie as tie
+
+enum-told : tie.Need-enum-told
+enum-told c = search needs
+
+search-requires : tie.Need-search-requires
+search-requires c κs = search needs
+
+print-alphabeta-requires : tie.Need-print-alphabeta-requires
+print-alphabeta-requires c κs = search needs
+
+same-length : tie.Need-same-length
+same-length c = search needs
+
+same-length-2 : tie.Need-same-length-2
+same-length-2 c = search needs
+
+same-length-3 : tie.Need-same-length-3
+same-length-3 c = search needs
+
+returns : tie.Need-returns
+returns c =
+    by-alphabeta _ _ _ _ _ _ (c .before .before .before .before .before .before .before .before .before .before .before .enum-told .given .1) (c .before .before .before .before .before .before .before .search .ensures)
+
+enum-told-2 : tie.Need-enum-told-2
+enum-told-2 c = search needs
+
+search-requires-2 : tie.Need-search-requires-2
+search-requires-2 c κs = search needs
+
+print-mtd-requires : tie.Need-print-mtd-requires
+print-mtd-requires c κs = search needs
+
+same-length-4 : tie.Need-same-length-4
+same-length-4 c = search needs
+
+same-length-5 : tie.Need-same-length-5
+same-length-5 c = search needs
+
+same-length-6 : tie.Need-same-length-6
+same-length-6 c = search needs
+
+returns-2 : tie.Need-returns-2
+returns-2 c =
+    by-mtd _ _ _ _ _ _ (c .before .before .before .before .before .before .before .before .before .before .before .enum-told2 .given .1) (c .before .before .before .before .before .before .before .search2 .ensures)
+
+enum-known-method : tie.Need-enum-known-method
+enum-known-method c = search needs
+
+solve-requires : tie.Need-solve-requires
+solve-requires c κs = search needs
+
+print-sss-requires : tie.Need-print-sss-requires
+print-sss-requires c κs = search needs
+
+same-length-7 : tie.Need-same-length-7
+same-length-7 c = search needs
+
+same-length-8 : tie.Need-same-length-8
+same-length-8 c = search needs
+
+same-length-9 : tie.Need-same-length-9
+same-length-9 c = search needs
+
+returns-3 : tie.Need-returns-3
+returns-3 c =
+    by-sss _ _ _ _ _ _ _ (c .before .before .before .before .before .before .before .before .before .before .before .before .method .given .1) (c .before .before .before .before .before .before .before .solve .ensures)
+
+enum-told-3 : tie.Need-enum-told-3
+enum-told-3 c = search needs
+
+search-requires-3 : tie.Need-search-requires-3
+search-requires-3 c κs = search needs
+
+print-plain-requires : tie.Need-print-plain-requires
+print-plain-requires c κs = search needs
+
+same-length-10 : tie.Need-same-length-10
+same-length-10 c = search needs
+
+same-length-11 : tie.Need-same-length-11
+same-length-11 c = search needs
+
+returns-4 : tie.Need-returns-4
+returns-4 c =
+    by-plain _ _ _ _ _ _ (c .before .before .before .before .before .before .before .before .enum-told3 .given .1) (c .before .before .before .before .before .search3 .ensures)
+
+pub print-answer-spec : {M : Type 1} → statement M
+print-answer-spec =
+    tie.close
+    (tie.spec
+    enum-told
+    search-requires
+    print-alphabeta-requires
+    same-length
+    same-length-2
+    same-length-3
+    returns
+    enum-told-2
+    search-requires-2
+    print-mtd-requires
+    same-length-4
+    same-length-5
+    same-length-6
+    returns-2
+    enum-known-method
+    solve-requires
+    print-sss-requires
+    same-length-7
+    same-length-8
+    same-length-9
+    returns-3
+    enum-told-3
+    search-requires-3
+    print-plain-requires
+    same-length-10
+    same-length-11
+    returns-4)

@@ -1,0 +1,43 @@
+-- What the searches leave in the buffers and the list that they are lent.
+use Prim.Native.Nat.{ℕ}
+use mathlib.Core.List.{List}
+use lib.ListN.{replicate}
+use Rattle.frames.specs.Frame.{maxNodes}
+use Rattle.certificate.specs.Search.{Outcome, Listed}
+use Rattle.alphabeta.specs.Outcome.{alphaBetaOutcome}
+use Rattle.mtd.specs.Outcome.{mtdOutcome}
+use Rattle.sss.specs.Outcome.{solveOutcome}
+use Rattle.plain.specs.Outcome.{plainOutcome}
+use Rattle.tablecalls.specs.Buffers.{filledWith, front}
+use Rattle.searchcalls.specs.declared.Method.{Method}
+use Rattle.searchcalls.specs.declared.Method.the-variants.{AlphaBeta, Mtd, Sss, Plain}
+
+-- the marks, the certificate and the list of leaves
+pub record Lent : Type 0 where
+  pub evaluated : List ℕ
+  pub certificate : List ℕ
+  pub order : List ℕ
+
+abbrev pub lentTo : {A : Type 0} → Outcome A → List ℕ → Lent
+lentTo s o = record { evaluated = s .evaluated; certificate = s .certificate; order = o }
+
+abbrev pub listedTo : {A : Type 0} → Listed A → Lent
+listedTo r = lentTo (r .search) (r .order)
+
+-- after a search of the table t by each method; the plain engine is lent no list
+unfoldable pub lentAfter : Method → (t e c o : List ℕ) → Lent
+lentAfter AlphaBeta t e c o = listedTo (alphaBetaOutcome t e c o)
+lentAfter Mtd t e c o = listedTo (mtdOutcome t e c o)
+lentAfter (Sss allowance) t e c o = listedTo (solveOutcome allowance t e c o)
+lentAfter Plain t e c o = lentTo (plainOutcome t e c) o
+
+-- what the list is filled with: it is no node's number
+abbrev pub unlisted : ℕ
+unlisted = 43690
+
+-- so many entries of a filled list, and so many flags of a filled certificate
+abbrev pub lentList : ℕ → List ℕ
+lentList entries = front entries (replicate maxNodes unlisted)
+
+abbrev pub lentFlags : ℕ → List ℕ
+lentFlags flags = front flags (replicate maxNodes filledWith)

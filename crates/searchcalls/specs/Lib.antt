@@ -1,0 +1,2 @@
+-- Definitions for the calls of the searches.
+pub mod Lent

@@ -1,0 +1,2 @@
+-- Proofs about the buffers of calls.
+pub mod Each
