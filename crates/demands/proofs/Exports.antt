@@ -1,0 +1,138 @@
+-- What the functions of the library for other languages promise: each asks nothing, and leaves what is said here of its
+-- arguments, its answer r and its parameters at exit, which are marked ′. It is the outcome of the call that it makes
+-- (Contracts.antt), as numbers. As there, this is the function's own contract, compared with it by computing.
+use mathlib.Core.Path.{_≡_}
+use lib.ListN.{length}
+use Rattle.frames.specs.Check.{checked}
+use Rattle.frames.specs.Children.{childrenOf}
+use Rattle.hex.specs.Digit.{digitOf}
+use Rattle.lines.specs.Line.{lineAt}
+use Rattle.reader.specs.File.{readAnswer, tableAfter}
+use Rattle.writer.specs.Write.{writeOutcome}
+use Rattle.convert.specs.Convert.{convertOutcome}
+use Rattle.convert.specs.Printed.{outputOutcome}
+use Rattle.alphabeta.specs.Outcome.{alphaBetaOutcome}
+use Rattle.plain.specs.Outcome.{plainOutcome}
+use Rattle.mtd.specs.Outcome.{mtdOutcome}
+use Rattle.sss.specs.Outcome.{solveOutcome}
+use Rattle.verify.specs.Check.{verdict}
+use Rattle.shorter.specs.Choice.{choice, chosenFlags}
+use Rattle.graft.specs.Outcome.{graftOutcome}
+use Rattle.leafvalue.specs.Wanted.{needed}
+use Rattle.worstcase.specs.Outcome.{fillOutcome}
+use Rattle.leastcount.specs.Answer.{leastAnswer}
+use Rattle.report.specs.Report as reports
+use Rattle.text.specs.Text.{refusedLine, textOf}
+use Rattle.buulset.proofs as buulset
+use Rattle.buulset.specs.Flat.{version, partOf, flatChecked, flatLine, flatChildren, flatText, flatVerdict, flatChoice}
+use Rattle.buulset.specs.Flat.{flatNeeded, flatLeast, flatWrite, flatGraft, flatFill, flatSearch, flatListed}
+use Rattle.buulset.specs.Flat.{flatAlphaBeta, flatPlain, flatMtd, flatSss}
+use Rattle.demands.specs.Runs.{Runs}
+
+pub exported-version : Runs buulset.buulset_version.ended buulset.buulset_version.Symbol.routine
+    (λ κs x r e. r ≡ version)
+exported-version = record { meets = buulset.buulset_version.Met.met }
+
+-- files and tables
+
+pub exported-read : Runs buulset.buulset_read.ended buulset.buulset_read.Symbol.routine
+    (λ κs (f, (t, _)) r (_, (t′, _)).
+    (r ≡ flatChecked (readAnswer (f .now) (t .now))) × (t′ .now ≡ tableAfter (f .now) (t .now)))
+exported-read = record { meets = buulset.buulset_read.Met.met }
+
+pub exported-read-line : Runs buulset.buulset_read_line.ended buulset.buulset_read_line.Symbol.routine
+    (λ κs (f, (k, _)) r e. r ≡ flatLine (lineAt (f .now) k))
+exported-read-line = record { meets = buulset.buulset_read_line.Met.met }
+
+pub exported-digit : Runs buulset.buulset_digit.ended buulset.buulset_digit.Symbol.routine
+    (λ κs (b, _) r e. r ≡ digitOf b)
+exported-digit = record { meets = buulset.buulset_digit.Met.met }
+
+pub exported-write : Runs buulset.buulset_write.ended buulset.buulset_write.Symbol.routine
+    (λ κs (t, (f, _)) r (_, (f′, _)).
+    record { answer = r; buffer = f′ .now } ≡ flatWrite (writeOutcome (t .now) (f .now)))
+exported-write = record { meets = buulset.buulset_write.Met.met }
+
+pub exported-convert : Runs buulset.buulset_convert.ended buulset.buulset_convert.Symbol.routine
+    (λ κs (f, (b, _)) r (_, (b′, _)).
+    record { answer = r; buffer = b′ .now } ≡ flatWrite (convertOutcome (f .now) (b .now)))
+exported-convert = record { meets = buulset.buulset_convert.Met.met }
+
+pub exported-capitals : Runs buulset.buulset_capitals.ended buulset.buulset_capitals.Symbol.routine
+    (λ κs (f, (b, _)) r (_, (b′, _)).
+    record { answer = r; buffer = b′ .now } ≡ flatWrite (outputOutcome (f .now) (b .now)))
+exported-capitals = record { meets = buulset.buulset_capitals.Met.met }
+
+pub exported-check : Runs buulset.buulset_check.ended buulset.buulset_check.Symbol.routine
+    (λ κs (t, _) r e. r ≡ flatChecked (checked (t .now)))
+exported-check = record { meets = buulset.buulset_check.Met.met }
+
+pub exported-children : Runs buulset.buulset_children.ended buulset.buulset_children.Symbol.routine
+    (λ κs (t, (k, _)) r e. (r ≡ flatChildren (t .now) k) × (childrenOf (t .now) k ≡ partOf (t .now) r))
+exported-children = record { meets = buulset.buulset_children.Met.met }
+
+-- searches
+
+pub exported-alphabeta : Runs buulset.buulset_alphabeta.ended buulset.buulset_alphabeta.Symbol.routine
+    (λ κs (t, (m, (f, (o, _)))) r (_, (m′, (f′, (o′, _)))).
+    record { order = o′ .now; search = record { answer = r; evaluated = m′ .now; certificate = f′ .now } }
+    ≡ flatListed flatAlphaBeta (alphaBetaOutcome (t .now) (m .now) (f .now) (o .now)))
+exported-alphabeta = record { meets = buulset.buulset_alphabeta.Met.met }
+
+pub exported-plain : Runs buulset.buulset_plain.ended buulset.buulset_plain.Symbol.routine
+    (λ κs (t, (m, (f, _))) r (_, (m′, (f′, _))).
+    record { answer = r; evaluated = m′ .now; certificate = f′ .now }
+    ≡ flatSearch flatPlain (plainOutcome (t .now) (m .now) (f .now)))
+exported-plain = record { meets = buulset.buulset_plain.Met.met }
+
+pub exported-mtd : Runs buulset.buulset_mtd.ended buulset.buulset_mtd.Symbol.routine
+    (λ κs (t, (m, (f, (o, _)))) r (_, (m′, (f′, (o′, _)))).
+    record { order = o′ .now; search = record { answer = r; evaluated = m′ .now; certificate = f′ .now } }
+    ≡ flatListed flatMtd (mtdOutcome (t .now) (m .now) (f .now) (o .now)))
+exported-mtd = record { meets = buulset.buulset_mtd.Met.met }
+
+pub exported-sss : Runs buulset.buulset_sss.ended buulset.buulset_sss.Symbol.routine
+    (λ κs (t, (m, (f, (o, (n, _))))) r (_, (m′, (f′, (o′, _)))).
+    record { order = o′ .now; search = record { answer = r; evaluated = m′ .now; certificate = f′ .now } }
+    ≡ flatListed flatSss (solveOutcome n (t .now) (m .now) (f .now) (o .now)))
+exported-sss = record { meets = buulset.buulset_sss.Met.met }
+
+-- certificates
+
+pub exported-verify : Runs buulset.buulset_verify.ended buulset.buulset_verify.Symbol.routine
+    (λ κs (t, (f, _)) r e. r ≡ flatVerdict (verdict (t .now) (f .now)))
+exported-verify = record { meets = buulset.buulset_verify.Met.met }
+
+pub exported-shorter : Runs buulset.buulset_shorter.ended buulset.buulset_shorter.Symbol.routine
+    (λ κs (t, (f, (s, _))) r e.
+    r ≡ flatChoice (choice (t .now) (f .now) (s .now)) (length (chosenFlags (t .now) (f .now) (s .now))))
+exported-shorter = record { meets = buulset.buulset_shorter.Met.met }
+
+-- trees
+
+pub exported-graft : Runs buulset.buulset_graft.ended buulset.buulset_graft.Symbol.routine
+    (λ κs (t, (k, (u, (b, _)))) r (_, (_, (_, (b′, _)))).
+    record { answer = r; buffer = b′ .now } ≡ flatGraft (graftOutcome (t .now) k (u .now) (b .now)))
+exported-graft = record { meets = buulset.buulset_graft.Met.met }
+
+pub exported-least-value : Runs buulset.buulset_least_value.ended buulset.buulset_least_value.Symbol.routine
+    (λ κs (t, (k, (w, _))) r e. r ≡ flatNeeded (needed (t .now) k w))
+exported-least-value = record { meets = buulset.buulset_least_value.Met.met }
+
+pub exported-fill : Runs buulset.buulset_fill.ended buulset.buulset_fill.Symbol.routine
+    (λ κs (t, _) r (t′, _). record { answer = r; buffer = t′ .now } ≡ flatFill (fillOutcome (t .now)))
+exported-fill = record { meets = buulset.buulset_fill.Met.met }
+
+pub exported-least-leaves : Runs buulset.buulset_least_leaves.ended buulset.buulset_least_leaves.Symbol.routine
+    (λ κs (w, (d, _)) r e. r ≡ flatLeast (leastAnswer w d))
+exported-least-leaves = record { meets = buulset.buulset_least_leaves.Met.met }
+
+-- texts
+
+pub exported-report : Runs buulset.buulset_report.ended buulset.buulset_report.Symbol.routine
+    (λ κs (f, _) r e. r ≡ flatText (textOf (reports.report (f .now))))
+exported-report = record { meets = buulset.buulset_report.Met.met }
+
+pub exported-refused : Runs buulset.buulset_refused.ended buulset.buulset_refused.Symbol.routine
+    (λ κs (q, (p, _)) r e. r ≡ flatText (textOf (refusedLine q p)))
+exported-refused = record { meets = buulset.buulset_refused.Met.met }
