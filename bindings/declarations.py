@@ -40,12 +40,11 @@ def members(body):
     return [(n, array(t)) for n, t in re.findall(r"pub (\w+): (\[\w+; \w+\]|\w+)", body)]
 
 
-def rattle(text):
-    """Calls with the kinds and names of their parameters and their result; structs with their members."""
-    text = re.sub(r"//.*", "", text)
+def declared(pattern, text):
+    """Calls by their names, with the kinds and names of their parameters, a slice as pointer and length, and their
+    result."""
     calls = {}
-    declared = r'#\[no_mangle\]\s*pub extern "C" fn (\w+)(?:<[^>]*>)?\(([^)]*)\)\s*->\s*(\w+)'
-    for call, parameters, result in re.findall(declared, text):
+    for call, parameters, result in re.findall(pattern, text):
         kinds = []
         for p in split(parameters):
             name, t = (x.strip() for x in p.split(":"))
@@ -54,9 +53,20 @@ def rattle(text):
                 kinds += [("%s %s*" % ("mut" if m[1] else "const", kind(m[2])), name), ("usize", name + "_len")]
             else:
                 kinds.append((kind(t), name))
-        calls[call] = kinds, kind(result)
-    structs = re.findall(r"#\[repr\(C\)\]\s*pub struct (\w+) \{(.*?)\n\}", text, re.S)
-    return calls, {name.lower(): members(body) for name, body in structs}
+        calls["buulset_" + call] = kinds, kind(result)
+    return calls
+
+
+def laid_out(text):
+    """Structs with the layout of C, with their members."""
+    structs = re.findall(r"#\[repr\(C\)\]\s*(?:#\[[^\]]*\]\s*)*pub struct (\w+) \{(.*?)\n\}", text, re.S)
+    return {name.lower(): members(body) for name, body in structs}
+
+
+def rattle(text):
+    text = re.sub(r"//.*", "", text)
+    head = r'#\[no_mangle\]\s*pub extern "C" fn buulset_(\w+)(?:<[^>]*>)?\(([^)]*)\)\s*->\s*(\w+)'
+    return declared(head, text), laid_out(text)
 
 
 def c(text):
@@ -76,16 +86,7 @@ def c(text):
 
 def rust(text):
     text = re.sub(r"//.*", "", text)
-    calls = {}
-    for name, parameters, result in re.findall(r"pub fn (buulset_\w+)\(([^)]*)\)\s*->\s*(\w+);", text):
-        kinds = []
-        for p in split(parameters):
-            own, t = (x.strip() for x in p.split(":"))
-            m = re.fullmatch(r"\*(mut|const) (\w+)", t)
-            kinds.append(("%s %s*" % (m[1], kind(m[2])) if m else kind(t), own))
-        calls[name] = kinds, kind(result)
-    structs = re.findall(r"#\[repr\(C\)\]\s*(?:#\[[^\]]*\]\s*)*pub struct (\w+) \{(.*?)\n\}", text, re.S)
-    return calls, {name.lower(): members(body) for name, body in structs}
+    return declared(r"(?m)^    fn (\w+)\(([^)]*)\)\s*->\s*(\w+);", text), laid_out(text)
 
 
 def python(text):
@@ -149,10 +150,10 @@ WRONG = (
     (1, "uint16_t *BUULSET_RESTRICT order", "uint8_t *BUULSET_RESTRICT order"),
     (1, "#define BUULSET_MAX_DEPTH 18", "#define BUULSET_MAX_DEPTH 24"),
     (1, "#define BUULSET_VERSION 10000", "#define BUULSET_VERSION 10001"),
-    (2, "pub fn buulset_fill(table: *mut u8,", "pub fn buulset_fill(table: *const u8,"),
+    (2, "fn fill(table: &mut [u8])", "fn fill(table: &[u8])"),
     (2, "node: usize, wanted: i32", "wanted: i32, node: usize"),
     (2, "    pub leaves: usize,\n    pub steps: usize,", "    pub steps: usize,\n    pub leaves: usize,"),
-    (2, "pub fn buulset_refused(number: u8, place: usize) -> Text;", ""),
+    (2, "fn refused(number: u8, place: usize) -> Text;", ""),
     (3, "pub const MAX_CHILDREN: usize = 40;", "pub const MAX_CHILDREN: usize = 41;"),
     (4, '("merit", ctypes.c_int32)', '("merit", ctypes.c_int16)'),
     (4, '"fill": (_LENT, Answer)', '"fill": (_BYTES, Answer)'),

@@ -274,23 +274,24 @@ fn graft(words: Vec<OsString>) -> Done {
     files::print(&result.to_file())
 }
 
-fn set(words: Vec<OsString>) -> Done {
-    let mut arguments = Arguments::new("set", words, &["--quiet"], &[])?;
+/// FILE, LEAF and VALUE: a tree and two numbers.
+fn tree_leaf_and_value(command: &'static str, words: Vec<OsString>) -> Result<(Tree, usize, i32), Failure> {
+    let mut arguments = Arguments::new(command, words, &["--quiet"], &[])?;
     let name = arguments.word("FILE")?;
-    let (leaf, value): (usize, i32) = (arguments.number("LEAF")?, arguments.number("VALUE")?);
+    let (leaf, value) = (arguments.number("LEAF")?, arguments.number("VALUE")?);
     arguments.end()?;
-    let changed =
-        tree(&name)?.with_value(leaf, value).map_err(refused(format!("node {leaf} with the value {value}")))?;
+    Ok((tree(&name)?, leaf, value))
+}
+
+fn set(words: Vec<OsString>) -> Done {
+    let (tree, leaf, value) = tree_leaf_and_value("set", words)?;
+    let changed = tree.with_value(leaf, value).map_err(refused(format!("node {leaf} with the value {value}")))?;
     files::print(&changed.to_file())
 }
 
 fn needs(words: Vec<OsString>) -> Done {
-    let mut arguments = Arguments::new("needs", words, &["--quiet"], &[])?;
-    let name = arguments.word("FILE")?;
-    let (leaf, wanted): (usize, i32) = (arguments.number("LEAF")?, arguments.number("VALUE")?);
-    arguments.end()?;
-    let value =
-        tree(&name)?.least_value(leaf, wanted).map_err(refused(format!("node {leaf} for the root value {wanted}")))?;
+    let (tree, leaf, wanted) = tree_leaf_and_value("needs", words)?;
+    let value = tree.least_value(leaf, wanted).map_err(refused(format!("node {leaf} for the root value {wanted}")))?;
     files::print(format!("{value}\n").as_bytes())
 }
 

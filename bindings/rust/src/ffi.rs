@@ -1,5 +1,5 @@
-//! The archive's functions: their declarations, as `crates/buulset/src/lib.rt` has them (`bindings/declarations.py`
-//! compares the two), and each of them over slices. All that is unsafe in this crate stands here.
+//! The archive's functions, as `crates/buulset/src/lib.rt` declares them (`bindings/declarations.py` compares the two).
+//! All that is unsafe in this crate stands here.
 //!
 //! Each call is safe for one reason: a pointer is passed with the length of the slice that it comes from, and a `&mut`
 //! slice overlaps no other argument. That is all that the proofs assume of a caller.
@@ -50,185 +50,52 @@ pub struct Text {
     pub length: usize,
 }
 
-mod declared {
-    use super::{Answer, Children, Choice, Line, Text};
-
-    extern "C" {
-        pub fn buulset_version() -> u32;
-        pub fn buulset_read(file: *const u8, file_len: usize, table: *mut u8, table_len: usize) -> Answer;
-        pub fn buulset_read_line(file: *const u8, file_len: usize, at: usize) -> Line;
-        pub fn buulset_digit(byte: u8) -> u8;
-        pub fn buulset_write(table: *const u8, table_len: usize, file: *mut u8, file_len: usize) -> Answer;
-        pub fn buulset_convert(file: *const u8, file_len: usize, converted: *mut u8, converted_len: usize) -> Answer;
-        pub fn buulset_capitals(file: *const u8, file_len: usize, printed: *mut u8, printed_len: usize) -> Answer;
-        pub fn buulset_check(table: *const u8, table_len: usize) -> Answer;
-        pub fn buulset_children(table: *const u8, table_len: usize, node: usize) -> Children;
-        pub fn buulset_alphabeta(
-            table: *const u8,
-            table_len: usize,
-            evaluated: *mut u8,
-            evaluated_len: usize,
-            certificate: *mut u8,
-            certificate_len: usize,
-            order: *mut u16,
-            order_len: usize,
-        ) -> Answer;
-        pub fn buulset_plain(
-            table: *const u8,
-            table_len: usize,
-            evaluated: *mut u8,
-            evaluated_len: usize,
-            certificate: *mut u8,
-            certificate_len: usize,
-        ) -> Answer;
-        pub fn buulset_mtd(
-            table: *const u8,
-            table_len: usize,
-            evaluated: *mut u8,
-            evaluated_len: usize,
-            certificate: *mut u8,
-            certificate_len: usize,
-            order: *mut u16,
-            order_len: usize,
-        ) -> Answer;
-        pub fn buulset_sss(
-            table: *const u8,
-            table_len: usize,
-            evaluated: *mut u8,
-            evaluated_len: usize,
-            certificate: *mut u8,
-            certificate_len: usize,
-            order: *mut u16,
-            order_len: usize,
-            allowance: usize,
-        ) -> Answer;
-        pub fn buulset_verify(
-            table: *const u8,
-            table_len: usize,
-            certificate: *const u8,
-            certificate_len: usize,
-        ) -> Answer;
-        pub fn buulset_shorter(
-            table: *const u8,
-            table_len: usize,
-            first: *const u8,
-            first_len: usize,
-            second: *const u8,
-            second_len: usize,
-        ) -> Choice;
-        pub fn buulset_graft(
-            first: *const u8,
-            first_len: usize,
-            node: usize,
-            second: *const u8,
-            second_len: usize,
-            result: *mut u8,
-            result_len: usize,
-        ) -> Answer;
-        pub fn buulset_least_value(table: *const u8, table_len: usize, node: usize, wanted: i32) -> Answer;
-        pub fn buulset_fill(table: *mut u8, table_len: usize) -> Answer;
-        pub fn buulset_least_leaves(width: usize, depth: usize) -> Answer;
-        pub fn buulset_report(file: *const u8, file_len: usize) -> Text;
-        pub fn buulset_refused(number: u8, place: usize) -> Text;
-    }
-}
-
-/// Calls a function of the archive: `[slice]` is a slice that is read, `[mut slice]` one that is written, each passed
-/// as its pointer and its length; `(number)` is passed as it is.
-macro_rules! call {
-    ($name:ident $($argument:tt)*) => { call!(@ $name () $($argument)*) };
-    (@ $name:ident ($($done:expr,)*)) => { unsafe { declared::$name($($done),*) } };
-    (@ $name:ident ($($done:expr,)*) [mut $slice:ident] $($rest:tt)*) => {
-        call!(@ $name ($($done,)* $slice.as_mut_ptr(), $slice.len(),) $($rest)*)
+/// Declares functions of the archive by what they take in Rattle, and makes each a safe function: a slice goes over as
+/// its pointer and its length, a number as it is.
+macro_rules! exported {
+    ($(fn $f:ident($($parameters:tt)*) -> $r:ty;)*) => { $(exported!(@ $f $r; [] [] [] $($parameters)*,);)* };
+    (@ $f:ident $r:ty; [$($taken:tt)*] [$($declared:tt)*] [$($passed:tt)*] $(,)?) => {
+        pub fn $f($($taken)*) -> $r {
+            extern "C" {
+                #[link_name = concat!("buulset_", stringify!($f))]
+                fn $f($($declared)*) -> $r;
+            }
+            unsafe { $f($($passed)*) }
+        }
     };
-    (@ $name:ident ($($done:expr,)*) [$slice:ident] $($rest:tt)*) => {
-        call!(@ $name ($($done,)* $slice.as_ptr(), $slice.len(),) $($rest)*)
+    (@ $f:ident $r:ty; [$($taken:tt)*] [$($declared:tt)*] [$($passed:tt)*] $x:ident: &[$t:ty], $($rest:tt)*) => {
+        exported!(@ $f $r; [$($taken)* $x: &[$t],] [$($declared)* _: *const $t, _: usize,]
+            [$($passed)* $x.as_ptr(), $x.len(),] $($rest)*);
     };
-    (@ $name:ident ($($done:expr,)*) ($number:expr) $($rest:tt)*) => {
-        call!(@ $name ($($done,)* $number,) $($rest)*)
+    (@ $f:ident $r:ty; [$($taken:tt)*] [$($declared:tt)*] [$($passed:tt)*] $x:ident: &mut [$t:ty], $($rest:tt)*) => {
+        exported!(@ $f $r; [$($taken)* $x: &mut [$t],] [$($declared)* _: *mut $t, _: usize,]
+            [$($passed)* $x.as_mut_ptr(), $x.len(),] $($rest)*);
+    };
+    (@ $f:ident $r:ty; [$($taken:tt)*] [$($declared:tt)*] [$($passed:tt)*] $x:ident: $t:ty, $($rest:tt)*) => {
+        exported!(@ $f $r; [$($taken)* $x: $t,] [$($declared)* _: $t,] [$($passed)* $x,] $($rest)*);
     };
 }
 
-pub fn version() -> u32 {
-    call!(buulset_version)
-}
-
-pub fn read(file: &[u8], table: &mut [u8]) -> Answer {
-    call!(buulset_read [file] [mut table])
-}
-
-pub fn read_line(file: &[u8], at: usize) -> Line {
-    call!(buulset_read_line[file](at))
-}
-
-pub fn digit(byte: u8) -> u8 {
-    call!(buulset_digit(byte))
-}
-
-pub fn write(table: &[u8], file: &mut [u8]) -> Answer {
-    call!(buulset_write [table] [mut file])
-}
-
-pub fn convert(file: &[u8], converted: &mut [u8]) -> Answer {
-    call!(buulset_convert [file] [mut converted])
-}
-
-pub fn capitals(file: &[u8], printed: &mut [u8]) -> Answer {
-    call!(buulset_capitals [file] [mut printed])
-}
-
-pub fn check(table: &[u8]) -> Answer {
-    call!(buulset_check[table])
-}
-
-pub fn children(table: &[u8], node: usize) -> Children {
-    call!(buulset_children[table](node))
-}
-
-pub fn alphabeta(table: &[u8], evaluated: &mut [u8], certificate: &mut [u8], order: &mut [u16]) -> Answer {
-    call!(buulset_alphabeta [table] [mut evaluated] [mut certificate] [mut order])
-}
-
-pub fn plain(table: &[u8], evaluated: &mut [u8], certificate: &mut [u8]) -> Answer {
-    call!(buulset_plain [table] [mut evaluated] [mut certificate])
-}
-
-pub fn mtd(table: &[u8], evaluated: &mut [u8], certificate: &mut [u8], order: &mut [u16]) -> Answer {
-    call!(buulset_mtd [table] [mut evaluated] [mut certificate] [mut order])
-}
-
-pub fn sss(table: &[u8], evaluated: &mut [u8], certificate: &mut [u8], order: &mut [u16], allowance: usize) -> Answer {
-    call!(buulset_sss [table] [mut evaluated] [mut certificate] [mut order] (allowance))
-}
-
-pub fn verify(table: &[u8], certificate: &[u8]) -> Answer {
-    call!(buulset_verify[table][certificate])
-}
-
-pub fn shorter(table: &[u8], first: &[u8], second: &[u8]) -> Choice {
-    call!(buulset_shorter[table][first][second])
-}
-
-pub fn graft(first: &[u8], node: usize, second: &[u8], result: &mut [u8]) -> Answer {
-    call!(buulset_graft [first] (node) [second] [mut result])
-}
-
-pub fn least_value(table: &[u8], node: usize, wanted: i32) -> Answer {
-    call!(buulset_least_value[table](node)(wanted))
-}
-
-pub fn fill(table: &mut [u8]) -> Answer {
-    call!(buulset_fill [mut table])
-}
-
-pub fn least_leaves(width: usize, depth: usize) -> Answer {
-    call!(buulset_least_leaves(width)(depth))
-}
-
-pub fn report(file: &[u8]) -> Text {
-    call!(buulset_report[file])
-}
-
-pub fn refused(number: u8, place: usize) -> Text {
-    call!(buulset_refused(number)(place))
+exported! {
+    fn version() -> u32;
+    fn read(file: &[u8], table: &mut [u8]) -> Answer;
+    fn read_line(file: &[u8], at: usize) -> Line;
+    fn digit(byte: u8) -> u8;
+    fn write(table: &[u8], file: &mut [u8]) -> Answer;
+    fn convert(file: &[u8], converted: &mut [u8]) -> Answer;
+    fn capitals(file: &[u8], printed: &mut [u8]) -> Answer;
+    fn check(table: &[u8]) -> Answer;
+    fn children(table: &[u8], node: usize) -> Children;
+    fn alphabeta(table: &[u8], evaluated: &mut [u8], certificate: &mut [u8], order: &mut [u16]) -> Answer;
+    fn plain(table: &[u8], evaluated: &mut [u8], certificate: &mut [u8]) -> Answer;
+    fn mtd(table: &[u8], evaluated: &mut [u8], certificate: &mut [u8], order: &mut [u16]) -> Answer;
+    fn sss(table: &[u8], evaluated: &mut [u8], certificate: &mut [u8], order: &mut [u16], allowance: usize) -> Answer;
+    fn verify(table: &[u8], certificate: &[u8]) -> Answer;
+    fn shorter(table: &[u8], first: &[u8], second: &[u8]) -> Choice;
+    fn graft(first: &[u8], node: usize, second: &[u8], result: &mut [u8]) -> Answer;
+    fn least_value(table: &[u8], node: usize, wanted: i32) -> Answer;
+    fn fill(table: &mut [u8]) -> Answer;
+    fn least_leaves(width: usize, depth: usize) -> Answer;
+    fn report(file: &[u8]) -> Text;
+    fn refused(number: u8, place: usize) -> Text;
 }
