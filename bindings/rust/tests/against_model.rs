@@ -138,6 +138,8 @@ fn compare_table(t: &[u8], n: usize, rng: &mut Rng) {
     }
     // certificates: as found, of a tree of the same shape with other values, damaged, cut
     if let Ok(tree) = buulset::Tree::from_table(t.to_vec()) {
+        let marks: Vec<bool> = tree.alphabeta().evaluated.iter().map(|&mark| mark == 1).collect();
+        assert_eq!(marks, model::baudet(t), "alpha-beta evaluates by Baudet's condition");
         certificates.push(tree.filled().0.mtd().certificate);
     }
     let mut damaged = certificates[certificates.len() - 1].clone();

@@ -1,10 +1,11 @@
 //! The calls in plain Rust; the tests compare the two, and the bench their speed. It shares no code with the Rattle
-//! crates. Its searches go back, by way of an older sketch, to the model in `checks/oracle.py`, so an error there may
-//! be an error here; what N5 to N14 add was written from the papers' sentences, with the crates' definitions at hand.
+//! crates or with `checks/oracle.py`. Alpha-beta and MTD are figures 3 and 4 of 001, SSS* is the list of 01, and the
+//! rest is written from the papers' sentences; who wrote it had read the crates' definitions.
 #![allow(dead_code)]
 
 use buulset::{Found, Refusal, Spent, Within};
-use std::collections::BinaryHeap;
+use std::cmp::Reverse;
+use std::collections::BTreeSet;
 use std::ops::Range;
 
 const LOW: i32 = -32001;
@@ -190,7 +191,20 @@ pub struct Tree {
     parent: Vec<usize>,
     depth: Vec<i32>,
     max: Vec<bool>,
+    /// Nodes at and below a node, and nodes before it from top and left.
+    size: Vec<usize>,
     left: Vec<usize>,
+}
+
+/// A state of SSS*, in the order in which states are taken: its merit, its place from the left, its node, and whether
+/// it is solved.
+type State = (Reverse<i32>, usize, usize, bool);
+
+/// What is known of a node for the side that moves there.
+#[derive(Clone, Copy)]
+struct Bounds {
+    low: i32,
+    high: i32,
 }
 
 fn worth(value: i32, depth: i32) -> i32 {
@@ -226,7 +240,7 @@ impl Tree {
             }
         }
         let worth = table.chunks(6).zip(&depth).map(|(f, &d)| worth(stored(f), d)).collect();
-        Tree { n, kids, worth, parent, depth, max, left }
+        Tree { n, kids, worth, parent, depth, max, size, left }
     }
 
     fn leaf(&self, k: usize) -> bool {
@@ -246,107 +260,86 @@ impl Tree {
         v
     }
 
-    fn alphabeta(&self, k: usize, mut a: i32, mut b: i32, out: &mut Vec<usize>) -> i32 {
+    /// Alpha-beta with a table of bounds (001, figure 3), in the eyes of the side that moves.
+    fn alphabeta(&self, k: usize, alpha: i32, beta: i32, known: &mut [Bounds], out: &mut Vec<usize>) -> i32 {
+        let Bounds { low, high } = known[k];
+        if high <= alpha || high == low {
+            return high;
+        }
+        if low >= beta {
+            return low;
+        }
         if self.leaf(k) {
             out.push(k);
-            return self.worth[k];
+            let g = if self.max[k] { self.worth[k] } else { -self.worth[k] };
+            known[k] = Bounds { low: g, high: g };
+            return g;
         }
-        let mut best = if self.max[k] { LOW } else { HIGH };
+        let (mut g, mut a) = (LOW, alpha);
         for c in self.kids[k].clone() {
-            let v = self.alphabeta(c, a, b, out);
-            if self.max[k] {
-                best = best.max(v);
-                a = a.max(best);
-            } else {
-                best = best.min(v);
-                b = b.min(best);
-            }
-            if b <= a {
+            g = g.max(match self.max[c] == self.max[k] {
+                true => self.alphabeta(c, a, beta, known, out),
+                false => -self.alphabeta(c, -beta, -a, known, out),
+            });
+            a = a.max(g);
+            if g >= beta {
                 break;
             }
         }
-        best
+        if g < beta {
+            known[k].high = g;
+        }
+        if g > alpha {
+            known[k].low = g;
+        }
+        g
     }
 
+    fn nothing_known(&self) -> Vec<Bounds> {
+        vec![Bounds { low: LOW, high: HIGH }; self.n]
+    }
+
+    /// A row of such searches (001, figure 4): the value, and how many.
     fn mtd(&self, out: &mut Vec<usize>) -> (i32, usize) {
-        let (mut high, mut not_below) = (vec![HIGH; self.n], vec![false; self.n]);
-        let (mut test, mut passes) = (HIGH, 1);
-        while self.below(0, test, &mut high, &mut not_below, out) {
-            test = high[0];
+        let (mut known, mut g, mut passes) = (self.nothing_known(), HIGH, 0);
+        loop {
+            let test = g;
+            g = self.alphabeta(0, test - 1, test, &mut known, out);
             passes += 1;
-        }
-        (test, passes)
-    }
-
-    fn below(&self, k: usize, test: i32, high: &mut [i32], not_below: &mut [bool], out: &mut Vec<usize>) -> bool {
-        if high[k] < test {
-            return true;
-        }
-        if not_below[k] {
-            return false;
-        }
-        let mut kids = self.kids[k].clone();
-        let answer;
-        if self.leaf(k) {
-            if high[k] == HIGH {
-                out.push(k);
-                high[k] = self.worth[k];
+            if g == test {
+                return (g, passes);
             }
-            answer = high[k] < test;
-        } else {
-            answer = if self.max[k] {
-                kids.all(|c| self.below(c, test, high, not_below, out))
-            } else {
-                kids.any(|c| self.below(c, test, high, not_below, out))
-            };
-            high[k] = self.best(k, high);
         }
-        not_below[k] = !answer;
-        answer
     }
 
     /// The end of the run: what stands for a value where it is finished, and the merit where it is spent; replacements.
     fn sss(&self, allowance: usize, out: &mut Vec<usize>) -> (Result<i32, i32>, usize) {
-        // (merit, leftmost first, node, solved); a purged state is dropped when it is taken
-        let mut list = BinaryHeap::from([(HIGH, 0isize, 0usize, false)]);
-        let mut purged = vec![false; self.n];
-        let mut steps = 0;
-        loop {
-            let (merit, _, k, solved) = list.pop().expect("a state is on the list");
-            let mut up = k;
-            while up != 0 && !purged[self.parent[up]] {
-                up = self.parent[up];
-            }
-            if up != 0 {
-                continue;
-            }
+        let mut list = List { states: BTreeSet::new(), at: vec![None; self.n] };
+        list.put((Reverse(HIGH), 0, 0, false));
+        for steps in 0.. {
+            let (Reverse(merit), _, k, solved) = list.take();
             if k == 0 && solved {
                 return (Ok(merit), steps);
             }
-            let kids = self.kids[k].clone();
-            let mut put = |m, k: usize, s| list.push((m, -(self.left[k] as isize), k, s));
-            if !solved && self.leaf(k) {
-                if out.len() == allowance {
-                    return (Err(merit), steps);
+            let mut put = |merit, k: usize, solved| list.put((Reverse(merit), self.left[k], k, solved));
+            let (kids, p) = (self.kids[k].clone(), self.parent[k]);
+            match solved {
+                false if self.leaf(k) && out.len() == allowance => return (Err(merit), steps),
+                false if self.leaf(k) => {
+                    out.push(k);
+                    put(merit.min(self.worth[k]), k, true);
                 }
-                out.push(k);
-                put(merit.min(self.worth[k]), k, true);
-            } else if !solved {
-                let some = if self.max[k] { kids } else { kids.start..kids.start + 1 };
-                some.for_each(|c| put(merit, c, false));
-            } else {
-                let p = self.parent[k];
-                if self.max[p] {
-                    purged[p] = true;
-                    put(merit, p, true);
-                } else if k + 1 < self.kids[p].end {
-                    put(merit, k + 1, false);
-                } else {
-                    put(merit, p, true);
+                false if self.max[k] => kids.for_each(|c| put(merit, c, false)),
+                false => put(merit, kids.start, false),
+                true if self.max[p] => {
+                    list.purge(self.left[p]..self.left[p] + self.size[p]);
+                    list.put((Reverse(merit), self.left[p], p, true));
                 }
+                true if k + 1 < self.kids[p].end => put(merit, k + 1, false),
+                true => put(merit, p, true),
             }
-            steps += 1;
         }
+        unreachable!("a run ends")
     }
 
     fn flags(&self, valued: &[u8]) -> Vec<u8> {
@@ -383,6 +376,31 @@ impl Tree {
     fn root_move(&self) -> Option<usize> {
         let value = self.fold(|k| self.worth[k]);
         self.kids[0].clone().find(|&c| value[c] == value[0])
+    }
+}
+
+/// The states on the list, and each by its place from the left; a node has one at most.
+struct List {
+    states: BTreeSet<State>,
+    at: Vec<Option<State>>,
+}
+
+impl List {
+    fn put(&mut self, state: State) {
+        self.states.insert(state);
+        self.at[state.1] = Some(state);
+    }
+
+    fn take(&mut self) -> State {
+        let state = self.states.pop_first().expect("a state is on the list");
+        self.at[state.1] = None;
+        state
+    }
+
+    fn purge(&mut self, places: Range<usize>) {
+        for state in self.at[places].iter_mut().filter_map(Option::take) {
+            self.states.remove(&state);
+        }
     }
 }
 
@@ -423,7 +441,7 @@ pub fn search(method: Method, table: &[u8], lent: Lent) -> Answer<Within> {
     let tree = Tree::new(table);
     let mut out = Vec::with_capacity(n);
     let (end, steps) = match method {
-        Method::AlphaBeta => (Ok(tree.alphabeta(0, LOW, HIGH, &mut out)), 0),
+        Method::AlphaBeta => (Ok(tree.alphabeta(0, LOW, HIGH, &mut tree.nothing_known(), &mut out)), 0),
         Method::Plain => {
             out.extend((0..n).filter(|&k| tree.leaf(k)));
             (Ok(tree.fold(|k| tree.worth[k])[0]), 0)
@@ -447,6 +465,26 @@ pub fn search(method: Method, table: &[u8], lent: Lent) -> Answer<Within> {
         }
         Err(merit) => Within::Spent(Spent { merit, leaves, replacements: steps }),
     })
+}
+
+/// Is a leaf evaluated by alpha-beta? Baudet's condition: of the minimax values of elder brothers on its path, the
+/// greatest below a Max node is less than the least below a Min node. For an accepted table.
+pub fn baudet(table: &[u8]) -> Vec<bool> {
+    let tree = Tree::new(table);
+    let value = tree.fold(|k| tree.worth[k]);
+    let mut window = vec![(LOW, HIGH); tree.n];
+    for k in 0..tree.n {
+        let (mut alpha, mut beta) = window[k];
+        for c in tree.kids[k].clone() {
+            window[c] = (alpha, beta);
+            if tree.max[k] {
+                alpha = alpha.max(value[c]);
+            } else {
+                beta = beta.min(value[c]);
+            }
+        }
+    }
+    (0..tree.n).map(|k| tree.leaf(k) && window[k].0 < window[k].1).collect()
 }
 
 // ---- certificates
