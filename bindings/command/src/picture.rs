@@ -25,8 +25,8 @@ const DEEP: usize = 10;
 const BEHIND: f64 = 60.0;
 const AWAY: f64 = 16.0;
 const NARROWEST: f64 = 620.0;
-/// How wide a character is at most, by and large, for its size.
-const WIDTH: f64 = 0.6;
+/// The size of the letters.
+const LETTERS: f64 = 11.0;
 /// Seconds from leaf to leaf of a small run, and of a whole run at most.
 const BEAT: f64 = 0.7;
 const LONGEST: f64 = 40.0;
@@ -48,6 +48,11 @@ path.f3{stroke:#5b3f8c;stroke-width:3.6}\
 .s.f1{fill:#1f6fb2;stroke:#1f6fb2}\
 .s.f2{fill:#c2562d;stroke:#c2562d}\
 .s.f3{fill:#5b3f8c;stroke:#5b3f8c}\
+.d{fill:#8a919e}\
+.d.f0{fill:#1f2430}\
+.d.f1{fill:#1f6fb2}\
+.d.f2{fill:#c2562d}\
+.d.f3{fill:#5b3f8c}\
 .c{fill:none;stroke:#1f2430;stroke-dasharray:2 2}\
 .k{fill:#eef0f4;stroke:#8a919e;stroke-width:.8}\
 .r{font-size:9px;text-anchor:middle}";
@@ -202,12 +207,12 @@ impl<'a> Picture<'a> {
         y += 6.0;
         let mut x = left;
         for (sign, text) in self.legend() {
-            let takes = 30.0 + wide(text);
+            let takes = 24.0 + wide(text);
             if x > left && x + takes > width {
                 (x, y) = (left, y + 18.0);
             }
             writeln!(out, "<g transform=\"translate({x:.1} {y})\">{sign}<text x=\"24\">{text}</text></g>")?;
-            x += takes + 8.0;
+            x += takes + 14.0;
         }
         Ok(y + 24.0)
     }
@@ -217,12 +222,15 @@ impl<'a> Picture<'a> {
         let mut lines = Vec::new();
         if let Some(search) = self.of.search {
             let Search { found, .. } = search;
-            let evaluated = format!("evaluated {} of {leaves} leaves", found.leaves);
-            lines.push(match self.of.method.as_deref() {
-                Some("ab") => format!("Alpha-beta {evaluated}; a number in a box is a leaf's place in the order."),
-                Some("mtd") => format!("MTD {evaluated} in {} passes; the boxes have their order.", found.steps),
-                Some("sss") => format!("SSS* {evaluated} in {} replacements; the boxes have their order.", found.steps),
-                _ => format!("The plain engine evaluated all {leaves} leaves."),
+            let (who, steps) = match self.of.method.as_deref() {
+                Some("ab") => ("Alpha-beta", String::new()),
+                Some("mtd") => ("MTD", format!(" in {} passes", found.steps)),
+                Some("sss") => ("SSS*", format!(" in {} replacements", found.steps)),
+                _ => ("The plain engine", String::new()),
+            };
+            lines.push(match search.order.len() {
+                0 => format!("{who} evaluated all {leaves} leaves."),
+                n => format!("{who} evaluated {n} of {leaves} leaves{steps}; the boxes number them in their order."),
             });
         }
         if self.of.certificate.is_some() {
@@ -231,7 +239,7 @@ impl<'a> Picture<'a> {
             lines.push(format!("The solution trees are those of a certificate with {flagged} of {leaves} leaves."));
         }
         if self.of.watch && self.rank.iter().any(Option::is_some) {
-            lines.push("The leaves light up in their order; a click on the ground starts again.".into());
+            lines.push("The leaves light up in their order; a click on the background starts again.".into());
         }
         lines
     }
@@ -321,18 +329,20 @@ impl<'a> Picture<'a> {
         }
         out.push_str(&if self.plan.max[k] { square(x, y, &class) } else { circle(x, y, 5.5, &class) });
         let above = y - if self.tree.second_capture(k) { 12.0 } else { 9.0 };
-        if self.root_move() == Some(k) {
-            write!(out, "<text class=\"n b\" x=\"{x}\" y=\"{above}\">{k}, the move</text>")?;
-        } else {
-            write!(out, "<text class=\"n\" x=\"{x}\" y=\"{above}\">{k}</text>")?;
-        }
+        self.number(out, k, "n", x, above)?;
         writeln!(out, "</g>")
+    }
+
+    /// The number of a node, and whether it is the move.
+    fn number(&self, out: &mut String, k: usize, class: &str, x: f64, y: f64) -> fmt::Result {
+        let (bold, text) = if self.root_move() == Some(k) { (" b", ", the move") } else { ("", "") };
+        write!(out, "<text class=\"{class}{bold}\" x=\"{x}\" y=\"{y}\">{k}{text}</text>")
     }
 
     fn leaf(&self, out: &mut String, k: usize) -> fmt::Result {
         let (x, y) = (self.x(k), self.y[k]);
         let evaluated = self.of.search.is_some_and(|s| s.evaluated[k] == 1);
-        let class = if self.seen[k] { format!("s f{}", self.flags[k]) } else { "s".into() };
+        let class = if self.seen[k] { format!("d f{}", self.flags[k]) } else { "d".into() };
         write!(out, "<g{}><title>{}</title>", if self.seen[k] { "" } else { " class=\"p\"" }, self.hint(k))?;
         let beats = self.rank[k].filter(|_| self.of.watch).map(|rank| rank as f64 * self.beat);
         let mut grows = String::new();
@@ -340,11 +350,11 @@ impl<'a> Picture<'a> {
             write!(out, "<set attributeName=\"opacity\" to=\".12\" begin=\"0s;ground.click\" dur=\"{at:.2}s\"/>")?;
             write!(
                 grows,
-                "<animate attributeName=\"r\" values=\"4;11;4\" begin=\"{at:.2}s;ground.click+{at:.2}s\" dur=\".6s\"/>"
+                "<animate attributeName=\"r\" values=\"3;9;3\" begin=\"{at:.2}s;ground.click+{at:.2}s\" dur=\".6s\"/>"
             )?;
         }
-        write!(out, "<circle class=\"{class}\" cx=\"{x}\" cy=\"{y}\" r=\"4\">{grows}</circle>")?;
-        write!(out, "<text class=\"n m\" x=\"{}\" y=\"{}\">{k}</text>", x + 4.0, y - 6.0)?;
+        write!(out, "<circle class=\"{class}\" cx=\"{x}\" cy=\"{y}\" r=\"3\">{grows}</circle>")?;
+        self.number(out, k, "n m", x + 4.0, y - 6.0)?;
         let mut at = x + 10.0;
         if let Some(rank) = self.rank[k] {
             let wide = 7.0 + 6.0 * rank.to_string().len() as f64;
@@ -394,9 +404,16 @@ impl<'a> Picture<'a> {
     }
 }
 
-/// How wide a text is at most, by and large.
+/// How wide a text is, by and large: in Helvetica.
 fn wide(text: &str) -> f64 {
-    11.0 * WIDTH * text.len() as f64
+    let widths = text.chars().map(|c| match c {
+        'f' | 'i' | 'j' | 'l' | 't' | ' ' | '.' | ',' | ':' => 0.28,
+        'r' | '(' | ')' | '-' => 0.33,
+        'c' | 'k' | 's' | 'v' | 'x' | 'y' | 'z' => 0.5,
+        'm' | 'w' | 'M' => 0.8,
+        _ => 0.56,
+    });
+    LETTERS * widths.sum::<f64>()
 }
 
 fn square(x: f64, y: f64, class: &str) -> String {
