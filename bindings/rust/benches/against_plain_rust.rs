@@ -8,11 +8,11 @@ use buulset::MAX_NODES;
 use model::{Lent, Method, Rng};
 use std::{hint::black_box, time::Instant};
 
-/// The least time of a call, over rounds of about a millisecond.
+/// The least time of a call, over 1,000 rounds of about a fifth of a millisecond: short enough to run between others.
 fn time(mut call: impl FnMut()) -> f64 {
     let start = Instant::now();
     call();
-    let rounds = (1e-3 / start.elapsed().as_secs_f64().max(1e-7)).ceil() as u32;
+    let rounds = (2e-4 / start.elapsed().as_secs_f64().max(1e-7)).ceil() as u32;
     let one = |_| {
         let start = Instant::now();
         for _ in 0..rounds {
@@ -20,7 +20,7 @@ fn time(mut call: impl FnMut()) -> f64 {
         }
         start.elapsed().as_secs_f64() / f64::from(rounds)
     };
-    1e6 * (0..20).map(one).fold(f64::INFINITY, f64::min)
+    1e6 * (0..1000).map(one).fold(f64::INFINITY, f64::min)
 }
 
 fn row(name: &str, t: &[u8]) {
