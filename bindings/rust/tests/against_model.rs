@@ -416,6 +416,11 @@ fn ends_of_the_range() {
             same("graft", &before, |b| buulset::graft(one, node, two, b), |b| model::graft(one, node, two, b)).ok();
         }
     }
+    // question 2, which no random input gets
+    let calls = "read write convert check alphabeta plain mtd sss verify shorter graft least_value fill";
+    for what in calls.split(' ') {
+        assert!(SEEN.lock().unwrap().contains_key(&(what, 2)), "{what}: 2 was never given");
+    }
 }
 
 #[test]
