@@ -72,7 +72,7 @@ leaf), the number of evaluated leaves, and the passes of mtd or the replacements
                 this; 32001 says nothing yet), the leaves and the replacements so far
 
   buulset search mtd samples/ending.tree
-  buulset search sss samples/ending.tree --leaves 3
+  buulset search sss samples/ending.tree --leaves 10
 ",
     ),
     (
