@@ -3,9 +3,9 @@
     gcc -shared -o libbuulset.so -Wl,--whole-archive libbuulset.a -Wl,--no-whole-archive
     BUULSET_SO=./libbuulset.so python3 -c 'import buulset; print(buulset.report(b"000000000007"))'
 
-`call(name, *arguments)` takes bytes where a call reads, a bytearray where it writes bytes, an
-array.array("H") for a list of leaves, and numbers; it gives one of the structures below, or a number. A number that does
-not fit its parameter is an error here, where ctypes would cut it."""
+`call(name, *arguments)` takes bytes where a call reads, a bytearray where it writes bytes, an array.array("H") for a
+list of leaves, and numbers; it gives one of the structures below, or a number. A number that does not fit its parameter
+is an error here, where ctypes would cut it."""
 import ctypes
 import os
 
