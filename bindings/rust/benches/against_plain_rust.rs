@@ -23,36 +23,44 @@ fn time(mut call: impl FnMut()) -> f64 {
     1e6 * (0..1000).map(one).fold(f64::INFINITY, f64::min)
 }
 
+/// Times both sides, and puts a cell of the table behind the others.
+macro_rules! cell {
+    ($cells:ident, $ours:expr, $theirs:expr) => {{
+        let ours = time(|| {
+            black_box($ours).ok();
+        });
+        let theirs = time(|| {
+            black_box($theirs).ok();
+        });
+        $cells.push(format!("{ours:.1} ({:.2})", ours / theirs));
+    }};
+}
+
 fn row(name: &str, t: &[u8]) {
-    let n = t.len() / 6;
-    let file = model::file(t);
-    let (mut e, mut c, mut o) = (vec![0; n], vec![0; n], vec![0; n]);
-    let (mut table, mut text, mut result) = (vec![0; 24576], vec![0; 53248], vec![0; 24576]);
-    let leaf = (0..n).rev().find(|&k| t[6 * k + 2] == 0).unwrap();
-    let wanted = i32::from(buulset::plain(t, &mut e, &mut c).unwrap().value);
-    let second = model::full(&mut Rng(9), 2, 3, 100);
-    let graftable = (0..n).find(|&k| model::graft(t, k, &second, &mut result).is_ok());
-    let tree = buulset::Tree::from_table(t.to_vec()).unwrap();
-    let (certificate, ab) = (tree.sss().certificate, tree.alphabeta().certificate);
     let mut cells = Vec::new();
-    macro_rules! cell {
-        ($ours:expr, $theirs:expr) => {{
-            let ours = time(|| {
-                black_box($ours).ok();
-            });
-            let theirs = time(|| {
-                black_box($theirs).ok();
-            });
-            cells.push(format!("{ours:.1} ({:.2})", ours / theirs));
-        }};
-    }
-    cell!(buulset::read(black_box(&file), &mut table), model::read(black_box(&file), &mut table));
-    cell!(buulset::write(black_box(t), &mut text), model::write(black_box(t), &mut text));
-    cell!(buulset::convert(black_box(&file), &mut text), model::convert(black_box(&file), &mut text));
-    cell!(buulset::check(black_box(t)), model::check(black_box(t)));
+    files(t, &mut cells);
+    searches(t, &mut cells);
+    trees(t, &mut cells);
+    let file = model::file(t);
+    cell!(cells, Ok::<_, ()>(buulset::report(black_box(&file))), Ok::<_, ()>(model::report(black_box(&file))));
+    println!("| {name} | {} |", cells.join(" | "));
+}
+
+fn files(t: &[u8], cells: &mut Vec<String>) {
+    let file = model::file(t);
+    let (mut table, mut text) = (vec![0; 24576], vec![0; 53248]);
+    cell!(cells, buulset::read(black_box(&file), &mut table), model::read(black_box(&file), &mut table));
+    cell!(cells, buulset::write(black_box(t), &mut text), model::write(black_box(t), &mut text));
+    cell!(cells, buulset::convert(black_box(&file), &mut text), model::convert(black_box(&file), &mut text));
+    cell!(cells, buulset::check(black_box(t)), model::check(black_box(t)));
+}
+
+fn searches(t: &[u8], cells: &mut Vec<String>) {
+    let n = t.len() / 6;
+    let (mut e, mut c, mut o) = (vec![0; n], vec![0; n], vec![0; n]);
     macro_rules! search {
         ($ours:expr, $method:expr) => {
-            cell!($ours, {
+            cell!(cells, $ours, {
                 let lent = Lent { evaluated: &mut e, certificate: &mut c, order: &mut o };
                 model::search($method, black_box(t), lent)
             })
@@ -62,20 +70,27 @@ fn row(name: &str, t: &[u8]) {
     search!(buulset::plain(black_box(t), &mut e, &mut c), Method::Plain);
     search!(buulset::mtd(black_box(t), &mut e, &mut c, &mut o), Method::Mtd);
     search!(buulset::sss(black_box(t), &mut e, &mut c, &mut o, MAX_NODES), Method::Sss(MAX_NODES));
-    cell!(buulset::verify(black_box(t), &certificate), model::verify(black_box(t), &certificate));
-    cell!(buulset::shorter(black_box(t), &ab, &certificate), model::shorter(black_box(t), &ab, &certificate));
-    match graftable {
+    let tree = buulset::Tree::from_table(t.to_vec()).unwrap();
+    let (sss, ab) = (tree.sss().certificate, tree.alphabeta().certificate);
+    cell!(cells, buulset::verify(black_box(t), &sss), model::verify(black_box(t), &sss));
+    cell!(cells, buulset::shorter(black_box(t), &ab, &sss), model::shorter(black_box(t), &ab, &sss));
+}
+
+fn trees(t: &[u8], cells: &mut Vec<String>) {
+    let (n, second, mut result) = (t.len() / 6, model::full(&mut Rng(9), 2, 3, 100), vec![0; 24576]);
+    let leaf = (0..n).rev().find(|&k| t[6 * k + 2] == 0).unwrap();
+    let wanted = i32::from(buulset::Tree::from_table(t.to_vec()).unwrap().plain().found.value);
+    match (0..n).find(|&k| model::graft(t, k, &second, &mut result).is_ok()) {
         Some(k) => cell!(
+            cells,
             buulset::graft(black_box(t), k, &second, &mut result),
             model::graft(black_box(t), k, &second, &mut result)
         ),
         None => cells.push("-".into()),
     }
-    cell!(buulset::least_value(black_box(t), leaf, wanted), model::least_value(black_box(t), leaf, wanted));
-    table[..t.len()].copy_from_slice(t);
-    cell!(buulset::fill(black_box(&mut table[..6 * n])), model::fill(black_box(&mut table[..6 * n])));
-    cell!(Ok::<_, ()>(buulset::report(black_box(&file))), Ok::<_, ()>(model::report(black_box(&file))));
-    println!("| {name} | {} |", cells.join(" | "));
+    cell!(cells, buulset::least_value(black_box(t), leaf, wanted), model::least_value(black_box(t), leaf, wanted));
+    let mut table = t.to_vec();
+    cell!(cells, buulset::fill(black_box(&mut table)), model::fill(black_box(&mut table)));
 }
 
 fn main() {

@@ -113,21 +113,43 @@ fn value_of(t: &[u8]) -> Result<i16, Refusal> {
     buulset::plain(t, &mut vec![0; n], &mut vec![0; n]).map(|f| f.value)
 }
 
-/// How many leaves alpha-beta evaluates.
-fn alphabeta_leaves(t: &[u8]) -> usize {
-    buulset::Tree::from_table(t.to_vec()).unwrap().alphabeta().found.leaves
+fn tree(accepted: &[u8]) -> buulset::Tree {
+    buulset::Tree::from_table(accepted.to_vec()).unwrap()
 }
 
 /// Every call that takes a table, on a table of about n nodes.
 fn compare_table(t: &[u8], n: usize, rng: &mut Rng) {
-    let none = || -> Vec<u8> { Vec::new() };
-    let accepted = same("check", &none(), |_| buulset::check(t), |_| model::check(t)).is_ok();
+    let accepted = same("check", &[], |_| buulset::check(t), |_| model::check(t)).is_ok();
+    if accepted {
+        let marks: Vec<bool> = tree(t).alphabeta().evaluated.iter().map(|&mark| mark == 1).collect();
+        assert_eq!(marks, model::baudet(t), "alpha-beta evaluates by Baudet's condition");
+    }
+    let certificates = compare_searches(t, n, rng);
+    compare_certificates(t, n, certificates, rng);
+    for room in [13 * n, 13 * n + rng.below(30), (13 * n).saturating_sub(1 + rng.below(13))] {
+        let before = lent(rng, room);
+        same("write", &before, |b| buulset::write(t, b), |b| model::write(t, b)).ok();
+    }
+    // children, of accepted tables and of any bytes
+    for _ in 0..3 {
+        let node = if rng.one_in(8) { rng.next() as usize } else { rng.below(t.len() / 6 + 2) };
+        assert_eq!(buulset::children(t, node), model::children(t, node));
+        saw("children", 0);
+    }
+    compare_least_value(t, n, rng);
+    let got = same("fill", t, buulset::fill, model::fill);
+    if accepted {
+        let leaves = tree(t).filled().0.alphabeta().found.leaves;
+        assert_eq!(Ok(leaves), got, "alpha-beta evaluates every leaf of the worst case");
+    }
+}
+
+/// Every search, with room enough and with room that may be short; the certificates that were found.
+fn compare_searches(t: &[u8], n: usize, rng: &mut Rng) -> Vec<Vec<u8>> {
     let rooms = [n, n + rng.below(9), n.saturating_sub(1 + rng.below(3))];
-    let mut certificates = vec![lent(rng, n)];
-    let allowance = rng.below(n + 2);
-    for method in
-        [Method::AlphaBeta, Method::Plain, Method::Mtd, Method::Sss(buulset::MAX_NODES), Method::Sss(allowance)]
-    {
+    let within = [buulset::MAX_NODES, rng.below(n + 2)].map(Method::Sss);
+    let mut certificates = Vec::new();
+    for method in [Method::AlphaBeta, Method::Plain, Method::Mtd].into_iter().chain(within) {
         let enough = [(); 3].map(|()| rng.pick(&rooms[..2]));
         if let Some((value, certificate)) = compare_search(method, t, enough, rng) {
             assert_eq!(buulset::verify(t, &certificate), Ok(value));
@@ -136,11 +158,15 @@ fn compare_table(t: &[u8], n: usize, rng: &mut Rng) {
         let some = [(); 3].map(|()| rng.pick(&rooms));
         compare_search(method, t, some, rng);
     }
-    // certificates: as found, of a tree of the same shape with other values, damaged, cut
-    if let Ok(tree) = buulset::Tree::from_table(t.to_vec()) {
-        let marks: Vec<bool> = tree.alphabeta().evaluated.iter().map(|&mark| mark == 1).collect();
-        assert_eq!(marks, model::baudet(t), "alpha-beta evaluates by Baudet's condition");
-        certificates.push(tree.filled().0.mtd().certificate);
+    certificates
+}
+
+/// The calls on certificates: any bytes, as found, of a tree of the same shape with other values, damaged, cut.
+fn compare_certificates(t: &[u8], n: usize, found: Vec<Vec<u8>>, rng: &mut Rng) {
+    let mut certificates = vec![lent(rng, n)];
+    certificates.extend(found);
+    if buulset::check(t).is_ok() {
+        certificates.push(tree(t).filled().0.mtd().certificate);
     }
     let mut damaged = certificates[certificates.len() - 1].clone();
     if !damaged.is_empty() {
@@ -152,11 +178,11 @@ fn compare_table(t: &[u8], n: usize, rng: &mut Rng) {
     certificates.push(damaged);
     certificates.push(certificates[0][..n.saturating_sub(1)].to_vec());
     for c in &certificates {
-        same("verify", &none(), |_| buulset::verify(t, c), |_| model::verify(t, c)).ok();
+        same("verify", &[], |_| buulset::verify(t, c), |_| model::verify(t, c)).ok();
     }
     for _ in 0..4 {
         let (a, b) = (&certificates[rng.below(certificates.len())], &certificates[rng.below(certificates.len())]);
-        let got = same("shorter", &none(), |_| buulset::shorter(t, a, b), |_| model::shorter(t, a, b));
+        let got = same("shorter", &[], |_| buulset::shorter(t, a, b), |_| model::shorter(t, a, b));
         if let Ok(part) = got {
             assert!(part.as_ptr() == a.as_ptr() || part.as_ptr() == b.as_ptr(), "a part of one of the two");
             if part.as_ptr() == b.as_ptr() && a.as_ptr() != b.as_ptr() {
@@ -164,18 +190,10 @@ fn compare_table(t: &[u8], n: usize, rng: &mut Rng) {
             }
         }
     }
-    // writing
-    for room in [13 * n, 13 * n + rng.below(30), (13 * n).saturating_sub(1 + rng.below(13))] {
-        let before = lent(rng, room);
-        same("write", &before, |b| buulset::write(t, b), |b| model::write(t, b)).ok();
-    }
-    // children, of accepted tables and of any bytes
-    for _ in 0..3 {
-        let node = if rng.one_in(8) { rng.next() as usize } else { rng.below(t.len() / 6 + 2) };
-        assert_eq!(buulset::children(t, node), model::children(t, node));
-        saw("children", 0);
-    }
-    // a leaf's value
+}
+
+/// A leaf's value for values about the root's, at the borders, and out of range.
+fn compare_least_value(t: &[u8], n: usize, rng: &mut Rng) {
     let root = value_of(t).map_or(0, i32::from);
     for _ in 0..3 {
         let node = if rng.one_in(3) { rng.below(n + 2) } else { n.saturating_sub(1 + rng.below(n / 2 + 1)) };
@@ -186,24 +204,12 @@ fn compare_table(t: &[u8], n: usize, rng: &mut Rng) {
             3 => rng.pick(&[32000, 32001, -32000, -32001, i32::MAX, i32::MIN, 0]),
             _ => i32::from(rng.value(5)),
         };
-        let got = same(
-            "least_value",
-            &none(),
-            |_| buulset::least_value(t, node, wanted),
-            |_| model::least_value(t, node, wanted),
-        );
-        if let Ok(value) = got {
+        let ours = |_: &mut [u8]| buulset::least_value(t, node, wanted);
+        if let Ok(value) = same("least_value", &[], ours, |_| model::least_value(t, node, wanted)) {
             let mut with = t.to_vec();
             with[6 * node + 4..6 * node + 6].copy_from_slice(&value.to_be_bytes());
             assert_eq!(value_of(&with).map(i32::from), Ok(wanted), "the value does what is wanted");
         }
-    }
-    // filling
-    let got = same("fill", t, buulset::fill, model::fill);
-    if accepted {
-        let mut filled = t.to_vec();
-        buulset::fill(&mut filled).unwrap();
-        assert_eq!(Ok(alphabeta_leaves(&filled)), got, "alpha-beta evaluates every leaf of the worst case");
     }
 }
 
@@ -300,6 +306,12 @@ fn tables() {
             compare_graft(&last, &t, &mut rng);
         }
     }
+    every_answer_was_given();
+    println!("{rounds} rounds of trees; {} comparisons so far", compared());
+}
+
+/// Every answer that a call on tables can give.
+fn every_answer_was_given() {
     let table = [0, 1, 3, 4, 5, 6, 7, 8, 9];
     let with = |more: &[u8]| [&table, more].concat();
     was_given("check", &table);
@@ -314,7 +326,6 @@ fn tables() {
     was_given("least_value", &with(&[19, 20, 21]));
     was_given("spent", &[0]);
     was_given("the second", &[0]);
-    println!("{rounds} rounds of trees; {} comparisons so far", compared());
 }
 
 #[test]
@@ -400,6 +411,15 @@ fn ends_of_the_range() {
         compare_table(&t, t.len() / 6, &mut rng);
         compare_file(&model::file(&t), &mut rng);
     }
+    grafts_at_the_limits(&mut rng);
+    // question 2, which no random input gets
+    let calls = "read write convert check alphabeta plain mtd sss verify shorter graft least_value fill";
+    for what in calls.split(' ') {
+        assert!(SEEN.lock().unwrap().contains_key(&(what, 2)), "{what}: 2 was never given");
+    }
+}
+
+fn grafts_at_the_limits(rng: &mut Rng) {
     // the most nodes, and one more, by a graft onto a leaf at depth 2
     for (n, m) in [(4096, 1), (4095, 1), (4095, 2), (4094, 3), (4096, 2), (2048, 2049), (2048, 2050), (1641, 2456)] {
         let (one, two) = (model::sized(n), model::sized(m));
@@ -409,17 +429,12 @@ fn ends_of_the_range() {
         assert_eq!(got.is_ok(), n + m <= 4097);
     }
     // grafts at the limits of depth
-    let (chain, fan) = (model::full(&mut rng, 1, 9, 3), model::full(&mut rng, 15, 3, 3));
+    let (chain, fan) = (model::full(rng, 1, 9, 3), model::full(rng, 15, 3, 3));
     for (one, two) in [(&chain, &chain), (&fan, &chain), (&fan, &fan), (&chain, &fan)] {
         for node in 0..one.len() / 6 {
             let before = vec![9; 24576];
             same("graft", &before, |b| buulset::graft(one, node, two, b), |b| model::graft(one, node, two, b)).ok();
         }
-    }
-    // question 2, which no random input gets
-    let calls = "read write convert check alphabeta plain mtd sss verify shorter graft least_value fill";
-    for what in calls.split(' ') {
-        assert!(SEEN.lock().unwrap().contains_key(&(what, 2)), "{what}: 2 was never given");
     }
 }
 
