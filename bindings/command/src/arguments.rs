@@ -84,12 +84,16 @@ impl Arguments {
         digits.parse().map_err(|_| self.wrong(format!("{what} is no number that fits: {text}")))
     }
 
+    pub fn is_empty(&self) -> bool {
+        self.words.len() == 0
+    }
+
     /// All words that are left.
     pub fn rest(&mut self) -> Vec<OsString> {
         self.words.by_ref().collect()
     }
 
-    /// No word is left, and standard input is named once at most.
+    /// No word is left.
     pub fn end(&mut self) -> Result<(), Failure> {
         match self.words.next() {
             None => Ok(()),

@@ -113,19 +113,16 @@ const STRUCK_TEXT: &str = "15: struck, and not used again.\n    \
 
 pub fn run(words: Vec<OsString>) -> Done {
     let mut arguments = Arguments::new("explain", words, &[], &[])?;
-    let words = arguments.rest();
-    let text = match words.first() {
-        None => (1..=23).map(|n| question(n).map_or(STRUCK_TEXT.into(), Question::text)).collect(),
-        Some(_) => {
-            let mut arguments = Arguments::new("explain", words, &[], &[])?;
-            let number: u8 = arguments.number("NUMBER")?;
-            arguments.end()?;
-            match question(number) {
-                Some(question) => question.text(),
-                None if number == STRUCK => STRUCK_TEXT.into(),
-                None => return Err(arguments.wrong(format!("there is no question {number}: they are 1 to 23"))),
-            }
-        }
+    if arguments.is_empty() {
+        let all: String = (1..=23).map(|n| question(n).map_or(STRUCK_TEXT.into(), Question::text)).collect();
+        return files::print(all.as_bytes());
+    }
+    let number: u8 = arguments.number("NUMBER")?;
+    arguments.end()?;
+    let text = match question(number) {
+        Some(question) => question.text(),
+        None if number == STRUCK => STRUCK_TEXT.into(),
+        None => return Err(arguments.wrong(format!("there is no question {number}: they are 1 to 23"))),
     };
     files::print(text.as_bytes())
 }
