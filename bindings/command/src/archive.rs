@@ -70,9 +70,10 @@ pub fn run(names: &[OsString], how: How, make: impl Fn(&OsStr) -> Result<Made, F
     }
 }
 
-type Result1 = (usize, Result<Made, Failure>);
+/// The result of a file, with its place among the names.
+type Numbered = (usize, Result<Made, Failure>);
 
-fn in_order(names: &[OsString], how: &How, results: mpsc::Receiver<Result1>, tally: &mut Tally) -> Done {
+fn in_order(names: &[OsString], how: &How, results: mpsc::Receiver<Numbered>, tally: &mut Tally) -> Done {
     let mut progress = Progress::new(how, names.len());
     let (mut waiting, mut next, mut out) = (BTreeMap::new(), 0, Vec::new());
     for (k, result) in results {
