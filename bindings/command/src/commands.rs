@@ -1,4 +1,4 @@
-//! The commands, one a row of the table in README.
+//! The commands, one a row of the table in docs/COMMAND.md.
 use crate::archive::{self, How, Made};
 use crate::arguments::Arguments;
 use crate::{explain, files, help, hints, picture, plan::Plan, Done, Failure};
