@@ -16,32 +16,8 @@ Inv-loop bounds from to side at₀ value₀ at value =
 abbrev μ-loop : tie.MeasureT-loop
 μ-loop bounds from to side at₀ value₀ at value = at - from
 
-sub-at : tie.Need-sub-at Inv-loop μ-loop
-sub-at c = search needs
-
-mul-value : tie.Need-mul-value Inv-loop μ-loop
-mul-value c = search needs
-
-shared-slice-read-value : tie.Need-shared-slice-read-value Inv-loop μ-loop
-shared-slice-read-value c = search needs
-
 loop-holds : tie.Need-loop-holds Inv-loop μ-loop
 loop-holds c = (omega arith, omega arith, sym (best-last _ _ _ _ (omega arith)))
-
-sub-at-2 : tie.Need-sub-at-2 Inv-loop μ-loop
-sub-at-2 c = search needs
-
-mul-better : tie.Need-mul-better Inv-loop μ-loop
-mul-better c = search needs
-
-shared-slice-read-better : tie.Need-shared-slice-read-better Inv-loop μ-loop
-shared-slice-read-better c = search needs
-
-better-requires : tie.Need-better-requires Inv-loop μ-loop
-better-requires c κs = search needs
-
-loop-less : tie.Need-loop-less Inv-loop μ-loop
-loop-less c = search needs
 
 loop-again : tie.Need-loop-again Inv-loop μ-loop
 loop-again c =
@@ -59,14 +35,14 @@ best-spec =
     (tie.spec
     Inv-loop
     μ-loop
-    sub-at
-    mul-value
-    shared-slice-read-value
+    (λ c. search needs)
+    (λ c. search needs)
+    (λ c. search needs)
     loop-holds
-    sub-at-2
-    mul-better
-    shared-slice-read-better
-    better-requires
-    loop-less
+    (λ c. search needs)
+    (λ c. search needs)
+    (λ c. search needs)
+    (λ c κs. search needs)
+    (λ c. search needs)
     loop-again
     returns)

@@ -17,12 +17,6 @@ fits c =
     let l = next-fits _ (p .1) (p .0) in
     (omega (arith, l, p .1 .room), omega (arith, l, p .1 .few))
 
-evaluate-requires : tie.Need-evaluate-requires
-evaluate-requires c κs = search needs
-
-cast-order : tie.Need-cast-order
-cast-order c = search needs
-
 mul-order : tie.Need-mul-order
 mul-order c = omega (arith, fits c .1)
 
@@ -32,24 +26,15 @@ slice-write-order c = fits c .0
 add-leaves : tie.Need-add-leaves
 add-leaves c = omega (arith, fits c .1)
 
-same-length : tie.Need-same-length
-same-length c = search needs
-
-same-length-2 : tie.Need-same-length-2
-same-length-2 c = search needs
-
-returns : tie.Need-returns
-returns c = search needs
-
 pub evaluate-next-spec : {M : Type 1} → statement M
 evaluate-next-spec =
     tie.close
     (tie.spec
-    evaluate-requires
-    cast-order
+    (λ c κs. search needs)
+    (λ c. search needs)
     mul-order
     slice-write-order
     add-leaves
-    same-length
-    same-length-2
-    returns)
+    (λ c. search needs)
+    (λ c. search needs)
+    (λ c. search needs))

@@ -25,16 +25,10 @@ abbrev μ-loop : tie.MeasureT-loop
 abbrev at-start : tie.In-loop Inv-loop μ-loop → tie.Start Inv-loop μ-loop
 at-start c = c .before .before .before .before .before .before .before .before
 
-frame-count-requires : tie.Need-frame-count-requires Inv-loop μ-loop
-frame-count-requires c κs = search needs
-
 loop-holds : tie.Need-loop-holds Inv-loop μ-loop
 loop-holds c =
     let a = c .before .before .before .before .before .before in
     rw (c .frame-count .ensures) (refl, rising-begins _ (a .pre .1 .0), rising-begins _ (a .pre .1 .1))
-
-sub-node : tie.Need-sub-node Inv-loop μ-loop
-sub-node c = search needs
 
 node-bounds-requires : tie.Need-node-bounds-requires Inv-loop μ-loop
 node-bounds-requires c κs =
@@ -74,9 +68,6 @@ slice-write-highs c =
     let l = c .before .before .before .before .before .before in
     omega (arith, inside l, l .before .loop .inv .2 .room)
 
-loop-less : tie.Need-loop-less Inv-loop μ-loop
-loop-less c = search needs
-
 loop-again : tie.Need-loop-again Inv-loop μ-loop
 loop-again c =
     let l = c .before .before .before .before .before .before in
@@ -108,15 +99,15 @@ fill-bounds-spec =
     (tie.spec
     Inv-loop
     μ-loop
-    frame-count-requires
+    (λ c κs. search needs)
     loop-holds
-    sub-node
+    (λ c. search needs)
     node-bounds-requires
     mul-lows
     slice-write-lows
     mul-highs
     slice-write-highs
-    loop-less
+    (λ c. search needs)
     loop-again
     same-length
     same-length-2

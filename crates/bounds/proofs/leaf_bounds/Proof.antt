@@ -5,15 +5,6 @@ use borrow.Author.Needs.{needs}
 use Rattle.bounds.proofs.leaf_bounds.Statement.{statement}
 use Rattle.bounds.proofs.leaf_bounds.Tie as tie
 
-slice-read-if1 : tie.Need-slice-read-if1
-slice-read-if1 c = search needs
-
-read-leaf-requires : tie.Need-read-leaf-requires
-read-leaf-requires c κs = search needs
-
-same-length : tie.Need-same-length
-same-length c = search needs
-
 returns : tie.Need-returns
 returns c =
     let a = c .before .before .before .before .before .before .before .before .args in
@@ -29,4 +20,4 @@ returns-2 c =
     (bounds-unmarked (a .table .now) (a .evaluated .now) (a .node) (c .if1 .left), refl)
 
 pub leaf-bounds-spec : {M : Type 1} → statement M
-leaf-bounds-spec = tie.close (tie.spec slice-read-if1 read-leaf-requires same-length returns returns-2)
+leaf-bounds-spec = tie.close (tie.spec (λ c. search needs) (λ c κs. search needs) (λ c. search needs) returns returns-2)

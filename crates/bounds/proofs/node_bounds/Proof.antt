@@ -12,12 +12,6 @@ use borrow.Author.Needs.{needs}
 use Rattle.bounds.proofs.node_bounds.Statement.{statement}
 use Rattle.bounds.proofs.node_bounds.Tie as tie
 
-child-count-requires : tie.Need-child-count-requires
-child-count-requires c κs = search needs
-
-depth-at-requires : tie.Need-depth-at-requires
-depth-at-requires c κs = search needs
-
 leaf-bounds-requires : tie.Need-leaf-bounds-requires
 leaf-bounds-requires c κs =
     let a = c .before .before .before .before .before .before .before .before .before in
@@ -25,9 +19,6 @@ leaf-bounds-requires c κs =
     let p = a .pre .0 .1 in
     let d = c .depth-at .ensures ∙ placed-depth _ _ p _ h in
     ((h, omega arith), (d, omega (arith, d, placed-few _ _ p _ h)))
-
-same-length : tie.Need-same-length
-same-length c = search needs
 
 returns : tie.Need-returns
 returns c =
@@ -40,15 +31,6 @@ returns c =
           (bound-leaf _ (a .pre .0 .0) E greatest _ h (omega arith)),
       e .1,
     )
-
-first-child-requires : tie.Need-first-child-requires
-first-child-requires c κs = search needs
-
-add-end : tie.Need-add-end
-add-end c = search needs
-
-side-at-requires : tie.Need-side-at-requires
-side-at-requires c κs = search needs
 
 -- the children lie within the table
 within : (c : tie.After-first-child) →
@@ -84,14 +66,14 @@ pub node-bounds-spec : {M : Type 1} → statement M
 node-bounds-spec =
     tie.close
     (tie.spec
-    child-count-requires
-    depth-at-requires
+    (λ c κs. search needs)
+    (λ c κs. search needs)
     leaf-bounds-requires
-    same-length
+    (λ c. search needs)
     returns
-    first-child-requires
-    add-end
-    side-at-requires
+    (λ c κs. search needs)
+    (λ c. search needs)
+    (λ c κs. search needs)
     best-requires
     best-requires-2
     returns-2)

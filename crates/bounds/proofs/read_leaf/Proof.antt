@@ -6,15 +6,6 @@ use borrow.Author.Needs.{needs}
 use Rattle.bounds.proofs.read_leaf.Statement.{statement}
 use Rattle.bounds.proofs.read_leaf.Tie as tie
 
-slice-write-evaluated : tie.Need-slice-write-evaluated
-slice-write-evaluated c = search needs
-
-leaf-score-requires : tie.Need-leaf-score-requires
-leaf-score-requires c κs = search needs
-
-same-length : tie.Need-same-length
-same-length c = search needs
-
 returns : tie.Need-returns
 unfolding valuation
 returns c =
@@ -24,4 +15,4 @@ returns c =
     ((e, c .leaf-score .ensures .1), refl)
 
 pub read-leaf-spec : {M : Type 1} → statement M
-read-leaf-spec = tie.close (tie.spec slice-write-evaluated leaf-score-requires same-length returns)
+read-leaf-spec = tie.close (tie.spec (λ c. search needs) (λ c κs. search needs) (λ c. search needs) returns)

@@ -7,11 +7,8 @@ use Rattle.flags.proofs.apart.Tie as tie
 returns : tie.Need-returns
 returns c = none-chosen 0 _ _ _ (c .if1 .taken)
 
-chosen-child-requires : tie.Need-chosen-child-requires
-chosen-child-requires c κs = search needs
-
 returns-2 : tie.Need-returns-2
 returns-2 c = λ k. rw (c .chosen-child .ensures)
 
 pub apart-spec : {M : Type 1} → statement M
-apart-spec = tie.close (tie.spec returns chosen-child-requires returns-2)
+apart-spec = tie.close (tie.spec returns (λ c κs. search needs) returns-2)

@@ -20,26 +20,11 @@ abbrev μ-loop : tie.MeasureT-loop
 loop-holds : tie.Need-loop-holds Inv-loop μ-loop
 loop-holds c = run-begins _ _ _ _ (omega arith)
 
-slice-write-certificate : tie.Need-slice-write-certificate Inv-loop μ-loop
-slice-write-certificate c = search needs
-
-slice-write-certificate-2 : tie.Need-slice-write-certificate-2 Inv-loop μ-loop
-slice-write-certificate-2 c = search needs
-
-add-child : tie.Need-add-child Inv-loop μ-loop
-add-child c = search needs
-
-loop-less : tie.Need-loop-less Inv-loop μ-loop
-loop-less c = search needs
-
 loop-again : tie.Need-loop-again Inv-loop μ-loop
 loop-again c =
     let r = c .before .before .loop .inv in
     ⊎-elim (λ w. run-step _ _ _ _ _ _ _ _ (omega arith) (rw (eq-eqb _ _ (w .0 .taken))) (w .1) r)
     (λ w. run-step _ _ _ _ _ _ _ _ (omega arith) (rw (ne-eqb _ _ (w .0 .left))) (w .1) r) (c .if1 .came)
-
-same-length : tie.Need-same-length Inv-loop μ-loop
-same-length c = search needs
 
 returns : tie.Need-returns Inv-loop μ-loop
 returns c = run-ends _ _ _ _ _ _ (omega arith) (c .before .loop .inv)
@@ -51,10 +36,10 @@ flag-children-spec =
     Inv-loop
     μ-loop
     loop-holds
-    slice-write-certificate
-    slice-write-certificate-2
-    add-child
-    loop-less
+    (λ c. search needs)
+    (λ c. search needs)
+    (λ c. search needs)
+    (λ c. search needs)
     loop-again
-    same-length
+    (λ c. search needs)
     returns)

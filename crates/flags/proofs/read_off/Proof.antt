@@ -19,15 +19,6 @@ root-within t wf = omega (arith, next-within t wf 1 (wf .some))
 from-one : {n m : ℕ} → n ≡ m → 1 + n - 1 ≡ m
 from-one e = omega arith
 
-write-certificate-requires : tie.Need-write-certificate-requires
-write-certificate-requires c κs = search needs
-
-child-count-requires : tie.Need-child-count-requires
-child-count-requires c κs = search needs
-
-add-end : tie.Need-add-end
-add-end c = search needs
-
 chosen-child-requires : tie.Need-chosen-child-requires
 chosen-child-requires c κs =
     let a = c .before .before .before .before .before .before .before .before .before .before .pre in
@@ -36,9 +27,6 @@ chosen-child-requires c κs =
       (omega (arith, end), omega (arith, end), omega (arith, end)),
       (omega arith, omega (arith, end, n), omega (arith, end, n)),
     )
-
-same-length : tie.Need-same-length
-same-length c = search needs
 
 returns : tie.Need-returns
 returns c =
@@ -49,9 +37,9 @@ pub read-off-spec : {M : Type 1} → statement M
 read-off-spec =
     tie.close
     (tie.spec
-    write-certificate-requires
-    child-count-requires
-    add-end
+    (λ c κs. search needs)
+    (λ c κs. search needs)
+    (λ c. search needs)
     chosen-child-requires
-    same-length
+    (λ c. search needs)
     returns)

@@ -39,9 +39,6 @@ within c =
 slice-write-certificate : tie.Need-slice-write-certificate Inv-loop μ-loop
 slice-write-certificate c = omega (arith, c .before .before .before .before .before .pre .0 .some)
 
-frame-count-requires : tie.Need-frame-count-requires Inv-loop μ-loop
-frame-count-requires c κs = search needs
-
 loop-holds : tie.Need-loop-holds Inv-loop μ-loop
 loop-holds c =
     let a = c .before .before .before .before .before .before in
@@ -63,9 +60,6 @@ slice-read-flag c = let l = c .before .before in omega (arith, inside l, l .befo
 
 side-at-requires : tie.Need-side-at-requires Inv-loop μ-loop
 side-at-requires c κs = omega (arith, inside (c .before .before))
-
-own-part-requires : tie.Need-own-part-requires Inv-loop μ-loop
-own-part-requires c κs = search needs
 
 apart-requires : tie.Need-apart-requires Inv-loop μ-loop
 apart-requires c κs =
@@ -118,13 +112,13 @@ write-certificate-spec =
     Inv-loop
     μ-loop
     slice-write-certificate
-    frame-count-requires
+    (λ c κs. search needs)
     loop-holds
     child-count-requires
     add-end
     slice-read-flag
     side-at-requires
-    own-part-requires
+    (λ c κs. search needs)
     apart-requires
     flag-children-requires
     add-node

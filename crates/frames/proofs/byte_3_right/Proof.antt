@@ -26,17 +26,11 @@ module _ (t : List ℕ) (i : ℕ) where
     root-wrong : i ≡ 0 → false ≡ byte3Right t i
     root-wrong z = rw (ne-eqb (byte3 t i) 0 n, z)
 
-byte-3-requires : tie.Need-byte-3-requires
-byte-3-requires c κs = search needs
-
 returns : tie.Need-returns
 returns c =
     let b = c .before in
     let a = b .before .before .args in
     zero-right (a .table .now) (a .node) (omega (arith, b .byte-3 .ensures .0))
-
-child-count-requires : tie.Need-child-count-requires
-child-count-requires c κs = search needs
 
 returns-2 : tie.Need-returns-2
 returns-2 c =
@@ -63,4 +57,4 @@ returns-4 c =
 
 pub byte-3-right-spec : {M : Type 1} → statement M
 byte-3-right-spec =
-    tie.close (tie.spec byte-3-requires returns child-count-requires returns-2 returns-3 returns-4)
+    tie.close (tie.spec (λ c κs. search needs) returns (λ c κs. search needs) returns-2 returns-3 returns-4)

@@ -6,15 +6,6 @@ use borrow.Author.Needs.{needs}
 use Rattle.frames.proofs.byte_of.Statement.{statement}
 use Rattle.frames.proofs.byte_of.Tie as tie
 
-mul-result : tie.Need-mul-result
-mul-result c = search needs
-
-add-result : tie.Need-add-result
-add-result c = search needs
-
-shared-slice-read-result : tie.Need-shared-slice-read-result
-shared-slice-read-result c = search needs
-
 cast-result : tie.Need-cast-result
 cast-result c = omega (arith, c .shared-slice-known .given (6 * c .before .args .node + c .before .args .k))
 
@@ -23,4 +14,4 @@ returns c = (refl, omega (arith, c .shared-slice-known .given (6 * c .before .ar
 
 pub byte-of-spec : {M : Type 1} → statement M
 byte-of-spec =
-    tie.close (tie.spec mul-result add-result shared-slice-read-result cast-result returns)
+    tie.close (tie.spec (λ c. search needs) (λ c. search needs) (λ c. search needs) cast-result returns)

@@ -6,12 +6,6 @@ use Rattle.frames.specs.Frame.{byte3, sameMover}
 use Rattle.frames.proofs.child_side.Statement.{statement}
 use Rattle.frames.proofs.child_side.Tie as tie
 
-other-requires : tie.Need-other-requires
-other-requires c κs = search needs
-
-byte-3-requires : tie.Need-byte-3-requires
-byte-3-requires c κs = search needs
-
 returns : tie.Need-returns
 returns c =
     let b = c .before in
@@ -29,4 +23,4 @@ returns-2 c =
     )
 
 pub child-side-spec : {M : Type 1} → statement M
-child-side-spec = tie.close (tie.spec other-requires byte-3-requires returns returns-2)
+child-side-spec = tie.close (tie.spec (λ c κs. search needs) (λ c κs. search needs) returns returns-2)

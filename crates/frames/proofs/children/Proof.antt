@@ -29,56 +29,8 @@ module _ (t : List ℕ) (i f k : ℕ) (h : i < frames t) (p : f ≡ firstChild t
       let l : frameSize * (f + k) - frameSize * f ≡ frameSize * k = omega arith in
       rw (lt-ltb _ _ h, ← p, ← q, le-leb _ _ r, l)
 
-frame-count-requires : tie.Need-frame-count-requires
-frame-count-requires c κs = search needs
-
-sub-result : tie.Need-sub-result
-sub-result c = search needs
-
-part-result-start : tie.Need-part-result-start
-part-result-start c = search needs
-
-part-result-end : tie.Need-part-result-end
-part-result-end c = search needs
-
 returns : tie.Need-returns
 returns c = past _ _ (omega arith)
-
-first-child-requires : tie.Need-first-child-requires
-first-child-requires c κs = search needs
-
-child-count-requires : tie.Need-child-count-requires
-child-count-requires c κs = search needs
-
-add-end : tie.Need-add-end
-add-end c = search needs
-
-frame-count-requires-2 : tie.Need-frame-count-requires-2
-frame-count-requires-2 c κs = search needs
-
-mul-from : tie.Need-mul-from
-mul-from c = search needs
-
-mul-to : tie.Need-mul-to
-mul-to c = search needs
-
-sub-result-2 : tie.Need-sub-result-2
-sub-result-2 c = search needs
-
-part-result-start-2 : tie.Need-part-result-start-2
-part-result-start-2 c = search needs
-
-part-result-end-2 : tie.Need-part-result-end-2
-part-result-end-2 c = search needs
-
-sub-result-3 : tie.Need-sub-result-3
-sub-result-3 c = search needs
-
-part-result-start-3 : tie.Need-part-result-start-3
-part-result-start-3 c = search needs
-
-part-result-end-3 : tie.Need-part-result-end-3
-part-result-end-3 c = search needs
 
 returns-2 : tie.Need-returns-2
 returns-2 c =
@@ -94,22 +46,22 @@ pub children-spec : {M : Type 1} → statement M
 children-spec =
     tie.close
     (tie.spec
-    frame-count-requires
-    sub-result
-    part-result-start
-    part-result-end
+    (λ c κs. search needs)
+    (λ c. search needs)
+    (λ c. search needs)
+    (λ c. search needs)
     returns
-    first-child-requires
-    child-count-requires
-    add-end
-    frame-count-requires-2
-    mul-from
-    mul-to
-    sub-result-2
-    part-result-start-2
-    part-result-end-2
-    sub-result-3
-    part-result-start-3
-    part-result-end-3
+    (λ c κs. search needs)
+    (λ c κs. search needs)
+    (λ c. search needs)
+    (λ c κs. search needs)
+    (λ c. search needs)
+    (λ c. search needs)
+    (λ c. search needs)
+    (λ c. search needs)
+    (λ c. search needs)
+    (λ c. search needs)
+    (λ c. search needs)
+    (λ c. search needs)
     returns-2
     returns-3)

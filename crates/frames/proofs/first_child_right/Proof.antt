@@ -28,12 +28,6 @@ module _ (t : List ℕ) (i f : ℕ) (p : f ≡ firstChild t i) where
     in-place : firstChild t i ≡ next t i → ltb i f ≡ firstChildRight t i (childCount t i)
     in-place g = rw (p, inner t i (childCount t i) h, eq-eqb (firstChild t i) (next t i) g)
 
-first-child-requires : tie.Need-first-child-requires
-first-child-requires c κs = search needs
-
-child-count-requires : tie.Need-child-count-requires
-child-count-requires c κs = search needs
-
 returns : tie.Need-returns
 returns c =
     let f = c .before .before in
@@ -54,4 +48,4 @@ returns-3 c =
 
 pub first-child-right-spec : {M : Type 1} → statement M
 first-child-right-spec =
-    tie.close (tie.spec first-child-requires child-count-requires returns returns-2 returns-3)
+    tie.close (tie.spec (λ c κs. search needs) (λ c κs. search needs) returns returns-2 returns-3)

@@ -5,12 +5,6 @@ use Rattle.frames.specs.Tree.{leafScore}
 use Rattle.frames.proofs.leaf_score.Statement.{statement}
 use Rattle.frames.proofs.leaf_score.Tie as tie
 
-stored-score-requires : tie.Need-stored-score-requires
-stored-score-requires c κs = search needs
-
-score-at-requires : tie.Need-score-at-requires
-score-at-requires c κs = search needs
-
 returns : tie.Need-returns
 returns c =
     let s = c .before in
@@ -18,4 +12,4 @@ returns c =
     (e .0 ∙ ap (leafScore (s .before .before .args .depth)) (s .stored-score .ensures .0), e .1)
 
 pub leaf-score-spec : {M : Type 1} → statement M
-leaf-score-spec = tie.close (tie.spec stored-score-requires score-at-requires returns)
+leaf-score-spec = tie.close (tie.spec (λ c κs. search needs) (λ c κs. search needs) returns)

@@ -5,14 +5,8 @@ use Rattle.frames.proofs.Worth.{score-won, score-lost, score-other}
 use Rattle.frames.proofs.score_at.Statement.{statement}
 use Rattle.frames.proofs.score_at.Tie as tie
 
-sub-result : tie.Need-sub-result
-sub-result c = search needs
-
 returns : tie.Need-returns
 returns c = let a = c .before .args in (rw (score-won (a .depth) (a .stored) (c .if1 .taken)), omega arith)
-
-add-result : tie.Need-add-result
-add-result c = search needs
 
 returns-2 : tie.Need-returns-2
 returns-2 c = let a = c .before .before .args in (rw (score-lost (a .depth) (a .stored) (c .if2 .taken)), omega arith)
@@ -23,4 +17,4 @@ returns-3 c =
     (rw (score-other (a .depth) (a .stored) (omega arith) (omega arith)), omega arith)
 
 pub score-at-spec : {M : Type 1} → statement M
-score-at-spec = tie.close (tie.spec sub-result returns add-result returns-2 returns-3)
+score-at-spec = tie.close (tie.spec (λ c. search needs) returns (λ c. search needs) returns-2 returns-3)

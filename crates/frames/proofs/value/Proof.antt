@@ -11,9 +11,6 @@ use borrow.Author.Needs.{needs}
 use Rattle.frames.proofs.value.Statement.{statement}
 use Rattle.frames.proofs.value.Tie as tie
 
-cast-result : tie.Need-cast-result
-cast-result c = search needs
-
 -- the cast reads the score as it is
 plain : (c : tie.Start) → toZ w32 (c .args .score) ≡ pos (c .args .score)
 plain c = toZ-pos w32 (c .args .score) (omega arith)
@@ -36,4 +33,4 @@ returns c =
     rw (plain c, toZ-ofZ w32 v (fits32 c), toZ-ofZ w16 v (fits16 c))
 
 pub value-spec : {M : Type 1} → statement M
-value-spec = tie.close (tie.spec cast-result sub-result cast-result-2 returns)
+value-spec = tie.close (tie.spec (λ c. search needs) sub-result cast-result-2 returns)

@@ -28,19 +28,10 @@ module _ (t : List ℕ) (i v : ℕ) where
     large-enough : least < v → ltb v greatest ≡ valueRight t i (childCount t i)
     large-enough h = rw (z, ← p, lt-ltb least v h)
 
-child-count-requires : tie.Need-child-count-requires
-child-count-requires c κs = search needs
-
-value-bytes-requires : tie.Need-value-bytes-requires
-value-bytes-requires c κs = search needs
-
 returns : tie.Need-returns
 returns c =
     let a = c .before .before .before .before .args in
     inner-value (a .table .now) (a .node) _ (omega arith) (c .value-bytes .ensures .0)
-
-stored-score-requires : tie.Need-stored-score-requires
-stored-score-requires c κs = search needs
 
 returns-2 : tie.Need-returns-2
 returns-2 c =
@@ -57,4 +48,4 @@ returns-3 c =
 pub value-right-spec : {M : Type 1} → statement M
 value-right-spec =
     tie.close
-    (tie.spec child-count-requires value-bytes-requires returns stored-score-requires returns-2 returns-3)
+    (tie.spec (λ c κs. search needs) (λ c κs. search needs) returns (λ c κs. search needs) returns-2 returns-3)

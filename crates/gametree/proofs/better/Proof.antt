@@ -4,12 +4,6 @@ use borrow.Author.Needs.{needs}
 use Rattle.gametree.proofs.better.Statement.{statement}
 use Rattle.gametree.proofs.better.Tie as tie
 
-enum-told : tie.Need-enum-told
-enum-told c = search needs
-
-enum-told-2 : tie.Need-enum-told-2
-enum-told-2 c = search needs
-
 returns : tie.Need-returns
 returns c = rw (c .before .enum-told .given .1) (omega arith)
 
@@ -23,4 +17,4 @@ returns-4 : tie.Need-returns-4
 returns-4 c = rw (c .before .enum-told2 .given .1) (omega arith)
 
 pub better-spec : {M : Type 1} → statement M
-better-spec = tie.close (tie.spec enum-told enum-told-2 returns returns-2 returns-3 returns-4)
+better-spec = tie.close (tie.spec (λ c. search needs) (λ c. search needs) returns returns-2 returns-3 returns-4)

@@ -8,15 +8,6 @@ use Rattle.graft.proofs.Joined.{count-first, count-second}
 use Rattle.graft.proofs.count_of.Statement.{statement}
 use Rattle.graft.proofs.count_of.Tie as tie
 
-frame-count-requires : tie.Need-frame-count-requires
-frame-count-requires c κs = search needs
-
-child-count-requires : tie.Need-child-count-requires
-child-count-requires c κs = search needs
-
-child-count-requires-2 : tie.Need-child-count-requires-2
-child-count-requires-2 c κs = search needs
-
 returns : tie.Need-returns
 returns c =
     let n = c .before .before in
@@ -43,4 +34,4 @@ returns-2 c =
 pub count-of-spec : {M : Type 1} → statement M
 count-of-spec =
     tie.close
-    (tie.spec frame-count-requires child-count-requires child-count-requires-2 returns returns-2)
+    (tie.spec (λ c κs. search needs) (λ c κs. search needs) (λ c κs. search needs) returns returns-2)

@@ -9,18 +9,6 @@ use Rattle.graft.proofs.Joined.{first-first, first-second}
 use Rattle.graft.proofs.first_of.Statement.{statement}
 use Rattle.graft.proofs.first_of.Tie as tie
 
-frame-count-requires : tie.Need-frame-count-requires
-frame-count-requires c κs = search needs
-
-first-child-requires : tie.Need-first-child-requires
-first-child-requires c κs = search needs
-
-first-child-requires-2 : tie.Need-first-child-requires-2
-first-child-requires-2 c κs = search needs
-
-add-result : tie.Need-add-result
-add-result c = search needs
-
 returns : tie.Need-returns
 returns c =
     let n = c .before .before in
@@ -49,9 +37,9 @@ pub first-of-spec : {M : Type 1} → statement M
 first-of-spec =
     tie.close
     (tie.spec
-    frame-count-requires
-    first-child-requires
-    first-child-requires-2
-    add-result
+    (λ c κs. search needs)
+    (λ c κs. search needs)
+    (λ c κs. search needs)
+    (λ c. search needs)
     returns
     returns-2)

@@ -6,15 +6,6 @@ use Rattle.graft.proofs.Outcomes.{nodes-graftable, graft-written, graft
 use Rattle.graft.proofs.graft.Statement.{statement}
 use Rattle.graft.proofs.graft.Tie as tie
 
-ask-requires : tie.Need-ask-requires
-ask-requires c κs = search needs
-
-enum-known-checked : tie.Need-enum-known-checked
-enum-known-checked c = search needs
-
-enum-told : tie.Need-enum-told
-enum-told c = search needs
-
 returns : tie.Need-returns
 returns c =
     let g = c .enum-told .given .1 in
@@ -31,9 +22,6 @@ write-requires c κs =
     (rw (k .checked .given .1) at (k .before .before .ask .ensures)) in
     (p .1, (p .0, omega (arith, p)))
 
-same-length : tie.Need-same-length
-same-length c = search needs
-
 returns-2 : tie.Need-returns-2
 returns-2 c =
     let w = c .before .before in
@@ -47,10 +35,10 @@ pub graft-spec : {M : Type 1} → statement M
 graft-spec =
     tie.close
     (tie.spec
-    ask-requires
-    enum-known-checked
-    enum-told
+    (λ c κs. search needs)
+    (λ c. search needs)
+    (λ c. search needs)
     returns
     write-requires
-    same-length
+    (λ c. search needs)
     returns-2)

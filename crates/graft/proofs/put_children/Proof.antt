@@ -19,37 +19,13 @@ abbrev μ-loop : tie.MeasureT-loop
 loop-holds : tie.Need-loop-holds Inv-loop μ-loop
 loop-holds c = (omega arith, run-begins _ _ _ _ (omega arith))
 
-sub-replaced : tie.Need-sub-replaced Inv-loop μ-loop
-sub-replaced c = search needs
-
-add-replaced : tie.Need-add-replaced Inv-loop μ-loop
-add-replaced c = search needs
-
-replaced-requires : tie.Need-replaced-requires Inv-loop μ-loop
-replaced-requires c κs = search needs
-
 cast-sources : tie.Need-cast-sources Inv-loop μ-loop
 cast-sources c = omega (arith, c .before .before .loop .inv .1 .inside)
-
-mul-sources : tie.Need-mul-sources Inv-loop μ-loop
-mul-sources c = search needs
-
-slice-write-sources : tie.Need-slice-write-sources Inv-loop μ-loop
-slice-write-sources c = search needs
-
-add-at : tie.Need-add-at Inv-loop μ-loop
-add-at c = search needs
-
-loop-less : tie.Need-loop-less Inv-loop μ-loop
-loop-less c = search needs
 
 loop-again : tie.Need-loop-again Inv-loop μ-loop
 loop-again c =
     let i = c .before .before .loop .inv in
     (omega arith, run-step _ _ _ _ _ _ _ _ (omega arith) (c .replaced .ensures .0) refl (i .1))
-
-same-length : tie.Need-same-length Inv-loop μ-loop
-same-length c = search needs
 
 returns : tie.Need-returns Inv-loop μ-loop
 returns c = run-ends _ _ _ _ _ _ (omega arith) (c .before .loop .inv .1)
@@ -61,14 +37,14 @@ put-children-spec =
     Inv-loop
     μ-loop
     loop-holds
-    sub-replaced
-    add-replaced
-    replaced-requires
+    (λ c. search needs)
+    (λ c. search needs)
+    (λ c κs. search needs)
     cast-sources
-    mul-sources
-    slice-write-sources
-    add-at
-    loop-less
+    (λ c. search needs)
+    (λ c. search needs)
+    (λ c. search needs)
+    (λ c. search needs)
     loop-again
-    same-length
+    (λ c. search needs)
     returns)

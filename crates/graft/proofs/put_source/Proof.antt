@@ -9,18 +9,6 @@ use Rattle.graft.proofs.Joined.{frame-first, frame-second}
 use Rattle.graft.proofs.put_source.Statement.{statement}
 use Rattle.graft.proofs.put_source.Tie as tie
 
-frame-count-requires : tie.Need-frame-count-requires
-frame-count-requires c κs = search needs
-
-put-frame-requires : tie.Need-put-frame-requires
-put-frame-requires c κs = search needs
-
-put-frame-requires-2 : tie.Need-put-frame-requires-2
-put-frame-requires-2 c κs = search needs
-
-same-length : tie.Need-same-length
-same-length c = search needs
-
 returns : tie.Need-returns
 returns c =
     let w = c .before .before in
@@ -31,9 +19,6 @@ returns c =
     ∙ ap (sets (g .result .now) (g .at))
     (frame-first (g .first .now) (g .second .now) (g .source) (a .pre .0) (omega (arith, n .frame-count .ensures))
     (g .child))
-
-same-length-2 : tie.Need-same-length-2
-same-length-2 c = search needs
 
 returns-2 : tie.Need-returns-2
 returns-2 c =
@@ -51,10 +36,10 @@ pub put-source-spec : {M : Type 1} → statement M
 put-source-spec =
     tie.close
     (tie.spec
-    frame-count-requires
-    put-frame-requires
-    put-frame-requires-2
-    same-length
+    (λ c κs. search needs)
+    (λ c κs. search needs)
+    (λ c κs. search needs)
+    (λ c. search needs)
     returns
-    same-length-2
+    (λ c. search needs)
     returns-2)

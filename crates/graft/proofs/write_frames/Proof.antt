@@ -60,12 +60,6 @@ children-inside c =
     writing-within (a .args .first .now) (a .args .node) (a .args .second .now) (fitting (a .pre .0)) (l .loop .inv)
     (inside (c .before .before)) _ _ refl (c .count-of .ensures .0)
 
-frame-count-requires : tie.Need-frame-count-requires Inv-loop μ-loop
-frame-count-requires c κs = search needs
-
-replaced-requires : tie.Need-replaced-requires Inv-loop μ-loop
-replaced-requires c κs = search needs
-
 cast-sources : tie.Need-cast-sources Inv-loop μ-loop
 cast-sources c =
     let a = c .before .before .before .before .before .before in
@@ -83,9 +77,6 @@ loop-holds c =
     (a .args .result .now) (a .args .sources .now) _
     (c .replaced .ensures .0 ∙ ap (λ x. cond (eqb 0 (a .args .node)) x 0) (c .before .frame-count .ensures))
     (omega arith)
-
-mul-source : tie.Need-mul-source Inv-loop μ-loop
-mul-source c = search needs
 
 slice-read-source : tie.Need-slice-read-source Inv-loop μ-loop
 slice-read-source c =
@@ -111,12 +102,6 @@ first-of-requires c κs = (source-inside (c .before), first-few (at-start (c .be
 add-end : tie.Need-add-end Inv-loop μ-loop
 add-end c =
     let k = c .before in omega (arith, children-inside k, at-start (k .before .before .before) .pre .0 .few)
-
-first-number-requires : tie.Need-first-number-requires Inv-loop μ-loop
-first-number-requires c κs = search needs
-
-mul-put-source : tie.Need-mul-put-source Inv-loop μ-loop
-mul-put-source c = search needs
 
 put-source-requires : tie.Need-put-source-requires Inv-loop μ-loop
 put-source-requires c κs =
@@ -149,12 +134,6 @@ put-children-requires c κs =
       f .first-of .ensures .1,
       omega (arith, l .before .before .frame-count .ensures, first-few a),
     )
-
-add-i : tie.Need-add-i Inv-loop μ-loop
-add-i c = search needs
-
-loop-less : tie.Need-loop-less Inv-loop μ-loop
-loop-less c = search needs
 
 loop-again : tie.Need-loop-again Inv-loop μ-loop
 loop-again c =
@@ -189,23 +168,23 @@ write-frames-spec =
     (tie.spec
     Inv-loop
     μ-loop
-    frame-count-requires
-    replaced-requires
+    (λ c κs. search needs)
+    (λ c κs. search needs)
     cast-sources
     slice-write-sources
     loop-holds
-    mul-source
+    (λ c. search needs)
     slice-read-source
     cast-source
     count-of-requires
     first-of-requires
     add-end
-    first-number-requires
-    mul-put-source
+    (λ c κs. search needs)
+    (λ c. search needs)
     put-source-requires
     put-children-requires
-    add-i
-    loop-less
+    (λ c. search needs)
+    (λ c. search needs)
     loop-again
     same-length
     same-length-2

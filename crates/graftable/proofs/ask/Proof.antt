@@ -7,15 +7,6 @@ use Rattle.graftable.proofs.Questions.{first-refused, second-refused, b
 use Rattle.graftable.proofs.ask.Statement.{statement}
 use Rattle.graftable.proofs.ask.Tie as tie
 
-check-requires : tie.Need-check-requires
-check-requires c κs = search needs
-
-enum-told : tie.Need-enum-told
-enum-told c = search needs
-
-enum-told-2 : tie.Need-enum-told-2
-enum-told-2 c = search needs
-
 returns : tie.Need-returns
 returns c =
     let g = c .enum-told2 .given .1 in
@@ -24,15 +15,6 @@ returns c =
     g
     ∙ ap (answer _) (sym (first-refused t (a .node) (a .second .now) (a .room) _
     (rejected-first t _ (sym g ∙ c .before .before .check .ensures))))
-
-check-requires-2 : tie.Need-check-requires-2
-check-requires-2 c κs = search needs
-
-enum-told-3 : tie.Need-enum-told-3
-enum-told-3 c = search needs
-
-enum-told-4 : tie.Need-enum-told-4
-enum-told-4 c = search needs
 
 returns-2 : tie.Need-returns-2
 returns-2 c =
@@ -71,13 +53,13 @@ pub ask-spec : {M : Type 1} → statement M
 ask-spec =
     tie.close
     (tie.spec
-    check-requires
-    enum-told
-    enum-told-2
+    (λ c κs. search needs)
+    (λ c. search needs)
+    (λ c. search needs)
     returns
-    check-requires-2
-    enum-told-3
-    enum-told-4
+    (λ c κs. search needs)
+    (λ c. search needs)
+    (λ c. search needs)
     returns-2
     ask-leaf-requires
     returns-3)

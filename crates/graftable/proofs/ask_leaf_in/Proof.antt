@@ -57,20 +57,11 @@ depths h =
       placed-depth (first m) _ p (node m) (l .inside),
     )
 
-fill-requires : tie.Need-fill-requires
-fill-requires c κs = search needs
-
 is-max-leaf-requires : tie.Need-is-max-leaf-requires
 is-max-leaf-requires c κs =
     let f = c .before .before .before in
     let s = f .before .before .before .before .before in
     placed _ (s .pre .0 .0) _ (s .pre .1 .0) (f .fill .ensures)
-
-rejected-requires : tie.Need-rejected-requires
-rejected-requires c κs = search needs
-
-same-length : tie.Need-same-length
-same-length c = search needs
 
 returns : tie.Need-returns
 returns c =
@@ -78,24 +69,6 @@ returns c =
     c .rejected .ensures
     ∙ ap (answer _) (sym (no-leaf (first m) (node m) (second m) (at-start m .args .room)
     (sym (m .is-max-leaf .ensures) ∙ not-true _ (c .before .if1 .taken))))
-
-frame-count-requires : tie.Need-frame-count-requires
-frame-count-requires c κs = search needs
-
-frame-count-requires-2 : tie.Need-frame-count-requires-2
-frame-count-requires-2 c κs = search needs
-
-add-size : tie.Need-add-size
-add-size c = search needs
-
-sub-size : tie.Need-sub-size
-sub-size c = search needs
-
-rejected-requires-2 : tie.Need-rejected-requires-2
-rejected-requires-2 c κs = search needs
-
-same-length-2 : tie.Need-same-length-2
-same-length-2 c = search needs
 
 returns-2 : tie.Need-returns-2
 returns-2 c =
@@ -115,21 +88,6 @@ depth-at-requires c κs =
     placed-room _ _ (placed _ (s .pre .0 .0) _ (s .pre .1 .0) (f .fill .ensures)) _
     (max-leaf (first m) (node m) (passed e) .inside)
 
-height-requires : tie.Need-height-requires
-height-requires c κs = search needs
-
-add-depth : tie.Need-add-depth
-add-depth c = search needs
-
-cast-if3 : tie.Need-cast-if3
-cast-if3 c = search needs
-
-rejected-requires-3 : tie.Need-rejected-requires-3
-rejected-requires-3 c κs = search needs
-
-same-length-3 : tie.Need-same-length-3
-same-length-3 c = search needs
-
 returns-3 : tie.Need-returns-3
 returns-3 c =
     let h = c .before .before .before .before in
@@ -140,15 +98,6 @@ returns-3 c =
     c .rejected3 .ensures
     ∙ ap (answer _) (sym (too-deep (first m) (node m) (second m) (at-start m .args .room) (passed e)
     (omega (arith, sizes n, i .if2 .left)) (omega (arith, depths h, c .before .if3 .taken))))
-
-mul-if4 : tie.Need-mul-if4
-mul-if4 c = search needs
-
-rejected-requires-4 : tie.Need-rejected-requires-4
-rejected-requires-4 c κs = search needs
-
-same-length-4 : tie.Need-same-length-4
-same-length-4 c = search needs
 
 returns-4 : tie.Need-returns-4
 returns-4 c =
@@ -162,9 +111,6 @@ returns-4 c =
     ∙ ap (answer _) (sym (too-short (first m) (node m) (second m) (at-start m .args .room) (passed e)
     (omega (arith, sizes n, i .if2 .left)) (omega (arith, depths h, j .if3 .left))
     (omega (arith, sizes n, c .before .if4 .taken))))
-
-same-length-5 : tie.Need-same-length-5
-same-length-5 c = search needs
 
 returns-5 : tie.Need-returns-5
 returns-5 c =
@@ -183,28 +129,28 @@ pub ask-leaf-in-spec : {M : Type 1} → statement M
 ask-leaf-in-spec =
     tie.close
     (tie.spec
-    fill-requires
+    (λ c κs. search needs)
     is-max-leaf-requires
-    rejected-requires
-    same-length
+    (λ c κs. search needs)
+    (λ c. search needs)
     returns
-    frame-count-requires
-    frame-count-requires-2
-    add-size
-    sub-size
-    rejected-requires-2
-    same-length-2
+    (λ c κs. search needs)
+    (λ c κs. search needs)
+    (λ c. search needs)
+    (λ c. search needs)
+    (λ c κs. search needs)
+    (λ c. search needs)
     returns-2
     depth-at-requires
-    height-requires
-    add-depth
-    cast-if3
-    rejected-requires-3
-    same-length-3
+    (λ c κs. search needs)
+    (λ c. search needs)
+    (λ c. search needs)
+    (λ c κs. search needs)
+    (λ c. search needs)
     returns-3
-    mul-if4
-    rejected-requires-4
-    same-length-4
+    (λ c. search needs)
+    (λ c κs. search needs)
+    (λ c. search needs)
     returns-4
-    same-length-5
+    (λ c. search needs)
     returns-5)

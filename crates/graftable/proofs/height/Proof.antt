@@ -9,21 +9,6 @@ use Rattle.graftable.proofs.Heights.{last-deepest}
 use Rattle.graftable.proofs.height.Statement.{statement}
 use Rattle.graftable.proofs.height.Tie as tie
 
-fill-requires : tie.Need-fill-requires
-fill-requires c κs = search needs
-
-frame-count-requires : tie.Need-frame-count-requires
-frame-count-requires c κs = search needs
-
-sub-depth-at : tie.Need-sub-depth-at
-sub-depth-at c = search needs
-
-depth-at-requires : tie.Need-depth-at-requires
-depth-at-requires c κs = search needs
-
-same-length : tie.Need-same-length
-same-length c = search needs
-
 returns : tie.Need-returns
 returns c =
     let n = c .before in
@@ -42,9 +27,9 @@ pub height-spec : {M : Type 1} → statement M
 height-spec =
     tie.close
     (tie.spec
-    fill-requires
-    frame-count-requires
-    sub-depth-at
-    depth-at-requires
-    same-length
+    (λ c κs. search needs)
+    (λ c κs. search needs)
+    (λ c. search needs)
+    (λ c κs. search needs)
+    (λ c. search needs)
     returns)

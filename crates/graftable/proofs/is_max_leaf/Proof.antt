@@ -11,16 +11,10 @@ use Rattle.graftable.proofs.Questions.{not-inside, not-childless, leaf-
 use Rattle.graftable.proofs.is_max_leaf.Statement.{statement}
 use Rattle.graftable.proofs.is_max_leaf.Tie as tie
 
-frame-count-requires : tie.Need-frame-count-requires
-frame-count-requires c κs = search needs
-
 returns : tie.Need-returns
 returns c =
     let a = c .before .before .before .before .args in
     not-inside (a .table .now) (a .node) (omega (arith, c .before .frame-count .ensures, c .if1 .taken))
-
-child-count-requires : tie.Need-child-count-requires
-child-count-requires c κs = search needs
 
 returns-2 : tie.Need-returns-2
 returns-2 c =
@@ -29,12 +23,6 @@ returns-2 c =
     not-childless (a .table .now) (a .node)
     (omega (arith, k .before .before .frame-count .ensures, k .before .if1 .left))
     (λ z. c .if2 .taken (k .child-count .ensures .0 ∙ z))
-
-side-at-requires : tie.Need-side-at-requires
-side-at-requires c κs = search needs
-
-is-max-requires : tie.Need-is-max-requires
-is-max-requires c κs = search needs
 
 returns-3 : tie.Need-returns-3
 returns-3 c =
@@ -52,10 +40,10 @@ pub is-max-leaf-spec : {M : Type 1} → statement M
 is-max-leaf-spec =
     tie.close
     (tie.spec
-    frame-count-requires
+    (λ c κs. search needs)
     returns
-    child-count-requires
+    (λ c κs. search needs)
     returns-2
-    side-at-requires
-    is-max-requires
+    (λ c κs. search needs)
+    (λ c κs. search needs)
     returns-3)

@@ -6,19 +6,13 @@ use Rattle.hex.specs.Digit.{capitalOf}
 use Rattle.hex.proofs.capital.Statement.{statement}
 use Rattle.hex.proofs.capital.Tie as tie
 
-add-result : tie.Need-add-result
-add-result c = search needs
-
 returns : tie.Need-returns
 unfolding capitalOf
 returns c = rw (lt-ltb _ _ (c .if1 .taken)) (omega arith)
-
-add-result-2 : tie.Need-add-result-2
-add-result-2 c = search needs
 
 returns-2 : tie.Need-returns-2
 unfolding capitalOf
 returns-2 c = rw (le-ltb _ _ (c .if1 .left)) (omega arith)
 
 pub capital-spec : {M : Type 1} → statement M
-capital-spec = tie.close (tie.spec add-result returns add-result-2 returns-2)
+capital-spec = tie.close (tie.spec (λ c. search needs) returns (λ c. search needs) returns-2)

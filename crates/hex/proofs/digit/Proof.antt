@@ -23,15 +23,6 @@ rest : (c : tie.After-one-within3) →
     (noDigit - b % noDigit) * (1 - (c .before .before .one-within .result + letter)) ≤ noDigit - b % noDigit
 rest c = times-bit _ _ (omega arith)
 
-one-within-requires : tie.Need-one-within-requires
-one-within-requires c κs = search needs
-
-one-within-requires-2 : tie.Need-one-within-requires-2
-one-within-requires-2 c κs = search needs
-
-one-within-requires-3 : tie.Need-one-within-requires-3
-one-within-requires-3 c κs = search needs
-
 add-letter : tie.Need-add-letter
 add-letter c = record { fits = omega (arith, right c .few) }
 
@@ -47,9 +38,6 @@ mul-result c = record { fits = omega (arith, right c .few) }
 add-result : tie.Need-add-result
 add-result c = record { fits = omega (arith, right c .few) }
 
-sub-result : tie.Need-sub-result
-sub-result c = search needs
-
 mul-result-2 : tie.Need-mul-result-2
 mul-result-2 c = record { fits = omega (arith, rest c) }
 
@@ -63,15 +51,15 @@ pub digit-spec : {M : Type 1} → statement M
 digit-spec =
     tie.close
     (tie.spec
-    one-within-requires
-    one-within-requires-2
-    one-within-requires-3
+    (λ c κs. search needs)
+    (λ c κs. search needs)
+    (λ c κs. search needs)
     add-letter
     add-other
     sub-other
     mul-result
     add-result
-    sub-result
+    (λ c. search needs)
     mul-result-2
     add-result-2
     returns)

@@ -16,12 +16,6 @@ mul-result c = record { fits = omega (arith, bit c) }
 add-result : tie.Need-add-result
 add-result c = record { fits = omega (arith, bit c) }
 
-add-result-2 : tie.Need-add-result-2
-add-result-2 c = search needs
-
-sub-result : tie.Need-sub-result
-sub-result c = search needs
-
 add-result-3 : tie.Need-add-result-3
 add-result-3 c = record { fits = omega (arith, bit c) }
 
@@ -30,4 +24,4 @@ returns c = halves (c .args .first) (c .args .byte) (c .pre) (omega arith) (omeg
 
 pub one-from-spec : {M : Type 1} → statement M
 one-from-spec =
-    tie.close (tie.spec mul-result add-result add-result-2 sub-result add-result-3 returns)
+    tie.close (tie.spec mul-result add-result (λ c. search needs) (λ c. search needs) add-result-3 returns)

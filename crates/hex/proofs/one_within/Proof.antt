@@ -5,15 +5,6 @@ use Rattle.hex.proofs.DigitArithmetic.{ranges}
 use Rattle.hex.proofs.one_within.Statement.{statement}
 use Rattle.hex.proofs.one_within.Tie as tie
 
-one-from-requires : tie.Need-one-from-requires
-one-from-requires c κs = search needs
-
-add-one-from : tie.Need-add-one-from
-add-one-from c = search needs
-
-one-from-requires-2 : tie.Need-one-from-requires-2
-one-from-requires-2 c κs = search needs
-
 sub-result : tie.Need-sub-result
 sub-result c =
     let f = c .before in
@@ -28,4 +19,4 @@ returns c =
 
 pub one-within-spec : {M : Type 1} → statement M
 one-within-spec =
-    tie.close (tie.spec one-from-requires add-one-from one-from-requires-2 sub-result returns)
+    tie.close (tie.spec (λ c κs. search needs) (λ c. search needs) (λ c κs. search needs) sub-result returns)

@@ -49,12 +49,6 @@ looked c =
           ∙ ap (smallest (a .table .now) (a .node)) (o .score-of .ensures ∙ ap scoreOf (plain s)),
     )
 
-is-leaf-requires : tie.Need-is-leaf-requires
-is-leaf-requires c κs = search needs
-
-rejected-requires : tie.Need-rejected-requires
-rejected-requires c κs = search needs
-
 returns : tie.Need-returns
 returns c =
     let m = c .before .before in
@@ -62,12 +56,6 @@ returns c =
     c .rejected .ensures
     ∙ sym (no-leaf (a .table .now) (a .node) (a .wanted)
     (sym (m .is-leaf .ensures) ∙ not-true _ (c .before .if1 .taken)))
-
-in-range-requires : tie.Need-in-range-requires
-in-range-requires c κs = search needs
-
-rejected-requires-2 : tie.Need-rejected-requires-2
-rejected-requires-2 c κs = search needs
 
 returns-2 : tie.Need-returns-2
 returns-2 c =
@@ -91,18 +79,12 @@ find-requires c κs =
     let s = l .before .before .before in
     (s .pre, leaf l, rw (c .score-of .ensures, plain s) (score-range (s .args .wanted) (leb-true _ _ (ranged e))))
 
-rejected-requires-3 : tie.Need-rejected-requires-3
-rejected-requires-3 c κs = search needs
-
 returns-3 : tie.Need-returns-3
 returns-3 c =
     let f = c .before .before in
     let a = f .before .before .before .before .before .before .before .args in
     let g = looked f in
     c .rejected3 .ensures ∙ sym (g .0 ∙ found-none (a .node) _ _ (g .1) (c .before .if3 .taken))
-
-value-requires : tie.Need-value-requires
-value-requires c κs = search needs
 
 returns-4 : tie.Need-returns-4
 returns-4 c =
@@ -116,15 +98,15 @@ pub ask-spec : {M : Type 1} → statement M
 ask-spec =
     tie.close
     (tie.spec
-    is-leaf-requires
-    rejected-requires
+    (λ c κs. search needs)
+    (λ c κs. search needs)
     returns
-    in-range-requires
-    rejected-requires-2
+    (λ c κs. search needs)
+    (λ c κs. search needs)
     returns-2
     score-of-requires
     find-requires
-    rejected-requires-3
+    (λ c κs. search needs)
     returns-3
-    value-requires
+    (λ c κs. search needs)
     returns-4)

@@ -24,17 +24,8 @@ not-loss c =
     ⊎-elim (λ m. rw (lt-ltb _ _ (m .0 .taken)) (sym (m .1 .ensures) ∙ m .2 .left)) (λ m. rw (le-ltb _ _ (m .left)))
     (c .if2 .came)
 
-reaches-requires : tie.Need-reaches-requires
-reaches-requires c κs = search needs
-
 returns : tie.Need-returns
 returns c = rw (sym (c .before .reaches .ensures) ∙ c .if1 .taken)
-
-sub-as-loss : tie.Need-sub-as-loss
-sub-as-loss c = search needs
-
-reaches-requires-2 : tie.Need-reaches-requires-2
-reaches-requires-2 c κs = search needs
 
 returns-2 : tie.Need-returns-2
 returns-2 c =
@@ -42,19 +33,10 @@ returns-2 c =
     let k = r .before in
     rw (not-first (k .before), lt-ltb _ _ (k .if2 .taken), ← r .reaches2 .ensures, c .if3 .taken)
 
-reaches-requires-3 : tie.Need-reaches-requires-3
-reaches-requires-3 c κs = search needs
-
 returns-3 : tie.Need-returns-3
 returns-3 c =
     let r = c .before in
     rw (not-first (r .before .before), not-loss (r .before), ← r .reaches3 .ensures, c .if4 .taken)
-
-add-as-win : tie.Need-add-as-win
-add-as-win c = search needs
-
-reaches-requires-4 : tie.Need-reaches-requires-4
-reaches-requires-4 c κs = search needs
 
 returns-4 : tie.Need-returns-4
 returns-4 c =
@@ -104,15 +86,15 @@ pub candidate-spec : {M : Type 1} → statement M
 candidate-spec =
     tie.close
     (tie.spec
-    reaches-requires
+    (λ c κs. search needs)
     returns
-    sub-as-loss
-    reaches-requires-2
+    (λ c. search needs)
+    (λ c κs. search needs)
     returns-2
-    reaches-requires-3
+    (λ c κs. search needs)
     returns-3
-    add-as-win
-    reaches-requires-4
+    (λ c. search needs)
+    (λ c κs. search needs)
     returns-4
     returns-5
     returns-6)

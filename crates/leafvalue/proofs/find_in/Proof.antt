@@ -90,17 +90,8 @@ candidate-requires c κs =
     let a = s .args in
     (omega (arith, depth c, leaf-shallow (a .table .now) (s .pre .0 .0) (a .leaf) (inside s)), s .pre .0 .2)
 
-same-length : tie.Need-same-length
-same-length c = search needs
-
 same-length-2 : tie.Need-same-length-2
 same-length-2 c = ap length (bounds (c .before) .fill-bounds .ensures .1 .1) ∙ simp length-set
-
-same-length-3 : tie.Need-same-length-3
-same-length-3 c = search needs
-
-same-length-4 : tie.Need-same-length-4
-same-length-4 c = search needs
 
 returns : tie.Need-returns
 returns c =
@@ -128,8 +119,8 @@ find-in-spec =
     slice-read-candidate-2
     depth-at-requires
     candidate-requires
-    same-length
+    (λ c. search needs)
     same-length-2
-    same-length-3
-    same-length-4
+    (λ c. search needs)
+    (λ c. search needs)
     returns)

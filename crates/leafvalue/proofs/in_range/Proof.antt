@@ -11,9 +11,6 @@ returns c =
     let a = c .before in
     above-range (a .args .wanted) (rw (toZ-ofZ w32 (a .args .wanted) (a .fits .wanted)) at (c .if1 .taken))
 
-sub-result : tie.Need-sub-result
-sub-result c = search needs
-
 returns-2 : tie.Need-returns-2
 returns-2 c =
     let a = c .before in
@@ -21,4 +18,4 @@ returns-2 c =
     rw e (not-above (a .args .wanted) (rw e at (c .if1 .left)))
 
 pub in-range-spec : {M : Type 1} → statement M
-in-range-spec = tie.close (tie.spec returns sub-result returns-2)
+in-range-spec = tie.close (tie.spec returns (λ c. search needs) returns-2)

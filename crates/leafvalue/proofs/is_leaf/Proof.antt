@@ -7,16 +7,10 @@ use Rattle.leafvalue.proofs.Questions.{not-inside, childless}
 use Rattle.leafvalue.proofs.is_leaf.Statement.{statement}
 use Rattle.leafvalue.proofs.is_leaf.Tie as tie
 
-frame-count-requires : tie.Need-frame-count-requires
-frame-count-requires c κs = search needs
-
 returns : tie.Need-returns
 returns c =
     let a = c .before .before .before .args in
     not-inside (a .table .now) (a .node) (omega (arith, c .before .frame-count .ensures, c .if1 .taken))
-
-child-count-requires : tie.Need-child-count-requires
-child-count-requires c κs = search needs
 
 returns-2 : tie.Need-returns-2
 returns-2 c =
@@ -26,4 +20,4 @@ returns-2 c =
     ∙ childless (a .table .now) (a .node) (omega (arith, e .before .frame-count .ensures, e .if1 .left))
 
 pub is-leaf-spec : {M : Type 1} → statement M
-is-leaf-spec = tie.close (tie.spec frame-count-requires returns child-count-requires returns-2)
+is-leaf-spec = tie.close (tie.spec (λ c κs. search needs) returns (λ c κs. search needs) returns-2)

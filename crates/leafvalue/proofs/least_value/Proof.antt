@@ -9,15 +9,6 @@ use Rattle.leafvalue.proofs.Questions.{table-refused, table-accepted}
 use Rattle.leafvalue.proofs.least_value.Statement.{statement}
 use Rattle.leafvalue.proofs.least_value.Tie as tie
 
-check-requires : tie.Need-check-requires
-check-requires c κs = search needs
-
-enum-known-checked : tie.Need-enum-known-checked
-enum-known-checked c = search needs
-
-enum-told : tie.Need-enum-told
-enum-told c = search needs
-
 ask-requires : tie.Need-ask-requires
 ask-requires c κs =
     let k = c .before .before in
@@ -44,4 +35,4 @@ returns-2 c =
 
 pub least-value-spec : {M : Type 1} → statement M
 least-value-spec =
-    tie.close (tie.spec check-requires enum-known-checked enum-told ask-requires returns returns-2)
+    tie.close (tie.spec (λ c κs. search needs) (λ c. search needs) (λ c. search needs) ask-requires returns returns-2)

@@ -15,18 +15,12 @@ use Rattle.leastcount.proofs.least_leaves.Tie as tie
 width-inside : (e : tie.Else2) → (0 < e .before .before .args .width) × (e .before .before .args .width ≤ maxChildren)
 width-inside e = (omega arith, omega (arith, ltb-false))
 
-rejected-requires : tie.Need-rejected-requires
-rejected-requires c κs = search needs
-
 returns : tie.Need-returns
 returns c =
     let g = c .before .before .args in
     c .rejected .ensures
     ∙ ap (leastGiven _) (sym (wrong-width (g .width) (g .depth)
     (⊎-elim (λ x. inl (x .taken)) (λ x. inr (omega (arith, ltb-true))) (c .before .if1 .came))))
-
-rejected-requires-2 : tie.Need-rejected-requires-2
-rejected-requires-2 c κs = search needs
 
 returns-2 : tie.Need-returns-2
 returns-2 c =
@@ -50,4 +44,4 @@ returns-3 c =
 pub least-leaves-spec : {M : Type 1} → statement M
 least-leaves-spec =
     tie.close
-    (tie.spec rejected-requires returns rejected-requires-2 returns-2 entry-requires returns-3)
+    (tie.spec (λ c κs. search needs) returns (λ c κs. search needs) returns-2 entry-requires returns-3)

@@ -21,20 +21,11 @@ Inv-loop line table₀ to numbers k₀ table k =
 abbrev μ-loop : tie.MeasureT-loop
 μ-loop line table₀ to numbers k₀ table k = frameSize - k
 
-slice-aggregate-copy : tie.Need-slice-aggregate-copy Inv-loop μ-loop
-slice-aggregate-copy c = search needs
-
-copy-requires : tie.Need-copy-requires Inv-loop μ-loop
-copy-requires c κs = search needs
-
 slice-aggregate-read-digits : tie.Need-slice-aggregate-read-digits Inv-loop μ-loop
 slice-aggregate-read-digits c =
     let k = c .before .before in
     let s = k .before .before .before .before in
     sym (padded-length (s .args .line .now) _ (s .pre .0) (k .copy .ensures .1))
-
-slice-aggregate-read-digits-2 : tie.Need-slice-aggregate-read-digits-2 Inv-loop μ-loop
-slice-aggregate-read-digits-2 c = search needs
 
 read-digits-requires : tie.Need-read-digits-requires Inv-loop μ-loop
 read-digits-requires c κs =
@@ -82,38 +73,11 @@ byte-fits : (c : tie.In-loop Inv-loop μ-loop) → let n = c .before .before .be
     (getD n (2 * k) 0 < noDigit) × (getD n (2 * k + 1) 0 < noDigit)
 byte-fits c = (small c (2 * c .before .loop .k) (omega arith), small c (2 * c .before .loop .k + 1) (omega arith))
 
-mul-table : tie.Need-mul-table Inv-loop μ-loop
-mul-table c = search needs
-
-array-read-table : tie.Need-array-read-table Inv-loop μ-loop
-array-read-table c = search needs
-
 mul-table-2 : tie.Need-mul-table-2 Inv-loop μ-loop
 mul-table-2 c = record { fits = omega (arith, byte-fits c) }
 
-mul-table-3 : tie.Need-mul-table-3 Inv-loop μ-loop
-mul-table-3 c = search needs
-
-add-table : tie.Need-add-table Inv-loop μ-loop
-add-table c = search needs
-
-array-read-table-2 : tie.Need-array-read-table-2 Inv-loop μ-loop
-array-read-table-2 c = search needs
-
 add-table-2 : tie.Need-add-table-2 Inv-loop μ-loop
 add-table-2 c = record { fits = omega (arith, byte-fits c) }
-
-add-table-3 : tie.Need-add-table-3 Inv-loop μ-loop
-add-table-3 c = search needs
-
-slice-write-table : tie.Need-slice-write-table Inv-loop μ-loop
-slice-write-table c = search needs
-
-add-k : tie.Need-add-k Inv-loop μ-loop
-add-k c = search needs
-
-loop-less : tie.Need-loop-less Inv-loop μ-loop
-loop-less c = search needs
 
 loop-again : tie.Need-loop-again Inv-loop μ-loop
 loop-again c =
@@ -123,9 +87,6 @@ loop-again c =
       byte-stored _ _ _ _ (start c .pre .0) (omega arith) _ _ _ (l .inv .2) (number c _ (omega arith))
           (number c _ (omega arith)),
     )
-
-same-length : tie.Need-same-length Inv-loop μ-loop
-same-length c = search needs
 
 returns-2 : tie.Need-returns-2 Inv-loop μ-loop
 returns-2 c =
@@ -141,24 +102,24 @@ decode-digits-spec =
     (tie.spec
     Inv-loop
     μ-loop
-    slice-aggregate-copy
-    copy-requires
+    (λ c. search needs)
+    (λ c κs. search needs)
     slice-aggregate-read-digits
-    slice-aggregate-read-digits-2
+    (λ c. search needs)
     read-digits-requires
     returns
     loop-holds
-    mul-table
-    array-read-table
+    (λ c. search needs)
+    (λ c. search needs)
     mul-table-2
-    mul-table-3
-    add-table
-    array-read-table-2
+    (λ c. search needs)
+    (λ c. search needs)
+    (λ c. search needs)
     add-table-2
-    add-table-3
-    slice-write-table
-    add-k
-    loop-less
+    (λ c. search needs)
+    (λ c. search needs)
+    (λ c. search needs)
+    (λ c. search needs)
     loop-again
-    same-length
+    (λ c. search needs)
     returns-2)

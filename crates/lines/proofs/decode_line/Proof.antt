@@ -17,30 +17,12 @@ returns c = stored-refused _ _ _ _ (line-short _ _ (omega arith))
 returns-2 : tie.Need-returns-2
 returns-2 c = stored-refused _ _ _ _ (line-short _ _ (omega arith))
 
-add-end : tie.Need-add-end
-add-end c = search needs
-
-is-closed-requires : tie.Need-is-closed-requires
-is-closed-requires c κs = search needs
-
 returns-3 : tie.Need-returns-3
 returns-3 c =
     stored-refused _ _ _ _ (line-open _ _ (sym (c .before .is-closed .ensures) ∙ not-true _ (c .if3 .taken)))
 
-sub-decode-digits : tie.Need-sub-decode-digits
-sub-decode-digits c = search needs
-
-part-decode-digits-start : tie.Need-part-decode-digits-start
-part-decode-digits-start c = search needs
-
-part-decode-digits-end : tie.Need-part-decode-digits-end
-part-decode-digits-end c = search needs
-
 decode-digits-requires : tie.Need-decode-digits-requires
 decode-digits-requires c κs = (simp (length-take, length-drop) (omega arith), search needs)
-
-same-length : tie.Need-same-length
-same-length c = search needs
 
 returns-4 : tie.Need-returns-4
 returns-4 c =
@@ -56,12 +38,12 @@ decode-line-spec =
     (tie.spec
     returns
     returns-2
-    add-end
-    is-closed-requires
+    (λ c. search needs)
+    (λ c κs. search needs)
     returns-3
-    sub-decode-digits
-    part-decode-digits-start
-    part-decode-digits-end
+    (λ c. search needs)
+    (λ c. search needs)
+    (λ c. search needs)
     decode-digits-requires
-    same-length
+    (λ c. search needs)
     returns-4)

@@ -10,12 +10,9 @@ use Rattle.lines.proofs.is_closed.Tie as tie
 returns : tie.Need-returns
 returns c = let f = now (c .before .args .file) in rw (c .if1 .taken, drop-length f)
 
-shared-slice-read-result : tie.Need-shared-slice-read-result
-shared-slice-read-result c = search needs
-
 returns-2 : tie.Need-returns-2
 returns-2 c =
     let s = c .before .before in rw (drop-cons (now (s .args .file)) (s .args .end) 0 (omega arith))
 
 pub is-closed-spec : {M : Type 1} → statement M
-is-closed-spec = tie.close (tie.spec returns shared-slice-read-result returns-2)
+is-closed-spec = tie.close (tie.spec returns (λ c. search needs) returns-2)

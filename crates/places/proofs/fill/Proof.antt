@@ -25,14 +25,8 @@ at-start c = c .before .before .before .before .before .before
 inside : (c : tie.In-loop Inv-loop μ-loop) → c .before .loop .node < frames (at-start c .args .table .now)
 inside c = visit-goes _ (c .before .loop .inv .visit) (at-start c .pre .0) (omega arith)
 
-packed-requires : tie.Need-packed-requires Inv-loop μ-loop
-packed-requires c κs = search needs
-
 slice-write-places : tie.Need-slice-write-places Inv-loop μ-loop
 slice-write-places c = omega (arith, c .before .before .before .pre .0 .some)
-
-frame-count-requires : tie.Need-frame-count-requires Inv-loop μ-loop
-frame-count-requires c κs = search needs
 
 loop-holds : tie.Need-loop-holds Inv-loop μ-loop
 loop-holds c =
@@ -101,9 +95,9 @@ fill-spec =
     (tie.spec
     Inv-loop
     μ-loop
-    packed-requires
+    (λ c κs. search needs)
     slice-write-places
-    frame-count-requires
+    (λ c κs. search needs)
     loop-holds
     child-count-requires
     add-end

@@ -19,32 +19,14 @@ abbrev μ-loop : tie.MeasureT-loop
 loop-holds : tie.Need-loop-holds Inv-loop μ-loop
 loop-holds c = run-begins _ _ _ _ (omega arith)
 
-child-place-requires : tie.Need-child-place-requires Inv-loop μ-loop
-child-place-requires c κs = search needs
-
 packed-requires : tie.Need-packed-requires Inv-loop μ-loop
 packed-requires c κs = (omega arith, omega (arith, ap (λ p. p .depth) (c .child-place .ensures)))
-
-mul-places : tie.Need-mul-places Inv-loop μ-loop
-mul-places c = search needs
-
-slice-write-places : tie.Need-slice-write-places Inv-loop μ-loop
-slice-write-places c = search needs
-
-add-child : tie.Need-add-child Inv-loop μ-loop
-add-child c = search needs
-
-loop-less : tie.Need-loop-less Inv-loop μ-loop
-loop-less c = search needs
 
 loop-again : tie.Need-loop-again Inv-loop μ-loop
 loop-again c =
     let r = c .before .before .before .loop .inv in
     run-step _ _ _ _ _ _ _ _ (omega arith)
     (c .packed .ensures ∙ ap (packed _) (c .before .child-place .ensures)) refl r
-
-same-length : tie.Need-same-length Inv-loop μ-loop
-same-length c = search needs
 
 returns : tie.Need-returns Inv-loop μ-loop
 returns c = run-ends _ _ _ _ _ _ (omega arith) (c .before .loop .inv)
@@ -56,12 +38,12 @@ fill-children-spec =
     Inv-loop
     μ-loop
     loop-holds
-    child-place-requires
+    (λ c κs. search needs)
     packed-requires
-    mul-places
-    slice-write-places
-    add-child
-    loop-less
+    (λ c. search needs)
+    (λ c. search needs)
+    (λ c. search needs)
+    (λ c. search needs)
     loop-again
-    same-length
+    (λ c. search needs)
     returns)

@@ -4,14 +4,8 @@ use borrow.Author.Needs.{needs}
 use Rattle.places.proofs.place_at.Statement.{statement}
 use Rattle.places.proofs.place_at.Tie as tie
 
-depth-at-requires : tie.Need-depth-at-requires
-depth-at-requires c κs = search needs
-
-side-at-requires : tie.Need-side-at-requires
-side-at-requires c κs = search needs
-
 returns : tie.Need-returns
 returns c = ap₂ (λ d s. record { depth = d; side = s }) (c .before .depth-at .ensures) (c .side-at .ensures)
 
 pub place-at-spec : {M : Type 1} → statement M
-place-at-spec = tie.close (tie.spec depth-at-requires side-at-requires returns)
+place-at-spec = tie.close (tie.spec (λ c κs. search needs) (λ c κs. search needs) returns)

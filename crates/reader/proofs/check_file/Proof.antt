@@ -34,18 +34,6 @@ letters : (c : tie.After-enum-told2) → fileCheck16 (now (start (c .before .bef
 letters c =
     answer-nodes _ _ _ (sym (c .enum-told2 .given .1) ∙ c .before .before .check-letters .ensures) .0
 
-check-lines-requires : tie.Need-check-lines-requires
-check-lines-requires c κs = search needs
-
-enum-known-lines : tie.Need-enum-known-lines
-enum-known-lines c = search needs
-
-enum-told : tie.Need-enum-told
-enum-told c = search needs
-
-same-length : tie.Need-same-length
-same-length c = search needs
-
 returns : tie.Need-returns
 returns c =
     let d = c .before .before .before .before .check-lines in
@@ -54,12 +42,6 @@ returns c =
 check-letters-requires : tie.Need-check-letters-requires
 check-letters-requires c κs = let w = front c in (lines-parts _ (w .passed) .2, w .lines)
 
-enum-known-rejection : tie.Need-enum-known-rejection
-enum-known-rejection c = search needs
-
-same-length-2 : tie.Need-same-length-2
-same-length-2 c = search needs
-
 returns-2 : tie.Need-returns-2
 returns-2 c =
     let l = c .before .before .before in
@@ -67,9 +49,6 @@ returns-2 c =
     rw file-then
     (next-refused f _ _ (front (l .before)) (fileCheck16 f) (framesRejection (decoded f)) _
     (answer-rejected _ _ _ (sym (c .before .rejection .given .1) ∙ l .check-letters .ensures)))
-
-enum-told-2 : tie.Need-enum-told-2
-enum-told-2 c = search needs
 
 mul-end : tie.Need-mul-end
 mul-end c = omega (arith, front (c .before .before .before) .few)
@@ -85,9 +64,6 @@ check-frames-requires : tie.Need-check-frames-requires
 check-frames-requires c κs =
     let w = front (c .before .before .before .before) in rw (w .bytes) (omega (arith, w .few, w .nodes))
 
-same-length-3 : tie.Need-same-length-3
-same-length-3 c = search needs
-
 returns-3 : tie.Need-returns-3
 returns-3 c =
     let t = c .before .before in
@@ -97,19 +73,19 @@ pub check-file-spec : {M : Type 1} → statement M
 check-file-spec =
     tie.close
     (tie.spec
-    check-lines-requires
-    enum-known-lines
-    enum-told
-    same-length
+    (λ c κs. search needs)
+    (λ c. search needs)
+    (λ c. search needs)
+    (λ c. search needs)
     returns
     check-letters-requires
-    enum-known-rejection
-    same-length-2
+    (λ c. search needs)
+    (λ c. search needs)
     returns-2
-    enum-told-2
+    (λ c. search needs)
     mul-end
     slice-reshare-prefix-check-frames
     slice-aggregate-check-frames
     check-frames-requires
-    same-length-3
+    (λ c. search needs)
     returns-3)

@@ -6,23 +6,14 @@ use Rattle.reader.proofs.Reading.{empty-refused, long-refused, sized}
 use Rattle.reader.proofs.check_lines.Statement.{statement}
 use Rattle.reader.proofs.check_lines.Tie as tie
 
-rejected-requires : tie.Need-rejected-requires
-rejected-requires c κs = search needs
-
 returns : tie.Need-returns
 returns c = rw (c .rejected .ensures) (decoded-refused _ _ _ _ (empty-refused _ (omega arith)))
-
-rejected-requires-2 : tie.Need-rejected-requires-2
-rejected-requires-2 c κs = search needs
 
 returns-2 : tie.Need-returns-2
 returns-2 c = rw (c .rejected2 .ensures) (decoded-refused _ _ _ _ (long-refused _ (omega arith)))
 
 decode-requires : tie.Need-decode-requires
 decode-requires c κs = (omega arith, c .before .before .before .before .before .pre (omega arith))
-
-same-length : tie.Need-same-length
-same-length c = search needs
 
 returns-3 : tie.Need-returns-3
 returns-3 c =
@@ -34,10 +25,10 @@ pub check-lines-spec : {M : Type 1} → statement M
 check-lines-spec =
     tie.close
     (tie.spec
-    rejected-requires
+    (λ c κs. search needs)
     returns
-    rejected-requires-2
+    (λ c κs. search needs)
     returns-2
     decode-requires
-    same-length
+    (λ c. search needs)
     returns-3)

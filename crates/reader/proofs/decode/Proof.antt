@@ -20,18 +20,6 @@ abbrev μ-loop : tie.MeasureT-loop
 loop-holds : tie.Need-loop-holds Inv-loop μ-loop
 loop-holds c = (search needs, decoding-none _ _)
 
-mul-decode-line : tie.Need-mul-decode-line Inv-loop μ-loop
-mul-decode-line c = search needs
-
-decode-line-requires : tie.Need-decode-line-requires Inv-loop μ-loop
-decode-line-requires c κs = search needs
-
-rejected-requires : tie.Need-rejected-requires Inv-loop μ-loop
-rejected-requires c κs = search needs
-
-same-length : tie.Need-same-length Inv-loop μ-loop
-same-length c = search needs
-
 returns : tie.Need-returns Inv-loop μ-loop
 returns c =
     let l = c .before .before .before .before .before .before .before in
@@ -39,15 +27,6 @@ returns c =
     rw (c .rejected .ensures)
     (decoding-stop _ _ _ _ (omega arith) (l .loop .inv .1) (omega arith) _
     (sym (d .ensures .answered) ∙ not-true _ (c .before .if1 .taken)))
-
-add-at : tie.Need-add-at Inv-loop μ-loop
-add-at c = search needs
-
-add-lines : tie.Need-add-lines Inv-loop μ-loop
-add-lines c = search needs
-
-loop-less : tie.Need-loop-less Inv-loop μ-loop
-loop-less c = search needs
 
 loop-again : tie.Need-loop-again Inv-loop μ-loop
 loop-again c =
@@ -59,9 +38,6 @@ loop-again c =
           (decoding-next _ _ _ _ (omega arith) (l .loop .inv .1) (omega arith)
           (sym (d .ensures .answered) ∙ is)),
     )
-
-same-length-2 : tie.Need-same-length-2 Inv-loop μ-loop
-same-length-2 c = search needs
 
 returns-2 : tie.Need-returns-2 Inv-loop μ-loop
 returns-2 c =
@@ -75,14 +51,14 @@ decode-spec =
     Inv-loop
     μ-loop
     loop-holds
-    mul-decode-line
-    decode-line-requires
-    rejected-requires
-    same-length
+    (λ c. search needs)
+    (λ c κs. search needs)
+    (λ c κs. search needs)
+    (λ c. search needs)
     returns
-    add-at
-    add-lines
-    loop-less
+    (λ c. search needs)
+    (λ c. search needs)
+    (λ c. search needs)
     loop-again
-    same-length-2
+    (λ c. search needs)
     returns-2)

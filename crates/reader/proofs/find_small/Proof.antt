@@ -33,20 +33,8 @@ mul-at c = omega (arith, room c)
 add-end : tie.Need-add-end Inv-loop μ-loop
 add-end c = omega (arith, room c)
 
-sub-has-small : tie.Need-sub-has-small Inv-loop μ-loop
-sub-has-small c = search needs
-
-part-has-small-start : tie.Need-part-has-small-start Inv-loop μ-loop
-part-has-small-start c = search needs
-
 part-has-small-end : tie.Need-part-has-small-end Inv-loop μ-loop
 part-has-small-end c = omega (arith, room c)
-
-has-small-requires : tie.Need-has-small-requires Inv-loop μ-loop
-has-small-requires c κs = search needs
-
-rejected-requires : tie.Need-rejected-requires Inv-loop μ-loop
-rejected-requires c κs = search needs
 
 returns : tie.Need-returns Inv-loop μ-loop
 returns c =
@@ -56,12 +44,6 @@ returns c =
     let stop = lettering-stop f _ (l .loop .inv) (omega (arith, l .before .before .pre .1))
     (rw (← line-part f (lineSize * l .loop .line)) (sym (t .before .has-small .ensures) ∙ t .if1 .taken)) in
     c .rejected .ensures ∙ rw stop
-
-add-line : tie.Need-add-line Inv-loop μ-loop
-add-line c = search needs
-
-loop-less : tie.Need-loop-less Inv-loop μ-loop
-loop-less c = search needs
 
 loop-again : tie.Need-loop-again Inv-loop μ-loop
 loop-again c =
@@ -84,13 +66,13 @@ find-small-spec =
     loop-holds
     mul-at
     add-end
-    sub-has-small
-    part-has-small-start
+    (λ c. search needs)
+    (λ c. search needs)
     part-has-small-end
-    has-small-requires
-    rejected-requires
+    (λ c κs. search needs)
+    (λ c κs. search needs)
     returns
-    add-line
-    loop-less
+    (λ c. search needs)
+    (λ c. search needs)
     loop-again
     returns-2)

@@ -20,18 +20,6 @@ front c =
     decoded-front _ _ _ _ (k .ensures) (λ p. (let q = accepted-parts _ p in (q .1, q .2))) _
     (c .before .checked .given .1)
 
-check-file-requires : tie.Need-check-file-requires
-check-file-requires c κs = search needs
-
-enum-known-checked : tie.Need-enum-known-checked
-enum-known-checked c = search needs
-
-enum-told : tie.Need-enum-told
-enum-told c = search needs
-
-same-length : tie.Need-same-length
-same-length c = search needs
-
 returns : tie.Need-returns
 returns c =
     let k = c .before .before .before .before .check-file in
@@ -41,12 +29,6 @@ returns c =
 
 mul-size : tie.Need-mul-size
 mul-size c = omega (arith, front c .few)
-
-rejected-requires : tie.Need-rejected-requires
-rejected-requires c κs = search needs
-
-same-length-2 : tie.Need-same-length-2
-same-length-2 c = search needs
 
 returns-2 : tie.Need-returns-2
 returns-2 c =
@@ -64,12 +46,6 @@ copy-requires : tie.Need-copy-requires
 copy-requires c κs =
     let w = front (c .before .before .before) in rw (w .bytes) (omega (arith, w .size))
 
-same-length-3 : tie.Need-same-length-3
-same-length-3 c = search needs
-
-same-length-4 : tie.Need-same-length-4
-same-length-4 c = search needs
-
 returns-3 : tie.Need-returns-3
 returns-3 c =
     let e = c .before .before .before .before .before in
@@ -79,18 +55,18 @@ pub read-by-spec : {M : Type 1} → statement M
 read-by-spec =
     tie.close
     (tie.spec
-    check-file-requires
-    enum-known-checked
-    enum-told
-    same-length
+    (λ c κs. search needs)
+    (λ c. search needs)
+    (λ c. search needs)
+    (λ c. search needs)
     returns
     mul-size
-    rejected-requires
-    same-length-2
+    (λ c κs. search needs)
+    (λ c. search needs)
     returns-2
     slice-reshare-prefix-copy
     slice-aggregate-copy
     copy-requires
-    same-length-3
-    same-length-4
+    (λ c. search needs)
+    (λ c. search needs)
     returns-3)

@@ -26,15 +26,6 @@ module _ (t f s : List ℕ) where
   unfolding choice
   table-accepted n e c h = rw (answer-nodes (frames t) n (rejection t) e .0) h
 
-check-requires : tie.Need-check-requires
-check-requires c κs = search needs
-
-enum-known-checked : tie.Need-enum-known-checked
-enum-known-checked c = search needs
-
-enum-told : tie.Need-enum-told
-enum-told c = search needs
-
 choose-certificate-requires : tie.Need-choose-certificate-requires
 choose-certificate-requires c κs =
     let k = c .before .before in
@@ -60,9 +51,9 @@ pub choose-spec : {M : Type 1} → statement M
 choose-spec =
     tie.close
     (tie.spec
-    check-requires
-    enum-known-checked
-    enum-told
+    (λ c κs. search needs)
+    (λ c. search needs)
+    (λ c. search needs)
     choose-certificate-requires
     returns
     returns-2)

@@ -32,26 +32,11 @@ module _ (v : tie.After-check-certificate2) where
   second-rejected : {r : Rejection} → v .check-certificate2 .result ≡ Rejected r → of-second v ≡ some r
   second-rejected e = rejected-by _ _ _ (sym e ∙ v .check-certificate2 .ensures)
 
-check-certificate-requires : tie.Need-check-certificate-requires
-check-certificate-requires c κs = search needs
-
-check-certificate-requires-2 : tie.Need-check-certificate-requires-2
-check-certificate-requires-2 c κs = search needs
-
-enum-known-of-first : tie.Need-enum-known-of-first
-enum-known-of-first c = search needs
-
-enum-told : tie.Need-enum-told
-enum-told c = search needs
-
 returns : tie.Need-returns
 returns c =
     let k = c .before .before .before in
     let v = k .before .before in
     rw (first-rejected v (k .of-first .given .1), second-passed v (c .enum-told .given .1))
-
-enum-told-2 : tie.Need-enum-told-2
-enum-told-2 c = search needs
 
 returns-2 : tie.Need-returns-2
 returns-2 c =
@@ -59,20 +44,11 @@ returns-2 c =
     let v = k .before .before in
     rw (first-rejected v (k .of-first .given .1), second-rejected v (c .enum-told2 .given .1))
 
-enum-told-3 : tie.Need-enum-told-3
-enum-told-3 c = search needs
-
-enum-told-4 : tie.Need-enum-told-4
-enum-told-4 c = search needs
-
 returns-3 : tie.Need-returns-3
 returns-3 c =
     let k = c .before .before in
     let v = k .before .before in
     rw (first-passed v (k .enum-told3 .given .1), second-rejected v (c .enum-told4 .given .1))
-
-enum-told-5 : tie.Need-enum-told-5
-enum-told-5 c = search needs
 
 fewer-requires : tie.Need-fewer-requires
 fewer-requires c κs =
@@ -92,16 +68,16 @@ pub choose-certificate-spec : {M : Type 1} → statement M
 choose-certificate-spec =
     tie.close
     (tie.spec
-    check-certificate-requires
-    check-certificate-requires-2
-    enum-known-of-first
-    enum-told
+    (λ c κs. search needs)
+    (λ c κs. search needs)
+    (λ c. search needs)
+    (λ c. search needs)
     returns
-    enum-told-2
+    (λ c. search needs)
     returns-2
-    enum-told-3
-    enum-told-4
+    (λ c. search needs)
+    (λ c. search needs)
     returns-3
-    enum-told-5
+    (λ c. search needs)
     fewer-requires
     returns-4)

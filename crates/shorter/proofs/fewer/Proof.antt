@@ -18,12 +18,6 @@ module _ (t f s : List ℕ) (a b : ℕ) (p : a ≡ flaggedLeaves t f) (q : b ≡
   first : a ≤ b → First ≡ cond (fewerSecond t f s) Second First
   first h = rw (← p, ← q, le-ltb _ _ h)
 
-flagged-leaves-requires : tie.Need-flagged-leaves-requires
-flagged-leaves-requires c κs = search needs
-
-flagged-leaves-requires-2 : tie.Need-flagged-leaves-requires-2
-flagged-leaves-requires-2 c κs = search needs
-
 returns : tie.Need-returns
 returns c =
     let a = c .before .before .before .before .before .before .args in
@@ -37,4 +31,4 @@ returns-2 c =
     (c .before .flagged-leaves2 .ensures) (omega arith)
 
 pub fewer-spec : {M : Type 1} → statement M
-fewer-spec = tie.close (tie.spec flagged-leaves-requires flagged-leaves-requires-2 returns returns-2)
+fewer-spec = tie.close (tie.spec (λ c κs. search needs) (λ c κs. search needs) returns returns-2)

@@ -46,23 +46,8 @@ Inv-loop table flags n leaves₀ node₀ leaves node = Counted table flags node 
 abbrev μ-loop : tie.MeasureT-loop
 μ-loop table flags n leaves₀ node₀ leaves node = n - node
 
-frame-count-requires : tie.Need-frame-count-requires Inv-loop μ-loop
-frame-count-requires c κs = search needs
-
 loop-holds : tie.Need-loop-holds Inv-loop μ-loop
 loop-holds c = counted-none _ _
-
-is-flagged-leaf-requires : tie.Need-is-flagged-leaf-requires Inv-loop μ-loop
-is-flagged-leaf-requires c κs = search needs
-
-add-leaves : tie.Need-add-leaves Inv-loop μ-loop
-add-leaves c = search needs
-
-add-node : tie.Need-add-node Inv-loop μ-loop
-add-node c = search needs
-
-loop-less : tie.Need-loop-less Inv-loop μ-loop
-loop-less c = search needs
 
 loop-again : tie.Need-loop-again Inv-loop μ-loop
 loop-again c =
@@ -80,11 +65,11 @@ flagged-leaves-spec =
     (tie.spec
     Inv-loop
     μ-loop
-    frame-count-requires
+    (λ c κs. search needs)
     loop-holds
-    is-flagged-leaf-requires
-    add-leaves
-    add-node
-    loop-less
+    (λ c κs. search needs)
+    (λ c. search needs)
+    (λ c. search needs)
+    (λ c. search needs)
     loop-again
     returns)

@@ -33,18 +33,6 @@ module _ (t f s : List ℕ) (n : ℕ) (e : n ≡ frames t) (pf ps : ℕ × ℕ) 
       × (_≡_ {A = ℕ × ℕ} (pf .0, 0 + pf .1) (pointerBy pf ps chosen))
   of-rejection r k = (rw (← h, k), rw k (same-pointer pf))
 
-frame-count-requires : tie.Need-frame-count-requires
-frame-count-requires c κs = search needs
-
-enum-told : tie.Need-enum-told
-enum-told c = search needs
-
-sub-result : tie.Need-sub-result
-sub-result c = search needs
-
-part-result-start : tie.Need-part-result-start
-part-result-start c = search needs
-
 part-result-end : tie.Need-part-result-end
 part-result-end c =
     let s = c .before .before .before .before .before .before in
@@ -58,15 +46,6 @@ returns c =
     let s = g .before .before .before .before in
     of-first (s .args .table .now) (s .args .first .now) (s .args .second .now) _ (g .frame-count .ensures)
     (s .args .first .ptr) (s .args .second .ptr) _ (s .pre) (c .before .enum-told .given .1)
-
-enum-told-2 : tie.Need-enum-told-2
-enum-told-2 c = search needs
-
-sub-result-2 : tie.Need-sub-result-2
-sub-result-2 c = search needs
-
-part-result-start-2 : tie.Need-part-result-start-2
-part-result-start-2 c = search needs
 
 part-result-end-2 : tie.Need-part-result-end-2
 part-result-end-2 c =
@@ -82,18 +61,6 @@ returns-2 c =
     of-second (s .args .table .now) (s .args .first .now) (s .args .second .now) _ (g .frame-count .ensures)
     (s .args .first .ptr) (s .args .second .ptr) _ (s .pre) (c .before .enum-told2 .given .1)
 
-enum-told-3 : tie.Need-enum-told-3
-enum-told-3 c = search needs
-
-sub-result-3 : tie.Need-sub-result-3
-sub-result-3 c = search needs
-
-part-result-start-3 : tie.Need-part-result-start-3
-part-result-start-3 c = search needs
-
-part-result-end-3 : tie.Need-part-result-end-3
-part-result-end-3 c = search needs
-
 returns-3 : tie.Need-returns-3
 returns-3 c =
     let g = c .before .before .before in
@@ -105,19 +72,19 @@ pub flags-spec : {M : Type 1} → statement M
 flags-spec =
     tie.close
     (tie.spec
-    frame-count-requires
-    enum-told
-    sub-result
-    part-result-start
+    (λ c κs. search needs)
+    (λ c. search needs)
+    (λ c. search needs)
+    (λ c. search needs)
     part-result-end
     returns
-    enum-told-2
-    sub-result-2
-    part-result-start-2
+    (λ c. search needs)
+    (λ c. search needs)
+    (λ c. search needs)
     part-result-end-2
     returns-2
-    enum-told-3
-    sub-result-3
-    part-result-start-3
-    part-result-end-3
+    (λ c. search needs)
+    (λ c. search needs)
+    (λ c. search needs)
+    (λ c. search needs)
     returns-3)

@@ -19,16 +19,10 @@ module _ (t flags : List ℕ) (i k : ℕ) (e : k ≡ childCount t i) where
   at-leaf : k ≡ 0 → ltb 0 (getD flags i 0) ≡ flaggedLeaf t flags i
   at-leaf z = rw (eq-eqb _ _ (sym e ∙ z))
 
-child-count-requires : tie.Need-child-count-requires
-child-count-requires c κs = search needs
-
 returns : tie.Need-returns
 returns c =
     let a = c .before .before .before .before .args in
     at-inner (a .table .now) (a .flags .now) (a .node) _ (c .before .child-count .ensures .0) (c .if1 .taken)
-
-shared-slice-read-result : tie.Need-shared-slice-read-result
-shared-slice-read-result c = search needs
 
 returns-2 : tie.Need-returns-2
 returns-2 c =
@@ -37,4 +31,4 @@ returns-2 c =
     (c .before .if1 .left)
 
 pub is-flagged-leaf-spec : {M : Type 1} → statement M
-is-flagged-leaf-spec = tie.close (tie.spec child-count-requires returns shared-slice-read-result returns-2)
+is-flagged-leaf-spec = tie.close (tie.spec (λ c κs. search needs) returns (λ c. search needs) returns-2)

@@ -18,23 +18,11 @@ start c = c .before .before .before .before .before .before
 side : (c : tie.After-side-at) → c .side-at .result ≡ sideOf (start c .args .table .now) (start c .args .node)
 side c = c .side-at .ensures ∙ placed-side _ _ (start c .pre .0 .places) _ (start c .pre .1)
 
-child-count-requires : tie.Need-child-count-requires
-child-count-requires c κs = search needs
-
 returns : tie.Need-returns
 returns c =
     let a = c .before .before .before .before .before in
     chosen-none (a .args .table .now) (a .args .front .now) (a .args .node)
     (sym (c .before .child-count .ensures .0) ∙ c .if1 .taken)
-
-side-at-requires : tie.Need-side-at-requires
-side-at-requires c κs = search needs
-
-enum-told : tie.Need-enum-told
-enum-told c = search needs
-
-first-child-requires : tie.Need-first-child-requires
-first-child-requires c κs = search needs
 
 leftmost-best-requires : tie.Need-leftmost-best-requires
 leftmost-best-requires c κs =
@@ -45,12 +33,6 @@ leftmost-best-requires c κs =
     let w = children-within _ (h .formed) (a .args .node) (a .pre .1) (omega (arith, n .ensures .0)) in
     let e = c .first-child .ensures .0 in
     (omega arith, omega (arith, n .ensures .0, e, h .sound .room), omega (arith, h .sound .few))
-
-enum-told-2 : tie.Need-enum-told-2
-enum-told-2 c = search needs
-
-link-at-requires : tie.Need-link-at-requires
-link-at-requires c κs = search needs
 
 returns-2 : tie.Need-returns-2
 returns-2 c =
@@ -71,13 +53,13 @@ pub chosen-spec : {M : Type 1} → statement M
 chosen-spec =
     tie.close
     (tie.spec
-    child-count-requires
+    (λ c κs. search needs)
     returns
-    side-at-requires
-    enum-told
-    first-child-requires
+    (λ c κs. search needs)
+    (λ c. search needs)
+    (λ c κs. search needs)
     leftmost-best-requires
-    enum-told-2
-    link-at-requires
+    (λ c. search needs)
+    (λ c κs. search needs)
     returns-2
     returns-3)

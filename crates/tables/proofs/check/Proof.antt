@@ -37,28 +37,16 @@ module _ (t : List ℕ) where
       whole : length t % frameSize ≡ 0 → answer (frames t) (framesRejection t) ≡ checked t
       whole n = ap (answer (frames t)) (sym (rejection-frames t (omega arith) l n))
 
-rejected-requires : tie.Need-rejected-requires
-rejected-requires c κs = search needs
-
 returns : tie.Need-returns
 returns c = c .rejected .ensures ∙ empty _ (c .before .if1 .taken)
 
-rejected-requires-2 : tie.Need-rejected-requires-2
-rejected-requires-2 c κs = search needs
-
 returns-2 : tie.Need-returns-2
 returns-2 c = c .rejected2 .ensures ∙ too-long _ (c .before .before .if1 .left) (c .before .if2 .taken)
-
-rejected-requires-3 : tie.Need-rejected-requires-3
-rejected-requires-3 c κs = search needs
 
 returns-3 : tie.Need-returns-3
 returns-3 c =
     c .rejected3 .ensures
     ∙ left-over _ (c .before .before .before .if1 .left) (c .before .before .if2 .left) (c .before .if3 .taken)
-
-check-frames-requires : tie.Need-check-frames-requires
-check-frames-requires c κs = search needs
 
 returns-4 : tie.Need-returns-4
 returns-4 c =
@@ -69,11 +57,11 @@ pub check-spec : {M : Type 1} → statement M
 check-spec =
     tie.close
     (tie.spec
-    rejected-requires
+    (λ c κs. search needs)
     returns
-    rejected-requires-2
+    (λ c κs. search needs)
     returns-2
-    rejected-requires-3
+    (λ c κs. search needs)
     returns-3
-    check-frames-requires
+    (λ c κs. search needs)
     returns-4)

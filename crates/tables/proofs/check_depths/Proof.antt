@@ -41,17 +41,11 @@ standing c =
     (λ w. rw (w .1, w .2) (stays _ (at-start l .pre) _ _ _ _ i (open-yet l) (w .0 .left), i .shallow))
     (c .if1 .came)
 
-frame-count-requires : tie.Need-frame-count-requires Inv-loop μ-loop
-frame-count-requires c κs = search needs
-
 loop-holds : tie.Need-loop-holds Inv-loop μ-loop
 loop-holds c = descending-none _
 
 add-depth : tie.Need-add-depth Inv-loop μ-loop
 add-depth c = omega (arith, c .before .before .loop .inv .shallow)
-
-rejected-requires : tie.Need-rejected-requires Inv-loop μ-loop
-rejected-requires c κs = search needs
 
 returns : tie.Need-returns Inv-loop μ-loop
 returns c =
@@ -98,10 +92,10 @@ check-depths-spec =
     (tie.spec
     Inv-loop
     μ-loop
-    frame-count-requires
+    (λ c κs. search needs)
     loop-holds
     add-depth
-    rejected-requires
+    (λ c κs. search needs)
     returns
     child-count-requires
     add-next

@@ -44,24 +44,9 @@ module _ (t : List ℕ) where
     formed : m ≡ n → frames t ≤ maxNodes → WellFormed t
     formed h few = stated-formed t few (all-stated t (told .0)) (sym (told .1) ∙ h ∙ p)
 
-check-nodes-requires : tie.Need-check-nodes-requires
-check-nodes-requires c κs = search needs
-
-enum-known-checked : tie.Need-enum-known-checked
-enum-known-checked c = search needs
-
-enum-told : tie.Need-enum-told
-enum-told c = search needs
-
 returns : tie.Need-returns
 returns c =
     let g = c .enum-told .given .1 in g ∙ stopped _ _ (sym g ∙ c .before .before .check-nodes .ensures)
-
-frame-count-requires : tie.Need-frame-count-requires
-frame-count-requires c κs = search needs
-
-rejected-requires : tie.Need-rejected-requires
-rejected-requires c κs = search needs
 
 returns-2 : tie.Need-returns-2
 returns-2 c =
@@ -90,12 +75,12 @@ pub check-frames-spec : {M : Type 1} → statement M
 check-frames-spec =
     tie.close
     (tie.spec
-    check-nodes-requires
-    enum-known-checked
-    enum-told
+    (λ c κs. search needs)
+    (λ c. search needs)
+    (λ c. search needs)
     returns
-    frame-count-requires
-    rejected-requires
+    (λ c κs. search needs)
+    (λ c κs. search needs)
     returns-2
     check-depths-requires
     returns-3)

@@ -39,15 +39,6 @@ byte-right : (c : tie.Else1)
     → let a = c .before .before .before .before .args in byte3Right (a .table .now) (a .node) ≡ true
 byte-right c = sym (c .before .byte-3-right .ensures) ∙ not-false _ (c .if1 .left)
 
-child-count-requires : tie.Need-child-count-requires
-child-count-requires c κs = search needs
-
-byte-3-right-requires : tie.Need-byte-3-right-requires
-byte-3-right-requires c κs = search needs
-
-rejected-requires : tie.Need-rejected-requires
-rejected-requires c κs = search needs
-
 returns : tie.Need-returns
 returns c =
     let a = c .before .before .before .before .before .args in
@@ -55,19 +46,10 @@ returns c =
     ∙ no-4 (a .table .now) (a .node) _
     (sym (c .before .before .byte-3-right .ensures) ∙ not-true _ (c .before .if1 .taken))
 
-rejected-requires-2 : tie.Need-rejected-requires-2
-rejected-requires-2 c κs = search needs
-
 returns-2 : tie.Need-returns-2
 returns-2 c =
     let a = c .before .before .before .before .before .before .args in
     c .rejected2 .ensures ∙ no-5 (a .table .now) (a .node) _ (byte-right (c .before .before)) (omega arith)
-
-first-child-right-requires : tie.Need-first-child-right-requires
-first-child-right-requires c κs = search needs
-
-rejected-requires-3 : tie.Need-rejected-requires-3
-rejected-requires-3 c κs = search needs
 
 returns-3 : tie.Need-returns-3
 returns-3 c =
@@ -76,12 +58,6 @@ returns-3 c =
     c .rejected3 .ensures
     ∙ no-6 (a .table .now) (a .node) _ (byte-right (e .before .before)) (omega arith)
     (sym (e .first-child-right .ensures) ∙ not-true _ (c .before .if3 .taken))
-
-value-right-requires : tie.Need-value-right-requires
-value-right-requires c κs = search needs
-
-rejected-requires-4 : tie.Need-rejected-requires-4
-rejected-requires-4 c κs = search needs
 
 returns-4 : tie.Need-returns-4
 returns-4 c =
@@ -92,9 +68,6 @@ returns-4 c =
     ∙ no-7 (a .table .now) (a .node) _ (byte-right (e .before .before)) (omega arith)
     (sym (e .first-child-right .ensures) ∙ not-false _ (f .before .if3 .left))
     (sym (f .value-right .ensures) ∙ not-true _ (c .before .if4 .taken))
-
-add-t7 : tie.Need-add-t7
-add-t7 c = search needs
 
 returns-5 : tie.Need-returns-5
 returns-5 c =
@@ -111,17 +84,17 @@ pub check-node-spec : {M : Type 1} → statement M
 check-node-spec =
     tie.close
     (tie.spec
-    child-count-requires
-    byte-3-right-requires
-    rejected-requires
+    (λ c κs. search needs)
+    (λ c κs. search needs)
+    (λ c κs. search needs)
     returns
-    rejected-requires-2
+    (λ c κs. search needs)
     returns-2
-    first-child-right-requires
-    rejected-requires-3
+    (λ c κs. search needs)
+    (λ c κs. search needs)
     returns-3
-    value-right-requires
-    rejected-requires-4
+    (λ c κs. search needs)
+    (λ c κs. search needs)
     returns-4
-    add-t7
+    (λ c. search needs)
     returns-5)

@@ -24,15 +24,6 @@ module _ (t flags : List ℕ) where
   unfolding verdict certificateRejection
   table-accepted n e = judged-onward t flags (frames t) (rejection t) (flagsRejection t flags) n e
 
-check-requires : tie.Need-check-requires
-check-requires c κs = search needs
-
-enum-known-checked : tie.Need-enum-known-checked
-enum-known-checked c = search needs
-
-enum-told : tie.Need-enum-told
-enum-told c = search needs
-
 check-certificate-requires : tie.Need-check-certificate-requires
 check-certificate-requires c κs =
     let k = c .before .before in
@@ -57,9 +48,9 @@ pub check-spec : {M : Type 1} → statement M
 check-spec =
     tie.close
     (tie.spec
-    check-requires
-    enum-known-checked
-    enum-told
+    (λ c κs. search needs)
+    (λ c. search needs)
+    (λ c. search needs)
     check-certificate-requires
     returns
     returns-2)

@@ -39,25 +39,10 @@ module _ (t flags : List ℕ) where
     right-flags k e =
         rw (le-leb _ _ h) (judged-onward t flags (frames t) (check11 t flags) (treesRejection t flags) k e)
 
-frame-count-requires : tie.Need-frame-count-requires
-frame-count-requires c κs = search needs
-
 returns : tie.Need-returns
 returns c =
     let a = c .before .before .before .before .args in
     too-few (a .table .now) (a .flags .now) (omega arith)
-
-check-flags-requires : tie.Need-check-flags-requires
-check-flags-requires c κs = search needs
-
-enum-known-checked : tie.Need-enum-known-checked
-enum-known-checked c = search needs
-
-enum-told : tie.Need-enum-told
-enum-told c = search needs
-
-check-trees-requires : tie.Need-check-trees-requires
-check-trees-requires c κs = search needs
 
 returns-2 : tie.Need-returns-2
 returns-2 c =
@@ -79,11 +64,11 @@ pub check-certificate-spec : {M : Type 1} → statement M
 check-certificate-spec =
     tie.close
     (tie.spec
-    frame-count-requires
+    (λ c κs. search needs)
     returns
-    check-flags-requires
-    enum-known-checked
-    enum-told
-    check-trees-requires
+    (λ c κs. search needs)
+    (λ c. search needs)
+    (λ c. search needs)
+    (λ c κs. search needs)
     returns-2
     returns-3)

@@ -24,28 +24,13 @@ Inv-loop table flags n node₀ node = Asking (inRange flags) 11 (frames table) n
 abbrev μ-loop : tie.MeasureT-loop
 μ-loop table flags n node₀ node = n - node
 
-frame-count-requires : tie.Need-frame-count-requires Inv-loop μ-loop
-frame-count-requires c κs = search needs
-
 loop-holds : tie.Need-loop-holds Inv-loop μ-loop
 loop-holds c = asking-none _ _ _
-
-shared-slice-read-if1 : tie.Need-shared-slice-read-if1 Inv-loop μ-loop
-shared-slice-read-if1 c = search needs
-
-rejected-requires : tie.Need-rejected-requires Inv-loop μ-loop
-rejected-requires c κs = search needs
 
 returns : tie.Need-returns Inv-loop μ-loop
 returns c =
     let l = c .before .before .before .before in
     c .rejected .ensures ∙ asking-until _ _ _ _ (l .loop .inv) (omega arith) (lt-leb _ _ (c .before .if1 .taken))
-
-add-node : tie.Need-add-node Inv-loop μ-loop
-add-node c = search needs
-
-loop-less : tie.Need-loop-less Inv-loop μ-loop
-loop-less c = search needs
 
 loop-again : tie.Need-loop-again Inv-loop μ-loop
 loop-again c =
@@ -61,12 +46,12 @@ check-flags-spec =
     (tie.spec
     Inv-loop
     μ-loop
-    frame-count-requires
+    (λ c κs. search needs)
     loop-holds
-    shared-slice-read-if1
-    rejected-requires
+    (λ c. search needs)
+    (λ c κs. search needs)
     returns
-    add-node
-    loop-less
+    (λ c. search needs)
+    (λ c. search needs)
     loop-again
     returns-2)

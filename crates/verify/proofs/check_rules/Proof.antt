@@ -29,9 +29,6 @@ holds : (c : tie.Else1 Inv-loop μ-loop) →
     ruleHolds (a .side) (a .table .now) (a .flags .now) (l .loop .node) ≡ true
 holds c = sym (c .before .rule-holds .ensures) ∙ not-false _ (c .if1 .left)
 
-frame-count-requires : tie.Need-frame-count-requires Inv-loop μ-loop
-frame-count-requires c κs = search needs
-
 loop-holds : tie.Need-loop-holds Inv-loop μ-loop
 loop-holds c = ruling-none _ _ _ _ (c .before .before .before .before .pre .0)
 
@@ -44,9 +41,6 @@ rule-holds-requires c κs =
     let p = at-start l .pre in
     let h = l .loop .inv .inside in
     (p .0, ((h, p .1), c .side-at .ensures ∙ placed-side _ _ (p .2) _ h))
-
-rejected-requires : tie.Need-rejected-requires Inv-loop μ-loop
-rejected-requires c κs = search needs
 
 returns : tie.Need-returns Inv-loop μ-loop
 returns c =
@@ -94,11 +88,11 @@ check-rules-spec =
     (tie.spec
     Inv-loop
     μ-loop
-    frame-count-requires
+    (λ c κs. search needs)
     loop-holds
     side-at-requires
     rule-holds-requires
-    rejected-requires
+    (λ c κs. search needs)
     returns
     child-count-requires
     add-next

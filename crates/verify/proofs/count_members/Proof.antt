@@ -14,26 +14,8 @@ Inv-loop flags first count side end members₀ node₀ members node = Counted si
 abbrev μ-loop : tie.MeasureT-loop
 μ-loop flags first count side end members₀ node₀ members node = end - node
 
-add-end : tie.Need-add-end Inv-loop μ-loop
-add-end c = search needs
-
 loop-holds : tie.Need-loop-holds Inv-loop μ-loop
 loop-holds c = counted-none _ _ _ _
-
-shared-slice-read-is-member : tie.Need-shared-slice-read-is-member Inv-loop μ-loop
-shared-slice-read-is-member c = search needs
-
-is-member-requires : tie.Need-is-member-requires Inv-loop μ-loop
-is-member-requires c κs = search needs
-
-add-members : tie.Need-add-members Inv-loop μ-loop
-add-members c = search needs
-
-add-node : tie.Need-add-node Inv-loop μ-loop
-add-node c = search needs
-
-loop-less : tie.Need-loop-less Inv-loop μ-loop
-loop-less c = search needs
 
 loop-again : tie.Need-loop-again Inv-loop μ-loop
 loop-again c =
@@ -51,12 +33,12 @@ count-members-spec =
     (tie.spec
     Inv-loop
     μ-loop
-    add-end
+    (λ c. search needs)
     loop-holds
-    shared-slice-read-is-member
-    is-member-requires
-    add-members
-    add-node
-    loop-less
+    (λ c. search needs)
+    (λ c κs. search needs)
+    (λ c. search needs)
+    (λ c. search needs)
+    (λ c. search needs)
     loop-again
     returns)

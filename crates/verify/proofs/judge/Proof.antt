@@ -53,26 +53,11 @@ module _ (t flags : List ℕ) where
     equal : x ≡ y → Value (valueOf x) ≡ judged t flags (check14 t flags)
     equal h = rw (← p, ← q, eq-eqb x y h) (ap (λ s. Value (valueOf s)) p)
 
-check-rules-requires : tie.Need-check-rules-requires
-check-rules-requires c κs = search needs
-
-enum-known-max-tree : tie.Need-enum-known-max-tree
-enum-known-max-tree c = search needs
-
 returns : tie.Need-returns
 returns c =
     let m = c .before .before .before in
     let a = m .before .before .before .before .args in
     no-max (a .table .now) (a .flags .now) _ (rw (c .before .max-tree .given .1) at (m .check-rules .ensures))
-
-enum-told : tie.Need-enum-told
-enum-told c = search needs
-
-check-rules-requires-2 : tie.Need-check-rules-requires-2
-check-rules-requires-2 c κs = search needs
-
-enum-known-min-tree : tie.Need-enum-known-min-tree
-enum-known-min-tree c = search needs
 
 returns-2 : tie.Need-returns-2
 returns-2 c =
@@ -82,15 +67,6 @@ returns-2 c =
     let a = m .before .before .before .before .args in
     no-min (a .table .now) (a .flags .now) _ (rw (e .enum-told .given .1) at (m .check-rules .ensures)) _
     (rw (c .before .min-tree .given .1) at (n .check-rules2 .ensures))
-
-enum-told-2 : tie.Need-enum-told-2
-enum-told-2 c = search needs
-
-tree-value-requires : tie.Need-tree-value-requires
-tree-value-requires c κs = search needs
-
-tree-value-requires-2 : tie.Need-tree-value-requires-2
-tree-value-requires-2 c κs = search needs
 
 -- questions 12 and 13 have passed
 passed : (c : tie.After-enum-told2) →
@@ -130,16 +106,16 @@ pub judge-spec : {M : Type 1} → statement M
 judge-spec =
     tie.close
     (tie.spec
-    check-rules-requires
-    enum-known-max-tree
+    (λ c κs. search needs)
+    (λ c. search needs)
     returns
-    enum-told
-    check-rules-requires-2
-    enum-known-min-tree
+    (λ c. search needs)
+    (λ c κs. search needs)
+    (λ c. search needs)
     returns-2
-    enum-told-2
-    tree-value-requires
-    tree-value-requires-2
+    (λ c. search needs)
+    (λ c κs. search needs)
+    (λ c κs. search needs)
     returns-3
     value-requires
     returns-4)

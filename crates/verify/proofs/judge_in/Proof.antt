@@ -4,20 +4,11 @@ use Rattle.places.proofs.Places.{placed}
 use Rattle.verify.proofs.judge_in.Statement.{statement}
 use Rattle.verify.proofs.judge_in.Tie as tie
 
-fill-requires : tie.Need-fill-requires
-fill-requires c κs = search needs
-
 judge-requires : tie.Need-judge-requires
 judge-requires c κs =
     let f = c .before .before .before in
     let p = f .before .before .before .before .before .pre in
     (p .0, p .1, placed _ (p .0) _ (p .2) (f .fill .ensures))
 
-same-length : tie.Need-same-length
-same-length c = search needs
-
-returns : tie.Need-returns
-returns c = search needs
-
 pub judge-in-spec : {M : Type 1} → statement M
-judge-in-spec = tie.close (tie.spec fill-requires judge-requires same-length returns)
+judge-in-spec = tie.close (tie.spec (λ c κs. search needs) judge-requires (λ c. search needs) (λ c. search needs))

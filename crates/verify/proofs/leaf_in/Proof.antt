@@ -11,12 +11,6 @@ use Rattle.verify.proofs.Values.{leaf-in, inner-in}
 use Rattle.verify.proofs.leaf_in.Statement.{statement}
 use Rattle.verify.proofs.leaf_in.Tie as tie
 
-child-count-requires : tie.Need-child-count-requires
-child-count-requires c κs = search needs
-
-worst-requires : tie.Need-worst-requires
-worst-requires c κs = search needs
-
 returns : tie.Need-returns
 returns c =
     let n = c .before .before in
@@ -24,18 +18,6 @@ returns c =
     c .worst .ensures
     ∙ sym (inner-in (a .side) (a .table .now) (a .flags .now) (a .node) (λ e.
     c .before .if1 .taken (n .child-count .ensures .0 ∙ e)))
-
-shared-slice-read-is-member : tie.Need-shared-slice-read-is-member
-shared-slice-read-is-member c = search needs
-
-is-member-requires : tie.Need-is-member-requires
-is-member-requires c κs = search needs
-
-leaf-score-requires : tie.Need-leaf-score-requires
-leaf-score-requires c κs = search needs
-
-worst-requires-2 : tie.Need-worst-requires-2
-worst-requires-2 c κs = search needs
 
 -- the node is a leaf
 is-leaf : (c : tie.After-is-member) →
@@ -67,12 +49,12 @@ pub leaf-in-spec : {M : Type 1} → statement M
 leaf-in-spec =
     tie.close
     (tie.spec
-    child-count-requires
-    worst-requires
+    (λ c κs. search needs)
+    (λ c κs. search needs)
     returns
-    shared-slice-read-is-member
-    is-member-requires
-    leaf-score-requires
-    worst-requires-2
+    (λ c. search needs)
+    (λ c κs. search needs)
+    (λ c κs. search needs)
+    (λ c κs. search needs)
     returns-2
     returns-3)

@@ -14,9 +14,6 @@ in-tree : (p q : Side) (n : ℕ) → 0 < n → cond (same p q) n 1 ≡ requiredO
 in-tree p q zero h = absurd (omega arith)
 in-tree p q (suc n) h = refl
 
-same-requires : tie.Need-same-requires
-same-requires c κs = search needs
-
 returns : tie.Need-returns
 returns c =
     let s = c .before in
@@ -30,4 +27,4 @@ returns-2 c =
     rw (sym (s .same .ensures) ∙ c .if1 .left) at (in-tree (a .side) (a .mover) (a .count) (s .before .pre))
 
 pub required-spec : {M : Type 1} → statement M
-required-spec = tie.close (tie.spec same-requires returns returns-2)
+required-spec = tie.close (tie.spec (λ c κs. search needs) returns returns-2)

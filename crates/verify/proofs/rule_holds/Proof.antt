@@ -41,12 +41,6 @@ module _ (p : Side) (t flags : List ℕ) (i : ℕ) (r : rootMember p flags i ≡
   unfolding ruleHolds
   inner-holds m k f n q b ef en eq eb em ek = rw (r, ← ef, ← en, ← eq, ← eb, em, ek)
 
-shared-slice-read-is-member : tie.Need-shared-slice-read-is-member
-shared-slice-read-is-member c = search needs
-
-is-member-requires : tie.Need-is-member-requires
-is-member-requires c κs = search needs
-
 returns : tie.Need-returns
 returns c =
     let m = c .before .before in
@@ -64,18 +58,12 @@ root-in c =
     root-member (a .side) (a .flags .now) (a .node) (λ z.
     ⊎-elim (λ w. sym (m .is-member .ensures) ∙ not-false _ (w .1 .left)) (λ w. absurd (w .left z)) (c .if1 .came))
 
-child-count-requires : tie.Need-child-count-requires
-child-count-requires c κs = search needs
-
 returns-2 : tie.Need-returns-2
 returns-2 c =
     let n = c .before in
     let a = n .before .before .before .before .before .before .args in
     leaf-holds (a .side) (a .table .now) (a .flags .now) (a .node) (root-in (n .before)) _ (n .child-count .ensures .0)
     (c .if3 .taken)
-
-first-child-requires : tie.Need-first-child-requires
-first-child-requires c κs = search needs
 
 count-members-requires : tie.Need-count-members-requires
 count-members-requires c κs =
@@ -106,9 +94,6 @@ returns-3 c =
     inner (c .before) false 0 (not-true _ (c .if4 .taken))
     (sym (required-outside (a .side) (a .mover) (n .child-count .result)))
 
-required-requires : tie.Need-required-requires
-required-requires c κs = search needs
-
 returns-4 : tie.Need-returns-4
 returns-4 c = inner (c .before .before) true _ (not-false _ (c .before .if4 .left)) (c .required .ensures)
 
@@ -116,13 +101,13 @@ pub rule-holds-spec : {M : Type 1} → statement M
 rule-holds-spec =
     tie.close
     (tie.spec
-    shared-slice-read-is-member
-    is-member-requires
+    (λ c. search needs)
+    (λ c κs. search needs)
     returns
-    child-count-requires
+    (λ c κs. search needs)
     returns-2
-    first-child-requires
+    (λ c κs. search needs)
     count-members-requires
     returns-3
-    required-requires
+    (λ c κs. search needs)
     returns-4)

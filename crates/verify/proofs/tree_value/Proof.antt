@@ -15,18 +15,9 @@ Inv-loop table flags places side n best₀ node₀ best node = (best ≡ bestBef
 abbrev μ-loop : tie.MeasureT-loop
 μ-loop table flags places side n best₀ node₀ best node = n - node
 
-frame-count-requires : tie.Need-frame-count-requires Inv-loop μ-loop
-frame-count-requires c κs = search needs
-
-worst-requires : tie.Need-worst-requires Inv-loop μ-loop
-worst-requires c κs = search needs
-
 loop-holds : tie.Need-loop-holds Inv-loop μ-loop
 unfolding bestBefore
 loop-holds c = (c .worst .ensures, omega arith)
-
-depth-at-requires : tie.Need-depth-at-requires Inv-loop μ-loop
-depth-at-requires c κs = search needs
 
 leaf-in-requires : tie.Need-leaf-in-requires Inv-loop μ-loop
 leaf-in-requires c κs =
@@ -35,15 +26,6 @@ leaf-in-requires c κs =
     let d = placed-depth _ _ p (l .loop .node) (omega arith) in
     let few = placed-few _ _ p (l .loop .node) (omega arith) in
     (omega arith, (omega (arith, c .depth-at .ensures, d), omega (arith, c .depth-at .ensures, d, few)))
-
-better-requires : tie.Need-better-requires Inv-loop μ-loop
-better-requires c κs = search needs
-
-add-node : tie.Need-add-node Inv-loop μ-loop
-add-node c = search needs
-
-loop-less : tie.Need-loop-less Inv-loop μ-loop
-loop-less c = search needs
 
 loop-again : tie.Need-loop-again Inv-loop μ-loop
 loop-again c =
@@ -67,13 +49,13 @@ tree-value-spec =
     (tie.spec
     Inv-loop
     μ-loop
-    frame-count-requires
-    worst-requires
+    (λ c κs. search needs)
+    (λ c κs. search needs)
     loop-holds
-    depth-at-requires
+    (λ c κs. search needs)
     leaf-in-requires
-    better-requires
-    add-node
-    loop-less
+    (λ c κs. search needs)
+    (λ c. search needs)
+    (λ c. search needs)
     loop-again
     returns)

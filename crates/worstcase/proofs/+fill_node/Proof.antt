@@ -56,9 +56,6 @@ module _ (t : ℕ) where
   abbrev start : lts.At-loop (calls t) (at t) own.Post Inv μ-loop → lts.Start (calls t) (at t) own.Post Inv μ-loop
   start l = l .before .before .before .before .before .before .before
 
-  child-count-requires : lts.Need-child-count-requires (calls t) (at t) own.Post Inv μ-loop
-  child-count-requires c κs = search needs
-
   put-rank-requires : lts.Need-put-rank-requires (calls t) (at t) own.Post Inv μ-loop
   put-rank-requires c κs =
       let a = c .before .before .before .before .before in
@@ -69,25 +66,16 @@ module _ (t : ℕ) where
       let a = c .before .before .before .before .before .before .before .before in
       omega (arith, leaf-few _ _ _ _ (a .pre .1) (omega arith))
 
-  same-length : lts.Need-same-length (calls t) (at t) own.Post Inv μ-loop
-  same-length c = search needs
-
   returns : lts.Need-returns (calls t) (at t) own.Post Inv μ-loop
   returns c =
       let a = c .before .before .before .before .before .before .before .before in
       leaf-due _ _ _ _ (a .pre .1) (omega arith) _ (c .before .before .put-rank .ensures)
-
-  first-child-requires : lts.Need-first-child-requires (calls t) (at t) own.Post Inv μ-loop
-  first-child-requires c κs = search needs
 
   loop-holds : lts.Need-loop-holds (calls t) (at t) own.Post Inv μ-loop
   loop-holds c =
       let a = c .before .before .before .before .before .before in
       turns-begin _ _ _ _ (a .pre .1) _ _ (omega arith) (c .first-child .ensures .0)
       (c .before .before .before .child-count .ensures .0)
-
-  in-turn-requires : lts.Need-in-turn-requires (calls t) (at t) own.Post Inv μ-loop
-  in-turn-requires c κs = search needs
 
   child-side-requires : lts.Need-child-side-requires (calls t) (at t) own.Post Inv μ-loop
   child-side-requires c κs =
@@ -111,12 +99,6 @@ module _ (t : ℕ) where
             (c .before .child-side .ensures),
       )
 
-  add-turn : lts.Need-add-turn (calls t) (at t) own.Post Inv μ-loop
-  add-turn c = search needs
-
-  loop-less : lts.Need-loop-less (calls t) (at t) own.Post Inv μ-loop
-  loop-less c = search needs
-
   loop-again : lts.Need-loop-again (calls t) (at t) own.Post Inv μ-loop
   loop-again c =
       let f = c .before .before in
@@ -125,9 +107,6 @@ module _ (t : ℕ) where
       turn-goes-on _ _ _ _ (start l .pre .1) _ _ _ _ _ (l .loop .inv) (l .before .first-child .ensures .0)
       (l .before .before .before .before .child-count .ensures .0) (omega arith) _ (k .in-turn .ensures) _ _
       (f .fill-node .ensures .0) (f .fill-node .ensures .1)
-
-  same-length-2 : lts.Need-same-length-2 (calls t) (at t) own.Post Inv μ-loop
-  same-length-2 c = search needs
 
   returns-2 : lts.Need-returns-2 (calls t) (at t) own.Post Inv μ-loop
   returns-2 c =
@@ -139,18 +118,18 @@ pub +fill-node-spec : {M : Type 1} → statement M
     own.Post
     Inv
     μ-loop
-    (child-count-requires t)
+    (λ c κs. search needs)
     (put-rank-requires t)
     (add-result t)
-    (same-length t)
+    (λ c. search needs)
     (returns t)
-    (first-child-requires t)
+    (λ c κs. search needs)
     (loop-holds t)
-    (in-turn-requires t)
+    (λ c κs. search needs)
     (child-side-requires t)
     (fill-node-requires t)
-    (add-turn t)
-    (loop-less t)
+    (λ c. search needs)
+    (λ c. search needs)
     (loop-again t)
-    (same-length-2 t)
+    (λ c. search needs)
     (returns-2 t)

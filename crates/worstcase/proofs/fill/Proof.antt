@@ -5,22 +5,10 @@ use Rattle.worstcase.proofs.Whole.{checked-fillable, fill-gives, fill-r
 use Rattle.worstcase.proofs.fill.Statement.{statement}
 use Rattle.worstcase.proofs.fill.Tie as tie
 
-check-requires : tie.Need-check-requires
-check-requires c κs = search needs
-
-enum-told : tie.Need-enum-told
-enum-told c = search needs
-
 fill-node-requires : tie.Need-fill-node-requires
 fill-node-requires c κs =
     let k = c .before in
     checked-fillable _ _ (sym (k .enum-told .given .1) ∙ k .before .before .check .ensures)
-
-enum-known-rejection : tie.Need-enum-known-rejection
-enum-known-rejection c = search needs
-
-same-length : tie.Need-same-length
-same-length c = search needs
 
 returns : tie.Need-returns
 returns c =
@@ -28,9 +16,6 @@ returns c =
     let k = f .before .before in
     fill-gives _ _ (sym (k .enum-told .given .1) ∙ k .before .before .check .ensures) _ _ (f .fill-node .ensures .0)
     (f .fill-node .ensures .1)
-
-same-length-2 : tie.Need-same-length-2
-same-length-2 c = search needs
 
 returns-2 : tie.Need-returns-2
 returns-2 c =
@@ -41,11 +26,11 @@ pub fill-spec : {M : Type 1} → statement M
 fill-spec =
     tie.close
     (tie.spec
-    check-requires
-    enum-told
+    (λ c κs. search needs)
+    (λ c. search needs)
     fill-node-requires
-    enum-known-rejection
-    same-length
+    (λ c. search needs)
+    (λ c. search needs)
     returns
-    same-length-2
+    (λ c. search needs)
     returns-2)

@@ -4,24 +4,6 @@ use borrow.Author.Needs.{needs}
 use Rattle.worstcase.proofs.in_turn.Statement.{statement}
 use Rattle.worstcase.proofs.in_turn.Tie as tie
 
-enum-told : tie.Need-enum-told
-enum-told c = search needs
-
-add-result : tie.Need-add-result
-add-result c = search needs
-
-enum-told-2 : tie.Need-enum-told-2
-enum-told-2 c = search needs
-
-sub-result : tie.Need-sub-result
-sub-result c = search needs
-
-sub-result-2 : tie.Need-sub-result-2
-sub-result-2 c = search needs
-
-add-result-2 : tie.Need-add-result-2
-add-result-2 c = search needs
-
 returns : tie.Need-returns
 returns c = rw (c .enum-told .given .1) (omega arith)
 
@@ -32,11 +14,11 @@ pub in-turn-spec : {M : Type 1} → statement M
 in-turn-spec =
     tie.close
     (tie.spec
-    enum-told
-    add-result
-    enum-told-2
-    sub-result
-    sub-result-2
-    add-result-2
+    (λ c. search needs)
+    (λ c. search needs)
+    (λ c. search needs)
+    (λ c. search needs)
+    (λ c. search needs)
+    (λ c. search needs)
     returns
     returns-2)

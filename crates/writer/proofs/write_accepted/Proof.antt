@@ -21,12 +21,6 @@ write-lines-requires c κs =
     let s = accepted-stated _ (p .0) in
     ((omega (arith, p .1, s .most), omega (arith, p .1, s .whole)), omega (arith, e .if1 .left))
 
-mul-t4 : tie.Need-mul-t4
-mul-t4 c = search needs
-
-same-length : tie.Need-same-length
-same-length c = search needs
-
 returns-2 : tie.Need-returns-2
 returns-2 c =
     let w = c .before .before in
@@ -36,4 +30,4 @@ returns-2 c =
 
 pub write-accepted-spec : {M : Type 1} → statement M
 write-accepted-spec =
-    tie.close (tie.spec mul-if1 returns write-lines-requires mul-t4 same-length returns-2)
+    tie.close (tie.spec mul-if1 returns write-lines-requires (λ c. search needs) (λ c. search needs) returns-2)

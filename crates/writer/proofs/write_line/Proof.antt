@@ -17,48 +17,21 @@ abbrev μ-loop : tie.MeasureT-loop
 loop-holds : tie.Need-loop-holds Inv-loop μ-loop
 loop-holds c = laying-none _ (c .before .before .pre .1) _
 
-shared-slice-read-byte : tie.Need-shared-slice-read-byte Inv-loop μ-loop
-shared-slice-read-byte c = search needs
-
 capital-requires : tie.Need-capital-requires Inv-loop μ-loop
 capital-requires c κs = omega (arith, c .shared-slice-known2 .given (c .before .before .loop .k))
-
-mul-file : tie.Need-mul-file Inv-loop μ-loop
-mul-file c = search needs
-
-slice-write-file : tie.Need-slice-write-file Inv-loop μ-loop
-slice-write-file c = search needs
 
 capital-requires-2 : tie.Need-capital-requires-2 Inv-loop μ-loop
 capital-requires-2 c κs =
     omega (arith, c .before .shared-slice-known2 .given (c .before .before .before .loop .k))
 
-mul-file-2 : tie.Need-mul-file-2 Inv-loop μ-loop
-mul-file-2 c = search needs
-
-add-file : tie.Need-add-file Inv-loop μ-loop
-add-file c = search needs
-
 slice-write-file-2 : tie.Need-slice-write-file-2 Inv-loop μ-loop
 slice-write-file-2 c = simp length-set (omega arith)
-
-add-k : tie.Need-add-k Inv-loop μ-loop
-add-k c = search needs
-
-loop-less : tie.Need-loop-less Inv-loop μ-loop
-loop-less c = search needs
 
 loop-again : tie.Need-loop-again Inv-loop μ-loop
 loop-again c =
     let l = c .before .before .before .before in
     let six = l .before .before .before .pre .1 in
     laying-next _ six _ _ _ (l .loop .inv) _ _ (omega arith) (c .before .capital .ensures) (c .capital2 .ensures)
-
-slice-write-file-3 : tie.Need-slice-write-file-3 Inv-loop μ-loop
-slice-write-file-3 c = search needs
-
-same-length : tie.Need-same-length Inv-loop μ-loop
-same-length c = search needs
 
 returns : tie.Need-returns Inv-loop μ-loop
 returns c =
@@ -73,17 +46,17 @@ write-line-spec =
     Inv-loop
     μ-loop
     loop-holds
-    shared-slice-read-byte
+    (λ c. search needs)
     capital-requires
-    mul-file
-    slice-write-file
+    (λ c. search needs)
+    (λ c. search needs)
     capital-requires-2
-    mul-file-2
-    add-file
+    (λ c. search needs)
+    (λ c. search needs)
     slice-write-file-2
-    add-k
-    loop-less
+    (λ c. search needs)
+    (λ c. search needs)
     loop-again
-    slice-write-file-3
-    same-length
+    (λ c. search needs)
+    (λ c. search needs)
     returns)

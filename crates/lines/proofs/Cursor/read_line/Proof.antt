@@ -47,18 +47,9 @@ read : (c : tie.After-frame-of) (next : ℕ) → let s = c .before .before .befo
     → Read (c .frame-of .result) (record { at = next }) ≡ lineAt (file s) (position s)
 read c next e = rw (frame c, ← e) (sym (line-read _ _ (is (c .before .before))))
 
-slice-aggregate-decode-line : tie.Need-slice-aggregate-decode-line
-slice-aggregate-decode-line c = search needs
-
-decode-line-requires : tie.Need-decode-line-requires
-decode-line-requires c κs = search needs
-
 returns : tie.Need-returns
 returns c =
     sym (line-none _ _ (sym (c .before .before .decode-line .ensures .answered) ∙ not-true _ (c .if1 .taken)))
-
-frame-of-requires : tie.Need-frame-of-requires
-frame-of-requires c κs = search needs
 
 add-end : tie.Need-add-end
 add-end c = omega (arith, fits (c .before .before))
@@ -76,10 +67,10 @@ pub read-line-spec : {M : Type 1} → statement M
 read-line-spec =
     tie.close
     (tie.spec
-    slice-aggregate-decode-line
-    decode-line-requires
+    (λ c. search needs)
+    (λ c κs. search needs)
     returns
-    frame-of-requires
+    (λ c κs. search needs)
     add-end
     returns-2
     add-t13
