@@ -7,7 +7,7 @@ use lib.Seq.{drop-cons}
 use native.Mathlib.Omega.{arith}
 use native.Mathlib.Numerals.{add-one}
 use borrow.Author.Tests.{lt-ltb, le-ltb, le-leb, lt-leb, eq-eqb, ne-eqb}
-use Rattle.casetext.specs.Numbers.{Reading, blank, longer, started, continued, byteRead, bytesRead}
+use Rattle.casetext.specs.Numbers.{Reading, blankByte, longer, started, continued, byteRead, bytesRead}
 
 pub longer-digit : (n b : ℕ) → 48 ≤ b → b ≤ 57 → longer n b ≡ n % 10000000 * 10 + (b - 48)
 longer-digit n b h k = rw (le-leb 48 b h, le-leb b 57 k)
@@ -25,16 +25,16 @@ pub started-none : (ns : List ℕ) (k : ℕ) → length ns ≤ k → started ns 
 started-none ns k h = rw (le-ltb k (length ns) h)
 
 module _ (b k : ℕ) (ns : List ℕ) where
-  pub byte-starts : b ≡ blank → byteRead b (record { numbers = ns; count = k }) ≡ started ns k
-  byte-starts e = rw (eq-eqb b blank e)
+  pub byte-starts : b ≡ blankByte → byteRead b (record { numbers = ns; count = k }) ≡ started ns k
+  byte-starts e = rw (eq-eqb b blankByte e)
 
-  module _ (other : b ≡ blank → ⊥) where
+  module _ (other : b ≡ blankByte → ⊥) where
     pub byte-continues : 0 < k → byteRead b (record { numbers = ns; count = k })
         ≡ record { numbers = set ns (k - 1) (longer (getD ns (k - 1) 0) b); count = k }
-    byte-continues h = rw (ne-eqb b blank other, lt-ltb 0 k h)
+    byte-continues h = rw (ne-eqb b blankByte other, lt-ltb 0 k h)
 
     pub byte-ignored : k ≤ 0 → byteRead b (record { numbers = ns; count = k }) ≡ record { numbers = ns; count = k }
-    byte-ignored h = rw (ne-eqb b blank other, le-ltb 0 k h)
+    byte-ignored h = rw (ne-eqb b blankByte other, le-ltb 0 k h)
 
 -- the bytes from i on are byte i and those behind it
 pub bytes-next : (call : List ℕ) (i : ℕ) (r q whole : Reading) → i < length call

@@ -10,8 +10,8 @@ pub record Reading : Type 0 where
   pub numbers : List ℕ
   pub count : ℕ
 
-abbrev pub blank : ℕ
-blank = 32
+abbrev pub blankByte : ℕ
+blankByte = 32
 
 abbrev pub isDecimal : ℕ → Bool
 isDecimal b = leb 48 b && leb b 57
@@ -33,7 +33,7 @@ continued b ns k =
 
 -- one byte of a call: a blank starts a number
 abbrev pub byteRead : ℕ → Reading → Reading
-byteRead b r = cond (eqb b blank) (started (r .numbers) (r .count)) (continued b (r .numbers) (r .count))
+byteRead b r = cond (eqb b blankByte) (started (r .numbers) (r .count)) (continued b (r .numbers) (r .count))
 
 -- the bytes of a call in order
 unfoldable pub bytesRead : List ℕ → Reading → Reading

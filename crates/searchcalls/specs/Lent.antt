@@ -13,19 +13,22 @@ use Rattle.searchcalls.specs.declared.Method.{Method}
 use Rattle.searchcalls.specs.declared.Method.the-variants.{AlphaBeta, Mtd, Sss, Plain}
 
 -- the marks, the certificate and the list of leaves
-pub record Lent : Type 0 where
+pub record LentBuffers : Type 0 where
   pub evaluated : List ℕ
   pub certificate : List ℕ
   pub order : List ℕ
 
-abbrev pub lentTo : {A : Type 0} → Outcome A → List ℕ → Lent
-lentTo s o = record { evaluated = s .evaluated; certificate = s .certificate; order = o }
+abbrev pub lentBuffers : (e c o : List ℕ) → LentBuffers
+lentBuffers e c o = record { evaluated = e; certificate = c; order = o }
 
-abbrev pub listedTo : {A : Type 0} → Listed A → Lent
+abbrev pub lentTo : {A : Type 0} → Outcome A → List ℕ → LentBuffers
+lentTo s o = lentBuffers (s .evaluated) (s .certificate) o
+
+abbrev pub listedTo : {A : Type 0} → Listed A → LentBuffers
 listedTo r = lentTo (r .search) (r .order)
 
 -- after a search of the table t by each method; the plain engine is lent no list
-unfoldable pub lentAfter : Method → (t e c o : List ℕ) → Lent
+unfoldable pub lentAfter : Method → (t e c o : List ℕ) → LentBuffers
 lentAfter AlphaBeta t e c o = listedTo (alphaBetaOutcome t e c o)
 lentAfter Mtd t e c o = listedTo (mtdOutcome t e c o)
 lentAfter (Sss allowance) t e c o = listedTo (solveOutcome allowance t e c o)

@@ -20,7 +20,7 @@ ghost use mathlib.Core.Path.{_≡_};
 ghost use Prim.Native.Nat.{min};
 ghost use lib.ListN.{length};
 ghost use Rattle.io.specs.Counts.{Counts};
-ghost use Rattle.searchcalls.specs.Lent.{lentAfter, lentList, lentFlags};
+ghost use Rattle.searchcalls.specs.Lent.{lentBuffers, lentAfter, lentList, lentFlags};
 
 // What lent lists are filled with: it is no node's number.
 const UNLISTED: u16 = 43690;
@@ -132,11 +132,8 @@ fn print_lent(
     certificate: &mut [u8],
     order: &mut [u16],
 )
-    ensures { λ _. ⌜ record {
-      evaluated = now (evaluated .exit);
-      certificate = now (certificate .exit);
-      order = now (order .exit);
-    } ≡ lentAfter method (now (table .entry)) (now (evaluated .entry)) (now (certificate .entry))
+    ensures { λ _. ⌜ lentBuffers (now (evaluated .exit)) (now (certificate .exit)) (now (order .exit))
+        ≡ lentAfter method (now (table .entry)) (now (evaluated .entry)) (now (certificate .entry))
         (now (order .entry)) ⌝ }
 {
     print_answer(method, table, evaluated, certificate, order);
@@ -155,11 +152,8 @@ fn print_answer(
     certificate: &mut [u8],
     order: &mut [u16],
 )
-    ensures { λ _. ⌜ record {
-      evaluated = now (evaluated .exit);
-      certificate = now (certificate .exit);
-      order = now (order .exit);
-    } ≡ lentAfter method (now (table .entry)) (now (evaluated .entry)) (now (certificate .entry))
+    ensures { λ _. ⌜ lentBuffers (now (evaluated .exit)) (now (certificate .exit)) (now (order .exit))
+        ≡ lentAfter method (now (table .entry)) (now (evaluated .entry)) (now (certificate .entry))
         (now (order .entry)) ⌝ }
 {
     match method {
