@@ -18,7 +18,7 @@ unfoldable pub ones : List ℕ → ℕ → ℕ
 ones b zero = 0
 ones b (suc n) = ones b n + cond (marked b n) 1 0
 
--- the marks after the leaves w have been evaluated one after the other
+-- the marks b after these leaves have been evaluated, one after the other
 unfoldable pub markAll : List ℕ → List ℕ → List ℕ
 markAll b [] = b
 markAll b (k ∷ ks) = markAll (set b k 1) ks

@@ -28,7 +28,7 @@ pub record Buffers : Type 0 where
 abbrev pub buffers : List ℕ → List ℕ → Buffers
 buffers m f = record { marks = m; flags = f }
 
--- their lengths, of which question 10 asks
+-- their lengths, for question 10
 abbrev pub lengths : Buffers → List ℕ
 lengths b = length (b .marks) ∷ length (b .flags) ∷ []
 

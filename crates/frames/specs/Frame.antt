@@ -42,7 +42,7 @@ childCount t i = byteOf t i 2
 abbrev pub byte3 : List ℕ → ℕ → ℕ
 byte3 t i = byteOf t i 3
 
--- its number at a node where the same side moves as at the parent (02: a second capture); 0 means the other side
+-- what byte 3 holds where the same side moves as at the parent (02: a second capture); 0 means the other side
 abbrev pub sameMover : ℕ
 sameMover = 1
 

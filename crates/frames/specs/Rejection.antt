@@ -17,7 +17,7 @@ abbrev pub _andThen_ : Option Rejection → Option Rejection → Option Rejectio
 none andThen r = r
 some x andThen r = some x
 
--- the first rejection of a check put to the nodes i, i + 1, .., n of them
+-- the first rejection of a check put to n nodes, from node i on
 unfoldable pub eachNode : (ℕ → Option Rejection) → ℕ → ℕ → Option Rejection
 eachNode q i zero = none
 eachNode q i (suc n) = q i andThen eachNode q (i + 1) n

@@ -9,12 +9,12 @@ use Rattle.frames.specs.Frame.{frames, firstChild, childCount, storedSco
 use Rattle.frames.specs.Place.{depthOf, sideOf}
 use Rattle.frames.specs.Value.{win}
 
--- i, i + 1, .., n numbers
+-- the n numbers from i on
 unfoldable pub upFrom : ℕ → ℕ → List ℕ
 upFrom i zero = []
 upFrom i (suc n) = i ∷ upFrom (i + 1) n
 
--- the n + 1 trees g i, g (i + 1), .., g (i + n) as the children of a node, of which there is at least one
+-- the n + 1 trees from g i on as the children of a node, which has at least one
 unfoldable pub kidsFrom : (ℕ → Tree) → ℕ → ℕ → Kids
 kidsFrom g i zero = last (g i)
 kidsFrom g i (suc n) = g i then kidsFrom g (i + 1) n
@@ -24,12 +24,13 @@ abbrev pub node : ℕ → Side → (ℕ → Tree) → ℕ → ℕ → Tree
 node i s g first zero = leaf i
 node i s g first (suc n) = inner i s (kidsFrom g first n)
 
--- the tree below node i, at most as deep as the first number says
+-- the tree with node i for its root, cut off as many levels below it as the first number says
 unfoldable pub grow : ℕ → List ℕ → ℕ → Tree
 grow zero t i = leaf i
 grow (suc f) t i = node i (sideOf t i) (grow f t) (firstChild t i) (childCount t i)
 
--- the tree below node i; children have larger numbers, so no path down has more nodes than frames are left
+-- the tree with node i for its root; children have larger numbers, so no path down has more nodes than there are
+-- frames from i on
 unfoldable pub treeAt : List ℕ → ℕ → Tree
 treeAt t i = grow (frames t - i) t i
 

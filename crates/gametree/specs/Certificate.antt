@@ -46,7 +46,7 @@ abbrev mutual
 abbrev pub SolutionTree : Side → (ℕ → Bool) → Tree → Type 0
 SolutionTree p g t = (g (number t) ≡ true) × Rules p g t
 
--- the score that each other score is better than, for a side
+-- the worst score for a side, which every other is better than
 abbrev pub worst : Side → ℕ
 worst Max = least
 worst Min = greatest
@@ -118,8 +118,8 @@ abbrev mutual
   chosenFirst p μ b v (t then ts) k =
       chosen p μ (b && eqb (minimax μ t) v) t k || chosenFirst p μ (b && not (eqb (minimax μ t) v)) v ts k
 
--- the max tree is read off the highs that the evaluated leaves E give, where another leaf has the greatest score, the
--- min tree off the lows
+-- the score that a leaf counts with which was not evaluated: the greatest for the max tree, which is read off the highs,
+-- the least for the min tree, which is read off the lows
 abbrev pub fill : Side → ℕ
 fill Max = greatest
 fill Min = least

@@ -34,7 +34,7 @@ pub record Taken : Type 0 where
 abbrev pub beats : Layout → State → State → Bool
 beats Y s x = ltb (x .merit) (s .merit) || (eqb (x .merit) (s .merit) && Y .leftOf (s .node) (x .node))
 
--- s itself, before the states ss, or what is taken from ss
+-- takes s, with the states ss behind it; or what is taken from ss, with s further left
 abbrev pub choose : Bool → State → List State → Taken → Taken
 choose true s ss k = record { left = []; state = s; right = ss }
 choose false s ss k = record { left = s ∷ k .left; state = k .state; right = k .right }

@@ -9,11 +9,11 @@ use Rattle.frames.specs.Frame.{frames, firstChild, childCount}
 use Rattle.frames.specs.Tree.{upFrom}
 use Rattle.graftable.specs.Questions.{graftSize}
 
--- the second table's root for the leaf k of the first, every other source as it is
+-- the source s, with the second table's root in the place of the leaf k of the first
 unfoldable pub replaced : (t : List ℕ) (k : ℕ) → ℕ → ℕ
 replaced t k s = cond (eqb s k) (frames t) s
 
--- the number at which the sources of the table begin that source s is of
+-- the offset of the table that source s comes from
 unfoldable pub base : List ℕ → ℕ → ℕ
 base t s = cond (ltb s (frames t)) 0 (frames t)
 

@@ -62,7 +62,7 @@ ranges a z b h =
       ]
     ]
 
--- what a letter's number is more than its low four bits
+-- the offset from a letter's low four bits to its number
 abbrev letterMore : ℕ
 letterMore = 9
 

@@ -9,7 +9,7 @@ pub const BASE: u8 = 16;
 
 const FIGURES: u8 = 10;
 
-// What a byte that is no digit gives, and what a letter's number is more than its low four bits.
+// What a byte that is no digit gives, and the offset from a letter's low four bits to its number.
 const NO_DIGIT: u8 = 16;
 
 const LETTER_MORE: u8 = 9;

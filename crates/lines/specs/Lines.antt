@@ -5,7 +5,7 @@ use mathlib.Core.List.{List, [], _∷_, _++_}
 use lib.Dec.{eqb}
 use Rattle.lines.specs.Line.{lineFeed, bytesOf}
 
--- a byte before these lines: a line feed closes an empty line, any other byte begins the first line
+-- a byte in front of these lines: a line feed makes an empty line before them, any other byte joins the first of them
 abbrev pub putBefore : Bool → ℕ → List (List ℕ) → List (List ℕ)
 putBefore true b ls = [] ∷ ls
 putBefore false b [] = (b ∷ []) ∷ []

@@ -12,7 +12,7 @@ tabulate f (suc n) = tabulate f n ++ (f n ∷ [])
 unfoldable pub written : (ℕ → ℕ) → ℕ → List ℕ → List ℕ
 written f n b = tabulate f n ++ drop n b
 
--- the buffer b after f i, f (i + 1), .., n of them, have been stored at their numbers
-unfoldable pub stored : (ℕ → ℕ) → ℕ → ℕ → List ℕ → List ℕ
+-- the buffer b with f k stored at each k of the n numbers from i on
+unfoldable pub stored : {A : Type 0} → (ℕ → A) → ℕ → ℕ → List A → List A
 stored f i zero b = b
 stored f i (suc n) b = stored f (i + 1) n (set b i (f i))

@@ -1,8 +1,8 @@
 -- A change at and below a node: which nodes it is at, and what is read after its run of entries has been stored.
-use Prim.Native.Nat.{ℕ, zero, suc, _+_, _-_, _≤_, _<_}
+use Prim.Native.Nat.{ℕ, zero, suc, _+_, _≤_, _<_}
 use native.Mathlib.Omega.{arith}
 use native.Mathlib.Decide.{decLe}
-use mathlib.Core.Path.{_≡_, refl, sym, _∙_, ap}
+use mathlib.Core.Path.{_≡_, refl, _∙_}
 use mathlib.Core.Logic.{_⊎_, inl, inr}
 use mathlib.Core.List.{List}
 use lib.ListN.{length, getD, set, length-set}
@@ -11,7 +11,9 @@ use Rattle.frames.specs.Frame.{frames}
 use Rattle.frames.specs.Formed.{WellFormed, ChildOf}
 use Rattle.frames.proofs.Next.{child-within}
 use Rattle.states.specs.declared.Change.{Change}
-use Rattle.states.specs.engine.Kept.{packed, stored, changed}
+use Rattle.places.specs.Buffer.{stored}
+pub use Rattle.places.proofs.Runs.{stored-length}
+use Rattle.states.specs.engine.Kept.{packed, changed}
 use Rattle.states.specs.engine.Placing.{Local}
 
 -- k is the first of the numbers from i on, or a later one
@@ -37,11 +39,6 @@ set-at P w p k v l f g =
     same-or-not k p (λ e. rw (e, getD-set-same w p v 0 l) (f e)) (λ n. rw (getD-set-other w p k v 0 n) g)
 
 module _ {A : Type 0} (f : ℕ → A) where
-  pub stored-length : (i n : ℕ) (xs : List A) → length (stored f i n xs) ≡ length xs
-  unfolding stored
-  stored-length i zero xs = refl
-  stored-length i (suc n) xs = stored-length (i + 1) n (set xs i (f i)) ∙ length-set xs i (f i)
-
   -- outside the run nothing changes
   pub stored-out : (i n : ℕ) (xs : List A) (k : ℕ) (d : A) → (k < i) ⊎ (i + n ≤ k)
       → getD (stored f i n xs) k d ≡ getD xs k d
@@ -62,29 +59,6 @@ module _ {A : Type 0} (f : ℕ → A) where
       (λ e.
       rw e (stored-out (i + 1) n (set xs i (f i)) i d (inl (omega arith)) ∙ getD-set-same xs i (f i) d (omega arith)))
       (λ o. stored-in (i + 1) n (set xs i (f i)) k d o (omega arith) (rw (length-set xs i (f i)) l))
-
--- the loop that stores: what is still to be stored, from `at` on, over the front w, gives the same
-pub record Storing (v first end : ℕ) (w₀ w : List ℕ) (at : ℕ) : Type 0 where
-  pub from : first ≤ at
-  pub to : at ≤ end
-  pub same : stored (λ k. v) at (end - at) w ≡ stored (λ k. v) first (end - first) w₀
-  pub size : length w ≡ length w₀
-
-module _ {v first end : ℕ} {w₀ w : List ℕ} {at : ℕ} (s : Storing v first end w₀ w at) where
-  pub store-on : at < end → Storing v first end w₀ (set w at v) (at + 1)
-  unfolding stored
-  store-on h =
-      let n : end - at ≡ suc (end - (at + 1)) = omega arith in
-      record {
-        from = omega (arith, s .from);
-        to = omega arith;
-        same = sym (ap (λ x. stored (λ k. v) at x w) n) ∙ s .same;
-        size = length-set w at v ∙ s .size;
-      }
-
-  pub store-end : end ≤ at → w ≡ stored (λ k. v) first (end - first) w₀
-  unfolding stored
-  store-end h = let n : end - at ≡ 0 = omega arith in sym (ap (λ x. stored (λ k. v) at x w) n) ∙ s .same
 
 -- what it stores after the node's entry is the change
 pub placed : (γ : ℕ) (c : Change) (w : List ℕ) (v x n : ℕ) → v ≡ packed (c .score) 0 → x ≡ packed γ (c .first)

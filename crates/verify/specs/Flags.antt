@@ -13,13 +13,13 @@ use Rattle.frames.specs.Place.{sideOf}
 abbrev pub member : Side → List ℕ → ℕ → Bool
 member p flags k = inside p (getD flags k 0)
 
--- how many of the nodes i, i + 1, .., n of them, are in side p's tree
+-- how many of the n nodes from i on are in side p's tree
 unfoldable pub membersFrom : Side → List ℕ → ℕ → ℕ → ℕ
 membersFrom p flags i zero = 0
 membersFrom p flags i (suc n) = cond (member p flags i) 1 0 + membersFrom p flags (i + 1) n
 
--- how many of its n children a node of side q has in side p's tree, where b says whether it is in that tree itself: a
--- node outside none, a node in it all of them where p moves, and exactly one where the other side moves
+-- how many of its n children a node of side q must have in side p's tree, where b says whether it is in that tree
+-- itself: a node outside none, a node in it all of them where p moves, and exactly one where the other side moves
 abbrev pub requiredOf : (p q : Side) → Bool → ℕ → ℕ
 requiredOf p q b zero = 0
 requiredOf p q false (suc n) = 0

@@ -143,7 +143,7 @@ fn check_flags(table: &[u8], flags: &[u8]) -> Checked
 }
 
 // Questions 12 and 13, put to one node after the other: do the side's flags form a solution tree? Once every node has
-// been reached as a child, those that are left are leaves, of which nothing is asked.
+// been reached as a child, those that are left are leaves, and nothing is asked about them.
 fn check_rules(table: &[u8], flags: &[u8], places: &[u32], side: Side, number: u8) -> Checked
     requires { ⌜ (WellFormed (now table)) × (frames (now table) ≤ length (now flags))
         × (Placed (now table) (now places)) ⌝ }

@@ -22,12 +22,6 @@ slice-write-evaluated c =
     let b = c .before .before .args .evaluated .now in
     omega (arith, ap length (c .before .loop .inv .0), written-length (λ k. 0) (c .before .loop .i) b (omega arith))
 
-add-i : tie.Need-add-i Inv-loop μ-loop
-add-i c = omega arith
-
-loop-less : tie.Need-loop-less Inv-loop μ-loop
-loop-less c = omega arith
-
 loop-again : tie.Need-loop-again Inv-loop μ-loop
 loop-again c =
     let b = c .before .before .args .evaluated .now in
@@ -54,8 +48,8 @@ clear-spec =
     μ-loop
     loop-holds
     slice-write-evaluated
-    add-i
-    loop-less
+    (λ c. omega arith)
+    (λ c. omega arith)
     loop-again
     same-length
     returns)

@@ -31,7 +31,7 @@ smallest≤ ν t g h w r s p =
     (le-trans (pairLeaves≤ _ _ (among w) t (p .maxLeaves) (p .minLeaves)) (count-list w t (r .distinct)))
 
 -- two sets agree on the nodes of a tree
-abbrev Same : (g h : ℕ → Bool) → Tree → Type 0
+abbrev pub Same : (g h : ℕ → Bool) → Tree → Type 0
 Same g h t = (k : ℕ) → In k t → g k ≡ h k
 
 abbrev SameKids : (g h : ℕ → Bool) → Kids → Type 0
@@ -56,7 +56,7 @@ mutual
       ap₂ _&&_ (rules-same p g h t (λ k i. e k (inl i))) (rulesKids-same p g h ts (λ k i. e k (inr i)))
 
 mutual
-  value-same : (p : Side) (ν : ℕ → ℕ) (g h : ℕ → Bool) (t : Tree) → Same g h t
+  pub value-same : (p : Side) (ν : ℕ → ℕ) (g h : ℕ → Bool) (t : Tree) → Same g h t
       → solutionValue p ν g t ≡ solutionValue p ν h t
   value-same p ν g h (leaf n) e = rw (e n refl) refl
   value-same p ν g h (inner n q ks) e = valueKids-same p ν g h ks (λ k i. e k (inr i))
@@ -94,7 +94,7 @@ certificate-same ν t g h g′ h′ e f =
     ) refl
 
 -- so a set that agrees with one of a certificate can stand for it
-certificate-like : (ν : ℕ → ℕ) (t : Tree) (g h g′ h′ : ℕ → Bool) → Same g g′ t → Same h h′ t
+pub certificate-like : (ν : ℕ → ℕ) (t : Tree) (g h g′ h′ : ℕ → Bool) → Same g g′ t → Same h h′ t
     → certificate? ν t g h ≡ true
     → certificate? ν t g′ h′ ≡ true
 certificate-like ν t g h g′ h′ e f c = sym (certificate-same ν t g h g′ h′ e f) ∙ c

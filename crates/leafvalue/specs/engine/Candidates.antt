@@ -1,5 +1,5 @@
--- The four scores of which the first that reaches the wanted one is the smallest that does: that of -32,000, and those
--- of the values that are worth the wanted one as a loss, as they are, and as a win.
+-- Four scores, tried in this order: the first that reaches the wanted one is the smallest that does. They are that of
+-- -32,000 and those of the values that are worth the wanted one as a loss, as they are, and as a win.
 use Prim.Native.Nat.{ℕ, zero, suc, _+_, _-_}
 use mathlib.Core.Bool.{Bool, cond, _&&_}
 use mathlib.Core.Option.{Option, none, some}

@@ -11,33 +11,12 @@ Inv-loop front first count at₀ best₀ at best = Scanning front first count at
 abbrev μ-loop : tie.MeasureT-loop
 μ-loop front first count at₀ best₀ at best = at
 
-sub-at : tie.Need-sub-at Inv-loop μ-loop
-sub-at c = omega arith
-
-add-at : tie.Need-add-at Inv-loop μ-loop
-add-at c = omega arith
-
 loop-holds : tie.Need-loop-holds Inv-loop μ-loop
 loop-holds c = scan-start _ _ _ (omega arith)
-
-sub-at-2 : tie.Need-sub-at-2 Inv-loop μ-loop
-sub-at-2 c = omega arith
-
-best-at-requires : tie.Need-best-at-requires Inv-loop μ-loop
-best-at-requires c κs = omega arith
-
-best-at-requires-2 : tie.Need-best-at-requires-2 Inv-loop μ-loop
-best-at-requires-2 c κs = omega arith
-
-loop-less : tie.Need-loop-less Inv-loop μ-loop
-loop-less c = omega arith
 
 loop-again : tie.Need-loop-again Inv-loop μ-loop
 loop-again c =
     let d = c .before .before .before in scan-here (d .before .loop .inv) (d .loop-test .taken) (omega arith)
-
-loop-less-2 : tie.Need-loop-less-2 Inv-loop μ-loop
-loop-less-2 c = omega arith
 
 loop-again-2 : tie.Need-loop-again-2 Inv-loop μ-loop
 loop-again-2 c =
@@ -52,14 +31,14 @@ leftmost-best-spec =
     (tie.spec
     Inv-loop
     μ-loop
-    sub-at
-    add-at
+    (λ c. omega arith)
+    (λ c. omega arith)
     loop-holds
-    sub-at-2
-    best-at-requires
-    best-at-requires-2
-    loop-less
+    (λ c. omega arith)
+    (λ c κs. omega arith)
+    (λ c κs. omega arith)
+    (λ c. omega arith)
     loop-again
-    loop-less-2
+    (λ c. omega arith)
     loop-again-2
     returns)

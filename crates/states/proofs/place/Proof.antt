@@ -3,12 +3,13 @@ use native.Mathlib.Omega.{arith}
 use mathlib.Core.Path.{_≡_, refl, _∙_}
 use Prim.Native.Nat.{_-_}
 use lib.ListN.{length, length-set}
-use Rattle.states.proofs.Stores.{placed, Storing, store-on, store-end}
+use Rattle.places.proofs.Runs.{Run, run-begins, run-step, run-ends}
+use Rattle.states.proofs.Stores.{placed}
 use Rattle.states.proofs.place.Statement.{statement}
 use Rattle.states.proofs.place.Tie as tie
 
 abbrev Inv-loop : tie.InvT-loop
-Inv-loop front₀ merit node first end fresh at₀ front at = Storing fresh first end front₀ front at
+Inv-loop front₀ merit node first end fresh at₀ front at = Run (λ k. fresh) first end front₀ front at
 
 abbrev μ-loop : tie.MeasureT-loop
 μ-loop front₀ merit node first end fresh at₀ front at = end - at
@@ -18,10 +19,7 @@ kept : (c : tie.At-loop Inv-loop μ-loop)
     → length (c .loop .front) ≡ length (c .before .before .before .before .before .args .front .now)
 kept c =
     let a = c .before .before .before .before .before .args in
-    c .loop .inv .size ∙ length-set (a .front .now) (a .change .node) (c .before .packed2 .result)
-
-add-end : tie.Need-add-end Inv-loop μ-loop
-add-end c = omega arith
+    c .loop .inv .long ∙ length-set (a .front .now) (a .change .node) (c .before .packed2 .result)
 
 packed-requires : tie.Need-packed-requires Inv-loop μ-loop
 packed-requires c κs = (omega arith, omega arith)
@@ -29,29 +27,14 @@ packed-requires c κs = (omega arith, omega arith)
 packed-requires-2 : tie.Need-packed-requires-2 Inv-loop μ-loop
 packed-requires-2 c κs = (omega arith, omega arith)
 
-mul-front : tie.Need-mul-front Inv-loop μ-loop
-mul-front c = omega arith
-
-slice-write-front : tie.Need-slice-write-front Inv-loop μ-loop
-slice-write-front c = omega arith
-
 loop-holds : tie.Need-loop-holds Inv-loop μ-loop
-loop-holds c = record { from = omega arith; to = omega arith; same = refl; size = refl }
-
-mul-front-2 : tie.Need-mul-front-2 Inv-loop μ-loop
-mul-front-2 c = omega arith
+loop-holds c = run-begins _ _ _ _ (omega arith)
 
 slice-write-front-2 : tie.Need-slice-write-front-2 Inv-loop μ-loop
 slice-write-front-2 c = omega (arith, kept (c .before))
 
-add-at : tie.Need-add-at Inv-loop μ-loop
-add-at c = omega arith
-
-loop-less : tie.Need-loop-less Inv-loop μ-loop
-loop-less c = omega arith
-
 loop-again : tie.Need-loop-again Inv-loop μ-loop
-loop-again c = store-on (c .before .loop .inv) (c .loop-test .taken)
+loop-again c = run-step _ _ _ _ _ _ _ _ (c .loop-test .taken) refl refl (c .before .loop .inv)
 
 same-length : tie.Need-same-length Inv-loop μ-loop
 same-length c = kept (c .before)
@@ -59,7 +42,7 @@ same-length c = kept (c .before)
 returns : tie.Need-returns Inv-loop μ-loop
 returns c =
     let a = c .before .before .before .before .before .before in
-    store-end (c .before .loop .inv) (c .loop-test .left)
+    run-ends _ _ _ _ _ _ (c .loop-test .left) (c .before .loop .inv)
     ∙ placed (a .args .merit) (a .args .change) (a .args .front .now) _ _ _ (c .before .before .before .packed .ensures)
     (c .before .before .packed2 .ensures) (omega arith)
 
@@ -69,16 +52,16 @@ place-spec =
     (tie.spec
     Inv-loop
     μ-loop
-    add-end
+    (λ c. omega arith)
     packed-requires
     packed-requires-2
-    mul-front
-    slice-write-front
+    (λ c. omega arith)
+    (λ c. omega arith)
     loop-holds
-    mul-front-2
+    (λ c. omega arith)
     slice-write-front-2
-    add-at
-    loop-less
+    (λ c. omega arith)
+    (λ c. omega arith)
     loop-again
     same-length
     returns)

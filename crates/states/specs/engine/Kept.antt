@@ -15,6 +15,7 @@ use Rattle.frames.specs.Formed.{WellFormed, ChildOf}
 use Rattle.states.specs.declared.State.{State}
 use Rattle.states.specs.declared.Change.{Change}
 use Rattle.states.specs.Entry.{entry, statusOf, blank}
+unfoldable pub use Rattle.places.specs.Buffer.{stored}
 use Rattle.places.specs.engine.Places.{Placed}
 use Rattle.states.specs.engine.Shown.{Arrays}
 
@@ -92,11 +93,6 @@ fallen (suc f) t γ w k =
 unfoldable pub descended : ℕ → List ℕ → ℕ → ℕ
 descended zero w k = k
 descended (suc f) w k = cond (eqb (linkAt w k) 0) k (descended f w (linkAt w k))
-
--- xs after f i, f (i + 1), .., n of them, have been stored at their numbers
-unfoldable pub stored : {A : Type 0} → (ℕ → A) → ℕ → ℕ → List A → List A
-stored f i zero xs = xs
-stored f i (suc n) xs = stored f (i + 1) n (set xs i (f i))
 
 -- the front and the list after a change: the node goes down to the first of the new states
 abbrev pub changed : ℕ → Change → List ℕ → List ℕ
