@@ -55,7 +55,7 @@ extern "C" {
 #define BUULSET_WIN 31000         /* from here up a value is a win, and from -31,000 down a loss */
 #define BUULSET_NOTHING_YET 32001 /* the merit of a run that was stopped before it evaluated a leaf */
 
-/* THE QUESTIONS: what `refused` says. README.md, "Rejections", has each with its place. */
+/* THE QUESTIONS: what `refused` says. docs/SPEC.md, section 4, has each with its place. */
 enum {
     BUULSET_EMPTY = 1,             /* there is no byte */
     BUULSET_TOO_LONG = 2,          /* more bytes than a file or a table may have */

@@ -47,7 +47,7 @@ pub const MAX_FILE: usize = LINE_SIZE * MAX_NODES;
 /// the library that is linked.
 pub const VERSION: u32 = 10000;
 
-/// The first question that got a "no" (README, "Rejections").
+/// The first question that got a "no" (docs/SPEC.md, section 4).
 #[derive(Clone, Copy, PartialEq, Eq, Hash, Debug)]
 pub struct Refusal {
     /// The number of the question, 1 to 23.
