@@ -7,21 +7,20 @@ use mathlib.Core.List.{List}
 use lib.ListN.{length}
 use lib.IntN.{ℤ}
 use Rattle.gametree.specs.Tree.{greatest, minimax}
-use Rattle.gametree.specs.Move.{boundMove}
+use Rattle.gametree.specs.Move.{rootMove}
 use Rattle.gametree.specs.AlphaBeta.{fullWindow}
-use Rattle.gametree.specs.Certificate.{flag}
 use Rattle.gametree.proofs.Theorems.{value-score, alphaBeta-leaves, alphaBeta-minimax, search-deciding}
 use Rattle.frames.specs.Frame.{frames}
 use Rattle.frames.specs.Tree.{tree, valuation}
 use Rattle.frames.specs.Formed.{WellFormed}
 use Rattle.frames.proofs.Proper.{tree-proper}
 use Rattle.places.specs.Buffer.{written}
-use Rattle.bounds.specs.Marks.{marked, ones}
+use Rattle.bounds.specs.Marks.{ones}
 use Rattle.bounds.specs.engine.Progress.{progress, evaluateAll}
 use Rattle.bounds.proofs.Listing.{first-evaluated}
 use Rattle.frames.specs.Value.{valueOf}
-use Rattle.certificate.specs.Search.{marksOf, flagsOf, findings, listed}
-use Rattle.certificate.proofs.Outcomes.{search-concludes}
+use Rattle.certificate.specs.Search.{marksOf, findings, listed}
+use Rattle.certificate.proofs.Outcomes.{search-marks}
 use Rattle.alphabeta.specs.Outcome.{reachedLeaves}
 use Rattle.alphabeta.proofs.Reached.{searched}
 
@@ -34,29 +33,23 @@ module _ (t : List ℕ) (wf : WellFormed t) where
     pub run-small : s ≤ greatest
     run-small = omega (arith, run-score, value-score (valuation t) (tree t) (tree-proper t wf .scored))
 
-  -- the steps together: e is cleared to e₁, the engine makes it e₂ and the list o₂, and c₂, m and v follow from that
-  pub run-gives : (e e₁ e₂ e₃ c c₂ o o₂ : List ℕ) (s n m : ℕ) (v : ℤ)
+  -- the steps together: e is cleared to e₁, the engine makes it e₂ and the list o₂, and m and v are its results
+  pub find-gives : (e e₁ e₂ o o₂ : List ℕ) (s n m : ℕ) (v : ℤ)
       → e₁ ≡ written (λ k. 0) (frames t) e
-      → s ≡ fullWindow (valuation t) (tree t) .value
+      → (s ≡ fullWindow (valuation t) (tree t) .value) × (m ≡ rootMove (valuation t) (tree t))
       → progress n e₂ o₂ ≡ evaluateAll (progress 0 e₁ o) (fullWindow (valuation t) (tree t) .evaluated)
       → n ≡ ones e₂ (frames t)
       → frames t ≤ length o
-      → m ≡ boundMove (valuation t) (marked e₂) (tree t)
-      → c₂ ≡ written (flag (valuation t) (marked e₂) (tree t)) (frames t) c
-      → e₃ ≡ e₂
       → v ≡ valueOf s
       → (record { value = v; «root_move» = m; leaves = n } ≡ findings (reachedLeaves t) t)
-      × ((e₃ ≡ marksOf (reachedLeaves t) t e)
-      × ((c₂ ≡ flagsOf (reachedLeaves t) t c) × (o₂ ≡ listed (reachedLeaves t) o)))
-  run-gives e e₁ e₂ e₃ c c₂ o o₂ s n m v cleared score evaluated counted room move flags kept value =
+      × ((e₂ ≡ marksOf (reachedLeaves t) t e) × (o₂ ≡ listed (reachedLeaves t) o))
+  find-gives e e₁ e₂ o o₂ s n m v cleared found evaluated counted room value =
       let w = reachedLeaves t in
       let g =
       first-evaluated n (frames t) e₁ e₂ o o₂ w
       (evaluated ∙ ap (evaluateAll (progress 0 e₁ o)) (alphaBeta-leaves (valuation t) (tree t))) counted room in
-      let b =
-      search-concludes t wf w (search-deciding (valuation t) (tree t) (tree-proper t wf) (searched t))
-      e e₁ e₂ e₃ c c₂ m cleared (g .1 .0) move flags kept in
-      let x : v ≡ valueOf (minimax (valuation t) (tree t)) = value ∙ ap valueOf (run-score s score) in
-      let y = b .0 in
+      let d = search-deciding (valuation t) (tree t) (tree-proper t wf) (searched t) in
+      let x : v ≡ valueOf (minimax (valuation t) (tree t)) = value ∙ ap valueOf (run-score s (found .0)) in
+      let y = found .1 in
       let z = g .0 in
-      (cc, (b .1 .0, (b .1 .1, g .1 .1)))
+      (cc, (search-marks t wf w d e e₁ e₂ cleared (g .1 .0), g .1 .1))

@@ -20,10 +20,12 @@ use gametree::better;
 ghost use mathlib.Core.Path.{_≡_};
 ghost use Prim.Native.Nat.{_+_, _≤_};
 ghost use lib.ListN.{length, set};
-ghost use Rattle.gametree.specs.AlphaBeta.{raise, lower, clamp, alphaBeta};
+ghost use Rattle.gametree.specs.AlphaBeta.{raise, lower, clamp, alphaBeta, fullWindow};
+ghost use Rattle.gametree.specs.Move.{rootMove};
 ghost use Rattle.frames.specs.Frame.{frames};
 ghost use Rattle.frames.specs.Formed.{WellFormed};
-ghost use Rattle.frames.specs.Tree.{treeAt, valuation};
+ghost use Rattle.frames.specs.Place.{rootPlace};
+ghost use Rattle.frames.specs.Tree.{treeAt, tree, valuation};
 ghost use Rattle.bounds.specs.Marks.{ones};
 ghost use Rattle.bounds.specs.engine.Evaluable.{Evaluable};
 ghost use Rattle.bounds.specs.engine.Progress.{progress, evaluateAll, Listable};
@@ -70,18 +72,83 @@ fn run(table: &[u8], evaluated: &mut [u8], certificate: &mut [u8], order: &mut [
         ≡ flagsOf (reachedLeaves (now (table .entry))) (now (table .entry)) (now (certificate .entry)) ⌝ }
     ensures { λ _. ⌜ now (order .exit) ≡ listed (reachedLeaves (now (table .entry))) (now (order .entry)) ⌝ }
 {
+    let findings = find(table, evaluated, order);
+    conclude(table, evaluated, certificate);
+    findings
+}
+
+// The same without a certificate, for callers that have checked the table.
+pub fn find(table: &[u8], evaluated: &mut [u8], order: &mut [u16]) -> Findings
+    requires { ⌜ WellFormed (now table) ⌝ }
+    requires { ⌜ (frames (now table) ≤ length (now evaluated)) × (frames (now table) ≤ length (now order)) ⌝ }
+    ensures { λ r. ⌜ r ≡ findings (reachedLeaves (now (table .entry))) (now (table .entry)) ⌝ }
+    ensures { λ _. ⌜ now (evaluated .exit)
+        ≡ marksOf (reachedLeaves (now (table .entry))) (now (table .entry)) (now (evaluated .entry)) ⌝ }
+    ensures { λ _. ⌜ now (order .exit) ≡ listed (reachedLeaves (now (table .entry))) (now (order .entry)) ⌝ }
+{
     clear(evaluated, frame_count(table));
+    let visit = visit_root(table, evaluated, order);
+    let value = value(visit.alpha);
+    Findings {
+        value,
+        root_move: visit.root_move,
+        leaves: visit.leaves,
+    }
+}
+
+// What the engine gives for the whole tree: alpha at its end, the last child that raised it, and how many leaves are
+// evaluated.
+struct RootVisit {
+    alpha: u32,
+    root_move: usize,
+    leaves: usize,
+}
+
+// Alpha-beta of the whole tree, without marks: at the root beta stays what it is, and no child closes the window.
+fn visit_root(table: &[u8], evaluated: &mut [u8], order: &mut [u16]) -> RootVisit
+    requires { ⌜ Searchable (now table) (now evaluated) 0 rootPlace ⌝ }
+    requires { ⌜ Listable (now table) (progress 0 (now evaluated) (now order)) ⌝ }
+    ensures { λ r. ⌜ (r .alpha ≡ fullWindow (valuation (now (table .entry))) (tree (now (table .entry))) .value)
+        × (r .«root_move» ≡ rootMove (valuation (now (table .entry))) (tree (now (table .entry)))) ⌝ }
+    ensures { λ r. ⌜ progress (r .leaves) (now (evaluated .exit)) (now (order .exit))
+        ≡ evaluateAll (progress 0 (now (evaluated .entry)) (now (order .entry)))
+        (fullWindow (valuation (now (table .entry))) (tree (now (table .entry))) .evaluated) ⌝ }
+    ensures { λ r. ⌜ r .leaves ≡ ones (now (evaluated .exit)) (frames (now (table .entry))) ⌝ }
+{
     let root = Place {
         depth: 0,
         side: Side::Max,
     };
-    let visited = alpha_beta(table, evaluated, order, 0, root, LEAST, GREATEST, 0);
-    let root_move = conclude(table, evaluated, certificate);
-    let value = value(visited.score);
-    Findings {
-        value,
+    let last = child_count(table, 0);
+    let mut alpha = LEAST;
+    let mut root_move = 0;
+    let mut leaves = 0;
+    if last == 0 {
+        let visited = visit_leaf(table, evaluated, order, 0, root, alpha, GREATEST, leaves);
+        return RootVisit {
+            alpha: visited.score,
+            root_move,
+            leaves: visited.leaves,
+        };
+    }
+    let mut child = 1;
+    loop {
+        let below = child_place(table, child, root);
+        let visited = alpha_beta(table, evaluated, order, child, below, alpha, GREATEST, leaves);
+        if alpha < visited.score {
+            root_move = child;
+        }
+        alpha = visited.score;
+        leaves = visited.leaves;
+        if child == last {
+            break;
+        }
+        child += 1;
+    }
+    RootVisit {
+        alpha,
         root_move,
-        leaves: visited.leaves,
+        leaves,
     }
 }
 

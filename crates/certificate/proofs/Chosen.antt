@@ -74,7 +74,7 @@ module _ (t : List ℕ) (wf : WellFormed t) (E : ℕ → Bool) where
       ∙ by-side b (sideOf t i) i h
 
 -- the first child with a value, by number
-first-with : (f : Tree → ℕ) (h : ℕ → Tree) → ((k : ℕ) → number (h k) ≡ k) → (v i n : ℕ)
+pub first-with : (f : Tree → ℕ) (h : ℕ → Tree) → ((k : ℕ) → number (h k) ≡ k) → (v i n : ℕ)
     → firstEqual (λ k. f (h k)) v i (suc n) ≡ firstWith f v (kidsFrom h i n)
 unfolding firstEqual kidsFrom
 first-with f h e v i zero = ap (λ x. cond (eqb (f (h i)) v) x 0) (sym (e i))

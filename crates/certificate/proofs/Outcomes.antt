@@ -22,18 +22,30 @@ use Rattle.bounds.proofs.Marking.{marks-from-clear}
 use Rattle.certificate.proofs.Marks.{evaluated-within}
 use Rattle.certificate.proofs.Concluded.{concluded}
 
--- a search that evaluates the leaves w: e is cleared to e₁ and marked to e₂, and the move m and the flags c₂ follow
--- from that
-pub search-concludes : (t : List ℕ) → WellFormed t → (w : List ℕ) → Deciding (valuation t) (tree t) w
-    → (e e₁ e₂ e₃ c c₂ : List ℕ) (m : ℕ) → e₁ ≡ written (λ k. 0) (frames t) e → e₂ ≡ markAll e₁ w
-    → m ≡ boundMove (valuation t) (marked e₂) (tree t)
+-- the certificate c₂ that is read off the marks of the leaves w
+pub marks-certify : (t : List ℕ) → WellFormed t → (w e e₂ e₃ c c₂ : List ℕ) → e₂ ≡ marksOf w t e
     → c₂ ≡ written (flag (valuation t) (marked e₂) (tree t)) (frames t) c → e₃ ≡ e₂
-    → (m ≡ rootMove (valuation t) (tree t)) × ((e₃ ≡ marksOf w t e) × (c₂ ≡ flagsOf w t c))
-search-concludes t wf w d e e₁ e₂ e₃ c c₂ m cleared marks move flags kept =
-    let a : e₂ ≡ marksOf w t e =
-    marks ∙ ap (λ x. markAll x w) cleared ∙ marks-from-clear (frames t) e w (evaluated-within t wf d) in
-    let b = concluded t wf (among w) e e₂ c a in
-    (move ∙ b .0 ∙ d .move, (kept ∙ a, flags ∙ b .1))
+    → (e₃ ≡ marksOf w t e) × (c₂ ≡ flagsOf w t c)
+marks-certify t wf w e e₂ e₃ c c₂ marks flags kept =
+    (kept ∙ marks, flags ∙ concluded t wf (among w) e e₂ c marks .1)
+
+module _ (t : List ℕ) (wf : WellFormed t) (w : List ℕ) (d : Deciding (valuation t) (tree t) w) where
+  -- a search that evaluates the leaves w: e is cleared to e₁ and marked to e₂
+  pub search-marks : (e e₁ e₂ : List ℕ) → e₁ ≡ written (λ k. 0) (frames t) e → e₂ ≡ markAll e₁ w → e₂ ≡ marksOf w t e
+  search-marks e e₁ e₂ cleared marks =
+      marks ∙ ap (λ x. markAll x w) cleared ∙ marks-from-clear (frames t) e w (evaluated-within t wf d)
+
+  -- and the move m and the flags c₂ follow from that
+  pub search-concludes : (e e₁ e₂ e₃ c c₂ : List ℕ) (m : ℕ) → e₁ ≡ written (λ k. 0) (frames t) e → e₂ ≡ markAll e₁ w
+      → m ≡ boundMove (valuation t) (marked e₂) (tree t)
+      → c₂ ≡ written (flag (valuation t) (marked e₂) (tree t)) (frames t) c → e₃ ≡ e₂
+      → (m ≡ rootMove (valuation t) (tree t)) × ((e₃ ≡ marksOf w t e) × (c₂ ≡ flagsOf w t c))
+  search-concludes e e₁ e₂ e₃ c c₂ m cleared marks move flags kept =
+      let a = search-marks e e₁ e₂ cleared marks in
+      (
+        move ∙ concluded t wf (among w) e e₂ c a .0 ∙ d .move,
+        marks-certify t wf w e e₂ e₃ c c₂ a flags kept,
+      )
 
 -- what a call gives once its questions are answered, for any type of answers and buffers of any lengths
 module _ {A : Type 0} (rejected : Rejection → A) (found : A) (s : Search) (lengths : List ℕ) where

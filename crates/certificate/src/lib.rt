@@ -2,12 +2,11 @@
 // root move.
 use bounds::fill_bounds;
 use flags::read_off;
+use flags::root_choice;
 use frames::Checked;
 use frames::MAX_NODES;
 use frames::SHORT_BUFFER;
-use frames::frame_count;
 use frames::rejected;
-use places::SMALL;
 use places::fill;
 use tables::check;
 ghost use mathlib.Core.Path.{_≡_};
@@ -55,7 +54,7 @@ pub fn shorter(a: usize, b: usize) -> usize
 }
 
 // The certificate (01: the proof) read off the bounds of the marked leaves, into the buffer's first entries; the result
-// is the root move. A small table gets small work arrays, since their clearing takes time.
+// is the root move.
 pub fn conclude(table: &[u8], evaluated: &mut [u8], certificate: &mut [u8]) -> usize
     requires { ⌜ WellFormed (now table) ⌝ }
     requires { ⌜ (frames (now table) ≤ length (now evaluated)) × (frames (now table) ≤ length (now certificate)) ⌝ }
@@ -66,32 +65,9 @@ pub fn conclude(table: &[u8], evaluated: &mut [u8], certificate: &mut [u8]) -> u
         (frames (now (table .entry))) (now (certificate .entry)) ⌝ }
     ensures { λ _. ⌜ now (evaluated .exit) ≡ now (evaluated .entry) ⌝ }
 {
-    if frame_count(table) <= SMALL {
-        let mut places = [0u32; SMALL];
-        return fill_and_conclude(table, &mut places, evaluated, certificate);
-    }
     let mut places = [0u32; MAX_NODES];
-    fill_and_conclude(table, &mut places, evaluated, certificate)
-}
-
-// The same by a work array for the places.
-fn fill_and_conclude(
-    table: &[u8],
-    places: &mut [u32],
-    evaluated: &mut [u8],
-    certificate: &mut [u8],
-) -> usize
-    requires { ⌜ (WellFormed (now table)) × (frames (now table) ≤ length (now places)) ⌝ }
-    requires { ⌜ (frames (now table) ≤ length (now evaluated)) × (frames (now table) ≤ length (now certificate)) ⌝ }
-    ensures { λ r. ⌜ r ≡ boundMove (valuation (now (table .entry))) (marked (now (evaluated .entry)))
-        (tree (now (table .entry))) ⌝ }
-    ensures { λ _. ⌜ now (certificate .exit)
-        ≡ written (flag (valuation (now (table .entry))) (marked (now (evaluated .entry))) (tree (now (table .entry))))
-        (frames (now (table .entry))) (now (certificate .entry)) ⌝ }
-    ensures { λ _. ⌜ now (evaluated .exit) ≡ now (evaluated .entry) ⌝ }
-{
-    fill(table, places);
-    conclude_at(table, places, evaluated, certificate)
+    fill(table, &mut places);
+    conclude_at(table, &places, evaluated, certificate)
 }
 
 // The same by places that are filled already.
@@ -110,35 +86,22 @@ pub fn conclude_at(
         (frames (now (table .entry))) (now (certificate .entry)) ⌝ }
     ensures { λ _. ⌜ now (evaluated .exit) ≡ now (evaluated .entry) ⌝ }
 {
-    if frame_count(table) <= SMALL {
-        let mut lows = [0u32; SMALL];
-        let mut highs = [0u32; SMALL];
-        return conclude_in(table, places, &mut lows, &mut highs, evaluated, certificate);
-    }
     let mut lows = [0u32; MAX_NODES];
     let mut highs = [0u32; MAX_NODES];
-    conclude_in(table, places, &mut lows, &mut highs, evaluated, certificate)
+    fill_bounds(table, places, evaluated, &mut lows, &mut highs);
+    read_off(table, places, &lows, &highs, certificate)
 }
 
-// The certificate and the root move, by work arrays with an entry per node for the bounds.
-fn conclude_in(
-    table: &[u8],
-    places: &[u32],
-    lows: &mut [u32],
-    highs: &mut [u32],
-    evaluated: &mut [u8],
-    certificate: &mut [u8],
-) -> usize
+// The root move alone, by places that are filled already.
+pub fn root_move(table: &[u8], places: &[u32], evaluated: &mut [u8]) -> usize
     requires { ⌜ (WellFormed (now table)) × (Placed (now table) (now places)) ⌝ }
-    requires { ⌜ (frames (now table) ≤ length (now lows)) × (frames (now table) ≤ length (now highs)) ⌝ }
-    requires { ⌜ (frames (now table) ≤ length (now evaluated)) × (frames (now table) ≤ length (now certificate)) ⌝ }
+    requires { ⌜ frames (now table) ≤ length (now evaluated) ⌝ }
     ensures { λ r. ⌜ r ≡ boundMove (valuation (now (table .entry))) (marked (now (evaluated .entry)))
         (tree (now (table .entry))) ⌝ }
-    ensures { λ _. ⌜ now (certificate .exit)
-        ≡ written (flag (valuation (now (table .entry))) (marked (now (evaluated .entry))) (tree (now (table .entry))))
-        (frames (now (table .entry))) (now (certificate .entry)) ⌝ }
     ensures { λ _. ⌜ now (evaluated .exit) ≡ now (evaluated .entry) ⌝ }
 {
-    fill_bounds(table, places, evaluated, lows, highs);
-    read_off(table, places, lows, highs, certificate)
+    let mut lows = [0u32; MAX_NODES];
+    let mut highs = [0u32; MAX_NODES];
+    fill_bounds(table, places, evaluated, &mut lows, &mut highs);
+    root_choice(table, places, &lows, &highs)
 }

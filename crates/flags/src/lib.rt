@@ -36,6 +36,18 @@ pub fn read_off(
         → now (certificate .exit) ≡ written f (frames (now (table .entry))) (now (certificate .entry))) ⌝ }
 {
     write_certificate(table, places, lows, highs, certificate);
+    root_choice(table, places, lows, highs)
+}
+
+// The root's chosen child alone.
+pub fn root_choice(table: &[u8], places: &[u32], lows: &[u32], highs: &[u32]) -> usize
+    requires { ⌜ WellFormed (now table) ⌝ }
+    requires { ⌜ (frames (now table) ≤ length (now places)) × (frames (now table) ≤ length (now lows))
+        × (frames (now table) ≤ length (now highs)) ⌝ }
+    ensures { λ r. ⌜ r
+        ≡ chosenChild (bySide (sideIn (now (places .entry)) 0) (now (lows .entry)) (now (highs .entry)))
+        0 1 (childCount (now (table .entry)) 0) ⌝ }
+{
     let end = 1 + child_count(table, 0);
     chosen_child(places, lows, highs, 0, 1, end)
 }
@@ -149,7 +161,7 @@ fn chosen_child(
 }
 
 // The first node of those from `from` up to `to` whose bound is v; 0 where there is none.
-fn first_equal(bounds: &[u32], from: usize, to: usize, v: u32) -> usize
+pub fn first_equal(bounds: &[u32], from: usize, to: usize, v: u32) -> usize
     requires { ⌜ (from ≤ to) × (to ≤ length (now bounds)) ⌝ }
     ensures { λ r. ⌜ r ≡ firstEqual (λ k. getD (now (bounds .entry)) k 0) v from (to - from) ⌝ }
 {

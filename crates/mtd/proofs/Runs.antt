@@ -11,20 +11,23 @@ use Rattle.gametree.specs.Mtd.{Memo, MemoKids, memoHigh, pass, Run, settled, fo
 use Rattle.gametree.specs.engine.MemoArrays.{Bits, readMemo, readMemoKids}
 use Rattle.gametree.proofs.mtd.Sound.{Kept, Sound, sound}
 use Rattle.gametree.proofs.mtd.Value.{kept-lower, fresh-kept, fresh-memoHigh}
-use Rattle.frames.specs.Frame.{frames}
+use Rattle.frames.specs.Frame.{frames, childCount, next}
 use Rattle.frames.specs.Place.{rootPlace}
 use Rattle.frames.specs.Tree.{treeAt, tree, valuation}
 use Rattle.frames.specs.Formed.{WellFormed}
 use Rattle.frames.proofs.Places.{place-root}
 use Rattle.frames.proofs.Trees.{zero-or-suc}
-use Rattle.frames.proofs.Nodes.{in-own, tree-range}
+use Rattle.frames.proofs.Nodes.{in-own, in-parent, tree-range}
 use Rattle.frames.proofs.Proper.{tree-proper}
 use Rattle.bounds.specs.Marks.{marked}
 use Rattle.bounds.specs.engine.Progress.{evaluateAll}
+use Rattle.bounds.specs.engine.Bounds.{boundOf}
 use Rattle.bounds.proofs.Listing.{ones-none}
+use Rattle.flags.specs.engine.Chosen.{firstEqual}
+use Rattle.flags.proofs.Chosen.{first-same}
 use Rattle.mtd.specs.declared.Tried.{Tried}
 use Rattle.mtd.specs.engine.Memory.{Memory, progressOf, memoOf, passOf, MemoryRoom, HighsRight}
-use Rattle.mtd.specs.engine.Memory.{Counted, VisitReady, Evaluated, Passed, Fresh}
+use Rattle.mtd.specs.engine.Memory.{firstHigh, Counted, VisitReady, Evaluated, Passed, Fresh}
 use Rattle.mtd.proofs.Arrays.{read-high, Long, room-kept, evaluated-none, evaluated-more}
 
 mutual
@@ -42,6 +45,18 @@ mutual
   read-fresh-kids M F (T then ts) h =
       ap₂ {C = MemoKids (T then ts)} (λ x y. record { first = x; rest = y }) (read-fresh M F T (λ p i. h p (inl i)))
       (read-fresh-kids M F ts (λ p i. h p (inr i)))
+
+-- where the highs are right, the first of the root's children whose high is the root's is the one that the marks give
+pub move-right : (t : List ℕ) → WellFormed t → (m : Memory) → HighsRight t m (tree t)
+    → firstEqual (λ k. getD (m .highs) k 0) (getD (m .highs) 0 0) 1 (childCount t 0) ≡ firstHigh t (m .evaluated)
+unfolding next
+move-right t wf m right =
+    let E = marked (m .evaluated) in
+    first-same _ (boundOf t E greatest) _ 1 (childCount t 0)
+    (λ k a b.
+    let first = wf .first 0 (wf .some) (omega arith) in
+    right k (in-parent t wf (wf .some) (record { from = omega arith; to = omega arith }) k (in-own t wf k)))
+    ∙ ap (λ v. firstEqual (boundOf t E greatest) v 1 (childCount t 0)) (right 0 (in-own t wf 0))
 
 -- the run of a table's tree from the memory that the arrays hold
 abbrev pub runOf : (t : List ℕ) → ℕ → ℕ → Memory → Run (tree t)

@@ -1,32 +1,42 @@
--- The steps of a whole search: the cleared memory is the fresh one, the passes end with the minimax value, and the
--- marks are those of MTD's leaves.
+-- The steps of a whole search: the cleared memory is the fresh one, the passes end with the minimax value and the root
+-- move, and the marks are those of MTD's leaves.
 use Prim.Native.Nat.{ℕ, _≤_, _<_}
 use native.Mathlib.Omega.{arith}
-use mathlib.Core.Path.{_≡_, refl, ap, _∙_}
+use mathlib.Core.Path.{_≡_, refl, sym, ap, ap₂, _∙_, subst}
 use mathlib.Core.Bool.{false}
 use mathlib.Core.List.{List}
 use lib.Dec.{eqb}
 use lib.ListN.{length, replicate, length-replicate, getD-replicate}
 use lib.IntN.{ℤ}
-use Rattle.gametree.specs.Tree.{greatest, minimax}
+use Rattle.lists.specs.Lists.{among}
+use Rattle.gametree.specs.declared.Side.the-variants.{Max, Min}
+use Rattle.gametree.specs.Tree.{Tree, inner, Kids, greatest, minimax, Proper}
+use Rattle.gametree.specs.Bounds.{high}
 use Rattle.gametree.specs.Mtd.{mtd}
-use Rattle.gametree.specs.Move.{boundMove}
-use Rattle.gametree.specs.Certificate.{flag}
+use Rattle.gametree.specs.Move.{firstWith, rootMove}
+use Rattle.gametree.proofs.mtd.Moves.{mtd-highMove}
 use Rattle.gametree.proofs.Searches.{byMtd}
 use Rattle.gametree.proofs.Theorems.{value-score, mtd-minimax, search-deciding}
-use Rattle.frames.specs.Frame.{frames}
-use Rattle.frames.specs.Tree.{tree, valuation}
+use Rattle.frames.specs.Frame.{frames, childCount, next}
+use Rattle.frames.specs.Tree.{kidsFrom, treeAt, tree, valuation}
 use Rattle.frames.specs.Formed.{WellFormed}
+use Rattle.frames.proofs.Places.{place-root}
 use Rattle.frames.proofs.Proper.{tree-proper}
+use Rattle.frames.proofs.Trees.{zero-or-suc, tree-leaf, tree-inner, tree-number}
 use Rattle.places.specs.Buffer.{written}
 use Rattle.bounds.specs.Marks.{marked, ones}
+use Rattle.bounds.specs.engine.Bounds.{boundOf}
 use Rattle.bounds.specs.engine.Progress.{progress, evaluateAll}
 use Rattle.bounds.proofs.Listing.{first-evaluated}
 use Rattle.frames.specs.Value.{valueOf}
-use Rattle.certificate.specs.Search.{marksOf, flagsOf, listed}
-use Rattle.certificate.proofs.Outcomes.{search-concludes}
+use Rattle.flags.specs.engine.Chosen.{firstEqual}
+use Rattle.certificate.specs.Search.{marksOf, listed}
+use Rattle.certificate.proofs.Chosen.{chosenOf, first-with}
+use Rattle.certificate.proofs.Concluded.{chosen-same}
+use Rattle.certificate.proofs.Marks.{marked-written}
+use Rattle.certificate.proofs.Outcomes.{search-marks}
 use Rattle.mtd.specs.declared.Settled.{Settled}
-use Rattle.mtd.specs.engine.Memory.{memory, Fresh}
+use Rattle.mtd.specs.engine.Memory.{memory, firstHigh, Fresh}
 use Rattle.mtd.specs.Outcome.{mtdLeaves, mtdFound}
 
 module _ (t : List ℕ) (wf : WellFormed t) where
@@ -58,27 +68,58 @@ module _ (t : List ℕ) (wf : WellFormed t) where
     pub run-small : s ≤ greatest
     run-small = omega (arith, run-score, value-score (valuation t) (tree t) (tree-proper t wf .scored))
 
-  -- the steps together: e is cleared to e₁, the passes make it e₂ and the list o₂, and c₂, m and v follow from that
-  pub run-gives : (e e₁ e₂ e₃ c c₂ o o₂ : List ℕ) (r : Settled) (m : ℕ) (v : ℤ)
+  -- what the theory says of a Max root
+  high-of : (T : Tree) (n : ℕ) (ks : Kids) → T ≡ inner n Max ks → let E = among (mtd (valuation t) T .evaluated) in
+      Proper (valuation t) T
+      → firstWith (high (valuation t) E) (high (valuation t) E T) ks ≡ rootMove (valuation t) T
+  high-of T n ks e =
+      subst (λ (X : Tree). let E = among (mtd (valuation t) X .evaluated) in
+      Proper (valuation t) X → firstWith (high (valuation t) E) (high (valuation t) E X) ks ≡ rootMove (valuation t) X)
+      (sym e) (mtd-highMove (valuation t) n ks)
+
+  -- the first of the root's children whose high is the root's, by MTD's leaves, is the root move
+  high-root : firstEqual (boundOf t (among (mtdLeaves t)) greatest) (boundOf t (among (mtdLeaves t)) greatest 0) 1
+      (childCount t 0)
+      ≡ rootMove (valuation t) (tree t)
+  unfolding firstEqual next
+  high-root =
+      zero-or-suc (childCount t 0) (λ e. rw (e, tree-leaf t wf 0 (wf .some) e)) (λ n e.
+      let first = wf .first 0 (wf .some) (omega arith) in
+      let side = ap (λ p. p .side) (place-root t) in
+      let is = tree-inner t wf 0 n (wf .some) e ∙ ap₂ (λ s k. inner 0 s (kidsFrom (treeAt t) k n)) side first in
+      rw e
+      (first-with (high (valuation t) (among (mtdLeaves t))) (treeAt t) (tree-number t) _ 1 n
+      ∙ high-of (tree t) 0 (kidsFrom (treeAt t) 1 n) is (tree-proper t wf)))
+
+  -- so it is by their marks
+  high-move : (e e₂ : List ℕ) → e₂ ≡ marksOf (mtdLeaves t) t e → firstHigh t e₂ ≡ rootMove (valuation t) (tree t)
+  unfolding chosenOf next
+  high-move e e₂ q =
+      chosen-same t wf (marked e₂) (among (mtdLeaves t))
+      (λ k h. ap (λ l. marked l k) q ∙ marked-written (among (mtdLeaves t)) (frames t) e k h) Min 0 (wf .some)
+      ∙ high-root
+
+  -- the steps together: e is cleared to e₁, the passes make it e₂ and the list o₂, and v follows from that
+  pub find-gives : (e e₁ e₂ o o₂ : List ℕ) (r : Settled) (v : ℤ)
       → e₁ ≡ written (λ k. 0) (frames t) e
       → (r .score ≡ mtd (valuation t) (tree t) .value) × (r .passes ≡ mtd (valuation t) (tree t) .passes)
+      → r .«root_move» ≡ firstHigh t e₂
       → progress (r .leaves) e₂ o₂ ≡ evaluateAll (progress 0 e₁ o) (mtdLeaves t)
       → r .leaves ≡ ones e₂ (frames t)
       → frames t ≤ length o
-      → m ≡ boundMove (valuation t) (marked e₂) (tree t)
-      → c₂ ≡ written (flag (valuation t) (marked e₂) (tree t)) (frames t) c
-      → e₃ ≡ e₂
       → v ≡ valueOf (r .score)
-      → (record { findings = record { value = v; «root_move» = m; leaves = r .leaves }; passes = r .passes }
+      → (record {
+        findings = record { value = v; «root_move» = r .«root_move»; leaves = r .leaves };
+        passes = r .passes;
+      }
       ≡ mtdFound t)
-      × ((e₃ ≡ marksOf (mtdLeaves t) t e)
-      × ((c₂ ≡ flagsOf (mtdLeaves t) t c) × (o₂ ≡ listed (mtdLeaves t) o)))
-  run-gives e e₁ e₂ e₃ c c₂ o o₂ r m v cleared settled evaluated counted room move flags kept value =
+      × ((e₂ ≡ marksOf (mtdLeaves t) t e) × (o₂ ≡ listed (mtdLeaves t) o))
+  find-gives e e₁ e₂ o o₂ r v cleared settled move evaluated counted room value =
       let d = search-deciding (valuation t) (tree t) (tree-proper t wf) byMtd in
       let g = first-evaluated (r .leaves) (frames t) e₁ e₂ o o₂ (mtdLeaves t) evaluated counted room in
-      let b = search-concludes t wf (mtdLeaves t) d e e₁ e₂ e₃ c c₂ m cleared (g .1 .0) move flags kept in
+      let a = search-marks t wf (mtdLeaves t) d e e₁ e₂ cleared (g .1 .0) in
       let x : v ≡ valueOf (minimax (valuation t) (tree t)) = value ∙ ap valueOf (run-score (r .score) (settled .0)) in
-      let y = b .0 in
+      let y = move ∙ high-move e e₂ a in
       let z = g .0 in
       let n = settled .1 in
-      (cc, (b .1 .0, (b .1 .1, g .1 .1)))
+      (cc, (a, g .1 .1))

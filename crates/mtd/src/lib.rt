@@ -8,6 +8,7 @@ use certificate::Findings;
 use certificate::ask;
 use certificate::conclude;
 use certificate::shorter;
+use flags::first_equal;
 use frames::Checked;
 use frames::GREATEST;
 use frames::MAX_NODES;
@@ -19,7 +20,6 @@ use frames::frame_count;
 use frames::value;
 use gametree::Place;
 use gametree::Side;
-use places::SMALL;
 ghost use mathlib.Core.Path.{_≡_};
 ghost use mathlib.Core.Bool.{true, false, cond, _||_};
 ghost use mathlib.Core.List.{[], _∷_};
@@ -36,7 +36,7 @@ ghost use Rattle.bounds.specs.engine.Evaluable.{Evaluable};
 ghost use Rattle.bounds.specs.engine.Progress.{progress, evaluateAll, Listable};
 ghost use Rattle.certificate.specs.Search.{marksOf, flagsOf, listed};
 ghost use Rattle.mtd.specs.Outcome.{mtdLeaves, mtdFound, mtdOutcome};
-ghost use Rattle.mtd.specs.engine.Memory.{memory, Fresh, VisitReady, Enterable, Passed, Looked};
+ghost use Rattle.mtd.specs.engine.Memory.{memory, firstHigh, Fresh, VisitReady, Enterable, Passed, Looked};
 
 // What MTD finds: what every search finds, and how many passes were made.
 pub struct Found {
@@ -84,47 +84,42 @@ fn run(table: &[u8], evaluated: &mut [u8], certificate: &mut [u8], order: &mut [
         ≡ flagsOf (mtdLeaves (now (table .entry))) (now (table .entry)) (now (certificate .entry)) ⌝ }
     ensures { λ _. ⌜ now (order .exit) ≡ listed (mtdLeaves (now (table .entry))) (now (order .entry)) ⌝ }
 {
+    let found = find(table, evaluated, order);
+    conclude(table, evaluated, certificate);
+    found
+}
+
+// The same without a certificate, for callers that have checked the table.
+pub fn find(table: &[u8], evaluated: &mut [u8], order: &mut [u16]) -> Found
+    requires { ⌜ WellFormed (now table) ⌝ }
+    requires { ⌜ (frames (now table) ≤ length (now evaluated)) × (frames (now table) ≤ length (now order)) ⌝ }
+    ensures { λ r. ⌜ r ≡ mtdFound (now (table .entry)) ⌝ }
+    ensures { λ _. ⌜ now (evaluated .exit)
+        ≡ marksOf (mtdLeaves (now (table .entry))) (now (table .entry)) (now (evaluated .entry)) ⌝ }
+    ensures { λ _. ⌜ now (order .exit) ≡ listed (mtdLeaves (now (table .entry))) (now (order .entry)) ⌝ }
+{
     clear(evaluated, frame_count(table));
-    let settled = settle(table, evaluated, order);
-    let root_move = conclude(table, evaluated, certificate);
+    let mut highs = [GREATEST; MAX_NODES];
+    let mut not_below = [0u8; MAX_NODES];
+    let settled = run_passes(table, evaluated, order, &mut highs, &mut not_below);
     let value = value(settled.score);
     Found {
         findings: Findings {
             value,
-            root_move,
+            root_move: settled.root_move,
             leaves: settled.leaves,
         },
         passes: settled.passes,
     }
 }
 
-// What the passes end with: the test that the root is not below, how many leaves were evaluated, and how many passes
-// were made.
+// What the passes end with: the test that the root is not below, the first child whose high is the root's, how many
+// leaves were evaluated, and how many passes were made.
 struct Settled {
     score: u32,
+    root_move: usize,
     leaves: usize,
     passes: usize,
-}
-
-// The passes over a table without marks. A small table gets small work arrays, since their clearing takes time.
-fn settle(table: &[u8], evaluated: &mut [u8], order: &mut [u16]) -> Settled
-    requires { ⌜ (WellFormed (now table)) × (frames (now table) ≤ length (now evaluated))
-        × (frames (now table) ≤ length (now order)) ⌝ }
-    requires { ⌜ ((k : ℕ) → k < frames (now table) → marked (now evaluated) k ≡ false) ⌝ }
-    ensures { λ r. ⌜ (r .score ≡ mtd (valuation (now (table .entry))) (tree (now (table .entry))) .value)
-        × (r .passes ≡ mtd (valuation (now (table .entry))) (tree (now (table .entry))) .passes) ⌝ }
-    ensures { λ r. ⌜ progress (r .leaves) (now (evaluated .exit)) (now (order .exit))
-        ≡ evaluateAll (progress 0 (now (evaluated .entry)) (now (order .entry))) (mtdLeaves (now (table .entry))) ⌝ }
-    ensures { λ r. ⌜ r .leaves ≡ ones (now (evaluated .exit)) (frames (now (table .entry))) ⌝ }
-{
-    if frame_count(table) <= SMALL {
-        let mut highs = [GREATEST; SMALL];
-        let mut not_below = [0u8; SMALL];
-        return run_passes(table, evaluated, order, &mut highs, &mut not_below);
-    }
-    let mut highs = [GREATEST; MAX_NODES];
-    let mut not_below = [0u8; MAX_NODES];
-    run_passes(table, evaluated, order, &mut highs, &mut not_below)
 }
 
 // Passes from the greatest test, each with the root's high for the next test, until the root is not below.
@@ -138,6 +133,7 @@ fn run_passes(
     requires { ⌜ Fresh (now table) (memory 0 (now evaluated) (now order) (now highs) (now «not_below»)) ⌝ }
     ensures { λ r. ⌜ (r .score ≡ mtd (valuation (now (table .entry))) (tree (now (table .entry))) .value)
         × (r .passes ≡ mtd (valuation (now (table .entry))) (tree (now (table .entry))) .passes) ⌝ }
+    ensures { λ r. ⌜ r .«root_move» ≡ firstHigh (now (table .entry)) (now (evaluated .exit)) ⌝ }
     ensures { λ r. ⌜ progress (r .leaves) (now (evaluated .exit)) (now (order .exit))
         ≡ evaluateAll (progress 0 (now (evaluated .entry)) (now (order .entry))) (mtdLeaves (now (table .entry))) ⌝ }
     ensures { λ r. ⌜ r .leaves ≡ ones (now (evaluated .exit)) (frames (now (table .entry))) ⌝ }
@@ -166,17 +162,20 @@ fn run_passes(
         if tried.answer {
             break;
         }
-        test = next_test(highs);
+        test = root_high(highs);
     }
+    let end = 1 + child_count(table, 0);
+    let root_move = first_equal(highs, 1, end, root_high(highs));
     Settled {
         score: test,
+        root_move,
         leaves,
         passes,
     }
 }
 
-// The root's high is the next test.
-fn next_test(highs: &[u32]) -> u32
+// The root's high, which is the next test.
+fn root_high(highs: &[u32]) -> u32
     requires { ⌜ 0 < length (now highs) ⌝ }
     ensures { λ r. ⌜ r ≡ getD (now (highs .entry)) 0 0 ⌝ }
 {

@@ -1,42 +1,15 @@
--- `alphabeta::run` meets its contract: the steps of a search, in order.
-use native.Mathlib.Omega.{arith}
-use mathlib.Core.Path.{ap, _∙_}
-use mir.Syntax.{w16}
-use mir.ValLaws.{toZ-ofZ}
+-- `alphabeta::run` meets its contract: the certificate follows from the marks.
 use borrow.Author.Needs.{needs}
-use Rattle.places.specs.Buffer.{written}
-use Rattle.bounds.proofs.Listing.{listable-first}
-use Rattle.certificate.proofs.Searchable.{searchable-root}
-use Rattle.alphabeta.proofs.Whole.{run-small, run-gives}
+use Rattle.certificate.proofs.Outcomes.{marks-certify}
+use Rattle.alphabeta.specs.Outcome.{reachedLeaves}
 use Rattle.alphabeta.proofs.run.Statement.{statement}
 use Rattle.alphabeta.proofs.run.Tie as tie
 
--- the function's entry, from the engine's result on
-abbrev start : tie.After-alpha-beta → tie.Start
-start f = f .before .before .before .before .before .before .before .before .before .before .before .before
-
-frame-count-requires : tie.Need-frame-count-requires
-frame-count-requires c κs = search needs
-
-clear-requires : tie.Need-clear-requires
-clear-requires c κs = search needs
-
-alpha-beta-requires : tie.Need-alpha-beta-requires
-alpha-beta-requires c κs =
-    let k = c .before .before .before .before in
-    let a = k .before .before .before .before .before .before .before in
-    let n = k .before .frame-count .ensures in (
-      searchable-root _ (a .pre .0) _ _ _ (k .clear .ensures) n (omega (arith, k .clear .kept .0, a .pre .1 .0)),
-      listable-first _ _ _ _ _ (k .clear .ensures) n (a .pre .0 .few) (a .pre .1 .1),
-    )
+find-requires : tie.Need-find-requires
+find-requires c κs = search needs
 
 conclude-requires : tie.Need-conclude-requires
 conclude-requires c κs = search needs
-
-value-requires : tie.Need-value-requires
-value-requires c κs =
-    let f = c .before .before .before .before .before .before .before .before .before .before .before in
-    run-small _ (start f .pre .0) _ (f .alpha-beta .ensures .0)
 
 same-length : tie.Need-same-length
 same-length c = search needs
@@ -49,26 +22,16 @@ same-length-3 c = search needs
 
 returns : tie.Need-returns
 returns c =
-    let g = c .before .before .before .before .before in
-    let f = c .before .before .before .before .before .before .before .before .before .before .before .before in
-    let k = f .before .before .before .before .before in
-    let e = f .alpha-beta .ensures in
-    let n = k .before .frame-count .ensures in
-    let cleared = k .clear .ensures ∙ ap (λ m. written (λ _. 0) m (start f .args .evaluated .now)) n in
-    let value = toZ-ofZ w16 (c .value .result) (record { sfits = c .value .ok }) ∙ c .value .ensures in
-    run-gives _ (start f .pre .0) _ _ _ _ _ _ _ _ _ _ _ _ cleared (e .0) (e .1 .0) (e .1 .1) (start f .pre .1 .1)
-    (g .conclude .ensures .0) (g .conclude .ensures .1 .0) (g .conclude .ensures .1 .1) value
+    let k = c .before .before .before .before in
+    let f = k .before .before .before .before .before .before .before in
+    let a = f .before .before .before .before .before .before .before in
+    let w = reachedLeaves (a .args .table .now) in
+    let e = f .find .ensures in
+    let d = k .conclude .ensures in
+    let b = marks-certify _ (a .pre .0) w (a .args .evaluated .now) _ _ _ _ (e .1 .0) (d .1 .0) (d .1 .1) in
+    (e .0, (b .0, (b .1, e .1 .1)))
 
 pub run-spec : {M : Type 1} → statement M
 run-spec =
     tie.close
-    (tie.spec
-    frame-count-requires
-    clear-requires
-    alpha-beta-requires
-    conclude-requires
-    value-requires
-    same-length
-    same-length-2
-    same-length-3
-    returns)
+    (tie.spec find-requires conclude-requires same-length same-length-2 same-length-3 returns)

@@ -1,23 +1,49 @@
--- `certificate::conclude_at` meets its contract: a table has at most as many nodes as the arrays have entries, in both
--- cases.
+-- `certificate::conclude_at` meets its contract: the arrays hold the sides and the bounds, and flags and move follow.
 use native.Mathlib.Omega.{arith}
+use Rattle.bounds.specs.Marks.{marked}
+use Rattle.certificate.proofs.Chosen.{Bounded, bounded, chosen-move}
+use Rattle.certificate.proofs.Flags.{flags-follow}
 use borrow.Author.Needs.{needs}
 use Rattle.certificate.proofs.conclude_at.Statement.{statement}
 use Rattle.certificate.proofs.conclude_at.Tie as tie
 
-frame-count-requires : tie.Need-frame-count-requires
-frame-count-requires c κs = search needs
+-- from the bounds to the start
+abbrev start : tie.After-fill-bounds → tie.Start
+start c = c .before .before .before .before .before .before .before .before
 
-slice-aggregate-conclude-in : tie.Need-slice-aggregate-conclude-in
-slice-aggregate-conclude-in c = search needs
+-- the arrays hold the sides and the bounds
+holds-bounds : (c : tie.After-fill-bounds) → let a = start c .args in
+    Bounded (a .table .now) (marked (a .evaluated .now)) (a .places .now)
+    (c .fill-bounds .last .1 .1 .1 .0) (c .fill-bounds .last .1 .1 .1 .1 .0)
+holds-bounds c =
+    let e = c .fill-bounds .ensures in
+    bounded _ _ _ _ (start c .pre .0 .1) (e .0) (e .1 .0)
 
-slice-aggregate-conclude-in-2 : tie.Need-slice-aggregate-conclude-in-2
-slice-aggregate-conclude-in-2 c = search needs
+slice-aggregate-fill-bounds : tie.Need-slice-aggregate-fill-bounds
+slice-aggregate-fill-bounds c = search needs
 
-conclude-in-requires : tie.Need-conclude-in-requires
-conclude-in-requires c κs =
-    let a = c .before .before .before .before .before .before .before .before .before .before .pre in
-    (a .0, ((omega arith, omega arith), a .1))
+slice-aggregate-fill-bounds-2 : tie.Need-slice-aggregate-fill-bounds-2
+slice-aggregate-fill-bounds-2 c = search needs
+
+fill-bounds-requires : tie.Need-fill-bounds-requires
+fill-bounds-requires c κs = search needs
+
+slice-aggregate-read-off : tie.Need-slice-aggregate-read-off
+slice-aggregate-read-off c = search needs
+
+slice-aggregate-read-off-2 : tie.Need-slice-aggregate-read-off-2
+slice-aggregate-read-off-2 c = search needs
+
+read-off-requires : tie.Need-read-off-requires
+read-off-requires c κs =
+    let b = c .before .before .before .before .before .before .before in
+    let a = start b .pre in (
+      a .0 .0,
+      (
+        (a .0 .1 .room, omega (arith, a .0 .0 .few, b .fill-bounds .kept)),
+        (omega (arith, a .0 .0 .few, b .fill-bounds .kept), a .1 .1),
+      ),
+    )
 
 same-length : tie.Need-same-length
 same-length c = search needs
@@ -26,42 +52,23 @@ same-length-2 : tie.Need-same-length-2
 same-length-2 c = search needs
 
 returns : tie.Need-returns
-returns c = search needs
-
-slice-aggregate-conclude-in-3 : tie.Need-slice-aggregate-conclude-in-3
-slice-aggregate-conclude-in-3 c = search needs
-
-slice-aggregate-conclude-in-4 : tie.Need-slice-aggregate-conclude-in-4
-slice-aggregate-conclude-in-4 c = search needs
-
-conclude-in-requires-2 : tie.Need-conclude-in-requires-2
-conclude-in-requires-2 c κs =
-    let a = c .before .before .before .before .before .before .before .before .before .before .pre in
-    (a .0, ((a .0 .0 .few, a .0 .0 .few), a .1))
-
-same-length-3 : tie.Need-same-length-3
-same-length-3 c = search needs
-
-same-length-4 : tie.Need-same-length-4
-same-length-4 c = search needs
-
-returns-2 : tie.Need-returns-2
-returns-2 c = search needs
+returns c =
+    let r = c .before .before .read-off .ensures in
+    let b = c .before .before .before .before .before .before .before .before .before .before in
+    let wf = start b .pre .0 .0 in
+    let h = holds-bounds b in
+    (rw (r .0) (chosen-move _ wf _ h), (r .1 _ (flags-follow _ wf _ h), b .fill-bounds .ensures .1 .1))
 
 pub conclude-at-spec : {M : Type 1} → statement M
 conclude-at-spec =
     tie.close
     (tie.spec
-    frame-count-requires
-    slice-aggregate-conclude-in
-    slice-aggregate-conclude-in-2
-    conclude-in-requires
+    slice-aggregate-fill-bounds
+    slice-aggregate-fill-bounds-2
+    fill-bounds-requires
+    slice-aggregate-read-off
+    slice-aggregate-read-off-2
+    read-off-requires
     same-length
     same-length-2
-    returns
-    slice-aggregate-conclude-in-3
-    slice-aggregate-conclude-in-4
-    conclude-in-requires-2
-    same-length-3
-    same-length-4
-    returns-2)
+    returns)

@@ -7,15 +7,16 @@ use mathlib.Core.Logic.{_⊎_, inl, inr, ⊎-elim}
 use mathlib.Core.Bool.{true, false, not}
 use mathlib.Core.List.{List}
 use lib.Dec.{ltb}
+use borrow.Author.Tests.{eq-eqb, ne-eqb}
 use Rattle.lists.specs.Lists.{among}
 use Rattle.gametree.specs.Tree.{Side, Max, Min, Tree, leaf, inner, Kids, last, _then_, least, greatest}
-use Rattle.gametree.specs.Tree.{minimaxKids, ScoredKids, Proper}
-use Rattle.gametree.specs.Bounds.{known, Decided}
+use Rattle.gametree.specs.Tree.{minimax, minimaxKids, ScoredKids, Proper}
+use Rattle.gametree.specs.Bounds.{known, high, Decided}
 use Rattle.gametree.specs.Mtd.{Memo, MemoKids, memoHigh, memoHighKids, Pass, PassKids, pass, passKids, Run, run}
 use Rattle.gametree.specs.Mtd.{fresh, mtd}
 use Rattle.gametree.proofs.mtd.Marks.{MarksKids}
 use Rattle.gametree.specs.Certificate.{worst}
-use Rattle.gametree.specs.Move.{rootMove, boundMove}
+use Rattle.gametree.specs.Move.{firstWith, rootMove, boundMove}
 use Rattle.lists.proofs.Choice.{cond-cases, true-not-false}
 use Rattle.gametree.proofs.minimax.Bounds.{minimax-score, low≤, ≤high}
 use Rattle.gametree.proofs.mtd.Sound.{memoLow, memoLow-minimax, minimax-memoHigh, Kept, KeptKids, sound}
@@ -108,6 +109,29 @@ max-shown ν w v (t then ts) m h k u (inl d) =
 max-shown ν w v (t then ts) m h k u (inr d) =
     let j = minimax-memoHigh ν t (m .first) (h .0) in
     (λ e. absurd (omega (arith, d .0)), λ f. max-shown ν w v ts (m .rest) (h .1) (k .1) (omega arith) (d .1))
+
+-- at a Max root the first child whose high is the value is the first one that has it
+first-high : (ν : ℕ → ℕ) (w : List ℕ) (v : ℕ) (ks : Kids) (m : MemoKids ks) → ScoredKids ν ks → MarksKids w ks m
+    → memoHighKids ν Max ks m ≤ v → DecidesMax ν v ks m
+    → firstWith (high ν (among w)) v ks ≡ firstWith (minimax ν) v ks
+first-high ν w v (last t) m h k u d =
+    let i = memoBound-is greatest ν w t m k in
+    let a = memoLow-minimax ν t m in
+    let b = minimax-memoHigh ν t m h in
+    rw (eq-eqb (high ν (among w) t) v (omega arith), eq-eqb (minimax ν t) v (omega arith)) refl
+first-high ν w v (t then ts) m h k u (inl d) =
+    let i = memoBound-is greatest ν w t (m .first) (k .0) in
+    let a = memoLow-minimax ν t (m .first) in
+    let b = minimax-memoHigh ν t (m .first) (h .0) in
+    rw (eq-eqb (high ν (among w) t) v (omega arith), eq-eqb (minimax ν t) v (omega arith)) refl
+first-high ν w v (t then ts) m h k u (inr d) =
+    let i = memoBound-is greatest ν w t (m .first) (k .0) in
+    let b = minimax-memoHigh ν t (m .first) (h .0) in
+    let l = d .0 in
+    rw (
+      ne-eqb (high ν (among w) t) v (λ e. omega arith),
+      ne-eqb (minimax ν t) v (λ e. omega arith),
+    ) (first-high ν w v ts (m .rest) (h .1) (k .1) (omega arith) (d .1))
 
 -- the children up to the first one whose high is at most v have their lows above it
 abbrev pub DecidesMin : (ν : ℕ → ℕ) → ℕ → (ks : Kids) → MemoKids ks → Type 0
@@ -229,3 +253,14 @@ pub mtd-move : (ν : ℕ → ℕ) (t : Tree) → Proper ν t → boundMove ν (a
 mtd-move ν (leaf n) r = refl
 mtd-move ν (inner n s ks) r =
     move-same ν _ n s ks (r .scored) (mtd-decided ν (inner n s ks) r) (mtd-shown ν n s ks r)
+
+-- at a Max root it is the first child whose high is the root's
+pub mtd-highMove : (ν : ℕ → ℕ) (n : ℕ) (ks : Kids) → let t = inner n Max ks in
+    let E = among (mtd ν t .evaluated) in
+    Proper ν t → firstWith (high ν E) (high ν E t) ks ≡ rootMove ν t
+mtd-highMove ν n ks r =
+    let t = inner n Max ks in
+    let b = mtd-right ν t (r .scored) in
+    rw (mtd-decided ν t r .highIs)
+    (first-high ν (mtd ν t .evaluated) _ ks (mtd ν t .memo .kids) (r .scored) (mtd-marks ν t (r .distinct) .marks)
+    (omega (arith, b .high-is)) (rw (b .value) at (mtdMax-decides ν n ks (r .scored))))

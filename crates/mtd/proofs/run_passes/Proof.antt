@@ -1,12 +1,17 @@
 -- `run_passes` gives what MTD gives. The measure is the test, which falls with each pass.
+use Prim.Native.Nat.{_+_, _-_, _≤_}
 use native.Mathlib.Omega.{arith}
-use mathlib.Core.Path.{_∙_}
+use mathlib.Core.Path.{_≡_, _∙_}
+use lib.ListN.{length}
+use borrow.Author.Needs.{needs}
 use Rattle.gametree.specs.Mtd.{mtd}
+use Rattle.frames.specs.Frame.{childCount, next}
 use Rattle.frames.specs.Tree.{tree, valuation}
+use Rattle.frames.proofs.Next.{next-within}
 use Rattle.mtd.specs.engine.Memory.{Memory, memory}
 use Rattle.mtd.proofs.Arrays.{Long}
 use Rattle.mtd.proofs.Runs.{Passing, passing-first, passing-ready, passing-last}
-use Rattle.mtd.proofs.Runs.{next-falls, passing-next}
+use Rattle.mtd.proofs.Runs.{next-falls, passing-next, move-right}
 use Rattle.mtd.proofs.run_passes.Statement.{statement}
 use Rattle.mtd.proofs.run_passes.Tie as tie
 
@@ -59,8 +64,8 @@ visit-requires c κs =
 add-passes : tie.Need-add-passes Inv-loop μ-loop
 add-passes c = omega (arith, head (c .before .before .before .before .before .before .before .before) .loop .inv .few)
 
-next-test-requires : tie.Need-next-test-requires Inv-loop μ-loop
-next-test-requires c κs =
+root-high-requires : tie.Need-root-high-requires Inv-loop μ-loop
+root-high-requires c κs =
     let v = c .before .before .before .before .before .before .before .before .before .before in
     omega (arith, entry v .pre .formed .some, entry v .pre .room .highs, long v .highs)
 
@@ -71,31 +76,65 @@ loop-less c =
       arith,
       next-falls (entry v .pre .formed) (head v .loop .inv) {m″ = after v} (v .visit .ensures)
           (c .before .before .if1 .left),
-      c .next-test .ensures,
+      c .root-high .ensures,
     )
 
 loop-again : tie.Need-loop-again Inv-loop μ-loop
 loop-again c =
     let v = c .before .before .before .before .before .before .before .before .before .before .before in
     passing-next (entry v .pre .formed) (head v .loop .inv) {m″ = after v} (v .visit .ensures)
-    (c .before .before .if1 .left) (long v) _ (c .next-test .ensures)
+    (c .before .before .if1 .left) (long v) _ (c .root-high .ensures)
+
+child-count-requires : tie.Need-child-count-requires Inv-loop μ-loop
+child-count-requires c κs = search needs
+
+-- the pass that found the root not below
+abbrev last-visit : tie.Then1 Inv-loop μ-loop → tie.After-visit Inv-loop μ-loop
+last-visit c = c .before .before .before .before .before .before .before .before .before
+
+-- the root's children are nodes of the table
+within : (c : tie.Then1 Inv-loop μ-loop) → let v = last-visit c in
+    1 + childCount (entry v .args .table .now) 0 ≤ length (v .visit .last .1 .1 .1 .0)
+unfolding next
+within c =
+    let v = last-visit c in
+    let p = entry v .pre in
+    omega (arith, next-within _ (p .formed) 1 (p .formed .some), p .room .highs, long v .highs)
+
+add-end : tie.Need-add-end Inv-loop μ-loop
+add-end c = search needs
+
+root-high-requires-2 : tie.Need-root-high-requires-2 Inv-loop μ-loop
+root-high-requires-2 c κs = omega (arith, within (c .before .before))
+
+first-equal-requires : tie.Need-first-equal-requires Inv-loop μ-loop
+first-equal-requires c κs =
+    let t = c .before .before .before in
+    (omega arith, omega (arith, within t, c .before .before .child-count .ensures .0))
 
 same-length : tie.Need-same-length Inv-loop μ-loop
-same-length c = long (c .before .before .before .before .before .before .before .before .before) .evaluated
+same-length c = long (last-visit (c .before .before .before .before)) .evaluated
 
 same-length-2 : tie.Need-same-length-2 Inv-loop μ-loop
-same-length-2 c = long (c .before .before .before .before .before .before .before .before .before) .order
+same-length-2 c = long (last-visit (c .before .before .before .before)) .order
 
 same-length-3 : tie.Need-same-length-3 Inv-loop μ-loop
-same-length-3 c = long (c .before .before .before .before .before .before .before .before .before) .highs
+same-length-3 c = long (last-visit (c .before .before .before .before)) .highs
 
 same-length-4 : tie.Need-same-length-4 Inv-loop μ-loop
-same-length-4 c = long (c .before .before .before .before .before .before .before .before .before) .notBelow
+same-length-4 c = long (last-visit (c .before .before .before .before)) .notBelow
 
 returns : tie.Need-returns Inv-loop μ-loop
 returns c =
-    let v = c .before .before .before .before .before .before .before .before .before in
-    passing-last (entry v .pre .formed) (head v .loop .inv) {m″ = after v} (v .visit .ensures) (c .if1 .taken)
+    let k = c .before .before .before in
+    let t = k .before in
+    let v = last-visit t in
+    let wf = entry v .pre .formed in
+    let g = passing-last wf (head v .loop .inv) {m″ = after v} (v .visit .ensures) (t .if1 .taken) in
+    let n : 1 + k .child-count .result - 1 ≡ childCount (entry v .args .table .now) 0 =
+    omega (arith, k .child-count .ensures .0) in
+    let r = rw (n, c .before .root-high2 .ensures) at (c .first-equal .ensures) in
+    (g .0, (r ∙ move-right _ wf (after v) (v .visit .ensures .right), g .1))
 
 pub run-passes-spec : {M : Type 1} → statement M
 run-passes-spec =
@@ -106,9 +145,13 @@ run-passes-spec =
     loop-holds
     visit-requires
     add-passes
-    next-test-requires
+    root-high-requires
     loop-less
     loop-again
+    child-count-requires
+    add-end
+    root-high-requires-2
+    first-equal-requires
     same-length
     same-length-2
     same-length-3

@@ -16,6 +16,8 @@ use Rattle.frames.specs.Tree.{treeAt, valuation}
 use Rattle.frames.specs.Formed.{WellFormed}
 use Rattle.bounds.specs.Marks.{marked, ones}
 use Rattle.bounds.specs.engine.Progress.{Progress, progress, evaluateAll}
+use Rattle.bounds.specs.engine.Bounds.{boundOf}
+use Rattle.flags.specs.engine.Chosen.{firstEqual}
 use Rattle.mtd.specs.declared.Seen.{Seen}
 use Rattle.mtd.specs.declared.Seen.the-variants.{Answered, Open}
 use Rattle.mtd.specs.declared.Tried.{Tried}
@@ -97,6 +99,10 @@ pub record Passed (t : List ℕ) (T : Tree) (γ : ℕ) (m m′ : Memory) (r : Tr
 abbrev pub Looked : (t : List ℕ) (i γ : ℕ) (m : Memory) (m′ : ℕ → Memory) → Seen → Type 0
 Looked t i γ m m′ (Answered r) = Passed t (treeAt t i) γ m (m′ (r .leaves)) r
 Looked t i γ m m′ Open = (m′ (m .leaves) ≡ m) × Enterable t m i γ
+
+-- the first of the root's children whose high is the root's, by the marks e; 0 where there is none
+abbrev pub firstHigh : (t e : List ℕ) → ℕ
+firstHigh t e = firstEqual (boundOf t (marked e) greatest) (boundOf t (marked e) greatest 0) 1 (childCount t 0)
 
 -- what the passes ask: nothing is evaluated, no node was found not below, and every high is the greatest
 pub record Fresh (t : List ℕ) (m : Memory) : Type 0 where

@@ -1,4 +1,4 @@
--- `flags::read_off` meets its contract: the root's children are the nodes from 1 on.
+-- `flags::root_choice` meets its contract: the root's children are the nodes from 1 on.
 use Prim.Native.Nat.{ℕ, _+_, _-_, _≤_}
 use native.Mathlib.Omega.{arith}
 use mathlib.Core.Path.{_≡_}
@@ -7,8 +7,8 @@ use borrow.Author.Needs.{needs}
 use Rattle.frames.specs.Frame.{frames, childCount, next}
 use Rattle.frames.specs.Formed.{WellFormed}
 use Rattle.frames.proofs.Next.{next-within}
-use Rattle.flags.proofs.read_off.Statement.{statement}
-use Rattle.flags.proofs.read_off.Tie as tie
+use Rattle.flags.proofs.root_choice.Statement.{statement}
+use Rattle.flags.proofs.root_choice.Tie as tie
 
 -- the root's children are nodes of the table
 root-within : (t : List ℕ) → WellFormed t → 1 + childCount t 0 ≤ frames t
@@ -19,9 +19,15 @@ root-within t wf = omega (arith, next-within t wf 1 (wf .some))
 from-one : {n m : ℕ} → n ≡ m → 1 + n - 1 ≡ m
 from-one e = omega arith
 
+child-count-requires : tie.Need-child-count-requires
+child-count-requires c κs = search needs
+
+add-end : tie.Need-add-end
+add-end c = search needs
+
 chosen-child-requires : tie.Need-chosen-child-requires
 chosen-child-requires c κs =
-    let a = c .before .before .before .before .before .before .before .before .before .before .pre in
+    let a = c .before .before .before .before .before .pre in
     let n = c .child-count .ensures .0 in
     let end = root-within _ (a .0) in (
       (omega (arith, end), omega (arith, end), omega (arith, end)),
@@ -29,17 +35,7 @@ chosen-child-requires c κs =
     )
 
 returns : tie.Need-returns
-returns c =
-    let n = from-one (c .before .child-count .ensures .0) in
-    (rw n at (c .chosen-child .ensures), c .before .before .before .before .write-certificate .ensures)
+returns c = rw (from-one (c .before .child-count .ensures .0)) at (c .chosen-child .ensures)
 
-pub read-off-spec : {M : Type 1} → statement M
-read-off-spec =
-    tie.close
-    (tie.spec
-    (λ c κs. search needs)
-    (λ c κs. search needs)
-    (λ c. search needs)
-    chosen-child-requires
-    (λ c. search needs)
-    returns)
+pub root-choice-spec : {M : Type 1} → statement M
+root-choice-spec = tie.close (tie.spec child-count-requires add-end chosen-child-requires returns)
