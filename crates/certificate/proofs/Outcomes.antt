@@ -41,8 +41,7 @@ module _ (t : List ℕ) (wf : WellFormed t) (w : List ℕ) (d : Deciding (valuat
       → c₂ ≡ written (flag (valuation t) (marked e₂) (tree t)) (frames t) c → e₃ ≡ e₂
       → (m ≡ rootMove (valuation t) (tree t)) × ((e₃ ≡ marksOf w t e) × (c₂ ≡ flagsOf w t c))
   search-concludes e e₁ e₂ e₃ c c₂ m cleared marks move flags kept =
-      let a = search-marks e e₁ e₂ cleared marks in
-      (
+      let a = search-marks e e₁ e₂ cleared marks in (
         move ∙ concluded t wf (among w) e e₂ c a .0 ∙ d .move,
         marks-certify t wf w e e₂ e₃ c c₂ a flags kept,
       )

@@ -40,8 +40,7 @@ same-length c = search needs
 
 returns : tie.Need-returns
 returns c =
-    let b = c .before .before .before .before .before .before .before in
-    (
+    let b = c .before .before .before .before .before .before .before in (
       rw (c .root-choice .ensures) (chosen-move _ (start b .pre .0 .0) _ (holds-bounds b)),
       b .fill-bounds .ensures .1 .1,
     )
