@@ -133,13 +133,22 @@ fn visit_root(table: &[u8], evaluated: &mut [u8], order: &mut [u16]) -> RootVisi
     }
     let mut child = 1;
     loop {
-        let below = child_place(table, child, root);
-        let visited = alpha_beta(table, evaluated, order, child, below, alpha, GREATEST, leaves);
-        if alpha < visited.score {
+        let place = child_place(table, child, root);
+        let below = alpha_beta(
+            table,
+            evaluated,
+            order,
+            child,
+            place,
+            alpha,
+            GREATEST,
+            leaves,
+        );
+        if alpha < below.score {
             root_move = child;
         }
-        alpha = visited.score;
-        leaves = visited.leaves;
+        alpha = below.score;
+        leaves = below.leaves;
         if child == last {
             break;
         }

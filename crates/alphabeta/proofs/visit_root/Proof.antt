@@ -91,8 +91,7 @@ loop-holds c =
 
 child-place-requires : tie.Need-child-place-requires Inv-loop μ-loop
 child-place-requires c κs =
-    let r = start c .pre .0 in
-    (
+    let r = start c .pre .0 in (
       child-within _ (r .formed) (r .inside) (root-child _ (r .formed) (count c) (c .loop .inv)),
       searchable-depth _ _ _ _ r .1,
     )
@@ -103,10 +102,9 @@ alpha-beta-requires c κs =
     let l = k .before in
     let r = start l .pre .0 in
     let u = l .loop .inv in
-    let j = root-child _ (r .formed) (count l) u in
-    (
+    let j = root-child _ (r .formed) (count l) u in (
       searchable-child _ _ _ _ r _ _ _ j (u .turn .marksKept) (u .turn .waiting _ (omega arith) j)
-      (k .child-place .ensures),
+          (k .child-place .ensures),
       u .turn .listable,
     )
 
