@@ -14,6 +14,10 @@ use text::put_refused;
 use text::put_value;
 pub use text::refused;
 ghost use mathlib.Core.Path.{_≡_};
+ghost use Prim.Native.Nat.{_≤_};
+ghost use lib.ListN.{length};
+ghost use Rattle.frames.specs.Frame.{frames};
+ghost use Rattle.frames.specs.Formed.{WellFormed};
 ghost use Rattle.frames.specs.Check.{Accepted};
 ghost use Rattle.text.specs.Text.{TextRoom, Put, textOf};
 ghost use Rattle.report.specs.Report.{methodLine, abLine, mtdLine, sssLine, analysis, report};
@@ -47,43 +51,45 @@ fn put_analysis(table: &[u8], text: &mut [u8]) -> usize
     requires { ⌜ Accepted (now table) × TextRoom 0 (analysis (now table)) (now text) ⌝ }
     ensures { λ r. ⌜ Put 0 (analysis (now (table .entry))) (now (text .entry)) r (now (text .exit)) ⌝ }
 {
+    let mut evaluated = [0u8; MAX_NODES];
+    let mut order = [0u16; MAX_NODES];
     let first = put_bytes(text, 0, b"method value move leaves\n");
-    let second = put_ab(table, text, first);
-    let third = put_mtd(table, text, second);
+    let second = put_ab(table, &mut evaluated, &mut order, text, first);
+    let third = put_mtd(table, &mut evaluated, &mut order, text, second);
     put_sss(table, text, third)
 }
 
-// The line of alpha-beta, which rejects no accepted table; the position behind it.
-fn put_ab(table: &[u8], text: &mut [u8], at: usize) -> usize
-    requires { ⌜ Accepted (now table) × TextRoom at (abLine (now table)) (now text) ⌝ }
+// The line of alpha-beta; the position behind it.
+fn put_ab(
+    table: &[u8],
+    evaluated: &mut [u8],
+    order: &mut [u16],
+    text: &mut [u8],
+    at: usize,
+) -> usize
+    requires { ⌜ WellFormed (now table) ⌝ }
+    requires { ⌜ (frames (now table) ≤ length (now evaluated)) × (frames (now table) ≤ length (now order)) ⌝ }
+    requires { ⌜ TextRoom at (abLine (now table)) (now text) ⌝ }
     ensures { λ r. ⌜ Put at (abLine (now (table .entry))) (now (text .entry)) r (now (text .exit)) ⌝ }
 {
-    let mut evaluated = [0u8; MAX_NODES];
-    let mut certificate = [0u8; MAX_NODES];
-    let mut order = [0u16; MAX_NODES];
-    let alphabeta::Answer::Found(findings) = alphabeta::search(
-        table,
-        &mut evaluated,
-        &mut certificate,
-        &mut order,
-    ) else {
-        return at;
-    };
+    let findings = alphabeta::find(table, evaluated, order);
     put_line(text, at, b"ab", findings)
 }
 
 // The line of MTD.
-fn put_mtd(table: &[u8], text: &mut [u8], at: usize) -> usize
-    requires { ⌜ Accepted (now table) × TextRoom at (mtdLine (now table)) (now text) ⌝ }
+fn put_mtd(
+    table: &[u8],
+    evaluated: &mut [u8],
+    order: &mut [u16],
+    text: &mut [u8],
+    at: usize,
+) -> usize
+    requires { ⌜ WellFormed (now table) ⌝ }
+    requires { ⌜ (frames (now table) ≤ length (now evaluated)) × (frames (now table) ≤ length (now order)) ⌝ }
+    requires { ⌜ TextRoom at (mtdLine (now table)) (now text) ⌝ }
     ensures { λ r. ⌜ Put at (mtdLine (now (table .entry))) (now (text .entry)) r (now (text .exit)) ⌝ }
 {
-    let mut evaluated = [0u8; MAX_NODES];
-    let mut certificate = [0u8; MAX_NODES];
-    let mut order = [0u16; MAX_NODES];
-    let mtd::Answer::Found(found) = mtd::search(table, &mut evaluated, &mut certificate, &mut order)
-    else {
-        return at;
-    };
+    let found = mtd::find(table, evaluated, order);
     let findings = found.findings;
     put_line(text, at, b"mtd", findings)
 }
