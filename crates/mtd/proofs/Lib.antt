@@ -4,6 +4,7 @@ pub mod Children
 pub mod Passes
 pub mod Turns
 pub mod Visits
+pub mod Skips
 pub mod Runs
 -- The whole search: its questions, what it hands back, its steps.
 pub mod Whole

@@ -23,7 +23,7 @@ use gametree::Side;
 ghost use mathlib.Core.Path.{_≡_};
 ghost use mathlib.Core.Bool.{true, false, cond, _||_};
 ghost use mathlib.Core.List.{[], _∷_};
-ghost use Prim.Native.Nat.{ℕ, _+_, _<_, _≤_};
+ghost use Prim.Native.Nat.{ℕ, _+_, _-_, _<_, _≤_};
 ghost use lib.Dec.{leb, eqb};
 ghost use lib.ListN.{length, getD, set};
 ghost use Rattle.gametree.specs.Mtd.{settles as settlesOf, mtd};
@@ -33,10 +33,12 @@ ghost use Rattle.frames.specs.Tree.{treeAt, tree, valuation};
 ghost use Rattle.frames.specs.Formed.{WellFormed};
 ghost use Rattle.bounds.specs.Marks.{marked, ones};
 ghost use Rattle.bounds.specs.engine.Evaluable.{Evaluable};
+ghost use Rattle.bounds.specs.engine.Ranges.{bestIn};
 ghost use Rattle.bounds.specs.engine.Progress.{progress, evaluateAll, Listable};
 ghost use Rattle.certificate.specs.Search.{marksOf, flagsOf, listed};
 ghost use Rattle.mtd.specs.Outcome.{mtdLeaves, mtdFound, mtdOutcome};
 ghost use Rattle.mtd.specs.engine.Memory.{memory, firstHigh, Fresh, VisitReady, Enterable, Passed, Looked};
+ghost use Rattle.mtd.specs.engine.Memory.{PassedOver};
 
 // What MTD finds: what every search finds, and how many passes were made.
 pub struct Found {
@@ -308,6 +310,10 @@ fn enter(
     let end = first + child_count(table, node);
     let mut child = first;
     let answer = loop {
+        child = next_tried(side, highs, child, end, test);
+        if child == end {
+            break false;
+        }
         let at = child_place(table, child, place);
         let tried = match look(
             table,
@@ -339,10 +345,56 @@ fn enter(
             break tried.answer;
         }
     };
+    remember(highs, not_below, node, first, end, side, answer);
+    Tried { answer, leaves }
+}
+
+// The next child to try: under Max those whose highs are below the test are passed over.
+fn next_tried(side: Side, highs: &[u32], child: usize, end: usize, test: u32) -> usize
+    requires { ⌜ (child ≤ end) × (end ≤ length (now highs)) ⌝ }
+    ensures { λ r. ⌜ PassedOver side (now (highs .entry)) test child end r ⌝ }
+{
+    match side {
+        Side::Max => first_not_below(highs, child, end, test),
+        Side::Min => child,
+    }
+}
+
+// The first node from `from` on whose high is not below the test; `end` where there is none before it.
+fn first_not_below(highs: &[u32], from: usize, end: usize, test: u32) -> usize
+    requires { ⌜ (from ≤ end) × (end ≤ length (now highs)) ⌝ }
+    ensures { λ r. ⌜ (from ≤ r) × (r ≤ end) ⌝ }
+    ensures { λ r. ⌜ ((k : ℕ) → from ≤ k → k < r → getD (now (highs .entry)) k 0 < test) ⌝ }
+{
+    let mut node = from;
+    while node < end {
+        if test <= highs[node] {
+            return node;
+        }
+        node += 1;
+    }
+    node
+}
+
+// A node keeps the best of its children's highs, and their answer.
+fn remember(
+    highs: &mut [u32],
+    not_below: &mut [u8],
+    node: usize,
+    first: usize,
+    end: usize,
+    side: Side,
+    answer: bool,
+)
+    requires { ⌜ (first < end) × (end ≤ length (now highs)) ⌝ }
+    requires { ⌜ (node < maxNodes) × (node < length (now highs)) × (node < length (now «not_below»)) ⌝ }
+    ensures { λ _. ⌜ now (highs .exit) ≡ set (now (highs .entry)) node
+        (bestIn side (λ k. getD (now (highs .entry)) k 0) first (end - (first + 1))) ⌝ }
+    ensures { λ _. ⌜ now («not_below» .exit) ≡ set (now («not_below» .entry)) node (cond answer 1 0) ⌝ }
+{
     let high = best(highs, first, end, side);
     highs[node] = high;
     not_below[node] = not_below_entry(answer);
-    Tried { answer, leaves }
 }
 
 // A node that is not entered has its answer at once.

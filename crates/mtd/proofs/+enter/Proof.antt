@@ -1,31 +1,33 @@
 -- `enter` does what the pass does at an open node, and leaves everything outside its tree as it was. The measure of the
 -- recursion is the number of frames after the node, that of the loop the number of children left.
-use Prim.Native.Nat.{ℕ, _+_, _-_, _<_}
+use Prim.Native.Nat.{ℕ, _+_, _-_, _≤_, _<_}
 use native.Mathlib.Omega.{arith}
-use mathlib.Core.Path.{sym, ap, _∙_}
+use mathlib.Core.Path.{refl, sym, ap, _∙_}
 use mathlib.Core.Logic.{inl, inr}
-use lib.ListN.{length, length-set}
+use lib.ListN.{length}
 use borrow.Author.Needs.{needs}
 use borrow.Fn.Kinds.{In}
 use borrow.Fn.PlainCycle.{Measures, is, falls, and}
+use Rattle.gametree.specs.Tree.{greatest}
 use Rattle.frames.specs.Frame.{frames}
 use Rattle.frames.specs.Tree.{treeAt}
 use Rattle.frames.proofs.Next.{child-later, child-within}
 use Rattle.mtd.specs.engine.Memory.{Memory, memory, MemoryRoom, VisitReady, Passed}
 use Rattle.mtd.proofs.Arrays.{Long, room-kept}
-use Rattle.mtd.proofs.Turns.{Turn, Family, family-within, turn-first, turn-child, turn-ready}
+use Rattle.mtd.proofs.Turns.{Turn, Left, Family, family-within, turn-first, turn-child, turn-ready}
 use Rattle.mtd.proofs.Turns.{turn-next, turn-last}
 use Rattle.mtd.proofs.Visits.{looked-passed, open-ready, open-passed, passed-same, ready-shallow, visit-entered}
+use Rattle.mtd.proofs.Skips.{high-capped, passed-over, all-passed-over, left-same}
 use Rattle.mtd.proofs.enter.Reads as enter′
 use Rattle.mtd.proofs.enter.Kinds as enter-kinds
 use Rattle.mtd.proofs.+enter.Lts-enter as lts
 use Rattle.frames.proofs.child_count.Reads as child-count-reads
 use Rattle.frames.proofs.child_place.Reads as child-place-reads
 use Rattle.frames.proofs.first_child.Reads as first-child-reads
-use Rattle.bounds.proofs.best.Reads as best-reads
-use Rattle.mtd.proofs.not_below_entry.Reads as not-below-entry-reads
 use Rattle.mtd.proofs.last_tried.Reads as last-tried-reads
 use Rattle.mtd.proofs.look.Reads as look-reads
+use Rattle.mtd.proofs.next_tried.Reads as next-tried-reads
+use Rattle.mtd.proofs.remember.Reads as remember-reads
 use Rattle.mtd.proofs.+enter.{statement}
 use Rattle.mtd.proofs.+enter.Tie.{close}
 
@@ -55,6 +57,8 @@ calls t = (
   first-child-reads.Learnt,
   child-count-reads.Asked,
   child-count-reads.Learnt,
+  next-tried-reads.Asked,
+  next-tried-reads.Learnt,
   child-place-reads.Asked,
   child-place-reads.Learnt,
   look-reads.Asked,
@@ -63,31 +67,25 @@ calls t = (
   enter′.Post,
   last-tried-reads.Asked,
   last-tried-reads.Learnt,
-  best-reads.Asked,
-  best-reads.Learnt,
-  not-below-entry-reads.Asked,
-  not-below-entry-reads.Learnt,
+  remember-reads.Asked,
+  remember-reads.Learnt,
 )
 
 module _ (t : ℕ) where
-  -- the function's entry, the head of the loop, and the look at a child
-  abbrev entry : lts.After-child-count (calls t) (at t) enter′.Post Inv μ-loop
-      → lts.Start (calls t) (at t) enter′.Post Inv μ-loop
+  -- the function's entry, the head of the loop, the next child that is tried, and the look at it
+  abbrev entry : lts.After-child-count (calls t) (at t) enter′.Post Inv μ-loop → lts.Start (calls t) (at t) enter′.Post Inv μ-loop
   entry c = c .before .before .before .before .before .before .before
 
-  abbrev head : lts.After-look (calls t) (at t) enter′.Post Inv μ-loop
-      → lts.At-loop (calls t) (at t) enter′.Post Inv μ-loop
-  head c = c .before .before .before .before .before .before
+  abbrev head : lts.After-next-tried (calls t) (at t) enter′.Post Inv μ-loop → lts.At-loop (calls t) (at t) enter′.Post Inv μ-loop
+  head n = n .before .before
 
-  abbrev seen : lts.At-match-came (calls t) (at t) enter′.Post Inv μ-loop
-      → lts.After-look (calls t) (at t) enter′.Post Inv μ-loop
+  abbrev trying : lts.After-look (calls t) (at t) enter′.Post Inv μ-loop → lts.Else1 (calls t) (at t) enter′.Post Inv μ-loop
+  trying c = c .before .before .before .before .before .before
+
+  abbrev seen : lts.At-match-came (calls t) (at t) enter′.Post Inv μ-loop → lts.After-look (calls t) (at t) enter′.Post Inv μ-loop
   seen c = c .before .before .before .before .before .before .before
 
-  abbrev child : lts.After-last-tried (calls t) (at t) enter′.Post Inv μ-loop
-      → lts.At-match-came (calls t) (at t) enter′.Post Inv μ-loop
-  child c = c .before
-
-  -- the arrays at the entry, at the head of the loop, after the look, and after the child
+  -- the arrays at the entry, at the head of the loop, after the look, after the child, and after the loop
   abbrev before : lts.Start (calls t) (at t) enter′.Post Inv μ-loop → Memory
   before c =
       memory (c .args .leaves) (c .args .evaluated .now) (c .args .order .now) (c .args .highs .now)
@@ -98,11 +96,15 @@ module _ (t : ℕ) where
 
   abbrev looked : lts.After-look (calls t) (at t) enter′.Post Inv μ-loop → ℕ → Memory
   looked c n =
-      memory n (c .look .last .1 .0) (c .look .last .1 .1 .0) (c .look .last .1 .1 .1 .0) (head c .loop .not-below)
+      memory n (c .look .last .1 .0) (c .look .last .1 .1 .0) (c .look .last .1 .1 .1 .0)
+      (head (trying c .before) .loop .not-below)
 
   abbrev after : lts.At-match-came (calls t) (at t) enter′.Post Inv μ-loop → Memory
   after c =
       memory (c .match .tried .leaves) (c .match .evaluated) (c .match .order) (c .match .highs) (c .match .not-below)
+
+  abbrev over : lts.Joined1 (calls t) (at t) enter′.Post Inv μ-loop → Memory
+  over j = memory (j .if1 .leaves) (j .if1 .evaluated) (j .if1 .order) (j .if1 .highs) (j .if1 .not-below)
 
   -- the node's children
   family : (c : lts.After-child-count (calls t) (at t) enter′.Post Inv μ-loop)
@@ -116,38 +118,63 @@ module _ (t : ℕ) where
         to = ap (λ n. c .before .first-child .result + n) (c .child-count .ensures .0);
       }
 
-  -- what the look at the next child asks
-  ready : (c : lts.After-child-place (calls t) (at t) enter′.Post Inv μ-loop)
-      → VisitReady (entry (c .before .before) .args .table .now) (present (c .before)) (c .before .loop .child)
+  some : (c : lts.After-child-count (calls t) (at t) enter′.Post Inv μ-loop)
+      → c .before .first-child .result < c .before .first-child .result + c .child-count .result
+  some c = omega (arith, entry c .pre .1 .1 .some, c .child-count .ensures .0)
+
+  -- the test is a score
+  most : (c : lts.After-child-count (calls t) (at t) enter′.Post Inv μ-loop) → entry c .args .test ≤ greatest
+  most c = omega (arith, entry c .pre .1 .1 .high, high-capped (entry c .pre .1 .0))
+
+  -- the loop is at the next child that is tried
+  turn : (c : lts.Else1 (calls t) (at t) enter′.Post Inv μ-loop) → let l = head (c .before) in
+      let f = l .before in
+      Turn (entry f .args .table .now) (entry f .args .place .side) (entry f .args .test)
+      (f .before .first-child .result) (f .before .first-child .result + f .child-count .result) (before (entry f))
+      (present l) (c .before .next-tried .result)
+  turn c =
+      let n = c .before in
+      let l = head n in
+      let f = l .before in
+      let o = n .next-tried .ensures in
+      let m = o .to in
+      passed-over (family f) (entry f .pre .1 .0) (most f) (l .loop .inv) o (omega arith)
+
+  -- what the look at it asks
+  ready : (c : lts.After-child-place (calls t) (at t) enter′.Post Inv μ-loop) → let l = head (c .before .before) in
+      VisitReady (entry (l .before) .args .table .now) (present l) (c .before .before .next-tried .result)
       (c .child-place .result)
   ready c =
-      let l = c .before in
-      turn-ready (family (l .before)) (entry (l .before) .pre .1 .0) (l .loop .inv) (c .child-place .ensures)
+      let f = head (c .before .before) .before in
+      turn-ready (family f) (entry f .pre .1 .0) (turn (c .before)) (c .child-place .ensures)
 
   -- what the visit of the child did
   passed : (c : lts.At-match-came (calls t) (at t) enter′.Post Inv μ-loop)
-      → let l = head (seen c) in
+      → let n = trying (seen c) .before in
+      let l = head n in
       let a = entry (l .before) .args in
-      Passed (a .table .now) (treeAt (a .table .now) (l .loop .child)) (a .test) (present l) (after c) (c .match .tried)
+      Passed (a .table .now) (treeAt (a .table .now) (n .next-tried .result)) (a .test) (present l) (after c)
+      (c .match .tried)
   passed c =
       let k = seen c in
-      let l = head k in
+      let n = trying k .before in
+      let l = head n in
       let a = entry (l .before) .args in
+      let i = n .next-tried .result in
       elim (c .match .came) [
         | inl x ↦ passed-same (x .3) (x .4) (x .5) (x .6) (x .7)
-            (looked-passed (a .table .now) (l .loop .child) (a .test) (present l) (looked k) (k .look .result)
+            (looked-passed (a .table .now) i (a .test) (present l) (looked k) (k .look .result)
             (k .look .ensures) (x .1 .given .0 .0) (x .1 .given .1))
         | inr y ↦ passed-same (y .15) (y .16) (y .17) (y .18) (y .19)
-            (open-passed (a .table .now) (l .loop .child) (a .test) (present l) (looked k) (k .look .result)
+            (open-passed (a .table .now) i (a .test) (present l) (looked k) (k .look .result)
             (k .look .ensures) (y .1 .given .1) (y .6 .ensures))
       ]
 
   -- the arrays keep their lengths
-  long : (c : lts.At-match-came (calls t) (at t) enter′.Post Inv μ-loop)
-      → Long (before (entry (head (seen c) .before))) (after c)
+  long : (c : lts.At-match-came (calls t) (at t) enter′.Post Inv μ-loop) → Long (before (entry (head (trying (seen c) .before) .before))) (after c)
   long c =
       let k = seen c in
-      let u = head k .loop .inv .long in
+      let u = head (trying k .before) .loop .inv .long in
       elim (c .match .came) [
         | inl x ↦ record {
           evaluated = ap length (x .3) ∙ k .look .kept .1 .0 ∙ u .evaluated;
@@ -163,13 +190,31 @@ module _ (t : ℕ) where
         }
       ]
 
-  room : (c : lts.At-match-came (calls t) (at t) enter′.Post Inv μ-loop)
-      → MemoryRoom (frames (entry (head (seen c) .before) .args .table .now)) (after c)
-  room c = room-kept (entry (head (seen c) .before) .pre .1 .0 .room) (long c)
+  -- after the loop the children have their answer, and the arrays their lengths
+  left : (j : lts.Joined1 (calls t) (at t) enter′.Post Inv μ-loop) → let f = head (j .before) .before in
+      let a = entry f .args in
+      Left (a .table .now) (a .place .side) (a .test) (f .before .first-child .result)
+      (f .before .first-child .result + f .child-count .result) (before (entry f)) (over j) (j .if1 .answer)
+      × Long (before (entry f)) (over j)
+  left j =
+      let l = head (j .before) in
+      let f = l .before in
+      elim (j .if1 .came) [
+        | inl x ↦ left-same (x .1) (x .2) (x .3) (x .4) (x .5) (x .7) (
+          all-passed-over (family f) (entry f .pre .1 .0) (most f) (l .loop .inv) (j .before .next-tried .ensures)
+              (x .0 .taken),
+          l .loop .inv .long,
+        )
+        | inr y ↦ (let d : lts.At-match-came (calls t) (at t) enter′.Post Inv μ-loop = record { before = record { before = record { before = record { before = record { before = record { before = record { before = record { before = record { before = record { before = record { before = record { before = record { before = record { before = j .before; if1 = y .0 }; child-place = y .1 }; look-arg = y .2 }; look-arg2 = y .3 }; look-arg3 = y .4 }; look-arg4 = y .5 }; look = y .6 }; evaluated = y .7 }; slice-known5 = y .8 }; order = y .9 }; slice-known6 = y .10 }; highs = y .11 }; slice-known7 = y .12 }; match = y .13 } in
+            left-same (y .16) (y .17) (y .18) (y .19) (y .20) (y .22) (
+              turn-last (family f) {m″ = after d} (turn (record { before = j .before; if1 = y .0 })) (passed d)
+                  (sym (y .14 .ensures) ∙ y .15 .taken),
+              long d,
+            ))
+      ]
 
-  some : (c : lts.After-child-count (calls t) (at t) enter′.Post Inv μ-loop)
-      → c .before .first-child .result < c .before .first-child .result + c .child-count .result
-  some c = omega (arith, entry c .pre .1 .1 .some, c .child-count .ensures .0)
+  room : (j : lts.Joined1 (calls t) (at t) enter′.Post Inv μ-loop) → MemoryRoom (frames (entry (head (j .before) .before) .args .table .now)) (over j)
+  room j = room-kept (entry (head (j .before) .before) .pre .1 .0 .room) (left j .1)
 
   first-child-requires : lts.Need-first-child-requires (calls t) (at t) enter′.Post Inv μ-loop
   first-child-requires c κs = search needs
@@ -183,10 +228,20 @@ module _ (t : ℕ) where
   loop-holds : lts.Need-loop-holds (calls t) (at t) enter′.Post Inv μ-loop
   loop-holds c = turn-first (family c) (entry c .pre .1 .0) (some c)
 
+  next-tried-requires : lts.Need-next-tried-requires (calls t) (at t) enter′.Post Inv μ-loop
+  next-tried-requires c κs =
+      let l = c .before in
+      let f = l .before in
+      let to = l .loop .inv .to in (
+        omega arith,
+        omega (arith, family-within (family f) (some f), entry f .pre .1 .0 .room .highs, l .loop .inv .long .highs),
+      )
+
   child-place-requires : lts.Need-child-place-requires (calls t) (at t) enter′.Post Inv μ-loop
   child-place-requires c κs =
-      let p = entry (c .before) .pre .1 .0 in
-      (child-within _ (p .formed) (p .inside) (turn-child (family (c .before)) (c .loop .inv)), ready-shallow p)
+      let f = head (c .before) .before in
+      let p = entry f .pre .1 .0 in
+      (child-within _ (p .formed) (p .inside) (turn-child (family f) (turn c)), ready-shallow p)
 
   look-requires : lts.Need-look-requires (calls t) (at t) enter′.Post Inv μ-loop
   look-requires c κs = ready (c .before .before .before .before)
@@ -201,83 +256,77 @@ module _ (t : ℕ) where
   enter-requires c κs =
       let g = c .before .before .before .before in
       let k = g .before .before .before .before .before .before .before .before in
-      let l = head k in
-      let a = entry (l .before) .args in
-      let p = entry (l .before) .pre .1 .0 in
-      let j = turn-child (family (l .before)) (l .loop .inv) in (
+      let e = trying k in
+      let l = head (e .before) in
+      let f = l .before in
+      let a = entry f .args in
+      let p = entry f .pre .1 .0 in
+      let j = turn-child (family f) (turn e) in (
         omega (
           arith,
-          entry (l .before) .pre .0,
+          entry f .pre .0,
           child-later _ (p .formed) (p .inside) j,
           child-within _ (p .formed) (p .inside) j,
         ),
-        open-ready (a .table .now) (l .loop .child) (a .test) (present l) (looked k) (k .look .result)
+        open-ready (a .table .now) (e .before .next-tried .result) (a .test) (present l) (looked k) (k .look .result)
             (k .look .ensures) (g .enum-told .given .1) (ready (k .before .before .before .before .before)),
       )
 
   add-child : lts.Need-add-child (calls t) (at t) enter′.Post Inv μ-loop
-  add-child c = search needs
+  add-child c =
+      let e = trying (seen c) in
+      let u = turn e .to in
+      search needs
 
   last-tried-requires : lts.Need-last-tried-requires (calls t) (at t) enter′.Post Inv μ-loop
   last-tried-requires c κs = search needs
 
   loop-less : lts.Need-loop-less (calls t) (at t) enter′.Post Inv μ-loop
-  loop-less c = omega (arith, head (seen (child (c .before))) .loop .inv .to)
+  loop-less c =
+      let e = trying (seen (c .before .before)) in
+      omega (arith, e .before .next-tried .ensures .start, turn e .to)
 
   loop-again : lts.Need-loop-again (calls t) (at t) enter′.Post Inv μ-loop
   loop-again c =
-      let d = child (c .before) in
-      let l = head (seen d) in
-      turn-next (family (l .before)) {m″ = after d} (l .loop .inv) (passed d) (long d)
-      (sym (c .before .last-tried .ensures) ∙ c .if1 .left)
+      let d = c .before .before in
+      let e = trying (seen d) in
+      turn-next (family (head (e .before) .before)) {m″ = after d} (turn e) (passed d) (long d)
+      (sym (c .before .last-tried .ensures) ∙ c .if2 .left)
 
-  best-requires : lts.Need-best-requires (calls t) (at t) enter′.Post Inv μ-loop
-  best-requires c κs =
-      let d = child (c .before .before) in
-      let f = head (seen d) .before in
-      (some f, omega (arith, family-within (family f) (some f), room d .highs))
-
-  mul-highs : lts.Need-mul-highs (calls t) (at t) enter′.Post Inv μ-loop
-  mul-highs c =
-      let p = entry (head (seen (child (c .before .before .before))) .before) .pre .1 .0 in
-      omega (arith, p .inside, p .formed .few)
-
-  slice-write-highs : lts.Need-slice-write-highs (calls t) (at t) enter′.Post Inv μ-loop
-  slice-write-highs c =
-      let d = child (c .before .before .before) in
-      omega (arith, entry (head (seen d) .before) .pre .1 .0 .inside, room d .highs)
-
-  not-below-entry-requires : lts.Need-not-below-entry-requires (calls t) (at t) enter′.Post Inv μ-loop
-  not-below-entry-requires c κs = search needs
-
-  slice-write-not-below : lts.Need-slice-write-not-below (calls t) (at t) enter′.Post Inv μ-loop
-  slice-write-not-below c =
-      let d = child (c .before .before .before .before) in
-      omega (arith, entry (head (seen d) .before) .pre .1 .0 .inside, room d .notBelow)
+  remember-requires : lts.Need-remember-requires (calls t) (at t) enter′.Post Inv μ-loop
+  remember-requires c κs =
+      let j = c .before .before in
+      let f = head (j .before) .before in
+      let p = entry f .pre .1 .0 in
+      let r = room j in (
+        (some f, omega (arith, family-within (family f) (some f), r .highs)),
+        (
+          omega (arith, p .inside, p .formed .few),
+          omega (arith, p .inside, r .highs),
+          omega (arith, p .inside, r .notBelow),
+        ),
+      )
 
   same-length : lts.Need-same-length (calls t) (at t) enter′.Post Inv μ-loop
-  same-length c = long (child (c .before .before .before .before)) .evaluated
+  same-length c = left (c .before .before .before .before .before .before .before) .1 .evaluated
 
   same-length-2 : lts.Need-same-length-2 (calls t) (at t) enter′.Post Inv μ-loop
-  same-length-2 c = long (child (c .before .before .before .before)) .order
+  same-length-2 c = left (c .before .before .before .before .before .before .before) .1 .order
 
   same-length-3 : lts.Need-same-length-3 (calls t) (at t) enter′.Post Inv μ-loop
-  same-length-3 c = simp length-set (long (child (c .before .before .before .before)) .highs)
+  same-length-3 c = c .before .before .before .before .remember .kept .0 ∙ left (c .before .before .before .before .before .before .before) .1 .highs
 
   same-length-4 : lts.Need-same-length-4 (calls t) (at t) enter′.Post Inv μ-loop
-  same-length-4 c = simp length-set (long (child (c .before .before .before .before)) .notBelow)
+  same-length-4 c = c .before .before .before .before .remember .kept .1 .0 ∙ left (c .before .before .before .before .before .before .before) .1 .notBelow
 
   returns : lts.Need-returns (calls t) (at t) enter′.Post Inv μ-loop
   returns c =
-      let e = c .before .before .before .before in
-      let d = child e in
-      let l = head (seen d) in
-      let f = l .before in
+      let m = c .before .before .before .before in
+      let j = c .before .before .before .before .before .before .before in
+      let f = head (j .before) .before in
       let p = entry f .pre .1 in
-      rw (c .not-below-entry .ensures)
-      (visit-entered (family f) (p .0) (some f) {m′ = after d} (p .1 .high) (p .1 .notBelow) (room d)
-      (turn-last (family f) {m″ = after d} (l .loop .inv) (passed d)
-      (sym (e .last-tried .ensures) ∙ c .before .before .before .if1 .taken)) (c .before .best .ensures))
+      rw (m .remember .ensures .0, m .remember .ensures .1)
+      (visit-entered (family f) (p .0) (some f) {m′ = over j} (p .1 .high) (p .1 .notBelow) (room j) (left j .0) refl)
 
 pub +enter-spec : {M : Type 1} → statement M
 +enter-spec = close μ λ t. lts.spec (calls t)
@@ -289,6 +338,7 @@ pub +enter-spec : {M : Type 1} → statement M
     (child-count-requires t)
     (add-end t)
     (loop-holds t)
+    (next-tried-requires t)
     (child-place-requires t)
     (look-requires t)
     (enum-known-tried t)
@@ -298,11 +348,7 @@ pub +enter-spec : {M : Type 1} → statement M
     (last-tried-requires t)
     (loop-less t)
     (loop-again t)
-    (best-requires t)
-    (mul-highs t)
-    (slice-write-highs t)
-    (not-below-entry-requires t)
-    (slice-write-not-below t)
+    (remember-requires t)
     (same-length t)
     (same-length-2 t)
     (same-length-3 t)

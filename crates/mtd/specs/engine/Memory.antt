@@ -6,6 +6,8 @@ use mathlib.Core.Bool.{false}
 use mathlib.Core.List.{List}
 use lib.ListN.{length, getD}
 use Rattle.gametree.specs.declared.Place.{Place}
+use Rattle.gametree.specs.declared.Side.{Side}
+use Rattle.gametree.specs.declared.Side.the-variants.{Max}
 use Rattle.gametree.specs.Tree.{Tree, greatest, In}
 use Rattle.gametree.specs.Bounds.{high}
 use Rattle.gametree.specs.Mtd.{Memo, Pass, pass}
@@ -99,6 +101,13 @@ pub record Passed (t : List ℕ) (T : Tree) (γ : ℕ) (m m′ : Memory) (r : Tr
 abbrev pub Looked : (t : List ℕ) (i γ : ℕ) (m : Memory) (m′ : ℕ → Memory) → Seen → Type 0
 Looked t i γ m m′ (Answered r) = Passed t (treeAt t i) γ m (m′ (r .leaves)) r
 Looked t i γ m m′ Open = (m′ (m .leaves) ≡ m) × Enterable t m i γ
+
+-- the children from `from` up to r are passed over: they are below the test by their highs, and their parent is Max
+pub record PassedOver (s : Side) (highs : List ℕ) (γ from end r : ℕ) : Type 0 where
+  pub start : from ≤ r
+  pub to : r ≤ end
+  pub below : (k : ℕ) → from ≤ k → k < r → getD highs k 0 < γ
+  pub side : from < r → s ≡ Max
 
 -- the first of the root's children whose high is the root's, by the marks e; 0 where there is none
 abbrev pub firstHigh : (t e : List ℕ) → ℕ

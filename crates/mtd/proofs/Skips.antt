@@ -1,0 +1,136 @@
+-- Children that are passed over: under Max a child whose high is below the test is below, and the pass does nothing else
+-- there.
+use Prim.Native.Nat.{ℕ, zero, suc, _+_, _-_, _≤_, _<_}
+use native.Mathlib.Omega.{arith}
+use mathlib.Core.Path.{_≡_, refl, sym, ap, _∙_, subst}
+use mathlib.Core.Bool.{Bool, true, false, cond, _||_}
+use mathlib.Core.List.{List}
+use lib.Dec.{eqb}
+use lib.ListN.{getD}
+use borrow.Author.Tests.{eqb-true, eq-eqb, ne-eqb, lt-leb}
+use Rattle.gametree.specs.declared.Place.{Place}
+use Rattle.gametree.specs.declared.Side.{Side}
+use Rattle.gametree.specs.declared.Side.the-variants.{Max}
+use Rattle.gametree.specs.Tree.{greatest}
+use Rattle.gametree.specs.Bounds.{known}
+use Rattle.gametree.specs.Mtd.{settles}
+use Rattle.gametree.proofs.minimax.Bounds.{minimax-within}
+use Rattle.frames.specs.Frame.{frames, childCount}
+use Rattle.frames.specs.Place.{childPlace}
+use Rattle.frames.specs.Tree.{treeAt, valuation}
+use Rattle.frames.specs.Formed.{WellFormed}
+use Rattle.frames.proofs.Nodes.{in-own}
+use Rattle.frames.proofs.Proper.{every-leaf, leaf-scored}
+use Rattle.frames.proofs.Trees.{zero-or-suc, tree-leaf}
+use Rattle.bounds.specs.Marks.{marked}
+use Rattle.mtd.specs.declared.Tried.{Tried}
+use Rattle.mtd.specs.engine.Memory.{Memory, memory, VisitReady, Passed, PassedOver}
+use Rattle.mtd.proofs.Arrays.{set-same, Long, leaf-again}
+use Rattle.mtd.proofs.Turns.{Turn, Left, Family, turn-ready, turn-next, turn-last}
+use Rattle.mtd.proofs.Visits.{leaf-known, visit-leaf, visit-below}
+
+-- no high exceeds the greatest score
+capped : (b : Bool) (v : ℕ) → v < greatest → cond b v greatest ≤ greatest
+capped true v h = omega arith
+capped false v h = omega arith
+
+module _ {t : List ℕ} {m : Memory} {i : ℕ} {p : Place} (ready : VisitReady t m i p) where
+  pub high-capped : getD (m .highs) i 0 ≤ greatest
+  high-capped =
+      let wf = ready .formed in
+      let ν = known (valuation t) (marked (m .evaluated)) greatest in
+      let w =
+      minimax-within 0 greatest ν (treeAt t i)
+      (every-leaf t wf (λ k. (0 ≤ ν k) × (ν k ≤ greatest))
+      (λ k h l. (omega arith, capped (marked (m .evaluated) k) (valuation t k) (leaf-scored t wf k h l .1))) i (ready .inside)) in
+      omega (arith, ready .right i (in-own t wf i))
+
+  -- what the pass gives at a node that is below at once
+  abbrev pub at-once : Tried
+  at-once = record { answer = false; leaves = m .leaves }
+
+  module _ {γ : ℕ} (most : γ ≤ greatest) (h : getD (m .highs) i 0 < γ) where
+    leaf-below : childCount t i ≡ 0 → (b : Bool) → marked (m .evaluated) i ≡ b → Passed t (treeAt t i) γ m m at-once
+    leaf-below none true e =
+        let wf = ready .formed in
+        let v = leaf-known t wf i (ready .inside) none m (ready .right) e in
+        visit-leaf t wf i (ready .inside) none m γ (m .evaluated) (m .order) (m .highs) at-once (ready .room)
+        (sym (lt-leb γ (valuation t i) (omega arith))) (leaf-again _ _ _ _ e) (sym (set-same _ _ 1 (eqb-true _ _ e)))
+        (sym (set-same _ _ _ v)) (ready .counted)
+    leaf-below none false e =
+        let wf = ready .formed in
+        let v : getD (m .highs) i 0 ≡ greatest =
+        ready .right i (in-own t wf i) ∙ rw (tree-leaf t wf i (ready .inside) none, e) in
+        absurd (omega arith)
+
+    -- a node whose high is below the test is below
+    pub below-at-once : Passed t (treeAt t i) γ m m at-once
+    below-at-once =
+        zero-or-suc (childCount t i) (λ none. leaf-below none (marked (m .evaluated) i) refl) (λ n some.
+        visit-below (record { formed = ready .formed; inside = ready .inside; from = refl; to = refl }) ready
+        (omega arith) refl h)
+
+module _ {t : List ℕ} {i first end : ℕ} (family : Family t i first end) {m : Memory} {p : Place}
+    (ready : VisitReady t m i p) {γ : ℕ} (most : γ ≤ greatest) where
+  -- one child is passed over
+  module _ {m′ : Memory} {now : ℕ} (u : Turn t Max γ first end m m′ now) (h : getD (m′ .highs) now 0 < γ) where
+    abbrev next-ready : VisitReady t m′ now (childPlace t now p)
+    next-ready = turn-ready family ready u refl
+
+    skip-one : now + 1 < end → Turn t Max γ first end m m′ (now + 1)
+    skip-one more =
+        turn-next family {m″ = m′} u (below-at-once next-ready most h) (u .long)
+        (rw (ne-eqb (now + 1) end (λ e. omega arith)) refl)
+
+    skip-last : now + 1 ≡ end → Left t Max γ first end m m′ false
+    skip-last e =
+        turn-last family {m″ = m′} u (below-at-once next-ready most h) (rw (eq-eqb (now + 1) end e) refl)
+
+  -- so many are
+  skip-to : {m′ : Memory} (n now : ℕ) → Turn t Max γ first end m m′ now
+      → ((k : ℕ) → now ≤ k → k < now + n → getD (m′ .highs) k 0 < γ) → now + n < end
+      → Turn t Max γ first end m m′ (now + n)
+  skip-to {m′} zero now u h l =
+      let z : now + 0 ≡ now = omega arith in subst (Turn t Max γ first end m m′) (sym z) u
+  skip-to {m′} (suc n) now u h l =
+      let z : now + 1 + n ≡ now + suc n = omega arith in
+      subst (Turn t Max γ first end m m′) z
+      (skip-to n (now + 1) (skip-one u (h now (omega arith) (omega arith)) (omega arith))
+      (λ k a b. h k (omega arith) (omega arith)) (omega arith))
+
+  module _ {s : Side} {m′ : Memory} {now r : ℕ} (u : Turn t s γ first end m m′ now)
+      (o : PassedOver s (m′ .highs) γ now end r) where
+    -- the next child to try
+    pub passed-over : r < end → Turn t s γ first end m m′ r
+    passed-over l = by-gap (r - now) refl
+      where
+        by-gap : (n : ℕ) → r - now ≡ n → Turn t s γ first end m m′ r
+        by-gap zero e =
+            let z : now ≡ r = omega (arith, o .start) in subst (Turn t s γ first end m m′) z u
+        by-gap (suc n) e =
+            let max = o .side (omega arith) in
+            let z : now + suc n ≡ r = omega (arith, o .start) in
+            subst (λ x. Turn t x γ first end m m′ r) (sym max)
+            (subst (Turn t Max γ first end m m′) z
+            (skip-to (suc n) now (subst (λ x. Turn t x γ first end m m′ now) max u)
+            (λ k a b. o .below k a (omega arith)) (omega arith)))
+
+    -- all that were left are below
+    pub all-passed-over : r ≡ end → Left t s γ first end m m′ false
+    all-passed-over e =
+        let l = u .to in
+        let max = o .side (omega arith) in
+        let n = end - (now + 1) in
+        let z : now + n + 1 ≡ end = omega arith in
+        subst (λ x. Left t x γ first end m m′ false) (sym max)
+        (skip-last
+        (skip-to n now (subst (λ x. Turn t x γ first end m m′ now) max u) (λ k a b. o .below k a (omega arith))
+        (omega arith))
+        (o .below (now + n) (omega arith) (omega arith)) z)
+
+-- the children's answer in the same arrays
+pub left-same : {t : List ℕ} {s : Side} {γ first end : ℕ} {m : Memory} {e e′ o o′ h h′ f f′ : List ℕ} {n n′ : ℕ}
+    {b b′ : Bool} → e ≡ e′ → o ≡ o′ → h ≡ h′ → f ≡ f′ → n ≡ n′ → b ≡ b′
+    → Left t s γ first end m (memory n′ e′ o′ h′ f′) b′ × Long m (memory n′ e′ o′ h′ f′)
+    → Left t s γ first end m (memory n e o h f) b × Long m (memory n e o h f)
+left-same p q r u v w x = rw (p, q, r, u, v, w) x

@@ -1,0 +1,68 @@
+-- `mtd::first_not_below` meets its contract: each node that was passed is below.
+use Prim.Native.Nat.{ℕ, _+_, _-_, _≤_, _<_}
+use native.Mathlib.Omega.{arith}
+use native.Mathlib.Decide.{ℕ-discrete}
+use lib.ListN.{getD}
+use borrow.Author.Needs.{needs}
+use Rattle.mtd.proofs.first_not_below.Statement.{statement}
+use Rattle.mtd.proofs.first_not_below.Tie as tie
+
+below-more : (f : ℕ → ℕ) (from n γ : ℕ) → ((k : ℕ) → from ≤ k → k < n → f k < γ) → f n < γ
+    → (k : ℕ) → from ≤ k → k < n + 1 → f k < γ
+below-more f from n γ h i k a b =
+    elim (ℕ-discrete k n) [
+      | yes e ↦ rw e i
+      | no e ↦ h k a (omega arith)
+    ]
+
+abbrev Inv-loop : tie.InvT-loop
+Inv-loop highs from end test node₀ node =
+    (from ≤ node) × (node ≤ end) × ((k : ℕ) → from ≤ k → k < node → getD highs k 0 < test)
+
+abbrev μ-loop : tie.MeasureT-loop
+μ-loop highs from end test node₀ node = end - node
+
+loop-holds : tie.Need-loop-holds Inv-loop μ-loop
+loop-holds c = (omega arith, omega arith, λ k a b. absurd (omega arith))
+
+mul-if1 : tie.Need-mul-if1 Inv-loop μ-loop
+mul-if1 c = search needs
+
+shared-slice-read-if1 : tie.Need-shared-slice-read-if1 Inv-loop μ-loop
+shared-slice-read-if1 c = search needs
+
+returns : tie.Need-returns Inv-loop μ-loop
+returns c =
+    let l = c .before .before .before .loop .inv in
+    ((l .0, l .1), l .2)
+
+add-node : tie.Need-add-node Inv-loop μ-loop
+add-node c = search needs
+
+loop-less : tie.Need-loop-less Inv-loop μ-loop
+loop-less c = search needs
+
+loop-again : tie.Need-loop-again Inv-loop μ-loop
+loop-again c =
+    let l = c .before .before .before .loop .inv in
+    (omega (arith, l .0), omega arith, below-more _ _ _ _ (l .2) (c .if1 .left))
+
+returns-2 : tie.Need-returns-2 Inv-loop μ-loop
+returns-2 c =
+    let l = c .before .loop .inv in
+    ((l .0, l .1), l .2)
+
+pub first-not-below-spec : {M : Type 1} → statement M
+first-not-below-spec =
+    tie.close
+    (tie.spec
+    Inv-loop
+    μ-loop
+    loop-holds
+    mul-if1
+    shared-slice-read-if1
+    returns
+    add-node
+    loop-less
+    loop-again
+    returns-2)
