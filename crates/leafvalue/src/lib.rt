@@ -100,7 +100,7 @@ fn is_leaf(table: &[u8], node: usize) -> bool
 }
 
 // Is this value from -32,000 to 32,000?
-fn in_range(wanted: i32) -> bool
+pub fn in_range(wanted: i32) -> bool
     ensures { λ r. ⌜ r ≡ leb (natAbs wanted) maxValue ⌝ }
 {
     if MAX_VALUE < wanted {
@@ -110,7 +110,7 @@ fn in_range(wanted: i32) -> bool
 }
 
 // The score of a value.
-fn score_of(wanted: i32) -> u32
+pub fn score_of(wanted: i32) -> u32
     requires { ⌜ natAbs wanted ≤ maxValue ⌝ }
     ensures { λ r. ⌜ r ≡ scoreOf wanted ⌝ }
 {

@@ -9,7 +9,8 @@ use lib.Dec.{eqb}
 use lib.ListN.{length, getD, set}
 use lib.Seq.{getD-set-same, set-getD}
 use Rattle.gametree.specs.declared.Side.{Side}
-use Rattle.gametree.specs.Tree.{Tree, leaf, inner, Kids, last, _then_, greatest, better, minimaxKids, In, InKids}
+use Rattle.gametree.specs.Tree.{Tree, leaf, inner, Kids, last, _then_, greatest, better, minimax, minimaxKids}
+use Rattle.gametree.specs.Tree.{In, InKids}
 use Rattle.gametree.specs.Bounds.{known, high}
 use Rattle.gametree.specs.Mtd.{memoHigh, memoHighKids}
 use Rattle.gametree.specs.engine.MemoArrays.{Bits, readMemo, readMemoKids}
@@ -39,16 +40,17 @@ mutual
   read-high-kids ν M F s (T then ts) = ap₂ (better s) (read-high ν M F T) (read-high-kids ν M F s ts)
 
 mutual
-  -- the high of a tree depends on the marks of its nodes only
-  pub high-local : (ν : ℕ → ℕ) (M N : Bits) (T : Tree) → ((p : ℕ) → In p T → M p ≡ N p) → high ν M T ≡ high ν N T
-  high-local ν M N (leaf n) e = ap (λ b. cond b (ν n) greatest) (e n refl)
-  high-local ν M N (inner n s ks) e = high-local-kids ν M N s ks (λ p i. e p (inr i))
+  -- a bound of a tree depends on the marks of its nodes only
+  pub bound-local : (ν : ℕ → ℕ) (M N : Bits) (x : ℕ) (T : Tree) → ((p : ℕ) → In p T → M p ≡ N p)
+      → minimax (known ν M x) T ≡ minimax (known ν N x) T
+  bound-local ν M N x (leaf n) e = ap (λ b. cond b (ν n) x) (e n refl)
+  bound-local ν M N x (inner n s ks) e = bound-local-kids ν M N x s ks (λ p i. e p (inr i))
 
-  high-local-kids : (ν : ℕ → ℕ) (M N : Bits) (s : Side) (ks : Kids) → ((p : ℕ) → InKids p ks → M p ≡ N p)
-      → minimaxKids (known ν M greatest) s ks ≡ minimaxKids (known ν N greatest) s ks
-  high-local-kids ν M N s (last T) e = high-local ν M N T e
-  high-local-kids ν M N s (T then ts) e =
-      ap₂ (better s) (high-local ν M N T (λ p i. e p (inl i))) (high-local-kids ν M N s ts (λ p i. e p (inr i)))
+  bound-local-kids : (ν : ℕ → ℕ) (M N : Bits) (x : ℕ) (s : Side) (ks : Kids) → ((p : ℕ) → InKids p ks → M p ≡ N p)
+      → minimaxKids (known ν M x) s ks ≡ minimaxKids (known ν N x) s ks
+  bound-local-kids ν M N x s (last T) e = bound-local ν M N x T e
+  bound-local-kids ν M N x s (T then ts) e =
+      ap₂ (better s) (bound-local ν M N x T (λ p i. e p (inl i))) (bound-local-kids ν M N x s ts (λ p i. e p (inr i)))
 
 -- the arrays keep their lengths
 pub record Long (m m′ : Memory) : Type 0 where

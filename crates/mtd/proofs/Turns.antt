@@ -11,7 +11,7 @@ use lib.ListN.{getD}
 use borrow.Author.Tests.{eqb-false, ne-eqb}
 use Rattle.gametree.specs.declared.Place.{Place}
 use Rattle.gametree.specs.declared.Side.{Side}
-use Rattle.gametree.specs.Tree.{inner, Kids, last, _then_, In, InKids}
+use Rattle.gametree.specs.Tree.{inner, Kids, last, _then_, greatest, In, InKids}
 use Rattle.gametree.specs.Mtd.{settles}
 use Rattle.lists.proofs.Choice.{or-false-both}
 use Rattle.frames.specs.Frame.{frames, firstChild, childCount}
@@ -24,7 +24,7 @@ use Rattle.frames.proofs.Trees.{in-kids, kids-in, tree-inner}
 use Rattle.frames.proofs.Nodes.{in-parent, in-trans, children-apart}
 use Rattle.mtd.specs.declared.Tried.{Tried}
 use Rattle.mtd.specs.engine.Memory.{Memory, HighsRight, Counted, VisitReady, Passed}
-use Rattle.mtd.proofs.Arrays.{high-local, Long, room-kept}
+use Rattle.mtd.proofs.Arrays.{bound-local, Long, room-kept}
 use Rattle.mtd.proofs.Children.{PassedKids, Owes, owes-all, owes-last, owes-settled, owes-rest}
 
 -- the trees of the children of a node from number i up to `end`
@@ -51,11 +51,11 @@ pub record Left (t : List ℕ) (s : Side) (γ first end : ℕ) (m m′ : Memory)
   pub highs : Highs t first end m m′
 
 -- the first of the children left, alone or with younger brothers
-kids-last : (t : List ℕ) (i end : ℕ) → i + 1 ≡ end → kidsUpTo t i end ≡ last (treeAt t i)
+pub kids-last : (t : List ℕ) (i end : ℕ) → i + 1 ≡ end → kidsUpTo t i end ≡ last (treeAt t i)
 unfolding kidsFrom
 kids-last t i end e = let z : end - (i + 1) ≡ 0 = omega arith in rw z
 
-kids-more : (t : List ℕ) (i end : ℕ) → i + 1 < end → kidsUpTo t i end ≡ treeAt t i then kidsUpTo t (i + 1) end
+pub kids-more : (t : List ℕ) (i end : ℕ) → i + 1 < end → kidsUpTo t i end ≡ treeAt t i then kidsUpTo t (i + 1) end
 unfolding kidsFrom
 kids-more t i end h = let z : end - (i + 1) ≡ suc (end - (i + 1 + 1)) = omega arith in rw z
 
@@ -73,7 +73,7 @@ module _ {t : List ℕ} {i first end : ℕ} (family : Family t i first end) wher
   inside : i < frames t
   inside = family .inside
 
-  child : (k : ℕ) → first ≤ k → k < end → ChildOf t i k
+  pub child : (k : ℕ) → first ≤ k → k < end → ChildOf t i k
   child k a b = record { from = omega (arith, family .from); to = omega (arith, family .from, family .to) }
 
   -- the node over its children
@@ -137,7 +137,8 @@ module _ {t : List ℕ} {i first end : ℕ} (family : Family t i first end) wher
               in
               let below = in-trans t wf k (child-within t wf inside (child k a b)) j in
               p .others j (out j x) ∙ u .highs .right k a b j x
-              ∙ high-local (valuation t) _ _ (treeAt t j) (λ q y. sym (p .memo .elsewhere q (out q (below q x y)) .0)))
+              ∙ bound-local (valuation t) _ _ greatest (treeAt t j)
+              (λ q y. sym (p .memo .elsewhere q (out q (below q x y)) .0)))
         ]
 
     still : Highs t first end m m″

@@ -405,7 +405,7 @@ fn not_entered(answer: bool, leaves: usize) -> Seen
 }
 
 // Is the child with this answer the last one tried: it settles its parent, or there is no other.
-fn last_tried(side: Side, answer: bool, child: usize, end: usize) -> bool
+pub fn last_tried(side: Side, answer: bool, child: usize, end: usize) -> bool
     ensures { λ r. ⌜ r ≡ eqb child end || settlesOf side answer ⌝ }
 {
     if child == end {

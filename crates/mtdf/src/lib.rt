@@ -1,0 +1,466 @@
+// MTD(f) over a byte table: the starting value never changes the value or the move that is found, only how many leaves
+// it takes. The root is tested until its bounds meet; then its children are tested for the first move.
+use bounds::Evaluation;
+use bounds::best;
+use bounds::clear;
+use bounds::evaluate_next;
+use certificate::Findings;
+use certificate::ask;
+use certificate::conclude;
+use certificate::shorter;
+use frames::Checked;
+use frames::GREATEST;
+use frames::LEAST;
+use frames::MAX_NODES;
+use frames::Rejection;
+use frames::child_count;
+use frames::child_place;
+use frames::first_child;
+use frames::frame_count;
+use frames::value;
+use gametree::Place;
+use gametree::Side;
+use leafvalue::in_range;
+use leafvalue::score_of;
+use mtd::last_tried;
+use places::SMALL;
+ghost use mathlib.Core.Path.{_≡_};
+ghost use mathlib.Core.Bool.{cond, false};
+ghost use Prim.Native.Nat.{ℕ, suc, _+_, _<_, _≤_};
+ghost use lib.ListN.{length, getD, set};
+ghost use Rattle.gametree.specs.Tree.{greatest};
+ghost use Rattle.gametree.specs.AlphaBeta.{clamp};
+ghost use Rattle.frames.specs.Frame.{frames, childCount};
+ghost use Rattle.frames.specs.Place.{rootPlace};
+ghost use Rattle.frames.specs.Tree.{treeAt, valuation};
+ghost use Rattle.frames.specs.Formed.{WellFormed};
+ghost use Rattle.bounds.specs.Marks.{marked};
+ghost use Rattle.bounds.specs.engine.Evaluable.{Evaluable};
+ghost use Rattle.bounds.specs.engine.Progress.{progress, Listable};
+ghost use Rattle.certificate.specs.Search.{marksOf, flagsOf, listed};
+ghost use Rattle.mtdf.specs.Outcome.{startScore, mtdfLeaves, mtdfFound, mtdfOutcome};
+ghost use Rattle.mtdf.specs.engine.Memory.{memory, Fresh, VisitReady, Visited, Entered, Looked};
+ghost use Rattle.mtdf.specs.engine.Memory.{Settles, Met, Moved};
+
+// What MTD(f) finds: what every search finds, and how many tests were put to the root.
+pub struct Found {
+    pub findings: Findings,
+    pub tests: usize,
+}
+
+// The answer of a call: what was found, or the first question that got a "no".
+pub enum Answer {
+    Found(Found),
+    Rejected(Rejection),
+}
+
+// MTD(f) of the whole tree from a starting value: questions 1 to 10, then the value, the root move and the counts of
+// evaluated leaves and of tests; the marks of these leaves and the certificate (01: the proof) go into the buffers, and
+// the leaves' numbers into the list.
+pub fn search(
+    table: &[u8],
+    start: i32,
+    evaluated: &mut [u8],
+    certificate: &mut [u8],
+    order: &mut [u16],
+) -> Answer
+    ensures { λ r. ⌜ record {
+      order = now (order .exit);
+      search = record { answer = r; evaluated = now (evaluated .exit); certificate = now (certificate .exit) };
+    } ≡ mtdfOutcome start (now (table .entry)) (now (evaluated .entry)) (now (certificate .entry))
+        (now (order .entry)) ⌝ }
+{
+    let shortest = shorter(shorter(evaluated.len(), certificate.len()), order.len());
+    match ask(table, shortest) {
+        Checked::Nodes(_) => Answer::Found(run(
+            table,
+            start_score(start),
+            evaluated,
+            certificate,
+            order,
+        )),
+        Checked::Rejected(rejection) => Answer::Rejected(rejection),
+    }
+}
+
+// The score of a starting value; one above the range of values counts as plus infinity, one below it as minus infinity.
+fn start_score(start: i32) -> u32
+    ensures { λ r. ⌜ r ≡ startScore start ⌝ }
+{
+    if in_range(start) {
+        return score_of(start);
+    }
+    if start < 0 { LEAST } else { GREATEST }
+}
+
+// The search of an accepted table, into buffers with an entry per node.
+fn run(
+    table: &[u8],
+    guess: u32,
+    evaluated: &mut [u8],
+    certificate: &mut [u8],
+    order: &mut [u16],
+) -> Found
+    requires { ⌜ WellFormed (now table) ⌝ }
+    requires { ⌜ (frames (now table) ≤ length (now evaluated)) × (frames (now table) ≤ length (now certificate)) ⌝ }
+    requires { ⌜ frames (now table) ≤ length (now order) ⌝ }
+    ensures { λ r. ⌜ r ≡ mtdfFound guess (now (table .entry)) ⌝ }
+    ensures { λ _. ⌜ now (evaluated .exit)
+        ≡ marksOf (mtdfLeaves guess (now (table .entry))) (now (table .entry)) (now (evaluated .entry)) ⌝ }
+    ensures { λ _. ⌜ now (certificate .exit)
+        ≡ flagsOf (mtdfLeaves guess (now (table .entry))) (now (table .entry)) (now (certificate .entry)) ⌝ }
+    ensures { λ _. ⌜ now (order .exit) ≡ listed (mtdfLeaves guess (now (table .entry))) (now (order .entry)) ⌝ }
+{
+    clear(evaluated, frame_count(table));
+    let settled = settle(table, guess, evaluated, order);
+    let root_move = conclude(table, evaluated, certificate);
+    let value = value(settled.score);
+    Found {
+        findings: Findings {
+            value,
+            root_move,
+            leaves: settled.leaves,
+        },
+        tests: settled.tests,
+    }
+}
+
+// What the tests end with: the score at which the root's bounds meet, how many leaves were evaluated, and how many
+// tests were put to the root.
+struct Settled {
+    score: u32,
+    leaves: usize,
+    tests: usize,
+}
+
+// The tests over a table without marks. A small table gets small work arrays, since their clearing takes time.
+fn settle(table: &[u8], guess: u32, evaluated: &mut [u8], order: &mut [u16]) -> Settled
+    requires { ⌜ (WellFormed (now table)) × (frames (now table) ≤ length (now evaluated))
+        × (frames (now table) ≤ length (now order)) ⌝ }
+    requires { ⌜ ((k : ℕ) → k < frames (now table) → marked (now evaluated) k ≡ false) ⌝ }
+    ensures { λ r. ⌜ Settles (now (table .entry)) guess (progress 0 (now (evaluated .entry)) (now (order .entry)))
+        (progress (r .leaves) (now (evaluated .exit)) (now (order .exit))) r ⌝ }
+{
+    if frame_count(table) <= SMALL {
+        let mut lows = [LEAST; SMALL];
+        let mut highs = [GREATEST; SMALL];
+        return decide(table, guess, evaluated, order, &mut lows, &mut highs);
+    }
+    let mut lows = [LEAST; MAX_NODES];
+    let mut highs = [GREATEST; MAX_NODES];
+    decide(table, guess, evaluated, order, &mut lows, &mut highs)
+}
+
+// The tests of the root until its bounds meet, then the last phase.
+fn decide(
+    table: &[u8],
+    guess: u32,
+    evaluated: &mut [u8],
+    order: &mut [u16],
+    lows: &mut [u32],
+    highs: &mut [u32],
+) -> Settled
+    requires { ⌜ Fresh (now table) (memory 0 (now evaluated) (now order) (now lows) (now highs)) ⌝ }
+    ensures { λ r. ⌜ Settles (now (table .entry)) guess (progress 0 (now (evaluated .entry)) (now (order .entry)))
+        (progress (r .leaves) (now (evaluated .exit)) (now (order .exit))) r ⌝ }
+{
+    let met = drive(table, guess, evaluated, order, lows, highs);
+    let leaves = find_move(table, evaluated, order, lows, highs, met.score, met.leaves);
+    Settled {
+        score: met.score,
+        leaves,
+        tests: met.tests,
+    }
+}
+
+// Tests of the root, the first by the guess, until the root's bounds meet.
+fn drive(
+    table: &[u8],
+    guess: u32,
+    evaluated: &mut [u8],
+    order: &mut [u16],
+    lows: &mut [u32],
+    highs: &mut [u32],
+) -> Settled
+    requires { ⌜ Fresh (now table) (memory 0 (now evaluated) (now order) (now lows) (now highs)) ⌝ }
+    ensures { λ r. ⌜ Met (now (table .entry)) guess
+        (memory 0 (now (evaluated .entry)) (now (order .entry)) (now (lows .entry)) (now (highs .entry)))
+        (memory (r .leaves) (now (evaluated .exit)) (now (order .exit)) (now (lows .exit)) (now (highs .exit))) r ⌝ }
+{
+    let root = Place {
+        depth: 0,
+        side: Side::Max,
+    };
+    let mut wish = guess;
+    let mut leaves = 0;
+    let mut tests = 0;
+    while root_bound(lows) != root_bound(highs) {
+        let test = between(root_bound(lows) + 1, root_bound(highs), wish);
+        let tried = visit(table, evaluated, order, lows, highs, 0, root, test, leaves);
+        leaves = tried.leaves;
+        tests += 1;
+        wish = next_wish(lows, highs, tried.answer);
+    }
+    Settled {
+        score: root_bound(lows),
+        leaves,
+        tests,
+    }
+}
+
+// A bound of the root.
+fn root_bound(bounds: &[u32]) -> u32
+    requires { ⌜ 0 < length (now bounds) ⌝ }
+    ensures { λ r. ⌜ r ≡ getD (now (bounds .entry)) 0 0 ⌝ }
+{
+    bounds[0]
+}
+
+// A test brought between the two ends.
+fn between(from: u32, to: u32, test: u32) -> u32
+    requires { ⌜ from ≤ to ⌝ }
+    ensures { λ r. ⌜ r ≡ clamp from to test ⌝ }
+{
+    if test < from {
+        return from;
+    }
+    if to < test { to } else { test }
+}
+
+// The test to put next: after "not below" the root's low + 1, after "below" its high.
+fn next_wish(lows: &[u32], highs: &[u32], answer: bool) -> u32
+    requires { ⌜ (0 < length (now lows)) × (0 < length (now highs)) × (getD (now lows) 0 0 ≤ greatest) ⌝ }
+    ensures { λ r. ⌜ r ≡ cond answer (suc (getD (now (lows .entry)) 0 0)) (getD (now (highs .entry)) 0 0) ⌝ }
+{
+    if answer {
+        root_bound(lows) + 1
+    } else {
+        root_bound(highs)
+    }
+}
+
+// The last phase: the root's children are tested against the value until one has it, so that the bounds show the first
+// root move. The result is how many leaves are evaluated by then.
+fn find_move(
+    table: &[u8],
+    evaluated: &mut [u8],
+    order: &mut [u16],
+    lows: &mut [u32],
+    highs: &mut [u32],
+    score: u32,
+    leaves: usize,
+) -> usize
+    requires { ⌜ VisitReady (now table) (memory leaves (now evaluated) (now order) (now lows) (now highs)) 0
+        rootPlace ⌝ }
+    ensures { λ r. ⌜ Moved (now (table .entry)) score
+        (memory leaves (now (evaluated .entry)) (now (order .entry)) (now (lows .entry)) (now (highs .entry)))
+        (memory r (now (evaluated .exit)) (now (order .exit)) (now (lows .exit)) (now (highs .exit))) ⌝ }
+{
+    if child_count(table, 0) == 0 {
+        return leaves;
+    }
+    let root = Place {
+        depth: 0,
+        side: Side::Max,
+    };
+    let tried = enter(table, evaluated, order, lows, highs, 0, root, score, leaves);
+    tried.leaves
+}
+
+// What a node that was tested gives: the answer, true where the node is not below the test, and how many leaves are
+// evaluated by then.
+struct Tried {
+    answer: bool,
+    leaves: usize,
+}
+
+// A test of a node: it is answered at once, or entered.
+fn visit(
+    table: &[u8],
+    evaluated: &mut [u8],
+    order: &mut [u16],
+    lows: &mut [u32],
+    highs: &mut [u32],
+    node: usize,
+    place: Place,
+    test: u32,
+    leaves: usize,
+) -> Tried
+    requires { ⌜ VisitReady (now table) (memory leaves (now evaluated) (now order) (now lows) (now highs)) node
+        place ⌝ }
+    ensures { λ r. ⌜ Visited (now (table .entry)) (treeAt (now (table .entry)) node) test
+        (memory leaves (now (evaluated .entry)) (now (order .entry)) (now (lows .entry)) (now (highs .entry)))
+        (memory (r .leaves) (now (evaluated .exit)) (now (order .exit)) (now (lows .exit)) (now (highs .exit)))
+        r ⌝ }
+{
+    match look(
+        table,
+        evaluated,
+        order,
+        lows,
+        highs,
+        node,
+        place,
+        test,
+        leaves,
+    ) {
+        Seen::Answered(tried) => tried,
+        Seen::Open => enter(
+            table,
+            evaluated,
+            order,
+            lows,
+            highs,
+            node,
+            place,
+            test,
+            leaves,
+        ),
+    }
+}
+
+// What a look at a node gives: the node's answer, or that it has to be entered.
+enum Seen {
+    Answered(Tried),
+    Open,
+}
+
+// A look at a node: it is below where its high is, and not below where its low is not; any other is evaluated if it is
+// a leaf, and else is open.
+fn look(
+    table: &[u8],
+    evaluated: &mut [u8],
+    order: &mut [u16],
+    lows: &mut [u32],
+    highs: &mut [u32],
+    node: usize,
+    place: Place,
+    test: u32,
+    leaves: usize,
+) -> Seen
+    requires { ⌜ VisitReady (now table) (memory leaves (now evaluated) (now order) (now lows) (now highs)) node
+        place ⌝ }
+    ensures { λ r. ⌜ Looked (now (table .entry)) node test
+        (memory leaves (now (evaluated .entry)) (now (order .entry)) (now (lows .entry)) (now (highs .entry)))
+        (λ n. memory n (now (evaluated .exit)) (now (order .exit)) (now (lows .exit)) (now (highs .exit)))
+        r ⌝ }
+{
+    if highs[node] < test {
+        return not_entered(false, leaves);
+    }
+    if test <= lows[node] {
+        return not_entered(true, leaves);
+    }
+    if child_count(table, node) != 0 {
+        return Seen::Open;
+    }
+    let leaf = evaluate_leaf(
+        table,
+        evaluated,
+        order,
+        lows,
+        highs,
+        node,
+        place.depth,
+        leaves,
+    );
+    let answer = test <= leaf.score;
+    not_entered(answer, leaf.leaves)
+}
+
+// A node that is not entered has its answer at once.
+fn not_entered(answer: bool, leaves: usize) -> Seen
+    ensures { λ r. ⌜ r ≡ Seen.Answered (record { answer = answer; leaves = leaves }) ⌝ }
+{
+    Seen::Answered(Tried { answer, leaves })
+}
+
+// A test of the children of a node from the left, each entered only where it is open, until one settles the node; its
+// bounds are the best of theirs then.
+fn enter(
+    table: &[u8],
+    evaluated: &mut [u8],
+    order: &mut [u16],
+    lows: &mut [u32],
+    highs: &mut [u32],
+    node: usize,
+    place: Place,
+    test: u32,
+    mut leaves: usize,
+) -> Tried
+    requires { ⌜ VisitReady (now table) (memory leaves (now evaluated) (now order) (now lows) (now highs)) node
+        place ⌝ }
+    requires { ⌜ 0 < childCount (now table) node ⌝ }
+    ensures { λ r. ⌜ Entered (now (table .entry)) (treeAt (now (table .entry)) node) test
+        (memory leaves (now (evaluated .entry)) (now (order .entry)) (now (lows .entry)) (now (highs .entry)))
+        (memory (r .leaves) (now (evaluated .exit)) (now (order .exit)) (now (lows .exit)) (now (highs .exit)))
+        r ⌝ }
+{
+    let side = place.side;
+    let first = first_child(table, node);
+    let end = first + child_count(table, node);
+    let mut child = first;
+    let answer = loop {
+        let at = child_place(table, child, place);
+        let tried = match look(
+            table,
+            evaluated,
+            order,
+            lows,
+            highs,
+            child,
+            at,
+            test,
+            leaves,
+        ) {
+            Seen::Answered(tried) => tried,
+            Seen::Open => enter(
+                table,
+                evaluated,
+                order,
+                lows,
+                highs,
+                child,
+                at,
+                test,
+                leaves,
+            ),
+        };
+        leaves = tried.leaves;
+        child += 1;
+        if last_tried(side, tried.answer, child, end) {
+            break tried.answer;
+        }
+    };
+    let low = best(lows, first, end, side);
+    let high = best(highs, first, end, side);
+    lows[node] = low;
+    highs[node] = high;
+    Tried { answer, leaves }
+}
+
+// A leaf without a mark is evaluated, and its score is both of its bounds from then on.
+fn evaluate_leaf(
+    table: &[u8],
+    evaluated: &mut [u8],
+    order: &mut [u16],
+    lows: &mut [u32],
+    highs: &mut [u32],
+    node: usize,
+    depth: u32,
+    leaves: usize,
+) -> Evaluation
+    requires { ⌜ Evaluable (now table) (now evaluated) node depth ⌝ }
+    requires { ⌜ Listable (now table) (progress leaves (now evaluated) (now order)) ⌝ }
+    requires { ⌜ (node < length (now lows)) × (node < length (now highs)) ⌝ }
+    ensures { λ r. ⌜ (r .score ≡ valuation (now (table .entry)) node) × (r .leaves ≡ leaves + 1) ⌝ }
+    ensures { λ _. ⌜ now (evaluated .exit) ≡ set (now (evaluated .entry)) node 1 ⌝ }
+    ensures { λ _. ⌜ now (order .exit) ≡ set (now (order .entry)) leaves node ⌝ }
+    ensures { λ r. ⌜ now (lows .exit) ≡ set (now (lows .entry)) node (r .score) ⌝ }
+    ensures { λ r. ⌜ now (highs .exit) ≡ set (now (highs .entry)) node (r .score) ⌝ }
+{
+    let leaf = evaluate_next(table, evaluated, order, node, depth, leaves);
+    lows[node] = leaf.score;
+    highs[node] = leaf.score;
+    leaf
+}
