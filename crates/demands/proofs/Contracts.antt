@@ -7,6 +7,7 @@ use mathlib.Core.Path.{_≡_}
 use Rattle.alphabeta.proofs as alphabeta
 use Rattle.plain.proofs as plain
 use Rattle.mtd.proofs as mtd
+use Rattle.mtdf.proofs as mtdf
 use Rattle.states.specs.Entry.{blank}
 use Rattle.sss.proofs as sss
 use Rattle.graft.proofs as graft
@@ -41,7 +42,7 @@ use Rattle.text.proofs as text
 use Rattle.text.specs.Text.{refusedLine, textOf}
 use Rattle.report.specs.Report as reports
 use Rattle.demands.specs.Runs.{Runs}
-use Rattle.demands.specs.Calls.{buffers, AlphaBetaSays, PlainSays, MtdSays, SssSays, SolveSays}
+use Rattle.demands.specs.Calls.{buffers, AlphaBetaSays, PlainSays, MtdSays, MtdfSays, SssSays, SolveSays}
 
 -- the searches
 
@@ -59,6 +60,11 @@ pub mtd-search : Runs mtd.search.ended mtd.search.Symbol.routine
     (λ κs (t, (m, (f, (o, _)))) r (_, (m′, (f′, (o′, _)))).
     MtdSays (t .now) (buffers (m .now) (f .now)) (o .now) r (buffers (m′ .now) (f′ .now)) (o′ .now))
 mtd-search = record { meets = mtd.search.Met.met }
+
+pub mtdf-search : Runs mtdf.search.ended mtdf.search.Symbol.routine
+    (λ κs (t, (v, (m, (f, (o, _))))) r (_, (_, (m′, (f′, (o′, _))))).
+    MtdfSays v (t .now) (buffers (m .now) (f .now)) (o .now) r (buffers (m′ .now) (f′ .now)) (o′ .now))
+mtdf-search = record { meets = mtdf.search.Met.met }
 
 pub sss-search : Runs sss.search.ended sss.search.Symbol.routine
     (λ κs (t, (l, (m, (f, (o, (n, _)))))) r (_, (l′, (m′, (f′, (o′, _))))).

@@ -1,5 +1,5 @@
--- Demand 2, sentence by sentence, over the calls of Calls.antt: `Call t` is a call of any of the three searches with
--- the table t that gives a result.
+-- Demand 2, sentence by sentence, over the calls of Calls.antt: `Call t` is a call of any of the three searches, or
+-- of MTD(f), with the table t that gives a result.
 use Prim.Native.Nat.{ℕ, _≤_, _<_}
 use mathlib.Core.Path.{_≡_, refl, sym, ap, ap₂, _∙_}
 use mathlib.Core.Logic.{_↔_}

@@ -41,7 +41,8 @@ use Rattle.demands.proofs.Views.{view, mtd-result, sss-result}
 use Rattle.demands.proofs.Handed.{formed, proper, marks-at, marks-count, marks-reached, count-most}
 use Rattle.demands.proofs.Local.{one-tree, agreed-scores, same-findings, same-found, same-left, same-order}
 
--- What any of the three searches marks, Baudet's condition reaches, and a call of alpha-beta with that table marks.
+-- What any of the three searches or MTD(f) marks, Baudet's condition reaches, and a call of alpha-beta with that table
+-- marks.
 
 module _ {t : List ℕ} (c : Call t) where
   pub reached-only : (k : ℕ) → Marked t (left c) k → among (reachedLeaves t) k ≡ true

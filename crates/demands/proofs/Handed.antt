@@ -56,7 +56,7 @@ module _ {t w : List ℕ} {lent left : Buffers} (handed : HandedBack t w lent le
   marks-at k h =
       ap (λ x. getD x k 0) (handed .marks) ∙ written-at (mark (among w)) (frames t) k (lent .marks) h
 
-  marked-at : (k : ℕ) → k < frames t → marked (left .marks) k ≡ among w k
+  pub marked-at : (k : ℕ) → k < frames t → marked (left .marks) k ≡ among w k
   marked-at k h =
       ap (λ x. marked x k) (handed .marks) ∙ marked-written (among w) (frames t) (lent .marks) k h
 

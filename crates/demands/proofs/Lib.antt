@@ -6,7 +6,8 @@
 -- Allowance; capital letters (request N7): Capitals; tables without a second capture (request N8): Alternating; grafts
 -- (request N9): Grafting; a leaf's value for a wanted root value (request N10): Wanted; the worst-case filling (request
 -- N11): WorstCase; least counts (request N12): LeastCounts; the shorter of two certificates (request N13): Shorter; the
--- lists of leaves (request N14): Order. The other files carry the theory's theorems to calls over byte tables.
+-- lists of leaves (request N14): Order; MTD(f), which no request asks for: Mtdf. The other files carry the theory's
+-- theorems to calls over byte tables.
 pub mod TheSentence
 pub mod Sentences
 pub mod Contracts
@@ -32,5 +33,6 @@ pub mod WorstCase
 pub mod LeastCounts
 pub mod Shorter
 pub mod Order
+pub mod Mtdf
 pub mod Cases
 mod Tests

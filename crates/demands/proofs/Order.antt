@@ -1,8 +1,9 @@
--- Request N14, sentence by sentence, over the runs of specs/Order.antt: a call of one of the three searches that gives
--- a result, or a call of SSS* that its allowance ended; `sss::solve` is such a call (`own-list` in Demand1). After a
--- refusal all of the list is as it was: `kept-alphaBeta`, `kept-mtd`, `kept-sss` and `kept-solve` in Demand1. Tables
--- that agree on the valued leaves get the same lists: `local-alphaBeta`, `local-mtd` and `local-sss` in Demand3, and
--- `local-spent` in Allowance for runs that are stopped.
+-- Request N14, sentence by sentence, over the runs of specs/Order.antt: a call of one of the three searches or of
+-- MTD(f) that gives a result, or a call of SSS* that its allowance ended; `sss::solve` is such a call (`own-list` in
+-- Demand1). After a refusal all of the list is as it was: `kept-alphaBeta`, `kept-mtd`, `kept-sss` and `kept-solve` in
+-- Demand1, `kept-mtdf` in Mtdf. Tables that agree on the valued leaves get the same lists: `local-alphaBeta`,
+-- `local-mtd` and `local-sss` in Demand3, `local-mtdf` in Mtdf, and `local-spent` in Allowance for runs that are
+-- stopped.
 use Prim.Native.Nat.{ℕ, suc, _≤_, _<_}
 use native.Mathlib.Omega.{arith}
 use mathlib.Core.Path.{_≡_, refl, sym, ap, ap₂, _∙_, subst}

@@ -18,6 +18,8 @@ use Rattle.alphabeta.proofs as alphabeta
 use Rattle.alphabeta.specs.declared.Answer.the-variants as ab-answer
 use Rattle.mtd.proofs as mtd
 use Rattle.mtd.specs.declared.Answer.the-variants as mtd-answer
+use Rattle.mtdf.proofs as mtdf
+use Rattle.mtdf.specs.declared.Answer.the-variants as mtdf-answer
 use Rattle.sss.proofs as sss
 use Rattle.sss.specs.declared.Answer.the-variants as sss-answer
 use Rattle.plain.proofs as plain
@@ -36,12 +38,13 @@ use Rattle.demands.specs.Runs.{Runs, RunBoth}
 use Rattle.demands.specs.Calls.{buffers}
 use Rattle.demands.specs.Searches.{EachSearch}
 use Rattle.demands.specs.Handed.{Marked, CertifiedBy}
-use Rattle.demands.proofs.Running.{follows, each-search, alphaBetaCall, mtdCall, sssCall, solveCall}
+use Rattle.demands.proofs.Running.{follows, each-search, alphaBetaCall, mtdCall, mtdfCall, sssCall, solveCall}
 use Rattle.demands.proofs.Running.{given-dominated}
 use Rattle.demands.proofs.Contracts as contracts
 use Rattle.demands.proofs.Demand1.{kept-alphaBeta, kept-mtd, kept-sss, kept-solve, kept-table, kept-file}
 use Rattle.demands.proofs.Demand2.{value-minimax, move-first, certified, accepts-exactly, verdict-minimax}
 use Rattle.demands.proofs.Plain.{kept-plain}
+use Rattle.demands.proofs.Mtdf.{kept-mtdf}
 use Rattle.demands.proofs.Capitals.{still-refused}
 use Rattle.demands.proofs.Grafting.{kept-result}
 use Rattle.demands.proofs.WorstCase.{kept-table as kept-shape}
@@ -118,6 +121,16 @@ mtd-keeps =
     follows contracts.mtd-search
     (λ κs (t, (m, (f, (o, _)))) r (_, (m′, (f′, (o′, _)))) s q e.
     let k = kept-mtd (mtdCall (t .now) (buffers (m .now) (f .now)) (o .now) (mtd-answer.Rejected q)
+    (buffers (m′ .now) (f′ .now)) (o′ .now) (rw e at s)) in
+    (ap (λ b. b .marks) (k .0), ap (λ b. b .flags) (k .0), k .1))
+
+pub mtdf-keeps : Runs mtdf.search.ended mtdf.search.Symbol.routine
+    (λ κs (_, (_, (m, (f, (o, _))))) r (_, (_, (m′, (f′, (o′, _))))). (q : Rejection) → r ≡ mtdf-answer.Rejected q
+    → (m′ .now ≡ m .now) × (f′ .now ≡ f .now) × (o′ .now ≡ o .now))
+mtdf-keeps =
+    follows contracts.mtdf-search
+    (λ κs (t, (v, (m, (f, (o, _))))) r (_, (_, (m′, (f′, (o′, _))))) s q e.
+    let k = kept-mtdf (mtdfCall (t .now) (buffers (m .now) (f .now)) (o .now) v (mtdf-answer.Rejected q)
     (buffers (m′ .now) (f′ .now)) (o′ .now) (rw e at s)) in
     (ap (λ b. b .marks) (k .0), ap (λ b. b .flags) (k .0), k .1))
 

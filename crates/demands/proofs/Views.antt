@@ -6,7 +6,8 @@ use mathlib.Core.List.{List, []}
 use lib.ListN.{length}
 use Rattle.lists.proofs.Choice.{clash}
 use Rattle.gametree.specs.Allowance.{Evaluation}
-use Rattle.gametree.proofs.Searches.{Searched, byMtd, Deciding}
+use Rattle.gametree.specs.Tests.{mtdFrom}
+use Rattle.gametree.proofs.Searches.{Searched, byMtd, byTests, Deciding}
 use Rattle.gametree.proofs.Theorems.{search-deciding}
 use Rattle.frames.specs.declared.Rejection.{Rejection}
 use Rattle.frames.specs.Frame.{frames}
@@ -23,14 +24,17 @@ use Rattle.alphabeta.proofs.Reached as reached
 use Rattle.mtd.specs.declared.Found.{Found as MtdFound}
 use Rattle.mtd.specs.declared.Answer.the-variants as mtd-answer
 use Rattle.mtd.specs.Outcome.{mtdLeaves, mtdFound, mtdSearch}
+use Rattle.mtdf.specs.declared.Found.{Found as MtdfFound}
+use Rattle.mtdf.specs.declared.Answer.the-variants as mtdf-answer
+use Rattle.mtdf.specs.Outcome.{startScore, decisionOf, mtdfLeaves, mtdfFound, mtdfSearch}
 use Rattle.states.specs.declared.State.{State}
 use Rattle.sss.specs.declared.Found.{Found as SssFound}
 use Rattle.sss.specs.declared.Answer.the-variants as sss-answer
 use Rattle.sss.specs.Outcome.{sssLeaves, sssFound, sssSearch, sssUncovered, outcomeBy, listAfter, SssOutcome}
 use Rattle.sss.proofs.Allowed.{searched, by-rejection, by-value}
 use Rattle.demands.specs.Calls.{Buffers, lengths, listLengths, stateLengths, listedOf, AlphaBetaCall, MtdCall}
-use Rattle.demands.specs.Calls.{SssCall, Call, alphaBeta, mtd, sss, found, lent, left, lentOrder, leftOrder}
-use Rattle.demands.specs.Calls.{leaves}
+use Rattle.demands.specs.Calls.{MtdfCall, SssCall, Call, alphaBeta, mtd, mtdf, sss, found, lent, left}
+use Rattle.demands.specs.Calls.{lentOrder, leftOrder, leaves}
 use Rattle.demands.specs.Handed.{Room}
 use Rattle.demands.proofs.Parts.{Result, Refusal, Apart, result-of, refusal-of}
 
@@ -45,6 +49,14 @@ ab-apart =
 
 mtd-apart : Apart mtd-answer.Found mtd-answer.Rejected
 mtd-apart =
+    record {
+      sameFound = λ g h e. cc;
+      sameRejected = λ x y e. cc;
+      neverBoth = λ g x e. clash (cc);
+    }
+
+mtdf-apart : Apart mtdf-answer.Found mtdf-answer.Rejected
+mtdf-apart =
     record {
       sameFound = λ g h e. cc;
       sameRejected = λ x y e. cc;
@@ -70,6 +82,12 @@ module _ {t : List ℕ} where
       → Result (searchRejection t (listLengths (c .lent) (c .lentOrder)))
       (mtdSearch t (c .lent .marks) (c .lent .flags)) (mtdFound t) f (c .left)
   mtd-result c = result-of mtd-apart _ _ _ _ (ap (λ x. x .search) (c .outcome))
+
+  pub mtdf-result : {f : MtdfFound} (c : MtdfCall t (mtdf-answer.Found f))
+      → Result (searchRejection t (listLengths (c .lent) (c .lentOrder)))
+      (mtdfSearch (startScore (c .start)) t (c .lent .marks) (c .lent .flags)) (mtdfFound (startScore (c .start)) t) f
+      (c .left)
+  mtdf-result c = result-of mtdf-apart _ _ _ _ (ap (λ x. x .search) (c .outcome))
 
   -- with findings the allowance of SSS* covers all evaluations, so the outcome is that of the full run
   pub all-covered : {f : SssFound} (c : SssCall t (sss-answer.Found f)) → sssUncovered (c .allowance) t ≡ []
@@ -104,6 +122,12 @@ module _ {t : List ℕ} where
   mtd-order c =
       ap (λ x. x .order) (c .outcome) ∙ ap (λ q. orderAfter q (mtdLeaves t) (c .lentOrder)) (mtd-result c .passed)
 
+  mtdf-order : {f : MtdfFound} (c : MtdfCall t (mtdf-answer.Found f))
+      → c .leftOrder ≡ listed (mtdfLeaves (startScore (c .start)) t) (c .lentOrder)
+  mtdf-order c =
+      ap (λ x. x .order) (c .outcome)
+      ∙ ap (λ q. orderAfter q (mtdfLeaves (startScore (c .start)) t) (c .lentOrder)) (mtdf-result c .passed)
+
   sss-order : {f : SssFound} (c : SssCall t (sss-answer.Found f)) → c .leftOrder ≡ listed (sssLeaves t) (c .lentOrder)
   sss-order c =
       ap (λ x. x .order) (full-outcome c) ∙ ap (λ q. orderAfter q (sssLeaves t) (c .lentOrder)) (sss-result c .passed)
@@ -130,6 +154,11 @@ module _ {t : List ℕ} {r : Rejection} where
       → Refusal (searchRejection t (listLengths (c .lent) (c .lentOrder)))
       (mtdSearch t (c .lent .marks) (c .lent .flags)) r (c .left)
   mtd-refusal c = refusal-of mtd-apart _ _ _ _ (ap (λ x. x .search) (c .outcome))
+
+  pub mtdf-refusal : (c : MtdfCall t (mtdf-answer.Rejected r))
+      → Refusal (searchRejection t (listLengths (c .lent) (c .lentOrder)))
+      (mtdfSearch (startScore (c .start)) t (c .lent .marks) (c .lent .flags)) r (c .left)
+  mtdf-refusal c = refusal-of mtdf-apart _ _ _ _ (ap (λ x. x .search) (c .outcome))
 
   -- the refusal of SSS*, whatever its allowance
   module _ (c : SssCall t (sss-answer.Rejected r)) where
@@ -203,6 +232,11 @@ decides : (t : List ℕ) → Accepted t → {w : List ℕ} → Searched (valuati
     → Deciding (valuation t) (tree t) w
 decides t a s = search-deciding (valuation t) (tree t) (tree-proper t (accepted-formed t a)) s
 
+-- the leaves of MTD(f) are those of a search by tests
+tests-searched : (f : ℕ) (t : List ℕ) → Searched (valuation t) (tree t) (mtdfLeaves f t)
+unfolding decisionOf
+tests-searched f t = byTests (mtdFrom f)
+
 -- each call that gives a result is such a call
 pub view : {t : List ℕ} (c : Call t) → View c
 view {t} (alphaBeta c) =
@@ -238,6 +272,24 @@ view {t} (mtd c) =
       results = ap (λ f. f .findings) (x .found);
       long = p .2;
       order = mtd-order c;
+    }
+view {t} (mtdf c) =
+    let x = mtdf-result c in
+    let p = list-room t (c .lent) (c .lentOrder) (x .passed) in
+    let s = tests-searched (startScore (c .start)) t in
+    record {
+      handed =
+          record {
+            accepted = p .0;
+            room = p .1;
+            deciding = decides t (p .0) s;
+            marks = x .marks;
+            flags = x .flags;
+          };
+      searched = s;
+      results = ap (λ f. f .findings) (x .found);
+      long = p .2;
+      order = mtdf-order c;
     }
 view {t} (sss c) =
     let x = sss-result c in

@@ -2,6 +2,7 @@
 use Prim.Native.Nat.{ℕ}
 use mathlib.Core.Path.{_≡_}
 use mathlib.Core.List.{List, [], _∷_}
+use lib.IntN.{ℤ}
 use lib.ListN.{length}
 use Rattle.certificate.specs.declared.Findings.{Findings}
 use Rattle.certificate.specs.Search.{Outcome, Listed}
@@ -14,6 +15,10 @@ use Rattle.mtd.specs.declared.Found.{Found as MtdFound}
 use Rattle.mtd.specs.declared.Answer.{Answer as MtdAnswer}
 use Rattle.mtd.specs.declared.Answer.the-variants as mtd-answer
 use Rattle.mtd.specs.Outcome.{mtdLeaves, mtdOutcome}
+use Rattle.mtdf.specs.declared.Found.{Found as MtdfFound}
+use Rattle.mtdf.specs.declared.Answer.{Answer as MtdfAnswer}
+use Rattle.mtdf.specs.declared.Answer.the-variants as mtdf-answer
+use Rattle.mtdf.specs.Outcome.{startScore, mtdfLeaves, mtdfOutcome}
 use Rattle.states.specs.declared.State.{State}
 use Rattle.sss.specs.declared.Found.{Found as SssFound}
 use Rattle.sss.specs.declared.Answer.{Answer as SssAnswer}
@@ -83,6 +88,19 @@ pub record MtdCall (t : List ℕ) (a : MtdAnswer) : Type 0 where
   pub leftOrder : List ℕ
   pub outcome : MtdSays t lent lentOrder a left leftOrder
 
+-- what that of `mtdf::search` says, which has a starting value v
+abbrev pub MtdfSays : ℤ → List ℕ → Buffers → List ℕ → MtdfAnswer → Buffers → List ℕ → Type 0
+MtdfSays v t b o a d p = listedOf a d p ≡ mtdfOutcome v t (b .marks) (b .flags) o
+
+-- a call of MTD(f) with the table t that answers a
+pub record MtdfCall (t : List ℕ) (a : MtdfAnswer) : Type 0 where
+  pub start : ℤ
+  pub lent : Buffers
+  pub left : Buffers
+  pub lentOrder : List ℕ
+  pub leftOrder : List ℕ
+  pub outcome : MtdfSays start t lent lentOrder a left leftOrder
+
 -- what that of `sss::search` says, which has an allowance of n leaves: lent the list of states l too, it leaves there m
 abbrev pub SssSays : ℕ → List ℕ → List State → Buffers → List ℕ → SssAnswer → List State → Buffers → List ℕ → Type 0
 SssSays n t l b o a m d p =
@@ -113,10 +131,12 @@ pub record SolveCall (t : List ℕ) (a : SssAnswer) : Type 0 where
   pub leftOrder : List ℕ
   pub outcome : SolveSays allowance t lent lentOrder a left leftOrder
 
--- a call of one of the three searches with the table t that gives a result; SSS* under whatever allowance
+-- a call of one of the three searches, or of MTD(f), with the table t that gives a result; SSS* under whatever
+-- allowance, MTD(f) from whatever starting value
 pub data Call (t : List ℕ) : Type 0 where
   alphaBeta : {f : Findings} → AlphaBetaCall t (ab-answer.Found f) → Call t
   mtd : {f : MtdFound} → MtdCall t (mtd-answer.Found f) → Call t
+  mtdf : {f : MtdfFound} → MtdfCall t (mtdf-answer.Found f) → Call t
   sss : {f : SssFound} → SssCall t (sss-answer.Found f) → Call t
 
 module _ {t : List ℕ} where
@@ -124,32 +144,39 @@ module _ {t : List ℕ} where
   abbrev pub found : Call t → Findings
   found (alphaBeta {f} c) = f
   found (mtd {f} c) = f .findings
+  found (mtdf {f} c) = f .findings
   found (sss {f} c) = f .findings
 
   -- the buffers that it is lent, and those that it leaves
   abbrev pub lent : Call t → Buffers
   lent (alphaBeta c) = c .lent
   lent (mtd c) = c .lent
+  lent (mtdf c) = c .lent
   lent (sss c) = c .lent
 
   abbrev pub left : Call t → Buffers
   left (alphaBeta c) = c .left
   left (mtd c) = c .left
+  left (mtdf c) = c .left
   left (sss c) = c .left
 
   -- the list of leaves that it is lent, and the one that it leaves
   abbrev pub lentOrder : Call t → List ℕ
   lentOrder (alphaBeta c) = c .lentOrder
   lentOrder (mtd c) = c .lentOrder
+  lentOrder (mtdf c) = c .lentOrder
   lentOrder (sss c) = c .lentOrder
 
   abbrev pub leftOrder : Call t → List ℕ
   leftOrder (alphaBeta c) = c .leftOrder
   leftOrder (mtd c) = c .leftOrder
+  leftOrder (mtdf c) = c .leftOrder
   leftOrder (sss c) = c .leftOrder
 
-  -- the leaves that its rule names, in order: Baudet's condition, MTD's passes, the full run of SSS*
+  -- the leaves that its rule names, in order: Baudet's condition, MTD's passes, the tests of MTD(f), the
+  -- full run of SSS*
   abbrev pub leaves : Call t → List ℕ
   leaves (alphaBeta c) = reachedLeaves t
   leaves (mtd c) = mtdLeaves t
+  leaves (mtdf c) = mtdfLeaves (startScore (c .start)) t
   leaves (sss c) = sssLeaves t

@@ -1,5 +1,5 @@
--- What is said of the lists of leaves: a run is a call of one of the three searches that gives a result, or a call of
--- SSS* that its allowance ended.
+-- What is said of the lists of leaves: a run is a call of one of the three searches or of MTD(f) that gives a result,
+-- or a call of SSS* that its allowance ended.
 use Prim.Native.Nat.{ℕ}
 use mathlib.Core.Option.{Option, none, some}
 use mathlib.Core.List.{List}

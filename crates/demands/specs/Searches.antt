@@ -1,4 +1,4 @@
--- What is said of each of the three searches as it runs.
+-- What is said of each of the three searches, and of MTD(f), as it runs.
 use Prim.Native.Nat.{ℕ}
 use mathlib.Core.Path.{_≡_}
 use mathlib.Core.List.{List}
@@ -10,6 +10,10 @@ use Rattle.mtd.proofs as mtd
 use Rattle.mtd.specs.declared.Found.{Found as MtdFound}
 use Rattle.mtd.specs.declared.Answer.the-variants as mtd-answer
 use Rattle.mtd.specs.Outcome.{mtdLeaves}
+use Rattle.mtdf.proofs as mtdf
+use Rattle.mtdf.specs.declared.Found.{Found as MtdfFound}
+use Rattle.mtdf.specs.declared.Answer.the-variants as mtdf-answer
+use Rattle.mtdf.specs.Outcome.{startScore, mtdfLeaves}
 use Rattle.sss.proofs as sss
 use Rattle.sss.specs.declared.Found.{Found as SssFound}
 use Rattle.sss.specs.declared.Answer.the-variants as sss-answer
@@ -17,8 +21,9 @@ use Rattle.sss.specs.Outcome.{sssLeaves}
 use Rattle.demands.specs.Runs.{Runs}
 use Rattle.demands.specs.Calls.{Buffers, buffers}
 
--- whenever `alphabeta::search`, `mtd::search`, `sss::search` or `sss::solve` gives a result, P holds: of the table, the
--- leaves that the search's rule names there, what it found, and the buffers and the list of leaves that it left
+-- whenever `alphabeta::search`, `mtd::search`, `mtdf::search`, `sss::search` or `sss::solve` gives a result, P holds:
+-- of the table, the leaves that the search's rule names there, what it found, and the buffers and the list of leaves
+-- that it left
 pub record EachSearch (P : (t rule : List ℕ) → Findings → Buffers → (order : List ℕ) → Type 0) : Type 2 where
   pub alphabetaSearch : Runs alphabeta.search.ended alphabeta.search.Symbol.routine
       (λ κs (t, _) r (_, (m, (f, (o, _)))). (g : Findings) → r ≡ ab-answer.Found g
@@ -26,6 +31,9 @@ pub record EachSearch (P : (t rule : List ℕ) → Findings → Buffers → (ord
   pub mtdSearch : Runs mtd.search.ended mtd.search.Symbol.routine
       (λ κs (t, _) r (_, (m, (f, (o, _)))). (g : MtdFound) → r ≡ mtd-answer.Found g
       → P (t .now) (mtdLeaves (t .now)) (g .findings) (buffers (m .now) (f .now)) (o .now))
+  pub mtdfSearch : Runs mtdf.search.ended mtdf.search.Symbol.routine
+      (λ κs (t, (v, _)) r (_, (_, (m, (f, (o, _))))). (g : MtdfFound) → r ≡ mtdf-answer.Found g
+      → P (t .now) (mtdfLeaves (startScore v) (t .now)) (g .findings) (buffers (m .now) (f .now)) (o .now))
   pub sssSearch : Runs sss.search.ended sss.search.Symbol.routine
       (λ κs (t, _) r (_, (_, (m, (f, (o, _))))). (g : SssFound) → r ≡ sss-answer.Found g
       → P (t .now) (sssLeaves (t .now)) (g .findings) (buffers (m .now) (f .now)) (o .now))
