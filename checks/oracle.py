@@ -372,6 +372,78 @@ def mtd(tree):
         test = high[0]
 
 
+# ---------------------------------------------------------------- MTD(f)
+
+def mtdf_by_rule(tree, start):
+    """000, sections 8 and 9: null-window tests, with the bounds worked out anew from the leaves valued so far; then the root's
+    children are tested for the first one with the value."""
+    leaves, tests = [], 0
+
+    def bound(k, other):
+        if not tree.kids[k]:
+            return tree.worth[k] if k in leaves else other
+        return (max if tree.is_max[k] else min)(bound(c, other) for c in tree.kids[k])
+
+    def not_below(k, test):
+        if bound(k, GREATEST) < test:
+            return False
+        if bound(k, LEAST) >= test:
+            return True
+        if not tree.kids[k]:
+            leaves.append(k)
+            return tree.worth[k] >= test
+        return children(k, test)
+
+    def children(k, test):
+        return (any if tree.is_max[k] else all)(not_below(c, test) for c in tree.kids[k])
+
+    while bound(0, LEAST) != bound(0, GREATEST):
+        low, high = bound(0, LEAST), bound(0, GREATEST)
+        answer = not_below(0, min(high, max(low + 1, start)))
+        start = bound(0, LEAST) + 1 if answer else bound(0, GREATEST)
+        tests += 1
+    value = bound(0, LEAST)
+    if tree.kids[0]:
+        children(0, value)
+    return value, leaves, tests
+
+
+def mtdf(tree, start):
+    """The same with kept bounds, each set anew when its node is left."""
+    n, kids, is_max, worth = tree.n, tree.kids, tree.is_max, tree.worth
+    low, high = [LEAST] * n, [GREATEST] * n
+    leaves, tests = [], 0
+
+    def not_below(k, test):
+        if high[k] < test:
+            return False
+        if low[k] >= test:
+            return True
+        if kids[k]:
+            return enter(k, test)
+        leaves.append(k)
+        low[k] = high[k] = worth[k]
+        return worth[k] >= test
+
+    def enter(k, test):
+        for c in kids[k]:
+            answer = not_below(c, test)
+            if answer == is_max[k]:
+                break
+        best = max if is_max[k] else min
+        low[k], high[k] = best([low[c] for c in kids[k]]), best([high[c] for c in kids[k]])
+        return answer
+
+    while low[0] != high[0]:
+        answer = not_below(0, min(high[0], max(low[0] + 1, start)))
+        start = low[0] + 1 if answer else high[0]
+        tests += 1
+    value = low[0]
+    if kids[0]:
+        enter(0, value)
+    return value, leaves, tests
+
+
 # ---------------------------------------------------------------- SSS*
 
 def sss_by_rule(tree, tie=None, allowance=None):
@@ -685,6 +757,11 @@ def plain_search(table, marks, proof):
 
 def mtd_search(table, marks, proof, order):
     return search(mtd, table, marks, proof, order)
+
+
+def mtdf_search(table, start, marks, proof, order):
+    """From any starting value, which is brought between the root's bounds."""
+    return search(lambda tree: mtdf(tree, start), table, marks, proof, order)
 
 
 def sss_search(table, states, marks, proof, order, allowance=None):

@@ -483,6 +483,32 @@ def least_counts():
         same("B69 %d and %d" % (width, depth), o.least_leaves(width, depth), want)
 
 
+def one_start(rng, table, tree, start, a, s, literal):
+    """MTD(f) from one starting value, against alpha-beta's result a and that of SSS*, s."""
+    call = lambda table, marks, proof, order: o.mtdf_search(table, start, marks, proof, order)
+    f, marks, proof = run(call, table)
+    same("start: value and move", (f.value, f.move), (a[0].value, a[0].move))
+    same("start: none twice", len(set(f.order)), f.leaves)
+    same("start: within ab", set(f.order) <= set(a[0].order), True)
+    same("start: proof checks", o.check_proof(table, proof), f.value)
+    same("start: flagged leaves are valued", all(marks[k] for k in tree.leaves() if proof[k]), True)
+    same("start: no more tests than leaves", f.extra <= f.leaves, True)
+    same("start: the first move by the bounds", first_by_bounds(tree, set(f.order)), f.move)
+    if start == f.value:
+        same("start at the value", f.extra <= 2, True)
+    if start > 32000:
+        same("start above", set(f.order) <= set(s[0].order), True)
+    if literal:
+        same("start by rule", o.mtdf_by_rule(tree, start), (f.value, f.order, f.extra))
+    same("start: passed-over leaves", run(call, changed_elsewhere(rng, table, marks)), (f, marks, proof))
+
+
+def first_by_bounds(tree, valued):
+    """The root move that the bounds of the valued leaves show; the root is Max."""
+    low = tree.bounds(valued)[0]
+    return next((c for c in tree.kids[0] if low[c] == low[0]), 0)
+
+
 def one_tree(rng, table, literal, pairs):
     tree = o.Tree(table)
     n = tree.n
@@ -497,6 +523,8 @@ def one_tree(rng, table, literal, pairs):
         same("flags that break are found", isinstance(o.check_proof(table, [f ^ 3 for f in proof]), o.Refusal), True)
         low, high = tree.bounds(set(r.order))
         same("bounds meet at the root", (low[0], high[0]), (value, value))
+    for start in value + rng.randint(-1, 1), rng.choice((-2 ** 31, 32001, rng.randint(-33000, 33000))):
+        one_start(rng, table, tree, start, a, s, literal)
     counts = [sum(1 for k in tree.leaves() if r[2][k]) for r in (a, s)]
     fewer = int(counts[1] < counts[0])
     same("N13: the shorter proof", o.shorter(table, a[2], s[2]), (fewer, bytes((a[2], s[2])[fewer])))
