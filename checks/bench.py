@@ -213,7 +213,7 @@ def into_costs(tables):
     """Puts the tables into docs/COSTS.md, in its order."""
     path = os.path.join(ROOT, "docs", "COSTS.md")
     text = read(path)
-    old = re.findall(r"(?:^\|.*\n)+", text, re.M)
+    old = re.findall(r"(?:^\|.*\n)+", text.split("<!-- starts -->")[0], re.M)     # the last table is that of starts.py
     assert len(old) == len(tables), "docs/COSTS.md has %d tables" % len(old)
     for was, now in zip(old, tables):
         text = text.replace(was, now)
