@@ -310,6 +310,57 @@ struct answer c_mtd(const uint8_t *table, size_t length, uint8_t *marks, size_t 
     return (struct answer){ .value = test, .root_move = move, .leaves = p.valued.leaves, .steps = passes };
 }
 
+/* ---- MTD(f) */
+
+struct tests {
+    const uint8_t *table;
+    struct valued valued;
+    int low[NODES], high[NODES];
+};
+
+static bool not_below(struct tests *p, int k, int place, int test);
+
+static bool children_not_below(struct tests *p, int k, int place, int test) {
+    int count = child_count(p->table, k), first = first_child(p->table, k);
+    bool is_max = max_moves(place), answer = !is_max;
+    for (int c = first; c < first + count && answer != is_max; c++)
+        answer = not_below(p, c, child_place(p->table, c, place), test);
+    int low = p->low[first], high = p->high[first];
+    for (int c = first + 1; c < first + count; c++) {
+        low = is_max ? greater(low, p->low[c]) : lesser(low, p->low[c]);
+        high = is_max ? greater(high, p->high[c]) : lesser(high, p->high[c]);
+    }
+    p->low[k] = low, p->high[k] = high;
+    return answer;
+}
+
+static bool not_below(struct tests *p, int k, int place, int test) {
+    if (p->high[k] < test) return false;
+    if (p->low[k] >= test) return true;
+    if (child_count(p->table, k)) return children_not_below(p, k, place, test);
+    p->low[k] = p->high[k] = evaluate_next(p->table, &p->valued, k, depth_of(place));
+    return p->low[k] >= test;
+}
+
+struct answer c_mtdf(const uint8_t *table, size_t length, int32_t start, uint8_t *marks, size_t marks_room,
+                     uint8_t *proof, size_t proof_room, uint16_t *order, size_t order_room) {
+    struct answer asked = ask(table, length, smaller(smaller(marks_room, proof_room), order_room));
+    if (asked.refused) return asked;
+    int n = asked.count, tests = 0;
+    struct tests p;
+    p.table = table, p.valued = (struct valued){ marks, order, 0 };
+    memset(marks, 0, n);
+    for (int k = 0; k < n; k++) p.low[k] = LEAST, p.high[k] = GREATEST;
+    for (; p.low[0] != p.high[0]; tests++) {
+        bool answer = not_below(&p, 0, 0, lesser(p.high[0], greater(p.low[0] + 1, start)));
+        start = answer ? p.low[0] + 1 : p.high[0];
+    }
+    int value = p.low[0];
+    if (child_count(table, 0)) children_not_below(&p, 0, 0, value);
+    int move = conclude(table, n, marks, proof);
+    return (struct answer){ .value = value, .root_move = move, .leaves = p.valued.leaves, .steps = tests };
+}
+
 /* ---- SSS* */
 
 enum status { LIVE, SOLVED };

@@ -18,7 +18,7 @@ struct answer {
                      for the chosen certificate */
     size_t root_move;
     size_t leaves;
-    size_t steps; /* passes of MTD, replacements of SSS* */
+    size_t steps; /* passes of MTD, tests of MTD(f), replacements of SSS* */
 };
 
 /* The program's text, and zeros behind it. */
@@ -37,6 +37,9 @@ typedef struct answer plain_call(const uint8_t *table, size_t length, uint8_t *m
 typedef struct answer allowed_call(const uint8_t *table, size_t length, uint8_t *marks, size_t marks_room,
                                    uint8_t *proof, size_t proof_room, uint16_t *order, size_t order_room,
                                    size_t allowance);
+typedef struct answer started_call(const uint8_t *table, size_t length, int32_t start, uint8_t *marks,
+                                   size_t marks_room, uint8_t *proof, size_t proof_room, uint16_t *order,
+                                   size_t order_room);
 typedef struct answer verify_call(const uint8_t *table, size_t length, const uint8_t *flags, size_t flags_room);
 typedef struct answer shorter_call(const uint8_t *table, size_t length, const uint8_t *first, size_t first_room,
                                    const uint8_t *second, size_t second_room);
@@ -55,6 +58,7 @@ check_call c_check;
 search_call c_alphabeta, c_mtd, c_sss, c_sss_list;
 plain_call c_plain;
 allowed_call c_allowed, c_allowed_list;
+started_call c_mtdf;
 verify_call c_verify;
 shorter_call c_shorter;
 graft_call c_graft;

@@ -1,6 +1,6 @@
 #!/usr/bin/env python3
 """Runs a compiled `cases` on generated calls over lent memory and compares with oracle.py: marks, certificates, lists of leaves, passes,
-replacements, allowances, verdicts on right and on damaged flags, short buffers, parts of tables, written files, grafts, values for a
+replacements, allowances, starting values, verdicts on right and on damaged flags, short buffers, parts of tables, written files, grafts, values for a
 wanted root value, dearest fillings, least counts, lines and children.
 
     fuzz_calls.py PROGRAM [--runs N] [--seed S]     N inputs of up to 65,000 bytes each (default 40)
@@ -57,7 +57,7 @@ def call(rng):
     """A file, a call and the lines that it prints."""
     table = bytes(fuzz.good_table(rng, rng.choice((7, 12, 30, 60))))
     file, n = o.file_of(table), len(table) // 6
-    kind = rng.randrange(14)
+    kind = rng.randrange(15)
     if kind <= 2:
         sizes = [rng.choice((n, n, n, n, n + 1, n + 9, n - 1, 0)) for _ in range(3)]
         return file, "buffers" + m.numbers(sizes), m.searches(table, *sizes)
@@ -100,6 +100,10 @@ def call(rng):
     if kind == 12:
         width, depth = rng.choice((rng.randrange(43), 99999999)), rng.choice((rng.randrange(21), 99999999))
         return file, "regular %d %d" % (width, depth), "least %s\n" % m.answered(o.least_leaves(width, depth))
+    if kind == 13:
+        sizes = [rng.choice((n, n, n, n, n + 1, n - 1)) for _ in range(3)]
+        start = wanted_of(rng, table)[1]
+        return file, "start" + m.numbers((*m.difference(start), *sizes)), m.started(table, start, *sizes)
     if rng.random() < 0.5:
         file, at = rng.choice((file, file[:-1], fuzz.other_byte(rng, file))), rng.choice((13 * rng.randrange(n + 1), rng.randrange(13 * n + 3)))
         if set(b"#@") & set(file):

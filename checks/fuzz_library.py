@@ -114,6 +114,16 @@ def allowed(table, *sizes, allowance):
         yield name, (table, *lent_to(name, *sizes), allowance), flat(r, **fields), (table, *lent)
 
 
+def started(table, *sizes, start):
+    """MTD(f) from a starting value."""
+    lent = lent_to("mtdf", *sizes)
+    r = o.mtdf_search(table, start, *lent)
+    fields = {}
+    if not isinstance(r, o.Refusal):
+        fields = {"value": r.value, "root_move": r.move, "leaves": r.leaves, "steps": r.extra}
+    yield "mtdf", (table, start, *lent_to("mtdf", *sizes)), flat(r, **fields), (table, *lent)
+
+
 def verified(table, flags):
     r = o.check_proof(table, flags)
     yield "verify", (table, flags), flat(r, value=r), (table, flags)
@@ -214,6 +224,8 @@ def small_trees():
         yield from searches(table, n, n, n)
         for allowance in range(n + 1):
             yield from allowed(table, n, n, n + 1, allowance=allowance)
+        for start in (-2 ** 31, 0, 1, 2, 30999, 31000, 32001):
+            yield from started(table, n, n, n + 1, start=start)
         yield from written(table, 13 * n)
         yield from converted(o.file_of(table, last=False).lower(), 13 * n)
         flags = bytearray(n)
@@ -252,6 +264,8 @@ def random_calls(rng):
     yield from searches(table, size(), size(), size())
     allowance = rng.choice((0, 1, 2, rng.randrange(n + 2), rng.randrange(n + 2), 2 ** 64 - 1))
     yield from allowed(table, size(), size(), size(), allowance=allowance)
+    start = rng.choice((-2 ** 31, 2 ** 31 - 1, -32001, 32001, rng.randint(-5, 5), rng.randint(-33000, 33000)))
+    yield from started(table, size(), size(), size(), start=start)
     yield from verified(table, bytes(rng.choice((0, 1, 2, 3)) for _ in range(size())))
     yield from written(table, rng.choice((13 * n, 13 * n, 13 * n + 1, 13 * n + 40, max(13 * n - 1, 0), 12 * n, 0)))
     yield from random_graft(rng, table)

@@ -295,6 +295,32 @@ def allowed(table, allowance, marks, flags, entries):
     return "sss%s\n" % text + left(table, *memory)
 
 
+def started(table, start, marks, flags, entries):
+    """MTD(f) from a starting value, with filled buffers and a filled list of these lengths."""
+    memory = lend(marks, flags, entries)
+    r = o.mtdf_search(table, start, *memory)
+    text = " " + answered(r) if isinstance(r, o.Refusal) else numbers((r.value, r.move, r.leaves, r.extra))
+    return "mtdf%s\n" % text + left(table, *memory)
+
+
+def start_cases():
+    """MTD(f), the expected lines worked out by hand: value, move, leaves, tests."""
+    for title, file, start, want in (
+            ("the first row from its value", ROW, 3, "3 2 3 1"), ("the first row from above", ROW, 32001, "3 2 3 2"),
+            ("the first row from below", ROW, -32001, "3 2 4 2"), ("far above", ROW, 999999, "3 2 3 2"),
+            ("a lone leaf", LEAF, 0, "5 0 1 1"), ("a low spares a leaf, and the last phase finds the first move", tree_file([[1, 1], 1]), 32001, "1 1 3 1"),
+            ("the same from the value", tree_file([[1, 1], 1]), 1, "1 1 3 2"), ("a win counts by its worth", tree_file([31000]), 30999, "30999 1 1 1")):
+        table = table_of_file(file)
+        n = len(table) // 6
+        got = started(table, start, n, n, n)
+        assert got.startswith("mtdf %s\n" % want), (title, got)
+        add("start: " + title, file, "start %d %d %d %d %d" % (*difference(start), n, n, n), got)
+    for title, sizes in (("short marks", (6, 7, 7)), ("short certificate", (7, 6, 7)), ("short list", (7, 7, 6))):
+        got = started(table_of_file(ROW), 3, *sizes)
+        assert got.startswith("mtdf refused 10 0\n"), (title, got)
+        add("start: " + title, ROW, "start 3 0 %d %d %d" % sizes, got)
+
+
 def flags_cases():
     """Questions 10 to 14, the expected answers worked out by hand from 01."""
     for title, file, flags, want in (
@@ -674,7 +700,7 @@ def main():
     directory = sys.argv[1] if len(sys.argv) > 1 else os.path.join(os.path.dirname(HERE), "crates", "cases")
     for part in (made_trees, made_grafts, least_counts, long_output, files_of_01, rows_of_002, rejected_files, accepted_files, wins_and_losses,
                  second_captures,
-                 flags_cases, buffer_cases, order_cases, allowance_cases, table_cases, reader_cases, writer_cases, output_cases, graft_cases, wanted_cases, dearest_cases,
+                 flags_cases, buffer_cases, order_cases, allowance_cases, start_cases, table_cases, reader_cases, writer_cases, output_cases, graft_cases, wanted_cases, dearest_cases,
                  regular_cases, choice_cases, service_cases):
         part()
     assert len(stdin) < 65536

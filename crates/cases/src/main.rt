@@ -15,6 +15,7 @@ use searchcalls::fillings::print_filling;
 use searchcalls::print_allowed;
 use searchcalls::print_checks;
 use searchcalls::print_searches;
+use searchcalls::print_started;
 use tablecalls::certificates::print_choice_of;
 use tablecalls::certificates::print_verdict_of;
 use tablecalls::files::print_line;
@@ -90,12 +91,20 @@ fn name(call: &[u8]) -> u8
     call[1]
 }
 
-// What a call with numbers gives, by the first letter of its name: buffers, allowance, table, write, output, graft,
-// value, dearest, regular, check, line or kids.
+// What a call with numbers gives, by the first letter of its name: buffers, allowance, start, table, write, output,
+// graft, value, dearest, regular, check, line or kids.
 fn print_call(letter: u8, file: &[u8], numbers: &[u32; NUMBERS]) {
     match letter {
         b'b' => print_searches(file, numbers[0], numbers[1], numbers[2]),
         b'a' => print_allowed(file, numbers[0], numbers[1], numbers[2], numbers[3]),
+        b's' => print_started(
+            file,
+            numbers[0],
+            numbers[1],
+            numbers[2],
+            numbers[3],
+            numbers[4],
+        ),
         b't' => print_reading(file, numbers[0]),
         b'w' => print_writing(file, numbers[0], numbers[1]),
         b'o' => print_output(file, numbers[0]),

@@ -6,11 +6,12 @@ use Rattle.frames.specs.Frame.{maxNodes}
 use Rattle.certificate.specs.Search.{Outcome, Listed}
 use Rattle.alphabeta.specs.Outcome.{alphaBetaOutcome}
 use Rattle.mtd.specs.Outcome.{mtdOutcome}
+use Rattle.mtdf.specs.Outcome.{mtdfOutcome}
 use Rattle.sss.specs.Outcome.{solveOutcome}
 use Rattle.plain.specs.Outcome.{plainOutcome}
 use Rattle.tablecalls.specs.Buffers.{filledWith, front}
 use Rattle.searchcalls.specs.declared.Method.{Method}
-use Rattle.searchcalls.specs.declared.Method.the-variants.{AlphaBeta, Mtd, Sss, Plain}
+use Rattle.searchcalls.specs.declared.Method.the-variants.{AlphaBeta, Mtd, Mtdf, Sss, Plain}
 
 -- the marks, the certificate and the list of leaves
 pub record LentBuffers : Type 0 where
@@ -31,6 +32,7 @@ listedTo r = lentTo (r .search) (r .order)
 unfoldable pub lentAfter : Method → (t e c o : List ℕ) → LentBuffers
 lentAfter AlphaBeta t e c o = listedTo (alphaBetaOutcome t e c o)
 lentAfter Mtd t e c o = listedTo (mtdOutcome t e c o)
+lentAfter (Mtdf start) t e c o = listedTo (mtdfOutcome start t e c o)
 lentAfter (Sss allowance) t e c o = listedTo (solveOutcome allowance t e c o)
 lentAfter Plain t e c o = lentTo (plainOutcome t e c) o
 

@@ -26,6 +26,17 @@ pub fn print_mtd(answer: mtd::Answer) {
     }
 }
 
+pub fn print_mtdf(answer: mtdf::Answer) {
+    io::write_all(STDOUT_FILENO, b"mtdf");
+    match answer {
+        mtdf::Answer::Found(found) => {
+            print_findings(found.findings);
+            print_count(found.tests);
+        }
+        mtdf::Answer::Rejected(rejection) => print_rejection(rejection),
+    }
+}
+
 pub fn print_sss(answer: sss::Answer) {
     io::write_all(STDOUT_FILENO, b"sss");
     match answer {

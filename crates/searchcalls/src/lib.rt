@@ -7,6 +7,7 @@ use casetext::print::print_line_feed;
 use casetext::print::print_numbers;
 use found::print_alphabeta;
 use found::print_mtd;
+use found::print_mtdf;
 use found::print_plain;
 use found::print_sss;
 use frames::MAX_NODES;
@@ -16,6 +17,7 @@ use tablecalls::tables::FILLED;
 use tablecalls::tables::TABLE_SIZE;
 use tablecalls::tables::fitted;
 use tablecalls::tables::read_table;
+use tablecalls::wanted::difference;
 ghost use mathlib.Core.Path.{_≡_};
 ghost use Prim.Native.Nat.{min};
 ghost use lib.ListN.{length};
@@ -45,6 +47,19 @@ pub fn print_allowed(file: &[u8], allowance: u32, marks: u32, flags: u32, entrie
     );
 }
 
+// MTD(f) from the value `plus` less `minus`, with buffers and a list of these lengths.
+pub fn print_started(file: &[u8], plus: u32, minus: u32, marks: u32, flags: u32, entries: u32) {
+    let mut table = [0u8; TABLE_SIZE];
+    let size = read_table(file, &mut table);
+    print_search(
+        Method::Mtdf(difference(plus, minus)),
+        &table[..size],
+        marks,
+        flags,
+        entries,
+    );
+}
+
 // The calls that check a table, on so many bytes of it and with empty buffers: zeros follow the frames of the file.
 pub fn print_checks(file: &[u8], size: u32) {
     let mut table = [0u8; TABLE_SIZE];
@@ -67,10 +82,11 @@ fn print_all(table: &[u8], marks: u32, flags: u32, entries: u32) {
     print_search(Method::Plain, table, marks, flags, 0);
 }
 
-// The searches; SSS* has an allowance of leaves.
+// The searches; MTD(f) has a starting value, SSS* an allowance of leaves.
 enum Method {
     AlphaBeta,
     Mtd,
+    Mtdf(i32),
     Sss(usize),
     Plain,
 }
@@ -161,6 +177,9 @@ fn print_answer(
             return print_alphabeta(alphabeta::search(table, evaluated, certificate, order));
         }
         Method::Mtd => return print_mtd(mtd::search(table, evaluated, certificate, order)),
+        Method::Mtdf(start) => {
+            return print_mtdf(mtdf::search(table, start, evaluated, certificate, order));
+        }
         Method::Sss(allowance) => {
             return print_sss(sss::solve(table, evaluated, certificate, order, allowance));
         }

@@ -28,7 +28,7 @@ pub fn print_needed(file: &[u8], size: u32, node: u32, plus: u32, minus: u32) {
 }
 
 // The difference of two numbers, of which the last six digits count.
-fn difference(plus: u32, minus: u32) -> i32
+pub fn difference(plus: u32, minus: u32) -> i32
     ensures { λ r. ⌜ r ≡ differenceOf plus minus ⌝ }
 {
     (plus % MOST) as i32 - (minus % MOST) as i32

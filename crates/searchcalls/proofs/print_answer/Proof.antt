@@ -1,5 +1,7 @@
 -- `searchcalls::print_answer` meets its contract: one case for each method.
-use Rattle.searchcalls.proofs.Lent.{by-alphabeta, by-mtd, by-sss, by-plain}
+use mir.Syntax.{w32}
+use mir.ValLaws.{toZ-ofZ}
+use Rattle.searchcalls.proofs.Lent.{by-alphabeta, by-mtd, by-mtdf, by-sss, by-plain}
 use borrow.Author.Needs.{needs}
 use Rattle.searchcalls.proofs.print_answer.Statement.{statement}
 use Rattle.searchcalls.proofs.print_answer.Tie as tie
@@ -51,11 +53,11 @@ returns-2 c =
 enum-known-method : tie.Need-enum-known-method
 enum-known-method c = search needs
 
-solve-requires : tie.Need-solve-requires
-solve-requires c κs = search needs
+search-requires-3 : tie.Need-search-requires-3
+search-requires-3 c κs = search needs
 
-print-sss-requires : tie.Need-print-sss-requires
-print-sss-requires c κs = search needs
+print-mtdf-requires : tie.Need-print-mtdf-requires
+print-mtdf-requires c κs = search needs
 
 same-length-7 : tie.Need-same-length-7
 same-length-7 c = search needs
@@ -68,16 +70,18 @@ same-length-9 c = search needs
 
 returns-3 : tie.Need-returns-3
 returns-3 c =
-    by-sss _ _ _ _ _ _ _ (c .before .before .before .before .before .before .before .before .before .before .before .before .method .given .1) (c .before .before .before .before .before .before .before .solve .ensures)
+    let m = c .before .before .before .before .before .before .before .before .before .before .before .before .method .given in
+    let start = toZ-ofZ w32 (m .0 .0) (record { sfits = c .before .before .before .before .before .before .before .before .before .before .before .known-told .given .0 .1 }) in
+    by-mtdf _ _ _ _ _ (m .0 .0) _ (m .1) (rw start at (c .before .before .before .before .before .before .before .search3 .ensures))
 
-enum-told-3 : tie.Need-enum-told-3
-enum-told-3 c = search needs
+enum-known-method-2 : tie.Need-enum-known-method-2
+enum-known-method-2 c = search needs
 
-search-requires-3 : tie.Need-search-requires-3
-search-requires-3 c κs = search needs
+solve-requires : tie.Need-solve-requires
+solve-requires c κs = search needs
 
-print-plain-requires : tie.Need-print-plain-requires
-print-plain-requires c κs = search needs
+print-sss-requires : tie.Need-print-sss-requires
+print-sss-requires c κs = search needs
 
 same-length-10 : tie.Need-same-length-10
 same-length-10 c = search needs
@@ -85,9 +89,31 @@ same-length-10 c = search needs
 same-length-11 : tie.Need-same-length-11
 same-length-11 c = search needs
 
+same-length-12 : tie.Need-same-length-12
+same-length-12 c = search needs
+
 returns-4 : tie.Need-returns-4
 returns-4 c =
-    by-plain _ _ _ _ _ _ (c .before .before .before .before .before .before .before .before .enum-told3 .given .1) (c .before .before .before .before .before .search3 .ensures)
+    by-sss _ _ _ _ _ _ _ (c .before .before .before .before .before .before .before .before .before .before .before .before .method2 .given .1) (c .before .before .before .before .before .before .before .solve .ensures)
+
+enum-told-3 : tie.Need-enum-told-3
+enum-told-3 c = search needs
+
+search-requires-4 : tie.Need-search-requires-4
+search-requires-4 c κs = search needs
+
+print-plain-requires : tie.Need-print-plain-requires
+print-plain-requires c κs = search needs
+
+same-length-13 : tie.Need-same-length-13
+same-length-13 c = search needs
+
+same-length-14 : tie.Need-same-length-14
+same-length-14 c = search needs
+
+returns-5 : tie.Need-returns-5
+returns-5 c =
+    by-plain _ _ _ _ _ _ (c .before .before .before .before .before .before .before .before .enum-told3 .given .1) (c .before .before .before .before .before .search4 .ensures)
 
 pub print-answer-spec : {M : Type 1} → statement M
 print-answer-spec =
@@ -108,15 +134,22 @@ print-answer-spec =
     same-length-6
     returns-2
     enum-known-method
-    solve-requires
-    print-sss-requires
+    search-requires-3
+    print-mtdf-requires
     same-length-7
     same-length-8
     same-length-9
     returns-3
-    enum-told-3
-    search-requires-3
-    print-plain-requires
+    enum-known-method-2
+    solve-requires
+    print-sss-requires
     same-length-10
     same-length-11
-    returns-4)
+    same-length-12
+    returns-4
+    enum-told-3
+    search-requires-4
+    print-plain-requires
+    same-length-13
+    same-length-14
+    returns-5)
