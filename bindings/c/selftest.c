@@ -56,133 +56,156 @@ static buulset_answer plain(const uint8_t *t, size_t n, uint8_t *e, size_t el, u
     return buulset_plain(t, n, e, el, c, cl);
 }
 
-/* Every call on an accepted table of n nodes, with the file that it was read from. */
-static void accepted(const uint8_t *table, size_t n, const uint8_t *file, size_t length) {
-    typedef buulset_answer (*search)(const uint8_t *, size_t, uint8_t *, size_t, uint8_t *, size_t, uint16_t *, size_t);
-    static const search searches[] = {plain, buulset_alphabeta, buulset_mtd, full_sss};
-    uint16_t *order = malloc(n * sizeof *order);
-    size_t size = BUULSET_FRAME_SIZE * n, leaves = 0;
-    for (size_t k = 0; k < n; k++) leaves += buulset_children(table, size, k).count == 0;
-    uint8_t *marks = filled(n, 7), *flags = filled(n, 7), *other = filled(n, 7);
-    int16_t value = 0;
-    for (int i = 0; i < 4; i++) {
-        memset(order, 0xFF, n * sizeof *order);
-        buulset_answer r = searches[i](table, size, marks, n, flags, n, order, n);
-        EXPECT(!r.refused && !r.spent && (i == 0 || r.value == value));
-        value = r.value;
-        size_t marked = 0;
-        for (size_t k = 0; k < n; k++) marked += marks[k];
-        EXPECT(marked == (i == 0 ? leaves : r.leaves));
-        for (size_t k = 0; k < n; k++) EXPECT(k < r.leaves ? order[k] < n && marks[order[k]] : order[k] == 0xFFFF);
-        EXPECT(buulset_verify(table, size, flags, n).value == value && !buulset_verify(table, size, flags, n).refused);
-        if (i == 0) memcpy(other, flags, n);
-        memset(marks, 7, n);
-        memset(flags, 7, n);
-        r = searches[i](table, size, marks, n - 1, flags, n, order, n); /* a short buffer: nothing is written */
-        EXPECT(r.refused == BUULSET_SHORT_BUFFER && r.place == 0 && all(marks, n, 7) && all(flags, n, 7));
-        if (i > 0) {
-            r = searches[i](table, size, marks, n, flags, n, order, n - 1);
-            EXPECT(r.refused == BUULSET_SHORT_BUFFER && all(marks, n, 7) && all(flags, n, 7));
-        }
-        searches[i](table, size, marks, n, flags, n, order, n);
-    }
-    buulset_choice choice = buulset_shorter(table, size, other, n, flags, n);
-    EXPECT(!choice.refused && (choice.chosen == 1 || choice.chosen == 2) && choice.count == n);
-    memset(flags, 7, n);
-    buulset_answer r = buulset_sss(table, size, marks, n, flags, n, order, n, 0);
-    EXPECT(!r.refused && r.spent == 1 && r.merit == BUULSET_NOTHING_YET && r.leaves == 0);
-    EXPECT(all(marks, n, 0) && all(flags, n, 7));
-    EXPECT(buulset_verify(table, size, flags, n).refused == BUULSET_WRONG_FLAG);
-    choice = buulset_shorter(table, size, flags, n, other, n);
-    EXPECT(!choice.refused && choice.chosen == 2 && choice.count == n);
-    choice = buulset_shorter(table, size, flags, n, flags, n);
-    EXPECT(choice.refused == BUULSET_WRONG_FLAG && !choice.chosen && !choice.count);
+typedef buulset_answer (*search)(const uint8_t *, size_t, uint8_t *, size_t, uint8_t *, size_t, uint16_t *, size_t);
+static const search searches[] = {plain, buulset_alphabeta, buulset_mtd, full_sss};
 
-    uint8_t *written = filled(BUULSET_LINE_SIZE * n + 3, 7);
-    r = buulset_write(table, size, written, BUULSET_LINE_SIZE * n + 3);
+/* An accepted table of n nodes, with what is lent to the calls on it. */
+typedef struct lent {
+    const uint8_t *table;
+    size_t n, size, leaves;
+    uint8_t *marks, *flags;
+    uint16_t *order;
+} lent;
+
+static buulset_answer searched(const lent *t, int which, size_t marks, size_t order) {
+    return searches[which](t->table, t->size, t->marks, marks, t->flags, t->n, t->order, order);
+}
+
+static buulset_answer verified(const lent *t) {
+    return buulset_verify(t->table, t->size, t->flags, t->n);
+}
+
+/* One search: its marks, list and certificate, and short buffers, after which nothing is written. Gives its value. */
+static int16_t one_search(const lent *t, int which) {
+    size_t n = t->n, marked = 0;
+    memset(t->order, 0xFF, n * sizeof *t->order);
+    buulset_answer r = searched(t, which, n, n);
+    EXPECT(!r.refused && !r.spent);
+    for (size_t k = 0; k < n; k++) marked += t->marks[k];
+    EXPECT(marked == (which == 0 ? t->leaves : r.leaves));
+    for (size_t k = 0; k < n; k++)
+        EXPECT(k < r.leaves ? t->order[k] < n && t->marks[t->order[k]] : t->order[k] == 0xFFFF);
+    EXPECT(verified(t).value == r.value && !verified(t).refused);
+    memset(t->marks, 7, n);
+    memset(t->flags, 7, n);
+    buulset_answer no = searched(t, which, n - 1, n);
+    EXPECT(no.refused == BUULSET_SHORT_BUFFER && no.place == 0 && all(t->marks, n, 7) && all(t->flags, n, 7));
+    if (which > 0) {
+        no = searched(t, which, n, n - 1);
+        EXPECT(no.refused == BUULSET_SHORT_BUFFER && all(t->marks, n, 7) && all(t->flags, n, 7));
+    }
+    searched(t, which, n, n);
+    return r.value;
+}
+
+/* A certificate that is accepted, as the last search left it, beside one that is not: what a spent run leaves. */
+static void certificates(const lent *t) {
+    size_t n = t->n;
+    uint8_t *good = filled(n, 7);
+    memcpy(good, t->flags, n);
+    buulset_choice choice = buulset_shorter(t->table, t->size, good, n, t->flags, n);
+    EXPECT(!choice.refused && choice.chosen == 1 && choice.count == n);
+    memset(t->flags, 7, n);
+    buulset_answer r = buulset_sss(t->table, t->size, t->marks, n, t->flags, n, t->order, n, 0);
+    EXPECT(!r.refused && r.spent == 1 && r.merit == BUULSET_NOTHING_YET && r.leaves == 0);
+    EXPECT(all(t->marks, n, 0) && all(t->flags, n, 7));
+    EXPECT(verified(t).refused == BUULSET_WRONG_FLAG);
+    choice = buulset_shorter(t->table, t->size, t->flags, n, good, n);
+    EXPECT(!choice.refused && choice.chosen == 2 && choice.count == n);
+    choice = buulset_shorter(t->table, t->size, t->flags, n, t->flags, n);
+    EXPECT(choice.refused == BUULSET_WRONG_FLAG && !choice.chosen && !choice.count);
+    free(good);
+}
+
+/* The table written, which gives the file that it was read from, and read back; then filled. */
+static void written_and_filled(const lent *t, const uint8_t *file, size_t length) {
+    size_t n = t->n, size = t->size;
+    uint8_t *written = filled(BUULSET_LINE_SIZE * n + 3, 7), *again = filled(size, 7);
+    buulset_answer r = buulset_write(t->table, size, written, BUULSET_LINE_SIZE * n + 3);
     EXPECT(!r.refused && r.count == BUULSET_LINE_SIZE * n && all(written + r.count, 3, 7));
     EXPECT(memcmp(written, file, length) == 0);
-    uint8_t *again = filled(size, 7);
-    EXPECT(buulset_read(written, r.count, again, size).count == n && memcmp(again, table, size) == 0);
+    EXPECT(buulset_read(written, r.count, again, size).count == n && memcmp(again, t->table, size) == 0);
     EXPECT(buulset_read(written, r.count, again, size - 1).refused == BUULSET_SHORT_BUFFER);
     buulset_line line = buulset_read_line(written, r.count, 0);
-    EXPECT(line.read == 1 && line.at == 13 && memcmp(line.bytes, table, 6) == 0);
-
-    /* the last node is a leaf */
-    r = buulset_least_value(table, size, n - 1, value);
-    EXPECT(!r.refused);
+    EXPECT(line.read == 1 && line.at == 13 && memcmp(line.bytes, t->table, 6) == 0);
     r = buulset_fill(again, size);
-    EXPECT(!r.refused && r.leaves == leaves);
-    EXPECT(searches[1](again, size, marks, n, flags, n, order, n).leaves == leaves);
+    EXPECT(!r.refused && r.leaves == t->leaves);
+    r = buulset_alphabeta(again, size, t->marks, n, t->flags, n, t->order, n);
+    EXPECT(r.leaves == t->leaves);
+    free(written), free(again);
+}
 
-    for (size_t k = 0; k < n; k++) {
+/* The table grafted onto each of its nodes. */
+static void grafts(const lent *t) {
+    size_t size = t->size;
+    for (size_t k = 0; k < t->n; k++) {
         uint8_t *result = filled(2 * size, 7);
-        r = buulset_graft(table, size, k, table, size, result, 2 * size);
+        buulset_answer r = buulset_graft(t->table, size, k, t->table, size, result, 2 * size);
         if (!r.refused) {
-            EXPECT(r.count == 2 * n - 1 && buulset_check(result, 6 * r.count).count == r.count);
+            EXPECT(r.count == 2 * t->n - 1 && buulset_check(result, 6 * r.count).count == r.count);
             EXPECT(all(result + 6 * r.count, 6, 7));
         } else {
             EXPECT(r.refused == BUULSET_NO_MAX_LEAF || r.refused == BUULSET_TOO_LARGE);
         }
         free(result);
     }
-    size_t next = 1; /* the children are all nodes behind the root, in their order */
-    for (size_t k = 0; k < n; k++) {
-        buulset_children_of children = buulset_children(table, size, k);
-        EXPECT(children.first == (children.count ? next : 0));
-        next += children.count;
-    }
-    EXPECT(next == n);
-    free(marks), free(flags), free(order), free(other), free(written), free(again);
 }
 
-int main(int argc, char **argv) {
-    if (argc < 2) return 2;
-    int files = 0;
-    DIR *d = opendir(argv[1]);
-    for (struct dirent *e; d && (e = readdir(d));) {
-        size_t l = strlen(e->d_name);
-        if (l < 5 || strcmp(e->d_name + l - 5, ".tree")) continue;
-        char path[4096];
-        uint8_t *file, *want;
-        snprintf(path, sizeof path, "%s/%s", argv[1], e->d_name);
-        size_t n = slurp(path, &file);
-        snprintf(path, sizeof path, "%s/%.*s.expected", argv[1], (int)(l - 5), e->d_name);
-        size_t w = slurp(path, &want);
-        if (!file || !want) {
-            perror(path);
-            return 2;
-        }
-        buulset_text text = buulset_report(file, n);
-        EXPECT(text.length == w && !memcmp(text.bytes, want, w) && all(text.bytes + w, sizeof text.bytes - w, 0));
-        uint8_t *table = malloc(BUULSET_MAX_TABLE);
-        buulset_answer r = buulset_read(file, n, table, BUULSET_MAX_TABLE);
-        if (r.refused) {
-            text = buulset_refused(r.refused, r.place);
-            EXPECT(text.length == w && !memcmp(text.bytes, want, w));
-        } else {
-            uint8_t *exact = malloc(6 * r.count);
-            memcpy(exact, table, 6 * r.count);
-            accepted(exact, r.count, file, n);
-            free(exact);
-        }
-        free(want), free(table);
-        snprintf(path, sizeof path, "%s/%.*s.capitals", argv[1], (int)(l - 5), e->d_name);
-        w = slurp(path, &want);
-        if (w != SIZE_MAX) {
-            uint8_t *converted = malloc(BUULSET_MAX_FILE);
-            r = buulset_convert(file, n, converted, BUULSET_MAX_FILE);
-            EXPECT(!r.refused && r.count == w && !memcmp(converted, want, w));
-            r = buulset_capitals(file, n, converted, BUULSET_MAX_FILE);
-            EXPECT(!r.refused && r.count == w && !memcmp(converted, want, w));
-            free(converted), free(want);
-        }
-        free(file);
-        files++;
+/* Every call on an accepted table of n nodes, with the file that it was read from. */
+static void accepted(const uint8_t *table, size_t n, const uint8_t *file, size_t length) {
+    lent t = {table, n, BUULSET_FRAME_SIZE * n, 0, filled(n, 7), filled(n, 7), malloc(n * sizeof(uint16_t))};
+    size_t next = 1; /* the children are all nodes behind the root, in their order */
+    for (size_t k = 0; k < n; k++) {
+        buulset_children_of children = buulset_children(table, t.size, k);
+        EXPECT(children.first == (children.count ? next : 0));
+        next += children.count;
+        t.leaves += children.count == 0;
     }
-    if (d) closedir(d);
-    EXPECT(files > 0);
+    EXPECT(next == n);
+    int16_t value = one_search(&t, 0);
+    for (int which = 1; which < 4; which++) EXPECT(one_search(&t, which) == value);
+    EXPECT(!buulset_least_value(table, t.size, n - 1, value).refused); /* the last node is a leaf */
+    certificates(&t);
+    written_and_filled(&t, file, length);
+    grafts(&t);
+    free(t.marks), free(t.flags), free(t.order);
+}
 
+/* SAMPLES/NAME.tree, of which `name` is everything before the ending, against what is stored beside it. */
+static void sample(const char *name) {
+    char path[4096];
+    uint8_t *file, *want, *table = malloc(BUULSET_MAX_TABLE), *converted = malloc(BUULSET_MAX_FILE);
+    snprintf(path, sizeof path, "%s.tree", name);
+    size_t n = slurp(path, &file);
+    snprintf(path, sizeof path, "%s.expected", name);
+    size_t w = slurp(path, &want);
+    if (!file || !want) {
+        perror(path);
+        exit(2);
+    }
+    buulset_text text = buulset_report(file, n);
+    EXPECT(text.length == w && !memcmp(text.bytes, want, w) && all(text.bytes + w, sizeof text.bytes - w, 0));
+    buulset_answer r = buulset_read(file, n, table, BUULSET_MAX_TABLE);
+    if (r.refused) {
+        text = buulset_refused(r.refused, r.place);
+        EXPECT(text.length == w && !memcmp(text.bytes, want, w));
+    } else {
+        accepted(table = realloc(table, 6 * r.count), r.count, file, n);
+    }
+    free(want);
+    snprintf(path, sizeof path, "%s.capitals", name);
+    w = slurp(path, &want);
+    if (w != SIZE_MAX) {
+        r = buulset_convert(file, n, converted, BUULSET_MAX_FILE);
+        EXPECT(!r.refused && r.count == w && !memcmp(converted, want, w));
+        r = buulset_capitals(file, n, converted, BUULSET_MAX_FILE);
+        EXPECT(!r.refused && r.count == w && !memcmp(converted, want, w));
+    }
+    free(file), free(want), free(table), free(converted);
+}
+
+/* The ends of the range: no memory, the greatest numbers. */
+static void ends_of_the_range(void) {
     static const uint8_t leaf[6] = {0};
     uint8_t scratch[6] = {0};
     EXPECT(buulset_read(NULL, 0, NULL, 0).refused == BUULSET_EMPTY);
@@ -211,6 +234,23 @@ int main(int argc, char **argv) {
     EXPECT(buulset_least_leaves(0, 99).refused == BUULSET_WRONG_WIDTH);
     EXPECT(buulset_least_leaves(SIZE_MAX, 0).refused == BUULSET_WRONG_WIDTH);
     EXPECT(buulset_least_leaves(1, 19).refused == BUULSET_WRONG_DEPTH);
+}
+
+int main(int argc, char **argv) {
+    if (argc < 2) return 2;
+    int files = 0;
+    DIR *d = opendir(argv[1]);
+    for (struct dirent *e; d && (e = readdir(d));) {
+        size_t l = strlen(e->d_name);
+        if (l < 5 || strcmp(e->d_name + l - 5, ".tree")) continue;
+        char name[2048];
+        snprintf(name, sizeof name, "%s/%.*s", argv[1], (int)(l - 5), e->d_name);
+        sample(name);
+        files++;
+    }
+    if (d) closedir(d);
+    EXPECT(files > 0);
+    ends_of_the_range();
     printf("%d files, %d tests, %d failed\n", files, tests, failed);
     return failed != 0;
 }
