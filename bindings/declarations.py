@@ -149,7 +149,7 @@ WRONG = (
     (1, "uint32_t buulset_version(void);", ""),
     (1, "uint16_t *BUULSET_RESTRICT order", "uint8_t *BUULSET_RESTRICT order"),
     (1, "#define BUULSET_MAX_DEPTH 18", "#define BUULSET_MAX_DEPTH 24"),
-    (1, "#define BUULSET_VERSION 10000", "#define BUULSET_VERSION 10001"),
+    (1, "#define BUULSET_VERSION 10100", "#define BUULSET_VERSION 10101"),
     (2, "fn fill(table: &mut [u8])", "fn fill(table: &[u8])"),
     (2, "node: usize, wanted: i32", "wanted: i32, node: usize"),
     (2, "    pub leaves: usize,\n    pub steps: usize,", "    pub steps: usize,\n    pub leaves: usize,"),

@@ -18,8 +18,8 @@
  *
  *     report       162    least_value  54    convert        25    verify   17
  *     sss           99    alphabeta    51    read           25    shorter  17
- *     mtd           55    plain        50    capitals       25    graft    17
- *     least_leaves   3    fill          2                         every other call under 1
+ *     mtdf          67    plain        50    capitals       25    graft    17
+ *     mtd           55    least_leaves  3    fill            2    every other call under 1
  */
 #ifndef BUULSET_H
 #define BUULSET_H
@@ -37,7 +37,7 @@ extern "C" {
 /* The version of this header: 10,000 times the major, 100 times the minor, and the patch number. The major number is
  * raised by every change that a program compiled against an older header would not survive; compare it with that of the
  * library that is linked: buulset_version() / 10000 == BUULSET_VERSION / 10000. */
-#define BUULSET_VERSION 10000
+#define BUULSET_VERSION 10100
 
 /* SIZES */
 
@@ -96,7 +96,7 @@ typedef struct buulset_answer {
     size_t count;     /* nodes, or bytes of a file */
     size_t root_move; /* number of a child of the root; 0 where the root is a leaf */
     size_t leaves;
-    size_t steps; /* passes of mtd, replacements of sss */
+    size_t steps; /* passes of mtd, tests of mtdf, replacements of sss */
 } buulset_answer;
 
 /* Which of two certificates is chosen, and how many of its flags count, from its front. */
@@ -178,6 +178,13 @@ buulset_answer buulset_plain(const uint8_t *table, size_t table_len, uint8_t *BU
 buulset_answer buulset_mtd(const uint8_t *table, size_t table_len, uint8_t *BUULSET_RESTRICT evaluated,
                            size_t evaluated_len, uint8_t *BUULSET_RESTRICT certificate, size_t certificate_len,
                            uint16_t *BUULSET_RESTRICT order, size_t order_len);
+
+/* MTD(f) from the value `start`, any number: a guess of the value, such as the one that the tree had before a leaf was
+ * changed. It never changes the value or the move, only how many leaves it takes. Gives value, root_move, leaves, steps
+ * (tests put to the root). */
+buulset_answer buulset_mtdf(const uint8_t *table, size_t table_len, int32_t start, uint8_t *BUULSET_RESTRICT evaluated,
+                            size_t evaluated_len, uint8_t *BUULSET_RESTRICT certificate, size_t certificate_len,
+                            uint16_t *BUULSET_RESTRICT order, size_t order_len);
 
 /* SSS* that evaluates at most `allowance` leaves. Gives value, root_move, leaves, steps (replacements); or spent,
  * merit, leaves, steps: then the marks and the list so far are written, and the certificate keeps its contents. */

@@ -50,6 +50,11 @@ static buulset_answer full_sss(const uint8_t *t, size_t n, uint8_t *e, size_t el
     return buulset_sss(t, n, e, el, c, cl, o, ol, BUULSET_NO_LIMIT);
 }
 
+static buulset_answer from_zero(const uint8_t *t, size_t n, uint8_t *e, size_t el, uint8_t *c, size_t cl, uint16_t *o,
+                                size_t ol) {
+    return buulset_mtdf(t, n, 0, e, el, c, cl, o, ol);
+}
+
 static buulset_answer plain(const uint8_t *t, size_t n, uint8_t *e, size_t el, uint8_t *c, size_t cl, uint16_t *o,
                             size_t ol) {
     (void)o, (void)ol;
@@ -57,7 +62,7 @@ static buulset_answer plain(const uint8_t *t, size_t n, uint8_t *e, size_t el, u
 }
 
 typedef buulset_answer (*search)(const uint8_t *, size_t, uint8_t *, size_t, uint8_t *, size_t, uint16_t *, size_t);
-static const search searches[] = {plain, buulset_alphabeta, buulset_mtd, full_sss};
+static const search searches[] = {plain, buulset_alphabeta, buulset_mtd, from_zero, full_sss};
 
 /* An accepted table of n nodes, with what is lent to the calls on it. */
 typedef struct lent {
@@ -163,7 +168,7 @@ static void accepted(const uint8_t *table, size_t n, const uint8_t *file, size_t
     }
     EXPECT(next == n);
     int16_t value = one_search(&t, 0);
-    for (int which = 1; which < 4; which++) EXPECT(one_search(&t, which) == value);
+    for (int which = 1; which < 5; which++) EXPECT(one_search(&t, which) == value);
     EXPECT(!buulset_least_value(table, t.size, n - 1, value).refused); /* the last node is a leaf */
     certificates(&t);
     written_and_filled(&t, file, length);

@@ -19,7 +19,8 @@ static size_t length, size, nodes;
 
 static const char *const names[] = {
     "",    "read",   "read_line", "write", "convert",     "check", "children",     "alphabeta", "plain",   "mtd",
-    "sss", "verify", "shorter",   "graft", "least_value", "fill",  "least_leaves", "report",    "refused", "capitals"};
+    "sss", "verify", "shorter",   "graft", "least_value", "fill",  "least_leaves", "report",    "refused", "capitals",
+    "mtdf"};
 enum { CALLS = sizeof names / sizeof *names };
 
 static void *run(void *which) {
@@ -48,6 +49,7 @@ static void *run(void *which) {
     case 17: buulset_report(file, length); break;
     case 18: buulset_refused(3, 15); break;
     case 19: buulset_capitals(file, length, text, sizeof text); break;
+    case 20: buulset_mtdf(table, size, 0, marks, sizeof marks, flags, sizeof flags, order, BUULSET_MAX_NODES); break;
     }
     return NULL;
 }

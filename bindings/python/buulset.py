@@ -54,6 +54,7 @@ CALLS = {
     "alphabeta": (_SEARCH + _ORDER, Answer),
     "plain": (_SEARCH, Answer),
     "mtd": (_SEARCH + _ORDER, Answer),
+    "mtdf": (_BYTES + [ctypes.c_int32] + _LENT + _LENT + _ORDER, Answer),
     "sss": (_SEARCH + _ORDER + [SIZE], Answer),
     "verify": (_BYTES + _BYTES, Answer),
     "shorter": (_BYTES + _BYTES + _BYTES, Choice),

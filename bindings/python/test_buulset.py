@@ -25,6 +25,11 @@ for path in sorted(pathlib.Path(sys.argv[2]).glob("*.tree")):
             assert buulset.call("verify", table[:6 * n], flags).value == found.value, path
             line = "%s %d %d %d" % ({"alphabeta": "ab"}.get(name, name), found.value, found.root_move, found.leaves)
             assert line in want.split("\n"), (path, line)
+        most = buulset.call("alphabeta", table[:6 * n], bytearray(n), bytearray(n), order)
+        for start in (most.value, most.value - 5, most.value + 5, -1 << 31, 32001):
+            found = buulset.call("mtdf", table[:6 * n], start, marks, flags, order)
+            assert (found.value, found.root_move) == (most.value, most.root_move) and found.leaves <= most.leaves, path
+            assert buulset.call("verify", table[:6 * n], flags).value == found.value, path
     files += 1
 assert files > 0
 try:

@@ -141,18 +141,23 @@ fn searched(arguments: &Arguments, method: &OsStr, tree: &Tree) -> Result<Search
         Some("mtd") => tree.mtd(),
         Some("sss") => tree.sss(),
         Some("plain") => tree.plain(),
-        _ => return Err(no_method(arguments, method)),
+        _ => tree.mtdf(start(method).ok_or_else(|| no_method(arguments, method))?),
     })
 }
 
+/// The starting value of mtdf:N.
+fn start(method: &OsStr) -> Option<i32> {
+    method.to_str()?.strip_prefix("mtdf:")?.parse().ok()
+}
+
 fn no_method(arguments: &Arguments, method: &OsStr) -> Failure {
-    arguments.wrong(format!("METHOD is ab, mtd, sss or plain, not {}", method.to_string_lossy()))
+    arguments.wrong(format!("METHOD is ab, mtd, mtdf:N, sss or plain, not {}", method.to_string_lossy()))
 }
 
 /// METHOD and FILE: the method is looked at before the file.
 fn method_and_tree(arguments: &mut Arguments) -> Result<(OsString, Tree), Failure> {
     let method = arguments.word("METHOD")?;
-    if !["ab", "mtd", "sss", "plain"].iter().any(|m| method == *m) {
+    if !["ab", "mtd", "sss", "plain"].iter().any(|m| method == *m) && start(&method).is_none() {
         return Err(no_method(arguments, &method));
     }
     let name = arguments.word("FILE")?;
@@ -180,7 +185,7 @@ fn search(words: Vec<OsString>) -> Done {
     if method != "plain" {
         line += &format!(" {}", found.leaves);
     }
-    if method == "mtd" || method == "sss" {
+    if method != "ab" && method != "plain" {
         line += &format!(" {}", found.steps);
     }
     files::print(format!("{line}\n").as_bytes())

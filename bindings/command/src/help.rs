@@ -18,7 +18,8 @@ usage: buulset COMMAND ARGUMENT..
   draw FILE                         a picture of the tree and its solution trees, as SVG
   explain [NUMBER]                  what a question asks that got a \"no\"
 
-METHOD is ab, mtd, sss or plain. FILE is a tree file; - is standard input. `buulset COMMAND --help` has examples.
+METHOD is ab, mtd, mtdf:N (MTD(f) from the value N), sss or plain. FILE is a tree file; - is standard input.
+`buulset COMMAND --help` has examples.
 Exit status: 0 a result, 1 refused, 2 wrong use or a file that cannot be read, 3 output that cannot be written.
 ";
 
@@ -65,13 +66,16 @@ could not be read.
         "\
 usage: buulset search METHOD FILE [--leaves N] [--quiet]
 
-One search, METHOD ab, mtd, sss or plain, on one line: the method, the value, the root move (0 where the root is a
-leaf), the number of evaluated leaves, and the passes of mtd or the replacements of sss; plain counts neither.
+One search, METHOD ab, mtd, mtdf:N, sss or plain, on one line: the method, the value, the root move (0 where the root is
+a leaf), the number of evaluated leaves, and the passes of mtd, the tests of mtdf or the replacements of sss; plain
+counts neither. mtdf:N starts from the value N, a guess: it never changes the value or the move, only how many leaves it
+takes.
 
   --leaves N    sss evaluates N leaves at most; where it needs more: `spent`, the merit (the root's value is at most
                 this; 32001 says nothing yet), the leaves and the replacements so far
 
   buulset search mtd samples/ending.tree
+  buulset search mtdf:-20 samples/ending.tree
   buulset search sss samples/ending.tree --leaves 10
 ",
     ),
@@ -80,7 +84,7 @@ leaf), the number of evaluated leaves, and the passes of mtd or the replacements
         "\
 usage: buulset order METHOD FILE [--quiet]
 
-The evaluated leaves in the order in which METHOD, ab, mtd or sss, evaluates them: a line each, with the node's number
+The evaluated leaves in the order in which METHOD, ab, mtd, mtdf:N or sss, evaluates them: a line each, with the node's number
 and the leaf's worth.
 
   buulset order sss samples/seven.tree
@@ -91,8 +95,8 @@ and the leaf's worth.
         "\
 usage: buulset certify METHOD FILE [--quiet]
 
-A certificate of the root's value, as METHOD, ab, mtd, sss or plain, finds it: one line with a digit for each node, 1 in
-the max solution tree, 2 in the min solution tree, 3 in both, 0 in neither. `buulset verify` checks it.
+A certificate of the root's value, as METHOD, ab, mtd, mtdf:N, sss or plain, finds it: one line with a digit for each
+node, 1 in the max solution tree, 2 in the min solution tree, 3 in both, 0 in neither. `buulset verify` checks it.
 
   buulset certify sss samples/ending.tree > ending.certificate
 ",
@@ -198,7 +202,7 @@ usage: buulset draw FILE [--method METHOD] [--certificate FILE] [--watch] [--all
 A picture of the tree as SVG, for any browser: the root at the left, a leaf a row, the evaluated leaves with their
 number in the order, the two solution trees drawn out, what was passed over drawn together.
 
-  --method METHOD      ab, mtd, sss (if nothing is said) or plain
+  --method METHOD      ab, mtd, mtdf:N, sss (if nothing is said) or plain
   --certificate FILE   draws the solution trees of this certificate; without --method, nothing else
   --watch              lets the leaves light up in their order
   --all                draws what was passed over, too

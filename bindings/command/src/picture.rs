@@ -226,7 +226,8 @@ impl<'a> Picture<'a> {
                 Some("ab") => ("Alpha-beta", String::new()),
                 Some("mtd") => ("MTD", format!(" in {} passes", found.steps)),
                 Some("sss") => ("SSS*", format!(" in {} replacements", found.steps)),
-                _ => ("The plain engine", String::new()),
+                Some("plain") => ("The plain engine", String::new()),
+                _ => ("MTD(f)", format!(" in {} tests of the root", found.steps)),
             };
             lines.push(match search.order.len() {
                 0 => format!("{who} evaluated all {leaves} leaves."),

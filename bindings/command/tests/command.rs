@@ -158,7 +158,11 @@ fn search_gives_one_line() {
     assert_eq!(prints(&["search", "sss", "--leaves", "4,096", "samples/seven.tree"]), "sss 3 2 3 9\n");
     is_wrong_use(&["search", "ab", "samples/seven.tree", "--leaves", "2"], "--leaves is an allowance of sss");
     is_wrong_use(&["search", "sss", "samples/seven.tree", "--leaves", "-2"], "no number that fits");
-    is_wrong_use(&["search", "minimax", "samples/seven.tree"], "METHOD is ab, mtd, sss or plain, not minimax");
+    assert_eq!(prints(&["search", "mtdf:3", "samples/seven.tree"]), "mtdf:3 3 2 3 1\n");
+    assert_eq!(prints(&["search", "mtdf:-32001", "samples/seven.tree"]), "mtdf:-32001 3 2 4 2\n");
+    assert_eq!(prints(&["order", "mtdf:3", "samples/seven.tree"]), prints(&["order", "sss", "samples/seven.tree"]));
+    is_wrong_use(&["search", "mtdf:", "samples/seven.tree"], "METHOD is ab, mtd, mtdf:N, sss or plain, not mtdf:");
+    is_wrong_use(&["search", "minimax", "samples/seven.tree"], "METHOD is ab, mtd, mtdf:N, sss or plain, not minimax");
     is_wrong_use(&["search", "ab"], "FILE is missing");
     is_refused(&run(&["search", "ab", "samples/refused-7.tree"]), "refused 7 0", &["the leaf holds 32001"]);
 }
@@ -487,6 +491,7 @@ fn pictures_show_what_is_asked() {
     let ab = draw(&["--method", "ab"]);
     assert!(ab.contains("Alpha-beta evaluated 15 of 19"));
     assert!(draw(&["--method=mtd"]).contains("MTD evaluated 11 of 19 leaves in 4 passes"));
+    assert!(draw(&["--method=mtdf:-20"]).contains("MTD(f) evaluated"));
     let plain = draw(&["--method", "plain"]);
     assert!(plain.contains("all 19 leaves") && !plain.contains("passed over"));
     // everything has a hint, also what was passed over
@@ -503,7 +508,7 @@ fn pictures_show_what_is_asked() {
     let folder = Folder::new("draw");
     let bad = folder.file("bad", "3\n");
     is_refused(&run(&["draw", "samples/ending.tree", "--certificate", &bad]), "refused 10 0", &["bad"]);
-    is_wrong_use(&["draw", "samples/ending.tree", "--method", "x"], "METHOD is ab, mtd, sss or plain");
+    is_wrong_use(&["draw", "samples/ending.tree", "--method", "x"], "METHOD is ab, mtd, mtdf:N, sss or plain");
     // a root that is a leaf, and a win
     let leaf = folder.file("leaf", "000000007B0C\n");
     assert!(prints(&["draw", &leaf]).contains("Value 31500<"));

@@ -89,6 +89,7 @@ exported! {
     fn alphabeta(table: &[u8], evaluated: &mut [u8], certificate: &mut [u8], order: &mut [u16]) -> Answer;
     fn plain(table: &[u8], evaluated: &mut [u8], certificate: &mut [u8]) -> Answer;
     fn mtd(table: &[u8], evaluated: &mut [u8], certificate: &mut [u8], order: &mut [u16]) -> Answer;
+    fn mtdf(table: &[u8], start: i32, evaluated: &mut [u8], certificate: &mut [u8], order: &mut [u16]) -> Answer;
     fn sss(table: &[u8], evaluated: &mut [u8], certificate: &mut [u8], order: &mut [u16], allowance: usize) -> Answer;
     fn verify(table: &[u8], certificate: &[u8]) -> Answer;
     fn shorter(table: &[u8], first: &[u8], second: &[u8]) -> Choice;

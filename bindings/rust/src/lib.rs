@@ -45,7 +45,7 @@ pub const MAX_TABLE: usize = FRAME_SIZE * MAX_NODES;
 pub const MAX_FILE: usize = LINE_SIZE * MAX_NODES;
 /// The version of this crate: 10,000 times the major, 100 times the minor, and the patch number. [`version`] is that of
 /// the library that is linked.
-pub const VERSION: u32 = 10000;
+pub const VERSION: u32 = 10100;
 
 /// The first question that got a "no" (docs/SPEC.md, section 4).
 #[derive(Clone, Copy, PartialEq, Eq, Hash, Debug)]
@@ -109,7 +109,7 @@ pub struct Found {
     pub root_move: Option<usize>,
     /// How many leaves were evaluated; [`plain`] counts none.
     pub leaves: usize,
-    /// Passes of MTD, replacements of SSS*, and 0 for the others.
+    /// Passes of MTD, tests of MTD(f), replacements of SSS*, and 0 for the others.
     pub steps: usize,
 }
 
@@ -278,6 +278,29 @@ pub fn plain(table: &[u8], evaluated: &mut [u8], certificate: &mut [u8]) -> Resu
 /// MTD: as [`alphabeta`], and `steps` are its passes.
 pub fn mtd(table: &[u8], evaluated: &mut [u8], certificate: &mut [u8], order: &mut [u16]) -> Result<Found, Refusal> {
     answered(ffi::mtd(table, evaluated, certificate, order)).map(found)
+}
+
+/// MTD(f) from the value `start`, any number: as [`alphabeta`], and `steps` are the tests put to the root. The start, a
+/// guess of the value, never changes the value or the move, only how many leaves it takes.
+///
+/// ```
+/// # let mut table = [0; 42];
+/// # let file = b"000102000000\n000302000000\n000502000000\n000000000001\n000000000002\n000000000003\n000000000004\n";
+/// # buulset::read(file, &mut table)?;
+/// let (mut evaluated, mut certificate, mut order) = ([9; 7], [9; 7], [9; 7]);
+/// let found = buulset::mtdf(&table, 3, &mut evaluated, &mut certificate, &mut order)?;
+/// assert_eq!((found.value, found.leaves, found.steps), (3, 3, 1));
+/// assert_eq!(order, [3, 5, 6, 9, 9, 9, 9]);
+/// # Ok::<(), buulset::Refusal>(())
+/// ```
+pub fn mtdf(
+    table: &[u8],
+    start: i32,
+    evaluated: &mut [u8],
+    certificate: &mut [u8],
+    order: &mut [u16],
+) -> Result<Found, Refusal> {
+    answered(ffi::mtdf(table, start, evaluated, certificate, order)).map(found)
 }
 
 /// SSS* that evaluates at most `allowance` leaves: as [`alphabeta`], and `steps` are its replacements. Where the

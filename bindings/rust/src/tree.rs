@@ -108,6 +108,11 @@ impl Tree {
         self.search(mtd)
     }
 
+    /// MTD(f) from the value `start`, a guess of the value.
+    pub fn mtdf(&self, start: i32) -> Search {
+        self.search(|t, e, c, o| mtdf(t, start, e, c, o))
+    }
+
     /// SSS* without an allowance.
     pub fn sss(&self) -> Search {
         self.sss_within(MAX_NODES).expect("no tree has more leaves than MAX_NODES")

@@ -69,6 +69,7 @@ fn searched(method: Method, t: &[u8], lent: Lent) -> Result<Within, Refusal> {
         Method::AlphaBeta => buulset::alphabeta(t, e, c, o).map(Within::Found),
         Method::Plain => buulset::plain(t, e, c).map(Within::Found),
         Method::Mtd => buulset::mtd(t, e, c, o).map(Within::Found),
+        Method::Mtdf(start) => buulset::mtdf(t, start, e, c, o).map(Within::Found),
         Method::Sss(allowance) => buulset::sss(t, e, c, o, allowance),
     }
 }
@@ -147,9 +148,10 @@ fn compare_table(t: &[u8], n: usize, rng: &mut Rng) {
 /// Every search, with room enough and with room that may be short; the certificates that were found.
 fn compare_searches(t: &[u8], n: usize, rng: &mut Rng) -> Vec<Vec<u8>> {
     let rooms = [n, n + rng.below(9), n.saturating_sub(1 + rng.below(3))];
+    let start = rng.pick(&[i32::MIN, -32001, -1, 0, 1, 31000, 32001, i32::MAX]);
     let within = [buulset::MAX_NODES, rng.below(n + 2)].map(Method::Sss);
     let mut certificates = Vec::new();
-    for method in [Method::AlphaBeta, Method::Plain, Method::Mtd].into_iter().chain(within) {
+    for method in [Method::AlphaBeta, Method::Plain, Method::Mtd, Method::Mtdf(start)].into_iter().chain(within) {
         let enough = [(); 3].map(|()| rng.pick(&rooms[..2]));
         if let Some((value, certificate)) = compare_search(method, t, enough, rng) {
             assert_eq!(buulset::verify(t, &certificate), Ok(value));
@@ -316,7 +318,7 @@ fn every_answer_was_given() {
     let with = |more: &[u8]| [&table, more].concat();
     was_given("check", &table);
     was_given("fill", &table);
-    for what in ["alphabeta", "plain", "mtd", "sss", "write"] {
+    for what in ["alphabeta", "plain", "mtd", "mtdf", "sss", "write"] {
         was_given(what, &with(&[10]));
     }
     for what in ["verify", "shorter"] {

@@ -20,6 +20,7 @@ use Rattle.alphabeta.specs.declared.Answer as alphabeta
 use Rattle.plain.specs.declared.Answer as plain
 use Rattle.plain.specs.declared.Found as plainFound
 use Rattle.mtd.specs.declared.Answer as mtd
+use Rattle.mtdf.specs.declared.Answer as mtdf
 use Rattle.sss.specs.declared.Answer as sss
 use Rattle.sss.specs.declared.Spent.{Spent}
 use Rattle.verify.specs.declared.Verdict as verify
@@ -36,9 +37,9 @@ use Rattle.buulset.specs.declared.Children.{Children}
 use Rattle.buulset.specs.declared.Line.{Line}
 use Rattle.buulset.specs.declared.Text.{Text}
 
--- the version of the library: 1.0.0
+-- the version of the library: 1.1.0
 abbrev pub version : ℕ
-version = 10000
+version = 10100
 
 -- a result with its value, count, root move, leaves and steps
 abbrev pub result : ℤ → (count move leaves steps : ℕ) → Answer
@@ -121,6 +122,10 @@ flatPlain (plain.the-variants.Rejected r) = refused r
 unfoldable pub flatMtd : mtd.Answer → Answer
 flatMtd (mtd.the-variants.Found f) = found (f .findings) (f .passes)
 flatMtd (mtd.the-variants.Rejected r) = refused r
+
+unfoldable pub flatMtdf : mtdf.Answer → Answer
+flatMtdf (mtdf.the-variants.Found f) = found (f .findings) (f .tests)
+flatMtdf (mtdf.the-variants.Rejected r) = refused r
 
 unfoldable pub flatSss : sss.Answer → Answer
 flatSss (sss.the-variants.Found f) = found (f .findings) (f .replacements)

@@ -19,6 +19,7 @@ ghost use Rattle.convert.specs.Printed.{outputOutcome};
 ghost use Rattle.alphabeta.specs.Outcome.{alphaBetaOutcome};
 ghost use Rattle.plain.specs.Outcome.{plainOutcome};
 ghost use Rattle.mtd.specs.Outcome.{mtdOutcome};
+ghost use Rattle.mtdf.specs.Outcome.{mtdfOutcome};
 ghost use Rattle.sss.specs.Outcome.{solveOutcome};
 ghost use Rattle.verify.specs.Check.{verdict};
 ghost use Rattle.shorter.specs.Choice.{choice, chosenFlags};
@@ -30,15 +31,15 @@ ghost use Rattle.report.specs.Report.{report};
 ghost use Rattle.text.specs.Text.{refusedLine, textOf};
 ghost use Rattle.buulset.specs.Flat.{counted as countedOf, leavesOf, valued as valuedOf, found as foundOf};
 ghost use Rattle.buulset.specs.Flat.{moved as movedOf, spent as spentOf, refused as refusedOf, flatText};
-ghost use Rattle.buulset.specs.Flat.{flatChecked, flatWritten, flatAlphaBeta, flatPlain, flatMtd, flatSss};
-ghost use Rattle.buulset.specs.Flat.{flatVerdict, flatNeeded, flatFilled, flatLeast, version};
+ghost use Rattle.buulset.specs.Flat.{flatChecked, flatWritten, flatAlphaBeta, flatPlain, flatMtd, flatMtdf};
+ghost use Rattle.buulset.specs.Flat.{flatSss, flatVerdict, flatNeeded, flatFilled, flatLeast, version};
 ghost use Rattle.buulset.specs.Flat.{flatChoice, chosen as chosenOf, noChoice as noChoiceOf};
 ghost use Rattle.buulset.specs.Flat.{flatChildren, noChildren, partOf};
 ghost use Rattle.buulset.specs.Flat.{flatWrite, flatGraft, flatFill, flatSearch, flatListed};
 ghost use Rattle.buulset.specs.Flat.{readLine as readOf, noLine as noLineOf, flatLine};
 
 // The version of these declarations, as 10,000 times the major, plus 100 times the minor, plus the patch number.
-const VERSION: u32 = 10000;
+const VERSION: u32 = 10100;
 
 // The answer of a call. `refused` is 0, or the number of the first question that got a "no", and then `place` is its
 // place.
@@ -54,7 +55,7 @@ pub struct Answer {
     pub count: usize,
     pub root_move: usize,
     pub leaves: usize,
-    // passes of MTD, replacements of SSS*
+    // passes of MTD, tests of MTD(f), replacements of SSS*
     pub steps: usize,
 }
 
@@ -222,6 +223,25 @@ pub extern "C" fn buulset_mtd(
         (now (certificate .entry)) (now (order .entry))) ⌝ }
 {
     flat_mtd(mtd::search(table, evaluated, certificate, order))
+}
+
+// `mtdf::search` from the value `start`: value, root move, leaves; `steps` are its tests of the root.
+#[no_mangle]
+pub extern "C" fn buulset_mtdf(
+    table: &[u8],
+    start: i32,
+    evaluated: &mut [u8],
+    certificate: &mut [u8],
+    order: &mut [u16],
+) -> Answer
+    ensures { λ r. ⌜ record {
+      order = now (order .exit);
+      search = record { answer = r; evaluated = now (evaluated .exit); certificate = now (certificate .exit) };
+    }
+        ≡ flatListed flatMtdf (mtdfOutcome start (now (table .entry)) (now (evaluated .entry))
+        (now (certificate .entry)) (now (order .entry))) ⌝ }
+{
+    flat_mtdf(mtdf::search(table, start, evaluated, certificate, order))
 }
 
 // `sss::solve`: value, root move, leaves; `steps` are its replacements. Where the allowance is spent: merit, leaves,
@@ -492,6 +512,19 @@ fn flat_mtd(answer: mtd::Answer) -> Answer
             found(findings, f.passes)
         },
         mtd::Answer::Rejected(rejection) => refused(rejection),
+    }
+}
+
+// That of MTD(f), flat.
+fn flat_mtdf(answer: mtdf::Answer) -> Answer
+    ensures { λ r. ⌜ r ≡ flatMtdf answer ⌝ }
+{
+    match answer {
+        mtdf::Answer::Found(f) => {
+            let findings = f.findings;
+            found(findings, f.tests)
+        },
+        mtdf::Answer::Rejected(rejection) => refused(rejection),
     }
 }
 

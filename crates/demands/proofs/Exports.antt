@@ -14,6 +14,7 @@ use Rattle.convert.specs.Printed.{outputOutcome}
 use Rattle.alphabeta.specs.Outcome.{alphaBetaOutcome}
 use Rattle.plain.specs.Outcome.{plainOutcome}
 use Rattle.mtd.specs.Outcome.{mtdOutcome}
+use Rattle.mtdf.specs.Outcome.{mtdfOutcome}
 use Rattle.sss.specs.Outcome.{solveOutcome}
 use Rattle.verify.specs.Check.{verdict}
 use Rattle.shorter.specs.Choice.{choice, chosenFlags}
@@ -26,7 +27,7 @@ use Rattle.text.specs.Text.{refusedLine, textOf}
 use Rattle.buulset.proofs as buulset
 use Rattle.buulset.specs.Flat.{version, partOf, flatChecked, flatLine, flatChildren, flatText, flatVerdict, flatChoice}
 use Rattle.buulset.specs.Flat.{flatNeeded, flatLeast, flatWrite, flatGraft, flatFill, flatSearch, flatListed}
-use Rattle.buulset.specs.Flat.{flatAlphaBeta, flatPlain, flatMtd, flatSss}
+use Rattle.buulset.specs.Flat.{flatAlphaBeta, flatPlain, flatMtd, flatMtdf, flatSss}
 use Rattle.demands.specs.Runs.{Runs}
 
 pub exported-version : Runs buulset.buulset_version.ended buulset.buulset_version.Symbol.routine
@@ -90,6 +91,12 @@ pub exported-mtd : Runs buulset.buulset_mtd.ended buulset.buulset_mtd.Symbol.rou
     record { order = o′ .now; search = record { answer = r; evaluated = m′ .now; certificate = f′ .now } }
     ≡ flatListed flatMtd (mtdOutcome (t .now) (m .now) (f .now) (o .now)))
 exported-mtd = record { meets = buulset.buulset_mtd.Met.met }
+
+pub exported-mtdf : Runs buulset.buulset_mtdf.ended buulset.buulset_mtdf.Symbol.routine
+    (λ κs (t, (v, (m, (f, (o, _))))) r (_, (_, (m′, (f′, (o′, _))))).
+    record { order = o′ .now; search = record { answer = r; evaluated = m′ .now; certificate = f′ .now } }
+    ≡ flatListed flatMtdf (mtdfOutcome v (t .now) (m .now) (f .now) (o .now)))
+exported-mtdf = record { meets = buulset.buulset_mtdf.Met.met }
 
 pub exported-sss : Runs buulset.buulset_sss.ended buulset.buulset_sss.Symbol.routine
     (λ κs (t, (m, (f, (o, (n, _))))) r (_, (m′, (f′, (o′, _)))).

@@ -312,6 +312,44 @@ impl Tree {
         }
     }
 
+    fn mtdf(&self, mut start: i32, out: &mut Vec<usize>) -> (i32, usize) {
+        let (mut low, mut high) = (vec![LOW; self.n], vec![HIGH; self.n]);
+        let mut tests = 0;
+        while low[0] != high[0] {
+            let not_below = self.not_below(0, start.clamp(low[0] + 1, high[0]), &mut low, &mut high, out);
+            start = if not_below { low[0] + 1 } else { high[0] };
+            tests += 1;
+        }
+        let value = low[0];
+        if !self.leaf(0) {
+            self.enter(0, value, &mut low, &mut high, out);
+        }
+        (value, tests)
+    }
+
+    fn not_below(&self, k: usize, test: i32, low: &mut [i32], high: &mut [i32], out: &mut Vec<usize>) -> bool {
+        if high[k] < test || low[k] >= test {
+            return low[k] >= test;
+        }
+        if !self.leaf(k) {
+            return self.enter(k, test, low, high, out);
+        }
+        out.push(k);
+        (low[k], high[k]) = (self.worth[k], self.worth[k]);
+        self.worth[k] >= test
+    }
+
+    fn enter(&self, k: usize, test: i32, low: &mut [i32], high: &mut [i32], out: &mut Vec<usize>) -> bool {
+        let mut kids = self.kids[k].clone();
+        let answer = if self.max[k] {
+            kids.any(|c| self.not_below(c, test, low, high, out))
+        } else {
+            kids.all(|c| self.not_below(c, test, low, high, out))
+        };
+        (low[k], high[k]) = (self.best(k, low), self.best(k, high));
+        answer
+    }
+
     /// The end of the run: what stands for a value where it is finished, and the merit where it is spent; replacements.
     fn sss(&self, allowance: usize, out: &mut Vec<usize>) -> (Result<i32, i32>, usize) {
         let mut list = List { states: BTreeSet::new(), at: vec![None; self.n] };
@@ -411,6 +449,7 @@ pub enum Method {
     AlphaBeta,
     Plain,
     Mtd,
+    Mtdf(i32),
     Sss(usize),
 }
 
@@ -420,6 +459,7 @@ impl Method {
             Method::AlphaBeta => "alphabeta",
             Method::Plain => "plain",
             Method::Mtd => "mtd",
+            Method::Mtdf(_) => "mtdf",
             Method::Sss(_) => "sss",
         }
     }
@@ -449,6 +489,10 @@ pub fn search(method: Method, table: &[u8], lent: Lent) -> Answer<Within> {
         Method::Mtd => {
             let (value, passes) = tree.mtd(&mut out);
             (Ok(value), passes)
+        }
+        Method::Mtdf(start) => {
+            let (value, tests) = tree.mtdf(start, &mut out);
+            (Ok(value), tests)
         }
         Method::Sss(allowance) => tree.sss(allowance, &mut out),
     };
