@@ -3,9 +3,11 @@ use mathlib.Core.Path.{_≡_}
 use mathlib.Core.Bool.{true, false}
 use mathlib.Core.List.{List}
 use Prim.Native.Nat.{ℕ}
-use lib.ListN.{length}
+use lib.ListN.{length, replicate}
+use Rattle.frames.specs.Frame.{maxNodes}
 use Rattle.frames.specs.Formed.{WellFormed}
 use Rattle.states.specs.declared.State.{State}
+use Rattle.states.specs.Entry.{blank}
 use Rattle.turns.specs.declared.Run.{Run}
 use Rattle.places.specs.engine.Places.{Placed}
 use Rattle.turns.specs.engine.Update.{updated, Within}
@@ -32,3 +34,18 @@ pub record Driven (t w : List ℕ) (l : List State) (b o : List ℕ) (r : Run) (
   pub stopped : going (c .run .stage) ≡ false
   pub ran : going (r .stage) ≡ true → Running (r .counts .allowance) t l b o c
   pub stayed : going (r .stage) ≡ false → c ≡ record { front = w; list = l; marks = b; order = o; run = r }
+
+-- the same of a front of zeros and a list of blank entries
+abbrev pub PreparedOwn : (t F b o : List ℕ) → Run → Type 0
+PreparedOwn t F b o r = Prepared t F (replicate maxNodes 0) (replicate maxNodes blank) b o r
+
+pub record DrivenOwn (t b o : List ℕ) (r : Run) (b′ o′ : List ℕ) (r′ : Run) : Type 0 where
+  pub front : List ℕ
+  pub list : List State
+  pub driven : Driven t (replicate maxNodes 0) (replicate maxNodes blank) b o r (record {
+    front = front;
+    list = list;
+    marks = b′;
+    order = o′;
+    run = r′;
+  })

@@ -1,0 +1,65 @@
+-- A run over a front and a list of its own that no allowance stops: what it leaves is what SSS* finds.
+use Prim.Native.Nat.{ℕ, _≤_}
+use native.Mathlib.Omega.{arith}
+use mathlib.Core.Path.{_≡_, ap, _∙_, subst}
+use mathlib.Core.Bool.{Bool, true, false, cond}
+use mathlib.Core.Option.{none}
+use mathlib.Core.List.{List, []}
+use lib.ListN.{length, replicate}
+use Rattle.lists.proofs.Choice.{clash}
+use Rattle.gametree.specs.Tree.{greatest}
+use Rattle.frames.specs.declared.Checked.the-variants.{Nodes}
+use Rattle.frames.specs.Frame.{maxNodes, frames}
+use Rattle.frames.specs.Formed.{WellFormed}
+use Rattle.places.specs.Buffer.{written}
+use Rattle.certificate.specs.Search.{marksOf, listed}
+use Rattle.states.specs.Entry.{blank}
+use Rattle.turns.specs.declared.Run.{Run}
+use Rattle.turns.specs.engine.Turn.{going, Config}
+use Rattle.sss.specs.declared.Found.{Found}
+use Rattle.sss.specs.declared.Spent.{Spent}
+use Rattle.sss.specs.declared.Answer.{Answer}
+use Rattle.sss.specs.declared.Answer.the-variants.{Found as FoundAnswer, Spent as SpentAnswer}
+use Rattle.sss.specs.engine.Invariant.{Running}
+use Rattle.sss.specs.engine.Driven.{DrivenOwn}
+use Rattle.sss.specs.engine.Start.{begun}
+use Rattle.sss.specs.engine.Finish.{isSpent, endMerit, foundBy, spentBy}
+use Rattle.sss.specs.Outcome.{sssLeaves, sssFound, outcomeBy}
+use Rattle.sss.proofs.Allowed.{leaves-few, enough}
+use Rattle.sss.proofs.Whole.{answerable, run-answers}
+
+-- an answer with findings has no others
+found-only : (x : Bool) (s : Spent) (f g : Found)
+    → _≡_ {A = Answer} (cond x (SpentAnswer s) (FoundAnswer f)) (FoundAnswer g) → f ≡ g
+found-only true s f g e = clash (cc)
+found-only false s f g e = cc
+
+module _ (t : List ℕ) (wf : WellFormed t) (b o b₁ : List ℕ) (r : Run) (cleared : b₁ ≡ written (λ k. 0) (frames t) b)
+    (begins : r ≡ begun maxNodes (Nodes (frames t))) {b′ o′ : List ℕ} {r′ : Run} (d : DrivenOwn t b₁ o r b′ o′ r′) where
+  abbrev config : Config
+  config = record { front = d .front; list = d .list; marks = b′; order = o′; run = r′ }
+
+  ran : Running maxNodes t (replicate maxNodes blank) (written (λ k. 0) (frames t) b) o config
+  ran =
+      subst (λ m. Running m t (replicate maxNodes blank) (written (λ k. 0) (frames t) b) o config)
+      (ap (λ x. x .counts .allowance) begins)
+      (subst (λ y. Running (r .counts .allowance) t (replicate maxNodes blank) y o config) cleared
+      (d .driven .ran (ap (λ x. going (x .stage)) begins)))
+
+  -- what the root move and the value are read off
+  pub own-asks : frames t ≤ length b → (frames t ≤ length b′) × (endMerit (r′ .stage) ≤ greatest)
+  own-asks i =
+      let a = answerable t wf maxNodes _ b o config ran (d .driven .stopped) b i i in
+      (a .marks, a .merit)
+
+  -- no tree has more leaves than are allowed, so the run finds
+  pub own-gives : (foundBy t b′ (endMerit (r′ .stage)) (r′ .counts) ≡ sssFound t)
+      × ((b′ ≡ marksOf (sssLeaves t) t b) × (o′ ≡ listed (sssLeaves t) o))
+  own-gives =
+      let e =
+      run-answers t wf maxNodes _ b o config ran (d .driven .stopped) []
+      ∙ ap (λ xs. outcomeBy xs maxNodes t b [] o none)
+      (enough t wf maxNodes (omega (arith, leaves-few t wf, wf .few))) in (
+        found-only (isSpent (r′ .stage)) (spentBy (endMerit (r′ .stage)) (r′ .counts)) _ _ (ap (λ x. x .search .answer) e),
+        (ap (λ x. x .search .evaluated) e, ap (λ x. x .order) e),
+      )

@@ -1,0 +1,81 @@
+-- `sss::find` meets its contract: the steps of a search, in order.
+use native.Mathlib.Omega.{arith}
+use mathlib.Core.Path.{_≡_, ap, _∙_}
+use lib.ListN.{length-replicate}
+use borrow.Author.Needs.{needs}
+use Rattle.frames.specs.Frame.{maxNodes, frames}
+use Rattle.places.specs.Buffer.{written}
+use Rattle.states.specs.declared.State.{State}
+use Rattle.states.specs.Entry.{blank}
+use Rattle.sss.proofs.Starting.{zeros, zeros-workable, prepared-at}
+use Rattle.sss.proofs.Own.{own-asks, own-gives}
+use Rattle.sss.proofs.find.Statement.{statement}
+use Rattle.sss.proofs.find.Tie as tie
+
+-- the function's entry, from the clearing on, and the clearing, from the run on
+abbrev start : tie.After-clear → tie.Start
+start c = c .before .before .before .before .before .before .before
+
+abbrev clearing : tie.After-drive-own → tie.After-clear
+clearing c = c .before .before .before .before .before .before
+
+-- the marks after the clearing
+cleared : (c : tie.After-clear)
+    → c .clear .last .0 ≡ written (λ _. 0) (frames (start c .args .table .now)) (start c .args .evaluated .now)
+cleared c =
+    c .clear .ensures
+    ∙ ap (λ m. written (λ _. 0) m (start c .args .evaluated .now)) (c .before .before .frame-count .ensures)
+
+frame-count-requires : tie.Need-frame-count-requires
+frame-count-requires c κs = search needs
+
+clear-requires : tie.Need-clear-requires
+clear-requires c κs = search needs
+
+begun-requires : tie.Need-begun-requires
+begun-requires c κs = search needs
+
+drive-own-requires : tie.Need-drive-own-requires
+drive-own-requires c κs =
+    let k = c .before .before .before .before .before in
+    let p = start k .pre in
+    let wf = p .0 .0 in
+    rw (c .before .before .begun .ensures, cleared k)
+    (prepared-at maxNodes _ _ _ (zeros maxNodes) _ wf (omega (arith, wf .few, length-replicate {A = State} maxNodes blank))
+    (p .1 .0) (p .1 .1) (zeros-workable _ maxNodes (λ w. w .few) (omega arith) wf .1) _ (p .0 .1))
+
+found-alone-requires : tie.Need-found-alone-requires
+found-alone-requires c κs =
+    let d = c .before .before .before .before .before in
+    let k = clearing d in
+    let p = start k .pre in
+    let b = d .before .before .before in
+    (p .0, own-asks _ (p .0 .0) _ _ _ _ (cleared k) (b .begun .ensures) (d .drive-own .ensures) (p .1 .0))
+
+same-length : tie.Need-same-length
+same-length c = search needs
+
+same-length-2 : tie.Need-same-length-2
+same-length-2 c = search needs
+
+returns : tie.Need-returns
+returns c =
+    let f = c .before .before in
+    let d = f .before .before .before .before .before .before in
+    let k = clearing d in
+    let b = d .before .before .before in
+    let g = own-gives _ (start k .pre .0 .0) _ _ _ _ (cleared k) (b .begun .ensures) (d .drive-own .ensures) in
+    (f .found-alone .ensures .0 ∙ g .0, (f .found-alone .ensures .1 ∙ g .1 .0, g .1 .1))
+
+pub find-spec : {M : Type 1} → statement M
+find-spec =
+    tie.close
+    (tie.spec
+    frame-count-requires
+    clear-requires
+    begun-requires
+    drive-own-requires
+    found-alone-requires
+    same-length
+    same-length-2
+    returns)
