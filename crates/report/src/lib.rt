@@ -4,6 +4,7 @@ use frames::Checked;
 use frames::FRAME_SIZE;
 use frames::MAX_NODES;
 use frames::MAX_TABLE;
+use places::fill;
 use text::LINE_FEED;
 pub use text::TEXT_SIZE;
 pub use text::Text;
@@ -56,7 +57,7 @@ fn put_analysis(table: &[u8], text: &mut [u8]) -> usize
     let first = put_bytes(text, 0, b"method value move leaves\n");
     let second = put_ab(table, &mut evaluated, &mut order, text, first);
     let third = put_mtd(table, &mut evaluated, &mut order, text, second);
-    put_sss(table, text, third)
+    put_sss(table, &mut evaluated, &mut order, text, third)
 }
 
 // The line of alpha-beta; the position behind it.
@@ -94,24 +95,22 @@ fn put_mtd(
     put_line(text, at, b"mtd", findings)
 }
 
-// The line of SSS*, with an allowance that never stops it: no tree has more leaves.
-fn put_sss(table: &[u8], text: &mut [u8], at: usize) -> usize
-    requires { ⌜ Accepted (now table) × TextRoom at (sssLine (now table)) (now text) ⌝ }
+// The line of SSS*, which goes by the places of the nodes.
+fn put_sss(
+    table: &[u8],
+    evaluated: &mut [u8],
+    order: &mut [u16],
+    text: &mut [u8],
+    at: usize,
+) -> usize
+    requires { ⌜ WellFormed (now table) ⌝ }
+    requires { ⌜ (frames (now table) ≤ length (now evaluated)) × (frames (now table) ≤ length (now order)) ⌝ }
+    requires { ⌜ TextRoom at (sssLine (now table)) (now text) ⌝ }
     ensures { λ r. ⌜ Put at (sssLine (now (table .entry))) (now (text .entry)) r (now (text .exit)) ⌝ }
 {
-    let mut evaluated = [0u8; MAX_NODES];
-    let mut certificate = [0u8; MAX_NODES];
-    let mut order = [0u16; MAX_NODES];
-    let answer = sss::solve(
-        table,
-        &mut evaluated,
-        &mut certificate,
-        &mut order,
-        MAX_NODES,
-    );
-    let sss::Answer::Found(found) = answer else {
-        return at;
-    };
+    let mut places = [0u32; MAX_NODES];
+    fill(table, &mut places);
+    let found = sss::find(table, &places, evaluated, order);
     let findings = found.findings;
     put_line(text, at, b"sss", findings)
 }

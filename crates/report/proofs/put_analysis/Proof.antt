@@ -50,22 +50,36 @@ put-mtd-requires c κs =
       ),
     )
 
+slice-aggregate-put-sss : tie.Need-slice-aggregate-put-sss
+slice-aggregate-put-sss c = search needs
+
+slice-aggregate-put-sss-2 : tie.Need-slice-aggregate-put-sss-2
+slice-aggregate-put-sss-2 c = search needs
+
 put-sss-requires : tie.Need-put-sss-requires
 put-sss-requires c κs =
-    let m = c .before .before .before .before .before in
+    let m = c .before .before .before .before .before .before .before in
     let a = m .before .before .before .before .before .before .before .before in
     let h = a .before .before .before .before .before .before in
     let r = start h .pre in
     let r₁ = room-rest _ (h .put-bytes .ensures) (r .1) in
-    (r .0, room-rest _ (m .put-mtd .ensures) (room-rest _ (a .put-ab .ensures) r₁))
+    let room = fresh-room _ (r .0) in
+    let k = a .put-ab .kept .1 in
+    let l = m .put-mtd .kept .1 in (
+      accepted-formed _ (r .0),
+      (
+        (omega (arith, k .0, l .0), omega (arith, k .1 .0, l .1 .0)),
+        room-rest _ (m .put-mtd .ensures) (room-rest _ (a .put-ab .ensures) r₁),
+      ),
+    )
 
 same-length : tie.Need-same-length
 same-length c = search needs
 
 returns : tie.Need-returns
 returns c =
-    let s = c .before .before in
-    let m = s .before .before .before .before .before .before in
+    let s = c .before .before .before .before in
+    let m = s .before .before .before .before .before .before .before .before in
     let a = m .before .before .before .before .before .before .before .before in
     let h = a .before .before .before .before .before .before in
     let r = start h .pre .1 in
@@ -86,6 +100,8 @@ put-analysis-spec =
     slice-aggregate-put-mtd
     slice-aggregate-put-mtd-2
     put-mtd-requires
+    slice-aggregate-put-sss
+    slice-aggregate-put-sss-2
     put-sss-requires
     same-length
     returns)
