@@ -111,6 +111,27 @@ start-free m c = (
   move-first (mtdf m) ∙ sym (move-first c),
 )
 
+-- so two calls of `mtdf::search` with one table give the same value and the same move, whatever they start from
+pub starts-agree : RunBoth mtdf-proofs.search.ended mtdf-proofs.search.ended mtdf-proofs.search.Symbol.routine
+    mtdf-proofs.search.Symbol.routine
+    (λ κs (t, _) r e κs′ (u, _) r′ e′. u .now ≡ t .now
+    → (g : Found) → r ≡ mtdf-answer.Found g → (h : Found) → r′ ≡ mtdf-answer.Found h
+    → (g .findings .value ≡ h .findings .value) × (g .findings .«root_move» ≡ h .findings .«root_move»))
+starts-agree =
+    record {
+      one = _;
+      other = _;
+      oneRuns = contracts.mtdf-search;
+      otherRuns = contracts.mtdf-search;
+      both = λ κs (t, (v, (m, (f, (o, _))))) r (_, (_, (m′, (f′, (o′, _))))) s.
+          λ κs′ (u, (w, (x, (y, (z, _))))) r′ (_, (_, (x′, (y′, (z′, _))))) c same g i h j.
+          start-free
+          (mtdfCall (t .now) (buffers (m .now) (f .now)) (o .now) v (mtdf-answer.Found g)
+          (buffers (m′ .now) (f′ .now)) (o′ .now) (rw i at s))
+          (mtdf (mtdfCall (t .now) (buffers (x .now) (y .now)) (z .now) w (mtdf-answer.Found h)
+          (buffers (x′ .now) (y′ .now)) (z′ .now) (rw same at (rw j at c))));
+    }
+
 module _ {t : List ℕ} {f : Found} (c : MtdfCall t (mtdf-answer.Found f)) where
   -- the tests are those that the rule puts to the root
   pub tests-are : f .tests ≡ rule (startScore (c .start)) (valuation t) (tree t) .tests
@@ -195,3 +216,26 @@ local-mtdf {t} {u} c d v h a =
       same-left x y h a e,
       same-order x y h a e,
     )
+
+-- the same of the function as it runs
+pub mtdf-local : RunBoth mtdf-proofs.search.ended mtdf-proofs.search.ended mtdf-proofs.search.Symbol.routine
+    mtdf-proofs.search.Symbol.routine
+    (λ κs (t, (v, _)) r (_, (_, (m, (f, (o, _))))) κs′ (u, (w, _)) r′ (_, (_, (m′, (f′, (o′, _))))). v ≡ w
+    → (g h : Found) → r ≡ mtdf-answer.Found g → r′ ≡ mtdf-answer.Found h → SameShape (t .now) (u .now)
+    → AgreeOnMarked (t .now) (u .now) (buffers (m .now) (f .now))
+    → (g ≡ h) × Alike (frames (t .now)) (buffers (m .now) (f .now)) (buffers (m′ .now) (f′ .now))
+    × (take (g .findings .leaves) (o .now) ≡ take (h .findings .leaves) (o′ .now)))
+mtdf-local =
+    record {
+      one = _;
+      other = _;
+      oneRuns = contracts.mtdf-search;
+      otherRuns = contracts.mtdf-search;
+      both = λ κs (t, (v, (m, (f, (o, _))))) r (_, (_, (m′, (f′, (o′, _))))) s.
+          λ κs′ (u, (w, (x, (y, (z, _))))) r′ (_, (_, (x′, (y′, (z′, _))))) c e g h i j.
+          local-mtdf
+          (mtdfCall (t .now) (buffers (m .now) (f .now)) (o .now) v (mtdf-answer.Found g)
+          (buffers (m′ .now) (f′ .now)) (o′ .now) (rw i at s))
+          (mtdfCall (u .now) (buffers (x .now) (y .now)) (z .now) w (mtdf-answer.Found h)
+          (buffers (x′ .now) (y′ .now)) (z′ .now) (rw j at c)) e;
+    }
