@@ -10,7 +10,7 @@ use Rattle.gametree.specs.Mtd.{settles}
 use Rattle.gametree.specs.Tests.{Tested, passedOn, test, testKids}
 use Rattle.frames.specs.Tree.{valuation}
 use Rattle.mtdf.specs.declared.Tried.{Tried}
-use Rattle.mtdf.specs.engine.Memory.{Memory, soFar, Evaluated, Counted, Visited}
+use Rattle.mtdf.specs.engine.Memory.{Memory, soFar, Evaluated, Counted, VisitedBy}
 use Rattle.mtdf.proofs.Arrays.{evaluated-none, evaluated-more}
 
 -- the test of the children of a node after the leaves evaluated so far
@@ -35,7 +35,7 @@ pub owes-all : (t : List ℕ) (γ : ℕ) (s : Side) (ks : Kids) (m : Memory) →
 owes-all t γ s ks m = record { done = []; so-far = evaluated-none _; evaluated = refl; answer = refl }
 
 module _ {t : List ℕ} {γ : ℕ} {s : Side} {ks : Kids} {m m′ m″ : Memory} {T : Tree} {r : Tried}
-    (p : Visited t T γ m′ m″ r) where
+    (p : VisitedBy t T γ m′ m″ r) where
   -- a child whose test is that of all the children left ends the loop
   owes-end : {rest : Kids} → Owes t γ s ks rest m m′ → testKidsOf t γ s m′ rest ≡ test (valuation t) γ (soFar m′) T
       → DoneKids t γ s ks m m″ (r .answer)

@@ -30,7 +30,7 @@ use Rattle.bounds.proofs.Listing.{ones-none, ones-few}
 use Rattle.mtdf.specs.declared.Tried.{Tried}
 use Rattle.mtdf.specs.declared.Settled.{Settled}
 use Rattle.mtdf.specs.engine.Memory.{Memory, memory, soFar, MemoryRoom, Bounded, BoundsRight, Counted, VisitReady}
-use Rattle.mtdf.specs.engine.Memory.{Evaluated, Visited, Fresh, runOf, Met}
+use Rattle.mtdf.specs.engine.Memory.{Evaluated, VisitedBy, Fresh, drivenOf, Met}
 use Rattle.mtdf.proofs.Arrays.{Long, room-kept, evaluated-none, evaluated-more}
 
 -- the bounds have met, or another test follows
@@ -73,9 +73,9 @@ pub record Driving (t : List ℕ) (f : ℕ) (m m′ : Memory) (wish tests : ℕ)
   pub reaches : Reaches (valuation t) least greatest (tree t) (soFar m′)
   pub spare : ℕ
   pub enough : length (leaves (tree t)) < spare + length (soFar m′)
-  pub value : runOf f t .value ≡ driveOf t f spare answers (soFar m′) .value
-  pub all : runOf f t .evaluated ≡ driveOf t f spare answers (soFar m′) .evaluated
-  pub tested : length (runOf f t .tests) ≡ tests + length (driveOf t f spare answers (soFar m′) .tests)
+  pub value : drivenOf f t .value ≡ driveOf t f spare answers (soFar m′) .value
+  pub all : drivenOf f t .evaluated ≡ driveOf t f spare answers (soFar m′) .evaluated
+  pub tested : length (drivenOf f t .tests) ≡ tests + length (driveOf t f spare answers (soFar m′) .tests)
 
 module _ (t : List ℕ) (f : ℕ) (e o l h : List ℕ) (fresh : Fresh t (memory 0 e o l h)) where
   abbrev none : Memory
@@ -90,7 +90,7 @@ module _ (t : List ℕ) (f : ℕ) (e o l h : List ℕ) (fresh : Fresh t (memory 
       }
 
   driving-none : Driving t f none none f 0
-  unfolding runOf
+  unfolding drivenOf
   driving-none =
       record {
         long = record { evaluated = refl; order = refl; lows = refl; highs = refl };
@@ -161,7 +161,7 @@ module _ {t : List ℕ} {f : ℕ} {m m′ : Memory} {wish tests : ℕ} (wf : Wel
   -- they have not: the test γ, brought between them, is put to the root
   module _ (apart : getD (m′ .lows) 0 0 ≡ getD (m′ .highs) 0 0 → ⊥) {γ : ℕ}
       (chosen : γ ≡ clamp (getD (m′ .lows) 0 0 + 1) (getD (m′ .highs) 0 0) wish) {m″ : Memory} {r : Tried}
-      (p : Visited t (tree t) γ m′ m″ r) where
+      (p : VisitedBy t (tree t) γ m′ m″ r) where
     abbrev w : List ℕ
     w = soFar m′
 

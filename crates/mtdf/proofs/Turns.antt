@@ -24,7 +24,7 @@ use Rattle.frames.proofs.Nodes.{in-parent, in-trans, children-apart}
 use Rattle.mtd.proofs.Arrays.{bound-local}
 use Rattle.mtd.proofs.Turns.{kidsUpTo, kids-last, kids-more, Family, child}
 use Rattle.mtdf.specs.declared.Tried.{Tried}
-use Rattle.mtdf.specs.engine.Memory.{Memory, soFar, Bounded, BoundsRight, Counted, VisitReady, Same, Visited}
+use Rattle.mtdf.specs.engine.Memory.{Memory, soFar, Bounded, BoundsRight, Counted, VisitReady, Same, VisitedBy}
 use Rattle.mtdf.proofs.Arrays.{Long, room-kept, same-more}
 use Rattle.mtdf.proofs.Children.{DoneKids, Owes, owes-all, owes-last, owes-settled, owes-rest}
 
@@ -102,7 +102,7 @@ module _ {t : List ℕ} {i first end : ℕ} (family : Family t i first end) wher
       }
 
   module _ {s : Side} {γ : ℕ} {m m′ m″ : Memory} {now : ℕ} {r : Tried} (u : Turn t s γ first end m m′ now)
-      (p : Visited t (treeAt t now) γ m′ m″ r) where
+      (p : VisitedBy t (treeAt t now) γ m′ m″ r) where
     -- the bounds below the other children are as they were
     still-right : (k : ℕ) → first ≤ k → k < end → BoundsRight t m″ (treeAt t k)
     still-right k a b =

@@ -30,7 +30,7 @@ use Rattle.mtdf.specs.declared.Seen.{Seen}
 use Rattle.mtdf.specs.declared.Seen.the-variants.{Answered, Open}
 use Rattle.mtdf.specs.declared.Tried.{Tried}
 use Rattle.mtdf.specs.engine.Memory.{Memory, memory, progressOf, soFar, MemoryRoom, Bounded, BoundsRight, Counted}
-use Rattle.mtdf.specs.engine.Memory.{VisitReady, Done, enteredTest, Visited, Entered, Undecided, Looked}
+use Rattle.mtdf.specs.engine.Memory.{VisitReady, Done, enteredTest, VisitedBy, Entered, Undecided, Looked}
 use Rattle.mtdf.proofs.Arrays.{evaluated-none, leaf-evaluated, leaf-counted, among-own, among-other}
 use Rattle.mtdf.proofs.Turns.{Left}
 
@@ -80,14 +80,14 @@ module _ {t : List ℕ} {m : Memory} {p : Place} {i : ℕ} (ready : VisitReady t
   own = ready .right i (in-own t (ready .formed) i)
 
   -- its high is below the test
-  pub visit-below : {γ : ℕ} {r : Tried} → r .answer ≡ false → getD (m .highs) i 0 < γ → Visited t (treeAt t i) γ m m r
+  pub visit-below : {γ : ℕ} {r : Tried} → r .answer ≡ false → getD (m .highs) i 0 < γ → VisitedBy t (treeAt t i) γ m m r
   visit-below {γ} {r} a h =
       done-as (test-is-below (valuation t) γ (soFar m) (treeAt t i) (omega (arith, own .high)))
       (stay-done false r a (ready .counted) (ready .right))
 
   -- its low is not
   pub visit-not-below : {γ : ℕ} {r : Tried} → r .answer ≡ true → γ ≤ getD (m .highs) i 0 → γ ≤ getD (m .lows) i 0
-      → Visited t (treeAt t i) γ m m r
+      → VisitedBy t (treeAt t i) γ m m r
   visit-not-below {γ} {r} a h l =
       done-as
       (test-is-not-below (valuation t) γ (soFar m) (treeAt t i) (omega (arith, own .high)) (omega (arith, own .low)))
@@ -95,7 +95,7 @@ module _ {t : List ℕ} {m : Memory} {p : Place} {i : ℕ} (ready : VisitReady t
 
   -- neither: it is entered
   pub visit-open : {γ : ℕ} {m′ : Memory} {r : Tried} → γ ≤ getD (m .highs) i 0 → getD (m .lows) i 0 < γ
-      → Entered t (treeAt t i) γ m m′ r → Visited t (treeAt t i) γ m m′ r
+      → Entered t (treeAt t i) γ m m′ r → VisitedBy t (treeAt t i) γ m m′ r
   visit-open {γ} h l d =
       done-as
       (test-enters (valuation t) γ (soFar m) (treeAt t i) (omega (arith, own .high)) (omega (arith, own .low))) d
@@ -165,7 +165,7 @@ module _ {t : List ℕ} {m : Memory} {p : Place} {i : ℕ} (ready : VisitReady t
                 };
           }
 
-      pub visit-leaf : Visited t (treeAt t i) γ m m′ r
+      pub visit-leaf : VisitedBy t (treeAt t i) γ m m′ r
       visit-leaf =
           visit-open h l (subst (λ T. Done t T (enteredTest (valuation t) γ (soFar m) T) m m′ r) (sym is-leaf)
           leaf-entered)
@@ -173,12 +173,12 @@ module _ {t : List ℕ} {m : Memory} {p : Place} {i : ℕ} (ready : VisitReady t
 -- what a look at node i gives, by what it saw
 module _ (t : List ℕ) (i γ : ℕ) (m : Memory) (m′ : ℕ → Memory) (s : Seen) where
   -- a node that was not entered
-  pub looked-answer : (r : Tried) → s ≡ Answered r → Visited t (treeAt t i) γ m (m′ (r .leaves)) r → Looked t i γ m m′ s
+  pub looked-answer : (r : Tried) → s ≡ Answered r → VisitedBy t (treeAt t i) γ m (m′ (r .leaves)) r → Looked t i γ m m′ s
   looked-answer r e p = subst (Looked t i γ m m′) (sym e) p
 
   module _ (l : Looked t i γ m m′ s) where
     -- the node was answered
-    pub looked-visited : (r : Tried) → s ≡ Answered r → Visited t (treeAt t i) γ m (m′ (r .leaves)) r
+    pub looked-visited : (r : Tried) → s ≡ Answered r → VisitedBy t (treeAt t i) γ m (m′ (r .leaves)) r
     looked-visited r e = subst (Looked t i γ m m′) e l
 
     -- the node is open, and ready to be entered
@@ -193,7 +193,7 @@ module _ (t : List ℕ) (i γ : ℕ) (m : Memory) (m′ : ℕ → Memory) (s : S
 
       pub open-visited : {p : Place} {m″ : Memory} {r : Tried} → VisitReady t m i p
           → Entered t (treeAt t i) γ (m′ (m .leaves)) m″ r
-          → Visited t (treeAt t i) γ m m″ r
+          → VisitedBy t (treeAt t i) γ m m″ r
       open-visited {p} {m″} {r} ready d =
           let k = open-known in
           visit-open ready (k .1 .high) (k .1 .low)
@@ -201,8 +201,8 @@ module _ (t : List ℕ) (i γ : ℕ) (m : Memory) (m′ : ℕ → Memory) (s : S
 
 -- a test that left the same arrays and gave the same
 pub visited-same : {t : List ℕ} {T : Tree} (γ : ℕ) {m : Memory} {e e′ o o′ l l′ h h′ : List ℕ} {r r′ : Tried}
-    → e ≡ e′ → o ≡ o′ → l ≡ l′ → h ≡ h′ → r ≡ r′ → Visited t T γ m (memory (r′ .leaves) e′ o′ l′ h′) r′
-    → Visited t T γ m (memory (r .leaves) e o l h) r
+    → e ≡ e′ → o ≡ o′ → l ≡ l′ → h ≡ h′ → r ≡ r′ → VisitedBy t T γ m (memory (r′ .leaves) e′ o′ l′ h′) r′
+    → VisitedBy t T γ m (memory (r .leaves) e o l h) r
 visited-same γ p z q u v x = rw (p, z, q, u, v) x
 
 -- an inner node: its children were tested, and it gets the best of their bounds

@@ -36,7 +36,7 @@ use Rattle.mtdf.specs.declared.Settled.{Settled}
 use Rattle.mtdf.specs.declared.Tried.{Tried}
 use Rattle.mtdf.specs.Outcome.{decisionOf, mtdfLeaves, mtdfFound}
 use Rattle.mtdf.specs.engine.Memory.{Memory, memory, progressOf, soFar, MemoryRoom, VisitReady, Counted}
-use Rattle.mtdf.specs.engine.Memory.{Evaluated, Entered, Fresh, runOf, Met, Moved, Settles}
+use Rattle.mtdf.specs.engine.Memory.{Evaluated, Entered, Fresh, drivenOf, Met, MovedTo, Settles}
 use Rattle.mtdf.proofs.Arrays.{Long, room-kept, evaluated-none, evaluated-more}
 
 module _ (t : List ℕ) (wf : WellFormed t) where
@@ -74,7 +74,7 @@ module _ (t : List ℕ) (wf : WellFormed t) where
       }
 
   -- the last phase at a leaf, and at an inner root
-  pub moved-leaf : (v : ℕ) (m : Memory) → childCount t 0 ≡ 0 → Counted t m → Moved t v m m
+  pub moved-leaf : (v : ℕ) (m : Memory) → childCount t 0 ≡ 0 → Counted t m → MovedTo t v m m
   moved-leaf v m none c =
       let is = tree-leaf t wf 0 (wf .some) none in
       record {
@@ -84,7 +84,7 @@ module _ (t : List ℕ) (wf : WellFormed t) where
       }
 
   pub moved-inner : (v : ℕ) (m m′ : Memory) (r : Tried) → 0 < childCount t 0 → Entered t (tree t) v m m′ r
-      → Moved t v m m′
+      → MovedTo t v m m′
   moved-inner v m m′ r some d =
       let is = tree-kids (record { formed = wf; inside = wf .some; from = refl; to = refl }) Max
       (sym (ap (λ p. p .side) (place-root t))) (omega arith) in
@@ -99,9 +99,9 @@ module _ (t : List ℕ) (wf : WellFormed t) where
 
   -- both together
   pub settled-both : (f : ℕ) (e o l h : List ℕ) (m′ m″ : Memory) (s r : Settled) → Met t f (memory 0 e o l h) m′ s
-      → Moved t (s .score) m′ m″ → r .score ≡ s .score → r .tests ≡ s .tests
+      → MovedTo t (s .score) m′ m″ → r .score ≡ s .score → r .tests ≡ s .tests
       → Settles t f (progress 0 e o) (progressOf m″) r
-  unfolding decisionOf runOf
+  unfolding decisionOf drivenOf
   settled-both f e o l h m′ m″ s r x y p q =
       let same = ap₂ (λ v w. lastPhase (valuation t) v w (tree t) .evaluated) (x .score) (x .evaluated .listed) in
       record {
@@ -109,7 +109,7 @@ module _ (t : List ℕ) (wf : WellFormed t) where
         tests = q ∙ x .tests;
         evaluated =
             evaluated-more (x .evaluated) (y .evaluated) .all
-            ∙ ap (λ w. evaluateAll (progress 0 e o) (runOf f t .evaluated ++ w)) same;
+            ∙ ap (λ w. evaluateAll (progress 0 e o) (drivenOf f t .evaluated ++ w)) same;
         counted = y .counted .number;
       }
 

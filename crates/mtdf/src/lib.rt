@@ -39,8 +39,8 @@ ghost use Rattle.bounds.specs.engine.Evaluable.{Evaluable};
 ghost use Rattle.bounds.specs.engine.Progress.{progress, Listable};
 ghost use Rattle.certificate.specs.Search.{marksOf, flagsOf, listed};
 ghost use Rattle.mtdf.specs.Outcome.{startScore, mtdfLeaves, mtdfFound, mtdfOutcome};
-ghost use Rattle.mtdf.specs.engine.Memory.{memory, Fresh, VisitReady, Visited, Entered, Looked};
-ghost use Rattle.mtdf.specs.engine.Memory.{Settles, Met, Moved};
+ghost use Rattle.mtdf.specs.engine.Memory.{memory, Fresh, VisitReady, VisitedBy, Entered, Looked};
+ghost use Rattle.mtdf.specs.engine.Memory.{Settles, Met, MovedTo};
 
 // What MTD(f) finds: what every search finds, and how many tests were put to the root.
 pub struct Found {
@@ -252,7 +252,7 @@ fn find_move(
 ) -> usize
     requires { ⌜ VisitReady (now table) (memory leaves (now evaluated) (now order) (now lows) (now highs)) 0
         rootPlace ⌝ }
-    ensures { λ r. ⌜ Moved (now (table .entry)) score
+    ensures { λ r. ⌜ MovedTo (now (table .entry)) score
         (memory leaves (now (evaluated .entry)) (now (order .entry)) (now (lows .entry)) (now (highs .entry)))
         (memory r (now (evaluated .exit)) (now (order .exit)) (now (lows .exit)) (now (highs .exit))) ⌝ }
 {
@@ -288,7 +288,7 @@ fn visit(
 ) -> Tried
     requires { ⌜ VisitReady (now table) (memory leaves (now evaluated) (now order) (now lows) (now highs)) node
         place ⌝ }
-    ensures { λ r. ⌜ Visited (now (table .entry)) (treeAt (now (table .entry)) node) test
+    ensures { λ r. ⌜ VisitedBy (now (table .entry)) (treeAt (now (table .entry)) node) test
         (memory leaves (now (evaluated .entry)) (now (order .entry)) (now (lows .entry)) (now (highs .entry)))
         (memory (r .leaves) (now (evaluated .exit)) (now (order .exit)) (now (lows .exit)) (now (highs .exit)))
         r ⌝ }

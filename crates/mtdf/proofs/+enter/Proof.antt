@@ -11,7 +11,7 @@ use borrow.Fn.PlainCycle.{Measures, is, falls, and}
 use Rattle.frames.specs.Frame.{frames}
 use Rattle.frames.specs.Tree.{treeAt}
 use Rattle.frames.proofs.Next.{child-later, child-within}
-use Rattle.mtdf.specs.engine.Memory.{Memory, memory, MemoryRoom, VisitReady, Visited}
+use Rattle.mtdf.specs.engine.Memory.{Memory, memory, MemoryRoom, VisitReady, VisitedBy}
 use Rattle.mtdf.proofs.Arrays.{Long, room-kept}
 use Rattle.mtd.proofs.Turns.{Family, family-within}
 use Rattle.mtdf.proofs.Turns.{Turn, turn-first, turn-child, turn-ready}
@@ -128,7 +128,7 @@ module _ (t : ℕ) where
   passed : (c : lts.At-match-came (calls t) (at t) enter′.Post Inv μ-loop)
       → let l = head (seen c) in
       let a = entry (l .before) .args in
-      Visited (a .table .now) (treeAt (a .table .now) (l .loop .child)) (a .test) (present l) (after c)
+      VisitedBy (a .table .now) (treeAt (a .table .now) (l .loop .child)) (a .test) (present l) (after c)
       (c .match .tried)
   passed c =
       let k = seen c in

@@ -99,8 +99,8 @@ abbrev pub enteredTest : (ℕ → ℕ) → ℕ → List ℕ → Tree → Tested
 enteredTest ν γ w (leaf n) = opened n (leb γ (ν n))
 enteredTest ν γ w (inner n s ks) = testKids ν γ w s ks
 
-abbrev pub Visited : (t : List ℕ) (T : Tree) (γ : ℕ) (m m′ : Memory) (r : Tried) → Type 0
-Visited t T γ m m′ r = Done t T (test (valuation t) γ (soFar m) T) m m′ r
+abbrev pub VisitedBy : (t : List ℕ) (T : Tree) (γ : ℕ) (m m′ : Memory) (r : Tried) → Type 0
+VisitedBy t T γ m m′ r = Done t T (test (valuation t) γ (soFar m) T) m m′ r
 
 abbrev pub Entered : (t : List ℕ) (T : Tree) (γ : ℕ) (m m′ : Memory) (r : Tried) → Type 0
 Entered t T γ m m′ r = Done t T (enteredTest (valuation t) γ (soFar m) T) m m′ r
@@ -114,7 +114,7 @@ pub record Undecided (t : List ℕ) (m : Memory) (i γ : ℕ) : Type 0 where
 -- what a look at node i does, which leaves the memory m′ with a count: the test, where the node is answered; nothing,
 -- where it is to be entered
 abbrev pub Looked : (t : List ℕ) (i γ : ℕ) (m : Memory) (m′ : ℕ → Memory) → Seen → Type 0
-Looked t i γ m m′ (Answered r) = Visited t (treeAt t i) γ m (m′ (r .leaves)) r
+Looked t i γ m m′ (Answered r) = VisitedBy t (treeAt t i) γ m (m′ (r .leaves)) r
 Looked t i γ m m′ Open = (m′ (m .leaves) ≡ m) × Undecided t m i γ
 
 -- what the tests ask: nothing is evaluated, and the bounds are the least and the greatest
@@ -127,19 +127,19 @@ pub record Fresh (t : List ℕ) (m : Memory) : Type 0 where
   pub highs : (k : ℕ) → k < frames t → getD (m .highs) k 0 ≡ greatest
 
 -- the run of tests from the first guess f
-unfoldable pub runOf : (f : ℕ) (t : List ℕ) → Driven
-runOf f t = searchBy (mtdFrom f) (valuation t) (tree t)
+unfoldable pub drivenOf : (f : ℕ) (t : List ℕ) → Driven
+drivenOf f t = searchBy (mtdFrom f) (valuation t) (tree t)
 
 -- after the tests of the root: its bounds have met
 pub record Met (t : List ℕ) (f : ℕ) (m m′ : Memory) (r : Settled) : Type 0 where
-  pub score : r .score ≡ runOf f t .value
-  pub tests : r .tests ≡ length (runOf f t .tests)
-  pub evaluated : Evaluated m m′ (runOf f t .evaluated)
+  pub score : r .score ≡ drivenOf f t .value
+  pub tests : r .tests ≡ length (drivenOf f t .tests)
+  pub evaluated : Evaluated m m′ (drivenOf f t .evaluated)
   pub counted : Counted t m′
   pub right : BoundsRight t m′ (tree t)
 
 -- after the last phase for the value v
-pub record Moved (t : List ℕ) (v : ℕ) (m m′ : Memory) : Type 0 where
+pub record MovedTo (t : List ℕ) (v : ℕ) (m m′ : Memory) : Type 0 where
   pub evaluated : Evaluated m m′ (lastPhase (valuation t) v (soFar m) (tree t) .evaluated)
   pub counted : Counted t m′
 
