@@ -16,10 +16,10 @@
  * STACK, in thousands of bytes, the most over small, deep and large trees (bindings/c/stack.c measures it). Give a
  * thread 256: no call takes the heap instead, and none looks whether its stack is enough.
  *
- *     report       162    least_value  54    convert        25    verify   17
+ *     report       130    least_value  54    convert        25    verify   17
  *     sss           99    alphabeta    51    read           25    shorter  17
  *     mtdf          67    plain        50    capitals       25    graft    17
- *     mtd           55    least_leaves  3    fill            2    every other call under 1
+ *     mtd           50    least_leaves  3    fill            2    every other call under 1
  */
 #ifndef BUULSET_H
 #define BUULSET_H

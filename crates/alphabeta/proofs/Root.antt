@@ -150,7 +150,11 @@ module _ (t : List ℕ) (wf : WellFormed t) where
                     marksKept = i;
                     orderKept = j;
                     listable =
-                        record { few = l .few; room = omega (arith, l .room, u .turn .orderKept); counted = v .counted };
+                        record {
+                          few = l .few;
+                          room = omega (arith, l .room, u .turn .orderKept);
+                          counted = v .counted;
+                        };
                     waiting =
                         visit-waits t wf 0 (wf .some) _ _ _ _ _ _ root-child (u .turn .waiting)
                         (ap (λ q. q .marks) (v .gives .1));

@@ -118,8 +118,8 @@ abbrev mutual
   chosenFirst p μ b v (t then ts) k =
       chosen p μ (b && eqb (minimax μ t) v) t k || chosenFirst p μ (b && not (eqb (minimax μ t) v)) v ts k
 
--- the score that a leaf counts with which was not evaluated: the greatest for the max tree, which is read off the highs,
--- the least for the min tree, which is read off the lows
+-- the score that a leaf counts with which was not evaluated: the greatest for the max tree, which is read off the
+-- highs, the least for the min tree, which is read off the lows
 abbrev pub fill : Side → ℕ
 fill Max = greatest
 fill Min = least

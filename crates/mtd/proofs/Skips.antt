@@ -1,5 +1,5 @@
--- Children that are passed over: under Max a child whose high is below the test is below, and the pass does nothing else
--- there.
+-- Children that are passed over: under Max a child whose high is below the test is below, and the pass does nothing
+-- else there.
 use Prim.Native.Nat.{ℕ, zero, suc, _+_, _-_, _≤_, _<_}
 use native.Mathlib.Omega.{arith}
 use mathlib.Core.Path.{_≡_, refl, sym, ap, _∙_, subst}
@@ -42,7 +42,8 @@ module _ {t : List ℕ} {m : Memory} {i : ℕ} {p : Place} (ready : VisitReady t
       let w =
       minimax-within 0 greatest ν (treeAt t i)
       (every-leaf t wf (λ k. (0 ≤ ν k) × (ν k ≤ greatest))
-      (λ k h l. (omega arith, capped (marked (m .evaluated) k) (valuation t k) (leaf-scored t wf k h l .1))) i (ready .inside)) in
+      (λ k h l. (omega arith, capped (marked (m .evaluated) k) (valuation t k) (leaf-scored t wf k h l .1))) i
+      (ready .inside)) in
       omega (arith, ready .right i (in-own t wf i))
 
   -- what the pass gives at a node that is below at once

@@ -173,7 +173,8 @@ module _ {t : List ℕ} {m : Memory} {p : Place} {i : ℕ} (ready : VisitReady t
 -- what a look at node i gives, by what it saw
 module _ (t : List ℕ) (i γ : ℕ) (m : Memory) (m′ : ℕ → Memory) (s : Seen) where
   -- a node that was not entered
-  pub looked-answer : (r : Tried) → s ≡ Answered r → VisitedBy t (treeAt t i) γ m (m′ (r .leaves)) r → Looked t i γ m m′ s
+  pub looked-answer : (r : Tried) → s ≡ Answered r → VisitedBy t (treeAt t i) γ m (m′ (r .leaves)) r
+      → Looked t i γ m m′ s
   looked-answer r e p = subst (Looked t i γ m m′) (sym e) p
 
   module _ (l : Looked t i γ m m′ s) where

@@ -60,6 +60,7 @@ module _ (t : List ℕ) (wf : WellFormed t) (b o b₁ : List ℕ) (r : Run) (cle
       run-answers t wf maxNodes _ b o config ran (d .driven .stopped) []
       ∙ ap (λ xs. outcomeBy xs maxNodes t b [] o none)
       (enough t wf maxNodes (omega (arith, leaves-few t wf, wf .few))) in (
-        found-only (isSpent (r′ .stage)) (spentBy (endMerit (r′ .stage)) (r′ .counts)) _ _ (ap (λ x. x .search .answer) e),
+        found-only (isSpent (r′ .stage)) (spentBy (endMerit (r′ .stage)) (r′ .counts)) _ _
+            (ap (λ x. x .search .answer) e),
         (ap (λ x. x .search .evaluated) e, ap (λ x. x .order) e),
       )

@@ -1,5 +1,5 @@
-// The states of SSS*, and their front: for each node that is, or has below it, a listed state, the greatest merit in its
-// subtree and the child to go down to, packed in one u32.
+// The states of SSS*, and their front: for each node that is, or has below it, a listed state, the greatest merit in
+// its subtree and the child to go down to, packed in one u32.
 use frames::child_count;
 use frames::first_child;
 use gametree::Side;

@@ -21,11 +21,13 @@ use Rattle.alphabeta.proofs.visit_root.Statement.{statement}
 use Rattle.alphabeta.proofs.visit_root.Tie as tie
 
 abbrev Inv-loop : tie.InvT-loop
-Inv-loop table evaluated₀ order₀ root last alpha₀ root-move₀ leaves₀ child₀ evaluated order alpha root-move leaves child =
+Inv-loop table evaluated₀ order₀ root last alpha₀ root-move₀ leaves₀ child₀ evaluated order alpha root-move leaves
+    child =
     RootTurn table (progress 0 evaluated₀ order₀) last (progress leaves evaluated order) alpha root-move child
 
 abbrev μ-loop : tie.MeasureT-loop
-μ-loop table evaluated₀ order₀ root last alpha₀ root-move₀ leaves₀ child₀ evaluated order alpha root-move leaves child =
+μ-loop table evaluated₀ order₀ root last alpha₀ root-move₀ leaves₀ child₀ evaluated order alpha root-move leaves
+    child =
     last - child
 
 -- the function's entry, from the head of the loop, and the loop from the visit
@@ -39,7 +41,8 @@ abbrev visiting : tie.Joined2 Inv-loop μ-loop → tie.After-alpha-beta Inv-loop
 visiting j = j .before .before .before .before .before .before
 
 -- the root has as many children as it says
-count : (l : tie.At-loop Inv-loop μ-loop) → l .before .before .child-count .result ≡ childCount (start l .args .table .now) 0
+count : (l : tie.At-loop Inv-loop μ-loop)
+    → l .before .before .child-count .result ≡ childCount (start l .args .table .now) 0
 count l = l .before .before .child-count .ensures .0
 
 -- what the visit of the child did

@@ -73,16 +73,20 @@ calls t = (
 
 module _ (t : ℕ) where
   -- the function's entry, the head of the loop, the next child that is tried, and the look at it
-  abbrev entry : lts.After-child-count (calls t) (at t) enter′.Post Inv μ-loop → lts.Start (calls t) (at t) enter′.Post Inv μ-loop
+  abbrev entry : lts.After-child-count (calls t) (at t) enter′.Post Inv μ-loop
+      → lts.Start (calls t) (at t) enter′.Post Inv μ-loop
   entry c = c .before .before .before .before .before .before .before
 
-  abbrev head : lts.After-next-tried (calls t) (at t) enter′.Post Inv μ-loop → lts.At-loop (calls t) (at t) enter′.Post Inv μ-loop
+  abbrev head : lts.After-next-tried (calls t) (at t) enter′.Post Inv μ-loop
+      → lts.At-loop (calls t) (at t) enter′.Post Inv μ-loop
   head n = n .before .before
 
-  abbrev trying : lts.After-look (calls t) (at t) enter′.Post Inv μ-loop → lts.Else1 (calls t) (at t) enter′.Post Inv μ-loop
+  abbrev trying : lts.After-look (calls t) (at t) enter′.Post Inv μ-loop
+      → lts.Else1 (calls t) (at t) enter′.Post Inv μ-loop
   trying c = c .before .before .before .before .before .before
 
-  abbrev seen : lts.At-match-came (calls t) (at t) enter′.Post Inv μ-loop → lts.After-look (calls t) (at t) enter′.Post Inv μ-loop
+  abbrev seen : lts.At-match-came (calls t) (at t) enter′.Post Inv μ-loop
+      → lts.After-look (calls t) (at t) enter′.Post Inv μ-loop
   seen c = c .before .before .before .before .before .before .before
 
   -- the arrays at the entry, at the head of the loop, after the look, after the child, and after the loop
@@ -171,7 +175,8 @@ module _ (t : ℕ) where
       ]
 
   -- the arrays keep their lengths
-  long : (c : lts.At-match-came (calls t) (at t) enter′.Post Inv μ-loop) → Long (before (entry (head (trying (seen c) .before) .before))) (after c)
+  long : (c : lts.At-match-came (calls t) (at t) enter′.Post Inv μ-loop)
+      → Long (before (entry (head (trying (seen c) .before) .before))) (after c)
   long c =
       let k = seen c in
       let u = head (trying k .before) .loop .inv .long in
@@ -205,7 +210,48 @@ module _ (t : ℕ) where
               (x .0 .taken),
           l .loop .inv .long,
         )
-        | inr y ↦ (let d : lts.At-match-came (calls t) (at t) enter′.Post Inv μ-loop = record { before = record { before = record { before = record { before = record { before = record { before = record { before = record { before = record { before = record { before = record { before = record { before = record { before = record { before = j .before; if1 = y .0 }; child-place = y .1 }; look-arg = y .2 }; look-arg2 = y .3 }; look-arg3 = y .4 }; look-arg4 = y .5 }; look = y .6 }; evaluated = y .7 }; slice-known5 = y .8 }; order = y .9 }; slice-known6 = y .10 }; highs = y .11 }; slice-known7 = y .12 }; match = y .13 } in
+        | inr y ↦ (let d : lts.At-match-came (calls t) (at t) enter′.Post Inv μ-loop =
+            record {
+              before = record {
+                before = record {
+                  before = record {
+                    before = record {
+                      before = record {
+                        before = record {
+                          before = record {
+                            before = record {
+                              before = record {
+                                before = record {
+                                  before =
+                                      record {
+                                        before = record {
+                                          before = record { before = j .before; if1 = y .0 };
+                                          child-place = y .1;
+                                        };
+                                        look-arg = y .2;
+                                      };
+                                  look-arg2 = y .3;
+                                };
+                                look-arg3 = y .4;
+                              };
+                              look-arg4 = y .5;
+                            };
+                            look = y .6;
+                          };
+                          evaluated = y .7;
+                        };
+                        slice-known5 = y .8;
+                      };
+                      order = y .9;
+                    };
+                    slice-known6 = y .10;
+                  };
+                  highs = y .11;
+                };
+                slice-known7 = y .12;
+              };
+              match = y .13;
+            } in
             left-same (y .16) (y .17) (y .18) (y .19) (y .20) (y .22) (
               turn-last (family f) {m″ = after d} (turn (record { before = j .before; if1 = y .0 })) (passed d)
                   (sym (y .14 .ensures) ∙ y .15 .taken),
@@ -213,7 +259,8 @@ module _ (t : ℕ) where
             ))
       ]
 
-  room : (j : lts.Joined1 (calls t) (at t) enter′.Post Inv μ-loop) → MemoryRoom (frames (entry (head (j .before) .before) .args .table .now)) (over j)
+  room : (j : lts.Joined1 (calls t) (at t) enter′.Post Inv μ-loop)
+      → MemoryRoom (frames (entry (head (j .before) .before) .args .table .now)) (over j)
   room j = room-kept (entry (head (j .before) .before) .pre .1 .0 .room) (left j .1)
 
   first-child-requires : lts.Need-first-child-requires (calls t) (at t) enter′.Post Inv μ-loop
@@ -314,10 +361,14 @@ module _ (t : ℕ) where
   same-length-2 c = left (c .before .before .before .before .before .before .before) .1 .order
 
   same-length-3 : lts.Need-same-length-3 (calls t) (at t) enter′.Post Inv μ-loop
-  same-length-3 c = c .before .before .before .before .remember .kept .0 ∙ left (c .before .before .before .before .before .before .before) .1 .highs
+  same-length-3 c =
+      let m = c .before .before .before .before in
+      m .remember .kept .0 ∙ left (m .before .before .before) .1 .highs
 
   same-length-4 : lts.Need-same-length-4 (calls t) (at t) enter′.Post Inv μ-loop
-  same-length-4 c = c .before .before .before .before .remember .kept .1 .0 ∙ left (c .before .before .before .before .before .before .before) .1 .notBelow
+  same-length-4 c =
+      let m = c .before .before .before .before in
+      m .remember .kept .1 .0 ∙ left (m .before .before .before) .1 .notBelow
 
   returns : lts.Need-returns (calls t) (at t) enter′.Post Inv μ-loop
   returns c =

@@ -27,7 +27,8 @@ put-line-requires : tie.Need-put-line-requires
 unfolding sssLine
 put-line-requires c κs =
     let f = c .before .before .before .before .before .before .before in
-    rw (f .find .ensures .0) (f .before .before .before .before .before .before .before .before .before .before .before .pre .1 .1)
+    let a = f .before .before .before .before .before .before .before .before .before .before .before in
+    rw (f .find .ensures .0) (a .pre .1 .1)
 
 same-length : tie.Need-same-length
 same-length c = search needs

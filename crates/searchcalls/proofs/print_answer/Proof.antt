@@ -26,7 +26,9 @@ same-length-3 c = search needs
 
 returns : tie.Need-returns
 returns c =
-    by-alphabeta _ _ _ _ _ _ (c .before .before .before .before .before .before .before .before .before .before .before .enum-told .given .1) (c .before .before .before .before .before .before .before .search .ensures)
+    let p = c .before .before .before .before .before in
+    let q = p .before .before .before .before .before in
+    by-alphabeta _ _ _ _ _ _ (q .before .enum-told .given .1) (p .before .before .search .ensures)
 
 enum-told-2 : tie.Need-enum-told-2
 enum-told-2 c = search needs
@@ -48,7 +50,9 @@ same-length-6 c = search needs
 
 returns-2 : tie.Need-returns-2
 returns-2 c =
-    by-mtd _ _ _ _ _ _ (c .before .before .before .before .before .before .before .before .before .before .before .enum-told2 .given .1) (c .before .before .before .before .before .before .before .search2 .ensures)
+    let p = c .before .before .before .before .before in
+    let q = p .before .before .before .before .before in
+    by-mtd _ _ _ _ _ _ (q .before .enum-told2 .given .1) (p .before .before .search2 .ensures)
 
 enum-known-method : tie.Need-enum-known-method
 enum-known-method c = search needs
@@ -70,9 +74,11 @@ same-length-9 c = search needs
 
 returns-3 : tie.Need-returns-3
 returns-3 c =
-    let m = c .before .before .before .before .before .before .before .before .before .before .before .before .method .given in
-    let start = toZ-ofZ w32 (m .0 .0) (record { sfits = c .before .before .before .before .before .before .before .before .before .before .before .known-told .given .0 .1 }) in
-    by-mtdf _ _ _ _ _ (m .0 .0) _ (m .1) (rw start at (c .before .before .before .before .before .before .before .search3 .ensures))
+    let p = c .before .before .before .before .before in
+    let q = p .before .before .before .before .before in
+    let m = q .before .before .method .given in
+    let start = toZ-ofZ w32 (m .0 .0) (record { sfits = q .before .known-told .given .0 .1 }) in
+    by-mtdf _ _ _ _ _ (m .0 .0) _ (m .1) (rw start at (p .before .before .search3 .ensures))
 
 enum-known-method-2 : tie.Need-enum-known-method-2
 enum-known-method-2 c = search needs
@@ -94,7 +100,9 @@ same-length-12 c = search needs
 
 returns-4 : tie.Need-returns-4
 returns-4 c =
-    by-sss _ _ _ _ _ _ _ (c .before .before .before .before .before .before .before .before .before .before .before .before .method2 .given .1) (c .before .before .before .before .before .before .before .solve .ensures)
+    let p = c .before .before .before .before .before in
+    let q = p .before .before .before .before .before in
+    by-sss _ _ _ _ _ _ _ (q .before .before .method2 .given .1) (p .before .before .solve .ensures)
 
 enum-told-3 : tie.Need-enum-told-3
 enum-told-3 c = search needs
@@ -113,7 +121,8 @@ same-length-14 c = search needs
 
 returns-5 : tie.Need-returns-5
 returns-5 c =
-    by-plain _ _ _ _ _ _ (c .before .before .before .before .before .before .before .before .enum-told3 .given .1) (c .before .before .before .before .before .search4 .ensures)
+    let p = c .before .before .before .before .before in
+    by-plain _ _ _ _ _ _ (p .before .before .before .enum-told3 .given .1) (p .search4 .ensures)
 
 pub print-answer-spec : {M : Type 1} → statement M
 print-answer-spec =

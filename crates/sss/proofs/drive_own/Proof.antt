@@ -1,6 +1,6 @@
--- `sss::drive_own` meets its contract: a walk of its MIR by hand, since it lends an array of structs. It lends a front of
--- zeros and a list of blank entries to `drive`, and `drives-own` is the call for arrays of any length; the buffers are
--- passed on for good.
+-- `sss::drive_own` meets its contract: a walk of its MIR by hand, since it lends an array of structs. It lends a front
+-- of zeros and a list of blank entries to `drive`, and `drives-own` is the call for arrays of any length; the buffers
+-- are passed on for good.
 use mathlib.Core.Path.{_≡_, refl, sym, subst}
 use Prim.Native.Nat.{ℕ, _+_, _-_, _*_, _≤_}
 use native.Mathlib.Omega.{arith}

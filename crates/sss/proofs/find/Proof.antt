@@ -40,9 +40,11 @@ drive-own-requires c κs =
     let k = c .before .before .before .before .before in
     let p = start k .pre in
     let wf = p .0 .0 in
+    let t = start k .args .table .now in
+    let sound = zeros-workable t maxNodes (λ w. w .few) (omega arith) wf .1 in
     rw (c .before .before .begun .ensures, cleared k)
-    (prepared-at maxNodes _ _ _ (zeros maxNodes) _ wf (omega (arith, wf .few, length-replicate {A = State} maxNodes blank))
-    (p .1 .0) (p .1 .1) (zeros-workable _ maxNodes (λ w. w .few) (omega arith) wf .1) _ (p .0 .1))
+    (prepared-at maxNodes t _ _ (zeros maxNodes) _ wf
+    (omega (arith, wf .few, length-replicate {A = State} maxNodes blank)) (p .1 .0) (p .1 .1) sound _ (p .0 .1))
 
 found-alone-requires : tie.Need-found-alone-requires
 found-alone-requires c κs =

@@ -56,8 +56,10 @@ returns-2 c =
 
 returns-3 : tie.Need-returns-3
 returns-3 c =
-    let a = c .before .before .before .args in
-    (search needs, sym (byte-ignored (a .byte) (a .count) (a .numbers .now) (λ e. absurd (omega (arith, e))) (omega arith)))
+    let a = c .before .before .before .args in (
+      search needs,
+      sym (byte-ignored (a .byte) (a .count) (a .numbers .now) (λ e. absurd (omega (arith, e))) (omega arith)),
+    )
 
 pub read-byte-spec : {M : Type 1} → statement M
 read-byte-spec =

@@ -45,10 +45,14 @@ same-length-2 c = search needs
 
 returns : tie.Need-returns
 returns c =
-    let a = c .before .before .before .before .before .before .before .before .before .before .before .before .before .before .before .before .before .before .before .before .before .args in
-    let g = c .before .before .before .before .before .before .before .before .before .before .before .before .before .before .before .graft in
-    let size = c .before .before .before .before .before .before .before .frames-size .ensures in
-    let kept = c .before .before .before .before .before .fitted .ensures .1 in
+    let p = c .before .before .before .before .before in
+    let q = p .before .before .before .before .before in
+    let r = q .before .before .before .before .before in
+    let s′ = r .before .before .before .before .before in
+    let a = s′ .before .args in
+    let g = r .graft in
+    let size = p .before .before .frames-size .ensures in
+    let kept = p .fitted .ensures .1 in
     let s = c .before .before .save .ensures in
     let made = g .ensures in (
       s .0,

@@ -54,11 +54,15 @@ same-length c = search needs
 
 returns : tie.Need-returns
 returns c =
-    let a = c .before .before .before .before .before .before .before .before .before .before .before .before .before .before .before .args in
+    let p′ = c .before .before .before .before .before in
+    let q = p′ .before .before .before .before .before in
+    let a = q .before .before .before .before .before .args in
     let f = a .file .now in
-    let r = c .before .before .before .before .before .before .before .before .before .before .before .before .fitted .result in
-    let middle = c .before .before .before .before .before .before .before .before .before .before .before .before .fitted .ensures .1 in
-    let t = table-read _ _ (a .first-size) _ (c .before .before .before .before .before .before .before .before .before .read .ensures .1) (c .before .before .before .before .before .before .fitted2 .ensures .1) in
+    let r = q .before .before .fitted .result in
+    let middle = q .before .before .fitted .ensures .1 in
+    let read = p′ .before .before .before .before .read .ensures .1 in
+    let size = p′ .before .fitted2 .ensures .1 in
+    let t = table-read _ _ (a .first-size) _ read size in
     let first = t ∙ ap (λ m. tableOf (take m f) (a .first-size)) middle in
     let rest = take-all (length f - r) (drop r f) (simp length-drop (omega arith)) ∙ ap (λ m. drop m f) middle in
     let p = c .before .before .print-onto .ensures in

@@ -30,8 +30,12 @@ same-length c = search needs
 
 returns : tie.Need-returns
 returns c =
-    let a = c .before .before .before .before .before .before .before .before .before .before .before .before .before .args in
-    let t = table-read (a .file .now) _ (a .second-size) _ (c .before .before .before .before .before .before .before .before .read .ensures .1) (c .before .before .before .before .before .fitted .ensures .1) in
+    let p′ = c .before .before .before .before .before in
+    let q = p′ .before .before .before .before .before in
+    let a = q .before .before .before .args in
+    let read = p′ .before .before .before .read .ensures .1 in
+    let size = p′ .fitted .ensures .1 in
+    let t = table-read (a .file .now) _ (a .second-size) _ read size in
     let p = c .before .before .print-in .ensures in
     (p .0, rw t at (p .1))
 

@@ -7,10 +7,14 @@ use Rattle.graftcalls.proofs.levels.frame_byte.Statement.{statement}
 use Rattle.graftcalls.proofs.levels.frame_byte.Tie as tie
 
 mul-inner-byte : tie.Need-mul-inner-byte
-mul-inner-byte c = omega (arith, first-small (c .before .args .width) (c .before .args .node) (omega arith) (omega arith))
+mul-inner-byte c =
+    let a = c .before .args in
+    omega (arith, first-small (a .width) (a .node) (omega arith) (omega arith))
 
 add-inner-byte : tie.Need-add-inner-byte
-add-inner-byte c = omega (arith, first-small (c .before .args .width) (c .before .args .node) (omega arith) (omega arith))
+add-inner-byte c =
+    let a = c .before .args in
+    omega (arith, first-small (a .width) (a .node) (omega arith) (omega arith))
 
 inner-byte-requires : tie.Need-inner-byte-requires
 inner-byte-requires c κs =

@@ -22,10 +22,15 @@ cast-result-3 : tie.Need-cast-result-3
 cast-result-3 c = search needs
 
 returns-3 : tie.Need-returns-3
-returns-3 c = sym (inner-2 _ _ (c .before .before .before .args .at) (λ e. absurd (omega (arith, e))) (λ e. absurd (omega (arith, e))) (omega arith))
+returns-3 c =
+    let a = c .before .before .before .args in
+    sym (inner-2 _ _ (a .at) (λ e. absurd (omega (arith, e))) (λ e. absurd (omega (arith, e))) (omega arith))
 
 returns-4 : tie.Need-returns-4
-returns-4 c = sym (inner-rest _ _ (c .before .before .before .args .at) (λ e. absurd (omega (arith, e))) (λ e. absurd (omega (arith, e))) (λ e. absurd (omega (arith, e))))
+returns-4 c =
+    let a = c .before .before .before .args in
+    sym (inner-rest _ _ (a .at) (λ e. absurd (omega (arith, e))) (λ e. absurd (omega (arith, e)))
+    (λ e. absurd (omega (arith, e))))
 
 pub inner-byte-spec : {M : Type 1} → statement M
 inner-byte-spec =

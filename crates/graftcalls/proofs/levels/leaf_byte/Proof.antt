@@ -19,7 +19,9 @@ returns-2 : tie.Need-returns-2
 returns-2 c = sym (leaf-5 _ (c .before .before .args .at) (λ e. absurd (omega (arith, e))) (omega arith))
 
 returns-3 : tie.Need-returns-3
-returns-3 c = sym (leaf-rest _ (c .before .before .args .at) (λ e. absurd (omega (arith, e))) (λ e. absurd (omega (arith, e))))
+returns-3 c =
+    let a = c .before .before .args in
+    sym (leaf-rest _ (a .at) (λ e. absurd (omega (arith, e))) (λ e. absurd (omega (arith, e))))
 
 pub leaf-byte-spec : {M : Type 1} → statement M
 leaf-byte-spec = tie.close (tie.spec cast-result returns cast-result-2 returns-2 returns-3)

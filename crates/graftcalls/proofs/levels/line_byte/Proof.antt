@@ -32,7 +32,8 @@ returns-3 : tie.Need-returns-3
 returns-3 c =
     let a = c .before .before .before .before .args in
     c .capital2 .ensures ∙ ap (λ b. capitalOf (b % 16)) (c .before .before .frame-byte .ensures)
-    ∙ sym (line-low (a .width) (a .inner) (a .node) (a .column) (λ e. absurd (omega (arith, e))) (λ e. absurd (omega (arith, e))))
+    ∙ sym (line-low (a .width) (a .inner) (a .node) (a .column) (λ e. absurd (omega (arith, e)))
+    (λ e. absurd (omega (arith, e))))
 
 pub line-byte-spec : {M : Type 1} → statement M
 line-byte-spec =

@@ -39,7 +39,8 @@ loop-less c = search needs
 loop-again : tie.Need-loop-again Inv-loop μ-loop
 loop-again c =
     let l = c .before .before .loop in
-    (omega arith, simp length-set (omega arith), each-next _ _ _ (l .i) _ (omega arith) (l .inv .2) (c .line-byte .ensures))
+    let next = each-next _ _ _ (l .i) _ (omega arith) (l .inv .2) (c .line-byte .ensures) in
+    (omega arith, simp length-set (omega arith), next)
 
 same-length : tie.Need-same-length Inv-loop μ-loop
 same-length c = search needs

@@ -41,7 +41,9 @@ same-length : tie.Need-same-length
 same-length c = search needs
 
 returns : tie.Need-returns
-returns c = ap (λ o. o .table) (c .before .before .before .before .before .before .before .before .before .fill .ensures)
+returns c =
+    let p = c .before .before .before .before .before in
+    ap (λ o. o .table) (p .before .before .before .before .fill .ensures)
 
 pub print-filled-spec : {M : Type 1} → statement M
 print-filled-spec =

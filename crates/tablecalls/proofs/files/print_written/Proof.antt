@@ -38,13 +38,19 @@ same-length : tie.Need-same-length
 same-length c = search needs
 
 returns : tie.Need-returns
-returns c = ap (λ o. o .file) (c .before .before .before .before .before .before .before .before .before .before .before .before .before .write .ensures)
+returns c =
+    let p = c .before .before .before .before .before in
+    let q = p .before .before .before .before .before in
+    ap (λ o. o .file) (q .before .before .before .write .ensures)
 
 same-length-2 : tie.Need-same-length-2
 same-length-2 c = search needs
 
 returns-2 : tie.Need-returns-2
-returns-2 c = ap (λ o. o .file) (c .before .before .before .before .before .before .before .before .before .before .before .write .ensures)
+returns-2 c =
+    let p = c .before .before .before .before .before in
+    let q = p .before .before .before .before .before in
+    ap (λ o. o .file) (q .before .write .ensures)
 
 pub print-written-spec : {M : Type 1} → statement M
 print-written-spec =
