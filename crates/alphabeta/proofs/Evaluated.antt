@@ -8,16 +8,16 @@ use mathlib.Core.List.{List}
 use lib.Dec.{ltb}
 use Rattle.gametree.specs.declared.Side.{Side}
 use Rattle.lists.specs.Lists.{All}
-use Rattle.gametree.specs.Tree.{Tree, leaf, inner, Kids, last, _then_, In, InKids}
-use Rattle.gametree.specs.AlphaBeta.{raise, lower, Found, onward, alphaBeta, alphaBetaKids}
+use Rattle.gametree.specs.Tree.{Tree, leaf, inner, Children, last, _then_, In, InChildren}
+use Rattle.gametree.specs.AlphaBeta.{raise, lower, SearchResult, onward, alphaBeta, alphaBetaChildren}
 use Rattle.lists.proofs.Lists.{all-append}
 use Rattle.frames.specs.Frame.{frames}
 use Rattle.frames.specs.Tree.{treeAt}
 use Rattle.frames.specs.Formed.{WellFormed, ChildOf}
 use Rattle.bounds.specs.Marks.{markAll}
-use Rattle.certificate.proofs.Unmarked.{Waiting, younger-wait}
+use Rattle.certificate.proofs.Unmarked.{Unvisited, younger-wait}
 
-onward-all : (P : ℕ → Type 0) (b : Bool) (r q : Found) → All P (r .evaluated) → All P (q .evaluated)
+onward-all : (P : ℕ → Type 0) (b : Bool) (r q : SearchResult) → All P (r .evaluated) → All P (q .evaluated)
     → All P (onward b r q .evaluated)
 onward-all P true r q h k = all-append P (r .evaluated) (q .evaluated) h k
 onward-all P false r q h k = h
@@ -27,21 +27,21 @@ mutual
   evaluated-all : (P : ℕ → Type 0) (ν : ℕ → ℕ) (α β : ℕ) (T : Tree) → ((k : ℕ) → In k T → P k)
       → All P (alphaBeta ν α β T .evaluated)
   evaluated-all P ν α β (leaf n) f = (f n refl, tt)
-  evaluated-all P ν α β (inner n s ks) f = evaluatedKids-all P ν s α β ks (λ k i. f k (inr i))
+  evaluated-all P ν α β (inner n s ks) f = evaluatedChildren-all P ν s α β ks (λ k i. f k (inr i))
 
-  evaluatedKids-all : (P : ℕ → Type 0) (ν : ℕ → ℕ) (s : Side) (α β : ℕ) (ks : Kids) → ((k : ℕ) → InKids k ks → P k)
-      → All P (alphaBetaKids ν s α β ks .evaluated)
-  evaluatedKids-all P ν s α β (last t) f = evaluated-all P ν α β t f
-  evaluatedKids-all P ν s α β (t then ts) f =
+  evaluatedChildren-all : (P : ℕ → Type 0) (ν : ℕ → ℕ) (s : Side) (α β : ℕ) (ks : Children) → ((k : ℕ) → InChildren k ks → P k)
+      → All P (alphaBetaChildren ν s α β ks .evaluated)
+  evaluatedChildren-all P ν s α β (last t) f = evaluated-all P ν α β t f
+  evaluatedChildren-all P ν s α β (t then ts) f =
       let r = alphaBeta ν α β t in
       let a = raise s α (r .value) in
       let b = lower s β (r .value) in
-      onward-all P (ltb a b) r (alphaBetaKids ν s a b ts) (evaluated-all P ν α β t (λ k i. f k (inl i)))
-      (evaluatedKids-all P ν s a b ts (λ k i. f k (inr i)))
+      onward-all P (ltb a b) r (alphaBetaChildren ν s a b ts) (evaluated-all P ν α β t (λ k i. f k (inl i)))
+      (evaluatedChildren-all P ν s a b ts (λ k i. f k (inr i)))
 
 -- after the visit of a child the younger ones still wait
 pub visit-waits : (t : List ℕ) → WellFormed t → (i : ℕ) → i < frames t → (ν : ℕ → ℕ) (α β k : ℕ) (e e′ : List ℕ)
-    → ChildOf t i k → Waiting t e i k → e′ ≡ markAll e (alphaBeta ν α β (treeAt t k) .evaluated)
-    → Waiting t e′ i (k + 1)
+    → ChildOf t i k → Unvisited t e i k → e′ ≡ markAll e (alphaBeta ν α β (treeAt t k) .evaluated)
+    → Unvisited t e′ i (k + 1)
 visit-waits t wf i inside ν α β k e e′ c w m =
     younger-wait t wf i inside k e e′ _ c (evaluated-all (λ p. In p (treeAt t k)) ν α β (treeAt t k) (λ p i. i)) w m

@@ -8,32 +8,32 @@ use lib.Dec.{ltb}
 use borrow.Author.Tests.{lt-ltb, le-ltb}
 use Rattle.gametree.specs.declared.Side.{Side}
 use Rattle.gametree.specs.Tree.{Tree}
-use Rattle.gametree.specs.AlphaBeta.{raise, lower, Found, after, onward, alphaBeta, alphaBetaKids}
-use Rattle.frames.specs.Tree.{kidsFrom}
+use Rattle.gametree.specs.AlphaBeta.{raise, lower, SearchResult, after, onward, alphaBeta, alphaBetaChildren}
+use Rattle.frames.specs.Tree.{childrenFrom}
 use Rattle.bounds.specs.engine.Progress.{Progress, evaluateAll}
 use Rattle.bounds.proofs.Listing.{evaluateAll-append}
 
 -- the score v and the progress p′ are what the result f gives, from the progress p
-abbrev pub Gives : Found → (p p′ : Progress) → ℕ → Type 0
+abbrev pub Gives : SearchResult → (p p′ : Progress) → ℕ → Type 0
 Gives f p p′ v = (v ≡ f .value) × (p′ ≡ evaluateAll p (f .evaluated))
 
 -- with a progress that was p₀ and is p, the rest completes the whole
-pub record Owes (whole rest : Found) (p₀ p : Progress) : Type 0 where
+pub record Remainder (whole rest : SearchResult) (p₀ p : Progress) : Type 0 where
   pub value : rest .value ≡ whole .value
   pub evaluated : evaluateAll p (rest .evaluated) ≡ evaluateAll p₀ (whole .evaluated)
 
 -- before the first child all is owed
-pub owes-all : (f : Found) (p : Progress) → Owes f f p p
-owes-all f p = record { value = refl; evaluated = refl }
+pub remainder-all : (f : SearchResult) (p : Progress) → Remainder f f p p
+remainder-all f p = record { value = refl; evaluated = refl }
 
-module _ (w f : Found) (p₀ p p′ : Progress) (v : ℕ) (d : Gives f p p′ v) where
+module _ (w f : SearchResult) (p₀ p p′ : Progress) (v : ℕ) (d : Gives f p p′ v) where
   -- the last result that is owed completes the whole
-  owes-done : Owes w f p₀ p → Gives w p₀ p′ v
-  owes-done o = (d .0 ∙ o .value, d .1 ∙ o .evaluated)
+  remainder-done : Remainder w f p₀ p → Gives w p₀ p′ v
+  remainder-done o = (d .0 ∙ o .value, d .1 ∙ o .evaluated)
 
   -- a result with more behind it leaves the rest owed
-  owes-after : (q : Found) → Owes w (after f q) p₀ p → Owes w q p₀ p′
-  owes-after q o =
+  remainder-after : (q : SearchResult) → Remainder w (after f q) p₀ p → Remainder w q p₀ p′
+  remainder-after q o =
       record {
         value = o .value;
         evaluated =
@@ -43,26 +43,26 @@ module _ (w f : Found) (p₀ p p′ : Progress) (v : ℕ) (d : Gives f p p′ v)
 
 module _ (ν : ℕ → ℕ) (g : ℕ → Tree) (s : Side) where
   -- what the children from k to m give, from the window a b
-  unfoldable pub rest : ℕ → ℕ → ℕ → ℕ → Found
-  rest a b k m = alphaBetaKids ν s a b (kidsFrom g k (m - k))
+  unfoldable pub rest : ℕ → ℕ → ℕ → ℕ → SearchResult
+  rest a b k m = alphaBetaChildren ν s a b (childrenFrom g k (m - k))
 
   -- the last child alone is left
   rest-last : (a b k m : ℕ) → k ≡ m → rest a b k m ≡ alphaBeta ν a b (g k)
-  unfolding rest kidsFrom
+  unfolding rest childrenFrom
   rest-last a b k m e = let z : m - k ≡ 0 = omega arith in rw z
 
   -- a child with others behind it: the pass goes on if it leaves the window open
   rest-more : (a b k m : ℕ) → k < m → (v : ℕ) → v ≡ alphaBeta ν a b (g k) .value
       → rest a b k m
       ≡ onward (ltb (raise s a v) (lower s b v)) (alphaBeta ν a b (g k)) (rest (raise s a v) (lower s b v) (k + 1) m)
-  unfolding rest kidsFrom
+  unfolding rest childrenFrom
   rest-more a b k m h v e = let z : m - k ≡ suc (m - (k + 1)) = omega arith in rw (z, e)
 
-  module _ (a b k m : ℕ) (w : Found) (p₀ p p′ : Progress) (v : ℕ)
-      (o : Owes w (rest a b k m) p₀ p) (d : Gives (alphaBeta ν a b (g k)) p p′ v) where
+  module _ (a b k m : ℕ) (w : SearchResult) (p₀ p p′ : Progress) (v : ℕ)
+      (o : Remainder w (rest a b k m) p₀ p) (d : Gives (alphaBeta ν a b (g k)) p p′ v) where
     -- after the last child the whole is given
     pub pass-ends : k ≡ m → Gives w p₀ p′ v
-    pass-ends h = owes-done w _ p₀ p p′ v d (rw (rest-last a b k m h) at o)
+    pass-ends h = remainder-done w _ p₀ p p′ v d (rw (rest-last a b k m h) at o)
 
     module _ (a′ b′ : ℕ) (h : k < m) (x : a′ ≡ raise s a v) (y : b′ ≡ lower s b v) where
       step : (t : Bool) → ltb a′ b′ ≡ t → rest a b k m ≡ onward t (alphaBeta ν a b (g k)) (rest a′ b′ (k + 1) m)
@@ -70,8 +70,8 @@ module _ (ν : ℕ → ℕ) (g : ℕ → Tree) (s : Side) where
 
       -- a child that closes the window is the last one
       pub pass-stops : b′ ≤ a′ → Gives w p₀ p′ v
-      pass-stops z = owes-done w _ p₀ p p′ v d (rw (step false (le-ltb a′ b′ z)) at o)
+      pass-stops z = remainder-done w _ p₀ p p′ v d (rw (step false (le-ltb a′ b′ z)) at o)
 
       -- after one that leaves it open the next is owed, in the narrower window
-      pub pass-goes-on : a′ < b′ → Owes w (rest a′ b′ (k + 1) m) p₀ p′
-      pass-goes-on z = owes-after w _ p₀ p p′ v d _ (rw (step true (lt-ltb a′ b′ z)) at o)
+      pub pass-goes-on : a′ < b′ → Remainder w (rest a′ b′ (k + 1) m) p₀ p′
+      pass-goes-on z = remainder-after w _ p₀ p p′ v d _ (rw (step true (lt-ltb a′ b′ z)) at o)

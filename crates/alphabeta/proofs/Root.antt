@@ -15,11 +15,11 @@ use Rattle.gametree.proofs.minimax.Bounds.{minimax-score}
 use Rattle.gametree.proofs.alphabeta.Window.{alphaBeta-value}
 use Rattle.gametree.proofs.alphabeta.RootMove.{raiser, raiser-move}
 use Rattle.frames.specs.Frame.{frames, firstChild, childCount, next}
-use Rattle.frames.specs.Place.{rootPlace}
-use Rattle.frames.specs.Tree.{kidsFrom, treeAt, tree, valuation}
+use Rattle.frames.specs.Position.{rootPosition}
+use Rattle.frames.specs.Tree.{childrenFrom, treeAt, tree, valuation}
 use Rattle.frames.specs.Formed.{WellFormed, ChildOf}
 use Rattle.frames.proofs.Next.{child-within}
-use Rattle.frames.proofs.Places.{place-root}
+use Rattle.frames.proofs.Positions.{position-root}
 use Rattle.frames.proofs.Proper.{every-leaf, leaf-scored, tree-proper}
 use Rattle.frames.proofs.Trees.{tree-inner, tree-number}
 use Rattle.bounds.specs.Marks.{ones}
@@ -29,26 +29,26 @@ use Rattle.certificate.proofs.Unmarked.{all-wait}
 use Rattle.alphabeta.specs.declared.Visited.{Visited}
 use Rattle.alphabeta.proofs.Evaluated.{visit-waits}
 use Rattle.alphabeta.proofs.Pass.{Gives, pass-ends, pass-goes-on}
-use Rattle.alphabeta.proofs.Visits.{Turn, Visits, inner-owes}
+use Rattle.alphabeta.proofs.Visits.{VisitLoop, Visits, inner-remainder}
 
 -- at the head of the loop over the root's children up to `end`: child k is next, alpha is a and m the last child that
 -- raised it; the children that are left end with the root move
 pub record RootTurn (t : List ℕ) (p₀ : Progress) (end : ℕ) (p : Progress) (a m k : ℕ) : Type 0 where
-  pub turn : Turn t 0 rootPlace least greatest p₀ 1 end p a greatest k
+  pub turn : VisitLoop t 0 rootPosition least greatest p₀ 1 end p a greatest k
   pub below : a < greatest
-  pub move : raiser (valuation t) a m (kidsFrom (treeAt t) k (end - k)) ≡ rootMove (valuation t) (tree t)
+  pub move : raiser (valuation t) a m (childrenFrom (treeAt t) k (end - k)) ≡ rootMove (valuation t) (tree t)
 
 -- the last of the children left, and one with others behind it
 raiser-last : (ν : ℕ → ℕ) (g : ℕ → Tree) (a m k end : ℕ) → k ≡ end
-    → raiser ν a m (kidsFrom g k (end - k)) ≡ cond (ltb a (minimax ν (g k))) (number (g k)) m
-unfolding kidsFrom raiser
+    → raiser ν a m (childrenFrom g k (end - k)) ≡ cond (ltb a (minimax ν (g k))) (number (g k)) m
+unfolding childrenFrom raiser
 raiser-last ν g a m k end e = let z : end - k ≡ 0 = omega arith in rw z
 
 raiser-more : (ν : ℕ → ℕ) (g : ℕ → Tree) (a m k end : ℕ) → k < end
-    → raiser ν a m (kidsFrom g k (end - k))
+    → raiser ν a m (childrenFrom g k (end - k))
     ≡ raiser ν (max a (minimax ν (g k))) (cond (ltb a (minimax ν (g k))) (number (g k)) m)
-    (kidsFrom g (k + 1) (end - (k + 1)))
-unfolding kidsFrom raiser
+    (childrenFrom g (k + 1) (end - (k + 1)))
+unfolding childrenFrom raiser
 raiser-more ν g a m k end h = let z : end - k ≡ suc (end - (k + 1)) = omega arith in rw z
 
 above-same : (a b : ℕ) → ltb a (max a b) ≡ ltb a b
@@ -62,20 +62,20 @@ module _ (t : List ℕ) (wf : WellFormed t) where
   -- the root's first child is node 1
   root-first : 0 < childCount t 0 → firstChild t 0 ≡ 1
   unfolding next
-  root-first h = wf .first 0 (wf .some) h
+  root-first h = wf .first 0 (wf .nonEmpty) h
 
   scored : (k : ℕ) → k < frames t → Score (minimax (valuation t) (treeAt t k))
   scored k h =
       minimax-score (valuation t) (treeAt t k) (every-leaf t wf (λ i. Score (valuation t i)) (leaf-scored t wf) k h)
 
   -- before the first child
-  pub root-start : (e o : List ℕ) (end : ℕ) → Searchable t e 0 rootPlace → Listable t (progress 0 e o)
+  pub root-start : (e o : List ℕ) (end : ℕ) → Searchable t e 0 rootPosition → Listable t (progress 0 e o)
       → end ≡ childCount t 0 → 0 < end → RootTurn t (progress 0 e o) end (progress 0 e o) least 0 1
   root-start e o end r l c h =
       let n : childCount t 0 ≡ suc (end - 1) = omega arith in
       let first = root-first (omega arith) in
-      let side = ap (λ p. p .side) (place-root t) in
-      let is = tree-inner t wf 0 (end - 1) (wf .some) n in
+      let side = ap (λ p. p .side) (position-root t) in
+      let is = tree-inner t wf 0 (end - 1) (wf .nonEmpty) n in
       record {
         turn =
             record {
@@ -84,15 +84,15 @@ module _ (t : List ℕ) (wf : WellFormed t) where
               marksKept = refl;
               orderKept = refl;
               listable = l;
-              waiting = all-wait t wf 0 (wf .some) e 1 (r .unmarked);
-              owes =
-                  inner-owes t wf 0 (wf .some) least greatest (progress 0 e o) rootPlace 1 end (r .placed) (omega arith)
+              unvisited = all-wait t wf 0 (wf .nonEmpty) e 1 (r .unmarked);
+              remainder =
+                  inner-remainder t wf 0 (wf .nonEmpty) least greatest (progress 0 e o) rootPosition 1 end (r .positioned) (omega arith)
                   (sym first) (omega arith);
             };
         below = omega arith;
         move =
             rw (is, side, first)
-            (raiser-move (valuation t) 0 (kidsFrom (treeAt t) 1 (end - 1))
+            (raiser-move (valuation t) 0 (childrenFrom (treeAt t) 1 (end - 1))
             (rw (is, side, first) at (tree-proper t wf .scored)));
       }
 
@@ -113,7 +113,7 @@ module _ (t : List ℕ) (wf : WellFormed t) where
       score : x .score ≡ max a value
       unfolding value
       score =
-          let s = scored k (child-within t wf (wf .some) root-child) in
+          let s = scored k (child-within t wf (wf .nonEmpty) root-child) in
           let b = u .below in
           omega (arith, v .gives .0, alphaBeta-value (valuation t) a greatest b (treeAt t k))
 
@@ -129,7 +129,7 @@ module _ (t : List ℕ) (wf : WellFormed t) where
             × (m′ ≡ rootMove (valuation t) (tree t))
         unfolding value
         root-last h = (
-          pass-ends _ _ _ _ _ _ _ _ _ _ _ _ (u .turn .owes) (v .gives) h,
+          pass-ends _ _ _ _ _ _ _ _ _ _ _ _ (u .turn .remainder) (v .gives) h,
           raised ∙ sym (raiser-last (valuation t) (treeAt t) a m k end h) ∙ u .move,
         )
 
@@ -138,7 +138,7 @@ module _ (t : List ℕ) (wf : WellFormed t) where
             → RootTurn t p₀ end (progress (x .leaves) e o) (x .score) m′ (k + 1)
         unfolding value
         root-next h i j =
-            let s = scored k (child-within t wf (wf .some) root-child) in
+            let s = scored k (child-within t wf (wf .nonEmpty) root-child) in
             let b = u .below in
             let y = score in
             let l = u .turn .listable in
@@ -151,15 +151,15 @@ module _ (t : List ℕ) (wf : WellFormed t) where
                     orderKept = j;
                     listable =
                         record {
-                          few = l .few;
+                          atMost = l .atMost;
                           room = omega (arith, l .room, u .turn .orderKept);
                           counted = v .counted;
                         };
-                    waiting =
-                        visit-waits t wf 0 (wf .some) _ _ _ _ _ _ root-child (u .turn .waiting)
+                    unvisited =
+                        visit-waits t wf 0 (wf .nonEmpty) _ _ _ _ _ _ root-child (u .turn .unvisited)
                         (ap (λ q. q .marks) (v .gives .1));
-                    owes =
-                        pass-goes-on _ _ _ _ _ _ _ _ _ _ _ _ (u .turn .owes) (v .gives) _ _ h (omega arith) refl
+                    remainder =
+                        pass-goes-on _ _ _ _ _ _ _ _ _ _ _ _ (u .turn .remainder) (v .gives) _ _ h (omega arith) refl
                         (omega arith);
                   };
               below = omega arith;

@@ -4,10 +4,10 @@ use native.Mathlib.Omega.{arith}
 use mathlib.Core.Path.{_≡_, refl, sym, ap, _∙_}
 use mathlib.Core.List.{List}
 use lib.ListN.{length, set}
-use Rattle.gametree.specs.declared.Place.{Place}
+use Rattle.gametree.specs.declared.Position.{Position}
 use Rattle.gametree.specs.AlphaBeta.{clamp, alphaBeta}
 use Rattle.frames.specs.Frame.{frames, firstChild, childCount}
-use Rattle.frames.specs.Place.{placeOf}
+use Rattle.frames.specs.Position.{positionOf}
 use Rattle.frames.specs.Tree.{treeAt, valuation}
 use Rattle.frames.specs.Formed.{WellFormed}
 use Rattle.frames.proofs.Nodes.{in-own}
@@ -18,21 +18,21 @@ use Rattle.bounds.specs.engine.Progress.{Progress, progress, Listable}
 use Rattle.bounds.proofs.Listing.{next-counted}
 use Rattle.certificate.specs.engine.Searchable.{Searchable}
 use Rattle.certificate.proofs.Searchable.{searchable-depth}
-use Rattle.certificate.proofs.Unmarked.{Waiting}
+use Rattle.certificate.proofs.Unmarked.{Unvisited}
 use Rattle.alphabeta.specs.declared.Visited.{Visited}
-use Rattle.alphabeta.proofs.Pass.{Gives, Owes, owes-all, rest}
+use Rattle.alphabeta.proofs.Pass.{Gives, Remainder, remainder-all, rest}
 
 -- at the head of the loop over the children of node i, from `first` to `end`: child k is next, the window is a b, and
 -- the progress was p₀ and is p
-pub record Turn (t : List ℕ) (i : ℕ) (q : Place) (α β : ℕ) (p₀ : Progress) (first end : ℕ) (p : Progress) (a b k : ℕ)
+pub record VisitLoop (t : List ℕ) (i : ℕ) (q : Position) (α β : ℕ) (p₀ : Progress) (first end : ℕ) (p : Progress) (a b k : ℕ)
     : Type 0 where
   pub from : first ≤ k
   pub to : k ≤ end
   pub marksKept : length (p .marks) ≡ length (p₀ .marks)
   pub orderKept : length (p .order) ≡ length (p₀ .order)
   pub listable : Listable t p
-  pub waiting : Waiting t (p .marks) i k
-  pub owes : Owes (alphaBeta (valuation t) α β (treeAt t i)) (rest (valuation t) (treeAt t) (q .side) a b k end) p₀ p
+  pub unvisited : Unvisited t (p .marks) i k
+  pub remainder : Remainder (alphaBeta (valuation t) α β (treeAt t i)) (rest (valuation t) (treeAt t) (q .side) a b k end) p₀ p
 
 -- a visit of node i in the window α β, from the progress p, leaves the marks e and the list o and hands back x: what
 -- the rule gives, with the count of the marks
@@ -45,7 +45,7 @@ pub visits-same : {t : List ℕ} {i α β : ℕ} {p : Progress} {e e′ o o′ :
 visits-same a b c v = rw (a, b, c) v
 
 -- a node without children whose tree is without a mark may be evaluated
-pub searchable-leaf : (t e : List ℕ) (i : ℕ) (q : Place) → Searchable t e i q → childCount t i ≡ 0
+pub searchable-leaf : (t e : List ℕ) (i : ℕ) (q : Position) → Searchable t e i q → childCount t i ≡ 0
     → Evaluable t e i (q .depth)
 searchable-leaf t e i q r z =
     record {
@@ -71,10 +71,10 @@ module _ (t : List ℕ) (wf : WellFormed t) (i : ℕ) (inside : i < frames t) (�
       }
 
   -- an inner node owes what all its children give
-  pub inner-owes : (q : Place) (first end : ℕ) → q ≡ placeOf t i → 0 < childCount t i → first ≡ firstChild t i
+  pub inner-remainder : (q : Position) (first end : ℕ) → q ≡ positionOf t i → 0 < childCount t i → first ≡ firstChild t i
       → end ≡ first + (childCount t i - 1)
-      → Owes (alphaBeta (valuation t) α β (treeAt t i)) (rest (valuation t) (treeAt t) (q .side) α β first end) p p
+      → Remainder (alphaBeta (valuation t) α β (treeAt t i)) (rest (valuation t) (treeAt t) (q .side) α β first end) p p
   unfolding rest
-  inner-owes q first end l c x r =
+  inner-remainder q first end l c x r =
       let m : childCount t i ≡ suc (end - first) = omega arith in
-      rw (tree-inner t wf i (end - first) inside m, l, x) (owes-all _ p)
+      rw (tree-inner t wf i (end - first) inside m, l, x) (remainder-all _ p)

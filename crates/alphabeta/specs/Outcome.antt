@@ -6,9 +6,9 @@ use lib.ListN.{length}
 use Rattle.gametree.specs.Tree.{least, greatest}
 use Rattle.gametree.specs.AlphaBeta.{reached}
 use Rattle.frames.specs.Tree.{tree, valuation}
-use Rattle.certificate.specs.Search.{searchRejection, findings, Search, Listed, listedOutcome}
-use Rattle.alphabeta.specs.declared.Answer.{Answer}
-use Rattle.alphabeta.specs.declared.Answer.the-variants.{Found, Rejected}
+use Rattle.certificate.specs.Search.{searchRejection, findings, Search, ListedOutcome, listedOutcome}
+use Rattle.alphabeta.specs.declared.AlphaBetaAnswer.{AlphaBetaAnswer}
+use Rattle.alphabeta.specs.declared.AlphaBetaAnswer.the-variants.{Found, Rejected}
 
 -- the leaves of a table that Baudet's condition reaches from the full window, from left to right
 abbrev pub reachedLeaves : List ℕ → List ℕ
@@ -20,7 +20,7 @@ alphaBetaSearch t e c = record { table = t; evaluated = e; certificate = c; leav
 
 -- the outcome of a call with the table t, the buffers e and c and the list o: the first "no" to questions 1 to 10, or
 -- the findings
-abbrev pub alphaBetaOutcome : (t e c o : List ℕ) → Listed Answer
+abbrev pub alphaBetaOutcome : (t e c o : List ℕ) → ListedOutcome AlphaBetaAnswer
 alphaBetaOutcome t e c o =
     listedOutcome Rejected (Found (findings (reachedLeaves t) t))
     (alphaBetaSearch t e c) o (searchRejection t (length e ∷ length c ∷ length o ∷ []))

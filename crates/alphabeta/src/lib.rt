@@ -3,18 +3,18 @@ use bounds::clear;
 use bounds::evaluate_next;
 use certificate::Findings;
 use certificate::ask;
-use certificate::conclude;
-use certificate::shorter;
+use certificate::lesser;
+use certificate::write_certificate;
 use frames::Checked;
 use frames::GREATEST;
 use frames::LEAST;
 use frames::Rejection;
 use frames::child_count;
-use frames::child_place;
+use frames::child_position;
 use frames::first_child;
 use frames::frame_count;
 use frames::value;
-use gametree::Place;
+use gametree::Position;
 use gametree::Side;
 use gametree::better;
 ghost use mathlib.Core.Path.{_≡_};
@@ -24,7 +24,7 @@ ghost use Rattle.gametree.specs.AlphaBeta.{raise, lower, clamp, alphaBeta, full
 ghost use Rattle.gametree.specs.Move.{rootMove};
 ghost use Rattle.frames.specs.Frame.{frames};
 ghost use Rattle.frames.specs.Formed.{WellFormed};
-ghost use Rattle.frames.specs.Place.{rootPlace};
+ghost use Rattle.frames.specs.Position.{rootPosition};
 ghost use Rattle.frames.specs.Tree.{treeAt, tree, valuation};
 ghost use Rattle.bounds.specs.Marks.{ones};
 ghost use Rattle.bounds.specs.engine.Evaluable.{Evaluable};
@@ -34,7 +34,7 @@ ghost use Rattle.certificate.specs.Search.{marksOf, flagsOf, findings, listed};
 ghost use Rattle.alphabeta.specs.Outcome.{reachedLeaves, alphaBetaOutcome};
 
 // The answer of a call: what was found, or the first question that got a "no".
-pub enum Answer {
+pub enum AlphaBetaAnswer {
     Found(Findings),
     Rejected(Rejection),
 }
@@ -46,17 +46,17 @@ pub fn search(
     evaluated: &mut [u8],
     certificate: &mut [u8],
     order: &mut [u16],
-) -> Answer
+) -> AlphaBetaAnswer
     ensures { λ r. ⌜ record {
       order = now (order .exit);
       search = record { answer = r; evaluated = now (evaluated .exit); certificate = now (certificate .exit) };
     } ≡ alphaBetaOutcome (now (table .entry)) (now (evaluated .entry)) (now (certificate .entry))
         (now (order .entry)) ⌝ }
 {
-    let shortest = shorter(shorter(evaluated.len(), certificate.len()), order.len());
+    let shortest = lesser(lesser(evaluated.len(), certificate.len()), order.len());
     match ask(table, shortest) {
-        Checked::Nodes(_) => Answer::Found(run(table, evaluated, certificate, order)),
-        Checked::Rejected(rejection) => Answer::Rejected(rejection),
+        Checked::Nodes(_) => AlphaBetaAnswer::Found(run(table, evaluated, certificate, order)),
+        Checked::Rejected(rejection) => AlphaBetaAnswer::Rejected(rejection),
     }
 }
 
@@ -73,7 +73,7 @@ fn run(table: &[u8], evaluated: &mut [u8], certificate: &mut [u8], order: &mut [
     ensures { λ _. ⌜ now (order .exit) ≡ listed (reachedLeaves (now (table .entry))) (now (order .entry)) ⌝ }
 {
     let findings = find(table, evaluated, order);
-    conclude(table, evaluated, certificate);
+    write_certificate(table, evaluated, certificate);
     findings
 }
 
@@ -106,7 +106,7 @@ struct RootVisit {
 
 // Alpha-beta of the whole tree, without marks: at the root beta stays what it is, and no child closes the window.
 fn visit_root(table: &[u8], evaluated: &mut [u8], order: &mut [u16]) -> RootVisit
-    requires { ⌜ Searchable (now table) (now evaluated) 0 rootPlace ⌝ }
+    requires { ⌜ Searchable (now table) (now evaluated) 0 rootPosition ⌝ }
     requires { ⌜ Listable (now table) (progress 0 (now evaluated) (now order)) ⌝ }
     ensures { λ r. ⌜ (r .alpha ≡ fullWindow (valuation (now (table .entry))) (tree (now (table .entry))) .value)
         × (r .«root_move» ≡ rootMove (valuation (now (table .entry))) (tree (now (table .entry)))) ⌝ }
@@ -115,7 +115,7 @@ fn visit_root(table: &[u8], evaluated: &mut [u8], order: &mut [u16]) -> RootVisi
         (fullWindow (valuation (now (table .entry))) (tree (now (table .entry))) .evaluated) ⌝ }
     ensures { λ r. ⌜ r .leaves ≡ ones (now (evaluated .exit)) (frames (now (table .entry))) ⌝ }
 {
-    let root = Place {
+    let root = Position {
         depth: 0,
         side: Side::Max,
     };
@@ -133,13 +133,13 @@ fn visit_root(table: &[u8], evaluated: &mut [u8], order: &mut [u16]) -> RootVisi
     }
     let mut child = 1;
     loop {
-        let place = child_place(table, child, root);
+        let position = child_position(table, child, root);
         let below = alpha_beta(
             table,
             evaluated,
             order,
             child,
-            place,
+            position,
             alpha,
             GREATEST,
             leaves,
@@ -175,12 +175,12 @@ fn alpha_beta(
     evaluated: &mut [u8],
     order: &mut [u16],
     node: usize,
-    place: Place,
+    position: Position,
     mut alpha: u32,
     mut beta: u32,
     mut leaves: usize,
 ) -> Visited
-    requires { ⌜ Searchable (now table) (now evaluated) node place ⌝ }
+    requires { ⌜ Searchable (now table) (now evaluated) node position ⌝ }
     requires { ⌜ Listable (now table) (progress leaves (now evaluated) (now order)) ⌝ }
     ensures { λ r. ⌜ r .score
         ≡ alphaBeta (valuation (now (table .entry))) alpha beta (treeAt (now (table .entry)) node) .value ⌝ }
@@ -191,13 +191,13 @@ fn alpha_beta(
 {
     let count = child_count(table, node);
     if count == 0 {
-        return visit_leaf(table, evaluated, order, node, place, alpha, beta, leaves);
+        return visit_leaf(table, evaluated, order, node, position, alpha, beta, leaves);
     }
-    let side = place.side;
+    let side = position.side;
     let mut child = first_child(table, node);
     let last = child + (count - 1);
     let score = loop {
-        let below = child_place(table, child, place);
+        let below = child_position(table, child, position);
         let visited = if child_count(table, child) == 0 {
             visit_leaf(table, evaluated, order, child, below, alpha, beta, leaves)
         } else {
@@ -223,19 +223,19 @@ fn visit_leaf(
     evaluated: &mut [u8],
     order: &mut [u16],
     node: usize,
-    place: Place,
+    position: Position,
     alpha: u32,
     beta: u32,
     leaves: usize,
 ) -> Visited
-    requires { ⌜ Evaluable (now table) (now evaluated) node (place .depth) ⌝ }
+    requires { ⌜ Evaluable (now table) (now evaluated) node (position .depth) ⌝ }
     requires { ⌜ Listable (now table) (progress leaves (now evaluated) (now order)) ⌝ }
     ensures { λ r. ⌜ (r .score ≡ clamp alpha beta (valuation (now (table .entry)) node))
         × (r .leaves ≡ leaves + 1) ⌝ }
     ensures { λ _. ⌜ now (evaluated .exit) ≡ set (now (evaluated .entry)) node 1 ⌝ }
     ensures { λ _. ⌜ now (order .exit) ≡ set (now (order .entry)) leaves node ⌝ }
 {
-    let leaf = evaluate_next(table, evaluated, order, node, place.depth, leaves);
+    let leaf = evaluate_next(table, evaluated, order, node, position.depth, leaves);
     let score = clamped(alpha, beta, leaf.score);
     Visited {
         score,

@@ -5,8 +5,8 @@ use native.Mathlib.Omega.{arith}
 use mathlib.Core.Path.{_≡_, refl, sym, ap, _∙_}
 use mathlib.Core.List.{List}
 use lib.ListN.{length, getD, set, length-set}
-use Rattle.places.specs.Buffer.{written}
-use Rattle.places.proofs.Buffers.{written-none, written-at, written-past, written-behind}
+use Rattle.positions.specs.Buffer.{written}
+use Rattle.positions.proofs.Buffers.{written-none, written-at, written-past, written-behind}
 
 -- the loop before entry i - 1 of n: with the first i entries written too, the array b is b₀ with all n of them written
 pub record Rising (f : ℕ → ℕ) (n : ℕ) (b₀ b : List ℕ) (i : ℕ) : Type 0 where

@@ -8,11 +8,11 @@ use lib.ListN.{getD, set}
 use lib.Seq.{set-getD}
 use borrow.Author.Tests.{eq-eqb, ne-eqb}
 use Rattle.gametree.specs.declared.Side.{Side}
-use Rattle.gametree.specs.Tree.{Tree, least, greatest, better, minimax, minimaxKids}
+use Rattle.gametree.specs.Tree.{Tree, least, greatest, better, minimax, minimaxChildren}
 use Rattle.gametree.specs.Bounds.{known}
 use Rattle.frames.specs.Frame.{frames, firstChild, childCount}
-use Rattle.frames.specs.Place.{sideOf}
-use Rattle.frames.specs.Tree.{kidsFrom, treeAt, valuation}
+use Rattle.frames.specs.Position.{sideOf}
+use Rattle.frames.specs.Tree.{childrenFrom, treeAt, valuation}
 use Rattle.frames.specs.Formed.{WellFormed, ChildOf}
 use Rattle.frames.proofs.Next.{child-later, child-within}
 use Rattle.frames.proofs.Trees.{tree-leaf, tree-inner}
@@ -45,8 +45,8 @@ best-same s f g i (suc n) e =
 
 -- the minimax value of a node is the best of its children's
 pub minimax-best : (μ : ℕ → ℕ) (s : Side) (g : ℕ → Tree) (i n : ℕ)
-    → minimaxKids μ s (kidsFrom g i n) ≡ bestIn s (λ k. minimax μ (g k)) i n
-unfolding bestIn kidsFrom
+    → minimaxChildren μ s (childrenFrom g i n) ≡ bestIn s (λ k. minimax μ (g k)) i n
+unfolding bestIn childrenFrom
 minimax-best μ s g i zero = refl
 minimax-best μ s g i (suc n) = ap (better s (minimax μ (g i))) (minimax-best μ s g (i + 1) n)
 

@@ -8,7 +8,7 @@ use mathlib.Core.Bool.{Bool, true, false, cond}
 use mathlib.Core.List.{List, [], _∷_, _++_}
 use lib.ListN.{length, set, drop, length-append}
 use lib.Seq.{getD-set-same, sets, sets-eq}
-use Rattle.places.specs.Buffer.{written}
+use Rattle.positions.specs.Buffer.{written}
 use Rattle.frames.specs.Frame.{maxNodes, frames}
 use Rattle.bounds.specs.Marks.{marked, ones, markAll}
 use Rattle.bounds.specs.engine.Progress.{Progress, progress, evaluateAll, Listable}
@@ -101,9 +101,9 @@ first-evaluated n m e e′ o o′ w d c r =
 -- before the first leaf is evaluated
 pub listable-first : (t e e₁ o : List ℕ) (n : ℕ) → e₁ ≡ written (λ k. 0) n e → n ≡ frames t → frames t ≤ maxNodes
     → frames t ≤ length o → Listable t (progress 0 e₁ o)
-listable-first t e e₁ o n c q few room =
+listable-first t e e₁ o n c q atMost room =
     record {
-      few = few;
+      atMost = atMost;
       room = room;
       counted = sym (ones-none e₁ (frames t) (λ k h. cleared-unmarked n e c k (omega arith)));
     }

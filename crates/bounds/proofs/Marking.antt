@@ -7,8 +7,8 @@ use lib.Dec.{eqb}
 use lib.ListN.{length, set, length-set}
 use lib.Seq.{getD-set-other}
 use Rattle.lists.specs.Lists.{All, among}
-use Rattle.places.specs.Buffer.{written}
-use Rattle.places.proofs.Buffers.{written-at, written-same, put, written-set}
+use Rattle.positions.specs.Buffer.{written}
+use Rattle.positions.proofs.Buffers.{written-at, written-same, put, written-set}
 use Rattle.bounds.specs.Marks.{mark, marked, markAll}
 
 pub markAll-append : (b v w : List ℕ) → markAll b (v ++ w) ≡ markAll (markAll b v) w

@@ -7,18 +7,18 @@ use frames::frame_count;
 use frames::leaf_score;
 use gametree::Side;
 use gametree::better;
-use places::depth_at;
-use places::side_at;
+use positions::depth_at;
+use positions::side_at;
 ghost use mathlib.Core.Path.{_≡_};
 ghost use Prim.Native.Nat.{ℕ, _+_, _-_, _<_, _≤_};
 ghost use lib.ListN.{length, getD, set};
 ghost use Rattle.gametree.specs.Tree.{least, greatest};
 ghost use Rattle.frames.specs.Frame.{maxNodes, frames, twoBytes};
-ghost use Rattle.frames.specs.Place.{depthOf};
+ghost use Rattle.frames.specs.Position.{depthOf};
 ghost use Rattle.frames.specs.Tree.{valuation};
 ghost use Rattle.frames.specs.Formed.{WellFormed, ChildOf};
-ghost use Rattle.places.specs.Buffer.{written};
-ghost use Rattle.places.specs.engine.Places.{Placed};
+ghost use Rattle.positions.specs.Buffer.{written};
+ghost use Rattle.positions.specs.engine.Positions.{Positioned};
 ghost use Rattle.bounds.specs.Marks.{marked};
 ghost use Rattle.bounds.specs.engine.Evaluable.{Evaluable};
 ghost use Rattle.bounds.specs.engine.Progress.{progress, Listable};
@@ -96,12 +96,12 @@ struct Interval {
 // The bounds of every node, from the leaves up.
 pub fn fill_bounds(
     table: &[u8],
-    places: &[u32],
+    positions: &[u32],
     evaluated: &mut [u8],
     lows: &mut [u32],
     highs: &mut [u32],
 )
-    requires { ⌜ (WellFormed (now table)) × (Placed (now table) (now places))
+    requires { ⌜ (WellFormed (now table)) × (Positioned (now table) (now positions))
         × (frames (now table) ≤ length (now evaluated)) ⌝ }
     requires { ⌜ (frames (now table) ≤ length (now lows)) × (frames (now table) ≤ length (now highs)) ⌝ }
     ensures { λ _. ⌜ now (lows .exit)
@@ -115,7 +115,7 @@ pub fn fill_bounds(
     let mut node = frame_count(table);
     while 0 < node {
         node -= 1;
-        let bounds = node_bounds(table, places, evaluated, lows, highs, node);
+        let bounds = node_bounds(table, positions, evaluated, lows, highs, node);
         lows[node] = bounds.low;
         highs[node] = bounds.high;
     }
@@ -124,13 +124,13 @@ pub fn fill_bounds(
 // The bounds of one node: a leaf's own, or the best of its children's.
 fn node_bounds(
     table: &[u8],
-    places: &[u32],
+    positions: &[u32],
     evaluated: &mut [u8],
     lows: &[u32],
     highs: &[u32],
     node: usize,
 ) -> Interval
-    requires { ⌜ (WellFormed (now table)) × (Placed (now table) (now places))
+    requires { ⌜ (WellFormed (now table)) × (Positioned (now table) (now positions))
         × (frames (now table) ≤ length (now evaluated)) ⌝ }
     requires { ⌜ (node < frames (now table)) × (frames (now table) ≤ length (now lows))
         × (frames (now table) ≤ length (now highs)) ⌝ }
@@ -143,11 +143,11 @@ fn node_bounds(
 {
     let count = child_count(table, node);
     if count == 0 {
-        return leaf_bounds(table, evaluated, node, depth_at(places, node));
+        return leaf_bounds(table, evaluated, node, depth_at(positions, node));
     }
     let first = first_child(table, node);
     let end = first + count;
-    let side = side_at(places, node);
+    let side = side_at(positions, node);
     let low = best(lows, first, end, side);
     let high = best(highs, first, end, side);
     Interval { low, high }

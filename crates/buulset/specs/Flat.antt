@@ -16,17 +16,17 @@ use Rattle.writer.specs.declared.Written.the-variants as written
 use Rattle.writer.specs.Write as write
 use Rattle.certificate.specs.declared.Findings.{Findings}
 use Rattle.certificate.specs.Search as search
-use Rattle.alphabeta.specs.declared.Answer as alphabeta
-use Rattle.plain.specs.declared.Answer as plain
-use Rattle.plain.specs.declared.Found as plainFound
-use Rattle.mtd.specs.declared.Answer as mtd
-use Rattle.mtdf.specs.declared.Answer as mtdf
-use Rattle.sss.specs.declared.Answer as sss
+use Rattle.alphabeta.specs.declared.AlphaBetaAnswer as alphabeta
+use Rattle.plain.specs.declared.PlainAnswer as plain
+use Rattle.plain.specs.declared.PlainResult as plainFound
+use Rattle.mtd.specs.declared.MtdAnswer as mtd
+use Rattle.mtdf.specs.declared.MtdfAnswer as mtdf
+use Rattle.sss.specs.declared.SssAnswer as sss
 use Rattle.sss.specs.declared.Spent.{Spent}
 use Rattle.verify.specs.declared.Verdict as verify
 use Rattle.shorter.specs.declared.Choice as shorter
 use Rattle.graft.specs.Outcome as graft
-use Rattle.leafvalue.specs.declared.Needed as leafvalue
+use Rattle.leafvalue.specs.declared.LeastValue as leafvalue
 use Rattle.worstcase.specs.declared.Filled as worstcase
 use Rattle.worstcase.specs.Outcome as fill
 use Rattle.leastcount.specs.declared.Least as leastcount
@@ -69,7 +69,7 @@ valued v = result v 0 0 0 0
 abbrev pub found : Findings → ℕ → Answer
 found f s = result (f .value) 0 (f .«root_move») (f .leaves) s
 
-abbrev pub moved : plainFound.Found → Answer
+abbrev pub moved : plainFound.PlainResult → Answer
 moved f = result (f .value) 0 (f .«root_move») 0 0
 
 -- that an allowance is spent, with its merit
@@ -111,23 +111,23 @@ unfoldable pub flatWritten : Written → Answer
 flatWritten (written.Length n) = counted n
 flatWritten (written.Rejected r) = refused r
 
-unfoldable pub flatAlphaBeta : alphabeta.Answer → Answer
+unfoldable pub flatAlphaBeta : alphabeta.AlphaBetaAnswer → Answer
 flatAlphaBeta (alphabeta.the-variants.Found f) = found f 0
 flatAlphaBeta (alphabeta.the-variants.Rejected r) = refused r
 
-unfoldable pub flatPlain : plain.Answer → Answer
+unfoldable pub flatPlain : plain.PlainAnswer → Answer
 flatPlain (plain.the-variants.Found f) = moved f
 flatPlain (plain.the-variants.Rejected r) = refused r
 
-unfoldable pub flatMtd : mtd.Answer → Answer
+unfoldable pub flatMtd : mtd.MtdAnswer → Answer
 flatMtd (mtd.the-variants.Found f) = found (f .findings) (f .passes)
 flatMtd (mtd.the-variants.Rejected r) = refused r
 
-unfoldable pub flatMtdf : mtdf.Answer → Answer
+unfoldable pub flatMtdf : mtdf.MtdfAnswer → Answer
 flatMtdf (mtdf.the-variants.Found f) = found (f .findings) (f .tests)
 flatMtdf (mtdf.the-variants.Rejected r) = refused r
 
-unfoldable pub flatSss : sss.Answer → Answer
+unfoldable pub flatSss : sss.SssAnswer → Answer
 flatSss (sss.the-variants.Found f) = found (f .findings) (f .replacements)
 flatSss (sss.the-variants.Spent s) = spent s
 flatSss (sss.the-variants.Rejected r) = refused r
@@ -136,9 +136,9 @@ unfoldable pub flatVerdict : verify.Verdict → Answer
 flatVerdict (verify.the-variants.Value v) = valued v
 flatVerdict (verify.the-variants.Rejected r) = refused r
 
-unfoldable pub flatNeeded : leafvalue.Needed → Answer
-flatNeeded (leafvalue.the-variants.Value v) = valued v
-flatNeeded (leafvalue.the-variants.Rejected r) = refused r
+unfoldable pub flatLeastValue : leafvalue.LeastValue → Answer
+flatLeastValue (leafvalue.the-variants.Value v) = valued v
+flatLeastValue (leafvalue.the-variants.Rejected r) = refused r
 
 unfoldable pub flatFilled : worstcase.Filled → Answer
 flatFilled (worstcase.the-variants.Leaves l) = leavesOf l
@@ -200,13 +200,13 @@ pub record Lent : Type 0 where
   pub answer : Answer
   pub buffer : List ℕ
 
-abbrev pub flatWrite : write.Outcome → Lent
+abbrev pub flatWrite : write.WriteResult → Lent
 flatWrite o = record { answer = flatWritten (o .answer); buffer = o .file }
 
-abbrev pub flatGraft : graft.Outcome → Lent
+abbrev pub flatGraft : graft.GraftResult → Lent
 flatGraft o = record { answer = flatChecked (o .answer); buffer = o .result }
 
-abbrev pub flatFill : fill.Outcome → Lent
+abbrev pub flatFill : fill.FillResult → Lent
 flatFill o = record { answer = flatFilled (o .answer); buffer = o .table }
 
 -- the outcome of a search with its answer flat, the two buffers as they are
@@ -214,5 +214,5 @@ abbrev pub flatSearch : {A : Type 0} → (A → Answer) → search.Outcome A →
 flatSearch f o = record { answer = f (o .answer); evaluated = o .evaluated; certificate = o .certificate }
 
 -- and of one that lists its leaves, the list as it is
-abbrev pub flatListed : {A : Type 0} → (A → Answer) → search.Listed A → search.Listed Answer
+abbrev pub flatListed : {A : Type 0} → (A → Answer) → search.ListedOutcome A → search.ListedOutcome Answer
 flatListed f o = record { order = o .order; search = flatSearch f (o .search) }

@@ -24,7 +24,7 @@ ghost use Rattle.sss.specs.Outcome.{solveOutcome};
 ghost use Rattle.verify.specs.Check.{verdict};
 ghost use Rattle.shorter.specs.Choice.{choice, chosenFlags};
 ghost use Rattle.graft.specs.Outcome.{graftOutcome};
-ghost use Rattle.leafvalue.specs.Wanted.{needed};
+ghost use Rattle.leafvalue.specs.LeastValue.{leastValue};
 ghost use Rattle.worstcase.specs.Outcome.{fillOutcome};
 ghost use Rattle.leastcount.specs.Answer.{leastAnswer};
 ghost use Rattle.report.specs.Report.{report};
@@ -32,7 +32,7 @@ ghost use Rattle.text.specs.Text.{refusedLine, textOf};
 ghost use Rattle.buulset.specs.Flat.{counted as countedOf, leavesOf, valued as valuedOf, found as foundOf};
 ghost use Rattle.buulset.specs.Flat.{moved as movedOf, spent as spentOf, refused as refusedOf, flatText};
 ghost use Rattle.buulset.specs.Flat.{flatChecked, flatWritten, flatAlphaBeta, flatPlain, flatMtd, flatMtdf};
-ghost use Rattle.buulset.specs.Flat.{flatSss, flatVerdict, flatNeeded, flatFilled, flatLeast, version};
+ghost use Rattle.buulset.specs.Flat.{flatSss, flatVerdict, flatLeastValue, flatFilled, flatLeast, version};
 ghost use Rattle.buulset.specs.Flat.{flatChoice, chosen as chosenOf, noChoice as noChoiceOf};
 ghost use Rattle.buulset.specs.Flat.{flatChildren, noChildren, partOf};
 ghost use Rattle.buulset.specs.Flat.{flatWrite, flatGraft, flatFill, flatSearch, flatListed};
@@ -299,9 +299,9 @@ pub extern "C" fn buulset_graft(
 // `leafvalue::least_value`: `value` is the leaf's.
 #[no_mangle]
 pub extern "C" fn buulset_least_value(table: &[u8], node: usize, wanted: i32) -> Answer
-    ensures { λ r. ⌜ r ≡ flatNeeded (needed (now (table .entry)) node wanted) ⌝ }
+    ensures { λ r. ⌜ r ≡ flatLeastValue (leastValue (now (table .entry)) node wanted) ⌝ }
 {
-    flat_needed(leafvalue::least_value(table, node, wanted))
+    flat_least_value(leafvalue::least_value(table, node, wanted))
 }
 
 // `worstcase::fill`: the ranks in the table; leaves.
@@ -412,7 +412,7 @@ fn found(f: Findings, steps: usize) -> Answer
 }
 
 // What the plain engine finds as an answer.
-fn moved(f: plain::Found) -> Answer
+fn moved(f: plain::PlainResult) -> Answer
     ensures { λ r. ⌜ r ≡ movedOf f ⌝ }
 {
     Answer {
@@ -483,62 +483,62 @@ fn flat_written(answer: Written) -> Answer
 }
 
 // That of alpha-beta, flat.
-fn flat_alphabeta(answer: alphabeta::Answer) -> Answer
+fn flat_alphabeta(answer: alphabeta::AlphaBetaAnswer) -> Answer
     ensures { λ r. ⌜ r ≡ flatAlphaBeta answer ⌝ }
 {
     match answer {
-        alphabeta::Answer::Found(f) => found(f, 0),
-        alphabeta::Answer::Rejected(rejection) => refused(rejection),
+        alphabeta::AlphaBetaAnswer::Found(f) => found(f, 0),
+        alphabeta::AlphaBetaAnswer::Rejected(rejection) => refused(rejection),
     }
 }
 
 // That of the plain engine, flat.
-fn flat_plain(answer: plain::Answer) -> Answer
+fn flat_plain(answer: plain::PlainAnswer) -> Answer
     ensures { λ r. ⌜ r ≡ flatPlain answer ⌝ }
 {
     match answer {
-        plain::Answer::Found(f) => moved(f),
-        plain::Answer::Rejected(rejection) => refused(rejection),
+        plain::PlainAnswer::Found(f) => moved(f),
+        plain::PlainAnswer::Rejected(rejection) => refused(rejection),
     }
 }
 
 // That of MTD, flat.
-fn flat_mtd(answer: mtd::Answer) -> Answer
+fn flat_mtd(answer: mtd::MtdAnswer) -> Answer
     ensures { λ r. ⌜ r ≡ flatMtd answer ⌝ }
 {
     match answer {
-        mtd::Answer::Found(f) => {
+        mtd::MtdAnswer::Found(f) => {
             let findings = f.findings;
             found(findings, f.passes)
         },
-        mtd::Answer::Rejected(rejection) => refused(rejection),
+        mtd::MtdAnswer::Rejected(rejection) => refused(rejection),
     }
 }
 
 // That of MTD(f), flat.
-fn flat_mtdf(answer: mtdf::Answer) -> Answer
+fn flat_mtdf(answer: mtdf::MtdfAnswer) -> Answer
     ensures { λ r. ⌜ r ≡ flatMtdf answer ⌝ }
 {
     match answer {
-        mtdf::Answer::Found(f) => {
+        mtdf::MtdfAnswer::Found(f) => {
             let findings = f.findings;
             found(findings, f.tests)
         },
-        mtdf::Answer::Rejected(rejection) => refused(rejection),
+        mtdf::MtdfAnswer::Rejected(rejection) => refused(rejection),
     }
 }
 
 // That of SSS*, flat.
-fn flat_sss(answer: sss::Answer) -> Answer
+fn flat_sss(answer: sss::SssAnswer) -> Answer
     ensures { λ r. ⌜ r ≡ flatSss answer ⌝ }
 {
     match answer {
-        sss::Answer::Found(f) => {
+        sss::SssAnswer::Found(f) => {
             let findings = f.findings;
             found(findings, f.replacements)
         },
-        sss::Answer::Spent(s) => spent(s),
-        sss::Answer::Rejected(rejection) => refused(rejection),
+        sss::SssAnswer::Spent(s) => spent(s),
+        sss::SssAnswer::Rejected(rejection) => refused(rejection),
     }
 }
 
@@ -588,12 +588,12 @@ fn no_choice(rejection: Rejection) -> Choice
 }
 
 // That of a wanted value, flat.
-fn flat_needed(answer: leafvalue::Needed) -> Answer
-    ensures { λ r. ⌜ r ≡ flatNeeded answer ⌝ }
+fn flat_least_value(answer: leafvalue::LeastValue) -> Answer
+    ensures { λ r. ⌜ r ≡ flatLeastValue answer ⌝ }
 {
     match answer {
-        leafvalue::Needed::Value(value) => valued(value),
-        leafvalue::Needed::Rejected(rejection) => refused(rejection),
+        leafvalue::LeastValue::Value(value) => valued(value),
+        leafvalue::LeastValue::Rejected(rejection) => refused(rejection),
     }
 }
 

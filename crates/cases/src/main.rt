@@ -26,7 +26,7 @@ use tablecalls::files::print_writing;
 use tablecalls::least::print_least_counts;
 use tablecalls::least::print_regular;
 use tablecalls::tables::print_children;
-use tablecalls::wanted::print_needed;
+use tablecalls::wanted::print_least_value;
 ghost use mathlib.Core.Path.{_≡_};
 ghost use lib.ListN.{getD};
 
@@ -109,7 +109,7 @@ fn print_call(letter: u8, file: &[u8], numbers: &[u32; NUMBERS]) {
         b'w' => print_writing(file, numbers[0], numbers[1]),
         b'o' => print_output(file, numbers[0]),
         b'g' => print_graft(file, numbers),
-        b'v' => print_needed(file, numbers[0], numbers[1], numbers[2], numbers[3]),
+        b'v' => print_least_value(file, numbers[0], numbers[1], numbers[2], numbers[3]),
         b'd' => print_filling(file, numbers[0]),
         b'r' => print_regular(numbers[0], numbers[1]),
         b'c' => print_checks(file, numbers[0]),

@@ -11,35 +11,35 @@ use Rattle.gametree.specs.declared.Side.{Side}
 use Rattle.gametree.specs.declared.Side.the-variants.{Max, Min}
 use Rattle.gametree.specs.Tree.{Tree, inner, least, greatest, other, minimax, number}
 use Rattle.gametree.specs.Bounds.{low, high}
-use Rattle.gametree.specs.Certificate.{fill}
+use Rattle.gametree.specs.Certificate.{unknownScore}
 use Rattle.gametree.specs.Move.{firstWith, boundMove}
 use Rattle.frames.specs.Frame.{frames, childCount, next}
-use Rattle.frames.specs.Place.{sideOf}
-use Rattle.frames.specs.Tree.{kidsFrom, treeAt, tree, valuation}
+use Rattle.frames.specs.Position.{sideOf}
+use Rattle.frames.specs.Tree.{childrenFrom, treeAt, tree, valuation}
 use Rattle.frames.specs.Formed.{WellFormed}
 use Rattle.frames.proofs.Next.{next-more, next-within}
 use Rattle.frames.proofs.Trees.{zero-or-suc, tree-leaf, tree-inner, tree-number}
-use Rattle.places.specs.Buffer.{written}
-use Rattle.places.specs.engine.Places.{sideIn, Placed}
-use Rattle.places.proofs.Buffers.{written-at}
-use Rattle.places.proofs.Places.{placed-side}
+use Rattle.positions.specs.Buffer.{written}
+use Rattle.positions.specs.engine.Positions.{sideIn, Positioned}
+use Rattle.positions.proofs.Buffers.{written-at}
+use Rattle.positions.proofs.Positions.{positioned-side}
 use Rattle.flags.specs.engine.Chosen.{firstEqual, bySide, chosenChild}
 use Rattle.flags.proofs.Chosen.{first-same}
 use Rattle.bounds.specs.engine.Bounds.{boundOf}
 
 -- the arrays hold the side and both bounds of each node
-pub record Bounded (t : List ℕ) (E : ℕ → Bool) (places lows highs : List ℕ) : Type 0 where
-  pub sidesAre : (k : ℕ) → k < frames t → sideIn places k ≡ sideOf t k
+pub record Bounded (t : List ℕ) (E : ℕ → Bool) (positions lows highs : List ℕ) : Type 0 where
+  pub sidesAre : (k : ℕ) → k < frames t → sideIn positions k ≡ sideOf t k
   pub lowsAre : (k : ℕ) → k < frames t → getD lows k 0 ≡ boundOf t E least k
   pub highsAre : (k : ℕ) → k < frames t → getD highs k 0 ≡ boundOf t E greatest k
 
 -- arrays that were written so hold them
-pub bounded : (t : List ℕ) (E : ℕ → Bool) (l h : List ℕ) {places lows highs : List ℕ} → Placed t places
+pub bounded : (t : List ℕ) (E : ℕ → Bool) (l h : List ℕ) {positions lows highs : List ℕ} → Positioned t positions
     → lows ≡ written (boundOf t E least) (frames t) l → highs ≡ written (boundOf t E greatest) (frames t) h
-    → Bounded t E places lows highs
-bounded t E l h {places} p q r =
+    → Bounded t E positions lows highs
+bounded t E l h {positions} p q r =
     record {
-      sidesAre = placed-side t places p;
+      sidesAre = positioned-side t positions p;
       lowsAre = λ k m. ap (λ x. getD x k 0) q ∙ written-at (boundOf t E least) (frames t) k l m;
       highsAre = λ k m. ap (λ x. getD x k 0) r ∙ written-at (boundOf t E greatest) (frames t) k h m;
     }
@@ -47,7 +47,7 @@ bounded t E l h {places} p q r =
 -- the chosen child of node i by the definitions
 unfoldable pub chosenOf : List ℕ → (ℕ → Bool) → Side → ℕ → ℕ
 chosenOf t E s i =
-    firstEqual (boundOf t E (fill (other s))) (boundOf t E (fill (other s)) i) (next t i) (childCount t i)
+    firstEqual (boundOf t E (unknownScore (other s))) (boundOf t E (unknownScore (other s)) i) (next t i) (childCount t i)
 
 module _ (t : List ℕ) (wf : WellFormed t) (E : ℕ → Bool) where
   by-bounds : (bounds : List ℕ) (x i : ℕ) → i < frames t → ((k : ℕ) → k < frames t → getD bounds k 0 ≡ boundOf t E x k)
@@ -58,33 +58,33 @@ module _ (t : List ℕ) (wf : WellFormed t) (E : ℕ → Bool) where
       (λ k l m. e k (omega (arith, next-more t i, next-within t wf (i + 1) (omega arith))))
       ∙ ap (λ v. firstEqual (boundOf t E x) v (next t i) (childCount t i)) (e i h)
 
-  by-side : {places lows highs : List ℕ} → Bounded t E places lows highs → (s : Side) (i : ℕ) → i < frames t
+  by-side : {positions lows highs : List ℕ} → Bounded t E positions lows highs → (s : Side) (i : ℕ) → i < frames t
       → chosenChild (bySide s lows highs) i (next t i) (childCount t i) ≡ chosenOf t E s i
   unfolding chosenOf
   by-side {lows = lows} b Max i h = by-bounds lows least i h (b .lowsAre)
   by-side {highs = highs} b Min i h = by-bounds highs greatest i h (b .highsAre)
 
   -- the arrays give it
-  pub chosen-arrays : {places lows highs : List ℕ} → Bounded t E places lows highs → (i : ℕ) → i < frames t
-      → chosenChild (bySide (sideIn places i) lows highs) i (next t i) (childCount t i)
+  pub chosen-arrays : {positions lows highs : List ℕ} → Bounded t E positions lows highs → (i : ℕ) → i < frames t
+      → chosenChild (bySide (sideIn positions i) lows highs) i (next t i) (childCount t i)
       ≡ chosenOf t E (sideOf t i) i
-  chosen-arrays {places} {lows} {highs} b i h =
+  chosen-arrays {positions} {lows} {highs} b i h =
       ap (λ s. chosenChild (bySide s lows highs) i (next t i) (childCount t i))
       (b .sidesAre i h)
       ∙ by-side b (sideOf t i) i h
 
 -- the first child with a value, by number
 pub first-with : (f : Tree → ℕ) (h : ℕ → Tree) → ((k : ℕ) → number (h k) ≡ k) → (v i n : ℕ)
-    → firstEqual (λ k. f (h k)) v i (suc n) ≡ firstWith f v (kidsFrom h i n)
-unfolding firstEqual kidsFrom
+    → firstEqual (λ k. f (h k)) v i (suc n) ≡ firstWith f v (childrenFrom h i n)
+unfolding firstEqual childrenFrom
 first-with f h e v i zero = ap (λ x. cond (eqb (f (h i)) v) x 0) (sym (e i))
 first-with f h e v i (suc n) = ap₂ (cond (eqb (f (h i)) v)) (sym (e i)) (first-with f h e v (i + 1) n)
 
 module _ (t : List ℕ) (wf : WellFormed t) (E : ℕ → Bool) where
   move-inner : (s : Side) (i n : ℕ)
-      → firstEqual (boundOf t E (fill (other s)))
-      (minimax (λ k. cond (E k) (valuation t k) (fill (other s))) (inner 0 s (kidsFrom (treeAt t) i n))) i (suc n)
-      ≡ boundMove (valuation t) E (inner 0 s (kidsFrom (treeAt t) i n))
+      → firstEqual (boundOf t E (unknownScore (other s)))
+      (minimax (λ k. cond (E k) (valuation t k) (unknownScore (other s))) (inner 0 s (childrenFrom (treeAt t) i n))) i (suc n)
+      ≡ boundMove (valuation t) E (inner 0 s (childrenFrom (treeAt t) i n))
   move-inner Max i n = first-with (low (valuation t) E) (treeAt t) (tree-number t) _ i n
   move-inner Min i n = first-with (high (valuation t) E) (treeAt t) (tree-number t) _ i n
 
@@ -92,13 +92,13 @@ module _ (t : List ℕ) (wf : WellFormed t) (E : ℕ → Bool) where
   pub chosen-root : chosenOf t E (sideOf t 0) 0 ≡ boundMove (valuation t) E (tree t)
   unfolding chosenOf firstEqual next
   chosen-root =
-      zero-or-suc (childCount t 0) (λ e. rw (e, tree-leaf t wf 0 (wf .some) e)) (λ n e.
-      let p = wf .first 0 (wf .some) (omega arith) in
-      rw (e, tree-inner t wf 0 n (wf .some) e, p) (move-inner (sideOf t 0) 1 n))
+      zero-or-suc (childCount t 0) (λ e. rw (e, tree-leaf t wf 0 (wf .nonEmpty) e)) (λ n e.
+      let p = wf .first 0 (wf .nonEmpty) (omega arith) in
+      rw (e, tree-inner t wf 0 n (wf .nonEmpty) e, p) (move-inner (sideOf t 0) 1 n))
 
   -- so the arrays give the move
-  pub chosen-move : {places lows highs : List ℕ} → Bounded t E places lows highs
-      → chosenChild (bySide (sideIn places 0) lows highs) 0 1 (childCount t 0)
+  pub chosen-move : {positions lows highs : List ℕ} → Bounded t E positions lows highs
+      → chosenChild (bySide (sideIn positions 0) lows highs) 0 1 (childCount t 0)
       ≡ boundMove (valuation t) E (tree t)
   unfolding next
-  chosen-move b = chosen-arrays t wf E b 0 (wf .some) ∙ chosen-root
+  chosen-move b = chosen-arrays t wf E b 0 (wf .nonEmpty) ∙ chosen-root

@@ -9,21 +9,21 @@ use Rattle.gametree.specs.declared.Side.{Side}
 use Rattle.gametree.specs.declared.Side.the-variants.{Max, Min}
 use Rattle.gametree.specs.Tree.{other}
 use Rattle.gametree.specs.Bounds.{known}
-use Rattle.gametree.specs.Certificate.{fill, flag}
+use Rattle.gametree.specs.Certificate.{unknownScore, flag}
 use Rattle.gametree.specs.Move.{boundMove}
 use Rattle.gametree.proofs.minimax.Bounds.{minimax-mono}
 use Rattle.frames.specs.Frame.{frames, childCount, next}
-use Rattle.frames.specs.Place.{sideOf}
+use Rattle.frames.specs.Position.{sideOf}
 use Rattle.frames.specs.Tree.{treeAt, tree, valuation}
 use Rattle.frames.specs.Formed.{WellFormed}
 use Rattle.frames.proofs.Next.{next-more, next-within}
 use Rattle.frames.proofs.Parents.{top-down}
 use Rattle.frames.proofs.Proper.{every-leaf}
-use Rattle.places.specs.Buffer.{written}
+use Rattle.positions.specs.Buffer.{written}
 use Rattle.bounds.specs.Marks.{mark, marked}
 use Rattle.flags.specs.engine.Chosen.{firstEqual}
 use Rattle.bounds.specs.engine.Bounds.{boundOf}
-use Rattle.places.proofs.Buffers.{written-same}
+use Rattle.positions.proofs.Buffers.{written-same}
 use Rattle.flags.proofs.Chosen.{first-same}
 use Rattle.certificate.proofs.Chosen.{chosenOf, chosen-root}
 use Rattle.certificate.proofs.Solutions.{childIn, solution, solution-root, solution-child}
@@ -46,7 +46,7 @@ module _ (t : List ℕ) (wf : WellFormed t) (E F : ℕ → Bool) (same : (k : �
   pub chosen-same : (s : Side) (i : ℕ) → i < frames t → chosenOf t E s i ≡ chosenOf t F s i
   unfolding chosenOf
   chosen-same s i h =
-      let x = fill (other s) in
+      let x = unknownScore (other s) in
       first-same (boundOf t E x) (boundOf t F x) (boundOf t E x i) (next t i) (childCount t i)
       (λ k l m. bound-same x k (omega (arith, next-more t i, next-within t wf (i + 1) (omega arith))))
       ∙ ap (λ v. firstEqual (boundOf t F x) v (next t i) (childCount t i)) (bound-same x i h)
@@ -66,9 +66,9 @@ module _ (t : List ℕ) (wf : WellFormed t) (E F : ℕ → Bool) (same : (k : �
 
   -- the same move
   pub move-same : boundMove (valuation t) E (tree t) ≡ boundMove (valuation t) F (tree t)
-  move-same = sym (chosen-root t wf E) ∙ chosen-same (sideOf t 0) 0 (wf .some) ∙ chosen-root t wf F
+  move-same = sym (chosen-root t wf E) ∙ chosen-same (sideOf t 0) 0 (wf .nonEmpty) ∙ chosen-root t wf F
 
--- what `conclude` gives from the marks e of a set E of nodes is what the definitions give from E
+-- what `write-certificate` gives from the marks e of a set E of nodes is what the definitions give from E
 pub concluded : (t : List ℕ) → WellFormed t → (E : ℕ → Bool) (b e c : List ℕ) → e ≡ written (mark E) (frames t) b
     → (boundMove (valuation t) (marked e) (tree t) ≡ boundMove (valuation t) E (tree t))
     × (written (flag (valuation t) (marked e) (tree t)) (frames t) c

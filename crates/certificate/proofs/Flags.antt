@@ -7,17 +7,17 @@ use lib.Dec.{eqb}
 use Rattle.gametree.specs.declared.Side.{Side}
 use Rattle.gametree.specs.declared.Side.the-variants.{Max, Min}
 use Rattle.gametree.specs.Certificate.{same, flag}
-use Rattle.frames.specs.Place.{sideOf}
+use Rattle.frames.specs.Position.{sideOf}
 use Rattle.frames.specs.Tree.{tree, valuation}
 use Rattle.frames.specs.Formed.{WellFormed}
-use Rattle.flags.specs.engine.Flags.{ownPart, childFlag, FlagsFrom}
+use Rattle.flags.specs.engine.Flags.{moversFlag, childFlag, FlagsFrom}
 use Rattle.certificate.proofs.Chosen.{Bounded, chosenOf, chosen-arrays}
 use Rattle.certificate.proofs.Solutions.{solution, solution-root, solution-child}
 
 -- the rule for the two parts of a flag is the rule for the flag
 flag-rule : (q : Side) (x y e : Bool)
     → cond (cond (same Max q) x (x && e)) 1 0 + cond (cond (same Min q) y (y && e)) 2 0
-    ≡ cond e (cond x 1 0 + cond y 2 0) (ownPart q (cond x 1 0 + cond y 2 0))
+    ≡ cond e (cond x 1 0 + cond y 2 0) (moversFlag q (cond x 1 0 + cond y 2 0))
 flag-rule Max true true true = refl
 flag-rule Max true true false = refl
 flag-rule Max true false true = refl
@@ -36,9 +36,9 @@ flag-rule Min false false true = refl
 flag-rule Min false false false = refl
 
 -- the flags of the solution trees follow from arrays that hold the sides and the bounds
-pub flags-follow : (t : List ℕ) → WellFormed t → (E : ℕ → Bool) {places lows highs : List ℕ}
-    → Bounded t E places lows highs → FlagsFrom t places lows highs (flag (valuation t) E (tree t))
-flags-follow t wf E {places} {lows} {highs} b =
+pub flags-follow : (t : List ℕ) → WellFormed t → (E : ℕ → Bool) {positions lows highs : List ℕ}
+    → Bounded t E positions lows highs → FlagsFrom t positions lows highs (flag (valuation t) E (tree t))
+flags-follow t wf E {positions} {lows} {highs} b =
     record {
       atRoot = ap₂ (λ x y. cond x 1 0 + cond y 2 0) (solution-root t wf E Max) (solution-root t wf E Min);
       atChild = λ i k h c.

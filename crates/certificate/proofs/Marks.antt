@@ -7,8 +7,8 @@ use mathlib.Core.List.{List}
 use lib.Dec.{eqb}
 use lib.ListN.{length}
 use Rattle.lists.specs.Lists.{All, among}
-use Rattle.gametree.specs.Tree.{Tree, leaf, inner, Kids, last, _then_, leaves, leavesKids, leafCount, EveryLeaf}
-use Rattle.gametree.specs.Tree.{EveryLeafKids}
+use Rattle.gametree.specs.Tree.{Tree, leaf, inner, Children, last, _then_, leaves, leavesChildren, leafCount, EveryLeaf}
+use Rattle.gametree.specs.Tree.{EveryLeafChildren}
 use Rattle.gametree.proofs.Searches.{Deciding}
 use Rattle.lists.proofs.Choice.{is-false}
 use Rattle.lists.proofs.Lists.{all-map, all-append, all-at}
@@ -19,9 +19,9 @@ use Rattle.frames.specs.Formed.{WellFormed}
 use Rattle.frames.proofs.Trees.{zero-or-suc}
 use Rattle.frames.proofs.Totals.{sumTo, atNode, sum-same, tree-leaf-count}
 use Rattle.frames.proofs.Proper.{every-leaf, tree-proper}
-use Rattle.places.specs.Buffer.{written}
+use Rattle.positions.specs.Buffer.{written}
 use Rattle.bounds.specs.Marks.{mark, marked, ones}
-use Rattle.places.proofs.Buffers.{written-at}
+use Rattle.positions.proofs.Buffers.{written-at}
 
 mark-set : (b : Bool) → eqb (cond b 1 0) 1 ≡ b
 mark-set true = refl
@@ -35,12 +35,12 @@ marked-written E n b k h = ap (λ v. eqb v 1) (written-at (mark E) n k b h) ∙ 
 mutual
   every-all : (P : ℕ → Type 0) (t : Tree) → EveryLeaf P t → All P (leaves t)
   every-all P (leaf n) h = (h, tt)
-  every-all P (inner n s ks) h = every-allKids P ks h
+  every-all P (inner n s ks) h = every-allChildren P ks h
 
-  every-allKids : (P : ℕ → Type 0) (ks : Kids) → EveryLeafKids P ks → All P (leavesKids ks)
-  every-allKids P (last t) h = every-all P t h
-  every-allKids P (t then ts) h =
-      all-append P (leaves t) (leavesKids ts) (every-all P t (h .0)) (every-allKids P ts (h .1))
+  every-allChildren : (P : ℕ → Type 0) (ks : Children) → EveryLeafChildren P ks → All P (leavesChildren ks)
+  every-allChildren P (last t) h = every-all P t h
+  every-allChildren P (t then ts) h =
+      all-append P (leaves t) (leavesChildren ts) (every-all P t (h .0)) (every-allChildren P ts (h .1))
 
 module _ (t : List ℕ) (wf : WellFormed t) where
   -- what holds of each node without children holds of each leaf that a search evaluates
@@ -48,7 +48,7 @@ module _ (t : List ℕ) (wf : WellFormed t) where
       → Deciding (valuation t) (tree t) w → All P w
   evaluated-hold P f {w} d =
       all-map (λ k. among (leaves (tree t)) k ≡ true) P
-      (all-at P (leaves (tree t)) (every-all P (tree t) (every-leaf t wf P f 0 (wf .some)))) w (d .own)
+      (all-at P (leaves (tree t)) (every-all P (tree t) (every-leaf t wf P f 0 (wf .nonEmpty)))) w (d .own)
 
   -- its number lies within the table
   pub evaluated-within : {w : List ℕ} → Deciding (valuation t) (tree t) w → All (λ k. k < frames t) w

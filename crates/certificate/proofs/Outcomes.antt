@@ -1,4 +1,4 @@
--- A search, from its steps to its outcome: questions, cleared marks, the engine's marks, what `conclude` reads off
+-- A search, from its steps to its outcome: questions, cleared marks, the engine's marks, what `write-certificate` reads off
 -- them, and the list of the leaves.
 use Prim.Native.Nat.{ℕ}
 use mathlib.Core.Path.{_≡_, refl, ap, _∙_}
@@ -15,7 +15,7 @@ use Rattle.frames.specs.Tree.{tree, valuation}
 use Rattle.frames.specs.Formed.{WellFormed}
 use Rattle.frames.specs.Rejection.{answer}
 use Rattle.frames.proofs.Asked.{answer-nodes, answer-rejected}
-use Rattle.places.specs.Buffer.{written}
+use Rattle.positions.specs.Buffer.{written}
 use Rattle.bounds.specs.Marks.{marked, markAll}
 use Rattle.certificate.specs.Search.{Search, searchRejection, marksOf, flagsOf, outcome, listed, orderAfter}
 use Rattle.bounds.proofs.Marking.{marks-from-clear}

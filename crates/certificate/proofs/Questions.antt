@@ -17,7 +17,7 @@ use Rattle.frames.specs.declared.Checked.the-variants.{Nodes, Rejected}
 use Rattle.frames.specs.Frame.{frames}
 use Rattle.frames.specs.Formed.{WellFormed}
 use Rattle.frames.specs.Rejection.{answer, ask, _andThen_}
-use Rattle.frames.specs.Check.{rejection, roomy, check10, Accepted, checked}
+use Rattle.frames.specs.Check.{rejection, longEnough, check10, Accepted, checked}
 use Rattle.frames.proofs.Stated.{ask-yes, both-passed}
 use Rattle.frames.proofs.Asked.{refused, answer-nodes, answer-rejected}
 use Rattle.frames.proofs.Acceptance.{accepted-formed, nodes-accepted}
@@ -27,15 +27,15 @@ use Rattle.certificate.specs.Search.{searchRejection}
 abbrev pub Room : ℕ → List ℕ → Type 0
 Room n ls = All (λ l. n ≤ l) ls
 
-roomy-each : (n : ℕ) (ls : List ℕ) → roomy n ls ≡ true → Room n ls
-roomy-each n [] e = tt
-roomy-each n (l ∷ ls) e =
-    let p = and-both (leb n l) (roomy n ls) e in
-    (leb-true n l (p .0), roomy-each n ls (p .1))
+long-enough-each : (n : ℕ) (ls : List ℕ) → longEnough n ls ≡ true → Room n ls
+long-enough-each n [] e = tt
+long-enough-each n (l ∷ ls) e =
+    let p = and-both (leb n l) (longEnough n ls) e in
+    (leb-true n l (p .0), long-enough-each n ls (p .1))
 
-each-roomy : (n : ℕ) (ls : List ℕ) → Room n ls → roomy n ls ≡ true
-each-roomy n [] r = refl
-each-roomy n (l ∷ ls) r = rw (le-leb n l (r .0)) (each-roomy n ls (r .1))
+each-long-enough : (n : ℕ) (ls : List ℕ) → Room n ls → longEnough n ls ≡ true
+each-long-enough n [] r = refl
+each-long-enough n (l ∷ ls) r = rw (le-leb n l (r .0)) (each-long-enough n ls (r .1))
 
 -- of two lengths the lesser decides
 room-min : (n a b : ℕ) (c : Bool) → leb n (min a b) && c ≡ leb n a && (leb n b && c)
@@ -53,28 +53,28 @@ module _ (t ls : List ℕ) where
   pub passed-room : searchRejection t ls ≡ none → Accepted t × Room (frames t) ls
   passed-room e =
       let p = both-passed (rejection t) (check10 (frames t) ls) e in
-      (p .0, roomy-each (frames t) ls (ask-yes _ _ _ (p .1)))
+      (p .0, long-enough-each (frames t) ls (ask-yes _ _ _ (p .1)))
 
   -- and the other way round
   pub room-passed : Accepted t → Room (frames t) ls → searchRejection t ls ≡ none
-  room-passed e r = rw (e, each-roomy (frames t) ls r)
+  room-passed e r = rw (e, each-long-enough (frames t) ls r)
 
   -- what the questions answer
   abbrev pub asked : Checked
   asked = answer (frames t) (searchRejection t ls)
 
   -- with nodes for an answer the search may be run
-  pub nodes-roomy : (n : ℕ) → Nodes n ≡ asked → WellFormed t × Room (frames t) ls
-  nodes-roomy n e =
+  pub nodes-long-enough : (n : ℕ) → Nodes n ≡ asked → WellFormed t × Room (frames t) ls
+  nodes-long-enough n e =
       let p = passed-room (answer-nodes (frames t) n (searchRejection t ls) e .0) in
       (accepted-formed t (p .0), p .1)
 
 -- an answer for the lesser of two lengths is the answer for both
-pub of-shorter : (t : List ℕ) (a b : ℕ) (ls : List ℕ) {r : Checked} {k : ℕ} → r ≡ asked t (k ∷ ls) → k ≡ min a b
+pub of-lesser : (t : List ℕ) (a b : ℕ) (ls : List ℕ) {r : Checked} {k : ℕ} → r ≡ asked t (k ∷ ls) → k ≡ min a b
     → r ≡ asked t (a ∷ b ∷ ls)
-of-shorter t a b ls e m =
+of-lesser t a b ls e m =
     e ∙ ap (λ k. asked t (k ∷ ls)) m
-    ∙ ap (λ r. answer (frames t) (rejection t andThen ask r 10 0)) (room-min (frames t) a b (roomy (frames t) ls))
+    ∙ ap (λ r. answer (frames t) (rejection t andThen ask r 10 0)) (room-min (frames t) a b (longEnough (frames t) ls))
 
 -- what `ask` answers for the length of the shortest buffer
 module _ (t : List ℕ) (l : ℕ) where

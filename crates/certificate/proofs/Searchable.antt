@@ -4,45 +4,45 @@ use native.Mathlib.Omega.{arith}
 use mathlib.Core.Path.{_≡_, sym, ap, _∙_}
 use mathlib.Core.List.{List}
 use lib.ListN.{length}
-use Rattle.gametree.specs.declared.Place.{Place}
+use Rattle.gametree.specs.declared.Position.{Position}
 use Rattle.frames.specs.Frame.{maxNodes, frames}
-use Rattle.frames.specs.Place.{rootPlace, childPlace, depthOf}
+use Rattle.frames.specs.Position.{rootPosition, childPosition, depthOf}
 use Rattle.frames.specs.Tree.{treeAt}
 use Rattle.frames.specs.Formed.{WellFormed, ChildOf}
 use Rattle.frames.proofs.Next.{child-within}
 use Rattle.frames.proofs.Nodes.{tree-range}
-use Rattle.frames.proofs.Places.{depth-at-most, place-root, place-child}
-use Rattle.places.specs.Buffer.{written}
+use Rattle.frames.proofs.Positions.{depth-at-most, position-root, position-child}
+use Rattle.positions.specs.Buffer.{written}
 use Rattle.certificate.specs.engine.Searchable.{Unmarked, Searchable}
 use Rattle.bounds.proofs.Marking.{cleared-unmarked}
 
 -- the root, after the marks e have been cleared to e₁
 pub searchable-root : (t : List ℕ) → WellFormed t → (e e₁ : List ℕ) (n : ℕ) → e₁ ≡ written (λ k. 0) n e → n ≡ frames t
-    → frames t ≤ length e₁ → Searchable t e₁ 0 rootPlace
+    → frames t ≤ length e₁ → Searchable t e₁ 0 rootPosition
 searchable-root t wf e e₁ n h q l =
     record {
       formed = wf;
-      inside = wf .some;
-      placed = sym (place-root t);
+      inside = wf .nonEmpty;
+      positioned = sym (position-root t);
       marks = l;
-      unmarked = λ k i. cleared-unmarked n e h k (omega (arith, q, tree-range t wf 0 (wf .some) k i));
+      unmarked = λ k i. cleared-unmarked n e h k (omega (arith, q, tree-range t wf 0 (wf .nonEmpty) k i));
     }
 
-module _ (t e : List ℕ) (i : ℕ) (p : Place) (r : Searchable t e i p) where
+module _ (t e : List ℕ) (i : ℕ) (p : Position) (r : Searchable t e i p) where
   -- the depth of the place is the node's own, and small
   pub searchable-depth : (p .depth ≡ depthOf t i) × (p .depth ≤ maxNodes)
   searchable-depth =
-      let d = ap (λ x. x .depth) (r .placed) in
-      (d, omega (arith, d, depth-at-most t i, r .inside, r .formed .few))
+      let d = ap (λ x. x .depth) (r .positioned) in
+      (d, omega (arith, d, depth-at-most t i, r .inside, r .formed .atMost))
 
   -- each child of the node, at its place
-  pub searchable-child : (k : ℕ) (e′ : List ℕ) (q : Place) → ChildOf t i k → length e′ ≡ length e
-      → Unmarked e′ (treeAt t k) → q ≡ childPlace t k p → Searchable t e′ k q
+  pub searchable-child : (k : ℕ) (e′ : List ℕ) (q : Position) → ChildOf t i k → length e′ ≡ length e
+      → Unmarked e′ (treeAt t k) → q ≡ childPosition t k p → Searchable t e′ k q
   searchable-child k e′ q c l u h =
       record {
         formed = r .formed;
         inside = child-within t (r .formed) (r .inside) c;
-        placed = h ∙ ap (λ x. childPlace t k x) (r .placed) ∙ sym (place-child t (r .formed) (r .inside) c);
+        positioned = h ∙ ap (λ x. childPosition t k x) (r .positioned) ∙ sym (position-child t (r .formed) (r .inside) c);
         marks = omega (arith, r .marks);
         unmarked = u;
       }

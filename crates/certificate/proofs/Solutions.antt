@@ -10,14 +10,14 @@ use lib.Dec.{eqb}
 use borrow.Author.Tests.{eq-eqb, ne-eqb}
 use Rattle.gametree.specs.declared.Side.{Side}
 use Rattle.gametree.specs.declared.Side.the-variants.{Max, Min}
-use Rattle.gametree.specs.Tree.{Tree, other, minimax, minimaxKids}
+use Rattle.gametree.specs.Tree.{Tree, other, minimax, minimaxChildren}
 use Rattle.gametree.specs.Bounds.{known}
-use Rattle.gametree.specs.Certificate.{same, fill, solutionOf}
+use Rattle.gametree.specs.Certificate.{same, unknownScore, solutionOf}
 use Rattle.lists.proofs.Choice.{cond-cases}
 use Rattle.gametree.proofs.certificates.ReadOff.{ReadOff, ReadEach, ReadFirst, read-root, fits}
 use Rattle.frames.specs.Frame.{frames, firstChild, childCount, next}
-use Rattle.frames.specs.Place.{sideOf}
-use Rattle.frames.specs.Tree.{kidsFrom, treeAt, tree, valuation}
+use Rattle.frames.specs.Position.{sideOf}
+use Rattle.frames.specs.Tree.{childrenFrom, treeAt, tree, valuation}
 use Rattle.frames.specs.Formed.{WellFormed, ChildOf}
 use Rattle.frames.proofs.Parents.{top-down}
 use Rattle.frames.proofs.Trees.{zero-or-suc, tree-inner, tree-number}
@@ -46,8 +46,8 @@ first-there false x k i w h = refl
 
 module _ (p : Side) (μ : ℕ → ℕ) (g : ℕ → Bool) (h : ℕ → Tree) where
   -- what is read off for each child
-  each-child : (b : Bool) (i n k : ℕ) → i ≤ k → k ≤ i + n → ReadEach p μ g b (kidsFrom h i n) → ReadOff p μ g b (h k)
-  unfolding kidsFrom
+  each-child : (b : Bool) (i n k : ℕ) → i ≤ k → k ≤ i + n → ReadEach p μ g b (childrenFrom h i n) → ReadOff p μ g b (h k)
+  unfolding childrenFrom
   each-child b i zero k a c r = let e : i ≡ k = omega arith in subst (λ j. ReadOff p μ g b (h j)) e r
   each-child b i (suc n) k a c r =
       elim (decLe k i) [
@@ -64,9 +64,9 @@ module _ (p : Side) (μ : ℕ → ℕ) (g : ℕ → Bool) (h : ℕ → Tree) whe
       (subst (λ x. ReadOff p μ g (b && x) (h i)) (sym (first-here (eqb (minimax μ (h i)) v) i w d)) r)
 
   -- what is read off for the first child with the value v, and for the others
-  first-child : (b : Bool) (v i n k : ℕ) → 0 < i → i ≤ k → k ≤ i + n → ReadFirst p μ g b v (kidsFrom h i n)
+  first-child : (b : Bool) (v i n k : ℕ) → 0 < i → i ≤ k → k ≤ i + n → ReadFirst p μ g b v (childrenFrom h i n)
       → ReadOff p μ g (b && eqb k (firstEqual (λ j. minimax μ (h j)) v i (suc n))) (h k)
-  unfolding kidsFrom firstEqual
+  unfolding childrenFrom firstEqual
   first-child b v i zero k z a c r = first-alone b v i k z a (omega arith) 0 (λ e. omega arith) r
   first-child b v i (suc n) k z a c r =
       let f : ℕ → ℕ = λ j. minimax μ (h j) in
@@ -83,7 +83,7 @@ abbrev pub childIn : Side → Side → Bool → (chosen k : ℕ) → Bool
 childIn p q b chosen k = cond (same p q) b (b && eqb k chosen)
 
 read-child : (p q : Side) (μ : ℕ → ℕ) (g : ℕ → Bool) (h : ℕ → Tree) (b : Bool) (v i n k : ℕ) → 0 < i → i ≤ k → k ≤ i + n
-    → cond (same p q) (ReadEach p μ g b (kidsFrom h i n)) (ReadFirst p μ g b v (kidsFrom h i n))
+    → cond (same p q) (ReadEach p μ g b (childrenFrom h i n)) (ReadFirst p μ g b v (childrenFrom h i n))
     → ReadOff p μ g (childIn p q b (firstEqual (λ j. minimax μ (h j)) v i (suc n)) k) (h k)
 read-child Max Max μ g h b v i n k z a c r = each-child Max μ g h b i n k a c r
 read-child Max Min μ g h b v i n k z a c r = first-child Max μ g h b v i n k z a c r
@@ -92,7 +92,7 @@ read-child Min Min μ g h b v i n k z a c r = each-child Min μ g h b i n k a c 
 
 -- in the side's own tree no child is chosen, and the other side's bounds choose
 choose-other : (p q : Side) (b : Bool) (c : ℕ → ℕ) (k : ℕ)
-    → childIn p q b (c (fill p)) k ≡ childIn p q b (c (fill (other q))) k
+    → childIn p q b (c (unknownScore p)) k ≡ childIn p q b (c (unknownScore (other q))) k
 choose-other Max Max b c k = refl
 choose-other Max Min b c k = refl
 choose-other Min Max b c k = refl
@@ -105,7 +105,7 @@ module _ (t : List ℕ) (wf : WellFormed t) (E : ℕ → Bool) (p : Side) where
 
   -- the valuation that it is read off
   abbrev bounds : ℕ → ℕ
-  bounds = known (valuation t) E (fill p)
+  bounds = known (valuation t) E (unknownScore p)
 
   abbrev ReadAt : ℕ → Bool → Type 0
   ReadAt i b = ReadOff p bounds solution b (treeAt t i)
@@ -114,7 +114,7 @@ module _ (t : List ℕ) (wf : WellFormed t) (E : ℕ → Bool) (p : Side) where
   read-at i b r = subst (λ j. solution j ≡ b) (tree-number t i) (read-root p bounds solution b (treeAt t i) r)
 
   read-tree : ReadAt 0 true
-  read-tree = fits p bounds solution true (tree t) (tree-distinct t wf 0 (wf .some)) (λ k i. refl)
+  read-tree = fits p bounds solution true (tree t) (tree-distinct t wf 0 (wf .nonEmpty)) (λ k i. refl)
 
   -- the root is in it
   pub solution-root : solution 0 ≡ true
@@ -128,9 +128,9 @@ module _ (t : List ℕ) (wf : WellFormed t) (E : ℕ → Bool) (p : Side) where
       let c : ℕ → ℕ = λ x. firstEqual (boundOf t E x) (boundOf t E x i) (next t i) (childCount t i) in
       zero-or-suc (childCount t i) (λ e. absurd (omega (arith, d .from, d .to))) (λ n e.
       let s = tree-inner t wf i n h e in
-      let f = firstEqual (boundOf t E (fill p)) in
-      let v = minimaxKids bounds q (kidsFrom (treeAt t) (firstChild t i) n) in
-      let x : f v (firstChild t i) (suc n) ≡ c (fill p) =
+      let f = firstEqual (boundOf t E (unknownScore p)) in
+      let v = minimaxChildren bounds q (childrenFrom (treeAt t) (firstChild t i) n) in
+      let x : f v (firstChild t i) (suc n) ≡ c (unknownScore p) =
       ap₂ (f v) (wf .first i h (omega arith)) (sym e)
       ∙ ap (λ y. f (minimax bounds y) (next t i) (childCount t i)) (sym s) in
       subst (ReadAt k) (ap (λ y. childIn p q (solution i) y k) x ∙ choose-other p q (solution i) c k)

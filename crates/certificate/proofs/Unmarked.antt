@@ -22,18 +22,18 @@ marks-apart T U e w d a u p i =
     markAll-other e w p (all-map _ _ (λ k j q. d p (subst (λ x. In x T) (sym q) j) i) w a) ∙ u p i
 
 -- the trees of the children of node i from k on are without a mark
-abbrev pub Waiting : (t e : List ℕ) (i k : ℕ) → Type 0
-Waiting t e i k = (j : ℕ) → k ≤ j → ChildOf t i j → Unmarked e (treeAt t j)
+abbrev pub Unvisited : (t e : List ℕ) (i k : ℕ) → Type 0
+Unvisited t e i k = (j : ℕ) → k ≤ j → ChildOf t i j → Unmarked e (treeAt t j)
 
 module _ (t : List ℕ) (wf : WellFormed t) (i : ℕ) (inside : i < frames t) where
   -- the children of a node whose tree is without a mark all wait
-  pub all-wait : (e : List ℕ) (k : ℕ) → Unmarked e (treeAt t i) → Waiting t e i k
+  pub all-wait : (e : List ℕ) (k : ℕ) → Unmarked e (treeAt t i) → Unvisited t e i k
   all-wait e k u j a c p x = u p (in-parent t wf inside c p x)
 
   -- after the visit of a child, which marks nodes w of its tree, the younger ones still wait
-  pub younger-wait : (k : ℕ) (e e′ w : List ℕ) → ChildOf t i k → All (λ p. In p (treeAt t k)) w → Waiting t e i k
+  pub younger-wait : (k : ℕ) (e e′ w : List ℕ) → ChildOf t i k → All (λ p. In p (treeAt t k)) w → Unvisited t e i k
       → e′ ≡ markAll e w
-      → Waiting t e′ i (k + 1)
+      → Unvisited t e′ i (k + 1)
   younger-wait k e e′ w c own h m j a d =
       rw m (marks-apart (treeAt t k) (treeAt t j) e w
       (λ p x y. omega (arith, children-apart t wf inside c d p x y)) own (h j (omega arith) d))

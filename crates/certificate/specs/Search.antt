@@ -12,7 +12,7 @@ use Rattle.frames.specs.Frame.{frames}
 use Rattle.frames.specs.Tree.{tree, valuation}
 use Rattle.frames.specs.Rejection.{_andThen_}
 use Rattle.frames.specs.Check.{rejection, check10}
-use Rattle.places.specs.Buffer.{written}
+use Rattle.positions.specs.Buffer.{written}
 use Rattle.bounds.specs.Marks.{mark}
 use Rattle.certificate.specs.declared.Findings.{Findings}
 use Rattle.frames.specs.Value.{valueOf}
@@ -21,21 +21,21 @@ use Rattle.frames.specs.Value.{valueOf}
 abbrev pub searchRejection : List ℕ → List ℕ → Option Rejection
 searchRejection t lengths = rejection t andThen check10 (frames t) lengths
 
--- the marks and the flags that a search of the table t writes over the buffers e and c, where it evaluates the leaves w
-abbrev pub marksOf : (w t e : List ℕ) → List ℕ
-marksOf w t e = written (mark (among w)) (frames t) e
+-- the marks and the flags that a search of the table t writes over its two buffers, where it evaluates these leaves
+abbrev pub marksOf : (leaves t marks : List ℕ) → List ℕ
+marksOf leaves t marks = written (mark (among leaves)) (frames t) marks
 
-abbrev pub flagsOf : (w t c : List ℕ) → List ℕ
-flagsOf w t c = written (flag (valuation t) (among w) (tree t)) (frames t) c
+abbrev pub flagsOf : (leaves t flags : List ℕ) → List ℕ
+flagsOf leaves t flags = written (flag (valuation t) (among leaves) (tree t)) (frames t) flags
 
--- what a search of the table t finds that evaluates the leaves w: the minimax value, the first root move that reaches
+-- what a search of the table t finds that evaluates these leaves: the minimax value, the first root move that reaches
 -- it, and the number of evaluated leaves
-abbrev pub findings : (w t : List ℕ) → Findings
-findings w t =
+abbrev pub findings : (leaves t : List ℕ) → Findings
+findings leaves t =
     record {
       value = valueOf (minimax (valuation t) (tree t));
       «root_move» = rootMove (valuation t) (tree t);
-      leaves = length w;
+      leaves = length leaves;
     }
 
 -- what a search is lent, a table and two buffers, and the leaves that it evaluates there
@@ -63,20 +63,20 @@ outcome rejected found s none =
 outcome rejected found s (some r) =
     record { answer = rejected r; evaluated = s .evaluated; certificate = s .certificate }
 
--- the list o after a search that evaluates the leaves w: their numbers in the order of their evaluation, then what it
+-- the list after a search that evaluates these leaves: their numbers in the order of their evaluation, then what it
 -- held before
-abbrev pub listed : (w o : List ℕ) → List ℕ
-listed w o = w ++ drop (length w) o
+abbrev pub listed : (leaves order : List ℕ) → List ℕ
+listed leaves order = leaves ++ drop (length leaves) order
 
-abbrev pub orderAfter : Option Rejection → (w o : List ℕ) → List ℕ
-orderAfter none w o = listed w o
-orderAfter (some r) w o = o
+abbrev pub orderAfter : Option Rejection → (leaves order : List ℕ) → List ℕ
+orderAfter none leaves order = listed leaves order
+orderAfter (some r) leaves order = order
 
 -- what a search gives that lists its leaves too: the list, and the rest
-pub record Listed (A : Type 0) : Type 0 where
+pub record ListedOutcome (A : Type 0) : Type 0 where
   pub order : List ℕ
   pub search : Outcome A
 
-abbrev pub listedOutcome : {A : Type 0} → (Rejection → A) → A → Search → (o : List ℕ) → Option Rejection → Listed A
-listedOutcome rejected found s o q =
-    record { order = orderAfter q (s .leaves) o; search = outcome rejected found s q }
+abbrev pub listedOutcome : {A : Type 0} → (Rejection → A) → A → Search → (order : List ℕ) → Option Rejection → ListedOutcome A
+listedOutcome rejected found s order q =
+    record { order = orderAfter q (s .leaves) order; search = outcome rejected found s q }

@@ -7,7 +7,7 @@ use frames::Checked;
 use frames::MAX_NODES;
 use frames::SHORT_BUFFER;
 use frames::rejected;
-use places::fill;
+use positions::fill;
 use tables::check;
 ghost use mathlib.Core.Path.{_≡_};
 ghost use mathlib.Core.List.{[], _∷_};
@@ -19,8 +19,8 @@ ghost use Rattle.frames.specs.Frame.{frames};
 ghost use Rattle.frames.specs.Tree.{tree, valuation};
 ghost use Rattle.frames.specs.Rejection.{answer};
 ghost use Rattle.frames.specs.Formed.{WellFormed};
-ghost use Rattle.places.specs.Buffer.{written};
-ghost use Rattle.places.specs.engine.Places.{Placed};
+ghost use Rattle.positions.specs.Buffer.{written};
+ghost use Rattle.positions.specs.engine.Positions.{Positioned};
 ghost use Rattle.bounds.specs.Marks.{marked};
 ghost use Rattle.certificate.specs.Search.{searchRejection};
 
@@ -47,7 +47,7 @@ pub fn ask(table: &[u8], shortest: usize) -> Checked
 }
 
 // The lesser of two lengths.
-pub fn shorter(a: usize, b: usize) -> usize
+pub fn lesser(a: usize, b: usize) -> usize
     ensures { λ r. ⌜ r ≡ min a b ⌝ }
 {
     if a < b { a } else { b }
@@ -55,7 +55,7 @@ pub fn shorter(a: usize, b: usize) -> usize
 
 // The certificate (01: the proof) read off the bounds of the marked leaves, into the buffer's first entries; the result
 // is the root move.
-pub fn conclude(table: &[u8], evaluated: &mut [u8], certificate: &mut [u8]) -> usize
+pub fn write_certificate(table: &[u8], evaluated: &mut [u8], certificate: &mut [u8]) -> usize
     requires { ⌜ WellFormed (now table) ⌝ }
     requires { ⌜ (frames (now table) ≤ length (now evaluated)) × (frames (now table) ≤ length (now certificate)) ⌝ }
     ensures { λ r. ⌜ r ≡ boundMove (valuation (now (table .entry))) (marked (now (evaluated .entry)))
@@ -65,19 +65,19 @@ pub fn conclude(table: &[u8], evaluated: &mut [u8], certificate: &mut [u8]) -> u
         (frames (now (table .entry))) (now (certificate .entry)) ⌝ }
     ensures { λ _. ⌜ now (evaluated .exit) ≡ now (evaluated .entry) ⌝ }
 {
-    let mut places = [0u32; MAX_NODES];
-    fill(table, &mut places);
-    conclude_at(table, &places, evaluated, certificate)
+    let mut positions = [0u32; MAX_NODES];
+    fill(table, &mut positions);
+    write_certificate_at(table, &positions, evaluated, certificate)
 }
 
-// The same by places that are filled already.
-pub fn conclude_at(
+// The same by positions that are filled already.
+pub fn write_certificate_at(
     table: &[u8],
-    places: &[u32],
+    positions: &[u32],
     evaluated: &mut [u8],
     certificate: &mut [u8],
 ) -> usize
-    requires { ⌜ (WellFormed (now table)) × (Placed (now table) (now places)) ⌝ }
+    requires { ⌜ (WellFormed (now table)) × (Positioned (now table) (now positions)) ⌝ }
     requires { ⌜ (frames (now table) ≤ length (now evaluated)) × (frames (now table) ≤ length (now certificate)) ⌝ }
     ensures { λ r. ⌜ r ≡ boundMove (valuation (now (table .entry))) (marked (now (evaluated .entry)))
         (tree (now (table .entry))) ⌝ }
@@ -88,13 +88,13 @@ pub fn conclude_at(
 {
     let mut lows = [0u32; MAX_NODES];
     let mut highs = [0u32; MAX_NODES];
-    fill_bounds(table, places, evaluated, &mut lows, &mut highs);
-    read_off(table, places, &lows, &highs, certificate)
+    fill_bounds(table, positions, evaluated, &mut lows, &mut highs);
+    read_off(table, positions, &lows, &highs, certificate)
 }
 
-// The root move alone, by places that are filled already.
-pub fn root_move(table: &[u8], places: &[u32], evaluated: &mut [u8]) -> usize
-    requires { ⌜ (WellFormed (now table)) × (Placed (now table) (now places)) ⌝ }
+// The root move alone, by positions that are filled already.
+pub fn root_move(table: &[u8], positions: &[u32], evaluated: &mut [u8]) -> usize
+    requires { ⌜ (WellFormed (now table)) × (Positioned (now table) (now positions)) ⌝ }
     requires { ⌜ frames (now table) ≤ length (now evaluated) ⌝ }
     ensures { λ r. ⌜ r ≡ boundMove (valuation (now (table .entry))) (marked (now (evaluated .entry)))
         (tree (now (table .entry))) ⌝ }
@@ -102,6 +102,6 @@ pub fn root_move(table: &[u8], places: &[u32], evaluated: &mut [u8]) -> usize
 {
     let mut lows = [0u32; MAX_NODES];
     let mut highs = [0u32; MAX_NODES];
-    fill_bounds(table, places, evaluated, &mut lows, &mut highs);
-    root_choice(table, places, &lows, &highs)
+    fill_bounds(table, positions, evaluated, &mut lows, &mut highs);
+    root_choice(table, positions, &lows, &highs)
 }

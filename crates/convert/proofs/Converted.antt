@@ -22,7 +22,7 @@ use Rattle.reader.specs.engine.Decoded.{linesRejection}
 use Rattle.reader.proofs.Reading.{lines-parts, lines-then}
 use Rattle.reader.proofs.Acceptance.{accepted-table, accepted-letters}
 use Rattle.writer.specs.Encoded.{fileOf}
-use Rattle.writer.specs.Write.{writeCheck10, written}
+use Rattle.writer.specs.Write.{writeCheck10, writtenFile}
 use Rattle.writer.specs.declared.Written.the-variants.{Length, Rejected}
 use Rattle.treefile.specs.results.Saved.{Bytes}
 use Rattle.treefile.proofs.DecodedBytes.{decoded-bytes}
@@ -30,7 +30,7 @@ use Rattle.treefile.proofs.RoundTrip.{written-length, written-decoded, written-
 use Rattle.treefile.proofs.Saving.{length-written, rejection-written}
 use Rattle.convert.specs.Convert.{convertRejection, convertOutcome}
 use Rattle.convert.specs.results.Converted.{baseRejection, Converted}
-use Rattle.convert.proofs.Kept.{lifted-table, lifted-rejection}
+use Rattle.convert.proofs.Kept.{raised-table, raised-rejection}
 
 module _ (f : List ℕ) where
   -- a file that the base accepted is not too long, and has right lines and an accepted table
@@ -44,7 +44,7 @@ module _ (f : List ℕ) where
   base-lines e = base-sized e .1
 
   pub base-table : baseRejection f ≡ none → Accepted (decoded f)
-  base-table e = rw (lifted-table f) at (accepted-table _ (lifted-rejection f ∙ e) .1)
+  base-table e = rw (raised-table f) at (accepted-table _ (raised-rejection f ∙ e) .1)
 
   base-bytes : baseRejection f ≡ none → Bytes (decoded f)
   base-bytes e = decoded-bytes f (base-lines e)
@@ -60,9 +60,9 @@ module _ (f : List ℕ) where
     asked = baseRejection f andThen writeCheck10 (decoded f) (length buffer)
 
     -- its outcome is that of writing the file's own table
-    pub convert-own : convertOutcome f buffer ≡ written (decoded f) buffer asked
+    pub convert-own : convertOutcome f buffer ≡ writtenFile (decoded f) buffer asked
     unfolding convertRejection convertOutcome
-    convert-own = rw (lifted-rejection f, lifted-table f)
+    convert-own = rw (raised-rejection f, raised-table f)
 
     -- a file that the base accepted, and room, give a length
     pub convert-gives : baseRejection f ≡ none → lineSize * frames (decoded f) ≤ length buffer

@@ -9,21 +9,21 @@ use lib.Dec.{eqb}
 use lib.ListN.{length, take, drop, length-map}
 use native.Mathlib.Omega.{arith}
 use borrow.Author.Tests.{ne-eqb}
-use Rattle.hex.specs.Digit.{isSmall, digitOf}
+use Rattle.hex.specs.Digit.{isLowercase, digitOf}
 use Rattle.hex.proofs.Digits.{inside, below, above, bounds}
-use Rattle.lines.specs.Line.{lineDigits, lineFeed, allDigits, isLine, hasSmall, bytesOf, closed, isLineAt, lineAt}
+use Rattle.lines.specs.Line.{lineDigits, lineFeed, allDigits, isLine, hasLowercase, bytesOf, closed, isLineAt, lineAt}
 use Rattle.lines.specs.Lines.{putBefore, linesOf, decode, decoded}
 use Rattle.reader.specs.File.{eachLine, lineCheck3, lineCheck16, fileCheck3, fileCheck16, fileRejection}
-use Rattle.convert.specs.Lift.{lift, lifted}
+use Rattle.convert.specs.RaiseCase.{raiseCase, raised}
 use Rattle.convert.specs.results.Converted.{baseRejection}
 
 module _ (b : ℕ) where
-  -- a capital has the number of its small letter
-  lift-digit : digitOf (lift b) ≡ digitOf b
-  unfolding lift digitOf
-  lift-digit = go (isSmall b) refl
+  -- a capital has the number of its lowercase letter
+  raise-digit : digitOf (raiseCase b) ≡ digitOf b
+  unfolding raiseCase digitOf
+  raise-digit = go (isLowercase b) refl
     where
-      go : (small : Bool) → isSmall b ≡ small → digitOf (cond small (b - 32) b) ≡ digitOf b
+      go : (small : Bool) → isLowercase b ≡ small → digitOf (cond small (b - 32) b) ≡ digitOf b
       go true e =
           let p = bounds 97 102 b e in
           rw (
@@ -36,120 +36,120 @@ module _ (b : ℕ) where
       go false e = refl
 
   -- it is no line feed where that is none
-  lift-feed : eqb (lift b) lineFeed ≡ eqb b lineFeed
-  unfolding lift
-  lift-feed = go (isSmall b) refl
+  raise-feed : eqb (raiseCase b) lineFeed ≡ eqb b lineFeed
+  unfolding raiseCase
+  raise-feed = go (isLowercase b) refl
     where
-      go : (small : Bool) → isSmall b ≡ small → eqb (cond small (b - 32) b) lineFeed ≡ eqb b lineFeed
+      go : (small : Bool) → isLowercase b ≡ small → eqb (cond small (b - 32) b) lineFeed ≡ eqb b lineFeed
       go true e =
           let p = bounds 97 102 b e in
           rw (ne-eqb (b - 32) lineFeed (λ z. omega arith), ne-eqb b lineFeed (λ z. omega arith))
       go false e = refl
 
-  -- and no small letter
-  lift-large : isSmall (lift b) ≡ false
-  unfolding lift
-  lift-large = go (isSmall b) refl
+  -- and no lowercase letter
+  raise-large : isLowercase (raiseCase b) ≡ false
+  unfolding raiseCase
+  raise-large = go (isLowercase b) refl
     where
-      go : (small : Bool) → isSmall b ≡ small → isSmall (cond small (b - 32) b) ≡ false
+      go : (small : Bool) → isLowercase b ≡ small → isLowercase (cond small (b - 32) b) ≡ false
       go true e = let p = bounds 97 102 b e in below 97 102 (b - 32) (omega arith)
       go false e = e
 
 -- a lifted file is as long as the file
-lifted-length : (f : List ℕ) → length (lifted f) ≡ length f
-lifted-length f = length-map f lift
+raised-length : (f : List ℕ) → length (raised f) ≡ length f
+raised-length f = length-map f raiseCase
 
 -- of a line
-lifted-digits : (l : List ℕ) → allDigits (lifted l) ≡ allDigits l
+raised-digits : (l : List ℕ) → allDigits (raised l) ≡ allDigits l
 unfolding allDigits
-lifted-digits [] = refl
-lifted-digits (b ∷ l) = rw (lift-digit b, lifted-digits l)
+raised-digits [] = refl
+raised-digits (b ∷ l) = rw (raise-digit b, raised-digits l)
 
-lifted-right : (l : List ℕ) → isLine (lifted l) ≡ isLine l
+raised-right : (l : List ℕ) → isLine (raised l) ≡ isLine l
 unfolding isLine
-lifted-right l = rw (lifted-length l, lifted-digits l)
+raised-right l = rw (raised-length l, raised-digits l)
 
-lifted-bytes : (l : List ℕ) → bytesOf (lifted l) ≡ bytesOf l
+raised-bytes : (l : List ℕ) → bytesOf (raised l) ≡ bytesOf l
 unfolding bytesOf
-lifted-bytes [] = refl
-lifted-bytes (h ∷ []) = refl
-lifted-bytes (h ∷ l ∷ ds) = rw (lift-digit h, lift-digit l, lifted-bytes ds)
+raised-bytes [] = refl
+raised-bytes (h ∷ []) = refl
+raised-bytes (h ∷ l ∷ ds) = rw (raise-digit h, raise-digit l, raised-bytes ds)
 
-lifted-large : (l : List ℕ) → hasSmall (lifted l) ≡ false
-unfolding hasSmall
-lifted-large [] = refl
-lifted-large (b ∷ l) = rw (lift-large b) (lifted-large l)
+raised-large : (l : List ℕ) → hasLowercase (raised l) ≡ false
+unfolding hasLowercase
+raised-large [] = refl
+raised-large (b ∷ l) = rw (raise-large b) (raised-large l)
 
 -- of lines
-lines-right : (i : ℕ) (ls : List (List ℕ)) → eachLine lineCheck3 i (map lifted ls) ≡ eachLine lineCheck3 i ls
+lines-right : (i : ℕ) (ls : List (List ℕ)) → eachLine lineCheck3 i (map raised ls) ≡ eachLine lineCheck3 i ls
 unfolding eachLine
 lines-right i [] = refl
-lines-right i (l ∷ ls) = rw (lifted-right l, lines-right (i + 1) ls)
+lines-right i (l ∷ ls) = rw (raised-right l, lines-right (i + 1) ls)
 
-lines-large : (i : ℕ) (ls : List (List ℕ)) → eachLine lineCheck16 i (map lifted ls) ≡ none
+lines-large : (i : ℕ) (ls : List (List ℕ)) → eachLine lineCheck16 i (map raised ls) ≡ none
 unfolding eachLine
 lines-large i [] = refl
-lines-large i (l ∷ ls) = rw (lifted-large l) (lines-large (i + 1) ls)
+lines-large i (l ∷ ls) = rw (raised-large l) (lines-large (i + 1) ls)
 
-lines-bytes : (ls : List (List ℕ)) → decode (map lifted ls) ≡ decode ls
+lines-bytes : (ls : List (List ℕ)) → decode (map raised ls) ≡ decode ls
 unfolding decode
 lines-bytes [] = refl
-lines-bytes (l ∷ ls) = rw (lifted-bytes l, lines-bytes ls)
+lines-bytes (l ∷ ls) = rw (raised-bytes l, lines-bytes ls)
 
 -- the lines of a lifted file
-lines-lifted : (f : List ℕ) → linesOf (lifted f) ≡ map lifted (linesOf f)
+lines-raised : (f : List ℕ) → linesOf (raised f) ≡ map raised (linesOf f)
 unfolding linesOf
-lines-lifted [] = refl
-lines-lifted (b ∷ f) = rw (lift-feed b, lines-lifted f) (go (eqb b lineFeed) (linesOf f))
+lines-raised [] = refl
+lines-raised (b ∷ f) = rw (raise-feed b, lines-raised f) (go (eqb b lineFeed) (linesOf f))
   where
-    go : (e : Bool) (ls : List (List ℕ)) → putBefore e (lift b) (map lifted ls) ≡ map lifted (putBefore e b ls)
+    go : (e : Bool) (ls : List (List ℕ)) → putBefore e (raiseCase b) (map raised ls) ≡ map raised (putBefore e b ls)
     go true ls = refl
     go false [] = refl
     go false (l ∷ ls) = refl
 
 module _ (f : List ℕ) where
   -- a lifted file has the file's table
-  pub lifted-table : decoded (lifted f) ≡ decoded f
-  lifted-table = rw (lines-lifted f) (lines-bytes (linesOf f))
+  pub raised-table : decoded (raised f) ≡ decoded f
+  raised-table = rw (lines-raised f) (lines-bytes (linesOf f))
 
   -- question 3 sees no letter case, and 16 passes
-  pub lifted-check3 : fileCheck3 (lifted f) ≡ fileCheck3 f
-  lifted-check3 = rw (lines-lifted f) (lines-right 0 (linesOf f))
+  pub raised-check3 : fileCheck3 (raised f) ≡ fileCheck3 f
+  raised-check3 = rw (lines-raised f) (lines-right 0 (linesOf f))
 
-  pub lifted-check16 : fileCheck16 (lifted f) ≡ none
-  lifted-check16 = rw (lines-lifted f) (lines-large 0 (linesOf f))
+  pub raised-check16 : fileCheck16 (raised f) ≡ none
+  raised-check16 = rw (lines-raised f) (lines-large 0 (linesOf f))
 
   -- the reader's questions to a lifted file are those that the base put to the file
-  pub lifted-rejection : fileRejection (lifted f) ≡ baseRejection f
+  pub raised-rejection : fileRejection (raised f) ≡ baseRejection f
   unfolding fileRejection
-  lifted-rejection = rw (lifted-length f, lifted-check3, lifted-check16, lifted-table)
+  raised-rejection = rw (raised-length f, raised-check3, raised-check16, raised-table)
 
 -- reading one line takes either letter case: that of a lifted file gives what that of the file gives
-lifted-drop : (n : ℕ) (l : List ℕ) → drop n (lifted l) ≡ lifted (drop n l)
-lifted-drop zero l = refl
-lifted-drop (suc n) [] = refl
-lifted-drop (suc n) (b ∷ l) = lifted-drop n l
+raised-drop : (n : ℕ) (l : List ℕ) → drop n (raised l) ≡ raised (drop n l)
+raised-drop zero l = refl
+raised-drop (suc n) [] = refl
+raised-drop (suc n) (b ∷ l) = raised-drop n l
 
-lifted-take : (n : ℕ) (l : List ℕ) → take n (lifted l) ≡ lifted (take n l)
-lifted-take zero l = refl
-lifted-take (suc n) [] = refl
-lifted-take (suc n) (b ∷ l) = ap (λ (k : List ℕ). lift b ∷ k) (lifted-take n l)
+raised-take : (n : ℕ) (l : List ℕ) → take n (raised l) ≡ raised (take n l)
+raised-take zero l = refl
+raised-take (suc n) [] = refl
+raised-take (suc n) (b ∷ l) = ap (λ (k : List ℕ). raiseCase b ∷ k) (raised-take n l)
 
-lifted-closed : (l : List ℕ) → closed (lifted l) ≡ closed l
-lifted-closed [] = refl
-lifted-closed (b ∷ l) = lift-feed b
+raised-closed : (l : List ℕ) → closed (raised l) ≡ closed l
+raised-closed [] = refl
+raised-closed (b ∷ l) = raise-feed b
 
-pub lifted-line : (f : List ℕ) (at : ℕ) → lineAt (lifted f) at ≡ lineAt f at
+pub raised-line : (f : List ℕ) (at : ℕ) → lineAt (raised f) at ≡ lineAt f at
 unfolding lineAt isLineAt
-lifted-line f at =
+raised-line f at =
     let line = take lineDigits (drop at f) in
-    let same : take lineDigits (drop at (lifted f)) ≡ lifted line =
-    ap (take lineDigits) (lifted-drop at f) ∙ lifted-take lineDigits (drop at f) in
+    let same : take lineDigits (drop at (raised f)) ≡ raised line =
+    ap (take lineDigits) (raised-drop at f) ∙ raised-take lineDigits (drop at f) in
     rw (
       same,
-      lifted-right line,
-      lifted-bytes line,
-      lifted-drop (at + lineDigits) f,
-      lifted-closed (drop (at + lineDigits) f),
-      lifted-length f,
+      raised-right line,
+      raised-bytes line,
+      raised-drop (at + lineDigits) f,
+      raised-closed (drop (at + lineDigits) f),
+      raised-length f,
     )

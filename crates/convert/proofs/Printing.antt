@@ -18,17 +18,17 @@ use Rattle.lines.specs.Line.{lineSize}
 use Rattle.lines.specs.Lines.{decoded}
 use Rattle.reader.specs.File.{maxFile}
 use Rattle.writer.specs.Encoded.{fileOf}
-use Rattle.writer.specs.Write.{Outcome, written, lengthGiven}
+use Rattle.writer.specs.Write.{WriteResult, writtenFile, lengthGiven}
 use Rattle.writer.specs.declared.Written.the-variants.{Length, Rejected}
 use Rattle.treefile.proofs.Saving.{length-written, rejection-written}
 use Rattle.text.specs.declared.Text.{Text}
 use Rattle.text.specs.Text.{refusedLine, textOf}
 use Rattle.text.proofs.Sizes.{refused-few, text-bytes}
-use Rattle.convert.specs.Lift.{lifted}
+use Rattle.convert.specs.RaiseCase.{raised}
 use Rattle.convert.specs.Convert.{convertRejection, convertOutcome}
 use Rattle.convert.specs.Printed.{printed, laidBy, laidText, outputOutcome}
 use Rattle.convert.specs.results.Converted.{baseRejection}
-use Rattle.convert.proofs.Kept.{lifted-rejection}
+use Rattle.convert.proofs.Kept.{raised-rejection}
 use Rattle.convert.proofs.Converted.{base-table, convert-gives, converted-within}
 
 -- bytes that have room in the buffer are laid; where they have none, the answer is 10
@@ -68,14 +68,14 @@ module _ (f buffer : List ℕ) where
   asked = convertRejection f (length buffer)
 
   abbrev table : List ℕ
-  table = decoded (lifted f)
+  table = decoded (raised f)
 
-  convert-is : convertOutcome f buffer ≡ written table buffer asked
+  convert-is : convertOutcome f buffer ≡ writtenFile table buffer asked
   unfolding convertOutcome
   convert-is = refl
 
   -- a file that was written is printed
-  pub written-printed : (o : Outcome) (n : ℕ) → o ≡ convertOutcome f buffer → o .answer ≡ Length n
+  pub written-printed : (o : WriteResult) (n : ℕ) → o ≡ convertOutcome f buffer → o .answer ≡ Length n
       → o ≡ outputOutcome f buffer
   unfolding printed
   written-printed o n e h =
@@ -85,7 +85,7 @@ module _ (f buffer : List ℕ) where
       ∙ rw (w .passed) (text-laid (fileOf table) buffer (omega (arith, w .size, converted-within f buffer n given)))
 
   -- a rejection leaves the buffer as it was, and its line is printed
-  pub rejection-printed : (o : Outcome) (r : Rejection) → o ≡ convertOutcome f buffer → o .answer ≡ Rejected r
+  pub rejection-printed : (o : WriteResult) (r : Rejection) → o ≡ convertOutcome f buffer → o .answer ≡ Rejected r
       → (o .file ≡ buffer) × (outputOutcome f buffer ≡ laidText (refusedLine (r .number) (r .place)) buffer)
   unfolding printed
   rejection-printed o r e h =
@@ -93,7 +93,7 @@ module _ (f buffer : List ℕ) where
       (ap (λ x. x .file) (e ∙ convert-is) ∙ w .1, rw (w .0))
 
   -- the length that is given is within the buffer
-  pub printed-within : (o : Outcome) → o ≡ outputOutcome f buffer → lengthGiven (o .answer) ≤ length (o .file)
+  pub printed-within : (o : WriteResult) → o ≡ outputOutcome f buffer → lengthGiven (o .answer) ≤ length (o .file)
   printed-within o e = rw e (laid-within (printed f (length buffer)) buffer)
 
   -- in a buffer with room for every file, what the base accepted is printed as its table's file
@@ -104,7 +104,7 @@ module _ (f buffer : List ℕ) where
         file = fileOf (decoded f) ++ drop (lineSize * frames (decoded f)) buffer;
       }
   file-printed room e =
-      let few = accepted-formed (decoded f) (base-table f e) .few in
+      let atMost = accepted-formed (decoded f) (base-table f e) .atMost in
       let g = convert-gives f buffer e (omega arith) in
       sym (written-printed _ _ (sym g) refl)
 
@@ -114,5 +114,5 @@ module _ (f buffer : List ℕ) where
       outputOutcome f buffer ≡ record { answer = Length (length line); file = line ++ drop (length line) buffer }
   unfolding printed convertRejection
   line-printed room r e =
-      rw (lifted-rejection f, e)
+      rw (raised-rejection f, e)
       (sym (text-laid (refusedLine (r .number) (r .place)) buffer (omega (arith, refused-few r))))

@@ -7,13 +7,13 @@ use Rattle.frames.specs.declared.Rejection.{Rejection}
 use Rattle.frames.specs.Rejection.{_andThen_}
 use Rattle.lines.specs.Lines.{decoded}
 use Rattle.reader.specs.File.{fileRejection}
-use Rattle.writer.specs.Write.{Outcome, writeCheck10, written}
-use Rattle.convert.specs.Lift.{lifted}
+use Rattle.writer.specs.Write.{WriteResult, writeCheck10, writtenFile}
+use Rattle.convert.specs.RaiseCase.{raised}
 
 -- the first "no": the reader's questions to the lifted file, and then 10 for a buffer of so many bytes
 unfoldable pub convertRejection : List ℕ → ℕ → Option Rejection
-convertRejection f room = fileRejection (lifted f) andThen writeCheck10 (decoded (lifted f)) room
+convertRejection f room = fileRejection (raised f) andThen writeCheck10 (decoded (raised f)) room
 
 -- the outcome of a call with a file and a buffer: that of writing the table of the lifted file
-unfoldable pub convertOutcome : List ℕ → List ℕ → Outcome
-convertOutcome f buffer = written (decoded (lifted f)) buffer (convertRejection f (length buffer))
+unfoldable pub convertOutcome : List ℕ → List ℕ → WriteResult
+convertOutcome f buffer = writtenFile (decoded (raised f)) buffer (convertRejection f (length buffer))

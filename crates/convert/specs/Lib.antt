@@ -1,5 +1,5 @@
 -- Definitions of what converting a file means.
-pub mod Lift
+pub mod RaiseCase
 pub mod Convert
 pub mod Printed
 pub mod results

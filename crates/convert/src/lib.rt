@@ -5,8 +5,8 @@ use frames::FRAME_SIZE;
 use frames::MAX_TABLE;
 use frames::Rejection;
 use frames::SHORT_BUFFER;
-use reader::SMALL_FILE;
-use reader::SMALL_TABLE;
+use reader::SHORT_FILE;
+use reader::SHORT_TABLE;
 use reader::check_lines;
 use tables::check_frames;
 use writer::Written;
@@ -16,7 +16,7 @@ ghost use Prim.Native.Nat.{_≤_};
 ghost use lib.ListN.{length};
 ghost use Rattle.text.specs.Text.{refusedLine};
 ghost use Rattle.reader.specs.File.{maxFile};
-ghost use Rattle.reader.specs.engine.Decoded.{Decoded, Roomy};
+ghost use Rattle.reader.specs.engine.Decoded.{Decoded, LongEnough};
 ghost use Rattle.convert.specs.Convert.{convertOutcome};
 ghost use Rattle.convert.specs.Printed.{laidText, outputOutcome};
 ghost use Rattle.convert.specs.results.Converted.{baseRejection};
@@ -27,8 +27,8 @@ pub fn convert(file: &[u8], converted: &mut [u8]) -> Written
     ensures { λ r. ⌜ record { answer = r; file = now (converted .exit) }
         ≡ convertOutcome (now (file .entry)) (now (converted .entry)) ⌝ }
 {
-    if file.len() <= SMALL_FILE {
-        let mut table = [0u8; SMALL_TABLE];
+    if file.len() <= SHORT_FILE {
+        let mut table = [0u8; SHORT_TABLE];
         return convert_by(file, &mut table, converted);
     }
     let mut table = [0u8; MAX_TABLE];
@@ -38,7 +38,7 @@ pub fn convert(file: &[u8], converted: &mut [u8]) -> Written
 // The same, with a work array for the frames. A digit has one number in either letter case, and is written in capitals:
 // so no letter needs to be lifted before.
 fn convert_by(file: &[u8], table: &mut [u8], converted: &mut [u8]) -> Written
-    requires { ⌜ (length (now file) ≤ maxFile → Roomy (now file) (now table)) ⌝ }
+    requires { ⌜ (length (now file) ≤ maxFile → LongEnough (now file) (now table)) ⌝ }
     ensures { λ r. ⌜ record { answer = r; file = now (converted .exit) }
         ≡ convertOutcome (now (file .entry)) (now (converted .entry)) ⌝ }
 {
@@ -84,7 +84,7 @@ fn lay_refused(rejection: Rejection, buffer: &mut [u8]) -> Written
 
 // Questions 1 to 9: the number of nodes, whose frames then stand at the table's front, or the first rejection.
 fn check_file(file: &[u8], table: &mut [u8]) -> Checked
-    requires { ⌜ (length (now file) ≤ maxFile → Roomy (now file) (now table)) ⌝ }
+    requires { ⌜ (length (now file) ≤ maxFile → LongEnough (now file) (now table)) ⌝ }
     ensures { λ r. ⌜ Decoded (now (file .entry)) (baseRejection (now (file .entry))) (now (table .exit)) r ⌝ }
 {
     let lines = check_lines(file, table);

@@ -28,17 +28,17 @@ use Rattle.frames.specs.Shape.{SameShape}
 use Rattle.frames.proofs.Acceptance.{accepted-formed}
 use Rattle.frames.proofs.Proper.{tree-proper}
 use Rattle.frames.proofs.Values.{value-order}
-use Rattle.places.specs.Buffer.{tabulate}
+use Rattle.positions.specs.Buffer.{tabulate}
 use Rattle.certificate.specs.declared.Findings.{Findings}
 use Rattle.bounds.specs.Marks.{mark, ones}
 use Rattle.certificate.specs.Search.{searchRejection, marksOf, listed}
-use Rattle.alphabeta.specs.declared.Answer.the-variants as ab-answer
+use Rattle.alphabeta.specs.declared.AlphaBetaAnswer.the-variants as ab-answer
 use Rattle.alphabeta.specs.Outcome.{reachedLeaves}
 use Rattle.states.specs.declared.State.{State}
-use Rattle.sss.specs.declared.Found.{Found as SssFound}
+use Rattle.sss.specs.declared.SssResult.{SssResult}
 use Rattle.sss.specs.declared.Spent.{Spent}
-use Rattle.sss.specs.declared.Answer.{Answer as SssAnswer}
-use Rattle.sss.specs.declared.Answer.the-variants as sss-answer
+use Rattle.sss.specs.declared.SssAnswer.{SssAnswer}
+use Rattle.sss.specs.declared.SssAnswer.the-variants as sss-answer
 use Rattle.states.specs.Entry.{blank}
 use Rattle.sss.specs.Outcome.{runOf, sssLeaves, sssFound, sssUncovered, sssSpent, outcomeBy, withinOutcome, sssOutcome}
 use Rattle.sss.proofs.Replacements.{own}
@@ -53,7 +53,7 @@ use Rattle.demands.proofs.Local.{take-written}
 use Rattle.demands.proofs.Spending.{firstLeaves, none-more, left-more, run-is, more-left, ones-within}
 use Rattle.demands.proofs.Spending.{run-reached, spent-view, spent-formed, spent-run, spent-end, first-count}
 use Rattle.demands.proofs.Spending.{spent-marked, spent-local}
-use Rattle.demands.proofs.Demand2.{sss-gives, few}
+use Rattle.demands.proofs.Demand2.{sss-gives, leaves-at-most}
 use Rattle.demands.proofs.Demand3.{count, counts-less, local-sss}
 
 -- "SSS* takes an allowance and answers with the value, or with "spent" and the merit of the state whose leaf it
@@ -179,7 +179,7 @@ module _ (t : List ℕ) (a : Accepted t) (b : Buffers) (h : Room t b) (o : List 
         (k, c .0, c .1, c .2, c .3, c .4)
 
 -- a call that gives the value was allowed leaves enough
-pub had-enough : {t : List ℕ} {f : SssFound} (c : SssCall t (sss-answer.Found f)) → length (sssLeaves t) ≤ c .allowance
+pub had-enough : {t : List ℕ} {f : SssResult} (c : SssCall t (sss-answer.Found f)) → length (sssLeaves t) ≤ c .allowance
 had-enough {t} c = none-more t (c .allowance) (all-covered c)
 
 -- "That merit is never below the root's value" (nor above 32,001)
@@ -205,7 +205,7 @@ merit-falls {t} c d l =
     (own t wf) (c .allowance) (d .allowance) (v .next .merit) (w .next .merit) l (spent-end c) (spent-end d)))
 
 -- "A value once given is the same under every larger allowance": so is all that the call gives and leaves
-pub value-stays : {t : List ℕ} {f : SssFound} (c : SssCall t (sss-answer.Found f)) (n : ℕ) → c .allowance ≤ n
+pub value-stays : {t : List ℕ} {f : SssResult} (c : SssCall t (sss-answer.Found f)) (n : ℕ) → c .allowance ≤ n
     → record { list = c .leftList; order = c .leftOrder; search = outcomeOf (sss-answer.Found f) (c .left) }
     ≡ sssOutcome n t (c .lentList) (c .lent .marks) (c .lent .flags) (c .lentOrder)
 value-stays {t} c n l =
@@ -258,7 +258,7 @@ spent-fewer {t} c a =
     let p = view (alphaBeta a) .handed in
     let n = frames t in
     let y = sss-gives t (p .accepted) (a .lent) (p .room) (replicate n 0)
-    (omega (arith, length-replicate {A = ℕ} n 0)) n (few t (p .accepted) (a .lent) (p .room)) (replicate n blank)
+    (omega (arith, length-replicate {A = ℕ} n 0)) n (leaves-at-most t (p .accepted) (a .lent) (p .room)) (replicate n blank)
     (omega (arith, length-replicate n blank)) .0 in
     omega (arith, spent-counts c .0, needs-more c, counts-less y a)
 
@@ -303,11 +303,11 @@ local-spent {t} {u} {s} c d q a r k n h g =
     )
 
 -- and agree on finished ones: under one allowance the second call finishes too, with the same result
-pub finishes-too : {t u : List ℕ} {f : SssFound} {x : SssAnswer} (c : SssCall t (sss-answer.Found f)) (d : SssCall u x)
+pub finishes-too : {t u : List ℕ} {f : SssResult} {x : SssAnswer} (c : SssCall t (sss-answer.Found f)) (d : SssCall u x)
     → d .allowance ≡ c .allowance → Accepted u → Room u (d .lent) → frames u ≤ length (d .lentOrder)
     → frames u ≤ length (d .lentList) → SameShape t u → AgreeOnMarked t u (c .left) → x ≡ sss-answer.Found f
 finishes-too {t} {u} {f} c d q a r k n h g =
-    let y = sss-gives u a (d .lent) r (d .lentOrder) k (frames u) (few u a (d .lent) r) (d .lentList) n .0 in
+    let y = sss-gives u a (d .lent) r (d .lentOrder) k (frames u) (leaves-at-most u a (d .lent) r) (d .lentList) n .0 in
     let same = local-sss c y h g .0 in
     let leaves : length (sssLeaves u) ≡ length (sssLeaves t) =
     ap (λ z. z .findings .leaves) (sym same) ∙ count (sss c) .0 in

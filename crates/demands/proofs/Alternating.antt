@@ -33,15 +33,15 @@ use Rattle.reader.proofs.Acceptance.{accepted-table}
 use Rattle.verify.specs.Flags.{ruleHolds}
 use Rattle.verify.specs.Check.{checkTree, check11, check14, treesRejection, flagsRejection, certificateRejection}
 use Rattle.verify.specs.Check.{judged, verdict}
-use Rattle.plain.specs.declared.Found.{Found}
-use Rattle.plain.specs.declared.Answer.the-variants as plain-answer
+use Rattle.plain.specs.declared.PlainResult.{PlainResult}
+use Rattle.plain.specs.declared.PlainAnswer.the-variants as plain-answer
 use Rattle.plain.specs.Outcome.{allLeaves}
 use Rattle.report.specs.Report.{abLine, mtdLine, sssLine, printed, report}
-use Rattle.places.specs.Buffer.{written}
+use Rattle.positions.specs.Buffer.{written}
 use Rattle.alphabeta.specs.Outcome.{reachedLeaves}
 use Rattle.mtd.specs.Outcome.{mtdLeaves}
 use Rattle.sss.specs.Outcome.{runOf, sssUncovered}
-use Rattle.demands.specs.Calls.{PlainCall, Call, found, lent, left, leaves}
+use Rattle.demands.specs.Calls.{PlainCall, Call, found, lent, left, ruleLeaves}
 use Rattle.demands.specs.Alternating.{zeroFrames, zeroFile, zeroRead, ruleByDepth, treeRuleByDepth}
 use Rattle.demands.specs.Alternating.{verdictByDepth, analysisOn, printedByDepth, reportByDepth}
 use Rattle.demands.proofs.Demand2.{only-accepted, value-minimax, move-first, leaves-exactly}
@@ -92,10 +92,10 @@ module _ (t : List ℕ) (p : Alternating t) where
   alternating-move c = move-first c ∙ ap (rootMove (valuation t)) (alternating-tree (only-accepted c))
 
   pub alternating-flags : (c : Call t)
-      → left c .flags ≡ written (flag (valuation t) (among (leaves c)) (treeByDepth t)) (frames t) (lent c .flags)
+      → left c .flags ≡ written (flag (valuation t) (among (ruleLeaves c)) (treeByDepth t)) (frames t) (lent c .flags)
   alternating-flags c =
       leaves-exactly c .1
-      ∙ ap (λ x. written (flag (valuation t) (among (leaves c)) x) (frames t) (lent c .flags))
+      ∙ ap (λ x. written (flag (valuation t) (among (ruleLeaves c)) x) (frames t) (lent c .flags))
       (alternating-tree (only-accepted c))
 
   -- the rules evaluate the leaves that they evaluated, in as many passes and replacements
@@ -117,7 +117,7 @@ module _ (t : List ℕ) (p : Alternating t) where
   alternating-spent a n = ap (uncovered n (valuation t)) (alternating-tree a)
 
   -- the plain engine gives what it gave
-  module _ {f : Found} (c : PlainCall t (plain-answer.Found f)) where
+  module _ {f : PlainResult} (c : PlainCall t (plain-answer.Found f)) where
     pub alternating-plain-value : f .value ≡ valueOf (minimax (valuation t) (treeByDepth t))
     alternating-plain-value =
         plain-value c ∙ ap (λ x. valueOf (minimax (valuation t) x)) (alternating-tree (plain-accepted c))

@@ -18,7 +18,7 @@ use Rattle.frames.specs.Check.{check1}
 use Rattle.frames.proofs.Stated.{both-passed, passed-then}
 use Rattle.frames.proofs.Acceptance.{accepted-stated}
 use Rattle.hex.specs.Digit.{isCapitalDigit}
-use Rattle.lines.specs.Line.{lineDigits, lineSize, hasSmall, lineAt}
+use Rattle.lines.specs.Line.{lineDigits, lineSize, hasLowercase, lineAt}
 use Rattle.lines.specs.Lines.{linesOf, decoded}
 use Rattle.reader.specs.File.{maxFile, fileCheck2, fileCheck3, fileCheck16, fileRejection, AcceptedFile}
 use Rattle.reader.specs.File.{readRejection, readAnswer}
@@ -27,12 +27,12 @@ use Rattle.reader.proofs.FirstLine.{line-first, line-asked}
 use Rattle.writer.specs.Encoded.{fileOf}
 use Rattle.writer.specs.Write.{writeCheck10}
 use Rattle.writer.specs.declared.Written.the-variants.{Length, Rejected as RejectedWrite}
-use Rattle.convert.specs.Lift.{lifted}
+use Rattle.convert.specs.RaiseCase.{raised}
 use Rattle.text.specs.Text.{refusedLine}
 use Rattle.convert.specs.Convert.{convertOutcome}
 use Rattle.convert.specs.Printed.{outputOutcome}
 use Rattle.convert.specs.results.Converted.{baseRejection, Converted}
-use Rattle.convert.proofs.Kept.{lifted-table, lifted-check3, lifted-rejection, lifted-line}
+use Rattle.convert.proofs.Kept.{raised-table, raised-check3, raised-rejection, raised-line}
 use Rattle.convert.proofs.Converted.{base-table, convert-gives, convert-keeps, convert-leaves}
 use Rattle.convert.proofs.Printing.{line-printed, file-printed}
 use Rattle.convert.proofs.Converted.{converted-accepted, converted-table, converted-again, converted-once}
@@ -44,50 +44,50 @@ module _ (f : List ℕ) where
       → isCapitalDigit (getD (getD (linesOf f) i []) k 0) ≡ true
   capitals-only e i k h l = accepted-exactly f .0 e .line i h .digits k l
 
-  -- "a small letter a to f in a line, 16, place the first such line"
+  -- "a lowercase letter a to f in a line, 16, place the first such line"
   pub lowest-small : (r : Rejection) → fileCheck16 f ≡ some r
-      → (r .number ≡ 16) × (r .place < length (linesOf f)) × (hasSmall (getD (linesOf f) (r .place) []) ≡ true)
-      × ((k : ℕ) → k < r .place → hasSmall (getD (linesOf f) k []) ≡ false)
+      → (r .number ≡ 16) × (r .place < length (linesOf f)) × (hasLowercase (getD (linesOf f) (r .place) []) ≡ true)
+      × ((k : ℕ) → k < r .place → hasLowercase (getD (linesOf f) k []) ≡ false)
   lowest-small r e =
-      let p = line-first 16 (λ l. not (hasSmall l)) f r e in
+      let p = line-first 16 (λ l. not (hasLowercase l)) f r e in
       (p .0, p .1, not-false _ (p .2), λ k h. not-true _ (p .3 k h))
 
   -- "asked after question 3 .. has passed for all lines and before 4": a file that passes 1 to 3 and has a line with a
-  -- small letter gets it, whatever its frames and the lent table are
+  -- lowercase letter gets it, whatever its frames and the lent table are
   pub small-refused : (check1 f andThen fileCheck2 f andThen fileCheck3 f) ≡ none → (i : ℕ) → i < length (linesOf f)
-      → hasSmall (getD (linesOf f) i []) ≡ true
+      → hasLowercase (getD (linesOf f) i []) ≡ true
       → (r : Rejection) × (fileCheck16 f ≡ some r) × ((table : List ℕ) → readAnswer f table ≡ RejectedTable r)
   unfolding readRejection fileRejection
   small-refused e i h s =
       let a = both-passed (check1 f) _ e in
       let b = both-passed (fileCheck2 f) _ (a .1) in
-      let p = line-asked 16 (λ l. not (hasSmall l)) f i h (ap not s) in
+      let p = line-asked 16 (λ l. not (hasLowercase l)) f i h (ap not s) in
       let q : fileRejection f ≡ some (p .0) =
       passed-then (check1 f) _ (a .0) ∙ passed-then (fileCheck2 f) _ (b .0) ∙ passed-then (fileCheck3 f) _ (b .1)
       ∙ rw (p .1) in
       (p .0, p .1, λ _. rw q)
 
-  -- "(which still passes small letters)"
-  pub three-either-case : fileCheck3 (lifted f) ≡ fileCheck3 f
-  three-either-case = lifted-check3 f
+  -- "(which still passes lowercase letters)"
+  pub three-either-case : fileCheck3 (raised f) ≡ fileCheck3 f
+  three-either-case = raised-check3 f
 
   -- "Reading one line by itself takes what it took": its contract is as it was, and takes either letter case
-  pub line-either-case : (at : ℕ) → lineAt (lifted f) at ≡ lineAt f at
-  line-either-case = lifted-line f
+  pub line-either-case : (at : ℕ) → lineAt (raised f) at ≡ lineAt f at
+  line-either-case = raised-line f
 
   -- "their trees do not change": a lifted file gets the answers that the base gave to the file, and has its table
-  pub same-questions : fileRejection (lifted f) ≡ baseRejection f
-  same-questions = lifted-rejection f
+  pub same-questions : fileRejection (raised f) ≡ baseRejection f
+  same-questions = raised-rejection f
 
-  pub same-table : decoded (lifted f) ≡ decoded f
-  same-table = lifted-table f
+  pub same-table : decoded (raised f) ≡ decoded f
+  same-table = raised-table f
 
   module _ (buffer : List ℕ) where
     -- a file that the base accepted is converted, into any buffer that has room for a longest file
     pub length-converted : baseRejection f ≡ none → maxFile ≤ length buffer
         → convertOutcome f buffer .answer ≡ Length (lineSize * frames (decoded f))
     length-converted e room =
-        let few = accepted-stated (decoded f) (base-table f e) .most in
+        let atMost = accepted-stated (decoded f) (base-table f e) .most in
         ap (λ o. o .answer) (convert-gives f buffer e (omega arith))
 
     -- only such a file is; its own table's file stands then at the buffer's front

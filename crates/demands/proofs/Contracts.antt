@@ -17,7 +17,7 @@ use Rattle.shorter.specs.Choice.{choice, chosenFlags, pointerBy}
 use Rattle.verify.proofs as verify
 use Rattle.verify.specs.Check.{verdict}
 use Rattle.leafvalue.proofs as leafvalue
-use Rattle.leafvalue.specs.Wanted.{needed}
+use Rattle.leafvalue.specs.LeastValue.{leastValue}
 use Rattle.worstcase.proofs as worstcase
 use Rattle.worstcase.specs.Outcome.{fillOutcome}
 use Rattle.leastcount.proofs as leastcount
@@ -135,7 +135,7 @@ pub graft-graft : Runs graft.graft.ended graft.graft.Symbol.routine
 graft-graft = record { meets = graft.graft.Met.met }
 
 pub leafvalue-least-value : Runs leafvalue.least_value.ended leafvalue.least_value.Symbol.routine
-    (λ κs (t, (k, (w, _))) r e. r ≡ needed (t .now) k w)
+    (λ κs (t, (k, (w, _))) r e. r ≡ leastValue (t .now) k w)
 leafvalue-least-value = record { meets = leafvalue.least_value.Met.met }
 
 pub worstcase-fill : Runs worstcase.fill.ended worstcase.fill.Symbol.routine

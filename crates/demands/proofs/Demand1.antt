@@ -15,7 +15,7 @@ use Rattle.gametree.specs.Certificate.{inBoth}
 use Rattle.frames.specs.declared.Rejection.{Rejection}
 use Rattle.frames.specs.declared.Checked.the-variants.{Rejected as RejectedTable}
 use Rattle.frames.specs.Frame.{maxNodes, maxDepth, frames}
-use Rattle.frames.specs.Place.{depthOf}
+use Rattle.frames.specs.Position.{depthOf}
 use Rattle.frames.specs.Rejection.{_andThen_}
 use Rattle.frames.specs.Check.{check1, checkNode, nodesRejection, depthsRejection, rejection, checked}
 use Rattle.frames.specs.FirstNo.{LowestNo, LowestDeep, framesBefore9, rejectionBefore9}
@@ -38,11 +38,11 @@ use Rattle.verify.specs.Check.{check11, check12, check13, certificateRejection,
 use Rattle.certificate.specs.Search.{searchRejection, orderAfter}
 use Rattle.alphabeta.specs.Outcome.{reachedLeaves}
 use Rattle.mtd.specs.Outcome.{mtdLeaves}
-use Rattle.alphabeta.specs.declared.Answer.the-variants as ab-answer
-use Rattle.mtd.specs.declared.Answer.the-variants as mtd-answer
+use Rattle.alphabeta.specs.declared.AlphaBetaAnswer.the-variants as ab-answer
+use Rattle.mtd.specs.declared.MtdAnswer.the-variants as mtd-answer
 use Rattle.states.specs.declared.State.{State}
-use Rattle.sss.specs.declared.Answer.{Answer as SssAnswer}
-use Rattle.sss.specs.declared.Answer.the-variants as sss-answer
+use Rattle.sss.specs.declared.SssAnswer.{SssAnswer}
+use Rattle.sss.specs.declared.SssAnswer.the-variants as sss-answer
 use Rattle.states.specs.Entry.{blank}
 use Rattle.sss.specs.Outcome.{listAfter, sssOutcome}
 use Rattle.sss.proofs.OwnList.{own-list as same-outcome}

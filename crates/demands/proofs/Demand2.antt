@@ -10,7 +10,7 @@ use Rattle.lists.specs.Lists.{among}
 use Rattle.gametree.specs.Tree.{minimax}
 use Rattle.gametree.specs.Move.{rootMove}
 use Rattle.frames.specs.Frame.{frames, byteOf, childCount}
-use Rattle.frames.specs.Place.{depthOf}
+use Rattle.frames.specs.Position.{depthOf}
 use Rattle.frames.specs.Tree.{tree, valuation}
 use Rattle.frames.specs.Check.{Accepted}
 use Rattle.frames.proofs.Acceptance.{accepted-formed}
@@ -23,17 +23,17 @@ use Rattle.verify.specs.declared.Verdict.the-variants.{Value}
 use Rattle.verify.specs.Check.{verdict}
 use Rattle.verify.specs.Certificate.{Certificate}
 use Rattle.verify.proofs.Theorems.{accepts-certificates, accepted-minimax}
-use Rattle.alphabeta.specs.declared.Answer.the-variants as ab-answer
+use Rattle.alphabeta.specs.declared.AlphaBetaAnswer.the-variants as ab-answer
 use Rattle.alphabeta.specs.Outcome.{reachedLeaves}
-use Rattle.mtd.specs.declared.Answer.the-variants as mtd-answer
+use Rattle.mtd.specs.declared.MtdAnswer.the-variants as mtd-answer
 use Rattle.mtd.specs.Outcome.{mtdLeaves, mtdFound}
 use Rattle.states.specs.declared.State.{State}
-use Rattle.sss.specs.declared.Answer.the-variants as sss-answer
+use Rattle.sss.specs.declared.SssAnswer.the-variants as sss-answer
 use Rattle.states.specs.Entry.{blank}
 use Rattle.sss.specs.Outcome.{sssLeaves, sssFound, sssUncovered, outcomeBy}
 use Rattle.sss.proofs.Allowed.{leaves-few, enough as covered}
 use Rattle.demands.specs.Calls.{Buffers, AlphaBetaCall, MtdCall, SssCall, SolveCall, Call, found, lent, left}
-use Rattle.demands.specs.Calls.{leaves}
+use Rattle.demands.specs.Calls.{ruleLeaves}
 use Rattle.demands.specs.Handed.{Room, CertifiedBy}
 use Rattle.demands.proofs.Views.{sssBy, list-passed, rooms-passed, view}
 use Rattle.demands.proofs.Handed.{marks-at, flags-certify, flags-verified}
@@ -41,7 +41,7 @@ use Rattle.demands.proofs.Handed.{marks-at, flags-certify, flags-verifi
 -- "Alpha-beta, MTD and SSS*, each valuing the leaves that its rule names and no others": the leaves of its rule are
 -- marked 1, and every other node 0
 pub marks-rule : {t : List ℕ} (c : Call t) (k : ℕ) → k < frames t
-    → getD (left c .marks) k 0 ≡ mark (among (leaves c)) k
+    → getD (left c .marks) k 0 ≡ mark (among (ruleLeaves c)) k
 marks-rule c = marks-at (view c .handed)
 
 -- "give for every accepted tree": with an accepted table and room in what is lent, each search gives a result
@@ -76,7 +76,7 @@ module _ (t : List ℕ) (a : Accepted t) (b : Buffers) (h : Room t b) where
       refl,
     )
 
-    -- SSS* under every allowance that is enough: as many leaves as its full run evaluates (no more than nodes: `few`)
+    -- SSS* under every allowance that is enough: as many leaves as its full run evaluates (no more than nodes: `leaves-at-most`)
     module _ (n : ℕ) (enough : length (sssLeaves t) ≤ n) where
       abbrev found-leaves : Buffers
       found-leaves =
@@ -123,8 +123,8 @@ module _ (t : List ℕ) (a : Accepted t) (b : Buffers) (h : Room t b) where
       )
 
   -- it evaluates no more leaves than there are nodes
-  pub few : length (sssLeaves t) ≤ frames t
-  few = leaves-few t (accepted-formed t a)
+  pub leaves-at-most : length (sssLeaves t) ≤ frames t
+  leaves-at-most = leaves-few t (accepted-formed t a)
 
 -- and none other: only an accepted table gets a result
 pub only-accepted : {t : List ℕ} → Call t → Accepted t
@@ -132,11 +132,11 @@ only-accepted c = view c .handed .accepted
 
 -- what a call gives and leaves follows from the leaves of its rule: the findings, the marks and the flags, with what
 -- the buffers held behind them
-pub gives-exactly : {t : List ℕ} (c : Call t) → found c ≡ findings (leaves c) t
+pub gives-exactly : {t : List ℕ} (c : Call t) → found c ≡ findings (ruleLeaves c) t
 gives-exactly c = view c .results
 
 pub leaves-exactly : {t : List ℕ} (c : Call t)
-    → (left c .marks ≡ marksOf (leaves c) t (lent c .marks)) × (left c .flags ≡ flagsOf (leaves c) t (lent c .flags))
+    → (left c .marks ≡ marksOf (ruleLeaves c) t (lent c .marks)) × (left c .flags ≡ flagsOf (ruleLeaves c) t (lent c .flags))
 leaves-exactly c = (view c .handed .marks, view c .handed .flags)
 
 -- "the minimax value"

@@ -25,17 +25,17 @@ use Rattle.frames.proofs.Totals.{tree-size}
 use Rattle.frames.proofs.Proper.{tree-proper}
 use Rattle.certificate.specs.declared.Findings.{Findings}
 use Rattle.bounds.specs.Marks.{ones}
-use Rattle.alphabeta.specs.declared.Answer.the-variants as ab-answer
+use Rattle.alphabeta.specs.declared.AlphaBetaAnswer.the-variants as ab-answer
 use Rattle.alphabeta.specs.Outcome.{reachedLeaves}
-use Rattle.mtd.specs.declared.Found.{Found as MtdFound}
-use Rattle.mtd.specs.declared.Answer.the-variants as mtd-answer
+use Rattle.mtd.specs.declared.MtdResult.{MtdResult}
+use Rattle.mtd.specs.declared.MtdAnswer.the-variants as mtd-answer
 use Rattle.mtd.specs.Outcome.{mtdLeaves}
-use Rattle.sss.specs.declared.Found.{Found as SssFound}
-use Rattle.sss.specs.declared.Answer.the-variants as sss-answer
+use Rattle.sss.specs.declared.SssResult.{SssResult}
+use Rattle.sss.specs.declared.SssAnswer.the-variants as sss-answer
 use Rattle.states.specs.Entry.{blank}
 use Rattle.sss.specs.Outcome.{runOf, sssLeaves, listAfter}
 use Rattle.demands.specs.Calls.{AlphaBetaCall, MtdCall, SssCall}
-use Rattle.demands.specs.Calls.{Call, alphaBeta, mtd, sss, found, left, leaves}
+use Rattle.demands.specs.Calls.{Call, alphaBeta, mtd, sss, found, left, ruleLeaves}
 use Rattle.demands.specs.Handed.{Marked, AgreeOnMarked, Alike}
 use Rattle.demands.proofs.Views.{view, mtd-result, sss-result}
 use Rattle.demands.proofs.Handed.{formed, proper, marks-at, marks-count, marks-reached, count-most}
@@ -63,25 +63,25 @@ module _ {t : List ℕ} {f : Findings} (a : AlphaBetaCall t (ab-answer.Found f))
   no-more = rw (ap (λ x. x .leaves) (view (alphaBeta a) .results)) (reached-most c)
 
 -- "In every accepted tree each leaf that SSS* values is one that alpha-beta values"
-pub dominates : {t : List ℕ} {f : SssFound} {g : Findings} (s : SssCall t (sss-answer.Found f))
+pub dominates : {t : List ℕ} {f : SssResult} {g : Findings} (s : SssCall t (sss-answer.Found f))
     (a : AlphaBetaCall t (ab-answer.Found g)) (k : ℕ) → Marked t (s .left) k → Marked t (a .left) k
 dominates s a = dominated a (sss s)
 
 -- "so the count in its result is at most the one in alpha-beta's"
-pub counts-less : {t : List ℕ} {f : SssFound} {g : Findings} (s : SssCall t (sss-answer.Found f))
+pub counts-less : {t : List ℕ} {f : SssResult} {g : Findings} (s : SssCall t (sss-answer.Found f))
     (a : AlphaBetaCall t (ab-answer.Found g)) → f .findings .leaves ≤ g .leaves
 counts-less s a = no-more a (sss s)
 
--- "same child order, full opening window, leftmost state first on equal merit": so say the rules, `kidsFrom` and `tree`
+-- "same child order, full opening window, leftmost state first on equal merit": so say the rules, `childrenFrom` and `tree`
 -- (frames/specs/Tree.antt), `fullWindow` (gametree/specs/AlphaBeta.antt), `pick` and `beats` (gametree/specs/Sss.antt)
 
 -- "Neither values a leaf twice": in the list of evaluated leaves no number stands twice
-pub once : {t : List ℕ} (c : Call t) → Once (leaves c)
+pub once : {t : List ℕ} (c : Call t) → Once (ruleLeaves c)
 once {t} c = search-once (valuation t) (tree t) (proper (view c .handed)) (view c .searched)
 
 -- "each count is exactly the number of leaves valued": the length of that list, and the number of marks that are 1
 pub count : {t : List ℕ} (c : Call t)
-    → (found c .leaves ≡ length (leaves c)) × (found c .leaves ≡ ones (left c .marks) (frames t))
+    → (found c .leaves ≡ length (ruleLeaves c)) × (found c .leaves ≡ ones (left c .marks) (frames t))
 count c = let n = ap (λ x. x .leaves) (view c .results) in (n, n ∙ marks-count (view c .handed))
 
 -- "Neither count is below the number of leaves, a shared one counted once, in the smallest pair of max and min solution
@@ -116,7 +116,7 @@ local-alphaBeta {t} {u} c d h a =
     ∙ leaves-are u in
     (same-found x y h a e, same-left x y h a e, same-order x y h a e)
 
-pub local-mtd : {t u : List ℕ} {f g : MtdFound} (c : MtdCall t (mtd-answer.Found f))
+pub local-mtd : {t u : List ℕ} {f g : MtdResult} (c : MtdCall t (mtd-answer.Found f))
     (d : MtdCall u (mtd-answer.Found g)) → SameShape t u → AgreeOnMarked t u (c .left)
     → (f ≡ g) × Alike (frames t) (c .left) (d .left)
     × (take (f .findings .leaves) (c .leftOrder) ≡ take (g .findings .leaves) (d .leftOrder))
@@ -134,7 +134,7 @@ local-mtd {t} {u} c d h a =
       same-order x y h a e,
     )
 
-pub local-sss : {t u : List ℕ} {f g : SssFound} (c : SssCall t (sss-answer.Found f))
+pub local-sss : {t u : List ℕ} {f g : SssResult} (c : SssCall t (sss-answer.Found f))
     (d : SssCall u (sss-answer.Found g)) → SameShape t u → AgreeOnMarked t u (c .left)
     → (f ≡ g) × Alike (frames t) (c .left) (d .left)
     × (take (f .findings .leaves) (c .leftOrder) ≡ take (g .findings .leaves) (d .leftOrder))
@@ -169,7 +169,7 @@ one-order t wf =
 
 -- MTD's passes are those of its rule, and at most one more than there are different worths, as scores, among the
 -- evaluated leaves
-pub passes : {t : List ℕ} {f : MtdFound} (c : MtdCall t (mtd-answer.Found f))
+pub passes : {t : List ℕ} {f : MtdResult} (c : MtdCall t (mtd-answer.Found f))
     → (f .passes ≡ rule.mtd (valuation t) (tree t) .passes)
     × (f .passes ≤ suc (different (map (valuation t) (mtdLeaves t))))
 passes {t} c =
@@ -177,7 +177,7 @@ passes {t} c =
     (n, rw n (mtd-passes (valuation t) (tree t) (proper (view (mtd c) .handed))))
 
 -- SSS* makes the replacements of its run, at most twice the number of nodes less 1
-pub replacements : {t : List ℕ} {f : SssFound} (c : SssCall t (sss-answer.Found f))
+pub replacements : {t : List ℕ} {f : SssResult} (c : SssCall t (sss-answer.Found f))
     → (f .replacements ≡ runOf t .replacements) × (f .replacements < 2 * frames t)
 replacements {t} c =
     let p = proper (view (sss c) .handed) in
@@ -187,7 +187,7 @@ replacements {t} c =
     (n, rw n (subst (λ m. runOf t .replacements < 2 * m) (tree-size t (formed (view (sss c) .handed))) k))
 
 -- and its list's first entries, one a node, are reset, and later ones are kept
-pub list-reset : {t : List ℕ} {f : SssFound} (c : SssCall t (sss-answer.Found f))
+pub list-reset : {t : List ℕ} {f : SssResult} (c : SssCall t (sss-answer.Found f))
     → c .leftList ≡ replicate (frames t) blank ++ drop (frames t) (c .lentList)
 list-reset {t} c =
     ap (λ x. x .list) (c .outcome) ∙ ap (λ q. listAfter q (frames t) (c .lentList)) (sss-result c .passed)

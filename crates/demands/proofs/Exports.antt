@@ -19,14 +19,14 @@ use Rattle.sss.specs.Outcome.{solveOutcome}
 use Rattle.verify.specs.Check.{verdict}
 use Rattle.shorter.specs.Choice.{choice, chosenFlags}
 use Rattle.graft.specs.Outcome.{graftOutcome}
-use Rattle.leafvalue.specs.Wanted.{needed}
+use Rattle.leafvalue.specs.LeastValue.{leastValue}
 use Rattle.worstcase.specs.Outcome.{fillOutcome}
 use Rattle.leastcount.specs.Answer.{leastAnswer}
 use Rattle.report.specs.Report as reports
 use Rattle.text.specs.Text.{refusedLine, textOf}
 use Rattle.buulset.proofs as buulset
 use Rattle.buulset.specs.Flat.{version, partOf, flatChecked, flatLine, flatChildren, flatText, flatVerdict, flatChoice}
-use Rattle.buulset.specs.Flat.{flatNeeded, flatLeast, flatWrite, flatGraft, flatFill, flatSearch, flatListed}
+use Rattle.buulset.specs.Flat.{flatLeastValue, flatLeast, flatWrite, flatGraft, flatFill, flatSearch, flatListed}
 use Rattle.buulset.specs.Flat.{flatAlphaBeta, flatPlain, flatMtd, flatMtdf, flatSss}
 use Rattle.demands.specs.Runs.{Runs}
 
@@ -123,7 +123,7 @@ pub exported-graft : Runs buulset.buulset_graft.ended buulset.buulset_graft.Symb
 exported-graft = record { meets = buulset.buulset_graft.Met.met }
 
 pub exported-least-value : Runs buulset.buulset_least_value.ended buulset.buulset_least_value.Symbol.routine
-    (λ κs (t, (k, (w, _))) r e. r ≡ flatNeeded (needed (t .now) k w))
+    (λ κs (t, (k, (w, _))) r e. r ≡ flatLeastValue (leastValue (t .now) k w))
 exported-least-value = record { meets = buulset.buulset_least_value.Met.met }
 
 pub exported-fill : Runs buulset.buulset_fill.ended buulset.buulset_fill.Symbol.routine

@@ -15,10 +15,10 @@ use Rattle.gametree.specs.Graft.{relabelled}
 use Rattle.frames.specs.declared.Rejection.{Rejection}
 use Rattle.frames.specs.declared.Checked.the-variants.{Nodes, Rejected}
 use Rattle.frames.specs.Frame.{frameSize, maxNodes, maxDepth, frames, byteOf, childCount}
-use Rattle.frames.specs.Place.{parentOf, depthOf, sideOf}
+use Rattle.frames.specs.Position.{parentOf, depthOf, sideOf}
 use Rattle.frames.specs.Tree.{tree, valuation}
 use Rattle.frames.specs.Check.{rejection, Accepted}
-use Rattle.frames.proofs.Places.{place-root}
+use Rattle.frames.proofs.Positions.{position-root}
 use Rattle.frames.proofs.Acceptance.{accepted-formed}
 use Rattle.graftable.specs.Questions.{graftSize, graftRejection}
 use Rattle.graft.specs.Sources.{sources}
@@ -38,7 +38,7 @@ leaf-mover = leaf-other
 
 -- "a leaf at node 0 belongs to Max"
 pub root-mover : (t : List ℕ) → sideOf t 0 ≡ Max
-root-mover t = ap (λ p. p .side) (place-root t)
+root-mover t = ap (λ p. p .side) (position-root t)
 
 module _ (t : List ℕ) (k : ℕ) (u b : List ℕ) where
   -- "Add a call that puts the second tree in that leaf's place, .. and gives its number of nodes": with room there is
@@ -95,7 +95,7 @@ module _ (t : List ℕ) (k : ℕ) (u b : List ℕ) where
   -- "a result of more than 4,096 nodes .. 18, place 0", where 17 passes
   pub too-many-nodes : Accepted t → Accepted u → MaxLeaf t k → maxNodes < graftSize t u
       → graftOutcome t k u b .answer ≡ Rejected (record { number = 18; place = 0 })
-  too-many-nodes a c l h = graft-too-large t k u b a c l (λ r. omega (arith, accepted-graftable t k u a c l r .few))
+  too-many-nodes a c l h = graft-too-large t k u b a c l (λ r. omega (arith, accepted-graftable t k u a c l r .atMost))
 
   -- "or 18 plies": a node of the second tree would stand deeper in the result
   pub too-many-plies : Accepted t → Accepted u → MaxLeaf t k → (v : ℕ) → v < frames u
@@ -113,7 +113,7 @@ module _ (t : List ℕ) (k : ℕ) (u b : List ℕ) where
         | no f ↦ inl (omega arith)
         | yes f ↦ inr (
           frames u - 1,
-          omega (arith, accepted-formed u c .some),
+          omega (arith, accepted-formed u c .nonEmpty),
           graft-deep t k u b a c l f e,
         )
       ]

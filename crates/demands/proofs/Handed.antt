@@ -11,7 +11,7 @@ use Rattle.gametree.specs.declared.Side.the-variants.{Max, Min}
 use Rattle.lists.specs.Lists.{All, among}
 use Rattle.gametree.specs.Tree.{minimax, Proper}
 use Rattle.gametree.specs.Bounds.{known}
-use Rattle.gametree.specs.Certificate.{inside, solutionOf, flag, fill}
+use Rattle.gametree.specs.Certificate.{inside, solutionOf, flag, unknownScore}
 use Rattle.lists.proofs.Lists.{all-at}
 use Rattle.gametree.proofs.minimax.Bounds.{every-map}
 use Rattle.gametree.proofs.certificates.ReadOff.{ReadOff, fits}
@@ -27,13 +27,13 @@ use Rattle.bounds.specs.Marks.{mark}
 use Rattle.bounds.specs.Marks.{marked, ones}
 use Rattle.verify.specs.Flags.{member}
 use Rattle.frames.specs.Value.{valueOf}
-use Rattle.places.proofs.Buffers.{written-length, written-at}
+use Rattle.positions.proofs.Buffers.{written-length, written-at}
 use Rattle.certificate.proofs.Marks.{marked-written, evaluated-within, ones-evaluated}
 use Rattle.alphabeta.specs.Outcome.{reachedLeaves}
 use Rattle.verify.specs.declared.Verdict.the-variants.{Value}
 use Rattle.verify.specs.Check.{verdict}
 use Rattle.verify.proofs.Theorems.{certificate-verdict}
-use Rattle.demands.specs.Calls.{Buffers, Call, left, leaves}
+use Rattle.demands.specs.Calls.{Buffers, Call, left, ruleLeaves}
 use Rattle.demands.specs.Handed.{Marked, CertifiedBy}
 use Rattle.demands.proofs.Views.{HandedBack, view}
 
@@ -70,10 +70,10 @@ module _ {t w : List ℕ} {lent left : Buffers} (handed : HandedBack t w lent le
       marked-at k (all-at (λ k. k < frames t) w (evaluated-within t formed (handed .deciding)) k h) ∙ h
 
   reads : (p : Side)
-      → ReadOff p (known (valuation t) (among w) (fill p)) (member p (left .flags)) true (tree t)
+      → ReadOff p (known (valuation t) (among w) (unknownScore p)) (member p (left .flags)) true (tree t)
   reads p =
       fits p _ (member p (left .flags)) true (tree t) (proper .distinct) (λ k i.
-      ap (inside p) (flags-at k (tree-range t formed 0 (formed .some) k i .1))
+      ap (inside p) (flags-at k (tree-range t formed 0 (formed .nonEmpty) k i .1))
       ∙ flag-inside p (valuation t) (among w) (tree t) k)
 
   -- the flags certify the minimax value, by leaves that are marked 1 only
@@ -117,11 +117,11 @@ module _ {t : List ℕ} (c : Call t) where
   marks-reached k m =
       let leaf = sym (marked-at (view c .handed) k (m .node)) ∙ eq-eqb _ _ (m .mark) in
       let all = domination (valuation t) (tree t) (proper (view c .handed)) (view c .searched) in
-      all-at (λ k. among (reachedLeaves t) k ≡ true) (leaves c)
-      (subst (λ v. All (λ k. among v k ≡ true) (leaves c)) (alphaBeta-leaves (valuation t) (tree t)) all) k leaf
+      all-at (λ k. among (reachedLeaves t) k ≡ true) (ruleLeaves c)
+      (subst (λ v. All (λ k. among v k ≡ true) (ruleLeaves c)) (alphaBeta-leaves (valuation t) (tree t)) all) k leaf
 
   -- so there are no more of them than alpha-beta evaluates
-  pub count-most : length (leaves c) ≤ length (reachedLeaves t)
+  pub count-most : length (ruleLeaves c) ≤ length (reachedLeaves t)
   count-most =
       rw (← alphaBeta-leaves (valuation t) (tree t))
       (domination-count (valuation t) (tree t) (proper (view c .handed)) (view c .searched))

@@ -15,7 +15,7 @@ use Rattle.gametree.proofs.minimax.Counts.{leaves-size, pairLeaves-all}
 use Rattle.gametree.proofs.certificates.Regular.{pair-count}
 use Rattle.frames.specs.declared.Rejection.{Rejection}
 use Rattle.frames.specs.Frame.{maxChildren, maxDepth, frames, childCount, byte3, sameMover}
-use Rattle.frames.specs.Place.{parentBefore, placeWithin, placeOf, depthOf}
+use Rattle.frames.specs.Position.{parentBefore, positionWithin, positionOf, depthOf}
 use Rattle.frames.specs.Tree.{tree, valuation}
 use Rattle.frames.specs.Check.{Accepted}
 use Rattle.frames.specs.results.Regular.{RegularTable}
@@ -24,8 +24,8 @@ use Rattle.frames.proofs.Acceptance.{accepted-formed}
 use Rattle.frames.proofs.Totals.{tree-size}
 use Rattle.frames.proofs.Regular.{tree-regular, regular-depth, regular-width}
 use Rattle.bounds.specs.Marks.{ones}
-use Rattle.plain.specs.declared.Found.{Found}
-use Rattle.plain.specs.declared.Answer.the-variants as plain-answer
+use Rattle.plain.specs.declared.PlainResult.{PlainResult}
+use Rattle.plain.specs.declared.PlainAnswer.the-variants as plain-answer
 use Rattle.leastcount.specs.declared.Least.the-variants.{Leaves, Rejected}
 use Rattle.leastcount.specs.Rule.{cap, leastOf, leastCount}
 use Rattle.leastcount.specs.Answer.{leastRejection, leastGiven, leastAnswer}
@@ -71,7 +71,7 @@ module _ (t : List ℕ) (w d : ℕ) (r : RegularTable w d t) where
         let s = smallest-pair t a in
         let p = pairs-alike a (s .0) (s .1) _ (s .2 .certifies) in
         let q = le-trans (pairLeaves-all (s .0) (s .1) (tree t)) (leaves-size (tree t)) in
-        omega (arith, p, q, counted, tree-size t (accepted-formed t a), accepted-formed t a .few)
+        omega (arith, p, q, counted, tree-size t (accepted-formed t a), accepted-formed t a .atMost)
 
     -- "each entry is the number of leaves, a shared one counted once, in every max and min pair of equal value, in each
     -- such tree that is accepted"
@@ -90,7 +90,7 @@ module _ (t : List ℕ) (w d : ℕ) (r : RegularTable w d t) where
         )
 
     -- nor does the plain engine mark fewer
-    pub no-fewer-plain : {f : Found} (c : PlainCall t (plain-answer.Found f)) → n ≤ ones (c .left .marks) (frames t)
+    pub no-fewer-plain : {f : PlainResult} (c : PlainCall t (plain-answer.Found f)) → n ≤ ones (c .left .marks) (frames t)
     no-fewer-plain c =
         let s = smallest-pair t (plain-accepted c) in
         omega (
@@ -133,7 +133,7 @@ module _ (P : ℕ → Type 0) (p0 : P 0) (p1 : P 1) (p2 : P 2) (p3 : P 3) (p4 : 
 
 -- the trees of SPEC 12.2 with four leaves are regular of width 2 and depth 2, where the entry is 3
 pub small-regular : (x y u v : ℕ) → RegularTable 2 2 (small x y u v)
-unfolding parentBefore placeWithin placeOf
+unfolding parentBefore positionWithin positionOf
 small-regular x y u v =
     let t = small x y u v in
     let none : 0 < 0 → _≡_ {A = ℕ} 0 2 = λ l. absurd (omega arith) in

@@ -31,13 +31,13 @@ use Rattle.certificate.specs.declared.Findings.{Findings}
 use Rattle.certificate.specs.Search.{searchRejection, marksOf, flagsOf, listed, orderAfter}
 use Rattle.leafvalue.proofs.Values.{score-again}
 use Rattle.alphabeta.proofs as alphabeta-proofs
-use Rattle.alphabeta.specs.declared.Answer.the-variants as ab-answer
+use Rattle.alphabeta.specs.declared.AlphaBetaAnswer.the-variants as ab-answer
 use Rattle.mtdf.proofs as mtdf-proofs
-use Rattle.mtdf.specs.declared.Found.{Found}
-use Rattle.mtdf.specs.declared.Answer.the-variants as mtdf-answer
+use Rattle.mtdf.specs.declared.MtdfResult.{MtdfResult}
+use Rattle.mtdf.specs.declared.MtdfAnswer.the-variants as mtdf-answer
 use Rattle.mtdf.specs.Outcome.{startScore, decisionOf, mtdfLeaves, mtdfFound}
-use Rattle.sss.specs.declared.Found.{Found as SssFound}
-use Rattle.sss.specs.declared.Answer.the-variants as sss-answer
+use Rattle.sss.specs.declared.SssResult.{SssResult}
+use Rattle.sss.specs.declared.SssAnswer.the-variants as sss-answer
 use Rattle.sss.specs.Outcome.{sssLeaves}
 use Rattle.demands.specs.Runs.{RunBoth}
 use Rattle.demands.specs.Calls.{Buffers, buffers, listLengths, MtdfCall, SssCall, Call, mtdf, sss, found}
@@ -55,7 +55,7 @@ use Rattle.demands.proofs.Contracts as contracts
 pub no-leaf-passed-over : RunBoth mtdf-proofs.search.ended alphabeta-proofs.search.ended
     mtdf-proofs.search.Symbol.routine alphabeta-proofs.search.Symbol.routine
     (λ κs (t, _) r (_, (_, (m, (f, _)))) κs′ (u, _) r′ (_, (m′, (f′, _))). u .now ≡ t .now
-    → (g : Found) → r ≡ mtdf-answer.Found g → (h : Findings) → r′ ≡ ab-answer.Found h
+    → (g : MtdfResult) → r ≡ mtdf-answer.Found g → (h : Findings) → r′ ≡ ab-answer.Found h
     → (k : ℕ) → Marked (t .now) (buffers (m .now) (f .now)) k → Marked (t .now) (buffers (m′ .now) (f′ .now)) k)
 no-leaf-passed-over =
     record {
@@ -104,7 +104,7 @@ module _ {t : List ℕ} {r : Rejection} (c : MtdfCall t (mtdf-answer.Rejected r)
   )
 
 -- the starting value changes neither the value nor the move: they are those of every other call of a search
-pub start-free : {t : List ℕ} {f : Found} → MtdfCall t (mtdf-answer.Found f) → (c : Call t)
+pub start-free : {t : List ℕ} {f : MtdfResult} → MtdfCall t (mtdf-answer.Found f) → (c : Call t)
     → (f .findings .value ≡ found c .value) × (f .findings .«root_move» ≡ found c .«root_move»)
 start-free m c = (
   value-minimax (mtdf m) ∙ sym (value-minimax c),
@@ -115,7 +115,7 @@ start-free m c = (
 pub starts-agree : RunBoth mtdf-proofs.search.ended mtdf-proofs.search.ended mtdf-proofs.search.Symbol.routine
     mtdf-proofs.search.Symbol.routine
     (λ κs (t, _) r e κs′ (u, _) r′ e′. u .now ≡ t .now
-    → (g : Found) → r ≡ mtdf-answer.Found g → (h : Found) → r′ ≡ mtdf-answer.Found h
+    → (g : MtdfResult) → r ≡ mtdf-answer.Found g → (h : MtdfResult) → r′ ≡ mtdf-answer.Found h
     → (g .findings .value ≡ h .findings .value) × (g .findings .«root_move» ≡ h .findings .«root_move»))
 starts-agree =
     record {
@@ -132,7 +132,7 @@ starts-agree =
           (buffers (x′ .now) (y′ .now)) (z′ .now) (rw same at (rw j at c))));
     }
 
-module _ {t : List ℕ} {f : Found} (c : MtdfCall t (mtdf-answer.Found f)) where
+module _ {t : List ℕ} {f : MtdfResult} (c : MtdfCall t (mtdf-answer.Found f)) where
   -- the tests are those that the rule puts to the root
   pub tests-are : f .tests ≡ rule (startScore (c .start)) (valuation t) (tree t) .tests
   unfolding decisionOf
@@ -165,7 +165,7 @@ start-above : (v : ℤ) → ltZ (pos maxValue) v ≡ true → startScore v ≡ g
 start-above (pos n) e = rw (lt-leb n maxValue (ltb-true maxValue n e), le-ltb n 0 (omega arith))
 start-above (negsuc n) e = absurd (true-not-false e refl)
 
-module _ {t : List ℕ} {f : Found} {g : SssFound} (c : MtdfCall t (mtdf-answer.Found f))
+module _ {t : List ℕ} {f : MtdfResult} {g : SssResult} (c : MtdfCall t (mtdf-answer.Found f))
     (s : SssCall t (sss-answer.Found g)) (above : ltZ (pos maxValue) (c .start) ≡ true) where
   sss-leaves : All (λ k. among (sssLeaves t) k ≡ true) (mtdfLeaves (startScore (c .start)) t)
   unfolding decisionOf
@@ -197,7 +197,7 @@ module _ {t : List ℕ} {f : Found} {g : SssFound} (c : MtdfCall t (mtdf-answer.
 
 -- "whatever the leaves it passed over hold": two accepted tables of one shape that agree on the leaves marked 1 in one
 -- of them get the same from one starting value, the number of tests too
-pub local-mtdf : {t u : List ℕ} {f g : Found} (c : MtdfCall t (mtdf-answer.Found f))
+pub local-mtdf : {t u : List ℕ} {f g : MtdfResult} (c : MtdfCall t (mtdf-answer.Found f))
     (d : MtdfCall u (mtdf-answer.Found g)) → c .start ≡ d .start → SameShape t u → AgreeOnMarked t u (c .left)
     → (f ≡ g) × Alike (frames t) (c .left) (d .left)
     × (take (f .findings .leaves) (c .leftOrder) ≡ take (g .findings .leaves) (d .leftOrder))
@@ -221,7 +221,7 @@ local-mtdf {t} {u} c d v h a =
 pub mtdf-local : RunBoth mtdf-proofs.search.ended mtdf-proofs.search.ended mtdf-proofs.search.Symbol.routine
     mtdf-proofs.search.Symbol.routine
     (λ κs (t, (v, _)) r (_, (_, (m, (f, (o, _))))) κs′ (u, (w, _)) r′ (_, (_, (m′, (f′, (o′, _))))). v ≡ w
-    → (g h : Found) → r ≡ mtdf-answer.Found g → r′ ≡ mtdf-answer.Found h → SameShape (t .now) (u .now)
+    → (g h : MtdfResult) → r ≡ mtdf-answer.Found g → r′ ≡ mtdf-answer.Found h → SameShape (t .now) (u .now)
     → AgreeOnMarked (t .now) (u .now) (buffers (m .now) (f .now))
     → (g ≡ h) × Alike (frames (t .now)) (buffers (m .now) (f .now)) (buffers (m′ .now) (f′ .now))
     × (take (g .findings .leaves) (o .now) ≡ take (h .findings .leaves) (o′ .now)))

@@ -23,33 +23,33 @@ use Rattle.gametree.proofs.Theorems as theory
 use Rattle.frames.specs.declared.Rejection.{Rejection}
 use Rattle.frames.specs.Frame.{frames}
 use Rattle.frames.specs.Tree.{tree, valuation}
-use Rattle.frames.specs.Check.{rejection, roomy, Accepted}
+use Rattle.frames.specs.Check.{rejection, longEnough, Accepted}
 use Rattle.frames.proofs.Acceptance.{accepted-formed}
 use Rattle.frames.proofs.Proper.{tree-proper}
-use Rattle.places.specs.Buffer.{tabulate, written}
+use Rattle.positions.specs.Buffer.{tabulate, written}
 use Rattle.bounds.specs.Marks.{mark}
 use Rattle.certificate.specs.declared.Findings.{Findings}
 use Rattle.certificate.specs.Search.{searchRejection, findings, listed, outcome}
 use Rattle.certificate.proofs.Marks.{evaluated-within}
 use Rattle.certificate.proofs.Questions.{Room, passed-room}
-use Rattle.alphabeta.specs.declared.Answer.{Answer as AlphaBetaAnswer}
-use Rattle.alphabeta.specs.declared.Answer.the-variants as ab-answer
+use Rattle.alphabeta.specs.declared.AlphaBetaAnswer.{AlphaBetaAnswer}
+use Rattle.alphabeta.specs.declared.AlphaBetaAnswer.the-variants as ab-answer
 use Rattle.alphabeta.specs.Outcome.{reachedLeaves, alphaBetaSearch}
-use Rattle.mtd.specs.declared.Found.{Found as MtdFound}
-use Rattle.mtd.specs.declared.Answer.{Answer as MtdAnswer}
-use Rattle.mtd.specs.declared.Answer.the-variants as mtd-answer
+use Rattle.mtd.specs.declared.MtdResult.{MtdResult}
+use Rattle.mtd.specs.declared.MtdAnswer.{MtdAnswer}
+use Rattle.mtd.specs.declared.MtdAnswer.the-variants as mtd-answer
 use Rattle.mtd.specs.Outcome.{mtdLeaves, mtdFound, mtdSearch}
-use Rattle.sss.specs.declared.Found.{Found as SssFound}
+use Rattle.sss.specs.declared.SssResult.{SssResult}
 use Rattle.sss.specs.declared.Spent.{Spent}
-use Rattle.sss.specs.declared.Answer.{Answer as SssAnswer}
-use Rattle.sss.specs.declared.Answer.the-variants as sss-answer
+use Rattle.sss.specs.declared.SssAnswer.{SssAnswer}
+use Rattle.sss.specs.declared.SssAnswer.the-variants as sss-answer
 use Rattle.sss.specs.Outcome.{runOf, sssLeaves, withinOutcome}
 use Rattle.sss.proofs.Replacements.{own}
 use Rattle.sss.proofs.Allowed.{full-ends, outcome-rejected}
 use Rattle.demands.specs.Calls.{Buffers, listLengths, stateLengths, AlphaBetaCall, MtdCall, SssCall, SolveCall}
 use Rattle.demands.specs.Calls.{alphaBeta, mtd, sss}
 use Rattle.demands.specs.Handed.{Marked, Alike}
-use Rattle.demands.specs.Order.{Run, finished, stopped, count, left, lentOrder, leftOrder, evaluated, order}
+use Rattle.demands.specs.Order.{ListedRun, finished, stopped, count, runLeft, runLentOrder, runLeftOrder, evaluated, order}
 use Rattle.demands.specs.Order.{shortRejection}
 use Rattle.demands.proofs.Views.{view}
 use Rattle.demands.proofs.Handed.{formed, marks-at}
@@ -60,14 +60,14 @@ use Rattle.demands.proofs.Demand3.{once, ordered, one-order}
 use Rattle.demands.proofs.Allowance.{cut-short}
 
 -- what is common to the runs
-record Listing {t : List ℕ} (r : Run t) : Type 0 where
+record Listing {t : List ℕ} (r : ListedRun t) : Type 0 where
   counted : count r ≡ length (evaluated r)
-  left-is : leftOrder r ≡ listed (evaluated r) (lentOrder r)
+  left-is : runLeftOrder r ≡ listed (evaluated r) (runLentOrder r)
   once-each : Once (evaluated r)
   within-table : All (λ k. k < frames t) (evaluated r)
-  marks-are : (k : ℕ) → k < frames t → getD (left r .marks) k 0 ≡ mark (among (evaluated r)) k
+  marks-are : (k : ℕ) → k < frames t → getD (runLeft r .marks) k 0 ≡ mark (among (evaluated r)) k
 
-listing : {t : List ℕ} (r : Run t) → Listing r
+listing : {t : List ℕ} (r : ListedRun t) → Listing r
 listing {t} (finished c) =
     let v = view c in
     record {
@@ -88,19 +88,19 @@ listing {t} (stopped c) =
       marks-are = spent-marks-at c;
     }
 
-module _ {t : List ℕ} (r : Run t) where
+module _ {t : List ℕ} (r : ListedRun t) where
   -- "Each of the three searches also fills a lent list with the numbers of the valued leaves, in the order valued"
-  pub order-left : leftOrder r ≡ listed (evaluated r) (lentOrder r)
+  pub order-left : runLeftOrder r ≡ listed (evaluated r) (runLentOrder r)
   order-left = listing r .left-is
 
   pub order-evaluated : order r ≡ evaluated r
   order-evaluated = ap₂ take (listing r .counted) order-left ∙ take-append-seam (evaluated r) _
 
   -- "and leaves the rest of it"
-  pub rest-left : drop (count r) (leftOrder r) ≡ drop (count r) (lentOrder r)
+  pub rest-left : drop (count r) (runLeftOrder r) ≡ drop (count r) (runLentOrder r)
   rest-left =
       ap₂ drop (listing r .counted) order-left ∙ drop-append-seam (evaluated r) _
-      ∙ ap (λ n. drop n (lentOrder r)) (sym (listing r .counted))
+      ∙ ap (λ n. drop n (runLentOrder r)) (sym (listing r .counted))
 
   -- "Each valuing adds one number: a list has as many as the count"
   pub as-many : length (order r) ≡ count r
@@ -111,7 +111,7 @@ module _ {t : List ℕ} (r : Run t) where
   none-twice = subst Once (sym order-evaluated) (listing r .once-each)
 
   -- the nodes in it are those marked 1
-  pub listed-marked : (k : ℕ) → (among (order r) k ≡ true) ↔ Marked t (left r) k
+  pub listed-marked : (k : ℕ) → (among (order r) k ≡ true) ↔ Marked t (runLeft r) k
   listed-marked k = (
     λ e.
         let m = ap (λ w. among w k) (sym order-evaluated) ∙ e in
@@ -127,7 +127,7 @@ module _ {t : List ℕ} (r : Run t) where
 
 -- "For every accepted tree MTD and a finished SSS* give the same list": with the same findings, and so the same count,
 -- and the same marks and flags
-module _ {t : List ℕ} {f : MtdFound} {g : SssFound} (m : MtdCall t (mtd-answer.Found f))
+module _ {t : List ℕ} {f : MtdResult} {g : SssResult} (m : MtdCall t (mtd-answer.Found f))
     (s : SssCall t (sss-answer.Found g)) where
   same-leaves : mtdLeaves t ≡ sssLeaves t
   same-leaves = sym (one-order t (formed (view (mtd m) .handed)))
@@ -173,7 +173,7 @@ pub first-leaves : {t : List ℕ} {s : Spent} (c : SssCall t (sss-answer.Spent s
 first-leaves c = order-left (stopped c)
 
 -- so its list is the beginning of that of each finished run of SSS* with the table
-pub begins-finished : {t : List ℕ} {s : Spent} {f : SssFound} (c : SssCall t (sss-answer.Spent s))
+pub begins-finished : {t : List ℕ} {s : Spent} {f : SssResult} (c : SssCall t (sss-answer.Spent s))
     (d : SssCall t (sss-answer.Found f)) → order (stopped c) ≡ take (c .allowance) (order (finished (sss d)))
 begins-finished c d = order-evaluated (stopped c) ∙ ap (take (c .allowance)) (sym (order-evaluated (finished (sss d))))
 
@@ -219,13 +219,13 @@ short-no : (t lengths : List ℕ) → (Room (frames t) lengths → ⊥)
     → searchRejection t lengths ≡ some (shortRejection (rejection t))
 short-no t lengths short = by-table (rejection t) refl
   where
-    by-room : (b : Bool) → roomy (frames t) lengths ≡ b → rejection t ≡ none
+    by-room : (b : Bool) → longEnough (frames t) lengths ≡ b → rejection t ≡ none
         → searchRejection t lengths ≡ some (shortRejection none)
     by-room true e p = absurd (short (passed-room t lengths (rw (p, e)) .1))
     by-room false e p = rw (p, e)
 
     by-table : (q : Option Rejection) → rejection t ≡ q → searchRejection t lengths ≡ some (shortRejection q)
-    by-table none p = by-room (roomy (frames t) lengths) refl p
+    by-table none p = by-room (longEnough (frames t) lengths) refl p
     by-table (some r) p = rw p
 
 -- what SSS* answers with the buffers b and the list o, where the first "no" is r

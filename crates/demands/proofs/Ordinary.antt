@@ -16,15 +16,15 @@ use Rattle.frames.specs.Value.{valueOf, Ordinary}
 use Rattle.frames.specs.Tree.{tree, valuation}
 use Rattle.frames.specs.Check.{Accepted}
 use Rattle.frames.proofs.TreeOfTable.{ordinary-scores}
-use Rattle.places.specs.Buffer.{written}
+use Rattle.positions.specs.Buffer.{written}
 use Rattle.alphabeta.specs.Outcome.{reachedLeaves}
 use Rattle.sss.specs.Outcome.{runOf}
 use Rattle.verify.specs.declared.Verdict.the-variants.{Value}
 use Rattle.verify.specs.Check.{verdict}
-use Rattle.plain.specs.declared.Found.{Found}
-use Rattle.plain.specs.declared.Answer.the-variants as plain-answer
+use Rattle.plain.specs.declared.PlainResult.{PlainResult}
+use Rattle.plain.specs.declared.PlainAnswer.the-variants as plain-answer
 use Rattle.plain.specs.Outcome.{allLeaves}
-use Rattle.demands.specs.Calls.{Call, PlainCall, found, lent, left, leaves}
+use Rattle.demands.specs.Calls.{Call, PlainCall, found, lent, left, ruleLeaves}
 use Rattle.demands.proofs.Demand2.{only-accepted, value-minimax, move-first, leaves-exactly}
 use Rattle.demands.proofs.Demand2.{accepts-exactly, verdict-minimax}
 use Rattle.demands.proofs.Plain.{plain-accepted, plain-value, plain-move, same-bounds}
@@ -40,10 +40,10 @@ module _ (t : List ℕ) (p : Ordinary t) where
   ordinary-move c = move-first c ∙ ap (λ ν. rootMove ν (tree t)) (scores c)
 
   pub ordinary-flags : (c : Call t)
-      → left c .flags ≡ written (flag (storedScore t) (among (leaves c)) (tree t)) (frames t) (lent c .flags)
+      → left c .flags ≡ written (flag (storedScore t) (among (ruleLeaves c)) (tree t)) (frames t) (lent c .flags)
   ordinary-flags c =
       leaves-exactly c .1
-      ∙ ap (λ ν. written (flag ν (among (leaves c)) (tree t)) (frames t) (lent c .flags)) (scores c)
+      ∙ ap (λ ν. written (flag ν (among (ruleLeaves c)) (tree t)) (frames t) (lent c .flags)) (scores c)
 
   -- the rules evaluate the leaves that they evaluated, in as many passes and replacements
   pub ordinary-alphaBeta : Accepted t → reachedLeaves t ≡ reached (storedScore t) least greatest (tree t)
@@ -56,7 +56,7 @@ module _ (t : List ℕ) (p : Ordinary t) where
   ordinary-sss a = ap (λ ν. run ν (tree t)) (ordinary-scores t a p)
 
   -- the plain engine gives what it gave
-  module _ {f : Found} (c : PlainCall t (plain-answer.Found f)) where
+  module _ {f : PlainResult} (c : PlainCall t (plain-answer.Found f)) where
     plain-scores : valuation t ≡ storedScore t
     plain-scores = ordinary-scores t (plain-accepted c) p
 

@@ -24,9 +24,9 @@ use Rattle.certificate.specs.Search.{searchRejection, marksOf, flagsOf}
 use Rattle.certificate.proofs.Questions.{room-passed}
 use Rattle.verify.specs.declared.Verdict.the-variants.{Value}
 use Rattle.verify.specs.Check.{verdict}
-use Rattle.alphabeta.specs.declared.Answer.the-variants as ab-answer
-use Rattle.plain.specs.declared.Found.{Found}
-use Rattle.plain.specs.declared.Answer.the-variants as plain-answer
+use Rattle.alphabeta.specs.declared.AlphaBetaAnswer.the-variants as ab-answer
+use Rattle.plain.specs.declared.PlainResult.{PlainResult}
+use Rattle.plain.specs.declared.PlainAnswer.the-variants as plain-answer
 use Rattle.plain.specs.Outcome.{allLeaves, plainFound, plainSearch}
 use Rattle.plain.proofs.Leaves.{leaves-are}
 use Rattle.demands.specs.Calls.{Buffers, lengths, AlphaBetaCall, PlainCall, alphaBeta}
@@ -56,7 +56,7 @@ plain-gives t a b h = (
   refl,
 )
 
-module _ {t : List ℕ} {f : Found} (c : PlainCall t (plain-answer.Found f)) where
+module _ {t : List ℕ} {f : PlainResult} (c : PlainCall t (plain-answer.Found f)) where
   result : Result (searchRejection t (lengths (c .lent))) (plainSearch t (c .lent .marks) (c .lent .flags))
       (plainFound t) f (c .left)
   result = result-of plain-apart _ _ _ _ (c .outcome)
@@ -105,7 +105,7 @@ module _ {t : List ℕ} {f : Found} (c : PlainCall t (plain-answer.Found f)) whe
   plain-verified = flags-verified handed ∙ ap Value (sym plain-value)
 
 -- "It is proved equal to alpha-beta in both for every accepted tree"
-pub same-as-alphaBeta : {t : List ℕ} {f : Findings} {g : Found} → AlphaBetaCall t (ab-answer.Found f)
+pub same-as-alphaBeta : {t : List ℕ} {f : Findings} {g : PlainResult} → AlphaBetaCall t (ab-answer.Found f)
     → PlainCall t (plain-answer.Found g) → (g .value ≡ f .value) × (g .«root_move» ≡ f .«root_move»)
 same-as-alphaBeta a c = (
   plain-value c ∙ sym (value-minimax (alphaBeta a)),

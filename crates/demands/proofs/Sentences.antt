@@ -15,7 +15,7 @@ use Rattle.gametree.specs.Certificate.{Certifies, Smallest, pairLeaves}
 use Rattle.frames.specs.declared.Rejection.{Rejection}
 use Rattle.frames.specs.declared.Checked.the-variants.{Nodes, Rejected as RejectedTable}
 use Rattle.frames.specs.Frame.{frameSize, maxDepth, frames, storedScore}
-use Rattle.frames.specs.Place.{depthOf}
+use Rattle.frames.specs.Position.{depthOf}
 use Rattle.frames.specs.Tree.{tree, valuation}
 use Rattle.frames.specs.Value.{valueOf, maxValue, Ordinary}
 use Rattle.frames.specs.Check.{Accepted}
@@ -40,25 +40,25 @@ use Rattle.treefile.specs.results.Saved.{Bytes}
 use Rattle.convert.proofs as convert
 use Rattle.verify.specs.Certificate.{Certificate}
 use Rattle.alphabeta.proofs as alphabeta
-use Rattle.alphabeta.specs.declared.Answer.the-variants as ab-answer
+use Rattle.alphabeta.specs.declared.AlphaBetaAnswer.the-variants as ab-answer
 use Rattle.alphabeta.specs.Outcome.{reachedLeaves}
 use Rattle.plain.proofs as plain
-use Rattle.plain.specs.declared.Found.{Found as PlainFound}
-use Rattle.plain.specs.declared.Answer.the-variants as plain-answer
+use Rattle.plain.specs.declared.PlainResult.{PlainResult}
+use Rattle.plain.specs.declared.PlainAnswer.the-variants as plain-answer
 use Rattle.mtd.proofs as mtd
-use Rattle.mtd.specs.declared.Found.{Found as MtdFound}
-use Rattle.mtd.specs.declared.Answer.the-variants as mtd-answer
+use Rattle.mtd.specs.declared.MtdResult.{MtdResult}
+use Rattle.mtd.specs.declared.MtdAnswer.the-variants as mtd-answer
 use Rattle.mtd.specs.Outcome.{mtdFound}
 use Rattle.sss.proofs as sss
-use Rattle.sss.specs.declared.Found.{Found as SssFound}
+use Rattle.sss.specs.declared.SssResult.{SssResult}
 use Rattle.sss.specs.declared.Spent.{Spent}
-use Rattle.sss.specs.declared.Answer.the-variants as sss-answer
+use Rattle.sss.specs.declared.SssAnswer.the-variants as sss-answer
 use Rattle.sss.specs.Outcome.{sssLeaves, sssSpent}
 use Rattle.sss.proofs.Allowed.{enough}
 use Rattle.graft.proofs as graft
 use Rattle.graft.specs.results.Grafted.{graftValue}
 use Rattle.leafvalue.proofs as leafvalue
-use Rattle.leafvalue.specs.declared.Needed.the-variants.{Value}
+use Rattle.leafvalue.specs.declared.LeastValue.the-variants.{Value}
 use Rattle.leafvalue.specs.results.Root.{rootValue}
 use Rattle.worstcase.proofs as worstcase
 use Rattle.worstcase.specs.declared.Filled.the-variants as filled
@@ -112,7 +112,7 @@ alphabeta-gives =
 
 pub mtd-gives : Runs mtd.search.ended mtd.search.Symbol.routine
     (λ κs (t, (m, (f, (o, _)))) r e. Accepted (t .now) → Room (t .now) (buffers (m .now) (f .now))
-    → frames (t .now) ≤ length (o .now) → (g : MtdFound) × (r ≡ mtd-answer.Found g))
+    → frames (t .now) ≤ length (o .now) → (g : MtdResult) × (r ≡ mtd-answer.Found g))
 mtd-gives =
     follows contracts.mtd-search
     (λ κs (t, (m, (f, (o, _)))) r e s a h long. (
@@ -124,7 +124,7 @@ mtd-gives =
 pub sss-gives : Runs sss.search.ended sss.search.Symbol.routine
     (λ κs (t, (l, (m, (f, (o, (n, _)))))) r e. Accepted (t .now) → Room (t .now) (buffers (m .now) (f .now))
     → frames (t .now) ≤ length (o .now) → frames (t .now) ≤ length (l .now) → length (sssLeaves (t .now)) ≤ n
-    → (g : SssFound) × (r ≡ sss-answer.Found g))
+    → (g : SssResult) × (r ≡ sss-answer.Found g))
 sss-gives =
     follows contracts.sss-search
     (λ κs (t, (l, (m, (f, (o, (n, _)))))) r e s a h long entries allowed. (
@@ -139,7 +139,7 @@ sss-gives =
 
 -- "so the count in its result is at most the one in alpha-beta's"
 pub counts : RunBoth sss.search.ended alphabeta.search.ended sss.search.Symbol.routine alphabeta.search.Symbol.routine
-    (λ κs (t, _) r e κs′ (u, _) r′ e′. u .now ≡ t .now → (f : SssFound) → r ≡ sss-answer.Found f
+    (λ κs (t, _) r e κs′ (u, _) r′ e′. u .now ≡ t .now → (f : SssResult) → r ≡ sss-answer.Found f
     → (g : Findings) → r′ ≡ ab-answer.Found g → f .findings .leaves ≤ g .leaves)
 counts =
     record {
@@ -192,7 +192,7 @@ alphabeta-local =
 
 pub mtd-local : RunBoth mtd.search.ended mtd.search.ended mtd.search.Symbol.routine mtd.search.Symbol.routine
     (λ κs (t, _) r (_, (m, (f, (o, _)))) κs′ (u, _) r′ (_, (m′, (f′, (o′, _)))).
-    (g h : MtdFound) → r ≡ mtd-answer.Found g → r′ ≡ mtd-answer.Found h → SameShape (t .now) (u .now)
+    (g h : MtdResult) → r ≡ mtd-answer.Found g → r′ ≡ mtd-answer.Found h → SameShape (t .now) (u .now)
     → AgreeOnMarked (t .now) (u .now) (buffers (m .now) (f .now))
     → (g ≡ h) × Alike (frames (t .now)) (buffers (m .now) (f .now)) (buffers (m′ .now) (f′ .now))
     × (take (g .findings .leaves) (o .now) ≡ take (h .findings .leaves) (o′ .now)))
@@ -213,7 +213,7 @@ mtd-local =
 
 pub sss-local : RunBoth sss.search.ended sss.search.ended sss.search.Symbol.routine sss.search.Symbol.routine
     (λ κs (t, _) r (_, (_, (m, (f, (o, _))))) κs′ (u, _) r′ (_, (_, (m′, (f′, (o′, _))))).
-    (g h : SssFound) → r ≡ sss-answer.Found g → r′ ≡ sss-answer.Found h → SameShape (t .now) (u .now)
+    (g h : SssResult) → r ≡ sss-answer.Found g → r′ ≡ sss-answer.Found h → SameShape (t .now) (u .now)
     → AgreeOnMarked (t .now) (u .now) (buffers (m .now) (f .now))
     → (g ≡ h) × Alike (frames (t .now)) (buffers (m .now) (f .now)) (buffers (m′ .now) (f′ .now))
     × (take (g .findings .leaves) (o .now) ≡ take (h .findings .leaves) (o′ .now)))
@@ -238,7 +238,7 @@ sss-local =
 pub plain-agrees : RunBoth alphabeta.search.ended plain.search.ended alphabeta.search.Symbol.routine
     plain.search.Symbol.routine
     (λ κs (t, _) r e κs′ (u, _) r′ e′. u .now ≡ t .now → (f : Findings) → r ≡ ab-answer.Found f
-    → (g : PlainFound) → r′ ≡ plain-answer.Found g → (g .value ≡ f .value) × (g .«root_move» ≡ f .«root_move»))
+    → (g : PlainResult) → r′ ≡ plain-answer.Found g → (g .value ≡ f .value) × (g .«root_move» ≡ f .«root_move»))
 plain-agrees =
     record {
       one = _;
@@ -416,7 +416,7 @@ fewer-leaves =
 -- N14: "For every accepted tree MTD and a finished SSS* give the same list"
 pub one-list : RunBoth mtd.search.ended sss.search.ended mtd.search.Symbol.routine sss.search.Symbol.routine
     (λ κs (t, _) r (_, (_, (_, (o, _)))) κs′ (u, _) r′ (_, (_, (_, (_, (o′, _))))). u .now ≡ t .now
-    → (f : MtdFound) → r ≡ mtd-answer.Found f → (g : SssFound) → r′ ≡ sss-answer.Found g
+    → (f : MtdResult) → r ≡ mtd-answer.Found f → (g : SssResult) → r′ ≡ sss-answer.Found g
     → take (f .findings .leaves) (o .now) ≡ take (g .findings .leaves) (o′ .now))
 one-list =
     record {

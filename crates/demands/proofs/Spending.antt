@@ -27,13 +27,13 @@ use Rattle.frames.specs.Shape.{SameShape}
 use Rattle.frames.proofs.Acceptance.{accepted-formed}
 use Rattle.frames.proofs.Proper.{tree-proper}
 use Rattle.frames.proofs.Shapes.{same-score, same-tree}
-use Rattle.places.proofs.Buffers.{written-at}
+use Rattle.positions.proofs.Buffers.{written-at}
 use Rattle.bounds.specs.Marks.{mark, ones}
 use Rattle.certificate.specs.Search.{searchRejection, marksOf, listed}
 use Rattle.certificate.proofs.Marks.{marked-written, evaluated-hold, ones-leaves}
 use Rattle.alphabeta.specs.Outcome.{reachedLeaves}
 use Rattle.sss.specs.declared.Spent.{Spent}
-use Rattle.sss.specs.declared.Answer.the-variants as sss-answer
+use Rattle.sss.specs.declared.SssAnswer.the-variants as sss-answer
 use Rattle.states.specs.Entry.{blank}
 use Rattle.sss.specs.Outcome.{sssLeaves, sssUncovered, sssSpent}
 use Rattle.sss.proofs.Replacements.{own}

@@ -15,15 +15,15 @@ use Rattle.frames.specs.declared.Checked.the-variants.{Rejected as RejectedTabl
 use Rattle.frames.specs.Value.{valueOf}
 use Rattle.frames.specs.Tree.{tree, valuation}
 use Rattle.alphabeta.proofs as alphabeta
-use Rattle.alphabeta.specs.declared.Answer.the-variants as ab-answer
+use Rattle.alphabeta.specs.declared.AlphaBetaAnswer.the-variants as ab-answer
 use Rattle.mtd.proofs as mtd
-use Rattle.mtd.specs.declared.Answer.the-variants as mtd-answer
+use Rattle.mtd.specs.declared.MtdAnswer.the-variants as mtd-answer
 use Rattle.mtdf.proofs as mtdf
-use Rattle.mtdf.specs.declared.Answer.the-variants as mtdf-answer
+use Rattle.mtdf.specs.declared.MtdfAnswer.the-variants as mtdf-answer
 use Rattle.sss.proofs as sss
-use Rattle.sss.specs.declared.Answer.the-variants as sss-answer
+use Rattle.sss.specs.declared.SssAnswer.the-variants as sss-answer
 use Rattle.plain.proofs as plain
-use Rattle.plain.specs.declared.Answer.the-variants as plain-answer
+use Rattle.plain.specs.declared.PlainAnswer.the-variants as plain-answer
 use Rattle.verify.proofs as verify
 use Rattle.verify.specs.declared.Verdict.the-variants.{Value}
 use Rattle.verify.specs.Certificate.{Certificate}

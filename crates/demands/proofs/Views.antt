@@ -18,23 +18,23 @@ use Rattle.frames.proofs.Proper.{tree-proper}
 use Rattle.certificate.specs.declared.Findings.{Findings}
 use Rattle.certificate.specs.Search.{searchRejection, marksOf, flagsOf, findings, listed, orderAfter, listedOutcome}
 use Rattle.certificate.proofs.Questions.{passed-room, room-passed}
-use Rattle.alphabeta.specs.declared.Answer.the-variants as ab-answer
+use Rattle.alphabeta.specs.declared.AlphaBetaAnswer.the-variants as ab-answer
 use Rattle.alphabeta.specs.Outcome.{reachedLeaves, alphaBetaSearch}
 use Rattle.alphabeta.proofs.Reached as reached
-use Rattle.mtd.specs.declared.Found.{Found as MtdFound}
-use Rattle.mtd.specs.declared.Answer.the-variants as mtd-answer
+use Rattle.mtd.specs.declared.MtdResult.{MtdResult}
+use Rattle.mtd.specs.declared.MtdAnswer.the-variants as mtd-answer
 use Rattle.mtd.specs.Outcome.{mtdLeaves, mtdFound, mtdSearch}
-use Rattle.mtdf.specs.declared.Found.{Found as MtdfFound}
-use Rattle.mtdf.specs.declared.Answer.the-variants as mtdf-answer
+use Rattle.mtdf.specs.declared.MtdfResult.{MtdfResult}
+use Rattle.mtdf.specs.declared.MtdfAnswer.the-variants as mtdf-answer
 use Rattle.mtdf.specs.Outcome.{startScore, decisionOf, mtdfLeaves, mtdfFound, mtdfSearch}
 use Rattle.states.specs.declared.State.{State}
-use Rattle.sss.specs.declared.Found.{Found as SssFound}
-use Rattle.sss.specs.declared.Answer.the-variants as sss-answer
+use Rattle.sss.specs.declared.SssResult.{SssResult}
+use Rattle.sss.specs.declared.SssAnswer.the-variants as sss-answer
 use Rattle.sss.specs.Outcome.{sssLeaves, sssFound, sssSearch, sssUncovered, outcomeBy, listAfter, SssOutcome}
 use Rattle.sss.proofs.Allowed.{searched, by-rejection, by-value}
 use Rattle.demands.specs.Calls.{Buffers, lengths, listLengths, stateLengths, listedOf, AlphaBetaCall, MtdCall}
 use Rattle.demands.specs.Calls.{MtdfCall, SssCall, Call, alphaBeta, mtd, mtdf, sss, found, lent, left}
-use Rattle.demands.specs.Calls.{lentOrder, leftOrder, leaves}
+use Rattle.demands.specs.Calls.{lentOrder, leftOrder, ruleLeaves}
 use Rattle.demands.specs.Handed.{Room}
 use Rattle.demands.proofs.Parts.{Result, Refusal, Apart, result-of, refusal-of}
 
@@ -78,25 +78,25 @@ module _ {t : List ℕ} where
       (alphaBetaSearch t (c .lent .marks) (c .lent .flags)) (findings (reachedLeaves t) t) f (c .left)
   alphaBeta-result c = result-of ab-apart _ _ _ _ (ap (λ x. x .search) (c .outcome))
 
-  pub mtd-result : {f : MtdFound} (c : MtdCall t (mtd-answer.Found f))
+  pub mtd-result : {f : MtdResult} (c : MtdCall t (mtd-answer.Found f))
       → Result (searchRejection t (listLengths (c .lent) (c .lentOrder)))
       (mtdSearch t (c .lent .marks) (c .lent .flags)) (mtdFound t) f (c .left)
   mtd-result c = result-of mtd-apart _ _ _ _ (ap (λ x. x .search) (c .outcome))
 
-  pub mtdf-result : {f : MtdfFound} (c : MtdfCall t (mtdf-answer.Found f))
+  pub mtdf-result : {f : MtdfResult} (c : MtdfCall t (mtdf-answer.Found f))
       → Result (searchRejection t (listLengths (c .lent) (c .lentOrder)))
       (mtdfSearch (startScore (c .start)) t (c .lent .marks) (c .lent .flags)) (mtdfFound (startScore (c .start)) t) f
       (c .left)
   mtdf-result c = result-of mtdf-apart _ _ _ _ (ap (λ x. x .search) (c .outcome))
 
   -- with findings the allowance of SSS* covers all evaluations, so the outcome is that of the full run
-  pub all-covered : {f : SssFound} (c : SssCall t (sss-answer.Found f)) → sssUncovered (c .allowance) t ≡ []
+  pub all-covered : {f : SssResult} (c : SssCall t (sss-answer.Found f)) → sssUncovered (c .allowance) t ≡ []
   all-covered {f} c =
       by-value (c .allowance) t (c .lent .marks) (c .lent .flags) (c .lentOrder) (sssUncovered (c .allowance) t)
       (searchRejection t (stateLengths (c .lentList) (c .lent) (c .lentOrder))) f
       (sym (ap (λ x. x .search .answer) (c .outcome))) .1
 
-  full-outcome : {f : SssFound} (c : SssCall t (sss-answer.Found f))
+  full-outcome : {f : SssResult} (c : SssCall t (sss-answer.Found f))
       → listedOf (sss-answer.Found f) (c .left) (c .leftOrder)
       ≡ listedOutcome sss-answer.Rejected (sss-answer.Found (sssFound t))
       (sssSearch t (c .lent .marks) (c .lent .flags))
@@ -106,7 +106,7 @@ module _ {t : List ℕ} where
       ∙ ap (λ xs. outcomeBy xs (c .allowance) t (c .lent .marks) (c .lent .flags) (c .lentOrder)
       (searchRejection t (stateLengths (c .lentList) (c .lent) (c .lentOrder)))) (all-covered c)
 
-  pub sss-result : {f : SssFound} (c : SssCall t (sss-answer.Found f))
+  pub sss-result : {f : SssResult} (c : SssCall t (sss-answer.Found f))
       → Result (searchRejection t (stateLengths (c .lentList) (c .lent) (c .lentOrder)))
       (sssSearch t (c .lent .marks) (c .lent .flags)) (sssFound t) f (c .left)
   sss-result c = result-of sss-apart _ _ _ _ (ap (λ x. x .search) (full-outcome c))
@@ -118,17 +118,17 @@ module _ {t : List ℕ} where
       ap (λ x. x .order) (c .outcome)
       ∙ ap (λ q. orderAfter q (reachedLeaves t) (c .lentOrder)) (alphaBeta-result c .passed)
 
-  mtd-order : {f : MtdFound} (c : MtdCall t (mtd-answer.Found f)) → c .leftOrder ≡ listed (mtdLeaves t) (c .lentOrder)
+  mtd-order : {f : MtdResult} (c : MtdCall t (mtd-answer.Found f)) → c .leftOrder ≡ listed (mtdLeaves t) (c .lentOrder)
   mtd-order c =
       ap (λ x. x .order) (c .outcome) ∙ ap (λ q. orderAfter q (mtdLeaves t) (c .lentOrder)) (mtd-result c .passed)
 
-  mtdf-order : {f : MtdfFound} (c : MtdfCall t (mtdf-answer.Found f))
+  mtdf-order : {f : MtdfResult} (c : MtdfCall t (mtdf-answer.Found f))
       → c .leftOrder ≡ listed (mtdfLeaves (startScore (c .start)) t) (c .lentOrder)
   mtdf-order c =
       ap (λ x. x .order) (c .outcome)
       ∙ ap (λ q. orderAfter q (mtdfLeaves (startScore (c .start)) t) (c .lentOrder)) (mtdf-result c .passed)
 
-  sss-order : {f : SssFound} (c : SssCall t (sss-answer.Found f)) → c .leftOrder ≡ listed (sssLeaves t) (c .lentOrder)
+  sss-order : {f : SssResult} (c : SssCall t (sss-answer.Found f)) → c .leftOrder ≡ listed (sssLeaves t) (c .lentOrder)
   sss-order c =
       ap (λ x. x .order) (full-outcome c) ∙ ap (λ q. orderAfter q (sssLeaves t) (c .lentOrder)) (sss-result c .passed)
 
@@ -194,11 +194,11 @@ pub record HandedBack (t w : List ℕ) (lent left : Buffers) : Type 0 where
 -- a call that gives a result: its leaves are those of a search of the theory, and what it finds and hands back follows
 -- from them
 pub record View {t : List ℕ} (c : Call t) : Type 0 where
-  pub handed : HandedBack t (leaves c) (lent c) (left c)
-  pub searched : Searched (valuation t) (tree t) (leaves c)
-  pub results : found c ≡ findings (leaves c) t
+  pub handed : HandedBack t (ruleLeaves c) (lent c) (left c)
+  pub searched : Searched (valuation t) (tree t) (ruleLeaves c)
+  pub results : found c ≡ findings (ruleLeaves c) t
   pub long : frames t ≤ length (lentOrder c)
-  pub order : leftOrder c ≡ listed (leaves c) (lentOrder c)
+  pub order : leftOrder c ≡ listed (ruleLeaves c) (lentOrder c)
 
 -- passed questions: an accepted table, and room
 module _ (t : List ℕ) (b : Buffers) where

@@ -19,7 +19,7 @@ use Rattle.gametree.proofs.alphabeta.WorstCase.{blocks-at}
 use Rattle.gametree.proofs.Theorems.{alphaBeta-leaves, alphaBeta-ordered}
 use Rattle.frames.specs.declared.Rejection.{Rejection}
 use Rattle.frames.specs.Frame.{frameSize, frames, byteOf, childCount, valueBytes}
-use Rattle.frames.specs.Place.{sideOf}
+use Rattle.frames.specs.Position.{sideOf}
 use Rattle.frames.specs.Tree.{treeAt, tree, valuation}
 use Rattle.frames.specs.Value.{valueOf}
 use Rattle.frames.specs.Formed.{ChildOf}
@@ -32,7 +32,7 @@ use Rattle.frames.proofs.Next.{child-within}
 use Rattle.frames.proofs.Shapes.{same-tree}
 use Rattle.frames.proofs.Values.{value-plus}
 use Rattle.certificate.specs.declared.Findings.{Findings}
-use Rattle.alphabeta.specs.declared.Answer.the-variants as ab-answer
+use Rattle.alphabeta.specs.declared.AlphaBetaAnswer.the-variants as ab-answer
 use Rattle.alphabeta.specs.Outcome.{reachedLeaves}
 use Rattle.plain.proofs.Leaves.{leaves-are}
 use Rattle.worstcase.specs.declared.Filled.the-variants.{Leaves, Rejected}

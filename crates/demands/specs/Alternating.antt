@@ -15,7 +15,7 @@ use Rattle.gametree.specs.Mtd as rule
 use Rattle.gametree.specs.Sss.{sss as run}
 use Rattle.frames.specs.declared.Rejection.{Rejection}
 use Rattle.frames.specs.Frame.{frames, firstChild, childCount}
-use Rattle.frames.specs.Place.{depthOf}
+use Rattle.frames.specs.Position.{depthOf}
 use Rattle.frames.specs.Value.{valueOf}
 use Rattle.frames.specs.Tree.{valuation}
 use Rattle.frames.specs.Rejection.{ask, _andThen_, eachNode}

@@ -5,24 +5,24 @@ use mathlib.Core.List.{List, [], _∷_}
 use lib.IntN.{ℤ}
 use lib.ListN.{length}
 use Rattle.certificate.specs.declared.Findings.{Findings}
-use Rattle.certificate.specs.Search.{Outcome, Listed}
-use Rattle.alphabeta.specs.declared.Answer.{Answer as AlphaBetaAnswer}
-use Rattle.alphabeta.specs.declared.Answer.the-variants as ab-answer
+use Rattle.certificate.specs.Search.{Outcome, ListedOutcome}
+use Rattle.alphabeta.specs.declared.AlphaBetaAnswer.{AlphaBetaAnswer}
+use Rattle.alphabeta.specs.declared.AlphaBetaAnswer.the-variants as ab-answer
 use Rattle.alphabeta.specs.Outcome.{reachedLeaves, alphaBetaOutcome}
-use Rattle.plain.specs.declared.Answer.{Answer as PlainAnswer}
+use Rattle.plain.specs.declared.PlainAnswer.{PlainAnswer}
 use Rattle.plain.specs.Outcome.{plainOutcome}
-use Rattle.mtd.specs.declared.Found.{Found as MtdFound}
-use Rattle.mtd.specs.declared.Answer.{Answer as MtdAnswer}
-use Rattle.mtd.specs.declared.Answer.the-variants as mtd-answer
+use Rattle.mtd.specs.declared.MtdResult.{MtdResult}
+use Rattle.mtd.specs.declared.MtdAnswer.{MtdAnswer}
+use Rattle.mtd.specs.declared.MtdAnswer.the-variants as mtd-answer
 use Rattle.mtd.specs.Outcome.{mtdLeaves, mtdOutcome}
-use Rattle.mtdf.specs.declared.Found.{Found as MtdfFound}
-use Rattle.mtdf.specs.declared.Answer.{Answer as MtdfAnswer}
-use Rattle.mtdf.specs.declared.Answer.the-variants as mtdf-answer
+use Rattle.mtdf.specs.declared.MtdfResult.{MtdfResult}
+use Rattle.mtdf.specs.declared.MtdfAnswer.{MtdfAnswer}
+use Rattle.mtdf.specs.declared.MtdfAnswer.the-variants as mtdf-answer
 use Rattle.mtdf.specs.Outcome.{startScore, mtdfLeaves, mtdfOutcome}
 use Rattle.states.specs.declared.State.{State}
-use Rattle.sss.specs.declared.Found.{Found as SssFound}
-use Rattle.sss.specs.declared.Answer.{Answer as SssAnswer}
-use Rattle.sss.specs.declared.Answer.the-variants as sss-answer
+use Rattle.sss.specs.declared.SssResult.{SssResult}
+use Rattle.sss.specs.declared.SssAnswer.{SssAnswer}
+use Rattle.sss.specs.declared.SssAnswer.the-variants as sss-answer
 use Rattle.sss.specs.Outcome.{sssLeaves, sssOutcome, solveOutcome}
 
 -- the two buffers that every search is lent: one for the marks, one for the flags of the two solution trees
@@ -50,7 +50,7 @@ abbrev pub outcomeOf : {A : Type 0} → A → Buffers → Outcome A
 outcomeOf a b = record { answer = a; evaluated = b .marks; certificate = b .flags }
 
 -- and of the list of leaves that is left
-abbrev pub listedOf : {A : Type 0} → A → Buffers → (order : List ℕ) → Listed A
+abbrev pub listedOf : {A : Type 0} → A → Buffers → (order : List ℕ) → ListedOutcome A
 listedOf a b o = record { order = o; search = outcomeOf a b }
 
 -- what the contract of `alphabeta::search` says: lent the table t, the buffers b and the list of leaves o, it answers a
@@ -135,9 +135,9 @@ pub record SolveCall (t : List ℕ) (a : SssAnswer) : Type 0 where
 -- allowance, MTD(f) from whatever starting value
 pub data Call (t : List ℕ) : Type 0 where
   alphaBeta : {f : Findings} → AlphaBetaCall t (ab-answer.Found f) → Call t
-  mtd : {f : MtdFound} → MtdCall t (mtd-answer.Found f) → Call t
-  mtdf : {f : MtdfFound} → MtdfCall t (mtdf-answer.Found f) → Call t
-  sss : {f : SssFound} → SssCall t (sss-answer.Found f) → Call t
+  mtd : {f : MtdResult} → MtdCall t (mtd-answer.Found f) → Call t
+  mtdf : {f : MtdfResult} → MtdfCall t (mtdf-answer.Found f) → Call t
+  sss : {f : SssResult} → SssCall t (sss-answer.Found f) → Call t
 
 module _ {t : List ℕ} where
   -- the value, the move and the count of evaluated leaves that it gives
@@ -175,8 +175,8 @@ module _ {t : List ℕ} where
 
   -- the leaves that its rule names, in order: Baudet's condition, MTD's passes, the tests of MTD(f), the
   -- full run of SSS*
-  abbrev pub leaves : Call t → List ℕ
-  leaves (alphaBeta c) = reachedLeaves t
-  leaves (mtd c) = mtdLeaves t
-  leaves (mtdf c) = mtdfLeaves (startScore (c .start)) t
-  leaves (sss c) = sssLeaves t
+  abbrev pub ruleLeaves : Call t → List ℕ
+  ruleLeaves (alphaBeta c) = reachedLeaves t
+  ruleLeaves (mtd c) = mtdLeaves t
+  ruleLeaves (mtdf c) = mtdfLeaves (startScore (c .start)) t
+  ruleLeaves (sss c) = sssLeaves t

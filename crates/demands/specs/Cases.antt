@@ -8,17 +8,17 @@ use Rattle.frames.specs.Frame.{frames}
 use Rattle.frames.specs.results.Cases.{small, lone, single}
 use Rattle.certificate.specs.declared.Findings.{Findings}
 use Rattle.bounds.specs.Marks.{ones}
-use Rattle.alphabeta.specs.declared.Answer as ab
-use Rattle.alphabeta.specs.declared.Answer.the-variants as ab-answer
+use Rattle.alphabeta.specs.declared.AlphaBetaAnswer as ab
+use Rattle.alphabeta.specs.declared.AlphaBetaAnswer.the-variants as ab-answer
 use Rattle.alphabeta.specs.Outcome.{alphaBetaOutcome}
-use Rattle.plain.specs.declared.Answer as plain
-use Rattle.plain.specs.declared.Answer.the-variants as plain-answer
+use Rattle.plain.specs.declared.PlainAnswer as plain
+use Rattle.plain.specs.declared.PlainAnswer.the-variants as plain-answer
 use Rattle.plain.specs.Outcome.{plainOutcome}
-use Rattle.mtd.specs.declared.Answer as mtd
-use Rattle.mtd.specs.declared.Answer.the-variants as mtd-answer
+use Rattle.mtd.specs.declared.MtdAnswer as mtd
+use Rattle.mtd.specs.declared.MtdAnswer.the-variants as mtd-answer
 use Rattle.mtd.specs.Outcome.{mtdOutcome}
-use Rattle.sss.specs.declared.Answer as sss
-use Rattle.sss.specs.declared.Answer.the-variants as sss-answer
+use Rattle.sss.specs.declared.SssAnswer as sss
+use Rattle.sss.specs.declared.SssAnswer.the-variants as sss-answer
 use Rattle.states.specs.Entry.{blank}
 use Rattle.sss.specs.Outcome.{sssOutcome}
 
@@ -32,20 +32,20 @@ pub data Given : Type 0 where
 abbrev given : Findings → ℕ → Given
 given f second = found (f .value) (f .«root_move») (f .leaves) second
 
-abbrev pub byAlphaBeta : ab.Answer → Given
+abbrev pub byAlphaBeta : ab.AlphaBetaAnswer → Given
 byAlphaBeta (ab-answer.Found f) = given f 0
 byAlphaBeta (ab-answer.Rejected r) = rejected (r .number)
 
 -- the plain engine gives no count: it is that of the marks at 1
-abbrev byPlain : (marks : ℕ) → plain.Answer → Given
+abbrev byPlain : (marks : ℕ) → plain.PlainAnswer → Given
 byPlain n (plain-answer.Found f) = found (f .value) (f .«root_move») n 0
 byPlain n (plain-answer.Rejected r) = rejected (r .number)
 
-abbrev pub byMtd : mtd.Answer → Given
+abbrev pub byMtd : mtd.MtdAnswer → Given
 byMtd (mtd-answer.Found f) = given (f .findings) (f .passes)
 byMtd (mtd-answer.Rejected r) = rejected (r .number)
 
-abbrev pub bySss : sss.Answer → Given
+abbrev pub bySss : sss.SssAnswer → Given
 bySss (sss-answer.Found f) = given (f .findings) (f .replacements)
 bySss (sss-answer.Spent s) = spent (s .merit) (s .leaves) (s .replacements)
 bySss (sss-answer.Rejected r) = rejected (r .number)

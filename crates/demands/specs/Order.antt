@@ -6,44 +6,44 @@ use mathlib.Core.List.{List}
 use lib.ListN.{take}
 use Rattle.frames.specs.declared.Rejection.{Rejection}
 use Rattle.sss.specs.declared.Spent.{Spent}
-use Rattle.sss.specs.declared.Answer.the-variants as sss-answer
+use Rattle.sss.specs.declared.SssAnswer.the-variants as sss-answer
 use Rattle.sss.specs.Outcome.{sssLeaves}
-use Rattle.demands.specs.Calls.{Buffers, SssCall, Call, found, leaves}
+use Rattle.demands.specs.Calls.{Buffers, SssCall, Call, found, ruleLeaves}
 use Rattle.demands.specs.Calls as calls
 
-pub data Run (t : List ℕ) : Type 0 where
-  finished : Call t → Run t
-  stopped : {s : Spent} → SssCall t (sss-answer.Spent s) → Run t
+pub data ListedRun (t : List ℕ) : Type 0 where
+  finished : Call t → ListedRun t
+  stopped : {s : Spent} → SssCall t (sss-answer.Spent s) → ListedRun t
 
 module _ {t : List ℕ} where
   -- the count of evaluated leaves that it gives
-  abbrev pub count : Run t → ℕ
+  abbrev pub count : ListedRun t → ℕ
   count (finished c) = found c .leaves
   count (stopped {s} c) = s .leaves
 
   -- the buffers that it leaves
-  abbrev pub left : Run t → Buffers
-  left (finished c) = calls.left c
-  left (stopped c) = c .left
+  abbrev pub runLeft : ListedRun t → Buffers
+  runLeft (finished c) = calls.left c
+  runLeft (stopped c) = c .left
 
   -- the list of leaves that it is lent, and the one that it leaves
-  abbrev pub lentOrder : Run t → List ℕ
-  lentOrder (finished c) = calls.lentOrder c
-  lentOrder (stopped c) = c .lentOrder
+  abbrev pub runLentOrder : ListedRun t → List ℕ
+  runLentOrder (finished c) = calls.lentOrder c
+  runLentOrder (stopped c) = c .lentOrder
 
-  abbrev pub leftOrder : Run t → List ℕ
-  leftOrder (finished c) = calls.leftOrder c
-  leftOrder (stopped c) = c .leftOrder
+  abbrev pub runLeftOrder : ListedRun t → List ℕ
+  runLeftOrder (finished c) = calls.leftOrder c
+  runLeftOrder (stopped c) = c .leftOrder
 
   -- the leaves that it evaluates, in order: those that its rule names, or, where the allowance ended it, the first of
   -- them, as many as are allowed
-  abbrev pub evaluated : Run t → List ℕ
-  evaluated (finished c) = leaves c
+  abbrev pub evaluated : ListedRun t → List ℕ
+  evaluated (finished c) = ruleLeaves c
   evaluated (stopped c) = take (c .allowance) (sssLeaves t)
 
   -- the list that it gives: the first entries of the one that it leaves, as many as the count says
-  abbrev pub order : Run t → List ℕ
-  order r = take (count r) (leftOrder r)
+  abbrev pub order : ListedRun t → List ℕ
+  order r = take (count r) (runLeftOrder r)
 
 -- what a call is refused for that is lent too short a list: a "no" to questions 1 to 9, or else 10 at place 0
 abbrev pub shortRejection : Option Rejection → Rejection

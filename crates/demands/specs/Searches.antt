@@ -4,19 +4,19 @@ use mathlib.Core.Path.{_≡_}
 use mathlib.Core.List.{List}
 use Rattle.certificate.specs.declared.Findings.{Findings}
 use Rattle.alphabeta.proofs as alphabeta
-use Rattle.alphabeta.specs.declared.Answer.the-variants as ab-answer
+use Rattle.alphabeta.specs.declared.AlphaBetaAnswer.the-variants as ab-answer
 use Rattle.alphabeta.specs.Outcome.{reachedLeaves}
 use Rattle.mtd.proofs as mtd
-use Rattle.mtd.specs.declared.Found.{Found as MtdFound}
-use Rattle.mtd.specs.declared.Answer.the-variants as mtd-answer
+use Rattle.mtd.specs.declared.MtdResult.{MtdResult}
+use Rattle.mtd.specs.declared.MtdAnswer.the-variants as mtd-answer
 use Rattle.mtd.specs.Outcome.{mtdLeaves}
 use Rattle.mtdf.proofs as mtdf
-use Rattle.mtdf.specs.declared.Found.{Found as MtdfFound}
-use Rattle.mtdf.specs.declared.Answer.the-variants as mtdf-answer
+use Rattle.mtdf.specs.declared.MtdfResult.{MtdfResult}
+use Rattle.mtdf.specs.declared.MtdfAnswer.the-variants as mtdf-answer
 use Rattle.mtdf.specs.Outcome.{startScore, mtdfLeaves}
 use Rattle.sss.proofs as sss
-use Rattle.sss.specs.declared.Found.{Found as SssFound}
-use Rattle.sss.specs.declared.Answer.the-variants as sss-answer
+use Rattle.sss.specs.declared.SssResult.{SssResult}
+use Rattle.sss.specs.declared.SssAnswer.the-variants as sss-answer
 use Rattle.sss.specs.Outcome.{sssLeaves}
 use Rattle.demands.specs.Runs.{Runs}
 use Rattle.demands.specs.Calls.{Buffers, buffers}
@@ -29,14 +29,14 @@ pub record EachSearch (P : (t rule : List ℕ) → Findings → Buffers → (ord
       (λ κs (t, _) r (_, (m, (f, (o, _)))). (g : Findings) → r ≡ ab-answer.Found g
       → P (t .now) (reachedLeaves (t .now)) g (buffers (m .now) (f .now)) (o .now))
   pub mtdSearch : Runs mtd.search.ended mtd.search.Symbol.routine
-      (λ κs (t, _) r (_, (m, (f, (o, _)))). (g : MtdFound) → r ≡ mtd-answer.Found g
+      (λ κs (t, _) r (_, (m, (f, (o, _)))). (g : MtdResult) → r ≡ mtd-answer.Found g
       → P (t .now) (mtdLeaves (t .now)) (g .findings) (buffers (m .now) (f .now)) (o .now))
   pub mtdfSearch : Runs mtdf.search.ended mtdf.search.Symbol.routine
-      (λ κs (t, (v, _)) r (_, (_, (m, (f, (o, _))))). (g : MtdfFound) → r ≡ mtdf-answer.Found g
+      (λ κs (t, (v, _)) r (_, (_, (m, (f, (o, _))))). (g : MtdfResult) → r ≡ mtdf-answer.Found g
       → P (t .now) (mtdfLeaves (startScore v) (t .now)) (g .findings) (buffers (m .now) (f .now)) (o .now))
   pub sssSearch : Runs sss.search.ended sss.search.Symbol.routine
-      (λ κs (t, _) r (_, (_, (m, (f, (o, _))))). (g : SssFound) → r ≡ sss-answer.Found g
+      (λ κs (t, _) r (_, (_, (m, (f, (o, _))))). (g : SssResult) → r ≡ sss-answer.Found g
       → P (t .now) (sssLeaves (t .now)) (g .findings) (buffers (m .now) (f .now)) (o .now))
   pub sssSolve : Runs sss.solve.ended sss.solve.Symbol.routine
-      (λ κs (t, _) r (_, (m, (f, (o, _)))). (g : SssFound) → r ≡ sss-answer.Found g
+      (λ κs (t, _) r (_, (m, (f, (o, _)))). (g : SssResult) → r ≡ sss-answer.Found g
       → P (t .now) (sssLeaves (t .now)) (g .findings) (buffers (m .now) (f .now)) (o .now))

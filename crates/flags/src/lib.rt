@@ -4,7 +4,7 @@ use frames::IN_BOTH;
 use frames::child_count;
 use frames::frame_count;
 use gametree::Side;
-use places::side_at;
+use positions::side_at;
 ghost use mathlib.Core.Path.{_≡_};
 ghost use Prim.Native.Nat.{ℕ, _-_, _<_, _≤_};
 ghost use mathlib.Core.Bool.{cond};
@@ -12,60 +12,54 @@ ghost use lib.Dec.{eqb};
 ghost use lib.ListN.{length, getD};
 ghost use Rattle.frames.specs.Frame.{frames, childCount};
 ghost use Rattle.frames.specs.Formed.{WellFormed};
-ghost use Rattle.places.specs.Buffer.{written, stored};
-ghost use Rattle.places.specs.engine.Places.{sideIn};
+ghost use Rattle.positions.specs.Buffer.{written, stored};
+ghost use Rattle.positions.specs.engine.Positions.{sideIn};
 ghost use Rattle.flags.specs.engine.Chosen.{firstEqual, bySide, chosenChild};
-ghost use Rattle.flags.specs.engine.Flags.{ownPart, FlagsFrom};
+ghost use Rattle.flags.specs.engine.Flags.{moversFlag, FlagsFrom};
 
 // The flags into the certificate's first entries; the result is the root's chosen child, which is the root move.
 pub fn read_off(
     table: &[u8],
-    places: &[u32],
+    positions: &[u32],
     lows: &[u32],
     highs: &[u32],
     certificate: &mut [u8],
 ) -> usize
     requires { ⌜ WellFormed (now table) ⌝ }
-    requires { ⌜ (frames (now table) ≤ length (now places)) × (frames (now table) ≤ length (now lows)) ⌝ }
+    requires { ⌜ (frames (now table) ≤ length (now positions)) × (frames (now table) ≤ length (now lows)) ⌝ }
     requires { ⌜ (frames (now table) ≤ length (now highs)) × (frames (now table) ≤ length (now certificate)) ⌝ }
     ensures { λ r. ⌜ r
-        ≡ chosenChild (bySide (sideIn (now (places .entry)) 0) (now (lows .entry)) (now (highs .entry)))
+        ≡ chosenChild (bySide (sideIn (now (positions .entry)) 0) (now (lows .entry)) (now (highs .entry)))
         0 1 (childCount (now (table .entry)) 0) ⌝ }
     ensures { λ _. ⌜ ((f : ℕ → ℕ)
-        → FlagsFrom (now (table .entry)) (now (places .entry)) (now (lows .entry)) (now (highs .entry)) f
+        → FlagsFrom (now (table .entry)) (now (positions .entry)) (now (lows .entry)) (now (highs .entry)) f
         → now (certificate .exit) ≡ written f (frames (now (table .entry))) (now (certificate .entry))) ⌝ }
 {
-    write_certificate(table, places, lows, highs, certificate);
-    root_choice(table, places, lows, highs)
+    write_flags(table, positions, lows, highs, certificate);
+    root_choice(table, positions, lows, highs)
 }
 
 // The root's chosen child alone.
-pub fn root_choice(table: &[u8], places: &[u32], lows: &[u32], highs: &[u32]) -> usize
+pub fn root_choice(table: &[u8], positions: &[u32], lows: &[u32], highs: &[u32]) -> usize
     requires { ⌜ WellFormed (now table) ⌝ }
-    requires { ⌜ (frames (now table) ≤ length (now places)) × (frames (now table) ≤ length (now lows))
+    requires { ⌜ (frames (now table) ≤ length (now positions)) × (frames (now table) ≤ length (now lows))
         × (frames (now table) ≤ length (now highs)) ⌝ }
     ensures { λ r. ⌜ r
-        ≡ chosenChild (bySide (sideIn (now (places .entry)) 0) (now (lows .entry)) (now (highs .entry)))
+        ≡ chosenChild (bySide (sideIn (now (positions .entry)) 0) (now (lows .entry)) (now (highs .entry)))
         0 1 (childCount (now (table .entry)) 0) ⌝ }
 {
     let end = 1 + child_count(table, 0);
-    chosen_child(places, lows, highs, 0, 1, end)
+    chosen_child(positions, lows, highs, 0, 1, end)
 }
 
 // The flags, from the root down, by the rule that reads them off the arrays, until every node has been reached as a
 // child.
-fn write_certificate(
-    table: &[u8],
-    places: &[u32],
-    lows: &[u32],
-    highs: &[u32],
-    certificate: &mut [u8],
-)
+fn write_flags(table: &[u8], positions: &[u32], lows: &[u32], highs: &[u32], certificate: &mut [u8])
     requires { ⌜ WellFormed (now table) ⌝ }
-    requires { ⌜ (frames (now table) ≤ length (now places)) × (frames (now table) ≤ length (now lows)) ⌝ }
+    requires { ⌜ (frames (now table) ≤ length (now positions)) × (frames (now table) ≤ length (now lows)) ⌝ }
     requires { ⌜ (frames (now table) ≤ length (now highs)) × (frames (now table) ≤ length (now certificate)) ⌝ }
     ensures { λ _. ⌜ ((f : ℕ → ℕ)
-        → FlagsFrom (now (table .entry)) (now (places .entry)) (now (lows .entry)) (now (highs .entry)) f
+        → FlagsFrom (now (table .entry)) (now (positions .entry)) (now (lows .entry)) (now (highs .entry)) f
         → now (certificate .exit) ≡ written f (frames (now (table .entry))) (now (certificate .entry))) ⌝ }
 {
     certificate[0] = IN_BOTH;
@@ -75,8 +69,8 @@ fn write_certificate(
     while next < n {
         let end = next + child_count(table, node);
         let flag = certificate[node];
-        let others = own_part(side_at(places, node), flag);
-        let chosen = apart(places, lows, highs, node, next, end, flag, others);
+        let others = movers_flag(side_at(positions, node), flag);
+        let chosen = chosen_if_needed(positions, lows, highs, node, next, end, flag, others);
         flag_children(certificate, next, end, flag, others, chosen);
         next = end;
         node += 1;
@@ -84,8 +78,8 @@ fn write_certificate(
 }
 
 // The chosen child, which is looked for only where its flag is not that of the others.
-fn apart(
-    places: &[u32],
+fn chosen_if_needed(
+    positions: &[u32],
     lows: &[u32],
     highs: &[u32],
     node: usize,
@@ -94,16 +88,16 @@ fn apart(
     flag: u8,
     others: u8,
 ) -> usize
-    requires { ⌜ (node < length (now places)) × (node < length (now lows)) × (node < length (now highs)) ⌝ }
+    requires { ⌜ (node < length (now positions)) × (node < length (now lows)) × (node < length (now highs)) ⌝ }
     requires { ⌜ (from ≤ to) × (to ≤ length (now lows)) × (to ≤ length (now highs)) ⌝ }
     ensures { λ r. ⌜ ((k : ℕ) → cond (eqb k r) flag others
-        ≡ cond (eqb k (chosenChild (bySide (sideIn (now (places .entry)) node) (now (lows .entry)) (now (highs .entry)))
+        ≡ cond (eqb k (chosenChild (bySide (sideIn (now (positions .entry)) node) (now (lows .entry)) (now (highs .entry)))
         node from (to - from))) flag others) ⌝ }
 {
     if flag == others {
         return 0;
     }
-    chosen_child(places, lows, highs, node, from, to)
+    chosen_child(positions, lows, highs, node, from, to)
 }
 
 // The children from `from` up to `to`: the chosen one gets the node's flag, the others what is the side's own of it.
@@ -129,8 +123,8 @@ fn flag_children(
 }
 
 // What a flag says of the side's own tree.
-fn own_part(side: Side, flag: u8) -> u8
-    ensures { λ r. ⌜ r ≡ ownPart side flag ⌝ }
+fn movers_flag(side: Side, flag: u8) -> u8
+    ensures { λ r. ⌜ r ≡ moversFlag side flag ⌝ }
 {
     match side {
         Side::Max => flag % 2,
@@ -141,20 +135,20 @@ fn own_part(side: Side, flag: u8) -> u8
 // The first child of those from `from` up to `to` whose bound equals the node's, by the lows at a Max node, by the
 // highs at a Min node; 0 where there is none.
 fn chosen_child(
-    places: &[u32],
+    positions: &[u32],
     lows: &[u32],
     highs: &[u32],
     node: usize,
     from: usize,
     to: usize,
 ) -> usize
-    requires { ⌜ (node < length (now places)) × (node < length (now lows)) × (node < length (now highs)) ⌝ }
+    requires { ⌜ (node < length (now positions)) × (node < length (now lows)) × (node < length (now highs)) ⌝ }
     requires { ⌜ (from ≤ to) × (to ≤ length (now lows)) × (to ≤ length (now highs)) ⌝ }
     ensures { λ r. ⌜ r
-        ≡ chosenChild (bySide (sideIn (now (places .entry)) node) (now (lows .entry)) (now (highs .entry)))
+        ≡ chosenChild (bySide (sideIn (now (positions .entry)) node) (now (lows .entry)) (now (highs .entry)))
         node from (to - from) ⌝ }
 {
-    match side_at(places, node) {
+    match side_at(positions, node) {
         Side::Max => first_equal(lows, from, to, lows[node]),
         Side::Min => first_equal(highs, from, to, highs[node]),
     }

@@ -21,10 +21,10 @@ use Rattle.frames.proofs.Asked.{answer-nodes, answer-rejected, each-pas
 pub stated-formed : (t : List ℕ) → frames t ≤ maxNodes → ((i : ℕ) → i < frames t → FrameAsStated t i)
     → next t (frames t) ≡ frames t → WellFormed t
 unfolding next
-stated-formed t few f total =
+stated-formed t atMost f total =
     record {
-      some = omega (arith, next-mono t 0 (frames t) (omega arith));
-      few = few;
+      nonEmpty = omega (arith, next-mono t 0 (frames t) (omega arith));
+      atMost = atMost;
       first = λ i h. f i h .innerFirst;
       later = λ i h. f i h .innerLater;
       total = total;
@@ -50,7 +50,7 @@ module _ (t : List ℕ) where
       let even = eqb-true (length t % frameSize) 0 (ask-yes _ _ _ (c .0)) in
       record {
         whole = omega arith;
-        some = omega arith;
+        nonEmpty = omega arith;
         most = omega arith;
         frame = all-stated (d .0);
         total = eqb-true _ _ (ask-yes _ _ _ (g .0));
@@ -62,7 +62,7 @@ module _ (t : List ℕ) where
   pub stated-accepted : TableAsStated t → Accepted t
   unfolding rejection framesRejection
   stated-accepted s =
-      passed-both (check1 t) _ (yes-ask _ _ _ (lt-ltb 0 (length t) (omega (arith, s .whole, s .some))))
+      passed-both (check1 t) _ (yes-ask _ _ _ (lt-ltb 0 (length t) (omega (arith, s .whole, s .nonEmpty))))
       (passed-both (check2 t) _
       (yes-ask _ _ _ (le-leb (length t) maxTable (omega (arith, s .whole, s .most))))
       (passed-both (check3 t) _ (yes-ask _ _ _ (eq-eqb (length t % frameSize) 0 (omega (arith, s .whole))))

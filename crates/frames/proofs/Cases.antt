@@ -2,7 +2,7 @@
 use mathlib.Core.Path.{_≡_, refl}
 use mathlib.Core.List.{_++_, map}
 use Rattle.frames.specs.Frame.{next}
-use Rattle.frames.specs.Place.{parentBefore, placeWithin, placeOf}
+use Rattle.frames.specs.Position.{parentBefore, positionWithin, positionOf}
 use Rattle.frames.specs.Rejection.{eachNode}
 use Rattle.frames.specs.Check.{framesRejection, rejection, checked}
 use Rattle.frames.specs.Children.{childrenOf}
@@ -10,7 +10,7 @@ use Rattle.frames.specs.results.Cases.{leaves, chain, accepted, rejected
 
 -- the check answers as the table of cases says
 pub small-tables : map (λ c. checked (c .table)) (accepted ++ rejected) ≡ map (λ c. c .answer) (accepted ++ rejected)
-unfolding next parentBefore placeWithin placeOf eachNode framesRejection rejection leaves chain
+unfolding next parentBefore positionWithin positionOf eachNode framesRejection rejection leaves chain
 small-tables = refl
 
 -- and the children are the part that is named

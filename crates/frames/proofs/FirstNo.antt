@@ -13,7 +13,7 @@ use borrow.Author.Tests.{leb-true, leb-false}
 use Rattle.lists.proofs.Choice.{clash}
 use Rattle.frames.specs.declared.Rejection.{Rejection}
 use Rattle.frames.specs.Frame.{maxChildren, maxDepth, frames, childCount}
-use Rattle.frames.specs.Place.{depthOf}
+use Rattle.frames.specs.Position.{depthOf}
 use Rattle.frames.specs.Rejection.{ask, _andThen_, eachNode}
 use Rattle.frames.specs.Check.{byte3Right, firstChildRight, valueRight, check4, check5, check6, check7}
 use Rattle.frames.specs.Check.{checkNode, check1, check2, check3, nodesRejection, check8, check9}

@@ -11,22 +11,22 @@ use lib.Dec.{ltb}
 use borrow.Author.Tests.{lt-ltb, le-ltb}
 use Rattle.gametree.specs.declared.Side.{Side}
 use Rattle.gametree.specs.Layout.{Layout, tip, fork, root, under, firstOf, othersOf}
-use Rattle.gametree.proofs.sss.Described.{Answers, AnswersKids, Describes}
+use Rattle.gametree.proofs.sss.Described.{Answers, AnswersChildren, Describes}
 use Rattle.frames.specs.Frame.{frames, firstChild, childCount}
-use Rattle.frames.specs.Place.{sideOf}
-use Rattle.frames.specs.Tree.{upFrom, kidsFrom, treeAt, tree}
+use Rattle.frames.specs.Position.{sideOf}
+use Rattle.frames.specs.Tree.{upFrom, childrenFrom, treeAt, tree}
 use Rattle.frames.specs.Formed.{WellFormed, ChildOf}
 use Rattle.frames.proofs.Parents.{top-down}
 use Rattle.frames.proofs.Trees.{zero-or-suc, tree-leaf, tree-inner, tree-number}
 
 -- the numbers of a node's children
-pub first-of : (t : List ℕ) (i n : ℕ) → firstOf (kidsFrom (treeAt t) i n) ≡ i
-unfolding kidsFrom
+pub first-of : (t : List ℕ) (i n : ℕ) → firstOf (childrenFrom (treeAt t) i n) ≡ i
+unfolding childrenFrom
 first-of t i zero = tree-number t i
 first-of t i (suc n) = tree-number t i
 
-pub others-of : (t : List ℕ) (i n : ℕ) → othersOf (kidsFrom (treeAt t) i n) ≡ upFrom (i + 1) n
-unfolding kidsFrom upFrom
+pub others-of : (t : List ℕ) (i n : ℕ) → othersOf (childrenFrom (treeAt t) i n) ≡ upFrom (i + 1) n
+unfolding childrenFrom upFrom
 others-of t i zero = refl
 others-of t i (suc n) = ap₂ _∷_ (first-of t (i + 1) n) (others-of t (i + 1) n)
 
@@ -35,10 +35,10 @@ abbrev pub nextBrother : ℕ → ℕ → Option ℕ
 nextBrother k end = cond (ltb (k + 1) end) (some (k + 1)) none
 
 module _ (t : List ℕ) (wf : WellFormed t) (Y : Layout) (d : Describes Y (tree t)) where
-  kid-answers : (i : ℕ) (s : Side) (first n k : ℕ) → AnswersKids Y i s (kidsFrom (treeAt t) first n) → first ≤ k
+  kid-answers : (i : ℕ) (s : Side) (first n k : ℕ) → AnswersChildren Y i s (childrenFrom (treeAt t) first n) → first ≤ k
       → k ≤ first + n
       → (Y .link k ≡ under i s (nextBrother k (first + suc n))) × Answers Y (treeAt t k)
-  unfolding kidsFrom
+  unfolding childrenFrom
   kid-answers i s first zero k a l m =
       let e : k ≡ first = omega arith in
       let f : first + suc zero ≡ first + 1 = omega arith in

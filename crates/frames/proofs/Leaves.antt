@@ -11,20 +11,20 @@ use borrow.Author.Tests.{eq-eqb}
 use Rattle.lists.specs.Lists.{among}
 use Rattle.lists.proofs.Choice.{or-left}
 use Rattle.lists.proofs.Lists.{among-left, among-right}
-use Rattle.gametree.specs.Tree.{Tree, leaves, leavesKids, In}
+use Rattle.gametree.specs.Tree.{Tree, leaves, leavesChildren, In}
 use Rattle.frames.specs.Frame.{frames, firstChild, childCount}
-use Rattle.frames.specs.Tree.{kidsFrom, treeAt}
+use Rattle.frames.specs.Tree.{childrenFrom, treeAt}
 use Rattle.frames.specs.Formed.{WellFormed}
 use Rattle.frames.proofs.Parents.{bottom-up}
 use Rattle.frames.proofs.Trees.{zero-or-suc, in-kids, tree-leaf, tree-inner}
 
 -- a leaf of one child's tree is a leaf of all of them together
 pub kid-leaf : (g : ℕ → Tree) (i n k p : ℕ) → i ≤ k → k ≤ i + n → among (leaves (g k)) p ≡ true
-    → among (leavesKids (kidsFrom g i n)) p ≡ true
-unfolding kidsFrom
+    → among (leavesChildren (childrenFrom g i n)) p ≡ true
+unfolding childrenFrom
 kid-leaf g i zero k p a b h = let e : k ≡ i = omega arith in rw e at h
 kid-leaf g i (suc n) k p a b h =
-    let rest = leavesKids (kidsFrom g (i + 1) n) in
+    let rest = leavesChildren (childrenFrom g (i + 1) n) in
     elim (decLe k i) [
       | yes l ↦ among-left (leaves (g i)) rest p (let e : k ≡ i = omega arith in rw e at h)
       | no l ↦ among-right (leaves (g i)) rest p (kid-leaf g (i + 1) n k p (omega arith) (omega arith) h)

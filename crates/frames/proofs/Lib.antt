@@ -1,7 +1,7 @@
 -- The laws that link a table to its tree, grouped by idea.
 pub mod Next
 pub mod Parents
-pub mod Places
+pub mod Positions
 pub mod Sides
 pub mod Trees
 pub mod Nodes

@@ -4,15 +4,15 @@ use native.Mathlib.Omega.{arith}
 use mathlib.Core.Path.{_≡_, sym, ap, _∙_, subst}
 use mathlib.Core.Logic.{inl, inr}
 use mathlib.Core.List.{List}
-use Rattle.gametree.specs.Tree.{In, Distinct, DistinctKids}
+use Rattle.gametree.specs.Tree.{In, Distinct, DistinctChildren}
 use Rattle.gametree.proofs.minimax.Nodes.{number-in}
 use Rattle.frames.specs.Frame.{frames, firstChild, childCount}
-use Rattle.frames.specs.Place.{parentOf, depthOf}
-use Rattle.frames.specs.Tree.{kidsFrom, treeAt, tree}
+use Rattle.frames.specs.Position.{parentOf, depthOf}
+use Rattle.frames.specs.Tree.{childrenFrom, treeAt, tree}
 use Rattle.frames.specs.Formed.{WellFormed, ChildOf}
 use Rattle.frames.proofs.Next.{child-later, child-within}
 use Rattle.frames.proofs.Parents.{parent-is, top-down, bottom-up}
-use Rattle.frames.proofs.Places.{depth-child}
+use Rattle.frames.proofs.Positions.{depth-child}
 use Rattle.frames.proofs.Trees.{zero-or-suc, in-kids, kids-in, tree-leaf, tree-inner, tree-number}
 
 -- m steps up from node p
@@ -89,8 +89,8 @@ module _ (t : List ℕ) (wf : WellFormed t) where
 
   distinct-kids : (i first n : ℕ) → i < frames t → firstChild t i ≤ first
       → first + n < firstChild t i + childCount t i → ((k : ℕ) → ChildOf t i k → Distinct (treeAt t k))
-      → DistinctKids (kidsFrom (treeAt t) first n)
-  unfolding kidsFrom
+      → DistinctChildren (childrenFrom (treeAt t) first n)
+  unfolding childrenFrom
   distinct-kids i first zero h a b f = f first (record { from = a; to = omega arith })
   distinct-kids i first (suc n) h a b f = (
     f first (record { from = a; to = omega arith }),

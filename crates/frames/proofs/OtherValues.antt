@@ -12,7 +12,7 @@ use Rattle.frames.specs.Shape.{SameShape}
 use Rattle.frames.specs.Check.{Accepted}
 use Rattle.frames.specs.results.Stated.{FrameAsStated}
 use Rattle.frames.proofs.Acceptance.{accepted-stated, stated-accepted}
-use Rattle.frames.proofs.Shapes.{same-first, same-count, same-place}
+use Rattle.frames.proofs.Shapes.{same-first, same-count, same-position}
 
 module _ (t u : List ℕ) (s : SameShape t u) where
   same-next : (i : ℕ) → i ≤ frames t → next t i ≡ next u i
@@ -29,8 +29,8 @@ module _ (t u : List ℕ) (s : SameShape t u) where
   same-formed wf v =
       let n = s .sameFrames in
       record {
-        some = omega (arith, wf .some);
-        few = omega (arith, wf .few);
+        nonEmpty = omega (arith, wf .nonEmpty);
+        atMost = omega (arith, wf .atMost);
         first = λ i h c.
             let l : i < frames t = omega arith in
             sym (same-first t u s i l) ∙ wf .first i l (omega (arith, same-count t u s i l))
@@ -69,11 +69,11 @@ module _ (t u : List ℕ) (s : SameShape t u) where
         stated-accepted u
         (record {
           whole = omega (arith, w .whole);
-          some = omega (arith, w .some);
+          nonEmpty = omega (arith, w .nonEmpty);
           most = omega (arith, w .most);
           frame = λ i h. frame-stated i (omega arith);
           total = same-total (w .total);
           shallow = λ i h.
               let l : i < frames t = omega arith in
-              omega (arith, w .shallow i l, ap (λ p. p .depth) (same-place t u s i l));
+              omega (arith, w .shallow i l, ap (λ p. p .depth) (same-position t u s i l));
         })

@@ -9,7 +9,7 @@ use mathlib.Core.List.{List}
 use borrow.Author.Tests.{le-ltb, lt-ltb, le-leb, lt-leb}
 use Rattle.lists.proofs.Choice.{cond-cases}
 use Rattle.frames.specs.Frame.{frames, firstChild, childCount, next}
-use Rattle.frames.specs.Place.{isChild, parentBefore, parentOf}
+use Rattle.frames.specs.Position.{isChild, parentBefore, parentOf}
 use Rattle.frames.specs.Formed.{WellFormed, ChildOf}
 use Rattle.frames.proofs.Next.{next-mono, child-next, next-child, child-later, child-within}
 

@@ -3,21 +3,21 @@ use Prim.Native.Nat.{ℕ, zero, suc, _+_, _≤_, _<_}
 use native.Mathlib.Omega.{arith}
 use mathlib.Core.Path.{_≡_}
 use mathlib.Core.List.{List}
-use Rattle.gametree.specs.Tree.{Tree, EveryLeaf, EveryLeafKids, Score, Proper}
+use Rattle.gametree.specs.Tree.{Tree, EveryLeaf, EveryLeafChildren, Score, Proper}
 use Rattle.frames.specs.Frame.{frames, firstChild, childCount, storedScore}
-use Rattle.frames.specs.Place.{depthOf}
-use Rattle.frames.specs.Tree.{kidsFrom, treeAt, tree, valuation}
+use Rattle.frames.specs.Position.{depthOf}
+use Rattle.frames.specs.Tree.{childrenFrom, treeAt, tree, valuation}
 use Rattle.frames.specs.Formed.{WellFormed}
 use Rattle.frames.proofs.Parents.{bottom-up}
 use Rattle.frames.proofs.Trees.{zero-or-suc, tree-leaf, tree-inner}
 use Rattle.frames.proofs.Nodes.{tree-distinct}
-use Rattle.frames.proofs.Places.{depth-at-most}
+use Rattle.frames.proofs.Positions.{depth-at-most}
 use Rattle.frames.proofs.Worth.{score-kept}
 
 -- what holds at each number holds of each leaf of the children
 every-kids : (P : ℕ → Type 0) (g : ℕ → Tree) (i n : ℕ) → ((k : ℕ) → i ≤ k → k ≤ i + n → EveryLeaf P (g k))
-    → EveryLeafKids P (kidsFrom g i n)
-unfolding kidsFrom
+    → EveryLeafChildren P (childrenFrom g i n)
+unfolding childrenFrom
 every-kids P g i zero f = f i (omega arith) (omega arith)
 every-kids P g i (suc n) f =
     (f i (omega arith) (omega arith), every-kids P g (i + 1) n (λ k a b. f k (omega arith) (omega arith)))
@@ -36,11 +36,11 @@ module _ (t : List ℕ) (wf : WellFormed t) where
   pub leaf-scored : (i : ℕ) → i < frames t → childCount t i ≡ 0 → Score (valuation t i)
   unfolding valuation
   leaf-scored i h e =
-      score-kept (depthOf t i) (storedScore t i) (omega (arith, depth-at-most t i, wf .few)) (wf .scored i h e)
+      score-kept (depthOf t i) (storedScore t i) (omega (arith, depth-at-most t i, wf .atMost)) (wf .scored i h e)
 
   pub tree-proper : Proper (valuation t) (tree t)
   tree-proper =
       record {
-        scored = every-leaf (λ n. Score (valuation t n)) leaf-scored 0 (wf .some);
-        distinct = tree-distinct t wf 0 (wf .some);
+        scored = every-leaf (λ n. Score (valuation t n)) leaf-scored 0 (wf .nonEmpty);
+        distinct = tree-distinct t wf 0 (wf .nonEmpty);
       }

@@ -8,22 +8,22 @@ use borrow.Author.Tests.{ne-eqb}
 use Rattle.gametree.specs.declared.Side.{Side}
 use Rattle.gametree.specs.declared.Side.the-variants.{Max}
 use Rattle.gametree.specs.Tree.{Tree, other}
-use Rattle.gametree.proofs.certificates.Regular.{Regular, RegularKids}
+use Rattle.gametree.proofs.certificates.Regular.{Regular, RegularChildren}
 use Rattle.frames.specs.Frame.{maxChildren, maxDepth, frames, firstChild, childCount, byte3, sameMover}
-use Rattle.frames.specs.Place.{depthOf, sideOf}
-use Rattle.frames.specs.Tree.{kidsFrom, treeAt, tree}
+use Rattle.frames.specs.Position.{depthOf, sideOf}
+use Rattle.frames.specs.Tree.{childrenFrom, treeAt, tree}
 use Rattle.frames.specs.Formed.{WellFormed, ChildOf}
 use Rattle.frames.specs.Check.{Accepted}
 use Rattle.frames.specs.results.Regular.{RegularTable}
 use Rattle.frames.proofs.Acceptance.{accepted-stated, accepted-formed}
 use Rattle.frames.proofs.Next.{child-later, child-within}
 use Rattle.frames.proofs.Parents.{bottom-up}
-use Rattle.frames.proofs.Places.{place-root, place-child, depth-child}
+use Rattle.frames.proofs.Positions.{position-root, position-child, depth-child}
 use Rattle.frames.proofs.Trees.{kids-count, zero-or-suc, tree-leaf, tree-inner}
 
 regular-kids : (w d : ℕ) (s : Side) (g : ℕ → Tree) (i n : ℕ) → ((k : ℕ) → i ≤ k → k ≤ i + n → Regular w d s (g k))
-    → RegularKids w d s (kidsFrom g i n)
-unfolding kidsFrom
+    → RegularChildren w d s (childrenFrom g i n)
+unfolding childrenFrom
 regular-kids w d s g i zero f = f i (omega arith) (omega arith)
 regular-kids w d s g i (suc n) f =
     (f i (omega arith) (omega arith), regular-kids w d s g (i + 1) n (λ k a b. f k (omega arith) (omega arith)))
@@ -40,7 +40,7 @@ module _ (w d : ℕ) (t : List ℕ) (wf : WellFormed t) (r : RegularTable w d t)
   -- a child's mover is the other side
   child-other : {i k : ℕ} → i < frames t → ChildOf t i k → sideOf t k ≡ other (sideOf t i)
   child-other {i} {k} h c =
-      ap (λ p. p .side) (place-child t wf h c)
+      ap (λ p. p .side) (position-child t wf h c)
       ∙ rw (ne-eqb (byte3 t k) sameMover (r .alternating k (child-within t wf h c)))
 
   -- the tree at a node, from the levels that are left below it
@@ -72,16 +72,16 @@ module _ (w d : ℕ) (t : List ℕ) (wf : WellFormed t) (r : RegularTable w d t)
   pub tree-regular : Regular w d Max (tree t)
   unfolding Below
   tree-regular =
-      let p = place-root t in
+      let p = position-root t in
       subst (λ s. Regular w d s (tree t)) (ap (λ x. x .side) p)
-      (all-below 0 (wf .some) d (omega (arith, ap (λ x. x .depth) p)))
+      (all-below 0 (wf .nonEmpty) d (omega (arith, ap (λ x. x .depth) p)))
 
 -- the children of a node come after it, so the last node is a leaf
 last-leaf : (t : List ℕ) → WellFormed t → childCount t (frames t - 1) ≡ 0
 last-leaf t wf =
     zero-or-suc (childCount t (frames t - 1)) (λ e. e) (λ n e.
     let i = frames t - 1 in
-    let h : i < frames t = omega (arith, wf .some) in
+    let h : i < frames t = omega (arith, wf .nonEmpty) in
     let c : ChildOf t i (firstChild t i) = record { from = omega arith; to = omega (arith, e) } in
     absurd (omega (arith, child-later t wf h c, child-within t wf h c)))
 
@@ -90,14 +90,14 @@ module _ (w d : ℕ) (t : List ℕ) (a : Accepted t) (r : RegularTable w d t) wh
   pub regular-depth : d ≤ maxDepth
   regular-depth =
       let wf = accepted-formed t a in
-      let h : frames t - 1 < frames t = omega (arith, wf .some) in
+      let h : frames t - 1 < frames t = omega (arith, wf .nonEmpty) in
       omega (arith, r .leafDepth (frames t - 1) h (last-leaf t wf), accepted-stated t a .shallow (frames t - 1) h)
 
   -- and its width is from 1 to 40, if it has an inner node
   pub regular-width : 0 < d → (0 < w) × (w ≤ maxChildren)
   regular-width l =
-      let h = accepted-formed t a .some in
+      let h = accepted-formed t a .nonEmpty in
       zero-or-suc (childCount t 0)
-      (λ e. absurd (omega (arith, r .leafDepth 0 h e, ap (λ x. x .depth) (place-root t)))) (λ n e.
+      (λ e. absurd (omega (arith, r .leafDepth 0 h e, ap (λ x. x .depth) (position-root t)))) (λ n e.
       let i = r .innerWidth 0 h (omega (arith, e)) in
       (omega (arith, e, i), omega (arith, i, accepted-stated t a .frame 0 h .fewChildren)))

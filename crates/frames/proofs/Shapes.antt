@@ -3,14 +3,14 @@ use Prim.Native.Nat.{ℕ, zero, suc, _+_, _*_, _≤_, _<_}
 use native.Mathlib.Omega.{arith}
 use mathlib.Core.Path.{_≡_, refl, sym, ap, ap₂, _∙_}
 use mathlib.Core.List.{List}
-use Rattle.gametree.specs.declared.Place.{Place}
+use Rattle.gametree.specs.declared.Position.{Position}
 use Rattle.frames.specs.Frame.{frames, firstChild, childCount, storedScore}
-use Rattle.frames.specs.Place.{parentBefore, parentOf, childPlace, placeOf, sideOf}
+use Rattle.frames.specs.Position.{parentBefore, parentOf, childPosition, positionOf, sideOf}
 use Rattle.frames.specs.Tree.{node, treeAt, tree, leafScore, valuation}
 use Rattle.frames.specs.Formed.{WellFormed}
 use Rattle.frames.specs.Shape.{SameShape, AgreeOn}
 use Rattle.frames.proofs.Parents.{parent-less, bottom-up}
-use Rattle.frames.proofs.Places.{place-root, place-step}
+use Rattle.frames.proofs.Positions.{position-root, position-step}
 use Rattle.frames.proofs.Trees.{tree-node, node-same}
 
 module _ (t u : List ℕ) (s : SameShape t u) where
@@ -28,31 +28,31 @@ module _ (t u : List ℕ) (s : SameShape t u) where
   same-before k (suc n) h =
       rw (same-first n (omega arith), same-count n (omega arith), same-before k n (omega arith))
 
-  same-child : (k : ℕ) (p : Place) → k < frames t → childPlace t k p ≡ childPlace u k p
+  same-child : (k : ℕ) (p : Position) → k < frames t → childPosition t k p ≡ childPosition u k p
   same-child k p h = rw (s .sameBytes k 3 h (omega arith))
 
-  same-within : (n k : ℕ) → k < n → k < frames t → placeOf t k ≡ placeOf u k
+  same-within : (n k : ℕ) → k < n → k < frames t → positionOf t k ≡ positionOf u k
   same-within zero k l h = absurd (omega arith)
-  same-within (suc n) zero l h = place-root t ∙ sym (place-root u)
+  same-within (suc n) zero l h = position-root t ∙ sym (position-root u)
   same-within (suc n) (suc k) l h =
       let b = parent-less t (suc k) (omega arith) in
       let e : parentOf t (suc k) ≡ parentOf u (suc k) = same-before (suc k) (suc k) (omega arith) in
-      place-step t (suc k) (omega arith)
-      ∙ ap (λ p. childPlace t (suc k) p)
-      (same-within n (parentOf t (suc k)) (omega arith) (omega arith) ∙ ap (placeOf u) e)
-      ∙ same-child (suc k) (placeOf u (parentOf u (suc k))) h
-      ∙ sym (place-step u (suc k) (omega arith))
+      position-step t (suc k) (omega arith)
+      ∙ ap (λ p. childPosition t (suc k) p)
+      (same-within n (parentOf t (suc k)) (omega arith) (omega arith) ∙ ap (positionOf u) e)
+      ∙ same-child (suc k) (positionOf u (parentOf u (suc k))) h
+      ∙ sym (position-step u (suc k) (omega arith))
 
   -- each node stands at the same place
-  pub same-place : (k : ℕ) → k < frames t → placeOf t k ≡ placeOf u k
-  same-place k h = same-within (suc k) k (omega arith) h
+  pub same-position : (k : ℕ) → k < frames t → positionOf t k ≡ positionOf u k
+  same-position k h = same-within (suc k) k (omega arith) h
 
   -- a leaf on which they agree has the same score
   pub same-score : (i : ℕ) → i < frames t → AgreeOn t u i → valuation t i ≡ valuation u i
   unfolding valuation
   same-score i h a =
       let e : storedScore t i ≡ storedScore u i = rw (a .sameHigh, a .sameLow) in
-      ap₂ leafScore (ap (λ p. p .depth) (same-place i h)) e
+      ap₂ leafScore (ap (λ p. p .depth) (same-position i h)) e
 
   -- the trees at each node are the same
   pub same-trees : WellFormed t → WellFormed u → (i : ℕ) → i < frames t → treeAt t i ≡ treeAt u i
@@ -61,10 +61,10 @@ module _ (t u : List ℕ) (s : SameShape t u) where
       tree-node t wt i h
       ∙ node-same i (sideOf t i) (treeAt t) (treeAt u) (firstChild t i) (childCount t i)
       (λ k a b. f k (record { from = a; to = b }))
-      ∙ ap₂ (λ d n. node i d (treeAt u) (firstChild t i) n) (ap (λ p. p .side) (same-place i h)) (same-count i h)
+      ∙ ap₂ (λ d n. node i d (treeAt u) (firstChild t i) n) (ap (λ p. p .side) (same-position i h)) (same-count i h)
       ∙ ap (λ n. node i (sideOf u i) (treeAt u) n (childCount u i)) (same-first i h)
       ∙ sym (tree-node u wu i (omega (arith, s .sameFrames))))
 
   -- one shape, one tree
   pub same-tree : WellFormed t → WellFormed u → tree t ≡ tree u
-  same-tree wt wu = same-trees wt wu 0 (wt .some)
+  same-tree wt wu = same-trees wt wu 0 (wt .nonEmpty)

@@ -12,7 +12,7 @@ use borrow.Author.Tests.{eq-eqb, ne-eqb}
 use Rattle.gametree.specs.Tree.{other}
 use Rattle.frames.specs.declared.Rejection.{Rejection}
 use Rattle.frames.specs.Frame.{frames, firstChild, childCount, byte3, sameMover}
-use Rattle.frames.specs.Place.{parentOf, placeOf, depthOf, sideOf}
+use Rattle.frames.specs.Position.{parentOf, positionOf, depthOf, sideOf}
 use Rattle.frames.specs.Tree.{node, treeAt, tree}
 use Rattle.frames.specs.Formed.{WellFormed, ChildOf}
 use Rattle.frames.specs.Rejection.{_andThen_, eachNode}
@@ -21,18 +21,18 @@ use Rattle.frames.specs.Check.{framesRejection, rejection}
 use Rattle.frames.specs.results.Alternating.{Alternating, zeroCheck4, zeroRejection, sideByDepth, growByDepth}
 use Rattle.frames.specs.results.Alternating.{treeByDepth}
 use Rattle.frames.proofs.Parents.{parent-less}
-use Rattle.frames.proofs.Places.{place-root, place-step, place-child, depth-child}
+use Rattle.frames.proofs.Positions.{position-root, position-step, position-child, depth-child}
 use Rattle.frames.proofs.Next.{child-later, child-within}
 use Rattle.frames.proofs.Trees.{node-same, tree-node}
 
 module _ (t : List ℕ) (wf : WellFormed t) {i k : ℕ} (h : i < frames t) (c : ChildOf t i k) where
   -- where byte 3 is 1 the same side moves as at the parent
   pub mover-same : byte3 t k ≡ sameMover → sideOf t k ≡ sideOf t i
-  mover-same e = ap (λ p. p .side) (place-child t wf h c) ∙ rw (eq-eqb (byte3 t k) sameMover e)
+  mover-same e = ap (λ p. p .side) (position-child t wf h c) ∙ rw (eq-eqb (byte3 t k) sameMover e)
 
   -- where it is zero the other side
   pub mover-other : byte3 t k ≡ 0 → sideOf t k ≡ other (sideOf t i)
-  mover-other e = ap (λ p. p .side) (place-child t wf h c) ∙ rw (ne-eqb (byte3 t k) sameMover (λ o. omega arith))
+  mover-other e = ap (λ p. p .side) (position-child t wf h c) ∙ rw (ne-eqb (byte3 t k) sameMover (λ o. omega arith))
 
 -- the same checks of each node have the same first "no"
 each-same : (p q : ℕ → Option Rejection) (i n : ℕ) → ((k : ℕ) → k < i + n → p k ≡ q k) → eachNode p i n ≡ eachNode q i n
@@ -73,11 +73,11 @@ module _ (t : List ℕ) (a : Alternating t) where
 
   within-parity : (n k : ℕ) → k < n → k < frames t → sideOf t k ≡ sideByDepth (depthOf t k)
   within-parity zero k l h = absurd (omega arith)
-  within-parity (suc n) zero l h = subst (λ p. p .side ≡ sideByDepth (p .depth)) (sym (place-root t)) refl
+  within-parity (suc n) zero l h = subst (λ p. p .side ≡ sideByDepth (p .depth)) (sym (position-root t)) refl
   within-parity (suc n) (suc k) l h =
       let b = parent-less t (suc k) (omega arith) in
-      let p = placeOf t (parentOf t (suc k)) in
-      subst (λ q. q .side ≡ sideByDepth (q .depth)) (sym (place-step t (suc k) (omega arith)))
+      let p = positionOf t (parentOf t (suc k)) in
+      subst (λ q. q .side ≡ sideByDepth (q .depth)) (sym (position-step t (suc k) (omega arith)))
       (rw (ne-eqb (byte3 t (suc k)) sameMover (a (suc k) h))
       (ap other (within-parity n (parentOf t (suc k)) (omega arith) (omega arith)) ∙ one-deeper (p .depth)))
 
@@ -100,4 +100,4 @@ module _ (t : List ℕ) (a : Alternating t) where
 
     -- and the tree is the one whose sides go by the depth
     pub tree-before : tree t ≡ treeByDepth t
-    tree-before = grown-before (frames t) 0 0 (wf .some) (omega arith) (sym (ap (λ p. p .depth) (place-root t)))
+    tree-before = grown-before (frames t) 0 0 (wf .nonEmpty) (omega arith) (sym (ap (λ p. p .depth) (position-root t)))

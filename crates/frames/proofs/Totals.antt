@@ -5,9 +5,9 @@ use native.Mathlib.Omega.{arith}
 use mathlib.Core.Path.{_≡_, refl, ap, ap₂, _∙_}
 use mathlib.Core.Bool.{Bool, cond}
 use mathlib.Core.List.{List}
-use Rattle.gametree.specs.Tree.{Tree, leaf, inner, Kids, last, _then_, size, sizeKids, leafCount, leafCountKids}
+use Rattle.gametree.specs.Tree.{Tree, leaf, inner, Children, last, _then_, size, sizeChildren, leafCount, leafCountChildren}
 use Rattle.frames.specs.Frame.{frames, firstChild, childCount, next}
-use Rattle.frames.specs.Tree.{kidsFrom, treeAt, tree}
+use Rattle.frames.specs.Tree.{childrenFrom, treeAt, tree}
 use Rattle.frames.specs.Formed.{WellFormed}
 use Rattle.frames.proofs.Next.{next-more, waits}
 use Rattle.frames.proofs.Trees.{zero-or-suc, tree-leaf, tree-inner}
@@ -16,11 +16,11 @@ use Rattle.frames.proofs.Trees.{zero-or-suc, tree-leaf, tree-inner}
 abbrev mutual
   pub total : (f g : ℕ → ℕ) → Tree → ℕ
   total f g (leaf n) = f n
-  total f g (inner n s ks) = g n + totalKids f g ks
+  total f g (inner n s ks) = g n + totalChildren f g ks
 
-  pub totalKids : (f g : ℕ → ℕ) → Kids → ℕ
-  totalKids f g (last t) = total f g t
-  totalKids f g (t then ts) = total f g t + totalKids f g ts
+  pub totalChildren : (f g : ℕ → ℕ) → Children → ℕ
+  totalChildren f g (last t) = total f g t
+  totalChildren f g (t then ts) = total f g t + totalChildren f g ts
 
 -- f 0 + .. + f (n - 1)
 unfoldable pub sumTo : (ℕ → ℕ) → ℕ → ℕ
@@ -43,8 +43,8 @@ sumFrom-add f i (suc m) n =
     rw (e, d) (omega (arith, sumFrom-add f (i + 1) m n))
 
 total-kids : (f g : ℕ → ℕ) (h : ℕ → Tree) (i n : ℕ)
-    → totalKids f g (kidsFrom h i n) ≡ sumFrom (λ k. total f g (h k)) i (suc n)
-unfolding kidsFrom sumFrom
+    → totalChildren f g (childrenFrom h i n) ≡ sumFrom (λ k. total f g (h k)) i (suc n)
+unfolding childrenFrom sumFrom
 total-kids f g h i zero = omega arith
 total-kids f g h i (suc n) = ap (λ x. total f g (h i) + x) (total-kids f g h (i + 1) n)
 
@@ -69,50 +69,50 @@ module _ (f g : ℕ → ℕ) (t : List ℕ) (wf : WellFormed t) where
       (ap (λ x. g i + x) (total-kids f g (treeAt t) (firstChild t i) n)))
 
   -- what waits at i
-  waiting : ℕ → ℕ
-  waiting i = sumFrom below i (next t i - i)
+  unvisited : ℕ → ℕ
+  unvisited i = sumFrom below i (next t i - i)
 
-  waiting-next : (i : ℕ) → i < frames t → waiting i ≡ own i + waiting (i + 1)
-  unfolding waiting sumFrom
-  waiting-next i h =
+  unvisited-next : (i : ℕ) → i < frames t → unvisited i ≡ own i + unvisited (i + 1)
+  unfolding unvisited sumFrom
+  unvisited-next i h =
       let w = waits t wf i h in
       let a : next t i - i ≡ suc (next t i - (i + 1)) = omega arith in
       let b : next t (i + 1) - (i + 1) ≡ (next t i - (i + 1)) + childCount t i = omega (arith, next-more t i) in
       let c : i + 1 + (next t i - (i + 1)) ≡ next t i = omega arith in
       rw (a, b, sumFrom-add below (i + 1) (next t i - (i + 1)) (childCount t i), c) (omega (arith, below-is i h))
 
-  waiting-all : (i : ℕ) → i ≤ frames t → waiting 0 ≡ sumTo own i + waiting i
+  unvisited-all : (i : ℕ) → i ≤ frames t → unvisited 0 ≡ sumTo own i + unvisited i
   unfolding sumTo
-  waiting-all zero h = omega arith
-  waiting-all (suc i) h =
+  unvisited-all zero h = omega arith
+  unvisited-all (suc i) h =
       let e : i + 1 ≡ suc i = omega arith in
-      rw (← e) (omega (arith, waiting-all i (omega arith), waiting-next i (omega arith)))
+      rw (← e) (omega (arith, unvisited-all i (omega arith), unvisited-next i (omega arith)))
 
   -- the tree's total is the table's
   pub tree-total : total f g (tree t) ≡ sumTo (λ i. atNode f g (childCount t i) i) (frames t)
-  unfolding waiting next sumFrom sumTo own below
+  unfolding unvisited next sumFrom sumTo own below
   tree-total =
       let z : next t (frames t) - frames t ≡ 0 = omega (arith, wf .total) in
-      let q = rw z at (waiting-all (frames t) (omega arith)) in
+      let q = rw z at (unvisited-all (frames t) (omega arith)) in
       omega (arith, q)
 
 mutual
   size-total : (t : Tree) → size t ≡ total (λ _. 1) (λ _. 1) t
   size-total (leaf n) = refl
-  size-total (inner n s ks) = omega (arith, sizeKids-total ks)
+  size-total (inner n s ks) = omega (arith, sizeChildren-total ks)
 
-  sizeKids-total : (ks : Kids) → sizeKids ks ≡ totalKids (λ _. 1) (λ _. 1) ks
-  sizeKids-total (last t) = size-total t
-  sizeKids-total (t then ts) = ap₂ _+_ (size-total t) (sizeKids-total ts)
+  sizeChildren-total : (ks : Children) → sizeChildren ks ≡ totalChildren (λ _. 1) (λ _. 1) ks
+  sizeChildren-total (last t) = size-total t
+  sizeChildren-total (t then ts) = ap₂ _+_ (size-total t) (sizeChildren-total ts)
 
 mutual
   count-total : (E : ℕ → Bool) (t : Tree) → leafCount E t ≡ total (λ n. cond (E n) 1 0) (λ _. 0) t
   count-total E (leaf n) = refl
-  count-total E (inner n s ks) = omega (arith, countKids-total E ks)
+  count-total E (inner n s ks) = omega (arith, countChildren-total E ks)
 
-  countKids-total : (E : ℕ → Bool) (ks : Kids) → leafCountKids E ks ≡ totalKids (λ n. cond (E n) 1 0) (λ _. 0) ks
-  countKids-total E (last t) = count-total E t
-  countKids-total E (t then ts) = ap₂ _+_ (count-total E t) (countKids-total E ts)
+  countChildren-total : (E : ℕ → Bool) (ks : Children) → leafCountChildren E ks ≡ totalChildren (λ n. cond (E n) 1 0) (λ _. 0) ks
+  countChildren-total E (last t) = count-total E t
+  countChildren-total E (t then ts) = ap₂ _+_ (count-total E t) (countChildren-total E ts)
 
 pub sum-same : (f g : ℕ → ℕ) (n : ℕ) → ((k : ℕ) → k < n → f k ≡ g k) → sumTo f n ≡ sumTo g n
 unfolding sumTo

@@ -10,14 +10,14 @@ use lib.IntN.{natAbs}
 use lib.ListN.{List·getD-eq-default}
 use Rattle.gametree.specs.Tree.{leaf, inner, number, size, In, Distinct}
 use Rattle.frames.specs.Frame.{frames, byteOf, firstChild, childCount, storedScore}
-use Rattle.frames.specs.Place.{depthOf, sideOf}
+use Rattle.frames.specs.Position.{depthOf, sideOf}
 use Rattle.frames.specs.Formed.{ChildOf}
 use Rattle.frames.specs.Value.{valueOf, maxValue, worth, Ordinary}
-use Rattle.frames.specs.Tree.{kidsFrom, treeAt, tree, won, lost, valuation}
+use Rattle.frames.specs.Tree.{childrenFrom, treeAt, tree, won, lost, valuation}
 use Rattle.frames.specs.Check.{Accepted}
 use Rattle.frames.proofs.Acceptance.{accepted-stated, accepted-formed}
 use Rattle.frames.proofs.Parents.{one-parent, parent-child}
-use Rattle.frames.proofs.Places.{depth-at-most}
+use Rattle.frames.proofs.Positions.{depth-at-most}
 use Rattle.frames.proofs.Values.{value-range}
 use Rattle.frames.proofs.Trees.{zero-or-suc, tree-leaf, tree-inner, tree-number}
 use Rattle.frames.proofs.Nodes.{in-tree, tree-range, tree-distinct}
@@ -35,17 +35,17 @@ module _ (t : List ℕ) (a : Accepted t) where
 
   -- any other is an inner node of its side, over as many children as it counts, in order from its first child on
   pub frame-inner : (i n : ℕ) → i < frames t → childCount t i ≡ suc n
-      → treeAt t i ≡ inner i (sideOf t i) (kidsFrom (treeAt t) (firstChild t i) n)
+      → treeAt t i ≡ inner i (sideOf t i) (childrenFrom (treeAt t) (firstChild t i) n)
   frame-inner i n h e = tree-inner t (accepted-formed t a) i n h e
 
   -- the nodes of the tree are the frames of the table
   pub frames-nodes : (p : ℕ) → In p (tree t) ↔ (p < frames t)
   frames-nodes p =
-      let wf = accepted-formed t a in (λ i. tree-range t wf 0 (wf .some) p i .1, λ h. in-tree t wf p h)
+      let wf = accepted-formed t a in (λ i. tree-range t wf 0 (wf .nonEmpty) p i .1, λ h. in-tree t wf p h)
 
   -- each stands there once
   pub frames-once : Distinct (tree t)
-  frames-once = let wf = accepted-formed t a in tree-distinct t wf 0 (wf .some)
+  frames-once = let wf = accepted-formed t a in tree-distinct t wf 0 (wf .nonEmpty)
 
   -- and there are as many nodes as frames
   pub frames-size : size (tree t) ≡ frames t
@@ -64,7 +64,7 @@ module _ (t : List ℕ) (a : Accepted t) where
   unfolding valuation
   score-worth i h =
       worth-stated (depthOf t i) (storedScore t i)
-      (omega (arith, depth-at-most t i, accepted-formed t a .few))
+      (omega (arith, depth-at-most t i, accepted-formed t a .atMost))
 
   -- worths at depth d are from -(32,000 - d) to 32,000 - d
   pub worth-within : (i : ℕ) → i < frames t → childCount t i ≡ 0

@@ -6,17 +6,17 @@ use mathlib.Core.Path.{_≡_, refl, ap, ap₂, _∙_}
 use mathlib.Core.Logic.{inl, inr}
 use mathlib.Core.List.{List}
 use Rattle.gametree.specs.declared.Side.{Side}
-use Rattle.gametree.specs.Tree.{Tree, leaf, inner, last, _then_, number, size, sizeKids, In, InKids}
+use Rattle.gametree.specs.Tree.{Tree, leaf, inner, last, _then_, number, size, sizeChildren, In, InChildren}
 use Rattle.gametree.proofs.certificates.Counting.{kidCount}
 use Rattle.frames.specs.Frame.{frames, firstChild, childCount}
-use Rattle.frames.specs.Place.{sideOf}
-use Rattle.frames.specs.Tree.{kidsFrom, node, grow, treeAt}
+use Rattle.frames.specs.Position.{sideOf}
+use Rattle.frames.specs.Tree.{childrenFrom, node, grow, treeAt}
 use Rattle.frames.specs.Formed.{WellFormed, ChildOf}
 use Rattle.frames.proofs.Next.{child-later, child-within}
 
 -- the same trees at each number give the same children
-pub kids-same : (g h : ℕ → Tree) (i n : ℕ) → ((k : ℕ) → i ≤ k → k ≤ i + n → g k ≡ h k) → kidsFrom g i n ≡ kidsFrom h i n
-unfolding kidsFrom
+pub kids-same : (g h : ℕ → Tree) (i n : ℕ) → ((k : ℕ) → i ≤ k → k ≤ i + n → g k ≡ h k) → childrenFrom g i n ≡ childrenFrom h i n
+unfolding childrenFrom
 kids-same g h i zero e = ap last (e i (omega arith) (omega arith))
 kids-same g h i (suc n) e =
     ap₂ _then_ (e i (omega arith) (omega arith)) (kids-same g h (i + 1) n (λ k a b. e k (omega arith) (omega arith)))
@@ -27,21 +27,21 @@ node-same i s g h first zero e = refl
 node-same i s g h first (suc n) e = ap (inner i s) (kids-same g h first n (λ k a b. e k a (omega arith)))
 
 -- they are as many as are counted
-pub kids-count : (g : ℕ → Tree) (i n : ℕ) → kidCount (kidsFrom g i n) ≡ suc n
-unfolding kidsFrom
+pub kids-count : (g : ℕ → Tree) (i n : ℕ) → kidCount (childrenFrom g i n) ≡ suc n
+unfolding childrenFrom
 kids-count g i zero = refl
 kids-count g i (suc n) = ap suc (kids-count g (i + 1) n)
 
 -- a number is in one of the children's trees exactly if it is in the tree of one of the numbers
-pub in-kids : (g : ℕ → Tree) (i n p : ℕ) → InKids p (kidsFrom g i n) → (k : ℕ) × (i ≤ k) × (k ≤ i + n) × In p (g k)
-unfolding kidsFrom
+pub in-kids : (g : ℕ → Tree) (i n p : ℕ) → InChildren p (childrenFrom g i n) → (k : ℕ) × (i ≤ k) × (k ≤ i + n) × In p (g k)
+unfolding childrenFrom
 in-kids g i zero p h = (i, omega arith, omega arith, h)
 in-kids g i (suc n) p (inl h) = (i, omega arith, omega arith, h)
 in-kids g i (suc n) p (inr h) =
     let r = in-kids g (i + 1) n p h in (r .0, omega (arith, r .1), omega (arith, r .2), r .3)
 
-pub kids-in : (g : ℕ → Tree) (i n p k : ℕ) → i ≤ k → k ≤ i + n → In p (g k) → InKids p (kidsFrom g i n)
-unfolding kidsFrom
+pub kids-in : (g : ℕ → Tree) (i n p k : ℕ) → i ≤ k → k ≤ i + n → In p (g k) → InChildren p (childrenFrom g i n)
+unfolding childrenFrom
 kids-in g i zero p k a b h = let e : k ≡ i = omega arith in rw e at h
 kids-in g i (suc n) p k a b h =
     elim (decLe k i) [
@@ -50,8 +50,8 @@ kids-in g i (suc n) p k a b h =
     ]
 
 -- a child's tree is no larger than all of them together
-pub kid-size : (g : ℕ → Tree) (i n k : ℕ) → i ≤ k → k ≤ i + n → size (g k) ≤ sizeKids (kidsFrom g i n)
-unfolding kidsFrom
+pub kid-size : (g : ℕ → Tree) (i n k : ℕ) → i ≤ k → k ≤ i + n → size (g k) ≤ sizeChildren (childrenFrom g i n)
+unfolding childrenFrom
 kid-size g i zero k a b = let e : k ≡ i = omega arith in rw e (omega arith)
 kid-size g i (suc n) k a b =
     elim (decLe k i) [
@@ -92,7 +92,7 @@ module _ (t : List ℕ) (wf : WellFormed t) where
 
   -- a node with n + 1 children is an inner node over their trees
   pub tree-inner : (i n : ℕ) → i < frames t → childCount t i ≡ suc n
-      → treeAt t i ≡ inner i (sideOf t i) (kidsFrom (treeAt t) (firstChild t i) n)
+      → treeAt t i ≡ inner i (sideOf t i) (childrenFrom (treeAt t) (firstChild t i) n)
   tree-inner i n h e = tree-node i h ∙ ap (node i (sideOf t i) (treeAt t) (firstChild t i)) e
 
 node-number : (i : ℕ) (s : Side) (g : ℕ → Tree) (first n : ℕ) → number (node i s g first n) ≡ i

@@ -10,7 +10,7 @@ use Rattle.frames.specs.declared.Rejection.{Rejection}
 use Rattle.frames.specs.declared.Checked.{Checked}
 use Rattle.frames.specs.Frame.{frameSize, maxChildren, maxDepth, frames, firstChild, childCount, byte3, sameMover}
 use Rattle.frames.specs.Frame.{maxTable, valueBytes, storedScore, next}
-use Rattle.frames.specs.Place.{depthOf}
+use Rattle.frames.specs.Position.{depthOf}
 use Rattle.gametree.specs.Tree.{least, greatest}
 use Rattle.frames.specs.Rejection.{ask, _andThen_, eachNode, answer}
 
@@ -85,13 +85,13 @@ unfoldable pub rejection : List ℕ → Option Rejection
 rejection t = check1 t andThen check2 t andThen check3 t andThen framesRejection t
 
 -- has each of the buffers, given by their lengths, at least n entries
-abbrev pub roomy : ℕ → List ℕ → Bool
-roomy n [] = true
-roomy n (l ∷ ls) = leb n l && roomy n ls
+abbrev pub longEnough : ℕ → List ℕ → Bool
+longEnough n [] = true
+longEnough n (l ∷ ls) = leb n l && longEnough n ls
 
 -- 10: has each lent buffer an entry per node?
 abbrev pub check10 : ℕ → List ℕ → Option Rejection
-check10 n lengths = ask (roomy n lengths) 10 0
+check10 n lengths = ask (longEnough n lengths) 10 0
 
 -- an accepted table (01: an accepted tree): questions 1 to 9 get no "no"
 abbrev pub Accepted : List ℕ → Type 0

@@ -7,8 +7,8 @@ use Rattle.frames.specs.Frame.{maxNodes, frames, firstChild, childCount,
 
 -- a tree of 1 to 4,096 nodes in breadth-first order, with scores in range
 pub record WellFormed (t : List ℕ) : Type 0 where
-  pub some : 0 < frames t
-  pub few : frames t ≤ maxNodes
+  pub nonEmpty : 0 < frames t
+  pub atMost : frames t ≤ maxNodes
   pub first : (i : ℕ) → i < frames t → 0 < childCount t i → firstChild t i ≡ next t i
   pub later : (i : ℕ) → i < frames t → 0 < childCount t i → i < firstChild t i
   pub total : next t (frames t) ≡ frames t

@@ -1,7 +1,7 @@
 -- Definitions over byte tables: what a reader of the contracts has to believe.
 pub mod Frame
 pub mod Children
-pub mod Place
+pub mod Position
 pub mod Tree
 pub mod Value
 pub mod Formed

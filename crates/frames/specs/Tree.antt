@@ -4,9 +4,9 @@ use mathlib.Core.Bool.{cond}
 use mathlib.Core.List.{List, [], _∷_}
 use lib.Dec.{leb}
 use Rattle.gametree.specs.declared.Side.{Side}
-use Rattle.gametree.specs.Tree.{Tree, leaf, inner, Kids, last, _then_, zeroScore}
+use Rattle.gametree.specs.Tree.{Tree, leaf, inner, Children, last, _then_, zeroScore}
 use Rattle.frames.specs.Frame.{frames, firstChild, childCount, storedScore}
-use Rattle.frames.specs.Place.{depthOf, sideOf}
+use Rattle.frames.specs.Position.{depthOf, sideOf}
 use Rattle.frames.specs.Value.{win}
 
 -- the n numbers from i on
@@ -15,14 +15,14 @@ upFrom i zero = []
 upFrom i (suc n) = i ∷ upFrom (i + 1) n
 
 -- the n + 1 trees from g i on as the children of a node, which has at least one
-unfoldable pub kidsFrom : (ℕ → Tree) → ℕ → ℕ → Kids
-kidsFrom g i zero = last (g i)
-kidsFrom g i (suc n) = g i then kidsFrom g (i + 1) n
+unfoldable pub childrenFrom : (ℕ → Tree) → ℕ → ℕ → Children
+childrenFrom g i zero = last (g i)
+childrenFrom g i (suc n) = g i then childrenFrom g (i + 1) n
 
 -- node i, with the trees g as children from the number `first` on: a leaf if there are none
 abbrev pub node : ℕ → Side → (ℕ → Tree) → ℕ → ℕ → Tree
 node i s g first zero = leaf i
-node i s g first (suc n) = inner i s (kidsFrom g first n)
+node i s g first (suc n) = inner i s (childrenFrom g first n)
 
 -- the tree with node i for its root, cut off as many levels below it as the first number says
 unfoldable pub grow : ℕ → List ℕ → ℕ → Tree

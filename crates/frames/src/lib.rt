@@ -1,5 +1,5 @@
 // Byte tables of six-byte frames: a node's children, the fields of a frame, and what is asked of one node.
-use gametree::Place;
+use gametree::Position;
 use gametree::Side;
 use gametree::other;
 ghost use mathlib.Core.Path.{_≡_};
@@ -8,7 +8,7 @@ ghost use Rattle.gametree.specs.Tree.{greatest};
 ghost use Rattle.frames.specs.Frame.{frameSize, maxNodes, frames, next as nextOf, twoBytes};
 ghost use Rattle.frames.specs.Frame.{byteOf, firstChild, childCount, byte3, valueBytes, storedScore};
 ghost use Rattle.frames.specs.Children.{childrenOf};
-ghost use Rattle.frames.specs.Place.{childSide, childPlace};
+ghost use Rattle.frames.specs.Position.{childSide, childPosition};
 ghost use Rattle.frames.specs.Tree.{leafScore};
 ghost use Rattle.frames.specs.Value.{valueOf};
 ghost use Rattle.frames.specs.Check.{byte3Right, firstChildRight, valueRight};
@@ -245,15 +245,15 @@ pub fn value(score: u32) -> i16
     (score as i32 - ZERO) as i16
 }
 
-// Where a child of a node at `place` stands.
-pub fn child_place(table: &[u8], child: usize, place: Place) -> Place
-    requires { ⌜ (child < frames (now table)) × (place .depth ≤ maxNodes) ⌝ }
-    ensures { λ r. ⌜ r ≡ childPlace (now (table .entry)) child place ⌝ }
+// Where a child of a node at `position` stands.
+pub fn child_position(table: &[u8], child: usize, position: Position) -> Position
+    requires { ⌜ (child < frames (now table)) × (position .depth ≤ maxNodes) ⌝ }
+    ensures { λ r. ⌜ r ≡ childPosition (now (table .entry)) child position ⌝ }
 {
-    let mover = place.side;
+    let mover = position.side;
     let side = child_side(table, child, mover);
-    Place {
-        depth: place.depth + 1,
+    Position {
+        depth: position.depth + 1,
         side,
     }
 }

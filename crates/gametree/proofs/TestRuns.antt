@@ -19,7 +19,7 @@ use Rattle.gametree.specs.Certificate.{pairLeaves, chosen, flag, Smalles
 use Rattle.gametree.specs.Move.{rootMove, boundMove}
 use Rattle.gametree.specs.results.Mirror.{mirror, mirrored, oppositeTest}
 use Rattle.gametree.specs.results.Scout.{scout}
-use Rattle.gametree.specs.Tests.{test, Strategy, Driven, searchBy, mtdFrom, falling, rising, bisection}
+use Rattle.gametree.specs.Tests.{test, Strategy, TestSearch, searchBy, mtdFrom, falling, rising, bisection}
 use Rattle.gametree.specs.FirstMove.{decideBy, mtdf}
 use Rattle.lists.proofs.Lists.{once-length}
 use Rattle.gametree.proofs.minimax.Bounds.{every-leaf, known-local}
@@ -156,7 +156,7 @@ pub local-tests-results : (σ : Strategy) (ν μ : ℕ → ℕ) (t : Tree) → S
     × (boundMove ν (among w) t ≡ boundMove μ (among w) t)
 local-tests-results σ ν μ t h i w e a = (
   sym (tests-minimax σ ν t h)
-      ∙ ap (λ (q : Driven). q .value) (local-tests σ ν μ t (subst (All (λ k. ν k ≡ μ k)) e a))
+      ∙ ap (λ (q : TestSearch). q .value) (local-tests σ ν μ t (subst (All (λ k. ν k ≡ μ k)) e a))
       ∙ tests-minimax σ μ t i,
   λ k.
       ap₂ (λ κ χ. cond (chosen Max κ true t k) 1 0 + cond (chosen Min χ true t k) 2 0)

@@ -9,7 +9,7 @@ use mathlib.Core.Bool.{Bool, true, false, cond}
 use mathlib.Core.List.{List, [], _∷_, _++_, map}
 use lib.ListN.{length}
 use Rattle.lists.specs.Lists.{All, among, Once, Subsequence, different}
-use Rattle.gametree.specs.Tree.{Side, Max, Min, Tree, leaf, inner, Kids, least, greatest, minimax, size, leaves}
+use Rattle.gametree.specs.Tree.{Side, Max, Min, Tree, leaf, inner, Children, least, greatest, minimax, size, leaves}
 use Rattle.gametree.specs.Tree.{leafCount, In, EveryLeaf, Score, Scored, Distinct, Proper}
 use Rattle.gametree.specs.Bounds.{known, low, high, bestOf, Decided}
 use Rattle.gametree.specs.AlphaBeta.{reached, fullWindow}
@@ -30,7 +30,7 @@ use Rattle.gametree.specs.results.ClosedForm.{unrivalled}
 use Rattle.lists.proofs.Choice.{clash}
 use Rattle.lists.proofs.Lists.{all-map, all-among, all-at, once-length, sub-all, sub-once}
 use Rattle.gametree.proofs.minimax.Nodes.{leaves-once}
-use Rattle.gametree.proofs.minimax.Bounds.{minimax-score, minimaxKids-best}
+use Rattle.gametree.proofs.minimax.Bounds.{minimax-score, minimaxChildren-best}
 use Rattle.gametree.proofs.minimax.Bounds.{known-local}
 use Rattle.gametree.proofs.alphabeta.Window.{alphaBeta-value, alphaBeta-evaluated, reached-ordered}
 use Rattle.gametree.proofs.alphabeta.Window.{alphaBeta-local}
@@ -72,9 +72,9 @@ pub bounds-other : (ν : ℕ → ℕ) (E : ℕ → Bool) (n : ℕ) → E n ≡ f
 bounds-other ν E n e = (rw e refl, rw e refl)
 
 -- a Max node takes the greatest low and the greatest high of its children, a Min node the least of each
-pub bounds-inner : (ν : ℕ → ℕ) (E : ℕ → Bool) (n : ℕ) (s : Side) (ks : Kids)
+pub bounds-inner : (ν : ℕ → ℕ) (E : ℕ → Bool) (n : ℕ) (s : Side) (ks : Children)
     → (low ν E (inner n s ks) ≡ bestOf s (low ν E) ks) × (high ν E (inner n s ks) ≡ bestOf s (high ν E) ks)
-bounds-inner ν E n s ks = (minimaxKids-best (known ν E least) s ks, minimaxKids-best (known ν E greatest) s ks)
+bounds-inner ν E n s ks = (minimaxChildren-best (known ν E least) s ks, minimaxChildren-best (known ν E greatest) s ks)
 
 -- the minimax value is a real score
 pub value-score : (ν : ℕ → ℕ) (t : Tree) → Scored ν t → Score (minimax ν t)
@@ -141,7 +141,7 @@ module _ (ν : ℕ → ℕ) (t : Tree) (h : Scored ν t) (Y : Layout) (d : Descr
 
     -- fewer replacements than twice the number of nodes led to it
     pub list-few : k < 2 * size t
-    list-few = list-reached ν Y t d h r .few
+    list-few = list-reached ν Y t d h r .atMost
 
     -- from it the root is taken, SOLVED, or a state is replaced, which leads to the next list
     pub held-until : ((v : ℕ) × (step ν Y L ≡ stop v))
@@ -185,7 +185,7 @@ merit-falls ν Y t r q h = run-falls ν Y t r q h
 -- CERTIFICATES
 
 -- the rule of a node holds exactly if the count of its children in the set is the required one
-pub rule-counting : (p q : Side) (b : Bool) (g : ℕ → Bool) (ks : Kids)
+pub rule-counting : (p q : Side) (b : Bool) (g : ℕ → Bool) (ks : Children)
     → Rule p q b g ks ↔ (members g ks ≡ required p q b ks)
 rule-counting p q b g ks = (rule-counted p q b g ks, counted-rule p q b g ks)
 

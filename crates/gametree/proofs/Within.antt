@@ -80,7 +80,7 @@ module _ (ν : ℕ → ℕ) (t : Tree) (h : Scored ν t) (Y : Layout) (d : Descr
         → (sssWithinOver a ν Y t ≡ sssOver ν Y t) × (length (sssOver ν Y t .evaluated) ≤ a)
     whole-full x =
         let s = stopped ν t h Y d (x .reached) (x .stops) in
-        (x .gives ∙ sym s, rw s (x .few))
+        (x .gives ∙ sym s, rw s (x .atMost))
 
     -- and one that was cut has leaves of the full run ahead
     cut-more : Cut ν Y t a → a < length (sssOver ν Y t .evaluated)

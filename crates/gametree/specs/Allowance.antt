@@ -22,13 +22,13 @@ evaluationsBy (evaluating n M) k m rest = record { leaf = n; merit = m; replacem
 
 -- the evaluations from a list after k replacements; the first number bounds the states taken, as in `runFrom`
 abbrev pub evaluationsFrom : (ℕ → ℕ) → Layout → ℕ → (k : ℕ) → List State → List Evaluation
-evaluationsFrom ν Y zero k L = []
-evaluationsFrom ν Y (suc f) k L =
-    evaluationsBy (step ν Y L) k (takenMerit Y L) (λ M. evaluationsFrom ν Y f (suc k) M)
+evaluationsFrom ν layout zero k L = []
+evaluationsFrom ν layout (suc f) k L =
+    evaluationsBy (step ν layout L) k (takenMerit layout L) (λ M. evaluationsFrom ν layout f (suc k) M)
 
 -- the evaluations of SSS*, in order, over a layout of the tree
 abbrev pub evaluationsOver : (ℕ → ℕ) → Layout → Tree → List Evaluation
-evaluationsOver ν Y t = evaluationsFrom ν Y (2 * size t) 0 (start t)
+evaluationsOver ν layout t = evaluationsFrom ν layout (2 * size t) 0 (start t)
 
 -- those on a tree that an allowance of a leaves does not cover
 abbrev pub uncovered : (a : ℕ) → (ℕ → ℕ) → Tree → List Evaluation

@@ -5,26 +5,26 @@ use mathlib.Core.Path.{_≡_}
 use mathlib.Core.Logic.{_⊎_}
 use mathlib.Core.Bool.{Bool, true, false, cond, not, _&&_, _||_}
 use lib.Dec.{eqb}
-use Rattle.gametree.specs.Tree.{Side, Max, Min, Tree, leaf, inner, Kids, last, _then_, least, greatest, better}
-use Rattle.gametree.specs.Tree.{minimax, minimaxKids, number, EveryLeaf}
+use Rattle.gametree.specs.Tree.{Side, Max, Min, Tree, leaf, inner, Children, last, _then_, least, greatest, better}
+use Rattle.gametree.specs.Tree.{minimax, minimaxChildren, number, EveryLeaf}
 use Rattle.gametree.specs.Bounds.{known}
 
 -- each child, no child, exactly one child is in the set g
-abbrev pub Each : (ℕ → Bool) → Kids → Type 0
+abbrev pub Each : (ℕ → Bool) → Children → Type 0
 Each g (last t) = g (number t) ≡ true
 Each g (t then ts) = (g (number t) ≡ true) × Each g ts
 
-abbrev pub NoneOf : (ℕ → Bool) → Kids → Type 0
+abbrev pub NoneOf : (ℕ → Bool) → Children → Type 0
 NoneOf g (last t) = g (number t) ≡ false
 NoneOf g (t then ts) = (g (number t) ≡ false) × NoneOf g ts
 
-abbrev pub OneOf : (ℕ → Bool) → Kids → Type 0
+abbrev pub OneOf : (ℕ → Bool) → Children → Type 0
 OneOf g (last t) = g (number t) ≡ true
 OneOf g (t then ts) = ((g (number t) ≡ true) × NoneOf g ts) ⊎ ((g (number t) ≡ false) × OneOf g ts)
 
 -- the rule for the children of a node of side q in a solution tree of side p; the Bool says whether the node is in it.
 -- Of a node in it each child is where p moves and exactly one where the other side moves, of a node outside it none.
-abbrev pub Rule : (p q : Side) → Bool → (ℕ → Bool) → Kids → Type 0
+abbrev pub Rule : (p q : Side) → Bool → (ℕ → Bool) → Children → Type 0
 Rule p q false g ks = NoneOf g ks
 Rule Max Max true g ks = Each g ks
 Rule Max Min true g ks = OneOf g ks
@@ -35,11 +35,11 @@ Rule Min Min true g ks = Each g ks
 abbrev mutual
   pub Rules : Side → (ℕ → Bool) → Tree → Type 0
   Rules p g (leaf n) = Unit
-  Rules p g (inner n q ks) = Rule p q (g n) g ks × RulesKids p g ks
+  Rules p g (inner n q ks) = Rule p q (g n) g ks × RulesChildren p g ks
 
-  pub RulesKids : Side → (ℕ → Bool) → Kids → Type 0
-  RulesKids p g (last t) = Rules p g t
-  RulesKids p g (t then ts) = Rules p g t × RulesKids p g ts
+  pub RulesChildren : Side → (ℕ → Bool) → Children → Type 0
+  RulesChildren p g (last t) = Rules p g t
+  RulesChildren p g (t then ts) = Rules p g t × RulesChildren p g ts
 
 -- the set g is a solution tree of side p (01: a max tree for Max, a min tree for Min; definition 2.1 of source 000):
 -- the root is in it, and the rule holds at each inner node
@@ -56,11 +56,11 @@ worst Min = greatest
 abbrev mutual
   pub solutionValue : Side → (ℕ → ℕ) → (ℕ → Bool) → Tree → ℕ
   solutionValue p ν g (leaf n) = cond (g n) (ν n) (worst p)
-  solutionValue p ν g (inner n q ks) = solutionValueKids p ν g ks
+  solutionValue p ν g (inner n q ks) = solutionValueChildren p ν g ks
 
-  pub solutionValueKids : Side → (ℕ → ℕ) → (ℕ → Bool) → Kids → ℕ
-  solutionValueKids p ν g (last t) = solutionValue p ν g t
-  solutionValueKids p ν g (t then ts) = better p (solutionValue p ν g t) (solutionValueKids p ν g ts)
+  pub solutionValueChildren : Side → (ℕ → ℕ) → (ℕ → Bool) → Children → ℕ
+  solutionValueChildren p ν g (last t) = solutionValue p ν g t
+  solutionValueChildren p ν g (t then ts) = better p (solutionValue p ν g t) (solutionValueChildren p ν g ts)
 
 -- the sets g and h certify the value v
 pub record Certifies (ν : ℕ → ℕ) (t : Tree) (g h : ℕ → Bool) (v : ℕ) : Type 0 where
@@ -73,11 +73,11 @@ pub record Certifies (ν : ℕ → ℕ) (t : Tree) (g h : ℕ → Bool) (v : ℕ
 abbrev mutual
   pub pairLeaves : (ℕ → Bool) → (ℕ → Bool) → Tree → ℕ
   pairLeaves g h (leaf n) = cond (g n || h n) 1 0
-  pairLeaves g h (inner n q ks) = pairLeavesKids g h ks
+  pairLeaves g h (inner n q ks) = pairLeavesChildren g h ks
 
-  pub pairLeavesKids : (ℕ → Bool) → (ℕ → Bool) → Kids → ℕ
-  pairLeavesKids g h (last t) = pairLeaves g h t
-  pairLeavesKids g h (t then ts) = pairLeaves g h t + pairLeavesKids g h ts
+  pub pairLeavesChildren : (ℕ → Bool) → (ℕ → Bool) → Children → ℕ
+  pairLeavesChildren g h (last t) = pairLeaves g h t
+  pairLeavesChildren g h (t then ts) = pairLeaves g h t + pairLeavesChildren g h ts
 
 -- the flags (01: flag) of a node in the max tree only, in the min tree only, and in both, the greatest; 0 is in neither
 abbrev pub inMax : ℕ
@@ -107,26 +107,26 @@ abbrev mutual
   pub chosen : Side → (ℕ → ℕ) → Bool → Tree → ℕ → Bool
   chosen p μ b (leaf n) k = b && eqb k n
   chosen p μ b (inner n q ks) k =
-      (b && eqb k n) || cond (same p q) (chosenEach p μ b ks k) (chosenFirst p μ b (minimaxKids μ q ks) ks k)
+      (b && eqb k n) || cond (same p q) (chosenEach p μ b ks k) (chosenFirst p μ b (minimaxChildren μ q ks) ks k)
 
-  pub chosenEach : Side → (ℕ → ℕ) → Bool → Kids → ℕ → Bool
+  pub chosenEach : Side → (ℕ → ℕ) → Bool → Children → ℕ → Bool
   chosenEach p μ b (last t) k = chosen p μ b t k
   chosenEach p μ b (t then ts) k = chosen p μ b t k || chosenEach p μ b ts k
 
-  pub chosenFirst : Side → (ℕ → ℕ) → Bool → ℕ → Kids → ℕ → Bool
+  pub chosenFirst : Side → (ℕ → ℕ) → Bool → ℕ → Children → ℕ → Bool
   chosenFirst p μ b v (last t) k = chosen p μ (b && eqb (minimax μ t) v) t k
   chosenFirst p μ b v (t then ts) k =
       chosen p μ (b && eqb (minimax μ t) v) t k || chosenFirst p μ (b && not (eqb (minimax μ t) v)) v ts k
 
 -- the score that a leaf counts with which was not evaluated: the greatest for the max tree, which is read off the
 -- highs, the least for the min tree, which is read off the lows
-abbrev pub fill : Side → ℕ
-fill Max = greatest
-fill Min = least
+abbrev pub unknownScore : Side → ℕ
+unknownScore Max = greatest
+unknownScore Min = least
 
 -- side p's solution tree as the evaluated leaves E give it
 abbrev pub solutionOf : Side → (ℕ → ℕ) → (ℕ → Bool) → Tree → ℕ → Bool
-solutionOf p ν E t k = chosen p (known ν E (fill p)) true t k
+solutionOf p ν E t k = chosen p (known ν E (unknownScore p)) true t k
 
 -- the flag of a node: 1 if it is in the max tree, 2 if in the min tree, 3 if in both, else 0
 abbrev pub flag : (ℕ → ℕ) → (ℕ → Bool) → Tree → ℕ → ℕ

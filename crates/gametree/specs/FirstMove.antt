@@ -5,9 +5,9 @@ use Prim.Native.Nat.{ℕ, suc}
 use mathlib.Core.Bool.{cond}
 use mathlib.Core.List.{List, [], _++_}
 use lib.ListN.{length}
-use Rattle.gametree.specs.Tree.{Side, Max, Min, Tree, leaf, inner, Kids, last, _then_, number}
+use Rattle.gametree.specs.Tree.{Side, Max, Min, Tree, leaf, inner, Children, last, _then_, number}
 use Rattle.gametree.specs.Mtd.{settles}
-use Rattle.gametree.specs.Tests.{Tested, test, Strategy, Driven, searchBy, mtdFrom}
+use Rattle.gametree.specs.Tests.{Tested, test, Strategy, TestSearch, searchBy, mtdFrom}
 
 -- what the last phase gives: the move, and the leaves evaluated, in order
 pub record Moved : Type 0 where
@@ -24,7 +24,7 @@ moveLater r q = record { move = q .move; evaluated = r .evaluated ++ q .evaluate
 
 -- the children of a node tested by γ from the left, each after the leaves evaluated by then, until one settles it: that
 -- one is the move, and 0 where there is none
-abbrev pub moveAmong : (ℕ → ℕ) → ℕ → List ℕ → Side → Kids → Moved
+abbrev pub moveAmong : (ℕ → ℕ) → ℕ → List ℕ → Side → Children → Moved
 moveAmong ν γ w s (last t) =
     let r = test ν γ w t in
     moveTo (cond (settles s (r .notBelow)) (number t) 0) r
@@ -53,7 +53,7 @@ pub record Decision : Type 0 where
   pub tests : ℕ
 
 -- it is made of the run q and of the last phase m
-abbrev pub decision : Driven → Moved → Decision
+abbrev pub decision : TestSearch → Moved → Decision
 decision q m =
     record {
       value = q .value;

@@ -2,7 +2,7 @@
 use Prim.Native.Nat.{ℕ}
 use mathlib.Core.Bool.{cond}
 use lib.Dec.{eqb}
-use Rattle.gametree.specs.Tree.{Tree, leaf, inner, Kids, last, _then_}
+use Rattle.gametree.specs.Tree.{Tree, leaf, inner, Children, last, _then_}
 
 -- the valuation with the score x at the leaf k
 abbrev pub substituted : (ℕ → ℕ) → (k x : ℕ) → ℕ → ℕ
@@ -12,18 +12,18 @@ substituted ν k x n = cond (eqb n k) x (ν n)
 abbrev mutual
   pub grafted : (k : ℕ) (v : Tree) → Tree → Tree
   grafted k v (leaf n) = cond (eqb n k) v (leaf n)
-  grafted k v (inner n s ks) = inner n s (graftedKids k v ks)
+  grafted k v (inner n s ks) = inner n s (graftedChildren k v ks)
 
-  pub graftedKids : (k : ℕ) (v : Tree) → Kids → Kids
-  graftedKids k v (last t) = last (grafted k v t)
-  graftedKids k v (t then ts) = grafted k v t then graftedKids k v ts
+  pub graftedChildren : (k : ℕ) (v : Tree) → Children → Children
+  graftedChildren k v (last t) = last (grafted k v t)
+  graftedChildren k v (t then ts) = grafted k v t then graftedChildren k v ts
 
 -- the tree with the number f n for each n
 abbrev mutual
   pub relabelled : (f : ℕ → ℕ) → Tree → Tree
   relabelled f (leaf n) = leaf (f n)
-  relabelled f (inner n s ks) = inner (f n) s (relabelledKids f ks)
+  relabelled f (inner n s ks) = inner (f n) s (relabelledChildren f ks)
 
-  pub relabelledKids : (f : ℕ → ℕ) → Kids → Kids
-  relabelledKids f (last t) = last (relabelled f t)
-  relabelledKids f (t then ts) = relabelled f t then relabelledKids f ts
+  pub relabelledChildren : (f : ℕ → ℕ) → Children → Children
+  relabelledChildren f (last t) = last (relabelled f t)
+  relabelledChildren f (t then ts) = relabelled f t then relabelledChildren f ts

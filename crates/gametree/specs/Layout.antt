@@ -4,7 +4,7 @@ use mathlib.Core.Bool.{Bool, false, cond, _||_}
 use mathlib.Core.Option.{Option, none, some}
 use mathlib.Core.List.{List, [], _∷_}
 use lib.Dec.{eqb}
-use Rattle.gametree.specs.Tree.{Side, Tree, leaf, inner, Kids, last, _then_, number}
+use Rattle.gametree.specs.Tree.{Side, Tree, leaf, inner, Children, last, _then_, number}
 
 -- a leaf (tip), or an inner node (fork) with its side, its first child and its other children
 pub data Kind : Type 0 where
@@ -25,11 +25,11 @@ pub record Layout : Type 0 where
   pub leftOf : ℕ → ℕ → Bool
 
 -- the first child's number, and those of the others
-abbrev pub firstOf : Kids → ℕ
+abbrev pub firstOf : Children → ℕ
 firstOf (last t) = number t
 firstOf (t then ts) = number t
 
-abbrev pub othersOf : Kids → List ℕ
+abbrev pub othersOf : Children → List ℕ
 othersOf (last t) = []
 othersOf (t then ts) = firstOf ts ∷ othersOf ts
 
@@ -37,52 +37,52 @@ othersOf (t then ts) = firstOf ts ∷ othersOf ts
 abbrev mutual
   pub has : ℕ → Tree → Bool
   has p (leaf n) = eqb p n
-  has p (inner n s ks) = eqb p n || hasKids p ks
+  has p (inner n s ks) = eqb p n || hasChildren p ks
 
-  pub hasKids : ℕ → Kids → Bool
-  hasKids p (last t) = has p t
-  hasKids p (t then ts) = has p t || hasKids p ts
+  pub hasChildren : ℕ → Children → Bool
+  hasChildren p (last t) = has p t
+  hasChildren p (t then ts) = has p t || hasChildren p ts
 
 -- the kind of the node p
 abbrev mutual
   pub kindIn : ℕ → Tree → Kind
   kindIn p (leaf n) = tip
-  kindIn p (inner n s ks) = cond (eqb p n) (fork s (firstOf ks) (othersOf ks)) (kindInKids p ks)
+  kindIn p (inner n s ks) = cond (eqb p n) (fork s (firstOf ks) (othersOf ks)) (kindInChildren p ks)
 
-  pub kindInKids : ℕ → Kids → Kind
-  kindInKids p (last t) = kindIn p t
-  kindInKids p (t then ts) = cond (has p t) (kindIn p t) (kindInKids p ts)
+  pub kindInChildren : ℕ → Children → Kind
+  kindInChildren p (last t) = kindIn p t
+  kindInChildren p (t then ts) = cond (has p t) (kindIn p t) (kindInChildren p ts)
 
 -- its link, the tree's own node being the root
 abbrev mutual
   pub linkIn : ℕ → Tree → Link
   linkIn p (leaf n) = root
-  linkIn p (inner n s ks) = cond (eqb p n) root (linkInKids n s p ks)
+  linkIn p (inner n s ks) = cond (eqb p n) root (linkInChildren n s p ks)
 
-  pub linkInKids : ℕ → Side → ℕ → Kids → Link
-  linkInKids n s p (last t) = cond (eqb p (number t)) (under n s none) (linkIn p t)
-  linkInKids n s p (t then ts) =
-      cond (eqb p (number t)) (under n s (some (firstOf ts))) (cond (has p t) (linkIn p t) (linkInKids n s p ts))
+  pub linkInChildren : ℕ → Side → ℕ → Children → Link
+  linkInChildren n s p (last t) = cond (eqb p (number t)) (under n s none) (linkIn p t)
+  linkInChildren n s p (t then ts) =
+      cond (eqb p (number t)) (under n s (some (firstOf ts))) (cond (has p t) (linkIn p t) (linkInChildren n s p ts))
 
 -- is p above q
 abbrev mutual
   pub aboveIn : ℕ → ℕ → Tree → Bool
   aboveIn p q (leaf n) = false
-  aboveIn p q (inner n s ks) = cond (eqb p n) (hasKids q ks) (aboveInKids p q ks)
+  aboveIn p q (inner n s ks) = cond (eqb p n) (hasChildren q ks) (aboveInChildren p q ks)
 
-  pub aboveInKids : ℕ → ℕ → Kids → Bool
-  aboveInKids p q (last t) = aboveIn p q t
-  aboveInKids p q (t then ts) = cond (has p t) (aboveIn p q t) (aboveInKids p q ts)
+  pub aboveInChildren : ℕ → ℕ → Children → Bool
+  aboveInChildren p q (last t) = aboveIn p q t
+  aboveInChildren p q (t then ts) = cond (has p t) (aboveIn p q t) (aboveInChildren p q ts)
 
 -- is p left of q
 abbrev mutual
   pub leftIn : ℕ → ℕ → Tree → Bool
   leftIn p q (leaf n) = false
-  leftIn p q (inner n s ks) = leftInKids p q ks
+  leftIn p q (inner n s ks) = leftInChildren p q ks
 
-  pub leftInKids : ℕ → ℕ → Kids → Bool
-  leftInKids p q (last t) = leftIn p q t
-  leftInKids p q (t then ts) = cond (has p t) (hasKids q ts || leftIn p q t) (leftInKids p q ts)
+  pub leftInChildren : ℕ → ℕ → Children → Bool
+  leftInChildren p q (last t) = leftIn p q t
+  leftInChildren p q (t then ts) = cond (has p t) (hasChildren q ts || leftIn p q t) (leftInChildren p q ts)
 
 -- the tree's own layout
 abbrev pub layoutOf : Tree → Layout

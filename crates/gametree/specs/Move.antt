@@ -3,11 +3,11 @@
 use Prim.Native.Nat.{ℕ}
 use mathlib.Core.Bool.{Bool, cond}
 use lib.Dec.{eqb}
-use Rattle.gametree.specs.Tree.{Max, Min, Tree, leaf, inner, Kids, last, _then_, minimax, number}
+use Rattle.gametree.specs.Tree.{Max, Min, Tree, leaf, inner, Children, last, _then_, minimax, number}
 use Rattle.gametree.specs.Bounds.{low, high}
 
 -- the number of the first child at which f is v; 0 where there is none
-abbrev pub firstWith : (Tree → ℕ) → ℕ → Kids → ℕ
+abbrev pub firstWith : (Tree → ℕ) → ℕ → Children → ℕ
 firstWith f v (last t) = cond (eqb (f t) v) (number t) 0
 firstWith f v (t then ts) = cond (eqb (f t) v) (number t) (firstWith f v ts)
 

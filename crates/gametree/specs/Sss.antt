@@ -32,7 +32,7 @@ pub record Taken : Type 0 where
 
 -- s is taken rather than x: its merit is greater, or equal and s is left of x in the tree
 abbrev pub beats : Layout → State → State → Bool
-beats Y s x = ltb (x .merit) (s .merit) || (eqb (x .merit) (s .merit) && Y .leftOf (s .node) (x .node))
+beats layout s x = ltb (x .merit) (s .merit) || (eqb (x .merit) (s .merit) && layout .leftOf (s .node) (x .node))
 
 -- takes s, with the states ss behind it; or what is taken from ss, with s further left
 abbrev pub choose : Bool → State → List State → Taken → Taken
@@ -41,13 +41,13 @@ choose false s ss k = record { left = s ∷ k .left; state = k .state; right = k
 
 -- the state of the list s ∷ ss that is taken: of greatest merit, on equal merit the leftmost in the tree
 abbrev pub pick : Layout → State → List State → Taken
-pick Y s [] = record { left = []; state = s; right = [] }
-pick Y s (x ∷ xs) = choose (beats Y s (pick Y x xs .state)) s (x ∷ xs) (pick Y x xs)
+pick layout s [] = record { left = []; state = s; right = [] }
+pick layout s (x ∷ xs) = choose (beats layout s (pick layout x xs .state)) s (x ∷ xs) (pick layout x xs)
 
 -- the merit of the state that is taken; 0 where there is none
 abbrev pub takenMerit : Layout → List State → ℕ
-takenMerit Y [] = 0
-takenMerit Y (s ∷ ss) = pick Y s ss .state .merit
+takenMerit layout [] = 0
+takenMerit layout (s ∷ ss) = pick layout s ss .state .merit
 
 -- what one step does: there is no state to take (no run comes to this: `state-held` in Theorems); the root, SOLVED, is
 -- taken; a state is replaced; a state is replaced and a leaf evaluated
@@ -63,8 +63,8 @@ put k new = k .left ++ (new ++ k .right)
 
 -- the states that are not below p: all those below it are purged, and not its children alone
 abbrev pub purge : Layout → ℕ → List State → List State
-purge Y p [] = []
-purge Y p (s ∷ ss) = cond (Y .above p (s .node)) (purge Y p ss) (s ∷ purge Y p ss)
+purge layout p [] = []
+purge layout p (s ∷ ss) = cond (layout .above p (s .node)) (purge layout p ss) (s ∷ purge layout p ss)
 
 -- a LIVE state: a leaf is evaluated, and SOLVED; of a Max node all children are LIVE, of a Min node the first
 abbrev pub replaceLive : (ℕ → ℕ) → Taken → Kind → Step
@@ -76,19 +76,19 @@ replaceLive ν k (fork Min c cs) = quiet (put k (live c (k .state .merit) ∷ []
 -- a SOLVED state: under Max the parent is SOLVED and all states below it go; under Min the next brother is LIVE,
 -- after the last the parent is SOLVED
 abbrev pub replaceSolved : Layout → Taken → Link → Step
-replaceSolved Y k root = stop (k .state .merit)
-replaceSolved Y k (under p Max b) = quiet (purge Y p (k .left) ++ (solved p (k .state .merit) ∷ purge Y p (k .right)))
-replaceSolved Y k (under p Min (some b)) = quiet (put k (live b (k .state .merit) ∷ []))
-replaceSolved Y k (under p Min none) = quiet (put k (solved p (k .state .merit) ∷ []))
+replaceSolved layout k root = stop (k .state .merit)
+replaceSolved layout k (under p Max b) = quiet (purge layout p (k .left) ++ (solved p (k .state .merit) ∷ purge layout p (k .right)))
+replaceSolved layout k (under p Min (some b)) = quiet (put k (live b (k .state .merit) ∷ []))
+replaceSolved layout k (under p Min none) = quiet (put k (solved p (k .state .merit) ∷ []))
 
 abbrev pub replace : (ℕ → ℕ) → Layout → Taken → Status → Step
-replace ν Y k LIVE = replaceLive ν k (Y .kind (k .state .node))
-replace ν Y k SOLVED = replaceSolved Y k (Y .link (k .state .node))
+replace ν layout k LIVE = replaceLive ν k (layout .kind (k .state .node))
+replace ν layout k SOLVED = replaceSolved layout k (layout .link (k .state .node))
 
 -- one step of SSS*: the state taken, replaced
 abbrev pub step : (ℕ → ℕ) → Layout → List State → Step
-step ν Y [] = empty
-step ν Y (s ∷ ss) = replace ν Y (pick Y s ss) (pick Y s ss .state .status)
+step ν layout [] = empty
+step ν layout (s ∷ ss) = replace ν layout (pick layout s ss) (pick layout s ss .state .status)
 
 -- how a run ends: with the root's value, when the root, SOLVED, is taken; before a leaf that its allowance does not
 -- cover, with the merit of that leaf's state (engine/Within); or with no state to take, or past its bound on states
@@ -127,20 +127,20 @@ start t = live (number t) greatest ∷ []
 -- SSS* over a layout of the tree. It takes at most 2 × nodes states: 2 × nodes - 1 are replaced, and the last is the
 -- root.
 abbrev pub sssOver : (ℕ → ℕ) → Layout → Tree → Ran
-sssOver ν Y t = runFrom (λ L. step ν Y L) (2 * size t) (start t)
+sssOver ν layout t = runFrom (λ L. step ν layout L) (2 * size t) (start t)
 
 -- SSS* on a tree
 abbrev pub sss : (ℕ → ℕ) → Tree → Ran
 sss ν t = sssOver ν (layoutOf t) t
 
--- after k replacements, which evaluated the leaves w, the list is L
-pub data ListAfter (ν : ℕ → ℕ) (Y : Layout) (t : Tree) : ℕ → List ℕ → List State → Type 0 where
-  atStart : ListAfter ν Y t 0 [] (start t)
-  afterQuiet : {k : ℕ} {w : List ℕ} {L M : List State} → ListAfter ν Y t k w L → step ν Y L ≡ quiet M
-      → ListAfter ν Y t (suc k) w M
-  afterEvaluating : {k n : ℕ} {w : List ℕ} {L M : List State} → ListAfter ν Y t k w L → step ν Y L ≡ evaluating n M
-      → ListAfter ν Y t (suc k) (w ++ (n ∷ [])) M
+-- after k replacements, which evaluated these leaves, the list is L
+pub data ListAfter (ν : ℕ → ℕ) (layout : Layout) (t : Tree) : ℕ → List ℕ → List State → Type 0 where
+  atStart : ListAfter ν layout t 0 [] (start t)
+  afterQuiet : {k : ℕ} {leaves : List ℕ} {L M : List State} → ListAfter ν layout t k leaves L → step ν layout L ≡ quiet M
+      → ListAfter ν layout t (suc k) leaves M
+  afterEvaluating : {k n : ℕ} {leaves : List ℕ} {L M : List State} → ListAfter ν layout t k leaves L → step ν layout L ≡ evaluating n M
+      → ListAfter ν layout t (suc k) (leaves ++ (n ∷ [])) M
 
--- a run after k replacements that evaluated the leaves w
+-- a run after k replacements that evaluated these leaves
 abbrev pub resumed : ℕ → List ℕ → Ran → Ran
-resumed k w r = record { end = r .end; evaluated = w ++ r .evaluated; replacements = k + r .replacements }
+resumed k leaves r = record { end = r .end; evaluated = leaves ++ r .evaluated; replacements = k + r .replacements }

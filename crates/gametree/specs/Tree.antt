@@ -19,12 +19,12 @@ other Min = Max
 mutual
   pub data Tree : Type 0 where
     leaf : (number : ℕ) → Tree
-    inner : (number : ℕ) (side : Side) (kids : Kids) → Tree
+    inner : (number : ℕ) (side : Side) (kids : Children) → Tree
 
   -- the children from left to right, at least one
-  pub data Kids : Type 0 where
-    last : Tree → Kids
-    _then_ : Tree → Kids → Kids
+  pub data Children : Type 0 where
+    last : Tree → Children
+    _then_ : Tree → Children → Children
 
 -- a leaf's score is its value plus 32,001, so that scores are 1 to 64,001: the score of the value 0
 abbrev pub zeroScore : ℕ
@@ -47,11 +47,11 @@ better Min a b = min a b
 abbrev mutual
   pub minimax : (ℕ → ℕ) → Tree → ℕ
   minimax ν (leaf n) = ν n
-  minimax ν (inner n s ks) = minimaxKids ν s ks
+  minimax ν (inner n s ks) = minimaxChildren ν s ks
 
-  pub minimaxKids : (ℕ → ℕ) → Side → Kids → ℕ
-  minimaxKids ν s (last t) = minimax ν t
-  minimaxKids ν s (t then ts) = better s (minimax ν t) (minimaxKids ν s ts)
+  pub minimaxChildren : (ℕ → ℕ) → Side → Children → ℕ
+  minimaxChildren ν s (last t) = minimax ν t
+  minimaxChildren ν s (t then ts) = better s (minimax ν t) (minimaxChildren ν s ts)
 
 -- the number of a tree's root
 abbrev pub number : Tree → ℕ
@@ -62,51 +62,51 @@ number (inner n s ks) = n
 abbrev mutual
   pub size : Tree → ℕ
   size (leaf n) = 1
-  size (inner n s ks) = suc (sizeKids ks)
+  size (inner n s ks) = suc (sizeChildren ks)
 
-  pub sizeKids : Kids → ℕ
-  sizeKids (last t) = size t
-  sizeKids (t then ts) = size t + sizeKids ts
+  pub sizeChildren : Children → ℕ
+  sizeChildren (last t) = size t
+  sizeChildren (t then ts) = size t + sizeChildren ts
 
 -- the leaves from left to right
 abbrev mutual
   pub leaves : Tree → List ℕ
   leaves (leaf n) = n ∷ []
-  leaves (inner n s ks) = leavesKids ks
+  leaves (inner n s ks) = leavesChildren ks
 
-  pub leavesKids : Kids → List ℕ
-  leavesKids (last t) = leaves t
-  leavesKids (t then ts) = leaves t ++ leavesKids ts
+  pub leavesChildren : Children → List ℕ
+  leavesChildren (last t) = leaves t
+  leavesChildren (t then ts) = leaves t ++ leavesChildren ts
 
 -- how many leaves are in the set E
 abbrev mutual
   pub leafCount : (ℕ → Bool) → Tree → ℕ
   leafCount E (leaf n) = cond (E n) 1 0
-  leafCount E (inner n q ks) = leafCountKids E ks
+  leafCount E (inner n q ks) = leafCountChildren E ks
 
-  pub leafCountKids : (ℕ → Bool) → Kids → ℕ
-  leafCountKids E (last t) = leafCount E t
-  leafCountKids E (t then ts) = leafCount E t + leafCountKids E ts
+  pub leafCountChildren : (ℕ → Bool) → Children → ℕ
+  leafCountChildren E (last t) = leafCount E t
+  leafCountChildren E (t then ts) = leafCount E t + leafCountChildren E ts
 
 -- p is the number of a node
 abbrev mutual
   pub In : ℕ → Tree → Type 0
   In p (leaf n) = p ≡ n
-  In p (inner n s ks) = (p ≡ n) ⊎ InKids p ks
+  In p (inner n s ks) = (p ≡ n) ⊎ InChildren p ks
 
-  pub InKids : ℕ → Kids → Type 0
-  InKids p (last t) = In p t
-  InKids p (t then ts) = In p t ⊎ InKids p ts
+  pub InChildren : ℕ → Children → Type 0
+  InChildren p (last t) = In p t
+  InChildren p (t then ts) = In p t ⊎ InChildren p ts
 
 -- P holds of each leaf
 abbrev mutual
   pub EveryLeaf : (ℕ → Type 0) → Tree → Type 0
   EveryLeaf P (leaf n) = P n
-  EveryLeaf P (inner n s ks) = EveryLeafKids P ks
+  EveryLeaf P (inner n s ks) = EveryLeafChildren P ks
 
-  pub EveryLeafKids : (ℕ → Type 0) → Kids → Type 0
-  EveryLeafKids P (last t) = EveryLeaf P t
-  EveryLeafKids P (t then ts) = EveryLeaf P t × EveryLeafKids P ts
+  pub EveryLeafChildren : (ℕ → Type 0) → Children → Type 0
+  EveryLeafChildren P (last t) = EveryLeaf P t
+  EveryLeafChildren P (t then ts) = EveryLeaf P t × EveryLeafChildren P ts
 
 -- each leaf's score is a real one, between `least` and `greatest`
 abbrev pub Score : ℕ → Type 0
@@ -115,18 +115,18 @@ Score v = (least < v) × (v < greatest)
 abbrev pub Scored : (ℕ → ℕ) → Tree → Type 0
 Scored ν t = EveryLeaf (λ n. Score (ν n)) t
 
-abbrev pub ScoredKids : (ℕ → ℕ) → Kids → Type 0
-ScoredKids ν ks = EveryLeafKids (λ n. Score (ν n)) ks
+abbrev pub ScoredChildren : (ℕ → ℕ) → Children → Type 0
+ScoredChildren ν ks = EveryLeafChildren (λ n. Score (ν n)) ks
 
 -- no two nodes have the same number
 abbrev mutual
   pub Distinct : Tree → Type 0
   Distinct (leaf n) = Unit
-  Distinct (inner n s ks) = (InKids n ks → ⊥) × DistinctKids ks
+  Distinct (inner n s ks) = (InChildren n ks → ⊥) × DistinctChildren ks
 
-  pub DistinctKids : Kids → Type 0
-  DistinctKids (last t) = Distinct t
-  DistinctKids (t then ts) = Distinct t × DistinctKids ts × ((p : ℕ) → In p t → InKids p ts → ⊥)
+  pub DistinctChildren : Children → Type 0
+  DistinctChildren (last t) = Distinct t
+  DistinctChildren (t then ts) = Distinct t × DistinctChildren ts × ((p : ℕ) → In p t → InChildren p ts → ⊥)
 
 -- a tree as the theorems ask for it: no number stands twice, and each leaf's score is a real one
 pub record Proper (ν : ℕ → ℕ) (t : Tree) : Type 0 where

@@ -9,8 +9,8 @@ pub enum Side {
     Min,
 }
 
-// Where a node stands: its depth (the root has 0), and who moves there. (A rejection's place is a number: SPEC 4.1.)
-pub struct Place {
+// Where a node stands: its depth (the root has 0), and who moves there. (A rejection has a place: SPEC 4.1.)
+pub struct Position {
     pub depth: u32,
     pub side: Side,
 }

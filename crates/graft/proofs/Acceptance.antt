@@ -6,7 +6,7 @@ use mathlib.Core.Path.{_≡_, ap, _∙_}
 use mathlib.Core.List.{List}
 use lib.ListN.{getD}
 use Rattle.frames.specs.Frame.{maxNodes, maxDepth, frames, firstChild, childCount}
-use Rattle.frames.specs.Place.{depthOf}
+use Rattle.frames.specs.Position.{depthOf}
 use Rattle.frames.specs.Formed.{ChildOf}
 use Rattle.frames.specs.results.Stated.{TableAsStated}
 use Rattle.frames.specs.Check.{Accepted}
@@ -14,15 +14,15 @@ use Rattle.frames.proofs.Next.{child-within}
 use Rattle.frames.proofs.Parents.{top-down}
 use Rattle.frames.proofs.Acceptance.{accepted-stated, stated-accepted}
 use Rattle.graftable.specs.Questions.{graftSize}
-use Rattle.graft.specs.Sources.{replaced, sources}
+use Rattle.graft.specs.Sources.{rootFor, sources}
 use Rattle.graft.specs.Table.{graftTable}
 use Rattle.graftable.specs.Graftable.{MaxLeaf, Graftable}
 use Rattle.graft.proofs.Joined.{source-cases}
-use Rattle.graft.proofs.Sources.{Fitting, fitting, Source, placeAt, firstIn, countIn, first-stated, first-formed}
-use Rattle.graft.proofs.Sources.{second-formed, graft-some, place-first, place-second, first-first}
+use Rattle.graft.proofs.Sources.{Fitting, fitting, Source, positionAt, firstIn, countIn, first-stated, first-formed}
+use Rattle.graft.proofs.Sources.{second-formed, graft-some, position-first, position-second, first-first}
 use Rattle.graft.proofs.Sources.{count-first, count-second, replaced-leaf, replaced-same, second-replaced}
 use Rattle.graft.proofs.Laid.{laid-length, result-frames, result-stated, result-total, result-formed}
-use Rattle.graft.proofs.Laid.{result-source, result-count, result-child, result-root, result-place}
+use Rattle.graft.proofs.Laid.{result-source, result-count, result-child, result-root, result-position}
 
 module _ (t : List ℕ) (k : ℕ) (u : List ℕ) (g : Fitting t k u) where
   abbrev R : List ℕ
@@ -38,7 +38,7 @@ module _ (t : List ℕ) (k : ℕ) (u : List ℕ) (g : Fitting t k u) where
     source : S node ≡ s
 
   -- so are a node's children, which are its source's
-  listed-child : {s : ℕ} (l : Listed s) (m : ℕ) → m < countIn t k u s → Listed (replaced t k (firstIn t k u s + m))
+  listed-child : {s : ℕ} (l : Listed s) (m : ℕ) → m < countIn t k u s → Listed (rootFor t k (firstIn t k u s + m))
   listed-child l m h =
       let i = l .node in
       let c = result-count t k u g i (l .inside) ∙ ap (countIn t k u) (l .source) in
@@ -48,13 +48,13 @@ module _ (t : List ℕ) (k : ℕ) (u : List ℕ) (g : Fitting t k u) where
         node = firstChild R i + m;
         inside = omega (arith, w, result-frames t k u);
         source = result-child t k u g i m (l .inside) (omega (arith, c))
-            ∙ ap (λ s. replaced t k (firstIn t k u s + m)) (l .source);
+            ∙ ap (λ s. rootFor t k (firstIn t k u s + m)) (l .source);
       }
 
   -- each node of the first table has a place in the list, the leaf that of the second root
-  listed-first : (c : ℕ) → c < frames t → Listed (replaced t k c)
+  listed-first : (c : ℕ) → c < frames t → Listed (rootFor t k c)
   listed-first =
-      top-down t (first-formed t k u g) (λ c. Listed (replaced t k c))
+      top-down t (first-formed t k u g) (λ c. Listed (rootFor t k c))
       (record { node = 0; inside = omega (arith, graft-some t k u g); source = result-root t k u g })
       (λ i c h d l.
       let inner : i ≡ k → ⊥ = λ e. omega (arith, d .from, d .to, ap (childCount t) e, g .leaf .childless) in
@@ -80,17 +80,17 @@ module _ (t : List ℕ) (k : ℕ) (u : List ℕ) (g : Fitting t k u) where
       let l = listed-second v h in
       let i : l .node < frames R = omega (arith, l .inside, result-frames t k u) in
       let p = ap (λ p. p .depth)
-      (result-place t k u g (l .node) i ∙ ap (placeAt t k u) (l .source) ∙ place-second t k u g v) in
+      (result-position t k u g (l .node) i ∙ ap (positionAt t k u) (l .source) ∙ position-second t k u g v) in
       omega (arith, accepted-stated R a .shallow (l .node) i)
 
 module _ (t : List ℕ) (k : ℕ) (u : List ℕ) (g : Graftable t k u) where
-  source-shallow : (s : ℕ) → Source t k u s → placeAt t k u s .depth ≤ maxDepth
+  source-shallow : (s : ℕ) → Source t k u s → positionAt t k u s .depth ≤ maxDepth
   source-shallow s x =
       source-cases (frames t) (frames u) s (x .inside)
       (λ h.
       let f = fitting g in
-      omega (arith, ap (λ p. p .depth) (place-first t k u f s h), first-stated t k u f .shallow s h))
-      (λ v h e. rw e (omega (arith, ap (λ p. p .depth) (place-second t k u (fitting g) v), g .shallow v h)))
+      omega (arith, ap (λ p. p .depth) (position-first t k u f s h), first-stated t k u f .shallow s h))
+      (λ v h e. rw e (omega (arith, ap (λ p. p .depth) (position-second t k u (fitting g) v), g .shallow v h)))
 
   -- the result is as SPEC 3 states it
   result-as-stated : TableAsStated (graftTable t k u)
@@ -99,14 +99,14 @@ module _ (t : List ℕ) (k : ℕ) (u : List ℕ) (g : Graftable t k u) where
       let e = result-frames t k u in
       record {
         whole = omega (arith, laid-length t k u (graftSize t u));
-        some = omega (arith, graft-some t k u f);
-        most = omega (arith, g .few);
+        nonEmpty = omega (arith, graft-some t k u f);
+        most = omega (arith, g .atMost);
         frame = λ i h. result-stated t k u f i (omega arith);
         total = result-total t k u f;
         shallow = λ i h.
             omega (
               arith,
-              ap (λ p. p .depth) (result-place t k u f i h),
+              ap (λ p. p .depth) (result-position t k u f i h),
               source-shallow (getD (sources t k u) i 0) (result-source t k u f i (omega arith)),
             );
       }
@@ -119,12 +119,12 @@ module _ (t : List ℕ) (k : ℕ) (u : List ℕ) (g : Graftable t k u) where
 pub accepted-graftable : (t : List ℕ) (k : ℕ) (u : List ℕ) → Accepted t → Accepted u → MaxLeaf t k
     → Accepted (graftTable t k u) → Graftable t k u
 accepted-graftable t k u a b l r =
-    let few : graftSize t u ≤ maxNodes =
+    let atMost : graftSize t u ≤ maxNodes =
     omega (arith, accepted-stated (graftTable t k u) r .most, result-frames t k u) in
     record {
       first = a;
       second = b;
       leaf = l;
-      few = few;
-      shallow = accepted-shallow t k u (record { first = a; second = b; leaf = l; few = few }) r;
+      atMost = atMost;
+      shallow = accepted-shallow t k u (record { first = a; second = b; leaf = l; atMost = atMost }) r;
     }

@@ -3,14 +3,14 @@ use native.Mathlib.Omega.{arith}
 use mathlib.Core.Path.{_≡_, refl, ap₂}
 use mathlib.Core.List.{map, _++_}
 use Rattle.frames.specs.Frame.{next}
-use Rattle.frames.specs.Place.{parentBefore, placeWithin, placeOf}
-use Rattle.frames.specs.Tree.{upFrom, kidsFrom, grow, treeAt, valuation}
+use Rattle.frames.specs.Position.{parentBefore, positionWithin, positionOf}
+use Rattle.frames.specs.Tree.{upFrom, childrenFrom, grow, treeAt, valuation}
 use Rattle.frames.specs.Rejection.{eachNode}
 use Rattle.frames.specs.declared.Checked.the-variants.{Rejected}
 use Rattle.frames.specs.Check.{framesRejection, rejection, Accepted}
 use Rattle.frames.specs.results.Cases.{leaves, chain, small}
-use Rattle.graft.specs.Sources.{replaced, base, childSources, breadthFirst}
-use Rattle.graft.specs.Table.{frameAt, laid}
+use Rattle.graft.specs.Sources.{rootFor, base, childSources, breadthFirst}
+use Rattle.graft.specs.Table.{frameAt, laidFrames}
 use Rattle.graftable.specs.Questions.{deepest}
 use Rattle.graft.specs.Outcome.{graftOutcome}
 use Rattle.graft.specs.results.Grafted.{valuationFrom, graftValue}
@@ -20,12 +20,12 @@ use Rattle.graft.proofs.Grafting.{graft-keeps, graft-no-leaf}
 -- answers and buffers
 pub small-grafts : map (λ c. graftOutcome (c .first) (c .node) (c .second) (buffer (c .room))) (given ++ refused)
     ≡ map (λ c. c .outcome) (given ++ refused)
-unfolding upFrom replaced base childSources breadthFirst frameAt laid next parentBefore placeWithin placeOf eachNode
+unfolding upFrom rootFor base childSources breadthFirst frameAt laidFrames next parentBefore positionWithin positionOf eachNode
     framesRejection rejection leaves chain chainTo deepest
 small-grafts = refl
 
 tables-accepted : Accepted (small 1 2 3 4) × Accepted (pair 5 6)
-unfolding next parentBefore placeWithin placeOf eachNode framesRejection rejection
+unfolding next parentBefore positionWithin positionOf eachNode framesRejection rejection
 tables-accepted = (refl, refl)
 
 -- 17 with the node as named, by the law: the place of so large a node is not computed
@@ -38,5 +38,5 @@ far-node =
 
 -- values
 pub graft-values : map (λ c. graftValue (c .first) (c .node) (c .second)) values ≡ map (λ c. c .score) values
-unfolding parentBefore placeWithin placeOf kidsFrom grow treeAt valuation valuationFrom chain
+unfolding parentBefore positionWithin positionOf childrenFrom grow treeAt valuation valuationFrom chain
 graft-values = refl

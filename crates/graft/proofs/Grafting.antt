@@ -15,7 +15,7 @@ use Rattle.gametree.specs.Graft.{relabelled}
 use Rattle.frames.specs.declared.Rejection.{Rejection}
 use Rattle.frames.specs.declared.Checked.the-variants.{Nodes, Rejected}
 use Rattle.frames.specs.Frame.{frameSize, maxNodes, maxDepth, frames, byteOf, childCount}
-use Rattle.frames.specs.Place.{parentOf, depthOf, sideOf}
+use Rattle.frames.specs.Position.{parentOf, depthOf, sideOf}
 use Rattle.frames.specs.Tree.{tree, valuation}
 use Rattle.frames.specs.Check.{rejection, Accepted}
 use Rattle.frames.specs.Rejection.{answer}
@@ -101,7 +101,7 @@ module _ (t : List ℕ) (k : ℕ) (u b : List ℕ) where
                 first = a;
                 second = c;
                 leaf = l;
-                few = f;
+                atMost = f;
                 shallow = λ v h. omega (arith, deepest-at u v (frames u) h);
               })))
               | no d ↦ omega arith
@@ -137,13 +137,13 @@ module _ (t : List ℕ) (k : ℕ) (u b : List ℕ) where
     pub graft-short : length b < frameSize * graftSize t u → graftOutcome t k u b .answer ≡ refused 10 0
     graft-short h =
         by-leaf (g .first) (g .second) (refusal 10 0)
-        (too-short t k u (length b) (leaf-max t k (g .leaf)) (g .few) (graftable-deepest t k u (length b) g) h)
+        (too-short t k u (length b) (leaf-max t k (g .leaf)) (g .atMost) (graftable-deepest t k u (length b) g) h)
 
     -- no "no"
     pub graft-gives : frameSize * graftSize t u ≤ length b → graftOutcome t k u b .answer ≡ Nodes (graftSize t u)
     graft-gives h =
         ap (answer (graftSize t u)) (both-accepted t k u (length b) (g .first) (g .second)
-        ∙ all-right t k u (length b) (leaf-max t k (g .leaf)) (g .few) (graftable-deepest t k u (length b) g) h)
+        ∙ all-right t k u (length b) (leaf-max t k (g .leaf)) (g .atMost) (graftable-deepest t k u (length b) g) h)
 
   -- a call that gives the number of nodes n
   module _ (n : ℕ) (e : graftOutcome t k u b .answer ≡ Nodes n) where
@@ -165,7 +165,7 @@ module _ (t : List ℕ) (k : ℕ) (u b : List ℕ) where
 
     -- the number of nodes is that of both tables without the leaf
     pub grafted-nodes : n + 1 ≡ frames t + frames u
-    grafted-nodes = omega (arith, passed .1, accepted-formed t (given-graftable .first) .some)
+    grafted-nodes = omega (arith, passed .1, accepted-formed t (given-graftable .first) .nonEmpty)
 
     -- bytes past the result keep their contents
     pub grafted-rest : drop (frameSize * n) (graftOutcome t k u b .result) ≡ drop (frameSize * n) b

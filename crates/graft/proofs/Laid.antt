@@ -9,46 +9,46 @@ use mathlib.Core.List.{List, _++_}
 use lib.ListN.{length, getD, length-append, List·getD-append}
 use lib.Seq.{getD-append-add}
 use Rattle.frames.specs.Frame.{frameSize, frames, byteOf, firstChild, childCount, byte3, next}
-use Rattle.frames.specs.Place.{childPlace, placeOf}
+use Rattle.frames.specs.Position.{childPosition, positionOf}
 use Rattle.frames.specs.Formed.{WellFormed}
 use Rattle.frames.specs.results.Stated.{FrameAsStated}
 use Rattle.frames.proofs.Next.{child-within}
 use Rattle.frames.proofs.Parents.{top-down}
-use Rattle.frames.proofs.Places.{place-root, place-child}
+use Rattle.frames.proofs.Positions.{position-root, position-child}
 use Rattle.frames.proofs.Acceptance.{stated-formed}
 use Rattle.graftable.specs.Questions.{graftSize}
-use Rattle.graft.specs.Sources.{replaced, childSources, breadthFirst, known, sources}
-use Rattle.graft.specs.Table.{firstNumber, sourceAt, frameAt, laid, graftTable}
+use Rattle.graft.specs.Sources.{rootFor, childSources, breadthFirst, knownSources, sources}
+use Rattle.graft.specs.Table.{firstNumber, sourceAt, frameAt, laidFrames, graftTable}
 use Rattle.graft.proofs.Listing.{list-kept, list-child}
 use Rattle.graft.proofs.Nodes.{length-up, up-at}
 use Rattle.graft.proofs.Joined.{source-cases, joined-first, joined-second}
-use Rattle.graft.proofs.Sources.{Fitting, Source, placeAt, firstIn, countIn, source-waits, source-kind}
+use Rattle.graft.proofs.Sources.{Fitting, Source, positionAt, firstIn, countIn, source-waits, source-kind}
 use Rattle.graft.proofs.Sources.{sources-all, first-stated, second-stated, graft-some, replaced-leaf}
-use Rattle.graft.proofs.Sources.{replaced-same, source-place, root-place}
+use Rattle.graft.proofs.Sources.{replaced-same, source-position, root-position}
 
 module _ (t : List ℕ) (k : ℕ) (u : List ℕ) where
   pub frame-length : (i : ℕ) → length (frameAt t k u i) ≡ frameSize
   unfolding frameAt
   frame-length i = refl
 
-  pub laid-length : (i : ℕ) → length (laid t k u i) ≡ frameSize * i
-  unfolding laid
+  pub laid-length : (i : ℕ) → length (laidFrames t k u i) ≡ frameSize * i
+  unfolding laidFrames
   laid-length zero = refl
   laid-length (suc i) =
-      omega (arith, length-append (laid t k u i) (frameAt t k u i), laid-length i, frame-length i)
+      omega (arith, length-append (laidFrames t k u i) (frameAt t k u i), laid-length i, frame-length i)
 
   laid-at : (m i j : ℕ) → i < m → j < frameSize
-      → getD (laid t k u m) (frameSize * i + j) 0 ≡ getD (frameAt t k u i) j 0
-  unfolding laid
+      → getD (laidFrames t k u m) (frameSize * i + j) 0 ≡ getD (frameAt t k u i) j 0
+  unfolding laidFrames
   laid-at zero i j h l = absurd (omega arith)
   laid-at (suc m) i j h l =
       elim (decLt i m) [
-        | yes p ↦ List·getD-append (laid t k u m) (frameAt t k u m) 0 (frameSize * i + j) (omega (arith, laid-length m))
+        | yes p ↦ List·getD-append (laidFrames t k u m) (frameAt t k u m) 0 (frameSize * i + j) (omega (arith, laid-length m))
             ∙ laid-at m i j p l
         | no p ↦ (let q : m ≡ i = omega arith in
-            let e : frameSize * i + j ≡ length (laid t k u m) + j = omega (arith, laid-length m) in
-            ap (λ x. getD (laid t k u m ++ frameAt t k u m) x 0) e
-            ∙ getD-append-add (laid t k u m) (frameAt t k u m) j 0
+            let e : frameSize * i + j ≡ length (laidFrames t k u m) + j = omega (arith, laid-length m) in
+            ap (λ x. getD (laidFrames t k u m ++ frameAt t k u m) x 0) e
+            ∙ getD-append-add (laidFrames t k u m) (frameAt t k u m) j 0
             ∙ ap (λ x. getD (frameAt t k u x) j 0) q)
       ]
 
@@ -70,16 +70,16 @@ module _ (t : List ℕ) (k : ℕ) (u : List ℕ) where
 
   -- its first child is the number of nodes known before it
   result-first : (i : ℕ) → i < graftSize t u
-      → firstChild (graftTable t k u) i ≡ firstNumber (countIn t k u (sourceAt t k u i)) (length (known t k u i))
+      → firstChild (graftTable t k u) i ≡ firstNumber (countIn t k u (sourceAt t k u i)) (length (knownSources t k u i))
   unfolding frameAt
   result-first i h =
       omega (arith, laid-at (graftSize t u) i 0 h (omega arith), laid-at (graftSize t u) i 1 h (omega arith))
 
   children-length : (s : ℕ) → length (childSources t k u s) ≡ countIn t k u s
   unfolding childSources
-  children-length s = length-up (replaced t k) (firstIn t k u s) (countIn t k u s)
+  children-length s = length-up (rootFor t k) (firstIn t k u s) (countIn t k u s)
 
-  pub result-next : (i : ℕ) → i ≤ graftSize t u → next (graftTable t k u) i ≡ length (known t k u i)
+  pub result-next : (i : ℕ) → i ≤ graftSize t u → next (graftTable t k u) i ≡ length (knownSources t k u i)
   unfolding next breadthFirst
   result-next zero h = refl
   result-next (suc i) h =
@@ -87,7 +87,7 @@ module _ (t : List ℕ) (k : ℕ) (u : List ℕ) where
         arith,
         result-next i (omega arith),
         result-byte i 2 (omega arith) (omega arith) (omega arith),
-        length-append (known t k u i) (childSources t k u (sourceAt t k u i)),
+        length-append (knownSources t k u i) (childSources t k u (sourceAt t k u i)),
         children-length (sourceAt t k u i),
       )
 
@@ -126,10 +126,10 @@ module _ (t : List ℕ) (k : ℕ) (u : List ℕ) (g : Fitting t k u) where
   count-is i h = result-byte t k u i 2 h (omega arith) (omega arith)
 
   -- the root's source is one of the roots, so a node with another source comes later
-  root-kind : (replaced t k 0 ≡ 0) ⊎ (replaced t k 0 ≡ frames t)
+  root-kind : (rootFor t k 0 ≡ 0) ⊎ (rootFor t k 0 ≡ frames t)
   root-kind =
       elim (ℕ-discrete 0 k) [
-        | yes e ↦ inr (omega (arith, ap (replaced t k) e ∙ replaced-leaf t k u g))
+        | yes e ↦ inr (omega (arith, ap (rootFor t k) e ∙ replaced-leaf t k u g))
         | no e ↦ inl (replaced-same t k u g 0 e)
       ]
 
@@ -147,7 +147,7 @@ module _ (t : List ℕ) (k : ℕ) (u : List ℕ) (g : Fitting t k u) where
       let f = result-first t k u i h in
       let n = result-next t k u i (omega arith) in
       let first : childCount R i ≡ 0 → firstChild R i ≡ 0 = λ z. f ∙ first-zero (countIn t k u s) _ (sym c ∙ z) in
-      let inner : 0 < childCount R i → firstChild R i ≡ length (known t k u i) =
+      let inner : 0 < childCount R i → firstChild R i ≡ length (knownSources t k u i) =
       λ z. f ∙ first-next (countIn t k u s) _ (omega (arith, c)) in
       source-cases (frames t) (frames u) s (source-kind t k u g i h .inside)
       (λ l.
@@ -159,7 +159,7 @@ module _ (t : List ℕ) (k : ℕ) (u : List ℕ) (g : Fitting t k u) where
       (λ m a b.
       result-byte t k u i m h a b ∙ ap (λ x. byteOf (t ++ u) x m) e ∙ joined-second t u (st .whole) v m)
       (second-stated t k u g .frame v l)
-      (λ a. later i s refl (λ z. omega (arith, e, st .some)) (λ z. omega (arith, e))) first (λ z. inner z ∙ sym n)
+      (λ a. later i s refl (λ z. omega (arith, e, st .nonEmpty)) (λ z. omega (arith, e))) first (λ z. inner z ∙ sym n)
       (λ z. omega (arith, inner z)))
 
   pub result-total : next R (frames R) ≡ frames R
@@ -170,7 +170,7 @@ module _ (t : List ℕ) (k : ℕ) (u : List ℕ) (g : Fitting t k u) where
   pub result-formed : WellFormed R
   result-formed =
       let e = result-frames t k u in
-      stated-formed R (omega (arith, g .few)) (λ i h. result-stated i (omega arith)) result-total
+      stated-formed R (omega (arith, g .atMost)) (λ i h. result-stated i (omega arith)) result-total
 
   -- the source of node i
   abbrev S : ℕ → ℕ
@@ -178,7 +178,7 @@ module _ (t : List ℕ) (k : ℕ) (u : List ℕ) (g : Fitting t k u) where
 
   pub source-same : (i : ℕ) → i < graftSize t u → S i ≡ sourceAt t k u i
   source-same i h =
-      list-kept (childSources t k u) (replaced t k 0) i (graftSize t u) i (omega arith) (source-waits t k u g i h) .1
+      list-kept (childSources t k u) (rootFor t k 0) i (graftSize t u) i (omega arith) (source-waits t k u g i h) .1
 
   pub result-source : (i : ℕ) → i < graftSize t u → Source t k u (S i)
   result-source i h = rw (source-same i h) (source-kind t k u g i h)
@@ -193,7 +193,7 @@ module _ (t : List ℕ) (k : ℕ) (u : List ℕ) (g : Fitting t k u) where
 
   -- the sources of a node's children are its source's children
   pub result-child : (i m : ℕ) → i < graftSize t u → m < childCount R i
-      → S (firstChild R i + m) ≡ replaced t k (firstIn t k u (S i) + m)
+      → S (firstChild R i + m) ≡ rootFor t k (firstIn t k u (S i) + m)
   unfolding childSources
   result-child i m h l =
       let s = sourceAt t k u i in
@@ -201,19 +201,19 @@ module _ (t : List ℕ) (k : ℕ) (u : List ℕ) (g : Fitting t k u) where
       let f = result-first t k u i h ∙ first-next (countIn t k u s) _ (omega (arith, c)) in
       let d : m < length (childSources t k u s) = omega (arith, children-length t k u s) in
       ap (λ x. getD (sources t k u) (x + m) 0) f
-      ∙ list-child (childSources t k u) (replaced t k 0) i (graftSize t u) m h d
-      ∙ up-at (replaced t k) (firstIn t k u s) (countIn t k u s) m (omega (arith, c))
-      ∙ ap (λ x. replaced t k (firstIn t k u x + m)) (sym (source-same i h))
+      ∙ list-child (childSources t k u) (rootFor t k 0) i (graftSize t u) m h d
+      ∙ up-at (rootFor t k) (firstIn t k u s) (countIn t k u s) m (omega (arith, c))
+      ∙ ap (λ x. rootFor t k (firstIn t k u x + m)) (sym (source-same i h))
 
-  pub result-root : S 0 ≡ replaced t k 0
+  pub result-root : S 0 ≡ rootFor t k 0
   unfolding breadthFirst
   result-root = source-same 0 (omega (arith, graft-some t k u g))
 
   -- each node stands where its source does
-  pub result-place : (i : ℕ) → i < frames R → placeOf R i ≡ placeAt t k u (S i)
-  result-place =
-      top-down R result-formed (λ i. placeOf R i ≡ placeAt t k u (S i))
-      (place-root R ∙ sym (ap (placeAt t k u) result-root ∙ root-place t k u g))
+  pub result-position : (i : ℕ) → i < frames R → positionOf R i ≡ positionAt t k u (S i)
+  result-position =
+      top-down R result-formed (λ i. positionOf R i ≡ positionAt t k u (S i))
+      (position-root R ∙ sym (ap (positionAt t k u) result-root ∙ root-position t k u g))
       (λ i j h c e.
       let n : i < graftSize t u = omega (arith, result-frames t k u) in
       let m : j - firstChild R i < childCount R i = omega (arith, c .from, c .to) in
@@ -222,6 +222,6 @@ module _ (t : List ℕ) (k : ℕ) (u : List ℕ) (g : Fitting t k u) where
       let b = result-carried j 3 (omega (arith, result-frames t k u, child-within R result-formed h c)) (omega arith)
       (omega arith)
       ∙ ap (λ s. byte3 (t ++ u) s) x in
-      place-child R result-formed h c ∙ ap (λ p. childPlace R j p) e
-      ∙ source-place t k u g (S i) (result-source i n) R j (j - firstChild R i) (omega (arith, result-count i n)) b
-      ∙ ap (placeAt t k u) (sym x))
+      position-child R result-formed h c ∙ ap (λ p. childPosition R j p) e
+      ∙ source-position t k u g (S i) (result-source i n) R j (j - firstChild R i) (omega (arith, result-count i n)) b
+      ∙ ap (positionAt t k u) (sym x))

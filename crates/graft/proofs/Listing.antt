@@ -82,23 +82,23 @@ module _ (children : ℕ → List ℕ) (root : ℕ) where
 
   module _ (D : ℕ → Type 0) (W : ℕ → ℕ) (w : Weighs D children W root) where
     -- after i nodes
-    record Waiting (i : ℕ) : Type 0 where
+    record Unvisited (i : ℕ) : Type 0 where
       all : All D (L i)
       left : weight W (drop i (L i)) + i ≡ W root
 
-    waiting-in : (i : ℕ) → Waiting i → i < W root → i < length (L i)
-    waiting-in i a h =
+    unvisited-in : (i : ℕ) → Unvisited i → i < W root → i < length (L i)
+    unvisited-in i a h =
         elim (decLt i (length (L i))) [
           | yes l ↦ l
           | no l ↦ absurd (omega (arith, ap (weight W) (drop-of-length-le (L i) {i = i} (omega arith)), a .left))
         ]
 
-    waiting-all : (i : ℕ) → i ≤ W root → Waiting i
+    unvisited-all : (i : ℕ) → i ≤ W root → Unvisited i
     unfolding breadthFirst
-    waiting-all zero h = record { all = (w .start, tt); left = omega arith }
-    waiting-all (suc i) h =
-        let a = waiting-all i (omega arith) in
-        let l = waiting-in i a (omega arith) in
+    unvisited-all zero h = record { all = (w .start, tt); left = omega arith }
+    unvisited-all (suc i) h =
+        let a = unvisited-all i (omega arith) in
+        let l = unvisited-in i a (omega arith) in
         let d = all-at D (L i) (a .all) i l in
         let e : weight W (drop i (L i)) ≡ W (σ i) + weight W (drop (suc i) (L i)) = ap (weight W)
         (drop-cons (L i) i 0 l) in
@@ -113,16 +113,16 @@ module _ (children : ℕ → List ℕ) (root : ℕ) where
 
     -- while nodes of the tree are left, one waits
     pub waits : (i : ℕ) → i < W root → i < length (L i)
-    waits i h = waiting-in i (waiting-all i (omega arith)) h
+    waits i h = unvisited-in i (unvisited-all i (omega arith)) h
 
     -- each is of the kind
     pub kind : (i : ℕ) → i < W root → D (σ i)
-    kind i h = all-at D (L i) (waiting-all i (omega arith) .all) i (waits i h)
+    kind i h = all-at D (L i) (unvisited-all i (omega arith) .all) i (waits i h)
 
     -- after as many nodes as the tree has, as many are known
     pub list-all : length (L (W root)) ≡ W root
     list-all =
-        let a = waiting-all (W root) (omega arith) in
+        let a = unvisited-all (W root) (omega arith) in
         let n : 1 ≤ W root = omega (arith, w .weighs root (w .start)) in
         let v = waits (W root - 1) (omega arith) in
         let e : W root - 1 + 1 ≡ W root = omega arith in

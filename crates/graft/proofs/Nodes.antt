@@ -7,15 +7,15 @@ use lib.ListN.{length, getD}
 use borrow.Author.Tests.{ne-eqb}
 use Rattle.lists.specs.Lists.{All}
 use Rattle.gametree.specs.declared.Side.{Side}
-use Rattle.gametree.specs.Tree.{Tree, inner, last, _then_, size, sizeKids}
-use Rattle.gametree.specs.Graft.{grafted, graftedKids, relabelled, relabelledKids}
-use Rattle.frames.specs.Tree.{upFrom, kidsFrom, node}
+use Rattle.gametree.specs.Tree.{Tree, inner, last, _then_, size, sizeChildren}
+use Rattle.gametree.specs.Graft.{grafted, graftedChildren, relabelled, relabelledChildren}
+use Rattle.frames.specs.Tree.{upFrom, childrenFrom, node}
 use Rattle.graft.proofs.Listing.{weight}
 
 -- the same trees from another number on
 kids-shifted : (g h : ℕ → Tree) (i j n : ℕ) → ((m : ℕ) → m ≤ n → g (i + m) ≡ h (j + m))
-    → kidsFrom g i n ≡ kidsFrom h j n
-unfolding kidsFrom
+    → childrenFrom g i n ≡ childrenFrom h j n
+unfolding childrenFrom
 kids-shifted g h i j zero e =
     let a : i + 0 ≡ i = omega arith in
     let b : j + 0 ≡ j = omega arith in
@@ -36,8 +36,8 @@ node-shifted s g h x i j (suc n) e = ap (inner x s) (kids-shifted g h i j n (λ 
 
 -- a node with other numbers
 relabelled-kids : (f : ℕ → ℕ) (g : ℕ → Tree) (i n : ℕ)
-    → relabelledKids f (kidsFrom g i n) ≡ kidsFrom (λ c. relabelled f (g c)) i n
-unfolding kidsFrom
+    → relabelledChildren f (childrenFrom g i n) ≡ childrenFrom (λ c. relabelled f (g c)) i n
+unfolding childrenFrom
 relabelled-kids f g i zero = refl
 relabelled-kids f g i (suc n) = ap (λ ks. relabelled f (g i) then ks) (relabelled-kids f g (i + 1) n)
 
@@ -48,8 +48,8 @@ relabelled-node f x s g i (suc n) = ap (inner (f x) s) (relabelled-kids f g i n)
 
 -- a node other than the leaf k, with a tree in the place of that leaf
 grafted-kids : (k : ℕ) (v : Tree) (g : ℕ → Tree) (i n : ℕ)
-    → graftedKids k v (kidsFrom g i n) ≡ kidsFrom (λ c. grafted k v (g c)) i n
-unfolding kidsFrom
+    → graftedChildren k v (childrenFrom g i n) ≡ childrenFrom (λ c. grafted k v (g c)) i n
+unfolding childrenFrom
 grafted-kids k v g i zero = refl
 grafted-kids k v g i (suc n) = ap (λ ks. grafted k v (g i) then ks) (grafted-kids k v g (i + 1) n)
 
@@ -59,8 +59,8 @@ grafted-node k v x s g i zero h = rw (ne-eqb x k h)
 grafted-node k v x s g i (suc n) h = ap (inner x s) (grafted-kids k v g i n)
 
 -- its size: 1 and the sizes of the trees below
-kids-size : (g : ℕ → Tree) (i n : ℕ) → sizeKids (kidsFrom g i n) ≡ weight (λ c. size (g c)) (upFrom i (suc n))
-unfolding kidsFrom upFrom
+kids-size : (g : ℕ → Tree) (i n : ℕ) → sizeChildren (childrenFrom g i n) ≡ weight (λ c. size (g c)) (upFrom i (suc n))
+unfolding childrenFrom upFrom
 kids-size g i zero = omega arith
 kids-size g i (suc n) = ap (λ x. size (g i) + x) (kids-size g (i + 1) n)
 

@@ -7,13 +7,13 @@ use mathlib.Core.Bool.{cond}
 use mathlib.Core.List.{List}
 use lib.Dec.{eqb}
 use borrow.Author.Tests.{eq-eqb, ne-eqb}
-use Rattle.gametree.specs.Tree.{Tree, leaf, inner, Kids, last, _then_, size, sizeKids}
-use Rattle.gametree.specs.Graft.{grafted, graftedKids, relabelled}
+use Rattle.gametree.specs.Tree.{Tree, leaf, inner, Children, last, _then_, size, sizeChildren}
+use Rattle.gametree.specs.Graft.{grafted, graftedChildren, relabelled}
 use Rattle.gametree.proofs.minimax.Grafts.{relabelled-size}
 use Rattle.frames.specs.Frame.{frames, childCount}
 use Rattle.frames.specs.Tree.{tree}
 use Rattle.frames.specs.Formed.{WellFormed}
-use Rattle.frames.proofs.Totals.{total, totalKids, sumTo, atNode, tree-total, tree-size}
+use Rattle.frames.proofs.Totals.{total, totalChildren, sumTo, atNode, tree-total, tree-size}
 use Rattle.graftable.specs.Questions.{graftSize}
 use Rattle.graft.specs.results.Grafted.{graftTree}
 
@@ -29,12 +29,12 @@ mutual
         | yes e ↦ rw (eq-eqb n k e)
         | no e ↦ rw (ne-eqb n k e)
       ]
-  grafted-size k v (inner n s ks) = omega (arith, grafted-sizeKids k v ks)
+  grafted-size k v (inner n s ks) = omega (arith, grafted-sizeChildren k v ks)
 
-  grafted-sizeKids : (k : ℕ) (v : Tree) (ks : Kids)
-      → sizeKids (graftedKids k v ks) ≡ totalKids (weightOf k (size v)) (λ _. 1) ks
-  grafted-sizeKids k v (last t) = grafted-size k v t
-  grafted-sizeKids k v (t then ts) = ap₂ _+_ (grafted-size k v t) (grafted-sizeKids k v ts)
+  grafted-sizeChildren : (k : ℕ) (v : Tree) (ks : Children)
+      → sizeChildren (graftedChildren k v ks) ≡ totalChildren (weightOf k (size v)) (λ _. 1) ks
+  grafted-sizeChildren k v (last t) = grafted-size k v t
+  grafted-sizeChildren k v (t then ts) = ap₂ _+_ (grafted-size k v t) (grafted-sizeChildren k v ts)
 
 -- the sum of ones, with x in the place of one of them
 sum-one : (f : ℕ → ℕ) (k x n : ℕ) → f k ≡ x → ((i : ℕ) → i < n → (i ≡ k → ⊥) → f i ≡ 1)

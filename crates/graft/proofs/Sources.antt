@@ -10,21 +10,21 @@ use mathlib.Core.List.{List, _++_}
 use lib.Dec.{ltb}
 use lib.ListN.{length, getD}
 use borrow.Author.Tests.{lt-ltb, le-ltb, eq-eqb, ne-eqb}
-use Rattle.gametree.specs.declared.Place.{Place}
+use Rattle.gametree.specs.declared.Position.{Position}
 use Rattle.gametree.specs.Tree.{Tree, leaf, size}
 use Rattle.gametree.specs.Graft.{grafted, relabelled}
 use Rattle.frames.specs.Frame.{maxNodes, frames, firstChild, childCount, byte3}
-use Rattle.frames.specs.Place.{rootPlace, childPlace, placeOf, depthOf, sideOf}
+use Rattle.frames.specs.Position.{rootPosition, childPosition, positionOf, depthOf, sideOf}
 use Rattle.frames.specs.Tree.{upFrom, node, treeAt, tree}
 use Rattle.frames.specs.Formed.{WellFormed, ChildOf}
 use Rattle.frames.specs.Check.{Accepted}
 use Rattle.frames.specs.results.Stated.{TableAsStated}
 use Rattle.frames.proofs.Next.{child-within}
 use Rattle.frames.proofs.Acceptance.{accepted-stated, accepted-formed}
-use Rattle.frames.proofs.Places.{place-root, place-child}
+use Rattle.frames.proofs.Positions.{position-root, position-child}
 use Rattle.frames.proofs.Trees.{tree-node, tree-leaf, node-same}
 use Rattle.graftable.specs.Questions.{graftSize}
-use Rattle.graft.specs.Sources.{replaced, base, childSources, known, sources}
+use Rattle.graft.specs.Sources.{rootFor, base, childSources, knownSources, sources}
 use Rattle.graftable.specs.Graftable.{MaxLeaf, Graftable}
 use Rattle.graft.specs.results.Grafted.{graftTree}
 use Rattle.graft.proofs.Sizes.{graft-size}
@@ -37,17 +37,17 @@ pub record Fitting (t : List ℕ) (k : ℕ) (u : List ℕ) : Type 0 where
   pub first : Accepted t
   pub second : Accepted u
   pub leaf : MaxLeaf t k
-  pub few : graftSize t u ≤ maxNodes
+  pub atMost : graftSize t u ≤ maxNodes
 
 pub fitting : {t : List ℕ} {k : ℕ} {u : List ℕ} → Graftable t k u → Fitting t k u
-fitting g = record { first = g .first; second = g .second; leaf = g .leaf; few = g .few }
+fitting g = record { first = g .first; second = g .second; leaf = g .leaf; atMost = g .atMost }
 
 -- the place d plies further down
-abbrev deeper : ℕ → Place → Place
+abbrev deeper : ℕ → Position → Position
 deeper d p = record { depth = d + p .depth; side = p .side }
 
 -- byte 3 alone decides who moves at a child
-child-same : (r t : List ℕ) (j c : ℕ) (p : Place) → byte3 r j ≡ byte3 t c → childPlace r j p ≡ childPlace t c p
+child-same : (r t : List ℕ) (j c : ℕ) (p : Position) → byte3 r j ≡ byte3 t c → childPosition r j p ≡ childPosition t c p
 child-same r t j c p e = rw e
 
 module _ (t : List ℕ) (k : ℕ) (u : List ℕ) where
@@ -64,8 +64,8 @@ module _ (t : List ℕ) (k : ℕ) (u : List ℕ) where
   treeOf s =
       cond (ltb s (frames t)) (grafted k second (treeAt t s)) (relabelled (λ v. frames t + v) (treeAt u (s - frames t)))
 
-  abbrev pub placeAt : ℕ → Place
-  placeAt s = cond (ltb s (frames t)) (placeOf t s) (deeper (depthOf t k) (placeOf u (s - frames t)))
+  abbrev pub positionAt : ℕ → Position
+  positionAt s = cond (ltb s (frames t)) (positionOf t s) (deeper (depthOf t k) (positionOf u (s - frames t)))
 
   abbrev pub firstIn : ℕ → ℕ
   firstIn s = base t s + firstChild (t ++ u) s
@@ -88,14 +88,14 @@ module _ (t : List ℕ) (k : ℕ) (u : List ℕ) where
     second-formed = accepted-formed u (g .second)
 
     pub graft-some : 1 ≤ graftSize t u
-    graft-some = omega (arith, first-formed .some, second-formed .some)
+    graft-some = omega (arith, first-formed .nonEmpty, second-formed .nonEmpty)
 
     -- a source of the first table
     tree-first : (s : ℕ) → s < frames t → treeOf s ≡ grafted k second (treeAt t s)
     tree-first s h = rw (lt-ltb s (frames t) h)
 
-    pub place-first : (s : ℕ) → s < frames t → placeAt s ≡ placeOf t s
-    place-first s h = rw (lt-ltb s (frames t) h)
+    pub position-first : (s : ℕ) → s < frames t → positionAt s ≡ positionOf t s
+    position-first s h = rw (lt-ltb s (frames t) h)
 
     pub first-first : (s : ℕ) → s < frames t → firstIn s ≡ firstChild t s
     unfolding base
@@ -112,8 +112,8 @@ module _ (t : List ℕ) (k : ℕ) (u : List ℕ) where
     tree-second v =
         let e : frames t + v - frames t ≡ v = omega arith in rw (le-ltb (frames t + v) (frames t) (omega arith), e)
 
-    pub place-second : (v : ℕ) → placeAt (frames t + v) ≡ deeper (depthOf t k) (placeOf u v)
-    place-second v =
+    pub position-second : (v : ℕ) → positionAt (frames t + v) ≡ deeper (depthOf t k) (positionOf u v)
+    position-second v =
         let e : frames t + v - frames t ≡ v = omega arith in rw (le-ltb (frames t + v) (frames t) (omega arith), e)
 
     first-second : (v : ℕ) → firstIn (frames t + v) ≡ frames t + firstChild u v
@@ -123,16 +123,16 @@ module _ (t : List ℕ) (k : ℕ) (u : List ℕ) where
         (omega (arith, joined-second t u (first-stated .whole) v 0, joined-second t u (first-stated .whole) v 1))
 
     -- where a node of the first table is replaced
-    pub replaced-leaf : replaced t k k ≡ frames t + 0
-    unfolding replaced
+    pub replaced-leaf : rootFor t k k ≡ frames t + 0
+    unfolding rootFor
     replaced-leaf = rw (eq-eqb k k refl) (omega arith)
 
-    pub replaced-same : (c : ℕ) → (c ≡ k → ⊥) → replaced t k c ≡ c
-    unfolding replaced
+    pub replaced-same : (c : ℕ) → (c ≡ k → ⊥) → rootFor t k c ≡ c
+    unfolding rootFor
     replaced-same c h = rw (ne-eqb c k h)
 
     -- what stands there is the graft of the node's tree, at the node's place
-    replaced-tree : (c : ℕ) → c < frames t → grafted k second (treeAt t c) ≡ treeOf (replaced t k c)
+    replaced-tree : (c : ℕ) → c < frames t → grafted k second (treeAt t c) ≡ treeOf (rootFor t k c)
     replaced-tree c h =
         elim (ℕ-discrete c k) [
           | yes e ↦ rw e
@@ -144,15 +144,15 @@ module _ (t : List ℕ) (k : ℕ) (u : List ℕ) where
         at-leaf : grafted k second (leaf k) ≡ second
         at-leaf = rw (eq-eqb k k refl)
 
-    replaced-place : (c : ℕ) → c < frames t → placeAt (replaced t k c) ≡ placeOf t c
-    replaced-place c h =
+    repositiond-position : (c : ℕ) → c < frames t → positionAt (rootFor t k c) ≡ positionOf t c
+    repositiond-position c h =
         elim (ℕ-discrete c k) [
           | yes e ↦ rw e
-              (ap placeAt replaced-leaf ∙ place-second 0 ∙ ap (deeper (depthOf t k)) (place-root u) ∙ at-root)
-          | no e ↦ rw (replaced-same c e) (place-first c h)
+              (ap positionAt replaced-leaf ∙ position-second 0 ∙ ap (deeper (depthOf t k)) (position-root u) ∙ at-root)
+          | no e ↦ rw (replaced-same c e) (position-first c h)
         ]
       where
-        at-root : deeper (depthOf t k) rootPlace ≡ placeOf t k
+        at-root : deeper (depthOf t k) rootPosition ≡ positionOf t k
         at-root = ap₂ (λ d s. record { depth = d; side = s }) (omega arith) (sym (g .leaf .mover))
 
     -- byte 3 is zero on the leaf and on the second root
@@ -163,10 +163,10 @@ module _ (t : List ℕ) (k : ℕ) (u : List ℕ) where
 
     root-byte : byte3 u 0 ≡ 0
     root-byte =
-        ⊎-elim (λ z. z) (λ m. absurd (omega (arith, m .1))) (second-stated .frame 0 (second-formed .some) .mover)
+        ⊎-elim (λ z. z) (λ m. absurd (omega (arith, m .1))) (second-stated .frame 0 (second-formed .nonEmpty) .mover)
 
-    -- so byte 3 of what stands in a node's place is the node's
-    replaced-byte : (c : ℕ) → c < frames t → byte3 (t ++ u) (replaced t k c) ≡ byte3 t c
+    -- so byte 3 of what stands in a node's position is the node's
+    replaced-byte : (c : ℕ) → c < frames t → byte3 (t ++ u) (rootFor t k c) ≡ byte3 t c
     replaced-byte c h =
         elim (ℕ-discrete c k) [
           | yes e ↦ rw (e, replaced-leaf) (joined-second t u (first-stated .whole) 0 3 ∙ root-byte ∙ sym leaf-byte)
@@ -190,20 +190,20 @@ module _ (t : List ℕ) (k : ℕ) (u : List ℕ) where
     child-second : (v m : ℕ) → m < countIn (frames t + v) → ChildOf u v (firstChild u v + m)
     child-second v m l = record { from = omega arith; to = omega (arith, count-second v) }
 
-    pub second-replaced : (v m : ℕ) → replaced t k (firstIn (frames t + v) + m) ≡ frames t + (firstChild u v + m)
+    pub second-replaced : (v m : ℕ) → rootFor t k (firstIn (frames t + v) + m) ≡ frames t + (firstChild u v + m)
     second-replaced v m =
         let e : firstIn (frames t + v) + m ≡ frames t + (firstChild u v + m) = omega (arith, first-second v) in
-        ap (replaced t k) e ∙ replaced-same (frames t + (firstChild u v + m)) (λ q. omega (arith, g .leaf .inside))
+        ap (rootFor t k) e ∙ replaced-same (frames t + (firstChild u v + m)) (λ q. omega (arith, g .leaf .inside))
 
     module _ (s : ℕ) (x : Source s) where
       -- the children of a source are sources
-      source-child : (m : ℕ) → m < countIn s → Source (replaced t k (firstIn s + m))
+      source-child : (m : ℕ) → m < countIn s → Source (rootFor t k (firstIn s + m))
       source-child m l =
           source-cases (frames t) (frames u) s (x .inside)
           (λ h. let w = child-within t first-formed h (child-first s m h l) in
           elim (ℕ-discrete (firstIn s + m) k) [
             | yes e ↦ rw (e, replaced-leaf)
-                (record { inside = omega (arith, second-stated .some); other = λ q. omega (arith, g .leaf .inside) })
+                (record { inside = omega (arith, second-stated .nonEmpty); other = λ q. omega (arith, g .leaf .inside) })
             | no e ↦ rw (replaced-same (firstIn s + m) e) (record { inside = omega arith; other = e })
           ])
           (λ v h e.
@@ -212,16 +212,16 @@ module _ (t : List ℕ) (k : ℕ) (u : List ℕ) where
           rw (e, second-replaced v m) (record { inside = omega arith; other = λ q. omega (arith, g .leaf .inside) }))
 
       -- they stand one ply below it, moved by byte 3 of their own frames
-      pub source-place : (r : List ℕ) (j m : ℕ) → m < countIn s
-          → byte3 r j ≡ byte3 (t ++ u) (replaced t k (firstIn s + m))
-          → childPlace r j (placeAt s) ≡ placeAt (replaced t k (firstIn s + m))
-      source-place r j m l b =
+      pub source-position : (r : List ℕ) (j m : ℕ) → m < countIn s
+          → byte3 r j ≡ byte3 (t ++ u) (rootFor t k (firstIn s + m))
+          → childPosition r j (positionAt s) ≡ positionAt (rootFor t k (firstIn s + m))
+      source-position r j m l b =
           source-cases (frames t) (frames u) s (x .inside)
           (λ h. let c = child-first s m h l in
           let w = child-within t first-formed h c in
-          ap (childPlace r j) (place-first s h)
-          ∙ child-same r t j (firstIn s + m) (placeOf t s) (b ∙ replaced-byte (firstIn s + m) w)
-          ∙ sym (place-child t first-formed h c) ∙ sym (replaced-place (firstIn s + m) w))
+          ap (childPosition r j) (position-first s h)
+          ∙ child-same r t j (firstIn s + m) (positionOf t s) (b ∙ replaced-byte (firstIn s + m) w)
+          ∙ sym (position-child t first-formed h c) ∙ sym (repositiond-position (firstIn s + m) w))
           (λ v h e.
           let l′ = rw e at l in
           let b′ = rw (e, second-replaced v m) at b in
@@ -229,73 +229,73 @@ module _ (t : List ℕ) (k : ℕ) (u : List ℕ) where
           rw (
             e,
             second-replaced v m,
-            place-second v,
-            place-second (firstChild u v + m),
-            place-child u second-formed h c,
+            position-second v,
+            position-second (firstChild u v + m),
+            position-child u second-formed h c,
           )
-          (child-same r u j (firstChild u v + m) (deeper (depthOf t k) (placeOf u v))
+          (child-same r u j (firstChild u v + m) (deeper (depthOf t k) (positionOf u v))
           (b′ ∙ joined-second t u (first-stated .whole) (firstChild u v + m) 3)
-          ∙ ap (λ d. record { depth = d; side = childPlace u (firstChild u v + m) (placeOf u v) .side }) (omega arith)))
+          ∙ ap (λ d. record { depth = d; side = childPosition u (firstChild u v + m) (positionOf u v) .side }) (omega arith)))
 
       -- the tree at a source is a node over its children's
-      pub source-tree : treeOf s ≡ node s (placeAt s .side) (λ c. treeOf (replaced t k c)) (firstIn s) (countIn s)
+      pub source-tree : treeOf s ≡ node s (positionAt s .side) (λ c. treeOf (rootFor t k c)) (firstIn s) (countIn s)
       source-tree =
           source-cases (frames t) (frames u) s (x .inside)
           (λ h.
           tree-first s h ∙ ap (grafted k second) (tree-node t first-formed s h)
           ∙ grafted-node k second s (sideOf t s) (treeAt t) (firstChild t s) (childCount t s) (x .other)
-          ∙ node-same s (sideOf t s) (λ c. grafted k second (treeAt t c)) (λ c. treeOf (replaced t k c))
+          ∙ node-same s (sideOf t s) (λ c. grafted k second (treeAt t c)) (λ c. treeOf (rootFor t k c))
           (firstChild t s) (childCount t s)
           (λ c a b. replaced-tree c (child-within t first-formed h (record { from = a; to = b })))
-          ∙ rw (place-first s h, first-first s h, count-first s h))
+          ∙ rw (position-first s h, first-first s h, count-first s h))
           (λ v h e.
           rw e
           (tree-second v ∙ ap (relabelled (λ v. frames t + v)) (tree-node u second-formed v h)
           ∙ relabelled-node (λ v. frames t + v) v (sideOf u v) (treeAt u) (firstChild u v) (childCount u v)
-          ∙ node-shifted (sideOf u v) (λ c. relabelled (λ v. frames t + v) (treeAt u c)) (λ c. treeOf (replaced t k c))
+          ∙ node-shifted (sideOf u v) (λ c. relabelled (λ v. frames t + v) (treeAt u c)) (λ c. treeOf (rootFor t k c))
           (frames t + v) (firstChild u v) (firstIn (frames t + v)) (childCount u v)
           (λ m l. sym (ap treeOf (second-replaced v m) ∙ tree-second (firstChild u v + m)))
-          ∙ rw (place-second v, count-second v)))
+          ∙ rw (position-second v, count-second v)))
 
     -- the root's tree is the graft, at the root's place
-    pub root-tree : treeOf (replaced t k 0) ≡ graftTree t k u
-    root-tree = sym (replaced-tree 0 (omega (arith, first-stated .some)))
+    pub root-tree : treeOf (rootFor t k 0) ≡ graftTree t k u
+    root-tree = sym (replaced-tree 0 (omega (arith, first-stated .nonEmpty)))
 
-    pub root-place : placeAt (replaced t k 0) ≡ rootPlace
-    root-place = replaced-place 0 (omega (arith, first-stated .some)) ∙ place-root t
+    pub root-position : positionAt (rootFor t k 0) ≡ rootPosition
+    root-position = repositiond-position 0 (omega (arith, first-stated .nonEmpty)) ∙ position-root t
 
-    root-source : Source (replaced t k 0)
+    root-source : Source (rootFor t k 0)
     root-source =
         elim (ℕ-discrete 0 k) [
           | yes e ↦ rw (e, replaced-leaf)
-              (record { inside = omega (arith, second-stated .some); other = λ q. omega (arith, g .leaf .inside) })
-          | no e ↦ rw (replaced-same 0 e) (record { inside = omega (arith, first-stated .some); other = e })
+              (record { inside = omega (arith, second-stated .nonEmpty); other = λ q. omega (arith, g .leaf .inside) })
+          | no e ↦ rw (replaced-same 0 e) (record { inside = omega (arith, first-stated .nonEmpty); other = e })
         ]
 
     -- each source weighs its tree's size
-    weighs : Weighs Source (childSources t k u) (λ s. size (treeOf s)) (replaced t k 0)
+    weighs : Weighs Source (childSources t k u) (λ s. size (treeOf s)) (rootFor t k 0)
     unfolding childSources
     weighs =
         record {
           start = root-source;
-          below = λ s x. all-up Source (replaced t k) (firstIn s) (countIn s) (source-child s x);
+          below = λ s x. all-up Source (rootFor t k) (firstIn s) (countIn s) (source-child s x);
           weighs = λ s x.
               ap size (source-tree s x)
-              ∙ node-size s (placeAt s .side) (λ c. treeOf (replaced t k c)) (firstIn s) (countIn s)
+              ∙ node-size s (positionAt s .side) (λ c. treeOf (rootFor t k c)) (firstIn s) (countIn s)
               ∙ ap (λ x. 1 + x)
-              (sym (weight-map (λ s. size (treeOf s)) (replaced t k) (upFrom (firstIn s) (countIn s))));
+              (sym (weight-map (λ s. size (treeOf s)) (rootFor t k) (upFrom (firstIn s) (countIn s))));
         }
 
-    weight-all : size (treeOf (replaced t k 0)) ≡ graftSize t u
+    weight-all : size (treeOf (rootFor t k 0)) ≡ graftSize t u
     weight-all =
         ap size root-tree ∙ graft-size t k u first-formed second-formed (g .leaf .inside) (g .leaf .childless)
 
     -- while nodes are left, one waits; it is a source; and in the end all are known
-    pub source-waits : (i : ℕ) → i < graftSize t u → i < length (known t k u i)
-    source-waits i h = waits (childSources t k u) (replaced t k 0) Source _ weighs i (omega (arith, weight-all))
+    pub source-waits : (i : ℕ) → i < graftSize t u → i < length (knownSources t k u i)
+    source-waits i h = waits (childSources t k u) (rootFor t k 0) Source _ weighs i (omega (arith, weight-all))
 
-    pub source-kind : (i : ℕ) → i < graftSize t u → Source (getD (known t k u i) i 0)
-    source-kind i h = kind (childSources t k u) (replaced t k 0) Source _ weighs i (omega (arith, weight-all))
+    pub source-kind : (i : ℕ) → i < graftSize t u → Source (getD (knownSources t k u i) i 0)
+    source-kind i h = kind (childSources t k u) (rootFor t k 0) Source _ weighs i (omega (arith, weight-all))
 
     pub sources-all : length (sources t k u) ≡ graftSize t u
-    sources-all = rw weight-all at (list-all (childSources t k u) (replaced t k 0) Source _ weighs)
+    sources-all = rw weight-all at (list-all (childSources t k u) (rootFor t k 0) Source _ weighs)

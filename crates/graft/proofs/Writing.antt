@@ -10,11 +10,11 @@ use lib.Dec.{eqb}
 use lib.ListN.{length, getD, set, drop, length-append, length-drop}
 use lib.Seq.{sets, sets-eq, length-sets, take-at, drop-append-add, drop-drop}
 use Rattle.frames.specs.Frame.{frameSize, frames, firstChild, childCount}
-use Rattle.places.specs.Buffer.{stored}
-use Rattle.places.proofs.TopDown.{Filled, filled-root, filled-at, filled-step, visit-within}
+use Rattle.positions.specs.Buffer.{stored}
+use Rattle.positions.proofs.TopDown.{Filled, filled-root, filled-at, filled-step, visit-within}
 use Rattle.graftable.specs.Questions.{graftSize}
-use Rattle.graft.specs.Sources.{replaced, base, sources}
-use Rattle.graft.specs.Table.{firstNumber, renumbered, frameAt, laid, graftTable}
+use Rattle.graft.specs.Sources.{rootFor, base, sources}
+use Rattle.graft.specs.Table.{firstNumber, renumbered, frameAt, laidFrames, graftTable}
 use Rattle.graft.proofs.Sources.{Fitting, first-stated, second-stated, firstIn, countIn}
 use Rattle.graft.proofs.Laid.{laid-length, frame-length, result-frames, result-formed, result-next}
 use Rattle.graft.proofs.Laid.{result-source, result-count, result-child, result-root, source-same}
@@ -23,7 +23,7 @@ use Rattle.graft.proofs.Laid.{result-source, result-count, result-child
 pub record Writing (t : List ℕ) (k : ℕ) (u b₀ s₀ b s : List ℕ) (at i : ℕ) : Type 0 where
   pub listed : Filled (graftTable t k u) (λ j. getD (sources t k u) j 0) s₀ s at i
   pub long : length b ≡ length b₀
-  pub bytes : b ≡ laid t k u i ++ drop (frameSize * i) b₀
+  pub bytes : b ≡ laidFrames t k u i ++ drop (frameSize * i) b₀
 
 -- a frame laid behind those before
 laid-more : (p f b : List ℕ) (n : ℕ) → length p ≡ n → n + length f ≤ length b
@@ -45,7 +45,7 @@ module _ (t : List ℕ) (k : ℕ) (u : List ℕ) (g : Fitting t k u) where
   -- the root's source is stored
   pub writing-begins : (b s : List ℕ) (v : ℕ) → v ≡ cond (eqb 0 k) (frames t) 0 → graftSize t u ≤ length s
       → Writing t k u b (set s 0 v) b (set s 0 v) 1 0
-  unfolding replaced laid
+  unfolding rootFor laidFrames
   writing-begins b s v e h =
       record {
         listed = filled-root R (result-formed t k u g) S s v (e ∙ sym (result-root t k u g))
@@ -85,8 +85,8 @@ module _ (t : List ℕ) (k : ℕ) (u : List ℕ) (g : Fitting t k u) where
             result-frames t k u,
           )
 
-      more : laid t k u i ++ frameAt t k u i ≡ laid t k u (i + 1)
-      unfolding laid
+      more : laidFrames t k u i ++ frameAt t k u i ≡ laidFrames t k u (i + 1)
+      unfolding laidFrames
       more = rw (add-one i)
 
       -- a turn of the loop
@@ -95,7 +95,7 @@ module _ (t : List ℕ) (k : ℕ) (u : List ℕ) (g : Fitting t k u) where
           → b′ ≡ sets b (frameSize * i) (renumbered (t ++ u) x child)
           → s′ ≡ stored (λ c. cond (eqb (from + (c - at)) k) (frames t) (from + (c - at))) at (at + n - at) s
           → Writing t k u b₀ s₀ b′ s′ (at + n) (i + 1)
-      unfolding replaced laid frameAt
+      unfolding rootFor laidFrames frameAt
       writing-step from child b′ s′ q r room y z =
           let v = result-formed t k u g in
           let here = w .listed .visit .here in
@@ -110,7 +110,7 @@ module _ (t : List ℕ) (k : ℕ) (u : List ℕ) (g : Fitting t k u) where
                 let f : firstChild R i ≡ at = v .first i in-frames (omega (arith, d .from, d .to)) ∙ sym here in
                 let m : j - at < childCount R i = omega (arith, d .to, d .from) in
                 let p : firstChild R i + (j - at) ≡ j = omega (arith, d .from) in
-                ap (λ a. replaced t k (a + (j - at))) (q ∙ ap (firstIn t k u) source-is)
+                ap (λ a. rootFor t k (a + (j - at))) (q ∙ ap (firstIn t k u) source-is)
                 ∙ sym (result-child t k u g i (j - at) h m) ∙ ap S p)
                 s′ z;
             long = ap length y ∙ length-sets b (frameSize * i) (renumbered (t ++ u) x child) ∙ w .long;
@@ -118,9 +118,9 @@ module _ (t : List ℕ) (k : ℕ) (u : List ℕ) (g : Fitting t k u) where
                 (y ∙ ap₂ (λ a f. sets a (frameSize * i) f) (w .bytes)
                 (ap₂ (renumbered (t ++ u)) (source-is ∙ same)
                 (r ∙ ap₂ firstNumber (c ∙ ap (countIn t k u) (source-is ∙ same)) known-is))
-                ∙ laid-more (laid t k u i) (frameAt t k u i) b₀ (frameSize * i) (laid-length t k u i)
+                ∙ laid-more (laidFrames t k u i) (frameAt t k u i) b₀ (frameSize * i) (laid-length t k u i)
                 (omega (arith, frame-length t k u i))
-                ∙ ap (λ a. (laid t k u i ++ frameAt t k u i) ++ drop a b₀) six ∙ ap
+                ∙ ap (λ a. (laidFrames t k u i ++ frameAt t k u i) ++ drop a b₀) six ∙ ap
                 (λ a. a ++ drop (frameSize * (i + 1)) b₀) more);
           }
 
@@ -129,4 +129,4 @@ module _ (t : List ℕ) (k : ℕ) (u : List ℕ) (g : Fitting t k u) where
       → b ≡ graftTable t k u ++ drop (frameSize * graftSize t u) b₀
   writing-ends {b₀} {s₀} {b} {s} {at} {i} w h =
       let e : i ≡ graftSize t u = omega (arith, w .listed .visit .inside, result-frames t k u) in
-      w .bytes ∙ ap (λ j. laid t k u j ++ drop (frameSize * j) b₀) e
+      w .bytes ∙ ap (λ j. laidFrames t k u j ++ drop (frameSize * j) b₀) e

@@ -16,12 +16,12 @@ grafting t k u b none = graftTable t k u ++ drop (frameSize * graftSize t u) b
 grafting t k u b (some r) = b
 
 -- what a graft answers, and what the lent buffer holds then
-pub record Outcome : Type 0 where
+pub record GraftResult : Type 0 where
   pub answer : Checked
   pub result : List ℕ
 
 -- the outcome of a call with the first table, the named node, the second table and a buffer
-abbrev pub graftOutcome : (t : List ℕ) (k : ℕ) (u b : List ℕ) → Outcome
+abbrev pub graftOutcome : (t : List ℕ) (k : ℕ) (u b : List ℕ) → GraftResult
 graftOutcome t k u b =
     let q = graftRejection t k u (length b) in
     record { answer = answer (graftSize t u) q; result = grafting t k u b q }

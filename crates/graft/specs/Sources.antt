@@ -10,8 +10,8 @@ use Rattle.frames.specs.Tree.{upFrom}
 use Rattle.graftable.specs.Questions.{graftSize}
 
 -- the source s, with the second table's root in the place of the leaf k of the first
-unfoldable pub replaced : (t : List ℕ) (k : ℕ) → ℕ → ℕ
-replaced t k s = cond (eqb s k) (frames t) s
+unfoldable pub rootFor : (t : List ℕ) (k : ℕ) → ℕ → ℕ
+rootFor t k s = cond (eqb s k) (frames t) s
 
 -- the offset of the table that source s comes from
 unfoldable pub base : List ℕ → ℕ → ℕ
@@ -19,7 +19,7 @@ base t s = cond (ltb s (frames t)) 0 (frames t)
 
 -- the children of a source, from left to right
 unfoldable pub childSources : (t : List ℕ) (k : ℕ) (u : List ℕ) → ℕ → List ℕ
-childSources t k u s = map (replaced t k) (upFrom (base t s + firstChild (t ++ u) s) (childCount (t ++ u) s))
+childSources t k u s = map (rootFor t k) (upFrom (base t s + firstChild (t ++ u) s) (childCount (t ++ u) s))
 
 -- what is known of a tree in breadth-first order after i of its nodes have been visited: the root, and the children of
 -- each of these nodes in turn
@@ -29,9 +29,9 @@ breadthFirst children root (suc i) =
     breadthFirst children root i ++ children (getD (breadthFirst children root i) i 0)
 
 -- the sources that are known after i nodes of the grafted tree
-abbrev pub known : (t : List ℕ) (k : ℕ) (u : List ℕ) → ℕ → List ℕ
-known t k u i = breadthFirst (childSources t k u) (replaced t k 0) i
+abbrev pub knownSources : (t : List ℕ) (k : ℕ) (u : List ℕ) → ℕ → List ℕ
+knownSources t k u i = breadthFirst (childSources t k u) (rootFor t k 0) i
 
 -- the sources of the grafted tree's nodes, in breadth-first order
 abbrev pub sources : (t : List ℕ) (k : ℕ) (u : List ℕ) → List ℕ
-sources t k u = known t k u (graftSize t u)
+sources t k u = knownSources t k u (graftSize t u)

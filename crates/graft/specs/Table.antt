@@ -4,7 +4,7 @@ use mathlib.Core.List.{List, [], _∷_, _++_}
 use lib.ListN.{length, getD}
 use Rattle.frames.specs.Frame.{byteOf, childCount}
 use Rattle.graftable.specs.Questions.{graftSize}
-use Rattle.graft.specs.Sources.{known}
+use Rattle.graft.specs.Sources.{knownSources}
 
 -- the first child of a node with so many children, which are numbered from `next` on: a leaf's is 0
 abbrev pub firstNumber : (count next : ℕ) → ℕ
@@ -17,19 +17,19 @@ renumbered b s first = first / 256 ∷ first % 256 ∷ byteOf b s 2 ∷ byteOf b
 
 -- the source of node i
 abbrev pub sourceAt : (t : List ℕ) (k : ℕ) (u : List ℕ) → ℕ → ℕ
-sourceAt t k u i = getD (known t k u i) i 0
+sourceAt t k u i = getD (knownSources t k u i) i 0
 
 -- its frame: its children are the next to become known
 unfoldable pub frameAt : (t : List ℕ) (k : ℕ) (u : List ℕ) → ℕ → List ℕ
 frameAt t k u i =
     renumbered (t ++ u) (sourceAt t k u i)
-    (firstNumber (childCount (t ++ u) (sourceAt t k u i)) (length (known t k u i)))
+    (firstNumber (childCount (t ++ u) (sourceAt t k u i)) (length (knownSources t k u i)))
 
 -- the frames of the first i nodes
-unfoldable pub laid : (t : List ℕ) (k : ℕ) (u : List ℕ) → ℕ → List ℕ
-laid t k u zero = []
-laid t k u (suc i) = laid t k u i ++ frameAt t k u i
+unfoldable pub laidFrames : (t : List ℕ) (k : ℕ) (u : List ℕ) → ℕ → List ℕ
+laidFrames t k u zero = []
+laidFrames t k u (suc i) = laidFrames t k u i ++ frameAt t k u i
 
 -- the table of the first tree with the second in the place of the leaf k
 abbrev pub graftTable : (t : List ℕ) (k : ℕ) (u : List ℕ) → List ℕ
-graftTable t k u = laid t k u (graftSize t u)
+graftTable t k u = laidFrames t k u (graftSize t u)

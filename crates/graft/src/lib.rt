@@ -6,7 +6,7 @@ use frames::child_count;
 use frames::first_child;
 use frames::frame_count;
 use graftable::ask;
-use places::SMALL;
+use positions::SMALL_TABLE;
 ghost use mathlib.Core.Path.{_≡_};
 ghost use mathlib.Core.List.{_++_};
 ghost use mathlib.Core.Bool.{cond};
@@ -15,7 +15,7 @@ ghost use lib.Dec.{eqb};
 ghost use lib.ListN.{length, drop};
 ghost use lib.Seq.{sets};
 ghost use Rattle.frames.specs.Frame.{frameSize, maxNodes, twoBytes, frames, firstChild, childCount};
-ghost use Rattle.places.specs.Buffer.{stored};
+ghost use Rattle.positions.specs.Buffer.{stored};
 ghost use Rattle.graftable.specs.Questions.{graftSize};
 ghost use Rattle.graftable.specs.Graftable.{Graftable};
 ghost use Rattle.graft.specs.Sources.{base};
@@ -44,8 +44,8 @@ fn write(first: &[u8], node: usize, second: &[u8], result: &mut [u8], size: usiz
     ensures { λ _. ⌜ now (result .exit) ≡ graftTable (now (first .entry)) node (now (second .entry))
         ++ drop (frameSize * size) (now (result .entry)) ⌝ }
 {
-    if size <= SMALL {
-        let mut sources = [0u32; SMALL];
+    if size <= SMALL_TABLE {
+        let mut sources = [0u32; SMALL_TABLE];
         write_frames(first, node, second, result, &mut sources, size);
         return;
     }

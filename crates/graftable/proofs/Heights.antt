@@ -6,11 +6,11 @@ use native.Mathlib.Decide.{decLt}
 use mathlib.Core.Path.{_≡_, ap}
 use mathlib.Core.List.{List}
 use Rattle.frames.specs.Frame.{frames}
-use Rattle.frames.specs.Place.{parentOf, depthOf}
+use Rattle.frames.specs.Position.{parentOf, depthOf}
 use Rattle.frames.specs.Formed.{WellFormed}
 use Rattle.frames.proofs.Next.{next-mono, child-next}
 use Rattle.frames.proofs.Parents.{parent-less, parent-child}
-use Rattle.frames.proofs.Places.{place-root, depth-child}
+use Rattle.frames.proofs.Positions.{position-root, depth-child}
 use Rattle.graftable.specs.Questions.{deepest}
 
 -- no node is deeper
@@ -47,7 +47,7 @@ module _ (t : List ℕ) (wf : WellFormed t) where
 
   within-mono : (n i j : ℕ) → j < n → i ≤ j → j < frames t → depthOf t i ≤ depthOf t j
   within-mono zero i j b l h = absurd (omega arith)
-  within-mono (suc n) zero j b l h = omega (arith, ap (λ p. p .depth) (place-root t))
+  within-mono (suc n) zero j b l h = omega (arith, ap (λ p. p .depth) (position-root t))
   within-mono (suc n) (suc i) j b l h =
       let p = parent-child t wf (suc i) (omega arith) (omega arith) in
       let q = parent-child t wf j (omega arith) h in
@@ -68,7 +68,7 @@ module _ (t : List ℕ) (wf : WellFormed t) where
   last-deepest =
       omega (
         arith,
-        deepest-at t (frames t - 1) (frames t) (omega (arith, wf .some)),
+        deepest-at t (frames t - 1) (frames t) (omega (arith, wf .nonEmpty)),
         deepest-most t (depthOf t (frames t - 1)) (frames t)
             (λ v h. depth-mono v (frames t - 1) (omega arith) (omega arith)),
       )

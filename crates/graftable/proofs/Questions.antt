@@ -13,7 +13,7 @@ use Rattle.gametree.specs.declared.Side.the-variants.{Max, Min}
 use Rattle.gametree.specs.Certificate.{same}
 use Rattle.frames.specs.declared.Rejection.{Rejection}
 use Rattle.frames.specs.Frame.{frameSize, maxNodes, maxDepth, frames, childCount}
-use Rattle.frames.specs.Place.{depthOf, sideOf}
+use Rattle.frames.specs.Position.{depthOf, sideOf}
 use Rattle.frames.specs.Check.{rejection, Accepted}
 use Rattle.frames.proofs.Stated.{ask-yes, both-passed}
 use Rattle.frames.proofs.Acceptance.{accepted-formed}
@@ -113,7 +113,7 @@ module _ (t : List ℕ) (k : ℕ) (u : List ℕ) (room : ℕ) where
           first = a .0;
           second = b .0;
           leaf = max-leaf t k (ask-yes _ 17 k (c .0));
-          few = leb-true (graftSize t u) maxNodes (s .0);
+          atMost = leb-true (graftSize t u) maxNodes (s .0);
           shallow = λ v w. omega (arith, deepest-at u v (frames u) w);
         },
         leb-true (frameSize * graftSize t u) room (ask-yes _ 10 0 (d .1)),
@@ -122,7 +122,7 @@ module _ (t : List ℕ) (k : ℕ) (u : List ℕ) (room : ℕ) where
   -- and the other way round, up to the room
   pub graftable-deepest : Graftable t k u → depthOf t k + deepest u (frames u) ≤ maxDepth
   graftable-deepest g =
-      let h = g .shallow 0 (accepted-formed u (g .second) .some) in
+      let h = g .shallow 0 (accepted-formed u (g .second) .nonEmpty) in
       omega (
         arith,
         deepest-most u (maxDepth - depthOf t k) (frames u) (λ v l. omega (arith, g .shallow v l)),

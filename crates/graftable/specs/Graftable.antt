@@ -4,7 +4,7 @@ use mathlib.Core.Path.{_≡_}
 use mathlib.Core.List.{List}
 use Rattle.gametree.specs.declared.Side.the-variants.{Max}
 use Rattle.frames.specs.Frame.{maxNodes, maxDepth, frames, childCount}
-use Rattle.frames.specs.Place.{depthOf, sideOf}
+use Rattle.frames.specs.Position.{depthOf, sideOf}
 use Rattle.frames.specs.Check.{Accepted}
 use Rattle.graftable.specs.Questions.{graftSize}
 
@@ -19,5 +19,5 @@ pub record Graftable (t : List ℕ) (k : ℕ) (u : List ℕ) : Type 0 where
   pub first : Accepted t
   pub second : Accepted u
   pub leaf : MaxLeaf t k
-  pub few : graftSize t u ≤ maxNodes
+  pub atMost : graftSize t u ≤ maxNodes
   pub shallow : (v : ℕ) → v < frames u → depthOf t k + depthOf u v ≤ maxDepth

@@ -8,7 +8,7 @@ use Rattle.gametree.specs.declared.Side.the-variants.{Max}
 use Rattle.gametree.specs.Certificate.{same}
 use Rattle.frames.specs.declared.Rejection.{Rejection}
 use Rattle.frames.specs.Frame.{frameSize, maxNodes, maxDepth, frames, childCount}
-use Rattle.frames.specs.Place.{depthOf, sideOf}
+use Rattle.frames.specs.Position.{depthOf, sideOf}
 use Rattle.frames.specs.Rejection.{ask, _andThen_}
 use Rattle.frames.specs.Check.{rejection}
 

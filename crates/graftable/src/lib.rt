@@ -8,10 +8,10 @@ use frames::child_count;
 use frames::frame_count;
 use frames::rejected;
 use gametree::Side;
-use places::SMALL;
-use places::depth_at;
-use places::fill;
-use places::side_at;
+use positions::SMALL_TABLE;
+use positions::depth_at;
+use positions::fill;
+use positions::side_at;
 use tables::check;
 ghost use mathlib.Core.Path.{_≡_};
 ghost use Prim.Native.Nat.{_<_, _≤_};
@@ -21,7 +21,7 @@ ghost use Rattle.gametree.specs.Certificate.{same};
 ghost use Rattle.frames.specs.Frame.{maxNodes, frames};
 ghost use Rattle.frames.specs.Formed.{WellFormed};
 ghost use Rattle.frames.specs.Rejection.{answer};
-ghost use Rattle.places.specs.engine.Places.{Placed};
+ghost use Rattle.positions.specs.engine.Positions.{Positioned};
 ghost use Rattle.graftable.specs.Questions.{graftSize, isMaxLeaf, deepest, leafRejection, graftRejection};
 
 // The numbers of the questions about a graft, by what a "no" means (SPEC 4.2).
@@ -51,30 +51,36 @@ fn ask_leaf(first: &[u8], node: usize, second: &[u8], room: usize) -> Checked
     ensures { λ r. ⌜ r ≡ answer (graftSize (now (first .entry)) (now (second .entry)))
         (leafRejection (now (first .entry)) node (now (second .entry)) room) ⌝ }
 {
-    if frame_count(first) + frame_count(second) <= SMALL {
-        let mut places = [0u32; SMALL];
-        return ask_leaf_in(first, node, second, &mut places, room);
+    if frame_count(first) + frame_count(second) <= SMALL_TABLE {
+        let mut positions = [0u32; SMALL_TABLE];
+        return ask_leaf_in(first, node, second, &mut positions, room);
     }
-    let mut places = [0u32; MAX_NODES];
-    ask_leaf_in(first, node, second, &mut places, room)
+    let mut positions = [0u32; MAX_NODES];
+    ask_leaf_in(first, node, second, &mut positions, room)
 }
 
-// The same, over a work array for the places of the nodes of one table and then of the other.
-fn ask_leaf_in(first: &[u8], node: usize, second: &[u8], places: &mut [u32], room: usize) -> Checked
+// The same, over a work array for the positions of the nodes of one table and then of the other.
+fn ask_leaf_in(
+    first: &[u8],
+    node: usize,
+    second: &[u8],
+    positions: &mut [u32],
+    room: usize,
+) -> Checked
     requires { ⌜ WellFormed (now first) × WellFormed (now second) ⌝ }
-    requires { ⌜ (frames (now first) ≤ length (now places)) × (frames (now second) ≤ length (now places)) ⌝ }
+    requires { ⌜ (frames (now first) ≤ length (now positions)) × (frames (now second) ≤ length (now positions)) ⌝ }
     ensures { λ r. ⌜ r ≡ answer (graftSize (now (first .entry)) (now (second .entry)))
         (leafRejection (now (first .entry)) node (now (second .entry)) room) ⌝ }
 {
-    fill(first, places);
-    if !is_max_leaf(first, places, node) {
+    fill(first, positions);
+    if !is_max_leaf(first, positions, node) {
         return rejected(NO_MAX_LEAF, node);
     }
     let size = frame_count(first) + frame_count(second) - 1;
     if MAX_NODES < size {
         return rejected(TOO_LARGE, 0);
     }
-    let depth = depth_at(places, node) + height(second, places);
+    let depth = depth_at(positions, node) + height(second, positions);
     if MAX_DEPTH < depth as usize {
         return rejected(TOO_LARGE, 0);
     }
@@ -85,8 +91,8 @@ fn ask_leaf_in(first: &[u8], node: usize, second: &[u8], places: &mut [u32], roo
 }
 
 // Is this node a leaf with Max to move?
-fn is_max_leaf(table: &[u8], places: &[u32], node: usize) -> bool
-    requires { ⌜ Placed (now table) (now places) ⌝ }
+fn is_max_leaf(table: &[u8], positions: &[u32], node: usize) -> bool
+    requires { ⌜ Positioned (now table) (now positions) ⌝ }
     ensures { λ r. ⌜ r ≡ isMaxLeaf (now (table .entry)) node ⌝ }
 {
     if frame_count(table) <= node {
@@ -95,7 +101,7 @@ fn is_max_leaf(table: &[u8], places: &[u32], node: usize) -> bool
     if child_count(table, node) != 0 {
         return false;
     }
-    let side = side_at(places, node);
+    let side = side_at(positions, node);
     is_max(side)
 }
 
@@ -110,10 +116,10 @@ fn is_max(side: Side) -> bool
 }
 
 // The greatest depth of a node: in breadth-first order that of the last one.
-fn height(table: &[u8], places: &mut [u32]) -> u32
-    requires { ⌜ (WellFormed (now table)) × (frames (now table) ≤ length (now places)) ⌝ }
+fn height(table: &[u8], positions: &mut [u32]) -> u32
+    requires { ⌜ (WellFormed (now table)) × (frames (now table) ≤ length (now positions)) ⌝ }
     ensures { λ r. ⌜ (r ≡ deepest (now (table .entry)) (frames (now (table .entry)))) × (r < maxNodes) ⌝ }
 {
-    fill(table, places);
-    depth_at(places, frame_count(table) - 1)
+    fill(table, positions);
+    depth_at(positions, frame_count(table) - 1)
 }

@@ -7,7 +7,7 @@ use Rattle.frames.specs.declared.Checked.{Checked}
 use Rattle.lines.specs.Line.{lineSize}
 use Rattle.reader.specs.File.{tableAfter}
 use Rattle.writer.specs.Write.{writeOutcome}
-use Rattle.graft.specs.Outcome.{Outcome, graftOutcome}
+use Rattle.graft.specs.Outcome.{GraftResult, graftOutcome}
 use Rattle.tablecalls.specs.Sizes.{framesSize}
 use Rattle.tablecalls.specs.Buffers.{tableRoom, filledWith, front}
 use Rattle.graftcalls.specs.Grafts.{tableOf, graftResult, graftSaved, graftingSaved, SavedAs}

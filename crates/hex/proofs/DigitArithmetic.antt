@@ -87,7 +87,7 @@ all-right = refl
 
 -- what the arithmetic of `digit` needs, and gives
 pub record Right (figure letter b : ℕ) : Type 0 where
-  pub few : figure + letter ≤ 1
+  pub atMost : figure + letter ≤ 1
   pub number :
       b % noDigit + letterMore * letter + (noDigit - b % noDigit) * (1 - (figure + letter)) ≡ digitOf b
 
@@ -96,4 +96,4 @@ pub digit-right : (b figure upper lower : ℕ) → b < 256 → figure ≡ oneWit
 unfolding right
 digit-right b figure upper lower h e f g =
     let p = and-both _ _ (every-at right 256 all-right b h) in
-    rw (e, f, g) (record { few = leb-true _ _ (p .0); number = eqb-true _ _ (p .1) })
+    rw (e, f, g) (record { atMost = leb-true _ _ (p .0); number = eqb-true _ _ (p .1) })

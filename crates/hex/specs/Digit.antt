@@ -7,9 +7,9 @@ use lib.Dec.{ltb, leb}
 abbrev pub within : ℕ → ℕ → ℕ → Bool
 within a z b = leb a b && leb b z
 
--- is the byte a small letter, a to f
-abbrev pub isSmall : ℕ → Bool
-isSmall b = within 97 102 b
+-- is the byte a lowercase letter, a to f
+abbrev pub isLowercase : ℕ → Bool
+isLowercase b = within 97 102 b
 
 -- is it a digit from 0 to 9 or from A to F
 abbrev pub isCapitalDigit : ℕ → Bool

@@ -1,7 +1,7 @@
 // Hexadecimal digits: the number of a digit, and the digit of a number.
 ghost use mathlib.Core.Path.{_≡_};
 ghost use Prim.Native.Nat.{_<_, _≤_};
-ghost use Rattle.hex.specs.Digit.{isSmall, noDigit, digitOf, capitalOf};
+ghost use Rattle.hex.specs.Digit.{isLowercase, noDigit, digitOf, capitalOf};
 ghost use Rattle.hex.specs.engine.Kinds.{oneFrom, oneWithin};
 
 // How many digits there are, and how many of them are figures.
@@ -61,8 +61,8 @@ pub fn capital(number: u8) -> u8
 }
 
 // Is the byte a letter from a to f?
-pub fn is_small(byte: u8) -> bool
-    ensures { λ r. ⌜ r ≡ isSmall byte ⌝ }
+pub fn is_lowercase(byte: u8) -> bool
+    ensures { λ r. ⌜ r ≡ isLowercase byte ⌝ }
 {
     b'a' <= byte && byte <= b'f'
 }

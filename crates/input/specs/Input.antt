@@ -6,6 +6,6 @@ use Rattle.input.specs.declared.Input.{Input}
 use Rattle.input.specs.declared.Input.the-variants.{Bytes, Failed}
 
 -- no more bytes are reported than the buffer has
-abbrev pub Fits : List ℕ → Input → Type 0
-Fits file (Bytes size) = size ≤ length file
-Fits file Failed = Unit {0}
+abbrev pub InputFits : List ℕ → Input → Type 0
+InputFits file (Bytes size) = size ≤ length file
+InputFits file Failed = Unit {0}

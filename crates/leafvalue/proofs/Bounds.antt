@@ -16,7 +16,7 @@ use Rattle.gametree.proofs.minimax.Grafts.{minimax-same}
 use Rattle.gametree.proofs.minimax.OneLeaf.{low-high, median}
 use Rattle.gametree.specs.AlphaBeta.{clamp}
 use Rattle.frames.specs.Frame.{maxDepth, frames, childCount}
-use Rattle.frames.specs.Place.{depthOf}
+use Rattle.frames.specs.Position.{depthOf}
 use Rattle.frames.specs.Tree.{tree, valuation, leafScore}
 use Rattle.frames.specs.Formed.{WellFormed}
 use Rattle.frames.specs.Check.{Accepted}
@@ -25,7 +25,7 @@ use Rattle.frames.proofs.Proper.{every-leaf}
 use Rattle.frames.proofs.Worth.{score-kept}
 use Rattle.bounds.specs.Marks.{marked}
 use Rattle.bounds.specs.engine.Bounds.{boundOf}
-use Rattle.leafvalue.specs.Wanted.{isLeaf, rootScore, firstScore, scoreCount, smallest}
+use Rattle.leafvalue.specs.LeastValue.{isLeaf, rootScore, firstScore, scoreCount, smallest}
 use Rattle.leafvalue.specs.engine.Candidates.{candidate, held}
 use Rattle.leafvalue.proofs.First.{first-same}
 use Rattle.leafvalue.proofs.Candidates.{candidate-below, candidate-smallest}
@@ -44,7 +44,7 @@ root-bound t wf k e r f x =
     elim (ℕ-discrete i k) [
       | yes z ↦ rw (z, getD-set-same e k 0 0 r, eq-eqb k k refl)
       | no z ↦ rw (getD-set-other e k i 0 0 z, f i h, ne-eqb i k z)
-    ]) 0 (wf .some))
+    ]) 0 (wf .nonEmpty))
 
 -- the root's score for the least and the greatest score of node k
 abbrev pub low : (t : List ℕ) (k : ℕ) → ℕ

@@ -13,7 +13,7 @@ use Rattle.gametree.specs.AlphaBeta.{clamp}
 use Rattle.frames.specs.Frame.{maxDepth}
 use Rattle.frames.specs.Tree.{won, lost, leafScore}
 use Rattle.frames.proofs.Worth.{score-won, score-lost, score-other}
-use Rattle.leafvalue.specs.Wanted.{firstFrom, firstScore, scoreCount}
+use Rattle.leafvalue.specs.LeastValue.{firstFrom, firstScore, scoreCount}
 use Rattle.leafvalue.specs.engine.Candidates.{reaches, candidate, held}
 use Rattle.leafvalue.proofs.First.{first-found, none-found}
 

@@ -7,12 +7,12 @@ use mathlib.Core.List.{List, map}
 use lib.IntN.{ℤ}
 use Rattle.frames.specs.declared.Rejection.{Rejection}
 use Rattle.frames.specs.Frame.{next}
-use Rattle.frames.specs.Place.{depthOf, parentBefore, placeWithin, placeOf}
-use Rattle.frames.specs.Tree.{kidsFrom, grow, treeAt, valuation}
+use Rattle.frames.specs.Position.{depthOf, parentBefore, positionWithin, positionOf}
+use Rattle.frames.specs.Tree.{childrenFrom, grow, treeAt, valuation}
 use Rattle.frames.specs.Rejection.{eachNode}
 use Rattle.frames.specs.Check.{framesRejection, rejection}
-use Rattle.leafvalue.specs.declared.Needed.{Needed}
-use Rattle.leafvalue.specs.Wanted.{smallest, scoreOf, found, unless, valueRejection, needed}
+use Rattle.leafvalue.specs.declared.LeastValue.{LeastValue}
+use Rattle.leafvalue.specs.LeastValue.{smallest, wantedScore, answerFor, unless, valueRejection, leastValue}
 use Rattle.leafvalue.specs.engine.Candidates.{candidate, held}
 use Rattle.leafvalue.specs.results.Cases.{cases}
 use Rattle.leafvalue.proofs.Values.{score-range}
@@ -21,27 +21,27 @@ use Rattle.leafvalue.proofs.Theorems.{asked}
 
 module _ (t : List ℕ) (k : ℕ) (w : ℤ) where
   -- the answer by the candidates
-  abbrev computed : Needed
-  computed = unless (valueRejection t k w) (found k (held (candidate (low t k) (high t k) (depthOf t k) (scoreOf w))))
+  abbrev computed : LeastValue
+  computed = unless (valueRejection t k w) (answerFor k (held (candidate (low t k) (high t k) (depthOf t k) (wantedScore w))))
 
-  by-candidates : needed t k w ≡ computed
-  unfolding needed
+  by-candidates : leastValue t k w ≡ computed
+  unfolding leastValue
   by-candidates = by (valueRejection t k w) refl
     where
       by : (q : Option Rejection) → valueRejection t k w ≡ q
-          → unless q (found k (smallest t k (scoreOf w)))
-          ≡ unless q (found k (held (candidate (low t k) (high t k) (depthOf t k) (scoreOf w))))
+          → unless q (answerFor k (smallest t k (wantedScore w)))
+          ≡ unless q (answerFor k (held (candidate (low t k) (high t k) (depthOf t k) (wantedScore w))))
       by (some r) e = refl
       by none e =
           let a = asked t k w e in
-          ap (found k) (sym (smallest-candidate t (a .accepted) k (a .leaf .inside) (scoreOf w)
+          ap (answerFor k) (sym (smallest-candidate t (a .accepted) k (a .leaf .inside) (wantedScore w)
           (score-range w (a .ranged))))
 
 computed-answers : map (λ c. computed (c .table) (c .node) (c .wanted)) cases ≡ map (λ c. c .answer) cases
-unfolding next parentBefore placeWithin placeOf kidsFrom grow treeAt valuation eachNode framesRejection rejection
+unfolding next parentBefore positionWithin positionOf childrenFrom grow treeAt valuation eachNode framesRejection rejection
 computed-answers = refl
 
 -- each case gets its answer
-pub small-answers : map (λ c. needed (c .table) (c .node) (c .wanted)) cases ≡ map (λ c. c .answer) cases
+pub small-answers : map (λ c. leastValue (c .table) (c .node) (c .wanted)) cases ≡ map (λ c. c .answer) cases
 small-answers =
     ap (λ f. map f cases) (fun-ext (λ c. by-candidates (c .table) (c .node) (c .wanted))) ∙ computed-answers

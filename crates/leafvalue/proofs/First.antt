@@ -6,7 +6,7 @@ use mathlib.Core.Path.{_≡_, refl}
 use mathlib.Core.Bool.{Bool, true, false, cond}
 use mathlib.Core.Option.{none, some}
 use Rattle.lists.proofs.Choice.{clash}
-use Rattle.leafvalue.specs.Wanted.{firstFrom}
+use Rattle.leafvalue.specs.LeastValue.{firstFrom}
 
 -- s is the first of the n numbers from i on that passes the test f
 pub record First (f : ℕ → Bool) (i n s : ℕ) : Type 0 where

@@ -12,7 +12,7 @@ use Rattle.gametree.specs.Tree.{minimax}
 use Rattle.gametree.specs.Graft.{substituted}
 use Rattle.gametree.proofs.minimax.Grafts.{minimax-same}
 use Rattle.frames.specs.Frame.{frames, storedScore}
-use Rattle.frames.specs.Place.{depthOf}
+use Rattle.frames.specs.Position.{depthOf}
 use Rattle.frames.specs.Tree.{tree, valuation, leafScore}
 use Rattle.frames.specs.Value.{valueOf}
 use Rattle.frames.specs.Formed.{WellFormed}
@@ -20,9 +20,9 @@ use Rattle.frames.specs.Check.{Accepted}
 use Rattle.frames.specs.results.Leaf.{Leaf}
 use Rattle.frames.proofs.Acceptance.{accepted-formed}
 use Rattle.frames.proofs.Proper.{every-leaf}
-use Rattle.frames.proofs.Shapes.{same-place, same-score, same-tree}
-use Rattle.leafvalue.specs.Wanted.{isLeaf, check20, rootScore, firstScore, scoreCount, smallest, scoreOf}
-use Rattle.leafvalue.specs.Wanted.{found, unless, needed}
+use Rattle.frames.proofs.Shapes.{same-position, same-score, same-tree}
+use Rattle.leafvalue.specs.LeastValue.{isLeaf, check20, rootScore, firstScore, scoreCount, smallest, wantedScore}
+use Rattle.leafvalue.specs.LeastValue.{answerFor, unless, leastValue}
 use Rattle.leafvalue.specs.results.Root.{rootValue, SameBut, heldValue}
 use Rattle.leafvalue.proofs.First.{first-same}
 use Rattle.leafvalue.proofs.Values.{score-again}
@@ -47,9 +47,9 @@ module _ (t u : List ℕ) (k : ℕ) (d : SameBut t u k) (a : Accepted t) (b : Ac
       elim (ℕ-discrete i k) [
         | yes z ↦ rw (eq-eqb i k z)
         | no z ↦ rw (ne-eqb i k z) (same-score t u (d .shape) i l (d .others i l z))
-      ]) 0 (wt .some))
+      ]) 0 (wt .nonEmpty))
       ∙ ap₂ (λ e T. minimax (substituted (valuation u) k (leafScore e s)) T)
-      (ap (λ p. p .depth) (same-place t u (d .shape) k h)) (same-tree t u (d .shape) wt wu)
+      (ap (λ p. p .depth) (same-position t u (d .shape) k h)) (same-tree t u (d .shape) wt wu)
 
   -- it is the value of the table that holds it
   pub root-held : k < frames t → minimax (valuation u) (tree u) ≡ rootScore t k (storedScore u k)
@@ -60,7 +60,7 @@ module _ (t u : List ℕ) (k : ℕ) (d : SameBut t u k) (a : Accepted t) (b : Ac
       elim (ℕ-discrete i k) [
         | yes z ↦ rw (eq-eqb i k z, z)
         | no z ↦ rw (ne-eqb i k z)
-      ]) 0 (wu .some))
+      ]) 0 (wu .nonEmpty))
       ∙ sym (same-root h (storedScore u k))
 
   pub value-held : Leaf t k → valueOf (minimax (valuation u) (tree u)) ≡ rootValue t k (heldValue u k)
@@ -83,7 +83,7 @@ module _ (t u : List ℕ) (k : ℕ) (d : SameBut t u k) (a : Accepted t) (b : Ac
       ]
 
   -- so the answer is the same
-  pub same-answer : (w : ℤ) → needed t k w ≡ needed u k w
+  pub same-answer : (w : ℤ) → leastValue t k w ≡ leastValue u k w
   unfolding smallest
   same-answer w =
       table-accepted t k w a ∙ by (isLeaf t k) refl ∙ sym (table-accepted u k w b)
@@ -91,6 +91,6 @@ module _ (t u : List ℕ) (k : ℕ) (d : SameBut t u k) (a : Accepted t) (b : Ac
       by : (c : Bool) → isLeaf t k ≡ c → due t k w ≡ due u k w
       by true e =
           rw (e, sym same-test ∙ e)
-          (ap (λ o. unless (check20 w) (found k o)) (first-same _ _ firstScore scoreCount (λ s p q.
-          ap (λ r. eqb r (scoreOf w)) (same-root (leaf-is t k e .0) s))))
+          (ap (λ o. unless (check20 w) (answerFor k o)) (first-same _ _ firstScore scoreCount (λ s p q.
+          ap (λ r. eqb r (wantedScore w)) (same-root (leaf-is t k e .0) s))))
       by false e = no-leaf t k w e ∙ sym (no-leaf u k w (sym same-test ∙ e))

@@ -15,7 +15,7 @@ use Rattle.gametree.specs.Tree.{Score}
 use Rattle.gametree.proofs.minimax.Bounds.{minimax-score}
 use Rattle.frames.specs.declared.Rejection.{Rejection}
 use Rattle.frames.specs.Frame.{frames, childCount}
-use Rattle.frames.specs.Place.{depthOf}
+use Rattle.frames.specs.Position.{depthOf}
 use Rattle.frames.specs.Tree.{tree}
 use Rattle.frames.specs.Value.{valueOf, maxValue}
 use Rattle.frames.specs.Check.{rejection, Accepted}
@@ -25,10 +25,10 @@ use Rattle.frames.proofs.Acceptance.{accepted-formed}
 use Rattle.frames.proofs.Values.{value-range}
 use Rattle.frames.proofs.Proper.{every-leaf, leaf-scored}
 use Rattle.frames.proofs.Worth.{score-kept}
-use Rattle.leafvalue.specs.declared.Needed.{Needed}
-use Rattle.leafvalue.specs.declared.Needed.the-variants.{Value, Rejected}
-use Rattle.leafvalue.specs.Wanted.{isLeaf, check19, check20, rootScore, firstScore, scoreCount, smallest, scoreOf}
-use Rattle.leafvalue.specs.Wanted.{found, unless, valueRejection, needed}
+use Rattle.leafvalue.specs.declared.LeastValue.{LeastValue}
+use Rattle.leafvalue.specs.declared.LeastValue.the-variants.{Value, Rejected}
+use Rattle.leafvalue.specs.LeastValue.{isLeaf, check19, check20, rootScore, firstScore, scoreCount, smallest, wantedScore}
+use Rattle.leafvalue.specs.LeastValue.{answerFor, unless, valueRejection, leastValue}
 use Rattle.leafvalue.specs.results.Root.{rootValue}
 use Rattle.leafvalue.proofs.First.{found-first, found-none, none-found}
 use Rattle.leafvalue.proofs.Values.{score-range, score-value, score-again, same-scores, smaller}
@@ -43,22 +43,22 @@ pub test-leaf : (t : List ℕ) (k : ℕ) → isLeaf t k ≡ true → Leaf t k
 test-leaf t k e = let b = leaf-is t k e in record { inside = b .0; childless = b .1 }
 
 -- an answer is the earlier "no", or what is found
-unless-value : (q : Option Rejection) (a : Needed) (v : ℤ) → unless q a ≡ Value v → (q ≡ none) × (a ≡ Value v)
+unless-value : (q : Option Rejection) (a : LeastValue) (v : ℤ) → unless q a ≡ Value v → (q ≡ none) × (a ≡ Value v)
 unless-value none a v e = (refl, e)
 unless-value (some r) a v e = clash (cc)
 
-found-some : (k : ℕ) (o : Option ℕ) (v : ℤ) → found k o ≡ Value v → (s : ℕ) × (o ≡ some s) × (valueOf s ≡ v)
+found-some : (k : ℕ) (o : Option ℕ) (v : ℤ) → answerFor k o ≡ Value v → (s : ℕ) × (o ≡ some s) × (valueOf s ≡ v)
 found-some k none v e = clash (cc)
 found-some k (some s) v e = (s, refl, cc)
 
 -- the number of a rejection, and its place
-abbrev numberOf : Needed → ℕ
+abbrev numberOf : LeastValue → ℕ
 numberOf (Value v) = 0
 numberOf (Rejected r) = r .number
 
-abbrev placeOf : Needed → ℕ
-placeOf (Value v) = 0
-placeOf (Rejected r) = r .place
+abbrev positionOf : LeastValue → ℕ
+positionOf (Value v) = 0
+positionOf (Rejected r) = r .place
 
 module _ (t : List ℕ) (k : ℕ) (w : ℤ) where
   -- what holds once 1 to 9, 19 and 20 have passed
@@ -78,7 +78,7 @@ module _ (t : List ℕ) (k : ℕ) (w : ℤ) where
       }
 
   -- then the answer is what is found
-  pub asked-found : Asked → needed t k w ≡ found k (smallest t k (scoreOf w))
+  pub asked-found : Asked → leastValue t k w ≡ answerFor k (smallest t k (wantedScore w))
   asked-found a =
       table-accepted t k w (a .accepted)
       ∙ in-range t k w (leaf-test t k (a .leaf)) (le-leb _ _ (a .ranged))
@@ -92,36 +92,36 @@ module _ (t : List ℕ) (k : ℕ) (w : ℤ) where
         let d = leaf-shallow t (a .accepted) k (a .leaf .inside) in
         minimax-score _ (tree t) (every-leaf t wf _ (λ i l c.
         cond-cases Score (eqb i k) _ _ (λ e. score-kept (depthOf t k) s (omega arith) h)
-        (λ e. leaf-scored t wf i l c)) 0 (wf .some))
+        (λ e. leaf-scored t wf i l c)) 0 (wf .nonEmpty))
 
     -- a score passes the test exactly if it gives the root the wanted value
     pub reached : (s : ℕ) → Score s
-        → (eqb (rootScore t k s) (scoreOf w) ≡ true) ↔ (valueOf (rootScore t k s) ≡ w)
+        → (eqb (rootScore t k s) (wantedScore w) ≡ true) ↔ (valueOf (rootScore t k s) ≡ w)
     reached s h = (
-      λ e. ap valueOf (eqb-true (rootScore t k s) (scoreOf w) e) ∙ score-value w (a .ranged),
-      λ e. eq-eqb (rootScore t k s) (scoreOf w)
-          (same-scores (rootScore t k s) (scoreOf w) (root-scored s h) (score-range w (a .ranged))
+      λ e. ap valueOf (eqb-true (rootScore t k s) (wantedScore w) e) ∙ score-value w (a .ranged),
+      λ e. eq-eqb (rootScore t k s) (wantedScore w)
+          (same-scores (rootScore t k s) (wantedScore w) (root-scored s h) (score-range w (a .ranged))
           (e ∙ sym (score-value w (a .ranged)))),
     )
 
     -- where a value does, one is given
-    pub value-exists : (u : ℤ) → natAbs u ≤ maxValue → rootValue t k u ≡ w → (v : ℤ) × (needed t k w ≡ Value v)
+    pub value-exists : (u : ℤ) → natAbs u ≤ maxValue → rootValue t k u ≡ w → (v : ℤ) × (leastValue t k w ≡ Value v)
     unfolding smallest
-    value-exists u h e = by (smallest t k (scoreOf w)) refl
+    value-exists u h e = by (smallest t k (wantedScore w)) refl
       where
-        by : (o : Option ℕ) → smallest t k (scoreOf w) ≡ o → (v : ℤ) × (needed t k w ≡ Value v)
-        by (some s) p = (valueOf s, asked-found a ∙ ap (found k) p)
+        by : (o : Option ℕ) → smallest t k (wantedScore w) ≡ o → (v : ℤ) × (leastValue t k w ≡ Value v)
+        by (some s) p = (valueOf s, asked-found a ∙ ap (answerFor k) p)
         by none p =
             let i = score-range u h in
-            absurd (true-not-false (reached (scoreOf u) i .1 e)
-            (found-none _ firstScore scoreCount p (scoreOf u) (i .0) (omega (arith, i .1))))
+            absurd (true-not-false (reached (wantedScore u) i .1 e)
+            (found-none _ firstScore scoreCount p (wantedScore u) (i .0) (omega (arith, i .1))))
 
     -- where none does, 21 is given
-    pub none-exists : ((u : ℤ) → natAbs u ≤ maxValue → rootValue t k u ≡ w → ⊥) → needed t k w ≡ refused 21 k
+    pub none-exists : ((u : ℤ) → natAbs u ≤ maxValue → rootValue t k u ≡ w → ⊥) → leastValue t k w ≡ refused 21 k
     unfolding smallest
     none-exists f =
         asked-found a
-        ∙ ap (found k) (none-found _ firstScore scoreCount (λ s p q.
+        ∙ ap (answerFor k) (none-found _ firstScore scoreCount (λ s p q.
         let i : Score s = (omega arith, omega arith) in
         is-false _ (λ e. f (valueOf s) (value-range s i) (rw (score-again s i) (reached s i .0 e)))))
 
@@ -132,33 +132,33 @@ module _ (t : List ℕ) (k : ℕ) (w : ℤ) where
     pub reaches : rootValue t k v ≡ w
     pub smallest : (u : ℤ) → natAbs u ≤ maxValue → u <ℤ v → rootValue t k u ≡ w → ⊥
 
-  pub given : (v : ℤ) → needed t k w ≡ Value v → Given v
-  unfolding needed smallest
+  pub given : (v : ℤ) → leastValue t k w ≡ Value v → Given v
+  unfolding leastValue smallest
   given v e =
       let p = unless-value (valueRejection t k w) _ v e in
       let a = asked (p .0) in
-      let q = found-some k (smallest t k (scoreOf w)) v (p .1) in
+      let q = found-some k (smallest t k (wantedScore w)) v (p .1) in
       let f = found-first _ firstScore scoreCount (q .0) (q .1) in
       let i : Score (q .0) = (f .from, omega (arith, f .within)) in
       let r : natAbs v ≤ maxValue = rw (q .2) at (value-range (q .0) i) in
-      let s : scoreOf v ≡ q .0 = ap scoreOf (sym (q .2)) ∙ score-again (q .0) i in
+      let s : wantedScore v ≡ q .0 = ap wantedScore (sym (q .2)) ∙ score-again (q .0) i in
       record {
         asked = a;
         ranged = r;
         reaches = rw s (reached a (q .0) i .0 (f .passes));
         smallest = λ u h l z.
             let j = score-range u h in
-            true-not-false (reached a (scoreOf u) j .1 z)
-            (f .before (scoreOf u) (j .0) (omega (arith, s, smaller u v h r l)));
+            true-not-false (reached a (wantedScore u) j .1 z)
+            (f .before (wantedScore u) (j .0) (omega (arith, s, smaller u v h r l)));
       }
 
   -- the place of 21 is the node
-  place-named : (o : Option ℕ) (p : ℕ) → found k o ≡ refused 21 p → p ≡ k
-  place-named none p e = sym (ap placeOf e)
+  place-named : (o : Option ℕ) (p : ℕ) → answerFor k o ≡ refused 21 p → p ≡ k
+  place-named none p e = sym (ap positionOf e)
   place-named (some s) p e = clash (cc)
 
   -- 21 is given of an accepted table only where no value does
-  pub only-none : Accepted t → (p : ℕ) → needed t k w ≡ refused 21 p
+  pub only-none : Accepted t → (p : ℕ) → leastValue t k w ≡ refused 21 p
       → (p ≡ k) × Leaf t k × (natAbs w ≤ maxValue) × ((u : ℤ) → natAbs u ≤ maxValue → rootValue t k u ≡ w → ⊥)
   only-none a p e = by (isLeaf t k) (leb (natAbs w) maxValue) refl refl
     where
@@ -172,7 +172,7 @@ module _ (t : List ℕ) (k : ℕ) (w : ℤ) where
           absurd (omega arith)
       by true true x y =
           let q : Asked = record { accepted = a; leaf = test-leaf t k x; ranged = leb-true _ _ y } in (
-            place-named (smallest t k (scoreOf w)) p (sym (asked-found q) ∙ e),
+            place-named (smallest t k (wantedScore w)) p (sym (asked-found q) ∙ e),
             q .leaf,
             q .ranged,
             λ u h z.

@@ -12,7 +12,7 @@ use Rattle.lists.proofs.Choice.{true-not-false}
 use Rattle.gametree.specs.Tree.{Score, zeroScore}
 use Rattle.frames.specs.Value.{valueOf, maxValue}
 use Rattle.frames.proofs.Values.{value-order, value-plus, value-below}
-use Rattle.leafvalue.specs.Wanted.{scoreOf}
+use Rattle.leafvalue.specs.LeastValue.{wantedScore}
 
 -- a value above the range is out of it
 pub above-range : (v : ℤ) → ltZ (pos maxValue) v ≡ true → false ≡ leb (natAbs v) maxValue
@@ -29,22 +29,22 @@ not-above (negsuc n) e =
     ]
 
 -- the sum is the score, for a value in range
-pub score-sum : (v : ℤ) → natAbs v ≤ maxValue → v +ℤ pos zeroScore ≡ pos (scoreOf v)
+pub score-sum : (v : ℤ) → natAbs v ≤ maxValue → v +ℤ pos zeroScore ≡ pos (wantedScore v)
 score-sum (pos n) h = refl
 score-sum (negsuc n) h = rw (le-ltb zeroScore (suc n) (omega arith))
 
 -- it is that of a leaf
-pub score-range : (v : ℤ) → natAbs v ≤ maxValue → Score (scoreOf v)
+pub score-range : (v : ℤ) → natAbs v ≤ maxValue → Score (wantedScore v)
 score-range (pos n) h = (omega arith, omega arith)
 score-range (negsuc n) h = rw (le-ltb zeroScore (suc n) (omega arith)) (omega arith, omega arith)
 
 -- and its value is the value
-pub score-value : (v : ℤ) → natAbs v ≤ maxValue → valueOf (scoreOf v) ≡ v
+pub score-value : (v : ℤ) → natAbs v ≤ maxValue → valueOf (wantedScore v) ≡ v
 score-value (pos n) h = value-plus (n + zeroScore) n refl
 score-value (negsuc n) h = rw (le-ltb zeroScore (suc n) (omega arith)) (value-below (zeroScore - suc n) n (omega arith))
 
 -- a score is that of its value
-pub score-again : (s : ℕ) → Score s → scoreOf (valueOf s) ≡ s
+pub score-again : (s : ℕ) → Score s → wantedScore (valueOf s) ≡ s
 score-again s h =
     elim (decLt s zeroScore) [
       | yes p ↦ rw (value-below s (maxValue - s) (omega arith), le-ltb zeroScore (suc (maxValue - s)) (omega arith))
@@ -54,13 +54,13 @@ score-again s h =
 
 -- two scores of one value are one
 pub same-scores : (r s : ℕ) → Score r → Score s → valueOf r ≡ valueOf s → r ≡ s
-same-scores r s h k e = sym (score-again r h) ∙ ap scoreOf e ∙ score-again s k
+same-scores r s h k e = sym (score-again r h) ∙ ap wantedScore e ∙ score-again s k
 
 -- a smaller value has a smaller score
-pub smaller : (u v : ℤ) → natAbs u ≤ maxValue → natAbs v ≤ maxValue → u <ℤ v → scoreOf u < scoreOf v
+pub smaller : (u v : ℤ) → natAbs u ≤ maxValue → natAbs v ≤ maxValue → u <ℤ v → wantedScore u < wantedScore v
 smaller u v a b l =
-    elim (decLt (scoreOf u) (scoreOf v)) [
+    elim (decLt (wantedScore u) (wantedScore v)) [
       | yes h ↦ h
       | no h ↦
-          clashℤ l (rw (score-value v b, score-value u a) at (value-order (scoreOf v) (scoreOf u) (omega arith)))
+          clashℤ l (rw (score-value v b, score-value u a) at (value-order (wantedScore v) (wantedScore u) (omega arith)))
     ]

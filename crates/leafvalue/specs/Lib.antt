@@ -1,4 +1,4 @@
 -- Definitions for the smallest value of a leaf that gives the root a wanted value.
-pub mod Wanted
+pub mod LeastValue
 pub mod engine
 pub mod results

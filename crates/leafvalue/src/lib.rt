@@ -12,9 +12,9 @@ use frames::score_at;
 use frames::value;
 use gametree::Side;
 use gametree::better;
-use places::SMALL;
-use places::depth_at;
-use places::fill;
+use positions::SMALL_TABLE;
+use positions::depth_at;
+use positions::fill;
 use tables::check;
 ghost use mathlib.Core.Path.{_≡_};
 ghost use Prim.Native.Nat.{ℕ, _<_, _≤_};
@@ -27,7 +27,7 @@ ghost use Rattle.frames.specs.Frame.{maxDepth, frames};
 ghost use Rattle.frames.specs.Value.{maxValue};
 ghost use Rattle.frames.specs.Check.{Accepted};
 ghost use Rattle.frames.specs.Rejection.{_andThen_};
-ghost use Rattle.leafvalue.specs.Wanted.{isLeaf, check19, check20, smallest, scoreOf, found, unless, needed};
+ghost use Rattle.leafvalue.specs.LeastValue.{isLeaf, check19, check20, smallest, wantedScore, answerFor, unless, leastValue};
 ghost use Rattle.leafvalue.specs.engine.Candidates.{reaches as reachesOf, candidate as candidateOf, held};
 
 // The numbers of the questions about a leaf and a wanted value, by what a "no" means (SPEC 4.2).
@@ -46,28 +46,28 @@ const FIRST: u32 = LEAST + 1;
 const ZERO: i32 = ZERO_SCORE as i32;
 
 // The answer: the smallest value of the leaf that gives the root the wanted one, or a rejection.
-pub enum Needed {
+pub enum LeastValue {
     Value(i16),
     Rejected(Rejection),
 }
 
 // Questions 1 to 9, 19, 20 and 21: the smallest value of the named leaf, from -32,000 to 32,000, that gives the root
 // the wanted value, every other leaf holding what it holds; or the first rejection.
-pub fn least_value(table: &[u8], node: usize, wanted: i32) -> Needed
-    ensures { λ r. ⌜ r ≡ needed (now (table .entry)) node wanted ⌝ }
+pub fn least_value(table: &[u8], node: usize, wanted: i32) -> LeastValue
+    ensures { λ r. ⌜ r ≡ leastValue (now (table .entry)) node wanted ⌝ }
 {
     let checked = check(table);
     match checked {
-        Checked::Rejected(r) => Needed::Rejected(r),
+        Checked::Rejected(r) => LeastValue::Rejected(r),
         Checked::Nodes(_) => ask(table, node, wanted),
     }
 }
 
 // Questions 19 to 21, for an accepted table.
-fn ask(table: &[u8], node: usize, wanted: i32) -> Needed
+fn ask(table: &[u8], node: usize, wanted: i32) -> LeastValue
     requires { ⌜ Accepted (now table) ⌝ }
     ensures { λ r. ⌜ r ≡ unless (check19 (now (table .entry)) node andThen check20 wanted)
-        (found node (smallest (now (table .entry)) node (scoreOf wanted))) ⌝ }
+        (answerFor node (smallest (now (table .entry)) node (wantedScore wanted))) ⌝ }
 {
     if !is_leaf(table, node) {
         return rejected(NO_LEAF, node);
@@ -79,14 +79,14 @@ fn ask(table: &[u8], node: usize, wanted: i32) -> Needed
     if score == LEAST {
         return rejected(NO_VALUE, node);
     }
-    Needed::Value(value(score))
+    LeastValue::Value(value(score))
 }
 
 // A rejection with its number and place.
-fn rejected(number: u8, place: usize) -> Needed
-    ensures { λ r. ⌜ r ≡ Needed.Rejected (record { number = number; place = place }) ⌝ }
+fn rejected(number: u8, place: usize) -> LeastValue
+    ensures { λ r. ⌜ r ≡ LeastValue.Rejected (record { number = number; place = place }) ⌝ }
 {
-    Needed::Rejected(Rejection { number, place })
+    LeastValue::Rejected(Rejection { number, place })
 }
 
 // Is this node a leaf?
@@ -112,7 +112,7 @@ pub fn in_range(wanted: i32) -> bool
 // The score of a value.
 pub fn score_of(wanted: i32) -> u32
     requires { ⌜ natAbs wanted ≤ maxValue ⌝ }
-    ensures { λ r. ⌜ r ≡ scoreOf wanted ⌝ }
+    ensures { λ r. ⌜ r ≡ wantedScore wanted ⌝ }
 {
     (wanted + ZERO) as u32
 }
@@ -123,14 +123,14 @@ fn find(table: &[u8], leaf: usize, wanted: u32) -> u32
     requires { ⌜ (Accepted (now table)) × (isLeaf (now table) leaf ≡ true) × (Score wanted) ⌝ }
     ensures { λ r. ⌜ (held r ≡ smallest (now (table .entry)) leaf wanted) × (r < greatest) ⌝ }
 {
-    if frame_count(table) <= SMALL {
-        let mut places = [0u32; SMALL];
-        let mut known = [1u8; SMALL];
-        let mut lows = [0u32; SMALL];
-        let mut highs = [0u32; SMALL];
+    if frame_count(table) <= SMALL_TABLE {
+        let mut positions = [0u32; SMALL_TABLE];
+        let mut known = [1u8; SMALL_TABLE];
+        let mut lows = [0u32; SMALL_TABLE];
+        let mut highs = [0u32; SMALL_TABLE];
         return find_in(
             table,
-            &mut places,
+            &mut positions,
             &mut known,
             &mut lows,
             &mut highs,
@@ -138,13 +138,13 @@ fn find(table: &[u8], leaf: usize, wanted: u32) -> u32
             wanted,
         );
     }
-    let mut places = [0u32; MAX_NODES];
+    let mut positions = [0u32; MAX_NODES];
     let mut known = [1u8; MAX_NODES];
     let mut lows = [0u32; MAX_NODES];
     let mut highs = [0u32; MAX_NODES];
     find_in(
         table,
-        &mut places,
+        &mut positions,
         &mut known,
         &mut lows,
         &mut highs,
@@ -156,7 +156,7 @@ fn find(table: &[u8], leaf: usize, wanted: u32) -> u32
 // The same, by work arrays with an entry per node: the root's bounds where all leaves but this one are known.
 fn find_in(
     table: &[u8],
-    places: &mut [u32],
+    positions: &mut [u32],
     known: &mut [u8],
     lows: &mut [u32],
     highs: &mut [u32],
@@ -164,15 +164,15 @@ fn find_in(
     wanted: u32,
 ) -> u32
     requires { ⌜ (Accepted (now table)) × (isLeaf (now table) leaf ≡ true) × (Score wanted) ⌝ }
-    requires { ⌜ (frames (now table) ≤ length (now places)) × (frames (now table) ≤ length (now known)) ⌝ }
+    requires { ⌜ (frames (now table) ≤ length (now positions)) × (frames (now table) ≤ length (now known)) ⌝ }
     requires { ⌜ (frames (now table) ≤ length (now lows)) × (frames (now table) ≤ length (now highs)) ⌝ }
     requires { ⌜ ((k : ℕ) → k < frames (now table) → getD (now known) k 0 ≡ 1) ⌝ }
     ensures { λ r. ⌜ (held r ≡ smallest (now (table .entry)) leaf wanted) × (r < greatest) ⌝ }
 {
-    fill(table, places);
+    fill(table, positions);
     known[leaf] = 0;
-    fill_bounds(table, places, known, lows, highs);
-    candidate(lows[0], highs[0], depth_at(places, leaf), wanted)
+    fill_bounds(table, positions, known, lows, highs);
+    candidate(lows[0], highs[0], depth_at(positions, leaf), wanted)
 }
 
 // The smallest score with which a leaf at this depth gives the root the wanted score, where the root has the score

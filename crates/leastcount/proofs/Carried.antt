@@ -6,17 +6,17 @@ use mathlib.Core.List.{List, []}
 use lib.ListN.{getD}
 use Rattle.frames.specs.Frame.{maxChildren, maxDepth}
 use Rattle.leastcount.specs.Rule.{leastCount}
-use Rattle.leastcount.specs.engine.Ruled.{row, rowOf, rows, ruled}
+use Rattle.leastcount.specs.engine.Ruled.{countRow, countRowOf, countRows, ruled}
 
-row-at : (w d n k : ℕ) → k < n → getD (row w d n) k 0 ≡ leastCount w (d + k)
+row-at : (w d n k : ℕ) → k < n → getD (countRow w d n) k 0 ≡ leastCount w (d + k)
 row-at w d zero k h = absurd (omega arith)
 row-at w d (suc n) zero h = ap (leastCount w) (omega arith)
 row-at w d (suc n) (suc k) h = row-at w (suc d) n k (omega arith) ∙ ap (leastCount w) (omega arith)
 
-rows-at : (w n k : ℕ) → k < n → getD (rows w n) k [] ≡ rowOf (w + k)
+rows-at : (w n k : ℕ) → k < n → getD (countRows w n) k [] ≡ countRowOf (w + k)
 rows-at w zero k h = absurd (omega arith)
-rows-at w (suc n) zero h = ap rowOf (omega arith)
-rows-at w (suc n) (suc k) h = rows-at (suc w) n k (omega arith) ∙ ap rowOf (omega arith)
+rows-at w (suc n) zero h = ap countRowOf (omega arith)
+rows-at w (suc n) (suc k) h = rows-at (suc w) n k (omega arith) ∙ ap countRowOf (omega arith)
 
 pub carried : (table : List (List ℕ)) → table ≡ ruled → (w d : ℕ) → 0 < w → w ≤ maxChildren → d ≤ maxDepth
     → getD (getD table (w - 1) []) d 0 ≡ leastCount w d

@@ -12,17 +12,17 @@ use borrow.Author.Tests.{lt-ltb}
 use Rattle.hex.specs.Digit.{noDigit, digitOf}
 use Rattle.hex.proofs.Digits.{digit-small}
 use Rattle.lines.specs.Line.{lineDigits, allDigits}
-use Rattle.lines.specs.engine.Numbered.{abreast, Numbered}
+use Rattle.lines.specs.engine.Numbered.{digitsAtOnce, Numbered}
 use Rattle.lines.proofs.Lines.{digit-at}
 
 -- before the first
 pub numbered-none : (digits numbers : List ℕ) → Numbered digits numbers 0 0
 numbered-none digits numbers =
     record {
-      few = omega arith;
+      atMost = omega arith;
       each = λ i h. absurd (omega arith);
       none = λ e i h. absurd (omega arith);
-      some = λ h. absurd (omega arith);
+      nonEmpty = λ h. absurd (omega arith);
     }
 
 module _ (digits numbers : List ℕ) (x k number : ℕ) (d : Numbered digits numbers x k) (inside : k < length numbers)
@@ -35,7 +35,7 @@ module _ (digits numbers : List ℕ) (x k number : ℕ) (d : Numbered digits num
     pub numbered-next : Numbered digits (set numbers k number) (x + number / noDigit) (k + 1)
     numbered-next =
         record {
-          few = omega (arith, d .few, small);
+          atMost = omega (arith, d .atMost, small);
           each = λ i h.
               elim (decLt i k) [
                 | yes l ↦ getD-set-other numbers k i number 0 (λ q. omega arith) ∙ d .each i l
@@ -48,9 +48,9 @@ module _ (digits numbers : List ℕ) (x k number : ℕ) (d : Numbered digits num
                 | yes l ↦ d .none (omega arith) i l
                 | no l ↦ (let last : k ≡ i = omega arith in rw (← last) (omega (arith, e)))
               ];
-          some = λ p.
+          nonEmpty = λ p.
               elim (decLt 0 x) [
-                | yes l ↦ (let s = d .some l in (s .0, omega (arith, s .1), s .2))
+                | yes l ↦ (let s = d .nonEmpty l in (s .0, omega (arith, s .1), s .2))
                 | no l ↦ (k, omega arith, omega (arith, e, small))
               ];
         }
@@ -75,15 +75,15 @@ abbrev pub zeros : List ℕ
 zeros = replicate 4 48
 
 module _ (line copied : List ℕ) (twelve : length line ≡ lineDigits)
-    (c : copied ≡ take (length line) line ++ drop (length line) (replicate abreast 48))
+    (c : copied ≡ take (length line) line ++ drop (length line) (replicate digitsAtOnce 48))
   where
     padded : copied ≡ line ++ zeros
     padded = c ∙ rw (take-length line, twelve)
 
-    pub padded-length : length copied ≡ abreast
+    pub padded-length : length copied ≡ digitsAtOnce
     padded-length = rw (padded, length-append line zeros, twelve)
 
-    module _ (numbers : List ℕ) (x : ℕ) (d : Numbered copied numbers x abreast) where
+    module _ (numbers : List ℕ) (x : ℕ) (d : Numbered copied numbers x digitsAtOnce) where
       line-at : (i : ℕ) → i < lineDigits → getD copied i 0 ≡ getD line i 0
       line-at i h = rw padded (List·getD-append line zeros 0 i (omega arith))
 
@@ -102,7 +102,7 @@ module _ (line copied : List ℕ) (twelve : length line ≡ lineDigits)
         pub line-right : allDigits line ≡ true
         line-right = digits-all line (λ i h. line-digit i (omega arith))
 
-      zero-at : (i : ℕ) → lineDigits ≤ i → i < abreast → digitOf (getD copied i 0) ≡ 0
+      zero-at : (i : ℕ) → lineDigits ≤ i → i < digitsAtOnce → digitOf (getD copied i 0) ≡ 0
       unfolding digitOf
       zero-at i l h =
           let at : i ≡ length line + (i - lineDigits) = omega arith in
@@ -116,7 +116,7 @@ module _ (line copied : List ℕ) (twelve : length line ≡ lineDigits)
       -- and if one was, it is the line's
       pub line-wrong : 0 < x → allDigits line ≡ false
       line-wrong h =
-          let s = d .some h in
+          let s = d .nonEmpty h in
           elim (decLt (s .0) lineDigits) [
             | yes l ↦ digits-not line (s .0) (omega arith) (rw (← line-at (s .0) l) (s .2))
             | no l ↦ absurd (omega (arith, zero-at (s .0) (omega arith) (s .1), s .2))

@@ -4,7 +4,7 @@ use mathlib.Core.Bool.{Bool, true, false, cond, _&&_, _||_}
 use mathlib.Core.List.{List, [], _∷_}
 use lib.Dec.{ltb, eqb}
 use lib.ListN.{length, getD, take, drop}
-use Rattle.hex.specs.Digit.{isSmall, noDigit, digitOf}
+use Rattle.hex.specs.Digit.{isLowercase, noDigit, digitOf}
 use Rattle.lines.specs.declared.Frame.{Frame}
 use Rattle.lines.specs.declared.Line.{Line}
 use Rattle.lines.specs.declared.Line.the-variants.{Read, NoLine}
@@ -30,10 +30,10 @@ allDigits (b ∷ l) = ltb (digitOf b) noDigit && allDigits l
 unfoldable pub isLine : List ℕ → Bool
 isLine l = eqb (length l) lineDigits && allDigits l
 
--- has a text a small letter
-unfoldable pub hasSmall : List ℕ → Bool
-hasSmall [] = false
-hasSmall (b ∷ l) = isSmall b || hasSmall l
+-- has a text a lowercase letter
+unfoldable pub hasLowercase : List ℕ → Bool
+hasLowercase [] = false
+hasLowercase (b ∷ l) = isLowercase b || hasLowercase l
 
 -- the byte of two digits, the high one first
 abbrev pub hexByte : ℕ → ℕ → ℕ

@@ -2,14 +2,14 @@
 use frames::FRAME_SIZE;
 use hex::BASE;
 use hex::digit;
-use hex::is_small;
+use hex::is_lowercase;
 ghost use mathlib.Core.Path.{_≡_};
 ghost use Prim.Native.Nat.{_+_, _≤_};
 ghost use lib.ListN.{length, drop};
 ghost use Rattle.frames.specs.Frame.{frameSize};
-ghost use Rattle.lines.specs.Line.{lineDigits, allDigits, hasSmall, bytesOf, frameOf};
+ghost use Rattle.lines.specs.Line.{lineDigits, allDigits, hasLowercase, bytesOf, frameOf};
 ghost use Rattle.lines.specs.Line.{closed, isLineAt, bytesAt, lineAt};
-ghost use Rattle.lines.specs.engine.Numbered.{abreast, Numbered};
+ghost use Rattle.lines.specs.engine.Numbered.{digitsAtOnce, Numbered};
 ghost use Rattle.lines.specs.engine.Stored.{Stored};
 
 // The digits of a line, and the byte that closes it.
@@ -20,7 +20,7 @@ pub const LINE_FEED: u8 = 10;
 // The bytes of a line with its line feed.
 pub const LINE_SIZE: usize = LINE_DIGITS + 1;
 
-// How many digits are read abreast: a line's and some more, to a power of two, so that the compiler reads them in one
+// How many digits are read at once: a line's and some more, to a power of two, so that the compiler reads them in one
 // register.
 const ABREAST: usize = 16;
 
@@ -117,8 +117,8 @@ fn decode_digits(line: &[u8], table: &mut [u8], to: usize) -> bool
 
 // The number of each digit; and how many are no digits, so that no turn branches.
 fn read_digits(digits: &[u8], numbers: &mut [u8]) -> u8
-    requires { ⌜ (length (now digits) ≡ abreast) × (length (now numbers) ≡ abreast) ⌝ }
-    ensures { λ r. ⌜ Numbered (now (digits .entry)) (now (numbers .exit)) r abreast ⌝ }
+    requires { ⌜ (length (now digits) ≡ digitsAtOnce) × (length (now numbers) ≡ digitsAtOnce) ⌝ }
+    ensures { λ r. ⌜ Numbered (now (digits .entry)) (now (numbers .exit)) r digitsAtOnce ⌝ }
 {
     let mut others = 0;
     for k in 0..ABREAST {
@@ -143,13 +143,13 @@ fn frame_of(bytes: &[u8; FRAME_SIZE]) -> Frame
     }
 }
 
-// Has a text a small letter? Every byte is looked at, so that no turn branches.
-pub fn has_small(text: &[u8]) -> bool
-    ensures { λ r. ⌜ r ≡ hasSmall (now (text .entry)) ⌝ }
+// Has a text a lowercase letter? Every byte is looked at, so that no turn branches.
+pub fn has_lowercase(text: &[u8]) -> bool
+    ensures { λ r. ⌜ r ≡ hasLowercase (now (text .entry)) ⌝ }
 {
     let mut small = false;
     for k in 0..text.len() {
-        if is_small(text[k]) {
+        if is_lowercase(text[k]) {
             small = true;
         }
     }

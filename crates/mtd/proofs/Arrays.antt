@@ -9,11 +9,11 @@ use lib.Dec.{eqb}
 use lib.ListN.{length, getD, set}
 use lib.Seq.{getD-set-same, set-getD}
 use Rattle.gametree.specs.declared.Side.{Side}
-use Rattle.gametree.specs.Tree.{Tree, leaf, inner, Kids, last, _then_, greatest, better, minimax, minimaxKids}
-use Rattle.gametree.specs.Tree.{In, InKids}
+use Rattle.gametree.specs.Tree.{Tree, leaf, inner, Children, last, _then_, greatest, better, minimax, minimaxChildren}
+use Rattle.gametree.specs.Tree.{In, InChildren}
 use Rattle.gametree.specs.Bounds.{known, high}
-use Rattle.gametree.specs.Mtd.{memoHigh, memoHighKids}
-use Rattle.gametree.specs.engine.MemoArrays.{Bits, readMemo, readMemoKids}
+use Rattle.gametree.specs.Mtd.{memoHigh, memoHighChildren}
+use Rattle.gametree.specs.engine.MemoArrays.{Bits, readMemo, readMemoChildren}
 use Rattle.bounds.specs.Marks.{marked}
 use Rattle.bounds.specs.engine.Progress.{progress, evaluateAll}
 use Rattle.bounds.proofs.Listing.{none-evaluated, one-evaluated, evaluateAll-append}
@@ -34,8 +34,8 @@ mutual
   read-high ν M F (leaf n) = refl
   read-high ν M F (inner n s ks) = read-high-kids ν M F s ks
 
-  read-high-kids : (ν : ℕ → ℕ) (M F : Bits) (s : Side) (ks : Kids)
-      → memoHighKids ν s ks (readMemoKids M F ks) ≡ minimaxKids (known ν M greatest) s ks
+  read-high-kids : (ν : ℕ → ℕ) (M F : Bits) (s : Side) (ks : Children)
+      → memoHighChildren ν s ks (readMemoChildren M F ks) ≡ minimaxChildren (known ν M greatest) s ks
   read-high-kids ν M F s (last T) = read-high ν M F T
   read-high-kids ν M F s (T then ts) = ap₂ (better s) (read-high ν M F T) (read-high-kids ν M F s ts)
 
@@ -46,8 +46,8 @@ mutual
   bound-local ν M N x (leaf n) e = ap (λ b. cond b (ν n) x) (e n refl)
   bound-local ν M N x (inner n s ks) e = bound-local-kids ν M N x s ks (λ p i. e p (inr i))
 
-  bound-local-kids : (ν : ℕ → ℕ) (M N : Bits) (x : ℕ) (s : Side) (ks : Kids) → ((p : ℕ) → InKids p ks → M p ≡ N p)
-      → minimaxKids (known ν M x) s ks ≡ minimaxKids (known ν N x) s ks
+  bound-local-kids : (ν : ℕ → ℕ) (M N : Bits) (x : ℕ) (s : Side) (ks : Children) → ((p : ℕ) → InChildren p ks → M p ≡ N p)
+      → minimaxChildren (known ν M x) s ks ≡ minimaxChildren (known ν N x) s ks
   bound-local-kids ν M N x s (last T) e = bound-local ν M N x T e
   bound-local-kids ν M N x s (T then ts) e =
       ap₂ (better s) (bound-local ν M N x T (λ p i. e p (inl i))) (bound-local-kids ν M N x s ts (λ p i. e p (inr i)))

@@ -5,9 +5,9 @@ use mathlib.Core.Path.{_≡_, refl, sym, ap, _∙_, subst}
 use mathlib.Core.Bool.{Bool, true, false}
 use mathlib.Core.List.{List, [], _++_, append-assoc}
 use Rattle.gametree.specs.declared.Side.{Side}
-use Rattle.gametree.specs.Tree.{Tree, Kids, last, _then_, In, InKids}
-use Rattle.gametree.specs.Mtd.{MemoKids, PassKids, settles, joined, passKids}
-use Rattle.gametree.specs.engine.MemoArrays.{readMemoKids, KidsRemembered}
+use Rattle.gametree.specs.Tree.{Tree, Children, last, _then_, In, InChildren}
+use Rattle.gametree.specs.Mtd.{MemoChildren, PassChildren, settles, joined, passChildren}
+use Rattle.gametree.specs.engine.MemoArrays.{readMemoChildren, KidsRemembered}
 use Rattle.gametree.proofs.mtd.MemoArrays.{rest-same, visit-ended, visit-joined}
 use Rattle.frames.specs.Tree.{valuation}
 use Rattle.bounds.specs.Marks.{marked}
@@ -16,46 +16,46 @@ use Rattle.mtd.specs.engine.Memory.{Memory, passOf, Evaluated, Counted, 
 use Rattle.mtd.proofs.Arrays.{evaluated-none, evaluated-more}
 
 -- what the arrays remember of the children of a node
-abbrev pub memoKidsOf : Memory → (ks : Kids) → MemoKids ks
-memoKidsOf m ks = readMemoKids (marked (m .evaluated)) (marked (m .notBelow)) ks
+abbrev pub memoChildrenOf : Memory → (ks : Children) → MemoChildren ks
+memoChildrenOf m ks = readMemoChildren (marked (m .evaluated)) (marked (m .notBelow)) ks
 
 -- the pass over the children of a node
-abbrev pub passKidsOf : List ℕ → ℕ → Side → Memory → (ks : Kids) → PassKids ks
-passKidsOf t γ s m ks = passKids (valuation t) γ s ks (memoKidsOf m ks)
+abbrev pub passChildrenOf : List ℕ → ℕ → Side → Memory → (ks : Children) → PassChildren ks
+passChildrenOf t γ s m ks = passChildren (valuation t) γ s ks (memoChildrenOf m ks)
 
 -- the arrays after a visit of the children hold the memory after the pass over them
-abbrev pub Remembers : List ℕ → ℕ → Side → Kids → Memory → Memory → Type 0
+abbrev pub Remembers : List ℕ → ℕ → Side → Children → Memory → Memory → Type 0
 Remembers t γ s ks m m′ =
     KidsRemembered (valuation t) γ s ks (marked (m .evaluated)) (marked (m .notBelow)) (marked (m′ .evaluated))
     (marked (m′ .notBelow))
 
 -- what a visit of the children of a node does
-pub record PassedKids (t : List ℕ) (γ : ℕ) (s : Side) (ks : Kids) (m m′ : Memory) (b : Bool) : Type 0 where
-  pub answer : b ≡ passKidsOf t γ s m ks .notBelow
-  pub evaluated : Evaluated m m′ (passKidsOf t γ s m ks .evaluated)
+pub record PassedChildren (t : List ℕ) (γ : ℕ) (s : Side) (ks : Children) (m m′ : Memory) (b : Bool) : Type 0 where
+  pub answer : b ≡ passChildrenOf t γ s m ks .notBelow
+  pub evaluated : Evaluated m m′ (passChildrenOf t γ s m ks .evaluated)
   pub counted : Counted t m′
   pub memo : Remembers t γ s ks m m′
 
 -- between two children: the memory m has become m′, and the children `rest` are left
-pub record Owes (t : List ℕ) (γ : ℕ) (s : Side) (ks rest : Kids) (m m′ : Memory) : Type 0 where
+pub record Remainder (t : List ℕ) (γ : ℕ) (s : Side) (ks rest : Children) (m m′ : Memory) : Type 0 where
   pub done : List ℕ
   pub so-far : Evaluated m m′ done
-  pub evaluated : passKidsOf t γ s m ks .evaluated ≡ done ++ passKidsOf t γ s m′ rest .evaluated
-  pub answer : passKidsOf t γ s m ks .notBelow ≡ passKidsOf t γ s m′ rest .notBelow
+  pub evaluated : passChildrenOf t γ s m ks .evaluated ≡ done ++ passChildrenOf t γ s m′ rest .evaluated
+  pub answer : passChildrenOf t γ s m ks .notBelow ≡ passChildrenOf t γ s m′ rest .notBelow
   pub memo : (m″ : Memory) → Remembers t γ s rest m′ m″ → Remembers t γ s ks m m″
 
 -- before the first child all is owed
-pub owes-all : (t : List ℕ) (γ : ℕ) (s : Side) (ks : Kids) (m : Memory) → Owes t γ s ks ks m m
-owes-all t γ s ks m =
+pub remainder-all : (t : List ℕ) (γ : ℕ) (s : Side) (ks : Children) (m : Memory) → Remainder t γ s ks ks m m
+remainder-all t γ s ks m =
     record { done = []; so-far = evaluated-none _; evaluated = refl; answer = refl; memo = λ m″ v. v }
 
-module _ {t : List ℕ} {γ : ℕ} {s : Side} {ks : Kids} {m m′ m″ : Memory} {T : Tree} {r : Tried}
+module _ {t : List ℕ} {γ : ℕ} {s : Side} {ks : Children} {m m′ m″ : Memory} {T : Tree} {r : Tried}
     (p : Passed t T γ m′ m″ r) where
   -- a child whose pass is that of all the children left ends the loop
-  owes-end : {rest : Kids} → Owes t γ s ks rest m m′ → passKidsOf t γ s m′ rest .notBelow ≡ passOf t γ m′ T .notBelow
-      → passKidsOf t γ s m′ rest .evaluated ≡ passOf t γ m′ T .evaluated → Remembers t γ s rest m′ m″
-      → PassedKids t γ s ks m m″ (r .answer)
-  owes-end o a w v =
+  remainder-end : {rest : Children} → Remainder t γ s ks rest m m′ → passChildrenOf t γ s m′ rest .notBelow ≡ passOf t γ m′ T .notBelow
+      → passChildrenOf t γ s m′ rest .evaluated ≡ passOf t γ m′ T .evaluated → Remembers t γ s rest m′ m″
+      → PassedChildren t γ s ks m m″ (r .answer)
+  remainder-end o a w v =
       record {
         answer = p .answer ∙ sym a ∙ sym (o .answer);
         evaluated =
@@ -66,26 +66,26 @@ module _ {t : List ℕ} {γ : ℕ} {s : Side} {ks : Kids} {m m′ m″ : Memory}
       }
 
   -- the last child's answer is the node's
-  pub owes-last : Owes t γ s ks (last T) m m′ → PassedKids t γ s ks m m″ (r .answer)
-  owes-last o = owes-end o refl refl (record { got = p .memo .got; elsewhere = p .memo .elsewhere })
+  pub remainder-last : Remainder t γ s ks (last T) m m′ → PassedChildren t γ s ks m m″ (r .answer)
+  remainder-last o = remainder-end o refl refl (record { got = p .memo .got; elsewhere = p .memo .elsewhere })
 
-  module _ {ts : Kids} (d : (k : ℕ) → In k T → InKids k ts → ⊥) (o : Owes t γ s ks (T then ts) m m′) where
+  module _ {ts : Children} (d : (k : ℕ) → In k T → InChildren k ts → ⊥) (o : Remainder t γ s ks (T then ts) m m′) where
     -- so is that of a child that settles its parent
-    pub owes-settled : settles s (r .answer) ≡ true → PassedKids t γ s ks m m″ (r .answer)
-    owes-settled h =
+    pub remainder-settled : settles s (r .answer) ≡ true → PassedChildren t γ s ks m m″ (r .answer)
+    remainder-settled h =
         let e = ap (settles s) (sym (p .answer)) ∙ h in
-        owes-end o (rw e) (rw e) (visit-ended (valuation t) γ s T ts d _ _ _ _ (p .memo) e)
+        remainder-end o (rw e) (rw e) (visit-ended (valuation t) γ s T ts d _ _ _ _ (p .memo) e)
 
     -- after another one its younger brothers are owed
-    pub owes-rest : settles s (r .answer) ≡ false → Owes t γ s ks ts m m″
-    owes-rest h =
+    pub remainder-rest : settles s (r .answer) ≡ false → Remainder t γ s ks ts m m″
+    remainder-rest h =
         let e = ap (settles s) (sym (p .answer)) ∙ h in
         let w = passOf t γ m′ T .evaluated in
-        let on : passKidsOf t γ s m′ (T then ts) ≡ joined T ts (passOf t γ m′ T) (passKidsOf t γ s m′ ts) = rw e in
-        let same = ap (λ x. passKids (valuation t) γ s ts x)
+        let on : passChildrenOf t γ s m′ (T then ts) ≡ joined T ts (passOf t γ m′ T) (passChildrenOf t γ s m′ ts) = rw e in
+        let same = ap (λ x. passChildren (valuation t) γ s ts x)
         (sym (rest-same (valuation t) γ s T ts d _ _ _ _ (p .memo))) in
-        let next : passKidsOf t γ s m′ (T then ts) .evaluated ≡ w ++ passKidsOf t γ s m″ ts .evaluated =
-        _∙_ {c = w ++ passKidsOf t γ s m″ ts .evaluated} (ap (λ q. q .evaluated) on)
+        let next : passChildrenOf t γ s m′ (T then ts) .evaluated ≡ w ++ passChildrenOf t γ s m″ ts .evaluated =
+        _∙_ {c = w ++ passChildrenOf t γ s m″ ts .evaluated} (ap (λ q. q .evaluated) on)
         (ap (λ q. w ++ q .evaluated) same) in
         record {
           done = o .done ++ w;

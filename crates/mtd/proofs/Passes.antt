@@ -11,11 +11,11 @@ use lib.ListN.{getD, set}
 use lib.Seq.{getD-set-same, getD-set-other}
 use borrow.Author.Tests.{lt-ltb, le-ltb}
 use Rattle.gametree.specs.declared.Side.{Side}
-use Rattle.gametree.specs.Tree.{Tree, leaf, inner, Kids, InKids}
+use Rattle.gametree.specs.Tree.{Tree, leaf, inner, Children, InChildren}
 use Rattle.gametree.specs.Bounds.{high}
 use Rattle.gametree.specs.Mtd.{Memo, memoHigh, Pass, stay, entered}
 use Rattle.lists.proofs.Choice.{cond-cases}
-use Rattle.gametree.proofs.mtd.MemoArrays.{readMemoKids-same}
+use Rattle.gametree.proofs.mtd.MemoArrays.{readMemoChildren-same}
 use Rattle.frames.specs.Tree.{treeAt, valuation}
 use Rattle.frames.specs.Frame.{frames}
 use Rattle.bounds.specs.Marks.{marked, ones}
@@ -25,7 +25,7 @@ use Rattle.mtd.specs.declared.Tried.{Tried}
 use Rattle.mtd.specs.engine.Memory.{Memory, memory, progressOf, memoOf, passOf, MemoryRoom, HighsRight}
 use Rattle.mtd.specs.engine.Memory.{Counted, Evaluated, Passed}
 use Rattle.mtd.proofs.Arrays.{marked-same, read-high, evaluated-none}
-use Rattle.mtd.proofs.Children.{passKidsOf, PassedKids}
+use Rattle.mtd.proofs.Children.{passChildrenOf, PassedChildren}
 
 -- a leaf that was tried: evaluated now, if it was not before, and compared with the test
 module _ (t : List ℕ) (i γ : ℕ) (m : Memory) (n : ℕ) (o : List ℕ) (r : Tried) (is-leaf : treeAt t i ≡ leaf i)
@@ -92,7 +92,7 @@ stay-passed t T γ m r n e h =
     }
 
 -- an inner node: its stored high decides, or its flag, or it is entered
-module _ (t : List ℕ) (i γ : ℕ) (m : Memory) (s : Side) (ks : Kids) (is-inner : treeAt t i ≡ inner i s ks)
+module _ (t : List ℕ) (i γ : ℕ) (m : Memory) (s : Side) (ks : Children) (is-inner : treeAt t i ≡ inner i s ks)
     (right : HighsRight t m (inner i s ks)) where
   stored : getD (m .highs) i 0 ≡ memoHigh (valuation t) (inner i s ks) (memoOf m (inner i s ks))
   stored = (rw is-inner at (right i (inl refl))) ∙ sym (read-high (valuation t) _ _ (inner i s ks))
@@ -108,23 +108,23 @@ module _ (t : List ℕ) (i γ : ℕ) (m : Memory) (s : Side) (ks : Kids) (is-inn
       stay-passed t (inner i s ks) γ m r n (rw (a, le-ltb _ _ (rw stored at h), f)) right
 
   module _ (m′ : Memory) (r : Tried) (v : ℕ) (h : γ ≤ getD (m .highs) i 0) (f : marked (m .notBelow) i ≡ false)
-      (room : MemoryRoom (suc i) m′) (apart : InKids i ks → ⊥) (q : PassedKids t γ s ks m m′ (r .answer))
-      (kids-right : (k : ℕ) → InKids k ks
+      (room : MemoryRoom (suc i) m′) (apart : InChildren i ks → ⊥) (q : PassedChildren t γ s ks m m′ (r .answer))
+      (kids-right : (k : ℕ) → InChildren k ks
       → getD (m′ .highs) k 0 ≡ high (valuation t) (marked (m′ .evaluated)) (treeAt t k))
-      (others : (k : ℕ) → (InKids k ks → ⊥) → getD (m′ .highs) k 0 ≡ getD (m .highs) k 0)
+      (others : (k : ℕ) → (InChildren k ks → ⊥) → getD (m′ .highs) k 0 ≡ getD (m .highs) k 0)
       (best : v ≡ high (valuation t) (marked (m′ .evaluated)) (inner i s ks)) where
-    enters : passOf t γ m (inner i s ks) ≡ entered i s ks (passKidsOf t γ s m ks)
+    enters : passOf t γ m (inner i s ks) ≡ entered i s ks (passChildrenOf t γ s m ks)
     enters = rw (le-ltb _ _ (rw stored at h), f)
 
-    not-own : (p : ℕ) → InKids p ks → p ≡ i → ⊥
-    not-own p x e = apart (subst (λ k. InKids k ks) e x)
+    not-own : (p : ℕ) → InChildren p ks → p ≡ i → ⊥
+    not-own p x e = apart (subst (λ k. InChildren k ks) e x)
 
     pub entered-passed : Passed t (inner i s ks) γ m
         (memory (m′ .leaves) (m′ .evaluated) (m′ .order) (set (m′ .highs) i v)
         (set (m′ .notBelow) i (cond (r .answer) 1 0))) r
     entered-passed =
         let own = marked-same (m′ .notBelow) i (r .answer) (omega (arith, room .notBelow)) in
-        let flags = readMemoKids-same _ _ _ _ ks (λ p x. (refl, marked-other (m′ .notBelow) i p _ (not-own p x))) in
+        let flags = readMemoChildren-same _ _ _ _ ks (λ p x. (refl, marked-other (m′ .notBelow) i p _ (not-own p x))) in
         record {
           answer = q .answer ∙ ap (λ x. x .notBelow) (sym enters);
           evaluated = record {

@@ -6,16 +6,16 @@ use mathlib.Core.Logic.{inl, inr}
 use mathlib.Core.Bool.{true, false}
 use mathlib.Core.List.{List, [], _++_, append-assoc}
 use lib.ListN.{getD}
-use Rattle.gametree.specs.Tree.{Tree, leaf, inner, Kids, last, _then_, greatest, In, InKids}
-use Rattle.gametree.specs.Mtd.{Memo, MemoKids, memoHigh, pass, Run, settled, followed, run, fresh, freshKids, mtd}
-use Rattle.gametree.specs.engine.MemoArrays.{Bits, readMemo, readMemoKids}
+use Rattle.gametree.specs.Tree.{Tree, leaf, inner, Children, last, _then_, greatest, In, InChildren}
+use Rattle.gametree.specs.Mtd.{Memo, MemoChildren, memoHigh, pass, MtdRun, settled, followed, run, fresh, freshChildren, mtd}
+use Rattle.gametree.specs.engine.MemoArrays.{Bits, readMemo, readMemoChildren}
 use Rattle.gametree.proofs.mtd.Sound.{Kept, Sound, sound}
 use Rattle.gametree.proofs.mtd.Value.{kept-lower, fresh-kept, fresh-memoHigh}
 use Rattle.frames.specs.Frame.{frames, childCount, next}
-use Rattle.frames.specs.Place.{rootPlace}
+use Rattle.frames.specs.Position.{rootPosition}
 use Rattle.frames.specs.Tree.{treeAt, tree, valuation}
 use Rattle.frames.specs.Formed.{WellFormed}
-use Rattle.frames.proofs.Places.{place-root}
+use Rattle.frames.proofs.Positions.{position-root}
 use Rattle.frames.proofs.Trees.{zero-or-suc}
 use Rattle.frames.proofs.Nodes.{in-own, in-parent, tree-range}
 use Rattle.frames.proofs.Proper.{tree-proper}
@@ -39,11 +39,11 @@ mutual
       ap₂ {C = Memo (inner n s ks)} (λ x y. record { notBelow = x; kids = y }) (h n (inl refl) .1)
       (read-fresh-kids M F ks (λ p i. h p (inr i)))
 
-  read-fresh-kids : (M F : Bits) (ks : Kids) → ((p : ℕ) → InKids p ks → (M p ≡ false) × (F p ≡ false))
-      → readMemoKids M F ks ≡ freshKids ks
+  read-fresh-kids : (M F : Bits) (ks : Children) → ((p : ℕ) → InChildren p ks → (M p ≡ false) × (F p ≡ false))
+      → readMemoChildren M F ks ≡ freshChildren ks
   read-fresh-kids M F (last T) h = read-fresh M F T h
   read-fresh-kids M F (T then ts) h =
-      ap₂ {C = MemoKids (T then ts)} (λ x y. record { first = x; rest = y }) (read-fresh M F T (λ p i. h p (inl i)))
+      ap₂ {C = MemoChildren (T then ts)} (λ x y. record { first = x; rest = y }) (read-fresh M F T (λ p i. h p (inl i)))
       (read-fresh-kids M F ts (λ p i. h p (inr i)))
 
 -- where the highs are right, the first of the root's children whose high is the root's is the one that the marks give
@@ -54,21 +54,21 @@ move-right t wf m right =
     let E = marked (m .evaluated) in
     first-same _ (boundOf t E greatest) _ 1 (childCount t 0)
     (λ k a b.
-    let first = wf .first 0 (wf .some) (omega arith) in
-    right k (in-parent t wf (wf .some) (record { from = omega arith; to = omega arith }) k (in-own t wf k)))
+    let first = wf .first 0 (wf .nonEmpty) (omega arith) in
+    right k (in-parent t wf (wf .nonEmpty) (record { from = omega arith; to = omega arith }) k (in-own t wf k)))
     ∙ ap (λ v. firstEqual (boundOf t E greatest) v 1 (childCount t 0)) (right 0 (in-own t wf 0))
 
 -- the run of a table's tree from the memory that the arrays hold
-abbrev pub runOf : (t : List ℕ) → ℕ → ℕ → Memory → Run (tree t)
+abbrev pub runOf : (t : List ℕ) → ℕ → ℕ → Memory → MtdRun (tree t)
 runOf t f γ m = run (valuation t) f γ (tree t) (memoOf m (tree t))
 
 -- before a pass: the passes so far and the run from here make the whole run q
-pub record Passing (t : List ℕ) (q : Run (tree t)) (m m′ : Memory) (test passes : ℕ) : Type 0 where
+pub record Passing (t : List ℕ) (q : MtdRun (tree t)) (m m′ : Memory) (test passes : ℕ) : Type 0 where
   pub long : Long m m′
   pub counted : Counted t m′
   pub right : HighsRight t m′ (tree t)
   pub kept : Kept (valuation t) test (tree t) (memoOf m′ (tree t))
-  pub few : passes + test ≤ greatest
+  pub atMost : passes + test ≤ greatest
   pub spare : ℕ
   pub enough : test ≤ spare
   pub done : List ℕ
@@ -84,18 +84,18 @@ passing-from t m h f l =
     let bits : (p : ℕ) → p < frames t → (marked (m .evaluated) p ≡ false) × (marked (m .notBelow) p ≡ false) =
     λ p x. (h .evaluated p x, h .notBelow p x) in
     let inside = tree-range t (h .formed) in
-    let start = read-fresh _ _ (tree t) (λ p i. bits p (inside 0 (h .formed .some) p i .1)) in
+    let start = read-fresh _ _ (tree t) (λ p i. bits p (inside 0 (h .formed .nonEmpty) p i .1)) in
     record {
       long = record { evaluated = refl; order = refl; highs = refl; notBelow = refl };
       counted = h .leaves ∙ sym (ones-none (m .evaluated) (frames t) (h .evaluated));
       right = λ k i.
-          let own = inside 0 (h .formed .some) k i .1 in
+          let own = inside 0 (h .formed .nonEmpty) k i .1 in
           let at-start = read-fresh _ _ (treeAt t k) (λ p j. bits p (inside k own p j .1)) in
           h .highs k own
           ∙ sym (sym (read-high (valuation t) (marked (m .evaluated)) (marked (m .notBelow)) (treeAt t k))
           ∙ ap (memoHigh (valuation t) (treeAt t k)) at-start ∙ fresh-memoHigh (valuation t) (treeAt t k));
       kept = subst (Kept (valuation t) greatest (tree t)) (sym start) (fresh-kept (valuation t) greatest (tree t));
-      few = omega arith;
+      atMost = omega arith;
       spare = f;
       enough = l;
       done = [];
@@ -124,15 +124,15 @@ run-followed : (ν : ℕ → ℕ) (f γ : ℕ) (T : Tree) (m : Memo T) → pass 
     ≡ followed T (pass ν γ T m) (run ν f (memoHigh ν T (pass ν γ T m .next)) T (pass ν γ T m .next))
 run-followed ν f γ T m e = rw e
 
-module _ {t : List ℕ} {q : Run (tree t)} {m m′ : Memory} {test passes : ℕ} (wf : WellFormed t)
+module _ {t : List ℕ} {q : MtdRun (tree t)} {m m′ : Memory} {test passes : ℕ} (wf : WellFormed t)
     (u : Passing t q m m′ test passes) where
   -- what the next pass asks
-  pub passing-ready : MemoryRoom (frames t) m → VisitReady t m′ 0 rootPlace
+  pub passing-ready : MemoryRoom (frames t) m → VisitReady t m′ 0 rootPosition
   passing-ready room =
       record {
         formed = wf;
-        inside = wf .some;
-        placed = sym (place-root t);
+        inside = wf .nonEmpty;
+        positioned = sym (position-root t);
         room = room-kept room (u .long);
         counted = u .counted;
         right = u .right;
@@ -184,7 +184,7 @@ module _ {t : List ℕ} {q : Run (tree t)} {m m′ : Memory} {test passes : ℕ}
             kept =
                 subst (Kept (valuation t) (getD (m″ .highs) 0 0) (tree t)) (sym (p .memo .got))
                 (kept-lower (valuation t) (tree t) _ (omega (arith, next-falls)) (next-sound .kept));
-            few = omega (arith, u .few, next-falls);
+            atMost = omega (arith, u .atMost, next-falls);
             spare = f;
             enough = omega (arith, u .enough, next-falls);
             done = u .done ++ w;

@@ -8,7 +8,7 @@ use mathlib.Core.List.{List}
 use lib.Dec.{eqb}
 use lib.ListN.{getD}
 use borrow.Author.Tests.{eqb-true, eq-eqb, ne-eqb, lt-leb}
-use Rattle.gametree.specs.declared.Place.{Place}
+use Rattle.gametree.specs.declared.Position.{Position}
 use Rattle.gametree.specs.declared.Side.{Side}
 use Rattle.gametree.specs.declared.Side.the-variants.{Max}
 use Rattle.gametree.specs.Tree.{greatest}
@@ -16,7 +16,7 @@ use Rattle.gametree.specs.Bounds.{known}
 use Rattle.gametree.specs.Mtd.{settles}
 use Rattle.gametree.proofs.minimax.Bounds.{minimax-within}
 use Rattle.frames.specs.Frame.{frames, childCount}
-use Rattle.frames.specs.Place.{childPlace}
+use Rattle.frames.specs.Position.{childPosition}
 use Rattle.frames.specs.Tree.{treeAt, valuation}
 use Rattle.frames.specs.Formed.{WellFormed}
 use Rattle.frames.proofs.Nodes.{in-own}
@@ -26,7 +26,7 @@ use Rattle.bounds.specs.Marks.{marked}
 use Rattle.mtd.specs.declared.Tried.{Tried}
 use Rattle.mtd.specs.engine.Memory.{Memory, memory, VisitReady, Passed, PassedOver}
 use Rattle.mtd.proofs.Arrays.{set-same, Long, leaf-again}
-use Rattle.mtd.proofs.Turns.{Turn, Left, Family, turn-ready, turn-next, turn-last}
+use Rattle.mtd.proofs.Turns.{PassLoop, Left, Family, turn-ready, turn-next, turn-last}
 use Rattle.mtd.proofs.Visits.{leaf-known, visit-leaf, visit-below}
 
 -- no high exceeds the greatest score
@@ -34,7 +34,7 @@ capped : (b : Bool) (v : ℕ) → v < greatest → cond b v greatest ≤ greates
 capped true v h = omega arith
 capped false v h = omega arith
 
-module _ {t : List ℕ} {m : Memory} {i : ℕ} {p : Place} (ready : VisitReady t m i p) where
+module _ {t : List ℕ} {m : Memory} {i : ℕ} {p : Position} (ready : VisitReady t m i p) where
   pub high-capped : getD (m .highs) i 0 ≤ greatest
   high-capped =
       let wf = ready .formed in
@@ -71,14 +71,14 @@ module _ {t : List ℕ} {m : Memory} {i : ℕ} {p : Place} (ready : VisitReady t
         visit-below (record { formed = ready .formed; inside = ready .inside; from = refl; to = refl }) ready
         (omega arith) refl h)
 
-module _ {t : List ℕ} {i first end : ℕ} (family : Family t i first end) {m : Memory} {p : Place}
+module _ {t : List ℕ} {i first end : ℕ} (family : Family t i first end) {m : Memory} {p : Position}
     (ready : VisitReady t m i p) {γ : ℕ} (most : γ ≤ greatest) where
   -- one child is passed over
-  module _ {m′ : Memory} {now : ℕ} (u : Turn t Max γ first end m m′ now) (h : getD (m′ .highs) now 0 < γ) where
-    abbrev next-ready : VisitReady t m′ now (childPlace t now p)
+  module _ {m′ : Memory} {now : ℕ} (u : PassLoop t Max γ first end m m′ now) (h : getD (m′ .highs) now 0 < γ) where
+    abbrev next-ready : VisitReady t m′ now (childPosition t now p)
     next-ready = turn-ready family ready u refl
 
-    skip-one : now + 1 < end → Turn t Max γ first end m m′ (now + 1)
+    skip-one : now + 1 < end → PassLoop t Max γ first end m m′ (now + 1)
     skip-one more =
         turn-next family {m″ = m′} u (below-at-once next-ready most h) (u .long)
         (rw (ne-eqb (now + 1) end (λ e. omega arith)) refl)
@@ -88,32 +88,32 @@ module _ {t : List ℕ} {i first end : ℕ} (family : Family t i first end) {m :
         turn-last family {m″ = m′} u (below-at-once next-ready most h) (rw (eq-eqb (now + 1) end e) refl)
 
   -- so many are
-  skip-to : {m′ : Memory} (n now : ℕ) → Turn t Max γ first end m m′ now
+  skip-to : {m′ : Memory} (n now : ℕ) → PassLoop t Max γ first end m m′ now
       → ((k : ℕ) → now ≤ k → k < now + n → getD (m′ .highs) k 0 < γ) → now + n < end
-      → Turn t Max γ first end m m′ (now + n)
+      → PassLoop t Max γ first end m m′ (now + n)
   skip-to {m′} zero now u h l =
-      let z : now + 0 ≡ now = omega arith in subst (Turn t Max γ first end m m′) (sym z) u
+      let z : now + 0 ≡ now = omega arith in subst (PassLoop t Max γ first end m m′) (sym z) u
   skip-to {m′} (suc n) now u h l =
       let z : now + 1 + n ≡ now + suc n = omega arith in
-      subst (Turn t Max γ first end m m′) z
+      subst (PassLoop t Max γ first end m m′) z
       (skip-to n (now + 1) (skip-one u (h now (omega arith) (omega arith)) (omega arith))
       (λ k a b. h k (omega arith) (omega arith)) (omega arith))
 
-  module _ {s : Side} {m′ : Memory} {now r : ℕ} (u : Turn t s γ first end m m′ now)
+  module _ {s : Side} {m′ : Memory} {now r : ℕ} (u : PassLoop t s γ first end m m′ now)
       (o : PassedOver s (m′ .highs) γ now end r) where
     -- the next child to try
-    pub passed-over : r < end → Turn t s γ first end m m′ r
+    pub passed-over : r < end → PassLoop t s γ first end m m′ r
     passed-over l = by-gap (r - now) refl
       where
-        by-gap : (n : ℕ) → r - now ≡ n → Turn t s γ first end m m′ r
+        by-gap : (n : ℕ) → r - now ≡ n → PassLoop t s γ first end m m′ r
         by-gap zero e =
-            let z : now ≡ r = omega (arith, o .start) in subst (Turn t s γ first end m m′) z u
+            let z : now ≡ r = omega (arith, o .start) in subst (PassLoop t s γ first end m m′) z u
         by-gap (suc n) e =
             let max = o .side (omega arith) in
             let z : now + suc n ≡ r = omega (arith, o .start) in
-            subst (λ x. Turn t x γ first end m m′ r) (sym max)
-            (subst (Turn t Max γ first end m m′) z
-            (skip-to (suc n) now (subst (λ x. Turn t x γ first end m m′ now) max u)
+            subst (λ x. PassLoop t x γ first end m m′ r) (sym max)
+            (subst (PassLoop t Max γ first end m m′) z
+            (skip-to (suc n) now (subst (λ x. PassLoop t x γ first end m m′ now) max u)
             (λ k a b. o .below k a (omega arith)) (omega arith)))
 
     -- all that were left are below
@@ -125,7 +125,7 @@ module _ {t : List ℕ} {i first end : ℕ} (family : Family t i first end) {m :
         let z : now + n + 1 ≡ end = omega arith in
         subst (λ x. Left t x γ first end m m′ false) (sym max)
         (skip-last
-        (skip-to n now (subst (λ x. Turn t x γ first end m m′ now) max u) (λ k a b. o .below k a (omega arith))
+        (skip-to n now (subst (λ x. PassLoop t x γ first end m m′ now) max u) (λ k a b. o .below k a (omega arith))
         (omega arith))
         (o .below (now + n) (omega arith) (omega arith)) z)
 

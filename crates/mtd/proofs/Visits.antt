@@ -6,13 +6,13 @@ use mathlib.Core.Bool.{true, false, cond}
 use mathlib.Core.List.{List, [], _∷_}
 use lib.Dec.{leb}
 use lib.ListN.{getD, set}
-use Rattle.gametree.specs.declared.Place.{Place}
+use Rattle.gametree.specs.declared.Position.{Position}
 use Rattle.gametree.specs.Tree.{Tree, inner, greatest, minimax, Distinct}
 use Rattle.gametree.specs.Bounds.{known}
 use Rattle.frames.specs.Frame.{maxNodes, frames, childCount}
 use Rattle.frames.specs.Tree.{treeAt, valuation}
 use Rattle.frames.specs.Formed.{WellFormed}
-use Rattle.frames.proofs.Places.{depth-at-most}
+use Rattle.frames.proofs.Positions.{depth-at-most}
 use Rattle.frames.proofs.Trees.{in-kids, tree-leaf}
 use Rattle.frames.proofs.Nodes.{in-own, tree-distinct}
 use Rattle.bounds.specs.Marks.{marked, ones}
@@ -27,7 +27,7 @@ use Rattle.mtd.specs.engine.Memory.{Enterable, Passed}
 use Rattle.mtd.specs.engine.Memory.{Looked}
 use Rattle.mtd.proofs.Arrays.{room-at}
 use Rattle.mtd.proofs.Passes.{leaf-passed, below-passed, not-below-passed, entered-passed}
-use Rattle.mtd.proofs.Turns.{kidsUpTo, Left, Family, tree-kids}
+use Rattle.mtd.proofs.Turns.{childrenUpTo, Left, Family, tree-kids}
 
 -- a visit of the same tree
 passed-at : {t : List ℕ} {T U : Tree} {γ : ℕ} {m m′ : Memory} {r : Tried} → U ≡ T → Passed t T γ m m′ r
@@ -50,7 +50,7 @@ module _ (t : List ℕ) (i γ : ℕ) (m : Memory) (m′ : ℕ → Memory) (s : S
       open-known : (m′ (m .leaves) ≡ m) × Enterable t m i γ
       open-known = subst (Looked t i γ m m′) e l
 
-      pub open-ready : {p : Place} → VisitReady t m i p
+      pub open-ready : {p : Position} → VisitReady t m i p
           → VisitReady t (m′ (m .leaves)) i p × Enterable t (m′ (m .leaves)) i γ
       open-ready {p} ready =
           let k = open-known in
@@ -67,9 +67,9 @@ pub passed-same : {t : List ℕ} {T : Tree} {γ : ℕ} {m : Memory} {e e′ o o�
 passed-same p z q u v x = rw (p, z, q, u, v) x
 
 -- a node's depth is small
-pub ready-shallow : {t : List ℕ} {m : Memory} {p : Place} {i : ℕ} → VisitReady t m i p → p .depth ≤ maxNodes
+pub ready-shallow : {t : List ℕ} {m : Memory} {p : Position} {i : ℕ} → VisitReady t m i p → p .depth ≤ maxNodes
 ready-shallow {t} {m} {p} {i} r =
-    omega (arith, depth-at-most t i, r .inside, r .formed .few, ap (λ p. p .depth) (r .placed))
+    omega (arith, depth-at-most t i, r .inside, r .formed .atMost, ap (λ p. p .depth) (r .positioned))
 
 -- a leaf
 module _ (t : List ℕ) (wf : WellFormed t) (i : ℕ) (inside : i < frames t) (none : childCount t i ≡ 0) (m : Memory) where
@@ -90,12 +90,12 @@ module _ (t : List ℕ) (wf : WellFormed t) (i : ℕ) (inside : i < frames t) (n
       (rw p at w) (rw p at c)))
 
 -- an inner node
-module _ {t : List ℕ} {i first end : ℕ} (family : Family t i first end) {m : Memory} {p : Place}
+module _ {t : List ℕ} {i first end : ℕ} (family : Family t i first end) {m : Memory} {p : Position}
     (ready : VisitReady t m i p) (some : first < end) where
-  node-inner : treeAt t i ≡ inner i (p .side) (kidsUpTo t first end)
-  node-inner = tree-kids family (p .side) (ap (λ p. p .side) (ready .placed)) some
+  node-inner : treeAt t i ≡ inner i (p .side) (childrenUpTo t first end)
+  node-inner = tree-kids family (p .side) (ap (λ p. p .side) (ready .positioned)) some
 
-  right-inner : HighsRight t m (inner i (p .side) (kidsUpTo t first end))
+  right-inner : HighsRight t m (inner i (p .side) (childrenUpTo t first end))
   right-inner = subst (HighsRight t m) node-inner (ready .right)
 
   -- a node whose high is below the test is below

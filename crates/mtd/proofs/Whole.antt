@@ -10,7 +10,7 @@ use lib.ListN.{length, replicate, length-replicate, getD-replicate}
 use lib.IntN.{ℤ}
 use Rattle.lists.specs.Lists.{among}
 use Rattle.gametree.specs.declared.Side.the-variants.{Max, Min}
-use Rattle.gametree.specs.Tree.{Tree, inner, Kids, greatest, minimax, Proper}
+use Rattle.gametree.specs.Tree.{Tree, inner, Children, greatest, minimax, Proper}
 use Rattle.gametree.specs.Bounds.{high}
 use Rattle.gametree.specs.Mtd.{mtd}
 use Rattle.gametree.specs.Move.{firstWith, rootMove}
@@ -18,12 +18,12 @@ use Rattle.gametree.proofs.mtd.Moves.{mtd-highMove}
 use Rattle.gametree.proofs.Searches.{byMtd}
 use Rattle.gametree.proofs.Theorems.{value-score, mtd-minimax, search-deciding}
 use Rattle.frames.specs.Frame.{frames, childCount, next}
-use Rattle.frames.specs.Tree.{kidsFrom, treeAt, tree, valuation}
+use Rattle.frames.specs.Tree.{childrenFrom, treeAt, tree, valuation}
 use Rattle.frames.specs.Formed.{WellFormed}
-use Rattle.frames.proofs.Places.{place-root}
+use Rattle.frames.proofs.Positions.{position-root}
 use Rattle.frames.proofs.Proper.{tree-proper}
 use Rattle.frames.proofs.Trees.{zero-or-suc, tree-leaf, tree-inner, tree-number}
-use Rattle.places.specs.Buffer.{written}
+use Rattle.positions.specs.Buffer.{written}
 use Rattle.bounds.specs.Marks.{marked, ones}
 use Rattle.bounds.specs.engine.Bounds.{boundOf}
 use Rattle.bounds.specs.engine.Progress.{progress, evaluateAll}
@@ -44,7 +44,7 @@ module _ (t : List ℕ) (wf : WellFormed t) where
   pub start-fresh : (m : ℕ) → frames t ≤ m → (e o : List ℕ) → frames t ≤ length e → frames t ≤ length o
       → ((k : ℕ) → k < frames t → marked e k ≡ false)
       → Fresh t (memory 0 e o (replicate m greatest) (replicate m 0))
-  start-fresh m few e o room long unmarked =
+  start-fresh m atMost e o room long unmarked =
       record {
         formed = wf;
         room =
@@ -69,7 +69,7 @@ module _ (t : List ℕ) (wf : WellFormed t) where
     run-small = omega (arith, run-score, value-score (valuation t) (tree t) (tree-proper t wf .scored))
 
   -- what the theory says of a Max root
-  high-of : (T : Tree) (n : ℕ) (ks : Kids) → T ≡ inner n Max ks → let E = among (mtd (valuation t) T .evaluated) in
+  high-of : (T : Tree) (n : ℕ) (ks : Children) → T ≡ inner n Max ks → let E = among (mtd (valuation t) T .evaluated) in
       Proper (valuation t) T
       → firstWith (high (valuation t) E) (high (valuation t) E T) ks ≡ rootMove (valuation t) T
   high-of T n ks e =
@@ -83,20 +83,20 @@ module _ (t : List ℕ) (wf : WellFormed t) where
       ≡ rootMove (valuation t) (tree t)
   unfolding firstEqual next
   high-root =
-      zero-or-suc (childCount t 0) (λ e. rw (e, tree-leaf t wf 0 (wf .some) e)) (λ n e.
-      let first = wf .first 0 (wf .some) (omega arith) in
-      let side = ap (λ p. p .side) (place-root t) in
-      let is = tree-inner t wf 0 n (wf .some) e ∙ ap₂ (λ s k. inner 0 s (kidsFrom (treeAt t) k n)) side first in
+      zero-or-suc (childCount t 0) (λ e. rw (e, tree-leaf t wf 0 (wf .nonEmpty) e)) (λ n e.
+      let first = wf .first 0 (wf .nonEmpty) (omega arith) in
+      let side = ap (λ p. p .side) (position-root t) in
+      let is = tree-inner t wf 0 n (wf .nonEmpty) e ∙ ap₂ (λ s k. inner 0 s (childrenFrom (treeAt t) k n)) side first in
       rw e
       (first-with (high (valuation t) (among (mtdLeaves t))) (treeAt t) (tree-number t) _ 1 n
-      ∙ high-of (tree t) 0 (kidsFrom (treeAt t) 1 n) is (tree-proper t wf)))
+      ∙ high-of (tree t) 0 (childrenFrom (treeAt t) 1 n) is (tree-proper t wf)))
 
   -- so it is by their marks
   high-move : (e e₂ : List ℕ) → e₂ ≡ marksOf (mtdLeaves t) t e → firstHigh t e₂ ≡ rootMove (valuation t) (tree t)
   unfolding chosenOf next
   high-move e e₂ q =
       chosen-same t wf (marked e₂) (among (mtdLeaves t))
-      (λ k h. ap (λ l. marked l k) q ∙ marked-written (among (mtdLeaves t)) (frames t) e k h) Min 0 (wf .some)
+      (λ k h. ap (λ l. marked l k) q ∙ marked-written (among (mtdLeaves t)) (frames t) e k h) Min 0 (wf .nonEmpty)
       ∙ high-root
 
   -- the steps together: e is cleared to e₁, the passes make it e₂ and the list o₂, and v follows from that

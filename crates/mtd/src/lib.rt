@@ -6,19 +6,19 @@ use bounds::clear;
 use bounds::evaluate_next;
 use certificate::Findings;
 use certificate::ask;
-use certificate::conclude;
-use certificate::shorter;
+use certificate::lesser;
+use certificate::write_certificate;
 use flags::first_equal;
 use frames::Checked;
 use frames::GREATEST;
 use frames::MAX_NODES;
 use frames::Rejection;
 use frames::child_count;
-use frames::child_place;
+use frames::child_position;
 use frames::first_child;
 use frames::frame_count;
 use frames::value;
-use gametree::Place;
+use gametree::Position;
 use gametree::Side;
 ghost use mathlib.Core.Path.{_≡_};
 ghost use mathlib.Core.Bool.{true, false, cond, _||_};
@@ -28,7 +28,7 @@ ghost use lib.Dec.{leb, eqb};
 ghost use lib.ListN.{length, getD, set};
 ghost use Rattle.gametree.specs.Mtd.{settles as settlesOf, mtd};
 ghost use Rattle.frames.specs.Frame.{maxNodes, frames, childCount};
-ghost use Rattle.frames.specs.Place.{depthOf};
+ghost use Rattle.frames.specs.Position.{depthOf};
 ghost use Rattle.frames.specs.Tree.{treeAt, tree, valuation};
 ghost use Rattle.frames.specs.Formed.{WellFormed};
 ghost use Rattle.bounds.specs.Marks.{marked, ones};
@@ -41,14 +41,14 @@ ghost use Rattle.mtd.specs.engine.Memory.{memory, firstHigh, Fresh, Visi
 ghost use Rattle.mtd.specs.engine.Memory.{PassedOver};
 
 // What MTD finds: what every search finds, and how many passes were made.
-pub struct Found {
+pub struct MtdResult {
     pub findings: Findings,
     pub passes: usize,
 }
 
 // The answer of a call: what was found, or the first question that got a "no".
-pub enum Answer {
-    Found(Found),
+pub enum MtdAnswer {
+    Found(MtdResult),
     Rejected(Rejection),
 }
 
@@ -60,22 +60,22 @@ pub fn search(
     evaluated: &mut [u8],
     certificate: &mut [u8],
     order: &mut [u16],
-) -> Answer
+) -> MtdAnswer
     ensures { λ r. ⌜ record {
       order = now (order .exit);
       search = record { answer = r; evaluated = now (evaluated .exit); certificate = now (certificate .exit) };
     } ≡ mtdOutcome (now (table .entry)) (now (evaluated .entry)) (now (certificate .entry))
         (now (order .entry)) ⌝ }
 {
-    let shortest = shorter(shorter(evaluated.len(), certificate.len()), order.len());
+    let shortest = lesser(lesser(evaluated.len(), certificate.len()), order.len());
     match ask(table, shortest) {
-        Checked::Nodes(_) => Answer::Found(run(table, evaluated, certificate, order)),
-        Checked::Rejected(rejection) => Answer::Rejected(rejection),
+        Checked::Nodes(_) => MtdAnswer::Found(run(table, evaluated, certificate, order)),
+        Checked::Rejected(rejection) => MtdAnswer::Rejected(rejection),
     }
 }
 
 // The search of an accepted table, into buffers with an entry per node.
-fn run(table: &[u8], evaluated: &mut [u8], certificate: &mut [u8], order: &mut [u16]) -> Found
+fn run(table: &[u8], evaluated: &mut [u8], certificate: &mut [u8], order: &mut [u16]) -> MtdResult
     requires { ⌜ WellFormed (now table) ⌝ }
     requires { ⌜ (frames (now table) ≤ length (now evaluated)) × (frames (now table) ≤ length (now certificate)) ⌝ }
     requires { ⌜ frames (now table) ≤ length (now order) ⌝ }
@@ -87,12 +87,12 @@ fn run(table: &[u8], evaluated: &mut [u8], certificate: &mut [u8], order: &mut [
     ensures { λ _. ⌜ now (order .exit) ≡ listed (mtdLeaves (now (table .entry))) (now (order .entry)) ⌝ }
 {
     let found = find(table, evaluated, order);
-    conclude(table, evaluated, certificate);
+    write_certificate(table, evaluated, certificate);
     found
 }
 
 // The same without a certificate, for callers that have checked the table.
-pub fn find(table: &[u8], evaluated: &mut [u8], order: &mut [u16]) -> Found
+pub fn find(table: &[u8], evaluated: &mut [u8], order: &mut [u16]) -> MtdResult
     requires { ⌜ WellFormed (now table) ⌝ }
     requires { ⌜ (frames (now table) ≤ length (now evaluated)) × (frames (now table) ≤ length (now order)) ⌝ }
     ensures { λ r. ⌜ r ≡ mtdFound (now (table .entry)) ⌝ }
@@ -105,7 +105,7 @@ pub fn find(table: &[u8], evaluated: &mut [u8], order: &mut [u16]) -> Found
     let mut not_below = [0u8; MAX_NODES];
     let settled = run_passes(table, evaluated, order, &mut highs, &mut not_below);
     let value = value(settled.score);
-    Found {
+    MtdResult {
         findings: Findings {
             value,
             root_move: settled.root_move,
@@ -140,7 +140,7 @@ fn run_passes(
         ≡ evaluateAll (progress 0 (now (evaluated .entry)) (now (order .entry))) (mtdLeaves (now (table .entry))) ⌝ }
     ensures { λ r. ⌜ r .leaves ≡ ones (now (evaluated .exit)) (frames (now (table .entry))) ⌝ }
 {
-    let root = Place {
+    let root = Position {
         depth: 0,
         side: Side::Max,
     };
@@ -199,12 +199,12 @@ fn visit(
     highs: &mut [u32],
     not_below: &mut [u8],
     node: usize,
-    place: Place,
+    position: Position,
     test: u32,
     leaves: usize,
 ) -> Tried
     requires { ⌜ VisitReady (now table) (memory leaves (now evaluated) (now order) (now highs) (now «not_below»)) node
-        place ⌝ }
+        position ⌝ }
     ensures { λ r. ⌜ Passed (now (table .entry)) (treeAt (now (table .entry)) node) test
         (memory leaves (now (evaluated .entry)) (now (order .entry)) (now (highs .entry)) (now («not_below» .entry)))
         (memory (r .leaves) (now (evaluated .exit)) (now (order .exit)) (now (highs .exit)) (now («not_below» .exit)))
@@ -217,7 +217,7 @@ fn visit(
         highs,
         not_below,
         node,
-        place,
+        position,
         test,
         leaves,
     ) {
@@ -229,7 +229,7 @@ fn visit(
             highs,
             not_below,
             node,
-            place,
+            position,
             test,
             leaves,
         ),
@@ -251,12 +251,12 @@ fn look(
     highs: &mut [u32],
     not_below: &[u8],
     node: usize,
-    place: Place,
+    position: Position,
     test: u32,
     leaves: usize,
 ) -> Seen
     requires { ⌜ VisitReady (now table) (memory leaves (now evaluated) (now order) (now highs) (now «not_below»)) node
-        place ⌝ }
+        position ⌝ }
     ensures { λ r. ⌜ Looked (now (table .entry)) node test
         (memory leaves (now (evaluated .entry)) (now (order .entry)) (now (highs .entry)) (now («not_below» .entry)))
         (λ n. memory n (now (evaluated .exit)) (now (order .exit)) (now (highs .exit)) (now («not_below» .entry)))
@@ -269,7 +269,7 @@ fn look(
             order,
             highs,
             node,
-            place.depth,
+            position.depth,
             test,
             leaves,
         ));
@@ -292,12 +292,12 @@ fn enter(
     highs: &mut [u32],
     not_below: &mut [u8],
     node: usize,
-    place: Place,
+    position: Position,
     test: u32,
     mut leaves: usize,
 ) -> Tried
     requires { ⌜ VisitReady (now table) (memory leaves (now evaluated) (now order) (now highs) (now «not_below»)) node
-        place ⌝ }
+        position ⌝ }
     requires { ⌜ Enterable (now table) (memory leaves (now evaluated) (now order) (now highs) (now «not_below»)) node
         test ⌝ }
     ensures { λ r. ⌜ Passed (now (table .entry)) (treeAt (now (table .entry)) node) test
@@ -305,7 +305,7 @@ fn enter(
         (memory (r .leaves) (now (evaluated .exit)) (now (order .exit)) (now (highs .exit)) (now («not_below» .exit)))
         r ⌝ }
 {
-    let side = place.side;
+    let side = position.side;
     let first = first_child(table, node);
     let end = first + child_count(table, node);
     let mut child = first;
@@ -314,7 +314,7 @@ fn enter(
         if child == end {
             break false;
         }
-        let at = child_place(table, child, place);
+        let at = child_position(table, child, position);
         let tried = match look(
             table,
             evaluated,

@@ -5,41 +5,41 @@ use mathlib.Core.Path.{_≡_, refl, sym, ap, _∙_, subst}
 use mathlib.Core.Bool.{Bool, true, false}
 use mathlib.Core.List.{List, [], _++_, append-assoc}
 use Rattle.gametree.specs.declared.Side.{Side}
-use Rattle.gametree.specs.Tree.{Tree, Kids, last, _then_}
+use Rattle.gametree.specs.Tree.{Tree, Children, last, _then_}
 use Rattle.gametree.specs.Mtd.{settles}
-use Rattle.gametree.specs.Tests.{Tested, passedOn, test, testKids}
+use Rattle.gametree.specs.Tests.{Tested, passedOn, test, testChildren}
 use Rattle.frames.specs.Tree.{valuation}
 use Rattle.mtdf.specs.declared.Tried.{Tried}
 use Rattle.mtdf.specs.engine.Memory.{Memory, soFar, Evaluated, Counted, VisitedBy}
 use Rattle.mtdf.proofs.Arrays.{evaluated-none, evaluated-more}
 
 -- the test of the children of a node after the leaves evaluated so far
-abbrev pub testKidsOf : List ℕ → ℕ → Side → Memory → Kids → Tested
-testKidsOf t γ s m ks = testKids (valuation t) γ (soFar m) s ks
+abbrev pub testChildrenOf : List ℕ → ℕ → Side → Memory → Children → Tested
+testChildrenOf t γ s m ks = testChildren (valuation t) γ (soFar m) s ks
 
 -- what a test of the children of a node does
-pub record DoneKids (t : List ℕ) (γ : ℕ) (s : Side) (ks : Kids) (m m′ : Memory) (b : Bool) : Type 0 where
-  pub answer : b ≡ testKidsOf t γ s m ks .notBelow
-  pub evaluated : Evaluated m m′ (testKidsOf t γ s m ks .evaluated)
+pub record DoneChildren (t : List ℕ) (γ : ℕ) (s : Side) (ks : Children) (m m′ : Memory) (b : Bool) : Type 0 where
+  pub answer : b ≡ testChildrenOf t γ s m ks .notBelow
+  pub evaluated : Evaluated m m′ (testChildrenOf t γ s m ks .evaluated)
   pub counted : Counted t m′
 
 -- between two children: the memory m has become m′, and the children `rest` are left
-pub record Owes (t : List ℕ) (γ : ℕ) (s : Side) (ks rest : Kids) (m m′ : Memory) : Type 0 where
+pub record Remainder (t : List ℕ) (γ : ℕ) (s : Side) (ks rest : Children) (m m′ : Memory) : Type 0 where
   pub done : List ℕ
   pub so-far : Evaluated m m′ done
-  pub evaluated : testKidsOf t γ s m ks .evaluated ≡ done ++ testKidsOf t γ s m′ rest .evaluated
-  pub answer : testKidsOf t γ s m ks .notBelow ≡ testKidsOf t γ s m′ rest .notBelow
+  pub evaluated : testChildrenOf t γ s m ks .evaluated ≡ done ++ testChildrenOf t γ s m′ rest .evaluated
+  pub answer : testChildrenOf t γ s m ks .notBelow ≡ testChildrenOf t γ s m′ rest .notBelow
 
 -- before the first child all is owed
-pub owes-all : (t : List ℕ) (γ : ℕ) (s : Side) (ks : Kids) (m : Memory) → Owes t γ s ks ks m m
-owes-all t γ s ks m = record { done = []; so-far = evaluated-none _; evaluated = refl; answer = refl }
+pub remainder-all : (t : List ℕ) (γ : ℕ) (s : Side) (ks : Children) (m : Memory) → Remainder t γ s ks ks m m
+remainder-all t γ s ks m = record { done = []; so-far = evaluated-none _; evaluated = refl; answer = refl }
 
-module _ {t : List ℕ} {γ : ℕ} {s : Side} {ks : Kids} {m m′ m″ : Memory} {T : Tree} {r : Tried}
+module _ {t : List ℕ} {γ : ℕ} {s : Side} {ks : Children} {m m′ m″ : Memory} {T : Tree} {r : Tried}
     (p : VisitedBy t T γ m′ m″ r) where
   -- a child whose test is that of all the children left ends the loop
-  owes-end : {rest : Kids} → Owes t γ s ks rest m m′ → testKidsOf t γ s m′ rest ≡ test (valuation t) γ (soFar m′) T
-      → DoneKids t γ s ks m m″ (r .answer)
-  owes-end o e =
+  remainder-end : {rest : Children} → Remainder t γ s ks rest m m′ → testChildrenOf t γ s m′ rest ≡ test (valuation t) γ (soFar m′) T
+      → DoneChildren t γ s ks m m″ (r .answer)
+  remainder-end o e =
       record {
         answer = p .answer ∙ ap (λ q. q .notBelow) (sym e) ∙ sym (o .answer);
         evaluated =
@@ -49,25 +49,25 @@ module _ {t : List ℕ} {γ : ℕ} {s : Side} {ks : Kids} {m m′ m″ : Memory}
       }
 
   -- the last child's answer is the node's
-  pub owes-last : Owes t γ s ks (last T) m m′ → DoneKids t γ s ks m m″ (r .answer)
-  owes-last o = owes-end o refl
+  pub remainder-last : Remainder t γ s ks (last T) m m′ → DoneChildren t γ s ks m m″ (r .answer)
+  remainder-last o = remainder-end o refl
 
-  module _ {ts : Kids} (o : Owes t γ s ks (T then ts) m m′) where
+  module _ {ts : Children} (o : Remainder t γ s ks (T then ts) m m′) where
     -- so is that of a child that settles its parent
-    pub owes-settled : settles s (r .answer) ≡ true → DoneKids t γ s ks m m″ (r .answer)
-    owes-settled h =
+    pub remainder-settled : settles s (r .answer) ≡ true → DoneChildren t γ s ks m m″ (r .answer)
+    remainder-settled h =
         let e = ap (settles s) (sym (p .answer)) ∙ h in
-        owes-end o (rw e)
+        remainder-end o (rw e)
 
     -- after another one its younger brothers are owed
-    pub owes-rest : settles s (r .answer) ≡ false → Owes t γ s ks ts m m″
-    owes-rest h =
+    pub remainder-rest : settles s (r .answer) ≡ false → Remainder t γ s ks ts m m″
+    remainder-rest h =
         let e = ap (settles s) (sym (p .answer)) ∙ h in
         let q = test (valuation t) γ (soFar m′) T in
-        let on : testKidsOf t γ s m′ (T then ts) ≡ passedOn q (testKids (valuation t) γ (soFar m′ ++ q .evaluated) s ts)
+        let on : testChildrenOf t γ s m′ (T then ts) ≡ passedOn q (testChildren (valuation t) γ (soFar m′ ++ q .evaluated) s ts)
         = rw e in
-        let next : testKidsOf t γ s m′ (T then ts) ≡ passedOn q (testKidsOf t γ s m″ ts) =
-        on ∙ ap (λ w. passedOn q (testKids (valuation t) γ w s ts)) (sym (p .evaluated .listed)) in
+        let next : testChildrenOf t γ s m′ (T then ts) ≡ passedOn q (testChildrenOf t γ s m″ ts) =
+        on ∙ ap (λ w. passedOn q (testChildren (valuation t) γ w s ts)) (sym (p .evaluated .listed)) in
         record {
           done = o .done ++ q .evaluated;
           so-far = evaluated-more (o .so-far) (p .evaluated);

@@ -12,17 +12,17 @@ use Rattle.lists.proofs.Lists.{all-append, once-length}
 use Rattle.gametree.specs.Tree.{Tree, least, greatest, minimax, leaves, Scored}
 use Rattle.gametree.specs.Bounds.{known, low, high}
 use Rattle.gametree.specs.AlphaBeta.{clamp, reached}
-use Rattle.gametree.specs.Tests.{test, view, Strategy, chosenTest, Driven, met, tested, drive, afterGuess, mtdFrom}
+use Rattle.gametree.specs.Tests.{test, view, Strategy, chosenTest, TestSearch, met, tested, drive, afterGuess, mtdFrom}
 use Rattle.gametree.proofs.minimax.Bounds.{every-leaf, minimax-within}
 use Rattle.gametree.proofs.minimax.Closer.{bounds≤, high≤}
 use Rattle.gametree.proofs.results.Domination.{Reaches}
 use Rattle.gametree.proofs.tests.Leaves.{New, new-append, test-dominated, test-once}
 use Rattle.gametree.proofs.tests.Runs.{reaches-own, test-opens}
 use Rattle.frames.specs.Frame.{frames}
-use Rattle.frames.specs.Place.{rootPlace}
+use Rattle.frames.specs.Position.{rootPosition}
 use Rattle.frames.specs.Tree.{treeAt, tree, valuation}
 use Rattle.frames.specs.Formed.{WellFormed}
-use Rattle.frames.proofs.Places.{place-root}
+use Rattle.frames.proofs.Positions.{position-root}
 use Rattle.frames.proofs.Trees.{zero-or-suc}
 use Rattle.frames.proofs.Nodes.{in-own, tree-range}
 use Rattle.frames.proofs.Proper.{tree-proper}
@@ -57,7 +57,7 @@ none-known ν x T =
     omega arith
 
 -- the run of a table's tree after the answers bs and the leaves w
-abbrev driveOf : (t : List ℕ) (f n : ℕ) (bs : List Bool) (w : List ℕ) → Driven
+abbrev driveOf : (t : List ℕ) (f n : ℕ) (bs : List Bool) (w : List ℕ) → TestSearch
 driveOf t f n bs w = drive (valuation t) (mtdFrom f) n (tree t) bs w
 
 -- before a test: the tests so far and the run from here make the whole run
@@ -66,7 +66,7 @@ pub record Driving (t : List ℕ) (f : ℕ) (m m′ : Memory) (wish tests : ℕ)
   pub counted : Counted t m′
   pub right : BoundsRight t m′ (tree t)
   pub evaluated : Evaluated m m′ (soFar m′)
-  pub few : tests ≤ m′ .leaves
+  pub atMost : tests ≤ m′ .leaves
   pub answers : List Bool
   pub wished : wish ≡ mtdFrom f (view (valuation t) (tree t) answers (soFar m′))
   pub new : New [] (soFar m′)
@@ -83,7 +83,7 @@ module _ (t : List ℕ) (f : ℕ) (e o l h : List ℕ) (fresh : Fresh t (memory 
 
   fresh-bounded : BoundsRight t none (tree t)
   fresh-bounded k i =
-      let own = tree-range t (fresh .formed) 0 (fresh .formed .some) k i .1 in
+      let own = tree-range t (fresh .formed) 0 (fresh .formed .nonEmpty) k i .1 in
       record {
         low = fresh .lows k own ∙ none-known (valuation t) least (treeAt t k);
         high = fresh .highs k own ∙ none-known (valuation t) greatest (treeAt t k);
@@ -101,7 +101,7 @@ module _ (t : List ℕ) (f : ℕ) (e o l h : List ℕ) (fresh : Fresh t (memory 
             };
         right = fresh-bounded;
         evaluated = evaluated-none none;
-        few = omega arith;
+        atMost = omega arith;
         answers = [];
         wished = refl;
         new = record { new = tt; once = tt };
@@ -133,12 +133,12 @@ module _ {t : List ℕ} {f : ℕ} {m m′ : Memory} {wish tests : ℕ} (wf : Wel
   root-small = omega (arith, own .high, high≤ (valuation t) (among (soFar m′)) (tree t) scored)
 
   -- what the next test asks
-  pub driving-ready : MemoryRoom (frames t) m → VisitReady t m′ 0 rootPlace
+  pub driving-ready : MemoryRoom (frames t) m → VisitReady t m′ 0 rootPosition
   driving-ready room =
       record {
         formed = wf;
-        inside = wf .some;
-        placed = sym (place-root t);
+        inside = wf .nonEmpty;
+        positioned = sym (position-root t);
         room = room-kept room (u .long);
         counted = u .counted;
         right = u .right;
@@ -226,7 +226,7 @@ module _ {t : List ℕ} {f : ℕ} {m m′ : Memory} {wish tests : ℕ} (wf : Wel
           counted = p .counted;
           right = p .right;
           evaluated = subst (Evaluated m m″) (sym listed) (evaluated-more (u .evaluated) (p .evaluated));
-          few = omega (arith, u .few, leaves-grow);
+          atMost = omega (arith, u .atMost, leaves-grow);
           answers = r .answer ∷ u .answers;
           wished =
               next

@@ -9,29 +9,29 @@ use mathlib.Core.List.{List}
 use lib.Dec.{eqb}
 use borrow.Author.Tests.{eqb-false, ne-eqb}
 use Rattle.lists.specs.Lists.{among}
-use Rattle.gametree.specs.declared.Place.{Place}
+use Rattle.gametree.specs.declared.Position.{Position}
 use Rattle.gametree.specs.declared.Side.{Side}
-use Rattle.gametree.specs.Tree.{_then_, least, greatest, In, InKids}
+use Rattle.gametree.specs.Tree.{_then_, least, greatest, In, InChildren}
 use Rattle.gametree.specs.Mtd.{settles}
 use Rattle.lists.proofs.Choice.{or-false-both}
-use Rattle.frames.specs.Place.{childPlace}
+use Rattle.frames.specs.Position.{childPosition}
 use Rattle.frames.specs.Tree.{treeAt, valuation}
 use Rattle.frames.specs.Formed.{ChildOf}
 use Rattle.frames.proofs.Next.{child-within}
-use Rattle.frames.proofs.Places.{place-child}
+use Rattle.frames.proofs.Positions.{position-child}
 use Rattle.frames.proofs.Trees.{kids-in}
 use Rattle.frames.proofs.Nodes.{in-parent, in-trans, children-apart}
 use Rattle.mtd.proofs.Arrays.{bound-local}
-use Rattle.mtd.proofs.Turns.{kidsUpTo, kids-last, kids-more, Family, child}
+use Rattle.mtd.proofs.Turns.{childrenUpTo, kids-last, kids-more, Family, child}
 use Rattle.mtdf.specs.declared.Tried.{Tried}
 use Rattle.mtdf.specs.engine.Memory.{Memory, soFar, Bounded, BoundsRight, Counted, VisitReady, Same, VisitedBy}
 use Rattle.mtdf.proofs.Arrays.{Long, room-kept, same-more}
-use Rattle.mtdf.proofs.Children.{DoneKids, Owes, owes-all, owes-last, owes-settled, owes-rest}
+use Rattle.mtdf.proofs.Children.{DoneChildren, Remainder, remainder-all, remainder-last, remainder-settled, remainder-rest}
 
 -- the bounds below the children are right, and at every other node nothing has changed
 pub record Around (t : List ℕ) (first end : ℕ) (m m′ : Memory) : Type 0 where
   pub right : (k : ℕ) → first ≤ k → k < end → BoundsRight t m′ (treeAt t k)
-  pub others : (k : ℕ) → (InKids k (kidsUpTo t first end) → ⊥) → Same m m′ k
+  pub others : (k : ℕ) → (InChildren k (childrenUpTo t first end) → ⊥) → Same m m′ k
 
 -- the head of the loop: the children before `now` have been tested
 pub record Turn (t : List ℕ) (s : Side) (γ first end : ℕ) (m m′ : Memory) (now : ℕ) : Type 0 where
@@ -39,12 +39,12 @@ pub record Turn (t : List ℕ) (s : Side) (γ first end : ℕ) (m m′ : Memory)
   pub to : now < end
   pub long : Long m m′
   pub counted : Counted t m′
-  pub owes : Owes t γ s (kidsUpTo t first end) (kidsUpTo t now end) m m′
+  pub remainder : Remainder t γ s (childrenUpTo t first end) (childrenUpTo t now end) m m′
   pub around : Around t first end m m′
 
 -- after the loop: the children's answer is b
 pub record Left (t : List ℕ) (s : Side) (γ first end : ℕ) (m m′ : Memory) (b : Bool) : Type 0 where
-  pub done : DoneKids t γ s (kidsUpTo t first end) m m′ b
+  pub done : DoneChildren t γ s (childrenUpTo t first end) m m′ b
   pub around : Around t first end m m′
 
 -- the bounds of a node stay right where nothing changes in its tree
@@ -64,7 +64,7 @@ bounded-still {t} {m} {m′} {k} b s e =
 
 module _ {t : List ℕ} {i first end : ℕ} (family : Family t i first end) where
   -- before the first child
-  pub turn-first : {γ : ℕ} {m : Memory} {p : Place} → VisitReady t m i p → first < end
+  pub turn-first : {γ : ℕ} {m : Memory} {p : Position} → VisitReady t m i p → first < end
       → Turn t (p .side) γ first end m m first
   turn-first {γ} {m} {p} ready some =
       record {
@@ -72,7 +72,7 @@ module _ {t : List ℕ} {i first end : ℕ} (family : Family t i first end) wher
         to = some;
         long = record { evaluated = refl; order = refl; lows = refl; highs = refl };
         counted = ready .counted;
-        owes = owes-all t γ (p .side) (kidsUpTo t first end) m;
+        remainder = remainder-all t γ (p .side) (childrenUpTo t first end) m;
         around =
             record {
               right = λ k a b j x.
@@ -87,15 +87,15 @@ module _ {t : List ℕ} {i first end : ℕ} (family : Family t i first end) wher
   turn-child u = child family _ (u .from) (u .to)
 
   -- what the test of the next child asks
-  pub turn-ready : {s : Side} {γ : ℕ} {m m′ : Memory} {now : ℕ} {p q : Place} → VisitReady t m i p
-      → Turn t s γ first end m m′ now → q ≡ childPlace t now p → VisitReady t m′ now q
+  pub turn-ready : {s : Side} {γ : ℕ} {m m′ : Memory} {now : ℕ} {p q : Position} → VisitReady t m i p
+      → Turn t s γ first end m m′ now → q ≡ childPosition t now p → VisitReady t m′ now q
   turn-ready {s} {γ} {m} {m′} {now} {p} {q} r u e =
       let c = turn-child u in
       record {
         formed = family .formed;
         inside = child-within t (family .formed) (family .inside) c;
-        placed =
-            e ∙ ap (λ p. childPlace t now p) (r .placed) ∙ sym (place-child t (family .formed) (family .inside) c);
+        positioned =
+            e ∙ ap (λ p. childPosition t now p) (r .positioned) ∙ sym (position-child t (family .formed) (family .inside) c);
         room = room-kept (r .room) (u .long);
         counted = u .counted;
         right = u .around .right now (u .from) (u .to);
@@ -128,8 +128,8 @@ module _ {t : List ℕ} {i first end : ℕ} (family : Family t i first end) wher
         }
 
     module _ (more : now + 1 < end) where
-      owes-more : Owes t γ s (kidsUpTo t first end) (treeAt t now then kidsUpTo t (now + 1) end) m m′
-      owes-more = subst (λ ks. Owes t γ s (kidsUpTo t first end) ks m m′) (kids-more t now end more) (u .owes)
+      remainder-more : Remainder t γ s (childrenUpTo t first end) (treeAt t now then childrenUpTo t (now + 1) end) m m′
+      remainder-more = subst (λ ks. Remainder t γ s (childrenUpTo t first end) ks m m′) (kids-more t now end more) (u .remainder)
 
     -- after a child that is not the last one tested
     pub turn-next : Long m m″ → eqb (now + 1) end || settles s (r .answer) ≡ false
@@ -143,7 +143,7 @@ module _ {t : List ℕ} {i first end : ℕ} (family : Family t i first end) wher
           to = more;
           long = long;
           counted = p .counted;
-          owes = owes-rest p (owes-more more) (b .1);
+          remainder = remainder-rest p (remainder-more more) (b .1);
           around = still;
         }
 
@@ -154,11 +154,11 @@ module _ {t : List ℕ} {i first end : ℕ} (family : Family t i first end) wher
         record {
           done =
               elim (ℕ-discrete (now + 1) end) [
-                | yes z ↦ owes-last p
-                    (subst (λ ks. Owes t γ s (kidsUpTo t first end) ks m m′) (kids-last t now end z) (u .owes))
+                | yes z ↦ remainder-last p
+                    (subst (λ ks. Remainder t γ s (childrenUpTo t first end) ks m m′) (kids-last t now end z) (u .remainder))
                 | no z ↦ (let o = u .to in
                     let more : now + 1 < end = omega arith in
-                    owes-settled p (owes-more more) (rw (ne-eqb _ _ z) at e))
+                    remainder-settled p (remainder-more more) (rw (ne-eqb _ _ z) at e))
               ];
           around = still;
         }

@@ -11,13 +11,13 @@ use lib.Seq.{getD-set-same, getD-set-other}
 use borrow.Author.Tests.{lt-ltb, le-ltb, le-leb, lt-leb}
 use Rattle.lists.specs.Lists.{among}
 use Rattle.lists.proofs.Choice.{is-false}
-use Rattle.gametree.specs.declared.Place.{Place}
-use Rattle.gametree.specs.Tree.{Tree, leaf, inner, least, greatest, minimax, InKids, Distinct}
+use Rattle.gametree.specs.declared.Position.{Position}
+use Rattle.gametree.specs.Tree.{Tree, leaf, inner, least, greatest, minimax, InChildren, Distinct}
 use Rattle.gametree.specs.Bounds.{known, low, high}
 use Rattle.gametree.specs.Tests.{Tested, unopened, opened, test}
 use Rattle.frames.specs.Frame.{maxNodes, frames, childCount}
 use Rattle.frames.specs.Tree.{treeAt, valuation}
-use Rattle.frames.proofs.Places.{depth-at-most}
+use Rattle.frames.proofs.Positions.{depth-at-most}
 use Rattle.frames.proofs.Trees.{in-kids, tree-leaf}
 use Rattle.frames.proofs.Nodes.{in-own, tree-distinct}
 use Rattle.bounds.specs.engine.Evaluable.{Evaluable}
@@ -25,7 +25,7 @@ use Rattle.bounds.specs.engine.Progress.{Listable}
 use Rattle.bounds.specs.engine.Ranges.{bestIn}
 use Rattle.bounds.proofs.Bounds.{best-same, minimax-best}
 use Rattle.bounds.proofs.Listing.{next-fits}
-use Rattle.mtd.proofs.Turns.{kidsUpTo, Family, tree-kids}
+use Rattle.mtd.proofs.Turns.{childrenUpTo, Family, tree-kids}
 use Rattle.mtdf.specs.declared.Seen.{Seen}
 use Rattle.mtdf.specs.declared.Seen.the-variants.{Answered, Open}
 use Rattle.mtdf.specs.declared.Tried.{Tried}
@@ -66,16 +66,16 @@ stay-done {t} {T} {m} b r a c h =
     }
 
 -- a node's depth is small
-pub ready-shallow : {t : List ℕ} {m : Memory} {p : Place} {i : ℕ} → VisitReady t m i p → p .depth ≤ maxNodes
+pub ready-shallow : {t : List ℕ} {m : Memory} {p : Position} {i : ℕ} → VisitReady t m i p → p .depth ≤ maxNodes
 ready-shallow {t} {m} {p} {i} r =
-    omega (arith, depth-at-most t i, r .inside, r .formed .few, ap (λ p. p .depth) (r .placed))
+    omega (arith, depth-at-most t i, r .inside, r .formed .atMost, ap (λ p. p .depth) (r .positioned))
 
 -- what the listing of one more leaf asks
-pub ready-listable : {t : List ℕ} {m : Memory} {p : Place} {i : ℕ} → VisitReady t m i p → Listable t (progressOf m)
-ready-listable r = record { few = r .formed .few; room = r .room .order; counted = r .counted .number }
+pub ready-listable : {t : List ℕ} {m : Memory} {p : Position} {i : ℕ} → VisitReady t m i p → Listable t (progressOf m)
+ready-listable r = record { atMost = r .formed .atMost; room = r .room .order; counted = r .counted .number }
 
 -- node i is ready for a test
-module _ {t : List ℕ} {m : Memory} {p : Place} {i : ℕ} (ready : VisitReady t m i p) where
+module _ {t : List ℕ} {m : Memory} {p : Position} {i : ℕ} (ready : VisitReady t m i p) where
   own : Bounded t m i
   own = ready .right i (in-own t (ready .formed) i)
 
@@ -118,7 +118,7 @@ module _ {t : List ℕ} {m : Memory} {p : Place} {i : ℕ} (ready : VisitReady t
           leaf = none;
           room = omega (arith, ready .inside, ready .room .evaluated);
           unmarked = ready .counted .marks i (ready .inside) ∙ leaf-new;
-          depth = ap (λ p. p .depth) (ready .placed);
+          depth = ap (λ p. p .depth) (ready .positioned);
           shallow = ready-shallow ready;
         }
 
@@ -187,12 +187,12 @@ module _ (t : List ℕ) (i γ : ℕ) (m : Memory) (m′ : ℕ → Memory) (s : S
       open-known : (m′ (m .leaves) ≡ m) × Undecided t m i γ
       open-known = subst (Looked t i γ m m′) e l
 
-      pub open-ready : {p : Place} → VisitReady t m i p → VisitReady t (m′ (m .leaves)) i p × (0 < childCount t i)
+      pub open-ready : {p : Position} → VisitReady t m i p → VisitReady t (m′ (m .leaves)) i p × (0 < childCount t i)
       open-ready {p} ready =
           let k = open-known in
-          (subst (λ x. VisitReady t x i p) (sym (k .0)) ready, k .1 .some)
+          (subst (λ x. VisitReady t x i p) (sym (k .0)) ready, k .1 .nonEmpty)
 
-      pub open-visited : {p : Place} {m″ : Memory} {r : Tried} → VisitReady t m i p
+      pub open-visited : {p : Position} {m″ : Memory} {r : Tried} → VisitReady t m i p
           → Entered t (treeAt t i) γ (m′ (m .leaves)) m″ r
           → VisitedBy t (treeAt t i) γ m m″ r
       open-visited {p} {m″} {r} ready d =
@@ -207,28 +207,28 @@ pub visited-same : {t : List ℕ} {T : Tree} (γ : ℕ) {m : Memory} {e e′ o o
 visited-same γ p z q u v x = rw (p, z, q, u, v) x
 
 -- an inner node: its children were tested, and it gets the best of their bounds
-module _ {t : List ℕ} {i first end : ℕ} (family : Family t i first end) {m : Memory} {p : Place}
+module _ {t : List ℕ} {i first end : ℕ} (family : Family t i first end) {m : Memory} {p : Position}
     (ready : VisitReady t m i p) (some : first < end) {γ : ℕ} {m′ : Memory} (r : Tried)
     (room : MemoryRoom (frames t) m′) (left : Left t (p .side) γ first end m m′ (r .answer)) (l h : ℕ)
     (ls : l ≡ bestIn (p .side) (λ k. getD (m′ .lows) k 0) first (end - (first + 1)))
     (hs : h ≡ bestIn (p .side) (λ k. getD (m′ .highs) k 0) first (end - (first + 1))) where
-  node-inner : treeAt t i ≡ inner i (p .side) (kidsUpTo t first end)
-  node-inner = tree-kids family (p .side) (ap (λ p. p .side) (ready .placed)) some
+  node-inner : treeAt t i ≡ inner i (p .side) (childrenUpTo t first end)
+  node-inner = tree-kids family (p .side) (ap (λ p. p .side) (ready .positioned)) some
 
   -- the memory afterwards
   abbrev after : Memory
   after = memory (m′ .leaves) (m′ .evaluated) (m′ .order) (set (m′ .lows) i l) (set (m′ .highs) i h)
 
-  apart : (k : ℕ) → InKids k (kidsUpTo t first end) → k ≡ i → ⊥
+  apart : (k : ℕ) → InChildren k (childrenUpTo t first end) → k ≡ i → ⊥
   apart k x e =
       subst Distinct node-inner (tree-distinct t (family .formed) i (family .inside)) .0
-      (subst (λ j. InKids j (kidsUpTo t first end)) e x)
+      (subst (λ j. InChildren j (childrenUpTo t first end)) e x)
 
   -- the best of the children's bounds is the node's
   best-bound : (x : ℕ) (f : ℕ → ℕ) (v : ℕ)
       → ((k : ℕ) → first ≤ k → k < end → f k ≡ minimax (known (valuation t) (among (soFar m′)) x) (treeAt t k))
       → v ≡ bestIn (p .side) f first (end - (first + 1))
-      → v ≡ minimax (known (valuation t) (among (soFar m′)) x) (inner i (p .side) (kidsUpTo t first end))
+      → v ≡ minimax (known (valuation t) (among (soFar m′)) x) (inner i (p .side) (childrenUpTo t first end))
   best-bound x f v same b =
       let μ = known (valuation t) (among (soFar m′)) x in
       let n = end - (first + 1) in
@@ -251,7 +251,7 @@ module _ {t : List ℕ} {i first end : ℕ} (family : Family t i first end) {m :
             ∙ best-bound greatest (λ k. getD (m′ .highs) k 0) h (λ k a b. child-bounded k a b .high) hs);
       }
 
-  below-bounded : (k : ℕ) → InKids k (kidsUpTo t first end) → Bounded t after k
+  below-bounded : (k : ℕ) → InChildren k (childrenUpTo t first end) → Bounded t after k
   below-bounded k x =
       let j = in-kids (treeAt t) first (end - (first + 1)) k x in
       let b = left .around .right (j .0) (j .1) (omega (arith, j .2)) k (j .3) in
@@ -260,8 +260,8 @@ module _ {t : List ℕ} {i first end : ℕ} (family : Family t i first end) {m :
         high = getD-set-other (m′ .highs) i k h 0 (apart k x) ∙ b .high;
       }
 
-  inner-entered : Done t (inner i (p .side) (kidsUpTo t first end))
-      (enteredTest (valuation t) γ (soFar m) (inner i (p .side) (kidsUpTo t first end))) m after r
+  inner-entered : Done t (inner i (p .side) (childrenUpTo t first end))
+      (enteredTest (valuation t) γ (soFar m) (inner i (p .side) (childrenUpTo t first end))) m after r
   inner-entered =
       record {
         answer = left .done .answer;

@@ -18,20 +18,20 @@ use Rattle.gametree.proofs.Theorems.{value-score, search-deciding}
 use Rattle.gametree.proofs.TestRuns.{decide-minimax}
 use Rattle.gametree.proofs.tests.FirstMove.{moveAmong-leaves}
 use Rattle.frames.specs.Frame.{frames, firstChild, childCount}
-use Rattle.frames.specs.Place.{rootPlace}
+use Rattle.frames.specs.Position.{rootPosition}
 use Rattle.frames.specs.Tree.{tree, valuation}
 use Rattle.frames.specs.Formed.{WellFormed}
 use Rattle.frames.specs.Value.{valueOf}
-use Rattle.frames.proofs.Places.{place-root}
+use Rattle.frames.proofs.Positions.{position-root}
 use Rattle.frames.proofs.Trees.{tree-leaf}
 use Rattle.frames.proofs.Proper.{tree-proper}
-use Rattle.places.specs.Buffer.{written}
+use Rattle.positions.specs.Buffer.{written}
 use Rattle.bounds.specs.Marks.{marked}
 use Rattle.bounds.specs.engine.Progress.{progress, evaluateAll}
 use Rattle.bounds.proofs.Listing.{first-evaluated}
 use Rattle.certificate.specs.Search.{marksOf, flagsOf, listed}
 use Rattle.certificate.proofs.Outcomes.{search-concludes}
-use Rattle.mtd.proofs.Turns.{kidsUpTo, tree-kids}
+use Rattle.mtd.proofs.Turns.{childrenUpTo, tree-kids}
 use Rattle.mtdf.specs.declared.Settled.{Settled}
 use Rattle.mtdf.specs.declared.Tried.{Tried}
 use Rattle.mtdf.specs.Outcome.{decisionOf, mtdfLeaves, mtdfFound}
@@ -44,7 +44,7 @@ module _ (t : List ℕ) (wf : WellFormed t) where
   pub start-fresh : (m : ℕ) → frames t ≤ m → (e o : List ℕ) → frames t ≤ length e → frames t ≤ length o
       → ((k : ℕ) → k < frames t → marked e k ≡ false)
       → Fresh t (memory 0 e o (replicate m least) (replicate m greatest))
-  start-fresh m few e o room long unmarked =
+  start-fresh m atMost e o room long unmarked =
       record {
         formed = wf;
         room =
@@ -62,12 +62,12 @@ module _ (t : List ℕ) (wf : WellFormed t) where
 
   -- what the last phase asks
   pub met-ready : (f : ℕ) (m m′ : Memory) (r : Settled) → MemoryRoom (frames t) m → Long m m′ → Met t f m m′ r
-      → VisitReady t m′ 0 rootPlace
+      → VisitReady t m′ 0 rootPosition
   met-ready f m m′ r room long met =
       record {
         formed = wf;
-        inside = wf .some;
-        placed = sym (place-root t);
+        inside = wf .nonEmpty;
+        positioned = sym (position-root t);
         room = room-kept room long;
         counted = met .counted;
         right = met .right;
@@ -76,7 +76,7 @@ module _ (t : List ℕ) (wf : WellFormed t) where
   -- the last phase at a leaf, and at an inner root
   pub moved-leaf : (v : ℕ) (m : Memory) → childCount t 0 ≡ 0 → Counted t m → MovedTo t v m m
   moved-leaf v m none c =
-      let is = tree-leaf t wf 0 (wf .some) none in
+      let is = tree-leaf t wf 0 (wf .nonEmpty) none in
       record {
         evaluated =
             subst (λ T. Evaluated m m (lastPhase (valuation t) v (soFar m) T .evaluated)) (sym is) (evaluated-none m);
@@ -86,9 +86,9 @@ module _ (t : List ℕ) (wf : WellFormed t) where
   pub moved-inner : (v : ℕ) (m m′ : Memory) (r : Tried) → 0 < childCount t 0 → Entered t (tree t) v m m′ r
       → MovedTo t v m m′
   moved-inner v m m′ r some d =
-      let is = tree-kids (record { formed = wf; inside = wf .some; from = refl; to = refl }) Max
-      (sym (ap (λ p. p .side) (place-root t))) (omega arith) in
-      let kids = kidsUpTo t (firstChild t 0) (firstChild t 0 + childCount t 0) in
+      let is = tree-kids (record { formed = wf; inside = wf .nonEmpty; from = refl; to = refl }) Max
+      (sym (ap (λ p. p .side) (position-root t))) (omega arith) in
+      let kids = childrenUpTo t (firstChild t 0) (firstChild t 0 + childCount t 0) in
       record {
         evaluated =
             subst (λ T. Evaluated m m′ (lastPhase (valuation t) v (soFar m) T .evaluated)) (sym is)

@@ -11,15 +11,15 @@ use Rattle.gametree.specs.Tree.{least, greatest}
 use Rattle.gametree.specs.FirstMove.{Decision, mtdf}
 use Rattle.frames.specs.Tree.{tree, valuation}
 use Rattle.frames.specs.Value.{maxValue}
-use Rattle.certificate.specs.Search.{searchRejection, findings, Search, Listed, listedOutcome}
-use Rattle.leafvalue.specs.Wanted.{scoreOf}
-use Rattle.mtdf.specs.declared.Found.{Found}
-use Rattle.mtdf.specs.declared.Answer.{Answer}
-use Rattle.mtdf.specs.declared.Answer.the-variants.{Found as FoundAnswer, Rejected}
+use Rattle.certificate.specs.Search.{searchRejection, findings, Search, ListedOutcome, listedOutcome}
+use Rattle.leafvalue.specs.LeastValue.{wantedScore}
+use Rattle.mtdf.specs.declared.MtdfResult.{MtdfResult}
+use Rattle.mtdf.specs.declared.MtdfAnswer.{MtdfAnswer}
+use Rattle.mtdf.specs.declared.MtdfAnswer.the-variants.{Found as FoundAnswer, Rejected}
 
 -- the first guess for a starting value: its score; below the range of values minus infinity, above it plus infinity
 abbrev pub startScore : ℤ → ℕ
-startScore v = cond (leb (natAbs v) maxValue) (scoreOf v) (cond (ltZ v (pos 0)) least greatest)
+startScore v = cond (leb (natAbs v) maxValue) (wantedScore v) (cond (ltZ v (pos 0)) least greatest)
 
 -- what MTD(f) with the first guess f gives in the tree of a table
 unfoldable pub decisionOf : (f : ℕ) (t : List ℕ) → Decision
@@ -30,7 +30,7 @@ abbrev pub mtdfLeaves : (f : ℕ) (t : List ℕ) → List ℕ
 mtdfLeaves f t = decisionOf f t .evaluated
 
 -- what every search finds, and the number of tests that it puts to the root
-abbrev pub mtdfFound : (f : ℕ) (t : List ℕ) → Found
+abbrev pub mtdfFound : (f : ℕ) (t : List ℕ) → MtdfResult
 mtdfFound f t = record { findings = findings (mtdfLeaves f t) t; tests = decisionOf f t .tests }
 
 -- a search of the table t with the buffers e and c: it evaluates these leaves
@@ -39,7 +39,7 @@ mtdfSearch f t e c = record { table = t; evaluated = e; certificate = c; leaves 
 
 -- the outcome of a call with the starting value v, the table t, the buffers e and c and the list o: the first "no" to
 -- questions 1 to 10, or the findings
-abbrev pub mtdfOutcome : (v : ℤ) (t e c o : List ℕ) → Listed Answer
+abbrev pub mtdfOutcome : (v : ℤ) (t e c o : List ℕ) → ListedOutcome MtdfAnswer
 mtdfOutcome v t e c o =
     let f = startScore v in
     listedOutcome Rejected (FoundAnswer (mtdfFound f t))

@@ -6,24 +6,24 @@ use bounds::clear;
 use bounds::evaluate_next;
 use certificate::Findings;
 use certificate::ask;
-use certificate::conclude;
-use certificate::shorter;
+use certificate::lesser;
+use certificate::write_certificate;
 use frames::Checked;
 use frames::GREATEST;
 use frames::LEAST;
 use frames::MAX_NODES;
 use frames::Rejection;
 use frames::child_count;
-use frames::child_place;
+use frames::child_position;
 use frames::first_child;
 use frames::frame_count;
 use frames::value;
-use gametree::Place;
+use gametree::Position;
 use gametree::Side;
 use leafvalue::in_range;
 use leafvalue::score_of;
 use mtd::last_tried;
-use places::SMALL;
+use positions::SMALL_TABLE;
 ghost use mathlib.Core.Path.{_≡_};
 ghost use mathlib.Core.Bool.{cond, false};
 ghost use Prim.Native.Nat.{ℕ, suc, _+_, _<_, _≤_};
@@ -31,7 +31,7 @@ ghost use lib.ListN.{length, getD, set};
 ghost use Rattle.gametree.specs.Tree.{greatest};
 ghost use Rattle.gametree.specs.AlphaBeta.{clamp};
 ghost use Rattle.frames.specs.Frame.{frames, childCount};
-ghost use Rattle.frames.specs.Place.{rootPlace};
+ghost use Rattle.frames.specs.Position.{rootPosition};
 ghost use Rattle.frames.specs.Tree.{treeAt, valuation};
 ghost use Rattle.frames.specs.Formed.{WellFormed};
 ghost use Rattle.bounds.specs.Marks.{marked};
@@ -43,14 +43,14 @@ ghost use Rattle.mtdf.specs.engine.Memory.{memory, Fresh, VisitReady, Vi
 ghost use Rattle.mtdf.specs.engine.Memory.{Settles, Met, MovedTo};
 
 // What MTD(f) finds: what every search finds, and how many tests were put to the root.
-pub struct Found {
+pub struct MtdfResult {
     pub findings: Findings,
     pub tests: usize,
 }
 
 // The answer of a call: what was found, or the first question that got a "no".
-pub enum Answer {
-    Found(Found),
+pub enum MtdfAnswer {
+    Found(MtdfResult),
     Rejected(Rejection),
 }
 
@@ -63,23 +63,23 @@ pub fn search(
     evaluated: &mut [u8],
     certificate: &mut [u8],
     order: &mut [u16],
-) -> Answer
+) -> MtdfAnswer
     ensures { λ r. ⌜ record {
       order = now (order .exit);
       search = record { answer = r; evaluated = now (evaluated .exit); certificate = now (certificate .exit) };
     } ≡ mtdfOutcome start (now (table .entry)) (now (evaluated .entry)) (now (certificate .entry))
         (now (order .entry)) ⌝ }
 {
-    let shortest = shorter(shorter(evaluated.len(), certificate.len()), order.len());
+    let shortest = lesser(lesser(evaluated.len(), certificate.len()), order.len());
     match ask(table, shortest) {
-        Checked::Nodes(_) => Answer::Found(run(
+        Checked::Nodes(_) => MtdfAnswer::Found(run(
             table,
             start_score(start),
             evaluated,
             certificate,
             order,
         )),
-        Checked::Rejected(rejection) => Answer::Rejected(rejection),
+        Checked::Rejected(rejection) => MtdfAnswer::Rejected(rejection),
     }
 }
 
@@ -100,7 +100,7 @@ fn run(
     evaluated: &mut [u8],
     certificate: &mut [u8],
     order: &mut [u16],
-) -> Found
+) -> MtdfResult
     requires { ⌜ WellFormed (now table) ⌝ }
     requires { ⌜ (frames (now table) ≤ length (now evaluated)) × (frames (now table) ≤ length (now certificate)) ⌝ }
     requires { ⌜ frames (now table) ≤ length (now order) ⌝ }
@@ -113,9 +113,9 @@ fn run(
 {
     clear(evaluated, frame_count(table));
     let settled = settle(table, guess, evaluated, order);
-    let root_move = conclude(table, evaluated, certificate);
+    let root_move = write_certificate(table, evaluated, certificate);
     let value = value(settled.score);
-    Found {
+    MtdfResult {
         findings: Findings {
             value,
             root_move,
@@ -141,9 +141,9 @@ fn settle(table: &[u8], guess: u32, evaluated: &mut [u8], order: &mut [u16]) -> 
     ensures { λ r. ⌜ Settles (now (table .entry)) guess (progress 0 (now (evaluated .entry)) (now (order .entry)))
         (progress (r .leaves) (now (evaluated .exit)) (now (order .exit))) r ⌝ }
 {
-    if frame_count(table) <= SMALL {
-        let mut lows = [LEAST; SMALL];
-        let mut highs = [GREATEST; SMALL];
+    if frame_count(table) <= SMALL_TABLE {
+        let mut lows = [LEAST; SMALL_TABLE];
+        let mut highs = [GREATEST; SMALL_TABLE];
         return decide(table, guess, evaluated, order, &mut lows, &mut highs);
     }
     let mut lows = [LEAST; MAX_NODES];
@@ -187,7 +187,7 @@ fn drive(
         (memory 0 (now (evaluated .entry)) (now (order .entry)) (now (lows .entry)) (now (highs .entry)))
         (memory (r .leaves) (now (evaluated .exit)) (now (order .exit)) (now (lows .exit)) (now (highs .exit))) r ⌝ }
 {
-    let root = Place {
+    let root = Position {
         depth: 0,
         side: Side::Max,
     };
@@ -251,7 +251,7 @@ fn find_move(
     leaves: usize,
 ) -> usize
     requires { ⌜ VisitReady (now table) (memory leaves (now evaluated) (now order) (now lows) (now highs)) 0
-        rootPlace ⌝ }
+        rootPosition ⌝ }
     ensures { λ r. ⌜ MovedTo (now (table .entry)) score
         (memory leaves (now (evaluated .entry)) (now (order .entry)) (now (lows .entry)) (now (highs .entry)))
         (memory r (now (evaluated .exit)) (now (order .exit)) (now (lows .exit)) (now (highs .exit))) ⌝ }
@@ -259,7 +259,7 @@ fn find_move(
     if child_count(table, 0) == 0 {
         return leaves;
     }
-    let root = Place {
+    let root = Position {
         depth: 0,
         side: Side::Max,
     };
@@ -282,12 +282,12 @@ fn visit(
     lows: &mut [u32],
     highs: &mut [u32],
     node: usize,
-    place: Place,
+    position: Position,
     test: u32,
     leaves: usize,
 ) -> Tried
     requires { ⌜ VisitReady (now table) (memory leaves (now evaluated) (now order) (now lows) (now highs)) node
-        place ⌝ }
+        position ⌝ }
     ensures { λ r. ⌜ VisitedBy (now (table .entry)) (treeAt (now (table .entry)) node) test
         (memory leaves (now (evaluated .entry)) (now (order .entry)) (now (lows .entry)) (now (highs .entry)))
         (memory (r .leaves) (now (evaluated .exit)) (now (order .exit)) (now (lows .exit)) (now (highs .exit)))
@@ -300,7 +300,7 @@ fn visit(
         lows,
         highs,
         node,
-        place,
+        position,
         test,
         leaves,
     ) {
@@ -312,7 +312,7 @@ fn visit(
             lows,
             highs,
             node,
-            place,
+            position,
             test,
             leaves,
         ),
@@ -334,12 +334,12 @@ fn look(
     lows: &mut [u32],
     highs: &mut [u32],
     node: usize,
-    place: Place,
+    position: Position,
     test: u32,
     leaves: usize,
 ) -> Seen
     requires { ⌜ VisitReady (now table) (memory leaves (now evaluated) (now order) (now lows) (now highs)) node
-        place ⌝ }
+        position ⌝ }
     ensures { λ r. ⌜ Looked (now (table .entry)) node test
         (memory leaves (now (evaluated .entry)) (now (order .entry)) (now (lows .entry)) (now (highs .entry)))
         (λ n. memory n (now (evaluated .exit)) (now (order .exit)) (now (lows .exit)) (now (highs .exit)))
@@ -361,7 +361,7 @@ fn look(
         lows,
         highs,
         node,
-        place.depth,
+        position.depth,
         leaves,
     );
     let answer = test <= leaf.score;
@@ -384,24 +384,24 @@ fn enter(
     lows: &mut [u32],
     highs: &mut [u32],
     node: usize,
-    place: Place,
+    position: Position,
     test: u32,
     mut leaves: usize,
 ) -> Tried
     requires { ⌜ VisitReady (now table) (memory leaves (now evaluated) (now order) (now lows) (now highs)) node
-        place ⌝ }
+        position ⌝ }
     requires { ⌜ 0 < childCount (now table) node ⌝ }
     ensures { λ r. ⌜ Entered (now (table .entry)) (treeAt (now (table .entry)) node) test
         (memory leaves (now (evaluated .entry)) (now (order .entry)) (now (lows .entry)) (now (highs .entry)))
         (memory (r .leaves) (now (evaluated .exit)) (now (order .exit)) (now (lows .exit)) (now (highs .exit)))
         r ⌝ }
 {
-    let side = place.side;
+    let side = position.side;
     let first = first_child(table, node);
     let end = first + child_count(table, node);
     let mut child = first;
     let answer = loop {
-        let at = child_place(table, child, place);
+        let at = child_position(table, child, position);
         let tried = match look(
             table,
             evaluated,

@@ -24,7 +24,7 @@ module _ (t : List ℕ) (wf : WellFormed t) where
   pub leaves-are : (k : ℕ) → k < frames t → among (allLeaves t) k ≡ eqb (childCount t k) 0
   leaves-are k h =
       zero-or-suc (childCount t k) (λ e.
-      leaf-listed t wf 0 (wf .some) k (in-tree t wf k h) e ∙ sym (eq-eqb (childCount t k) 0 e)) (λ n e.
+      leaf-listed t wf 0 (wf .nonEmpty) k (in-tree t wf k h) e ∙ sym (eq-eqb (childCount t k) 0 e)) (λ n e.
       is-false (among (allLeaves t) k) (λ x.
       omega (
         arith,

@@ -6,9 +6,9 @@ use mathlib.Core.Path.{_≡_, refl, sym, _∙_}
 use mathlib.Core.List.{List}
 use Rattle.gametree.specs.declared.Side.{Side}
 use Rattle.gametree.specs.declared.Side.the-variants.{Max, Min}
-use Rattle.gametree.specs.Tree.{Tree, greatest, better, minimax, minimaxKids, leaves, leavesKids}
+use Rattle.gametree.specs.Tree.{Tree, greatest, better, minimax, minimaxChildren, leaves, leavesChildren}
 use Rattle.gametree.specs.Certificate.{worst}
-use Rattle.frames.specs.Tree.{kidsFrom}
+use Rattle.frames.specs.Tree.{childrenFrom}
 use Rattle.bounds.specs.Marks.{markAll}
 use Rattle.bounds.proofs.Marking.{markAll-append}
 
@@ -33,16 +33,16 @@ module _ (g : ℕ → Tree) where
   marksAfter e k (suc n) = marksAfter (markAll e (leaves (g k))) (k + 1) n
 
   pub scores-all : (ν : ℕ → ℕ) (s : Side) (v k n : ℕ)
-      → scoreAfter ν s v k (suc n) ≡ better s v (minimaxKids ν s (kidsFrom g k n))
-  unfolding scoreAfter kidsFrom
+      → scoreAfter ν s v k (suc n) ≡ better s v (minimaxChildren ν s (childrenFrom g k n))
+  unfolding scoreAfter childrenFrom
   scores-all ν s v k zero = refl
   scores-all ν s v k (suc n) =
       scores-all ν s (better s v (minimax ν (g k))) (k + 1) n
-      ∙ better-assoc s v (minimax ν (g k)) (minimaxKids ν s (kidsFrom g (k + 1) n))
+      ∙ better-assoc s v (minimax ν (g k)) (minimaxChildren ν s (childrenFrom g (k + 1) n))
 
-  pub marks-all : (e : List ℕ) (k n : ℕ) → marksAfter e k (suc n) ≡ markAll e (leavesKids (kidsFrom g k n))
-  unfolding marksAfter kidsFrom
+  pub marks-all : (e : List ℕ) (k n : ℕ) → marksAfter e k (suc n) ≡ markAll e (leavesChildren (childrenFrom g k n))
+  unfolding marksAfter childrenFrom
   marks-all e k zero = refl
   marks-all e k (suc n) =
       marks-all (markAll e (leaves (g k))) (k + 1) n
-      ∙ sym (markAll-append e (leaves (g k)) (leavesKids (kidsFrom g (k + 1) n)))
+      ∙ sym (markAll-append e (leaves (g k)) (leavesChildren (childrenFrom g (k + 1) n)))

@@ -11,21 +11,21 @@ use Rattle.gametree.specs.Certificate.{worst}
 use Rattle.gametree.proofs.minimax.Nodes.{leaves-in}
 use Rattle.gametree.proofs.Theorems.{value-score}
 use Rattle.frames.specs.Frame.{maxDepth, firstChild, childCount}
-use Rattle.frames.specs.Place.{childSide}
+use Rattle.frames.specs.Position.{childSide}
 use Rattle.frames.specs.Tree.{treeAt, valuation}
 use Rattle.frames.specs.Formed.{ChildOf}
 use Rattle.frames.proofs.Nodes.{in-own}
 use Rattle.frames.proofs.Next.{child-within}
-use Rattle.frames.proofs.Places.{depth-child}
+use Rattle.frames.proofs.Positions.{depth-child}
 use Rattle.frames.proofs.Proper.{every-leaf, leaf-scored}
 use Rattle.frames.proofs.Trees.{tree-leaf, tree-inner}
 use Rattle.bounds.specs.Marks.{markAll}
 use Rattle.bounds.specs.engine.Evaluable.{Evaluable}
 use Rattle.certificate.specs.engine.Searchable.{Unmarked}
 use Rattle.bounds.proofs.Marking.{markAll-length}
-use Rattle.certificate.proofs.Unmarked.{Waiting, all-wait, younger-wait}
+use Rattle.certificate.proofs.Unmarked.{Unvisited, all-wait, younger-wait}
 use Rattle.certificate.proofs.Searchable.{searchable-depth, searchable-child}
-use Rattle.plain.specs.engine.Ready.{turnPlace, Ready}
+use Rattle.plain.specs.engine.Ready.{turnPosition, Ready}
 use Rattle.plain.proofs.Pass.{better-worst, scoreAfter, marksAfter, scores-all, marks-all}
 
 -- a turn at node i gives the score r, and makes e′ of the marks e
@@ -34,11 +34,11 @@ Gives t i e e′ r = (r ≡ minimax (valuation t) (treeAt t i)) × (e′ ≡ mar
 
 -- at the head of the loop over the children of node i, from `first` up to `end`: child k is next, e₀ were the marks and
 -- e are, v is the score; what the children that are left make of them is what the turn is to give
-pub record Turn (t : List ℕ) (s : Side) (i : ℕ) (e₀ : List ℕ) (first end : ℕ) (e : List ℕ) (v k : ℕ) : Type 0 where
+pub record TurnLoop (t : List ℕ) (s : Side) (i : ℕ) (e₀ : List ℕ) (first end : ℕ) (e : List ℕ) (v k : ℕ) : Type 0 where
   pub from : first ≤ k
   pub to : k ≤ end
   pub kept : length e ≡ length e₀
-  pub waiting : Waiting t e i k
+  pub unvisited : Unvisited t e i k
   pub gives : Gives t i e₀ (marksAfter (treeAt t) e k (end - k)) (scoreAfter (treeAt t) (valuation t) s v k (end - k))
 
 module _ (t e : List ℕ) (s : Side) (i left : ℕ) (r : Ready t e s i left) where
@@ -46,7 +46,7 @@ module _ (t e : List ℕ) (s : Side) (i left : ℕ) (r : Ready t e s i left) whe
   pub leaf-evaluable : (d : ℕ) → d ≡ maxDepth - left → childCount t i ≡ 0 → Evaluable t e i d
   leaf-evaluable d q z =
       let x = r .searchable in
-      let p = searchable-depth t e i (turnPlace s left) x in
+      let p = searchable-depth t e i (turnPosition s left) x in
       record {
         inside = x .inside;
         leaf = z;
@@ -63,21 +63,21 @@ module _ (t e : List ℕ) (s : Side) (i left : ℕ) (r : Ready t e s i left) whe
 
   -- before the first child all is to come
   pub turn-starts : (first end v : ℕ) → 0 < childCount t i → first ≡ firstChild t i → end ≡ first + childCount t i
-      → v ≡ worst s → Turn t s i e first end e v first
+      → v ≡ worst s → TurnLoop t s i e first end e v first
   turn-starts first end v c f l w =
       let x = r .searchable in
       let n = childCount t i - 1 in
       let m : childCount t i ≡ suc n = omega arith in
       let b : end - first ≡ suc n = omega arith in
       let own = tree-inner t (x .formed) i n (x .inside) m in
-      let side = ap (λ p. p .side) (x .placed) in
+      let side = ap (λ p. p .side) (x .positioned) in
       let score = value-score (valuation t) (treeAt t i)
       (every-leaf t (x .formed) (λ k. Score (valuation t k)) (leaf-scored t (x .formed)) i (x .inside)) in
       record {
         from = omega arith;
         to = omega arith;
         kept = refl;
-        waiting = all-wait t (x .formed) i (x .inside) e first (x .unmarked);
+        unvisited = all-wait t (x .formed) i (x .inside) e first (x .unmarked);
         gives = (
           rw (b, w, f, scores-all (treeAt t) (valuation t) s (worst s) (firstChild t i) n, own, ← side)
               (better-worst s _ (omega (arith, rw (own, ← side) at score))),
@@ -94,7 +94,7 @@ module _ (t e : List ℕ) (s : Side) (i left : ℕ) (r : Ready t e s i left) whe
         arith,
         r .shallow (firstChild t i) (child-within t (x .formed) (x .inside) c),
         depth-child t (x .formed) (x .inside) c,
-        searchable-depth t e i (turnPlace s left) x,
+        searchable-depth t e i (turnPosition s left) x,
         r .remaining,
       )
 
@@ -106,17 +106,17 @@ module _ (t e : List ℕ) (s : Side) (i left : ℕ) (r : Ready t e s i left) whe
       omega (arith, inner-left (omega (arith, c .from, c .to)), r .remaining) in
       record {
         searchable =
-            searchable-child t e i (turnPlace s left) (r .searchable) k e′ (turnPlace q (left - 1)) c l u
+            searchable-child t e i (turnPosition s left) (r .searchable) k e′ (turnPosition q (left - 1)) c l u
             (ap₂ (λ d q. record { depth = d; side = q }) d m);
         remaining = omega (arith, r .remaining);
         shallow = r .shallow;
       }
 
 module _ (t e : List ℕ) (s : Side) (i left : ℕ) (r : Ready t e s i left) (first end : ℕ) (e₁ : List ℕ) (v k : ℕ)
-    (h : Turn t s i e first end e₁ v k) where
+    (h : TurnLoop t s i e first end e₁ v k) where
   -- after the turn of a child the children behind it are to come
   pub turn-goes-on : ChildOf t i k → k < end → (e₂ : List ℕ) (x w : ℕ) → Gives t k e₁ e₂ x → w ≡ better s v x
-      → Turn t s i e first end e₂ w (k + 1)
+      → TurnLoop t s i e first end e₂ w (k + 1)
   unfolding scoreAfter marksAfter
   turn-goes-on c l e₂ x w d b =
       let m : end - k ≡ suc (end - (k + 1)) = omega arith in
@@ -125,8 +125,8 @@ module _ (t e : List ℕ) (s : Side) (i left : ℕ) (r : Ready t e s i left) (fi
         from = omega (arith, h .from);
         to = omega arith;
         kept = ap length (d .1) ∙ markAll-length e₁ _ ∙ h .kept;
-        waiting =
-            younger-wait t (z .formed) i (z .inside) k e₁ e₂ _ c (leaves-in (treeAt t k)) (h .waiting) (d .1);
+        unvisited =
+            younger-wait t (z .formed) i (z .inside) k e₁ e₂ _ c (leaves-in (treeAt t k)) (h .unvisited) (d .1);
         gives = rw (b, d .0, d .1) (rw m at (h .gives));
       }
 

@@ -18,7 +18,7 @@ use Rattle.frames.specs.Check.{Accepted}
 use Rattle.frames.proofs.Asked.{answer-nodes}
 use Rattle.frames.proofs.Acceptance.{accepted-stated, accepted-formed}
 use Rattle.frames.proofs.Proper.{tree-proper}
-use Rattle.places.specs.Buffer.{written}
+use Rattle.positions.specs.Buffer.{written}
 use Rattle.bounds.specs.Marks.{marked, markAll}
 use Rattle.certificate.specs.Search.{searchRejection, marksOf, flagsOf}
 use Rattle.certificate.proofs.Questions.{passed-room, asked}

@@ -3,8 +3,8 @@
 use bounds::clear;
 use bounds::evaluate;
 use certificate::ask;
-use certificate::conclude;
-use certificate::shorter;
+use certificate::lesser;
+use certificate::write_certificate;
 use frames::Checked;
 use frames::GREATEST;
 use frames::LEAST;
@@ -33,31 +33,31 @@ ghost use Rattle.plain.specs.engine.Ready.{Ready};
 const DEPTH: u32 = MAX_DEPTH as u32;
 
 // What the plain engine finds: the minimax value, and the first root move that reaches it (0 for a leaf).
-pub struct Found {
+pub struct PlainResult {
     pub value: i16,
     pub root_move: usize,
 }
 
 // The answer of a call: what was found, or the first question that got a "no".
-pub enum Answer {
-    Found(Found),
+pub enum PlainAnswer {
+    Found(PlainResult),
     Rejected(Rejection),
 }
 
 // Minimax of the whole tree: questions 1 to 10, then the value and the root move; the marks of all leaves and the
 // certificate (01: the proof) go into the buffers.
-pub fn search(table: &[u8], evaluated: &mut [u8], certificate: &mut [u8]) -> Answer
+pub fn search(table: &[u8], evaluated: &mut [u8], certificate: &mut [u8]) -> PlainAnswer
     ensures { λ r. ⌜ record { answer = r; evaluated = now (evaluated .exit); certificate = now (certificate .exit) }
         ≡ plainOutcome (now (table .entry)) (now (evaluated .entry)) (now (certificate .entry)) ⌝ }
 {
-    match ask(table, shorter(evaluated.len(), certificate.len())) {
-        Checked::Nodes(_) => Answer::Found(run(table, evaluated, certificate)),
-        Checked::Rejected(rejection) => Answer::Rejected(rejection),
+    match ask(table, lesser(evaluated.len(), certificate.len())) {
+        Checked::Nodes(_) => PlainAnswer::Found(run(table, evaluated, certificate)),
+        Checked::Rejected(rejection) => PlainAnswer::Rejected(rejection),
     }
 }
 
 // The search of an accepted table, into buffers with an entry per node.
-fn run(table: &[u8], evaluated: &mut [u8], certificate: &mut [u8]) -> Found
+fn run(table: &[u8], evaluated: &mut [u8], certificate: &mut [u8]) -> PlainResult
     requires { ⌜ Accepted (now table) ⌝ }
     requires { ⌜ (frames (now table) ≤ length (now evaluated)) × (frames (now table) ≤ length (now certificate)) ⌝ }
     ensures { λ r. ⌜ r ≡ plainFound (now (table .entry)) ⌝ }
@@ -68,9 +68,9 @@ fn run(table: &[u8], evaluated: &mut [u8], certificate: &mut [u8]) -> Found
 {
     clear(evaluated, frame_count(table));
     let score = max_turn(table, evaluated, 0, DEPTH);
-    let root_move = conclude(table, evaluated, certificate);
+    let root_move = write_certificate(table, evaluated, certificate);
     let value = value(score);
-    Found { value, root_move }
+    PlainResult { value, root_move }
 }
 
 // Max's turn at a node: the greatest of what the turn of the side that moves there gives for each child. `left` is how

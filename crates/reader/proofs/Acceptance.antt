@@ -1,4 +1,4 @@
--- A file is accepted exactly if its lines are right (SPEC 2.2), without small letters, and hold an accepted table; what
+-- A file is accepted exactly if its lines are right (SPEC 2.2), without lowercase letters, and hold an accepted table; what
 -- the reader then gives.
 use Prim.Native.Nat.{ℕ, zero, suc, _+_, _*_, _/_, _%_, _≤_, _<_}
 use mathlib.Core.Path.{_≡_, refl, sym, _∙_}
@@ -18,7 +18,7 @@ use Rattle.frames.specs.Check.{check1, check2, check3, rejection, Accepted}
 use Rattle.frames.proofs.Stated.{ask-yes, yes-ask, both-passed, passed-both}
 use Rattle.frames.proofs.Asked.{answer-nodes}
 use Rattle.frames.proofs.Acceptance.{accepted-stated, stated-accepted, accepted-formed}
-use Rattle.lines.specs.Line.{lineDigits, isLine, hasSmall}
+use Rattle.lines.specs.Line.{lineDigits, isLine, hasLowercase}
 use Rattle.lines.specs.Lines.{linesOf, decoded}
 use Rattle.lines.proofs.CapitalDigits.{capital-at, capitals-all}
 use Rattle.lines.proofs.Lines.{line-length, line-digits, digit-at}
@@ -28,7 +28,7 @@ use Rattle.reader.specs.results.Stated.{LineAsStated, FileAsStated}
 use Rattle.reader.proofs.Counts.{line-count, decoded-length, frame-count}
 use Rattle.reader.proofs.Reading.{accepted-parts}
 
-line-stated : (l : List ℕ) → isLine l ≡ true → hasSmall l ≡ false → LineAsStated l
+line-stated : (l : List ℕ) → isLine l ≡ true → hasLowercase l ≡ false → LineAsStated l
 line-stated l e g =
     let twelve = line-length l e in
     record {
@@ -36,7 +36,7 @@ line-stated l e g =
       digits = λ k h. (let i : k < length l = rw twelve h in capital-at l k (digit-at l k (line-digits l e) i) g i);
     }
 
-stated-line : (l : List ℕ) → LineAsStated l → (isLine l ≡ true) × (hasSmall l ≡ false)
+stated-line : (l : List ℕ) → LineAsStated l → (isLine l ≡ true) × (hasLowercase l ≡ false)
 unfolding isLine
 stated-line l s =
     let p = capitals-all l (λ k h. s .digits k (rw (s .twelve) at h)) in
@@ -137,13 +137,13 @@ module _ (f : List ℕ) where
       (rw (e, fits), rw (e, fits))
 
   -- into a table that has room for every file, the reader rejects by questions 1 to 9 and 16 only
-  pub roomy-rejected : (table : List ℕ) → maxTable ≤ length table → (r : Rejection) → Rejected r ≡ readAnswer f table
+  pub long-enough-rejected : (table : List ℕ) → maxTable ≤ length table → (r : Rejection) → Rejected r ≡ readAnswer f table
       → fileRejection f ≡ some r
   unfolding readRejection
-  roomy-rejected table room r e = by-questions (fileRejection f) refl
+  long-enough-rejected table room r e = by-questions (fileRejection f) refl
     where
       by-questions : (q : Option Rejection) → fileRejection f ≡ q → q ≡ some r
       by-questions none p =
-          let few = accepted-formed (decoded f) (accepted-table p .1) .few in
+          let atMost = accepted-formed (decoded f) (accepted-table p .1) .atMost in
           let nodes = e ∙ accepted-read table p (omega arith) .0 in clash (cc)
       by-questions (some x) p = let same : Rejected r ≡ Rejected x = (rw p at e) in cc

@@ -8,11 +8,11 @@ use lib.ListN.{length}
 use native.Mathlib.Omega.{arith}
 use borrow.Author.Tests.{ne-eqb}
 use Rattle.frames.specs.Frame.{maxNodes, frames, next}
-use Rattle.frames.specs.Place.{placeWithin, placeOf}
+use Rattle.frames.specs.Position.{positionWithin, positionOf}
 use Rattle.frames.specs.Rejection.{_andThen_, eachNode}
 use Rattle.frames.specs.Check.{framesRejection}
 use Rattle.hex.specs.Digit.{digitOf}
-use Rattle.lines.specs.Line.{lineFeed, allDigits, isLine, hasSmall, bytesOf}
+use Rattle.lines.specs.Line.{lineFeed, allDigits, isLine, hasLowercase, bytesOf}
 use Rattle.lines.specs.Lines.{putBefore, linesOf, decode, decoded}
 use Rattle.reader.specs.File.{eachLine, fileCheck3, fileCheck16, fileRejection, AcceptedFile, readRejection}
 use Rattle.reader.specs.results.Cases.{computed, cases}
@@ -21,8 +21,8 @@ use Rattle.reader.proofs.Acceptance.{accepted-nodes}
 
 -- each case is as stated
 pub small-files : map computed cases ≡ cases
-unfolding digitOf allDigits isLine hasSmall bytesOf linesOf decode eachLine fileRejection readRejection
-    next placeWithin placeOf eachNode framesRejection
+unfolding digitOf allDigits isLine hasLowercase bytesOf linesOf decode eachLine fileRejection readRejection
+    next positionWithin positionOf eachNode framesRejection
 small-files = refl
 
 module _ (f : List ℕ) where

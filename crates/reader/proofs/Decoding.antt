@@ -16,7 +16,7 @@ use Rattle.lines.specs.Lines.{linesOf, decode, decoded}
 use Rattle.lines.proofs.Lines.{line-bytes}
 use Rattle.lines.proofs.Positions.{lineBytes, line-is, line-fits}
 use Rattle.reader.specs.File.{eachLine, lineCheck3, fileCheck3}
-use Rattle.reader.specs.engine.Decoded.{Decoded, Roomy}
+use Rattle.reader.specs.engine.Decoded.{Decoded, LongEnough}
 use Rattle.reader.proofs.Left.{lines-next, lines-stop}
 
 -- six bytes stored behind n frames
@@ -41,7 +41,7 @@ decoded-refused f x table r e =
 -- their frames
 pub record Decoding (f table : List ℕ) (at n : ℕ) : Type 0 where
   pub position : at ≡ (lineDigits + 1) * n
-  pub few : (lineDigits + 1) * n ≤ length f + 1
+  pub atMost : (lineDigits + 1) * n ≤ length f + 1
   pub passed : fileCheck3 f ≡ eachLine lineCheck3 n (linesOf (drop at f))
   pub filled : decoded f ≡ take (frameSize * n) table ++ decode (linesOf (drop at f))
 
@@ -50,12 +50,12 @@ pub decoding-none : (f table : List ℕ) → Decoding f table 0 0
 decoding-none f table =
     record {
       position = omega arith;
-      few = omega arith;
+      atMost = omega arith;
       passed = refl;
       filled = refl;
     }
 
-module _ (f table : List ℕ) (at n : ℕ) (room : Roomy f table) (d : Decoding f table at n) where
+module _ (f table : List ℕ) (at n : ℕ) (room : LongEnough f table) (d : Decoding f table at n) where
   -- at the end of the file
   pub decoding-all : length f ≤ at → Decoded f (fileCheck3 f) table (Nodes n)
   unfolding linesOf eachLine decode
@@ -64,7 +64,7 @@ module _ (f table : List ℕ) (at n : ℕ) (room : Roomy f table) (d : Decoding 
       let filled : decoded f ≡ take (frameSize * n) table =
       d .filled ∙ rw (drop-of-length-le f h) (append-nil (take (frameSize * n) table)) in
       let many : length (decoded f) ≡ frameSize * n =
-      ap length filled ∙ length-take-le (frameSize * n) table (omega (arith, d .few)) in
+      ap length filled ∙ length-take-le (frameSize * n) table (omega (arith, d .atMost)) in
       let whole : frames (decoded f) ≡ n = omega arith in
       record {
         answered = rw (passed, whole);
@@ -90,7 +90,7 @@ module _ (f table : List ℕ) (at n : ℕ) (room : Roomy f table) (d : Decoding 
         let front = stored table (bytesOf line) n (omega (arith, d .position)) six in
         record {
           position = omega (arith, d .position);
-          few = omega (arith, d .position);
+          atMost = omega (arith, d .position);
           passed = d .passed ∙ rw (left, line-is f at is);
           filled =
               d .filled ∙ rw left (sym (append-assoc (take (frameSize * n) table) (bytesOf line) rest))

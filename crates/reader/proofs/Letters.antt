@@ -12,21 +12,21 @@ use Rattle.lists.proofs.Choice.{or-false-both}
 use Rattle.frames.specs.declared.Checked.the-variants.{Nodes}
 use Rattle.frames.specs.Rejection.{answer}
 use Rattle.frames.proofs.Stated.{both-passed}
-use Rattle.hex.specs.Digit.{isSmall}
-use Rattle.lines.specs.Line.{lineFeed, lineDigits, lineSize, hasSmall, isLineAt}
+use Rattle.hex.specs.Digit.{isLowercase}
+use Rattle.lines.specs.Line.{lineFeed, lineDigits, lineSize, hasLowercase, isLineAt}
 use Rattle.lines.specs.Lines.{putBefore, linesOf}
 use Rattle.lines.proofs.Positions.{lineBytes, line-fits}
 use Rattle.reader.specs.File.{eachLine, lineCheck3, fileCheck3, lineCheck16, fileCheck16}
 use Rattle.reader.proofs.Left.{lines-next, line-stands}
 
--- where a file has no small letter, none of its lines has one
-lines-small : (f : List ℕ) (i : ℕ) → hasSmall f ≡ false → eachLine lineCheck16 i (linesOf f) ≡ none
-unfolding linesOf eachLine hasSmall
+-- where a file has no lowercase letter, none of its lines has one
+lines-small : (f : List ℕ) (i : ℕ) → hasLowercase f ≡ false → eachLine lineCheck16 i (linesOf f) ≡ none
+unfolding linesOf eachLine hasLowercase
 lines-small [] i e = refl
 lines-small (b ∷ f) i e = go (eqb b lineFeed) (linesOf f) (λ j. lines-small f j (p .1))
   where
-    p : (isSmall b ≡ false) × (hasSmall f ≡ false)
-    p = or-false-both (isSmall b) (hasSmall f) e
+    p : (isLowercase b ≡ false) × (hasLowercase f ≡ false)
+    p = or-false-both (isLowercase b) (hasLowercase f) e
 
     go : (x : Bool) (ls : List (List ℕ)) → ((j : ℕ) → eachLine lineCheck16 j ls ≡ none)
         → eachLine lineCheck16 i (putBefore x b ls) ≡ none
@@ -34,7 +34,7 @@ lines-small (b ∷ f) i e = go (eqb b lineFeed) (linesOf f) (λ j. lines-small f
     go false [] h = rw (p .0)
     go false (l ∷ ls) h = rw (p .0) (h i)
 
-pub file-small : (f : List ℕ) → hasSmall f ≡ false → fileCheck16 f ≡ none
+pub file-small : (f : List ℕ) → hasLowercase f ≡ false → fileCheck16 f ≡ none
 file-small f e = lines-small f 0 e
 
 -- after n lines question 16 is left for the lines from there on, which have passed question 3
@@ -78,13 +78,13 @@ module _ (f : List ℕ) where
       pub line-room : at + lineDigits ≤ length f
       line-room = line-fits f at line-here
 
-      -- it has a small letter
-      pub lettering-stop : hasSmall (lineBytes f at) ≡ true → fileCheck16 f ≡ some (record { number = 16; place = n })
+      -- it has a lowercase letter
+      pub lettering-stop : hasLowercase (lineBytes f at) ≡ true → fileCheck16 f ≡ some (record { number = 16; place = n })
       unfolding eachLine
       lettering-stop e = l .passed ∙ rw (lines-next f at line-here, e)
 
       -- it has none
-      pub lettering-next : hasSmall (lineBytes f at) ≡ false → Lettering f (n + 1)
+      pub lettering-next : hasLowercase (lineBytes f at) ≡ false → Lettering f (n + 1)
       unfolding eachLine
       lettering-next e =
           let next : at + lineSize ≡ lineSize * (n + 1) = omega arith in

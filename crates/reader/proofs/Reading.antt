@@ -80,7 +80,7 @@ pub record Front (f : List ℕ) (x : Option Rejection) (table : List ℕ) (n : �
   pub passed : x ≡ none
   pub nodes : n ≡ frames (decoded f)
   pub lines : n ≡ length (linesOf f)
-  pub few : n ≤ maxNodes
+  pub atMost : n ≤ maxNodes
   pub size : frameSize * n ≡ length (decoded f)
   pub bytes : take (frameSize * n) table ≡ decoded f
 
@@ -103,7 +103,7 @@ module _ (f : List ℕ) (x : Option Rejection) (table : List ℕ) (r : Checked) 
         passed = a .0;
         nodes = a .1;
         lines = a .1 ∙ frame-count f (q .1);
-        few = omega (arith, a .1, frames-few f (q .1) (q .0));
+        atMost = omega (arith, a .1, frames-few f (q .1) (q .0));
         size = size;
         bytes = rw size (d .filled (a .0));
       }

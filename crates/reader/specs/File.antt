@@ -11,7 +11,7 @@ use Rattle.frames.specs.declared.Checked.{Checked}
 use Rattle.frames.specs.Frame.{frameSize, maxNodes, frames}
 use Rattle.frames.specs.Rejection.{ask, _andThen_, answer}
 use Rattle.frames.specs.Check.{check1, framesRejection}
-use Rattle.lines.specs.Line.{lineSize, isLine, hasSmall}
+use Rattle.lines.specs.Line.{lineSize, isLine, hasLowercase}
 use Rattle.lines.specs.Lines.{linesOf, decoded}
 
 -- the most bytes of a file, 53,248: a line and its line feed for each node
@@ -35,9 +35,9 @@ lineCheck3 i l = ask (isLine l) 3 i
 abbrev pub fileCheck3 : List ℕ → Option Rejection
 fileCheck3 f = eachLine lineCheck3 0 (linesOf f)
 
--- 16: has the line no small letter?
+-- 16: has the line no lowercase letter?
 abbrev pub lineCheck16 : ℕ → List ℕ → Option Rejection
-lineCheck16 i l = ask (not (hasSmall l)) 16 i
+lineCheck16 i l = ask (not (hasLowercase l)) 16 i
 
 -- the place is the number of the first line that has one
 abbrev pub fileCheck16 : List ℕ → Option Rejection

@@ -11,7 +11,7 @@ use frames::rejected;
 use lines::LINE_DIGITS;
 use lines::LINE_SIZE;
 use lines::decode_line;
-use lines::has_small;
+use lines::has_lowercase;
 use tables::check_frames;
 ghost use mathlib.Core.Path.{_≡_};
 ghost use mathlib.Core.Option.{none};
@@ -20,28 +20,28 @@ ghost use lib.ListN.{length};
 ghost use Rattle.frames.specs.Rejection.{answer};
 ghost use Rattle.lines.specs.Lines.{linesOf};
 ghost use Rattle.reader.specs.File.{maxFile, fileCheck3, fileCheck16, fileRejection, readAnswer, tableAfter};
-ghost use Rattle.reader.specs.engine.Decoded.{linesRejection, Decoded, Roomy};
+ghost use Rattle.reader.specs.engine.Decoded.{linesRejection, Decoded, LongEnough};
 
 // The most bytes of a file.
 pub const MAX_FILE: usize = LINE_SIZE * MAX_NODES;
 
 // A file of at most so many lines is small, and so are then its bytes and the work array for its frames.
-const SMALL_LINES: usize = 64;
+const SHORT_LINES: usize = 64;
 
-pub const SMALL_FILE: usize = LINE_SIZE * SMALL_LINES;
+pub const SHORT_FILE: usize = LINE_SIZE * SHORT_LINES;
 
-pub const SMALL_TABLE: usize = FRAME_SIZE * SMALL_LINES;
+pub const SHORT_TABLE: usize = FRAME_SIZE * SHORT_LINES;
 
-// The number of the question about small letters (SPEC 4.2).
-const SMALL_LETTER: u8 = 16;
+// The number of the question about lowercase letters (SPEC 4.2).
+const LOWERCASE_LETTER: u8 = 16;
 
 // Reads a file into the table: the number of nodes, or the first rejection, and then the table is as it was.
 pub fn read(file: &[u8], table: &mut [u8]) -> Checked
     ensures { λ r. ⌜ (r ≡ readAnswer (now (file .entry)) (now (table .entry)))
         × (now (table .exit) ≡ tableAfter (now (file .entry)) (now (table .entry))) ⌝ }
 {
-    if file.len() <= SMALL_FILE {
-        let mut decoded = [0u8; SMALL_TABLE];
+    if file.len() <= SHORT_FILE {
+        let mut decoded = [0u8; SHORT_TABLE];
         return read_by(file, &mut decoded, table);
     }
     let mut decoded = [0u8; MAX_TABLE];
@@ -50,7 +50,7 @@ pub fn read(file: &[u8], table: &mut [u8]) -> Checked
 
 // The same, with a work array for the frames: the lent table is written to once no question is left.
 fn read_by(file: &[u8], decoded: &mut [u8], table: &mut [u8]) -> Checked
-    requires { ⌜ (length (now file) ≤ maxFile → Roomy (now file) (now decoded)) ⌝ }
+    requires { ⌜ (length (now file) ≤ maxFile → LongEnough (now file) (now decoded)) ⌝ }
     ensures { λ r. ⌜ (r ≡ readAnswer (now (file .entry)) (now (table .entry)))
         × (now (table .exit) ≡ tableAfter (now (file .entry)) (now (table .entry))) ⌝ }
 {
@@ -68,7 +68,7 @@ fn read_by(file: &[u8], decoded: &mut [u8], table: &mut [u8]) -> Checked
 
 // Questions 1 to 9 and 16: the number of nodes, whose frames then stand at the table's front, or the first rejection.
 fn check_file(file: &[u8], table: &mut [u8]) -> Checked
-    requires { ⌜ (length (now file) ≤ maxFile → Roomy (now file) (now table)) ⌝ }
+    requires { ⌜ (length (now file) ≤ maxFile → LongEnough (now file) (now table)) ⌝ }
     ensures { λ r. ⌜ Decoded (now (file .entry)) (fileRejection (now (file .entry))) (now (table .exit)) r ⌝ }
 {
     let lines = check_lines(file, table);
@@ -85,7 +85,7 @@ fn check_file(file: &[u8], table: &mut [u8]) -> Checked
 // Questions 1 to 3, which take letters in either case: the number of lines, whose frames then stand at the table's
 // front, or the first rejection.
 pub fn check_lines(file: &[u8], table: &mut [u8]) -> Checked
-    requires { ⌜ (length (now file) ≤ maxFile → Roomy (now file) (now table)) ⌝ }
+    requires { ⌜ (length (now file) ≤ maxFile → LongEnough (now file) (now table)) ⌝ }
     ensures { λ r. ⌜ Decoded (now (file .entry)) (linesRejection (now (file .entry))) (now (table .exit)) r ⌝ }
 {
     if file.len() == 0 {
@@ -99,7 +99,7 @@ pub fn check_lines(file: &[u8], table: &mut [u8]) -> Checked
 
 // Question 3: the number of lines, whose frames then stand at the table's front, or the rejection.
 fn decode(file: &[u8], table: &mut [u8]) -> Checked
-    requires { ⌜ (length (now file) ≤ maxFile) × (Roomy (now file) (now table)) ⌝ }
+    requires { ⌜ (length (now file) ≤ maxFile) × (LongEnough (now file) (now table)) ⌝ }
     ensures { λ r. ⌜ Decoded (now (file .entry)) (fileCheck3 (now (file .entry))) (now (table .exit)) r ⌝ }
 {
     let mut at = 0;
@@ -119,22 +119,22 @@ fn check_letters(file: &[u8], lines: usize) -> Checked
     requires { ⌜ (fileCheck3 (now file) ≡ none) × (lines ≡ length (linesOf (now file))) ⌝ }
     ensures { λ r. ⌜ r ≡ answer lines (fileCheck16 (now (file .entry))) ⌝ }
 {
-    if has_small(file) {
-        return find_small(file, lines);
+    if has_lowercase(file) {
+        return find_lowercase(file, lines);
     }
     Checked::Nodes(lines)
 }
 
 // The same, line by line.
-fn find_small(file: &[u8], lines: usize) -> Checked
+fn find_lowercase(file: &[u8], lines: usize) -> Checked
     requires { ⌜ (fileCheck3 (now file) ≡ none) × (lines ≡ length (linesOf (now file))) ⌝ }
     ensures { λ r. ⌜ r ≡ answer lines (fileCheck16 (now (file .entry))) ⌝ }
 {
     for line in 0..lines {
         let at = LINE_SIZE * line;
         let end = at + LINE_DIGITS;
-        if has_small(&file[at..end]) {
-            return rejected(SMALL_LETTER, line);
+        if has_lowercase(&file[at..end]) {
+            return rejected(LOWERCASE_LETTER, line);
         }
     }
     Checked::Nodes(lines)

@@ -3,12 +3,12 @@ use mathlib.Core.Path.{_≡_, refl}
 use mathlib.Core.List.{map}
 use Rattle.gametree.specs.Mtd.{mtd}
 use Rattle.frames.specs.Frame.{next}
-use Rattle.frames.specs.Place.{parentBefore, placeWithin, placeOf}
-use Rattle.frames.specs.Tree.{kidsFrom, grow, treeAt, valuation}
+use Rattle.frames.specs.Position.{parentBefore, positionWithin, positionOf}
+use Rattle.frames.specs.Tree.{childrenFrom, grow, treeAt, valuation}
 use Rattle.frames.specs.Rejection.{eachNode}
 use Rattle.frames.specs.Check.{framesRejection}
 use Rattle.hex.specs.Digit.{digitOf}
-use Rattle.lines.specs.Line.{allDigits, isLine, hasSmall, bytesOf}
+use Rattle.lines.specs.Line.{allDigits, isLine, hasLowercase, bytesOf}
 use Rattle.lines.specs.Lines.{linesOf, decode}
 use Rattle.reader.specs.File.{eachLine, fileRejection}
 use Rattle.text.specs.Text.{decimalWithin}
@@ -17,6 +17,6 @@ use Rattle.report.specs.results.Cases.{computed, expected, cases}
 
 -- each case is as stated
 pub small-files : map computed cases ≡ map expected cases
-unfolding mtd next parentBefore placeWithin placeOf kidsFrom grow treeAt valuation eachNode framesRejection digitOf
-    allDigits isLine hasSmall bytesOf linesOf decode eachLine fileRejection decimalWithin abLine mtdLine sssLine
+unfolding mtd next parentBefore positionWithin positionOf childrenFrom grow treeAt valuation eachNode framesRejection digitOf
+    allDigits isLine hasLowercase bytesOf linesOf decode eachLine fileRejection decimalWithin abLine mtdLine sssLine
 small-files = refl

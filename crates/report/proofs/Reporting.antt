@@ -12,7 +12,7 @@ use Rattle.frames.specs.Check.{Accepted}
 use Rattle.frames.proofs.Acceptance.{accepted-formed}
 use Rattle.lines.specs.Lines.{decoded}
 use Rattle.reader.specs.File.{readAnswer, tableAfter}
-use Rattle.reader.proofs.Acceptance.{read-nodes, roomy-rejected}
+use Rattle.reader.proofs.Acceptance.{read-nodes, long-enough-rejected}
 use Rattle.text.specs.Text.{refusedLine}
 use Rattle.report.specs.Report.{analysis, printed, report}
 
@@ -20,7 +20,7 @@ module _ (f : List ℕ) where
   -- what is known once a file was read into a table: its first n frames are the file's, and accepted
   pub record Read (table : List ℕ) (n : ℕ) : Type 0 where
     pub accepted : Accepted (decoded f)
-    pub few : n ≤ maxNodes
+    pub atMost : n ≤ maxNodes
     pub bytes : take (frameSize * n) table ≡ decoded f
     pub reported : report f ≡ analysis (decoded f)
 
@@ -30,7 +30,7 @@ module _ (f : List ℕ) where
         let p = read-nodes f fresh n (sym g ∙ e) in
         record {
           accepted = p .1;
-          few = omega (arith, p .2, accepted-formed (decoded f) (p .1) .few);
+          atMost = omega (arith, p .2, accepted-formed (decoded f) (p .1) .atMost);
           bytes = ap (take (frameSize * n)) h ∙ p .3;
           reported = ap (printed f) (p .0);
         }
@@ -38,4 +38,4 @@ module _ (f : List ℕ) where
   -- the rejection of a file that is read into a roomy table is printed
   pub read-rejected : (fresh : List ℕ) → maxTable ≤ length fresh → (r : Rejection)
       → RejectedFile r ≡ readAnswer f fresh → report f ≡ refusedLine (r .number) (r .place)
-  read-rejected fresh room r e = ap (printed f) (roomy-rejected f fresh room r e)
+  read-rejected fresh room r e = ap (printed f) (long-enough-rejected f fresh room r e)

@@ -15,7 +15,7 @@ use Rattle.frames.proofs.Acceptance.{accepted-formed}
 
 -- a fresh buffer has an entry per node
 pub fresh-room : (t : List ℕ) → Accepted t → frames t ≤ length (replicate {A = ℕ} maxNodes 0)
-fresh-room t accepted = omega (arith, accepted-formed t accepted .few, length-replicate {A = ℕ} maxNodes 0)
+fresh-room t accepted = omega (arith, accepted-formed t accepted .atMost, length-replicate {A = ℕ} maxNodes 0)
 
 -- a value that was found is passed on as the bits that hold it
 pub value-passed : (v : ℤ) → mag v < 2 ^ hbits w16 → toZ w16 (ofZ w16 v) ≡ v

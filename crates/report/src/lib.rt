@@ -4,7 +4,7 @@ use frames::Checked;
 use frames::FRAME_SIZE;
 use frames::MAX_NODES;
 use frames::MAX_TABLE;
-use places::fill;
+use positions::fill;
 use text::LINE_FEED;
 pub use text::TEXT_SIZE;
 pub use text::Text;
@@ -95,7 +95,7 @@ fn put_mtd(
     put_line(text, at, b"mtd", findings)
 }
 
-// The line of SSS*, which goes by the places of the nodes.
+// The line of SSS*, which goes by the positions of the nodes.
 fn put_sss(
     table: &[u8],
     evaluated: &mut [u8],
@@ -108,9 +108,9 @@ fn put_sss(
     requires { ⌜ TextRoom at (sssLine (now table)) (now text) ⌝ }
     ensures { λ r. ⌜ Put at (sssLine (now (table .entry))) (now (text .entry)) r (now (text .exit)) ⌝ }
 {
-    let mut places = [0u32; MAX_NODES];
-    fill(table, &mut places);
-    let found = sss::find(table, &places, evaluated, order);
+    let mut positions = [0u32; MAX_NODES];
+    fill(table, &mut positions);
+    let found = sss::find(table, &positions, evaluated, order);
     let findings = found.findings;
     put_line(text, at, b"sss", findings)
 }

@@ -3,7 +3,7 @@ use Prim.Native.Nat.{ℕ}
 use mathlib.Core.List.{List}
 use lib.ListN.{replicate}
 use Rattle.frames.specs.Frame.{maxNodes}
-use Rattle.certificate.specs.Search.{Outcome, Listed}
+use Rattle.certificate.specs.Search.{Outcome, ListedOutcome}
 use Rattle.alphabeta.specs.Outcome.{alphaBetaOutcome}
 use Rattle.mtd.specs.Outcome.{mtdOutcome}
 use Rattle.mtdf.specs.Outcome.{mtdfOutcome}
@@ -25,7 +25,7 @@ lentBuffers e c o = record { evaluated = e; certificate = c; order = o }
 abbrev pub lentTo : {A : Type 0} → Outcome A → List ℕ → LentBuffers
 lentTo s o = lentBuffers (s .evaluated) (s .certificate) o
 
-abbrev pub listedTo : {A : Type 0} → Listed A → LentBuffers
+abbrev pub listedTo : {A : Type 0} → ListedOutcome A → LentBuffers
 listedTo r = lentTo (r .search) (r .order)
 
 -- after a search of the table t by each method; the plain engine is lent no list

@@ -39,8 +39,8 @@ fn print_cost(table: &[u8]) {
     let mut order = [0u16; MAX_NODES];
     io::write_all(STDOUT_FILENO, b"ab");
     match alphabeta::search(table, &mut evaluated, &mut certificate, &mut order) {
-        alphabeta::Answer::Found(findings) => print_count(findings.leaves),
-        alphabeta::Answer::Rejected(rejection) => print_rejection(rejection),
+        alphabeta::AlphaBetaAnswer::Found(findings) => print_count(findings.leaves),
+        alphabeta::AlphaBetaAnswer::Rejected(rejection) => print_rejection(rejection),
     }
     print_line_feed();
 }

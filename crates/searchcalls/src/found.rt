@@ -7,45 +7,45 @@ use libc::STDOUT_FILENO;
 use sss::Spent;
 use tablecalls::answers::print_rejection;
 
-pub fn print_alphabeta(answer: alphabeta::Answer) {
+pub fn print_alphabeta(answer: alphabeta::AlphaBetaAnswer) {
     io::write_all(STDOUT_FILENO, b"ab");
     match answer {
-        alphabeta::Answer::Found(findings) => print_findings(findings),
-        alphabeta::Answer::Rejected(rejection) => print_rejection(rejection),
+        alphabeta::AlphaBetaAnswer::Found(findings) => print_findings(findings),
+        alphabeta::AlphaBetaAnswer::Rejected(rejection) => print_rejection(rejection),
     }
 }
 
-pub fn print_mtd(answer: mtd::Answer) {
+pub fn print_mtd(answer: mtd::MtdAnswer) {
     io::write_all(STDOUT_FILENO, b"mtd");
     match answer {
-        mtd::Answer::Found(found) => {
+        mtd::MtdAnswer::Found(found) => {
             print_findings(found.findings);
             print_count(found.passes);
         }
-        mtd::Answer::Rejected(rejection) => print_rejection(rejection),
+        mtd::MtdAnswer::Rejected(rejection) => print_rejection(rejection),
     }
 }
 
-pub fn print_mtdf(answer: mtdf::Answer) {
+pub fn print_mtdf(answer: mtdf::MtdfAnswer) {
     io::write_all(STDOUT_FILENO, b"mtdf");
     match answer {
-        mtdf::Answer::Found(found) => {
+        mtdf::MtdfAnswer::Found(found) => {
             print_findings(found.findings);
             print_count(found.tests);
         }
-        mtdf::Answer::Rejected(rejection) => print_rejection(rejection),
+        mtdf::MtdfAnswer::Rejected(rejection) => print_rejection(rejection),
     }
 }
 
-pub fn print_sss(answer: sss::Answer) {
+pub fn print_sss(answer: sss::SssAnswer) {
     io::write_all(STDOUT_FILENO, b"sss");
     match answer {
-        sss::Answer::Found(found) => {
+        sss::SssAnswer::Found(found) => {
             print_findings(found.findings);
             print_count(found.replacements);
         }
-        sss::Answer::Spent(spent) => print_spent(spent),
-        sss::Answer::Rejected(rejection) => print_rejection(rejection),
+        sss::SssAnswer::Spent(spent) => print_spent(spent),
+        sss::SssAnswer::Rejected(rejection) => print_rejection(rejection),
     }
 }
 
@@ -57,14 +57,14 @@ fn print_spent(spent: Spent) {
     print_count(spent.replacements);
 }
 
-pub fn print_plain(answer: plain::Answer) {
+pub fn print_plain(answer: plain::PlainAnswer) {
     io::write_all(STDOUT_FILENO, b"plain");
     match answer {
-        plain::Answer::Found(found) => {
+        plain::PlainAnswer::Found(found) => {
             print_value(found.value);
             print_count(found.root_move);
         }
-        plain::Answer::Rejected(rejection) => print_rejection(rejection),
+        plain::PlainAnswer::Rejected(rejection) => print_rejection(rejection),
     }
 }
 

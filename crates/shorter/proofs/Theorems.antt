@@ -155,10 +155,10 @@ module _ (t f s : List ℕ) where
   -- where nothing is handed back there is a rejection: a chosen certificate has a flag for the root
   by-choice : (c : Choice) → choice t f s ≡ c → chosenFlags t f s ≡ [] → (r : Rejection) × (choice t f s ≡ Rejected r)
   by-choice First e h =
-      let k = accepted-formed t (first-certified e .1 .accepted) .some in
+      let k = accepted-formed t (first-certified e .1 .accepted) .nonEmpty in
       absurd (omega (arith, sym (handed-size (inl e)) ∙ ap length h, k))
   by-choice Second e h =
-      let k = accepted-formed t (second-certified e .1 .accepted) .some in
+      let k = accepted-formed t (second-certified e .1 .accepted) .nonEmpty in
       absurd (omega (arith, sym (handed-size (inr e)) ∙ ap length h, k))
   by-choice (Rejected r) e h = (r, e)
 

@@ -24,13 +24,13 @@ use Rattle.frames.specs.Value.{valueOf}
 use Rattle.frames.specs.Formed.{WellFormed}
 use Rattle.frames.proofs.Totals.{tree-size}
 use Rattle.frames.proofs.Proper.{tree-proper}
-use Rattle.certificate.specs.Search.{marksOf, listed, Listed, listedOutcome}
+use Rattle.certificate.specs.Search.{marksOf, listed, ListedOutcome, listedOutcome}
 use Rattle.certificate.proofs.Marks.{evaluated-within}
-use Rattle.sss.specs.declared.Found.{Found}
+use Rattle.sss.specs.declared.SssResult.{SssResult}
 use Rattle.sss.specs.declared.Spent.{Spent}
-use Rattle.sss.specs.declared.Answer.{Answer}
-use Rattle.sss.specs.declared.Answer.the-variants.{Found as FoundAnswer, Spent as SpentAnswer}
-use Rattle.sss.specs.declared.Answer.the-variants.{Rejected as RejectedAnswer}
+use Rattle.sss.specs.declared.SssAnswer.{SssAnswer}
+use Rattle.sss.specs.declared.SssAnswer.the-variants.{Found as FoundAnswer, Spent as SpentAnswer}
+use Rattle.sss.specs.declared.SssAnswer.the-variants.{Rejected as RejectedAnswer}
 use Rattle.sss.specs.Outcome.{runOf, sssLeaves, sssFound, sssSearch, sssUncovered, sssSpent, outcomeBy}
 use Rattle.sss.specs.Outcome.{withinOutcome}
 use Rattle.sss.proofs.Replacements.{own}
@@ -94,7 +94,7 @@ module _ (t : List ℕ) (wf : WellFormed t) where
 
       -- where it ends spent, the outcome has its merit, its counts and its leaves
       module _ (m k : ℕ) (w : List ℕ) where
-        abbrev Spending : Listed Answer
+        abbrev Spending : ListedOutcome SssAnswer
         Spending = record {
           order = listed w o;
           search =
@@ -124,7 +124,7 @@ module _ (t : List ℕ) (wf : WellFormed t) where
 
 -- after a rejection the buffers and the list are as they were
 module _ (a : ℕ) (t e c o : List ℕ) where
-  abbrev Rejecting : Rejection → Listed Answer
+  abbrev Rejecting : Rejection → ListedOutcome SssAnswer
   Rejecting r = record { order = o; search = record { answer = RejectedAnswer r; evaluated = e; certificate = c } }
 
   rejects : (xs : List Evaluation) (r : Rejection) → outcomeBy xs a t e c o (some r) ≡ Rejecting r
@@ -144,7 +144,7 @@ module _ (a : ℕ) (t e c o : List ℕ) where
   by-rejection (x ∷ xs) (some y) r h = let i : y ≡ r = cc in (rw i refl, rw i refl)
 
   -- with findings every question was passed, and the allowance covers all evaluations
-  pub by-value : (xs : List Evaluation) (q : Option Rejection) (f : Found)
+  pub by-value : (xs : List Evaluation) (q : Option Rejection) (f : SssResult)
       → outcomeBy xs a t e c o q .search .answer ≡ FoundAnswer f → (q ≡ none) × (xs ≡ [])
   by-value [] none f h = (refl, refl)
   by-value [] (some y) f h = clash (cc)

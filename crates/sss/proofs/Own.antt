@@ -11,15 +11,15 @@ use Rattle.gametree.specs.Tree.{greatest}
 use Rattle.frames.specs.declared.Checked.the-variants.{Nodes}
 use Rattle.frames.specs.Frame.{maxNodes, frames}
 use Rattle.frames.specs.Formed.{WellFormed}
-use Rattle.places.specs.Buffer.{written}
+use Rattle.positions.specs.Buffer.{written}
 use Rattle.certificate.specs.Search.{marksOf, listed}
 use Rattle.states.specs.Entry.{blank}
 use Rattle.turns.specs.declared.Run.{Run}
 use Rattle.turns.specs.engine.Turn.{going, Config}
-use Rattle.sss.specs.declared.Found.{Found}
+use Rattle.sss.specs.declared.SssResult.{SssResult}
 use Rattle.sss.specs.declared.Spent.{Spent}
-use Rattle.sss.specs.declared.Answer.{Answer}
-use Rattle.sss.specs.declared.Answer.the-variants.{Found as FoundAnswer, Spent as SpentAnswer}
+use Rattle.sss.specs.declared.SssAnswer.{SssAnswer}
+use Rattle.sss.specs.declared.SssAnswer.the-variants.{Found as FoundAnswer, Spent as SpentAnswer}
 use Rattle.sss.specs.engine.Invariant.{Running}
 use Rattle.sss.specs.engine.Driven.{DrivenOwn}
 use Rattle.sss.specs.engine.Start.{begun}
@@ -29,8 +29,8 @@ use Rattle.sss.proofs.Allowed.{leaves-few, enough}
 use Rattle.sss.proofs.Whole.{answerable, run-answers}
 
 -- an answer with findings has no others
-found-only : (x : Bool) (s : Spent) (f g : Found)
-    → _≡_ {A = Answer} (cond x (SpentAnswer s) (FoundAnswer f)) (FoundAnswer g) → f ≡ g
+found-only : (x : Bool) (s : Spent) (f g : SssResult)
+    → _≡_ {A = SssAnswer} (cond x (SpentAnswer s) (FoundAnswer f)) (FoundAnswer g) → f ≡ g
 found-only true s f g e = clash (cc)
 found-only false s f g e = cc
 
@@ -59,7 +59,7 @@ module _ (t : List ℕ) (wf : WellFormed t) (b o b₁ : List ℕ) (r : Run) (cle
       let e =
       run-answers t wf maxNodes _ b o config ran (d .driven .stopped) []
       ∙ ap (λ xs. outcomeBy xs maxNodes t b [] o none)
-      (enough t wf maxNodes (omega (arith, leaves-few t wf, wf .few))) in (
+      (enough t wf maxNodes (omega (arith, leaves-few t wf, wf .atMost))) in (
         found-only (isSpent (r′ .stage)) (spentBy (endMerit (r′ .stage)) (r′ .counts)) _ _
             (ap (λ x. x .search .answer) e),
         (ap (λ x. x .search .evaluated) e, ap (λ x. x .order) e),

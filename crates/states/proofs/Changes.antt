@@ -6,12 +6,12 @@ use mathlib.Core.Logic.{inl, inr}
 use mathlib.Core.List.{List, [], _∷_, _++_, append-assoc, append-nil}
 use Rattle.gametree.specs.declared.Side.{Side}
 use Rattle.gametree.specs.declared.Side.the-variants.{Max, Min}
-use Rattle.gametree.specs.Tree.{Tree, inner, Kids, last, _then_, number, In, InKids, Distinct, DistinctKids}
+use Rattle.gametree.specs.Tree.{Tree, inner, Children, last, _then_, number, In, InChildren, Distinct, DistinctChildren}
 use Rattle.gametree.specs.Sss.{Status, State, LIVE, live}
 use Rattle.gametree.proofs.sss.Fronts.{ChildIn}
 use Rattle.gametree.proofs.sss.FrontSteps.{in-child}
 use Rattle.gametree.proofs.minimax.Nodes.{number-in}
-use Rattle.states.specs.engine.Shown.{Arrays, Listed, Above, Leads, Shows, listed, expanded, Brothers, none, one}
+use Rattle.states.specs.engine.Shown.{Arrays, Listed, Above, Leads, Shows, listed, expanded, Siblings, none, one}
 use Rattle.states.specs.engine.Shown.{more}
 use Rattle.states.specs.engine.Shown.{Beside, only, first, later, Around, top, child, stateAt}
 use Rattle.states.proofs.Shown.{beside-child}
@@ -27,7 +27,7 @@ abbrev pub AgreeBut : Arrays → Arrays → Tree → Type 0
 AgreeBut a z u = (k : ℕ) → (In k u → ⊥) → AgreeAt a z k
 
 -- a child's nodes are distinct
-pub child-distinct : (u : Tree) (ks : Kids) → ChildIn u ks → DistinctKids ks → Distinct u
+pub child-distinct : (u : Tree) (ks : Children) → ChildIn u ks → DistinctChildren ks → Distinct u
 child-distinct u (last t) c d = subst Distinct (sym c) d
 child-distinct u (t then ts) (inl c) d = subst Distinct (sym c) (d .0)
 child-distinct u (t then ts) (inr c) d = child-distinct u ts c (d .1)
@@ -58,8 +58,8 @@ module _ (a z : Arrays) where
         rw (g n (inl refl) .best) (beside-same b (d .1) (λ k i j. g k (inr i))) in
         expanded F M G leads (shown-same h (child-distinct u ks c (d .1)) f) beside e
 
-    brothers-same : {q : Side} {m : ℕ} {ks : Kids} {L : List State} → Brothers a q m ks L → DistinctKids ks
-        → ((k : ℕ) → InKids k ks → AgreeAt a z k) → Brothers z q m ks L
+    brothers-same : {q : Side} {m : ℕ} {ks : Children} {L : List State} → Siblings a q m ks L → DistinctChildren ks
+        → ((k : ℕ) → InChildren k ks → AgreeAt a z k) → Siblings z q m ks L
     brothers-same none d g = none
     brothers-same (one {t = t} m h i) d g = one m (shown-same h d g) (rw (g (number t) (number-in t) .best) i)
     brothers-same (more {t = t} m F G h i b e) d g =
@@ -67,8 +67,8 @@ module _ (a z : Arrays) where
         (brothers-same b (d .1) (λ k j. g k (inr j))) e
 
     -- a change within u leaves its brothers as they were
-    pub beside-same : {q : Side} {m : ℕ} {ks : Kids} {u : Tree} {F G : List State} → Beside a q m ks u F G
-        → DistinctKids ks → ((k : ℕ) → InKids k ks → (In k u → ⊥) → AgreeAt a z k) → Beside z q m ks u F G
+    pub beside-same : {q : Side} {m : ℕ} {ks : Children} {u : Tree} {F G : List State} → Beside a q m ks u F G
+        → DistinctChildren ks → ((k : ℕ) → InChildren k ks → (In k u → ⊥) → AgreeAt a z k) → Beside z q m ks u F G
     beside-same only d g = only
     beside-same (first b) d g = first (brothers-same b (d .1) (λ k i. g k (inr i) (λ j. d .2 k j i)))
     beside-same (later {u = u} {ts = ts} F₁ F₂ b c e) d g =
@@ -88,7 +88,7 @@ pub around-same : (a z : Arrays) {r u : Tree} {m : ℕ} {A B : List State} → D
 around-same a z d g top = top
 around-same a z d g (child {n = n} {ks = ks} {u = u} F G w b h p q) =
     let e = around-distinct a w d in
-    let out : (k : ℕ) → (InKids k ks → ⊥) → In k u → ⊥ = λ k o i. o (in-child k u ks (beside-child a b) i) in
+    let out : (k : ℕ) → (InChildren k ks → ⊥) → In k u → ⊥ = λ k o i. o (in-child k u ks (beside-child a b) i) in
     child F G (around-same a z d (λ k o. g k (out k (λ i. o (inr i)))) w) (beside-same a z b (e .1) (λ k i. g k))
     (above-same a z (g n (out n (e .0))) h) p q
 
@@ -111,7 +111,7 @@ pub fresh-shows : (a : Arrays) (m : ℕ) (t : Tree) {k : ℕ} → number t ≡ k
 fresh-shows a m t {k} e f = alone-shows a t k LIVE m e (f .0) (f .1) (f .2)
 
 -- a node that goes down to a LIVE child, before which no states stand
-pub opened : (a : Arrays) (n : ℕ) {q : Side} {ks : Kids} {u : Tree} {m c : ℕ} {G : List State} → number u ≡ c
+pub opened : (a : Arrays) (n : ℕ) {q : Side} {ks : Children} {u : Tree} {m c : ℕ} {G : List State} → number u ≡ c
     → Beside a q m ks u [] G → Fresh a m c → a .link n ≡ c → n < c → a .best n ≡ m
     → Shows a (inner n q ks) (live c m ∷ G)
 opened a n {q = q} {ks = ks} {u = u} {m = m} {c = c} {G = G} i b f l h e =
@@ -120,8 +120,8 @@ opened a n {q = q} {ks = ks} {u = u} {m = m} {c = c} {G = G} i b f l h e =
     expanded {q = q} {ks = ks} [] (live c m ∷ []) G leads (fresh-shows a m u i f) (rw e b) refl
 
 -- brothers and a child whose merit may have fallen: no merit is above m
-pub beside-all : (a : Arrays) {m : ℕ} {ks : Kids} {u : Tree} {F G : List State} (M : List State)
-    → Beside a Max m ks u F G → Shows a u M → a .best (number u) ≤ m → Brothers a Max (m + 1) ks (F ++ (M ++ G))
+pub beside-all : (a : Arrays) {m : ℕ} {ks : Children} {u : Tree} {F G : List State} (M : List State)
+    → Beside a Max m ks u F G → Shows a u M → a .best (number u) ≤ m → Siblings a Max (m + 1) ks (F ++ (M ++ G))
 beside-all a {m} {u = u} M only h i = one (m + 1) (subst (λ l. Shows a u l) (sym (append-nil M)) h) (omega arith)
 beside-all a {m} {G = G} M (first b) h i = more (m + 1) M G h (omega arith) b refl
 beside-all a {G = G} M (later F₁ F₂ (one m s j) c e) h i =
@@ -129,7 +129,7 @@ beside-all a {G = G} M (later F₁ F₂ (one m s j) c e) h i =
     (ap (λ f. f ++ (M ++ G)) e ∙ append-assoc F₁ F₂ (M ++ G))
 
 -- the brothers of a Min node's child have no states, whatever their limit
-pub beside-min : (a : Arrays) {m : ℕ} {ks : Kids} {u : Tree} {F G : List State} (k : ℕ) → Beside a Min m ks u F G
+pub beside-min : (a : Arrays) {m : ℕ} {ks : Children} {u : Tree} {F G : List State} (k : ℕ) → Beside a Min m ks u F G
     → Beside a Min k ks u F G
 beside-min a k only = only
 beside-min a k (first none) = first none

@@ -12,21 +12,21 @@ use borrow.Author.Tests.{ltb-true, ltb-false, eqb-true, eqb-false}
 use Rattle.lists.proofs.Choice.{cond-cases}
 use Rattle.gametree.specs.declared.Side.{Side}
 use Rattle.gametree.specs.declared.Side.the-variants.{Max, Min}
-use Rattle.gametree.specs.Tree.{Tree, inner, Kids, number, InKids, Distinct}
+use Rattle.gametree.specs.Tree.{Tree, inner, Children, number, InChildren, Distinct}
 use Rattle.gametree.specs.Sss as theory
 use Rattle.gametree.proofs.sss.FrontSteps.{in-child}
 use Rattle.frames.specs.Frame.{frames, firstChild}
-use Rattle.frames.specs.Place.{parentOf}
+use Rattle.frames.specs.Position.{parentOf}
 use Rattle.frames.specs.Formed.{WellFormed, ChildOf}
 use Rattle.frames.specs.Tree.{tree}
 use Rattle.frames.proofs.Next.{child-within, child-later}
 use Rattle.frames.proofs.Nodes.{tree-distinct}
 use Rattle.frames.proofs.Trees.{tree-number}
 use Rattle.states.specs.declared.State.{State}
-use Rattle.states.specs.engine.Shown.{Above, Leads, Shows, expanded, Brothers, Beside, Around, top, child}
-use Rattle.states.specs.engine.Kept.{linkCount, bestAt, linkAt, packed, arraysOf, leftmostBest, chosenBy}
-use Rattle.states.specs.engine.Kept.{chosenOf, renewed, falls}
-use Rattle.states.specs.engine.Kept.{Fallen, fallen, descended}
+use Rattle.states.specs.engine.Shown.{Above, Leads, Shows, expanded, Siblings, Beside, Around, top, child}
+use Rattle.states.specs.engine.Kept.{linkCount, bestAt, linkAt, packedEntry, arraysOf, leftmostBest, chosenBy}
+use Rattle.states.specs.engine.Kept.{chosenOf, renewed, needsRefresh}
+use Rattle.states.specs.engine.Kept.{Refreshed, refreshed, descended}
 use Rattle.states.proofs.Shown.{beside-child, whole, regroup, Standing, standing-root, standing-down}
 use Rattle.states.proofs.Changes.{AgreeAt, child-distinct, shown-same, beside-same, around-distinct, around-same}
 use Rattle.states.proofs.Changes.{beside-all, beside-min}
@@ -45,11 +45,11 @@ agree-set ls w p v k n =
 
 module _ (t : List ℕ) (wf : WellFormed t) (ls : List State) (γ : ℕ) where
   -- the list L is shown, with the state to take at or below the top
-  abbrev Settled : List theory.State → Fallen → Type 0
+  abbrev Settled : List theory.State → Refreshed → Type 0
   Settled L r = Standing (arraysOf ls (r .front)) (tree t) (bestAt (r .front) 0) L (r .top)
 
   distinct : Distinct (tree t)
-  distinct = tree-distinct t wf 0 (wf .some)
+  distinct = tree-distinct t wf 0 (wf .nonEmpty)
 
   -- at the root the fall ends
   at-root : (w : List ℕ) (u : Tree) (A M B : List theory.State) → Around (arraysOf ls w) (tree t) γ u A B
@@ -83,10 +83,10 @@ module _ (t : List ℕ) (wf : WellFormed t) (ls : List State) (γ : ℕ) where
   Falls f =
       (w : List ℕ) (u : Tree) (k : ℕ) (A M B : List theory.State) → frames t ≤ length w
       → Around (arraysOf ls w) (tree t) γ u A B → Shows (arraysOf ls w) u M → number u ≡ k → bestAt w k ≤ γ → k ≤ f
-      → Settled (A ++ (M ++ B)) (fallen f t γ w k)
+      → Settled (A ++ (M ++ B)) (refreshed f t γ w k)
 
   -- the child that the parent of u, whose merit may have fallen, goes down to then
-  choice : (w : List ℕ) (u : Tree) (n : ℕ) (q : Side) (ks : Kids) (F M G : List theory.State) → Inner t n q ks
+  choice : (w : List ℕ) (u : Tree) (n : ℕ) (q : Side) (ks : Children) (F M G : List theory.State) → Inner t n q ks
       → Beside (arraysOf ls w) q γ ks u F G → Above (arraysOf ls w) γ n u → Shows (arraysOf ls w) u M
       → bestAt w (number u) ≤ γ → Chosen (arraysOf ls w) q ks γ (F ++ (M ++ G)) (chosenOf t w n)
   choice w u n Max ks F M G i b p h g =
@@ -95,7 +95,7 @@ module _ (t : List ℕ) (wf : WellFormed t) (ls : List State) (γ : ℕ) where
       let e : chosenOf t w n ≡ leftmostBest w (firstChild t n) (i .others) =
       ap₂ (λ s j. chosenBy t w n s j) (sym (i .side)) (i .count) in
       rw (e, i .kids) (leftmost-chosen t x γ (firstChild t n) (i .others) _ (F ++ (M ++ G))
-      (subst (λ z. Brothers x Max (γ + 1) z (F ++ (M ++ G))) (i .kids) (beside-all x M b h g)) (m .from) (m .to)
+      (subst (λ z. Siblings x Max (γ + 1) z (F ++ (M ++ G))) (i .kids) (beside-all x M b h g)) (m .from) (m .to)
       (m .leftmost) (m .greatest))
   choice w u n Min ks F M G i b p h g =
       let e : chosenOf t w n ≡ number u = ap₂ (λ s j. chosenBy t w n s j) (sym (i .side)) (i .count) ∙ p .link in
@@ -112,12 +112,12 @@ module _ (t : List ℕ) (wf : WellFormed t) (ls : List State) (γ : ℕ) where
       })
 
   -- its entry is made anew, and the fall goes on
-  fall-over : (f : ℕ) → Falls f → (w : List ℕ) (u : Tree) (n : ℕ) (q : Side) (ks : Kids) (X F M G Z : List theory.State)
+  refresh-ancestors-over : (f : ℕ) → Falls f → (w : List ℕ) (u : Tree) (n : ℕ) (q : Side) (ks : Children) (X F M G Z : List theory.State)
       → frames t ≤ length w → Around (arraysOf ls w) (tree t) γ (inner n q ks) X Z
       → Beside (arraysOf ls w) q γ ks u F G → Above (arraysOf ls w) γ n u → Shows (arraysOf ls w) u M
       → bestAt w (number u) ≤ γ → n ≤ f
-      → Settled (X ++ ((F ++ (M ++ G)) ++ Z)) (fallen f t γ (renewed t w n) n)
-  fall-over f again w u n q ks X F M G Z r a b p h g l =
+      → Settled (X ++ ((F ++ (M ++ G)) ++ Z)) (refreshed f t γ (renewed t w n) n)
+  refresh-ancestors-over f again w u n q ks X F M G Z r a b p h g l =
       let x = arraysOf ls w in
       let o = around-own t wf a in
       let c = choice w u n q ks F M G (inner-is t wf n q ks (o .0) (o .1)) b p h g in
@@ -125,14 +125,14 @@ module _ (t : List ℕ) (wf : WellFormed t) (ls : List State) (γ : ℕ) where
       let i = beside-child x (c .beside) in
       let ch : ChildOf t n j = rw (c .number-is) at (child-is t wf n q ks (c .tree) (o .0) (o .1) i .0) in
       let later = child-later t wf (o .1) ch in
-      let small : j < linkCount = omega (arith, child-within t wf (o .1) ch, wf .few) in
+      let small : j < linkCount = omega (arith, child-within t wf (o .1) ch, wf .atMost) in
       let room : n < length w = omega (arith, o .1) in
-      let v = packed (bestAt w j) j in
+      let v = packedEntry (bestAt w j) j in
       let y = arraysOf ls (set w n v) in
       let d = around-distinct x a distinct in
       let agree : (k : ℕ) → (k ≡ n → ⊥) → AgreeAt x y k = λ k. agree-set ls w n v k in
-      let within : (k : ℕ) → InKids k ks → AgreeAt x y k =
-      λ k j. agree k (λ z. d .0 (subst (λ q. InKids q ks) z j)) in
+      let within : (k : ℕ) → InChildren k ks → AgreeAt x y k =
+      λ k j. agree k (λ z. d .0 (subst (λ q. InChildren q ks) z j)) in
       let e = getD-set-same w n v 0 room in
       let bestN : bestAt (set w n v) n ≡ bestAt w j = rw e (omega arith) in
       let linkN : linkAt (set w n v) n ≡ j = rw e (omega arith) in
@@ -148,26 +148,26 @@ module _ (t : List ℕ) (wf : WellFormed t) (ls : List State) (γ : ℕ) where
       (rw bestN (beside-same x y (c .beside) (d .1) (λ k j _. within k j))) (c .parts)) refl (rw bestN (c .limit)) l
 
   -- a step up
-  fall-step : (f : ℕ) → Falls f → (w : List ℕ) (u : Tree) (k : ℕ) (A M B : List theory.State) → frames t ≤ length w
+  refresh-ancestors-step : (f : ℕ) → Falls f → (w : List ℕ) (u : Tree) (k : ℕ) (A M B : List theory.State) → frames t ≤ length w
       → Around (arraysOf ls w) (tree t) γ u A B → Shows (arraysOf ls w) u M → number u ≡ k → bestAt w k < γ → 0 < k
-      → k ≤ suc f → Settled (A ++ (M ++ B)) (fallen f t γ (renewed t w (parentOf t k)) (parentOf t k))
-  fall-step f again w u k A M B r top h e b z l = absurd (omega (arith, tree-number t 0))
-  fall-step f again w u k A M B r (child {n = n} {q = q} {ks = ks} {X = X} {Z = Z} F G a s p i j) h e b z l =
+      → k ≤ suc f → Settled (A ++ (M ++ B)) (refreshed f t γ (renewed t w (parentOf t k)) (parentOf t k))
+  refresh-ancestors-step f again w u k A M B r top h e b z l = absurd (omega (arith, tree-number t 0))
+  refresh-ancestors-step f again w u k A M B r (child {n = n} {q = q} {ks = ks} {X = X} {Z = Z} F G a s p i j) h e b z l =
       let m : parentOf t k ≡ n = ap (parentOf t) (sym e) ∙ parent-own t wf a s in
-      subst (λ x. Settled (A ++ (M ++ B)) (fallen f t γ (renewed t w x) x)) (sym m)
-      (subst (λ L. Settled L (fallen f t γ (renewed t w n) n)) (regroup X F M G Z i j)
-      (fall-over f again w u n q ks X F M G Z r a s p h (rw e (omega arith)) (omega (arith, p .later))))
+      subst (λ x. Settled (A ++ (M ++ B)) (refreshed f t γ (renewed t w x) x)) (sym m)
+      (subst (λ L. Settled L (refreshed f t γ (renewed t w n) n)) (regroup X F M G Z i j)
+      (refresh-ancestors-over f again w u n q ks X F M G Z r a s p h (rw e (omega arith)) (omega (arith, p .later))))
 
   -- falling settles the front
-  pub fall-at : (f : ℕ) → Falls f
-  unfolding fallen
-  fall-at zero w u k A M B r a h e b l =
+  pub refresh-ancestors-at : (f : ℕ) → Falls f
+  unfolding refreshed
+  refresh-ancestors-at zero w u k A M B r a h e b l =
       let z : k ≡ 0 = omega arith in
       subst (λ i. Settled (A ++ (M ++ B)) (record { front = w; top = i })) (sym z) (at-root w u A M B a h (e ∙ z))
-  fall-at (suc f) w u zero A M B r a h e b l = at-root w u A M B a h e
-  fall-at (suc f) w u (suc k) A M B r a h e b l =
-      cond-cases (Settled (A ++ (M ++ B))) (falls w γ (suc k)) _ _
-      (λ q. fall-step f (fall-at f) w u (suc k) A M B r a h e (ltb-true (bestAt w (suc k)) γ q) (omega arith)
+  refresh-ancestors-at (suc f) w u zero A M B r a h e b l = at-root w u A M B a h e
+  refresh-ancestors-at (suc f) w u (suc k) A M B r a h e b l =
+      cond-cases (Settled (A ++ (M ++ B))) (needsRefresh w γ (suc k)) _ _
+      (λ q. refresh-ancestors-step f (refresh-ancestors-at f) w u (suc k) A M B r a h e (ltb-true (bestAt w (suc k)) γ q) (omega arith)
       (omega arith))
       (λ q. at-stay w u (suc k) A M B a h e (omega (arith, ltb-false (bestAt w (suc k)) γ q)))
 

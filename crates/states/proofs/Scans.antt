@@ -9,7 +9,7 @@ use borrow.Author.Tests.{le-leb, lt-leb, eq-eqb, ne-eqb}
 use Rattle.frames.specs.Frame.{frames}
 use Rattle.frames.specs.Formed.{WellFormed}
 use Rattle.frames.proofs.Next.{child-within, child-later}
-use Rattle.states.specs.engine.Kept.{bestAt, linkAt, leftmostBest, falls, descended, Sound, Fits}
+use Rattle.states.specs.engine.Kept.{bestAt, linkAt, leftmostBest, needsRefresh, descended, Sound, Fits}
 
 -- best is the leftmost best from `at` to the last
 pub record Scanning (w : List ℕ) (first count at best : ℕ) : Type 0 where
@@ -58,9 +58,9 @@ module _ {w : List ℕ} {first count at best : ℕ} (s : Scanning w first count 
       let z : at ≡ first = omega (arith, s .from) in s .is ∙ ap₂ (leftmostBest w) z (omega (arith, z))
 
 -- the test of the fall
-pub falls-other : (w : List ℕ) (γ k : ℕ) → (k ≡ 0 → ⊥) → ltb (bestAt w k) γ ≡ falls w γ k
-falls-other w γ zero h = absurd (h refl)
-falls-other w γ (suc k) h = refl
+pub needsRefresh-other : (w : List ℕ) (γ k : ℕ) → (k ≡ 0 → ⊥) → ltb (bestAt w k) γ ≡ needsRefresh w γ k
+needsRefresh-other w γ zero h = absurd (h refl)
+needsRefresh-other w γ (suc k) h = refl
 
 -- on the way down from a node, `at` is reached, and `link` is its link
 pub record Descending (t F w : List ℕ) (node at link : ℕ) : Type 0 where

@@ -6,12 +6,12 @@ use mathlib.Core.Path.{_≡_, refl, sym, _∙_, ap, ap₂, subst}
 use mathlib.Core.Logic.{inl, inr}
 use mathlib.Core.List.{List, [], _∷_, _++_, append-assoc, append-nil}
 use Rattle.gametree.specs.declared.Side.{Side}
-use Rattle.gametree.specs.Tree.{Tree, Kids, number}
+use Rattle.gametree.specs.Tree.{Tree, Children, number}
 use Rattle.gametree.specs.Sss.{State}
 use Rattle.gametree.proofs.sss.Fronts as fronts
 use Rattle.lists.proofs.Lists.{all-append, all-map}
-use Rattle.states.specs.engine.Shown.{Arrays, Listed, Leads, Shows, listed, expanded, Brothers, none, one, more}
-use Rattle.states.specs.engine.Shown.{Beside, only, first, later, Around, top, child, Below, Found, stateAt}
+use Rattle.states.specs.engine.Shown.{Arrays, Listed, Leads, Shows, listed, expanded, Siblings, none, one, more}
+use Rattle.states.specs.engine.Shown.{Beside, only, first, later, Around, top, child, Below, BestFound, stateAt}
 
 -- merits below m are below what is no less
 below : {m k : ℕ} (L : List State) → m ≤ k → Below m L → Below k L
@@ -29,14 +29,14 @@ module _ (a : Arrays) where
         rw e (all-append (λ s. s .merit < a .best n + 1) F (M ++ G) (below F (omega arith) (r .0))
         (all-append (λ s. s .merit < a .best n + 1) M G (rw (l .best) (shown-merits h)) (r .1)))
 
-    brothers-merits : {q : Side} {m : ℕ} {ks : Kids} {L : List State} → Brothers a q m ks L → Below m L
+    brothers-merits : {q : Side} {m : ℕ} {ks : Children} {L : List State} → Siblings a q m ks L → Below m L
     brothers-merits none = tt
     brothers-merits (one {L = L} m h i) = below L (omega arith) (shown-merits h)
     brothers-merits (more m F G h i b e) =
         rw e (all-append (λ s. s .merit < m) F G (below F (omega arith) (shown-merits h)) (brothers-merits b))
 
     -- the states around a child have lesser merits before, and no greater ones behind
-    beside-merits : {q : Side} {m : ℕ} {ks : Kids} {u : Tree} {F G : List State} → Beside a q m ks u F G
+    beside-merits : {q : Side} {m : ℕ} {ks : Children} {u : Tree} {F G : List State} → Beside a q m ks u F G
         → Below m F × Below (m + 1) G
     beside-merits only = (tt, tt)
     beside-merits (first b) = (tt, brothers-merits b)
@@ -55,7 +55,7 @@ module _ (a : Arrays) where
       )
 
   -- u is one of the children
-  pub beside-child : {q : Side} {m : ℕ} {ks : Kids} {u : Tree} {F G : List State} → Beside a q m ks u F G
+  pub beside-child : {q : Side} {m : ℕ} {ks : Children} {u : Tree} {F G : List State} → Beside a q m ks u F G
       → fronts.ChildIn u ks
   beside-child only = refl
   beside-child (first b) = inl refl
@@ -71,13 +71,13 @@ module _ (a : Arrays) where
     shown-front (expanded {q = q} {ks = ks} {u = u} F M G l h b e) =
         rw e (inr (fronts.beside-front q ks u F G M (beside-front b) (shown-front h)))
 
-    brothers-front : {q : Side} {m : ℕ} {ks : Kids} {L : List State} → Brothers a q m ks L → fronts.Brothers q ks L
+    brothers-front : {q : Side} {m : ℕ} {ks : Children} {L : List State} → Siblings a q m ks L → fronts.Brothers q ks L
     brothers-front none = refl
     brothers-front (one m h i) = shown-front h
     brothers-front (more m F G h i b e) = (F, G, e, shown-front h, brothers-front b)
 
     -- beside a child
-    pub beside-front : {q : Side} {m : ℕ} {ks : Kids} {u : Tree} {F G : List State} → Beside a q m ks u F G
+    pub beside-front : {q : Side} {m : ℕ} {ks : Children} {u : Tree} {F G : List State} → Beside a q m ks u F G
         → fronts.Beside q ks u F G
     beside-front only = (refl, refl, refl)
     beside-front (first b) = inl (refl, refl, brothers-front b)
@@ -166,7 +166,7 @@ module _ (a : Arrays) where
 
   -- at its end is the leftmost state of greatest merit
   pub standing-found : {r : Tree} {m : ℕ} {L : List State} {c : ℕ} → Standing a r m L c → a .link c ≡ 0
-      → Found a r m L c
+      → BestFound a r m L c
   standing-found {r} {m} {L} {c} s e =
       let i = s .number-is in
       let h = shows-listed (s .shown) (ap (a .link) i ∙ e) in

@@ -11,10 +11,10 @@ use Rattle.frames.specs.Frame.{frames}
 use Rattle.frames.specs.Formed.{WellFormed, ChildOf}
 use Rattle.frames.proofs.Next.{child-within}
 use Rattle.states.specs.declared.Change.{Change}
-use Rattle.places.specs.Buffer.{stored}
-pub use Rattle.places.proofs.Runs.{stored-length}
-use Rattle.states.specs.engine.Kept.{packed, changed}
-use Rattle.states.specs.engine.Placing.{Local}
+use Rattle.positions.specs.Buffer.{stored}
+pub use Rattle.positions.proofs.Runs.{stored-length}
+use Rattle.states.specs.engine.Kept.{packedEntry, changed}
+use Rattle.states.specs.engine.Putting.{Local}
 
 -- k is the first of the numbers from i on, or a later one
 pub first-or-later : {R : Type 0} (i k : ℕ) → i ≤ k → (k ≡ i → R) → (i + 1 ≤ k → R) → R
@@ -61,9 +61,9 @@ module _ {A : Type 0} (f : ℕ → A) where
       (λ o. stored-in (i + 1) n (set xs i (f i)) k d o (omega arith) (rw (length-set xs i (f i)) l))
 
 -- what it stores after the node's entry is the change
-pub placed : (γ : ℕ) (c : Change) (w : List ℕ) (v x n : ℕ) → v ≡ packed (c .score) 0 → x ≡ packed γ (c .first)
+pub positioned : (γ : ℕ) (c : Change) (w : List ℕ) (v x n : ℕ) → v ≡ packedEntry (c .score) 0 → x ≡ packedEntry γ (c .first)
     → n ≡ c .count → stored (λ k. v) (c .first) n (set w (c .node) x) ≡ changed γ c w
-placed γ c w v x n e f g = rw (e, f, g)
+positioned γ c w v x n e f g = rw (e, f, g)
 
 -- WHAT A CHANGE STORES
 
@@ -86,25 +86,25 @@ in-or-out c k =
 
 module _ (γ : ℕ) (c : Change) (w : List ℕ) where
   abbrev w₁ : List ℕ
-  w₁ = set w (c .node) (packed γ (c .first))
+  w₁ = set w (c .node) (packedEntry γ (c .first))
 
   pub changed-length : length (changed γ c w) ≡ length w
-  changed-length = stored-length (λ k. packed (c .score) 0) (c .first) (c .count) w₁ ∙ length-set w _ _
+  changed-length = stored-length (λ k. packedEntry (c .score) 0) (c .first) (c .count) w₁ ∙ length-set w _ _
 
   -- a new state's entry
-  pub changed-in : (k : ℕ) → InRun c k → k < length w → getD (changed γ c w) k 0 ≡ packed (c .score) 0
+  pub changed-in : (k : ℕ) → InRun c k → k < length w → getD (changed γ c w) k 0 ≡ packedEntry (c .score) 0
   changed-in k i l =
-      stored-in (λ k. packed (c .score) 0) (c .first) (c .count) w₁ k 0 (i .0) (i .1) (rw (length-set w _ _) l)
+      stored-in (λ k. packedEntry (c .score) 0) (c .first) (c .count) w₁ k 0 (i .0) (i .1) (rw (length-set w _ _) l)
 
   -- the node's own
-  pub changed-node : OutRun c (c .node) → c .node < length w → getD (changed γ c w) (c .node) 0 ≡ packed γ (c .first)
+  pub changed-node : OutRun c (c .node) → c .node < length w → getD (changed γ c w) (c .node) 0 ≡ packedEntry γ (c .first)
   changed-node o l =
-      stored-out (λ k. packed (c .score) 0) (c .first) (c .count) w₁ (c .node) 0 o ∙ getD-set-same w (c .node) _ 0 l
+      stored-out (λ k. packedEntry (c .score) 0) (c .first) (c .count) w₁ (c .node) 0 o ∙ getD-set-same w (c .node) _ 0 l
 
   -- the others stay
   pub changed-out : (k : ℕ) → OutRun c k → (k ≡ c .node → ⊥) → getD (changed γ c w) k 0 ≡ getD w k 0
   changed-out k o n =
-      stored-out (λ k. packed (c .score) 0) (c .first) (c .count) w₁ k 0 o ∙ getD-set-other w (c .node) k _ 0 n
+      stored-out (λ k. packedEntry (c .score) 0) (c .first) (c .count) w₁ k 0 o ∙ getD-set-other w (c .node) k _ 0 n
 
 -- WHERE IT IS
 

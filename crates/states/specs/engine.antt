@@ -1,4 +1,4 @@
 -- What building blocks and proofs are stated with, and no contract of a public entry and no demand cites.
 pub mod Kept
-pub mod Placing
+pub mod Putting
 pub mod Shown

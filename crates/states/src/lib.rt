@@ -3,15 +3,15 @@
 use frames::child_count;
 use frames::first_child;
 use gametree::Side;
-use places::parent_at;
-use places::side_at;
+use positions::parent_at;
+use positions::side_at;
 ghost use mathlib.Core.Path.{_≡_};
 ghost use Prim.Native.Nat.{_+_, _-_, _≤_, _<_};
 ghost use lib.ListN.{length};
 ghost use Rattle.gametree.specs.Tree.{greatest};
 ghost use Rattle.frames.specs.Frame.{maxNodes, frames};
-ghost use Rattle.states.specs.engine.Kept.{bestAt, linkAt, packed as packedOf, leftmostBest, chosenOf, falls};
-ghost use Rattle.states.specs.engine.Kept.{fallen, descended, changed, Placeable, Fits};
+ghost use Rattle.states.specs.engine.Kept.{bestAt, linkAt, packedEntry as packedOf, leftmostBest, chosenOf, needsRefresh};
+ghost use Rattle.states.specs.engine.Kept.{refreshed, descended, changed, Puttable, Fits};
 
 // LIVE and SOLVED (SPEC 10.1).
 pub enum Status {
@@ -40,8 +40,8 @@ pub struct Change {
 const LINKS: u32 = 4096;
 
 // The new states' entries, and the node's, which goes down to the first of them.
-pub fn place(front: &mut [u32], change: Change, merit: u32)
-    requires { ⌜ Placeable merit change (now front) ⌝ }
+pub fn put(front: &mut [u32], change: Change, merit: u32)
+    requires { ⌜ Puttable merit change (now front) ⌝ }
     ensures { λ _. ⌜ now (front .exit) ≡ changed merit change (now (front .entry)) ⌝ }
 {
     let node = change.node;
@@ -58,24 +58,30 @@ pub fn place(front: &mut [u32], change: Change, merit: u32)
 
 // The greatest merits above a node whose merit fell, up to the first node whose greatest merit stays, or the root:
 // that is the result.
-pub fn fall(table: &[u8], places: &[u32], front: &mut [u32], node: usize, merit: u32) -> usize
-    requires { ⌜ Fits (now table) (now places) (now front) ⌝ }
+pub fn refresh_ancestors(
+    table: &[u8],
+    positions: &[u32],
+    front: &mut [u32],
+    node: usize,
+    merit: u32,
+) -> usize
+    requires { ⌜ Fits (now table) (now positions) (now front) ⌝ }
     requires { ⌜ node < frames (now table) ⌝ }
-    ensures { λ r. ⌜ r ≡ fallen node (now (table .entry)) merit (now (front .entry)) node .top ⌝ }
-    ensures { λ _. ⌜ now (front .exit) ≡ fallen node (now (table .entry)) merit (now (front .entry)) node .front ⌝ }
+    ensures { λ r. ⌜ r ≡ refreshed node (now (table .entry)) merit (now (front .entry)) node .top ⌝ }
+    ensures { λ _. ⌜ now (front .exit) ≡ refreshed node (now (table .entry)) merit (now (front .entry)) node .front ⌝ }
 {
     let mut at = node;
-    while is_lower(front, at, merit) {
-        at = parent_at(places, at);
-        let child = chosen(table, places, front, at);
+    while needs_refresh(front, at, merit) {
+        at = parent_at(positions, at);
+        let child = chosen(table, positions, front, at);
         front[at] = packed(best_at(front, child), child);
     }
     at
 }
 
 // The state to take, from a node down by the links.
-pub fn descend(table: &[u8], places: &[u32], front: &[u32], node: usize) -> usize
-    requires { ⌜ Fits (now table) (now places) (now front) ⌝ }
+pub fn descend(table: &[u8], positions: &[u32], front: &[u32], node: usize) -> usize
+    requires { ⌜ Fits (now table) (now positions) (now front) ⌝ }
     requires { ⌜ node < frames (now table) ⌝ }
     ensures { λ r. ⌜ r ≡ descended (frames (now (table .entry)) - node) (now (front .entry)) node ⌝ }
 {
@@ -97,8 +103,8 @@ fn best_at(front: &[u32], node: usize) -> u32
 }
 
 // The child that an expanded node goes down to, from the merits of its children.
-fn chosen(table: &[u8], places: &[u32], front: &[u32], node: usize) -> usize
-    requires { ⌜ Fits (now table) (now places) (now front) ⌝ }
+fn chosen(table: &[u8], positions: &[u32], front: &[u32], node: usize) -> usize
+    requires { ⌜ Fits (now table) (now positions) (now front) ⌝ }
     requires { ⌜ node < frames (now table) ⌝ }
     ensures { λ r. ⌜ r ≡ chosenOf (now (table .entry)) (now (front .entry)) node ⌝ }
 {
@@ -106,7 +112,7 @@ fn chosen(table: &[u8], places: &[u32], front: &[u32], node: usize) -> usize
     if count == 0 {
         return 0;
     }
-    match side_at(places, node) {
+    match side_at(positions, node) {
         Side::Max => leftmost_best(front, first_child(table, node), count),
         Side::Min => link_at(front, node),
     }
@@ -129,9 +135,9 @@ fn leftmost_best(front: &[u32], first: usize, count: usize) -> usize
 }
 
 // Is a node other than the root below this merit?
-fn is_lower(front: &[u32], node: usize, merit: u32) -> bool
+fn needs_refresh(front: &[u32], node: usize, merit: u32) -> bool
     requires { ⌜ node < length (now front) ⌝ }
-    ensures { λ r. ⌜ r ≡ falls (now (front .entry)) merit node ⌝ }
+    ensures { λ r. ⌜ r ≡ needsRefresh (now (front .entry)) merit node ⌝ }
 {
     if node == 0 {
         false

@@ -4,7 +4,7 @@ use crate::tables::TABLE_SIZE;
 use crate::tables::read_table;
 use casetext::print::print_line_feed;
 use casetext::print::print_value;
-use leafvalue::Needed;
+use leafvalue::LeastValue;
 use leafvalue::least_value;
 use libc::STDOUT_FILENO;
 ghost use mathlib.Core.Path.{_≡_};
@@ -15,14 +15,14 @@ const MOST: u32 = 1000000;
 
 // The smallest value of a node for the wanted value `plus` less `minus`, on so many bytes of the table: zeros follow
 // the frames of the file.
-pub fn print_needed(file: &[u8], size: u32, node: u32, plus: u32, minus: u32) {
+pub fn print_least_value(file: &[u8], size: u32, node: u32, plus: u32, minus: u32) {
     let mut table = [0u8; TABLE_SIZE];
     read_table(file, &mut table);
     let end = io::count(size as isize, &table);
     io::write_all(STDOUT_FILENO, b"value");
     match least_value(&table[..end], node as usize, difference(plus, minus)) {
-        Needed::Value(value) => print_value(value),
-        Needed::Rejected(rejection) => print_rejection(rejection),
+        LeastValue::Value(value) => print_value(value),
+        LeastValue::Rejected(rejection) => print_rejection(rejection),
     }
     print_line_feed();
 }

@@ -11,13 +11,13 @@ use borrow.Author.Tests.{le-leb, lt-leb}
 use Rattle.frames.specs.declared.Rejection.{Rejection}
 use Rattle.frames.specs.declared.Checked.the-variants.{Nodes}
 use Rattle.frames.specs.Frame.{maxDepth, frames, childCount, next}
-use Rattle.frames.specs.Place.{parentOf, depthOf}
+use Rattle.frames.specs.Position.{parentOf, depthOf}
 use Rattle.frames.specs.Formed.{WellFormed}
 use Rattle.frames.specs.Rejection.{answer}
 use Rattle.frames.specs.Check.{check9, depthsRejection}
 use Rattle.frames.proofs.Next.{next-more, next-mono, next-within, waits, child-next, next-child, child-later}
 use Rattle.frames.proofs.Parents.{parent-child}
-use Rattle.frames.proofs.Places.{place-root, depth-child}
+use Rattle.frames.proofs.Positions.{position-root, depth-child}
 use Rattle.frames.proofs.Asked.{refused, passed-below, passed-all, passed-until}
 
 -- the level that ends at e has depth d
@@ -49,7 +49,7 @@ descending-none t =
       shallow = omega arith;
       before = λ k h. absurd (omega arith);
       level = record {
-        here = λ k _ h. let e : k ≡ 0 = omega arith in rw e (ap (λ p. p .depth) (place-root t));
+        here = λ k _ h. let e : k ≡ 0 = omega arith in rw e (ap (λ p. p .depth) (position-root t));
         below = λ k h g. absurd (omega arith);
       };
     }

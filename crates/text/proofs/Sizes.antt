@@ -31,7 +31,7 @@ drop-replicate (suc k) (suc n) = let e : suc n - suc k ≡ n - k = omega arith i
 module _ (x : List ℕ) where
   -- they have room in a buffer of its size
   pub text-room : {b : List ℕ} → length x ≤ textSize → textSize ≤ length b → TextRoom 0 x b
-  text-room few h = record { enough = omega arith }
+  text-room atMost h = record { enough = omega arith }
 
   -- what was laid into zeros is the text of them
   pub text-laid : {n : ℕ} {b : List ℕ} → Put 0 x (replicate textSize 0) n b

@@ -18,7 +18,7 @@ pub const LINE_FEED: u8 = 10;
 // The digit 0, and the base of the numbers.
 const ZERO: usize = b'0' as usize;
 
-const BASE: usize = 10;
+const TEN: usize = 10;
 
 // The text of a report: its bytes, as many as `length` says, and zeros behind them.
 pub struct Text {
@@ -91,11 +91,11 @@ fn put_number(text: &mut [u8], at: usize, n: usize) -> usize
     requires { ⌜ TextRoom at (decimal n) (now text) ⌝ }
     ensures { λ r. ⌜ Put at (decimal n) (now (text .entry)) r (now (text .exit)) ⌝ }
 {
-    if n < BASE {
+    if n < TEN {
         return put_byte(text, at, (ZERO + n) as u8);
     }
-    let next = put_number(text, at, n / BASE);
-    put_byte(text, next, (ZERO + n % BASE) as u8)
+    let next = put_number(text, at, n / TEN);
+    put_byte(text, next, (ZERO + n % TEN) as u8)
 }
 
 // One byte at a position; the position behind it.

@@ -13,7 +13,7 @@ use Rattle.lists.proofs.Choice.{true-not-false, and-both, or-right}
 use Rattle.frames.specs.Frame.{frameSize}
 use Rattle.hex.specs.Digit.{within, noDigit, digitOf, capitalOf, isCapitalDigit}
 use Rattle.hex.proofs.Digits.{inside, above}
-use Rattle.lines.specs.Line.{lineDigits, lineFeed, allDigits, isLine, hasSmall, bytesOf}
+use Rattle.lines.specs.Line.{lineDigits, lineFeed, allDigits, isLine, hasLowercase, bytesOf}
 use Rattle.lines.specs.Lines.{putBefore, linesOf}
 use Rattle.lines.proofs.CapitalDigits.{capitals-all}
 use Rattle.lines.proofs.Splits.{feed-no-digit}
@@ -56,15 +56,15 @@ digits-capital (b ∷ bs) h (suc zero) l = capital-is (b % 16) (omega arith)
 digits-capital (b ∷ bs) h (suc (suc k)) l = digits-capital bs (later b bs h) k (omega arith)
 
 module _ (bs : List ℕ) (h : Bytes bs) where
-  digits-are : (allDigits (digitsOf bs) ≡ true) × (hasSmall (digitsOf bs) ≡ false)
+  digits-are : (allDigits (digitsOf bs) ≡ true) × (hasLowercase (digitsOf bs) ≡ false)
   digits-are = capitals-all (digitsOf bs) (λ k l. digits-capital bs h k (omega (arith, digits-length bs)))
 
   -- they are digits to the reader
   pub digits-read : allDigits (digitsOf bs) ≡ true
   digits-read = digits-are .0
 
-  -- and none is a small letter
-  pub digits-large : hasSmall (digitsOf bs) ≡ false
+  -- and none is a lowercase letter
+  pub digits-large : hasLowercase (digitsOf bs) ≡ false
   digits-large = digits-are .1
 
 -- and stand for the bytes

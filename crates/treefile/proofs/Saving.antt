@@ -15,7 +15,7 @@ use Rattle.frames.specs.Check.{Accepted}
 use Rattle.lines.specs.Line.{lineSize}
 use Rattle.reader.specs.File.{readAnswer, tableAfter}
 use Rattle.writer.specs.Encoded.{fileOf}
-use Rattle.writer.specs.Write.{writeRejection, written, writeOutcome}
+use Rattle.writer.specs.Write.{writeRejection, writtenFile, writeOutcome}
 use Rattle.writer.specs.declared.Written.the-variants.{Length, Rejected}
 use Rattle.writer.proofs.Questions.{passed-room, room-passed}
 use Rattle.treefile.specs.results.Saved.{Bytes, Saved}
@@ -25,11 +25,11 @@ use Rattle.treefile.proofs.RoundTrip.{written-length, written-read, wri
 pub record LengthWritten (t file : List ℕ) (x : Option Rejection) (n : ℕ) : Type 0 where
   pub passed : x ≡ none
   pub size : n ≡ length (fileOf t)
-  pub front : take n (written t file x .file) ≡ fileOf t
-  pub past : drop n (written t file x .file) ≡ drop n file
+  pub front : take n (writtenFile t file x .file) ≡ fileOf t
+  pub past : drop n (writtenFile t file x .file) ≡ drop n file
 
 module _ (t file : List ℕ) where
-  pub length-written : (x : Option Rejection) (n : ℕ) → written t file x .answer ≡ Length n
+  pub length-written : (x : Option Rejection) (n : ℕ) → writtenFile t file x .answer ≡ Length n
       → LengthWritten t file x n
   length-written none n e =
       let same : length (fileOf t) ≡ n = cc in
@@ -42,8 +42,8 @@ module _ (t file : List ℕ) where
   length-written (some r) n e = clash (cc)
 
   -- and where it gives a rejection
-  pub rejection-written : (x : Option Rejection) (r : Rejection) → written t file x .answer ≡ Rejected r
-      → (x ≡ some r) × (written t file x .file ≡ file)
+  pub rejection-written : (x : Option Rejection) (r : Rejection) → writtenFile t file x .answer ≡ Rejected r
+      → (x ≡ some r) × (writtenFile t file x .file ≡ file)
   rejection-written none r e = clash (cc)
   rejection-written (some x) r e = (cc, refl)
 

@@ -16,8 +16,8 @@ use Rattle.turns.specs.declared.Update.{Update}
 use Rattle.turns.specs.declared.Stage.the-variants.{Going}
 use Rattle.turns.specs.declared.Run.{Run}
 use Rattle.turns.specs.engine.Update.{ofChange}
-use Rattle.turns.specs.engine.Turn.{nextAt, replaced, settled}
-use Rattle.states.specs.engine.Kept.{fallen, descended, changed}
+use Rattle.turns.specs.engine.Turn.{nextAt, replacedRun, settledFront}
+use Rattle.states.specs.engine.Kept.{refreshed, descended, changed}
 
 module _ (t : List ℕ) (i γ p : ℕ) (s : Side) (r : Change) where
   pub child-max : s ≡ Max → r ≡ one p p Solved γ → r ≡ ofChild t i γ p s
@@ -32,13 +32,13 @@ module _ (t : List ℕ) (i γ p : ℕ) (s : Side) (r : Change) where
 
 -- the steps of a replacement
 pub replaced-by : (t w : List ℕ) (c : Change) (γ : ℕ) (k : Counts) (w₁ w₂ : List ℕ) (top at : ℕ) (u : Update)
-    → w₁ ≡ changed γ c w → top ≡ fallen (c .node) t γ w₁ (c .node) .top → w₂ ≡ fallen (c .node) t γ w₁ (c .node) .front
+    → w₁ ≡ changed γ c w → top ≡ refreshed (c .node) t γ w₁ (c .node) .top → w₂ ≡ refreshed (c .node) t γ w₁ (c .node) .front
     → at ≡ descended (frames t - top) w₂ top → u ≡ ofChange c
     → (_≡_ {A = Run} (record { stage = Going; best = at; counts = k; update = u })
-    (replaced t w c γ k))
-    × (w₂ ≡ settled t γ c w .front)
+    (replacedRun t w c γ k))
+    × (w₂ ≡ settledFront t γ c w .front)
 replaced-by t w c γ k w₁ w₂ top at u e₁ e₂ e₃ e₄ e₅ =
-    let x : top ≡ settled t γ c w .top = e₂ ∙ ap (λ z. fallen (c .node) t γ z (c .node) .top) e₁ in
-    let y : w₂ ≡ settled t γ c w .front = e₃ ∙ ap (λ z. fallen (c .node) t γ z (c .node) .front) e₁ in
-    let i : at ≡ nextAt t (settled t γ c w) = e₄ ∙ ap₂ (λ u v. descended (frames t - u) v u) x y in
+    let x : top ≡ settledFront t γ c w .top = e₂ ∙ ap (λ z. refreshed (c .node) t γ z (c .node) .top) e₁ in
+    let y : w₂ ≡ settledFront t γ c w .front = e₃ ∙ ap (λ z. refreshed (c .node) t γ z (c .node) .front) e₁ in
+    let i : at ≡ nextAt t (settledFront t γ c w) = e₄ ∙ ap₂ (λ u v. descended (frames t - u) v u) x y in
     (cc, y)

@@ -1,5 +1,5 @@
 -- The lemmas on one turn of SSS*.
 pub mod Choices
-pub mod Places
+pub mod Puts
 pub mod Taking
 pub mod Merits

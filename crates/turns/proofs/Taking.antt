@@ -23,8 +23,8 @@ use Rattle.turns.specs.declared.Stage.the-variants.{Spent}
 use Rattle.turns.specs.declared.Run.{Run}
 use Rattle.turns.specs.engine.Merit.{scoreOf}
 use Rattle.turns.specs.engine.Rules.{ofInner, ofLive, ofState}
-use Rattle.turns.specs.engine.Turn.{isSolvedRoot, valued, newLeaves, isLiveLeaf, uncovered, settled, replaced}
-use Rattle.turns.specs.engine.Turn.{counted, ended, taken}
+use Rattle.turns.specs.engine.Turn.{isSolvedRoot, evaluatedBy, newLeaves, isLiveLeaf, isUncovered, settledFront, replacedRun}
+use Rattle.turns.specs.engine.Turn.{recounted, endedRun, taken}
 
 -- a SOLVED state that is not the root's
 pub not-root : (s : Status) (i : ℕ) → isSolvedRoot s i ≡ false → s ≡ Solved → 0 < i
@@ -37,11 +37,11 @@ live-inner t i γ q zero z = absurd (z refl)
 live-inner t i γ q (suc n) z = refl
 
 -- only a LIVE leaf is evaluated, so at most one leaf
-pub inner-none : (n : ℕ) (s : Status) (i : ℕ) → (n ≡ 0 → ⊥) → valued n s i ≡ []
+pub inner-none : (n : ℕ) (s : Status) (i : ℕ) → (n ≡ 0 → ⊥) → evaluatedBy n s i ≡ []
 inner-none zero s i z = absurd (z refl)
 inner-none (suc n) s i z = refl
 
-pub solved-none : (n i : ℕ) → valued n Solved i ≡ []
+pub solved-none : (n i : ℕ) → evaluatedBy n Solved i ≡ []
 solved-none zero i = refl
 solved-none (suc n) i = refl
 
@@ -61,19 +61,19 @@ solved-not zero = refl
 solved-not (suc n) = refl
 
 -- no other state evaluates a leaf
-no-leaves : (n : ℕ) (s : Status) (i : ℕ) → isLiveLeaf n s ≡ false → length (valued n s i) ≡ 0
+no-leaves : (n : ℕ) (s : Status) (i : ℕ) → isLiveLeaf n s ≡ false → length (evaluatedBy n s i) ≡ 0
 no-leaves zero Live i e = absurd (true-not-false refl e)
 no-leaves zero Solved i e = refl
 no-leaves (suc n) s i e = refl
 
-few-leaves : (n : ℕ) (s : Status) (i : ℕ) → length (valued n s i) ≤ 1
+few-leaves : (n : ℕ) (s : Status) (i : ℕ) → length (evaluatedBy n s i) ≤ 1
 few-leaves zero Live i = omega arith
 few-leaves zero Solved i = omega arith
 few-leaves (suc n) s i = omega arith
 
 module _ (t : List ℕ) (e : State) (k : Counts) (h : k .leaves ≤ k .allowance) where
   -- a leaf is evaluated where that is one too many
-  pub uncovered-leaf : uncovered t e k ≡ true
+  pub uncovered-leaf : isUncovered t e k ≡ true
       → (e .status ≡ Live) × (childCount t (e .node) ≡ 0) × (k .leaves ≡ k .allowance)
   uncovered-leaf u =
       elim (decLt (k .leaves) (k .allowance)) [
@@ -83,7 +83,7 @@ module _ (t : List ℕ) (e : State) (k : Counts) (h : k .leaves ≤ k .allowance
       ]
 
   -- else the allowance covers what is evaluated
-  pub covered : uncovered t e k ≡ false → k .leaves + length (newLeaves t e) ≤ k .allowance
+  pub covered : isUncovered t e k ≡ false → k .leaves + length (newLeaves t e) ≤ k .allowance
   covered u =
       elim (decLt (k .leaves) (k .allowance)) [
         | yes l ↦ omega (arith, few-leaves (childCount t (e .node)) (e .status) (e .node))
@@ -97,7 +97,7 @@ module _ (t : List ℕ) (e : State) (k : Counts) (h : k .leaves ≤ k .allowance
 -- where the count is that of the marks, it is so after a replacement too
 pub counted-on : (t b : List ℕ) (n : ℕ) (s : Status) (i k : ℕ) → k ≡ ones b (frames t) → i < frames t
     → frames t ≤ length b → (s ≡ Live → n ≡ 0 → marked b i ≡ false)
-    → k + length (valued n s i) ≡ ones (markAll b (valued n s i)) (frames t)
+    → k + length (evaluatedBy n s i) ≡ ones (markAll b (evaluatedBy n s i)) (frames t)
 unfolding markAll
 counted-on t b zero Live i k c h r u = omega (arith, c, ones-set b (frames t) i h (omega arith) (u refl refl))
 counted-on t b zero Solved i k c h r u = omega (arith, c)
@@ -107,15 +107,15 @@ counted-on t b (suc n) s i k c h r u = omega (arith, c)
 module _ (t w b o : List ℕ) (r : Run) (e : State) (q : isSolvedRoot (e .status) (e .node) ≡ false) (m : ℕ)
     (is : m ≡ scoreOf (e .merit)) where
   -- where the allowance does not cover its leaf the run ends
-  pub ended-is : {r′ : Run} → uncovered t e (r .counts) ≡ true → r′ ≡ ended t (Spent m) (r .counts)
+  pub ended-is : {r′ : Run} → isUncovered t e (r .counts) ≡ true → r′ ≡ endedRun t (Spent m) (r .counts)
       → record { front = w; marks = b; order = o; run = r′ } ≡ taken t w b o r e
   ended-is h x = rw (q, h, x, is)
 
   -- and else e is replaced, by the change c
-  pub stepped-is : (c : Change) (n : ℕ) {w′ b′ o′ : List ℕ} {r′ : Run} → uncovered t e (r .counts) ≡ false
-      → c ≡ ofState t (e .node) m (e .status) → w′ ≡ settled t m c w .front
+  pub stepped-is : (c : Change) (n : ℕ) {w′ b′ o′ : List ℕ} {r′ : Run} → isUncovered t e (r .counts) ≡ false
+      → c ≡ ofState t (e .node) m (e .status) → w′ ≡ settledFront t m c w .front
       → progress n b′ o′ ≡ evaluateAll (progress (r .counts .leaves) b o) (newLeaves t e)
-      → r′ ≡ replaced t w c m (counted n (r .counts))
+      → r′ ≡ replacedRun t w c m (recounted n (r .counts))
       → record { front = w′; marks = b′; order = o′; run = r′ } ≡ taken t w b o r e
   stepped-is c n h i f p x =
       rw (q, h, x, f, ap (λ y. y .marks) p, ap (λ y. y .order) p, ap (λ y. y .leaves) p, i, is)

@@ -9,18 +9,18 @@ use states::Change;
 use states::State;
 use states::Status;
 use states::descend;
-use states::fall;
-use states::place;
+use states::put;
+use states::refresh_ancestors;
 ghost use mathlib.Core.Path.{_≡_};
 ghost use Prim.Native.Nat.{_<_, _≤_};
 ghost use Rattle.gametree.specs.Tree.{greatest};
 ghost use Rattle.frames.specs.Frame.{frames, childCount};
 ghost use Rattle.frames.specs.Value.{valueOf};
 ghost use Rattle.turns.specs.engine.Update.{ofChange, blanks as blanksOf};
-ghost use Rattle.turns.specs.engine.Turn.{isSolvedRoot, isLiveLeaf, uncovered, replaced, settled};
-ghost use Rattle.turns.specs.engine.Turn.{ended as endedOf, taken};
+ghost use Rattle.turns.specs.engine.Turn.{isSolvedRoot, isLiveLeaf, isUncovered, replacedRun, settledFront};
+ghost use Rattle.turns.specs.engine.Turn.{endedRun as endedOf, taken};
 ghost use Rattle.turns.specs.engine.Merit.{scoreOf, IsMerit};
-ghost use Rattle.states.specs.engine.Placing.{Placing};
+ghost use Rattle.states.specs.engine.Putting.{Putting};
 ghost use Rattle.turns.specs.engine.Ready.{Takeable};
 
 // What an entry becomes: a state of its own node, or blank.
@@ -67,12 +67,12 @@ pub fn next(
     run: Run,
     entry: State,
     table: &[u8],
-    places: &[u32],
+    positions: &[u32],
     front: &mut [u32],
     evaluated: &mut [u8],
     order: &mut [u16],
 ) -> Run
-    requires { ⌜ Takeable (now table) (now places) (now front) (now evaluated) (now order) run entry ⌝ }
+    requires { ⌜ Takeable (now table) (now positions) (now front) (now evaluated) (now order) run entry ⌝ }
     ensures { λ r. ⌜ record {
       front = now (front .exit);
       marks = now (evaluated .exit);
@@ -89,14 +89,22 @@ pub fn next(
     if is_uncovered(table, entry, counts) {
         return ended(table, Stage::Spent(merit), counts);
     }
-    let replacement = of_state(table, places, evaluated, order, entry, merit, counts.leaves);
+    let replacement = of_state(
+        table,
+        positions,
+        evaluated,
+        order,
+        entry,
+        merit,
+        counts.leaves,
+    );
     let counts = Counts {
         leaves: replacement.leaves,
         replacements: counts.replacements + 1,
         allowance: counts.allowance,
     };
     let change = replacement.change;
-    replacing(table, places, front, change, merit, counts)
+    replacing(table, positions, front, change, merit, counts)
 }
 
 // The entries that a change puts on the list.
@@ -145,7 +153,7 @@ fn is_solved_root(entry: State) -> bool
 // Would a replacement of this state evaluate a leaf that the allowance does not cover?
 fn is_uncovered(table: &[u8], entry: State, counts: Counts) -> bool
     requires { ⌜ entry .node < frames (now table) ⌝ }
-    ensures { λ r. ⌜ r ≡ uncovered (now (table .entry)) entry counts ⌝ }
+    ensures { λ r. ⌜ r ≡ isUncovered (now (table .entry)) entry counts ⌝ }
 {
     if counts.leaves < counts.allowance {
         return false;
@@ -168,19 +176,19 @@ fn is_live_leaf(table: &[u8], entry: State) -> bool
 // A replacement: the front is changed, and the next state to take is found.
 fn replacing(
     table: &[u8],
-    places: &[u32],
+    positions: &[u32],
     front: &mut [u32],
     change: Change,
     merit: u32,
     counts: Counts,
 ) -> Run
-    requires { ⌜ Placing (now table) (now places) (now front) merit change ⌝ }
-    ensures { λ r. ⌜ r ≡ replaced (now (table .entry)) (now (front .entry)) change merit counts ⌝ }
-    ensures { λ _. ⌜ now (front .exit) ≡ settled (now (table .entry)) merit change (now (front .entry)) .front ⌝ }
+    requires { ⌜ Putting (now table) (now positions) (now front) merit change ⌝ }
+    ensures { λ r. ⌜ r ≡ replacedRun (now (table .entry)) (now (front .entry)) change merit counts ⌝ }
+    ensures { λ _. ⌜ now (front .exit) ≡ settledFront (now (table .entry)) merit change (now (front .entry)) .front ⌝ }
 {
-    place(front, change, merit);
-    let top = fall(table, places, front, change.node, merit);
-    let best = descend(table, places, front, top);
+    put(front, change, merit);
+    let top = refresh_ancestors(table, positions, front, change.node, merit);
+    let best = descend(table, positions, front, top);
     Run {
         stage: Stage::Going,
         best,

@@ -4,9 +4,9 @@ use frames::child_count;
 use frames::first_child;
 use gametree::Side;
 use gametree::better;
-use places::depth_at;
-use places::parent_at;
-use places::side_at;
+use positions::depth_at;
+use positions::parent_at;
+use positions::side_at;
 use states::Change;
 use states::State;
 use states::Status;
@@ -20,7 +20,7 @@ ghost use Rattle.frames.specs.Frame.{maxNodes, frames, childCount};
 ghost use Rattle.frames.specs.Tree.{valuation};
 ghost use Rattle.bounds.specs.Marks.{marked};
 ghost use Rattle.bounds.specs.engine.Progress.{progress, evaluateAll, Listable};
-ghost use Rattle.places.specs.engine.Places.{Placed};
+ghost use Rattle.positions.specs.engine.Positions.{Positioned};
 ghost use Rattle.turns.specs.engine.Rules.{one as oneOf, ofInner, ofChild, ofState};
 ghost use Rattle.turns.specs.engine.Turn.{newLeaves};
 ghost use Rattle.turns.specs.engine.Ready.{Replaceable};
@@ -34,14 +34,14 @@ pub struct Replacement {
 // The replacement of a state, after so many evaluated leaves.
 pub fn of_state(
     table: &[u8],
-    places: &[u32],
+    positions: &[u32],
     evaluated: &mut [u8],
     order: &mut [u16],
     entry: State,
     merit: u32,
     leaves: usize,
 ) -> Replacement
-    requires { ⌜ Replaceable (now table) (now places) (progress leaves (now evaluated) (now order)) entry merit ⌝ }
+    requires { ⌜ Replaceable (now table) (now positions) (progress leaves (now evaluated) (now order)) entry merit ⌝ }
     ensures { λ r. ⌜ r .change ≡ ofState (now (table .entry)) (entry .node) merit (entry .status) ⌝ }
     ensures { λ r. ⌜ progress (r .leaves) (now (evaluated .exit)) (now (order .exit))
         ≡ evaluateAll (progress leaves (now (evaluated .entry)) (now (order .entry)))
@@ -53,15 +53,15 @@ pub fn of_state(
         Status::Live => {
             let count = child_count(table, node);
             if count == 0 {
-                of_leaf(table, places, evaluated, order, node, merit, leaves)
+                of_leaf(table, positions, evaluated, order, node, merit, leaves)
             } else {
-                let change = of_inner(table, node, count, side_at(places, node), merit);
+                let change = of_inner(table, node, count, side_at(positions, node), merit);
                 Replacement { change, leaves }
             }
         }
         Status::Solved => {
-            let parent = parent_at(places, node);
-            let change = of_child(table, node, parent, side_at(places, parent), merit);
+            let parent = parent_at(positions, node);
+            let change = of_child(table, node, parent, side_at(positions, parent), merit);
             Replacement { change, leaves }
         }
     }
@@ -83,14 +83,14 @@ fn one(node: usize, first: usize, status: Status, score: u32) -> Change
 // A LIVE leaf is evaluated, and SOLVED with the lesser of its merit and its score.
 fn of_leaf(
     table: &[u8],
-    places: &[u32],
+    positions: &[u32],
     evaluated: &mut [u8],
     order: &mut [u16],
     node: usize,
     merit: u32,
     leaves: usize,
 ) -> Replacement
-    requires { ⌜ Placed (now table) (now places) ⌝ }
+    requires { ⌜ Positioned (now table) (now positions) ⌝ }
     requires { ⌜ (node < frames (now table)) × (childCount (now table) node ≡ 0) × (merit ≤ greatest) ⌝ }
     requires { ⌜ (node < length (now evaluated)) × (marked (now evaluated) node ≡ false) ⌝ }
     requires { ⌜ Listable (now table) (progress leaves (now evaluated) (now order)) ⌝ }
@@ -103,7 +103,7 @@ fn of_leaf(
         evaluated,
         order,
         node,
-        depth_at(places, node),
+        depth_at(positions, node),
         leaves,
     );
     let merit = better(Side::Min, merit, evaluation.score);

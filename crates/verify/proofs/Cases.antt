@@ -2,7 +2,7 @@
 use mathlib.Core.Path.{_≡_, refl}
 use mathlib.Core.List.{map}
 use Rattle.frames.specs.Frame.{next}
-use Rattle.frames.specs.Place.{parentBefore, placeWithin, placeOf}
+use Rattle.frames.specs.Position.{parentBefore, positionWithin, positionOf}
 use Rattle.frames.specs.Tree.{valuation}
 use Rattle.frames.specs.Rejection.{eachNode}
 use Rattle.frames.specs.Check.{framesRejection, rejection}
@@ -13,6 +13,6 @@ use Rattle.verify.specs.results.Cases.{cases}
 
 -- each certificate gets its verdict
 pub small-verdicts : map (λ c. verdict (c .table) (c .flags)) cases ≡ map (λ c. c .verdict) cases
-unfolding next parentBefore placeWithin placeOf valuation eachNode framesRejection rejection membersFrom ruleHolds
+unfolding next parentBefore positionWithin positionOf valuation eachNode framesRejection rejection membersFrom ruleHolds
     bestBefore treesRejection flagsRejection certificateRejection verdict
 small-verdicts = refl

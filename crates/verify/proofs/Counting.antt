@@ -12,7 +12,7 @@ use Rattle.verify.specs.Flags.{membersFrom}
 pub record Counted (p : Side) (flags : List ℕ) (i n k m : ℕ) : Type 0 where
   pub from : i ≤ k
   pub within : k ≤ i + n
-  pub few : m ≤ k - i
+  pub atMost : m ≤ k - i
   pub rest : m + membersFrom p flags k (i + n - k) ≡ membersFrom p flags i n
 
 one : (b : Bool) → cond b 1 0 ≤ 1
@@ -24,7 +24,7 @@ module _ (p : Side) (flags : List ℕ) (i n : ℕ) where
   pub counted-none : Counted p flags i n i 0
   counted-none =
       let e : i + n - i ≡ n = omega arith in
-      record { from = omega arith; within = omega arith; few = omega arith; rest = rw e (omega arith) }
+      record { from = omega arith; within = omega arith; atMost = omega arith; rest = rw e (omega arith) }
 
   module _ (k m : ℕ) (c : Counted p flags i n k m) where
     -- node k is counted too
@@ -36,7 +36,7 @@ module _ (p : Side) (flags : List ℕ) (i n : ℕ) where
         record {
           from = omega (arith, c .from);
           within = omega arith;
-          few = omega (arith, one (member p flags k), c .from, c .few);
+          atMost = omega (arith, one (member p flags k), c .from, c .atMost);
           rest = omega arith;
         }
 

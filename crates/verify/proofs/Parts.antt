@@ -25,7 +25,7 @@ certificate-part t flags {v} c =
     let l = c .enough in
     let flag : (k : ℕ) → k < frames t → getD own k 0 ≡ getD flags k 0 = λ k h. getD-take (frames t) flags k 0 h in
     let same : (p : Side) → Same (member p flags) (member p own) (tree t) =
-    λ p k i. ap (inside p) (sym (flag k (tree-range t wf 0 (wf .some) k i .1))) in
+    λ p k i. ap (inside p) (sym (flag k (tree-range t wf 0 (wf .nonEmpty) k i .1))) in
     let d = passed-certifies (valuation t) (tree t) (member Max own) (member Min own)
     (certificate-like (valuation t) (tree t) _ _ _ _ (same Max) (same Min)
     (certificate-passes (valuation t) (tree t) _ _ v (c .certifies))) in

@@ -7,14 +7,14 @@ use mathlib.Core.Bool.{Bool, true, false, cond}
 use mathlib.Core.List.{List}
 use borrow.Author.Tests.{eq-eqb, eqb-true}
 use Rattle.gametree.specs.declared.Side.{Side}
-use Rattle.gametree.specs.Tree.{Tree, Kids}
-use Rattle.gametree.specs.Certificate.{Rule, Rules, RulesKids, SolutionTree}
+use Rattle.gametree.specs.Tree.{Tree, Children}
+use Rattle.gametree.specs.Certificate.{Rule, Rules, RulesChildren, SolutionTree}
 use Rattle.gametree.proofs.certificates.Counting.{kidCount, members, required}
 use Rattle.lists.proofs.Choice.{and-both}
 use Rattle.gametree.proofs.Theorems.{rule-counting}
 use Rattle.frames.specs.Frame.{frames, firstChild, childCount}
-use Rattle.frames.specs.Place.{sideOf}
-use Rattle.frames.specs.Tree.{kidsFrom, treeAt, tree}
+use Rattle.frames.specs.Position.{sideOf}
+use Rattle.frames.specs.Tree.{childrenFrom, treeAt, tree}
 use Rattle.frames.specs.Formed.{WellFormed}
 use Rattle.frames.proofs.Parents.{bottom-up}
 use Rattle.frames.proofs.Trees.{kids-count, zero-or-suc, tree-leaf, tree-inner, tree-number}
@@ -23,25 +23,25 @@ use Rattle.verify.proofs.Subtrees.{Inherited, each-subtree}
 
 module _ (p : Side) (t flags : List ℕ) where
   -- the children in the tree, counted over the table
-  members-kids : (i n : ℕ) → members (member p flags) (kidsFrom (treeAt t) i n) ≡ membersFrom p flags i (suc n)
-  unfolding kidsFrom membersFrom
+  members-kids : (i n : ℕ) → members (member p flags) (childrenFrom (treeAt t) i n) ≡ membersFrom p flags i (suc n)
+  unfolding childrenFrom membersFrom
   members-kids i zero = rw (tree-number t i) (omega arith)
   members-kids i (suc n) =
       ap₂ (λ k m. cond (member p flags k) 1 0 + m) (tree-number t i) (members-kids (i + 1) n)
 
-required-same : (p q : Side) (b : Bool) (ks : Kids) (n : ℕ) → kidCount ks ≡ suc n
+required-same : (p q : Side) (b : Bool) (ks : Children) (n : ℕ) → kidCount ks ≡ suc n
     → required p q b ks ≡ requiredOf p q b (suc n)
 required-same p q true ks n e = rw e
 required-same p q false ks n e = refl
 
 rules-kids : (p : Side) (g : ℕ → Bool) (h : ℕ → Tree) (i n : ℕ) → ((k : ℕ) → i ≤ k → k ≤ i + n → Rules p g (h k))
-    → RulesKids p g (kidsFrom h i n)
-unfolding kidsFrom
+    → RulesChildren p g (childrenFrom h i n)
+unfolding childrenFrom
 rules-kids p g h i zero f = f i (omega arith) (omega arith)
 rules-kids p g h i (suc n) f =
     (f i (omega arith) (omega arith), rules-kids p g h (i + 1) n (λ k a b. f k (omega arith) (omega arith)))
 
-rules-inherited : (p : Side) (g : ℕ → Bool) → Inherited (Rules p g) (RulesKids p g)
+rules-inherited : (p : Side) (g : ℕ → Bool) → Inherited (Rules p g) (RulesChildren p g)
 rules-inherited p g = record { ofInner = λ n q ks x. x .1; ofLast = λ t x. x; ofMore = λ t ts x. x }
 
 -- the root's part of a rule
@@ -64,10 +64,10 @@ module _ (p : Side) (t flags : List ℕ) (wf : WellFormed t) where
 
   -- the rule of an inner node, over the table and over the tree
   rule-count : (i n : ℕ) → childCount t i ≡ suc n
-      → Rule p (sideOf t i) (member p flags i) (member p flags) (kidsFrom (treeAt t) (firstChild t i) n)
+      → Rule p (sideOf t i) (member p flags i) (member p flags) (childrenFrom (treeAt t) (firstChild t i) n)
       → Counted i
   rule-count i n e r =
-      let ks = kidsFrom (treeAt t) (firstChild t i) n in
+      let ks = childrenFrom (treeAt t) (firstChild t i) n in
       rw e
       (sym (members-kids p t flags (firstChild t i) n)
       ∙ rule-counting p (sideOf t i) (member p flags i) (member p flags) ks .0 r
@@ -75,9 +75,9 @@ module _ (p : Side) (t flags : List ℕ) (wf : WellFormed t) where
 
   count-rule : (i n : ℕ) → childCount t i ≡ suc n
       → Counted i
-      → Rule p (sideOf t i) (member p flags i) (member p flags) (kidsFrom (treeAt t) (firstChild t i) n)
+      → Rule p (sideOf t i) (member p flags i) (member p flags) (childrenFrom (treeAt t) (firstChild t i) n)
   count-rule i n e c =
-      let ks = kidsFrom (treeAt t) (firstChild t i) n in
+      let ks = childrenFrom (treeAt t) (firstChild t i) n in
       rule-counting p (sideOf t i) (member p flags i) (member p flags) ks .1
       (members-kids p t flags (firstChild t i) n ∙ rw e at c
       ∙ sym (required-same p (sideOf t i) (member p flags i) ks n (kids-count (treeAt t) (firstChild t i) n)))
@@ -86,14 +86,14 @@ module _ (p : Side) (t flags : List ℕ) (wf : WellFormed t) where
   pub rules-solve : ((i : ℕ) → i < frames t → ruleHolds p t flags i ≡ true) → SolutionTree p (member p flags) (tree t)
   unfolding ruleHolds
   rules-solve f = (
-    rw (tree-number t 0) (and-both (member p flags 0) _ (f 0 (wf .some)) .0),
+    rw (tree-number t 0) (and-both (member p flags 0) _ (f 0 (wf .nonEmpty)) .0),
     bottom-up t wf (λ i. Rules p (member p flags) (treeAt t i)) (λ i h g.
         zero-or-suc (childCount t i) (λ e. rw (tree-leaf t wf i h e) tt) (λ n e.
         rw (tree-inner t wf i n h e) (
           count-rule i n e (eqb-true _ _ (and-both (rootMember p flags i) _ (f i h) .1)),
           rules-kids p (member p flags) (treeAt t) (firstChild t i) n (λ k a b.
               g k (record { from = a; to = omega arith })),
-        ))) 0 (wf .some),
+        ))) 0 (wf .nonEmpty),
   )
 
   -- and the rule of a solution tree holds at each node

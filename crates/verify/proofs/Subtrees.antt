@@ -5,28 +5,28 @@ use native.Mathlib.Decide.{decLe}
 use mathlib.Core.Path.{_≡_}
 use mathlib.Core.List.{List}
 use Rattle.gametree.specs.declared.Side.{Side}
-use Rattle.gametree.specs.Tree.{Tree, inner, Kids, last, _then_}
+use Rattle.gametree.specs.Tree.{Tree, inner, Children, last, _then_}
 use Rattle.frames.specs.Frame.{frames, firstChild, childCount}
-use Rattle.frames.specs.Tree.{kidsFrom, treeAt, tree}
+use Rattle.frames.specs.Tree.{childrenFrom, treeAt, tree}
 use Rattle.frames.specs.Formed.{WellFormed}
 use Rattle.frames.proofs.Parents.{top-down}
 use Rattle.frames.proofs.Trees.{zero-or-suc, tree-inner}
 
 -- F is P of each child, and P of an inner node gives F of its children
-pub record Inherited (P : Tree → Type 0) (F : Kids → Type 0) : Type 0 where
-  pub ofInner : (n : ℕ) (q : Side) (ks : Kids) → P (inner n q ks) → F ks
+pub record Inherited (P : Tree → Type 0) (F : Children → Type 0) : Type 0 where
+  pub ofInner : (n : ℕ) (q : Side) (ks : Children) → P (inner n q ks) → F ks
   pub ofLast : (t : Tree) → F (last t) → P t
-  pub ofMore : (t : Tree) (ts : Kids) → F (t then ts) → P t × F ts
+  pub ofMore : (t : Tree) (ts : Children) → F (t then ts) → P t × F ts
 
-module _ {P : Tree → Type 0} {F : Kids → Type 0} (r : Inherited P F) where
+module _ {P : Tree → Type 0} {F : Children → Type 0} (r : Inherited P F) where
   -- P of the child with number k
-  of-kid : (h : ℕ → Tree) (i n k : ℕ) → i ≤ k → k ≤ i + n → F (kidsFrom h i n) → P (h k)
-  unfolding kidsFrom
+  of-kid : (h : ℕ → Tree) (i n k : ℕ) → i ≤ k → k ≤ i + n → F (childrenFrom h i n) → P (h k)
+  unfolding childrenFrom
   of-kid h i zero k a b f = let e : k ≡ i = omega arith in rw e (r .ofLast (h i) f)
   of-kid h i (suc n) k a b f =
       elim (decLe k i) [
-        | yes l ↦ (let e : k ≡ i = omega arith in rw e (r .ofMore (h i) (kidsFrom h (i + 1) n) f .0))
-        | no l ↦ of-kid h (i + 1) n k (omega arith) (omega arith) (r .ofMore (h i) (kidsFrom h (i + 1) n) f .1)
+        | yes l ↦ (let e : k ≡ i = omega arith in rw e (r .ofMore (h i) (childrenFrom h (i + 1) n) f .0))
+        | no l ↦ of-kid h (i + 1) n k (omega arith) (omega arith) (r .ofMore (h i) (childrenFrom h (i + 1) n) f .1)
       ]
 
   -- P of the whole tree is P of every node's tree

@@ -30,7 +30,7 @@ use Rattle.verify.specs.Check.{check11, check12, check13, check14, trees
 use Rattle.verify.specs.Check.{certificateRejection, judged, verdict}
 use Rattle.verify.specs.Certificate.{Certificate}
 use Rattle.verify.proofs.Rules.{rules-solve, solved-rules}
-use Rattle.verify.proofs.Values.{value-same}
+use Rattle.verify.proofs.Values.{tree-value-same}
 
 -- a value is given where there is no rejection
 judged-value : (t flags : List ℕ) (z : ℤ) (o : Option Rejection) → judged t flags o ≡ Value z
@@ -67,8 +67,8 @@ module _ (t flags : List ℕ) where
         certifies = record {
           maxTree = rules-solve Max t flags wf (each-yes (ruleHolds Max t flags) 12 (d .0));
           minTree = rules-solve Min t flags wf (each-yes (ruleHolds Min t flags) 13 (f .0));
-          maxValue = value-same Max t flags wf;
-          minValue = value-same Min t flags wf ∙ sym (eqb-true _ _ (ask-yes _ 14 0 (f .1)));
+          maxValue = tree-value-same Max t flags wf;
+          minValue = tree-value-same Min t flags wf ∙ sym (eqb-true _ _ (ask-yes _ 14 0 (f .1)));
         };
       }
 
@@ -78,7 +78,7 @@ module _ (t flags : List ℕ) where
   certificate-passed v c =
       let wf = accepted-formed t (c .accepted) in
       let p = c .certifies in
-      let e = sym (value-same Max t flags wf) ∙ p .maxValue ∙ sym (p .minValue) ∙ value-same Min t flags wf in
+      let e = sym (tree-value-same Max t flags wf) ∙ p .maxValue ∙ sym (p .minValue) ∙ tree-value-same Min t flags wf in
       passed-both (rejection t) _ (c .accepted)
       (passed-both (check10 (frames t) (length flags ∷ [])) _ (rw (le-leb _ _ (c .enough)))
       (passed-both (check11 t flags) _ (yes-each (λ i. leb (getD flags i 0) 3) 11 (λ i h. le-leb _ _ (c .inRange i h)))
@@ -91,7 +91,7 @@ module _ (t flags : List ℕ) where
   pub certificate-verdict : (v : ℕ) → Certificate t flags v → verdict t flags ≡ Value (valueOf v)
   unfolding verdict
   certificate-verdict v c =
-      let e = sym (value-same Max t flags (accepted-formed t (c .accepted))) ∙ c .certifies .maxValue in
+      let e = sym (tree-value-same Max t flags (accepted-formed t (c .accepted))) ∙ c .certifies .maxValue in
       rw (certificate-passed v c) (ap (λ x. Value (valueOf x)) e)
 
   -- and what gets a value is a certificate of it

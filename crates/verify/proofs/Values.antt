@@ -10,9 +10,9 @@ use mathlib.Core.List.{List}
 use borrow.Author.Tests.{eq-eqb, ne-eqb}
 use Rattle.gametree.specs.declared.Side.{Side}
 use Rattle.gametree.specs.declared.Side.the-variants.{Max, Min}
-use Rattle.gametree.specs.Tree.{Tree, leaf, inner, Kids, last, _then_, greatest, better, EveryLeaf, EveryLeafKids}
-use Rattle.gametree.specs.Tree.{Score, Scored, ScoredKids}
-use Rattle.gametree.specs.Certificate.{worst, solutionValue, solutionValueKids}
+use Rattle.gametree.specs.Tree.{Tree, leaf, inner, Children, last, _then_, greatest, better, EveryLeaf, EveryLeafChildren}
+use Rattle.gametree.specs.Tree.{Score, Scored, ScoredChildren}
+use Rattle.gametree.specs.Certificate.{worst, solutionValue, solutionValueChildren}
 use Rattle.lists.proofs.Choice.{cond-cases}
 use Rattle.gametree.proofs.certificates.Solution.{Under, under-refl, under-both}
 use Rattle.frames.specs.Frame.{frames, childCount}
@@ -55,38 +55,38 @@ module _ (p : Side) (ν : ℕ → ℕ) (g : ℕ → Bool) where
   mutual
     solution-least : (x : ℕ) (t : Tree) → EveryLeaf (λ n. Under p (scoreIn n) x) t → Under p (solutionValue p ν g t) x
     solution-least x (leaf n) h = h
-    solution-least x (inner n q ks) h = solutionKids-least x ks h
+    solution-least x (inner n q ks) h = solutionChildren-least x ks h
 
-    solutionKids-least : (x : ℕ) (ks : Kids) → EveryLeafKids (λ n. Under p (scoreIn n) x) ks
-        → Under p (solutionValueKids p ν g ks) x
-    solutionKids-least x (last t) h = solution-least x t h
-    solutionKids-least x (t then ts) h =
-        both-under p _ _ x (solution-least x t (h .0)) (solutionKids-least x ts (h .1))
+    solutionChildren-least : (x : ℕ) (ks : Children) → EveryLeafChildren (λ n. Under p (scoreIn n) x) ks
+        → Under p (solutionValueChildren p ν g ks) x
+    solutionChildren-least x (last t) h = solution-least x t h
+    solutionChildren-least x (t then ts) h =
+        both-under p _ _ x (solution-least x t (h .0)) (solutionChildren-least x ts (h .1))
 
   mutual
     least-solution : (x : ℕ) (t : Tree) → Under p (solutionValue p ν g t) x → EveryLeaf (λ n. Under p (scoreIn n) x) t
     least-solution x (leaf n) h = h
-    least-solution x (inner n q ks) h = least-solutionKids x ks h
+    least-solution x (inner n q ks) h = least-solutionChildren x ks h
 
-    least-solutionKids : (x : ℕ) (ks : Kids) → Under p (solutionValueKids p ν g ks) x
-        → EveryLeafKids (λ n. Under p (scoreIn n) x) ks
-    least-solutionKids x (last t) h = least-solution x t h
-    least-solutionKids x (t then ts) h =
-        let b = under-both p (solutionValue p ν g t) (solutionValueKids p ν g ts) x h in
-        (least-solution x t (b .0), least-solutionKids x ts (b .1))
+    least-solutionChildren : (x : ℕ) (ks : Children) → Under p (solutionValueChildren p ν g ks) x
+        → EveryLeafChildren (λ n. Under p (scoreIn n) x) ks
+    least-solutionChildren x (last t) h = least-solution x t h
+    least-solutionChildren x (t then ts) h =
+        let b = under-both p (solutionValue p ν g t) (solutionValueChildren p ν g ts) x h in
+        (least-solution x t (b .0), least-solutionChildren x ts (b .1))
 
   -- and it is never worse than the worst score
   mutual
     solution-worst : (t : Tree) → Scored ν t → Under p (worst p) (solutionValue p ν g t)
     solution-worst (leaf n) s =
         cond-cases (λ x. Under p (worst p) x) (g n) (ν n) (worst p) (λ e. worst-score p (ν n) s) (λ e. worst-self p)
-    solution-worst (inner n q ks) s = solutionKids-worst ks s
+    solution-worst (inner n q ks) s = solutionChildren-worst ks s
 
-    solutionKids-worst : (ks : Kids) → ScoredKids ν ks → Under p (worst p) (solutionValueKids p ν g ks)
-    solutionKids-worst (last t) s = solution-worst t s
-    solutionKids-worst (t then ts) s = worst-better p _ _ (solution-worst t (s .0))
+    solutionChildren-worst : (ks : Children) → ScoredChildren ν ks → Under p (worst p) (solutionValueChildren p ν g ks)
+    solutionChildren-worst (last t) s = solution-worst t s
+    solutionChildren-worst (t then ts) s = worst-better p _ _ (solution-worst t (s .0))
 
-every-inherited : (P : ℕ → Type 0) → Inherited (EveryLeaf P) (EveryLeafKids P)
+every-inherited : (P : ℕ → Type 0) → Inherited (EveryLeaf P) (EveryLeafChildren P)
 every-inherited P = record { ofInner = λ n q ks x. x; ofLast = λ t x. x; ofMore = λ t ts x. x }
 
 module _ (p : Side) (t flags : List ℕ) where
@@ -122,15 +122,15 @@ module _ (p : Side) (t flags : List ℕ) where
   inner-in i e = rw (ne-eqb (childCount t i) 0 e)
 
   -- the two values are equal
-  pub value-same : WellFormed t → solutionValue p (valuation t) (member p flags) (tree t) ≡ treeValue p t flags
-  value-same wf =
+  pub tree-value-same : WellFormed t → solutionValue p (valuation t) (member p flags) (tree t) ≡ treeValue p t flags
+  tree-value-same wf =
       let ν = valuation t in
       let g = member p flags in
       let v = solutionValue p ν g (tree t) in
       under-antisym p _ _
       (solution-least p ν g _ (tree t)
       (every-leaf t wf (λ n. Under p (scoreIn p ν g n) (treeValue p t flags)) (λ i h e.
-      rw (leaf-in i e) at (least-best (frames t) (treeValue p t flags) (under-refl p _) i h)) 0 (wf .some)))
+      rw (leaf-in i e) at (least-best (frames t) (treeValue p t flags) (under-refl p _) i h)) 0 (wf .nonEmpty)))
       (best-least (frames t) v (solution-worst p ν g (tree t) (tree-proper t wf .scored)) (λ i h.
       elim (decLe (childCount t i) 0) [
         | yes z ↦ (let e : childCount t i ≡ 0 = omega arith in

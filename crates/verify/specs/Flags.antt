@@ -7,7 +7,7 @@ use lib.ListN.{getD}
 use Rattle.gametree.specs.declared.Side.{Side}
 use Rattle.gametree.specs.Certificate.{inside, same}
 use Rattle.frames.specs.Frame.{firstChild, childCount}
-use Rattle.frames.specs.Place.{sideOf}
+use Rattle.frames.specs.Position.{sideOf}
 
 -- the set of the nodes that the flags put into side p's tree: flagged 1 or 3 for Max, 2 or 3 for Min
 abbrev pub member : Side → List ℕ → ℕ → Bool

@@ -16,19 +16,19 @@ use frames::rejected;
 use frames::value;
 use gametree::Side;
 use gametree::better;
-use places::SMALL;
-use places::depth_at;
-use places::side_at;
+use positions::SMALL_TABLE;
+use positions::depth_at;
+use positions::side_at;
 ghost use mathlib.Core.Path.{_≡_};
 ghost use Prim.Native.Nat.{_+_, _≤_, _<_};
 ghost use mathlib.Core.Bool.{true};
 ghost use lib.ListN.{length};
 ghost use Rattle.gametree.specs.Certificate.{inside, same as sameSide, worst as worstOf};
 ghost use Rattle.frames.specs.Frame.{maxNodes, frames};
-ghost use Rattle.frames.specs.Place.{depthOf, sideOf};
+ghost use Rattle.frames.specs.Position.{depthOf, sideOf};
 ghost use Rattle.frames.specs.Formed.{WellFormed};
 ghost use Rattle.frames.specs.Rejection.{answer};
-ghost use Rattle.places.specs.engine.Places.{Placed};
+ghost use Rattle.positions.specs.engine.Positions.{Positioned};
 ghost use Rattle.verify.specs.Flags.{membersFrom, requiredOf, ruleHolds};
 ghost use Rattle.verify.specs.Value.{leafIn, treeValue};
 ghost use Rattle.verify.specs.Check.{check11, checkTree, treesRejection, flagsRejection, judged, verdict};
@@ -84,42 +84,42 @@ fn check_trees(table: &[u8], flags: &[u8]) -> Verdict
     ensures { λ r. ⌜ r ≡ judged (now (table .entry)) (now (flags .entry))
         (treesRejection (now (table .entry)) (now (flags .entry))) ⌝ }
 {
-    if frame_count(table) <= SMALL {
-        let mut places = [0u32; SMALL];
-        return judge_in(table, flags, &mut places);
+    if frame_count(table) <= SMALL_TABLE {
+        let mut positions = [0u32; SMALL_TABLE];
+        return judge_in(table, flags, &mut positions);
     }
-    let mut places = [0u32; MAX_NODES];
-    judge_in(table, flags, &mut places)
+    let mut positions = [0u32; MAX_NODES];
+    judge_in(table, flags, &mut positions)
 }
 
-// The same, over a work array for the places of the nodes.
-fn judge_in(table: &[u8], flags: &[u8], places: &mut [u32]) -> Verdict
+// The same, over a work array for the positions of the nodes.
+fn judge_in(table: &[u8], flags: &[u8], positions: &mut [u32]) -> Verdict
     requires { ⌜ (WellFormed (now table)) × (frames (now table) ≤ length (now flags))
-        × (frames (now table) ≤ length (now places)) ⌝ }
+        × (frames (now table) ≤ length (now positions)) ⌝ }
     ensures { λ r. ⌜ r ≡ judged (now (table .entry)) (now (flags .entry))
         (treesRejection (now (table .entry)) (now (flags .entry))) ⌝ }
 {
-    places::fill(table, places);
-    judge(table, flags, places)
+    positions::fill(table, positions);
+    judge(table, flags, positions)
 }
 
-// The same, with the places of the nodes.
-fn judge(table: &[u8], flags: &[u8], places: &[u32]) -> Verdict
+// The same, with the positions of the nodes.
+fn judge(table: &[u8], flags: &[u8], positions: &[u32]) -> Verdict
     requires { ⌜ (WellFormed (now table)) × (frames (now table) ≤ length (now flags))
-        × (Placed (now table) (now places)) ⌝ }
+        × (Positioned (now table) (now positions)) ⌝ }
     ensures { λ r. ⌜ r ≡ judged (now (table .entry)) (now (flags .entry))
         (treesRejection (now (table .entry)) (now (flags .entry))) ⌝ }
 {
-    let max_tree = check_rules(table, flags, places, Side::Max, NO_MAX_TREE);
+    let max_tree = check_rules(table, flags, positions, Side::Max, NO_MAX_TREE);
     if let Checked::Rejected(r) = max_tree {
         return Verdict::Rejected(r);
     }
-    let min_tree = check_rules(table, flags, places, Side::Min, NO_MIN_TREE);
+    let min_tree = check_rules(table, flags, positions, Side::Min, NO_MIN_TREE);
     if let Checked::Rejected(r) = min_tree {
         return Verdict::Rejected(r);
     }
-    let score = tree_value(table, flags, places, Side::Max);
-    if score != tree_value(table, flags, places, Side::Min) {
+    let score = tree_value(table, flags, positions, Side::Max);
+    if score != tree_value(table, flags, positions, Side::Min) {
         return Verdict::Rejected(Rejection {
             number: UNEQUAL_VALUES,
             place: 0,
@@ -144,9 +144,9 @@ fn check_flags(table: &[u8], flags: &[u8]) -> Checked
 
 // Questions 12 and 13, put to one node after the other: do the side's flags form a solution tree? Once every node has
 // been reached as a child, those that are left are leaves, and nothing is asked about them.
-fn check_rules(table: &[u8], flags: &[u8], places: &[u32], side: Side, number: u8) -> Checked
+fn check_rules(table: &[u8], flags: &[u8], positions: &[u32], side: Side, number: u8) -> Checked
     requires { ⌜ (WellFormed (now table)) × (frames (now table) ≤ length (now flags))
-        × (Placed (now table) (now places)) ⌝ }
+        × (Positioned (now table) (now positions)) ⌝ }
     ensures { λ r. ⌜ r
         ≡ answer (frames (now (table .entry))) (checkTree number side (now (table .entry)) (now (flags .entry))) ⌝ }
 {
@@ -154,7 +154,7 @@ fn check_rules(table: &[u8], flags: &[u8], places: &[u32], side: Side, number: u
     let mut node: usize = 0;
     let mut next: usize = 1;
     loop {
-        let mover = side_at(places, node);
+        let mover = side_at(positions, node);
         if !rule_holds(table, flags, node, mover, side) {
             return rejected(number, node);
         }
@@ -215,15 +215,15 @@ fn required(side: Side, mover: Side, count: usize) -> usize
 }
 
 // The value of the side's tree: the best score of its leaves.
-fn tree_value(table: &[u8], flags: &[u8], places: &[u32], side: Side) -> u32
+fn tree_value(table: &[u8], flags: &[u8], positions: &[u32], side: Side) -> u32
     requires { ⌜ (WellFormed (now table)) × (frames (now table) ≤ length (now flags))
-        × (Placed (now table) (now places)) ⌝ }
+        × (Positioned (now table) (now positions)) ⌝ }
     ensures { λ r. ⌜ r ≡ treeValue side (now (table .entry)) (now (flags .entry)) ⌝ }
 {
     let n = frame_count(table);
     let mut best = worst(side);
     for node in 0..n {
-        let leaf = leaf_in(table, flags, node, depth_at(places, node), side);
+        let leaf = leaf_in(table, flags, node, depth_at(positions, node), side);
         best = better(side, best, leaf);
     }
     best

@@ -5,8 +5,8 @@ use lib.ListN.{length}
 use Rattle.gametree.specs.Tree.{least, greatest, leaves}
 use Rattle.gametree.specs.AlphaBeta.{reached}
 use Rattle.frames.specs.Frame.{next}
-use Rattle.frames.specs.Place.{parentBefore, placeWithin, placeOf}
-use Rattle.frames.specs.Tree.{kidsFrom, grow, treeAt, tree, valuation}
+use Rattle.frames.specs.Position.{parentBefore, positionWithin, positionOf}
+use Rattle.frames.specs.Tree.{childrenFrom, grow, treeAt, tree, valuation}
 use Rattle.frames.specs.Rejection.{eachNode}
 use Rattle.frames.specs.Check.{framesRejection, rejection}
 use Rattle.frames.specs.results.Cases.{leafFrame, lone}
@@ -16,7 +16,7 @@ use Rattle.worstcase.specs.results.Cases.{given, refused}
 
 -- answers and tables
 pub small-fillings : map (λ c. fillOutcome (c .table)) (given ++ refused) ≡ map (λ c. c .outcome) (given ++ refused)
-unfolding next parentBefore placeWithin placeOf kidsFrom grow treeAt eachNode framesRejection rejection withRank
+unfolding next parentBefore positionWithin positionOf childrenFrom grow treeAt eachNode framesRejection rejection withRank
     worstCase
 small-fillings = refl
 
@@ -24,7 +24,7 @@ small-fillings = refl
 pub all-reached-there :
     map (λ c. length (reached (valuation (worstCase (c .table))) least greatest (tree (c .table)))) given
     ≡ map (λ c. length (leaves (tree (c .table)))) given
-unfolding parentBefore placeWithin placeOf kidsFrom grow treeAt valuation withRank worstCase
+unfolding parentBefore positionWithin positionOf childrenFrom grow treeAt valuation withRank worstCase
 all-reached-there = refl
 
 -- the high byte first: 300 is 1 and 44

@@ -7,16 +7,16 @@ use mathlib.Core.List.{List}
 use lib.ListN.{length, length-append}
 use Rattle.gametree.specs.declared.Side.{Side}
 use Rattle.gametree.specs.declared.Side.the-variants.{Max, Min}
-use Rattle.gametree.specs.Tree.{Tree, leaf, inner, Kids, last, _then_, zeroScore, leaves, leavesKids, EveryLeaf}
-use Rattle.gametree.specs.Tree.{EveryLeafKids, Score}
+use Rattle.gametree.specs.Tree.{Tree, leaf, inner, Children, last, _then_, zeroScore, leaves, leavesChildren, EveryLeaf}
+use Rattle.gametree.specs.Tree.{EveryLeafChildren, Score}
 use Rattle.gametree.proofs.minimax.Bounds.{every-leaf}
 use Rattle.frames.specs.Frame.{frameSize, maxNodes, twoBytes, frames, byteOf, valueBytes, storedScore}
 use Rattle.frames.specs.Formed.{WellFormed}
 use Rattle.frames.specs.Shape.{SameShape}
 use Rattle.frames.proofs.OtherValues.{same-formed}
-use Rattle.worstcase.specs.Ranks.{withRank, ranked, rankedKids}
+use Rattle.worstcase.specs.Ranks.{withRank, ranked, rankedChildren}
 use Rattle.worstcase.proofs.Ranks.{off-front, off-other, rank-value, rank-other, ranked-length}
-use Rattle.worstcase.proofs.Ranks.{rankedKids-length, ranked-other}
+use Rattle.worstcase.proofs.Ranks.{rankedChildren-length, ranked-other}
 
 -- u is t with other values, and well-formed
 pub record Kept (t u : List ℕ) : Type 0 where
@@ -59,21 +59,21 @@ mutual
   ranked-scored : (m r : ℕ) (T : Tree) (t : List ℕ) (j : ℕ) → m ≤ frames t → EveryLeaf (λ n. n < m) T
       → r + length (leaves T) ≤ maxNodes → Score (storedScore t j) → Score (storedScore (ranked r T t) j)
   ranked-scored m r (leaf i) t j h l f s = rank-scored i r t j (omega arith) (omega arith) s
-  ranked-scored m r (inner i q ks) t j h l f s = rankedKids-scored m r q ks t j h l f s
+  ranked-scored m r (inner i q ks) t j h l f s = rankedChildren-scored m r q ks t j h l f s
 
-  rankedKids-scored : (m r : ℕ) (q : Side) (ks : Kids) (t : List ℕ) (j : ℕ) → m ≤ frames t
-      → EveryLeafKids (λ n. n < m) ks → r + length (leavesKids ks) ≤ maxNodes → Score (storedScore t j)
-      → Score (storedScore (rankedKids r q ks t) j)
-  rankedKids-scored m r q (last v) t j h l f s = ranked-scored m r v t j h l f s
-  rankedKids-scored m r Max (v then vs) t j h l f s =
-      let w = length-append (leaves v) (leavesKids vs) in
-      rankedKids-scored m (r + length (leaves v)) Max vs (ranked r v t) j (omega (arith, ranked-length r v t)) (l .1)
+  rankedChildren-scored : (m r : ℕ) (q : Side) (ks : Children) (t : List ℕ) (j : ℕ) → m ≤ frames t
+      → EveryLeafChildren (λ n. n < m) ks → r + length (leavesChildren ks) ≤ maxNodes → Score (storedScore t j)
+      → Score (storedScore (rankedChildren r q ks t) j)
+  rankedChildren-scored m r q (last v) t j h l f s = ranked-scored m r v t j h l f s
+  rankedChildren-scored m r Max (v then vs) t j h l f s =
+      let w = length-append (leaves v) (leavesChildren vs) in
+      rankedChildren-scored m (r + length (leaves v)) Max vs (ranked r v t) j (omega (arith, ranked-length r v t)) (l .1)
       (omega arith) (ranked-scored m r v t j h (l .0) (omega arith) s)
-  rankedKids-scored m r Min (v then vs) t j h l f s =
-      let w = length-append (leaves v) (leavesKids vs) in
-      ranked-scored m (r + length (leavesKids vs)) v (rankedKids r Min vs t) j
-      (omega (arith, rankedKids-length r Min vs t)) (l .0) (omega arith)
-      (rankedKids-scored m r Min vs t j h (l .1) (omega arith) s)
+  rankedChildren-scored m r Min (v then vs) t j h l f s =
+      let w = length-append (leaves v) (leavesChildren vs) in
+      ranked-scored m (r + length (leavesChildren vs)) v (rankedChildren r Min vs t) j
+      (omega (arith, rankedChildren-length r Min vs t)) (l .0) (omega arith)
+      (rankedChildren-scored m r Min vs t j h (l .1) (omega arith) s)
 
 module _ (r : ℕ) (T : Tree) (t : List ℕ) where
   -- bytes 0 to 3 stay

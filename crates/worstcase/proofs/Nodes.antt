@@ -8,16 +8,16 @@ use Rattle.gametree.specs.declared.Side.{Side}
 use Rattle.gametree.specs.declared.Side.the-variants.{Max, Min}
 use Rattle.gametree.specs.Tree.{leaves}
 use Rattle.frames.specs.Frame.{maxNodes, frames, firstChild, childCount}
-use Rattle.frames.specs.Place.{childSide}
+use Rattle.frames.specs.Position.{childSide}
 use Rattle.frames.specs.Tree.{treeAt}
 use Rattle.frames.specs.Formed.{ChildOf}
 use Rattle.frames.proofs.Next.{child-later, child-within}
-use Rattle.frames.proofs.Places.{place-child}
+use Rattle.frames.proofs.Positions.{position-child}
 use Rattle.frames.proofs.Proper.{every-leaf}
-use Rattle.frames.proofs.Shapes.{same-first, same-count, same-place, same-trees}
+use Rattle.frames.proofs.Shapes.{same-first, same-count, same-position, same-trees}
 use Rattle.frames.proofs.Trees.{tree-leaf, tree-inner}
 use Rattle.worstcase.specs.Ranks.{withRank, ranked}
-use Rattle.worstcase.specs.engine.Fillable.{Fillable, inTurn}
+use Rattle.worstcase.specs.engine.Fillable.{Fillable, nthChild}
 use Rattle.worstcase.proofs.Kept.{Kept, kept-self, kept-then, ranked-kept}
 use Rattle.worstcase.proofs.Turns.{Filling, turnsFrom, next-grows, all-turns}
 
@@ -27,15 +27,15 @@ due t i r = record { next = r + length (leaves (treeAt t i)); table = ranked r (
 
 -- at the head of the loop over the n children of node i, from number `first` on: the turns that are left make of the
 -- next rank and the table u what is due
-pub record Turn (t : List ℕ) (i : ℕ) (s : Side) (r first n : ℕ) (u : List ℕ) (next turn : ℕ) : Type 0 where
+pub record RankLoop (t : List ℕ) (i : ℕ) (s : Side) (r first n : ℕ) (u : List ℕ) (next turn : ℕ) : Type 0 where
   pub to : turn ≤ n
   pub kept : Kept t u
-  pub left : turnsFrom (treeAt t) (inTurn s first n) next u turn (n - turn) ≡ due t i r
+  pub left : turnsFrom (treeAt t) (nthChild s first n) next u turn (n - turn) ≡ due t i r
 
 module _ (t : List ℕ) (i : ℕ) (s : Side) (r : ℕ) (f : Fillable t i s r) where
   -- a leaf has one rank
   pub leaf-few : childCount t i ≡ 0 → r + 1 ≤ maxNodes
-  leaf-few z = rw (tree-leaf t (f .formed) i (f .inside) z) at (f .few)
+  leaf-few z = rw (tree-leaf t (f .formed) i (f .inside) z) at (f .atMost)
 
   pub leaf-due : childCount t i ≡ 0 → (u : List ℕ) → u ≡ withRank i r t
       → (r + 1 ≡ r + length (leaves (treeAt t i))) × (u ≡ ranked r (treeAt t i) t)
@@ -43,7 +43,7 @@ module _ (t : List ℕ) (i : ℕ) (s : Side) (r : ℕ) (f : Fillable t i s r) wh
 
   -- before the first turn all is due
   pub turns-begin : (first n : ℕ) → 0 < n → first ≡ firstChild t i → n ≡ childCount t i
-      → Turn t i s r first n t r 0
+      → RankLoop t i s r first n t r 0
   turns-begin first n h a b =
       let m : n ≡ suc (n - 1) = omega arith in
       let z : n - 0 ≡ n = omega arith in
@@ -56,32 +56,32 @@ module _ (t : List ℕ) (i : ℕ) (s : Side) (r : ℕ) (f : Fillable t i s r) wh
             ∙ rw (tree-inner t (f .formed) i (n - 1) (f .inside) (sym b ∙ m), ← f .mover, a));
       }
 
-  module _ (first n : ℕ) (u : List ℕ) (next turn : ℕ) (h : Turn t i s r first n u next turn)
+  module _ (first n : ℕ) (u : List ℕ) (next turn : ℕ) (h : RankLoop t i s r first n u next turn)
       (a : first ≡ firstChild t i) (b : n ≡ childCount t i) (l : turn < n) where
     -- the child of this turn, in the table as it was and as it is
-    turn-within : (q : Side) → (first ≤ inTurn q first n turn) × (inTurn q first n turn < first + n)
+    turn-within : (q : Side) → (first ≤ nthChild q first n turn) × (nthChild q first n turn < first + n)
     turn-within Max = (omega arith, omega arith)
     turn-within Min = (omega arith, omega arith)
 
-    child : ChildOf t i (inTurn s first n turn)
+    child : ChildOf t i (nthChild s first n turn)
     child = let w = turn-within s in record { from = omega (arith, w .0); to = omega (arith, w .1) }
 
     inside-now : i < frames u
     inside-now = omega (arith, f .inside, h .kept .shape .sameFrames)
 
-    child-now : ChildOf u i (inTurn s first n turn)
+    child-now : ChildOf u i (nthChild s first n turn)
     child-now =
         let w = turn-within s in
         let p = same-first t u (h .kept .shape) i (f .inside) in
         let q = same-count t u (h .kept .shape) i (f .inside) in
         record { from = omega (arith, w .0); to = omega (arith, w .1) }
 
-    same-leaves : treeAt t (inTurn s first n turn) ≡ treeAt u (inTurn s first n turn)
+    same-leaves : treeAt t (nthChild s first n turn) ≡ treeAt u (nthChild s first n turn)
     same-leaves =
-        same-trees t u (h .kept .shape) (f .formed) (h .kept .formed) (inTurn s first n turn)
+        same-trees t u (h .kept .shape) (f .formed) (h .kept .formed) (nthChild s first n turn)
         (child-within t (f .formed) (f .inside) child)
 
-    module _ (k : ℕ) (e : k ≡ inTurn s first n turn) where
+    module _ (k : ℕ) (e : k ≡ nthChild s first n turn) where
       -- it lies within the table
       pub turn-inside : k < frames u
       turn-inside = rw e (child-within u (h .kept .formed) inside-now child-now)
@@ -97,7 +97,7 @@ module _ (t : List ℕ) (i : ℕ) (s : Side) (r : ℕ) (f : Fillable t i s r) wh
           )
 
       -- one more turn is what was left, less the first of its turns
-      turn-left : turnsFrom (treeAt t) (inTurn s first n) (next + length (leaves (treeAt u k)))
+      turn-left : turnsFrom (treeAt t) (nthChild s first n) (next + length (leaves (treeAt u k)))
           (ranked next (treeAt u k) u) (turn + 1) (n - (turn + 1)) ≡ due t i r
       unfolding turnsFrom
       turn-left =
@@ -108,10 +108,10 @@ module _ (t : List ℕ) (i : ℕ) (s : Side) (r : ℕ) (f : Fillable t i s r) wh
       turn-few =
           omega (
             arith,
-            next-grows (treeAt t) (inTurn s first n) (next + length (leaves (treeAt u k))) (ranked next (treeAt u k) u)
+            next-grows (treeAt t) (nthChild s first n) (next + length (leaves (treeAt u k))) (ranked next (treeAt u k) u)
                 (turn + 1) (n - (turn + 1)),
             ap (λ x. x .next) turn-left,
-            f .few,
+            f .atMost,
           )
 
       -- so its leaves can be filled, by the side that moves there
@@ -121,14 +121,14 @@ module _ (t : List ℕ) (i : ℕ) (s : Side) (r : ℕ) (f : Fillable t i s r) wh
             formed = h .kept .formed;
             inside = turn-inside;
             mover =
-                d ∙ ap (childSide u k) (f .mover ∙ ap (λ p. p .side) (same-place t u (h .kept .shape) i (f .inside)))
-                ∙ sym (ap (λ p. p .side) (place-child u (h .kept .formed) inside-now (rw (← e) at child-now)));
-            few = turn-few;
+                d ∙ ap (childSide u k) (f .mover ∙ ap (λ p. p .side) (same-position t u (h .kept .shape) i (f .inside)))
+                ∙ sym (ap (λ p. p .side) (position-child u (h .kept .formed) inside-now (rw (← e) at child-now)));
+            atMost = turn-few;
           }
 
       -- and then the turns behind it are left
       pub turn-goes-on : (x : ℕ) (w : List ℕ) → x ≡ next + length (leaves (treeAt u k)) → w ≡ ranked next (treeAt u k) u
-          → Turn t i s r first n w x (turn + 1)
+          → RankLoop t i s r first n w x (turn + 1)
       turn-goes-on x w c d =
           record {
             to = omega arith;
@@ -141,7 +141,7 @@ module _ (t : List ℕ) (i : ℕ) (s : Side) (r : ℕ) (f : Fillable t i s r) wh
           }
 
   -- after the last turn all is given
-  pub turns-end : (first n : ℕ) (u : List ℕ) (next turn : ℕ) → Turn t i s r first n u next turn → n ≤ turn
+  pub turns-end : (first n : ℕ) (u : List ℕ) (next turn : ℕ) → RankLoop t i s r first n u next turn → n ≤ turn
       → (next ≡ r + length (leaves (treeAt t i))) × (u ≡ ranked r (treeAt t i) t)
   unfolding turnsFrom
   turns-end first n u next turn h l =

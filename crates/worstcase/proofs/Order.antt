@@ -10,11 +10,11 @@ use Rattle.lists.specs.Lists.{among}
 use Rattle.gametree.specs.declared.Side.{Side}
 use Rattle.gametree.specs.declared.Side.the-variants.{Max, Min}
 use Rattle.gametree.specs.Tree.{Tree, leaves}
-use Rattle.gametree.proofs.alphabeta.WorstCase.{total, totalKids, elderFrom, youngerFrom, Blocks, BlocksKids}
-use Rattle.gametree.proofs.alphabeta.WorstCase.{blocks-at, blocksKids-at}
+use Rattle.gametree.proofs.alphabeta.WorstCase.{total, totalChildren, elderFrom, youngerFrom, Blocks, BlocksChildren}
+use Rattle.gametree.proofs.alphabeta.WorstCase.{blocks-at, blocksChildren-at}
 use Rattle.frames.specs.Frame.{frames, firstChild, childCount}
-use Rattle.frames.specs.Place.{sideOf}
-use Rattle.frames.specs.Tree.{kidsFrom, treeAt, tree}
+use Rattle.frames.specs.Position.{sideOf}
+use Rattle.frames.specs.Tree.{childrenFrom, treeAt, tree}
 use Rattle.frames.specs.Formed.{WellFormed, ChildOf}
 use Rattle.frames.proofs.Leaves.{kid-leaf}
 use Rattle.frames.proofs.Parents.{top-down}
@@ -32,28 +32,28 @@ ahead Min b m n x y h k = omega arith
 
 module _ (ν : ℕ → ℕ) (g : ℕ → Tree) where
   -- one child's block
-  kid-block : (s : Side) (b i n k : ℕ) → BlocksKids ν s b (kidsFrom g i n) → i ≤ k → k ≤ i + n
+  kid-block : (s : Side) (b i n k : ℕ) → BlocksChildren ν s b (childrenFrom g i n) → i ≤ k → k ≤ i + n
       → (a : ℕ) × Blocks ν a (g k)
-  unfolding kidsFrom
+  unfolding childrenFrom
   kid-block s b i zero k f h l = (b, let e : k ≡ i = omega arith in rw e f)
   kid-block s b i (suc n) k f h l =
       elim (decLt i k) [
         | yes p ↦ kid-block s _ (i + 1) n k (f .1) (omega arith) (omega arith)
-        | no p ↦ (elderFrom s b (totalKids (kidsFrom g (i + 1) n)), let e : k ≡ i = omega arith in rw e (f .0))
+        | no p ↦ (elderFrom s b (totalChildren (childrenFrom g (i + 1) n)), let e : k ≡ i = omega arith in rw e (f .0))
       ]
 
   -- a leaf of an elder child comes before one of a younger
-  kids-order : (s : Side) (b i n c d x y : ℕ) → BlocksKids ν s b (kidsFrom g i n) → i ≤ c → c < d → d ≤ i + n
+  kids-order : (s : Side) (b i n c d x y : ℕ) → BlocksChildren ν s b (childrenFrom g i n) → i ≤ c → c < d → d ≤ i + n
       → among (leaves (g c)) x ≡ true → among (leaves (g d)) y ≡ true → Before s (ν x) (ν y)
-  unfolding kidsFrom
+  unfolding childrenFrom
   kids-order s b i zero c d x y f h l m p q = absurd (omega arith)
   kids-order s b i (suc n) c d x y f h l m p q =
       elim (decLt i c) [
         | yes z ↦ kids-order s _ (i + 1) n c d x y (f .1) (omega arith) l (omega arith) p q
         | no z ↦ (let e : c ≡ i = omega arith in
-            let ks = kidsFrom g (i + 1) n in
-            ahead s b (total (g i)) (totalKids ks) (ν x) (ν y) (blocks-at ν _ (g i) (f .0) x (rw e at p))
-            (blocksKids-at ν s _ ks (f .1) y (kid-leaf g (i + 1) n d y (omega arith) (omega arith) q)))
+            let ks = childrenFrom g (i + 1) n in
+            ahead s b (total (g i)) (totalChildren ks) (ν x) (ν y) (blocks-at ν _ (g i) (f .0) x (rw e at p))
+            (blocksChildren-at ν s _ ks (f .1) y (kid-leaf g (i + 1) n d y (omega arith) (omega arith) q)))
       ]
 
 module _ (t : List ℕ) (wf : WellFormed t) (ν : ℕ → ℕ) (f : Blocks ν 0 (tree t)) where

@@ -10,10 +10,10 @@ use Rattle.lists.specs.Lists.{All}
 use Rattle.lists.proofs.Lists.{all-append, all-map}
 use Rattle.gametree.specs.declared.Side.{Side}
 use Rattle.gametree.specs.declared.Side.the-variants.{Max, Min}
-use Rattle.gametree.specs.Tree.{Tree, leaf, inner, Kids, last, _then_, leaves, leavesKids, EveryLeaf, EveryLeafKids}
+use Rattle.gametree.specs.Tree.{Tree, leaf, inner, Children, last, _then_, leaves, leavesChildren, EveryLeaf, EveryLeafChildren}
 use Rattle.frames.specs.Frame.{frameSize, frames, byteOf, valueBytes}
 use Rattle.frames.specs.Shape.{AgreeOn}
-use Rattle.worstcase.specs.Ranks.{withRank, ranked, rankedKids}
+use Rattle.worstcase.specs.Ranks.{withRank, ranked, rankedChildren}
 
 -- position p holds no byte of leaf n's value
 pub record Off (p n : ℕ) : Type 0 where
@@ -82,47 +82,47 @@ mutual
   -- the table's length stays
   pub ranked-length : (r : ℕ) (T : Tree) (t : List ℕ) → length (ranked r T t) ≡ length t
   ranked-length r (leaf i) t = rank-length i r t
-  ranked-length r (inner i s ks) t = rankedKids-length r s ks t
+  ranked-length r (inner i s ks) t = rankedChildren-length r s ks t
 
-  pub rankedKids-length : (r : ℕ) (s : Side) (ks : Kids) (t : List ℕ) → length (rankedKids r s ks t) ≡ length t
-  rankedKids-length r s (last v) t = ranked-length r v t
-  rankedKids-length r Max (v then vs) t =
-      rankedKids-length (r + length (leaves v)) Max vs (ranked r v t) ∙ ranked-length r v t
-  rankedKids-length r Min (v then vs) t =
-      ranked-length (r + length (leavesKids vs)) v (rankedKids r Min vs t) ∙ rankedKids-length r Min vs t
+  pub rankedChildren-length : (r : ℕ) (s : Side) (ks : Children) (t : List ℕ) → length (rankedChildren r s ks t) ≡ length t
+  rankedChildren-length r s (last v) t = ranked-length r v t
+  rankedChildren-length r Max (v then vs) t =
+      rankedChildren-length (r + length (leaves v)) Max vs (ranked r v t) ∙ ranked-length r v t
+  rankedChildren-length r Min (v then vs) t =
+      ranked-length (r + length (leavesChildren vs)) v (rankedChildren r Min vs t) ∙ rankedChildren-length r Min vs t
 
 mutual
   -- a position that holds no byte of a leaf's value keeps what it held
   pub ranked-other : (r : ℕ) (T : Tree) (t : List ℕ) (p : ℕ) → EveryLeaf (Off p) T
       → getD (ranked r T t) p 0 ≡ getD t p 0
   ranked-other r (leaf i) t p o = rank-other i r t p o
-  ranked-other r (inner i s ks) t p o = rankedKids-other r s ks t p o
+  ranked-other r (inner i s ks) t p o = rankedChildren-other r s ks t p o
 
-  pub rankedKids-other : (r : ℕ) (s : Side) (ks : Kids) (t : List ℕ) (p : ℕ) → EveryLeafKids (Off p) ks
-      → getD (rankedKids r s ks t) p 0 ≡ getD t p 0
-  rankedKids-other r s (last v) t p o = ranked-other r v t p o
-  rankedKids-other r Max (v then vs) t p o =
-      rankedKids-other (r + length (leaves v)) Max vs (ranked r v t) p (o .1) ∙ ranked-other r v t p (o .0)
-  rankedKids-other r Min (v then vs) t p o =
-      ranked-other (r + length (leavesKids vs)) v (rankedKids r Min vs t) p (o .0)
-      ∙ rankedKids-other r Min vs t p (o .1)
+  pub rankedChildren-other : (r : ℕ) (s : Side) (ks : Children) (t : List ℕ) (p : ℕ) → EveryLeafChildren (Off p) ks
+      → getD (rankedChildren r s ks t) p 0 ≡ getD t p 0
+  rankedChildren-other r s (last v) t p o = ranked-other r v t p o
+  rankedChildren-other r Max (v then vs) t p o =
+      rankedChildren-other (r + length (leaves v)) Max vs (ranked r v t) p (o .1) ∙ ranked-other r v t p (o .0)
+  rankedChildren-other r Min (v then vs) t p o =
+      ranked-other (r + length (leavesChildren vs)) v (rankedChildren r Min vs t) p (o .0)
+      ∙ rankedChildren-other r Min vs t p (o .1)
 
 mutual
   -- where two tables are alike, they stay so
   pub ranked-alike : (r : ℕ) (T : Tree) (t u : List ℕ) → length t ≡ length u → (p : ℕ) → getD t p 0 ≡ getD u p 0
       → getD (ranked r T t) p 0 ≡ getD (ranked r T u) p 0
   ranked-alike r (leaf i) t u l p e = rank-alike i r t u l p e
-  ranked-alike r (inner i s ks) t u l p e = rankedKids-alike r s ks t u l p e
+  ranked-alike r (inner i s ks) t u l p e = rankedChildren-alike r s ks t u l p e
 
-  rankedKids-alike : (r : ℕ) (s : Side) (ks : Kids) (t u : List ℕ) → length t ≡ length u → (p : ℕ)
-      → getD t p 0 ≡ getD u p 0 → getD (rankedKids r s ks t) p 0 ≡ getD (rankedKids r s ks u) p 0
-  rankedKids-alike r s (last v) t u l p e = ranked-alike r v t u l p e
-  rankedKids-alike r Max (v then vs) t u l p e =
-      rankedKids-alike (r + length (leaves v)) Max vs (ranked r v t) (ranked r v u)
+  rankedChildren-alike : (r : ℕ) (s : Side) (ks : Children) (t u : List ℕ) → length t ≡ length u → (p : ℕ)
+      → getD t p 0 ≡ getD u p 0 → getD (rankedChildren r s ks t) p 0 ≡ getD (rankedChildren r s ks u) p 0
+  rankedChildren-alike r s (last v) t u l p e = ranked-alike r v t u l p e
+  rankedChildren-alike r Max (v then vs) t u l p e =
+      rankedChildren-alike (r + length (leaves v)) Max vs (ranked r v t) (ranked r v u)
       (ranked-length r v t ∙ l ∙ sym (ranked-length r v u)) p (ranked-alike r v t u l p e)
-  rankedKids-alike r Min (v then vs) t u l p e =
-      ranked-alike (r + length (leavesKids vs)) v (rankedKids r Min vs t) (rankedKids r Min vs u)
-      (rankedKids-length r Min vs t ∙ l ∙ sym (rankedKids-length r Min vs u)) p (rankedKids-alike r Min vs t u l p e)
+  rankedChildren-alike r Min (v then vs) t u l p e =
+      ranked-alike (r + length (leavesChildren vs)) v (rankedChildren r Min vs t) (rankedChildren r Min vs u)
+      (rankedChildren-length r Min vs t ∙ l ∙ sym (rankedChildren-length r Min vs u)) p (rankedChildren-alike r Min vs t u l p e)
 
 -- two tables of one length hold the same bytes at the leaves of a tree, whose numbers are below m
 mutual
@@ -135,32 +135,32 @@ mutual
     },
     tt,
   )
-  ranked-same m r (inner i s ks) t u e h l = rankedKids-same m r s ks t u e h l
+  ranked-same m r (inner i s ks) t u e h l = rankedChildren-same m r s ks t u e h l
 
-  rankedKids-same : (m r : ℕ) (s : Side) (ks : Kids) (t u : List ℕ) → length t ≡ length u → m ≤ frames t
-      → EveryLeafKids (λ n. n < m) ks → All (AgreeOn (rankedKids r s ks t) (rankedKids r s ks u)) (leavesKids ks)
-  rankedKids-same m r s (last v) t u e h l = ranked-same m r v t u e h l
-  rankedKids-same m r Max (v then vs) t u e h l =
+  rankedChildren-same : (m r : ℕ) (s : Side) (ks : Children) (t u : List ℕ) → length t ≡ length u → m ≤ frames t
+      → EveryLeafChildren (λ n. n < m) ks → All (AgreeOn (rankedChildren r s ks t) (rankedChildren r s ks u)) (leavesChildren ks)
+  rankedChildren-same m r s (last v) t u e h l = ranked-same m r v t u e h l
+  rankedChildren-same m r Max (v then vs) t u e h l =
       let q = r + length (leaves v) in
       let d = ranked-length r v t ∙ e ∙ sym (ranked-length r v u) in
-      all-append _ (leaves v) (leavesKids vs)
+      all-append _ (leaves v) (leavesChildren vs)
       (all-map _ _
       (λ n a. record {
-        sameHigh = rankedKids-alike q Max vs (ranked r v t) (ranked r v u) d (frameSize * n + 4) (a .sameHigh);
-        sameLow = rankedKids-alike q Max vs (ranked r v t) (ranked r v u) d (frameSize * n + 5) (a .sameLow);
+        sameHigh = rankedChildren-alike q Max vs (ranked r v t) (ranked r v u) d (frameSize * n + 4) (a .sameHigh);
+        sameLow = rankedChildren-alike q Max vs (ranked r v t) (ranked r v u) d (frameSize * n + 5) (a .sameLow);
       })
       (leaves v) (ranked-same m r v t u e h (l .0)))
-      (rankedKids-same m q Max vs (ranked r v t) (ranked r v u) d (omega (arith, ranked-length r v t)) (l .1))
-  rankedKids-same m r Min (v then vs) t u e h l =
-      let q = r + length (leavesKids vs) in
-      let t₁ = rankedKids r Min vs t in
-      let u₁ = rankedKids r Min vs u in
-      let d = rankedKids-length r Min vs t ∙ e ∙ sym (rankedKids-length r Min vs u) in
-      all-append _ (leaves v) (leavesKids vs)
-      (ranked-same m q v t₁ u₁ d (omega (arith, rankedKids-length r Min vs t)) (l .0))
+      (rankedChildren-same m q Max vs (ranked r v t) (ranked r v u) d (omega (arith, ranked-length r v t)) (l .1))
+  rankedChildren-same m r Min (v then vs) t u e h l =
+      let q = r + length (leavesChildren vs) in
+      let t₁ = rankedChildren r Min vs t in
+      let u₁ = rankedChildren r Min vs u in
+      let d = rankedChildren-length r Min vs t ∙ e ∙ sym (rankedChildren-length r Min vs u) in
+      all-append _ (leaves v) (leavesChildren vs)
+      (ranked-same m q v t₁ u₁ d (omega (arith, rankedChildren-length r Min vs t)) (l .0))
       (all-map _ _
       (λ n a. record {
         sameHigh = ranked-alike q v t₁ u₁ d (frameSize * n + 4) (a .sameHigh);
         sameLow = ranked-alike q v t₁ u₁ d (frameSize * n + 5) (a .sameLow);
       })
-      (leavesKids vs) (rankedKids-same m r Min vs t u e h (l .1)))
+      (leavesChildren vs) (rankedChildren-same m r Min vs t u e h (l .1)))

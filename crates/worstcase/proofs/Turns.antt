@@ -7,10 +7,10 @@ use mathlib.Core.List.{List}
 use lib.ListN.{length, length-append}
 use Rattle.gametree.specs.declared.Side.{Side}
 use Rattle.gametree.specs.declared.Side.the-variants.{Max, Min}
-use Rattle.gametree.specs.Tree.{Tree, leaves, leavesKids}
-use Rattle.frames.specs.Tree.{kidsFrom}
-use Rattle.worstcase.specs.Ranks.{ranked, rankedKids}
-use Rattle.worstcase.specs.engine.Fillable.{inTurn}
+use Rattle.gametree.specs.Tree.{Tree, leaves, leavesChildren}
+use Rattle.frames.specs.Tree.{childrenFrom}
+use Rattle.worstcase.specs.Ranks.{ranked, rankedChildren}
+use Rattle.worstcase.specs.engine.Fillable.{nthChild}
 
 -- the next rank, and the table
 pub record Filling : Type 0 where
@@ -34,27 +34,27 @@ module _ (g : ℕ → Tree) where
   abbrev pub given : (s : Side) (r : ℕ) (t : List ℕ) (i n : ℕ) → Filling
   given s r t i n =
       record {
-        next = r + length (leavesKids (kidsFrom g i n));
-        table = rankedKids r s (kidsFrom g i n) t;
+        next = r + length (leavesChildren (childrenFrom g i n));
+        table = rankedChildren r s (childrenFrom g i n) t;
       }
 
   -- from left to right
   rising : (i r : ℕ) (t : List ℕ) (m n : ℕ) → turnsFrom (λ k. i + k) r t m (suc n) ≡ given Max r t (i + m) n
-  unfolding turnsFrom kidsFrom
+  unfolding turnsFrom childrenFrom
   rising i r t m zero = refl
   rising i r t m (suc n) =
       let v = g (i + m) in
-      let vs = kidsFrom g (i + m + 1) n in
+      let vs = childrenFrom g (i + m + 1) n in
       let a : i + (m + 1) ≡ i + m + 1 = omega arith in
       rising i (r + length (leaves v)) (ranked r v t) (m + 1) n
       ∙ rw a
-      (ap (λ x. record { next = x; table = rankedKids (r + length (leaves v)) Max vs (ranked r v t) })
-      (omega (arith, length-append (leaves v) (leavesKids vs))))
+      (ap (λ x. record { next = x; table = rankedChildren (r + length (leaves v)) Max vs (ranked r v t) })
+      (omega (arith, length-append (leaves v) (leavesChildren vs))))
 
   -- the last of the children comes first
   last-first : (r : ℕ) (t : List ℕ) (i n : ℕ)
       → given Min (r + length (leaves (g (i + suc n)))) (ranked r (g (i + suc n)) t) i n ≡ given Min r t i (suc n)
-  unfolding kidsFrom
+  unfolding childrenFrom
   last-first r t i zero =
       let a : i + suc zero ≡ i + 1 = omega arith in
       rw a
@@ -64,20 +64,20 @@ module _ (g : ℕ → Tree) where
       let w = g (i + suc (suc n)) in
       let a : i + suc (suc n) ≡ i + 1 + suc n = omega arith in
       let q = rw (← a) at (last-first r t (i + 1) n) in
-      let x : r + length (leaves w) + length (leavesKids (kidsFrom g (i + 1) n))
-      ≡ r + length (leavesKids (kidsFrom g (i + 1) (suc n))) = ap (λ f. f .next) q in
+      let x : r + length (leaves w) + length (leavesChildren (childrenFrom g (i + 1) n))
+      ≡ r + length (leavesChildren (childrenFrom g (i + 1) (suc n))) = ap (λ f. f .next) q in
       ap₂ (λ y u. record { next = y; table = u })
       (omega (
         arith,
-        length-append (leaves (g i)) (leavesKids (kidsFrom g (i + 1) n)),
-        length-append (leaves (g i)) (leavesKids (kidsFrom g (i + 1) (suc n))),
+        length-append (leaves (g i)) (leavesChildren (childrenFrom g (i + 1) n)),
+        length-append (leaves (g i)) (leavesChildren (childrenFrom g (i + 1) (suc n))),
       ))
       (ap₂ (λ y u. ranked y (g i) u) x (ap (λ f. f .table) q))
 
   -- from right to left
   falling : (i k r : ℕ) (t : List ℕ) (m n : ℕ) → m + suc n ≡ k
-      → turnsFrom (inTurn Min i k) r t m (suc n) ≡ given Min r t i n
-  unfolding turnsFrom kidsFrom
+      → turnsFrom (nthChild Min i k) r t m (suc n) ≡ given Min r t i n
+  unfolding turnsFrom childrenFrom
   falling i k r t m zero e = let a : i + (k - 1 - m) ≡ i = omega arith in rw a
   falling i k r t m (suc n) e =
       let a : i + (k - 1 - m) ≡ i + suc n = omega arith in
@@ -87,6 +87,6 @@ module _ (g : ℕ → Tree) where
 
   -- all turns together give the children what they are to be given
   pub all-turns : (s : Side) (i r : ℕ) (t : List ℕ) (n : ℕ)
-      → turnsFrom (inTurn s i (suc n)) r t 0 (suc n) ≡ given s r t i n
+      → turnsFrom (nthChild s i (suc n)) r t 0 (suc n) ≡ given s r t i n
   all-turns Max i r t n = let a : i + 0 ≡ i = omega arith in rising i r t 0 n ∙ rw a
   all-turns Min i r t n = falling i (suc n) r t 0 n (omega arith)

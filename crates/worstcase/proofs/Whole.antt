@@ -14,7 +14,7 @@ use Rattle.frames.specs.declared.Checked.the-variants as checked-answer
 use Rattle.frames.specs.Tree.{tree}
 use Rattle.frames.specs.Check.{rejection, Accepted, checked}
 use Rattle.frames.proofs.Acceptance.{accepted-formed, nodes-accepted, rejected-first}
-use Rattle.frames.proofs.Places.{place-root}
+use Rattle.frames.proofs.Positions.{position-root}
 use Rattle.frames.proofs.Totals.{tree-size}
 use Rattle.worstcase.specs.declared.Filled.the-variants.{Leaves, Rejected}
 use Rattle.worstcase.specs.Ranks.{ranked, worstCase}
@@ -28,9 +28,9 @@ module _ (t : List ℕ) where
       let wf = accepted-formed t a in
       record {
         formed = wf;
-        inside = wf .some;
-        mover = sym (ap (λ p. p .side) (place-root t));
-        few = omega (arith, leaves-size (tree t), tree-size t wf, wf .few);
+        inside = wf .nonEmpty;
+        mover = sym (ap (λ p. p .side) (position-root t));
+        atMost = omega (arith, leaves-size (tree t), tree-size t wf, wf .atMost);
       }
 
   module _ (n : ℕ) (e : checked-answer.Nodes n ≡ checked t) where

@@ -15,7 +15,7 @@ use Rattle.gametree.specs.AlphaBeta.{reached}
 use Rattle.gametree.proofs.alphabeta.WorstCase.{Blocks, blocks-more, blocks-at, blocks-once, blocks-all, all-reached}
 use Rattle.gametree.proofs.minimax.Counts.{leaves-size}
 use Rattle.frames.specs.Frame.{frameSize, maxNodes, frames, byteOf, childCount, valueBytes, storedScore}
-use Rattle.frames.specs.Place.{depthOf}
+use Rattle.frames.specs.Position.{depthOf}
 use Rattle.frames.specs.Tree.{tree, valuation}
 use Rattle.frames.specs.Formed.{WellFormed}
 use Rattle.frames.specs.Shape.{SameShape, AgreeOn}
@@ -41,11 +41,11 @@ module _ (t : List ℕ) (a : Accepted t) where
 
   -- every leaf is a node without children
   leaves-inside : EveryLeaf (λ n. n < frames t) (tree t)
-  leaves-inside = every-leaf t formed (λ n. n < frames t) (λ i h _. h) 0 (formed .some)
+  leaves-inside = every-leaf t formed (λ n. n < frames t) (λ i h _. h) 0 (formed .nonEmpty)
 
   -- there are at most 4,096
   pub leaves-few : length (leaves (tree t)) ≤ maxNodes
-  leaves-few = omega (arith, leaves-size (tree t), tree-size t formed, formed .few)
+  leaves-few = omega (arith, leaves-size (tree t), tree-size t formed, formed .atMost)
 
   pub worst-kept : Kept t (worstCase t)
   unfolding worstCase
@@ -62,18 +62,18 @@ module _ (t : List ℕ) (a : Accepted t) where
   worst-inner i k h c =
       ranked-other 0 (tree t) t (frameSize * i + k)
       (every-leaf t formed (Off (frameSize * i + k))
-      (λ n _ z. off-other i k n h (λ e. omega (arith, rw e at c))) 0 (formed .some))
+      (λ n _ z. off-other i k n h (λ e. omega (arith, rw e at c))) 0 (formed .nonEmpty))
 
   -- the ranks stand in blocks
   pub worst-blocks : Blocks (valueBytes (worstCase t)) 0 (tree t)
   unfolding worstCase
   worst-blocks =
-      ranked-blocks (frames t) 0 (tree t) t (omega arith) leaves-inside (tree-distinct t formed 0 (formed .some))
+      ranked-blocks (frames t) 0 (tree t) t (omega arith) leaves-inside (tree-distinct t formed 0 (formed .nonEmpty))
 
   -- a leaf is listed among the leaves
   pub listed : {x : ℕ} → Leaf t x → among (leaves (tree t)) x ≡ true
   listed {x} l =
-      leaf-listed t formed 0 (formed .some) x (in-tree t formed x (l .inside)) (l .childless)
+      leaf-listed t formed 0 (formed .nonEmpty) x (in-tree t formed x (l .inside)) (l .childless)
 
   -- each rank is below the number of leaves
   pub rank-below : {x : ℕ} → Leaf t x → valueBytes (worstCase t) x < length (leaves (tree t))
@@ -88,7 +88,7 @@ module _ (t : List ℕ) (a : Accepted t) where
   pub rank-every : (r : ℕ) → r < length (leaves (tree t)) → (x : ℕ) × Leaf t x × (valueBytes (worstCase t) x ≡ r)
   rank-every r h =
       blocks-all (Leaf t) (valueBytes (worstCase t)) 0 (tree t)
-      (every-leaf t formed (Leaf t) (λ i l z. record { inside = l; childless = z }) 0 (formed .some)) worst-blocks r
+      (every-leaf t formed (Leaf t) (λ i l z. record { inside = l; childless = z }) 0 (formed .nonEmpty)) worst-blocks r
       (omega arith) (omega arith)
 
   -- a leaf's score is that of its rank
@@ -123,7 +123,7 @@ module _ (t : List ℕ) (a : Accepted t) where
       (all-reached (valuation (worstCase t)) (0 + zeroScore) least greatest (tree t)
       (blocks-more (valueBytes (worstCase t)) (valuation (worstCase t)) zeroScore 0 (tree t)
       (every-leaf t formed (λ n. valuation (worstCase t) n ≡ valueBytes (worstCase t) n + zeroScore)
-      (λ i l z. rank-score (record { inside = l; childless = z })) 0 (formed .some))
+      (λ i l z. rank-score (record { inside = l; childless = z })) 0 (formed .nonEmpty))
       worst-blocks)
       (omega arith) (omega (arith, leaves-few)))
 

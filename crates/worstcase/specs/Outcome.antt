@@ -12,15 +12,15 @@ use Rattle.worstcase.specs.declared.Filled.the-variants.{Leaves, Rejecte
 use Rattle.worstcase.specs.Ranks.{worstCase}
 
 -- what the call answers, and what the lent table holds then
-pub record Outcome : Type 0 where
+pub record FillResult : Type 0 where
   pub answer : Filled
   pub table : List ℕ
 
 -- the number of leaves, and the worst-case filling; on a rejection the table as it was
-abbrev pub filling : List ℕ → Option Rejection → Outcome
+abbrev pub filling : List ℕ → Option Rejection → FillResult
 filling t none = record { answer = Leaves (length (leaves (tree t))); table = worstCase t }
 filling t (some r) = record { answer = Rejected r; table = t }
 
 -- the outcome of a call with the table t: the first "no" to questions 1 to 9, or the filling
-abbrev pub fillOutcome : List ℕ → Outcome
+abbrev pub fillOutcome : List ℕ → FillResult
 fillOutcome t = filling t (rejection t)

@@ -5,7 +5,7 @@ use mathlib.Core.List.{List}
 use lib.ListN.{length, set}
 use Rattle.gametree.specs.declared.Side.{Side}
 use Rattle.gametree.specs.declared.Side.the-variants.{Max, Min}
-use Rattle.gametree.specs.Tree.{Tree, leaf, inner, Kids, last, _then_, leaves, leavesKids}
+use Rattle.gametree.specs.Tree.{Tree, leaf, inner, Children, last, _then_, leaves, leavesChildren}
 use Rattle.frames.specs.Frame.{frameSize}
 use Rattle.frames.specs.Tree.{tree}
 
@@ -18,12 +18,12 @@ withRank i r t = set (set t (frameSize * i + 4) (r / 256)) (frameSize * i + 5) (
 abbrev mutual
   pub ranked : (r : ℕ) → Tree → List ℕ → List ℕ
   ranked r (leaf i) t = withRank i r t
-  ranked r (inner i s ks) t = rankedKids r s ks t
+  ranked r (inner i s ks) t = rankedChildren r s ks t
 
-  pub rankedKids : (r : ℕ) → Side → Kids → List ℕ → List ℕ
-  rankedKids r s (last v) t = ranked r v t
-  rankedKids r Max (v then vs) t = rankedKids (r + length (leaves v)) Max vs (ranked r v t)
-  rankedKids r Min (v then vs) t = ranked (r + length (leavesKids vs)) v (rankedKids r Min vs t)
+  pub rankedChildren : (r : ℕ) → Side → Children → List ℕ → List ℕ
+  rankedChildren r s (last v) t = ranked r v t
+  rankedChildren r Max (v then vs) t = rankedChildren (r + length (leaves v)) Max vs (ranked r v t)
+  rankedChildren r Min (v then vs) t = ranked (r + length (leavesChildren vs)) v (rankedChildren r Min vs t)
 
 -- the worst-case filling of the table's shape
 unfoldable pub worstCase : List ℕ → List ℕ

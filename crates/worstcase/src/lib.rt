@@ -16,7 +16,7 @@ ghost use Rattle.frames.specs.Frame.{maxNodes, frames, twoBytes};
 ghost use Rattle.frames.specs.Tree.{treeAt};
 ghost use Rattle.worstcase.specs.Ranks.{withRank, ranked};
 ghost use Rattle.worstcase.specs.Outcome.{fillOutcome};
-ghost use Rattle.worstcase.specs.engine.Fillable.{Fillable, inTurn};
+ghost use Rattle.worstcase.specs.engine.Fillable.{Fillable, nthChild};
 
 // The answer of a call: the number of leaves, or the first question that got a "no".
 pub enum Filled {
@@ -50,7 +50,7 @@ fn fill_node(table: &mut [u8], node: usize, mover: Side, rank: usize) -> usize
     let first = first_child(table, node);
     let mut next = rank;
     for turn in 0..count {
-        let child = in_turn(mover, first, count, turn);
+        let child = nth_child(mover, first, count, turn);
         let side = child_side(table, child, mover);
         next = fill_node(table, child, side, next);
     }
@@ -58,9 +58,9 @@ fn fill_node(table: &mut [u8], node: usize, mover: Side, rank: usize) -> usize
 }
 
 // The child that gets its ranks in this turn.
-fn in_turn(mover: Side, first: usize, count: usize, turn: usize) -> usize
+fn nth_child(mover: Side, first: usize, count: usize, turn: usize) -> usize
     requires { ⌜ (turn < count) × (first < twoBytes) × (count < 256) ⌝ }
-    ensures { λ r. ⌜ r ≡ inTurn mover first count turn ⌝ }
+    ensures { λ r. ⌜ r ≡ nthChild mover first count turn ⌝ }
 {
     match mover {
         Side::Max => first + turn,

@@ -2,7 +2,7 @@
 use mathlib.Core.Path.{_≡_, refl}
 use mathlib.Core.List.{map}
 use Rattle.frames.specs.Frame.{next}
-use Rattle.frames.specs.Place.{placeWithin, placeOf}
+use Rattle.frames.specs.Position.{positionWithin, positionOf}
 use Rattle.frames.specs.Rejection.{eachNode}
 use Rattle.frames.specs.Check.{framesRejection, rejection}
 use Rattle.hex.specs.Digit.{capitalOf}
@@ -12,5 +12,5 @@ use Rattle.writer.specs.results.Cases.{performed, writings}
 
 -- each writing is as stated
 pub small-writings : map performed writings ≡ writings
-unfolding capitalOf digitsOf lineOf encode rejection writeRejection next placeWithin placeOf eachNode framesRejection
+unfolding capitalOf digitsOf lineOf encode rejection writeRejection next positionWithin positionOf eachNode framesRejection
 small-writings = refl

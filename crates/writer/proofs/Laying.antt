@@ -35,7 +35,7 @@ digit-low (b ∷ bs) (suc k) h =
 
 -- the digits of k bytes of a frame have been laid at the front of a file f
 pub record Laying (frame f file : List ℕ) (k : ℕ) : Type 0 where
-  pub few : k ≤ frameSize
+  pub atMost : k ≤ frameSize
   pub size : length file ≡ length f
   pub laid : file ≡ sets f 0 (take (2 * k) (lineOf frame))
 
@@ -72,7 +72,7 @@ module _ (frame : List ℕ) (six : length frame ≡ frameSize) where
 
     -- before the first byte
     pub laying-none : Laying frame f f 0
-    laying-none = record { few = omega arith; size = refl; laid = refl }
+    laying-none = record { atMost = omega arith; size = refl; laid = refl }
 
     module _ (file : List ℕ) (k : ℕ) (l : Laying frame f file k) where
       -- two digits laid behind the ones before
@@ -81,7 +81,7 @@ module _ (frame : List ℕ) (six : length frame ≡ frameSize) where
       laying-next a b h high low =
           let next : 2 * (k + 1) ≡ 2 * k + 1 + 1 = omega arith in
           record {
-            few = omega arith;
+            atMost = omega arith;
             size = simp length-set (l .size);
             laid =
                 rw (l .laid, next, byte-laid (2 * k) a (omega arith) (rw (line-high k h) high))
@@ -92,7 +92,7 @@ module _ (frame : List ℕ) (six : length frame ≡ frameSize) where
       pub laying-all : frameSize ≤ k → lineSize ≤ length f
           → set file lineDigits lineFeed ≡ lineOf frame ++ drop lineSize f
       laying-all h room =
-          let all : 2 * k ≡ lineDigits = omega (arith, l .few) in
+          let all : 2 * k ≡ lineDigits = omega (arith, l .atMost) in
           let whole = sets-eq (lineOf frame) f 0 (omega (arith, line-size)) in
           let fed = byte-laid lineDigits lineFeed (omega arith) (rw line-feed) in
           rw (l .laid, all, fed, ← line-size, take-length (lineOf frame))

@@ -37,7 +37,7 @@ encode-last (suc n) t =
 
 -- after n lines the file f begins with them, and holds past them what it held
 pub record Writing (t f : List ℕ) (many : ℕ) (file : List ℕ) (n : ℕ) : Type 0 where
-  pub few : n ≤ many
+  pub atMost : n ≤ many
   pub size : length file ≡ length f
   pub lines : file ≡ encode n t ++ drop (lineSize * n) f
 
@@ -45,13 +45,13 @@ module _ (t f : List ℕ) (many : ℕ) where
   -- before the first line
   pub writing-none : Writing t f many f 0
   unfolding encode
-  writing-none = record { few = omega arith; size = refl; lines = refl }
+  writing-none = record { atMost = omega arith; size = refl; lines = refl }
 
   module _ (whole : frameSize * many ≤ length t) (room : lineSize * many ≤ length f) (file : List ℕ) (n : ℕ)
       (w : Writing t f many file n) where
     -- past the last line
     pub writing-all : many ≤ n → file ≡ encode many t ++ drop (lineSize * many) f
-    writing-all h = let all : n ≡ many = omega (arith, w .few) in rw all at (w .lines)
+    writing-all h = let all : n ≡ many = omega (arith, w .atMost) in rw all at (w .lines)
 
     module _ (inside : n < many) where
       front : take (lineSize * n) file ≡ encode n t
@@ -82,7 +82,7 @@ module _ (t f : List ℕ) (many : ℕ) where
           ≡ encode (n + 1) t ++ drop (lineSize * (n + 1)) f =
           rw (g, all, drop-of-length-le (drop at file) size, place, front, left) (line-behind frame e) in
           record {
-            few = omega arith;
+            atMost = omega arith;
             size =
                 ap length same
                 ∙ simp (length-append, length-drop)

@@ -22,19 +22,19 @@ unfoldable pub writeRejection : List ℕ → ℕ → Option Rejection
 writeRejection t room = rejection t andThen writeCheck10 t room
 
 -- what the writer answers, and what the lent buffer holds then
-pub record Outcome : Type 0 where
+pub record WriteResult : Type 0 where
   pub answer : Written
   pub file : List ℕ
 
 -- the file of the table at the buffer's front, with what it held past the file; on a rejection the buffer as it was
-abbrev pub written : List ℕ → List ℕ → Option Rejection → Outcome
-written t file none =
+abbrev pub writtenFile : List ℕ → List ℕ → Option Rejection → WriteResult
+writtenFile t file none =
     record { answer = Length (length (fileOf t)); file = fileOf t ++ drop (length (fileOf t)) file }
-written t file (some r) = record { answer = Rejected r; file = file }
+writtenFile t file (some r) = record { answer = Rejected r; file = file }
 
 -- the outcome of a call with a table and a buffer
-abbrev pub writeOutcome : List ℕ → List ℕ → Outcome
-writeOutcome t file = written t file (writeRejection t (length file))
+abbrev pub writeOutcome : List ℕ → List ℕ → WriteResult
+writeOutcome t file = writtenFile t file (writeRejection t (length file))
 
 -- the length that is given, 0 on a rejection
 abbrev pub lengthGiven : Written → ℕ

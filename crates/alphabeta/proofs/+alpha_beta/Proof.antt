@@ -1,5 +1,5 @@
 -- `alphabeta::alpha_beta` meets its contract. The number of frames from the node on falls with each call; at the head
--- of the loop stands `Turn`: the children that are left complete what the node was to give, and their trees are without
+-- of the loop stands `VisitLoop`: the children that are left complete what the node was to give, and their trees are without
 -- a mark.
 use Prim.Native.Nat.{ℕ, _-_, _<_}
 use native.Mathlib.Omega.{arith}
@@ -19,7 +19,7 @@ use Rattle.alphabeta.proofs.Pass.{pass-ends, pass-stops, pass-goes-on}
 use Rattle.certificate.proofs.Unmarked.{all-wait}
 use Rattle.certificate.proofs.Searchable.{searchable-depth, searchable-child}
 use Rattle.alphabeta.proofs.Evaluated.{visit-waits}
-use Rattle.alphabeta.proofs.Visits.{Turn, Visits, visits-same, searchable-leaf, leaf-visits, inner-owes}
+use Rattle.alphabeta.proofs.Visits.{VisitLoop, Visits, visits-same, searchable-leaf, leaf-visits, inner-remainder}
 use Rattle.alphabeta.proofs.alpha_beta.Reads as own
 use Rattle.alphabeta.proofs.alpha_beta.Kinds as own-kinds
 use Rattle.alphabeta.proofs.+alpha_beta.Lts-alpha_beta as lts
@@ -27,7 +27,7 @@ use Rattle.alphabeta.proofs.lowered.Reads as lowered-reads
 use Rattle.alphabeta.proofs.raised.Reads as raised-reads
 use Rattle.alphabeta.proofs.visit_leaf.Reads as visit-leaf-reads
 use Rattle.frames.proofs.child_count.Reads as child-count-reads
-use Rattle.frames.proofs.child_place.Reads as child-place-reads
+use Rattle.frames.proofs.child_position.Reads as child-position-reads
 use Rattle.frames.proofs.first_child.Reads as first-child-reads
 use Rattle.alphabeta.proofs.+alpha_beta.{statement}
 use Rattle.alphabeta.proofs.+alpha_beta.Tie.{close}
@@ -42,13 +42,13 @@ abbrev below : ℕ → In 3 own-kinds.ps
 below t = and 3 own-kinds.ps (falls 3 own-kinds.ps _<_ μ t) own.Pre
 
 abbrev Inv : lts.InvT-loop
-Inv table evaluated₀ order₀ node place alpha₀ beta₀ leaves₀ count side child₀ last evaluated order alpha beta leaves
+Inv table evaluated₀ order₀ node position alpha₀ beta₀ leaves₀ count side child₀ last evaluated order alpha beta leaves
     child =
-    Turn table node place alpha₀ beta₀ (progress leaves₀ evaluated₀ order₀) child₀ last
+    VisitLoop table node position alpha₀ beta₀ (progress leaves₀ evaluated₀ order₀) child₀ last
     (progress leaves evaluated order) alpha beta child
 
 abbrev μ-loop : lts.MeasureT-loop
-μ-loop table evaluated₀ order₀ node place alpha₀ beta₀ leaves₀ count side child₀ last evaluated order alpha beta leaves
+μ-loop table evaluated₀ order₀ node position alpha₀ beta₀ leaves₀ count side child₀ last evaluated order alpha beta leaves
     child =
     last - child
 
@@ -60,8 +60,8 @@ calls t = (
   visit-leaf-reads.Learnt,
   first-child-reads.Asked,
   first-child-reads.Learnt,
-  child-place-reads.Asked,
-  child-place-reads.Learnt,
+  child-position-reads.Asked,
+  child-position-reads.Learnt,
   below t,
   own.Post,
   raised-reads.Asked,
@@ -93,16 +93,16 @@ module _ (t : ℕ) where
       }
 
   -- the tree of that child is without a mark
-  searchable : (k : lts.After-child-place (calls t) (at t) own.Post Inv μ-loop) → let l = k .before in
-      Searchable (start l .args .table .now) (l .loop .evaluated) (l .loop .child) (k .child-place .result)
+  searchable : (k : lts.After-child-position (calls t) (at t) own.Post Inv μ-loop) → let l = k .before in
+      Searchable (start l .args .table .now) (l .loop .evaluated) (l .loop .child) (k .child-position .result)
   searchable k =
       let l = k .before in
       searchable-child _ _ _ _ (start l .pre .1 .0) _ _ _ (child-of l) (l .loop .inv .marksKept)
-      (l .loop .inv .waiting _ (omega arith) (child-of l)) (k .child-place .ensures)
+      (l .loop .inv .unvisited _ (omega arith) (child-of l)) (k .child-position .ensures)
 
   -- a child without children may be evaluated
   leaf-child : (c : lts.Then2 (calls t) (at t) own.Post Inv μ-loop) → let k = c .before .before in let l = k .before in
-      Evaluable (start l .args .table .now) (l .loop .evaluated) (l .loop .child) (k .child-place .result .depth)
+      Evaluable (start l .args .table .now) (l .loop .evaluated) (l .loop .child) (k .child-position .result .depth)
   leaf-child c = searchable-leaf _ _ _ _ (searchable (c .before .before)) (omega arith)
 
   -- what the visit of the child did
@@ -183,15 +183,15 @@ module _ (t : ℕ) where
         marksKept = refl;
         orderKept = refl;
         listable = a .pre .1 .1;
-        waiting = all-wait _ (r .formed) _ (r .inside) (a .args .evaluated .now) _ (r .unmarked);
-        owes =
-            inner-owes (a .args .table .now) (r .formed) (a .args .node) (r .inside) (a .args .alpha) (a .args .beta)
-            (progress (a .args .leaves) (a .args .evaluated .now) (a .args .order .now)) (a .args .place) _ _
-            (r .placed) (omega arith) (c .first-child .ensures .0) (omega arith);
+        unvisited = all-wait _ (r .formed) _ (r .inside) (a .args .evaluated .now) _ (r .unmarked);
+        remainder =
+            inner-remainder (a .args .table .now) (r .formed) (a .args .node) (r .inside) (a .args .alpha) (a .args .beta)
+            (progress (a .args .leaves) (a .args .evaluated .now) (a .args .order .now)) (a .args .position) _ _
+            (r .positioned) (omega arith) (c .first-child .ensures .0) (omega arith);
       }
 
-  child-place-requires : lts.Need-child-place-requires (calls t) (at t) own.Post Inv μ-loop
-  child-place-requires c κs =
+  child-position-requires : lts.Need-child-position-requires (calls t) (at t) own.Post Inv μ-loop
+  child-position-requires c κs =
       let r = start c .pre .1 .0 in
       (child-within _ (r .formed) (r .inside) (child-of c), searchable-depth _ _ _ _ r .1)
 
@@ -237,15 +237,15 @@ module _ (t : ℕ) where
         orderKept = kept j .1;
         listable =
             record {
-              few = l .loop .inv .listable .few;
+              atMost = l .loop .inv .listable .atMost;
               room = omega (arith, kept j .1, l .loop .inv .orderKept, l .loop .inv .listable .room);
               counted = v .counted;
             };
-        waiting =
-            visit-waits _ (r .formed) _ (r .inside) _ _ _ _ _ _ (child-of l) (l .loop .inv .waiting)
+        unvisited =
+            visit-waits _ (r .formed) _ (r .inside) _ _ _ _ _ _ (child-of l) (l .loop .inv .unvisited)
             (ap (λ p. p .marks) (v .gives .1));
-        owes =
-            pass-goes-on _ _ _ _ _ _ _ _ _ _ _ _ (l .loop .inv .owes) (v .gives) _ _ (omega arith)
+        remainder =
+            pass-goes-on _ _ _ _ _ _ _ _ _ _ _ _ (l .loop .inv .remainder) (v .gives) _ _ (omega arith)
             (c .before .before .raised .ensures) (c .before .lowered .ensures) (omega arith);
       }
 
@@ -258,7 +258,7 @@ module _ (t : ℕ) where
   returns-2 : lts.Need-returns-2 (calls t) (at t) own.Post Inv μ-loop
   returns-2 c =
       let v = visits (c .before) in
-      let g = pass-ends _ _ _ _ _ _ _ _ _ _ _ _ (looping (c .before) .loop .inv .owes) (v .gives) (c .if3 .taken) in
+      let g = pass-ends _ _ _ _ _ _ _ _ _ _ _ _ (looping (c .before) .loop .inv .remainder) (v .gives) (c .if3 .taken) in
       (g .0, (g .1, v .counted))
 
   same-length-5 : lts.Need-same-length-5 (calls t) (at t) own.Post Inv μ-loop
@@ -272,7 +272,7 @@ module _ (t : ℕ) where
       let j = c .before .before .before .before in
       let v = visits j in
       let g =
-      pass-stops _ _ _ _ _ _ _ _ _ _ _ _ (looping j .loop .inv .owes) (v .gives) _ _ (omega arith)
+      pass-stops _ _ _ _ _ _ _ _ _ _ _ _ (looping j .loop .inv .remainder) (v .gives) _ _ (omega arith)
       (c .before .before .raised .ensures) (c .before .lowered .ensures) (omega arith) in
       (g .0, (g .1, v .counted))
 
@@ -291,7 +291,7 @@ pub +alpha-beta-spec : {M : Type 1} → statement M
     (sub-last t)
     (add-last t)
     (loop-holds t)
-    (child-place-requires t)
+    (child-position-requires t)
     (child-count-requires-2 t)
     (visit-leaf-requires-2 t)
     (alpha-beta-requires t)

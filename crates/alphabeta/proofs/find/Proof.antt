@@ -4,7 +4,7 @@ use mathlib.Core.Path.{ap, _∙_}
 use mir.Syntax.{w16}
 use mir.ValLaws.{toZ-ofZ}
 use borrow.Author.Needs.{needs}
-use Rattle.places.specs.Buffer.{written}
+use Rattle.positions.specs.Buffer.{written}
 use Rattle.bounds.proofs.Listing.{listable-first}
 use Rattle.certificate.proofs.Searchable.{searchable-root}
 use Rattle.alphabeta.proofs.Whole.{run-small, find-gives}
@@ -27,7 +27,7 @@ visit-root-requires c κs =
     let a = k .before .before .before .before .before .before in
     let n = k .before .frame-count .ensures in (
       searchable-root _ (a .pre .0) _ _ _ (k .clear .ensures) n (omega (arith, k .clear .kept .0, a .pre .1 .0)),
-      listable-first _ _ _ _ _ (k .clear .ensures) n (a .pre .0 .few) (a .pre .1 .1),
+      listable-first _ _ _ _ _ (k .clear .ensures) n (a .pre .0 .atMost) (a .pre .1 .1),
     )
 
 value-requires : tie.Need-value-requires

@@ -92,8 +92,8 @@ loop-holds c =
     let a = c .before .before .before .before .before in
     root-start _ (a .pre .0 .formed) _ _ _ (a .pre .0) (a .pre .1) (c .before .child-count .ensures .0) (omega arith)
 
-child-place-requires : tie.Need-child-place-requires Inv-loop μ-loop
-child-place-requires c κs =
+child-position-requires : tie.Need-child-position-requires Inv-loop μ-loop
+child-position-requires c κs =
     let r = start c .pre .0 in (
       child-within _ (r .formed) (r .inside) (root-child _ (r .formed) (count c) (c .loop .inv)),
       searchable-depth _ _ _ _ r .1,
@@ -106,8 +106,8 @@ alpha-beta-requires c κs =
     let r = start l .pre .0 in
     let u = l .loop .inv in
     let j = root-child _ (r .formed) (count l) u in (
-      searchable-child _ _ _ _ r _ _ _ j (u .turn .marksKept) (u .turn .waiting _ (omega arith) j)
-          (k .child-place .ensures),
+      searchable-child _ _ _ _ r _ _ _ j (u .turn .marksKept) (u .turn .unvisited _ (omega arith) j)
+          (k .child-position .ensures),
       u .turn .listable,
     )
 
@@ -163,7 +163,7 @@ visit-root-spec =
     same-length-2
     returns
     loop-holds
-    child-place-requires
+    child-position-requires
     alpha-beta-requires
     add-child
     loop-less

@@ -3,8 +3,8 @@ use Prim.Native.Nat.{_≤_, _-_}
 use native.Mathlib.Omega.{arith}
 use mathlib.Core.Path.{_≡_, sym, ap, _∙_}
 use lib.ListN.{length, set}
-use Rattle.places.specs.Buffer.{written}
-use Rattle.places.proofs.Buffers.{written-none, written-next, written-length}
+use Rattle.positions.specs.Buffer.{written}
+use Rattle.positions.proofs.Buffers.{written-none, written-next, written-length}
 use Rattle.bounds.proofs.clear.Statement.{statement}
 use Rattle.bounds.proofs.clear.Tie as tie
 

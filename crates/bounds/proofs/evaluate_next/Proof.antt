@@ -15,7 +15,7 @@ fits : (c : tie.After-slice-known3) → let a = c .before .before .before .befor
 fits c =
     let p = c .before .before .before .before .before .before .before .pre in
     let l = next-fits _ (p .1) (p .0) in
-    (omega (arith, l, p .1 .room), omega (arith, l, p .1 .few))
+    (omega (arith, l, p .1 .room), omega (arith, l, p .1 .atMost))
 
 mul-order : tie.Need-mul-order
 mul-order c = omega (arith, fits c .1)

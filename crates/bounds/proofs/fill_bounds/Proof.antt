@@ -14,12 +14,12 @@ use Rattle.bounds.proofs.fill_bounds.Statement.{statement}
 use Rattle.bounds.proofs.fill_bounds.Tie as tie
 
 abbrev Inv-loop : tie.InvT-loop
-Inv-loop table places evaluated₀ lows₀ highs₀ node₀ evaluated lows highs node =
+Inv-loop table positions evaluated₀ lows₀ highs₀ node₀ evaluated lows highs node =
     (evaluated ≡ evaluated₀) × Rising (boundOf table (marked evaluated₀) least) (frames table) lows₀ lows node
     × Rising (boundOf table (marked evaluated₀) greatest) (frames table) highs₀ highs node
 
 abbrev μ-loop : tie.MeasureT-loop
-μ-loop table places evaluated₀ lows₀ highs₀ node₀ evaluated lows highs node = node
+μ-loop table positions evaluated₀ lows₀ highs₀ node₀ evaluated lows highs node = node
 
 -- from a turn to the start
 abbrev at-start : tie.In-loop Inv-loop μ-loop → tie.Start Inv-loop μ-loop
@@ -52,7 +52,7 @@ inside c = omega (arith, c .before .loop .inv .1 .inside)
 
 mul-lows : tie.Need-mul-lows Inv-loop μ-loop
 mul-lows c =
-    let l = c .before .before .before .before .before .before in omega (arith, inside l, at-start l .pre .0 .0 .few)
+    let l = c .before .before .before .before .before .before in omega (arith, inside l, at-start l .pre .0 .0 .atMost)
 
 slice-write-lows : tie.Need-slice-write-lows Inv-loop μ-loop
 slice-write-lows c =
@@ -61,7 +61,7 @@ slice-write-lows c =
 
 mul-highs : tie.Need-mul-highs Inv-loop μ-loop
 mul-highs c =
-    let l = c .before .before .before .before .before .before in omega (arith, inside l, at-start l .pre .0 .0 .few)
+    let l = c .before .before .before .before .before .before in omega (arith, inside l, at-start l .pre .0 .0 .atMost)
 
 slice-write-highs : tie.Need-slice-write-highs Inv-loop μ-loop
 slice-write-highs c =

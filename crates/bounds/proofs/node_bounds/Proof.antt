@@ -5,7 +5,7 @@ use mathlib.Core.Path.{refl, ap₂, _∙_}
 use Rattle.gametree.specs.Tree.{least, greatest}
 use Rattle.frames.specs.Frame.{frames, childCount}
 use Rattle.frames.proofs.Next.{children-within}
-use Rattle.places.proofs.Places.{placed-few, placed-depth, placed-side}
+use Rattle.positions.proofs.Positions.{positioned-few, positioned-depth, positioned-side}
 use Rattle.bounds.specs.Marks.{marked}
 use Rattle.bounds.proofs.Bounds.{bound-leaf, bound-inner}
 use borrow.Author.Needs.{needs}
@@ -17,8 +17,8 @@ leaf-bounds-requires c κs =
     let a = c .before .before .before .before .before .before .before .before .before in
     let h = a .pre .1 .0 .0 in
     let p = a .pre .0 .1 in
-    let d = c .depth-at .ensures ∙ placed-depth _ _ p _ h in
-    ((h, omega arith), (d, omega (arith, d, placed-few _ _ p _ h)))
+    let d = c .depth-at .ensures ∙ positioned-depth _ _ p _ h in
+    ((h, omega arith), (d, omega (arith, d, positioned-few _ _ p _ h)))
 
 returns : tie.Need-returns
 returns c =
@@ -54,7 +54,7 @@ returns-2 c =
     let n = c .before .before .before .before .before .child-count .ensures .0 in
     let a = c .before .before .before .before .before .before .before .before .before .before .before in
     let h = a .pre .1 .0 .0 in
-    let s = c .before .before .side-at .ensures ∙ placed-side _ _ (a .pre .0 .1) _ h in
+    let s = c .before .before .side-at .ensures ∙ positioned-side _ _ (a .pre .0 .1) _ h in
     let E = marked (a .args .evaluated .now) in
     let w = within (c .before .before .before) in
     let wf = a .pre .0 .0 in

@@ -5,7 +5,7 @@ use mathlib.Core.Bool.{false}
 use mathlib.Core.List.{List}
 use lib.ListN.{length}
 use Rattle.frames.specs.Frame.{maxNodes, frames, childCount}
-use Rattle.frames.specs.Place.{depthOf}
+use Rattle.frames.specs.Position.{depthOf}
 use Rattle.bounds.specs.Marks.{marked}
 
 -- node i is a leaf of the table t, at the depth d, with an entry among the marks e and no mark yet

@@ -23,6 +23,6 @@ evaluateAll p w =
 
 -- as many nodes of the table t are marked as leaves are evaluated, and the list has an entry for each node
 pub record Listable (t : List ℕ) (p : Progress) : Type 0 where
-  pub few : frames t ≤ maxNodes
+  pub atMost : frames t ≤ maxNodes
   pub room : frames t ≤ length (p .order)
   pub counted : p .leaves ≡ ones (p .marks) (frames t)

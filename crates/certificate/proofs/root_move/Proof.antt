@@ -11,7 +11,7 @@ start c = c .before .before .before .before .before .before .before
 
 -- the arrays hold the sides and the bounds
 holds-bounds : (c : tie.After-fill-bounds) → let a = start c .args in
-    Bounded (a .table .now) (marked (a .evaluated .now)) (a .places .now)
+    Bounded (a .table .now) (marked (a .evaluated .now)) (a .positions .now)
     (c .fill-bounds .last .1 .1 .1 .0) (c .fill-bounds .last .1 .1 .1 .1 .0)
 holds-bounds c =
     let e = c .fill-bounds .ensures in

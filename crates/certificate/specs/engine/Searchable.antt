@@ -4,10 +4,10 @@ use mathlib.Core.Path.{_≡_}
 use mathlib.Core.Bool.{false}
 use mathlib.Core.List.{List}
 use lib.ListN.{length}
-use Rattle.gametree.specs.declared.Place.{Place}
+use Rattle.gametree.specs.declared.Position.{Position}
 use Rattle.gametree.specs.Tree.{Tree, In}
 use Rattle.frames.specs.Frame.{frames}
-use Rattle.frames.specs.Place.{placeOf}
+use Rattle.frames.specs.Position.{positionOf}
 use Rattle.frames.specs.Tree.{treeAt}
 use Rattle.frames.specs.Formed.{WellFormed}
 use Rattle.bounds.specs.Marks.{marked}
@@ -17,9 +17,9 @@ abbrev pub Unmarked : List ℕ → Tree → Type 0
 Unmarked e T = (k : ℕ) → In k T → marked e k ≡ false
 
 -- a well-formed table, a node of it with its place, an entry for the mark of each node, and no mark in the node's tree
-pub record Searchable (t e : List ℕ) (i : ℕ) (p : Place) : Type 0 where
+pub record Searchable (t e : List ℕ) (i : ℕ) (p : Position) : Type 0 where
   pub formed : WellFormed t
   pub inside : i < frames t
-  pub placed : p ≡ placeOf t i
+  pub positioned : p ≡ positionOf t i
   pub marks : frames t ≤ length e
   pub unmarked : Unmarked e (treeAt t i)

@@ -10,7 +10,7 @@ use Rattle.frames.specs.Frame.{frames}
 use Rattle.frames.specs.Tree.{tree, valuation}
 use Rattle.frames.specs.Value.{valueOf}
 use Rattle.frames.specs.results.Cases.{small, lone, single}
-use Rattle.places.specs.Buffer.{written}
+use Rattle.positions.specs.Buffer.{written}
 use Rattle.bounds.specs.Marks.{marked}
 
 -- a table, the marks of its nodes, and a buffer for the flags

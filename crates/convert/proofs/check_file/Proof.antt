@@ -47,7 +47,7 @@ returns c =
     rw (lines-then f frames) (lines-refused _ _ frames _ (l .check-lines .ensures) _ (c .enum-told .given .1))
 
 mul-end : tie.Need-mul-end
-mul-end c = omega (arith, front c .few)
+mul-end c = omega (arith, front c .atMost)
 
 slice-reshare-prefix-check-frames : tie.Need-slice-reshare-prefix-check-frames
 slice-reshare-prefix-check-frames c = front-room _ _ _ _ (front c)
@@ -57,7 +57,7 @@ slice-aggregate-check-frames c = sym (length-take-le _ _ (front-room _ _ _ _ (fr
 
 check-frames-requires : tie.Need-check-frames-requires
 check-frames-requires c κs =
-    let w = front (c .before) in rw (w .bytes) (omega (arith, w .few, w .nodes))
+    let w = front (c .before) in rw (w .bytes) (omega (arith, w .atMost, w .nodes))
 
 same-length-2 : tie.Need-same-length-2
 same-length-2 c = search needs

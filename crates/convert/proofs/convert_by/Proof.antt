@@ -32,7 +32,7 @@ enum-known-nodes : tie.Need-enum-known-nodes
 enum-known-nodes c = search needs
 
 mul-end : tie.Need-mul-end
-mul-end c = omega (arith, front c .few)
+mul-end c = omega (arith, front c .atMost)
 
 slice-reshare-prefix-write-accepted : tie.Need-slice-reshare-prefix-write-accepted
 slice-reshare-prefix-write-accepted c = front-room _ _ _ _ (front c)

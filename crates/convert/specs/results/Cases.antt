@@ -3,7 +3,7 @@ use Prim.Native.Nat.{ℕ}
 use Prim.Native.String.{String}
 use mathlib.Core.List.{List, [], _∷_, _++_}
 use Rattle.lines.specs.results.Text.{text}
-use Rattle.writer.specs.Write.{Outcome}
+use Rattle.writer.specs.Write.{WriteResult}
 use Rattle.writer.specs.declared.Written.the-variants.{Length, Rejected}
 use Rattle.convert.specs.Convert.{convertOutcome}
 
@@ -11,7 +11,7 @@ use Rattle.convert.specs.Convert.{convertOutcome}
 pub record Case : Type 0 where
   pub file : String
   pub buffer : String
-  pub outcome : Outcome
+  pub outcome : WriteResult
 
 -- the case as the definitions have it
 abbrev pub computed : Case → Case

@@ -6,7 +6,7 @@ use mathlib.Core.Bool.{cond}
 use lib.Dec.{eqb}
 use borrow.Author.Needs.{needs}
 use borrow.Author.Tests.{eq-eqb, ne-eqb}
-use Rattle.places.proofs.Runs.{Run, run-begins, run-step, run-ends}
+use Rattle.positions.proofs.Runs.{Run, run-begins, run-step, run-ends}
 use Rattle.flags.proofs.flag_children.Statement.{statement}
 use Rattle.flags.proofs.flag_children.Tie as tie
 

@@ -13,7 +13,7 @@ use Rattle.flags.proofs.root_choice.Tie as tie
 -- the root's children are nodes of the table
 root-within : (t : List ℕ) → WellFormed t → 1 + childCount t 0 ≤ frames t
 unfolding next
-root-within t wf = omega (arith, next-within t wf 1 (wf .some))
+root-within t wf = omega (arith, next-within t wf 1 (wf .nonEmpty))
 
 -- so they are as many as the numbers from 1 up to their end
 from-one : {n m : ℕ} → n ≡ m → 1 + n - 1 ≡ m

@@ -4,7 +4,7 @@ use Prim.Native.Nat.{ℕ, _<_}
 use mathlib.Core.Path.{_≡_}
 use mathlib.Core.List.{List}
 use Rattle.frames.specs.Frame.{frames, childCount}
-use Rattle.frames.specs.Place.{depthOf}
+use Rattle.frames.specs.Position.{depthOf}
 use Rattle.frames.specs.results.Alternating.{Alternating}
 
 -- a tree that is one leaf is regular of depth 0, whatever the width

@@ -7,7 +7,7 @@ use lib.ListN.{length}
 use Rattle.gametree.specs.Tree.{Score}
 use Rattle.frames.specs.Frame.{frameSize, maxNodes, maxChildren, maxDepth, frames, firstChild, childCount, byte3}
 use Rattle.frames.specs.Frame.{sameMover, valueBytes, storedScore, next}
-use Rattle.frames.specs.Place.{depthOf}
+use Rattle.frames.specs.Position.{depthOf}
 
 -- node i's frame is as stated
 pub record FrameAsStated (t : List ℕ) (i : ℕ) : Type 0 where
@@ -22,7 +22,7 @@ pub record FrameAsStated (t : List ℕ) (i : ℕ) : Type 0 where
 -- the table is as stated: whole frames, 1 to 4,096 of them, each as stated, each but the root's a child, none too deep
 pub record TableAsStated (t : List ℕ) : Type 0 where
   pub whole : length t ≡ frameSize * frames t
-  pub some : 1 ≤ frames t
+  pub nonEmpty : 1 ≤ frames t
   pub most : frames t ≤ maxNodes
   pub frame : (i : ℕ) → i < frames t → FrameAsStated t i
   pub total : next t (frames t) ≡ frames t

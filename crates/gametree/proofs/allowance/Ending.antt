@@ -26,7 +26,7 @@ pub record Whole (ν : ℕ → ℕ) (Y : Layout) (t : Tree) (a : ℕ) : Type 0 w
   pub value : ℕ
   pub reached : ListAfter ν Y t made leaves list
   pub stops : step ν Y list ≡ stop value
-  pub few : length leaves ≤ a
+  pub atMost : length leaves ≤ a
   pub gives : sssWithinOver a ν Y t ≡ record { end = finished value; evaluated = leaves; replacements = made }
 
 -- it evaluated a leaves, and the next step evaluates one more
@@ -55,7 +55,7 @@ resume-within a ν Y t atStart f b e l =
     rw (z, y) (ran-path refl (omega arith))
 resume-within a ν Y t (afterQuiet r s) f b e l =
     resume-within a ν Y t r (suc f) b (omega arith) l ∙ rw s (ran-path refl (omega arith))
-resume-within a ν Y t (afterEvaluating {n = n} {w = w} r s) f b e l =
+resume-within a ν Y t (afterEvaluating {n = n} {leaves = w} r s) f b e l =
     resume-within a ν Y t r (suc f) (suc b) (omega arith) (omega (arith, simp length-append at l))
     ∙ rw s (ran-path (sym (append-assoc w (n ∷ []) _)) (omega arith))
 
@@ -69,14 +69,14 @@ module _ (ν : ℕ → ℕ) (t : Tree) (h : Scored ν t) (Y : Layout) (d : Descr
   pub stopped : {k v : ℕ} {w : List ℕ} {L : List State} → ListAfter ν Y t k w L → step ν Y L ≡ stop v
       → sssOver ν Y t ≡ record { end = finished v; evaluated = w; replacements = k }
   stopped {k} {w = w} r s =
-      let m : k + suc (2 * size t - suc k) ≡ 2 * size t = omega (arith, list-reached ν Y t d h r .few) in
+      let m : k + suc (2 * size t - suc k) ≡ 2 * size t = omega (arith, list-reached ν Y t d h r .atMost) in
       resume ν Y t r (suc (2 * size t - suc k)) m ∙ rw s (ran-path (append-nil w) (add-zero k))
 
   -- the run within an allowance, where the SOLVED root is taken
   pub stopped-within : (a : ℕ) {k v : ℕ} {w : List ℕ} {L : List State} → ListAfter ν Y t k w L → step ν Y L ≡ stop v
       → length w ≤ a → sssWithinOver a ν Y t ≡ record { end = finished v; evaluated = w; replacements = k }
   stopped-within a {k} {w = w} r s l =
-      let m : k + suc (2 * size t - suc k) ≡ 2 * size t = omega (arith, list-reached ν Y t d h r .few) in
+      let m : k + suc (2 * size t - suc k) ≡ 2 * size t = omega (arith, list-reached ν Y t d h r .atMost) in
       resume-within a ν Y t r (suc (2 * size t - suc k)) (a - length w) m (omega arith)
       ∙ rw s (ran-path (append-nil w) (add-zero k))
 
@@ -85,7 +85,7 @@ module _ (ν : ℕ → ℕ) (t : Tree) (h : Scored ν t) (Y : Layout) (d : Descr
       → step ν Y L ≡ evaluating n M → length w ≡ a
       → sssWithinOver a ν Y t ≡ record { end = spent (takenMerit Y L); evaluated = w; replacements = k }
   spent-within a {k} {w = w} r s l =
-      let m : k + suc (2 * size t - suc k) ≡ 2 * size t = omega (arith, list-reached ν Y t d h r .few) in
+      let m : k + suc (2 * size t - suc k) ≡ 2 * size t = omega (arith, list-reached ν Y t d h r .atMost) in
       resume-within a ν Y t r (suc (2 * size t - suc k)) 0 m (omega arith)
       ∙ rw s (ran-path (append-nil w) (add-zero k))
 
@@ -109,7 +109,7 @@ module _ (ν : ℕ → ℕ) (t : Tree) (h : Scored ν t) (Y : Layout) (d : Descr
           value = v;
           reached = r;
           stops = s;
-          few = m;
+          atMost = m;
           gives = stopped-within a r s m;
         })
     ending-by f i (quiet M) b r s e l = i b _ _ _ (afterQuiet r s) (omega arith) l
@@ -130,7 +130,7 @@ module _ (ν : ℕ → ℕ) (t : Tree) (h : Scored ν t) (Y : Layout) (d : Descr
         i b _ _ _ (afterEvaluating r s) (omega arith) (omega (arith, length-append w (n ∷ [])))
 
     ending : (f : ℕ) → EndsFrom f
-    ending zero b k w L r e l = absurd (omega (arith, list-reached ν Y t d h r .few))
+    ending zero b k w L r e l = absurd (omega (arith, list-reached ν Y t d h r .atMost))
     ending (suc f) b k w L r e l = ending-by f (ending f) (step ν Y L) b r refl e l
 
     pub within-ending : Ending ν Y t a
@@ -150,6 +150,6 @@ leaves-grow ν Y t {k} {w = w} {L = L} r q h = go q h
     go atStart h = same atStart (omega arith)
     go (afterQuiet q d) h =
         ⊎-elim (λ e. same (afterQuiet q d) e) (λ l. go q (omega arith)) (eq-or-lt-of-le h)
-    go (afterEvaluating {n = n} {w = v} q d) h =
+    go (afterEvaluating {n = n} {leaves = v} q d) h =
         ⊎-elim (λ e. same (afterEvaluating q d) e)
         (λ l. omega (arith, go q (omega arith), length-append v (n ∷ []))) (eq-or-lt-of-le h)

@@ -5,12 +5,12 @@ use mathlib.Core.Path.{_≡_, refl, _∙_}
 use mathlib.Core.Bool.{Bool, true, false, cond}
 use lib.Dec.{ltb, eqb}
 use borrow.Author.Tests.{ltb-true, ltb-false, lt-ltb, le-ltb, eq-eqb, ne-eqb}
-use Rattle.gametree.specs.Tree.{Max, inner, Kids, last, _then_, least, minimax, minimaxKids, number, Scored}
+use Rattle.gametree.specs.Tree.{Max, inner, Children, last, _then_, least, minimax, minimaxChildren, number, Scored}
 use Rattle.gametree.specs.Move.{firstWith, rootMove}
 use Rattle.gametree.proofs.minimax.Bounds.{minimax-score}
 
 -- the last of the children under Max that raises alpha, which is α before them; k where none does
-unfoldable pub raiser : (ℕ → ℕ) → ℕ → ℕ → Kids → ℕ
+unfoldable pub raiser : (ℕ → ℕ) → ℕ → ℕ → Children → ℕ
 raiser ν α k (last t) = cond (ltb α (minimax ν t)) (number t) k
 raiser ν α k (t then ts) = raiser ν (max α (minimax ν t)) (cond (ltb α (minimax ν t)) (number t) k) ts
 
@@ -37,17 +37,17 @@ first-raiser α m b n k g = go (ltb (max α m) b) refl (ltb α m) refl
         rw (le-ltb α (max m b) (omega arith)) refl
 
 -- it is the first child of the best value, where that is above α
-raiser-first : (ν : ℕ → ℕ) (α k : ℕ) (ks : Kids)
+raiser-first : (ν : ℕ → ℕ) (α k : ℕ) (ks : Children)
     → raiser ν α k ks
-    ≡ cond (ltb α (minimaxKids ν Max ks)) (firstWith (minimax ν) (minimaxKids ν Max ks) ks) k
+    ≡ cond (ltb α (minimaxChildren ν Max ks)) (firstWith (minimax ν) (minimaxChildren ν Max ks) ks) k
 unfolding raiser
 raiser-first ν α k (last t) = rw (eq-eqb (minimax ν t) (minimax ν t) refl) refl
 raiser-first ν α k (t then ts) =
     raiser-first ν _ _ ts
-    ∙ first-raiser α (minimax ν t) (minimaxKids ν Max ts) (number t) k (λ v. firstWith (minimax ν) v ts)
+    ∙ first-raiser α (minimax ν t) (minimaxChildren ν Max ts) (number t) k (λ v. firstWith (minimax ν) v ts)
 
 -- so from the least score on it is the root move
-pub raiser-move : (ν : ℕ → ℕ) (n : ℕ) (ks : Kids) → Scored ν (inner n Max ks)
+pub raiser-move : (ν : ℕ → ℕ) (n : ℕ) (ks : Children) → Scored ν (inner n Max ks)
     → raiser ν least 0 ks ≡ rootMove ν (inner n Max ks)
 raiser-move ν n ks h =
     raiser-first ν least 0 ks ∙ rw (lt-ltb least _ (minimax-score ν (inner n Max ks) h .0)) refl

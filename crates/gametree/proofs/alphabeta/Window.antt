@@ -8,11 +8,11 @@ use mathlib.Core.List.{List, [], _∷_, _++_, append-nil}
 use lib.Dec.{ltb}
 use borrow.Author.Tests.{ltb-true, ltb-false, lt-ltb, le-ltb}
 use Rattle.lists.specs.Lists.{All, Subsequence, end, skip, keep}
-use Rattle.gametree.specs.Tree.{Side, Max, Min, Tree, leaf, inner, Kids, last, _then_, better, minimax, least}
-use Rattle.gametree.specs.Tree.{greatest, minimaxKids, leaves, leavesKids, Scored}
+use Rattle.gametree.specs.Tree.{Side, Max, Min, Tree, leaf, inner, Children, last, _then_, better, minimax, least}
+use Rattle.gametree.specs.Tree.{greatest, minimaxChildren, leaves, leavesChildren, Scored}
 use Rattle.gametree.specs.Bounds.{known, Decided}
-use Rattle.gametree.specs.AlphaBeta.{raise, lower, reached, reachedKids, clamp, Found, after, onward, alphaBeta}
-use Rattle.gametree.specs.AlphaBeta.{alphaBetaKids}
+use Rattle.gametree.specs.AlphaBeta.{raise, lower, reached, reachedChildren, clamp, SearchResult, after, onward, alphaBeta}
+use Rattle.gametree.specs.AlphaBeta.{alphaBetaChildren}
 use Rattle.lists.proofs.Choice.{true-not-false}
 use Rattle.lists.proofs.Lists.{all-left, all-right, all-map}
 use Rattle.gametree.proofs.minimax.Bounds.{minimax-score}
@@ -26,13 +26,13 @@ closed-on Min α β v h = omega arith
 mutual
   closed : (ν : ℕ → ℕ) (α β : ℕ) → β ≤ α → (t : Tree) → reached ν α β t ≡ []
   closed ν α β h (leaf n) = simp (le-ltb α β h)
-  closed ν α β h (inner n s ks) = closedKids ν s α β h ks
+  closed ν α β h (inner n s ks) = closedChildren ν s α β h ks
 
-  pub closedKids : (ν : ℕ → ℕ) (s : Side) (α β : ℕ) → β ≤ α → (ks : Kids) → reachedKids ν s α β ks ≡ []
-  closedKids ν s α β h (last t) = closed ν α β h t
-  closedKids ν s α β h (t then ts) =
+  pub closedChildren : (ν : ℕ → ℕ) (s : Side) (α β : ℕ) → β ≤ α → (ks : Children) → reachedChildren ν s α β ks ≡ []
+  closedChildren ν s α β h (last t) = closed ν α β h t
+  closedChildren ν s α β h (t then ts) =
       ap₂ _++_ (closed ν α β h t)
-      (closedKids ν s (raise s α (minimax ν t)) (lower s β (minimax ν t)) (closed-on s α β (minimax ν t) h) ts)
+      (closedChildren ν s (raise s α (minimax ν t)) (lower s β (minimax ν t)) (closed-on s α β (minimax ν t) h) ts)
 
 -- a child that leaves the window open moves it as its own value does
 raised : (α β m v : ℕ) → v ≡ min β (max α m) → max α v < β → max α v ≡ max α m
@@ -71,7 +71,7 @@ raise-shut Max α β m v o e h = omega arith
 raise-shut Min α β m v o e h = omega arith
 
 -- one step of a pass, by whether the window is still open: r is the eldest child's result, m its minimax value
-onward-value : (s : Side) (α β m w : ℕ) (r q : Found) → α < β → r .value ≡ clamp α β m
+onward-value : (s : Side) (α β m w : ℕ) (r q : SearchResult) → α < β → r .value ≡ clamp α β m
     → (raise s α (r .value) < lower s β (r .value) → q .value ≡ clamp (raise s α (r .value)) (lower s β (r .value)) w)
     → (c : Bool) → ltb (raise s α (r .value)) (lower s β (r .value)) ≡ c
     → onward c r q .value ≡ clamp α β (better s m w)
@@ -84,43 +84,43 @@ onward-value s α β m w r q o e f false t = clamp-shut s α β m (r .value) w o
 mutual
   pub alphaBeta-value : (ν : ℕ → ℕ) (α β : ℕ) → α < β → (t : Tree) → alphaBeta ν α β t .value ≡ clamp α β (minimax ν t)
   alphaBeta-value ν α β o (leaf n) = refl
-  alphaBeta-value ν α β o (inner n s ks) = alphaBetaKids-value ν s α β o ks
+  alphaBeta-value ν α β o (inner n s ks) = alphaBetaChildren-value ν s α β o ks
 
-  alphaBetaKids-value : (ν : ℕ → ℕ) (s : Side) (α β : ℕ) → α < β → (ks : Kids)
-      → alphaBetaKids ν s α β ks .value ≡ clamp α β (minimaxKids ν s ks)
-  alphaBetaKids-value ν s α β o (last t) = alphaBeta-value ν α β o t
-  alphaBetaKids-value ν s α β o (t then ts) =
-      onward-value s α β (minimax ν t) (minimaxKids ν s ts) (alphaBeta ν α β t) _ o (alphaBeta-value ν α β o t)
-      (λ h. alphaBetaKids-value ν s _ _ h ts) _ refl
+  alphaBetaChildren-value : (ν : ℕ → ℕ) (s : Side) (α β : ℕ) → α < β → (ks : Children)
+      → alphaBetaChildren ν s α β ks .value ≡ clamp α β (minimaxChildren ν s ks)
+  alphaBetaChildren-value ν s α β o (last t) = alphaBeta-value ν α β o t
+  alphaBetaChildren-value ν s α β o (t then ts) =
+      onward-value s α β (minimax ν t) (minimaxChildren ν s ts) (alphaBeta ν α β t) _ o (alphaBeta-value ν α β o t)
+      (λ h. alphaBetaChildren-value ν s _ _ h ts) _ refl
 
 -- one step of a pass evaluates what Baudet's condition reaches
-onward-evaluated : (ν : ℕ → ℕ) (s : Side) (α β m : ℕ) (ts : Kids) (w : List ℕ) (r q : Found) → α < β
+onward-evaluated : (ν : ℕ → ℕ) (s : Side) (α β m : ℕ) (ts : Children) (w : List ℕ) (r q : SearchResult) → α < β
     → r .value ≡ clamp α β m
     → r .evaluated ≡ w
     → (raise s α (r .value) < lower s β (r .value)
-    → q .evaluated ≡ reachedKids ν s (raise s α (r .value)) (lower s β (r .value)) ts)
+    → q .evaluated ≡ reachedChildren ν s (raise s α (r .value)) (lower s β (r .value)) ts)
     → (c : Bool) → ltb (raise s α (r .value)) (lower s β (r .value)) ≡ c
-    → onward c r q .evaluated ≡ w ++ reachedKids ν s (raise s α m) (lower s β m) ts
+    → onward c r q .evaluated ≡ w ++ reachedChildren ν s (raise s α m) (lower s β m) ts
 onward-evaluated ν s α β m ts w r q o e d f true t =
     let h : raise s α (r .value) < lower s β (r .value) = ltb-true _ _ t in
     let k = raise-open s α β m (r .value) e h in
-    ap₂ _++_ d (f h ∙ ap₂ (λ a b. reachedKids ν s a b ts) (k .0) (k .1))
+    ap₂ _++_ d (f h ∙ ap₂ (λ a b. reachedChildren ν s a b ts) (k .0) (k .1))
 onward-evaluated ν s α β m ts w r q o e d f false t =
-    let k = closedKids ν s (raise s α m) (lower s β m) (raise-shut s α β m (r .value) o e (ltb-false _ _ t)) ts in
+    let k = closedChildren ν s (raise s α m) (lower s β m) (raise-shut s α β m (r .value) o e (ltb-false _ _ t)) ts in
     d ∙ sym (append-nil w) ∙ ap (λ l. w ++ l) (sym k)
 
 -- alpha-beta evaluates the leaves of Baudet's condition
 mutual
   pub alphaBeta-evaluated : (ν : ℕ → ℕ) (α β : ℕ) → α < β → (t : Tree) → alphaBeta ν α β t .evaluated ≡ reached ν α β t
   alphaBeta-evaluated ν α β o (leaf n) = simp (lt-ltb α β o)
-  alphaBeta-evaluated ν α β o (inner n s ks) = alphaBetaKids-evaluated ν s α β o ks
+  alphaBeta-evaluated ν α β o (inner n s ks) = alphaBetaChildren-evaluated ν s α β o ks
 
-  alphaBetaKids-evaluated : (ν : ℕ → ℕ) (s : Side) (α β : ℕ) → α < β → (ks : Kids)
-      → alphaBetaKids ν s α β ks .evaluated ≡ reachedKids ν s α β ks
-  alphaBetaKids-evaluated ν s α β o (last t) = alphaBeta-evaluated ν α β o t
-  alphaBetaKids-evaluated ν s α β o (t then ts) =
+  alphaBetaChildren-evaluated : (ν : ℕ → ℕ) (s : Side) (α β : ℕ) → α < β → (ks : Children)
+      → alphaBetaChildren ν s α β ks .evaluated ≡ reachedChildren ν s α β ks
+  alphaBetaChildren-evaluated ν s α β o (last t) = alphaBeta-evaluated ν α β o t
+  alphaBetaChildren-evaluated ν s α β o (t then ts) =
       onward-evaluated ν s α β (minimax ν t) ts (reached ν α β t) (alphaBeta ν α β t) _ o (alphaBeta-value ν α β o t)
-      (alphaBeta-evaluated ν α β o t) (λ h. alphaBetaKids-evaluated ν s _ _ h ts) _ refl
+      (alphaBeta-evaluated ν α β o t) (λ h. alphaBetaChildren-evaluated ν s _ _ h ts) _ refl
 
 sub-append : {xs ys us vs : List ℕ} → Subsequence xs ys → Subsequence us vs → Subsequence (xs ++ us) (ys ++ vs)
 sub-append end q = q
@@ -135,55 +135,55 @@ sub-leaf false n = skip end
 mutual
   pub reached-ordered : (ν : ℕ → ℕ) (α β : ℕ) (t : Tree) → Subsequence (reached ν α β t) (leaves t)
   reached-ordered ν α β (leaf n) = sub-leaf (ltb α β) n
-  reached-ordered ν α β (inner n s ks) = reachedKids-ordered ν s α β ks
+  reached-ordered ν α β (inner n s ks) = reachedChildren-ordered ν s α β ks
 
-  reachedKids-ordered : (ν : ℕ → ℕ) (s : Side) (α β : ℕ) (ks : Kids)
-      → Subsequence (reachedKids ν s α β ks) (leavesKids ks)
-  reachedKids-ordered ν s α β (last t) = reached-ordered ν α β t
-  reachedKids-ordered ν s α β (t then ts) = sub-append (reached-ordered ν α β t) (reachedKids-ordered ν s _ _ ts)
+  reachedChildren-ordered : (ν : ℕ → ℕ) (s : Side) (α β : ℕ) (ks : Children)
+      → Subsequence (reachedChildren ν s α β ks) (leavesChildren ks)
+  reachedChildren-ordered ν s α β (last t) = reached-ordered ν α β t
+  reachedChildren-ordered ν s α β (t then ts) = sub-append (reached-ordered ν α β t) (reachedChildren-ordered ν s _ _ ts)
 
 module _ (P : ℕ → Type 0) where
   -- what holds of the leaves of a step holds of the eldest child's
-  pub onward-first : (c : Bool) (r q : Found) → All P (onward c r q .evaluated) → All P (r .evaluated)
+  pub onward-first : (c : Bool) (r q : SearchResult) → All P (onward c r q .evaluated) → All P (r .evaluated)
   onward-first true r q h = all-left P (r .evaluated) (q .evaluated) h
   onward-first false r q h = h
 
   -- and of the rest's while the window is open
-  pub onward-rest : (c : Bool) (r q : Found) → c ≡ true → All P (onward c r q .evaluated) → All P (q .evaluated)
+  pub onward-rest : (c : Bool) (r q : SearchResult) → c ≡ true → All P (onward c r q .evaluated) → All P (q .evaluated)
   onward-rest true r q e h = all-right P (r .evaluated) (q .evaluated) h
   onward-rest false r q e h = absurd (true-not-false e refl)
 
   -- a step depends on the rest of the pass only if the window is open
-  onward-same : (c : Bool) (r q q′ : Found) → All P (onward c r q .evaluated) → (All P (q .evaluated) → q′ ≡ q)
+  onward-same : (c : Bool) (r q q′ : SearchResult) → All P (onward c r q .evaluated) → (All P (q .evaluated) → q′ ≡ q)
       → onward c r q′ ≡ onward c r q
   onward-same true r q q′ h f = ap (after r) (f (all-right P (r .evaluated) (q .evaluated) h))
   onward-same false r q q′ h f = refl
 
 -- a pass over an eldest child with the result r and the others ts
-abbrev passFrom : (ℕ → ℕ) → Side → ℕ → ℕ → Kids → Found → Found
+abbrev passFrom : (ℕ → ℕ) → Side → ℕ → ℕ → Children → SearchResult → SearchResult
 passFrom ν s α β ts r =
     onward (ltb (raise s α (r .value)) (lower s β (r .value))) r
-    (alphaBetaKids ν s (raise s α (r .value)) (lower s β (r .value)) ts)
+    (alphaBetaChildren ν s (raise s α (r .value)) (lower s β (r .value)) ts)
 
 -- alpha-beta gives the same under valuations that agree on the leaves that it evaluates
 mutual
   pub alphaBeta-local : (ν μ : ℕ → ℕ) (α β : ℕ) (t : Tree) → All (λ n. ν n ≡ μ n) (alphaBeta ν α β t .evaluated)
       → alphaBeta μ α β t ≡ alphaBeta ν α β t
   alphaBeta-local ν μ α β (leaf n) h = rw (h .0) refl
-  alphaBeta-local ν μ α β (inner n s ks) h = alphaBetaKids-local ν μ s α β ks h
+  alphaBeta-local ν μ α β (inner n s ks) h = alphaBetaChildren-local ν μ s α β ks h
 
-  alphaBetaKids-local : (ν μ : ℕ → ℕ) (s : Side) (α β : ℕ) (ks : Kids)
-      → All (λ n. ν n ≡ μ n) (alphaBetaKids ν s α β ks .evaluated)
-      → alphaBetaKids μ s α β ks ≡ alphaBetaKids ν s α β ks
-  alphaBetaKids-local ν μ s α β (last t) h = alphaBeta-local ν μ α β t h
-  alphaBetaKids-local ν μ s α β (t then ts) h =
+  alphaBetaChildren-local : (ν μ : ℕ → ℕ) (s : Side) (α β : ℕ) (ks : Children)
+      → All (λ n. ν n ≡ μ n) (alphaBetaChildren ν s α β ks .evaluated)
+      → alphaBetaChildren μ s α β ks ≡ alphaBetaChildren ν s α β ks
+  alphaBetaChildren-local ν μ s α β (last t) h = alphaBeta-local ν μ α β t h
+  alphaBetaChildren-local ν μ s α β (t then ts) h =
       let r = alphaBeta ν α β t in
       let a = raise s α (r .value) in
       let b = lower s β (r .value) in
-      let q = alphaBetaKids ν s a b ts in
+      let q = alphaBetaChildren ν s a b ts in
       ap (passFrom μ s α β ts) (alphaBeta-local ν μ α β t (onward-first (λ n. ν n ≡ μ n) (ltb a b) r q h))
-      ∙ onward-same (λ n. ν n ≡ μ n) (ltb a b) r q (alphaBetaKids μ s a b ts) h
-      (λ k. alphaBetaKids-local ν μ s a b ts k)
+      ∙ onward-same (λ n. ν n ≡ μ n) (ltb a b) r q (alphaBetaChildren μ s a b ts) h
+      (λ k. alphaBetaChildren-local ν μ s a b ts k)
 
 -- the set E has the leaves that alpha-beta evaluates with this window
 abbrev pub Covers : (ℕ → ℕ) → (ℕ → Bool) → ℕ → ℕ → Tree → Type 0

@@ -4,9 +4,9 @@ use mathlib.Core.Path.{_≡_, refl, sym, _∙_}
 use mathlib.Core.Bool.{Bool, true, _&&_}
 use lib.Dec.{eqb}
 use borrow.Author.Tests.{eqb-true, eq-eqb}
-use Rattle.gametree.specs.Tree.{Side, Max, Min, Tree, leaf, inner, Kids, last, _then_, number}
-use Rattle.gametree.specs.Certificate.{Rules, RulesKids, solutionValue, Certifies}
-use Rattle.gametree.proofs.certificates.Counting.{members, required, rulesHold, rulesHoldKids, certificate?}
+use Rattle.gametree.specs.Tree.{Side, Max, Min, Tree, leaf, inner, Children, last, _then_, number}
+use Rattle.gametree.specs.Certificate.{Rules, RulesChildren, solutionValue, Certifies}
+use Rattle.gametree.proofs.certificates.Counting.{members, required, rulesHold, rulesHoldChildren, certificate?}
 use Rattle.lists.proofs.Choice.{and-both}
 use Rattle.gametree.proofs.certificates.Solution.{rule-counted, counted-rule}
 
@@ -17,24 +17,24 @@ mutual
   rules-hold : (p : Side) (g : ℕ → Bool) (t : Tree) → Rules p g t → rulesHold p g t ≡ true
   rules-hold p g (leaf n) r = refl
   rules-hold p g (inner n q ks) r =
-      and-intro (eq-eqb _ _ (rule-counted p q (g n) g ks (r .0))) (rulesKids-hold p g ks (r .1))
+      and-intro (eq-eqb _ _ (rule-counted p q (g n) g ks (r .0))) (rulesChildren-hold p g ks (r .1))
 
-  rulesKids-hold : (p : Side) (g : ℕ → Bool) (ks : Kids) → RulesKids p g ks → rulesHoldKids p g ks ≡ true
-  rulesKids-hold p g (last t) r = rules-hold p g t r
-  rulesKids-hold p g (t then ts) r = and-intro (rules-hold p g t (r .0)) (rulesKids-hold p g ts (r .1))
+  rulesChildren-hold : (p : Side) (g : ℕ → Bool) (ks : Children) → RulesChildren p g ks → rulesHoldChildren p g ks ≡ true
+  rulesChildren-hold p g (last t) r = rules-hold p g t r
+  rulesChildren-hold p g (t then ts) r = and-intro (rules-hold p g t (r .0)) (rulesChildren-hold p g ts (r .1))
 
 mutual
   hold-rules : (p : Side) (g : ℕ → Bool) (t : Tree) → rulesHold p g t ≡ true → Rules p g t
   hold-rules p g (leaf n) e = tt
   hold-rules p g (inner n q ks) e =
       let k = and-both (eqb (members g ks) (required p q (g n) ks)) _ e in
-      (counted-rule p q (g n) g ks (eqb-true _ _ (k .0)), hold-rulesKids p g ks (k .1))
+      (counted-rule p q (g n) g ks (eqb-true _ _ (k .0)), hold-rulesChildren p g ks (k .1))
 
-  hold-rulesKids : (p : Side) (g : ℕ → Bool) (ks : Kids) → rulesHoldKids p g ks ≡ true → RulesKids p g ks
-  hold-rulesKids p g (last t) e = hold-rules p g t e
-  hold-rulesKids p g (t then ts) e =
+  hold-rulesChildren : (p : Side) (g : ℕ → Bool) (ks : Children) → rulesHoldChildren p g ks ≡ true → RulesChildren p g ks
+  hold-rulesChildren p g (last t) e = hold-rules p g t e
+  hold-rulesChildren p g (t then ts) e =
       let k = and-both (rulesHold p g t) _ e in
-      (hold-rules p g t (k .0), hold-rulesKids p g ts (k .1))
+      (hold-rules p g t (k .0), hold-rulesChildren p g ts (k .1))
 
 -- a certificate passes
 pub certificate-passes : (ν : ℕ → ℕ) (t : Tree) (g h : ℕ → Bool) (v : ℕ) → Certifies ν t g h v

@@ -4,12 +4,12 @@ use native.Mathlib.Nat.{le-refl}
 use native.Mathlib.Omega.{arith}
 use mathlib.Core.Path.{_≡_, refl, sym, _∙_, ap₂}
 use mathlib.Core.Bool.{Bool, true, false, cond}
-use Rattle.gametree.specs.Tree.{Side, Max, Min, Tree, leaf, inner, Kids, last, _then_, greatest, better, minimax}
-use Rattle.gametree.specs.Tree.{EveryLeafKids, Score, Proper}
+use Rattle.gametree.specs.Tree.{Side, Max, Min, Tree, leaf, inner, Children, last, _then_, greatest, better, minimax}
+use Rattle.gametree.specs.Tree.{EveryLeafChildren, Score, Proper}
 use Rattle.gametree.specs.Bounds.{known, Decided}
-use Rattle.gametree.specs.Certificate.{Certifies, SolutionTree, worst, solutionValue, solutionValueKids, inside}
+use Rattle.gametree.specs.Certificate.{Certifies, SolutionTree, worst, solutionValue, solutionValueChildren, inside}
 use Rattle.gametree.specs.Certificate.{same}
-use Rattle.gametree.specs.Certificate.{fill, solutionOf, flag, LeavesIn}
+use Rattle.gametree.specs.Certificate.{unknownScore, solutionOf, flag, LeavesIn}
 use Rattle.gametree.proofs.minimax.Bounds.{every-map, minimax-score, known-capped}
 use Rattle.gametree.proofs.certificates.ReadOff.{ReadOff, Finite, read-solution, fits}
 
@@ -20,7 +20,7 @@ pub record FlagsCertify (ν : ℕ → ℕ) (E : ℕ → Bool) (t : Tree) : Type 
   pub minLeaves : LeavesIn (λ k. inside Min (flag ν E t k)) E t
 
 -- a side's bound: where it is finite, at a leaf and at a tree with real scores; and where the bounds meet
-finite-known : (p : Side) (b : Bool) (v : ℕ) → Finite p (cond b v (fill p)) → b ≡ true
+finite-known : (p : Side) (b : Bool) (v : ℕ) → Finite p (cond b v (unknownScore p)) → b ≡ true
 finite-known p true v h = refl
 finite-known Max false v h = absurd (omega arith)
 finite-known Min false v h = absurd (omega arith)
@@ -29,12 +29,12 @@ score-finite : (p : Side) (v : ℕ) → Score v → Finite p v
 score-finite Max v h = h .1
 score-finite Min v h = h .0
 
-fill≤ : (p : Side) → fill p ≤ greatest
-fill≤ Max = le-refl greatest
-fill≤ Min = omega arith
+unknownScore≤ : (p : Side) → unknownScore p ≤ greatest
+unknownScore≤ Max = le-refl greatest
+unknownScore≤ Min = omega arith
 
 decided-fill : (p : Side) (ν : ℕ → ℕ) (E : ℕ → Bool) (t : Tree) → Decided ν E t
-    → minimax (known ν E (fill p)) t ≡ minimax ν t
+    → minimax (known ν E (unknownScore p)) t ≡ minimax ν t
 decided-fill Max ν E t d = d .highIs
 decided-fill Min ν E t d = d .lowIs
 
@@ -48,24 +48,24 @@ mutual
   known-solution : (p : Side) (ν : ℕ → ℕ) (E : ℕ → Bool) (x : ℕ) (g : ℕ → Bool) (t : Tree) → LeavesIn g E t
       → solutionValue p (known ν E x) g t ≡ solutionValue p ν g t
   known-solution p ν E x g (leaf n) h = known-leaf (g n) (E n) (ν n) x (worst p) h
-  known-solution p ν E x g (inner n q ks) h = known-solutionKids p ν E x g ks h
+  known-solution p ν E x g (inner n q ks) h = known-solutionChildren p ν E x g ks h
 
-  known-solutionKids : (p : Side) (ν : ℕ → ℕ) (E : ℕ → Bool) (x : ℕ) (g : ℕ → Bool) (ks : Kids)
-      → EveryLeafKids (λ n. g n ≡ true → E n ≡ true) ks
-      → solutionValueKids p (known ν E x) g ks ≡ solutionValueKids p ν g ks
-  known-solutionKids p ν E x g (last t) h = known-solution p ν E x g t h
-  known-solutionKids p ν E x g (t then ts) h =
-      ap₂ (better p) (known-solution p ν E x g t (h .0)) (known-solutionKids p ν E x g ts (h .1))
+  known-solutionChildren : (p : Side) (ν : ℕ → ℕ) (E : ℕ → Bool) (x : ℕ) (g : ℕ → Bool) (ks : Children)
+      → EveryLeafChildren (λ n. g n ≡ true → E n ≡ true) ks
+      → solutionValueChildren p (known ν E x) g ks ≡ solutionValueChildren p ν g ks
+  known-solutionChildren p ν E x g (last t) h = known-solution p ν E x g t h
+  known-solutionChildren p ν E x g (t then ts) h =
+      ap₂ (better p) (known-solution p ν E x g t (h .0)) (known-solutionChildren p ν E x g ts (h .1))
 
 -- a side's tree that is read off its bounds
 pub read-bounds : (p : Side) (ν : ℕ → ℕ) (E : ℕ → Bool) (t : Tree) → Proper ν t → Decided ν E t → (g : ℕ → Bool)
-    → ReadOff p (known ν E (fill p)) g true t
+    → ReadOff p (known ν E (unknownScore p)) g true t
     → SolutionTree p g t × (solutionValue p ν g t ≡ minimax ν t) × LeavesIn g E t
 read-bounds p ν E t h d g r =
-    let x = fill p in
+    let x = unknownScore p in
     let e = decided-fill p ν E t d in
     let k =
-    read-solution p (known ν E x) g t (known-capped ν E x (fill≤ p) t (h .scored))
+    read-solution p (known ν E x) g t (known-capped ν E x (unknownScore≤ p) t (h .scored))
     (rw e (score-finite p (minimax ν t) (minimax-score ν t (h .scored)))) r in
     let i : LeavesIn g E t =
     every-map (λ n. g n ≡ true → Finite p (known ν E x n)) _ (λ n f j. finite-known p (E n) (ν n) (f j)) t (k .2) in

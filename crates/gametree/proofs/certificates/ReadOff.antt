@@ -6,26 +6,26 @@ use mathlib.Core.Logic.{_⊎_, inl, inr, ⊎-elim}
 use mathlib.Core.Bool.{Bool, true, false, cond, not, _&&_, _||_, and-true, and-false, or-false}
 use lib.Dec.{eqb}
 use borrow.Author.Tests.{eqb-true, eqb-false, eq-eqb, ne-eqb}
-use Rattle.gametree.specs.Tree.{Side, Max, Min, Tree, leaf, inner, Kids, last, _then_, least, greatest, better}
-use Rattle.gametree.specs.Tree.{minimax, minimaxKids, number, In, InKids, EveryLeaf, EveryLeafKids, Distinct}
-use Rattle.gametree.specs.Tree.{DistinctKids}
-use Rattle.gametree.specs.Certificate.{Each, NoneOf, OneOf, Rule, Rules, RulesKids, SolutionTree, worst}
-use Rattle.gametree.specs.Certificate.{solutionValue, solutionValueKids, same, chosen, chosenEach, chosenFirst}
+use Rattle.gametree.specs.Tree.{Side, Max, Min, Tree, leaf, inner, Children, last, _then_, least, greatest, better}
+use Rattle.gametree.specs.Tree.{minimax, minimaxChildren, number, In, InChildren, EveryLeaf, EveryLeafChildren, Distinct}
+use Rattle.gametree.specs.Tree.{DistinctChildren}
+use Rattle.gametree.specs.Certificate.{Each, NoneOf, OneOf, Rule, Rules, RulesChildren, SolutionTree, worst}
+use Rattle.gametree.specs.Certificate.{solutionValue, solutionValueChildren, same, chosen, chosenEach, chosenFirst}
 use Rattle.lists.proofs.Choice.{cond-cases, true-not-false, is-false, or-cases, and-both}
-use Rattle.gametree.proofs.minimax.Bounds.{every-map-kids, minimaxKids-within}
+use Rattle.gametree.proofs.minimax.Bounds.{every-map-kids, minimaxChildren-within}
 
 -- the set g is side p's tree read off μ, where b says whether the root is in it: the rule of `chosen`, node by node
 abbrev mutual
   pub ReadOff : Side → (ℕ → ℕ) → (ℕ → Bool) → Bool → Tree → Type 0
   ReadOff p μ g b (leaf n) = g n ≡ b
   ReadOff p μ g b (inner n q ks) =
-      (g n ≡ b) × cond (same p q) (ReadEach p μ g b ks) (ReadFirst p μ g b (minimaxKids μ q ks) ks)
+      (g n ≡ b) × cond (same p q) (ReadEach p μ g b ks) (ReadFirst p μ g b (minimaxChildren μ q ks) ks)
 
-  pub ReadEach : Side → (ℕ → ℕ) → (ℕ → Bool) → Bool → Kids → Type 0
+  pub ReadEach : Side → (ℕ → ℕ) → (ℕ → Bool) → Bool → Children → Type 0
   ReadEach p μ g b (last t) = ReadOff p μ g b t
   ReadEach p μ g b (t then ts) = ReadOff p μ g b t × ReadEach p μ g b ts
 
-  pub ReadFirst : Side → (ℕ → ℕ) → (ℕ → Bool) → Bool → ℕ → Kids → Type 0
+  pub ReadFirst : Side → (ℕ → ℕ) → (ℕ → Bool) → Bool → ℕ → Children → Type 0
   ReadFirst p μ g b v (last t) = ReadOff p μ g (b && eqb (minimax μ t) v) t
   ReadFirst p μ g b v (t then ts) =
       ReadOff p μ g (b && eqb (minimax μ t) v) t × ReadFirst p μ g (b && not (eqb (minimax μ t) v)) v ts
@@ -58,12 +58,12 @@ better-second Min a b v e h = omega arith
 abbrev pub Capped : (ℕ → ℕ) → Tree → Type 0
 Capped μ t = EveryLeaf (λ n. μ n ≤ greatest) t
 
-abbrev CappedKids : (ℕ → ℕ) → Kids → Type 0
-CappedKids μ ks = EveryLeafKids (λ n. μ n ≤ greatest) ks
+abbrev CappedChildren : (ℕ → ℕ) → Children → Type 0
+CappedChildren μ ks = EveryLeafChildren (λ n. μ n ≤ greatest) ks
 
 -- nor has it a greater minimax value
-capped-value : (μ : ℕ → ℕ) (q : Side) (ks : Kids) → CappedKids μ ks → minimaxKids μ q ks ≤ greatest
-capped-value μ q ks i = minimaxKids-within 0 greatest μ q ks (every-map-kids _ _ (λ n h. (omega arith, h)) ks i) .1
+capped-value : (μ : ℕ → ℕ) (q : Side) (ks : Children) → CappedChildren μ ks → minimaxChildren μ q ks ≤ greatest
+capped-value μ q ks i = minimaxChildren-within 0 greatest μ q ks (every-map-kids _ _ (λ n h. (omega arith, h)) ks i) .1
 
 -- what is read off in a tree, and in the children of a node: all of them, or the first with the value
 record ReadTree (p : Side) (μ : ℕ → ℕ) (g : ℕ → Bool) (b : Bool) (t : Tree) : Type 0 where
@@ -71,12 +71,12 @@ record ReadTree (p : Side) (μ : ℕ → ℕ) (g : ℕ → Bool) (b : Bool) (t :
   value : solutionValue p μ g t ≡ cond b (minimax μ t) (worst p)
   finite : EveryLeaf (λ n. g n ≡ true → Finite p (μ n)) t
 
-record ReadKids (p : Side) (μ : ℕ → ℕ) (g : ℕ → Bool) (b : Bool) (ks : Kids) (Some : Type 0) (v : ℕ) : Type 0 where
-  rules : RulesKids p g ks
+record ReadChildren (p : Side) (μ : ℕ → ℕ) (g : ℕ → Bool) (b : Bool) (ks : Children) (Some : Type 0) (v : ℕ) : Type 0 where
+  rules : RulesChildren p g ks
   ifIn : b ≡ true → Some
   ifOut : b ≡ false → NoneOf g ks
-  value : solutionValueKids p μ g ks ≡ cond b v (worst p)
-  finite : EveryLeafKids (λ n. g n ≡ true → Finite p (μ n)) ks
+  value : solutionValueChildren p μ g ks ≡ cond b v (worst p)
+  finite : EveryLeafChildren (λ n. g n ≡ true → Finite p (μ n)) ks
 
 -- the root is in the set as b says
 pub read-root : (p : Side) (μ : ℕ → ℕ) (g : ℕ → Bool) (b : Bool) (t : Tree) → ReadOff p μ g b t → g (number t) ≡ b
@@ -115,14 +115,14 @@ false-and : (b c : Bool) → b ≡ false → b && c ≡ false
 false-and b c e = rw e refl
 
 -- the rule of a node from what was read off its children
-rule-from : (b : Bool) (g : ℕ → Bool) (ks : Kids) (Some : Type 0) (R : Bool → Type 0) → (Some → R true)
+rule-from : (b : Bool) (g : ℕ → Bool) (ks : Children) (Some : Type 0) (R : Bool → Type 0) → (Some → R true)
     → (NoneOf g ks → R false) → (b ≡ true → Some) → (b ≡ false → NoneOf g ks) → R b
 rule-from true g ks Some R f h k l = f (k refl)
 rule-from false g ks Some R f h k l = h (l refl)
 
 -- what is read off an inner node, from what was read off its children
-read-node : (p q : Side) (μ : ℕ → ℕ) (g : ℕ → Bool) (b : Bool) (n : ℕ) (ks : Kids) {Some : Type 0}
-    → (Some → Rule p q true g ks) → g n ≡ b → ReadKids p μ g b ks Some (minimaxKids μ q ks)
+read-node : (p q : Side) (μ : ℕ → ℕ) (g : ℕ → Bool) (b : Bool) (n : ℕ) (ks : Children) {Some : Type 0}
+    → (Some → Rule p q true g ks) → g n ≡ b → ReadChildren p μ g b ks Some (minimaxChildren μ q ks)
     → ReadTree p μ g b (inner n q ks)
 read-node p q μ g b n ks f e k =
     record {
@@ -145,9 +145,9 @@ mutual
   read Min μ g b (inner n Min ks) i h r =
       read-node Min Min μ g b n ks (λ x. x) (r .0) (read-each Min μ g b ks i h (r .1))
 
-  read-each : (p : Side) (μ : ℕ → ℕ) (g : ℕ → Bool) (b : Bool) (ks : Kids) → CappedKids μ ks
-      → (b ≡ true → Finite p (minimaxKids μ p ks))
-      → ReadEach p μ g b ks → ReadKids p μ g b ks (Each g ks) (minimaxKids μ p ks)
+  read-each : (p : Side) (μ : ℕ → ℕ) (g : ℕ → Bool) (b : Bool) (ks : Children) → CappedChildren μ ks
+      → (b ≡ true → Finite p (minimaxChildren μ p ks))
+      → ReadEach p μ g b ks → ReadChildren p μ g b ks (Each g ks) (minimaxChildren μ p ks)
   read-each p μ g b (last t) i h r =
       let x = read p μ g b t i h r in
       let e = read-root p μ g b t r in
@@ -164,8 +164,8 @@ mutual
         finite = (x .finite, y .finite);
       }
 
-  read-first : (p q : Side) (μ : ℕ → ℕ) (g : ℕ → Bool) (b : Bool) (v : ℕ) (ks : Kids) → CappedKids μ ks
-      → (b ≡ true → Finite p v × (minimaxKids μ q ks ≡ v)) → ReadFirst p μ g b v ks → ReadKids p μ g b ks (OneOf g ks) v
+  read-first : (p q : Side) (μ : ℕ → ℕ) (g : ℕ → Bool) (b : Bool) (v : ℕ) (ks : Children) → CappedChildren μ ks
+      → (b ≡ true → Finite p v × (minimaxChildren μ q ks ≡ v)) → ReadFirst p μ g b v ks → ReadChildren p μ g b ks (OneOf g ks) v
   read-first p q μ g b v (last t) i h r =
       let c = eqb (minimax μ t) v in
       let x =
@@ -217,18 +217,18 @@ mutual
   chosen-in p μ b (inner n q ks) k e =
       ⊎-elim (λ z. inl (eqb-true k n (and-both b (eqb k n) z .1)))
       (λ z.
-      inr (cond-cases (λ x. x ≡ true → InKids k ks) (same p q) _ _ (λ _ y. chosenEach-in p μ b ks k y)
-      (λ _ y. chosenFirst-in p μ b (minimaxKids μ q ks) ks k y) z))
+      inr (cond-cases (λ x. x ≡ true → InChildren k ks) (same p q) _ _ (λ _ y. chosenEach-in p μ b ks k y)
+      (λ _ y. chosenFirst-in p μ b (minimaxChildren μ q ks) ks k y) z))
       (or-cases (b && eqb k n) _ e)
 
-  chosenEach-in : (p : Side) (μ : ℕ → ℕ) (b : Bool) (ks : Kids) (k : ℕ) → chosenEach p μ b ks k ≡ true → InKids k ks
+  chosenEach-in : (p : Side) (μ : ℕ → ℕ) (b : Bool) (ks : Children) (k : ℕ) → chosenEach p μ b ks k ≡ true → InChildren k ks
   chosenEach-in p μ b (last t) k e = chosen-in p μ b t k e
   chosenEach-in p μ b (t then ts) k e =
       ⊎-elim (λ z. inl (chosen-in p μ b t k z)) (λ z. inr (chosenEach-in p μ b ts k z))
       (or-cases (chosen p μ b t k) _ e)
 
-  chosenFirst-in : (p : Side) (μ : ℕ → ℕ) (b : Bool) (v : ℕ) (ks : Kids) (k : ℕ) → chosenFirst p μ b v ks k ≡ true
-      → InKids k ks
+  chosenFirst-in : (p : Side) (μ : ℕ → ℕ) (b : Bool) (v : ℕ) (ks : Children) (k : ℕ) → chosenFirst p μ b v ks k ≡ true
+      → InChildren k ks
   chosenFirst-in p μ b v (last t) k e = chosen-in p μ (b && eqb (minimax μ t) v) t k e
   chosenFirst-in p μ b v (t then ts) k e =
       ⊎-elim (λ z. inl (chosen-in p μ (b && eqb (minimax μ t) v) t k z))
@@ -236,18 +236,18 @@ mutual
       (or-cases (chosen p μ (b && eqb (minimax μ t) v) t k) _ e)
 
 -- a set that is a node's own part and its children's part K: what it is at the node and at its children
-node-fits : (g K : ℕ → Bool) (b : Bool) (n : ℕ) (ks : Kids) → (InKids n ks → ⊥) → ((k : ℕ) → K k ≡ true → InKids k ks)
-    → ((k : ℕ) → (k ≡ n) ⊎ InKids k ks → g k ≡ (b && eqb k n) || K k) → (g n ≡ b) × ((k : ℕ) → InKids k ks → g k ≡ K k)
+node-fits : (g K : ℕ → Bool) (b : Bool) (n : ℕ) (ks : Children) → (InChildren n ks → ⊥) → ((k : ℕ) → K k ≡ true → InChildren k ks)
+    → ((k : ℕ) → (k ≡ n) ⊎ InChildren k ks → g k ≡ (b && eqb k n) || K k) → (g n ≡ b) × ((k : ℕ) → InChildren k ks → g k ≡ K k)
 node-fits g K b n ks d f h = (
   h n (inl refl) ∙ simp (eq-eqb n n refl, is-false (K n) (λ e. d (f n e)), and-true, or-false),
-  λ k i. h k (inr i) ∙ simp (ne-eqb k n (λ e. d (subst (λ x. InKids x ks) e i)), and-false),
+  λ k i. h k (inr i) ∙ simp (ne-eqb k n (λ e. d (subst (λ x. InChildren x ks) e i)), and-false),
 )
 
 -- a set that is the first child's part A and the others' part B
-kids-fit : (g A B : ℕ → Bool) (t : Tree) (ts : Kids) → ((k : ℕ) → In k t → InKids k ts → ⊥)
+kids-fit : (g A B : ℕ → Bool) (t : Tree) (ts : Children) → ((k : ℕ) → In k t → InChildren k ts → ⊥)
     → ((k : ℕ) → A k ≡ true → In k t)
-    → ((k : ℕ) → B k ≡ true → InKids k ts) → ((k : ℕ) → In k t ⊎ InKids k ts → g k ≡ A k || B k)
-    → ((k : ℕ) → In k t → g k ≡ A k) × ((k : ℕ) → InKids k ts → g k ≡ B k)
+    → ((k : ℕ) → B k ≡ true → InChildren k ts) → ((k : ℕ) → In k t ⊎ InChildren k ts → g k ≡ A k || B k)
+    → ((k : ℕ) → In k t → g k ≡ A k) × ((k : ℕ) → InChildren k ts → g k ≡ B k)
 kids-fit g A B t ts d a b h = (
   λ k i. h k (inl i) ∙ simp (is-false (B k) (λ e. d k i (b k e)), or-false),
   λ k i. h k (inr i) ∙ simp (is-false (A k) (λ e. d k (a k e) i)),
@@ -272,16 +272,16 @@ mutual
       let k = node-fits g (chosenEach Min μ b ks) b n ks (d .0) (chosenEach-in Min μ b ks) h in
       (k .0, fits-each Min μ g b ks (d .1) (k .1))
 
-  fits-each : (p : Side) (μ : ℕ → ℕ) (g : ℕ → Bool) (b : Bool) (ks : Kids) → DistinctKids ks
-      → ((k : ℕ) → InKids k ks → g k ≡ chosenEach p μ b ks k) → ReadEach p μ g b ks
+  fits-each : (p : Side) (μ : ℕ → ℕ) (g : ℕ → Bool) (b : Bool) (ks : Children) → DistinctChildren ks
+      → ((k : ℕ) → InChildren k ks → g k ≡ chosenEach p μ b ks k) → ReadEach p μ g b ks
   fits-each p μ g b (last t) d h = fits p μ g b t d h
   fits-each p μ g b (t then ts) d h =
       let k =
       kids-fit g (chosen p μ b t) (chosenEach p μ b ts) t ts (d .2) (chosen-in p μ b t) (chosenEach-in p μ b ts) h in
       (fits p μ g b t (d .0) (k .0), fits-each p μ g b ts (d .1) (k .1))
 
-  fits-first : (p : Side) (μ : ℕ → ℕ) (g : ℕ → Bool) (b : Bool) (v : ℕ) (ks : Kids) → DistinctKids ks
-      → ((k : ℕ) → InKids k ks → g k ≡ chosenFirst p μ b v ks k) → ReadFirst p μ g b v ks
+  fits-first : (p : Side) (μ : ℕ → ℕ) (g : ℕ → Bool) (b : Bool) (v : ℕ) (ks : Children) → DistinctChildren ks
+      → ((k : ℕ) → InChildren k ks → g k ≡ chosenFirst p μ b v ks k) → ReadFirst p μ g b v ks
   fits-first p μ g b v (last t) d h = fits p μ g _ t d h
   fits-first p μ g b v (t then ts) d h =
       let k =

@@ -6,9 +6,9 @@ use native.Mathlib.Omega.{arith}
 use native.Mathlib.Nat.{pow-zero, pow-suc, mul-comm, suc-mul}
 use mathlib.Core.Path.{_≡_, refl, sym, ap, ap₂, _∙_}
 use mathlib.Core.Bool.{Bool, true, false, cond}
-use Rattle.gametree.specs.Tree.{Side, Max, Min, Tree, leaf, inner, Kids, last, _then_, other, number, leafCount}
-use Rattle.gametree.specs.Tree.{leafCountKids}
-use Rattle.gametree.specs.Certificate.{Rules, RulesKids, SolutionTree, same, pairLeaves}
+use Rattle.gametree.specs.Tree.{Side, Max, Min, Tree, leaf, inner, Children, last, _then_, other, number, leafCount}
+use Rattle.gametree.specs.Tree.{leafCountChildren}
+use Rattle.gametree.specs.Certificate.{Rules, RulesChildren, SolutionTree, same, pairLeaves}
 use Rattle.gametree.proofs.certificates.Counting.{kidCount, members}
 use Rattle.gametree.proofs.certificates.Solution.{rule-counted}
 use Rattle.gametree.proofs.certificates.SharedLeaf.{pair-shares-one}
@@ -18,11 +18,11 @@ abbrev mutual
   pub Regular : (w d : ℕ) → Side → Tree → Type 0
   Regular w d s (leaf n) = d ≡ 0
   Regular w zero s (inner n q ks) = ⊥
-  Regular w (suc d) s (inner n q ks) = (q ≡ s) × (kidCount ks ≡ w) × RegularKids w d (other s) ks
+  Regular w (suc d) s (inner n q ks) = (q ≡ s) × (kidCount ks ≡ w) × RegularChildren w d (other s) ks
 
-  pub RegularKids : (w d : ℕ) → Side → Kids → Type 0
-  RegularKids w d s (last t) = Regular w d s t
-  RegularKids w d s (t then ts) = Regular w d s t × RegularKids w d s ts
+  pub RegularChildren : (w d : ℕ) → Side → Children → Type 0
+  RegularChildren w d s (last t) = Regular w d s t
+  RegularChildren w d s (t then ts) = Regular w d s t × RegularChildren w d s ts
 
 -- how many leaves side p's solution tree has where s moves at the root
 abbrev sizeFor : Side → Side → (w d : ℕ) → ℕ
@@ -46,18 +46,18 @@ mutual
       → leafCount g t ≡ cond (g (number t)) (sizeFor p s w d) 0
   solution-leaves p s w d g (leaf n) r x = rw r
   solution-leaves p s w (suc d) g (inner n q ks) r x =
-      solution-leavesKids p (other s) w d g ks (r .2) (x .1)
+      solution-leavesChildren p (other s) w d g ks (r .2) (x .1)
       ∙ ap (λ m. m * sizeFor p (other s) w d) (rule-counted p q (g n) g ks (x .0))
       ∙ count-times (g n) (cond (same p q) (kidCount ks) 1) (sizeFor p (other s) w d)
       ∙ ap₂ (λ z k. cond (g n) (cond (same p z) k 1 * sizeFor p (other s) w d) 0) (r .0) (r .1)
   solution-leaves p s w zero g (inner n q ks) r x = absurd r
 
-  solution-leavesKids : (p s : Side) (w d : ℕ) (g : ℕ → Bool) (ks : Kids) → RegularKids w d s ks → RulesKids p g ks
-      → leafCountKids g ks ≡ members g ks * sizeFor p s w d
-  solution-leavesKids p s w d g (last t) r x =
+  solution-leavesChildren : (p s : Side) (w d : ℕ) (g : ℕ → Bool) (ks : Children) → RegularChildren w d s ks → RulesChildren p g ks
+      → leafCountChildren g ks ≡ members g ks * sizeFor p s w d
+  solution-leavesChildren p s w d g (last t) r x =
       solution-leaves p s w d g t r x ∙ one-times (g (number t)) (sizeFor p s w d)
-  solution-leavesKids p s w d g (t then ts) r x =
-      ap₂ _+_ (solution-leaves p s w d g t (r .0) (x .0)) (solution-leavesKids p s w d g ts (r .1) (x .1))
+  solution-leavesChildren p s w d g (t then ts) r x =
+      ap₂ _+_ (solution-leaves p s w d g t (r .0) (x .0)) (solution-leavesChildren p s w d g ts (r .1) (x .1))
       ∙ one-more (g (number t)) (members g ts) (sizeFor p s w d)
 
 -- one more level: a power of one more where the side moves, else the same power

@@ -9,12 +9,12 @@ use lib.Dec.{leb, eqb}
 use lib.ListN.{length}
 use borrow.Author.Tests.{leb-true, leb-false, eqb-true, eqb-false, eq-eqb}
 use Rattle.lists.specs.Lists.{All, among}
-use Rattle.gametree.specs.Tree.{Side, Max, Min, Tree, leaf, inner, Kids, last, _then_, better, minimax, number}
-use Rattle.gametree.specs.Tree.{In, InKids, Proper}
-use Rattle.gametree.specs.Certificate.{solutionValue, solutionValueKids, pairLeaves, pairLeavesKids, inside, flag}
+use Rattle.gametree.specs.Tree.{Side, Max, Min, Tree, leaf, inner, Children, last, _then_, better, minimax, number}
+use Rattle.gametree.specs.Tree.{In, InChildren, Proper}
+use Rattle.gametree.specs.Certificate.{solutionValue, solutionValueChildren, pairLeaves, pairLeavesChildren, inside, flag}
 use Rattle.gametree.specs.Certificate.{Smallest}
 use Rattle.gametree.proofs.certificates.Flags.{FlagsCertify}
-use Rattle.gametree.proofs.certificates.Counting.{members, rulesHold, rulesHoldKids, certificate?}
+use Rattle.gametree.proofs.certificates.Counting.{members, rulesHold, rulesHoldChildren, certificate?}
 use Rattle.lists.proofs.Choice.{cond-cases, true-not-false, or-left, or-right}
 use Rattle.lists.proofs.Lists.{all-left, all-right, all-map, all-at, among-left, among-right}
 use Rattle.gametree.proofs.minimax.Nodes.{number-in}
@@ -34,10 +34,10 @@ smallest≤ ν t g h w r s p =
 abbrev pub Same : (g h : ℕ → Bool) → Tree → Type 0
 Same g h t = (k : ℕ) → In k t → g k ≡ h k
 
-abbrev SameKids : (g h : ℕ → Bool) → Kids → Type 0
-SameKids g h ks = (k : ℕ) → InKids k ks → g k ≡ h k
+abbrev SameChildren : (g h : ℕ → Bool) → Children → Type 0
+SameChildren g h ks = (k : ℕ) → InChildren k ks → g k ≡ h k
 
-members-same : (g h : ℕ → Bool) (ks : Kids) → SameKids g h ks → members g ks ≡ members h ks
+members-same : (g h : ℕ → Bool) (ks : Children) → SameChildren g h ks → members g ks ≡ members h ks
 members-same g h (last t) e = rw (e (number t) (number-in t)) refl
 members-same g h (t then ts) e = rw (e (number t) (inl (number-in t)), members-same g h ts (λ k i. e k (inr i))) refl
 
@@ -46,40 +46,40 @@ mutual
   rules-same : (p : Side) (g h : ℕ → Bool) (t : Tree) → Same g h t → rulesHold p g t ≡ rulesHold p h t
   rules-same p g h (leaf n) e = refl
   rules-same p g h (inner n q ks) e =
-      let f : SameKids g h ks = λ k i. e k (inr i) in
-      rw (members-same g h ks f, e n (inl refl), rulesKids-same p g h ks f) refl
+      let f : SameChildren g h ks = λ k i. e k (inr i) in
+      rw (members-same g h ks f, e n (inl refl), rulesChildren-same p g h ks f) refl
 
-  rulesKids-same : (p : Side) (g h : ℕ → Bool) (ks : Kids) → SameKids g h ks
-      → rulesHoldKids p g ks ≡ rulesHoldKids p h ks
-  rulesKids-same p g h (last t) e = rules-same p g h t e
-  rulesKids-same p g h (t then ts) e =
-      ap₂ _&&_ (rules-same p g h t (λ k i. e k (inl i))) (rulesKids-same p g h ts (λ k i. e k (inr i)))
+  rulesChildren-same : (p : Side) (g h : ℕ → Bool) (ks : Children) → SameChildren g h ks
+      → rulesHoldChildren p g ks ≡ rulesHoldChildren p h ks
+  rulesChildren-same p g h (last t) e = rules-same p g h t e
+  rulesChildren-same p g h (t then ts) e =
+      ap₂ _&&_ (rules-same p g h t (λ k i. e k (inl i))) (rulesChildren-same p g h ts (λ k i. e k (inr i)))
 
 mutual
   pub value-same : (p : Side) (ν : ℕ → ℕ) (g h : ℕ → Bool) (t : Tree) → Same g h t
       → solutionValue p ν g t ≡ solutionValue p ν h t
   value-same p ν g h (leaf n) e = rw (e n refl) refl
-  value-same p ν g h (inner n q ks) e = valueKids-same p ν g h ks (λ k i. e k (inr i))
+  value-same p ν g h (inner n q ks) e = valueChildren-same p ν g h ks (λ k i. e k (inr i))
 
-  valueKids-same : (p : Side) (ν : ℕ → ℕ) (g h : ℕ → Bool) (ks : Kids) → SameKids g h ks
-      → solutionValueKids p ν g ks ≡ solutionValueKids p ν h ks
-  valueKids-same p ν g h (last t) e = value-same p ν g h t e
-  valueKids-same p ν g h (t then ts) e =
-      ap₂ (better p) (value-same p ν g h t (λ k i. e k (inl i))) (valueKids-same p ν g h ts (λ k i. e k (inr i)))
+  valueChildren-same : (p : Side) (ν : ℕ → ℕ) (g h : ℕ → Bool) (ks : Children) → SameChildren g h ks
+      → solutionValueChildren p ν g ks ≡ solutionValueChildren p ν h ks
+  valueChildren-same p ν g h (last t) e = value-same p ν g h t e
+  valueChildren-same p ν g h (t then ts) e =
+      ap₂ (better p) (value-same p ν g h t (λ k i. e k (inl i))) (valueChildren-same p ν g h ts (λ k i. e k (inr i)))
 
 mutual
   pairLeaves-same : (g h g′ h′ : ℕ → Bool) (t : Tree) → Same g g′ t → Same h h′ t
       → pairLeaves g h t ≡ pairLeaves g′ h′ t
   pairLeaves-same g h g′ h′ (leaf n) e f = rw (e n refl, f n refl) refl
   pairLeaves-same g h g′ h′ (inner n q ks) e f =
-      pairLeavesKids-same g h g′ h′ ks (λ k i. e k (inr i)) (λ k i. f k (inr i))
+      pairLeavesChildren-same g h g′ h′ ks (λ k i. e k (inr i)) (λ k i. f k (inr i))
 
-  pairLeavesKids-same : (g h g′ h′ : ℕ → Bool) (ks : Kids) → SameKids g g′ ks → SameKids h h′ ks
-      → pairLeavesKids g h ks ≡ pairLeavesKids g′ h′ ks
-  pairLeavesKids-same g h g′ h′ (last t) e f = pairLeaves-same g h g′ h′ t e f
-  pairLeavesKids-same g h g′ h′ (t then ts) e f =
+  pairLeavesChildren-same : (g h g′ h′ : ℕ → Bool) (ks : Children) → SameChildren g g′ ks → SameChildren h h′ ks
+      → pairLeavesChildren g h ks ≡ pairLeavesChildren g′ h′ ks
+  pairLeavesChildren-same g h g′ h′ (last t) e f = pairLeaves-same g h g′ h′ t e f
+  pairLeavesChildren-same g h g′ h′ (t then ts) e f =
       ap₂ _+_ (pairLeaves-same g h g′ h′ t (λ k i. e k (inl i)) (λ k i. f k (inl i)))
-      (pairLeavesKids-same g h g′ h′ ts (λ k i. e k (inr i)) (λ k i. f k (inr i)))
+      (pairLeavesChildren-same g h g′ h′ ts (λ k i. e k (inr i)) (λ k i. f k (inr i)))
 
 certificate-same : (ν : ℕ → ℕ) (t : Tree) (g h g′ h′ : ℕ → Bool) → Same g g′ t → Same h h′ t
     → certificate? ν t g h ≡ certificate? ν t g′ h′
@@ -103,22 +103,22 @@ certificate-like ν t g h g′ h′ e f c = sym (certificate-same ν t g h g′ 
 abbrev mutual
   nodes : Tree → List ℕ
   nodes (leaf n) = n ∷ []
-  nodes (inner n q ks) = n ∷ nodesKids ks
+  nodes (inner n q ks) = n ∷ nodesChildren ks
 
-  nodesKids : Kids → List ℕ
-  nodesKids (last t) = nodes t
-  nodesKids (t then ts) = nodes t ++ nodesKids ts
+  nodesChildren : Children → List ℕ
+  nodesChildren (last t) = nodes t
+  nodesChildren (t then ts) = nodes t ++ nodesChildren ts
 
 mutual
   in-nodes : (k : ℕ) (t : Tree) → In k t → among (nodes t) k ≡ true
   in-nodes k (leaf n) e = or-left (eqb k n) false (eq-eqb k n e)
   in-nodes k (inner n q ks) (inl e) = or-left (eqb k n) _ (eq-eqb k n e)
-  in-nodes k (inner n q ks) (inr i) = or-right (eqb k n) _ (in-nodesKids k ks i)
+  in-nodes k (inner n q ks) (inr i) = or-right (eqb k n) _ (in-nodesChildren k ks i)
 
-  in-nodesKids : (k : ℕ) (ks : Kids) → InKids k ks → among (nodesKids ks) k ≡ true
-  in-nodesKids k (last t) i = in-nodes k t i
-  in-nodesKids k (t then ts) (inl i) = among-left (nodes t) (nodesKids ts) k (in-nodes k t i)
-  in-nodesKids k (t then ts) (inr i) = among-right (nodes t) (nodesKids ts) k (in-nodesKids k ts i)
+  in-nodesChildren : (k : ℕ) (ks : Children) → InChildren k ks → among (nodesChildren ks) k ≡ true
+  in-nodesChildren k (last t) i = in-nodes k t i
+  in-nodesChildren k (t then ts) (inl i) = among-left (nodes t) (nodesChildren ts) k (in-nodes k t i)
+  in-nodesChildren k (t then ts) (inr i) = among-right (nodes t) (nodesChildren ts) k (in-nodesChildren k ts i)
 
 -- a set with the number n put in or left out
 abbrev with : ℕ → Bool → (ℕ → Bool) → ℕ → Bool

@@ -5,10 +5,10 @@ use native.Mathlib.Omega.{arith}
 use mathlib.Core.Path.{_≡_, refl}
 use mathlib.Core.Logic.{_⊎_, inl, inr, ⊎-elim}
 use mathlib.Core.Bool.{Bool, true, false, cond}
-use Rattle.gametree.specs.Tree.{Side, Max, Min, Tree, leaf, inner, Kids, last, _then_, better, minimax}
-use Rattle.gametree.specs.Tree.{minimaxKids, number}
-use Rattle.gametree.specs.Certificate.{Each, NoneOf, OneOf, Rule, RulesKids, SolutionTree, solutionValue}
-use Rattle.gametree.specs.Certificate.{solutionValueKids, Certifies, same}
+use Rattle.gametree.specs.Tree.{Side, Max, Min, Tree, leaf, inner, Children, last, _then_, better, minimax}
+use Rattle.gametree.specs.Tree.{minimaxChildren, number}
+use Rattle.gametree.specs.Certificate.{Each, NoneOf, OneOf, Rule, RulesChildren, SolutionTree, solutionValue}
+use Rattle.gametree.specs.Certificate.{solutionValueChildren, Certifies, same}
 use Rattle.gametree.proofs.certificates.Counting.{kidCount, members, required}
 use Rattle.lists.proofs.Choice.{cond-cases, true-not-false}
 
@@ -58,14 +58,14 @@ mutual
   solution-bound Min ν g (inner n Max ks) r = one-bound Min Max refl ν g ks (r .1 .1) (rw (r .0) at (r .1 .0))
   solution-bound Min ν g (inner n Min ks) r = each-bound Min ν g ks (r .1 .1) (rw (r .0) at (r .1 .0))
 
-  each-bound : (p : Side) (ν : ℕ → ℕ) (g : ℕ → Bool) (ks : Kids) → RulesKids p g ks → Each g ks
-      → Under p (minimaxKids ν p ks) (solutionValueKids p ν g ks)
+  each-bound : (p : Side) (ν : ℕ → ℕ) (g : ℕ → Bool) (ks : Children) → RulesChildren p g ks → Each g ks
+      → Under p (minimaxChildren ν p ks) (solutionValueChildren p ν g ks)
   each-bound p ν g (last t) r m = solution-bound p ν g t (m, r)
   each-bound p ν g (t then ts) r m =
       under-better p _ _ _ _ (solution-bound p ν g t (m .0, r .0)) (each-bound p ν g ts (r .1) (m .1))
 
-  one-bound : (p q : Side) → same p q ≡ false → (ν : ℕ → ℕ) (g : ℕ → Bool) (ks : Kids) → RulesKids p g ks → OneOf g ks
-      → Under p (minimaxKids ν q ks) (solutionValueKids p ν g ks)
+  one-bound : (p q : Side) → same p q ≡ false → (ν : ℕ → ℕ) (g : ℕ → Bool) (ks : Children) → RulesChildren p g ks → OneOf g ks
+      → Under p (minimaxChildren ν q ks) (solutionValueChildren p ν g ks)
   one-bound p q e ν g (last t) r m = solution-bound p ν g t (m, r)
   one-bound p q e ν g (t then ts) r (inl m) =
       let a = minimax ν t in
@@ -73,8 +73,8 @@ mutual
       under-trans p _ a _ (under-other p q e a _ .0)
       (under-trans p a c _ (solution-bound p ν g t (m .0, r .0)) (under-own p c _ .0))
   one-bound p q e ν g (t then ts) r (inr m) =
-      let b = minimaxKids ν q ts in
-      let d = solutionValueKids p ν g ts in
+      let b = minimaxChildren ν q ts in
+      let d = solutionValueChildren p ν g ts in
       under-trans p _ b _ (under-other p q e _ b .1)
       (under-trans p b d _ (one-bound p q e ν g ts (r .1) (m .1)) (under-own p _ d .1))
 
@@ -89,22 +89,22 @@ certified ν t g h v c =
       solution-bound Min ν h t (c .minTree),
     )
 
-members≤ : (g : ℕ → Bool) (ks : Kids) → members g ks ≤ kidCount ks
+members≤ : (g : ℕ → Bool) (ks : Children) → members g ks ≤ kidCount ks
 members≤ g (last t) = cond-cases (λ x. x ≤ 1) (g (number t)) 1 0 (λ _. omega arith) (λ _. omega arith)
 members≤ g (t then ts) =
     let h = members≤ g ts in
     cond-cases (λ x. x + members g ts ≤ suc (kidCount ts)) (g (number t)) 1 0 (λ _. omega arith) (λ _. omega arith)
 
 -- a set's count of children says what a rule says
-none-count : (g : ℕ → Bool) (ks : Kids) → NoneOf g ks → members g ks ≡ 0
+none-count : (g : ℕ → Bool) (ks : Children) → NoneOf g ks → members g ks ≡ 0
 none-count g (last t) h = rw h refl
 none-count g (t then ts) h = rw (h .0, none-count g ts (h .1)) refl
 
-each-count : (g : ℕ → Bool) (ks : Kids) → Each g ks → members g ks ≡ kidCount ks
+each-count : (g : ℕ → Bool) (ks : Children) → Each g ks → members g ks ≡ kidCount ks
 each-count g (last t) h = rw h refl
 each-count g (t then ts) h = rw (h .0, each-count g ts (h .1)) (omega arith)
 
-one-count : (g : ℕ → Bool) (ks : Kids) → OneOf g ks → members g ks ≡ 1
+one-count : (g : ℕ → Bool) (ks : Children) → OneOf g ks → members g ks ≡ 1
 one-count g (last t) h = rw h refl
 one-count g (t then ts) (inl h) = rw (h .0, none-count g ts (h .1)) refl
 one-count g (t then ts) (inr h) = rw (h .0, one-count g ts (h .1)) refl
@@ -113,7 +113,7 @@ none-split : (b : Bool) (m : ℕ) → cond b 1 0 + m ≡ 0 → (b ≡ false) × 
 none-split true m e = absurd (omega arith)
 none-split false m e = (refl, omega arith)
 
-count-none : (g : ℕ → Bool) (ks : Kids) → members g ks ≡ 0 → NoneOf g ks
+count-none : (g : ℕ → Bool) (ks : Children) → members g ks ≡ 0 → NoneOf g ks
 count-none g (last t) e = none-split (g (number t)) 0 (omega arith) .0
 count-none g (t then ts) e = let k = none-split (g (number t)) (members g ts) e in (k .0, count-none g ts (k .1))
 
@@ -121,7 +121,7 @@ each-split : (b : Bool) (m s : ℕ) → cond b 1 0 + m ≡ suc s → m ≤ s →
 each-split true m s e h = (refl, omega arith)
 each-split false m s e h = absurd (omega arith)
 
-count-each : (g : ℕ → Bool) (ks : Kids) → members g ks ≡ kidCount ks → Each g ks
+count-each : (g : ℕ → Bool) (ks : Children) → members g ks ≡ kidCount ks → Each g ks
 count-each g (last t) e = each-split (g (number t)) 0 0 (omega arith) (omega arith) .0
 count-each g (t then ts) e =
     let k = each-split (g (number t)) (members g ts) (kidCount ts) e (members≤ g ts) in
@@ -131,14 +131,14 @@ one-split : (b : Bool) (m : ℕ) → cond b 1 0 + m ≡ 1 → ((b ≡ true) × (
 one-split true m e = inl (refl, omega arith)
 one-split false m e = inr (refl, omega arith)
 
-count-one : (g : ℕ → Bool) (ks : Kids) → members g ks ≡ 1 → OneOf g ks
+count-one : (g : ℕ → Bool) (ks : Children) → members g ks ≡ 1 → OneOf g ks
 count-one g (last t) e = each-split (g (number t)) 0 0 (omega arith) (omega arith) .0
 count-one g (t then ts) e =
     ⊎-elim (λ k. inl (k .0, count-none g ts (k .1))) (λ k. inr (k .0, count-one g ts (k .1)))
     (one-split (g (number t)) (members g ts) e)
 
 -- the rule of a node gives the count
-pub rule-counted : (p q : Side) (b : Bool) (g : ℕ → Bool) (ks : Kids) → Rule p q b g ks
+pub rule-counted : (p q : Side) (b : Bool) (g : ℕ → Bool) (ks : Children) → Rule p q b g ks
     → members g ks ≡ required p q b ks
 rule-counted p q false g ks r = none-count g ks r
 rule-counted Max Max true g ks r = each-count g ks r
@@ -147,7 +147,7 @@ rule-counted Min Max true g ks r = one-count g ks r
 rule-counted Min Min true g ks r = each-count g ks r
 
 -- and the count the rule
-pub counted-rule : (p q : Side) (b : Bool) (g : ℕ → Bool) (ks : Kids) → members g ks ≡ required p q b ks
+pub counted-rule : (p q : Side) (b : Bool) (g : ℕ → Bool) (ks : Children) → members g ks ≡ required p q b ks
     → Rule p q b g ks
 counted-rule p q false g ks e = count-none g ks e
 counted-rule Max Max true g ks e = count-each g ks e

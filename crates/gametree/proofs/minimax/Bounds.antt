@@ -6,8 +6,8 @@ use mathlib.Core.Path.{_≡_, refl, ap, fun-ext}
 use mathlib.Core.Bool.{Bool, true, false, cond}
 use mathlib.Core.List.{List, []}
 use Rattle.lists.specs.Lists.{All, among}
-use Rattle.gametree.specs.Tree.{Side, Max, Min, Tree, leaf, inner, Kids, last, _then_, least, greatest, better}
-use Rattle.gametree.specs.Tree.{minimax, minimaxKids, EveryLeaf, EveryLeafKids, Score, Scored}
+use Rattle.gametree.specs.Tree.{Side, Max, Min, Tree, leaf, inner, Children, last, _then_, least, greatest, better}
+use Rattle.gametree.specs.Tree.{minimax, minimaxChildren, EveryLeaf, EveryLeafChildren, Score, Scored}
 use Rattle.gametree.specs.Bounds.{known, low, high, bestOf}
 use Rattle.lists.proofs.Lists.{all-at}
 
@@ -22,8 +22,8 @@ mutual
   every-map P Q f (leaf n) h = f n h
   every-map P Q f (inner n s ks) h = every-map-kids P Q f ks h
 
-  pub every-map-kids : (P Q : ℕ → Type 0) → ((n : ℕ) → P n → Q n) → (ks : Kids) → EveryLeafKids P ks
-      → EveryLeafKids Q ks
+  pub every-map-kids : (P Q : ℕ → Type 0) → ((n : ℕ) → P n → Q n) → (ks : Children) → EveryLeafChildren P ks
+      → EveryLeafChildren Q ks
   every-map-kids P Q f (last t) h = every-map P Q f t h
   every-map-kids P Q f (t then ts) h = (every-map P Q f t (h .0), every-map-kids P Q f ts (h .1))
 
@@ -33,7 +33,7 @@ mutual
   every-leaf P f (leaf n) = f n
   every-leaf P f (inner n s ks) = every-leaf-kids P f ks
 
-  every-leaf-kids : (P : ℕ → Type 0) → ((n : ℕ) → P n) → (ks : Kids) → EveryLeafKids P ks
+  every-leaf-kids : (P : ℕ → Type 0) → ((n : ℕ) → P n) → (ks : Children) → EveryLeafChildren P ks
   every-leaf-kids P f (last t) = every-leaf P f t
   every-leaf-kids P f (t then ts) = (every-leaf P f t, every-leaf-kids P f ts)
 
@@ -41,12 +41,12 @@ mutual
 mutual
   pub minimax-mono : (μ ν : ℕ → ℕ) (t : Tree) → EveryLeaf (λ n. μ n ≤ ν n) t → minimax μ t ≤ minimax ν t
   minimax-mono μ ν (leaf n) h = h
-  minimax-mono μ ν (inner n s ks) h = minimaxKids-mono μ ν s ks h
+  minimax-mono μ ν (inner n s ks) h = minimaxChildren-mono μ ν s ks h
 
-  pub minimaxKids-mono : (μ ν : ℕ → ℕ) (s : Side) (ks : Kids) → EveryLeafKids (λ n. μ n ≤ ν n) ks
-      → minimaxKids μ s ks ≤ minimaxKids ν s ks
-  minimaxKids-mono μ ν s (last t) h = minimax-mono μ ν t h
-  minimaxKids-mono μ ν s (t then ts) h = better-mono s (minimax-mono μ ν t (h .0)) (minimaxKids-mono μ ν s ts (h .1))
+  pub minimaxChildren-mono : (μ ν : ℕ → ℕ) (s : Side) (ks : Children) → EveryLeafChildren (λ n. μ n ≤ ν n) ks
+      → minimaxChildren μ s ks ≤ minimaxChildren ν s ks
+  minimaxChildren-mono μ ν s (last t) h = minimax-mono μ ν t h
+  minimaxChildren-mono μ ν s (t then ts) h = better-mono s (minimax-mono μ ν t (h .0)) (minimaxChildren-mono μ ν s ts (h .1))
 
 -- the minimax value is within what holds the scores
 better-within : (s : Side) (l u : ℕ) {a b : ℕ} → (l ≤ a) × (a ≤ u) → (l ≤ b) × (b ≤ u)
@@ -58,13 +58,13 @@ mutual
   pub minimax-within : (l u : ℕ) (ν : ℕ → ℕ) (t : Tree) → EveryLeaf (λ n. (l ≤ ν n) × (ν n ≤ u)) t
       → (l ≤ minimax ν t) × (minimax ν t ≤ u)
   minimax-within l u ν (leaf n) h = h
-  minimax-within l u ν (inner n s ks) h = minimaxKids-within l u ν s ks h
+  minimax-within l u ν (inner n s ks) h = minimaxChildren-within l u ν s ks h
 
-  pub minimaxKids-within : (l u : ℕ) (ν : ℕ → ℕ) (s : Side) (ks : Kids) → EveryLeafKids (λ n. (l ≤ ν n) × (ν n ≤ u)) ks
-      → (l ≤ minimaxKids ν s ks) × (minimaxKids ν s ks ≤ u)
-  minimaxKids-within l u ν s (last t) h = minimax-within l u ν t h
-  minimaxKids-within l u ν s (t then ts) h =
-      better-within s l u (minimax-within l u ν t (h .0)) (minimaxKids-within l u ν s ts (h .1))
+  pub minimaxChildren-within : (l u : ℕ) (ν : ℕ → ℕ) (s : Side) (ks : Children) → EveryLeafChildren (λ n. (l ≤ ν n) × (ν n ≤ u)) ks
+      → (l ≤ minimaxChildren ν s ks) × (minimaxChildren ν s ks ≤ u)
+  minimaxChildren-within l u ν s (last t) h = minimax-within l u ν t h
+  minimaxChildren-within l u ν s (t then ts) h =
+      better-within s l u (minimax-within l u ν t (h .0)) (minimaxChildren-within l u ν s ts (h .1))
 
 -- the minimax value of a tree with real scores is a real score
 pub minimax-score : (ν : ℕ → ℕ) (t : Tree) → Scored ν t → Score (minimax ν t)
@@ -107,9 +107,9 @@ pub known-capped : (ν : ℕ → ℕ) (E : ℕ → Bool) (x : ℕ) → x ≤ gre
 known-capped ν E x k t h = every-map _ _ (λ n i. known≤ (E n) (ν n) x (i .1) k) t h
 
 -- the minimax value of children is the best of theirs
-pub minimaxKids-best : (ν : ℕ → ℕ) (s : Side) (ks : Kids) → minimaxKids ν s ks ≡ bestOf s (minimax ν) ks
-minimaxKids-best ν s (last t) = refl
-minimaxKids-best ν s (t then ts) = ap (better s (minimax ν t)) (minimaxKids-best ν s ts)
+pub minimaxChildren-best : (ν : ℕ → ℕ) (s : Side) (ks : Children) → minimaxChildren ν s ks ≡ bestOf s (minimax ν) ks
+minimaxChildren-best ν s (last t) = refl
+minimaxChildren-best ν s (t then ts) = ap (better s (minimax ν t)) (minimaxChildren-best ν s ts)
 
 known-leaf-local : (b : Bool) (x y z : ℕ) → (b ≡ true → x ≡ y) → cond b x z ≡ cond b y z
 known-leaf-local true x y z f = f refl

@@ -10,10 +10,10 @@ use lib.Dec.{eqb}
 use lib.ListN.{length, length-append}
 use borrow.Author.Tests.{eqb-true, ne-eqb}
 use Rattle.lists.specs.Lists.{All, among, Once}
-use Rattle.gametree.specs.Tree.{Tree, leaf, inner, Kids, last, _then_, In, InKids, EveryLeafKids, Distinct}
-use Rattle.gametree.specs.Tree.{DistinctKids, size, sizeKids, leaves, leavesKids, leafCount, leafCountKids}
+use Rattle.gametree.specs.Tree.{Tree, leaf, inner, Children, last, _then_, In, InChildren, EveryLeafChildren, Distinct}
+use Rattle.gametree.specs.Tree.{DistinctChildren, size, sizeChildren, leaves, leavesChildren, leafCount, leafCountChildren}
 use Rattle.gametree.specs.Layout.{has}
-use Rattle.gametree.specs.Certificate.{pairLeaves, pairLeavesKids, LeavesIn}
+use Rattle.gametree.specs.Certificate.{pairLeaves, pairLeavesChildren, LeavesIn}
 use Rattle.lists.proofs.Choice.{cond-cases, true-not-false, or-left, or-cases}
 use Rattle.lists.proofs.Lists.{among-left, among-right, all-zip, all-among, once-length}
 use Rattle.gametree.proofs.minimax.Nodes.{in-has, has-in}
@@ -28,38 +28,38 @@ pair-leaf false false c f g = omega arith
 mutual
   pub pairLeaves≤ : (g h E : ℕ → Bool) (t : Tree) → LeavesIn g E t → LeavesIn h E t → pairLeaves g h t ≤ leafCount E t
   pairLeaves≤ g h E (leaf n) i j = pair-leaf (g n) (h n) (E n) i j
-  pairLeaves≤ g h E (inner n q ks) i j = pairLeavesKids≤ g h E ks i j
+  pairLeaves≤ g h E (inner n q ks) i j = pairLeavesChildren≤ g h E ks i j
 
-  pairLeavesKids≤ : (g h E : ℕ → Bool) (ks : Kids) → EveryLeafKids (λ n. g n ≡ true → E n ≡ true) ks
-      → EveryLeafKids (λ n. h n ≡ true → E n ≡ true) ks → pairLeavesKids g h ks ≤ leafCountKids E ks
-  pairLeavesKids≤ g h E (last t) i j = pairLeaves≤ g h E t i j
-  pairLeavesKids≤ g h E (t then ts) i j =
-      omega (arith, pairLeaves≤ g h E t (i .0) (j .0), pairLeavesKids≤ g h E ts (i .1) (j .1))
+  pairLeavesChildren≤ : (g h E : ℕ → Bool) (ks : Children) → EveryLeafChildren (λ n. g n ≡ true → E n ≡ true) ks
+      → EveryLeafChildren (λ n. h n ≡ true → E n ≡ true) ks → pairLeavesChildren g h ks ≤ leafCountChildren E ks
+  pairLeavesChildren≤ g h E (last t) i j = pairLeaves≤ g h E t i j
+  pairLeavesChildren≤ g h E (t then ts) i j =
+      omega (arith, pairLeaves≤ g h E t (i .0) (j .0), pairLeavesChildren≤ g h E ts (i .1) (j .1))
 
 -- a number that is no node's is no leaf's
 mutual
   count-absent : (x : ℕ) (t : Tree) → (In x t → ⊥) → leafCount (λ n. eqb n x) t ≡ 0
   count-absent x (leaf n) h = rw (ne-eqb n x (λ e. h (sym e))) refl
-  count-absent x (inner n q ks) h = countKids-absent x ks (λ i. h (inr i))
+  count-absent x (inner n q ks) h = countChildren-absent x ks (λ i. h (inr i))
 
-  countKids-absent : (x : ℕ) (ks : Kids) → (InKids x ks → ⊥) → leafCountKids (λ n. eqb n x) ks ≡ 0
-  countKids-absent x (last t) h = count-absent x t h
-  countKids-absent x (t then ts) h =
-      omega (arith, count-absent x t (λ i. h (inl i)), countKids-absent x ts (λ i. h (inr i)))
+  countChildren-absent : (x : ℕ) (ks : Children) → (InChildren x ks → ⊥) → leafCountChildren (λ n. eqb n x) ks ≡ 0
+  countChildren-absent x (last t) h = count-absent x t h
+  countChildren-absent x (t then ts) h =
+      omega (arith, count-absent x t (λ i. h (inl i)), countChildren-absent x ts (λ i. h (inr i)))
 
 -- and else of one leaf at most
 mutual
   count-one : (x : ℕ) (t : Tree) → Distinct t → leafCount (λ n. eqb n x) t ≤ 1
   count-one x (leaf n) d = cond-cases (λ k. k ≤ 1) (eqb n x) 1 0 (λ _. omega arith) (λ _. omega arith)
-  count-one x (inner n q ks) d = countKids-one x ks (d .1)
+  count-one x (inner n q ks) d = countChildren-one x ks (d .1)
 
-  countKids-one : (x : ℕ) (ks : Kids) → DistinctKids ks → leafCountKids (λ n. eqb n x) ks ≤ 1
-  countKids-one x (last t) d = count-one x t d
-  countKids-one x (t then ts) d = either (has x t) refl (count-one x t (d .0)) (countKids-one x ts (d .1))
+  countChildren-one : (x : ℕ) (ks : Children) → DistinctChildren ks → leafCountChildren (λ n. eqb n x) ks ≤ 1
+  countChildren-one x (last t) d = count-one x t d
+  countChildren-one x (t then ts) d = either (has x t) refl (count-one x t (d .0)) (countChildren-one x ts (d .1))
     where
-      either : (b : Bool) → has x t ≡ b → leafCount (λ n. eqb n x) t ≤ 1 → leafCountKids (λ n. eqb n x) ts ≤ 1
-          → leafCount (λ n. eqb n x) t + leafCountKids (λ n. eqb n x) ts ≤ 1
-      either true e i j = omega (arith, countKids-absent x ts (λ k. d .2 x (has-in x t e) k))
+      either : (b : Bool) → has x t ≡ b → leafCount (λ n. eqb n x) t ≤ 1 → leafCountChildren (λ n. eqb n x) ts ≤ 1
+          → leafCount (λ n. eqb n x) t + leafCountChildren (λ n. eqb n x) ts ≤ 1
+      either true e i j = omega (arith, countChildren-absent x ts (λ k. d .2 x (has-in x t e) k))
       either false e i j = omega (arith, count-absent x t (λ k. true-not-false (in-has x t k) e))
 
 or-count : (a b : Bool) → cond (a || b) 1 0 ≤ cond a 1 0 + cond b 1 0
@@ -69,21 +69,21 @@ or-count false b = omega arith
 mutual
   count-or : (E F : ℕ → Bool) (t : Tree) → leafCount (λ n. E n || F n) t ≤ leafCount E t + leafCount F t
   count-or E F (leaf n) = or-count (E n) (F n)
-  count-or E F (inner n q ks) = countKids-or E F ks
+  count-or E F (inner n q ks) = countChildren-or E F ks
 
-  countKids-or : (E F : ℕ → Bool) (ks : Kids)
-      → leafCountKids (λ n. E n || F n) ks ≤ leafCountKids E ks + leafCountKids F ks
-  countKids-or E F (last t) = count-or E F t
-  countKids-or E F (t then ts) = omega (arith, count-or E F t, countKids-or E F ts)
+  countChildren-or : (E F : ℕ → Bool) (ks : Children)
+      → leafCountChildren (λ n. E n || F n) ks ≤ leafCountChildren E ks + leafCountChildren F ks
+  countChildren-or E F (last t) = count-or E F t
+  countChildren-or E F (t then ts) = omega (arith, count-or E F t, countChildren-or E F ts)
 
 mutual
   count-none : (t : Tree) → leafCount (λ n. false) t ≡ 0
   count-none (leaf n) = refl
-  count-none (inner n q ks) = countKids-none ks
+  count-none (inner n q ks) = countChildren-none ks
 
-  countKids-none : (ks : Kids) → leafCountKids (λ n. false) ks ≡ 0
-  countKids-none (last t) = count-none t
-  countKids-none (t then ts) = omega (arith, count-none t, countKids-none ts)
+  countChildren-none : (ks : Children) → leafCountChildren (λ n. false) ks ≡ 0
+  countChildren-none (last t) = count-none t
+  countChildren-none (t then ts) = omega (arith, count-none t, countChildren-none ts)
 
 -- a list names no more leaves than it is long
 pub count-list : (w : List ℕ) (t : Tree) → Distinct t → leafCount (among w) t ≤ length w
@@ -119,14 +119,14 @@ leaf-length false n = refl
 mutual
   filter-count : (E : ℕ → Bool) (t : Tree) → length (filter E (leaves t)) ≡ leafCount E t
   filter-count E (leaf n) = leaf-length (E n) n
-  filter-count E (inner n q ks) = filterKids-count E ks
+  filter-count E (inner n q ks) = filterChildren-count E ks
 
-  filterKids-count : (E : ℕ → Bool) (ks : Kids) → length (filter E (leavesKids ks)) ≡ leafCountKids E ks
-  filterKids-count E (last t) = filter-count E t
-  filterKids-count E (t then ts) =
-      ap length (filter-append E (leaves t) (leavesKids ts))
-      ∙ length-append (filter E (leaves t)) (filter E (leavesKids ts))
-      ∙ ap₂ _+_ (filter-count E t) (filterKids-count E ts)
+  filterChildren-count : (E : ℕ → Bool) (ks : Children) → length (filter E (leavesChildren ks)) ≡ leafCountChildren E ks
+  filterChildren-count E (last t) = filter-count E t
+  filterChildren-count E (t then ts) =
+      ap length (filter-append E (leaves t) (leavesChildren ts))
+      ∙ length-append (filter E (leaves t)) (filter E (leavesChildren ts))
+      ∙ ap₂ _+_ (filter-count E t) (filterChildren-count E ts)
 
 -- a list without repetition of a tree's leaves names as many leaves as it is long
 pub once-count : (w : List ℕ) (t : Tree) → Distinct t → Once w → All (λ k. among (leaves t) k ≡ true) w
@@ -141,11 +141,11 @@ once-count w t d o a =
 mutual
   pub leaves-size : (t : Tree) → length (leaves t) ≤ size t
   leaves-size (leaf n) = le-refl 1
-  leaves-size (inner n s ks) = omega (arith, leavesKids-size ks)
+  leaves-size (inner n s ks) = omega (arith, leavesChildren-size ks)
 
-  leavesKids-size : (ks : Kids) → length (leavesKids ks) ≤ sizeKids ks
-  leavesKids-size (last t) = leaves-size t
-  leavesKids-size (t then ts) = simp length-append (omega (arith, leaves-size t, leavesKids-size ts))
+  leavesChildren-size : (ks : Children) → length (leavesChildren ks) ≤ sizeChildren ks
+  leavesChildren-size (last t) = leaves-size t
+  leavesChildren-size (t then ts) = simp length-append (omega (arith, leaves-size t, leavesChildren-size ts))
 
 leaf-once : (b : Bool) → cond b 1 0 ≤ 1
 leaf-once true = le-refl 1
@@ -155,9 +155,9 @@ leaf-once false = omega arith
 mutual
   pub pairLeaves-all : (g h : ℕ → Bool) (t : Tree) → pairLeaves g h t ≤ length (leaves t)
   pairLeaves-all g h (leaf n) = leaf-once (g n || h n)
-  pairLeaves-all g h (inner n s ks) = pairLeavesKids-all g h ks
+  pairLeaves-all g h (inner n s ks) = pairLeavesChildren-all g h ks
 
-  pairLeavesKids-all : (g h : ℕ → Bool) (ks : Kids) → pairLeavesKids g h ks ≤ length (leavesKids ks)
-  pairLeavesKids-all g h (last t) = pairLeaves-all g h t
-  pairLeavesKids-all g h (t then ts) =
-      simp length-append (omega (arith, pairLeaves-all g h t, pairLeavesKids-all g h ts))
+  pairLeavesChildren-all : (g h : ℕ → Bool) (ks : Children) → pairLeavesChildren g h ks ≤ length (leavesChildren ks)
+  pairLeavesChildren-all g h (last t) = pairLeaves-all g h t
+  pairLeavesChildren-all g h (t then ts) =
+      simp length-append (omega (arith, pairLeaves-all g h t, pairLeavesChildren-all g h ts))

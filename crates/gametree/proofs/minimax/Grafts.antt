@@ -4,9 +4,9 @@ use native.Mathlib.Omega.{arith}
 use mathlib.Core.Path.{_≡_, refl, ap, ap₂}
 use mathlib.Core.Bool.{Bool, true, false, cond}
 use lib.Dec.{eqb}
-use Rattle.gametree.specs.Tree.{Side, Tree, leaf, inner, Kids, last, _then_, better, minimax, minimaxKids}
-use Rattle.gametree.specs.Tree.{size, sizeKids, EveryLeaf}
-use Rattle.gametree.specs.Graft.{substituted, grafted, graftedKids, relabelled, relabelledKids}
+use Rattle.gametree.specs.Tree.{Side, Tree, leaf, inner, Children, last, _then_, better, minimax, minimaxChildren}
+use Rattle.gametree.specs.Tree.{size, sizeChildren, EveryLeaf}
+use Rattle.gametree.specs.Graft.{substituted, grafted, graftedChildren, relabelled, relabelledChildren}
 use Rattle.gametree.proofs.minimax.Bounds.{every-map, minimax-mono}
 
 mutual
@@ -18,32 +18,32 @@ mutual
       at : (b : Bool) → minimax ν (cond b v (leaf n)) ≡ cond b (minimax ν v) (ν n)
       at true = refl
       at false = refl
-  graft-value ν k v (inner n s ks) = graft-valueKids ν k v s ks
+  graft-value ν k v (inner n s ks) = graft-valueChildren ν k v s ks
 
-  graft-valueKids : (ν : ℕ → ℕ) (k : ℕ) (v : Tree) (s : Side) (ks : Kids)
-      → minimaxKids ν s (graftedKids k v ks) ≡ minimaxKids (substituted ν k (minimax ν v)) s ks
-  graft-valueKids ν k v s (last t) = graft-value ν k v t
-  graft-valueKids ν k v s (t then ts) = ap₂ (better s) (graft-value ν k v t) (graft-valueKids ν k v s ts)
+  graft-valueChildren : (ν : ℕ → ℕ) (k : ℕ) (v : Tree) (s : Side) (ks : Children)
+      → minimaxChildren ν s (graftedChildren k v ks) ≡ minimaxChildren (substituted ν k (minimax ν v)) s ks
+  graft-valueChildren ν k v s (last t) = graft-value ν k v t
+  graft-valueChildren ν k v s (t then ts) = ap₂ (better s) (graft-value ν k v t) (graft-valueChildren ν k v s ts)
 
 mutual
   -- other numbers, with the scores going with them
   pub relabelled-value : (ν f : ℕ → ℕ) (t : Tree) → minimax ν (relabelled f t) ≡ minimax (λ n. ν (f n)) t
   relabelled-value ν f (leaf n) = refl
-  relabelled-value ν f (inner n s ks) = relabelled-valueKids ν f s ks
+  relabelled-value ν f (inner n s ks) = relabelled-valueChildren ν f s ks
 
-  relabelled-valueKids : (ν f : ℕ → ℕ) (s : Side) (ks : Kids)
-      → minimaxKids ν s (relabelledKids f ks) ≡ minimaxKids (λ n. ν (f n)) s ks
-  relabelled-valueKids ν f s (last t) = relabelled-value ν f t
-  relabelled-valueKids ν f s (t then ts) = ap₂ (better s) (relabelled-value ν f t) (relabelled-valueKids ν f s ts)
+  relabelled-valueChildren : (ν f : ℕ → ℕ) (s : Side) (ks : Children)
+      → minimaxChildren ν s (relabelledChildren f ks) ≡ minimaxChildren (λ n. ν (f n)) s ks
+  relabelled-valueChildren ν f s (last t) = relabelled-value ν f t
+  relabelled-valueChildren ν f s (t then ts) = ap₂ (better s) (relabelled-value ν f t) (relabelled-valueChildren ν f s ts)
 
 mutual
   pub relabelled-size : (f : ℕ → ℕ) (t : Tree) → size (relabelled f t) ≡ size t
   relabelled-size f (leaf n) = refl
-  relabelled-size f (inner n s ks) = ap suc (relabelled-sizeKids f ks)
+  relabelled-size f (inner n s ks) = ap suc (relabelled-sizeChildren f ks)
 
-  relabelled-sizeKids : (f : ℕ → ℕ) (ks : Kids) → sizeKids (relabelledKids f ks) ≡ sizeKids ks
-  relabelled-sizeKids f (last t) = relabelled-size f t
-  relabelled-sizeKids f (t then ts) = ap₂ _+_ (relabelled-size f t) (relabelled-sizeKids f ts)
+  relabelled-sizeChildren : (f : ℕ → ℕ) (ks : Children) → sizeChildren (relabelledChildren f ks) ≡ sizeChildren ks
+  relabelled-sizeChildren f (last t) = relabelled-size f t
+  relabelled-sizeChildren f (t then ts) = ap₂ _+_ (relabelled-size f t) (relabelled-sizeChildren f ts)
 
 -- the same scores at the leaves, the same value
 pub minimax-same : (μ ν : ℕ → ℕ) (t : Tree) → EveryLeaf (λ n. μ n ≡ ν n) t → minimax μ t ≡ minimax ν t

@@ -7,10 +7,10 @@ use mathlib.Core.List.{List}
 use lib.Dec.{ltb, eqb}
 use borrow.Author.Tests.{eqb-true, eqb-false, lt-ltb, eq-eqb, ne-eqb}
 use Rattle.lists.specs.Lists.{All, among}
-use Rattle.gametree.specs.Tree.{Side, Max, Min, Tree, leaf, inner, Kids, last, _then_, least, greatest, minimax}
-use Rattle.gametree.specs.Tree.{minimaxKids, number, Scored, ScoredKids}
+use Rattle.gametree.specs.Tree.{Side, Max, Min, Tree, leaf, inner, Children, last, _then_, least, greatest, minimax}
+use Rattle.gametree.specs.Tree.{minimaxChildren, number, Scored, ScoredChildren}
 use Rattle.gametree.specs.Bounds.{known, Decided}
-use Rattle.gametree.specs.AlphaBeta.{raise, lower, clamp, alphaBeta, alphaBetaKids}
+use Rattle.gametree.specs.AlphaBeta.{raise, lower, clamp, alphaBeta, alphaBetaChildren}
 use Rattle.gametree.specs.Certificate.{worst}
 use Rattle.gametree.specs.Move.{firstWith, rootMove, boundMove}
 use Rattle.gametree.proofs.minimax.Bounds.{minimax-score, low≤, ≤high, known-local}
@@ -19,7 +19,7 @@ use Rattle.gametree.proofs.alphabeta.Window.{Covers, covered-decided}
 use Rattle.gametree.proofs.certificates.Solution.{Under, under-refl, under-both}
 
 -- of each child up to the first that has the value v under ν: if it has it under ν, it has it under μ
-abbrev pub Shown : (μ ν : ℕ → ℕ) → ℕ → Kids → Type 0
+abbrev pub Shown : (μ ν : ℕ → ℕ) → ℕ → Children → Type 0
 Shown μ ν v (last t) = minimax ν t ≡ v → minimax μ t ≡ v
 Shown μ ν v (t then ts) = (minimax ν t ≡ v → minimax μ t ≡ v) × ((minimax ν t ≡ v → ⊥) → Shown μ ν v ts)
 
@@ -46,22 +46,22 @@ pick-same b true n x y e f = rw e refl
 pick-same b false n x y e f = rw e (f refl)
 
 -- so the first child is the same
-first-same : (p : Side) (ν : ℕ → ℕ) (E : ℕ → Bool) (v : ℕ) (ks : Kids) → ScoredKids ν ks
-    → Under p (minimaxKids ν p ks) v
+first-same : (p : Side) (ν : ℕ → ℕ) (E : ℕ → Bool) (v : ℕ) (ks : Children) → ScoredChildren ν ks
+    → Under p (minimaxChildren ν p ks) v
     → Shown (known ν E (worst p)) ν v ks → firstWith (minimax (known ν E (worst p))) v ks ≡ firstWith (minimax ν) v ks
 first-same p ν E v (last t) h u s =
     pick-same _ _ (number t) 0 0 (test-same p _ _ v (bound-under p ν E t h) u s) (λ _. refl)
 first-same p ν E v (t then ts) h u s =
-    let w = under-both p (minimax ν t) (minimaxKids ν p ts) v u in
+    let w = under-both p (minimax ν t) (minimaxChildren ν p ts) v u in
     pick-same _ _ (number t) _ _ (test-same p _ _ v (bound-under p ν E t (h .0)) (w .0) (s .0))
     (λ e. first-same p ν E v ts (h .1) (w .1) (s .1 (eqb-false (minimax ν t) v e)))
 
 -- the move by the bounds is the move, where they meet at the root and show the root's value
-pub move-same : (ν : ℕ → ℕ) (E : ℕ → Bool) (n : ℕ) (s : Side) (ks : Kids) → Scored ν (inner n s ks)
+pub move-same : (ν : ℕ → ℕ) (E : ℕ → Bool) (n : ℕ) (s : Side) (ks : Children) → Scored ν (inner n s ks)
     → Decided ν E (inner n s ks)
-    → Shown (known ν E (worst s)) ν (minimaxKids ν s ks) ks → boundMove ν E (inner n s ks) ≡ rootMove ν (inner n s ks)
-move-same ν E n Max ks h d k = rw (d .lowIs) (first-same Max ν E (minimaxKids ν Max ks) ks h (under-refl Max _) k)
-move-same ν E n Min ks h d k = rw (d .highIs) (first-same Min ν E (minimaxKids ν Min ks) ks h (under-refl Min _) k)
+    → Shown (known ν E (worst s)) ν (minimaxChildren ν s ks) ks → boundMove ν E (inner n s ks) ≡ rootMove ν (inner n s ks)
+move-same ν E n Max ks h d k = rw (d .lowIs) (first-same Max ν E (minimaxChildren ν Max ks) ks h (under-refl Max _) k)
+move-same ν E n Min ks h d k = rw (d .highIs) (first-same Min ν E (minimaxChildren ν Min ks) ks h (under-refl Min _) k)
 
 -- a value inside the window, better than a child's, is inside the window after that child
 inside-next : (p : Side) (α β m u v : ℕ) → u ≡ clamp α β m → α < v → v < β → Under p m v → (m ≡ v → ⊥)
@@ -70,16 +70,16 @@ inside-next Max α β m u v e h k w n = omega arith
 inside-next Min α β m u v e h k w n = omega arith
 
 -- alpha-beta's leaves show it
-alphaBeta-shown : (ν : ℕ → ℕ) (E : ℕ → Bool) (p : Side) (α β v x : ℕ) (ks : Kids) → α < v → v < β
-    → Under p (minimaxKids ν p ks) v
-    → All (λ n. E n ≡ true) (alphaBetaKids ν p α β ks .evaluated) → Shown (known ν E x) ν v ks
+alphaBeta-shown : (ν : ℕ → ℕ) (E : ℕ → Bool) (p : Side) (α β v x : ℕ) (ks : Children) → α < v → v < β
+    → Under p (minimaxChildren ν p ks) v
+    → All (λ n. E n ≡ true) (alphaBetaChildren ν p α β ks .evaluated) → Shown (known ν E x) ν v ks
 alphaBeta-shown ν E p α β v x (last t) h k u c = λ e. known-exact ν E α β x t c (rw e h) (rw e k) ∙ e
 alphaBeta-shown ν E p α β v x (t then ts) h k u c =
     let r = alphaBeta ν α β t in
     let a = raise p α (r .value) in
     let b = lower p β (r .value) in
-    let q = alphaBetaKids ν p a b ts in
-    let w = under-both p (minimax ν t) (minimaxKids ν p ts) v u in
+    let q = alphaBetaChildren ν p a b ts in
+    let w = under-both p (minimax ν t) (minimaxChildren ν p ts) v u in
     let o : α < β = omega arith in (
       λ e. known-exact ν E α β x t (onward-first (λ n. E n ≡ true) (ltb a b) r q c) (rw e h) (rw e k) ∙ e,
       λ f.

@@ -5,8 +5,8 @@ use native.Mathlib.Omega.{arith}
 use mathlib.Core.Path.{_≡_}
 use mathlib.Core.Bool.{Bool, true, false, cond}
 use lib.Dec.{eqb}
-use Rattle.gametree.specs.Tree.{Side, Max, Min, Tree, leaf, inner, Kids, last, _then_, least, greatest, better}
-use Rattle.gametree.specs.Tree.{minimax, minimaxKids}
+use Rattle.gametree.specs.Tree.{Side, Max, Min, Tree, leaf, inner, Children, last, _then_, least, greatest, better}
+use Rattle.gametree.specs.Tree.{minimax, minimaxChildren}
 use Rattle.gametree.specs.AlphaBeta.{clamp}
 use Rattle.gametree.specs.Graft.{substituted}
 
@@ -49,13 +49,13 @@ module _ (ν : ℕ → ℕ) (k x : ℕ) (h : x ≤ greatest) where
         → Between (minimax (substituted ν k least) t) (minimax (substituted ν k greatest) t) x
         (minimax (substituted ν k x) t)
     between (leaf n) = at-leaf (eqb n k) (ν n) x h
-    between (inner n s ks) = betweenKids s ks
+    between (inner n s ks) = betweenChildren s ks
 
-    betweenKids : (s : Side) (ks : Kids)
-        → Between (minimaxKids (substituted ν k least) s ks) (minimaxKids (substituted ν k greatest) s ks) x
-        (minimaxKids (substituted ν k x) s ks)
-    betweenKids s (last t) = between t
-    betweenKids s (t then ts) = between-better s (between t) (betweenKids s ts)
+    betweenChildren : (s : Side) (ks : Children)
+        → Between (minimaxChildren (substituted ν k least) s ks) (minimaxChildren (substituted ν k greatest) s ks) x
+        (minimaxChildren (substituted ν k x) s ks)
+    betweenChildren s (last t) = between t
+    betweenChildren s (t then ts) = between-better s (between t) (betweenChildren s ts)
 
   -- the two values are in order
   pub low-high : (t : Tree) → minimax (substituted ν k least) t ≤ minimax (substituted ν k greatest) t

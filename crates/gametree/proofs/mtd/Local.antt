@@ -5,9 +5,9 @@ use mathlib.Core.Bool.{Bool, true, false, cond}
 use mathlib.Core.List.{List}
 use lib.Dec.{ltb}
 use Rattle.lists.specs.Lists.{All}
-use Rattle.gametree.specs.Tree.{Side, Tree, leaf, inner, Kids, last, _then_, greatest, better}
-use Rattle.gametree.specs.Mtd.{Memo, MemoKids, memoHigh, memoHighKids, Pass, PassKids, settles, stay, ended}
-use Rattle.gametree.specs.Mtd.{joined, entered, pass, passKids, Run, settled, followed, run, fresh, freshKids}
+use Rattle.gametree.specs.Tree.{Side, Tree, leaf, inner, Children, last, _then_, greatest, better}
+use Rattle.gametree.specs.Mtd.{Memo, MemoChildren, memoHigh, memoHighChildren, Pass, PassChildren, settles, stay, ended}
+use Rattle.gametree.specs.Mtd.{joined, entered, pass, passChildren, MtdRun, settled, followed, run, fresh, freshChildren}
 use Rattle.lists.proofs.Choice.{cond-cases, true-not-false}
 use Rattle.lists.proofs.Lists.{all-left, all-right}
 
@@ -15,11 +15,11 @@ use Rattle.lists.proofs.Lists.{all-left, all-right}
 abbrev mutual
   pub Agree : (ν μ : ℕ → ℕ) (t : Tree) → Memo t → Type 0
   Agree ν μ (leaf n) m = m .evaluated ≡ true → ν n ≡ μ n
-  Agree ν μ (inner n s ks) m = AgreeKids ν μ ks (m .kids)
+  Agree ν μ (inner n s ks) m = AgreeChildren ν μ ks (m .kids)
 
-  pub AgreeKids : (ν μ : ℕ → ℕ) (ks : Kids) → MemoKids ks → Type 0
-  AgreeKids ν μ (last t) m = Agree ν μ t m
-  AgreeKids ν μ (t then ts) m = Agree ν μ t (m .first) × AgreeKids ν μ ts (m .rest)
+  pub AgreeChildren : (ν μ : ℕ → ℕ) (ks : Children) → MemoChildren ks → Type 0
+  AgreeChildren ν μ (last t) m = Agree ν μ t m
+  AgreeChildren ν μ (t then ts) m = Agree ν μ t (m .first) × AgreeChildren ν μ ts (m .rest)
 
 -- both agree on the leaves of a list
 abbrev pub Alike : (ν μ : ℕ → ℕ) → List ℕ → Type 0
@@ -33,13 +33,13 @@ mutual
       same : (b : Bool) → (b ≡ true → ν n ≡ μ n) → cond b (ν n) greatest ≡ cond b (μ n) greatest
       same true h = h refl
       same false h = refl
-  memoHigh-local ν μ (inner n s ks) m a = memoHighKids-local ν μ s ks (m .kids) a
+  memoHigh-local ν μ (inner n s ks) m a = memoHighChildren-local ν μ s ks (m .kids) a
 
-  memoHighKids-local : (ν μ : ℕ → ℕ) (s : Side) (ks : Kids) (m : MemoKids ks) → AgreeKids ν μ ks m
-      → memoHighKids ν s ks m ≡ memoHighKids μ s ks m
-  memoHighKids-local ν μ s (last t) m a = memoHigh-local ν μ t m a
-  memoHighKids-local ν μ s (t then ts) m a =
-      ap₂ (λ x y. better s x y) (memoHigh-local ν μ t (m .first) (a .0)) (memoHighKids-local ν μ s ts (m .rest) (a .1))
+  memoHighChildren-local : (ν μ : ℕ → ℕ) (s : Side) (ks : Children) (m : MemoChildren ks) → AgreeChildren ν μ ks m
+      → memoHighChildren ν s ks m ≡ memoHighChildren μ s ks m
+  memoHighChildren-local ν μ s (last t) m a = memoHigh-local ν μ t m a
+  memoHighChildren-local ν μ s (t then ts) m a =
+      ap₂ (λ x y. better s x y) (memoHigh-local ν μ t (m .first) (a .0)) (memoHighChildren-local ν μ s ts (m .rest) (a .1))
 
 -- a leaf that is evaluated before or now
 leaf-alike : (ν μ : ℕ → ℕ) (γ n : ℕ) (m : Memo (leaf n)) → Agree ν μ (leaf n) m
@@ -57,13 +57,13 @@ module _ (ν μ : ℕ → ℕ) where
   inner-local t false false x y z z′ f a = f a
 
   -- the leaves of the first child are some of all
-  first-alike : (t : Tree) (ts : Kids) (b : Bool) (r : Pass t) (m : MemoKids ts) (q : PassKids ts)
+  first-alike : (t : Tree) (ts : Children) (b : Bool) (r : Pass t) (m : MemoChildren ts) (q : PassChildren ts)
       → Alike ν μ (cond b (ended t ts r m) (joined t ts r q) .evaluated) → Alike ν μ (r .evaluated)
   first-alike t ts true r m q a = a
   first-alike t ts false r m q a = all-left (λ k. ν k ≡ μ k) (r .evaluated) (q .evaluated) a
 
   -- the children are the same if the others are, where the first does not settle
-  kids-local : (t : Tree) (ts : Kids) (b : Bool) (r : Pass t) (m : MemoKids ts) (q q′ : PassKids ts)
+  kids-local : (t : Tree) (ts : Children) (b : Bool) (r : Pass t) (m : MemoChildren ts) (q q′ : PassChildren ts)
       → (Alike ν μ (q .evaluated) → q ≡ q′)
       → Alike ν μ (cond b (ended t ts r m) (joined t ts r q) .evaluated)
       → cond b (ended t ts r m) (joined t ts r q) ≡ cond b (ended t ts r m) (joined t ts r q′)
@@ -77,25 +77,25 @@ mutual
       → pass ν γ t m ≡ pass μ γ t m
   pass-local ν μ γ (leaf n) m h a = rw (leaf-alike ν μ γ n m h a) refl
   pass-local ν μ γ (inner n s ks) m h a =
-      inner-local ν μ (inner n s ks) (ltb (memoHighKids ν s ks (m .kids)) γ) (m .notBelow) _ _ _ _
-      (λ b. ap (λ q. entered n s ks q) (passKids-local ν μ γ s ks (m .kids) h b)) a
+      inner-local ν μ (inner n s ks) (ltb (memoHighChildren ν s ks (m .kids)) γ) (m .notBelow) _ _ _ _
+      (λ b. ap (λ q. entered n s ks q) (passChildren-local ν μ γ s ks (m .kids) h b)) a
       ∙ ap (λ x. cond (ltb x γ) (stay (inner n s ks) m false)
-      (cond (m .notBelow) (stay (inner n s ks) m true) (entered n s ks (passKids μ γ s ks (m .kids)))))
-      (memoHighKids-local ν μ s ks (m .kids) h)
+      (cond (m .notBelow) (stay (inner n s ks) m true) (entered n s ks (passChildren μ γ s ks (m .kids)))))
+      (memoHighChildren-local ν μ s ks (m .kids) h)
 
-  passKids-local : (ν μ : ℕ → ℕ) (γ : ℕ) (s : Side) (ks : Kids) (m : MemoKids ks) → AgreeKids ν μ ks m
-      → Alike ν μ (passKids ν γ s ks m .evaluated)
-      → passKids ν γ s ks m ≡ passKids μ γ s ks m
-  passKids-local ν μ γ s (last t) m h a =
+  passChildren-local : (ν μ : ℕ → ℕ) (γ : ℕ) (s : Side) (ks : Children) (m : MemoChildren ks) → AgreeChildren ν μ ks m
+      → Alike ν μ (passChildren ν γ s ks m .evaluated)
+      → passChildren ν γ s ks m ≡ passChildren μ γ s ks m
+  passChildren-local ν μ γ s (last t) m h a =
       ap (λ (r : Pass t). record { notBelow = r .notBelow; next = r .next; evaluated = r .evaluated })
       (pass-local ν μ γ t m h a)
-  passKids-local ν μ γ s (t then ts) m h a =
+  passChildren-local ν μ γ s (t then ts) m h a =
       let r = pass ν γ t (m .first) in
-      let q = passKids ν γ s ts (m .rest) in
-      kids-local ν μ t ts (settles s (r .notBelow)) r (m .rest) q (passKids μ γ s ts (m .rest))
-      (λ b. passKids-local ν μ γ s ts (m .rest) (h .1) b) a
+      let q = passChildren ν γ s ts (m .rest) in
+      kids-local ν μ t ts (settles s (r .notBelow)) r (m .rest) q (passChildren μ γ s ts (m .rest))
+      (λ b. passChildren-local ν μ γ s ts (m .rest) (h .1) b) a
       ∙ ap (λ (r : Pass t). cond (settles s (r .notBelow)) (ended t ts r (m .rest))
-      (joined t ts r (passKids μ γ s ts (m .rest))))
+      (joined t ts r (passChildren μ γ s ts (m .rest))))
       (pass-local ν μ γ t (m .first) (h .0) (first-alike ν μ t ts (settles s (r .notBelow)) r (m .rest) q a))
 
 mutual
@@ -105,36 +105,36 @@ mutual
   agree-next ν μ γ (leaf n) m h = λ a _. leaf-alike ν μ γ n m h a
   agree-next ν μ γ (inner n s ks) m h =
       cond-cases (λ (r : Pass (inner n s ks)). Alike ν μ (r .evaluated) → Agree ν μ (inner n s ks) (r .next))
-      (ltb (memoHighKids ν s ks (m .kids)) γ) _ _
+      (ltb (memoHighChildren ν s ks (m .kids)) γ) _ _
       (λ _ _. h)
       (λ _. cond-cases (λ (r : Pass (inner n s ks)). Alike ν μ (r .evaluated) → Agree ν μ (inner n s ks) (r .next))
       (m .notBelow) _ _
       (λ _ _. h)
-      (λ _ a. agreeKids-next ν μ γ s ks (m .kids) h a))
+      (λ _ a. agreeChildren-next ν μ γ s ks (m .kids) h a))
 
-  agreeKids-next : (ν μ : ℕ → ℕ) (γ : ℕ) (s : Side) (ks : Kids) (m : MemoKids ks) → AgreeKids ν μ ks m
-      → Alike ν μ (passKids ν γ s ks m .evaluated)
-      → AgreeKids ν μ ks (passKids ν γ s ks m .next)
-  agreeKids-next ν μ γ s (last t) m h = λ a. agree-next ν μ γ t m h a
-  agreeKids-next ν μ γ s (t then ts) m h =
-      cond-cases (λ (q : PassKids (t then ts)). Alike ν μ (q .evaluated) → AgreeKids ν μ (t then ts) (q .next))
+  agreeChildren-next : (ν μ : ℕ → ℕ) (γ : ℕ) (s : Side) (ks : Children) (m : MemoChildren ks) → AgreeChildren ν μ ks m
+      → Alike ν μ (passChildren ν γ s ks m .evaluated)
+      → AgreeChildren ν μ ks (passChildren ν γ s ks m .next)
+  agreeChildren-next ν μ γ s (last t) m h = λ a. agree-next ν μ γ t m h a
+  agreeChildren-next ν μ γ s (t then ts) m h =
+      cond-cases (λ (q : PassChildren (t then ts)). Alike ν μ (q .evaluated) → AgreeChildren ν μ (t then ts) (q .next))
       (settles s (pass ν γ t (m .first) .notBelow)) _ _
       (λ _ a. (agree-next ν μ γ t (m .first) (h .0) a, h .1))
       (λ _ a. (
         agree-next ν μ γ t (m .first) (h .0)
-            (all-left (λ k. ν k ≡ μ k) (pass ν γ t (m .first) .evaluated) (passKids ν γ s ts (m .rest) .evaluated) a),
-        agreeKids-next ν μ γ s ts (m .rest) (h .1)
-            (all-right (λ k. ν k ≡ μ k) (pass ν γ t (m .first) .evaluated) (passKids ν γ s ts (m .rest) .evaluated) a),
+            (all-left (λ k. ν k ≡ μ k) (pass ν γ t (m .first) .evaluated) (passChildren ν γ s ts (m .rest) .evaluated) a),
+        agreeChildren-next ν μ γ s ts (m .rest) (h .1)
+            (all-right (λ k. ν k ≡ μ k) (pass ν γ t (m .first) .evaluated) (passChildren ν γ s ts (m .rest) .evaluated) a),
       ))
 
-module _ (ν μ : ℕ → ℕ) (γ : ℕ) (t : Tree) (r : Pass t) (q : Run t) where
+module _ (ν μ : ℕ → ℕ) (γ : ℕ) (t : Tree) (r : Pass t) (q : MtdRun t) where
   -- the leaves of the first pass are some of the run's
   pass-alike : (b : Bool) → Alike ν μ (cond b (settled γ t r) (followed t r q) .evaluated) → Alike ν μ (r .evaluated)
   pass-alike true a = a
   pass-alike false a = all-left (λ k. ν k ≡ μ k) (r .evaluated) (q .evaluated) a
 
   -- a run is the same if what follows its first pass is
-  rest-local : (q′ : Run t) (b : Bool) → (Alike ν μ (q .evaluated) → q ≡ q′)
+  rest-local : (q′ : MtdRun t) (b : Bool) → (Alike ν μ (q .evaluated) → q ≡ q′)
       → Alike ν μ (cond b (settled γ t r) (followed t r q) .evaluated)
       → cond b (settled γ t r) (followed t r q) ≡ cond b (settled γ t r) (followed t r q′)
   rest-local q′ true f a = refl
@@ -159,8 +159,8 @@ mutual
   -- at the start no leaf is evaluated
   pub fresh-agree : (ν μ : ℕ → ℕ) (t : Tree) → Agree ν μ t (fresh t)
   fresh-agree ν μ (leaf n) = λ e. absurd (true-not-false e refl)
-  fresh-agree ν μ (inner n s ks) = freshKids-agree ν μ ks
+  fresh-agree ν μ (inner n s ks) = freshChildren-agree ν μ ks
 
-  freshKids-agree : (ν μ : ℕ → ℕ) (ks : Kids) → AgreeKids ν μ ks (freshKids ks)
-  freshKids-agree ν μ (last t) = fresh-agree ν μ t
-  freshKids-agree ν μ (t then ts) = (fresh-agree ν μ t, freshKids-agree ν μ ts)
+  freshChildren-agree : (ν μ : ℕ → ℕ) (ks : Children) → AgreeChildren ν μ ks (freshChildren ks)
+  freshChildren-agree ν μ (last t) = fresh-agree ν μ t
+  freshChildren-agree ν μ (t then ts) = (fresh-agree ν μ t, freshChildren-agree ν μ ts)

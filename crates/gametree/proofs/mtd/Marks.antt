@@ -7,11 +7,11 @@ use mathlib.Core.Bool.{Bool, true, false, _||_, or-false}
 use mathlib.Core.List.{List, [], _∷_, _++_, append-assoc, append-nil}
 use lib.Dec.{ltb}
 use Rattle.lists.specs.Lists.{All, among, Once}
-use Rattle.gametree.specs.Tree.{Side, Tree, leaf, inner, Kids, last, _then_, greatest, better, minimax}
-use Rattle.gametree.specs.Tree.{minimaxKids, In, InKids, Distinct, DistinctKids}
+use Rattle.gametree.specs.Tree.{Side, Tree, leaf, inner, Children, last, _then_, greatest, better, minimax}
+use Rattle.gametree.specs.Tree.{minimaxChildren, In, InChildren, Distinct, DistinctChildren}
 use Rattle.gametree.specs.Bounds.{known}
-use Rattle.gametree.specs.Mtd.{memoBound, memoBoundKids, Memo, MemoKids, memoHigh, memoHighKids, Pass, PassKids}
-use Rattle.gametree.specs.Mtd.{settles, stay, tried, ended, joined, pass, passKids, Run, run, fresh, freshKids}
+use Rattle.gametree.specs.Mtd.{memoBound, memoBoundChildren, Memo, MemoChildren, memoHigh, memoHighChildren, Pass, PassChildren}
+use Rattle.gametree.specs.Mtd.{settles, stay, tried, ended, joined, pass, passChildren, MtdRun, run, fresh, freshChildren}
 use Rattle.gametree.specs.Mtd.{mtd}
 use Rattle.lists.proofs.Choice.{cond-cases, true-not-false, or-false-both}
 use Rattle.lists.proofs.Lists.{all-append, all-map, all-among, among-append, among-right, among-out}
@@ -21,39 +21,39 @@ use Rattle.lists.proofs.Lists.{once-append}
 abbrev mutual
   pub Marks : List ℕ → (t : Tree) → Memo t → Type 0
   Marks w (leaf n) m = m .evaluated ≡ among w n
-  Marks w (inner n s ks) m = MarksKids w ks (m .kids)
+  Marks w (inner n s ks) m = MarksChildren w ks (m .kids)
 
-  pub MarksKids : List ℕ → (ks : Kids) → MemoKids ks → Type 0
-  MarksKids w (last t) m = Marks w t m
-  MarksKids w (t then ts) m = Marks w t (m .first) × MarksKids w ts (m .rest)
+  pub MarksChildren : List ℕ → (ks : Children) → MemoChildren ks → Type 0
+  MarksChildren w (last t) m = Marks w t m
+  MarksChildren w (t then ts) m = Marks w t (m .first) × MarksChildren w ts (m .rest)
 
 -- leaves of other trees change no mark
 mutual
   pub marks-other : (w v : List ℕ) (t : Tree) (m : Memo t) → All (λ k. In k t → ⊥) v → Marks w t m → Marks (w ++ v) t m
   marks-other w v (leaf n) m o h =
       h ∙ sym (among-append w v n ∙ ap (_||_ (among w n)) (among-out v n o) ∙ or-false (among w n))
-  marks-other w v (inner n s ks) m o h = marksKids-other w v ks (m .kids) (all-map _ _ (λ k f i. f (inr i)) v o) h
+  marks-other w v (inner n s ks) m o h = marksChildren-other w v ks (m .kids) (all-map _ _ (λ k f i. f (inr i)) v o) h
 
-  marksKids-other : (w v : List ℕ) (ks : Kids) (m : MemoKids ks) → All (λ k. InKids k ks → ⊥) v → MarksKids w ks m
-      → MarksKids (w ++ v) ks m
-  marksKids-other w v (last t) m o h = marks-other w v t m o h
-  marksKids-other w v (t then ts) m o h = (
+  marksChildren-other : (w v : List ℕ) (ks : Children) (m : MemoChildren ks) → All (λ k. InChildren k ks → ⊥) v → MarksChildren w ks m
+      → MarksChildren (w ++ v) ks m
+  marksChildren-other w v (last t) m o h = marks-other w v t m o h
+  marksChildren-other w v (t then ts) m o h = (
     marks-other w v t (m .first) (all-map _ _ (λ k f i. f (inl i)) v o) (h .0),
-    marksKids-other w v ts (m .rest) (all-map _ _ (λ k f i. f (inr i)) v o) (h .1),
+    marksChildren-other w v ts (m .rest) (all-map _ _ (λ k f i. f (inr i)) v o) (h .1),
   )
 
 -- nor do they before the tree's own
 mutual
   marks-before : (w v : List ℕ) (t : Tree) (m : Memo t) → All (λ k. In k t → ⊥) w → Marks v t m → Marks (w ++ v) t m
   marks-before w v (leaf n) m o h = h ∙ sym (among-append w v n ∙ ap (λ b. b || among v n) (among-out w n o))
-  marks-before w v (inner n s ks) m o h = marksKids-before w v ks (m .kids) (all-map _ _ (λ k f i. f (inr i)) w o) h
+  marks-before w v (inner n s ks) m o h = marksChildren-before w v ks (m .kids) (all-map _ _ (λ k f i. f (inr i)) w o) h
 
-  pub marksKids-before : (w v : List ℕ) (ks : Kids) (m : MemoKids ks) → All (λ k. InKids k ks → ⊥) w → MarksKids v ks m
-      → MarksKids (w ++ v) ks m
-  marksKids-before w v (last t) m o h = marks-before w v t m o h
-  marksKids-before w v (t then ts) m o h = (
+  pub marksChildren-before : (w v : List ℕ) (ks : Children) (m : MemoChildren ks) → All (λ k. InChildren k ks → ⊥) w → MarksChildren v ks m
+      → MarksChildren (w ++ v) ks m
+  marksChildren-before w v (last t) m o h = marks-before w v t m o h
+  marksChildren-before w v (t then ts) m o h = (
     marks-before w v t (m .first) (all-map _ _ (λ k f i. f (inl i)) w o) (h .0),
-    marksKids-before w v ts (m .rest) (all-map _ _ (λ k f i. f (inr i)) w o) (h .1),
+    marksChildren-before w v ts (m .rest) (all-map _ _ (λ k f i. f (inr i)) w o) (h .1),
   )
 
 -- a pass after the leaves w: its leaves are in the tree, new, and stand once, and the memory marks them too
@@ -62,10 +62,10 @@ pub record Marking (w : List ℕ) (t : Tree) (r : Pass t) : Type 0 where
   pub once : Once (r .evaluated)
   pub marks : Marks (w ++ r .evaluated) t (r .next)
 
-pub record MarkingKids (w : List ℕ) (ks : Kids) (q : PassKids ks) : Type 0 where
-  pub new : All (λ k. InKids k ks × (among w k ≡ false)) (q .evaluated)
+pub record MarkingChildren (w : List ℕ) (ks : Children) (q : PassChildren ks) : Type 0 where
+  pub new : All (λ k. InChildren k ks × (among w k ≡ false)) (q .evaluated)
   pub once : Once (q .evaluated)
-  pub marks : MarksKids (w ++ q .evaluated) ks (q .next)
+  pub marks : MarksChildren (w ++ q .evaluated) ks (q .next)
 
 -- a leaf that is tried for the first time
 marking-tried : (w : List ℕ) (n : ℕ) (b : Bool) → among w n ≡ false → Marking w (leaf n) (tried n b)
@@ -76,35 +76,35 @@ marking-tried w n b e =
 marking-stay : (w : List ℕ) (t : Tree) (m : Memo t) (b : Bool) → Marks w t m → Marking w t (stay t m b)
 marking-stay w t m b h = record { new = tt; once = tt; marks = rw append-nil h }
 
-module _ (w : List ℕ) (t : Tree) (ts : Kids) (d : (p : ℕ) → In p t → InKids p ts → ⊥) (r : Pass t)
+module _ (w : List ℕ) (t : Tree) (ts : Children) (d : (p : ℕ) → In p t → InChildren p ts → ⊥) (r : Pass t)
     (a : Marking w t r) where
   -- the first child's leaves are none of its brothers'
-  not-theirs : All (λ k. InKids k ts → ⊥) (r .evaluated)
+  not-theirs : All (λ k. InChildren k ts → ⊥) (r .evaluated)
   not-theirs = all-map _ _ (λ k x i. d k (x .0) i) (r .evaluated) (a .new)
 
-  first-new : All (λ k. InKids k (t then ts) × (among w k ≡ false)) (r .evaluated)
+  first-new : All (λ k. InChildren k (t then ts) × (among w k ≡ false)) (r .evaluated)
   first-new = all-map _ _ (λ k x. (inl (x .0), x .1)) (r .evaluated) (a .new)
 
   -- the first child settles its parent
-  marking-ended : (m : MemoKids ts) → MarksKids w ts m → MarkingKids w (t then ts) (ended t ts r m)
+  marking-ended : (m : MemoChildren ts) → MarksChildren w ts m → MarkingChildren w (t then ts) (ended t ts r m)
   marking-ended m h =
-      record { new = first-new; once = a .once; marks = (a .marks, marksKids-other w (r .evaluated) ts m not-theirs h) }
+      record { new = first-new; once = a .once; marks = (a .marks, marksChildren-other w (r .evaluated) ts m not-theirs h) }
 
   -- it does not, and its brothers are tried
-  marking-joined : (q : PassKids ts) → MarkingKids (w ++ r .evaluated) ts q
-      → MarkingKids w (t then ts) (joined t ts r q)
+  marking-joined : (q : PassChildren ts) → MarkingChildren (w ++ r .evaluated) ts q
+      → MarkingChildren w (t then ts) (joined t ts r q)
   marking-joined q b =
       let v = r .evaluated in
       let u = q .evaluated in
       record {
         new =
-            all-append (λ k. InKids k (t then ts) × (among w k ≡ false)) v u first-new
+            all-append (λ k. InChildren k (t then ts) × (among w k ≡ false)) v u first-new
             (all-map _ _ (λ k x. (
               inr (x .0),
               or-false-both (among w k) (among v k) (sym (among-append w v k) ∙ x .1) .0,
             )) u (b .new));
         once =
-            once-append (λ k. In k t) (λ k. InKids k ts) d v u (a .once) (b .once)
+            once-append (λ k. In k t) (λ k. InChildren k ts) d v u (a .once) (b .once)
             (all-map _ _ (λ k x. x .0) v (a .new)) (all-map _ _ (λ k x. x .0) u (b .new));
         marks = rw (← append-assoc w v u) (
           marks-other (w ++ v) u t (r .next) (all-map _ _ (λ k x i. d k i (x .0)) u (b .new)) (a .marks),
@@ -120,34 +120,34 @@ mutual
       cond-cases (λ r. Marking w (leaf n) r) (m .evaluated) _ _ (λ _. marking-stay w (leaf n) m _ h)
       (λ e. marking-tried w n _ (sym h ∙ e))
   pass-marks ν γ w (inner n s ks) m d h =
-      let q = passKids-marks ν γ w s ks (m .kids) (d .1) h in
-      cond-cases (λ r. Marking w (inner n s ks) r) (ltb (memoHighKids ν s ks (m .kids)) γ) _ _
+      let q = passChildren-marks ν γ w s ks (m .kids) (d .1) h in
+      cond-cases (λ r. Marking w (inner n s ks) r) (ltb (memoHighChildren ν s ks (m .kids)) γ) _ _
       (λ _. marking-stay w (inner n s ks) m false h)
       (λ _. cond-cases (λ r. Marking w (inner n s ks) r) (m .notBelow) _ _
       (λ _. marking-stay w (inner n s ks) m true h)
       (λ _. record {
-        new = all-map _ _ (λ k x. (inr (x .0), x .1)) (passKids ν γ s ks (m .kids) .evaluated) (q .new);
+        new = all-map _ _ (λ k x. (inr (x .0), x .1)) (passChildren ν γ s ks (m .kids) .evaluated) (q .new);
         once = q .once;
         marks = q .marks;
       }))
 
-  passKids-marks : (ν : ℕ → ℕ) (γ : ℕ) (w : List ℕ) (s : Side) (ks : Kids) (m : MemoKids ks) → DistinctKids ks
-      → MarksKids w ks m
-      → MarkingKids w ks (passKids ν γ s ks m)
-  passKids-marks ν γ w s (last t) m d h =
+  passChildren-marks : (ν : ℕ → ℕ) (γ : ℕ) (w : List ℕ) (s : Side) (ks : Children) (m : MemoChildren ks) → DistinctChildren ks
+      → MarksChildren w ks m
+      → MarkingChildren w ks (passChildren ν γ s ks m)
+  passChildren-marks ν γ w s (last t) m d h =
       let r = pass-marks ν γ w t m d h in
       record { new = r .new; once = r .once; marks = r .marks }
-  passKids-marks ν γ w s (t then ts) m d h =
+  passChildren-marks ν γ w s (t then ts) m d h =
       let r = pass ν γ t (m .first) in
       let a = pass-marks ν γ w t (m .first) (d .0) (h .0) in
-      let k = marksKids-other w (r .evaluated) ts (m .rest) (not-theirs w t ts (d .2) r a) (h .1) in
-      cond-cases (λ q. MarkingKids w (t then ts) q) (settles s (r .notBelow)) _ _
+      let k = marksChildren-other w (r .evaluated) ts (m .rest) (not-theirs w t ts (d .2) r a) (h .1) in
+      cond-cases (λ q. MarkingChildren w (t then ts) q) (settles s (r .notBelow)) _ _
       (λ _. marking-ended w t ts (d .2) r a (m .rest) (h .1))
-      (λ _. marking-joined w t ts (d .2) r a (passKids ν γ s ts (m .rest))
-      (passKids-marks ν γ (w ++ r .evaluated) s ts (m .rest) (d .1) k))
+      (λ _. marking-joined w t ts (d .2) r a (passChildren ν γ s ts (m .rest))
+      (passChildren-marks ν γ (w ++ r .evaluated) s ts (m .rest) (d .1) k))
 
 -- the same of a run after the leaves w
-pub record RunMarking (w : List ℕ) (t : Tree) (q : Run t) : Type 0 where
+pub record RunMarking (w : List ℕ) (t : Tree) (q : MtdRun t) : Type 0 where
   pub new : All (λ k. among w k ≡ false) (q .evaluated)
   pub once : Once (q .evaluated)
   pub marks : Marks (w ++ q .evaluated) t (q .memo)
@@ -185,11 +185,11 @@ mutual
   -- at the start nothing is marked
   pub fresh-marks : (t : Tree) → Marks [] t (fresh t)
   fresh-marks (leaf n) = refl
-  fresh-marks (inner n s ks) = freshKids-marks ks
+  fresh-marks (inner n s ks) = freshChildren-marks ks
 
-  freshKids-marks : (ks : Kids) → MarksKids [] ks (freshKids ks)
-  freshKids-marks (last t) = fresh-marks t
-  freshKids-marks (t then ts) = (fresh-marks t, freshKids-marks ts)
+  freshChildren-marks : (ks : Children) → MarksChildren [] ks (freshChildren ks)
+  freshChildren-marks (last t) = fresh-marks t
+  freshChildren-marks (t then ts) = (fresh-marks t, freshChildren-marks ts)
 
 -- MTD's leaves stand once, and are those that the memory marks
 pub mtd-marks : (ν : ℕ → ℕ) (t : Tree) → Distinct t → RunMarking [] t (mtd ν t)
@@ -201,10 +201,10 @@ mutual
   pub memoBound-is : (x : ℕ) (ν : ℕ → ℕ) (w : List ℕ) (t : Tree) (m : Memo t) → Marks w t m
       → memoBound x ν t m ≡ minimax (known ν (among w) x) t
   memoBound-is x ν w (leaf n) m h = rw h refl
-  memoBound-is x ν w (inner n s ks) m h = memoBoundKids-is x ν w s ks (m .kids) h
+  memoBound-is x ν w (inner n s ks) m h = memoBoundChildren-is x ν w s ks (m .kids) h
 
-  memoBoundKids-is : (x : ℕ) (ν : ℕ → ℕ) (w : List ℕ) (s : Side) (ks : Kids) (m : MemoKids ks) → MarksKids w ks m
-      → memoBoundKids x ν s ks m ≡ minimaxKids (known ν (among w) x) s ks
-  memoBoundKids-is x ν w s (last t) m h = memoBound-is x ν w t m h
-  memoBoundKids-is x ν w s (t then ts) m h =
-      ap₂ (better s) (memoBound-is x ν w t (m .first) (h .0)) (memoBoundKids-is x ν w s ts (m .rest) (h .1))
+  memoBoundChildren-is : (x : ℕ) (ν : ℕ → ℕ) (w : List ℕ) (s : Side) (ks : Children) (m : MemoChildren ks) → MarksChildren w ks m
+      → memoBoundChildren x ν s ks m ≡ minimaxChildren (known ν (among w) x) s ks
+  memoBoundChildren-is x ν w s (last t) m h = memoBound-is x ν w t m h
+  memoBoundChildren-is x ν w s (t then ts) m h =
+      ap₂ (better s) (memoBound-is x ν w t (m .first) (h .0)) (memoBoundChildren-is x ν w s ts (m .rest) (h .1))

@@ -3,9 +3,9 @@ use Prim.Native.Nat.{ℕ}
 use mathlib.Core.Path.{_≡_, refl, _∙_, ap, ap₂}
 use mathlib.Core.Logic.{inl, inr}
 use mathlib.Core.Bool.{true, false}
-use Rattle.gametree.specs.Tree.{Side, Tree, leaf, inner, Kids, last, _then_, In, InKids}
-use Rattle.gametree.specs.Mtd.{Memo, MemoKids, settles, pass, passKids}
-use Rattle.gametree.specs.engine.MemoArrays.{Bits, readMemo, readMemoKids, Remembered, KidsRemembered}
+use Rattle.gametree.specs.Tree.{Side, Tree, leaf, inner, Children, last, _then_, In, InChildren}
+use Rattle.gametree.specs.Mtd.{Memo, MemoChildren, settles, pass, passChildren}
+use Rattle.gametree.specs.engine.MemoArrays.{Bits, readMemo, readMemoChildren, Remembered, KidsRemembered}
 
 mutual
   -- arrays that agree on a tree's nodes give the same memo
@@ -15,27 +15,27 @@ mutual
       ap {B = Memo (leaf n)} (λ x. record { evaluated = x }) (h n refl .0)
   readMemo-same M F M′ F′ (inner n s ks) h =
       ap₂ {C = Memo (inner n s ks)} (λ x y. record { notBelow = x; kids = y }) (h n (inl refl) .1)
-      (readMemoKids-same M F M′ F′ ks (λ p i. h p (inr i)))
+      (readMemoChildren-same M F M′ F′ ks (λ p i. h p (inr i)))
 
-  pub readMemoKids-same : (M F M′ F′ : Bits) (ks : Kids) → ((p : ℕ) → InKids p ks → (M p ≡ M′ p) × (F p ≡ F′ p))
-      → readMemoKids M F ks ≡ readMemoKids M′ F′ ks
-  readMemoKids-same M F M′ F′ (last t) h = readMemo-same M F M′ F′ t h
-  readMemoKids-same M F M′ F′ (t then ts) h =
-      ap₂ {C = MemoKids (t then ts)} (λ x y. record { first = x; rest = y })
-      (readMemo-same M F M′ F′ t (λ p i. h p (inl i))) (readMemoKids-same M F M′ F′ ts (λ p i. h p (inr i)))
+  pub readMemoChildren-same : (M F M′ F′ : Bits) (ks : Children) → ((p : ℕ) → InChildren p ks → (M p ≡ M′ p) × (F p ≡ F′ p))
+      → readMemoChildren M F ks ≡ readMemoChildren M′ F′ ks
+  readMemoChildren-same M F M′ F′ (last t) h = readMemo-same M F M′ F′ t h
+  readMemoChildren-same M F M′ F′ (t then ts) h =
+      ap₂ {C = MemoChildren (t then ts)} (λ x y. record { first = x; rest = y })
+      (readMemo-same M F M′ F′ t (λ p i. h p (inl i))) (readMemoChildren-same M F M′ F′ ts (λ p i. h p (inr i)))
 
-module _ (ν : ℕ → ℕ) (γ : ℕ) (s : Side) (t : Tree) (ts : Kids) (d : (p : ℕ) → In p t → InKids p ts → ⊥)
+module _ (ν : ℕ → ℕ) (γ : ℕ) (s : Side) (t : Tree) (ts : Children) (d : (p : ℕ) → In p t → InChildren p ts → ⊥)
     (M F M₁ F₁ : Bits) (a : Remembered ν γ t M F M₁ F₁) where
   -- the brothers' memo is untouched by the first child's visit
-  pub rest-same : readMemoKids M₁ F₁ ts ≡ readMemoKids M F ts
-  rest-same = readMemoKids-same M₁ F₁ M F ts (λ p i. a .elsewhere p (λ j. d p j i))
+  pub rest-same : readMemoChildren M₁ F₁ ts ≡ readMemoChildren M F ts
+  rest-same = readMemoChildren-same M₁ F₁ M F ts (λ p i. a .elsewhere p (λ j. d p j i))
 
   -- the first child settles its parent
   pub visit-ended : settles s (pass ν γ t (readMemo M F t) .notBelow) ≡ true
       → KidsRemembered ν γ s (t then ts) M F M₁ F₁
   visit-ended e =
       record {
-        got = rw e (ap₂ {C = MemoKids (t then ts)} (λ x y. record { first = x; rest = y }) (a .got) rest-same);
+        got = rw e (ap₂ {C = MemoChildren (t then ts)} (λ x y. record { first = x; rest = y }) (a .got) rest-same);
         elsewhere = λ p h. a .elsewhere p (λ i. h (inl i));
       }
 
@@ -44,9 +44,9 @@ module _ (ν : ℕ → ℕ) (γ : ℕ) (s : Side) (t : Tree) (ts : Kids) (d : (p
       → KidsRemembered ν γ s ts M₁ F₁ M₂ F₂ → KidsRemembered ν γ s (t then ts) M F M₂ F₂
   visit-joined M₂ F₂ e b =
       let first = readMemo-same M₂ F₂ M₁ F₁ t (λ p i. b .elsewhere p (λ j. d p i j)) ∙ a .got in
-      let rest = b .got ∙ ap (λ x. passKids ν γ s ts x .next) rest-same in
+      let rest = b .got ∙ ap (λ x. passChildren ν γ s ts x .next) rest-same in
       record {
-        got = rw e (ap₂ {C = MemoKids (t then ts)} (λ x y. record { first = x; rest = y }) first rest);
+        got = rw e (ap₂ {C = MemoChildren (t then ts)} (λ x y. record { first = x; rest = y }) first rest);
         elsewhere = λ p h. (
           b .elsewhere p (λ i. h (inr i)) .0 ∙ a .elsewhere p (λ i. h (inl i)) .0,
           b .elsewhere p (λ i. h (inr i)) .1 ∙ a .elsewhere p (λ i. h (inl i)) .1,

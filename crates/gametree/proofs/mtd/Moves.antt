@@ -9,49 +9,49 @@ use mathlib.Core.List.{List}
 use lib.Dec.{ltb}
 use borrow.Author.Tests.{eq-eqb, ne-eqb}
 use Rattle.lists.specs.Lists.{among}
-use Rattle.gametree.specs.Tree.{Side, Max, Min, Tree, leaf, inner, Kids, last, _then_, least, greatest}
-use Rattle.gametree.specs.Tree.{minimax, minimaxKids, ScoredKids, Proper}
+use Rattle.gametree.specs.Tree.{Side, Max, Min, Tree, leaf, inner, Children, last, _then_, least, greatest}
+use Rattle.gametree.specs.Tree.{minimax, minimaxChildren, ScoredChildren, Proper}
 use Rattle.gametree.specs.Bounds.{known, high, Decided}
-use Rattle.gametree.specs.Mtd.{Memo, MemoKids, memoHigh, memoHighKids, Pass, PassKids, pass, passKids, Run, run}
+use Rattle.gametree.specs.Mtd.{Memo, MemoChildren, memoHigh, memoHighChildren, Pass, PassChildren, pass, passChildren, MtdRun, run}
 use Rattle.gametree.specs.Mtd.{fresh, mtd}
-use Rattle.gametree.proofs.mtd.Marks.{MarksKids}
+use Rattle.gametree.proofs.mtd.Marks.{MarksChildren}
 use Rattle.gametree.specs.Certificate.{worst}
 use Rattle.gametree.specs.Move.{firstWith, rootMove, boundMove}
 use Rattle.lists.proofs.Choice.{cond-cases, true-not-false}
 use Rattle.gametree.proofs.minimax.Bounds.{minimax-score, low≤, ≤high}
-use Rattle.gametree.proofs.mtd.Sound.{memoLow, memoLow-minimax, minimax-memoHigh, Kept, KeptKids, sound}
-use Rattle.gametree.proofs.mtd.Value.{kept-lower, fresh-kept, fresh-memoHigh, freshKids-memoHigh, mtd-right}
+use Rattle.gametree.proofs.mtd.Sound.{memoLow, memoLow-minimax, minimax-memoHigh, Kept, KeptChildren, sound}
+use Rattle.gametree.proofs.mtd.Value.{kept-lower, fresh-kept, fresh-memoHigh, freshChildren-memoHigh, mtd-right}
 use Rattle.gametree.proofs.mtd.Marks.{mtd-marks, memoBound-is}
-use Rattle.gametree.proofs.sss.Frontier.{ReadyKids, Fitted, ready-lower, AtMost, states, notBelow-low}
+use Rattle.gametree.proofs.sss.Frontier.{ReadyChildren, Fitted, ready-lower, AtMost, states, notBelow-low}
 use Rattle.gametree.proofs.sss.Frontier.{notBelow-high, next}
 use Rattle.gametree.proofs.sss.Frontier.{next-high}
 use Rattle.gametree.proofs.minimax.Moves.{Shown, move-same}
 
 -- the children up to the first one not below v have their highs below it, as the memory's bounds say
-abbrev pub DecidesMax : (ν : ℕ → ℕ) → ℕ → (ks : Kids) → MemoKids ks → Type 0
+abbrev pub DecidesMax : (ν : ℕ → ℕ) → ℕ → (ks : Children) → MemoChildren ks → Type 0
 DecidesMax ν v (last t) m = v ≤ memoLow ν t m
 DecidesMax ν v (t then ts) m =
     (v ≤ memoLow ν t (m .first)) ⊎ ((memoHigh ν t (m .first) < v) × DecidesMax ν v ts (m .rest))
 
 -- a pass over the children of a Max node that finds them not below decides
-passMax-decides : (ν : ℕ → ℕ) (γ : ℕ) (ks : Kids) (m : MemoKids ks) → ScoredKids ν ks → KeptKids ν γ ks m
-    → passKids ν γ Max ks m .notBelow ≡ true → DecidesMax ν γ ks (passKids ν γ Max ks m .next)
+passMax-decides : (ν : ℕ → ℕ) (γ : ℕ) (ks : Children) (m : MemoChildren ks) → ScoredChildren ν ks → KeptChildren ν γ ks m
+    → passChildren ν γ Max ks m .notBelow ≡ true → DecidesMax ν γ ks (passChildren ν γ Max ks m .next)
 passMax-decides ν γ (last t) m h k = sound ν γ t m h k .above
 passMax-decides ν γ (t then ts) m h k =
     let a = sound ν γ t (m .first) (h .0) (k .0) in
-    cond-cases (λ (q : PassKids (t then ts)). q .notBelow ≡ true → DecidesMax ν γ (t then ts) (q .next))
+    cond-cases (λ (q : PassChildren (t then ts)). q .notBelow ≡ true → DecidesMax ν γ (t then ts) (q .next))
     (pass ν γ t (m .first) .notBelow) _ _
     (λ e _. inl (a .above e))
     (λ e f. inr (a .below e, passMax-decides ν γ ts (m .rest) (h .1) (k .1) f))
 
-module _ (ν : ℕ → ℕ) (n : ℕ) (ks : Kids) where
+module _ (ν : ℕ → ℕ) (n : ℕ) (ks : Children) where
   -- a Max root that was not found not below before is entered by the pass that finds it so
-  rootMax-decides : (γ : ℕ) (m : Memo (inner n Max ks)) → ScoredKids ν ks → KeptKids ν γ ks (m .kids)
+  rootMax-decides : (γ : ℕ) (m : Memo (inner n Max ks)) → ScoredChildren ν ks → KeptChildren ν γ ks (m .kids)
       → m .notBelow ≡ false
       → pass ν γ (inner n Max ks) m .notBelow ≡ true → DecidesMax ν γ ks (pass ν γ (inner n Max ks) m .next .kids)
   rootMax-decides γ m h k b =
       cond-cases (λ (r : Pass (inner n Max ks)). r .notBelow ≡ true → DecidesMax ν γ ks (r .next .kids))
-      (ltb (memoHighKids ν Max ks (m .kids)) γ) _ _
+      (ltb (memoHighChildren ν Max ks (m .kids)) γ) _ _
       (λ _ e. absurd (true-not-false e refl))
       (λ _. cond-cases (λ (r : Pass (inner n Max ks)). r .notBelow ≡ true → DecidesMax ν γ ks (r .next .kids))
       (m .notBelow) _ _
@@ -63,14 +63,14 @@ module _ (ν : ℕ → ℕ) (n : ℕ) (ks : Kids) where
       → pass ν γ (inner n Max ks) m .next .notBelow ≡ false
   rootMax-below γ m b =
       cond-cases (λ (r : Pass (inner n Max ks)). r .notBelow ≡ false → r .next .notBelow ≡ false)
-      (ltb (memoHighKids ν Max ks (m .kids)) γ) _ _
+      (ltb (memoHighChildren ν Max ks (m .kids)) γ) _ _
       (λ _ _. b)
       (λ _. cond-cases (λ (r : Pass (inner n Max ks)). r .notBelow ≡ false → r .next .notBelow ≡ false)
       (m .notBelow) _ _
       (λ _ _. b)
       (λ _ e. e))
 
-  runMax-decides : (f γ : ℕ) (m : Memo (inner n Max ks)) → ScoredKids ν ks → Kept ν γ (inner n Max ks) m
+  runMax-decides : (f γ : ℕ) (m : Memo (inner n Max ks)) → ScoredChildren ν ks → Kept ν γ (inner n Max ks) m
       → m .notBelow ≡ false
       → memoHigh ν (inner n Max ks) m ≤ γ → γ < f
       → DecidesMax ν (run ν f γ (inner n Max ks) m .value) ks (run ν f γ (inner n Max ks) m .memo .kids)
@@ -79,7 +79,7 @@ module _ (ν : ℕ → ℕ) (n : ℕ) (ks : Kids) where
       let t = inner n Max ks in
       let x = pass ν γ t m .next in
       let a = sound ν γ t m h k in
-      cond-cases (λ (q : Run t). DecidesMax ν (q .value) ks (q .memo .kids)) (pass ν γ t m .notBelow) _ _
+      cond-cases (λ (q : MtdRun t). DecidesMax ν (q .value) ks (q .memo .kids)) (pass ν γ t m .notBelow) _ _
       (λ e. rootMax-decides γ m h (k .1) b e)
       (λ e.
       let d = a .below e in
@@ -87,7 +87,7 @@ module _ (ν : ℕ → ℕ) (n : ℕ) (ks : Kids) where
       (le-refl _) (omega arith))
 
 -- MTD decides at a Max root: the elder brothers of the first child not below the value have their highs below it
-mtdMax-decides : (ν : ℕ → ℕ) (n : ℕ) (ks : Kids) → ScoredKids ν ks
+mtdMax-decides : (ν : ℕ → ℕ) (n : ℕ) (ks : Children) → ScoredChildren ν ks
     → DecidesMax ν (mtd ν (inner n Max ks) .value) ks (mtd ν (inner n Max ks) .memo .kids)
 unfolding mtd
 mtdMax-decides ν n ks h =
@@ -96,8 +96,8 @@ mtdMax-decides ν n ks h =
     (omega (arith, fresh-memoHigh ν t)) (omega arith)
 
 -- what is decided is shown
-max-shown : (ν : ℕ → ℕ) (w : List ℕ) (v : ℕ) (ks : Kids) (m : MemoKids ks) → ScoredKids ν ks → MarksKids w ks m
-    → minimaxKids ν Max ks ≤ v → DecidesMax ν v ks m → Shown (known ν (among w) least) ν v ks
+max-shown : (ν : ℕ → ℕ) (w : List ℕ) (v : ℕ) (ks : Children) (m : MemoChildren ks) → ScoredChildren ν ks → MarksChildren w ks m
+    → minimaxChildren ν Max ks ≤ v → DecidesMax ν v ks m → Shown (known ν (among w) least) ν v ks
 max-shown ν w v (last t) m h k u d =
     λ e. let i = memoBound-is least ν w t m k in
     let j = low≤ ν (among w) t in
@@ -111,8 +111,8 @@ max-shown ν w v (t then ts) m h k u (inr d) =
     (λ e. absurd (omega (arith, d .0)), λ f. max-shown ν w v ts (m .rest) (h .1) (k .1) (omega arith) (d .1))
 
 -- at a Max root the first child whose high is the value is the first one that has it
-first-high : (ν : ℕ → ℕ) (w : List ℕ) (v : ℕ) (ks : Kids) (m : MemoKids ks) → ScoredKids ν ks → MarksKids w ks m
-    → memoHighKids ν Max ks m ≤ v → DecidesMax ν v ks m
+first-high : (ν : ℕ → ℕ) (w : List ℕ) (v : ℕ) (ks : Children) (m : MemoChildren ks) → ScoredChildren ν ks → MarksChildren w ks m
+    → memoHighChildren ν Max ks m ≤ v → DecidesMax ν v ks m
     → firstWith (high ν (among w)) v ks ≡ firstWith (minimax ν) v ks
 first-high ν w v (last t) m h k u d =
     let i = memoBound-is greatest ν w t m k in
@@ -134,51 +134,51 @@ first-high ν w v (t then ts) m h k u (inr d) =
     ) (first-high ν w v ts (m .rest) (h .1) (k .1) (omega arith) (d .1))
 
 -- the children up to the first one whose high is at most v have their lows above it
-abbrev pub DecidesMin : (ν : ℕ → ℕ) → ℕ → (ks : Kids) → MemoKids ks → Type 0
+abbrev pub DecidesMin : (ν : ℕ → ℕ) → ℕ → (ks : Children) → MemoChildren ks → Type 0
 DecidesMin ν v (last t) m = memoHigh ν t m ≤ v
 DecidesMin ν v (t then ts) m =
     (memoHigh ν t (m .first) ≤ v) ⊎ ((v < memoLow ν t (m .first)) × DecidesMin ν v ts (m .rest))
 
 -- so it is after a pass that finds a Min node below its test, for the node's high
-readyMin-decides : (ν : ℕ → ℕ) (γ v : ℕ) (ks : Kids) (m : MemoKids ks) → ScoredKids ν ks → KeptKids ν γ ks m
+readyMin-decides : (ν : ℕ → ℕ) (γ v : ℕ) (ks : Children) (m : MemoChildren ks) → ScoredChildren ν ks → KeptChildren ν γ ks m
     → γ ≤ greatest
-    → ReadyKids ν γ Min ks m → memoHighKids ν Min ks m ≡ v → v < γ → DecidesMin ν v ks m
+    → ReadyChildren ν γ Min ks m → memoHighChildren ν Min ks m ≡ v → v < γ → DecidesMin ν v ks m
 readyMin-decides ν γ v (last t) m h k g r e l = omega arith
 readyMin-decides ν γ v (t then ts) m h k g (inl r) e l =
     let a = notBelow-low ν γ t (m .first) (k .0) (r .0 .0) in
     let b = notBelow-high ν γ t (m .first) (h .0) (k .0) (r .0 .0) in
     inr (omega arith, readyMin-decides ν γ v ts (m .rest) (h .1) (k .1) g (r .1) (omega arith) l)
 readyMin-decides ν γ v (t then ts) m h k g (inr r) e l =
-    let a = ap (λ x. memoHighKids ν Min ts x) (r .1 .0) ∙ freshKids-memoHigh ν Min ts in
+    let a = ap (λ x. memoHighChildren ν Min ts x) (r .1 .0) ∙ freshChildren-memoHigh ν Min ts in
     inl (omega arith)
 
 -- and it stays so
-passMin-keeps : (ν : ℕ → ℕ) (γ v : ℕ) (ks : Kids) (m : MemoKids ks) → ScoredKids ν ks → KeptKids ν γ ks m
+passMin-keeps : (ν : ℕ → ℕ) (γ v : ℕ) (ks : Children) (m : MemoChildren ks) → ScoredChildren ν ks → KeptChildren ν γ ks m
     → DecidesMin ν v ks m
-    → DecidesMin ν v ks (passKids ν γ Min ks m .next)
+    → DecidesMin ν v ks (passChildren ν γ Min ks m .next)
 passMin-keeps ν γ v (last t) m h k d = le-trans (sound ν γ t m h k .falls) d
 passMin-keeps ν γ v (t then ts) m h k d =
     let a = sound ν γ t (m .first) (h .0) (k .0) in
-    cond-cases (λ (q : PassKids (t then ts)). DecidesMin ν v (t then ts) (q .next))
+    cond-cases (λ (q : PassChildren (t then ts)). DecidesMin ν v (t then ts) (q .next))
     (not (pass ν γ t (m .first) .notBelow)) _ _
     (λ _. ⊎-elim (λ x. inl (le-trans (a .falls) x)) (λ x. inr (lt-of-lt-of-le (x .0) (a .rises), x .1)) d)
     (λ _. ⊎-elim (λ x. inl (le-trans (a .falls) x))
     (λ x. inr (lt-of-lt-of-le (x .0) (a .rises), passMin-keeps ν γ v ts (m .rest) (h .1) (k .1) (x .1))) d)
 
-module _ (ν : ℕ → ℕ) (n : ℕ) (ks : Kids) where
-  rootMin-keeps : (γ v : ℕ) (m : Memo (inner n Min ks)) → ScoredKids ν ks → KeptKids ν γ ks (m .kids)
+module _ (ν : ℕ → ℕ) (n : ℕ) (ks : Children) where
+  rootMin-keeps : (γ v : ℕ) (m : Memo (inner n Min ks)) → ScoredChildren ν ks → KeptChildren ν γ ks (m .kids)
       → DecidesMin ν v ks (m .kids)
       → DecidesMin ν v ks (pass ν γ (inner n Min ks) m .next .kids)
   rootMin-keeps γ v m h k d =
       cond-cases (λ (r : Pass (inner n Min ks)). DecidesMin ν v ks (r .next .kids))
-      (ltb (memoHighKids ν Min ks (m .kids)) γ) _ _
+      (ltb (memoHighChildren ν Min ks (m .kids)) γ) _ _
       (λ _. d)
       (λ _. cond-cases (λ (r : Pass (inner n Min ks)). DecidesMin ν v ks (r .next .kids)) (m .notBelow) _ _
       (λ _. d)
       (λ _. passMin-keeps ν γ v ks (m .kids) h k d))
 
   -- the first pass finds a root below, so the last one's test is the high that an earlier one left
-  runMin-decides : (f γ : ℕ) (m : Memo (inner n Min ks)) (w : Fitted ν γ (inner n Min ks) m) → ScoredKids ν ks
+  runMin-decides : (f γ : ℕ) (m : Memo (inner n Min ks)) (w : Fitted ν γ (inner n Min ks) m) → ScoredChildren ν ks
       → Kept ν γ (inner n Min ks) m
       → γ ≤ greatest → AtMost γ (states ν γ (inner n Min ks) m w)
       → (γ ≡ greatest) ⊎ DecidesMin ν γ ks (m .kids) → γ < f
@@ -189,7 +189,7 @@ module _ (ν : ℕ → ℕ) (n : ℕ) (ks : Kids) where
       let x = pass ν γ t m .next in
       let a = sound ν γ t m h k in
       let z = minimax-score ν t h in
-      cond-cases (λ (q : Run t). DecidesMin ν (q .value) ks (q .memo .kids)) (pass ν γ t m .notBelow) _ _
+      cond-cases (λ (q : MtdRun t). DecidesMin ν (q .value) ks (q .memo .kids)) (pass ν γ t m .notBelow) _ _
       (λ e. ⊎-elim (λ y. absurd (omega (arith, a .above e, memoLow-minimax ν t x, z .1)))
       (λ y. rootMin-keeps γ γ m h (k .1) y) d)
       (λ e.
@@ -202,7 +202,7 @@ module _ (ν : ℕ → ℕ) (n : ℕ) (ks : Kids) where
 
 -- MTD decides at a Min root: the elder brothers of the first child whose high is at most the value have their lows
 -- above it
-mtdMin-decides : (ν : ℕ → ℕ) (n : ℕ) (ks : Kids) → ScoredKids ν ks
+mtdMin-decides : (ν : ℕ → ℕ) (n : ℕ) (ks : Children) → ScoredChildren ν ks
     → DecidesMin ν (mtd ν (inner n Min ks) .value) ks (mtd ν (inner n Min ks) .memo .kids)
 unfolding mtd
 mtdMin-decides ν n ks h =
@@ -212,8 +212,8 @@ mtdMin-decides ν n ks h =
     (inl refl) (omega arith)
 
 -- what is decided is shown
-min-shown : (ν : ℕ → ℕ) (w : List ℕ) (v : ℕ) (ks : Kids) (m : MemoKids ks) → ScoredKids ν ks → MarksKids w ks m
-    → v ≤ minimaxKids ν Min ks → DecidesMin ν v ks m → Shown (known ν (among w) greatest) ν v ks
+min-shown : (ν : ℕ → ℕ) (w : List ℕ) (v : ℕ) (ks : Children) (m : MemoChildren ks) → ScoredChildren ν ks → MarksChildren w ks m
+    → v ≤ minimaxChildren ν Min ks → DecidesMin ν v ks m → Shown (known ν (among w) greatest) ν v ks
 min-shown ν w v (last t) m h k u d =
     λ e. let i = memoBound-is greatest ν w t m k in
     let j = ≤high ν (among w) t h in
@@ -237,8 +237,8 @@ mtd-decided ν t r =
     }
 
 -- and show the root's value
-mtd-shown : (ν : ℕ → ℕ) (n : ℕ) (s : Side) (ks : Kids) → Proper ν (inner n s ks)
-    → Shown (known ν (among (mtd ν (inner n s ks) .evaluated)) (worst s)) ν (minimaxKids ν s ks) ks
+mtd-shown : (ν : ℕ → ℕ) (n : ℕ) (s : Side) (ks : Children) → Proper ν (inner n s ks)
+    → Shown (known ν (among (mtd ν (inner n s ks) .evaluated)) (worst s)) ν (minimaxChildren ν s ks) ks
 mtd-shown ν n Max ks r =
     let t = inner n Max ks in
     max-shown ν (mtd ν t .evaluated) _ ks (mtd ν t .memo .kids) (r .scored) (mtd-marks ν t (r .distinct) .marks)
@@ -255,7 +255,7 @@ mtd-move ν (inner n s ks) r =
     move-same ν _ n s ks (r .scored) (mtd-decided ν (inner n s ks) r) (mtd-shown ν n s ks r)
 
 -- at a Max root it is the first child whose high is the root's
-pub mtd-highMove : (ν : ℕ → ℕ) (n : ℕ) (ks : Kids) → let t = inner n Max ks in
+pub mtd-highMove : (ν : ℕ → ℕ) (n : ℕ) (ks : Children) → let t = inner n Max ks in
     let E = among (mtd ν t .evaluated) in
     Proper ν t → firstWith (high ν E) (high ν E t) ks ≡ rootMove ν t
 mtd-highMove ν n ks r =

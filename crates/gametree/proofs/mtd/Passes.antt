@@ -9,10 +9,10 @@ use mathlib.Core.List.{List, [], _∷_, _++_, map, append-assoc}
 use lib.Dec.{leb, eqb}
 use borrow.Author.Tests.{leb-true, leb-false, eqb-true, eq-eqb, ne-eqb}
 use Rattle.lists.specs.Lists.{among, different}
-use Rattle.gametree.specs.Tree.{Side, Max, Min, Tree, leaf, inner, Kids, last, _then_, greatest, better}
-use Rattle.gametree.specs.Tree.{minimaxKids, Proper}
+use Rattle.gametree.specs.Tree.{Side, Max, Min, Tree, leaf, inner, Children, last, _then_, greatest, better}
+use Rattle.gametree.specs.Tree.{minimaxChildren, Proper}
 use Rattle.gametree.specs.Bounds.{known, high}
-use Rattle.gametree.specs.Mtd.{Memo, memoHigh, pass, Run, run, fresh, mtd}
+use Rattle.gametree.specs.Mtd.{Memo, memoHigh, pass, MtdRun, run, fresh, mtd}
 use Rattle.gametree.proofs.mtd.Marks.{Marks}
 use Rattle.lists.proofs.Choice.{cond-cases, or-left, or-right, or-cases}
 use Rattle.lists.proofs.Lists.{among-left}
@@ -97,16 +97,16 @@ mutual
           → among (map ν w) (cond b (ν n) greatest) ≡ true
       at true e l = among-map ν w n e
       at false e l = absurd (omega arith)
-  high-score ν w (inner n s ks) h = highKids-score ν w s ks h
+  high-score ν w (inner n s ks) h = highChildren-score ν w s ks h
 
-  highKids-score : (ν : ℕ → ℕ) (w : List ℕ) (s : Side) (ks : Kids)
-      → minimaxKids (known ν (among w) greatest) s ks < greatest
-      → among (map ν w) (minimaxKids (known ν (among w) greatest) s ks) ≡ true
-  highKids-score ν w s (last t) h = high-score ν w t h
-  highKids-score ν w s (t then ts) h =
-      better-one s (high ν (among w) t) (minimaxKids (known ν (among w) greatest) s ts)
+  highChildren-score : (ν : ℕ → ℕ) (w : List ℕ) (s : Side) (ks : Children)
+      → minimaxChildren (known ν (among w) greatest) s ks < greatest
+      → among (map ν w) (minimaxChildren (known ν (among w) greatest) s ks) ≡ true
+  highChildren-score ν w s (last t) h = high-score ν w t h
+  highChildren-score ν w s (t then ts) h =
+      better-one s (high ν (among w) t) (minimaxChildren (known ν (among w) greatest) s ts)
       (λ v. among (map ν w) v ≡ true) h
-      (λ l. high-score ν w t l) (λ l. highKids-score ν w s ts l)
+      (λ l. high-score ν w t l) (λ l. highChildren-score ν w s ts l)
 
 map-append : (ν : ℕ → ℕ) (v w : List ℕ) → map ν (v ++ w) ≡ map ν v ++ map ν w
 map-append ν [] w = refl
@@ -124,7 +124,7 @@ run-passes ν (suc f) γ w t m h k a g =
     let s = sound ν γ t m (h .scored) k in
     let c = pass-marks ν γ w t m (h .distinct) a .marks in
     let u = run ν f (memoHigh ν t n) t n .evaluated in
-    cond-cases (λ (q : Run t). q .passes ≤ suc (how-many (among (map ν (w ++ q .evaluated))) γ)) (r .notBelow) _ _
+    cond-cases (λ (q : MtdRun t). q .passes ≤ suc (how-many (among (map ν (w ++ q .evaluated))) γ)) (r .notBelow) _ _
     (λ _. omega arith)
     (λ e.
     let b = s .below e in

@@ -4,26 +4,26 @@ use native.Mathlib.Nat.{le-refl, le-trans}
 use native.Mathlib.Omega.{arith}
 use mathlib.Core.Path.{_≡_, refl}
 use mathlib.Core.Bool.{true}
-use Rattle.gametree.specs.Tree.{Side, Max, Min, Tree, leaf, inner, Kids, last, _then_, greatest, better, minimax}
+use Rattle.gametree.specs.Tree.{Side, Max, Min, Tree, leaf, inner, Children, last, _then_, greatest, better, minimax}
 use Rattle.gametree.specs.Tree.{Scored}
-use Rattle.gametree.specs.Mtd.{Memo, MemoKids, memoHigh, memoHighKids, pass, Run, settled, run, fresh, freshKids}
+use Rattle.gametree.specs.Mtd.{Memo, MemoChildren, memoHigh, memoHighChildren, pass, MtdRun, settled, run, fresh, freshChildren}
 use Rattle.gametree.specs.Mtd.{mtd}
 use Rattle.lists.proofs.Choice.{cond-cases, true-not-false}
-use Rattle.gametree.proofs.mtd.Sound.{memoLow, memoLow-minimax, minimax-memoHigh, Kept, KeptKids, Sound, sound}
+use Rattle.gametree.proofs.mtd.Sound.{memoLow, memoLow-minimax, minimax-memoHigh, Kept, KeptChildren, Sound, sound}
 
 mutual
   -- with a lower test no more is asked of the nodes found not below
   pub kept-lower : (ν : ℕ → ℕ) {γ δ : ℕ} (t : Tree) (m : Memo t) → δ ≤ γ → Kept ν γ t m → Kept ν δ t m
   kept-lower ν (leaf n) m h k = tt
-  kept-lower ν (inner n s ks) m h k = (λ e. le-trans h (k .0 e), keptKids-lower ν ks (m .kids) h (k .1))
+  kept-lower ν (inner n s ks) m h k = (λ e. le-trans h (k .0 e), keptChildren-lower ν ks (m .kids) h (k .1))
 
-  keptKids-lower : (ν : ℕ → ℕ) {γ δ : ℕ} (ks : Kids) (m : MemoKids ks) → δ ≤ γ → KeptKids ν γ ks m
-      → KeptKids ν δ ks m
-  keptKids-lower ν (last t) m h k = kept-lower ν t m h k
-  keptKids-lower ν (t then ts) m h k = (kept-lower ν t (m .first) h (k .0), keptKids-lower ν ts (m .rest) h (k .1))
+  keptChildren-lower : (ν : ℕ → ℕ) {γ δ : ℕ} (ks : Children) (m : MemoChildren ks) → δ ≤ γ → KeptChildren ν γ ks m
+      → KeptChildren ν δ ks m
+  keptChildren-lower ν (last t) m h k = kept-lower ν t m h k
+  keptChildren-lower ν (t then ts) m h k = (kept-lower ν t (m .first) h (k .0), keptChildren-lower ν ts (m .rest) h (k .1))
 
 -- the run's value is the minimax value, and so are the bounds that its leaves give
-pub record Right (ν : ℕ → ℕ) (t : Tree) (q : Run t) : Type 0 where
+pub record Right (ν : ℕ → ℕ) (t : Tree) (q : MtdRun t) : Type 0 where
   pub value : q .value ≡ minimax ν t
   pub low-is : memoLow ν t (q .memo) ≡ minimax ν t
   pub high-is : memoHigh ν t (q .memo) ≡ minimax ν t
@@ -55,11 +55,11 @@ mutual
   -- at the start no node was found
   pub fresh-kept : (ν : ℕ → ℕ) (γ : ℕ) (t : Tree) → Kept ν γ t (fresh t)
   fresh-kept ν γ (leaf n) = tt
-  fresh-kept ν γ (inner n s ks) = (λ e. absurd (true-not-false e refl), freshKids-kept ν γ ks)
+  fresh-kept ν γ (inner n s ks) = (λ e. absurd (true-not-false e refl), freshChildren-kept ν γ ks)
 
-  freshKids-kept : (ν : ℕ → ℕ) (γ : ℕ) (ks : Kids) → KeptKids ν γ ks (freshKids ks)
-  freshKids-kept ν γ (last t) = fresh-kept ν γ t
-  freshKids-kept ν γ (t then ts) = (fresh-kept ν γ t, freshKids-kept ν γ ts)
+  freshChildren-kept : (ν : ℕ → ℕ) (γ : ℕ) (ks : Children) → KeptChildren ν γ ks (freshChildren ks)
+  freshChildren-kept ν γ (last t) = fresh-kept ν γ t
+  freshChildren-kept ν γ (t then ts) = (fresh-kept ν γ t, freshChildren-kept ν γ ts)
 
 better-same : (s : Side) (a : ℕ) → better s a a ≡ a
 better-same Max a = omega arith
@@ -69,11 +69,11 @@ mutual
   -- at the start every high is the top
   pub fresh-memoHigh : (ν : ℕ → ℕ) (t : Tree) → memoHigh ν t (fresh t) ≡ greatest
   fresh-memoHigh ν (leaf n) = refl
-  fresh-memoHigh ν (inner n s ks) = freshKids-memoHigh ν s ks
+  fresh-memoHigh ν (inner n s ks) = freshChildren-memoHigh ν s ks
 
-  pub freshKids-memoHigh : (ν : ℕ → ℕ) (s : Side) (ks : Kids) → memoHighKids ν s ks (freshKids ks) ≡ greatest
-  freshKids-memoHigh ν s (last t) = fresh-memoHigh ν t
-  freshKids-memoHigh ν s (t then ts) = rw (fresh-memoHigh ν t, freshKids-memoHigh ν s ts) (better-same s greatest)
+  pub freshChildren-memoHigh : (ν : ℕ → ℕ) (s : Side) (ks : Children) → memoHighChildren ν s ks (freshChildren ks) ≡ greatest
+  freshChildren-memoHigh ν s (last t) = fresh-memoHigh ν t
+  freshChildren-memoHigh ν s (t then ts) = rw (fresh-memoHigh ν t, freshChildren-memoHigh ν s ts) (better-same s greatest)
 
 -- MTD gives the minimax value, and its evaluated leaves give every bound of the root that value
 pub mtd-right : (ν : ℕ → ℕ) (t : Tree) → Scored ν t → Right ν t (mtd ν t)

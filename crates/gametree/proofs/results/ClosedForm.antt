@@ -10,22 +10,22 @@ use mathlib.Core.List.{List, [], _∷_, _++_}
 use lib.Dec.{leb, ltb}
 use borrow.Author.Tests.{ltb-true, ltb-false, leb-true, leb-false, not-true, not-false, le-leb, lt-leb}
 use Rattle.lists.specs.Lists.{All, among}
-use Rattle.gametree.specs.Tree.{Side, Max, Min, Tree, leaf, inner, Kids, last, _then_, least, greatest, minimax}
-use Rattle.gametree.specs.Tree.{minimaxKids, In, InKids, EveryLeaf, EveryLeafKids, Scored, ScoredKids, Distinct}
-use Rattle.gametree.specs.Tree.{DistinctKids, Proper}
+use Rattle.gametree.specs.Tree.{Side, Max, Min, Tree, leaf, inner, Children, last, _then_, least, greatest, minimax}
+use Rattle.gametree.specs.Tree.{minimaxChildren, In, InChildren, EveryLeaf, EveryLeafChildren, Scored, ScoredChildren, Distinct}
+use Rattle.gametree.specs.Tree.{DistinctChildren, Proper}
 use Rattle.gametree.specs.AlphaBeta.{raise, lower}
-use Rattle.gametree.specs.Mtd.{Memo, MemoKids, memoHigh, memoHighKids, Pass, PassKids, pass, passKids, Run, run}
+use Rattle.gametree.specs.Mtd.{Memo, MemoChildren, memoHigh, memoHighChildren, Pass, PassChildren, pass, passChildren, MtdRun, run}
 use Rattle.gametree.specs.Mtd.{fresh, mtd}
-use Rattle.gametree.proofs.mtd.Marks.{Marks, MarksKids}
-use Rattle.gametree.specs.results.ClosedForm.{rival, unrivalled, unrivalledKids}
+use Rattle.gametree.proofs.mtd.Marks.{Marks, MarksChildren}
+use Rattle.gametree.specs.results.ClosedForm.{rival, unrivalled, unrivalledChildren}
 use Rattle.lists.proofs.Choice.{cond-cases, true-not-false, and-both}
 use Rattle.lists.proofs.Lists.{all-append, all-map, all-among}
 use Rattle.gametree.proofs.minimax.Bounds.{minimax-score}
 use Rattle.gametree.proofs.mtd.Sound.{minimax-memoHigh}
-use Rattle.gametree.proofs.mtd.Marks.{marks-other, marksKids-before, mtd-marks}
-use Rattle.gametree.proofs.results.MemoAt.{firstFloor, restFloor, memoAt, memoAtKids, less-or-not, kids-path}
+use Rattle.gametree.proofs.mtd.Marks.{marks-other, marksChildren-before, mtd-marks}
+use Rattle.gametree.proofs.results.MemoAt.{firstFloor, restFloor, memoAt, memoAtChildren, less-or-not, kids-path}
 use Rattle.gametree.proofs.results.MemoAt.{inner-path}
-use Rattle.gametree.proofs.results.MemoAt.{at-fresh, atKids-fresh, frozen, at-below, at-same}
+use Rattle.gametree.proofs.results.MemoAt.{at-fresh, atChildren-fresh, frozen, at-below, at-same}
 
 -- THE NEEDED LEAVES
 
@@ -33,13 +33,13 @@ use Rattle.gametree.proofs.results.MemoAt.{at-fresh, atKids-fresh, froz
 abbrev mutual
   needed : (ℕ → ℕ) → ℕ → ℕ → Tree → List ℕ
   needed ν c β (leaf n) = cond (leb c β) (n ∷ []) []
-  needed ν c β (inner n s ks) = neededKids ν s c β ks
+  needed ν c β (inner n s ks) = neededChildren ν s c β ks
 
-  neededKids : (ℕ → ℕ) → Side → ℕ → ℕ → Kids → List ℕ
-  neededKids ν s c β (last t) = needed ν c β t
-  neededKids ν s c β (t then ts) =
-      needed ν (firstFloor s c β (minimaxKids ν s ts)) β t
-      ++ neededKids ν s (restFloor s c (minimax ν t)) (lower s β (minimax ν t)) ts
+  neededChildren : (ℕ → ℕ) → Side → ℕ → ℕ → Children → List ℕ
+  neededChildren ν s c β (last t) = needed ν c β t
+  neededChildren ν s c β (t then ts) =
+      needed ν (firstFloor s c β (minimaxChildren ν s ts)) β t
+      ++ neededChildren ν s (restFloor s c (minimax ν t)) (lower s β (minimax ν t)) ts
 
 -- floors join alpha and the rivals
 floor-test : (α β δ : ℕ) → ltb α β && leb δ β ≡ leb (max (suc α) δ) β
@@ -63,14 +63,14 @@ mutual
   -- the closed form by floors
   unrivalled-needed : (ν : ℕ → ℕ) (α β δ : ℕ) (t : Tree) → unrivalled ν α β δ t ≡ needed ν (max (suc α) δ) β t
   unrivalled-needed ν α β δ (leaf n) = ap (λ b. cond b (n ∷ []) []) (floor-test α β δ)
-  unrivalled-needed ν α β δ (inner n s ks) = unrivalledKids-needed ν s α β δ ks
+  unrivalled-needed ν α β δ (inner n s ks) = unrivalledChildren-needed ν s α β δ ks
 
-  unrivalledKids-needed : (ν : ℕ → ℕ) (s : Side) (α β δ : ℕ) (ks : Kids)
-      → unrivalledKids ν s α β δ ks ≡ neededKids ν s (max (suc α) δ) β ks
-  unrivalledKids-needed ν s α β δ (last t) = unrivalled-needed ν α β δ t
-  unrivalledKids-needed ν s α β δ (t then ts) =
-      ap₂ _++_ (unrivalled-needed ν α β _ t ∙ ap (λ c. needed ν c β t) (first-floor s α β δ (minimaxKids ν s ts)))
-      (unrivalledKids-needed ν s _ _ δ ts ∙ ap (λ c. neededKids ν s c (lower s β (minimax ν t)) ts)
+  unrivalledChildren-needed : (ν : ℕ → ℕ) (s : Side) (α β δ : ℕ) (ks : Children)
+      → unrivalledChildren ν s α β δ ks ≡ neededChildren ν s (max (suc α) δ) β ks
+  unrivalledChildren-needed ν s α β δ (last t) = unrivalled-needed ν α β δ t
+  unrivalledChildren-needed ν s α β δ (t then ts) =
+      ap₂ _++_ (unrivalled-needed ν α β _ t ∙ ap (λ c. needed ν c β t) (first-floor s α β δ (minimaxChildren ν s ts)))
+      (unrivalledChildren-needed ν s _ _ δ ts ∙ ap (λ c. neededChildren ν s c (lower s β (minimax ν t)) ts)
       (rest-floor s α δ (minimax ν t)))
 
 -- PASSES
@@ -106,22 +106,22 @@ record Passed (ν : ℕ → ℕ) (γ β : ℕ) (t : Tree) (r : Pass t) : Type 0 
   next-is : r .next ≡ memoAt ν γ β t
   answer : r .notBelow ≡ leb γ (minimax ν t)
 
-record PassedKids (ν : ℕ → ℕ) (γ β : ℕ) (s : Side) (ks : Kids) (q : PassKids ks) : Type 0 where
-  next-is : q .next ≡ memoAtKids ν s γ β ks
-  answer : q .notBelow ≡ leb γ (minimaxKids ν s ks)
+record PassedChildren (ν : ℕ → ℕ) (γ β : ℕ) (s : Side) (ks : Children) (q : PassChildren ks) : Type 0 where
+  next-is : q .next ≡ memoAtChildren ν s γ β ks
+  answer : q .notBelow ≡ leb γ (minimaxChildren ν s ks)
 
 -- an inner node is skipped as below, skipped as not below, or entered
-passed-inner : (ν : ℕ → ℕ) (γ β n : ℕ) (s : Side) (ks : Kids) (m : Memo (inner n s ks)) → ScoredKids ν ks
+passed-inner : (ν : ℕ → ℕ) (γ β n : ℕ) (s : Side) (ks : Children) (m : Memo (inner n s ks)) → ScoredChildren ν ks
     → m ≡ memoAt ν (suc γ) β (inner n s ks)
-    → γ ≤ β → γ ≤ greatest → (min β (minimaxKids ν s ks) ≤ γ → PassedKids ν γ β s ks (passKids ν γ s ks (m .kids)))
+    → γ ≤ β → γ ≤ greatest → (min β (minimaxChildren ν s ks) ≤ γ → PassedChildren ν γ β s ks (passChildren ν γ s ks (m .kids)))
     → Passed ν γ β (inner n s ks) (pass ν γ (inner n s ks) m)
 passed-inner ν γ β n s ks m i e h g q =
     let t = inner n s ks in
-    let v = minimaxKids ν s ks in
+    let v = minimaxChildren ν s ks in
     let f : m .notBelow ≡ leb (suc γ) β && leb (suc γ) v = ap (λ (x : Memo t). x .notBelow) e in
-    cond-cases (λ r. Passed ν γ β t r) (ltb (memoHighKids ν s ks (m .kids)) γ) _ _
+    cond-cases (λ r. Passed ν γ β t r) (ltb (memoHighChildren ν s ks (m .kids)) γ) _ _
     (λ d.
-    let l = ltb-true (memoHighKids ν s ks (m .kids)) γ d in
+    let l = ltb-true (memoHighChildren ν s ks (m .kids)) γ d in
     let k = subst (λ (x : Memo t). memoHigh ν t x < γ) e l in
     let w = minimax-memoHigh ν t m i in
     record {
@@ -172,57 +172,57 @@ mutual
       (λ _. record { next-is = rw (le-leb γ β h) refl; answer = refl })
   passed ν γ β (inner n s ks) m i e h g =
       passed-inner ν γ β n s ks m i e h g
-      (λ l. passedKids ν γ β s ks (m .kids) i (ap (λ (x : Memo (inner n s ks)). x .kids) e) h g l)
+      (λ l. passedChildren ν γ β s ks (m .kids) i (ap (λ (x : Memo (inner n s ks)). x .kids) e) h g l)
 
-  passedKids : (ν : ℕ → ℕ) (γ β : ℕ) (s : Side) (ks : Kids) (m : MemoKids ks) → ScoredKids ν ks
-      → m ≡ memoAtKids ν s (suc γ) β ks → γ ≤ β → γ ≤ greatest
-      → min β (minimaxKids ν s ks) ≤ γ → PassedKids ν γ β s ks (passKids ν γ s ks m)
-  passedKids ν γ β s (last t) m i e h g l =
+  passedChildren : (ν : ℕ → ℕ) (γ β : ℕ) (s : Side) (ks : Children) (m : MemoChildren ks) → ScoredChildren ν ks
+      → m ≡ memoAtChildren ν s (suc γ) β ks → γ ≤ β → γ ≤ greatest
+      → min β (minimaxChildren ν s ks) ≤ γ → PassedChildren ν γ β s ks (passChildren ν γ s ks m)
+  passedChildren ν γ β s (last t) m i e h g l =
       let a = passed ν γ β t m i e h g in
       record { next-is = a .next-is; answer = a .answer }
-  passedKids ν γ β Max (t then ts) m i e h g l =
+  passedChildren ν γ β Max (t then ts) m i e h g l =
       let u = minimax ν t in
-      let y = minimaxKids ν Max ts in
+      let y = minimaxChildren ν Max ts in
       let o = min-first γ β u y l in
       let j = floor-first γ (min β y) o in
-      let first = ap (λ (x : MemoKids (t then ts)). x .first) e in
-      let rest = ap (λ (x : MemoKids (t then ts)). x .rest) e in
+      let first = ap (λ (x : MemoChildren (t then ts)). x .first) e in
+      let rest = ap (λ (x : MemoChildren (t then ts)). x .rest) e in
       let a = passed ν γ β t (m .first) (i .0) (first ∙ ap (λ x. memoAt ν x β t) (j .0)) h g in
       let one = a .next-is ∙ ap (λ x. memoAt ν x β t) (j .1) in
-      cond-cases (λ q. PassedKids ν γ β Max (t then ts) q) (pass ν γ t (m .first) .notBelow) _ _
+      cond-cases (λ q. PassedChildren ν γ β Max (t then ts) q) (pass ν γ t (m .first) .notBelow) _ _
       (λ d.
       let w = leb-true γ u (sym (a .answer) ∙ d) in
       record {
-        next-is = kids-path t ts one (rest ∙ ap (λ x. memoAtKids ν Max x β ts) (floor-reached γ u w));
+        next-is = kids-path t ts one (rest ∙ ap (λ x. memoAtChildren ν Max x β ts) (floor-reached γ u w));
         answer = d ∙ sym (le-leb γ (max u y) (le-max γ u y w));
       })
       (λ d.
       let w = leb-false γ u (sym (a .answer) ∙ d) in
       let z = floor-rest γ u w in
-      let b = passedKids ν γ β Max ts (m .rest) (i .1) (rest ∙ ap (λ x. memoAtKids ν Max x β ts) (z .0)) h g o in
+      let b = passedChildren ν γ β Max ts (m .rest) (i .1) (rest ∙ ap (λ x. memoAtChildren ν Max x β ts) (z .0)) h g o in
       record {
-        next-is = kids-path t ts one (b .next-is ∙ ap (λ x. memoAtKids ν Max x β ts) (z .1));
+        next-is = kids-path t ts one (b .next-is ∙ ap (λ x. memoAtChildren ν Max x β ts) (z .1));
         answer = b .answer ∙ leb-max γ u y w;
       })
-  passedKids ν γ β Min (t then ts) m i e h g l =
+  passedChildren ν γ β Min (t then ts) m i e h g l =
       let u = minimax ν t in
-      let y = minimaxKids ν Min ts in
-      let rest = ap (λ (x : MemoKids (t then ts)). x .rest) e in
-      let a = passed ν γ β t (m .first) (i .0) (ap (λ (x : MemoKids (t then ts)). x .first) e) h g in
-      cond-cases (λ q. PassedKids ν γ β Min (t then ts) q) (not (pass ν γ t (m .first) .notBelow)) _ _
+      let y = minimaxChildren ν Min ts in
+      let rest = ap (λ (x : MemoChildren (t then ts)). x .rest) e in
+      let a = passed ν γ β t (m .first) (i .0) (ap (λ (x : MemoChildren (t then ts)). x .first) e) h g in
+      cond-cases (λ q. PassedChildren ν γ β Min (t then ts) q) (not (pass ν γ t (m .first) .notBelow)) _ _
       (λ d.
       let f = not-true _ d in
       let w = leb-false γ u (sym (a .answer) ∙ f) in
       record {
         next-is =
             kids-path t ts (a .next-is)
-            (rest ∙ atKids-fresh ν Min (suc γ) (min β u) ts (omega arith) ∙ sym
-            (atKids-fresh ν Min γ (min β u) ts (omega arith)));
+            (rest ∙ atChildren-fresh ν Min (suc γ) (min β u) ts (omega arith) ∙ sym
+            (atChildren-fresh ν Min γ (min β u) ts (omega arith)));
         answer = f ∙ sym (lt-leb γ (min u y) (omega arith));
       })
       (λ d.
       let w = leb-true γ u (sym (a .answer) ∙ not-false _ d) in
-      let b = passedKids ν γ (min β u) Min ts (m .rest) (i .1) rest (omega arith) g (omega arith) in
+      let b = passedChildren ν γ (min β u) Min ts (m .rest) (i .1) rest (omega arith) g (omega arith) in
       record {
         next-is = kids-path t ts (a .next-is) (b .next-is);
         answer = b .answer ∙ leb-min γ u y w;
@@ -236,7 +236,7 @@ run-form ν zero γ t m i e p g l = absurd (omega (arith, l))
 run-form ν (suc f) γ t m i e p g l =
     let a = passed ν γ greatest t m i e g g in
     let n = pass ν γ t m .next in
-    cond-cases (λ (q : Run t). q .memo ≡ memoAt ν 1 greatest t) (pass ν γ t m .notBelow) _ _
+    cond-cases (λ (q : MtdRun t). q .memo ≡ memoAt ν 1 greatest t) (pass ν γ t m .notBelow) _ _
     (λ d. a .next-is ∙ sym (frozen ν 1 γ greatest t p g (leb-true γ _ (sym (a .answer) ∙ d))))
     (λ d.
     let w = leb-false γ (minimax ν t) (sym (a .answer) ∙ d) in
@@ -258,14 +258,14 @@ needed-leaf false n = tt
 mutual
   needed-in : (ν : ℕ → ℕ) (c β : ℕ) (t : Tree) → All (λ k. In k t) (needed ν c β t)
   needed-in ν c β (leaf n) = needed-leaf (leb c β) n
-  needed-in ν c β (inner n s ks) = all-map _ _ (λ k i. inr i) (neededKids ν s c β ks) (neededKids-in ν s c β ks)
+  needed-in ν c β (inner n s ks) = all-map _ _ (λ k i. inr i) (neededChildren ν s c β ks) (neededChildren-in ν s c β ks)
 
-  neededKids-in : (ν : ℕ → ℕ) (s : Side) (c β : ℕ) (ks : Kids) → All (λ k. InKids k ks) (neededKids ν s c β ks)
-  neededKids-in ν s c β (last t) = needed-in ν c β t
-  neededKids-in ν s c β (t then ts) =
-      all-append (λ k. InKids k (t then ts)) (needed ν _ β t) (neededKids ν s _ _ ts)
+  neededChildren-in : (ν : ℕ → ℕ) (s : Side) (c β : ℕ) (ks : Children) → All (λ k. InChildren k ks) (neededChildren ν s c β ks)
+  neededChildren-in ν s c β (last t) = needed-in ν c β t
+  neededChildren-in ν s c β (t then ts) =
+      all-append (λ k. InChildren k (t then ts)) (needed ν _ β t) (neededChildren ν s _ _ ts)
       (all-map _ _ (λ k i. inl i) (needed ν _ β t) (needed-in ν _ β t))
-      (all-map _ _ (λ k i. inr i) (neededKids ν s _ _ ts) (neededKids-in ν s _ _ ts))
+      (all-map _ _ (λ k i. inr i) (neededChildren ν s _ _ ts) (neededChildren-in ν s _ _ ts))
 
 -- and they are the marked ones
 mark-leaf : (b : Bool) (n : ℕ) → b ≡ among (cond b (n ∷ []) []) n
@@ -275,21 +275,21 @@ mark-leaf false n = refl
 mutual
   needed-marks : (ν : ℕ → ℕ) (c β : ℕ) (t : Tree) → Distinct t → Marks (needed ν c β t) t (memoAt ν c β t)
   needed-marks ν c β (leaf n) d = mark-leaf (leb c β) n
-  needed-marks ν c β (inner n s ks) d = neededKids-marks ν s c β ks (d .1)
+  needed-marks ν c β (inner n s ks) d = neededChildren-marks ν s c β ks (d .1)
 
-  neededKids-marks : (ν : ℕ → ℕ) (s : Side) (c β : ℕ) (ks : Kids) → DistinctKids ks
-      → MarksKids (neededKids ν s c β ks) ks (memoAtKids ν s c β ks)
-  neededKids-marks ν s c β (last t) d = needed-marks ν c β t d
-  neededKids-marks ν s c β (t then ts) d =
-      let x = firstFloor s c β (minimaxKids ν s ts) in
+  neededChildren-marks : (ν : ℕ → ℕ) (s : Side) (c β : ℕ) (ks : Children) → DistinctChildren ks
+      → MarksChildren (neededChildren ν s c β ks) ks (memoAtChildren ν s c β ks)
+  neededChildren-marks ν s c β (last t) d = needed-marks ν c β t d
+  neededChildren-marks ν s c β (t then ts) d =
+      let x = firstFloor s c β (minimaxChildren ν s ts) in
       let y = restFloor s c (minimax ν t) in
       let z = lower s β (minimax ν t) in (
-        marks-other (needed ν x β t) (neededKids ν s y z ts) t (memoAt ν x β t)
-            (all-map _ _ (λ k i j. d .2 k j i) (neededKids ν s y z ts) (neededKids-in ν s y z ts))
+        marks-other (needed ν x β t) (neededChildren ν s y z ts) t (memoAt ν x β t)
+            (all-map _ _ (λ k i j. d .2 k j i) (neededChildren ν s y z ts) (neededChildren-in ν s y z ts))
             (needed-marks ν x β t (d .0)),
-        marksKids-before (needed ν x β t) (neededKids ν s y z ts) ts (memoAtKids ν s y z ts)
+        marksChildren-before (needed ν x β t) (neededChildren ν s y z ts) ts (memoAtChildren ν s y z ts)
             (all-map _ _ (λ k i j. d .2 k i j) (needed ν x β t) (needed-in ν x β t))
-            (neededKids-marks ν s y z ts (d .1)),
+            (neededChildren-marks ν s y z ts (d .1)),
       )
 
 -- lists that mark the same memory have the same leaves
@@ -297,13 +297,13 @@ mutual
   marks-agree : (v w : List ℕ) (t : Tree) (m : Memo t) → Marks v t m → Marks w t m
       → EveryLeaf (λ n. among v n ≡ among w n) t
   marks-agree v w (leaf n) m h k = sym h ∙ k
-  marks-agree v w (inner n s ks) m h k = marksKids-agree v w ks (m .kids) h k
+  marks-agree v w (inner n s ks) m h k = marksChildren-agree v w ks (m .kids) h k
 
-  marksKids-agree : (v w : List ℕ) (ks : Kids) (m : MemoKids ks) → MarksKids v ks m → MarksKids w ks m
-      → EveryLeafKids (λ n. among v n ≡ among w n) ks
-  marksKids-agree v w (last t) m h k = marks-agree v w t m h k
-  marksKids-agree v w (t then ts) m h k =
-      (marks-agree v w t (m .first) (h .0) (k .0), marksKids-agree v w ts (m .rest) (h .1) (k .1))
+  marksChildren-agree : (v w : List ℕ) (ks : Children) (m : MemoChildren ks) → MarksChildren v ks m → MarksChildren w ks m
+      → EveryLeafChildren (λ n. among v n ≡ among w n) ks
+  marksChildren-agree v w (last t) m h k = marks-agree v w t m h k
+  marksChildren-agree v w (t then ts) m h k =
+      (marks-agree v w t (m .first) (h .0) (k .0), marksChildren-agree v w ts (m .rest) (h .1) (k .1))
 
 -- MTD ends with the memory after all tests
 mtd-form : (ν : ℕ → ℕ) (t : Tree) → Scored ν t → mtd ν t .memo ≡ memoAt ν 1 greatest t

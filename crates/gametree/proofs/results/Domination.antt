@@ -8,15 +8,15 @@ use mathlib.Core.List.{List}
 use lib.Dec.{ltb, eqb}
 use borrow.Author.Tests.{not-false, lt-ltb, eq-eqb}
 use Rattle.lists.specs.Lists.{All, among}
-use Rattle.gametree.specs.Tree.{Side, Max, Min, Tree, leaf, inner, Kids, last, _then_, least, greatest, minimax}
-use Rattle.gametree.specs.Tree.{Scored, ScoredKids}
-use Rattle.gametree.specs.AlphaBeta.{raise, lower, reached, reachedKids}
-use Rattle.gametree.specs.Mtd.{Memo, MemoKids, memoHigh, memoHighKids, Pass, PassKids, settles, pass, passKids}
-use Rattle.gametree.specs.Mtd.{Run, run, fresh, mtd}
+use Rattle.gametree.specs.Tree.{Side, Max, Min, Tree, leaf, inner, Children, last, _then_, least, greatest, minimax}
+use Rattle.gametree.specs.Tree.{Scored, ScoredChildren}
+use Rattle.gametree.specs.AlphaBeta.{raise, lower, reached, reachedChildren}
+use Rattle.gametree.specs.Mtd.{Memo, MemoChildren, memoHigh, memoHighChildren, Pass, PassChildren, settles, pass, passChildren}
+use Rattle.gametree.specs.Mtd.{MtdRun, run, fresh, mtd}
 use Rattle.lists.proofs.Choice.{cond-cases, or-left}
 use Rattle.lists.proofs.Lists.{all-append, all-map, among-left, among-right}
 use Rattle.gametree.proofs.minimax.Bounds.{minimax-score}
-use Rattle.gametree.proofs.mtd.Sound.{memoLow-minimax, minimax-memoHigh, Kept, KeptKids, sound}
+use Rattle.gametree.proofs.mtd.Sound.{memoLow-minimax, minimax-memoHigh, Kept, KeptChildren, sound}
 use Rattle.gametree.proofs.mtd.Value.{kept-lower, fresh-kept}
 
 -- the children after one that does not settle its parent have the test in their window
@@ -36,8 +36,8 @@ window ν Min γ α β t m h k l u e =
 abbrev pub Reaches : (ℕ → ℕ) → ℕ → ℕ → Tree → List ℕ → Type 0
 Reaches ν α β t w = All (λ k. among (reached ν α β t) k ≡ true) w
 
-abbrev pub ReachesKids : (ℕ → ℕ) → ℕ → ℕ → Side → Kids → List ℕ → Type 0
-ReachesKids ν α β s ks w = All (λ k. among (reachedKids ν s α β ks) k ≡ true) w
+abbrev pub ReachesChildren : (ℕ → ℕ) → ℕ → ℕ → Side → Children → List ℕ → Type 0
+ReachesChildren ν α β s ks w = All (λ k. among (reachedChildren ν s α β ks) k ≡ true) w
 
 mutual
   -- a pass evaluates only leaves that meet Baudet's condition for a window that holds the test
@@ -47,31 +47,31 @@ mutual
       cond-cases (λ (r : Pass (leaf n)). Reaches ν α β (leaf n) (r .evaluated)) (m .evaluated) _ _ (λ _. tt)
       (λ _. (rw (lt-ltb α β (omega arith)) (or-left (eqb n n) false (eq-eqb n n refl)), tt))
   pass-reaches ν γ α β (inner n s ks) m h k l u =
-      cond-cases (λ (r : Pass (inner n s ks)). ReachesKids ν α β s ks (r .evaluated))
-      (ltb (memoHighKids ν s ks (m .kids)) γ) _ _
+      cond-cases (λ (r : Pass (inner n s ks)). ReachesChildren ν α β s ks (r .evaluated))
+      (ltb (memoHighChildren ν s ks (m .kids)) γ) _ _
       (λ _. tt)
-      (λ _. cond-cases (λ (r : Pass (inner n s ks)). ReachesKids ν α β s ks (r .evaluated)) (m .notBelow) _ _
+      (λ _. cond-cases (λ (r : Pass (inner n s ks)). ReachesChildren ν α β s ks (r .evaluated)) (m .notBelow) _ _
       (λ _. tt)
-      (λ _. passKids-reaches ν γ α β s ks (m .kids) h (k .1) l u))
+      (λ _. passChildren-reaches ν γ α β s ks (m .kids) h (k .1) l u))
 
-  passKids-reaches : (ν : ℕ → ℕ) (γ α β : ℕ) (s : Side) (ks : Kids) (m : MemoKids ks) → ScoredKids ν ks
-      → KeptKids ν γ ks m
-      → α < γ → γ ≤ β → ReachesKids ν α β s ks (passKids ν γ s ks m .evaluated)
-  passKids-reaches ν γ α β s (last t) m h k l u = pass-reaches ν γ α β t m h k l u
-  passKids-reaches ν γ α β s (t then ts) m h k l u =
+  passChildren-reaches : (ν : ℕ → ℕ) (γ α β : ℕ) (s : Side) (ks : Children) (m : MemoChildren ks) → ScoredChildren ν ks
+      → KeptChildren ν γ ks m
+      → α < γ → γ ≤ β → ReachesChildren ν α β s ks (passChildren ν γ s ks m .evaluated)
+  passChildren-reaches ν γ α β s (last t) m h k l u = pass-reaches ν γ α β t m h k l u
+  passChildren-reaches ν γ α β s (t then ts) m h k l u =
       let v = pass ν γ t (m .first) .evaluated in
-      let w = passKids ν γ s ts (m .rest) .evaluated in
+      let w = passChildren ν γ s ts (m .rest) .evaluated in
       let a =
-      all-map _ (λ k. among (reachedKids ν s α β (t then ts)) k ≡ true) (λ k e. among-left (reached ν α β t) _ k e) v
+      all-map _ (λ k. among (reachedChildren ν s α β (t then ts)) k ≡ true) (λ k e. among-left (reached ν α β t) _ k e) v
       (pass-reaches ν γ α β t (m .first) (h .0) (k .0) l u) in
-      cond-cases (λ (q : PassKids (t then ts)). ReachesKids ν α β s (t then ts) (q .evaluated))
+      cond-cases (λ (q : PassChildren (t then ts)). ReachesChildren ν α β s (t then ts) (q .evaluated))
       (settles s (pass ν γ t (m .first) .notBelow)) _ _
       (λ _. a)
       (λ e.
       let i = window ν s γ α β t (m .first) (h .0) (k .0) l u e in
-      all-append (λ k. among (reachedKids ν s α β (t then ts)) k ≡ true) v w a
-      (all-map _ (λ k. among (reachedKids ν s α β (t then ts)) k ≡ true) (λ k e. among-right (reached ν α β t) _ k e) w
-      (passKids-reaches ν γ (raise s α (minimax ν t)) (lower s β (minimax ν t)) s ts (m .rest) (h .1) (k .1) (i .0)
+      all-append (λ k. among (reachedChildren ν s α β (t then ts)) k ≡ true) v w a
+      (all-map _ (λ k. among (reachedChildren ν s α β (t then ts)) k ≡ true) (λ k e. among-right (reached ν α β t) _ k e) w
+      (passChildren-reaches ν γ (raise s α (minimax ν t)) (lower s β (minimax ν t)) s ts (m .rest) (h .1) (k .1) (i .0)
       (i .1))))
 
 -- so does a run of passes
@@ -80,7 +80,7 @@ run-reaches : (ν : ℕ → ℕ) (f γ : ℕ) (t : Tree) (m : Memo t) → Scored
 run-reaches ν zero γ t m h k l u = tt
 run-reaches ν (suc f) γ t m h k l u =
     let a = pass-reaches ν γ least greatest t m h k l u in
-    cond-cases (λ (q : Run t). Reaches ν least greatest t (q .evaluated)) (pass ν γ t m .notBelow) _ _
+    cond-cases (λ (q : MtdRun t). Reaches ν least greatest t (q .evaluated)) (pass ν γ t m .notBelow) _ _
     (λ _. a)
     (λ e.
     let n = pass ν γ t m .next in

@@ -9,12 +9,12 @@ use mathlib.Core.Logic.{_⊎_, inl, inr, ⊎-elim}
 use mathlib.Core.Bool.{Bool, true, false, _&&_, and-false}
 use lib.Dec.{leb}
 use borrow.Author.Tests.{leb-true, leb-false, le-leb, lt-leb}
-use Rattle.gametree.specs.Tree.{Side, Max, Min, Tree, leaf, inner, Kids, last, _then_, greatest, minimax}
-use Rattle.gametree.specs.Tree.{minimaxKids, Scored, ScoredKids}
+use Rattle.gametree.specs.Tree.{Side, Max, Min, Tree, leaf, inner, Children, last, _then_, greatest, minimax}
+use Rattle.gametree.specs.Tree.{minimaxChildren, Scored, ScoredChildren}
 use Rattle.gametree.specs.AlphaBeta.{lower}
-use Rattle.gametree.specs.Mtd.{Memo, MemoKids, memoHigh, memoHighKids, fresh, freshKids}
-use Rattle.gametree.proofs.mtd.Sound.{minimax-memoHigh, minimaxKids-memoHighKids}
-use Rattle.gametree.proofs.mtd.Value.{freshKids-memoHigh}
+use Rattle.gametree.specs.Mtd.{Memo, MemoChildren, memoHigh, memoHighChildren, fresh, freshChildren}
+use Rattle.gametree.proofs.mtd.Sound.{minimax-memoHigh, minimaxChildren-memoHighChildren}
+use Rattle.gametree.proofs.mtd.Value.{freshChildren-memoHigh}
 
 -- the least test with which a first child is tried: under Max no younger brother may reach more, y being the best of
 -- theirs
@@ -32,14 +32,14 @@ abbrev mutual
   pub memoAt : (ℕ → ℕ) → (c β : ℕ) → (t : Tree) → Memo t
   memoAt ν c β (leaf n) = record { evaluated = leb c β }
   memoAt ν c β (inner n s ks) =
-      record { notBelow = leb c β && leb c (minimaxKids ν s ks); kids = memoAtKids ν s c β ks }
+      record { notBelow = leb c β && leb c (minimaxChildren ν s ks); kids = memoAtChildren ν s c β ks }
 
-  pub memoAtKids : (ℕ → ℕ) → Side → (c β : ℕ) → (ks : Kids) → MemoKids ks
-  memoAtKids ν s c β (last t) = memoAt ν c β t
-  memoAtKids ν s c β (t then ts) =
+  pub memoAtChildren : (ℕ → ℕ) → Side → (c β : ℕ) → (ks : Children) → MemoChildren ks
+  memoAtChildren ν s c β (last t) = memoAt ν c β t
+  memoAtChildren ν s c β (t then ts) =
       record {
-        first = memoAt ν (firstFloor s c β (minimaxKids ν s ts)) β t;
-        rest = memoAtKids ν s (restFloor s c (minimax ν t)) (lower s β (minimax ν t)) ts;
+        first = memoAt ν (firstFloor s c β (minimaxChildren ν s ts)) β t;
+        rest = memoAtChildren ν s (restFloor s c (minimax ν t)) (lower s β (minimax ν t)) ts;
       }
 
 -- a number is below another, or not
@@ -51,12 +51,12 @@ less-or-not a b = go (leb b a) refl
     go false e = inl (leb-false b a e)
 
 -- two memories of children are the same if their parts are
-pub kids-path : (t : Tree) (ts : Kids) {a b : Memo t} {x y : MemoKids ts} → a ≡ b → x ≡ y
-    → _≡_ {A = MemoKids (t then ts)} (record { first = a; rest = x }) (record { first = b; rest = y })
-kids-path t ts p q = ap₂ {C = MemoKids (t then ts)} (λ x y. record { first = x; rest = y }) p q
+pub kids-path : (t : Tree) (ts : Children) {a b : Memo t} {x y : MemoChildren ts} → a ≡ b → x ≡ y
+    → _≡_ {A = MemoChildren (t then ts)} (record { first = a; rest = x }) (record { first = b; rest = y })
+kids-path t ts p q = ap₂ {C = MemoChildren (t then ts)} (λ x y. record { first = x; rest = y }) p q
 
 -- so are two of an inner node
-pub inner-path : (n : ℕ) (s : Side) (ks : Kids) {a b : Bool} {x y : MemoKids ks} → a ≡ b → x ≡ y
+pub inner-path : (n : ℕ) (s : Side) (ks : Children) {a b : Bool} {x y : MemoChildren ks} → a ≡ b → x ≡ y
     → _≡_ {A = Memo (inner n s ks)} (record { notBelow = a; kids = x }) (record { notBelow = b; kids = y })
 inner-path n s ks p q = ap₂ {C = Memo (inner n s ks)} (λ x y. record { notBelow = x; kids = y }) p q
 
@@ -71,13 +71,13 @@ mutual
   -- a node whose first test is below the floor is untouched
   pub at-fresh : (ν : ℕ → ℕ) (c β : ℕ) (t : Tree) → β < c → memoAt ν c β t ≡ fresh t
   at-fresh ν c β (leaf n) h = rw (lt-leb c β h) refl
-  at-fresh ν c β (inner n s ks) h = rw (lt-leb c β h, atKids-fresh ν s c β ks h) refl
+  at-fresh ν c β (inner n s ks) h = rw (lt-leb c β h, atChildren-fresh ν s c β ks h) refl
 
-  pub atKids-fresh : (ν : ℕ → ℕ) (s : Side) (c β : ℕ) (ks : Kids) → β < c → memoAtKids ν s c β ks ≡ freshKids ks
-  atKids-fresh ν s c β (last t) h = at-fresh ν c β t h
-  atKids-fresh ν s c β (t then ts) h =
-      let f = floors-above s c β (minimaxKids ν s ts) (minimax ν t) h in
-      kids-path t ts (at-fresh ν _ β t (f .0)) (atKids-fresh ν s _ _ ts (f .1))
+  pub atChildren-fresh : (ν : ℕ → ℕ) (s : Side) (c β : ℕ) (ks : Children) → β < c → memoAtChildren ν s c β ks ≡ freshChildren ks
+  atChildren-fresh ν s c β (last t) h = at-fresh ν c β t h
+  atChildren-fresh ν s c β (t then ts) h =
+      let f = floors-above s c β (minimaxChildren ν s ts) (minimax ν t) h in
+      kids-path t ts (at-fresh ν _ β t (f .0)) (atChildren-fresh ν s _ _ ts (f .1))
 
 -- NODES WHOSE VALUE IS REACHED
 
@@ -99,23 +99,23 @@ mutual
   pub frozen : (ν : ℕ → ℕ) (c d β : ℕ) (t : Tree) → c ≤ d → d ≤ β → d ≤ minimax ν t → memoAt ν c β t ≡ memoAt ν d β t
   frozen ν c d β (leaf n) h k l = rw (le-leb c β (le-trans h k), le-leb d β k) refl
   frozen ν c d β (inner n s ks) h k l =
-      inner-path n s ks (reached-flag c d β (minimaxKids ν s ks) h k l) (frozenKids ν s c d β ks h k l)
+      inner-path n s ks (reached-flag c d β (minimaxChildren ν s ks) h k l) (frozenChildren ν s c d β ks h k l)
 
-  frozenKids : (ν : ℕ → ℕ) (s : Side) (c d β : ℕ) (ks : Kids) → c ≤ d → d ≤ β → d ≤ minimaxKids ν s ks
-      → memoAtKids ν s c β ks ≡ memoAtKids ν s d β ks
-  frozenKids ν s c d β (last t) h k l = frozen ν c d β t h k l
-  frozenKids ν Max c d β (t then ts) h k l =
+  frozenChildren : (ν : ℕ → ℕ) (s : Side) (c d β : ℕ) (ks : Children) → c ≤ d → d ≤ β → d ≤ minimaxChildren ν s ks
+      → memoAtChildren ν s c β ks ≡ memoAtChildren ν s d β ks
+  frozenChildren ν s c d β (last t) h k l = frozen ν c d β t h k l
+  frozenChildren ν Max c d β (t then ts) h k l =
       let u = minimax ν t in
-      let y = minimaxKids ν Max ts in
+      let y = minimaxChildren ν Max ts in
       kids-path t ts
       (⊎-elim (λ p. ap (λ x. memoAt ν x β t) p)
       (λ q. frozen ν (max c (min β y)) (max d (min β y)) β t (omega arith) (omega arith) q) (max-first c d β u y h k l))
-      (⊎-elim (λ p. ap (λ x. memoAtKids ν Max x β ts) p)
-      (λ q. frozenKids ν Max (max c (suc u)) (max d (suc u)) β ts (omega arith) (q .0) (q .1))
+      (⊎-elim (λ p. ap (λ x. memoAtChildren ν Max x β ts) p)
+      (λ q. frozenChildren ν Max (max c (suc u)) (max d (suc u)) β ts (omega arith) (q .0) (q .1))
       (max-rest c d β u y h k l))
-  frozenKids ν Min c d β (t then ts) h k l =
+  frozenChildren ν Min c d β (t then ts) h k l =
       kids-path t ts (frozen ν c d β t h k (omega arith))
-      (frozenKids ν Min c d (min β (minimax ν t)) ts h (omega arith) (omega arith))
+      (frozenChildren ν Min c d (min β (minimax ν t)) ts h (omega arith) (omega arith))
 
 -- NODES WHOSE VALUE IS NOT REACHED
 
@@ -123,21 +123,21 @@ mutual
   -- a node that was tried and whose value is not reached has its high below the tests made
   pub at-below : (ν : ℕ → ℕ) (c β : ℕ) (t : Tree) → c ≤ β → minimax ν t < c → memoHigh ν t (memoAt ν c β t) < c
   at-below ν c β (leaf n) h l = rw (le-leb c β h) l
-  at-below ν c β (inner n s ks) h l = atKids-below ν s c β ks h l
+  at-below ν c β (inner n s ks) h l = atChildren-below ν s c β ks h l
 
-  atKids-below : (ν : ℕ → ℕ) (s : Side) (c β : ℕ) (ks : Kids) → c ≤ β → minimaxKids ν s ks < c
-      → memoHighKids ν s ks (memoAtKids ν s c β ks) < c
-  atKids-below ν s c β (last t) h l = at-below ν c β t h l
-  atKids-below ν Max c β (t then ts) h l =
-      let e : c ≡ max c (min β (minimaxKids ν Max ts)) = omega arith in
+  atChildren-below : (ν : ℕ → ℕ) (s : Side) (c β : ℕ) (ks : Children) → c ≤ β → minimaxChildren ν s ks < c
+      → memoHighChildren ν s ks (memoAtChildren ν s c β ks) < c
+  atChildren-below ν s c β (last t) h l = at-below ν c β t h l
+  atChildren-below ν Max c β (t then ts) h l =
+      let e : c ≡ max c (min β (minimaxChildren ν Max ts)) = omega arith in
       let f : c ≡ max c (suc (minimax ν t)) = omega arith in
       let a = subst (λ x. memoHigh ν t (memoAt ν x β t) < c) e (at-below ν c β t h (omega arith)) in
       let b =
-      subst (λ x. memoHighKids ν Max ts (memoAtKids ν Max x β ts) < c) f (atKids-below ν Max c β ts h (omega arith)) in
+      subst (λ x. memoHighChildren ν Max ts (memoAtChildren ν Max x β ts) < c) f (atChildren-below ν Max c β ts h (omega arith)) in
       omega arith
-  atKids-below ν Min c β (t then ts) h l =
+  atChildren-below ν Min c β (t then ts) h l =
       ⊎-elim (λ q. let a = at-below ν c β t h q in omega arith)
-      (λ q. let b = atKids-below ν Min c (min β (minimax ν t)) ts (omega arith) (omega arith) in omega arith)
+      (λ q. let b = atChildren-below ν Min c (min β (minimax ν t)) ts (omega arith) (omega arith) in omega arith)
       (less-or-not (minimax ν t) c)
 
 -- the flag of a node whose value v is not reached with the test d
@@ -155,41 +155,41 @@ mutual
       (less-or-not β c)
   at-same ν c d β (inner n s ks) i h g l =
       let v = minimax-memoHigh ν (inner n s ks) (memoAt ν c β (inner n s ks)) i in
-      inner-path n s ks (unreached-flag c d β _ (omega arith) h) (atKids-same ν s c d β ks i h g l)
+      inner-path n s ks (unreached-flag c d β _ (omega arith) h) (atChildren-same ν s c d β ks i h g l)
 
-  atKids-same : (ν : ℕ → ℕ) (s : Side) (c d β : ℕ) (ks : Kids) → ScoredKids ν ks → d ≤ c → d ≤ greatest
-      → memoHighKids ν s ks (memoAtKids ν s c β ks) < d → memoAtKids ν s d β ks ≡ memoAtKids ν s c β ks
-  atKids-same ν s c d β (last t) i h g l = at-same ν c d β t i h g l
-  atKids-same ν Max c d β (t then ts) i h g l =
-      let y = minimaxKids ν Max ts in
+  atChildren-same : (ν : ℕ → ℕ) (s : Side) (c d β : ℕ) (ks : Children) → ScoredChildren ν ks → d ≤ c → d ≤ greatest
+      → memoHighChildren ν s ks (memoAtChildren ν s c β ks) < d → memoAtChildren ν s d β ks ≡ memoAtChildren ν s c β ks
+  atChildren-same ν s c d β (last t) i h g l = at-same ν c d β t i h g l
+  atChildren-same ν Max c d β (t then ts) i h g l =
+      let y = minimaxChildren ν Max ts in
       let u = minimax ν t in
-      let m = memoAtKids ν Max c β (t then ts) in
+      let m = memoAtChildren ν Max c β (t then ts) in
       let a = minimax-memoHigh ν t (m .first) (i .0) in
-      let b = minimaxKids-memoHighKids ν Max ts (m .rest) (i .1) in
+      let b = minimaxChildren-memoHighChildren ν Max ts (m .rest) (i .1) in
       let e : max c (min β y) ≡ c = omega arith in
       let f : max c (suc u) ≡ c = omega arith in
       let j : max d (min β y) ≡ d = omega arith in
       let k : max d (suc u) ≡ d = omega arith in
       let x : memoHigh ν t (memoAt ν c β t) < d = subst (λ z. memoHigh ν t (memoAt ν z β t) < d) e (omega arith) in
-      let w : memoHighKids ν Max ts (memoAtKids ν Max c β ts) < d =
-      subst (λ z. memoHighKids ν Max ts (memoAtKids ν Max z β ts) < d) f (omega arith) in
+      let w : memoHighChildren ν Max ts (memoAtChildren ν Max c β ts) < d =
+      subst (λ z. memoHighChildren ν Max ts (memoAtChildren ν Max z β ts) < d) f (omega arith) in
       kids-path t ts (ap (λ z. memoAt ν z β t) j ∙ at-same ν c d β t (i .0) h g x ∙ sym (ap (λ z. memoAt ν z β t) e))
-      (ap (λ z. memoAtKids ν Max z β ts) k ∙ atKids-same ν Max c d β ts (i .1) h g w ∙ sym
-      (ap (λ z. memoAtKids ν Max z β ts) f))
-  atKids-same ν Min c d β (t then ts) i h g l =
+      (ap (λ z. memoAtChildren ν Max z β ts) k ∙ atChildren-same ν Max c d β ts (i .1) h g w ∙ sym
+      (ap (λ z. memoAtChildren ν Max z β ts) f))
+  atChildren-same ν Min c d β (t then ts) i h g l =
       let u = minimax ν t in
       ⊎-elim
       (λ q.
       let a = minimax-memoHigh ν t (memoAt ν c β t) (i .0) in
       kids-path t ts (at-same ν c d β t (i .0) h g q)
-      (atKids-fresh ν Min d (min β u) ts (omega arith) ∙ sym (atKids-fresh ν Min c (min β u) ts (omega arith))))
+      (atChildren-fresh ν Min d (min β u) ts (omega arith) ∙ sym (atChildren-fresh ν Min c (min β u) ts (omega arith))))
       (λ q.
-      let r : memoHighKids ν Min ts (memoAtKids ν Min c (min β u) ts) < d = omega arith in
+      let r : memoHighChildren ν Min ts (memoAtChildren ν Min c (min β u) ts) < d = omega arith in
       kids-path t ts
       (⊎-elim
       (λ p.
-      let x = ap (memoHighKids ν Min ts) (atKids-fresh ν Min c (min β u) ts p) ∙ freshKids-memoHigh ν Min ts in
+      let x = ap (memoHighChildren ν Min ts) (atChildren-fresh ν Min c (min β u) ts p) ∙ freshChildren-memoHigh ν Min ts in
       absurd (omega arith))
       (λ p. frozen ν d c β t h (omega arith) (omega arith)) (less-or-not (min β u) c))
-      (atKids-same ν Min c d (min β u) ts (i .1) h g r))
+      (atChildren-same ν Min c d (min β u) ts (i .1) h g r))
       (less-or-not (memoHigh ν t (memoAt ν c β t)) d)

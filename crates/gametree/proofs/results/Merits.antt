@@ -180,7 +180,7 @@ module _ (ν : ℕ → ℕ) (Y : Layout) where
   first-merits t (afterQuiet {L = L} {M = M} r s) e =
       subst (StepMerits (λ m. m ≡ greatest) (λ _. Unit)) s
       (step-merits (λ m. m ≡ greatest) (λ _. Unit) (λ m h. tt) (λ m v h. tt) ν Y L (first-merits t r e))
-  first-merits t (afterEvaluating {w = w} r s) e = absurd (omega (arith, simp length-append at e))
+  first-merits t (afterEvaluating {leaves = w} r s) e = absurd (omega (arith, simp length-append at e))
 
   -- so is that of the state taken
   pub first-merit : (t : Tree) {k : ℕ} {w : List ℕ} (L : List State) → ListAfter ν Y t k w L → length w ≡ 0

@@ -7,8 +7,8 @@ use mathlib.Core.Bool.{Bool, true, false}
 use mathlib.Core.Option.{Option, none, some}
 use mathlib.Core.List.{List, _∷_, _++_, map}
 use Rattle.lists.specs.Lists.{All}
-use Rattle.gametree.specs.Tree.{Side, Max, Min, Tree, leaf, inner, Kids, last, _then_, number, In, InKids}
-use Rattle.gametree.specs.Mtd.{Memo, MemoKids}
+use Rattle.gametree.specs.Tree.{Side, Max, Min, Tree, leaf, inner, Children, last, _then_, number, In, InChildren}
+use Rattle.gametree.specs.Mtd.{Memo, MemoChildren}
 use Rattle.gametree.specs.Layout.{tip, fork, under, Layout}
 use Rattle.gametree.proofs.sss.Described.{Apart}
 use Rattle.gametree.specs.Sss.{Status, LIVE, SOLVED, State, live, solved, Step, quiet, evaluating, purge, replace}
@@ -16,9 +16,9 @@ use Rattle.gametree.specs.Sss.{step}
 use Rattle.lists.proofs.Lists.{all-append, all-map, all-zip}
 use Rattle.gametree.proofs.minimax.Nodes.{number-in}
 use Rattle.gametree.proofs.sss.Steps.{step-at, purge-outside}
-use Rattle.gametree.proofs.sss.Frontier.{AtMost, Below, outdone, join-frontier, frontier, frontierKids, Fitted}
-use Rattle.gametree.proofs.sss.Frontier.{FittedKids}
-use Rattle.gametree.proofs.sss.Frontier.{states, statesKids, opened}
+use Rattle.gametree.proofs.sss.Frontier.{AtMost, Below, outdone, join-frontier, frontier, frontierChildren, Fitted}
+use Rattle.gametree.proofs.sss.Frontier.{FittedChildren}
+use Rattle.gametree.proofs.sss.Frontier.{states, statesChildren, opened}
 
 -- THE STATES OF A NODE ARE OF NODES BELOW IT
 
@@ -46,15 +46,15 @@ mutual
   pub frontier-nodes : (ν : ℕ → ℕ) (t : Tree) (m : Memo t) → Nodes (λ p. In p t) (frontier ν t m)
   frontier-nodes ν (leaf n) m = (refl, tt)
   frontier-nodes ν (inner n s ks) m =
-      more-nodes (λ p i. inr i) (frontierKids ν s ks (m .kids)) (frontierKids-nodes ν s ks (m .kids))
+      more-nodes (λ p i. inr i) (frontierChildren ν s ks (m .kids)) (frontierChildren-nodes ν s ks (m .kids))
 
-  frontierKids-nodes : (ν : ℕ → ℕ) (s : Side) (ks : Kids) (m : MemoKids ks)
-      → Nodes (λ p. InKids p ks) (frontierKids ν s ks m)
-  frontierKids-nodes ν s (last t) m = frontier-nodes ν t m
-  frontierKids-nodes ν s (t then ts) m =
-      join-nodes (λ p. In p t) (λ p. InKids p ts) s (outdone ν s t ts m) (frontier ν t (m .first))
-      (frontierKids ν s ts (m .rest))
-      (frontier-nodes ν t (m .first)) (frontierKids-nodes ν s ts (m .rest))
+  frontierChildren-nodes : (ν : ℕ → ℕ) (s : Side) (ks : Children) (m : MemoChildren ks)
+      → Nodes (λ p. InChildren p ks) (frontierChildren ν s ks m)
+  frontierChildren-nodes ν s (last t) m = frontier-nodes ν t m
+  frontierChildren-nodes ν s (t then ts) m =
+      join-nodes (λ p. In p t) (λ p. InChildren p ts) s (outdone ν s t ts m) (frontier ν t (m .first))
+      (frontierChildren ν s ts (m .rest))
+      (frontier-nodes ν t (m .first)) (frontierChildren-nodes ν s ts (m .rest))
 
 -- so are those of a node that a pass may enter
 states-nodes : (ν : ℕ → ℕ) (γ : ℕ) (t : Tree) (m : Memo t) (w : Fitted ν γ t m) → Nodes (λ p. In p t) (states ν γ t m w)
@@ -62,16 +62,16 @@ states-nodes ν γ t m (inl e) = (number-in t, tt)
 states-nodes ν γ t m (inr r) = frontier-nodes ν t m
 
 -- and those of children
-pub statesKids-nodes : (ν : ℕ → ℕ) (γ : ℕ) (s : Side) (ks : Kids) (m : MemoKids ks) (w : FittedKids ν γ s ks m)
-    → Nodes (λ p. InKids p ks) (statesKids ν γ s ks m w)
-statesKids-nodes ν γ s (last t) m w = states-nodes ν γ t m w
-statesKids-nodes ν γ Max (t then ts) m w =
-    both-nodes (λ p. In p t) (λ p. InKids p ts) (states ν γ t (m .first) (w .0))
-    (statesKids ν γ Max ts (m .rest) (w .1))
-    (states-nodes ν γ t (m .first) (w .0)) (statesKids-nodes ν γ Max ts (m .rest) (w .1))
-statesKids-nodes ν γ Min (t then ts) m (inl w) =
-    more-nodes (λ p i. inr i) (statesKids ν γ Min ts (m .rest) (w .1)) (statesKids-nodes ν γ Min ts (m .rest) (w .1))
-statesKids-nodes ν γ Min (t then ts) m (inr w) =
+pub statesChildren-nodes : (ν : ℕ → ℕ) (γ : ℕ) (s : Side) (ks : Children) (m : MemoChildren ks) (w : FittedChildren ν γ s ks m)
+    → Nodes (λ p. InChildren p ks) (statesChildren ν γ s ks m w)
+statesChildren-nodes ν γ s (last t) m w = states-nodes ν γ t m w
+statesChildren-nodes ν γ Max (t then ts) m w =
+    both-nodes (λ p. In p t) (λ p. InChildren p ts) (states ν γ t (m .first) (w .0))
+    (statesChildren ν γ Max ts (m .rest) (w .1))
+    (states-nodes ν γ t (m .first) (w .0)) (statesChildren-nodes ν γ Max ts (m .rest) (w .1))
+statesChildren-nodes ν γ Min (t then ts) m (inl w) =
+    more-nodes (λ p i. inr i) (statesChildren ν γ Min ts (m .rest) (w .1)) (statesChildren-nodes ν γ Min ts (m .rest) (w .1))
+statesChildren-nodes ν γ Min (t then ts) m (inr w) =
     more-nodes (λ p i. inl i) (states ν γ t (m .first) (w .0)) (states-nodes ν γ t (m .first) (w .0))
 
 -- WHAT STANDS BEFORE AND BEHIND THEM
@@ -92,8 +92,8 @@ abbrev pub AroundTree : Layout → ℕ → Tree → List State → List State �
 AroundTree Y γ t L R = Around Y γ (λ p. In p t) L R
 
 -- around the children of a node
-abbrev pub AroundKids : Layout → ℕ → Kids → List State → List State → Type 0
-AroundKids Y γ ks L R = Around Y γ (λ p. InKids p ks) L R
+abbrev pub AroundChildren : Layout → ℕ → Children → List State → List State → Type 0
+AroundChildren Y γ ks L R = Around Y γ (λ p. InChildren p ks) L R
 
 -- what is around some nodes is around a part of them
 pub narrow : {Y : Layout} {γ : ℕ} {P Q : ℕ → Type 0} → ((p : ℕ) → Q p → P p) → {L R : List State}
@@ -107,10 +107,10 @@ narrow f {L} {R} a =
       clearRight = all-map _ _ (λ s i p j. i p (f p j)) R (a .clearRight);
     }
 
-module _ (Y : Layout) (γ : ℕ) (t : Tree) (ts : Kids) (L R : List State) (z : Apart Y t ts)
-    (a : AroundKids Y γ (t then ts) L R) where
+module _ (Y : Layout) (γ : ℕ) (t : Tree) (ts : Children) (L R : List State) (z : Apart Y t ts)
+    (a : AroundChildren Y γ (t then ts) L R) where
   -- around the first child of a Max node, with the states G of its brothers behind it
-  pub around-first : (G : List State) → AtMost γ G → Nodes (λ p. InKids p ts) G
+  pub around-first : (G : List State) → AtMost γ G → Nodes (λ p. InChildren p ts) G
       → AroundTree Y γ t L (G ++ R)
   around-first G b w =
       let u : AroundTree Y γ t L R = narrow (λ p i. inl i) a in
@@ -123,9 +123,9 @@ module _ (Y : Layout) (γ : ℕ) (t : Tree) (ts : Kids) (L R : List State) (z : 
       }
 
   -- around its brothers, with its frontier F before them
-  pub around-rest : (F : List State) → Below γ F → Nodes (λ p. In p t) F → AroundKids Y γ ts (L ++ F) R
+  pub around-rest : (F : List State) → Below γ F → Nodes (λ p. In p t) F → AroundChildren Y γ ts (L ++ F) R
   around-rest F b w =
-      let u : AroundKids Y γ ts L R = narrow (λ p i. inr i) a in
+      let u : AroundChildren Y γ ts L R = narrow (λ p i. inr i) a in
       record {
         less = all-append _ L F (u .less) b;
         noMore = u .noMore;
@@ -146,7 +146,7 @@ handed-outside Max Y p L h = purge-outside Y p L h
 handed-outside Min Y p L h = refl
 
 -- what an inner node hands up leaves all that is around it
-pub handed-clear : (Y : Layout) (γ n : ℕ) (s : Side) (ks : Kids) (L R : List State) → AroundTree Y γ (inner n s ks) L R
+pub handed-clear : (Y : Layout) (γ n : ℕ) (s : Side) (ks : Children) (L R : List State) → AroundTree Y γ (inner n s ks) L R
     → (handed s Y n L ≡ L) × (handed s Y n R ≡ R)
 handed-clear Y γ n s ks L R a = (
   handed-outside s Y n L (all-map _ _ (λ x f. f n (inl refl)) L (a .clearLeft)),

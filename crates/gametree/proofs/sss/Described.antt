@@ -3,14 +3,14 @@ use Prim.Native.Nat.{ℕ}
 use mathlib.Core.Path.{_≡_}
 use mathlib.Core.Bool.{true, false}
 use mathlib.Core.Option.{none, some}
-use Rattle.gametree.specs.Tree.{Side, Tree, leaf, inner, Kids, last, _then_, number, In, InKids}
+use Rattle.gametree.specs.Tree.{Side, Tree, leaf, inner, Children, last, _then_, number, In, InChildren}
 use Rattle.gametree.specs.Layout.{tip, fork, root, under, Layout, firstOf, othersOf}
 
 -- no node of a child's tree is above a node of a younger brother's, nor the other way round, and the elder's are left
 -- of the younger's
-abbrev pub Apart : Layout → Tree → Kids → Type 0
+abbrev pub Apart : Layout → Tree → Children → Type 0
 Apart Y t ts =
-    (p q : ℕ) → In p t → InKids q ts → (Y .above p q ≡ false) × (Y .above q p ≡ false) × (Y .leftOf p q ≡ true)
+    (p q : ℕ) → In p t → InChildren q ts → (Y .above p q ≡ false) × (Y .above q p ≡ false) × (Y .leftOf p q ≡ true)
 
 -- the layout answers as the tree says, below its root
 abbrev mutual
@@ -18,12 +18,12 @@ abbrev mutual
   Answers Y (leaf n) = Y .kind n ≡ tip
   Answers Y (inner n s ks) =
       (Y .kind n ≡ fork s (firstOf ks) (othersOf ks)) ×
-      ((p : ℕ) → InKids p ks → Y .above n p ≡ true) × AnswersKids Y n s ks
+      ((p : ℕ) → InChildren p ks → Y .above n p ≡ true) × AnswersChildren Y n s ks
 
-  pub AnswersKids : Layout → ℕ → Side → Kids → Type 0
-  AnswersKids Y n s (last t) = (Y .link (number t) ≡ under n s none) × Answers Y t
-  AnswersKids Y n s (t then ts) =
-      (Y .link (number t) ≡ under n s (some (firstOf ts))) × Apart Y t ts × Answers Y t × AnswersKids Y n s ts
+  pub AnswersChildren : Layout → ℕ → Side → Children → Type 0
+  AnswersChildren Y n s (last t) = (Y .link (number t) ≡ under n s none) × Answers Y t
+  AnswersChildren Y n s (t then ts) =
+      (Y .link (number t) ≡ under n s (some (firstOf ts))) × Apart Y t ts × Answers Y t × AnswersChildren Y n s ts
 
 -- the layout is one of this tree
 pub record Describes (Y : Layout) (t : Tree) : Type 0 where

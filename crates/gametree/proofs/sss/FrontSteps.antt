@@ -10,10 +10,10 @@ use mathlib.Core.Option.{Option, none, some}
 use mathlib.Core.List.{List, [], _∷_, _++_, map, append-nil}
 use lib.ListN.{length, length-append}
 use Rattle.lists.specs.Lists.{All}
-use Rattle.gametree.specs.Tree.{Side, Max, Min, Tree, leaf, inner, Kids, last, _then_, number, size, sizeKids, In}
-use Rattle.gametree.specs.Tree.{InKids}
+use Rattle.gametree.specs.Tree.{Side, Max, Min, Tree, leaf, inner, Children, last, _then_, number, size, sizeChildren, In}
+use Rattle.gametree.specs.Tree.{InChildren}
 use Rattle.gametree.specs.Layout.{root, under, Layout, firstOf, othersOf}
-use Rattle.gametree.proofs.sss.Described.{Answers, AnswersKids, Describes}
+use Rattle.gametree.proofs.sss.Described.{Answers, AnswersChildren, Describes}
 use Rattle.gametree.specs.Sss.{Status, LIVE, SOLVED, State, live, solved, Taken, choose, beats, pick, Step, empty}
 use Rattle.gametree.specs.Sss.{stop, quiet, evaluating, purge, replaceLive, replaceSolved, replace, step}
 use Rattle.gametree.specs.Sss.{ListAfter, atStart, afterQuiet, afterEvaluating}
@@ -21,16 +21,16 @@ use Rattle.lists.proofs.Lists.{all-append, all-map, all-zip}
 use Rattle.gametree.proofs.minimax.Nodes.{number-in}
 use Rattle.gametree.proofs.sss.Steps.{step-at, purge-left, purge-right, purge-outside}
 use Rattle.gametree.proofs.sss.Around.{handed}
-use Rattle.gametree.proofs.sss.Fronts.{Front, FrontKids, alone-front, ChildIn, Brothers, Beside, Within, top}
+use Rattle.gametree.proofs.sss.Fronts.{Front, FrontChildren, alone-front, ChildIn, Brothers, Beside, Within, top}
 use Rattle.gametree.proofs.sss.Fronts.{child, plug, located}
 
-beside-child : (q : Side) (ks : Kids) (u : Tree) (F G : List State) → Beside q ks u F G → ChildIn u ks
+beside-child : (q : Side) (ks : Children) (u : Tree) (F G : List State) → Beside q ks u F G → ChildIn u ks
 beside-child q (last t) u F G b = b .0
 beside-child q (t then ts) u F G (inl b) = inl (b .0)
 beside-child q (t then ts) u F G (inr b) = inr (beside-child q ts u (b .1) G (b .4))
 
 -- a node of a child is a node below its parent
-pub in-child : (p : ℕ) (u : Tree) (ks : Kids) → ChildIn u ks → In p u → InKids p ks
+pub in-child : (p : ℕ) (u : Tree) (ks : Children) → ChildIn u ks → In p u → InChildren p ks
 in-child p u (last t) c i = subst (λ x. In p x) c i
 in-child p u (t then ts) (inl c) i = inl (subst (λ x. In p x) c i)
 in-child p u (t then ts) (inr c) i = inr (in-child p u ts c i)
@@ -42,8 +42,8 @@ mutual
   front-length (inner n q ks) L (inl f) = rw (f .1) (omega arith, omega arith)
   front-length (inner n q ks) L (inr f) = let r = kids-front-length q ks L f in (r .0, omega (arith, r .1))
 
-  kids-front-length : (q : Side) (ks : Kids) (L : List State) → FrontKids q ks L
-      → (0 < length L) × (length L ≤ sizeKids ks)
+  kids-front-length : (q : Side) (ks : Children) (L : List State) → FrontChildren q ks L
+      → (0 < length L) × (length L ≤ sizeChildren ks)
   kids-front-length q (last t) L f = front-length t L f
   kids-front-length Max (t then ts) L f =
       let x = front-length t (f .0) (f .3) in
@@ -55,19 +55,19 @@ mutual
       let y = kids-front-length Min ts L f in (y .0, omega (arith, y .1))
 
 -- the states of the list are of nodes below the children
-abbrev InsideKids : Kids → List State → Type 0
-InsideKids ks L = All (λ s. InKids (s .node) ks) L
+abbrev InsideChildren : Children → List State → Type 0
+InsideChildren ks L = All (λ s. InChildren (s .node) ks) L
 
-inside-first : (t : Tree) (ts : Kids) (L : List State) → All (λ s. In (s .node) t) L → InsideKids (t then ts) L
-inside-first t ts L h = all-map (λ s. In (s .node) t) (λ s. InKids (s .node) (t then ts)) (λ s i. inl i) L h
+inside-first : (t : Tree) (ts : Children) (L : List State) → All (λ s. In (s .node) t) L → InsideChildren (t then ts) L
+inside-first t ts L h = all-map (λ s. In (s .node) t) (λ s. InChildren (s .node) (t then ts)) (λ s i. inl i) L h
 
-inside-rest : (t : Tree) (ts : Kids) (L : List State) → InsideKids ts L → InsideKids (t then ts) L
-inside-rest t ts L h = all-map (λ s. InKids (s .node) ts) (λ s. InKids (s .node) (t then ts)) (λ s i. inr i) L h
+inside-rest : (t : Tree) (ts : Children) (L : List State) → InsideChildren ts L → InsideChildren (t then ts) L
+inside-rest t ts L h = all-map (λ s. InChildren (s .node) ts) (λ s. InChildren (s .node) (t then ts)) (λ s i. inr i) L h
 
-inside-both : (t : Tree) (ts : Kids) {L : List State} (F G : List State) → L ≡ F ++ G → All (λ s. In (s .node) t) F
-    → InsideKids (t then ts) G → InsideKids (t then ts) L
+inside-both : (t : Tree) (ts : Children) {L : List State} (F G : List State) → L ≡ F ++ G → All (λ s. In (s .node) t) F
+    → InsideChildren (t then ts) G → InsideChildren (t then ts) L
 inside-both t ts F G e h i =
-    rw e (all-append (λ s. InKids (s .node) (t then ts)) F G (inside-first t ts F h) i)
+    rw e (all-append (λ s. InChildren (s .node) (t then ts)) F G (inside-first t ts F h) i)
 
 mutual
   -- the states of a front are of the tree's nodes
@@ -75,9 +75,9 @@ mutual
   front-in (leaf n) L f = rw (f .1) (f .2, tt)
   front-in (inner n q ks) L (inl f) = rw (f .1) (inl (f .2), tt)
   front-in (inner n q ks) L (inr f) =
-      all-map (λ s. InKids (s .node) ks) (λ s. In (s .node) (inner n q ks)) (λ s i. inr i) L (kids-front-in q ks L f)
+      all-map (λ s. InChildren (s .node) ks) (λ s. In (s .node) (inner n q ks)) (λ s i. inr i) L (kids-front-in q ks L f)
 
-  kids-front-in : (q : Side) (ks : Kids) (L : List State) → FrontKids q ks L → InsideKids ks L
+  kids-front-in : (q : Side) (ks : Children) (L : List State) → FrontChildren q ks L → InsideChildren ks L
   kids-front-in q (last t) L f = front-in t L f
   kids-front-in Max (t then ts) L f =
       inside-both t ts (f .0) (f .1) (f .2) (front-in t (f .0) (f .3))
@@ -85,11 +85,11 @@ mutual
   kids-front-in Min (t then ts) L (inl f) = inside-first t ts L (front-in t L f)
   kids-front-in Min (t then ts) L (inr f) = inside-rest t ts L (kids-front-in Min ts L f)
 
-brothers-in : (q : Side) (ks : Kids) (L : List State) → Brothers q ks L → InsideKids ks L
+brothers-in : (q : Side) (ks : Children) (L : List State) → Brothers q ks L → InsideChildren ks L
 brothers-in Max ks L b = kids-front-in Max ks L b
 brothers-in Min ks L b = rw b tt
 
-beside-in : (q : Side) (ks : Kids) (u : Tree) (F G : List State) → Beside q ks u F G → InsideKids ks F × InsideKids ks G
+beside-in : (q : Side) (ks : Children) (u : Tree) (F G : List State) → Beside q ks u F G → InsideChildren ks F × InsideChildren ks G
 beside-in q (last t) u F G b = (rw (b .1) tt, rw (b .2) tt)
 beside-in q (t then ts) u F G (inl b) = (rw (b .1) tt, inside-rest t ts G (brothers-in q ts G (b .2)))
 beside-in q (t then ts) u F G (inr b) =
@@ -99,32 +99,32 @@ beside-in q (t then ts) u F G (inr b) =
     )
 
 -- the brothers of a child of a Min node have no states
-beside-none : (ks : Kids) (u : Tree) (F G : List State) → Beside Min ks u F G → (F ≡ []) × (G ≡ [])
+beside-none : (ks : Children) (u : Tree) (F G : List State) → Beside Min ks u F G → (F ≡ []) × (G ≡ [])
 beside-none (last t) u F G b = (b .1, b .2)
 beside-none (t then ts) u F G (inl b) = (b .1, b .2)
 beside-none (t then ts) u F G (inr b) =
     let r = beside-none ts u (b .1) G (b .4) in (b .2 ∙ ap₂ _++_ (b .3) (r .0), r .1)
 
 -- the next brother, where there is one, is a child too
-abbrev NextIn : Option ℕ → Kids → Type 0
+abbrev NextIn : Option ℕ → Children → Type 0
 NextIn none ks = Unit {0}
 NextIn (some b) ks = (v : Tree) × (number v ≡ b) × ChildIn v ks
 
-next-later : (o : Option ℕ) (t : Tree) (ts : Kids) → NextIn o ts → NextIn o (t then ts)
+next-later : (o : Option ℕ) (t : Tree) (ts : Children) → NextIn o ts → NextIn o (t then ts)
 next-later none t ts n = tt
 next-later (some b) t ts n = (n .0, n .1, inr (n .2))
 
-first-child : (ks : Kids) → (v : Tree) × (number v ≡ firstOf ks) × ChildIn v ks
+first-child : (ks : Children) → (v : Tree) × (number v ≡ firstOf ks) × ChildIn v ks
 first-child (last t) = (t, refl, refl)
 first-child (t then ts) = (t, refl, inl refl)
 
 module _ (Y : Layout) where
-  child-answers : (n : ℕ) (q : Side) (u : Tree) (ks : Kids) → ChildIn u ks → AnswersKids Y n q ks → Answers Y u
+  child-answers : (n : ℕ) (q : Side) (u : Tree) (ks : Children) → ChildIn u ks → AnswersChildren Y n q ks → Answers Y u
   child-answers n q u (last t) c a = subst (λ x. Answers Y x) (sym c) (a .1)
   child-answers n q u (t then ts) (inl c) a = subst (λ x. Answers Y x) (sym c) (a .2)
   child-answers n q u (t then ts) (inr c) a = child-answers n q u ts c (a .3)
 
-  child-link : (n : ℕ) (q : Side) (u : Tree) (ks : Kids) → ChildIn u ks → AnswersKids Y n q ks
+  child-link : (n : ℕ) (q : Side) (u : Tree) (ks : Children) → ChildIn u ks → AnswersChildren Y n q ks
       → (o : Option ℕ) × (Y .link (number u) ≡ under n q o) × NextIn o ks
   child-link n q u (last t) c a = (none, ap (λ x. Y .link (number x)) c ∙ a .0, tt)
   child-link n q u (t then ts) (inl c) a =
@@ -150,12 +150,12 @@ module _ (Y : Layout) where
   abbrev Behind : ℕ → ℕ → Type 0
   Behind p k = (Y .above p k ≡ false) × (Y .leftOf p k ≡ true)
 
-  beside-clear : (n : ℕ) (q : Side) (ks : Kids) (u : Tree) (F G : List State) → Beside q ks u F G
-      → AnswersKids Y n q ks → Each Clear u F × Each Behind u G
+  beside-clear : (n : ℕ) (q : Side) (ks : Children) (u : Tree) (F G : List State) → Beside q ks u F G
+      → AnswersChildren Y n q ks → Each Clear u F × Each Behind u G
   beside-clear n q (last t) u F G b a = (rw (b .1) tt, rw (b .2) tt)
   beside-clear n q (t then ts) u F G (inl b) a = (
     rw (b .1) tt,
-    all-map (λ s. InKids (s .node) ts) (λ s. (p : ℕ) → In p u → Behind p (s .node))
+    all-map (λ s. InChildren (s .node) ts) (λ s. (p : ℕ) → In p u → Behind p (s .node))
         (λ s i p j. let x = a .1 p (s .node) (subst (λ x. In p x) (b .0) j) i in (x .0, x .2)) G
         (brothers-in q ts G (b .2)),
   )
@@ -169,7 +169,7 @@ module _ (Y : Layout) where
         r .1,
       )
 
-  deeper : (P : ℕ → ℕ → Type 0) (u : Tree) (n : ℕ) (q : Side) (ks : Kids) (L : List State) → ChildIn u ks
+  deeper : (P : ℕ → ℕ → Type 0) (u : Tree) (n : ℕ) (q : Side) (ks : Children) (L : List State) → ChildIn u ks
       → Each P (inner n q ks) L → Each P u L
   deeper P u n q ks L c o =
       all-map (λ s. (p : ℕ) → In p (inner n q ks) → P p (s .node)) (λ s. (p : ℕ) → In p u → P p (s .node))
@@ -187,14 +187,14 @@ module _ (Y : Layout) where
       )
 
   -- a purge below the Max node n, around one of its children, leaves what stands around n
-  purge-around : {r : Tree} {X Z : List State} (u : Tree) (n : ℕ) (ks : Kids) (F G : List State)
+  purge-around : {r : Tree} {X Z : List State} (u : Tree) (n : ℕ) (ks : Children) (F G : List State)
       → Within r (inner n Max ks) X Z → Beside Max ks u F G → Answers Y r
       → (purge Y n (X ++ F) ≡ X) × (purge Y n (G ++ Z) ≡ Z)
   purge-around {r} {X} {Z} u n ks F G w b a =
       let o = within-clear w a in
       let i = beside-in Max ks u F G b in
-      let down : (L : List State) → InsideKids ks L → All (λ s. Y .above n (s .node) ≡ true) L =
-      λ L. all-map (λ s. InKids (s .node) ks) (λ s. Y .above n (s .node) ≡ true)
+      let down : (L : List State) → InsideChildren ks L → All (λ s. Y .above n (s .node) ≡ true) L =
+      λ L. all-map (λ s. InChildren (s .node) ks) (λ s. Y .above n (s .node) ≡ true)
       (λ s j. within-answers w a .1 (s .node) j) L in (
         purge-left Y n X F (down F (i .0))
             ∙ purge-outside Y n X (all-map _ (λ s. Y .above n (s .node) ≡ false) (λ s f. f n (inl refl)) X (o .0)),
@@ -203,7 +203,7 @@ module _ (Y : Layout) where
       )
 
   -- so does what a child hands up on either side
-  pub handed-around : {r : Tree} {X Z : List State} (q : Side) (u : Tree) (n : ℕ) (ks : Kids) (F G : List State)
+  pub handed-around : {r : Tree} {X Z : List State} (q : Side) (u : Tree) (n : ℕ) (ks : Children) (F G : List State)
       → Within r (inner n q ks) X Z → Beside q ks u F G → Answers Y r
       → (handed q Y n (X ++ F) ≡ X) × (handed q Y n (G ++ Z) ≡ Z)
   handed-around Max u n ks F G w b a = purge-around u n ks F G w b a
@@ -219,7 +219,7 @@ module _ (Y : Layout) where
       (all-zip _ _ (λ x. (x .merit ≤ s .merit) × (Y .leftOf (s .node) (x .node) ≡ true))
       (λ x h k. (h, rw (← e) (k (number u) (number-in u) .1))) B g (within-clear w a .1))
 
-kids-live : (m : ℕ) (ks : Kids) → FrontKids Max ks (map (λ n. live n m) (firstOf ks ∷ othersOf ks))
+kids-live : (m : ℕ) (ks : Children) → FrontChildren Max ks (map (λ n. live n m) (firstOf ks ∷ othersOf ks))
 kids-live m (last t) = alone-front t (live (number t) m) refl
 kids-live m (t then ts) = (
   live (number t) m ∷ [],
@@ -230,7 +230,7 @@ kids-live m (t then ts) = (
 )
 
 -- one state of a child of a Min node
-child-front : (ks : Kids) (u : Tree) → ChildIn u ks → (s : State) → s .node ≡ number u → FrontKids Min ks (s ∷ [])
+child-front : (ks : Children) (u : Tree) → ChildIn u ks → (s : State) → s .node ≡ number u → FrontChildren Min ks (s ∷ [])
 child-front (last t) u c s e = alone-front t s (e ∙ ap number c)
 child-front (t then ts) u (inl c) s e = inl (alone-front t s (e ∙ ap number c))
 child-front (t then ts) u (inr c) s e = inr (child-front ts u c s e)

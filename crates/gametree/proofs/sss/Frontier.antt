@@ -10,17 +10,17 @@ use mathlib.Core.List.{List, [], _∷_, _++_, map}
 use lib.Dec.{ltb}
 use borrow.Author.Tests.{ltb-true, leb-true, leb-false, not-false, le-leb, lt-ltb, le-ltb}
 use Rattle.lists.specs.Lists.{All}
-use Rattle.gametree.specs.Tree.{Side, Max, Min, Tree, leaf, inner, Kids, last, _then_, greatest, number, Scored}
-use Rattle.gametree.specs.Tree.{ScoredKids}
-use Rattle.gametree.specs.Mtd.{Memo, MemoKids, memoHigh, memoHighKids, Pass, PassKids, pass, passKids}
-use Rattle.gametree.specs.Mtd.{fresh, freshKids}
+use Rattle.gametree.specs.Tree.{Side, Max, Min, Tree, leaf, inner, Children, last, _then_, greatest, number, Scored}
+use Rattle.gametree.specs.Tree.{ScoredChildren}
+use Rattle.gametree.specs.Mtd.{Memo, MemoChildren, memoHigh, memoHighChildren, Pass, PassChildren, pass, passChildren}
+use Rattle.gametree.specs.Mtd.{fresh, freshChildren}
 use Rattle.gametree.specs.Layout.{firstOf, othersOf}
 use Rattle.gametree.specs.Sss.{State, live, solved}
 use Rattle.lists.proofs.Choice.{cond-cases, true-not-false}
 use Rattle.lists.proofs.Lists.{all-append, all-left, all-right, all-map, all-zip}
-use Rattle.gametree.proofs.mtd.Sound.{memoLow, memoLow-minimax, minimax-memoHigh, Kept, KeptKids, sound}
-use Rattle.gametree.proofs.mtd.Sound.{soundKids}
-use Rattle.gametree.proofs.mtd.Value.{freshKids-memoHigh}
+use Rattle.gametree.proofs.mtd.Sound.{memoLow, memoLow-minimax, minimax-memoHigh, Kept, KeptChildren, sound}
+use Rattle.gametree.proofs.mtd.Sound.{soundChildren}
+use Rattle.gametree.proofs.mtd.Value.{freshChildren-memoHigh}
 
 -- no merit of the list exceeds γ
 abbrev pub AtMost : ℕ → List State → Type 0
@@ -33,8 +33,8 @@ Below γ L = All (λ s. s .merit < γ) L
 -- THE STATES OF A NODE
 
 -- has a younger brother of the first child a lesser high
-abbrev pub outdone : (ν : ℕ → ℕ) → Side → (t : Tree) (ts : Kids) → MemoKids (t then ts) → Bool
-outdone ν s t ts m = ltb (memoHighKids ν s ts (m .rest)) (memoHigh ν t (m .first))
+abbrev pub outdone : (ν : ℕ → ℕ) → Side → (t : Tree) (ts : Children) → MemoChildren (t then ts) → Bool
+outdone ν s t ts m = ltb (memoHighChildren ν s ts (m .rest)) (memoHigh ν t (m .first))
 
 -- the frontiers of two brothers: at Max both, at Min that of the one with the lesser high
 abbrev pub join-frontier : Side → Bool → List State → List State → List State
@@ -47,12 +47,12 @@ join-frontier Min false F G = F
 abbrev mutual
   pub frontier : (ν : ℕ → ℕ) (t : Tree) → Memo t → List State
   frontier ν (leaf n) m = solved n (ν n) ∷ []
-  frontier ν (inner n s ks) m = frontierKids ν s ks (m .kids)
+  frontier ν (inner n s ks) m = frontierChildren ν s ks (m .kids)
 
-  pub frontierKids : (ν : ℕ → ℕ) → Side → (ks : Kids) → MemoKids ks → List State
-  frontierKids ν s (last t) m = frontier ν t m
-  frontierKids ν s (t then ts) m =
-      join-frontier s (outdone ν s t ts m) (frontier ν t (m .first)) (frontierKids ν s ts (m .rest))
+  pub frontierChildren : (ν : ℕ → ℕ) → Side → (ks : Children) → MemoChildren ks → List State
+  frontierChildren ν s (last t) m = frontier ν t m
+  frontierChildren ν s (t then ts) m =
+      join-frontier s (outdone ν s t ts m) (frontier ν t (m .first)) (frontierChildren ν s ts (m .rest))
 
 -- a node that a pass found not below a test of γ or more: a leaf is evaluated and its score is so, an inner node is
 -- remembered
@@ -71,24 +71,24 @@ join-ready Min f r rs u = (f × rs) ⊎ (r × u)
 abbrev mutual
   pub Ready : (ν : ℕ → ℕ) → ℕ → (t : Tree) → Memo t → Type 0
   Ready ν γ (leaf n) m = m .evaluated ≡ true
-  Ready ν γ (inner n s ks) m = (m .notBelow ≡ false) × ReadyKids ν γ s ks (m .kids)
+  Ready ν γ (inner n s ks) m = (m .notBelow ≡ false) × ReadyChildren ν γ s ks (m .kids)
 
-  pub ReadyKids : (ν : ℕ → ℕ) → ℕ → Side → (ks : Kids) → MemoKids ks → Type 0
-  ReadyKids ν γ s (last t) m = Ready ν γ t m
-  ReadyKids ν γ s (t then ts) m =
+  pub ReadyChildren : (ν : ℕ → ℕ) → ℕ → Side → (ks : Children) → MemoChildren ks → Type 0
+  ReadyChildren ν γ s (last t) m = Ready ν γ t m
+  ReadyChildren ν γ s (t then ts) m =
       join-ready s (Found ν γ t (m .first) × (outdone ν s t ts m ≡ true)) (Ready ν γ t (m .first))
-      (ReadyKids ν γ s ts (m .rest)) ((m .rest ≡ freshKids ts) × (outdone ν s t ts m ≡ false))
+      (ReadyChildren ν γ s ts (m .rest)) ((m .rest ≡ freshChildren ts) × (outdone ν s t ts m ≡ false))
 
 -- a node that a pass may enter: untouched, or found below
 abbrev pub Fitted : (ν : ℕ → ℕ) → ℕ → (t : Tree) → Memo t → Type 0
 Fitted ν γ t m = (m ≡ fresh t) ⊎ Ready ν γ t m
 
 -- and the children of such a node
-abbrev pub FittedKids : (ν : ℕ → ℕ) → ℕ → Side → (ks : Kids) → MemoKids ks → Type 0
-FittedKids ν γ s (last t) m = Fitted ν γ t m
-FittedKids ν γ s (t then ts) m =
-    join-ready s (Found ν γ t (m .first)) (Fitted ν γ t (m .first)) (FittedKids ν γ s ts (m .rest))
-    (m .rest ≡ freshKids ts)
+abbrev pub FittedChildren : (ν : ℕ → ℕ) → ℕ → Side → (ks : Children) → MemoChildren ks → Type 0
+FittedChildren ν γ s (last t) m = Fitted ν γ t m
+FittedChildren ν γ s (t then ts) m =
+    join-ready s (Found ν γ t (m .first)) (Fitted ν γ t (m .first)) (FittedChildren ν γ s ts (m .rest))
+    (m .rest ≡ freshChildren ts)
 
 -- what is found not below a test is not below a lower one
 found-lower : (ν : ℕ → ℕ) {γ δ : ℕ} (t : Tree) (m : Memo t) → δ ≤ γ → Found ν γ t m → Found ν δ t m
@@ -99,16 +99,16 @@ mutual
   -- what is ready for a test is ready for a lower one
   pub ready-lower : (ν : ℕ → ℕ) {γ δ : ℕ} (t : Tree) (m : Memo t) → δ ≤ γ → Ready ν γ t m → Ready ν δ t m
   ready-lower ν (leaf n) m h r = r
-  ready-lower ν (inner n s ks) m h r = (r .0, readyKids-lower ν s ks (m .kids) h (r .1))
+  ready-lower ν (inner n s ks) m h r = (r .0, readyChildren-lower ν s ks (m .kids) h (r .1))
 
-  readyKids-lower : (ν : ℕ → ℕ) {γ δ : ℕ} (s : Side) (ks : Kids) (m : MemoKids ks) → δ ≤ γ → ReadyKids ν γ s ks m
-      → ReadyKids ν δ s ks m
-  readyKids-lower ν s (last t) m h r = ready-lower ν t m h r
-  readyKids-lower ν Max (t then ts) m h r =
-      (ready-lower ν t (m .first) h (r .0), readyKids-lower ν Max ts (m .rest) h (r .1))
-  readyKids-lower ν Min (t then ts) m h (inl r) =
-      inl ((found-lower ν t (m .first) h (r .0 .0), r .0 .1), readyKids-lower ν Min ts (m .rest) h (r .1))
-  readyKids-lower ν Min (t then ts) m h (inr r) = inr (ready-lower ν t (m .first) h (r .0), r .1)
+  readyChildren-lower : (ν : ℕ → ℕ) {γ δ : ℕ} (s : Side) (ks : Children) (m : MemoChildren ks) → δ ≤ γ → ReadyChildren ν γ s ks m
+      → ReadyChildren ν δ s ks m
+  readyChildren-lower ν s (last t) m h r = ready-lower ν t m h r
+  readyChildren-lower ν Max (t then ts) m h r =
+      (ready-lower ν t (m .first) h (r .0), readyChildren-lower ν Max ts (m .rest) h (r .1))
+  readyChildren-lower ν Min (t then ts) m h (inl r) =
+      inl ((found-lower ν t (m .first) h (r .0 .0), r .0 .1), readyChildren-lower ν Min ts (m .rest) h (r .1))
+  readyChildren-lower ν Min (t then ts) m h (inr r) = inr (ready-lower ν t (m .first) h (r .0), r .1)
 
 -- the states that stand for such a node before the pass with the test γ: itself, LIVE, or its frontier
 abbrev pub states : (ν : ℕ → ℕ) (γ : ℕ) (t : Tree) (m : Memo t) → Fitted ν γ t m → List State
@@ -116,38 +116,38 @@ states ν γ t m (inl e) = live (number t) γ ∷ []
 states ν γ t m (inr r) = frontier ν t m
 
 -- and for its children
-abbrev pub statesKids : (ν : ℕ → ℕ) (γ : ℕ) (s : Side) (ks : Kids) (m : MemoKids ks) → FittedKids ν γ s ks m
+abbrev pub statesChildren : (ν : ℕ → ℕ) (γ : ℕ) (s : Side) (ks : Children) (m : MemoChildren ks) → FittedChildren ν γ s ks m
     → List State
-statesKids ν γ s (last t) m w = states ν γ t m w
-statesKids ν γ Max (t then ts) m w = states ν γ t (m .first) (w .0) ++ statesKids ν γ Max ts (m .rest) (w .1)
-statesKids ν γ Min (t then ts) m (inl w) = statesKids ν γ Min ts (m .rest) (w .1)
-statesKids ν γ Min (t then ts) m (inr w) = states ν γ t (m .first) (w .0)
+statesChildren ν γ s (last t) m w = states ν γ t m w
+statesChildren ν γ Max (t then ts) m w = states ν γ t (m .first) (w .0) ++ statesChildren ν γ Max ts (m .rest) (w .1)
+statesChildren ν γ Min (t then ts) m (inl w) = statesChildren ν γ Min ts (m .rest) (w .1)
+statesChildren ν γ Min (t then ts) m (inr w) = states ν γ t (m .first) (w .0)
 
 -- the children of an untouched node are untouched
-pub kids-fresh : (n : ℕ) (s : Side) (ks : Kids) {m : Memo (inner n s ks)} → m ≡ fresh (inner n s ks)
-    → m .kids ≡ freshKids ks
+pub kids-fresh : (n : ℕ) (s : Side) (ks : Children) {m : Memo (inner n s ks)} → m ≡ fresh (inner n s ks)
+    → m .kids ≡ freshChildren ks
 kids-fresh n s ks e = ap (λ (x : Memo (inner n s ks)). x .kids) e
 
 -- so are the first of untouched children
-pub first-fresh : (t : Tree) (ts : Kids) {m : MemoKids (t then ts)} → m ≡ freshKids (t then ts) → m .first ≡ fresh t
-first-fresh t ts e = ap (λ (x : MemoKids (t then ts)). x .first) e
+pub first-fresh : (t : Tree) (ts : Children) {m : MemoChildren (t then ts)} → m ≡ freshChildren (t then ts) → m .first ≡ fresh t
+first-fresh t ts e = ap (λ (x : MemoChildren (t then ts)). x .first) e
 
 -- and the others
-pub rest-fresh : (t : Tree) (ts : Kids) {m : MemoKids (t then ts)} → m ≡ freshKids (t then ts)
-    → m .rest ≡ freshKids ts
-rest-fresh t ts e = ap (λ (x : MemoKids (t then ts)). x .rest) e
+pub rest-fresh : (t : Tree) (ts : Children) {m : MemoChildren (t then ts)} → m ≡ freshChildren (t then ts)
+    → m .rest ≡ freshChildren ts
+rest-fresh t ts e = ap (λ (x : MemoChildren (t then ts)). x .rest) e
 
 -- untouched children fit
-abbrev pub fitted-fresh : (ν : ℕ → ℕ) (γ : ℕ) (s : Side) (ks : Kids) (m : MemoKids ks) → m ≡ freshKids ks
-    → FittedKids ν γ s ks m
+abbrev pub fitted-fresh : (ν : ℕ → ℕ) (γ : ℕ) (s : Side) (ks : Children) (m : MemoChildren ks) → m ≡ freshChildren ks
+    → FittedChildren ν γ s ks m
 fitted-fresh ν γ s (last t) m e = inl e
 fitted-fresh ν γ Max (t then ts) m e =
     (inl (first-fresh t ts e), fitted-fresh ν γ Max ts (m .rest) (rest-fresh t ts e))
 fitted-fresh ν γ Min (t then ts) m e = inr (inl (first-fresh t ts e), rest-fresh t ts e)
 
 -- so do ready ones
-abbrev pub fitted-ready : (ν : ℕ → ℕ) (γ : ℕ) (s : Side) (ks : Kids) (m : MemoKids ks) → ReadyKids ν γ s ks m
-    → FittedKids ν γ s ks m
+abbrev pub fitted-ready : (ν : ℕ → ℕ) (γ : ℕ) (s : Side) (ks : Children) (m : MemoChildren ks) → ReadyChildren ν γ s ks m
+    → FittedChildren ν γ s ks m
 fitted-ready ν γ s (last t) m r = inr r
 fitted-ready ν γ Max (t then ts) m r = (inr (r .0), fitted-ready ν γ Max ts (m .rest) (r .1))
 fitted-ready ν γ Min (t then ts) m (inl r) = inl (r .0 .0, fitted-ready ν γ Min ts (m .rest) (r .1))
@@ -157,9 +157,9 @@ fitted-ready ν γ Min (t then ts) m (inr r) = inr (inr (r .0), r .1 .0)
 abbrev pub Next : (ν : ℕ → ℕ) (γ : ℕ) (t : Tree) → Pass t → Type 0
 Next ν γ t r = r .notBelow ≡ false → Ready ν γ t (r .next) × Below γ (frontier ν t (r .next))
 
-abbrev pub NextKids : (ν : ℕ → ℕ) (γ : ℕ) (s : Side) (ks : Kids) → PassKids ks → Type 0
-NextKids ν γ s ks q =
-    q .notBelow ≡ false → ReadyKids ν γ s ks (q .next) × Below γ (frontierKids ν s ks (q .next))
+abbrev pub NextChildren : (ν : ℕ → ℕ) (γ : ℕ) (s : Side) (ks : Children) → PassChildren ks → Type 0
+NextChildren ν γ s ks q =
+    q .notBelow ≡ false → ReadyChildren ν γ s ks (q .next) × Below γ (frontierChildren ν s ks (q .next))
 
 -- the children that are LIVE when their parent's LIVE state is replaced: at Max all, at Min the first
 abbrev pub opened : Side → (first : ℕ) (others : List ℕ) → List ℕ
@@ -168,8 +168,8 @@ opened Min c cs = c ∷ []
 
 module _ (ν : ℕ → ℕ) (γ : ℕ) where
   -- the states of untouched children are those that their parent's replacement puts on the list
-  pub states-fresh : (s : Side) (ks : Kids) (m : MemoKids ks) (e : m ≡ freshKids ks)
-      → statesKids ν γ s ks m (fitted-fresh ν γ s ks m e) ≡ map (λ n. live n γ) (opened s (firstOf ks) (othersOf ks))
+  pub states-fresh : (s : Side) (ks : Children) (m : MemoChildren ks) (e : m ≡ freshChildren ks)
+      → statesChildren ν γ s ks m (fitted-fresh ν γ s ks m e) ≡ map (λ n. live n γ) (opened s (firstOf ks) (othersOf ks))
   states-fresh Max (last t) m e = refl
   states-fresh Min (last t) m e = refl
   states-fresh Max (t then ts) m e =
@@ -177,16 +177,16 @@ module _ (ν : ℕ → ℕ) (γ : ℕ) where
   states-fresh Min (t then ts) m e = refl
 
   -- and those of ready children are their frontier
-  pub states-ready : (s : Side) (ks : Kids) (m : MemoKids ks) (r : ReadyKids ν γ s ks m)
-      → statesKids ν γ s ks m (fitted-ready ν γ s ks m r) ≡ frontierKids ν s ks m
+  pub states-ready : (s : Side) (ks : Children) (m : MemoChildren ks) (r : ReadyChildren ν γ s ks m)
+      → statesChildren ν γ s ks m (fitted-ready ν γ s ks m r) ≡ frontierChildren ν s ks m
   states-ready s (last t) m r = refl
   states-ready Max (t then ts) m r = ap (λ l. frontier ν t (m .first) ++ l) (states-ready Max ts (m .rest) (r .1))
   states-ready Min (t then ts) m (inl r) = rw (r .0 .1) (states-ready Min ts (m .rest) (r .1))
   states-ready Min (t then ts) m (inr r) = rw (r .1 .1) refl
 
   -- the merits of untouched children are the test
-  pub fresh-atMost : (s : Side) (ks : Kids) (m : MemoKids ks) (e : m ≡ freshKids ks)
-      → AtMost γ (statesKids ν γ s ks m (fitted-fresh ν γ s ks m e))
+  pub fresh-atMost : (s : Side) (ks : Children) (m : MemoChildren ks) (e : m ≡ freshChildren ks)
+      → AtMost γ (statesChildren ν γ s ks m (fitted-fresh ν γ s ks m e))
   fresh-atMost s (last t) m e = (le-refl γ, tt)
   fresh-atMost Max (t then ts) m e = (le-refl γ, fresh-atMost Max ts (m .rest) (rest-fresh t ts e))
   fresh-atMost Min (t then ts) m e = (le-refl γ, tt)
@@ -200,7 +200,7 @@ module _ (ν : ℕ → ℕ) (γ : ℕ) where
       (λ e f. (e, leb-true γ (ν n) f)) (λ _ f. (refl, leb-true γ (ν n) f))
   pass-notBelow (inner n s ks) m =
       let P : Pass (inner n s ks) → Type 0 = λ r. r .notBelow ≡ true → r .next .notBelow ≡ true in
-      cond-cases P (ltb (memoHighKids ν s ks (m .kids)) γ) _ _ (λ _ e. absurd (true-not-false e refl))
+      cond-cases P (ltb (memoHighChildren ν s ks (m .kids)) γ) _ _ (λ _ e. absurd (true-not-false e refl))
       (λ _. cond-cases P (m .notBelow) _ _ (λ f _. f) (λ _ e. e))
 
   -- its low is at the test
@@ -219,7 +219,7 @@ module _ (ν : ℕ → ℕ) (γ : ℕ) where
   notBelow-again (leaf n) m h k e = rw (e .0, le-leb γ (ν n) (e .1)) (refl, refl)
   notBelow-again (inner n s ks) m h k e =
       let P : Pass (inner n s ks) → Type 0 = λ r. (r .notBelow ≡ true) × (r .evaluated ≡ []) in
-      cond-cases P (ltb (memoHighKids ν s ks (m .kids)) γ) _ _
+      cond-cases P (ltb (memoHighChildren ν s ks (m .kids)) γ) _ _
       (λ l. absurd (omega (arith, ltb-true _ γ l, notBelow-high (inner n s ks) m h k e)))
       (λ _. cond-cases P (m .notBelow) _ _ (λ _. (refl, refl)) (λ f. absurd (true-not-false e f)))
 
@@ -231,81 +231,81 @@ module _ (ν : ℕ → ℕ) (γ : ℕ) where
       frontier-high : (t : Tree) (m : Memo t) → Scored ν t → Kept ν γ t m → Ready ν γ t m → AtMost γ (frontier ν t m)
           → AtMost (memoHigh ν t m) (frontier ν t m)
       frontier-high (leaf n) m h k r b = (rw r (le-refl (ν n)), tt)
-      frontier-high (inner n s ks) m h k r b = frontierKids-high s ks (m .kids) h (k .1) (r .1) b
+      frontier-high (inner n s ks) m h k r b = frontierChildren-high s ks (m .kids) h (k .1) (r .1) b
 
-      frontierKids-high : (s : Side) (ks : Kids) (m : MemoKids ks) → ScoredKids ν ks → KeptKids ν γ ks m
-          → ReadyKids ν γ s ks m → AtMost γ (frontierKids ν s ks m)
-          → AtMost (memoHighKids ν s ks m) (frontierKids ν s ks m)
-      frontierKids-high s (last t) m h k r b = frontier-high t m h k r b
-      frontierKids-high Max (t then ts) m h k r b =
+      frontierChildren-high : (s : Side) (ks : Children) (m : MemoChildren ks) → ScoredChildren ν ks → KeptChildren ν γ ks m
+          → ReadyChildren ν γ s ks m → AtMost γ (frontierChildren ν s ks m)
+          → AtMost (memoHighChildren ν s ks m) (frontierChildren ν s ks m)
+      frontierChildren-high s (last t) m h k r b = frontier-high t m h k r b
+      frontierChildren-high Max (t then ts) m h k r b =
           let F = frontier ν t (m .first) in
-          let G = frontierKids ν Max ts (m .rest) in
+          let G = frontierChildren ν Max ts (m .rest) in
           all-append _ F G
           (all-map _ _ (λ x y. omega arith) F
           (frontier-high t (m .first) (h .0) (k .0) (r .0) (all-left _ F G b)))
           (all-map _ _ (λ x y. omega arith) G
-          (frontierKids-high Max ts (m .rest) (h .1) (k .1) (r .1) (all-right _ F G b)))
-      frontierKids-high Min (t then ts) m h k (inl r) b =
+          (frontierChildren-high Max ts (m .rest) (h .1) (k .1) (r .1) (all-right _ F G b)))
+      frontierChildren-high Min (t then ts) m h k (inl r) b =
           let c = rw (r .0 .1) at b in
           let l = notBelow-high t (m .first) (h .0) (k .0) (r .0 .0) in
-          rw (r .0 .1) (all-zip _ _ _ (λ x y z. omega arith) (frontierKids ν Min ts (m .rest)) c
-          (frontierKids-high Min ts (m .rest) (h .1) (k .1) (r .1) c))
-      frontierKids-high Min (t then ts) m h k (inr r) b =
+          rw (r .0 .1) (all-zip _ _ _ (λ x y z. omega arith) (frontierChildren ν Min ts (m .rest)) c
+          (frontierChildren-high Min ts (m .rest) (h .1) (k .1) (r .1) c))
+      frontierChildren-high Min (t then ts) m h k (inr r) b =
           let f = r .1 .1 in
           let c = rw f at b in
-          let l = ap (λ x. memoHighKids ν Min ts x) (r .1 .0) ∙ freshKids-memoHigh ν Min ts in
+          let l = ap (λ x. memoHighChildren ν Min ts x) (r .1 .0) ∙ freshChildren-memoHigh ν Min ts in
           rw f (all-zip _ _ _ (λ x y z. omega arith) (frontier ν t (m .first)) c
           (frontier-high t (m .first) (h .0) (k .0) (r .0) c))
 
     -- an untouched node's high is not below a test
-    pub fresh-not-below : (s : Side) (ks : Kids) (m : MemoKids ks) → m ≡ freshKids ks → memoHighKids ν s ks m < γ → ⊥
+    pub fresh-not-below : (s : Side) (ks : Children) (m : MemoChildren ks) → m ≡ freshChildren ks → memoHighChildren ν s ks m < γ → ⊥
     fresh-not-below s ks m e l =
-        let c = ap (λ x. memoHighKids ν s ks x) e ∙ freshKids-memoHigh ν s ks in
+        let c = ap (λ x. memoHighChildren ν s ks x) e ∙ freshChildren-memoHigh ν s ks in
         omega arith
 
     -- at Min a first child found below has the least high, if its brothers are untouched
-    pub first-least : (t : Tree) (ts : Kids) (m : MemoKids (t then ts)) → ScoredKids ν (t then ts)
-        → KeptKids ν γ (t then ts) m → pass ν γ t (m .first) .notBelow ≡ false → m .rest ≡ freshKids ts
+    pub first-least : (t : Tree) (ts : Children) (m : MemoChildren (t then ts)) → ScoredChildren ν (t then ts)
+        → KeptChildren ν γ (t then ts) m → pass ν γ t (m .first) .notBelow ≡ false → m .rest ≡ freshChildren ts
         → outdone ν Min t ts (record { first = pass ν γ t (m .first) .next; rest = m .rest }) ≡ false
     first-least t ts m h k e u =
-        let c = ap (λ x. memoHighKids ν Min ts x) u ∙ freshKids-memoHigh ν Min ts in
+        let c = ap (λ x. memoHighChildren ν Min ts x) u ∙ freshChildren-memoHigh ν Min ts in
         let l = sound ν γ t (m .first) (h .0) (k .0) .below e in
-        le-ltb (memoHighKids ν Min ts (m .rest)) (memoHigh ν t (pass ν γ t (m .first) .next)) (omega arith)
+        le-ltb (memoHighChildren ν Min ts (m .rest)) (memoHigh ν t (pass ν γ t (m .first) .next)) (omega arith)
 
     -- and one found not below has a greater high than a brother found below
-    pub first-outdone : (t : Tree) (ts : Kids) (m : MemoKids (t then ts)) → ScoredKids ν (t then ts)
-        → KeptKids ν γ (t then ts) m → pass ν γ t (m .first) .notBelow ≡ true
-        → passKids ν γ Min ts (m .rest) .notBelow ≡ false
+    pub first-outdone : (t : Tree) (ts : Children) (m : MemoChildren (t then ts)) → ScoredChildren ν (t then ts)
+        → KeptChildren ν γ (t then ts) m → pass ν γ t (m .first) .notBelow ≡ true
+        → passChildren ν γ Min ts (m .rest) .notBelow ≡ false
         → outdone ν Min t ts
-        (record { first = pass ν γ t (m .first) .next; rest = passKids ν γ Min ts (m .rest) .next })
+        (record { first = pass ν γ t (m .first) .next; rest = passChildren ν γ Min ts (m .rest) .next })
         ≡ true
     first-outdone t ts m h k e f =
         let a = sound ν γ t (m .first) (h .0) (k .0) in
         let n = pass ν γ t (m .first) .next in
         let u = notBelow-high t n (h .0) (a .kept) (pass-notBelow t (m .first) e) in
-        let l = soundKids ν γ Min ts (m .rest) (h .1) (k .1) .below f in
-        lt-ltb (memoHighKids ν Min ts (passKids ν γ Min ts (m .rest) .next)) (memoHigh ν t n) (omega arith)
+        let l = soundChildren ν γ Min ts (m .rest) (h .1) (k .1) .below f in
+        lt-ltb (memoHighChildren ν Min ts (passChildren ν γ Min ts (m .rest) .next)) (memoHigh ν t n) (omega arith)
 
     -- STEP 4. A NODE FOUND BELOW IS READY, AND EVERY MERIT OF ITS FRONTIER IS BELOW THE TEST
 
     -- a node that is not entered, because its high is below the test
-    skipped : (n : ℕ) (s : Side) (ks : Kids) (m : Memo (inner n s ks)) (w : Fitted ν γ (inner n s ks) m)
-        → ScoredKids ν ks
-        → Kept ν γ (inner n s ks) m → AtMost γ (states ν γ (inner n s ks) m w) → memoHighKids ν s ks (m .kids) < γ
-        → Ready ν γ (inner n s ks) m × Below γ (frontierKids ν s ks (m .kids))
+    skipped : (n : ℕ) (s : Side) (ks : Children) (m : Memo (inner n s ks)) (w : Fitted ν γ (inner n s ks) m)
+        → ScoredChildren ν ks
+        → Kept ν γ (inner n s ks) m → AtMost γ (states ν γ (inner n s ks) m w) → memoHighChildren ν s ks (m .kids) < γ
+        → Ready ν γ (inner n s ks) m × Below γ (frontierChildren ν s ks (m .kids))
     skipped n s ks m (inl e) h k b l = absurd (fresh-not-below s ks (m .kids) (kids-fresh n s ks e) l)
     skipped n s ks m (inr r) h k b l = (
       r,
-      all-map _ _ (λ x y. lt-of-le-of-lt y l) (frontierKids ν s ks (m .kids)) (frontier-high (inner n s ks) m h k r b),
+      all-map _ _ (λ x y. lt-of-le-of-lt y l) (frontierChildren ν s ks (m .kids)) (frontier-high (inner n s ks) m h k r b),
     )
 
     -- an inner node, by whether it is entered
-    next-inner : (n : ℕ) (s : Side) (ks : Kids) (m : Memo (inner n s ks)) (w : Fitted ν γ (inner n s ks) m)
-        → ScoredKids ν ks → Kept ν γ (inner n s ks) m → AtMost γ (states ν γ (inner n s ks) m w)
-        → NextKids ν γ s ks (passKids ν γ s ks (m .kids))
+    next-inner : (n : ℕ) (s : Side) (ks : Children) (m : Memo (inner n s ks)) (w : Fitted ν γ (inner n s ks) m)
+        → ScoredChildren ν ks → Kept ν γ (inner n s ks) m → AtMost γ (states ν γ (inner n s ks) m w)
+        → NextChildren ν γ s ks (passChildren ν γ s ks (m .kids))
         → Next ν γ (inner n s ks) (pass ν γ (inner n s ks) m)
     next-inner n s ks m w h k b q =
-        cond-cases (Next ν γ (inner n s ks)) (ltb (memoHighKids ν s ks (m .kids)) γ) _ _
+        cond-cases (Next ν γ (inner n s ks)) (ltb (memoHighChildren ν s ks (m .kids)) γ) _ _
         (λ l _. skipped n s ks m w h k b (ltb-true _ γ l))
         (λ _. cond-cases (Next ν γ (inner n s ks)) (m .notBelow) _ _ (λ _ e. absurd (true-not-false refl e))
         (λ _ e. ((e, q e .0), q e .1)))
@@ -320,37 +320,37 @@ module _ (ν : ℕ → ℕ) (γ : ℕ) where
       next (inner n s ks) m (inl e) h k b =
           let f = kids-fresh n s ks e in
           next-inner n s ks m (inl e) h k b
-          (nextKids s ks (m .kids) (fitted-fresh ν γ s ks (m .kids) f) h (k .1) (fresh-atMost s ks (m .kids) f))
+          (nextChildren s ks (m .kids) (fitted-fresh ν γ s ks (m .kids) f) h (k .1) (fresh-atMost s ks (m .kids) f))
       next (inner n s ks) m (inr r) h k b =
           next-inner n s ks m (inr r) h k b
-          (nextKids s ks (m .kids) (fitted-ready ν γ s ks (m .kids) (r .1)) h (k .1)
+          (nextChildren s ks (m .kids) (fitted-ready ν γ s ks (m .kids) (r .1)) h (k .1)
           (rw (states-ready s ks (m .kids) (r .1)) b))
 
-      nextKids : (s : Side) (ks : Kids) (m : MemoKids ks) (w : FittedKids ν γ s ks m) → ScoredKids ν ks
-          → KeptKids ν γ ks m → AtMost γ (statesKids ν γ s ks m w) → NextKids ν γ s ks (passKids ν γ s ks m)
-      nextKids s (last t) m w h k b = next t m w h k b
-      nextKids Max (t then ts) m w h k b =
+      nextChildren : (s : Side) (ks : Children) (m : MemoChildren ks) (w : FittedChildren ν γ s ks m) → ScoredChildren ν ks
+          → KeptChildren ν γ ks m → AtMost γ (statesChildren ν γ s ks m w) → NextChildren ν γ s ks (passChildren ν γ s ks m)
+      nextChildren s (last t) m w h k b = next t m w h k b
+      nextChildren Max (t then ts) m w h k b =
           let F = states ν γ t (m .first) (w .0) in
-          let G = statesKids ν γ Max ts (m .rest) (w .1) in
+          let G = statesChildren ν γ Max ts (m .rest) (w .1) in
           let F′ = frontier ν t (pass ν γ t (m .first) .next) in
-          let G′ = frontierKids ν Max ts (passKids ν γ Max ts (m .rest) .next) in
-          cond-cases (NextKids ν γ Max (t then ts)) (pass ν γ t (m .first) .notBelow) _ _
+          let G′ = frontierChildren ν Max ts (passChildren ν γ Max ts (m .rest) .next) in
+          cond-cases (NextChildren ν γ Max (t then ts)) (pass ν γ t (m .first) .notBelow) _ _
           (λ e f. absurd (true-not-false e f))
           (λ e f.
           let x = next t (m .first) (w .0) (h .0) (k .0) (all-left _ F G b) e in
-          let y = nextKids Max ts (m .rest) (w .1) (h .1) (k .1) (all-right _ F G b) f in
+          let y = nextChildren Max ts (m .rest) (w .1) (h .1) (k .1) (all-right _ F G b) f in
           ((x .0, y .0), all-append _ F′ G′ (x .1) (y .1)))
-      nextKids Min (t then ts) m (inl w) h k b =
+      nextChildren Min (t then ts) m (inl w) h k b =
           let a = notBelow-again t (m .first) (h .0) (k .0) (w .0) .0 in
           let p = pass-notBelow t (m .first) a in
-          cond-cases (NextKids ν γ Min (t then ts)) (not (pass ν γ t (m .first) .notBelow)) _ _
+          cond-cases (NextChildren ν γ Min (t then ts)) (not (pass ν γ t (m .first) .notBelow)) _ _
           (λ e f. absurd (true-not-false a f))
           (λ e f.
-          let y = nextKids Min ts (m .rest) (w .1) (h .1) (k .1) b f in
+          let y = nextChildren Min ts (m .rest) (w .1) (h .1) (k .1) b f in
           let o = first-outdone t ts m h k a f in
           (inl ((p, o), y .0), rw o (y .1)))
-      nextKids Min (t then ts) m (inr w) h k b =
-          cond-cases (NextKids ν γ Min (t then ts)) (not (pass ν γ t (m .first) .notBelow)) _ _
+      nextChildren Min (t then ts) m (inr w) h k b =
+          cond-cases (NextChildren ν γ Min (t then ts)) (not (pass ν γ t (m .first) .notBelow)) _ _
           (λ e f.
           let x = next t (m .first) (w .0) (h .0) (k .0) b f in
           let o = first-least t ts m h k f (w .1) in
@@ -359,7 +359,7 @@ module _ (ν : ℕ → ℕ) (γ : ℕ) where
           let p = pass-notBelow t (m .first) (not-false _ e) in
           let o = first-outdone t ts m h k (not-false _ e) f in
           let y =
-          nextKids Min ts (m .rest) (fitted-fresh ν γ Min ts (m .rest) (w .1)) (h .1) (k .1)
+          nextChildren Min ts (m .rest) (fitted-fresh ν γ Min ts (m .rest) (w .1)) (h .1) (k .1)
           (fresh-atMost Min ts (m .rest) (w .1)) f in
           (inl ((p, o), y .0), rw o (y .1)))
 

@@ -5,7 +5,7 @@ use Prim.Native.Nat.{ℕ}
 use mathlib.Core.Path.{_≡_, refl, sym, _∙_, ap, ap₂, subst}
 use mathlib.Core.Logic.{_⊎_, inl, inr}
 use mathlib.Core.List.{List, [], _∷_, _++_, append-assoc, append-nil}
-use Rattle.gametree.specs.Tree.{Side, Max, Min, Tree, leaf, inner, Kids, last, _then_, number}
+use Rattle.gametree.specs.Tree.{Side, Max, Min, Tree, leaf, inner, Children, last, _then_, number}
 use Rattle.gametree.specs.Sss.{State}
 use Rattle.lists.proofs.Choice.{clash}
 
@@ -17,12 +17,12 @@ Alone n L = (s : State) × (L ≡ s ∷ []) × (s .node ≡ n)
 abbrev mutual
   pub Front : Tree → List State → Type 0
   Front (leaf n) L = Alone n L
-  Front (inner n q ks) L = Alone n L ⊎ FrontKids q ks L
+  Front (inner n q ks) L = Alone n L ⊎ FrontChildren q ks L
 
-  pub FrontKids : Side → Kids → List State → Type 0
-  FrontKids q (last t) L = Front t L
-  FrontKids Max (t then ts) L = (F : List State) × (G : List State) × (L ≡ F ++ G) × Front t F × FrontKids Max ts G
-  FrontKids Min (t then ts) L = Front t L ⊎ FrontKids Min ts L
+  pub FrontChildren : Side → Children → List State → Type 0
+  FrontChildren q (last t) L = Front t L
+  FrontChildren Max (t then ts) L = (F : List State) × (G : List State) × (L ≡ F ++ G) × Front t F × FrontChildren Max ts G
+  FrontChildren Min (t then ts) L = Front t L ⊎ FrontChildren Min ts L
 
 -- one state is a front of its node's tree
 pub alone-front : (t : Tree) (s : State) → s .node ≡ number t → Front t (s ∷ [])
@@ -30,17 +30,17 @@ alone-front (leaf n) s e = (s, refl, e)
 alone-front (inner n q ks) s e = inl (s, refl, e)
 
 -- u is one of the children
-abbrev pub ChildIn : Tree → Kids → Type 0
+abbrev pub ChildIn : Tree → Children → Type 0
 ChildIn u (last t) = u ≡ t
 ChildIn u (t then ts) = (u ≡ t) ⊎ ChildIn u ts
 
 -- the fronts of some brothers of a child: below a Max node each has one, below a Min node none
-abbrev pub Brothers : Side → Kids → List State → Type 0
-Brothers Max ks L = FrontKids Max ks L
+abbrev pub Brothers : Side → Children → List State → Type 0
+Brothers Max ks L = FrontChildren Max ks L
 Brothers Min ks L = L ≡ []
 
 -- u is one of the children, with the fronts F of its elder brothers and G of its younger ones
-abbrev pub Beside : Side → Kids → Tree → List State → List State → Type 0
+abbrev pub Beside : Side → Children → Tree → List State → List State → Type 0
 Beside q (last t) u F G = (u ≡ t) × (F ≡ []) × (G ≡ [])
 Beside q (t then ts) u F G =
     ((u ≡ t) × (F ≡ []) × Brothers q ts G)
@@ -49,7 +49,7 @@ Beside q (t then ts) u F G =
 -- u is a tree within r, and a front of u between A and B makes a front of r
 pub data Within (r : Tree) : Tree → List State → List State → Type 0 where
   top : Within r r [] []
-  child : {n : ℕ} {q : Side} {ks : Kids} {u : Tree} {X Z A B : List State} (F G : List State)
+  child : {n : ℕ} {q : Side} {ks : Children} {u : Tree} {X Z A B : List State} (F G : List State)
       → Within r (inner n q ks) X Z → Beside q ks u F G → A ≡ X ++ F → B ≡ G ++ Z → Within r u A B
 
 -- a front of u is one of its parent where its brothers have none
@@ -59,8 +59,8 @@ between {t = t} M e p q f =
     subst (λ L. Front t L) (sym (ap₂ (λ x y. x ++ (M ++ y)) p q ∙ append-nil M)) (subst (λ x. Front x M) e f)
 
 -- with the fronts of its brothers it makes one of its parent
-pub beside-front : (q : Side) (ks : Kids) (u : Tree) (F G M : List State) → Beside q ks u F G → Front u M
-    → FrontKids q ks (F ++ (M ++ G))
+pub beside-front : (q : Side) (ks : Children) (u : Tree) (F G M : List State) → Beside q ks u F G → Front u M
+    → FrontChildren q ks (F ++ (M ++ G))
 beside-front q (last t) u F G M b f = between M (b .0) (b .1) (b .2) f
 beside-front Max (t then ts) u F G M (inl b) f =
     (M, G, ap (λ x. x ++ (M ++ G)) (b .1), subst (λ x. Front x M) (b .0) f, b .2)
@@ -73,7 +73,7 @@ beside-front Max (t then ts) u F G M (inr b) f = (
 )
 beside-front Min (t then ts) u F G M (inl b) f = inl (between M (b .0) (b .1) (b .2) f)
 beside-front Min (t then ts) u F G M (inr b) f =
-    inr (subst (λ x. FrontKids Min ts (x ++ (M ++ G))) (sym (b .2 ∙ ap (λ x. x ++ b .1) (b .3)))
+    inr (subst (λ x. FrontChildren Min ts (x ++ (M ++ G))) (sym (b .2 ∙ ap (λ x. x ++ b .1) (b .3)))
     (beside-front Min ts u (b .1) G M (b .4) f))
 
 regroup : (X F M G Z A B : List State) → A ≡ X ++ F → B ≡ G ++ Z → X ++ ((F ++ (M ++ G)) ++ Z) ≡ A ++ (M ++ B)
@@ -141,15 +141,15 @@ mutual
   locate r (leaf n) A s B X Z f w = alone-located r (leaf n) n A s B X Z refl f w
   locate r (inner n q ks) A s B X Z (inl f) w = alone-located r (inner n q ks) n A s B X Z refl f w
   locate r (inner n q ks) A s B X Z (inr f) w =
-      locateKids r q ks A s B X Z f (λ u F G b. child F G w b refl refl)
+      locateChildren r q ks A s B X Z f (λ u F G b. child F G w b refl refl)
 
-  locateKids : (r : Tree) (q : Side) (ks : Kids) (A : List State) (s : State) (B X Z : List State)
-      → FrontKids q ks (A ++ (s ∷ B))
+  locateChildren : (r : Tree) (q : Side) (ks : Children) (A : List State) (s : State) (B X Z : List State)
+      → FrontChildren q ks (A ++ (s ∷ B))
       → ((u : Tree) (F G : List State) → Beside q ks u F G → Within r u (X ++ F) (G ++ Z))
       → Located r s (X ++ A) (B ++ Z)
-  locateKids r q (last t) A s B X Z f w =
+  locateChildren r q (last t) A s B X Z f w =
       locate r t A s B X Z f (subst (λ l. Within r t l Z) (append-nil X) (w t [] [] (refl, refl, refl)))
-  locateKids r Max (t then ts) A s B X Z f w =
+  locateChildren r Max (t then ts) A s B X Z f w =
       by-split (split A s B (f .0) (f .1) (f .2))
       (λ C p q.
       moved r s refl (sym (append-assoc C (f .1) Z) ∙ ap (λ l. l ++ Z) (sym q))
@@ -157,14 +157,14 @@ mutual
       (subst (λ l. Within r t l (f .1 ++ Z)) (append-nil X) (w t [] (f .1) (inl (refl, refl, f .4))))))
       (λ C p q.
       moved r s (append-assoc X (f .0) C ∙ ap (λ l. X ++ l) (sym p)) refl
-      (locateKids r Max ts C s B (X ++ f .0) Z (subst (λ l. FrontKids Max ts l) q (f .4))
+      (locateChildren r Max ts C s B (X ++ f .0) Z (subst (λ l. FrontChildren Max ts l) q (f .4))
       (λ u F H b.
       subst (λ l. Within r u l (H ++ Z)) (sym (append-assoc X (f .0) F))
       (w u (f .0 ++ F) H (inr (f .0, F, refl, f .3, b))))))
-  locateKids r Min (t then ts) A s B X Z (inl f) w =
+  locateChildren r Min (t then ts) A s B X Z (inl f) w =
       locate r t A s B X Z f (subst (λ l. Within r t l Z) (append-nil X) (w t [] [] (inl (refl, refl, refl))))
-  locateKids r Min (t then ts) A s B X Z (inr f) w =
-      locateKids r Min ts A s B X Z f (λ u F G b. w u F G (inr ([], F, refl, refl, b)))
+  locateChildren r Min (t then ts) A s B X Z (inr f) w =
+      locateChildren r Min ts A s B X Z f (λ u F G b. w u F G (inr ([], F, refl, refl, b)))
 
 -- each state of a front stands in its place
 pub located : (r : Tree) (A : List State) (s : State) (B : List State) → Front r (A ++ (s ∷ B)) → Located r s A B

@@ -24,7 +24,7 @@ record Ahead (ν : ℕ → ℕ) (Y : Layout) (N : List State) (W : List ℕ) (A 
   toCome : List ℕ
   steps : Steps ν Y left L toCome N 0
   whole : w ++ toCome ≡ W
-  few : k + left ≤ A
+  atMost : k + left ≤ A
 
 module _ (ν : ℕ → ℕ) (Y : Layout) (N : List State) (W : List ℕ) (A v : ℕ) (e : step ν Y N ≡ stop v) where
   -- a quiet step takes the run ahead
@@ -34,7 +34,7 @@ module _ (ν : ℕ → ℕ) (Y : Layout) (N : List State) (W : List ℕ) (A v : 
   ahead-quiet (done l) i f s = clash (cc)
   ahead-quiet {u = u} {M = M} (quietly {c = c} {M = M′} t l p) i f s =
       let z : M′ ≡ M = cc in
-      record { left = c; toCome = u; steps = subst (λ X. Steps ν Y c X u N 0) z p; whole = i; few = omega arith }
+      record { left = c; toCome = u; steps = subst (λ X. Steps ν Y c X u N 0) z p; whole = i; atMost = omega arith }
   ahead-quiet (evaluates t l p) i f s = clash (cc)
 
   -- and so does one that evaluates a leaf
@@ -51,22 +51,22 @@ module _ (ν : ℕ → ℕ) (Y : Layout) (N : List State) (W : List ℕ) (A v : 
         toCome = x;
         steps = subst (λ X. Steps ν Y c X x N 0) z p;
         whole = append-assoc w (n ∷ []) x ∙ ap (λ j. w ++ (j ∷ x)) (sym y) ∙ i;
-        few = omega arith;
+        atMost = omega arith;
       }
 
   -- what is ahead of every list
   list-ahead : (t : Tree) → Steps ν Y A (start t) W N 0 → {k : ℕ} {w : List ℕ} {L : List State}
       → ListAfter ν Y t k w L → Ahead ν Y N W A k w L
-  list-ahead t p atStart = record { left = A; toCome = W; steps = p; whole = refl; few = omega arith }
-  list-ahead t p (afterQuiet r s) = let a = list-ahead t p r in ahead-quiet (a .steps) (a .whole) (a .few) s
-  list-ahead t p (afterEvaluating {w = w} r s) =
-      let a = list-ahead t p r in ahead-evaluating w (a .steps) (a .whole) (a .few) s
+  list-ahead t p atStart = record { left = A; toCome = W; steps = p; whole = refl; atMost = omega arith }
+  list-ahead t p (afterQuiet r s) = let a = list-ahead t p r in ahead-quiet (a .steps) (a .whole) (a .atMost) s
+  list-ahead t p (afterEvaluating {leaves = w} r s) =
+      let a = list-ahead t p r in ahead-evaluating w (a .steps) (a .whole) (a .atMost) s
 
 -- what holds of every list that SSS* reaches, with W the leaves of the whole run
 pub record Reaching (ν : ℕ → ℕ) (Y : Layout) (t : Tree) (W : List ℕ) (k : ℕ) (w : List ℕ)
     (L : List State) : Type 0 where
   -- fewer replacements than twice the number of nodes led to it
-  pub few : k < 2 * size t
+  pub atMost : k < 2 * size t
   -- the state taken has no less merit than the tree has value
   pub merit : minimax ν t ≤ takenMerit Y L
   -- the leaves so far are the first of the whole run's
@@ -82,7 +82,7 @@ module _ (ν : ℕ → ℕ) (Y : Layout) (t : Tree) (d : Describes Y t) (h : Sco
       let e = root-stops ν Y t v (d .top) in
       let a = list-ahead ν Y _ (mtd ν t .evaluated) (full t) v e t (mtd-steps ν Y t (d .answers) h) r in
       record {
-        few = omega (arith, a .few, full-size t);
+        atMost = omega (arith, a .atMost, full-size t);
         merit = rw (← mtd-right ν t h .value) (steps-fall ν Y (a .steps));
         toCome = a .toCome;
         whole = a .whole;
@@ -101,9 +101,9 @@ pub resume : (ν : ℕ → ℕ) (Y : Layout) (t : Tree) {k : ℕ} {w : List ℕ}
 resume ν Y t atStart f e =
     let z : f ≡ 2 * size t = omega arith in
     rw z (ran-path refl (omega arith))
-resume ν Y t (afterQuiet {w = w} {L = L} r s) f e =
+resume ν Y t (afterQuiet {leaves = w} {L = L} r s) f e =
     let i = resume ν Y t r (suc f) (omega arith) in
     i ∙ rw s (ran-path refl (omega arith))
-resume ν Y t (afterEvaluating {n = n} {w = w} r s) f e =
+resume ν Y t (afterEvaluating {n = n} {leaves = w} r s) f e =
     let i = resume ν Y t r (suc f) (omega arith) in
     i ∙ rw s (ran-path (sym (append-assoc w (n ∷ []) _)) (omega arith))

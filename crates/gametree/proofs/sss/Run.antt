@@ -7,7 +7,7 @@ use mathlib.Core.Path.{_≡_, refl, ap, subst}
 use mathlib.Core.Logic.{inl, inr}
 use mathlib.Core.List.{List, [], _∷_, append-nil}
 use Rattle.gametree.specs.Tree.{Tree, greatest, minimax, number, size, Scored}
-use Rattle.gametree.specs.Mtd.{Memo, memoHigh, pass, Run, run, fresh, mtd}
+use Rattle.gametree.specs.Mtd.{Memo, memoHigh, pass, MtdRun, run, fresh, mtd}
 use Rattle.gametree.specs.Layout.{root, Layout}
 use Rattle.gametree.proofs.sss.Described.{Answers, Describes}
 use Rattle.gametree.specs.Sss.{SOLVED, State, live, solved, stop, step, finished, Ran, runFrom, sssOver}
@@ -38,7 +38,7 @@ run-steps ν Y (suc f) γ t m w p h k g b l =
     let n = pass ν γ t m .next in
     let F = states ν γ t m w in
     let more : work ν γ t m w + 0 ≤ work ν γ t m w = omega arith in
-    cond-cases (λ (q : Run t). Steps ν Y (work ν γ t m w) F (q .evaluated) (solved (number t) (q .value) ∷ []) 0)
+    cond-cases (λ (q : MtdRun t). Steps ν Y (work ν γ t m w) F (q .evaluated) (solved (number t) (q .value) ∷ []) 0)
     (pass ν γ t m .notBelow) _ _
     (λ e. allow more (rw (append-nil F) at (S .above 0 e)))
     (λ e.

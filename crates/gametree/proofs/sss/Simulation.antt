@@ -23,25 +23,25 @@ use mathlib.Core.List.{List, [], _∷_, _++_, append-assoc}
 use lib.Dec.{ltb}
 use borrow.Author.Tests.{ltb-true, leb-true, leb-false, not-true, not-false}
 use Rattle.lists.specs.Lists.{All}
-use Rattle.gametree.specs.Tree.{Side, Max, Min, Tree, leaf, inner, Kids, last, _then_, greatest, number, InKids}
-use Rattle.gametree.specs.Tree.{Scored, ScoredKids}
-use Rattle.gametree.specs.Mtd.{Memo, MemoKids, memoHighKids, Pass, PassKids, entered, pass, passKids, freshKids}
+use Rattle.gametree.specs.Tree.{Side, Max, Min, Tree, leaf, inner, Children, last, _then_, greatest, number, InChildren}
+use Rattle.gametree.specs.Tree.{Scored, ScoredChildren}
+use Rattle.gametree.specs.Mtd.{Memo, MemoChildren, memoHighChildren, Pass, PassChildren, entered, pass, passChildren, freshChildren}
 use Rattle.gametree.specs.Layout.{tip, under, Layout, firstOf, othersOf}
-use Rattle.gametree.proofs.sss.Described.{Answers, AnswersKids}
+use Rattle.gametree.proofs.sss.Described.{Answers, AnswersChildren}
 use Rattle.gametree.specs.Sss.{State, live, solved, quiet, step}
 use Rattle.lists.proofs.Choice.{cond-cases, true-not-false}
 use Rattle.lists.proofs.Lists.{all-left, all-right, all-map}
-use Rattle.gametree.proofs.mtd.Sound.{Kept, KeptKids}
+use Rattle.gametree.proofs.mtd.Sound.{Kept, KeptChildren}
 use Rattle.gametree.proofs.sss.Steps.{Steps, done, quietly, evaluates, allow, spare, chain, then-quiet}
 use Rattle.gametree.proofs.sss.Steps.{purge-left, purge-right}
-use Rattle.gametree.proofs.sss.Frontier.{AtMost, frontier, frontierKids, Fitted, FittedKids, states}
-use Rattle.gametree.proofs.sss.Frontier.{statesKids, kids-fresh, fitted-fresh, fitted-ready}
+use Rattle.gametree.proofs.sss.Frontier.{AtMost, frontier, frontierChildren, Fitted, FittedChildren, states}
+use Rattle.gametree.proofs.sss.Frontier.{statesChildren, kids-fresh, fitted-fresh, fitted-ready}
 use Rattle.gametree.proofs.sss.Frontier.{states-fresh, states-ready, fresh-atMost, notBelow-again}
 use Rattle.gametree.proofs.sss.Frontier.{fresh-not-below, first-least, first-outdone, next}
-use Rattle.gametree.proofs.sss.Around.{frontier-nodes, statesKids-nodes, AroundTree, AroundKids, narrow}
+use Rattle.gametree.proofs.sss.Around.{frontier-nodes, statesChildren-nodes, AroundTree, AroundChildren, narrow}
 use Rattle.gametree.proofs.sss.Around.{around-first, around-rest, handed, handed-clear}
 use Rattle.gametree.proofs.sss.Around.{takes-leaf, takes-inner, takes-max, takes-last, takes-next}
-use Rattle.gametree.proofs.sss.Work.{fullKids, part, partKids, work, workKids, work-fresh, work-ready}
+use Rattle.gametree.proofs.sss.Work.{fullChildren, part, partChildren, work, workChildren, work-fresh, work-ready}
 use Rattle.gametree.proofs.sss.Work.{work-positive}
 
 -- SSS* does what a pass does at a node, whose states are F: found below, they become the node's frontier; found not
@@ -53,11 +53,11 @@ pub record Sim (ν : ℕ → ℕ) (Y : Layout) (γ : ℕ) (t : Tree) (a : ℕ) (
       → Steps ν Y (a + B) (L ++ (F ++ R)) (r .evaluated) (L ++ (solved (number t) γ ∷ R)) B
 
 -- the same at the children of the node n: found not below, they have handed up, and n is SOLVED
-pub record SimKids (ν : ℕ → ℕ) (Y : Layout) (γ n : ℕ) (s : Side) (ks : Kids) (a : ℕ) (F L R : List State)
-    (q : PassKids ks) : Type 0 where
+pub record SimChildren (ν : ℕ → ℕ) (Y : Layout) (γ n : ℕ) (s : Side) (ks : Children) (a : ℕ) (F L R : List State)
+    (q : PassChildren ks) : Type 0 where
   pub below : (B : ℕ) → q .notBelow ≡ false
-      → Steps ν Y (a + B) (L ++ (F ++ R)) (q .evaluated) (L ++ (frontierKids ν s ks (q .next) ++ R))
-      (partKids ν s ks (q .next) + B)
+      → Steps ν Y (a + B) (L ++ (F ++ R)) (q .evaluated) (L ++ (frontierChildren ν s ks (q .next) ++ R))
+      (partChildren ν s ks (q .next) + B)
   pub above : (B : ℕ) → q .notBelow ≡ true
       → Steps ν Y (a + B) (L ++ (F ++ R)) (q .evaluated) (handed s Y n L ++ (solved n γ ∷ handed s Y n R)) B
 
@@ -106,22 +106,22 @@ module _ (ν : ℕ → ℕ) (Y : Layout) (γ : ℕ) (g : γ ≤ greatest) where
   -- AN INNER NODE
 
   -- one that is ready and whose high is below the test costs no step; an untouched one is entered
-  sim-inner : (n : ℕ) (s : Side) (ks : Kids) (m : Memo (inner n s ks)) (w : Fitted ν γ (inner n s ks) m)
+  sim-inner : (n : ℕ) (s : Side) (ks : Children) (m : Memo (inner n s ks)) (w : Fitted ν γ (inner n s ks) m)
       → (L R : List State) → AroundTree Y γ (inner n s ks) L R
       → Sim ν Y γ (inner n s ks) (work ν γ (inner n s ks) m w) (states ν γ (inner n s ks) m w) L R
-      (entered n s ks (passKids ν γ s ks (m .kids)))
+      (entered n s ks (passChildren ν γ s ks (m .kids)))
       → Sim ν Y γ (inner n s ks) (work ν γ (inner n s ks) m w) (states ν γ (inner n s ks) m w) L R
       (pass ν γ (inner n s ks) m)
   sim-inner n s ks m (inl e) L R a q =
-      let P = Sim ν Y γ (inner n s ks) (suc (fullKids s ks)) (live n γ ∷ []) L R in
-      cond-cases P (ltb (memoHighKids ν s ks (m .kids)) γ) _ _
+      let P = Sim ν Y γ (inner n s ks) (suc (fullChildren s ks)) (live n γ ∷ []) L R in
+      cond-cases P (ltb (memoHighChildren ν s ks (m .kids)) γ) _ _
       (λ l. absurd (fresh-not-below ν γ g s ks (m .kids) (kids-fresh n s ks e) (ltb-true _ γ l)))
       (λ _. cond-cases P (m .notBelow) _ _
       (λ f. absurd (true-not-false f (ap (λ (x : Memo (inner n s ks)). x .notBelow) e)))
       (λ _. q))
   sim-inner n s ks m (inr d) L R a q =
-      let P = Sim ν Y γ (inner n s ks) (partKids ν s ks (m .kids)) (frontierKids ν s ks (m .kids)) L R in
-      cond-cases P (ltb (memoHighKids ν s ks (m .kids)) γ) _ _
+      let P = Sim ν Y γ (inner n s ks) (partChildren ν s ks (m .kids)) (frontierChildren ν s ks (m .kids)) L R in
+      cond-cases P (ltb (memoHighChildren ν s ks (m .kids)) γ) _ _
       (λ _. record {
         below = λ B _. done (le-refl _);
         above = λ B e. absurd (true-not-false e refl);
@@ -131,20 +131,20 @@ module _ (ν : ℕ → ℕ) (Y : Layout) (γ : ℕ) (g : γ ≤ greatest) where
   -- STEP 6. THE CHILDREN OF A MAX NODE
 
   -- the first by A, with the states G of its brothers behind it, the others by B
-  sim-max : (n : ℕ) (t : Tree) (ts : Kids) (m : MemoKids (t then ts)) (a b : ℕ) (F G L R : List State) → 0 < b
+  sim-max : (n : ℕ) (t : Tree) (ts : Children) (m : MemoChildren (t then ts)) (a b : ℕ) (F G L R : List State) → 0 < b
       → Y .link (number t) ≡ under n Max (some (firstOf ts)) → AroundTree Y γ t L (G ++ R)
       → All (λ s. Y .above n (s .node) ≡ true) G
       → All (λ s. Y .above n (s .node) ≡ true) (frontier ν t (pass ν γ t (m .first) .next))
       → Sim ν Y γ t a F L (G ++ R) (pass ν γ t (m .first))
       → (pass ν γ t (m .first) .notBelow ≡ false
-      → SimKids ν Y γ n Max ts b G (L ++ frontier ν t (pass ν γ t (m .first) .next)) R (passKids ν γ Max ts (m .rest)))
-      → SimKids ν Y γ n Max (t then ts) (a + b) (F ++ G) L R (passKids ν γ Max (t then ts) m)
+      → SimChildren ν Y γ n Max ts b G (L ++ frontier ν t (pass ν γ t (m .first) .next)) R (passChildren ν γ Max ts (m .rest)))
+      → SimChildren ν Y γ n Max (t then ts) (a + b) (F ++ G) L R (passChildren ν γ Max (t then ts) m)
   sim-max n t ts m a b F G L R pos link u gin fin A B =
       let hand = takes-max ν Y γ t L (G ++ R) u n _ link in
       let F′ = frontier ν t (pass ν γ t (m .first) .next) in
-      let G′ = frontierKids ν Max ts (passKids ν γ Max ts (m .rest) .next) in
+      let G′ = frontierChildren ν Max ts (passChildren ν γ Max ts (m .rest) .next) in
       let c = part ν t (pass ν γ t (m .first) .next) in
-      cond-cases (SimKids ν Y γ n Max (t then ts) (a + b) (F ++ G) L R) (pass ν γ t (m .first) .notBelow) _ _
+      cond-cases (SimChildren ν Y γ n Max (t then ts) (a + b) (F ++ G) L R) (pass ν γ t (m .first) .notBelow) _ _
       (λ e. record {
         below = λ x f. absurd (true-not-false e f);
         above = λ x f.
@@ -168,13 +168,13 @@ module _ (ν : ℕ → ℕ) (Y : Layout) (γ : ℕ) (g : γ ≤ greatest) where
   -- STEP 7. THE CHILDREN OF A MIN NODE
 
   -- the first was found not below, and costs nothing; the others by B
-  sim-min-found : (n : ℕ) (t : Tree) (ts : Kids) (m : MemoKids (t then ts)) (b : ℕ) (G L R : List State)
-      → ScoredKids ν (t then ts) → KeptKids ν γ (t then ts) m → pass ν γ t (m .first) .notBelow ≡ true
+  sim-min-found : (n : ℕ) (t : Tree) (ts : Children) (m : MemoChildren (t then ts)) (b : ℕ) (G L R : List State)
+      → ScoredChildren ν (t then ts) → KeptChildren ν γ (t then ts) m → pass ν γ t (m .first) .notBelow ≡ true
       → pass ν γ t (m .first) .evaluated ≡ []
-      → SimKids ν Y γ n Min ts b G L R (passKids ν γ Min ts (m .rest))
-      → SimKids ν Y γ n Min (t then ts) b G L R (passKids ν γ Min (t then ts) m)
+      → SimChildren ν Y γ n Min ts b G L R (passChildren ν γ Min ts (m .rest))
+      → SimChildren ν Y γ n Min (t then ts) b G L R (passChildren ν γ Min (t then ts) m)
   sim-min-found n t ts m b G L R h k a v B =
-      cond-cases (SimKids ν Y γ n Min (t then ts) b G L R) (not (pass ν γ t (m .first) .notBelow)) _ _
+      cond-cases (SimChildren ν Y γ n Min (t then ts) b G L R) (not (pass ν γ t (m .first) .notBelow)) _ _
       (λ e. absurd (true-not-false a (not-true _ e)))
       (λ e. record {
         below = λ x f. rw (v, first-outdone ν γ g t ts m h k a f) (B .below x f);
@@ -182,15 +182,15 @@ module _ (ν : ℕ → ℕ) (Y : Layout) (γ : ℕ) (g : γ ≤ greatest) where
       })
 
   -- the first runs by A; if it is not below, its brothers, untouched, go on by B
-  sim-min : (n : ℕ) (t : Tree) (ts : Kids) (m : MemoKids (t then ts)) (a : ℕ) (F L R : List State)
+  sim-min : (n : ℕ) (t : Tree) (ts : Children) (m : MemoChildren (t then ts)) (a : ℕ) (F L R : List State)
       → Y .link (number t) ≡ under n Min (some (firstOf ts)) → AroundTree Y γ t L R
-      → ScoredKids ν (t then ts) → KeptKids ν γ (t then ts) m → m .rest ≡ freshKids ts
+      → ScoredChildren ν (t then ts) → KeptChildren ν γ (t then ts) m → m .rest ≡ freshChildren ts
       → Sim ν Y γ t a F L R (pass ν γ t (m .first))
-      → SimKids ν Y γ n Min ts (fullKids Min ts) (live (firstOf ts) γ ∷ []) L R (passKids ν γ Min ts (m .rest))
-      → SimKids ν Y γ n Min (t then ts) (suc a + fullKids Min ts) F L R (passKids ν γ Min (t then ts) m)
+      → SimChildren ν Y γ n Min ts (fullChildren Min ts) (live (firstOf ts) γ ∷ []) L R (passChildren ν γ Min ts (m .rest))
+      → SimChildren ν Y γ n Min (t then ts) (suc a + fullChildren Min ts) F L R (passChildren ν γ Min (t then ts) m)
   sim-min n t ts m a F L R link u h k untouched A B =
-      let b = fullKids Min ts in
-      cond-cases (SimKids ν Y γ n Min (t then ts) (suc a + b) F L R) (not (pass ν γ t (m .first) .notBelow)) _ _
+      let b = fullChildren Min ts in
+      cond-cases (SimChildren ν Y γ n Min (t then ts) (suc a + b) F L R) (not (pass ν γ t (m .first) .notBelow)) _ _
       (λ e. record {
         below = λ x f.
             rw (first-least ν γ g t ts m h k f untouched)
@@ -224,20 +224,20 @@ module _ (ν : ℕ → ℕ) (Y : Layout) (γ : ℕ) (g : γ ≤ greatest) where
         let W = work-fresh ν γ s ks (m .kids) f in
         let C = handed-clear Y γ n s ks L R a in
         let S =
-        simKids n s ks (m .kids) (fitted-fresh ν γ s ks (m .kids) f) (p .2) h (k .1) (fresh-atMost ν γ s ks (m .kids) f)
+        simChildren n s ks (m .kids) (fitted-fresh ν γ s ks (m .kids) f) (p .2) h (k .1) (fresh-atMost ν γ s ks (m .kids) f)
         (p .1) L R (narrow (λ p i. inr i) a) in
         let entry = takes-inner ν Y γ (inner n s ks) L R a s (firstOf ks) (othersOf ks) (p .0) in
         sim-inner n s ks m (inl e) L R a
         (record {
-          below = λ x d. enter (fullKids s ks) x entry (rw (E, W) at (S .below x d));
-          above = λ x d. enter (fullKids s ks) x entry (rw (E, W, C .0, C .1) at (S .above x d));
+          below = λ x d. enter (fullChildren s ks) x entry (rw (E, W) at (S .below x d));
+          above = λ x d. enter (fullChildren s ks) x entry (rw (E, W, C .0, C .1) at (S .above x d));
         })
     sim (inner n s ks) m (inr r) p h k b L R a =
         let E = states-ready ν γ s ks (m .kids) (r .1) in
         let W = work-ready ν γ s ks (m .kids) (r .1) in
         let C = handed-clear Y γ n s ks L R a in
         let S =
-        simKids n s ks (m .kids) (fitted-ready ν γ s ks (m .kids) (r .1)) (p .2) h (k .1) (rw E b) (p .1) L R
+        simChildren n s ks (m .kids) (fitted-ready ν γ s ks (m .kids) (r .1)) (p .2) h (k .1) (rw E b) (p .1) L R
         (narrow (λ p i. inr i) a) in
         sim-inner n s ks m (inr r) L R a
         (record {
@@ -245,44 +245,44 @@ module _ (ν : ℕ → ℕ) (Y : Layout) (γ : ℕ) (g : γ ≤ greatest) where
           above = λ x d. rw (E, W, C .0, C .1) at (S .above x d);
         })
 
-    simKids : (n : ℕ) (s : Side) (ks : Kids) (m : MemoKids ks) (w : FittedKids ν γ s ks m) → AnswersKids Y n s ks
-        → ScoredKids ν ks → KeptKids ν γ ks m → AtMost γ (statesKids ν γ s ks m w)
-        → ((p : ℕ) → InKids p ks → Y .above n p ≡ true) → (L R : List State) → AroundKids Y γ ks L R
-        → SimKids ν Y γ n s ks (workKids ν γ s ks m w) (statesKids ν γ s ks m w) L R (passKids ν γ s ks m)
-    simKids n s (last t) m w p h k b i L R a =
+    simChildren : (n : ℕ) (s : Side) (ks : Children) (m : MemoChildren ks) (w : FittedChildren ν γ s ks m) → AnswersChildren Y n s ks
+        → ScoredChildren ν ks → KeptChildren ν γ ks m → AtMost γ (statesChildren ν γ s ks m w)
+        → ((p : ℕ) → InChildren p ks → Y .above n p ≡ true) → (L R : List State) → AroundChildren Y γ ks L R
+        → SimChildren ν Y γ n s ks (workChildren ν γ s ks m w) (statesChildren ν γ s ks m w) L R (passChildren ν γ s ks m)
+    simChildren n s (last t) m w p h k b i L R a =
         let S = sim t m w (p .1) h k b L R a in
         let hand = takes-last ν Y γ t L R a s n (p .0) in
         record {
           below = λ x d. allow (omega arith) (spare (S .below (suc x) d) (omega arith));
           above = λ x d. hand-up (work ν γ t m w) x (λ c. S .above c d) hand;
         }
-    simKids n Max (t then ts) m w p h k b i L R a =
+    simChildren n Max (t then ts) m w p h k b i L R a =
         let F = states ν γ t (m .first) (w .0) in
-        let G = statesKids ν γ Max ts (m .rest) (w .1) in
+        let G = statesChildren ν γ Max ts (m .rest) (w .1) in
         let F′ = frontier ν t (pass ν γ t (m .first) .next) in
         let bF = all-left _ F G b in
         let bG = all-right _ F G b in
-        let gin = statesKids-nodes ν γ Max ts (m .rest) (w .1) in
+        let gin = statesChildren-nodes ν γ Max ts (m .rest) (w .1) in
         let fin = frontier-nodes ν t (pass ν γ t (m .first) .next) in
         let N = next ν γ g t (m .first) (w .0) (h .0) (k .0) bF in
         let u = around-first Y γ t ts L R (p .1) a G bG gin in
         let lower = all-map _ _ (λ s j. i (s .node) (inl j)) F′ fin in
-        sim-max n t ts m (work ν γ t (m .first) (w .0)) (workKids ν γ Max ts (m .rest) (w .1)) F G L R
+        sim-max n t ts m (work ν γ t (m .first) (w .0)) (workChildren ν γ Max ts (m .rest) (w .1)) F G L R
         (work-positive ν γ Max ts (m .rest) (w .1)) (p .0) u
         (all-map _ _ (λ s j. i (s .node) (inr j)) G gin) lower
         (sim t (m .first) (w .0) (p .2) (h .0) (k .0) bF L (G ++ R) u)
-        (λ e. simKids n Max ts (m .rest) (w .1) (p .3) (h .1) (k .1) bG (λ x j. i x (inr j)) (L ++ F′) R
+        (λ e. simChildren n Max ts (m .rest) (w .1) (p .3) (h .1) (k .1) bG (λ x j. i x (inr j)) (L ++ F′) R
         (around-rest Y γ t ts L R (p .1) a F′ (N e .1) fin))
-    simKids n Min (t then ts) m (inl w) p h k b i L R a =
+    simChildren n Min (t then ts) m (inl w) p h k b i L R a =
         let A = notBelow-again ν γ t (m .first) (h .0) (k .0) (w .0) in
-        sim-min-found n t ts m (workKids ν γ Min ts (m .rest) (w .1)) (statesKids ν γ Min ts (m .rest) (w .1)) L R h k
+        sim-min-found n t ts m (workChildren ν γ Min ts (m .rest) (w .1)) (statesChildren ν γ Min ts (m .rest) (w .1)) L R h k
         (A .0) (A .1)
-        (simKids n Min ts (m .rest) (w .1) (p .3) (h .1) (k .1) b (λ x j. i x (inr j)) L R
+        (simChildren n Min ts (m .rest) (w .1) (p .3) (h .1) (k .1) b (λ x j. i x (inr j)) L R
         (narrow (λ p i. inr i) a))
-    simKids n Min (t then ts) m (inr w) p h k b i L R a =
+    simChildren n Min (t then ts) m (inr w) p h k b i L R a =
         let f = w .1 in
         let B =
-        simKids n Min ts (m .rest) (fitted-fresh ν γ Min ts (m .rest) f) (p .3) (h .1) (k .1)
+        simChildren n Min ts (m .rest) (fitted-fresh ν γ Min ts (m .rest) f) (p .3) (h .1) (k .1)
         (fresh-atMost ν γ Min ts (m .rest) f) (λ x j. i x (inr j)) L R (narrow (λ p i. inr i) a) in
         let E = states-fresh ν γ Min ts (m .rest) f in
         let W = work-fresh ν γ Min ts (m .rest) f in

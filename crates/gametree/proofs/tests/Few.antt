@@ -13,7 +13,7 @@ use Rattle.lists.specs.Lists.{All, among, different}
 use Rattle.gametree.specs.Tree.{Tree, greatest, minimax, leaves, Scored}
 use Rattle.gametree.specs.Bounds.{low, high}
 use Rattle.gametree.specs.results.Mirror.{mirror, opposite, mirrored, oppositeTest}
-use Rattle.gametree.specs.Tests.{test, view, Strategy, chosenTest, Driven, drive, searchBy, mtdFrom}
+use Rattle.gametree.specs.Tests.{test, view, Strategy, chosenTest, TestSearch, drive, searchBy, mtdFrom}
 use Rattle.lists.proofs.Choice.{cond-cases, true-not-false}
 use Rattle.lists.proofs.Lists.{all-map, all-among, all-at, among-left}
 use Rattle.gametree.proofs.minimax.Bounds.{≤high, low-none, minimax-score}
@@ -63,7 +63,7 @@ below-few ν g zero t bs w h = omega arith
 below-few ν g (suc f) t bs w h =
     let l = low ν (among w) t in
     let u = high ν (among w) t in
-    cond-cases (λ (q : Driven). length (q .tests) ≤ suc (how-many (among (map ν (q .evaluated))) u)) (eqb l u) _ _
+    cond-cases (λ (q : TestSearch). length (q .tests) ≤ suc (how-many (among (map ν (q .evaluated))) u)) (eqb l u) _ _
     (λ _. omega arith)
     (λ e.
     let i = eqb-false l u e in
@@ -87,7 +87,7 @@ guess-below : (ν : ℕ → ℕ) (g : ℕ) (t : Tree) → Scored ν t
 guess-below ν g t h m =
     let l = low ν (among []) t in
     let u = high ν (among []) t in
-    cond-cases (λ (q : Driven). length (q .tests) ≤ suc (different (map ν (q .evaluated)))) (eqb l u) _ _
+    cond-cases (λ (q : TestSearch). length (q .tests) ≤ suc (different (map ν (q .evaluated)))) (eqb l u) _ _
     (λ _. omega arith)
     (λ e.
     let k = high≤ ν (among []) t h in

@@ -9,14 +9,14 @@ use mathlib.Core.List.{List, [], _++_, append-assoc}
 use lib.Dec.{leb, eqb}
 use borrow.Author.Tests.{le-leb, lt-leb, eqb-true, eqb-false, ne-eqb}
 use Rattle.lists.specs.Lists.{among, Once}
-use Rattle.gametree.specs.Tree.{Side, Max, Min, Tree, leaf, inner, Kids, last, _then_, least, greatest, minimax}
-use Rattle.gametree.specs.Tree.{minimaxKids, number, Score, Scored, ScoredKids}
+use Rattle.gametree.specs.Tree.{Side, Max, Min, Tree, leaf, inner, Children, last, _then_, least, greatest, minimax}
+use Rattle.gametree.specs.Tree.{minimaxChildren, number, Score, Scored, ScoredChildren}
 use Rattle.gametree.specs.Bounds.{known, low, high, Decided}
 use Rattle.gametree.specs.AlphaBeta.{reached}
 use Rattle.gametree.specs.Mtd.{settles}
 use Rattle.gametree.specs.Certificate.{worst}
 use Rattle.gametree.specs.Move.{firstWith, rootMove, boundMove}
-use Rattle.gametree.specs.Tests.{Tested, passedOn, test, testKids, Strategy, searchBy}
+use Rattle.gametree.specs.Tests.{Tested, passedOn, test, testChildren, Strategy, searchBy}
 use Rattle.gametree.specs.FirstMove.{Moved, moveTo, moveLater, moveAmong, equalTest, lastPhase, Decision}
 use Rattle.gametree.specs.FirstMove.{decideBy}
 use Rattle.lists.proofs.Choice.{true-not-false}
@@ -27,7 +27,7 @@ use Rattle.gametree.proofs.minimax.Moves.{Shown, move-same}
 use Rattle.gametree.proofs.certificates.Solution.{Under, under-refl, under-both}
 use Rattle.gametree.proofs.results.Domination.{Reaches}
 use Rattle.gametree.proofs.tests.Answer.{test-answer}
-use Rattle.gametree.proofs.tests.Leaves.{New, new-none, new-append, testKids-once, testKids-dominated}
+use Rattle.gametree.proofs.tests.Leaves.{New, new-none, new-append, testChildren-once, testChildren-dominated}
 use Rattle.gametree.proofs.tests.Progress.{Confirms, confirmed-low, confirmed-high, confirms-more}
 use Rattle.gametree.proofs.tests.Progress.{test-confirmed}
 use Rattle.gametree.proofs.tests.Runs.{search-right}
@@ -35,8 +35,8 @@ use Rattle.gametree.proofs.tests.Runs.{search-right}
 -- THE MOVE
 
 -- the leaves of the last phase are those of a test of the node that enters it
-pub moveAmong-leaves : (ν : ℕ → ℕ) (γ : ℕ) (w : List ℕ) (s : Side) (ks : Kids)
-    → moveAmong ν γ w s ks .evaluated ≡ testKids ν γ w s ks .evaluated
+pub moveAmong-leaves : (ν : ℕ → ℕ) (γ : ℕ) (w : List ℕ) (s : Side) (ks : Children)
+    → moveAmong ν γ w s ks .evaluated ≡ testChildren ν γ w s ks .evaluated
 moveAmong-leaves ν γ w s (last t) = refl
 moveAmong-leaves ν γ w s (t then ts) =
     let r = test ν γ w t in
@@ -58,14 +58,14 @@ equal-settles s v m u = at s u (eqb m v) refl
     at Min u false e = rw (le-leb (equalTest Min v) m (omega (arith, eqb-false m v e))) refl
 
 -- so the move is the first child of the value v
-pub moveAmong-first : (ν : ℕ → ℕ) (v : ℕ) (w : List ℕ) (s : Side) (ks : Kids) → ScoredKids ν ks
-    → Under s (minimaxKids ν s ks) v
+pub moveAmong-first : (ν : ℕ → ℕ) (v : ℕ) (w : List ℕ) (s : Side) (ks : Children) → ScoredChildren ν ks
+    → Under s (minimaxChildren ν s ks) v
     → moveAmong ν (equalTest s v) w s ks .move ≡ firstWith (minimax ν) v ks
 moveAmong-first ν v w s (last t) h u =
     rw (test-answer ν (equalTest s v) w t h, equal-settles s v (minimax ν t) u) refl
 moveAmong-first ν v w s (t then ts) h u =
     let r = test ν (equalTest s v) w t in
-    let k = under-both s (minimax ν t) (minimaxKids ν s ts) v u in
+    let k = under-both s (minimax ν t) (minimaxChildren ν s ts) v u in
     let e = ap (settles s) (test-answer ν (equalTest s v) w t (h .0)) ∙ equal-settles s v (minimax ν t) (k .0) in
     at (settles s (r .notBelow)) (eqb (minimax ν t) v) (number t) r _ _ e
     (moveAmong-first ν v (w ++ r .evaluated) s ts (h .1) (k .1))
@@ -78,7 +78,7 @@ moveAmong-first ν v w s (t then ts) h u =
 -- WHAT THE BOUNDS SHOW
 
 -- the bounds of the leaves E confirm the answer to γ of each child up to the first that settles its parent
-abbrev Answered : (ℕ → ℕ) → (ℕ → Bool) → ℕ → Side → Kids → Type 0
+abbrev Answered : (ℕ → ℕ) → (ℕ → Bool) → ℕ → Side → Children → Type 0
 Answered ν E γ s (last t) = Confirms γ (leb γ (minimax ν t)) (low ν E t) (high ν E t)
 Answered ν E γ s (t then ts) =
     Confirms γ (leb γ (minimax ν t)) (low ν E t) (high ν E t)
@@ -106,17 +106,17 @@ rest-kept : (w : List ℕ) (b : Bool) (r q : Tested) (n : ℕ) → b ≡ false
 rest-kept w true r q n i e = absurd (true-not-false refl i)
 rest-kept w false r q n i e = rw (← append-assoc w (r .evaluated) (q .evaluated)) e
 
-testKids-answered : (ν : ℕ → ℕ) (E : ℕ → Bool) (γ : ℕ) (w : List ℕ) (s : Side) (ks : Kids) → ScoredKids ν ks
-    → ((n : ℕ) → among (w ++ testKids ν γ w s ks .evaluated) n ≡ true → E n ≡ true)
+testChildren-answered : (ν : ℕ → ℕ) (E : ℕ → Bool) (γ : ℕ) (w : List ℕ) (s : Side) (ks : Children) → ScoredChildren ν ks
+    → ((n : ℕ) → among (w ++ testChildren ν γ w s ks .evaluated) n ≡ true → E n ≡ true)
     → Answered ν E γ s ks
-testKids-answered ν E γ w s (last t) h f = tested-confirmed ν E γ w t h f
-testKids-answered ν E γ w s (t then ts) h f =
+testChildren-answered ν E γ w s (last t) h f = tested-confirmed ν E γ w t h f
+testChildren-answered ν E γ w s (t then ts) h f =
     let r = test ν γ w t in
     let v = w ++ r .evaluated in
-    let q = testKids ν γ v s ts in
+    let q = testChildren ν γ v s ts in
     let b = settles s (r .notBelow) in (
       tested-confirmed ν E γ w t (h .0) (λ n e. f n (first-kept w b r q n e)),
-      λ i. testKids-answered ν E γ v s ts (h .1)
+      λ i. testChildren-answered ν E γ v s ts (h .1)
           (λ n e. f n (rest-kept w b r q n (ap (settles s) (test-answer ν γ w t (h .0)) ∙ i) e)),
     )
 
@@ -143,7 +143,7 @@ shown-worse Max v m l h u n c = confirmed-high v _ l h (lt-leb v m (omega arith)
 shown-worse Min v m l h u n c = confirmed-low (suc v) _ l h (le-leb (suc v) m (omega arith)) c
 
 -- the bounds of the leaves E show each child before the first of the value v to be worse
-abbrev pub EldersWorse : (ℕ → ℕ) → (ℕ → Bool) → Side → ℕ → Kids → Type 0
+abbrev pub EldersWorse : (ℕ → ℕ) → (ℕ → Bool) → Side → ℕ → Children → Type 0
 EldersWorse ν E s v (last t) = Unit
 EldersWorse ν E s v (t then ts) =
     (minimax ν t ≡ v → ⊥) → ShownWorse s v (low ν E t) (high ν E t) × EldersWorse ν E s v ts
@@ -152,21 +152,21 @@ EldersWorse ν E s v (t then ts) =
 unequal-passes : (s : Side) (v m : ℕ) → Under s m v → (m ≡ v → ⊥) → settles s (leb (equalTest s v) m) ≡ false
 unequal-passes s v m u n = equal-settles s v m u ∙ ne-eqb m v n
 
-answered-shown : (s : Side) (ν : ℕ → ℕ) (E : ℕ → Bool) (v : ℕ) (ks : Kids) → ScoredKids ν ks
-    → Under s (minimaxKids ν s ks) v
+answered-shown : (s : Side) (ν : ℕ → ℕ) (E : ℕ → Bool) (v : ℕ) (ks : Children) → ScoredChildren ν ks
+    → Under s (minimaxChildren ν s ks) v
     → Answered ν E (equalTest s v) s ks → Shown (known ν E (worst s)) ν v ks
 answered-shown s ν E v (last t) h u a = shown-equal s ν E v t h a
 answered-shown s ν E v (t then ts) h u a =
-    let k = under-both s (minimax ν t) (minimaxKids ν s ts) v u in (
+    let k = under-both s (minimax ν t) (minimaxChildren ν s ts) v u in (
       shown-equal s ν E v t (h .0) (a .0),
       λ n. answered-shown s ν E v ts (h .1) (k .1) (a .1 (unequal-passes s v (minimax ν t) (k .0) n)),
     )
 
-answered-elders : (s : Side) (ν : ℕ → ℕ) (E : ℕ → Bool) (v : ℕ) (ks : Kids) → Under s (minimaxKids ν s ks) v
+answered-elders : (s : Side) (ν : ℕ → ℕ) (E : ℕ → Bool) (v : ℕ) (ks : Children) → Under s (minimaxChildren ν s ks) v
     → Answered ν E (equalTest s v) s ks → EldersWorse ν E s v ks
 answered-elders s ν E v (last t) u a = tt
 answered-elders s ν E v (t then ts) u a =
-    let k = under-both s (minimax ν t) (minimaxKids ν s ts) v u in
+    let k = under-both s (minimax ν t) (minimaxChildren ν s ts) v u in
     λ n. (
       shown-worse s v (minimax ν t) (low ν E t) (high ν E t) (k .0) n (a .0),
       answered-elders s ν E v ts (k .1) (a .1 (unequal-passes s v (minimax ν t) (k .0) n)),
@@ -175,7 +175,7 @@ answered-elders s ν E v (t then ts) u a =
 -- the same at the root, for its value
 abbrev pub ElderMovesWorse : (ℕ → ℕ) → (ℕ → Bool) → Tree → Type 0
 ElderMovesWorse ν E (leaf n) = Unit
-ElderMovesWorse ν E (inner n s ks) = EldersWorse ν E s (minimaxKids ν s ks) ks
+ElderMovesWorse ν E (inner n s ks) = EldersWorse ν E s (minimaxChildren ν s ks) ks
 
 -- THE WHOLE SEARCH
 
@@ -206,16 +206,16 @@ lastPhase-concludes : (ν : ℕ → ℕ) (w : List ℕ) (t : Tree) → Scored ν
     → Concludes ν w t (lastPhase ν (minimax ν t) w t)
 lastPhase-concludes ν w (leaf n) h d = record { move = refl; new = new-none w; reaches = tt; shown = refl; elders = tt }
 lastPhase-concludes ν w (inner n s ks) h d =
-    let v = minimaxKids ν s ks in
+    let v = minimaxChildren ν s ks in
     let γ = equalTest s v in
     let u = moveAmong ν γ w s ks .evaluated in
     let e = moveAmong-leaves ν γ w s ks in
     let i = equal-inside s v (minimax-score ν (inner n s ks) h) in
-    let a = testKids-answered ν (among (w ++ u)) γ w s ks h (λ n k. rw e k) in
+    let a = testChildren-answered ν (among (w ++ u)) γ w s ks h (λ n k. rw e k) in
     record {
       move = moveAmong-first ν v w s ks h (under-refl s v);
-      new = rw e (testKids-once ν γ w s ks);
-      reaches = rw e (testKids-dominated ν γ least greatest w s ks h (i .0) (i .1));
+      new = rw e (testChildren-once ν γ w s ks);
+      reaches = rw e (testChildren-dominated ν γ least greatest w s ks h (i .0) (i .1));
       shown =
           move-same ν (among (w ++ u)) n s ks h (decided-more ν w u (inner n s ks) h d)
           (answered-shown s ν (among (w ++ u)) v ks h (under-refl s v) a);

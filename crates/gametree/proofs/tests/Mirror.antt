@@ -12,14 +12,14 @@ use lib.ListN.{length}
 use borrow.Author.Tests.{ltb-true, ltb-false, leb-true, leb-false, eqb-true, eqb-false, lt-ltb, le-ltb, le-leb, lt-leb}
 use borrow.Author.Tests.{eq-eqb, ne-eqb}
 use Rattle.lists.specs.Lists.{among}
-use Rattle.gametree.specs.Tree.{Side, Max, Min, Tree, leaf, inner, Kids, last, _then_, other, least, greatest}
-use Rattle.gametree.specs.Tree.{better, minimax, minimaxKids, leaves, leavesKids, In, InKids, Scored, ScoredKids}
-use Rattle.gametree.specs.Tree.{Distinct, DistinctKids, Proper}
+use Rattle.gametree.specs.Tree.{Side, Max, Min, Tree, leaf, inner, Children, last, _then_, other, least, greatest}
+use Rattle.gametree.specs.Tree.{better, minimax, minimaxChildren, leaves, leavesChildren, In, InChildren, Scored, ScoredChildren}
+use Rattle.gametree.specs.Tree.{Distinct, DistinctChildren, Proper}
 use Rattle.gametree.specs.Bounds.{known, low, high}
 use Rattle.gametree.specs.AlphaBeta.{clamp}
 use Rattle.gametree.specs.Mtd.{settles}
-use Rattle.gametree.specs.results.Mirror.{mirror, mirrorKids, opposite, mirrored, oppositeTest}
-use Rattle.gametree.specs.Tests.{Tested, unopened, passedOn, byBounds, test, testKids, view, chosenTest, Driven}
+use Rattle.gametree.specs.results.Mirror.{mirror, mirrorChildren, opposite, mirrored, oppositeTest}
+use Rattle.gametree.specs.Tests.{Tested, unopened, passedOn, byBounds, test, testChildren, view, chosenTest, TestSearch}
 use Rattle.gametree.specs.Tests.{met, tested, drive, searchBy, afterGuess, mtdFrom}
 use Rattle.gametree.specs.FirstMove.{equalTest, lastPhase, decideBy}
 use Rattle.gametree.proofs.minimax.Bounds.{minimax-score}
@@ -37,13 +37,13 @@ mutual
   -- the value of the mirrored game is the opposite
   pub minimax-mirror : (ν : ℕ → ℕ) (t : Tree) → minimax (mirrored ν) (mirror t) ≡ opposite (minimax ν t)
   minimax-mirror ν (leaf n) = refl
-  minimax-mirror ν (inner n s ks) = minimaxKids-mirror ν s ks
+  minimax-mirror ν (inner n s ks) = minimaxChildren-mirror ν s ks
 
-  minimaxKids-mirror : (ν : ℕ → ℕ) (s : Side) (ks : Kids)
-      → minimaxKids (mirrored ν) (other s) (mirrorKids ks) ≡ opposite (minimaxKids ν s ks)
-  minimaxKids-mirror ν s (last t) = minimax-mirror ν t
-  minimaxKids-mirror ν s (t then ts) =
-      ap₂ (better (other s)) (minimax-mirror ν t) (minimaxKids-mirror ν s ts) ∙ better-mirror s _ _
+  minimaxChildren-mirror : (ν : ℕ → ℕ) (s : Side) (ks : Children)
+      → minimaxChildren (mirrored ν) (other s) (mirrorChildren ks) ≡ opposite (minimaxChildren ν s ks)
+  minimaxChildren-mirror ν s (last t) = minimax-mirror ν t
+  minimaxChildren-mirror ν s (t then ts) =
+      ap₂ (better (other s)) (minimax-mirror ν t) (minimaxChildren-mirror ν s ts) ∙ better-mirror s _ _
 
 known-mirror : (b : Bool) (v x y : ℕ) → x ≡ opposite y → cond b (opposite v) x ≡ opposite (cond b v y)
 known-mirror true v x y e = refl
@@ -65,44 +65,44 @@ high-mirror ν E t =
 mutual
   leaves-mirror : (t : Tree) → leaves (mirror t) ≡ leaves t
   leaves-mirror (leaf n) = refl
-  leaves-mirror (inner n s ks) = leavesKids-mirror ks
+  leaves-mirror (inner n s ks) = leavesChildren-mirror ks
 
-  leavesKids-mirror : (ks : Kids) → leavesKids (mirrorKids ks) ≡ leavesKids ks
-  leavesKids-mirror (last t) = leaves-mirror t
-  leavesKids-mirror (t then ts) = ap₂ _++_ (leaves-mirror t) (leavesKids-mirror ts)
+  leavesChildren-mirror : (ks : Children) → leavesChildren (mirrorChildren ks) ≡ leavesChildren ks
+  leavesChildren-mirror (last t) = leaves-mirror t
+  leavesChildren-mirror (t then ts) = ap₂ _++_ (leaves-mirror t) (leavesChildren-mirror ts)
 
 mutual
   in-mirror : (p : ℕ) (t : Tree) → In p (mirror t) → In p t
   in-mirror p (leaf n) i = i
   in-mirror p (inner n s ks) (inl i) = inl i
-  in-mirror p (inner n s ks) (inr i) = inr (inKids-mirror p ks i)
+  in-mirror p (inner n s ks) (inr i) = inr (inChildren-mirror p ks i)
 
-  inKids-mirror : (p : ℕ) (ks : Kids) → InKids p (mirrorKids ks) → InKids p ks
-  inKids-mirror p (last t) i = in-mirror p t i
-  inKids-mirror p (t then ts) (inl i) = inl (in-mirror p t i)
-  inKids-mirror p (t then ts) (inr i) = inr (inKids-mirror p ts i)
+  inChildren-mirror : (p : ℕ) (ks : Children) → InChildren p (mirrorChildren ks) → InChildren p ks
+  inChildren-mirror p (last t) i = in-mirror p t i
+  inChildren-mirror p (t then ts) (inl i) = inl (in-mirror p t i)
+  inChildren-mirror p (t then ts) (inr i) = inr (inChildren-mirror p ts i)
 
 mutual
   distinct-mirror : (t : Tree) → Distinct t → Distinct (mirror t)
   distinct-mirror (leaf n) d = tt
-  distinct-mirror (inner n s ks) d = (λ i. d .0 (inKids-mirror n ks i), distinctKids-mirror ks (d .1))
+  distinct-mirror (inner n s ks) d = (λ i. d .0 (inChildren-mirror n ks i), distinctChildren-mirror ks (d .1))
 
-  distinctKids-mirror : (ks : Kids) → DistinctKids ks → DistinctKids (mirrorKids ks)
-  distinctKids-mirror (last t) d = distinct-mirror t d
-  distinctKids-mirror (t then ts) d = (
+  distinctChildren-mirror : (ks : Children) → DistinctChildren ks → DistinctChildren (mirrorChildren ks)
+  distinctChildren-mirror (last t) d = distinct-mirror t d
+  distinctChildren-mirror (t then ts) d = (
     distinct-mirror t (d .0),
-    distinctKids-mirror ts (d .1),
-    λ p i j. d .2 p (in-mirror p t i) (inKids-mirror p ts j),
+    distinctChildren-mirror ts (d .1),
+    λ p i j. d .2 p (in-mirror p t i) (inChildren-mirror p ts j),
   )
 
 mutual
   pub scored-mirror : (ν : ℕ → ℕ) (t : Tree) → Scored ν t → Scored (mirrored ν) (mirror t)
   scored-mirror ν (leaf n) h = omega arith
-  scored-mirror ν (inner n s ks) h = scoredKids-mirror ν ks h
+  scored-mirror ν (inner n s ks) h = scoredChildren-mirror ν ks h
 
-  scoredKids-mirror : (ν : ℕ → ℕ) (ks : Kids) → ScoredKids ν ks → ScoredKids (mirrored ν) (mirrorKids ks)
-  scoredKids-mirror ν (last t) h = scored-mirror ν t h
-  scoredKids-mirror ν (t then ts) h = (scored-mirror ν t (h .0), scoredKids-mirror ν ts (h .1))
+  scoredChildren-mirror : (ν : ℕ → ℕ) (ks : Children) → ScoredChildren ν ks → ScoredChildren (mirrored ν) (mirrorChildren ks)
+  scoredChildren-mirror ν (last t) h = scored-mirror ν t h
+  scoredChildren-mirror ν (t then ts) h = (scored-mirror ν t (h .0), scoredChildren-mirror ν ts (h .1))
 
 -- the mirrored game of a proper tree is proper
 pub proper-mirror : (ν : ℕ → ℕ) (t : Tree) → Proper ν t → Proper (mirrored ν) (mirror t)
@@ -177,26 +177,26 @@ mutual
       (record { answer = score-test γ (ν n) g; leaves-are = refl }))
   test-mirror ν γ w (inner n s ks) h g =
       rw (low-mirror ν (among w) (inner n s ks), high-mirror ν (among w) (inner n s ks))
-      (byBounds-mirror γ _ _ _ _ g (bounds≤ ν (among w) (inner n s ks) h) (testKids-mirror ν γ w s ks h g))
+      (byBounds-mirror γ _ _ _ _ g (bounds≤ ν (among w) (inner n s ks) h) (testChildren-mirror ν γ w s ks h g))
 
-  testKids-mirror : (ν : ℕ → ℕ) (γ : ℕ) (w : List ℕ) (s : Side) (ks : Kids) → ScoredKids ν ks → γ ≤ greatest
-      → Mirrors (testKids ν γ w s ks) (testKids (mirrored ν) (oppositeTest γ) w (other s) (mirrorKids ks))
-  testKids-mirror ν γ w s (last t) h g = test-mirror ν γ w t h g
-  testKids-mirror ν γ w s (t then ts) h g =
+  testChildren-mirror : (ν : ℕ → ℕ) (γ : ℕ) (w : List ℕ) (s : Side) (ks : Children) → ScoredChildren ν ks → γ ≤ greatest
+      → Mirrors (testChildren ν γ w s ks) (testChildren (mirrored ν) (oppositeTest γ) w (other s) (mirrorChildren ks))
+  testChildren-mirror ν γ w s (last t) h g = test-mirror ν γ w t h g
+  testChildren-mirror ν γ w s (t then ts) h g =
       let r = test ν γ w t in
       let q = test (mirrored ν) (oppositeTest γ) w (mirror t) in
       let a = test-mirror ν γ w t (h .0) g in
       let e : settles (other s) (q .notBelow) ≡ settles s (r .notBelow) =
       ap (settles (other s)) (a .answer) ∙ settles-mirror s (r .notBelow) in
       rw e (passed-mirror (settles s (r .notBelow)) r q _ _ a
-      (subst (λ v. Mirrors (testKids ν γ (w ++ r .evaluated) s ts)
-      (testKids (mirrored ν) (oppositeTest γ) (w ++ v) (other s) (mirrorKids ts))) (sym (a .leaves-are))
-      (testKids-mirror ν γ (w ++ r .evaluated) s ts (h .1) g)))
+      (subst (λ v. Mirrors (testChildren ν γ (w ++ r .evaluated) s ts)
+      (testChildren (mirrored ν) (oppositeTest γ) (w ++ v) (other s) (mirrorChildren ts))) (sym (a .leaves-are))
+      (testChildren-mirror ν γ (w ++ r .evaluated) s ts (h .1) g)))
 
 -- RUNS
 
 -- what the mirrored run gives: the same leaves and the opposite tests
-pub record RunMirrors (r q : Driven) : Type 0 where
+pub record RunMirrors (r q : TestSearch) : Type 0 where
   pub leaves-are : q .evaluated ≡ r .evaluated
   pub tests-are : q .tests ≡ map oppositeTest (r .tests)
 
@@ -236,20 +236,20 @@ test-opposite ν f t bs w h o =
     ∙ chosen-mirror f (low ν (among w) t) (high ν (among w) t) bs o (high≤ ν (among w) t h)
 
 -- a run is mirrored if what follows is, where the bounds have not met
-more-mirror : (b : Bool) (l l′ : ℕ) (w : List ℕ) (q p : Driven) → (b ≡ false → RunMirrors q p)
+more-mirror : (b : Bool) (l l′ : ℕ) (w : List ℕ) (q p : TestSearch) → (b ≡ false → RunMirrors q p)
     → RunMirrors (cond b (met l w) q) (cond b (met l′ w) p)
 more-mirror true l l′ w q p f = record { leaves-are = refl; tests-are = refl }
 more-mirror false l l′ w q p f = f refl
 
-tested-mirror : (γ δ : ℕ) (r x : Tested) (w : List ℕ) (Q P : Bool → List ℕ → Driven) → δ ≡ oppositeTest γ → Mirrors r x
+tested-mirror : (γ δ : ℕ) (r x : Tested) (w : List ℕ) (Q P : Bool → List ℕ → TestSearch) → δ ≡ oppositeTest γ → Mirrors r x
     → ((b : Bool) (v : List ℕ) → RunMirrors (Q b v) (P (not b) v))
     → RunMirrors (tested γ (Q (r .notBelow) (w ++ r .evaluated))) (tested δ (P (x .notBelow) (w ++ x .evaluated)))
 tested-mirror γ δ r x w Q P e m f =
     let a = f (r .notBelow) (w ++ r .evaluated) in
     let same = ap₂ (λ b v. P b (w ++ v)) (m .answer) (m .leaves-are) in
     record {
-      leaves-are = ap (λ (q : Driven). q .evaluated) same ∙ a .leaves-are;
-      tests-are = ap₂ _∷_ e (ap (λ (q : Driven). q .tests) same ∙ a .tests-are);
+      leaves-are = ap (λ (q : TestSearch). q .evaluated) same ∙ a .leaves-are;
+      tests-are = ap₂ _∷_ e (ap (λ (q : TestSearch). q .tests) same ∙ a .tests-are);
     }
 
 drive-mirror : (ν : ℕ → ℕ) (g f : ℕ) (t : Tree) (bs : List Bool) (w : List ℕ) → Scored ν t
@@ -296,12 +296,12 @@ lastPhase-mirror : (ν : ℕ → ℕ) (w : List ℕ) (t : Tree) → Scored ν t
     ≡ lastPhase ν (minimax ν t) w t .evaluated
 lastPhase-mirror ν w (leaf n) h = refl
 lastPhase-mirror ν w (inner n s ks) h =
-    let v = minimaxKids ν s ks in
+    let v = minimaxChildren ν s ks in
     let γ = equalTest s v in
     let i = minimax-score ν (inner n s ks) h in
-    moveAmong-leaves (mirrored ν) _ w (other s) (mirrorKids ks)
-    ∙ ap (λ x. testKids (mirrored ν) x w (other s) (mirrorKids ks) .evaluated) (equal-mirror s v (omega arith))
-    ∙ testKids-mirror ν γ w s ks h (equal-inside s v i .1) .leaves-are
+    moveAmong-leaves (mirrored ν) _ w (other s) (mirrorChildren ks)
+    ∙ ap (λ x. testChildren (mirrored ν) x w (other s) (mirrorChildren ks) .evaluated) (equal-mirror s v (omega arith))
+    ∙ testChildren-mirror ν γ w s ks h (equal-inside s v i .1) .leaves-are
     ∙ sym (moveAmong-leaves ν γ w s ks)
 
 -- with it the leaves are the same, too

@@ -8,14 +8,14 @@ use mathlib.Core.List.{List, [], _∷_, _++_, append-nil, append-assoc}
 use lib.Dec.{leb, eqb}
 use borrow.Author.Tests.{eqb-true, leb-true, leb-false, not-true, not-false, eq-eqb}
 use Rattle.lists.specs.Lists.{among}
-use Rattle.gametree.specs.Tree.{Side, Max, Min, Tree, leaf, inner, Kids, last, _then_, better, minimax}
-use Rattle.gametree.specs.Tree.{minimaxKids, Scored, ScoredKids, least, greatest}
+use Rattle.gametree.specs.Tree.{Side, Max, Min, Tree, leaf, inner, Children, last, _then_, better, minimax}
+use Rattle.gametree.specs.Tree.{minimaxChildren, Scored, ScoredChildren, least, greatest}
 use Rattle.gametree.specs.Bounds.{low, high, Decided}
-use Rattle.gametree.specs.AlphaBeta.{Found, fullWindow}
+use Rattle.gametree.specs.AlphaBeta.{SearchResult, fullWindow}
 use Rattle.gametree.specs.Mtd.{settles}
 use Rattle.gametree.specs.Tests.{Tested, test}
-use Rattle.gametree.specs.results.Scout.{found, betterTest, probed, scout, scoutKids, probeKids}
-use Rattle.gametree.specs.results.Cases.{Case, valuation, valued}
+use Rattle.gametree.specs.results.Scout.{found, betterTest, probed, scout, scoutChildren, probeChildren}
+use Rattle.gametree.specs.results.Cases.{Case, valuation, evaluatedWith}
 use Rattle.lists.proofs.Choice.{cond-cases, true-not-false}
 use Rattle.lists.proofs.Lists.{all-among, among-left, among-right}
 use Rattle.gametree.proofs.minimax.Bounds.{low≤, ≤high}
@@ -39,21 +39,21 @@ better-assoc : (s : Side) (a b c : ℕ) → better s (better s a b) c ≡ better
 better-assoc Max a b c = omega arith
 better-assoc Min a b c = omega arith
 
-probed-value : (ν : ℕ → ℕ) (w : List ℕ) (s : Side) (v : ℕ) (t : Tree) (q : Found) → Scored ν t
+probed-value : (ν : ℕ → ℕ) (w : List ℕ) (s : Side) (v : ℕ) (t : Tree) (q : SearchResult) → Scored ν t
     → q .value ≡ minimax ν t
     → probed s v (test ν (betterTest s v) w t) q .value ≡ better s v (minimax ν t)
 probed-value ν w s v t q h e =
     let γ = betterTest s v in
     let m = minimax ν t in
-    cond-cases (λ (x : Found). x .value ≡ better s v m) (settles s (test ν γ w t .notBelow)) _ _
+    cond-cases (λ (x : SearchResult). x .value ≡ better s v m) (settles s (test ν γ w t .notBelow)) _ _
     (λ k. e ∙ improved s v m (rw (test-answer ν γ w t h) at k))
     (λ k. unimproved s v m (rw (test-answer ν γ w t h) at k))
 
 -- bounds that have met are the value
-met-value : (ν : ℕ → ℕ) (w : List ℕ) (t : Tree) (q : Found) → Scored ν t → q .value ≡ minimax ν t
+met-value : (ν : ℕ → ℕ) (w : List ℕ) (t : Tree) (q : SearchResult) → Scored ν t → q .value ≡ minimax ν t
     → cond (eqb (low ν (among w) t) (high ν (among w) t)) (found (low ν (among w) t) []) q .value ≡ minimax ν t
 met-value ν w t q h e =
-    cond-cases (λ (x : Found). x .value ≡ minimax ν t) (eqb (low ν (among w) t) (high ν (among w) t)) _ _
+    cond-cases (λ (x : SearchResult). x .value ≡ minimax ν t) (eqb (low ν (among w) t) (high ν (among w) t)) _ _
     (λ k.
     let i = eqb-true (low ν (among w) t) (high ν (among w) t) k in
     omega (arith, low≤ ν (among w) t, ≤high ν (among w) t h))
@@ -64,29 +64,29 @@ mutual
   pub scout-value : (ν : ℕ → ℕ) (w : List ℕ) (t : Tree) → Scored ν t → scout ν w t .value ≡ minimax ν t
   scout-value ν w (leaf n) h = met-value ν w (leaf n) (found (ν n) (n ∷ [])) h refl
   scout-value ν w (inner n s ks) h =
-      met-value ν w (inner n s ks) (scoutKids ν w s ks) h (scoutKids-value ν w s ks h)
+      met-value ν w (inner n s ks) (scoutChildren ν w s ks) h (scoutChildren-value ν w s ks h)
 
-  scoutKids-value : (ν : ℕ → ℕ) (w : List ℕ) (s : Side) (ks : Kids) → ScoredKids ν ks
-      → scoutKids ν w s ks .value ≡ minimaxKids ν s ks
-  scoutKids-value ν w s (last t) h = scout-value ν w t h
-  scoutKids-value ν w s (t then ts) h =
+  scoutChildren-value : (ν : ℕ → ℕ) (w : List ℕ) (s : Side) (ks : Children) → ScoredChildren ν ks
+      → scoutChildren ν w s ks .value ≡ minimaxChildren ν s ks
+  scoutChildren-value ν w s (last t) h = scout-value ν w t h
+  scoutChildren-value ν w s (t then ts) h =
       let r = scout ν w t in
-      probeKids-value ν (w ++ r .evaluated) s (r .value) ts (h .1)
-      ∙ ap (λ v. better s v (minimaxKids ν s ts)) (scout-value ν w t (h .0))
+      probeChildren-value ν (w ++ r .evaluated) s (r .value) ts (h .1)
+      ∙ ap (λ v. better s v (minimaxChildren ν s ts)) (scout-value ν w t (h .0))
 
-  probeKids-value : (ν : ℕ → ℕ) (w : List ℕ) (s : Side) (v : ℕ) (ks : Kids) → ScoredKids ν ks
-      → probeKids ν w s v ks .value ≡ better s v (minimaxKids ν s ks)
-  probeKids-value ν w s v (last t) h =
+  probeChildren-value : (ν : ℕ → ℕ) (w : List ℕ) (s : Side) (v : ℕ) (ks : Children) → ScoredChildren ν ks
+      → probeChildren ν w s v ks .value ≡ better s v (minimaxChildren ν s ks)
+  probeChildren-value ν w s v (last t) h =
       let p = test ν (betterTest s v) w t in
       probed-value ν w s v t (scout ν (w ++ p .evaluated) t) h (scout-value ν (w ++ p .evaluated) t h)
-  probeKids-value ν w s v (t then ts) h =
+  probeChildren-value ν w s v (t then ts) h =
       let p = test ν (betterTest s v) w t in
       let q = scout ν (w ++ p .evaluated) t in
       let r = probed s v p q in
-      probeKids-value ν (w ++ r .evaluated) s (r .value) ts (h .1)
-      ∙ ap (λ x. better s x (minimaxKids ν s ts))
+      probeChildren-value ν (w ++ r .evaluated) s (r .value) ts (h .1)
+      ∙ ap (λ x. better s x (minimaxChildren ν s ts))
       (probed-value ν w s v t q (h .0) (scout-value ν (w ++ p .evaluated) t (h .0)))
-      ∙ better-assoc s v (minimax ν t) (minimaxKids ν s ts)
+      ∙ better-assoc s v (minimax ν t) (minimaxChildren ν s ts)
 
 -- ITS BOUNDS
 
@@ -144,22 +144,22 @@ module _ (ν : ℕ → ℕ) where
       let f = high-falls ν (among w) (among (w ++ u)) (among-left w u) t h in
       record { lowIs = omega (arith, d .lowIs); highIs = omega (arith, d .highIs) }
 
-  by-probe : (w : List ℕ) (s : Side) (v : ℕ) (t : Tree) (q : Found) → Scored ν t
+  by-probe : (w : List ℕ) (s : Side) (v : ℕ) (t : Tree) (q : SearchResult) → Scored ν t
       → Decided ν (among ((w ++ test ν (betterTest s v) w t .evaluated) ++ q .evaluated)) t
       → PinnedBy (w ++ probed s v (test ν (betterTest s v) w t) q .evaluated) s v t
   by-probe w s v t q h d =
       let p = test ν (betterTest s v) w t in
-      cond-cases (λ (x : Found). PinnedBy (w ++ x .evaluated) s v t) (settles s (p .notBelow)) _ _
+      cond-cases (λ (x : SearchResult). PinnedBy (w ++ x .evaluated) s v t) (settles s (p .notBelow)) _ _
       (λ _. rw (← append-assoc w (p .evaluated) (q .evaluated)) (pinned-exact s v _ _ _ (d .lowIs) (d .highIs)))
       (λ e. pinned-worse s v _ _ _ (p .notBelow) (low≤ ν (among (w ++ p .evaluated)) t)
       (≤high ν (among (w ++ p .evaluated)) t h) e (test-confirmed ν (betterTest s v) w t h))
 
   -- where the bounds have met they are decided, else what is found decides them
-  met-decides : (w : List ℕ) (t : Tree) (q : Found) → Scored ν t → Decided ν (among (w ++ q .evaluated)) t
+  met-decides : (w : List ℕ) (t : Tree) (q : SearchResult) → Scored ν t → Decided ν (among (w ++ q .evaluated)) t
       → Decided ν
       (among (w ++ cond (eqb (low ν (among w) t) (high ν (among w) t)) (found (low ν (among w) t) []) q .evaluated)) t
   met-decides w t q h d =
-      cond-cases (λ (x : Found). Decided ν (among (w ++ x .evaluated)) t) (eqb (low ν (among w) t) (high ν (among w) t))
+      cond-cases (λ (x : SearchResult). Decided ν (among (w ++ x .evaluated)) t) (eqb (low ν (among w) t) (high ν (among w) t))
       _ _
       (λ k.
       let i = eqb-true (low ν (among w) t) (high ν (among w) t) k in
@@ -175,49 +175,49 @@ module _ (ν : ℕ → ℕ) where
         let e = among-right w (n ∷ []) n (all-among (n ∷ []) .0) in
         met-decides w (leaf n) (found (ν n) (n ∷ [])) h (record { lowIs = rw e refl; highIs = rw e refl })
     scout-decides w (inner n s ks) h =
-        met-decides w (inner n s ks) (scoutKids ν w s ks) h (scoutKids-decides w n s ks h)
+        met-decides w (inner n s ks) (scoutChildren ν w s ks) h (scoutChildren-decides w n s ks h)
 
-    scoutKids-decides : (w : List ℕ) (n : ℕ) (s : Side) (ks : Kids) → ScoredKids ν ks
-        → Decided ν (among (w ++ scoutKids ν w s ks .evaluated)) (inner n s ks)
-    scoutKids-decides w n s (last t) h =
+    scoutChildren-decides : (w : List ℕ) (n : ℕ) (s : Side) (ks : Children) → ScoredChildren ν ks
+        → Decided ν (among (w ++ scoutChildren ν w s ks .evaluated)) (inner n s ks)
+    scoutChildren-decides w n s (last t) h =
         let d = scout-decides w t h in
         record { lowIs = d .lowIs; highIs = d .highIs }
-    scoutKids-decides w n s (t then ts) h =
+    scoutChildren-decides w n s (t then ts) h =
         let r = scout ν w t in
         let v = w ++ r .evaluated in
-        let u = probeKids ν v s (r .value) ts .evaluated in
+        let u = probeChildren ν v s (r .value) ts .evaluated in
         let d = decided-more v u t (h .0) (scout-decides w t (h .0)) in
-        let p = probeKids-pinned v s (r .value) ts (h .1) in
+        let p = probeChildren-pinned v s (r .value) ts (h .1) in
         let e = scout-value ν w t (h .0) in
-        let f = ap (λ y. better s y (minimaxKids ν s ts)) e in
+        let f = ap (λ y. better s y (minimaxChildren ν s ts)) e in
         let l = ap (λ y. better s y (low ν (among (v ++ u)) (inner 0 s ts))) (d .lowIs ∙ sym e) in
         let k = ap (λ y. better s y (high ν (among (v ++ u)) (inner 0 s ts))) (d .highIs ∙ sym e) in
         rw (← append-assoc w (r .evaluated) u) (record { lowIs = l ∙ p .low-is ∙ f; highIs = k ∙ p .high-is ∙ f })
 
-    probeKids-pinned : (w : List ℕ) (s : Side) (v : ℕ) (ks : Kids) → ScoredKids ν ks
-        → PinnedBy (w ++ probeKids ν w s v ks .evaluated) s v (inner 0 s ks)
-    probeKids-pinned w s v (last t) h =
+    probeChildren-pinned : (w : List ℕ) (s : Side) (v : ℕ) (ks : Children) → ScoredChildren ν ks
+        → PinnedBy (w ++ probeChildren ν w s v ks .evaluated) s v (inner 0 s ks)
+    probeChildren-pinned w s v (last t) h =
         let p = test ν (betterTest s v) w t in
         by-probe w s v t _ h (scout-decides (w ++ p .evaluated) t h)
-    probeKids-pinned w s v (t then ts) h =
+    probeChildren-pinned w s v (t then ts) h =
         let p = test ν (betterTest s v) w t in
         let q = scout ν (w ++ p .evaluated) t in
         let r = probed s v p q in
         let x = w ++ r .evaluated in
-        let u = probeKids ν x s (r .value) ts .evaluated in
+        let u = probeChildren ν x s (r .value) ts .evaluated in
         rw (← append-assoc w (r .evaluated) u)
-        (pinned-then s v (r .value) (minimax ν t) _ _ (minimaxKids ν s ts) _ _
+        (pinned-then s v (r .value) (minimax ν t) _ _ (minimaxChildren ν s ts) _ _
         (probed-value ν w s v t q (h .0) (scout-value ν (w ++ p .evaluated) t (h .0)))
         (by-more x u s v t (h .0) (by-probe w s v t q (h .0) (scout-decides (w ++ p .evaluated) t (h .0))))
-        (probeKids-pinned x s (r .value) ts (h .1)))
+        (probeChildren-pinned x s (r .value) ts (h .1)))
 
 -- ITS LEAVES
 
-probed-once : (s : Side) (v : ℕ) (w : List ℕ) (p : Tested) (q : Found) → New w (p .evaluated)
+probed-once : (s : Side) (v : ℕ) (w : List ℕ) (p : Tested) (q : SearchResult) → New w (p .evaluated)
     → New (w ++ p .evaluated) (q .evaluated)
     → New w (probed s v p q .evaluated)
 probed-once s v w p q a b =
-    cond-cases (λ (x : Found). New w (x .evaluated)) (settles s (p .notBelow)) _ _
+    cond-cases (λ (x : SearchResult). New w (x .evaluated)) (settles s (p .notBelow)) _ _
     (λ _. new-append w (p .evaluated) (q .evaluated) a b)
     (λ _. a)
 
@@ -232,33 +232,33 @@ mutual
   pub scout-once : (ν : ℕ → ℕ) (w : List ℕ) (t : Tree) → New w (scout ν w t .evaluated)
   scout-once ν w (leaf n) = leaf-once w n (ν n) (among w n) refl
   scout-once ν w (inner n s ks) =
-      cond-cases (λ (x : Found). New w (x .evaluated))
+      cond-cases (λ (x : SearchResult). New w (x .evaluated))
       (eqb (low ν (among w) (inner n s ks)) (high ν (among w) (inner n s ks))) _ _
-      (λ _. new-none w) (λ _. scoutKids-once ν w s ks)
+      (λ _. new-none w) (λ _. scoutChildren-once ν w s ks)
 
-  scoutKids-once : (ν : ℕ → ℕ) (w : List ℕ) (s : Side) (ks : Kids) → New w (scoutKids ν w s ks .evaluated)
-  scoutKids-once ν w s (last t) = scout-once ν w t
-  scoutKids-once ν w s (t then ts) =
+  scoutChildren-once : (ν : ℕ → ℕ) (w : List ℕ) (s : Side) (ks : Children) → New w (scoutChildren ν w s ks .evaluated)
+  scoutChildren-once ν w s (last t) = scout-once ν w t
+  scoutChildren-once ν w s (t then ts) =
       let r = scout ν w t in
-      new-append w (r .evaluated) _ (scout-once ν w t) (probeKids-once ν (w ++ r .evaluated) s (r .value) ts)
+      new-append w (r .evaluated) _ (scout-once ν w t) (probeChildren-once ν (w ++ r .evaluated) s (r .value) ts)
 
-  probeKids-once : (ν : ℕ → ℕ) (w : List ℕ) (s : Side) (v : ℕ) (ks : Kids) → New w (probeKids ν w s v ks .evaluated)
-  probeKids-once ν w s v (last t) =
+  probeChildren-once : (ν : ℕ → ℕ) (w : List ℕ) (s : Side) (v : ℕ) (ks : Children) → New w (probeChildren ν w s v ks .evaluated)
+  probeChildren-once ν w s v (last t) =
       let p = test ν (betterTest s v) w t in
       probed-once s v w p _ (test-once ν (betterTest s v) w t) (scout-once ν (w ++ p .evaluated) t)
-  probeKids-once ν w s v (t then ts) =
+  probeChildren-once ν w s v (t then ts) =
       let p = test ν (betterTest s v) w t in
       let r = probed s v p (scout ν (w ++ p .evaluated) t) in
       new-append w (r .evaluated) _
       (probed-once s v w p _ (test-once ν (betterTest s v) w t) (scout-once ν (w ++ p .evaluated) t))
-      (probeKids-once ν (w ++ r .evaluated) s (r .value) ts)
+      (probeChildren-once ν (w ++ r .evaluated) s (r .value) ts)
 
 -- A CASE
 
 -- Max(2, Max(Min(1, 1), Max(3, 1)))
 abbrev improvedLate : Case
 improvedLate =
-    valued
+    evaluatedWith
     (inner 0 Max
     (leaf 1 then last (inner 2 Max
     (inner 3 Min (leaf 5 then last (leaf 6)) then last (inner 4 Max (leaf 7 then last (leaf 8)))))))

@@ -3,8 +3,8 @@
 use Prim.Native.Nat.{ℕ}
 use mathlib.Core.Path.{_≡_}
 use mathlib.Core.Bool.{Bool}
-use Rattle.gametree.specs.Tree.{Side, Tree, leaf, inner, Kids, last, _then_, In, InKids}
-use Rattle.gametree.specs.Mtd.{Memo, MemoKids, pass, passKids}
+use Rattle.gametree.specs.Tree.{Side, Tree, leaf, inner, Children, last, _then_, In, InChildren}
+use Rattle.gametree.specs.Mtd.{Memo, MemoChildren, pass, passChildren}
 
 -- an array of Booleans
 abbrev pub Bits : Type 0
@@ -14,11 +14,11 @@ Bits = ℕ → Bool
 abbrev mutual
   pub readMemo : (marks flags : Bits) (t : Tree) → Memo t
   readMemo marks flags (leaf n) = record { evaluated = marks n }
-  readMemo marks flags (inner n s ks) = record { notBelow = flags n; kids = readMemoKids marks flags ks }
+  readMemo marks flags (inner n s ks) = record { notBelow = flags n; kids = readMemoChildren marks flags ks }
 
-  pub readMemoKids : (marks flags : Bits) (ks : Kids) → MemoKids ks
-  readMemoKids marks flags (last t) = readMemo marks flags t
-  readMemoKids marks flags (t then ts) = record { first = readMemo marks flags t; rest = readMemoKids marks flags ts }
+  pub readMemoChildren : (marks flags : Bits) (ks : Children) → MemoChildren ks
+  readMemoChildren marks flags (last t) = readMemo marks flags t
+  readMemoChildren marks flags (t then ts) = record { first = readMemo marks flags t; rest = readMemoChildren marks flags ts }
 
 -- the arrays after a visit of a node hold the pass's memo there, and are as they were elsewhere
 pub record Remembered (ν : ℕ → ℕ) (γ : ℕ) (t : Tree) (M F M′ F′ : Bits) : Type 0 where
@@ -26,6 +26,6 @@ pub record Remembered (ν : ℕ → ℕ) (γ : ℕ) (t : Tree) (M F M′ F′ : 
   pub elsewhere : (p : ℕ) → (In p t → ⊥) → (M′ p ≡ M p) × (F′ p ≡ F p)
 
 -- the same of the children of a node
-pub record KidsRemembered (ν : ℕ → ℕ) (γ : ℕ) (s : Side) (ks : Kids) (M F M′ F′ : Bits) : Type 0 where
-  pub got : readMemoKids M′ F′ ks ≡ passKids ν γ s ks (readMemoKids M F ks) .next
-  pub elsewhere : (p : ℕ) → (InKids p ks → ⊥) → (M′ p ≡ M p) × (F′ p ≡ F p)
+pub record KidsRemembered (ν : ℕ → ℕ) (γ : ℕ) (s : Side) (ks : Children) (M F M′ F′ : Bits) : Type 0 where
+  pub got : readMemoChildren M′ F′ ks ≡ passChildren ν γ s ks (readMemoChildren M F ks) .next
+  pub elsewhere : (p : ℕ) → (InChildren p ks → ⊥) → (M′ p ≡ M p) × (F′ p ≡ F p)

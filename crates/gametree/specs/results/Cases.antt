@@ -6,7 +6,7 @@ use mathlib.Core.List.{List, [], _∷_, map}
 use lib.ListN.{getD}
 use Rattle.lists.specs.Lists.{among}
 use Rattle.gametree.specs.Tree.{Max, Min, Tree, leaf, inner, last, _then_, greatest, zeroScore}
-use Rattle.gametree.specs.AlphaBeta.{Found, fullWindow}
+use Rattle.gametree.specs.AlphaBeta.{SearchResult, fullWindow}
 use Rattle.gametree.specs.Mtd.{mtd}
 use Rattle.gametree.specs.Sss.{End, finished, sss}
 use Rattle.gametree.specs.Allowance.{Evaluation, uncovered}
@@ -26,8 +26,8 @@ abbrev pub valuation : Case → ℕ → ℕ
 valuation c n = getD (c .scores) n 0
 
 -- a tree with values that are not negative
-abbrev pub valued : Tree → List ℕ → Case
-valued t vs = record { tree = t; scores = map score vs }
+abbrev pub evaluatedWith : Tree → List ℕ → Case
+evaluatedWith t vs = record { tree = t; scores = map score vs }
 
 -- a root of two Min nodes with two leaves each
 abbrev pub small : Tree
@@ -35,7 +35,7 @@ small = inner 0 Max (inner 1 Min (leaf 3 then last (leaf 4)) then last (inner 2 
 
 -- the small tree with values given for its leaves
 abbrev pub leavesOf : ℕ → ℕ → ℕ → ℕ → Case
-leavesOf a b c d = valued small (0 ∷ 0 ∷ 0 ∷ a ∷ b ∷ c ∷ d ∷ [])
+leavesOf a b c d = evaluatedWith small (0 ∷ 0 ∷ 0 ∷ a ∷ b ∷ c ∷ d ∷ [])
 
 -- a leaf of -5
 abbrev pub loneLeaf : Case
@@ -48,17 +48,17 @@ equalMerits = leavesOf 3 6 3 1
 -- Max(Min(7, 1), Min(7)): the second child is the move
 abbrev pub secondMove : Case
 secondMove =
-    valued (inner 0 Max (inner 1 Min (leaf 3 then last (leaf 4)) then last (inner 2 Min (last (leaf 5)))))
+    evaluatedWith (inner 0 Max (inner 1 Min (leaf 3 then last (leaf 4)) then last (inner 2 Min (last (leaf 5)))))
     (0 ∷ 0 ∷ 0 ∷ 7 ∷ 1 ∷ 7 ∷ [])
 
 -- Max(Min(1), 1): the leftmost of equal merits has the greater number
 abbrev pub leftIsGreater : Case
-leftIsGreater = valued (inner 0 Max (inner 1 Min (last (leaf 3)) then last (leaf 2))) (0 ∷ 0 ∷ 1 ∷ 1 ∷ [])
+leftIsGreater = evaluatedWith (inner 0 Max (inner 1 Min (last (leaf 3)) then last (leaf 2))) (0 ∷ 0 ∷ 1 ∷ 1 ∷ [])
 
 -- Max(Min(Max(1)), Min(1, 1)): the same, and by number SSS* would evaluate a leaf that alpha-beta does not
 abbrev pub leftIsDeeper : Case
 leftIsDeeper =
-    valued
+    evaluatedWith
     (inner 0 Max
     (inner 1 Min (last (inner 3 Max (last (leaf 6)))) then last (inner 2 Min (leaf 4 then last (leaf 5)))))
     (0 ∷ 0 ∷ 0 ∷ 0 ∷ 1 ∷ 1 ∷ 1 ∷ [])
@@ -66,12 +66,12 @@ leftIsDeeper =
 -- Max(Min(1, 1), 1): after the first pass the root's low is its value, and decides nothing
 abbrev pub lowKnown : Case
 lowKnown =
-    valued (inner 0 Max (inner 1 Min (leaf 3 then last (leaf 4)) then last (leaf 2))) (0 ∷ 0 ∷ 1 ∷ 1 ∷ 1 ∷ [])
+    evaluatedWith (inner 0 Max (inner 1 Min (leaf 3 then last (leaf 4)) then last (leaf 2))) (0 ∷ 0 ∷ 1 ∷ 1 ∷ 1 ∷ [])
 
 -- Max(Min(Max(Min(1, 4), 3), 1)): node 2, found not below by the second pass, is not entered by the third
 abbrev pub foundBefore : Case
 foundBefore =
-    valued
+    evaluatedWith
     (inner 0 Max
     (last (inner 1 Min
     (inner 2 Max (inner 4 Min (leaf 6 then last (leaf 7)) then last (leaf 5)) then last (leaf 3)))))
@@ -80,7 +80,7 @@ foundBefore =
 -- Max(Min(Max(Min(1), 3), 1)): when node 2 is SOLVED, a state is on the list two levels below it
 abbrev pub stateBelow : Case
 stateBelow =
-    valued
+    evaluatedWith
     (inner 0 Max
     (last (inner 1 Min (inner 2 Max (inner 4 Min (last (leaf 6)) then last (leaf 5)) then last (leaf 3)))))
     (0 ∷ 0 ∷ 0 ∷ 1 ∷ 0 ∷ 3 ∷ 1 ∷ [])
@@ -88,14 +88,14 @@ stateBelow =
 -- Max(Min(Max(1, Min(1)), 2)): the same, and its merit is that of node 2
 abbrev pub equalBelow : Case
 equalBelow =
-    valued
+    evaluatedWith
     (inner 0 Max
     (last (inner 1 Min (inner 2 Max (leaf 4 then last (inner 5 Min (last (leaf 6)))) then last (leaf 3)))))
     (0 ∷ 0 ∷ 0 ∷ 2 ∷ 1 ∷ 0 ∷ 1 ∷ [])
 
 -- Max(Min(4, 3)): the first pass leaves a bound that is not the value, so there are three
 abbrev pub threePasses : Case
-threePasses = valued (inner 0 Max (last (inner 1 Min (leaf 2 then last (leaf 3))))) (0 ∷ 0 ∷ 4 ∷ 3 ∷ [])
+threePasses = evaluatedWith (inner 0 Max (last (inner 1 Min (leaf 2 then last (leaf 3))))) (0 ∷ 0 ∷ 4 ∷ 3 ∷ [])
 
 -- the numbers from k on, one for each entry of a list
 abbrev pub numbers : ℕ → List ℕ → List ℕ
@@ -105,8 +105,8 @@ numbers k (x ∷ xs) = k ∷ numbers (suc k) xs
 -- what the searches make of a tree: alpha-beta's value and leaves; MTD's value and leaves, and its passes; how SSS*
 -- ends, its leaves and its replacements; the root move; and the flags of the certificate that SSS* gives
 pub record Row : Type 0 where
-  pub alphaBeta : Found
-  pub mtd : Found
+  pub alphaBeta : SearchResult
+  pub mtd : SearchResult
   pub passes : ℕ
   pub end : End
   pub sss : List ℕ

@@ -5,7 +5,7 @@ use mathlib.Core.Path.{refl}
 use mathlib.Core.Bool.{cond}
 use lib.Dec.{eqb}
 use borrow.Author.Needs.{needs}
-use Rattle.places.proofs.Runs.{Run, run-begins, run-step, run-ends}
+use Rattle.positions.proofs.Runs.{Run, run-begins, run-step, run-ends}
 use Rattle.graft.proofs.put_children.Statement.{statement}
 use Rattle.graft.proofs.put_children.Tie as tie
 

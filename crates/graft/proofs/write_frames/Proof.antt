@@ -29,7 +29,7 @@ abbrev at-start : tie.At-loop Inv-loop μ-loop → tie.Start Inv-loop μ-loop
 at-start l = l .before .before .before .before .before .before .before
 
 first-few : (a : tie.Start Inv-loop μ-loop) → frames (a .args .first .now) ≤ maxNodes
-first-few a = accepted-formed (a .args .first .now) (a .pre .0 .first) .few
+first-few a = accepted-formed (a .args .first .now) (a .pre .0 .first) .atMost
 
 inside : (c : tie.In-loop Inv-loop μ-loop) → let a = at-start (c .before) .args in
     c .before .loop .i < graftSize (a .first .now) (a .second .now)
@@ -101,7 +101,7 @@ first-of-requires c κs = (source-inside (c .before), first-few (at-start (c .be
 
 add-end : tie.Need-add-end Inv-loop μ-loop
 add-end c =
-    let k = c .before in omega (arith, children-inside k, at-start (k .before .before .before) .pre .0 .few)
+    let k = c .before in omega (arith, children-inside k, at-start (k .before .before .before) .pre .0 .atMost)
 
 put-source-requires : tie.Need-put-source-requires Inv-loop μ-loop
 put-source-requires c κs =
@@ -110,7 +110,7 @@ put-source-requires c κs =
     let a = at-start l in (
       source-inside (k .before),
       (
-        omega (arith, c .first-number .ensures .1, children-inside k, a .pre .0 .few),
+        omega (arith, c .first-number .ensures .1, children-inside k, a .pre .0 .atMost),
         omega
             (arith, l .loop .inv .long, inside (k .before .before), a .pre .1),
       ),
@@ -130,7 +130,7 @@ put-children-requires c κs =
         result-frames (a .args .first .now) (a .args .node)
             (a .args .second .now),
       ),
-      omega (arith, a .pre .0 .few),
+      omega (arith, a .pre .0 .atMost),
       f .first-of .ensures .1,
       omega (arith, l .before .before .frame-count .ensures, first-few a),
     )

@@ -4,7 +4,7 @@ use mathlib.Core.List.{List, [], _∷_, _++_}
 use lib.ListN.{replicate}
 use Rattle.frames.specs.declared.Checked.the-variants.{Nodes, Rejected}
 use Rattle.frames.specs.results.Cases.{leafFrame, innerFrame, leaves, chain, small, lone, single}
-use Rattle.graft.specs.Outcome.{Outcome}
+use Rattle.graft.specs.Outcome.{GraftResult}
 
 -- a root with two leaves of these values
 abbrev pub pair : ℕ → ℕ → List ℕ
@@ -41,7 +41,7 @@ pub record Case : Type 0 where
   pub node : ℕ
   pub second : List ℕ
   pub room : ℕ
-  pub outcome : Outcome
+  pub outcome : GraftResult
 
 -- a result: the number of nodes and the table, with so many bytes of the buffer behind it
 abbrev pub gives : List ℕ → ℕ → List ℕ → ℕ → ℕ → List ℕ → ℕ → Case

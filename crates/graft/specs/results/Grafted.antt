@@ -5,7 +5,7 @@ use lib.ListN.{take}
 use Rattle.gametree.specs.Tree.{Tree, minimax}
 use Rattle.gametree.specs.Graft.{grafted, relabelled, substituted}
 use Rattle.frames.specs.Frame.{frameSize, frames, storedScore}
-use Rattle.frames.specs.Place.{depthOf}
+use Rattle.frames.specs.Position.{depthOf}
 use Rattle.frames.specs.Tree.{tree, valuation, leafScore}
 use Rattle.graft.specs.Outcome.{graftOutcome}
 

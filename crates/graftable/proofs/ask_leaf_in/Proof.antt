@@ -8,9 +8,9 @@ use mathlib.Core.List.{List}
 use borrow.Author.Tests.{not-true, not-false}
 use borrow.Author.Needs.{needs}
 use Rattle.frames.specs.Frame.{frames}
-use Rattle.frames.specs.Place.{depthOf}
+use Rattle.frames.specs.Position.{depthOf}
 use Rattle.frames.specs.Rejection.{answer}
-use Rattle.places.proofs.Places.{placed, placed-room, placed-depth}
+use Rattle.positions.proofs.Positions.{positioned, positioned-room, positioned-depth}
 use Rattle.graftable.specs.Questions.{graftSize}
 use Rattle.graftable.specs.Questions.{isMaxLeaf, deepest}
 use Rattle.graftable.proofs.Questions.{max-leaf, no-leaf, too-many, too-deep, too-short, all-right}
@@ -48,20 +48,20 @@ depths h =
     let m = e .before in
     let f = m .before .before .before .before in
     let s = at-start m in
-    let p = placed (first m) (s .pre .0 .0) _ (s .pre .1 .0) (f .fill .ensures) in
+    let p = positioned (first m) (s .pre .0 .0) _ (s .pre .1 .0) (f .fill .ensures) in
     let l = max-leaf (first m) (node m) (passed e) in
     omega (
       arith,
       h .before .before .depth-at .ensures,
       h .height .ensures,
-      placed-depth (first m) _ p (node m) (l .inside),
+      positioned-depth (first m) _ p (node m) (l .inside),
     )
 
 is-max-leaf-requires : tie.Need-is-max-leaf-requires
 is-max-leaf-requires c κs =
     let f = c .before .before .before in
     let s = f .before .before .before .before .before in
-    placed _ (s .pre .0 .0) _ (s .pre .1 .0) (f .fill .ensures)
+    positioned _ (s .pre .0 .0) _ (s .pre .1 .0) (f .fill .ensures)
 
 returns : tie.Need-returns
 returns c =
@@ -85,7 +85,7 @@ depth-at-requires c κs =
     let m = e .before in
     let f = m .before .before .before .before in
     let s = at-start m in
-    placed-room _ _ (placed _ (s .pre .0 .0) _ (s .pre .1 .0) (f .fill .ensures)) _
+    positioned-room _ _ (positioned _ (s .pre .0 .0) _ (s .pre .1 .0) (f .fill .ensures)) _
     (max-leaf (first m) (node m) (passed e) .inside)
 
 returns-3 : tie.Need-returns-3

@@ -3,8 +3,8 @@ use Prim.Native.Nat.{_-_}
 use native.Mathlib.Omega.{arith}
 use mathlib.Core.Path.{ap, _∙_}
 use borrow.Author.Needs.{needs}
-use Rattle.frames.specs.Place.{depthOf}
-use Rattle.places.proofs.Places.{placed, placed-depth}
+use Rattle.frames.specs.Position.{depthOf}
+use Rattle.positions.proofs.Positions.{positioned, positioned-depth}
 use Rattle.graftable.proofs.Heights.{last-deepest}
 use Rattle.graftable.proofs.height.Statement.{statement}
 use Rattle.graftable.proofs.height.Tie as tie
@@ -16,9 +16,9 @@ returns c =
     let a = f .before .before .before .before in
     let wf = a .pre .0 in
     let t = a .args .table .now in
-    let p = placed t wf _ (a .pre .1) (f .fill .ensures) in (
+    let p = positioned t wf _ (a .pre .1) (f .fill .ensures) in (
       c .depth-at .ensures
-          ∙ placed-depth t _ p _ (omega (arith, n .frame-count .ensures, wf .some))
+          ∙ positioned-depth t _ p _ (omega (arith, n .frame-count .ensures, wf .nonEmpty))
           ∙ ap (λ m. depthOf t (m - 1)) (n .frame-count .ensures) ∙ last-deepest t wf,
       omega (arith, c .depth-at .ensures),
     )

@@ -6,7 +6,7 @@ use borrow.Author.Needs.{needs}
 use Rattle.gametree.specs.declared.Side.the-variants.{Max}
 use Rattle.gametree.specs.Certificate.{same}
 use Rattle.frames.specs.Frame.{frames}
-use Rattle.places.proofs.Places.{placed-side}
+use Rattle.positions.proofs.Positions.{positioned-side}
 use Rattle.graftable.proofs.Questions.{not-inside, not-childless, leaf-test}
 use Rattle.graftable.proofs.is_max_leaf.Statement.{statement}
 use Rattle.graftable.proofs.is_max_leaf.Tie as tie
@@ -33,7 +33,7 @@ returns-3 c =
     let h : a .args .node < frames t = omega (arith, k .before .before .frame-count .ensures, k .before .if1 .left) in
     c .is-max .ensures
     ∙ ap (λ s. same s Max)
-    (c .before .side-at .ensures ∙ placed-side t (a .args .places .now) (a .pre) (a .args .node) h)
+    (c .before .side-at .ensures ∙ positioned-side t (a .args .positions .now) (a .pre) (a .args .node) h)
     ∙ leaf-test t (a .args .node) h (omega (arith, k .child-count .ensures, e .if2 .left))
 
 pub is-max-leaf-spec : {M : Type 1} → statement M

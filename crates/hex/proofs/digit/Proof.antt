@@ -24,25 +24,25 @@ rest : (c : tie.After-one-within3) →
 rest c = times-bit _ _ (omega arith)
 
 add-letter : tie.Need-add-letter
-add-letter c = record { fits = omega (arith, right c .few) }
+add-letter c = record { fits = omega (arith, right c .atMost) }
 
 add-other : tie.Need-add-other
-add-other c = record { fits = omega (arith, right c .few) }
+add-other c = record { fits = omega (arith, right c .atMost) }
 
 sub-other : tie.Need-sub-other
-sub-other c = right c .few
+sub-other c = right c .atMost
 
 mul-result : tie.Need-mul-result
-mul-result c = record { fits = omega (arith, right c .few) }
+mul-result c = record { fits = omega (arith, right c .atMost) }
 
 add-result : tie.Need-add-result
-add-result c = record { fits = omega (arith, right c .few) }
+add-result c = record { fits = omega (arith, right c .atMost) }
 
 mul-result-2 : tie.Need-mul-result-2
 mul-result-2 c = record { fits = omega (arith, rest c) }
 
 add-result-2 : tie.Need-add-result-2
-add-result-2 c = record { fits = omega (arith, right c .few, rest c) }
+add-result-2 c = record { fits = omega (arith, right c .atMost, rest c) }
 
 returns : tie.Need-returns
 returns c = right c .number

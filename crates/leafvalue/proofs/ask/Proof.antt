@@ -9,8 +9,8 @@ use mir.ValLaws.{toZ-ofZ}
 use borrow.Author.Tests.{not-true, not-false, leb-true}
 use borrow.Author.Needs.{needs}
 use Rattle.frames.specs.Value.{maxValue}
-use Rattle.leafvalue.specs.declared.Needed.the-variants.{Value}
-use Rattle.leafvalue.specs.Wanted.{isLeaf, smallest, scoreOf, found}
+use Rattle.leafvalue.specs.declared.LeastValue.the-variants.{Value}
+use Rattle.leafvalue.specs.LeastValue.{isLeaf, smallest, wantedScore, answerFor}
 use Rattle.leafvalue.specs.engine.Candidates.{held}
 use Rattle.leafvalue.proofs.Values.{score-range}
 use Rattle.leafvalue.proofs.Questions.{due, no-leaf, out-of-range, in-range, found-none, found-value}
@@ -36,8 +36,8 @@ looked : (c : tie.After-find) →
     let s = c .before .before .before .before .before .before .before in
     let a = s .args in
     (due (a .table .now) (a .node) (a .wanted)
-    ≡ found (a .node) (smallest (a .table .now) (a .node) (scoreOf (a .wanted))))
-    × (held (c .find .result) ≡ smallest (a .table .now) (a .node) (scoreOf (a .wanted)))
+    ≡ answerFor (a .node) (smallest (a .table .now) (a .node) (wantedScore (a .wanted))))
+    × (held (c .find .result) ≡ smallest (a .table .now) (a .node) (wantedScore (a .wanted)))
 looked c =
     let o = c .before in
     let e = o .before in
@@ -46,7 +46,7 @@ looked c =
     let a = s .args in (
       in-range (a .table .now) (a .node) (a .wanted) (leaf l) (ranged e),
       c .find .ensures .0
-          ∙ ap (smallest (a .table .now) (a .node)) (o .score-of .ensures ∙ ap scoreOf (plain s)),
+          ∙ ap (smallest (a .table .now) (a .node)) (o .score-of .ensures ∙ ap wantedScore (plain s)),
     )
 
 returns : tie.Need-returns

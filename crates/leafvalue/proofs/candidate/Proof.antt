@@ -6,7 +6,7 @@ use mathlib.Core.Bool.{false, _&&_}
 use lib.Dec.{ltb}
 use borrow.Author.Tests.{lt-ltb, le-ltb}
 use borrow.Author.Needs.{needs}
-use Rattle.leafvalue.specs.Wanted.{firstScore}
+use Rattle.leafvalue.specs.LeastValue.{firstScore}
 use Rattle.leafvalue.specs.engine.Candidates.{reaches}
 use Rattle.leafvalue.proofs.candidate.Statement.{statement}
 use Rattle.leafvalue.proofs.candidate.Tie as tie

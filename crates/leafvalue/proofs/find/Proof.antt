@@ -14,7 +14,7 @@ find-in-requires c κs =
 find-in-requires-2 : tie.Need-find-in-requires-2
 find-in-requires-2 c κs =
     let s = c .before .before .before .before .before .before .before in
-    let f = accepted-formed (s .args .table .now) (s .pre .0) .few in
+    let f = accepted-formed (s .args .table .now) (s .pre .0) .atMost in
     (s .pre, ((f, f), ((f, f), λ k h. getD-replicate 4096 k 1 0 (omega arith))))
 
 pub find-spec : {M : Type 1} → statement M

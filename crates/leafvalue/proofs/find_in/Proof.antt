@@ -7,18 +7,18 @@ use lib.ListN.{length, getD, length-set}
 use borrow.Author.Needs.{needs}
 use Rattle.gametree.specs.Tree.{least, greatest}
 use Rattle.frames.specs.Frame.{frames}
-use Rattle.frames.specs.Place.{depthOf}
+use Rattle.frames.specs.Position.{depthOf}
 use Rattle.frames.specs.Formed.{WellFormed}
 use Rattle.frames.proofs.Acceptance.{accepted-formed}
-use Rattle.places.specs.Buffer.{written}
-use Rattle.places.specs.engine.Places.{Placed}
-use Rattle.places.proofs.Buffers.{written-at}
-use Rattle.places.proofs.Places.{placed, placed-depth}
+use Rattle.positions.specs.Buffer.{written}
+use Rattle.positions.specs.engine.Positions.{Positioned}
+use Rattle.positions.proofs.Buffers.{written-at}
+use Rattle.positions.proofs.Positions.{positioned, positioned-depth}
 use Rattle.leafvalue.proofs.Bounds.{leaf-is, leaf-shallow, root-bound, found-smallest}
 use Rattle.leafvalue.proofs.find_in.Statement.{statement}
 use Rattle.leafvalue.proofs.find_in.Tie as tie
 
--- from the places to the start, from the bounds to the places, and from the depth to the bounds
+-- from the positions to the start, from the bounds to the positions, and from the depth to the bounds
 abbrev start : tie.After-fill → tie.Start
 start c = c .before .before .before .before .before .before .before
 
@@ -35,9 +35,9 @@ formed c = accepted-formed _ (c .pre .0 .0)
 inside : (c : tie.Start) → c .args .leaf < frames (c .args .table .now)
 inside c = leaf-is (c .args .table .now) (c .args .leaf) (c .pre .0 .1) .0
 
--- the first array holds the places
-holds-places : (c : tie.After-fill) → Placed (start c .args .table .now) (c .fill .last .1 .0)
-holds-places c = placed _ (formed (start c)) _ (start c .pre .1 .0 .0) (c .fill .ensures)
+-- the first array holds the positions
+holds-positions : (c : tie.After-fill) → Positioned (start c .args .table .now) (c .fill .last .1 .0)
+holds-positions c = positioned _ (formed (start c)) _ (start c .pre .1 .0 .0) (c .fill .ensures)
 
 -- the depth that is read is the leaf's
 depth : (c : tie.After-depth-at) →
@@ -45,7 +45,7 @@ depth : (c : tie.After-depth-at) →
 depth c =
     let f = filled (bounds c) in
     let s = start f in
-    c .depth-at .ensures ∙ placed-depth (s .args .table .now) _ (holds-places f) (s .args .leaf) (inside s)
+    c .depth-at .ensures ∙ positioned-depth (s .args .table .now) _ (holds-positions f) (s .args .leaf) (inside s)
 
 -- an array of the bounds begins with the root's
 at-root : (f : ℕ → ℕ) (n : ℕ) (b : List ℕ) → 0 < n → (x : List ℕ) → x ≡ written f n b → (m : ℕ) → f 0 ≡ m
@@ -65,24 +65,24 @@ fill-bounds-requires : tie.Need-fill-bounds-requires
 fill-bounds-requires c κs =
     let f = c .before .before .before .before .before .before in
     let s = start f in
-    ((formed s, holds-places f, simp length-set (s .pre .1 .0 .1)), s .pre .1 .1 .0)
+    ((formed s, holds-positions f, simp length-set (s .pre .1 .0 .1)), s .pre .1 .1 .0)
 
 slice-read-candidate : tie.Need-slice-read-candidate
 slice-read-candidate c =
     let b = c .before .before .before .before .before .before .before in
     let s = start (filled b) in
-    omega (arith, formed s .some, s .pre .1 .1 .0, b .fill-bounds .kept)
+    omega (arith, formed s .nonEmpty, s .pre .1 .1 .0, b .fill-bounds .kept)
 
 slice-read-candidate-2 : tie.Need-slice-read-candidate-2
 slice-read-candidate-2 c =
     let b = c .before .before .before .before .before .before .before .before in
     let s = start (filled b) in
-    omega (arith, formed s .some, s .pre .1 .1 .0, b .fill-bounds .kept)
+    omega (arith, formed s .nonEmpty, s .pre .1 .1 .0, b .fill-bounds .kept)
 
 depth-at-requires : tie.Need-depth-at-requires
 depth-at-requires c κs =
     let f = filled (c .before .before .before .before .before .before .before .before .before) in
-    omega (arith, inside (start f), holds-places f .room)
+    omega (arith, inside (start f), holds-positions f .room)
 
 candidate-requires : tie.Need-candidate-requires
 candidate-requires c κs =
@@ -104,8 +104,8 @@ returns c =
     let wf = formed s in
     let r = root-bound t wf (a .leaf) (a .known .now) (omega (arith, h, s .pre .1 .0 .1)) (s .pre .1 .1 .1) in
     found-smallest t (s .pre .0 .0) (a .leaf) h (a .wanted) (s .pre .0 .2) _ _ _ _ (c .candidate .ensures)
-    (at-root _ _ _ (wf .some) _ (e .0) _ (r least))
-    (at-root _ _ _ (wf .some) _ (e .1 .0) _ (r greatest))
+    (at-root _ _ _ (wf .nonEmpty) _ (e .0) _ (r least))
+    (at-root _ _ _ (wf .nonEmpty) _ (e .1 .0) _ (r greatest))
     (depth (c .before))
 
 pub find-in-spec : {M : Type 1} → statement M

@@ -7,7 +7,7 @@ use lib.Dec.{ltb, eqb}
 use Rattle.gametree.specs.Tree.{least, greatest}
 use Rattle.gametree.specs.AlphaBeta.{clamp}
 use Rattle.frames.specs.Tree.{leafScore}
-use Rattle.leafvalue.specs.Wanted.{firstScore}
+use Rattle.leafvalue.specs.LeastValue.{firstScore}
 
 -- does the root get the score w from the score s at a leaf at depth d, where l is its score for the least and u for the
 -- greatest score of that leaf?

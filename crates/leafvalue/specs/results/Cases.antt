@@ -2,14 +2,14 @@
 use Prim.Native.Nat.{ℕ, zero, suc, _+_}
 use mathlib.Core.List.{List, [], _∷_, _++_}
 use lib.IntN.{ℤ, pos, negℤ}
-use Rattle.leafvalue.specs.declared.Needed.{Needed}
-use Rattle.leafvalue.specs.declared.Needed.the-variants.{Value, Rejected}
+use Rattle.leafvalue.specs.declared.LeastValue.{LeastValue}
+use Rattle.leafvalue.specs.declared.LeastValue.the-variants.{Value, Rejected}
 
 pub record Case : Type 0 where
   pub table : List ℕ
   pub node : ℕ
   pub wanted : ℤ
-  pub answer : Needed
+  pub answer : LeastValue
 
 -- a frame: the first child, the count of children, byte 3, and the two bytes of the value
 abbrev frame : (first count same high low : ℕ) → List ℕ
@@ -34,10 +34,10 @@ capped = frame 1 1 0 0 0 ++ frame 2 2 0 0 0 ++ frame 4 1 0 0 0 ++ frame 0 0 0 13
 abbrev floored : List ℕ
 floored = frame 1 2 0 0 0 ++ frame 3 1 0 0 0 ++ frame 0 0 0 131 14 ++ path 3 16
 
-abbrev asks : (t : List ℕ) (k : ℕ) (w : ℤ) → Needed → Case
+abbrev asks : (t : List ℕ) (k : ℕ) (w : ℤ) → LeastValue → Case
 asks t k w r = record { table = t; node = k; wanted = w; answer = r }
 
-abbrev no : (q p : ℕ) → Needed
+abbrev no : (q p : ℕ) → LeastValue
 no q p = Rejected (record { number = q; place = p })
 
 abbrev minus : ℕ → ℤ

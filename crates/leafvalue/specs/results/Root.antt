@@ -6,11 +6,11 @@ use lib.IntN.{ℤ}
 use Rattle.frames.specs.Frame.{frames, storedScore}
 use Rattle.frames.specs.Value.{valueOf}
 use Rattle.frames.specs.Shape.{SameShape, AgreeOn}
-use Rattle.leafvalue.specs.Wanted.{scoreOf, rootScore}
+use Rattle.leafvalue.specs.LeastValue.{wantedScore, rootScore}
 
 -- the root's value where the leaf k holds the value v, and each other leaf what it holds
 abbrev pub rootValue : (t : List ℕ) (k : ℕ) (v : ℤ) → ℤ
-rootValue t k v = valueOf (rootScore t k (scoreOf v))
+rootValue t k v = valueOf (rootScore t k (wantedScore v))
 
 -- the table u is t with other bytes 4 and 5 at node k, or the same
 pub record SameBut (t u : List ℕ) (k : ℕ) : Type 0 where

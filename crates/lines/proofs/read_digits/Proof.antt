@@ -5,17 +5,17 @@ use native.Mathlib.Omega.{arith}
 use borrow.Author.Needs.{needs}
 use lib.ListN.{length, getD, length-set}
 use Rattle.hex.proofs.Digits.{digit-small}
-use Rattle.lines.specs.engine.Numbered.{abreast, Numbered}
+use Rattle.lines.specs.engine.Numbered.{digitsAtOnce, Numbered}
 use Rattle.lines.proofs.Numbering.{numbered-none, numbered-next}
 use Rattle.lines.proofs.read_digits.Statement.{statement}
 use Rattle.lines.proofs.read_digits.Tie as tie
 
 abbrev Inv-loop : tie.InvT-loop
 Inv-loop digits numbers₀ others₀ k₀ numbers others k =
-    (length numbers ≡ length numbers₀) × (k ≤ abreast) × Numbered digits numbers others k
+    (length numbers ≡ length numbers₀) × (k ≤ digitsAtOnce) × Numbered digits numbers others k
 
 abbrev μ-loop : tie.MeasureT-loop
-μ-loop digits numbers₀ others₀ k₀ numbers others k = abreast - k
+μ-loop digits numbers₀ others₀ k₀ numbers others k = digitsAtOnce - k
 
 loop-holds : tie.Need-loop-holds Inv-loop μ-loop
 loop-holds c = (search needs, omega arith, numbered-none _ _)
@@ -24,8 +24,8 @@ add-others : tie.Need-add-others Inv-loop μ-loop
 add-others c =
     let l = c .before .before .before .loop in
     let s = c .before .before .before .before .before .before in
-    let few = digit-small (getD (s .args .digits .now) (l .k) 0) in
-    record { fits = omega (arith, l .inv .1, l .inv .2 .few, c .digit .ensures, few) }
+    let atMost = digit-small (getD (s .args .digits .now) (l .k) 0) in
+    record { fits = omega (arith, l .inv .1, l .inv .2 .atMost, c .digit .ensures, atMost) }
 
 loop-again : tie.Need-loop-again Inv-loop μ-loop
 loop-again c =
@@ -38,7 +38,7 @@ loop-again c =
 returns : tie.Need-returns Inv-loop μ-loop
 returns c =
     let l = c .before .loop in
-    let all : l .k ≡ abreast = omega arith in
+    let all : l .k ≡ digitsAtOnce = omega arith in
     rw (← all) (l .inv .2)
 
 pub read-digits-spec : {M : Type 1} → statement M

@@ -5,13 +5,13 @@ use mathlib.Core.List.{List}
 use lib.ListN.{getD}
 use Rattle.hex.specs.Digit.{noDigit, digitOf}
 
--- how many are read abreast
-abbrev pub abreast : ℕ
-abreast = 16
+-- how many are read at once
+abbrev pub digitsAtOnce : ℕ
+digitsAtOnce = 16
 
 -- after the first k bytes, x of which are no digits
 pub record Numbered (digits numbers : List ℕ) (x k : ℕ) : Type 0 where
-  pub few : x ≤ k
+  pub atMost : x ≤ k
   pub each : (i : ℕ) → i < k → getD numbers i 0 ≡ digitOf (getD digits i 0)
   pub none : x ≡ 0 → (i : ℕ) → i < k → digitOf (getD digits i 0) < noDigit
-  pub some : 0 < x → (i : ℕ) × (i < k) × (digitOf (getD digits i 0) ≡ noDigit)
+  pub nonEmpty : 0 < x → (i : ℕ) × (i < k) × (digitOf (getD digits i 0) ≡ noDigit)

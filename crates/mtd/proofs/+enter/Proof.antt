@@ -14,7 +14,7 @@ use Rattle.frames.specs.Tree.{treeAt}
 use Rattle.frames.proofs.Next.{child-later, child-within}
 use Rattle.mtd.specs.engine.Memory.{Memory, memory, MemoryRoom, VisitReady, Passed}
 use Rattle.mtd.proofs.Arrays.{Long, room-kept}
-use Rattle.mtd.proofs.Turns.{Turn, Left, Family, family-within, turn-first, turn-child, turn-ready}
+use Rattle.mtd.proofs.Turns.{PassLoop, Left, Family, family-within, turn-first, turn-child, turn-ready}
 use Rattle.mtd.proofs.Turns.{turn-next, turn-last}
 use Rattle.mtd.proofs.Visits.{looked-passed, open-ready, open-passed, passed-same, ready-shallow, visit-entered}
 use Rattle.mtd.proofs.Skips.{high-capped, passed-over, all-passed-over, left-same}
@@ -22,7 +22,7 @@ use Rattle.mtd.proofs.enter.Reads as enter′
 use Rattle.mtd.proofs.enter.Kinds as enter-kinds
 use Rattle.mtd.proofs.+enter.Lts-enter as lts
 use Rattle.frames.proofs.child_count.Reads as child-count-reads
-use Rattle.frames.proofs.child_place.Reads as child-place-reads
+use Rattle.frames.proofs.child_position.Reads as child-position-reads
 use Rattle.frames.proofs.first_child.Reads as first-child-reads
 use Rattle.mtd.proofs.last_tried.Reads as last-tried-reads
 use Rattle.mtd.proofs.look.Reads as look-reads
@@ -41,13 +41,13 @@ abbrev below : ℕ → In 5 enter-kinds.ps
 below t = and 5 enter-kinds.ps (falls 5 enter-kinds.ps _<_ μ t) enter′.Pre
 
 abbrev Inv : lts.InvT-loop
-Inv table evaluated₀ order₀ highs₀ not-below₀ node place test leaves₀ side first end child₀ evaluated order highs
+Inv table evaluated₀ order₀ highs₀ not-below₀ node position test leaves₀ side first end child₀ evaluated order highs
     not-below leaves child =
-    Turn table side test first end (memory leaves₀ evaluated₀ order₀ highs₀ not-below₀)
+    PassLoop table side test first end (memory leaves₀ evaluated₀ order₀ highs₀ not-below₀)
     (memory leaves evaluated order highs not-below) child
 
 abbrev μ-loop : lts.MeasureT-loop
-μ-loop table evaluated₀ order₀ highs₀ not-below₀ node place test leaves₀ side first end child₀ evaluated order highs
+μ-loop table evaluated₀ order₀ highs₀ not-below₀ node position test leaves₀ side first end child₀ evaluated order highs
     not-below leaves child =
     end - child
 
@@ -59,8 +59,8 @@ calls t = (
   child-count-reads.Learnt,
   next-tried-reads.Asked,
   next-tried-reads.Learnt,
-  child-place-reads.Asked,
-  child-place-reads.Learnt,
+  child-position-reads.Asked,
+  child-position-reads.Learnt,
   look-reads.Asked,
   look-reads.Learnt,
   below t,
@@ -124,7 +124,7 @@ module _ (t : ℕ) where
 
   some : (c : lts.After-child-count (calls t) (at t) enter′.Post Inv μ-loop)
       → c .before .first-child .result < c .before .first-child .result + c .child-count .result
-  some c = omega (arith, entry c .pre .1 .1 .some, c .child-count .ensures .0)
+  some c = omega (arith, entry c .pre .1 .1 .nonEmpty, c .child-count .ensures .0)
 
   -- the test is a score
   most : (c : lts.After-child-count (calls t) (at t) enter′.Post Inv μ-loop) → entry c .args .test ≤ greatest
@@ -133,7 +133,7 @@ module _ (t : ℕ) where
   -- the loop is at the next child that is tried
   turn : (c : lts.Else1 (calls t) (at t) enter′.Post Inv μ-loop) → let l = head (c .before) in
       let f = l .before in
-      Turn (entry f .args .table .now) (entry f .args .place .side) (entry f .args .test)
+      PassLoop (entry f .args .table .now) (entry f .args .position .side) (entry f .args .test)
       (f .before .first-child .result) (f .before .first-child .result + f .child-count .result) (before (entry f))
       (present l) (c .before .next-tried .result)
   turn c =
@@ -145,12 +145,12 @@ module _ (t : ℕ) where
       passed-over (family f) (entry f .pre .1 .0) (most f) (l .loop .inv) o (omega arith)
 
   -- what the look at it asks
-  ready : (c : lts.After-child-place (calls t) (at t) enter′.Post Inv μ-loop) → let l = head (c .before .before) in
+  ready : (c : lts.After-child-position (calls t) (at t) enter′.Post Inv μ-loop) → let l = head (c .before .before) in
       VisitReady (entry (l .before) .args .table .now) (present l) (c .before .before .next-tried .result)
-      (c .child-place .result)
+      (c .child-position .result)
   ready c =
       let f = head (c .before .before) .before in
-      turn-ready (family f) (entry f .pre .1 .0) (turn (c .before)) (c .child-place .ensures)
+      turn-ready (family f) (entry f .pre .1 .0) (turn (c .before)) (c .child-position .ensures)
 
   -- what the visit of the child did
   passed : (c : lts.At-match-came (calls t) (at t) enter′.Post Inv μ-loop)
@@ -198,7 +198,7 @@ module _ (t : ℕ) where
   -- after the loop the children have their answer, and the arrays their lengths
   left : (j : lts.Joined1 (calls t) (at t) enter′.Post Inv μ-loop) → let f = head (j .before) .before in
       let a = entry f .args in
-      Left (a .table .now) (a .place .side) (a .test) (f .before .first-child .result)
+      Left (a .table .now) (a .position .side) (a .test) (f .before .first-child .result)
       (f .before .first-child .result + f .child-count .result) (before (entry f)) (over j) (j .if1 .answer)
       × Long (before (entry f)) (over j)
   left j =
@@ -226,7 +226,7 @@ module _ (t : ℕ) where
                                       record {
                                         before = record {
                                           before = record { before = j .before; if1 = y .0 };
-                                          child-place = y .1;
+                                          child-position = y .1;
                                         };
                                         look-arg = y .2;
                                       };
@@ -284,8 +284,8 @@ module _ (t : ℕ) where
         omega (arith, family-within (family f) (some f), entry f .pre .1 .0 .room .highs, l .loop .inv .long .highs),
       )
 
-  child-place-requires : lts.Need-child-place-requires (calls t) (at t) enter′.Post Inv μ-loop
-  child-place-requires c κs =
+  child-position-requires : lts.Need-child-position-requires (calls t) (at t) enter′.Post Inv μ-loop
+  child-position-requires c κs =
       let f = head (c .before) .before in
       let p = entry f .pre .1 .0 in
       (child-within _ (p .formed) (p .inside) (turn-child (family f) (turn c)), ready-shallow p)
@@ -348,7 +348,7 @@ module _ (t : ℕ) where
       let r = room j in (
         (some f, omega (arith, family-within (family f) (some f), r .highs)),
         (
-          omega (arith, p .inside, p .formed .few),
+          omega (arith, p .inside, p .formed .atMost),
           omega (arith, p .inside, r .highs),
           omega (arith, p .inside, r .notBelow),
         ),
@@ -390,7 +390,7 @@ pub +enter-spec : {M : Type 1} → statement M
     (add-end t)
     (loop-holds t)
     (next-tried-requires t)
-    (child-place-requires t)
+    (child-position-requires t)
     (look-requires t)
     (enum-known-tried t)
     (enum-told t)

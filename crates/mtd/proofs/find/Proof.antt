@@ -5,7 +5,7 @@ use mir.Syntax.{w16}
 use mir.ValLaws.{toZ-ofZ}
 use borrow.Author.Needs.{needs}
 use Rattle.frames.specs.Frame.{maxNodes, frames}
-use Rattle.places.specs.Buffer.{written}
+use Rattle.positions.specs.Buffer.{written}
 use Rattle.bounds.proofs.Marking.{cleared-unmarked}
 use Rattle.mtd.proofs.Whole.{start-fresh, run-small, find-gives}
 use Rattle.mtd.proofs.find.Statement.{statement}
@@ -41,7 +41,7 @@ run-passes-requires : tie.Need-run-passes-requires
 run-passes-requires c κs =
     let k = c .before .before .before .before .before .before in
     let a = start k .pre in
-    start-fresh _ (a .0) maxNodes (a .0 .few) _ _ (omega (arith, k .clear .kept, a .1 .0)) (a .1 .1)
+    start-fresh _ (a .0) maxNodes (a .0 .atMost) _ _ (omega (arith, k .clear .kept, a .1 .0)) (a .1 .1)
     (cleared-unmarked _ _ (cleared k))
 
 value-requires : tie.Need-value-requires

@@ -29,10 +29,10 @@ visit-leaf-requires c κs =
     let none : childCount (a .args .table .now) (a .args .node) ≡ 0 = search needs in (
       (p .inside, omega (arith, p .inside, p .room .evaluated), omega (arith, p .inside, p .room .highs)),
       (
-        (none, ap (λ p. p .depth) (p .placed), ready-shallow p),
+        (none, ap (λ p. p .depth) (p .positioned), ready-shallow p),
         (
           leaf-known (a .args .table .now) (p .formed) (a .args .node) (p .inside) none (before a) (p .right),
-          record { few = p .formed .few; room = p .room .order; counted = p .counted },
+          record { atMost = p .formed .atMost; room = p .room .order; counted = p .counted },
         ),
       ),
     )
@@ -89,7 +89,7 @@ returns-3 c =
 
 returns-4 : tie.Need-returns-4
 returns-4 c =
-    (refl, record { some = omega arith; high = c .before .before .if2 .left; notBelow = ne-eqb _ _ (c .if3 .left) })
+    (refl, record { nonEmpty = omega arith; high = c .before .before .if2 .left; notBelow = ne-eqb _ _ (c .if3 .left) })
 
 pub look-spec : {M : Type 1} → statement M
 look-spec =

@@ -8,8 +8,8 @@ use Rattle.mtd.proofs.run.Tie as tie
 find-requires : tie.Need-find-requires
 find-requires c κs = search needs
 
-conclude-requires : tie.Need-conclude-requires
-conclude-requires c κs = search needs
+write-certificate-requires : tie.Need-write-certificate-requires
+write-certificate-requires c κs = search needs
 
 same-length : tie.Need-same-length
 same-length c = search needs
@@ -27,11 +27,11 @@ returns c =
     let a = f .before .before .before .before .before .before .before in
     let w = mtdLeaves (a .args .table .now) in
     let e = f .find .ensures in
-    let d = k .conclude .ensures in
+    let d = k .write-certificate .ensures in
     let b = marks-certify _ (a .pre .0) w (a .args .evaluated .now) _ _ _ _ (e .1 .0) (d .1 .0) (d .1 .1) in
     (e .0, (b .0, (b .1, e .1 .1)))
 
 pub run-spec : {M : Type 1} → statement M
 run-spec =
     tie.close
-    (tie.spec find-requires conclude-requires same-length same-length-2 same-length-3 returns)
+    (tie.spec find-requires write-certificate-requires same-length same-length-2 same-length-3 returns)

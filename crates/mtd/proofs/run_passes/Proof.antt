@@ -62,12 +62,12 @@ visit-requires c κs =
     passing-ready (p .formed) (l .loop .inv) (p .room)
 
 add-passes : tie.Need-add-passes Inv-loop μ-loop
-add-passes c = omega (arith, head (c .before .before .before .before .before .before .before .before) .loop .inv .few)
+add-passes c = omega (arith, head (c .before .before .before .before .before .before .before .before) .loop .inv .atMost)
 
 root-high-requires : tie.Need-root-high-requires Inv-loop μ-loop
 root-high-requires c κs =
     let v = c .before .before .before .before .before .before .before .before .before .before in
-    omega (arith, entry v .pre .formed .some, entry v .pre .room .highs, long v .highs)
+    omega (arith, entry v .pre .formed .nonEmpty, entry v .pre .room .highs, long v .highs)
 
 loop-less : tie.Need-loop-less Inv-loop μ-loop
 loop-less c =
@@ -99,7 +99,7 @@ unfolding next
 within c =
     let v = last-visit c in
     let p = entry v .pre in
-    omega (arith, next-within _ (p .formed) 1 (p .formed .some), p .room .highs, long v .highs)
+    omega (arith, next-within _ (p .formed) 1 (p .formed .nonEmpty), p .room .highs, long v .highs)
 
 add-end : tie.Need-add-end Inv-loop μ-loop
 add-end c = search needs

@@ -5,9 +5,9 @@ use mathlib.Core.List.{List, [], _∷_}
 use lib.ListN.{length}
 use borrow.Author.Needs.{needs}
 use Rattle.certificate.specs.Search.{Search}
-use Rattle.certificate.proofs.Questions.{asked, nodes-roomy, of-shorter}
+use Rattle.certificate.proofs.Questions.{asked, nodes-long-enough, of-lesser}
 use Rattle.certificate.proofs.Outcomes.{finding, rejecting, listing, not-listing}
-use Rattle.mtd.specs.declared.Answer.the-variants.{Found, Rejected}
+use Rattle.mtd.specs.declared.MtdAnswer.the-variants.{Found, Rejected}
 use Rattle.mtd.specs.Outcome.{mtdFound, mtdSearch}
 use Rattle.mtd.proofs.search.Statement.{statement}
 use Rattle.mtd.proofs.search.Tie as tie
@@ -36,14 +36,14 @@ told c =
     let e = length (a .evaluated .now) in
     let f = length (a .certificate .now) in
     let o = length (a .order .now) in
-    of-shorter t e f (o ∷ []) (of-shorter t _ o [] (c .ask .ensures) (c .before .shorter2 .ensures))
-    (c .before .before .shorter .ensures)
+    of-lesser t e f (o ∷ []) (of-lesser t _ o [] (c .ask .ensures) (c .before .lesser2 .ensures))
+    (c .before .before .lesser .ensures)
 
-shorter-requires : tie.Need-shorter-requires
-shorter-requires c κs = search needs
+lesser-requires : tie.Need-lesser-requires
+lesser-requires c κs = search needs
 
-shorter-requires-2 : tie.Need-shorter-requires-2
-shorter-requires-2 c κs = search needs
+lesser-requires-2 : tie.Need-lesser-requires-2
+lesser-requires-2 c κs = search needs
 
 ask-requires : tie.Need-ask-requires
 ask-requires c κs = search needs
@@ -55,7 +55,7 @@ run-requires : tie.Need-run-requires
 run-requires c κs =
     let k = c .before .before .before in
     let q = k .before .before in
-    let r = nodes-roomy _ (lengths q) _ (sym (k .enum-told .given .1) ∙ told q) in
+    let r = nodes-long-enough _ (lengths q) _ (sym (k .enum-told .given .1) ∙ told q) in
     (r .0, ((r .1 .0, r .1 .1 .0), r .1 .1 .1 .0))
 
 enum-known-rejection : tie.Need-enum-known-rejection
@@ -98,8 +98,8 @@ pub search-spec : {M : Type 1} → statement M
 search-spec =
     tie.close
     (tie.spec
-    shorter-requires
-    shorter-requires-2
+    lesser-requires
+    lesser-requires-2
     ask-requires
     enum-told
     run-requires

@@ -5,7 +5,7 @@ use mathlib.Core.Path.{_≡_}
 use mathlib.Core.Bool.{false}
 use mathlib.Core.List.{List}
 use lib.ListN.{length, getD}
-use Rattle.gametree.specs.declared.Place.{Place}
+use Rattle.gametree.specs.declared.Position.{Position}
 use Rattle.gametree.specs.declared.Side.{Side}
 use Rattle.gametree.specs.declared.Side.the-variants.{Max}
 use Rattle.gametree.specs.Tree.{Tree, greatest, In}
@@ -13,7 +13,7 @@ use Rattle.gametree.specs.Bounds.{high}
 use Rattle.gametree.specs.Mtd.{Memo, Pass, pass}
 use Rattle.gametree.specs.engine.MemoArrays.{readMemo, Remembered}
 use Rattle.frames.specs.Frame.{frames, childCount}
-use Rattle.frames.specs.Place.{placeOf}
+use Rattle.frames.specs.Position.{positionOf}
 use Rattle.frames.specs.Tree.{treeAt, valuation}
 use Rattle.frames.specs.Formed.{WellFormed}
 use Rattle.bounds.specs.Marks.{marked, ones}
@@ -66,10 +66,10 @@ abbrev pub Counted : List ℕ → Memory → Type 0
 Counted t m = m .leaves ≡ ones (m .evaluated) (frames t)
 
 -- what a visit of node i at the place p asks
-pub record VisitReady (t : List ℕ) (m : Memory) (i : ℕ) (p : Place) : Type 0 where
+pub record VisitReady (t : List ℕ) (m : Memory) (i : ℕ) (p : Position) : Type 0 where
   pub formed : WellFormed t
   pub inside : i < frames t
-  pub placed : p ≡ placeOf t i
+  pub positioned : p ≡ positionOf t i
   pub room : MemoryRoom (frames t) m
   pub counted : Counted t m
   pub right : HighsRight t m (treeAt t i)
@@ -77,7 +77,7 @@ pub record VisitReady (t : List ℕ) (m : Memory) (i : ℕ) (p : Place) : Type 0
 -- node i is entered by the pass with the test γ: it has children, its high is not below the test, and no pass has found
 -- it not below
 pub record Enterable (t : List ℕ) (m : Memory) (i γ : ℕ) : Type 0 where
-  pub some : 0 < childCount t i
+  pub nonEmpty : 0 < childCount t i
   pub high : γ ≤ getD (m .highs) i 0
   pub notBelow : marked (m .notBelow) i ≡ false
 

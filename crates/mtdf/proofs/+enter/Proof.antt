@@ -22,7 +22,7 @@ use Rattle.mtdf.proofs.enter.Reads as enter′
 use Rattle.mtdf.proofs.enter.Kinds as enter-kinds
 use Rattle.mtdf.proofs.+enter.Lts-enter as lts
 use Rattle.frames.proofs.child_count.Reads as child-count-reads
-use Rattle.frames.proofs.child_place.Reads as child-place-reads
+use Rattle.frames.proofs.child_position.Reads as child-position-reads
 use Rattle.frames.proofs.first_child.Reads as first-child-reads
 use Rattle.bounds.proofs.best.Reads as best-reads
 use Rattle.mtd.proofs.last_tried.Reads as last-tried-reads
@@ -40,13 +40,13 @@ abbrev below : ℕ → In 5 enter-kinds.ps
 below t = and 5 enter-kinds.ps (falls 5 enter-kinds.ps _<_ μ t) enter′.Pre
 
 abbrev Inv : lts.InvT-loop
-Inv table evaluated₀ order₀ lows₀ highs₀ node place test leaves₀ side first end child₀ evaluated order lows
+Inv table evaluated₀ order₀ lows₀ highs₀ node position test leaves₀ side first end child₀ evaluated order lows
     highs leaves child =
     Turn table side test first end (memory leaves₀ evaluated₀ order₀ lows₀ highs₀)
     (memory leaves evaluated order lows highs) child
 
 abbrev μ-loop : lts.MeasureT-loop
-μ-loop table evaluated₀ order₀ lows₀ highs₀ node place test leaves₀ side first end child₀ evaluated order lows
+μ-loop table evaluated₀ order₀ lows₀ highs₀ node position test leaves₀ side first end child₀ evaluated order lows
     highs leaves child =
     end - child
 
@@ -56,8 +56,8 @@ calls t = (
   first-child-reads.Learnt,
   child-count-reads.Asked,
   child-count-reads.Learnt,
-  child-place-reads.Asked,
-  child-place-reads.Learnt,
+  child-position-reads.Asked,
+  child-position-reads.Learnt,
   look-reads.Asked,
   look-reads.Learnt,
   below t,
@@ -117,12 +117,12 @@ module _ (t : ℕ) where
       }
 
   -- what the look at the next child asks
-  ready : (c : lts.After-child-place (calls t) (at t) enter′.Post Inv μ-loop)
+  ready : (c : lts.After-child-position (calls t) (at t) enter′.Post Inv μ-loop)
       → VisitReady (entry (c .before .before) .args .table .now) (present (c .before)) (c .before .loop .child)
-      (c .child-place .result)
+      (c .child-position .result)
   ready c =
       let l = c .before in
-      turn-ready (family (l .before)) (entry (l .before) .pre .1 .0) (l .loop .inv) (c .child-place .ensures)
+      turn-ready (family (l .before)) (entry (l .before) .pre .1 .0) (l .loop .inv) (c .child-position .ensures)
 
   -- what the visit of the child did
   passed : (c : lts.At-match-came (calls t) (at t) enter′.Post Inv μ-loop)
@@ -185,8 +185,8 @@ module _ (t : ℕ) where
   loop-holds : lts.Need-loop-holds (calls t) (at t) enter′.Post Inv μ-loop
   loop-holds c = turn-first (family c) (entry c .pre .1 .0) (some c)
 
-  child-place-requires : lts.Need-child-place-requires (calls t) (at t) enter′.Post Inv μ-loop
-  child-place-requires c κs =
+  child-position-requires : lts.Need-child-position-requires (calls t) (at t) enter′.Post Inv μ-loop
+  child-position-requires c κs =
       let p = entry (c .before) .pre .1 .0 in
       (child-within _ (p .formed) (p .inside) (turn-child (family (c .before)) (c .loop .inv)), ready-shallow p)
 
@@ -253,7 +253,7 @@ module _ (t : ℕ) where
   mul-lows : lts.Need-mul-lows (calls t) (at t) enter′.Post Inv μ-loop
   mul-lows c =
       let p = entry (head (seen (ended c)) .before) .pre .1 .0 in
-      omega (arith, p .inside, p .formed .few)
+      omega (arith, p .inside, p .formed .atMost)
 
   slice-write-lows : lts.Need-slice-write-lows (calls t) (at t) enter′.Post Inv μ-loop
   slice-write-lows c =
@@ -263,7 +263,7 @@ module _ (t : ℕ) where
   mul-highs : lts.Need-mul-highs (calls t) (at t) enter′.Post Inv μ-loop
   mul-highs c =
       let p = entry (head (seen (ended c)) .before) .pre .1 .0 in
-      omega (arith, p .inside, p .formed .few)
+      omega (arith, p .inside, p .formed .atMost)
 
   slice-write-highs : lts.Need-slice-write-highs (calls t) (at t) enter′.Post Inv μ-loop
   slice-write-highs c =
@@ -303,7 +303,7 @@ pub +enter-spec : {M : Type 1} → statement M
     (child-count-requires t)
     (add-end t)
     (loop-holds t)
-    (child-place-requires t)
+    (child-position-requires t)
     (look-requires t)
     (enum-known-tried t)
     (enum-told t)

@@ -49,10 +49,10 @@ after c =
 
 -- the arrays have an entry for the root
 some-lows : (c : tie.At-loop Inv-loop μ-loop) → 0 < length (c .loop .lows)
-some-lows c = omega (arith, entry c .pre .formed .some, entry c .pre .room .lows, c .loop .inv .long .lows)
+some-lows c = omega (arith, entry c .pre .formed .nonEmpty, entry c .pre .room .lows, c .loop .inv .long .lows)
 
 some-highs : (c : tie.At-loop Inv-loop μ-loop) → 0 < length (c .loop .highs)
-some-highs c = omega (arith, entry c .pre .formed .some, entry c .pre .room .highs, c .loop .inv .long .highs)
+some-highs c = omega (arith, entry c .pre .formed .nonEmpty, entry c .pre .room .highs, c .loop .inv .long .highs)
 
 -- the root's bounds have not met
 apart : (c : tie.Then1 Inv-loop μ-loop) → let l = c .before .before .before .before .before .loop in
@@ -124,10 +124,10 @@ add-tests c =
     let i = l .loop .inv in
     omega (
       arith,
-      i .few,
+      i .atMost,
       leaves-grow p i (apart (turn v)) (chosen v) {m″ = after v} (v .visit .ensures),
       leaves-few p i (apart (turn v)) (chosen v) {m″ = after v} (v .visit .ensures),
-      p .few,
+      p .atMost,
     )
 
 next-wish-requires : tie.Need-next-wish-requires Inv-loop μ-loop
@@ -135,8 +135,8 @@ next-wish-requires c κs =
     let v = c .before .before .before .before .before .before .before .before .before .before in
     let l = head v in
     let a = entry l .pre in (
-      omega (arith, a .formed .some, a .room .lows, long v .lows),
-      omega (arith, a .formed .some, a .room .highs, long v .highs),
+      omega (arith, a .formed .nonEmpty, a .room .lows, long v .lows),
+      omega (arith, a .formed .nonEmpty, a .room .highs, long v .highs),
       next-small (a .formed) (l .loop .inv) (apart (turn v)) (chosen v) {m″ = after v} (v .visit .ensures),
     )
 

@@ -73,7 +73,7 @@ returns-3 : tie.Need-returns-3
 returns-3 c = (
   refl,
   record {
-    some = omega (arith, c .if3 .taken, c .before .child-count .ensures .0);
+    nonEmpty = omega (arith, c .if3 .taken, c .before .child-count .ensures .0);
     high = c .before .before .before .before .if1 .left;
     low = c .before .before .if2 .left;
   },

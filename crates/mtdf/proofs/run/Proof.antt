@@ -5,7 +5,7 @@ use mir.Syntax.{w16}
 use mir.ValLaws.{toZ-ofZ}
 use borrow.Author.Needs.{needs}
 use Rattle.frames.specs.Frame.{frames}
-use Rattle.places.specs.Buffer.{written}
+use Rattle.positions.specs.Buffer.{written}
 use Rattle.bounds.proofs.Marking.{cleared-unmarked}
 use Rattle.mtdf.proofs.Whole.{run-small, run-gives}
 use Rattle.mtdf.proofs.run.Statement.{statement}
@@ -34,8 +34,8 @@ settle-requires c κs =
     let a = start k .pre in
     ((a .0, omega (arith, k .clear .kept, a .1 .0), a .1 .1), cleared-unmarked _ _ (cleared k))
 
-conclude-requires : tie.Need-conclude-requires
-conclude-requires c κs = search needs
+write-certificate-requires : tie.Need-write-certificate-requires
+write-certificate-requires c κs = search needs
 
 value-requires : tie.Need-value-requires
 value-requires c κs =
@@ -58,7 +58,7 @@ returns c =
     let k = f .before .before .before .before .before in
     let value = toZ-ofZ w16 (c .value .result) (record { sfits = c .value .ok }) ∙ c .value .ensures in
     run-gives _ (start k .pre .0) _ _ _ _ _ _ _ _ _ _ _ _ (cleared k) (f .settle .ensures) (start k .pre .1 .1)
-    (g .conclude .ensures .0) (g .conclude .ensures .1 .0) (g .conclude .ensures .1 .1) value
+    (g .write-certificate .ensures .0) (g .write-certificate .ensures .1 .0) (g .write-certificate .ensures .1 .1) value
 
 pub run-spec : {M : Type 1} → statement M
 run-spec =
@@ -67,7 +67,7 @@ run-spec =
     frame-count-requires
     clear-requires
     settle-requires
-    conclude-requires
+    write-certificate-requires
     value-requires
     same-length
     same-length-2

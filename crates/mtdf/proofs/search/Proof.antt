@@ -7,9 +7,9 @@ use mir.Syntax.{w32}
 use mir.ValLaws.{toZ-ofZ}
 use borrow.Author.Needs.{needs}
 use Rattle.certificate.specs.Search.{Search}
-use Rattle.certificate.proofs.Questions.{asked, nodes-roomy, of-shorter}
+use Rattle.certificate.proofs.Questions.{asked, nodes-long-enough, of-lesser}
 use Rattle.certificate.proofs.Outcomes.{finding, rejecting, listing, not-listing}
-use Rattle.mtdf.specs.declared.Answer.the-variants.{Found, Rejected}
+use Rattle.mtdf.specs.declared.MtdfAnswer.the-variants.{Found, Rejected}
 use Rattle.mtdf.specs.Outcome.{startScore, mtdfFound, mtdfSearch}
 use Rattle.mtdf.proofs.search.Statement.{statement}
 use Rattle.mtdf.proofs.search.Tie as tie
@@ -38,8 +38,8 @@ told c =
     let e = length (a .evaluated .now) in
     let f = length (a .certificate .now) in
     let o = length (a .order .now) in
-    of-shorter t e f (o ∷ []) (of-shorter t _ o [] (c .ask .ensures) (c .before .shorter2 .ensures))
-    (c .before .before .shorter .ensures)
+    of-lesser t e f (o ∷ []) (of-lesser t _ o [] (c .ask .ensures) (c .before .lesser2 .ensures))
+    (c .before .before .lesser .ensures)
 
 -- the first guess is that of the starting value
 guess : (c : tie.After-start-score)
@@ -48,11 +48,11 @@ guess c =
     let a = start (c .before .before .before) in
     rw (toZ-ofZ w32 (a .args .start) (a .fits .start)) at (c .start-score .ensures)
 
-shorter-requires : tie.Need-shorter-requires
-shorter-requires c κs = search needs
+lesser-requires : tie.Need-lesser-requires
+lesser-requires c κs = search needs
 
-shorter-requires-2 : tie.Need-shorter-requires-2
-shorter-requires-2 c κs = search needs
+lesser-requires-2 : tie.Need-lesser-requires-2
+lesser-requires-2 c κs = search needs
 
 ask-requires : tie.Need-ask-requires
 ask-requires c κs = search needs
@@ -67,7 +67,7 @@ run-requires : tie.Need-run-requires
 run-requires c κs =
     let k = c .before .before .before .before in
     let q = k .before .before in
-    let r = nodes-roomy _ (lengths q) _ (sym (k .enum-told .given .1) ∙ told q) in
+    let r = nodes-long-enough _ (lengths q) _ (sym (k .enum-told .given .1) ∙ told q) in
     (r .0, ((r .1 .0, r .1 .1 .0), r .1 .1 .1 .0))
 
 enum-known-rejection : tie.Need-enum-known-rejection
@@ -111,8 +111,8 @@ pub search-spec : {M : Type 1} → statement M
 search-spec =
     tie.close
     (tie.spec
-    shorter-requires
-    shorter-requires-2
+    lesser-requires
+    lesser-requires-2
     ask-requires
     enum-told
     start-score-requires

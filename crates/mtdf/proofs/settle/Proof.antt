@@ -38,7 +38,7 @@ slice-aggregate-decide-4 c = search needs
 decide-requires-2 : tie.Need-decide-requires-2
 decide-requires-2 c κs =
     let a = c .before .before .before .before .before .before .before .before .before .pre in
-    start-fresh _ (a .0 .0) maxNodes (a .0 .0 .few) _ _ (a .0 .1) (a .0 .2) (a .1)
+    start-fresh _ (a .0 .0) maxNodes (a .0 .0 .atMost) _ _ (a .0 .1) (a .0 .2) (a .1)
 
 same-length-3 : tie.Need-same-length-3
 same-length-3 c = search needs

@@ -7,13 +7,13 @@ use mathlib.Core.List.{List, _++_}
 use lib.Dec.{leb}
 use lib.ListN.{length, getD, take}
 use Rattle.lists.specs.Lists.{among}
-use Rattle.gametree.specs.declared.Place.{Place}
+use Rattle.gametree.specs.declared.Position.{Position}
 use Rattle.gametree.specs.Tree.{Tree, leaf, inner, least, greatest, In}
 use Rattle.gametree.specs.Bounds.{low, high}
-use Rattle.gametree.specs.Tests.{Tested, opened, test, testKids, Driven, searchBy, mtdFrom}
+use Rattle.gametree.specs.Tests.{Tested, opened, test, testChildren, TestSearch, searchBy, mtdFrom}
 use Rattle.gametree.specs.FirstMove.{lastPhase}
 use Rattle.frames.specs.Frame.{frames, childCount}
-use Rattle.frames.specs.Place.{placeOf}
+use Rattle.frames.specs.Position.{positionOf}
 use Rattle.frames.specs.Tree.{treeAt, tree, valuation}
 use Rattle.frames.specs.Formed.{WellFormed}
 use Rattle.bounds.specs.Marks.{marked, ones}
@@ -66,10 +66,10 @@ pub record Counted (t : List ℕ) (m : Memory) : Type 0 where
   pub marks : (k : ℕ) → k < frames t → marked (m .evaluated) k ≡ among (soFar m) k
 
 -- what a test of node i at the place p asks
-pub record VisitReady (t : List ℕ) (m : Memory) (i : ℕ) (p : Place) : Type 0 where
+pub record VisitReady (t : List ℕ) (m : Memory) (i : ℕ) (p : Position) : Type 0 where
   pub formed : WellFormed t
   pub inside : i < frames t
-  pub placed : p ≡ placeOf t i
+  pub positioned : p ≡ positionOf t i
   pub room : MemoryRoom (frames t) m
   pub counted : Counted t m
   pub right : BoundsRight t m (treeAt t i)
@@ -97,7 +97,7 @@ pub record Done (t : List ℕ) (T : Tree) (q : Tested) (m m′ : Memory) (r : Tr
 -- what the entering of a node gives: of a leaf its score, of an inner node its children's answer
 abbrev pub enteredTest : (ℕ → ℕ) → ℕ → List ℕ → Tree → Tested
 enteredTest ν γ w (leaf n) = opened n (leb γ (ν n))
-enteredTest ν γ w (inner n s ks) = testKids ν γ w s ks
+enteredTest ν γ w (inner n s ks) = testChildren ν γ w s ks
 
 abbrev pub VisitedBy : (t : List ℕ) (T : Tree) (γ : ℕ) (m m′ : Memory) (r : Tried) → Type 0
 VisitedBy t T γ m m′ r = Done t T (test (valuation t) γ (soFar m) T) m m′ r
@@ -107,7 +107,7 @@ Entered t T γ m m′ r = Done t T (enteredTest (valuation t) γ (soFar m) T) m 
 
 -- node i is entered by the test γ: it has children, its high is not below the test, and its low is
 pub record Undecided (t : List ℕ) (m : Memory) (i γ : ℕ) : Type 0 where
-  pub some : 0 < childCount t i
+  pub nonEmpty : 0 < childCount t i
   pub high : γ ≤ getD (m .highs) i 0
   pub low : getD (m .lows) i 0 < γ
 
@@ -127,7 +127,7 @@ pub record Fresh (t : List ℕ) (m : Memory) : Type 0 where
   pub highs : (k : ℕ) → k < frames t → getD (m .highs) k 0 ≡ greatest
 
 -- the run of tests from the first guess f
-unfoldable pub drivenOf : (f : ℕ) (t : List ℕ) → Driven
+unfoldable pub drivenOf : (f : ℕ) (t : List ℕ) → TestSearch
 drivenOf f t = searchBy (mtdFrom f) (valuation t) (tree t)
 
 -- after the tests of the root: its bounds have met

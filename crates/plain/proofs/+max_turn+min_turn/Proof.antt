@@ -1,5 +1,5 @@
 -- `plain::max_turn` and `plain::min_turn` meet their contracts. The remaining depth falls with each call. At the head
--- of either loop stands `Turn`: the children that are left make of score and marks what the turn is to give, and their
+-- of either loop stands `TurnLoop`: the children that are left make of score and marks what the turn is to give, and their
 -- trees are without a mark.
 use Prim.Native.Nat.{ℕ, _+_, _-_, _<_}
 use native.Mathlib.Omega.{arith}
@@ -16,7 +16,7 @@ use Rattle.frames.proofs.child_count.Reads as child-count-reads
 use Rattle.frames.proofs.child_side.Reads as child-side-reads
 use Rattle.frames.proofs.first_child.Reads as first-child-reads
 use Rattle.bounds.proofs.evaluate.Reads as evaluate-reads
-use Rattle.plain.proofs.Turns.{Gives, Turn, leaf-evaluable, leaf-gives, turn-starts, inner-left, ready-child}
+use Rattle.plain.proofs.Turns.{Gives, TurnLoop, leaf-evaluable, leaf-gives, turn-starts, inner-left, ready-child}
 use Rattle.plain.proofs.Turns.{turn-goes-on, turn-ends}
 use Rattle.plain.proofs.max_turn.Reads as max-turn
 use Rattle.plain.proofs.max_turn.Kinds as max-kinds
@@ -47,7 +47,7 @@ min-below t = and 2 min-kinds.ps (falls 2 min-kinds.ps _<_ μ-min t) min-turn.Pr
 
 abbrev min-inv : min-lts.InvT-loop
 min-inv table evaluated₀ node left count score₀ child₀ last below evaluated score child =
-    Turn table Min node evaluated₀ child₀ (last + 1) evaluated score child
+    TurnLoop table Min node evaluated₀ child₀ (last + 1) evaluated score child
 
 abbrev min-loop : min-lts.MeasureT-loop
 min-loop table evaluated₀ node left count score₀ child₀ last below evaluated score child = last + 1 - child
@@ -159,7 +159,7 @@ module _ (t : ℕ) where
       let k = min-child l (omega arith) in (
         omega (arith, inner-left _ _ Min _ _ (a .pre .1) (omega (arith, k .from, k .to))),
         ready-child _ _ Min _ _ (a .pre .1) _ Max _ k (sym (c .before .enum-told .given .1) ∙ m .child-side .ensures)
-            (i .kept) (i .waiting _ (omega arith) k),
+            (i .kept) (i .unvisited _ (omega arith) k),
       )
 
   min-enum-told-2 : min-lts.Need-enum-told-2 (min-calls t) (min-at t) min-turn.Post min-inv min-loop
@@ -174,7 +174,7 @@ module _ (t : ℕ) where
       let k = min-child l (omega arith) in (
         omega (arith, inner-left _ _ Min _ _ (a .pre .1) (omega (arith, k .from, k .to))),
         ready-child _ _ Min _ _ (a .pre .1) _ Min _ k (sym (c .before .enum-told2 .given .1) ∙ m .child-side .ensures)
-            (i .kept) (i .waiting _ (omega arith) k),
+            (i .kept) (i .unvisited _ (omega arith) k),
       )
 
   min-better-requires : min-lts.Need-better-requires (min-calls t) (min-at t) min-turn.Post min-inv min-loop
@@ -202,7 +202,7 @@ module _ (t : ℕ) where
 
 abbrev max-inv : max-lts.InvT-loop
 max-inv table evaluated₀ node left count score₀ child₀ last below evaluated score child =
-    Turn table Max node evaluated₀ child₀ (last + 1) evaluated score child
+    TurnLoop table Max node evaluated₀ child₀ (last + 1) evaluated score child
 
 abbrev max-loop : max-lts.MeasureT-loop
 max-loop table evaluated₀ node left count score₀ child₀ last below evaluated score child = last + 1 - child
@@ -314,7 +314,7 @@ module _ (t : ℕ) where
       let k = max-child l (omega arith) in (
         omega (arith, inner-left _ _ Max _ _ (a .pre .1) (omega (arith, k .from, k .to))),
         ready-child _ _ Max _ _ (a .pre .1) _ Max _ k (sym (c .before .enum-told .given .1) ∙ m .child-side .ensures)
-            (i .kept) (i .waiting _ (omega arith) k),
+            (i .kept) (i .unvisited _ (omega arith) k),
       )
 
   max-enum-told-2 : max-lts.Need-enum-told-2 (max-calls t) (max-at t) max-turn.Post max-inv max-loop
@@ -329,7 +329,7 @@ module _ (t : ℕ) where
       let k = max-child l (omega arith) in (
         omega (arith, inner-left _ _ Max _ _ (a .pre .1) (omega (arith, k .from, k .to))),
         ready-child _ _ Max _ _ (a .pre .1) _ Min _ k (sym (c .before .enum-told2 .given .1) ∙ m .child-side .ensures)
-            (i .kept) (i .waiting _ (omega arith) k),
+            (i .kept) (i .unvisited _ (omega arith) k),
       )
 
   max-better-requires : max-lts.Need-better-requires (max-calls t) (max-at t) max-turn.Post max-inv max-loop

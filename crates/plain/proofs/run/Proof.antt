@@ -5,7 +5,7 @@ use mir.Syntax.{w16}
 use mir.ValLaws.{toZ-ofZ}
 use borrow.Author.Needs.{needs}
 use Rattle.frames.proofs.Acceptance.{accepted-formed}
-use Rattle.places.specs.Buffer.{written}
+use Rattle.positions.specs.Buffer.{written}
 use Rattle.plain.proofs.Whole.{root-ready, score-small, run-gives}
 use Rattle.plain.proofs.run.Statement.{statement}
 use Rattle.plain.proofs.run.Tie as tie
@@ -27,8 +27,8 @@ max-turn-requires c κs =
     root-ready _ (a .pre .0) _ _ _ _ (k .clear .ensures) (k .before .frame-count .ensures)
     (omega (arith, k .clear .kept .0, a .pre .1)) refl
 
-conclude-requires : tie.Need-conclude-requires
-conclude-requires c κs =
+write-certificate-requires : tie.Need-write-certificate-requires
+write-certificate-requires c κs =
     let f = c .before .before .before .before in
     let a = start f in
     let k = f .before .before .before .before .clear .kept .0 in (
@@ -56,7 +56,7 @@ returns c =
     let cleared = k .clear .ensures ∙ ap (λ m. written (λ _. 0) m (start f .args .evaluated .now)) n in
     let value = toZ-ofZ w16 (c .value .result) (record { sfits = c .value .ok }) ∙ c .value .ensures in
     run-gives _ (start f .pre .0) _ _ _ _ _ _ _ _ _ cleared (f .max-turn .ensures .0) (f .max-turn .ensures .1)
-    (g .conclude .ensures .0) (g .conclude .ensures .1 .0) (g .conclude .ensures .1 .1) value
+    (g .write-certificate .ensures .0) (g .write-certificate .ensures .1 .0) (g .write-certificate .ensures .1 .1) value
 
 pub run-spec : {M : Type 1} → statement M
 run-spec =
@@ -65,7 +65,7 @@ run-spec =
     frame-count-requires
     clear-requires
     max-turn-requires
-    conclude-requires
+    write-certificate-requires
     value-requires
     same-length
     same-length-2

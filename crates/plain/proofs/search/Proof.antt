@@ -5,9 +5,9 @@ use mathlib.Core.List.{List, [], _∷_}
 use lib.ListN.{length}
 use borrow.Author.Needs.{needs}
 use Rattle.certificate.specs.Search.{Search}
-use Rattle.certificate.proofs.Questions.{asked, of-shorter}
+use Rattle.certificate.proofs.Questions.{asked, of-lesser}
 use Rattle.certificate.proofs.Outcomes.{finding, rejecting}
-use Rattle.plain.specs.declared.Answer.the-variants.{Found, Rejected}
+use Rattle.plain.specs.declared.PlainAnswer.the-variants.{Found, Rejected}
 use Rattle.plain.specs.Outcome.{plainFound, plainSearch}
 use Rattle.plain.proofs.Whole.{may-run}
 use Rattle.plain.proofs.search.Statement.{statement}
@@ -28,10 +28,10 @@ lengths c = length (start c .args .evaluated .now) ∷ length (start c .args .ce
 
 -- what the questions answer: the shorter buffer stands for both
 told : (c : tie.After-ask) → c .ask .result ≡ asked (start c .args .table .now) (lengths c)
-told c = of-shorter _ _ _ [] (c .ask .ensures) (c .before .shorter .ensures)
+told c = of-lesser _ _ _ [] (c .ask .ensures) (c .before .lesser .ensures)
 
-shorter-requires : tie.Need-shorter-requires
-shorter-requires c κs = search needs
+lesser-requires : tie.Need-lesser-requires
+lesser-requires c κs = search needs
 
 ask-requires : tie.Need-ask-requires
 ask-requires c κs = search needs
@@ -75,7 +75,7 @@ pub search-spec : {M : Type 1} → statement M
 search-spec =
     tie.close
     (tie.spec
-    shorter-requires
+    lesser-requires
     ask-requires
     enum-told
     run-requires

@@ -1,18 +1,18 @@
 -- What a turn asks.
 use Prim.Native.Nat.{ℕ, _-_, _≤_, _<_}
 use mathlib.Core.List.{List}
-use Rattle.gametree.specs.declared.Place.{Place}
+use Rattle.gametree.specs.declared.Position.{Position}
 use Rattle.gametree.specs.declared.Side.{Side}
 use Rattle.frames.specs.Frame.{maxDepth, frames}
-use Rattle.frames.specs.Place.{depthOf}
+use Rattle.frames.specs.Position.{depthOf}
 use Rattle.certificate.specs.engine.Searchable.{Searchable}
 
 -- where the side s moves and at most `left` levels may follow
-abbrev pub turnPlace : Side → (left : ℕ) → Place
-turnPlace s left = record { depth = maxDepth - left; side = s }
+abbrev pub turnPosition : Side → (left : ℕ) → Position
+turnPosition s left = record { depth = maxDepth - left; side = s }
 
 -- node i may be searched, it is the turn of the side s there, and no node lies deeper than `left` levels below it
 pub record Ready (t e : List ℕ) (s : Side) (i left : ℕ) : Type 0 where
-  pub searchable : Searchable t e i (turnPlace s left)
+  pub searchable : Searchable t e i (turnPosition s left)
   pub remaining : left ≤ maxDepth
   pub shallow : (k : ℕ) → k < frames t → depthOf t k ≤ maxDepth

@@ -51,7 +51,7 @@ returns-2 c =
     (answer-rejected _ _ _ (sym (c .before .rejection .given .1) ∙ l .check-letters .ensures)))
 
 mul-end : tie.Need-mul-end
-mul-end c = omega (arith, front (c .before .before .before) .few)
+mul-end c = omega (arith, front (c .before .before .before) .atMost)
 
 slice-reshare-prefix-check-frames : tie.Need-slice-reshare-prefix-check-frames
 slice-reshare-prefix-check-frames c = front-room _ _ _ _ (front (c .before .before .before))
@@ -62,7 +62,7 @@ slice-aggregate-check-frames c =
 
 check-frames-requires : tie.Need-check-frames-requires
 check-frames-requires c κs =
-    let w = front (c .before .before .before .before) in rw (w .bytes) (omega (arith, w .few, w .nodes))
+    let w = front (c .before .before .before .before) in rw (w .bytes) (omega (arith, w .atMost, w .nodes))
 
 returns-3 : tie.Need-returns-3
 returns-3 c =

@@ -28,7 +28,7 @@ returns c =
     (e ∙ o .0, o .1)
 
 mul-size : tie.Need-mul-size
-mul-size c = omega (arith, front c .few)
+mul-size c = omega (arith, front c .atMost)
 
 returns-2 : tie.Need-returns-2
 returns-2 c =

@@ -24,5 +24,5 @@ pub record Decoded (f : List ℕ) (x : Option Rejection) (table : List ℕ) (r :
   pub filled : x ≡ none → take (length (decoded f)) table ≡ decoded f
 
 -- the table has room for the frames of a file's lines
-abbrev pub Roomy : (f table : List ℕ) → Type 0
-Roomy f table = length f ≤ lineSize * (length table / frameSize)
+abbrev pub LongEnough : (f table : List ℕ) → Type 0
+LongEnough f table = length f ≤ lineSize * (length table / frameSize)

@@ -43,13 +43,13 @@ enum-known-nodes : tie.Need-enum-known-nodes
 enum-known-nodes c = search needs
 
 mul-end : tie.Need-mul-end
-mul-end c = omega (arith, accepted c .few)
+mul-end c = omega (arith, accepted c .atMost)
 
 array-share-prefix-table : tie.Need-array-share-prefix-table
-array-share-prefix-table c = omega (arith, accepted c .few)
+array-share-prefix-table c = omega (arith, accepted c .atMost)
 
 slice-aggregate-put-analysis : tie.Need-slice-aggregate-put-analysis
-slice-aggregate-put-analysis c = sym (length-take-le _ _ (omega (arith, accepted (c .before) .few)))
+slice-aggregate-put-analysis c = sym (length-take-le _ _ (omega (arith, accepted (c .before) .atMost)))
 
 put-analysis-requires : tie.Need-put-analysis-requires
 put-analysis-requires c κs =

@@ -1,6 +1,6 @@
--- `report::put_sss` meets its contract: what is filled in are the places, and the line says what the search found.
+-- `report::put_sss` meets its contract: what is filled in are the positions, and the line says what the search found.
 use borrow.Author.Needs.{needs}
-use Rattle.places.proofs.Places.{placed}
+use Rattle.positions.proofs.Positions.{positioned}
 use Rattle.report.specs.Report.{sssLine}
 use Rattle.report.proofs.put_sss.Statement.{statement}
 use Rattle.report.proofs.put_sss.Tie as tie
@@ -18,7 +18,7 @@ find-requires : tie.Need-find-requires
 find-requires c κs =
     let f = c .before .before .before .before in
     let a = f .before .before .before .before .before .before .pre in
-    ((a .0, placed _ (a .0) _ (a .0 .few) (f .fill .ensures)), a .1 .0)
+    ((a .0, positioned _ (a .0) _ (a .0 .atMost) (f .fill .ensures)), a .1 .0)
 
 slice-aggregate-put-line : tie.Need-slice-aggregate-put-line
 slice-aggregate-put-line c = search needs

@@ -16,7 +16,7 @@ computed c = report (text (c .file))
 abbrev pub expected : Case → List ℕ
 expected c = text (c .prints)
 
--- the example of SPEC 12.1; a root that is a leaf of -5, and in small letters; a file of one line feed; no byte
+-- the example of SPEC 12.1; a root that is a leaf of -5, and in lowercase letters; a file of one line feed; no byte
 abbrev pub cases : List Case
 cases =
     record {

@@ -15,13 +15,13 @@ use Rattle.shorter.proofs.flagged_leaves.Tie as tie
 -- m of the nodes before k are flagged leaves
 record Counted (t flags : List ℕ) (k m : ℕ) : Type 0 where
   within : k ≤ frames t
-  few : m ≤ k
+  atMost : m ≤ k
   counted : m ≡ flaggedBefore t flags k
 
 module _ (t flags : List ℕ) where
   counted-none : Counted t flags 0 0
   unfolding flaggedBefore
-  counted-none = record { within = omega arith; few = omega arith; counted = refl }
+  counted-none = record { within = omega arith; atMost = omega arith; counted = refl }
 
   one : (b : Bool) → cond b 1 0 ≤ 1
   one true = omega arith
@@ -33,7 +33,7 @@ module _ (t flags : List ℕ) where
     counted-more j h e =
         record {
           within = omega arith;
-          few = omega (arith, one (flaggedLeaf t flags k), c .few);
+          atMost = omega (arith, one (flaggedLeaf t flags k), c .atMost);
           counted = e ∙ rw (add-one k, c .counted);
         }
 

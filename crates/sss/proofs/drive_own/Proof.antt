@@ -68,7 +68,7 @@ module _ {M : Type 1} (𝓤 : URA M) (H : Heap 𝓤) (A : Atoms 𝓤) (mem : Mem
   abbrev Drive : Contract 𝓤
   Drive = tripleOf 𝓤 H A drive.signature (drive.spec 𝓤 H A mem run)
 
--- κs, qs and a are the lifetimes of table, places, evaluated and order, the shares of their tokens, and the arguments
+-- κs, qs and a are the lifetimes of table, positions, evaluated and order, the shares of their tokens, and the arguments
 module _ {M : Type 1} (𝓤 : URA M) (H : Heap 𝓤) (A : Atoms 𝓤) (W : Given 𝓤 H A) (mem : Memory → SProp 𝓤)
     (run : Routine → Fun 𝓤) (κs : Lfts 4) (qs : Shares 4) (a : Args fn.signature κs) where
   abbrev vN : ByValue 𝓤 H A N.the-row
@@ -174,7 +174,7 @@ module _ {M : Type 1} (𝓤 : URA M) (H : Heap 𝓤) (A : Atoms 𝓤) (W : Given
       (drives : Triple 𝓤 (𝓣 .C #drive) (Drive 𝓤 H A mem run)) where
     -- the call of `drive` with a front of n zeros in the block f and a list of n entries e in the block l, which are
     -- room afterwards
-    module _ (n f l : ℕ) (e : State) (e-is : Is R e (vS .val e ∷ [])) (few : n ≤ maxNodes)
+    module _ (n f l : ℕ) (e : State) (e-is : Is R e (vS .val e ∷ [])) (atMost : n ≤ maxNodes)
         (prepared : Prepared (tb .now) (fm .now) (zeros n) (replicate n e) (vs .now) (od .now) r₀) where
       wide : Room u32 n
       wide = (omega arith, omega arith)
@@ -256,7 +256,7 @@ module _ {M : Type 1} (𝓤 : URA M) (H : Heap 𝓤) (A : Atoms 𝓤) (W : Given
         (init ! (pos 0 12) refl (tt, (tt, (record { fits = lit< tt }, tt)))) $
         reborrows ! (pos 0 4) (pos 0 13) (pos 0 14) (gv .0) (refl, refl, refl) (refl, refl) (refl, refl, refl) $
         reborrows ! (pos 0 5) (pos 0 15) (pos 0 16) (go .0) (refl, refl, refl) (refl, refl) (refl, refl, refl) $
-        -- [the locals; 34 ‥ 37: the tokens; the run; the table; the places; the marks; the order]
+        -- [the locals; 34 ‥ 37: the tokens; the run; the table; the positions; the marks; the order]
         move ! (pos 0 7 ∷ pos 0 8 ∷ 34 ∷ 35 ∷ 36 ∷ 37 ∷ 38 ∷ 39 ∷ 40 ∷ 41 ∷ 42 ∷ []) $
         drives-own maxNodes l₇ l₈ e e-is (omega arith)
         (subst (λ x. Prepared (tb .now) (fm .now) (zeros maxNodes) (replicate maxNodes x) (vs .now) (od .now) r₀)

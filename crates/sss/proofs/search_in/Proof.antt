@@ -24,7 +24,7 @@ use Rattle.frames.proofs.Checked.Laws as Q′
 use Rattle.states.specs.declared.State.{State}
 use Rattle.sss.specs.declared.Sizes.{Sizes}
 use Rattle.turns.specs.declared.Run.{Run}
-use Rattle.sss.specs.declared.Answer.{Answer}
+use Rattle.sss.specs.declared.SssAnswer.{SssAnswer}
 use Rattle.sss.specs.engine.Driven.{Driven}
 use Rattle.sss.specs.engine.Start.{begun as begunOf, Workable, Started}
 use Rattle.sss.specs.engine.Finish.{Finished}
@@ -36,8 +36,8 @@ use Rattle.sss.proofs.Sizes as Z
 use Rattle.sss.proofs.Sizes.Laws as Z′
 use Rattle.turns.proofs.Run as N
 use Rattle.turns.proofs.Run.Laws as N′
-use Rattle.sss.proofs.Answer as B
-use Rattle.sss.proofs.Answer.Laws as B′
+use Rattle.sss.proofs.SssAnswer as B
+use Rattle.sss.proofs.SssAnswer.Laws as B′
 use Rattle.sss.proofs.ends.start as start
 use Rattle.sss.proofs.ends.start.Symbol as start-def
 use Rattle.sss.proofs.ends.start.Symbol.{name as #start}
@@ -62,7 +62,7 @@ use Rattle.sss.proofs.search_in.Code as code
 abbrev R : RattleType
 R = S.the-row
 
--- what is had of each parameter at exit: the places, the lists, the marks and the certificate, and of the front what
+-- what is had of each parameter at exit: the positions, the lists, the marks and the certificate, and of the front what
 -- says its last value
 abbrev params : Parameters 7 (fn.ended .signature .params) (fn.ended .kept)
 params = (
@@ -106,7 +106,7 @@ module _ {M : Type 1} (𝓤 : URA M) (H : Heap 𝓤) (A : Atoms 𝓤) (mem : Mem
   abbrev Finish : Contract 𝓤
   Finish = tripleOf 𝓤 H A finish.signature (finish.spec 𝓤 H A mem run)
 
--- κs, qs and a are the lifetimes of table, places, front, list, evaluated, certificate and order, the shares of their
+-- κs, qs and a are the lifetimes of table, positions, front, list, evaluated, certificate and order, the shares of their
 -- tokens, and the arguments
 module _ {M : Type 1} (𝓤 : URA M) (H : Heap 𝓤) (A : Atoms 𝓤) (W : Given 𝓤 H A) (mem : Memory → SProp 𝓤)
     (run : Routine → Fun 𝓤) (κs : Lfts 7) (qs : Shares 7) (a : Args fn.signature κs) where
@@ -190,8 +190,8 @@ module _ {M : Type 1} (𝓤 : URA M) (H : Heap 𝓤) (A : Atoms 𝓤) (W : Given
   abbrev Table : Fml
   Table = ShrSlice (named 0) (κs .0) u8 .own tb (slice-vals tb)
 
-  abbrev Places : List ℕ → Fml
-  Places ys = MutSlice (named 1) (κs .1 .0) u32 .own (at-last fm ys) (slice-vals fm)
+  abbrev Positions : List ℕ → Fml
+  Positions ys = MutSlice (named 1) (κs .1 .0) u32 .own (at-last fm ys) (slice-vals fm)
 
   abbrev Front : Fml
   Front = MutSlice (named 2) (κs .1 .1 .0) u32 .own fr (slice-vals fr)
@@ -271,15 +271,15 @@ module _ {M : Type 1} (𝓤 : URA M) (H : Heap 𝓤) (A : Atoms 𝓤) (W : Given
   )
 
   -- from what is had at exit to the `post` of `walkOf`
-  exits : (r : Answer) (F ws : List ℕ) (es : List State) (ms ps ns : List ℕ) → Is B.the-row r (vB .val r ∷ [])
+  exits : (r : SssAnswer) (F ws : List ℕ) (es : List State) (ms ps ns : List ℕ) → Is B.the-row r (vB .val r ∷ [])
       → length F ≡ length (fm .now) → length es ≡ length (ls .now) → length ms ≡ length (vs .now)
       → length ps ≡ length (cs .now) → length ns ≡ length (od .now)
       → record { list = es; order = ns; search = record { answer = r; evaluated = ms; certificate = ps } }
       ≡ sssOutcome allowance (tb .now) (ls .now) (vs .now) (cs .now) (od .now)
-      → ent 𝓤 (⋆ 𝓤 H A (‵ (LastFront ws) ∷ ‵ (Places F) ∷ ‵ (Entries es) ∷ ‵ (Marks ms) ∷ ‵ (Flags ps) ∷ ‵ (Order ns)
+      → ent 𝓤 (⋆ 𝓤 H A (‵ (LastFront ws) ∷ ‵ (Positions F) ∷ ‵ (Entries es) ∷ ‵ (Marks ms) ∷ ‵ (Flags ps) ∷ ‵ (Order ns)
       ∷ ‵ tokT ∷ ‵ tokF ∷ ‵ tokW ∷ ‵ tokL ∷ ‵ tokV ∷ ‵ tokC ∷ ‵ tokO ∷ [])) (Post (vB .val r))
   exits r F ws es ms ps ns is ef el ev ec eo e =
-      qed W (‵ (LastFront ws) ∷ ‵ (Places F) ∷ ‵ (Entries es) ∷ ‵ (Marks ms) ∷ ‵ (Flags ps) ∷ ‵ (Order ns) ∷ ‵ tokT
+      qed W (‵ (LastFront ws) ∷ ‵ (Positions F) ∷ ‵ (Entries es) ∷ ‵ (Marks ms) ∷ ‵ (Flags ps) ∷ ‵ (Order ns) ∷ ‵ tokT
       ∷ ‵ tokF ∷ ‵ tokW ∷ ‵ tokL ∷ ‵ tokV ∷ ‵ tokC ∷ ‵ tokO ∷ []) ∵
       fsplit ! $ move ! (1 ∷ []) $ feqL ! (λ ew.
       suffices ! _ (ends-at 𝓤 H A fn.ended stayed (fn.clauses 𝓤 H A mem run) W bound (vB .val r) r
@@ -307,7 +307,7 @@ module _ {M : Type 1} (𝓤 : URA M) (H : Heap 𝓤) (A : Atoms 𝓤) (W : Given
         ∷ sliceVal (od .ptr) (length (od .now)) ∷ vint w64 allowance ∷ []) Post)
     walk =
         via 𝓤 _ (entry-out 𝓤 H A fn.signature κs qs a at) ∵
-        qed W (‵ tokT ∷ ‵ tokF ∷ ‵ tokW ∷ ‵ tokL ∷ ‵ tokV ∷ ‵ tokC ∷ ‵ tokO ∷ ‵ Table ∷ ‵ (Places (fm .now)) ∷ ‵ Front
+        qed W (‵ tokT ∷ ‵ tokF ∷ ‵ tokW ∷ ‵ tokL ∷ ‵ tokV ∷ ‵ tokC ∷ ‵ tokO ∷ ‵ Table ∷ ‵ (Positions (fm .now)) ∷ ‵ Front
         ∷ ‵ (Entries (ls .now)) ∷ ‵ (Marks (vs .now)) ∷ ‵ (Flags (cs .now)) ∷ ‵ (Order (od .now))
         ∷ ‵ (usize .own allowance (vint w64 allowance ∷ [])) ∷ []) ∵
         enter ! (𝓣 .C) (𝓣 .Λ) code.function _ _ $
@@ -333,15 +333,15 @@ module _ {M : Type 1} (𝓤 : URA M) (H : Heap 𝓤) (A : Atoms 𝓤) (W : Given
         sets ! (agg ! (and-then ! (held ! (pos 0 12) refl) (and-then ! (held ! (pos 0 13) refl)
         (and-then ! (held ! (pos 0 14) refl) (no-more !)))))
         (init ! (pos 0 9) refl (vZ .typed sizes sized .0)) $
-        -- checked = start(sizes, table, places, evaluated)
+        -- checked = start(sizes, table, positions, evaluated)
         reborrows ! (pos 0 2) (pos 0 15) (pos 0 16) (gf .0) (refl, refl, refl) (refl, refl) (refl, refl, refl) $
         reborrows ! (pos 0 5) (pos 0 17) (pos 0 18) (gv .0) (refl, refl, refl) (refl, refl) (refl, refl, refl) $
-        -- [the locals; 72 ‥ 78: the tokens; the table; the places; the front; the list; the marks; the certificate; the
+        -- [the locals; 72 ‥ 78: the tokens; the table; the positions; the front; the list; the marks; the certificate; the
         -- order; the allowance]
         move ! (85 ∷ 78 ∷ []) $ opens u16 od (named 6) ! tt $ move ! (85 ∷ 79 ∷ []) $ opens u8 cs (named 5) ! tt $
         move ! (85 ∷ 80 ∷ []) $ opens u8 vs (named 4) ! tt $ move ! (85 ∷ 81 ∷ []) $ opens R ls (named 3) ! tt $
         move ! (84 ∷ 81 ∷ []) $ opens u32 fm (named 1) ! tt $
-        -- [the places, the list, the marks, the certificate and the order, each with what is open; the locals; 82:
+        -- [the positions, the list, the marks, the certificate and the order, each with what is open; the locals; 82:
         -- tokT; tokW; the table; the front; the allowance]
         lends-row u32 (fm .ptr) ! tt (named 1) (fm .now) refl gf (λ ν₁ δ₁. move ! (6 ∷ []) $
         lends-row u8 (vs .ptr) ! tt (named 2) (vs .now) refl gv (λ ν₂ δ₂. move ! (88 ∷ []) $
@@ -353,10 +353,10 @@ module _ {M : Type 1} (𝓤 : URA M) (H : Heap 𝓤) (A : Atoms 𝓤) (W : Given
         (fmOf 𝓤 H (W .laws) 𝓣) starts (factI 𝓤 _ (emp 𝓤) (λ wf. work wf .0))
         (and-then ! (held ! (pos 12 9) refl) (and-then ! (held ! (pos 12 1) refl) (and-then ! (held ! (pos 12 16) refl)
         (and-then ! (held ! (pos 12 18) refl) (no-more !))))) (λ checked (_, (_, (F, (ms, _)))) checked-is started.
-        -- [tokT; ν₁; ν₂; the last places; the last marks; the table; two lenders' parts; …]
+        -- [tokT; ν₁; ν₂; the last positions; the last marks; the table; two lenders' parts; …]
         move ! (3 ∷ 1 ∷ 7 ∷ []) $ row-back u32 (fm .ptr) ! tt ν₁ δ₁ F (λ eF. move ! (3 ∷ 2 ∷ 5 ∷ []) $
         row-back u8 (vs .ptr) ! tt ν₂ δ₂ ms (λ em.
-        -- [the marks; the places; tokT; the table; one that is open; the list; two that are open; the certificate and
+        -- [the marks; the positions; tokT; the table; one that is open; the list; two that are open; the certificate and
         -- the order, each with what is open; the locals; tokW; the front]
         land ! (from ! (stop !)) (init ! (pos 12 10) refl (vQ .typed checked checked-is .0)) $
         -- begun(checked, allowance)
@@ -366,7 +366,7 @@ module _ {M : Type 1} (𝓤 : URA M) (H : Heap 𝓤) (A : Atoms 𝓤) (W : Given
         (λ r ws. refl) (fmOf 𝓤 H (W .laws) 𝓣) begins (id⊢ 𝓤 (emp 𝓤))
         (and-then ! (held ! (pos 13 10) refl) (and-then ! (held ! (pos 13 8) refl) (no-more !)))
         (λ begun _ begun-is begun-so. land ! (from ! (stop !)) (init ! (pos 12 19) refl (vN .typed begun begun-is .0)) $
-        -- ended = drive(begun, table, places, front, list, evaluated, order)
+        -- ended = drive(begun, table, positions, front, list, evaluated, order)
         reborrows ! (pos 12 2) (pos 12 20) (pos 12 21) (gf .0) (refl, refl, refl) (refl, refl) (refl, refl, refl) $
         reborrows ! (pos 12 3) (pos 12 22) (pos 12 23) (gw .0) (refl, refl, refl) (refl, refl) (refl, refl, refl) $
         reborrows ! (pos 12 4) (pos 12 24) (pos 12 25) (gl .0) (refl, refl, refl) (refl, refl) (refl, refl, refl) $
@@ -392,7 +392,7 @@ module _ {M : Type 1} (𝓤 : URA M) (H : Heap 𝓤) (A : Atoms 𝓤) (W : Given
         (and-then ! (held ! (pos 12 29) refl) (no-more !))))))))
         (λ ended (_, (_, (_, (ws, (es, (ms′, (ns, _))))))) ended-is driven.
         -- [tokT; ν₃; tokW; ν₄; ν₅; ν₈; the last front, list, marks and order; the table; the lenders' parts of the
-        -- order, the marks, the list and the places; three that are open; the certificate; its open; the order's
+        -- order, the marks, the list and the positions; three that are open; the certificate; its open; the order's
         -- open; the locals]
         move ! (1 ∷ 14 ∷ []) $ share-back u32 (fm .ptr) ! tt ν₃ F $ move ! (0 ∷ 14 ∷ []) $
         move ! (8 ∷ 4 ∷ 14 ∷ []) $
@@ -400,10 +400,10 @@ module _ {M : Type 1} (𝓤 : URA M) (H : Heap 𝓤) (A : Atoms 𝓤) (W : Given
         row-back u8 (vs .ptr) ! tt ν₅ δ₅ ms′ (λ em′. move ! (8 ∷ 6 ∷ 10 ∷ []) $
         row-back u16 (od .ptr) ! tt ν₈ δ₈ ns (λ eo. move ! (0 ∷ 13 ∷ []) $
         shuts u16 od (named 6) ! tt go ns eo $ move ! (2 ∷ []) $
-        -- [the marks; the order; tokO; the list; the places; their open; tokT; tokW; the last front; the table; two
+        -- [the marks; the order; tokO; the list; the positions; their open; tokT; tokW; the last front; the table; two
         -- that are open; the certificate; its open; the locals]
         land ! (from ! (stop !)) (init ! (pos 14 11) refl (vN .typed ended ended-is .0)) $
-        -- finish(checked, ended, table, places, evaluated, certificate)
+        -- finish(checked, ended, table, positions, evaluated, certificate)
         reborrows ! (pos 14 2) (pos 14 30) (pos 14 31) (gf .0) (refl, refl, refl) (refl, refl) (refl, refl, refl) $
         reborrows ! (pos 14 5) (pos 14 32) (pos 14 33) (gv .0) (refl, refl, refl) (refl, refl) (refl, refl, refl) $
         reborrows ! (pos 14 6) (pos 14 34) (pos 14 35) (gc .0) (refl, refl, refl) (refl, refl) (refl, refl, refl) $
@@ -423,16 +423,16 @@ module _ {M : Type 1} (𝓤 : URA M) (H : Heap 𝓤) (A : Atoms 𝓤) (W : Given
         (and-then ! (held ! (pos 13 35) refl) (no-more !)))))))
         (λ r (_, (_, (_, (_, (ms″, (ps, _)))))) r-is finished.
         -- [tokT; ν₉; ν₆; ν₇; the last marks; the last certificate; three lenders' parts; the order; tokO; the list; the
-        -- places' open; tokW; the last front; three that are open; the locals]
+        -- positions' open; tokW; the last front; three that are open; the locals]
         move ! (1 ∷ 7 ∷ []) $ share-back u32 (fm .ptr) ! tt ν₉ F $ move ! (0 ∷ 11 ∷ []) $
         shuts u32 fm (named 1) ! tt gf F eF $ move ! (2 ∷ 3 ∷ 4 ∷ 5 ∷ 6 ∷ 7 ∷ 8 ∷ 9 ∷ 10 ∷ 11 ∷ []) $
         -- [tokT; ν₆; ν₇; the last marks; the last certificate; two lenders' parts; the order; tokO; the list; the
-        -- places; tokF; tokW; the last front; three that are open; the locals]
+        -- positions; tokF; tokW; the last front; three that are open; the locals]
         move ! (3 ∷ 1 ∷ 6 ∷ []) $ row-back u8 (vs .ptr) ! tt ν₆ δ₆ ms″ (λ em″. move ! (0 ∷ 13 ∷ []) $
         shuts u8 vs (named 4) ! tt gv ms″ (em″ ∙ em′ ∙ em) $ move ! (4 ∷ 3 ∷ 5 ∷ []) $
         row-back u8 (cs .ptr) ! tt ν₇ δ₇ ps (λ ep. move ! (0 ∷ 12 ∷ []) $ shuts u8 cs (named 5) ! tt gc ps ep $
         move ! (7 ∷ 12 ∷ []) $ shuts R ls (named 3) ! tt gl es ee $
-        -- [the list; tokL; the certificate; tokC; the marks; tokV; tokT; the order; tokO; the places; tokF; tokW; the
+        -- [the list; tokL; the certificate; tokC; the marks; tokV; tokT; the order; tokO; the positions; tokF; tokW; the
         -- last front; the locals]
         land ! (from ! (stop !)) (init ! (pos 13 0) refl (vB .typed r r-is .0)) $ returns ! (look ! (pos 13 0) refl) $
         frees ! 13 (full (full (full (full (full (full (full (full (full (full (full (full (full (full (full (full

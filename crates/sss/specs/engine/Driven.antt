@@ -9,7 +9,7 @@ use Rattle.frames.specs.Formed.{WellFormed}
 use Rattle.states.specs.declared.State.{State}
 use Rattle.states.specs.Entry.{blank}
 use Rattle.turns.specs.declared.Run.{Run}
-use Rattle.places.specs.engine.Places.{Placed}
+use Rattle.positions.specs.engine.Positions.{Positioned}
 use Rattle.turns.specs.engine.Update.{updated, Within}
 use Rattle.turns.specs.engine.Turn.{going, Config}
 use Rattle.sss.specs.engine.Invariant.{Running}
@@ -19,7 +19,7 @@ use Rattle.sss.specs.engine.Invariant.{Running}
 pub record Prepared (t F w : List ℕ) (l : List State) (b o : List ℕ) (r : Run) : Type 0 where
   pub within : Within (r .update) (length l)
   pub formed : going (r .stage) ≡ true → WellFormed t
-  pub places : going (r .stage) ≡ true → Placed t F
+  pub positions : going (r .stage) ≡ true → Positioned t F
   pub running : going (r .stage) ≡ true → Running (r .counts .allowance) t l b o (record {
     front = w;
     list = updated (r .update) l;

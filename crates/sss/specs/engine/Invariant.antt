@@ -9,13 +9,13 @@ use Rattle.gametree.specs.Layout.{layoutOf}
 use Rattle.gametree.specs.Sss as theory
 use Rattle.frames.specs.Frame.{frames}
 use Rattle.frames.specs.Tree.{tree, valuation}
-use Rattle.places.specs.Buffer.{written}
+use Rattle.positions.specs.Buffer.{written}
 use Rattle.bounds.specs.Marks.{ones}
 use Rattle.bounds.specs.engine.Progress.{progress, evaluateAll}
 use Rattle.states.specs.declared.State.{State}
 use Rattle.states.specs.Entry.{blank}
 use Rattle.gametree.specs.engine.Within.{sssWithin}
-use Rattle.states.specs.engine.Shown.{Found}
+use Rattle.states.specs.engine.Shown.{BestFound}
 use Rattle.states.specs.engine.Kept.{arraysOf, Sound}
 use Rattle.turns.specs.declared.Stage.{Stage}
 use Rattle.turns.specs.declared.Stage.the-variants.{Going, Finished, Spent}
@@ -32,20 +32,20 @@ Reaches t k v L = theory.ListAfter (valuation t) (layoutOf (tree t)) (tree t) k 
 -- the list ls and the front w show a list that SSS* reaches, and node i is the one to take, with merit γ
 pub record Keeps (t : List ℕ) (ls : List State) (w : List ℕ) (γ i k : ℕ) (v : List ℕ) : Type 0 where
   pub states : List theory.State
-  pub found : Found (arraysOf ls w) (tree t) γ states i
+  pub found : BestFound (arraysOf ls w) (tree t) γ states i
   pub reaches : Reaches t k v states
 
 -- a run that goes on: node i is to be taken, with the merit that its entry says
 pub record GoesOn (t : List ℕ) (ls : List State) (w : List ℕ) (i k : ℕ) (v : List ℕ) : Type 0 where
   pub merit : ℕ
-  pub few : merit ≤ greatest
+  pub atMost : merit ≤ greatest
   pub keeps : Keeps t ls w merit i k v
 
 -- the run within an allowance of a leaves has ended so with the merit γ, after k replacements that evaluated the leaves
 -- v, and its entries of ls are blank
 pub record Over (a : ℕ) (t : List ℕ) (ls : List State) (end : ℕ → theory.End) (γ k : ℕ) (v : List ℕ) : Type 0 where
   pub ended : sssRun a t ≡ record { end = end γ; evaluated = v; replacements = k }
-  pub few : γ ≤ greatest
+  pub atMost : γ ≤ greatest
   pub blank-all : ls ≡ replicate (frames t) blank ++ drop (frames t) ls
 
 -- what holds of a run at each stage

@@ -1,4 +1,4 @@
--- What a search starts with: its questions, and the run, the places and the marks that follow from the answers.
+-- What a search starts with: its questions, and the run, the positions and the marks that follow from the answers.
 use Prim.Native.Nat.{ℕ, _≤_}
 use mathlib.Core.Path.{_≡_}
 use mathlib.Core.Option.{Option, none, some}
@@ -11,7 +11,7 @@ use Rattle.frames.specs.declared.Checked.the-variants.{Nodes, Rejected}
 use Rattle.frames.specs.Frame.{frames}
 use Rattle.frames.specs.Formed.{WellFormed}
 use Rattle.frames.specs.Rejection.{answer}
-use Rattle.places.specs.Buffer.{written}
+use Rattle.positions.specs.Buffer.{written}
 use Rattle.certificate.specs.Search.{searchRejection}
 use Rattle.states.specs.declared.Status.the-variants.{Live}
 use Rattle.turns.specs.declared.Counts.{Counts}
@@ -19,7 +19,7 @@ use Rattle.sss.specs.declared.Sizes.{Sizes}
 use Rattle.turns.specs.declared.Stage.{Stage}
 use Rattle.turns.specs.declared.Stage.the-variants.{Going, Finished}
 use Rattle.turns.specs.declared.Run.{Run}
-use Rattle.places.specs.engine.Places.{placeEntry}
+use Rattle.positions.specs.engine.Positions.{positionEntry}
 use Rattle.states.specs.engine.Kept.{Sound}
 use Rattle.turns.specs.engine.Update.{ofChange}
 
@@ -27,7 +27,7 @@ use Rattle.turns.specs.engine.Update.{ofChange}
 abbrev pub startRejection : List ℕ → Sizes → List ℕ → Option Rejection
 startRejection t n b = searchRejection t (n .entries ∷ length b ∷ n .flags ∷ n .order ∷ [])
 
--- what a search asks of its work arrays, if the table is well formed: room for the places, and a sound front
+-- what a search asks of its work arrays, if the table is well formed: room for the positions, and a sound front
 abbrev pub Workable : (t F w : List ℕ) → Type 0
 Workable t F w = WellFormed t → (frames t ≤ length F) × Sound t w
 
@@ -50,17 +50,17 @@ abbrev pub begun : (a : ℕ) → Checked → Run
 begun a (Nodes n) = beginning a Going 1
 begun a (Rejected r) = beginning a (Finished greatest) 0
 
--- the places F and the marks b after the questions
-abbrev pub placesAfter : (t F : List ℕ) → Option Rejection → List ℕ
-placesAfter t F none = written (placeEntry t) (frames t) F
-placesAfter t F (some r) = F
+-- the positions F and the marks b after the questions
+abbrev pub positionsAfter : (t F : List ℕ) → Option Rejection → List ℕ
+positionsAfter t F none = written (positionEntry t) (frames t) F
+positionsAfter t F (some r) = F
 
 abbrev pub marksAfter : (t b : List ℕ) → Option Rejection → List ℕ
 marksAfter t b none = written (λ k. 0) (frames t) b
 marksAfter t b (some r) = b
 
--- what a start with the places F and the marks b gives, and leaves in F′ and b′
+-- what a start with the positions F and the marks b gives, and leaves in F′ and b′
 pub record Started (t : List ℕ) (n : Sizes) (F b : List ℕ) (q : Checked) (F′ b′ : List ℕ) : Type 0 where
   pub checked : q ≡ answer (frames t) (startRejection t n b)
-  pub places : F′ ≡ placesAfter t F (startRejection t n b)
+  pub positions : F′ ≡ positionsAfter t F (startRejection t n b)
   pub marks : b′ ≡ marksAfter t b (startRejection t n b)

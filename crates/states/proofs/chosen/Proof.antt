@@ -1,10 +1,10 @@
 -- `states::chosen` meets its contract: by the node's children and its side.
 use native.Mathlib.Omega.{arith}
 use mathlib.Core.Path.{_≡_, sym, _∙_}
-use Rattle.frames.specs.Place.{sideOf}
+use Rattle.frames.specs.Position.{sideOf}
 use Rattle.gametree.specs.declared.Side.the-variants.{Max, Min}
 use Rattle.frames.proofs.Next.{children-within}
-use Rattle.places.proofs.Places.{placed-side}
+use Rattle.positions.proofs.Positions.{positioned-side}
 use Rattle.states.proofs.Risings.{chosen-none, chosen-some}
 use borrow.Author.Needs.{needs}
 use Rattle.states.proofs.chosen.Statement.{statement}
@@ -16,7 +16,7 @@ start c = c .before .before .before .before .before .before
 
 -- the side that is read is the node's
 side : (c : tie.After-side-at) → c .side-at .result ≡ sideOf (start c .args .table .now) (start c .args .node)
-side c = c .side-at .ensures ∙ placed-side _ _ (start c .pre .0 .places) _ (start c .pre .1)
+side c = c .side-at .ensures ∙ positioned-side _ _ (start c .pre .0 .positions) _ (start c .pre .1)
 
 returns : tie.Need-returns
 returns c =
@@ -32,7 +32,7 @@ leftmost-best-requires c κs =
     let z = c .before .before .before .before .if1 .left in
     let w = children-within _ (h .formed) (a .args .node) (a .pre .1) (omega (arith, n .ensures .0)) in
     let e = c .first-child .ensures .0 in
-    (omega arith, omega (arith, n .ensures .0, e, h .sound .room), omega (arith, h .sound .few))
+    (omega arith, omega (arith, n .ensures .0, e, h .sound .room), omega (arith, h .sound .atMost))
 
 returns-2 : tie.Need-returns-2
 returns-2 c =

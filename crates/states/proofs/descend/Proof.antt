@@ -8,10 +8,10 @@ use Rattle.states.proofs.descend.Statement.{statement}
 use Rattle.states.proofs.descend.Tie as tie
 
 abbrev Inv-loop : tie.InvT-loop
-Inv-loop table places front node at₀ link₀ at link = Descending table places front node at link
+Inv-loop table positions front node at₀ link₀ at link = Descending table positions front node at link
 
 abbrev μ-loop : tie.MeasureT-loop
-μ-loop table places front node at₀ link₀ at link = frames table - at
+μ-loop table positions front node at₀ link₀ at link = frames table - at
 
 link-at-requires : tie.Need-link-at-requires Inv-loop μ-loop
 link-at-requires c κs = let a = c .before .before .before in omega (arith, a .pre .0 .sound .room, a .pre .1)

@@ -8,7 +8,7 @@ use mathlib.Core.List.{List, [], _∷_, _++_}
 use Rattle.lists.specs.Lists.{All}
 use Rattle.gametree.specs.declared.Side.{Side}
 use Rattle.gametree.specs.declared.Side.the-variants.{Max, Min}
-use Rattle.gametree.specs.Tree.{Tree, inner, Kids, last, _then_, number}
+use Rattle.gametree.specs.Tree.{Tree, inner, Children, last, _then_, number}
 use Rattle.gametree.specs.Sss.{Status, State}
 
 -- the arrays: what the entry of a node says of its status and merit, the links, and the greatest merits
@@ -50,34 +50,34 @@ module _ (a : Arrays) where
     -- its brothers'
     pub data Shows : Tree → List State → Type 0 where
       listed : {t : Tree} {L : List State} → Listed (number t) L → Shows t L
-      expanded : {n : ℕ} {q : Side} {ks : Kids} {u : Tree} {L : List State} (F M G : List State)
+      expanded : {n : ℕ} {q : Side} {ks : Children} {u : Tree} {L : List State} (F M G : List State)
           → Leads n u → Shows u M → Beside q (a .best n) ks u F G → L ≡ F ++ (M ++ G) → Shows (inner n q ks) L
 
     -- some brothers of that child, with greatest merits below m, show the states L: below a Min node they have none
-    pub data Brothers : Side → ℕ → Kids → List State → Type 0 where
-      none : {m : ℕ} {ks : Kids} → Brothers Min m ks []
-      one : {t : Tree} {L : List State} (m : ℕ) → Shows t L → a .best (number t) < m → Brothers Max m (last t) L
-      more : {t : Tree} {ts : Kids} {L : List State} (m : ℕ) (F G : List State) → Shows t F → a .best (number t) < m
-          → Brothers Max m ts G → L ≡ F ++ G → Brothers Max m (t then ts) L
+    pub data Siblings : Side → ℕ → Children → List State → Type 0 where
+      none : {m : ℕ} {ks : Children} → Siblings Min m ks []
+      one : {t : Tree} {L : List State} (m : ℕ) → Shows t L → a .best (number t) < m → Siblings Max m (last t) L
+      more : {t : Tree} {ts : Children} {L : List State} (m : ℕ) (F G : List State) → Shows t F → a .best (number t) < m
+          → Siblings Max m ts G → L ≡ F ++ G → Siblings Max m (t then ts) L
 
     -- u is one of the children: its elder brothers show the states F, with merits below m, the younger ones G, with
     -- merits of at most m
-    pub data Beside : Side → ℕ → Kids → Tree → List State → List State → Type 0 where
+    pub data Beside : Side → ℕ → Children → Tree → List State → List State → Type 0 where
       only : {q : Side} {m : ℕ} {u : Tree} → Beside q m (last u) u [] []
-      first : {q : Side} {m : ℕ} {u : Tree} {ts : Kids} {G : List State} → Brothers q (m + 1) ts G
+      first : {q : Side} {m : ℕ} {u : Tree} {ts : Children} {G : List State} → Siblings q (m + 1) ts G
           → Beside q m (u then ts) u [] G
-      later : {q : Side} {m : ℕ} {t u : Tree} {ts : Kids} {F G : List State} (F₁ F₂ : List State)
-          → Brothers q m (last t) F₁ → Beside q m ts u F₂ G → F ≡ F₁ ++ F₂ → Beside q m (t then ts) u F G
+      later : {q : Side} {m : ℕ} {t u : Tree} {ts : Children} {F G : List State} (F₁ F₂ : List State)
+          → Siblings q m (last t) F₁ → Beside q m ts u F₂ G → F ≡ F₁ ++ F₂ → Beside q m (t then ts) u F G
 
   -- the links lead from r down to u, and m is the greatest merit all the way; before the states below u stand A, with
   -- merits below m, and behind them B, with merits of at most m
   pub data Around (r : Tree) (m : ℕ) : Tree → List State → List State → Type 0 where
     top : Around r m r [] []
-    child : {n : ℕ} {q : Side} {ks : Kids} {u : Tree} {X Z A B : List State} (F G : List State)
+    child : {n : ℕ} {q : Side} {ks : Children} {u : Tree} {X Z A B : List State} (F G : List State)
         → Around r m (inner n q ks) X Z → Beside q m ks u F G → Above m n u → A ≡ X ++ F → B ≡ G ++ Z → Around r m u A B
 
   -- node c is the leftmost of greatest merit m on the list L
-  pub record Found (r : Tree) (m : ℕ) (L : List State) (c : ℕ) : Type 0 where
+  pub record BestFound (r : Tree) (m : ℕ) (L : List State) (c : ℕ) : Type 0 where
     pub tree : Tree
     pub number-is : number tree ≡ c
     pub status : Status

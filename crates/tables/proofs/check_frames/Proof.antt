@@ -42,7 +42,7 @@ module _ (t : List ℕ) where
 
     -- which a well-formed table is asked
     formed : m ≡ n → frames t ≤ maxNodes → WellFormed t
-    formed h few = stated-formed t few (all-stated t (told .0)) (sym (told .1) ∙ h ∙ p)
+    formed h atMost = stated-formed t atMost (all-stated t (told .0)) (sym (told .1) ∙ h ∙ p)
 
 returns : tie.Need-returns
 returns c =

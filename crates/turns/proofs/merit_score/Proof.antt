@@ -12,7 +12,7 @@ add-result c = sum-fits (c .before .before .args .entry .merit) (c .before .befo
 cast-result : tie.Need-cast-result
 cast-result c =
     let s = c .before .before in
-    rw (sum-is (s .args .entry .merit) (s .pre)) (tt, record { fits = omega (arith, s .pre .few) })
+    rw (sum-is (s .args .entry .merit) (s .pre)) (tt, record { fits = omega (arith, s .pre .atMost) })
 
 returns : tie.Need-returns
 returns c = ap natAbs (sum-is (c .before .before .args .entry .merit) (c .before .before .pre))

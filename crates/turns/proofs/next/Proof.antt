@@ -2,7 +2,7 @@
 use mathlib.Core.Path.{_≡_, sym, _∙_}
 use mathlib.Core.Bool.{false}
 use Rattle.turns.specs.engine.Turn.{isSolvedRoot}
-use Rattle.turns.proofs.Places.{state-place}
+use Rattle.turns.proofs.Puts.{state-put}
 use Rattle.turns.proofs.Taking.{not-root, ended-is, stepped-is}
 use borrow.Author.Needs.{needs}
 use Rattle.turns.proofs.next.Statement.{statement}
@@ -51,12 +51,12 @@ of-state-requires c κs =
     let p = at-start (o .before) .pre in
     record {
       formed = p .fits .formed;
-      places = p .fits .places;
+      positions = p .fits .positions;
       marks = p .marks;
       node = p .node;
       lower = not-root _ _ (other o);
       unmarked = p .unmarked;
-      merit = rw (o .before .before .merit-score .ensures) (p .merit .few);
+      merit = rw (o .before .before .merit-score .ensures) (p .merit .atMost);
       listable = p .listable;
     }
 
@@ -70,7 +70,7 @@ replacing-requires c κs =
     let a = at-start (o .before) .args in
     let p = at-start (o .before) .pre in
     rw (s .of-state .ensures .0, o .before .before .merit-score .ensures)
-    (state-place _ _ _ _ (p .fits) (p .merit .few) _ (a .entry .status) (p .node)
+    (state-put _ _ _ _ (p .fits) (p .merit .atMost) _ (a .entry .status) (p .node)
     (not-root (a .entry .status) _ (other o)))
 
 same-length : tie.Need-same-length

@@ -13,4 +13,4 @@ scoreOf (negsuc n) = zeroScore - suc n
 -- a value from -32,001 to 32,001
 pub record IsMerit (value : ℤ) : Type 0 where
   pub same : value ≡ valueOf (scoreOf value)
-  pub few : scoreOf value ≤ greatest
+  pub atMost : scoreOf value ≤ greatest

@@ -13,7 +13,7 @@ use Rattle.states.specs.declared.Status.{Status}
 use Rattle.states.specs.declared.Status.the-variants.{Live, Solved}
 use Rattle.states.specs.declared.State.{State}
 use Rattle.turns.specs.declared.Run.{Run}
-use Rattle.places.specs.engine.Places.{Placed}
+use Rattle.positions.specs.engine.Positions.{Positioned}
 use Rattle.states.specs.engine.Kept.{Fits}
 use Rattle.turns.specs.engine.Merit.{IsMerit}
 
@@ -24,7 +24,7 @@ LeafUnmarked t b s i = s ≡ Live → childCount t i ≡ 0 → marked b i ≡ fa
 -- what the rules ask of a state that is not the SOLVED root
 pub record Replaceable (t F : List ℕ) (p : Progress) (e : State) (γ : ℕ) : Type 0 where
   pub formed : WellFormed t
-  pub places : Placed t F
+  pub positions : Positioned t F
   pub marks : frames t ≤ length (p .marks)
   pub node : e .node < frames t
   pub lower : e .status ≡ Solved → 0 < e .node
@@ -39,5 +39,5 @@ pub record Takeable (t F w b o : List ℕ) (r : Run) (e : State) : Type 0 where
   pub node : e .node < frames t
   pub unmarked : LeafUnmarked t b (e .status) (e .node)
   pub merit : IsMerit (e .merit)
-  pub few : r .counts .replacements < 2 * maxNodes
+  pub atMost : r .counts .replacements < 2 * maxNodes
   pub listable : Listable t (progress (r .counts .leaves) b o)

@@ -6,7 +6,7 @@ use lib.Dec.{ltb}
 use Rattle.gametree.specs.declared.Side.{Side}
 use Rattle.gametree.specs.declared.Side.the-variants.{Max, Min}
 use Rattle.frames.specs.Frame.{firstChild, childCount}
-use Rattle.frames.specs.Place.{parentOf, sideOf}
+use Rattle.frames.specs.Position.{parentOf, sideOf}
 use Rattle.frames.specs.Tree.{valuation}
 use Rattle.states.specs.declared.Status.{Status}
 use Rattle.states.specs.declared.Status.the-variants.{Live, Solved}

@@ -23,7 +23,7 @@ updated u ls = stored (entryIn (u .content)) (u .first) (u .count) ls
 -- the entries are among the first n, and of nodes that a tree may have
 pub record Within (u : Update) (n : ℕ) : Type 0 where
   pub room : u .first + u .count ≤ n
-  pub few : u .first + u .count ≤ maxNodes
+  pub atMost : u .first + u .count ≤ maxNodes
 
 -- what a change puts on the list
 abbrev pub ofChange : Change → Update

@@ -6,17 +6,17 @@ use mathlib.Core.Bool.{true}
 use borrow.Author.Tests.{not-true, not-false}
 use borrow.Author.Needs.{needs}
 use Rattle.frames.specs.declared.Checked.the-variants.{Nodes}
-use Rattle.places.proofs.Places.{placed-side}
+use Rattle.positions.proofs.Positions.{positioned-side}
 use Rattle.verify.specs.Flags.{ruleHolds}
 use Rattle.verify.proofs.Ruling.{Ruling, ruling-none, ruling-until, ruling-within, ruling-more, ruling-all}
 use Rattle.verify.proofs.check_rules.Statement.{statement}
 use Rattle.verify.proofs.check_rules.Tie as tie
 
 abbrev Inv-loop : tie.InvT-loop
-Inv-loop table flags places side number n node₀ next₀ node next = Ruling side number table flags node next
+Inv-loop table flags positions side number n node₀ next₀ node next = Ruling side number table flags node next
 
 abbrev μ-loop : tie.MeasureT-loop
-μ-loop table flags places side number n node₀ next₀ node next = n - node
+μ-loop table flags positions side number n node₀ next₀ node next = n - node
 
 -- from a turn to the start
 abbrev at-start : tie.At-loop Inv-loop μ-loop → tie.Start Inv-loop μ-loop
@@ -40,7 +40,7 @@ rule-holds-requires c κs =
     let l = c .before in
     let p = at-start l .pre in
     let h = l .loop .inv .inside in
-    (p .0, ((h, p .1), c .side-at .ensures ∙ placed-side _ _ (p .2) _ h))
+    (p .0, ((h, p .1), c .side-at .ensures ∙ positioned-side _ _ (p .2) _ h))
 
 returns : tie.Need-returns Inv-loop μ-loop
 returns c =
@@ -58,7 +58,7 @@ add-next c =
     let l = c .before .before .before .before in
     let w =
     ruling-within _ _ _ _ (at-start l .pre .0) _ _ (l .loop .inv) (holds (c .before)) _ (c .child-count .ensures .0) in
-    omega (arith, at-start l .pre .0 .few)
+    omega (arith, at-start l .pre .0 .atMost)
 
 add-node : tie.Need-add-node Inv-loop μ-loop
 add-node c = omega (arith, c .before .before .before .before .before .loop .inv .inside)

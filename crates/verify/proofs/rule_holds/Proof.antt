@@ -10,7 +10,7 @@ use borrow.Author.Tests.{not-true, not-false}
 use borrow.Author.Needs.{needs}
 use Rattle.gametree.specs.declared.Side.{Side}
 use Rattle.frames.specs.Frame.{firstChild, childCount}
-use Rattle.frames.specs.Place.{sideOf}
+use Rattle.frames.specs.Position.{sideOf}
 use Rattle.frames.proofs.Next.{children-within}
 use Rattle.verify.specs.Flags.{member}
 use Rattle.verify.specs.Flags.{membersFrom, requiredOf, rootMember, ruleHolds}

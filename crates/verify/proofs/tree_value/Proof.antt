@@ -3,17 +3,17 @@ use Prim.Native.Nat.{_-_, _≤_}
 use native.Mathlib.Omega.{arith}
 use mathlib.Core.Path.{_≡_, ap, _∙_}
 use borrow.Author.Needs.{needs}
-use Rattle.places.proofs.Places.{placed-few, placed-depth}
+use Rattle.positions.proofs.Positions.{positioned-few, positioned-depth}
 use Rattle.verify.specs.Value.{bestBefore}
 use Rattle.verify.proofs.Values.{best-more}
 use Rattle.verify.proofs.tree_value.Statement.{statement}
 use Rattle.verify.proofs.tree_value.Tie as tie
 
 abbrev Inv-loop : tie.InvT-loop
-Inv-loop table flags places side n best₀ node₀ best node = (best ≡ bestBefore side table flags node) × (node ≤ n)
+Inv-loop table flags positions side n best₀ node₀ best node = (best ≡ bestBefore side table flags node) × (node ≤ n)
 
 abbrev μ-loop : tie.MeasureT-loop
-μ-loop table flags places side n best₀ node₀ best node = n - node
+μ-loop table flags positions side n best₀ node₀ best node = n - node
 
 loop-holds : tie.Need-loop-holds Inv-loop μ-loop
 unfolding bestBefore
@@ -23,9 +23,9 @@ leaf-in-requires : tie.Need-leaf-in-requires Inv-loop μ-loop
 leaf-in-requires c κs =
     let l = c .before .before in
     let p = l .before .before .before .before .before .before .pre .2 in
-    let d = placed-depth _ _ p (l .loop .node) (omega arith) in
-    let few = placed-few _ _ p (l .loop .node) (omega arith) in
-    (omega arith, (omega (arith, c .depth-at .ensures, d), omega (arith, c .depth-at .ensures, d, few)))
+    let d = positioned-depth _ _ p (l .loop .node) (omega arith) in
+    let atMost = positioned-few _ _ p (l .loop .node) (omega arith) in
+    (omega arith, (omega (arith, c .depth-at .ensures, d), omega (arith, c .depth-at .ensures, d, atMost)))
 
 loop-again : tie.Need-loop-again Inv-loop μ-loop
 loop-again c =

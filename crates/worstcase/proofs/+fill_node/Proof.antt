@@ -1,12 +1,12 @@
 -- `worstcase::fill_node` meets its contract. The number of frames from the node on falls with each call; at the head of
--- the loop stands `Turn`: the turns that are left make of the next rank and the table what is due.
+-- the loop stands `RankLoop`: the turns that are left make of the next rank and the table what is due.
 use Prim.Native.Nat.{ℕ, _-_, _<_}
 use native.Mathlib.Omega.{arith}
 use borrow.Author.Needs.{needs}
 use borrow.Fn.Kinds.{In}
 use borrow.Fn.PlainCycle.{Measures, is, falls, and}
 use Rattle.frames.specs.Frame.{frames}
-use Rattle.worstcase.proofs.Nodes.{Turn, leaf-few, leaf-due, turns-begin, turn-inside, turn-later}
+use Rattle.worstcase.proofs.Nodes.{RankLoop, leaf-few, leaf-due, turns-begin, turn-inside, turn-later}
 use Rattle.worstcase.proofs.Nodes.{turn-fillable, turn-goes-on, turns-end}
 use Rattle.worstcase.proofs.fill_node.Reads as own
 use Rattle.worstcase.proofs.fill_node.Kinds as own-kinds
@@ -14,7 +14,7 @@ use Rattle.worstcase.proofs.+fill_node.Lts-fill_node as lts
 use Rattle.frames.proofs.child_count.Reads as child-count-reads
 use Rattle.frames.proofs.child_side.Reads as child-side-reads
 use Rattle.frames.proofs.first_child.Reads as first-child-reads
-use Rattle.worstcase.proofs.in_turn.Reads as in-turn-reads
+use Rattle.worstcase.proofs.nth_child.Reads as nth-child-reads
 use Rattle.worstcase.proofs.put_rank.Reads as put-rank-reads
 use Rattle.worstcase.proofs.+fill_node.{statement}
 use Rattle.worstcase.proofs.+fill_node.Tie.{close}
@@ -30,7 +30,7 @@ below t = and 1 own-kinds.ps (falls 1 own-kinds.ps _<_ μ t) own.Pre
 
 abbrev Inv : lts.InvT-loop
 Inv table₀ node mover rank count first next₀ turn₀ table next turn =
-    Turn table₀ node mover rank first count table next turn
+    RankLoop table₀ node mover rank first count table next turn
 
 abbrev μ-loop : lts.MeasureT-loop
 μ-loop table₀ node mover rank count first next₀ turn₀ table next turn = count - turn
@@ -43,8 +43,8 @@ calls t = (
   put-rank-reads.Learnt,
   first-child-reads.Asked,
   first-child-reads.Learnt,
-  in-turn-reads.Asked,
-  in-turn-reads.Learnt,
+  nth-child-reads.Asked,
+  nth-child-reads.Learnt,
   child-side-reads.Asked,
   child-side-reads.Learnt,
   below t,
@@ -81,7 +81,7 @@ module _ (t : ℕ) where
   child-side-requires c κs =
       let l = c .before .before .before in
       turn-inside _ _ _ _ (start l .pre .1) _ _ _ _ _ (l .loop .inv) (l .before .first-child .ensures .0)
-      (l .before .before .before .before .child-count .ensures .0) (omega arith) _ (c .before .in-turn .ensures)
+      (l .before .before .before .before .child-count .ensures .0) (omega arith) _ (c .before .nth-child .ensures)
 
   fill-node-requires : lts.Need-fill-node-requires (calls t) (at t) own.Post Inv μ-loop
   fill-node-requires c κs =
@@ -93,9 +93,9 @@ module _ (t : ℕ) where
         omega (
           arith,
           start l .pre .0,
-          turn-later _ _ _ _ a _ _ _ _ _ (l .loop .inv) first count (omega arith) _ (k .in-turn .ensures),
+          turn-later _ _ _ _ a _ _ _ _ _ (l .loop .inv) first count (omega arith) _ (k .nth-child .ensures),
         ),
-        turn-fillable _ _ _ _ a _ _ _ _ _ (l .loop .inv) first count (omega arith) _ (k .in-turn .ensures) _
+        turn-fillable _ _ _ _ a _ _ _ _ _ (l .loop .inv) first count (omega arith) _ (k .nth-child .ensures) _
             (c .before .child-side .ensures),
       )
 
@@ -105,7 +105,7 @@ module _ (t : ℕ) where
       let k = f .before .before .before .before in
       let l = k .before .before in
       turn-goes-on _ _ _ _ (start l .pre .1) _ _ _ _ _ (l .loop .inv) (l .before .first-child .ensures .0)
-      (l .before .before .before .before .child-count .ensures .0) (omega arith) _ (k .in-turn .ensures) _ _
+      (l .before .before .before .before .child-count .ensures .0) (omega arith) _ (k .nth-child .ensures) _ _
       (f .fill-node .ensures .0) (f .fill-node .ensures .1)
 
   returns-2 : lts.Need-returns-2 (calls t) (at t) own.Post Inv μ-loop

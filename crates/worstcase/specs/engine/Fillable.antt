@@ -7,7 +7,7 @@ use Rattle.gametree.specs.declared.Side.{Side}
 use Rattle.gametree.specs.declared.Side.the-variants.{Max, Min}
 use Rattle.gametree.specs.Tree.{leaves}
 use Rattle.frames.specs.Frame.{maxNodes, frames}
-use Rattle.frames.specs.Place.{sideOf}
+use Rattle.frames.specs.Position.{sideOf}
 use Rattle.frames.specs.Tree.{treeAt}
 use Rattle.frames.specs.Formed.{WellFormed}
 
@@ -16,10 +16,10 @@ pub record Fillable (t : List ℕ) (i : ℕ) (s : Side) (r : ℕ) : Type 0 where
   pub formed : WellFormed t
   pub inside : i < frames t
   pub mover : s ≡ sideOf t i
-  pub few : r + length (leaves (treeAt t i)) ≤ maxNodes
+  pub atMost : r + length (leaves (treeAt t i)) ≤ maxNodes
 
 -- the child that gets its ranks in this turn, of n children from number `first` on: from left to right at Max, from
 -- right to left at Min
-abbrev pub inTurn : Side → (first n turn : ℕ) → ℕ
-inTurn Max first n turn = first + turn
-inTurn Min first n turn = first + (n - 1 - turn)
+abbrev pub nthChild : Side → (first n turn : ℕ) → ℕ
+nthChild Max first n turn = first + turn
+nthChild Min first n turn = first + (n - 1 - turn)

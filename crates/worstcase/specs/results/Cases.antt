@@ -3,7 +3,7 @@ use Prim.Native.Nat.{ℕ}
 use mathlib.Core.List.{List, [], _∷_, _++_}
 use Rattle.frames.specs.results.Cases.{leafFrame, innerFrame, againFrame, small, capture, lone, single}
 use Rattle.worstcase.specs.declared.Filled.the-variants.{Leaves, Rejected}
-use Rattle.worstcase.specs.Outcome.{Outcome}
+use Rattle.worstcase.specs.Outcome.{FillResult}
 
 -- Max(Min(Min(a, b))), where Min moves twice
 abbrev pub minTwice : ℕ → ℕ → List ℕ
@@ -22,7 +22,7 @@ largerBlock a b c =
 -- a table, and what the call makes of it
 pub record Case : Type 0 where
   pub table : List ℕ
-  pub outcome : Outcome
+  pub outcome : FillResult
 
 abbrev pub fills : (table : List ℕ) (leaves : ℕ) (filled : List ℕ) → Case
 fills t n u = record { table = t; outcome = record { answer = Leaves n; table = u } }

@@ -3,14 +3,14 @@ use Prim.Native.Nat.{ℕ}
 use Prim.Native.String.{String}
 use mathlib.Core.List.{List, [], _∷_, _++_}
 use Rattle.lines.specs.results.Text.{text}
-use Rattle.writer.specs.Write.{Outcome, writeOutcome}
+use Rattle.writer.specs.Write.{WriteResult, writeOutcome}
 use Rattle.writer.specs.declared.Written.the-variants.{Length, Rejected}
 
 -- a table, the lent buffer, and what the writer answers and leaves there
 pub record Writing : Type 0 where
   pub table : List ℕ
   pub buffer : List ℕ
-  pub outcome : Outcome
+  pub outcome : WriteResult
 
 -- the same as the definitions have it
 abbrev pub performed : Writing → Writing

@@ -140,7 +140,7 @@ module _ {M : Type 1} (𝓤 : URA M) (H : Heap 𝓤) (A : Atoms 𝓤) (W : Given
     content-is = LL.owed U.the-type U′.the-laws u _ is .1 .1 .0
 
     fits : (i : ℕ) → i ≤ end → i < 2 ^ 64
-    fits i l = omega (arith, within .few)
+    fits i l = omega (arith, within .atMost)
 
     module _ (l₀ l₁ l₂ l₃ l₄ l₅ l₆ l₇ l₈ l₉ : ℕ) where
       abbrev En : Env 𝓤 H
@@ -181,7 +181,7 @@ module _ {M : Type 1} (𝓤 : URA M) (H : Heap 𝓤) (A : Atoms 𝓤) (W : Given
             owned ! usize (Is usize) (uint-makes 𝓤 H A W w64) i (vint w64 i ∷ []) (refl, fits i (omega arith)) $
             owned ! C.the-row (Is C.the-row) (vC .makes) (u .content) (vC .val (u .content) ∷ []) content-is $
             called W entry-in.ended (entry-in.clauses 𝓤 H A mem run) (to i) vS (λ r _. r ≡ entryIn (u .content) i)
-            (λ r ws. refl) (fmOf 𝓤 H (W .laws) 𝓣) entry-ins (factI 𝓤 _ (emp 𝓤) (omega (arith, within .few)))
+            (λ r ws. refl) (fmOf 𝓤 H (W .laws) 𝓣) entry-ins (factI 𝓤 _ (emp 𝓤) (omega (arith, within .atMost)))
             (and-then ! (held ! (1 + pos 3) refl) (and-then ! (held ! (1 + pos 4) refl) (no-more !))) (λ r _ ie φ.
             land ! (from ! (stop !)) (init ! (pos 7) refl (vS .typed r ie .0)) $
             sets ! (bin ! (held ! (pos 4) refl) (lit ! tt) (record { fits = f }))

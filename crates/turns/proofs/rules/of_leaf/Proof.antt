@@ -2,7 +2,7 @@
 use native.Mathlib.Omega.{arith}
 use mathlib.Core.Path.{_∙_}
 use Rattle.bounds.proofs.Listing.{one-evaluated}
-use Rattle.places.proofs.Places.{placed-few, placed-depth}
+use Rattle.positions.proofs.Positions.{positioned-few, positioned-depth}
 use borrow.Author.Needs.{needs}
 use Rattle.turns.proofs.rules.of_leaf.Statement.{statement}
 use Rattle.turns.proofs.rules.of_leaf.Tie as tie
@@ -14,14 +14,14 @@ evaluate-next-requires : tie.Need-evaluate-next-requires
 evaluate-next-requires c κs =
     let a = c .before .before .before .before .before .before .before in
     let i = a .pre .1 .0 .0 in
-    let d = c .depth-at .ensures ∙ placed-depth _ _ (a .pre .0) _ i in (
+    let d = c .depth-at .ensures ∙ positioned-depth _ _ (a .pre .0) _ i in (
       record {
         inside = i;
         leaf = a .pre .1 .0 .1;
         room = a .pre .1 .1 .0 .0;
         unmarked = a .pre .1 .1 .0 .1;
         depth = d;
-        shallow = omega (arith, d, placed-few _ _ (a .pre .0) _ i);
+        shallow = omega (arith, d, positioned-few _ _ (a .pre .0) _ i);
       },
       a .pre .1 .1 .1,
     )

@@ -2,12 +2,12 @@
 use native.Mathlib.Omega.{arith}
 use mathlib.Core.Path.{_≡_, sym, ap, ap₂, _∙_}
 use Rattle.frames.specs.Frame.{childCount}
-use Rattle.frames.specs.Place.{sideOf}
+use Rattle.frames.specs.Position.{sideOf}
 use Rattle.frames.proofs.Parents.{parent-child}
 use Rattle.bounds.proofs.Listing.{none-evaluated}
 use Rattle.states.specs.declared.Status.the-variants.{Live}
 use Rattle.turns.specs.engine.Rules.{ofInner, ofChild}
-use Rattle.places.proofs.Places.{placed-parent, placed-side}
+use Rattle.positions.proofs.Positions.{positioned-parent, positioned-side}
 use Rattle.turns.proofs.Taking.{live-inner, inner-none, solved-none}
 use borrow.Author.Needs.{needs}
 use Rattle.turns.proofs.rules.of_state.Statement.{statement}
@@ -28,7 +28,7 @@ of-leaf-requires c κs =
     let p = n .before .before .before .before .before .before .before .before .pre in
     let z = sym (n .child-count .ensures .0) ∙ c .before .before .if1 .taken in
     let m = p .unmarked (n .before .enum-told .given .1) z in
-    (p .places, ((p .node, z, p .merit), ((omega (arith, p .node, p .marks), m), p .listable)))
+    (p .positions, ((p .node, z, p .merit), ((omega (arith, p .node, p .marks), m), p .listable)))
 
 side-at-requires : tie.Need-side-at-requires
 side-at-requires c κs = search needs
@@ -45,16 +45,16 @@ parent-at-requires c κs = search needs
 side-at-requires-2 : tie.Need-side-at-requires-2
 side-at-requires-2 c κs =
     let p = c .before .before .before .before .before .before .before .before .pre in
-    let u = c .parent-at .ensures ∙ placed-parent _ _ (p .places) _ (p .node) in
+    let u = c .parent-at .ensures ∙ positioned-parent _ _ (p .positions) _ (p .node) in
     let h = parent-child _ (p .formed) _ (p .lower (c .before .enum-told2 .given .1)) (p .node) in
-    omega (arith, u, h .0, p .places .room)
+    omega (arith, u, h .0, p .positions .room)
 
 of-child-requires : tie.Need-of-child-requires
 of-child-requires c κs =
     let p = c .before .before .before .before .before .before .before .before .before .pre in
-    let u = c .before .parent-at .ensures ∙ placed-parent _ _ (p .places) _ (p .node) in
+    let u = c .before .parent-at .ensures ∙ positioned-parent _ _ (p .positions) _ (p .node) in
     let h = parent-child _ (p .formed) _ (p .lower (c .before .before .enum-told2 .given .1)) (p .node) in
-    (omega (arith, p .node, p .formed .few), omega (arith, u, h .0))
+    (omega (arith, p .node, p .formed .atMost), omega (arith, u, h .0))
 
 same-length : tie.Need-same-length
 same-length c = search needs
@@ -76,7 +76,7 @@ returns-2 c =
     let a = s .args in
     let p = s .pre in
     let k = n .child-count .ensures .0 in
-    let q = c .before .side-at .ensures ∙ placed-side _ _ (p .places) _ (p .node) in
+    let q = c .before .side-at .ensures ∙ positioned-side _ _ (p .positions) _ (p .node) in
     let z : childCount (a .table .now) (a .entry .node) ≡ 0 → ⊥ = λ e. c .before .before .if1 .left (k ∙ e) in
     rw (n .before .enum-told .given .1, c .of-inner .ensures) (
       ap₂ (λ q k. ofInner (a .table .now) (a .entry .node) (a .merit) q k) q k ∙ live-inner _ _ _ _ _ z,
@@ -89,9 +89,9 @@ returns-3 c =
     let s = n .before .before .before .before .before .before .before in
     let a = s .args in
     let p = s .pre in
-    let u = c .before .before .parent-at .ensures ∙ placed-parent _ _ (p .places) _ (p .node) in
+    let u = c .before .before .parent-at .ensures ∙ positioned-parent _ _ (p .positions) _ (p .node) in
     let h = parent-child _ (p .formed) _ (p .lower (n .enum-told2 .given .1)) (p .node) in
-    let q = c .before .side-at2 .ensures ∙ placed-side _ _ (p .places) _ (rw u (h .0)) in
+    let q = c .before .side-at2 .ensures ∙ positioned-side _ _ (p .positions) _ (rw u (h .0)) in
     rw (n .enum-told2 .given .1, c .of-child .ensures) (
       ap (ofChild (a .table .now) (a .entry .node) (a .merit) _) q
           ∙ ap (λ d. ofChild (a .table .now) (a .entry .node) (a .merit) d (sideOf (a .table .now) d)) u,

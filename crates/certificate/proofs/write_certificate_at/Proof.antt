@@ -1,0 +1,74 @@
+-- `certificate::write_certificate_at` meets its contract: the arrays hold the sides and the bounds, and flags and move follow.
+use native.Mathlib.Omega.{arith}
+use Rattle.bounds.specs.Marks.{marked}
+use Rattle.certificate.proofs.Chosen.{Bounded, bounded, chosen-move}
+use Rattle.certificate.proofs.Flags.{flags-follow}
+use borrow.Author.Needs.{needs}
+use Rattle.certificate.proofs.write_certificate_at.Statement.{statement}
+use Rattle.certificate.proofs.write_certificate_at.Tie as tie
+
+-- from the bounds to the start
+abbrev start : tie.After-fill-bounds → tie.Start
+start c = c .before .before .before .before .before .before .before .before
+
+-- the arrays hold the sides and the bounds
+holds-bounds : (c : tie.After-fill-bounds) → let a = start c .args in
+    Bounded (a .table .now) (marked (a .evaluated .now)) (a .positions .now)
+    (c .fill-bounds .last .1 .1 .1 .0) (c .fill-bounds .last .1 .1 .1 .1 .0)
+holds-bounds c =
+    let e = c .fill-bounds .ensures in
+    bounded _ _ _ _ (start c .pre .0 .1) (e .0) (e .1 .0)
+
+slice-aggregate-fill-bounds : tie.Need-slice-aggregate-fill-bounds
+slice-aggregate-fill-bounds c = search needs
+
+slice-aggregate-fill-bounds-2 : tie.Need-slice-aggregate-fill-bounds-2
+slice-aggregate-fill-bounds-2 c = search needs
+
+fill-bounds-requires : tie.Need-fill-bounds-requires
+fill-bounds-requires c κs = search needs
+
+slice-aggregate-read-off : tie.Need-slice-aggregate-read-off
+slice-aggregate-read-off c = search needs
+
+slice-aggregate-read-off-2 : tie.Need-slice-aggregate-read-off-2
+slice-aggregate-read-off-2 c = search needs
+
+read-off-requires : tie.Need-read-off-requires
+read-off-requires c κs =
+    let b = c .before .before .before .before .before .before .before in
+    let a = start b .pre in (
+      a .0 .0,
+      (
+        (a .0 .1 .room, omega (arith, a .0 .0 .atMost, b .fill-bounds .kept)),
+        (omega (arith, a .0 .0 .atMost, b .fill-bounds .kept), a .1 .1),
+      ),
+    )
+
+same-length : tie.Need-same-length
+same-length c = search needs
+
+same-length-2 : tie.Need-same-length-2
+same-length-2 c = search needs
+
+returns : tie.Need-returns
+returns c =
+    let r = c .before .before .read-off .ensures in
+    let b = c .before .before .before .before .before .before .before .before .before .before in
+    let wf = start b .pre .0 .0 in
+    let h = holds-bounds b in
+    (rw (r .0) (chosen-move _ wf _ h), (r .1 _ (flags-follow _ wf _ h), b .fill-bounds .ensures .1 .1))
+
+pub write-certificate-at-spec : {M : Type 1} → statement M
+write-certificate-at-spec =
+    tie.close
+    (tie.spec
+    slice-aggregate-fill-bounds
+    slice-aggregate-fill-bounds-2
+    fill-bounds-requires
+    slice-aggregate-read-off
+    slice-aggregate-read-off-2
+    read-off-requires
+    same-length
+    same-length-2
+    returns)

@@ -1,5 +1,0 @@
--- The lemmas on buffers that are written node by node, and on the array of places.
-pub mod Buffers
-pub mod Runs
-pub mod TopDown
-pub mod Places

@@ -1,0 +1,49 @@
+-- `positions::fill_children` meets its contract: it stores a run of entries.
+use Prim.Native.Nat.{_-_}
+use native.Mathlib.Omega.{arith}
+use mathlib.Core.Path.{refl, ap, _∙_}
+use borrow.Author.Needs.{needs}
+use Rattle.frames.specs.Position.{childPosition}
+use Rattle.positions.specs.engine.Positions.{packed}
+use Rattle.positions.proofs.Runs.{Run, run-begins, run-step, run-ends}
+use Rattle.positions.proofs.fill_children.Statement.{statement}
+use Rattle.positions.proofs.fill_children.Tie as tie
+
+abbrev Inv-loop : tie.InvT-loop
+Inv-loop table positions₀ from to parent position child₀ positions child =
+    Run (λ k. packed parent (childPosition table k position)) from to positions₀ positions child
+
+abbrev μ-loop : tie.MeasureT-loop
+μ-loop table positions₀ from to parent position child₀ positions child = to - child
+
+loop-holds : tie.Need-loop-holds Inv-loop μ-loop
+loop-holds c = run-begins _ _ _ _ (omega arith)
+
+packed-requires : tie.Need-packed-requires Inv-loop μ-loop
+packed-requires c κs = (omega arith, omega (arith, ap (λ p. p .depth) (c .child-position .ensures)))
+
+loop-again : tie.Need-loop-again Inv-loop μ-loop
+loop-again c =
+    let r = c .before .before .before .loop .inv in
+    run-step _ _ _ _ _ _ _ _ (omega arith)
+    (c .packed .ensures ∙ ap (packed _) (c .before .child-position .ensures)) refl r
+
+returns : tie.Need-returns Inv-loop μ-loop
+returns c = run-ends _ _ _ _ _ _ (omega arith) (c .before .loop .inv)
+
+pub fill-children-spec : {M : Type 1} → statement M
+fill-children-spec =
+    tie.close
+    (tie.spec
+    Inv-loop
+    μ-loop
+    loop-holds
+    (λ c κs. search needs)
+    packed-requires
+    (λ c. search needs)
+    (λ c. search needs)
+    (λ c. search needs)
+    (λ c. search needs)
+    loop-again
+    (λ c. search needs)
+    returns)
