@@ -1,318 +1,177 @@
--- Request N6, sentence by sentence, over the calls of Calls.antt: `SssCall t (sss-answer.Spent s)` is a call of SSS*
--- that its allowance ended, `SssCall t (sss-answer.Found f)` one that gives a value; `sss::solve` is such a call
--- (`own-list` in Demand1). "Demand 2 and the proof and smallest-pair wishes concern finished runs only": a `Call` is
--- one that gives a result, SSS* under whatever allowance, so all that Demand2 and Demand3 say of calls holds there.
+-- Request N6, sentence by sentence, said of `sss::search` as it runs; what `sss::solve` gives is the same (`own-list`
+-- in Demand1). "Spent is given exactly when the full run needs more leaves than the allowance" and "That merit is never
+-- below the root's value": `spent-exactly` and `merit-not-below` in Sentences. "Demand 2 and the proof and
+-- smallest-pair wishes concern finished runs only": `EachSearch` speaks of calls that give a result, SSS* under
+-- whatever allowance.
 use Prim.Native.Nat.{ℕ, _≤_, _<_}
-use mathlib.Core.Path.{_≡_, refl, sym, ap, ap₂, _∙_, subst}
-use mathlib.Core.Logic.{_⊎_, inl, inr}
-use mathlib.Core.Bool.{true, cond}
-use mathlib.Core.List.{List, _∷_, _++_}
+use mathlib.Core.Path.{_≡_, sym, ap, ap₂, _∙_}
+use mathlib.Core.Bool.{true}
 use lib.IntN.{pos}
-use lib.ListN.{length, take, drop, replicate, length-replicate}
-use lib.Seq.{take-append-seam}
+use lib.ListN.{length, take}
 use lib.Signed.{_≤ℤ_}
-use native.Mathlib.Decide.{decLt}
-use native.Mathlib.Omega.{arith}
 use Rattle.lists.specs.Lists.{among}
-use Rattle.gametree.specs.Tree.{greatest, minimax}
+use Rattle.gametree.specs.Tree.{greatest}
 use Rattle.gametree.specs.Layout.{layoutOf}
-use Rattle.gametree.specs.Sss.{ListAfter}
-use Rattle.gametree.specs.Allowance.{Evaluation}
-use Rattle.gametree.specs.engine.Within.{sssWithin}
 use Rattle.gametree.proofs.Within as within
 use Rattle.frames.specs.Frame.{frames}
 use Rattle.frames.specs.Tree.{tree, valuation}
-use Rattle.frames.specs.Check.{Accepted}
 use Rattle.frames.specs.Value.{valueOf}
+use Rattle.frames.specs.Check.{Accepted}
 use Rattle.frames.specs.Shape.{SameShape}
 use Rattle.frames.proofs.Acceptance.{accepted-formed}
 use Rattle.frames.proofs.Proper.{tree-proper}
-use Rattle.frames.proofs.Values.{value-order}
-use Rattle.positions.specs.Buffer.{tabulate}
-use Rattle.certificate.specs.declared.Findings.{Findings}
-use Rattle.bounds.specs.Marks.{mark, ones}
-use Rattle.certificate.specs.Search.{searchRejection, marksOf, listed}
-use Rattle.alphabeta.specs.declared.AlphaBetaAnswer.the-variants as ab-answer
+use Rattle.bounds.specs.Marks.{ones}
+use Rattle.certificate.specs.Search.{marksOf, listed}
 use Rattle.alphabeta.specs.Outcome.{reachedLeaves}
-use Rattle.states.specs.declared.State.{State}
+use Rattle.sss.proofs as sss
 use Rattle.sss.specs.declared.SssResult.{SssResult}
 use Rattle.sss.specs.declared.Spent.{Spent}
-use Rattle.sss.specs.declared.SssAnswer.{SssAnswer}
 use Rattle.sss.specs.declared.SssAnswer.the-variants as sss-answer
-use Rattle.states.specs.Entry.{blank}
-use Rattle.sss.specs.Outcome.{runOf, sssLeaves, sssFound, sssUncovered, sssSpent, outcomeBy, withinOutcome, sssOutcome}
+use Rattle.sss.specs.Outcome.{runOf, sssLeaves}
 use Rattle.sss.proofs.Replacements.{own}
-use Rattle.sss.proofs.Allowed.{enough, outcome-spent}
-use Rattle.demands.specs.Calls.{Buffers, stateLengths, outcomeOf, listedOf, AlphaBetaCall, SssCall, SolveCall}
-use Rattle.demands.specs.Calls.{alphaBeta, sss}
-use Rattle.demands.specs.Handed.{Room, Marked, AgreeOnMarked}
+use Rattle.demands.specs.Runs.{Runs, RunBoth}
+use Rattle.demands.specs.Handed.{buffers, Room, Marked, AgreeOnMarked}
+use Rattle.demands.specs.Searches.{EachSpent}
 use Rattle.demands.specs.Allowance.{CutShort}
-use Rattle.demands.proofs.Views.{all-covered, sssBy, list-passed, rooms-passed, view}
-use Rattle.demands.proofs.Handed.{marks-at}
-use Rattle.demands.proofs.Local.{take-written}
-use Rattle.demands.proofs.Spending.{firstLeaves, none-more, left-more, run-is, more-left, ones-within}
-use Rattle.demands.proofs.Spending.{run-reached, spent-view, spent-formed, spent-run, spent-end, first-count}
-use Rattle.demands.proofs.Spending.{spent-marked, spent-local}
-use Rattle.demands.proofs.Demand2.{sss-gives, leaves-at-most}
-use Rattle.demands.proofs.Demand3.{count, counts-less, local-sss}
+use Rattle.demands.proofs.Contracts as contracts
+use Rattle.demands.proofs.Running.{follows, each-spent, sssCall}
+use Rattle.demands.proofs.Views.{sssBy, rooms-passed}
+use Rattle.demands.proofs.Spending.{run-is, more-left, spent-view}
+use Rattle.demands.proofs.Allowed as calls
 
 -- "SSS* takes an allowance and answers with the value, or with "spent" and the merit of the state whose leaf it
--- couldn't value. Spent is given exactly when the full run needs more leaves than the allowance."
+-- couldn't value" (the value where the allowance is enough: `sss-gives` in Sentences): merit and counts are those of
+-- the place where the full run was cut short
+pub cut-short : EachSpent (λ n t s _ _ _ _. CutShort t s)
+cut-short = each-spent _ (λ t s c. calls.cut-short c)
 
-module _ {t : List ℕ} {s : Spent} (c : SssCall t (sss-answer.Spent s)) where
-  -- a spent call's merit and counts are those of the place where the full run was cut short
-  pub cut-short : CutShort t s
-  cut-short =
-      let v = spent-view c in
-      let wf = spent-formed c in
-      let h = tree-proper t wf .scored in
-      let n = c .allowance in
-      let γ = v .next .merit in
-      let x = within.within-cut (valuation t) (tree t) h (layoutOf (tree t)) (own t wf) n γ (spent-end c) in
-      let m = within.within-cut-merit (valuation t) (tree t) h (layoutOf (tree t)) (own t wf) n γ (spent-end c) in
-      let k : s .replacements ≡ x .made =
-      ap (λ y. y .replacements) (v .gives) ∙ ap (λ r. r .replacements) (sym (spent-run c) ∙ x .gives) in
-      record {
-        evaluated = x .leaves;
-        states = x .list;
-        leaf = x .beyond;
-        next = x .after;
-        reached =
-            subst (λ j. ListAfter (valuation t) (layoutOf (tree t)) (tree t) j (x .leaves) (x .list)) (sym k)
-            (x .reached);
-        evaluates = x .more;
-        leaves = ap (λ y. y .leaves) (v .gives) ∙ sym (x .all);
-        merit = ap (λ y. y .merit) (v .gives) ∙ ap valueOf (sym m);
-      }
+-- spent is given only where the full run needs more leaves, and the value only where it does not
+pub needs-more : EachSpent (λ n t s _ _ _ _. n < length (sssLeaves t))
+needs-more = each-spent _ (λ t s c. calls.needs-more c)
 
-  -- the full run needs more leaves
-  pub needs-more : c .allowance < length (sssLeaves t)
-  needs-more = let v = spent-view c in left-more t (c .allowance) (v .next) (v .later) (v .uncovered)
+pub had-enough : Runs sss.search.ended sss.search.Symbol.routine
+    (λ κs (t, (_, (_, (_, (_, (n, _)))))) r e. (g : SssResult) → r ≡ sss-answer.Found g
+    → length (sssLeaves (t .now)) ≤ n)
+had-enough =
+    follows contracts.sss-search
+    (λ κs (t, (l, (m, (f, (o, (n, _)))))) r (_, (l′, (m′, (f′, (o′, _))))) c g e.
+    calls.had-enough (sssCall (t .now) (buffers (m .now) (f .now)) (o .now) n (l .now) (sss-answer.Found g)
+    (l′ .now) (buffers (m′ .now) (f′ .now)) (o′ .now) (rw e at c)))
 
--- where it does, and the table is accepted and has room, the answer is spent; where not, it is the value (`sss-gives`,
--- `solve-gives`)
-module _ (t : List ℕ) (a : Accepted t) (b : Buffers) (h : Room t b) (o : List ℕ) (long : frames t ≤ length o) where
-  abbrev spent-left : ℕ → Buffers
-  spent-left n = record { marks = marksOf (take n (sssLeaves t)) t (b .marks); flags = b .flags }
-
-  pub solve-spends : (n : ℕ) → n < length (sssLeaves t)
-      → (s : Spent) × (c : SolveCall t (sss-answer.Spent s)) × (c .allowance ≡ n) × (c .lent ≡ b) × (c .lentOrder ≡ o)
-  solve-spends n i =
-      let x = more-left t n i in (
-        sssSpent n (x .0),
-        record {
-          allowance = n;
-          lent = b;
-          left = spent-left n;
-          lentOrder = o;
-          leftOrder = listed (take n (sssLeaves t)) o;
-          outcome =
-              sym (ap₂ (λ xs q. outcomeBy xs n t (b .marks) (b .flags) o q) (x .1 .1) (list-passed t b o a h long));
-        },
-        refl,
-        refl,
-        refl,
-      )
-
-  module _ (l : List State) (m : frames t ≤ length l) where
-    -- a call with the answer s, under an allowance of n leaves
-    abbrev Spends : ℕ → Spent → Type 0
-    Spends n s = (c : SssCall t (sss-answer.Spent s)) × (c .allowance ≡ n) × (c .lent ≡ b) × (c .lentOrder ≡ o)
-        × (c .lentList ≡ l)
-
-    spent-call : (n : ℕ) (x : Evaluation) (xs : List Evaluation) → sssUncovered n t ≡ x ∷ xs → Spends n (sssSpent n x)
-    spent-call n x xs e = (
-      record {
-        allowance = n;
-        lent = b;
-        left = spent-left n;
-        lentOrder = o;
-        leftOrder = listed (take n (sssLeaves t)) o;
-        lentList = l;
-        leftList = replicate (frames t) blank ++ drop (frames t) l;
-        outcome = sym (ap₂ (sssBy n t l b o) e (rooms-passed t b o a h long l m));
-      },
-      refl,
-      refl,
-      refl,
-      refl,
-    )
-
-    pub spends : (n : ℕ) → n < length (sssLeaves t)
-        → (s : Spent) × (c : SssCall t (sss-answer.Spent s)) × (c .allowance ≡ n) × (c .lent ≡ b)
-        × (c .lentOrder ≡ o) × (c .lentList ≡ l)
-    spends n i =
-        let x = more-left t n i in
-        let c = spent-call n (x .0) (x .1 .0) (x .1 .1) in
-        (sssSpent n (x .0), c .0, c .1, c .2, c .3, c .4)
-
-    -- so each allowance gets the value or spent
-    pub value-or-spent : (n : ℕ)
-        → ((c : SssCall t (sss-answer.Found (sssFound t))) × (c .allowance ≡ n) × (c .lent ≡ b) × (c .lentOrder ≡ o)
-        × (c .lentList ≡ l))
-        ⊎ ((s : Spent) × (c : SssCall t (sss-answer.Spent s)) × (c .allowance ≡ n) × (c .lent ≡ b)
-        × (c .lentOrder ≡ o) × (c .lentList ≡ l))
-    value-or-spent n =
-        elim (decLt n (length (sssLeaves t))) [
-          | yes i ↦ inr (spends n i)
-          | no i ↦ inl (sss-gives t a b h o long n (omega arith) l m)
-        ]
-
-    -- "With allowance 0 the answer is spent with 32,001": whatever the tree, and so where the root is a leaf
-    pub none-allowed : (k : ℕ) × (c : SssCall t (sss-answer.Spent (record {
-      merit = pos 32001;
-      leaves = 0;
-      replacements = k;
-    }))) × (c .allowance ≡ 0) × (c .lent ≡ b) × (c .lentOrder ≡ o) × (c .lentList ≡ l)
-    none-allowed =
-        let wf = accepted-formed t a in
-        let p = tree-proper t wf in
-        let e = within.within-none (valuation t) (tree t) p (layoutOf (tree t)) (own t wf) .0 in
-        let i = within.within-spent (valuation t) (tree t) (p .scored) (layoutOf (tree t)) (own t wf) 0 .0
-        (greatest, e) in
-        let x = more-left t 0 i in
-        let r = run-is t 0 (x .0) (x .1 .0) (x .1 .1) in
-        let γ : x .0 .merit ≡ greatest = cc (e, ap (λ r. r .end) r) in
-        let k = x .0 .replacements in
-        let c = subst (λ m. Spends 0 (record { merit = valueOf m; leaves = 0; replacements = k })) γ
-        (spent-call 0 (x .0) (x .1 .0) (x .1 .1)) in
-        (k, c .0, c .1, c .2, c .3, c .4)
-
--- a call that gives the value was allowed leaves enough
-pub had-enough : {t : List ℕ} {f : SssResult} (c : SssCall t (sss-answer.Found f)) → length (sssLeaves t) ≤ c .allowance
-had-enough {t} c = none-more t (c .allowance) (all-covered c)
-
--- "That merit is never below the root's value" (nor above 32,001)
-pub merit-bounds : {t : List ℕ} {s : Spent} → SssCall t (sss-answer.Spent s)
-    → (valueOf (minimax (valuation t) (tree t)) ≤ℤ s .merit) × (s .merit ≤ℤ pos 32001)
-merit-bounds {t} c =
-    let v = spent-view c in
-    let wf = spent-formed c in
-    let m = within.within-merit (valuation t) (tree t) (tree-proper t wf .scored) (layoutOf (tree t))
-    (own t wf) (c .allowance) (v .next .merit) (spent-end c) in
-    let i = ap (λ x. x .merit) (v .gives) in
-    (rw i (value-order _ _ (m .0)), rw i (value-order _ _ (m .1)))
+-- "With allowance 0 the answer is spent with 32,001": whatever the tree, and so where the root is a leaf
+pub none-allowed : Runs sss.search.ended sss.search.Symbol.routine
+    (λ κs (t, (l, (m, (f, (o, (n, _)))))) r e. n ≡ 0 → Accepted (t .now) → Room (t .now) (buffers (m .now) (f .now))
+    → frames (t .now) ≤ length (o .now) → frames (t .now) ≤ length (l .now)
+    → (k : ℕ) × (r ≡ sss-answer.Spent (record { merit = pos 32001; leaves = 0; replacements = k })))
+none-allowed =
+    follows contracts.sss-search
+    (λ κs (t, (l, (m, (f, (o, (n, _)))))) r e s none a h long entries.
+    let wf = accepted-formed (t .now) a in
+    let p = tree-proper (t .now) wf in
+    let e = within.within-none (valuation (t .now)) (tree (t .now)) p (layoutOf (tree (t .now))) (own (t .now) wf) .0 in
+    let i = within.within-spent (valuation (t .now)) (tree (t .now)) (p .scored) (layoutOf (tree (t .now)))
+    (own (t .now) wf) 0 .0 (greatest, e) in
+    let x = more-left (t .now) 0 i in
+    let y = run-is (t .now) 0 (x .0) (x .1 .0) (x .1 .1) in
+    let γ : x .0 .merit ≡ greatest = cc (e, ap (λ r. r .end) y) in (
+      x .0 .replacements,
+      ap (λ x. x .search .answer) (rw none at s)
+          ∙ ap₂ (λ xs q. sssBy 0 (t .now) (l .now) (buffers (m .now) (f .now)) (o .now) xs q .search .answer)
+          (x .1 .1) (rooms-passed (t .now) (buffers (m .now) (f .now)) (o .now) a h long (l .now) entries)
+          ∙ ap (λ m. sss-answer.Spent (record { merit = valueOf m; leaves = 0; replacements = x .0 .replacements })) γ,
+    ))
 
 -- "and a larger allowance never raises it"
-pub merit-falls : {t : List ℕ} {s u : Spent} (c : SssCall t (sss-answer.Spent s)) (d : SssCall t (sss-answer.Spent u))
-    → c .allowance ≤ d .allowance → u .merit ≤ℤ s .merit
-merit-falls {t} c d l =
-    let v = spent-view c in
-    let w = spent-view d in
-    let wf = spent-formed c in
-    rw (ap (λ x. x .merit) (v .gives), ap (λ x. x .merit) (w .gives))
-    (value-order _ _ (within.within-falls (valuation t) (tree t) (tree-proper t wf .scored) (layoutOf (tree t))
-    (own t wf) (c .allowance) (d .allowance) (v .next .merit) (w .next .merit) l (spent-end c) (spent-end d)))
+pub merit-falls : RunBoth sss.search.ended sss.search.ended sss.search.Symbol.routine sss.search.Symbol.routine
+    (λ κs (t, (_, (_, (_, (_, (n, _)))))) r e κs′ (u, (_, (_, (_, (_, (k, _)))))) r′ e′. u .now ≡ t .now → n ≤ k
+    → (s : Spent) → r ≡ sss-answer.Spent s → (s′ : Spent) → r′ ≡ sss-answer.Spent s′ → s′ .merit ≤ℤ s .merit)
+merit-falls =
+    record {
+      one = _;
+      other = _;
+      oneRuns = contracts.sss-search;
+      otherRuns = contracts.sss-search;
+      both = λ κs (t, (l, (m, (f, (o, (n, _)))))) r (_, (l′, (m′, (f′, (o′, _))))) c.
+          λ κs′ (u, (w, (x, (y, (z, (k, _)))))) r′ (_, (w′, (x′, (y′, (z′, _))))) d same more s i s′ j.
+          calls.merit-falls
+          (sssCall (t .now) (buffers (m .now) (f .now)) (o .now) n (l .now) (sss-answer.Spent s) (l′ .now)
+          (buffers (m′ .now) (f′ .now)) (o′ .now) (rw i at c))
+          (sssCall (t .now) (buffers (x .now) (y .now)) (z .now) k (w .now) (sss-answer.Spent s′) (w′ .now)
+          (buffers (x′ .now) (y′ .now)) (z′ .now) (rw same at (rw j at d))) more;
+    }
 
 -- "A value once given is the same under every larger allowance": so is all that the call gives and leaves
-pub value-stays : {t : List ℕ} {f : SssResult} (c : SssCall t (sss-answer.Found f)) (n : ℕ) → c .allowance ≤ n
-    → record { list = c .leftList; order = c .leftOrder; search = outcomeOf (sss-answer.Found f) (c .left) }
-    ≡ sssOutcome n t (c .lentList) (c .lent .marks) (c .lent .flags) (c .lentOrder)
-value-stays {t} c n l =
-    let wf = accepted-formed t (view (sss c) .handed .accepted) in
-    let q = searchRejection t (stateLengths (c .lentList) (c .lent) (c .lentOrder)) in
-    c .outcome
-    ∙ ap (λ xs. sssBy (c .allowance) t (c .lentList) (c .lent) (c .lentOrder) xs q) (all-covered c)
-    ∙ sym (ap (λ xs. sssBy n t (c .lentList) (c .lent) (c .lentOrder) xs q)
-    (enough t wf n (omega (arith, had-enough c))))
+pub value-stays : RunBoth sss.search.ended sss.search.ended sss.search.Symbol.routine sss.search.Symbol.routine
+    (λ κs (t, (l, (m, (f, (o, (n, _)))))) r (_, (l′, (m′, (f′, (o′, _))))).
+    λ κs′ (u, (w, (x, (y, (z, (k, _)))))) r′ (_, (w′, (x′, (y′, (z′, _))))). u .now ≡ t .now → w .now ≡ l .now
+    → x .now ≡ m .now → y .now ≡ f .now → z .now ≡ o .now → n ≤ k → (g : SssResult) → r ≡ sss-answer.Found g
+    → (r′ ≡ r) × (w′ .now ≡ l′ .now) × (x′ .now ≡ m′ .now) × (y′ .now ≡ f′ .now) × (z′ .now ≡ o′ .now))
+value-stays =
+    record {
+      one = _;
+      other = _;
+      oneRuns = contracts.sss-search;
+      otherRuns = contracts.sss-search;
+      both = λ κs (t, (l, (m, (f, (o, (n, _)))))) r (_, (l′, (m′, (f′, (o′, _))))) c.
+          λ κs′ (u, (w, (x, (y, (z, (k, _)))))) r′ (_, (w′, (x′, (y′, (z′, _))))) d i₁ i₂ i₃ i₄ i₅ more g e.
+          let p = calls.value-stays
+          (sssCall (t .now) (buffers (m .now) (f .now)) (o .now) n (l .now) (sss-answer.Found g) (l′ .now)
+          (buffers (m′ .now) (f′ .now)) (o′ .now) (rw e at c)) k more in
+          let q = rw i₁ at (rw i₂ at (rw i₃ at (rw i₄ at (rw i₅ at d)))) in
+          let same = q ∙ sym p in (
+            ap (λ x. x .search .answer) same ∙ sym e,
+            ap (λ x. x .list) same,
+            ap (λ x. x .search .evaluated) same,
+            ap (λ x. x .search .certificate) same,
+            ap (λ x. x .order) same,
+          );
+    }
 
 -- "Spent carries no move and the counts so far" (`cut-short`): the leaves are as many as are allowed, and as the marks
 -- at 1; the replacements are no more than those of the full run
-pub spent-counts : {t : List ℕ} {s : Spent} (c : SssCall t (sss-answer.Spent s))
-    → (s .leaves ≡ c .allowance) × (s .leaves ≡ ones (c .left .marks) (frames t))
-    × (s .replacements ≤ runOf t .replacements)
-spent-counts {t} c =
-    let v = spent-view c in
-    let wf = spent-formed c in
-    let n = c .allowance in
-    let k = ap (λ x. x .leaves) (v .gives) in
-    let r = within.within-replacements (valuation t) (tree t) (tree-proper t wf .scored) (layoutOf (tree t)) (own t wf)
-    n .0 in (
-      k,
-      k ∙ sym (ap (λ x. ones x (frames t)) (v .marks) ∙ ones-within t wf n (c .lent .marks) ∙ first-count c),
-      rw (ap (λ x. x .replacements) (v .gives)) (rw (spent-run c) at r),
-    )
+pub spent-counts : EachSpent (λ n t s _ _ d _. (s .leaves ≡ n) × (s .leaves ≡ ones (d .marks) (frames t))
+    × (s .replacements ≤ runOf t .replacements))
+spent-counts = each-spent _ (λ t s c. calls.spent-counts c)
 
--- "it writes the marks so far": those of the first leaves of the full run, as many as are allowed
-pub first-marks : {t : List ℕ} {s : Spent} (c : SssCall t (sss-answer.Spent s))
-    → c .left .marks ≡ marksOf (take (c .allowance) (sssLeaves t)) t (c .lent .marks)
-first-marks c = spent-view c .marks
+-- "it writes the marks so far": those of the first leaves of the full run, as many as are allowed; "and leaves the
+-- proof buffer as found"; and "A stopped run under N6 gives the first leaves of the full run's list" (02, N14)
+pub first-leaves : EachSpent (λ n t s b o d p. (d .marks ≡ marksOf (take n (sssLeaves t)) t (b .marks))
+    × (d .flags ≡ b .flags) × (p ≡ listed (take n (sssLeaves t)) o))
+first-leaves = each-spent _ (λ t s c. let v = spent-view c in (v .marks, v .flags, v .order))
 
--- so each marked 1 is one that Baudet's condition reaches, and that alpha-beta evaluates
-pub spent-reached : {t : List ℕ} {s : Spent} (c : SssCall t (sss-answer.Spent s)) (k : ℕ) → Marked t (c .left) k
-    → among (reachedLeaves t) k ≡ true
-spent-reached {t} c k m = run-reached t (spent-formed c) (c .allowance) k (spent-marked c k m)
-
-pub spent-dominated : {t : List ℕ} {s : Spent} {g : Findings} (c : SssCall t (sss-answer.Spent s))
-    (a : AlphaBetaCall t (ab-answer.Found g)) (k : ℕ) → Marked t (c .left) k → Marked t (a .left) k
-spent-dominated c a k m =
-    record {
-      node = m .node;
-      mark = marks-at (view (alphaBeta a) .handed) k (m .node) ∙ ap (λ x. cond x 1 0) (spent-reached c k m);
-    }
-
--- so the count of a spent run is at most alpha-beta's
-pub spent-fewer : {t : List ℕ} {s : Spent} {g : Findings} → SssCall t (sss-answer.Spent s)
-    → AlphaBetaCall t (ab-answer.Found g) → s .leaves ≤ g .leaves
-spent-fewer {t} c a =
-    let p = view (alphaBeta a) .handed in
-    let n = frames t in
-    let y = sss-gives t (p .accepted) (a .lent) (p .room) (replicate n 0)
-    (omega (arith, length-replicate {A = ℕ} n 0)) n (leaves-at-most t (p .accepted) (a .lent) (p .room)) (replicate n blank)
-    (omega (arith, length-replicate n blank)) .0 in
-    omega (arith, spent-counts c .0, needs-more c, counts-less y a)
-
--- "restores the list as after a full run" (`list-reset` in Demand3)
-pub list-restored : {t : List ℕ} {s : Spent} (c : SssCall t (sss-answer.Spent s))
-    → c .leftList ≡ replicate (frames t) blank ++ drop (frames t) (c .lentList)
-list-restored c = spent-view c .list
-
--- "and leaves the proof buffer as found"
-pub flags-kept : {t : List ℕ} {s : Spent} (c : SssCall t (sss-answer.Spent s)) → c .left .flags ≡ c .lent .flags
-flags-kept c = spent-view c .flags
+-- so each marked 1 is one that Baudet's condition reaches (and that alpha-beta marks: `no-leaf-passed-over`)
+pub spent-reached : EachSpent (λ n t s _ _ d _. (k : ℕ) → Marked t d k → among (reachedLeaves t) k ≡ true)
+spent-reached = each-spent _ (λ t s c. calls.spent-reached c)
 
 -- "trees that agree on valued leaves also agree on spent answers under one allowance": the answer is the same, and so
--- are the marks and the list of leaves
-pub local-spent : {t u : List ℕ} {s : Spent} {x : SssAnswer} (c : SssCall t (sss-answer.Spent s)) (d : SssCall u x)
-    → d .allowance ≡ c .allowance → Accepted u → Room u (d .lent) → frames u ≤ length (d .lentOrder)
-    → frames u ≤ length (d .lentList) → SameShape t u → AgreeOnMarked t u (c .left)
-    → (x ≡ sss-answer.Spent s) × (take (frames t) (d .left .marks) ≡ take (frames t) (c .left .marks))
-    × (take (s .leaves) (d .leftOrder) ≡ take (s .leaves) (c .leftOrder))
-local-spent {t} {u} {s} c d q a r k n h g =
-    let v = spent-view c in
-    let w = firstLeaves t (c .allowance) in
-    let passed = rooms-passed u (d .lent) (d .lentOrder) a r k (d .lentList) n in
-    let run = ap (λ n. sssWithin n (valuation u) (tree u)) q ∙ sym (spent-local c u a h g) ∙ spent-run c in
-    let o = ap (λ y. listedOf (y .search .answer) (record {
-      marks = y .search .evaluated;
-      flags = y .search .certificate;
-    }) (y .order)) (d .outcome)
-    ∙ ap (withinOutcome (d .allowance) u (d .lent .marks) (d .lent .flags) (d .lentOrder)) passed
-    ∙ outcome-spent u (accepted-formed u a) (d .allowance) (d .lent .marks) (d .lent .flags) (d .lentOrder)
-    (v .next .merit) (v .next .replacements) w run in
-    let l : s .leaves ≡ length w = ap (λ y. y .leaves) (v .gives) ∙ sym (first-count c) in
-    let same = ap (λ m. sssSpent m (v .next)) (first-count c) in (
-      ap (λ y. y .search .answer) o ∙ ap sss-answer.Spent (same ∙ sym (v .gives)),
-      ap₂ (λ k y. take k (y .search .evaluated)) (h .sameFrames) o
-          ∙ take-written (mark (among w)) (frames u) (d .lent .marks)
-          ∙ ap (tabulate (mark (among w))) (sym (h .sameFrames))
-          ∙ sym (take-written (mark (among w)) (frames t) (c .lent .marks))
-          ∙ ap (take (frames t)) (sym (v .marks)),
-      ap₂ (λ k y. take k (y .order)) l o ∙ take-append-seam w _
-          ∙ sym (ap₂ take l (v .order) ∙ take-append-seam w _),
-    )
-
--- and agree on finished ones: under one allowance the second call finishes too, with the same result
-pub finishes-too : {t u : List ℕ} {f : SssResult} {x : SssAnswer} (c : SssCall t (sss-answer.Found f)) (d : SssCall u x)
-    → d .allowance ≡ c .allowance → Accepted u → Room u (d .lent) → frames u ≤ length (d .lentOrder)
-    → frames u ≤ length (d .lentList) → SameShape t u → AgreeOnMarked t u (c .left) → x ≡ sss-answer.Found f
-finishes-too {t} {u} {f} c d q a r k n h g =
-    let y = sss-gives u a (d .lent) r (d .lentOrder) k (frames u) (leaves-at-most u a (d .lent) r) (d .lentList) n .0 in
-    let same = local-sss c y h g .0 in
-    let leaves : length (sssLeaves u) ≡ length (sssLeaves t) =
-    ap (λ z. z .findings .leaves) (sym same) ∙ count (sss c) .0 in
-    let passed = rooms-passed u (d .lent) (d .lentOrder) a r k (d .lentList) n in
-    let all = enough u (accepted-formed u a) (d .allowance) (omega (arith, had-enough c)) in
-    ap (λ z. z .search .answer)
-    (d .outcome ∙ ap₂ (sssBy (d .allowance) u (d .lentList) (d .lent) (d .lentOrder)) all passed)
-    ∙ ap sss-answer.Found (sym same)
+-- are the marks and the list of leaves; and where the first call finishes, so does the second, with the same result
+pub local-allowed : RunBoth sss.search.ended sss.search.ended sss.search.Symbol.routine sss.search.Symbol.routine
+    (λ κs (t, (_, (_, (_, (_, (n, _)))))) r (_, (_, (m, (f, (o, _))))).
+    λ κs′ (u, (w, (x, (y, (z, (k, _)))))) r′ (_, (_, (x′, (_, (z′, _))))). k ≡ n → Accepted (u .now)
+    → Room (u .now) (buffers (x .now) (y .now)) → frames (u .now) ≤ length (z .now)
+    → frames (u .now) ≤ length (w .now) → SameShape (t .now) (u .now)
+    → AgreeOnMarked (t .now) (u .now) (buffers (m .now) (f .now))
+    → ((g : SssResult) → r ≡ sss-answer.Found g → r′ ≡ r) × ((s : Spent) → r ≡ sss-answer.Spent s → (r′ ≡ r)
+    × (take (frames (t .now)) (x′ .now) ≡ take (frames (t .now)) (m .now))
+    × (take (s .leaves) (z′ .now) ≡ take (s .leaves) (o .now))))
+local-allowed =
+    record {
+      one = _;
+      other = _;
+      oneRuns = contracts.sss-search;
+      otherRuns = contracts.sss-search;
+      both = λ κs (t, (l, (m, (f, (o, (n, _)))))) r (_, (l′, (m′, (f′, (o′, _))))) c.
+          λ κs′ (u, (w, (x, (y, (z, (k, _)))))) r′ (_, (w′, (x′, (y′, (z′, _))))) d same a h long entries shape agree.
+          let e = sssCall (u .now) (buffers (x .now) (y .now)) (z .now) k (w .now) r′ (w′ .now)
+          (buffers (x′ .now) (y′ .now)) (z′ .now) d in (
+            λ g i. calls.finishes-too
+                (sssCall (t .now) (buffers (m .now) (f .now)) (o .now) n (l .now) (sss-answer.Found g) (l′ .now)
+                (buffers (m′ .now) (f′ .now)) (o′ .now) (rw i at c)) e same a h long entries shape agree
+                ∙ sym i,
+            λ s i.
+                let p = calls.local-spent
+                (sssCall (t .now) (buffers (m .now) (f .now)) (o .now) n (l .now) (sss-answer.Spent s) (l′ .now)
+                (buffers (m′ .now) (f′ .now)) (o′ .now) (rw i at c)) e same a h long entries shape agree in
+                (p .0 ∙ sym i, p .1, p .2),
+          );
+    }

@@ -1,23 +1,15 @@
 -- A table or a file without a second capture gives what it gave before byte 3 had a meaning (N8): the questions are
--- what they were, and everything else is as the tree makes it whose sides go by the depth.
+-- what they were, and everything else is as the tree makes it whose sides go by the depth: all that a search gives and
+-- leaves follows from the tree (`gives-exactly` and `leaves-exactly` in Demand2, `same-bounds` in Plain).
 use Prim.Native.Nat.{ℕ, zero, suc, _+_, _<_}
 use native.Mathlib.Omega.{arith}
 use mathlib.Core.Path.{_≡_, refl, ap, ap₂, _∙_}
 use mathlib.Core.Option.{Option, none, some}
 use mathlib.Core.List.{List, [], _∷_}
 use lib.ListN.{length}
-use Rattle.lists.specs.Lists.{among}
 use Rattle.gametree.specs.declared.Side.{Side}
 use Rattle.gametree.specs.declared.Side.the-variants.{Max, Min}
-use Rattle.gametree.specs.Tree.{least, greatest, minimax}
-use Rattle.gametree.specs.Move.{rootMove}
-use Rattle.gametree.specs.Certificate.{flag}
-use Rattle.gametree.specs.AlphaBeta.{reached}
-use Rattle.gametree.specs.Mtd as rule
-use Rattle.gametree.specs.Sss.{sss as run}
-use Rattle.gametree.specs.Allowance.{uncovered}
 use Rattle.frames.specs.Frame.{frames}
-use Rattle.frames.specs.Value.{valueOf}
 use Rattle.frames.specs.Tree.{tree, valuation}
 use Rattle.frames.specs.declared.Rejection.{Rejection}
 use Rattle.frames.specs.Rejection.{ask, answer, _andThen_, eachNode}
@@ -33,19 +25,9 @@ use Rattle.reader.proofs.Acceptance.{accepted-table}
 use Rattle.verify.specs.Flags.{ruleHolds}
 use Rattle.verify.specs.Check.{checkTree, check11, check14, treesRejection, flagsRejection, certificateRejection}
 use Rattle.verify.specs.Check.{judged, verdict}
-use Rattle.plain.specs.declared.PlainResult.{PlainResult}
-use Rattle.plain.specs.declared.PlainAnswer.the-variants as plain-answer
-use Rattle.plain.specs.Outcome.{allLeaves}
 use Rattle.report.specs.Report.{abLine, mtdLine, sssLine, printed, report}
-use Rattle.positions.specs.Buffer.{written}
-use Rattle.alphabeta.specs.Outcome.{reachedLeaves}
-use Rattle.mtd.specs.Outcome.{mtdLeaves}
-use Rattle.sss.specs.Outcome.{runOf, sssUncovered}
-use Rattle.demands.specs.Calls.{PlainCall, Call, found, lent, left, ruleLeaves}
 use Rattle.demands.specs.Alternating.{zeroFrames, zeroFile, zeroRead, ruleByDepth, treeRuleByDepth}
 use Rattle.demands.specs.Alternating.{verdictByDepth, analysisOn, printedByDepth, reportByDepth}
-use Rattle.demands.proofs.Demand2.{only-accepted, value-minimax, move-first, leaves-exactly}
-use Rattle.demands.proofs.Plain.{plain-accepted, plain-value, plain-move, same-bounds}
 
 -- a check put to each node says what another says that is the same at each
 each-same : (p q : ℕ → Option Rejection) (i n : ℕ) → ((k : ℕ) → k < i + n → p k ≡ q k)
@@ -83,54 +65,6 @@ module _ (t : List ℕ) (p : Alternating t) where
 
   pub alternating-tree : Accepted t → tree t ≡ treeByDepth t
   alternating-tree a = tree-before t p (accepted-formed t a)
-
-  pub alternating-value : (c : Call t) → found c .value ≡ valueOf (minimax (valuation t) (treeByDepth t))
-  alternating-value c =
-      value-minimax c ∙ ap (λ x. valueOf (minimax (valuation t) x)) (alternating-tree (only-accepted c))
-
-  pub alternating-move : (c : Call t) → found c .«root_move» ≡ rootMove (valuation t) (treeByDepth t)
-  alternating-move c = move-first c ∙ ap (rootMove (valuation t)) (alternating-tree (only-accepted c))
-
-  pub alternating-flags : (c : Call t)
-      → left c .flags ≡ written (flag (valuation t) (among (ruleLeaves c)) (treeByDepth t)) (frames t) (lent c .flags)
-  alternating-flags c =
-      leaves-exactly c .1
-      ∙ ap (λ x. written (flag (valuation t) (among (ruleLeaves c)) x) (frames t) (lent c .flags))
-      (alternating-tree (only-accepted c))
-
-  -- the rules evaluate the leaves that they evaluated, in as many passes and replacements
-  pub alternating-alphaBeta : Accepted t → reachedLeaves t ≡ reached (valuation t) least greatest (treeByDepth t)
-  alternating-alphaBeta a = ap (reached (valuation t) least greatest) (alternating-tree a)
-
-  pub alternating-mtd : Accepted t → (mtdLeaves t ≡ rule.mtd (valuation t) (treeByDepth t) .evaluated)
-      × (rule.mtd (valuation t) (tree t) .passes ≡ rule.mtd (valuation t) (treeByDepth t) .passes)
-  alternating-mtd a = (
-    ap (λ x. rule.mtd (valuation t) x .evaluated) (alternating-tree a),
-    ap (λ x. rule.mtd (valuation t) x .passes) (alternating-tree a),
-  )
-
-  pub alternating-sss : Accepted t → runOf t ≡ run (valuation t) (treeByDepth t)
-  alternating-sss a = ap (run (valuation t)) (alternating-tree a)
-
-  -- and so what an allowance does not cover is what it did not cover: a spent answer is the first of it (`sssSpent`)
-  pub alternating-spent : Accepted t → (n : ℕ) → sssUncovered n t ≡ uncovered n (valuation t) (treeByDepth t)
-  alternating-spent a n = ap (uncovered n (valuation t)) (alternating-tree a)
-
-  -- the plain engine gives what it gave
-  module _ {f : PlainResult} (c : PlainCall t (plain-answer.Found f)) where
-    pub alternating-plain-value : f .value ≡ valueOf (minimax (valuation t) (treeByDepth t))
-    alternating-plain-value =
-        plain-value c ∙ ap (λ x. valueOf (minimax (valuation t) x)) (alternating-tree (plain-accepted c))
-
-    pub alternating-plain-move : f .«root_move» ≡ rootMove (valuation t) (treeByDepth t)
-    alternating-plain-move = plain-move c ∙ ap (rootMove (valuation t)) (alternating-tree (plain-accepted c))
-
-    pub alternating-plain-flags : c .left .flags
-        ≡ written (flag (valuation t) (among (allLeaves t)) (treeByDepth t)) (frames t) (c .lent .flags)
-    alternating-plain-flags =
-        same-bounds c
-        ∙ ap (λ x. written (flag (valuation t) (among (allLeaves t)) x) (frames t) (c .lent .flags))
-        (alternating-tree (plain-accepted c))
 
 -- of files
 module _ (f : List ℕ) (p : Alternating (decoded f)) where

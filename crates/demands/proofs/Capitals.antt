@@ -1,6 +1,8 @@
 -- Capitals only (02: N7), sentence by sentence, over the definitions that the contracts of the reader and of the
 -- converter cite. "lifts the letters a to f to capitals and then reads and writes as in N3": `convertOutcome` in
--- convert/specs/Convert.antt.
+-- convert/specs/Convert.antt. "The reader takes capital hexadecimal letters and no others" and "their trees do not
+-- change": `capitals-taken` and `converted-same` in Sentences.antt; "For a file still refused" nothing is written:
+-- `convert-keeps` in TheSentence.antt.
 use Prim.Native.Nat.{ℕ, _*_, _≤_, _<_}
 use native.Mathlib.Omega.{arith}
 use mathlib.Core.Path.{_≡_, ap, _∙_}
@@ -17,33 +19,22 @@ use Rattle.frames.specs.Rejection.{_andThen_}
 use Rattle.frames.specs.Check.{check1}
 use Rattle.frames.proofs.Stated.{both-passed, passed-then}
 use Rattle.frames.proofs.Acceptance.{accepted-stated}
-use Rattle.hex.specs.Digit.{isCapitalDigit}
-use Rattle.lines.specs.Line.{lineDigits, lineSize, hasLowercase, lineAt}
+use Rattle.lines.specs.Line.{lineSize, hasLowercase, lineAt}
 use Rattle.lines.specs.Lines.{linesOf, decoded}
-use Rattle.reader.specs.File.{maxFile, fileCheck2, fileCheck3, fileCheck16, fileRejection, AcceptedFile}
-use Rattle.reader.specs.File.{readRejection, readAnswer}
-use Rattle.reader.proofs.Acceptance.{accepted-exactly}
+use Rattle.reader.specs.File.{maxFile, fileCheck2, fileCheck3, fileCheck16, fileRejection, readRejection, readAnswer}
 use Rattle.reader.proofs.FirstLine.{line-first, line-asked}
 use Rattle.writer.specs.Encoded.{fileOf}
-use Rattle.writer.specs.Write.{writeCheck10}
-use Rattle.writer.specs.declared.Written.the-variants.{Length, Rejected as RejectedWrite}
+use Rattle.writer.specs.declared.Written.the-variants.{Length}
 use Rattle.convert.specs.RaiseCase.{raised}
 use Rattle.text.specs.Text.{refusedLine}
 use Rattle.convert.specs.Convert.{convertOutcome}
 use Rattle.convert.specs.Printed.{outputOutcome}
 use Rattle.convert.specs.results.Converted.{baseRejection, Converted}
 use Rattle.convert.proofs.Kept.{raised-table, raised-check3, raised-rejection, raised-line}
-use Rattle.convert.proofs.Converted.{base-table, convert-gives, convert-keeps, convert-leaves}
+use Rattle.convert.proofs.Converted.{base-table, convert-gives, convert-leaves, converted-again, converted-once}
 use Rattle.convert.proofs.Printing.{line-printed, file-printed}
-use Rattle.convert.proofs.Converted.{converted-accepted, converted-table, converted-again, converted-once}
 
 module _ (f : List ℕ) where
-  -- "The reader takes capital hexadecimal letters and no others": every byte of every line of an accepted file is a
-  -- digit from 0 to 9 or A to F
-  pub capitals-only : AcceptedFile f → (i k : ℕ) → i < length (linesOf f) → k < lineDigits
-      → isCapitalDigit (getD (getD (linesOf f) i []) k 0) ≡ true
-  capitals-only e i k h l = accepted-exactly f .0 e .line i h .digits k l
-
   -- "a lowercase letter a to f in a line, 16, place the first such line"
   pub lowest-small : (r : Rejection) → fileCheck16 f ≡ some r
       → (r .number ≡ 16) × (r .place < length (linesOf f)) × (hasLowercase (getD (linesOf f) (r .place) []) ≡ true)
@@ -94,12 +85,6 @@ module _ (f : List ℕ) where
     pub file-converted : (n : ℕ) → convertOutcome f buffer .answer ≡ Length n → Converted f buffer n
     file-converted = convert-leaves f buffer
 
-    -- "For a file still refused": it is refused as the base refused it, or by 10, and nothing is written
-    pub still-refused : (r : Rejection) → convertOutcome f buffer .answer ≡ RejectedWrite r
-        → ((baseRejection f andThen writeCheck10 (decoded f) (length buffer)) ≡ some r)
-        × (convertOutcome f buffer .file ≡ buffer)
-    still-refused = convert-keeps f buffer
-
     -- "it prints 01's `refused` line only": in a buffer with room for every file, what is printed for a file that the
     -- base refused is the line of that refusal and nothing else,
     pub line-only : maxFile ≤ length buffer → (r : Rejection) → baseRejection f ≡ some r →
@@ -117,11 +102,6 @@ module _ (f : List ℕ) where
     file-only = file-printed f buffer
 
     module _ (n : ℕ) (e : convertOutcome f buffer .answer ≡ Length n) where
-      -- what is written is accepted by the reader, and its table is that of the file
-      pub converted-read : AcceptedFile (take n (convertOutcome f buffer .file))
-          × (decoded (take n (convertOutcome f buffer .file)) ≡ decoded f)
-      converted-read = (converted-accepted f buffer n e, converted-table f buffer n e)
-
       -- converting it once more changes nothing
       pub converted-twice : (other : List ℕ) → n ≤ length other →
           let new = take n (convertOutcome f buffer .file) in

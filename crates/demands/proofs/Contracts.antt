@@ -5,11 +5,16 @@
 -- cited here.
 use mathlib.Core.Path.{_≡_}
 use Rattle.alphabeta.proofs as alphabeta
+use Rattle.alphabeta.specs.Outcome.{alphaBetaOutcome}
 use Rattle.plain.proofs as plain
+use Rattle.plain.specs.Outcome.{plainOutcome}
 use Rattle.mtd.proofs as mtd
+use Rattle.mtd.specs.Outcome.{mtdOutcome}
 use Rattle.mtdf.proofs as mtdf
+use Rattle.mtdf.specs.Outcome.{mtdfOutcome}
 use Rattle.states.specs.Entry.{blank}
 use Rattle.sss.proofs as sss
+use Rattle.sss.specs.Outcome.{sssOutcome, solveOutcome}
 use Rattle.graft.proofs as graft
 use Rattle.graft.specs.Outcome.{graftOutcome}
 use Rattle.shorter.proofs as shorter
@@ -42,39 +47,45 @@ use Rattle.text.proofs as text
 use Rattle.text.specs.Text.{refusedLine, textOf}
 use Rattle.report.specs.Report as reports
 use Rattle.demands.specs.Runs.{Runs}
-use Rattle.demands.specs.Calls.{buffers, AlphaBetaSays, PlainSays, MtdSays, MtdfSays, SssSays, SolveSays}
 
 -- the searches
 
 pub alphabeta-search : Runs alphabeta.search.ended alphabeta.search.Symbol.routine
     (λ κs (t, (m, (f, (o, _)))) r (_, (m′, (f′, (o′, _)))).
-    AlphaBetaSays (t .now) (buffers (m .now) (f .now)) (o .now) r (buffers (m′ .now) (f′ .now)) (o′ .now))
+    record { order = o′ .now; search = record { answer = r; evaluated = m′ .now; certificate = f′ .now } }
+    ≡ alphaBetaOutcome (t .now) (m .now) (f .now) (o .now))
 alphabeta-search = record { meets = alphabeta.search.Met.met }
 
 pub plain-search : Runs plain.search.ended plain.search.Symbol.routine
     (λ κs (t, (m, (f, _))) r (_, (m′, (f′, _))).
-    PlainSays (t .now) (buffers (m .now) (f .now)) r (buffers (m′ .now) (f′ .now)))
+    record { answer = r; evaluated = m′ .now; certificate = f′ .now } ≡ plainOutcome (t .now) (m .now) (f .now))
 plain-search = record { meets = plain.search.Met.met }
 
 pub mtd-search : Runs mtd.search.ended mtd.search.Symbol.routine
     (λ κs (t, (m, (f, (o, _)))) r (_, (m′, (f′, (o′, _)))).
-    MtdSays (t .now) (buffers (m .now) (f .now)) (o .now) r (buffers (m′ .now) (f′ .now)) (o′ .now))
+    record { order = o′ .now; search = record { answer = r; evaluated = m′ .now; certificate = f′ .now } }
+    ≡ mtdOutcome (t .now) (m .now) (f .now) (o .now))
 mtd-search = record { meets = mtd.search.Met.met }
 
 pub mtdf-search : Runs mtdf.search.ended mtdf.search.Symbol.routine
     (λ κs (t, (v, (m, (f, (o, _))))) r (_, (_, (m′, (f′, (o′, _))))).
-    MtdfSays v (t .now) (buffers (m .now) (f .now)) (o .now) r (buffers (m′ .now) (f′ .now)) (o′ .now))
+    record { order = o′ .now; search = record { answer = r; evaluated = m′ .now; certificate = f′ .now } }
+    ≡ mtdfOutcome v (t .now) (m .now) (f .now) (o .now))
 mtdf-search = record { meets = mtdf.search.Met.met }
 
 pub sss-search : Runs sss.search.ended sss.search.Symbol.routine
     (λ κs (t, (l, (m, (f, (o, (n, _)))))) r (_, (l′, (m′, (f′, (o′, _))))).
-    SssSays n (t .now) (l .now) (buffers (m .now) (f .now)) (o .now) r (l′ .now) (buffers (m′ .now) (f′ .now))
-    (o′ .now))
+    record {
+      list = l′ .now;
+      order = o′ .now;
+      search = record { answer = r; evaluated = m′ .now; certificate = f′ .now };
+    } ≡ sssOutcome n (t .now) (l .now) (m .now) (f .now) (o .now))
 sss-search = record { meets = sss.search.Met.met }
 
 pub sss-solve : Runs sss.solve.ended sss.solve.Symbol.routine
     (λ κs (t, (m, (f, (o, (n, _))))) r (_, (m′, (f′, (o′, _)))).
-    SolveSays n (t .now) (buffers (m .now) (f .now)) (o .now) r (buffers (m′ .now) (f′ .now)) (o′ .now))
+    record { order = o′ .now; search = record { answer = r; evaluated = m′ .now; certificate = f′ .now } }
+    ≡ solveOutcome n (t .now) (m .now) (f .now) (o .now))
 sss-solve = record { meets = sss.solve.Met.met }
 
 -- an entry for a list of states to lend

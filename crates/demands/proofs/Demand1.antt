@@ -1,14 +1,13 @@
 -- Demand 1, sentence by sentence. "each public entry takes whatever bytes it is lent, stays inside them, finishes":
 -- Contracts.antt says it of each entry.
 use Prim.Native.Nat.{ℕ, _≤_, _<_}
-use native.Mathlib.Omega.{arith}
-use mathlib.Core.Path.{_≡_, refl, sym, ap, _∙_}
+use mathlib.Core.Path.{_≡_, sym, ap, _∙_}
 use mathlib.Core.Logic.{_⊎_}
 use mathlib.Core.Bool.{true, false}
 use mathlib.Core.Option.{Option, none, some}
 use mathlib.Core.List.{List, []}
 use lib.Dec.{leb}
-use lib.ListN.{length, getD, replicate, length-replicate}
+use lib.ListN.{length, getD}
 use Rattle.lists.proofs.Choice.{clash}
 use Rattle.gametree.specs.declared.Side.the-variants.{Max, Min}
 use Rattle.gametree.specs.Certificate.{inBoth}
@@ -19,86 +18,51 @@ use Rattle.frames.specs.Position.{depthOf}
 use Rattle.frames.specs.Rejection.{_andThen_}
 use Rattle.frames.specs.Check.{check1, checkNode, nodesRejection, depthsRejection, rejection, checked}
 use Rattle.frames.specs.FirstNo.{LowestNo, LowestDeep, framesBefore9, rejectionBefore9}
-use Rattle.frames.proofs.Asked.{answer-rejected}
 use Rattle.frames.proofs.Stated.{both-passed, passed-then}
 use Rattle.frames.proofs.Acceptance.{rejected-first}
-use Rattle.frames.proofs.FirstNo.{then-first, lowest-no, nodes-first, depth-first}
-use Rattle.frames.proofs.FirstNo.{deeper-frames, deeper-rejected}
+use Rattle.frames.proofs.FirstNo.{then-first, lowest-no, nodes-first, depth-first, deeper-frames, deeper-rejected}
 use Rattle.lines.specs.Line.{isLine}
 use Rattle.lines.specs.Lines.{linesOf, decoded}
-use Rattle.reader.specs.File.{fileCheck2, fileCheck3, fileCheck16, fileRejection}
-use Rattle.reader.specs.File.{readRejection, readAnswer, tableAfter, filled}
+use Rattle.reader.specs.File.{fileCheck2, fileCheck3, fileCheck16, fileRejection, readRejection, readAnswer}
 use Rattle.reader.proofs.FirstLine.{line-first}
-use Rattle.writer.specs.Write.{writeRejection, writeOutcome}
-use Rattle.writer.specs.declared.Written.the-variants.{Rejected as RejectedWrite}
-use Rattle.treefile.proofs.Saving.{write-keeps}
+use Rattle.writer.specs.Write.{writeRejection}
+use Rattle.certificate.specs.Search.{searchRejection}
+use Rattle.sss.proofs as sss
+use Rattle.sss.proofs.OwnList.{own-list as same-outcome}
+use Rattle.demands.specs.Runs.{RunBoth}
+use Rattle.demands.proofs.Contracts as contracts
 use Rattle.verify.specs.Flags.{ruleHolds}
 use Rattle.verify.specs.declared.Verdict.the-variants.{Rejected as RejectedFlags}
 use Rattle.verify.specs.Check.{check11, check12, check13, certificateRejection, judged, verdict}
-use Rattle.certificate.specs.Search.{searchRejection, orderAfter}
-use Rattle.alphabeta.specs.Outcome.{reachedLeaves}
-use Rattle.mtd.specs.Outcome.{mtdLeaves}
-use Rattle.alphabeta.specs.declared.AlphaBetaAnswer.the-variants as ab-answer
-use Rattle.mtd.specs.declared.MtdAnswer.the-variants as mtd-answer
-use Rattle.states.specs.declared.State.{State}
-use Rattle.sss.specs.declared.SssAnswer.{SssAnswer}
-use Rattle.sss.specs.declared.SssAnswer.the-variants as sss-answer
-use Rattle.states.specs.Entry.{blank}
-use Rattle.sss.specs.Outcome.{listAfter, sssOutcome}
-use Rattle.sss.proofs.OwnList.{own-list as same-outcome}
-use Rattle.demands.specs.Calls.{listLengths, stateLengths, AlphaBetaCall, MtdCall, SssCall, SolveCall}
-use Rattle.demands.proofs.Views.{alphaBeta-refusal, mtd-refusal, sss-refusal, sss-order-kept}
 
--- The call `sss::solve`, which has a list of states of its own, is a call of SSS* that is lent so long a list, with the
--- same answer, the same buffers and the same list of leaves: all that is said of SSS* in these files holds of it.
-pub own-list : {t : List ℕ} {a : SssAnswer} (c : SolveCall t a) (l : List State) → maxNodes ≤ length l
-    → (d : SssCall t a) × (d .allowance ≡ c .allowance) × (d .lent ≡ c .lent) × (d .left ≡ c .left)
-    × (d .lentOrder ≡ c .lentOrder) × (d .leftOrder ≡ c .leftOrder) × (d .lentList ≡ l)
-own-list {t} c l n =
-    let o = sssOutcome (c .allowance) t l (c .lent .marks) (c .lent .flags) (c .lentOrder) in (
-      record {
-        allowance = c .allowance;
-        lent = c .lent;
-        left = c .left;
-        lentOrder = c .lentOrder;
-        leftOrder = c .leftOrder;
-        lentList = l;
-        leftList = o .list;
-        outcome =
-            ap (λ x. record { list = o .list; order = x .order; search = x .search })
-            (c .outcome ∙ sym (same-outcome (c .allowance) t l (c .lent .marks) (c .lent .flags) (c .lentOrder) n));
-      },
-      refl,
-      refl,
-      refl,
-      refl,
-      refl,
-      refl,
-    )
+-- The function `sss::solve`, which has a list of states of its own, gives and leaves what `sss::search` does that is
+-- lent so long a list: all that is said of `sss::search` in these files holds of it.
+pub own-list : RunBoth sss.solve.ended sss.search.ended sss.solve.Symbol.routine sss.search.Symbol.routine
+    (λ κs (t, (m, (f, (o, (n, _))))) r (_, (m′, (f′, (o′, _)))) κs′ (u, (l, (x, (y, (z, (k, _)))))) r′.
+    λ (_, (_, (x′, (y′, (z′, _))))). maxNodes ≤ length (l .now) → u .now ≡ t .now → x .now ≡ m .now
+    → y .now ≡ f .now → z .now ≡ o .now → k ≡ n
+    → (r ≡ r′) × (m′ .now ≡ x′ .now) × (f′ .now ≡ y′ .now) × (o′ .now ≡ z′ .now))
+own-list =
+    record {
+      one = _;
+      other = _;
+      oneRuns = contracts.sss-solve;
+      otherRuns = contracts.sss-search;
+      both = λ κs (t, (m, (f, (o, (n, _))))) r (_, (m′, (f′, (o′, _)))) s.
+          λ κs′ (u, (l, (x, (y, (z, (k, _)))))) r′ (_, (l′, (x′, (y′, (z′, _))))) c long i₁ i₂ i₃ i₄ i₅.
+          let d = rw i₁ at (rw i₂ at (rw i₃ at (rw i₄ at (rw i₅ at c)))) in
+          let e = s ∙ sym (same-outcome n (t .now) (l .now) (m .now) (f .now) (o .now) long)
+          ∙ sym (ap (λ x. record { order = x .order; search = x .search }) d) in (
+            ap (λ x. x .search .answer) e,
+            ap (λ x. x .search .evaluated) e,
+            ap (λ x. x .search .certificate) e,
+            ap (λ x. x .order) e,
+          );
+    }
 
 -- "and gives a result or one numbered refusal with its place": a refusal is the first "no" to the questions that the
--- call puts
-
-module _ {t : List ℕ} {r : Rejection} where
-  pub first-alphaBeta : (c : AlphaBetaCall t (ab-answer.Rejected r))
-      → searchRejection t (listLengths (c .lent) (c .lentOrder)) ≡ some r
-  first-alphaBeta c = alphaBeta-refusal c .first
-
-  pub first-mtd : (c : MtdCall t (mtd-answer.Rejected r))
-      → searchRejection t (listLengths (c .lent) (c .lentOrder)) ≡ some r
-  first-mtd c = mtd-refusal c .first
-
-  pub first-sss : (c : SssCall t (sss-answer.Rejected r))
-      → searchRejection t (stateLengths (c .lentList) (c .lent) (c .lentOrder)) ≡ some r
-  first-sss c = sss-refusal c .first
-
-pub first-file : (f table : List ℕ) (r : Rejection) → readAnswer f table ≡ RejectedTable r
-    → readRejection f table ≡ some r
-first-file f table r e = answer-rejected (frames (decoded f)) r (readRejection f table) (sym e)
-
-pub first-written : (t file : List ℕ) (r : Rejection) → writeOutcome t file .answer ≡ RejectedWrite r
-    → writeRejection t (length file) ≡ some r
-first-written t file r e = write-keeps t file r e .0
+-- call puts. Of each call that is lent memory to change: `alphabeta-keeps` and its like in TheSentence.antt, which say
+-- that the memory is then as it was
 
 pub first-table : (t : List ℕ) (r : Rejection) → checked t ≡ RejectedTable r → rejection t ≡ some r
 first-table t r e = rejected-first t r (sym e)
@@ -174,44 +138,3 @@ lowest-max t flags r e = lowest-no _ 12 (frames t) r e
 pub lowest-min : (t flags : List ℕ) (r : Rejection) → check13 t flags ≡ some r
     → LowestNo (ruleHolds Min t flags) 13 (frames t) r
 lowest-min t flags r e = lowest-no _ 13 (frames t) r e
-
--- "After a refusal all lent memory holds what it held before": the buffers of each search (those of the plain engine:
--- `kept-plain` in Plain.antt) and its list of leaves, the list of states of SSS*, the table of the reader, the buffer
--- of the writer (that of the converter: `still-refused` in Capitals.antt; of a graft: `kept-result` in Grafting.antt;
--- the table that is filled: `kept-table` in WorstCase.antt); the other entries are lent nothing that they could change
-
-module _ {t : List ℕ} {r : Rejection} where
-  pub kept-alphaBeta : (c : AlphaBetaCall t (ab-answer.Rejected r))
-      → (c .left ≡ c .lent) × (c .leftOrder ≡ c .lentOrder)
-  kept-alphaBeta c = (
-    alphaBeta-refusal c .kept,
-    ap (λ x. x .order) (c .outcome)
-        ∙ ap (λ q. orderAfter q (reachedLeaves t) (c .lentOrder)) (alphaBeta-refusal c .first),
-  )
-
-  pub kept-mtd : (c : MtdCall t (mtd-answer.Rejected r)) → (c .left ≡ c .lent) × (c .leftOrder ≡ c .lentOrder)
-  kept-mtd c = (
-    mtd-refusal c .kept,
-    ap (λ x. x .order) (c .outcome) ∙ ap (λ q. orderAfter q (mtdLeaves t) (c .lentOrder)) (mtd-refusal c .first),
-  )
-
-  pub kept-sss : (c : SssCall t (sss-answer.Rejected r))
-      → (c .left ≡ c .lent) × (c .leftOrder ≡ c .lentOrder) × (c .leftList ≡ c .lentList)
-  kept-sss c = (
-    sss-refusal c .kept,
-    sss-order-kept c,
-    ap (λ x. x .list) (c .outcome) ∙ ap (λ q. listAfter q (frames t) (c .lentList)) (sss-refusal c .first),
-  )
-
-  pub kept-solve : (c : SolveCall t (sss-answer.Rejected r)) → (c .left ≡ c .lent) × (c .leftOrder ≡ c .lentOrder)
-  kept-solve c =
-      let d = own-list c (replicate maxNodes blank) (omega (arith, length-replicate {A = State} maxNodes blank)) in
-      let k = kept-sss (d .0) in
-      (sym (d .3) ∙ k .0 ∙ d .2, sym (d .5) ∙ k .1 ∙ d .4)
-
-pub kept-table : (f table : List ℕ) (r : Rejection) → readAnswer f table ≡ RejectedTable r → tableAfter f table ≡ table
-kept-table f table r e = ap (λ q. filled q (decoded f) table) (first-file f table r e)
-
-pub kept-file : (t file : List ℕ) (r : Rejection) → writeOutcome t file .answer ≡ RejectedWrite r
-    → writeOutcome t file .file ≡ file
-kept-file t file r e = write-keeps t file r e .1

@@ -1,6 +1,7 @@
 -- Grafting a deeper analysis (02: N9), sentence by sentence, over the definition that the contract of the call cites.
 -- The first table is t, the named node k, the second table u, the lent buffer b; the table at the buffer's front after
--- a call that gives n nodes is `handed t k u b n`.
+-- a call that gives n nodes is `handed t k u b n`. Its minimax value: `graft-value` in Sentences.antt; a refusal:
+-- `graft-keeps` in TheSentence.antt.
 use Prim.Native.Nat.{ℕ, _+_, _-_, _*_, _≤_, _<_}
 use native.Mathlib.Omega.{arith}
 use native.Mathlib.Decide.{decLe}
@@ -10,26 +11,26 @@ use mathlib.Core.Option.{some}
 use mathlib.Core.List.{List, _++_}
 use lib.ListN.{length, getD, drop}
 use Rattle.gametree.specs.declared.Side.the-variants.{Max}
-use Rattle.gametree.specs.Tree.{other, minimax}
+use Rattle.gametree.specs.Tree.{other}
 use Rattle.gametree.specs.Graft.{relabelled}
 use Rattle.frames.specs.declared.Rejection.{Rejection}
 use Rattle.frames.specs.declared.Checked.the-variants.{Nodes, Rejected}
 use Rattle.frames.specs.Frame.{frameSize, maxNodes, maxDepth, frames, byteOf, childCount}
 use Rattle.frames.specs.Position.{parentOf, depthOf, sideOf}
-use Rattle.frames.specs.Tree.{tree, valuation}
+use Rattle.frames.specs.Tree.{tree}
 use Rattle.frames.specs.Check.{rejection, Accepted}
 use Rattle.frames.proofs.Positions.{position-root}
 use Rattle.frames.proofs.Acceptance.{accepted-formed}
-use Rattle.graftable.specs.Questions.{graftSize, graftRejection}
+use Rattle.graftable.specs.Questions.{graftSize}
 use Rattle.graft.specs.Sources.{sources}
 use Rattle.graft.specs.Table.{graftTable}
 use Rattle.graftable.specs.Graftable.{MaxLeaf, Graftable}
 use Rattle.graft.specs.Outcome.{graftOutcome}
-use Rattle.graft.specs.results.Grafted.{graftTree, graftValue, handed}
+use Rattle.graft.specs.results.Grafted.{graftTree, handed}
 use Rattle.graft.proofs.Acceptance.{accepted-graftable}
-use Rattle.graft.proofs.Grafting.{leaf-other, graft-keeps, graft-first, graft-second, graft-no-leaf, graft-too-large}
-use Rattle.graft.proofs.Grafting.{graft-deep, graft-short, graft-gives, given-graftable, grafted-nodes, grafted-rest}
-use Rattle.graft.proofs.Grafting.{grafted-accepted, grafted-tree, grafted-bytes, grafted-value}
+use Rattle.graft.proofs.Grafting.{leaf-other, graft-first, graft-second, graft-no-leaf, graft-too-large, graft-deep}
+use Rattle.graft.proofs.Grafting.{graft-short, graft-gives, given-graftable, grafted-nodes, grafted-rest}
+use Rattle.graft.proofs.Grafting.{grafted-accepted, grafted-tree, grafted-bytes}
 
 -- "A leaf's mover is the other side of its parent's"
 pub leaf-mover : (t : List ℕ) (k : ℕ) → Accepted t → 0 < k → k < frames t → childCount t k ≡ 0
@@ -73,11 +74,6 @@ module _ (t : List ℕ) (k : ℕ) (u b : List ℕ) where
     -- "Bytes past the result keep their contents"
     pub rest-kept : drop (frameSize * n) (graftOutcome t k u b .result) ≡ drop (frameSize * n) b
     rest-kept = grafted-rest t k u b n e
-
-    -- "Its minimax value equals that of the first tree with the leaf's worth replaced by the grafted tree's value,
-    -- depths counted in the result"
-    pub result-value : minimax (valuation (handed t k u b n)) (tree (handed t k u b n)) ≡ graftValue t k u
-    result-value = grafted-value t k u b n e
 
   -- "The tables are questioned in turn, the first before the second"
   pub first-in-turn : (r : Rejection) → rejection t ≡ some r → graftOutcome t k u b .answer ≡ Rejected r
@@ -131,11 +127,3 @@ module _ (t : List ℕ) (k : ℕ) (u b : List ℕ) where
   pub short-result : Graftable t k u → length b < frameSize * graftSize t u
       → graftOutcome t k u b .answer ≡ Rejected (record { number = 10; place = 0 })
   short-result = graft-short t k u b
-
-  -- demand 1: a refusal is the first "no", and after it the buffer holds what it held before
-  pub first-graft : (r : Rejection) → graftOutcome t k u b .answer ≡ Rejected r
-      → graftRejection t k u (length b) ≡ some r
-  first-graft r e = graft-keeps t k u b r e .0
-
-  pub kept-result : (r : Rejection) → graftOutcome t k u b .answer ≡ Rejected r → graftOutcome t k u b .result ≡ b
-  kept-result r e = graft-keeps t k u b r e .1

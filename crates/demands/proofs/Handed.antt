@@ -23,8 +23,7 @@ use Rattle.frames.specs.Formed.{WellFormed}
 use Rattle.frames.proofs.Acceptance.{accepted-formed}
 use Rattle.frames.proofs.Nodes.{tree-range}
 use Rattle.frames.proofs.Proper.{tree-proper}
-use Rattle.bounds.specs.Marks.{mark}
-use Rattle.bounds.specs.Marks.{marked, ones}
+use Rattle.bounds.specs.Marks.{mark, marked, ones}
 use Rattle.verify.specs.Flags.{member}
 use Rattle.frames.specs.Value.{valueOf}
 use Rattle.positions.proofs.Buffers.{written-length, written-at}
@@ -33,8 +32,8 @@ use Rattle.alphabeta.specs.Outcome.{reachedLeaves}
 use Rattle.verify.specs.declared.Verdict.the-variants.{Value}
 use Rattle.verify.specs.Check.{verdict}
 use Rattle.verify.proofs.Theorems.{certificate-verdict}
-use Rattle.demands.specs.Calls.{Buffers, Call, left, ruleLeaves}
-use Rattle.demands.specs.Handed.{Marked, CertifiedBy}
+use Rattle.demands.specs.Handed.{Buffers, Marked, CertifiedBy}
+use Rattle.demands.proofs.Calls.{Call, left, leaves}
 use Rattle.demands.proofs.Views.{HandedBack, view}
 
 -- a flag is at most 3
@@ -117,11 +116,11 @@ module _ {t : List ℕ} (c : Call t) where
   marks-reached k m =
       let leaf = sym (marked-at (view c .handed) k (m .node)) ∙ eq-eqb _ _ (m .mark) in
       let all = domination (valuation t) (tree t) (proper (view c .handed)) (view c .searched) in
-      all-at (λ k. among (reachedLeaves t) k ≡ true) (ruleLeaves c)
-      (subst (λ v. All (λ k. among v k ≡ true) (ruleLeaves c)) (alphaBeta-leaves (valuation t) (tree t)) all) k leaf
+      all-at (λ k. among (reachedLeaves t) k ≡ true) (leaves c)
+      (subst (λ v. All (λ k. among v k ≡ true) (leaves c)) (alphaBeta-leaves (valuation t) (tree t)) all) k leaf
 
   -- so there are no more of them than alpha-beta evaluates
-  pub count-most : length (ruleLeaves c) ≤ length (reachedLeaves t)
+  pub count-most : length (leaves c) ≤ length (reachedLeaves t)
   count-most =
       rw (← alphaBeta-leaves (valuation t) (tree t))
       (domination-count (valuation t) (tree t) (proper (view c .handed)) (view c .searched))

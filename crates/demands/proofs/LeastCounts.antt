@@ -14,7 +14,7 @@ use Rattle.gametree.specs.Certificate.{Certifies, pairLeaves}
 use Rattle.gametree.proofs.minimax.Counts.{leaves-size, pairLeaves-all}
 use Rattle.gametree.proofs.certificates.Regular.{pair-count}
 use Rattle.frames.specs.declared.Rejection.{Rejection}
-use Rattle.frames.specs.Frame.{maxChildren, maxDepth, frames, childCount, byte3, sameMover}
+use Rattle.frames.specs.Frame.{maxChildren, maxDepth, childCount, byte3, sameMover}
 use Rattle.frames.specs.Position.{parentBefore, positionWithin, positionOf, depthOf}
 use Rattle.frames.specs.Tree.{tree, valuation}
 use Rattle.frames.specs.Check.{Accepted}
@@ -23,18 +23,12 @@ use Rattle.frames.specs.results.Cases.{small}
 use Rattle.frames.proofs.Acceptance.{accepted-formed}
 use Rattle.frames.proofs.Totals.{tree-size}
 use Rattle.frames.proofs.Regular.{tree-regular, regular-depth, regular-width}
-use Rattle.bounds.specs.Marks.{ones}
-use Rattle.plain.specs.declared.PlainResult.{PlainResult}
-use Rattle.plain.specs.declared.PlainAnswer.the-variants as plain-answer
 use Rattle.leastcount.specs.declared.Least.the-variants.{Leaves, Rejected}
 use Rattle.leastcount.specs.Rule.{cap, leastOf, leastCount}
 use Rattle.leastcount.specs.Answer.{leastRejection, leastGiven, leastAnswer}
 use Rattle.leastcount.proofs.Questions.{wrong-width, wrong-depth, inside-table, passed-inside, given-leaves}
 use Rattle.leastcount.proofs.Questions.{given-rejected}
-use Rattle.demands.specs.Calls.{PlainCall, Call, found}
-use Rattle.demands.proofs.Demand2.{only-accepted}
-use Rattle.demands.proofs.Demand3.{smallest, smallest-pair}
-use Rattle.demands.proofs.Plain.{plain-accepted, leaves-marked}
+use Rattle.demands.proofs.Evaluations.{smallest-pair}
 
 -- "width 1 to 40 by depth 0 to 18: width to the power of half the depth rounded up, plus width to the power of half
 -- rounded down, less 1, capped at 65,535": so says `leastCount`, and each entry is given
@@ -78,27 +72,6 @@ module _ (t : List ℕ) (w d : ℕ) (r : RegularTable w d t) where
     pub every-pair : Accepted t → (g h : ℕ → Bool) (v : ℕ) → Certifies (valuation t) (tree t) g h v
         → pairLeaves g h (tree t) ≡ n
     every-pair a g h v c = omega (arith, pairs-alike a g h v c, counted, below-the-cap a)
-
-    -- "and no finished search counts fewer"
-    pub no-fewer : (c : Call t) → n ≤ found c .leaves
-    no-fewer c =
-        let s = smallest-pair t (only-accepted c) in
-        omega (
-          arith,
-          every-pair (only-accepted c) (s .0) (s .1) _ (s .2 .certifies),
-          smallest c (s .0) (s .1) (s .2),
-        )
-
-    -- nor does the plain engine mark fewer
-    pub no-fewer-plain : {f : PlainResult} (c : PlainCall t (plain-answer.Found f)) → n ≤ ones (c .left .marks) (frames t)
-    no-fewer-plain c =
-        let s = smallest-pair t (plain-accepted c) in
-        omega (
-          arith,
-          every-pair (plain-accepted c) (s .0) (s .1) _ (s .2 .certifies),
-          pairLeaves-all (s .0) (s .1) (tree t),
-          leaves-marked c,
-        )
 
 -- "Turned away: width outside 1 to 40, 22, place 0; .. width first"
 pub outside-width : (w d : ℕ) → (w ≡ 0) ⊎ (maxChildren < w)

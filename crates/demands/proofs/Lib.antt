@@ -1,29 +1,39 @@
 -- Read TheSentence first: the sentence of the release note, and the value and the bytes behind it, said of the
 -- functions that run. Sentences has the other headline sentences, Contracts what each public function promises, and
--- Exports what each function of the library for other languages does. Then the demands, sentence by sentence, over the
--- definitions that are cited there: Demand1, Demand2 and Demand3; the plain engine of request N1: Plain; the writer of
--- request N3: Saving; tables without wins and losses (request N5): Ordinary; SSS* within an allowance (request N6):
--- Allowance; capital letters (request N7): Capitals; tables without a second capture (request N8): Alternating; grafts
--- (request N9): Grafting; a leaf's value for a wanted root value (request N10): Wanted; the worst-case filling (request
--- N11): WorstCase; least counts (request N12): LeastCounts; the shorter of two certificates (request N13): Shorter; the
--- lists of leaves (request N14): Order; MTD(f), which no request asks for: Mtdf. The other files carry the theory's
--- theorems to calls over byte tables.
+-- Exports what each function of the library for other languages does. Then the demands, sentence by sentence: Demand1,
+-- Demand2 and Demand3; the plain engine of request N1: Plain; the writer of request N3: Saving; SSS* within an
+-- allowance (request N6): Allowance; capital letters (request N7): Capitals; tables without a second capture (request
+-- N8): Alternating; grafts (request N9): Grafting; a leaf's value for a wanted root value (request N10): Wanted; the
+-- worst-case filling (request N11): WorstCase; least counts (request N12): LeastCounts; the shorter of two certificates
+-- (request N13): Shorter; the lists of leaves (request N14): Order; MTD(f), which no request asks for: Mtdf. The other
+-- files carry the theory's theorems to calls over byte tables; what is proved of calls is said of the functions that
+-- run in the files above.
 pub mod TheSentence
 pub mod Sentences
 pub mod Contracts
 pub mod Exports
+mod Calls
+mod ListedRuns
 mod Running
 mod Parts
 mod Views
 mod Handed
 mod Local
 mod Spending
+mod Refusals
+mod Results
+mod Evaluations
+mod PlainCalls
+mod Allowed
+mod Listing
+mod Dearest
+mod Fewest
+mod MtdfCalls
 pub mod Demand1
 pub mod Demand2
 pub mod Demand3
 pub mod Plain
 pub mod Saving
-pub mod Ordinary
 pub mod Allowance
 pub mod Capitals
 pub mod Alternating

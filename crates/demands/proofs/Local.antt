@@ -22,7 +22,7 @@ use Rattle.positions.specs.Buffer.{tabulate, written}
 use Rattle.certificate.specs.Search.{findings}
 use Rattle.positions.proofs.Buffers.{length-tabulate, tabulate-same}
 use Rattle.certificate.proofs.Marks.{evaluated-within}
-use Rattle.demands.specs.Calls.{Call, found, lent, left, leftOrder, ruleLeaves}
+use Rattle.demands.proofs.Calls.{Call, found, lent, left, leftOrder, leaves}
 use Rattle.demands.specs.Handed.{AgreeOnMarked, Alike}
 use Rattle.demands.proofs.Views.{view}
 use Rattle.demands.proofs.Handed.{formed, proper, marks-at}
@@ -33,29 +33,29 @@ unfolding written
 take-written f n b = take-at (tabulate f n) (drop n b) n (length-tabulate f n)
 
 -- the list of leaves that a call leaves begins with its leaves, as many as the count says
-pub first-leaves : {t : List ℕ} (c : Call t) → take (found c .leaves) (leftOrder c) ≡ ruleLeaves c
+pub first-leaves : {t : List ℕ} (c : Call t) → take (found c .leaves) (leftOrder c) ≡ leaves c
 first-leaves c =
-    ap₂ take (ap (λ f. f .leaves) (view c .results)) (view c .order) ∙ take-append-seam (ruleLeaves c) _
+    ap₂ take (ap (λ f. f .leaves) (view c .results)) (view c .order) ∙ take-append-seam (leaves c) _
 
 module _ {t u : List ℕ} (c : Call t) (d : Call u) (h : SameShape t u) (a : AgreeOnMarked t u (left c)) where
   -- the trees are one, and the scores agree on the evaluated leaves
   pub one-tree : tree t ≡ tree u
   one-tree = same-tree t u h (formed (view c .handed)) (formed (view d .handed))
 
-  pub agreed-scores : All (λ k. valuation t k ≡ valuation u k) (ruleLeaves c)
+  pub agreed-scores : All (λ k. valuation t k ≡ valuation u k) (leaves c)
   agreed-scores =
       all-zip _ _ _ (λ k l m.
       same-score t u h k l (a k (record { node = l; mark = marks-at (view c .handed) k l ∙ ap (λ b. cond b 1 0) m })))
-      (ruleLeaves c) (evaluated-within t (formed (view c .handed)) (view c .handed .deciding)) (all-among (ruleLeaves c))
+      (leaves c) (evaluated-within t (formed (view c .handed)) (view c .handed .deciding)) (all-among (leaves c))
 
-  agreed : SameResults (valuation t) (valuation u) (tree t) (ruleLeaves c)
+  agreed : SameResults (valuation t) (valuation u) (tree t) (leaves c)
   agreed =
       local-results (valuation t) (valuation u) (tree t) (proper (view c .handed))
       (subst (Proper (valuation u)) (sym one-tree) (proper (view d .handed))) (view c .searched) agreed-scores
 
-  module _ (e : ruleLeaves c ≡ ruleLeaves d) where
+  module _ (e : leaves c ≡ leaves d) where
     -- what is to be found is the same
-    pub same-findings : findings (ruleLeaves c) t ≡ findings (ruleLeaves d) u
+    pub same-findings : findings (leaves c) t ≡ findings (leaves d) u
     same-findings =
         let v : minimax (valuation t) (tree t) ≡ minimax (valuation u) (tree u) =
         agreed .sameValue ∙ ap (minimax (valuation u)) one-tree in
@@ -71,8 +71,8 @@ module _ {t u : List ℕ} (c : Call t) (d : Call u) (h : SameShape t u) (a : Agr
     pub same-found : found c ≡ found d
     same-found = view c .results ∙ same-findings ∙ sym (view d .results)
 
-    flags-agree : (k : ℕ) → flag (valuation t) (among (ruleLeaves c)) (tree t) k
-        ≡ flag (valuation u) (among (ruleLeaves d)) (tree u) k
+    flags-agree : (k : ℕ) → flag (valuation t) (among (leaves c)) (tree t) k
+        ≡ flag (valuation u) (among (leaves d)) (tree u) k
     flags-agree k = agreed .sameFlags k ∙ ap₂ (λ x y. flag (valuation u) (among x) y k) e one-tree
 
     -- the marks and the flags are the same
@@ -81,10 +81,10 @@ module _ {t u : List ℕ} (c : Call t) (d : Call u) (h : SameShape t u) (a : Agr
         record {
           marks =
               ap (take (frames t)) (view c .handed .marks)
-              ∙ take-written (mark (among (ruleLeaves c))) (frames t) (lent c .marks)
+              ∙ take-written (mark (among (leaves c))) (frames t) (lent c .marks)
               ∙ ap₂ (λ w n. tabulate (mark (among w)) n) e (h .sameFrames)
               ∙ sym (ap₂ take (h .sameFrames) (view d .handed .marks)
-              ∙ take-written (mark (among (ruleLeaves d))) (frames u) (lent d .marks));
+              ∙ take-written (mark (among (leaves d))) (frames u) (lent d .marks));
           flags =
               ap (take (frames t)) (view c .handed .flags)
               ∙ take-written _ (frames t) (lent c .flags)

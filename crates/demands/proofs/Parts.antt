@@ -3,7 +3,8 @@ use mathlib.Core.Path.{_≡_, refl, sym, ap, ap₂}
 use mathlib.Core.Option.{Option, none, some}
 use Rattle.frames.specs.declared.Rejection.{Rejection}
 use Rattle.certificate.specs.Search.{marksOf, flagsOf, Search, outcome}
-use Rattle.demands.specs.Calls.{Buffers, outcomeOf}
+use Rattle.demands.specs.Handed.{Buffers}
+use Rattle.demands.proofs.Calls.{outcomeOf}
 
 -- the questions q of a search passed: it found what it is to find, and left the marks and the flags of its leaves
 pub record Result {F : Type 0} (q : Option Rejection) (s : Search) (expected given : F) (left : Buffers) : Type 0 where

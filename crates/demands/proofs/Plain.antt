@@ -1,125 +1,72 @@
--- The plain engine (02: N1), sentence by sentence, over the calls of Calls.antt. "an engine without cuts in which Max's
--- turn asks Min's turn for each child, and Min's asks Max's": `max_turn` and `min_turn` in plain/src/lib.rt.
+-- The plain engine (02: N1), sentence by sentence, said of `plain::search` as it runs. "an engine without cuts in which
+-- Max's turn asks Min's turn for each child, and Min's asks Max's": `max_turn` and `min_turn` in plain/src/lib.rt. "It
+-- is proved equal to alpha-beta in both for every accepted tree": `plain-agrees` in Sentences. A refusal is the first
+-- "no" to questions 1 to 10, and leaves the buffers as they were: `plain-keeps` in TheSentence.
 use Prim.Native.Nat.{ℕ, _<_}
-use mathlib.Core.Path.{_≡_, refl, sym, ap, _∙_}
+use mathlib.Core.Path.{_≡_, ap, _∙_}
 use mathlib.Core.Bool.{cond}
-use mathlib.Core.Option.{some}
-use mathlib.Core.List.{List}
 use lib.Dec.{eqb}
 use lib.ListN.{length, getD}
-use Rattle.lists.proofs.Choice.{clash}
 use Rattle.gametree.specs.Tree.{minimax}
 use Rattle.gametree.specs.Move.{rootMove}
-use Rattle.gametree.proofs.Theorems.{all-deciding}
-use Rattle.frames.specs.declared.Rejection.{Rejection}
 use Rattle.frames.specs.Frame.{frames, childCount}
 use Rattle.frames.specs.Tree.{tree, valuation}
 use Rattle.frames.specs.Value.{valueOf}
 use Rattle.frames.specs.Check.{Accepted}
-use Rattle.frames.proofs.Acceptance.{accepted-formed}
-use Rattle.frames.proofs.Proper.{tree-proper}
-use Rattle.certificate.specs.declared.Findings.{Findings}
 use Rattle.bounds.specs.Marks.{ones}
-use Rattle.certificate.specs.Search.{searchRejection, marksOf, flagsOf}
+use Rattle.certificate.specs.Search.{flagsOf}
 use Rattle.certificate.proofs.Questions.{room-passed}
 use Rattle.verify.specs.declared.Verdict.the-variants.{Value}
 use Rattle.verify.specs.Check.{verdict}
-use Rattle.alphabeta.specs.declared.AlphaBetaAnswer.the-variants as ab-answer
-use Rattle.plain.specs.declared.PlainResult.{PlainResult}
+use Rattle.plain.proofs as plain
 use Rattle.plain.specs.declared.PlainAnswer.the-variants as plain-answer
-use Rattle.plain.specs.Outcome.{allLeaves, plainFound, plainSearch}
-use Rattle.plain.proofs.Leaves.{leaves-are}
-use Rattle.demands.specs.Calls.{Buffers, lengths, AlphaBetaCall, PlainCall, alphaBeta}
-use Rattle.demands.specs.Handed.{Room, CertifiedBy}
-use Rattle.demands.proofs.Parts.{Result, Refusal, Apart, result-of, refusal-of}
-use Rattle.demands.proofs.Views.{HandedBack, both-room}
-use Rattle.demands.proofs.Handed.{marks-at, marks-count, flags-certify, flags-verified}
-use Rattle.demands.proofs.Demand2.{value-minimax, move-first}
-
-plain-apart : Apart plain-answer.Found plain-answer.Rejected
-plain-apart =
-    record {
-      sameFound = λ g h e. cc;
-      sameRejected = λ x y e. cc;
-      neverBoth = λ g x e. clash (cc);
-    }
+use Rattle.plain.specs.Outcome.{allLeaves, plainFound}
+use Rattle.demands.specs.Runs.{Runs}
+use Rattle.demands.specs.Handed.{buffers, Room, CertifiedBy}
+use Rattle.demands.specs.Searches.{EachPlain}
+use Rattle.demands.proofs.Contracts as contracts
+use Rattle.demands.proofs.Running.{follows, each-plain}
+use Rattle.demands.proofs.Calls.{lengths}
+use Rattle.demands.proofs.PlainCalls as calls
 
 -- "and gives value and move": with an accepted table and room in what is lent there is a result
-pub plain-gives : (t : List ℕ) → Accepted t → (b : Buffers) → Room t b
-    → (c : PlainCall t (plain-answer.Found (plainFound t))) × (c .lent ≡ b)
-plain-gives t a b h = (
-  record {
-    lent = b;
-    left = record { marks = marksOf (allLeaves t) t (b .marks); flags = flagsOf (allLeaves t) t (b .flags) };
-    outcome = rw (room-passed t (lengths b) a (h .marks, (h .flags, tt)));
-  },
-  refl,
-)
+pub plain-gives : Runs plain.search.ended plain.search.Symbol.routine
+    (λ κs (t, (m, (f, _))) r e. Accepted (t .now) → Room (t .now) (buffers (m .now) (f .now))
+    → r ≡ plain-answer.Found (plainFound (t .now)))
+plain-gives =
+    follows contracts.plain-search
+    (λ κs (t, (m, (f, _))) r e s a h.
+    ap (λ x. x .answer) s
+    ∙ rw (room-passed (t .now) (lengths (buffers (m .now) (f .now))) a (h .marks, (h .flags, tt))))
 
-module _ {t : List ℕ} {f : PlainResult} (c : PlainCall t (plain-answer.Found f)) where
-  result : Result (searchRejection t (lengths (c .lent))) (plainSearch t (c .lent .marks) (c .lent .flags))
-      (plainFound t) f (c .left)
-  result = result-of plain-apart _ _ _ _ (c .outcome)
+-- and only an accepted table gets one
+pub plain-accepted : EachPlain (λ t f _ _. Accepted t)
+plain-accepted = each-plain _ (λ t f c. calls.plain-accepted c)
 
-  handed : HandedBack t (allLeaves t) (c .lent) (c .left)
-  handed =
-      let p = both-room t (c .lent) (result .passed) in
-      record {
-        accepted = p .0;
-        room = p .1;
-        deciding = all-deciding (valuation t) (tree t) (tree-proper t (accepted-formed t (p .0)));
-        marks = result .marks;
-        flags = result .flags;
-      }
+-- the value is the minimax value, the move the first root move that reaches it
+pub plain-value : EachPlain (λ t f _ _. f .value ≡ valueOf (minimax (valuation t) (tree t)))
+plain-value = each-plain _ (λ t f c. calls.plain-value c)
 
-  -- and only an accepted table gets one
-  pub plain-accepted : Accepted t
-  plain-accepted = handed .accepted
+pub plain-move : EachPlain (λ t f _ _. f .«root_move» ≡ rootMove (valuation t) (tree t))
+plain-move = each-plain _ (λ t f c. calls.plain-move c)
 
-  -- the value is the minimax value, the move the first root move that reaches it
-  pub plain-value : f .value ≡ valueOf (minimax (valuation t) (tree t))
-  plain-value = ap (λ x. x .value) (result .found)
+-- "It marks every leaf": a node's mark is 1 if it has no children, and else 0
+pub every-leaf : EachPlain (λ t f _ d. (k : ℕ) → k < frames t
+    → getD (d .marks) k 0 ≡ cond (eqb (childCount t k) 0) 1 0)
+every-leaf = each-plain _ (λ t f c. calls.every-leaf c)
 
-  pub plain-move : f .«root_move» ≡ rootMove (valuation t) (tree t)
-  plain-move = ap (λ x. x .«root_move») (result .found)
+-- so there are as many marks at 1 as leaves
+pub leaves-marked : EachPlain (λ t f _ d. ones (d .marks) (frames t) ≡ length (allLeaves t))
+leaves-marked = each-plain _ (λ t f c. calls.leaves-marked c)
 
-  -- "It marks every leaf": a node's mark is 1 if it has no children, and else 0
-  pub every-leaf : (k : ℕ) → k < frames t → getD (c .left .marks) k 0 ≡ cond (eqb (childCount t k) 0) 1 0
-  every-leaf k h =
-      marks-at handed k h ∙ ap (λ b. cond b 1 0) (leaves-are t (accepted-formed t (handed .accepted)) k h)
+-- "and it writes a proof by the same bounds": the flags are read off the bounds of the marked leaves, as those of each
+-- search are; the leaves are all of them
+pub same-bounds : EachPlain (λ t f b d. d .flags ≡ flagsOf (allLeaves t) t (b .flags))
+same-bounds = each-plain _ (λ t f c. calls.same-bounds c)
 
-  -- so there are as many marks at 1 as leaves
-  pub leaves-marked : ones (c .left .marks) (frames t) ≡ length (allLeaves t)
-  leaves-marked = sym (marks-count handed)
+pub plain-certified : EachPlain (λ t f _ d. CertifiedBy t d)
+plain-certified = each-plain _ (λ t f c. calls.plain-certified c)
 
-  -- "and it writes a proof by the same bounds": the flags are read off the bounds of the marked leaves, as those of
-  -- each search are; the leaves are all of them
-  pub same-bounds : c .left .flags ≡ flagsOf (allLeaves t) t (c .lent .flags)
-  same-bounds = handed .flags
-
-  pub plain-certified : CertifiedBy t (c .left)
-  plain-certified = flags-certify handed
-
-  -- the check of certificates accepts them, and gives the value found
-  pub plain-verified : verdict t (c .left .flags) ≡ Value (f .value)
-  plain-verified = flags-verified handed ∙ ap Value (sym plain-value)
-
--- "It is proved equal to alpha-beta in both for every accepted tree"
-pub same-as-alphaBeta : {t : List ℕ} {f : Findings} {g : PlainResult} → AlphaBetaCall t (ab-answer.Found f)
-    → PlainCall t (plain-answer.Found g) → (g .value ≡ f .value) × (g .«root_move» ≡ f .«root_move»)
-same-as-alphaBeta a c = (
-  plain-value c ∙ sym (value-minimax (alphaBeta a)),
-  plain-move c ∙ sym (move-first (alphaBeta a)),
-)
-
--- a refusal is the first "no" to questions 1 to 10, and leaves the buffers as they were
-module _ {t : List ℕ} {r : Rejection} (c : PlainCall t (plain-answer.Rejected r)) where
-  refusal : Refusal (searchRejection t (lengths (c .lent))) (plainSearch t (c .lent .marks) (c .lent .flags)) r
-      (c .left)
-  refusal = refusal-of plain-apart _ _ _ _ (c .outcome)
-
-  pub first-plain : searchRejection t (lengths (c .lent)) ≡ some r
-  first-plain = refusal .first
-
-  pub kept-plain : c .left ≡ c .lent
-  kept-plain = refusal .kept
+-- the check of certificates accepts them, and gives the value found
+pub plain-verified : EachPlain (λ t f _ d. verdict t (d .flags) ≡ Value (f .value))
+plain-verified = each-plain _ (λ t f c. calls.plain-verified c)

@@ -1,20 +1,20 @@
 -- Saving a tree (02: N3), sentence by sentence, over the definitions that the contracts of the writer and of the reader
 -- cite. "Each line is laid behind the lines already written": `encode` in writer/specs/Encoded.antt.
+-- "Reading a written file restores the table exactly": `written-read` in Sentences.antt.
 use Prim.Native.Nat.{ℕ, _*_, _≤_, _<_}
 use mathlib.Core.Path.{_≡_}
-use mathlib.Core.List.{List, _++_}
-use lib.ListN.{length, take, drop}
-use Rattle.frames.specs.declared.Checked.the-variants.{Nodes}
+use mathlib.Core.List.{List}
+use lib.ListN.{length, take}
 use Rattle.frames.specs.Frame.{frames}
 use Rattle.frames.specs.Check.{Accepted}
 use Rattle.lines.specs.Line.{lineSize}
-use Rattle.reader.specs.File.{AcceptedFile, readAnswer, tableAfter}
+use Rattle.reader.specs.File.{AcceptedFile}
 use Rattle.writer.specs.declared.Written.the-variants.{Length, Rejected as RejectedWrite}
 use Rattle.writer.specs.Encoded.{fileOf}
 use Rattle.writer.specs.Write.{writeOutcome}
 use Rattle.treefile.specs.results.Saved.{Bytes, InCapitals, Saved}
 use Rattle.treefile.proofs.RoundTrip.{written-capitals, written-accepted}
-use Rattle.treefile.proofs.Saving.{write-gives, write-short, write-saves, saved-read, saved-once}
+use Rattle.treefile.proofs.Saving.{write-gives, write-short, write-saves, saved-once}
 
 module _ (t file : List ℕ) where
   -- "a writer from an accepted table to a file", "It gives the file's length in bytes": with room, there is a length
@@ -31,13 +31,6 @@ module _ (t file : List ℕ) where
   -- contents"
   pub file-laid : (n : ℕ) → writeOutcome t file .answer ≡ Length n → Saved t file n
   file-laid = write-saves t file
-
-  -- "Reading a written file restores the table exactly"
-  pub restored : (n : ℕ) → writeOutcome t file .answer ≡ Length n → Bytes t → (table : List ℕ)
-      → length t ≤ length table →
-      let f = take n (writeOutcome t file .file) in
-      (readAnswer f table ≡ Nodes (frames t)) × (tableAfter f table ≡ t ++ drop (length t) table)
-  restored = saved-read t file
 
 -- "capital letters, a line feed after every line, the last included"
 pub in-capitals : (t : List ℕ) → Accepted t → Bytes t → InCapitals (fileOf t) (frames t)

@@ -3,10 +3,11 @@
 use Prim.Native.Nat.{ℕ, _*_, _≤_, _<_}
 use mathlib.Core.Path.{_≡_, sym, ap, ap₂, _∙_, subst}
 use mathlib.Core.Logic.{_↔_}
-use mathlib.Core.Bool.{Bool, true}
+use mathlib.Core.Bool.{Bool, true, cond}
 use mathlib.Core.Option.{none}
 use mathlib.Core.List.{List, [], _++_}
-use lib.IntN.{ℤ, natAbs}
+use lib.Dec.{eqb}
+use lib.IntN.{ℤ, pos, natAbs}
 use lib.ListN.{length, getD, take, drop}
 use lib.Signed.{_≤ℤ_, _<ℤ_}
 use Rattle.lists.specs.Lists.{Once, Subsequence, among}
@@ -14,7 +15,7 @@ use Rattle.gametree.specs.Tree.{leaves as treeLeaves, minimax}
 use Rattle.gametree.specs.Certificate.{Certifies, Smallest, pairLeaves}
 use Rattle.frames.specs.declared.Rejection.{Rejection}
 use Rattle.frames.specs.declared.Checked.the-variants.{Nodes, Rejected as RejectedTable}
-use Rattle.frames.specs.Frame.{frameSize, maxDepth, frames, storedScore}
+use Rattle.frames.specs.Frame.{frameSize, maxDepth, frames, childCount, storedScore}
 use Rattle.frames.specs.Position.{depthOf}
 use Rattle.frames.specs.Tree.{tree, valuation}
 use Rattle.frames.specs.Value.{valueOf, maxValue, Ordinary}
@@ -24,6 +25,7 @@ use Rattle.frames.specs.Shape.{SameShape}
 use Rattle.frames.specs.results.Alternating.{Alternating, treeByDepth}
 use Rattle.frames.specs.results.Regular.{RegularTable}
 use Rattle.frames.proofs.Acceptance.{accepted-formed}
+use Rattle.frames.proofs.TreeOfTable.{ordinary-scores}
 use Rattle.hex.specs.Digit.{isCapitalDigit}
 use Rattle.lines.specs.Line.{lineDigits}
 use Rattle.lines.specs.Lines.{linesOf, decoded}
@@ -33,11 +35,13 @@ use Rattle.certificate.specs.Search.{findings}
 use Rattle.tables.proofs as tables
 use Rattle.reader.proofs as reader
 use Rattle.reader.specs.File.{AcceptedFile, readAnswer, tableAfter}
-use Rattle.reader.proofs.Acceptance.{read-nodes}
+use Rattle.reader.proofs.Acceptance.{accepted-exactly, read-nodes}
 use Rattle.writer.proofs as writer
 use Rattle.writer.specs.declared.Written.the-variants.{Length}
 use Rattle.treefile.specs.results.Saved.{Bytes}
+use Rattle.treefile.proofs.Saving.{saved-read}
 use Rattle.convert.proofs as convert
+use Rattle.convert.proofs.Converted.{converted-accepted, converted-table}
 use Rattle.verify.specs.Certificate.{Certificate}
 use Rattle.alphabeta.proofs as alphabeta
 use Rattle.alphabeta.specs.declared.AlphaBetaAnswer.the-variants as ab-answer
@@ -57,45 +61,46 @@ use Rattle.sss.specs.Outcome.{sssLeaves, sssSpent}
 use Rattle.sss.proofs.Allowed.{enough}
 use Rattle.graft.proofs as graft
 use Rattle.graft.specs.results.Grafted.{graftValue}
+use Rattle.graft.proofs.Grafting.{grafted-value}
 use Rattle.leafvalue.proofs as leafvalue
 use Rattle.leafvalue.specs.declared.LeastValue.the-variants.{Value}
 use Rattle.leafvalue.specs.results.Root.{rootValue}
+use Rattle.leafvalue.proofs.Theorems.{given}
 use Rattle.worstcase.proofs as worstcase
 use Rattle.worstcase.specs.declared.Filled.the-variants as filled
+use Rattle.worstcase.specs.results.Filled.{handed}
 use Rattle.leastcount.proofs as leastcount
 use Rattle.leastcount.specs.declared.Least.the-variants as least
 use Rattle.leastcount.specs.Answer.{leastAnswer}
 use Rattle.shorter.proofs as shorter
+use Rattle.shorter.specs.declared.Choice.the-variants.{First, Second}
 use Rattle.shorter.specs.Choice.{flaggedLeaves}
+use Rattle.shorter.proofs.Theorems.{both-first, both-second, handed-first, handed-second}
 use Rattle.demands.specs.Runs.{Runs, RunBoth}
-use Rattle.demands.specs.Calls.{buffers, AlphaBetaCall, PlainCall}
-use Rattle.demands.specs.Searches.{EachSearch}
-use Rattle.demands.specs.Handed.{Room, AgreeOnMarked, Alike}
-use Rattle.demands.specs.Order.{finished}
-use Rattle.demands.proofs.Running.{follows, each-search, alphaBetaCall, mtdCall, sssCall}
+use Rattle.demands.specs.Handed.{buffers, Room, AgreeOnMarked, Alike}
+use Rattle.demands.specs.Searches.{EachSearch, EachSpent, EachPlain}
+use Rattle.demands.proofs.Calls.{PlainCall, sss as sss-call}
+use Rattle.demands.proofs.ListedRuns.{finished}
+use Rattle.demands.proofs.Running.{follows, each-search, each-spent, each-plain, alphaBetaCall, mtdCall}
+use Rattle.demands.proofs.Running.{sssCall}
 use Rattle.demands.proofs.Contracts as contracts
 use Rattle.demands.proofs.Views.{sssBy, list-passed, rooms-passed}
 use Rattle.demands.proofs.Spending.{more-left}
 use Rattle.demands.proofs.Demand1.{deeper-answered}
-use Rattle.demands.proofs.Demand2.{marks-rule}
-use Rattle.demands.proofs.Demand3.{counts-less, count, smallest, local-alphaBeta, local-mtd, local-sss}
-use Rattle.demands.proofs.Plain.{same-as-alphaBeta}
-use Rattle.demands.proofs.Saving.{restored}
-use Rattle.demands.proofs.Ordinary.{ordinary-value}
-use Rattle.demands.proofs.Allowance.{needs-more, merit-bounds}
-use Rattle.demands.proofs.Capitals.{capitals-only, converted-read}
-use Rattle.demands.proofs.Alternating.{alternating-value}
-use Rattle.demands.proofs.Grafting.{result-value}
-use Rattle.demands.proofs.Wanted.{value-reaches, value-smallest}
-use Rattle.demands.proofs.WorstCase.{every-leaf-counted, none-costlier}
-use Rattle.demands.proofs.LeastCounts.{every-pair, no-fewer}
-use Rattle.demands.proofs.Shorter.{fewer-handed, tie-handed}
-use Rattle.demands.proofs.Order.{same-list, left-to-right, as-many, none-twice}
+use Rattle.demands.proofs.Results.{marks-rule, only-accepted, value-minimax}
+use Rattle.demands.proofs.Evaluations.{no-more, count, smallest, local-alphaBeta, local-mtd, local-sss}
+use Rattle.demands.proofs.PlainCalls.{same-as-alphaBeta}
+use Rattle.demands.proofs.Allowed.{needs-more, merit-bounds, spent-fewer}
+use Rattle.demands.proofs.Alternating.{alternating-tree}
+use Rattle.demands.proofs.Dearest.{every-leaf-counted, every-leaf-marked, none-costlier}
+use Rattle.demands.proofs.LeastCounts.{every-pair}
+use Rattle.demands.proofs.Fewest.{no-fewer, no-fewer-plain}
+use Rattle.demands.proofs.Listing.{same-list, same-findings, same-buffers, left-to-right, as-many, none-twice}
 
 -- DEMAND 2
 
 -- "each valuing the leaves that its rule names and no others"
-pub rule-leaves : EachSearch (λ t rule f b o. (k : ℕ) → k < frames t → getD (b .marks) k 0 ≡ mark (among rule) k)
+pub rule-leaves : EachSearch (λ t rule f _ _ b _. (k : ℕ) → k < frames t → getD (b .marks) k 0 ≡ mark (among rule) k)
 rule-leaves = each-search _ (λ t c. marks-rule c)
 
 -- "give for every accepted tree": with room in what is lent, there is a result; from SSS* within its allowance
@@ -137,10 +142,11 @@ sss-gives =
 
 -- DEMAND 3
 
--- "so the count in its result is at most the one in alpha-beta's"
+-- "so the count in its result is at most the one in alpha-beta's", also where SSS* is stopped by its allowance
 pub counts : RunBoth sss.search.ended alphabeta.search.ended sss.search.Symbol.routine alphabeta.search.Symbol.routine
-    (λ κs (t, _) r e κs′ (u, _) r′ e′. u .now ≡ t .now → (f : SssResult) → r ≡ sss-answer.Found f
-    → (g : Findings) → r′ ≡ ab-answer.Found g → f .findings .leaves ≤ g .leaves)
+    (λ κs (t, _) r e κs′ (u, _) r′ e′. u .now ≡ t .now → (g : Findings) → r′ ≡ ab-answer.Found g
+    → ((f : SssResult) → r ≡ sss-answer.Found f → f .findings .leaves ≤ g .leaves)
+    × ((s : Spent) → r ≡ sss-answer.Spent s → s .leaves ≤ g .leaves))
 counts =
     record {
       one = _;
@@ -148,20 +154,23 @@ counts =
       oneRuns = contracts.sss-search;
       otherRuns = contracts.alphabeta-search;
       both = λ κs (t, (l, (m, (f, (o, (n, _)))))) r (_, (l′, (m′, (f′, (o′, _))))) s.
-          λ κs′ (u, (x, (y, (z, _)))) r′ (_, (x′, (y′, (z′, _)))) c same g i h j.
-          counts-less
-          (sssCall (t .now) (buffers (m .now) (f .now)) (o .now) n (l .now) (sss-answer.Found g) (l′ .now)
-          (buffers (m′ .now) (f′ .now)) (o′ .now) (rw i at s))
-          (alphaBetaCall (t .now) (buffers (x .now) (y .now)) (z .now) (ab-answer.Found h)
-          (buffers (x′ .now) (y′ .now)) (z′ .now) (rw same at (rw j at c)));
+          λ κs′ (u, (x, (y, (z, _)))) r′ (_, (x′, (y′, (z′, _)))) c same h j.
+          let a = alphaBetaCall (t .now) (buffers (x .now) (y .now)) (z .now) (ab-answer.Found h)
+          (buffers (x′ .now) (y′ .now)) (z′ .now) (rw same at (rw j at c)) in (
+            λ g i. no-more a (sss-call (sssCall (t .now) (buffers (m .now) (f .now)) (o .now) n (l .now)
+                (sss-answer.Found g) (l′ .now) (buffers (m′ .now) (f′ .now)) (o′ .now) (rw i at s))),
+            λ g i. spent-fewer (sssCall (t .now) (buffers (m .now) (f .now)) (o .now) n (l .now)
+                (sss-answer.Spent g) (l′ .now) (buffers (m′ .now) (f′ .now)) (o′ .now) (rw i at s)) a,
+          );
     }
 
 -- "Neither values a leaf twice: each count is exactly the number of leaves valued"
-pub exact-count : EachSearch (λ t rule f b o. f .leaves ≡ ones (b .marks) (frames t))
-exact-count = each-search _ (λ t c. count c .1)
+pub exact-count : EachSearch (λ t rule f _ _ b _. (f .leaves ≡ length rule)
+    × (f .leaves ≡ ones (b .marks) (frames t)))
+exact-count = each-search _ (λ t c. count c)
 
 -- "Neither count is below the number of leaves .. in the smallest pair of max and min solution trees of equal value"
-pub smallest-pair : EachSearch (λ t rule f b o. (g h : ℕ → Bool) → Smallest (valuation t) (tree t) g h
+pub smallest-pair : EachSearch (λ t rule f _ _ _ _. (g h : ℕ → Bool) → Smallest (valuation t) (tree t) g h
     → pairLeaves g h (tree t) ≤ f .leaves)
 smallest-pair = each-search _ (λ t c. smallest c)
 
@@ -279,15 +288,22 @@ written-read =
       oneRuns = contracts.treefile-write;
       otherRuns = contracts.treefile-read;
       both = λ κs (t, (b, _)) r (_, (b′, _)) s κs′ (f, (u, _)) r′ (_, (u′, _)) c n e bytes same room.
-          let p = restored (t .now) (b .now) n (sym (ap (λ o. o .answer) s) ∙ e) bytes (u .now) room in
+          let p = saved-read (t .now) (b .now) n (sym (ap (λ o. o .answer) s) ∙ e) bytes (u .now) room in
           let i = same ∙ ap (λ o. take n (o .file)) s in
           (c .0 ∙ ap (λ x. readAnswer x (u .now)) i ∙ p .0, c .1 ∙ ap (λ x. tableAfter x (u .now)) i ∙ p .1);
     }
 
 -- N5: "A leaf's worth takes the place of its value": in `valuation` (`leaf-worth` in Demand2.antt); where no leaf is a
--- win or a loss, the value is that of the stored ones
-pub ordinary : EachSearch (λ t rule f b o. Ordinary t → f .value ≡ valueOf (minimax (storedScore t) (tree t)))
-ordinary = each-search _ (λ t c p. ordinary-value t p c)
+-- win or a loss, the scores are the stored ones, and so is all that follows from them: the value, the move, the leaves
+-- that each rule names, the flags (`gives-exactly` and `leaves-exactly` in Demand2.antt, `same-bounds` in Plain.antt),
+-- and what the checker gives (`checker` in TheSentence.antt)
+pub stored-scores : (t : List ℕ) → Accepted t → Ordinary t → valuation t ≡ storedScore t
+stored-scores = ordinary-scores
+
+pub ordinary : EachSearch (λ t rule f _ _ _ _. Ordinary t → f .value ≡ valueOf (minimax (storedScore t) (tree t)))
+ordinary =
+    each-search _
+    (λ t c p. value-minimax c ∙ ap (λ ν. valueOf (minimax ν (tree t))) (ordinary-scores t (only-accepted c) p))
 
 -- N6: "Spent is given exactly when the full run needs more leaves than the allowance"
 pub spent-exactly : Runs sss.search.ended sss.search.Symbol.routine
@@ -308,15 +324,10 @@ spent-exactly =
           ),
     ))
 
--- "That merit is never below the root's value"
-pub merit-not-below : Runs sss.search.ended sss.search.Symbol.routine
-    (λ κs (t, _) r e. (s : Spent) → r ≡ sss-answer.Spent s
-    → valueOf (minimax (valuation (t .now)) (tree (t .now))) ≤ℤ s .merit)
-merit-not-below =
-    follows contracts.sss-search
-    (λ κs (t, (l, (m, (f, (o, (n, _)))))) r (_, (l′, (m′, (f′, (o′, _))))) c s e.
-    merit-bounds (sssCall (t .now) (buffers (m .now) (f .now)) (o .now) n (l .now) (sss-answer.Spent s)
-    (l′ .now) (buffers (m′ .now) (f′ .now)) (o′ .now) (rw e at c)) .0)
+-- "That merit is never below the root's value" (nor above 32,001)
+pub merit-not-below : EachSpent (λ n t s _ _ _ _. (valueOf (minimax (valuation t) (tree t)) ≤ℤ s .merit)
+    × (s .merit ≤ℤ pos 32001))
+merit-not-below = each-spent _ (λ t s c. merit-bounds c)
 
 -- N7: "The reader takes capital hexadecimal letters and no others"
 pub capitals-taken : Runs reader.read.ended reader.read.Symbol.routine
@@ -324,7 +335,8 @@ pub capitals-taken : Runs reader.read.ended reader.read.Symbol.routine
     → isCapitalDigit (getD (getD (linesOf (f .now)) i []) k 0) ≡ true)
 capitals-taken =
     follows contracts.treefile-read
-    (λ κs (f, (t, _)) r e s n i. capitals-only (f .now) (read-nodes (f .now) (t .now) n (sym i ∙ s .0) .0))
+    (λ κs (f, (t, _)) r e s n given i k h l.
+    accepted-exactly (f .now) .0 (read-nodes (f .now) (t .now) n (sym given ∙ s .0) .0) .line i h .digits k l)
 
 -- "their trees do not change"
 pub converted-same : Runs convert.convert.ended convert.convert.Symbol.routine
@@ -334,12 +346,15 @@ converted-same =
     follows contracts.convert-convert
     (λ κs (f, (b, _)) r (_, (b′, _)) s n e.
     subst (λ x. AcceptedFile (take n x) × (decoded (take n x) ≡ decoded (f .now))) (sym (ap (λ o. o .file) s))
-    (converted-read (f .now) (b .now) n (sym (ap (λ o. o .answer) s) ∙ e)))
+    (let given = sym (ap (λ o. o .answer) s) ∙ e in
+    (converted-accepted (f .now) (b .now) n given, converted-table (f .now) (b .now) n given)))
 
 -- N8: "Old files mean what they meant"
-pub alternating : EachSearch (λ t rule f b o. Alternating t
+pub alternating : EachSearch (λ t rule f _ _ _ _. Alternating t
     → f .value ≡ valueOf (minimax (valuation t) (treeByDepth t)))
-alternating = each-search _ (λ t c p. alternating-value t p c)
+alternating =
+    each-search _
+    (λ t c p. value-minimax c ∙ ap (λ x. valueOf (minimax (valuation t) x)) (alternating-tree t p (only-accepted c)))
 
 -- N9: "Its minimax value equals that of the first tree with the leaf's worth replaced by the grafted tree's value"
 pub graft-value : Runs graft.graft.ended graft.graft.Symbol.routine
@@ -351,7 +366,7 @@ graft-value =
     (λ κs (t, (k, (u, (b, _)))) r e s n i.
     subst (λ x. minimax (valuation (take (frameSize * n) x)) (tree (take (frameSize * n) x))
     ≡ graftValue (t .now) k (u .now)) (sym (ap (λ o. o .result) s))
-    (result-value (t .now) k (u .now) (b .now) n (sym (ap (λ o. o .answer) s) ∙ i)))
+    (grafted-value (t .now) k (u .now) (b .now) n (sym (ap (λ o. o .answer) s) ∙ i)))
 
 -- N10: "The call gives the smallest leaf value from -32,000 to 32,000 that makes the root's value exactly the wanted
 -- one"
@@ -361,14 +376,15 @@ pub smallest-value : Runs leafvalue.least_value.ended leafvalue.least_value.Symb
 smallest-value =
     follows contracts.leafvalue-least-value
     (λ κs (t, (k, (w, _))) r e s v i.
-    let p = value-reaches (t .now) k w v (sym s ∙ i) in
-    (p .0, p .1, value-smallest (t .now) k w v (sym s ∙ i)))
+    let g = given (t .now) k w v (sym s ∙ i) in (g .ranged, g .reaches, g .smallest))
 
 -- N11: "In that tree alpha-beta values every leaf, so no filling of the shape costs it more"
 pub costs-most : RunBoth worstcase.fill.ended alphabeta.search.ended worstcase.fill.Symbol.routine
     alphabeta.search.Symbol.routine
-    (λ κs (t, _) r (t′, _) κs′ (u, _) r′ e′. (n : ℕ) → r ≡ filled.Leaves n → (g : Findings) → r′ ≡ ab-answer.Found g
-    → (u .now ≡ t′ .now → g .leaves ≡ n) × (SameShape (t .now) (u .now) → g .leaves ≤ n))
+    (λ κs (t, _) r (t′, _) κs′ (u, _) r′ (_, (m, _)). (n : ℕ) → r ≡ filled.Leaves n
+    → (g : Findings) → r′ ≡ ab-answer.Found g → (SameShape (t .now) (u .now) → g .leaves ≤ n)
+    × (u .now ≡ t′ .now → (g .leaves ≡ n) × ((k : ℕ) → k < frames (t .now)
+    → getD (m .now) k 0 ≡ cond (eqb (childCount (t .now) k) 0) 1 0)))
 costs-most =
     record {
       one = _;
@@ -379,9 +395,11 @@ costs-most =
           let given = sym (ap (λ o. o .answer) s) ∙ e in
           let call = alphaBetaCall (u .now) (buffers (x .now) (y .now)) (z .now) (ab-answer.Found g)
           (buffers (x′ .now) (y′ .now)) (z′ .now) (rw i at c) in (
-            λ same. every-leaf-counted (t .now) n given
-                (subst (λ v. AlphaBetaCall v (ab-answer.Found g)) (same ∙ ap (λ o. o .table) s) call),
             λ shape. none-costlier (t .now) n given (u .now) shape call,
+            λ same.
+                let there = alphaBetaCall (handed (t .now)) (buffers (x .now) (y .now)) (z .now) (ab-answer.Found g)
+                (buffers (x′ .now) (y′ .now)) (z′ .now) (rw (same ∙ ap (λ o. o .table) s) at (rw i at c)) in
+                (every-leaf-counted (t .now) n given there, every-leaf-marked (t .now) n given there),
           );
     }
 
@@ -395,29 +413,37 @@ least-leaves =
     (λ κs (w, (d, _)) r e s n i t regular. every-pair t w d regular n (sym s ∙ i))
 
 -- "and no finished search counts fewer"
-pub counts-no-fewer : EachSearch (λ t rule f b o. (w d n : ℕ) → RegularTable w d t → leastAnswer w d ≡ least.Leaves n
-    → n ≤ f .leaves)
+pub counts-no-fewer : EachSearch (λ t rule f _ _ _ _. (w d n : ℕ) → RegularTable w d t
+    → leastAnswer w d ≡ least.Leaves n → n ≤ f .leaves)
 counts-no-fewer = each-search _ (λ t c w d n regular e. no-fewer t w d regular n e c)
+
+-- nor does the plain engine mark fewer
+pub marks-no-fewer : EachPlain (λ t f _ b. (w d n : ℕ) → RegularTable w d t → leastAnswer w d ≡ least.Leaves n
+    → n ≤ ones (b .marks) (frames t))
+marks-no-fewer = each-plain _ (λ t f c w d n regular e. no-fewer-plain t w d regular n e c)
 
 -- N13: "the call hands back the flags of the one with fewer flagged leaves, the first on a tie"
 pub fewer-leaves : Runs shorter.select.ended shorter.select.Symbol.routine
     (λ κs (t, (f, (s, _))) r e. (v w : ℕ) → Certificate (t .now) (f .now) v → Certificate (t .now) (s .now) w
     → (flaggedLeaves (t .now) (s .now) < flaggedLeaves (t .now) (f .now)
-    → r .flags .now ≡ take (frames (t .now)) (s .now))
+    → (r .choice ≡ Second) × (r .flags .now ≡ take (frames (t .now)) (s .now)))
     × (flaggedLeaves (t .now) (f .now) ≤ flaggedLeaves (t .now) (s .now)
-    → r .flags .now ≡ take (frames (t .now)) (f .now)))
+    → (r .choice ≡ First) × (r .flags .now ≡ take (frames (t .now)) (f .now))))
 fewer-leaves =
     follows contracts.shorter-select
     (λ κs (t, (f, (s, _))) r e o v w c d. (
-      λ l. o .1 ∙ fewer-handed (t .now) (f .now) (s .now) v w c d l .1,
-      λ l. o .1 ∙ tie-handed (t .now) (f .now) (s .now) v w c d l .1,
+      λ l. let i = both-second (t .now) (f .now) (s .now) c d l in
+          (o .0 ∙ i, o .1 ∙ handed-second (t .now) (f .now) (s .now) i),
+      λ l. let i = both-first (t .now) (f .now) (s .now) c d l in
+          (o .0 ∙ i, o .1 ∙ handed-first (t .now) (f .now) (s .now) i),
     ))
 
--- N14: "For every accepted tree MTD and a finished SSS* give the same list"
+-- N14: "For every accepted tree MTD and a finished SSS* give the same list": with the same findings, marks and flags
 pub one-list : RunBoth mtd.search.ended sss.search.ended mtd.search.Symbol.routine sss.search.Symbol.routine
-    (λ κs (t, _) r (_, (_, (_, (o, _)))) κs′ (u, _) r′ (_, (_, (_, (_, (o′, _))))). u .now ≡ t .now
-    → (f : MtdResult) → r ≡ mtd-answer.Found f → (g : SssResult) → r′ ≡ sss-answer.Found g
-    → take (f .findings .leaves) (o .now) ≡ take (g .findings .leaves) (o′ .now))
+    (λ κs (t, _) r (_, (m, (f, (o, _)))) κs′ (u, _) r′ (_, (_, (m′, (f′, (o′, _))))). u .now ≡ t .now
+    → (g : MtdResult) → r ≡ mtd-answer.Found g → (h : SssResult) → r′ ≡ sss-answer.Found h
+    → (take (g .findings .leaves) (o .now) ≡ take (h .findings .leaves) (o′ .now)) × (g .findings ≡ h .findings)
+    × Alike (frames (t .now)) (buffers (m .now) (f .now)) (buffers (m′ .now) (f′ .now)))
 one-list =
     record {
       one = _;
@@ -425,12 +451,12 @@ one-list =
       oneRuns = contracts.mtd-search;
       otherRuns = contracts.sss-search;
       both = λ κs (t, (m, (f, (o, _)))) r (_, (m′, (f′, (o′, _)))) s.
-          λ κs′ (u, (w, (x, (y, (z, (a, _)))))) r′ (_, (w′, (x′, (y′, (z′, _))))) c same g i h j.
-          same-list
-          (mtdCall (t .now) (buffers (m .now) (f .now)) (o .now) (mtd-answer.Found g)
-          (buffers (m′ .now) (f′ .now)) (o′ .now) (rw i at s))
-          (sssCall (t .now) (buffers (x .now) (y .now)) (z .now) a (w .now) (sss-answer.Found h) (w′ .now)
-          (buffers (x′ .now) (y′ .now)) (z′ .now) (rw same at (rw j at c)));
+          λ κs′ (u, (w, (x, (y, (z, (a′, _)))))) r′ (_, (w′, (x′, (y′, (z′, _))))) c same g i h j.
+          let a = mtdCall (t .now) (buffers (m .now) (f .now)) (o .now) (mtd-answer.Found g)
+          (buffers (m′ .now) (f′ .now)) (o′ .now) (rw i at s) in
+          let b = sssCall (t .now) (buffers (x .now) (y .now)) (z .now) a′ (w .now) (sss-answer.Found h) (w′ .now)
+          (buffers (x′ .now) (y′ .now)) (z′ .now) (rw same at (rw j at c)) in
+          (same-list a b, same-findings a b, same-buffers a b);
     }
 
 -- "and alpha-beta's list is in left-to-right order"
@@ -444,5 +470,6 @@ from-the-left =
     (buffers (m′ .now) (f′ .now)) (o′ .now) (rw e at s)))
 
 -- "a list has as many as the count, and none stands in it twice"
-pub listed-once : EachSearch (λ t rule f b o. (length (take (f .leaves) o) ≡ f .leaves) × Once (take (f .leaves) o))
+pub listed-once : EachSearch (λ t rule f _ _ _ o. (length (take (f .leaves) o) ≡ f .leaves)
+    × Once (take (f .leaves) o))
 listed-once = each-search _ (λ t c. (as-many (finished c), none-twice (finished c)))

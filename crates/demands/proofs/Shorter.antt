@@ -1,7 +1,8 @@
 -- The shorter of two certificates (02: N13, of two proofs), sentence by sentence, over the definitions that the
 -- contract of `shorter::select` cites: `choice`, `chosenFlags` and `pointerBy`. The table is t, the lent certificates
--- are f and s. Both are lent to be read only, and so keep their bytes.
-use Prim.Native.Nat.{ℕ, _≤_, _<_}
+-- are f and s. Both are lent to be read only, and so keep their bytes. "the one with fewer flagged leaves, the first on
+-- a tie": `fewer-leaves` in Sentences.antt.
+use Prim.Native.Nat.{ℕ}
 use mathlib.Core.Path.{_≡_}
 use mathlib.Core.Logic.{_⊎_}
 use mathlib.Core.Option.{some}
@@ -22,9 +23,8 @@ use Rattle.verify.specs.Certificate.{Certificate}
 use Rattle.shorter.specs.declared.Choice.the-variants.{First, Second, Rejected}
 use Rattle.shorter.specs.Choice.{flaggedLeaves, choice, chosenFlags, pointerBy}
 use Rattle.shorter.proofs.Leaves.{flagged-pair}
-use Rattle.shorter.proofs.Theorems.{table-rejected, both-first, both-second, only-first, only-second, neither}
-use Rattle.shorter.proofs.Theorems.{handed-first, handed-second, handed-none, handed-size, handed-value}
-use Rattle.shorter.proofs.Theorems.{empty-refused, refused-first}
+use Rattle.shorter.proofs.Theorems.{table-rejected, only-first, only-second, neither, handed-first, handed-second}
+use Rattle.shorter.proofs.Theorems.{handed-none, handed-size, handed-value, empty-refused, refused-first}
 
 -- a flagged leaf is a leaf of the max or the min solution tree, a shared one counted once
 pub flagged-leaves : (t flags : List ℕ) (v : ℕ) → Certificate t flags v
@@ -35,16 +35,6 @@ module _ (t f s : List ℕ) where
   -- "Questions 1 to 9 are put to the tree"
   pub table-asked : (r : Rejection) → rejection t ≡ some r → choice t f s ≡ Rejected r
   table-asked r e = table-rejected t f s e
-
-  -- "hands back the flags of the one with fewer flagged leaves"
-  pub fewer-handed : (v w : ℕ) → Certificate t f v → Certificate t s w → flaggedLeaves t s < flaggedLeaves t f
-      → (choice t f s ≡ Second) × (chosenFlags t f s ≡ take (frames t) s)
-  fewer-handed v w c d h = let e = both-second t f s c d h in (e, handed-second t f s e)
-
-  -- the first where it has fewer, and "the first on a tie"
-  pub tie-handed : (v w : ℕ) → Certificate t f v → Certificate t s w → flaggedLeaves t f ≤ flaggedLeaves t s
-      → (choice t f s ≡ First) × (chosenFlags t f s ≡ take (frames t) f)
-  tie-handed v w c d h = let e = both-first t f s c d h in (e, handed-first t f s e)
 
   -- "If only one is accepted, that one is handed back"
   pub first-alone : (v : ℕ) (q : Rejection) → Certificate t f v → verdict t s ≡ verdicts.Rejected q

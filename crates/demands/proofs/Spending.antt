@@ -38,7 +38,7 @@ use Rattle.states.specs.Entry.{blank}
 use Rattle.sss.specs.Outcome.{sssLeaves, sssUncovered, sssSpent}
 use Rattle.sss.proofs.Replacements.{own}
 use Rattle.sss.proofs.Allowed.{by-allowance}
-use Rattle.demands.specs.Calls.{stateLengths, SssCall}
+use Rattle.demands.proofs.Calls.{stateLengths, SssCall}
 use Rattle.demands.specs.Handed.{Room, Marked, AgreeOnMarked}
 use Rattle.demands.proofs.Views.{sssBy, all-room}
 

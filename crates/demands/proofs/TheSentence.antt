@@ -7,13 +7,22 @@
 use Prim.Native.Nat.{ℕ}
 use mathlib.Core.Path.{_≡_, sym, ap, _∙_}
 use mathlib.Core.Logic.{_↔_}
+use mathlib.Core.Option.{some}
+use mathlib.Core.List.{[], _∷_}
 use lib.IntN.{ℤ}
+use lib.ListN.{length}
 use Rattle.gametree.specs.Tree.{minimax}
 use Rattle.gametree.specs.Move.{rootMove}
 use Rattle.frames.specs.declared.Rejection.{Rejection}
 use Rattle.frames.specs.declared.Checked.the-variants.{Rejected as RejectedTable}
 use Rattle.frames.specs.Value.{valueOf}
+use Rattle.frames.specs.Frame.{frames}
 use Rattle.frames.specs.Tree.{tree, valuation}
+use Rattle.frames.specs.Rejection.{_andThen_}
+use Rattle.frames.specs.Check.{rejection}
+use Rattle.frames.proofs.Asked.{answer-rejected}
+use Rattle.lines.specs.Lines.{decoded}
+use Rattle.certificate.specs.Search.{searchRejection}
 use Rattle.alphabeta.proofs as alphabeta
 use Rattle.alphabeta.specs.declared.AlphaBetaAnswer.the-variants as ab-answer
 use Rattle.mtd.proofs as mtd
@@ -27,27 +36,31 @@ use Rattle.plain.specs.declared.PlainAnswer.the-variants as plain-answer
 use Rattle.verify.proofs as verify
 use Rattle.verify.specs.declared.Verdict.the-variants.{Value}
 use Rattle.verify.specs.Certificate.{Certificate}
+use Rattle.verify.proofs.Theorems.{accepts-certificates, accepted-minimax}
 use Rattle.reader.proofs as reader
+use Rattle.reader.specs.File.{readRejection, filled}
 use Rattle.writer.proofs as writer
+use Rattle.writer.specs.Write.{writeCheck10, writeRejection}
+use Rattle.treefile.proofs.Saving as saving
 use Rattle.writer.specs.declared.Written.the-variants.{Rejected as RejectedWrite}
 use Rattle.convert.proofs as convert
+use Rattle.convert.specs.results.Converted.{baseRejection}
+use Rattle.convert.proofs.Converted as converted
 use Rattle.graft.proofs as graft
+use Rattle.graftable.specs.Questions.{graftRejection}
+use Rattle.graft.proofs.Grafting as grafting
 use Rattle.worstcase.proofs as worstcase
+use Rattle.worstcase.proofs.Whole.{fill-kept}
 use Rattle.worstcase.specs.declared.Filled.the-variants.{Rejected as RejectedFill}
 use Rattle.demands.specs.Runs.{Runs, RunBoth}
-use Rattle.demands.specs.Calls.{buffers}
+use Rattle.demands.specs.Handed.{buffers, Marked, CertifiedBy}
 use Rattle.demands.specs.Searches.{EachSearch}
-use Rattle.demands.specs.Handed.{Marked, CertifiedBy}
 use Rattle.demands.proofs.Running.{follows, each-search, alphaBetaCall, mtdCall, mtdfCall, sssCall, solveCall}
 use Rattle.demands.proofs.Running.{given-dominated}
 use Rattle.demands.proofs.Contracts as contracts
-use Rattle.demands.proofs.Demand1.{kept-alphaBeta, kept-mtd, kept-sss, kept-solve, kept-table, kept-file}
-use Rattle.demands.proofs.Demand2.{value-minimax, move-first, certified, accepts-exactly, verdict-minimax}
-use Rattle.demands.proofs.Plain.{kept-plain}
-use Rattle.demands.proofs.Mtdf.{kept-mtdf}
-use Rattle.demands.proofs.Capitals.{still-refused}
-use Rattle.demands.proofs.Grafting.{kept-result}
-use Rattle.demands.proofs.WorstCase.{kept-table as kept-shape}
+use Rattle.demands.proofs.Refusals.{refused-alphaBeta, refused-mtd, refused-mtdf, refused-sss, refused-solve}
+use Rattle.demands.proofs.Results.{value-minimax, move-first, certified}
+use Rattle.demands.proofs.PlainCalls.{refusal}
 
 -- THE SENTENCE
 
@@ -76,15 +89,15 @@ no-leaf-passed-over =
 -- THE VALUE
 
 -- "give for every accepted tree the minimax value and the first root move that reaches it, with a max and a min
--- solution tree made only of leaves they valued" (that there is a result for every accepted tree: `gives` in
--- Sentences.antt)
-pub minimax-value : EachSearch (λ t rule f b o. f .value ≡ valueOf (minimax (valuation t) (tree t)))
+-- solution tree made only of leaves they valued" (that there is a result for every accepted tree:
+-- `alphabeta-gives` and its like in Sentences.antt)
+pub minimax-value : EachSearch (λ t rule f _ _ _ _. f .value ≡ valueOf (minimax (valuation t) (tree t)))
 minimax-value = each-search _ (λ t c. value-minimax c)
 
-pub first-move : EachSearch (λ t rule f b o. f .«root_move» ≡ rootMove (valuation t) (tree t))
+pub first-move : EachSearch (λ t rule f _ _ _ _. f .«root_move» ≡ rootMove (valuation t) (tree t))
 first-move = each-search _ (λ t c. move-first c)
 
-pub solution-trees : EachSearch (λ t rule f b o. CertifiedBy t b)
+pub solution-trees : EachSearch (λ t rule f _ _ b _. CertifiedBy t b)
 solution-trees = each-search _ (λ t c. certified c)
 
 -- "The checker accepts a pair exactly when both are solution trees of that tree with equal value, and that value is
@@ -95,108 +108,127 @@ pub checker : Runs verify.check.ended verify.check.Symbol.routine
 checker =
     follows contracts.verify-check
     (λ κs (t, (f, _)) r e o.
-    let a = accepts-exactly (t .now) (f .now) in (
+    let a = accepts-certificates (t .now) (f .now) in (
       (λ p. a .0 (p .0, sym o ∙ p .1), λ p. (a .1 p .0, o ∙ a .1 p .1)),
-      λ z p. verdict-minimax (t .now) (f .now) z (sym o ∙ p),
+      λ z p. accepted-minimax (t .now) (f .now) z (sym o ∙ p),
     ))
 
 -- THE BYTES
 
--- "After a refusal all lent memory holds what it held before": the other public functions are lent nothing that they
+-- "After a refusal all lent memory holds what it held before": the refusal is the first "no" to the questions that the
+-- function puts, and what it was lent to change is as it was; the other public functions are lent nothing that they
 -- could change
 pub alphabeta-keeps : Runs alphabeta.search.ended alphabeta.search.Symbol.routine
-    (λ κs (_, (m, (f, (o, _)))) r (_, (m′, (f′, (o′, _)))). (q : Rejection) → r ≡ ab-answer.Rejected q
-    → (m′ .now ≡ m .now) × (f′ .now ≡ f .now) × (o′ .now ≡ o .now))
+    (λ κs (t, (m, (f, (o, _)))) r (_, (m′, (f′, (o′, _)))). (q : Rejection) → r ≡ ab-answer.Rejected q
+    → (searchRejection (t .now) (length (m .now) ∷ length (f .now) ∷ length (o .now) ∷ []) ≡ some q)
+    × (m′ .now ≡ m .now) × (f′ .now ≡ f .now) × (o′ .now ≡ o .now))
 alphabeta-keeps =
     follows contracts.alphabeta-search
     (λ κs (t, (m, (f, (o, _)))) r (_, (m′, (f′, (o′, _)))) s q e.
-    let k = kept-alphaBeta (alphaBetaCall (t .now) (buffers (m .now) (f .now)) (o .now) (ab-answer.Rejected q)
+    let k = refused-alphaBeta (alphaBetaCall (t .now) (buffers (m .now) (f .now)) (o .now) (ab-answer.Rejected q)
     (buffers (m′ .now) (f′ .now)) (o′ .now) (rw e at s)) in
-    (ap (λ b. b .marks) (k .0), ap (λ b. b .flags) (k .0), k .1))
+    (k .0, ap (λ b. b .marks) (k .1), ap (λ b. b .flags) (k .1), k .2))
 
 pub mtd-keeps : Runs mtd.search.ended mtd.search.Symbol.routine
-    (λ κs (_, (m, (f, (o, _)))) r (_, (m′, (f′, (o′, _)))). (q : Rejection) → r ≡ mtd-answer.Rejected q
-    → (m′ .now ≡ m .now) × (f′ .now ≡ f .now) × (o′ .now ≡ o .now))
+    (λ κs (t, (m, (f, (o, _)))) r (_, (m′, (f′, (o′, _)))). (q : Rejection) → r ≡ mtd-answer.Rejected q
+    → (searchRejection (t .now) (length (m .now) ∷ length (f .now) ∷ length (o .now) ∷ []) ≡ some q)
+    × (m′ .now ≡ m .now) × (f′ .now ≡ f .now) × (o′ .now ≡ o .now))
 mtd-keeps =
     follows contracts.mtd-search
     (λ κs (t, (m, (f, (o, _)))) r (_, (m′, (f′, (o′, _)))) s q e.
-    let k = kept-mtd (mtdCall (t .now) (buffers (m .now) (f .now)) (o .now) (mtd-answer.Rejected q)
+    let k = refused-mtd (mtdCall (t .now) (buffers (m .now) (f .now)) (o .now) (mtd-answer.Rejected q)
     (buffers (m′ .now) (f′ .now)) (o′ .now) (rw e at s)) in
-    (ap (λ b. b .marks) (k .0), ap (λ b. b .flags) (k .0), k .1))
+    (k .0, ap (λ b. b .marks) (k .1), ap (λ b. b .flags) (k .1), k .2))
 
 pub mtdf-keeps : Runs mtdf.search.ended mtdf.search.Symbol.routine
-    (λ κs (_, (_, (m, (f, (o, _))))) r (_, (_, (m′, (f′, (o′, _))))). (q : Rejection) → r ≡ mtdf-answer.Rejected q
-    → (m′ .now ≡ m .now) × (f′ .now ≡ f .now) × (o′ .now ≡ o .now))
+    (λ κs (t, (_, (m, (f, (o, _))))) r (_, (_, (m′, (f′, (o′, _))))). (q : Rejection) → r ≡ mtdf-answer.Rejected q
+    → (searchRejection (t .now) (length (m .now) ∷ length (f .now) ∷ length (o .now) ∷ []) ≡ some q)
+    × (m′ .now ≡ m .now) × (f′ .now ≡ f .now) × (o′ .now ≡ o .now))
 mtdf-keeps =
     follows contracts.mtdf-search
     (λ κs (t, (v, (m, (f, (o, _))))) r (_, (_, (m′, (f′, (o′, _))))) s q e.
-    let k = kept-mtdf (mtdfCall (t .now) (buffers (m .now) (f .now)) (o .now) v (mtdf-answer.Rejected q)
+    let k = refused-mtdf (mtdfCall (t .now) (buffers (m .now) (f .now)) (o .now) v (mtdf-answer.Rejected q)
     (buffers (m′ .now) (f′ .now)) (o′ .now) (rw e at s)) in
-    (ap (λ b. b .marks) (k .0), ap (λ b. b .flags) (k .0), k .1))
+    (k .0, ap (λ b. b .marks) (k .1), ap (λ b. b .flags) (k .1), k .2))
 
 pub sss-keeps : Runs sss.search.ended sss.search.Symbol.routine
-    (λ κs (_, (l, (m, (f, (o, _))))) r (_, (l′, (m′, (f′, (o′, _))))). (q : Rejection) → r ≡ sss-answer.Rejected q
-    → (l′ .now ≡ l .now) × (m′ .now ≡ m .now) × (f′ .now ≡ f .now) × (o′ .now ≡ o .now))
+    (λ κs (t, (l, (m, (f, (o, _))))) r (_, (l′, (m′, (f′, (o′, _))))). (q : Rejection) → r ≡ sss-answer.Rejected q
+    → (searchRejection (t .now) (length (l .now) ∷ length (m .now) ∷ length (f .now) ∷ length (o .now) ∷ []) ≡ some q)
+    × (l′ .now ≡ l .now) × (m′ .now ≡ m .now) × (f′ .now ≡ f .now) × (o′ .now ≡ o .now))
 sss-keeps =
     follows contracts.sss-search
     (λ κs (t, (l, (m, (f, (o, (n, _)))))) r (_, (l′, (m′, (f′, (o′, _))))) s q e.
-    let k = kept-sss (sssCall (t .now) (buffers (m .now) (f .now)) (o .now) n (l .now) (sss-answer.Rejected q)
+    let k = refused-sss (sssCall (t .now) (buffers (m .now) (f .now)) (o .now) n (l .now) (sss-answer.Rejected q)
     (l′ .now) (buffers (m′ .now) (f′ .now)) (o′ .now) (rw e at s)) in
-    (k .2, ap (λ b. b .marks) (k .0), ap (λ b. b .flags) (k .0), k .1))
+    (k .0, k .3, ap (λ b. b .marks) (k .1), ap (λ b. b .flags) (k .1), k .2))
 
 pub solve-keeps : Runs sss.solve.ended sss.solve.Symbol.routine
-    (λ κs (_, (m, (f, (o, _)))) r (_, (m′, (f′, (o′, _)))). (q : Rejection) → r ≡ sss-answer.Rejected q
-    → (m′ .now ≡ m .now) × (f′ .now ≡ f .now) × (o′ .now ≡ o .now))
+    (λ κs (t, (m, (f, (o, _)))) r (_, (m′, (f′, (o′, _)))). (q : Rejection) → r ≡ sss-answer.Rejected q
+    → (searchRejection (t .now) (length (m .now) ∷ length (f .now) ∷ length (o .now) ∷ []) ≡ some q)
+    × (m′ .now ≡ m .now) × (f′ .now ≡ f .now) × (o′ .now ≡ o .now))
 solve-keeps =
     follows contracts.sss-solve
     (λ κs (t, (m, (f, (o, (n, _))))) r (_, (m′, (f′, (o′, _)))) s q e.
-    let k = kept-solve (solveCall (t .now) (buffers (m .now) (f .now)) (o .now) n (sss-answer.Rejected q)
+    let k = refused-solve (solveCall (t .now) (buffers (m .now) (f .now)) (o .now) n (sss-answer.Rejected q)
     (buffers (m′ .now) (f′ .now)) (o′ .now) (rw e at s)) in
-    (ap (λ b. b .marks) (k .0), ap (λ b. b .flags) (k .0), k .1))
+    (k .0, ap (λ b. b .marks) (k .1), ap (λ b. b .flags) (k .1), k .2))
 
 pub plain-keeps : Runs plain.search.ended plain.search.Symbol.routine
-    (λ κs (_, (m, (f, _))) r (_, (m′, (f′, _))). (q : Rejection) → r ≡ plain-answer.Rejected q
-    → (m′ .now ≡ m .now) × (f′ .now ≡ f .now))
+    (λ κs (t, (m, (f, _))) r (_, (m′, (f′, _))). (q : Rejection) → r ≡ plain-answer.Rejected q
+    → (searchRejection (t .now) (length (m .now) ∷ length (f .now) ∷ []) ≡ some q)
+    × (m′ .now ≡ m .now) × (f′ .now ≡ f .now))
 plain-keeps =
     follows contracts.plain-search
     (λ κs (t, (m, (f, _))) r (_, (m′, (f′, _))) s q e.
-    let k = kept-plain {t = t .now} {r = q} (record {
+    let k = refusal {t = t .now} {r = q} (record {
       lent = buffers (m .now) (f .now);
       left = buffers (m′ .now) (f′ .now);
       outcome = rw e at s;
     }) in
-    (ap (λ b. b .marks) k, ap (λ b. b .flags) k))
+    (k .first, ap (λ b. b .marks) (k .kept), ap (λ b. b .flags) (k .kept)))
 
 pub read-keeps : Runs reader.read.ended reader.read.Symbol.routine
-    (λ κs (_, (t, _)) r (_, (t′, _)). (q : Rejection) → r ≡ RejectedTable q → t′ .now ≡ t .now)
+    (λ κs (f, (t, _)) r (_, (t′, _)). (q : Rejection) → r ≡ RejectedTable q
+    → (readRejection (f .now) (t .now) ≡ some q) × (t′ .now ≡ t .now))
 read-keeps =
     follows contracts.treefile-read
-    (λ κs (f, (t, _)) r (_, (t′, _)) s q e. s .1 ∙ kept-table (f .now) (t .now) q (sym (s .0) ∙ e))
+    (λ κs (f, (t, _)) r (_, (t′, _)) s q e.
+    let i = answer-rejected (frames (decoded (f .now))) q (readRejection (f .now) (t .now)) (sym e ∙ s .0) in
+    (i, s .1 ∙ ap (λ q. filled q (decoded (f .now)) (t .now)) i))
 
 pub write-keeps : Runs writer.write.ended writer.write.Symbol.routine
-    (λ κs (_, (b, _)) r (_, (b′, _)). (q : Rejection) → r ≡ RejectedWrite q → b′ .now ≡ b .now)
+    (λ κs (t, (b, _)) r (_, (b′, _)). (q : Rejection) → r ≡ RejectedWrite q
+    → (writeRejection (t .now) (length (b .now)) ≡ some q) × (b′ .now ≡ b .now))
 write-keeps =
     follows contracts.treefile-write
     (λ κs (t, (b, _)) r (_, (b′, _)) s q e.
-    ap (λ o. o .file) s ∙ kept-file (t .now) (b .now) q (sym (ap (λ o. o .answer) s) ∙ e))
+    let k = saving.write-keeps (t .now) (b .now) q (sym (ap (λ o. o .answer) s) ∙ e) in
+    (k .0, ap (λ o. o .file) s ∙ k .1))
 
 pub convert-keeps : Runs convert.convert.ended convert.convert.Symbol.routine
-    (λ κs (_, (b, _)) r (_, (b′, _)). (q : Rejection) → r ≡ RejectedWrite q → b′ .now ≡ b .now)
+    (λ κs (f, (b, _)) r (_, (b′, _)). (q : Rejection) → r ≡ RejectedWrite q
+    → ((baseRejection (f .now) andThen writeCheck10 (decoded (f .now)) (length (b .now))) ≡ some q)
+    × (b′ .now ≡ b .now))
 convert-keeps =
     follows contracts.convert-convert
     (λ κs (f, (b, _)) r (_, (b′, _)) s q e.
-    ap (λ o. o .file) s ∙ still-refused (f .now) (b .now) q (sym (ap (λ o. o .answer) s) ∙ e) .1)
+    let k = converted.convert-keeps (f .now) (b .now) q (sym (ap (λ o. o .answer) s) ∙ e) in
+    (k .0, ap (λ o. o .file) s ∙ k .1))
 
 pub graft-keeps : Runs graft.graft.ended graft.graft.Symbol.routine
-    (λ κs (_, (_, (_, (b, _)))) r (_, (_, (_, (b′, _)))). (q : Rejection) → r ≡ RejectedTable q → b′ .now ≡ b .now)
+    (λ κs (t, (k, (u, (b, _)))) r (_, (_, (_, (b′, _)))). (q : Rejection) → r ≡ RejectedTable q
+    → (graftRejection (t .now) k (u .now) (length (b .now)) ≡ some q) × (b′ .now ≡ b .now))
 graft-keeps =
     follows contracts.graft-graft
     (λ κs (t, (k, (u, (b, _)))) r (_, (_, (_, (b′, _)))) s q e.
-    ap (λ o. o .result) s ∙ kept-result (t .now) k (u .now) (b .now) q (sym (ap (λ o. o .answer) s) ∙ e))
+    let p = grafting.graft-keeps (t .now) k (u .now) (b .now) q (sym (ap (λ o. o .answer) s) ∙ e) in
+    (p .0, ap (λ o. o .result) s ∙ p .1))
 
 pub fill-keeps : Runs worstcase.fill.ended worstcase.fill.Symbol.routine
-    (λ κs (t, _) r (t′, _). (q : Rejection) → r ≡ RejectedFill q → t′ .now ≡ t .now)
+    (λ κs (t, _) r (t′, _). (q : Rejection) → r ≡ RejectedFill q
+    → (rejection (t .now) ≡ some q) × (t′ .now ≡ t .now))
 fill-keeps =
     follows contracts.worstcase-fill
     (λ κs (t, _) r (t′, _) s q e.
-    ap (λ o. o .table) s ∙ kept-shape (t .now) q (sym (ap (λ o. o .answer) s) ∙ e))
+    let k = fill-kept (t .now) q (sym (ap (λ o. o .answer) s) ∙ e) in
+    (k .0, ap (λ o. o .table) s ∙ k .1))

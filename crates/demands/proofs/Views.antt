@@ -32,10 +32,10 @@ use Rattle.sss.specs.declared.SssResult.{SssResult}
 use Rattle.sss.specs.declared.SssAnswer.the-variants as sss-answer
 use Rattle.sss.specs.Outcome.{sssLeaves, sssFound, sssSearch, sssUncovered, outcomeBy, listAfter, SssOutcome}
 use Rattle.sss.proofs.Allowed.{searched, by-rejection, by-value}
-use Rattle.demands.specs.Calls.{Buffers, lengths, listLengths, stateLengths, listedOf, AlphaBetaCall, MtdCall}
-use Rattle.demands.specs.Calls.{MtdfCall, SssCall, Call, alphaBeta, mtd, mtdf, sss, found, lent, left}
-use Rattle.demands.specs.Calls.{lentOrder, leftOrder, ruleLeaves}
-use Rattle.demands.specs.Handed.{Room}
+use Rattle.demands.specs.Handed.{Buffers, Room}
+use Rattle.demands.proofs.Calls.{lengths, listLengths, stateLengths, listedOf, AlphaBetaCall, MtdCall, MtdfCall}
+use Rattle.demands.proofs.Calls.{SssCall, Call, alphaBeta, mtd, mtdf, sss, found, lent, left, lentOrder}
+use Rattle.demands.proofs.Calls.{leftOrder, leaves}
 use Rattle.demands.proofs.Parts.{Result, Refusal, Apart, result-of, refusal-of}
 
 -- the answers of each search
@@ -194,11 +194,11 @@ pub record HandedBack (t w : List ℕ) (lent left : Buffers) : Type 0 where
 -- a call that gives a result: its leaves are those of a search of the theory, and what it finds and hands back follows
 -- from them
 pub record View {t : List ℕ} (c : Call t) : Type 0 where
-  pub handed : HandedBack t (ruleLeaves c) (lent c) (left c)
-  pub searched : Searched (valuation t) (tree t) (ruleLeaves c)
-  pub results : found c ≡ findings (ruleLeaves c) t
+  pub handed : HandedBack t (leaves c) (lent c) (left c)
+  pub searched : Searched (valuation t) (tree t) (leaves c)
+  pub results : found c ≡ findings (leaves c) t
   pub long : frames t ≤ length (lentOrder c)
-  pub order : leftOrder c ≡ listed (ruleLeaves c) (lentOrder c)
+  pub order : leftOrder c ≡ listed (leaves c) (lentOrder c)
 
 -- passed questions: an accepted table, and room
 module _ (t : List ℕ) (b : Buffers) where

@@ -1,13 +1,14 @@
 -- What score would save it (02: N10), sentence by sentence, over the definition that the contract of the call cites.
 -- The table is t, the named node k, the wanted root value w; a leaf's value is an integer from -32,000 to 32,000, and
--- `rootValue t k v` is the root's value where the leaf k holds v and each other leaf what it holds in t.
+-- `rootValue t k v` is the root's value where the leaf k holds v and each other leaf what it holds in t. "The call
+-- gives the smallest leaf value .. that makes the root's value exactly the wanted one": `smallest-value` in
+-- Sentences.antt.
 use Prim.Native.Nat.{ℕ, _≤_, _<_}
 use mathlib.Core.Path.{_≡_, _∙_}
 use mathlib.Core.Logic.{_⊎_}
 use mathlib.Core.Option.{none, some}
 use mathlib.Core.List.{List}
 use lib.IntN.{ℤ, natAbs}
-use lib.Signed.{_<ℤ_}
 use borrow.Author.Tests.{lt-leb}
 use Rattle.lists.proofs.Choice.{is-false}
 use Rattle.gametree.specs.Tree.{minimax}
@@ -20,20 +21,10 @@ use Rattle.leafvalue.specs.declared.LeastValue.the-variants.{Value, Rejected}
 use Rattle.leafvalue.specs.LeastValue.{valueRejection, leastValue}
 use Rattle.leafvalue.specs.results.Root.{rootValue, SameBut, heldValue}
 use Rattle.leafvalue.proofs.Questions.{table-refused, table-accepted, no-leaf, out-of-range, first-no}
-use Rattle.leafvalue.proofs.Theorems.{leaf-test, test-leaf, given, value-exists, none-exists, only-none}
+use Rattle.leafvalue.proofs.Theorems.{leaf-test, test-leaf, value-exists, none-exists, only-none}
 use Rattle.leafvalue.proofs.Influence.{value-held, same-answer}
 
 module _ (t : List ℕ) (k : ℕ) (w : ℤ) where
-  -- "The call gives the smallest leaf value from -32,000 to 32,000 that makes the root's value exactly the wanted one,
-  -- with the other leaves as given": the value that is given does
-  pub value-reaches : (v : ℤ) → leastValue t k w ≡ Value v → (natAbs v ≤ maxValue) × (rootValue t k v ≡ w)
-  value-reaches v e = let g = given t k w v e in (g .ranged, g .reaches)
-
-  -- and no smaller one does
-  pub value-smallest : (v : ℤ) → leastValue t k w ≡ Value v
-      → (u : ℤ) → natAbs u ≤ maxValue → u <ℤ v → rootValue t k u ≡ w → ⊥
-  value-smallest v e = given t k w v e .smallest
-
   module _ (a : Accepted t) (l : Leaf t k) (r : natAbs w ≤ maxValue) where
     -- where some value does, one is given
     pub value-given : (u : ℤ) → natAbs u ≤ maxValue → rootValue t k u ≡ w → (v : ℤ) × (leastValue t k w ≡ Value v)

@@ -2,54 +2,35 @@
 -- the call cites. The lent table is t, and after the call it is `handed t`; a leaf's rank there is what its bytes 4 and
 -- 5 hold.
 use Prim.Native.Nat.{ℕ, _+_, _≤_, _<_}
-use native.Mathlib.Omega.{arith}
 use mathlib.Core.Path.{_≡_, sym, ap, ap₂, _∙_, subst}
 use mathlib.Core.Logic.{_⊎_, inl, inr}
-use mathlib.Core.Bool.{cond}
-use mathlib.Core.Option.{some}
 use mathlib.Core.List.{List}
-use lib.Dec.{eqb}
 use lib.IntN.{pos}
-use lib.ListN.{length, getD}
-use Rattle.lists.specs.Lists.{among}
-use Rattle.lists.proofs.Lists.{sub-length}
+use lib.ListN.{length}
 use Rattle.gametree.specs.declared.Side.the-variants.{Max, Min}
 use Rattle.gametree.specs.Tree.{leaves}
 use Rattle.gametree.proofs.alphabeta.WorstCase.{blocks-at}
-use Rattle.gametree.proofs.Theorems.{alphaBeta-leaves, alphaBeta-ordered}
-use Rattle.frames.specs.declared.Rejection.{Rejection}
 use Rattle.frames.specs.Frame.{frameSize, frames, byteOf, childCount, valueBytes}
 use Rattle.frames.specs.Position.{sideOf}
 use Rattle.frames.specs.Tree.{treeAt, tree, valuation}
 use Rattle.frames.specs.Value.{valueOf}
 use Rattle.frames.specs.Formed.{ChildOf}
 use Rattle.frames.specs.Shape.{SameShape}
-use Rattle.frames.specs.Check.{rejection, Accepted}
+use Rattle.frames.specs.Check.{Accepted}
 use Rattle.frames.specs.results.Leaf.{Leaf}
 use Rattle.frames.proofs.Acceptance.{accepted-formed}
 use Rattle.frames.proofs.Leaves.{leaf-listed}
 use Rattle.frames.proofs.Next.{child-within}
 use Rattle.frames.proofs.Shapes.{same-tree}
 use Rattle.frames.proofs.Values.{value-plus}
-use Rattle.certificate.specs.declared.Findings.{Findings}
-use Rattle.alphabeta.specs.declared.AlphaBetaAnswer.the-variants as ab-answer
-use Rattle.alphabeta.specs.Outcome.{reachedLeaves}
-use Rattle.plain.proofs.Leaves.{leaves-are}
-use Rattle.worstcase.specs.declared.Filled.the-variants.{Leaves, Rejected}
+use Rattle.worstcase.specs.declared.Filled.the-variants.{Leaves}
 use Rattle.worstcase.specs.Ranks.{worstCase}
 use Rattle.worstcase.specs.Outcome.{fillOutcome}
 use Rattle.worstcase.specs.results.Filled.{handed, LeafBelow}
-use Rattle.worstcase.proofs.Whole.{fill-given, fill-kept, fill-accepted}
+use Rattle.worstcase.proofs.Whole.{fill-given, fill-accepted}
 use Rattle.worstcase.proofs.Order.{Before, node-block, node-order}
-use Rattle.worstcase.proofs.WorstCase.{worst-kept, worst-front, worst-inner, worst-blocks, worst-accepted}
-use Rattle.worstcase.proofs.WorstCase.{worst-reached, rank-below, rank-once, rank-every, rank-score, same-worst}
-use Rattle.demands.specs.Calls.{AlphaBetaCall, alphaBeta}
-use Rattle.demands.proofs.Views.{view}
-use Rattle.demands.proofs.Handed.{marks-at}
-
--- alpha-beta counts the leaves that it reaches
-counted : {t : List ℕ} {f : Findings} → AlphaBetaCall t (ab-answer.Found f) → f .leaves ≡ length (reachedLeaves t)
-counted c = ap (λ x. x .leaves) (view (alphaBeta c) .results)
+use Rattle.worstcase.proofs.WorstCase.{worst-kept, worst-front, worst-inner, worst-blocks, worst-accepted, rank-below}
+use Rattle.worstcase.proofs.WorstCase.{rank-once, rank-every, rank-score, same-worst}
 
 module _ (t : List ℕ) where
   -- "For an accepted shape the call writes the ranks": there is no other question
@@ -137,42 +118,6 @@ module _ (t : List ℕ) where
     pub falling : (i c d x y : ℕ) → i < frames t → sideOf t i ≡ Min → ChildOf t i c → ChildOf t i d → c < d
         → LeafBelow t c x → LeafBelow t d y → valueBytes (handed t) y < valueBytes (handed t) x
     falling i c d x y h s p q l v w = rw s at (in-order i c d x y h p q l v w)
-
-    all-leaves : reachedLeaves (handed t) ≡ leaves (tree t)
-    all-leaves = subst (λ u. reachedLeaves u ≡ leaves (tree t)) is-worst (worst-reached t only-accepted)
-
-    -- "In that tree alpha-beta values every leaf": its count is the number of leaves, and a node's mark is 1 if it has
-    -- no children, and else 0
-    pub every-leaf-counted : {f : Findings} → AlphaBetaCall (handed t) (ab-answer.Found f) → f .leaves ≡ n
-    every-leaf-counted c = counted c ∙ ap length all-leaves ∙ sym leaf-count
-
-    pub every-leaf-marked : {f : Findings} (c : AlphaBetaCall (handed t) (ab-answer.Found f)) (k : ℕ) → k < frames t
-        → getD (c .left .marks) k 0 ≡ cond (eqb (childCount t k) 0) 1 0
-    every-leaf-marked c k h =
-        marks-at (view (alphaBeta c) .handed) k (omega (arith, filled-shape .0 .sameFrames))
-        ∙ ap (λ w. cond (among w k) 1 0) all-leaves
-        ∙ ap (λ b. cond b 1 0) (leaves-are t (accepted-formed t only-accepted) k h)
-
-    -- "so no filling of the shape costs it more"
-    pub none-costlier : (u : List ℕ) → SameShape t u → {f : Findings} → AlphaBetaCall u (ab-answer.Found f)
-        → f .leaves ≤ n
-    none-costlier u s c =
-        let w = accepted-formed u (view (alphaBeta c) .handed .accepted) in
-        omega (
-          arith,
-          counted c,
-          sub-length (alphaBeta-ordered (valuation u) (tree u)),
-          ap length (alphaBeta-leaves (valuation u) (tree u)),
-          ap (λ T. length (leaves T)) (same-tree t u s (accepted-formed t only-accepted) w),
-          leaf-count,
-        )
-
-  -- demand 1: a refusal is the first "no" to questions 1 to 9, and after it the table is as it was
-  pub first-fill : (r : Rejection) → fillOutcome t .answer ≡ Rejected r → rejection t ≡ some r
-  first-fill r e = fill-kept t r e .0
-
-  pub kept-table : (r : Rejection) → fillOutcome t .answer ≡ Rejected r → handed t ≡ t
-  kept-table r e = fill-kept t r e .1
 
 -- "the leaf values that came with the shape play no part once question 7 has passed them": two accepted tables of one
 -- shape become one table, with one answer

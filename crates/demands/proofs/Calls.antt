@@ -1,4 +1,5 @@
--- The calls of the searches: what each is lent, what it answers, and what it leaves, as its contract says.
+-- The calls of the searches: what each is lent, what it answers, and what it leaves, as its contract says. What is
+-- proved of calls is said of the functions that run in TheSentence, Sentences and the files behind them.
 use Prim.Native.Nat.{ℕ}
 use mathlib.Core.Path.{_≡_}
 use mathlib.Core.List.{List, [], _∷_}
@@ -24,14 +25,7 @@ use Rattle.sss.specs.declared.SssResult.{SssResult}
 use Rattle.sss.specs.declared.SssAnswer.{SssAnswer}
 use Rattle.sss.specs.declared.SssAnswer.the-variants as sss-answer
 use Rattle.sss.specs.Outcome.{sssLeaves, sssOutcome, solveOutcome}
-
--- the two buffers that every search is lent: one for the marks, one for the flags of the two solution trees
-pub record Buffers : Type 0 where
-  pub marks : List ℕ
-  pub flags : List ℕ
-
-abbrev pub buffers : List ℕ → List ℕ → Buffers
-buffers m f = record { marks = m; flags = f }
+use Rattle.demands.specs.Handed.{Buffers}
 
 -- their lengths, for question 10
 abbrev pub lengths : Buffers → List ℕ
@@ -121,8 +115,8 @@ pub record SssCall (t : List ℕ) (a : SssAnswer) : Type 0 where
 abbrev pub SolveSays : ℕ → List ℕ → Buffers → List ℕ → SssAnswer → Buffers → List ℕ → Type 0
 SolveSays n t b o a d p = listedOf a d p ≡ solveOutcome n t (b .marks) (b .flags) o
 
--- a call of SSS* that has a list of states of its own; it is a call of SSS* with a long lent one (`own-list`,
--- Demand1.antt)
+-- a call of SSS* that has a list of states of its own; it is a call of SSS* with a long lent one (`ownCall` in
+-- Refusals.antt)
 pub record SolveCall (t : List ℕ) (a : SssAnswer) : Type 0 where
   pub allowance : ℕ
   pub lent : Buffers
@@ -175,8 +169,8 @@ module _ {t : List ℕ} where
 
   -- the leaves that its rule names, in order: Baudet's condition, MTD's passes, the tests of MTD(f), the
   -- full run of SSS*
-  abbrev pub ruleLeaves : Call t → List ℕ
-  ruleLeaves (alphaBeta c) = reachedLeaves t
-  ruleLeaves (mtd c) = mtdLeaves t
-  ruleLeaves (mtdf c) = mtdfLeaves (startScore (c .start)) t
-  ruleLeaves (sss c) = sssLeaves t
+  abbrev pub leaves : Call t → List ℕ
+  leaves (alphaBeta c) = reachedLeaves t
+  leaves (mtd c) = mtdLeaves t
+  leaves (mtdf c) = mtdfLeaves (startScore (c .start)) t
+  leaves (sss c) = sssLeaves t
