@@ -14,6 +14,7 @@ use Rattle.gametree.specs.Bounds.{known}
 use Rattle.gametree.specs.Certificate.{inside, solutionOf, flag, unknownScore}
 use Rattle.lists.proofs.Lists.{all-at}
 use Rattle.gametree.proofs.minimax.Bounds.{every-map}
+use Rattle.gametree.proofs.tests.Subtree.{every-all}
 use Rattle.gametree.proofs.certificates.ReadOff.{ReadOff, fits}
 use Rattle.gametree.proofs.certificates.Flags.{flag-inside, read-bounds}
 use Rattle.gametree.proofs.Theorems.{alphaBeta-leaves, domination, domination-count}
@@ -83,8 +84,8 @@ module _ {t w : List ℕ} {lent left : Buffers} (handed : HandedBack t w lent le
       let y = read-bounds Min (valuation t) (among w) (tree t) proper d _ (reads Min) in
       record {
         certifies = record { maxTree = x .0; minTree = y .0; maxValue = x .1; minValue = y .1 };
-        maxLeaves = every-map _ _ (λ k f h. leaf-marked k (f h)) (tree t) (x .2);
-        minLeaves = every-map _ _ (λ k f h. leaf-marked k (f h)) (tree t) (y .2);
+        maxLeaves = every-all _ (tree t) (every-map _ _ (λ k f h. leaf-marked k (f h)) (tree t) (x .2));
+        minLeaves = every-all _ (tree t) (every-map _ _ (λ k f h. leaf-marked k (f h)) (tree t) (y .2));
       }
 
   -- the check of certificates accepts them, and gives the minimax value

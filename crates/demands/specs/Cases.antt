@@ -3,10 +3,10 @@
 use Prim.Native.Nat.{ℕ}
 use mathlib.Core.List.{List, [], _∷_}
 use lib.IntN.{ℤ, pos, negsuc}
-use lib.ListN.{replicate, take}
+use lib.ListN.{length, replicate}
 use Rattle.frames.specs.Frame.{frames}
 use Rattle.frames.specs.results.Cases.{small, lone, single}
-use Rattle.certificate.specs.declared.Findings.{Findings}
+use Rattle.certificate.specs.Search.{listed}
 use Rattle.bounds.specs.Marks.{ones}
 use Rattle.alphabeta.specs.declared.AlphaBetaAnswer as ab
 use Rattle.alphabeta.specs.declared.AlphaBetaAnswer.the-variants as ab-answer
@@ -29,11 +29,8 @@ pub data Given : Type 0 where
   spent : (merit : ℤ) (leaves replacements : ℕ) → Given
   rejected : (number : ℕ) → Given
 
-abbrev given : Findings → ℕ → Given
-given f second = found (f .value) (f .«root_move») (f .leaves) second
-
 abbrev pub byAlphaBeta : ab.AlphaBetaAnswer → Given
-byAlphaBeta (ab-answer.Found f) = given f 0
+byAlphaBeta (ab-answer.Found f) = found (f .value) (f .«root_move») (f .leaves) 0
 byAlphaBeta (ab-answer.Rejected r) = rejected (r .number)
 
 -- the plain engine gives no count: it is that of the marks at 1
@@ -42,66 +39,46 @@ byPlain n (plain-answer.Found f) = found (f .value) (f .«root_move») n 0
 byPlain n (plain-answer.Rejected r) = rejected (r .number)
 
 abbrev pub byMtd : mtd.MtdAnswer → Given
-byMtd (mtd-answer.Found f) = given (f .findings) (f .passes)
+byMtd (mtd-answer.Found f) = found (f .findings .value) (f .findings .«root_move») (f .findings .leaves) (f .passes)
 byMtd (mtd-answer.Rejected r) = rejected (r .number)
 
 abbrev pub bySss : sss.SssAnswer → Given
-bySss (sss-answer.Found f) = given (f .findings) (f .replacements)
+bySss (sss-answer.Found f) =
+    found (f .findings .value) (f .findings .«root_move») (f .findings .leaves) (f .replacements)
 bySss (sss-answer.Spent s) = spent (s .merit) (s .leaves) (s .replacements)
 bySss (sss-answer.Rejected r) = rejected (r .number)
 
--- the numbers of leaves that a search lists: the first of what it leaves in its list, as many as it counts
-abbrev orderOf : Given → (left : List ℕ) → List ℕ
-orderOf (found v m n k) o = take n o
-orderOf (spent m n k) o = take n o
-orderOf (rejected r) o = []
-
--- a line of the table: what the three searches and the plain engine give, the order in which each search evaluates its
--- leaves, and the flags that SSS* and the plain engine write
+-- a line of the table: what alpha-beta, the plain engine, MTD and SSS* give, the list of leaves that each of the three
+-- searches leaves in one of zeros, and the flags that SSS* and the plain engine write
 pub record Row : Type 0 where
-  pub alphaBeta : Given
-  pub plain : Given
-  pub mtd : Given
-  pub sss : Given
-  pub alphaBetaOrder : List ℕ
-  pub mtdOrder : List ℕ
-  pub sssOrder : List ℕ
-  pub flags : List ℕ
-  pub plainFlags : List ℕ
+  pub given : List Given
+  pub lists : List (List ℕ)
+  pub flags : List (List ℕ)
 
 abbrev pub rowOf : List ℕ → Row
 rowOf t =
-    let buffer : List ℕ = replicate (frames t) 0 in
-    let a = alphaBetaOutcome t buffer buffer buffer in
-    let m = mtdOutcome t buffer buffer buffer in
-    let s = sssOutcome (frames t) t (replicate (frames t) blank) buffer buffer buffer in
-    let p = plainOutcome t buffer buffer in
+    let zeros : List ℕ = replicate (frames t) 0 in
+    let a = alphaBetaOutcome t zeros zeros zeros in
+    let p = plainOutcome t zeros zeros in
+    let m = mtdOutcome t zeros zeros zeros in
+    let s = sssOutcome (frames t) t (replicate (frames t) blank) zeros zeros zeros in
     record {
-      alphaBeta = byAlphaBeta (a .search .answer);
-      plain = byPlain (ones (p .evaluated) (frames t)) (p .answer);
-      mtd = byMtd (m .search .answer);
-      sss = bySss (s .search .answer);
-      alphaBetaOrder = orderOf (byAlphaBeta (a .search .answer)) (a .order);
-      mtdOrder = orderOf (byMtd (m .search .answer)) (m .order);
-      sssOrder = orderOf (bySss (s .search .answer)) (s .order);
-      flags = take (frames t) (s .search .certificate);
-      plainFlags = take (frames t) (p .certificate);
+      given =
+          byAlphaBeta (a .search .answer) ∷ byPlain (ones (p .evaluated) (frames t)) (p .answer)
+          ∷ byMtd (m .search .answer) ∷ bySss (s .search .answer) ∷ [];
+      lists = a .order ∷ m .order ∷ s .order ∷ [];
+      flags = s .search .certificate ∷ p .certificate ∷ [];
     }
 
 -- value, move, all leaves, alpha-beta's leaves, MTD's leaves and passes, SSS*'s leaves and replacements; the leaves of
 -- alpha-beta in order, and those of MTD and SSS*, which are the same; the flags of SSS* and those of the plain engine
 abbrev pub rowWith : ℤ → (move all ab mtd passes sss replacements : ℕ) → (abOrder order flags plainFlags : List ℕ) → Row
 rowWith v m l a d p s r u w f g =
+    let inList : List ℕ → List ℕ = λ x. listed x (replicate (length f) 0) in
     record {
-      alphaBeta = found v m a 0;
-      plain = found v m l 0;
-      mtd = found v m d p;
-      sss = found v m s r;
-      alphaBetaOrder = u;
-      mtdOrder = w;
-      sssOrder = w;
-      flags = f;
-      plainFlags = g;
+      given = found v m a 0 ∷ found v m l 0 ∷ found v m d p ∷ found v m s r ∷ [];
+      lists = inList u ∷ inList w ∷ inList w ∷ [];
+      flags = f ∷ g ∷ [];
     }
 
 -- both write the same flags
@@ -110,15 +87,7 @@ row v m l a d p s r u w f = rowWith v m l a d p s r u w f f
 
 abbrev pub tables : List (List ℕ)
 tables =
-    small 1 2 3 4
-    ∷ small 2 3 1 4
-    ∷ small 2 3 4 1
-    ∷ small 4 1 2 3
-    ∷ small 2 5 2 1
-    ∷ small 7 7 7 7
-    ∷ lone
-    ∷ single
-    ∷ []
+    small 1 2 3 4 ∷ small 2 3 1 4 ∷ small 2 3 4 1 ∷ small 4 1 2 3 ∷ small 2 5 2 1 ∷ small 7 7 7 7 ∷ lone ∷ single ∷ []
 
 abbrev pub rows : List Row
 rows =

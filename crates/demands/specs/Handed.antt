@@ -1,11 +1,13 @@
 -- What is said of the bytes that a search hands back in its buffers.
 use Prim.Native.Nat.{ℕ, _≤_, _<_}
 use mathlib.Core.Path.{_≡_}
+use mathlib.Core.Bool.{true}
 use mathlib.Core.List.{List}
 use lib.ListN.{length, getD, take}
+use Rattle.lists.specs.Lists.{All}
 use Rattle.gametree.specs.declared.Side.the-variants.{Max, Min}
-use Rattle.gametree.specs.Tree.{minimax}
-use Rattle.gametree.specs.Certificate.{Certifies, LeavesIn}
+use Rattle.gametree.specs.Tree.{minimax, leaves}
+use Rattle.gametree.specs.Certificate.{Certifies}
 use Rattle.frames.specs.Frame.{frames}
 use Rattle.frames.specs.Tree.{tree, valuation}
 use Rattle.frames.specs.Shape.{AgreeOn}
@@ -35,8 +37,8 @@ pub record Marked (t : List ℕ) (b : Buffers) (k : ℕ) : Type 0 where
 pub record CertifiedBy (t : List ℕ) (b : Buffers) : Type 0 where
   pub certifies : Certifies (valuation t) (tree t) (member Max (b .flags)) (member Min (b .flags))
       (minimax (valuation t) (tree t))
-  pub maxLeaves : LeavesIn (member Max (b .flags)) (marked (b .marks)) (tree t)
-  pub minLeaves : LeavesIn (member Min (b .flags)) (marked (b .marks)) (tree t)
+  pub maxLeaves : All (λ k. member Max (b .flags) k ≡ true → marked (b .marks) k ≡ true) (leaves (tree t))
+  pub minLeaves : All (λ k. member Min (b .flags) k ≡ true → marked (b .marks) k ≡ true) (leaves (tree t))
 
 -- two tables agree on the leaves that are marked 1
 abbrev pub AgreeOnMarked : (t u : List ℕ) → Buffers → Type 0
