@@ -17,6 +17,7 @@ read_call rattle_read, rattle_convert;
 write_call rattle_write;
 check_call rattle_check;
 search_call rattle_alphabeta, rattle_mtd, rattle_sss;
+started_call rattle_mtdf;
 plain_call rattle_plain;
 verify_call rattle_verify;
 graft_call rattle_graft;
@@ -24,11 +25,12 @@ needed_call rattle_needed;
 fill_call rattle_fill;
 report_call rattle_report;
 
-enum call { READ, WRITE, CONVERT, CHECK, ALPHABETA, PLAIN, MTD, SSS, VERIFY, GRAFT, NEEDED, FILL, REPORT, LEAN, CALLS };
+enum call { READ, WRITE, CONVERT, CHECK, ALPHABETA, PLAIN, MTD, MTDF, SSS, VERIFY, GRAFT, NEEDED, FILL, REPORT, LEAN,
+            CALLS };
 
 static const char *const call_names[] = {
-    "read", "write", "convert", "check", "alphabeta", "plain", "mtd", "sss", "verify", "graft", "needed", "fill", "report",
-    "lean"
+    "read", "write", "convert", "check", "alphabeta", "plain", "mtd", "mtdf", "sss", "verify", "graft", "needed", "fill",
+    "report", "lean"
 };
 
 static const struct side {
@@ -39,7 +41,9 @@ static const struct side {
     check_call *check;
     search_call *alphabeta;
     plain_call *plain;
-    search_call *mtd, *sss;
+    search_call *mtd;
+    started_call *mtdf;
+    search_call *sss;
     verify_call *verify;
     graft_call *graft;
     needed_call *needed;
@@ -47,10 +51,10 @@ static const struct side {
     report_call *report, *lean; /* the same report; in C once with no more work than it needs */
 } sides[] = {
     { "rattle", rattle_read, rattle_write, rattle_convert, rattle_check,
-      rattle_alphabeta, rattle_plain, rattle_mtd, rattle_sss, rattle_verify, rattle_graft, rattle_needed, rattle_fill,
-      rattle_report, rattle_report },
-    { "c", c_read, c_write, c_convert, c_check, c_alphabeta, c_plain, c_mtd, c_sss, c_verify, c_graft, c_needed, c_fill,
-      c_report, lean_report },
+      rattle_alphabeta, rattle_plain, rattle_mtd, rattle_mtdf, rattle_sss, rattle_verify, rattle_graft, rattle_needed,
+      rattle_fill, rattle_report, rattle_report },
+    { "c", c_read, c_write, c_convert, c_check, c_alphabeta, c_plain, c_mtd, c_mtdf, c_sss, c_verify, c_graft, c_needed,
+      c_fill, c_report, lean_report },
 };
 
 /* What buffers are filled with; for how many runs and nanoseconds a call is timed, and for how long between two looks
@@ -81,6 +85,8 @@ static struct answer perform(const struct side *s, enum call call, struct lent *
     case ALPHABETA: return searched(s->alphabeta, l);
     case PLAIN: return s->plain(table, FRAME * nodes, l->marks, NODES, l->proof, NODES);
     case MTD: return searched(s->mtd, l);
+    case MTDF: /* from the value 0 */
+        return s->mtdf(table, FRAME * nodes, 0, l->marks, NODES, l->proof, NODES, l->order, NODES);
     case SSS: return searched(s->sss, l);
     case VERIFY: return s->verify(table, FRAME * nodes, flags, nodes);
     case GRAFT: return s->graft(lone_leaf, FRAME, 0, table, FRAME * nodes, l->table, sizeof l->table);

@@ -25,8 +25,8 @@ from library import CHECKS, ROOT, WORK, read, run
 
 PROGRAM = os.path.join(ROOT, "target", "bin", "analyse")
 BENCH, BASELINE = os.path.join(WORK, "bench"), os.path.join(WORK, "baseline")
-CALLS = ("read", "write", "convert", "check", "alphabeta", "plain", "mtd", "sss", "verify", "graft", "needed", "fill", "report",
-         "lean")
+CALLS = ("read", "write", "convert", "check", "alphabeta", "plain", "mtd", "mtdf", "sss", "verify", "graft", "needed", "fill",
+         "report", "lean")
 
 # How often the times are taken.
 RUNS = 5
