@@ -1,5 +1,6 @@
 // MTD(f) over a byte table: the starting value never changes the value or the move that is found, only how many leaves
-// it takes. The root is tested until its bounds meet; then its children are tested for the first move.
+// it takes; nothing is guessed past the leaves. The root is tested until its bounds meet; then its children are tested
+// for the first move.
 use bounds::Evaluation;
 use bounds::best;
 use bounds::clear;
