@@ -29,7 +29,8 @@ mutual
   evaluated-all P ν α β (leaf n) f = (f n refl, tt)
   evaluated-all P ν α β (inner n s ks) f = evaluatedChildren-all P ν s α β ks (λ k i. f k (inr i))
 
-  evaluatedChildren-all : (P : ℕ → Type 0) (ν : ℕ → ℕ) (s : Side) (α β : ℕ) (ks : Children) → ((k : ℕ) → InChildren k ks → P k)
+  evaluatedChildren-all : (P : ℕ → Type 0) (ν : ℕ → ℕ) (s : Side) (α β : ℕ) (ks : Children)
+      → ((k : ℕ) → InChildren k ks → P k)
       → All P (alphaBetaChildren ν s α β ks .evaluated)
   evaluatedChildren-all P ν s α β (last t) f = evaluated-all P ν α β t f
   evaluatedChildren-all P ν s α β (t then ts) f =

@@ -86,7 +86,8 @@ module _ (t : List ℕ) (wf : WellFormed t) where
               listable = l;
               unvisited = all-wait t wf 0 (wf .nonEmpty) e 1 (r .unmarked);
               remainder =
-                  inner-remainder t wf 0 (wf .nonEmpty) least greatest (progress 0 e o) rootPosition 1 end (r .positioned) (omega arith)
+                  inner-remainder t wf 0 (wf .nonEmpty) least greatest (progress 0 e o) rootPosition 1 end
+                  (r .positioned) (omega arith)
                   (sym first) (omega arith);
             };
         below = omega arith;

@@ -24,15 +24,16 @@ use Rattle.alphabeta.proofs.Pass.{Gives, Remainder, remainder-all, rest
 
 -- at the head of the loop over the children of node i, from `first` to `end`: child k is next, the window is a b, and
 -- the progress was p₀ and is p
-pub record VisitLoop (t : List ℕ) (i : ℕ) (q : Position) (α β : ℕ) (p₀ : Progress) (first end : ℕ) (p : Progress) (a b k : ℕ)
-    : Type 0 where
+pub record VisitLoop (t : List ℕ) (i : ℕ) (q : Position) (α β : ℕ) (p₀ : Progress) (first end : ℕ) (p : Progress)
+    (a b k : ℕ) : Type 0 where
   pub from : first ≤ k
   pub to : k ≤ end
   pub marksKept : length (p .marks) ≡ length (p₀ .marks)
   pub orderKept : length (p .order) ≡ length (p₀ .order)
   pub listable : Listable t p
   pub unvisited : Unvisited t (p .marks) i k
-  pub remainder : Remainder (alphaBeta (valuation t) α β (treeAt t i)) (rest (valuation t) (treeAt t) (q .side) a b k end) p₀ p
+  pub remainder : Remainder (alphaBeta (valuation t) α β (treeAt t i))
+      (rest (valuation t) (treeAt t) (q .side) a b k end) p₀ p
 
 -- a visit of node i in the window α β, from the progress p, leaves the marks e and the list o and hands back x: what
 -- the rule gives, with the count of the marks
@@ -71,7 +72,8 @@ module _ (t : List ℕ) (wf : WellFormed t) (i : ℕ) (inside : i < frames t) (�
       }
 
   -- an inner node owes what all its children give
-  pub inner-remainder : (q : Position) (first end : ℕ) → q ≡ positionOf t i → 0 < childCount t i → first ≡ firstChild t i
+  pub inner-remainder : (q : Position) (first end : ℕ) → q ≡ positionOf t i → 0 < childCount t i
+      → first ≡ firstChild t i
       → end ≡ first + (childCount t i - 1)
       → Remainder (alphaBeta (valuation t) α β (treeAt t i)) (rest (valuation t) (treeAt t) (q .side) α β first end) p p
   unfolding rest

@@ -47,7 +47,8 @@ bounded t E l h {positions} p q r =
 -- the chosen child of node i by the definitions
 unfoldable pub chosenOf : List ℕ → (ℕ → Bool) → Side → ℕ → ℕ
 chosenOf t E s i =
-    firstEqual (boundOf t E (unknownScore (other s))) (boundOf t E (unknownScore (other s)) i) (next t i) (childCount t i)
+    firstEqual (boundOf t E (unknownScore (other s))) (boundOf t E (unknownScore (other s)) i) (next t i)
+    (childCount t i)
 
 module _ (t : List ℕ) (wf : WellFormed t) (E : ℕ → Bool) where
   by-bounds : (bounds : List ℕ) (x i : ℕ) → i < frames t → ((k : ℕ) → k < frames t → getD bounds k 0 ≡ boundOf t E x k)
@@ -83,7 +84,8 @@ first-with f h e v i (suc n) = ap₂ (cond (eqb (f (h i)) v)) (sym (e i)) (first
 module _ (t : List ℕ) (wf : WellFormed t) (E : ℕ → Bool) where
   move-inner : (s : Side) (i n : ℕ)
       → firstEqual (boundOf t E (unknownScore (other s)))
-      (minimax (λ k. cond (E k) (valuation t k) (unknownScore (other s))) (inner 0 s (childrenFrom (treeAt t) i n))) i (suc n)
+      (minimax (λ k. cond (E k) (valuation t k) (unknownScore (other s))) (inner 0 s (childrenFrom (treeAt t) i n))) i
+      (suc n)
       ≡ boundMove (valuation t) E (inner 0 s (childrenFrom (treeAt t) i n))
   move-inner Max i n = first-with (low (valuation t) E) (treeAt t) (tree-number t) _ i n
   move-inner Min i n = first-with (high (valuation t) E) (treeAt t) (tree-number t) _ i n

@@ -68,7 +68,7 @@ module _ (t : List ℕ) (wf : WellFormed t) (E F : ℕ → Bool) (same : (k : �
   pub move-same : boundMove (valuation t) E (tree t) ≡ boundMove (valuation t) F (tree t)
   move-same = sym (chosen-root t wf E) ∙ chosen-same (sideOf t 0) 0 (wf .nonEmpty) ∙ chosen-root t wf F
 
--- what `write-certificate` gives from the marks e of a set E of nodes is what the definitions give from E
+-- what `write_certificate` gives from the marks e of a set E of nodes is what the definitions give from E
 pub concluded : (t : List ℕ) → WellFormed t → (E : ℕ → Bool) (b e c : List ℕ) → e ≡ written (mark E) (frames t) b
     → (boundMove (valuation t) (marked e) (tree t) ≡ boundMove (valuation t) E (tree t))
     × (written (flag (valuation t) (marked e) (tree t)) (frames t) c

@@ -1,5 +1,5 @@
--- A search, from its steps to its outcome: questions, cleared marks, the engine's marks, what `write-certificate` reads off
--- them, and the list of the leaves.
+-- A search, from its steps to its outcome: questions, cleared marks, the engine's marks, what `write_certificate` reads
+-- off them, and the list of the leaves.
 use Prim.Native.Nat.{ℕ}
 use mathlib.Core.Path.{_≡_, refl, ap, _∙_}
 use mathlib.Core.Option.{Option, none, some}

@@ -42,7 +42,8 @@ module _ (t e : List ℕ) (i : ℕ) (p : Position) (r : Searchable t e i p) wher
       record {
         formed = r .formed;
         inside = child-within t (r .formed) (r .inside) c;
-        positioned = h ∙ ap (λ x. childPosition t k x) (r .positioned) ∙ sym (position-child t (r .formed) (r .inside) c);
+        positioned = h ∙ ap (λ x. childPosition t k x) (r .positioned)
+            ∙ sym (position-child t (r .formed) (r .inside) c);
         marks = omega (arith, r .marks);
         unmarked = u;
       }

@@ -46,7 +46,8 @@ first-there false x k i w h = refl
 
 module _ (p : Side) (μ : ℕ → ℕ) (g : ℕ → Bool) (h : ℕ → Tree) where
   -- what is read off for each child
-  each-child : (b : Bool) (i n k : ℕ) → i ≤ k → k ≤ i + n → ReadEach p μ g b (childrenFrom h i n) → ReadOff p μ g b (h k)
+  each-child : (b : Bool) (i n k : ℕ) → i ≤ k → k ≤ i + n → ReadEach p μ g b (childrenFrom h i n)
+      → ReadOff p μ g b (h k)
   unfolding childrenFrom
   each-child b i zero k a c r = let e : i ≡ k = omega arith in subst (λ j. ReadOff p μ g b (h j)) e r
   each-child b i (suc n) k a c r =

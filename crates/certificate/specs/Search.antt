@@ -77,6 +77,7 @@ pub record ListedOutcome (A : Type 0) : Type 0 where
   pub order : List ℕ
   pub search : Outcome A
 
-abbrev pub listedOutcome : {A : Type 0} → (Rejection → A) → A → Search → (order : List ℕ) → Option Rejection → ListedOutcome A
+abbrev pub listedOutcome : {A : Type 0} → (Rejection → A) → A → Search → (order : List ℕ) → Option Rejection
+    → ListedOutcome A
 listedOutcome rejected found s order q =
     record { order = orderAfter q (s .leaves) order; search = outcome rejected found s q }

@@ -16,6 +16,6 @@ use Rattle.convert.specs.results.Cases.{computed, cases}
 
 -- each case is as stated
 pub small-conversions : map computed cases ≡ cases
-unfolding digitOf allDigits isLine hasLowercase bytesOf linesOf decode eachLine fileRejection next positionWithin positionOf
-    eachNode framesRejection capitalOf digitsOf lineOf encode raiseCase convertRejection convertOutcome
+unfolding digitOf allDigits isLine hasLowercase bytesOf linesOf decode eachLine fileRejection next positionWithin
+    positionOf eachNode framesRejection capitalOf digitsOf lineOf encode raiseCase convertRejection convertOutcome
 small-conversions = refl

@@ -106,7 +106,8 @@ tests =
 -- evaluates, and so no more
 pub above-sss : RunBoth mtdf.search.ended sss.search.ended mtdf.search.Symbol.routine sss.search.Symbol.routine
     (λ κs (t, (v, _)) r (_, (_, (m, (f, _)))) κs′ (u, _) r′ (_, (_, (m′, (f′, _)))). u .now ≡ t .now
-    → ltZ (pos maxValue) v ≡ true → (g : MtdfResult) → r ≡ mtdf-answer.Found g → (h : SssResult) → r′ ≡ sss-answer.Found h
+    → ltZ (pos maxValue) v ≡ true → (g : MtdfResult) → r ≡ mtdf-answer.Found g → (h : SssResult)
+    → r′ ≡ sss-answer.Found h
     → ((k : ℕ) → Marked (t .now) (buffers (m .now) (f .now)) k → Marked (t .now) (buffers (m′ .now) (f′ .now)) k)
     × (g .findings .leaves ≤ h .findings .leaves))
 above-sss =

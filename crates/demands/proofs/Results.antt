@@ -36,7 +36,8 @@ marks-rule c = marks-at (view c .handed)
 module _ (t : List ℕ) (a : Accepted t) (b : Buffers) (h : Room t b) where
   -- the list of leaves has an entry per node
   module _ (o : List ℕ) (long : frames t ≤ length o) where
-    -- SSS* under every allowance that is enough: as many leaves as its full run evaluates (no more than nodes: `atMost`)
+    -- SSS* under every allowance that is enough: as many leaves as its full run evaluates (no more than nodes:
+    -- `atMost`)
     module _ (n : ℕ) (enough : length (sssLeaves t) ≤ n) where
       abbrev found-leaves : Buffers
       found-leaves =

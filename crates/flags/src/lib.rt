@@ -91,7 +91,8 @@ fn chosen_if_needed(
     requires { ⌜ (node < length (now positions)) × (node < length (now lows)) × (node < length (now highs)) ⌝ }
     requires { ⌜ (from ≤ to) × (to ≤ length (now lows)) × (to ≤ length (now highs)) ⌝ }
     ensures { λ r. ⌜ ((k : ℕ) → cond (eqb k r) flag others
-        ≡ cond (eqb k (chosenChild (bySide (sideIn (now (positions .entry)) node) (now (lows .entry)) (now (highs .entry)))
+        ≡ cond (eqb k (chosenChild (bySide (sideIn (now (positions .entry)) node) (now (lows .entry))
+        (now (highs .entry)))
         node from (to - from))) flag others) ⌝ }
 {
     if flag == others {

@@ -53,7 +53,8 @@ module _ (t : List ℕ) (wf : WellFormed t) where
   -- the place of a child of node i
   pub position-child : {i k : ℕ} → i < frames t → ChildOf t i k → positionOf t k ≡ childPosition t k (positionOf t i)
   position-child {i} {k} h c =
-      position-step t k (omega (arith, child-later t wf h c)) ∙ ap (λ p. childPosition t k (positionOf t p)) (parent-is t wf h c)
+      position-step t k (omega (arith, child-later t wf h c))
+      ∙ ap (λ p. childPosition t k (positionOf t p)) (parent-is t wf h c)
 
   -- a child is one deeper than its parent
   pub depth-child : {i k : ℕ} → i < frames t → ChildOf t i k → depthOf t k ≡ depthOf t i + 1

@@ -5,7 +5,8 @@ use native.Mathlib.Omega.{arith}
 use mathlib.Core.Path.{_≡_, refl, ap, ap₂, _∙_}
 use mathlib.Core.Bool.{Bool, cond}
 use mathlib.Core.List.{List}
-use Rattle.gametree.specs.Tree.{Tree, leaf, inner, Children, last, _then_, size, sizeChildren, leafCount, leafCountChildren}
+use Rattle.gametree.specs.Tree.{Tree, leaf, inner, Children, last, _then_, size, sizeChildren, leafCount}
+use Rattle.gametree.specs.Tree.{leafCountChildren}
 use Rattle.frames.specs.Frame.{frames, firstChild, childCount, next}
 use Rattle.frames.specs.Tree.{childrenFrom, treeAt, tree}
 use Rattle.frames.specs.Formed.{WellFormed}
@@ -110,7 +111,8 @@ mutual
   count-total E (leaf n) = refl
   count-total E (inner n s ks) = omega (arith, countChildren-total E ks)
 
-  countChildren-total : (E : ℕ → Bool) (ks : Children) → leafCountChildren E ks ≡ totalChildren (λ n. cond (E n) 1 0) (λ _. 0) ks
+  countChildren-total : (E : ℕ → Bool) (ks : Children)
+      → leafCountChildren E ks ≡ totalChildren (λ n. cond (E n) 1 0) (λ _. 0) ks
   countChildren-total E (last t) = count-total E t
   countChildren-total E (t then ts) = ap₂ _+_ (count-total E t) (countChildren-total E ts)
 

@@ -15,7 +15,8 @@ use Rattle.frames.specs.Formed.{WellFormed, ChildOf}
 use Rattle.frames.proofs.Next.{child-later, child-within}
 
 -- the same trees at each number give the same children
-pub kids-same : (g h : ℕ → Tree) (i n : ℕ) → ((k : ℕ) → i ≤ k → k ≤ i + n → g k ≡ h k) → childrenFrom g i n ≡ childrenFrom h i n
+pub kids-same : (g h : ℕ → Tree) (i n : ℕ) → ((k : ℕ) → i ≤ k → k ≤ i + n → g k ≡ h k)
+    → childrenFrom g i n ≡ childrenFrom h i n
 unfolding childrenFrom
 kids-same g h i zero e = ap last (e i (omega arith) (omega arith))
 kids-same g h i (suc n) e =
@@ -33,7 +34,8 @@ kids-count g i zero = refl
 kids-count g i (suc n) = ap suc (kids-count g (i + 1) n)
 
 -- a number is in one of the children's trees exactly if it is in the tree of one of the numbers
-pub in-kids : (g : ℕ → Tree) (i n p : ℕ) → InChildren p (childrenFrom g i n) → (k : ℕ) × (i ≤ k) × (k ≤ i + n) × In p (g k)
+pub in-kids : (g : ℕ → Tree) (i n p : ℕ) → InChildren p (childrenFrom g i n)
+    → (k : ℕ) × (i ≤ k) × (k ≤ i + n) × In p (g k)
 unfolding childrenFrom
 in-kids g i zero p h = (i, omega arith, omega arith, h)
 in-kids g i (suc n) p (inl h) = (i, omega arith, omega arith, h)

@@ -9,7 +9,8 @@ use mathlib.Core.Bool.{Bool, true, false, cond}
 use mathlib.Core.List.{List, [], _∷_, _++_, map}
 use lib.ListN.{length}
 use Rattle.lists.specs.Lists.{All, among, Once, Subsequence, different}
-use Rattle.gametree.specs.Tree.{Side, Max, Min, Tree, leaf, inner, Children, least, greatest, minimax, size, leaves}
+use Rattle.gametree.specs.Tree.{Side, Max, Min, Tree, leaf, inner, Children, least, greatest, minimax, size}
+use Rattle.gametree.specs.Tree.{leaves}
 use Rattle.gametree.specs.Tree.{leafCount, In, EveryLeaf, Score, Scored, Distinct, Proper}
 use Rattle.gametree.specs.Bounds.{known, low, high, bestOf, Decided}
 use Rattle.gametree.specs.AlphaBeta.{reached, fullWindow}

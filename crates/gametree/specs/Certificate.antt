@@ -5,7 +5,8 @@ use mathlib.Core.Path.{_≡_}
 use mathlib.Core.Logic.{_⊎_}
 use mathlib.Core.Bool.{Bool, true, false, cond, not, _&&_, _||_}
 use lib.Dec.{eqb}
-use Rattle.gametree.specs.Tree.{Side, Max, Min, Tree, leaf, inner, Children, last, _then_, least, greatest, better}
+use Rattle.gametree.specs.Tree.{Side, Max, Min, Tree, leaf, inner, Children, last, _then_, least, greatest}
+use Rattle.gametree.specs.Tree.{better}
 use Rattle.gametree.specs.Tree.{minimax, minimaxChildren, number, EveryLeaf}
 use Rattle.gametree.specs.Bounds.{known}
 

@@ -77,7 +77,8 @@ replaceLive ν k (fork Min c cs) = quiet (put k (live c (k .state .merit) ∷ []
 -- after the last the parent is SOLVED
 abbrev pub replaceSolved : Layout → Taken → Link → Step
 replaceSolved layout k root = stop (k .state .merit)
-replaceSolved layout k (under p Max b) = quiet (purge layout p (k .left) ++ (solved p (k .state .merit) ∷ purge layout p (k .right)))
+replaceSolved layout k (under p Max b) =
+    quiet (purge layout p (k .left) ++ (solved p (k .state .merit) ∷ purge layout p (k .right)))
 replaceSolved layout k (under p Min (some b)) = quiet (put k (live b (k .state .merit) ∷ []))
 replaceSolved layout k (under p Min none) = quiet (put k (solved p (k .state .merit) ∷ []))
 
@@ -136,9 +137,11 @@ sss ν t = sssOver ν (layoutOf t) t
 -- after k replacements, which evaluated these leaves, the list is L
 pub data ListAfter (ν : ℕ → ℕ) (layout : Layout) (t : Tree) : ℕ → List ℕ → List State → Type 0 where
   atStart : ListAfter ν layout t 0 [] (start t)
-  afterQuiet : {k : ℕ} {leaves : List ℕ} {L M : List State} → ListAfter ν layout t k leaves L → step ν layout L ≡ quiet M
+  afterQuiet : {k : ℕ} {leaves : List ℕ} {L M : List State} → ListAfter ν layout t k leaves L
+      → step ν layout L ≡ quiet M
       → ListAfter ν layout t (suc k) leaves M
-  afterEvaluating : {k n : ℕ} {leaves : List ℕ} {L M : List State} → ListAfter ν layout t k leaves L → step ν layout L ≡ evaluating n M
+  afterEvaluating : {k n : ℕ} {leaves : List ℕ} {L M : List State} → ListAfter ν layout t k leaves L
+      → step ν layout L ≡ evaluating n M
       → ListAfter ν layout t (suc k) (leaves ++ (n ∷ [])) M
 
 -- a run after k replacements that evaluated these leaves

@@ -18,7 +18,8 @@ use Rattle.graft.specs.Sources.{rootFor, sources}
 use Rattle.graft.specs.Table.{graftTable}
 use Rattle.graftable.specs.Graftable.{MaxLeaf, Graftable}
 use Rattle.graft.proofs.Joined.{source-cases}
-use Rattle.graft.proofs.Sources.{Fitting, fitting, Source, positionAt, firstIn, countIn, first-stated, first-formed}
+use Rattle.graft.proofs.Sources.{Fitting, fitting, Source, positionAt, firstIn, countIn, first-stated}
+use Rattle.graft.proofs.Sources.{first-formed}
 use Rattle.graft.proofs.Sources.{second-formed, graft-some, position-first, position-second, first-first}
 use Rattle.graft.proofs.Sources.{count-first, count-second, replaced-leaf, replaced-same, second-replaced}
 use Rattle.graft.proofs.Laid.{laid-length, result-frames, result-stated, result-total, result-formed}

@@ -20,8 +20,8 @@ use Rattle.graft.proofs.Grafting.{graft-keeps, graft-no-leaf}
 -- answers and buffers
 pub small-grafts : map (λ c. graftOutcome (c .first) (c .node) (c .second) (buffer (c .room))) (given ++ refused)
     ≡ map (λ c. c .outcome) (given ++ refused)
-unfolding upFrom rootFor base childSources breadthFirst frameAt laidFrames next parentBefore positionWithin positionOf eachNode
-    framesRejection rejection leaves chain chainTo deepest
+unfolding upFrom rootFor base childSources breadthFirst frameAt laidFrames next parentBefore positionWithin positionOf
+    eachNode framesRejection rejection leaves chain chainTo deepest
 small-grafts = refl
 
 tables-accepted : Accepted (small 1 2 3 4) × Accepted (pair 5 6)

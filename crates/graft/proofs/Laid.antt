@@ -43,7 +43,8 @@ module _ (t : List ℕ) (k : ℕ) (u : List ℕ) where
   laid-at zero i j h l = absurd (omega arith)
   laid-at (suc m) i j h l =
       elim (decLt i m) [
-        | yes p ↦ List·getD-append (laidFrames t k u m) (frameAt t k u m) 0 (frameSize * i + j) (omega (arith, laid-length m))
+        | yes p ↦ List·getD-append (laidFrames t k u m) (frameAt t k u m) 0 (frameSize * i + j)
+            (omega (arith, laid-length m))
             ∙ laid-at m i j p l
         | no p ↦ (let q : m ≡ i = omega arith in
             let e : frameSize * i + j ≡ length (laidFrames t k u m) + j = omega (arith, laid-length m) in

@@ -203,7 +203,10 @@ module _ (t : List ℕ) (k : ℕ) (u : List ℕ) where
           (λ h. let w = child-within t first-formed h (child-first s m h l) in
           elim (ℕ-discrete (firstIn s + m) k) [
             | yes e ↦ rw (e, replaced-leaf)
-                (record { inside = omega (arith, second-stated .nonEmpty); other = λ q. omega (arith, g .leaf .inside) })
+                (record {
+                  inside = omega (arith, second-stated .nonEmpty);
+                  other = λ q. omega (arith, g .leaf .inside);
+                })
             | no e ↦ rw (replaced-same (firstIn s + m) e) (record { inside = omega arith; other = e })
           ])
           (λ v h e.
@@ -235,7 +238,8 @@ module _ (t : List ℕ) (k : ℕ) (u : List ℕ) where
           )
           (child-same r u j (firstChild u v + m) (deeper (depthOf t k) (positionOf u v))
           (b′ ∙ joined-second t u (first-stated .whole) (firstChild u v + m) 3)
-          ∙ ap (λ d. record { depth = d; side = childPosition u (firstChild u v + m) (positionOf u v) .side }) (omega arith)))
+          ∙ ap (λ d. record { depth = d; side = childPosition u (firstChild u v + m) (positionOf u v) .side })
+          (omega arith)))
 
       -- the tree at a source is a node over its children's
       pub source-tree : treeOf s ≡ node s (positionAt s .side) (λ c. treeOf (rootFor t k c)) (firstIn s) (countIn s)

@@ -22,7 +22,8 @@ use Rattle.leafvalue.proofs.Theorems.{asked}
 module _ (t : List ℕ) (k : ℕ) (w : ℤ) where
   -- the answer by the candidates
   abbrev computed : LeastValue
-  computed = unless (valueRejection t k w) (answerFor k (held (candidate (low t k) (high t k) (depthOf t k) (wantedScore w))))
+  computed = unless (valueRejection t k w) (answerFor k
+      (held (candidate (low t k) (high t k) (depthOf t k) (wantedScore w))))
 
   by-candidates : leastValue t k w ≡ computed
   unfolding leastValue
@@ -38,7 +39,8 @@ module _ (t : List ℕ) (k : ℕ) (w : ℤ) where
           (score-range w (a .ranged))))
 
 computed-answers : map (λ c. computed (c .table) (c .node) (c .wanted)) cases ≡ map (λ c. c .answer) cases
-unfolding next parentBefore positionWithin positionOf childrenFrom grow treeAt valuation eachNode framesRejection rejection
+unfolding next parentBefore positionWithin positionOf childrenFrom grow treeAt valuation eachNode framesRejection
+    rejection
 computed-answers = refl
 
 -- each case gets its answer

@@ -65,7 +65,8 @@ found-value k zero o e z = absurd (z refl)
 found-value k (suc r) o e z = rw (← e)
 
 -- an answer that rejects comes from an earlier question, or from 21
-rejected-found : (k : ℕ) (o : Option ℕ) (r : Rejection) → answerFor k o ≡ Rejected r → r ≡ record { number = 21; place = k }
+rejected-found : (k : ℕ) (o : Option ℕ) (r : Rejection) → answerFor k o ≡ Rejected r
+    → r ≡ record { number = 21; place = k }
 rejected-found k none r e = cc
 rejected-found k (some s) r e = clash (cc)
 

@@ -27,7 +27,8 @@ use Rattle.frames.proofs.Proper.{every-leaf, leaf-scored}
 use Rattle.frames.proofs.Worth.{score-kept}
 use Rattle.leafvalue.specs.declared.LeastValue.{LeastValue}
 use Rattle.leafvalue.specs.declared.LeastValue.the-variants.{Value, Rejected}
-use Rattle.leafvalue.specs.LeastValue.{isLeaf, check19, check20, rootScore, firstScore, scoreCount, smallest, wantedScore}
+use Rattle.leafvalue.specs.LeastValue.{isLeaf, check19, check20, rootScore, firstScore, scoreCount, smallest}
+use Rattle.leafvalue.specs.LeastValue.{wantedScore}
 use Rattle.leafvalue.specs.LeastValue.{answerFor, unless, valueRejection, leastValue}
 use Rattle.leafvalue.specs.results.Root.{rootValue}
 use Rattle.leafvalue.proofs.First.{found-first, found-none, none-found}

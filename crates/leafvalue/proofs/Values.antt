@@ -62,5 +62,6 @@ smaller u v a b l =
     elim (decLt (wantedScore u) (wantedScore v)) [
       | yes h ↦ h
       | no h ↦
-          clashℤ l (rw (score-value v b, score-value u a) at (value-order (wantedScore v) (wantedScore u) (omega arith)))
+          clashℤ l (rw (score-value v b, score-value u a)
+          at (value-order (wantedScore v) (wantedScore u) (omega arith)))
     ]

@@ -27,7 +27,8 @@ ghost use Rattle.frames.specs.Frame.{maxDepth, frames};
 ghost use Rattle.frames.specs.Value.{maxValue};
 ghost use Rattle.frames.specs.Check.{Accepted};
 ghost use Rattle.frames.specs.Rejection.{_andThen_};
-ghost use Rattle.leafvalue.specs.LeastValue.{isLeaf, check19, check20, smallest, wantedScore, answerFor, unless, leastValue};
+ghost use Rattle.leafvalue.specs.LeastValue.{isLeaf, check19, check20, smallest, wantedScore, answerFor, unless};
+ghost use Rattle.leafvalue.specs.LeastValue.{leastValue};
 ghost use Rattle.leafvalue.specs.engine.Candidates.{reaches as reachesOf, candidate as candidateOf, held};
 
 // The numbers of the questions about a leaf and a wanted value, by what a "no" means (SPEC 4.2).

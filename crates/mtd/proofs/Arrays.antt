@@ -46,7 +46,8 @@ mutual
   bound-local ν M N x (leaf n) e = ap (λ b. cond b (ν n) x) (e n refl)
   bound-local ν M N x (inner n s ks) e = bound-local-kids ν M N x s ks (λ p i. e p (inr i))
 
-  bound-local-kids : (ν : ℕ → ℕ) (M N : Bits) (x : ℕ) (s : Side) (ks : Children) → ((p : ℕ) → InChildren p ks → M p ≡ N p)
+  bound-local-kids : (ν : ℕ → ℕ) (M N : Bits) (x : ℕ) (s : Side) (ks : Children)
+      → ((p : ℕ) → InChildren p ks → M p ≡ N p)
       → minimaxChildren (known ν M x) s ks ≡ minimaxChildren (known ν N x) s ks
   bound-local-kids ν M N x s (last T) e = bound-local ν M N x T e
   bound-local-kids ν M N x s (T then ts) e =

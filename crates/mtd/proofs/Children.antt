@@ -52,7 +52,8 @@ remainder-all t γ s ks m =
 module _ {t : List ℕ} {γ : ℕ} {s : Side} {ks : Children} {m m′ m″ : Memory} {T : Tree} {r : Tried}
     (p : Passed t T γ m′ m″ r) where
   -- a child whose pass is that of all the children left ends the loop
-  remainder-end : {rest : Children} → Remainder t γ s ks rest m m′ → passChildrenOf t γ s m′ rest .notBelow ≡ passOf t γ m′ T .notBelow
+  remainder-end : {rest : Children} → Remainder t γ s ks rest m m′
+      → passChildrenOf t γ s m′ rest .notBelow ≡ passOf t γ m′ T .notBelow
       → passChildrenOf t γ s m′ rest .evaluated ≡ passOf t γ m′ T .evaluated → Remembers t γ s rest m′ m″
       → PassedChildren t γ s ks m m″ (r .answer)
   remainder-end o a w v =
@@ -81,7 +82,8 @@ module _ {t : List ℕ} {γ : ℕ} {s : Side} {ks : Children} {m m′ m″ : Mem
     remainder-rest h =
         let e = ap (settles s) (sym (p .answer)) ∙ h in
         let w = passOf t γ m′ T .evaluated in
-        let on : passChildrenOf t γ s m′ (T then ts) ≡ joined T ts (passOf t γ m′ T) (passChildrenOf t γ s m′ ts) = rw e in
+        let on : passChildrenOf t γ s m′ (T then ts)
+        ≡ joined T ts (passOf t γ m′ T) (passChildrenOf t γ s m′ ts) = rw e in
         let same = ap (λ x. passChildren (valuation t) γ s ts x)
         (sym (rest-same (valuation t) γ s T ts d _ _ _ _ (p .memo))) in
         let next : passChildrenOf t γ s m′ (T then ts) .evaluated ≡ w ++ passChildrenOf t γ s m″ ts .evaluated =

@@ -7,7 +7,8 @@ use mathlib.Core.Bool.{true, false}
 use mathlib.Core.List.{List, [], _++_, append-assoc}
 use lib.ListN.{getD}
 use Rattle.gametree.specs.Tree.{Tree, leaf, inner, Children, last, _then_, greatest, In, InChildren}
-use Rattle.gametree.specs.Mtd.{Memo, MemoChildren, memoHigh, pass, MtdRun, settled, followed, run, fresh, freshChildren, mtd}
+use Rattle.gametree.specs.Mtd.{Memo, MemoChildren, memoHigh, pass, MtdRun, settled, followed, run, fresh, freshChildren}
+use Rattle.gametree.specs.Mtd.{mtd}
 use Rattle.gametree.specs.engine.MemoArrays.{Bits, readMemo, readMemoChildren}
 use Rattle.gametree.proofs.mtd.Sound.{Kept, Sound, sound}
 use Rattle.gametree.proofs.mtd.Value.{kept-lower, fresh-kept, fresh-memoHigh}

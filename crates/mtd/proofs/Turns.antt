@@ -25,7 +25,8 @@ use Rattle.frames.proofs.Nodes.{in-parent, in-trans, children-apart}
 use Rattle.mtd.specs.declared.Tried.{Tried}
 use Rattle.mtd.specs.engine.Memory.{Memory, HighsRight, Counted, VisitReady, Passed}
 use Rattle.mtd.proofs.Arrays.{bound-local, Long, room-kept}
-use Rattle.mtd.proofs.Children.{PassedChildren, Remainder, remainder-all, remainder-last, remainder-settled, remainder-rest}
+use Rattle.mtd.proofs.Children.{PassedChildren, Remainder, remainder-all, remainder-last, remainder-settled}
+use Rattle.mtd.proofs.Children.{remainder-rest}
 
 -- the trees of the children of a node from number i up to `end`
 abbrev pub childrenUpTo : List ℕ → ℕ → ℕ → Children
@@ -55,7 +56,8 @@ pub kids-last : (t : List ℕ) (i end : ℕ) → i + 1 ≡ end → childrenUpTo 
 unfolding childrenFrom
 kids-last t i end e = let z : end - (i + 1) ≡ 0 = omega arith in rw z
 
-pub kids-more : (t : List ℕ) (i end : ℕ) → i + 1 < end → childrenUpTo t i end ≡ treeAt t i then childrenUpTo t (i + 1) end
+pub kids-more : (t : List ℕ) (i end : ℕ) → i + 1 < end
+    → childrenUpTo t i end ≡ treeAt t i then childrenUpTo t (i + 1) end
 unfolding childrenFrom
 kids-more t i end h = let z : end - (i + 1) ≡ suc (end - (i + 1 + 1)) = omega arith in rw z
 
@@ -159,7 +161,8 @@ module _ {t : List ℕ} {i first end : ℕ} (family : Family t i first end) wher
           omega (arith, j .1)
 
       remainder-more : Remainder t γ s (childrenUpTo t first end) (treeAt t now then childrenUpTo t (now + 1) end) m m′
-      remainder-more = subst (λ ks. Remainder t γ s (childrenUpTo t first end) ks m m′) (kids-more t now end more) (u .remainder)
+      remainder-more = subst (λ ks. Remainder t γ s (childrenUpTo t first end) ks m m′) (kids-more t now end more)
+          (u .remainder)
 
     -- after a child that is not the last one tried
     pub turn-next : Long m m″ → eqb (now + 1) end || settles s (r .answer) ≡ false
@@ -185,7 +188,8 @@ module _ {t : List ℕ} {i first end : ℕ} (family : Family t i first end) wher
           passed =
               elim (ℕ-discrete (now + 1) end) [
                 | yes z ↦ remainder-last p
-                    (subst (λ ks. Remainder t γ s (childrenUpTo t first end) ks m m′) (kids-last t now end z) (u .remainder))
+                    (subst (λ ks. Remainder t γ s (childrenUpTo t first end) ks m m′) (kids-last t now end z)
+                    (u .remainder))
                 | no z ↦ (let o = u .to in
                     let more : now + 1 < end = omega arith in
                     remainder-settled p (younger-apart more) (remainder-more more) (rw (ne-eqb _ _ z) at e))

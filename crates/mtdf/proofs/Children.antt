@@ -37,7 +37,8 @@ remainder-all t γ s ks m = record { done = []; so-far = evaluated-none _; evalu
 module _ {t : List ℕ} {γ : ℕ} {s : Side} {ks : Children} {m m′ m″ : Memory} {T : Tree} {r : Tried}
     (p : VisitedBy t T γ m′ m″ r) where
   -- a child whose test is that of all the children left ends the loop
-  remainder-end : {rest : Children} → Remainder t γ s ks rest m m′ → testChildrenOf t γ s m′ rest ≡ test (valuation t) γ (soFar m′) T
+  remainder-end : {rest : Children} → Remainder t γ s ks rest m m′
+      → testChildrenOf t γ s m′ rest ≡ test (valuation t) γ (soFar m′) T
       → DoneChildren t γ s ks m m″ (r .answer)
   remainder-end o e =
       record {
@@ -64,7 +65,8 @@ module _ {t : List ℕ} {γ : ℕ} {s : Side} {ks : Children} {m m′ m″ : Mem
     remainder-rest h =
         let e = ap (settles s) (sym (p .answer)) ∙ h in
         let q = test (valuation t) γ (soFar m′) T in
-        let on : testChildrenOf t γ s m′ (T then ts) ≡ passedOn q (testChildren (valuation t) γ (soFar m′ ++ q .evaluated) s ts)
+        let on : testChildrenOf t γ s m′ (T then ts)
+        ≡ passedOn q (testChildren (valuation t) γ (soFar m′ ++ q .evaluated) s ts)
         = rw e in
         let next : testChildrenOf t γ s m′ (T then ts) ≡ passedOn q (testChildrenOf t γ s m″ ts) =
         on ∙ ap (λ w. passedOn q (testChildren (valuation t) γ w s ts)) (sym (p .evaluated .listed)) in

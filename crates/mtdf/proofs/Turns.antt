@@ -26,7 +26,8 @@ use Rattle.mtd.proofs.Turns.{childrenUpTo, kids-last, kids-more, Family, child}
 use Rattle.mtdf.specs.declared.Tried.{Tried}
 use Rattle.mtdf.specs.engine.Memory.{Memory, soFar, Bounded, BoundsRight, Counted, VisitReady, Same, VisitedBy}
 use Rattle.mtdf.proofs.Arrays.{Long, room-kept, same-more}
-use Rattle.mtdf.proofs.Children.{DoneChildren, Remainder, remainder-all, remainder-last, remainder-settled, remainder-rest}
+use Rattle.mtdf.proofs.Children.{DoneChildren, Remainder, remainder-all, remainder-last, remainder-settled}
+use Rattle.mtdf.proofs.Children.{remainder-rest}
 
 -- the bounds below the children are right, and at every other node nothing has changed
 pub record Around (t : List ℕ) (first end : ℕ) (m m′ : Memory) : Type 0 where
@@ -95,7 +96,8 @@ module _ {t : List ℕ} {i first end : ℕ} (family : Family t i first end) wher
         formed = family .formed;
         inside = child-within t (family .formed) (family .inside) c;
         positioned =
-            e ∙ ap (λ p. childPosition t now p) (r .positioned) ∙ sym (position-child t (family .formed) (family .inside) c);
+            e ∙ ap (λ p. childPosition t now p) (r .positioned)
+            ∙ sym (position-child t (family .formed) (family .inside) c);
         room = room-kept (r .room) (u .long);
         counted = u .counted;
         right = u .around .right now (u .from) (u .to);
@@ -129,7 +131,8 @@ module _ {t : List ℕ} {i first end : ℕ} (family : Family t i first end) wher
 
     module _ (more : now + 1 < end) where
       remainder-more : Remainder t γ s (childrenUpTo t first end) (treeAt t now then childrenUpTo t (now + 1) end) m m′
-      remainder-more = subst (λ ks. Remainder t γ s (childrenUpTo t first end) ks m m′) (kids-more t now end more) (u .remainder)
+      remainder-more = subst (λ ks. Remainder t γ s (childrenUpTo t first end) ks m m′) (kids-more t now end more)
+          (u .remainder)
 
     -- after a child that is not the last one tested
     pub turn-next : Long m m″ → eqb (now + 1) end || settles s (r .answer) ≡ false
@@ -155,7 +158,8 @@ module _ {t : List ℕ} {i first end : ℕ} (family : Family t i first end) wher
           done =
               elim (ℕ-discrete (now + 1) end) [
                 | yes z ↦ remainder-last p
-                    (subst (λ ks. Remainder t γ s (childrenUpTo t first end) ks m m′) (kids-last t now end z) (u .remainder))
+                    (subst (λ ks. Remainder t γ s (childrenUpTo t first end) ks m m′) (kids-last t now end z)
+                    (u .remainder))
                 | no z ↦ (let o = u .to in
                     let more : now + 1 < end = omega arith in
                     remainder-settled p (remainder-more more) (rw (ne-eqb _ _ z) at e))

@@ -77,7 +77,8 @@ module _ (t P : List ℕ) (f : Positioned t P) (k : ℕ) (h : k < frames t) wher
 
 module _ (t : List ℕ) (wf : WellFormed t) where
   -- an array that was filled holds the positions
-  pub positioned : (P : List ℕ) {P′ : List ℕ} → frames t ≤ length P → P′ ≡ written (positionEntry t) (frames t) P → Positioned t P′
+  pub positioned : (P : List ℕ) {P′ : List ℕ} → frames t ≤ length P → P′ ≡ written (positionEntry t) (frames t) P
+      → Positioned t P′
   positioned P h e =
       record {
         room = omega (arith, ap length e, written-length (positionEntry t) (frames t) P h);
@@ -104,5 +105,6 @@ module _ (t : List ℕ) (wf : WellFormed t) where
     filling-step n q P′ x =
         filled-step t wf (positionEntry t) r h n q _
         (λ k c.
-        ap₂ packed (sym (parent-is t wf h c)) (ap (λ b. childPosition t k b) position-read ∙ sym (position-child t wf h c)))
+        ap₂ packed (sym (parent-is t wf h c)) (ap (λ b. childPosition t k b) position-read
+        ∙ sym (position-child t wf h c)))
         P′ x

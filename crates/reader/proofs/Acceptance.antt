@@ -1,5 +1,5 @@
--- A file is accepted exactly if its lines are right (SPEC 2.2), without lowercase letters, and hold an accepted table; what
--- the reader then gives.
+-- A file is accepted exactly if its lines are right (SPEC 2.2), without lowercase letters, and hold an accepted table;
+-- what the reader then gives.
 use Prim.Native.Nat.{ℕ, zero, suc, _+_, _*_, _/_, _%_, _≤_, _<_}
 use mathlib.Core.Path.{_≡_, refl, sym, _∙_}
 use mathlib.Core.Logic.{_↔_}
@@ -137,7 +137,8 @@ module _ (f : List ℕ) where
       (rw (e, fits), rw (e, fits))
 
   -- into a table that has room for every file, the reader rejects by questions 1 to 9 and 16 only
-  pub long-enough-rejected : (table : List ℕ) → maxTable ≤ length table → (r : Rejection) → Rejected r ≡ readAnswer f table
+  pub long-enough-rejected : (table : List ℕ) → maxTable ≤ length table → (r : Rejection)
+      → Rejected r ≡ readAnswer f table
       → fileRejection f ≡ some r
   unfolding readRejection
   long-enough-rejected table room r e = by-questions (fileRejection f) refl

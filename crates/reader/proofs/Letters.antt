@@ -79,7 +79,8 @@ module _ (f : List ℕ) where
       line-room = line-fits f at line-here
 
       -- it has a lowercase letter
-      pub lettering-stop : hasLowercase (lineBytes f at) ≡ true → fileCheck16 f ≡ some (record { number = 16; place = n })
+      pub lettering-stop : hasLowercase (lineBytes f at) ≡ true
+          → fileCheck16 f ≡ some (record { number = 16; place = n })
       unfolding eachLine
       lettering-stop e = l .passed ∙ rw (lines-next f at line-here, e)
 

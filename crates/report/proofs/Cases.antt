@@ -17,6 +17,7 @@ use Rattle.report.specs.results.Cases.{computed, expected, cases}
 
 -- each case is as stated
 pub small-files : map computed cases ≡ map expected cases
-unfolding mtd next parentBefore positionWithin positionOf childrenFrom grow treeAt valuation eachNode framesRejection digitOf
-    allDigits isLine hasLowercase bytesOf linesOf decode eachLine fileRejection decimalWithin abLine mtdLine sssLine
+unfolding mtd next parentBefore positionWithin positionOf childrenFrom grow treeAt valuation eachNode framesRejection
+    digitOf allDigits isLine hasLowercase bytesOf linesOf decode eachLine fileRejection decimalWithin abLine mtdLine
+    sssLine
 small-files = refl

@@ -24,7 +24,8 @@ mutual
   pair-leaves g h (leaf n) = refl
   pair-leaves g h (inner n s ks) = pair-countChildren g h ks
 
-  pair-countChildren : (g h : ℕ → Bool) (ks : Children) → pairLeavesChildren g h ks ≡ leafCountChildren (λ n. g n || h n) ks
+  pair-countChildren : (g h : ℕ → Bool) (ks : Children)
+      → pairLeavesChildren g h ks ≡ leafCountChildren (λ n. g n || h n) ks
   pair-countChildren g h (last t) = pair-leaves g h t
   pair-countChildren g h (t then ts) = ap₂ _+_ (pair-leaves g h t) (pair-countChildren g h ts)
 

@@ -112,7 +112,8 @@ module _ (t : List ℕ) (wf : WellFormed t) (ls : List State) (γ : ℕ) where
       })
 
   -- its entry is made anew, and the fall goes on
-  refresh-ancestors-over : (f : ℕ) → Falls f → (w : List ℕ) (u : Tree) (n : ℕ) (q : Side) (ks : Children) (X F M G Z : List theory.State)
+  refresh-ancestors-over : (f : ℕ) → Falls f → (w : List ℕ) (u : Tree) (n : ℕ) (q : Side) (ks : Children)
+      (X F M G Z : List theory.State)
       → frames t ≤ length w → Around (arraysOf ls w) (tree t) γ (inner n q ks) X Z
       → Beside (arraysOf ls w) q γ ks u F G → Above (arraysOf ls w) γ n u → Shows (arraysOf ls w) u M
       → bestAt w (number u) ≤ γ → n ≤ f
@@ -148,11 +149,13 @@ module _ (t : List ℕ) (wf : WellFormed t) (ls : List State) (γ : ℕ) where
       (rw bestN (beside-same x y (c .beside) (d .1) (λ k j _. within k j))) (c .parts)) refl (rw bestN (c .limit)) l
 
   -- a step up
-  refresh-ancestors-step : (f : ℕ) → Falls f → (w : List ℕ) (u : Tree) (k : ℕ) (A M B : List theory.State) → frames t ≤ length w
+  refresh-ancestors-step : (f : ℕ) → Falls f → (w : List ℕ) (u : Tree) (k : ℕ) (A M B : List theory.State)
+      → frames t ≤ length w
       → Around (arraysOf ls w) (tree t) γ u A B → Shows (arraysOf ls w) u M → number u ≡ k → bestAt w k < γ → 0 < k
       → k ≤ suc f → Settled (A ++ (M ++ B)) (refreshed f t γ (renewed t w (parentOf t k)) (parentOf t k))
   refresh-ancestors-step f again w u k A M B r top h e b z l = absurd (omega (arith, tree-number t 0))
-  refresh-ancestors-step f again w u k A M B r (child {n = n} {q = q} {ks = ks} {X = X} {Z = Z} F G a s p i j) h e b z l =
+  refresh-ancestors-step f again w u k A M B r (child {n = n} {q = q} {ks = ks} {X = X} {Z = Z} F G a s p i j) h e b z
+      l =
       let m : parentOf t k ≡ n = ap (parentOf t) (sym e) ∙ parent-own t wf a s in
       subst (λ x. Settled (A ++ (M ++ B)) (refreshed f t γ (renewed t w x) x)) (sym m)
       (subst (λ L. Settled L (refreshed f t γ (renewed t w n) n)) (regroup X F M G Z i j)
@@ -167,7 +170,8 @@ module _ (t : List ℕ) (wf : WellFormed t) (ls : List State) (γ : ℕ) where
   refresh-ancestors-at (suc f) w u zero A M B r a h e b l = at-root w u A M B a h e
   refresh-ancestors-at (suc f) w u (suc k) A M B r a h e b l =
       cond-cases (Settled (A ++ (M ++ B))) (needsRefresh w γ (suc k)) _ _
-      (λ q. refresh-ancestors-step f (refresh-ancestors-at f) w u (suc k) A M B r a h e (ltb-true (bestAt w (suc k)) γ q) (omega arith)
+      (λ q. refresh-ancestors-step f (refresh-ancestors-at f) w u (suc k) A M B r a h e
+      (ltb-true (bestAt w (suc k)) γ q) (omega arith)
       (omega arith))
       (λ q. at-stay w u (suc k) A M B a h e (omega (arith, ltb-false (bestAt w (suc k)) γ q)))
 

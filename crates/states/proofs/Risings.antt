@@ -15,7 +15,8 @@ use Rattle.frames.specs.Position.{parentOf, sideOf}
 use Rattle.frames.specs.Formed.{WellFormed, ChildOf}
 use Rattle.frames.proofs.Next.{child-within}
 use Rattle.frames.proofs.Parents.{parent-less}
-use Rattle.states.specs.engine.Kept.{linkCount, bestAt, linkAt, packedEntry, chosenBy, chosenOf, renewed, needsRefresh}
+use Rattle.states.specs.engine.Kept.{linkCount, bestAt, linkAt, packedEntry, chosenBy, chosenOf, renewed}
+use Rattle.states.specs.engine.Kept.{needsRefresh}
 use Rattle.states.specs.engine.Kept.{Refreshed, refreshed, Sound, Fits}
 use Rattle.states.specs.declared.Change.{Change}
 use Rattle.states.specs.engine.Kept.{changed, Puttable}
@@ -115,10 +116,12 @@ module _ (t : List ℕ) (wf : WellFormed t) where
     refreshed-step w zero e = clash (cc)
     refreshed-step w (suc k) e =
         let l = parent-less t (suc k) (omega arith) in
-        rw e (refreshed-enough k (parentOf t (suc k)) (renewed t w (parentOf t (suc k))) (parentOf t (suc k)) (omega arith)
+        rw e (refreshed-enough k (parentOf t (suc k)) (renewed t w (parentOf t (suc k))) (parentOf t (suc k))
+        (omega arith)
         (omega arith))
 
-    refreshed-end : (w : List ℕ) (k : ℕ) → needsRefresh w γ k ≡ false → refreshed k t γ w k ≡ record { front = w; top = k }
+    refreshed-end : (w : List ℕ) (k : ℕ) → needsRefresh w γ k ≡ false
+        → refreshed k t γ w k ≡ record { front = w; top = k }
     unfolding refreshed
     refreshed-end w zero e = refl
     refreshed-end w (suc k) e = rw e
@@ -151,10 +154,12 @@ module _ {t F : List ℕ} {γ : ℕ} {w₀ : List ℕ} {node : ℕ} {w : List �
       record { inside = h; less = omega arith; child = c; merit = o .merits _ (omega (arith, o .room)) }
 
   -- and leaves what is still to be done
-  pub falling-again : (p c b v : ℕ) → needsRefresh w γ at ≡ true → p ≡ parentOf t at → c ≡ chosenOf t w p → b ≡ bestAt w c
+  pub falling-again : (p c b v : ℕ) → needsRefresh w γ at ≡ true → p ≡ parentOf t at → c ≡ chosenOf t w p
+      → b ≡ bestAt w c
       → v ≡ packedEntry b c → Falling t F γ w₀ node (set w p v) p
   falling-again p c b v e q i j k =
-      let z : set w p v ≡ renewed t w p = ap (set w p) (k ∙ ap₂ packedEntry j refl ∙ ap (λ x. packedEntry (bestAt w x) x) i) in
+      let z : set w p v ≡ renewed t w p = ap (set w p)
+      (k ∙ ap₂ packedEntry j refl ∙ ap (λ x. packedEntry (bestAt w x) x) i) in
       let r = rises e q in
       let wf = f .fits .formed in
       record {
@@ -169,7 +174,8 @@ module _ {t F : List ℕ} {γ : ℕ} {w₀ : List ℕ} {node : ℕ} {w : List �
       }
 
   -- at the top nothing is
-  pub refreshed-top : needsRefresh w γ at ≡ false → (at ≡ refreshed node t γ w₀ node .top) × (w ≡ refreshed node t γ w₀ node .front)
+  pub refreshed-top : needsRefresh w γ at ≡ false → (at ≡ refreshed node t γ w₀ node .top)
+      × (w ≡ refreshed node t γ w₀ node .front)
   refreshed-top e =
       let z : record { front = w; top = at } ≡ refreshed node t γ w₀ node =
       sym (refreshed-end t (f .fits .formed) γ w at e) ∙ f .same in
@@ -234,7 +240,8 @@ module _ (t F w : List ℕ) (γ : ℕ) (c : Change) (p : Putting t F w γ c) whe
         merits = λ k h. changed-at (λ v. v / linkCount ≤ greatest) k (rw n at h) (omega (arith, p .score))
             (λ e i. omega (arith, p .merit, small i)) (o .merits k (rw n at h));
         links = λ k h. changed-at (λ v. LinkOf t k (v % linkCount)) k (omega (arith, o .room)) (inl (omega arith))
-            (λ e i. let m : packedEntry γ (c .first) % linkCount ≡ c .first = omega (arith, small i) in inr (rw (m, e) i))
+            (λ e i. let m : packedEntry γ (c .first) % linkCount
+            ≡ c .first = omega (arith, small i) in inr (rw (m, e) i))
             (o .links k h);
       }
     where

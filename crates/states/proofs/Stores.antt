@@ -61,9 +61,10 @@ module _ {A : Type 0} (f : ℕ → A) where
       (λ o. stored-in (i + 1) n (set xs i (f i)) k d o (omega arith) (rw (length-set xs i (f i)) l))
 
 -- what it stores after the node's entry is the change
-pub positioned : (γ : ℕ) (c : Change) (w : List ℕ) (v x n : ℕ) → v ≡ packedEntry (c .score) 0 → x ≡ packedEntry γ (c .first)
+pub put-change : (γ : ℕ) (c : Change) (w : List ℕ) (v x n : ℕ) → v ≡ packedEntry (c .score) 0
+    → x ≡ packedEntry γ (c .first)
     → n ≡ c .count → stored (λ k. v) (c .first) n (set w (c .node) x) ≡ changed γ c w
-positioned γ c w v x n e f g = rw (e, f, g)
+put-change γ c w v x n e f g = rw (e, f, g)
 
 -- WHAT A CHANGE STORES
 
@@ -97,9 +98,11 @@ module _ (γ : ℕ) (c : Change) (w : List ℕ) where
       stored-in (λ k. packedEntry (c .score) 0) (c .first) (c .count) w₁ k 0 (i .0) (i .1) (rw (length-set w _ _) l)
 
   -- the node's own
-  pub changed-node : OutRun c (c .node) → c .node < length w → getD (changed γ c w) (c .node) 0 ≡ packedEntry γ (c .first)
+  pub changed-node : OutRun c (c .node) → c .node < length w
+      → getD (changed γ c w) (c .node) 0 ≡ packedEntry γ (c .first)
   changed-node o l =
-      stored-out (λ k. packedEntry (c .score) 0) (c .first) (c .count) w₁ (c .node) 0 o ∙ getD-set-same w (c .node) _ 0 l
+      stored-out (λ k. packedEntry (c .score) 0) (c .first) (c .count) w₁ (c .node) 0 o
+      ∙ getD-set-same w (c .node) _ 0 l
 
   -- the others stay
   pub changed-out : (k : ℕ) → OutRun c k → (k ≡ c .node → ⊥) → getD (changed γ c w) k 0 ≡ getD w k 0

@@ -10,7 +10,8 @@ ghost use Prim.Native.Nat.{_+_, _-_, _≤_, _<_};
 ghost use lib.ListN.{length};
 ghost use Rattle.gametree.specs.Tree.{greatest};
 ghost use Rattle.frames.specs.Frame.{maxNodes, frames};
-ghost use Rattle.states.specs.engine.Kept.{bestAt, linkAt, packedEntry as packedOf, leftmostBest, chosenOf, needsRefresh};
+ghost use Rattle.states.specs.engine.Kept.{bestAt, linkAt, packedEntry as packedOf, leftmostBest, chosenOf};
+ghost use Rattle.states.specs.engine.Kept.{needsRefresh};
 ghost use Rattle.states.specs.engine.Kept.{refreshed, descended, changed, Puttable, Fits};
 
 // LIVE and SOLVED (SPEC 10.1).

@@ -32,7 +32,8 @@ module _ (t : List ℕ) (i γ p : ℕ) (s : Side) (r : Change) where
 
 -- the steps of a replacement
 pub replaced-by : (t w : List ℕ) (c : Change) (γ : ℕ) (k : Counts) (w₁ w₂ : List ℕ) (top at : ℕ) (u : Update)
-    → w₁ ≡ changed γ c w → top ≡ refreshed (c .node) t γ w₁ (c .node) .top → w₂ ≡ refreshed (c .node) t γ w₁ (c .node) .front
+    → w₁ ≡ changed γ c w → top ≡ refreshed (c .node) t γ w₁ (c .node) .top
+    → w₂ ≡ refreshed (c .node) t γ w₁ (c .node) .front
     → at ≡ descended (frames t - top) w₂ top → u ≡ ofChange c
     → (_≡_ {A = Run} (record { stage = Going; best = at; counts = k; update = u })
     (replacedRun t w c γ k))

@@ -23,7 +23,8 @@ use Rattle.turns.specs.declared.Stage.the-variants.{Spent}
 use Rattle.turns.specs.declared.Run.{Run}
 use Rattle.turns.specs.engine.Merit.{scoreOf}
 use Rattle.turns.specs.engine.Rules.{ofInner, ofLive, ofState}
-use Rattle.turns.specs.engine.Turn.{isSolvedRoot, evaluatedBy, newLeaves, isLiveLeaf, isUncovered, settledFront, replacedRun}
+use Rattle.turns.specs.engine.Turn.{isSolvedRoot, evaluatedBy, newLeaves, isLiveLeaf, isUncovered, settledFront}
+use Rattle.turns.specs.engine.Turn.{replacedRun}
 use Rattle.turns.specs.engine.Turn.{recounted, endedRun, taken}
 
 -- a SOLVED state that is not the root's

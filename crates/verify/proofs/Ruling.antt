@@ -27,7 +27,12 @@ pub record Ruling (p : Side) (q : ℕ) (t flags : List ℕ) (i m : ℕ) : Type 0
 module _ (p : Side) (q : ℕ) (t flags : List ℕ) (wf : WellFormed t) where
   pub ruling-none : Ruling p q t flags 0 1
   unfolding next
-  ruling-none = record { inside = wf .nonEmpty; counted = refl; asking = asking-none (ruleHolds p t flags) q (frames t) }
+  ruling-none = record {
+    inside = wf .nonEmpty;
+    counted = refl;
+    asking =
+        asking-none (ruleHolds p t flags) q (frames t);
+  }
 
   module _ (i m : ℕ) (r : Ruling p q t flags i m) where
     -- the rule does not hold at node i

@@ -10,7 +10,8 @@ use mathlib.Core.List.{List}
 use borrow.Author.Tests.{eq-eqb, ne-eqb}
 use Rattle.gametree.specs.declared.Side.{Side}
 use Rattle.gametree.specs.declared.Side.the-variants.{Max, Min}
-use Rattle.gametree.specs.Tree.{Tree, leaf, inner, Children, last, _then_, greatest, better, EveryLeaf, EveryLeafChildren}
+use Rattle.gametree.specs.Tree.{Tree, leaf, inner, Children, last, _then_, greatest, better, EveryLeaf}
+use Rattle.gametree.specs.Tree.{EveryLeafChildren}
 use Rattle.gametree.specs.Tree.{Score, Scored, ScoredChildren}
 use Rattle.gametree.specs.Certificate.{worst, solutionValue, solutionValueChildren}
 use Rattle.lists.proofs.Choice.{cond-cases}

@@ -7,13 +7,15 @@ use mathlib.Core.List.{List}
 use lib.ListN.{length}
 use Rattle.gametree.specs.declared.Side.{Side}
 use Rattle.gametree.specs.declared.Side.the-variants.{Max, Min}
-use Rattle.gametree.specs.Tree.{Tree, leaf, inner, Children, last, _then_, leaves, leavesChildren, EveryLeaf, EveryLeafChildren}
+use Rattle.gametree.specs.Tree.{Tree, leaf, inner, Children, last, _then_, leaves, leavesChildren, EveryLeaf}
+use Rattle.gametree.specs.Tree.{EveryLeafChildren}
 use Rattle.gametree.specs.Tree.{In, InChildren, Distinct, DistinctChildren}
 use Rattle.gametree.proofs.minimax.Bounds.{every-map, every-map-kids}
 use Rattle.gametree.proofs.alphabeta.WorstCase.{Blocks, BlocksChildren, blocks-more, blocksChildren-more}
 use Rattle.frames.specs.Frame.{frameSize, frames, valueBytes}
 use Rattle.worstcase.specs.Ranks.{ranked, rankedChildren}
-use Rattle.worstcase.proofs.Ranks.{Off, off-other, rank-value, ranked-length, rankedChildren-length, ranked-other}
+use Rattle.worstcase.proofs.Ranks.{Off, off-other, rank-value, ranked-length, rankedChildren-length}
+use Rattle.worstcase.proofs.Ranks.{ranked-other}
 use Rattle.worstcase.proofs.Ranks.{rankedChildren-other}
 
 mutual
@@ -36,7 +38,8 @@ module _ (r n : ℕ) (t : List ℕ) where
       ap₂ (λ x y. x * 256 + y) (ranked-other r T t (frameSize * n + 4) (o 4 (omega arith)))
       (ranked-other r T t (frameSize * n + 5) (o 5 (omega arith)))
 
-  valueChildren-kept : (s : Side) (ks : Children) → (InChildren n ks → ⊥) → valueBytes (rankedChildren r s ks t) n ≡ valueBytes t n
+  valueChildren-kept : (s : Side) (ks : Children) → (InChildren n ks → ⊥)
+      → valueBytes (rankedChildren r s ks t) n ≡ valueBytes t n
   valueChildren-kept s ks h =
       let o : (k : ℕ) → k < frameSize → EveryLeafChildren (Off (frameSize * n + k)) ks =
       λ k l. every-map-kids _ _ (λ m i. off-other n k m l (λ e. h (rw e i))) ks (every-in-kids ks) in
@@ -62,7 +65,8 @@ mutual
   ranked-blocks m r (leaf i) t h l d = rank-value i r t (omega arith)
   ranked-blocks m r (inner i s ks) t h l d = rankedChildren-blocks m r s ks t h l (d .1)
 
-  rankedChildren-blocks : (m r : ℕ) (s : Side) (ks : Children) (t : List ℕ) → m ≤ frames t → EveryLeafChildren (λ n. n < m) ks
+  rankedChildren-blocks : (m r : ℕ) (s : Side) (ks : Children) (t : List ℕ) → m ≤ frames t
+      → EveryLeafChildren (λ n. n < m) ks
       → DistinctChildren ks → BlocksChildren (valueBytes (rankedChildren r s ks t)) s r ks
   rankedChildren-blocks m r s (last v) t h l d = ranked-blocks m r v t h l d
   rankedChildren-blocks m r Max (v then vs) t h l d =

@@ -16,8 +16,8 @@ use Rattle.worstcase.specs.results.Cases.{given, refused}
 
 -- answers and tables
 pub small-fillings : map (λ c. fillOutcome (c .table)) (given ++ refused) ≡ map (λ c. c .outcome) (given ++ refused)
-unfolding next parentBefore positionWithin positionOf childrenFrom grow treeAt eachNode framesRejection rejection withRank
-    worstCase
+unfolding next parentBefore positionWithin positionOf childrenFrom grow treeAt eachNode framesRejection rejection
+    withRank worstCase
 small-fillings = refl
 
 -- alpha-beta reaches as many leaves as the tables have

@@ -67,7 +67,8 @@ mutual
   rankedChildren-scored m r q (last v) t j h l f s = ranked-scored m r v t j h l f s
   rankedChildren-scored m r Max (v then vs) t j h l f s =
       let w = length-append (leaves v) (leavesChildren vs) in
-      rankedChildren-scored m (r + length (leaves v)) Max vs (ranked r v t) j (omega (arith, ranked-length r v t)) (l .1)
+      rankedChildren-scored m (r + length (leaves v)) Max vs (ranked r v t) j (omega (arith, ranked-length r v t))
+      (l .1)
       (omega arith) (ranked-scored m r v t j h (l .0) (omega arith) s)
   rankedChildren-scored m r Min (v then vs) t j h l f s =
       let w = length-append (leaves v) (leavesChildren vs) in

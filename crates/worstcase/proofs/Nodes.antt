@@ -108,7 +108,8 @@ module _ (t : List ℕ) (i : ℕ) (s : Side) (r : ℕ) (f : Fillable t i s r) wh
       turn-few =
           omega (
             arith,
-            next-grows (treeAt t) (nthChild s first n) (next + length (leaves (treeAt u k))) (ranked next (treeAt u k) u)
+            next-grows (treeAt t) (nthChild s first n) (next + length (leaves (treeAt u k)))
+                (ranked next (treeAt u k) u)
                 (turn + 1) (n - (turn + 1)),
             ap (λ x. x .next) turn-left,
             f .atMost,

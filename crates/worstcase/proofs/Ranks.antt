@@ -10,7 +10,8 @@ use Rattle.lists.specs.Lists.{All}
 use Rattle.lists.proofs.Lists.{all-append, all-map}
 use Rattle.gametree.specs.declared.Side.{Side}
 use Rattle.gametree.specs.declared.Side.the-variants.{Max, Min}
-use Rattle.gametree.specs.Tree.{Tree, leaf, inner, Children, last, _then_, leaves, leavesChildren, EveryLeaf, EveryLeafChildren}
+use Rattle.gametree.specs.Tree.{Tree, leaf, inner, Children, last, _then_, leaves, leavesChildren, EveryLeaf}
+use Rattle.gametree.specs.Tree.{EveryLeafChildren}
 use Rattle.frames.specs.Frame.{frameSize, frames, byteOf, valueBytes}
 use Rattle.frames.specs.Shape.{AgreeOn}
 use Rattle.worstcase.specs.Ranks.{withRank, ranked, rankedChildren}
@@ -84,7 +85,8 @@ mutual
   ranked-length r (leaf i) t = rank-length i r t
   ranked-length r (inner i s ks) t = rankedChildren-length r s ks t
 
-  pub rankedChildren-length : (r : ℕ) (s : Side) (ks : Children) (t : List ℕ) → length (rankedChildren r s ks t) ≡ length t
+  pub rankedChildren-length : (r : ℕ) (s : Side) (ks : Children) (t : List ℕ)
+      → length (rankedChildren r s ks t) ≡ length t
   rankedChildren-length r s (last v) t = ranked-length r v t
   rankedChildren-length r Max (v then vs) t =
       rankedChildren-length (r + length (leaves v)) Max vs (ranked r v t) ∙ ranked-length r v t
@@ -122,7 +124,8 @@ mutual
       (ranked-length r v t ∙ l ∙ sym (ranked-length r v u)) p (ranked-alike r v t u l p e)
   rankedChildren-alike r Min (v then vs) t u l p e =
       ranked-alike (r + length (leavesChildren vs)) v (rankedChildren r Min vs t) (rankedChildren r Min vs u)
-      (rankedChildren-length r Min vs t ∙ l ∙ sym (rankedChildren-length r Min vs u)) p (rankedChildren-alike r Min vs t u l p e)
+      (rankedChildren-length r Min vs t ∙ l ∙ sym (rankedChildren-length r Min vs u)) p
+      (rankedChildren-alike r Min vs t u l p e)
 
 -- two tables of one length hold the same bytes at the leaves of a tree, whose numbers are below m
 mutual
@@ -138,7 +141,8 @@ mutual
   ranked-same m r (inner i s ks) t u e h l = rankedChildren-same m r s ks t u e h l
 
   rankedChildren-same : (m r : ℕ) (s : Side) (ks : Children) (t u : List ℕ) → length t ≡ length u → m ≤ frames t
-      → EveryLeafChildren (λ n. n < m) ks → All (AgreeOn (rankedChildren r s ks t) (rankedChildren r s ks u)) (leavesChildren ks)
+      → EveryLeafChildren (λ n. n < m) ks → All (AgreeOn (rankedChildren r s ks t) (rankedChildren r s ks u))
+      (leavesChildren ks)
   rankedChildren-same m r s (last v) t u e h l = ranked-same m r v t u e h l
   rankedChildren-same m r Max (v then vs) t u e h l =
       let q = r + length (leaves v) in

@@ -12,5 +12,6 @@ use Rattle.writer.specs.results.Cases.{performed, writings}
 
 -- each writing is as stated
 pub small-writings : map performed writings ≡ writings
-unfolding capitalOf digitsOf lineOf encode rejection writeRejection next positionWithin positionOf eachNode framesRejection
+unfolding capitalOf digitsOf lineOf encode rejection writeRejection next positionWithin positionOf eachNode
+    framesRejection
 small-writings = refl

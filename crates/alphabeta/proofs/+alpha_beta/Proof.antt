@@ -1,6 +1,6 @@
 -- `alphabeta::alpha_beta` meets its contract. The number of frames from the node on falls with each call; at the head
--- of the loop stands `VisitLoop`: the children that are left complete what the node was to give, and their trees are without
--- a mark.
+-- of the loop stands `VisitLoop`: the children that are left complete what the node was to give, and their trees are
+-- without a mark.
 use Prim.Native.Nat.{ℕ, _-_, _<_}
 use native.Mathlib.Omega.{arith}
 use borrow.Author.Needs.{needs}
@@ -19,7 +19,8 @@ use Rattle.alphabeta.proofs.Pass.{pass-ends, pass-stops, pass-goes-on}
 use Rattle.certificate.proofs.Unmarked.{all-wait}
 use Rattle.certificate.proofs.Searchable.{searchable-depth, searchable-child}
 use Rattle.alphabeta.proofs.Evaluated.{visit-waits}
-use Rattle.alphabeta.proofs.Visits.{VisitLoop, Visits, visits-same, searchable-leaf, leaf-visits, inner-remainder}
+use Rattle.alphabeta.proofs.Visits.{VisitLoop, Visits, visits-same, searchable-leaf, leaf-visits}
+use Rattle.alphabeta.proofs.Visits.{inner-remainder}
 use Rattle.alphabeta.proofs.alpha_beta.Reads as own
 use Rattle.alphabeta.proofs.alpha_beta.Kinds as own-kinds
 use Rattle.alphabeta.proofs.+alpha_beta.Lts-alpha_beta as lts
@@ -48,8 +49,8 @@ Inv table evaluated₀ order₀ node position alpha₀ beta₀ leaves₀ count s
     (progress leaves evaluated order) alpha beta child
 
 abbrev μ-loop : lts.MeasureT-loop
-μ-loop table evaluated₀ order₀ node position alpha₀ beta₀ leaves₀ count side child₀ last evaluated order alpha beta leaves
-    child =
+μ-loop table evaluated₀ order₀ node position alpha₀ beta₀ leaves₀ count side child₀ last evaluated order alpha beta
+    leaves child =
     last - child
 
 abbrev calls : ℕ → lts.Claims
@@ -185,7 +186,8 @@ module _ (t : ℕ) where
         listable = a .pre .1 .1;
         unvisited = all-wait _ (r .formed) _ (r .inside) (a .args .evaluated .now) _ (r .unmarked);
         remainder =
-            inner-remainder (a .args .table .now) (r .formed) (a .args .node) (r .inside) (a .args .alpha) (a .args .beta)
+            inner-remainder (a .args .table .now) (r .formed) (a .args .node) (r .inside) (a .args .alpha)
+            (a .args .beta)
             (progress (a .args .leaves) (a .args .evaluated .now) (a .args .order .now)) (a .args .position) _ _
             (r .positioned) (omega arith) (c .first-child .ensures .0) (omega arith);
       }
@@ -258,7 +260,8 @@ module _ (t : ℕ) where
   returns-2 : lts.Need-returns-2 (calls t) (at t) own.Post Inv μ-loop
   returns-2 c =
       let v = visits (c .before) in
-      let g = pass-ends _ _ _ _ _ _ _ _ _ _ _ _ (looping (c .before) .loop .inv .remainder) (v .gives) (c .if3 .taken) in
+      let g = pass-ends _ _ _ _ _ _ _ _ _ _ _ _ (looping (c .before) .loop .inv .remainder) (v .gives)
+      (c .if3 .taken) in
       (g .0, (g .1, v .counted))
 
   same-length-5 : lts.Need-same-length-5 (calls t) (at t) own.Post Inv μ-loop

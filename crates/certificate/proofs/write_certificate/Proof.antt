@@ -1,4 +1,4 @@
--- `certificate::write-certificate` meets its contract: what is filled in are the positions.
+-- `certificate::write_certificate` meets its contract: what is filled in are the positions.
 use borrow.Author.Needs.{needs}
 use Rattle.positions.proofs.Positions.{positioned}
 use Rattle.certificate.proofs.write_certificate.Statement.{statement}

@@ -1,4 +1,5 @@
--- `certificate::write_certificate_at` meets its contract: the arrays hold the sides and the bounds, and flags and move follow.
+-- `certificate::write_certificate_at` meets its contract: the arrays hold the sides and the bounds, and flags and move
+-- follow.
 use native.Mathlib.Omega.{arith}
 use Rattle.bounds.specs.Marks.{marked}
 use Rattle.certificate.proofs.Chosen.{Bounded, bounded, chosen-move}

@@ -1,4 +1,5 @@
--- `flags::chosen-if-needed` meets its contract: where the flags are the same, it makes no difference which child is chosen.
+-- `flags::chosen_if_needed` meets its contract: where the flags are the same, it makes no difference which child is
+-- chosen.
 use borrow.Author.Needs.{needs}
 use Rattle.flags.proofs.Flags.{none-chosen}
 use Rattle.flags.proofs.chosen_if_needed.Statement.{statement}

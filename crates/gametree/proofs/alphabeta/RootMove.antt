@@ -5,7 +5,8 @@ use mathlib.Core.Path.{_≡_, refl, _∙_}
 use mathlib.Core.Bool.{Bool, true, false, cond}
 use lib.Dec.{ltb, eqb}
 use borrow.Author.Tests.{ltb-true, ltb-false, lt-ltb, le-ltb, eq-eqb, ne-eqb}
-use Rattle.gametree.specs.Tree.{Max, inner, Children, last, _then_, least, minimax, minimaxChildren, number, Scored}
+use Rattle.gametree.specs.Tree.{Max, inner, Children, last, _then_, least, minimax, minimaxChildren, number}
+use Rattle.gametree.specs.Tree.{Scored}
 use Rattle.gametree.specs.Move.{firstWith, rootMove}
 use Rattle.gametree.proofs.minimax.Bounds.{minimax-score}
 

@@ -11,7 +11,8 @@ use Rattle.lists.specs.Lists.{All, Subsequence, end, skip, keep}
 use Rattle.gametree.specs.Tree.{Side, Max, Min, Tree, leaf, inner, Children, last, _then_, better, minimax, least}
 use Rattle.gametree.specs.Tree.{greatest, minimaxChildren, leaves, leavesChildren, Scored}
 use Rattle.gametree.specs.Bounds.{known, Decided}
-use Rattle.gametree.specs.AlphaBeta.{raise, lower, reached, reachedChildren, clamp, SearchResult, after, onward, alphaBeta}
+use Rattle.gametree.specs.AlphaBeta.{raise, lower, reached, reachedChildren, clamp, SearchResult, after, onward}
+use Rattle.gametree.specs.AlphaBeta.{alphaBeta}
 use Rattle.gametree.specs.AlphaBeta.{alphaBetaChildren}
 use Rattle.lists.proofs.Choice.{true-not-false}
 use Rattle.lists.proofs.Lists.{all-left, all-right, all-map}
@@ -140,7 +141,8 @@ mutual
   reachedChildren-ordered : (ν : ℕ → ℕ) (s : Side) (α β : ℕ) (ks : Children)
       → Subsequence (reachedChildren ν s α β ks) (leavesChildren ks)
   reachedChildren-ordered ν s α β (last t) = reached-ordered ν α β t
-  reachedChildren-ordered ν s α β (t then ts) = sub-append (reached-ordered ν α β t) (reachedChildren-ordered ν s _ _ ts)
+  reachedChildren-ordered ν s α β (t then ts) = sub-append (reached-ordered ν α β t)
+      (reachedChildren-ordered ν s _ _ ts)
 
 module _ (P : ℕ → Type 0) where
   -- what holds of the leaves of a step holds of the eldest child's

@@ -55,7 +55,8 @@ mutual
   blocks-more ν μ z b (leaf n) e f = omega arith
   blocks-more ν μ z b (inner n s ks) e f = blocksChildren-more ν μ z s b ks e f
 
-  pub blocksChildren-more : (ν μ : ℕ → ℕ) (z : ℕ) (s : Side) (b : ℕ) (ks : Children) → EveryLeafChildren (λ n. μ n ≡ ν n + z) ks
+  pub blocksChildren-more : (ν μ : ℕ → ℕ) (z : ℕ) (s : Side) (b : ℕ) (ks : Children)
+      → EveryLeafChildren (λ n. μ n ≡ ν n + z) ks
       → BlocksChildren ν s b ks → BlocksChildren μ s (b + z) ks
   blocksChildren-more ν μ z s b (last t) e f = blocks-more ν μ z b t e f
   blocksChildren-more ν μ z Max b (t then ts) e f = (
@@ -88,7 +89,8 @@ apart Min b m n x y h k e = omega arith
 pub leaf-cases : (t : Tree) (ts : Children) (x : ℕ) → among (leavesChildren (t then ts)) x ≡ true
     → (among (leaves t) x ≡ true) ⊎ (among (leavesChildren ts) x ≡ true)
 leaf-cases t ts x h =
-    or-cases (among (leaves t) x) (among (leavesChildren ts) x) (sym (among-append (leaves t) (leavesChildren ts) x) ∙ h)
+    or-cases (among (leaves t) x) (among (leavesChildren ts) x)
+    (sym (among-append (leaves t) (leavesChildren ts) x) ∙ h)
 
 single : (x n : ℕ) → among (leaves (leaf n)) x ≡ true → x ≡ n
 single x n h = elim (or-cases (eqb x n) false h) [
@@ -208,6 +210,7 @@ mutual
   allChildren-reached ν s b α β (last t) f h g = all-reached ν b α β t f h g
   allChildren-reached ν s b α β (t then ts) f h g =
       let v = minimax ν t in
-      let o = opens s b (total t) (totalChildren ts) α β v h (omega (arith, total-then t ts)) (value-within ν _ t (f .0)) in
+      let o = opens s b (total t) (totalChildren ts) α β v h (omega (arith, total-then t ts))
+      (value-within ν _ t (f .0)) in
       ap₂ _++_ (all-reached ν _ α β t (f .0) (o .0) (o .1))
       (allChildren-reached ν s _ (raise s α v) (lower s β v) ts (f .1) (o .2) (o .3))

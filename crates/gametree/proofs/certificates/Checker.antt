@@ -19,7 +19,8 @@ mutual
   rules-hold p g (inner n q ks) r =
       and-intro (eq-eqb _ _ (rule-counted p q (g n) g ks (r .0))) (rulesChildren-hold p g ks (r .1))
 
-  rulesChildren-hold : (p : Side) (g : ℕ → Bool) (ks : Children) → RulesChildren p g ks → rulesHoldChildren p g ks ≡ true
+  rulesChildren-hold : (p : Side) (g : ℕ → Bool) (ks : Children) → RulesChildren p g ks
+      → rulesHoldChildren p g ks ≡ true
   rulesChildren-hold p g (last t) r = rules-hold p g t r
   rulesChildren-hold p g (t then ts) r = and-intro (rules-hold p g t (r .0)) (rulesChildren-hold p g ts (r .1))
 
@@ -30,7 +31,8 @@ mutual
       let k = and-both (eqb (members g ks) (required p q (g n) ks)) _ e in
       (counted-rule p q (g n) g ks (eqb-true _ _ (k .0)), hold-rulesChildren p g ks (k .1))
 
-  hold-rulesChildren : (p : Side) (g : ℕ → Bool) (ks : Children) → rulesHoldChildren p g ks ≡ true → RulesChildren p g ks
+  hold-rulesChildren : (p : Side) (g : ℕ → Bool) (ks : Children) → rulesHoldChildren p g ks ≡ true
+      → RulesChildren p g ks
   hold-rulesChildren p g (last t) e = hold-rules p g t e
   hold-rulesChildren p g (t then ts) e =
       let k = and-both (rulesHold p g t) _ e in

@@ -4,10 +4,12 @@ use native.Mathlib.Nat.{le-refl}
 use native.Mathlib.Omega.{arith}
 use mathlib.Core.Path.{_≡_, refl, sym, _∙_, ap₂}
 use mathlib.Core.Bool.{Bool, true, false, cond}
-use Rattle.gametree.specs.Tree.{Side, Max, Min, Tree, leaf, inner, Children, last, _then_, greatest, better, minimax}
+use Rattle.gametree.specs.Tree.{Side, Max, Min, Tree, leaf, inner, Children, last, _then_, greatest, better}
+use Rattle.gametree.specs.Tree.{minimax}
 use Rattle.gametree.specs.Tree.{EveryLeafChildren, Score, Proper}
 use Rattle.gametree.specs.Bounds.{known, Decided}
-use Rattle.gametree.specs.Certificate.{Certifies, SolutionTree, worst, solutionValue, solutionValueChildren, inside}
+use Rattle.gametree.specs.Certificate.{Certifies, SolutionTree, worst, solutionValue, solutionValueChildren}
+use Rattle.gametree.specs.Certificate.{inside}
 use Rattle.gametree.specs.Certificate.{same}
 use Rattle.gametree.specs.Certificate.{unknownScore, solutionOf, flag, LeavesIn}
 use Rattle.gametree.proofs.minimax.Bounds.{every-map, minimax-score, known-capped}

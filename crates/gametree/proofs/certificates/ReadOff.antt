@@ -6,11 +6,14 @@ use mathlib.Core.Logic.{_⊎_, inl, inr, ⊎-elim}
 use mathlib.Core.Bool.{Bool, true, false, cond, not, _&&_, _||_, and-true, and-false, or-false}
 use lib.Dec.{eqb}
 use borrow.Author.Tests.{eqb-true, eqb-false, eq-eqb, ne-eqb}
-use Rattle.gametree.specs.Tree.{Side, Max, Min, Tree, leaf, inner, Children, last, _then_, least, greatest, better}
-use Rattle.gametree.specs.Tree.{minimax, minimaxChildren, number, In, InChildren, EveryLeaf, EveryLeafChildren, Distinct}
+use Rattle.gametree.specs.Tree.{Side, Max, Min, Tree, leaf, inner, Children, last, _then_, least, greatest}
+use Rattle.gametree.specs.Tree.{better}
+use Rattle.gametree.specs.Tree.{minimax, minimaxChildren, number, In, InChildren, EveryLeaf, EveryLeafChildren}
+use Rattle.gametree.specs.Tree.{Distinct}
 use Rattle.gametree.specs.Tree.{DistinctChildren}
 use Rattle.gametree.specs.Certificate.{Each, NoneOf, OneOf, Rule, Rules, RulesChildren, SolutionTree, worst}
-use Rattle.gametree.specs.Certificate.{solutionValue, solutionValueChildren, same, chosen, chosenEach, chosenFirst}
+use Rattle.gametree.specs.Certificate.{solutionValue, solutionValueChildren, same, chosen, chosenEach}
+use Rattle.gametree.specs.Certificate.{chosenFirst}
 use Rattle.lists.proofs.Choice.{cond-cases, true-not-false, is-false, or-cases, and-both}
 use Rattle.gametree.proofs.minimax.Bounds.{every-map-kids, minimaxChildren-within}
 
@@ -71,12 +74,13 @@ record ReadTree (p : Side) (μ : ℕ → ℕ) (g : ℕ → Bool) (b : Bool) (t :
   value : solutionValue p μ g t ≡ cond b (minimax μ t) (worst p)
   finite : EveryLeaf (λ n. g n ≡ true → Finite p (μ n)) t
 
-record ReadChildren (p : Side) (μ : ℕ → ℕ) (g : ℕ → Bool) (b : Bool) (ks : Children) (Some : Type 0) (v : ℕ) : Type 0 where
-  rules : RulesChildren p g ks
-  ifIn : b ≡ true → Some
-  ifOut : b ≡ false → NoneOf g ks
-  value : solutionValueChildren p μ g ks ≡ cond b v (worst p)
-  finite : EveryLeafChildren (λ n. g n ≡ true → Finite p (μ n)) ks
+record ReadChildren (p : Side) (μ : ℕ → ℕ) (g : ℕ → Bool) (b : Bool) (ks : Children) (Some : Type 0) (v : ℕ) : Type 0
+  where
+    rules : RulesChildren p g ks
+    ifIn : b ≡ true → Some
+    ifOut : b ≡ false → NoneOf g ks
+    value : solutionValueChildren p μ g ks ≡ cond b v (worst p)
+    finite : EveryLeafChildren (λ n. g n ≡ true → Finite p (μ n)) ks
 
 -- the root is in the set as b says
 pub read-root : (p : Side) (μ : ℕ → ℕ) (g : ℕ → Bool) (b : Bool) (t : Tree) → ReadOff p μ g b t → g (number t) ≡ b
@@ -165,7 +169,8 @@ mutual
       }
 
   read-first : (p q : Side) (μ : ℕ → ℕ) (g : ℕ → Bool) (b : Bool) (v : ℕ) (ks : Children) → CappedChildren μ ks
-      → (b ≡ true → Finite p v × (minimaxChildren μ q ks ≡ v)) → ReadFirst p μ g b v ks → ReadChildren p μ g b ks (OneOf g ks) v
+      → (b ≡ true → Finite p v × (minimaxChildren μ q ks ≡ v)) → ReadFirst p μ g b v ks
+      → ReadChildren p μ g b ks (OneOf g ks) v
   read-first p q μ g b v (last t) i h r =
       let c = eqb (minimax μ t) v in
       let x =
@@ -221,7 +226,8 @@ mutual
       (λ _ y. chosenFirst-in p μ b (minimaxChildren μ q ks) ks k y) z))
       (or-cases (b && eqb k n) _ e)
 
-  chosenEach-in : (p : Side) (μ : ℕ → ℕ) (b : Bool) (ks : Children) (k : ℕ) → chosenEach p μ b ks k ≡ true → InChildren k ks
+  chosenEach-in : (p : Side) (μ : ℕ → ℕ) (b : Bool) (ks : Children) (k : ℕ) → chosenEach p μ b ks k ≡ true
+      → InChildren k ks
   chosenEach-in p μ b (last t) k e = chosen-in p μ b t k e
   chosenEach-in p μ b (t then ts) k e =
       ⊎-elim (λ z. inl (chosen-in p μ b t k z)) (λ z. inr (chosenEach-in p μ b ts k z))
@@ -236,8 +242,10 @@ mutual
       (or-cases (chosen p μ (b && eqb (minimax μ t) v) t k) _ e)
 
 -- a set that is a node's own part and its children's part K: what it is at the node and at its children
-node-fits : (g K : ℕ → Bool) (b : Bool) (n : ℕ) (ks : Children) → (InChildren n ks → ⊥) → ((k : ℕ) → K k ≡ true → InChildren k ks)
-    → ((k : ℕ) → (k ≡ n) ⊎ InChildren k ks → g k ≡ (b && eqb k n) || K k) → (g n ≡ b) × ((k : ℕ) → InChildren k ks → g k ≡ K k)
+node-fits : (g K : ℕ → Bool) (b : Bool) (n : ℕ) (ks : Children) → (InChildren n ks → ⊥)
+    → ((k : ℕ) → K k ≡ true → InChildren k ks)
+    → ((k : ℕ) → (k ≡ n) ⊎ InChildren k ks → g k ≡ (b && eqb k n) || K k)
+    → (g n ≡ b) × ((k : ℕ) → InChildren k ks → g k ≡ K k)
 node-fits g K b n ks d f h = (
   h n (inl refl) ∙ simp (eq-eqb n n refl, is-false (K n) (λ e. d (f n e)), and-true, or-false),
   λ k i. h k (inr i) ∙ simp (ne-eqb k n (λ e. d (subst (λ x. InChildren x ks) e i)), and-false),

@@ -6,7 +6,8 @@ use native.Mathlib.Omega.{arith}
 use native.Mathlib.Nat.{pow-zero, pow-suc, mul-comm, suc-mul}
 use mathlib.Core.Path.{_≡_, refl, sym, ap, ap₂, _∙_}
 use mathlib.Core.Bool.{Bool, true, false, cond}
-use Rattle.gametree.specs.Tree.{Side, Max, Min, Tree, leaf, inner, Children, last, _then_, other, number, leafCount}
+use Rattle.gametree.specs.Tree.{Side, Max, Min, Tree, leaf, inner, Children, last, _then_, other, number}
+use Rattle.gametree.specs.Tree.{leafCount}
 use Rattle.gametree.specs.Tree.{leafCountChildren}
 use Rattle.gametree.specs.Certificate.{Rules, RulesChildren, SolutionTree, same, pairLeaves}
 use Rattle.gametree.proofs.certificates.Counting.{kidCount, members}
@@ -52,7 +53,8 @@ mutual
       ∙ ap₂ (λ z k. cond (g n) (cond (same p z) k 1 * sizeFor p (other s) w d) 0) (r .0) (r .1)
   solution-leaves p s w zero g (inner n q ks) r x = absurd r
 
-  solution-leavesChildren : (p s : Side) (w d : ℕ) (g : ℕ → Bool) (ks : Children) → RegularChildren w d s ks → RulesChildren p g ks
+  solution-leavesChildren : (p s : Side) (w d : ℕ) (g : ℕ → Bool) (ks : Children) → RegularChildren w d s ks
+      → RulesChildren p g ks
       → leafCountChildren g ks ≡ members g ks * sizeFor p s w d
   solution-leavesChildren p s w d g (last t) r x =
       solution-leaves p s w d g t r x ∙ one-times (g (number t)) (sizeFor p s w d)

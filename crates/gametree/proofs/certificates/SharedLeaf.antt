@@ -67,7 +67,8 @@ mutual
   bothChildren-leaves : (g h : ℕ → Bool) (ks : Children) → RulesChildren Max g ks → RulesChildren Min h ks
       → leafCountChildren (both g h) ks ≡ members (both g h) ks
   bothChildren-leaves g h (last t) x y = both-leaves g h t x y
-  bothChildren-leaves g h (t then ts) x y = ap₂ _+_ (both-leaves g h t (x .0) (y .0)) (bothChildren-leaves g h ts (x .1) (y .1))
+  bothChildren-leaves g h (t then ts) x y = ap₂ _+_ (both-leaves g h t (x .0) (y .0))
+      (bothChildren-leaves g h ts (x .1) (y .1))
 
 -- a pair's leaves, the shared one counted once
 pub pair-shares-one : (g h : ℕ → Bool) (t : Tree) → SolutionTree Max g t → SolutionTree Min h t

@@ -9,9 +9,11 @@ use lib.Dec.{leb, eqb}
 use lib.ListN.{length}
 use borrow.Author.Tests.{leb-true, leb-false, eqb-true, eqb-false, eq-eqb}
 use Rattle.lists.specs.Lists.{All, among}
-use Rattle.gametree.specs.Tree.{Side, Max, Min, Tree, leaf, inner, Children, last, _then_, better, minimax, number}
+use Rattle.gametree.specs.Tree.{Side, Max, Min, Tree, leaf, inner, Children, last, _then_, better, minimax}
+use Rattle.gametree.specs.Tree.{number}
 use Rattle.gametree.specs.Tree.{In, InChildren, Proper}
-use Rattle.gametree.specs.Certificate.{solutionValue, solutionValueChildren, pairLeaves, pairLeavesChildren, inside, flag}
+use Rattle.gametree.specs.Certificate.{solutionValue, solutionValueChildren, pairLeaves, pairLeavesChildren}
+use Rattle.gametree.specs.Certificate.{inside, flag}
 use Rattle.gametree.specs.Certificate.{Smallest}
 use Rattle.gametree.proofs.certificates.Flags.{FlagsCertify}
 use Rattle.gametree.proofs.certificates.Counting.{members, rulesHold, rulesHoldChildren, certificate?}

@@ -64,7 +64,8 @@ mutual
   each-bound p ν g (t then ts) r m =
       under-better p _ _ _ _ (solution-bound p ν g t (m .0, r .0)) (each-bound p ν g ts (r .1) (m .1))
 
-  one-bound : (p q : Side) → same p q ≡ false → (ν : ℕ → ℕ) (g : ℕ → Bool) (ks : Children) → RulesChildren p g ks → OneOf g ks
+  one-bound : (p q : Side) → same p q ≡ false → (ν : ℕ → ℕ) (g : ℕ → Bool) (ks : Children) → RulesChildren p g ks
+      → OneOf g ks
       → Under p (minimaxChildren ν q ks) (solutionValueChildren p ν g ks)
   one-bound p q e ν g (last t) r m = solution-bound p ν g t (m, r)
   one-bound p q e ν g (t then ts) r (inl m) =

@@ -6,7 +6,8 @@ use mathlib.Core.Path.{_≡_, refl, ap, fun-ext}
 use mathlib.Core.Bool.{Bool, true, false, cond}
 use mathlib.Core.List.{List, []}
 use Rattle.lists.specs.Lists.{All, among}
-use Rattle.gametree.specs.Tree.{Side, Max, Min, Tree, leaf, inner, Children, last, _then_, least, greatest, better}
+use Rattle.gametree.specs.Tree.{Side, Max, Min, Tree, leaf, inner, Children, last, _then_, least, greatest}
+use Rattle.gametree.specs.Tree.{better}
 use Rattle.gametree.specs.Tree.{minimax, minimaxChildren, EveryLeaf, EveryLeafChildren, Score, Scored}
 use Rattle.gametree.specs.Bounds.{known, low, high, bestOf}
 use Rattle.lists.proofs.Lists.{all-at}
@@ -46,7 +47,8 @@ mutual
   pub minimaxChildren-mono : (μ ν : ℕ → ℕ) (s : Side) (ks : Children) → EveryLeafChildren (λ n. μ n ≤ ν n) ks
       → minimaxChildren μ s ks ≤ minimaxChildren ν s ks
   minimaxChildren-mono μ ν s (last t) h = minimax-mono μ ν t h
-  minimaxChildren-mono μ ν s (t then ts) h = better-mono s (minimax-mono μ ν t (h .0)) (minimaxChildren-mono μ ν s ts (h .1))
+  minimaxChildren-mono μ ν s (t then ts) h = better-mono s (minimax-mono μ ν t (h .0))
+      (minimaxChildren-mono μ ν s ts (h .1))
 
 -- the minimax value is within what holds the scores
 better-within : (s : Side) (l u : ℕ) {a b : ℕ} → (l ≤ a) × (a ≤ u) → (l ≤ b) × (b ≤ u)
@@ -60,7 +62,8 @@ mutual
   minimax-within l u ν (leaf n) h = h
   minimax-within l u ν (inner n s ks) h = minimaxChildren-within l u ν s ks h
 
-  pub minimaxChildren-within : (l u : ℕ) (ν : ℕ → ℕ) (s : Side) (ks : Children) → EveryLeafChildren (λ n. (l ≤ ν n) × (ν n ≤ u)) ks
+  pub minimaxChildren-within : (l u : ℕ) (ν : ℕ → ℕ) (s : Side) (ks : Children)
+      → EveryLeafChildren (λ n. (l ≤ ν n) × (ν n ≤ u)) ks
       → (l ≤ minimaxChildren ν s ks) × (minimaxChildren ν s ks ≤ u)
   minimaxChildren-within l u ν s (last t) h = minimax-within l u ν t h
   minimaxChildren-within l u ν s (t then ts) h =

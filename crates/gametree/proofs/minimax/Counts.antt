@@ -10,8 +10,10 @@ use lib.Dec.{eqb}
 use lib.ListN.{length, length-append}
 use borrow.Author.Tests.{eqb-true, ne-eqb}
 use Rattle.lists.specs.Lists.{All, among, Once}
-use Rattle.gametree.specs.Tree.{Tree, leaf, inner, Children, last, _then_, In, InChildren, EveryLeafChildren, Distinct}
-use Rattle.gametree.specs.Tree.{DistinctChildren, size, sizeChildren, leaves, leavesChildren, leafCount, leafCountChildren}
+use Rattle.gametree.specs.Tree.{Tree, leaf, inner, Children, last, _then_, In, InChildren, EveryLeafChildren}
+use Rattle.gametree.specs.Tree.{Distinct}
+use Rattle.gametree.specs.Tree.{DistinctChildren, size, sizeChildren, leaves, leavesChildren, leafCount}
+use Rattle.gametree.specs.Tree.{leafCountChildren}
 use Rattle.gametree.specs.Layout.{has}
 use Rattle.gametree.specs.Certificate.{pairLeaves, pairLeavesChildren, LeavesIn}
 use Rattle.lists.proofs.Choice.{cond-cases, true-not-false, or-left, or-cases}

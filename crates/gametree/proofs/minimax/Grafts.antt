@@ -34,7 +34,8 @@ mutual
   relabelled-valueChildren : (ν f : ℕ → ℕ) (s : Side) (ks : Children)
       → minimaxChildren ν s (relabelledChildren f ks) ≡ minimaxChildren (λ n. ν (f n)) s ks
   relabelled-valueChildren ν f s (last t) = relabelled-value ν f t
-  relabelled-valueChildren ν f s (t then ts) = ap₂ (better s) (relabelled-value ν f t) (relabelled-valueChildren ν f s ts)
+  relabelled-valueChildren ν f s (t then ts) = ap₂ (better s) (relabelled-value ν f t)
+      (relabelled-valueChildren ν f s ts)
 
 mutual
   pub relabelled-size : (f : ℕ → ℕ) (t : Tree) → size (relabelled f t) ≡ size t

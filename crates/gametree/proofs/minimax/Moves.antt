@@ -7,7 +7,8 @@ use mathlib.Core.List.{List}
 use lib.Dec.{ltb, eqb}
 use borrow.Author.Tests.{eqb-true, eqb-false, lt-ltb, eq-eqb, ne-eqb}
 use Rattle.lists.specs.Lists.{All, among}
-use Rattle.gametree.specs.Tree.{Side, Max, Min, Tree, leaf, inner, Children, last, _then_, least, greatest, minimax}
+use Rattle.gametree.specs.Tree.{Side, Max, Min, Tree, leaf, inner, Children, last, _then_, least, greatest}
+use Rattle.gametree.specs.Tree.{minimax}
 use Rattle.gametree.specs.Tree.{minimaxChildren, number, Scored, ScoredChildren}
 use Rattle.gametree.specs.Bounds.{known, Decided}
 use Rattle.gametree.specs.AlphaBeta.{raise, lower, clamp, alphaBeta, alphaBetaChildren}
@@ -59,7 +60,8 @@ first-same p ν E v (t then ts) h u s =
 -- the move by the bounds is the move, where they meet at the root and show the root's value
 pub move-same : (ν : ℕ → ℕ) (E : ℕ → Bool) (n : ℕ) (s : Side) (ks : Children) → Scored ν (inner n s ks)
     → Decided ν E (inner n s ks)
-    → Shown (known ν E (worst s)) ν (minimaxChildren ν s ks) ks → boundMove ν E (inner n s ks) ≡ rootMove ν (inner n s ks)
+    → Shown (known ν E (worst s)) ν (minimaxChildren ν s ks) ks
+    → boundMove ν E (inner n s ks) ≡ rootMove ν (inner n s ks)
 move-same ν E n Max ks h d k = rw (d .lowIs) (first-same Max ν E (minimaxChildren ν Max ks) ks h (under-refl Max _) k)
 move-same ν E n Min ks h d k = rw (d .highIs) (first-same Min ν E (minimaxChildren ν Min ks) ks h (under-refl Min _) k)
 

@@ -6,7 +6,8 @@ use mathlib.Core.Bool.{true, false}
 use lib.Dec.{eqb}
 use borrow.Author.Tests.{eqb-true, eq-eqb}
 use Rattle.lists.specs.Lists.{All, Once}
-use Rattle.gametree.specs.Tree.{Tree, leaf, inner, Children, last, _then_, number, leaves, leavesChildren, In, InChildren}
+use Rattle.gametree.specs.Tree.{Tree, leaf, inner, Children, last, _then_, number, leaves, leavesChildren, In}
+use Rattle.gametree.specs.Tree.{InChildren}
 use Rattle.gametree.specs.Tree.{Distinct, DistinctChildren}
 use Rattle.gametree.specs.Layout.{firstOf, othersOf, has, hasChildren}
 use Rattle.lists.proofs.Choice.{is-false, or-left, or-right, or-cases}

@@ -6,8 +6,10 @@ use mathlib.Core.List.{List}
 use lib.Dec.{ltb}
 use Rattle.lists.specs.Lists.{All}
 use Rattle.gametree.specs.Tree.{Side, Tree, leaf, inner, Children, last, _then_, greatest, better}
-use Rattle.gametree.specs.Mtd.{Memo, MemoChildren, memoHigh, memoHighChildren, Pass, PassChildren, settles, stay, ended}
-use Rattle.gametree.specs.Mtd.{joined, entered, pass, passChildren, MtdRun, settled, followed, run, fresh, freshChildren}
+use Rattle.gametree.specs.Mtd.{Memo, MemoChildren, memoHigh, memoHighChildren, Pass, PassChildren, settles, stay}
+use Rattle.gametree.specs.Mtd.{ended}
+use Rattle.gametree.specs.Mtd.{joined, entered, pass, passChildren, MtdRun, settled, followed, run, fresh}
+use Rattle.gametree.specs.Mtd.{freshChildren}
 use Rattle.lists.proofs.Choice.{cond-cases, true-not-false}
 use Rattle.lists.proofs.Lists.{all-left, all-right}
 
@@ -39,7 +41,8 @@ mutual
       → memoHighChildren ν s ks m ≡ memoHighChildren μ s ks m
   memoHighChildren-local ν μ s (last t) m a = memoHigh-local ν μ t m a
   memoHighChildren-local ν μ s (t then ts) m a =
-      ap₂ (λ x y. better s x y) (memoHigh-local ν μ t (m .first) (a .0)) (memoHighChildren-local ν μ s ts (m .rest) (a .1))
+      ap₂ (λ x y. better s x y) (memoHigh-local ν μ t (m .first) (a .0))
+      (memoHighChildren-local ν μ s ts (m .rest) (a .1))
 
 -- a leaf that is evaluated before or now
 leaf-alike : (ν μ : ℕ → ℕ) (γ n : ℕ) (m : Memo (leaf n)) → Agree ν μ (leaf n) m
@@ -122,9 +125,11 @@ mutual
       (λ _ a. (agree-next ν μ γ t (m .first) (h .0) a, h .1))
       (λ _ a. (
         agree-next ν μ γ t (m .first) (h .0)
-            (all-left (λ k. ν k ≡ μ k) (pass ν γ t (m .first) .evaluated) (passChildren ν γ s ts (m .rest) .evaluated) a),
+            (all-left (λ k. ν k ≡ μ k) (pass ν γ t (m .first) .evaluated) (passChildren ν γ s ts (m .rest) .evaluated)
+            a),
         agreeChildren-next ν μ γ s ts (m .rest) (h .1)
-            (all-right (λ k. ν k ≡ μ k) (pass ν γ t (m .first) .evaluated) (passChildren ν γ s ts (m .rest) .evaluated) a),
+            (all-right (λ k. ν k ≡ μ k) (pass ν γ t (m .first) .evaluated) (passChildren ν γ s ts (m .rest) .evaluated)
+            a),
       ))
 
 module _ (ν μ : ℕ → ℕ) (γ : ℕ) (t : Tree) (r : Pass t) (q : MtdRun t) where

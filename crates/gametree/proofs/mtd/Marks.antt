@@ -10,8 +10,10 @@ use Rattle.lists.specs.Lists.{All, among, Once}
 use Rattle.gametree.specs.Tree.{Side, Tree, leaf, inner, Children, last, _then_, greatest, better, minimax}
 use Rattle.gametree.specs.Tree.{minimaxChildren, In, InChildren, Distinct, DistinctChildren}
 use Rattle.gametree.specs.Bounds.{known}
-use Rattle.gametree.specs.Mtd.{memoBound, memoBoundChildren, Memo, MemoChildren, memoHigh, memoHighChildren, Pass, PassChildren}
-use Rattle.gametree.specs.Mtd.{settles, stay, tried, ended, joined, pass, passChildren, MtdRun, run, fresh, freshChildren}
+use Rattle.gametree.specs.Mtd.{memoBound, memoBoundChildren, Memo, MemoChildren, memoHigh, memoHighChildren, Pass}
+use Rattle.gametree.specs.Mtd.{PassChildren}
+use Rattle.gametree.specs.Mtd.{settles, stay, tried, ended, joined, pass, passChildren, MtdRun, run, fresh}
+use Rattle.gametree.specs.Mtd.{freshChildren}
 use Rattle.gametree.specs.Mtd.{mtd}
 use Rattle.lists.proofs.Choice.{cond-cases, true-not-false, or-false-both}
 use Rattle.lists.proofs.Lists.{all-append, all-map, all-among, among-append, among-right, among-out}
@@ -34,7 +36,8 @@ mutual
       h ∙ sym (among-append w v n ∙ ap (_||_ (among w n)) (among-out v n o) ∙ or-false (among w n))
   marks-other w v (inner n s ks) m o h = marksChildren-other w v ks (m .kids) (all-map _ _ (λ k f i. f (inr i)) v o) h
 
-  marksChildren-other : (w v : List ℕ) (ks : Children) (m : MemoChildren ks) → All (λ k. InChildren k ks → ⊥) v → MarksChildren w ks m
+  marksChildren-other : (w v : List ℕ) (ks : Children) (m : MemoChildren ks) → All (λ k. InChildren k ks → ⊥) v
+      → MarksChildren w ks m
       → MarksChildren (w ++ v) ks m
   marksChildren-other w v (last t) m o h = marks-other w v t m o h
   marksChildren-other w v (t then ts) m o h = (
@@ -48,7 +51,8 @@ mutual
   marks-before w v (leaf n) m o h = h ∙ sym (among-append w v n ∙ ap (λ b. b || among v n) (among-out w n o))
   marks-before w v (inner n s ks) m o h = marksChildren-before w v ks (m .kids) (all-map _ _ (λ k f i. f (inr i)) w o) h
 
-  pub marksChildren-before : (w v : List ℕ) (ks : Children) (m : MemoChildren ks) → All (λ k. InChildren k ks → ⊥) w → MarksChildren v ks m
+  pub marksChildren-before : (w v : List ℕ) (ks : Children) (m : MemoChildren ks) → All (λ k. InChildren k ks → ⊥) w
+      → MarksChildren v ks m
       → MarksChildren (w ++ v) ks m
   marksChildren-before w v (last t) m o h = marks-before w v t m o h
   marksChildren-before w v (t then ts) m o h = (
@@ -88,7 +92,14 @@ module _ (w : List ℕ) (t : Tree) (ts : Children) (d : (p : ℕ) → In p t →
   -- the first child settles its parent
   marking-ended : (m : MemoChildren ts) → MarksChildren w ts m → MarkingChildren w (t then ts) (ended t ts r m)
   marking-ended m h =
-      record { new = first-new; once = a .once; marks = (a .marks, marksChildren-other w (r .evaluated) ts m not-theirs h) }
+      record {
+        new = first-new;
+        once = a .once;
+        marks = (
+          a .marks,
+          marksChildren-other w (r .evaluated) ts m not-theirs h,
+        );
+      }
 
   -- it does not, and its brothers are tried
   marking-joined : (q : PassChildren ts) → MarkingChildren (w ++ r .evaluated) ts q
@@ -131,7 +142,8 @@ mutual
         marks = q .marks;
       }))
 
-  passChildren-marks : (ν : ℕ → ℕ) (γ : ℕ) (w : List ℕ) (s : Side) (ks : Children) (m : MemoChildren ks) → DistinctChildren ks
+  passChildren-marks : (ν : ℕ → ℕ) (γ : ℕ) (w : List ℕ) (s : Side) (ks : Children) (m : MemoChildren ks)
+      → DistinctChildren ks
       → MarksChildren w ks m
       → MarkingChildren w ks (passChildren ν γ s ks m)
   passChildren-marks ν γ w s (last t) m d h =
@@ -203,7 +215,8 @@ mutual
   memoBound-is x ν w (leaf n) m h = rw h refl
   memoBound-is x ν w (inner n s ks) m h = memoBoundChildren-is x ν w s ks (m .kids) h
 
-  memoBoundChildren-is : (x : ℕ) (ν : ℕ → ℕ) (w : List ℕ) (s : Side) (ks : Children) (m : MemoChildren ks) → MarksChildren w ks m
+  memoBoundChildren-is : (x : ℕ) (ν : ℕ → ℕ) (w : List ℕ) (s : Side) (ks : Children) (m : MemoChildren ks)
+      → MarksChildren w ks m
       → memoBoundChildren x ν s ks m ≡ minimaxChildren (known ν (among w) x) s ks
   memoBoundChildren-is x ν w s (last t) m h = memoBound-is x ν w t m h
   memoBoundChildren-is x ν w s (t then ts) m h =

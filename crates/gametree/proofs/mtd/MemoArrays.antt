@@ -17,7 +17,8 @@ mutual
       ap₂ {C = Memo (inner n s ks)} (λ x y. record { notBelow = x; kids = y }) (h n (inl refl) .1)
       (readMemoChildren-same M F M′ F′ ks (λ p i. h p (inr i)))
 
-  pub readMemoChildren-same : (M F M′ F′ : Bits) (ks : Children) → ((p : ℕ) → InChildren p ks → (M p ≡ M′ p) × (F p ≡ F′ p))
+  pub readMemoChildren-same : (M F M′ F′ : Bits) (ks : Children)
+      → ((p : ℕ) → InChildren p ks → (M p ≡ M′ p) × (F p ≡ F′ p))
       → readMemoChildren M F ks ≡ readMemoChildren M′ F′ ks
   readMemoChildren-same M F M′ F′ (last t) h = readMemo-same M F M′ F′ t h
   readMemoChildren-same M F M′ F′ (t then ts) h =

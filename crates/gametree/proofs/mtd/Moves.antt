@@ -12,7 +12,8 @@ use Rattle.lists.specs.Lists.{among}
 use Rattle.gametree.specs.Tree.{Side, Max, Min, Tree, leaf, inner, Children, last, _then_, least, greatest}
 use Rattle.gametree.specs.Tree.{minimax, minimaxChildren, ScoredChildren, Proper}
 use Rattle.gametree.specs.Bounds.{known, high, Decided}
-use Rattle.gametree.specs.Mtd.{Memo, MemoChildren, memoHigh, memoHighChildren, Pass, PassChildren, pass, passChildren, MtdRun, run}
+use Rattle.gametree.specs.Mtd.{Memo, MemoChildren, memoHigh, memoHighChildren, Pass, PassChildren, pass}
+use Rattle.gametree.specs.Mtd.{passChildren, MtdRun, run}
 use Rattle.gametree.specs.Mtd.{fresh, mtd}
 use Rattle.gametree.proofs.mtd.Marks.{MarksChildren}
 use Rattle.gametree.specs.Certificate.{worst}
@@ -34,7 +35,8 @@ DecidesMax ν v (t then ts) m =
     (v ≤ memoLow ν t (m .first)) ⊎ ((memoHigh ν t (m .first) < v) × DecidesMax ν v ts (m .rest))
 
 -- a pass over the children of a Max node that finds them not below decides
-passMax-decides : (ν : ℕ → ℕ) (γ : ℕ) (ks : Children) (m : MemoChildren ks) → ScoredChildren ν ks → KeptChildren ν γ ks m
+passMax-decides : (ν : ℕ → ℕ) (γ : ℕ) (ks : Children) (m : MemoChildren ks) → ScoredChildren ν ks
+    → KeptChildren ν γ ks m
     → passChildren ν γ Max ks m .notBelow ≡ true → DecidesMax ν γ ks (passChildren ν γ Max ks m .next)
 passMax-decides ν γ (last t) m h k = sound ν γ t m h k .above
 passMax-decides ν γ (t then ts) m h k =
@@ -96,7 +98,8 @@ mtdMax-decides ν n ks h =
     (omega (arith, fresh-memoHigh ν t)) (omega arith)
 
 -- what is decided is shown
-max-shown : (ν : ℕ → ℕ) (w : List ℕ) (v : ℕ) (ks : Children) (m : MemoChildren ks) → ScoredChildren ν ks → MarksChildren w ks m
+max-shown : (ν : ℕ → ℕ) (w : List ℕ) (v : ℕ) (ks : Children) (m : MemoChildren ks) → ScoredChildren ν ks
+    → MarksChildren w ks m
     → minimaxChildren ν Max ks ≤ v → DecidesMax ν v ks m → Shown (known ν (among w) least) ν v ks
 max-shown ν w v (last t) m h k u d =
     λ e. let i = memoBound-is least ν w t m k in
@@ -111,7 +114,8 @@ max-shown ν w v (t then ts) m h k u (inr d) =
     (λ e. absurd (omega (arith, d .0)), λ f. max-shown ν w v ts (m .rest) (h .1) (k .1) (omega arith) (d .1))
 
 -- at a Max root the first child whose high is the value is the first one that has it
-first-high : (ν : ℕ → ℕ) (w : List ℕ) (v : ℕ) (ks : Children) (m : MemoChildren ks) → ScoredChildren ν ks → MarksChildren w ks m
+first-high : (ν : ℕ → ℕ) (w : List ℕ) (v : ℕ) (ks : Children) (m : MemoChildren ks) → ScoredChildren ν ks
+    → MarksChildren w ks m
     → memoHighChildren ν Max ks m ≤ v → DecidesMax ν v ks m
     → firstWith (high ν (among w)) v ks ≡ firstWith (minimax ν) v ks
 first-high ν w v (last t) m h k u d =
@@ -140,7 +144,8 @@ DecidesMin ν v (t then ts) m =
     (memoHigh ν t (m .first) ≤ v) ⊎ ((v < memoLow ν t (m .first)) × DecidesMin ν v ts (m .rest))
 
 -- so it is after a pass that finds a Min node below its test, for the node's high
-readyMin-decides : (ν : ℕ → ℕ) (γ v : ℕ) (ks : Children) (m : MemoChildren ks) → ScoredChildren ν ks → KeptChildren ν γ ks m
+readyMin-decides : (ν : ℕ → ℕ) (γ v : ℕ) (ks : Children) (m : MemoChildren ks) → ScoredChildren ν ks
+    → KeptChildren ν γ ks m
     → γ ≤ greatest
     → ReadyChildren ν γ Min ks m → memoHighChildren ν Min ks m ≡ v → v < γ → DecidesMin ν v ks m
 readyMin-decides ν γ v (last t) m h k g r e l = omega arith
@@ -153,7 +158,8 @@ readyMin-decides ν γ v (t then ts) m h k g (inr r) e l =
     inl (omega arith)
 
 -- and it stays so
-passMin-keeps : (ν : ℕ → ℕ) (γ v : ℕ) (ks : Children) (m : MemoChildren ks) → ScoredChildren ν ks → KeptChildren ν γ ks m
+passMin-keeps : (ν : ℕ → ℕ) (γ v : ℕ) (ks : Children) (m : MemoChildren ks) → ScoredChildren ν ks
+    → KeptChildren ν γ ks m
     → DecidesMin ν v ks m
     → DecidesMin ν v ks (passChildren ν γ Min ks m .next)
 passMin-keeps ν γ v (last t) m h k d = le-trans (sound ν γ t m h k .falls) d
@@ -212,7 +218,8 @@ mtdMin-decides ν n ks h =
     (inl refl) (omega arith)
 
 -- what is decided is shown
-min-shown : (ν : ℕ → ℕ) (w : List ℕ) (v : ℕ) (ks : Children) (m : MemoChildren ks) → ScoredChildren ν ks → MarksChildren w ks m
+min-shown : (ν : ℕ → ℕ) (w : List ℕ) (v : ℕ) (ks : Children) (m : MemoChildren ks) → ScoredChildren ν ks
+    → MarksChildren w ks m
     → v ≤ minimaxChildren ν Min ks → DecidesMin ν v ks m → Shown (known ν (among w) greatest) ν v ks
 min-shown ν w v (last t) m h k u d =
     λ e. let i = memoBound-is greatest ν w t m k in

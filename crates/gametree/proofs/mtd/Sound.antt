@@ -7,9 +7,11 @@ use mathlib.Core.Path.{_≡_, refl}
 use mathlib.Core.Bool.{true, false, not}
 use lib.Dec.{ltb}
 use borrow.Author.Tests.{ltb-true, leb-true, leb-false, not-true, not-false}
-use Rattle.gametree.specs.Tree.{Side, Max, Min, Tree, leaf, inner, Children, last, _then_, least, greatest, minimax}
+use Rattle.gametree.specs.Tree.{Side, Max, Min, Tree, leaf, inner, Children, last, _then_, least, greatest}
+use Rattle.gametree.specs.Tree.{minimax}
 use Rattle.gametree.specs.Tree.{minimaxChildren, Scored, ScoredChildren}
-use Rattle.gametree.specs.Mtd.{memoBound, memoBoundChildren, Memo, MemoChildren, memoHigh, memoHighChildren, Pass, PassChildren}
+use Rattle.gametree.specs.Mtd.{memoBound, memoBoundChildren, Memo, MemoChildren, memoHigh, memoHighChildren, Pass}
+use Rattle.gametree.specs.Mtd.{PassChildren}
 use Rattle.gametree.specs.Mtd.{pass, passChildren}
 use Rattle.lists.proofs.Choice.{cond-cases, true-not-false}
 use Rattle.gametree.proofs.minimax.Bounds.{better-mono}
@@ -41,7 +43,8 @@ mutual
       cond-cases (λ (x : ℕ). (ν n) ≤ x) (m .evaluated) (ν n) greatest (λ _. le-refl (ν n)) (λ _. omega arith)
   minimax-memoHigh ν (inner n s ks) m h = minimaxChildren-memoHighChildren ν s ks (m .kids) h
 
-  pub minimaxChildren-memoHighChildren : (ν : ℕ → ℕ) (s : Side) (ks : Children) (m : MemoChildren ks) → ScoredChildren ν ks
+  pub minimaxChildren-memoHighChildren : (ν : ℕ → ℕ) (s : Side) (ks : Children) (m : MemoChildren ks)
+      → ScoredChildren ν ks
       → minimaxChildren ν s ks ≤ memoHighChildren ν s ks m
   minimaxChildren-memoHighChildren ν s (last t) m h = minimax-memoHigh ν t m h
   minimaxChildren-memoHighChildren ν s (t then ts) m h =
@@ -51,7 +54,8 @@ mutual
 abbrev mutual
   pub Kept : (ν : ℕ → ℕ) → ℕ → (t : Tree) → Memo t → Type 0
   Kept ν γ (leaf n) m = Unit
-  Kept ν γ (inner n s ks) m = (m .notBelow ≡ true → γ ≤ memoLowChildren ν s ks (m .kids)) × KeptChildren ν γ ks (m .kids)
+  Kept ν γ (inner n s ks) m = (m .notBelow ≡ true → γ ≤ memoLowChildren ν s ks (m .kids))
+      × KeptChildren ν γ ks (m .kids)
 
   pub KeptChildren : (ν : ℕ → ℕ) → ℕ → (ks : Children) → MemoChildren ks → Type 0
   KeptChildren ν γ (last t) m = Kept ν γ t m
@@ -66,7 +70,8 @@ pub record Sound (ν : ℕ → ℕ) (γ : ℕ) (t : Tree) (m : Memo t) (r : Pass
   pub above : r .notBelow ≡ true → γ ≤ memoLow ν t (r .next)
 
 -- and of the children of a node
-pub record SoundChildren (ν : ℕ → ℕ) (γ : ℕ) (s : Side) (ks : Children) (m : MemoChildren ks) (q : PassChildren ks) : Type 0 where
+pub record SoundChildren (ν : ℕ → ℕ) (γ : ℕ) (s : Side) (ks : Children) (m : MemoChildren ks)
+    (q : PassChildren ks) : Type 0 where
   pub kept : KeptChildren ν γ ks (q .next)
   pub falls : memoHighChildren ν s ks (q .next) ≤ memoHighChildren ν s ks m
   pub rises : memoLowChildren ν s ks m ≤ memoLowChildren ν s ks (q .next)
@@ -123,7 +128,8 @@ sound-inner ν γ n s ks m k q =
       above = q .above;
     }))
 
-module _ (ν : ℕ → ℕ) (γ : ℕ) (t : Tree) (ts : Children) (m : MemoChildren (t then ts)) (k : KeptChildren ν γ (t then ts) m)
+module _ (ν : ℕ → ℕ) (γ : ℕ) (t : Tree) (ts : Children) (m : MemoChildren (t then ts))
+    (k : KeptChildren ν γ (t then ts) m)
     (a : Sound ν γ t (m .first) (pass ν γ t (m .first))) where
   sound-max : SoundChildren ν γ Max ts (m .rest) (passChildren ν γ Max ts (m .rest))
       → SoundChildren ν γ Max (t then ts) m (passChildren ν γ Max (t then ts) m)
@@ -165,7 +171,8 @@ module _ (ν : ℕ → ℕ) (γ : ℕ) (t : Tree) (ts : Children) (m : MemoChild
 
 sound-then : (ν : ℕ → ℕ) (γ : ℕ) (s : Side) (t : Tree) (ts : Children) (m : MemoChildren (t then ts))
     → KeptChildren ν γ (t then ts) m
-    → Sound ν γ t (m .first) (pass ν γ t (m .first)) → SoundChildren ν γ s ts (m .rest) (passChildren ν γ s ts (m .rest))
+    → Sound ν γ t (m .first) (pass ν γ t (m .first))
+    → SoundChildren ν γ s ts (m .rest) (passChildren ν γ s ts (m .rest))
     → SoundChildren ν γ s (t then ts) m (passChildren ν γ s (t then ts) m)
 sound-then ν γ Max t ts m k a b = sound-max ν γ t ts m k a b
 sound-then ν γ Min t ts m k a b = sound-min ν γ t ts m k a b
@@ -176,7 +183,8 @@ mutual
   sound ν γ (leaf n) m h k = sound-leaf ν γ n m (h .1)
   sound ν γ (inner n s ks) m h k = sound-inner ν γ n s ks m k (soundChildren ν γ s ks (m .kids) h (k .1))
 
-  pub soundChildren : (ν : ℕ → ℕ) (γ : ℕ) (s : Side) (ks : Children) (m : MemoChildren ks) → ScoredChildren ν ks → KeptChildren ν γ ks m
+  pub soundChildren : (ν : ℕ → ℕ) (γ : ℕ) (s : Side) (ks : Children) (m : MemoChildren ks) → ScoredChildren ν ks
+      → KeptChildren ν γ ks m
       → SoundChildren ν γ s ks m (passChildren ν γ s ks m)
   soundChildren ν γ s (last t) m h k =
       let a = sound ν γ t m h k in

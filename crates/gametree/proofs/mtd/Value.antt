@@ -4,12 +4,15 @@ use native.Mathlib.Nat.{le-refl, le-trans}
 use native.Mathlib.Omega.{arith}
 use mathlib.Core.Path.{_≡_, refl}
 use mathlib.Core.Bool.{true}
-use Rattle.gametree.specs.Tree.{Side, Max, Min, Tree, leaf, inner, Children, last, _then_, greatest, better, minimax}
+use Rattle.gametree.specs.Tree.{Side, Max, Min, Tree, leaf, inner, Children, last, _then_, greatest, better}
+use Rattle.gametree.specs.Tree.{minimax}
 use Rattle.gametree.specs.Tree.{Scored}
-use Rattle.gametree.specs.Mtd.{Memo, MemoChildren, memoHigh, memoHighChildren, pass, MtdRun, settled, run, fresh, freshChildren}
+use Rattle.gametree.specs.Mtd.{Memo, MemoChildren, memoHigh, memoHighChildren, pass, MtdRun, settled, run, fresh}
+use Rattle.gametree.specs.Mtd.{freshChildren}
 use Rattle.gametree.specs.Mtd.{mtd}
 use Rattle.lists.proofs.Choice.{cond-cases, true-not-false}
-use Rattle.gametree.proofs.mtd.Sound.{memoLow, memoLow-minimax, minimax-memoHigh, Kept, KeptChildren, Sound, sound}
+use Rattle.gametree.proofs.mtd.Sound.{memoLow, memoLow-minimax, minimax-memoHigh, Kept, KeptChildren, Sound}
+use Rattle.gametree.proofs.mtd.Sound.{sound}
 
 mutual
   -- with a lower test no more is asked of the nodes found not below
@@ -20,7 +23,10 @@ mutual
   keptChildren-lower : (ν : ℕ → ℕ) {γ δ : ℕ} (ks : Children) (m : MemoChildren ks) → δ ≤ γ → KeptChildren ν γ ks m
       → KeptChildren ν δ ks m
   keptChildren-lower ν (last t) m h k = kept-lower ν t m h k
-  keptChildren-lower ν (t then ts) m h k = (kept-lower ν t (m .first) h (k .0), keptChildren-lower ν ts (m .rest) h (k .1))
+  keptChildren-lower ν (t then ts) m h k = (
+    kept-lower ν t (m .first) h (k .0),
+    keptChildren-lower ν ts (m .rest) h (k .1),
+  )
 
 -- the run's value is the minimax value, and so are the bounds that its leaves give
 pub record Right (ν : ℕ → ℕ) (t : Tree) (q : MtdRun t) : Type 0 where
@@ -71,9 +77,11 @@ mutual
   fresh-memoHigh ν (leaf n) = refl
   fresh-memoHigh ν (inner n s ks) = freshChildren-memoHigh ν s ks
 
-  pub freshChildren-memoHigh : (ν : ℕ → ℕ) (s : Side) (ks : Children) → memoHighChildren ν s ks (freshChildren ks) ≡ greatest
+  pub freshChildren-memoHigh : (ν : ℕ → ℕ) (s : Side) (ks : Children)
+      → memoHighChildren ν s ks (freshChildren ks) ≡ greatest
   freshChildren-memoHigh ν s (last t) = fresh-memoHigh ν t
-  freshChildren-memoHigh ν s (t then ts) = rw (fresh-memoHigh ν t, freshChildren-memoHigh ν s ts) (better-same s greatest)
+  freshChildren-memoHigh ν s (t then ts) = rw (fresh-memoHigh ν t, freshChildren-memoHigh ν s ts)
+      (better-same s greatest)
 
 -- MTD gives the minimax value, and its evaluated leaves give every bound of the root that value
 pub mtd-right : (ν : ℕ → ℕ) (t : Tree) → Scored ν t → Right ν t (mtd ν t)

@@ -10,11 +10,14 @@ use mathlib.Core.List.{List, [], _∷_, _++_}
 use lib.Dec.{leb, ltb}
 use borrow.Author.Tests.{ltb-true, ltb-false, leb-true, leb-false, not-true, not-false, le-leb, lt-leb}
 use Rattle.lists.specs.Lists.{All, among}
-use Rattle.gametree.specs.Tree.{Side, Max, Min, Tree, leaf, inner, Children, last, _then_, least, greatest, minimax}
-use Rattle.gametree.specs.Tree.{minimaxChildren, In, InChildren, EveryLeaf, EveryLeafChildren, Scored, ScoredChildren, Distinct}
+use Rattle.gametree.specs.Tree.{Side, Max, Min, Tree, leaf, inner, Children, last, _then_, least, greatest}
+use Rattle.gametree.specs.Tree.{minimax}
+use Rattle.gametree.specs.Tree.{minimaxChildren, In, InChildren, EveryLeaf, EveryLeafChildren, Scored}
+use Rattle.gametree.specs.Tree.{ScoredChildren, Distinct}
 use Rattle.gametree.specs.Tree.{DistinctChildren, Proper}
 use Rattle.gametree.specs.AlphaBeta.{raise, lower}
-use Rattle.gametree.specs.Mtd.{Memo, MemoChildren, memoHigh, memoHighChildren, Pass, PassChildren, pass, passChildren, MtdRun, run}
+use Rattle.gametree.specs.Mtd.{Memo, MemoChildren, memoHigh, memoHighChildren, Pass, PassChildren, pass}
+use Rattle.gametree.specs.Mtd.{passChildren, MtdRun, run}
 use Rattle.gametree.specs.Mtd.{fresh, mtd}
 use Rattle.gametree.proofs.mtd.Marks.{Marks, MarksChildren}
 use Rattle.gametree.specs.results.ClosedForm.{rival, unrivalled, unrivalledChildren}
@@ -113,7 +116,8 @@ record PassedChildren (ν : ℕ → ℕ) (γ β : ℕ) (s : Side) (ks : Children
 -- an inner node is skipped as below, skipped as not below, or entered
 passed-inner : (ν : ℕ → ℕ) (γ β n : ℕ) (s : Side) (ks : Children) (m : Memo (inner n s ks)) → ScoredChildren ν ks
     → m ≡ memoAt ν (suc γ) β (inner n s ks)
-    → γ ≤ β → γ ≤ greatest → (min β (minimaxChildren ν s ks) ≤ γ → PassedChildren ν γ β s ks (passChildren ν γ s ks (m .kids)))
+    → γ ≤ β → γ ≤ greatest → (min β (minimaxChildren ν s ks) ≤ γ
+    → PassedChildren ν γ β s ks (passChildren ν γ s ks (m .kids)))
     → Passed ν γ β (inner n s ks) (pass ν γ (inner n s ks) m)
 passed-inner ν γ β n s ks m i e h g q =
     let t = inner n s ks in
@@ -199,7 +203,8 @@ mutual
       (λ d.
       let w = leb-false γ u (sym (a .answer) ∙ d) in
       let z = floor-rest γ u w in
-      let b = passedChildren ν γ β Max ts (m .rest) (i .1) (rest ∙ ap (λ x. memoAtChildren ν Max x β ts) (z .0)) h g o in
+      let b = passedChildren ν γ β Max ts (m .rest) (i .1) (rest ∙ ap (λ x. memoAtChildren ν Max x β ts) (z .0)) h g
+      o in
       record {
         next-is = kids-path t ts one (b .next-is ∙ ap (λ x. memoAtChildren ν Max x β ts) (z .1));
         answer = b .answer ∙ leb-max γ u y w;
@@ -260,7 +265,8 @@ mutual
   needed-in ν c β (leaf n) = needed-leaf (leb c β) n
   needed-in ν c β (inner n s ks) = all-map _ _ (λ k i. inr i) (neededChildren ν s c β ks) (neededChildren-in ν s c β ks)
 
-  neededChildren-in : (ν : ℕ → ℕ) (s : Side) (c β : ℕ) (ks : Children) → All (λ k. InChildren k ks) (neededChildren ν s c β ks)
+  neededChildren-in : (ν : ℕ → ℕ) (s : Side) (c β : ℕ) (ks : Children)
+      → All (λ k. InChildren k ks) (neededChildren ν s c β ks)
   neededChildren-in ν s c β (last t) = needed-in ν c β t
   neededChildren-in ν s c β (t then ts) =
       all-append (λ k. InChildren k (t then ts)) (needed ν _ β t) (neededChildren ν s _ _ ts)
@@ -299,7 +305,8 @@ mutual
   marks-agree v w (leaf n) m h k = sym h ∙ k
   marks-agree v w (inner n s ks) m h k = marksChildren-agree v w ks (m .kids) h k
 
-  marksChildren-agree : (v w : List ℕ) (ks : Children) (m : MemoChildren ks) → MarksChildren v ks m → MarksChildren w ks m
+  marksChildren-agree : (v w : List ℕ) (ks : Children) (m : MemoChildren ks) → MarksChildren v ks m
+      → MarksChildren w ks m
       → EveryLeafChildren (λ n. among v n ≡ among w n) ks
   marksChildren-agree v w (last t) m h k = marks-agree v w t m h k
   marksChildren-agree v w (t then ts) m h k =

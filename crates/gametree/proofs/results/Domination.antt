@@ -8,10 +8,12 @@ use mathlib.Core.List.{List}
 use lib.Dec.{ltb, eqb}
 use borrow.Author.Tests.{not-false, lt-ltb, eq-eqb}
 use Rattle.lists.specs.Lists.{All, among}
-use Rattle.gametree.specs.Tree.{Side, Max, Min, Tree, leaf, inner, Children, last, _then_, least, greatest, minimax}
+use Rattle.gametree.specs.Tree.{Side, Max, Min, Tree, leaf, inner, Children, last, _then_, least, greatest}
+use Rattle.gametree.specs.Tree.{minimax}
 use Rattle.gametree.specs.Tree.{Scored, ScoredChildren}
 use Rattle.gametree.specs.AlphaBeta.{raise, lower, reached, reachedChildren}
-use Rattle.gametree.specs.Mtd.{Memo, MemoChildren, memoHigh, memoHighChildren, Pass, PassChildren, settles, pass, passChildren}
+use Rattle.gametree.specs.Mtd.{Memo, MemoChildren, memoHigh, memoHighChildren, Pass, PassChildren, settles, pass}
+use Rattle.gametree.specs.Mtd.{passChildren}
 use Rattle.gametree.specs.Mtd.{MtdRun, run, fresh, mtd}
 use Rattle.lists.proofs.Choice.{cond-cases, or-left}
 use Rattle.lists.proofs.Lists.{all-append, all-map, among-left, among-right}
@@ -62,7 +64,8 @@ mutual
       let v = pass ν γ t (m .first) .evaluated in
       let w = passChildren ν γ s ts (m .rest) .evaluated in
       let a =
-      all-map _ (λ k. among (reachedChildren ν s α β (t then ts)) k ≡ true) (λ k e. among-left (reached ν α β t) _ k e) v
+      all-map _ (λ k. among (reachedChildren ν s α β (t then ts)) k ≡ true) (λ k e. among-left (reached ν α β t) _ k e)
+      v
       (pass-reaches ν γ α β t (m .first) (h .0) (k .0) l u) in
       cond-cases (λ (q : PassChildren (t then ts)). ReachesChildren ν α β s (t then ts) (q .evaluated))
       (settles s (pass ν γ t (m .first) .notBelow)) _ _
@@ -70,7 +73,8 @@ mutual
       (λ e.
       let i = window ν s γ α β t (m .first) (h .0) (k .0) l u e in
       all-append (λ k. among (reachedChildren ν s α β (t then ts)) k ≡ true) v w a
-      (all-map _ (λ k. among (reachedChildren ν s α β (t then ts)) k ≡ true) (λ k e. among-right (reached ν α β t) _ k e) w
+      (all-map _ (λ k. among (reachedChildren ν s α β (t then ts)) k ≡ true)
+      (λ k e. among-right (reached ν α β t) _ k e) w
       (passChildren-reaches ν γ (raise s α (minimax ν t)) (lower s β (minimax ν t)) s ts (m .rest) (h .1) (k .1) (i .0)
       (i .1))))
 

@@ -73,7 +73,8 @@ mutual
   at-fresh ν c β (leaf n) h = rw (lt-leb c β h) refl
   at-fresh ν c β (inner n s ks) h = rw (lt-leb c β h, atChildren-fresh ν s c β ks h) refl
 
-  pub atChildren-fresh : (ν : ℕ → ℕ) (s : Side) (c β : ℕ) (ks : Children) → β < c → memoAtChildren ν s c β ks ≡ freshChildren ks
+  pub atChildren-fresh : (ν : ℕ → ℕ) (s : Side) (c β : ℕ) (ks : Children) → β < c
+      → memoAtChildren ν s c β ks ≡ freshChildren ks
   atChildren-fresh ν s c β (last t) h = at-fresh ν c β t h
   atChildren-fresh ν s c β (t then ts) h =
       let f = floors-above s c β (minimaxChildren ν s ts) (minimax ν t) h in
@@ -133,7 +134,8 @@ mutual
       let f : c ≡ max c (suc (minimax ν t)) = omega arith in
       let a = subst (λ x. memoHigh ν t (memoAt ν x β t) < c) e (at-below ν c β t h (omega arith)) in
       let b =
-      subst (λ x. memoHighChildren ν Max ts (memoAtChildren ν Max x β ts) < c) f (atChildren-below ν Max c β ts h (omega arith)) in
+      subst (λ x. memoHighChildren ν Max ts (memoAtChildren ν Max x β ts) < c) f
+      (atChildren-below ν Max c β ts h (omega arith)) in
       omega arith
   atChildren-below ν Min c β (t then ts) h l =
       ⊎-elim (λ q. let a = at-below ν c β t h q in omega arith)
@@ -188,7 +190,8 @@ mutual
       kids-path t ts
       (⊎-elim
       (λ p.
-      let x = ap (memoHighChildren ν Min ts) (atChildren-fresh ν Min c (min β u) ts p) ∙ freshChildren-memoHigh ν Min ts in
+      let x = ap (memoHighChildren ν Min ts) (atChildren-fresh ν Min c (min β u) ts p)
+      ∙ freshChildren-memoHigh ν Min ts in
       absurd (omega arith))
       (λ p. frozen ν d c β t h (omega arith) (omega arith)) (less-or-not (min β u) c))
       (atChildren-same ν Min c d (min β u) ts (i .1) h g r))

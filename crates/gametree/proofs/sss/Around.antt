@@ -16,7 +16,8 @@ use Rattle.gametree.specs.Sss.{step}
 use Rattle.lists.proofs.Lists.{all-append, all-map, all-zip}
 use Rattle.gametree.proofs.minimax.Nodes.{number-in}
 use Rattle.gametree.proofs.sss.Steps.{step-at, purge-outside}
-use Rattle.gametree.proofs.sss.Frontier.{AtMost, Below, outdone, join-frontier, frontier, frontierChildren, Fitted}
+use Rattle.gametree.proofs.sss.Frontier.{AtMost, Below, outdone, join-frontier, frontier, frontierChildren}
+use Rattle.gametree.proofs.sss.Frontier.{Fitted}
 use Rattle.gametree.proofs.sss.Frontier.{FittedChildren}
 use Rattle.gametree.proofs.sss.Frontier.{states, statesChildren, opened}
 
@@ -62,7 +63,8 @@ states-nodes ν γ t m (inl e) = (number-in t, tt)
 states-nodes ν γ t m (inr r) = frontier-nodes ν t m
 
 -- and those of children
-pub statesChildren-nodes : (ν : ℕ → ℕ) (γ : ℕ) (s : Side) (ks : Children) (m : MemoChildren ks) (w : FittedChildren ν γ s ks m)
+pub statesChildren-nodes : (ν : ℕ → ℕ) (γ : ℕ) (s : Side) (ks : Children) (m : MemoChildren ks)
+    (w : FittedChildren ν γ s ks m)
     → Nodes (λ p. InChildren p ks) (statesChildren ν γ s ks m w)
 statesChildren-nodes ν γ s (last t) m w = states-nodes ν γ t m w
 statesChildren-nodes ν γ Max (t then ts) m w =
@@ -70,7 +72,8 @@ statesChildren-nodes ν γ Max (t then ts) m w =
     (statesChildren ν γ Max ts (m .rest) (w .1))
     (states-nodes ν γ t (m .first) (w .0)) (statesChildren-nodes ν γ Max ts (m .rest) (w .1))
 statesChildren-nodes ν γ Min (t then ts) m (inl w) =
-    more-nodes (λ p i. inr i) (statesChildren ν γ Min ts (m .rest) (w .1)) (statesChildren-nodes ν γ Min ts (m .rest) (w .1))
+    more-nodes (λ p i. inr i) (statesChildren ν γ Min ts (m .rest) (w .1))
+    (statesChildren-nodes ν γ Min ts (m .rest) (w .1))
 statesChildren-nodes ν γ Min (t then ts) m (inr w) =
     more-nodes (λ p i. inl i) (states ν γ t (m .first) (w .0)) (states-nodes ν γ t (m .first) (w .0))
 
@@ -146,7 +149,8 @@ handed-outside Max Y p L h = purge-outside Y p L h
 handed-outside Min Y p L h = refl
 
 -- what an inner node hands up leaves all that is around it
-pub handed-clear : (Y : Layout) (γ n : ℕ) (s : Side) (ks : Children) (L R : List State) → AroundTree Y γ (inner n s ks) L R
+pub handed-clear : (Y : Layout) (γ n : ℕ) (s : Side) (ks : Children) (L R : List State)
+    → AroundTree Y γ (inner n s ks) L R
     → (handed s Y n L ≡ L) × (handed s Y n R ≡ R)
 handed-clear Y γ n s ks L R a = (
   handed-outside s Y n L (all-map _ _ (λ x f. f n (inl refl)) L (a .clearLeft)),

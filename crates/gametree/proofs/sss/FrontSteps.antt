@@ -10,7 +10,8 @@ use mathlib.Core.Option.{Option, none, some}
 use mathlib.Core.List.{List, [], _∷_, _++_, map, append-nil}
 use lib.ListN.{length, length-append}
 use Rattle.lists.specs.Lists.{All}
-use Rattle.gametree.specs.Tree.{Side, Max, Min, Tree, leaf, inner, Children, last, _then_, number, size, sizeChildren, In}
+use Rattle.gametree.specs.Tree.{Side, Max, Min, Tree, leaf, inner, Children, last, _then_, number, size}
+use Rattle.gametree.specs.Tree.{sizeChildren, In}
 use Rattle.gametree.specs.Tree.{InChildren}
 use Rattle.gametree.specs.Layout.{root, under, Layout, firstOf, othersOf}
 use Rattle.gametree.proofs.sss.Described.{Answers, AnswersChildren, Describes}
@@ -75,7 +76,8 @@ mutual
   front-in (leaf n) L f = rw (f .1) (f .2, tt)
   front-in (inner n q ks) L (inl f) = rw (f .1) (inl (f .2), tt)
   front-in (inner n q ks) L (inr f) =
-      all-map (λ s. InChildren (s .node) ks) (λ s. In (s .node) (inner n q ks)) (λ s i. inr i) L (kids-front-in q ks L f)
+      all-map (λ s. InChildren (s .node) ks) (λ s. In (s .node) (inner n q ks)) (λ s i. inr i) L
+      (kids-front-in q ks L f)
 
   kids-front-in : (q : Side) (ks : Children) (L : List State) → FrontChildren q ks L → InsideChildren ks L
   kids-front-in q (last t) L f = front-in t L f
@@ -89,7 +91,8 @@ brothers-in : (q : Side) (ks : Children) (L : List State) → Brothers q ks L �
 brothers-in Max ks L b = kids-front-in Max ks L b
 brothers-in Min ks L b = rw b tt
 
-beside-in : (q : Side) (ks : Children) (u : Tree) (F G : List State) → Beside q ks u F G → InsideChildren ks F × InsideChildren ks G
+beside-in : (q : Side) (ks : Children) (u : Tree) (F G : List State) → Beside q ks u F G
+    → InsideChildren ks F × InsideChildren ks G
 beside-in q (last t) u F G b = (rw (b .1) tt, rw (b .2) tt)
 beside-in q (t then ts) u F G (inl b) = (rw (b .1) tt, inside-rest t ts G (brothers-in q ts G (b .2)))
 beside-in q (t then ts) u F G (inr b) =
@@ -230,7 +233,8 @@ kids-live m (t then ts) = (
 )
 
 -- one state of a child of a Min node
-child-front : (ks : Children) (u : Tree) → ChildIn u ks → (s : State) → s .node ≡ number u → FrontChildren Min ks (s ∷ [])
+child-front : (ks : Children) (u : Tree) → ChildIn u ks → (s : State) → s .node ≡ number u
+    → FrontChildren Min ks (s ∷ [])
 child-front (last t) u c s e = alone-front t s (e ∙ ap number c)
 child-front (t then ts) u (inl c) s e = inl (alone-front t s (e ∙ ap number c))
 child-front (t then ts) u (inr c) s e = inr (child-front ts u c s e)

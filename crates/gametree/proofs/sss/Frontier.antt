@@ -10,9 +10,11 @@ use mathlib.Core.List.{List, [], _∷_, _++_, map}
 use lib.Dec.{ltb}
 use borrow.Author.Tests.{ltb-true, leb-true, leb-false, not-false, le-leb, lt-ltb, le-ltb}
 use Rattle.lists.specs.Lists.{All}
-use Rattle.gametree.specs.Tree.{Side, Max, Min, Tree, leaf, inner, Children, last, _then_, greatest, number, Scored}
+use Rattle.gametree.specs.Tree.{Side, Max, Min, Tree, leaf, inner, Children, last, _then_, greatest, number}
+use Rattle.gametree.specs.Tree.{Scored}
 use Rattle.gametree.specs.Tree.{ScoredChildren}
-use Rattle.gametree.specs.Mtd.{Memo, MemoChildren, memoHigh, memoHighChildren, Pass, PassChildren, pass, passChildren}
+use Rattle.gametree.specs.Mtd.{Memo, MemoChildren, memoHigh, memoHighChildren, Pass, PassChildren, pass}
+use Rattle.gametree.specs.Mtd.{passChildren}
 use Rattle.gametree.specs.Mtd.{fresh, freshChildren}
 use Rattle.gametree.specs.Layout.{firstOf, othersOf}
 use Rattle.gametree.specs.Sss.{State, live, solved}
@@ -101,7 +103,8 @@ mutual
   ready-lower ν (leaf n) m h r = r
   ready-lower ν (inner n s ks) m h r = (r .0, readyChildren-lower ν s ks (m .kids) h (r .1))
 
-  readyChildren-lower : (ν : ℕ → ℕ) {γ δ : ℕ} (s : Side) (ks : Children) (m : MemoChildren ks) → δ ≤ γ → ReadyChildren ν γ s ks m
+  readyChildren-lower : (ν : ℕ → ℕ) {γ δ : ℕ} (s : Side) (ks : Children) (m : MemoChildren ks) → δ ≤ γ
+      → ReadyChildren ν γ s ks m
       → ReadyChildren ν δ s ks m
   readyChildren-lower ν s (last t) m h r = ready-lower ν t m h r
   readyChildren-lower ν Max (t then ts) m h r =
@@ -116,7 +119,8 @@ states ν γ t m (inl e) = live (number t) γ ∷ []
 states ν γ t m (inr r) = frontier ν t m
 
 -- and for its children
-abbrev pub statesChildren : (ν : ℕ → ℕ) (γ : ℕ) (s : Side) (ks : Children) (m : MemoChildren ks) → FittedChildren ν γ s ks m
+abbrev pub statesChildren : (ν : ℕ → ℕ) (γ : ℕ) (s : Side) (ks : Children) (m : MemoChildren ks)
+    → FittedChildren ν γ s ks m
     → List State
 statesChildren ν γ s (last t) m w = states ν γ t m w
 statesChildren ν γ Max (t then ts) m w = states ν γ t (m .first) (w .0) ++ statesChildren ν γ Max ts (m .rest) (w .1)
@@ -129,7 +133,8 @@ pub kids-fresh : (n : ℕ) (s : Side) (ks : Children) {m : Memo (inner n s ks)} 
 kids-fresh n s ks e = ap (λ (x : Memo (inner n s ks)). x .kids) e
 
 -- so are the first of untouched children
-pub first-fresh : (t : Tree) (ts : Children) {m : MemoChildren (t then ts)} → m ≡ freshChildren (t then ts) → m .first ≡ fresh t
+pub first-fresh : (t : Tree) (ts : Children) {m : MemoChildren (t then ts)} → m ≡ freshChildren (t then ts)
+    → m .first ≡ fresh t
 first-fresh t ts e = ap (λ (x : MemoChildren (t then ts)). x .first) e
 
 -- and the others
@@ -146,7 +151,8 @@ fitted-fresh ν γ Max (t then ts) m e =
 fitted-fresh ν γ Min (t then ts) m e = inr (inl (first-fresh t ts e), rest-fresh t ts e)
 
 -- so do ready ones
-abbrev pub fitted-ready : (ν : ℕ → ℕ) (γ : ℕ) (s : Side) (ks : Children) (m : MemoChildren ks) → ReadyChildren ν γ s ks m
+abbrev pub fitted-ready : (ν : ℕ → ℕ) (γ : ℕ) (s : Side) (ks : Children) (m : MemoChildren ks)
+    → ReadyChildren ν γ s ks m
     → FittedChildren ν γ s ks m
 fitted-ready ν γ s (last t) m r = inr r
 fitted-ready ν γ Max (t then ts) m r = (inr (r .0), fitted-ready ν γ Max ts (m .rest) (r .1))
@@ -169,7 +175,8 @@ opened Min c cs = c ∷ []
 module _ (ν : ℕ → ℕ) (γ : ℕ) where
   -- the states of untouched children are those that their parent's replacement puts on the list
   pub states-fresh : (s : Side) (ks : Children) (m : MemoChildren ks) (e : m ≡ freshChildren ks)
-      → statesChildren ν γ s ks m (fitted-fresh ν γ s ks m e) ≡ map (λ n. live n γ) (opened s (firstOf ks) (othersOf ks))
+      → statesChildren ν γ s ks m (fitted-fresh ν γ s ks m e)
+      ≡ map (λ n. live n γ) (opened s (firstOf ks) (othersOf ks))
   states-fresh Max (last t) m e = refl
   states-fresh Min (last t) m e = refl
   states-fresh Max (t then ts) m e =
@@ -233,7 +240,8 @@ module _ (ν : ℕ → ℕ) (γ : ℕ) where
       frontier-high (leaf n) m h k r b = (rw r (le-refl (ν n)), tt)
       frontier-high (inner n s ks) m h k r b = frontierChildren-high s ks (m .kids) h (k .1) (r .1) b
 
-      frontierChildren-high : (s : Side) (ks : Children) (m : MemoChildren ks) → ScoredChildren ν ks → KeptChildren ν γ ks m
+      frontierChildren-high : (s : Side) (ks : Children) (m : MemoChildren ks) → ScoredChildren ν ks
+          → KeptChildren ν γ ks m
           → ReadyChildren ν γ s ks m → AtMost γ (frontierChildren ν s ks m)
           → AtMost (memoHighChildren ν s ks m) (frontierChildren ν s ks m)
       frontierChildren-high s (last t) m h k r b = frontier-high t m h k r b
@@ -258,7 +266,8 @@ module _ (ν : ℕ → ℕ) (γ : ℕ) where
           (frontier-high t (m .first) (h .0) (k .0) (r .0) c))
 
     -- an untouched node's high is not below a test
-    pub fresh-not-below : (s : Side) (ks : Children) (m : MemoChildren ks) → m ≡ freshChildren ks → memoHighChildren ν s ks m < γ → ⊥
+    pub fresh-not-below : (s : Side) (ks : Children) (m : MemoChildren ks) → m ≡ freshChildren ks
+        → memoHighChildren ν s ks m < γ → ⊥
     fresh-not-below s ks m e l =
         let c = ap (λ x. memoHighChildren ν s ks x) e ∙ freshChildren-memoHigh ν s ks in
         omega arith
@@ -296,7 +305,8 @@ module _ (ν : ℕ → ℕ) (γ : ℕ) where
     skipped n s ks m (inl e) h k b l = absurd (fresh-not-below s ks (m .kids) (kids-fresh n s ks e) l)
     skipped n s ks m (inr r) h k b l = (
       r,
-      all-map _ _ (λ x y. lt-of-le-of-lt y l) (frontierChildren ν s ks (m .kids)) (frontier-high (inner n s ks) m h k r b),
+      all-map _ _ (λ x y. lt-of-le-of-lt y l) (frontierChildren ν s ks (m .kids))
+          (frontier-high (inner n s ks) m h k r b),
     )
 
     -- an inner node, by whether it is entered
@@ -326,8 +336,10 @@ module _ (ν : ℕ → ℕ) (γ : ℕ) where
           (nextChildren s ks (m .kids) (fitted-ready ν γ s ks (m .kids) (r .1)) h (k .1)
           (rw (states-ready s ks (m .kids) (r .1)) b))
 
-      nextChildren : (s : Side) (ks : Children) (m : MemoChildren ks) (w : FittedChildren ν γ s ks m) → ScoredChildren ν ks
-          → KeptChildren ν γ ks m → AtMost γ (statesChildren ν γ s ks m w) → NextChildren ν γ s ks (passChildren ν γ s ks m)
+      nextChildren : (s : Side) (ks : Children) (m : MemoChildren ks) (w : FittedChildren ν γ s ks m)
+          → ScoredChildren ν ks
+          → KeptChildren ν γ ks m → AtMost γ (statesChildren ν γ s ks m w)
+          → NextChildren ν γ s ks (passChildren ν γ s ks m)
       nextChildren s (last t) m w h k b = next t m w h k b
       nextChildren Max (t then ts) m w h k b =
           let F = states ν γ t (m .first) (w .0) in

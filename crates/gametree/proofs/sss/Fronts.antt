@@ -21,7 +21,8 @@ abbrev mutual
 
   pub FrontChildren : Side → Children → List State → Type 0
   FrontChildren q (last t) L = Front t L
-  FrontChildren Max (t then ts) L = (F : List State) × (G : List State) × (L ≡ F ++ G) × Front t F × FrontChildren Max ts G
+  FrontChildren Max (t then ts) L = (F : List State) × (G : List State) × (L ≡ F ++ G) × Front t F
+      × FrontChildren Max ts G
   FrontChildren Min (t then ts) L = Front t L ⊎ FrontChildren Min ts L
 
 -- one state is a front of its node's tree

@@ -9,7 +9,8 @@ use Rattle.gametree.specs.Tree.{Side, Tree, leaf, inner, Children, last,
 use Rattle.gametree.specs.Tree.{DistinctChildren}
 use Rattle.gametree.specs.Layout.{root, Layout, has, kindIn, kindInChildren}
 use Rattle.gametree.proofs.sss.Described.{Apart, Answers, AnswersChildren, Describes}
-use Rattle.gametree.specs.Layout.{linkIn, linkInChildren, aboveIn, aboveInChildren, leftIn, leftInChildren, layoutOf}
+use Rattle.gametree.specs.Layout.{linkIn, linkInChildren, aboveIn, aboveInChildren, leftIn, leftInChildren}
+use Rattle.gametree.specs.Layout.{layoutOf}
 use Rattle.lists.proofs.Choice.{cond-cases}
 use Rattle.gametree.proofs.minimax.Nodes.{number-in, in-has, in-hasChildren, out-has, out-hasChildren}
 

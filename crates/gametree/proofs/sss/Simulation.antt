@@ -23,9 +23,11 @@ use mathlib.Core.List.{List, [], _∷_, _++_, append-assoc}
 use lib.Dec.{ltb}
 use borrow.Author.Tests.{ltb-true, leb-true, leb-false, not-true, not-false}
 use Rattle.lists.specs.Lists.{All}
-use Rattle.gametree.specs.Tree.{Side, Max, Min, Tree, leaf, inner, Children, last, _then_, greatest, number, InChildren}
+use Rattle.gametree.specs.Tree.{Side, Max, Min, Tree, leaf, inner, Children, last, _then_, greatest, number}
+use Rattle.gametree.specs.Tree.{InChildren}
 use Rattle.gametree.specs.Tree.{Scored, ScoredChildren}
-use Rattle.gametree.specs.Mtd.{Memo, MemoChildren, memoHighChildren, Pass, PassChildren, entered, pass, passChildren, freshChildren}
+use Rattle.gametree.specs.Mtd.{Memo, MemoChildren, memoHighChildren, Pass, PassChildren, entered, pass}
+use Rattle.gametree.specs.Mtd.{passChildren, freshChildren}
 use Rattle.gametree.specs.Layout.{tip, under, Layout, firstOf, othersOf}
 use Rattle.gametree.proofs.sss.Described.{Answers, AnswersChildren}
 use Rattle.gametree.specs.Sss.{State, live, solved, quiet, step}
@@ -41,7 +43,8 @@ use Rattle.gametree.proofs.sss.Frontier.{fresh-not-below, first-least, 
 use Rattle.gametree.proofs.sss.Around.{frontier-nodes, statesChildren-nodes, AroundTree, AroundChildren, narrow}
 use Rattle.gametree.proofs.sss.Around.{around-first, around-rest, handed, handed-clear}
 use Rattle.gametree.proofs.sss.Around.{takes-leaf, takes-inner, takes-max, takes-last, takes-next}
-use Rattle.gametree.proofs.sss.Work.{fullChildren, part, partChildren, work, workChildren, work-fresh, work-ready}
+use Rattle.gametree.proofs.sss.Work.{fullChildren, part, partChildren, work, workChildren, work-fresh}
+use Rattle.gametree.proofs.sss.Work.{work-ready}
 use Rattle.gametree.proofs.sss.Work.{work-positive}
 
 -- SSS* does what a pass does at a node, whose states are F: found below, they become the node's frontier; found not
@@ -137,7 +140,8 @@ module _ (ν : ℕ → ℕ) (Y : Layout) (γ : ℕ) (g : γ ≤ greatest) where
       → All (λ s. Y .above n (s .node) ≡ true) (frontier ν t (pass ν γ t (m .first) .next))
       → Sim ν Y γ t a F L (G ++ R) (pass ν γ t (m .first))
       → (pass ν γ t (m .first) .notBelow ≡ false
-      → SimChildren ν Y γ n Max ts b G (L ++ frontier ν t (pass ν γ t (m .first) .next)) R (passChildren ν γ Max ts (m .rest)))
+      → SimChildren ν Y γ n Max ts b G (L ++ frontier ν t (pass ν γ t (m .first) .next)) R
+      (passChildren ν γ Max ts (m .rest)))
       → SimChildren ν Y γ n Max (t then ts) (a + b) (F ++ G) L R (passChildren ν γ Max (t then ts) m)
   sim-max n t ts m a b F G L R pos link u gin fin A B =
       let hand = takes-max ν Y γ t L (G ++ R) u n _ link in
@@ -186,7 +190,8 @@ module _ (ν : ℕ → ℕ) (Y : Layout) (γ : ℕ) (g : γ ≤ greatest) where
       → Y .link (number t) ≡ under n Min (some (firstOf ts)) → AroundTree Y γ t L R
       → ScoredChildren ν (t then ts) → KeptChildren ν γ (t then ts) m → m .rest ≡ freshChildren ts
       → Sim ν Y γ t a F L R (pass ν γ t (m .first))
-      → SimChildren ν Y γ n Min ts (fullChildren Min ts) (live (firstOf ts) γ ∷ []) L R (passChildren ν γ Min ts (m .rest))
+      → SimChildren ν Y γ n Min ts (fullChildren Min ts) (live (firstOf ts) γ ∷ []) L R
+      (passChildren ν γ Min ts (m .rest))
       → SimChildren ν Y γ n Min (t then ts) (suc a + fullChildren Min ts) F L R (passChildren ν γ Min (t then ts) m)
   sim-min n t ts m a F L R link u h k untouched A B =
       let b = fullChildren Min ts in
@@ -224,7 +229,8 @@ module _ (ν : ℕ → ℕ) (Y : Layout) (γ : ℕ) (g : γ ≤ greatest) where
         let W = work-fresh ν γ s ks (m .kids) f in
         let C = handed-clear Y γ n s ks L R a in
         let S =
-        simChildren n s ks (m .kids) (fitted-fresh ν γ s ks (m .kids) f) (p .2) h (k .1) (fresh-atMost ν γ s ks (m .kids) f)
+        simChildren n s ks (m .kids) (fitted-fresh ν γ s ks (m .kids) f) (p .2) h (k .1)
+        (fresh-atMost ν γ s ks (m .kids) f)
         (p .1) L R (narrow (λ p i. inr i) a) in
         let entry = takes-inner ν Y γ (inner n s ks) L R a s (firstOf ks) (othersOf ks) (p .0) in
         sim-inner n s ks m (inl e) L R a
@@ -245,10 +251,12 @@ module _ (ν : ℕ → ℕ) (Y : Layout) (γ : ℕ) (g : γ ≤ greatest) where
           above = λ x d. rw (E, W, C .0, C .1) at (S .above x d);
         })
 
-    simChildren : (n : ℕ) (s : Side) (ks : Children) (m : MemoChildren ks) (w : FittedChildren ν γ s ks m) → AnswersChildren Y n s ks
+    simChildren : (n : ℕ) (s : Side) (ks : Children) (m : MemoChildren ks) (w : FittedChildren ν γ s ks m)
+        → AnswersChildren Y n s ks
         → ScoredChildren ν ks → KeptChildren ν γ ks m → AtMost γ (statesChildren ν γ s ks m w)
         → ((p : ℕ) → InChildren p ks → Y .above n p ≡ true) → (L R : List State) → AroundChildren Y γ ks L R
-        → SimChildren ν Y γ n s ks (workChildren ν γ s ks m w) (statesChildren ν γ s ks m w) L R (passChildren ν γ s ks m)
+        → SimChildren ν Y γ n s ks (workChildren ν γ s ks m w) (statesChildren ν γ s ks m w) L R
+        (passChildren ν γ s ks m)
     simChildren n s (last t) m w p h k b i L R a =
         let S = sim t m w (p .1) h k b L R a in
         let hand = takes-last ν Y γ t L R a s n (p .0) in
@@ -275,7 +283,8 @@ module _ (ν : ℕ → ℕ) (Y : Layout) (γ : ℕ) (g : γ ≤ greatest) where
         (around-rest Y γ t ts L R (p .1) a F′ (N e .1) fin))
     simChildren n Min (t then ts) m (inl w) p h k b i L R a =
         let A = notBelow-again ν γ t (m .first) (h .0) (k .0) (w .0) in
-        sim-min-found n t ts m (workChildren ν γ Min ts (m .rest) (w .1)) (statesChildren ν γ Min ts (m .rest) (w .1)) L R h k
+        sim-min-found n t ts m (workChildren ν γ Min ts (m .rest) (w .1)) (statesChildren ν γ Min ts (m .rest) (w .1))
+        L R h k
         (A .0) (A .1)
         (simChildren n Min ts (m .rest) (w .1) (p .3) (h .1) (k .1) b (λ x j. i x (inr j)) L R
         (narrow (λ p i. inr i) a))

@@ -6,7 +6,8 @@ use mathlib.Core.Logic.{inl, inr}
 use mathlib.Core.Bool.{Bool, true, false}
 use Rattle.gametree.specs.Tree.{Side, Max, Min, Tree, leaf, inner, Children, last, _then_, size, sizeChildren}
 use Rattle.gametree.specs.Mtd.{Memo, MemoChildren, freshChildren}
-use Rattle.gametree.proofs.sss.Frontier.{outdone, ReadyChildren, Fitted, FittedChildren, rest-fresh, fitted-fresh}
+use Rattle.gametree.proofs.sss.Frontier.{outdone, ReadyChildren, Fitted, FittedChildren, rest-fresh}
+use Rattle.gametree.proofs.sss.Frontier.{fitted-fresh}
 use Rattle.gametree.proofs.sss.Frontier.{fitted-ready}
 
 -- of a first child, a, and the others, b: at Min the first child's solution is handed up too
@@ -47,7 +48,8 @@ work ν γ t m (inl e) = full t
 work ν γ t m (inr r) = part ν t m
 
 -- and at its children
-abbrev pub workChildren : (ν : ℕ → ℕ) (γ : ℕ) (s : Side) (ks : Children) (m : MemoChildren ks) → FittedChildren ν γ s ks m → ℕ
+abbrev pub workChildren : (ν : ℕ → ℕ) (γ : ℕ) (s : Side) (ks : Children) (m : MemoChildren ks)
+    → FittedChildren ν γ s ks m → ℕ
 workChildren ν γ s (last t) m w = suc (work ν γ t m w)
 workChildren ν γ Max (t then ts) m w = work ν γ t (m .first) (w .0) + workChildren ν γ Max ts (m .rest) (w .1)
 workChildren ν γ Min (t then ts) m (inl w) = workChildren ν γ Min ts (m .rest) (w .1)

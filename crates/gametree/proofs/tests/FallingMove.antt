@@ -12,7 +12,8 @@ use mathlib.Core.List.{List, [], _++_, append-nil, append-assoc}
 use borrow.Author.Tests.{lt-ltb, le-ltb, le-leb, lt-leb, not-false}
 use Rattle.lists.specs.Lists.{All, among}
 use Rattle.gametree.specs.Tree.{Max, Min, Tree, leaf, inner, Children, last, _then_, least, greatest, minimax}
-use Rattle.gametree.specs.Tree.{minimaxChildren, InChildren, Scored, ScoredChildren, Distinct, DistinctChildren, Proper}
+use Rattle.gametree.specs.Tree.{minimaxChildren, InChildren, Scored, ScoredChildren, Distinct, DistinctChildren}
+use Rattle.gametree.specs.Tree.{Proper}
 use Rattle.gametree.specs.Bounds.{known, low, high}
 use Rattle.gametree.specs.Mtd.{settles, mtd}
 use Rattle.gametree.specs.results.ClosedForm.{unrivalled}
@@ -39,7 +40,8 @@ Shows ν E v (last t) = high ν E t ≤ v
 Shows ν E v (t then ts) = (high ν E t ≤ v) ⊎ ((v < low ν E t) × Shows ν E v ts)
 
 -- more leaves show it, too
-shows-more : (ν : ℕ → ℕ) (E F : ℕ → Bool) (v : ℕ) → ((n : ℕ) → E n ≡ true → F n ≡ true) → (ks : Children) → ScoredChildren ν ks
+shows-more : (ν : ℕ → ℕ) (E F : ℕ → Bool) (v : ℕ) → ((n : ℕ) → E n ≡ true → F n ≡ true) → (ks : Children)
+    → ScoredChildren ν ks
     → Shows ν E v ks
     → Shows ν F v ks
 shows-more ν E F v f (last t) h s = le-trans (high-falls ν E F f t h) s
@@ -61,7 +63,8 @@ below-shows ν E γ t ts h b (inr k) =
 testChildren-shows : (ν : ℕ → ℕ) (γ : ℕ) (w : List ℕ) (ks : Children) → ScoredChildren ν ks → DistinctChildren ks
     → InTurnChildren ν (among w) γ Min ks
     → testChildren ν γ w Min ks .notBelow ≡ false
-    → let E = among (w ++ testChildren ν γ w Min ks .evaluated) in Shows ν E (minimaxChildren (known ν E greatest) Min ks) ks
+    → let E = among (w ++ testChildren ν γ w Min ks .evaluated) in Shows ν E
+    (minimaxChildren (known ν E greatest) Min ks) ks
 testChildren-shows ν γ w (last t) h d k = λ _. le-refl _
 testChildren-shows ν γ w (t then ts) h d k =
     let r = test ν γ w t in
@@ -71,7 +74,8 @@ testChildren-shows ν γ w (t then ts) h d k =
     let o = all-map _ (λ n. InChildren n ts → ⊥) (λ n i j. d .2 n i j) (r .evaluated) (test-in ν γ w t) in
     cond-cases
     (λ (x : Tested). x .notBelow ≡ false
-    → Shows ν (among (w ++ x .evaluated)) (minimaxChildren (known ν (among (w ++ x .evaluated)) greatest) Min (t then ts))
+    → Shows ν (among (w ++ x .evaluated)) (minimaxChildren (known ν (among (w ++ x .evaluated)) greatest) Min
+    (t then ts))
     (t then ts)) (settles Min (r .notBelow)) _ _
     (λ e a.
     inl (below-shows ν (among v) γ t ts (h .0)

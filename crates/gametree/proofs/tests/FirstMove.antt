@@ -9,7 +9,8 @@ use mathlib.Core.List.{List, [], _++_, append-assoc}
 use lib.Dec.{leb, eqb}
 use borrow.Author.Tests.{le-leb, lt-leb, eqb-true, eqb-false, ne-eqb}
 use Rattle.lists.specs.Lists.{among, Once}
-use Rattle.gametree.specs.Tree.{Side, Max, Min, Tree, leaf, inner, Children, last, _then_, least, greatest, minimax}
+use Rattle.gametree.specs.Tree.{Side, Max, Min, Tree, leaf, inner, Children, last, _then_, least, greatest}
+use Rattle.gametree.specs.Tree.{minimax}
 use Rattle.gametree.specs.Tree.{minimaxChildren, number, Score, Scored, ScoredChildren}
 use Rattle.gametree.specs.Bounds.{known, low, high, Decided}
 use Rattle.gametree.specs.AlphaBeta.{reached}

@@ -13,13 +13,15 @@ use borrow.Author.Tests.{ltb-true, ltb-false, leb-true, leb-false, eqb-true, eqb
 use borrow.Author.Tests.{eq-eqb, ne-eqb}
 use Rattle.lists.specs.Lists.{among}
 use Rattle.gametree.specs.Tree.{Side, Max, Min, Tree, leaf, inner, Children, last, _then_, other, least, greatest}
-use Rattle.gametree.specs.Tree.{better, minimax, minimaxChildren, leaves, leavesChildren, In, InChildren, Scored, ScoredChildren}
+use Rattle.gametree.specs.Tree.{better, minimax, minimaxChildren, leaves, leavesChildren, In, InChildren, Scored}
+use Rattle.gametree.specs.Tree.{ScoredChildren}
 use Rattle.gametree.specs.Tree.{Distinct, DistinctChildren, Proper}
 use Rattle.gametree.specs.Bounds.{known, low, high}
 use Rattle.gametree.specs.AlphaBeta.{clamp}
 use Rattle.gametree.specs.Mtd.{settles}
 use Rattle.gametree.specs.results.Mirror.{mirror, mirrorChildren, opposite, mirrored, oppositeTest}
-use Rattle.gametree.specs.Tests.{Tested, unopened, passedOn, byBounds, test, testChildren, view, chosenTest, TestSearch}
+use Rattle.gametree.specs.Tests.{Tested, unopened, passedOn, byBounds, test, testChildren, view, chosenTest}
+use Rattle.gametree.specs.Tests.{TestSearch}
 use Rattle.gametree.specs.Tests.{met, tested, drive, searchBy, afterGuess, mtdFrom}
 use Rattle.gametree.specs.FirstMove.{equalTest, lastPhase, decideBy}
 use Rattle.gametree.proofs.minimax.Bounds.{minimax-score}
@@ -100,7 +102,8 @@ mutual
   scored-mirror ν (leaf n) h = omega arith
   scored-mirror ν (inner n s ks) h = scoredChildren-mirror ν ks h
 
-  scoredChildren-mirror : (ν : ℕ → ℕ) (ks : Children) → ScoredChildren ν ks → ScoredChildren (mirrored ν) (mirrorChildren ks)
+  scoredChildren-mirror : (ν : ℕ → ℕ) (ks : Children) → ScoredChildren ν ks
+      → ScoredChildren (mirrored ν) (mirrorChildren ks)
   scoredChildren-mirror ν (last t) h = scored-mirror ν t h
   scoredChildren-mirror ν (t then ts) h = (scored-mirror ν t (h .0), scoredChildren-mirror ν ts (h .1))
 
@@ -241,7 +244,8 @@ more-mirror : (b : Bool) (l l′ : ℕ) (w : List ℕ) (q p : TestSearch) → (b
 more-mirror true l l′ w q p f = record { leaves-are = refl; tests-are = refl }
 more-mirror false l l′ w q p f = f refl
 
-tested-mirror : (γ δ : ℕ) (r x : Tested) (w : List ℕ) (Q P : Bool → List ℕ → TestSearch) → δ ≡ oppositeTest γ → Mirrors r x
+tested-mirror : (γ δ : ℕ) (r x : Tested) (w : List ℕ) (Q P : Bool → List ℕ → TestSearch) → δ ≡ oppositeTest γ
+    → Mirrors r x
     → ((b : Bool) (v : List ℕ) → RunMirrors (Q b v) (P (not b) v))
     → RunMirrors (tested γ (Q (r .notBelow) (w ++ r .evaluated))) (tested δ (P (x .notBelow) (w ++ x .evaluated)))
 tested-mirror γ δ r x w Q P e m f =

@@ -159,7 +159,8 @@ module _ (ν : ℕ → ℕ) where
       → Decided ν
       (among (w ++ cond (eqb (low ν (among w) t) (high ν (among w) t)) (found (low ν (among w) t) []) q .evaluated)) t
   met-decides w t q h d =
-      cond-cases (λ (x : SearchResult). Decided ν (among (w ++ x .evaluated)) t) (eqb (low ν (among w) t) (high ν (among w) t))
+      cond-cases (λ (x : SearchResult). Decided ν (among (w ++ x .evaluated)) t)
+      (eqb (low ν (among w) t) (high ν (among w) t))
       _ _
       (λ k.
       let i = eqb-true (low ν (among w) t) (high ν (among w) t) k in
@@ -242,7 +243,8 @@ mutual
       let r = scout ν w t in
       new-append w (r .evaluated) _ (scout-once ν w t) (probeChildren-once ν (w ++ r .evaluated) s (r .value) ts)
 
-  probeChildren-once : (ν : ℕ → ℕ) (w : List ℕ) (s : Side) (v : ℕ) (ks : Children) → New w (probeChildren ν w s v ks .evaluated)
+  probeChildren-once : (ν : ℕ → ℕ) (w : List ℕ) (s : Side) (v : ℕ) (ks : Children)
+      → New w (probeChildren ν w s v ks .evaluated)
   probeChildren-once ν w s v (last t) =
       let p = test ν (betterTest s v) w t in
       probed-once s v w p _ (test-once ν (betterTest s v) w t) (scout-once ν (w ++ p .evaluated) t)

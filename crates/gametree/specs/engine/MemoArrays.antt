@@ -18,7 +18,8 @@ abbrev mutual
 
   pub readMemoChildren : (marks flags : Bits) (ks : Children) → MemoChildren ks
   readMemoChildren marks flags (last t) = readMemo marks flags t
-  readMemoChildren marks flags (t then ts) = record { first = readMemo marks flags t; rest = readMemoChildren marks flags ts }
+  readMemoChildren marks flags (t then ts) =
+      record { first = readMemo marks flags t; rest = readMemoChildren marks flags ts }
 
 -- the arrays after a visit of a node hold the pass's memo there, and are as they were elsewhere
 pub record Remembered (ν : ℕ → ℕ) (γ : ℕ) (t : Tree) (M F M′ F′ : Bits) : Type 0 where

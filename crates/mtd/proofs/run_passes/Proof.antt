@@ -62,7 +62,11 @@ visit-requires c κs =
     passing-ready (p .formed) (l .loop .inv) (p .room)
 
 add-passes : tie.Need-add-passes Inv-loop μ-loop
-add-passes c = omega (arith, head (c .before .before .before .before .before .before .before .before) .loop .inv .atMost)
+add-passes c = omega (
+  arith,
+  head (c .before .before .before .before .before .before .before .before) .loop .inv
+      .atMost,
+)
 
 root-high-requires : tie.Need-root-high-requires Inv-loop μ-loop
 root-high-requires c κs =

@@ -1,6 +1,6 @@
 -- `plain::max_turn` and `plain::min_turn` meet their contracts. The remaining depth falls with each call. At the head
--- of either loop stands `TurnLoop`: the children that are left make of score and marks what the turn is to give, and their
--- trees are without a mark.
+-- of either loop stands `TurnLoop`: the children that are left make of score and marks what the turn is to give, and
+-- their trees are without a mark.
 use Prim.Native.Nat.{ℕ, _+_, _-_, _<_}
 use native.Mathlib.Omega.{arith}
 use mathlib.Core.Path.{sym, _∙_}

@@ -12,7 +12,8 @@ use Rattle.positions.proofs.fill.Statement.{statement}
 use Rattle.positions.proofs.fill.Tie as tie
 
 abbrev Inv-loop : tie.InvT-loop
-Inv-loop table positions₀ n node₀ next₀ positions node next = Filled table (positionEntry table) positions₀ positions next node
+Inv-loop table positions₀ n node₀ next₀ positions node next =
+    Filled table (positionEntry table) positions₀ positions next node
 
 abbrev μ-loop : tie.MeasureT-loop
 μ-loop table positions₀ n node₀ next₀ positions node next = n - node

@@ -63,7 +63,8 @@ cases =
     ∷ refused "00000000005\n" eight 3 0
     ∷ refused "0000000000005\n" eight 3 0
     ∷ refused "000000000005\n00000000000g\n" eight 3 1
-    -- a lowercase letter; every line is asked 3 before the first is asked 16; the frames are asked after 16, 10 after all
+    -- a lowercase letter; every line is asked 3 before the first is asked 16; the frames are asked after 16, 10 after
+    -- all
     ∷ refused "00000000fFFB\n" eight 16 0
     ∷ refused "00000000FFFb" [] 16 0
     ∷ refused "00000000000f\n00000000000g\n" eight 3 1

@@ -68,7 +68,8 @@ module _ {M : Type 1} (𝓤 : URA M) (H : Heap 𝓤) (A : Atoms 𝓤) (mem : Mem
   abbrev Drive : Contract 𝓤
   Drive = tripleOf 𝓤 H A drive.signature (drive.spec 𝓤 H A mem run)
 
--- κs, qs and a are the lifetimes of table, positions, evaluated and order, the shares of their tokens, and the arguments
+-- κs, qs and a are the lifetimes of table, positions, evaluated and order, the shares of their tokens, and the
+-- arguments
 module _ {M : Type 1} (𝓤 : URA M) (H : Heap 𝓤) (A : Atoms 𝓤) (W : Given 𝓤 H A) (mem : Memory → SProp 𝓤)
     (run : Routine → Fun 𝓤) (κs : Lfts 4) (qs : Shares 4) (a : Args fn.signature κs) where
   abbrev vN : ByValue 𝓤 H A N.the-row

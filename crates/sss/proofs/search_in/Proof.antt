@@ -106,8 +106,8 @@ module _ {M : Type 1} (𝓤 : URA M) (H : Heap 𝓤) (A : Atoms 𝓤) (mem : Mem
   abbrev Finish : Contract 𝓤
   Finish = tripleOf 𝓤 H A finish.signature (finish.spec 𝓤 H A mem run)
 
--- κs, qs and a are the lifetimes of table, positions, front, list, evaluated, certificate and order, the shares of their
--- tokens, and the arguments
+-- κs, qs and a are the lifetimes of table, positions, front, list, evaluated, certificate and order, the shares of
+-- their tokens, and the arguments
 module _ {M : Type 1} (𝓤 : URA M) (H : Heap 𝓤) (A : Atoms 𝓤) (W : Given 𝓤 H A) (mem : Memory → SProp 𝓤)
     (run : Routine → Fun 𝓤) (κs : Lfts 7) (qs : Shares 7) (a : Args fn.signature κs) where
   abbrev vZ : ByValue 𝓤 H A Z.the-row
@@ -307,7 +307,8 @@ module _ {M : Type 1} (𝓤 : URA M) (H : Heap 𝓤) (A : Atoms 𝓤) (W : Given
         ∷ sliceVal (od .ptr) (length (od .now)) ∷ vint w64 allowance ∷ []) Post)
     walk =
         via 𝓤 _ (entry-out 𝓤 H A fn.signature κs qs a at) ∵
-        qed W (‵ tokT ∷ ‵ tokF ∷ ‵ tokW ∷ ‵ tokL ∷ ‵ tokV ∷ ‵ tokC ∷ ‵ tokO ∷ ‵ Table ∷ ‵ (Positions (fm .now)) ∷ ‵ Front
+        qed W (‵ tokT ∷ ‵ tokF ∷ ‵ tokW ∷ ‵ tokL ∷ ‵ tokV ∷ ‵ tokC ∷ ‵ tokO ∷ ‵ Table ∷ ‵ (Positions (fm .now)) ∷ ‵
+        Front
         ∷ ‵ (Entries (ls .now)) ∷ ‵ (Marks (vs .now)) ∷ ‵ (Flags (cs .now)) ∷ ‵ (Order (od .now))
         ∷ ‵ (usize .own allowance (vint w64 allowance ∷ [])) ∷ []) ∵
         enter ! (𝓣 .C) (𝓣 .Λ) code.function _ _ $
@@ -336,8 +337,8 @@ module _ {M : Type 1} (𝓤 : URA M) (H : Heap 𝓤) (A : Atoms 𝓤) (W : Given
         -- checked = start(sizes, table, positions, evaluated)
         reborrows ! (pos 0 2) (pos 0 15) (pos 0 16) (gf .0) (refl, refl, refl) (refl, refl) (refl, refl, refl) $
         reborrows ! (pos 0 5) (pos 0 17) (pos 0 18) (gv .0) (refl, refl, refl) (refl, refl) (refl, refl, refl) $
-        -- [the locals; 72 ‥ 78: the tokens; the table; the positions; the front; the list; the marks; the certificate; the
-        -- order; the allowance]
+        -- [the locals; 72 ‥ 78: the tokens; the table; the positions; the front; the list; the marks; the certificate;
+        -- the order; the allowance]
         move ! (85 ∷ 78 ∷ []) $ opens u16 od (named 6) ! tt $ move ! (85 ∷ 79 ∷ []) $ opens u8 cs (named 5) ! tt $
         move ! (85 ∷ 80 ∷ []) $ opens u8 vs (named 4) ! tt $ move ! (85 ∷ 81 ∷ []) $ opens R ls (named 3) ! tt $
         move ! (84 ∷ 81 ∷ []) $ opens u32 fm (named 1) ! tt $
@@ -356,8 +357,8 @@ module _ {M : Type 1} (𝓤 : URA M) (H : Heap 𝓤) (A : Atoms 𝓤) (W : Given
         -- [tokT; ν₁; ν₂; the last positions; the last marks; the table; two lenders' parts; …]
         move ! (3 ∷ 1 ∷ 7 ∷ []) $ row-back u32 (fm .ptr) ! tt ν₁ δ₁ F (λ eF. move ! (3 ∷ 2 ∷ 5 ∷ []) $
         row-back u8 (vs .ptr) ! tt ν₂ δ₂ ms (λ em.
-        -- [the marks; the positions; tokT; the table; one that is open; the list; two that are open; the certificate and
-        -- the order, each with what is open; the locals; tokW; the front]
+        -- [the marks; the positions; tokT; the table; one that is open; the list; two that are open; the certificate
+        -- and the order, each with what is open; the locals; tokW; the front]
         land ! (from ! (stop !)) (init ! (pos 12 10) refl (vQ .typed checked checked-is .0)) $
         -- begun(checked, allowance)
         move ! (86 ∷ []) $
@@ -432,8 +433,8 @@ module _ {M : Type 1} (𝓤 : URA M) (H : Heap 𝓤) (A : Atoms 𝓤) (W : Given
         shuts u8 vs (named 4) ! tt gv ms″ (em″ ∙ em′ ∙ em) $ move ! (4 ∷ 3 ∷ 5 ∷ []) $
         row-back u8 (cs .ptr) ! tt ν₇ δ₇ ps (λ ep. move ! (0 ∷ 12 ∷ []) $ shuts u8 cs (named 5) ! tt gc ps ep $
         move ! (7 ∷ 12 ∷ []) $ shuts R ls (named 3) ! tt gl es ee $
-        -- [the list; tokL; the certificate; tokC; the marks; tokV; tokT; the order; tokO; the positions; tokF; tokW; the
-        -- last front; the locals]
+        -- [the list; tokL; the certificate; tokC; the marks; tokV; tokT; the order; tokO; the positions; tokF; tokW;
+        -- the last front; the locals]
         land ! (from ! (stop !)) (init ! (pos 13 0) refl (vB .typed r r-is .0)) $ returns ! (look ! (pos 13 0) refl) $
         frees ! 13 (full (full (full (full (full (full (full (full (full (full (full (full (full (full (full (full
         (full (full (full (full (full (full (full (full (full (full (full (full (full (full (full (full (full (full

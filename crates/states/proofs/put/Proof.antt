@@ -4,7 +4,7 @@ use mathlib.Core.Path.{_≡_, refl, _∙_}
 use Prim.Native.Nat.{_-_}
 use lib.ListN.{length, length-set}
 use Rattle.positions.proofs.Runs.{Run, run-begins, run-step, run-ends}
-use Rattle.states.proofs.Stores.{positioned}
+use Rattle.states.proofs.Stores.{put-change}
 use Rattle.states.proofs.put.Statement.{statement}
 use Rattle.states.proofs.put.Tie as tie
 
@@ -43,7 +43,8 @@ returns : tie.Need-returns Inv-loop μ-loop
 returns c =
     let a = c .before .before .before .before .before .before in
     run-ends _ _ _ _ _ _ (c .loop-test .left) (c .before .loop .inv)
-    ∙ positioned (a .args .merit) (a .args .change) (a .args .front .now) _ _ _ (c .before .before .before .packed .ensures)
+    ∙ put-change (a .args .merit) (a .args .change) (a .args .front .now) _ _ _
+    (c .before .before .before .packed .ensures)
     (c .before .before .packed2 .ensures) (omega arith)
 
 pub put-spec : {M : Type 1} → statement M

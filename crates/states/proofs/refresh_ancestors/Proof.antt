@@ -1,4 +1,4 @@
--- `states::refresh-ancestors` meets its contract: what is still to be done stays the same.
+-- `states::refresh_ancestors` meets its contract: what is still to be done stays the same.
 use Prim.Native.Nat.{_-_}
 use native.Mathlib.Omega.{arith}
 use mathlib.Core.Path.{_≡_, refl, sym, _∙_, ap}

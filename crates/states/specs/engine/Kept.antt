@@ -87,7 +87,8 @@ pub record Refreshed : Type 0 where
 unfoldable pub refreshed : ℕ → List ℕ → ℕ → List ℕ → ℕ → Refreshed
 refreshed zero t γ front k = record { front = front; top = k }
 refreshed (suc f) t γ front k =
-    cond (needsRefresh front γ k) (refreshed f t γ (renewed t front (parentOf t k)) (parentOf t k)) (record { front = front; top = k })
+    cond (needsRefresh front γ k) (refreshed f t γ (renewed t front (parentOf t k)) (parentOf t k))
+    (record { front = front; top = k })
 
 -- from node k down by the links; the first number bounds the steps
 unfoldable pub descended : ℕ → List ℕ → ℕ → ℕ
@@ -96,7 +97,8 @@ descended (suc f) front k = cond (eqb (linkAt front k) 0) k (descended f front (
 
 -- the front and the list after a change: the node goes down to the first of the new states
 abbrev pub changed : ℕ → Change → List ℕ → List ℕ
-changed γ c front = stored (λ k. packedEntry (c .score) 0) (c .first) (c .count) (set front (c .node) (packedEntry γ (c .first)))
+changed γ c front = stored (λ k. packedEntry (c .score) 0) (c .first) (c .count)
+    (set front (c .node) (packedEntry γ (c .first)))
 
 abbrev pub changedList : Change → List State → List State
 changedList c ls = stored (λ k. entry k (c .status) (c .score)) (c .first) (c .count) ls

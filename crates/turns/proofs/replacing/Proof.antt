@@ -23,8 +23,10 @@ descend-requires c κs =
     let p = c12 .pre in
     let e = c7 .put .ensures in
     let f = c .before .before .before .refresh-ancestors .ensures in
-    let k = refreshed-keeps _ (p .fits .formed) _ _ _ _ (changed-sound _ _ _ _ _ p) (p .here .node) in
-    (record { formed = p .fits .formed; positions = p .fits .positions; sound = rw (f .1, e) (k .0) }, rw (f .0, e) (k .1))
+    let k = refreshed-keeps _ (p .fits .formed) _ _ _ _ (changed-sound _ _ _ _ _ p) (p .here .node) in (
+      record { formed = p .fits .formed; positions = p .fits .positions; sound = rw (f .1, e) (k .0) },
+      rw (f .0, e) (k .1),
+    )
 
 of-change-requires : tie.Need-of-change-requires
 of-change-requires c κs = search needs
@@ -38,7 +40,8 @@ returns c =
     let c9 = c5 .before .before .before .before in
     let c14 = c9 .before .before .before .before .before in
     let a = c14 .args in
-    replaced-by (a .table .now) (a .front .now) (a .change) _ _ _ _ _ _ _ (c9 .put .ensures) (c5 .refresh-ancestors .ensures .0)
+    replaced-by (a .table .now) (a .front .now) (a .change) _ _ _ _ _ _ _ (c9 .put .ensures)
+    (c5 .refresh-ancestors .ensures .0)
     (c5 .refresh-ancestors .ensures .1) (c .before .descend .ensures) (c .of-change .ensures)
 
 pub replacing-spec : {M : Type 1} → statement M

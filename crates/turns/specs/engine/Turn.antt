@@ -99,7 +99,8 @@ stepped t front marks order r e =
 abbrev pub taken : (t front marks order : List ℕ) → Run → State → TurnTaken
 taken t front marks order r e =
     cond (isSolvedRoot (e .status) (e .node)) (stopped t front marks order r (Finished (scoreOf (e .merit))))
-    (cond (isUncovered t e (r .counts)) (stopped t front marks order r (Spent (scoreOf (e .merit)))) (stepped t front marks order r e))
+    (cond (isUncovered t e (r .counts)) (stopped t front marks order r (Spent (scoreOf (e .merit))))
+    (stepped t front marks order r e))
 
 -- the front, the list of states, the marks, the list of leaves and the run between two turns
 pub record Config : Type 0 where
