@@ -84,8 +84,8 @@ takes.
         "\
 usage: buulset order METHOD FILE [--quiet]
 
-The evaluated leaves in the order in which METHOD, ab, mtd, mtdf:N or sss, evaluates them: a line each, with the node's number
-and the leaf's worth.
+The evaluated leaves in the order in which METHOD, ab, mtd, mtdf:N or sss, evaluates them: a line each, with the node's
+number and the leaf's worth.
 
   buulset order sss samples/seven.tree
 ",
