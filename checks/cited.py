@@ -10,15 +10,17 @@ import sys
 
 ROOT = os.path.dirname(os.path.dirname(os.path.abspath(__file__)))
 DOCUMENTS = ("README.md", "CONTRIBUTING.md", "docs/SPEC.md", "docs/THEOREMS.md", "docs/DECISIONS.md",
-             "docs/RELEASE_NOTE.md", "docs/COSTS.md", "docs/COMMAND.md", "checks/README.md")
+             "docs/RELEASE_NOTE.md", "docs/COSTS.md", "docs/COMMAND.md", "checks/README.md", "bindings/README.md")
 # where a path in a document may begin
 ROOTS = ("", "crates", "checks", "docs", "samples", "docs/changes")
 PATH = re.compile(r"[\w.+-]+(?:/[\w.+*-]+)+/?|[\w-]+\.(?:antt|rt|py|sh|md|c|h|tree)")
 # what stands for any name, and what is no file of the tree
-ANY = re.compile(r".*NAME.*|target.*|rattle-kit.*|.*\*.*")
+ANY = re.compile(r".*NAME.*|target.*|rattle-kit.*|x86_64-.*|.*\*.*")
 EDIT = re.compile(r"([a-z_0-9]+)/([a-z_0-9]+)")
 CALL = re.compile(r"([a-z_0-9]+)::(?:([\w]+)::)*(?:([\w]+)|\{([^}]*)\})(?:\(.*\))?")
 THEOREM = re.compile(r"[a-z0-9][\w′-]*-[\w′-]+")
+# definitions, types and functions, but no constant
+NAME = re.compile(r"[a-z]\w*[A-Z_]\w*|[A-Z][a-z]\w*")
 # names that are cited with their file
 NAMES = r"(?:`[^`\n]+`(?:, | and )?)+"
 IN_FILE = re.compile(r"(%s) in `([^`\n]+\.(?:antt|rt))`" % NAMES)
@@ -57,9 +59,16 @@ def there(path):
     return any(("/" + known).endswith("/" + path) or "/%s/" % path in known for known in PATHS)
 
 
+def prose(document):
+    """A document's text, each paragraph on one line, without code: fenced, or a paragraph indented by four spaces."""
+    text = re.sub(r"^```[\s\S]*?^```$", "", read(document), flags=re.M)
+    paragraphs = (p.split("\n") for p in re.split(r"\n\s*\n", text))
+    return "\n".join(" ".join(map(str.strip, p)) for p in paragraphs if not all(l.startswith("    ") for l in p))
+
+
 def misplaced(document):
     """The names of a document that do not stand in the file that they are cited with."""
-    text = read(document)
+    text = prose(document)
     cited = [(m[2], m[1]) for m in IN_FILE.finditer(text)] + [(m[1], m[2]) for m in OF_FILE.finditer(text)]
     for path, words in cited:
         held = [p for p in PATHS if ("/" + p).endswith("/" + path)]
@@ -70,14 +79,13 @@ def misplaced(document):
 
 def misses(document, names):
     """The words in code type of a document that name nothing."""
-    text = re.sub(r"^( {4}.*|```[\s\S]*?```)$", "", read(document), flags=re.M)
-    for word in re.findall(r"`([^`\n]+)`", text):
+    for word in re.findall(r"`([^`\n]+)`", prose(document)):
         if ANY.fullmatch(word):
             continue
         if PATH.fullmatch(word):
             if not there(word):
                 yield word
-        elif THEOREM.fullmatch(word) and word not in names:
+        elif (THEOREM.fullmatch(word) or NAME.fullmatch(word)) and word not in names:
             yield word
         else:
             call = CALL.fullmatch(word)
