@@ -7,8 +7,9 @@
 A cell of a table is the cost of the call in Rattle, then how many times that of the call in C; `lean` is the report
 against one in C that does no more work than the report needs (lean.c). Instructions are counted by valgrind's
 callgrind, for each call alone. Times are of the processor, the least of many calls of both sides in turn; this is done
-some times over, and a cell has the median and the range of the ratios. The crates' calls are taken from a static library that `rt staticlib` proves and compiles (library.py); the C
-calls are in baseline.c. Both sides must give the same answers and buffers. Needs the kit, gcc and valgrind.
+some times over, and a cell has the median and the range of the ratios. The crates' calls are taken from a static
+library that `rt staticlib` proves and compiles (library.py); the C calls are in baseline.c. Both sides must give the
+same answers and buffers. Needs the kit, gcc and valgrind.
 """
 import argparse
 import glob
@@ -25,7 +26,8 @@ from library import CHECKS, ROOT, WORK, read, run
 
 PROGRAM = os.path.join(ROOT, "target", "bin", "analyse")
 BENCH, BASELINE = os.path.join(WORK, "bench"), os.path.join(WORK, "baseline")
-CALLS = ("read", "write", "convert", "check", "alphabeta", "plain", "mtd", "mtdf", "sss", "verify", "graft", "needed", "fill",
+CALLS = ("read", "write", "convert", "check", "alphabeta", "plain", "mtd", "mtdf", "sss", "verify", "graft", "needed",
+         "fill",
          "report", "lean")
 
 # How often the times are taken.

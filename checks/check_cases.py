@@ -80,7 +80,8 @@ def differing(program, todo):
     got = subprocess.run([program], stdin=directory, capture_output=True, timeout=60)
     if got.stdout or not got.stderr:
         bad += 1
-        print("DIFFERS %s, a directory for input: got %r, want a line on standard error and nothing else" % (program, got))
+        print("DIFFERS %s, a directory for input: got %r, want a line on standard error and nothing else" % (program,
+                                                                                                             got))
     print("%s: %d files, %d differ" % (os.path.basename(program), len(todo) + 1, bad))
     return bad
 

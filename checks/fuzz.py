@@ -4,13 +4,16 @@
     fuzz.py PROGRAM [--good N] [--damaged N] [--large N] [--every] [--seed S] [--keep DIR] [--detail] [--lean]
             [--capitals]
 
-Good files: random shapes, widths and depths to the limits, second captures, ties, extremes. Damaged files: every kind below.
-Large files: 4,096 nodes, whole and damaged. A few are fed in pieces, with pauses, and a few from a file.
-Limits: files of 53,247 to 53,250 bytes and around the size of the program's buffer, always. With --every also each change of one
-byte of a small file: cut there, lost, put in, or another byte. A question from 1 to 9 or 16 that no file got a "no" to is an error.
+Good files: random shapes, widths and depths to the limits, second captures, ties, extremes.
+Damaged files: every kind below. Large files: 4,096 nodes, whole and damaged.
+A few are fed in pieces, with pauses, and a few from a file.
+Limits: files of 53,247 to 53,250 bytes and around the size of the program's buffer, always. With --every also each
+change of one byte of a small file: cut there, lost, put in, or another byte. A question from 1 to 9 or 16 that no file
+got a "no" to is an error.
 The program's output, its standard error (must be empty) and its exit status (must be 0) are compared.
 With --capitals the program is `capitals`; what it wrote is given to it again, and must not change.
-With --detail (for baseline.c) the program gets the word -d and has to print leaves in order, marks, flags, passes and replacements too, those of SSS* twice.
+With --detail (for baseline.c) the program gets the word -d and has to print leaves in order, marks, flags, passes and
+replacements too, those of SSS* twice.
 With --lean it gets the word -s, for the report of lean.c.
 Files that differ are kept in DIR (default target/checks); the exit status is 1 if there is one.
 """
@@ -166,7 +169,8 @@ def blank_line(rng, f):
 
 
 def wrapped(rng, f):
-    return rng.choice((f + b"\n", b"\n" + f, b"\xef\xbb\xbf" + f, f + b"\0", f + b"\x1a", b"0x" + f, f.replace(b"\n", b"\r"),
+    return rng.choice((f + b"\n", b"\n" + f, b"\xef\xbb\xbf" + f, f + b"\0", f + b"\x1a", b"0x" + f,
+                       f.replace(b"\n", b"\r"),
                        f.replace(b"\n", b"\n\n"), f.replace(b"\n", b" "), f.replace(b"\n", b""), f + f))
 
 
@@ -252,7 +256,8 @@ def limits():
         yield "%d zero bytes" % size, bytes(size)
         if size > len(whole):
             yield "a tree and more, %d bytes" % size, whole + (b"000000000005\n" * 6000)[:size - len(whole)]
-    for width, inner in ((40, 1), (41, 1), (40, 102), (1, o.MAX_DEPTH), (1, o.MAX_DEPTH + 1), (2, 2047), (255, 1), (256, 1)):
+    for width, inner in ((40, 1), (41, 1), (40, 102), (1, o.MAX_DEPTH), (1, o.MAX_DEPTH + 1), (2, 2047), (255, 1),
+                         (256, 1)):
         yield "regular %d %d" % (width, inner), o.file_of(o.regular(width, inner, lambda k: k))
 
 

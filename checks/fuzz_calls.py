@@ -1,7 +1,8 @@
 #!/usr/bin/env python3
-"""Runs a compiled `cases` on generated calls over lent memory and compares with oracle.py: marks, certificates, lists of leaves, passes,
-replacements, allowances, starting values, verdicts on right and on damaged flags, short buffers, parts of tables, written files, grafts, values for a
-wanted root value, dearest fillings, least counts, lines and children.
+"""Runs a compiled `cases` on generated calls over lent memory and compares with oracle.py: marks, certificates, lists
+of leaves, passes, replacements, allowances, starting values, verdicts on right and on damaged flags, short buffers,
+parts of tables, written files, grafts, values for a wanted root value, dearest fillings, least counts, lines and
+children.
 
     fuzz_calls.py PROGRAM [--runs N] [--seed S]     N inputs of up to 65,000 bytes each (default 40)
 """
@@ -37,7 +38,8 @@ def damaged_flags(rng, table):
 
 
 def graft_of(rng, first, second):
-    """A node to graft at, mostly a leaf where Max would move; a buffer's length; and the lengths of both tables, mostly whole."""
+    """A node to graft at, mostly a leaf where Max would move; a buffer's length; and the lengths of both tables, mostly
+    whole."""
     tree, most = o.Tree(first), len(first) + len(second) - 6
     fit = [k for k in tree.leaves() if tree.is_max[k]]
     node = rng.choice(fit) if fit and rng.random() < 0.8 else rng.choice((rng.randrange(tree.n), tree.n, 9999999))
@@ -49,7 +51,8 @@ def wanted_of(rng, table):
     """A node, mostly a leaf, and a wanted value: near the root's, near a border or a limit, or any."""
     tree = o.Tree(table)
     node = rng.choice(tree.leaves()) if rng.random() < 0.9 else rng.choice((rng.randrange(tree.n), tree.n, 9999999))
-    about = rng.choice((tree.minimax()[0],) * 3 + (0, o.WIN, -o.WIN, o.MAX_VALUE, -o.MAX_VALUE, rng.randint(-33000, 33000)))
+    about = rng.choice((tree.minimax()[0],) * 3 + (0, o.WIN, -o.WIN, o.MAX_VALUE, -o.MAX_VALUE,
+                                                   rng.randint(-33000, 33000)))
     return node, about + rng.choice((0, 0, rng.randint(-2, 2), rng.randint(-20, 20)))
 
 
@@ -70,7 +73,8 @@ def call(rng):
     if kind == 5:
         size = rng.choice((6 * n, 6 * n - 1, 6 * n + 1, 6 * n + 6, 6 * rng.randrange(n + 1), rng.randrange(400), 24582))
         part = (table + bytes(m.TABLE_SIZE - len(table)))[:size]
-        return file, "check %d" % size, "check %s\n" % m.answered(o.check_table(part)) + m.verdict(part, b"") + m.searches(part, 0, 0, 0)
+        checked = "check %s\n" % m.answered(o.check_table(part))
+        return file, "check %d" % size, checked + m.verdict(part, b"") + m.searches(part, 0, 0, 0)
     if kind == 6:
         size = rng.choice((6 * n, 6 * n - 1, 6 * n + 5, rng.randrange(6 * n + 1)))
         lent = bytearray((m.FILLED,) * size)
@@ -88,7 +92,8 @@ def call(rng):
         second = bytes(fuzz.good_table(rng, rng.choice((2, 7, 30))))
         node, room, sizes = graft_of(rng, table, second)
         parts = [(t + bytes(m.TABLE_SIZE - len(t)))[:size] for t, size in zip((table, second), sizes)]
-        return file + o.file_of(second), "graft %d %d %d %d %d" % (n, node, room, *sizes), m.grafted(parts[0], node, parts[1], room)
+        return file + o.file_of(second), "graft %d %d %d %d %d" % (n, node, room, *sizes), m.grafted(parts[0], node,
+                                                                                                     parts[1], room)
     if kind == 10:
         size = rng.choice((6 * n,) * 12 + (6 * n - 1, 6 * n + 6, rng.randrange(6 * n + 1)))
         node, wanted = wanted_of(rng, table)
@@ -105,7 +110,8 @@ def call(rng):
         start = wanted_of(rng, table)[1]
         return file, "start" + m.numbers((*m.difference(start), *sizes)), m.started(table, start, *sizes)
     if rng.random() < 0.5:
-        file, at = rng.choice((file, file[:-1], fuzz.other_byte(rng, file))), rng.choice((13 * rng.randrange(n + 1), rng.randrange(13 * n + 3)))
+        file, at = rng.choice((file, file[:-1], fuzz.other_byte(rng, file))), rng.choice((13 * rng.randrange(n + 1),
+                                                                                          rng.randrange(13 * n + 3)))
         if set(b"#@") & set(file):
             return call(rng)
         got, moved = o.read_line(file, at)
@@ -141,7 +147,8 @@ def main():
             parts = got.stdout[len(made):].split(b"# ")[1:]
             wrong = next((i for i, w in enumerate(want) if i >= len(parts) or b"# " + parts[i] != w), None)
             if wrong is not None:
-                print("DIFFERS %r\ngot  %r\nwant %r" % (given[wrong], parts[wrong] if wrong < len(parts) else None, want[wrong]))
+                print("DIFFERS %r\ngot  %r\nwant %r" % (given[wrong], parts[wrong] if wrong < len(parts) else None,
+                                                        want[wrong]))
     print("%d runs, %d differ; calls: %s" % (args.runs, bad, ", ".join("%s %d" % k for k in sorted(kinds.items()))))
     sys.exit(1 if bad else 0)
 

@@ -44,7 +44,8 @@ def libraries():
 
 
 def lend(data):
-    """The bytes, or the numbers of an array, with guards on both sides, and the words of an argument; a number is its own word."""
+    """The bytes, or the numbers of an array, with guards on both sides, and the words of an argument; a number is its
+    own word."""
     if isinstance(data, int):
         return bytearray((FILLED,) * 2 * GUARD), (ctypes.c_size_t(data),)
     room = bytearray((FILLED,) * GUARD) + bytes(data) + bytearray((FILLED,) * GUARD)
@@ -190,7 +191,8 @@ def dearest(table):
 def random_graft(rng, table):
     """The table, good or damaged, and a second one: itself, a large or a small one, now and then damaged."""
     kind = rng.randrange(20)
-    second = table if kind == 0 else fuzz.large_table(rng) if kind == 1 else fuzz.good_table(rng, rng.choice((2, 7, 20, 60)))
+    second = table if kind == 0 else fuzz.large_table(rng) if kind == 1 else fuzz.good_table(rng,
+                                                                                             rng.choice((2, 7, 20, 60)))
     node, room = (0, 60) if o.table_no(table) else fuzz_calls.graft_of(rng, table, second)[:2]
     if kind == 2:
         rng.choice(fuzz.TABLE_DAMAGE)(rng, second)
@@ -217,8 +219,8 @@ SECOND = o.table_of_nest([(30990, 31000), 7])
 
 
 def small_trees():
-    """Every tree of up to 6 nodes with every set of second captures, with leaves 0, 1, 2, and with leaves around the border of a win;
-    of those of up to 4 nodes, grafts and a wanted value at each node."""
+    """Every tree of up to 6 nodes with every set of second captures, with leaves 0, 1, 2, and with leaves around the
+    border of a win; of those of up to 4 nodes, grafts and a wanted value at each node."""
     for table in selfcheck.small_tables(6):
         n = len(table) // 6
         yield from searches(table, n, n, n)
@@ -288,7 +290,8 @@ def main():
     parser.add_argument("--seed", type=int, default=1)
     args = parser.parse_args()
     sides, rng, asked, bad = libraries(), random.Random(args.seed), Counter(), 0
-    todo = itertools.chain(least_counts(), small_trees(), itertools.chain.from_iterable(random_calls(rng) for _ in range(args.count)))
+    todo = itertools.chain(least_counts(), small_trees(),
+                           itertools.chain.from_iterable(random_calls(rng) for _ in range(args.count)))
     for name, lent, answer, left in todo:
         asked[name] += 1
         want = answer, [bytes(data) for data in left]

@@ -1,8 +1,8 @@
 #!/usr/bin/env python3
 """Writes the input of the program `cases` and the output that it must give: crates/cases/stdin and crates/cases/stdout.
 
-Expected results come from 01, from table 2 in 002 (papers.py), or from oracle.py, never from the Rattle code. What a paper gives is
-compared with the oracle. README.md has the form of the input.
+Expected results come from 01, from table 2 in 002 (papers.py), or from oracle.py, never from the Rattle code. What a
+paper gives is compared with the oracle. README.md has the form of the input.
 
     make_cases.py [DIRECTORY]   (default: crates/cases)
 """
@@ -33,7 +33,8 @@ def add(title, file, call, want):
 
 
 def file_case(title, file, refused=None, rows=None, made_by_program=False):
-    """What the program prints for a file: refused = (number, place) or rows = [(method, value, move, leaves)] where a paper says so."""
+    """What the program prints for a file: refused = (number, place) or rows = [(method, value, move, leaves)] where a
+    paper says so."""
     global made
     got = o.report(file).decode()
     if refused:
@@ -71,7 +72,8 @@ def chain(plies, nest):
 
 
 def tuple_chain(plies, nest):
-    """A root and so many nodes below it, one under the other, where its side moves again; the last of them is `nest`."""
+    """A root and so many nodes below it, one under the other, where its side moves again; the last of them is
+    `nest`."""
     for _ in range(plies - 1):
         nest = (nest,)
     return [nest]
@@ -80,8 +82,10 @@ def tuple_chain(plies, nest):
 def made_trees():
     """01, "Also run": what the limits let pass and what they stop."""
     depth = o.MAX_DEPTH
-    for title, width, inner, refused in (("40 children", 40, 1, None), ("41 children", 41, 1, (5, 0)), ("depth %d" % depth, 1, depth, None),
-                                         ("depth %d" % (depth + 1), 1, depth + 1, (9, depth + 1)), ("4096 frames", 15, 273, None),
+    for title, width, inner, refused in (("40 children", 40, 1, None), ("41 children", 41, 1, (5, 0)),
+                                         ("depth %d" % depth, 1, depth, None),
+                                         ("depth %d" % (depth + 1), 1, depth + 1, (9, depth + 1)),
+                                         ("4096 frames", 15, 273, None),
                                          ("4097 frames", 16, 256, (2, 0))):
         file_case(title, o.file_of(o.regular(width, inner, lambda k: k)), refused=refused, made_by_program=True)
 
@@ -140,7 +144,8 @@ def rejected_files():
             (3, 0, "two lines without a line feed between", ROW.replace(b"\n", b"", 1)),
             (3, 6, "bad line before a bad node", lines({0: "000102010000", 6: "0000"})),
             (3, 6, "cut off in the last line", ROW[:-3]),
-            (3, 5, "a small letter in line 0, a g in line 5", lines({0: "000102000000".replace("1", "a"), 5: "00000000000g"})),
+            (3, 5, "a small letter in line 0, a g in line 5",
+             lines({0: "000102000000".replace("1", "a"), 5: "00000000000g"})),
             (16, 0, "small letters", tree_file(-5).lower()),
             (16, 0, "both letter cases in one line", b"00000000fFfB\n"),
             (16, 6, "a small letter in the last line, which is not closed", lines({6: "00000000000f"})[:-1]),
@@ -165,7 +170,8 @@ def rejected_files():
             (8, 2, "two leaves and no root above them", b"000000000005\n000000000005\n"),
             (8, 6, "last line missing", lines(drop=(6,))),
             (8, 8, "a leaf too many", ROW + b"000000000005\n"),
-            (9, o.MAX_DEPTH + 3, "depth %d beside shallow leaves" % (o.MAX_DEPTH + 1), tree_file([1, 2, chain(o.MAX_DEPTH, 5)]))):
+            (9, o.MAX_DEPTH + 3, "depth %d beside shallow leaves" % (o.MAX_DEPTH + 1),
+             tree_file([1, 2, chain(o.MAX_DEPTH, 5)]))):
         file_case(title, file, refused=(number, place))
 
 
@@ -219,7 +225,8 @@ def second_captures():
             ("Max 18 times, leaves at depth 18", tuple_chain(17, (3, 8)), all_three(8, 1, 2)),
             ("Max twice, Min, Min twice", [([4, (6, 2)], 1), [(5, 7), 3]], all_three(3, 2, 7)),
             ("a win after a second capture", [(31000, 5), 31000], all_three(30999, 2, 3)),
-            ("the row 1 2 3 4 below a second capture", [([1, 2], [3, 4])], [("ab", 3, 1, 4), ("mtd", 3, 1, 3), ("sss", 3, 1, 3)]),
+            ("the row 1 2 3 4 below a second capture", [([1, 2], [3, 4])],
+             [("ab", 3, 1, 4), ("mtd", 3, 1, 3), ("sss", 3, 1, 3)]),
             ("chains of both sides", MIXED, [("ab", 2, 2, 7), ("mtd", 2, 2, 4), ("sss", 2, 2, 4)])):
         file_case(title, tree_file(nest), rows=rows)
 
@@ -261,14 +268,16 @@ def lend(marks, flags, entries):
 
 def left(table, marks, proof, order):
     """What a search leaves in its buffers and its list, and the verdict on the certificate."""
-    return "evaluated%s\ncertificate%s\norder%s\n" % (numbers(marks), numbers(proof), numbers(order)) + verdict(table, proof)
+    lent = "evaluated%s\ncertificate%s\norder%s\n" % (numbers(marks), numbers(proof), numbers(order))
+    return lent + verdict(table, proof)
 
 
 def searches(table, marks, flags, entries):
-    """The three searches and the plain engine with filled buffers and lists of these lengths: results, what they leave, and the verdict.
-    The plain engine gives no count and fills no list."""
+    """The three searches and the plain engine with filled buffers and lists of these lengths: results, what they leave,
+    and the verdict. The plain engine gives no count and fills no list."""
     text = ""
-    for name, call in (("ab", o.alpha_beta), ("mtd", o.mtd_search), ("sss", lambda t, *memory: o.sss_search(t, None, *memory)),
+    for name, call in (("ab", o.alpha_beta), ("mtd", o.mtd_search),
+                       ("sss", lambda t, *memory: o.sss_search(t, None, *memory)),
                        ("plain", lambda t, m, p, _: o.plain_search(t, m, p))):
         memory = lend(marks, flags, 0 if name == "plain" else entries)
         r = call(table, *memory)
@@ -308,8 +317,10 @@ def start_cases():
     for title, file, start, want in (
             ("the first row from its value", ROW, 3, "3 2 3 1"), ("the first row from above", ROW, 32001, "3 2 3 2"),
             ("the first row from below", ROW, -32001, "3 2 4 2"), ("far above", ROW, 999999, "3 2 3 2"),
-            ("a lone leaf", LEAF, 0, "5 0 1 1"), ("a low spares a leaf, and the last phase finds the first move", tree_file([[1, 1], 1]), 32001, "1 1 3 1"),
-            ("the same from the value", tree_file([[1, 1], 1]), 1, "1 1 3 2"), ("a win counts by its worth", tree_file([31000]), 30999, "30999 1 1 1")):
+            ("a lone leaf", LEAF, 0, "5 0 1 1"),
+            ("a low spares a leaf, and the last phase finds the first move", tree_file([[1, 1], 1]), 32001, "1 1 3 1"),
+            ("the same from the value", tree_file([[1, 1], 1]), 1, "1 1 3 2"),
+            ("a win counts by its worth", tree_file([31000]), 30999, "30999 1 1 1")):
         table = table_of_file(file)
         n = len(table) // 6
         got = started(table, start, n, n, n)
@@ -381,7 +392,8 @@ def choice_cases():
         flags = [bytes(int(x) for x in f.split()) for f in (first, second)]
         got = choice(table_of_file(file), *flags)
         assert got.startswith("shorter %s\n" % want), (title, got)
-        add("choice: " + title, file, ("pair %d%s%s" % (len(flags[0]), numbers(flags[0]), numbers(flags[1]))).strip(), got)
+        add("choice: " + title, file, ("pair %d%s%s" % (len(flags[0]), numbers(flags[0]), numbers(flags[1]))).strip(),
+            got)
 
 
 def buffer_cases():
@@ -393,7 +405,8 @@ def buffer_cases():
     got = searches(table_of_file(TWO_DEPTHS), 5, 5, 5)
     assert "mtd 30997 1 2 3\n" in got                                                    # 02, N5: three passes
     add("marks and certificates: a win at two depths", TWO_DEPTHS, "buffers 5 5 5", got)
-    for marks, flags, entries in ((7, 7, 7), (10, 10, 10), (6, 7, 7), (7, 6, 7), (0, 10, 10), (10, 0, 10), (0, 0, 0), (7, 7, 6), (7, 7, 4),
+    for marks, flags, entries in ((7, 7, 7), (10, 10, 10), (6, 7, 7), (7, 6, 7), (0, 10, 10), (10, 0, 10), (0, 0, 0),
+                                  (7, 7, 6), (7, 7, 4),
                                   (10, 10, 0), (7, 7, 9)):
         want = searches(row, marks, flags, entries)
         refused = 4 if min(marks, flags) < 7 else 3 if entries < 7 else 0               # the plain engine has no list
@@ -401,21 +414,27 @@ def buffer_cases():
         add("buffers of %d and %d bytes and %d entries for 7 nodes" % (marks, flags, entries), ROW,
             "buffers %d %d %d" % (marks, flags, entries), want)
     for title, nest in (("2 3 1 4", [[2, 3], [1, 4]]), ("2 3 4 1", [[2, 3], [4, 1]]), ("4 1 2 3", [[4, 1], [2, 3]]),
-                        ("2 5 2 1", [[2, 5], [2, 1]]), ("7 7 7 7", [[7, 7], [7, 7]]), ("7 1 / 7", [[7, 1], [7]]), ("leaf -5", -5),
-                        ("single leaf 9", [9]), ("three plies", [[[1, 2], [3, 4]], 5]), ("negative values", [[-1, -9, 4], [-2], -8]),
+                        ("2 5 2 1", [[2, 5], [2, 1]]), ("7 7 7 7", [[7, 7], [7, 7]]), ("7 1 / 7", [[7, 1], [7]]),
+                        ("leaf -5", -5),
+                        ("single leaf 9", [9]), ("three plies", [[[1, 2], [3, 4]], 5]),
+                        ("negative values", [[-1, -9, 4], [-2], -8]),
                         ("a chain", chain(6, 32000)), ("Max twice", TWICE), ("Max five times", FIVE_TIMES),
                         ("chains of both sides", MIXED)):
         file = tree_file(nest)
         room = max(10, len(file) // 13)
-        add("marks and certificates: " + title, file, "buffers %d %d %d" % (room, room, room), searches(table_of_file(file), room, room, room))
+        add("marks and certificates: " + title, file, "buffers %d %d %d" % (room, room, room),
+            searches(table_of_file(file), room, room, room))
 
 
 def order_cases():
-    """02, N14: the leaves of alpha-beta from left to right, those of MTD and SSS* in one other order, worked out by hand; the list is one
-    entry longer than the nodes. Numbers are given breadth-first, so that left to right is not by number where leaves lie at two depths."""
+    """02, N14: the leaves of alpha-beta from left to right, those of MTD and SSS* in one other order, worked out by
+    hand; the list is one entry longer than the nodes. Numbers are given breadth-first, so that left to right is not by
+    number where leaves lie at two depths."""
     for title, nest, ab, others in (
-            ("the first row", [[1, 2], [3, 4]], "3 4 5 6", "3 5 6"), ("a leaf is passed over first", [[4, 1], [2, 3]], "3 4 5 6", "3 5 4 6"),
-            ("a leaf at depth 3 comes first", [[[1]], [2, 3]], "6 4 5", "6 4 5"), ("leaves at three depths", [[[2]], [1, 3], 4], "7 5 3", "7 5 3"),
+            ("the first row", [[1, 2], [3, 4]], "3 4 5 6", "3 5 6"),
+            ("a leaf is passed over first", [[4, 1], [2, 3]], "3 4 5 6", "3 5 4 6"),
+            ("a leaf at depth 3 comes first", [[[1]], [2, 3]], "6 4 5", "6 4 5"),
+            ("leaves at three depths", [[[2]], [1, 3], 4], "7 5 3", "7 5 3"),
             ("a leaf between deeper ones", [[3, 1], 2, [[4, 5]]], "4 5 2 7 8", "4 2 7 8")):
         table, n = o.table_of_nest(nest), len(tree_file(nest)) // 13
         got = searches(table, n, n, n + 1)
@@ -427,7 +446,8 @@ def order_cases():
 
 def allowance_cases():
     """01's small trees at every allowance from 0 to what the full run needs; those of the plan, worked out by hand."""
-    by_hand = {("1 2 3 4", 0): "spent 32001 0 2", ("1 2 3 4", 1): "spent 32001 1 4", ("1 2 3 4", 2): "spent 3 2 6", ("1 2 3 4", 3): "3 2 3 9",
+    by_hand = {("1 2 3 4", 0): "spent 32001 0 2", ("1 2 3 4", 1): "spent 32001 1 4", ("1 2 3 4", 2): "spent 3 2 6",
+               ("1 2 3 4", 3): "3 2 3 9",
                ("2 3 4 1", 2): "spent 4 2 6", ("2 3 4 1", 3): "spent 2 3 8", ("leaf -5", 0): "spent 32001 0 0"}
     trees = [("%d %d %d %d" % tuple(leaves), [leaves[:2], leaves[2:]]) for leaves, _ in papers.rows(papers.SMALL_TREES)]
     for name, nest in trees + [("leaf -5", -5), ("single leaf 9", [9])]:
@@ -437,13 +457,16 @@ def allowance_cases():
         for allowance in range(len(o.sss(o.Tree(table))[1]) + 1):
             want = allowed(table, allowance, n + 1, n + 1, n + 1)
             assert "sss %s\n" % by_hand.pop((name, allowance), "") in want + "sss \n", (name, allowance, want)
-            add("allowance of %d: %s" % (allowance, name), file, "allowance %d %d %d %d" % (allowance, n + 1, n + 1, n + 1), want)
+            add("allowance of %d: %s" % (allowance, name), file,
+                "allowance %d %d %d %d" % (allowance, n + 1, n + 1, n + 1), want)
     assert not by_hand
     table = table_of_file(ROW)
-    for allowance, order in ((0, ""), (1, " 3"), (2, " 3 5"), (3, " 3 5 6")):       # 02, N14: the first leaves of the full run's list
+    # 02, N14: the first leaves of the full run's list
+    for allowance, order in ((0, ""), (1, " 3"), (2, " 3 5"), (3, " 3 5 6")):
         rest = " %d" % UNLISTED * (9 - len(order.split()))
         assert "\norder%s%s\n" % (order, rest) in allowed(table, allowance, 7, 7, 9)
-    for allowance, marks, flags, entries in ((0, 6, 7, 7), (0, 7, 6, 7), (0, 0, 0, 0), (2, 7, 6, 7), (2, 7, 7, 6), (0, 7, 7, 4)):
+    for allowance, marks, flags, entries in ((0, 6, 7, 7), (0, 7, 6, 7), (0, 0, 0, 0), (2, 7, 6, 7), (2, 7, 7, 6),
+                                             (0, 7, 7, 4)):
         want = allowed(table, allowance, marks, flags, entries)
         assert want.startswith("sss refused 10 0\n")
         add("allowance of %d, buffers of %d and %d bytes, %d entries" % (allowance, marks, flags, entries), ROW,
@@ -470,7 +493,8 @@ def table_cases():
 def reader_cases():
     """Question 10 of the reader: six bytes per line; after a "no" the table is as it was."""
     for title, size, file, want in (("table of 41 bytes", 41, ROW, "refused 10 0"), ("table of 42 bytes", 42, ROW, "7"),
-                                    ("longer table keeps its rest", 48, ROW, "7"), ("no table", 0, LEAF, "refused 10 0"),
+                                    ("longer table keeps its rest", 48, ROW, "7"),
+                                    ("no table", 0, LEAF, "refused 10 0"),
                                     ("no table, byte 3 wrong", 0, b"000000010005\n", "refused 4 0"),
                                     ("no table, small letters", 0, b"00000000fffb\n", "refused 16 0"),
                                     ("no table, no file", 0, b"", "refused 1 0")):
@@ -481,7 +505,8 @@ def reader_cases():
 
 
 def written(table, room):
-    """The writer with so many bytes of a filled buffer; and the reader on what it wrote, with a table as long as the first."""
+    """The writer with so many bytes of a filled buffer; and the reader on what it wrote, with a table as long as the
+    first."""
     lent = bytearray((FILLED,) * room)
     got = o.write_file(table, lent)
     text = "write %s\nfile%s\n" % (answered(got), numbers(lent))
@@ -496,11 +521,14 @@ def written(table, room):
 
 def writer_cases():
     """Questions 1 to 10 of the writer; what it writes is read back."""
-    for title, file, room, size, want in (("a leaf in 13 bytes", LEAF, 13, 6, "13"), ("a leaf in 12 bytes", LEAF, 12, 6, "refused 10 0"),
+    for title, file, room, size, want in (("a leaf in 13 bytes", LEAF, 13, 6, "13"),
+                                          ("a leaf in 12 bytes", LEAF, 12, 6, "refused 10 0"),
                                           ("letters are capitals", tree_file(-5), 13, 6, "13"),
                                           ("a missing line feed is supplied", ROW[:-1], 91, 42, "91"),
-                                          ("91 bytes for 7 nodes", ROW, 91, 42, "91"), ("longer file keeps its rest", ROW, 99, 42, "91"),
-                                          ("90 bytes for 7 nodes", ROW, 90, 42, "refused 10 0"), ("no file", ROW, 0, 42, "refused 10 0"),
+                                          ("91 bytes for 7 nodes", ROW, 91, 42, "91"),
+                                          ("longer file keeps its rest", ROW, 99, 42, "91"),
+                                          ("90 bytes for 7 nodes", ROW, 90, 42, "refused 10 0"),
+                                          ("no file", ROW, 0, 42, "refused 10 0"),
                                           ("byte 3 is written", tree_file(TWICE), 52, 24, "52"),
                                           ("no table, no file", LEAF, 0, 0, "refused 1 0"),
                                           ("too many frames, no file", LEAF, 0, 24582, "refused 2 0"),
@@ -531,15 +559,21 @@ def long_output():
 def output_cases():
     """02, N7: a file with small letters, files that are still refused, each with its line, and short buffers."""
     deep = o.file_of(o.regular(1, o.MAX_DEPTH + 1, lambda k: k))
-    for title, file, room, line in (("small letters", b"00000000fffb\n", 16, None), ("capitals stay", tree_file(-5), 13, None),
-                                    ("a missing line feed is supplied", b"00000000FfFb", 13, None), ("seven lines", ROW, 96, None),
-                                    ("no byte", b"", 16, b"refused 1 0\n"), ("a short line", b"00000000fff\n", 16, b"refused 3 0\n"),
+    for title, file, room, line in (("small letters", b"00000000fffb\n", 16, None),
+                                    ("capitals stay", tree_file(-5), 13, None),
+                                    ("a missing line feed is supplied", b"00000000FfFb", 13, None),
+                                    ("seven lines", ROW, 96, None),
+                                    ("no byte", b"", 16, b"refused 1 0\n"),
+                                    ("a short line", b"00000000fff\n", 16, b"refused 3 0\n"),
                                     ("byte 3 of a leaf", b"00000001fffb\n", 16, b"refused 4 0\n"),
                                     ("a node too deep", deep, 16, b"refused 9 19\n"),
                                     ("room for the line only", ROW, 13, b"refused 10 0\n"),
-                                    ("a short buffer", ROW, 12, None), ("a refusal in a short buffer", b"", 11, None), ("no buffer", LEAF, 0, None)):
+                                    ("a short buffer", ROW, 12, None), ("a refusal in a short buffer", b"", 11, None),
+                                    ("no buffer", LEAF, 0, None)):
         got = printed(file, room)
-        assert line is None or got == "output %d\ntext%s\n" % (len(line), numbers(line + bytes((FILLED,) * (room - len(line))))), title
+        if line is not None:
+            rest = bytes((FILLED,) * (room - len(line)))
+            assert got == "output %d\ntext%s\n" % (len(line), numbers(line + rest)), title
         add("output: " + title, file, "output %d" % room, got)
 
 
@@ -568,16 +602,24 @@ def graft_cases():
     """Questions 1 to 9 of both tables, 17, 18 and 10; the result is read back through the writer and the reader."""
     pair, chained = tree_file([5, 6]), tree_file(chain(18, 1))
     for title, first, node, second, room, want in (
-            ("among other leaves, with a rest", ROW, 4, pair, 60, "9"), ("before an inner node", tree_file([[1, [3]]]), 2, pair, 42, "7"),
-            ("two levels", ROW, 4, tree_file([[5, 6], [7, 8]]), 78, "13"), ("a lone leaf grafted", ROW, 4, LEAF, 42, "7"),
+            ("among other leaves, with a rest", ROW, 4, pair, 60, "9"),
+            ("before an inner node", tree_file([[1, [3]]]), 2, pair, 42, "7"),
+            ("two levels", ROW, 4, tree_file([[5, 6], [7, 8]]), 78, "13"),
+            ("a lone leaf grafted", ROW, 4, LEAF, 42, "7"),
             ("at a lone leaf", LEAF, 0, pair, 18, "3"), ("a lone leaf at a lone leaf", LEAF, 0, tree_file(-5), 6, "1"),
-            ("Max moves twice below", tree_file([[1]]), 2, MAX_TWICE, 36, "6"), ("Min moves twice above", MIN_TWICE, 3, pair, 36, "6"),
-            ("twice above and below", MIN_TWICE, 3, MAX_TWICE, 42, "7"), ("a near win at depth 0", LEAF, 0, NEAR_WIN, 18, "3"),
-            ("a near win at depth 10", tree_file(chain(10, 1)), 10, NEAR_WIN, 78, "13"), ("depth 18", chained, 18, LEAF, 114, "19"),
-            ("no node of this number", ROW, 9999999, pair, 60, "refused 17 9999999"), ("an inner node", ROW, 2, pair, 60, "refused 17 2"),
+            ("Max moves twice below", tree_file([[1]]), 2, MAX_TWICE, 36, "6"),
+            ("Min moves twice above", MIN_TWICE, 3, pair, 36, "6"),
+            ("twice above and below", MIN_TWICE, 3, MAX_TWICE, 42, "7"),
+            ("a near win at depth 0", LEAF, 0, NEAR_WIN, 18, "3"),
+            ("a near win at depth 10", tree_file(chain(10, 1)), 10, NEAR_WIN, 78, "13"),
+            ("depth 18", chained, 18, LEAF, 114, "19"),
+            ("no node of this number", ROW, 9999999, pair, 60, "refused 17 9999999"),
+            ("an inner node", ROW, 2, pair, 60, "refused 17 2"),
             ("a leaf where Min would move", tree_file([9]), 1, pair, 60, "refused 17 1"),
             ("a leaf where Max moved twice", MAX_TWICE, 2, pair, 60, "refused 17 2"),
-            ("depth 19", chained, 18, tree_file([9]), 0, "refused 18 0"), ("17 before 18", tree_file([9]), 1, chained, 0, "refused 17 1"), ("a byte too few", ROW, 4, pair, 53, "refused 10 0"),
+            ("depth 19", chained, 18, tree_file([9]), 0, "refused 18 0"),
+            ("17 before 18", tree_file([9]), 1, chained, 0, "refused 17 1"),
+            ("a byte too few", ROW, 4, pair, 53, "refused 10 0"),
             ("no buffer", LEAF, 0, LEAF, 0, "refused 10 0")):
         tables = table_of_file(first), table_of_file(second)
         got = grafted(tables[0], node, tables[1], room)
@@ -586,8 +628,10 @@ def graft_cases():
         add("graft: " + title, first + second, "graft %d %d %d %d %d" % call, got)
     for title, first_size, node, second_size, want in (
             ("no tables", 0, 0, 0, "refused 1 0"), ("the first table is too long", 24582, 9, 0, "refused 2 0"),
-            ("bytes left over in the first", 43, 9, 13, "refused 3 7"), ("the first table before the second", 48, 9, 0, "refused 8 8"),
-            ("no second table", 42, 9, 0, "refused 1 0"), ("the second table before the node", 42, 9, 13, "refused 3 2"),
+            ("bytes left over in the first", 43, 9, 13, "refused 3 7"),
+            ("the first table before the second", 48, 9, 0, "refused 8 8"),
+            ("no second table", 42, 9, 0, "refused 1 0"),
+            ("the second table before the node", 42, 9, 13, "refused 3 2"),
             ("a leaf too many in the second", 42, 9, 24, "refused 8 4")):
         got = grafted(longer(ROW, first_size), node, longer(pair, second_size), 0)
         assert got.startswith("graft %s\n" % want), (title, got)
@@ -613,17 +657,23 @@ def wanted_cases():
     for title, file, node, wanted, want in (
             ("a lone leaf", LEAF, 0, 7, 7), ("a lone leaf, the least value", LEAF, 0, -32000, -32000),
             ("a loss one ply away", one, 1, -30999, -31000), ("above the losses", one, 1, -30998, -30998),
-            ("a win one ply away", one, 1, 31000, 31001), ("no loss is worth so little", one, 1, -32000, "refused 21 1"),
+            ("a win one ply away", one, 1, 31000, 31001),
+            ("no loss is worth so little", one, 1, -32000, "refused 21 1"),
             ("no win is worth so much", one, 1, 32000, "refused 21 1"),
-            ("a loss at depth 18", deep, depth, -30990, -31008), ("the last loss at depth 18", deep, depth, -30982, -31000),
+            ("a loss at depth 18", deep, depth, -30990, -31008),
+            ("the last loss at depth 18", deep, depth, -30982, -31000),
             ("above it", deep, depth, -30981, -30981), ("a win at depth 18", deep, depth, 31982, 32000),
-            ("no win at depth 18", deep, depth, 31983, "refused 21 18"), ("far above", deep, depth, 31990, "refused 21 18"),
-            ("at the upper bound", capped, below(capped), -30985, -31003), ("above the upper bound", capped, below(capped), -30984, "refused 21 19"),
+            ("no win at depth 18", deep, depth, 31983, "refused 21 18"),
+            ("far above", deep, depth, 31990, "refused 21 18"),
+            ("at the upper bound", capped, below(capped), -30985, -31003),
+            ("above the upper bound", capped, below(capped), -30984, "refused 21 19"),
             ("below what -32,000 is worth", floored, below(floored), -31985, "refused 21 19"),
             ("what -32,000 is worth", floored, below(floored), -31982, -32000),
             ("below the other choice", pair, 2, 4, "refused 21 2"), ("at the other choice", pair, 2, 5, -32000),
-            ("above the other choice", pair, 2, 6, 6), ("settled", settled, 4, 5, -32000), ("settled otherwise", settled, 4, 3, "refused 21 4"),
-            ("Max moves twice", tree_file([(5, 6)]), 2, 6, -32000), ("the first row", ROW, 4, 3, -32000), ("the first row's other move", ROW, 5, 1, -32000),
+            ("above the other choice", pair, 2, 6, 6), ("settled", settled, 4, 5, -32000),
+            ("settled otherwise", settled, 4, 3, "refused 21 4"),
+            ("Max moves twice", tree_file([(5, 6)]), 2, 6, -32000), ("the first row", ROW, 4, 3, -32000),
+            ("the first row's other move", ROW, 5, 1, -32000),
             ("no such node", ROW, 9999999, 3, "refused 19 9999999"), ("an inner node", ROW, 2, 3, "refused 19 2"),
             ("19 before 20", ROW, 7, 40000, "refused 19 7"), ("too much", ROW, 3, 32001, "refused 20 0"),
             ("too little", ROW, 3, -32001, "refused 20 0"), ("20 before 21", LEAF, 0, 40000, "refused 20 0")):
@@ -645,7 +695,8 @@ def dearest(table):
     if isinstance(got, o.Refusal):
         assert lent == table
     cost = o.search(o.ab, lent, bytearray(o.MAX_NODES), bytearray(o.MAX_NODES))
-    return "dearest %s\ntable%s\nab %s\n" % (answered(got), numbers(lent), answered(cost if isinstance(cost, o.Refusal) else cost.leaves))
+    return "dearest %s\ntable%s\nab %s\n" % (answered(got), numbers(lent),
+                                             answered(cost if isinstance(cost, o.Refusal) else cost.leaves))
 
 
 # Max(a leaf, Min of two, a leaf); Min over blocks of different sizes; and 266 leaves, so that ranks have a high byte
@@ -655,10 +706,13 @@ UNEVEN, BLOCKS, MANY = tree_file([7, [7, 7], 7]), tree_file([[[9, 8], 7]]), tree
 def dearest_cases():
     """Questions 1 to 9; the ranks in the lent table, by the mover."""
     for title, file, size, want in (
-            ("the first row's shape", ROW, 42, "4"), ("a lone leaf", tree_file(-5), 6, "1"), ("a single leaf", tree_file([9]), 12, "1"),
+            ("the first row's shape", ROW, 42, "4"), ("a lone leaf", tree_file(-5), 6, "1"),
+            ("a single leaf", tree_file([9]), 12, "1"),
             ("a chain", tree_file(chain(18, 1)), 114, "1"), ("Max moves twice", MAX_TWICE, 24, "2"),
-            ("Min moves twice", tree_file([[(9, 9, 9)]]), 36, "3"), ("uneven", UNEVEN, 36, "4"), ("blocks", BLOCKS, 36, "3"),
-            ("266 leaves", MANY, 1644, "266"), ("no table", LEAF, 0, "refused 1 0"), ("a byte left over", ROW, 43, "refused 3 7"),
+            ("Min moves twice", tree_file([[(9, 9, 9)]]), 36, "3"), ("uneven", UNEVEN, 36, "4"),
+            ("blocks", BLOCKS, 36, "3"),
+            ("266 leaves", MANY, 1644, "266"), ("no table", LEAF, 0, "refused 1 0"),
+            ("a byte left over", ROW, 43, "refused 3 7"),
             ("a leaf too few", ROW, 36, "refused 8 6"), ("a leaf too many", ROW, 48, "refused 8 8")):
         got = dearest(longer(file, size))
         assert got.startswith("dearest %s\n" % want), (title, got)
@@ -670,9 +724,12 @@ def regular_cases():
     """02, N12: the table's corners, the two entries that meet the cap, the questions and their order."""
     for title, width, depth, want in (
             ("width 1, depth 18", 1, 18, "1"), ("width 40, depth 0", 40, 0, "1"), ("width 2, depth 2", 2, 2, "3"),
-            ("width 40, depth 4", 40, 4, "3199"), ("just below the cap", 39, 5, "60839"), ("the cap met, 8 and 10", 8, 10, "65535"),
-            ("the cap met, 32 and 6", 32, 6, "65535"), ("above the cap", 40, 18, "65535"), ("width 0", 0, 4, "refused 22 0"),
-            ("width 41", 41, 4, "refused 22 0"), ("depth 19", 2, 19, "refused 23 0"), ("width before depth", 0, 99, "refused 22 0"),
+            ("width 40, depth 4", 40, 4, "3199"), ("just below the cap", 39, 5, "60839"),
+            ("the cap met, 8 and 10", 8, 10, "65535"),
+            ("the cap met, 32 and 6", 32, 6, "65535"), ("above the cap", 40, 18, "65535"),
+            ("width 0", 0, 4, "refused 22 0"),
+            ("width 41", 41, 4, "refused 22 0"), ("depth 19", 2, 19, "refused 23 0"),
+            ("width before depth", 0, 99, "refused 22 0"),
             ("a large width", 65537, 99999999, "refused 22 0"), ("a large depth", 1, 65536, "refused 23 0")):
         got = answered(o.least_leaves(width, depth))
         assert got == want, (title, got)
@@ -682,14 +739,17 @@ def regular_cases():
 def service_cases():
     """One line, and the children of a node."""
     for title, file, at in (("first line", ROW, 0), ("second line", ROW, 13), ("last line", ROW, 78),
-                            ("last line without line feed", ROW[:-1], 78), ("end of the file", ROW, 91), ("past the end", ROW, 92),
+                            ("last line without line feed", ROW[:-1], 78), ("end of the file", ROW, 91),
+                            ("past the end", ROW, 92),
                             ("far past the end", ROW, 99999), ("middle of a line", ROW, 1), ("at a line feed", ROW, 12),
-                            ("small letters in a line", b"00000000fffb\n", 0), ("carriage return", b"000000000005\r\n", 0),
+                            ("small letters in a line", b"00000000fffb\n", 0),
+                            ("carriage return", b"000000000005\r\n", 0),
                             ("bad digit", b"00000000000g\n", 0), ("empty line", b"\n", 0), ("line of no file", b"", 0),
                             ("line of a file that is no tree", b"FfFFffFFFFFF0\nFFFFFFFFFFFF\n", 14)):
         got, moved = o.read_line(file, at)
         add("one line: " + title, file, "line %d" % at, ("line" + numbers(got) if got else "no line") + " %d\n" % moved)
-    for title, file, node in (("root", ROW, 0), ("last family", ROW, 2), ("leaf", ROW, 3), ("past the last frame", ROW, 7),
+    for title, file, node in (("root", ROW, 0), ("last family", ROW, 2), ("leaf", ROW, 3),
+                              ("past the last frame", ROW, 7),
                               ("far past the last frame", ROW, 99999), ("only child", tree_file([9]), 0)):
         table = table_of_file(file)
         start, end = o.children(table, node)
@@ -698,9 +758,11 @@ def service_cases():
 
 def main():
     directory = sys.argv[1] if len(sys.argv) > 1 else os.path.join(os.path.dirname(HERE), "crates", "cases")
-    for part in (made_trees, made_grafts, least_counts, long_output, files_of_01, rows_of_002, rejected_files, accepted_files, wins_and_losses,
+    for part in (made_trees, made_grafts, least_counts, long_output, files_of_01, rows_of_002, rejected_files,
+                 accepted_files, wins_and_losses,
                  second_captures,
-                 flags_cases, buffer_cases, order_cases, allowance_cases, start_cases, table_cases, reader_cases, writer_cases, output_cases, graft_cases, wanted_cases, dearest_cases,
+                 flags_cases, buffer_cases, order_cases, allowance_cases, start_cases, table_cases, reader_cases,
+                 writer_cases, output_cases, graft_cases, wanted_cases, dearest_cases,
                  regular_cases, choice_cases, service_cases):
         part()
     assert len(stdin) < 65536

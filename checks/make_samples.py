@@ -69,7 +69,8 @@ def main():
     root = os.path.dirname(os.path.dirname(os.path.abspath(__file__)))
     directory = sys.argv[1] if len(sys.argv) > 1 else os.path.join(root, "samples")
     for name, file in samples().items():
-        for ending, data in [("tree", file), ("expected", o.report(file))] + [("capitals", o.capitals(file))] * (name == "stored"):
+        for ending, data in [("tree", file), ("expected", o.report(file))] + [("capitals",
+                                                                               o.capitals(file))] * (name == "stored"):
             with open(os.path.join(directory, name + "." + ending), "wb") as f:
                 f.write(data)
     for name, data in certificates().items():

@@ -282,8 +282,8 @@ def ab(tree):
 # ---------------------------------------------------------------- the plain engine
 
 def plain(tree):
-    """02, N1: every leaf, from left to right; Max's turn asks Min's for each child, and Min's asks Max's; where the same side
-    moves again, a turn asks itself (N8)."""
+    """02, N1: every leaf, from left to right; Max's turn asks Min's for each child, and Min's asks Max's; where the
+    same side moves again, a turn asks itself (N8)."""
     leaves = []
 
     def turn(k, best, other):
@@ -375,8 +375,8 @@ def mtd(tree):
 # ---------------------------------------------------------------- MTD(f)
 
 def mtdf_by_rule(tree, start):
-    """000, sections 8 and 9: null-window tests, with the bounds worked out anew from the leaves valued so far; then the root's
-    children are tested for the first one with the value."""
+    """000, sections 8 and 9: null-window tests, with the bounds worked out anew from the leaves valued so far; then the
+    root's children are tested for the first one with the value."""
     leaves, tests = [], 0
 
     def bound(k, other):
@@ -602,7 +602,8 @@ def read_file(file, table):
 
 
 def write_file(table, file):
-    """Questions 1 to 10; writes a line of capital digits for each frame to the start of the file; its length (02, N3)."""
+    """Questions 1 to 10; writes a line of capital digits for each frame to the start of the file; its length
+    (02, N3)."""
     no = table_no(table)
     if no:
         return no
@@ -621,7 +622,8 @@ def convert(file, new):
 
 
 def output(file, text):
-    """02, N7: what the converting program prints, at the front of a buffer: the new file, or the line of the refusal; its length."""
+    """02, N7: what the converting program prints, at the front of a buffer: the new file, or the line of the refusal;
+    its length."""
     n = convert(file, text)
     if not isinstance(n, Refusal):
         return n
@@ -637,8 +639,8 @@ def check_table(table):
 
 
 def graft(first, node, second, result):
-    """Questions 1 to 9 of the first table, then of the second, 17, 18, 10; writes the table of the first tree with the second in
-    the leaf's place to the start of the result; its number of nodes (02, N9)."""
+    """Questions 1 to 9 of the first table, then of the second, 17, 18, 10; writes the table of the first tree with the
+    second in the leaf's place to the start of the result; its number of nodes (02, N9)."""
     no = table_no(first) or table_no(second)
     if no:
         return no
@@ -686,8 +688,9 @@ def least_value(table, node, wanted):
 
 
 def dearest(table):
-    """Questions 1 to 9; writes the ranks to the leaves of the table itself: a node's ranks are a block, and those of its children lie
-    in it one behind the other, rising from left to right at Max, falling at Min; the number of leaves (02, N11)."""
+    """Questions 1 to 9; writes the ranks to the leaves of the table itself: a node's ranks are a block, and those of
+    its children lie in it one behind the other, rising from left to right at Max, falling at Min; the number of leaves
+    (02, N11)."""
     no = table_no(table)
     if no:
         return no
@@ -731,8 +734,8 @@ def finish(tree, outcome, marks, proof):
 
 
 def search(rule, table, marks, proof, order=None, states=None):
-    """Questions 1 to 10; then the rule. `order` is the lent list whose beginning gets the valued leaves in the order valued (02, N14),
-    `states` the lent list of SSS*."""
+    """Questions 1 to 10; then the rule. `order` is the lent list whose beginning gets the valued leaves in the order
+    valued (02, N14), `states` the lent list of SSS*."""
     no = table_no(table)
     if no:
         return no
@@ -806,7 +809,8 @@ def detail(file):
         marks, proof, order = bytearray(n), bytearray(n), array("H", bytes(2 * n))
         r = call(table, marks, proof, order)
         text += "%s order %s\n%s marks %s\n%s flags %s\n" % (
-            name, " ".join(map(str, order[:r.leaves])), name, " ".join(map(str, marks)), name, " ".join(map(str, proof)))
+            name, " ".join(map(str, order[:r.leaves])), name, " ".join(map(str, marks)), name,
+            " ".join(map(str, proof)))
         if r.extra is not None:
             text += "%s %s %d\n" % (name, "passes" if name == "mtd" else "replacements", r.extra)
     return text
@@ -815,7 +819,8 @@ def detail(file):
 # ---------------------------------------------------------------- making tables and files
 
 def table_of(counts, values, again=()):
-    """A table from the child counts in breadth-first order and the leaf values in node order; the nodes in `again` have byte 3 = 1."""
+    """A table from the child counts in breadth-first order and the leaf values in node order; the nodes in `again` have
+    byte 3 = 1."""
     table, first, values = bytearray(), 1, iter(values)
     for k, count in enumerate(counts):
         value = 0 if count else next(values)
@@ -831,8 +836,8 @@ def file_of(table, last=True):
 
 
 def table_of_nest(nest):
-    """A table from nested lists, as [[1, 2], [3, 4]] for Max(Min(1, 2), Min(3, 4)); a tuple in the place of a list is a node
-    where the same side moves as at its parent, as [(1, 2), [3, 4]] for Max(Max(1, 2), Min(3, 4))."""
+    """A table from nested lists, as [[1, 2], [3, 4]] for Max(Min(1, 2), Min(3, 4)); a tuple in the place of a list is a
+    node where the same side moves as at its parent, as [(1, 2), [3, 4]] for Max(Max(1, 2), Min(3, 4))."""
     level, counts, values, again = [nest], [], [], set()
     while level:
         below = []

@@ -112,13 +112,15 @@ def cases_of_01():
     same("one deeper", o.report(o.file_of(o.regular(1, deepest + 1, lambda k: 5))), refused(9, deepest + 1))
     same("4,096", ok(o.file_of(o.regular(15, 273, lambda k: k))), True)
     same("4,097", o.report(o.file_of(o.regular(16, 256, lambda k: k))), refused(2, 0))
-    same("4,097 without last line feed", o.report(o.file_of(o.regular(16, 256, lambda k: k), last=False)), refused(2, 0))
+    same("4,097 without last line feed", o.report(o.file_of(o.regular(16, 256, lambda k: k), last=False)),
+         refused(2, 0))
     t = o.table_of([2, 41] + [0] * 42, [0] * 42)
     t[6 * 2 + 3] = 1
     same("byte 3 at 2, 41 at 1", o.report(o.file_of(t)), refused(5, 1))
     same("one line feed", o.report(b"\n"), refused(3, 0))
     same("sample", o.report(papers.SAMPLE_FILE), papers.SAMPLE_REPORT)
-    same("trap: leaf root and a node that names itself", o.table_no(bytes((0, 0, 0, 0, 0, 5, 0, 1, 1, 0, 0, 0))), (6, 1))
+    same("trap: leaf root and a node that names itself", o.table_no(bytes((0, 0, 0, 0, 0, 5, 0, 1, 1, 0, 0, 0))),
+         (6, 1))
     arrival = o.sss_by_rule(o.Tree(small((2, 5, 2, 1))), tie=Arrival())
     same("trap: order of arrival values a fourth leaf of 2 5 2 1", len(arrival[1]), 4)
 
@@ -164,7 +166,8 @@ def obligations():
     table = bytearray(b"\xaa" * 20)
     same("B7", (o.read_file(b"000000000005", table), bytes(table)), (1, bytes.fromhex("000000000005") + b"\xaa" * 14))
     f = b"000000000005\n00000000000A"
-    same("B8", [o.read_line(f, p)[1] for p in (0, 1, 13, 14, 25, 26, 2 ** 64 - 1)], [13, 1, 25, 14, 25, 26, 2 ** 64 - 1])
+    same("B8", [o.read_line(f, p)[1] for p in (0, 1, 13, 14, 25, 26, 2 ** 64 - 1)],
+         [13, 1, 25, 14, 25, 26, 2 ** 64 - 1])
     same("B48", saved(o.table_of_nest([-5]), 27), (26, b"000101000000\n00000000FFFB\n\x55"))
     same("B48 no table", saved(b"", 0), ((1, 0), b""))
     same("B48 table before buffer", saved(bytes(12), 0), ((8, 2), b""))
@@ -254,10 +257,12 @@ def one_allowance(rng, table, full, value):
 
 
 def orders():
-    """Request N14, worked out by hand: the leaves in the order valued, of alpha-beta, and of MTD and SSS*; the numbering is breadth-first,
-    so that left to right is not by number where leaves lie at two depths."""
-    for nest, ab, others in (([[1, 2], [3, 4]], [3, 4, 5, 6], [3, 5, 6]), ([[4, 1], [2, 3]], [3, 4, 5, 6], [3, 5, 4, 6]), (-5, [0], [0]),
-                             ([9], [1], [1]), ([[[1]], [2, 3]], [6, 4, 5], [6, 4, 5]), ([[[2]], [1, 3], 4], [7, 5, 3], [7, 5, 3]),
+    """Request N14, worked out by hand: the leaves in the order valued, of alpha-beta, and of MTD and SSS*; the
+    numbering is breadth-first, so that left to right is not by number where leaves lie at two depths."""
+    for nest, ab, others in (([[1, 2], [3, 4]], [3, 4, 5, 6], [3, 5, 6]),
+                             ([[4, 1], [2, 3]], [3, 4, 5, 6], [3, 5, 4, 6]), (-5, [0], [0]),
+                             ([9], [1], [1]), ([[[1]], [2, 3]], [6, 4, 5], [6, 4, 5]),
+                             ([[[2]], [1, 3], 4], [7, 5, 3], [7, 5, 3]),
                              ([[3, 1], 2, [[4, 5]]], [4, 5, 2, 7, 8], [4, 2, 7, 8])):
         table = o.table_of_nest(nest)
         for call, want in ((o.alpha_beta, ab), (o.mtd_search, others), (o.sss_search, others)):
@@ -268,21 +273,25 @@ def orders():
             order = array("H", (UNLISTED,) * entries)
             r = o.search(rule, table, bytearray(7), bytearray(7), order)
             same("N14 a list of %d entries" % entries, r if isinstance(r, o.Refusal) else None, want)
-            same("N14 what it holds", list(order), [UNLISTED] * entries if want else r.order + [UNLISTED] * (entries - r.leaves))
+            same("N14 what it holds", list(order),
+                 [UNLISTED] * entries if want else r.order + [UNLISTED] * (entries - r.leaves))
     same("N14 questions 1 to 9 come first", o.search(o.mtd, table[:-1], bytearray(7), bytearray(7), array("H")), (3, 6))
 
 
 def letters():
     """Request N7, worked out by hand: where 16 is asked, its place, and what the converter writes."""
     leaf, bad, other = b"000000000005\n", b"00000000000g\n", b"00000000000a\n"
-    for file, no in ((b"00000000fffb", (16, 0)), (leaf + b"00000000000F\n", (8, 2)), (leaf + b"00000000000f\n", (16, 1)),
-                     (other + leaf * 4 + bad, (3, 5)), (b"000000010005\n" + leaf * 2 + other, (16, 3)), (b"f" * 53249, (2, 0)),
+    for file, no in ((b"00000000fffb", (16, 0)), (leaf + b"00000000000F\n", (8, 2)),
+                     (leaf + b"00000000000f\n", (16, 1)),
+                     (other + leaf * 4 + bad, (3, 5)), (b"000000010005\n" + leaf * 2 + other, (16, 3)),
+                     (b"f" * 53249, (2, 0)),
                      (b"f", (3, 0)), (b"\nf", (3, 0)), (b"00000000000G", (3, 0))):
         same("N7 %r" % file[:30], o.report(file), refused(*no))
         same("N7 %r, no table" % file[:30], o.read_file(file, bytearray()), no)
     same("N7 one line takes small letters", o.read_line(b"00000000fffb\n", 0), (bytes.fromhex("00000000fffb"), 13))
     for file, want in ((b"00000000fFfb", b"00000000FFFB\n"), (b"00000000000g", refused(3, 0)), (b"", refused(1, 0)),
-                       (b"0000000a0005", refused(4, 0)), (b"a" * 53249, refused(2, 0)), (b"00000000\x86000", refused(3, 0))):
+                       (b"0000000a0005", refused(4, 0)), (b"a" * 53249, refused(2, 0)),
+                       (b"00000000\x86000", refused(3, 0))):
         same("N7 convert %r" % file[:30], o.capitals(file), want)
     new = bytearray(b"\x55" * 14)
     same("N7 rest of the buffer", (o.convert(b"00000000fffb", new), bytes(new)), (13, b"00000000FFFB\n\x55"))
@@ -291,25 +300,31 @@ def letters():
 
 
 def second_captures():
-    """Request N8, worked out by hand: what question 4 passes, who moves, and trees that the depth would settle otherwise."""
+    """Request N8, worked out by hand: what question 4 passes, who moves, and trees that the depth would settle
+    otherwise."""
     chain = o.file_of(o.table_of_nest([[1, 2]]))
-    for node, count, byte, want in ((1, 2, 1, None), (0, 1, 1, (4, 0)), (2, 0, 1, (4, 2)), (1, 2, 2, (4, 1)), (1, 41, 1, (5, 1)),
+    for node, count, byte, want in ((1, 2, 1, None), (0, 1, 1, (4, 0)), (2, 0, 1, (4, 2)), (1, 2, 2, (4, 1)),
+                                    (1, 41, 1, (5, 1)),
                                     (1, 41, 2, (4, 1)), (1, 2, 255, (4, 1))):
         table = o.decode(chain)
         table[6 * node + 2], table[6 * node + 3] = count, byte
         same("N8 question 4: %r" % ((node, count, byte),), o.table_no(table), want)
     same("N8 movers", o.Tree(o.table_of_nest([([([1],)],)])).is_max, [True, True, False, False, True, False])
-    for nest, value, move, leaves in (([(1, 2)], 2, 1, (2, 2, 2)), ([[1, 2]], 1, 1, (2, 2, 2)), ([([(1, 2), 3],)], 1, 1, (3, 3, 3)),
-                                      ([(5, 3), [4, (6, 2)]], 5, 1, (3, 3, 3)), ([[(3, 2), 1], (0, 2)], 2, 2, (5, 5, 5))):
+    for nest, value, move, leaves in (([(1, 2)], 2, 1, (2, 2, 2)), ([[1, 2]], 1, 1, (2, 2, 2)),
+                                      ([([(1, 2), 3],)], 1, 1, (3, 3, 3)),
+                                      ([(5, 3), [4, (6, 2)]], 5, 1, (3, 3, 3)),
+                                      ([[(3, 2), 1], (0, 2)], 2, 2, (5, 5, 5))):
         for call, count in zip((o.alpha_beta, o.mtd_search, o.sss_search), leaves):
             r = run(call, o.table_of_nest(nest))[0]
             same("N8 %r %s" % (nest, call.__name__), (r.value, r.move, r.leaves), (value, move, count))
     for nest, flags, want in (([(1, 2)], "3 3 1 3", 2), ([(1, 2)], "3 3 3 2", (12, 1)), ([[1, 2]], "3 3 3 2", 1)):
-        same("N8 certificate %s of %r" % (flags, nest), o.check_proof(o.table_of_nest(nest), bytes(map(int, flags.split()))), want)
+        same("N8 certificate %s of %r" % (flags, nest),
+             o.check_proof(o.table_of_nest(nest), bytes(map(int, flags.split()))), want)
 
 
 def grafts():
-    """Request N9, worked out by hand: the numbering, the order of the questions, the mover at a leaf, and depths in the result."""
+    """Request N9, worked out by hand: the numbering, the order of the questions, the mover at a leaf, and depths in the
+    result."""
     table, row, pair, lone = o.table_of_nest, small((1, 2, 3, 4)), o.table_of_nest([5, 6]), o.table_of_nest(-5)
     want = bytes.fromhex("000102000000 000302000000 000502000000 000000000001 000702000000 000000000003 000000000004"
                          " 000000000005 000000000006")
@@ -340,14 +355,18 @@ def grafts():
 
 
 def dearest_fillings():
-    """Request N11, worked out by hand: the ranks by the mover, and the answer; the values that came play no part but for question 7."""
-    for nest, leaves, want in (([[1, 2], [3, 4]], 4, [[1, 0], [3, 2]]), (-5, 1, 0), ([9], 1, [0]), ([[[9]]], 1, [[[0]]]),
-                               ([(1, 2)], 2, [(0, 1)]), ([[(9, 9, 9)]], 3, [[(2, 1, 0)]]), ([7, [7, 7], 7], 4, [0, [2, 1], 3]),
+    """Request N11, worked out by hand: the ranks by the mover, and the answer; the values that came play no part but
+    for question 7."""
+    for nest, leaves, want in (([[1, 2], [3, 4]], 4, [[1, 0], [3, 2]]), (-5, 1, 0), ([9], 1, [0]),
+                               ([[[9]]], 1, [[[0]]]),
+                               ([(1, 2)], 2, [(0, 1)]), ([[(9, 9, 9)]], 3, [[(2, 1, 0)]]),
+                               ([7, [7, 7], 7], 4, [0, [2, 1], 3]),
                                ([[[9, 8], 7]], 3, [[[1, 2], 0]]), ([[5, ([6], 7)], 8], 4, [[2, ([1], 0)], 3])):
         table = o.table_of_nest(nest)
         same("B67 %r" % (nest,), (o.dearest(table), bytes(table)), (leaves, bytes(o.table_of_nest(want))))
         same("B67 %r costs" % (nest,), run(o.alpha_beta, table)[0].leaves, leaves)
-    for table, want in ((bytearray(), (1, 0)), (bytearray(7), (3, 1)), (o.table_of_nest([7, 32001]), (7, 2)), (bytearray(12), (8, 2))):
+    for table, want in ((bytearray(), (1, 0)), (bytearray(7), (3, 1)), (o.table_of_nest([7, 32001]), (7, 2)),
+                        (bytearray(12), (8, 2))):
         before = bytes(table)
         same("B67 refused", (o.dearest(table), bytes(table)), (want, before))
     table = o.regular(40, 41, lambda k: k)
@@ -368,7 +387,8 @@ def one_filling(rng, table):
     for k in range(tree.n - 1, 0, -1):
         below[tree.parent[k]] += below[k]
     for k in range(tree.n):
-        blocks = [sorted(rank[x] for x in below[c]) for c in (tree.kids[k] if tree.is_max[k] else reversed(tree.kids[k]))]
+        rising = tree.kids[k] if tree.is_max[k] else reversed(tree.kids[k])
+        blocks = [sorted(rank[x] for x in below[c]) for c in rising]
         whole = [r for block in blocks for r in block]
         same("blocks", whole == list(range(whole[0], whole[0] + len(whole))) if whole else True, True)
     same("every leaf is valued", run(o.alpha_beta, filled)[0].leaves, len(leaves))
@@ -400,7 +420,8 @@ def one_graft(rng, first, second):
 
 
 def wanted_values():
-    """Request N10, worked out by hand: the borders of losses and wins, the root's bounds, and the order of the questions."""
+    """Request N10, worked out by hand: the borders of losses and wins, the root's bounds, and the order of the
+    questions."""
     table, chain = o.table_of_nest, lambda n: o.regular(1, n, lambda k: k)
     capped = table([[[[[[[[[[[[[[[[[[0]]]]]]]]]]]]]]]], -30985]])
     floored = table([[[[[[[[[[[[[[[[[[0]]]]]]]]]]]]]]]]], -31986])
@@ -425,7 +446,8 @@ def one_wanted(rng, table):
     root = lambda v: tree.fold(lambda k: o.worth(tree.depth[k], v) if k == leaf else tree.worth[k])[0]
     got = o.least_value(table, leaf, wanted)
     if isinstance(got, o.Refusal):
-        same("no value", (got, [v for v in rng.sample(range(-32000, 32001), 20) if root(v) == wanted]), ((21, leaf), []))
+        same("no value", (got, [v for v in rng.sample(range(-32000, 32001), 20) if root(v) == wanted]),
+             ((21, leaf), []))
     else:
         smaller = [v for v in rng.sample(range(-32000, got + 1), min(20, got + 32001)) if v < got and root(v) == wanted]
         same("smallest value", (root(got), smaller), (wanted, []))
@@ -461,13 +483,15 @@ def regular_tree(rng, width, depth, kind):
 
 
 def least_counts():
-    """Request N12: every pair of equal value in small regular trees, and the searches of larger ones; the cap, the questions."""
+    """Request N12: every pair of equal value in small regular trees, and the searches of larger ones; the cap, the
+    questions."""
     rng = random.Random(12)
     for width, depth in ((1, 0), (1, 3), (1, 18), (2, 0), (2, 1), (2, 2), (2, 3), (3, 1), (3, 2), (4, 2), (40, 1)):
         for kind in trees.VALUES:
             tree = o.Tree(regular_tree(rng, width, depth, kind))
             leaf = lambda s: frozenset(k for k in s if not tree.kids[k])
-            sizes = {len(a | b) for a in set(map(leaf, solution_trees(tree, 0, 1))) for b in set(map(leaf, solution_trees(tree, 0, 2)))
+            max_trees, min_trees = (set(map(leaf, solution_trees(tree, 0, flag))) for flag in (1, 2))
+            sizes = {len(a | b) for a in max_trees for b in min_trees
                      if max(tree.worth[k] for k in a) == min(tree.worth[k] for k in b)}
             same("N12 pairs of %d and %d" % (width, depth), sizes, {o.least_leaves(width, depth)})
     shapes_ = [(w, d) for w in range(1, 41) for d in range(19) if sum(w ** i for i in range(d + 1)) <= o.MAX_NODES]
@@ -475,11 +499,13 @@ def least_counts():
     for width, depth in shapes_:
         table = regular_tree(rng, width, depth, rng.choice(list(trees.VALUES)))
         for search in (o.alpha_beta, o.mtd_search, o.sss_search):
-            same("N12 no fewer in %d and %d" % (width, depth), run(search, table)[0].leaves >= o.least_leaves(width, depth), True)
+            same("N12 no fewer in %d and %d" % (width, depth),
+                 run(search, table)[0].leaves >= o.least_leaves(width, depth), True)
     capped = [(w, d) for w in range(1, 41) for d in range(19) if o.least_leaves(w, d) == o.MAX_LEAST]
     above = [(w, d) for w, d in capped if w ** ((d + 1) // 2) + w ** (d // 2) > 65536]
     same("B68 the cap", (len(above), [s for s in capped if s not in above]), (414, [(8, 10), (32, 6)]))
-    for width, depth, want in ((0, 99, (22, 0)), (41, 0, (22, 0)), (40, 19, (23, 0)), (1, 18, 1), (40, 3, 1639), (12, 5, 1871)):
+    for width, depth, want in ((0, 99, (22, 0)), (41, 0, (22, 0)), (40, 19, (23, 0)), (1, 18, 1), (40, 3, 1639),
+                               (12, 5, 1871)):
         same("B69 %d and %d" % (width, depth), o.least_leaves(width, depth), want)
 
 

@@ -53,7 +53,8 @@ def row(width, depth):
         assert o.table_no(table) is None
         tree = o.Tree(table)
         value = tree.minimax()[0]
-        counts = [width ** depth, len(o.ab(tree)[1]), len(o.sss(tree)[1]), leaves_from(table, o.LEAST), leaves_from(table, value)]
+        counts = [width ** depth, len(o.ab(tree)[1]), len(o.sss(tree)[1]), leaves_from(table, o.LEAST),
+                  leaves_from(table, value)]
         for d in OFF:
             counts.append((leaves_from(table, value - d) + leaves_from(table, value + d)) / 2)
         for other in (leaf_changed(rng, table), grafted(rng, table, width)):
