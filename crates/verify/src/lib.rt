@@ -16,8 +16,8 @@ use frames::rejected;
 use frames::value;
 use gametree::Side;
 use gametree::better;
-use positions::SMALL_TABLE;
 use positions::depth_at;
+use positions::fill;
 use positions::side_at;
 ghost use mathlib.Core.Path.{_≡_};
 ghost use Prim.Native.Nat.{_+_, _≤_, _<_};
@@ -84,23 +84,9 @@ fn check_trees(table: &[u8], flags: &[u8]) -> Verdict
     ensures { λ r. ⌜ r ≡ judged (now (table .entry)) (now (flags .entry))
         (treesRejection (now (table .entry)) (now (flags .entry))) ⌝ }
 {
-    if frame_count(table) <= SMALL_TABLE {
-        let mut positions = [0u32; SMALL_TABLE];
-        return judge_in(table, flags, &mut positions);
-    }
     let mut positions = [0u32; MAX_NODES];
-    judge_in(table, flags, &mut positions)
-}
-
-// The same, over a work array for the positions of the nodes.
-fn judge_in(table: &[u8], flags: &[u8], positions: &mut [u32]) -> Verdict
-    requires { ⌜ (WellFormed (now table)) × (frames (now table) ≤ length (now flags))
-        × (frames (now table) ≤ length (now positions)) ⌝ }
-    ensures { λ r. ⌜ r ≡ judged (now (table .entry)) (now (flags .entry))
-        (treesRejection (now (table .entry)) (now (flags .entry))) ⌝ }
-{
-    positions::fill(table, positions);
-    judge(table, flags, positions)
+    fill(table, &mut positions);
+    judge(table, flags, &positions)
 }
 
 // The same, with the positions of the nodes.
