@@ -8,7 +8,6 @@ use frames::child_count;
 use frames::frame_count;
 use frames::rejected;
 use gametree::Side;
-use positions::SMALL_TABLE;
 use positions::depth_at;
 use positions::fill;
 use positions::side_at;
@@ -45,42 +44,22 @@ pub fn ask(first: &[u8], node: usize, second: &[u8], room: usize) -> Checked
     ask_leaf(first, node, second, room)
 }
 
-// Questions 17, 18 and 10. Two small tables get a small work array.
+// Questions 17, 18 and 10. One work array holds the positions of the nodes of one table and then of the other.
 fn ask_leaf(first: &[u8], node: usize, second: &[u8], room: usize) -> Checked
     requires { ⌜ WellFormed (now first) × WellFormed (now second) ⌝ }
     ensures { λ r. ⌜ r ≡ answer (graftSize (now (first .entry)) (now (second .entry)))
         (leafRejection (now (first .entry)) node (now (second .entry)) room) ⌝ }
 {
-    if frame_count(first) + frame_count(second) <= SMALL_TABLE {
-        let mut positions = [0u32; SMALL_TABLE];
-        return ask_leaf_in(first, node, second, &mut positions, room);
-    }
     let mut positions = [0u32; MAX_NODES];
-    ask_leaf_in(first, node, second, &mut positions, room)
-}
-
-// The same, over a work array for the positions of the nodes of one table and then of the other.
-fn ask_leaf_in(
-    first: &[u8],
-    node: usize,
-    second: &[u8],
-    positions: &mut [u32],
-    room: usize,
-) -> Checked
-    requires { ⌜ WellFormed (now first) × WellFormed (now second) ⌝ }
-    requires { ⌜ (frames (now first) ≤ length (now positions)) × (frames (now second) ≤ length (now positions)) ⌝ }
-    ensures { λ r. ⌜ r ≡ answer (graftSize (now (first .entry)) (now (second .entry)))
-        (leafRejection (now (first .entry)) node (now (second .entry)) room) ⌝ }
-{
-    fill(first, positions);
-    if !is_max_leaf(first, positions, node) {
+    fill(first, &mut positions);
+    if !is_max_leaf(first, &positions, node) {
         return rejected(NO_MAX_LEAF, node);
     }
     let size = frame_count(first) + frame_count(second) - 1;
     if MAX_NODES < size {
         return rejected(TOO_LARGE, 0);
     }
-    let depth = depth_at(positions, node) + height(second, positions);
+    let depth = depth_at(&positions, node) + height(second, &mut positions);
     if MAX_DEPTH < depth as usize {
         return rejected(TOO_LARGE, 0);
     }
