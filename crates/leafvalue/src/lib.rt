@@ -12,7 +12,6 @@ use frames::score_at;
 use frames::value;
 use gametree::Side;
 use gametree::better;
-use positions::SMALL_TABLE;
 use positions::depth_at;
 use positions::fill;
 use tables::check;
@@ -118,27 +117,11 @@ pub fn score_of(wanted: i32) -> u32
     (wanted + ZERO) as u32
 }
 
-// The smallest score with which the leaf gives the root the wanted score; LEAST where there is none. A small table gets
-// small work arrays, since their clearing takes time.
+// The smallest score with which the leaf gives the root the wanted score; LEAST where there is none.
 fn find(table: &[u8], leaf: usize, wanted: u32) -> u32
     requires { ⌜ (Accepted (now table)) × (isLeaf (now table) leaf ≡ true) × (Score wanted) ⌝ }
     ensures { λ r. ⌜ (held r ≡ smallest (now (table .entry)) leaf wanted) × (r < greatest) ⌝ }
 {
-    if frame_count(table) <= SMALL_TABLE {
-        let mut positions = [0u32; SMALL_TABLE];
-        let mut known = [1u8; SMALL_TABLE];
-        let mut lows = [0u32; SMALL_TABLE];
-        let mut highs = [0u32; SMALL_TABLE];
-        return find_in(
-            table,
-            &mut positions,
-            &mut known,
-            &mut lows,
-            &mut highs,
-            leaf,
-            wanted,
-        );
-    }
     let mut positions = [0u32; MAX_NODES];
     let mut known = [1u8; MAX_NODES];
     let mut lows = [0u32; MAX_NODES];

@@ -1,13 +1,14 @@
 -- `leafvalue::candidate` meets its contract: one case for each of its returns.
-use Prim.Native.Nat.{_-_}
+use Prim.Native.Nat.{_+_, _-_}
 use mathlib.Core.Path.{_≡_, sym, _∙_}
 use mathlib.Core.Logic.{⊎-elim}
-use mathlib.Core.Bool.{false, _&&_}
+use mathlib.Core.Bool.{false, cond, _&&_}
 use lib.Dec.{ltb}
 use borrow.Author.Tests.{lt-ltb, le-ltb}
 use borrow.Author.Needs.{needs}
+use Rattle.gametree.specs.Tree.{least, greatest}
 use Rattle.leafvalue.specs.LeastValue.{firstScore}
-use Rattle.leafvalue.specs.engine.Candidates.{reaches}
+use Rattle.leafvalue.specs.engine.Candidates.{reaches, candidate}
 use Rattle.leafvalue.proofs.candidate.Statement.{statement}
 use Rattle.leafvalue.proofs.candidate.Tie as tie
 
@@ -23,6 +24,16 @@ not-loss : (c : tie.Joined2) →
 not-loss c =
     ⊎-elim (λ m. rw (lt-ltb _ _ (m .0 .taken)) (sym (m .1 .ensures) ∙ m .2 .left)) (λ m. rw (le-ltb _ _ (m .left)))
     (c .if2 .came)
+
+-- nor does the third
+not-wanted : (c : tie.Else4) →
+    let a = c .before .before .before .before .before .args in
+    let win = a .wanted + a .depth in
+    candidate (a .low) (a .high) (a .depth) (a .wanted)
+    ≡ cond (ltb win greatest && reaches (a .low) (a .high) (a .depth) (a .wanted) win) win least
+not-wanted c =
+    let r = c .before in
+    rw (not-first (r .before .before), not-loss (r .before), ← r .reaches3 .ensures, c .if4 .left)
 
 returns : tie.Need-returns
 returns c = rw (sym (c .before .reaches .ensures) ∙ c .if1 .taken)
@@ -41,46 +52,15 @@ returns-3 c =
 returns-4 : tie.Need-returns-4
 returns-4 c =
     let q = c .before in
-    let k = q .before in
-    let e = k .before in
-    let r = e .before in
-    rw (
-      not-first (r .before .before),
-      not-loss (r .before),
-      ← r .reaches3 .ensures,
-      e .if4 .left,
-      lt-ltb _ _ (k .if5 .taken),
-      ← q .reaches4 .ensures,
-      c .if6 .taken,
-    )
+    rw (not-wanted (q .before .before), lt-ltb _ _ (q .before .if5 .taken), ← q .reaches4 .ensures, c .if6 .taken)
 
 returns-5 : tie.Need-returns-5
 returns-5 c =
     let q = c .before in
-    let k = q .before in
-    let e = k .before in
-    let r = e .before in
-    rw (
-      not-first (r .before .before),
-      not-loss (r .before),
-      ← r .reaches3 .ensures,
-      e .if4 .left,
-      lt-ltb _ _ (k .if5 .taken),
-      ← q .reaches4 .ensures,
-      c .if6 .left,
-    )
+    rw (not-wanted (q .before .before), lt-ltb _ _ (q .before .if5 .taken), ← q .reaches4 .ensures, c .if6 .left)
 
 returns-6 : tie.Need-returns-6
-returns-6 c =
-    let e = c .before in
-    let r = e .before in
-    rw (
-      not-first (r .before .before),
-      not-loss (r .before),
-      ← r .reaches3 .ensures,
-      e .if4 .left,
-      le-ltb _ _ (c .if5 .left),
-    )
+returns-6 c = rw (not-wanted (c .before), le-ltb _ _ (c .if5 .left))
 
 pub candidate-spec : {M : Type 1} → statement M
 candidate-spec =
