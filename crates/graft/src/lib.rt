@@ -6,7 +6,6 @@ use frames::child_count;
 use frames::first_child;
 use frames::frame_count;
 use graftable::ask;
-use positions::SMALL_TABLE;
 ghost use mathlib.Core.Path.{_≡_};
 ghost use mathlib.Core.List.{_++_};
 ghost use mathlib.Core.Bool.{cond};
@@ -37,18 +36,13 @@ pub fn graft(first: &[u8], node: usize, second: &[u8], result: &mut [u8]) -> Che
     checked
 }
 
-// The table of the result, which has so many nodes. A small one gets a small work array.
+// The table of the result, which has so many nodes.
 fn write(first: &[u8], node: usize, second: &[u8], result: &mut [u8], size: usize)
     requires { ⌜ Graftable (now first) node (now second) ⌝ }
     requires { ⌜ (size ≡ graftSize (now first) (now second)) × (frameSize * size ≤ length (now result)) ⌝ }
     ensures { λ _. ⌜ now (result .exit) ≡ graftTable (now (first .entry)) node (now (second .entry))
         ++ drop (frameSize * size) (now (result .entry)) ⌝ }
 {
-    if size <= SMALL_TABLE {
-        let mut sources = [0u32; SMALL_TABLE];
-        write_frames(first, node, second, result, &mut sources, size);
-        return;
-    }
     let mut sources = [0u32; MAX_NODES];
     write_frames(first, node, second, result, &mut sources, size);
 }
