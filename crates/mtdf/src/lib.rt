@@ -24,7 +24,6 @@ use gametree::Side;
 use leafvalue::in_range;
 use leafvalue::score_of;
 use mtd::last_tried;
-use positions::SMALL_TABLE;
 ghost use mathlib.Core.Path.{_≡_};
 ghost use mathlib.Core.Bool.{cond, false};
 ghost use Prim.Native.Nat.{ℕ, suc, _+_, _<_, _≤_};
@@ -134,7 +133,7 @@ struct Settled {
     tests: usize,
 }
 
-// The tests over a table without marks. A small table gets small work arrays, since their clearing takes time.
+// The tests over a table without marks: those of the root until its bounds meet, then the last phase.
 fn settle(table: &[u8], guess: u32, evaluated: &mut [u8], order: &mut [u16]) -> Settled
     requires { ⌜ (WellFormed (now table)) × (frames (now table) ≤ length (now evaluated))
         × (frames (now table) ≤ length (now order)) ⌝ }
@@ -142,31 +141,18 @@ fn settle(table: &[u8], guess: u32, evaluated: &mut [u8], order: &mut [u16]) -> 
     ensures { λ r. ⌜ Settles (now (table .entry)) guess (progress 0 (now (evaluated .entry)) (now (order .entry)))
         (progress (r .leaves) (now (evaluated .exit)) (now (order .exit))) r ⌝ }
 {
-    if frame_count(table) <= SMALL_TABLE {
-        let mut lows = [LEAST; SMALL_TABLE];
-        let mut highs = [GREATEST; SMALL_TABLE];
-        return decide(table, guess, evaluated, order, &mut lows, &mut highs);
-    }
     let mut lows = [LEAST; MAX_NODES];
     let mut highs = [GREATEST; MAX_NODES];
-    decide(table, guess, evaluated, order, &mut lows, &mut highs)
-}
-
-// The tests of the root until its bounds meet, then the last phase.
-fn decide(
-    table: &[u8],
-    guess: u32,
-    evaluated: &mut [u8],
-    order: &mut [u16],
-    lows: &mut [u32],
-    highs: &mut [u32],
-) -> Settled
-    requires { ⌜ Fresh (now table) (memory 0 (now evaluated) (now order) (now lows) (now highs)) ⌝ }
-    ensures { λ r. ⌜ Settles (now (table .entry)) guess (progress 0 (now (evaluated .entry)) (now (order .entry)))
-        (progress (r .leaves) (now (evaluated .exit)) (now (order .exit))) r ⌝ }
-{
-    let met = drive(table, guess, evaluated, order, lows, highs);
-    let leaves = find_move(table, evaluated, order, lows, highs, met.score, met.leaves);
+    let met = drive(table, guess, evaluated, order, &mut lows, &mut highs);
+    let leaves = find_move(
+        table,
+        evaluated,
+        order,
+        &mut lows,
+        &mut highs,
+        met.score,
+        met.leaves,
+    );
     Settled {
         score: met.score,
         leaves,

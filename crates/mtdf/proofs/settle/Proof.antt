@@ -1,68 +1,68 @@
--- `settle` meets its contract: a table has at most as many nodes as the arrays have entries, in both cases.
-use native.Mathlib.Omega.{arith}
+-- `settle` meets its contract: the run of tests, from the least lows and the greatest highs, then the last phase.
+use mathlib.Core.Path.{refl}
 use borrow.Author.Needs.{needs}
+use lib.ListN.{replicate}
+use Rattle.gametree.specs.Tree.{least, greatest}
 use Rattle.frames.specs.Frame.{maxNodes}
-use Rattle.mtdf.proofs.Whole.{start-fresh}
+use Rattle.mtdf.specs.engine.Memory.{Memory, memory, Fresh}
+use Rattle.mtdf.proofs.Arrays.{Long}
+use Rattle.mtdf.proofs.Whole.{start-fresh, met-ready, settled-both}
 use Rattle.mtdf.proofs.settle.Statement.{statement}
 use Rattle.mtdf.proofs.settle.Tie as tie
 
-frame-count-requires : tie.Need-frame-count-requires
-frame-count-requires c κs = search needs
+-- the function's entry, from the run on
+abbrev start : tie.After-drive → tie.Start
+start c = c .before .before .before .before .before .before .before .before
 
-slice-aggregate-decide : tie.Need-slice-aggregate-decide
-slice-aggregate-decide c = search needs
+-- the arrays before the run, and after it
+abbrev before-run : tie.Start → Memory
+before-run s =
+    memory 0 (s .args .evaluated .now) (s .args .order .now) (replicate maxNodes least) (replicate maxNodes greatest)
 
-slice-aggregate-decide-2 : tie.Need-slice-aggregate-decide-2
-slice-aggregate-decide-2 c = search needs
+abbrev after-run : tie.After-drive → Memory
+after-run c =
+    let x = c .drive .last .1 .1 in
+    memory (c .drive .result .leaves) (x .0) (x .1 .0) (x .1 .1 .0) (x .1 .1 .1 .0)
 
-decide-requires : tie.Need-decide-requires
-decide-requires c κs =
-    let a = c .before .before .before .before .before .before .before .before .before .pre in
-    start-fresh _ (a .0 .0) 64 (omega arith) _ _ (a .0 .1) (a .0 .2) (a .1)
-
-same-length : tie.Need-same-length
-same-length c = search needs
-
-same-length-2 : tie.Need-same-length-2
-same-length-2 c = search needs
-
-returns : tie.Need-returns
-returns c = search needs
-
-slice-aggregate-decide-3 : tie.Need-slice-aggregate-decide-3
-slice-aggregate-decide-3 c = search needs
-
-slice-aggregate-decide-4 : tie.Need-slice-aggregate-decide-4
-slice-aggregate-decide-4 c = search needs
-
-decide-requires-2 : tie.Need-decide-requires-2
-decide-requires-2 c κs =
-    let a = c .before .before .before .before .before .before .before .before .before .pre in
+fresh : (s : tie.Start) → Fresh (s .args .table .now) (before-run s)
+fresh s =
+    let a = s .pre in
     start-fresh _ (a .0 .0) maxNodes (a .0 .0 .atMost) _ _ (a .0 .1) (a .0 .2) (a .1)
 
-same-length-3 : tie.Need-same-length-3
-same-length-3 c = search needs
+-- they keep their lengths
+long : (c : tie.After-drive) → Long (before-run (start c)) (after-run c)
+long c =
+    let k = c .drive .kept .1 .1 in
+    record { evaluated = k .0; order = k .1 .0; lows = k .1 .1 .0; highs = k .1 .1 .1 .0 }
 
-same-length-4 : tie.Need-same-length-4
-same-length-4 c = search needs
+drive-requires : tie.Need-drive-requires
+drive-requires c κs = fresh (c .before .before .before .before .before .before .before)
 
-returns-2 : tie.Need-returns-2
-returns-2 c = search needs
+find-move-requires : tie.Need-find-move-requires
+find-move-requires c κs =
+    let d = c .before .before .before .before .before .before .before .before .before .before in
+    let f = fresh (start d) in
+    met-ready _ (f .formed) _ _ (after-run d) _ (f .room) (long d) (d .drive .ensures)
+
+returns : tie.Need-returns
+returns c =
+    let g = c .before .before .before .before .before .before in
+    let d = g .before .before .before .before .before .before .before .before .before .before .before in
+    let x = g .find-move .last .1 in
+    settled-both _ (start d .pre .0 .0) _ _ _ _ _ (after-run d)
+    (memory (g .find-move .result) (x .0) (x .1 .0) (x .1 .1 .0) (x .1 .1 .1 .0)) _ _ (d .drive .ensures)
+    (g .find-move .ensures) refl refl
 
 pub settle-spec : {M : Type 1} → statement M
 settle-spec =
     tie.close
     (tie.spec
-    frame-count-requires
-    slice-aggregate-decide
-    slice-aggregate-decide-2
-    decide-requires
-    same-length
-    same-length-2
-    returns
-    slice-aggregate-decide-3
-    slice-aggregate-decide-4
-    decide-requires-2
-    same-length-3
-    same-length-4
-    returns-2)
+    (λ c. search needs)
+    (λ c. search needs)
+    drive-requires
+    (λ c. search needs)
+    (λ c. search needs)
+    find-move-requires
+    (λ c. search needs)
+    (λ c. search needs)
+    returns)
