@@ -6,7 +6,7 @@ use mathlib.Core.Path.{_≡_, refl, ap, ap₂, _∙_}
 use mathlib.Core.Logic.{inl, inr}
 use mathlib.Core.List.{List}
 use Rattle.gametree.specs.declared.Side.{Side}
-use Rattle.gametree.specs.Tree.{Tree, leaf, inner, last, _then_, number, size, sizeChildren, In, InChildren}
+use Rattle.gametree.specs.Tree.{Tree, leaf, inner, last, _then_, number, In, InChildren}
 use Rattle.gametree.proofs.certificates.Counting.{kidCount}
 use Rattle.frames.specs.Frame.{frames, firstChild, childCount}
 use Rattle.frames.specs.Position.{sideOf}
@@ -49,16 +49,6 @@ kids-in g i (suc n) p k a b h =
     elim (decLe k i) [
       | yes l ↦ inl (let e : k ≡ i = omega arith in rw e at h)
       | no l ↦ inr (kids-in g (i + 1) n p k (omega arith) (omega arith) h)
-    ]
-
--- a child's tree is no larger than all of them together
-pub kid-size : (g : ℕ → Tree) (i n k : ℕ) → i ≤ k → k ≤ i + n → size (g k) ≤ sizeChildren (childrenFrom g i n)
-unfolding childrenFrom
-kid-size g i zero k a b = let e : k ≡ i = omega arith in rw e (omega arith)
-kid-size g i (suc n) k a b =
-    elim (decLe k i) [
-      | yes l ↦ (let e : k ≡ i = omega arith in rw e (omega arith))
-      | no l ↦ omega (arith, kid-size g (i + 1) n k (omega arith) (omega arith))
     ]
 
 -- a number is 0, or the successor of another

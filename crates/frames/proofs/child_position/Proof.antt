@@ -3,8 +3,6 @@ use borrow.Author.Needs.{needs}
 use Rattle.frames.proofs.child_position.Statement.{statement}
 use Rattle.frames.proofs.child_position.Tie as tie
 
-returns : tie.Need-returns
-returns c = rw (c .before .child-side .ensures)
-
 pub child-position-spec : {M : Type 1} → statement M
-child-position-spec = tie.close (tie.spec (λ c κs. search needs) (λ c. search needs) returns)
+child-position-spec =
+    tie.close (tie.spec (λ c κs. search needs) (λ c. search needs) (λ c. rw (c .before .child-side .ensures)))

@@ -29,9 +29,6 @@ module _ (t : List ℕ) (i f k : ℕ) (h : i < frames t) (p : f ≡ firstChild t
       let l : frameSize * (f + k) - frameSize * f ≡ frameSize * k = omega arith in
       rw (lt-ltb _ _ h, ← p, ← q, le-leb _ _ r, l)
 
-returns : tie.Need-returns
-returns c = past _ _ (omega arith)
-
 returns-2 : tie.Need-returns-2
 returns-2 c =
     let k = c .before .before .before in
@@ -44,24 +41,7 @@ returns-3 c =
 
 pub children-spec : {M : Type 1} → statement M
 children-spec =
-    tie.close
-    (tie.spec
-    (λ c κs. search needs)
-    (λ c. search needs)
-    (λ c. search needs)
-    (λ c. search needs)
-    returns
-    (λ c κs. search needs)
-    (λ c κs. search needs)
-    (λ c. search needs)
-    (λ c κs. search needs)
-    (λ c. search needs)
-    (λ c. search needs)
-    (λ c. search needs)
-    (λ c. search needs)
-    (λ c. search needs)
-    (λ c. search needs)
-    (λ c. search needs)
-    (λ c. search needs)
-    returns-2
-    returns-3)
+    tie.close (tie.spec (λ c κs. search needs) (λ c. search needs) (λ c. search needs) (λ c. search needs)
+    (λ c. past _ _ (omega arith)) (λ c κs. search needs) (λ c κs. search needs) (λ c. search needs)
+    (λ c κs. search needs) (λ c. search needs) (λ c. search needs) (λ c. search needs) (λ c. search needs)
+    (λ c. search needs) (λ c. search needs) (λ c. search needs) (λ c. search needs) returns-2 returns-3)

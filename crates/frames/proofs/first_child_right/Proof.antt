@@ -47,5 +47,4 @@ returns-3 c =
     in-place (a .table .now) (a .node) _ (f .first-child .ensures .0) (omega arith) (omega arith)
 
 pub first-child-right-spec : {M : Type 1} → statement M
-first-child-right-spec =
-    tie.close (tie.spec (λ c κs. search needs) (λ c κs. search needs) returns returns-2 returns-3)
+first-child-right-spec = tie.close (tie.spec (λ c κs. search needs) (λ c κs. search needs) returns returns-2 returns-3)

@@ -21,9 +21,6 @@ fits32 c = record { sfits = omega (arith, value-small (c .args .score) (c .pre))
 fits16 : (c : tie.Start) → SFits w16 (valueOf (c .args .score))
 fits16 c = record { sfits = value-small (c .args .score) (c .pre) }
 
-sub-result : tie.Need-sub-result
-sub-result c = rw (plain c) (fits32 c)
-
 cast-result-2 : tie.Need-cast-result-2
 cast-result-2 c = rw (plain c, toZ-ofZ w32 (valueOf (c .args .score)) (fits32 c)) (fits16 c)
 
@@ -33,4 +30,4 @@ returns c =
     rw (plain c, toZ-ofZ w32 v (fits32 c), toZ-ofZ w16 v (fits16 c))
 
 pub value-spec : {M : Type 1} → statement M
-value-spec = tie.close (tie.spec (λ c. search needs) sub-result cast-result-2 returns)
+value-spec = tie.close (tie.spec (λ c. search needs) (λ c. rw (plain c) (fits32 c)) cast-result-2 returns)

@@ -47,5 +47,5 @@ returns-3 c =
 
 pub value-right-spec : {M : Type 1} → statement M
 value-right-spec =
-    tie.close
-    (tie.spec (λ c κs. search needs) (λ c κs. search needs) returns (λ c κs. search needs) returns-2 returns-3)
+    tie.close (tie.spec (λ c κs. search needs) (λ c κs. search needs) returns (λ c κs. search needs) returns-2
+    returns-3)

@@ -23,43 +23,11 @@ rest : (c : tie.After-one-within3) →
     (noDigit - b % noDigit) * (1 - (c .before .before .one-within .result + letter)) ≤ noDigit - b % noDigit
 rest c = times-bit _ _ (omega arith)
 
-add-letter : tie.Need-add-letter
-add-letter c = record { fits = omega (arith, right c .atMost) }
-
-add-other : tie.Need-add-other
-add-other c = record { fits = omega (arith, right c .atMost) }
-
-sub-other : tie.Need-sub-other
-sub-other c = right c .atMost
-
-mul-result : tie.Need-mul-result
-mul-result c = record { fits = omega (arith, right c .atMost) }
-
-add-result : tie.Need-add-result
-add-result c = record { fits = omega (arith, right c .atMost) }
-
-mul-result-2 : tie.Need-mul-result-2
-mul-result-2 c = record { fits = omega (arith, rest c) }
-
-add-result-2 : tie.Need-add-result-2
-add-result-2 c = record { fits = omega (arith, right c .atMost, rest c) }
-
-returns : tie.Need-returns
-returns c = right c .number
-
 pub digit-spec : {M : Type 1} → statement M
 digit-spec =
-    tie.close
-    (tie.spec
-    (λ c κs. search needs)
-    (λ c κs. search needs)
-    (λ c κs. search needs)
-    add-letter
-    add-other
-    sub-other
-    mul-result
-    add-result
-    (λ c. search needs)
-    mul-result-2
-    add-result-2
-    returns)
+    tie.close (tie.spec (λ c κs. search needs) (λ c κs. search needs) (λ c κs. search needs)
+    (λ c. record { fits = omega (arith, right c .atMost) }) (λ c. record { fits = omega (arith, right c .atMost) })
+    (λ c. right c .atMost) (λ c. record { fits = omega (arith, right c .atMost) })
+    (λ c. record { fits = omega (arith, right c .atMost) }) (λ c. search needs)
+    (λ c. record { fits = omega (arith, rest c) }) (λ c. record { fits = omega (arith, right c .atMost, rest c) })
+    (λ c. right c .number))

@@ -10,18 +10,10 @@ use Rattle.hex.proofs.one_from.Tie as tie
 bit : (c : tie.Start) → c .args .byte % 2 * (c .args .first % 2) ≤ 1
 bit c = omega (arith, times-bit (c .args .byte % 2) (c .args .first % 2) (omega arith))
 
-mul-result : tie.Need-mul-result
-mul-result c = record { fits = omega (arith, bit c) }
-
-add-result : tie.Need-add-result
-add-result c = record { fits = omega (arith, bit c) }
-
-add-result-3 : tie.Need-add-result-3
-add-result-3 c = record { fits = omega (arith, bit c) }
-
 returns : tie.Need-returns
 returns c = halves (c .args .first) (c .args .byte) (c .pre) (omega arith) (omega arith)
 
 pub one-from-spec : {M : Type 1} → statement M
 one-from-spec =
-    tie.close (tie.spec mul-result add-result (λ c. search needs) (λ c. search needs) add-result-3 returns)
+    tie.close (tie.spec (λ c. record { fits = omega (arith, bit c) }) (λ c. record { fits = omega (arith, bit c) })
+    (λ c. search needs) (λ c. search needs) (λ c. record { fits = omega (arith, bit c) }) returns)

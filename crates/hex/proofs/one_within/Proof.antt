@@ -1,5 +1,4 @@
 -- `hex::one_within` meets its contract: a range is what is from its first byte on and not behind its last.
-use native.Mathlib.Omega.{arith}
 use borrow.Author.Needs.{needs}
 use Rattle.hex.proofs.DigitArithmetic.{ranges}
 use Rattle.hex.proofs.one_within.Statement.{statement}

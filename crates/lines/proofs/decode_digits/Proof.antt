@@ -41,9 +41,6 @@ returns c =
     stored-refused _ _ _ _
     (line-wrong (s .args .line .now) _ (s .pre .0) (k .copy .ensures .1) _ _ (r .read-digits .ensures) (omega arith))
 
-loop-holds : tie.Need-loop-holds Inv-loop μ-loop
-loop-holds c = (search needs, omega arith, refl)
-
 -- the function's entry, from the loop on
 abbrev start : tie.In-loop Inv-loop μ-loop → tie.Start Inv-loop μ-loop
 start c = c .before .before .before .before .before .before .before .before .before .before .before .before
@@ -73,12 +70,6 @@ byte-fits : (c : tie.In-loop Inv-loop μ-loop) → let n = c .before .before .be
     (getD n (2 * k) 0 < noDigit) × (getD n (2 * k + 1) 0 < noDigit)
 byte-fits c = (small c (2 * c .before .loop .k) (omega arith), small c (2 * c .before .loop .k + 1) (omega arith))
 
-mul-table-2 : tie.Need-mul-table-2 Inv-loop μ-loop
-mul-table-2 c = record { fits = omega (arith, byte-fits c) }
-
-add-table-2 : tie.Need-add-table-2 Inv-loop μ-loop
-add-table-2 c = record { fits = omega (arith, byte-fits c) }
-
 loop-again : tie.Need-loop-again Inv-loop μ-loop
 loop-again c =
     let l = c .before .loop in (
@@ -98,28 +89,8 @@ returns-2 c =
 
 pub decode-digits-spec : {M : Type 1} → statement M
 decode-digits-spec =
-    tie.close
-    (tie.spec
-    Inv-loop
-    μ-loop
-    (λ c. search needs)
-    (λ c κs. search needs)
-    slice-aggregate-read-digits
-    (λ c. search needs)
-    read-digits-requires
-    returns
-    loop-holds
-    (λ c. search needs)
-    (λ c. search needs)
-    mul-table-2
-    (λ c. search needs)
-    (λ c. search needs)
-    (λ c. search needs)
-    add-table-2
-    (λ c. search needs)
-    (λ c. search needs)
-    (λ c. search needs)
-    (λ c. search needs)
-    loop-again
-    (λ c. search needs)
-    returns-2)
+    tie.close (tie.spec Inv-loop μ-loop (λ c. search needs) (λ c κs. search needs) slice-aggregate-read-digits
+    (λ c. search needs) read-digits-requires returns (λ c. (search needs, omega arith, refl)) (λ c. search needs)
+    (λ c. search needs) (λ c. record { fits = omega (arith, byte-fits c) }) (λ c. search needs) (λ c. search needs)
+    (λ c. search needs) (λ c. record { fits = omega (arith, byte-fits c) }) (λ c. search needs) (λ c. search needs)
+    (λ c. search needs) (λ c. search needs) loop-again (λ c. search needs) returns-2)

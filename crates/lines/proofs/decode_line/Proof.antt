@@ -11,18 +11,9 @@ use Rattle.lines.proofs.Storing.{stored-refused}
 use Rattle.lines.proofs.decode_line.Statement.{statement}
 use Rattle.lines.proofs.decode_line.Tie as tie
 
-returns : tie.Need-returns
-returns c = stored-refused _ _ _ _ (line-short _ _ (omega arith))
-
-returns-2 : tie.Need-returns-2
-returns-2 c = stored-refused _ _ _ _ (line-short _ _ (omega arith))
-
 returns-3 : tie.Need-returns-3
 returns-3 c =
     stored-refused _ _ _ _ (line-open _ _ (sym (c .before .is-closed .ensures) ∙ not-true _ (c .if3 .taken)))
-
-decode-digits-requires : tie.Need-decode-digits-requires
-decode-digits-requires c κs = (simp (length-take, length-drop) (omega arith), search needs)
 
 returns-4 : tie.Need-returns-4
 returns-4 c =
@@ -34,16 +25,7 @@ returns-4 c =
 
 pub decode-line-spec : {M : Type 1} → statement M
 decode-line-spec =
-    tie.close
-    (tie.spec
-    returns
-    returns-2
-    (λ c. search needs)
-    (λ c κs. search needs)
-    returns-3
-    (λ c. search needs)
-    (λ c. search needs)
-    (λ c. search needs)
-    decode-digits-requires
-    (λ c. search needs)
-    returns-4)
+    tie.close (tie.spec (λ c. stored-refused _ _ _ _ (line-short _ _ (omega arith)))
+    (λ c. stored-refused _ _ _ _ (line-short _ _ (omega arith))) (λ c. search needs) (λ c κs. search needs) returns-3
+    (λ c. search needs) (λ c. search needs) (λ c. search needs)
+    (λ c κs. (simp (length-take, length-drop) (omega arith), search needs)) (λ c. search needs) returns-4)

@@ -16,9 +16,6 @@ Inv-loop text small₀ k₀ k-end small k = Looking text small k
 abbrev μ-loop : tie.MeasureT-loop
 μ-loop text small₀ k₀ k-end small k = length text - k
 
-loop-holds : tie.Need-loop-holds Inv-loop μ-loop
-loop-holds c = looking-none _
-
 loop-again : tie.Need-loop-again Inv-loop μ-loop
 loop-again c =
     let l = c .before .before .before .before in
@@ -28,20 +25,7 @@ loop-again c =
     (λ w. rw (← c .before .is-lowercase .ensures, w .0 .left) (w .1 ∙ sym (or-false (l .loop .small))))
     (c .if1 .came))
 
-returns : tie.Need-returns Inv-loop μ-loop
-returns c =
-    looking-all _ _ _ (c .before .loop .inv) (omega arith)
-
 pub has-lowercase-spec : {M : Type 1} → statement M
 has-lowercase-spec =
-    tie.close
-    (tie.spec
-    Inv-loop
-    μ-loop
-    loop-holds
-    (λ c. search needs)
-    (λ c κs. search needs)
-    (λ c. search needs)
-    (λ c. search needs)
-    loop-again
-    returns)
+    tie.close (tie.spec Inv-loop μ-loop (λ c. looking-none _) (λ c. search needs) (λ c κs. search needs)
+    (λ c. search needs) (λ c. search needs) loop-again (λ c. looking-all _ _ _ (c .before .loop .inv) (omega arith)))

@@ -17,9 +17,6 @@ Inv-loop digits numbers₀ others₀ k₀ numbers others k =
 abbrev μ-loop : tie.MeasureT-loop
 μ-loop digits numbers₀ others₀ k₀ numbers others k = digitsAtOnce - k
 
-loop-holds : tie.Need-loop-holds Inv-loop μ-loop
-loop-holds c = (search needs, omega arith, numbered-none _ _)
-
 add-others : tie.Need-add-others Inv-loop μ-loop
 add-others c =
     let l = c .before .before .before .loop in
@@ -43,17 +40,6 @@ returns c =
 
 pub read-digits-spec : {M : Type 1} → statement M
 read-digits-spec =
-    tie.close
-    (tie.spec
-    Inv-loop
-    μ-loop
-    loop-holds
-    (λ c. search needs)
-    (λ c κs. search needs)
-    (λ c. search needs)
-    add-others
-    (λ c. search needs)
-    (λ c. search needs)
-    loop-again
-    (λ c. search needs)
-    returns)
+    tie.close (tie.spec Inv-loop μ-loop (λ c. (search needs, omega arith, numbered-none _ _)) (λ c. search needs)
+    (λ c κs. search needs) (λ c. search needs) add-others (λ c. search needs) (λ c. search needs) loop-again
+    (λ c. search needs) returns)

@@ -26,18 +26,12 @@ at-start c = c .before .before .before .before .before .before
 inside : (c : tie.In-loop Inv-loop μ-loop) → c .before .loop .node < frames (at-start c .args .table .now)
 inside c = visit-goes _ (c .before .loop .inv .visit) (at-start c .pre .0) (omega arith)
 
-slice-write-positions : tie.Need-slice-write-positions Inv-loop μ-loop
-slice-write-positions c = omega (arith, c .before .before .before .pre .0 .nonEmpty)
-
 loop-holds : tie.Need-loop-holds Inv-loop μ-loop
 loop-holds c =
     let a = c .before .before .before .before in
     let t = a .args .table .now in
     filled-root t (a .pre .0) (positionEntry t) (a .args .positions .now) _ (c .before .packed .ensures ∙ root-entry t)
     (a .pre .1)
-
-child-count-requires : tie.Need-child-count-requires Inv-loop μ-loop
-child-count-requires c κs = inside c
 
 add-end : tie.Need-add-end Inv-loop μ-loop
 add-end c =
@@ -92,20 +86,7 @@ returns c =
 
 pub fill-spec : {M : Type 1} → statement M
 fill-spec =
-    tie.close
-    (tie.spec
-    Inv-loop
-    μ-loop
-    (λ c κs. search needs)
-    slice-write-positions
-    (λ c κs. search needs)
-    loop-holds
-    child-count-requires
-    add-end
-    position-at-requires
-    fill-children-requires
-    add-node
-    loop-less
-    loop-again
-    same-length
+    tie.close (tie.spec Inv-loop μ-loop (λ c κs. search needs)
+    (λ c. omega (arith, c .before .before .before .pre .0 .nonEmpty)) (λ c κs. search needs) loop-holds
+    (λ c κs. inside c) add-end position-at-requires fill-children-requires add-node loop-less loop-again same-length
     returns)

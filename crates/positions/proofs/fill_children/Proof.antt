@@ -16,9 +16,6 @@ Inv-loop table positions₀ from to parent position child₀ positions child =
 abbrev μ-loop : tie.MeasureT-loop
 μ-loop table positions₀ from to parent position child₀ positions child = to - child
 
-loop-holds : tie.Need-loop-holds Inv-loop μ-loop
-loop-holds c = run-begins _ _ _ _ (omega arith)
-
 packed-requires : tie.Need-packed-requires Inv-loop μ-loop
 packed-requires c κs = (omega arith, omega (arith, ap (λ p. p .depth) (c .child-position .ensures)))
 
@@ -28,22 +25,8 @@ loop-again c =
     run-step _ _ _ _ _ _ _ _ (omega arith)
     (c .packed .ensures ∙ ap (packed _) (c .before .child-position .ensures)) refl r
 
-returns : tie.Need-returns Inv-loop μ-loop
-returns c = run-ends _ _ _ _ _ _ (omega arith) (c .before .loop .inv)
-
 pub fill-children-spec : {M : Type 1} → statement M
 fill-children-spec =
-    tie.close
-    (tie.spec
-    Inv-loop
-    μ-loop
-    loop-holds
-    (λ c κs. search needs)
-    packed-requires
-    (λ c. search needs)
-    (λ c. search needs)
-    (λ c. search needs)
-    (λ c. search needs)
-    loop-again
-    (λ c. search needs)
-    returns)
+    tie.close (tie.spec Inv-loop μ-loop (λ c. run-begins _ _ _ _ (omega arith)) (λ c κs. search needs) packed-requires
+    (λ c. search needs) (λ c. search needs) (λ c. search needs) (λ c. search needs) loop-again (λ c. search needs)
+    (λ c. run-ends _ _ _ _ _ _ (omega arith) (c .before .loop .inv)))

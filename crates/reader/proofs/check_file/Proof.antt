@@ -50,12 +50,6 @@ returns-2 c =
     (next-refused f _ _ (front (l .before)) (fileCheck16 f) (framesRejection (decoded f)) _
     (answer-rejected _ _ _ (sym (c .before .rejection .given .1) ∙ l .check-letters .ensures)))
 
-mul-end : tie.Need-mul-end
-mul-end c = omega (arith, front (c .before .before .before) .atMost)
-
-slice-reshare-prefix-check-frames : tie.Need-slice-reshare-prefix-check-frames
-slice-reshare-prefix-check-frames c = front-room _ _ _ _ (front (c .before .before .before))
-
 slice-aggregate-check-frames : tie.Need-slice-aggregate-check-frames
 slice-aggregate-check-frames c =
     sym (length-take-le _ _ (front-room _ _ _ _ (front (c .before .before .before .before))))
@@ -71,21 +65,8 @@ returns-3 c =
 
 pub check-file-spec : {M : Type 1} → statement M
 check-file-spec =
-    tie.close
-    (tie.spec
-    (λ c κs. search needs)
-    (λ c. search needs)
-    (λ c. search needs)
-    (λ c. search needs)
-    returns
-    check-letters-requires
-    (λ c. search needs)
-    (λ c. search needs)
-    returns-2
-    (λ c. search needs)
-    mul-end
-    slice-reshare-prefix-check-frames
-    slice-aggregate-check-frames
-    check-frames-requires
-    (λ c. search needs)
-    returns-3)
+    tie.close (tie.spec (λ c κs. search needs) (λ c. search needs) (λ c. search needs) (λ c. search needs) returns
+    check-letters-requires (λ c. search needs) (λ c. search needs) returns-2 (λ c. search needs)
+    (λ c. omega (arith, front (c .before .before .before) .atMost))
+    (λ c. front-room _ _ _ _ (front (c .before .before .before))) slice-aggregate-check-frames check-frames-requires
+    (λ c. search needs) returns-3)

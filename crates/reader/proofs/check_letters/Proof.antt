@@ -1,7 +1,6 @@
 -- `reader::check_letters` meets its contract: a file without a lowercase letter has no line with one.
 use mathlib.Core.Path.{sym, _∙_}
 use borrow.Author.Needs.{needs}
-use borrow.Author.Tests.{not-true}
 use Rattle.reader.proofs.Letters.{file-small}
 use Rattle.reader.proofs.check_letters.Statement.{statement}
 use Rattle.reader.proofs.check_letters.Tie as tie

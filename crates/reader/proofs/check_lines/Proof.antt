@@ -23,12 +23,5 @@ returns-3 c =
 
 pub check-lines-spec : {M : Type 1} → statement M
 check-lines-spec =
-    tie.close
-    (tie.spec
-    (λ c κs. search needs)
-    returns
-    (λ c κs. search needs)
-    returns-2
-    decode-requires
-    (λ c. search needs)
-    returns-3)
+    tie.close (tie.spec (λ c κs. search needs) returns (λ c κs. search needs) returns-2 decode-requires
+    (λ c. search needs) returns-3)

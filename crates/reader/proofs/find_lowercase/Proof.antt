@@ -24,18 +24,6 @@ room : (c : tie.In-loop Inv-loop μ-loop) →
     lineSize * l .loop .line + lineDigits ≤ length (now (l .before .before .args .file))
 room c = let l = c .before in line-room _ _ (l .loop .inv) (omega (arith, l .before .before .pre .1))
 
-loop-holds : tie.Need-loop-holds Inv-loop μ-loop
-loop-holds c = lettering-none _ (c .before .pre .0)
-
-mul-at : tie.Need-mul-at Inv-loop μ-loop
-mul-at c = omega (arith, room c)
-
-add-end : tie.Need-add-end Inv-loop μ-loop
-add-end c = omega (arith, room c)
-
-part-has-lowercase-end : tie.Need-part-has-lowercase-end Inv-loop μ-loop
-part-has-lowercase-end c = omega (arith, room c)
-
 returns : tie.Need-returns Inv-loop μ-loop
 returns c =
     let t = c .before in
@@ -59,20 +47,6 @@ returns-2 c =
 
 pub find-lowercase-spec : {M : Type 1} → statement M
 find-lowercase-spec =
-    tie.close
-    (tie.spec
-    Inv-loop
-    μ-loop
-    loop-holds
-    mul-at
-    add-end
-    (λ c. search needs)
-    (λ c. search needs)
-    part-has-lowercase-end
-    (λ c κs. search needs)
-    (λ c κs. search needs)
-    returns
-    (λ c. search needs)
-    (λ c. search needs)
-    loop-again
-    returns-2)
+    tie.close (tie.spec Inv-loop μ-loop (λ c. lettering-none _ (c .before .pre .0)) (λ c. omega (arith, room c))
+    (λ c. omega (arith, room c)) (λ c. search needs) (λ c. search needs) (λ c. omega (arith, room c))
+    (λ c κs. search needs) (λ c κs. search needs) returns (λ c. search needs) (λ c. search needs) loop-again returns-2)

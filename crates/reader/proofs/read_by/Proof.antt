@@ -27,17 +27,11 @@ returns c =
     let o = read-refused _ _ _ (decoded-rejected _ _ _ _ (k .ensures) _ e) in
     (e ∙ o .0, o .1)
 
-mul-size : tie.Need-mul-size
-mul-size c = omega (arith, front c .atMost)
-
 returns-2 : tie.Need-returns-2
 returns-2 c =
     let s = c .before .before .before .before .before .before .before .before .before .before .before .before in
     let o = read-short _ (now (s .args .table)) _ _ (front (c .before .before)) (c .before .if1 .taken) in
     (c .rejected .ensures ∙ o .0, o .1)
-
-slice-reshare-prefix-copy : tie.Need-slice-reshare-prefix-copy
-slice-reshare-prefix-copy c = front-room _ _ _ _ (front (c .before))
 
 slice-aggregate-copy : tie.Need-slice-aggregate-copy
 slice-aggregate-copy c = sym (length-take-le _ _ (front-room _ _ _ _ (front (c .before .before))))
@@ -53,20 +47,7 @@ returns-3 c =
 
 pub read-by-spec : {M : Type 1} → statement M
 read-by-spec =
-    tie.close
-    (tie.spec
-    (λ c κs. search needs)
-    (λ c. search needs)
-    (λ c. search needs)
-    (λ c. search needs)
-    returns
-    mul-size
-    (λ c κs. search needs)
-    (λ c. search needs)
-    returns-2
-    slice-reshare-prefix-copy
-    slice-aggregate-copy
-    copy-requires
-    (λ c. search needs)
-    (λ c. search needs)
-    returns-3)
+    tie.close (tie.spec (λ c κs. search needs) (λ c. search needs) (λ c. search needs) (λ c. search needs) returns
+    (λ c. omega (arith, front c .atMost)) (λ c κs. search needs) (λ c. search needs) returns-2
+    (λ c. front-room _ _ _ _ (front (c .before))) slice-aggregate-copy copy-requires (λ c. search needs)
+    (λ c. search needs) returns-3)

@@ -37,9 +37,6 @@ module _ (t : List ℕ) where
       whole : length t % frameSize ≡ 0 → answer (frames t) (framesRejection t) ≡ checked t
       whole n = ap (answer (frames t)) (sym (rejection-frames t (omega arith) l n))
 
-returns : tie.Need-returns
-returns c = c .rejected .ensures ∙ empty _ (c .before .if1 .taken)
-
 returns-2 : tie.Need-returns-2
 returns-2 c = c .rejected2 .ensures ∙ too-long _ (c .before .before .if1 .left) (c .before .if2 .taken)
 
@@ -55,13 +52,5 @@ returns-4 c =
 
 pub check-spec : {M : Type 1} → statement M
 check-spec =
-    tie.close
-    (tie.spec
-    (λ c κs. search needs)
-    returns
-    (λ c κs. search needs)
-    returns-2
-    (λ c κs. search needs)
-    returns-3
-    (λ c κs. search needs)
-    returns-4)
+    tie.close (tie.spec (λ c κs. search needs) (λ c. c .rejected .ensures ∙ empty _ (c .before .if1 .taken))
+    (λ c κs. search needs) returns-2 (λ c κs. search needs) returns-3 (λ c κs. search needs) returns-4)

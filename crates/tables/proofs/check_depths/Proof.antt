@@ -41,21 +41,12 @@ standing c =
     (λ w. rw (w .1, w .2) (stays _ (at-start l .pre) _ _ _ _ i (open-yet l) (w .0 .left), i .shallow))
     (c .if1 .came)
 
-loop-holds : tie.Need-loop-holds Inv-loop μ-loop
-loop-holds c = descending-none _
-
-add-depth : tie.Need-add-depth Inv-loop μ-loop
-add-depth c = omega (arith, c .before .before .loop .inv .shallow)
-
 returns : tie.Need-returns Inv-loop μ-loop
 returns c =
     let l = c .before .before .before in
     c .rejected .ensures
     ∙ descending-until _ (at-start l .pre) _ _ _ _ (l .before .loop .inv) (open-yet l) (c .before .before .if1 .taken)
     (c .before .if2 .taken)
-
-child-count-requires : tie.Need-child-count-requires Inv-loop μ-loop
-child-count-requires c κs = inside (c .before)
 
 add-next : tie.Need-add-next Inv-loop μ-loop
 add-next c =
@@ -65,12 +56,6 @@ add-next c =
       counts-within (at-start l .args .table .now) (at-start l .pre) _ _ _ _ (l .before .loop .inv) (open-yet l)
           (c .child-count .result) (c .child-count .ensures .0),
     )
-
-add-node : tie.Need-add-node Inv-loop μ-loop
-add-node c = omega (arith, inside (c .before .before))
-
-loop-less : tie.Need-loop-less Inv-loop μ-loop
-loop-less c = omega (arith, inside (c .before .before))
 
 loop-again : tie.Need-loop-again Inv-loop μ-loop
 loop-again c =
@@ -88,18 +73,7 @@ returns-2 c =
 
 pub check-depths-spec : {M : Type 1} → statement M
 check-depths-spec =
-    tie.close
-    (tie.spec
-    Inv-loop
-    μ-loop
-    (λ c κs. search needs)
-    loop-holds
-    add-depth
-    (λ c κs. search needs)
-    returns
-    child-count-requires
-    add-next
-    add-node
-    loop-less
-    loop-again
-    returns-2)
+    tie.close (tie.spec Inv-loop μ-loop (λ c κs. search needs) (λ c. descending-none _)
+    (λ c. omega (arith, c .before .before .loop .inv .shallow)) (λ c κs. search needs) returns
+    (λ c κs. inside (c .before)) add-next (λ c. omega (arith, inside (c .before .before)))
+    (λ c. omega (arith, inside (c .before .before))) loop-again returns-2)

@@ -13,9 +13,6 @@ Inv-loop table n next₀ node₀ next node = Asking table node next
 abbrev μ-loop : tie.MeasureT-loop
 μ-loop table n next₀ node₀ next node = n - node
 
-loop-holds : tie.Need-loop-holds Inv-loop μ-loop
-loop-holds c = asking-none _
-
 returns : tie.Need-returns Inv-loop μ-loop
 returns c =
     let g = c .enum-told .given in
@@ -29,22 +26,8 @@ loop-again c =
     let l = c .before .before .before .before .before in
     asking-more _ _ _ (omega arith) (l .loop .inv) _ (sym (g .1) ∙ c .before .before .before .check-node .ensures)
 
-returns-2 : tie.Need-returns-2 Inv-loop μ-loop
-returns-2 c = asking-all _ _ _ (omega arith) (c .before .loop .inv)
-
 pub check-nodes-spec : {M : Type 1} → statement M
 check-nodes-spec =
-    tie.close
-    (tie.spec
-    Inv-loop
-    μ-loop
-    (λ c κs. search needs)
-    loop-holds
-    (λ c κs. search needs)
-    (λ c. search needs)
-    (λ c. search needs)
-    returns
-    (λ c. search needs)
-    (λ c. search needs)
-    loop-again
-    returns-2)
+    tie.close (tie.spec Inv-loop μ-loop (λ c κs. search needs) (λ c. asking-none _) (λ c κs. search needs)
+    (λ c. search needs) (λ c. search needs) returns (λ c. search needs) (λ c. search needs) loop-again
+    (λ c. asking-all _ _ _ (omega arith) (c .before .loop .inv)))

@@ -14,18 +14,12 @@ Inv-loop file₀ frame k₀ file k = Laying frame file₀ file k
 abbrev μ-loop : tie.MeasureT-loop
 μ-loop file₀ frame k₀ file k = frameSize - k
 
-loop-holds : tie.Need-loop-holds Inv-loop μ-loop
-loop-holds c = laying-none _ (c .before .before .pre .1) _
-
 capital-requires : tie.Need-capital-requires Inv-loop μ-loop
 capital-requires c κs = omega (arith, c .shared-slice-known2 .given (c .before .before .loop .k))
 
 capital-requires-2 : tie.Need-capital-requires-2 Inv-loop μ-loop
 capital-requires-2 c κs =
     omega (arith, c .before .shared-slice-known2 .given (c .before .before .before .loop .k))
-
-slice-write-file-2 : tie.Need-slice-write-file-2 Inv-loop μ-loop
-slice-write-file-2 c = simp length-set (omega arith)
 
 loop-again : tie.Need-loop-again Inv-loop μ-loop
 loop-again c =
@@ -41,22 +35,7 @@ returns c =
 
 pub write-line-spec : {M : Type 1} → statement M
 write-line-spec =
-    tie.close
-    (tie.spec
-    Inv-loop
-    μ-loop
-    loop-holds
-    (λ c. search needs)
-    capital-requires
-    (λ c. search needs)
-    (λ c. search needs)
-    capital-requires-2
-    (λ c. search needs)
-    (λ c. search needs)
-    slice-write-file-2
-    (λ c. search needs)
-    (λ c. search needs)
-    loop-again
-    (λ c. search needs)
-    (λ c. search needs)
-    returns)
+    tie.close (tie.spec Inv-loop μ-loop (λ c. laying-none _ (c .before .before .pre .1) _) (λ c. search needs)
+    capital-requires (λ c. search needs) (λ c. search needs) capital-requires-2 (λ c. search needs) (λ c. search needs)
+    (λ c. simp length-set (omega arith)) (λ c. search needs) (λ c. search needs) loop-again (λ c. search needs)
+    (λ c. search needs) returns)

@@ -15,9 +15,6 @@ Inv-loop table file₀ nodes node₀ file node = Writing table file₀ nodes fil
 abbrev μ-loop : tie.MeasureT-loop
 μ-loop table file₀ nodes node₀ file node = nodes - node
 
-loop-holds : tie.Need-loop-holds Inv-loop μ-loop
-loop-holds c = writing-none _ _ _
-
 write-line-requires : tie.Need-write-line-requires Inv-loop μ-loop
 write-line-requires c κs =
     (simp (length-take, length-drop) (omega arith), simp (length-take, length-drop) (omega arith))
@@ -37,23 +34,7 @@ returns c =
 
 pub write-lines-spec : {M : Type 1} → statement M
 write-lines-spec =
-    tie.close
-    (tie.spec
-    Inv-loop
-    μ-loop
-    loop-holds
-    (λ c. search needs)
-    (λ c. search needs)
-    (λ c. search needs)
-    (λ c. search needs)
-    (λ c. search needs)
-    (λ c. search needs)
-    (λ c. search needs)
-    (λ c. search needs)
-    (λ c. search needs)
-    write-line-requires
-    (λ c. search needs)
-    (λ c. search needs)
-    loop-again
-    (λ c. search needs)
-    returns)
+    tie.close (tie.spec Inv-loop μ-loop (λ c. writing-none _ _ _) (λ c. search needs) (λ c. search needs)
+    (λ c. search needs) (λ c. search needs) (λ c. search needs) (λ c. search needs) (λ c. search needs)
+    (λ c. search needs) (λ c. search needs) write-line-requires (λ c. search needs) (λ c. search needs) loop-again
+    (λ c. search needs) returns)

@@ -51,27 +51,11 @@ returns : tie.Need-returns
 returns c =
     sym (line-none _ _ (sym (c .before .before .decode-line .ensures .answered) ∙ not-true _ (c .if1 .taken)))
 
-add-end : tie.Need-add-end
-add-end c = omega (arith, fits (c .before .before))
-
-returns-2 : tie.Need-returns-2
-returns-2 c = read (c .before) _ (omega arith)
-
-add-t13 : tie.Need-add-t13
-add-t13 c = omega (arith, fits (c .before .before .before))
-
 returns-3 : tie.Need-returns-3
 returns-3 c = read (c .before) _ (omega (arith, fits (c .before .before .before)))
 
 pub read-line-spec : {M : Type 1} → statement M
 read-line-spec =
-    tie.close
-    (tie.spec
-    (λ c. search needs)
-    (λ c κs. search needs)
-    returns
-    (λ c κs. search needs)
-    add-end
-    returns-2
-    add-t13
-    returns-3)
+    tie.close (tie.spec (λ c. search needs) (λ c κs. search needs) returns (λ c κs. search needs)
+    (λ c. omega (arith, fits (c .before .before))) (λ c. read (c .before) _ (omega arith))
+    (λ c. omega (arith, fits (c .before .before .before))) returns-3)
