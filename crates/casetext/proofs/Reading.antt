@@ -1,13 +1,12 @@
 -- The numbers of a call, case by case as the code reads them.
 use Prim.Native.Nat.{ℕ, _+_, _-_, _*_, _%_, _<_, _≤_}
-use mathlib.Core.Path.{_≡_, refl, ap, _∙_}
-use mathlib.Core.List.{List, _∷_}
+use mathlib.Core.Path.{_≡_}
+use mathlib.Core.List.{List}
 use lib.ListN.{length, getD, set, drop, drop-of-length-le}
 use lib.Seq.{drop-cons}
-use native.Mathlib.Omega.{arith}
 use native.Mathlib.Numerals.{add-one}
 use borrow.Author.Tests.{lt-ltb, le-ltb, le-leb, lt-leb, eq-eqb, ne-eqb}
-use Rattle.casetext.specs.Numbers.{Reading, blankByte, longer, started, continued, byteRead, bytesRead}
+use Rattle.casetext.specs.Numbers.{Reading, blankByte, longer, started, byteRead, bytesRead}
 
 pub longer-digit : (n b : ℕ) → 48 ≤ b → b ≤ 57 → longer n b ≡ n % 10000000 * 10 + (b - 48)
 longer-digit n b h k = rw (le-leb 48 b h, le-leb b 57 k)

@@ -14,9 +14,6 @@ Inv-loop evaluated₀ n i₀ evaluated i = (evaluated ≡ written (λ k. 0) i ev
 abbrev μ-loop : tie.MeasureT-loop
 μ-loop evaluated₀ n i₀ evaluated i = n - i
 
-loop-holds : tie.Need-loop-holds Inv-loop μ-loop
-loop-holds c = (sym (written-none (λ k. 0) _), omega arith)
-
 slice-write-evaluated : tie.Need-slice-write-evaluated Inv-loop μ-loop
 slice-write-evaluated c =
     let b = c .before .before .args .evaluated .now in
@@ -42,14 +39,5 @@ returns c =
 
 pub clear-spec : {M : Type 1} → statement M
 clear-spec =
-    tie.close
-    (tie.spec
-    Inv-loop
-    μ-loop
-    loop-holds
-    slice-write-evaluated
-    (λ c. omega arith)
-    (λ c. omega arith)
-    loop-again
-    same-length
-    returns)
+    tie.close (tie.spec Inv-loop μ-loop (λ c. (sym (written-none (λ k. 0) _), omega arith)) slice-write-evaluated
+    (λ c. omega arith) (λ c. omega arith) loop-again same-length returns)

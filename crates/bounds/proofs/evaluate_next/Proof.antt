@@ -17,24 +17,7 @@ fits c =
     let l = next-fits _ (p .1) (p .0) in
     (omega (arith, l, p .1 .room), omega (arith, l, p .1 .atMost))
 
-mul-order : tie.Need-mul-order
-mul-order c = omega (arith, fits c .1)
-
-slice-write-order : tie.Need-slice-write-order
-slice-write-order c = fits c .0
-
-add-leaves : tie.Need-add-leaves
-add-leaves c = omega (arith, fits c .1)
-
 pub evaluate-next-spec : {M : Type 1} → statement M
 evaluate-next-spec =
-    tie.close
-    (tie.spec
-    (λ c κs. search needs)
-    (λ c. search needs)
-    mul-order
-    slice-write-order
-    add-leaves
-    (λ c. search needs)
-    (λ c. search needs)
-    (λ c. search needs))
+    tie.close (tie.spec (λ c κs. search needs) (λ c. search needs) (λ c. omega (arith, fits c .1)) (λ c. fits c .0)
+    (λ c. omega (arith, fits c .1)) (λ c. search needs) (λ c. search needs) (λ c. search needs))

@@ -79,15 +79,6 @@ loop-again c =
       rising-step _ (m .2) (omega arith) _ (rw e),
     )
 
-same-length : tie.Need-same-length Inv-loop μ-loop
-same-length c = ap length (c .before .loop .inv .0)
-
-same-length-2 : tie.Need-same-length-2 Inv-loop μ-loop
-same-length-2 c = c .before .loop .inv .1 .long
-
-same-length-3 : tie.Need-same-length-3 Inv-loop μ-loop
-same-length-3 c = c .before .loop .inv .2 .long
-
 returns : tie.Need-returns Inv-loop μ-loop
 returns c =
     let m = c .before .loop .inv in
@@ -95,21 +86,7 @@ returns c =
 
 pub fill-bounds-spec : {M : Type 1} → statement M
 fill-bounds-spec =
-    tie.close
-    (tie.spec
-    Inv-loop
-    μ-loop
-    (λ c κs. search needs)
-    loop-holds
-    (λ c. search needs)
-    node-bounds-requires
-    mul-lows
-    slice-write-lows
-    mul-highs
-    slice-write-highs
-    (λ c. search needs)
-    loop-again
-    same-length
-    same-length-2
-    same-length-3
+    tie.close (tie.spec Inv-loop μ-loop (λ c κs. search needs) loop-holds (λ c. search needs) node-bounds-requires
+    mul-lows slice-write-lows mul-highs slice-write-highs (λ c. search needs) loop-again
+    (λ c. ap length (c .before .loop .inv .0)) (λ c. c .before .loop .inv .1 .long) (λ c. c .before .loop .inv .2 .long)
     returns)

@@ -64,16 +64,5 @@ returns-2 c =
 
 pub node-bounds-spec : {M : Type 1} → statement M
 node-bounds-spec =
-    tie.close
-    (tie.spec
-    (λ c κs. search needs)
-    (λ c κs. search needs)
-    leaf-bounds-requires
-    (λ c. search needs)
-    returns
-    (λ c κs. search needs)
-    (λ c. search needs)
-    (λ c κs. search needs)
-    best-requires
-    best-requires-2
-    returns-2)
+    tie.close (tie.spec (λ c κs. search needs) (λ c κs. search needs) leaf-bounds-requires (λ c. search needs) returns
+    (λ c κs. search needs) (λ c. search needs) (λ c κs. search needs) best-requires best-requires-2 returns-2)

@@ -27,18 +27,6 @@ front c =
     let d = c .before .before .before .before .before .check-lines in
     decoded-front _ _ _ _ (d .ensures) (λ p. (let q = lines-parts _ p in (q .1, q .2))) _ (c .before .lines .given .1)
 
-check-lines-requires : tie.Need-check-lines-requires
-check-lines-requires c κs = search needs
-
-enum-known-lines : tie.Need-enum-known-lines
-enum-known-lines c = search needs
-
-enum-told : tie.Need-enum-told
-enum-told c = search needs
-
-same-length : tie.Need-same-length
-same-length c = search needs
-
 returns : tie.Need-returns
 returns c =
     let l = c .before .before .before .before in
@@ -46,21 +34,12 @@ returns c =
     let frames = framesRejection (decoded f) in
     rw (lines-then f frames) (lines-refused _ _ frames _ (l .check-lines .ensures) _ (c .enum-told .given .1))
 
-mul-end : tie.Need-mul-end
-mul-end c = omega (arith, front c .atMost)
-
-slice-reshare-prefix-check-frames : tie.Need-slice-reshare-prefix-check-frames
-slice-reshare-prefix-check-frames c = front-room _ _ _ _ (front c)
-
 slice-aggregate-check-frames : tie.Need-slice-aggregate-check-frames
 slice-aggregate-check-frames c = sym (length-take-le _ _ (front-room _ _ _ _ (front (c .before))))
 
 check-frames-requires : tie.Need-check-frames-requires
 check-frames-requires c κs =
     let w = front (c .before) in rw (w .bytes) (omega (arith, w .atMost, w .nodes))
-
-same-length-2 : tie.Need-same-length-2
-same-length-2 c = search needs
 
 returns-2 : tie.Need-returns-2
 returns-2 c =
@@ -71,16 +50,6 @@ returns-2 c =
 
 pub check-file-spec : {M : Type 1} → statement M
 check-file-spec =
-    tie.close
-    (tie.spec
-    check-lines-requires
-    enum-known-lines
-    enum-told
-    same-length
-    returns
-    mul-end
-    slice-reshare-prefix-check-frames
-    slice-aggregate-check-frames
-    check-frames-requires
-    same-length-2
-    returns-2)
+    tie.close (tie.spec (λ c κs. search needs) (λ c. search needs) (λ c. search needs) (λ c. search needs) returns
+    (λ c. omega (arith, front c .atMost)) (λ c. front-room _ _ _ _ (front c)) slice-aggregate-check-frames
+    check-frames-requires (λ c. search needs) returns-2)

@@ -25,18 +25,6 @@ front c =
     let f = now (start d .args .file) in
     decoded-front f _ _ _ (d .check-file .ensures) (base-sized f) _ (c .before .nodes .given .1)
 
-check-file-requires : tie.Need-check-file-requires
-check-file-requires c κs = search needs
-
-enum-known-nodes : tie.Need-enum-known-nodes
-enum-known-nodes c = search needs
-
-mul-end : tie.Need-mul-end
-mul-end c = omega (arith, front c .atMost)
-
-slice-reshare-prefix-write-accepted : tie.Need-slice-reshare-prefix-write-accepted
-slice-reshare-prefix-write-accepted c = front-room _ _ _ _ (front c)
-
 slice-aggregate-write-accepted : tie.Need-slice-aggregate-write-accepted
 slice-aggregate-write-accepted c = sym (length-take-le _ _ (front-room _ _ _ _ (front (c .before))))
 
@@ -47,15 +35,6 @@ write-accepted-requires c κs =
     rw (w .bytes)
     (base-table (now (start (k .before .before .before .before .before) .args .file)) (w .passed), w .nodes)
 
-enum-known-rejection : tie.Need-enum-known-rejection
-enum-known-rejection c = search needs
-
-same-length : tie.Need-same-length
-same-length c = search needs
-
-same-length-2 : tie.Need-same-length-2
-same-length-2 c = search needs
-
 returns : tie.Need-returns
 returns c =
     let w = c .before .before in
@@ -63,9 +42,6 @@ returns c =
     let a = start (k .before .before .before .before .before) .args in
     w .write-accepted .ensures
     ∙ convert-written (now (a .file)) (now (a .converted)) _ (front k .bytes) (front k .passed)
-
-same-length-3 : tie.Need-same-length-3
-same-length-3 c = search needs
 
 returns-2 : tie.Need-returns-2
 returns-2 c =
@@ -76,17 +52,6 @@ returns-2 c =
 
 pub convert-by-spec : {M : Type 1} → statement M
 convert-by-spec =
-    tie.close
-    (tie.spec
-    check-file-requires
-    enum-known-nodes
-    mul-end
-    slice-reshare-prefix-write-accepted
-    slice-aggregate-write-accepted
-    write-accepted-requires
-    enum-known-rejection
-    same-length
-    same-length-2
-    returns
-    same-length-3
-    returns-2)
+    tie.close (tie.spec (λ c κs. search needs) (λ c. search needs) (λ c. omega (arith, front c .atMost))
+    (λ c. front-room _ _ _ _ (front c)) slice-aggregate-write-accepted write-accepted-requires (λ c. search needs)
+    (λ c. search needs) (λ c. search needs) returns (λ c. search needs) returns-2)

@@ -9,15 +9,9 @@ use Rattle.convert.proofs.Printing.{text-short, copied-laid}
 use Rattle.convert.proofs.lay_refused.Statement.{statement}
 use Rattle.convert.proofs.lay_refused.Tie as tie
 
-refused-requires : tie.Need-refused-requires
-refused-requires c κs = search needs
-
 returns : tie.Need-returns
 returns c =
     text-short _ _ (omega (arith, text-bytes _ (c .before .before .refused .ensures) .0))
-
-array-share-prefix-bytes : tie.Need-array-share-prefix-bytes
-array-share-prefix-bytes c = length-within _ (c .before .before .refused .ensures)
 
 slice-aggregate-copy : tie.Need-slice-aggregate-copy
 slice-aggregate-copy c =
@@ -28,9 +22,6 @@ copy-requires c κs =
     let r = c .before .before .before .before .refused in
     omega (arith, length-take-le (r .result .length) (r .result .bytes) (length-within _ (r .ensures)))
 
-same-length : tie.Need-same-length
-same-length c = search needs
-
 returns-2 : tie.Need-returns-2
 returns-2 c =
     let k = c .before .before in
@@ -39,12 +30,5 @@ returns-2 c =
 
 pub lay-refused-spec : {M : Type 1} → statement M
 lay-refused-spec =
-    tie.close
-    (tie.spec
-    refused-requires
-    returns
-    array-share-prefix-bytes
-    slice-aggregate-copy
-    copy-requires
-    same-length
-    returns-2)
+    tie.close (tie.spec (λ c κs. search needs) returns (λ c. length-within _ (c .before .before .refused .ensures))
+    slice-aggregate-copy copy-requires (λ c. search needs) returns-2)

@@ -5,11 +5,7 @@ use Rattle.flags.proofs.Flags.{none-chosen}
 use Rattle.flags.proofs.chosen_if_needed.Statement.{statement}
 use Rattle.flags.proofs.chosen_if_needed.Tie as tie
 
-returns : tie.Need-returns
-returns c = none-chosen 0 _ _ _ (c .if1 .taken)
-
-returns-2 : tie.Need-returns-2
-returns-2 c = λ k. rw (c .chosen-child .ensures)
-
 pub chosen-if-needed-spec : {M : Type 1} → statement M
-chosen-if-needed-spec = tie.close (tie.spec returns (λ c κs. search needs) returns-2)
+chosen-if-needed-spec =
+    tie.close (tie.spec (λ c. none-chosen 0 _ _ _ (c .if1 .taken)) (λ c κs. search needs)
+    (λ c. λ k. rw (c .chosen-child .ensures)))

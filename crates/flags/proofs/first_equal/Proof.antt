@@ -17,9 +17,6 @@ Inv-loop bounds from to v node₀ node =
 abbrev μ-loop : tie.MeasureT-loop
 μ-loop bounds from to v node₀ node = to - node
 
-loop-holds : tie.Need-loop-holds Inv-loop μ-loop
-loop-holds c = (omega arith, refl)
-
 returns : tie.Need-returns Inv-loop μ-loop
 returns c =
     let l = c .before .before .before .loop in
@@ -30,20 +27,8 @@ loop-again c =
     let l = c .before .before .before .loop in
     (omega arith, first-later _ _ _ _ (omega arith) (c .if1 .left) ∙ l .inv .1)
 
-returns-2 : tie.Need-returns-2 Inv-loop μ-loop
-returns-2 c = sym (first-none _ _ _ _ (omega arith)) ∙ c .before .loop .inv .1
-
 pub first-equal-spec : {M : Type 1} → statement M
 first-equal-spec =
-    tie.close
-    (tie.spec
-    Inv-loop
-    μ-loop
-    loop-holds
-    (λ c. search needs)
-    (λ c. search needs)
-    returns
-    (λ c. search needs)
-    (λ c. search needs)
-    loop-again
-    returns-2)
+    tie.close (tie.spec Inv-loop μ-loop (λ c. (omega arith, refl)) (λ c. search needs) (λ c. search needs) returns
+    (λ c. search needs) (λ c. search needs) loop-again
+    (λ c. sym (first-none _ _ _ _ (omega arith)) ∙ c .before .loop .inv .1))

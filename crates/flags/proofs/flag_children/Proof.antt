@@ -17,29 +17,14 @@ Inv-loop certificate₀ from to flag others chosen child₀ certificate child =
 abbrev μ-loop : tie.MeasureT-loop
 μ-loop certificate₀ from to flag others chosen child₀ certificate child = to - child
 
-loop-holds : tie.Need-loop-holds Inv-loop μ-loop
-loop-holds c = run-begins _ _ _ _ (omega arith)
-
 loop-again : tie.Need-loop-again Inv-loop μ-loop
 loop-again c =
     let r = c .before .before .loop .inv in
     ⊎-elim (λ w. run-step _ _ _ _ _ _ _ _ (omega arith) (rw (eq-eqb _ _ (w .0 .taken))) (w .1) r)
     (λ w. run-step _ _ _ _ _ _ _ _ (omega arith) (rw (ne-eqb _ _ (w .0 .left))) (w .1) r) (c .if1 .came)
 
-returns : tie.Need-returns Inv-loop μ-loop
-returns c = run-ends _ _ _ _ _ _ (omega arith) (c .before .loop .inv)
-
 pub flag-children-spec : {M : Type 1} → statement M
 flag-children-spec =
-    tie.close
-    (tie.spec
-    Inv-loop
-    μ-loop
-    loop-holds
-    (λ c. search needs)
-    (λ c. search needs)
-    (λ c. search needs)
-    (λ c. search needs)
-    loop-again
-    (λ c. search needs)
-    returns)
+    tie.close (tie.spec Inv-loop μ-loop (λ c. run-begins _ _ _ _ (omega arith)) (λ c. search needs) (λ c. search needs)
+    (λ c. search needs) (λ c. search needs) loop-again (λ c. search needs)
+    (λ c. run-ends _ _ _ _ _ _ (omega arith) (c .before .loop .inv)))

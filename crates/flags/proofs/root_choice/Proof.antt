@@ -19,12 +19,6 @@ root-within t wf = omega (arith, next-within t wf 1 (wf .nonEmpty))
 from-one : {n m : ℕ} → n ≡ m → 1 + n - 1 ≡ m
 from-one e = omega arith
 
-child-count-requires : tie.Need-child-count-requires
-child-count-requires c κs = search needs
-
-add-end : tie.Need-add-end
-add-end c = search needs
-
 chosen-child-requires : tie.Need-chosen-child-requires
 chosen-child-requires c κs =
     let a = c .before .before .before .before .before .pre in
@@ -38,4 +32,4 @@ returns : tie.Need-returns
 returns c = rw (from-one (c .before .child-count .ensures .0)) at (c .chosen-child .ensures)
 
 pub root-choice-spec : {M : Type 1} → statement M
-root-choice-spec = tie.close (tie.spec child-count-requires add-end chosen-child-requires returns)
+root-choice-spec = tie.close (tie.spec (λ c κs. search needs) (λ c. search needs) chosen-child-requires returns)

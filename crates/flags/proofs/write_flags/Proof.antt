@@ -49,17 +49,8 @@ loop-holds c =
       λ f r. filled-root t (a .pre .0) f b 3 (sym (r .atRoot)) h,
     )
 
-child-count-requires : tie.Need-child-count-requires Inv-loop μ-loop
-child-count-requires c κs = inside c
-
-add-end : tie.Need-add-end Inv-loop μ-loop
-add-end c = omega (arith, within c, at-start (c .before) .pre .0 .atMost)
-
 slice-read-flag : tie.Need-slice-read-flag Inv-loop μ-loop
 slice-read-flag c = let l = c .before .before in omega (arith, inside l, l .before .loop .inv .0 .room)
-
-side-at-requires : tie.Need-side-at-requires Inv-loop μ-loop
-side-at-requires c κs = omega (arith, inside (c .before .before))
 
 chosen-if-needed-requires : tie.Need-chosen-if-needed-requires Inv-loop μ-loop
 chosen-if-needed-requires c κs =
@@ -107,22 +98,7 @@ returns c =
 
 pub write-flags-spec : {M : Type 1} → statement M
 write-flags-spec =
-    tie.close
-    (tie.spec
-    Inv-loop
-    μ-loop
-    slice-write-certificate
-    (λ c κs. search needs)
-    loop-holds
-    child-count-requires
-    add-end
-    slice-read-flag
-    side-at-requires
-    (λ c κs. search needs)
-    chosen-if-needed-requires
-    flag-children-requires
-    add-node
-    loop-less
-    loop-again
-    same-length
-    returns)
+    tie.close (tie.spec Inv-loop μ-loop slice-write-certificate (λ c κs. search needs) loop-holds (λ c κs. inside c)
+    (λ c. omega (arith, within c, at-start (c .before) .pre .0 .atMost)) slice-read-flag
+    (λ c κs. omega (arith, inside (c .before .before))) (λ c κs. search needs) chosen-if-needed-requires
+    flag-children-requires add-node loop-less loop-again same-length returns)

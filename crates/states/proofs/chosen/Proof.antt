@@ -51,15 +51,5 @@ returns-3 c =
 
 pub chosen-spec : {M : Type 1} → statement M
 chosen-spec =
-    tie.close
-    (tie.spec
-    (λ c κs. search needs)
-    returns
-    (λ c κs. search needs)
-    (λ c. search needs)
-    (λ c κs. search needs)
-    leftmost-best-requires
-    (λ c. search needs)
-    (λ c κs. search needs)
-    returns-2
-    returns-3)
+    tie.close (tie.spec (λ c κs. search needs) returns (λ c κs. search needs) (λ c. search needs) (λ c κs. search needs)
+    leftmost-best-requires (λ c. search needs) (λ c κs. search needs) returns-2 returns-3)

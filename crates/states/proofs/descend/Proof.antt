@@ -32,18 +32,7 @@ loop-less c =
 loop-again : tie.Need-loop-again Inv-loop μ-loop
 loop-again c = descend-on (c .before .before .loop .inv) (c .before .loop-test .taken) (c .link-at2 .ensures)
 
-returns : tie.Need-returns Inv-loop μ-loop
-returns c = descend-end (c .before .loop .inv) (c .loop-test .left)
-
 pub descend-spec : {M : Type 1} → statement M
 descend-spec =
-    tie.close
-    (tie.spec
-    Inv-loop
-    μ-loop
-    link-at-requires
-    loop-holds
-    link-at-requires-2
-    loop-less
-    loop-again
-    returns)
+    tie.close (tie.spec Inv-loop μ-loop link-at-requires loop-holds link-at-requires-2 loop-less loop-again
+    (λ c. descend-end (c .before .loop .inv) (c .loop-test .left)))

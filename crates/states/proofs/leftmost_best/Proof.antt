@@ -1,5 +1,4 @@
 -- `states::leftmost_best` meets its contract: from the last child down to the first.
-use Prim.Native.Nat.{_-_}
 use native.Mathlib.Omega.{arith}
 use Rattle.states.proofs.Scans.{Scanning, scan-start, scan-here, scan-there, scan-end}
 use Rattle.states.proofs.leftmost_best.Statement.{statement}
@@ -11,9 +10,6 @@ Inv-loop front first count at₀ best₀ at best = Scanning front first count at
 abbrev μ-loop : tie.MeasureT-loop
 μ-loop front first count at₀ best₀ at best = at
 
-loop-holds : tie.Need-loop-holds Inv-loop μ-loop
-loop-holds c = scan-start _ _ _ (omega arith)
-
 loop-again : tie.Need-loop-again Inv-loop μ-loop
 loop-again c =
     let d = c .before .before .before in scan-here (d .before .loop .inv) (d .loop-test .taken) (omega arith)
@@ -22,23 +18,8 @@ loop-again-2 : tie.Need-loop-again-2 Inv-loop μ-loop
 loop-again-2 c =
     let d = c .before .before .before in scan-there (d .before .loop .inv) (d .loop-test .taken) (omega arith)
 
-returns : tie.Need-returns Inv-loop μ-loop
-returns c = scan-end (c .before .loop .inv) (c .loop-test .left)
-
 pub leftmost-best-spec : {M : Type 1} → statement M
 leftmost-best-spec =
-    tie.close
-    (tie.spec
-    Inv-loop
-    μ-loop
-    (λ c. omega arith)
-    (λ c. omega arith)
-    loop-holds
-    (λ c. omega arith)
-    (λ c κs. omega arith)
-    (λ c κs. omega arith)
-    (λ c. omega arith)
-    loop-again
-    (λ c. omega arith)
-    loop-again-2
-    returns)
+    tie.close (tie.spec Inv-loop μ-loop (λ c. omega arith) (λ c. omega arith) (λ c. scan-start _ _ _ (omega arith))
+    (λ c. omega arith) (λ c κs. omega arith) (λ c κs. omega arith) (λ c. omega arith) loop-again (λ c. omega arith)
+    loop-again-2 (λ c. scan-end (c .before .loop .inv) (c .loop-test .left)))

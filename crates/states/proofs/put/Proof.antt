@@ -21,23 +21,8 @@ kept c =
     let a = c .before .before .before .before .before .args in
     c .loop .inv .long ∙ length-set (a .front .now) (a .change .node) (c .before .packed2 .result)
 
-packed-requires : tie.Need-packed-requires Inv-loop μ-loop
-packed-requires c κs = (omega arith, omega arith)
-
-packed-requires-2 : tie.Need-packed-requires-2 Inv-loop μ-loop
-packed-requires-2 c κs = (omega arith, omega arith)
-
-loop-holds : tie.Need-loop-holds Inv-loop μ-loop
-loop-holds c = run-begins _ _ _ _ (omega arith)
-
-slice-write-front-2 : tie.Need-slice-write-front-2 Inv-loop μ-loop
-slice-write-front-2 c = omega (arith, kept (c .before))
-
 loop-again : tie.Need-loop-again Inv-loop μ-loop
 loop-again c = run-step _ _ _ _ _ _ _ _ (c .loop-test .taken) refl refl (c .before .loop .inv)
-
-same-length : tie.Need-same-length Inv-loop μ-loop
-same-length c = kept (c .before)
 
 returns : tie.Need-returns Inv-loop μ-loop
 returns c =
@@ -49,20 +34,7 @@ returns c =
 
 pub put-spec : {M : Type 1} → statement M
 put-spec =
-    tie.close
-    (tie.spec
-    Inv-loop
-    μ-loop
-    (λ c. omega arith)
-    packed-requires
-    packed-requires-2
-    (λ c. omega arith)
-    (λ c. omega arith)
-    loop-holds
-    (λ c. omega arith)
-    slice-write-front-2
-    (λ c. omega arith)
-    (λ c. omega arith)
-    loop-again
-    same-length
-    returns)
+    tie.close (tie.spec Inv-loop μ-loop (λ c. omega arith) (λ c κs. (omega arith, omega arith))
+    (λ c κs. (omega arith, omega arith)) (λ c. omega arith) (λ c. omega arith) (λ c. run-begins _ _ _ _ (omega arith))
+    (λ c. omega arith) (λ c. omega (arith, kept (c .before))) (λ c. omega arith) (λ c. omega arith) loop-again
+    (λ c. kept (c .before)) returns)

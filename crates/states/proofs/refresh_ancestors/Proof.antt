@@ -1,5 +1,4 @@
 -- `states::refresh_ancestors` meets its contract: what is still to be done stays the same.
-use Prim.Native.Nat.{_-_}
 use native.Mathlib.Omega.{arith}
 use mathlib.Core.Path.{_≡_, refl, sym, _∙_, ap}
 use mathlib.Core.Bool.{true}
@@ -49,9 +48,6 @@ parent-at-requires : tie.Need-parent-at-requires Inv-loop μ-loop
 parent-at-requires c κs =
     let f = c .before .before .before .loop .inv in positioned-room _ _ (f .fits .positions) _ (f .inside)
 
-chosen-requires : tie.Need-chosen-requires Inv-loop μ-loop
-chosen-requires c κs = (head (c .before) .loop .inv .fits, risen (c .before) .inside)
-
 best-at-requires : tie.Need-best-at-requires Inv-loop μ-loop
 best-at-requires c κs =
     let s = c .before .before .before in
@@ -74,17 +70,11 @@ slice-write-front c =
     let s = c .before .before .before .before .before in
     omega (arith, risen s .inside, head s .loop .inv .fits .sound .room)
 
-loop-less : tie.Need-loop-less Inv-loop μ-loop
-loop-less c = risen (c .before .before .before .before .before) .less
-
 loop-again : tie.Need-loop-again Inv-loop μ-loop
 loop-again c =
     let s = c .before .before .before .before .before in
     falling-again (head s .loop .inv) _ _ _ _ (lower s) (parent s) (c .before .before .before .chosen .ensures)
     (c .before .best-at .ensures) (c .packed .ensures)
-
-same-length : tie.Need-same-length Inv-loop μ-loop
-same-length c = c .before .before .before .loop .inv .size
 
 returns : tie.Need-returns Inv-loop μ-loop
 returns c =
@@ -92,19 +82,7 @@ returns c =
 
 pub refresh-ancestors-spec : {M : Type 1} → statement M
 refresh-ancestors-spec =
-    tie.close
-    (tie.spec
-    Inv-loop
-    μ-loop
-    loop-holds
-    needs-refresh-requires
-    parent-at-requires
-    chosen-requires
-    best-at-requires
-    packed-requires
-    mul-front
-    slice-write-front
-    loop-less
-    loop-again
-    same-length
-    returns)
+    tie.close (tie.spec Inv-loop μ-loop loop-holds needs-refresh-requires parent-at-requires
+    (λ c κs. (head (c .before) .loop .inv .fits, risen (c .before) .inside)) best-at-requires packed-requires mul-front
+    slice-write-front (λ c. risen (c .before .before .before .before .before) .less) loop-again
+    (λ c. c .before .before .before .loop .inv .size) returns)

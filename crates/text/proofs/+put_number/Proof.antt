@@ -32,20 +32,11 @@ abbrev put-number-calls : ℕ → put-number-lts.Claims
 put-number-calls t = (put-byte-reads.Asked, put-byte-reads.Learnt, put-number-below t, put-number.Post)
 
 module _ (t : ℕ) where
-  put-number-add-put-byte : put-number-lts.Need-add-put-byte (put-number-calls t) (put-number-at t) put-number.Post
-  put-number-add-put-byte c = search needs
-
-  put-number-cast-put-byte : put-number-lts.Need-cast-put-byte (put-number-calls t) (put-number-at t) put-number.Post
-  put-number-cast-put-byte c = search needs
-
   put-number-put-byte-requires :
       put-number-lts.Need-put-byte-requires (put-number-calls t) (put-number-at t) put-number.Post
   put-number-put-byte-requires c κs =
       let s = c .before .before .before in
       omega (arith, ap length (decimal-one (s .args .n) (omega arith)))
-
-  put-number-same-length : put-number-lts.Need-same-length (put-number-calls t) (put-number-at t) put-number.Post
-  put-number-same-length c = search needs
 
   put-number-returns : put-number-lts.Need-returns (put-number-calls t) (put-number-at t) put-number.Post
   put-number-returns c =
@@ -65,9 +56,6 @@ module _ (t : ℕ) where
       let l = length-append (decimal (s .args .n / 10)) ((48 + s .args .n % 10) ∷ []) in
       (omega arith, omega arith)
 
-  put-number-add-put-byte-2 : put-number-lts.Need-add-put-byte-2 (put-number-calls t) (put-number-at t) put-number.Post
-  put-number-add-put-byte-2 c = search needs
-
   put-number-cast-put-byte-2 :
       put-number-lts.Need-cast-put-byte-2 (put-number-calls t) (put-number-at t) put-number.Post
   put-number-cast-put-byte-2 c = search needs
@@ -81,9 +69,6 @@ module _ (t : ℕ) where
       let p = c .before .before .before .put-number .ensures in
       room-rest ((48 + s .args .n % 10) ∷ []) p (omega (arith, d, l))
 
-  put-number-same-length-2 : put-number-lts.Need-same-length-2 (put-number-calls t) (put-number-at t) put-number.Post
-  put-number-same-length-2 c = search needs
-
   put-number-returns-2 : put-number-lts.Need-returns-2 (put-number-calls t) (put-number-at t) put-number.Post
   put-number-returns-2 c =
       let s = c .before .before .before .before .before .before .before .before .before .before in
@@ -96,17 +81,7 @@ module _ (t : ℕ) where
       rw e (put-then p (omega arith) q)
 
 pub +put-number-spec : {M : Type 1} → statement M
-+put-number-spec = close μ-put-number λ t. put-number-lts.spec (put-number-calls t)
-    (put-number-at t)
-    put-number.Post
-    (put-number-add-put-byte t)
-    (put-number-cast-put-byte t)
-    (put-number-put-byte-requires t)
-    (put-number-same-length t)
-    (put-number-returns t)
-    (put-number-put-number-requires t)
-    (put-number-add-put-byte-2 t)
-    (put-number-cast-put-byte-2 t)
-    (put-number-put-byte-requires-2 t)
-    (put-number-same-length-2 t)
-    (put-number-returns-2 t)
++put-number-spec = close μ-put-number λ t. put-number-lts.spec (put-number-calls t) (put-number-at t) put-number.Post
+    (λ c. search needs) (λ c. search needs) (put-number-put-byte-requires t) (λ c. search needs) (put-number-returns t)
+    (put-number-put-number-requires t) (λ c. search needs) (put-number-cast-put-byte-2 t)
+    (put-number-put-byte-requires-2 t) (λ c. search needs) (put-number-returns-2 t)

@@ -51,5 +51,4 @@ returns-2 c =
     rw (toZ-ofZ w16 v f, toZ-ofZ w64 v (wide64 v w))
 
 pub magnitude-spec : {M : Type 1} → statement M
-magnitude-spec =
-    tie.close (tie.spec cast-wide sub-result cast-result cast-result-2 returns returns-2)
+magnitude-spec = tie.close (tie.spec cast-wide sub-result cast-result cast-result-2 returns returns-2)

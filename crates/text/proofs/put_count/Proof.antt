@@ -5,19 +5,10 @@ use Rattle.text.proofs.Laying.{put-then}
 use Rattle.text.proofs.put_count.Statement.{statement}
 use Rattle.text.proofs.put_count.Tie as tie
 
-put-byte-requires : tie.Need-put-byte-requires
-put-byte-requires c κs = search needs
-
-put-number-requires : tie.Need-put-number-requires
-put-number-requires c κs = search needs
-
-same-length : tie.Need-same-length
-same-length c = search needs
-
 returns : tie.Need-returns
 returns c =
     let s = c .before .before .before .before .before .before in
     put-then (s .put-byte .ensures) (omega arith) (c .before .before .put-number .ensures)
 
 pub put-count-spec : {M : Type 1} → statement M
-put-count-spec = tie.close (tie.spec put-byte-requires put-number-requires same-length returns)
+put-count-spec = tie.close (tie.spec (λ c κs. search needs) (λ c κs. search needs) (λ c. search needs) returns)

@@ -4,15 +4,6 @@ use Rattle.text.proofs.Laying.{room-front, room-rest, put-then}
 use Rattle.text.proofs.put_refused.Statement.{statement}
 use Rattle.text.proofs.put_refused.Tie as tie
 
-cast-number : tie.Need-cast-number
-cast-number c = search needs
-
-slice-aggregate-put-bytes : tie.Need-slice-aggregate-put-bytes
-slice-aggregate-put-bytes c = search needs
-
-put-bytes-requires : tie.Need-put-bytes-requires
-put-bytes-requires c κs = search needs
-
 put-count-requires : tie.Need-put-count-requires
 put-count-requires c κs =
     let t = c .before .before .before in
@@ -35,9 +26,6 @@ put-byte-requires c κs =
     (room-rest _ (n .put-count .ensures)
     (room-rest _ (t .put-bytes .ensures) (t .before .before .before .before .before .pre)))
 
-same-length : tie.Need-same-length
-same-length c = search needs
-
 returns : tie.Need-returns
 returns c =
     let f = c .before .before in
@@ -52,13 +40,5 @@ returns c =
 
 pub put-refused-spec : {M : Type 1} → statement M
 put-refused-spec =
-    tie.close
-    (tie.spec
-    cast-number
-    slice-aggregate-put-bytes
-    put-bytes-requires
-    put-count-requires
-    put-count-requires-2
-    put-byte-requires
-    same-length
-    returns)
+    tie.close (tie.spec (λ c. search needs) (λ c. search needs) (λ c κs. search needs) put-count-requires
+    put-count-requires-2 put-byte-requires (λ c. search needs) returns)

@@ -36,9 +36,6 @@ above c =
     positive-text v (rw e at (t .if1 .left))
     ∙ ap decimal (sym (c .magnitude2 .ensures ∙ ap natAbs e))
 
-put-byte-requires : tie.Need-put-byte-requires
-put-byte-requires c κs = search needs
-
 put-byte-requires-2 : tie.Need-put-byte-requires-2
 put-byte-requires-2 c κs =
     let t = c .before in
@@ -48,9 +45,6 @@ put-byte-requires-2 c κs =
     let l = ap length (negative-text v (rw e at (t .if1 .taken))) in
     room-rest (45 ∷ []) (t .before .before .before .put-byte .ensures) (omega arith)
 
-magnitude-requires : tie.Need-magnitude-requires
-magnitude-requires c κs = search needs
-
 put-number-requires : tie.Need-put-number-requires
 put-number-requires c κs =
     let t = c .before .before .before .before in
@@ -58,9 +52,6 @@ put-number-requires c κs =
     let d = decimal (c .magnitude .result) in
     let l = ap length (below c) in
     room-rest d (t .put-byte2 .ensures) (room-rest (45 ∷ d) (s .put-byte .ensures) (omega arith))
-
-same-length : tie.Need-same-length
-same-length c = search needs
 
 returns : tie.Need-returns
 returns c =
@@ -72,17 +63,11 @@ returns c =
     let minus = put-then (t .put-byte2 .ensures) r (c .before .before .put-number .ensures) in
     rw (below m) (put-then (s .put-byte .ensures) (omega arith) minus)
 
-magnitude-requires-2 : tie.Need-magnitude-requires-2
-magnitude-requires-2 c κs = search needs
-
 put-number-requires-2 : tie.Need-put-number-requires-2
 put-number-requires-2 c κs =
     let s = c .before .before .before .before .before in
     let l = ap length (above c) in
     room-rest (decimal (c .magnitude2 .result)) (s .put-byte .ensures) (omega arith)
-
-same-length-2 : tie.Need-same-length-2
-same-length-2 c = search needs
 
 returns-2 : tie.Need-returns-2
 returns-2 c =
@@ -93,15 +78,5 @@ returns-2 c =
 
 pub put-value-spec : {M : Type 1} → statement M
 put-value-spec =
-    tie.close
-    (tie.spec
-    put-byte-requires
-    put-byte-requires-2
-    magnitude-requires
-    put-number-requires
-    same-length
-    returns
-    magnitude-requires-2
-    put-number-requires-2
-    same-length-2
-    returns-2)
+    tie.close (tie.spec (λ c κs. search needs) put-byte-requires-2 (λ c κs. search needs) put-number-requires
+    (λ c. search needs) returns (λ c κs. search needs) put-number-requires-2 (λ c. search needs) returns-2)

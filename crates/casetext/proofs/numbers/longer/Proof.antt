@@ -6,23 +6,11 @@ use borrow.Author.Needs.{needs}
 use Rattle.casetext.proofs.numbers.longer.Statement.{statement}
 use Rattle.casetext.proofs.numbers.longer.Tie as tie
 
-mul-result : tie.Need-mul-result
-mul-result c = search needs
-
-cast-result : tie.Need-cast-result
-cast-result c = search needs
-
-add-result : tie.Need-add-result
-add-result c = search needs
-
-returns : tie.Need-returns
-returns c = sym (longer-digit _ _ (omega arith) (omega arith))
-
-returns-2 : tie.Need-returns-2
-returns-2 c = sym (longer-low _ (c .before .args .byte) (omega arith))
-
 returns-3 : tie.Need-returns-3
 returns-3 c = sym (longer-high _ (c .before .before .args .byte) (omega arith) (omega arith))
 
 pub longer-spec : {M : Type 1} → statement M
-longer-spec = tie.close (tie.spec mul-result cast-result add-result returns returns-2 returns-3)
+longer-spec =
+    tie.close (tie.spec (λ c. search needs) (λ c. search needs) (λ c. search needs)
+    (λ c. sym (longer-digit _ _ (omega arith) (omega arith)))
+    (λ c. sym (longer-low _ (c .before .args .byte) (omega arith))) returns-3)

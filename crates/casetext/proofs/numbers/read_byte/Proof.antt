@@ -8,41 +8,11 @@ use borrow.Author.Needs.{needs}
 use Rattle.casetext.proofs.numbers.read_byte.Statement.{statement}
 use Rattle.casetext.proofs.numbers.read_byte.Tie as tie
 
-start-number-requires : tie.Need-start-number-requires
-start-number-requires c κs = search needs
-
-same-length : tie.Need-same-length
-same-length c = search needs
-
 returns : tie.Need-returns
 returns c =
     let a = c .before .before .before .before .before .before .args in
     let s = c .before .before .start-number .ensures in
     (s .0, s .1 ∙ sym (byte-starts (a .byte) (a .count) (a .numbers .now) (omega arith)))
-
-sub-longer : tie.Need-sub-longer
-sub-longer c = search needs
-
-mul-longer : tie.Need-mul-longer
-mul-longer c = search needs
-
-slice-read-longer : tie.Need-slice-read-longer
-slice-read-longer c = search needs
-
-longer-requires : tie.Need-longer-requires
-longer-requires c κs = search needs
-
-sub-numbers : tie.Need-sub-numbers
-sub-numbers c = search needs
-
-mul-numbers : tie.Need-mul-numbers
-mul-numbers c = search needs
-
-slice-write-numbers : tie.Need-slice-write-numbers
-slice-write-numbers c = search needs
-
-same-length-2 : tie.Need-same-length-2
-same-length-2 c = search needs
 
 returns-2 : tie.Need-returns-2
 returns-2 c =
@@ -63,18 +33,6 @@ returns-3 c =
 
 pub read-byte-spec : {M : Type 1} → statement M
 read-byte-spec =
-    tie.close
-    (tie.spec
-    start-number-requires
-    same-length
-    returns
-    sub-longer
-    mul-longer
-    slice-read-longer
-    longer-requires
-    sub-numbers
-    mul-numbers
-    slice-write-numbers
-    same-length-2
-    returns-2
-    returns-3)
+    tie.close (tie.spec (λ c κs. search needs) (λ c. search needs) returns (λ c. search needs) (λ c. search needs)
+    (λ c. search needs) (λ c κs. search needs) (λ c. search needs) (λ c. search needs) (λ c. search needs)
+    (λ c. search needs) returns-2 returns-3)

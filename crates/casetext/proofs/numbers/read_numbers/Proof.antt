@@ -19,21 +19,6 @@ Inv-loop call numbers₀ count₀ i₀ i-end numbers count i =
 abbrev μ-loop : tie.MeasureT-loop
 μ-loop call numbers₀ count₀ i₀ i-end numbers count i = i-end - i
 
-loop-holds : tie.Need-loop-holds Inv-loop μ-loop
-loop-holds c = (omega arith, refl, omega arith, refl)
-
-shared-slice-read-read-byte : tie.Need-shared-slice-read-read-byte Inv-loop μ-loop
-shared-slice-read-read-byte c = search needs
-
-read-byte-requires : tie.Need-read-byte-requires Inv-loop μ-loop
-read-byte-requires c κs = search needs
-
-add-i : tie.Need-add-i Inv-loop μ-loop
-add-i c = search needs
-
-loop-less : tie.Need-loop-less Inv-loop μ-loop
-loop-less c = search needs
-
 loop-again : tie.Need-loop-again Inv-loop μ-loop
 loop-again c =
     let l = c .before .before .before .before .before .before .loop in
@@ -44,9 +29,6 @@ loop-again c =
       bytes-next _ (l .i) _ _ _ (omega arith) (l .inv .3) (b .1),
     )
 
-same-length : tie.Need-same-length Inv-loop μ-loop
-same-length c = search needs
-
 returns : tie.Need-returns Inv-loop μ-loop
 returns c =
     let l = c .before .loop in (
@@ -56,15 +38,5 @@ returns c =
 
 pub read-numbers-spec : {M : Type 1} → statement M
 read-numbers-spec =
-    tie.close
-    (tie.spec
-    Inv-loop
-    μ-loop
-    loop-holds
-    shared-slice-read-read-byte
-    read-byte-requires
-    add-i
-    loop-less
-    loop-again
-    same-length
-    returns)
+    tie.close (tie.spec Inv-loop μ-loop (λ c. (omega arith, refl, omega arith, refl)) (λ c. search needs)
+    (λ c κs. search needs) (λ c. search needs) (λ c. search needs) loop-again (λ c. search needs) returns)

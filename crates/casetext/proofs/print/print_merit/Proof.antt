@@ -19,12 +19,6 @@ held c =
     let f = c .fits .merit in
     rw (toZ-ofZ w32 v f, toZ-ofZ w64 v (wide64 v f))
 
-slice-aggregate-write-all : tie.Need-slice-aggregate-write-all
-slice-aggregate-write-all c = search needs
-
-write-all-requires : tie.Need-write-all-requires
-write-all-requires c κs = search needs
-
 sub-print-decimal : tie.Need-sub-print-decimal
 sub-print-decimal c =
     let s = c .before .before .before in
@@ -37,35 +31,13 @@ cast-print-decimal c =
     let n = negative (s .args .merit) (s .fits .merit) (rw (held s) at (c .before .before .if1 .taken)) in
     rw (held s, toZ-ofZ w64 (pos 0 -ℤ s .args .merit) (n .fits)) (n .positive, n .small)
 
-print-decimal-requires : tie.Need-print-decimal-requires
-print-decimal-requires c κs = search needs
-
 cast-print-count : tie.Need-cast-print-count
 cast-print-count c =
     let s = c .before in
     let p = positive (s .args .merit) (s .fits .merit) (rw (held s) at (c .if1 .left)) in
     rw (held s) (p .positive, p .small)
 
-print-count-requires : tie.Need-print-count-requires
-print-count-requires c κs = search needs
-
-returns : tie.Need-returns
-returns c = search needs
-
-returns-2 : tie.Need-returns-2
-returns-2 c = search needs
-
 pub print-merit-spec : {M : Type 1} → statement M
 print-merit-spec =
-    tie.close
-    (tie.spec
-    cast-wide
-    slice-aggregate-write-all
-    write-all-requires
-    sub-print-decimal
-    cast-print-decimal
-    print-decimal-requires
-    cast-print-count
-    print-count-requires
-    returns
-    returns-2)
+    tie.close (tie.spec cast-wide (λ c. search needs) (λ c κs. search needs) sub-print-decimal cast-print-decimal
+    (λ c κs. search needs) cast-print-count (λ c κs. search needs) (λ c. search needs) (λ c. search needs))

@@ -9,11 +9,5 @@ use Rattle.casetext.proofs.print.print_value.Tie as tie
 cast-print-merit : tie.Need-cast-print-merit
 cast-print-merit c = rw (toZ-ofZ w16 (c .args .value) (c .fits .value)) (wide32 (c .args .value) (c .fits .value))
 
-print-merit-requires : tie.Need-print-merit-requires
-print-merit-requires c κs = search needs
-
-returns : tie.Need-returns
-returns c = search needs
-
 pub print-value-spec : {M : Type 1} → statement M
-print-value-spec = tie.close (tie.spec cast-print-merit print-merit-requires returns)
+print-value-spec = tie.close (tie.spec cast-print-merit (λ c κs. search needs) (λ c. search needs))
