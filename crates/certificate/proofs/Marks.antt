@@ -7,12 +7,12 @@ use mathlib.Core.List.{List}
 use lib.Dec.{eqb}
 use lib.ListN.{length}
 use Rattle.lists.specs.Lists.{All, among}
-use Rattle.gametree.specs.Tree.{Tree, leaf, inner, Children, last, _then_, leaves, leavesChildren, leafCount, EveryLeaf}
-use Rattle.gametree.specs.Tree.{EveryLeafChildren}
+use Rattle.gametree.specs.Tree.{leaves, leafCount}
 use Rattle.gametree.proofs.Searches.{Deciding}
 use Rattle.lists.proofs.Choice.{is-false}
-use Rattle.lists.proofs.Lists.{all-map, all-append, all-at}
+use Rattle.lists.proofs.Lists.{all-map, all-at}
 use Rattle.gametree.proofs.Theorems.{deciding-count}
+use Rattle.gametree.proofs.tests.Subtree.{every-all}
 use Rattle.frames.specs.Frame.{frames, childCount}
 use Rattle.frames.specs.Tree.{tree, valuation}
 use Rattle.frames.specs.Formed.{WellFormed}
@@ -30,17 +30,6 @@ mark-set false = refl
 -- the marks of a set mark its nodes
 pub marked-written : (E : ℕ → Bool) (n : ℕ) (b : List ℕ) (k : ℕ) → k < n → marked (written (mark E) n b) k ≡ E k
 marked-written E n b k h = ap (λ v. eqb v 1) (written-at (mark E) n k b h) ∙ mark-set (E k)
-
--- what holds of each leaf holds of each in the list of leaves
-mutual
-  every-all : (P : ℕ → Type 0) (t : Tree) → EveryLeaf P t → All P (leaves t)
-  every-all P (leaf n) h = (h, tt)
-  every-all P (inner n s ks) h = every-allChildren P ks h
-
-  every-allChildren : (P : ℕ → Type 0) (ks : Children) → EveryLeafChildren P ks → All P (leavesChildren ks)
-  every-allChildren P (last t) h = every-all P t h
-  every-allChildren P (t then ts) h =
-      all-append P (leaves t) (leavesChildren ts) (every-all P t (h .0)) (every-allChildren P ts (h .1))
 
 module _ (t : List ℕ) (wf : WellFormed t) where
   -- what holds of each node without children holds of each leaf that a search evaluates

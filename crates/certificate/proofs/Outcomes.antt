@@ -3,7 +3,8 @@
 use Prim.Native.Nat.{ℕ}
 use mathlib.Core.Path.{_≡_, refl, ap, _∙_}
 use mathlib.Core.Option.{Option, none, some}
-use mathlib.Core.List.{List}
+use mathlib.Core.List.{List, [], _∷_}
+use lib.ListN.{length}
 use Rattle.lists.specs.Lists.{among}
 use Rattle.gametree.specs.Move.{rootMove, boundMove}
 use Rattle.gametree.specs.Certificate.{flag}
@@ -18,9 +19,11 @@ use Rattle.frames.proofs.Asked.{answer-nodes, answer-rejected}
 use Rattle.positions.specs.Buffer.{written}
 use Rattle.bounds.specs.Marks.{marked, markAll}
 use Rattle.certificate.specs.Search.{Search, searchRejection, marksOf, flagsOf, outcome, listed, orderAfter}
+use Rattle.certificate.specs.Search.{ListedOutcome, listedOutcome}
 use Rattle.bounds.proofs.Marking.{marks-from-clear}
 use Rattle.certificate.proofs.Marks.{evaluated-within}
 use Rattle.certificate.proofs.Concluded.{concluded}
+use Rattle.certificate.proofs.Questions.{asked}
 
 -- the certificate c₂ that is read off the marks of the leaves w
 pub marks-certify : (t : List ℕ) → WellFormed t → (w e e₂ e₃ c c₂ : List ℕ) → e₂ ≡ marksOf w t e
@@ -78,4 +81,26 @@ module _ {A : Type 0} (rejected : Rejection → A) (found : A) (s : Search) (len
       → o ≡ orderAfter questions (s .leaves) o
   not-listing r o p =
       let z : questions ≡ some r = answer-rejected (frames (s .table)) r _ p in
+      rw z
+
+-- the same of a search that lists its leaves too: question 10 asks about three buffers
+module _ {A F : Type 0} (rejected : Rejection → A) (found : F → A) (f : F) (s : Search) (o : List ℕ) where
+  abbrev three : List ℕ
+  three = length (s .evaluated) ∷ length (s .certificate) ∷ length o ∷ []
+
+  abbrev due : ListedOutcome A
+  due = listedOutcome rejected (found f) s o (searchRejection (s .table) three)
+
+  pub finds : (n : ℕ) {g : F} {e c o′ : List ℕ} → Nodes n ≡ asked (s .table) three
+      → (g ≡ f) × ((e ≡ marksOf (s .leaves) (s .table) (s .evaluated))
+      × ((c ≡ flagsOf (s .leaves) (s .table) (s .certificate)) × (o′ ≡ listed (s .leaves) o)))
+      → record { order = o′; search = record { answer = found g; evaluated = e; certificate = c } } ≡ due
+  finds n p r =
+      let z : searchRejection (s .table) three ≡ none = answer-nodes (frames (s .table)) n _ p .0 in
+      rw (z, r .0, r .1 .0, r .1 .1 .0, r .1 .1 .1) refl
+
+  pub refuses : (r : Rejection) → Rejected r ≡ asked (s .table) three
+      → record { order = o; search = outcome rejected (found f) s (some r) } ≡ due
+  refuses r p =
+      let z : searchRejection (s .table) three ≡ some r = answer-rejected (frames (s .table)) r _ p in
       rw z

@@ -76,6 +76,11 @@ of-lesser t a b ls e m =
     e ∙ ap (λ k. asked t (k ∷ ls)) m
     ∙ ap (λ r. answer (frames t) (rejection t andThen ask r 10 0)) (room-min (frames t) a b (longEnough (frames t) ls))
 
+-- and of three
+pub of-least : (t : List ℕ) (a b c : ℕ) {r : Checked} {k l : ℕ} → r ≡ asked t (l ∷ []) → l ≡ min k c → k ≡ min a b
+    → r ≡ asked t (a ∷ b ∷ c ∷ [])
+of-least t a b c e m n = of-lesser t a b (c ∷ []) (of-lesser t _ c [] e m) n
+
 -- what `ask` answers for the length of the shortest buffer
 module _ (t : List ℕ) (l : ℕ) where
   -- a rejection of the table is the first

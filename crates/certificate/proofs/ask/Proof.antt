@@ -5,20 +5,8 @@ use borrow.Author.Needs.{needs}
 use Rattle.certificate.proofs.ask.Statement.{statement}
 use Rattle.certificate.proofs.ask.Tie as tie
 
-check-requires : tie.Need-check-requires
-check-requires c κs = search needs
-
-enum-known-checked : tie.Need-enum-known-checked
-enum-known-checked c = search needs
-
-enum-told : tie.Need-enum-told
-enum-told c = search needs
-
 returns : tie.Need-returns
 returns c = let g = c .enum-told .given .1 in g ∙ table-refused _ _ _ (sym g ∙ c .before .before .check .ensures)
-
-rejected-requires : tie.Need-rejected-requires
-rejected-requires c κs = search needs
 
 returns-2 : tie.Need-returns-2
 returns-2 c =
@@ -33,12 +21,5 @@ returns-3 c =
 
 pub ask-spec : {M : Type 1} → statement M
 ask-spec =
-    tie.close
-    (tie.spec
-    check-requires
-    enum-known-checked
-    enum-told
-    returns
-    rejected-requires
-    returns-2
-    returns-3)
+    tie.close (tie.spec (λ c κs. search needs) (λ c. search needs) (λ c. search needs) returns (λ c κs. search needs)
+    returns-2 returns-3)

@@ -17,27 +17,6 @@ holds-bounds c =
     let e = c .fill-bounds .ensures in
     bounded _ _ _ _ (start c .pre .0 .1) (e .0) (e .1 .0)
 
-slice-aggregate-fill-bounds : tie.Need-slice-aggregate-fill-bounds
-slice-aggregate-fill-bounds c = search needs
-
-slice-aggregate-fill-bounds-2 : tie.Need-slice-aggregate-fill-bounds-2
-slice-aggregate-fill-bounds-2 c = search needs
-
-fill-bounds-requires : tie.Need-fill-bounds-requires
-fill-bounds-requires c κs = search needs
-
-slice-aggregate-root-choice : tie.Need-slice-aggregate-root-choice
-slice-aggregate-root-choice c = search needs
-
-slice-aggregate-root-choice-2 : tie.Need-slice-aggregate-root-choice-2
-slice-aggregate-root-choice-2 c = search needs
-
-root-choice-requires : tie.Need-root-choice-requires
-root-choice-requires c κs = search needs
-
-same-length : tie.Need-same-length
-same-length c = search needs
-
 returns : tie.Need-returns
 returns c =
     let b = c .before .before .before .before .before .before .before in (
@@ -47,13 +26,5 @@ returns c =
 
 pub root-move-spec : {M : Type 1} → statement M
 root-move-spec =
-    tie.close
-    (tie.spec
-    slice-aggregate-fill-bounds
-    slice-aggregate-fill-bounds-2
-    fill-bounds-requires
-    slice-aggregate-root-choice
-    slice-aggregate-root-choice-2
-    root-choice-requires
-    same-length
-    returns)
+    tie.close (tie.spec (λ c. search needs) (λ c. search needs) (λ c κs. search needs) (λ c. search needs)
+    (λ c. search needs) (λ c κs. search needs) (λ c. search needs) returns)

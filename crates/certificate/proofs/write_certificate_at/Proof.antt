@@ -20,21 +20,6 @@ holds-bounds c =
     let e = c .fill-bounds .ensures in
     bounded _ _ _ _ (start c .pre .0 .1) (e .0) (e .1 .0)
 
-slice-aggregate-fill-bounds : tie.Need-slice-aggregate-fill-bounds
-slice-aggregate-fill-bounds c = search needs
-
-slice-aggregate-fill-bounds-2 : tie.Need-slice-aggregate-fill-bounds-2
-slice-aggregate-fill-bounds-2 c = search needs
-
-fill-bounds-requires : tie.Need-fill-bounds-requires
-fill-bounds-requires c κs = search needs
-
-slice-aggregate-read-off : tie.Need-slice-aggregate-read-off
-slice-aggregate-read-off c = search needs
-
-slice-aggregate-read-off-2 : tie.Need-slice-aggregate-read-off-2
-slice-aggregate-read-off-2 c = search needs
-
 read-off-requires : tie.Need-read-off-requires
 read-off-requires c κs =
     let b = c .before .before .before .before .before .before .before in
@@ -46,12 +31,6 @@ read-off-requires c κs =
       ),
     )
 
-same-length : tie.Need-same-length
-same-length c = search needs
-
-same-length-2 : tie.Need-same-length-2
-same-length-2 c = search needs
-
 returns : tie.Need-returns
 returns c =
     let r = c .before .before .read-off .ensures in
@@ -62,14 +41,5 @@ returns c =
 
 pub write-certificate-at-spec : {M : Type 1} → statement M
 write-certificate-at-spec =
-    tie.close
-    (tie.spec
-    slice-aggregate-fill-bounds
-    slice-aggregate-fill-bounds-2
-    fill-bounds-requires
-    slice-aggregate-read-off
-    slice-aggregate-read-off-2
-    read-off-requires
-    same-length
-    same-length-2
-    returns)
+    tie.close (tie.spec (λ c. search needs) (λ c. search needs) (λ c κs. search needs) (λ c. search needs)
+    (λ c. search needs) read-off-requires (λ c. search needs) (λ c. search needs) returns)
