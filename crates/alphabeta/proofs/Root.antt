@@ -9,7 +9,7 @@ use lib.Dec.{ltb}
 use lib.ListN.{length}
 use borrow.Author.Tests.{ltb-true, ltb-false, lt-ltb, le-ltb}
 use Rattle.gametree.specs.Tree.{Tree, least, greatest, minimax, number, Score}
-use Rattle.gametree.specs.AlphaBeta.{alphaBeta, fullWindow}
+use Rattle.gametree.specs.AlphaBeta.{fullWindow}
 use Rattle.gametree.specs.Move.{rootMove}
 use Rattle.gametree.proofs.minimax.Bounds.{minimax-score}
 use Rattle.gametree.proofs.alphabeta.Window.{alphaBeta-value}
@@ -22,7 +22,6 @@ use Rattle.frames.proofs.Next.{child-within}
 use Rattle.frames.proofs.Positions.{position-root}
 use Rattle.frames.proofs.Proper.{every-leaf, leaf-scored, tree-proper}
 use Rattle.frames.proofs.Trees.{tree-inner, tree-number}
-use Rattle.bounds.specs.Marks.{ones}
 use Rattle.bounds.specs.engine.Progress.{Progress, progress, Listable}
 use Rattle.certificate.specs.engine.Searchable.{Searchable}
 use Rattle.certificate.proofs.Unmarked.{all-wait}

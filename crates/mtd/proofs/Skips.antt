@@ -2,10 +2,9 @@
 -- else there.
 use Prim.Native.Nat.{ℕ, zero, suc, _+_, _-_, _≤_, _<_}
 use native.Mathlib.Omega.{arith}
-use mathlib.Core.Path.{_≡_, refl, sym, ap, _∙_, subst}
-use mathlib.Core.Bool.{Bool, true, false, cond, _||_}
+use mathlib.Core.Path.{_≡_, refl, sym, _∙_, subst}
+use mathlib.Core.Bool.{Bool, true, false, cond}
 use mathlib.Core.List.{List}
-use lib.Dec.{eqb}
 use lib.ListN.{getD}
 use borrow.Author.Tests.{eqb-true, eq-eqb, ne-eqb, lt-leb}
 use Rattle.gametree.specs.declared.Position.{Position}
@@ -13,12 +12,10 @@ use Rattle.gametree.specs.declared.Side.{Side}
 use Rattle.gametree.specs.declared.Side.the-variants.{Max}
 use Rattle.gametree.specs.Tree.{greatest}
 use Rattle.gametree.specs.Bounds.{known}
-use Rattle.gametree.specs.Mtd.{settles}
 use Rattle.gametree.proofs.minimax.Bounds.{minimax-within}
-use Rattle.frames.specs.Frame.{frames, childCount}
+use Rattle.frames.specs.Frame.{childCount}
 use Rattle.frames.specs.Position.{childPosition}
 use Rattle.frames.specs.Tree.{treeAt, valuation}
-use Rattle.frames.specs.Formed.{WellFormed}
 use Rattle.frames.proofs.Nodes.{in-own}
 use Rattle.frames.proofs.Proper.{every-leaf, leaf-scored}
 use Rattle.frames.proofs.Trees.{zero-or-suc, tree-leaf}

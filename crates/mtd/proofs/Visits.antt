@@ -22,9 +22,8 @@ use Rattle.bounds.proofs.Bounds.{best-same, minimax-best}
 use Rattle.mtd.specs.declared.Seen.{Seen}
 use Rattle.mtd.specs.declared.Seen.the-variants.{Answered, Open}
 use Rattle.mtd.specs.declared.Tried.{Tried}
-use Rattle.mtd.specs.engine.Memory.{Memory, memory, progressOf, MemoryRoom, HighsRight, VisitReady}
-use Rattle.mtd.specs.engine.Memory.{Enterable, Passed}
-use Rattle.mtd.specs.engine.Memory.{Looked}
+use Rattle.mtd.specs.engine.Memory.{Memory, memory, progressOf, MemoryRoom, HighsRight, VisitReady, Enterable}
+use Rattle.mtd.specs.engine.Memory.{Passed, Looked}
 use Rattle.mtd.proofs.Arrays.{room-at}
 use Rattle.mtd.proofs.Passes.{leaf-passed, below-passed, not-below-passed, entered-passed}
 use Rattle.mtd.proofs.Turns.{childrenUpTo, Left, Family, tree-kids}

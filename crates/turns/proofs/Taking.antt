@@ -24,8 +24,7 @@ use Rattle.turns.specs.declared.Run.{Run}
 use Rattle.turns.specs.engine.Merit.{scoreOf}
 use Rattle.turns.specs.engine.Rules.{ofInner, ofLive, ofState}
 use Rattle.turns.specs.engine.Turn.{isSolvedRoot, evaluatedBy, newLeaves, isLiveLeaf, isUncovered, settledFront}
-use Rattle.turns.specs.engine.Turn.{replacedRun}
-use Rattle.turns.specs.engine.Turn.{recounted, endedRun, taken}
+use Rattle.turns.specs.engine.Turn.{replacedRun, recounted, endedRun, taken}
 
 -- a SOLVED state that is not the root's
 pub not-root : (s : Status) (i : ℕ) → isSolvedRoot s i ≡ false → s ≡ Solved → 0 < i

@@ -139,19 +139,10 @@ module _ (t : ℕ) where
         )
       ]
 
-  child-count-requires : lts.Need-child-count-requires (calls t) (at t) own.Post Inv μ-loop
-  child-count-requires c κs = search needs
-
   visit-leaf-requires : lts.Need-visit-leaf-requires (calls t) (at t) own.Post Inv μ-loop
   visit-leaf-requires c κs =
       let a = c .before .before .before .before .before .before .before in
       (searchable-leaf _ _ _ _ (a .pre .1 .0) (omega arith), a .pre .1 .1)
-
-  same-length : lts.Need-same-length (calls t) (at t) own.Post Inv μ-loop
-  same-length c = search needs
-
-  same-length-2 : lts.Need-same-length-2 (calls t) (at t) own.Post Inv μ-loop
-  same-length-2 c = search needs
 
   returns : lts.Need-returns (calls t) (at t) own.Post Inv μ-loop
   returns c =
@@ -164,15 +155,6 @@ module _ (t : ℕ) where
       leaf-visits _ (r .formed) _ (r .inside) _ _ p _ _ _ _ (searchable-leaf _ _ _ _ r (omega arith)) (a .pre .1 .1)
       (l .0 .0) (l .0 .1) (l .1 .0) (l .1 .1) in
       (g .gives .0, (g .gives .1, g .counted))
-
-  first-child-requires : lts.Need-first-child-requires (calls t) (at t) own.Post Inv μ-loop
-  first-child-requires c κs = search needs
-
-  sub-last : lts.Need-sub-last (calls t) (at t) own.Post Inv μ-loop
-  sub-last c = search needs
-
-  add-last : lts.Need-add-last (calls t) (at t) own.Post Inv μ-loop
-  add-last c = search needs
 
   loop-holds : lts.Need-loop-holds (calls t) (at t) own.Post Inv μ-loop
   loop-holds c =
@@ -197,9 +179,6 @@ module _ (t : ℕ) where
       let r = start c .pre .1 .0 in
       (child-within _ (r .formed) (r .inside) (child-of c), searchable-depth _ _ _ _ r .1)
 
-  child-count-requires-2 : lts.Need-child-count-requires-2 (calls t) (at t) own.Post Inv μ-loop
-  child-count-requires-2 c κs = searchable c .inside
-
   visit-leaf-requires-2 : lts.Need-visit-leaf-requires-2 (calls t) (at t) own.Post Inv μ-loop
   visit-leaf-requires-2 c κs =
       let k = c .before .before in
@@ -213,18 +192,6 @@ module _ (t : ℕ) where
         omega (arith, child-later _ (r .formed) (r .inside) (child-of l)),
         (searchable k, l .loop .inv .listable),
       )
-
-  raised-requires : lts.Need-raised-requires (calls t) (at t) own.Post Inv μ-loop
-  raised-requires c κs = search needs
-
-  lowered-requires : lts.Need-lowered-requires (calls t) (at t) own.Post Inv μ-loop
-  lowered-requires c κs = search needs
-
-  add-child : lts.Need-add-child (calls t) (at t) own.Post Inv μ-loop
-  add-child c = search needs
-
-  loop-less : lts.Need-loop-less (calls t) (at t) own.Post Inv μ-loop
-  loop-less c = search needs
 
   loop-again : lts.Need-loop-again (calls t) (at t) own.Post Inv μ-loop
   loop-again c =
@@ -251,24 +218,12 @@ module _ (t : ℕ) where
             (c .before .before .raised .ensures) (c .before .lowered .ensures) (omega arith);
       }
 
-  same-length-3 : lts.Need-same-length-3 (calls t) (at t) own.Post Inv μ-loop
-  same-length-3 c = kept (c .before) .0
-
-  same-length-4 : lts.Need-same-length-4 (calls t) (at t) own.Post Inv μ-loop
-  same-length-4 c = kept (c .before) .1
-
   returns-2 : lts.Need-returns-2 (calls t) (at t) own.Post Inv μ-loop
   returns-2 c =
       let v = visits (c .before) in
       let g = pass-ends _ _ _ _ _ _ _ _ _ _ _ _ (looping (c .before) .loop .inv .remainder) (v .gives)
       (c .if3 .taken) in
       (g .0, (g .1, v .counted))
-
-  same-length-5 : lts.Need-same-length-5 (calls t) (at t) own.Post Inv μ-loop
-  same-length-5 c = kept (c .before .before .before .before) .0
-
-  same-length-6 : lts.Need-same-length-6 (calls t) (at t) own.Post Inv μ-loop
-  same-length-6 c = kept (c .before .before .before .before) .1
 
   returns-3 : lts.Need-returns-3 (calls t) (at t) own.Post Inv μ-loop
   returns-3 c =
@@ -280,32 +235,10 @@ module _ (t : ℕ) where
       (g .0, (g .1, v .counted))
 
 pub +alpha-beta-spec : {M : Type 1} → statement M
-+alpha-beta-spec = close μ λ t. lts.spec (calls t)
-    (at t)
-    own.Post
-    Inv
-    μ-loop
-    (child-count-requires t)
-    (visit-leaf-requires t)
-    (same-length t)
-    (same-length-2 t)
-    (returns t)
-    (first-child-requires t)
-    (sub-last t)
-    (add-last t)
-    (loop-holds t)
-    (child-position-requires t)
-    (child-count-requires-2 t)
-    (visit-leaf-requires-2 t)
-    (alpha-beta-requires t)
-    (raised-requires t)
-    (lowered-requires t)
-    (add-child t)
-    (loop-less t)
-    (loop-again t)
-    (same-length-3 t)
-    (same-length-4 t)
-    (returns-2 t)
-    (same-length-5 t)
-    (same-length-6 t)
++alpha-beta-spec = close μ λ t. lts.spec (calls t) (at t) own.Post Inv μ-loop (λ c κs. search needs)
+    (visit-leaf-requires t) (λ c. search needs) (λ c. search needs) (returns t) (λ c κs. search needs)
+    (λ c. search needs) (λ c. search needs) (loop-holds t) (child-position-requires t) (λ c κs. searchable t c .inside)
+    (visit-leaf-requires-2 t) (alpha-beta-requires t) (λ c κs. search needs) (λ c κs. search needs) (λ c. search needs)
+    (λ c. search needs) (loop-again t) (λ c. kept t (c .before) .0) (λ c. kept t (c .before) .1) (returns-2 t)
+    (λ c. kept t (c .before .before .before .before) .0) (λ c. kept t (c .before .before .before .before) .1)
     (returns-3 t)

@@ -15,12 +15,6 @@ use Rattle.alphabeta.proofs.find.Tie as tie
 abbrev start : tie.After-visit-root → tie.Start
 start f = f .before .before .before .before .before .before .before .before .before .before .before
 
-frame-count-requires : tie.Need-frame-count-requires
-frame-count-requires c κs = search needs
-
-clear-requires : tie.Need-clear-requires
-clear-requires c κs = search needs
-
 visit-root-requires : tie.Need-visit-root-requires
 visit-root-requires c κs =
     let k = c .before .before .before .before in
@@ -35,12 +29,6 @@ value-requires c κs =
     let f = c .before .before .before .before in
     run-small _ (start f .pre .0) _ (f .visit-root .ensures .0 .0)
 
-same-length : tie.Need-same-length
-same-length c = search needs
-
-same-length-2 : tie.Need-same-length-2
-same-length-2 c = search needs
-
 returns : tie.Need-returns
 returns c =
     let f = c .before .before .before .before .before in
@@ -53,12 +41,5 @@ returns c =
 
 pub find-spec : {M : Type 1} → statement M
 find-spec =
-    tie.close
-    (tie.spec
-    frame-count-requires
-    clear-requires
-    visit-root-requires
-    value-requires
-    same-length
-    same-length-2
-    returns)
+    tie.close (tie.spec (λ c κs. search needs) (λ c κs. search needs) visit-root-requires value-requires
+    (λ c. search needs) (λ c. search needs) returns)

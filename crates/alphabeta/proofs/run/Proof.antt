@@ -5,21 +5,6 @@ use Rattle.alphabeta.specs.Outcome.{reachedLeaves}
 use Rattle.alphabeta.proofs.run.Statement.{statement}
 use Rattle.alphabeta.proofs.run.Tie as tie
 
-find-requires : tie.Need-find-requires
-find-requires c κs = search needs
-
-write-certificate-requires : tie.Need-write-certificate-requires
-write-certificate-requires c κs = search needs
-
-same-length : tie.Need-same-length
-same-length c = search needs
-
-same-length-2 : tie.Need-same-length-2
-same-length-2 c = search needs
-
-same-length-3 : tie.Need-same-length-3
-same-length-3 c = search needs
-
 returns : tie.Need-returns
 returns c =
     let k = c .before .before .before .before in
@@ -33,5 +18,5 @@ returns c =
 
 pub run-spec : {M : Type 1} → statement M
 run-spec =
-    tie.close
-    (tie.spec find-requires write-certificate-requires same-length same-length-2 same-length-3 returns)
+    tie.close (tie.spec (λ c κs. search needs) (λ c κs. search needs) (λ c. search needs) (λ c. search needs)
+    (λ c. search needs) returns)

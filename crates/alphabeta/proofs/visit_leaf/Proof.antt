@@ -5,18 +5,6 @@ use Rattle.gametree.specs.AlphaBeta.{clamp}
 use Rattle.alphabeta.proofs.visit_leaf.Statement.{statement}
 use Rattle.alphabeta.proofs.visit_leaf.Tie as tie
 
-evaluate-next-requires : tie.Need-evaluate-next-requires
-evaluate-next-requires c κs = search needs
-
-clamped-requires : tie.Need-clamped-requires
-clamped-requires c κs = search needs
-
-same-length : tie.Need-same-length
-same-length c = search needs
-
-same-length-2 : tie.Need-same-length-2
-same-length-2 c = search needs
-
 returns : tie.Need-returns
 returns c =
     let e = c .before .before .before .before .before .evaluate-next .ensures in
@@ -24,4 +12,4 @@ returns c =
 
 pub visit-leaf-spec : {M : Type 1} → statement M
 visit-leaf-spec =
-    tie.close (tie.spec evaluate-next-requires clamped-requires same-length same-length-2 returns)
+    tie.close (tie.spec (λ c κs. search needs) (λ c κs. search needs) (λ c. search needs) (λ c. search needs) returns)

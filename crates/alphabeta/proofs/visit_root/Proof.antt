@@ -2,7 +2,7 @@
 -- complete what the tree was to give, and end with the root move.
 use Prim.Native.Nat.{_-_}
 use native.Mathlib.Omega.{arith}
-use mathlib.Core.Path.{_≡_, refl, ap, _∙_}
+use mathlib.Core.Path.{_≡_, refl, _∙_}
 use mathlib.Core.Logic.{inl, inr}
 use mathlib.Core.Bool.{cond}
 use lib.Dec.{ltb}
@@ -61,19 +61,10 @@ moved j =
       | inr y ↦ y .1 ∙ rw (le-ltb _ _ (y .0 .left))
     ]
 
-child-count-requires : tie.Need-child-count-requires Inv-loop μ-loop
-child-count-requires c κs = search needs
-
 visit-leaf-requires : tie.Need-visit-leaf-requires Inv-loop μ-loop
 visit-leaf-requires c κs =
     let a = c .before .before .before .before .before .before .before in
     (searchable-leaf _ _ _ _ (a .pre .0) (omega arith), a .pre .1)
-
-same-length : tie.Need-same-length Inv-loop μ-loop
-same-length c = search needs
-
-same-length-2 : tie.Need-same-length-2 Inv-loop μ-loop
-same-length-2 c = search needs
 
 returns : tie.Need-returns Inv-loop μ-loop
 returns c =
@@ -111,9 +102,6 @@ alpha-beta-requires c κs =
       u .turn .listable,
     )
 
-add-child : tie.Need-add-child Inv-loop μ-loop
-add-child c = search needs
-
 loop-less : tie.Need-loop-less Inv-loop μ-loop
 loop-less c =
     let u = looping (visiting (c .before)) .loop .inv .turn .to in
@@ -136,12 +124,6 @@ loop-again c =
     let u = l .loop .inv .turn .to in
     root-next _ (r .formed) (count l) (l .loop .inv) (visits v) _ (moved j) (omega arith) (kept v .0) (kept v .1)
 
-same-length-3 : tie.Need-same-length-3 Inv-loop μ-loop
-same-length-3 c = kept (visiting (c .before)) .0
-
-same-length-4 : tie.Need-same-length-4 Inv-loop μ-loop
-same-length-4 c = kept (visiting (c .before)) .1
-
 returns-2 : tie.Need-returns-2 Inv-loop μ-loop
 returns-2 c =
     let j = c .before in
@@ -153,21 +135,6 @@ returns-2 c =
 
 pub visit-root-spec : {M : Type 1} → statement M
 visit-root-spec =
-    tie.close
-    (tie.spec
-    Inv-loop
-    μ-loop
-    child-count-requires
-    visit-leaf-requires
-    same-length
-    same-length-2
-    returns
-    loop-holds
-    child-position-requires
-    alpha-beta-requires
-    add-child
-    loop-less
-    loop-again
-    same-length-3
-    same-length-4
-    returns-2)
+    tie.close (tie.spec Inv-loop μ-loop (λ c κs. search needs) visit-leaf-requires (λ c. search needs)
+    (λ c. search needs) returns loop-holds child-position-requires alpha-beta-requires (λ c. search needs) loop-less
+    loop-again (λ c. kept (visiting (c .before)) .0) (λ c. kept (visiting (c .before)) .1) returns-2)

@@ -263,18 +263,6 @@ module _ (t : ℕ) where
       → MemoryRoom (frames (entry (head (j .before) .before) .args .table .now)) (over j)
   room j = room-kept (entry (head (j .before) .before) .pre .1 .0 .room) (left j .1)
 
-  first-child-requires : lts.Need-first-child-requires (calls t) (at t) enter′.Post Inv μ-loop
-  first-child-requires c κs = search needs
-
-  child-count-requires : lts.Need-child-count-requires (calls t) (at t) enter′.Post Inv μ-loop
-  child-count-requires c κs = search needs
-
-  add-end : lts.Need-add-end (calls t) (at t) enter′.Post Inv μ-loop
-  add-end c = search needs
-
-  loop-holds : lts.Need-loop-holds (calls t) (at t) enter′.Post Inv μ-loop
-  loop-holds c = turn-first (family c) (entry c .pre .1 .0) (some c)
-
   next-tried-requires : lts.Need-next-tried-requires (calls t) (at t) enter′.Post Inv μ-loop
   next-tried-requires c κs =
       let l = c .before in
@@ -289,15 +277,6 @@ module _ (t : ℕ) where
       let f = head (c .before) .before in
       let p = entry f .pre .1 .0 in
       (child-within _ (p .formed) (p .inside) (turn-child (family f) (turn c)), ready-shallow p)
-
-  look-requires : lts.Need-look-requires (calls t) (at t) enter′.Post Inv μ-loop
-  look-requires c κs = ready (c .before .before .before .before)
-
-  enum-known-tried : lts.Need-enum-known-tried (calls t) (at t) enter′.Post Inv μ-loop
-  enum-known-tried c = search needs
-
-  enum-told : lts.Need-enum-told (calls t) (at t) enter′.Post Inv μ-loop
-  enum-told c = search needs
 
   enter-requires : lts.Need-enter-requires (calls t) (at t) enter′.Post Inv μ-loop
   enter-requires c κs =
@@ -324,9 +303,6 @@ module _ (t : ℕ) where
       let e = trying (seen c) in
       let u = turn e .to in
       search needs
-
-  last-tried-requires : lts.Need-last-tried-requires (calls t) (at t) enter′.Post Inv μ-loop
-  last-tried-requires c κs = search needs
 
   loop-less : lts.Need-loop-less (calls t) (at t) enter′.Post Inv μ-loop
   loop-less c =
@@ -380,28 +356,9 @@ module _ (t : ℕ) where
       (visit-entered (family f) (p .0) (some f) {m′ = over j} (p .1 .high) (p .1 .notBelow) (room j) (left j .0) refl)
 
 pub +enter-spec : {M : Type 1} → statement M
-+enter-spec = close μ λ t. lts.spec (calls t)
-    (at t)
-    enter′.Post
-    Inv
-    μ-loop
-    (first-child-requires t)
-    (child-count-requires t)
-    (add-end t)
-    (loop-holds t)
-    (next-tried-requires t)
-    (child-position-requires t)
-    (look-requires t)
-    (enum-known-tried t)
-    (enum-told t)
-    (enter-requires t)
-    (add-child t)
-    (last-tried-requires t)
-    (loop-less t)
-    (loop-again t)
-    (remember-requires t)
-    (same-length t)
-    (same-length-2 t)
-    (same-length-3 t)
-    (same-length-4 t)
++enter-spec = close μ λ t. lts.spec (calls t) (at t) enter′.Post Inv μ-loop (λ c κs. search needs)
+    (λ c κs. search needs) (λ c. search needs) (λ c. turn-first (family t c) (entry t c .pre .1 .0) (some t c))
+    (next-tried-requires t) (child-position-requires t) (λ c κs. ready t (c .before .before .before .before))
+    (λ c. search needs) (λ c. search needs) (enter-requires t) (add-child t) (λ c κs. search needs) (loop-less t)
+    (loop-again t) (remember-requires t) (same-length t) (same-length-2 t) (same-length-3 t) (same-length-4 t)
     (returns t)

@@ -25,18 +25,6 @@ cleared c =
     c .clear .ensures
     ∙ ap (λ m. written (λ _. 0) m (start c .args .evaluated .now)) (c .before .frame-count .ensures)
 
-frame-count-requires : tie.Need-frame-count-requires
-frame-count-requires c κs = search needs
-
-clear-requires : tie.Need-clear-requires
-clear-requires c κs = search needs
-
-slice-aggregate-run-passes : tie.Need-slice-aggregate-run-passes
-slice-aggregate-run-passes c = search needs
-
-slice-aggregate-run-passes-2 : tie.Need-slice-aggregate-run-passes-2
-slice-aggregate-run-passes-2 c = search needs
-
 run-passes-requires : tie.Need-run-passes-requires
 run-passes-requires c κs =
     let k = c .before .before .before .before .before .before in
@@ -49,12 +37,6 @@ value-requires c κs =
     let f = c .before .before .before .before .before .before in
     run-small _ (start (clearing f) .pre .0) _ (f .run-passes .ensures .0 .0)
 
-same-length : tie.Need-same-length
-same-length c = search needs
-
-same-length-2 : tie.Need-same-length-2
-same-length-2 c = search needs
-
 returns : tie.Need-returns
 returns c =
     let f = c .before .before .before .before .before .before .before in
@@ -66,14 +48,5 @@ returns c =
 
 pub find-spec : {M : Type 1} → statement M
 find-spec =
-    tie.close
-    (tie.spec
-    frame-count-requires
-    clear-requires
-    slice-aggregate-run-passes
-    slice-aggregate-run-passes-2
-    run-passes-requires
-    value-requires
-    same-length
-    same-length-2
-    returns)
+    tie.close (tie.spec (λ c κs. search needs) (λ c κs. search needs) (λ c. search needs) (λ c. search needs)
+    run-passes-requires value-requires (λ c. search needs) (λ c. search needs) returns)

@@ -4,14 +4,7 @@ use borrow.Author.Tests.{eq-eqb, ne-eqb}
 use Rattle.mtd.proofs.last_tried.Statement.{statement}
 use Rattle.mtd.proofs.last_tried.Tie as tie
 
-settles-requires : tie.Need-settles-requires
-settles-requires c κs = search needs
-
-returns : tie.Need-returns
-returns c = rw (eq-eqb _ _ (c .if1 .taken))
-
-returns-2 : tie.Need-returns-2
-returns-2 c = rw (ne-eqb _ _ (c .before .if1 .left)) (c .settles .ensures)
-
 pub last-tried-spec : {M : Type 1} → statement M
-last-tried-spec = tie.close (tie.spec settles-requires returns returns-2)
+last-tried-spec =
+    tie.close (tie.spec (λ c κs. search needs) (λ c. rw (eq-eqb _ _ (c .if1 .taken)))
+    (λ c. rw (ne-eqb _ _ (c .before .if1 .left)) (c .settles .ensures)))

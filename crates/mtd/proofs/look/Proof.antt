@@ -19,9 +19,6 @@ counting c n =
 abbrev before : tie.Start → Memory
 before c = counting c (c .args .leaves)
 
-child-count-requires : tie.Need-child-count-requires
-child-count-requires c κs = search needs
-
 visit-leaf-requires : tie.Need-visit-leaf-requires
 visit-leaf-requires c κs =
     let a = c .before .before .before .before .before .before .before .before .before .before in
@@ -37,15 +34,6 @@ visit-leaf-requires c κs =
       ),
     )
 
-same-length : tie.Need-same-length
-same-length c = search needs
-
-same-length-2 : tie.Need-same-length-2
-same-length-2 c = search needs
-
-same-length-3 : tie.Need-same-length-3
-same-length-3 c = search needs
-
 returns : tie.Need-returns
 returns c =
     let v = c .before .before .before .before .before .before in
@@ -56,15 +44,6 @@ returns c =
     visit-leaf (a .args .table .now) (p .formed) (a .args .node) (p .inside) none (before a) (a .args .test) _ _ _ _
     (p .room) (l .0) (l .1 .0) (l .1 .1 .0) (l .1 .1 .1 .0) (l .1 .1 .1 .1)
 
-mul-if2 : tie.Need-mul-if2
-mul-if2 c = search needs
-
-slice-read-if2 : tie.Need-slice-read-if2
-slice-read-if2 c = search needs
-
-not-entered-requires : tie.Need-not-entered-requires
-not-entered-requires c κs = search needs
-
 returns-2 : tie.Need-returns-2
 returns-2 c =
     let a = c .before .before .before .before .before .before .before .before .before .before in
@@ -72,12 +51,6 @@ returns-2 c =
     (record { answer = false; leaves = a .args .leaves }) (c .not-entered .ensures)
     (visit-below (record { formed = a .pre .formed; inside = a .pre .inside; from = refl; to = refl }) (a .pre)
     (omega arith) refl (omega (arith, c .before .if2 .taken)))
-
-shared-slice-read-if3 : tie.Need-shared-slice-read-if3
-shared-slice-read-if3 c = search needs
-
-not-entered-requires-2 : tie.Need-not-entered-requires-2
-not-entered-requires-2 c κs = search needs
 
 returns-3 : tie.Need-returns-3
 returns-3 c =
@@ -93,19 +66,6 @@ returns-4 c =
 
 pub look-spec : {M : Type 1} → statement M
 look-spec =
-    tie.close
-    (tie.spec
-    child-count-requires
-    visit-leaf-requires
-    same-length
-    same-length-2
-    same-length-3
-    returns
-    mul-if2
-    slice-read-if2
-    not-entered-requires
-    returns-2
-    shared-slice-read-if3
-    not-entered-requires-2
-    returns-3
-    returns-4)
+    tie.close (tie.spec (λ c κs. search needs) visit-leaf-requires (λ c. search needs) (λ c. search needs)
+    (λ c. search needs) returns (λ c. search needs) (λ c. search needs) (λ c κs. search needs) returns-2
+    (λ c. search needs) (λ c κs. search needs) returns-3 returns-4)

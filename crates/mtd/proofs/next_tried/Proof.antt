@@ -4,18 +4,6 @@ use borrow.Author.Needs.{needs}
 use Rattle.mtd.proofs.next_tried.Statement.{statement}
 use Rattle.mtd.proofs.next_tried.Tie as tie
 
-enum-told : tie.Need-enum-told
-enum-told c = search needs
-
-first-not-below-requires : tie.Need-first-not-below-requires
-first-not-below-requires c κs = search needs
-
-enum-told-2 : tie.Need-enum-told-2
-enum-told-2 c = search needs
-
-returns : tie.Need-returns
-returns c = search needs
-
 returns-2 : tie.Need-returns-2
 returns-2 c =
     record {
@@ -27,4 +15,4 @@ returns-2 c =
 
 pub next-tried-spec : {M : Type 1} → statement M
 next-tried-spec =
-    tie.close (tie.spec enum-told first-not-below-requires enum-told-2 returns returns-2)
+    tie.close (tie.spec (λ c. search needs) (λ c κs. search needs) (λ c. search needs) (λ c. search needs) returns-2)

@@ -89,9 +89,6 @@ loop-again c =
     passing-next (entry v .pre .formed) (head v .loop .inv) {m″ = after v} (v .visit .ensures)
     (c .before .before .if1 .left) (long v) _ (c .root-high .ensures)
 
-child-count-requires : tie.Need-child-count-requires Inv-loop μ-loop
-child-count-requires c κs = search needs
-
 -- the pass that found the root not below
 abbrev last-visit : tie.Then1 Inv-loop μ-loop → tie.After-visit Inv-loop μ-loop
 last-visit c = c .before .before .before .before .before .before .before .before .before
@@ -105,28 +102,10 @@ within c =
     let p = entry v .pre in
     omega (arith, next-within _ (p .formed) 1 (p .formed .nonEmpty), p .room .highs, long v .highs)
 
-add-end : tie.Need-add-end Inv-loop μ-loop
-add-end c = search needs
-
-root-high-requires-2 : tie.Need-root-high-requires-2 Inv-loop μ-loop
-root-high-requires-2 c κs = omega (arith, within (c .before .before))
-
 first-equal-requires : tie.Need-first-equal-requires Inv-loop μ-loop
 first-equal-requires c κs =
     let t = c .before .before .before in
     (omega arith, omega (arith, within t, c .before .before .child-count .ensures .0))
-
-same-length : tie.Need-same-length Inv-loop μ-loop
-same-length c = long (last-visit (c .before .before .before .before)) .evaluated
-
-same-length-2 : tie.Need-same-length-2 Inv-loop μ-loop
-same-length-2 c = long (last-visit (c .before .before .before .before)) .order
-
-same-length-3 : tie.Need-same-length-3 Inv-loop μ-loop
-same-length-3 c = long (last-visit (c .before .before .before .before)) .highs
-
-same-length-4 : tie.Need-same-length-4 Inv-loop μ-loop
-same-length-4 c = long (last-visit (c .before .before .before .before)) .notBelow
 
 returns : tie.Need-returns Inv-loop μ-loop
 returns c =
@@ -142,22 +121,9 @@ returns c =
 
 pub run-passes-spec : {M : Type 1} → statement M
 run-passes-spec =
-    tie.close
-    (tie.spec
-    Inv-loop
-    μ-loop
-    loop-holds
-    visit-requires
-    add-passes
-    root-high-requires
-    loop-less
-    loop-again
-    child-count-requires
-    add-end
-    root-high-requires-2
-    first-equal-requires
-    same-length
-    same-length-2
-    same-length-3
-    same-length-4
-    returns)
+    tie.close (tie.spec Inv-loop μ-loop loop-holds visit-requires add-passes root-high-requires loop-less loop-again
+    (λ c κs. search needs) (λ c. search needs) (λ c κs. omega (arith, within (c .before .before))) first-equal-requires
+    (λ c. long (last-visit (c .before .before .before .before)) .evaluated)
+    (λ c. long (last-visit (c .before .before .before .before)) .order)
+    (λ c. long (last-visit (c .before .before .before .before)) .highs)
+    (λ c. long (last-visit (c .before .before .before .before)) .notBelow) returns)

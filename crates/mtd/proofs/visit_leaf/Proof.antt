@@ -26,15 +26,6 @@ leaf-of c =
       shallow = p .1 .0 .2;
     }
 
-slice-read-if1 : tie.Need-slice-read-if1
-slice-read-if1 c = search needs
-
-mul-answer : tie.Need-mul-answer
-mul-answer c = search needs
-
-slice-read-answer : tie.Need-slice-read-answer
-slice-read-answer c = search needs
-
 returns : tie.Need-returns
 returns c =
     let a = c .before .before .before .before .before .before .before in
@@ -51,15 +42,6 @@ evaluate-leaf-requires : tie.Need-evaluate-leaf-requires
 evaluate-leaf-requires c κs =
     let p = c .before .before .before .before .before .before .before .before .before .pre in
     (leaf-of (c .before .before .before), (p .1 .1 .1, p .0 .2))
-
-same-length : tie.Need-same-length
-same-length c = search needs
-
-same-length-2 : tie.Need-same-length-2
-same-length-2 c = search needs
-
-same-length-3 : tie.Need-same-length-3
-same-length-3 c = search needs
 
 returns-2 : tie.Need-returns-2
 returns-2 c =
@@ -83,14 +65,5 @@ returns-2 c =
 
 pub visit-leaf-spec : {M : Type 1} → statement M
 visit-leaf-spec =
-    tie.close
-    (tie.spec
-    slice-read-if1
-    mul-answer
-    slice-read-answer
-    returns
-    evaluate-leaf-requires
-    same-length
-    same-length-2
-    same-length-3
-    returns-2)
+    tie.close (tie.spec (λ c. search needs) (λ c. search needs) (λ c. search needs) returns evaluate-leaf-requires
+    (λ c. search needs) (λ c. search needs) (λ c. search needs) returns-2)

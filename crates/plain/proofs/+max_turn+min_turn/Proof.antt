@@ -52,8 +52,8 @@ min-inv table evaluated₀ node left count score₀ child₀ last below evaluate
 abbrev min-loop : min-lts.MeasureT-loop
 min-loop table evaluated₀ node left count score₀ child₀ last below evaluated score child = last + 1 - child
 
-abbrev min-calls : ℕ → min-lts.Claims
-min-calls t = (
+abbrev max-calls : ℕ → max-lts.Claims
+max-calls t = (
   child-count-reads.Asked,
   child-count-reads.Learnt,
   evaluate-reads.Asked,
@@ -69,6 +69,9 @@ min-calls t = (
   better-reads.Asked,
   better-reads.Learnt,
 )
+
+abbrev min-calls : ℕ → min-lts.Claims
+min-calls = max-calls
 
 module _ (t : ℕ) where
   -- the function's entry, from the head of the loop; and this head, from the side that moves at a child
@@ -102,9 +105,6 @@ module _ (t : ℕ) where
         | inr y ↦ (y .7 ∙ y .3 .ensures .0, y .6 ∙ y .3 .ensures .1)
       ]
 
-  min-child-count-requires : min-lts.Need-child-count-requires (min-calls t) (min-at t) min-turn.Post min-inv min-loop
-  min-child-count-requires c κs = search needs
-
   min-sub-evaluate : min-lts.Need-sub-evaluate (min-calls t) (min-at t) min-turn.Post min-inv min-loop
   min-sub-evaluate c = omega (arith, c .before .before .before .before .before .pre .1 .remaining)
 
@@ -113,23 +113,11 @@ module _ (t : ℕ) where
       let a = c .before .before .before .before .before in
       leaf-evaluable _ _ Min _ _ (a .pre .1) _ (omega arith) (omega arith)
 
-  min-same-length : min-lts.Need-same-length (min-calls t) (min-at t) min-turn.Post min-inv min-loop
-  min-same-length c = search needs
-
   min-returns : min-lts.Need-returns (min-calls t) (min-at t) min-turn.Post min-inv min-loop
   min-returns c =
       let a = c .before .before .before .before .before .before .before .before in
       let e = c .before .before .evaluate .ensures in
       leaf-gives _ _ Min _ _ (a .pre .1) _ _ (omega arith) (e .0 .0) (e .1)
-
-  min-first-child-requires : min-lts.Need-first-child-requires (min-calls t) (min-at t) min-turn.Post min-inv min-loop
-  min-first-child-requires c κs = search needs
-
-  min-sub-last : min-lts.Need-sub-last-child (min-calls t) (min-at t) min-turn.Post min-inv min-loop
-  min-sub-last c = search needs
-
-  min-add-last : min-lts.Need-add-last-child (min-calls t) (min-at t) min-turn.Post min-inv min-loop
-  min-add-last c = search needs
 
   min-sub-below : min-lts.Need-sub-left-below (min-calls t) (min-at t) min-turn.Post min-inv min-loop
   min-sub-below c =
@@ -147,9 +135,6 @@ module _ (t : ℕ) where
       let x = min-start l .pre .1 .searchable in
       child-within _ (x .formed) (x .inside) (min-child l (omega arith))
 
-  min-enum-told : min-lts.Need-enum-told (min-calls t) (min-at t) min-turn.Post min-inv min-loop
-  min-enum-told c = search needs
-
   min-max-turn-requires : min-lts.Need-max-turn-requires (min-calls t) (min-at t) min-turn.Post min-inv min-loop
   min-max-turn-requires c κs =
       let m = c .before .before .before in
@@ -161,9 +146,6 @@ module _ (t : ℕ) where
         ready-child _ _ Min _ _ (a .pre .1) _ Max _ k (sym (c .before .enum-told .given .1) ∙ m .child-side .ensures)
             (i .kept) (i .unvisited _ (omega arith) k),
       )
-
-  min-enum-told-2 : min-lts.Need-enum-told-2 (min-calls t) (min-at t) min-turn.Post min-inv min-loop
-  min-enum-told-2 c = search needs
 
   min-min-turn-requires : min-lts.Need-min-turn-requires (min-calls t) (min-at t) min-turn.Post min-inv min-loop
   min-min-turn-requires c κs =
@@ -177,23 +159,11 @@ module _ (t : ℕ) where
             (i .kept) (i .unvisited _ (omega arith) k),
       )
 
-  min-better-requires : min-lts.Need-better-requires (min-calls t) (min-at t) min-turn.Post min-inv min-loop
-  min-better-requires c κs = search needs
-
-  min-add-child : min-lts.Need-add-child (min-calls t) (min-at t) min-turn.Post min-inv min-loop
-  min-add-child c = search needs
-
-  min-loop-less : min-lts.Need-loop-less (min-calls t) (min-at t) min-turn.Post min-inv min-loop
-  min-loop-less c = search needs
-
   min-loop-again : min-lts.Need-loop-again (min-calls t) (min-at t) min-turn.Post min-inv min-loop
   min-loop-again c =
       let l = min-head (c .before .before) in
       turn-goes-on _ _ Min _ _ (min-start l .pre .1) _ _ _ _ _ (l .loop .inv) (min-child l (omega arith))
       (omega arith) _ _ _ (min-given (c .before)) (c .better .ensures)
-
-  min-same-length-2 : min-lts.Need-same-length-2 (min-calls t) (min-at t) min-turn.Post min-inv min-loop
-  min-same-length-2 c = search needs
 
   min-returns-2 : min-lts.Need-returns-2 (min-calls t) (min-at t) min-turn.Post min-inv min-loop
   min-returns-2 c =
@@ -206,24 +176,6 @@ max-inv table evaluated₀ node left count score₀ child₀ last below evaluate
 
 abbrev max-loop : max-lts.MeasureT-loop
 max-loop table evaluated₀ node left count score₀ child₀ last below evaluated score child = last + 1 - child
-
-abbrev max-calls : ℕ → max-lts.Claims
-max-calls t = (
-  child-count-reads.Asked,
-  child-count-reads.Learnt,
-  evaluate-reads.Asked,
-  evaluate-reads.Learnt,
-  first-child-reads.Asked,
-  first-child-reads.Learnt,
-  child-side-reads.Asked,
-  child-side-reads.Learnt,
-  max-below t,
-  max-turn.Post,
-  min-below t,
-  min-turn.Post,
-  better-reads.Asked,
-  better-reads.Learnt,
-)
 
 module _ (t : ℕ) where
   -- the function's entry, from the head of the loop; and this head, from the side that moves at a child
@@ -257,9 +209,6 @@ module _ (t : ℕ) where
         | inr y ↦ (y .7 ∙ y .3 .ensures .0, y .6 ∙ y .3 .ensures .1)
       ]
 
-  max-child-count-requires : max-lts.Need-child-count-requires (max-calls t) (max-at t) max-turn.Post max-inv max-loop
-  max-child-count-requires c κs = search needs
-
   max-sub-evaluate : max-lts.Need-sub-evaluate (max-calls t) (max-at t) max-turn.Post max-inv max-loop
   max-sub-evaluate c = omega (arith, c .before .before .before .before .before .pre .1 .remaining)
 
@@ -268,23 +217,11 @@ module _ (t : ℕ) where
       let a = c .before .before .before .before .before in
       leaf-evaluable _ _ Max _ _ (a .pre .1) _ (omega arith) (omega arith)
 
-  max-same-length : max-lts.Need-same-length (max-calls t) (max-at t) max-turn.Post max-inv max-loop
-  max-same-length c = search needs
-
   max-returns : max-lts.Need-returns (max-calls t) (max-at t) max-turn.Post max-inv max-loop
   max-returns c =
       let a = c .before .before .before .before .before .before .before .before in
       let e = c .before .before .evaluate .ensures in
       leaf-gives _ _ Max _ _ (a .pre .1) _ _ (omega arith) (e .0 .0) (e .1)
-
-  max-first-child-requires : max-lts.Need-first-child-requires (max-calls t) (max-at t) max-turn.Post max-inv max-loop
-  max-first-child-requires c κs = search needs
-
-  max-sub-last : max-lts.Need-sub-last (max-calls t) (max-at t) max-turn.Post max-inv max-loop
-  max-sub-last c = search needs
-
-  max-add-last : max-lts.Need-add-last (max-calls t) (max-at t) max-turn.Post max-inv max-loop
-  max-add-last c = search needs
 
   max-sub-below : max-lts.Need-sub-below (max-calls t) (max-at t) max-turn.Post max-inv max-loop
   max-sub-below c =
@@ -302,9 +239,6 @@ module _ (t : ℕ) where
       let x = max-start l .pre .1 .searchable in
       child-within _ (x .formed) (x .inside) (max-child l (omega arith))
 
-  max-enum-told : max-lts.Need-enum-told (max-calls t) (max-at t) max-turn.Post max-inv max-loop
-  max-enum-told c = search needs
-
   max-max-turn-requires : max-lts.Need-max-turn-requires (max-calls t) (max-at t) max-turn.Post max-inv max-loop
   max-max-turn-requires c κs =
       let m = c .before .before .before in
@@ -316,9 +250,6 @@ module _ (t : ℕ) where
         ready-child _ _ Max _ _ (a .pre .1) _ Max _ k (sym (c .before .enum-told .given .1) ∙ m .child-side .ensures)
             (i .kept) (i .unvisited _ (omega arith) k),
       )
-
-  max-enum-told-2 : max-lts.Need-enum-told-2 (max-calls t) (max-at t) max-turn.Post max-inv max-loop
-  max-enum-told-2 c = search needs
 
   max-min-turn-requires : max-lts.Need-min-turn-requires (max-calls t) (max-at t) max-turn.Post max-inv max-loop
   max-min-turn-requires c κs =
@@ -332,23 +263,11 @@ module _ (t : ℕ) where
             (i .kept) (i .unvisited _ (omega arith) k),
       )
 
-  max-better-requires : max-lts.Need-better-requires (max-calls t) (max-at t) max-turn.Post max-inv max-loop
-  max-better-requires c κs = search needs
-
-  max-add-child : max-lts.Need-add-child (max-calls t) (max-at t) max-turn.Post max-inv max-loop
-  max-add-child c = search needs
-
-  max-loop-less : max-lts.Need-loop-less (max-calls t) (max-at t) max-turn.Post max-inv max-loop
-  max-loop-less c = search needs
-
   max-loop-again : max-lts.Need-loop-again (max-calls t) (max-at t) max-turn.Post max-inv max-loop
   max-loop-again c =
       let l = max-head (c .before .before) in
       turn-goes-on _ _ Max _ _ (max-start l .pre .1) _ _ _ _ _ (l .loop .inv) (max-child l (omega arith))
       (omega arith) _ _ _ (max-given (c .before)) (c .better .ensures)
-
-  max-same-length-2 : max-lts.Need-same-length-2 (max-calls t) (max-at t) max-turn.Post max-inv max-loop
-  max-same-length-2 c = search needs
 
   max-returns-2 : max-lts.Need-returns-2 (max-calls t) (max-at t) max-turn.Post max-inv max-loop
   max-returns-2 c =
@@ -356,55 +275,14 @@ module _ (t : ℕ) where
       turn-ends _ _ Max _ _ (max-start l .pre .1) _ _ _ _ _ (l .loop .inv) (omega arith)
 
 pub +max-turn+min-turn-spec : {M : Type 1} → statement M
-+max-turn+min-turn-spec = close μ-max μ-min (λ t. max-lts.spec (max-calls t)
-    (max-at t)
-    max-turn.Post
-    max-inv
-    max-loop
-    (max-child-count-requires t)
-    (max-sub-evaluate t)
-    (max-evaluate-requires t)
-    (max-same-length t)
-    (max-returns t)
-    (max-first-child-requires t)
-    (max-sub-last t)
-    (max-add-last t)
-    (max-sub-below t)
-    (max-loop-holds t)
-    (max-child-side-requires t)
-    (max-enum-told t)
-    (max-max-turn-requires t)
-    (max-enum-told-2 t)
-    (max-min-turn-requires t)
-    (max-better-requires t)
-    (max-add-child t)
-    (max-loop-less t)
-    (max-loop-again t)
-    (max-same-length-2 t)
-    (max-returns-2 t))
-    λ t. min-lts.spec (min-calls t)
-    (min-at t)
-    min-turn.Post
-    min-inv
-    min-loop
-    (min-child-count-requires t)
-    (min-sub-evaluate t)
-    (min-evaluate-requires t)
-    (min-same-length t)
-    (min-returns t)
-    (min-first-child-requires t)
-    (min-sub-last t)
-    (min-add-last t)
-    (min-sub-below t)
-    (min-loop-holds t)
-    (min-child-side-requires t)
-    (min-enum-told t)
-    (min-max-turn-requires t)
-    (min-enum-told-2 t)
-    (min-min-turn-requires t)
-    (min-better-requires t)
-    (min-add-child t)
-    (min-loop-less t)
-    (min-loop-again t)
-    (min-same-length-2 t)
-    (min-returns-2 t)
++max-turn+min-turn-spec = close μ-max μ-min (λ t. max-lts.spec (max-calls t) (max-at t) max-turn.Post max-inv max-loop
+    (λ c κs. search needs) (max-sub-evaluate t) (max-evaluate-requires t) (λ c. search needs) (max-returns t)
+    (λ c κs. search needs) (λ c. search needs) (λ c. search needs) (max-sub-below t) (max-loop-holds t)
+    (max-child-side-requires t) (λ c. search needs) (max-max-turn-requires t) (λ c. search needs)
+    (max-min-turn-requires t) (λ c κs. search needs) (λ c. search needs) (λ c. search needs) (max-loop-again t)
+    (λ c. search needs) (max-returns-2 t))
+    λ t. min-lts.spec (min-calls t) (min-at t) min-turn.Post min-inv min-loop (λ c κs. search needs)
+    (min-sub-evaluate t) (min-evaluate-requires t) (λ c. search needs) (min-returns t) (λ c κs. search needs)
+    (λ c. search needs) (λ c. search needs) (min-sub-below t) (min-loop-holds t) (min-child-side-requires t)
+    (λ c. search needs) (min-max-turn-requires t) (λ c. search needs) (min-min-turn-requires t) (λ c κs. search needs)
+    (λ c. search needs) (λ c. search needs) (min-loop-again t) (λ c. search needs) (min-returns-2 t)

@@ -14,12 +14,6 @@ use Rattle.plain.proofs.run.Tie as tie
 abbrev start : tie.After-max-turn → tie.Start
 start f = f .before .before .before .before .before .before .before .before .before .before
 
-frame-count-requires : tie.Need-frame-count-requires
-frame-count-requires c κs = search needs
-
-clear-requires : tie.Need-clear-requires
-clear-requires c κs = search needs
-
 max-turn-requires : tie.Need-max-turn-requires
 max-turn-requires c κs =
     let k = c .before .before .before in
@@ -41,12 +35,6 @@ value-requires c κs =
     let f = c .before .before .before .before .before .before .before .before .before in
     score-small _ (start f .pre .0) _ (f .max-turn .ensures .0)
 
-same-length : tie.Need-same-length
-same-length c = search needs
-
-same-length-2 : tie.Need-same-length-2
-same-length-2 c = search needs
-
 returns : tie.Need-returns
 returns c =
     let g = c .before .before .before .before .before in
@@ -60,13 +48,5 @@ returns c =
 
 pub run-spec : {M : Type 1} → statement M
 run-spec =
-    tie.close
-    (tie.spec
-    frame-count-requires
-    clear-requires
-    max-turn-requires
-    write-certificate-requires
-    value-requires
-    same-length
-    same-length-2
-    returns)
+    tie.close (tie.spec (λ c κs. search needs) (λ c κs. search needs) max-turn-requires write-certificate-requires
+    value-requires (λ c. search needs) (λ c. search needs) returns)

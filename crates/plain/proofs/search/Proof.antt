@@ -30,28 +30,10 @@ lengths c = length (start c .args .evaluated .now) ∷ length (start c .args .ce
 told : (c : tie.After-ask) → c .ask .result ≡ asked (start c .args .table .now) (lengths c)
 told c = of-lesser _ _ _ [] (c .ask .ensures) (c .before .lesser .ensures)
 
-lesser-requires : tie.Need-lesser-requires
-lesser-requires c κs = search needs
-
-ask-requires : tie.Need-ask-requires
-ask-requires c κs = search needs
-
-enum-told : tie.Need-enum-told
-enum-told c = search needs
-
 run-requires : tie.Need-run-requires
 run-requires c κs =
     let k = c .before .before in
     may-run _ _ _ _ (sym (k .enum-told .given .1) ∙ told (k .before .before))
-
-enum-known-rejection : tie.Need-enum-known-rejection
-enum-known-rejection c = search needs
-
-same-length : tie.Need-same-length
-same-length c = search needs
-
-same-length-2 : tie.Need-same-length-2
-same-length-2 c = search needs
 
 returns : tie.Need-returns
 returns c =
@@ -73,14 +55,5 @@ returns-2 c =
 
 pub search-spec : {M : Type 1} → statement M
 search-spec =
-    tie.close
-    (tie.spec
-    lesser-requires
-    ask-requires
-    enum-told
-    run-requires
-    enum-known-rejection
-    same-length
-    same-length-2
-    returns
-    returns-2)
+    tie.close (tie.spec (λ c κs. search needs) (λ c κs. search needs) (λ c. search needs) run-requires
+    (λ c. search needs) (λ c. search needs) (λ c. search needs) returns returns-2)

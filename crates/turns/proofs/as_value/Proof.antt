@@ -15,15 +15,10 @@ use Rattle.turns.proofs.as_value.Tie as tie
 plain : (c : tie.Start) → toZ w32 (c .args .score) ≡ pos (c .args .score)
 plain c = toZ-pos w32 (c .args .score) (omega (arith, c .pre))
 
-cast-result : tie.Need-cast-result
-cast-result c = search needs
-
-sub-result : tie.Need-sub-result
-sub-result c = rw (plain c) (value-fits (c .args .score) (c .pre))
-
 returns : tie.Need-returns
 returns c =
     rw (plain c, toZ-ofZ w32 (valueOf (c .args .score)) (value-fits (c .args .score) (c .pre)))
 
 pub as-value-spec : {M : Type 1} → statement M
-as-value-spec = tie.close (tie.spec cast-result sub-result returns)
+as-value-spec =
+    tie.close (tie.spec (λ c. search needs) (λ c. rw (plain c) (value-fits (c .args .score) (c .pre))) returns)

@@ -5,18 +5,6 @@ use borrow.Author.Needs.{needs}
 use Rattle.turns.proofs.is_live_leaf.Statement.{statement}
 use Rattle.turns.proofs.is_live_leaf.Tie as tie
 
-enum-told : tie.Need-enum-told
-enum-told c = search needs
-
-cast-child-count : tie.Need-cast-child-count
-cast-child-count c = search needs
-
-child-count-requires : tie.Need-child-count-requires
-child-count-requires c κs = search needs
-
-enum-told-2 : tie.Need-enum-told-2
-enum-told-2 c = search needs
-
 returns : tie.Need-returns
 returns c = rw (c .before .before .enum-told .given .1) (live-count _ _ (c .child-count .ensures .0))
 
@@ -27,5 +15,5 @@ returns-2 c =
 
 pub is-live-leaf-spec : {M : Type 1} → statement M
 is-live-leaf-spec =
-    tie.close
-    (tie.spec enum-told cast-child-count child-count-requires enum-told-2 returns returns-2)
+    tie.close (tie.spec (λ c. search needs) (λ c. search needs) (λ c κs. search needs) (λ c. search needs) returns
+    returns-2)

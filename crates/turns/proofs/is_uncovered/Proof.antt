@@ -4,14 +4,8 @@ use borrow.Author.Needs.{needs}
 use Rattle.turns.proofs.is_uncovered.Statement.{statement}
 use Rattle.turns.proofs.is_uncovered.Tie as tie
 
-returns : tie.Need-returns
-returns c = rw (lt-ltb _ _ (c .if1 .taken))
-
-is-live-leaf-requires : tie.Need-is-live-leaf-requires
-is-live-leaf-requires c κs = search needs
-
 returns-2 : tie.Need-returns-2
 returns-2 c = rw (le-ltb _ _ (c .before .if1 .left)) (c .is-live-leaf .ensures)
 
 pub is-uncovered-spec : {M : Type 1} → statement M
-is-uncovered-spec = tie.close (tie.spec returns is-live-leaf-requires returns-2)
+is-uncovered-spec = tie.close (tie.spec (λ c. rw (lt-ltb _ _ (c .if1 .taken))) (λ c κs. search needs) returns-2)

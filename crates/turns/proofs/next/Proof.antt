@@ -16,25 +16,10 @@ at-start c = c .before .before .before .before .before .before .before .before
 other : (c : tie.Else1) → let e = at-start (c .before) .args .entry in isSolvedRoot (e .status) (e .node) ≡ false
 other c = sym (c .before .is-solved-root .ensures) ∙ c .if1 .left
 
-merit-score-requires : tie.Need-merit-score-requires
-merit-score-requires c κs = search needs
-
-is-solved-root-requires : tie.Need-is-solved-root-requires
-is-solved-root-requires c κs = search needs
-
-ended-requires : tie.Need-ended-requires
-ended-requires c κs = search needs
-
 returns : tie.Need-returns
 returns c =
     let r = c .before .before in
     rw (sym (r .is-solved-root .ensures) ∙ c .before .if1 .taken, c .ended .ensures, r .before .merit-score .ensures)
-
-is-uncovered-requires : tie.Need-is-uncovered-requires
-is-uncovered-requires c κs = search needs
-
-ended-requires-2 : tie.Need-ended-requires-2
-ended-requires-2 c κs = search needs
 
 returns-2 : tie.Need-returns-2
 returns-2 c =
@@ -60,9 +45,6 @@ of-state-requires c κs =
       listable = p .listable;
     }
 
-add-t21 : tie.Need-add-t21
-add-t21 c = search needs
-
 replacing-requires : tie.Need-replacing-requires
 replacing-requires c κs =
     let s = c .before .before .before .before .before .before .before in
@@ -72,15 +54,6 @@ replacing-requires c κs =
     rw (s .of-state .ensures .0, o .before .before .merit-score .ensures)
     (state-put _ _ _ _ (p .fits) (p .merit .atMost) _ (a .entry .status) (p .node)
     (not-root (a .entry .status) _ (other o)))
-
-same-length : tie.Need-same-length
-same-length c = search needs
-
-same-length-2 : tie.Need-same-length-2
-same-length-2 c = search needs
-
-same-length-3 : tie.Need-same-length-3
-same-length-3 c = search needs
 
 returns-3 : tie.Need-returns-3
 returns-3 c =
@@ -95,6 +68,6 @@ returns-3 c =
 
 pub next-spec : {M : Type 1} → statement M
 next-spec =
-    tie.close
-    (tie.spec merit-score-requires is-solved-root-requires ended-requires returns is-uncovered-requires ended-requires-2
-    returns-2 of-state-requires add-t21 replacing-requires same-length same-length-2 same-length-3 returns-3)
+    tie.close (tie.spec (λ c κs. search needs) (λ c κs. search needs) (λ c κs. search needs) returns
+    (λ c κs. search needs) (λ c κs. search needs) returns-2 of-state-requires (λ c. search needs) replacing-requires
+    (λ c. search needs) (λ c. search needs) (λ c. search needs) returns-3)

@@ -6,11 +6,8 @@ use borrow.Author.Needs.{needs}
 use Rattle.turns.proofs.of_change.Statement.{statement}
 use Rattle.turns.proofs.of_change.Tie as tie
 
-as-value-requires : tie.Need-as-value-requires
-as-value-requires c κs = search needs
-
 returns : tie.Need-returns
 returns c = rw (toZ-ofZ w32 (c .as-value .result) (record { sfits = c .as-value .ok }) ∙ c .as-value .ensures)
 
 pub of-change-spec : {M : Type 1} → statement M
-of-change-spec = tie.close (tie.spec as-value-requires returns)
+of-change-spec = tie.close (tie.spec (λ c κs. search needs) returns)

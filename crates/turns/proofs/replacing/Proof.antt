@@ -5,9 +5,6 @@ use borrow.Author.Needs.{needs}
 use Rattle.turns.proofs.replacing.Statement.{statement}
 use Rattle.turns.proofs.replacing.Tie as tie
 
-put-requires : tie.Need-put-requires
-put-requires c κs = putting-fits _ _ _ _ _ (c .before .before .before .before .pre)
-
 refresh-ancestors-requires : tie.Need-refresh-ancestors-requires
 refresh-ancestors-requires c κs =
     let c8 = c .before .before .before .before .before .before .before .before in
@@ -28,12 +25,6 @@ descend-requires c κs =
       rw (f .0, e) (k .1),
     )
 
-of-change-requires : tie.Need-of-change-requires
-of-change-requires c κs = search needs
-
-same-length : tie.Need-same-length
-same-length c = search needs
-
 returns : tie.Need-returns
 returns c =
     let c5 = c .before .before .before .before .before in
@@ -46,5 +37,5 @@ returns c =
 
 pub replacing-spec : {M : Type 1} → statement M
 replacing-spec =
-    tie.close
-    (tie.spec put-requires refresh-ancestors-requires descend-requires of-change-requires same-length returns)
+    tie.close (tie.spec (λ c κs. putting-fits _ _ _ _ _ (c .before .before .before .before .pre))
+    refresh-ancestors-requires descend-requires (λ c κs. search needs) (λ c. search needs) returns)

@@ -4,33 +4,6 @@ use borrow.Author.Needs.{needs}
 use Rattle.turns.proofs.rules.of_child.Statement.{statement}
 use Rattle.turns.proofs.rules.of_child.Tie as tie
 
-enum-told : tie.Need-enum-told
-enum-told c = search needs
-
-one-requires : tie.Need-one-requires
-one-requires c κs = search needs
-
-enum-told-2 : tie.Need-enum-told-2
-enum-told-2 c = search needs
-
-add-brother : tie.Need-add-brother
-add-brother c = search needs
-
-first-child-requires : tie.Need-first-child-requires
-first-child-requires c κs = search needs
-
-child-count-requires : tie.Need-child-count-requires
-child-count-requires c κs = search needs
-
-add-if1 : tie.Need-add-if1
-add-if1 c = search needs
-
-one-requires-2 : tie.Need-one-requires-2
-one-requires-2 c κs = search needs
-
-one-requires-3 : tie.Need-one-requires-3
-one-requires-3 c κs = search needs
-
 returns : tie.Need-returns
 returns c = child-max _ _ _ _ _ _ (c .before .enum-told .given .1) (c .one .ensures)
 
@@ -48,17 +21,6 @@ returns-3 c =
 
 pub of-child-spec : {M : Type 1} → statement M
 of-child-spec =
-    tie.close
-    (tie.spec
-    enum-told
-    one-requires
-    enum-told-2
-    add-brother
-    first-child-requires
-    child-count-requires
-    add-if1
-    one-requires-2
-    one-requires-3
-    returns
-    returns-2
-    returns-3)
+    tie.close (tie.spec (λ c. search needs) (λ c κs. search needs) (λ c. search needs) (λ c. search needs)
+    (λ c κs. search needs) (λ c κs. search needs) (λ c. search needs) (λ c κs. search needs) (λ c κs. search needs)
+    returns returns-2 returns-3)

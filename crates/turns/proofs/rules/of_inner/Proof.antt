@@ -3,18 +3,6 @@ use borrow.Author.Needs.{needs}
 use Rattle.turns.proofs.rules.of_inner.Statement.{statement}
 use Rattle.turns.proofs.rules.of_inner.Tie as tie
 
-first-child-requires : tie.Need-first-child-requires
-first-child-requires c κs = search needs
-
-enum-told : tie.Need-enum-told
-enum-told c = search needs
-
-enum-told-2 : tie.Need-enum-told-2
-enum-told-2 c = search needs
-
-one-requires : tie.Need-one-requires
-one-requires c κs = search needs
-
 returns : tie.Need-returns
 returns c = rw (c .enum-told .given .1, c .before .before .first-child .ensures .0)
 
@@ -23,4 +11,5 @@ returns-2 c = rw (c .before .enum-told2 .given .1, c .one .ensures, c .before .b
 
 pub of-inner-spec : {M : Type 1} → statement M
 of-inner-spec =
-    tie.close (tie.spec first-child-requires enum-told enum-told-2 one-requires returns returns-2)
+    tie.close (tie.spec (λ c κs. search needs) (λ c. search needs) (λ c. search needs) (λ c κs. search needs) returns
+    returns-2)

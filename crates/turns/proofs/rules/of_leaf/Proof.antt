@@ -7,9 +7,6 @@ use borrow.Author.Needs.{needs}
 use Rattle.turns.proofs.rules.of_leaf.Statement.{statement}
 use Rattle.turns.proofs.rules.of_leaf.Tie as tie
 
-depth-at-requires : tie.Need-depth-at-requires
-depth-at-requires c κs = search needs
-
 evaluate-next-requires : tie.Need-evaluate-next-requires
 evaluate-next-requires c κs =
     let a = c .before .before .before .before .before .before .before in
@@ -26,18 +23,6 @@ evaluate-next-requires c κs =
       a .pre .1 .1 .1,
     )
 
-better-requires : tie.Need-better-requires
-better-requires c κs = search needs
-
-one-requires : tie.Need-one-requires
-one-requires c κs = search needs
-
-same-length : tie.Need-same-length
-same-length c = search needs
-
-same-length-2 : tie.Need-same-length-2
-same-length-2 c = search needs
-
 returns : tie.Need-returns
 returns c =
     let n = c .before .before .before .before .before .before in
@@ -49,5 +34,5 @@ returns c =
 
 pub of-leaf-spec : {M : Type 1} → statement M
 of-leaf-spec =
-    tie.close
-    (tie.spec depth-at-requires evaluate-next-requires better-requires one-requires same-length same-length-2 returns)
+    tie.close (tie.spec (λ c κs. search needs) evaluate-next-requires (λ c κs. search needs) (λ c κs. search needs)
+    (λ c. search needs) (λ c. search needs) returns)

@@ -13,15 +13,6 @@ use borrow.Author.Needs.{needs}
 use Rattle.turns.proofs.rules.of_state.Statement.{statement}
 use Rattle.turns.proofs.rules.of_state.Tie as tie
 
-cast-node : tie.Need-cast-node
-cast-node c = search needs
-
-enum-told : tie.Need-enum-told
-enum-told c = search needs
-
-child-count-requires : tie.Need-child-count-requires
-child-count-requires c κs = search needs
-
 of-leaf-requires : tie.Need-of-leaf-requires
 of-leaf-requires c κs =
     let n = c .before .before .before in
@@ -29,18 +20,6 @@ of-leaf-requires c κs =
     let z = sym (n .child-count .ensures .0) ∙ c .before .before .if1 .taken in
     let m = p .unmarked (n .before .enum-told .given .1) z in
     (p .positions, ((p .node, z, p .merit), ((omega (arith, p .node, p .marks), m), p .listable)))
-
-side-at-requires : tie.Need-side-at-requires
-side-at-requires c κs = search needs
-
-of-inner-requires : tie.Need-of-inner-requires
-of-inner-requires c κs = search needs
-
-enum-told-2 : tie.Need-enum-told-2
-enum-told-2 c = search needs
-
-parent-at-requires : tie.Need-parent-at-requires
-parent-at-requires c κs = search needs
 
 side-at-requires-2 : tie.Need-side-at-requires-2
 side-at-requires-2 c κs =
@@ -55,12 +34,6 @@ of-child-requires c κs =
     let u = c .before .parent-at .ensures ∙ positioned-parent _ _ (p .positions) _ (p .node) in
     let h = parent-child _ (p .formed) _ (p .lower (c .before .before .enum-told2 .given .1)) (p .node) in
     (omega (arith, p .node, p .formed .atMost), omega (arith, u, h .0))
-
-same-length : tie.Need-same-length
-same-length c = search needs
-
-same-length-2 : tie.Need-same-length-2
-same-length-2 c = search needs
 
 returns : tie.Need-returns
 returns c =
@@ -101,7 +74,6 @@ returns-3 c =
 
 pub of-state-spec : {M : Type 1} → statement M
 of-state-spec =
-    tie.close
-    (tie.spec cast-node enum-told child-count-requires of-leaf-requires side-at-requires of-inner-requires enum-told-2
-    parent-at-requires side-at-requires-2 of-child-requires same-length same-length-2 returns
-    returns-2 returns-3)
+    tie.close (tie.spec (λ c. search needs) (λ c. search needs) (λ c κs. search needs) of-leaf-requires
+    (λ c κs. search needs) (λ c κs. search needs) (λ c. search needs) (λ c κs. search needs) side-at-requires-2
+    of-child-requires (λ c. search needs) (λ c. search needs) returns returns-2 returns-3)
