@@ -109,7 +109,8 @@ pub local-mtd : {t u : List ℕ} {f g : MtdResult} (c : MtdCall t (mtd-answer.Fo
 local-mtd {t} {u} c d h a =
     let x = mtd c in
     let y = mtd d in
-    let r = theory.local-mtd (valuation t) (valuation u) (tree t) (agreed-scores x y h a) in
+    let r =
+    theory.local-mtd (valuation t) (valuation u) (tree t) (proper (view x .handed) .distinct) (agreed-scores x y h a) in
     let e : mtdLeaves t ≡ mtdLeaves u =
     ap (λ z. z .evaluated) r ∙ ap (λ z. rule.mtd (valuation u) z .evaluated) (one-tree x y h a) in
     let n = ap (λ z. z .passes) r ∙ ap (λ z. rule.mtd (valuation u) z .passes) (one-tree x y h a) in (
@@ -151,7 +152,7 @@ ordered t =
 pub one-order : (t : List ℕ) → WellFormed t → sssLeaves t ≡ mtdLeaves t
 one-order t wf =
     let p = tree-proper t wf in
-    sss-mtd (valuation t) (tree t) (p .scored) (layoutOf (tree t)) (layout-own (tree t) (p .distinct))
+    sss-mtd (valuation t) (tree t) (p .scored) (layoutOf (tree t)) (layout-own (tree t) (p .distinct)) (p .distinct)
 
 -- MTD's passes are those of its rule, and at most one more than there are different worths, as scores, among the
 -- evaluated leaves

@@ -27,7 +27,8 @@ use Rattle.gametree.proofs.minimax.Moves.{boundMove-local}
 use Rattle.gametree.proofs.alphabeta.Window.{alphaBeta-evaluated}
 use Rattle.gametree.proofs.certificates.Flags.{FlagsCertify, decided-certify}
 use Rattle.gametree.proofs.certificates.SmallestPair.{smallest≤}
-use Rattle.gametree.proofs.Theorems.{alphaBeta-leaves, sss-mtd, layout-own}
+use Rattle.gametree.proofs.sss.Run.{sss-is-mtd}
+use Rattle.gametree.proofs.Theorems.{alphaBeta-leaves, layout-own}
 use Rattle.gametree.proofs.tests.Answer.{test-answer}
 use Rattle.gametree.proofs.tests.Leaves.{New, test-dominated, test-once}
 use Rattle.gametree.proofs.tests.Progress.{confirmed-low, confirmed-high, test-confirmed}
@@ -225,7 +226,7 @@ module _ (ν : ℕ → ℕ) (t : Tree) (r : Proper ν t) where
   pub falling-sss : All (λ k. among (sss ν t .evaluated) k ≡ true) (searchBy falling ν t .evaluated)
   falling-sss =
       subst (λ w. All (λ k. among w k ≡ true) (searchBy falling ν t .evaluated))
-      (sym (sss-mtd ν t (r .scored) (layoutOf t) (layout-own t (r .distinct)))) (falling-mtd ν t r)
+      (sym (sss-is-mtd ν (layoutOf t) t (layout-own t (r .distinct)) (r .scored) .leaves-are)) (falling-mtd ν t r)
 
   -- so no more than SSS*
   pub falling-count : length (searchBy falling ν t .evaluated) ≤ length (sss ν t .evaluated)
@@ -237,7 +238,8 @@ module _ (ν : ℕ → ℕ) (t : Tree) (r : Proper ν t) where
   pub falling-decides-sss : All (λ k. among (sss ν t .evaluated) k ≡ true) (mtdf greatest ν t .evaluated)
   falling-decides-sss =
       subst (λ w. All (λ k. among w k ≡ true) (mtdf greatest ν t .evaluated))
-      (sym (sss-mtd ν t (r .scored) (layoutOf t) (layout-own t (r .distinct)))) (falling-decides-mtd ν t r)
+      (sym (sss-is-mtd ν (layoutOf t) t (layout-own t (r .distinct)) (r .scored) .leaves-are))
+      (falling-decides-mtd ν t r)
 
 -- DUAL*, from `least`, evaluates only leaves that SSS* evaluates in the game with the sides exchanged
 pub rising-sss : (ν : ℕ → ℕ) (t : Tree) → Proper ν t

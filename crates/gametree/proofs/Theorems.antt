@@ -14,7 +14,8 @@ use Rattle.gametree.specs.Tree.{leaves}
 use Rattle.gametree.specs.Tree.{leafCount, In, EveryLeaf, Score, Scored, Distinct, Proper}
 use Rattle.gametree.specs.Bounds.{known, low, high, bestOf, Decided}
 use Rattle.gametree.specs.AlphaBeta.{reached, fullWindow}
-use Rattle.gametree.specs.Mtd.{fresh, mtd}
+use Rattle.gametree.specs.Mtd.{mtd}
+use Rattle.gametree.specs.engine.Memo.{fresh, memoMtd, withoutMemo}
 use Rattle.gametree.specs.Layout.{Layout, layoutOf}
 use Rattle.gametree.proofs.sss.Described.{Describes}
 use Rattle.gametree.specs.Sss.{takenMerit, State, Step, empty, stop, quiet, evaluating, replace, step, finished}
@@ -40,6 +41,7 @@ use Rattle.gametree.proofs.mtd.Value.{mtd-right}
 use Rattle.gametree.proofs.mtd.Marks.{mtd-marks}
 use Rattle.gametree.proofs.mtd.Passes.{passes-few}
 use Rattle.gametree.proofs.mtd.Local.{run-local, fresh-agree}
+use Rattle.gametree.proofs.mtd.Memory.{memo-run}
 use Rattle.gametree.proofs.sss.Work.{full-size}
 use Rattle.gametree.proofs.sss.Run.{sss-is-mtd}
 use Rattle.gametree.proofs.results.Merits.{list-unique, run-falls, first-merit}
@@ -95,7 +97,7 @@ alphaBeta-ordered ν t = rw (alphaBeta-leaves ν t) (reached-ordered ν least gr
 
 -- MTD makes at most one pass more than there are different scores among the leaves that it evaluates
 pub mtd-passes : (ν : ℕ → ℕ) (t : Tree) → Proper ν t → mtd ν t .passes ≤ suc (different (map ν (mtd ν t .evaluated)))
-mtd-passes ν t h = passes-few ν t h
+mtd-passes ν t h = rw (memo-run ν t (h .distinct)) (passes-few ν t h)
 
 -- SSS*
 
@@ -109,8 +111,8 @@ module _ (ν : ℕ → ℕ) (t : Tree) (h : Scored ν t) (Y : Layout) (d : Descr
   sss-minimax = sss-is-mtd ν Y t d h .end-is
 
   -- it evaluates the leaves that MTD evaluates, in the same order
-  pub sss-mtd : sssOver ν Y t .evaluated ≡ mtd ν t .evaluated
-  sss-mtd = sss-is-mtd ν Y t d h .leaves-are
+  pub sss-mtd : Distinct t → sssOver ν Y t .evaluated ≡ mtd ν t .evaluated
+  sss-mtd u = sss-is-mtd ν Y t d h .leaves-are ∙ sym (ap (λ q. q .evaluated) (memo-run ν t u))
 
   -- it makes at most twice as many replacements as there are nodes, less 1
   pub sss-replacements : sssOver ν Y t .replacements < 2 * size t
@@ -167,7 +169,7 @@ module _ (ν : ℕ → ℕ) (t : Tree) (h : Scored ν t) (Y : Layout) (d : Descr
 
     -- the leaves so far are the first of the whole run's list
     pub list-prefix : (u : List ℕ) × (w ++ u ≡ sssOver ν Y t .evaluated)
-    list-prefix = let a = list-reached ν Y t d h r in (a .toCome, a .whole ∙ sym sss-mtd)
+    list-prefix = let a = list-reached ν Y t d h r in (a .toCome, a .whole ∙ sym (sss-is-mtd ν Y t d h .leaves-are))
 
     -- and the run goes on from it, for what is left of the bound on states taken
     pub list-resumes : (f : ℕ) → k + f ≡ 2 * size t → sssOver ν Y t ≡ resumed k w (runFrom (λ M. step ν Y M) f L)
@@ -216,17 +218,20 @@ module _ (ν : ℕ → ℕ) (t : Tree) (r : Proper ν t) where
 
   -- so does MTD (and SSS*: `sss-minimax`)
   pub mtd-minimax : mtd ν t .value ≡ minimax ν t
-  mtd-minimax = mtd-right ν t (r .scored) .value
+  mtd-minimax = ap (λ q. q .value) (memo-run ν t (r .distinct)) ∙ mtd-right ν t (r .scored) .value
 
-  -- what holds of MTD's leaves holds of those of SSS*
-  as-mtd : (P : List ℕ → Type 0) → P (mtd ν t .evaluated) → P (sss ν t .evaluated)
-  as-mtd P x = subst P (sym (sss-mtd ν t (r .scored) (layoutOf t) (layout-own t (r .distinct)))) x
+  -- what holds of the leaves of MTD with its memory at the nodes holds of those of MTD and of SSS*
+  as-mtd : (P : List ℕ → Type 0) → P (memoMtd ν t .evaluated) → P (mtd ν t .evaluated)
+  as-mtd P x = subst P (sym (ap (λ q. q .evaluated) (memo-run ν t (r .distinct)))) x
+
+  as-sss : (P : List ℕ → Type 0) → P (memoMtd ν t .evaluated) → P (sss ν t .evaluated)
+  as-sss P x = subst P (sym (sss-is-mtd ν (layoutOf t) t (layout-own t (r .distinct)) (r .scored) .leaves-are)) x
 
   -- the bounds of the leaves that a search evaluates meet at the minimax value
   pub search-decides : {w : List ℕ} → Searched ν t w → Decided ν (among w) t
   search-decides byAlphaBeta = covered-decided ν _ t (r .scored) (all-among (fullWindow ν t .evaluated))
-  search-decides byMtd = mtd-decided ν t r
-  search-decides bySss = as-mtd (λ w. Decided ν (among w) t) (mtd-decided ν t r)
+  search-decides byMtd = as-mtd (λ w. Decided ν (among w) t) (mtd-decided ν t r)
+  search-decides bySss = as-sss (λ w. Decided ν (among w) t) (mtd-decided ν t r)
   search-decides (byTests σ) = decide-right σ ν t (r .scored) .decided
 
   -- the flags read off them are a certificate of that value, made of evaluated leaves only
@@ -236,23 +241,25 @@ module _ (ν : ℕ → ℕ) (t : Tree) (r : Proper ν t) where
   -- the move: the first child of the root that they prove to have the root's value is the first that has it
   pub search-move : {w : List ℕ} → Searched ν t w → boundMove ν (among w) t ≡ rootMove ν t
   search-move byAlphaBeta = covered-move ν _ t (r .scored) (all-among (fullWindow ν t .evaluated))
-  search-move byMtd = mtd-move ν t r
-  search-move bySss = as-mtd (λ w. boundMove ν (among w) t ≡ rootMove ν t) (mtd-move ν t r)
+  search-move byMtd = as-mtd (λ w. boundMove ν (among w) t ≡ rootMove ν t) (mtd-move ν t r)
+  search-move bySss = as-sss (λ w. boundMove ν (among w) t ≡ rootMove ν t) (mtd-move ν t r)
   search-move (byTests σ) = decide-right σ ν t (r .scored) .shown
 
   -- no leaf is evaluated twice
   pub search-once : {w : List ℕ} → Searched ν t w → Once w
   search-once byAlphaBeta = sub-once (alphaBeta-ordered ν t) (leaves-once t (r .distinct))
-  search-once byMtd = mtd-marks ν t (r .distinct) .once
-  search-once bySss = as-mtd Once (mtd-marks ν t (r .distinct) .once)
+  search-once byMtd = as-mtd Once (mtd-marks ν t (r .distinct) .once)
+  search-once bySss = as-sss Once (mtd-marks ν t (r .distinct) .once)
   search-once (byTests σ) = decide-right σ ν t (r .scored) .once
 
   -- domination: every leaf that a search evaluates is one that alpha-beta evaluates
   pub domination : {w : List ℕ} → Searched ν t w → All (λ k. among (fullWindow ν t .evaluated) k ≡ true) w
   domination byAlphaBeta = all-among (fullWindow ν t .evaluated)
-  domination byMtd = rw (alphaBeta-leaves ν t) (mtd-reaches ν t (r .scored))
-  domination bySss =
+  domination byMtd =
       as-mtd (λ w. All (λ k. among (fullWindow ν t .evaluated) k ≡ true) w)
+      (rw (alphaBeta-leaves ν t) (mtd-reaches ν t (r .scored)))
+  domination bySss =
+      as-sss (λ w. All (λ k. among (fullWindow ν t .evaluated) k ≡ true) w)
       (rw (alphaBeta-leaves ν t) (mtd-reaches ν t (r .scored)))
   domination (byTests σ) = rw (alphaBeta-leaves ν t) (decide-right σ ν t (r .scored) .reaches)
 
@@ -296,12 +303,13 @@ module _ (ν : ℕ → ℕ) (t : Tree) (r : Proper ν t) where
   -- the closed form: MTD evaluates a leaf exactly if its alpha is less than its beta and no rival exceeds
   -- its beta
   pub closed-form-mtd : EveryLeaf (λ n. among (mtd ν t .evaluated) n ≡ among (unrivalled ν least greatest least t) n) t
-  closed-form-mtd = mtd-unrivalled ν t r
+  closed-form-mtd =
+      as-mtd (λ w. EveryLeaf (λ n. among w n ≡ among (unrivalled ν least greatest least t) n) t) (mtd-unrivalled ν t r)
 
   -- so does SSS*
   pub closed-form-sss : EveryLeaf (λ n. among (sss ν t .evaluated) n ≡ among (unrivalled ν least greatest least t) n) t
   closed-form-sss =
-      as-mtd (λ w. EveryLeaf (λ n. among w n ≡ among (unrivalled ν least greatest least t) n) t) closed-form-mtd
+      as-sss (λ w. EveryLeaf (λ n. among w n ≡ among (unrivalled ν least greatest least t) n) t) (mtd-unrivalled ν t r)
 
 -- LOCALITY
 
@@ -310,10 +318,14 @@ pub local-alphaBeta : (ν μ : ℕ → ℕ) (t : Tree) → All (λ k. ν k ≡ �
     → fullWindow ν t ≡ fullWindow μ t
 local-alphaBeta ν μ t a = sym (alphaBeta-local ν μ least greatest t a)
 
--- MTD gives the same value, list, memory and passes
-pub local-mtd : (ν μ : ℕ → ℕ) (t : Tree) → All (λ k. ν k ≡ μ k) (mtd ν t .evaluated) → mtd ν t ≡ mtd μ t
-unfolding mtd
-local-mtd ν μ t a = run-local ν μ (suc greatest) greatest t (fresh t) (fresh-agree ν μ t) a
+-- MTD gives the same value, list and passes
+local-memo : (ν μ : ℕ → ℕ) (t : Tree) → All (λ k. ν k ≡ μ k) (memoMtd ν t .evaluated) → memoMtd ν t ≡ memoMtd μ t
+unfolding memoMtd
+local-memo ν μ t a = run-local ν μ (suc greatest) greatest t (fresh t) (fresh-agree ν μ t) a
+
+pub local-mtd : (ν μ : ℕ → ℕ) (t : Tree) → Distinct t → All (λ k. ν k ≡ μ k) (mtd ν t .evaluated) → mtd ν t ≡ mtd μ t
+local-mtd ν μ t d a =
+    memo-run ν t d ∙ ap (withoutMemo t) (local-memo ν μ t (rw (memo-run ν t d) at a)) ∙ sym (memo-run μ t d)
 
 -- SSS* gives the same end, list and replacements
 pub local-sss : (ν μ : ℕ → ℕ) (Y : Layout) (t : Tree) → All (λ k. ν k ≡ μ k) (sssOver ν Y t .evaluated)
@@ -326,11 +338,13 @@ pub local-decide : (σ : Strategy) (ν μ : ℕ → ℕ) (t : Tree) → All (λ 
 local-decide σ ν μ t a = decide-local ν μ σ t a
 
 -- each search evaluates the same leaves
-pub local-search : (ν μ : ℕ → ℕ) (t : Tree) {w : List ℕ} → Searched ν t w → All (λ k. ν k ≡ μ k) w → Searched μ t w
-local-search ν μ t byAlphaBeta a = subst (λ x. Searched μ t (x .evaluated)) (sym (local-alphaBeta ν μ t a)) byAlphaBeta
-local-search ν μ t byMtd a = subst (λ x. Searched μ t (x .evaluated)) (sym (local-mtd ν μ t a)) byMtd
-local-search ν μ t bySss a = subst (λ x. Searched μ t (x .evaluated)) (sym (local-sss ν μ (layoutOf t) t a)) bySss
-local-search ν μ t (byTests σ) a =
+pub local-search : (ν μ : ℕ → ℕ) (t : Tree) → Distinct t → {w : List ℕ} → Searched ν t w → All (λ k. ν k ≡ μ k) w
+    → Searched μ t w
+local-search ν μ t d byAlphaBeta a =
+    subst (λ x. Searched μ t (x .evaluated)) (sym (local-alphaBeta ν μ t a)) byAlphaBeta
+local-search ν μ t d byMtd a = subst (λ x. Searched μ t (x .evaluated)) (sym (local-mtd ν μ t d a)) byMtd
+local-search ν μ t d bySss a = subst (λ x. Searched μ t (x .evaluated)) (sym (local-sss ν μ (layoutOf t) t a)) bySss
+local-search ν μ t d (byTests σ) a =
     subst (λ x. Searched μ t (x .evaluated)) (sym (local-decide σ ν μ t a)) (byTests σ)
 
 -- and hands over the same value, move and flags
@@ -338,7 +352,7 @@ pub local-results : (ν μ : ℕ → ℕ) (t : Tree) → Proper ν t → Proper 
     → All (λ k. ν k ≡ μ k) w
     → SameResults ν μ t w
 local-results ν μ t r q {w} s a =
-    let z = local-search ν μ t s a in
+    let z = local-search ν μ t (r .distinct) s a in
     record {
       sameValue =
           sym (search-decides ν t r s .lowIs) ∙ ap (λ κ. minimax κ t) (known-local ν μ w a least)

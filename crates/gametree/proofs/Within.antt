@@ -13,7 +13,7 @@ use lib.Dec.{leb}
 use lib.Seq.{take-all, take-at}
 use borrow.Author.Tests.{leb-true, leb-false}
 use Rattle.lists.specs.Lists.{All, among, Once}
-use Rattle.gametree.specs.Tree.{Tree, greatest, minimax, size, leaves, leafCount, Scored, Proper}
+use Rattle.gametree.specs.Tree.{Tree, greatest, minimax, size, leaves, leafCount, Scored, Distinct, Proper}
 use Rattle.gametree.specs.AlphaBeta.{fullWindow}
 use Rattle.gametree.specs.Layout.{Layout}
 use Rattle.gametree.proofs.sss.Described.{Describes}
@@ -71,8 +71,8 @@ module _ (ν : ℕ → ℕ) (t : Tree) (Y : Layout) where
 
 module _ (ν : ℕ → ℕ) (t : Tree) (h : Scored ν t) (Y : Layout) (d : Describes Y t) where
   -- the leaves of the full run, over any layout, are those of a search
-  full-searched : Searched ν t (sssOver ν Y t .evaluated)
-  full-searched = subst (Searched ν t) (sym (sss-mtd ν t h Y d)) byMtd
+  full-searched : Distinct t → Searched ν t (sssOver ν Y t .evaluated)
+  full-searched u = subst (Searched ν t) (sym (sss-mtd ν t h Y d u)) byMtd
 
   module _ (a : ℕ) where
     -- a run that took the root is the full run
@@ -223,7 +223,7 @@ module _ (ν : ℕ → ℕ) (t : Tree) (h : Scored ν t) (Y : Layout) (d : Descr
 
 module _ (ν : ℕ → ℕ) (t : Tree) (r : Proper ν t) (Y : Layout) (d : Describes Y t) where
   full : Searched ν t (sssOver ν Y t .evaluated)
-  full = full-searched ν t (r .scored) Y d
+  full = full-searched ν t (r .scored) Y d (r .distinct)
 
   some-leaf : 0 < length (sssOver ν Y t .evaluated)
   some-leaf = at (sssOver ν Y t .evaluated) (search-decides ν t r full)

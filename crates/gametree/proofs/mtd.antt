@@ -1,4 +1,4 @@
--- MTD: its passes are sound, its value, its marks, its moves, and its memory in arrays.
+-- MTD: its passes are sound, its value, its marks, its moves, its memory in arrays, and in the two lists of Mtd.
 pub mod Sound
 pub mod Value
 pub mod Marks
@@ -6,3 +6,4 @@ pub mod Passes
 pub mod Local
 pub mod Moves
 pub mod MemoArrays
+pub mod Memory

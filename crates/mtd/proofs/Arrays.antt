@@ -1,4 +1,4 @@
--- Marks, flags and highs in arrays of numbers: what is stored and read, and the highs that the marks give.
+-- Marks, flags and highs in arrays of numbers: what is stored and read, and the bounds that the marks give.
 use Prim.Native.Nat.{ℕ, suc, _+_, _<_}
 use native.Mathlib.Omega.{arith}
 use mathlib.Core.Path.{_≡_, refl, sym, ap, ap₂, _∙_}
@@ -9,11 +9,10 @@ use lib.Dec.{eqb}
 use lib.ListN.{length, getD, set}
 use lib.Seq.{getD-set-same, set-getD}
 use Rattle.gametree.specs.declared.Side.{Side}
-use Rattle.gametree.specs.Tree.{Tree, leaf, inner, Children, last, _then_, greatest, better, minimax, minimaxChildren}
+use Rattle.gametree.specs.Tree.{Tree, leaf, inner, Children, last, _then_, better, minimax, minimaxChildren}
 use Rattle.gametree.specs.Tree.{In, InChildren}
-use Rattle.gametree.specs.Bounds.{known, high}
-use Rattle.gametree.specs.Mtd.{memoHigh, memoHighChildren}
-use Rattle.gametree.specs.engine.MemoArrays.{Bits, readMemo, readMemoChildren}
+use Rattle.gametree.specs.Bounds.{known}
+use Rattle.gametree.specs.engine.MemoArrays.{Bits}
 use Rattle.bounds.specs.Marks.{marked}
 use Rattle.bounds.specs.engine.Progress.{progress, evaluateAll}
 use Rattle.bounds.proofs.Listing.{none-evaluated, one-evaluated, evaluateAll-append}
@@ -27,17 +26,6 @@ set-same l i v e = ap (set l i) (sym e) ∙ set-getD l i 0
 pub marked-same : (l : List ℕ) (i : ℕ) (b : Bool) → i < length l → marked (set l i (cond b 1 0)) i ≡ b
 marked-same l i true h = ap (λ x. eqb x 1) (getD-set-same l i 1 0 h)
 marked-same l i false h = ap (λ x. eqb x 1) (getD-set-same l i 0 0 h)
-
-mutual
-  -- the high that the memory of two arrays gives is the one of the marked leaves
-  pub read-high : (ν : ℕ → ℕ) (M F : Bits) (T : Tree) → memoHigh ν T (readMemo M F T) ≡ high ν M T
-  read-high ν M F (leaf n) = refl
-  read-high ν M F (inner n s ks) = read-high-kids ν M F s ks
-
-  read-high-kids : (ν : ℕ → ℕ) (M F : Bits) (s : Side) (ks : Children)
-      → memoHighChildren ν s ks (readMemoChildren M F ks) ≡ minimaxChildren (known ν M greatest) s ks
-  read-high-kids ν M F s (last T) = read-high ν M F T
-  read-high-kids ν M F s (T then ts) = ap₂ (better s) (read-high ν M F T) (read-high-kids ν M F s ts)
 
 mutual
   -- a bound of a tree depends on the marks of its nodes only

@@ -6,7 +6,8 @@ use mathlib.Core.Bool.{Bool, true, false}
 use mathlib.Core.List.{List, [], _++_, append-assoc}
 use Rattle.gametree.specs.declared.Side.{Side}
 use Rattle.gametree.specs.Tree.{Tree, Children, last, _then_, In, InChildren}
-use Rattle.gametree.specs.Mtd.{MemoChildren, PassChildren, settles, joined, passChildren}
+use Rattle.gametree.specs.Mtd.{settles}
+use Rattle.gametree.specs.engine.Memo.{MemoChildren, PassChildren, joined, passChildren}
 use Rattle.gametree.specs.engine.MemoArrays.{readMemoChildren, KidsRemembered}
 use Rattle.gametree.proofs.mtd.MemoArrays.{rest-same, visit-ended, visit-joined}
 use Rattle.frames.specs.Tree.{valuation}

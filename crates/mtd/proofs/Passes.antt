@@ -13,9 +13,9 @@ use borrow.Author.Tests.{lt-ltb, le-ltb}
 use Rattle.gametree.specs.declared.Side.{Side}
 use Rattle.gametree.specs.Tree.{Tree, leaf, inner, Children, InChildren}
 use Rattle.gametree.specs.Bounds.{high}
-use Rattle.gametree.specs.Mtd.{Memo, memoHigh, Pass, stay, entered}
+use Rattle.gametree.specs.engine.Memo.{Memo, memoHigh, Pass, stay, entered}
 use Rattle.lists.proofs.Choice.{cond-cases}
-use Rattle.gametree.proofs.mtd.MemoArrays.{readMemoChildren-same}
+use Rattle.gametree.proofs.mtd.MemoArrays.{readMemoChildren-same, read-high}
 use Rattle.frames.specs.Tree.{treeAt, valuation}
 use Rattle.frames.specs.Frame.{frames}
 use Rattle.bounds.specs.Marks.{marked, ones}
@@ -24,7 +24,7 @@ use Rattle.bounds.proofs.Marking.{marked-other}
 use Rattle.mtd.specs.declared.Tried.{Tried}
 use Rattle.mtd.specs.engine.Memory.{Memory, memory, progressOf, memoOf, passOf, MemoryRoom, HighsRight}
 use Rattle.mtd.specs.engine.Memory.{Counted, Evaluated, Passed}
-use Rattle.mtd.proofs.Arrays.{marked-same, read-high, evaluated-none}
+use Rattle.mtd.proofs.Arrays.{marked-same, evaluated-none}
 use Rattle.mtd.proofs.Children.{passChildrenOf, PassedChildren}
 
 -- a leaf that was tried: evaluated now, if it was not before, and compared with the test

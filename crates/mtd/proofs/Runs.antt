@@ -2,16 +2,17 @@
 use Prim.Native.Nat.{ℕ, suc, _+_, _≤_, _<_}
 use native.Mathlib.Omega.{arith}
 use mathlib.Core.Path.{_≡_, refl, sym, ap, ap₂, _∙_, subst}
-use mathlib.Core.Logic.{inl, inr}
 use mathlib.Core.Bool.{true, false}
 use mathlib.Core.List.{List, [], _++_, append-assoc}
 use lib.ListN.{getD}
-use Rattle.gametree.specs.Tree.{Tree, leaf, inner, Children, last, _then_, greatest, In, InChildren}
-use Rattle.gametree.specs.Mtd.{Memo, MemoChildren, memoHigh, pass, MtdRun, settled, followed, run, fresh, freshChildren}
-use Rattle.gametree.specs.Mtd.{mtd}
-use Rattle.gametree.specs.engine.MemoArrays.{Bits, readMemo, readMemoChildren}
+use Rattle.gametree.specs.Tree.{Tree, greatest}
+use Rattle.gametree.specs.Mtd.{MtdRun, mtd}
+use Rattle.gametree.specs.engine.Memo.{Memo, memoHigh, pass, MemoRun, settled, followed, run, fresh, memoMtd}
+use Rattle.gametree.specs.engine.Memo.{withoutMemo}
 use Rattle.gametree.proofs.mtd.Sound.{Kept, Sound, sound}
 use Rattle.gametree.proofs.mtd.Value.{kept-lower, fresh-kept, fresh-memoHigh}
+use Rattle.gametree.proofs.mtd.MemoArrays.{read-fresh, read-high}
+use Rattle.gametree.proofs.mtd.Memory.{memo-run}
 use Rattle.frames.specs.Frame.{frames, childCount, next}
 use Rattle.frames.specs.Position.{rootPosition}
 use Rattle.frames.specs.Tree.{treeAt, tree, valuation}
@@ -29,23 +30,7 @@ use Rattle.flags.proofs.Chosen.{first-same}
 use Rattle.mtd.specs.declared.Tried.{Tried}
 use Rattle.mtd.specs.engine.Memory.{Memory, progressOf, memoOf, passOf, MemoryRoom, HighsRight}
 use Rattle.mtd.specs.engine.Memory.{firstHigh, Counted, VisitReady, Evaluated, Passed, Fresh}
-use Rattle.mtd.proofs.Arrays.{read-high, Long, room-kept, evaluated-none, evaluated-more}
-
-mutual
-  -- where no node is marked and none was found, the memory is the fresh one
-  read-fresh : (M F : Bits) (T : Tree) → ((p : ℕ) → In p T → (M p ≡ false) × (F p ≡ false)) → readMemo M F T ≡ fresh T
-  read-fresh M F (leaf n) h =
-      ap {B = Memo (leaf n)} (λ x. record { evaluated = x }) (h n refl .0)
-  read-fresh M F (inner n s ks) h =
-      ap₂ {C = Memo (inner n s ks)} (λ x y. record { notBelow = x; kids = y }) (h n (inl refl) .1)
-      (read-fresh-kids M F ks (λ p i. h p (inr i)))
-
-  read-fresh-kids : (M F : Bits) (ks : Children) → ((p : ℕ) → InChildren p ks → (M p ≡ false) × (F p ≡ false))
-      → readMemoChildren M F ks ≡ freshChildren ks
-  read-fresh-kids M F (last T) h = read-fresh M F T h
-  read-fresh-kids M F (T then ts) h =
-      ap₂ {C = MemoChildren (T then ts)} (λ x y. record { first = x; rest = y }) (read-fresh M F T (λ p i. h p (inl i)))
-      (read-fresh-kids M F ts (λ p i. h p (inr i)))
+use Rattle.mtd.proofs.Arrays.{Long, room-kept, evaluated-none, evaluated-more}
 
 -- where the highs are right, the first of the root's children whose high is the root's is the one that the marks give
 pub move-right : (t : List ℕ) → WellFormed t → (m : Memory) → HighsRight t m (tree t)
@@ -60,11 +45,11 @@ move-right t wf m right =
     ∙ ap (λ v. firstEqual (boundOf t E greatest) v 1 (childCount t 0)) (right 0 (in-own t wf 0))
 
 -- the run of a table's tree from the memory that the arrays hold
-abbrev pub runOf : (t : List ℕ) → ℕ → ℕ → Memory → MtdRun (tree t)
+abbrev pub runOf : (t : List ℕ) → ℕ → ℕ → Memory → MemoRun (tree t)
 runOf t f γ m = run (valuation t) f γ (tree t) (memoOf m (tree t))
 
 -- before a pass: the passes so far and the run from here make the whole run q
-pub record Passing (t : List ℕ) (q : MtdRun (tree t)) (m m′ : Memory) (test passes : ℕ) : Type 0 where
+pub record Passing (t : List ℕ) (q : MtdRun) (m m′ : Memory) (test passes : ℕ) : Type 0 where
   pub long : Long m m′
   pub counted : Counted t m′
   pub right : HighsRight t m′ (tree t)
@@ -80,7 +65,7 @@ pub record Passing (t : List ℕ) (q : MtdRun (tree t)) (m m′ : Memory) (test 
 
 -- the first pass, for any bound on the passes that is large enough
 passing-from : (t : List ℕ) (m : Memory) → Fresh t m → (f : ℕ) → greatest ≤ f
-    → Passing t (run (valuation t) (suc f) greatest (tree t) (fresh (tree t))) m m greatest 0
+    → Passing t (withoutMemo (tree t) (run (valuation t) (suc f) greatest (tree t) (fresh (tree t)))) m m greatest 0
 passing-from t m h f l =
     let bits : (p : ℕ) → p < frames t → (marked (m .evaluated) p ≡ false) × (marked (m .notBelow) p ≡ false) =
     λ p x. (h .evaluated p x, h .notBelow p x) in
@@ -106,14 +91,16 @@ passing-from t m h f l =
       passed = omega (arith, ap (λ x. run (valuation t) (suc f) greatest (tree t) x .passes) (sym start));
     }
 
-mtd-passing : (t : List ℕ) (m : Memory) → Fresh t m → Passing t (mtd (valuation t) (tree t)) m m greatest 0
-unfolding mtd
-mtd-passing t m h = passing-from t m h 64002 (omega arith)
+memo-passing : (t : List ℕ) (m : Memory) → Fresh t m
+    → Passing t (withoutMemo (tree t) (memoMtd (valuation t) (tree t))) m m greatest 0
+unfolding memoMtd
+memo-passing t m h = passing-from t m h 64002 (omega arith)
 
 -- before the first pass: the greatest test, and nothing counted
 pub passing-first : (t : List ℕ) (m : Memory) → Fresh t m → (test passes : ℕ) → test ≡ greatest → passes ≡ 0
     → Passing t (mtd (valuation t) (tree t)) m m test passes
-passing-first t m h test passes p r = rw (p, r) (mtd-passing t m h)
+passing-first t m h test passes p r =
+    rw (p, r, memo-run (valuation t) (tree t) (tree-proper t (h .formed) .distinct)) (memo-passing t m h)
 
 -- a run of one pass more, where the root is not below, and where it is
 run-settled : (ν : ℕ → ℕ) (f γ : ℕ) (T : Tree) (m : Memo T) → pass ν γ T m .notBelow ≡ true
@@ -125,7 +112,7 @@ run-followed : (ν : ℕ → ℕ) (f γ : ℕ) (T : Tree) (m : Memo T) → pass 
     ≡ followed T (pass ν γ T m) (run ν f (memoHigh ν T (pass ν γ T m .next)) T (pass ν γ T m .next))
 run-followed ν f γ T m e = rw e
 
-module _ {t : List ℕ} {q : MtdRun (tree t)} {m m′ : Memory} {test passes : ℕ} (wf : WellFormed t)
+module _ {t : List ℕ} {q : MtdRun} {m m′ : Memory} {test passes : ℕ} (wf : WellFormed t)
     (u : Passing t q m m′ test passes) where
   -- what the next pass asks
   pub passing-ready : MemoryRoom (frames t) m → VisitReady t m′ 0 rootPosition

@@ -15,6 +15,7 @@ use Rattle.gametree.specs.Bounds.{high}
 use Rattle.gametree.specs.Mtd.{mtd}
 use Rattle.gametree.specs.Move.{firstWith, rootMove}
 use Rattle.gametree.proofs.mtd.Moves.{mtd-highMove}
+use Rattle.gametree.proofs.mtd.Memory.{memo-run}
 use Rattle.gametree.proofs.Searches.{byMtd}
 use Rattle.gametree.proofs.Theorems.{value-score, mtd-minimax, search-deciding}
 use Rattle.frames.specs.Frame.{frames, childCount, next}
@@ -75,7 +76,7 @@ module _ (t : List ℕ) (wf : WellFormed t) where
   high-of T n ks e =
       subst (λ (X : Tree). let E = among (mtd (valuation t) X .evaluated) in
       Proper (valuation t) X → firstWith (high (valuation t) E) (high (valuation t) E X) ks ≡ rootMove (valuation t) X)
-      (sym e) (mtd-highMove (valuation t) n ks)
+      (sym e) (λ r. rw (memo-run (valuation t) (inner n Max ks) (r .distinct)) (mtd-highMove (valuation t) n ks r))
 
   -- the first of the root's children whose high is the root's, by MTD's leaves, is the root move
   high-root : firstEqual (boundOf t (among (mtdLeaves t)) greatest) (boundOf t (among (mtdLeaves t)) greatest 0) 1

@@ -6,10 +6,10 @@ use mathlib.Core.List.{List}
 use lib.Dec.{ltb}
 use Rattle.lists.specs.Lists.{All}
 use Rattle.gametree.specs.Tree.{Side, Tree, leaf, inner, Children, last, _then_, greatest, better}
-use Rattle.gametree.specs.Mtd.{Memo, MemoChildren, memoHigh, memoHighChildren, Pass, PassChildren, settles, stay}
-use Rattle.gametree.specs.Mtd.{ended}
-use Rattle.gametree.specs.Mtd.{joined, entered, pass, passChildren, MtdRun, settled, followed, run, fresh}
-use Rattle.gametree.specs.Mtd.{freshChildren}
+use Rattle.gametree.specs.Mtd.{settles}
+use Rattle.gametree.specs.engine.Memo.{Memo, MemoChildren, memoHigh, memoHighChildren, Pass, PassChildren, stay}
+use Rattle.gametree.specs.engine.Memo.{ended, joined, entered, pass, passChildren, MemoRun, settled, followed}
+use Rattle.gametree.specs.engine.Memo.{run, fresh, freshChildren}
 use Rattle.lists.proofs.Choice.{cond-cases, true-not-false}
 use Rattle.lists.proofs.Lists.{all-left, all-right}
 
@@ -132,14 +132,14 @@ mutual
             a),
       ))
 
-module _ (ν μ : ℕ → ℕ) (γ : ℕ) (t : Tree) (r : Pass t) (q : MtdRun t) where
+module _ (ν μ : ℕ → ℕ) (γ : ℕ) (t : Tree) (r : Pass t) (q : MemoRun t) where
   -- the leaves of the first pass are some of the run's
   pass-alike : (b : Bool) → Alike ν μ (cond b (settled γ t r) (followed t r q) .evaluated) → Alike ν μ (r .evaluated)
   pass-alike true a = a
   pass-alike false a = all-left (λ k. ν k ≡ μ k) (r .evaluated) (q .evaluated) a
 
   -- a run is the same if what follows its first pass is
-  rest-local : (q′ : MtdRun t) (b : Bool) → (Alike ν μ (q .evaluated) → q ≡ q′)
+  rest-local : (q′ : MemoRun t) (b : Bool) → (Alike ν μ (q .evaluated) → q ≡ q′)
       → Alike ν μ (cond b (settled γ t r) (followed t r q) .evaluated)
       → cond b (settled γ t r) (followed t r q) ≡ cond b (settled γ t r) (followed t r q′)
   rest-local q′ true f a = refl

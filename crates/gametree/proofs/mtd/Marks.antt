@@ -10,11 +10,10 @@ use Rattle.lists.specs.Lists.{All, among, Once}
 use Rattle.gametree.specs.Tree.{Side, Tree, leaf, inner, Children, last, _then_, greatest, better, minimax}
 use Rattle.gametree.specs.Tree.{minimaxChildren, In, InChildren, Distinct, DistinctChildren}
 use Rattle.gametree.specs.Bounds.{known}
-use Rattle.gametree.specs.Mtd.{memoBound, memoBoundChildren, Memo, MemoChildren, memoHigh, memoHighChildren, Pass}
-use Rattle.gametree.specs.Mtd.{PassChildren}
-use Rattle.gametree.specs.Mtd.{settles, stay, tried, ended, joined, pass, passChildren, MtdRun, run, fresh}
-use Rattle.gametree.specs.Mtd.{freshChildren}
-use Rattle.gametree.specs.Mtd.{mtd}
+use Rattle.gametree.specs.Mtd.{settles}
+use Rattle.gametree.specs.engine.Memo.{memoBound, memoBoundChildren, Memo, MemoChildren, memoHigh}
+use Rattle.gametree.specs.engine.Memo.{memoHighChildren, Pass, PassChildren, stay, tried, ended, joined, pass}
+use Rattle.gametree.specs.engine.Memo.{passChildren, MemoRun, run, fresh, freshChildren, memoMtd}
 use Rattle.lists.proofs.Choice.{cond-cases, true-not-false, or-false-both}
 use Rattle.lists.proofs.Lists.{all-append, all-map, all-among, among-append, among-right, among-out}
 use Rattle.lists.proofs.Lists.{once-append}
@@ -159,7 +158,7 @@ mutual
       (passChildren-marks ν γ (w ++ r .evaluated) s ts (m .rest) (d .1) k))
 
 -- the same of a run after the leaves w
-pub record RunMarking (w : List ℕ) (t : Tree) (q : MtdRun t) : Type 0 where
+pub record RunMarking (w : List ℕ) (t : Tree) (q : MemoRun t) : Type 0 where
   pub new : All (λ k. among w k ≡ false) (q .evaluated)
   pub once : Once (q .evaluated)
   pub marks : Marks (w ++ q .evaluated) t (q .memo)
@@ -204,8 +203,8 @@ mutual
   freshChildren-marks (t then ts) = (fresh-marks t, freshChildren-marks ts)
 
 -- MTD's leaves stand once, and are those that the memory marks
-pub mtd-marks : (ν : ℕ → ℕ) (t : Tree) → Distinct t → RunMarking [] t (mtd ν t)
-unfolding mtd
+pub mtd-marks : (ν : ℕ → ℕ) (t : Tree) → Distinct t → RunMarking [] t (memoMtd ν t)
+unfolding memoMtd
 mtd-marks ν t d = run-marks ν (suc greatest) greatest [] t (fresh t) d (fresh-marks t)
 
 -- a bound that the memory gives is that of the marked leaves

@@ -12,9 +12,8 @@ use Rattle.lists.specs.Lists.{among}
 use Rattle.gametree.specs.Tree.{Side, Max, Min, Tree, leaf, inner, Children, last, _then_, least, greatest}
 use Rattle.gametree.specs.Tree.{minimax, minimaxChildren, ScoredChildren, Proper}
 use Rattle.gametree.specs.Bounds.{known, high, Decided}
-use Rattle.gametree.specs.Mtd.{Memo, MemoChildren, memoHigh, memoHighChildren, Pass, PassChildren, pass}
-use Rattle.gametree.specs.Mtd.{passChildren, MtdRun, run}
-use Rattle.gametree.specs.Mtd.{fresh, mtd}
+use Rattle.gametree.specs.engine.Memo.{Memo, MemoChildren, memoHigh, memoHighChildren, Pass, PassChildren, pass}
+use Rattle.gametree.specs.engine.Memo.{passChildren, MemoRun, run, fresh, memoMtd}
 use Rattle.gametree.proofs.mtd.Marks.{MarksChildren}
 use Rattle.gametree.specs.Certificate.{worst}
 use Rattle.gametree.specs.Move.{firstWith, rootMove, boundMove}
@@ -81,7 +80,7 @@ module _ (ν : ℕ → ℕ) (n : ℕ) (ks : Children) where
       let t = inner n Max ks in
       let x = pass ν γ t m .next in
       let a = sound ν γ t m h k in
-      cond-cases (λ (q : MtdRun t). DecidesMax ν (q .value) ks (q .memo .kids)) (pass ν γ t m .notBelow) _ _
+      cond-cases (λ (q : MemoRun t). DecidesMax ν (q .value) ks (q .memo .kids)) (pass ν γ t m .notBelow) _ _
       (λ e. rootMax-decides γ m h (k .1) b e)
       (λ e.
       let d = a .below e in
@@ -90,8 +89,8 @@ module _ (ν : ℕ → ℕ) (n : ℕ) (ks : Children) where
 
 -- MTD decides at a Max root: the elder brothers of the first child not below the value have their highs below it
 mtdMax-decides : (ν : ℕ → ℕ) (n : ℕ) (ks : Children) → ScoredChildren ν ks
-    → DecidesMax ν (mtd ν (inner n Max ks) .value) ks (mtd ν (inner n Max ks) .memo .kids)
-unfolding mtd
+    → DecidesMax ν (memoMtd ν (inner n Max ks) .value) ks (memoMtd ν (inner n Max ks) .memo .kids)
+unfolding memoMtd
 mtdMax-decides ν n ks h =
     let t = inner n Max ks in
     runMax-decides ν n ks (suc greatest) greatest (fresh t) h (fresh-kept ν greatest t) refl
@@ -195,7 +194,7 @@ module _ (ν : ℕ → ℕ) (n : ℕ) (ks : Children) where
       let x = pass ν γ t m .next in
       let a = sound ν γ t m h k in
       let z = minimax-score ν t h in
-      cond-cases (λ (q : MtdRun t). DecidesMin ν (q .value) ks (q .memo .kids)) (pass ν γ t m .notBelow) _ _
+      cond-cases (λ (q : MemoRun t). DecidesMin ν (q .value) ks (q .memo .kids)) (pass ν γ t m .notBelow) _ _
       (λ e. ⊎-elim (λ y. absurd (omega (arith, a .above e, memoLow-minimax ν t x, z .1)))
       (λ y. rootMin-keeps γ γ m h (k .1) y) d)
       (λ e.
@@ -209,8 +208,8 @@ module _ (ν : ℕ → ℕ) (n : ℕ) (ks : Children) where
 -- MTD decides at a Min root: the elder brothers of the first child whose high is at most the value have their lows
 -- above it
 mtdMin-decides : (ν : ℕ → ℕ) (n : ℕ) (ks : Children) → ScoredChildren ν ks
-    → DecidesMin ν (mtd ν (inner n Min ks) .value) ks (mtd ν (inner n Min ks) .memo .kids)
-unfolding mtd
+    → DecidesMin ν (memoMtd ν (inner n Min ks) .value) ks (memoMtd ν (inner n Min ks) .memo .kids)
+unfolding memoMtd
 mtdMin-decides ν n ks h =
     let t = inner n Min ks in
     runMin-decides ν n ks (suc greatest) greatest (fresh t) (inl refl) h (fresh-kept ν greatest t) (le-refl _)
@@ -234,40 +233,40 @@ min-shown ν w v (t then ts) m h k u (inr d) =
     (λ e. absurd (omega (arith, d .0)), λ f. min-shown ν w v ts (m .rest) (h .1) (k .1) (omega arith) (d .1))
 
 -- the bounds of MTD's leaves meet at the value
-pub mtd-decided : (ν : ℕ → ℕ) (t : Tree) → Proper ν t → Decided ν (among (mtd ν t .evaluated)) t
+pub mtd-decided : (ν : ℕ → ℕ) (t : Tree) → Proper ν t → Decided ν (among (memoMtd ν t .evaluated)) t
 mtd-decided ν t r =
     let m = mtd-marks ν t (r .distinct) .marks in
     let b = mtd-right ν t (r .scored) in
     record {
-      lowIs = sym (memoBound-is least ν (mtd ν t .evaluated) t (mtd ν t .memo) m) ∙ b .low-is;
-      highIs = sym (memoBound-is greatest ν (mtd ν t .evaluated) t (mtd ν t .memo) m) ∙ b .high-is;
+      lowIs = sym (memoBound-is least ν (memoMtd ν t .evaluated) t (memoMtd ν t .memo) m) ∙ b .low-is;
+      highIs = sym (memoBound-is greatest ν (memoMtd ν t .evaluated) t (memoMtd ν t .memo) m) ∙ b .high-is;
     }
 
 -- and show the root's value
 mtd-shown : (ν : ℕ → ℕ) (n : ℕ) (s : Side) (ks : Children) → Proper ν (inner n s ks)
-    → Shown (known ν (among (mtd ν (inner n s ks) .evaluated)) (worst s)) ν (minimaxChildren ν s ks) ks
+    → Shown (known ν (among (memoMtd ν (inner n s ks) .evaluated)) (worst s)) ν (minimaxChildren ν s ks) ks
 mtd-shown ν n Max ks r =
     let t = inner n Max ks in
-    max-shown ν (mtd ν t .evaluated) _ ks (mtd ν t .memo .kids) (r .scored) (mtd-marks ν t (r .distinct) .marks)
+    max-shown ν (memoMtd ν t .evaluated) _ ks (memoMtd ν t .memo .kids) (r .scored) (mtd-marks ν t (r .distinct) .marks)
     (le-refl _) (rw (mtd-right ν t (r .scored) .value) at (mtdMax-decides ν n ks (r .scored)))
 mtd-shown ν n Min ks r =
     let t = inner n Min ks in
-    min-shown ν (mtd ν t .evaluated) _ ks (mtd ν t .memo .kids) (r .scored) (mtd-marks ν t (r .distinct) .marks)
+    min-shown ν (memoMtd ν t .evaluated) _ ks (memoMtd ν t .memo .kids) (r .scored) (mtd-marks ν t (r .distinct) .marks)
     (le-refl _) (rw (mtd-right ν t (r .scored) .value) at (mtdMin-decides ν n ks (r .scored)))
 
 -- so the move by the bounds of MTD's leaves is the move
-pub mtd-move : (ν : ℕ → ℕ) (t : Tree) → Proper ν t → boundMove ν (among (mtd ν t .evaluated)) t ≡ rootMove ν t
+pub mtd-move : (ν : ℕ → ℕ) (t : Tree) → Proper ν t → boundMove ν (among (memoMtd ν t .evaluated)) t ≡ rootMove ν t
 mtd-move ν (leaf n) r = refl
 mtd-move ν (inner n s ks) r =
     move-same ν _ n s ks (r .scored) (mtd-decided ν (inner n s ks) r) (mtd-shown ν n s ks r)
 
 -- at a Max root it is the first child whose high is the root's
 pub mtd-highMove : (ν : ℕ → ℕ) (n : ℕ) (ks : Children) → let t = inner n Max ks in
-    let E = among (mtd ν t .evaluated) in
+    let E = among (memoMtd ν t .evaluated) in
     Proper ν t → firstWith (high ν E) (high ν E t) ks ≡ rootMove ν t
 mtd-highMove ν n ks r =
     let t = inner n Max ks in
     let b = mtd-right ν t (r .scored) in
     rw (mtd-decided ν t r .highIs)
-    (first-high ν (mtd ν t .evaluated) _ ks (mtd ν t .memo .kids) (r .scored) (mtd-marks ν t (r .distinct) .marks)
+    (first-high ν (memoMtd ν t .evaluated) _ ks (memoMtd ν t .memo .kids) (r .scored) (mtd-marks ν t (r .distinct) .marks)
     (omega (arith, b .high-is)) (rw (b .value) at (mtdMax-decides ν n ks (r .scored))))

@@ -12,7 +12,7 @@ use Rattle.lists.specs.Lists.{among, different}
 use Rattle.gametree.specs.Tree.{Side, Max, Min, Tree, leaf, inner, Children, last, _then_, greatest, better}
 use Rattle.gametree.specs.Tree.{minimaxChildren, Proper}
 use Rattle.gametree.specs.Bounds.{known, high}
-use Rattle.gametree.specs.Mtd.{Memo, memoHigh, pass, MtdRun, run, fresh, mtd}
+use Rattle.gametree.specs.engine.Memo.{Memo, memoHigh, pass, MemoRun, run, fresh, memoMtd}
 use Rattle.gametree.proofs.mtd.Marks.{Marks}
 use Rattle.lists.proofs.Choice.{cond-cases, or-left, or-right, or-cases}
 use Rattle.lists.proofs.Lists.{among-left}
@@ -124,7 +124,7 @@ run-passes ν (suc f) γ w t m h k a g =
     let s = sound ν γ t m (h .scored) k in
     let c = pass-marks ν γ w t m (h .distinct) a .marks in
     let u = run ν f (memoHigh ν t n) t n .evaluated in
-    cond-cases (λ (q : MtdRun t). q .passes ≤ suc (how-many (among (map ν (w ++ q .evaluated))) γ)) (r .notBelow) _ _
+    cond-cases (λ (q : MemoRun t). q .passes ≤ suc (how-many (among (map ν (w ++ q .evaluated))) γ)) (r .notBelow) _ _
     (λ _. omega arith)
     (λ e.
     let b = s .below e in
@@ -136,8 +136,8 @@ run-passes ν (suc f) γ w t m h k a g =
     rw (← append-assoc w v u) (omega (arith, i, more-there (among (map ν ((w ++ v) ++ u))) (memoHigh ν t n) γ b j)))
 
 -- MTD makes at most one pass more than there are different scores among the leaves that it evaluates
-pub passes-few : (ν : ℕ → ℕ) (t : Tree) → Proper ν t → mtd ν t .passes ≤ suc (different (map ν (mtd ν t .evaluated)))
-unfolding mtd
+pub passes-few : (ν : ℕ → ℕ) (t : Tree) → Proper ν t → memoMtd ν t .passes ≤ suc (different (map ν (memoMtd ν t .evaluated)))
+unfolding memoMtd
 passes-few ν t h =
     le-trans
     (run-passes ν (suc greatest) greatest [] t (fresh t) h (fresh-kept ν greatest t) (fresh-marks t) (le-refl greatest))

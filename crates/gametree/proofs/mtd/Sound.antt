@@ -10,9 +10,8 @@ use borrow.Author.Tests.{ltb-true, leb-true, leb-false, not-true, not-false}
 use Rattle.gametree.specs.Tree.{Side, Max, Min, Tree, leaf, inner, Children, last, _then_, least, greatest}
 use Rattle.gametree.specs.Tree.{minimax}
 use Rattle.gametree.specs.Tree.{minimaxChildren, Scored, ScoredChildren}
-use Rattle.gametree.specs.Mtd.{memoBound, memoBoundChildren, Memo, MemoChildren, memoHigh, memoHighChildren, Pass}
-use Rattle.gametree.specs.Mtd.{PassChildren}
-use Rattle.gametree.specs.Mtd.{pass, passChildren}
+use Rattle.gametree.specs.engine.Memo.{memoBound, memoBoundChildren, Memo, MemoChildren, memoHigh}
+use Rattle.gametree.specs.engine.Memo.{memoHighChildren, Pass, PassChildren, pass, passChildren}
 use Rattle.lists.proofs.Choice.{cond-cases, true-not-false}
 use Rattle.gametree.proofs.minimax.Bounds.{better-mono}
 

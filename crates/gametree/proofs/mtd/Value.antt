@@ -7,9 +7,8 @@ use mathlib.Core.Bool.{true}
 use Rattle.gametree.specs.Tree.{Side, Max, Min, Tree, leaf, inner, Children, last, _then_, greatest, better}
 use Rattle.gametree.specs.Tree.{minimax}
 use Rattle.gametree.specs.Tree.{Scored}
-use Rattle.gametree.specs.Mtd.{Memo, MemoChildren, memoHigh, memoHighChildren, pass, MtdRun, settled, run, fresh}
-use Rattle.gametree.specs.Mtd.{freshChildren}
-use Rattle.gametree.specs.Mtd.{mtd}
+use Rattle.gametree.specs.engine.Memo.{Memo, MemoChildren, memoHigh, memoHighChildren, pass, MemoRun, settled}
+use Rattle.gametree.specs.engine.Memo.{run, fresh, freshChildren, memoMtd}
 use Rattle.lists.proofs.Choice.{cond-cases, true-not-false}
 use Rattle.gametree.proofs.mtd.Sound.{memoLow, memoLow-minimax, minimax-memoHigh, Kept, KeptChildren, Sound}
 use Rattle.gametree.proofs.mtd.Sound.{sound}
@@ -29,7 +28,7 @@ mutual
   )
 
 -- the run's value is the minimax value, and so are the bounds that its leaves give
-pub record Right (ν : ℕ → ℕ) (t : Tree) (q : MtdRun t) : Type 0 where
+pub record Right (ν : ℕ → ℕ) (t : Tree) (q : MemoRun t) : Type 0 where
   pub value : q .value ≡ minimax ν t
   pub low-is : memoLow ν t (q .memo) ≡ minimax ν t
   pub high-is : memoHigh ν t (q .memo) ≡ minimax ν t
@@ -84,8 +83,8 @@ mutual
       (better-same s greatest)
 
 -- MTD gives the minimax value, and its evaluated leaves give every bound of the root that value
-pub mtd-right : (ν : ℕ → ℕ) (t : Tree) → Scored ν t → Right ν t (mtd ν t)
-unfolding mtd
+pub mtd-right : (ν : ℕ → ℕ) (t : Tree) → Scored ν t → Right ν t (memoMtd ν t)
+unfolding memoMtd
 mtd-right ν t h =
     run-right ν (suc greatest) greatest t (fresh t) h (fresh-kept ν greatest t) (omega (arith, fresh-memoHigh ν t))
     (omega arith)

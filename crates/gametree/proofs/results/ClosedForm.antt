@@ -16,9 +16,8 @@ use Rattle.gametree.specs.Tree.{minimaxChildren, In, InChildren, EveryLe
 use Rattle.gametree.specs.Tree.{ScoredChildren, Distinct}
 use Rattle.gametree.specs.Tree.{DistinctChildren, Proper}
 use Rattle.gametree.specs.AlphaBeta.{raise, lower}
-use Rattle.gametree.specs.Mtd.{Memo, MemoChildren, memoHigh, memoHighChildren, Pass, PassChildren, pass}
-use Rattle.gametree.specs.Mtd.{passChildren, MtdRun, run}
-use Rattle.gametree.specs.Mtd.{fresh, mtd}
+use Rattle.gametree.specs.engine.Memo.{Memo, MemoChildren, memoHigh, memoHighChildren, Pass, PassChildren, pass}
+use Rattle.gametree.specs.engine.Memo.{passChildren, MemoRun, run, fresh, memoMtd}
 use Rattle.gametree.proofs.mtd.Marks.{Marks, MarksChildren}
 use Rattle.gametree.specs.results.ClosedForm.{rival, unrivalled, unrivalledChildren}
 use Rattle.lists.proofs.Choice.{cond-cases, true-not-false, and-both}
@@ -241,7 +240,7 @@ run-form ν zero γ t m i e p g l = absurd (omega (arith, l))
 run-form ν (suc f) γ t m i e p g l =
     let a = passed ν γ greatest t m i e g g in
     let n = pass ν γ t m .next in
-    cond-cases (λ (q : MtdRun t). q .memo ≡ memoAt ν 1 greatest t) (pass ν γ t m .notBelow) _ _
+    cond-cases (λ (q : MemoRun t). q .memo ≡ memoAt ν 1 greatest t) (pass ν γ t m .notBelow) _ _
     (λ d. a .next-is ∙ sym (frozen ν 1 γ greatest t p g (leb-true γ _ (sym (a .answer) ∙ d))))
     (λ d.
     let w = leb-false γ (minimax ν t) (sym (a .answer) ∙ d) in
@@ -313,8 +312,8 @@ mutual
       (marks-agree v w t (m .first) (h .0) (k .0), marksChildren-agree v w ts (m .rest) (h .1) (k .1))
 
 -- MTD ends with the memory after all tests
-mtd-form : (ν : ℕ → ℕ) (t : Tree) → Scored ν t → mtd ν t .memo ≡ memoAt ν 1 greatest t
-unfolding mtd
+mtd-form : (ν : ℕ → ℕ) (t : Tree) → Scored ν t → memoMtd ν t .memo ≡ memoAt ν 1 greatest t
+unfolding memoMtd
 mtd-form ν t h =
     run-form ν (suc greatest) greatest t (fresh t) h (sym (at-fresh ν (suc greatest) greatest t (le-refl _)))
     (omega arith)
@@ -322,11 +321,11 @@ mtd-form ν t h =
 
 -- so it evaluates the leaves of the closed form
 pub mtd-unrivalled : (ν : ℕ → ℕ) (t : Tree) → Proper ν t
-    → EveryLeaf (λ n. among (mtd ν t .evaluated) n ≡ among (unrivalled ν least greatest least t) n) t
+    → EveryLeaf (λ n. among (memoMtd ν t .evaluated) n ≡ among (unrivalled ν least greatest least t) n) t
 mtd-unrivalled ν t r =
     let e = unrivalled-needed ν least greatest least t in
     let m =
     subst (λ x. Marks (needed ν 1 greatest t) t x) (sym (mtd-form ν t (r .scored)))
     (needed-marks ν 1 greatest t (r .distinct)) in
-    rw e (marks-agree (mtd ν t .evaluated) (needed ν 1 greatest t) t (mtd ν t .memo)
+    rw e (marks-agree (memoMtd ν t .evaluated) (needed ν 1 greatest t) t (memoMtd ν t .memo)
     (mtd-marks ν t (r .distinct) .marks) m)

@@ -12,9 +12,9 @@ use Rattle.gametree.specs.Tree.{Side, Max, Min, Tree, leaf, inner, Child
 use Rattle.gametree.specs.Tree.{minimax}
 use Rattle.gametree.specs.Tree.{Scored, ScoredChildren}
 use Rattle.gametree.specs.AlphaBeta.{raise, lower, reached, reachedChildren}
-use Rattle.gametree.specs.Mtd.{Memo, MemoChildren, memoHigh, memoHighChildren, Pass, PassChildren, settles, pass}
-use Rattle.gametree.specs.Mtd.{passChildren}
-use Rattle.gametree.specs.Mtd.{MtdRun, run, fresh, mtd}
+use Rattle.gametree.specs.Mtd.{settles}
+use Rattle.gametree.specs.engine.Memo.{Memo, MemoChildren, memoHigh, memoHighChildren, Pass, PassChildren, pass}
+use Rattle.gametree.specs.engine.Memo.{passChildren, MemoRun, run, fresh, memoMtd}
 use Rattle.lists.proofs.Choice.{cond-cases, or-left}
 use Rattle.lists.proofs.Lists.{all-append, all-map, among-left, among-right}
 use Rattle.gametree.proofs.minimax.Bounds.{minimax-score}
@@ -84,7 +84,7 @@ run-reaches : (ν : ℕ → ℕ) (f γ : ℕ) (t : Tree) (m : Memo t) → Scored
 run-reaches ν zero γ t m h k l u = tt
 run-reaches ν (suc f) γ t m h k l u =
     let a = pass-reaches ν γ least greatest t m h k l u in
-    cond-cases (λ (q : MtdRun t). Reaches ν least greatest t (q .evaluated)) (pass ν γ t m .notBelow) _ _
+    cond-cases (λ (q : MemoRun t). Reaches ν least greatest t (q .evaluated)) (pass ν γ t m .notBelow) _ _
     (λ _. a)
     (λ e.
     let n = pass ν γ t m .next in
@@ -97,7 +97,7 @@ run-reaches ν (suc f) γ t m h k l u =
     (run-reaches ν f (memoHigh ν t n) t n h (kept-lower ν t n (omega arith) (s .kept)) (omega arith) (omega arith)))
 
 -- every leaf that MTD evaluates meets Baudet's condition
-pub mtd-reaches : (ν : ℕ → ℕ) (t : Tree) → Scored ν t → Reaches ν least greatest t (mtd ν t .evaluated)
-unfolding mtd
+pub mtd-reaches : (ν : ℕ → ℕ) (t : Tree) → Scored ν t → Reaches ν least greatest t (memoMtd ν t .evaluated)
+unfolding memoMtd
 mtd-reaches ν t h =
     run-reaches ν (suc greatest) greatest t (fresh t) h (fresh-kept ν greatest t) (omega arith) (le-refl _)

@@ -12,7 +12,7 @@ use borrow.Author.Tests.{leb-true, leb-false, le-leb, lt-leb}
 use Rattle.gametree.specs.Tree.{Side, Max, Min, Tree, leaf, inner, Children, last, _then_, greatest, minimax}
 use Rattle.gametree.specs.Tree.{minimaxChildren, Scored, ScoredChildren}
 use Rattle.gametree.specs.AlphaBeta.{lower}
-use Rattle.gametree.specs.Mtd.{Memo, MemoChildren, memoHigh, memoHighChildren, fresh, freshChildren}
+use Rattle.gametree.specs.engine.Memo.{Memo, MemoChildren, memoHigh, memoHighChildren, fresh, freshChildren}
 use Rattle.gametree.proofs.mtd.Sound.{minimax-memoHigh, minimaxChildren-memoHighChildren}
 use Rattle.gametree.proofs.mtd.Value.{freshChildren-memoHigh}
 

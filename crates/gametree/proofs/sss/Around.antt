@@ -8,7 +8,7 @@ use mathlib.Core.Option.{Option, none, some}
 use mathlib.Core.List.{List, _∷_, _++_, map}
 use Rattle.lists.specs.Lists.{All}
 use Rattle.gametree.specs.Tree.{Side, Max, Min, Tree, leaf, inner, Children, last, _then_, number, In, InChildren}
-use Rattle.gametree.specs.Mtd.{Memo, MemoChildren}
+use Rattle.gametree.specs.engine.Memo.{Memo, MemoChildren}
 use Rattle.gametree.specs.Layout.{tip, fork, under, Layout}
 use Rattle.gametree.proofs.sss.Described.{Apart}
 use Rattle.gametree.specs.Sss.{Status, LIVE, SOLVED, State, live, solved, Step, quiet, evaluating, purge, replace}

@@ -13,9 +13,8 @@ use Rattle.lists.specs.Lists.{All}
 use Rattle.gametree.specs.Tree.{Side, Max, Min, Tree, leaf, inner, Children, last, _then_, greatest, number}
 use Rattle.gametree.specs.Tree.{Scored}
 use Rattle.gametree.specs.Tree.{ScoredChildren}
-use Rattle.gametree.specs.Mtd.{Memo, MemoChildren, memoHigh, memoHighChildren, Pass, PassChildren, pass}
-use Rattle.gametree.specs.Mtd.{passChildren}
-use Rattle.gametree.specs.Mtd.{fresh, freshChildren}
+use Rattle.gametree.specs.engine.Memo.{Memo, MemoChildren, memoHigh, memoHighChildren, Pass, PassChildren, pass}
+use Rattle.gametree.specs.engine.Memo.{passChildren, fresh, freshChildren}
 use Rattle.gametree.specs.Layout.{firstOf, othersOf}
 use Rattle.gametree.specs.Sss.{State, live, solved}
 use Rattle.lists.proofs.Choice.{cond-cases, true-not-false}

@@ -5,7 +5,7 @@ use native.Mathlib.Omega.{arith}
 use mathlib.Core.Path.{_≡_, refl, sym, _∙_, ap, subst}
 use mathlib.Core.List.{List, [], _∷_, _++_, append-assoc}
 use Rattle.gametree.specs.Tree.{Tree, minimax, size, Scored}
-use Rattle.gametree.specs.Mtd.{mtd}
+use Rattle.gametree.specs.engine.Memo.{memoMtd}
 use Rattle.gametree.specs.Layout.{Layout}
 use Rattle.gametree.proofs.sss.Described.{Describes}
 use Rattle.gametree.specs.Sss.{takenMerit, State, stop, quiet, evaluating, step, End, Ran, runFrom}
@@ -76,11 +76,11 @@ pub record Reaching (ν : ℕ → ℕ) (Y : Layout) (t : Tree) (W : List ℕ) (k
 module _ (ν : ℕ → ℕ) (Y : Layout) (t : Tree) (d : Describes Y t) (h : Scored ν t) where
   -- every list that SSS* reaches
   pub list-reached : {k : ℕ} {w : List ℕ} {L : List State} → ListAfter ν Y t k w L
-      → Reaching ν Y t (mtd ν t .evaluated) k w L
+      → Reaching ν Y t (memoMtd ν t .evaluated) k w L
   list-reached {L = L} r =
-      let v = mtd ν t .value in
+      let v = memoMtd ν t .value in
       let e = root-stops ν Y t v (d .top) in
-      let a = list-ahead ν Y _ (mtd ν t .evaluated) (full t) v e t (mtd-steps ν Y t (d .answers) h) r in
+      let a = list-ahead ν Y _ (memoMtd ν t .evaluated) (full t) v e t (mtd-steps ν Y t (d .answers) h) r in
       record {
         atMost = omega (arith, a .atMost, full-size t);
         merit = rw (← mtd-right ν t h .value) (steps-fall ν Y (a .steps));

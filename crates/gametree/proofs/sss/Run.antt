@@ -7,7 +7,7 @@ use mathlib.Core.Path.{_≡_, refl, ap, subst}
 use mathlib.Core.Logic.{inl, inr}
 use mathlib.Core.List.{List, [], _∷_, append-nil}
 use Rattle.gametree.specs.Tree.{Tree, greatest, minimax, number, size, Scored}
-use Rattle.gametree.specs.Mtd.{Memo, memoHigh, pass, MtdRun, run, fresh, mtd}
+use Rattle.gametree.specs.engine.Memo.{Memo, memoHigh, pass, MemoRun, run, fresh, memoMtd}
 use Rattle.gametree.specs.Layout.{root, Layout}
 use Rattle.gametree.proofs.sss.Described.{Answers, Describes}
 use Rattle.gametree.specs.Sss.{SOLVED, State, live, solved, stop, step, finished, Ran, runFrom, sssOver}
@@ -38,7 +38,7 @@ run-steps ν Y (suc f) γ t m w p h k g b l =
     let n = pass ν γ t m .next in
     let F = states ν γ t m w in
     let more : work ν γ t m w + 0 ≤ work ν γ t m w = omega arith in
-    cond-cases (λ (q : MtdRun t). Steps ν Y (work ν γ t m w) F (q .evaluated) (solved (number t) (q .value) ∷ []) 0)
+    cond-cases (λ (q : MemoRun t). Steps ν Y (work ν γ t m w) F (q .evaluated) (solved (number t) (q .value) ∷ []) 0)
     (pass ν γ t m .notBelow) _ _
     (λ e. allow more (rw (append-nil F) at (S .above 0 e)))
     (λ e.
@@ -83,9 +83,9 @@ root-stops ν Y t v o = takes ν Y v t [] [] (alone Y v t) SOLVED (stop v) (rw o
 
 -- from the LIVE root MTD's leaves are evaluated
 pub mtd-steps : (ν : ℕ → ℕ) (Y : Layout) (t : Tree) → Answers Y t → Scored ν t
-    → Steps ν Y (full t) (live (number t) greatest ∷ []) (mtd ν t .evaluated)
-    (solved (number t) (mtd ν t .value) ∷ []) 0
-unfolding mtd
+    → Steps ν Y (full t) (live (number t) greatest ∷ []) (memoMtd ν t .evaluated)
+    (solved (number t) (memoMtd ν t .value) ∷ []) 0
+unfolding memoMtd
 mtd-steps ν Y t p h =
     run-steps ν Y (suc greatest) greatest t (fresh t) (inl refl) p h (fresh-kept ν greatest t) (le-refl greatest)
     (le-refl greatest, tt) (omega arith)
@@ -93,8 +93,8 @@ mtd-steps ν Y t p h =
 -- SSS* gives the minimax value and MTD's leaves in MTD's order, and makes fewer replacements than twice the number of
 -- nodes
 pub sss-is-mtd : (ν : ℕ → ℕ) (Y : Layout) (t : Tree) → Describes Y t → Scored ν t
-    → Gives (sssOver ν Y t) (minimax ν t) (mtd ν t .evaluated) (full t)
+    → Gives (sssOver ν Y t) (minimax ν t) (memoMtd ν t .evaluated) (full t)
 sss-is-mtd ν Y t d h =
-    subst (λ v. Gives (sssOver ν Y t) v (mtd ν t .evaluated) (full t)) (mtd-right ν t h .value)
-    (go-steps ν Y (mtd ν t .value) (2 * size t) (mtd-steps ν Y t (d .answers) h)
-    (root-stops ν Y t (mtd ν t .value) (d .top)) (full-size t))
+    subst (λ v. Gives (sssOver ν Y t) v (memoMtd ν t .evaluated) (full t)) (mtd-right ν t h .value)
+    (go-steps ν Y (memoMtd ν t .value) (2 * size t) (mtd-steps ν Y t (d .answers) h)
+    (root-stops ν Y t (memoMtd ν t .value) (d .top)) (full-size t))

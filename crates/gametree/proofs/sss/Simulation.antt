@@ -26,8 +26,8 @@ use Rattle.lists.specs.Lists.{All}
 use Rattle.gametree.specs.Tree.{Side, Max, Min, Tree, leaf, inner, Children, last, _then_, greatest, number}
 use Rattle.gametree.specs.Tree.{InChildren}
 use Rattle.gametree.specs.Tree.{Scored, ScoredChildren}
-use Rattle.gametree.specs.Mtd.{Memo, MemoChildren, memoHighChildren, Pass, PassChildren, entered, pass}
-use Rattle.gametree.specs.Mtd.{passChildren, freshChildren}
+use Rattle.gametree.specs.engine.Memo.{Memo, MemoChildren, memoHighChildren, Pass, PassChildren, entered, pass}
+use Rattle.gametree.specs.engine.Memo.{passChildren, freshChildren}
 use Rattle.gametree.specs.Layout.{tip, under, Layout, firstOf, othersOf}
 use Rattle.gametree.proofs.sss.Described.{Answers, AnswersChildren}
 use Rattle.gametree.specs.Sss.{State, live, solved, quiet, step}

@@ -5,7 +5,7 @@ use mathlib.Core.Path.{_≡_, refl, ap}
 use mathlib.Core.Logic.{inl, inr}
 use mathlib.Core.Bool.{Bool, true, false}
 use Rattle.gametree.specs.Tree.{Side, Max, Min, Tree, leaf, inner, Children, last, _then_, size, sizeChildren}
-use Rattle.gametree.specs.Mtd.{Memo, MemoChildren, freshChildren}
+use Rattle.gametree.specs.engine.Memo.{Memo, MemoChildren, freshChildren}
 use Rattle.gametree.proofs.sss.Frontier.{outdone, ReadyChildren, Fitted, FittedChildren, rest-fresh}
 use Rattle.gametree.proofs.sss.Frontier.{fitted-fresh}
 use Rattle.gametree.proofs.sss.Frontier.{fitted-ready}

@@ -15,7 +15,8 @@ use Rattle.gametree.specs.Tree.{Max, Min, Tree, leaf, inner, Children, l
 use Rattle.gametree.specs.Tree.{minimaxChildren, InChildren, Scored, ScoredChildren, Distinct, DistinctChildren}
 use Rattle.gametree.specs.Tree.{Proper}
 use Rattle.gametree.specs.Bounds.{known, low, high}
-use Rattle.gametree.specs.Mtd.{settles, mtd}
+use Rattle.gametree.specs.Mtd.{settles}
+use Rattle.gametree.specs.engine.Memo.{memoMtd}
 use Rattle.gametree.specs.results.ClosedForm.{unrivalled}
 use Rattle.gametree.specs.Tests.{Tested, byBounds, test, testChildren, searchBy, falling}
 use Rattle.gametree.specs.FirstMove.{lastPhase, decideBy}
@@ -190,7 +191,7 @@ first-shown ν (inner n Min ks) h =
 
 -- with the last phase MTD(f) from `greatest` evaluates only leaves of MTD with the weaker memory
 pub falling-decides-mtd : (ν : ℕ → ℕ) (t : Tree) → Proper ν t
-    → All (λ k. among (mtd ν t .evaluated) k ≡ true) (decideBy falling ν t .evaluated)
+    → All (λ k. among (memoMtd ν t .evaluated) k ≡ true) (decideBy falling ν t .evaluated)
 falling-decides-mtd ν t r =
     let q = searchBy falling ν t in
     let o = search-right falling ν t (r .scored) in

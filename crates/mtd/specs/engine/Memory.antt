@@ -10,7 +10,7 @@ use Rattle.gametree.specs.declared.Side.{Side}
 use Rattle.gametree.specs.declared.Side.the-variants.{Max}
 use Rattle.gametree.specs.Tree.{Tree, greatest, In}
 use Rattle.gametree.specs.Bounds.{high}
-use Rattle.gametree.specs.Mtd.{Memo, Pass, pass}
+use Rattle.gametree.specs.engine.Memo.{Memo, Pass, pass}
 use Rattle.gametree.specs.engine.MemoArrays.{readMemo, Remembered}
 use Rattle.frames.specs.Frame.{frames, childCount}
 use Rattle.frames.specs.Position.{positionOf}
