@@ -12,7 +12,7 @@ pub struct Question {
     more: &'static str,
 }
 
-const TREES: &str = "of every tree file and table";
+const TREES: &str = "of every tree";
 const CERTIFICATES: &str = "of a certificate (verify, shorter, draw --certificate)";
 
 /// The question about the solution tree of one side: its flag, the side that has all children in it, and the other.
@@ -22,7 +22,7 @@ macro_rules! solution_tree {
             $number,
             CERTIFICATES,
             concat!("do the flags ", $flag, " and 3 form a ", $tree, " solution tree?"),
-            "the lowest node whose rule breaks",
+            "the first node whose rule breaks",
             concat!(
                 "The root is in it. A ",
                 $all,
@@ -45,13 +45,13 @@ pub const QUESTIONS: [Question; 22] = [
     ask(1, TREES, "is there at least one byte?", "0",
         "The file is empty."),
     ask(2, TREES, "has the file at most 53,248 bytes?", "0",
-        "A tree has at most 4,096 nodes, a line of 13 bytes each. A file with Windows line ends has 14."),
+        "A tree has at most 4,096 nodes, each a line of 13 bytes; with Windows line ends a line has 14."),
     ask(3, TREES, "is each line twelve hexadecimal digits?",
         "the first line that is not, counted from 0",
         "Usually Windows line ends, a byte order mark, a blank, a blank line at the end, or a cut file."),
     ask(4, TREES,
         "is byte 3 (digits 7 and 8) 00, or 01 on an inner node other than the root?", "the node",
-        "01 is a second capture: the side moves again that moved at the parent. A leaf and the root have 00."),
+        "01 is a second capture: the side that moved at the parent moves again. A leaf and the root have 00."),
     ask(5, TREES, "has the node at most 40 children?", "the node",
         "Byte 2 (digits 5 and 6) is the count of children, in hexadecimal: 28 is 40."),
     ask(6, TREES,
@@ -64,20 +64,20 @@ pub const QUESTIONS: [Question; 22] = [
     ask(8, TREES, "is 1 plus all child counts the number of lines?",
         "the number of lines",
         "Lines are missing at the end (the file was cut), or there are too many, or a child was miscounted."),
-    ask(9, TREES, "is no node deeper than 18 moves?", "the lowest such node",
+    ask(9, TREES, "is no node deeper than 18 moves?", "the first node that is",
         "The tables' screens show 18 moves: cut the tree there."),
     ask(10, "of every buffer that a program lends, and of a certificate",
-        "has it an entry for each node?", "0",
+        "does it have an entry for each node?", "0",
         "A certificate has a digit for each node: this one has too few, or belongs to another tree."),
     ask(11, CERTIFICATES, "is every flag 0 to 3?",
-        "the lowest node whose flag is not",
+        "the first node whose flag is not",
         "0 stands for no solution tree, 1 for the max tree, 2 for the min tree, 3 for both."),
     solution_tree!(12, "1", "max", "Max", "Min"),
     solution_tree!(13, "2", "min", "Min", "Max"),
-    ask(14, CERTIFICATES, "have both solution trees the same value?", "0",
+    ask(14, CERTIFICATES, "do both solution trees have the same value?", "0",
         "The greatest leaf of the max tree and the least of the min tree differ: no value is certified."),
     ask(16, "of every tree file, after 3 and before 4",
-        "is no letter a small one, a to f?",
+        "are all letters capitals?",
         "the first line that has one, counted from 0",
         "`buulset capitals FILE` writes the same tree with capitals."),
     ask(17, "of a graft", "is the named node a leaf where Max would move?",

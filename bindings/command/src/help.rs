@@ -9,7 +9,7 @@ usage: buulset COMMAND ARGUMENT..
   certify METHOD FILE               a certificate of the value
   verify FILE CERTIFICATE           the value that a certificate certifies
   shorter FILE A B                  of two certificates the one with fewer leaves
-  graft FILE NODE FILE              the first tree with the second in the place of a leaf
+  graft FILE NODE FILE              the first tree with the second in place of a leaf
   set FILE LEAF VALUE               the tree with another value at a leaf
   capitals FILE.. [--in-place]      files with their letters as capitals
   needs FILE LEAF VALUE             the smallest value of the leaf that gives the root VALUE
@@ -50,9 +50,9 @@ const TEXTS: [(&str, &str); 14] = [
 usage: buulset analyse FILE.. [--from LIST] [--quiet]
 
 Prints the minimax value of the root, the first root move that reaches it, and how many leaves were evaluated, by
-alpha-beta, MTD and SSS*; or `refused`, the number of a question and a place. Of several files each report stands behind
-a line with the file's name, a summary follows on standard error, and the exit status is 1 if any was refused, 2 if any
-could not be read.
+alpha-beta, MTD and SSS*; or `refused`, the number of a question and a place. With several files each report
+follows a line with the file's name, a summary comes on standard error, and the exit status is 1 if any was refused, 2
+if any could not be read.
 
   --from LIST   takes file names from LIST too, one a line; - is standard input
   --quiet, -q   no hints, no progress, no summary
@@ -128,7 +128,7 @@ is, the refusal of the first stands.
         "\
 usage: buulset graft FILE NODE FILE [--quiet]
 
-The file of the first tree with the second in the place of the leaf NODE, where Max would move. On a refusal standard
+The file of the first tree with the second in place of the leaf NODE, where Max would move. On a refusal standard
 error says which file is meant.
 
   buulset graft samples/seven.tree 4 samples/ending.tree > deeper.tree
@@ -150,8 +150,8 @@ a node that is no leaf is refused with 19, a value out of range with 7.
         "\
 usage: buulset capitals FILE.. [--in-place] [--from LIST] [--quiet]
 
-Files with their letters a to f as capitals and every line closed; the trees do not change. Of several files each stands
-behind a line with its name.
+Files with their letters a to f as capitals and every line closed; the trees do not change. With several files each
+follows a line with its name.
 
   --in-place    writes each file in its own place, by a rename; a refused file is left untouched, and only refusals are
                 printed

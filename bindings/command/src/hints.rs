@@ -118,13 +118,13 @@ fn node(refusal: Refusal, file: &[u8]) -> Option<String> {
         4 => format!("byte 3 is {:02X}; it is 00, or 01 where the same side moves as at the parent", frame[3]),
         5 => format!("it has {} children", frame[2]),
         6 if leaf => format!("it has no children, and yet a first child, {first}"),
-        6 if usize::from(first) == next(file, k) => format!("its first child, {first}, does not lie behind it"),
+        6 if usize::from(first) == next(file, k) => format!("its first child, {first}, does not come after it"),
         6 => format!(
-            "its first child is {first}, and by the child counts of the nodes before it would be {}: \
-             a miscounted child, or a line that is missing?",
+            "its first child is {first}, but by the child counts of the nodes before it would be {}: \
+             a miscounted child, or a missing line?",
             next(file, k)
         ),
-        7 if leaf => format!("the leaf holds {value}; it is from -32,000 to 32,000"),
+        7 if leaf => format!("the leaf holds {value}, which is not from -32,000 to 32,000"),
         _ => format!("it has children, and yet a value, {value}"),
     })
 }
@@ -133,6 +133,6 @@ fn node(refusal: Refusal, file: &[u8]) -> Option<String> {
 fn total(file: &[u8]) -> String {
     let lines = file.len().div_ceil(LINE_SIZE);
     let nodes = next(file, lines);
-    let guess = if lines < nodes { "the file was cut off" } else { "there are lines too many" };
-    format!("by the child counts there are {nodes} nodes, and {lines} lines: {guess}, or a child was miscounted?")
+    let guess = if lines < nodes { "the file was cut off" } else { "there are too many lines" };
+    format!("the child counts make {nodes} in all, and the lines are {lines}: {guess}, or a child was miscounted?")
 }

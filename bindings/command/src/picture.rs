@@ -405,7 +405,7 @@ impl<'a> Picture<'a> {
     }
 }
 
-/// How wide a text is, by and large: in Helvetica.
+/// How wide a text is at most, by and large: in DejaVu Sans, where there is neither Helvetica nor Arial.
 fn wide(text: &str) -> f64 {
     let widths = text.chars().map(|c| match c {
         'f' | 'i' | 'j' | 'l' | 't' | ' ' | '.' | ',' | ':' => 0.28,
@@ -414,7 +414,7 @@ fn wide(text: &str) -> f64 {
         'm' | 'w' | 'M' => 0.8,
         _ => 0.56,
     });
-    LETTERS * widths.sum::<f64>()
+    1.17 * LETTERS * widths.sum::<f64>()
 }
 
 fn square(x: f64, y: f64, class: &str) -> String {

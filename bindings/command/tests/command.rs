@@ -200,12 +200,12 @@ fn certificates_are_made_verified_and_compared() {
     let long = folder.file("long", "313103299");
     assert_eq!(prints(&["verify", "samples/seven.tree", &long]), "3\n");
     let of = |text: &str| run(&["verify", "samples/seven.tree", &folder.file("other", text)]);
-    is_refused(&of("313103"), "refused 10 0", &["other: question 10: has it an entry for each node?"]);
+    is_refused(&of("313103"), "refused 10 0", &["other: question 10: does it have an entry for each node?"]);
     is_refused(&of(""), "refused 10 0", &["buulset explain 10"]);
     is_refused(&of("3931032\n"), "refused 11 1", &["question 11"]);
     is_refused(&of("3031032\n"), "refused 12 0", &["max solution tree"]);
     is_refused(&of("3131030\n"), "refused 13 2", &["min solution tree"]);
-    is_refused(&of("3131023\n"), "refused 14 0", &["have both solution trees the same value?"]);
+    is_refused(&of("3131023\n"), "refused 14 0", &["do both solution trees have the same value?"]);
     for (text, why) in
         [("31310x2\n", "\"x\" at character 6"), ("3131032\r\n", "Windows line ends"), ("3131032\n\n", "a second line")]
     {
@@ -284,7 +284,7 @@ fn capitals_converts() {
     let folder = Folder::new("capitals");
     let expected = fs::read_to_string(root().join("samples/stored.capitals")).unwrap();
     assert_eq!(prints(&["capitals", "samples/stored.tree"]), expected);
-    is_refused(&run(&["capitals", "samples/refused-8.tree"]), "refused 8 2", &["there are lines too many"]);
+    is_refused(&run(&["capitals", "samples/refused-8.tree"]), "refused 8 2", &["there are too many lines"]);
     let small = folder.file("small.tree", fs::read(root().join("samples/stored.tree")).unwrap());
     let bad = folder.file("bad.tree", "00g000000000\n");
     let ran = run(&["capitals", &small, &bad]);
@@ -371,14 +371,14 @@ fn hints_name_the_usual_causes() {
         (b"000101000000\n000000020000\n", "refused 4 1", &["node 1, line 2", "byte 3 is 02; on a leaf"]),
         (b"000101010000\n000000000000\n", "refused 4 0", &["at the root Max moves"]),
         (b"000129000000\n", "refused 5 0", &["it has 41 children"]),
-        (b"000102000000\n000401000000\n000000000000\n000000000000\n", "refused 6 1", &["is 4, and by", "would be 3"]),
-        (b"000102000000\n000000000000\n", "refused 8 2", &["there are 3 nodes, and 2 lines: the file was cut off"]),
+        (b"000102000000\n000401000000\n000000000000\n000000000000\n", "refused 6 1", &["is 4, but by", "would be 3"]),
+        (b"000102000000\n000000000000\n", "refused 8 2", &["make 3 in all, and the lines are 2: the file was cut off"]),
         (b"000101000001\n000000000000\n", "refused 7 0", &["it has children, and yet a value, 1"]),
     ];
     for (file, line, hint) in cases {
         is_refused(&with_input(&["analyse", "-"], file), line, hint);
     }
-    is_refused(&run(&["analyse", "samples/refused-6.tree"]), "refused 6 1", &["does not lie behind it"]);
+    is_refused(&run(&["analyse", "samples/refused-6.tree"]), "refused 6 1", &["does not come after it"]);
     is_refused(&run(&["analyse", "samples/miscounted.tree"]), "refused 6 3", &["a miscounted child"]);
     is_refused(&run(&["analyse", "samples/refused-9.tree"]), "refused 9 19", &["at most 18 moves"]);
     is_refused(&with_input(&["search", "ab", "-"], b"000100000000\n"), "refused 6 0", &["and yet a first child, 1"]);
