@@ -167,9 +167,9 @@ struct Visited {
     leaves: usize,
 }
 
-// Alpha-beta of the tree below a node, with the window from alpha to beta, where so many leaves are evaluated already:
-// the pass over the children stops at the first one that closes the window, and a child that is a leaf costs no call.
-// No node of that tree is marked yet, so that no leaf is evaluated twice.
+// Alpha-beta of the tree below a node, with the window from alpha to beta and this many leaves evaluated before: the
+// pass over the children stops at the first one that closes the window, and a child that is a leaf costs no call. No
+// node of that tree is marked yet, so no leaf is evaluated twice.
 fn alpha_beta(
     table: &[u8],
     evaluated: &mut [u8],

@@ -3,9 +3,9 @@ use input::Input;
 use libc::STDERR_FILENO;
 use libc::STDOUT_FILENO;
 
-// Where a read fails there is no file to judge: one line goes to standard error, and no report that would blame the
-// file. The room is for 65,536 bytes, more than a file may have: a longer one is seen to be too long, and is never cut
-// to one that passes.
+// If a read fails there is no file to judge: one line goes to standard error, and no report that would blame the file.
+// There is room for 65,536 bytes, more than a file may have, so a longer file is refused as too long and never cut to
+// one that passes.
 fn main() {
     let mut file = io::large_buffer();
     match input::read_all(&mut file) {

@@ -37,8 +37,8 @@ fn read_leaf(table: &[u8], evaluated: &mut [u8], node: usize, depth: u32) -> u32
     leaf_score(table, node, depth)
 }
 
-// The evaluation of a leaf that has no mark yet: while marks stay, no leaf is evaluated twice. That a search has no
-// other way to a score is read by `checks/doors`.
+// Evaluates a leaf that has no mark yet: as long as marks stay, no leaf is evaluated twice. That a search has no other
+// way to a score is looked at by `checks/doors`.
 pub fn evaluate(table: &[u8], evaluated: &mut [u8], node: usize, depth: u32) -> u32
     requires { ⌜ Evaluable (now table) (now evaluated) node depth ⌝ }
     ensures { λ r. ⌜ (r ≡ valuation (now (table .entry)) node) × (r < twoBytes) ⌝ }
@@ -47,14 +47,13 @@ pub fn evaluate(table: &[u8], evaluated: &mut [u8], node: usize, depth: u32) -> 
     read_leaf(table, evaluated, node, depth)
 }
 
-// What the evaluation of a leaf gives: its score, and how many leaves are evaluated with it.
+// What the evaluation of a leaf gives: its score, and how many leaves are evaluated now.
 pub struct Evaluation {
     pub score: u32,
     pub leaves: usize,
 }
 
-// The evaluation of a leaf that is counted and listed: the leaf's number goes into the list behind the `leaves` numbers
-// that are there.
+// Evaluates a leaf, counts it, and appends its number to the list, after the `leaves` numbers that are there.
 pub fn evaluate_next(
     table: &[u8],
     evaluated: &mut [u8],

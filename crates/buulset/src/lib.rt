@@ -46,7 +46,7 @@ const VERSION: u32 = 10100;
 #[repr(C)]
 pub struct Answer {
     pub refused: u8,
-    // 1 where its allowance ended the run of SSS*; then `merit` is given, and no value
+    // 1 if its allowance stopped SSS*; then `merit` is given, and no value
     pub spent: u8,
     pub value: i16,
     pub merit: i32,
@@ -59,7 +59,7 @@ pub struct Answer {
     pub steps: usize,
 }
 
-// Which of two certificates is chosen, 1 or 2, and how many flags of it count, from its front; or a refusal.
+// Which of two certificates is chosen, 1 or 2, and how many of its first flags count; or a refusal.
 #[repr(C)]
 pub struct Choice {
     pub refused: u8,
@@ -83,7 +83,7 @@ pub struct Line {
     pub at: usize,
 }
 
-// A text: its bytes, as many as `length` says, and zeros behind them.
+// A text: `length` bytes, then zeros.
 #[repr(C)]
 pub struct Text {
     pub bytes: [u8; TEXT_SIZE],
@@ -428,7 +428,7 @@ fn moved(f: plain::PlainResult) -> Answer
     }
 }
 
-// That an allowance is spent as an answer.
+// A spent allowance as an answer.
 fn spent(s: sss::Spent) -> Answer
     ensures { λ r. ⌜ r ≡ spentOf s ⌝ }
 {

@@ -6,8 +6,8 @@ use libc::STDOUT_FILENO;
 use treefile::MAX_FILE;
 use writer::length_given;
 
-// Where a read fails there is no file to judge: one line goes to standard error. The room is for 65,536 bytes, more
-// than a file may have: a longer one is seen to be too long, and is never cut to one that passes.
+// If a read fails there is no file to judge: one line goes to standard error. There is room for 65,536 bytes, more than
+// a file may have, so a longer file is refused as too long and never cut to one that passes.
 fn main() {
     let mut file = io::large_buffer();
     match input::read_all(&mut file) {

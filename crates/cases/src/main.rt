@@ -1,5 +1,5 @@
-// Runs the cases of standard input and prints their results. A case is a line with its title, the bytes of a file, and,
-// unless the report of the file is asked for, a line with a call and its numbers (checks/README.md).
+// Runs the cases of standard input and prints their results. A case is a line with its title, the bytes of a file, and
+// a line with a call and its numbers; without that line it is the file's report (checks/README.md).
 mod reports;
 
 use bytes::scan::find;
@@ -57,7 +57,7 @@ fn print_cases(input: &[u8]) {
     }
 }
 
-// The title of a case, and what its call gives. Without a line feed behind the title there is no case.
+// The title of a case, and what its call gives. Without a line feed after the title there is no case.
 fn print_case(case: &[u8]) {
     let size = case.len();
     let title = find(case, 0, size, LINE_FEED);

@@ -5,12 +5,12 @@ ghost use Rattle.io.specs.Counts.{Counts};
 ghost use Rattle.casetext.specs.Numbers.{longer as longerBy, started, byteRead, bytesRead};
 ghost use lib.ListN.{length};
 
-// The most numbers of a call, and of a number's digits all but the last.
+// How many numbers a call may have; and a number keeps its last seven digits when one more is added.
 pub const NUMBERS: usize = 80;
 
 const SEVEN_DIGITS: u32 = 10000000;
 
-// The numbers of a call, each in base ten behind a blank; how many they are.
+// The numbers of a call, each in base ten after a blank; gives how many there are.
 pub fn read_numbers(call: &[u8], numbers: &mut [u32]) -> usize
     ensures { λ r. ⌜ Counts r (now (numbers .exit)) ⌝ }
     ensures { λ r. ⌜ record { numbers = now (numbers .exit); count = r }

@@ -32,7 +32,7 @@ pub struct Findings {
     pub leaves: usize,
 }
 
-// Questions 1 to 10, for buffers of which the shortest has this length: the number of nodes, or the first rejection.
+// Questions 1 to 10, where the shortest lent buffer has this length: the number of nodes, or the first rejection.
 pub fn ask(table: &[u8], shortest: usize) -> Checked
     ensures { λ r. ⌜ r ≡ answer (frames (now (table .entry))) (searchRejection (now (table .entry)) (shortest ∷ [])) ⌝ }
 {

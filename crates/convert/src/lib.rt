@@ -35,8 +35,8 @@ pub fn convert(file: &[u8], converted: &mut [u8]) -> Written
     convert_by(file, &mut table, converted)
 }
 
-// The same, with a work array for the frames. A digit has one number in either letter case, and is written in capitals:
-// so no letter needs to be lifted before.
+// The same, with a work array for the frames. A digit has the same number in either letter case, and is written as a
+// capital, so no letter has to be lifted first.
 fn convert_by(file: &[u8], table: &mut [u8], converted: &mut [u8]) -> Written
     requires { ⌜ (length (now file) ≤ maxFile → LongEnough (now file) (now table)) ⌝ }
     ensures { λ r. ⌜ record { answer = r; file = now (converted .exit) }
@@ -52,7 +52,7 @@ fn convert_by(file: &[u8], table: &mut [u8], converted: &mut [u8]) -> Written
 }
 
 // What the program prints for a file, at the front of the lent buffer: the converted file, or the line of the refusal.
-// Its length in bytes; or 10, where it has no room there, and then the buffer is as it was.
+// Gives its length in bytes; or 10 if there is no room for it, and then the buffer is as it was.
 pub fn output(file: &[u8], buffer: &mut [u8]) -> Written
     ensures { λ r. ⌜ record { answer = r; file = now (buffer .exit) }
         ≡ outputOutcome (now (file .entry)) (now (buffer .entry)) ⌝ }

@@ -35,7 +35,7 @@ use Rattle.convert.proofs.Converted.{base-table, convert-gives, convert-leaves,
 use Rattle.convert.proofs.Printing.{line-printed, file-printed}
 
 module _ (f : List ℕ) where
-  -- "a lowercase letter a to f in a line, 16, place the first such line"
+  -- "a small letter a to f in a line, 16, place the first such line"
   pub lowest-small : (r : Rejection) → fileCheck16 f ≡ some r
       → (r .number ≡ 16) × (r .place < length (linesOf f)) × (hasLowercase (getD (linesOf f) (r .place) []) ≡ true)
       × ((k : ℕ) → k < r .place → hasLowercase (getD (linesOf f) k []) ≡ false)
@@ -58,7 +58,7 @@ module _ (f : List ℕ) where
       ∙ rw (p .1) in
       (p .0, p .1, λ _. rw q)
 
-  -- "(which still passes lowercase letters)"
+  -- "(which still passes small letters)"
   pub three-either-case : fileCheck3 (raised f) ≡ fileCheck3 f
   three-either-case = raised-check3 f
 

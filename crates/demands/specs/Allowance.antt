@@ -1,4 +1,4 @@
--- What is said of a call of SSS* that its allowance ended.
+-- What is said of a call of SSS* that its allowance stopped.
 use Prim.Native.Nat.{ℕ}
 use mathlib.Core.Path.{_≡_}
 use mathlib.Core.List.{List}
@@ -9,8 +9,8 @@ use Rattle.frames.specs.Tree.{tree, valuation}
 use Rattle.frames.specs.Value.{valueOf}
 use Rattle.sss.specs.declared.Spent.{Spent}
 
--- where the full run was cut short: after the counted replacements, which evaluated the leaves so far, a list of states
--- is reached from which the rule takes a state of the given merit and would evaluate its leaf
+-- where the full run was cut short: after the counted replacements, which evaluated the leaves so far, it has reached a
+-- list of states from which the rule takes a state of the given merit and would evaluate its leaf
 pub record CutShort (t : List ℕ) (s : Spent) : Type 0 where
   pub evaluated : List ℕ
   pub states : List State

@@ -32,8 +32,8 @@ pub record Marked (t : List ℕ) (b : Buffers) (k : ℕ) : Type 0 where
   pub node : k < frames t
   pub mark : getD (b .marks) k 0 ≡ 1
 
--- the flags certify the minimax value of the table's tree by a max and a min solution tree, and flag leaves that are
--- marked 1 only
+-- the flags certify the minimax value of the table's tree by a max and a min solution tree, and every flagged leaf is
+-- marked 1
 pub record CertifiedBy (t : List ℕ) (b : Buffers) : Type 0 where
   pub certifies : Certifies (valuation t) (tree t) (member Max (b .flags)) (member Min (b .flags))
       (minimax (valuation t) (tree t))

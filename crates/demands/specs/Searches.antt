@@ -1,4 +1,4 @@
--- What is said of the searches as they run, MTD(f) among them.
+-- What is said of the searches as they run, MTD(f) included.
 use Prim.Native.Nat.{ℕ}
 use mathlib.Core.Path.{_≡_}
 use mathlib.Core.List.{List}
@@ -51,8 +51,8 @@ pub record EachSearch
       → P (t .now) (sssLeaves (t .now)) (g .findings) (buffers (m .now) (f .now)) (o .now)
       (buffers (m′ .now) (f′ .now)) (o′ .now))
 
--- whenever `sss::search` is stopped by its allowance of so many leaves, P holds: of the table, the answer, and what was
--- lent and left, as above
+-- whenever its allowance of so many leaves stops `sss::search`, P holds: of the allowance, the table, the answer, and
+-- what was lent and left, as above
 pub record EachSpent
     (P : ℕ → (t : List ℕ) → Spent → Buffers → List ℕ → (left : Buffers) (order : List ℕ) → Type 0) : Type 2 where
   pub sssSearch : Runs sss.search.ended sss.search.Symbol.routine

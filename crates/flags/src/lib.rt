@@ -77,7 +77,7 @@ fn write_flags(table: &[u8], positions: &[u32], lows: &[u32], highs: &[u32], cer
     }
 }
 
-// The chosen child, which is looked for only where its flag is not that of the others.
+// The chosen child; it is looked for only if its flag differs from that of the others.
 fn chosen_if_needed(
     positions: &[u32],
     lows: &[u32],
@@ -101,7 +101,7 @@ fn chosen_if_needed(
     chosen_child(positions, lows, highs, node, from, to)
 }
 
-// The children from `from` up to `to`: the chosen one gets the node's flag, the others what is the side's own of it.
+// The children from `from` up to `to`: the chosen one gets the node's flag, the others the flag `others`.
 fn flag_children(
     certificate: &mut [u8],
     from: usize,
@@ -123,7 +123,7 @@ fn flag_children(
     }
 }
 
-// What a flag says of the side's own tree.
+// The part of a flag that is about the mover's own tree: all children are in that tree if the node is.
 fn movers_flag(side: Side, flag: u8) -> u8
     ensures { λ r. ⌜ r ≡ moversFlag side flag ⌝ }
 {

@@ -223,7 +223,7 @@ pub fn leaf_score(table: &[u8], node: usize, depth: u32) -> u32
     score_at(stored_score(table, node), depth)
 }
 
-// The score that a stored score counts with at this depth.
+// What a stored score counts as at this depth.
 pub fn score_at(stored: u32, depth: u32) -> u32
     requires { ⌜ (stored < twoBytes) × (depth ≤ maxNodes) ⌝ }
     ensures { λ r. ⌜ (r ≡ leafScore depth stored) × (r < twoBytes) ⌝ }

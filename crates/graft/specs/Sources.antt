@@ -9,7 +9,7 @@ use Rattle.frames.specs.Frame.{frames, firstChild, childCount}
 use Rattle.frames.specs.Tree.{upFrom}
 use Rattle.graftable.specs.Questions.{graftSize}
 
--- the source s, with the second table's root in the place of the leaf k of the first
+-- the source s, with the second table's root in place of the leaf k of the first
 unfoldable pub rootFor : (t : List ℕ) (k : ℕ) → ℕ → ℕ
 rootFor t k s = cond (eqb s k) (frames t) s
 
@@ -21,8 +21,8 @@ base t s = cond (ltb s (frames t)) 0 (frames t)
 unfoldable pub childSources : (t : List ℕ) (k : ℕ) (u : List ℕ) → ℕ → List ℕ
 childSources t k u s = map (rootFor t k) (upFrom (base t s + firstChild (t ++ u) s) (childCount (t ++ u) s))
 
--- what is known of a tree in breadth-first order after i of its nodes have been visited: the root, and the children of
--- each of these nodes in turn
+-- the nodes known in breadth-first order after i nodes of a tree have been visited: the root, and the children of each
+-- of these nodes in turn
 unfoldable pub breadthFirst : (children : ℕ → List ℕ) (root : ℕ) → ℕ → List ℕ
 breadthFirst children root zero = root ∷ []
 breadthFirst children root (suc i) =

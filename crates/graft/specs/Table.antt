@@ -30,6 +30,6 @@ unfoldable pub laidFrames : (t : List ℕ) (k : ℕ) (u : List ℕ) → ℕ → 
 laidFrames t k u zero = []
 laidFrames t k u (suc i) = laidFrames t k u i ++ frameAt t k u i
 
--- the table of the first tree with the second in the place of the leaf k
+-- the table of the first tree with the second in place of the leaf k
 abbrev pub graftTable : (t : List ℕ) (k : ℕ) (u : List ℕ) → List ℕ
 graftTable t k u = laidFrames t k u (graftSize t u)

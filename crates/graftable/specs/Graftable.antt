@@ -14,7 +14,7 @@ pub record MaxLeaf (t : List ℕ) (k : ℕ) : Type 0 where
   pub childless : childCount t k ≡ 0
   pub mover : sideOf t k ≡ Max
 
--- the tree of u can be put in the place of node k of t
+-- the tree of u can take the place of node k of t
 pub record Graftable (t : List ℕ) (k : ℕ) (u : List ℕ) : Type 0 where
   pub first : Accepted t
   pub second : Accepted u

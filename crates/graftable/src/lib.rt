@@ -1,4 +1,4 @@
-// The questions of a graft: may the tree of a second table stand in the place of a leaf of a first?
+// The questions of a graft: may the tree of a second table take the place of a leaf of a first?
 use frames::Checked;
 use frames::FRAME_SIZE;
 use frames::MAX_DEPTH;

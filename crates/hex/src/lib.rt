@@ -14,7 +14,7 @@ const NO_DIGIT: u8 = 16;
 
 const LETTER_MORE: u8 = 9;
 
-// How many numbers half a byte's may be.
+// How many values half a byte, rounded down, may have.
 const HALVES: u8 = 128;
 
 // The number of a hexadecimal digit in either letter case, 0 to 15; NO_DIGIT for any other byte. It is arithmetic on
@@ -40,7 +40,8 @@ fn one_within(first: u8, last: u8, byte: u8) -> u8
     one_from(first, byte) - one_from(last + 1, byte)
 }
 
-// 1 from the byte `first` on, else 0: half the byte, rounded as half of `first` is, is compared by a quotient.
+// 1 from the byte `first` on, else 0. The quotient is 1 exactly if half the byte reaches half of `first`; both halves
+// are rounded up if `first` is odd, and down if not.
 fn one_from(first: u8, byte: u8) -> u8
     requires { ⌜ 0 < first ⌝ }
     ensures { λ r. ⌜ r ≡ oneFrom first byte ⌝ }

@@ -404,7 +404,7 @@ fn not_entered(answer: bool, leaves: usize) -> Seen
     Seen::Answered(Tried { answer, leaves })
 }
 
-// Is the child with this answer the last one tried: it settles its parent, or there is no other.
+// Is a child with this answer the last one to try, because it settles its parent or there is no other?
 pub fn last_tried(side: Side, answer: bool, child: usize, end: usize) -> bool
     ensures { λ r. ⌜ r ≡ eqb child end || settlesOf side answer ⌝ }
 {
@@ -415,7 +415,7 @@ pub fn last_tried(side: Side, answer: bool, child: usize, end: usize) -> bool
     }
 }
 
-// Does a child's answer settle its parent: at Max the first one not below, at Min the first one below.
+// Does a child's answer settle its parent? At Max "not below" does, at Min "below".
 fn settles(side: Side, answer: bool) -> bool
     ensures { λ r. ⌜ r ≡ settlesOf side answer ⌝ }
 {

@@ -362,8 +362,8 @@ fn not_entered(answer: bool, leaves: usize) -> Seen
     Seen::Answered(Tried { answer, leaves })
 }
 
-// A test of the children of a node from the left, each entered only where it is open, until one settles the node; its
-// bounds are the best of theirs then.
+// A test of a node's children from the left, entering only open ones, until one settles the node; the node's bounds are
+// then the best of theirs.
 fn enter(
     table: &[u8],
     evaluated: &mut [u8],

@@ -1,4 +1,4 @@
--- What a buffer holds: one entry a node, and behind them what it held before.
+-- What a buffer holds: one entry a node, and after these what it held before.
 use Prim.Native.Nat.{ℕ, zero, suc, _+_}
 use mathlib.Core.List.{List, [], _∷_, _++_}
 use lib.ListN.{set, drop}

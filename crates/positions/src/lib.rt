@@ -23,8 +23,8 @@ const DEPTHS: u32 = MAX_NODES as u32;
 
 const SIDES: u32 = 2;
 
-// The entry of every node, from the root down, until every node has been reached as a child: those that are left then
-// are leaves.
+// The entry of every node, from the root down, until every node has been reached as a child: the nodes not visited by
+// then are leaves.
 pub fn fill(table: &[u8], positions: &mut [u32])
     requires { ⌜ WellFormed (now table) ⌝ }
     requires { ⌜ frames (now table) ≤ length (now positions) ⌝ }

@@ -31,8 +31,8 @@ pub struct Selection<'r> {
     pub choice: Choice,
 }
 
-// Questions 1 to 9 of the table, then 10 to 14 of each certificate by itself: the one that is accepted, of both the one
-// with fewer flagged leaves, the first on a tie; where neither is, the first one's rejection.
+// Questions 1 to 9 of the table, then 10 to 14 of each certificate by itself: the one that is accepted; if both are,
+// the one with fewer flagged leaves, the first on a tie; if neither is, the first one's rejection.
 pub fn select<'t, 'a: 'r, 'b: 'r, 'r>(
     table: &'t [u8],
     first: &'a [u8],
@@ -58,7 +58,7 @@ pub fn choose(table: &[u8], first: &[u8], second: &[u8]) -> Choice
     }
 }
 
-// The flags of the one that is chosen, one a node, as a part of its own memory; empty on a rejection.
+// The flags of the chosen certificate, one a node, as a part of its own memory; empty on a rejection.
 pub fn flags<'r>(table: &[u8], first: &'r [u8], second: &'r [u8], chosen: Choice) -> &'r [u8]
     requires { ⌜ chosen ≡ choice (now table) (now first) (now second) ⌝ }
     ensures { λ r. ⌜ (now r ≡ chosenFlags (now (table .entry)) (now (first .entry)) (now (second .entry)))

@@ -57,8 +57,8 @@ pub fn put(front: &mut [u32], change: Change, merit: u32)
     }
 }
 
-// The greatest merits above a node whose merit fell, up to the first node whose greatest merit stays, or the root:
-// that is the result.
+// Renews the greatest merits above a node whose merit fell, up to the first node whose greatest merit stays, or the
+// root. That node is the result.
 pub fn refresh_ancestors(
     table: &[u8],
     positions: &[u32],

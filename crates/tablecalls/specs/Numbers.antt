@@ -8,6 +8,6 @@ use lib.IntN.{ℤ, pos, _-ℤ_}
 abbrev pub flagAt : List ℕ → ℕ → ℕ
 flagAt ns i = getD ns i 0 % 256
 
--- a value is the difference of two numbers, of which the last six digits count
+-- a value is the difference of two numbers, of their last six digits
 abbrev pub difference : ℕ → ℕ → ℤ
 difference plus minus = pos (plus % 1000000) -ℤ pos (minus % 1000000)

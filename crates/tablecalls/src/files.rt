@@ -63,7 +63,7 @@ fn print_length(word: &[u8], written: Written) {
     print_line_feed();
 }
 
-// What the converting program prints for a file of one byte too many.
+// What the converting program prints for a file that is one byte too long.
 pub fn print_long_output() {
     let file = [b'0'; FILE_SIZE + 1];
     io::write_all(STDOUT_FILENO, b"# output: one byte too many\n");

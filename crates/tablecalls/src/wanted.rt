@@ -10,7 +10,7 @@ use libc::STDOUT_FILENO;
 ghost use mathlib.Core.Path.{_≡_};
 ghost use Rattle.tablecalls.specs.Numbers.{difference as differenceOf};
 
-// More than a wanted value of a case is away from zero.
+// No wanted value of a case is as far from zero as this.
 const MOST: u32 = 1000000;
 
 // The smallest value of a node for the wanted value `plus` less `minus`, on so many bytes of the table: zeros follow
@@ -27,7 +27,7 @@ pub fn print_least_value(file: &[u8], size: u32, node: u32, plus: u32, minus: u3
     print_line_feed();
 }
 
-// The difference of two numbers, of which the last six digits count.
+// The difference of two numbers, of their last six digits.
 pub fn difference(plus: u32, minus: u32) -> i32
     ensures { λ r. ⌜ r ≡ differenceOf plus minus ⌝ }
 {

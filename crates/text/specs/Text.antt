@@ -42,7 +42,7 @@ laid at x b = take at b ++ (x ++ drop (at + length x) b)
 pub record TextRoom (at : ℕ) (x b : List ℕ) : Type 0 where
   pub enough : at + length x ≤ length b
 
--- the bytes x were laid into the buffer b from a position on: the position behind them, and what the buffer holds then
+-- the bytes x were laid into the buffer b from a position on: the position after them, and what the buffer holds then
 pub record Put (at : ℕ) (x b : List ℕ) (next : ℕ) (after : List ℕ) : Type 0 where
   pub behind : next ≡ at + length x
   pub text : after ≡ laid at x b
@@ -51,6 +51,6 @@ pub record Put (at : ℕ) (x b : List ℕ) (next : ℕ) (after : List ℕ) : Typ
 abbrev pub textSize : ℕ
 textSize = 256
 
--- the text that begins with the bytes x, and has zeros behind them
+-- the text that begins with the bytes x, and has zeros after them
 unfoldable pub textOf : List ℕ → Text
 textOf x = record { bytes = x ++ replicate (textSize - length x) 0; length = length x }

@@ -20,7 +20,7 @@ const ZERO: usize = b'0' as usize;
 
 const TEN: usize = 10;
 
-// The text of a report: its bytes, as many as `length` says, and zeros behind them.
+// The text of a report: `length` bytes, then zeros.
 pub struct Text {
     pub bytes: [u8; TEXT_SIZE],
     pub length: usize,
@@ -38,7 +38,7 @@ pub fn refused(rejection: Rejection) -> Text
     }
 }
 
-// A rejection's line at the beginning of the text; the position behind it.
+// A rejection's line at the beginning of the text; gives the position after it.
 pub fn put_refused(text: &mut [u8], rejection: Rejection) -> usize
     requires { ⌜ TextRoom 0 (refusedLine (rejection .number) (rejection .place)) (now text) ⌝ }
     ensures { λ r. ⌜ Put 0 (refusedLine (rejection .number) (rejection .place)) (now (text .entry)) r
@@ -51,7 +51,7 @@ pub fn put_refused(text: &mut [u8], rejection: Rejection) -> usize
     put_byte(text, placed, LINE_FEED)
 }
 
-// A blank and a signed value; the position behind them.
+// A blank and a signed value; gives the position after them.
 pub fn put_value(text: &mut [u8], at: usize, value: i16) -> usize
     requires { ⌜ TextRoom at (space ∷ signedDecimal value) (now text) ⌝ }
     ensures { λ r. ⌜ Put at (space ∷ signedDecimal value) (now (text .entry)) r (now (text .exit)) ⌝ }
@@ -64,7 +64,7 @@ pub fn put_value(text: &mut [u8], at: usize, value: i16) -> usize
     put_number(text, next, magnitude(value))
 }
 
-// A blank and a number; the position behind them.
+// A blank and a number; gives the position after them.
 pub fn put_count(text: &mut [u8], at: usize, n: usize) -> usize
     requires { ⌜ TextRoom at (space ∷ decimal n) (now text) ⌝ }
     ensures { λ r. ⌜ Put at (space ∷ decimal n) (now (text .entry)) r (now (text .exit)) ⌝ }
@@ -73,7 +73,7 @@ pub fn put_count(text: &mut [u8], at: usize, n: usize) -> usize
     put_number(text, next, n)
 }
 
-// The bytes of a word; the position behind them.
+// The bytes of a word; gives the position after them.
 pub fn put_bytes(text: &mut [u8], at: usize, word: &[u8]) -> usize
     requires { ⌜ TextRoom at (now word) (now text) ⌝ }
     ensures { λ r. ⌜ Put at (now (word .entry)) (now (text .entry)) r (now (text .exit)) ⌝ }
@@ -86,7 +86,7 @@ pub fn put_bytes(text: &mut [u8], at: usize, word: &[u8]) -> usize
     at + word.len()
 }
 
-// A number in base ten; the position behind it.
+// A number in base ten; gives the position after it.
 fn put_number(text: &mut [u8], at: usize, n: usize) -> usize
     requires { ⌜ TextRoom at (decimal n) (now text) ⌝ }
     ensures { λ r. ⌜ Put at (decimal n) (now (text .entry)) r (now (text .exit)) ⌝ }
@@ -98,7 +98,7 @@ fn put_number(text: &mut [u8], at: usize, n: usize) -> usize
     put_byte(text, next, (ZERO + n % TEN) as u8)
 }
 
-// One byte at a position; the position behind it.
+// One byte at a position; gives the position after it.
 pub fn put_byte(text: &mut [u8], at: usize, byte: u8) -> usize
     requires { ⌜ TextRoom at (byte ∷ []) (now text) ⌝ }
     ensures { λ r. ⌜ Put at (byte ∷ []) (now (text .entry)) r (now (text .exit)) ⌝ }

@@ -61,8 +61,8 @@ pub struct Run {
 
 const ZERO: i32 = ZERO_SCORE as i32;
 
-// What the run makes of the entry that was taken, whose node, status and merit decide: it ends at the SOLVED root, and
-// before a leaf that its allowance does not cover.
+// What the run makes of the entry that was taken, by its node, status and merit: it ends at the SOLVED root, and before
+// a leaf that its allowance does not cover.
 pub fn next(
     run: Run,
     entry: State,

@@ -1,2 +1,2 @@
-// Steps of proofs by hand, of functions that hold slices of structs: proofs/ has them, and they say nothing of what a
+// Steps of proofs by hand about functions that hold slices of structs. They are in proofs/ and say nothing of what a
 // caller computes. The crate has no code.

@@ -47,7 +47,7 @@ pub fn length_given(written: Written) -> usize
     }
 }
 
-// The same for an accepted table of so many nodes: question 10 is left.
+// The same for an accepted table of so many nodes: only question 10 is still to be asked.
 pub fn write_accepted(table: &[u8], file: &mut [u8], nodes: usize) -> Written
     requires { ⌜ (Accepted (now table)) × (nodes ≡ frames (now table)) ⌝ }
     ensures { λ r. ⌜ record { answer = r; file = now (file .exit) }
@@ -63,7 +63,7 @@ pub fn write_accepted(table: &[u8], file: &mut [u8], nodes: usize) -> Written
     Written::Length(LINE_SIZE * nodes)
 }
 
-// The lines of the first nodes of a table, each laid behind the ones before it.
+// The lines of the first nodes of a table, each laid behind the lines already written.
 fn write_lines(table: &[u8], file: &mut [u8], nodes: usize)
     requires { ⌜ (nodes ≤ maxNodes) × (frameSize * nodes ≤ length (now table)) ⌝ }
     requires { ⌜ lineSize * nodes ≤ length (now file) ⌝ }

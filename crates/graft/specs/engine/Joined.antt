@@ -1,4 +1,4 @@
--- Two tables, one behind the other.
+-- Two tables, one after the other.
 use Prim.Native.Nat.{ℕ, _+_, _*_, _≤_}
 use mathlib.Core.Path.{_≡_}
 use mathlib.Core.List.{List}

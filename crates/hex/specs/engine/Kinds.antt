@@ -1,4 +1,4 @@
--- Whether a byte is in a range, as a number that the arithmetic on a digit counts with.
+-- Whether a byte is in a range, as 0 or 1, for the arithmetic on a digit.
 use Prim.Native.Nat.{ℕ}
 use mathlib.Core.Bool.{cond}
 use lib.Dec.{leb}

@@ -65,7 +65,7 @@ HighsRight t m T =
 abbrev pub Counted : List ℕ → Memory → Type 0
 Counted t m = m .leaves ≡ ones (m .evaluated) (frames t)
 
--- what a visit of node i at the place p asks
+-- what a visit of node i at the position p asks
 pub record VisitReady (t : List ℕ) (m : Memory) (i : ℕ) (p : Position) : Type 0 where
   pub formed : WellFormed t
   pub inside : i < frames t

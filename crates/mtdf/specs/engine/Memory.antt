@@ -65,7 +65,7 @@ pub record Counted (t : List ℕ) (m : Memory) : Type 0 where
   pub number : m .leaves ≡ ones (m .evaluated) (frames t)
   pub marks : (k : ℕ) → k < frames t → marked (m .evaluated) k ≡ among (soFar m) k
 
--- what a test of node i at the place p asks
+-- what a test of node i at the position p asks
 pub record VisitReady (t : List ℕ) (m : Memory) (i : ℕ) (p : Position) : Type 0 where
   pub formed : WellFormed t
   pub inside : i < frames t

@@ -27,7 +27,7 @@ abbrev pub numberSide : ℕ → Side
 numberSide zero = Max
 numberSide (suc n) = Min
 
--- a parent and a place in one number
+-- a parent and a position in one number
 abbrev pub packed : ℕ → Position → ℕ
 packed parent p = (parent * depthCount + p .depth) * sideCount + sideNumber (p .side)
 
@@ -45,7 +45,7 @@ depthIn P k = getD P k 0 / sideCount % depthCount
 abbrev pub sideIn : List ℕ → ℕ → Side
 sideIn P k = numberSide (getD P k 0 % sideCount)
 
--- and for its place
+-- and for its position
 abbrev pub positionIn : List ℕ → ℕ → Position
 positionIn P k = record { depth = depthIn P k; side = sideIn P k }
 

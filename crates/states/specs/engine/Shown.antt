@@ -1,7 +1,7 @@
 -- The list of SSS*, kept by node number in three arrays. A node is on the list (its link is 0), or expanded: then its
 -- link is the child to go down to, at a Max node the leftmost of its children's greatest merits, at a Min node its one
--- child that has states. Of each node on the list or above one, `best` is the greatest merit of the states at or below
--- it.
+-- child that has states. For each node that is, or has below it, a listed state, `best` is the greatest merit of the
+-- states at or below it.
 use Prim.Native.Nat.{ℕ, _+_, _≤_, _<_}
 use mathlib.Core.Path.{_≡_}
 use mathlib.Core.List.{List, [], _∷_, _++_}
