@@ -4,19 +4,16 @@ use native.Mathlib.Omega.{arith}
 use native.Mathlib.Decide.{ℕ-discrete}
 use mathlib.Core.Path.{_≡_, refl, sym, ap₂, _∙_}
 use mathlib.Core.List.{List}
-use lib.ListN.{length, length-append}
-use Rattle.gametree.specs.declared.Side.{Side}
-use Rattle.gametree.specs.declared.Side.the-variants.{Max, Min}
-use Rattle.gametree.specs.Tree.{Tree, leaf, inner, Children, last, _then_, zeroScore, leaves, leavesChildren, EveryLeaf}
-use Rattle.gametree.specs.Tree.{EveryLeafChildren, Score}
+use lib.ListN.{length}
+use Rattle.gametree.specs.Tree.{Tree, zeroScore, leaves, EveryLeaf, Score}
 use Rattle.gametree.proofs.minimax.Bounds.{every-leaf}
 use Rattle.frames.specs.Frame.{frameSize, maxNodes, twoBytes, frames, byteOf, valueBytes, storedScore}
 use Rattle.frames.specs.Formed.{WellFormed}
 use Rattle.frames.specs.Shape.{SameShape}
 use Rattle.frames.proofs.OtherValues.{same-formed}
-use Rattle.worstcase.specs.Ranks.{withRank, ranked, rankedChildren}
-use Rattle.worstcase.proofs.Ranks.{off-front, off-other, rank-value, rank-other, ranked-length}
-use Rattle.worstcase.proofs.Ranks.{rankedChildren-length, ranked-other}
+use Rattle.worstcase.specs.Ranks.{withRank, ranked}
+use Rattle.worstcase.proofs.Ranks.{off-front, off-other, rank-length, rank-value, rank-other}
+use Rattle.worstcase.proofs.Ranks.{ranked-keeps, ranked-length, ranked-other}
 
 -- u is t with other values, and well-formed
 pub record Kept (t u : List ℕ) : Type 0 where
@@ -55,26 +52,12 @@ rank-scored i r t j h k s =
           rw v s)
     ]
 
-mutual
-  ranked-scored : (m r : ℕ) (T : Tree) (t : List ℕ) (j : ℕ) → m ≤ frames t → EveryLeaf (λ n. n < m) T
-      → r + length (leaves T) ≤ maxNodes → Score (storedScore t j) → Score (storedScore (ranked r T t) j)
-  ranked-scored m r (leaf i) t j h l f s = rank-scored i r t j (omega arith) (omega arith) s
-  ranked-scored m r (inner i q ks) t j h l f s = rankedChildren-scored m r q ks t j h l f s
-
-  rankedChildren-scored : (m r : ℕ) (q : Side) (ks : Children) (t : List ℕ) (j : ℕ) → m ≤ frames t
-      → EveryLeafChildren (λ n. n < m) ks → r + length (leavesChildren ks) ≤ maxNodes → Score (storedScore t j)
-      → Score (storedScore (rankedChildren r q ks t) j)
-  rankedChildren-scored m r q (last v) t j h l f s = ranked-scored m r v t j h l f s
-  rankedChildren-scored m r Max (v then vs) t j h l f s =
-      let w = length-append (leaves v) (leavesChildren vs) in
-      rankedChildren-scored m (r + length (leaves v)) Max vs (ranked r v t) j (omega (arith, ranked-length r v t))
-      (l .1)
-      (omega arith) (ranked-scored m r v t j h (l .0) (omega arith) s)
-  rankedChildren-scored m r Min (v then vs) t j h l f s =
-      let w = length-append (leaves v) (leavesChildren vs) in
-      ranked-scored m (r + length (leavesChildren vs)) v (rankedChildren r Min vs t) j
-      (omega (arith, rankedChildren-length r Min vs t)) (l .0) (omega arith)
-      (rankedChildren-scored m r Min vs t j h (l .1) (omega arith) s)
+ranked-scored : (m r : ℕ) (T : Tree) (t : List ℕ) (j : ℕ) → m ≤ frames t → EveryLeaf (λ n. n < m) T
+    → r + length (leaves T) ≤ maxNodes → Score (storedScore t j) → Score (storedScore (ranked r T t) j)
+ranked-scored m r T t j h l f s =
+    ranked-keeps (λ a b. (m ≤ frames a) × Score (storedScore a j)) (λ n. n < m) maxNodes
+    (λ i q a b k w z. (omega (arith, rank-length i q a), rank-scored i q a j (omega arith) w (z .1)))
+    r T t t l f (h, s) .1
 
 module _ (r : ℕ) (T : Tree) (t : List ℕ) where
   -- bytes 0 to 3 stay

@@ -2,9 +2,9 @@
 use Prim.Native.Nat.{ℕ, _+_, _*_, _/_, _%_, _≤_, _<_}
 use native.Mathlib.Omega.{arith}
 use native.Mathlib.Decide.{decLt, ℕ-discrete}
-use mathlib.Core.Path.{_≡_, sym, _∙_}
+use mathlib.Core.Path.{_≡_, refl, sym, _∙_}
 use mathlib.Core.List.{List}
-use lib.ListN.{length, getD, set, length-set}
+use lib.ListN.{length, getD, set, length-set, length-append}
 use lib.Seq.{getD-set-same, getD-set-other, set-out}
 use Rattle.lists.specs.Lists.{All}
 use Rattle.lists.proofs.Lists.{all-append, all-map}
@@ -12,6 +12,7 @@ use Rattle.gametree.specs.declared.Side.{Side}
 use Rattle.gametree.specs.declared.Side.the-variants.{Max, Min}
 use Rattle.gametree.specs.Tree.{Tree, leaf, inner, Children, last, _then_, leaves, leavesChildren, EveryLeaf}
 use Rattle.gametree.specs.Tree.{EveryLeafChildren}
+use Rattle.gametree.proofs.minimax.Bounds.{every-leaf}
 use Rattle.frames.specs.Frame.{frameSize, frames, byteOf, valueBytes}
 use Rattle.frames.specs.Shape.{AgreeOn}
 use Rattle.worstcase.specs.Ranks.{withRank, ranked, rankedChildren}
@@ -31,7 +32,7 @@ off-other i k n h d = record { high = λ e. d (omega arith); low = λ e. d (omeg
 
 -- one rank
 module _ (i r : ℕ) where
-  rank-length : (t : List ℕ) → length (withRank i r t) ≡ length t
+  pub rank-length : (t : List ℕ) → length (withRank i r t) ≡ length t
   unfolding withRank
   rank-length t = simp length-set
 
@@ -79,53 +80,54 @@ rank-alike i r t u l p e =
     set-alike (set t (frameSize * i + 4) (r / 256)) (set u (frameSize * i + 4) (r / 256)) (simp length-set l)
     (frameSize * i + 5) (r % 256) p (set-alike t u l (frameSize * i + 4) (r / 256) p e)
 
-mutual
-  -- the table's length stays
-  pub ranked-length : (r : ℕ) (T : Tree) (t : List ℕ) → length (ranked r T t) ≡ length t
-  ranked-length r (leaf i) t = rank-length i r t
-  ranked-length r (inner i s ks) t = rankedChildren-length r s ks t
+-- what a rank below m, at a leaf of which Q holds, keeps of two tables, the ranks of a tree keep
+module _ (R : List ℕ → List ℕ → Type 0) (Q : ℕ → Type 0) (m : ℕ)
+    (keeps : (i r : ℕ) (t u : List ℕ) → Q i → r < m → R t u → R (withRank i r t) (withRank i r u)) where
+  mutual
+    pub ranked-keeps : (r : ℕ) (T : Tree) (t u : List ℕ) → EveryLeaf Q T → r + length (leaves T) ≤ m → R t u
+        → R (ranked r T t) (ranked r T u)
+    ranked-keeps r (leaf i) t u q h k = keeps i r t u q (omega arith) k
+    ranked-keeps r (inner i s ks) t u q h k = rankedChildren-keeps r s ks t u q h k
 
-  pub rankedChildren-length : (r : ℕ) (s : Side) (ks : Children) (t : List ℕ)
-      → length (rankedChildren r s ks t) ≡ length t
-  rankedChildren-length r s (last v) t = ranked-length r v t
-  rankedChildren-length r Max (v then vs) t =
-      rankedChildren-length (r + length (leaves v)) Max vs (ranked r v t) ∙ ranked-length r v t
-  rankedChildren-length r Min (v then vs) t =
-      ranked-length (r + length (leavesChildren vs)) v (rankedChildren r Min vs t) ∙ rankedChildren-length r Min vs t
+    rankedChildren-keeps : (r : ℕ) (s : Side) (ks : Children) (t u : List ℕ) → EveryLeafChildren Q ks
+        → r + length (leavesChildren ks) ≤ m → R t u → R (rankedChildren r s ks t) (rankedChildren r s ks u)
+    rankedChildren-keeps r s (last v) t u q h k = ranked-keeps r v t u q h k
+    rankedChildren-keeps r Max (v then vs) t u q h k =
+        let w = length-append (leaves v) (leavesChildren vs) in
+        rankedChildren-keeps (r + length (leaves v)) Max vs (ranked r v t) (ranked r v u) (q .1) (omega arith)
+        (ranked-keeps r v t u (q .0) (omega arith) k)
+    rankedChildren-keeps r Min (v then vs) t u q h k =
+        let w = length-append (leaves v) (leavesChildren vs) in
+        ranked-keeps (r + length (leavesChildren vs)) v (rankedChildren r Min vs t) (rankedChildren r Min vs u) (q .0)
+        (omega arith) (rankedChildren-keeps r Min vs t u (q .1) (omega arith) k)
 
-mutual
-  -- a position that holds no byte of a leaf's value keeps what it held
-  pub ranked-other : (r : ℕ) (T : Tree) (t : List ℕ) (p : ℕ) → EveryLeaf (Off p) T
-      → getD (ranked r T t) p 0 ≡ getD t p 0
-  ranked-other r (leaf i) t p o = rank-other i r t p o
-  ranked-other r (inner i s ks) t p o = rankedChildren-other r s ks t p o
+-- the table's length stays
+pub ranked-length : (r : ℕ) (T : Tree) (t : List ℕ) → length (ranked r T t) ≡ length t
+ranked-length r T t =
+    ranked-keeps (λ a b. length a ≡ length t) (λ i. Unit) (r + length (leaves T)) (λ i q a b f l e. rank-length i q a ∙ e)
+    r T t t (every-leaf _ (λ n. tt) T) (omega arith) refl
 
-  pub rankedChildren-other : (r : ℕ) (s : Side) (ks : Children) (t : List ℕ) (p : ℕ) → EveryLeafChildren (Off p) ks
-      → getD (rankedChildren r s ks t) p 0 ≡ getD t p 0
-  rankedChildren-other r s (last v) t p o = ranked-other r v t p o
-  rankedChildren-other r Max (v then vs) t p o =
-      rankedChildren-other (r + length (leaves v)) Max vs (ranked r v t) p (o .1) ∙ ranked-other r v t p (o .0)
-  rankedChildren-other r Min (v then vs) t p o =
-      ranked-other (r + length (leavesChildren vs)) v (rankedChildren r Min vs t) p (o .0)
-      ∙ rankedChildren-other r Min vs t p (o .1)
+-- a position that holds no byte of a leaf's value keeps what it held
+pub ranked-other : (r : ℕ) (T : Tree) (t : List ℕ) (p : ℕ) → EveryLeaf (Off p) T → getD (ranked r T t) p 0 ≡ getD t p 0
+ranked-other r T t p o =
+    ranked-keeps (λ a b. getD a p 0 ≡ getD t p 0) (Off p) (r + length (leaves T))
+    (λ i q a b f l e. rank-other i q a p f ∙ e) r T t t o (omega arith) refl
 
-mutual
-  -- where two tables are alike, they stay so
-  pub ranked-alike : (r : ℕ) (T : Tree) (t u : List ℕ) → length t ≡ length u → (p : ℕ) → getD t p 0 ≡ getD u p 0
-      → getD (ranked r T t) p 0 ≡ getD (ranked r T u) p 0
-  ranked-alike r (leaf i) t u l p e = rank-alike i r t u l p e
-  ranked-alike r (inner i s ks) t u l p e = rankedChildren-alike r s ks t u l p e
+-- where two tables are alike, they stay so
+pub ranked-alike : (r : ℕ) (T : Tree) (t u : List ℕ) → length t ≡ length u → (p : ℕ) → getD t p 0 ≡ getD u p 0
+    → getD (ranked r T t) p 0 ≡ getD (ranked r T u) p 0
+ranked-alike r T t u l p e =
+    ranked-keeps (λ a b. (length a ≡ length b) × (getD a p 0 ≡ getD b p 0)) (λ i. Unit) (r + length (leaves T))
+    (λ i q a b f h k. (rank-length i q a ∙ k .0 ∙ sym (rank-length i q b), rank-alike i q a b (k .0) p (k .1)))
+    r T t u (every-leaf _ (λ n. tt) T) (omega arith) (l, e) .1
 
-  rankedChildren-alike : (r : ℕ) (s : Side) (ks : Children) (t u : List ℕ) → length t ≡ length u → (p : ℕ)
-      → getD t p 0 ≡ getD u p 0 → getD (rankedChildren r s ks t) p 0 ≡ getD (rankedChildren r s ks u) p 0
-  rankedChildren-alike r s (last v) t u l p e = ranked-alike r v t u l p e
-  rankedChildren-alike r Max (v then vs) t u l p e =
-      rankedChildren-alike (r + length (leaves v)) Max vs (ranked r v t) (ranked r v u)
-      (ranked-length r v t ∙ l ∙ sym (ranked-length r v u)) p (ranked-alike r v t u l p e)
-  rankedChildren-alike r Min (v then vs) t u l p e =
-      ranked-alike (r + length (leavesChildren vs)) v (rankedChildren r Min vs t) (rankedChildren r Min vs u)
-      (rankedChildren-length r Min vs t ∙ l ∙ sym (rankedChildren-length r Min vs u)) p
-      (rankedChildren-alike r Min vs t u l p e)
+agree-kept : (r : ℕ) (T : Tree) (t u : List ℕ) → length t ≡ length u → (n : ℕ) → AgreeOn t u n
+    → AgreeOn (ranked r T t) (ranked r T u) n
+agree-kept r T t u l n a =
+    record {
+      sameHigh = ranked-alike r T t u l (frameSize * n + 4) (a .sameHigh);
+      sameLow = ranked-alike r T t u l (frameSize * n + 5) (a .sameLow);
+    }
 
 -- two tables of one length hold the same bytes at the leaves of a tree, whose numbers are below m
 mutual
@@ -148,23 +150,14 @@ mutual
       let q = r + length (leaves v) in
       let d = ranked-length r v t ∙ e ∙ sym (ranked-length r v u) in
       all-append _ (leaves v) (leavesChildren vs)
-      (all-map _ _
-      (λ n a. record {
-        sameHigh = rankedChildren-alike q Max vs (ranked r v t) (ranked r v u) d (frameSize * n + 4) (a .sameHigh);
-        sameLow = rankedChildren-alike q Max vs (ranked r v t) (ranked r v u) d (frameSize * n + 5) (a .sameLow);
-      })
-      (leaves v) (ranked-same m r v t u e h (l .0)))
+      (all-map _ _ (agree-kept q (inner 0 Max vs) (ranked r v t) (ranked r v u) d) (leaves v)
+      (ranked-same m r v t u e h (l .0)))
       (rankedChildren-same m q Max vs (ranked r v t) (ranked r v u) d (omega (arith, ranked-length r v t)) (l .1))
   rankedChildren-same m r Min (v then vs) t u e h l =
       let q = r + length (leavesChildren vs) in
-      let t₁ = rankedChildren r Min vs t in
-      let u₁ = rankedChildren r Min vs u in
-      let d = rankedChildren-length r Min vs t ∙ e ∙ sym (rankedChildren-length r Min vs u) in
+      let rest = inner 0 Min vs in
+      let d = ranked-length r rest t ∙ e ∙ sym (ranked-length r rest u) in
       all-append _ (leaves v) (leavesChildren vs)
-      (ranked-same m q v t₁ u₁ d (omega (arith, rankedChildren-length r Min vs t)) (l .0))
-      (all-map _ _
-      (λ n a. record {
-        sameHigh = ranked-alike q v t₁ u₁ d (frameSize * n + 4) (a .sameHigh);
-        sameLow = ranked-alike q v t₁ u₁ d (frameSize * n + 5) (a .sameLow);
-      })
-      (leavesChildren vs) (rankedChildren-same m r Min vs t u e h (l .1)))
+      (ranked-same m q v (ranked r rest t) (ranked r rest u) d (omega (arith, ranked-length r rest t)) (l .0))
+      (all-map _ _ (agree-kept q v (ranked r rest t) (ranked r rest u) d) (leavesChildren vs)
+      (rankedChildren-same m r Min vs t u e h (l .1)))
