@@ -1,7 +1,7 @@
 -- What the verdict on each certificate says of the choice.
 use Prim.Native.Nat.{ℕ, _≤_}
 use mathlib.Core.Path.{_≡_, refl}
-use mathlib.Core.Bool.{Bool, true}
+use mathlib.Core.Bool.{Bool, true, false}
 use mathlib.Core.Option.{Option, none, some}
 use mathlib.Core.List.{List, [], _∷_}
 use lib.IntN.{ℤ}
@@ -10,12 +10,13 @@ use borrow.Author.Tests.{leb-true}
 use Rattle.lists.proofs.Choice.{clash, and-both}
 use Rattle.frames.specs.declared.Rejection.{Rejection}
 use Rattle.frames.specs.Frame.{frames}
+use Rattle.frames.specs.Rejection.{_andThen_}
 use Rattle.frames.specs.Check.{rejection, check10}
 use Rattle.frames.proofs.Stated.{ask-yes, both-passed}
 use Rattle.verify.specs.declared.Verdict.the-variants as verdicts
 use Rattle.verify.specs.Check.{flagsRejection, judged}
 use Rattle.shorter.specs.declared.Choice.{Choice}
-use Rattle.shorter.specs.declared.Choice.the-variants.{First, Second}
+use Rattle.shorter.specs.declared.Choice.the-variants.{First, Second, Rejected}
 use Rattle.shorter.specs.Choice.{fewerSecond, choiceBy, afterTable, choice}
 
 module _ (t flags : List ℕ) where
@@ -36,35 +37,22 @@ module _ (t flags : List ℕ) where
       let a = both-passed (check10 (frames t) (length flags ∷ [])) _ e in
       leb-true _ _ (and-both _ true (ask-yes _ 10 0 (a .0)) .0)
 
--- the one that is chosen is not rejected
-first-passed : (o p : Option Rejection) (b : Bool) → First ≡ choiceBy o p b → o ≡ none
-first-passed none p b e = refl
-first-passed (some r) none b e = clash (cc)
-first-passed (some r) (some s) b e = clash (cc)
+-- what a choice says of the rejections: neither the table nor the chosen certificate is rejected; or the table is, or
+-- else the first certificate
+abbrev Says : (o p q : Option Rejection) → Choice → Type 0
+Says o p q First = (o ≡ none) × (p ≡ none)
+Says o p q Second = (o ≡ none) × (q ≡ none)
+Says o p q (Rejected r) = o andThen p ≡ some r
 
-second-passed : (o p : Option Rejection) (b : Bool) → Second ≡ choiceBy o p b → p ≡ none
-second-passed o none b e = refl
-second-passed none (some s) b e = clash (cc)
-second-passed (some r) (some s) b e = clash (cc)
+says : (o p q : Option Rejection) (b : Bool) → Says o p q (afterTable o (choiceBy p q b))
+says none none none true = (refl, refl)
+says none none none false = (refl, refl)
+says none none (some s) b = (refl, refl)
+says none (some r) none b = (refl, refl)
+says none (some r) (some s) b = refl
+says (some r) p q b = refl
 
--- a choice is made where the table is accepted
-first-after : (o : Option Rejection) (c : Choice) → First ≡ afterTable o c → (o ≡ none) × (First ≡ c)
-first-after none c e = (refl, e)
-first-after (some r) c e = clash (cc)
-
-second-after : (o : Option Rejection) (c : Choice) → Second ≡ afterTable o c → (o ≡ none) × (Second ≡ c)
-second-after none c e = (refl, e)
-second-after (some r) c e = clash (cc)
-
-module _ (t f s : List ℕ) where
-  pub first-accepted : First ≡ choice t f s → (rejection t ≡ none) × (flagsRejection t f ≡ none)
-  unfolding choice
-  first-accepted e =
-      let a = first-after (rejection t) _ e in
-      (a .0, first-passed (flagsRejection t f) (flagsRejection t s) (fewerSecond t f s) (a .1))
-
-  pub second-accepted : Second ≡ choice t f s → (rejection t ≡ none) × (flagsRejection t s ≡ none)
-  unfolding choice
-  second-accepted e =
-      let a = second-after (rejection t) _ e in
-      (a .0, second-passed (flagsRejection t f) (flagsRejection t s) (fewerSecond t f s) (a .1))
+pub choice-says : (t f s : List ℕ) (c : Choice) → c ≡ choice t f s
+    → Says (rejection t) (flagsRejection t f) (flagsRejection t s) c
+unfolding choice
+choice-says t f s c e = rw e (says (rejection t) (flagsRejection t f) (flagsRejection t s) (fewerSecond t f s))

@@ -11,7 +11,7 @@ use Rattle.frames.specs.Frame.{frames}
 use Rattle.shorter.specs.declared.Choice.{Choice}
 use Rattle.shorter.specs.declared.Choice.the-variants.{First, Second, Rejected}
 use Rattle.shorter.specs.Choice.{choice, chosenFlags, pointerBy}
-use Rattle.shorter.proofs.Choosing.{passed-enough, first-accepted, second-accepted}
+use Rattle.shorter.proofs.Choosing.{passed-enough, choice-says}
 use Rattle.shorter.proofs.flags.Statement.{statement}
 use Rattle.shorter.proofs.flags.Tie as tie
 
@@ -36,7 +36,7 @@ module _ (t f s : List ℕ) (n : ℕ) (e : n ≡ frames t) (pf ps : ℕ × ℕ) 
 part-result-end : tie.Need-part-result-end
 part-result-end c =
     let s = c .before .before .before .before .before .before in
-    let l = passed-enough _ _ (first-accepted (s .args .table .now) (s .args .first .now) (s .args .second .now)
+    let l = passed-enough _ _ (choice-says (s .args .table .now) (s .args .first .now) (s .args .second .now) First
     (sym (c .enum-told .given .1) ∙ s .pre) .1) in
     omega (arith, l)
 
@@ -50,7 +50,7 @@ returns c =
 part-result-end-2 : tie.Need-part-result-end-2
 part-result-end-2 c =
     let s = c .before .before .before .before .before .before in
-    let l = passed-enough _ _ (second-accepted (s .args .table .now) (s .args .first .now) (s .args .second .now)
+    let l = passed-enough _ _ (choice-says (s .args .table .now) (s .args .first .now) (s .args .second .now) Second
     (sym (c .enum-told2 .given .1) ∙ s .pre) .1) in
     omega (arith, l)
 
