@@ -7,8 +7,7 @@ use lib.ListN.{length, take, drop, length-take, length-drop}
 use native.Mathlib.Nat.{add-sub-cancel-left}
 use native.Mathlib.Omega.{arith}
 use borrow.Author.Tests.{ne-eqb}
-use Rattle.lines.specs.Line.{lineDigits, allDigits, isLine, bytesOf}
-use Rattle.lines.specs.Line.{frameOf, closed, isLineAt, lineAt}
+use Rattle.lines.specs.Line.{lineDigits, allDigits, isLine, bytesOf, frameOf, closed, isLineAt, lineAt}
 use Rattle.lines.specs.declared.Line.the-variants.{Read, NoLine}
 use Rattle.lines.proofs.Lines.{line-length}
 

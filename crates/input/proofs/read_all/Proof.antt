@@ -1,5 +1,4 @@
 -- `input::read_all` meets its contract: the bytes read so far fit. The measure is the room that is left.
---
 use Prim.Native.Nat.{_≤_, _-_}
 use mathlib.Core.Path.{_≡_}
 use native.Mathlib.Omega.{arith}

@@ -1,5 +1,4 @@
 -- `lines::decode_line` meets its contract: each way out is a case of what stands at the position.
---
 use mathlib.Core.Path.{sym, _∙_}
 use native.Mathlib.Omega.{arith}
 use borrow.Author.Needs.{needs}

@@ -1,5 +1,4 @@
 -- `lines::is_closed` meets its contract: what is left of the file from the index on is empty, or begins with a byte.
---
 use native.Mathlib.Omega.{arith}
 use borrow.Author.Needs.{needs}
 use denote.Ref.{now}

@@ -1,5 +1,4 @@
 -- `reader::decode` meets its contract: each turn decodes one line and stores its bytes behind the ones before.
---
 use Prim.Native.Nat.{_-_}
 use mathlib.Core.Path.{_≡_, sym, _∙_}
 use mathlib.Core.Bool.{true}

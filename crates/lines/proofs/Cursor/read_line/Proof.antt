@@ -1,6 +1,5 @@
 -- `lines::Cursor::read_line` meets its contract: where a line stands at the position, the next position is past
 -- twelve digits, and past a line feed if the file goes on.
---
 use Prim.Native.Nat.{ℕ, _+_, _≤_, min}
 use mathlib.Core.Path.{_≡_, sym, ap, _∙_}
 use mathlib.Core.Bool.{true}
