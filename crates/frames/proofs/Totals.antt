@@ -7,6 +7,7 @@ use mathlib.Core.Bool.{Bool, cond}
 use mathlib.Core.List.{List}
 use Rattle.gametree.specs.Tree.{Tree, leaf, inner, Children, last, _then_, size, sizeChildren, leafCount}
 use Rattle.gametree.specs.Tree.{leafCountChildren}
+use Rattle.gametree.proofs.minimax.Nodes.{size-then}
 use Rattle.frames.specs.Frame.{frames, firstChild, childCount, next}
 use Rattle.frames.specs.Tree.{childrenFrom, treeAt, tree}
 use Rattle.frames.specs.Formed.{WellFormed}
@@ -104,7 +105,7 @@ mutual
 
   sizeChildren-total : (ks : Children) → sizeChildren ks ≡ totalChildren (λ _. 1) (λ _. 1) ks
   sizeChildren-total (last t) = size-total t
-  sizeChildren-total (t then ts) = ap₂ _+_ (size-total t) (sizeChildren-total ts)
+  sizeChildren-total (t then ts) = size-then t ts ∙ ap₂ _+_ (size-total t) (sizeChildren-total ts)
 
 mutual
   count-total : (E : ℕ → Bool) (t : Tree) → leafCount E t ≡ total (λ n. cond (E n) 1 0) (λ _. 0) t

@@ -1,10 +1,11 @@
 -- What SSS* asks of a tree, in a form that a table of nodes can answer, and the answers that the tree itself gives.
 use Prim.Native.Nat.{ℕ}
-use mathlib.Core.Bool.{Bool, false, cond, _||_}
+use mathlib.Core.Bool.{Bool, false, cond, not, _&&_}
 use mathlib.Core.Option.{Option, none, some}
 use mathlib.Core.List.{List, [], _∷_}
 use lib.Dec.{eqb}
-use Rattle.gametree.specs.Tree.{Side, Tree, leaf, inner, Children, last, _then_, number}
+use Rattle.lists.specs.Lists.{among}
+use Rattle.gametree.specs.Tree.{Side, Tree, leaf, inner, Children, last, _then_, number, nodes}
 
 -- a leaf (tip), or an inner node (fork) with its side, its first child and its other children
 pub data Kind : Type 0 where
@@ -33,63 +34,47 @@ abbrev pub othersOf : Children → List ℕ
 othersOf (last t) = []
 othersOf (t then ts) = firstOf ts ∷ othersOf ts
 
--- is p the number of a node
+-- the subtree at the node p
 abbrev mutual
-  pub has : ℕ → Tree → Bool
-  has p (leaf n) = eqb p n
-  has p (inner n s ks) = eqb p n || hasChildren p ks
+  pub subtree : ℕ → Tree → Tree
+  subtree p (leaf n) = leaf n
+  subtree p (inner n s ks) = cond (eqb p n) (inner n s ks) (subtreeChildren p ks)
 
-  pub hasChildren : ℕ → Children → Bool
-  hasChildren p (last t) = has p t
-  hasChildren p (t then ts) = has p t || hasChildren p ts
+  pub subtreeChildren : ℕ → Children → Tree
+  subtreeChildren p (last t) = subtree p t
+  subtreeChildren p (t then ts) = cond (among (nodes t) p) (subtree p t) (subtreeChildren p ts)
 
--- the kind of the node p
+-- the kind of a tree's root
+abbrev pub kindOf : Tree → Kind
+kindOf (leaf n) = tip
+kindOf (inner n s ks) = fork s (firstOf ks) (othersOf ks)
+
+-- the link of the node p, the tree's own node being the root
 abbrev mutual
-  pub kindIn : ℕ → Tree → Kind
-  kindIn p (leaf n) = tip
-  kindIn p (inner n s ks) = cond (eqb p n) (fork s (firstOf ks) (othersOf ks)) (kindInChildren p ks)
+  pub linkIn : Tree → ℕ → Link
+  linkIn (leaf n) p = root
+  linkIn (inner n s ks) p = cond (eqb p n) root (linkInChildren n s ks p)
 
-  pub kindInChildren : ℕ → Children → Kind
-  kindInChildren p (last t) = kindIn p t
-  kindInChildren p (t then ts) = cond (has p t) (kindIn p t) (kindInChildren p ts)
+  pub linkInChildren : ℕ → Side → Children → ℕ → Link
+  linkInChildren n s (last t) p = cond (eqb p (number t)) (under n s none) (linkIn t p)
+  linkInChildren n s (t then ts) p =
+      cond (eqb p (number t)) (under n s (some (firstOf ts)))
+      (cond (among (nodes t) p) (linkIn t p) (linkInChildren n s ts p))
 
--- its link, the tree's own node being the root
-abbrev mutual
-  pub linkIn : ℕ → Tree → Link
-  linkIn p (leaf n) = root
-  linkIn p (inner n s ks) = cond (eqb p n) root (linkInChildren n s p ks)
+-- is p above q: q is another node of the subtree at p
+abbrev pub aboveIn : Tree → ℕ → ℕ → Bool
+aboveIn t p q = among (nodes (subtree p t)) q && not (eqb q p)
 
-  pub linkInChildren : ℕ → Side → ℕ → Children → Link
-  linkInChildren n s p (last t) = cond (eqb p (number t)) (under n s none) (linkIn p t)
-  linkInChildren n s p (t then ts) =
-      cond (eqb p (number t)) (under n s (some (firstOf ts))) (cond (has p t) (linkIn p t) (linkInChildren n s p ts))
+-- does p come before q in a list
+abbrev pub before : List ℕ → ℕ → ℕ → Bool
+before [] p q = false
+before (x ∷ xs) p q = cond (eqb p x) (among xs q) (before xs p q)
 
--- is p above q
-abbrev mutual
-  pub aboveIn : ℕ → ℕ → Tree → Bool
-  aboveIn p q (leaf n) = false
-  aboveIn p q (inner n s ks) = cond (eqb p n) (hasChildren q ks) (aboveInChildren p q ks)
-
-  pub aboveInChildren : ℕ → ℕ → Children → Bool
-  aboveInChildren p q (last t) = aboveIn p q t
-  aboveInChildren p q (t then ts) = cond (has p t) (aboveIn p q t) (aboveInChildren p q ts)
-
--- is p left of q
-abbrev mutual
-  pub leftIn : ℕ → ℕ → Tree → Bool
-  leftIn p q (leaf n) = false
-  leftIn p q (inner n s ks) = leftInChildren p q ks
-
-  pub leftInChildren : ℕ → ℕ → Children → Bool
-  leftInChildren p q (last t) = leftIn p q t
-  leftInChildren p q (t then ts) = cond (has p t) (hasChildren q ts || leftIn p q t) (leftInChildren p q ts)
+-- is p left of q: it comes before q, and is not above it
+abbrev pub leftIn : Tree → ℕ → ℕ → Bool
+leftIn t p q = before (nodes t) p q && not (aboveIn t p q)
 
 -- the tree's own layout
 abbrev pub layoutOf : Tree → Layout
 layoutOf t =
-    record {
-      kind = λ p. kindIn p t;
-      link = λ p. linkIn p t;
-      above = λ p q. aboveIn p q t;
-      leftOf = λ p q. leftIn p q t;
-    }
+    record { kind = λ p. kindOf (subtree p t); link = linkIn t; above = aboveIn t; leftOf = leftIn t }

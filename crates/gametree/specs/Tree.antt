@@ -1,10 +1,11 @@
--- Game trees, their minimax value, and what makes a tree and its scores proper. A function on trees whose name ends in
--- Kids is its part for the children of a node.
-use Prim.Native.Nat.{ℕ, suc, _+_, _<_, min, max}
+-- Game trees, their minimax value, and what makes a tree and its scores proper. A function whose name ends in Children
+-- is the part for the children of a node.
+use Prim.Native.Nat.{ℕ, _+_, _<_, min, max}
 use mathlib.Core.Path.{_≡_}
 use mathlib.Core.Logic.{_⊎_}
 use mathlib.Core.Bool.{Bool, cond}
 use mathlib.Core.List.{List, [], _∷_, _++_}
+use lib.ListN.{length}
 -- who moves at an inner node: the code's own type. The side is a label of the node, and not found from its depth.
 pub use Rattle.gametree.specs.declared.Side.{Side}
 pub use Rattle.gametree.specs.declared.Side.the-variants.{Max, Min}
@@ -58,15 +59,22 @@ abbrev pub number : Tree → ℕ
 number (leaf n) = n
 number (inner n s ks) = n
 
--- how many nodes there are
+-- the nodes from left to right, each before those below it
 abbrev mutual
-  pub size : Tree → ℕ
-  size (leaf n) = 1
-  size (inner n s ks) = suc (sizeChildren ks)
+  pub nodes : Tree → List ℕ
+  nodes (leaf n) = n ∷ []
+  nodes (inner n s ks) = n ∷ nodesChildren ks
 
-  pub sizeChildren : Children → ℕ
-  sizeChildren (last t) = size t
-  sizeChildren (t then ts) = size t + sizeChildren ts
+  pub nodesChildren : Children → List ℕ
+  nodesChildren (last t) = nodes t
+  nodesChildren (t then ts) = nodes t ++ nodesChildren ts
+
+-- how many there are
+abbrev pub size : Tree → ℕ
+size t = length (nodes t)
+
+abbrev pub sizeChildren : Children → ℕ
+sizeChildren ks = length (nodesChildren ks)
 
 -- the leaves from left to right
 abbrev mutual

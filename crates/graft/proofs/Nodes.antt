@@ -9,6 +9,7 @@ use Rattle.lists.specs.Lists.{All}
 use Rattle.gametree.specs.declared.Side.{Side}
 use Rattle.gametree.specs.Tree.{Tree, inner, last, _then_, size, sizeChildren}
 use Rattle.gametree.specs.Graft.{grafted, graftedChildren, relabelled, relabelledChildren}
+use Rattle.gametree.proofs.minimax.Nodes.{size-then}
 use Rattle.frames.specs.Tree.{upFrom, childrenFrom, node}
 use Rattle.graft.proofs.Listing.{weight}
 
@@ -62,7 +63,8 @@ grafted-node k v x s g i (suc n) h = ap (inner x s) (grafted-kids k v g i n)
 kids-size : (g : ℕ → Tree) (i n : ℕ) → sizeChildren (childrenFrom g i n) ≡ weight (λ c. size (g c)) (upFrom i (suc n))
 unfolding childrenFrom upFrom
 kids-size g i zero = omega arith
-kids-size g i (suc n) = ap (λ x. size (g i) + x) (kids-size g (i + 1) n)
+kids-size g i (suc n) =
+    size-then (g i) (childrenFrom g (i + 1) n) ∙ ap (λ x. size (g i) + x) (kids-size g (i + 1) n)
 
 pub node-size : (x : ℕ) (s : Side) (g : ℕ → Tree) (i n : ℕ)
     → size (node x s g i n) ≡ 1 + weight (λ c. size (g c)) (upFrom i n)

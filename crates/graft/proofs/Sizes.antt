@@ -9,6 +9,7 @@ use lib.Dec.{eqb}
 use borrow.Author.Tests.{eq-eqb, ne-eqb}
 use Rattle.gametree.specs.Tree.{Tree, leaf, inner, Children, last, _then_, size, sizeChildren}
 use Rattle.gametree.specs.Graft.{grafted, graftedChildren, relabelled}
+use Rattle.gametree.proofs.minimax.Nodes.{size-then}
 use Rattle.gametree.proofs.minimax.Grafts.{relabelled-size}
 use Rattle.frames.specs.Frame.{frames, childCount}
 use Rattle.frames.specs.Tree.{tree}
@@ -34,7 +35,9 @@ mutual
   grafted-sizeChildren : (k : ℕ) (v : Tree) (ks : Children)
       → sizeChildren (graftedChildren k v ks) ≡ totalChildren (weightOf k (size v)) (λ _. 1) ks
   grafted-sizeChildren k v (last t) = grafted-size k v t
-  grafted-sizeChildren k v (t then ts) = ap₂ _+_ (grafted-size k v t) (grafted-sizeChildren k v ts)
+  grafted-sizeChildren k v (t then ts) =
+      size-then (grafted k v t) (graftedChildren k v ts)
+      ∙ ap₂ _+_ (grafted-size k v t) (grafted-sizeChildren k v ts)
 
 -- the sum of ones, with x in the place of one of them
 sum-one : (f : ℕ → ℕ) (k x n : ℕ) → f k ≡ x → ((i : ℕ) → i < n → (i ≡ k → ⊥) → f i ≡ 1)

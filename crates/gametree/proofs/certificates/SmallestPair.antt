@@ -7,19 +7,19 @@ use mathlib.Core.Bool.{Bool, true, false, cond, _&&_}
 use mathlib.Core.List.{List, [], _∷_, _++_, map}
 use lib.Dec.{leb, eqb}
 use lib.ListN.{length}
-use borrow.Author.Tests.{leb-true, leb-false, eqb-true, eqb-false, eq-eqb}
+use borrow.Author.Tests.{leb-true, leb-false, eqb-true, eqb-false}
 use Rattle.lists.specs.Lists.{All, among}
 use Rattle.gametree.specs.Tree.{Side, Max, Min, Tree, leaf, inner, Children, last, _then_, better, minimax}
-use Rattle.gametree.specs.Tree.{number}
+use Rattle.gametree.specs.Tree.{number, nodes}
 use Rattle.gametree.specs.Tree.{In, InChildren, Proper}
 use Rattle.gametree.specs.Certificate.{solutionValue, solutionValueChildren, pairLeaves, pairLeavesChildren}
 use Rattle.gametree.specs.Certificate.{inside, flag}
 use Rattle.gametree.specs.Certificate.{Smallest}
 use Rattle.gametree.proofs.certificates.Flags.{FlagsCertify}
 use Rattle.gametree.proofs.certificates.Counting.{members, rulesHold, rulesHoldChildren, certificate?}
-use Rattle.lists.proofs.Choice.{cond-cases, true-not-false, or-left, or-right}
-use Rattle.lists.proofs.Lists.{all-left, all-right, all-map, all-at, among-left, among-right}
-use Rattle.gametree.proofs.minimax.Nodes.{number-in}
+use Rattle.lists.proofs.Choice.{cond-cases, true-not-false}
+use Rattle.lists.proofs.Lists.{all-left, all-right, all-map, all-at}
+use Rattle.gametree.proofs.minimax.Nodes.{number-in, in-nodes}
 use Rattle.gametree.proofs.certificates.Checker.{certificate-passes, passed-certifies}
 use Rattle.gametree.proofs.certificates.Flags.{decided-certify}
 use Rattle.gametree.proofs.minimax.Counts.{pairLeaves≤, count-list}
@@ -100,27 +100,6 @@ pub certificate-like : (ν : ℕ → ℕ) (t : Tree) (g h g′ h′ : ℕ → Bo
     → certificate? ν t g h ≡ true
     → certificate? ν t g′ h′ ≡ true
 certificate-like ν t g h g′ h′ e f c = sym (certificate-same ν t g h g′ h′ e f) ∙ c
-
--- the nodes of a tree
-abbrev mutual
-  nodes : Tree → List ℕ
-  nodes (leaf n) = n ∷ []
-  nodes (inner n q ks) = n ∷ nodesChildren ks
-
-  nodesChildren : Children → List ℕ
-  nodesChildren (last t) = nodes t
-  nodesChildren (t then ts) = nodes t ++ nodesChildren ts
-
-mutual
-  in-nodes : (k : ℕ) (t : Tree) → In k t → among (nodes t) k ≡ true
-  in-nodes k (leaf n) e = or-left (eqb k n) false (eq-eqb k n e)
-  in-nodes k (inner n q ks) (inl e) = or-left (eqb k n) _ (eq-eqb k n e)
-  in-nodes k (inner n q ks) (inr i) = or-right (eqb k n) _ (in-nodesChildren k ks i)
-
-  in-nodesChildren : (k : ℕ) (ks : Children) → InChildren k ks → among (nodesChildren ks) k ≡ true
-  in-nodesChildren k (last t) i = in-nodes k t i
-  in-nodesChildren k (t then ts) (inl i) = among-left (nodes t) (nodesChildren ts) k (in-nodes k t i)
-  in-nodesChildren k (t then ts) (inr i) = among-right (nodes t) (nodesChildren ts) k (in-nodesChildren k ts i)
 
 -- a set with the number n put in or left out
 abbrev with : ℕ → Bool → (ℕ → Bool) → ℕ → Bool

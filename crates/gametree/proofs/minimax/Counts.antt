@@ -13,12 +13,11 @@ use Rattle.lists.specs.Lists.{All, among, Once}
 use Rattle.gametree.specs.Tree.{Tree, leaf, inner, Children, last, _then_, In, InChildren, EveryLeafChildren}
 use Rattle.gametree.specs.Tree.{Distinct}
 use Rattle.gametree.specs.Tree.{DistinctChildren, size, sizeChildren, leaves, leavesChildren, leafCount}
-use Rattle.gametree.specs.Tree.{leafCountChildren}
-use Rattle.gametree.specs.Layout.{has}
+use Rattle.gametree.specs.Tree.{leafCountChildren, nodes}
 use Rattle.gametree.specs.Certificate.{pairLeaves, pairLeavesChildren, LeavesIn}
 use Rattle.lists.proofs.Choice.{cond-cases, true-not-false, or-left, or-cases}
 use Rattle.lists.proofs.Lists.{among-left, among-right, all-zip, all-among, once-length}
-use Rattle.gametree.proofs.minimax.Nodes.{in-has, has-in}
+use Rattle.gametree.proofs.minimax.Nodes.{in-nodes, nodes-in}
 
 -- a leaf in one of two sets of evaluated leaves is evaluated
 pair-leaf : (a b c : Bool) → (a ≡ true → c ≡ true) → (b ≡ true → c ≡ true) → cond (a || b) 1 0 ≤ cond c 1 0
@@ -57,12 +56,12 @@ mutual
 
   countChildren-one : (x : ℕ) (ks : Children) → DistinctChildren ks → leafCountChildren (λ n. eqb n x) ks ≤ 1
   countChildren-one x (last t) d = count-one x t d
-  countChildren-one x (t then ts) d = either (has x t) refl (count-one x t (d .0)) (countChildren-one x ts (d .1))
+  countChildren-one x (t then ts) d = either (among (nodes t) x) refl (count-one x t (d .0)) (countChildren-one x ts (d .1))
     where
-      either : (b : Bool) → has x t ≡ b → leafCount (λ n. eqb n x) t ≤ 1 → leafCountChildren (λ n. eqb n x) ts ≤ 1
+      either : (b : Bool) → among (nodes t) x ≡ b → leafCount (λ n. eqb n x) t ≤ 1 → leafCountChildren (λ n. eqb n x) ts ≤ 1
           → leafCount (λ n. eqb n x) t + leafCountChildren (λ n. eqb n x) ts ≤ 1
-      either true e i j = omega (arith, countChildren-absent x ts (λ k. d .2 x (has-in x t e) k))
-      either false e i j = omega (arith, count-absent x t (λ k. true-not-false (in-has x t k) e))
+      either true e i j = omega (arith, countChildren-absent x ts (λ k. d .2 x (nodes-in x t e) k))
+      either false e i j = omega (arith, count-absent x t (λ k. true-not-false (in-nodes x t k) e))
 
 or-count : (a b : Bool) → cond (a || b) 1 0 ≤ cond a 1 0 + cond b 1 0
 or-count true b = omega arith

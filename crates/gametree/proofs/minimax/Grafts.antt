@@ -1,13 +1,14 @@
 -- A tree in the place of a leaf counts as a leaf with the tree's value; other numbers change neither value nor size.
 use Prim.Native.Nat.{ℕ, suc, _+_, _≤_}
 use native.Mathlib.Omega.{arith}
-use mathlib.Core.Path.{_≡_, refl, ap, ap₂}
+use mathlib.Core.Path.{_≡_, refl, sym, _∙_, ap, ap₂}
 use mathlib.Core.Bool.{Bool, true, false, cond}
 use lib.Dec.{eqb}
 use Rattle.gametree.specs.Tree.{Side, Tree, leaf, inner, Children, last, _then_, better, minimax, minimaxChildren}
 use Rattle.gametree.specs.Tree.{size, sizeChildren, EveryLeaf}
 use Rattle.gametree.specs.Graft.{substituted, grafted, graftedChildren, relabelled, relabelledChildren}
 use Rattle.gametree.proofs.minimax.Bounds.{every-map, minimax-mono}
+use Rattle.gametree.proofs.minimax.Nodes.{size-then}
 
 mutual
   -- the value of a graft is that of the tree with the leaf's score replaced by the grafted tree's value
@@ -44,7 +45,9 @@ mutual
 
   relabelled-sizeChildren : (f : ℕ → ℕ) (ks : Children) → sizeChildren (relabelledChildren f ks) ≡ sizeChildren ks
   relabelled-sizeChildren f (last t) = relabelled-size f t
-  relabelled-sizeChildren f (t then ts) = ap₂ _+_ (relabelled-size f t) (relabelled-sizeChildren f ts)
+  relabelled-sizeChildren f (t then ts) =
+      size-then (relabelled f t) (relabelledChildren f ts)
+      ∙ ap₂ _+_ (relabelled-size f t) (relabelled-sizeChildren f ts) ∙ sym (size-then t ts)
 
 -- the same scores at the leaves, the same value
 pub minimax-same : (μ ν : ℕ → ℕ) (t : Tree) → EveryLeaf (λ n. μ n ≡ ν n) t → minimax μ t ≡ minimax ν t

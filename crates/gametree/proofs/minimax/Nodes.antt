@@ -1,17 +1,18 @@
 -- The nodes and the leaves of a tree.
-use Prim.Native.Nat.{ℕ}
-use mathlib.Core.Path.{_≡_, refl}
+use Prim.Native.Nat.{ℕ, _+_}
+use mathlib.Core.Path.{_≡_, refl, sym, _∙_}
 use mathlib.Core.Logic.{inl, inr, ⊎-elim}
-use mathlib.Core.Bool.{true, false}
+use mathlib.Core.Bool.{true, false, or-false}
 use lib.Dec.{eqb}
+use lib.ListN.{length-append}
 use borrow.Author.Tests.{eqb-true, eq-eqb}
-use Rattle.lists.specs.Lists.{All, Once}
+use Rattle.lists.specs.Lists.{All, among, Once}
 use Rattle.gametree.specs.Tree.{Tree, leaf, inner, Children, last, _then_, number, leaves, leavesChildren, In}
-use Rattle.gametree.specs.Tree.{InChildren}
+use Rattle.gametree.specs.Tree.{InChildren, nodes, nodesChildren, size, sizeChildren}
 use Rattle.gametree.specs.Tree.{Distinct, DistinctChildren}
-use Rattle.gametree.specs.Layout.{firstOf, othersOf, has, hasChildren}
+use Rattle.gametree.specs.Layout.{firstOf, othersOf}
 use Rattle.lists.proofs.Choice.{is-false, or-left, or-right, or-cases}
-use Rattle.lists.proofs.Lists.{all-append, all-map, once-append}
+use Rattle.lists.proofs.Lists.{all-append, all-map, among-append, among-left, among-right, once-append}
 
 -- a tree's root is a node of it
 pub number-in : (t : Tree) → In (number t) t
@@ -29,36 +30,43 @@ others-in (last t) = tt
 others-in (t then ts) = (inr (first-in ts), all-map _ _ (λ k i. inr i) (othersOf ts) (others-in ts))
 
 mutual
-  -- a node's number passes the test
-  pub in-has : (p : ℕ) (t : Tree) → In p t → has p t ≡ true
-  in-has p (leaf n) e = eq-eqb p n e
-  in-has p (inner n s ks) (inl e) = or-left (eqb p n) (hasChildren p ks) (eq-eqb p n e)
-  in-has p (inner n s ks) (inr i) = or-right (eqb p n) (hasChildren p ks) (in-hasChildren p ks i)
+  -- a node's number is among the nodes
+  pub in-nodes : (p : ℕ) (t : Tree) → In p t → among (nodes t) p ≡ true
+  in-nodes p (leaf n) e = or-left (eqb p n) false (eq-eqb p n e)
+  in-nodes p (inner n s ks) (inl e) = or-left (eqb p n) (among (nodesChildren ks) p) (eq-eqb p n e)
+  in-nodes p (inner n s ks) (inr i) = or-right (eqb p n) (among (nodesChildren ks) p) (in-nodesChildren p ks i)
 
-  pub in-hasChildren : (p : ℕ) (ks : Children) → InChildren p ks → hasChildren p ks ≡ true
-  in-hasChildren p (last t) i = in-has p t i
-  in-hasChildren p (t then ts) (inl i) = or-left (has p t) (hasChildren p ts) (in-has p t i)
-  in-hasChildren p (t then ts) (inr i) = or-right (has p t) (hasChildren p ts) (in-hasChildren p ts i)
+  pub in-nodesChildren : (p : ℕ) (ks : Children) → InChildren p ks → among (nodesChildren ks) p ≡ true
+  in-nodesChildren p (last t) i = in-nodes p t i
+  in-nodesChildren p (t then ts) (inl i) = among-left (nodes t) (nodesChildren ts) p (in-nodes p t i)
+  in-nodesChildren p (t then ts) (inr i) = among-right (nodes t) (nodesChildren ts) p (in-nodesChildren p ts i)
 
 mutual
-  -- what passes the test is a node's number
-  pub has-in : (p : ℕ) (t : Tree) → has p t ≡ true → In p t
-  has-in p (leaf n) e = eqb-true p n e
-  has-in p (inner n s ks) e =
-      ⊎-elim (λ h. inl (eqb-true p n h)) (λ h. inr (hasChildren-in p ks h)) (or-cases (eqb p n) (hasChildren p ks) e)
+  -- and a number among them is a node's
+  pub nodes-in : (p : ℕ) (t : Tree) → among (nodes t) p ≡ true → In p t
+  nodes-in p (leaf n) e = eqb-true p n (sym (or-false (eqb p n)) ∙ e)
+  nodes-in p (inner n s ks) e =
+      ⊎-elim (λ h. inl (eqb-true p n h)) (λ h. inr (nodesChildren-in p ks h))
+      (or-cases (eqb p n) (among (nodesChildren ks) p) e)
 
-  pub hasChildren-in : (p : ℕ) (ks : Children) → hasChildren p ks ≡ true → InChildren p ks
-  hasChildren-in p (last t) e = has-in p t e
-  hasChildren-in p (t then ts) e =
-      ⊎-elim (λ h. inl (has-in p t h)) (λ h. inr (hasChildren-in p ts h)) (or-cases (has p t) (hasChildren p ts) e)
+  pub nodesChildren-in : (p : ℕ) (ks : Children) → among (nodesChildren ks) p ≡ true → InChildren p ks
+  nodesChildren-in p (last t) e = nodes-in p t e
+  nodesChildren-in p (t then ts) e =
+      ⊎-elim (λ h. inl (nodes-in p t h)) (λ h. inr (nodesChildren-in p ts h))
+      (or-cases (among (nodes t) p) (among (nodesChildren ts) p)
+      (sym (among-append (nodes t) (nodesChildren ts) p) ∙ e))
 
--- so no other number passes it
-pub out-has : (p : ℕ) (t : Tree) → (In p t → ⊥) → has p t ≡ false
-out-has p t h = is-false (has p t) (λ e. h (has-in p t e))
+-- so no other number is among them
+pub out-nodes : (p : ℕ) (t : Tree) → (In p t → ⊥) → among (nodes t) p ≡ false
+out-nodes p t h = is-false (among (nodes t) p) (λ e. h (nodes-in p t e))
 
--- nor that of children
-pub out-hasChildren : (p : ℕ) (ks : Children) → (InChildren p ks → ⊥) → hasChildren p ks ≡ false
-out-hasChildren p ks h = is-false (hasChildren p ks) (λ e. h (hasChildren-in p ks e))
+-- nor among those of children
+pub out-nodesChildren : (p : ℕ) (ks : Children) → (InChildren p ks → ⊥) → among (nodesChildren ks) p ≡ false
+out-nodesChildren p ks h = is-false (among (nodesChildren ks) p) (λ e. h (nodesChildren-in p ks e))
+
+-- the nodes of children are those of the first and those of the others
+pub size-then : (t : Tree) (ts : Children) → sizeChildren (t then ts) ≡ size t + sizeChildren ts
+size-then t ts = length-append (nodes t) (nodesChildren ts)
 
 -- the leaves of a tree are nodes of it
 mutual

@@ -19,7 +19,7 @@ use Rattle.gametree.specs.Sss.{Status, LIVE, SOLVED, State, live, solved
 use Rattle.gametree.specs.Sss.{stop, quiet, evaluating, purge, replaceLive, replaceSolved, replace, step}
 use Rattle.gametree.specs.Sss.{ListAfter, atStart, afterQuiet, afterEvaluating}
 use Rattle.lists.proofs.Lists.{all-append, all-map, all-zip}
-use Rattle.gametree.proofs.minimax.Nodes.{number-in}
+use Rattle.gametree.proofs.minimax.Nodes.{number-in, size-then}
 use Rattle.gametree.proofs.sss.Steps.{step-at, purge-left, purge-right, purge-outside}
 use Rattle.gametree.proofs.sss.Around.{handed}
 use Rattle.gametree.proofs.sss.Fronts.{Front, FrontChildren, alone-front, ChildIn, Brothers, Beside, Within, top}
@@ -49,11 +49,11 @@ mutual
   kids-front-length Max (t then ts) L f =
       let x = front-length t (f .0) (f .3) in
       let y = kids-front-length Max ts (f .1) (f .4) in
-      rw (f .2, length-append (f .0) (f .1)) (omega (arith, x .0), omega (arith, x .1, y .1))
+      rw (f .2, length-append (f .0) (f .1)) (omega (arith, x .0), omega (arith, size-then t ts, x .1, y .1))
   kids-front-length Min (t then ts) L (inl f) =
-      let x = front-length t L f in (x .0, omega (arith, x .1))
+      let x = front-length t L f in (x .0, omega (arith, size-then t ts, x .1))
   kids-front-length Min (t then ts) L (inr f) =
-      let y = kids-front-length Min ts L f in (y .0, omega (arith, y .1))
+      let y = kids-front-length Min ts L f in (y .0, omega (arith, size-then t ts, y .1))
 
 -- the states of the list are of nodes below the children
 abbrev InsideChildren : Children → List State → Type 0

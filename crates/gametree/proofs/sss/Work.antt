@@ -6,6 +6,7 @@ use mathlib.Core.Logic.{inl, inr}
 use mathlib.Core.Bool.{Bool, true, false}
 use Rattle.gametree.specs.Tree.{Side, Max, Min, Tree, leaf, inner, Children, last, _then_, size, sizeChildren}
 use Rattle.gametree.specs.engine.Memo.{Memo, MemoChildren, freshChildren}
+use Rattle.gametree.proofs.minimax.Nodes.{size-then}
 use Rattle.gametree.proofs.sss.Frontier.{outdone, ReadyChildren, Fitted, FittedChildren, rest-fresh}
 use Rattle.gametree.proofs.sss.Frontier.{fitted-fresh}
 use Rattle.gametree.proofs.sss.Frontier.{fitted-ready}
@@ -87,5 +88,7 @@ mutual
 
   fullChildren-sizeChildren : (s : Side) (ks : Children) → fullChildren s ks ≤ 2 * sizeChildren ks
   fullChildren-sizeChildren s (last t) = full-size t
-  fullChildren-sizeChildren Max (t then ts) = omega (arith, full-size t, fullChildren-sizeChildren Max ts)
-  fullChildren-sizeChildren Min (t then ts) = omega (arith, full-size t, fullChildren-sizeChildren Min ts)
+  fullChildren-sizeChildren Max (t then ts) =
+      omega (arith, size-then t ts, full-size t, fullChildren-sizeChildren Max ts)
+  fullChildren-sizeChildren Min (t then ts) =
+      omega (arith, size-then t ts, full-size t, fullChildren-sizeChildren Min ts)
