@@ -1,24 +1,21 @@
 -- `sss::drive_own` meets its contract: a walk of its MIR by hand, since it lends an array of structs. It lends a front
--- of zeros and a list of blank entries to `drive`, and `drives-own` is the call for arrays of any length; the buffers
--- are passed on for good.
+-- of zeros and a list of blank entries to `drive`; the buffers are passed on for good.
 use mathlib.Core.Path.{_≡_, refl, sym, subst}
-use Prim.Native.Nat.{ℕ, _+_, _-_, _*_, _≤_}
+use Prim.Native.Nat.{ℕ, _+_, _-_, _*_}
 use native.Mathlib.Omega.{arith}
 use mathlib.Core.List.{List, [], _∷_}
 use lib.Dec.{lit<}
 use lib.ListN.{length, replicate, length-replicate}
-use Rattle.walks.proofs.Walk.{ !, Args, Atoms, Body, ByValue, Contract, Env, Fml, Fun, GName, Given, Go, Heap, Is}
-use Rattle.walks.proofs.Walk.{Item, Lfts, Meets, Memory, MutSlice, Opds, Operand, Parameters, Place, Post, RattleType}
-use Rattle.walks.proofs.Walk.{RefT, Room, Routine, SProp, Shares, ShrSlice, Sq, Stays, Tables, Triple, URA, Val, Vals}
-use Rattle.walks.proofs.Walk.{WpFn, _$_, _∵_, addr, agg, alloc0, alloc1, and-then, array-back, arrayVal, big-lit}
-use Rattle.walks.proofs.Walk.{by, by-walk, call, called, cited, done, emp, ends-at, ent, enter, entered, entry-out}
-use Rattle.walks.proofs.Walk.{factI, fat, feq, feqL, finally, flft, fmOf, frame, frees, from, froom, fsep, fsplit}
-use Rattle.walks.proofs.Walk.{full, fullShare, givenOf, group, held, id⊢, init, land, lands, lends-array, lit, look}
-use Rattle.walks.proofs.Walk.{move, named, needs, no-more, none, nothing, of-number, of-struct, onEntry, owned, params1}
-use Rattle.walks.proofs.Walk.{pass0, pass1, passed, qed, reborrows, ref-to, rep, repeats, returns, returns-to, room}
-use Rattle.walks.proofs.Walk.{runs, says, seq, sets, shared, slice-vals, sliceVal, stays-of, stop, suffices, tables}
-use Rattle.walks.proofs.Walk.{tablesOf, tripleOf, tyArray, tyInt, u16, u32, u8, uint-copy, uint-lawful, valued, via}
-use Rattle.walks.proofs.Walk.{vint, w32, walkOf, ‵, ⋆}
+use Rattle.walks.proofs.Walk.{ !, Args, Atoms, ByValue, Contract, Fml, Fun, GName, Given, Heap, Is, Lfts, Meets, Memory}
+use Rattle.walks.proofs.Walk.{MutSlice, Parameters, RattleType, RefT, Room, Routine, SProp, Shares, ShrSlice, Stays}
+use Rattle.walks.proofs.Walk.{Tables, Triple, URA, Val, Vals, WpFn, _$_, _∵_, addr, agg, alloc0, alloc1, and-then}
+use Rattle.walks.proofs.Walk.{array-back, big-lit, by, by-walk, called, cited, done, emp, ends-at, ent, enter, entered}
+use Rattle.walks.proofs.Walk.{entry-out, factI, feq, feqL, finally, flft, fmOf, frame, frees, from, fsep, fsplit, full}
+use Rattle.walks.proofs.Walk.{fullShare, givenOf, group, held, id⊢, init, land, lends-array, lit, look, move, named}
+use Rattle.walks.proofs.Walk.{needs, no-more, none, nothing, of-number, of-struct, onEntry, owned, params1, pass0}
+use Rattle.walks.proofs.Walk.{pass1, passed, qed, reborrows, ref-to, rep, repeats, returns, returns-to, room, says}
+use Rattle.walks.proofs.Walk.{sets, shared, slice-vals, sliceVal, stays-of, stop, suffices, tables, tablesOf, tripleOf}
+use Rattle.walks.proofs.Walk.{u16, u32, u8, uint-copy, uint-lawful, valued, via, w32, walkOf, ‵, ⋆}
 use denote.Struct.Laws as LL
 use Rattle.frames.specs.Frame.{maxNodes}
 use Rattle.states.specs.declared.State.{State}
@@ -59,6 +56,15 @@ stayed = stays-of 4 (fn.ended .signature .params) (fn.ended .kept) params
 -- where local j stands after k other entries, the last local first
 abbrev pos : ℕ → ℕ → ℕ
 pos k j = k + 2 * (16 - j)
+
+wide : Room u32 maxNodes
+wide = (omega arith, omega arith)
+
+wide-list : Room R maxNodes
+wide-list = (omega arith, omega arith)
+
+size : length zeros ≡ maxNodes
+size = length-replicate {A = ℕ} maxNodes 0
 
 -- the contracts that the proof cites
 module _ {M : Type 1} (𝓤 : URA M) (H : Heap 𝓤) (A : Atoms 𝓤) (mem : Memory → SProp 𝓤) (run : Routine → Fun 𝓤) where
@@ -137,18 +143,21 @@ module _ {M : Type 1} (𝓤 : URA M) (H : Heap 𝓤) (A : Atoms 𝓤) (W : Given
   abbrev Last : (T : RattleType) → RefT (List (T .Denot)) → List (T .Denot) → Fml
   Last T x ys = fsep (finally T (x .name) ys) (feq ℕ (length ys) (length (x .now)))
 
-  -- what `drive` is passed: the front of n zeros is the block f, the list of n entries e the block l, and ν and δ are
-  -- the lifetime and the name of a loan
-  abbrev to-drive : ℕ → ℕ → ℕ → State → ℕ → GName → ℕ → GName → Drive 𝓤 H A mem run .Ghost
-  to-drive n f l e νf δf νl δl = (
+  -- what `drive` is passed: the front is the block f, the list of entries e the block l, and ν and δ are the lifetime and
+  -- the name of a loan
+  abbrev to-drive : ℕ → ℕ → State → ℕ → GName → ℕ → GName → Drive 𝓤 H A mem run .Ghost
+  to-drive f l e νf δf νl δl = (
     (
       (κs .0, (κs .1 .0, (νf ∷ [], (νl ∷ [], κs .1 .1)))),
       (qs .0, (qs .1 .0, (fullShare, (fullShare, qs .1 .1)))),
       tt,
-      (r₀, (tb, (fm, (ref-to (f, 0) δf (zeros n), (ref-to (l, 0) δl (replicate n e), a .1 .1 .1))))),
+      (r₀, (tb, (fm, (ref-to (f, 0) δf zeros, (ref-to (l, 0) δl (replicate maxNodes e), a .1 .1 .1))))),
       (
         vN .val r₀ ∷ [],
-        (slice-vals tb, (slice-vals fm, (sliceVal (f, 0) n ∷ [], (sliceVal (l, 0) n ∷ [], at .1 .1 .1)))),
+        (
+          slice-vals tb,
+          (slice-vals fm, (sliceVal (f, 0) maxNodes ∷ [], (sliceVal (l, 0) maxNodes ∷ [], at .1 .1 .1))),
+        ),
       ),
     ),
     tt,
@@ -173,54 +182,6 @@ module _ {M : Type 1} (𝓤 : URA M) (H : Heap 𝓤) (A : Atoms 𝓤) (W : Given
   module _ (gt : Room u8 (length (tb .now))) (gf : Room u32 (length (fm .now))) (gv : Room u8 (length (vs .now)))
       (go : Room u16 (length (od .now))) (𝓣 : Tables 𝓤 H) (blanks : Triple 𝓤 (𝓣 .C #blank) (Blank 𝓤 H A mem run))
       (drives : Triple 𝓤 (𝓣 .C #drive) (Drive 𝓤 H A mem run)) where
-    -- the call of `drive` with a front of n zeros in the block f and a list of n entries e in the block l, which are
-    -- room afterwards
-    module _ (n f l : ℕ) (e : State) (e-is : Is R e (vS .val e ∷ [])) (atMost : n ≤ maxNodes)
-        (prepared : Prepared (tb .now) (fm .now) (zeros n) (replicate n e) (vs .now) (od .now) r₀) where
-      wide : Room u32 n
-      wide = (omega arith, omega arith)
-
-      wide-list : Room R n
-      wide-list = (omega arith, omega arith)
-
-      size : length (zeros n) ≡ n
-      size = length-replicate {A = ℕ} n 0
-
-      size-list : length (replicate n e) ≡ n
-      size-list = length-replicate {A = State} n e
-
-      drives-own : {Γ : List (Item 𝓤)} {E : Env 𝓤 H} {xs : List Operand} {d : Place} {rest : Body} {k : Post 𝓤 H}
-          → ((x y z : Item 𝓤) → Opds (Go {0}) W (x ∷ y ∷ z ∷ Γ) E xs
-          (vN .val r₀ ∷ sliceVal (tb .ptr) (length (tb .now)) ∷ sliceVal (fm .ptr) (length (fm .now))
-          ∷ sliceVal (f, 0) n ∷ sliceVal (l, 0) n ∷ sliceVal (vs .ptr) (length (vs .now))
-          ∷ sliceVal (od .ptr) (length (od .now)) ∷ []))
-          → ((r : Run) (ws : List ℕ) (es : List State) (ms ns : List ℕ) → Is N.the-row r (vN .val r ∷ [])
-          → Driven (tb .now) (zeros n) (replicate n e) (vs .now) (od .now) r₀
-          (record { front = ws; list = es; marks = ms; order = ns; run = r })
-          → Sq W (‵ (froom (tyArray (tyInt w32) n) f 0) ∷ ‵ (froom (tyArray S′.mir n) l 0) ∷ ‵ tokT ∷ ‵ tokF ∷ ‵ tokV
-          ∷ ‵ tokO ∷ ‵ (Last u8 vs ms) ∷ ‵ (Last u16 od ns) ∷ Γ) (lands (𝓣 .C) (𝓣 .Λ) E d (vN .val r) rest k))
-          → Sq W (‵ (fat fullShare (tyArray (tyInt w32) n) f 0 (arrayVal (replicate n (vint w32 0))))
-          ∷ ‵ (fat fullShare (tyArray S′.mir n) l 0 (arrayVal (replicate n (vS .val e)))) ∷ ‵ tokT ∷ ‵ tokF ∷ ‵ tokV
-          ∷ ‵ tokO ∷ ‵ Held ∷ ‵ Table ∷ ‵ Family ∷ ‵ Marks ∷ ‵ Order ∷ Γ)
-          (runs (𝓣 .C) (𝓣 .Λ) E (seq (call #drive xs d) rest) k)
-      drives-own os next =
-          lends-array u32 n 𝓤 H A W vU (uint-copy 𝓤 H A W w32) 0 (refl, lit< tt) ! tt tt refl (named 2) f wide (λ ν₁ δ₁.
-          move ! (3 ∷ []) $
-          lends-array R n 𝓤 H A W vS (LL.copy S.the-type S′.the-copy 𝓤 H A W) e e-is ! tt tt refl (named 3) l wide-list
-          (λ ν₂ δ₂.
-          -- [the list; ν₂; its lender's part; the front; ν₁; its lender's part; the tokens; the run; the table; …]
-          move ! (6 ∷ 7 ∷ 4 ∷ 1 ∷ 8 ∷ 9 ∷ 10 ∷ 11 ∷ 12 ∷ 3 ∷ 0 ∷ 13 ∷ 14 ∷ []) $
-          called W drive.ended (drive.clauses 𝓤 H A mem run) (to-drive n f l e ν₁ δ₁ ν₂ δ₂) vN
-          (λ r (_, (_, (_, (ws, (es, (ms, (ns, _))))))).
-          Driven (tb .now) (zeros n) (replicate n e) (vs .now) (od .now) r₀
-          (record { front = ws; list = es; marks = ms; order = ns; run = r })) (λ r ws. refl)
-          (fmOf 𝓤 H (W .laws) 𝓣) drives (factI 𝓤 _ (emp 𝓤) prepared) (os _ _ _)
-          (λ r (_, (_, (_, (ws, (es, (ms, (ns, _))))))) r-is driven.
-          -- [tokT; tokF; ν₁; ν₂; tokV; tokO; the last front, list, marks and order; two lenders' parts]
-          move ! (7 ∷ 3 ∷ 10 ∷ []) $ array-back R n 𝓤 H A W ! tt l ν₂ δ₂ es size-list $
-          move ! (6 ∷ 3 ∷ 9 ∷ []) $ array-back u32 n 𝓤 H A W ! tt f ν₁ δ₁ ws size $
-          next r ws es ms ns r-is driven)))
-
     walk : Is N.the-row r₀ (vN .val r₀ ∷ []) → PreparedOwn (tb .now) (fm .now) (vs .now) (od .now) r₀
         → ent 𝓤 (onEntry 𝓤 H A fn.signature κs qs a at) (WpFn 𝓤 H (𝓣 .C) (𝓣 .Λ) code.function
         (vN .val r₀ ∷ sliceVal (tb .ptr) (length (tb .now)) ∷ sliceVal (fm .ptr) (length (fm .now))
@@ -259,15 +220,28 @@ module _ {M : Type 1} (𝓤 : URA M) (H : Heap 𝓤) (A : Atoms 𝓤) (W : Given
         reborrows ! (pos 0 5) (pos 0 15) (pos 0 16) (go .0) (refl, refl, refl) (refl, refl) (refl, refl, refl) $
         -- [the locals; 34 ‥ 37: the tokens; the run; the table; the positions; the marks; the order]
         move ! (pos 0 7 ∷ pos 0 8 ∷ 34 ∷ 35 ∷ 36 ∷ 37 ∷ 38 ∷ 39 ∷ 40 ∷ 41 ∷ 42 ∷ []) $
-        drives-own maxNodes l₇ l₈ e e-is (omega arith)
-        (subst (λ x. Prepared (tb .now) (fm .now) (zeros maxNodes) (replicate maxNodes x) (vs .now) (od .now) r₀)
-        (sym blank-is) p)
-        (λ x y z.
-        and-then ! (held ! (pos 3 1 - 2) refl) (and-then ! (held ! (pos 3 2 - 2) refl)
+        lends-array u32 maxNodes 𝓤 H A W vU (uint-copy 𝓤 H A W w32) 0 (refl, lit< tt) ! tt tt refl (named 2) l₇ wide
+        (λ ν₁ δ₁. move ! (3 ∷ []) $
+        lends-array R maxNodes 𝓤 H A W vS (LL.copy S.the-type S′.the-copy 𝓤 H A W) e e-is ! tt tt refl (named 3) l₈
+        wide-list (λ ν₂ δ₂.
+        -- [the list; ν₂; its lender's part; the front; ν₁; its lender's part; the tokens; the run; the table; …]
+        move ! (6 ∷ 7 ∷ 4 ∷ 1 ∷ 8 ∷ 9 ∷ 10 ∷ 11 ∷ 12 ∷ 3 ∷ 0 ∷ 13 ∷ 14 ∷ []) $
+        called W drive.ended (drive.clauses 𝓤 H A mem run) (to-drive l₇ l₈ e ν₁ δ₁ ν₂ δ₂) vN
+        (λ r (_, (_, (_, (ws, (es, (ms, (ns, _))))))).
+        Driven (tb .now) zeros (replicate maxNodes e) (vs .now) (od .now) r₀
+        (record { front = ws; list = es; marks = ms; order = ns; run = r })) (λ r ws. refl)
+        (fmOf 𝓤 H (W .laws) 𝓣) drives
+        (factI 𝓤 _ (emp 𝓤) (subst (λ x. Prepared (tb .now) (fm .now) zeros (replicate maxNodes x) (vs .now) (od .now) r₀)
+        (sym blank-is) p))
+        (and-then ! (held ! (pos 3 1 - 2) refl) (and-then ! (held ! (pos 3 2 - 2) refl)
         (and-then ! (held ! (pos 3 3 - 2) refl) (and-then ! (held ! (pos 3 10) refl)
         (and-then ! (held ! (pos 3 12) refl) (and-then ! (held ! (pos 3 14) refl)
         (and-then ! (held ! (pos 3 16) refl) (no-more !))))))))
-        (λ r ws es ms ns r-is driven.
+        (λ r (_, (_, (_, (ws, (es, (ms, (ns, _))))))) r-is driven.
+        -- [tokT; tokF; ν₁; ν₂; tokV; tokO; the last front, list, marks and order; two lenders' parts; the locals]
+        move ! (7 ∷ 3 ∷ 10 ∷ []) $
+        array-back R maxNodes 𝓤 H A W ! tt l₈ ν₂ δ₂ es (length-replicate {A = State} maxNodes e) $
+        move ! (6 ∷ 3 ∷ 9 ∷ []) $ array-back u32 maxNodes 𝓤 H A W ! tt l₇ ν₁ δ₁ ws size $
         returns-to ! (pos 7 7 - 1) $ returns-to ! (pos 6 8) $
         land ! (from ! (stop !)) (init ! (pos 6 0) refl (vN .typed r r-is .0)) $ returns ! (look ! (pos 6 0) refl) $
         frees ! 6 (full (full (full (full (full (full (full (full (room (room (full (full (full (full (full (full
@@ -276,9 +250,9 @@ module _ {M : Type 1} (𝓤 : URA M) (H : Heap 𝓤) (A : Atoms 𝓤) (W : Given
           front = ws;
           list = es;
           driven =
-              subst (λ x. Driven (tb .now) (zeros maxNodes) (replicate maxNodes x) (vs .now) (od .now) r₀
+              subst (λ x. Driven (tb .now) zeros (replicate maxNodes x) (vs .now) (od .now) r₀
               (record { front = ws; list = es; marks = ms; order = ns; run = r })) blank-is driven;
-        })))))))))))))))))))))))
+        })))))))))))))))))))))))))
 
 module _ {M : Type 1} (𝓤 : URA M) (H : Heap 𝓤) (A : Atoms 𝓤) (W : Given 𝓤 H A) (mem : Memory → SProp 𝓤)
     (run : Routine → Fun 𝓤) (𝓣 : Tables 𝓤 H) (blanks : Triple 𝓤 (𝓣 .C #blank) (Blank 𝓤 H A mem run))

@@ -7,7 +7,7 @@ use Rattle.frames.specs.Frame.{maxNodes, frames}
 use Rattle.positions.specs.Buffer.{written}
 use Rattle.states.specs.declared.State.{State}
 use Rattle.states.specs.Entry.{blank}
-use Rattle.sss.proofs.Starting.{zeros, zeros-workable, prepared-at}
+use Rattle.sss.proofs.Starting.{zeros, zeros-sound, prepared-at}
 use Rattle.sss.proofs.Own.{own-asks, own-gives}
 use Rattle.sss.proofs.find.Statement.{statement}
 use Rattle.sss.proofs.find.Tie as tie
@@ -41,10 +41,10 @@ drive-own-requires c κs =
     let p = start k .pre in
     let wf = p .0 .0 in
     let t = start k .args .table .now in
-    let sound = zeros-workable t maxNodes (λ w. w .atMost) (omega arith) wf .1 in
     rw (c .before .before .begun .ensures, cleared k)
-    (prepared-at maxNodes t _ _ (zeros maxNodes) _ wf
-    (omega (arith, wf .atMost, length-replicate {A = State} maxNodes blank)) (p .1 .0) (p .1 .1) sound _ (p .0 .1))
+    (prepared-at maxNodes t _ _ zeros _ wf
+    (omega (arith, wf .atMost, length-replicate {A = State} maxNodes blank)) (p .1 .0) (p .1 .1) (zeros-sound t wf) _
+    (p .0 .1))
 
 found-alone-requires : tie.Need-found-alone-requires
 found-alone-requires c κs =

@@ -1,5 +1,5 @@
 -- What a search starts with: its questions, and the run, the positions and the marks that follow from the answers.
-use Prim.Native.Nat.{ℕ, _≤_}
+use Prim.Native.Nat.{ℕ}
 use mathlib.Core.Path.{_≡_}
 use mathlib.Core.Option.{Option, none, some}
 use mathlib.Core.List.{List, [], _∷_}
@@ -9,7 +9,6 @@ use Rattle.frames.specs.declared.Rejection.{Rejection}
 use Rattle.frames.specs.declared.Checked.{Checked}
 use Rattle.frames.specs.declared.Checked.the-variants.{Nodes, Rejected}
 use Rattle.frames.specs.Frame.{frames}
-use Rattle.frames.specs.Formed.{WellFormed}
 use Rattle.frames.specs.Rejection.{answer}
 use Rattle.positions.specs.Buffer.{written}
 use Rattle.certificate.specs.Search.{searchRejection}
@@ -20,16 +19,11 @@ use Rattle.turns.specs.declared.Stage.{Stage}
 use Rattle.turns.specs.declared.Stage.the-variants.{Going, Finished}
 use Rattle.turns.specs.declared.Run.{Run}
 use Rattle.positions.specs.engine.Positions.{positionEntry}
-use Rattle.states.specs.engine.Kept.{Sound}
 use Rattle.turns.specs.engine.Update.{ofChange}
 
 -- the first "no" to questions 1 to 10, for buffers of these sizes and the marks b
 abbrev pub startRejection : List ℕ → Sizes → List ℕ → Option Rejection
 startRejection t n b = searchRejection t (n .entries ∷ length b ∷ n .flags ∷ n .order ∷ [])
-
--- what a search asks of its work arrays, if the table is well formed: room for the positions, and a sound front
-abbrev pub Workable : (t F w : List ℕ) → Type 0
-Workable t F w = WellFormed t → (frames t ≤ length F) × Sound t w
 
 -- nothing is counted yet, and a leaves may be evaluated
 abbrev pub noCounts : (a : ℕ) → Counts
