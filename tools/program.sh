@@ -21,7 +21,7 @@ is_current() {
     done
 }
 
-# The crates that the program needs; crates.txt lists each behind those that it needs itself.
+# The crates that the program needs; crates.txt lists each after those that it needs itself.
 needed() {
     sed 's/#.*//; /:/!d; s/:/ /' "$root/crates.txt" | awk -v name="$name" '
         { line[NR] = $0 }

@@ -4,17 +4,18 @@
  *
  * The library needs memcpy and memset and nothing else: no heap, no file, no thread, no state of its own, so any number
  * of threads may call it at once. It is compiled for x86-64, System V. The Rattle source of each call, with its proved
- * contract, is crates/buulset/src/lib.rt; no proof covers this header: bindings/declarations.py holds it to the source.
+ * contract, is crates/buulset/src/lib.rt. No proof covers this header; bindings/declarations.py compares it with the
+ * source.
  *
  * WHAT A CALL DOES. It takes any bytes and any lengths, ends, and gives a result or one refusal: there is nothing to
  * test before a call. After a refusal every lent buffer is as it was. After a result, what lies past the part that the
  * call writes keeps its contents.
  *
- * WHAT A CALLER OWES is what C asks of every function over buffers: `x_len` entries stand behind `x` (a null pointer
- * with length 0 is taken), and a buffer that is written overlaps no other argument.
+ * WHAT A CALLER MUST DO is what C demands of every function over buffers: `x` points to `x_len` entries (with length 0
+ * it may be null), and a buffer that is written overlaps no other argument.
  *
  * STACK, in thousands of bytes, the most over small, deep and large trees (bindings/c/stack.c measures it). Give a
- * thread 256: no call takes the heap instead, and none looks whether its stack is enough.
+ * thread 256: no call uses the heap instead, and none checks whether its stack suffices.
  *
  *     report       130    least_value  54    convert        25    verify   17
  *     sss           99    alphabeta    51    read           25    shorter  17
@@ -35,8 +36,8 @@ extern "C" {
 #endif
 
 /* The version of this header: 10,000 times the major, 100 times the minor, and the patch number. The major number is
- * raised by every change that a program compiled against an older header would not survive; compare it with that of the
- * library that is linked: buulset_version() / 10000 == BUULSET_VERSION / 10000. */
+ * raised by every change that would break a program compiled against an older header; compare it with that of the
+ * linked library: buulset_version() / 10000 == BUULSET_VERSION / 10000. */
 #define BUULSET_VERSION 10100
 
 /* SIZES */
@@ -53,13 +54,13 @@ extern "C" {
 
 #define BUULSET_MAX_VALUE 32000   /* a leaf holds -32,000 to 32,000 */
 #define BUULSET_WIN 31000         /* from here up a value is a win, and from -31,000 down a loss */
-#define BUULSET_NOTHING_YET 32001 /* the merit of a run that was stopped before it evaluated a leaf */
+#define BUULSET_NOTHING_YET 32001 /* the merit of a run that was stopped before it had a bound */
 
 /* THE QUESTIONS: what `refused` says. docs/SPEC.md, section 4, has each with its place. */
 enum {
     BUULSET_EMPTY = 1,             /* there is no byte */
     BUULSET_TOO_LONG = 2,          /* more bytes than a file or a table may have */
-    BUULSET_NOT_WHOLE = 3,         /* a line is not twelve digits; bytes are left over behind the last frame */
+    BUULSET_NOT_WHOLE = 3,         /* a line is not twelve digits; bytes are left over after the last frame */
     BUULSET_WRONG_BYTE_3 = 4,      /* byte 3 is neither 0, nor 1 on an inner node other than the root */
     BUULSET_TOO_MANY_CHILDREN = 5, /* more than 40 */
     BUULSET_WRONG_FIRST_CHILD = 6, /* not 1 plus the child counts of all nodes before; not 0 on a leaf */
@@ -89,7 +90,7 @@ enum { BUULSET_IN_MAX = 1, BUULSET_IN_MIN = 2, BUULSET_IN_BOTH = 3 };
  * `place` is its place (a node, a line, or 0), and every other member is 0. A member that a call does not give is 0. */
 typedef struct buulset_answer {
     uint8_t refused;
-    uint8_t spent; /* sss: 1 where the allowance ended the run */
+    uint8_t spent; /* sss: 1 if the allowance stopped the run */
     int16_t value; /* the root's value (a win counts less the deeper it lies: README.md, "What it prints") */
     int32_t merit; /* sss, spent: the root's value is at most this; 32,001 says nothing yet */
     size_t place;
@@ -121,7 +122,7 @@ typedef struct buulset_line {
     size_t at;
 } buulset_line;
 
-/* A text: `length` bytes, and zeros behind them, so it is a C string too. */
+/* A text: `length` bytes, then zeros, so it is a C string too. */
 typedef struct buulset_text {
     uint8_t bytes[BUULSET_TEXT_SIZE];
     size_t length;
@@ -205,7 +206,7 @@ buulset_choice buulset_shorter(const uint8_t *table, size_t table_len, const uin
 
 /* TREES */
 
-/* Puts the second tree in the place of a leaf of the first where Max would move, and writes the result's table. Gives
+/* Puts the second tree in place of a leaf of the first where Max would move, and writes the result's table. Gives
  * count: its nodes. */
 buulset_answer buulset_graft(const uint8_t *first, size_t first_len, size_t node, const uint8_t *second,
                              size_t second_len, uint8_t *BUULSET_RESTRICT result, size_t result_len);

@@ -25,7 +25,7 @@ pub fn refused(name: &OsStr, file: &[u8], refusal: Refusal) -> Made {
 
 /// How the run goes.
 pub struct How {
-    /// Each result stands behind a line with its name.
+    /// Each result follows a line with its name.
     pub named: bool,
     /// Neither hints nor progress nor a summary.
     pub quiet: bool,
@@ -81,7 +81,7 @@ fn in_order(names: &[OsString], how: &How, results: mpsc::Receiver<Numbered>, ta
         while let Some(result) = waiting.remove(&next) {
             progress.clear_before(&result);
             if !how.quiet && !matches!(result, Ok(Made { refused: None, .. })) {
-                // what is said of a file stands behind what was printed of those before it
+                // what is said of a file comes after what was printed of those before it
                 files::print(&out)?;
                 out.clear();
             }

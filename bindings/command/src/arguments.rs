@@ -1,4 +1,4 @@
-//! The words behind a command: files and numbers by their place, and options.
+//! The words after a command: files and numbers by their place, and options.
 use crate::{help, Failure};
 use std::ffi::{OsStr, OsString};
 use std::fmt::Display;
@@ -11,8 +11,8 @@ pub struct Arguments {
 }
 
 impl Arguments {
-    /// Takes the words apart. An option of `flags` stands alone, one of `valued` has a value behind it or behind `=`.
-    /// A word that is `-`, or a negative number, or stands behind `--`, is no option.
+    /// Takes the words apart. An option of `flags` stands alone, one of `valued` has a value after it or after `=`.
+    /// A word that is `-`, or a negative number, or comes after `--`, is no option.
     pub fn new(
         command: &'static str,
         words: Vec<OsString>,

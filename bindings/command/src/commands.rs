@@ -65,7 +65,7 @@ fn named_tree(name: &OsStr, shown: &str) -> Result<Tree, Failure> {
     Tree::from_file(&file).map_err(|refusal| Failure::Refused(refusal, hints::tree(name, shown, &file, refusal)))
 }
 
-/// The refusal of a call, of which `what` says what was asked.
+/// The refusal of a call; `what` says what was asked.
 fn refused(what: String) -> impl FnOnce(Refusal) -> Failure {
     move |refusal| Failure::Refused(refusal, hints::other(&what, refusal))
 }

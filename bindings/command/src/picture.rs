@@ -21,7 +21,7 @@ const LEFT: f64 = 40.0;
 const STEP: f64 = 92.0;
 const DEEP_STEP: f64 = 60.0;
 const DEEP: usize = 10;
-/// Room behind a node for the box with its number in the order, and behind the start of a stub.
+/// Room after a node for the box with its number in the order, and after the start of a stub.
 const BEHIND: f64 = 60.0;
 const AWAY: f64 = 16.0;
 const NARROWEST: f64 = 620.0;
@@ -57,7 +57,7 @@ path.f3{stroke:#5b3f8c;stroke-width:3.6}\
 .k{fill:#eef0f4;stroke:#8a919e;stroke-width:.8}\
 .r{font-size:9px;text-anchor:middle}";
 
-/// What stands in a row: a leaf, or neighbours of which nothing was evaluated.
+/// What stands in a row: a leaf, or neighbours that were all passed over.
 struct Stub {
     first: usize,
     last: usize,

@@ -113,7 +113,7 @@ pub struct Found {
     pub steps: usize,
 }
 
-/// Where its allowance ended a run of SSS*.
+/// Where its allowance stopped a run of SSS*.
 #[derive(Clone, Copy, PartialEq, Eq, Debug)]
 pub struct Spent {
     /// An upper bound of the root's value; 32,001 says nothing yet.
@@ -129,7 +129,7 @@ pub struct Spent {
 pub enum Within {
     /// The run ended by itself.
     Found(Found),
-    /// Its allowance ended it.
+    /// Its allowance stopped it.
     Spent(Spent),
 }
 
@@ -352,7 +352,7 @@ pub fn shorter<'a>(table: &[u8], first: &'a [u8], second: &'a [u8]) -> Result<&'
     }
 }
 
-/// Puts the second tree in the place of a leaf of the first where Max would move, writes the result's table, and gives
+/// Puts the second tree in place of a leaf of the first where Max would move, writes the result's table, and gives
 /// its number of nodes. The first table is questioned before the second.
 pub fn graft(first: &[u8], node: usize, second: &[u8], result: &mut [u8]) -> Result<usize, Refusal> {
     answered(ffi::graft(first, node, second, result)).map(|a| a.count)

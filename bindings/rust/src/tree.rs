@@ -31,7 +31,7 @@ pub struct Search {
     pub order: Vec<u16>,
 }
 
-/// What is known where its allowance ended a run of SSS*.
+/// What is known if its allowance stopped a run of SSS*.
 #[derive(Clone, PartialEq, Eq, Debug)]
 pub struct Stopped {
     /// The merit and the counts so far.
@@ -157,7 +157,7 @@ impl Tree {
         shorter(&self.table, first, second)
     }
 
-    /// The tree with another in the place of a leaf where Max would move.
+    /// The tree with another in place of a leaf where Max would move.
     pub fn graft(&self, node: usize, other: &Tree) -> Result<Tree, Refusal> {
         let mut table = vec![0; (self.table.len() + other.table.len()).min(MAX_TABLE)];
         let nodes = graft(&self.table, node, &other.table, &mut table)?;
