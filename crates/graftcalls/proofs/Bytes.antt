@@ -5,7 +5,7 @@ use native.Mathlib.Omega.{arith}
 use native.Mathlib.Nat.{mul-le-mul-right}
 use borrow.Author.Tests.{lt-ltb, le-ltb, eq-eqb, ne-eqb}
 use Rattle.hex.specs.Digit.{capitalOf}
-use Rattle.lines.specs.Line.{lineSize, lineDigits, lineFeed}
+use Rattle.lines.specs.Line.{lineDigits, lineFeed}
 use Rattle.graftcalls.specs.Levels.{innerByte, leafByte, frameByte, lineByte}
 
 -- a first child has two bytes

@@ -1,13 +1,13 @@
 -- A graft of two trees of one file, step by step as the code makes it.
-use Prim.Native.Nat.{ℕ, _*_, _≤_, min}
-use mathlib.Core.Path.{_≡_, refl, sym, ap, subst, _∙_}
+use Prim.Native.Nat.{ℕ, _*_, min}
+use mathlib.Core.Path.{_≡_, ap, subst}
 use mathlib.Core.List.{List}
 use lib.ListN.{length, take, drop, replicate}
 use Rattle.frames.specs.declared.Checked.{Checked}
 use Rattle.lines.specs.Line.{lineSize}
 use Rattle.reader.specs.File.{tableAfter}
 use Rattle.writer.specs.Write.{writeOutcome}
-use Rattle.graft.specs.Outcome.{GraftResult, graftOutcome}
+use Rattle.graft.specs.Outcome.{graftOutcome}
 use Rattle.tablecalls.specs.Sizes.{framesSize}
 use Rattle.tablecalls.specs.Buffers.{tableRoom, filledWith, front}
 use Rattle.graftcalls.specs.Grafts.{tableOf, graftResult, graftSaved, graftingSaved, SavedAs}

@@ -4,27 +4,6 @@ use borrow.Author.Needs.{needs}
 use Rattle.searchcalls.proofs.print_listed.Statement.{statement}
 use Rattle.searchcalls.proofs.print_listed.Tie as tie
 
-slice-aggregate-count-entries : tie.Need-slice-aggregate-count-entries
-slice-aggregate-count-entries c = search needs
-
-count-entries-requires : tie.Need-count-entries-requires
-count-entries-requires c κs = search needs
-
-array-borrow-prefix-order : tie.Need-array-borrow-prefix-order
-array-borrow-prefix-order c = search needs
-
-slice-aggregate-print-lent : tie.Need-slice-aggregate-print-lent
-slice-aggregate-print-lent c = search needs
-
-print-lent-requires : tie.Need-print-lent-requires
-print-lent-requires c κs = search needs
-
-same-length : tie.Need-same-length
-same-length c = search needs
-
-same-length-2 : tie.Need-same-length-2
-same-length-2 c = search needs
-
 returns : tie.Need-returns
 returns c =
     let n = c .before .before .before .before .before .before .before .before .before .count-entries .ensures .1 in
@@ -33,13 +12,5 @@ returns c =
 
 pub print-listed-spec : {M : Type 1} → statement M
 print-listed-spec =
-    tie.close
-    (tie.spec
-    slice-aggregate-count-entries
-    count-entries-requires
-    array-borrow-prefix-order
-    slice-aggregate-print-lent
-    print-lent-requires
-    same-length
-    same-length-2
-    returns)
+    tie.close (tie.spec (λ c. search needs) (λ c κs. search needs) (λ c. search needs) (λ c. search needs)
+    (λ c κs. search needs) (λ c. search needs) (λ c. search needs) returns)

@@ -7,42 +7,6 @@ use borrow.Author.Needs.{needs}
 use Rattle.graftcalls.proofs.grafts.print_grafted.Statement.{statement}
 use Rattle.graftcalls.proofs.grafts.print_grafted.Tie as tie
 
-graft-requires : tie.Need-graft-requires
-graft-requires c κs = search needs
-
-slice-aggregate-print-checked : tie.Need-slice-aggregate-print-checked
-slice-aggregate-print-checked c = search needs
-
-print-checked-requires : tie.Need-print-checked-requires
-print-checked-requires c κs = search needs
-
-slice-aggregate-print-bytes : tie.Need-slice-aggregate-print-bytes
-slice-aggregate-print-bytes c = search needs
-
-print-bytes-requires : tie.Need-print-bytes-requires
-print-bytes-requires c κs = search needs
-
-frames-size-requires : tie.Need-frames-size-requires
-frames-size-requires c κs = search needs
-
-fitted-requires : tie.Need-fitted-requires
-fitted-requires c κs = search needs
-
-slice-reshare-prefix-save : tie.Need-slice-reshare-prefix-save
-slice-reshare-prefix-save c = search needs
-
-slice-aggregate-save : tie.Need-slice-aggregate-save
-slice-aggregate-save c = search needs
-
-save-requires : tie.Need-save-requires
-save-requires c κs = search needs
-
-same-length : tie.Need-same-length
-same-length c = search needs
-
-same-length-2 : tie.Need-same-length-2
-same-length-2 c = search needs
-
 returns : tie.Need-returns
 returns c =
     let p = c .before .before .before .before .before in
@@ -65,18 +29,6 @@ returns c =
 
 pub print-grafted-spec : {M : Type 1} → statement M
 print-grafted-spec =
-    tie.close
-    (tie.spec
-    graft-requires
-    slice-aggregate-print-checked
-    print-checked-requires
-    slice-aggregate-print-bytes
-    print-bytes-requires
-    frames-size-requires
-    fitted-requires
-    slice-reshare-prefix-save
-    slice-aggregate-save
-    save-requires
-    same-length
-    same-length-2
-    returns)
+    tie.close (tie.spec (λ c κs. search needs) (λ c. search needs) (λ c κs. search needs) (λ c. search needs)
+    (λ c κs. search needs) (λ c κs. search needs) (λ c κs. search needs) (λ c. search needs) (λ c. search needs)
+    (λ c κs. search needs) (λ c. search needs) (λ c. search needs) returns)

@@ -10,48 +10,6 @@ use borrow.Author.Needs.{needs}
 use Rattle.graftcalls.proofs.grafts.print_grafting.Statement.{statement}
 use Rattle.graftcalls.proofs.grafts.print_grafting.Tie as tie
 
-mul-fitted : tie.Need-mul-fitted
-mul-fitted c = search needs
-
-fitted-requires : tie.Need-fitted-requires
-fitted-requires c κs = search needs
-
-slice-aggregate-read : tie.Need-slice-aggregate-read
-slice-aggregate-read c = search needs
-
-slice-aggregate-read-2 : tie.Need-slice-aggregate-read-2
-slice-aggregate-read-2 c = search needs
-
-read-requires : tie.Need-read-requires
-read-requires c κs = search needs
-
-slice-aggregate-fitted : tie.Need-slice-aggregate-fitted
-slice-aggregate-fitted c = search needs
-
-fitted-requires-2 : tie.Need-fitted-requires-2
-fitted-requires-2 c κs = search needs
-
-array-share-prefix-first : tie.Need-array-share-prefix-first
-array-share-prefix-first c = search needs
-
-slice-aggregate-print-onto : tie.Need-slice-aggregate-print-onto
-slice-aggregate-print-onto c = search needs
-
-sub-print-onto : tie.Need-sub-print-onto
-sub-print-onto c = search needs
-
-part-print-onto-start : tie.Need-part-print-onto-start
-part-print-onto-start c = search needs
-
-part-print-onto-end : tie.Need-part-print-onto-end
-part-print-onto-end c = search needs
-
-print-onto-requires : tie.Need-print-onto-requires
-print-onto-requires c κs = search needs
-
-same-length : tie.Need-same-length
-same-length c = search needs
-
 returns : tie.Need-returns
 returns c =
     let p′ = c .before .before .before .before .before in
@@ -70,20 +28,6 @@ returns c =
 
 pub print-grafting-spec : {M : Type 1} → statement M
 print-grafting-spec =
-    tie.close
-    (tie.spec
-    mul-fitted
-    fitted-requires
-    slice-aggregate-read
-    slice-aggregate-read-2
-    read-requires
-    slice-aggregate-fitted
-    fitted-requires-2
-    array-share-prefix-first
-    slice-aggregate-print-onto
-    sub-print-onto
-    part-print-onto-start
-    part-print-onto-end
-    print-onto-requires
-    same-length
-    returns)
+    tie.close (tie.spec (λ c. search needs) (λ c κs. search needs) (λ c. search needs) (λ c. search needs)
+    (λ c κs. search needs) (λ c. search needs) (λ c κs. search needs) (λ c. search needs) (λ c. search needs)
+    (λ c. search needs) (λ c. search needs) (λ c. search needs) (λ c κs. search needs) (λ c. search needs) returns)

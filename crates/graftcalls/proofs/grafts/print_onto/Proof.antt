@@ -4,30 +4,6 @@ use borrow.Author.Needs.{needs}
 use Rattle.graftcalls.proofs.grafts.print_onto.Statement.{statement}
 use Rattle.graftcalls.proofs.grafts.print_onto.Tie as tie
 
-slice-aggregate-read : tie.Need-slice-aggregate-read
-slice-aggregate-read c = search needs
-
-read-requires : tie.Need-read-requires
-read-requires c κs = search needs
-
-slice-aggregate-fitted : tie.Need-slice-aggregate-fitted
-slice-aggregate-fitted c = search needs
-
-fitted-requires : tie.Need-fitted-requires
-fitted-requires c κs = search needs
-
-array-share-prefix-second : tie.Need-array-share-prefix-second
-array-share-prefix-second c = search needs
-
-slice-aggregate-print-in : tie.Need-slice-aggregate-print-in
-slice-aggregate-print-in c = search needs
-
-print-in-requires : tie.Need-print-in-requires
-print-in-requires c κs = search needs
-
-same-length : tie.Need-same-length
-same-length c = search needs
-
 returns : tie.Need-returns
 returns c =
     let p′ = c .before .before .before .before .before in
@@ -41,14 +17,5 @@ returns c =
 
 pub print-onto-spec : {M : Type 1} → statement M
 print-onto-spec =
-    tie.close
-    (tie.spec
-    slice-aggregate-read
-    read-requires
-    slice-aggregate-fitted
-    fitted-requires
-    array-share-prefix-second
-    slice-aggregate-print-in
-    print-in-requires
-    same-length
-    returns)
+    tie.close (tie.spec (λ c. search needs) (λ c κs. search needs) (λ c. search needs) (λ c κs. search needs)
+    (λ c. search needs) (λ c. search needs) (λ c κs. search needs) (λ c. search needs) returns)

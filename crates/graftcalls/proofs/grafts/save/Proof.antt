@@ -7,18 +7,6 @@ use borrow.Author.Needs.{needs}
 use Rattle.graftcalls.proofs.grafts.save.Statement.{statement}
 use Rattle.graftcalls.proofs.grafts.save.Tie as tie
 
-write-requires : tie.Need-write-requires
-write-requires c κs = search needs
-
-length-given-requires : tie.Need-length-given-requires
-length-given-requires c κs = search needs
-
-fitted-requires : tie.Need-fitted-requires
-fitted-requires c κs = search needs
-
-same-length : tie.Need-same-length
-same-length c = search needs
-
 returns : tie.Need-returns
 returns c =
     let w = c .before .before .before .before .before .write in
@@ -28,4 +16,5 @@ returns c =
 
 pub save-spec : {M : Type 1} → statement M
 save-spec =
-    tie.close (tie.spec write-requires length-given-requires fitted-requires same-length returns)
+    tie.close (tie.spec (λ c κs. search needs) (λ c κs. search needs) (λ c κs. search needs) (λ c. search needs)
+    returns)

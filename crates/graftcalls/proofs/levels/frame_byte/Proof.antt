@@ -25,9 +25,6 @@ returns c =
     let a = c .before .before .args in
     c .inner-byte .ensures ∙ sym (frame-inner (a .width) (a .inner) (a .node) (a .at) (omega arith))
 
-leaf-byte-requires : tie.Need-leaf-byte-requires
-leaf-byte-requires c κs = search needs
-
 returns-2 : tie.Need-returns-2
 returns-2 c =
     let a = c .before .before .args in
@@ -35,11 +32,4 @@ returns-2 c =
 
 pub frame-byte-spec : {M : Type 1} → statement M
 frame-byte-spec =
-    tie.close
-    (tie.spec
-    mul-inner-byte
-    add-inner-byte
-    inner-byte-requires
-    returns
-    leaf-byte-requires
-    returns-2)
+    tie.close (tie.spec mul-inner-byte add-inner-byte inner-byte-requires returns (λ c κs. search needs) returns-2)

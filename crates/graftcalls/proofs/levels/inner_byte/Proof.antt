@@ -6,20 +6,8 @@ use borrow.Author.Needs.{needs}
 use Rattle.graftcalls.proofs.levels.inner_byte.Statement.{statement}
 use Rattle.graftcalls.proofs.levels.inner_byte.Tie as tie
 
-cast-result : tie.Need-cast-result
-cast-result c = search needs
-
-returns : tie.Need-returns
-returns c = sym (inner-0 _ _ (c .before .args .at) (omega arith))
-
-cast-result-2 : tie.Need-cast-result-2
-cast-result-2 c = search needs
-
 returns-2 : tie.Need-returns-2
 returns-2 c = sym (inner-1 _ _ (c .before .before .args .at) (λ e. absurd (omega (arith, e))) (omega arith))
-
-cast-result-3 : tie.Need-cast-result-3
-cast-result-3 c = search needs
 
 returns-3 : tie.Need-returns-3
 returns-3 c =
@@ -34,5 +22,5 @@ returns-4 c =
 
 pub inner-byte-spec : {M : Type 1} → statement M
 inner-byte-spec =
-    tie.close
-    (tie.spec cast-result returns cast-result-2 returns-2 cast-result-3 returns-3 returns-4)
+    tie.close (tie.spec (λ c. search needs) (λ c. sym (inner-0 _ _ (c .before .args .at) (omega arith)))
+    (λ c. search needs) returns-2 (λ c. search needs) returns-3 returns-4)

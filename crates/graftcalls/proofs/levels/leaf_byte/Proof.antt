@@ -6,15 +6,6 @@ use borrow.Author.Needs.{needs}
 use Rattle.graftcalls.proofs.levels.leaf_byte.Statement.{statement}
 use Rattle.graftcalls.proofs.levels.leaf_byte.Tie as tie
 
-cast-result : tie.Need-cast-result
-cast-result c = search needs
-
-returns : tie.Need-returns
-returns c = sym (leaf-4 _ (c .before .args .at) (omega arith))
-
-cast-result-2 : tie.Need-cast-result-2
-cast-result-2 c = search needs
-
 returns-2 : tie.Need-returns-2
 returns-2 c = sym (leaf-5 _ (c .before .before .args .at) (λ e. absurd (omega (arith, e))) (omega arith))
 
@@ -24,4 +15,6 @@ returns-3 c =
     sym (leaf-rest _ (a .at) (λ e. absurd (omega (arith, e))) (λ e. absurd (omega (arith, e))))
 
 pub leaf-byte-spec : {M : Type 1} → statement M
-leaf-byte-spec = tie.close (tie.spec cast-result returns cast-result-2 returns-2 returns-3)
+leaf-byte-spec =
+    tie.close (tie.spec (λ c. search needs) (λ c. sym (leaf-4 _ (c .before .args .at) (omega arith)))
+    (λ c. search needs) returns-2 returns-3)

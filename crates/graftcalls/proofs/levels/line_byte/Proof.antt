@@ -13,20 +13,11 @@ returns c =
     let a = c .before .args in
     sym (line-end (a .width) (a .inner) (a .node) (a .column) (omega arith))
 
-frame-byte-requires : tie.Need-frame-byte-requires
-frame-byte-requires c κs = search needs
-
-capital-requires : tie.Need-capital-requires
-capital-requires c κs = search needs
-
 returns-2 : tie.Need-returns-2
 returns-2 c =
     let a = c .before .before .before .before .args in
     c .capital .ensures ∙ ap (λ b. capitalOf (b / 16)) (c .before .before .frame-byte .ensures)
     ∙ sym (line-high (a .width) (a .inner) (a .node) (a .column) (λ e. absurd (omega (arith, e))) (omega arith))
-
-capital-requires-2 : tie.Need-capital-requires-2
-capital-requires-2 c κs = search needs
 
 returns-3 : tie.Need-returns-3
 returns-3 c =
@@ -37,5 +28,5 @@ returns-3 c =
 
 pub line-byte-spec : {M : Type 1} → statement M
 line-byte-spec =
-    tie.close
-    (tie.spec returns frame-byte-requires capital-requires returns-2 capital-requires-2 returns-3)
+    tie.close (tie.spec returns (λ c κs. search needs) (λ c κs. search needs) returns-2 (λ c κs. search needs)
+    returns-3)

@@ -18,32 +18,11 @@ Inv-loop file₀ width inner nodes i₀ i-end file i =
 abbrev μ-loop : tie.MeasureT-loop
 μ-loop file₀ width inner nodes i₀ i-end file i = i-end - i
 
-mul-i-end : tie.Need-mul-i-end Inv-loop μ-loop
-mul-i-end c = search needs
-
-loop-holds : tie.Need-loop-holds Inv-loop μ-loop
-loop-holds c = (omega arith, refl, each-none _ _)
-
-line-byte-requires : tie.Need-line-byte-requires Inv-loop μ-loop
-line-byte-requires c κs = search needs
-
-slice-write-file : tie.Need-slice-write-file Inv-loop μ-loop
-slice-write-file c = search needs
-
-add-i : tie.Need-add-i Inv-loop μ-loop
-add-i c = search needs
-
-loop-less : tie.Need-loop-less Inv-loop μ-loop
-loop-less c = search needs
-
 loop-again : tie.Need-loop-again Inv-loop μ-loop
 loop-again c =
     let l = c .before .before .loop in
     let next = each-next _ _ _ (l .i) _ (omega arith) (l .inv .2) (c .line-byte .ensures) in
     (omega arith, simp length-set (omega arith), next)
-
-same-length : tie.Need-same-length Inv-loop μ-loop
-same-length c = search needs
 
 returns : tie.Need-returns Inv-loop μ-loop
 returns c =
@@ -53,16 +32,6 @@ returns c =
 
 pub write-tree-spec : {M : Type 1} → statement M
 write-tree-spec =
-    tie.close
-    (tie.spec
-    Inv-loop
-    μ-loop
-    mul-i-end
-    loop-holds
-    line-byte-requires
-    slice-write-file
-    add-i
-    loop-less
-    loop-again
-    same-length
+    tie.close (tie.spec Inv-loop μ-loop (λ c. search needs) (λ c. (omega arith, refl, each-none _ _))
+    (λ c κs. search needs) (λ c. search needs) (λ c. search needs) (λ c. search needs) loop-again (λ c. search needs)
     returns)

@@ -6,21 +6,6 @@ use borrow.Author.Needs.{needs}
 use Rattle.graftcalls.proofs.made.make_file.Statement.{statement}
 use Rattle.graftcalls.proofs.made.make_file.Tie as tie
 
-mul-nodes : tie.Need-mul-nodes
-mul-nodes c = search needs
-
-add-nodes : tie.Need-add-nodes
-add-nodes c = search needs
-
-write-tree-requires : tie.Need-write-tree-requires
-write-tree-requires c κs = search needs
-
-mul-result : tie.Need-mul-result
-mul-result c = search needs
-
-same-length : tie.Need-same-length
-same-length c = search needs
-
 returns : tie.Need-returns
 returns c =
     let w = c .before .before .write-tree .ensures in
@@ -28,4 +13,5 @@ returns c =
 
 pub make-file-spec : {M : Type 1} → statement M
 make-file-spec =
-    tie.close (tie.spec mul-nodes add-nodes write-tree-requires mul-result same-length returns)
+    tie.close (tie.spec (λ c. search needs) (λ c. search needs) (λ c κs. search needs) (λ c. search needs)
+    (λ c. search needs) returns)

@@ -9,27 +9,6 @@ use borrow.Author.Needs.{needs}
 use Rattle.graftcalls.proofs.made.make_table.Statement.{statement}
 use Rattle.graftcalls.proofs.made.make_table.Tie as tie
 
-large-buffer-requires : tie.Need-large-buffer-requires
-large-buffer-requires c κs = search needs
-
-slice-aggregate-make-file : tie.Need-slice-aggregate-make-file
-slice-aggregate-make-file c = search needs
-
-make-file-requires : tie.Need-make-file-requires
-make-file-requires c κs = search needs
-
-array-share-prefix-file : tie.Need-array-share-prefix-file
-array-share-prefix-file c = search needs
-
-slice-aggregate-read-table : tie.Need-slice-aggregate-read-table
-slice-aggregate-read-table c = search needs
-
-read-table-requires : tie.Need-read-table-requires
-read-table-requires c κs = search needs
-
-same-length : tie.Need-same-length
-same-length c = search needs
-
 returns : tie.Need-returns
 returns c =
     let a = c .before .before .before .before .before .before .before .before .before .before .args in
@@ -43,13 +22,5 @@ returns c =
 
 pub make-table-spec : {M : Type 1} → statement M
 make-table-spec =
-    tie.close
-    (tie.spec
-    large-buffer-requires
-    slice-aggregate-make-file
-    make-file-requires
-    array-share-prefix-file
-    slice-aggregate-read-table
-    read-table-requires
-    same-length
-    returns)
+    tie.close (tie.spec (λ c κs. search needs) (λ c. search needs) (λ c κs. search needs) (λ c. search needs)
+    (λ c. search needs) (λ c κs. search needs) (λ c. search needs) returns)

@@ -7,22 +7,11 @@ use borrow.Author.Needs.{needs}
 use Rattle.tablecalls.proofs.certificates.flag.Statement.{statement}
 use Rattle.tablecalls.proofs.certificates.flag.Tie as tie
 
-mul-result : tie.Need-mul-result
-mul-result c = search needs
-
-shared-slice-read-result : tie.Need-shared-slice-read-result
-shared-slice-read-result c = search needs
-
-cast-result : tie.Need-cast-result
-cast-result c = search needs
-
-returns : tie.Need-returns
-returns c = search needs
-
 returns-2 : tie.Need-returns-2
 returns-2 c =
     let a = c .before .args in
     sym (ap (λ n. n % 256) (List·getD-eq-default (a .numbers .now) 0 {n = a .i} (omega arith)))
 
 pub flag-spec : {M : Type 1} → statement M
-flag-spec = tie.close (tie.spec mul-result shared-slice-read-result cast-result returns returns-2)
+flag-spec =
+    tie.close (tie.spec (λ c. search needs) (λ c. search needs) (λ c. search needs) (λ c. search needs) returns-2)

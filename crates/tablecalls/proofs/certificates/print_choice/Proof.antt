@@ -17,14 +17,13 @@ use types.Run.{of-opd}
 use denote.Struct.Laws as LL
 use denote.Struct.Rest.{all-own, own-open}
 use Rattle.walks.proofs.Walk.{ !, Args, Atoms, ByValue, Contract, Fml, Fun, Given, Heap, Is, Lfts, Meets, Memory}
-use Rattle.walks.proofs.Walk.{Parameters, RefT, Room, Routine, SProp, Shares, ShrSlice, Stays, Tables}
-use Rattle.walks.proofs.Walk.{Triple, URA, Val, Vals, WpFn, _$_, _∵_, alloc0, alloc1, and-then, by, by-walk}
-use Rattle.walks.proofs.Walk.{called-for, cited, done, drop, emp, ends-at, ent, enter, entered, entry-out, erased}
-use Rattle.walks.proofs.Walk.{factI, flft, fmOf, frame, frees, from, fsplit, fst∗, full, givenOf, group, held, id⊢}
-use Rattle.walks.proofs.Walk.{init, land, look, move, named, no-more, none, nothing, of-unit, onEntry, owned}
-use Rattle.walks.proofs.Walk.{params1, part, pass0, pass1, qed, returns, sets, shared, silent, slice-vals}
-use Rattle.walks.proofs.Walk.{sliceVal, stays-of, stop, suffices, tables, tablesOf, tripleOf, u8, unit, unit-lit}
-use Rattle.walks.proofs.Walk.{via, vunit, walkOf, ‵, ⋆}
+use Rattle.walks.proofs.Walk.{Parameters, RefT, Room, Routine, SProp, Shares, ShrSlice, Stays, Tables, Triple, URA, Val}
+use Rattle.walks.proofs.Walk.{Vals, WpFn, _$_, _∵_, alloc0, alloc1, and-then, by, by-walk, called-for, cited, done}
+use Rattle.walks.proofs.Walk.{drop, emp, ends-at, ent, enter, entered, entry-out, erased, factI, flft, fmOf, frame}
+use Rattle.walks.proofs.Walk.{frees, from, fsplit, fst∗, full, givenOf, group, held, id⊢, init, land, look, move, named}
+use Rattle.walks.proofs.Walk.{no-more, none, nothing, of-unit, onEntry, owned, params1, part, pass0, pass1, qed}
+use Rattle.walks.proofs.Walk.{returns, sets, shared, silent, slice-vals, sliceVal, stays-of, stop, suffices, tables}
+use Rattle.walks.proofs.Walk.{tablesOf, tripleOf, u8, unit, unit-lit, via, vunit, walkOf, ‵, ⋆}
 use Rattle.shorter.specs.declared.Selection.{Selection}
 use Rattle.shorter.specs.declared.Choice.{Choice}
 use Rattle.shorter.specs.declared.Choice.the-variants.{First, Second, Rejected}

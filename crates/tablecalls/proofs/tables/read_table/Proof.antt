@@ -7,18 +7,6 @@ use borrow.Author.Needs.{needs}
 use Rattle.tablecalls.proofs.tables.read_table.Statement.{statement}
 use Rattle.tablecalls.proofs.tables.read_table.Tie as tie
 
-read-requires : tie.Need-read-requires
-read-requires c κs = search needs
-
-frames-size-requires : tie.Need-frames-size-requires
-frames-size-requires c κs = search needs
-
-fitted-requires : tie.Need-fitted-requires
-fitted-requires c κs = search needs
-
-same-length : tie.Need-same-length
-same-length c = search needs
-
 returns : tie.Need-returns
 returns c =
     let read = c .before .before .before .before .before .read in
@@ -33,4 +21,5 @@ returns c =
 
 pub read-table-spec : {M : Type 1} → statement M
 read-table-spec =
-    tie.close (tie.spec read-requires frames-size-requires fitted-requires same-length returns)
+    tie.close (tie.spec (λ c κs. search needs) (λ c κs. search needs) (λ c κs. search needs) (λ c. search needs)
+    returns)

@@ -19,12 +19,6 @@ fits a (suc b) h k =
       | no p ↦ rw (le-ltb a (suc b) (omega arith)) (record { sfits = omega arith })
     ]
 
-cast-result : tie.Need-cast-result
-cast-result c = search needs
-
-cast-result-2 : tie.Need-cast-result-2
-cast-result-2 c = search needs
-
 sub-result : tie.Need-sub-result
 sub-result c =
     let a = c .args .plus % 1000000 in
@@ -39,4 +33,4 @@ returns c =
     (toZ-ofZ w32 (pos a -ℤ pos b) (fits a b (omega arith) (omega arith)))
 
 pub difference-spec : {M : Type 1} → statement M
-difference-spec = tie.close (tie.spec cast-result cast-result-2 sub-result returns)
+difference-spec = tie.close (tie.spec (λ c. search needs) (λ c. search needs) sub-result returns)
