@@ -9,11 +9,5 @@ use Rattle.cases.proofs.name.Tie as tie
 returns : tie.Need-returns
 returns c = sym (List·getD-eq-default (c .before .args .call .now) 0 {n = 1} (omega arith))
 
-shared-slice-read-result : tie.Need-shared-slice-read-result
-shared-slice-read-result c = search needs
-
-returns-2 : tie.Need-returns-2
-returns-2 c = search needs
-
 pub name-spec : {M : Type 1} → statement M
-name-spec = tie.close (tie.spec returns shared-slice-read-result returns-2)
+name-spec = tie.close (tie.spec returns (λ c. search needs) (λ c. search needs))

@@ -11,49 +11,8 @@ Inv-loop input at₀ at = at ≤ length input
 abbrev μ-loop : tie.MeasureT-loop
 μ-loop input at₀ at = length input - at
 
-loop-holds : tie.Need-loop-holds Inv-loop μ-loop
-loop-holds c = search needs
-
-add-find : tie.Need-add-find Inv-loop μ-loop
-add-find c = search needs
-
-find-requires : tie.Need-find-requires Inv-loop μ-loop
-find-requires c κs = search needs
-
-sub-print-case : tie.Need-sub-print-case Inv-loop μ-loop
-sub-print-case c = search needs
-
-part-print-case-start : tie.Need-part-print-case-start Inv-loop μ-loop
-part-print-case-start c = search needs
-
-part-print-case-end : tie.Need-part-print-case-end Inv-loop μ-loop
-part-print-case-end c = search needs
-
-print-case-requires : tie.Need-print-case-requires Inv-loop μ-loop
-print-case-requires c κs = search needs
-
-loop-less : tie.Need-loop-less Inv-loop μ-loop
-loop-less c = search needs
-
-loop-again : tie.Need-loop-again Inv-loop μ-loop
-loop-again c = search needs
-
-returns : tie.Need-returns Inv-loop μ-loop
-returns c = search needs
-
 pub print-cases-spec : {M : Type 1} → statement M
 print-cases-spec =
-    tie.close
-    (tie.spec
-    Inv-loop
-    μ-loop
-    loop-holds
-    add-find
-    find-requires
-    sub-print-case
-    part-print-case-start
-    part-print-case-end
-    print-case-requires
-    loop-less
-    loop-again
-    returns)
+    tie.close (tie.spec Inv-loop μ-loop (λ c. search needs) (λ c. search needs) (λ c κs. search needs)
+    (λ c. search needs) (λ c. search needs) (λ c. search needs) (λ c κs. search needs) (λ c. search needs)
+    (λ c. search needs) (λ c. search needs))
