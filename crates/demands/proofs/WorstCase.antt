@@ -9,6 +9,7 @@ use lib.IntN.{pos}
 use lib.ListN.{length}
 use Rattle.gametree.specs.declared.Side.the-variants.{Max, Min}
 use Rattle.gametree.specs.Tree.{leaves}
+use Rattle.gametree.proofs.minimax.Nodes.{nodes-in}
 use Rattle.gametree.proofs.alphabeta.WorstCase.{blocks-at}
 use Rattle.frames.specs.Frame.{frameSize, frames, byteOf, childCount, valueBytes}
 use Rattle.frames.specs.Position.{sideOf}
@@ -97,8 +98,12 @@ module _ (t : List ℕ) where
         let b = node-block t wf (valueBytes (worstCase t)) (worst-blocks t only-accepted) i h in
         subst
         (λ u. (b : ℕ) × ((x : ℕ) → LeafBelow t i x
-        → (b ≤ valueBytes u x) × (valueBytes u x < b + length (leaves (treeAt t i))))) is-worst
-        (b .0, λ x l. blocks-at _ (b .0) (treeAt t i) (b .1) x (leaf-listed t wf i h x (l .below) (l .leaf .childless)))
+        → (b ≤ valueBytes u x) × (valueBytes u x < b + length (leaves (treeAt t i))))) is-worst (
+          b .0,
+          λ x l.
+              blocks-at _ (b .0) (treeAt t i) (b .1) x
+              (leaf-listed t wf i h x (nodes-in x (treeAt t i) (l .below)) (l .leaf .childless)),
+        )
 
     in-order : (i c d x y : ℕ) → i < frames t → ChildOf t i c → ChildOf t i d → c < d → LeafBelow t c x
         → LeafBelow t d y → Before (sideOf t i) (valueBytes (handed t) x) (valueBytes (handed t) y)
@@ -106,8 +111,8 @@ module _ (t : List ℕ) where
         let wf = accepted-formed t only-accepted in
         subst (λ u. Before (sideOf t i) (valueBytes u x) (valueBytes u y)) is-worst
         (node-order t wf (valueBytes (worstCase t)) (worst-blocks t only-accepted) i c d x y h p q l
-        (leaf-listed t wf c (child-within t wf h p) x (v .below) (v .leaf .childless))
-        (leaf-listed t wf d (child-within t wf h q) y (w .below) (w .leaf .childless)))
+        (leaf-listed t wf c (child-within t wf h p) x (nodes-in x (treeAt t c) (v .below)) (v .leaf .childless))
+        (leaf-listed t wf d (child-within t wf h q) y (nodes-in y (treeAt t d) (w .below)) (w .leaf .childless)))
 
     -- "at a Max node the children's ranks form rising blocks from left to right"
     pub rising : (i c d x y : ℕ) → i < frames t → sideOf t i ≡ Max → ChildOf t i c → ChildOf t i d → c < d

@@ -1,7 +1,10 @@
 -- The table after the call, and the leaves below a node.
 use Prim.Native.Nat.{ℕ}
+use mathlib.Core.Path.{_≡_}
+use mathlib.Core.Bool.{true}
 use mathlib.Core.List.{List}
-use Rattle.gametree.specs.Tree.{In}
+use Rattle.lists.specs.Lists.{among}
+use Rattle.gametree.specs.Tree.{nodes}
 use Rattle.frames.specs.Tree.{treeAt}
 use Rattle.frames.specs.results.Leaf.{Leaf}
 use Rattle.worstcase.specs.Outcome.{fillOutcome}
@@ -13,4 +16,4 @@ handed t = fillOutcome t .table
 -- the leaf x stands in the tree at node i: it is below i, or i itself
 pub record LeafBelow (t : List ℕ) (i x : ℕ) : Type 0 where
   pub leaf : Leaf t x
-  pub below : In x (treeAt t i)
+  pub below : among (nodes (treeAt t i)) x ≡ true
