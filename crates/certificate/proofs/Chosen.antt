@@ -9,9 +9,9 @@ use lib.Dec.{eqb}
 use lib.ListN.{getD}
 use Rattle.gametree.specs.declared.Side.{Side}
 use Rattle.gametree.specs.declared.Side.the-variants.{Max, Min}
-use Rattle.gametree.specs.Tree.{Tree, inner, least, greatest, other, minimax, number}
+use Rattle.gametree.specs.Tree.{Tree, inner, least, greatest, minimax, number}
 use Rattle.gametree.specs.Bounds.{low, high}
-use Rattle.gametree.specs.Certificate.{unknownScore}
+use Rattle.gametree.specs.Certificate.{worst}
 use Rattle.gametree.specs.Move.{firstWith, boundMove}
 use Rattle.frames.specs.Frame.{frames, childCount, next}
 use Rattle.frames.specs.Position.{sideOf}
@@ -47,7 +47,7 @@ bounded t E l h {positions} p q r =
 -- the chosen child of node i by the definitions
 unfoldable pub chosenOf : List ℕ → (ℕ → Bool) → Side → ℕ → ℕ
 chosenOf t E s i =
-    firstEqual (boundOf t E (unknownScore (other s))) (boundOf t E (unknownScore (other s)) i) (next t i)
+    firstEqual (boundOf t E (worst s)) (boundOf t E (worst s) i) (next t i)
     (childCount t i)
 
 module _ (t : List ℕ) (wf : WellFormed t) (E : ℕ → Bool) where
@@ -83,8 +83,8 @@ first-with f h e v i (suc n) = ap₂ (cond (eqb (f (h i)) v)) (sym (e i)) (first
 
 module _ (t : List ℕ) (wf : WellFormed t) (E : ℕ → Bool) where
   move-inner : (s : Side) (i n : ℕ)
-      → firstEqual (boundOf t E (unknownScore (other s)))
-      (minimax (λ k. cond (E k) (valuation t k) (unknownScore (other s))) (inner 0 s (childrenFrom (treeAt t) i n))) i
+      → firstEqual (boundOf t E (worst s))
+      (minimax (λ k. cond (E k) (valuation t k) (worst s)) (inner 0 s (childrenFrom (treeAt t) i n))) i
       (suc n)
       ≡ boundMove (valuation t) E (inner 0 s (childrenFrom (treeAt t) i n))
   move-inner Max i n = first-with (low (valuation t) E) (treeAt t) (tree-number t) _ i n

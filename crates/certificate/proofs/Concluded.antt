@@ -7,9 +7,8 @@ use mathlib.Core.Bool.{Bool, cond}
 use mathlib.Core.List.{List}
 use Rattle.gametree.specs.declared.Side.{Side}
 use Rattle.gametree.specs.declared.Side.the-variants.{Max, Min}
-use Rattle.gametree.specs.Tree.{other}
 use Rattle.gametree.specs.Bounds.{known}
-use Rattle.gametree.specs.Certificate.{unknownScore, flag}
+use Rattle.gametree.specs.Certificate.{worst, flag}
 use Rattle.gametree.specs.Move.{boundMove}
 use Rattle.gametree.proofs.minimax.Bounds.{minimax-mono}
 use Rattle.frames.specs.Frame.{frames, childCount, next}
@@ -46,7 +45,7 @@ module _ (t : List ℕ) (wf : WellFormed t) (E F : ℕ → Bool) (same : (k : �
   pub chosen-same : (s : Side) (i : ℕ) → i < frames t → chosenOf t E s i ≡ chosenOf t F s i
   unfolding chosenOf
   chosen-same s i h =
-      let x = unknownScore (other s) in
+      let x = worst s in
       first-same (boundOf t E x) (boundOf t F x) (boundOf t E x i) (next t i) (childCount t i)
       (λ k l m. bound-same x k (omega (arith, next-more t i, next-within t wf (i + 1) (omega arith))))
       ∙ ap (λ v. firstEqual (boundOf t F x) v (next t i) (childCount t i)) (bound-same x i h)

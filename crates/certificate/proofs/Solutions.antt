@@ -12,7 +12,7 @@ use Rattle.gametree.specs.declared.Side.{Side}
 use Rattle.gametree.specs.declared.Side.the-variants.{Max, Min}
 use Rattle.gametree.specs.Tree.{Tree, other, minimax, minimaxChildren}
 use Rattle.gametree.specs.Bounds.{known}
-use Rattle.gametree.specs.Certificate.{same, unknownScore, solutionOf}
+use Rattle.gametree.specs.Certificate.{worst, same, solutionOf}
 use Rattle.lists.proofs.Choice.{cond-cases}
 use Rattle.gametree.proofs.certificates.ReadOff.{ReadOff, ReadEach, ReadFirst, read-root, fits}
 use Rattle.frames.specs.Frame.{frames, firstChild, childCount, next}
@@ -93,7 +93,7 @@ read-child Min Min μ g h b v i n k z a c r = each-child Min μ g h b i n k a c 
 
 -- in the side's own tree no child is chosen, and the other side's bounds choose
 choose-other : (p q : Side) (b : Bool) (c : ℕ → ℕ) (k : ℕ)
-    → childIn p q b (c (unknownScore p)) k ≡ childIn p q b (c (unknownScore (other q))) k
+    → childIn p q b (c (worst (other p))) k ≡ childIn p q b (c (worst q)) k
 choose-other Max Max b c k = refl
 choose-other Max Min b c k = refl
 choose-other Min Max b c k = refl
@@ -106,7 +106,7 @@ module _ (t : List ℕ) (wf : WellFormed t) (E : ℕ → Bool) (p : Side) where
 
   -- the valuation that it is read off
   abbrev bounds : ℕ → ℕ
-  bounds = known (valuation t) E (unknownScore p)
+  bounds = known (valuation t) E (worst (other p))
 
   abbrev ReadAt : ℕ → Bool → Type 0
   ReadAt i b = ReadOff p bounds solution b (treeAt t i)
@@ -115,7 +115,7 @@ module _ (t : List ℕ) (wf : WellFormed t) (E : ℕ → Bool) (p : Side) where
   read-at i b r = subst (λ j. solution j ≡ b) (tree-number t i) (read-root p bounds solution b (treeAt t i) r)
 
   read-tree : ReadAt 0 true
-  read-tree = fits p bounds solution true (tree t) (tree-distinct t wf 0 (wf .nonEmpty)) (λ k i. refl)
+  read-tree = fits p bounds solution (tree t) (tree-distinct t wf 0 (wf .nonEmpty)) (λ k i. refl)
 
   -- the root is in it
   pub solution-root : solution 0 ≡ true
@@ -129,9 +129,9 @@ module _ (t : List ℕ) (wf : WellFormed t) (E : ℕ → Bool) (p : Side) where
       let c : ℕ → ℕ = λ x. firstEqual (boundOf t E x) (boundOf t E x i) (next t i) (childCount t i) in
       zero-or-suc (childCount t i) (λ e. absurd (omega (arith, d .from, d .to))) (λ n e.
       let s = tree-inner t wf i n h e in
-      let f = firstEqual (boundOf t E (unknownScore p)) in
+      let f = firstEqual (boundOf t E (worst (other p))) in
       let v = minimaxChildren bounds q (childrenFrom (treeAt t) (firstChild t i) n) in
-      let x : f v (firstChild t i) (suc n) ≡ c (unknownScore p) =
+      let x : f v (firstChild t i) (suc n) ≡ c (worst (other p)) =
       ap₂ (f v) (wf .first i h (omega arith)) (sym e)
       ∙ ap (λ y. f (minimax bounds y) (next t i) (childCount t i)) (sym s) in
       subst (ReadAt k) (ap (λ y. childIn p q (solution i) y k) x ∙ choose-other p q (solution i) c k)

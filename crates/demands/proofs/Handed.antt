@@ -9,9 +9,9 @@ use borrow.Author.Tests.{eq-eqb}
 use Rattle.gametree.specs.declared.Side.{Side}
 use Rattle.gametree.specs.declared.Side.the-variants.{Max, Min}
 use Rattle.lists.specs.Lists.{All, among}
-use Rattle.gametree.specs.Tree.{minimax, Proper}
+use Rattle.gametree.specs.Tree.{other, minimax, Proper}
 use Rattle.gametree.specs.Bounds.{known}
-use Rattle.gametree.specs.Certificate.{inside, solutionOf, flag, unknownScore}
+use Rattle.gametree.specs.Certificate.{worst, inside, solutionOf, flag}
 use Rattle.lists.proofs.Lists.{all-at}
 use Rattle.gametree.proofs.minimax.Bounds.{every-map}
 use Rattle.gametree.proofs.tests.Subtree.{every-all}
@@ -70,9 +70,9 @@ module _ {t w : List ℕ} {lent left : Buffers} (handed : HandedBack t w lent le
       marked-at k (all-at (λ k. k < frames t) w (evaluated-within t formed (handed .deciding)) k h) ∙ h
 
   reads : (p : Side)
-      → ReadOff p (known (valuation t) (among w) (unknownScore p)) (member p (left .flags)) true (tree t)
+      → ReadOff p (known (valuation t) (among w) (worst (other p))) (member p (left .flags)) true (tree t)
   reads p =
-      fits p _ (member p (left .flags)) true (tree t) (proper .distinct) (λ k i.
+      fits p _ (member p (left .flags)) (tree t) (proper .distinct) (λ k i.
       ap (inside p) (flags-at k (tree-range t formed 0 (formed .nonEmpty) k i .1))
       ∙ flag-inside p (valuation t) (among w) (tree t) k)
 

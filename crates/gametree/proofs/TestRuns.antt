@@ -160,7 +160,7 @@ local-tests-results σ ν μ t h i w e a = (
       ∙ ap (λ (q : TestSearch). q .value) (local-tests σ ν μ t (subst (All (λ k. ν k ≡ μ k)) e a))
       ∙ tests-minimax σ μ t i,
   λ k.
-      ap₂ (λ κ χ. cond (chosen Max κ true t k) 1 0 + cond (chosen Min χ true t k) 2 0)
+      ap₂ (λ κ χ. cond (among (chosen Max κ t) k) 1 0 + cond (among (chosen Min χ t) k) 2 0)
       (known-local ν μ w a greatest)
       (known-local ν μ w a least),
   boundMove-local ν μ w a t,

@@ -359,7 +359,7 @@ local-results ν μ t r q {w} s a =
           ∙ search-decides μ t q z .lowIs;
       sameMove = sym (search-move ν t r s) ∙ boundMove-local ν μ w a t ∙ search-move μ t q z;
       sameFlags = λ k.
-          ap₂ (λ κ χ. cond (chosen Max κ true t k) 1 0 + cond (chosen Min χ true t k) 2 0)
+          ap₂ (λ κ χ. cond (among (chosen Max κ t) k) 1 0 + cond (among (chosen Min χ t) k) 2 0)
           (known-local ν μ w a greatest)
           (known-local ν μ w a least);
     }

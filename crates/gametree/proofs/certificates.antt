@@ -1,4 +1,5 @@
 -- Solution trees, the certificate read off the bounds, and the smallest one.
+pub mod Leaves
 pub mod Counting
 pub mod Solution
 pub mod Checker

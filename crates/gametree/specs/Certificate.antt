@@ -1,13 +1,15 @@
 -- Certificates (SPEC 5.4; 01: the proof): a max and a min solution tree of equal value, as sets of
 -- nodes and as flags, and the one read off the bounds.
-use Prim.Native.Nat.{ℕ, _+_, _≤_}
+use Prim.Native.Nat.{ℕ, suc, _+_, _≤_}
 use mathlib.Core.Path.{_≡_}
 use mathlib.Core.Logic.{_⊎_}
-use mathlib.Core.Bool.{Bool, true, false, cond, not, _&&_, _||_}
+use mathlib.Core.Bool.{Bool, true, false, cond, _||_}
+use mathlib.Core.List.{List, [], _∷_, _++_, foldr, map}
 use lib.Dec.{eqb}
+use Rattle.lists.specs.Lists.{among}
 use Rattle.gametree.specs.Tree.{Side, Max, Min, Tree, leaf, inner, Children, last, _then_, least, greatest}
-use Rattle.gametree.specs.Tree.{better}
-use Rattle.gametree.specs.Tree.{minimax, minimaxChildren, number, EveryLeaf}
+use Rattle.gametree.specs.Tree.{other, better}
+use Rattle.gametree.specs.Tree.{minimax, minimaxChildren, number, leaves, EveryLeaf}
 use Rattle.gametree.specs.Bounds.{known}
 
 -- each child, no child, exactly one child is in the set g
@@ -53,15 +55,9 @@ worst Max = least
 worst Min = greatest
 
 -- the value of side p's solution tree g: the greatest score of its leaves for Max, the least for Min (definition 2.2 of
--- source 000)
-abbrev mutual
-  pub solutionValue : Side → (ℕ → ℕ) → (ℕ → Bool) → Tree → ℕ
-  solutionValue p ν g (leaf n) = cond (g n) (ν n) (worst p)
-  solutionValue p ν g (inner n q ks) = solutionValueChildren p ν g ks
-
-  pub solutionValueChildren : Side → (ℕ → ℕ) → (ℕ → Bool) → Children → ℕ
-  solutionValueChildren p ν g (last t) = solutionValue p ν g t
-  solutionValueChildren p ν g (t then ts) = better p (solutionValue p ν g t) (solutionValueChildren p ν g ts)
+-- source 000), a leaf outside it counting as the worst
+abbrev pub solutionValue : Side → (ℕ → ℕ) → (ℕ → Bool) → Tree → ℕ
+solutionValue p ν g t = foldr (better p) (worst p) (map (known ν g (worst p)) (leaves t))
 
 -- the sets g and h certify the value v
 pub record Certifies (ν : ℕ → ℕ) (t : Tree) (g h : ℕ → Bool) (v : ℕ) : Type 0 where
@@ -71,14 +67,8 @@ pub record Certifies (ν : ℕ → ℕ) (t : Tree) (g h : ℕ → Bool) (v : ℕ
   pub minValue : solutionValue Min ν h t ≡ v
 
 -- how many leaves are in one of two sets, a shared one counted once
-abbrev mutual
-  pub pairLeaves : (ℕ → Bool) → (ℕ → Bool) → Tree → ℕ
-  pairLeaves g h (leaf n) = cond (g n || h n) 1 0
-  pairLeaves g h (inner n q ks) = pairLeavesChildren g h ks
-
-  pub pairLeavesChildren : (ℕ → Bool) → (ℕ → Bool) → Children → ℕ
-  pairLeavesChildren g h (last t) = pairLeaves g h t
-  pairLeavesChildren g h (t then ts) = pairLeaves g h t + pairLeavesChildren g h ts
+abbrev pub pairLeaves : (ℕ → Bool) → (ℕ → Bool) → Tree → ℕ
+pairLeaves g h t = foldr (λ n k. cond (g n || h n) (suc k) k) 0 (leaves t)
 
 -- the flags (01: flag) of a node in the max tree only, in the min tree only, and in both, the greatest; 0 is in neither
 abbrev pub inMax : ℕ
@@ -102,32 +92,25 @@ same Max Min = false
 same Min Max = false
 same Min Min = true
 
--- is the node k in side p's tree read off the valuation μ, where b says whether the root is:
--- where p moves each child is, where the other side moves the first child with the node's value
+-- the nodes of side p's tree read off the valuation μ: below a node in it, where p moves each child, where the other
+-- side moves the first child with the node's value
 abbrev mutual
-  pub chosen : Side → (ℕ → ℕ) → Bool → Tree → ℕ → Bool
-  chosen p μ b (leaf n) k = b && eqb k n
-  chosen p μ b (inner n q ks) k =
-      (b && eqb k n) || cond (same p q) (chosenEach p μ b ks k) (chosenFirst p μ b (minimaxChildren μ q ks) ks k)
+  pub chosen : Side → (ℕ → ℕ) → Tree → List ℕ
+  chosen p μ (leaf n) = n ∷ []
+  chosen p μ (inner n q ks) = n ∷ cond (same p q) (chosenEach p μ ks) (chosenFirst p μ (minimaxChildren μ q ks) ks)
 
-  pub chosenEach : Side → (ℕ → ℕ) → Bool → Children → ℕ → Bool
-  chosenEach p μ b (last t) k = chosen p μ b t k
-  chosenEach p μ b (t then ts) k = chosen p μ b t k || chosenEach p μ b ts k
+  pub chosenEach : Side → (ℕ → ℕ) → Children → List ℕ
+  chosenEach p μ (last t) = chosen p μ t
+  chosenEach p μ (t then ts) = chosen p μ t ++ chosenEach p μ ts
 
-  pub chosenFirst : Side → (ℕ → ℕ) → Bool → ℕ → Children → ℕ → Bool
-  chosenFirst p μ b v (last t) k = chosen p μ (b && eqb (minimax μ t) v) t k
-  chosenFirst p μ b v (t then ts) k =
-      chosen p μ (b && eqb (minimax μ t) v) t k || chosenFirst p μ (b && not (eqb (minimax μ t) v)) v ts k
+  pub chosenFirst : Side → (ℕ → ℕ) → ℕ → Children → List ℕ
+  chosenFirst p μ v (last t) = chosen p μ t
+  chosenFirst p μ v (t then ts) = cond (eqb (minimax μ t) v) (chosen p μ t) (chosenFirst p μ v ts)
 
--- the score that a leaf counts with which was not evaluated: the greatest for the max tree, which is read off the
--- highs, the least for the min tree, which is read off the lows
-abbrev pub unknownScore : Side → ℕ
-unknownScore Max = greatest
-unknownScore Min = least
-
--- side p's solution tree as the evaluated leaves E give it
+-- side p's solution tree as the evaluated leaves E give it. Another leaf counts with the other side's worst score: the
+-- max tree is read off the highs, the min tree off the lows.
 abbrev pub solutionOf : Side → (ℕ → ℕ) → (ℕ → Bool) → Tree → ℕ → Bool
-solutionOf p ν E t k = chosen p (known ν E (unknownScore p)) true t k
+solutionOf p ν E t k = among (chosen p (known ν E (worst (other p))) t) k
 
 -- the flag of a node: 1 if it is in the max tree, 2 if in the min tree, 3 if in both, else 0
 abbrev pub flag : (ℕ → ℕ) → (ℕ → Bool) → Tree → ℕ → ℕ

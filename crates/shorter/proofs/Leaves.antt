@@ -1,15 +1,15 @@
 -- The flagged leaves of a certificate are the leaves of its pair of solution trees, a shared one counted once.
 use Prim.Native.Nat.{ℕ, zero, suc, _+_, _≤_}
 use native.Mathlib.Omega.{arith}
-use mathlib.Core.Path.{_≡_, refl, sym, ap, ap₂, _∙_}
-use mathlib.Core.Bool.{Bool, cond, _||_}
+use mathlib.Core.Path.{_≡_, refl, sym, ap, _∙_}
+use mathlib.Core.Bool.{cond, _||_}
 use mathlib.Core.List.{List}
 use lib.Dec.{ltb}
 use lib.ListN.{getD}
 use borrow.Author.Tests.{ne-eqb}
 use Rattle.gametree.specs.declared.Side.the-variants.{Max, Min}
-use Rattle.gametree.specs.Tree.{Tree, leaf, inner, Children, last, _then_, leafCount, leafCountChildren}
-use Rattle.gametree.specs.Certificate.{inBoth, inside, pairLeaves, pairLeavesChildren}
+use Rattle.gametree.specs.Certificate.{inBoth, inside, pairLeaves}
+use Rattle.gametree.proofs.certificates.Leaves.{pair-count}
 use Rattle.frames.specs.Frame.{frames, childCount}
 use Rattle.frames.specs.Tree.{tree}
 use Rattle.frames.proofs.Trees.{zero-or-suc}
@@ -18,16 +18,6 @@ use Rattle.frames.proofs.Acceptance.{accepted-formed}
 use Rattle.verify.specs.Flags.{member}
 use Rattle.verify.specs.Certificate.{Certificate}
 use Rattle.shorter.specs.Choice.{flaggedLeaf, flaggedBefore, flaggedLeaves}
-
-mutual
-  pair-leaves : (g h : ℕ → Bool) (t : Tree) → pairLeaves g h t ≡ leafCount (λ n. g n || h n) t
-  pair-leaves g h (leaf n) = refl
-  pair-leaves g h (inner n s ks) = pair-countChildren g h ks
-
-  pair-countChildren : (g h : ℕ → Bool) (ks : Children)
-      → pairLeavesChildren g h ks ≡ leafCountChildren (λ n. g n || h n) ks
-  pair-countChildren g h (last t) = pair-leaves g h t
-  pair-countChildren g h (t then ts) = ap₂ _+_ (pair-leaves g h t) (pair-countChildren g h ts)
 
 -- a flag from 1 to 3 puts its node into one of the two trees, or both
 in-a-tree : (f : ℕ) → f ≤ inBoth → ltb 0 f ≡ (inside Max f || inside Min f)
@@ -52,4 +42,4 @@ flagged-pair t flags c =
     zero-or-suc (childCount t i) (λ z. rw (z, in-a-tree (getD flags i 0) (c .inRange i h)))
     (λ n z. rw (z, ne-eqb (suc n) 0 (λ e. omega arith))))
     ∙ sym (tree-leaf-count t (accepted-formed t (c .accepted)) (λ n. member Max flags n || member Min flags n))
-    ∙ sym (pair-leaves (member Max flags) (member Min flags) (tree t))
+    ∙ sym (pair-count (member Max flags) (member Min flags) (tree t))

@@ -4,7 +4,7 @@ use Prim.Native.Nat.{ℕ, zero, suc, _+_, _≤_, _<_}
 use native.Mathlib.Omega.{arith}
 use native.Mathlib.Decide.{decLt, decLe}
 use native.Mathlib.Numerals.{add-one}
-use mathlib.Core.Path.{_≡_}
+use mathlib.Core.Path.{_≡_, _∙_}
 use mathlib.Core.Bool.{Bool, cond}
 use mathlib.Core.List.{List}
 use borrow.Author.Tests.{eq-eqb, ne-eqb}
@@ -13,8 +13,9 @@ use Rattle.gametree.specs.declared.Side.the-variants.{Max, Min}
 use Rattle.gametree.specs.Tree.{Tree, leaf, inner, Children, last, _then_, greatest, better, EveryLeaf}
 use Rattle.gametree.specs.Tree.{EveryLeafChildren}
 use Rattle.gametree.specs.Tree.{Score, Scored, ScoredChildren}
-use Rattle.gametree.specs.Certificate.{worst, solutionValue, solutionValueChildren}
+use Rattle.gametree.specs.Certificate.{worst, solutionValue}
 use Rattle.lists.proofs.Choice.{cond-cases}
+use Rattle.gametree.proofs.certificates.Leaves.{bestLeaf, bestLeafChildren, value-best}
 use Rattle.gametree.proofs.certificates.Solution.{Under, under-refl, under-both}
 use Rattle.frames.specs.Frame.{frames, childCount}
 use Rattle.frames.specs.Tree.{tree, valuation}
@@ -47,45 +48,53 @@ worst-self : (p : Side) → Under p (worst p) (worst p)
 worst-self Max = omega arith
 worst-self Min = omega arith
 
+worst-last : (p : Side) (v : ℕ) → Under p (worst p) v → better p v (worst p) ≡ v
+worst-last Max v h = omega arith
+worst-last Min v h = omega arith
+
 module _ (p : Side) (ν : ℕ → ℕ) (g : ℕ → Bool) where
   -- what a leaf adds to the value
   abbrev pub scoreIn : ℕ → ℕ
   scoreIn n = cond (g n) (ν n) (worst p)
 
-  -- a solution tree's value is bounded exactly if each of its leaves is
+  -- a solution tree's best leaf is bounded exactly if each of its leaves is
   mutual
-    solution-least : (x : ℕ) (t : Tree) → EveryLeaf (λ n. Under p (scoreIn n) x) t → Under p (solutionValue p ν g t) x
+    solution-least : (x : ℕ) (t : Tree) → EveryLeaf (λ n. Under p (scoreIn n) x) t → Under p (bestLeaf p ν g t) x
     solution-least x (leaf n) h = h
     solution-least x (inner n q ks) h = solutionChildren-least x ks h
 
     solutionChildren-least : (x : ℕ) (ks : Children) → EveryLeafChildren (λ n. Under p (scoreIn n) x) ks
-        → Under p (solutionValueChildren p ν g ks) x
+        → Under p (bestLeafChildren p ν g ks) x
     solutionChildren-least x (last t) h = solution-least x t h
     solutionChildren-least x (t then ts) h =
         both-under p _ _ x (solution-least x t (h .0)) (solutionChildren-least x ts (h .1))
 
   mutual
-    least-solution : (x : ℕ) (t : Tree) → Under p (solutionValue p ν g t) x → EveryLeaf (λ n. Under p (scoreIn n) x) t
+    least-solution : (x : ℕ) (t : Tree) → Under p (bestLeaf p ν g t) x → EveryLeaf (λ n. Under p (scoreIn n) x) t
     least-solution x (leaf n) h = h
     least-solution x (inner n q ks) h = least-solutionChildren x ks h
 
-    least-solutionChildren : (x : ℕ) (ks : Children) → Under p (solutionValueChildren p ν g ks) x
+    least-solutionChildren : (x : ℕ) (ks : Children) → Under p (bestLeafChildren p ν g ks) x
         → EveryLeafChildren (λ n. Under p (scoreIn n) x) ks
     least-solutionChildren x (last t) h = least-solution x t h
     least-solutionChildren x (t then ts) h =
-        let b = under-both p (solutionValue p ν g t) (solutionValueChildren p ν g ts) x h in
+        let b = under-both p (bestLeaf p ν g t) (bestLeafChildren p ν g ts) x h in
         (least-solution x t (b .0), least-solutionChildren x ts (b .1))
 
   -- and it is never worse than the worst score
   mutual
-    solution-worst : (t : Tree) → Scored ν t → Under p (worst p) (solutionValue p ν g t)
+    solution-worst : (t : Tree) → Scored ν t → Under p (worst p) (bestLeaf p ν g t)
     solution-worst (leaf n) s =
         cond-cases (λ x. Under p (worst p) x) (g n) (ν n) (worst p) (λ e. worst-score p (ν n) s) (λ e. worst-self p)
     solution-worst (inner n q ks) s = solutionChildren-worst ks s
 
-    solutionChildren-worst : (ks : Children) → ScoredChildren ν ks → Under p (worst p) (solutionValueChildren p ν g ks)
+    solutionChildren-worst : (ks : Children) → ScoredChildren ν ks → Under p (worst p) (bestLeafChildren p ν g ks)
     solutionChildren-worst (last t) s = solution-worst t s
     solutionChildren-worst (t then ts) s = worst-better p _ _ (solution-worst t (s .0))
+
+  -- so it is the tree's value
+  pub value-leaf : (t : Tree) → Scored ν t → solutionValue p ν g t ≡ bestLeaf p ν g t
+  value-leaf t s = value-best p ν g t ∙ worst-last p _ (solution-worst t s)
 
 every-inherited : (P : ℕ → Type 0) → Inherited (EveryLeaf P) (EveryLeafChildren P)
 every-inherited P = record { ofInner = λ n q ks x. x; ofLast = λ t x. x; ofMore = λ t ts x. x }
@@ -127,8 +136,8 @@ module _ (p : Side) (t flags : List ℕ) where
   tree-value-same wf =
       let ν = valuation t in
       let g = member p flags in
-      let v = solutionValue p ν g (tree t) in
-      under-antisym p _ _
+      let v = bestLeaf p ν g (tree t) in
+      value-leaf p ν g (tree t) (tree-proper t wf .scored) ∙ under-antisym p _ _
       (solution-least p ν g _ (tree t)
       (every-leaf t wf (λ n. Under p (scoreIn p ν g n) (treeValue p t flags)) (λ i h e.
       rw (leaf-in i e) at (least-best (frames t) (treeValue p t flags) (under-refl p _) i h)) 0 (wf .nonEmpty)))

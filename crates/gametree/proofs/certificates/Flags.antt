@@ -2,17 +2,18 @@
 use Prim.Native.Nat.{ℕ, _+_, _≤_}
 use native.Mathlib.Nat.{le-refl}
 use native.Mathlib.Omega.{arith}
-use mathlib.Core.Path.{_≡_, refl, sym, _∙_, ap₂}
+use mathlib.Core.Path.{_≡_, refl, sym, _∙_, ap, ap₂}
 use mathlib.Core.Bool.{Bool, true, false, cond}
 use Rattle.gametree.specs.Tree.{Side, Max, Min, Tree, leaf, inner, Children, last, _then_, greatest, better}
-use Rattle.gametree.specs.Tree.{minimax}
+use Rattle.gametree.specs.Tree.{other, minimax}
 use Rattle.gametree.specs.Tree.{EveryLeafChildren, Score, Proper}
 use Rattle.gametree.specs.Bounds.{known, Decided}
-use Rattle.gametree.specs.Certificate.{Certifies, SolutionTree, worst, solutionValue, solutionValueChildren}
+use Rattle.gametree.specs.Certificate.{Certifies, SolutionTree, worst, solutionValue}
 use Rattle.gametree.specs.Certificate.{inside}
 use Rattle.gametree.specs.Certificate.{same}
-use Rattle.gametree.specs.Certificate.{unknownScore, solutionOf, flag, LeavesIn}
+use Rattle.gametree.specs.Certificate.{solutionOf, flag, LeavesIn}
 use Rattle.gametree.proofs.minimax.Bounds.{every-map, minimax-score, known-capped}
+use Rattle.gametree.proofs.certificates.Leaves.{bestLeaf, bestLeafChildren, value-best}
 use Rattle.gametree.proofs.certificates.ReadOff.{ReadOff, Finite, read-solution, fits}
 
 -- the flags read off the bounds of the evaluated leaves E certify the minimax value, and flag evaluated leaves only
@@ -22,7 +23,7 @@ pub record FlagsCertify (ν : ℕ → ℕ) (E : ℕ → Bool) (t : Tree) : Type 
   pub minLeaves : LeavesIn (λ k. inside Min (flag ν E t k)) E t
 
 -- a side's bound: where it is finite, at a leaf and at a tree with real scores; and where the bounds meet
-finite-known : (p : Side) (b : Bool) (v : ℕ) → Finite p (cond b v (unknownScore p)) → b ≡ true
+finite-known : (p : Side) (b : Bool) (v : ℕ) → Finite p (cond b v (worst (other p))) → b ≡ true
 finite-known p true v h = refl
 finite-known Max false v h = absurd (omega arith)
 finite-known Min false v h = absurd (omega arith)
@@ -31,12 +32,12 @@ score-finite : (p : Side) (v : ℕ) → Score v → Finite p v
 score-finite Max v h = h .1
 score-finite Min v h = h .0
 
-unknownScore≤ : (p : Side) → unknownScore p ≤ greatest
-unknownScore≤ Max = le-refl greatest
-unknownScore≤ Min = omega arith
+other-worst≤ : (p : Side) → worst (other p) ≤ greatest
+other-worst≤ Max = le-refl greatest
+other-worst≤ Min = omega arith
 
 decided-fill : (p : Side) (ν : ℕ → ℕ) (E : ℕ → Bool) (t : Tree) → Decided ν E t
-    → minimax (known ν E (unknownScore p)) t ≡ minimax ν t
+    → minimax (known ν E (worst (other p))) t ≡ minimax ν t
 decided-fill Max ν E t d = d .highIs
 decided-fill Min ν E t d = d .lowIs
 
@@ -48,30 +49,32 @@ known-leaf false c v x w f = refl
 -- the value of a solution tree of evaluated leaves does not depend on the others
 mutual
   known-solution : (p : Side) (ν : ℕ → ℕ) (E : ℕ → Bool) (x : ℕ) (g : ℕ → Bool) (t : Tree) → LeavesIn g E t
-      → solutionValue p (known ν E x) g t ≡ solutionValue p ν g t
+      → bestLeaf p (known ν E x) g t ≡ bestLeaf p ν g t
   known-solution p ν E x g (leaf n) h = known-leaf (g n) (E n) (ν n) x (worst p) h
   known-solution p ν E x g (inner n q ks) h = known-solutionChildren p ν E x g ks h
 
   known-solutionChildren : (p : Side) (ν : ℕ → ℕ) (E : ℕ → Bool) (x : ℕ) (g : ℕ → Bool) (ks : Children)
       → EveryLeafChildren (λ n. g n ≡ true → E n ≡ true) ks
-      → solutionValueChildren p (known ν E x) g ks ≡ solutionValueChildren p ν g ks
+      → bestLeafChildren p (known ν E x) g ks ≡ bestLeafChildren p ν g ks
   known-solutionChildren p ν E x g (last t) h = known-solution p ν E x g t h
   known-solutionChildren p ν E x g (t then ts) h =
       ap₂ (better p) (known-solution p ν E x g t (h .0)) (known-solutionChildren p ν E x g ts (h .1))
 
 -- a side's tree that is read off its bounds
 pub read-bounds : (p : Side) (ν : ℕ → ℕ) (E : ℕ → Bool) (t : Tree) → Proper ν t → Decided ν E t → (g : ℕ → Bool)
-    → ReadOff p (known ν E (unknownScore p)) g true t
+    → ReadOff p (known ν E (worst (other p))) g true t
     → SolutionTree p g t × (solutionValue p ν g t ≡ minimax ν t) × LeavesIn g E t
 read-bounds p ν E t h d g r =
-    let x = unknownScore p in
+    let x = worst (other p) in
     let e = decided-fill p ν E t d in
     let k =
-    read-solution p (known ν E x) g t (known-capped ν E x (unknownScore≤ p) t (h .scored))
+    read-solution p (known ν E x) g t (known-capped ν E x (other-worst≤ p) t (h .scored))
     (rw e (score-finite p (minimax ν t) (minimax-score ν t (h .scored)))) r in
     let i : LeavesIn g E t =
     every-map (λ n. g n ≡ true → Finite p (known ν E x n)) _ (λ n f j. finite-known p (E n) (ν n) (f j)) t (k .2) in
-    (k .0, sym (known-solution p ν E x g t i) ∙ k .1 ∙ e, i)
+    let v = value-best p ν g t ∙ ap (λ y. better p y (worst p)) (sym (known-solution p ν E x g t i))
+    ∙ sym (value-best p (known ν E x) g t) in
+    (k .0, v ∙ k .1 ∙ e, i)
 
 -- a flag made of two memberships gives each of them back
 flag-parts : (p : Side) (a b : Bool) → inside p (cond a 1 0 + cond b 2 0) ≡ cond (same p Max) a b
@@ -93,8 +96,8 @@ flag-inside Min ν E t k = flag-parts Min (solutionOf Max ν E t k) (solutionOf 
 -- where the bounds meet, the flags are a certificate
 pub decided-certify : (ν : ℕ → ℕ) (E : ℕ → Bool) (t : Tree) → Proper ν t → Decided ν E t → FlagsCertify ν E t
 decided-certify ν E t h d =
-    let x = read-bounds Max ν E t h d _ (fits Max _ _ true t (h .distinct) (λ k i. flag-inside Max ν E t k)) in
-    let y = read-bounds Min ν E t h d _ (fits Min _ _ true t (h .distinct) (λ k i. flag-inside Min ν E t k)) in
+    let x = read-bounds Max ν E t h d _ (fits Max _ _ t (h .distinct) (λ k i. flag-inside Max ν E t k)) in
+    let y = read-bounds Min ν E t h d _ (fits Min _ _ t (h .distinct) (λ k i. flag-inside Min ν E t k)) in
     record {
       certifies = record { maxTree = x .0; minTree = y .0; maxValue = x .1; minValue = y .1 };
       maxLeaves = x .2;

@@ -1,21 +1,25 @@
 -- The solution tree that is read off a valuation: its local rule, and that it is a solution tree of the minimax value.
 use Prim.Native.Nat.{ℕ, _≤_, _<_}
 use native.Mathlib.Omega.{arith}
-use mathlib.Core.Path.{_≡_, refl, sym, _∙_, ap₂, subst}
+use mathlib.Core.Path.{_≡_, refl, sym, _∙_, ap, ap₂, subst}
 use mathlib.Core.Logic.{_⊎_, inl, inr, ⊎-elim}
 use mathlib.Core.Bool.{Bool, true, false, cond, not, _&&_, _||_, and-true, and-false, or-false}
+use mathlib.Core.List.{List}
 use lib.Dec.{eqb}
 use borrow.Author.Tests.{eqb-true, eqb-false, eq-eqb, ne-eqb}
+use Rattle.lists.specs.Lists.{among}
 use Rattle.gametree.specs.Tree.{Side, Max, Min, Tree, leaf, inner, Children, last, _then_, least, greatest}
 use Rattle.gametree.specs.Tree.{better}
 use Rattle.gametree.specs.Tree.{minimax, minimaxChildren, number, In, InChildren, EveryLeaf, EveryLeafChildren}
 use Rattle.gametree.specs.Tree.{Distinct}
 use Rattle.gametree.specs.Tree.{DistinctChildren}
 use Rattle.gametree.specs.Certificate.{Each, NoneOf, OneOf, Rule, Rules, RulesChildren, SolutionTree, worst}
-use Rattle.gametree.specs.Certificate.{solutionValue, solutionValueChildren, same, chosen, chosenEach}
+use Rattle.gametree.specs.Certificate.{solutionValue, same, chosen, chosenEach}
 use Rattle.gametree.specs.Certificate.{chosenFirst}
 use Rattle.lists.proofs.Choice.{cond-cases, true-not-false, is-false, or-cases, and-both}
-use Rattle.gametree.proofs.minimax.Bounds.{every-map-kids, minimaxChildren-within}
+use Rattle.lists.proofs.Lists.{among-append}
+use Rattle.gametree.proofs.minimax.Bounds.{every-map, every-map-kids, minimax-within, minimaxChildren-within}
+use Rattle.gametree.proofs.certificates.Leaves.{bestLeaf, bestLeafChildren, value-best}
 
 -- the set g is side p's tree read off μ, where b says whether the root is in it: the rule of `chosen`, node by node
 abbrev mutual
@@ -71,7 +75,7 @@ capped-value μ q ks i = minimaxChildren-within 0 greatest μ q ks (every-map-ki
 -- what is read off in a tree, and in the children of a node: all of them, or the first with the value
 record ReadTree (p : Side) (μ : ℕ → ℕ) (g : ℕ → Bool) (b : Bool) (t : Tree) : Type 0 where
   rules : Rules p g t
-  value : solutionValue p μ g t ≡ cond b (minimax μ t) (worst p)
+  value : bestLeaf p μ g t ≡ cond b (minimax μ t) (worst p)
   finite : EveryLeaf (λ n. g n ≡ true → Finite p (μ n)) t
 
 record ReadChildren (p : Side) (μ : ℕ → ℕ) (g : ℕ → Bool) (b : Bool) (ks : Children) (Some : Type 0) (v : ℕ) : Type 0
@@ -79,7 +83,7 @@ record ReadChildren (p : Side) (μ : ℕ → ℕ) (g : ℕ → Bool) (b : Bool) 
     rules : RulesChildren p g ks
     ifIn : b ≡ true → Some
     ifOut : b ≡ false → NoneOf g ks
-    value : solutionValueChildren p μ g ks ≡ cond b v (worst p)
+    value : bestLeafChildren p μ g ks ≡ cond b v (worst p)
     finite : EveryLeafChildren (λ n. g n ≡ true → Finite p (μ n)) ks
 
 -- the root is in the set as b says
@@ -213,11 +217,80 @@ pub read-solution : (p : Side) (μ : ℕ → ℕ) (g : ℕ → Bool) (t : Tree) 
     → SolutionTree p g t × (solutionValue p μ g t ≡ minimax μ t) × EveryLeaf (λ n. g n ≡ true → Finite p (μ n)) t
 read-solution p μ g t i h r =
     let k = read p μ g true t i (λ _. h) r in
-    ((read-root p μ g true t r, k .rules), k .value, k .finite)
+    let u = minimax-within 0 greatest μ t (every-map _ _ (λ n l. (omega arith, l)) t i) .1 in
+    let v = value-best p μ g t ∙ ap (λ x. better p x (worst p)) (k .value) ∙ better-worst p (minimax μ t) u .0 in
+    ((read-root p μ g true t r, k .rules), v, k .finite)
+
+-- is the node k chosen, where b says whether the root is
+abbrev mutual
+  isChosen : Side → (ℕ → ℕ) → Bool → Tree → ℕ → Bool
+  isChosen p μ b (leaf n) k = b && eqb k n
+  isChosen p μ b (inner n q ks) k =
+      (b && eqb k n) || cond (same p q) (isChosenEach p μ b ks k) (isChosenFirst p μ b (minimaxChildren μ q ks) ks k)
+
+  isChosenEach : Side → (ℕ → ℕ) → Bool → Children → ℕ → Bool
+  isChosenEach p μ b (last t) k = isChosen p μ b t k
+  isChosenEach p μ b (t then ts) k = isChosen p μ b t k || isChosenEach p μ b ts k
+
+  isChosenFirst : Side → (ℕ → ℕ) → Bool → ℕ → Children → ℕ → Bool
+  isChosenFirst p μ b v (last t) k = isChosen p μ (b && eqb (minimax μ t) v) t k
+  isChosenFirst p μ b v (t then ts) k =
+      isChosen p μ (b && eqb (minimax μ t) v) t k || isChosenFirst p μ (b && not (eqb (minimax μ t) v)) v ts k
+
+mutual
+  -- below a node that is not chosen none is
+  none-chosen : (p : Side) (μ : ℕ → ℕ) (t : Tree) (k : ℕ) → isChosen p μ false t k ≡ false
+  none-chosen p μ (leaf n) k = refl
+  none-chosen p μ (inner n q ks) k =
+      cond-cases (λ x. x ≡ false) (same p q) _ _ (λ _. none-each p μ ks k)
+      (λ _. none-first p μ (minimaxChildren μ q ks) ks k)
+
+  none-each : (p : Side) (μ : ℕ → ℕ) (ks : Children) (k : ℕ) → isChosenEach p μ false ks k ≡ false
+  none-each p μ (last t) k = none-chosen p μ t k
+  none-each p μ (t then ts) k = rw (none-chosen p μ t k) (none-each p μ ts k)
+
+  none-first : (p : Side) (μ : ℕ → ℕ) (v : ℕ) (ks : Children) (k : ℕ) → isChosenFirst p μ false v ks k ≡ false
+  none-first p μ v (last t) k = none-chosen p μ t k
+  none-first p μ v (t then ts) k = rw (none-chosen p μ t k) (none-first p μ v ts k)
+
+-- one of two lists, by a test
+either-among : (b : Bool) {x y : Bool} (u v : List ℕ) (k : ℕ) → x ≡ among u k → y ≡ among v k
+    → cond b x y ≡ among (cond b u v) k
+either-among true u v k e f = e
+either-among false u v k e f = f
+
+-- the first child if it has the value (c), and the others if not
+first-among : (p : Side) (μ : ℕ → ℕ) (v : ℕ) (t : Tree) (ts : Children) (k : ℕ) (c : Bool)
+    → isChosen p μ true t k ≡ among (chosen p μ t) k
+    → (c ≡ false → isChosenFirst p μ true v ts k ≡ among (chosenFirst p μ v ts) k)
+    → isChosen p μ c t k || isChosenFirst p μ (not c) v ts k ≡ among (cond c (chosen p μ t) (chosenFirst p μ v ts)) k
+first-among p μ v t ts k true e f = rw (none-first p μ v ts k) (or-false (isChosen p μ true t k) ∙ e)
+first-among p μ v t ts k false e f = rw (none-chosen p μ t k) (f refl)
+
+mutual
+  -- where the root is chosen they are the nodes of the list
+  chosen-among : (p : Side) (μ : ℕ → ℕ) (t : Tree) (k : ℕ) → isChosen p μ true t k ≡ among (chosen p μ t) k
+  chosen-among p μ (leaf n) k = sym (or-false (eqb k n))
+  chosen-among p μ (inner n q ks) k =
+      ap (_||_ (eqb k n))
+      (either-among (same p q) _ _ k (each-among p μ ks k) (children-among p q μ (minimaxChildren μ q ks) ks k refl))
+
+  each-among : (p : Side) (μ : ℕ → ℕ) (ks : Children) (k : ℕ) → isChosenEach p μ true ks k ≡ among (chosenEach p μ ks) k
+  each-among p μ (last t) k = chosen-among p μ t k
+  each-among p μ (t then ts) k =
+      ap₂ _||_ (chosen-among p μ t k) (each-among p μ ts k)
+      ∙ sym (among-append (chosen p μ t) (chosenEach p μ ts) k)
+
+  children-among : (p q : Side) (μ : ℕ → ℕ) (v : ℕ) (ks : Children) (k : ℕ) → minimaxChildren μ q ks ≡ v
+      → isChosenFirst p μ true v ks k ≡ among (chosenFirst p μ v ks) k
+  children-among p q μ v (last t) k e = rw (eq-eqb (minimax μ t) v e) (chosen-among p μ t k)
+  children-among p q μ v (t then ts) k e =
+      first-among p μ v t ts k (eqb (minimax μ t) v) (chosen-among p μ t k)
+      (λ z. children-among p q μ v ts k (better-second q (minimax μ t) _ v e (eqb-false (minimax μ t) v z)))
 
 -- only nodes of the tree are chosen
 mutual
-  chosen-in : (p : Side) (μ : ℕ → ℕ) (b : Bool) (t : Tree) (k : ℕ) → chosen p μ b t k ≡ true → In k t
+  chosen-in : (p : Side) (μ : ℕ → ℕ) (b : Bool) (t : Tree) (k : ℕ) → isChosen p μ b t k ≡ true → In k t
   chosen-in p μ b (leaf n) k e = eqb-true k n (and-both b (eqb k n) e .1)
   chosen-in p μ b (inner n q ks) k e =
       ⊎-elim (λ z. inl (eqb-true k n (and-both b (eqb k n) z .1)))
@@ -226,20 +299,20 @@ mutual
       (λ _ y. chosenFirst-in p μ b (minimaxChildren μ q ks) ks k y) z))
       (or-cases (b && eqb k n) _ e)
 
-  chosenEach-in : (p : Side) (μ : ℕ → ℕ) (b : Bool) (ks : Children) (k : ℕ) → chosenEach p μ b ks k ≡ true
+  chosenEach-in : (p : Side) (μ : ℕ → ℕ) (b : Bool) (ks : Children) (k : ℕ) → isChosenEach p μ b ks k ≡ true
       → InChildren k ks
   chosenEach-in p μ b (last t) k e = chosen-in p μ b t k e
   chosenEach-in p μ b (t then ts) k e =
       ⊎-elim (λ z. inl (chosen-in p μ b t k z)) (λ z. inr (chosenEach-in p μ b ts k z))
-      (or-cases (chosen p μ b t k) _ e)
+      (or-cases (isChosen p μ b t k) _ e)
 
-  chosenFirst-in : (p : Side) (μ : ℕ → ℕ) (b : Bool) (v : ℕ) (ks : Children) (k : ℕ) → chosenFirst p μ b v ks k ≡ true
+  chosenFirst-in : (p : Side) (μ : ℕ → ℕ) (b : Bool) (v : ℕ) (ks : Children) (k : ℕ) → isChosenFirst p μ b v ks k ≡ true
       → InChildren k ks
   chosenFirst-in p μ b v (last t) k e = chosen-in p μ (b && eqb (minimax μ t) v) t k e
   chosenFirst-in p μ b v (t then ts) k e =
       ⊎-elim (λ z. inl (chosen-in p μ (b && eqb (minimax μ t) v) t k z))
       (λ z. inr (chosenFirst-in p μ (b && not (eqb (minimax μ t) v)) v ts k z))
-      (or-cases (chosen p μ (b && eqb (minimax μ t) v) t k) _ e)
+      (or-cases (isChosen p μ (b && eqb (minimax μ t) v) t k) _ e)
 
 -- a set that is a node's own part and its children's part K: what it is at the node and at its children
 node-fits : (g K : ℕ → Bool) (b : Bool) (n : ℕ) (ks : Children) → (InChildren n ks → ⊥)
@@ -263,36 +336,41 @@ kids-fit g A B t ts d a b h = (
 
 -- a set that is the chosen one on the tree's nodes is read off, if the nodes' numbers are distinct
 mutual
-  pub fits : (p : Side) (μ : ℕ → ℕ) (g : ℕ → Bool) (b : Bool) (t : Tree) → Distinct t
-      → ((k : ℕ) → In k t → g k ≡ chosen p μ b t k)
+  fits-test : (p : Side) (μ : ℕ → ℕ) (g : ℕ → Bool) (b : Bool) (t : Tree) → Distinct t
+      → ((k : ℕ) → In k t → g k ≡ isChosen p μ b t k)
       → ReadOff p μ g b t
-  fits p μ g b (leaf n) d h = h n refl ∙ simp (eq-eqb n n refl, and-true)
-  fits Max μ g b (inner n Max ks) d h =
-      let k = node-fits g (chosenEach Max μ b ks) b n ks (d .0) (chosenEach-in Max μ b ks) h in
+  fits-test p μ g b (leaf n) d h = h n refl ∙ simp (eq-eqb n n refl, and-true)
+  fits-test Max μ g b (inner n Max ks) d h =
+      let k = node-fits g (isChosenEach Max μ b ks) b n ks (d .0) (chosenEach-in Max μ b ks) h in
       (k .0, fits-each Max μ g b ks (d .1) (k .1))
-  fits Max μ g b (inner n Min ks) d h =
-      let k = node-fits g (chosenFirst Max μ b _ ks) b n ks (d .0) (chosenFirst-in Max μ b _ ks) h in
+  fits-test Max μ g b (inner n Min ks) d h =
+      let k = node-fits g (isChosenFirst Max μ b _ ks) b n ks (d .0) (chosenFirst-in Max μ b _ ks) h in
       (k .0, fits-first Max μ g b _ ks (d .1) (k .1))
-  fits Min μ g b (inner n Max ks) d h =
-      let k = node-fits g (chosenFirst Min μ b _ ks) b n ks (d .0) (chosenFirst-in Min μ b _ ks) h in
+  fits-test Min μ g b (inner n Max ks) d h =
+      let k = node-fits g (isChosenFirst Min μ b _ ks) b n ks (d .0) (chosenFirst-in Min μ b _ ks) h in
       (k .0, fits-first Min μ g b _ ks (d .1) (k .1))
-  fits Min μ g b (inner n Min ks) d h =
-      let k = node-fits g (chosenEach Min μ b ks) b n ks (d .0) (chosenEach-in Min μ b ks) h in
+  fits-test Min μ g b (inner n Min ks) d h =
+      let k = node-fits g (isChosenEach Min μ b ks) b n ks (d .0) (chosenEach-in Min μ b ks) h in
       (k .0, fits-each Min μ g b ks (d .1) (k .1))
 
   fits-each : (p : Side) (μ : ℕ → ℕ) (g : ℕ → Bool) (b : Bool) (ks : Children) → DistinctChildren ks
-      → ((k : ℕ) → InChildren k ks → g k ≡ chosenEach p μ b ks k) → ReadEach p μ g b ks
-  fits-each p μ g b (last t) d h = fits p μ g b t d h
+      → ((k : ℕ) → InChildren k ks → g k ≡ isChosenEach p μ b ks k) → ReadEach p μ g b ks
+  fits-each p μ g b (last t) d h = fits-test p μ g b t d h
   fits-each p μ g b (t then ts) d h =
       let k =
-      kids-fit g (chosen p μ b t) (chosenEach p μ b ts) t ts (d .2) (chosen-in p μ b t) (chosenEach-in p μ b ts) h in
-      (fits p μ g b t (d .0) (k .0), fits-each p μ g b ts (d .1) (k .1))
+      kids-fit g (isChosen p μ b t) (isChosenEach p μ b ts) t ts (d .2) (chosen-in p μ b t) (chosenEach-in p μ b ts) h in
+      (fits-test p μ g b t (d .0) (k .0), fits-each p μ g b ts (d .1) (k .1))
 
   fits-first : (p : Side) (μ : ℕ → ℕ) (g : ℕ → Bool) (b : Bool) (v : ℕ) (ks : Children) → DistinctChildren ks
-      → ((k : ℕ) → InChildren k ks → g k ≡ chosenFirst p μ b v ks k) → ReadFirst p μ g b v ks
-  fits-first p μ g b v (last t) d h = fits p μ g _ t d h
+      → ((k : ℕ) → InChildren k ks → g k ≡ isChosenFirst p μ b v ks k) → ReadFirst p μ g b v ks
+  fits-first p μ g b v (last t) d h = fits-test p μ g _ t d h
   fits-first p μ g b v (t then ts) d h =
       let k =
-      kids-fit g (chosen p μ _ t) (chosenFirst p μ _ v ts) t ts (d .2) (chosen-in p μ _ t)
+      kids-fit g (isChosen p μ _ t) (isChosenFirst p μ _ v ts) t ts (d .2) (chosen-in p μ _ t)
       (chosenFirst-in p μ _ v ts) h in
-      (fits p μ g _ t (d .0) (k .0), fits-first p μ g _ v ts (d .1) (k .1))
+      (fits-test p μ g _ t (d .0) (k .0), fits-first p μ g _ v ts (d .1) (k .1))
+
+pub fits : (p : Side) (μ : ℕ → ℕ) (g : ℕ → Bool) (t : Tree) → Distinct t
+    → ((k : ℕ) → In k t → g k ≡ among (chosen p μ t) k)
+    → ReadOff p μ g true t
+fits p μ g t d h = fits-test p μ g true t d (λ k i. h k i ∙ sym (chosen-among p μ t k))

@@ -7,7 +7,7 @@ use mathlib.Core.Bool.{Bool, true, false, cond, _&&_, _||_, and-true, and-false}
 use Rattle.gametree.specs.Tree.{Side, Max, Min, Tree, leaf, inner, Children, last, _then_, number, leafCount}
 use Rattle.gametree.specs.Tree.{leafCountChildren}
 use Rattle.gametree.specs.Certificate.{Each, NoneOf, Rule, Rules, RulesChildren, SolutionTree, pairLeaves}
-use Rattle.gametree.specs.Certificate.{pairLeavesChildren}
+use Rattle.gametree.proofs.certificates.Leaves.{pair-count}
 use Rattle.gametree.proofs.certificates.Counting.{members}
 use Rattle.gametree.proofs.certificates.Solution.{rule-counted}
 
@@ -23,12 +23,14 @@ either-or-both false false = refl
 
 -- the leaves in one of two sets and those in both are as many as the leaves of each
 mutual
-  pair-both : (g h : ℕ → Bool) (t : Tree) → pairLeaves g h t + leafCount (both g h) t ≡ leafCount g t + leafCount h t
+  pair-both : (g h : ℕ → Bool) (t : Tree)
+      → leafCount (λ n. g n || h n) t + leafCount (both g h) t ≡ leafCount g t + leafCount h t
   pair-both g h (leaf n) = either-or-both (g n) (h n)
   pair-both g h (inner n s ks) = pairChildren-both g h ks
 
   pairChildren-both : (g h : ℕ → Bool) (ks : Children)
-      → pairLeavesChildren g h ks + leafCountChildren (both g h) ks ≡ leafCountChildren g ks + leafCountChildren h ks
+      → leafCountChildren (λ n. g n || h n) ks + leafCountChildren (both g h) ks
+      ≡ leafCountChildren g ks + leafCountChildren h ks
   pairChildren-both g h (last t) = pair-both g h t
   pairChildren-both g h (t then ts) = omega (arith, pair-both g h t, pairChildren-both g h ts)
 
@@ -75,4 +77,4 @@ pub pair-shares-one : (g h : ℕ → Bool) (t : Tree) → SolutionTree Max g t �
     → pairLeaves g h t + 1 ≡ leafCount g t + leafCount h t
 pair-shares-one g h t x y =
     let e : leafCount (both g h) t ≡ 1 = both-leaves g h t (x .1) (y .1) ∙ rw (x .0, y .0) in
-    omega (arith, pair-both g h t)
+    omega (arith, pair-count g h t, pair-both g h t)

@@ -3,16 +3,16 @@ use Prim.Native.Nat.{ℕ, _+_, _≤_}
 use native.Mathlib.Nat.{le-refl, le-trans, le-of-lt}
 use mathlib.Core.Path.{_≡_, refl, sym, _∙_, ap, ap₂}
 use mathlib.Core.Logic.{inl, inr}
-use mathlib.Core.Bool.{Bool, true, false, cond, _&&_}
+use mathlib.Core.Bool.{Bool, true, false, cond, _&&_, _||_}
 use mathlib.Core.List.{List, [], _∷_, _++_, map}
 use lib.Dec.{leb, eqb}
 use lib.ListN.{length}
 use borrow.Author.Tests.{leb-true, leb-false, eqb-true, eqb-false}
 use Rattle.lists.specs.Lists.{All, among}
 use Rattle.gametree.specs.Tree.{Side, Max, Min, Tree, leaf, inner, Children, last, _then_, better, minimax}
-use Rattle.gametree.specs.Tree.{number, nodes}
+use Rattle.gametree.specs.Tree.{number, nodes, leafCount, leafCountChildren}
 use Rattle.gametree.specs.Tree.{In, InChildren, Proper}
-use Rattle.gametree.specs.Certificate.{solutionValue, solutionValueChildren, pairLeaves, pairLeavesChildren}
+use Rattle.gametree.specs.Certificate.{worst, solutionValue, pairLeaves}
 use Rattle.gametree.specs.Certificate.{inside, flag}
 use Rattle.gametree.specs.Certificate.{Smallest}
 use Rattle.gametree.proofs.certificates.Flags.{FlagsCertify}
@@ -20,6 +20,7 @@ use Rattle.gametree.proofs.certificates.Counting.{members, rulesHold, r
 use Rattle.lists.proofs.Choice.{cond-cases, true-not-false}
 use Rattle.lists.proofs.Lists.{all-left, all-right, all-map, all-at}
 use Rattle.gametree.proofs.minimax.Nodes.{number-in, in-nodes}
+use Rattle.gametree.proofs.certificates.Leaves.{bestLeaf, bestLeafChildren, value-best, pair-count}
 use Rattle.gametree.proofs.certificates.Checker.{certificate-passes, passed-certifies}
 use Rattle.gametree.proofs.certificates.Flags.{decided-certify}
 use Rattle.gametree.proofs.minimax.Counts.{pairLeaves≤, count-list}
@@ -58,30 +59,36 @@ mutual
       ap₂ _&&_ (rules-same p g h t (λ k i. e k (inl i))) (rulesChildren-same p g h ts (λ k i. e k (inr i)))
 
 mutual
-  pub value-same : (p : Side) (ν : ℕ → ℕ) (g h : ℕ → Bool) (t : Tree) → Same g h t
-      → solutionValue p ν g t ≡ solutionValue p ν h t
-  value-same p ν g h (leaf n) e = rw (e n refl) refl
-  value-same p ν g h (inner n q ks) e = valueChildren-same p ν g h ks (λ k i. e k (inr i))
+  best-same : (p : Side) (ν : ℕ → ℕ) (g h : ℕ → Bool) (t : Tree) → Same g h t → bestLeaf p ν g t ≡ bestLeaf p ν h t
+  best-same p ν g h (leaf n) e = rw (e n refl) refl
+  best-same p ν g h (inner n q ks) e = bestChildren-same p ν g h ks (λ k i. e k (inr i))
 
-  valueChildren-same : (p : Side) (ν : ℕ → ℕ) (g h : ℕ → Bool) (ks : Children) → SameChildren g h ks
-      → solutionValueChildren p ν g ks ≡ solutionValueChildren p ν h ks
-  valueChildren-same p ν g h (last t) e = value-same p ν g h t e
-  valueChildren-same p ν g h (t then ts) e =
-      ap₂ (better p) (value-same p ν g h t (λ k i. e k (inl i))) (valueChildren-same p ν g h ts (λ k i. e k (inr i)))
+  bestChildren-same : (p : Side) (ν : ℕ → ℕ) (g h : ℕ → Bool) (ks : Children) → SameChildren g h ks
+      → bestLeafChildren p ν g ks ≡ bestLeafChildren p ν h ks
+  bestChildren-same p ν g h (last t) e = best-same p ν g h t e
+  bestChildren-same p ν g h (t then ts) e =
+      ap₂ (better p) (best-same p ν g h t (λ k i. e k (inl i))) (bestChildren-same p ν g h ts (λ k i. e k (inr i)))
+
+pub value-same : (p : Side) (ν : ℕ → ℕ) (g h : ℕ → Bool) (t : Tree) → Same g h t
+    → solutionValue p ν g t ≡ solutionValue p ν h t
+value-same p ν g h t e =
+    value-best p ν g t ∙ ap (λ x. better p x (worst p)) (best-same p ν g h t e) ∙ sym (value-best p ν h t)
 
 mutual
-  pairLeaves-same : (g h g′ h′ : ℕ → Bool) (t : Tree) → Same g g′ t → Same h h′ t
-      → pairLeaves g h t ≡ pairLeaves g′ h′ t
-  pairLeaves-same g h g′ h′ (leaf n) e f = rw (e n refl, f n refl) refl
-  pairLeaves-same g h g′ h′ (inner n q ks) e f =
-      pairLeavesChildren-same g h g′ h′ ks (λ k i. e k (inr i)) (λ k i. f k (inr i))
+  count-same : (g h : ℕ → Bool) (t : Tree) → Same g h t → leafCount g t ≡ leafCount h t
+  count-same g h (leaf n) e = rw (e n refl) refl
+  count-same g h (inner n q ks) e = countChildren-same g h ks (λ k i. e k (inr i))
 
-  pairLeavesChildren-same : (g h g′ h′ : ℕ → Bool) (ks : Children) → SameChildren g g′ ks → SameChildren h h′ ks
-      → pairLeavesChildren g h ks ≡ pairLeavesChildren g′ h′ ks
-  pairLeavesChildren-same g h g′ h′ (last t) e f = pairLeaves-same g h g′ h′ t e f
-  pairLeavesChildren-same g h g′ h′ (t then ts) e f =
-      ap₂ _+_ (pairLeaves-same g h g′ h′ t (λ k i. e k (inl i)) (λ k i. f k (inl i)))
-      (pairLeavesChildren-same g h g′ h′ ts (λ k i. e k (inr i)) (λ k i. f k (inr i)))
+  countChildren-same : (g h : ℕ → Bool) (ks : Children) → SameChildren g h ks
+      → leafCountChildren g ks ≡ leafCountChildren h ks
+  countChildren-same g h (last t) e = count-same g h t e
+  countChildren-same g h (t then ts) e =
+      ap₂ _+_ (count-same g h t (λ k i. e k (inl i))) (countChildren-same g h ts (λ k i. e k (inr i)))
+
+pairLeaves-same : (g h g′ h′ : ℕ → Bool) (t : Tree) → Same g g′ t → Same h h′ t
+    → pairLeaves g h t ≡ pairLeaves g′ h′ t
+pairLeaves-same g h g′ h′ t e f =
+    pair-count g h t ∙ count-same _ _ t (λ k i. ap₂ _||_ (e k i) (f k i)) ∙ sym (pair-count g′ h′ t)
 
 certificate-same : (ν : ℕ → ℕ) (t : Tree) (g h g′ h′ : ℕ → Bool) → Same g g′ t → Same h h′ t
     → certificate? ν t g h ≡ certificate? ν t g′ h′

@@ -7,8 +7,9 @@ use mathlib.Core.Logic.{_⊎_, inl, inr, ⊎-elim}
 use mathlib.Core.Bool.{Bool, true, false, cond}
 use Rattle.gametree.specs.Tree.{Side, Max, Min, Tree, leaf, inner, Children, last, _then_, better, minimax}
 use Rattle.gametree.specs.Tree.{minimaxChildren, number}
-use Rattle.gametree.specs.Certificate.{Each, NoneOf, OneOf, Rule, RulesChildren, SolutionTree, solutionValue}
-use Rattle.gametree.specs.Certificate.{solutionValueChildren, Certifies, same}
+use Rattle.gametree.specs.Certificate.{Each, NoneOf, OneOf, Rule, RulesChildren, SolutionTree, worst}
+use Rattle.gametree.specs.Certificate.{solutionValue, Certifies, same}
+use Rattle.gametree.proofs.certificates.Leaves.{bestLeaf, bestLeafChildren, value-best}
 use Rattle.gametree.proofs.certificates.Counting.{kidCount, members, required}
 use Rattle.lists.proofs.Choice.{cond-cases, true-not-false}
 
@@ -48,36 +49,43 @@ under-other Max Min e a b = omega arith
 under-other Min Max e a b = omega arith
 under-other Min Min e a b = absurd (true-not-false refl e)
 
--- the value of a solution tree of side p is at least as good for p as the minimax value
+-- the best leaf of a solution tree of side p is at least as good for p as the minimax value
 mutual
-  pub solution-bound : (p : Side) (ν : ℕ → ℕ) (g : ℕ → Bool) (t : Tree) → SolutionTree p g t
-      → Under p (minimax ν t) (solutionValue p ν g t)
-  solution-bound p ν g (leaf n) r = rw (r .0) (under-refl p (ν n))
-  solution-bound Max ν g (inner n Max ks) r = each-bound Max ν g ks (r .1 .1) (rw (r .0) at (r .1 .0))
-  solution-bound Max ν g (inner n Min ks) r = one-bound Max Min refl ν g ks (r .1 .1) (rw (r .0) at (r .1 .0))
-  solution-bound Min ν g (inner n Max ks) r = one-bound Min Max refl ν g ks (r .1 .1) (rw (r .0) at (r .1 .0))
-  solution-bound Min ν g (inner n Min ks) r = each-bound Min ν g ks (r .1 .1) (rw (r .0) at (r .1 .0))
+  best-bound : (p : Side) (ν : ℕ → ℕ) (g : ℕ → Bool) (t : Tree) → SolutionTree p g t
+      → Under p (minimax ν t) (bestLeaf p ν g t)
+  best-bound p ν g (leaf n) r = rw (r .0) (under-refl p (ν n))
+  best-bound Max ν g (inner n Max ks) r = each-bound Max ν g ks (r .1 .1) (rw (r .0) at (r .1 .0))
+  best-bound Max ν g (inner n Min ks) r = one-bound Max Min refl ν g ks (r .1 .1) (rw (r .0) at (r .1 .0))
+  best-bound Min ν g (inner n Max ks) r = one-bound Min Max refl ν g ks (r .1 .1) (rw (r .0) at (r .1 .0))
+  best-bound Min ν g (inner n Min ks) r = each-bound Min ν g ks (r .1 .1) (rw (r .0) at (r .1 .0))
 
   each-bound : (p : Side) (ν : ℕ → ℕ) (g : ℕ → Bool) (ks : Children) → RulesChildren p g ks → Each g ks
-      → Under p (minimaxChildren ν p ks) (solutionValueChildren p ν g ks)
-  each-bound p ν g (last t) r m = solution-bound p ν g t (m, r)
+      → Under p (minimaxChildren ν p ks) (bestLeafChildren p ν g ks)
+  each-bound p ν g (last t) r m = best-bound p ν g t (m, r)
   each-bound p ν g (t then ts) r m =
-      under-better p _ _ _ _ (solution-bound p ν g t (m .0, r .0)) (each-bound p ν g ts (r .1) (m .1))
+      under-better p _ _ _ _ (best-bound p ν g t (m .0, r .0)) (each-bound p ν g ts (r .1) (m .1))
 
   one-bound : (p q : Side) → same p q ≡ false → (ν : ℕ → ℕ) (g : ℕ → Bool) (ks : Children) → RulesChildren p g ks
       → OneOf g ks
-      → Under p (minimaxChildren ν q ks) (solutionValueChildren p ν g ks)
-  one-bound p q e ν g (last t) r m = solution-bound p ν g t (m, r)
+      → Under p (minimaxChildren ν q ks) (bestLeafChildren p ν g ks)
+  one-bound p q e ν g (last t) r m = best-bound p ν g t (m, r)
   one-bound p q e ν g (t then ts) r (inl m) =
       let a = minimax ν t in
-      let c = solutionValue p ν g t in
+      let c = bestLeaf p ν g t in
       under-trans p _ a _ (under-other p q e a _ .0)
-      (under-trans p a c _ (solution-bound p ν g t (m .0, r .0)) (under-own p c _ .0))
+      (under-trans p a c _ (best-bound p ν g t (m .0, r .0)) (under-own p c _ .0))
   one-bound p q e ν g (t then ts) r (inr m) =
       let b = minimaxChildren ν q ts in
-      let d = solutionValueChildren p ν g ts in
+      let d = bestLeafChildren p ν g ts in
       under-trans p _ b _ (under-other p q e _ b .1)
       (under-trans p b d _ (one-bound p q e ν g ts (r .1) (m .1)) (under-own p _ d .1))
+
+-- and so is the tree's value
+pub solution-bound : (p : Side) (ν : ℕ → ℕ) (g : ℕ → Bool) (t : Tree) → SolutionTree p g t
+    → Under p (minimax ν t) (solutionValue p ν g t)
+solution-bound p ν g t r =
+    rw (value-best p ν g t)
+    (under-trans p _ (bestLeaf p ν g t) _ (best-bound p ν g t r) (under-own p (bestLeaf p ν g t) (worst p) .0))
 
 -- what a certificate certifies is the minimax value
 pub certified : (ν : ℕ → ℕ) (t : Tree) (g h : ℕ → Bool) (v : ℕ) → Certifies ν t g h v → v ≡ minimax ν t

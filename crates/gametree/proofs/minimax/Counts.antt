@@ -14,10 +14,11 @@ use Rattle.gametree.specs.Tree.{Tree, leaf, inner, Children, last, _then
 use Rattle.gametree.specs.Tree.{Distinct}
 use Rattle.gametree.specs.Tree.{DistinctChildren, size, sizeChildren, leaves, leavesChildren, leafCount}
 use Rattle.gametree.specs.Tree.{leafCountChildren, nodes}
-use Rattle.gametree.specs.Certificate.{pairLeaves, pairLeavesChildren, LeavesIn}
+use Rattle.gametree.specs.Certificate.{pairLeaves, LeavesIn}
 use Rattle.lists.proofs.Choice.{cond-cases, true-not-false, or-left, or-cases}
 use Rattle.lists.proofs.Lists.{among-left, among-right, all-zip, all-among, once-length}
 use Rattle.gametree.proofs.minimax.Nodes.{in-nodes, nodes-in}
+use Rattle.gametree.proofs.certificates.Leaves.{pair-count}
 
 -- a leaf in one of two sets of evaluated leaves is evaluated
 pair-leaf : (a b c : Bool) → (a ≡ true → c ≡ true) → (b ≡ true → c ≡ true) → cond (a || b) 1 0 ≤ cond c 1 0
@@ -27,15 +28,20 @@ pair-leaf false false c f g = omega arith
 
 -- two sets of evaluated leaves have no more leaves than are evaluated
 mutual
-  pub pairLeaves≤ : (g h E : ℕ → Bool) (t : Tree) → LeavesIn g E t → LeavesIn h E t → pairLeaves g h t ≤ leafCount E t
-  pairLeaves≤ g h E (leaf n) i j = pair-leaf (g n) (h n) (E n) i j
-  pairLeaves≤ g h E (inner n q ks) i j = pairLeavesChildren≤ g h E ks i j
+  either≤ : (g h E : ℕ → Bool) (t : Tree) → LeavesIn g E t → LeavesIn h E t
+      → leafCount (λ n. g n || h n) t ≤ leafCount E t
+  either≤ g h E (leaf n) i j = pair-leaf (g n) (h n) (E n) i j
+  either≤ g h E (inner n q ks) i j = eitherChildren≤ g h E ks i j
 
-  pairLeavesChildren≤ : (g h E : ℕ → Bool) (ks : Children) → EveryLeafChildren (λ n. g n ≡ true → E n ≡ true) ks
-      → EveryLeafChildren (λ n. h n ≡ true → E n ≡ true) ks → pairLeavesChildren g h ks ≤ leafCountChildren E ks
-  pairLeavesChildren≤ g h E (last t) i j = pairLeaves≤ g h E t i j
-  pairLeavesChildren≤ g h E (t then ts) i j =
-      omega (arith, pairLeaves≤ g h E t (i .0) (j .0), pairLeavesChildren≤ g h E ts (i .1) (j .1))
+  eitherChildren≤ : (g h E : ℕ → Bool) (ks : Children) → EveryLeafChildren (λ n. g n ≡ true → E n ≡ true) ks
+      → EveryLeafChildren (λ n. h n ≡ true → E n ≡ true) ks
+      → leafCountChildren (λ n. g n || h n) ks ≤ leafCountChildren E ks
+  eitherChildren≤ g h E (last t) i j = either≤ g h E t i j
+  eitherChildren≤ g h E (t then ts) i j =
+      omega (arith, either≤ g h E t (i .0) (j .0), eitherChildren≤ g h E ts (i .1) (j .1))
+
+pub pairLeaves≤ : (g h E : ℕ → Bool) (t : Tree) → LeavesIn g E t → LeavesIn h E t → pairLeaves g h t ≤ leafCount E t
+pairLeaves≤ g h E t i j = rw (pair-count g h t) (either≤ g h E t i j)
 
 -- a number that is no node's is no leaf's
 mutual
@@ -152,13 +158,16 @@ leaf-once : (b : Bool) → cond b 1 0 ≤ 1
 leaf-once true = le-refl 1
 leaf-once false = omega arith
 
--- two sets have no more leaves of a tree than there are
+-- a set has no more leaves of a tree than there are
 mutual
-  pub pairLeaves-all : (g h : ℕ → Bool) (t : Tree) → pairLeaves g h t ≤ length (leaves t)
-  pairLeaves-all g h (leaf n) = leaf-once (g n || h n)
-  pairLeaves-all g h (inner n s ks) = pairLeavesChildren-all g h ks
+  count-all : (E : ℕ → Bool) (t : Tree) → leafCount E t ≤ length (leaves t)
+  count-all E (leaf n) = leaf-once (E n)
+  count-all E (inner n s ks) = countChildren-all E ks
 
-  pairLeavesChildren-all : (g h : ℕ → Bool) (ks : Children) → pairLeavesChildren g h ks ≤ length (leavesChildren ks)
-  pairLeavesChildren-all g h (last t) = pairLeaves-all g h t
-  pairLeavesChildren-all g h (t then ts) =
-      simp length-append (omega (arith, pairLeaves-all g h t, pairLeavesChildren-all g h ts))
+  countChildren-all : (E : ℕ → Bool) (ks : Children) → leafCountChildren E ks ≤ length (leavesChildren ks)
+  countChildren-all E (last t) = count-all E t
+  countChildren-all E (t then ts) = simp length-append (omega (arith, count-all E t, countChildren-all E ts))
+
+-- nor have two sets
+pub pairLeaves-all : (g h : ℕ → Bool) (t : Tree) → pairLeaves g h t ≤ length (leaves t)
+pairLeaves-all g h t = rw (pair-count g h t) (count-all (λ n. g n || h n) t)
