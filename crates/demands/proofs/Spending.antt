@@ -12,7 +12,8 @@ use Rattle.gametree.specs.Tree.{leafCount}
 use Rattle.gametree.specs.AlphaBeta.{fullWindow}
 use Rattle.gametree.specs.Layout.{layoutOf}
 use Rattle.gametree.specs.Sss.{spent}
-use Rattle.gametree.specs.Allowance.{Evaluation, evaluationsOver}
+use Rattle.gametree.specs.Allowance.{Evaluation}
+use Rattle.gametree.specs.engine.OverLayout.{evaluationsOver}
 use Rattle.gametree.specs.engine.Within.{sssWithin}
 use Rattle.gametree.proofs.Searches.{bySss}
 use Rattle.gametree.proofs.Theorems.{alphaBeta-leaves, search-deciding}

@@ -19,7 +19,8 @@ use Rattle.gametree.specs.engine.Memo.{fresh, memoMtd, withoutMemo}
 use Rattle.gametree.specs.Layout.{Layout, layoutOf}
 use Rattle.gametree.proofs.sss.Described.{Describes}
 use Rattle.gametree.specs.Sss.{takenMerit, State, Step, empty, stop, quiet, evaluating, replace, step, finished}
-use Rattle.gametree.specs.Sss.{runFrom, start, sssOver, sss, ListAfter, afterQuiet, afterEvaluating, resumed}
+use Rattle.gametree.specs.Sss.{runFrom, start, sss, ListAfter, afterQuiet, afterEvaluating}
+use Rattle.gametree.specs.engine.OverLayout.{sssOver, resumed}
 use Rattle.gametree.specs.Tests.{Strategy}
 use Rattle.gametree.specs.FirstMove.{decideBy}
 use Rattle.gametree.specs.Certificate.{Rule, SolutionTree, solutionValue, Certifies, pairLeaves, chosen}

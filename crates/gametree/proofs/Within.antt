@@ -19,8 +19,8 @@ use Rattle.gametree.specs.Layout.{Layout}
 use Rattle.gametree.proofs.sss.Described.{Describes}
 use Rattle.gametree.specs.Bounds.{Decided}
 use Rattle.gametree.specs.Sss.{State, takenMerit, stop, evaluating, step, finished, spent, noState, start}
-use Rattle.gametree.specs.Sss.{sssOver}
-use Rattle.gametree.specs.Allowance.{Evaluation, evaluationsOver}
+use Rattle.gametree.specs.Allowance.{Evaluation}
+use Rattle.gametree.specs.engine.OverLayout.{sssOver, evaluationsOver}
 use Rattle.gametree.specs.Sss.{ListAfter, atStart, afterEvaluating}
 use Rattle.gametree.specs.engine.Within.{sssWithinOver}
 use Rattle.gametree.proofs.Searches.{Searched, byMtd}

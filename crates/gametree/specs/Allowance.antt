@@ -26,10 +26,6 @@ evaluationsFrom ν layout zero k L = []
 evaluationsFrom ν layout (suc f) k L =
     evaluationsBy (step ν layout L) k (takenMerit layout L) (λ M. evaluationsFrom ν layout f (suc k) M)
 
--- the evaluations of SSS*, in order, over a layout of the tree
-abbrev pub evaluationsOver : (ℕ → ℕ) → Layout → Tree → List Evaluation
-evaluationsOver ν layout t = evaluationsFrom ν layout (2 * size t) 0 (start t)
-
--- those on a tree that an allowance of a leaves does not cover
+-- the evaluations of SSS* on a tree, in order, that an allowance of a leaves does not cover
 abbrev pub uncovered : (a : ℕ) → (ℕ → ℕ) → Tree → List Evaluation
-uncovered a ν t = drop a (evaluationsOver ν (layoutOf t) t)
+uncovered a ν t = drop a (evaluationsFrom ν (layoutOf t) (2 * size t) 0 (start t))

@@ -12,6 +12,13 @@ use Rattle.gametree.specs.Tree.{other, better}
 use Rattle.gametree.specs.Tree.{minimax, minimaxChildren, number, leaves, EveryLeaf}
 use Rattle.gametree.specs.Bounds.{known}
 
+-- are two sides the same
+abbrev pub same : Side → Side → Bool
+same Max Max = true
+same Max Min = false
+same Min Max = false
+same Min Min = true
+
 -- each child, no child, exactly one child is in the set g
 abbrev pub Each : (ℕ → Bool) → Children → Type 0
 Each g (last t) = g (number t) ≡ true
@@ -28,11 +35,8 @@ OneOf g (t then ts) = ((g (number t) ≡ true) × NoneOf g ts) ⊎ ((g (number t
 -- the rule for the children of a node of side q in a solution tree of side p; the Bool says whether the node is in it.
 -- Of a node in it each child is where p moves and exactly one where the other side moves, of a node outside it none.
 abbrev pub Rule : (p q : Side) → Bool → (ℕ → Bool) → Children → Type 0
+Rule p q true g ks = cond (same p q) (Each g ks) (OneOf g ks)
 Rule p q false g ks = NoneOf g ks
-Rule Max Max true g ks = Each g ks
-Rule Max Min true g ks = OneOf g ks
-Rule Min Max true g ks = OneOf g ks
-Rule Min Min true g ks = Each g ks
 
 -- the rule holds at each inner node
 abbrev mutual
@@ -84,13 +88,6 @@ inBoth = 3
 abbrev pub inside : Side → ℕ → Bool
 inside Max f = eqb f inMax || eqb f inBoth
 inside Min f = eqb f inMin || eqb f inBoth
-
--- are two sides the same
-abbrev pub same : Side → Side → Bool
-same Max Max = true
-same Max Min = false
-same Min Max = false
-same Min Min = true
 
 -- the nodes of side p's tree read off the valuation μ: below a node in it, where p moves each child, where the other
 -- side moves the first child with the node's value

@@ -1,6 +1,6 @@
 -- SSS*: its states, its list, one replacement, and the run, over a layout of the tree. State, LIVE, SOLVED, merit and
 -- replacement are Stockman's words (source 002; SPEC 10).
-use Prim.Native.Nat.{ℕ, zero, suc, _+_, _*_, min}
+use Prim.Native.Nat.{ℕ, zero, suc, _*_, min}
 use mathlib.Core.Path.{_≡_}
 use mathlib.Core.Bool.{Bool, true, false, cond, _||_, _&&_}
 use mathlib.Core.Option.{none, some}
@@ -125,14 +125,9 @@ runFrom next (suc f) L = follow (next L) (λ M. runFrom next f M)
 abbrev pub start : Tree → List State
 start t = live (number t) greatest ∷ []
 
--- SSS* over a layout of the tree. It takes at most 2 × nodes states: 2 × nodes - 1 are replaced, and the last is the
--- root.
-abbrev pub sssOver : (ℕ → ℕ) → Layout → Tree → Ran
-sssOver ν layout t = runFrom (λ L. step ν layout L) (2 * size t) (start t)
-
--- SSS* on a tree
+-- SSS* on a tree. It takes at most 2 × nodes states: 2 × nodes - 1 are replaced, and the last is the root.
 abbrev pub sss : (ℕ → ℕ) → Tree → Ran
-sss ν t = sssOver ν (layoutOf t) t
+sss ν t = runFrom (λ L. step ν (layoutOf t) L) (2 * size t) (start t)
 
 -- after k replacements, which evaluated these leaves, the list is L
 pub data ListAfter (ν : ℕ → ℕ) (layout : Layout) (t : Tree) : ℕ → List ℕ → List State → Type 0 where
@@ -143,7 +138,3 @@ pub data ListAfter (ν : ℕ → ℕ) (layout : Layout) (t : Tree) : ℕ → Lis
   afterEvaluating : {k n : ℕ} {leaves : List ℕ} {L M : List State} → ListAfter ν layout t k leaves L
       → step ν layout L ≡ evaluating n M
       → ListAfter ν layout t (suc k) (leaves ++ (n ∷ [])) M
-
--- a run after k replacements that evaluated these leaves
-abbrev pub resumed : ℕ → List ℕ → Ran → Ran
-resumed k leaves r = record { end = r .end; evaluated = leaves ++ r .evaluated; replacements = k + r .replacements }

@@ -10,7 +10,8 @@ use Rattle.lists.specs.Lists.{All}
 use Rattle.gametree.specs.Tree.{minimax}
 use Rattle.gametree.specs.Layout.{layoutOf}
 use Rattle.gametree.specs.Sss as theory
-use Rattle.gametree.specs.Allowance.{Evaluation, evaluationsOver}
+use Rattle.gametree.specs.Allowance.{Evaluation}
+use Rattle.gametree.specs.engine.OverLayout.{evaluationsOver}
 use Rattle.gametree.specs.engine.Within.{sssWithin}
 use Rattle.lists.proofs.Choice.{clash}
 use Rattle.gametree.proofs.Theorems.{sss-minimax, search-deciding}

@@ -10,8 +10,9 @@ use Rattle.gametree.specs.Tree.{Tree, size, Scored}
 use Rattle.gametree.specs.Layout.{Layout}
 use Rattle.gametree.proofs.sss.Described.{Describes}
 use Rattle.gametree.specs.Sss.{Step, State, takenMerit, empty, stop, quiet, evaluating, step, finished, spent}
-use Rattle.gametree.specs.Sss.{noState, start, sssOver, ListAfter, atStart, afterQuiet}
-use Rattle.gametree.specs.Sss.{afterEvaluating, resumed}
+use Rattle.gametree.specs.Sss.{noState, start, ListAfter, atStart, afterQuiet}
+use Rattle.gametree.specs.Sss.{afterEvaluating}
+use Rattle.gametree.specs.engine.OverLayout.{sssOver, resumed}
 use Rattle.gametree.specs.engine.Within.{runWithin, sssWithinOver}
 use Rattle.lists.proofs.Choice.{clash}
 use Rattle.gametree.proofs.results.Merits.{list-unique}

@@ -9,7 +9,8 @@ use Rattle.gametree.specs.engine.Memo.{memoMtd}
 use Rattle.gametree.specs.Layout.{Layout}
 use Rattle.gametree.proofs.sss.Described.{Describes}
 use Rattle.gametree.specs.Sss.{takenMerit, State, stop, quiet, evaluating, step, End, Ran, runFrom}
-use Rattle.gametree.specs.Sss.{start, sssOver, ListAfter, atStart, afterQuiet, afterEvaluating, resumed}
+use Rattle.gametree.specs.Sss.{start, ListAfter, atStart, afterQuiet, afterEvaluating}
+use Rattle.gametree.specs.engine.OverLayout.{sssOver, resumed}
 use Rattle.lists.proofs.Choice.{clash}
 use Rattle.gametree.proofs.sss.Steps.{Steps, done, quietly, evaluates}
 use Rattle.gametree.proofs.mtd.Value.{mtd-right}

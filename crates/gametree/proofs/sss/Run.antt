@@ -10,7 +10,8 @@ use Rattle.gametree.specs.Tree.{Tree, greatest, minimax, number, size, S
 use Rattle.gametree.specs.engine.Memo.{Memo, memoHigh, pass, MemoRun, run, fresh, memoMtd}
 use Rattle.gametree.specs.Layout.{root, Layout}
 use Rattle.gametree.proofs.sss.Described.{Answers, Describes}
-use Rattle.gametree.specs.Sss.{SOLVED, State, live, solved, stop, step, finished, Ran, runFrom, sssOver}
+use Rattle.gametree.specs.Sss.{SOLVED, State, live, solved, stop, step, finished, Ran, runFrom}
+use Rattle.gametree.specs.engine.OverLayout.{sssOver}
 use Rattle.lists.proofs.Choice.{cond-cases}
 use Rattle.gametree.proofs.mtd.Sound.{Kept, sound}
 use Rattle.gametree.proofs.mtd.Value.{kept-lower, fresh-kept, mtd-right}
