@@ -1,16 +1,17 @@
--- What SSS* asks of a tree, answered from the table: a node's kind, its parent and next brother, and which nodes are
+-- What SSS* asks of a tree, answered from the table: a node's subtree, its parent and next brother, and which nodes are
 -- below it.
 use Prim.Native.Nat.{ℕ, zero, suc, _+_, _≤_, _<_}
 use native.Mathlib.Omega.{arith}
 use native.Mathlib.Decide.{decLt}
-use mathlib.Core.Path.{_≡_, refl, ap₂, _∙_}
+use mathlib.Core.Path.{_≡_, refl, ap₂}
 use mathlib.Core.Bool.{cond}
 use mathlib.Core.Option.{Option, none, some}
 use mathlib.Core.List.{List, _∷_}
 use lib.Dec.{ltb}
 use borrow.Author.Tests.{lt-ltb, le-ltb}
 use Rattle.gametree.specs.declared.Side.{Side}
-use Rattle.gametree.specs.Layout.{Layout, tip, fork, root, under, firstOf, othersOf}
+use Rattle.gametree.specs.Tree.{leaf, inner}
+use Rattle.gametree.specs.Layout.{Layout, root, under, firstOf, othersOf}
 use Rattle.gametree.proofs.sss.Described.{Answers, AnswersChildren, Describes}
 use Rattle.frames.specs.Frame.{frames, firstChild, childCount}
 use Rattle.frames.specs.Position.{sideOf}
@@ -73,12 +74,10 @@ module _ (t : List ℕ) (wf : WellFormed t) (Y : Layout) (d : Describes Y (tree 
   link-child {i} h c = answers-child h c (answers-at i h) .0
 
   -- a node without children is a leaf
-  pub kind-leaf : (i : ℕ) → i < frames t → childCount t i ≡ 0 → Y .kind i ≡ tip
-  kind-leaf i h e = rw (tree-leaf t wf i h e) at (answers-at i h)
+  pub subtree-leaf : (i : ℕ) → i < frames t → childCount t i ≡ 0 → Y .subtree i ≡ leaf i
+  subtree-leaf i h e = rw (tree-leaf t wf i h e) at (answers-at i h)
 
-  -- another has its side and its children's numbers
-  pub kind-inner : (i n : ℕ) → i < frames t → childCount t i ≡ suc n
-      → Y .kind i ≡ fork (sideOf t i) (firstChild t i) (upFrom (firstChild t i + 1) n)
-  kind-inner i n h e =
-      (rw (tree-inner t wf i n h e) at (answers-at i h)) .0
-      ∙ ap₂ (fork (sideOf t i)) (first-of t (firstChild t i) n) (others-of t (firstChild t i) n)
+  -- another has its side and its children
+  pub subtree-inner : (i n : ℕ) → i < frames t → childCount t i ≡ suc n
+      → Y .subtree i ≡ inner i (sideOf t i) (childrenFrom (treeAt t) (firstChild t i) n)
+  subtree-inner i n h e = (rw (tree-inner t wf i n h e) at (answers-at i h)) .0

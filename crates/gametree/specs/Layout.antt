@@ -1,4 +1,4 @@
--- What SSS* asks of a tree, in a form that a table of nodes can answer, and the answers that the tree itself gives.
+-- What SSS* asks of a tree by the numbers of its nodes, and the answers that the tree itself gives.
 use Prim.Native.Nat.{ℕ}
 use mathlib.Core.Bool.{Bool, false, cond, not, _&&_}
 use mathlib.Core.Option.{Option, none, some}
@@ -7,20 +7,15 @@ use lib.Dec.{eqb}
 use Rattle.lists.specs.Lists.{among}
 use Rattle.gametree.specs.Tree.{Side, Tree, leaf, inner, Children, last, _then_, number, nodes}
 
--- a leaf (tip), or an inner node (fork) with its side, its first child and its other children
-pub data Kind : Type 0 where
-  tip : Kind
-  fork : (side : Side) (first : ℕ) (others : List ℕ) → Kind
-
 -- the root, or a node under a parent, with the parent's side and the next brother
 pub data Link : Type 0 where
   root : Link
   under : (parent : ℕ) (side : Side) (next : Option ℕ) → Link
 
--- each node's kind and its link to its parent, whether the first of two nodes is above the second
--- (its ancestor), and whether it is left of it (in the subtree of an elder brother of a node on the other's path)
+-- each node's subtree and its link to its parent, whether the first of two nodes is above the second (its ancestor),
+-- and whether it is left of it (in the subtree of an elder brother of a node on the other's path)
 pub record Layout : Type 0 where
-  pub kind : ℕ → Kind
+  pub subtree : ℕ → Tree
   pub link : ℕ → Link
   pub above : ℕ → ℕ → Bool
   pub leftOf : ℕ → ℕ → Bool
@@ -36,18 +31,13 @@ othersOf (t then ts) = firstOf ts ∷ othersOf ts
 
 -- the subtree at the node p
 abbrev mutual
-  pub subtree : ℕ → Tree → Tree
-  subtree p (leaf n) = leaf n
-  subtree p (inner n s ks) = cond (eqb p n) (inner n s ks) (subtreeChildren p ks)
+  pub subtreeAt : ℕ → Tree → Tree
+  subtreeAt p (leaf n) = leaf n
+  subtreeAt p (inner n s ks) = cond (eqb p n) (inner n s ks) (subtreeAtChildren p ks)
 
-  pub subtreeChildren : ℕ → Children → Tree
-  subtreeChildren p (last t) = subtree p t
-  subtreeChildren p (t then ts) = cond (among (nodes t) p) (subtree p t) (subtreeChildren p ts)
-
--- the kind of a tree's root
-abbrev pub kindOf : Tree → Kind
-kindOf (leaf n) = tip
-kindOf (inner n s ks) = fork s (firstOf ks) (othersOf ks)
+  pub subtreeAtChildren : ℕ → Children → Tree
+  subtreeAtChildren p (last t) = subtreeAt p t
+  subtreeAtChildren p (t then ts) = cond (among (nodes t) p) (subtreeAt p t) (subtreeAtChildren p ts)
 
 -- the link of the node p, the tree's own node being the root
 abbrev mutual
@@ -63,7 +53,7 @@ abbrev mutual
 
 -- is p above q: q is another node of the subtree at p
 abbrev pub aboveIn : Tree → ℕ → ℕ → Bool
-aboveIn t p q = among (nodes (subtree p t)) q && not (eqb q p)
+aboveIn t p q = among (nodes (subtreeAt p t)) q && not (eqb q p)
 
 -- does p come before q in a list
 abbrev pub before : List ℕ → ℕ → ℕ → Bool
@@ -77,4 +67,4 @@ leftIn t p q = before (nodes t) p q && not (aboveIn t p q)
 -- the tree's own layout
 abbrev pub layoutOf : Tree → Layout
 layoutOf t =
-    record { kind = λ p. kindOf (subtree p t); link = linkIn t; above = aboveIn t; leftOf = leftIn t }
+    record { subtree = λ p. subtreeAt p t; link = linkIn t; above = aboveIn t; leftOf = leftIn t }

@@ -6,8 +6,8 @@ use mathlib.Core.Bool.{Bool, true, false, cond, _||_, _&&_}
 use mathlib.Core.Option.{none, some}
 use mathlib.Core.List.{List, [], _∷_, _++_, map}
 use lib.Dec.{ltb, eqb}
-use Rattle.gametree.specs.Tree.{Max, Min, Tree, greatest, number, size}
-use Rattle.gametree.specs.Layout.{Layout, Kind, tip, fork, Link, root, under, layoutOf}
+use Rattle.gametree.specs.Tree.{Max, Min, Tree, leaf, inner, greatest, number, size}
+use Rattle.gametree.specs.Layout.{Layout, Link, root, under, firstOf, othersOf, layoutOf}
 
 -- a state: a node, its status, and its merit; the greatest merit on the list bounds the root's value from above
 pub data Status : Type 0 where
@@ -67,11 +67,11 @@ purge layout p [] = []
 purge layout p (s ∷ ss) = cond (layout .above p (s .node)) (purge layout p ss) (s ∷ purge layout p ss)
 
 -- a LIVE state: a leaf is evaluated, and SOLVED; of a Max node all children are LIVE, of a Min node the first
-abbrev pub replaceLive : (ℕ → ℕ) → Taken → Kind → Step
-replaceLive ν k tip =
+abbrev pub replaceLive : (ℕ → ℕ) → Taken → Tree → Step
+replaceLive ν k (leaf n) =
     evaluating (k .state .node) (put k (solved (k .state .node) (min (k .state .merit) (ν (k .state .node))) ∷ []))
-replaceLive ν k (fork Max c cs) = quiet (put k (map (λ n. live n (k .state .merit)) (c ∷ cs)))
-replaceLive ν k (fork Min c cs) = quiet (put k (live c (k .state .merit) ∷ []))
+replaceLive ν k (inner n Max ks) = quiet (put k (map (λ c. live c (k .state .merit)) (firstOf ks ∷ othersOf ks)))
+replaceLive ν k (inner n Min ks) = quiet (put k (live (firstOf ks) (k .state .merit) ∷ []))
 
 -- a SOLVED state: under Max the parent is SOLVED and all states below it go; under Min the next brother is LIVE,
 -- after the last the parent is SOLVED
@@ -83,7 +83,7 @@ replaceSolved layout k (under p Min (some b)) = quiet (put k (live b (k .state .
 replaceSolved layout k (under p Min none) = quiet (put k (solved p (k .state .merit) ∷ []))
 
 abbrev pub replace : (ℕ → ℕ) → Layout → Taken → Status → Step
-replace ν layout k LIVE = replaceLive ν k (layout .kind (k .state .node))
+replace ν layout k LIVE = replaceLive ν k (layout .subtree (k .state .node))
 replace ν layout k SOLVED = replaceSolved layout k (layout .link (k .state .node))
 
 -- one step of SSS*: the state taken, replaced

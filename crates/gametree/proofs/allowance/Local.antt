@@ -3,8 +3,8 @@ use Prim.Native.Nat.{ℕ, zero, suc, min}
 use mathlib.Core.Path.{_≡_, refl, ap}
 use mathlib.Core.List.{List, [], _∷_}
 use Rattle.lists.specs.Lists.{All}
-use Rattle.gametree.specs.Tree.{Max, Min}
-use Rattle.gametree.specs.Layout.{Kind, tip, fork, Layout}
+use Rattle.gametree.specs.Tree.{Max, Min, Tree, leaf, inner}
+use Rattle.gametree.specs.Layout.{Layout}
 use Rattle.gametree.specs.Sss.{Status, LIVE, SOLVED, State, Taken, pick, Step, empty, stop, quiet, evaluating}
 use Rattle.gametree.specs.Sss.{solved, put, replaceLive, replace, step, takenMerit, Ran}
 use Rattle.gametree.specs.engine.Within.{followWithin, runWithin}
@@ -15,14 +15,14 @@ module _ (ν μ : ℕ → ℕ) where
     same : {x : Step} → Near x x
     scored : {n : ℕ} {M N : List State} → (ν n ≡ μ n → M ≡ N) → Near (evaluating n M) (evaluating n N)
 
-  live-near : (k : Taken) (c : Kind) → Near (replaceLive ν k c) (replaceLive μ k c)
-  live-near k tip =
+  live-near : (k : Taken) (t : Tree) → Near (replaceLive ν k t) (replaceLive μ k t)
+  live-near k (leaf n) =
       scored (λ e. ap (λ v. put k (solved (k .state .node) (min (k .state .merit) v) ∷ [])) e)
-  live-near k (fork Max c cs) = same
-  live-near k (fork Min c cs) = same
+  live-near k (inner n Max ks) = same
+  live-near k (inner n Min ks) = same
 
   replace-near : (Y : Layout) (k : Taken) (u : Status) → Near (replace ν Y k u) (replace μ Y k u)
-  replace-near Y k LIVE = live-near k (Y .kind (k .state .node))
+  replace-near Y k LIVE = live-near k (Y .subtree (k .state .node))
   replace-near Y k SOLVED = same
 
   step-near : (Y : Layout) (L : List State) → Near (step ν Y L) (step μ Y L)

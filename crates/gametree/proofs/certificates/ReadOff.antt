@@ -358,7 +358,8 @@ mutual
   fits-each p μ g b (last t) d h = fits-test p μ g b t d h
   fits-each p μ g b (t then ts) d h =
       let k =
-      kids-fit g (isChosen p μ b t) (isChosenEach p μ b ts) t ts (d .2) (chosen-in p μ b t) (chosenEach-in p μ b ts) h in
+      kids-fit g (isChosen p μ b t) (isChosenEach p μ b ts) t ts (d .2) (chosen-in p μ b t)
+      (chosenEach-in p μ b ts) h in
       (fits-test p μ g b t (d .0) (k .0), fits-each p μ g b ts (d .1) (k .1))
 
   fits-first : (p : Side) (μ : ℕ → ℕ) (g : ℕ → Bool) (b : Bool) (v : ℕ) (ks : Children) → DistinctChildren ks

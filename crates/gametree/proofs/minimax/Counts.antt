@@ -62,9 +62,11 @@ mutual
 
   countChildren-one : (x : ℕ) (ks : Children) → DistinctChildren ks → leafCountChildren (λ n. eqb n x) ks ≤ 1
   countChildren-one x (last t) d = count-one x t d
-  countChildren-one x (t then ts) d = either (among (nodes t) x) refl (count-one x t (d .0)) (countChildren-one x ts (d .1))
+  countChildren-one x (t then ts) d =
+      either (among (nodes t) x) refl (count-one x t (d .0)) (countChildren-one x ts (d .1))
     where
-      either : (b : Bool) → among (nodes t) x ≡ b → leafCount (λ n. eqb n x) t ≤ 1 → leafCountChildren (λ n. eqb n x) ts ≤ 1
+      either : (b : Bool) → among (nodes t) x ≡ b → leafCount (λ n. eqb n x) t ≤ 1
+          → leafCountChildren (λ n. eqb n x) ts ≤ 1
           → leafCount (λ n. eqb n x) t + leafCountChildren (λ n. eqb n x) ts ≤ 1
       either true e i j = omega (arith, countChildren-absent x ts (λ k. d .2 x (nodes-in x t e) k))
       either false e i j = omega (arith, count-absent x t (λ k. true-not-false (in-nodes x t k) e))

@@ -1,25 +1,25 @@
--- MTD's memory in two lists (Mtd), and at each node of the tree (engine/Memo): on a tree with distinct numbers a node is
--- tried in the one as it is passed in the other, and so both runs are the same.
+-- MTD's memory in two lists (Mtd), and at each node of the tree (engine/Memo). On a tree with distinct numbers to try a
+-- node in the one is to pass it in the other, and so both runs are the same.
 use Prim.Native.Nat.{ℕ, zero, suc, _+_}
 use native.Mathlib.Omega.{arith}
 use mathlib.Core.Path.{_≡_, refl, sym, _∙_, ap, ap₂, subst}
 use mathlib.Core.Logic.{inl, inr}
 use mathlib.Core.Bool.{Bool, true, false, cond, _||_, or-false}
 use mathlib.Core.List.{List, [], _∷_, _++_, append-assoc, append-nil}
-use lib.Dec.{leb, ltb}
+use lib.Dec.{ltb}
 use borrow.Author.Tests.{ne-eqb}
 use Rattle.lists.specs.Lists.{among}
 use Rattle.gametree.specs.Tree.{Side, Tree, leaf, inner, Children, last, _then_, greatest, In, InChildren}
 use Rattle.gametree.specs.Tree.{Distinct, DistinctChildren}
 use Rattle.gametree.specs.Bounds.{high}
-use Rattle.gametree.specs.Mtd.{MtdMemory, withLeaf, withNode, Trial, trial, settles, tryNode, tryChildren, MtdRun}
+use Rattle.gametree.specs.Mtd.{MtdMemory, withNode, Trial, trial, settles, tryNode, tryChildren, MtdRun}
 use Rattle.gametree.specs.Mtd.{passesFrom, mtd}
 use Rattle.gametree.specs.engine.Memo.{Memo, MemoChildren, memoHigh, Pass, PassChildren, stay, entered, pass}
 use Rattle.gametree.specs.engine.Memo.{passChildren, MemoRun, run, fresh, memoMtd, withoutMemo}
-use Rattle.gametree.specs.engine.MemoArrays.{readMemo, readMemoChildren, Remembered, KidsRemembered}
+use Rattle.gametree.specs.engine.MemoArrays.{readMemo, readMemoChildren, Remembered}
 use Rattle.lists.proofs.Lists.{all-among, among-append, among-right, among-out}
-use Rattle.gametree.proofs.mtd.MemoArrays.{readMemoChildren-same, read-fresh, read-high, read-high-kids, rest-same}
-use Rattle.gametree.proofs.mtd.MemoArrays.{visit-ended, visit-joined}
+use Rattle.gametree.proofs.mtd.MemoArrays.{readMemoChildren-same, read-fresh, read-high, read-high-kids}
+use Rattle.gametree.proofs.mtd.MemoArrays.{rest-same, visit-ended, visit-joined}
 
 -- what two lists remember of a tree, and of children
 abbrev memoOf : MtdMemory → (t : Tree) → Memo t
@@ -237,8 +237,8 @@ follows : (ν : ℕ → ℕ) (f k γ : ℕ) (m : MtdMemory) (t : Tree) → Disti
     → Follows t (m .evaluated) k (passesFrom ν f k γ m t) (run ν f γ t (memoOf m t))
 follows ν zero k γ m t d = record { value = refl; evaluated = sym (append-nil (m .evaluated)); passes = omega arith }
 follows ν (suc f) k γ m t d =
-    follows-pass ν f k γ m t (tryNode ν γ m t) (matches ν γ m t d) _ (follows ν f (suc k) _ (tryNode ν γ m t .memory) t d)
-    (tryNode ν γ m t .notBelow) refl
+    let r = tryNode ν γ m t in
+    follows-pass ν f k γ m t r (matches ν γ m t d) _ (follows ν f (suc k) _ (r .memory) t d) (r .notBelow) refl
 
 -- two runs are the same if their parts are
 run-path : {a b i j : ℕ} {v w : List ℕ} → a ≡ b → v ≡ w → i ≡ j

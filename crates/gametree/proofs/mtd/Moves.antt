@@ -268,5 +268,6 @@ mtd-highMove ν n ks r =
     let t = inner n Max ks in
     let b = mtd-right ν t (r .scored) in
     rw (mtd-decided ν t r .highIs)
-    (first-high ν (memoMtd ν t .evaluated) _ ks (memoMtd ν t .memo .kids) (r .scored) (mtd-marks ν t (r .distinct) .marks)
+    (first-high ν (memoMtd ν t .evaluated) _ ks (memoMtd ν t .memo .kids) (r .scored)
+    (mtd-marks ν t (r .distinct) .marks)
     (omega (arith, b .high-is)) (rw (b .value) at (mtdMax-decides ν n ks (r .scored))))

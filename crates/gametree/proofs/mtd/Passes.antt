@@ -136,7 +136,8 @@ run-passes ν (suc f) γ w t m h k a g =
     rw (← append-assoc w v u) (omega (arith, i, more-there (among (map ν ((w ++ v) ++ u))) (memoHigh ν t n) γ b j)))
 
 -- MTD makes at most one pass more than there are different scores among the leaves that it evaluates
-pub passes-few : (ν : ℕ → ℕ) (t : Tree) → Proper ν t → memoMtd ν t .passes ≤ suc (different (map ν (memoMtd ν t .evaluated)))
+pub passes-few : (ν : ℕ → ℕ) (t : Tree) → Proper ν t
+    → memoMtd ν t .passes ≤ suc (different (map ν (memoMtd ν t .evaluated)))
 unfolding memoMtd
 passes-few ν t h =
     le-trans

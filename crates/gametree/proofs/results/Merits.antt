@@ -12,8 +12,8 @@ use lib.Dec.{ltb}
 use lib.ListN.{length, length-append}
 use borrow.Author.Tests.{ltb-true, ltb-false, eqb-true}
 use Rattle.lists.specs.Lists.{All}
-use Rattle.gametree.specs.Tree.{Max, Min, Tree, greatest}
-use Rattle.gametree.specs.Layout.{Kind, tip, fork, Link, root, under, Layout}
+use Rattle.gametree.specs.Tree.{Max, Min, Tree, leaf, inner, greatest}
+use Rattle.gametree.specs.Layout.{Link, root, under, Layout, firstOf, othersOf}
 use Rattle.gametree.specs.Sss.{Status, LIVE, SOLVED, State, live, solved, Taken, beats, choose, pick, takenMerit}
 use Rattle.gametree.specs.Sss.{put, Step, empty, stop, quiet, evaluating, purge, replaceLive, replaceSolved}
 use Rattle.gametree.specs.Sss.{replace, step, ListAfter, atStart, afterQuiet, afterEvaluating}
@@ -86,8 +86,8 @@ module _ (Q R : ℕ → Type 0) (f : (m : ℕ) → Q m → R m) (g : (m v : ℕ)
   put-one k s h i = put-all (λ x. Q (x .merit)) k (s ∷ []) h (i, tt)
 
   -- a replacement hands the merit on, or, at a leaf, the lesser of it and the score
-  live-merits : (ν : ℕ → ℕ) (k : Taken) (c : Kind) → TakenMerits k → StepMerits Q R (replaceLive ν k c)
-  live-merits ν k tip h =
+  live-merits : (ν : ℕ → ℕ) (k : Taken) (t : Tree) → TakenMerits k → StepMerits Q R (replaceLive ν k t)
+  live-merits ν k (leaf n) h =
       let new = solved (k .state .node) (min (k .state .merit) (ν (k .state .node))) in
       put-all (λ s. R (s .merit)) k (new ∷ []) (
         all-map _ _ (λ s i. f (s .merit) i) (k .left) (h .0),
@@ -95,9 +95,10 @@ module _ (Q R : ℕ → Type 0) (f : (m : ℕ) → Q m → R m) (g : (m v : ℕ)
         all-map _ _ (λ s i. f (s .merit) i) (k .right) (h .2),
       )
       (g _ _ (h .1), tt)
-  live-merits ν k (fork Max c cs) h =
-      put-all (λ s. Q (s .merit)) k (map (λ n. live n (k .state .merit)) (c ∷ cs)) h (lives _ (h .1) (c ∷ cs))
-  live-merits ν k (fork Min c cs) h = put-one k (live c (k .state .merit)) h (h .1)
+  live-merits ν k (inner n Max ks) h =
+      let cs = firstOf ks ∷ othersOf ks in
+      put-all (λ s. Q (s .merit)) k (map (λ c. live c (k .state .merit)) cs) h (lives _ (h .1) cs)
+  live-merits ν k (inner n Min ks) h = put-one k (live (firstOf ks) (k .state .merit)) h (h .1)
 
   solved-merits : (Y : Layout) (k : Taken) (c : Link) → TakenMerits k → StepMerits Q R (replaceSolved Y k c)
   solved-merits Y k root h = tt
@@ -110,7 +111,7 @@ module _ (Q R : ℕ → Type 0) (f : (m : ℕ) → Q m → R m) (g : (m v : ℕ)
 
   replace-merits : (ν : ℕ → ℕ) (Y : Layout) (k : Taken) (u : Status) → TakenMerits k
       → StepMerits Q R (replace ν Y k u)
-  replace-merits ν Y k LIVE h = live-merits ν k (Y .kind (k .state .node)) h
+  replace-merits ν Y k LIVE h = live-merits ν k (Y .subtree (k .state .node)) h
   replace-merits ν Y k SOLVED h = solved-merits Y k (Y .link (k .state .node)) h
 
   -- so what holds of all merits of a list holds of them after a step

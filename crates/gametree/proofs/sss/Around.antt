@@ -9,7 +9,7 @@ use mathlib.Core.List.{List, _∷_, _++_, map}
 use Rattle.lists.specs.Lists.{All}
 use Rattle.gametree.specs.Tree.{Side, Max, Min, Tree, leaf, inner, Children, last, _then_, number, In, InChildren}
 use Rattle.gametree.specs.engine.Memo.{Memo, MemoChildren}
-use Rattle.gametree.specs.Layout.{tip, fork, under, Layout}
+use Rattle.gametree.specs.Layout.{under, Layout, firstOf, othersOf}
 use Rattle.gametree.proofs.sss.Described.{Apart}
 use Rattle.gametree.specs.Sss.{Status, LIVE, SOLVED, State, live, solved, Step, quiet, evaluating, purge, replace}
 use Rattle.gametree.specs.Sss.{step}
@@ -172,16 +172,17 @@ module _ (ν : ℕ → ℕ) (Y : Layout) (γ : ℕ) (t : Tree) (L R : List State
       step-at ν Y L s R (a .less) r ∙ e
 
   -- a LIVE leaf is evaluated
-  pub takes-leaf : Y .kind (number t) ≡ tip
+  pub takes-leaf : (n : ℕ) → Y .subtree (number t) ≡ leaf n
       → step ν Y (L ++ (live (number t) γ ∷ R))
       ≡ evaluating (number t) (L ++ (solved (number t) (min γ (ν (number t))) ∷ R))
-  takes-leaf e = takes LIVE _ (rw e refl)
+  takes-leaf n e = takes LIVE _ (rw e refl)
 
   -- a LIVE inner node is replaced by children
-  pub takes-inner : (s : Side) (c : ℕ) (cs : List ℕ) → Y .kind (number t) ≡ fork s c cs
-      → step ν Y (L ++ (live (number t) γ ∷ R)) ≡ quiet (L ++ (map (λ k. live k γ) (opened s c cs) ++ R))
-  takes-inner Max c cs e = takes LIVE _ (rw e refl)
-  takes-inner Min c cs e = takes LIVE _ (rw e refl)
+  pub takes-inner : (n : ℕ) (s : Side) (ks : Children) → Y .subtree (number t) ≡ inner n s ks
+      → step ν Y (L ++ (live (number t) γ ∷ R))
+      ≡ quiet (L ++ (map (λ k. live k γ) (opened s (firstOf ks) (othersOf ks)) ++ R))
+  takes-inner n Max ks e = takes LIVE _ (rw e refl)
+  takes-inner n Min ks e = takes LIVE _ (rw e refl)
 
   -- a SOLVED child of a Max node hands up
   pub takes-max : (p : ℕ) (b : Option ℕ) → Y .link (number t) ≡ under p Max b

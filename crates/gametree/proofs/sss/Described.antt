@@ -4,7 +4,7 @@ use mathlib.Core.Path.{_≡_}
 use mathlib.Core.Bool.{true, false}
 use mathlib.Core.Option.{none, some}
 use Rattle.gametree.specs.Tree.{Side, Tree, leaf, inner, Children, last, _then_, number, In, InChildren}
-use Rattle.gametree.specs.Layout.{tip, fork, root, under, Layout, firstOf, othersOf}
+use Rattle.gametree.specs.Layout.{root, under, Layout, firstOf}
 
 -- no node of a child's tree is above a node of a younger brother's, nor the other way round, and the elder's are left
 -- of the younger's
@@ -15,9 +15,9 @@ Apart Y t ts =
 -- the layout answers as the tree says, below its root
 abbrev mutual
   pub Answers : Layout → Tree → Type 0
-  Answers Y (leaf n) = Y .kind n ≡ tip
+  Answers Y (leaf n) = Y .subtree n ≡ leaf n
   Answers Y (inner n s ks) =
-      (Y .kind n ≡ fork s (firstOf ks) (othersOf ks)) ×
+      (Y .subtree n ≡ inner n s ks) ×
       ((p : ℕ) → InChildren p ks → Y .above n p ≡ true) × AnswersChildren Y n s ks
 
   pub AnswersChildren : Layout → ℕ → Side → Children → Type 0

@@ -248,16 +248,16 @@ FrontStep t (evaluating n M) = Front t M
 
 module _ (ν : ℕ → ℕ) (Y : Layout) (r : Tree) (a : Answers Y r) (o : Y .link (number r) ≡ root) where
   live-front : (k : Taken) (u : Tree) → number u ≡ k .state .node → Within r u (k .left) (k .right)
-      → FrontStep r (replaceLive ν k (Y .kind (k .state .node)))
+      → FrontStep r (replaceLive ν k (Y .subtree (k .state .node)))
   live-front k (leaf n) e w =
-      rw (ap (Y .kind) (sym e) ∙ within-answers Y w a)
+      rw (ap (Y .subtree) (sym e) ∙ within-answers Y w a)
       (plug w (solved (k .state .node) _ ∷ []) (alone-front (leaf n) (solved (k .state .node) _) (sym e)))
   live-front k (inner n Max ks) e w =
-      rw (ap (Y .kind) (sym e) ∙ within-answers Y w a .0)
+      rw (ap (Y .subtree) (sym e) ∙ within-answers Y w a .0)
       (plug w (map (λ n. live n (k .state .merit)) (firstOf ks ∷ othersOf ks)) (inr (kids-live (k .state .merit) ks)))
   live-front k (inner n Min ks) e w =
       let c = first-child ks in
-      rw (ap (Y .kind) (sym e) ∙ within-answers Y w a .0)
+      rw (ap (Y .subtree) (sym e) ∙ within-answers Y w a .0)
       (plug w (live (firstOf ks) (k .state .merit) ∷ [])
       (inr (child-front ks (c .0) (c .2) (live (firstOf ks) _) (sym (c .1)))))
 

@@ -3,8 +3,8 @@ use Prim.Native.Nat.{ℕ, zero, suc}
 use mathlib.Core.Path.{_≡_, refl, _∙_, ap}
 use mathlib.Core.List.{List, [], _∷_}
 use Rattle.lists.specs.Lists.{All}
-use Rattle.gametree.specs.Tree.{Max, Min}
-use Rattle.gametree.specs.Layout.{Kind, tip, fork, Layout}
+use Rattle.gametree.specs.Tree.{Max, Min, Tree, leaf, inner}
+use Rattle.gametree.specs.Layout.{Layout}
 use Rattle.gametree.specs.Sss.{Status, LIVE, SOLVED, State, Taken, pick, Step, empty, stop, quiet, evaluating}
 use Rattle.gametree.specs.Sss.{replaceLive, replace, step, Ran, follow, runFrom}
 
@@ -16,15 +16,15 @@ stepLeaf (quiet M) = []
 stepLeaf (evaluating n M) = n ∷ []
 
 module _ (ν μ : ℕ → ℕ) where
-  replaceLive-local : (k : Taken) (c : Kind) → All (λ n. ν n ≡ μ n) (stepLeaf (replaceLive ν k c))
-      → replaceLive ν k c ≡ replaceLive μ k c
-  replaceLive-local k tip h = rw (h .0) refl
-  replaceLive-local k (fork Max c cs) h = refl
-  replaceLive-local k (fork Min c cs) h = refl
+  replaceLive-local : (k : Taken) (t : Tree) → All (λ n. ν n ≡ μ n) (stepLeaf (replaceLive ν k t))
+      → replaceLive ν k t ≡ replaceLive μ k t
+  replaceLive-local k (leaf n) h = rw (h .0) refl
+  replaceLive-local k (inner n Max ks) h = refl
+  replaceLive-local k (inner n Min ks) h = refl
 
   replace-local : (Y : Layout) (k : Taken) (u : Status) → All (λ n. ν n ≡ μ n) (stepLeaf (replace ν Y k u))
       → replace ν Y k u ≡ replace μ Y k u
-  replace-local Y k LIVE h = replaceLive-local k (Y .kind (k .state .node)) h
+  replace-local Y k LIVE h = replaceLive-local k (Y .subtree (k .state .node)) h
   replace-local Y k SOLVED h = refl
 
   step-local : (Y : Layout) (L : List State) → All (λ n. ν n ≡ μ n) (stepLeaf (step ν Y L)) → step ν Y L ≡ step μ Y L

@@ -2,14 +2,14 @@
 use Prim.Native.Nat.{ℕ}
 use mathlib.Core.Path.{_≡_, refl, sym, _∙_, ap, subst}
 use mathlib.Core.Logic.{inl, inr}
-use mathlib.Core.Bool.{Bool, true, false, cond, not, _&&_, _||_, or-false}
+use mathlib.Core.Bool.{Bool, true, false, cond, _||_, or-false}
 use mathlib.Core.List.{List, [], _∷_, _++_}
 use lib.Dec.{eqb}
 use borrow.Author.Tests.{eq-eqb, ne-eqb}
 use Rattle.lists.specs.Lists.{among}
 use Rattle.gametree.specs.Tree.{Side, Tree, leaf, inner, Children, last, _then_, number, nodes, nodesChildren, In}
 use Rattle.gametree.specs.Tree.{InChildren, Distinct, DistinctChildren}
-use Rattle.gametree.specs.Layout.{root, subtree, subtreeChildren, kindOf, linkIn, linkInChildren, aboveIn, before}
+use Rattle.gametree.specs.Layout.{root, subtreeAt, subtreeAtChildren, linkIn, linkInChildren, aboveIn, before}
 use Rattle.gametree.specs.Layout.{layoutOf}
 use Rattle.gametree.proofs.sss.Described.{Apart, Answers, AnswersChildren, Describes}
 use Rattle.lists.proofs.Choice.{cond-cases, true-not-false, or-false-both}
@@ -46,13 +46,13 @@ before-apart (x ∷ xs) ys p q h k =
 
 mutual
   -- the nodes of a subtree are the tree's
-  subtree-in : (p q : ℕ) (t : Tree) → In q (subtree p t) → In q t
+  subtree-in : (p q : ℕ) (t : Tree) → In q (subtreeAt p t) → In q t
   subtree-in p q (leaf n) = λ i. i
   subtree-in p q (inner n s ks) =
       cond-cases (λ u. In q u → In q (inner n s ks)) (eqb p n) _ _ (λ _ i. i)
       (λ _ i. inr (subtreeChildren-in p q ks i))
 
-  subtreeChildren-in : (p q : ℕ) (ks : Children) → In q (subtreeChildren p ks) → InChildren q ks
+  subtreeChildren-in : (p q : ℕ) (ks : Children) → In q (subtreeAtChildren p ks) → InChildren q ks
   subtreeChildren-in p q (last t) = subtree-in p q t
   subtreeChildren-in p q (t then ts) =
       cond-cases (λ u. In q u → InChildren q (t then ts)) (among (nodes t) p) _ _ (λ _ i. inl (subtree-in p q t i))
@@ -60,12 +60,12 @@ mutual
 
 -- the tree T looks at the nodes of t as t does
 record Looks (T t : Tree) : Type 0 where
-  subtrees : (p : ℕ) → In p t → subtree p T ≡ subtree p t
+  subtrees : (p : ℕ) → In p t → subtreeAt p T ≡ subtreeAt p t
   links : (p : ℕ) → In p t → (p ≡ number t → ⊥) → linkIn T p ≡ linkIn t p
   orders : (p q : ℕ) → In p t → In q t → before (nodes T) p q ≡ before (nodes t) p q
 
 record LooksChildren (T : Tree) (n : ℕ) (s : Side) (ks : Children) : Type 0 where
-  subtrees : (p : ℕ) → InChildren p ks → subtree p T ≡ subtreeChildren p ks
+  subtrees : (p : ℕ) → InChildren p ks → subtreeAt p T ≡ subtreeAtChildren p ks
   links : (p : ℕ) → InChildren p ks → linkIn T p ≡ linkInChildren n s ks p
   orders : (p q : ℕ) → InChildren p ks → InChildren q ks → before (nodes T) p q ≡ before (nodesChildren ks) p q
 
@@ -95,10 +95,10 @@ module _ (T : Tree) (n : ℕ) (s : Side) (t : Tree) (ts : Children) (d : (p : �
   out : (p : ℕ) → InChildren p ts → among (nodes t) p ≡ false
   out p i = out-nodes p t (λ j. d p j i)
 
-  first-subtrees : (p : ℕ) → In p t → subtree p T ≡ subtree p t
+  first-subtrees : (p : ℕ) → In p t → subtreeAt p T ≡ subtreeAt p t
   first-subtrees p i = l .subtrees p (inl i) ∙ rw (in-nodes p t i) refl
 
-  rest-subtrees : (p : ℕ) → InChildren p ts → subtree p T ≡ subtreeChildren p ts
+  rest-subtrees : (p : ℕ) → InChildren p ts → subtreeAt p T ≡ subtreeAtChildren p ts
   rest-subtrees p i = l .subtrees p (inr i) ∙ rw (out p i) refl
 
   looks-first : Looks T t
@@ -126,11 +126,11 @@ module _ (T : Tree) (n : ℕ) (s : Side) (t : Tree) (ts : Children) (d : (p : �
   -- no node of the first is above one of the others, nor the other way round
   apart-first : (p q : ℕ) → In p t → InChildren q ts → aboveIn T p q ≡ false
   apart-first p q i j =
-      rw (first-subtrees p i, out-nodes q (subtree p t) (λ k. d q (subtree-in p q t k) j)) refl
+      rw (first-subtrees p i, out-nodes q (subtreeAt p t) (λ k. d q (subtree-in p q t k) j)) refl
 
   apart-rest : (p q : ℕ) → In p t → InChildren q ts → aboveIn T q p ≡ false
   apart-rest p q i j =
-      rw (rest-subtrees q j, out-nodes p (subtreeChildren q ts) (λ k. d p i (subtreeChildren-in q p ts k))) refl
+      rw (rest-subtrees q j, out-nodes p (subtreeAtChildren q ts) (λ k. d p i (subtreeChildren-in q p ts k))) refl
 
   looks-apart : Apart (layoutOf T) t ts
   looks-apart p q i j =
@@ -141,10 +141,10 @@ module _ (T : Tree) (n : ℕ) (s : Side) (t : Tree) (ts : Children) (d : (p : �
 mutual
   -- so its layout answers as t says
   looks-answers : (T t : Tree) → Distinct t → Looks T t → Answers (layoutOf T) t
-  looks-answers T (leaf n) d l = ap kindOf (l .subtrees n refl)
+  looks-answers T (leaf n) d l = l .subtrees n refl
   looks-answers T (inner n s ks) d l =
-      let e : subtree n T ≡ inner n s ks = l .subtrees n (inl refl) ∙ rw (eq-eqb n n refl) refl in (
-        ap kindOf e,
+      let e : subtreeAt n T ≡ inner n s ks = l .subtrees n (inl refl) ∙ rw (eq-eqb n n refl) refl in (
+        e,
         λ p i. rw (e, ne-eqb p n (other p n ks (d .0) i), in-nodesChildren p ks i) refl,
         looks-answersChildren T n s ks (d .1) (looks-kids T n s ks (d .0) l),
       )

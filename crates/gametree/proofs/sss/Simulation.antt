@@ -28,7 +28,7 @@ use Rattle.gametree.specs.Tree.{InChildren}
 use Rattle.gametree.specs.Tree.{Scored, ScoredChildren}
 use Rattle.gametree.specs.engine.Memo.{Memo, MemoChildren, memoHighChildren, Pass, PassChildren, entered, pass}
 use Rattle.gametree.specs.engine.Memo.{passChildren, freshChildren}
-use Rattle.gametree.specs.Layout.{tip, under, Layout, firstOf, othersOf}
+use Rattle.gametree.specs.Layout.{under, Layout, firstOf}
 use Rattle.gametree.proofs.sss.Described.{Answers, AnswersChildren}
 use Rattle.gametree.specs.Sss.{State, live, solved, quiet, step}
 use Rattle.lists.proofs.Choice.{cond-cases, true-not-false}
@@ -80,12 +80,12 @@ module _ (ν : ℕ → ℕ) (Y : Layout) (γ : ℕ) (g : γ ≤ greatest) where
   -- STEP 5. A LEAF
 
   -- LIVE, it is evaluated; SOLVED, nothing is done
-  sim-leaf : (n : ℕ) (m : Memo (leaf n)) (w : Fitted ν γ (leaf n) m) → Y .kind n ≡ tip
+  sim-leaf : (n : ℕ) (m : Memo (leaf n)) (w : Fitted ν γ (leaf n) m) → Y .subtree n ≡ leaf n
       → AtMost γ (states ν γ (leaf n) m w) → (L R : List State) → AroundTree Y γ (leaf n) L R
       → Sim ν Y γ (leaf n) (work ν γ (leaf n) m w) (states ν γ (leaf n) m w) L R (pass ν γ (leaf n) m)
   sim-leaf n m (inl e) p b L R a =
       let f : m .evaluated ≡ false = ap (λ (x : Memo (leaf n)). x .evaluated) e in
-      let taken = takes-leaf ν Y γ (leaf n) L R a p in
+      let taken = takes-leaf ν Y γ (leaf n) L R a n p in
       rw f (record {
         below = λ B d.
             let h : min γ (ν n) ≡ ν n = omega (arith, leb-false γ (ν n) d) in
@@ -232,7 +232,7 @@ module _ (ν : ℕ → ℕ) (Y : Layout) (γ : ℕ) (g : γ ≤ greatest) where
         simChildren n s ks (m .kids) (fitted-fresh ν γ s ks (m .kids) f) (p .2) h (k .1)
         (fresh-atMost ν γ s ks (m .kids) f)
         (p .1) L R (narrow (λ p i. inr i) a) in
-        let entry = takes-inner ν Y γ (inner n s ks) L R a s (firstOf ks) (othersOf ks) (p .0) in
+        let entry = takes-inner ν Y γ (inner n s ks) L R a n s ks (p .0) in
         sim-inner n s ks m (inl e) L R a
         (record {
           below = λ x d. enter (fullChildren s ks) x entry (rw (E, W) at (S .below x d));
