@@ -32,22 +32,13 @@ pub fn graft(first: &[u8], node: usize, second: &[u8], result: &mut [u8]) -> Che
     let Checked::Nodes(size) = checked else {
         return checked;
     };
-    write(first, node, second, result, size);
+    let mut sources = [0u32; MAX_NODES];
+    write_frames(first, node, second, result, &mut sources, size);
     checked
 }
 
-// The table of the result, which has so many nodes.
-fn write(first: &[u8], node: usize, second: &[u8], result: &mut [u8], size: usize)
-    requires { ⌜ Graftable (now first) node (now second) ⌝ }
-    requires { ⌜ (size ≡ graftSize (now first) (now second)) × (frameSize * size ≤ length (now result)) ⌝ }
-    ensures { λ _. ⌜ now (result .exit) ≡ graftTable (now (first .entry)) node (now (second .entry))
-        ++ drop (frameSize * size) (now (result .entry)) ⌝ }
-{
-    let mut sources = [0u32; MAX_NODES];
-    write_frames(first, node, second, result, &mut sources, size);
-}
-
-// The frames of the result, one source after the other, each followed by the sources of its children.
+// The table of the result, which has so many nodes: its frames, one source after the other, each followed by the
+// sources of its children.
 fn write_frames(
     first: &[u8],
     node: usize,

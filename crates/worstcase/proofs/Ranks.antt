@@ -104,8 +104,8 @@ module _ (R : List ℕ → List ℕ → Type 0) (Q : ℕ → Type 0) (m : ℕ)
 -- the table's length stays
 pub ranked-length : (r : ℕ) (T : Tree) (t : List ℕ) → length (ranked r T t) ≡ length t
 ranked-length r T t =
-    ranked-keeps (λ a b. length a ≡ length t) (λ i. Unit) (r + length (leaves T)) (λ i q a b f l e. rank-length i q a ∙ e)
-    r T t t (every-leaf _ (λ n. tt) T) (omega arith) refl
+    ranked-keeps (λ a b. length a ≡ length t) (λ i. Unit) (r + length (leaves T))
+    (λ i q a b f l e. rank-length i q a ∙ e) r T t t (every-leaf _ (λ n. tt) T) (omega arith) refl
 
 -- a position that holds no byte of a leaf's value keeps what it held
 pub ranked-other : (r : ℕ) (T : Tree) (t : List ℕ) (p : ℕ) → EveryLeaf (Off p) T → getD (ranked r T t) p 0 ≡ getD t p 0

@@ -14,22 +14,22 @@ returns c =
     ap (λ x. record { answer = x; result = a .result .now }) g
     ∙ graft-rejected (a .first .now) (a .node) (a .second .now) (a .result .now) _ (rw g at (k .ask .ensures))
 
-write-requires : tie.Need-write-requires
-write-requires c κs =
-    let k = c .before .before in
+write-frames-requires : tie.Need-write-frames-requires
+write-frames-requires c κs =
+    let k = c .before .before .before in
     let a = k .before .before .before .before .before .before .args in
     let p = nodes-graftable (a .first .now) (a .node) (a .second .now) (a .result .now) _
     (rw (k .checked .given .1) at (k .before .before .ask .ensures)) in
-    (p .1, (p .0, omega (arith, p)))
+    (p .1, (p .0, omega (arith, p), omega (arith, p .1 .atMost)))
 
 returns-2 : tie.Need-returns-2
 returns-2 c =
-    let w = c .before .before in
-    let k = w .before .before .before in
+    let w = c .before .before .before in
+    let k = w .before .before .before .before in
     let a = k .before .before .before .before .before .before .args in
     let g = k .checked .given .1 in
     graft-written (a .first .now) (a .node) (a .second .now) (a .result .now) _ _
-    (rw g at (k .before .before .ask .ensures)) (w .write .ensures)
+    (rw g at (k .before .before .ask .ensures)) (w .write-frames .ensures)
 
 pub graft-spec : {M : Type 1} → statement M
 graft-spec =
@@ -39,6 +39,7 @@ graft-spec =
     (λ c. search needs)
     (λ c. search needs)
     returns
-    write-requires
+    (λ c. search needs)
+    write-frames-requires
     (λ c. search needs)
     returns-2)

@@ -65,7 +65,8 @@ depths h =
       arith,
       h .before .before .depth-at .ensures,
       h .height .ensures,
-      positioned-depth (first m) _ (holds-positions (filled m)) (node m) (max-leaf (first m) (node m) (passed e) .inside),
+      positioned-depth (first m) _ (holds-positions (filled m)) (node m)
+          (max-leaf (first m) (node m) (passed e) .inside),
     )
 
 is-max-leaf-requires : tie.Need-is-max-leaf-requires

@@ -128,8 +128,8 @@ module _ (t : ℕ) where
       let a = c .before .before .before .before .before in
       turn-starts _ _ Max _ _ (a .pre .1) _ _ _ (omega arith) (c .first-child .ensures .0) (omega arith) (omega arith)
 
-  max-child-side-requires : max-lts.Need-child-side-requires (calls t) (at max-turn.Pre t) max-turn.Post (inv Max) measure
-  max-child-side-requires c κs =
+  max-side-requires : max-lts.Need-child-side-requires (calls t) (at max-turn.Pre t) max-turn.Post (inv Max) measure
+  max-side-requires c κs =
       let l = c .before in
       let x = max-start l .pre .1 .searchable in
       child-within _ (x .formed) (x .inside) (max-child l (omega arith))
@@ -163,7 +163,7 @@ module _ (t : ℕ) where
       (λ c. search needs)
       (λ c. omega (arith, inner-left _ _ Max _ _ (c .before .before .before .before .before .pre .1) (omega arith)))
       max-loop-holds
-      max-child-side-requires
+      max-side-requires
       (λ c. search needs)
       (λ c κs. max-ready (c .before .before .before) (omega arith) Max (c .before .enum-told .given .1))
       (λ c. search needs)
@@ -240,8 +240,8 @@ module _ (t : ℕ) where
       let a = c .before .before .before .before .before in
       turn-starts _ _ Min _ _ (a .pre .1) _ _ _ (omega arith) (c .first-child .ensures .0) (omega arith) (omega arith)
 
-  min-child-side-requires : min-lts.Need-child-side-requires (calls t) (at min-turn.Pre t) min-turn.Post (inv Min) measure
-  min-child-side-requires c κs =
+  min-side-requires : min-lts.Need-child-side-requires (calls t) (at min-turn.Pre t) min-turn.Post (inv Min) measure
+  min-side-requires c κs =
       let l = c .before in
       let x = min-start l .pre .1 .searchable in
       child-within _ (x .formed) (x .inside) (min-child l (omega arith))
@@ -275,7 +275,7 @@ module _ (t : ℕ) where
       (λ c. search needs)
       (λ c. omega (arith, inner-left _ _ Min _ _ (c .before .before .before .before .before .pre .1) (omega arith)))
       min-loop-holds
-      min-child-side-requires
+      min-side-requires
       (λ c. search needs)
       (λ c κs. min-ready (c .before .before .before) (omega arith) Max (c .before .enum-told .given .1))
       (λ c. search needs)
