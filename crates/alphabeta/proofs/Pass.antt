@@ -58,7 +58,7 @@ module _ (ν : ℕ → ℕ) (g : ℕ → Tree) (s : Side) where
   unfolding rest childrenFrom
   rest-more a b k m h v e = let z : m - k ≡ suc (m - (k + 1)) = omega arith in rw (z, e)
 
-  module _ (a b k m : ℕ) (w : SearchResult) (p₀ p p′ : Progress) (v : ℕ)
+  module _ (a b k m : ℕ) {w : SearchResult} {p₀ p p′ : Progress} {v : ℕ}
       (o : Remainder w (rest a b k m) p₀ p) (d : Gives (alphaBeta ν a b (g k)) p p′ v) where
     -- after the last child the whole is given
     pub pass-ends : k ≡ m → Gives w p₀ p′ v

@@ -129,7 +129,7 @@ module _ (t : List ℕ) (wf : WellFormed t) where
             × (m′ ≡ rootMove (valuation t) (tree t))
         unfolding value
         root-last h = (
-          pass-ends _ _ _ _ _ _ _ _ _ _ _ _ (u .turn .remainder) (v .gives) h,
+          pass-ends _ _ _ _ _ _ _ (u .turn .remainder) (v .gives) h,
           raised ∙ sym (raiser-last (valuation t) (treeAt t) a m k end h) ∙ u .move,
         )
 
@@ -159,7 +159,7 @@ module _ (t : List ℕ) (wf : WellFormed t) where
                         visit-waits t wf 0 (wf .nonEmpty) _ _ _ _ _ _ root-child (u .turn .unvisited)
                         (ap (λ q. q .marks) (v .gives .1));
                     remainder =
-                        pass-goes-on _ _ _ _ _ _ _ _ _ _ _ _ (u .turn .remainder) (v .gives) _ _ h (omega arith) refl
+                        pass-goes-on _ _ _ _ _ _ _ (u .turn .remainder) (v .gives) _ _ h (omega arith) refl
                         (omega arith);
                   };
               below = omega arith;

@@ -214,14 +214,14 @@ module _ (t : ℕ) where
             visit-waits _ (r .formed) _ (r .inside) _ _ _ _ _ _ (child-of l) (l .loop .inv .unvisited)
             (ap (λ p. p .marks) (v .gives .1));
         remainder =
-            pass-goes-on _ _ _ _ _ _ _ _ _ _ _ _ (l .loop .inv .remainder) (v .gives) _ _ (omega arith)
+            pass-goes-on _ _ _ _ _ _ _ (l .loop .inv .remainder) (v .gives) _ _ (omega arith)
             (c .before .before .raised .ensures) (c .before .lowered .ensures) (omega arith);
       }
 
   returns-2 : lts.Need-returns-2 (calls t) (at t) own.Post Inv μ-loop
   returns-2 c =
       let v = visits (c .before) in
-      let g = pass-ends _ _ _ _ _ _ _ _ _ _ _ _ (looping (c .before) .loop .inv .remainder) (v .gives)
+      let g = pass-ends _ _ _ _ _ _ _ (looping (c .before) .loop .inv .remainder) (v .gives)
       (c .if3 .taken) in
       (g .0, (g .1, v .counted))
 
@@ -230,7 +230,7 @@ module _ (t : ℕ) where
       let j = c .before .before .before .before in
       let v = visits j in
       let g =
-      pass-stops _ _ _ _ _ _ _ _ _ _ _ _ (looping j .loop .inv .remainder) (v .gives) _ _ (omega arith)
+      pass-stops _ _ _ _ _ _ _ (looping j .loop .inv .remainder) (v .gives) _ _ (omega arith)
       (c .before .before .raised .ensures) (c .before .lowered .ensures) (omega arith) in
       (g .0, (g .1, v .counted))
 
