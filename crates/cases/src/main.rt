@@ -27,15 +27,14 @@ use tablecalls::least::print_least_counts;
 use tablecalls::least::print_regular;
 use tablecalls::tables::print_children;
 use tablecalls::wanted::print_least_value;
+use text::LINE_FEED;
 ghost use mathlib.Core.Path.{_≡_};
 ghost use lib.ListN.{getD};
 
-// What a title and a call start with, and what ends a line.
+// What a title and a call start with.
 const TITLE: u8 = b'#';
 
 const CALL: u8 = b'@';
-
-const LINE_FEED: u8 = 10;
 
 fn main() {
     print_made_trees();

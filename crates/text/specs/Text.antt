@@ -6,6 +6,7 @@ use mathlib.Core.List.{List, [], _∷_, _++_}
 use lib.Dec.{ltb}
 use lib.IntN.{ℤ, pos, negsuc}
 use lib.ListN.{length, take, drop, replicate}
+pub use Rattle.lines.specs.Line.{lineFeed}
 use Rattle.text.specs.declared.Text.{Text}
 
 -- the text of a number in base ten, of at most so many digits
@@ -22,12 +23,9 @@ abbrev pub signedDecimal : ℤ → List ℕ
 signedDecimal (pos n) = decimal n
 signedDecimal (negsuc n) = 45 ∷ decimal (suc n)
 
--- a blank, and the end of a line
+-- a blank
 abbrev pub space : ℕ
 space = 32
-
-abbrev pub lineFeed : ℕ
-lineFeed = 10
 
 -- "refused", the number and the place
 abbrev pub refusedLine : ℕ → ℕ → List ℕ

@@ -1,5 +1,6 @@
 // Text laid down piece by piece: words, numbers in base ten, and the line of a rejection, which is given back by value.
 use frames::Rejection;
+pub use lines::LINE_FEED;
 ghost use mathlib.Core.Path.{_≡_};
 ghost use mathlib.Core.List.{_∷_, []};
 ghost use lib.IntN.{natAbs};
@@ -8,12 +9,10 @@ ghost use Rattle.text.specs.Text.{space, decimal, signedDecimal, refused
 // How many bytes a text has: room for every report.
 pub const TEXT_SIZE: usize = 256;
 
-// A minus sign, a blank and the end of a line.
+// A minus sign and a blank.
 const MINUS: u8 = b'-';
 
 const BLANK: u8 = b' ';
-
-pub const LINE_FEED: u8 = 10;
 
 // The digit 0, and the base of the numbers.
 const ZERO: usize = b'0' as usize;
