@@ -1,9 +1,10 @@
 -- The sentence of the release note, then the value and the bytes behind it (demands 3, 2 and 1), each said of the
--- functions that run: of their lowered code, which a back end that is not verified then compiles (`Runs`, `RunBoth` and
--- `EachSearch` in specs/). It rests on what is said by `Marked` and `CertifiedBy` (specs/Handed.antt), by the tree of a
--- table (`tree` and `valuation` in frames/specs/Tree.antt) and by `minimax` and `rootMove` (gametree/specs); and that
--- what the searches do is what the papers call by their names, on `reached`, `mtd` and `sss` (gametree/specs). The
--- other sentences: Sentences.antt.
+-- functions that run: of their lowered code, which an unverified back end then compiles (`Runs`, `RunBoth` and
+-- `EachSearch` in specs/). Read with it `Marked` and `CertifiedBy` (specs/Handed.antt), the tree of a table (`tree` and
+-- `valuation` in frames/specs/Tree.antt), `minimax` and `rootMove` (gametree/specs); and `reached`, `mtd` and `sss`
+-- (gametree/specs), for whether the three searches are those of the papers. Sentences.antt has the other sentences.
+-- In a statement about a call the arguments come first, in the order of the code, then the answer r, then the
+-- parameters at exit; t and u are tables, m marks, f flags, o lists of leaves.
 use Prim.Native.Nat.{ℕ}
 use mathlib.Core.Path.{_≡_, sym, ap, _∙_}
 use mathlib.Core.Logic.{_↔_}
@@ -64,8 +65,9 @@ use Rattle.demands.proofs.PlainCalls.{refusal}
 
 -- THE SENTENCE
 
--- "it values no leaf that alpha-beta would have passed over": of one table, each leaf that `sss::search` marks,
--- `alphabeta::search` marks; neither call is refused, and SSS* may be stopped by its allowance
+-- "it values no leaf that alpha-beta would have passed over": whenever `sss::search` and `alphabeta::search` are called
+-- on one table and neither is refused, each leaf that the first marks the second marks too; SSS* may be stopped by its
+-- allowance
 pub no-leaf-passed-over : RunBoth sss.search.ended alphabeta.search.ended sss.search.Symbol.routine
     alphabeta.search.Symbol.routine
     (λ κs (t, _) r (_, (_, (m, (f, _)))) κs′ (u, _) r′ (_, (m′, (f′, _))). u .now ≡ t .now
@@ -116,8 +118,8 @@ checker =
 -- THE BYTES
 
 -- "After a refusal all lent memory holds what it held before": the refusal is the first "no" to the questions that the
--- function puts, and what it was lent to change is as it was; the other public functions are lent nothing that they
--- could change
+-- function puts, and what it could change is as it was; the other public functions are lent nothing that they could
+-- change
 pub alphabeta-keeps : Runs alphabeta.search.ended alphabeta.search.Symbol.routine
     (λ κs (t, (m, (f, (o, _)))) r (_, (m′, (f′, (o′, _)))). (q : Rejection) → r ≡ ab-answer.Rejected q
     → (searchRejection (t .now) (length (m .now) ∷ length (f .now) ∷ length (o .now) ∷ []) ≡ some q)
