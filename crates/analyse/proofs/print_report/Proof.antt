@@ -6,27 +6,10 @@ use Rattle.text.proofs.Sizes.{length-within}
 use Rattle.analyse.proofs.print_report.Statement.{statement}
 use Rattle.analyse.proofs.print_report.Tie as tie
 
-write-requires : tie.Need-write-requires
-write-requires c κs = search needs
-
-array-share-prefix-bytes : tie.Need-array-share-prefix-bytes
-array-share-prefix-bytes c = length-within _ (c .before .write .ensures)
-
 slice-aggregate-write-all : tie.Need-slice-aggregate-write-all
 slice-aggregate-write-all c = sym (length-take-le _ _ (length-within _ (c .before .before .write .ensures)))
 
-write-all-requires : tie.Need-write-all-requires
-write-all-requires c κs = search needs
-
-returns : tie.Need-returns
-returns c = search needs
-
 pub print-report-spec : {M : Type 1} → statement M
 print-report-spec =
-    tie.close
-    (tie.spec
-    write-requires
-    array-share-prefix-bytes
-    slice-aggregate-write-all
-    write-all-requires
-    returns)
+    tie.close (tie.spec (λ c κs. search needs) (λ c. length-within _ (c .before .write .ensures))
+    slice-aggregate-write-all (λ c κs. search needs) (λ c. search needs))

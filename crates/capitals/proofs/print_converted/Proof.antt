@@ -20,35 +20,7 @@ within c =
     printed-within file (replicate maxFile 0) _ (o .ensures) in
     omega (arith, c .length-given .ensures)
 
-slice-aggregate-output : tie.Need-slice-aggregate-output
-slice-aggregate-output c = search needs
-
-output-requires : tie.Need-output-requires
-output-requires c κs = search needs
-
-length-given-requires : tie.Need-length-given-requires
-length-given-requires c κs = search needs
-
-array-share-prefix-text : tie.Need-array-share-prefix-text
-array-share-prefix-text c = within c
-
-slice-aggregate-write-all : tie.Need-slice-aggregate-write-all
-slice-aggregate-write-all c = sym (length-take-le _ _ (within (c .before)))
-
-write-all-requires : tie.Need-write-all-requires
-write-all-requires c κs = search needs
-
-returns : tie.Need-returns
-returns c = search needs
-
 pub print-converted-spec : {M : Type 1} → statement M
 print-converted-spec =
-    tie.close
-    (tie.spec
-    slice-aggregate-output
-    output-requires
-    length-given-requires
-    array-share-prefix-text
-    slice-aggregate-write-all
-    write-all-requires
-    returns)
+    tie.close (tie.spec (λ c. search needs) (λ c κs. search needs) (λ c κs. search needs) within
+    (λ c. sym (length-take-le _ _ (within (c .before)))) (λ c κs. search needs) (λ c. search needs))
