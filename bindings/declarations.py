@@ -4,9 +4,9 @@
     declarations.py [ARCHIVE]       compares; the last line says how many declarations there are, and how many differ
     declarations.py --try           tries wrong declarations: each must be found
 
-It reads each `#[no_mangle] pub extern "C" fn` and each `#[repr(C)]` struct of crates/buulset/src/lib.rt, and compares,
-in order, the kinds and names of the parameters, the result, and the members of the structs; the constants that stand in
-both; the version; and, where an archive is given, its symbols."""
+It reads each `#[no_mangle] pub extern "C" fn` of crates/buulset and each `#[repr(C)]` struct of crates/answers, and
+compares, in order, the kinds and names of the parameters, the result, and the members of the structs; the constants
+that stand in both; the version; and, where an archive is given, its symbols."""
 import ctypes
 import importlib.util
 import pathlib
@@ -15,8 +15,9 @@ import subprocess
 import sys
 
 HERE = pathlib.Path(__file__).resolve().parent
-SOURCE, HEADER, FFI, LIB, MODULE = (HERE / p for p in ("../crates/buulset/src/lib.rt", "c/buulset.h", "rust/src/ffi.rs",
-                                                        "rust/src/lib.rs", "python/buulset.py"))
+SOURCES = [HERE / "../crates" / crate / "src/lib.rt" for crate in ("buulset", "answers")]
+HEADER, FFI, LIB, MODULE = (HERE / path for path in (
+    "c/buulset.h", "rust/src/ffi.rs", "rust/src/lib.rs", "python/buulset.py"))
 KINDS = {"size_t": "usize", "uint8_t": "u8", "uint16_t": "u16", "uint32_t": "u32", "int16_t": "i16", "int32_t": "i32",
          "children_of": "children"}
 SIZES = {"FRAME_SIZE": "6", "TEXT_SIZE": "256", "BUULSET_FRAME_SIZE": "6", "BUULSET_TEXT_SIZE": "256"}
@@ -126,7 +127,7 @@ def differences(source, header, ffi, lib, module, archive=None):
             for name in sorted(set(wanted[i]) | set(got[i])):
                 compare(where, name, got[i].get(name), wanted[i].get(name))
     # the limits and the version that the Rattle crates name
-    sources = "".join(p.read_text() for p in sorted((HERE / "../crates").glob("*/src/*.rt")) if p != SOURCE.resolve())
+    sources = "".join(p.read_text() for p in sorted((HERE / "../crates").glob("*/src/*.rt")) if p not in SOURCES)
     named = constants(r"const (\w+): \w+ = ([\d_]+);", sources) | constants(r"const (\w+): \w+ = ([\d_]+);", source)
     for where, of in (("C", constants(r"#define BUULSET_(\w+) (\d+)\b", header)),
                       ("Rust", constants(r"pub const (\w+): \w+ = ([\d_]+);", lib))):
@@ -162,7 +163,7 @@ WRONG = (
 
 
 def main():
-    texts = [p.read_text() for p in (SOURCE, HEADER, FFI, LIB, MODULE)]
+    texts = ["".join(p.read_text() for p in SOURCES)] + [p.read_text() for p in (HEADER, FFI, LIB, MODULE)]
     if sys.argv[1:] == ["--try"]:
         missed = 0
         for which, old, new in WRONG:

@@ -3,8 +3,8 @@ use Prim.Native.Nat.{ℕ}
 use mathlib.Core.Path.{_≡_, ap, _∙_}
 use mathlib.Core.List.{List}
 use Rattle.certificate.specs.Search.{Outcome, ListedOutcome}
-use Rattle.buulset.specs.declared.Answer.{Answer}
-use Rattle.buulset.specs.Flat.{flatListed}
+use Rattle.answers.specs.declared.Answer.{Answer}
+use Rattle.buulset.specs.Outcome.{flatListed}
 
 -- the outcome of a search, by its parts
 abbrev pub given : {A : Type 0} → A → (evaluated certificate order : List ℕ) → ListedOutcome A

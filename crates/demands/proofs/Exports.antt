@@ -25,9 +25,11 @@ use Rattle.leastcount.specs.Answer.{leastAnswer}
 use Rattle.report.specs.Report as reports
 use Rattle.text.specs.Text.{refusedLine, textOf}
 use Rattle.buulset.proofs as buulset
-use Rattle.buulset.specs.Flat.{version, partOf, flatChecked, flatLine, flatChildren, flatText, flatVerdict, flatChoice}
-use Rattle.buulset.specs.Flat.{flatLeastValue, flatLeast, flatWrite, flatGraft, flatFill, flatSearch, flatListed}
-use Rattle.buulset.specs.Flat.{flatAlphaBeta, flatPlain, flatMtd, flatMtdf, flatSss}
+use Rattle.buulset.specs.Version.{version}
+use Rattle.buulset.specs.Children.{flatChildren, partOf}
+use Rattle.buulset.specs.Outcome.{flatWrite, flatGraft, flatFill, flatSearch, flatListed}
+use Rattle.flat.specs.Flat.{flatChecked, flatAlphaBeta, flatPlain, flatMtd, flatMtdf, flatSss, flatVerdict}
+use Rattle.flat.specs.Flat.{flatLeastValue, flatLeast, flatChoice, flatLine, flatText}
 use Rattle.demands.specs.Runs.{Runs}
 
 pub exported-version : Runs buulset.buulset_version.ended buulset.buulset_version.Symbol.routine

@@ -15,9 +15,6 @@ ghost use Rattle.positions.specs.Buffer.{written, stored};
 ghost use Rattle.positions.specs.engine.Positions.{sideNumber, packed as packedOf, positionEntry};
 ghost use Rattle.positions.specs.engine.Positions.{parentIn, depthIn, sideIn, positionIn};
 
-// How many nodes a small table has at most: it gets small work arrays.
-pub const SMALL_TABLE: usize = 64;
-
 // How many depths and sides an entry tells apart.
 const DEPTHS: u32 = MAX_NODES as u32;
 

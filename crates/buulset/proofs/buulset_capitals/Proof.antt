@@ -13,7 +13,7 @@ same-length : tie.Need-same-length
 same-length c = search needs
 
 returns : tie.Need-returns
-returns c = cc
+returns c = rw (c .flat-written .ensures, ← c .before .before .before .output .ensures)
 
 pub buulset-capitals-spec : {M : Type 1} → statement M
 buulset-capitals-spec =

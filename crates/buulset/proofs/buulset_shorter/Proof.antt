@@ -13,7 +13,7 @@ flat-choice-requires : tie.Need-flat-choice-requires
 flat-choice-requires c κs = search needs
 
 returns : tie.Need-returns
-returns c = cc
+returns c = rw (c .flat-choice .ensures, c .before .before .choose .ensures, c .before .flags .ensures .0)
 
 pub buulset-shorter-spec : {M : Type 1} → statement M
 buulset-shorter-spec = tie.close (tie.spec choose-requires flags-requires flat-choice-requires returns)

@@ -1,0 +1,2 @@
+-- The answers of the library for other languages.
+pub mod Answers

@@ -1,0 +1,49 @@
+-- `flat::flat_choice` meets its contract: each variant gives its own answer.
+use borrow.Author.Needs.{needs}
+use Rattle.flat.specs.Flat.{flatChoice}
+use Rattle.flat.proofs.flat_choice.Statement.{statement}
+use Rattle.flat.proofs.flat_choice.Tie as tie
+
+enum-told : tie.Need-enum-told
+enum-told c = search needs
+
+chosen-requires : tie.Need-chosen-requires
+chosen-requires c κs = search needs
+
+enum-told-2 : tie.Need-enum-told-2
+enum-told-2 c = search needs
+
+chosen-requires-2 : tie.Need-chosen-requires-2
+chosen-requires-2 c κs = search needs
+
+enum-known-answer : tie.Need-enum-known-answer
+enum-known-answer c = search needs
+
+no-choice-requires : tie.Need-no-choice-requires
+no-choice-requires c κs = search needs
+
+returns : tie.Need-returns
+unfolding flatChoice
+returns c = rw (c .before .enum-told .given .1) (c .chosen .ensures)
+
+returns-2 : tie.Need-returns-2
+unfolding flatChoice
+returns-2 c = rw (c .before .enum-told2 .given .1) (c .chosen2 .ensures)
+
+returns-3 : tie.Need-returns-3
+unfolding flatChoice
+returns-3 c = rw (c .before .before .answer .given .1) (c .no-choice .ensures)
+
+pub flat-choice-spec : {M : Type 1} → statement M
+flat-choice-spec =
+    tie.close
+    (tie.spec
+    enum-told
+    chosen-requires
+    enum-told-2
+    chosen-requires-2
+    enum-known-answer
+    no-choice-requires
+    returns
+    returns-2
+    returns-3)

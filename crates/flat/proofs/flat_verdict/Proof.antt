@@ -1,0 +1,42 @@
+-- `flat::flat_verdict` meets its contract: each variant gives its own answer.
+use borrow.Author.Needs.{needs}
+use mathlib.Core.Path.{sym, ap, _∙_}
+use mir.Syntax.{w16}
+use mir.ValLaws.{toZ-ofZ}
+use Rattle.answers.specs.Answers.{valued}
+use Rattle.flat.specs.Flat.{flatVerdict}
+use Rattle.flat.proofs.flat_verdict.Statement.{statement}
+use Rattle.flat.proofs.flat_verdict.Tie as tie
+
+enum-known-answer : tie.Need-enum-known-answer
+enum-known-answer c = search needs
+
+valued-requires : tie.Need-valued-requires
+valued-requires c κs = search needs
+
+enum-known-answer-2 : tie.Need-enum-known-answer-2
+enum-known-answer-2 c = search needs
+
+refused-requires : tie.Need-refused-requires
+refused-requires c κs = search needs
+
+returns : tie.Need-returns
+unfolding flatVerdict
+returns c =
+    c .valued .ensures ∙ ap valued (toZ-ofZ w16 _ (record { sfits = c .before .known-told .given .0 .1 }))
+    ∙ ap flatVerdict (sym (c .before .before .answer .given .1))
+
+returns-2 : tie.Need-returns-2
+unfolding flatVerdict
+returns-2 c = rw (c .before .before .answer2 .given .1) (c .refused .ensures)
+
+pub flat-verdict-spec : {M : Type 1} → statement M
+flat-verdict-spec =
+    tie.close
+    (tie.spec
+    enum-known-answer
+    valued-requires
+    enum-known-answer-2
+    refused-requires
+    returns
+    returns-2)

@@ -1,0 +1,2 @@
+-- What each call gives back, as an answer of numbers.
+pub mod Flat
