@@ -118,8 +118,9 @@ checker =
 -- THE BYTES
 
 -- "After a refusal all lent memory holds what it held before": the refusal is the first "no" to the questions that the
--- function puts, and what it could change is as it was; the other public functions are lent nothing that they could
--- change
+-- function puts, and what it could change is as it was. `convert::output` refuses only with 10, and then keeps its
+-- buffer by definition (`laidBy` in convert/specs/Printed.antt); the other public functions are lent nothing that they
+-- could change
 pub alphabeta-keeps : Runs alphabeta.search.ended alphabeta.search.Symbol.routine
     (λ κs (t, (m, (f, (o, _)))) r (_, (m′, (f′, (o′, _)))). (q : Rejection) → r ≡ ab-answer.Rejected q
     → (searchRejection (t .now) (length (m .now) ∷ length (f .now) ∷ length (o .now) ∷ []) ≡ some q)
