@@ -6,6 +6,7 @@ use flags::root_choice;
 use frames::Checked;
 use frames::MAX_NODES;
 use frames::SHORT_BUFFER;
+use frames::frame_count;
 use frames::rejected;
 use positions::fill;
 use tables::check;
@@ -70,7 +71,8 @@ pub fn write_certificate(table: &[u8], evaluated: &mut [u8], certificate: &mut [
     write_certificate_at(table, &positions, evaluated, certificate)
 }
 
-// The same by positions that are filled already.
+// The same by positions that are filled already. A buffer with less than an entry per node is no place for a
+// certificate: a caller that wants the move alone lends an empty one.
 pub fn write_certificate_at(
     table: &[u8],
     positions: &[u32],
@@ -78,30 +80,20 @@ pub fn write_certificate_at(
     certificate: &mut [u8],
 ) -> usize
     requires { ⌜ (WellFormed (now table)) × (Positioned (now table) (now positions)) ⌝ }
-    requires { ⌜ (frames (now table) ≤ length (now evaluated)) × (frames (now table) ≤ length (now certificate)) ⌝ }
-    ensures { λ r. ⌜ r ≡ boundMove (valuation (now (table .entry))) (marked (now (evaluated .entry)))
-        (tree (now (table .entry))) ⌝ }
-    ensures { λ _. ⌜ now (certificate .exit)
-        ≡ written (flag (valuation (now (table .entry))) (marked (now (evaluated .entry))) (tree (now (table .entry))))
-        (frames (now (table .entry))) (now (certificate .entry)) ⌝ }
-    ensures { λ _. ⌜ now (evaluated .exit) ≡ now (evaluated .entry) ⌝ }
-{
-    let mut lows = [0u32; MAX_NODES];
-    let mut highs = [0u32; MAX_NODES];
-    fill_bounds(table, positions, evaluated, &mut lows, &mut highs);
-    read_off(table, positions, &lows, &highs, certificate)
-}
-
-// The root move alone, by positions that are filled already.
-pub fn root_move(table: &[u8], positions: &[u32], evaluated: &mut [u8]) -> usize
-    requires { ⌜ (WellFormed (now table)) × (Positioned (now table) (now positions)) ⌝ }
     requires { ⌜ frames (now table) ≤ length (now evaluated) ⌝ }
     ensures { λ r. ⌜ r ≡ boundMove (valuation (now (table .entry))) (marked (now (evaluated .entry)))
         (tree (now (table .entry))) ⌝ }
+    ensures { λ _. ⌜ (frames (now (table .entry)) ≤ length (now (certificate .entry))
+        → now (certificate .exit)
+        ≡ written (flag (valuation (now (table .entry))) (marked (now (evaluated .entry))) (tree (now (table .entry))))
+        (frames (now (table .entry))) (now (certificate .entry))) ⌝ }
     ensures { λ _. ⌜ now (evaluated .exit) ≡ now (evaluated .entry) ⌝ }
 {
     let mut lows = [0u32; MAX_NODES];
     let mut highs = [0u32; MAX_NODES];
     fill_bounds(table, positions, evaluated, &mut lows, &mut highs);
-    root_choice(table, positions, &lows, &highs)
+    if certificate.len() < frame_count(table) {
+        return root_choice(table, positions, &lows, &highs);
+    }
+    read_off(table, positions, &lows, &highs, certificate)
 }

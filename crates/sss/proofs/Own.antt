@@ -7,7 +7,6 @@ use mathlib.Core.Option.{none}
 use mathlib.Core.List.{List, []}
 use lib.ListN.{length, replicate}
 use Rattle.lists.proofs.Choice.{clash}
-use Rattle.gametree.specs.Tree.{greatest}
 use Rattle.frames.specs.declared.Checked.the-variants.{Nodes}
 use Rattle.frames.specs.Frame.{maxNodes, frames}
 use Rattle.frames.specs.Formed.{WellFormed}
@@ -23,7 +22,7 @@ use Rattle.sss.specs.declared.SssAnswer.the-variants.{Found as FoundAnsw
 use Rattle.sss.specs.engine.Invariant.{Running}
 use Rattle.sss.specs.engine.Driven.{DrivenOwn}
 use Rattle.sss.specs.engine.Start.{begun}
-use Rattle.sss.specs.engine.Finish.{isSpent, endMerit, foundBy, spentBy}
+use Rattle.sss.specs.engine.Finish.{Answerable, isSpent, endMerit, foundBy, spentBy}
 use Rattle.sss.specs.Outcome.{sssLeaves, sssFound, outcomeBy}
 use Rattle.sss.proofs.Allowed.{leaves-few, enough}
 use Rattle.sss.proofs.Whole.{answerable, run-answers}
@@ -47,10 +46,8 @@ module _ (t : List ℕ) (wf : WellFormed t) (b o b₁ : List ℕ) (r : Run) (cle
       (d .driven .ran (ap (λ x. going (x .stage)) begins)))
 
   -- what the root move and the value are read off
-  pub own-asks : frames t ≤ length b → (frames t ≤ length b′) × (endMerit (r′ .stage) ≤ greatest)
-  own-asks i =
-      let a = answerable t wf maxNodes _ b o config ran (d .driven .stopped) b i i in
-      (a .marks, a .merit)
+  pub own-asks : frames t ≤ length b → Answerable t b′ (endMerit (r′ .stage))
+  own-asks i = answerable t wf maxNodes _ b o config ran (d .driven .stopped) i
 
   -- no tree has more leaves than are allowed, so the run finds
   pub own-gives : (foundBy t b′ (endMerit (r′ .stage)) (r′ .counts) ≡ sssFound t)

@@ -1,5 +1,5 @@
--- `certificate::write_certificate_at` meets its contract: the arrays hold the sides and the bounds, and flags and move
--- follow.
+-- `certificate::write_certificate_at` meets its contract: the arrays hold the sides and the bounds, and the move and,
+-- in a buffer that has room for them, the flags follow.
 use native.Mathlib.Omega.{arith}
 use Rattle.bounds.specs.Marks.{marked}
 use Rattle.certificate.proofs.Chosen.{Bounded, bounded, chosen-move}
@@ -8,9 +8,12 @@ use borrow.Author.Needs.{needs}
 use Rattle.certificate.proofs.write_certificate_at.Statement.{statement}
 use Rattle.certificate.proofs.write_certificate_at.Tie as tie
 
--- from the bounds to the start
+-- from the bounds to the start, and from the test to the bounds
 abbrev start : tie.After-fill-bounds → tie.Start
 start c = c .before .before .before .before .before .before .before .before
+
+abbrev filled : tie.After-frame-count → tie.After-fill-bounds
+filled c = c .before .before .before .before .before
 
 -- the arrays hold the sides and the bounds
 holds-bounds : (c : tie.After-fill-bounds) → let a = start c .args in
@@ -20,26 +23,94 @@ holds-bounds c =
     let e = c .fill-bounds .ensures in
     bounded _ _ _ _ (start c .pre .0 .1) (e .0) (e .1 .0)
 
+slice-aggregate-fill-bounds : tie.Need-slice-aggregate-fill-bounds
+slice-aggregate-fill-bounds c = search needs
+
+slice-aggregate-fill-bounds-2 : tie.Need-slice-aggregate-fill-bounds-2
+slice-aggregate-fill-bounds-2 c = search needs
+
+fill-bounds-requires : tie.Need-fill-bounds-requires
+fill-bounds-requires c κs = search needs
+
+frame-count-requires : tie.Need-frame-count-requires
+frame-count-requires c κs = search needs
+
+slice-aggregate-root-choice : tie.Need-slice-aggregate-root-choice
+slice-aggregate-root-choice c = search needs
+
+slice-aggregate-root-choice-2 : tie.Need-slice-aggregate-root-choice-2
+slice-aggregate-root-choice-2 c = search needs
+
+root-choice-requires : tie.Need-root-choice-requires
+root-choice-requires c κs = search needs
+
+same-length : tie.Need-same-length
+same-length c = search needs
+
+returns : tie.Need-returns
+returns c =
+    let t = c .before .before .before in
+    let f = t .before in
+    let b = filled f in (
+      rw (c .root-choice .ensures) (chosen-move _ (start b .pre .0 .0) _ (holds-bounds b)),
+      (
+        λ room. absurd (omega (arith, room, f .frame-count .ensures, t .if1 .taken)),
+        b .fill-bounds .ensures .1 .1,
+      ),
+    )
+
+slice-aggregate-read-off : tie.Need-slice-aggregate-read-off
+slice-aggregate-read-off c = search needs
+
+slice-aggregate-read-off-2 : tie.Need-slice-aggregate-read-off-2
+slice-aggregate-read-off-2 c = search needs
+
 read-off-requires : tie.Need-read-off-requires
 read-off-requires c κs =
-    let b = c .before .before .before .before .before .before .before in
+    let e = c .before .before .before in
+    let f = e .before in
+    let b = filled f in
     let a = start b .pre in (
       a .0 .0,
       (
         (a .0 .1 .room, omega (arith, a .0 .0 .atMost, b .fill-bounds .kept)),
-        (omega (arith, a .0 .0 .atMost, b .fill-bounds .kept), a .1 .1),
+        (
+          omega (arith, a .0 .0 .atMost, b .fill-bounds .kept),
+          omega (arith, f .frame-count .ensures, e .if1 .left),
+        ),
       ),
     )
 
-returns : tie.Need-returns
-returns c =
+same-length-2 : tie.Need-same-length-2
+same-length-2 c = search needs
+
+same-length-3 : tie.Need-same-length-3
+same-length-3 c = search needs
+
+returns-2 : tie.Need-returns-2
+returns-2 c =
     let r = c .before .before .read-off .ensures in
-    let b = c .before .before .before .before .before .before .before .before .before .before in
+    let b = filled (c .before .before .before .before .before .before .before) in
     let wf = start b .pre .0 .0 in
     let h = holds-bounds b in
-    (rw (r .0) (chosen-move _ wf _ h), (r .1 _ (flags-follow _ wf _ h), b .fill-bounds .ensures .1 .1))
+    (rw (r .0) (chosen-move _ wf _ h), (λ _. r .1 _ (flags-follow _ wf _ h), b .fill-bounds .ensures .1 .1))
 
 pub write-certificate-at-spec : {M : Type 1} → statement M
 write-certificate-at-spec =
-    tie.close (tie.spec (λ c. search needs) (λ c. search needs) (λ c κs. search needs) (λ c. search needs)
-    (λ c. search needs) read-off-requires (λ c. search needs) (λ c. search needs) returns)
+    tie.close
+    (tie.spec
+    slice-aggregate-fill-bounds
+    slice-aggregate-fill-bounds-2
+    fill-bounds-requires
+    frame-count-requires
+    slice-aggregate-root-choice
+    slice-aggregate-root-choice-2
+    root-choice-requires
+    same-length
+    returns
+    slice-aggregate-read-off
+    slice-aggregate-read-off-2
+    read-off-requires
+    same-length-2
+    same-length-3
+    returns-2)

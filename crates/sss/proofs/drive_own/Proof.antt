@@ -143,8 +143,8 @@ module _ {M : Type 1} (𝓤 : URA M) (H : Heap 𝓤) (A : Atoms 𝓤) (W : Given
   abbrev Last : (T : RattleType) → RefT (List (T .Denot)) → List (T .Denot) → Fml
   Last T x ys = fsep (finally T (x .name) ys) (feq ℕ (length ys) (length (x .now)))
 
-  -- what `drive` is passed: the front is the block f, the list of entries e the block l, and ν and δ are the lifetime and
-  -- the name of a loan
+  -- what `drive` is passed: the front is the block f, the list of entries e the block l, and ν and δ are the lifetime
+  -- and the name of a loan
   abbrev to-drive : ℕ → ℕ → State → ℕ → GName → ℕ → GName → Drive 𝓤 H A mem run .Ghost
   to-drive f l e νf δf νl δl = (
     (
@@ -231,7 +231,8 @@ module _ {M : Type 1} (𝓤 : URA M) (H : Heap 𝓤) (A : Atoms 𝓤) (W : Given
         Driven (tb .now) zeros (replicate maxNodes e) (vs .now) (od .now) r₀
         (record { front = ws; list = es; marks = ms; order = ns; run = r })) (λ r ws. refl)
         (fmOf 𝓤 H (W .laws) 𝓣) drives
-        (factI 𝓤 _ (emp 𝓤) (subst (λ x. Prepared (tb .now) (fm .now) zeros (replicate maxNodes x) (vs .now) (od .now) r₀)
+        (factI 𝓤 _ (emp 𝓤)
+        (subst (λ x. Prepared (tb .now) (fm .now) zeros (replicate maxNodes x) (vs .now) (od .now) r₀)
         (sym blank-is) p))
         (and-then ! (held ! (pos 3 1 - 2) refl) (and-then ! (held ! (pos 3 2 - 2) refl)
         (and-then ! (held ! (pos 3 3 - 2) refl) (and-then ! (held ! (pos 3 10) refl)

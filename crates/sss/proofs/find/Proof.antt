@@ -19,6 +19,10 @@ start c = c .before .before .before .before .before .before .before
 abbrev clearing : tie.After-drive-own → tie.After-clear
 clearing c = c .before .before .before .before .before .before
 
+-- the run, from the merit at its end on
+abbrev run : tie.After-end-merit → tie.After-drive-own
+run c = c .before .before .before .before .before .before .before .before
+
 -- the marks after the clearing
 cleared : (c : tie.After-clear)
     → c .clear .last .0 ≡ written (λ _. 0) (frames (start c .args .table .now)) (start c .args .evaluated .now)
@@ -46,13 +50,22 @@ drive-own-requires c κs =
     (omega (arith, wf .atMost, length-replicate {A = State} maxNodes blank)) (p .1 .0) (p .1 .1) (zeros-sound t wf) _
     (p .0 .1))
 
-found-alone-requires : tie.Need-found-alone-requires
-found-alone-requires c κs =
-    let d = c .before .before .before .before .before in
+slice-aggregate-found : tie.Need-slice-aggregate-found
+slice-aggregate-found c = search needs
+
+end-merit-requires : tie.Need-end-merit-requires
+end-merit-requires c κs = search needs
+
+found-requires : tie.Need-found-requires
+found-requires c κs =
+    let d = run c in
     let k = clearing d in
     let p = start k .pre in
     let b = d .before .before .before in
-    (p .0, own-asks _ (p .0 .0) _ _ _ _ (cleared k) (b .begun .ensures) (d .drive-own .ensures) (p .1 .0))
+    rw (c .end-merit .ensures) (
+      p .0 .1,
+      own-asks _ (p .0 .0) _ _ _ _ (cleared k) (b .begun .ensures) (d .drive-own .ensures) (p .1 .0),
+    )
 
 same-length : tie.Need-same-length
 same-length c = search needs
@@ -62,12 +75,13 @@ same-length-2 c = search needs
 
 returns : tie.Need-returns
 returns c =
-    let f = c .before .before in
-    let d = f .before .before .before .before .before .before in
+    let f = c .before .before .before in
+    let d = run (f .before) in
     let k = clearing d in
     let b = d .before .before .before in
+    let e = f .found .ensures in
     let g = own-gives _ (start k .pre .0 .0) _ _ _ _ (cleared k) (b .begun .ensures) (d .drive-own .ensures) in
-    (f .found-alone .ensures .0 ∙ g .0, (f .found-alone .ensures .1 ∙ g .1 .0, g .1 .1))
+    ((rw (f .before .end-merit .ensures) at (e .0)) ∙ g .0, (e .1 .0 ∙ g .1 .0, g .1 .1))
 
 pub find-spec : {M : Type 1} → statement M
 find-spec =
@@ -77,7 +91,9 @@ find-spec =
     clear-requires
     begun-requires
     drive-own-requires
-    found-alone-requires
+    slice-aggregate-found
+    end-merit-requires
+    found-requires
     same-length
     same-length-2
     returns)
