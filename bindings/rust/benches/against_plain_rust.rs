@@ -69,6 +69,7 @@ fn searches(t: &[u8], cells: &mut Vec<String>) {
     search!(buulset::alphabeta(black_box(t), &mut e, &mut c, &mut o), Method::AlphaBeta);
     search!(buulset::plain(black_box(t), &mut e, &mut c), Method::Plain);
     search!(buulset::mtd(black_box(t), &mut e, &mut c, &mut o), Method::Mtd);
+    search!(buulset::mtdf(black_box(t), 0, &mut e, &mut c, &mut o), Method::Mtdf(0));
     search!(buulset::sss(black_box(t), &mut e, &mut c, &mut o, MAX_NODES), Method::Sss(MAX_NODES));
     let tree = buulset::Tree::from_table(t.to_vec()).unwrap();
     let (sss, ab) = (tree.sss().certificate, tree.alphabeta().certificate);
@@ -95,9 +96,9 @@ fn trees(t: &[u8], cells: &mut Vec<String>) {
 
 fn main() {
     let mut rng = Rng(1);
-    let calls = "read write convert check alphabeta plain mtd sss verify shorter graft least_value fill report";
+    let calls = "read write convert check alphabeta plain mtd mtdf sss verify shorter graft least_value fill report";
     println!("| tree | {} |", calls.replace(' ', " | "));
-    println!("|{}", "---|".repeat(15));
+    println!("|{}", "---|".repeat(16));
     row("width 2", &model::full(&mut rng, 2, 10, 32000));
     row("width 5", &model::full(&mut rng, 5, 4, 32000));
     row("width 15", &model::full(&mut rng, 15, 3, 32000));
