@@ -158,6 +158,7 @@ WRONG = (
     (3, "pub const MAX_CHILDREN: usize = 40;", "pub const MAX_CHILDREN: usize = 41;"),
     (4, '("merit", ctypes.c_int32)', '("merit", ctypes.c_int16)'),
     (4, '"fill": (_LENT, Answer)', '"fill": (_BYTES, Answer)'),
+    (0, "    pub merit: i32,", "    pub merit: i16,"),
     (0, "pub extern \"C\" fn buulset_digit(byte: u8) -> u8", "pub extern \"C\" fn buulset_digit(byte: u16) -> u8"),
 )
 
