@@ -26,11 +26,12 @@ ghost use Rattle.frames.specs.Frame.{frames};
 ghost use Rattle.frames.specs.Formed.{WellFormed};
 ghost use Rattle.frames.specs.Position.{rootPosition};
 ghost use Rattle.frames.specs.Tree.{treeAt, tree, valuation};
+ghost use Rattle.frames.specs.Rejection.{_leaving_};
 ghost use Rattle.bounds.specs.Marks.{ones};
 ghost use Rattle.bounds.specs.engine.Evaluable.{Evaluable};
 ghost use Rattle.bounds.specs.engine.Progress.{progress, evaluateAll, Listable};
 ghost use Rattle.certificate.specs.engine.Searchable.{Searchable};
-ghost use Rattle.certificate.specs.Search.{marksOf, flagsOf, findings, listed};
+ghost use Rattle.certificate.specs.Search.{marksOf, flagsOf, findings, buffers, listed};
 ghost use Rattle.alphabeta.specs.Outcome.{reachedLeaves, alphaBetaOutcome};
 
 // The answer of a call: what was found, or the first question that got a "no".
@@ -47,10 +48,8 @@ pub fn search(
     certificate: &mut [u8],
     order: &mut [u16],
 ) -> AlphaBetaAnswer
-    ensures { λ r. ⌜ record {
-      order = now (order .exit);
-      search = record { answer = r; evaluated = now (evaluated .exit); certificate = now (certificate .exit) };
-    } ≡ alphaBetaOutcome (now (table .entry)) (now (evaluated .entry)) (now (certificate .entry))
+    ensures { λ r. ⌜ r leaving buffers (now (evaluated .exit)) (now (certificate .exit)) leaving now (order .exit)
+        ≡ alphaBetaOutcome (now (table .entry)) (buffers (now (evaluated .entry)) (now (certificate .entry)))
         (now (order .entry)) ⌝ }
 {
     let shortest = lesser(lesser(evaluated.len(), certificate.len()), order.len());

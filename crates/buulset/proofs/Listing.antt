@@ -1,15 +1,17 @@
--- A search that lists its leaves, with its answer made flat: what the search gives is handed on.
+-- A call with its answer made flat: what the call gives is handed on.
 use Prim.Native.Nat.{ℕ}
 use mathlib.Core.Path.{_≡_, ap, _∙_}
 use mathlib.Core.List.{List}
-use Rattle.certificate.specs.Search.{Outcome, ListedOutcome}
+use Rattle.frames.specs.Rejection.{Outcome, _leaving_}
+use Rattle.certificate.specs.Search.{Buffers, SearchOutcome}
 use Rattle.answers.specs.declared.Answer.{Answer}
-use Rattle.buulset.specs.Outcome.{flatListed}
+use Rattle.buulset.specs.Outcome.{flatBy, flatListed}
 
--- the outcome of a search, by its parts
-abbrev pub given : {A : Type 0} → A → (evaluated certificate order : List ℕ) → ListedOutcome A
-given a e c o = record { order = o; search = record { answer = a; evaluated = e; certificate = c } }
+pub handed-on : {A B : Type 0} (f : A → Answer) (a : A) (r : Answer) (b : B) (w : Outcome A B) → r ≡ f a
+    → a leaving b ≡ w → r leaving b ≡ flatBy f w
+handed-on f a r b w p q = ap (λ (x : Answer). x leaving b) p ∙ ap (flatBy f) q
 
-pub handed-on : {A : Type 0} (f : A → Answer) (a : A) (r : Answer) (e c o : List ℕ) (w : ListedOutcome A) → r ≡ f a
-    → given a e c o ≡ w → given r e c o ≡ flatListed f w
-handed-on f a r e c o w p q = ap (λ (x : Answer). given x e c o) p ∙ ap (flatListed f) q
+-- of a search that lists its leaves
+pub list-handed-on : {A : Type 0} (f : A → Answer) (a : A) (r : Answer) (b : Buffers) (o : List ℕ) (w : SearchOutcome A)
+    → r ≡ f a → a leaving b leaving o ≡ w → r leaving b leaving o ≡ flatListed f w
+list-handed-on f a r b o w p q = ap (λ (x : Answer). x leaving b leaving o) p ∙ ap (flatListed f) q

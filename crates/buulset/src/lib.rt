@@ -24,6 +24,7 @@ use frames::FRAME_SIZE;
 use frames::Rejection;
 ghost use mathlib.Core.Path.{_≡_};
 ghost use lib.ListN.{length};
+ghost use Rattle.frames.specs.Rejection.{_leaving_};
 ghost use Rattle.frames.specs.Check.{checked};
 ghost use Rattle.frames.specs.Children.{childrenOf};
 ghost use Rattle.hex.specs.Digit.{digitOf};
@@ -32,6 +33,7 @@ ghost use Rattle.reader.specs.File.{readAnswer, tableAfter};
 ghost use Rattle.writer.specs.Write.{writeOutcome};
 ghost use Rattle.convert.specs.Convert.{convertOutcome};
 ghost use Rattle.convert.specs.Printed.{outputOutcome};
+ghost use Rattle.certificate.specs.Search.{buffers};
 ghost use Rattle.alphabeta.specs.Outcome.{alphaBetaOutcome};
 ghost use Rattle.plain.specs.Outcome.{plainOutcome};
 ghost use Rattle.mtd.specs.Outcome.{mtdOutcome};
@@ -45,11 +47,11 @@ ghost use Rattle.worstcase.specs.Outcome.{fillOutcome};
 ghost use Rattle.leastcount.specs.Answer.{leastAnswer};
 ghost use Rattle.report.specs.Report.{report};
 ghost use Rattle.text.specs.Text.{refusedLine, textOf};
-ghost use Rattle.flat.specs.Flat.{flatChecked, flatAlphaBeta, flatPlain, flatMtd, flatMtdf, flatSss, flatVerdict};
-ghost use Rattle.flat.specs.Flat.{flatLeastValue, flatLeast, flatChoice, flatLine, flatText};
+ghost use Rattle.flat.specs.Flat.{flatChecked, flatWritten, flatFilled, flatAlphaBeta, flatPlain, flatMtd, flatMtdf};
+ghost use Rattle.flat.specs.Flat.{flatSss, flatVerdict, flatLeastValue, flatLeast, flatChoice, flatLine, flatText};
 ghost use Rattle.buulset.specs.Version.{version};
 ghost use Rattle.buulset.specs.Children.{flatChildren, partOf};
-ghost use Rattle.buulset.specs.Outcome.{flatWrite, flatGraft, flatFill, flatSearch, flatListed};
+ghost use Rattle.buulset.specs.Outcome.{flatBy, flatListed};
 
 // The version of these declarations, as 10,000 times the major, plus 100 times the minor, plus the patch number.
 const VERSION: u32 = 10100;
@@ -91,8 +93,8 @@ pub extern "C" fn buulset_digit(byte: u8) -> u8
 // `treefile::write`: the table's file in the buffer; `count` is its length in bytes.
 #[no_mangle]
 pub extern "C" fn buulset_write(table: &[u8], file: &mut [u8]) -> Answer
-    ensures { λ r. ⌜ record { answer = r; buffer = now (file .exit) }
-        ≡ flatWrite (writeOutcome (now (table .entry)) (now (file .entry))) ⌝ }
+    ensures { λ r. ⌜ r leaving now (file .exit)
+        ≡ flatBy flatWritten (writeOutcome (now (table .entry)) (now (file .entry))) ⌝ }
 {
     flat_written(treefile::write(table, file))
 }
@@ -100,8 +102,8 @@ pub extern "C" fn buulset_write(table: &[u8], file: &mut [u8]) -> Answer
 // `convert::convert`: the file with capitals in the buffer; `count` is its length in bytes.
 #[no_mangle]
 pub extern "C" fn buulset_convert(file: &[u8], converted: &mut [u8]) -> Answer
-    ensures { λ r. ⌜ record { answer = r; buffer = now (converted .exit) }
-        ≡ flatWrite (convertOutcome (now (file .entry)) (now (converted .entry))) ⌝ }
+    ensures { λ r. ⌜ r leaving now (converted .exit)
+        ≡ flatBy flatWritten (convertOutcome (now (file .entry)) (now (converted .entry))) ⌝ }
 {
     flat_written(convert::convert(file, converted))
 }
@@ -109,8 +111,8 @@ pub extern "C" fn buulset_convert(file: &[u8], converted: &mut [u8]) -> Answer
 // `convert::output`: what `capitals` prints for the file in the buffer; `count` is its length in bytes.
 #[no_mangle]
 pub extern "C" fn buulset_capitals(file: &[u8], printed: &mut [u8]) -> Answer
-    ensures { λ r. ⌜ record { answer = r; buffer = now (printed .exit) }
-        ≡ flatWrite (outputOutcome (now (file .entry)) (now (printed .entry))) ⌝ }
+    ensures { λ r. ⌜ r leaving now (printed .exit)
+        ≡ flatBy flatWritten (outputOutcome (now (file .entry)) (now (printed .entry))) ⌝ }
 {
     flat_written(convert::output(file, printed))
 }
@@ -147,12 +149,9 @@ pub extern "C" fn buulset_alphabeta(
     certificate: &mut [u8],
     order: &mut [u16],
 ) -> Answer
-    ensures { λ r. ⌜ record {
-      order = now (order .exit);
-      search = record { answer = r; evaluated = now (evaluated .exit); certificate = now (certificate .exit) };
-    }
-        ≡ flatListed flatAlphaBeta (alphaBetaOutcome (now (table .entry)) (now (evaluated .entry))
-        (now (certificate .entry)) (now (order .entry))) ⌝ }
+    ensures { λ r. ⌜ r leaving buffers (now (evaluated .exit)) (now (certificate .exit)) leaving now (order .exit)
+        ≡ flatListed flatAlphaBeta (alphaBetaOutcome (now (table .entry))
+        (buffers (now (evaluated .entry)) (now (certificate .entry))) (now (order .entry))) ⌝ }
 {
     flat_alphabeta(alphabeta::search(table, evaluated, certificate, order))
 }
@@ -164,9 +163,9 @@ pub extern "C" fn buulset_plain(
     evaluated: &mut [u8],
     certificate: &mut [u8],
 ) -> Answer
-    ensures { λ r. ⌜ record { answer = r; evaluated = now (evaluated .exit); certificate = now (certificate .exit) }
-        ≡ flatSearch flatPlain (plainOutcome (now (table .entry)) (now (evaluated .entry))
-        (now (certificate .entry))) ⌝ }
+    ensures { λ r. ⌜ r leaving buffers (now (evaluated .exit)) (now (certificate .exit))
+        ≡ flatBy flatPlain (plainOutcome (now (table .entry))
+        (buffers (now (evaluated .entry)) (now (certificate .entry)))) ⌝ }
 {
     flat_plain(plain::search(table, evaluated, certificate))
 }
@@ -179,12 +178,9 @@ pub extern "C" fn buulset_mtd(
     certificate: &mut [u8],
     order: &mut [u16],
 ) -> Answer
-    ensures { λ r. ⌜ record {
-      order = now (order .exit);
-      search = record { answer = r; evaluated = now (evaluated .exit); certificate = now (certificate .exit) };
-    }
-        ≡ flatListed flatMtd (mtdOutcome (now (table .entry)) (now (evaluated .entry))
-        (now (certificate .entry)) (now (order .entry))) ⌝ }
+    ensures { λ r. ⌜ r leaving buffers (now (evaluated .exit)) (now (certificate .exit)) leaving now (order .exit)
+        ≡ flatListed flatMtd (mtdOutcome (now (table .entry))
+        (buffers (now (evaluated .entry)) (now (certificate .entry))) (now (order .entry))) ⌝ }
 {
     flat_mtd(mtd::search(table, evaluated, certificate, order))
 }
@@ -198,12 +194,9 @@ pub extern "C" fn buulset_mtdf(
     certificate: &mut [u8],
     order: &mut [u16],
 ) -> Answer
-    ensures { λ r. ⌜ record {
-      order = now (order .exit);
-      search = record { answer = r; evaluated = now (evaluated .exit); certificate = now (certificate .exit) };
-    }
-        ≡ flatListed flatMtdf (mtdfOutcome start (now (table .entry)) (now (evaluated .entry))
-        (now (certificate .entry)) (now (order .entry))) ⌝ }
+    ensures { λ r. ⌜ r leaving buffers (now (evaluated .exit)) (now (certificate .exit)) leaving now (order .exit)
+        ≡ flatListed flatMtdf (mtdfOutcome start (now (table .entry))
+        (buffers (now (evaluated .entry)) (now (certificate .entry))) (now (order .entry))) ⌝ }
 {
     flat_mtdf(mtdf::search(table, start, evaluated, certificate, order))
 }
@@ -218,12 +211,9 @@ pub extern "C" fn buulset_sss(
     order: &mut [u16],
     allowance: usize,
 ) -> Answer
-    ensures { λ r. ⌜ record {
-      order = now (order .exit);
-      search = record { answer = r; evaluated = now (evaluated .exit); certificate = now (certificate .exit) };
-    }
-        ≡ flatListed flatSss (solveOutcome allowance (now (table .entry)) (now (evaluated .entry))
-        (now (certificate .entry)) (now (order .entry))) ⌝ }
+    ensures { λ r. ⌜ r leaving buffers (now (evaluated .exit)) (now (certificate .exit)) leaving now (order .exit)
+        ≡ flatListed flatSss (solveOutcome allowance (now (table .entry))
+        (buffers (now (evaluated .entry)) (now (certificate .entry))) (now (order .entry))) ⌝ }
 {
     flat_sss(sss::solve(table, evaluated, certificate, order, allowance))
 }
@@ -254,8 +244,8 @@ pub extern "C" fn buulset_graft(
     second: &[u8],
     result: &mut [u8],
 ) -> Answer
-    ensures { λ r. ⌜ record { answer = r; buffer = now (result .exit) }
-        ≡ flatGraft (graftOutcome (now (first .entry)) node (now (second .entry)) (now (result .entry))) ⌝ }
+    ensures { λ r. ⌜ r leaving now (result .exit)
+        ≡ flatBy flatChecked (graftOutcome (now (first .entry)) node (now (second .entry)) (now (result .entry))) ⌝ }
 {
     flat_checked(graft::graft(first, node, second, result))
 }
@@ -271,7 +261,7 @@ pub extern "C" fn buulset_least_value(table: &[u8], node: usize, wanted: i32) ->
 // `worstcase::fill`: the ranks in the table; leaves.
 #[no_mangle]
 pub extern "C" fn buulset_fill(table: &mut [u8]) -> Answer
-    ensures { λ r. ⌜ record { answer = r; buffer = now (table .exit) } ≡ flatFill (fillOutcome (now (table .entry))) ⌝ }
+    ensures { λ r. ⌜ r leaving now (table .exit) ≡ flatBy flatFilled (fillOutcome (now (table .entry))) ⌝ }
 {
     flat_filled(worstcase::fill(table))
 }
@@ -295,7 +285,7 @@ pub extern "C" fn buulset_report(file: &[u8]) -> Text
 // `text::refused`.
 #[no_mangle]
 pub extern "C" fn buulset_refused(number: u8, place: usize) -> Text
-    ensures { λ r. ⌜ r ≡ flatText (textOf (refusedLine number place)) ⌝ }
+    ensures { λ r. ⌜ r ≡ flatText (textOf (refusedLine (record { number = number; place = place }))) ⌝ }
 {
     flat_text(text::refused(Rejection { number, place }))
 }

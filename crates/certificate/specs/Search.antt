@@ -1,7 +1,7 @@
 -- What every search has in common: its questions, what it finds, and what it leaves in its buffers.
 use Prim.Native.Nat.{ℕ}
-use mathlib.Core.Option.{Option, none, some}
-use mathlib.Core.List.{List, _++_}
+use mathlib.Core.Option.{Option}
+use mathlib.Core.List.{List, [], _∷_, _++_}
 use lib.ListN.{length, drop}
 use Rattle.lists.specs.Lists.{among}
 use Rattle.gametree.specs.Tree.{minimax}
@@ -10,7 +10,7 @@ use Rattle.gametree.specs.Certificate.{flag}
 use Rattle.frames.specs.declared.Rejection.{Rejection}
 use Rattle.frames.specs.Frame.{frames}
 use Rattle.frames.specs.Tree.{tree, valuation}
-use Rattle.frames.specs.Rejection.{_andThen_}
+use Rattle.frames.specs.Rejection.{_andThen_, unless, Outcome, _leaving_}
 use Rattle.frames.specs.Check.{rejection, check10}
 use Rattle.positions.specs.Buffer.{written}
 use Rattle.bounds.specs.Marks.{mark}
@@ -38,46 +38,30 @@ findings leaves t =
       leaves = length leaves;
     }
 
--- what a search is lent, a table and two buffers, and the leaves that it evaluates there
-pub record Search : Type 0 where
-  pub table : List ℕ
-  pub evaluated : List ℕ
-  pub certificate : List ℕ
-  pub leaves : List ℕ
+-- the two buffers that every search is lent: one for the marks, one for the flags of the certificate
+pub record Buffers : Type 0 where
+  pub marks : List ℕ
+  pub flags : List ℕ
 
--- what a search answers, and what its two buffers hold then
-pub record Outcome (A : Type 0) : Type 0 where
-  pub answer : A
-  pub evaluated : List ℕ
-  pub certificate : List ℕ
+abbrev pub buffers : (marks flags : List ℕ) → Buffers
+buffers m f = record { marks = m; flags = f }
 
--- the outcome of a search: the marks of its leaves and the flags read off their bounds are written over the buffers;
--- where there is a rejection, the buffers are as they were found
-abbrev pub outcome : {A : Type 0} → (Rejection → A) → A → Search → Option Rejection → Outcome A
-outcome rejected found s none =
-    record {
-      answer = found;
-      evaluated = marksOf (s .leaves) (s .table) (s .evaluated);
-      certificate = flagsOf (s .leaves) (s .table) (s .certificate);
-    }
-outcome rejected found s (some r) =
-    record { answer = rejected r; evaluated = s .evaluated; certificate = s .certificate }
+-- these buffers after a search of the table t that evaluates these leaves
+abbrev pub buffersOf : (leaves t : List ℕ) → Buffers → Buffers
+buffersOf leaves t b = buffers (marksOf leaves t (b .marks)) (flagsOf leaves t (b .flags))
 
--- the list after a search that evaluates these leaves: their numbers in the order of their evaluation, then what it
--- held before
+-- and a lent list: their numbers in the order of their evaluation, then what it held before
 abbrev pub listed : (leaves order : List ℕ) → List ℕ
 listed leaves order = leaves ++ drop (length leaves) order
 
-abbrev pub orderAfter : Option Rejection → (leaves order : List ℕ) → List ℕ
-orderAfter none leaves order = listed leaves order
-orderAfter (some r) leaves order = order
+-- what a search answers, and what it leaves in its buffers and in its list
+abbrev pub SearchOutcome : Type 0 → Type 0
+SearchOutcome A = Outcome (Outcome A Buffers) (List ℕ)
 
--- what a search gives that lists its leaves too: the list, and the rest
-pub record ListedOutcome (A : Type 0) : Type 0 where
-  pub order : List ℕ
-  pub search : Outcome A
-
-abbrev pub listedOutcome : {A : Type 0} → (Rejection → A) → A → Search → (order : List ℕ) → Option Rejection
-    → ListedOutcome A
-listedOutcome rejected found s order q =
-    record { order = orderAfter q (s .leaves) order; search = outcome rejected found s q }
+-- the outcome of a search that gives `found` and evaluates these leaves of the table t, with the buffers b and the list
+-- o; on a "no" all are as they were
+abbrev pub searchOutcome : {A : Type 0} → (Rejection → A) → A → (leaves t : List ℕ) → Buffers → List ℕ
+    → SearchOutcome A
+searchOutcome rejected found leaves t b o =
+    unless (searchRejection t (length (b .marks) ∷ length (b .flags) ∷ length o ∷ []))
+    (λ r. rejected r leaving b leaving o) (found leaving buffersOf leaves t b leaving listed leaves o)

@@ -22,7 +22,7 @@ use Rattle.reader.specs.engine.Decoded.{linesRejection}
 use Rattle.reader.proofs.Reading.{lines-parts, lines-then}
 use Rattle.reader.proofs.Acceptance.{accepted-table, accepted-letters}
 use Rattle.writer.specs.Encoded.{fileOf}
-use Rattle.writer.specs.Write.{writeCheck10, writtenFile}
+use Rattle.writer.specs.Write.{writeCheck10, atFront}
 use Rattle.writer.specs.declared.Written.the-variants.{Length, Rejected}
 use Rattle.treefile.specs.results.Saved.{Bytes}
 use Rattle.treefile.proofs.DecodedBytes.{decoded-bytes}
@@ -60,7 +60,7 @@ module _ (f : List ℕ) where
     asked = baseRejection f andThen writeCheck10 (decoded f) (length buffer)
 
     -- its outcome is that of writing the file's own table
-    pub convert-own : convertOutcome f buffer ≡ writtenFile (decoded f) buffer asked
+    pub convert-own : convertOutcome f buffer ≡ atFront asked (fileOf (decoded f)) buffer
     unfolding convertRejection convertOutcome
     convert-own = rw (raised-rejection f, raised-table f)
 
@@ -69,7 +69,7 @@ module _ (f : List ℕ) where
         → convertOutcome f buffer
         ≡ record {
           answer = Length (lineSize * frames (decoded f));
-          file = fileOf (decoded f) ++ drop (lineSize * frames (decoded f)) buffer;
+          left = fileOf (decoded f) ++ drop (lineSize * frames (decoded f)) buffer;
         }
     convert-gives e room =
         convert-own
@@ -81,10 +81,10 @@ module _ (f : List ℕ) where
 
     -- a rejection is the first "no", and the buffer is as it was
     pub convert-keeps : (r : Rejection) → convertOutcome f buffer .answer ≡ Rejected r
-        → (asked ≡ some r) × (convertOutcome f buffer .file ≡ buffer)
+        → (asked ≡ some r) × (convertOutcome f buffer .left ≡ buffer)
     convert-keeps r e =
         let w = rejection-written (decoded f) buffer asked r (sym (ap (λ o. o .answer) convert-own) ∙ e) in
-        (w .0, ap (λ o. o .file) convert-own ∙ w .1)
+        (w .0, ap (λ o. o .left) convert-own ∙ w .1)
 
     module _ (n : ℕ) (e : convertOutcome f buffer .answer ≡ Length n) where
       -- where there is a length, the base accepted the file
@@ -100,8 +100,8 @@ module _ (f : List ℕ) where
           record {
             accepted = base-table convert-base;
             size = w .size ∙ written-length (decoded f) (base-table convert-base);
-            front = ap (λ o. take n (o .file)) convert-own ∙ w .front;
-            past = ap (λ o. drop n (o .file)) convert-own ∙ w .past;
+            front = ap (λ o. take n (o .left)) convert-own ∙ w .front;
+            past = ap (λ o. drop n (o .left)) convert-own ∙ w .past;
           }
 
       -- within the buffer
@@ -114,7 +114,7 @@ module _ (f : List ℕ) where
 
       -- what was written is accepted by the reader, and holds the file's table
       abbrev pub new : List ℕ
-      new = take n (convertOutcome f buffer .file)
+      new = take n (convertOutcome f buffer .left)
 
       pub converted-accepted : AcceptedFile new
       converted-accepted =
@@ -127,21 +127,21 @@ module _ (f : List ℕ) where
 -- converting it again changes nothing
 pub converted-again : (f buffer : List ℕ) (n : ℕ) → convertOutcome f buffer .answer ≡ Length n → (other : List ℕ)
     → n ≤ length other →
-    let new = take n (convertOutcome f buffer .file) in
-    convertOutcome new other ≡ record { answer = Length n; file = new ++ drop n other }
+    let new = take n (convertOutcome f buffer .left) in
+    convertOutcome new other ≡ record { answer = Length n; left = new ++ drop n other }
 converted-again f buffer n e other room =
-    let new = take n (convertOutcome f buffer .file) in
+    let new = take n (convertOutcome f buffer .left) in
     let l = convert-leaves f buffer n e in
     let table = converted-table f buffer n e in
     let size : lineSize * frames (decoded new) ≡ n = ap (λ t. lineSize * frames t) table ∙ sym (l .size) in
     let file : fileOf (decoded new) ≡ new = ap fileOf table ∙ sym (l .front) in
     let gives = convert-gives new other (accepted-base new (converted-accepted f buffer n e)) (omega arith) in
-    gives ∙ ap₂ (λ k g. record { answer = Length k; file = g ++ drop k other }) size file
+    gives ∙ ap₂ (λ k g. record { answer = Length k; left = g ++ drop k other }) size file
 
 -- two files give one file exactly if they have one table
 pub converted-once : (f g buffer other : List ℕ) (n m : ℕ) → convertOutcome f buffer .answer ≡ Length n
     → convertOutcome g other .answer ≡ Length m
-    → (decoded f ≡ decoded g) ↔ (take n (convertOutcome f buffer .file) ≡ take m (convertOutcome g other .file))
+    → (decoded f ≡ decoded g) ↔ (take n (convertOutcome f buffer .left) ≡ take m (convertOutcome g other .left))
 converted-once f g buffer other n m e h = (
   λ same. convert-leaves f buffer n e .front ∙ ap fileOf same ∙ sym (convert-leaves g other m h .front),
   λ same. sym (converted-table f buffer n e) ∙ ap decoded same ∙ converted-table g other m h,

@@ -14,7 +14,7 @@ use Rattle.convert.proofs.Converted.{base-table, convert-own}
 module _ (f buffer : List ℕ) where
   -- one of the questions got a "no"
   pub convert-refused : (r : Rejection) → baseRejection f ≡ some r
-      → record { answer = Rejected r; file = buffer } ≡ convertOutcome f buffer
+      → record { answer = Rejected r; left = buffer } ≡ convertOutcome f buffer
   convert-refused r e = sym (convert-own f buffer ∙ rw e)
 
   -- the file's table is written

@@ -13,7 +13,8 @@ use Rattle.hex.specs.Digit.{isLowercase, digitOf}
 use Rattle.hex.proofs.Digits.{inside, below, above, bounds}
 use Rattle.lines.specs.Line.{lineDigits, lineFeed, allDigits, isLine, hasLowercase, bytesOf, closed, isLineAt, lineAt}
 use Rattle.lines.specs.Lines.{putBefore, linesOf, decode, decoded}
-use Rattle.reader.specs.File.{eachLine, lineCheck3, lineCheck16, fileCheck3, fileCheck16, fileRejection}
+use Rattle.reader.specs.File.{eachLine, fileCheck3, fileCheck16, fileRejection}
+use Rattle.reader.specs.engine.Decoded.{lineCheck16, lineCheck3}
 use Rattle.convert.specs.RaiseCase.{raiseCase, raised}
 use Rattle.convert.specs.results.Converted.{baseRejection}
 

@@ -11,14 +11,15 @@ use lib.ListN.{length, take, drop, length-append}
 use lib.Seq.{take-length}
 use borrow.Author.Tests.{le-leb, lt-leb}
 use Rattle.frames.specs.declared.Rejection.{Rejection}
-use Rattle.frames.specs.Rejection.{ask}
+use Rattle.frames.specs.Rejection.{ask, Outcome}
 use Rattle.frames.specs.Frame.{frames}
 use Rattle.frames.proofs.Acceptance.{accepted-formed}
 use Rattle.lines.specs.Line.{lineSize}
 use Rattle.lines.specs.Lines.{decoded}
 use Rattle.reader.specs.File.{maxFile}
 use Rattle.writer.specs.Encoded.{fileOf}
-use Rattle.writer.specs.Write.{WriteResult, writtenFile, lengthGiven}
+use Rattle.writer.specs.Write.{atFront, lengthGiven}
+use Rattle.writer.specs.declared.Written.{Written}
 use Rattle.writer.specs.declared.Written.the-variants.{Length, Rejected}
 use Rattle.treefile.proofs.Saving.{length-written, rejection-written}
 use Rattle.text.specs.declared.Text.{Text}
@@ -26,7 +27,7 @@ use Rattle.text.specs.Text.{refusedLine, textOf}
 use Rattle.text.proofs.Sizes.{refused-few, text-bytes}
 use Rattle.convert.specs.RaiseCase.{raised}
 use Rattle.convert.specs.Convert.{convertRejection, convertOutcome}
-use Rattle.convert.specs.Printed.{printed, laidBy, laidText, outputOutcome}
+use Rattle.convert.specs.Printed.{printed, laidText, outputOutcome}
 use Rattle.convert.specs.results.Converted.{baseRejection}
 use Rattle.convert.proofs.Kept.{raised-rejection}
 use Rattle.convert.proofs.Converted.{base-table, convert-gives, converted-within}
@@ -34,12 +35,12 @@ use Rattle.convert.proofs.Converted.{base-table, convert-gives, convert
 -- bytes that have room in the buffer are laid; where they have none, the answer is 10
 module _ (x buffer : List ℕ) where
   pub text-laid : length x ≤ length buffer
-      → record { answer = Length (length x); file = x ++ drop (length x) buffer } ≡ laidText x buffer
+      → record { answer = Length (length x); left = x ++ drop (length x) buffer } ≡ laidText x buffer
   unfolding laidText
   text-laid h = rw (le-leb (length x) (length buffer) h)
 
   pub text-short : length buffer < length x
-      → record { answer = Rejected (record { number = 10; place = 0 }); file = buffer } ≡ laidText x buffer
+      → record { answer = Rejected (record { number = 10; place = 0 }); left = buffer } ≡ laidText x buffer
   unfolding laidText
   text-short h = rw (lt-leb (length x) (length buffer) h)
 
@@ -47,7 +48,7 @@ module _ (x buffer : List ℕ) where
   pub copied-laid : (r : Text) (after : List ℕ) → r ≡ textOf x → r .length ≤ length buffer
       → after ≡ take (length (take (r .length) (r .bytes))) (take (r .length) (r .bytes))
       ++ drop (length (take (r .length) (r .bytes))) buffer
-      → record { answer = Length (r .length); file = after } ≡ laidText x buffer
+      → record { answer = Length (r .length); left = after } ≡ laidText x buffer
   copied-laid r after e room h =
       let b = text-bytes x e in
       let same : after ≡ x ++ drop (length x) buffer = h ∙ rw (b .1, take-length x) in
@@ -55,11 +56,11 @@ module _ (x buffer : List ℕ) where
 
   -- the length that is given is within the buffer
   within-by : (b : Bool) → leb (length x) (length buffer) ≡ b
-      → lengthGiven (laidBy x buffer (ask b 10 0) .answer) ≤ length (laidBy x buffer (ask b 10 0) .file)
+      → lengthGiven (atFront (ask b 10 0) x buffer .answer) ≤ length (atFront (ask b 10 0) x buffer .left)
   within-by true e = omega (arith, length-append x (drop (length x) buffer))
   within-by false e = omega arith
 
-  pub laid-within : lengthGiven (laidText x buffer .answer) ≤ length (laidText x buffer .file)
+  pub laid-within : lengthGiven (laidText x buffer .answer) ≤ length (laidText x buffer .left)
   unfolding laidText
   laid-within = within-by _ refl
 
@@ -70,12 +71,12 @@ module _ (f buffer : List ℕ) where
   abbrev table : List ℕ
   table = decoded (raised f)
 
-  convert-is : convertOutcome f buffer ≡ writtenFile table buffer asked
+  convert-is : convertOutcome f buffer ≡ atFront asked (fileOf table) buffer
   unfolding convertOutcome
   convert-is = refl
 
   -- a file that was written is printed
-  pub written-printed : (o : WriteResult) (n : ℕ) → o ≡ convertOutcome f buffer → o .answer ≡ Length n
+  pub written-printed : (o : Outcome Written (List ℕ)) (n : ℕ) → o ≡ convertOutcome f buffer → o .answer ≡ Length n
       → o ≡ outputOutcome f buffer
   unfolding printed
   written-printed o n e h =
@@ -85,15 +86,17 @@ module _ (f buffer : List ℕ) where
       ∙ rw (w .passed) (text-laid (fileOf table) buffer (omega (arith, w .size, converted-within f buffer n given)))
 
   -- a rejection leaves the buffer as it was, and its line is printed
-  pub rejection-printed : (o : WriteResult) (r : Rejection) → o ≡ convertOutcome f buffer → o .answer ≡ Rejected r
-      → (o .file ≡ buffer) × (outputOutcome f buffer ≡ laidText (refusedLine (r .number) (r .place)) buffer)
+  pub rejection-printed : (o : Outcome Written (List ℕ)) (r : Rejection) → o ≡ convertOutcome f buffer
+      → o .answer ≡ Rejected r
+      → (o .left ≡ buffer) × (outputOutcome f buffer ≡ laidText (refusedLine r) buffer)
   unfolding printed
   rejection-printed o r e h =
       let w = rejection-written table buffer asked r (sym (ap (λ x. x .answer) (e ∙ convert-is)) ∙ h) in
-      (ap (λ x. x .file) (e ∙ convert-is) ∙ w .1, rw (w .0))
+      (ap (λ x. x .left) (e ∙ convert-is) ∙ w .1, rw (w .0))
 
   -- the length that is given is within the buffer
-  pub printed-within : (o : WriteResult) → o ≡ outputOutcome f buffer → lengthGiven (o .answer) ≤ length (o .file)
+  pub printed-within : (o : Outcome Written (List ℕ)) → o ≡ outputOutcome f buffer
+      → lengthGiven (o .answer) ≤ length (o .left)
   printed-within o e = rw e (laid-within (printed f (length buffer)) buffer)
 
   -- in a buffer with room for every file, what the base accepted is printed as its table's file
@@ -101,7 +104,7 @@ module _ (f buffer : List ℕ) where
       → outputOutcome f buffer
       ≡ record {
         answer = Length (lineSize * frames (decoded f));
-        file = fileOf (decoded f) ++ drop (lineSize * frames (decoded f)) buffer;
+        left = fileOf (decoded f) ++ drop (lineSize * frames (decoded f)) buffer;
       }
   file-printed room e =
       let atMost = accepted-formed (decoded f) (base-table f e) .atMost in
@@ -110,9 +113,9 @@ module _ (f buffer : List ℕ) where
 
   -- and what it refused as the line of that refusal
   pub line-printed : maxFile ≤ length buffer → (r : Rejection) → baseRejection f ≡ some r →
-      let line = refusedLine (r .number) (r .place) in
-      outputOutcome f buffer ≡ record { answer = Length (length line); file = line ++ drop (length line) buffer }
+      let line = refusedLine r in
+      outputOutcome f buffer ≡ record { answer = Length (length line); left = line ++ drop (length line) buffer }
   unfolding printed convertRejection
   line-printed room r e =
       rw (raised-rejection f, e)
-      (sym (text-laid (refusedLine (r .number) (r .place)) buffer (omega (arith, refused-few r))))
+      (sym (text-laid (refusedLine r) buffer (omega (arith, refused-few r))))

@@ -4,10 +4,12 @@ use mathlib.Core.Option.{Option}
 use mathlib.Core.List.{List}
 use lib.ListN.{length}
 use Rattle.frames.specs.declared.Rejection.{Rejection}
-use Rattle.frames.specs.Rejection.{_andThen_}
+use Rattle.frames.specs.Rejection.{_andThen_, Outcome}
 use Rattle.lines.specs.Lines.{decoded}
 use Rattle.reader.specs.File.{fileRejection}
-use Rattle.writer.specs.Write.{WriteResult, writeCheck10, writtenFile}
+use Rattle.writer.specs.declared.Written.{Written}
+use Rattle.writer.specs.Encoded.{fileOf}
+use Rattle.writer.specs.Write.{writeCheck10, atFront}
 use Rattle.convert.specs.RaiseCase.{raised}
 
 -- the first "no": the reader's questions to the lifted file, and then 10 for a buffer of so many bytes
@@ -15,5 +17,5 @@ unfoldable pub convertRejection : List ℕ → ℕ → Option Rejection
 convertRejection f room = fileRejection (raised f) andThen writeCheck10 (decoded (raised f)) room
 
 -- the outcome of a call with a file and a buffer: that of writing the table of the lifted file
-unfoldable pub convertOutcome : List ℕ → List ℕ → WriteResult
-convertOutcome f buffer = writtenFile (decoded (raised f)) buffer (convertRejection f (length buffer))
+unfoldable pub convertOutcome : List ℕ → List ℕ → Outcome Written (List ℕ)
+convertOutcome f buffer = atFront (convertRejection f (length buffer)) (fileOf (decoded (raised f))) buffer

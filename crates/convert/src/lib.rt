@@ -14,6 +14,7 @@ use writer::write_accepted;
 ghost use mathlib.Core.Path.{_≡_};
 ghost use Prim.Native.Nat.{_≤_};
 ghost use lib.ListN.{length};
+ghost use Rattle.frames.specs.Rejection.{_leaving_};
 ghost use Rattle.text.specs.Text.{refusedLine};
 ghost use Rattle.reader.specs.File.{maxFile};
 ghost use Rattle.reader.specs.engine.Decoded.{Decoded, LongEnough};
@@ -24,8 +25,7 @@ ghost use Rattle.convert.specs.results.Converted.{baseRejection};
 // Lifts the letters a to f of a file to capitals, reads it, and writes its table's file: the length in bytes, or the
 // first rejection, and then the buffer is as it was.
 pub fn convert(file: &[u8], converted: &mut [u8]) -> Written
-    ensures { λ r. ⌜ record { answer = r; file = now (converted .exit) }
-        ≡ convertOutcome (now (file .entry)) (now (converted .entry)) ⌝ }
+    ensures { λ r. ⌜ r leaving now (converted .exit) ≡ convertOutcome (now (file .entry)) (now (converted .entry)) ⌝ }
 {
     if file.len() <= SHORT_FILE {
         let mut table = [0u8; SHORT_TABLE];
@@ -39,8 +39,7 @@ pub fn convert(file: &[u8], converted: &mut [u8]) -> Written
 // capital, so no letter has to be lifted first.
 fn convert_by(file: &[u8], table: &mut [u8], converted: &mut [u8]) -> Written
     requires { ⌜ (length (now file) ≤ maxFile → LongEnough (now file) (now table)) ⌝ }
-    ensures { λ r. ⌜ record { answer = r; file = now (converted .exit) }
-        ≡ convertOutcome (now (file .entry)) (now (converted .entry)) ⌝ }
+    ensures { λ r. ⌜ r leaving now (converted .exit) ≡ convertOutcome (now (file .entry)) (now (converted .entry)) ⌝ }
 {
     match check_file(file, table) {
         Checked::Nodes(nodes) => {
@@ -54,8 +53,7 @@ fn convert_by(file: &[u8], table: &mut [u8], converted: &mut [u8]) -> Written
 // What the program prints for a file, at the front of the lent buffer: the converted file, or the line of the refusal.
 // Gives its length in bytes; or 10 if there is no room for it, and then the buffer is as it was.
 pub fn output(file: &[u8], buffer: &mut [u8]) -> Written
-    ensures { λ r. ⌜ record { answer = r; file = now (buffer .exit) }
-        ≡ outputOutcome (now (file .entry)) (now (buffer .entry)) ⌝ }
+    ensures { λ r. ⌜ r leaving now (buffer .exit) ≡ outputOutcome (now (file .entry)) (now (buffer .entry)) ⌝ }
 {
     let answer = convert(file, buffer);
     match answer {
@@ -66,8 +64,7 @@ pub fn output(file: &[u8], buffer: &mut [u8]) -> Written
 
 // The line of a refusal at the front of the buffer.
 fn lay_refused(rejection: Rejection, buffer: &mut [u8]) -> Written
-    ensures { λ r. ⌜ record { answer = r; file = now (buffer .exit) }
-        ≡ laidText (refusedLine (rejection .number) (rejection .place)) (now (buffer .entry)) ⌝ }
+    ensures { λ r. ⌜ r leaving now (buffer .exit) ≡ laidText (refusedLine rejection) (now (buffer .entry)) ⌝ }
 {
     let line = text::refused(rejection);
     let bytes = line.bytes;

@@ -21,7 +21,7 @@ use Rattle.frames.specs.Shape.{SameShape}
 use Rattle.frames.proofs.Acceptance.{accepted-formed}
 use Rattle.frames.proofs.Proper.{tree-proper}
 use Rattle.bounds.specs.Marks.{ones}
-use Rattle.certificate.specs.Search.{marksOf, listed}
+use Rattle.certificate.specs.Search.{marksOf, listed, buffers}
 use Rattle.alphabeta.specs.Outcome.{reachedLeaves}
 use Rattle.sss.proofs as sss
 use Rattle.sss.specs.declared.SssResult.{SssResult}
@@ -30,7 +30,7 @@ use Rattle.sss.specs.declared.SssAnswer.the-variants as sss-answer
 use Rattle.sss.specs.Outcome.{runOf, sssLeaves}
 use Rattle.sss.proofs.Replacements.{own}
 use Rattle.demands.specs.Runs.{Runs, RunBoth}
-use Rattle.demands.specs.Handed.{buffers, Room, Marked, AgreeOnMarked}
+use Rattle.demands.specs.Handed.{Room, Marked, AgreeOnMarked}
 use Rattle.demands.specs.Searches.{EachSpent}
 use Rattle.demands.specs.Allowance.{CutShort}
 use Rattle.demands.proofs.Contracts as contracts
@@ -75,8 +75,8 @@ none-allowed =
     let y = run-is (t .now) 0 (x .0) (x .1 .0) (x .1 .1) in
     let γ : x .0 .merit ≡ greatest = cc (e, ap (λ r. r .end) y) in (
       x .0 .replacements,
-      ap (λ x. x .search .answer) (rw none at s)
-          ∙ ap₂ (λ xs q. sssBy 0 (t .now) (l .now) (buffers (m .now) (f .now)) (o .now) xs q .search .answer)
+      ap (λ x. x .answer .answer .answer) (rw none at s)
+          ∙ ap₂ (λ xs q. sssBy 0 (t .now) (l .now) (buffers (m .now) (f .now)) (o .now) xs q .answer .answer .answer)
           (x .1 .1) (rooms-passed (t .now) (buffers (m .now) (f .now)) (o .now) a h long (l .now) entries)
           ∙ ap (λ m. sss-answer.Spent (record { merit = valueOf m; leaves = 0; replacements = x .0 .replacements })) γ,
     ))
@@ -119,11 +119,11 @@ value-stays =
           (buffers (m′ .now) (f′ .now)) (o′ .now) (rw e at c)) k more in
           let q = rw i₁ at (rw i₂ at (rw i₃ at (rw i₄ at (rw i₅ at d)))) in
           let same = q ∙ sym p in (
-            ap (λ x. x .search .answer) same ∙ sym e,
-            ap (λ x. x .list) same,
-            ap (λ x. x .search .evaluated) same,
-            ap (λ x. x .search .certificate) same,
-            ap (λ x. x .order) same,
+            ap (λ x. x .answer .answer .answer) same ∙ sym e,
+            ap (λ x. x .left) same,
+            ap (λ x. x .answer .answer .left .marks) same,
+            ap (λ x. x .answer .answer .left .flags) same,
+            ap (λ x. x .answer .left) same,
           );
     }
 

@@ -14,6 +14,7 @@ use Rattle.gametree.specs.Layout.{layoutOf}
 use Rattle.gametree.specs.Sss.{ListAfter}
 use Rattle.gametree.specs.engine.Within.{sssWithin}
 use Rattle.gametree.proofs.Within as within
+use Rattle.frames.specs.Rejection.{_leaving_}
 use Rattle.frames.specs.Frame.{frames}
 use Rattle.frames.specs.Tree.{tree, valuation}
 use Rattle.frames.specs.Check.{Accepted}
@@ -33,13 +34,13 @@ use Rattle.sss.specs.declared.Spent.{Spent}
 use Rattle.sss.specs.declared.SssAnswer.{SssAnswer}
 use Rattle.sss.specs.declared.SssAnswer.the-variants as sss-answer
 use Rattle.states.specs.Entry.{blank}
-use Rattle.sss.specs.Outcome.{runOf, sssLeaves, sssSpent, withinOutcome, sssOutcome}
+use Rattle.sss.specs.Outcome.{runOf, sssLeaves, sssUncovered, sssSpent, sssOutcome}
 use Rattle.sss.proofs.Replacements.{own}
-use Rattle.sss.proofs.Allowed.{enough, outcome-spent}
+use Rattle.sss.proofs.Allowed.{enough, outcome-spent, outcomeBy}
 use Rattle.demands.specs.Handed.{Room, Marked, AgreeOnMarked}
-use Rattle.demands.proofs.Calls.{stateLengths, outcomeOf, listedOf, AlphaBetaCall, SssCall, alphaBeta, sss}
+use Rattle.demands.proofs.Calls.{stateLengths, AlphaBetaCall, SssCall, alphaBeta, sss}
 use Rattle.demands.specs.Allowance.{CutShort}
-use Rattle.demands.proofs.Views.{all-covered, sssBy, rooms-passed, view}
+use Rattle.demands.proofs.Views.{sss-beside, all-covered, sssBy, rooms-passed, view}
 use Rattle.demands.proofs.Handed.{marks-at}
 use Rattle.demands.proofs.Local.{take-written}
 use Rattle.demands.proofs.Spending.{firstLeaves, none-more, left-more, ones-within, run-reached, spent-view}
@@ -105,8 +106,8 @@ merit-falls {t} c d l =
 
 -- "A value once given is the same under every larger allowance": so is all that the call gives and leaves
 pub value-stays : {t : List ℕ} {f : SssResult} (c : SssCall t (sss-answer.Found f)) (n : ℕ) → c .allowance ≤ n
-    → record { list = c .leftList; order = c .leftOrder; search = outcomeOf (sss-answer.Found f) (c .left) }
-    ≡ sssOutcome n t (c .lentList) (c .lent .marks) (c .lent .flags) (c .lentOrder)
+    → sss-answer.Found f leaving c .left leaving c .leftOrder leaving c .leftList
+    ≡ sssOutcome n t (c .lentList) (c .lent) (c .lentOrder)
 value-stays {t} c n l =
     let wf = accepted-formed t (view (sss c) .handed .accepted) in
     let q = searchRejection t (stateLengths (c .lentList) (c .lent) (c .lentOrder)) in
@@ -173,22 +174,19 @@ local-spent {t} {u} {s} c d q a r k n h g =
     let w = firstLeaves t (c .allowance) in
     let passed = rooms-passed u (d .lent) (d .lentOrder) a r k (d .lentList) n in
     let run = ap (λ n. sssWithin n (valuation u) (tree u)) q ∙ sym (spent-local c u a h g) ∙ spent-run c in
-    let o = ap (λ y. listedOf (y .search .answer) (record {
-      marks = y .search .evaluated;
-      flags = y .search .certificate;
-    }) (y .order)) (d .outcome)
-    ∙ ap (withinOutcome (d .allowance) u (d .lent .marks) (d .lent .flags) (d .lentOrder)) passed
-    ∙ outcome-spent u (accepted-formed u a) (d .allowance) (d .lent .marks) (d .lent .flags) (d .lentOrder)
-    (v .next .merit) (v .next .replacements) w run in
+    let o = sss-beside d
+    ∙ ap (outcomeBy (d .allowance) u (d .lent) (d .lentOrder) (sssUncovered (d .allowance) u)) passed
+    ∙ outcome-spent u (accepted-formed u a) (d .allowance) (d .lent) (d .lentOrder) (v .next .merit)
+    (v .next .replacements) w run in
     let l : s .leaves ≡ length w = ap (λ y. y .leaves) (v .gives) ∙ sym (first-count c) in
     let same = ap (λ m. sssSpent m (v .next)) (first-count c) in (
-      ap (λ y. y .search .answer) o ∙ ap sss-answer.Spent (same ∙ sym (v .gives)),
-      ap₂ (λ k y. take k (y .search .evaluated)) (h .sameFrames) o
+      ap (λ y. y .answer .answer) o ∙ ap sss-answer.Spent (same ∙ sym (v .gives)),
+      ap₂ (λ k y. take k (y .answer .left .marks)) (h .sameFrames) o
           ∙ take-written (mark (among w)) (frames u) (d .lent .marks)
           ∙ ap (tabulate (mark (among w))) (sym (h .sameFrames))
           ∙ sym (take-written (mark (among w)) (frames t) (c .lent .marks))
           ∙ ap (take (frames t)) (sym (v .marks)),
-      ap₂ (λ k y. take k (y .order)) l o ∙ take-append-seam w _
+      ap₂ (λ k y. take k (y .left)) l o ∙ take-append-seam w _
           ∙ sym (ap₂ take l (v .order) ∙ take-append-seam w _),
     )
 
@@ -203,6 +201,6 @@ finishes-too {t} {u} {f} c d q a r k n h g =
     ap (λ z. z .findings .leaves) (sym same) ∙ count (sss c) .0 in
     let passed = rooms-passed u (d .lent) (d .lentOrder) a r k (d .lentList) n in
     let all = enough u (accepted-formed u a) (d .allowance) (omega (arith, had-enough c)) in
-    ap (λ z. z .search .answer)
+    ap (λ z. z .answer .answer .answer)
     (d .outcome ∙ ap₂ (sssBy (d .allowance) u (d .lentList) (d .lent) (d .lentOrder)) all passed)
     ∙ ap sss-answer.Found (sym same)

@@ -5,14 +5,15 @@ use Prim.Native.Nat.{ℕ, zero, suc, _+_, _<_}
 use native.Mathlib.Omega.{arith}
 use mathlib.Core.Path.{_≡_, refl, ap, ap₂, _∙_}
 use mathlib.Core.Option.{Option, none, some}
-use mathlib.Core.List.{List, [], _∷_}
-use lib.ListN.{length}
+use mathlib.Core.List.{List, [], _∷_, _++_}
+use lib.ListN.{length, drop}
 use Rattle.gametree.specs.declared.Side.{Side}
 use Rattle.gametree.specs.declared.Side.the-variants.{Max, Min}
+use Rattle.gametree.specs.Tree.{Tree}
 use Rattle.frames.specs.Frame.{frames}
 use Rattle.frames.specs.Tree.{tree, valuation}
 use Rattle.frames.specs.declared.Rejection.{Rejection}
-use Rattle.frames.specs.Rejection.{ask, answer, _andThen_, eachNode}
+use Rattle.frames.specs.Rejection.{ask, answer, _andThen_, eachNode, unless}
 use Rattle.frames.specs.Check.{Accepted, check1, check5, check6, check7, check8, check10, depthsRejection}
 use Rattle.frames.specs.Check.{framesRejection}
 use Rattle.frames.specs.results.Alternating.{Alternating, zeroRejection, treeByDepth}
@@ -20,14 +21,15 @@ use Rattle.frames.proofs.Acceptance.{accepted-formed}
 use Rattle.frames.proofs.Sides.{check4-before, rejection-before, side-parity, tree-before}
 use Rattle.lines.specs.Lines.{decoded}
 use Rattle.reader.specs.File.{fileCheck2, fileCheck3, fileCheck16, fileCheck10, fileRejection, readRejection}
-use Rattle.reader.specs.File.{readAnswer, filled, tableAfter}
+use Rattle.reader.specs.File.{readAnswer, tableAfter}
 use Rattle.reader.proofs.Acceptance.{accepted-table}
 use Rattle.verify.specs.Flags.{ruleHolds}
 use Rattle.verify.specs.Check.{checkTree, check11, check14, treesRejection, flagsRejection, certificateRejection}
 use Rattle.verify.specs.Check.{judged, verdict}
-use Rattle.report.specs.Report.{abLine, mtdLine, sssLine, printed, report}
+use Rattle.text.specs.Text.{refusedLine}
+use Rattle.report.specs.Report.{analysisOn, report}
 use Rattle.demands.specs.Alternating.{zeroFrames, zeroFile, zeroRead, ruleByDepth, treeRuleByDepth}
-use Rattle.demands.specs.Alternating.{verdictByDepth, analysisOn, printedByDepth, reportByDepth}
+use Rattle.demands.specs.Alternating.{verdictByDepth, reportByDepth}
 
 -- a check put to each node says what another says that is the same at each
 each-same : (p q : ℕ → Option Rejection) (i n : ℕ) → ((k : ℕ) → k < i + n → p k ≡ q k)
@@ -78,19 +80,25 @@ module _ (f : List ℕ) (p : Alternating (decoded f)) where
   -- and so the reader answers what it answered, and leaves what it left
   pub alternating-read : (table : List ℕ)
       → (readAnswer f table ≡ answer (frames (decoded f)) (zeroRead f table))
-      × (tableAfter f table ≡ filled (zeroRead f table) (decoded f) table)
+      × (tableAfter f table
+      ≡ unless (zeroRead f table) (λ r. table) (decoded f ++ drop (length (decoded f)) table))
   unfolding readRejection
   alternating-read table =
       let e = ap (λ x. x andThen fileCheck10 f table) alternating-file in
-      (ap (answer (frames (decoded f))) e, ap (λ x. filled x (decoded f) table) e)
+      let after = decoded f ++ drop (length (decoded f)) table in
+      (ap (answer (frames (decoded f))) e, ap (λ x. unless x (λ r. table) after) e)
 
   -- and the program prints what it printed
-  printed-before : (q : Option Rejection) → fileRejection f ≡ q → printed f q ≡ printedByDepth f q
-  unfolding abLine mtdLine sssLine
+  abbrev printedBy : Option Rejection → Tree → List ℕ
+  printedBy q x = unless q refusedLine (analysisOn (valuation (decoded f)) x)
+
+  printed-before : (q : Option Rejection) → fileRejection f ≡ q
+      → printedBy q (tree (decoded f)) ≡ printedBy q (treeByDepth (decoded f))
   printed-before none e =
       ap (analysisOn (valuation (decoded f)))
       (tree-before (decoded f) p (accepted-formed (decoded f) (accepted-table f e .1)))
   printed-before (some r) e = refl
 
   pub alternating-report : report f ≡ reportByDepth f
-  alternating-report = printed-before (fileRejection f) refl ∙ ap (printedByDepth f) alternating-file
+  alternating-report =
+      printed-before (fileRejection f) refl ∙ ap (λ q. printedBy q (treeByDepth (decoded f))) alternating-file

@@ -5,8 +5,9 @@ use mathlib.Core.Path.{_≡_}
 use mathlib.Core.List.{List, [], _∷_}
 use lib.IntN.{ℤ}
 use lib.ListN.{length}
+use Rattle.frames.specs.Rejection.{_leaving_}
 use Rattle.certificate.specs.declared.Findings.{Findings}
-use Rattle.certificate.specs.Search.{Outcome, ListedOutcome}
+use Rattle.certificate.specs.Search.{Buffers}
 use Rattle.alphabeta.specs.declared.AlphaBetaAnswer.{AlphaBetaAnswer}
 use Rattle.alphabeta.specs.declared.AlphaBetaAnswer.the-variants as ab-answer
 use Rattle.alphabeta.specs.Outcome.{reachedLeaves, alphaBetaOutcome}
@@ -25,7 +26,6 @@ use Rattle.sss.specs.declared.SssResult.{SssResult}
 use Rattle.sss.specs.declared.SssAnswer.{SssAnswer}
 use Rattle.sss.specs.declared.SssAnswer.the-variants as sss-answer
 use Rattle.sss.specs.Outcome.{sssLeaves, sssOutcome, solveOutcome}
-use Rattle.demands.specs.Handed.{Buffers}
 
 -- their lengths, for question 10
 abbrev pub lengths : Buffers → List ℕ
@@ -39,18 +39,10 @@ listLengths b o = length (b .marks) ∷ length (b .flags) ∷ length o ∷ []
 abbrev pub stateLengths : List State → Buffers → (order : List ℕ) → List ℕ
 stateLengths l b o = length l ∷ listLengths b o
 
--- what a contract says of an answer and of the buffers that are left
-abbrev pub outcomeOf : {A : Type 0} → A → Buffers → Outcome A
-outcomeOf a b = record { answer = a; evaluated = b .marks; certificate = b .flags }
-
--- and of the list of leaves that is left
-abbrev pub listedOf : {A : Type 0} → A → Buffers → (order : List ℕ) → ListedOutcome A
-listedOf a b o = record { order = o; search = outcomeOf a b }
-
 -- what the contract of `alphabeta::search` says: lent the table t, the buffers b and the list of leaves o, it answers a
 -- and leaves the buffers d and the list p
 abbrev pub AlphaBetaSays : List ℕ → Buffers → List ℕ → AlphaBetaAnswer → Buffers → List ℕ → Type 0
-AlphaBetaSays t b o a d p = listedOf a d p ≡ alphaBetaOutcome t (b .marks) (b .flags) o
+AlphaBetaSays t b o a d p = a leaving d leaving p ≡ alphaBetaOutcome t b o
 
 -- a call of alpha-beta with the table t that answers a
 pub record AlphaBetaCall (t : List ℕ) (a : AlphaBetaAnswer) : Type 0 where
@@ -62,7 +54,7 @@ pub record AlphaBetaCall (t : List ℕ) (a : AlphaBetaAnswer) : Type 0 where
 
 -- what that of `plain::search` says, which lists no leaves
 abbrev pub PlainSays : List ℕ → Buffers → PlainAnswer → Buffers → Type 0
-PlainSays t b a d = outcomeOf a d ≡ plainOutcome t (b .marks) (b .flags)
+PlainSays t b a d = a leaving d ≡ plainOutcome t b
 
 -- a call of the plain engine with the table t that answers a
 pub record PlainCall (t : List ℕ) (a : PlainAnswer) : Type 0 where
@@ -72,7 +64,7 @@ pub record PlainCall (t : List ℕ) (a : PlainAnswer) : Type 0 where
 
 -- what that of `mtd::search` says
 abbrev pub MtdSays : List ℕ → Buffers → List ℕ → MtdAnswer → Buffers → List ℕ → Type 0
-MtdSays t b o a d p = listedOf a d p ≡ mtdOutcome t (b .marks) (b .flags) o
+MtdSays t b o a d p = a leaving d leaving p ≡ mtdOutcome t b o
 
 -- a call of MTD with the table t that answers a
 pub record MtdCall (t : List ℕ) (a : MtdAnswer) : Type 0 where
@@ -84,7 +76,7 @@ pub record MtdCall (t : List ℕ) (a : MtdAnswer) : Type 0 where
 
 -- what that of `mtdf::search` says, which has a starting value v
 abbrev pub MtdfSays : ℤ → List ℕ → Buffers → List ℕ → MtdfAnswer → Buffers → List ℕ → Type 0
-MtdfSays v t b o a d p = listedOf a d p ≡ mtdfOutcome v t (b .marks) (b .flags) o
+MtdfSays v t b o a d p = a leaving d leaving p ≡ mtdfOutcome v t b o
 
 -- a call of MTD(f) with the table t that answers a
 pub record MtdfCall (t : List ℕ) (a : MtdfAnswer) : Type 0 where
@@ -97,8 +89,7 @@ pub record MtdfCall (t : List ℕ) (a : MtdfAnswer) : Type 0 where
 
 -- what that of `sss::search` says, which has an allowance of n leaves: lent the list of states l too, it leaves there m
 abbrev pub SssSays : ℕ → List ℕ → List State → Buffers → List ℕ → SssAnswer → List State → Buffers → List ℕ → Type 0
-SssSays n t l b o a m d p =
-    record { list = m; order = p; search = outcomeOf a d } ≡ sssOutcome n t l (b .marks) (b .flags) o
+SssSays n t l b o a m d p = a leaving d leaving p leaving m ≡ sssOutcome n t l b o
 
 -- a call of SSS* with the table t that answers a
 pub record SssCall (t : List ℕ) (a : SssAnswer) : Type 0 where
@@ -113,7 +104,7 @@ pub record SssCall (t : List ℕ) (a : SssAnswer) : Type 0 where
 
 -- what that of `sss::solve` says
 abbrev pub SolveSays : ℕ → List ℕ → Buffers → List ℕ → SssAnswer → Buffers → List ℕ → Type 0
-SolveSays n t b o a d p = listedOf a d p ≡ solveOutcome n t (b .marks) (b .flags) o
+SolveSays n t b o a d p = a leaving d leaving p ≡ solveOutcome n t b o
 
 -- a call of SSS* that has a list of states of its own; it is a call of SSS* with a long lent one (`ownCall` in
 -- Refusals.antt)

@@ -2,29 +2,30 @@
 -- converter cite. "lifts the letters a to f to capitals and then reads and writes as in N3": `convertOutcome` in
 -- convert/specs/Convert.antt. "The reader takes capital hexadecimal letters and no others" and "their trees do not
 -- change": `capitals-taken` and `converted-same` in Sentences.antt; "For a file still refused" nothing is written:
--- `convert-keeps` in TheSentence.antt.
+-- `convert-keeps` in TheSentence.antt. "a lowercase letter a to f in a line, 16, place the first such line":
+-- `lowest-line` in Demand1.antt.
 use Prim.Native.Nat.{ℕ, _*_, _≤_, _<_}
 use native.Mathlib.Omega.{arith}
-use mathlib.Core.Path.{_≡_, ap, _∙_}
+use mathlib.Core.Path.{_≡_, refl, sym, ap, _∙_}
 use mathlib.Core.Logic.{_↔_}
-use mathlib.Core.Bool.{true, false, not}
-use mathlib.Core.Option.{none, some}
+use mathlib.Core.Bool.{true, not}
+use mathlib.Core.Option.{Option, none, some}
 use mathlib.Core.List.{List, [], _++_}
 use lib.ListN.{length, getD, take, drop}
-use borrow.Author.Tests.{not-true, not-false}
 use Rattle.frames.specs.declared.Rejection.{Rejection}
 use Rattle.frames.specs.declared.Checked.the-variants.{Rejected as RejectedTable}
 use Rattle.frames.specs.Frame.{frames}
-use Rattle.frames.specs.Rejection.{_andThen_}
+use Rattle.frames.specs.Rejection.{_andThen_, unless, _leaving_}
 use Rattle.frames.specs.Check.{check1}
 use Rattle.frames.proofs.Stated.{both-passed, passed-then}
 use Rattle.frames.proofs.Acceptance.{accepted-stated}
 use Rattle.lines.specs.Line.{lineSize, hasLowercase, lineAt}
 use Rattle.lines.specs.Lines.{linesOf, decoded}
 use Rattle.reader.specs.File.{maxFile, fileCheck2, fileCheck3, fileCheck16, fileRejection, readRejection, readAnswer}
-use Rattle.reader.proofs.FirstLine.{line-first, line-asked}
+use Rattle.reader.proofs.FirstLine.{line-asked}
 use Rattle.writer.specs.Encoded.{fileOf}
 use Rattle.writer.specs.declared.Written.the-variants.{Length}
+use Rattle.treefile.proofs.RoundTrip.{written-length}
 use Rattle.convert.specs.RaiseCase.{raised}
 use Rattle.text.specs.Text.{refusedLine}
 use Rattle.convert.specs.Convert.{convertOutcome}
@@ -35,14 +36,6 @@ use Rattle.convert.proofs.Converted.{base-table, convert-gives, convert-leaves,
 use Rattle.convert.proofs.Printing.{line-printed, file-printed}
 
 module _ (f : List ℕ) where
-  -- "a small letter a to f in a line, 16, place the first such line"
-  pub lowest-small : (r : Rejection) → fileCheck16 f ≡ some r
-      → (r .number ≡ 16) × (r .place < length (linesOf f)) × (hasLowercase (getD (linesOf f) (r .place) []) ≡ true)
-      × ((k : ℕ) → k < r .place → hasLowercase (getD (linesOf f) k []) ≡ false)
-  lowest-small r e =
-      let p = line-first 16 (λ l. not (hasLowercase l)) f r e in
-      (p .0, p .1, not-false _ (p .2), λ k h. not-true _ (p .3 k h))
-
   -- "asked after question 3 .. has passed for all lines and before 4": a file that passes 1 to 3 and has a line with a
   -- lowercase letter gets it, whatever its frames and the lent table are
   pub small-refused : (check1 f andThen fileCheck2 f andThen fileCheck3 f) ≡ none → (i : ℕ) → i < length (linesOf f)
@@ -86,31 +79,31 @@ module _ (f : List ℕ) where
     file-converted = convert-leaves f buffer
 
     -- "it prints 01's `refused` line only": in a buffer with room for every file, what is printed for a file that the
-    -- base refused is the line of that refusal and nothing else,
-    pub line-only : maxFile ≤ length buffer → (r : Rejection) → baseRejection f ≡ some r →
-        let line = refusedLine (r .number) (r .place) in
-        outputOutcome f buffer ≡ record { answer = Length (length line); file = line ++ drop (length line) buffer }
-    line-only = line-printed f buffer
-
-    -- and for any other the file of its table
-    pub file-only : maxFile ≤ length buffer → baseRejection f ≡ none
-        → outputOutcome f buffer
-        ≡ record {
-          answer = Length (lineSize * frames (decoded f));
-          file = fileOf (decoded f) ++ drop (lineSize * frames (decoded f)) buffer;
-        }
-    file-only = file-printed f buffer
+    -- base refused is the line of that refusal and nothing else, and for any other the file of its table
+    pub printed-only : maxFile ≤ length buffer →
+        let x = unless (baseRejection f) refusedLine (fileOf (decoded f)) in
+        outputOutcome f buffer ≡ Length (length x) leaving (x ++ drop (length x) buffer)
+    printed-only room = by (baseRejection f) refl
+      where
+        by : (q : Option Rejection) → baseRejection f ≡ q →
+            let x = unless q refusedLine (fileOf (decoded f)) in
+            outputOutcome f buffer ≡ Length (length x) leaving (x ++ drop (length x) buffer)
+        by none e =
+            file-printed f buffer room e
+            ∙ ap (λ n. Length n leaving (fileOf (decoded f) ++ drop n buffer))
+            (sym (written-length (decoded f) (base-table f e)))
+        by (some r) e = line-printed f buffer room r e
 
     module _ (n : ℕ) (e : convertOutcome f buffer .answer ≡ Length n) where
       -- converting it once more changes nothing
       pub converted-twice : (other : List ℕ) → n ≤ length other →
-          let new = take n (convertOutcome f buffer .file) in
-          convertOutcome new other ≡ record { answer = Length n; file = new ++ drop n other }
+          let new = take n (convertOutcome f buffer .left) in
+          convertOutcome new other ≡ Length n leaving (new ++ drop n other)
       converted-twice = converted-again f buffer n e
 
 -- "the same tree .. is filed twice": no more; two files are converted to one file, byte for byte, exactly if they have
 -- one table
 pub one-file-each : (f g buffer other : List ℕ) (n m : ℕ) → convertOutcome f buffer .answer ≡ Length n
     → convertOutcome g other .answer ≡ Length m
-    → (decoded f ≡ decoded g) ↔ (take n (convertOutcome f buffer .file) ≡ take m (convertOutcome g other .file))
+    → (decoded f ≡ decoded g) ↔ (take n (convertOutcome f buffer .left) ≡ take m (convertOutcome g other .left))
 one-file-each = converted-once

@@ -4,6 +4,8 @@
 -- less, or asks for something, is refused here. The theorems of the other files are about the definitions that are
 -- cited here.
 use mathlib.Core.Path.{_≡_}
+use Rattle.frames.specs.Rejection.{_leaving_}
+use Rattle.certificate.specs.Search.{buffers}
 use Rattle.alphabeta.proofs as alphabeta
 use Rattle.alphabeta.specs.Outcome.{alphaBetaOutcome}
 use Rattle.plain.proofs as plain
@@ -51,41 +53,34 @@ use Rattle.demands.specs.Runs.{Runs}
 -- the searches
 
 pub alphabeta-search : Runs alphabeta.search.ended alphabeta.search.Symbol.routine
-    (λ κs (t, (m, (f, (o, _)))) r (_, (m′, (f′, (o′, _)))).
-    record { order = o′ .now; search = record { answer = r; evaluated = m′ .now; certificate = f′ .now } }
-    ≡ alphaBetaOutcome (t .now) (m .now) (f .now) (o .now))
+    (λ κs (t, (m, (f, (o, _)))) r (_, (m′, (f′, (o′, _)))). r leaving buffers (m′ .now) (f′ .now) leaving o′ .now
+    ≡ alphaBetaOutcome (t .now) (buffers (m .now) (f .now)) (o .now))
 alphabeta-search = record { meets = alphabeta.search.Met.met }
 
 pub plain-search : Runs plain.search.ended plain.search.Symbol.routine
     (λ κs (t, (m, (f, _))) r (_, (m′, (f′, _))).
-    record { answer = r; evaluated = m′ .now; certificate = f′ .now } ≡ plainOutcome (t .now) (m .now) (f .now))
+    r leaving buffers (m′ .now) (f′ .now) ≡ plainOutcome (t .now) (buffers (m .now) (f .now)))
 plain-search = record { meets = plain.search.Met.met }
 
 pub mtd-search : Runs mtd.search.ended mtd.search.Symbol.routine
-    (λ κs (t, (m, (f, (o, _)))) r (_, (m′, (f′, (o′, _)))).
-    record { order = o′ .now; search = record { answer = r; evaluated = m′ .now; certificate = f′ .now } }
-    ≡ mtdOutcome (t .now) (m .now) (f .now) (o .now))
+    (λ κs (t, (m, (f, (o, _)))) r (_, (m′, (f′, (o′, _)))). r leaving buffers (m′ .now) (f′ .now) leaving o′ .now
+    ≡ mtdOutcome (t .now) (buffers (m .now) (f .now)) (o .now))
 mtd-search = record { meets = mtd.search.Met.met }
 
 pub mtdf-search : Runs mtdf.search.ended mtdf.search.Symbol.routine
     (λ κs (t, (v, (m, (f, (o, _))))) r (_, (_, (m′, (f′, (o′, _))))).
-    record { order = o′ .now; search = record { answer = r; evaluated = m′ .now; certificate = f′ .now } }
-    ≡ mtdfOutcome v (t .now) (m .now) (f .now) (o .now))
+    r leaving buffers (m′ .now) (f′ .now) leaving o′ .now ≡ mtdfOutcome v (t .now) (buffers (m .now) (f .now)) (o .now))
 mtdf-search = record { meets = mtdf.search.Met.met }
 
 pub sss-search : Runs sss.search.ended sss.search.Symbol.routine
     (λ κs (t, (l, (m, (f, (o, (n, _)))))) r (_, (l′, (m′, (f′, (o′, _))))).
-    record {
-      list = l′ .now;
-      order = o′ .now;
-      search = record { answer = r; evaluated = m′ .now; certificate = f′ .now };
-    } ≡ sssOutcome n (t .now) (l .now) (m .now) (f .now) (o .now))
+    r leaving buffers (m′ .now) (f′ .now) leaving o′ .now leaving l′ .now
+    ≡ sssOutcome n (t .now) (l .now) (buffers (m .now) (f .now)) (o .now))
 sss-search = record { meets = sss.search.Met.met }
 
 pub sss-solve : Runs sss.solve.ended sss.solve.Symbol.routine
-    (λ κs (t, (m, (f, (o, (n, _))))) r (_, (m′, (f′, (o′, _)))).
-    record { order = o′ .now; search = record { answer = r; evaluated = m′ .now; certificate = f′ .now } }
-    ≡ solveOutcome n (t .now) (m .now) (f .now) (o .now))
+    (λ κs (t, (m, (f, (o, (n, _))))) r (_, (m′, (f′, (o′, _)))). r leaving buffers (m′ .now) (f′ .now) leaving o′ .now
+    ≡ solveOutcome n (t .now) (buffers (m .now) (f .now)) (o .now))
 sss-solve = record { meets = sss.solve.Met.met }
 
 -- an entry for a list of states to lend
@@ -119,15 +114,15 @@ pub treefile-read : Runs reader.read.ended reader.read.Symbol.routine
 treefile-read = record { meets = reader.read.Met.met }
 
 pub treefile-write : Runs writer.write.ended writer.write.Symbol.routine
-    (λ κs (t, (f, _)) r (_, (f′, _)). record { answer = r; file = f′ .now } ≡ writeOutcome (t .now) (f .now))
+    (λ κs (t, (f, _)) r (_, (f′, _)). r leaving f′ .now ≡ writeOutcome (t .now) (f .now))
 treefile-write = record { meets = writer.write.Met.met }
 
 pub convert-convert : Runs convert.convert.ended convert.convert.Symbol.routine
-    (λ κs (f, (b, _)) r (_, (b′, _)). record { answer = r; file = b′ .now } ≡ convertOutcome (f .now) (b .now))
+    (λ κs (f, (b, _)) r (_, (b′, _)). r leaving b′ .now ≡ convertOutcome (f .now) (b .now))
 convert-convert = record { meets = convert.convert.Met.met }
 
 pub convert-output : Runs convert.output.ended convert.output.Symbol.routine
-    (λ κs (f, (b, _)) r (_, (b′, _)). record { answer = r; file = b′ .now } ≡ outputOutcome (f .now) (b .now))
+    (λ κs (f, (b, _)) r (_, (b′, _)). r leaving b′ .now ≡ outputOutcome (f .now) (b .now))
 convert-output = record { meets = convert.output.Met.met }
 
 pub report-write : Runs report.write.ended report.write.Symbol.routine
@@ -135,14 +130,13 @@ pub report-write : Runs report.write.ended report.write.Symbol.routine
 report-write = record { meets = report.write.Met.met }
 
 pub text-refused : Runs text.refused.ended text.refused.Symbol.routine
-    (λ κs (q, _) r e. r ≡ textOf (refusedLine (q .number) (q .place)))
+    (λ κs (q, _) r e. r ≡ textOf (refusedLine q))
 text-refused = record { meets = text.refused.Met.met }
 
 -- the requests' own calls
 
 pub graft-graft : Runs graft.graft.ended graft.graft.Symbol.routine
-    (λ κs (t, (k, (u, (b, _)))) r (_, (_, (_, (b′, _)))).
-    record { answer = r; result = b′ .now } ≡ graftOutcome (t .now) k (u .now) (b .now))
+    (λ κs (t, (k, (u, (b, _)))) r (_, (_, (_, (b′, _)))). r leaving b′ .now ≡ graftOutcome (t .now) k (u .now) (b .now))
 graft-graft = record { meets = graft.graft.Met.met }
 
 pub leafvalue-least-value : Runs leafvalue.least_value.ended leafvalue.least_value.Symbol.routine
@@ -150,7 +144,7 @@ pub leafvalue-least-value : Runs leafvalue.least_value.ended leafvalue.least_val
 leafvalue-least-value = record { meets = leafvalue.least_value.Met.met }
 
 pub worstcase-fill : Runs worstcase.fill.ended worstcase.fill.Symbol.routine
-    (λ κs (t, _) r (t′, _). record { answer = r; table = t′ .now } ≡ fillOutcome (t .now))
+    (λ κs (t, _) r (t′, _). r leaving t′ .now ≡ fillOutcome (t .now))
 worstcase-fill = record { meets = worstcase.fill.Met.met }
 
 pub leastcount-least-leaves : Runs leastcount.least_leaves.ended leastcount.least_leaves.Symbol.routine

@@ -8,15 +8,14 @@ use mathlib.Core.Path.{_≡_}
 use mathlib.Core.Bool.{Bool, true}
 use mathlib.Core.List.{List, _++_, map}
 use lib.ListN.{length, drop, replicate}
-use Rattle.lists.specs.Lists.{Once, Subsequence, among, different}
-use Rattle.gametree.specs.Tree.{leaves}
+use Rattle.lists.specs.Lists.{Once, among, different}
 use Rattle.gametree.specs.Mtd as rule
 use Rattle.gametree.specs.Certificate.{Smallest}
 use Rattle.frames.specs.declared.Rejection.{Rejection}
 use Rattle.frames.specs.Frame.{frames}
 use Rattle.frames.specs.Tree.{tree, valuation}
 use Rattle.frames.specs.Check.{Accepted}
-use Rattle.frames.proofs.Acceptance.{accepted-formed}
+use Rattle.certificate.specs.Search.{buffers}
 use Rattle.alphabeta.specs.Outcome.{reachedLeaves}
 use Rattle.mtd.proofs as mtd
 use Rattle.mtd.specs.declared.MtdResult.{MtdResult}
@@ -26,9 +25,9 @@ use Rattle.sss.proofs as sss
 use Rattle.sss.specs.declared.SssResult.{SssResult}
 use Rattle.sss.specs.declared.SssAnswer.the-variants as sss-answer
 use Rattle.states.specs.Entry.{blank}
-use Rattle.sss.specs.Outcome.{runOf, sssLeaves}
+use Rattle.sss.specs.Outcome.{runOf}
 use Rattle.demands.specs.Runs.{Runs}
-use Rattle.demands.specs.Handed.{buffers, Marked}
+use Rattle.demands.specs.Handed.{Marked}
 use Rattle.demands.specs.Searches.{EachSearch}
 use Rattle.demands.proofs.Contracts as contracts
 use Rattle.demands.proofs.Running.{follows, each-search, mtdCall, sssCall, given-list}
@@ -48,14 +47,6 @@ once = each-search _ (λ t c. calls.once c)
 -- there is a smallest pair
 pub pair-exists : (t : List ℕ) → Accepted t → (g : ℕ → Bool) × (h : ℕ → Bool) × Smallest (valuation t) (tree t) g h
 pair-exists = calls.smallest-pair
-
--- alpha-beta evaluates its leaves from left to right
-pub ordered : (t : List ℕ) → Subsequence (reachedLeaves t) (leaves (tree t))
-ordered = calls.ordered
-
--- MTD and SSS* evaluate the same leaves in the same order
-pub one-order : (t : List ℕ) → Accepted t → sssLeaves t ≡ mtdLeaves t
-one-order t a = calls.one-order t (accepted-formed t a)
 
 -- MTD's passes are those of its rule, and at most one more than there are different worths, as scores, among the
 -- evaluated leaves

@@ -24,6 +24,7 @@ use Rattle.frames.proofs.Acceptance.{accepted-formed}
 use Rattle.frames.proofs.Totals.{tree-size}
 use Rattle.frames.proofs.Proper.{tree-proper}
 use Rattle.certificate.specs.declared.Findings.{Findings}
+use Rattle.certificate.specs.Search.{searchRejection}
 use Rattle.bounds.specs.Marks.{ones}
 use Rattle.alphabeta.specs.declared.AlphaBetaAnswer.the-variants as ab-answer
 use Rattle.alphabeta.specs.Outcome.{reachedLeaves}
@@ -33,9 +34,11 @@ use Rattle.mtd.specs.Outcome.{mtdLeaves}
 use Rattle.sss.specs.declared.SssResult.{SssResult}
 use Rattle.sss.specs.declared.SssAnswer.the-variants as sss-answer
 use Rattle.states.specs.Entry.{blank}
-use Rattle.sss.specs.Outcome.{runOf, sssLeaves, listAfter}
-use Rattle.demands.proofs.Calls.{AlphaBetaCall, MtdCall, SssCall, Call, alphaBeta, mtd, sss, found, left, leaves}
+use Rattle.sss.specs.Outcome.{runOf, sssLeaves}
+use Rattle.demands.proofs.Calls.{stateLengths, AlphaBetaCall, MtdCall, SssCall, Call, alphaBeta, mtd, sss}
+use Rattle.demands.proofs.Calls.{found, left, leaves}
 use Rattle.demands.specs.Handed.{Marked, AgreeOnMarked, Alike}
+use Rattle.demands.proofs.Parts.{left-due}
 use Rattle.demands.proofs.Views.{view, mtd-result, sss-result}
 use Rattle.demands.proofs.Handed.{formed, proper, marks-at, marks-count, marks-reached, count-most}
 use Rattle.demands.proofs.Local.{one-tree, agreed-scores, same-findings, same-found, same-left, same-order}
@@ -177,4 +180,5 @@ replacements {t} c =
 pub list-reset : {t : List ℕ} {f : SssResult} (c : SssCall t (sss-answer.Found f))
     → c .leftList ≡ replicate (frames t) blank ++ drop (frames t) (c .lentList)
 list-reset {t} c =
-    ap (λ x. x .list) (c .outcome) ∙ ap (λ q. listAfter q (frames t) (c .lentList)) (sss-result c .passed)
+    ap (λ x. x .left) (c .outcome)
+    ∙ left-due (searchRejection t (stateLengths (c .lentList) (c .lent) (c .lentOrder))) _ _ _ _ (sss-result c .passed)

@@ -3,6 +3,7 @@
 -- (Contracts.antt), as numbers. As there, this is the function's own contract, compared with it by computing.
 use mathlib.Core.Path.{_≡_}
 use lib.ListN.{length}
+use Rattle.frames.specs.Rejection.{_leaving_}
 use Rattle.frames.specs.Check.{checked}
 use Rattle.frames.specs.Children.{childrenOf}
 use Rattle.hex.specs.Digit.{digitOf}
@@ -11,6 +12,7 @@ use Rattle.reader.specs.File.{readAnswer, tableAfter}
 use Rattle.writer.specs.Write.{writeOutcome}
 use Rattle.convert.specs.Convert.{convertOutcome}
 use Rattle.convert.specs.Printed.{outputOutcome}
+use Rattle.certificate.specs.Search.{buffers}
 use Rattle.alphabeta.specs.Outcome.{alphaBetaOutcome}
 use Rattle.plain.specs.Outcome.{plainOutcome}
 use Rattle.mtd.specs.Outcome.{mtdOutcome}
@@ -27,9 +29,9 @@ use Rattle.text.specs.Text.{refusedLine, textOf}
 use Rattle.buulset.proofs as buulset
 use Rattle.buulset.specs.Version.{version}
 use Rattle.buulset.specs.Children.{flatChildren, partOf}
-use Rattle.buulset.specs.Outcome.{flatWrite, flatGraft, flatFill, flatSearch, flatListed}
-use Rattle.flat.specs.Flat.{flatChecked, flatAlphaBeta, flatPlain, flatMtd, flatMtdf, flatSss, flatVerdict}
-use Rattle.flat.specs.Flat.{flatLeastValue, flatLeast, flatChoice, flatLine, flatText}
+use Rattle.buulset.specs.Outcome.{flatBy, flatListed}
+use Rattle.flat.specs.Flat.{flatChecked, flatWritten, flatFilled, flatAlphaBeta, flatPlain, flatMtd, flatMtdf, flatSss}
+use Rattle.flat.specs.Flat.{flatVerdict, flatLeastValue, flatLeast, flatChoice, flatLine, flatText}
 use Rattle.demands.specs.Runs.{Runs}
 
 pub exported-version : Runs buulset.buulset_version.ended buulset.buulset_version.Symbol.routine
@@ -52,18 +54,15 @@ pub exported-digit : Runs buulset.buulset_digit.ended buulset.buulset_digit.Symb
 exported-digit = record { meets = buulset.buulset_digit.Met.met }
 
 pub exported-write : Runs buulset.buulset_write.ended buulset.buulset_write.Symbol.routine
-    (λ κs (t, (f, _)) r (_, (f′, _)).
-    record { answer = r; buffer = f′ .now } ≡ flatWrite (writeOutcome (t .now) (f .now)))
+    (λ κs (t, (f, _)) r (_, (f′, _)). r leaving f′ .now ≡ flatBy flatWritten (writeOutcome (t .now) (f .now)))
 exported-write = record { meets = buulset.buulset_write.Met.met }
 
 pub exported-convert : Runs buulset.buulset_convert.ended buulset.buulset_convert.Symbol.routine
-    (λ κs (f, (b, _)) r (_, (b′, _)).
-    record { answer = r; buffer = b′ .now } ≡ flatWrite (convertOutcome (f .now) (b .now)))
+    (λ κs (f, (b, _)) r (_, (b′, _)). r leaving b′ .now ≡ flatBy flatWritten (convertOutcome (f .now) (b .now)))
 exported-convert = record { meets = buulset.buulset_convert.Met.met }
 
 pub exported-capitals : Runs buulset.buulset_capitals.ended buulset.buulset_capitals.Symbol.routine
-    (λ κs (f, (b, _)) r (_, (b′, _)).
-    record { answer = r; buffer = b′ .now } ≡ flatWrite (outputOutcome (f .now) (b .now)))
+    (λ κs (f, (b, _)) r (_, (b′, _)). r leaving b′ .now ≡ flatBy flatWritten (outputOutcome (f .now) (b .now)))
 exported-capitals = record { meets = buulset.buulset_capitals.Met.met }
 
 pub exported-check : Runs buulset.buulset_check.ended buulset.buulset_check.Symbol.routine
@@ -77,33 +76,29 @@ exported-children = record { meets = buulset.buulset_children.Met.met }
 -- searches
 
 pub exported-alphabeta : Runs buulset.buulset_alphabeta.ended buulset.buulset_alphabeta.Symbol.routine
-    (λ κs (t, (m, (f, (o, _)))) r (_, (m′, (f′, (o′, _)))).
-    record { order = o′ .now; search = record { answer = r; evaluated = m′ .now; certificate = f′ .now } }
-    ≡ flatListed flatAlphaBeta (alphaBetaOutcome (t .now) (m .now) (f .now) (o .now)))
+    (λ κs (t, (m, (f, (o, _)))) r (_, (m′, (f′, (o′, _)))). r leaving buffers (m′ .now) (f′ .now) leaving o′ .now
+    ≡ flatListed flatAlphaBeta (alphaBetaOutcome (t .now) (buffers (m .now) (f .now)) (o .now)))
 exported-alphabeta = record { meets = buulset.buulset_alphabeta.Met.met }
 
 pub exported-plain : Runs buulset.buulset_plain.ended buulset.buulset_plain.Symbol.routine
-    (λ κs (t, (m, (f, _))) r (_, (m′, (f′, _))).
-    record { answer = r; evaluated = m′ .now; certificate = f′ .now }
-    ≡ flatSearch flatPlain (plainOutcome (t .now) (m .now) (f .now)))
+    (λ κs (t, (m, (f, _))) r (_, (m′, (f′, _))). r leaving buffers (m′ .now) (f′ .now)
+    ≡ flatBy flatPlain (plainOutcome (t .now) (buffers (m .now) (f .now))))
 exported-plain = record { meets = buulset.buulset_plain.Met.met }
 
 pub exported-mtd : Runs buulset.buulset_mtd.ended buulset.buulset_mtd.Symbol.routine
-    (λ κs (t, (m, (f, (o, _)))) r (_, (m′, (f′, (o′, _)))).
-    record { order = o′ .now; search = record { answer = r; evaluated = m′ .now; certificate = f′ .now } }
-    ≡ flatListed flatMtd (mtdOutcome (t .now) (m .now) (f .now) (o .now)))
+    (λ κs (t, (m, (f, (o, _)))) r (_, (m′, (f′, (o′, _)))). r leaving buffers (m′ .now) (f′ .now) leaving o′ .now
+    ≡ flatListed flatMtd (mtdOutcome (t .now) (buffers (m .now) (f .now)) (o .now)))
 exported-mtd = record { meets = buulset.buulset_mtd.Met.met }
 
 pub exported-mtdf : Runs buulset.buulset_mtdf.ended buulset.buulset_mtdf.Symbol.routine
     (λ κs (t, (v, (m, (f, (o, _))))) r (_, (_, (m′, (f′, (o′, _))))).
-    record { order = o′ .now; search = record { answer = r; evaluated = m′ .now; certificate = f′ .now } }
-    ≡ flatListed flatMtdf (mtdfOutcome v (t .now) (m .now) (f .now) (o .now)))
+    r leaving buffers (m′ .now) (f′ .now) leaving o′ .now
+    ≡ flatListed flatMtdf (mtdfOutcome v (t .now) (buffers (m .now) (f .now)) (o .now)))
 exported-mtdf = record { meets = buulset.buulset_mtdf.Met.met }
 
 pub exported-sss : Runs buulset.buulset_sss.ended buulset.buulset_sss.Symbol.routine
-    (λ κs (t, (m, (f, (o, (n, _))))) r (_, (m′, (f′, (o′, _)))).
-    record { order = o′ .now; search = record { answer = r; evaluated = m′ .now; certificate = f′ .now } }
-    ≡ flatListed flatSss (solveOutcome n (t .now) (m .now) (f .now) (o .now)))
+    (λ κs (t, (m, (f, (o, (n, _))))) r (_, (m′, (f′, (o′, _)))). r leaving buffers (m′ .now) (f′ .now) leaving o′ .now
+    ≡ flatListed flatSss (solveOutcome n (t .now) (buffers (m .now) (f .now)) (o .now)))
 exported-sss = record { meets = buulset.buulset_sss.Met.met }
 
 -- certificates
@@ -121,7 +116,7 @@ exported-shorter = record { meets = buulset.buulset_shorter.Met.met }
 
 pub exported-graft : Runs buulset.buulset_graft.ended buulset.buulset_graft.Symbol.routine
     (λ κs (t, (k, (u, (b, _)))) r (_, (_, (_, (b′, _)))).
-    record { answer = r; buffer = b′ .now } ≡ flatGraft (graftOutcome (t .now) k (u .now) (b .now)))
+    r leaving b′ .now ≡ flatBy flatChecked (graftOutcome (t .now) k (u .now) (b .now)))
 exported-graft = record { meets = buulset.buulset_graft.Met.met }
 
 pub exported-least-value : Runs buulset.buulset_least_value.ended buulset.buulset_least_value.Symbol.routine
@@ -129,7 +124,7 @@ pub exported-least-value : Runs buulset.buulset_least_value.ended buulset.buulse
 exported-least-value = record { meets = buulset.buulset_least_value.Met.met }
 
 pub exported-fill : Runs buulset.buulset_fill.ended buulset.buulset_fill.Symbol.routine
-    (λ κs (t, _) r (t′, _). record { answer = r; buffer = t′ .now } ≡ flatFill (fillOutcome (t .now)))
+    (λ κs (t, _) r (t′, _). r leaving t′ .now ≡ flatBy flatFilled (fillOutcome (t .now)))
 exported-fill = record { meets = buulset.buulset_fill.Met.met }
 
 pub exported-least-leaves : Runs buulset.buulset_least_leaves.ended buulset.buulset_least_leaves.Symbol.routine
@@ -143,5 +138,5 @@ pub exported-report : Runs buulset.buulset_report.ended buulset.buulset_report.S
 exported-report = record { meets = buulset.buulset_report.Met.met }
 
 pub exported-refused : Runs buulset.buulset_refused.ended buulset.buulset_refused.Symbol.routine
-    (λ κs (q, (p, _)) r e. r ≡ flatText (textOf (refusedLine q p)))
+    (λ κs (q, (p, _)) r e. r ≡ flatText (textOf (refusedLine (record { number = q; place = p }))))
 exported-refused = record { meets = buulset.buulset_refused.Met.met }

@@ -6,7 +6,7 @@ use Prim.Native.Nat.{ℕ, _+_, _-_, _*_, _≤_, _<_}
 use native.Mathlib.Omega.{arith}
 use native.Mathlib.Decide.{decLe}
 use mathlib.Core.Path.{_≡_, ap}
-use mathlib.Core.Logic.{_⊎_, inl, inr}
+use mathlib.Core.Logic.{_⊎_, inl, inr, _↔_}
 use mathlib.Core.Option.{some}
 use mathlib.Core.List.{List, _++_}
 use lib.ListN.{length, getD, drop}
@@ -23,7 +23,6 @@ use Rattle.frames.proofs.Positions.{position-root}
 use Rattle.frames.proofs.Acceptance.{accepted-formed}
 use Rattle.graftable.specs.Questions.{graftSize}
 use Rattle.graft.specs.Sources.{sources}
-use Rattle.graft.specs.Table.{graftTable}
 use Rattle.graftable.specs.Graftable.{MaxLeaf, Graftable}
 use Rattle.graft.specs.Outcome.{graftOutcome}
 use Rattle.graft.specs.results.Grafted.{graftTree, handed}
@@ -72,7 +71,7 @@ module _ (t : List ℕ) (k : ℕ) (u b : List ℕ) where
     bytes-carried = grafted-bytes t k u b n e
 
     -- "Bytes past the result keep their contents"
-    pub rest-kept : drop (frameSize * n) (graftOutcome t k u b .result) ≡ drop (frameSize * n) b
+    pub rest-kept : drop (frameSize * n) (graftOutcome t k u b .left) ≡ drop (frameSize * n) b
     rest-kept = grafted-rest t k u b n e
 
   -- "The tables are questioned in turn, the first before the second"
@@ -88,40 +87,27 @@ module _ (t : List ℕ) (k : ℕ) (u b : List ℕ) where
       → graftOutcome t k u b .answer ≡ Rejected (record { number = 17; place = k })
   no-max-leaf = graft-no-leaf t k u b
 
-  -- "a result of more than 4,096 nodes .. 18, place 0", where 17 passes
-  pub too-many-nodes : Accepted t → Accepted u → MaxLeaf t k → maxNodes < graftSize t u
-      → graftOutcome t k u b .answer ≡ Rejected (record { number = 18; place = 0 })
-  too-many-nodes a c l h = graft-too-large t k u b a c l (λ r. omega (arith, accepted-graftable t k u a c l r .atMost))
-
-  -- "or 18 plies": a node of the second tree would stand deeper in the result
-  pub too-many-plies : Accepted t → Accepted u → MaxLeaf t k → (v : ℕ) → v < frames u
-      → maxDepth < depthOf t k + depthOf u v
-      → graftOutcome t k u b .answer ≡ Rejected (record { number = 18; place = 0 })
-  too-many-plies a c l v h d =
-      graft-too-large t k u b a c l (λ r. omega (arith, accepted-graftable t k u a c l r .shallow v h))
-
-  -- and 18 is given in no other case
-  pub eighteen-only : Accepted t → Accepted u → MaxLeaf t k
-      → graftOutcome t k u b .answer ≡ Rejected (record { number = 18; place = 0 })
-      → (maxNodes < graftSize t u) ⊎ ((v : ℕ) × (v < frames u) × (maxDepth < depthOf t k + depthOf u v))
-  eighteen-only a c l e =
-      elim (decLe (graftSize t u) maxNodes) [
-        | no f ↦ inl (omega arith)
-        | yes f ↦ inr (
-          frames u - 1,
-          omega (arith, accepted-formed u c .nonEmpty),
-          graft-deep t k u b a c l f e,
-        )
-      ]
-
-  -- so the grafted table would not be accepted
-  pub too-large : Accepted t → Accepted u → MaxLeaf t k → (Accepted (graftTable t k u) → ⊥)
-      → graftOutcome t k u b .answer ≡ Rejected (record { number = 18; place = 0 })
-  too-large = graft-too-large t k u b
-
-  -- and where it is, 18 passes
-  pub not-too-large : Accepted t → Accepted u → MaxLeaf t k → Accepted (graftTable t k u) → Graftable t k u
-  not-too-large = accepted-graftable t k u
+  -- "a result of more than 4,096 nodes or 18 plies, 18, place 0", where 17 passes: a node of the second tree would
+  -- stand deeper in the result; and 18 is given in no other case
+  pub too-large : Accepted t → Accepted u → MaxLeaf t k
+      → (graftOutcome t k u b .answer ≡ Rejected (record { number = 18; place = 0 }))
+      ↔ ((maxNodes < graftSize t u) ⊎ ((v : ℕ) × (v < frames u) × (maxDepth < depthOf t k + depthOf u v)))
+  too-large a c l = (
+    λ e. elim (decLe (graftSize t u) maxNodes) [
+      | no f ↦ inl (omega arith)
+      | yes f ↦ inr (
+        frames u - 1,
+        omega (arith, accepted-formed u c .nonEmpty),
+        graft-deep t k u b a c l f e,
+      )
+    ],
+    λ h. graft-too-large t k u b a c l (λ r.
+        let g = accepted-graftable t k u a c l r in
+        elim h [
+          | inl f ↦ omega (arith, g .atMost)
+          | inr f ↦ omega (arith, f .2, g .shallow (f .0) (f .1))
+        ]),
+  )
 
   -- "before 10, which wants six bytes for each node of the result"
   pub short-result : Graftable t k u → length b < frameSize * graftSize t u

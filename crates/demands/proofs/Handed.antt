@@ -25,6 +25,7 @@ use Rattle.frames.proofs.Acceptance.{accepted-formed}
 use Rattle.frames.proofs.Nodes.{tree-range}
 use Rattle.frames.proofs.Proper.{tree-proper}
 use Rattle.bounds.specs.Marks.{mark, marked, ones}
+use Rattle.certificate.specs.Search.{Buffers}
 use Rattle.verify.specs.Flags.{member}
 use Rattle.frames.specs.Value.{valueOf}
 use Rattle.positions.proofs.Buffers.{written-length, written-at}
@@ -33,7 +34,7 @@ use Rattle.alphabeta.specs.Outcome.{reachedLeaves}
 use Rattle.verify.specs.declared.Verdict.the-variants.{Value}
 use Rattle.verify.specs.Check.{verdict}
 use Rattle.verify.proofs.Theorems.{certificate-verdict}
-use Rattle.demands.specs.Handed.{Buffers, Marked, CertifiedBy}
+use Rattle.demands.specs.Handed.{Marked, CertifiedBy}
 use Rattle.demands.proofs.Calls.{Call, left, leaves}
 use Rattle.demands.proofs.Views.{HandedBack, view}
 

@@ -2,10 +2,10 @@
 -- cites. "Hold a table of the 760 least counts .. The rule is shown over the whole table together": `whole_table` in
 -- leastcount/src/lib.rt, whose contract compares all entries at once; `carried` in leastcount/proofs/Carried.antt says
 -- what that is for one.
-use Prim.Native.Nat.{ℕ, zero, suc, _≤_, _<_}
+use Prim.Native.Nat.{ℕ, _≤_, _<_}
 use native.Mathlib.Omega.{arith}
 use native.Mathlib.Nat.{le-trans}
-use mathlib.Core.Path.{_≡_, refl, ap}
+use mathlib.Core.Path.{_≡_, ap}
 use mathlib.Core.Logic.{_⊎_}
 use mathlib.Core.Bool.{Bool}
 use mathlib.Core.Option.{some}
@@ -14,18 +14,17 @@ use Rattle.gametree.specs.Certificate.{Certifies, pairLeaves}
 use Rattle.gametree.proofs.minimax.Counts.{leaves-size, pairLeaves-all}
 use Rattle.gametree.proofs.certificates.Regular.{pair-count}
 use Rattle.frames.specs.declared.Rejection.{Rejection}
-use Rattle.frames.specs.Frame.{maxChildren, maxDepth, childCount, byte3, sameMover}
-use Rattle.frames.specs.Position.{parentBefore, positionWithin, positionOf, depthOf}
+use Rattle.frames.specs.Rejection.{unless}
+use Rattle.frames.specs.Frame.{maxChildren, maxDepth}
 use Rattle.frames.specs.Tree.{tree, valuation}
 use Rattle.frames.specs.Check.{Accepted}
 use Rattle.frames.specs.results.Regular.{RegularTable}
-use Rattle.frames.specs.results.Cases.{small}
 use Rattle.frames.proofs.Acceptance.{accepted-formed}
 use Rattle.frames.proofs.Totals.{tree-size}
 use Rattle.frames.proofs.Regular.{tree-regular, regular-depth, regular-width}
 use Rattle.leastcount.specs.declared.Least.the-variants.{Leaves, Rejected}
 use Rattle.leastcount.specs.Rule.{cap, leastOf, leastCount}
-use Rattle.leastcount.specs.Answer.{leastRejection, leastGiven, leastAnswer}
+use Rattle.leastcount.specs.Answer.{leastRejection, leastAnswer}
 use Rattle.leastcount.proofs.Questions.{wrong-width, wrong-depth, inside-table, passed-inside, given-leaves}
 use Rattle.leastcount.proofs.Questions.{given-rejected}
 use Rattle.demands.proofs.Evaluations.{smallest-pair}
@@ -33,7 +32,7 @@ use Rattle.demands.proofs.Evaluations.{smallest-pair}
 -- "width 1 to 40 by depth 0 to 18: width to the power of half the depth rounded up, plus width to the power of half
 -- rounded down, less 1, capped at 65,535": so says `leastCount`, and each entry is given
 pub entry-given : (w d : ℕ) → 0 < w → w ≤ maxChildren → d ≤ maxDepth → leastAnswer w d ≡ Leaves (leastCount w d)
-entry-given w d a b c = ap (leastGiven (leastCount w d)) (inside-table w d a b c)
+entry-given w d a b c = ap (λ q. unless q Rejected (Leaves (leastCount w d))) (inside-table w d a b c)
 
 -- and nothing else
 pub only-entries : (w d n : ℕ) → leastAnswer w d ≡ Leaves n
@@ -76,50 +75,13 @@ module _ (t : List ℕ) (w d : ℕ) (r : RegularTable w d t) where
 -- "Turned away: width outside 1 to 40, 22, place 0; .. width first"
 pub outside-width : (w d : ℕ) → (w ≡ 0) ⊎ (maxChildren < w)
     → leastAnswer w d ≡ Rejected (record { number = 22; place = 0 })
-outside-width w d o = ap (leastGiven (leastCount w d)) (wrong-width w d o)
+outside-width w d o = ap (λ q. unless q Rejected (Leaves (leastCount w d))) (wrong-width w d o)
 
 -- "depth above 18, 23, place 0"
 pub outside-depth : (w d : ℕ) → 0 < w → w ≤ maxChildren → maxDepth < d
     → leastAnswer w d ≡ Rejected (record { number = 23; place = 0 })
-outside-depth w d a b l = ap (leastGiven (leastCount w d)) (wrong-depth w d a b l)
+outside-depth w d a b l = ap (λ q. unless q Rejected (Leaves (leastCount w d))) (wrong-depth w d a b l)
 
 -- demand 1: a refusal is the first "no"
 pub first-least : (w d : ℕ) (r : Rejection) → leastAnswer w d ≡ Rejected r → leastRejection w d ≡ some r
 first-least w d r e = given-rejected (leastCount w d) r (leastRejection w d) e
-
--- BESIDES (SPEC 18)
-
--- two entries meet the cap exactly, and belong to no accepted tree either
-pub at-the-cap : (leastOf 8 10 ≡ cap) × (leastOf 32 6 ≡ cap)
-at-the-cap = (refl, refl)
-
-module _ (P : ℕ → Type 0) (p0 : P 0) (p1 : P 1) (p2 : P 2) (p3 : P 3) (p4 : P 4) (p5 : P 5) (p6 : P 6) where
-  below-7 : (i : ℕ) → i < 7 → P i
-  below-7 zero h = p0
-  below-7 (suc zero) h = p1
-  below-7 (suc (suc zero)) h = p2
-  below-7 (suc (suc (suc zero))) h = p3
-  below-7 (suc (suc (suc (suc zero)))) h = p4
-  below-7 (suc (suc (suc (suc (suc zero))))) h = p5
-  below-7 (suc (suc (suc (suc (suc (suc zero)))))) h = p6
-  below-7 (suc (suc (suc (suc (suc (suc (suc i))))))) h = absurd (omega arith)
-
--- the trees of SPEC 12.2 with four leaves are regular of width 2 and depth 2, where the entry is 3
-pub small-regular : (x y u v : ℕ) → RegularTable 2 2 (small x y u v)
-unfolding parentBefore positionWithin positionOf
-small-regular x y u v =
-    let t = small x y u v in
-    let none : 0 < 0 → _≡_ {A = ℕ} 0 2 = λ l. absurd (omega arith) in
-    let zero3 : _≡_ {A = ℕ} 0 1 → ⊥ = λ e. omega arith in
-    record {
-      innerWidth =
-          below-7 (λ i. 0 < childCount t i → childCount t i ≡ 2) (λ _. refl) (λ _. refl) (λ _. refl) none none none
-          none;
-      leafDepth =
-          below-7 (λ i. childCount t i ≡ 0 → depthOf t i ≡ 2) (λ e. absurd (omega arith)) (λ e. absurd (omega arith))
-          (λ e. absurd (omega arith)) (λ _. refl) (λ _. refl) (λ _. refl) (λ _. refl);
-      alternating = below-7 (λ i. byte3 t i ≡ sameMover → ⊥) zero3 zero3 zero3 zero3 zero3 zero3 zero3;
-    }
-
-pub small-least : leastAnswer 2 2 ≡ Leaves 3
-small-least = refl

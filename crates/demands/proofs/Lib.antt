@@ -27,6 +27,7 @@ mod PlainCalls
 mod Allowed
 mod Listing
 mod Dearest
+mod Deeper
 mod Fewest
 mod MtdfCalls
 pub mod Demand1
@@ -46,3 +47,4 @@ pub mod Order
 pub mod Mtdf
 pub mod Cases
 mod Tests
+mod RegularTests

@@ -3,10 +3,10 @@
 use Prim.Native.Nat.{ℕ}
 use mathlib.Core.List.{List}
 use lib.ListN.{take}
+use Rattle.certificate.specs.Search.{Buffers}
 use Rattle.sss.specs.declared.Spent.{Spent}
 use Rattle.sss.specs.declared.SssAnswer.the-variants as sss-answer
 use Rattle.sss.specs.Outcome.{sssLeaves}
-use Rattle.demands.specs.Handed.{Buffers}
 use Rattle.demands.proofs.Calls.{SssCall, Call, found, leaves}
 use Rattle.demands.proofs.Calls as calls
 

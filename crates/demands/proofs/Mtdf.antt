@@ -15,6 +15,7 @@ use Rattle.frames.specs.Check.{Accepted}
 use Rattle.frames.specs.Shape.{SameShape}
 use Rattle.frames.specs.Value.{maxValue}
 use Rattle.certificate.specs.declared.Findings.{Findings}
+use Rattle.certificate.specs.Search.{buffers}
 use Rattle.alphabeta.proofs as alphabeta
 use Rattle.alphabeta.specs.declared.AlphaBetaAnswer.the-variants as ab-answer
 use Rattle.mtdf.proofs as mtdf
@@ -25,7 +26,7 @@ use Rattle.sss.proofs as sss
 use Rattle.sss.specs.declared.SssResult.{SssResult}
 use Rattle.sss.specs.declared.SssAnswer.the-variants as sss-answer
 use Rattle.demands.specs.Runs.{Runs, RunBoth}
-use Rattle.demands.specs.Handed.{buffers, Room, Marked, AgreeOnMarked, Alike}
+use Rattle.demands.specs.Handed.{Room, Marked, AgreeOnMarked, Alike}
 use Rattle.demands.proofs.Contracts as contracts
 use Rattle.demands.proofs.Calls.{mtdf as mtdf-call}
 use Rattle.demands.proofs.Running.{follows, alphaBetaCall, mtdfCall, sssCall}
@@ -63,7 +64,7 @@ mtdf-gives =
     follows contracts.mtdf-search
     (λ κs (t, (v, (m, (f, (o, _))))) r e s a h long. (
       mtdfFound (startScore v) (t .now),
-      ap (λ x. x .search .answer) s
+      ap (λ x. x .answer .answer) s
           ∙ rw (list-passed (t .now) (buffers (m .now) (f .now)) (o .now) a h long),
     ))
 

@@ -14,7 +14,7 @@ use Rattle.frames.specs.Tree.{tree, valuation}
 use Rattle.frames.specs.Value.{valueOf}
 use Rattle.frames.specs.Check.{Accepted}
 use Rattle.bounds.specs.Marks.{ones}
-use Rattle.certificate.specs.Search.{flagsOf}
+use Rattle.certificate.specs.Search.{flagsOf, buffers}
 use Rattle.certificate.proofs.Questions.{room-passed}
 use Rattle.verify.specs.declared.Verdict.the-variants.{Value}
 use Rattle.verify.specs.Check.{verdict}
@@ -22,7 +22,7 @@ use Rattle.plain.proofs as plain
 use Rattle.plain.specs.declared.PlainAnswer.the-variants as plain-answer
 use Rattle.plain.specs.Outcome.{allLeaves, plainFound}
 use Rattle.demands.specs.Runs.{Runs}
-use Rattle.demands.specs.Handed.{buffers, Room, CertifiedBy}
+use Rattle.demands.specs.Handed.{Room, CertifiedBy}
 use Rattle.demands.specs.Searches.{EachPlain}
 use Rattle.demands.proofs.Contracts as contracts
 use Rattle.demands.proofs.Running.{follows, each-plain}

@@ -18,13 +18,13 @@ use Rattle.frames.proofs.Acceptance.{accepted-formed}
 use Rattle.frames.proofs.Proper.{tree-proper}
 use Rattle.certificate.specs.declared.Findings.{Findings}
 use Rattle.bounds.specs.Marks.{ones}
-use Rattle.certificate.specs.Search.{searchRejection, flagsOf}
+use Rattle.certificate.specs.Search.{searchRejection, flagsOf, buffersOf}
 use Rattle.verify.specs.declared.Verdict.the-variants.{Value}
 use Rattle.verify.specs.Check.{verdict}
 use Rattle.alphabeta.specs.declared.AlphaBetaAnswer.the-variants as ab-answer
 use Rattle.plain.specs.declared.PlainResult.{PlainResult}
 use Rattle.plain.specs.declared.PlainAnswer.the-variants as plain-answer
-use Rattle.plain.specs.Outcome.{allLeaves, plainFound, plainSearch}
+use Rattle.plain.specs.Outcome.{allLeaves, plainFound}
 use Rattle.plain.proofs.Leaves.{leaves-are}
 use Rattle.demands.proofs.Calls.{lengths, AlphaBetaCall, PlainCall, alphaBeta}
 use Rattle.demands.specs.Handed.{CertifiedBy}
@@ -42,9 +42,9 @@ plain-apart =
     }
 
 module _ {t : List ℕ} {f : PlainResult} (c : PlainCall t (plain-answer.Found f)) where
-  result : Result (searchRejection t (lengths (c .lent))) (plainSearch t (c .lent .marks) (c .lent .flags))
-      (plainFound t) f (c .left)
-  result = result-of plain-apart _ _ _ _ (c .outcome)
+  result : Result (searchRejection t (lengths (c .lent))) (plainFound t) f (buffersOf (allLeaves t) t (c .lent))
+      (c .left)
+  result = result-of plain-apart _ _ _ _ _ (c .outcome)
 
   handed : HandedBack t (allLeaves t) (c .lent) (c .left)
   handed =
@@ -53,8 +53,8 @@ module _ {t : List ℕ} {f : PlainResult} (c : PlainCall t (plain-answer.Found f
         accepted = p .0;
         room = p .1;
         deciding = all-deciding (valuation t) (tree t) (tree-proper t (accepted-formed t (p .0)));
-        marks = result .marks;
-        flags = result .flags;
+        marks = ap (λ b. b .marks) (result .leaves);
+        flags = ap (λ b. b .flags) (result .leaves);
       }
 
   -- and only an accepted table gets one
@@ -99,6 +99,5 @@ same-as-alphaBeta a c = (
 
 -- a refusal is the first "no" to questions 1 to 10, and leaves the buffers as they were
 module _ {t : List ℕ} {r : Rejection} (c : PlainCall t (plain-answer.Rejected r)) where
-  pub refusal : Refusal (searchRejection t (lengths (c .lent))) (plainSearch t (c .lent .marks) (c .lent .flags)) r
-      (c .left)
-  refusal = refusal-of plain-apart _ _ _ _ (c .outcome)
+  pub refusal : Refusal (searchRejection t (lengths (c .lent))) r (c .lent) (c .left)
+  refusal = refusal-of plain-apart _ _ _ _ _ (c .outcome)

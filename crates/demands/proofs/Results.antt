@@ -13,7 +13,7 @@ use Rattle.frames.specs.Check.{Accepted}
 use Rattle.frames.proofs.Acceptance.{accepted-formed}
 use Rattle.bounds.specs.Marks.{mark}
 use Rattle.frames.specs.Value.{valueOf}
-use Rattle.certificate.specs.Search.{marksOf, flagsOf, findings, listed}
+use Rattle.certificate.specs.Search.{marksOf, flagsOf, findings, Buffers, buffersOf, listed}
 use Rattle.verify.specs.declared.Verdict.the-variants.{Value}
 use Rattle.verify.specs.Check.{verdict}
 use Rattle.states.specs.declared.State.{State}
@@ -21,7 +21,7 @@ use Rattle.sss.specs.declared.SssAnswer.the-variants as sss-answer
 use Rattle.states.specs.Entry.{blank}
 use Rattle.sss.specs.Outcome.{sssLeaves, sssFound, sssUncovered}
 use Rattle.sss.proofs.Allowed.{leaves-few, enough as covered}
-use Rattle.demands.specs.Handed.{Buffers, Room, CertifiedBy}
+use Rattle.demands.specs.Handed.{Room, CertifiedBy}
 use Rattle.demands.proofs.Calls.{SssCall, Call, found, lent, left, leaves}
 use Rattle.demands.proofs.Views.{sssBy, rooms-passed, view}
 use Rattle.demands.proofs.Handed.{marks-at, flags-certify, flags-verified}
@@ -39,10 +39,6 @@ module _ (t : List ℕ) (a : Accepted t) (b : Buffers) (h : Room t b) where
     -- SSS* under every allowance that is enough: as many leaves as its full run evaluates (no more than nodes:
     -- `atMost`)
     module _ (n : ℕ) (enough : length (sssLeaves t) ≤ n) where
-      abbrev found-leaves : Buffers
-      found-leaves =
-          record { marks = marksOf (sssLeaves t) t (b .marks); flags = flagsOf (sssLeaves t) t (b .flags) }
-
       none-left : sssUncovered n t ≡ []
       none-left = covered t (accepted-formed t a) n enough
 
@@ -53,7 +49,7 @@ module _ (t : List ℕ) (a : Accepted t) (b : Buffers) (h : Room t b) where
         record {
           allowance = n;
           lent = b;
-          left = found-leaves;
+          left = buffersOf (sssLeaves t) t b;
           lentOrder = o;
           leftOrder = listed (sssLeaves t) o;
           lentList = l;

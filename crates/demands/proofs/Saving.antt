@@ -43,5 +43,5 @@ file-accepted = written-accepted
 -- "and two tables give one file only if they are equal"
 pub one-file : (t u file other : List ℕ) (n m : ℕ) → writeOutcome t file .answer ≡ Length n
     → writeOutcome u other .answer ≡ Length m → Bytes t → Bytes u
-    → take n (writeOutcome t file .file) ≡ take m (writeOutcome u other .file) → t ≡ u
+    → take n (writeOutcome t file .left) ≡ take m (writeOutcome u other .left) → t ≡ u
 one-file = saved-once

@@ -31,7 +31,7 @@ use Rattle.lines.specs.Line.{lineDigits}
 use Rattle.lines.specs.Lines.{linesOf, decoded}
 use Rattle.bounds.specs.Marks.{mark, ones}
 use Rattle.certificate.specs.declared.Findings.{Findings}
-use Rattle.certificate.specs.Search.{findings}
+use Rattle.certificate.specs.Search.{findings, buffers}
 use Rattle.tables.proofs as tables
 use Rattle.reader.proofs as reader
 use Rattle.reader.specs.File.{AcceptedFile, readAnswer, tableAfter}
@@ -77,7 +77,7 @@ use Rattle.shorter.specs.declared.Choice.the-variants.{First, Second}
 use Rattle.shorter.specs.Choice.{flaggedLeaves}
 use Rattle.shorter.proofs.Theorems.{both-first, both-second, handed-first, handed-second}
 use Rattle.demands.specs.Runs.{Runs, RunBoth}
-use Rattle.demands.specs.Handed.{buffers, Room, AgreeOnMarked, Alike}
+use Rattle.demands.specs.Handed.{Room, AgreeOnMarked, Alike}
 use Rattle.demands.specs.Searches.{EachSearch, EachSpent, EachPlain}
 use Rattle.demands.proofs.Calls.{PlainCall, sss as sss-call}
 use Rattle.demands.proofs.ListedRuns.{finished}
@@ -86,7 +86,7 @@ use Rattle.demands.proofs.Running.{sssCall}
 use Rattle.demands.proofs.Contracts as contracts
 use Rattle.demands.proofs.Views.{sssBy, list-passed, rooms-passed}
 use Rattle.demands.proofs.Spending.{more-left}
-use Rattle.demands.proofs.Demand1.{deeper-answered}
+use Rattle.demands.proofs.Deeper.{deeper-answered}
 use Rattle.demands.proofs.Results.{marks-rule, only-accepted, value-minimax}
 use Rattle.demands.proofs.Evaluations.{no-more, count, smallest, local-alphaBeta, local-mtd, local-sss}
 use Rattle.demands.proofs.PlainCalls.{same-as-alphaBeta}
@@ -111,7 +111,7 @@ alphabeta-gives =
     follows contracts.alphabeta-search
     (λ κs (t, (m, (f, (o, _)))) r e s a h long. (
       findings (reachedLeaves (t .now)) (t .now),
-      ap (λ x. x .search .answer) s
+      ap (λ x. x .answer .answer) s
           ∙ rw (list-passed (t .now) (buffers (m .now) (f .now)) (o .now) a h long),
     ))
 
@@ -122,7 +122,7 @@ mtd-gives =
     follows contracts.mtd-search
     (λ κs (t, (m, (f, (o, _)))) r e s a h long. (
       mtdFound (t .now),
-      ap (λ x. x .search .answer) s
+      ap (λ x. x .answer .answer) s
           ∙ rw (list-passed (t .now) (buffers (m .now) (f .now)) (o .now) a h long),
     ))
 
@@ -134,8 +134,8 @@ sss-gives =
     follows contracts.sss-search
     (λ κs (t, (l, (m, (f, (o, (n, _)))))) r e s a h long entries allowed. (
       _,
-      ap (λ x. x .search .answer) s
-          ∙ ap₂ (λ xs q. sssBy n (t .now) (l .now) (buffers (m .now) (f .now)) (o .now) xs q .search .answer)
+      ap (λ x. x .answer .answer .answer) s
+          ∙ ap₂ (λ xs q. sssBy n (t .now) (l .now) (buffers (m .now) (f .now)) (o .now) xs q .answer .answer .answer)
           (enough (t .now) (accepted-formed (t .now) a) n allowed)
           (rooms-passed (t .now) (buffers (m .now) (f .now)) (o .now) a h long (l .now) entries),
     ))
@@ -289,7 +289,7 @@ written-read =
       otherRuns = contracts.treefile-read;
       both = λ κs (t, (b, _)) r (_, (b′, _)) s κs′ (f, (u, _)) r′ (_, (u′, _)) c n e bytes same room.
           let p = saved-read (t .now) (b .now) n (sym (ap (λ o. o .answer) s) ∙ e) bytes (u .now) room in
-          let i = same ∙ ap (λ o. take n (o .file)) s in
+          let i = same ∙ ap (λ o. take n (o .left)) s in
           (c .0 ∙ ap (λ x. readAnswer x (u .now)) i ∙ p .0, c .1 ∙ ap (λ x. tableAfter x (u .now)) i ∙ p .1);
     }
 
@@ -318,9 +318,10 @@ spent-exactly =
       λ more.
           let x = more-left (t .now) n more in (
             sssSpent n (x .0),
-            ap (λ x. x .search .answer) c
-                ∙ ap₂ (λ xs q. sssBy n (t .now) (l .now) (buffers (m .now) (f .now)) (o .now) xs q .search .answer)
-                (x .1 .1) (rooms-passed (t .now) (buffers (m .now) (f .now)) (o .now) a h long (l .now) entries),
+            ap (λ x. x .answer .answer .answer) c
+                ∙ ap₂ (λ xs q. sssBy n (t .now) (l .now) (buffers (m .now) (f .now)) (o .now) xs q
+                .answer .answer .answer) (x .1 .1)
+                (rooms-passed (t .now) (buffers (m .now) (f .now)) (o .now) a h long (l .now) entries),
           ),
     ))
 
@@ -345,7 +346,7 @@ pub converted-same : Runs convert.convert.ended convert.convert.Symbol.routine
 converted-same =
     follows contracts.convert-convert
     (λ κs (f, (b, _)) r (_, (b′, _)) s n e.
-    subst (λ x. AcceptedFile (take n x) × (decoded (take n x) ≡ decoded (f .now))) (sym (ap (λ o. o .file) s))
+    subst (λ x. AcceptedFile (take n x) × (decoded (take n x) ≡ decoded (f .now))) (sym (ap (λ o. o .left) s))
     (let given = sym (ap (λ o. o .answer) s) ∙ e in
     (converted-accepted (f .now) (b .now) n given, converted-table (f .now) (b .now) n given)))
 
@@ -365,7 +366,7 @@ graft-value =
     follows contracts.graft-graft
     (λ κs (t, (k, (u, (b, _)))) r e s n i.
     subst (λ x. minimax (valuation (take (frameSize * n) x)) (tree (take (frameSize * n) x))
-    ≡ graftValue (t .now) k (u .now)) (sym (ap (λ o. o .result) s))
+    ≡ graftValue (t .now) k (u .now)) (sym (ap (λ o. o .left) s))
     (grafted-value (t .now) k (u .now) (b .now) n (sym (ap (λ o. o .answer) s) ∙ i)))
 
 -- N10: "The call gives the smallest leaf value from -32,000 to 32,000 that makes the root's value exactly the wanted
@@ -398,7 +399,7 @@ costs-most =
             λ shape. none-costlier (t .now) n given (u .now) shape call,
             λ same.
                 let there = alphaBetaCall (handed (t .now)) (buffers (x .now) (y .now)) (z .now) (ab-answer.Found g)
-                (buffers (x′ .now) (y′ .now)) (z′ .now) (rw (same ∙ ap (λ o. o .table) s) at (rw i at c)) in
+                (buffers (x′ .now) (y′ .now)) (z′ .now) (rw (same ∙ ap (λ o. o .left) s) at (rw i at c)) in
                 (every-leaf-counted (t .now) n given there, every-leaf-marked (t .now) n given there),
           );
     }

@@ -4,7 +4,7 @@
 -- a tie": `fewer-leaves` in Sentences.antt.
 use Prim.Native.Nat.{ℕ}
 use mathlib.Core.Path.{_≡_}
-use mathlib.Core.Logic.{_⊎_}
+use mathlib.Core.Logic.{_⊎_, _↔_}
 use mathlib.Core.Option.{some}
 use mathlib.Core.List.{List, []}
 use lib.ListN.{length, take}
@@ -55,11 +55,8 @@ module _ (t f s : List ℕ) where
   first-choice r e = refused-first t f s e
 
   -- nothing is handed back on a rejection, and on nothing else
-  pub rejected-empty : (r : Rejection) → choice t f s ≡ Rejected r → chosenFlags t f s ≡ []
-  rejected-empty r e = handed-none t f s e
-
-  pub empty-rejected : chosenFlags t f s ≡ [] → (r : Rejection) × (choice t f s ≡ Rejected r)
-  empty-rejected = empty-refused t f s
+  pub empty-rejected : (chosenFlags t f s ≡ []) ↔ ((r : Rejection) × (choice t f s ≡ Rejected r))
+  empty-rejected = (empty-refused t f s, λ p. handed-none t f s (p .1))
 
   -- "The part handed back has one flag a node"
   pub one-flag-a-node : (choice t f s ≡ First) ⊎ (choice t f s ≡ Second) → length (chosenFlags t f s) ≡ frames t

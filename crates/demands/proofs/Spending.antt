@@ -41,7 +41,7 @@ use Rattle.sss.proofs.Replacements.{own}
 use Rattle.sss.proofs.Allowed.{by-allowance}
 use Rattle.demands.proofs.Calls.{stateLengths, SssCall}
 use Rattle.demands.specs.Handed.{Room, Marked, AgreeOnMarked}
-use Rattle.demands.proofs.Views.{sssBy, all-room}
+use Rattle.demands.proofs.Views.{sss-beside, sssBy, all-room}
 
 -- the first leaves of the full run on a table, as many as are allowed
 module _ (t : List ℕ) (n : ℕ) where
@@ -145,8 +145,8 @@ module _ {t : List ℕ} {s : Spent} (c : SssCall t (sss-answer.Spent s)) where
   spent-view =
       let n = c .allowance in
       let q = searchRejection t (stateLengths (c .lentList) (c .lent) (c .lentOrder)) in
-      let p = by-allowance n t (c .lent .marks) (c .lent .flags) (c .lentOrder) (sssUncovered n t) q s
-      (sym (ap (λ x. x .search .answer) (c .outcome))) in
+      let p = by-allowance n t (c .lent) (c .lentOrder) (sssUncovered n t) q s
+      (sym (ap (λ x. x .answer .answer) (sss-beside c))) in
       let ok = all-room t (c .lent) (c .lentOrder) (c .lentList) (p .0) in
       let whole = c .outcome ∙ ap₂ (sssBy n t (c .lentList) (c .lent) (c .lentOrder)) (p .1 .1 .1 .0) (p .0) in
       record {
@@ -157,10 +157,10 @@ module _ {t : List ℕ} {s : Spent} (c : SssCall t (sss-answer.Spent s)) where
         later = p .1 .1 .0;
         uncovered = p .1 .1 .1 .0;
         gives = p .1 .1 .1 .1;
-        marks = ap (λ x. x .search .evaluated) whole;
-        flags = ap (λ x. x .search .certificate) whole;
-        order = ap (λ x. x .order) whole;
-        list = ap (λ x. x .list) whole;
+        marks = ap (λ x. x .answer .answer .left .marks) whole;
+        flags = ap (λ x. x .answer .answer .left .flags) whole;
+        order = ap (λ x. x .answer .left) whole;
+        list = ap (λ x. x .left) whole;
       }
 
   pub spent-formed : WellFormed t

@@ -23,7 +23,7 @@ use Rattle.frames.specs.Rejection.{_andThen_}
 use Rattle.frames.specs.Check.{rejection}
 use Rattle.frames.proofs.Asked.{answer-rejected}
 use Rattle.lines.specs.Lines.{decoded}
-use Rattle.certificate.specs.Search.{searchRejection}
+use Rattle.certificate.specs.Search.{searchRejection, buffers}
 use Rattle.alphabeta.proofs as alphabeta
 use Rattle.alphabeta.specs.declared.AlphaBetaAnswer.the-variants as ab-answer
 use Rattle.mtd.proofs as mtd
@@ -39,7 +39,7 @@ use Rattle.verify.specs.declared.Verdict.the-variants.{Value}
 use Rattle.verify.specs.Certificate.{Certificate}
 use Rattle.verify.proofs.Theorems.{accepts-certificates, accepted-minimax}
 use Rattle.reader.proofs as reader
-use Rattle.reader.specs.File.{readRejection, filled}
+use Rattle.reader.specs.File.{readRejection}
 use Rattle.writer.proofs as writer
 use Rattle.writer.specs.Write.{writeCheck10, writeRejection}
 use Rattle.treefile.proofs.Saving as saving
@@ -54,7 +54,7 @@ use Rattle.worstcase.proofs as worstcase
 use Rattle.worstcase.proofs.Whole.{fill-kept}
 use Rattle.worstcase.specs.declared.Filled.the-variants.{Rejected as RejectedFill}
 use Rattle.demands.specs.Runs.{Runs, RunBoth}
-use Rattle.demands.specs.Handed.{buffers, Marked, CertifiedBy}
+use Rattle.demands.specs.Handed.{Marked, CertifiedBy}
 use Rattle.demands.specs.Searches.{EachSearch}
 use Rattle.demands.proofs.Running.{follows, each-search, alphaBetaCall, mtdCall, mtdfCall, sssCall, solveCall}
 use Rattle.demands.proofs.Running.{given-dominated}
@@ -197,7 +197,7 @@ read-keeps =
     follows contracts.treefile-read
     (λ κs (f, (t, _)) r (_, (t′, _)) s q e.
     let i = answer-rejected (frames (decoded (f .now))) q (readRejection (f .now) (t .now)) (sym e ∙ s .0) in
-    (i, s .1 ∙ ap (λ q. filled q (decoded (f .now)) (t .now)) i))
+    (i, s .1 ∙ rw i))
 
 pub write-keeps : Runs writer.write.ended writer.write.Symbol.routine
     (λ κs (t, (b, _)) r (_, (b′, _)). (q : Rejection) → r ≡ RejectedWrite q
@@ -206,7 +206,7 @@ write-keeps =
     follows contracts.treefile-write
     (λ κs (t, (b, _)) r (_, (b′, _)) s q e.
     let k = saving.write-keeps (t .now) (b .now) q (sym (ap (λ o. o .answer) s) ∙ e) in
-    (k .0, ap (λ o. o .file) s ∙ k .1))
+    (k .0, ap (λ o. o .left) s ∙ k .1))
 
 pub convert-keeps : Runs convert.convert.ended convert.convert.Symbol.routine
     (λ κs (f, (b, _)) r (_, (b′, _)). (q : Rejection) → r ≡ RejectedWrite q
@@ -216,7 +216,7 @@ convert-keeps =
     follows contracts.convert-convert
     (λ κs (f, (b, _)) r (_, (b′, _)) s q e.
     let k = converted.convert-keeps (f .now) (b .now) q (sym (ap (λ o. o .answer) s) ∙ e) in
-    (k .0, ap (λ o. o .file) s ∙ k .1))
+    (k .0, ap (λ o. o .left) s ∙ k .1))
 
 pub graft-keeps : Runs graft.graft.ended graft.graft.Symbol.routine
     (λ κs (t, (k, (u, (b, _)))) r (_, (_, (_, (b′, _)))). (q : Rejection) → r ≡ RejectedTable q
@@ -225,7 +225,7 @@ graft-keeps =
     follows contracts.graft-graft
     (λ κs (t, (k, (u, (b, _)))) r (_, (_, (_, (b′, _)))) s q e.
     let p = grafting.graft-keeps (t .now) k (u .now) (b .now) q (sym (ap (λ o. o .answer) s) ∙ e) in
-    (p .0, ap (λ o. o .result) s ∙ p .1))
+    (p .0, ap (λ o. o .left) s ∙ p .1))
 
 pub fill-keeps : Runs worstcase.fill.ended worstcase.fill.Symbol.routine
     (λ κs (t, _) r (t′, _). (q : Rejection) → r ≡ RejectedFill q
@@ -234,4 +234,4 @@ fill-keeps =
     follows contracts.worstcase-fill
     (λ κs (t, _) r (t′, _) s q e.
     let k = fill-kept (t .now) q (sym (ap (λ o. o .answer) s) ∙ e) in
-    (k .0, ap (λ o. o .table) s ∙ k .1))
+    (k .0, ap (λ o. o .left) s ∙ k .1))

@@ -2,41 +2,46 @@
 use Prim.Native.Nat.{ℕ, _≤_}
 use mathlib.Core.Path.{_≡_, sym, ap, _∙_}
 use mathlib.Core.Option.{Option, none, some}
-use mathlib.Core.List.{List, []}
-use lib.ListN.{length}
+use mathlib.Core.List.{List, [], _++_}
+use lib.ListN.{length, drop, replicate}
 use Rattle.lists.proofs.Choice.{clash}
 use Rattle.gametree.specs.Allowance.{Evaluation}
 use Rattle.gametree.specs.Tests.{mtdFrom}
 use Rattle.gametree.proofs.Searches.{Searched, byMtd, byTests, Deciding}
 use Rattle.gametree.proofs.Theorems.{search-deciding}
 use Rattle.frames.specs.declared.Rejection.{Rejection}
+use Rattle.frames.specs.Rejection.{unless, Outcome, _leaving_}
 use Rattle.frames.specs.Frame.{frames}
 use Rattle.frames.specs.Tree.{tree, valuation}
 use Rattle.frames.specs.Check.{Accepted}
+use Rattle.frames.proofs.Asked.{answer-of}
 use Rattle.frames.proofs.Acceptance.{accepted-formed}
 use Rattle.frames.proofs.Proper.{tree-proper}
 use Rattle.certificate.specs.declared.Findings.{Findings}
-use Rattle.certificate.specs.Search.{searchRejection, marksOf, flagsOf, findings, listed, orderAfter, listedOutcome}
+use Rattle.certificate.specs.Search.{searchRejection, marksOf, flagsOf, findings, Buffers, buffersOf, listed}
+use Rattle.certificate.specs.Search.{SearchOutcome}
 use Rattle.certificate.proofs.Questions.{passed-room, room-passed}
 use Rattle.alphabeta.specs.declared.AlphaBetaAnswer.the-variants as ab-answer
-use Rattle.alphabeta.specs.Outcome.{reachedLeaves, alphaBetaSearch}
+use Rattle.alphabeta.specs.Outcome.{reachedLeaves}
 use Rattle.alphabeta.proofs.Reached as reached
 use Rattle.mtd.specs.declared.MtdResult.{MtdResult}
 use Rattle.mtd.specs.declared.MtdAnswer.the-variants as mtd-answer
-use Rattle.mtd.specs.Outcome.{mtdLeaves, mtdFound, mtdSearch}
+use Rattle.mtd.specs.Outcome.{mtdLeaves, mtdFound}
 use Rattle.mtdf.specs.declared.MtdfResult.{MtdfResult}
 use Rattle.mtdf.specs.declared.MtdfAnswer.the-variants as mtdf-answer
-use Rattle.mtdf.specs.Outcome.{startScore, decisionOf, mtdfLeaves, mtdfFound, mtdfSearch}
+use Rattle.mtdf.specs.Outcome.{startScore, decisionOf, mtdfLeaves, mtdfFound}
 use Rattle.states.specs.declared.State.{State}
+use Rattle.states.specs.Entry.{blank}
 use Rattle.sss.specs.declared.SssResult.{SssResult}
+use Rattle.sss.specs.declared.SssAnswer.{SssAnswer}
 use Rattle.sss.specs.declared.SssAnswer.the-variants as sss-answer
-use Rattle.sss.specs.Outcome.{sssLeaves, sssFound, sssSearch, sssUncovered, outcomeBy, listAfter, SssOutcome}
-use Rattle.sss.proofs.Allowed.{searched, by-rejection, by-value}
-use Rattle.demands.specs.Handed.{Buffers, Room}
-use Rattle.demands.proofs.Calls.{lengths, listLengths, stateLengths, listedOf, AlphaBetaCall, MtdCall, MtdfCall}
+use Rattle.sss.specs.Outcome.{sssLeaves, sssFound, sssUncovered, givenBy}
+use Rattle.sss.proofs.Allowed.{searched, outcomeBy, by-rejection, by-value}
+use Rattle.demands.specs.Handed.{Room}
+use Rattle.demands.proofs.Calls.{lengths, listLengths, stateLengths, AlphaBetaCall, MtdCall, MtdfCall}
 use Rattle.demands.proofs.Calls.{SssCall, Call, alphaBeta, mtd, mtdf, sss, found, lent, left, lentOrder}
 use Rattle.demands.proofs.Calls.{leftOrder, leaves}
-use Rattle.demands.proofs.Parts.{Result, Refusal, Apart, result-of, refusal-of}
+use Rattle.demands.proofs.Parts.{Result, Refusal, Apart, result-of, refusal-of, left-due}
 
 -- the answers of each search
 ab-apart : Apart ab-answer.Found ab-answer.Rejected
@@ -74,113 +79,100 @@ sss-apart =
 -- what a result of each search says
 module _ {t : List ℕ} where
   pub alphaBeta-result : {f : Findings} (c : AlphaBetaCall t (ab-answer.Found f))
-      → Result (searchRejection t (listLengths (c .lent) (c .lentOrder)))
-      (alphaBetaSearch t (c .lent .marks) (c .lent .flags)) (findings (reachedLeaves t) t) f (c .left)
-  alphaBeta-result c = result-of ab-apart _ _ _ _ (ap (λ x. x .search) (c .outcome))
+      → Result (searchRejection t (listLengths (c .lent) (c .lentOrder))) (findings (reachedLeaves t) t) f
+      (buffersOf (reachedLeaves t) t (c .lent)) (c .left)
+  alphaBeta-result c =
+      result-of ab-apart _ (c .lent) _ _ _
+      (ap (λ x. x .answer) (c .outcome) ∙ answer-of (searchRejection t (listLengths (c .lent) (c .lentOrder))) _ _ _ _)
 
   pub mtd-result : {f : MtdResult} (c : MtdCall t (mtd-answer.Found f))
-      → Result (searchRejection t (listLengths (c .lent) (c .lentOrder)))
-      (mtdSearch t (c .lent .marks) (c .lent .flags)) (mtdFound t) f (c .left)
-  mtd-result c = result-of mtd-apart _ _ _ _ (ap (λ x. x .search) (c .outcome))
+      → Result (searchRejection t (listLengths (c .lent) (c .lentOrder))) (mtdFound t) f
+      (buffersOf (mtdLeaves t) t (c .lent)) (c .left)
+  mtd-result c =
+      result-of mtd-apart _ (c .lent) _ _ _
+      (ap (λ x. x .answer) (c .outcome) ∙ answer-of (searchRejection t (listLengths (c .lent) (c .lentOrder))) _ _ _ _)
 
   pub mtdf-result : {f : MtdfResult} (c : MtdfCall t (mtdf-answer.Found f))
-      → Result (searchRejection t (listLengths (c .lent) (c .lentOrder)))
-      (mtdfSearch (startScore (c .start)) t (c .lent .marks) (c .lent .flags)) (mtdfFound (startScore (c .start)) t) f
-      (c .left)
-  mtdf-result c = result-of mtdf-apart _ _ _ _ (ap (λ x. x .search) (c .outcome))
+      → Result (searchRejection t (listLengths (c .lent) (c .lentOrder))) (mtdfFound (startScore (c .start)) t) f
+      (buffersOf (mtdfLeaves (startScore (c .start)) t) t (c .lent)) (c .left)
+  mtdf-result c =
+      result-of mtdf-apart _ (c .lent) _ _ _
+      (ap (λ x. x .answer) (c .outcome) ∙ answer-of (searchRejection t (listLengths (c .lent) (c .lentOrder))) _ _ _ _)
+
+  -- what a call of SSS* gives beside its list of states
+  pub sss-beside : {a : SssAnswer} (c : SssCall t a)
+      → a leaving c .left leaving c .leftOrder
+      ≡ outcomeBy (c .allowance) t (c .lent) (c .lentOrder) (sssUncovered (c .allowance) t)
+      (searchRejection t (stateLengths (c .lentList) (c .lent) (c .lentOrder)))
+  sss-beside c =
+      ap (λ x. x .answer) (c .outcome)
+      ∙ answer-of (searchRejection t (stateLengths (c .lentList) (c .lent) (c .lentOrder))) _ _ _ _
 
   -- with findings the allowance of SSS* covers all evaluations, so the outcome is that of the full run
   pub all-covered : {f : SssResult} (c : SssCall t (sss-answer.Found f)) → sssUncovered (c .allowance) t ≡ []
   all-covered {f} c =
-      by-value (c .allowance) t (c .lent .marks) (c .lent .flags) (c .lentOrder) (sssUncovered (c .allowance) t)
+      by-value (c .allowance) t (c .lent) (c .lentOrder) (sssUncovered (c .allowance) t)
       (searchRejection t (stateLengths (c .lentList) (c .lent) (c .lentOrder))) f
-      (sym (ap (λ x. x .search .answer) (c .outcome))) .1
+      (sym (ap (λ x. x .answer .answer) (sss-beside c))) .1
 
   full-outcome : {f : SssResult} (c : SssCall t (sss-answer.Found f))
-      → listedOf (sss-answer.Found f) (c .left) (c .leftOrder)
-      ≡ listedOutcome sss-answer.Rejected (sss-answer.Found (sssFound t))
-      (sssSearch t (c .lent .marks) (c .lent .flags))
-      (c .lentOrder) (searchRejection t (stateLengths (c .lentList) (c .lent) (c .lentOrder)))
+      → sss-answer.Found f leaving c .left leaving c .leftOrder
+      ≡ unless (searchRejection t (stateLengths (c .lentList) (c .lent) (c .lentOrder)))
+      (λ r. sss-answer.Rejected r leaving c .lent leaving c .lentOrder)
+      (sss-answer.Found (sssFound t) leaving buffersOf (sssLeaves t) t (c .lent)
+      leaving listed (sssLeaves t) (c .lentOrder))
   full-outcome c =
-      ap (λ x. record { order = x .order; search = x .search }) (c .outcome)
-      ∙ ap (λ xs. outcomeBy xs (c .allowance) t (c .lent .marks) (c .lent .flags) (c .lentOrder)
+      sss-beside c
+      ∙ ap (λ xs. outcomeBy (c .allowance) t (c .lent) (c .lentOrder) xs
       (searchRejection t (stateLengths (c .lentList) (c .lent) (c .lentOrder)))) (all-covered c)
 
   pub sss-result : {f : SssResult} (c : SssCall t (sss-answer.Found f))
-      → Result (searchRejection t (stateLengths (c .lentList) (c .lent) (c .lentOrder)))
-      (sssSearch t (c .lent .marks) (c .lent .flags)) (sssFound t) f (c .left)
-  sss-result c = result-of sss-apart _ _ _ _ (ap (λ x. x .search) (full-outcome c))
-
-  -- and what each leaves in its list
-  alphaBeta-order : {f : Findings} (c : AlphaBetaCall t (ab-answer.Found f))
-      → c .leftOrder ≡ listed (reachedLeaves t) (c .lentOrder)
-  alphaBeta-order c =
-      ap (λ x. x .order) (c .outcome)
-      ∙ ap (λ q. orderAfter q (reachedLeaves t) (c .lentOrder)) (alphaBeta-result c .passed)
-
-  mtd-order : {f : MtdResult} (c : MtdCall t (mtd-answer.Found f)) → c .leftOrder ≡ listed (mtdLeaves t) (c .lentOrder)
-  mtd-order c =
-      ap (λ x. x .order) (c .outcome) ∙ ap (λ q. orderAfter q (mtdLeaves t) (c .lentOrder)) (mtd-result c .passed)
-
-  mtdf-order : {f : MtdfResult} (c : MtdfCall t (mtdf-answer.Found f))
-      → c .leftOrder ≡ listed (mtdfLeaves (startScore (c .start)) t) (c .lentOrder)
-  mtdf-order c =
-      ap (λ x. x .order) (c .outcome)
-      ∙ ap (λ q. orderAfter q (mtdfLeaves (startScore (c .start)) t) (c .lentOrder)) (mtdf-result c .passed)
-
-  sss-order : {f : SssResult} (c : SssCall t (sss-answer.Found f)) → c .leftOrder ≡ listed (sssLeaves t) (c .lentOrder)
-  sss-order c =
-      ap (λ x. x .order) (full-outcome c) ∙ ap (λ q. orderAfter q (sssLeaves t) (c .lentOrder)) (sss-result c .passed)
+      → Result (searchRejection t (stateLengths (c .lentList) (c .lent) (c .lentOrder))) (sssFound t) f
+      (buffersOf (sssLeaves t) t (c .lent)) (c .left)
+  sss-result c =
+      result-of sss-apart _ (c .lent) _ _ _
+      (ap (λ x. x .answer) (full-outcome c)
+      ∙ answer-of (searchRejection t (stateLengths (c .lentList) (c .lent) (c .lentOrder))) _ _ _ _)
 
 -- what a call of SSS* with an allowance of n leaves gives and leaves, by the evaluations that are not covered and the
 -- first "no" to its questions
 abbrev pub sssBy : (n : ℕ) (t : List ℕ) → List State → Buffers → (order : List ℕ) → List Evaluation → Option Rejection
-    → SssOutcome
+    → Outcome (SearchOutcome SssAnswer) (List State)
 sssBy n t l b o xs q =
-    record {
-      list = listAfter q (frames t) l;
-      order = outcomeBy xs n t (b .marks) (b .flags) o q .order;
-      search = outcomeBy xs n t (b .marks) (b .flags) o q .search;
-    }
+    unless q (λ r. sss-answer.Rejected r leaving b leaving o leaving l)
+    (givenBy xs n t b o leaving (replicate (frames t) blank ++ drop (frames t) l))
 
 -- and what its refusal says
 module _ {t : List ℕ} {r : Rejection} where
   pub alphaBeta-refusal : (c : AlphaBetaCall t (ab-answer.Rejected r))
-      → Refusal (searchRejection t (listLengths (c .lent) (c .lentOrder)))
-      (alphaBetaSearch t (c .lent .marks) (c .lent .flags)) r (c .left)
-  alphaBeta-refusal c = refusal-of ab-apart _ _ _ _ (ap (λ x. x .search) (c .outcome))
+      → Refusal (searchRejection t (listLengths (c .lent) (c .lentOrder))) r (c .lent) (c .left)
+  alphaBeta-refusal c =
+      refusal-of ab-apart (findings (reachedLeaves t) t) _ (buffersOf (reachedLeaves t) t (c .lent)) _ _
+      (ap (λ x. x .answer) (c .outcome) ∙ answer-of (searchRejection t (listLengths (c .lent) (c .lentOrder))) _ _ _ _)
 
   pub mtd-refusal : (c : MtdCall t (mtd-answer.Rejected r))
-      → Refusal (searchRejection t (listLengths (c .lent) (c .lentOrder)))
-      (mtdSearch t (c .lent .marks) (c .lent .flags)) r (c .left)
-  mtd-refusal c = refusal-of mtd-apart _ _ _ _ (ap (λ x. x .search) (c .outcome))
+      → Refusal (searchRejection t (listLengths (c .lent) (c .lentOrder))) r (c .lent) (c .left)
+  mtd-refusal c =
+      refusal-of mtd-apart (mtdFound t) _ (buffersOf (mtdLeaves t) t (c .lent)) _ _
+      (ap (λ x. x .answer) (c .outcome) ∙ answer-of (searchRejection t (listLengths (c .lent) (c .lentOrder))) _ _ _ _)
 
   pub mtdf-refusal : (c : MtdfCall t (mtdf-answer.Rejected r))
-      → Refusal (searchRejection t (listLengths (c .lent) (c .lentOrder)))
-      (mtdfSearch (startScore (c .start)) t (c .lent .marks) (c .lent .flags)) r (c .left)
-  mtdf-refusal c = refusal-of mtdf-apart _ _ _ _ (ap (λ x. x .search) (c .outcome))
+      → Refusal (searchRejection t (listLengths (c .lent) (c .lentOrder))) r (c .lent) (c .left)
+  mtdf-refusal c =
+      refusal-of mtdf-apart (mtdfFound (startScore (c .start)) t) _
+      (buffersOf (mtdfLeaves (startScore (c .start)) t) t (c .lent)) _ _
+      (ap (λ x. x .answer) (c .outcome) ∙ answer-of (searchRejection t (listLengths (c .lent) (c .lentOrder))) _ _ _ _)
 
   -- the refusal of SSS*, whatever its allowance
-  module _ (c : SssCall t (sss-answer.Rejected r)) where
-    refused : (searchRejection t (stateLengths (c .lentList) (c .lent) (c .lentOrder)) ≡ some r)
-        × (listedOf (sss-answer.Rejected r) (c .left) (c .leftOrder)
-        ≡ listedOf (sss-answer.Rejected r) (c .lent) (c .lentOrder))
-    refused =
-        let p = by-rejection (c .allowance) t (c .lent .marks) (c .lent .flags) (c .lentOrder)
-        (sssUncovered (c .allowance) t) (searchRejection t (stateLengths (c .lentList) (c .lent) (c .lentOrder))) r
-        (sym (ap (λ x. x .search .answer) (c .outcome))) in
-        (p .0, ap (λ x. record { order = x .order; search = x .search }) (c .outcome) ∙ p .1)
-
-    pub sss-refusal : Refusal (searchRejection t (stateLengths (c .lentList) (c .lent) (c .lentOrder)))
-        (sssSearch t (c .lent .marks) (c .lent .flags)) r (c .left)
-    sss-refusal =
-        record {
-          first = refused .0;
-          kept = ap (λ x. record { marks = x .search .evaluated; flags = x .search .certificate }) (refused .1);
-        }
-
-    pub sss-order-kept : c .leftOrder ≡ c .lentOrder
-    sss-order-kept = ap (λ x. x .order) (refused .1)
+  pub sss-refusal : (c : SssCall t (sss-answer.Rejected r))
+      → (searchRejection t (stateLengths (c .lentList) (c .lent) (c .lentOrder)) ≡ some r)
+      × (sss-answer.Rejected r leaving c .left leaving c .leftOrder
+      ≡ sss-answer.Rejected r leaving c .lent leaving c .lentOrder)
+  sss-refusal c =
+      let p = by-rejection (c .allowance) t (c .lent) (c .lentOrder) (sssUncovered (c .allowance) t)
+      (searchRejection t (stateLengths (c .lentList) (c .lent) (c .lentOrder))) r
+      (sym (ap (λ x. x .answer .answer) (sss-beside c))) in
+      (p .0, sss-beside c ∙ p .1)
 
 -- the leaves w of an accepted table were evaluated: they decide its value and its move, and what was left in the
 -- buffers, which have room, follows from them
@@ -248,13 +240,14 @@ view {t} (alphaBeta c) =
             accepted = p .0;
             room = p .1;
             deciding = decides t (p .0) (reached.searched t);
-            marks = x .marks;
-            flags = x .flags;
+            marks = ap (λ b. b .marks) (x .leaves);
+            flags = ap (λ b. b .flags) (x .leaves);
           };
       searched = reached.searched t;
       results = x .found;
       long = p .2;
-      order = alphaBeta-order c;
+      order = ap (λ y. y .left) (c .outcome) ∙ left-due
+          (searchRejection t (listLengths (c .lent) (c .lentOrder))) _ _ _ _ (x .passed);
     }
 view {t} (mtd c) =
     let x = mtd-result c in
@@ -265,13 +258,14 @@ view {t} (mtd c) =
             accepted = p .0;
             room = p .1;
             deciding = decides t (p .0) byMtd;
-            marks = x .marks;
-            flags = x .flags;
+            marks = ap (λ b. b .marks) (x .leaves);
+            flags = ap (λ b. b .flags) (x .leaves);
           };
       searched = byMtd;
       results = ap (λ f. f .findings) (x .found);
       long = p .2;
-      order = mtd-order c;
+      order = ap (λ y. y .left) (c .outcome) ∙ left-due
+          (searchRejection t (listLengths (c .lent) (c .lentOrder))) _ _ _ _ (x .passed);
     }
 view {t} (mtdf c) =
     let x = mtdf-result c in
@@ -283,13 +277,14 @@ view {t} (mtdf c) =
             accepted = p .0;
             room = p .1;
             deciding = decides t (p .0) s;
-            marks = x .marks;
-            flags = x .flags;
+            marks = ap (λ b. b .marks) (x .leaves);
+            flags = ap (λ b. b .flags) (x .leaves);
           };
       searched = s;
       results = ap (λ f. f .findings) (x .found);
       long = p .2;
-      order = mtdf-order c;
+      order = ap (λ y. y .left) (c .outcome) ∙ left-due
+          (searchRejection t (listLengths (c .lent) (c .lentOrder))) _ _ _ _ (x .passed);
     }
 view {t} (sss c) =
     let x = sss-result c in
@@ -301,11 +296,12 @@ view {t} (sss c) =
             accepted = p .0;
             room = p .1;
             deciding = decides t (p .0) s;
-            marks = x .marks;
-            flags = x .flags;
+            marks = ap (λ b. b .marks) (x .leaves);
+            flags = ap (λ b. b .flags) (x .leaves);
           };
       searched = s;
       results = ap (λ f. f .findings) (x .found);
       long = p .2;
-      order = sss-order c;
+      order = ap (λ y. y .left) (full-outcome c) ∙ left-due
+          (searchRejection t (stateLengths (c .lentList) (c .lent) (c .lentOrder))) _ _ _ _ (x .passed);
     }

@@ -17,6 +17,7 @@ use Rattle.frames.specs.Tree.{treeAt, tree, valuation}
 use Rattle.frames.specs.Value.{valueOf}
 use Rattle.frames.specs.Formed.{ChildOf}
 use Rattle.frames.specs.Shape.{SameShape}
+use Rattle.frames.specs.Rejection.{_leaving_}
 use Rattle.frames.specs.Check.{Accepted}
 use Rattle.frames.specs.results.Leaf.{Leaf}
 use Rattle.frames.proofs.Acceptance.{accepted-formed}
@@ -129,6 +130,6 @@ module _ (t : List ℕ) where
 pub values-no-part : (t u : List ℕ) → Accepted t → Accepted u → SameShape t u → fillOutcome t ≡ fillOutcome u
 values-no-part t u a b s =
     fill-accepted t a
-    ∙ ap₂ (λ T v. record { answer = Leaves (length (leaves T)); table = v })
+    ∙ ap₂ (λ T v. Leaves (length (leaves T)) leaving v)
     (same-tree t u s (accepted-formed t a) (accepted-formed u b)) (same-worst t u a b s)
     ∙ sym (fill-accepted u b)

@@ -2,23 +2,17 @@
 -- was read from the depth.
 use Prim.Native.Nat.{ℕ}
 use mathlib.Core.Bool.{Bool, _&&_}
-use mathlib.Core.Option.{Option, none, some}
-use mathlib.Core.List.{List, [], _∷_, _++_}
+use mathlib.Core.Option.{Option}
+use mathlib.Core.List.{List, [], _∷_}
 use lib.Dec.{eqb}
 use lib.ListN.{length}
 use Rattle.gametree.specs.declared.Side.{Side}
 use Rattle.gametree.specs.declared.Side.the-variants.{Max, Min}
-use Rattle.gametree.specs.Tree.{Tree, least, greatest, minimax}
-use Rattle.gametree.specs.Move.{rootMove}
-use Rattle.gametree.specs.AlphaBeta.{reached}
-use Rattle.gametree.specs.Mtd as rule
-use Rattle.gametree.specs.Sss.{sss as run}
 use Rattle.frames.specs.declared.Rejection.{Rejection}
 use Rattle.frames.specs.Frame.{frames, firstChild, childCount}
 use Rattle.frames.specs.Position.{depthOf}
-use Rattle.frames.specs.Value.{valueOf}
 use Rattle.frames.specs.Tree.{valuation}
-use Rattle.frames.specs.Rejection.{ask, _andThen_, eachNode}
+use Rattle.frames.specs.Rejection.{ask, _andThen_, eachNode, unless}
 use Rattle.frames.specs.Check.{check1, check5, check6, check7, check8, check10, depthsRejection}
 use Rattle.frames.specs.results.Alternating.{zeroCheck4, zeroRejection, sideByDepth, treeByDepth}
 use Rattle.lines.specs.Lines.{decoded}
@@ -27,7 +21,7 @@ use Rattle.verify.specs.declared.Verdict.{Verdict}
 use Rattle.verify.specs.Flags.{member, membersFrom, requiredOf, rootMember}
 use Rattle.verify.specs.Check.{check11, check14, judged}
 use Rattle.text.specs.Text.{refusedLine}
-use Rattle.report.specs.Report.{heading, methodLine, abName, mtdName, sssName}
+use Rattle.report.specs.Report.{analysisOn}
 
 -- the first "no" to questions 4 to 9
 abbrev pub zeroFrames : List ℕ → Option Rejection
@@ -60,23 +54,6 @@ verdictByDepth t flags =
     (zeroRejection t andThen check10 (frames t) (length flags ∷ []) andThen check11 t flags
     andThen treeRuleByDepth 12 Max t flags andThen treeRuleByDepth 13 Min t flags andThen check14 t flags)
 
--- the line of a method that evaluates the leaves w of a tree
-abbrev pub lineOn : List ℕ → (ℕ → ℕ) → Tree → List ℕ → List ℕ
-lineOn name ν x w =
-    methodLine name
-    (record { value = valueOf (minimax ν x); «root_move» = rootMove ν x; leaves = length w })
-
--- a heading, then a line for each method
-abbrev pub analysisOn : (ℕ → ℕ) → Tree → List ℕ
-analysisOn ν x =
-    heading
-    ++ (lineOn abName ν x (reached ν least greatest x)
-    ++ (lineOn mtdName ν x (rule.mtd ν x .evaluated) ++ lineOn sssName ν x (run ν x .evaluated)))
-
 -- what the program printed for a file
-abbrev pub printedByDepth : List ℕ → Option Rejection → List ℕ
-printedByDepth f none = analysisOn (valuation (decoded f)) (treeByDepth (decoded f))
-printedByDepth f (some r) = refusedLine (r .number) (r .place)
-
 abbrev pub reportByDepth : List ℕ → List ℕ
-reportByDepth f = printedByDepth f (zeroFile f)
+reportByDepth f = unless (zeroFile f) refusedLine (analysisOn (valuation (decoded f)) (treeByDepth (decoded f)))

@@ -6,7 +6,7 @@ use lib.IntN.{ℤ, pos, negsuc}
 use lib.ListN.{length, replicate}
 use Rattle.frames.specs.Frame.{frames}
 use Rattle.frames.specs.results.Cases.{small, lone, single}
-use Rattle.certificate.specs.Search.{listed}
+use Rattle.certificate.specs.Search.{buffers, listed}
 use Rattle.bounds.specs.Marks.{ones}
 use Rattle.alphabeta.specs.declared.AlphaBetaAnswer as ab
 use Rattle.alphabeta.specs.declared.AlphaBetaAnswer.the-variants as ab-answer
@@ -58,16 +58,17 @@ pub record Row : Type 0 where
 abbrev pub rowOf : List ℕ → Row
 rowOf t =
     let zeros : List ℕ = replicate (frames t) 0 in
-    let a = alphaBetaOutcome t zeros zeros zeros in
-    let p = plainOutcome t zeros zeros in
-    let m = mtdOutcome t zeros zeros zeros in
-    let s = sssOutcome (frames t) t (replicate (frames t) blank) zeros zeros zeros in
+    let b = buffers zeros zeros in
+    let a = alphaBetaOutcome t b zeros in
+    let p = plainOutcome t b in
+    let m = mtdOutcome t b zeros in
+    let s = sssOutcome (frames t) t (replicate (frames t) blank) b zeros .answer in
     record {
       given =
-          byAlphaBeta (a .search .answer) ∷ byPlain (ones (p .evaluated) (frames t)) (p .answer)
-          ∷ byMtd (m .search .answer) ∷ bySss (s .search .answer) ∷ [];
-      lists = a .order ∷ m .order ∷ s .order ∷ [];
-      flags = s .search .certificate ∷ p .certificate ∷ [];
+          byAlphaBeta (a .answer .answer) ∷ byPlain (ones (p .left .marks) (frames t)) (p .answer)
+          ∷ byMtd (m .answer .answer) ∷ bySss (s .answer .answer) ∷ [];
+      lists = a .left ∷ m .left ∷ s .left ∷ [];
+      flags = s .answer .left .flags ∷ p .left .flags ∷ [];
     }
 
 -- value, move, all leaves, alpha-beta's leaves, MTD's leaves and passes, SSS*'s leaves and replacements; the leaves of

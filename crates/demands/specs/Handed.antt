@@ -12,15 +12,8 @@ use Rattle.frames.specs.Frame.{frames}
 use Rattle.frames.specs.Tree.{tree, valuation}
 use Rattle.frames.specs.Shape.{AgreeOn}
 use Rattle.bounds.specs.Marks.{marked}
+use Rattle.certificate.specs.Search.{Buffers}
 use Rattle.verify.specs.Flags.{member}
-
--- the two buffers that every search is lent: one for the marks, one for the flags of the two solution trees
-pub record Buffers : Type 0 where
-  pub marks : List ℕ
-  pub flags : List ℕ
-
-abbrev pub buffers : List ℕ → List ℕ → Buffers
-buffers m f = record { marks = m; flags = f }
 
 -- each buffer has an entry per node of the table
 pub record Room (t : List ℕ) (b : Buffers) : Type 0 where

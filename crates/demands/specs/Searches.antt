@@ -3,6 +3,7 @@ use Prim.Native.Nat.{ℕ}
 use mathlib.Core.Path.{_≡_}
 use mathlib.Core.List.{List}
 use Rattle.certificate.specs.declared.Findings.{Findings}
+use Rattle.certificate.specs.Search.{Buffers, buffers}
 use Rattle.alphabeta.proofs as alphabeta
 use Rattle.alphabeta.specs.declared.AlphaBetaAnswer.the-variants as ab-answer
 use Rattle.alphabeta.specs.Outcome.{reachedLeaves}
@@ -23,7 +24,6 @@ use Rattle.plain.proofs as plain
 use Rattle.plain.specs.declared.PlainResult.{PlainResult}
 use Rattle.plain.specs.declared.PlainAnswer.the-variants as plain-answer
 use Rattle.demands.specs.Runs.{Runs}
-use Rattle.demands.specs.Handed.{Buffers, buffers}
 
 -- whenever `alphabeta::search`, `mtd::search`, `mtdf::search`, `sss::search` or `sss::solve` gives a result, P holds:
 -- of the table, the leaves that the search's rule names there, what it found, the buffers and the list of leaves that

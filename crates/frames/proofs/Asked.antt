@@ -9,7 +9,7 @@ use Rattle.frames.specs.declared.Rejection.{Rejection}
 use Rattle.frames.specs.declared.Checked.{Checked}
 use Rattle.frames.specs.declared.Checked.the-variants.{Nodes, Rejected}
 use Rattle.frames.specs.Frame.{maxChildren, frames, next}
-use Rattle.frames.specs.Rejection.{_andThen_, eachNode, answer}
+use Rattle.frames.specs.Rejection.{_andThen_, eachNode, unless, answer, _leaving_}
 use Rattle.frames.specs.Check.{checkNode, nodesRejection}
 use Rattle.frames.proofs.Next.{next-more}
 use Rattle.frames.proofs.Stated.{both-passed, passed-both, passed-stated}
@@ -31,6 +31,12 @@ answer-nodes m k (some r) e = absurd (nodes-rejected e)
 pub answer-rejected : (m : ℕ) (r : Rejection) (o : Option Rejection) → Rejected r ≡ answer m o → o ≡ some r
 answer-rejected m r none e = absurd (nodes-rejected (sym e))
 answer-rejected m r (some s) e = cc
+
+-- the answer of a call that puts questions first
+pub answer-of : {A B : Type 0} (q : Option Rejection) (f : Rejection → A) (b : B) (a : A) (c : B)
+    → unless q (λ r. f r leaving b) (a leaving c) .answer ≡ unless q f a
+answer-of none f b a c = refl
+answer-of (some r) f b a c = refl
 
 -- a question put to each node passes when it passes at each
 pub each-passed : (q : ℕ → Option Rejection) (i n : ℕ) → eachNode q i n ≡ none

@@ -9,7 +9,7 @@ use mathlib.Core.Bool.{Bool, true, false}
 use mathlib.Core.Option.{Option, none, some}
 use mathlib.Core.List.{List}
 use lib.Dec.{leb}
-use borrow.Author.Tests.{leb-true, leb-false}
+use borrow.Author.Tests.{leb-true}
 use Rattle.lists.proofs.Choice.{clash}
 use Rattle.frames.specs.declared.Rejection.{Rejection}
 use Rattle.frames.specs.Frame.{maxChildren, maxDepth, frames, childCount}
@@ -112,14 +112,7 @@ module _ (t : List ℕ) (r : Rejection) where
 
   -- question 9: the place is the lowest node that is too deep
   pub depth-first : depthsRejection t ≡ some r → LowestDeep t r
-  depth-first e =
-      let a = lowest-no _ 9 (frames t) r e in
-      record {
-        number = a .number;
-        within = a .within;
-        deeper = leb-false _ _ (a .no);
-        before = λ k l. leb-true _ _ (a .before k l);
-      }
+  depth-first e = lowest-no _ 9 (frames t) r e
 
 -- frames that pass questions 4 to 8 and have a node that is too deep are rejected by question 9, at the lowest
 pub deeper-frames : (t : List ℕ) → framesBefore9 t ≡ none → (k : ℕ) → k < frames t → maxDepth < depthOf t k

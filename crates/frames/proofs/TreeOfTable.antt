@@ -13,7 +13,7 @@ use Rattle.frames.specs.Frame.{frames, byteOf, firstChild, childCount, s
 use Rattle.frames.specs.Position.{depthOf, sideOf}
 use Rattle.frames.specs.Formed.{ChildOf}
 use Rattle.frames.specs.Value.{valueOf, maxValue, worth, Ordinary}
-use Rattle.frames.specs.Tree.{childrenFrom, treeAt, tree, won, lost, valuation}
+use Rattle.frames.specs.Tree.{childrenFrom, treeAt, tree, valuation}
 use Rattle.frames.specs.Check.{Accepted}
 use Rattle.frames.proofs.Acceptance.{accepted-stated, accepted-formed}
 use Rattle.frames.proofs.Parents.{one-parent, parent-child}
@@ -22,7 +22,7 @@ use Rattle.frames.proofs.Values.{value-range}
 use Rattle.frames.proofs.Trees.{zero-or-suc, tree-leaf, tree-inner, tree-number}
 use Rattle.frames.proofs.Nodes.{in-tree, tree-range, tree-distinct}
 use Rattle.frames.proofs.Totals.{tree-size}
-use Rattle.frames.proofs.Worth.{score-other, worth-range, ordinary-score, worth-stated}
+use Rattle.frames.proofs.Worth.{won, lost, score-other, worth-range, ordinary-score, worth-stated}
 
 -- node 0 is the root
 pub root-number : (t : List ℕ) → number (tree t) ≡ 0

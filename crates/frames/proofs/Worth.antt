@@ -9,8 +9,15 @@ use borrow.Author.Tests.{le-leb, lt-leb, lt-ltb, le-ltb}
 use Rattle.gametree.specs.Tree.{Score, zeroScore}
 use Rattle.frames.specs.Frame.{maxNodes, maxDepth}
 use Rattle.frames.specs.Value.{valueOf, maxValue, win, worth}
-use Rattle.frames.specs.Tree.{won, lost, leafScore}
+use Rattle.frames.specs.Tree.{leafScore}
 use Rattle.frames.proofs.Values.{value-plus, value-below}
+
+-- the scores of 31,000 and -31,000
+abbrev pub won : ℕ
+won = zeroScore + win
+
+abbrev pub lost : ℕ
+lost = zeroScore - win
 
 module _ (d s : ℕ) where
   pub score-won : won ≤ s → leafScore d s ≡ s - d

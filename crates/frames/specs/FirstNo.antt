@@ -4,6 +4,7 @@ use mathlib.Core.Path.{_≡_}
 use mathlib.Core.Bool.{Bool, true, false}
 use mathlib.Core.Option.{Option, none, some}
 use mathlib.Core.List.{List}
+use lib.Dec.{leb}
 use Rattle.frames.specs.declared.Rejection.{Rejection}
 use Rattle.frames.specs.Frame.{maxDepth, frames}
 use Rattle.frames.specs.Position.{depthOf}
@@ -26,11 +27,8 @@ pub record LowestNo (f : ℕ → Bool) (q n : ℕ) (r : Rejection) : Type 0 wher
   pub before : (k : ℕ) → k < r .place → f k ≡ true
 
 -- question 9 got its "no" at the lowest node that is deeper than the greatest depth
-pub record LowestDeep (t : List ℕ) (r : Rejection) : Type 0 where
-  pub number : r .number ≡ 9
-  pub within : r .place < frames t
-  pub deeper : maxDepth < depthOf t (r .place)
-  pub before : (k : ℕ) → k < r .place → depthOf t k ≤ maxDepth
+abbrev pub LowestDeep : List ℕ → Rejection → Type 0
+LowestDeep t r = LowestNo (λ k. leb (depthOf t k) maxDepth) 9 (frames t) r
 
 -- the first "no" to the questions that come before it: 4 to 8, and 1 to 8
 abbrev pub framesBefore9 : List ℕ → Option Rejection

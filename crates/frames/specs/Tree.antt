@@ -38,16 +38,11 @@ treeAt t i = grow (frames t - i) t i
 abbrev pub tree : List ℕ → Tree
 tree t = treeAt t 0
 
--- the scores of 31,000 and -31,000
-abbrev pub won : ℕ
-won = zeroScore + win
-
-abbrev pub lost : ℕ
-lost = zeroScore - win
-
 -- the score of a leaf from its depth and its stored score: the worth (Value.antt), as a score
 abbrev pub leafScore : ℕ → ℕ → ℕ
-leafScore depth stored = cond (leb won stored) (stored - depth) (cond (leb stored lost) (stored + depth) stored)
+leafScore depth stored =
+    cond (leb (zeroScore + win) stored) (stored - depth)
+    (cond (leb stored (zeroScore - win)) (stored + depth) stored)
 
 -- the score of each leaf
 unfoldable pub valuation : List ℕ → ℕ → ℕ

@@ -30,11 +30,11 @@ tables-accepted = (refl, refl)
 
 -- 17 with the node as named, by the law: the place of so large a node is not computed
 pub far-node : graftOutcome (small 1 2 3 4) far (pair 5 6) (buffer 60)
-    ≡ record { answer = Rejected (record { number = 17; place = far }); result = buffer 60 }
+    ≡ record { answer = Rejected (record { number = 17; place = far }); left = buffer 60 }
 far-node =
     let a = tables-accepted in
     let e = graft-no-leaf (small 1 2 3 4) far (pair 5 6) (buffer 60) (a .0) (a .1) (λ l. omega (arith, l .inside)) in
-    ap₂ (λ x y. record { answer = x; result = y }) e (graft-keeps (small 1 2 3 4) far (pair 5 6) (buffer 60) _ e .1)
+    ap₂ (λ x y. record { answer = x; left = y }) e (graft-keeps (small 1 2 3 4) far (pair 5 6) (buffer 60) _ e .1)
 
 -- values
 pub graft-values : map (λ c. graftValue (c .first) (c .node) (c .second)) values ≡ map (λ c. c .score) values

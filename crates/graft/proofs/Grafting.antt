@@ -19,7 +19,7 @@ use Rattle.frames.specs.Position.{parentOf, depthOf, sideOf}
 use Rattle.frames.specs.Tree.{tree, valuation}
 use Rattle.frames.specs.Check.{rejection, Accepted}
 use Rattle.frames.specs.Rejection.{answer}
-use Rattle.frames.proofs.Asked.{refused, answer-nodes, answer-rejected}
+use Rattle.frames.proofs.Asked.{refused, answer-nodes, answer-rejected, answer-of}
 use Rattle.frames.proofs.Acceptance.{accepted-stated, accepted-formed}
 use Rattle.frames.proofs.Parents.{parent-child}
 use Rattle.frames.proofs.Sides.{mover-other}
@@ -27,7 +27,7 @@ use Rattle.graftable.specs.Questions.{graftSize, isMaxLeaf, deepest, leafReject
 use Rattle.graft.specs.Sources.{sources}
 use Rattle.graft.specs.Table.{graftTable}
 use Rattle.graftable.specs.Graftable.{MaxLeaf, Graftable}
-use Rattle.graft.specs.Outcome.{grafting, graftOutcome}
+use Rattle.graft.specs.Outcome.{graftOutcome}
 use Rattle.graft.specs.results.Grafted.{graftTree, graftValue, handed}
 use Rattle.graftable.proofs.Questions.{max-leaf, leaf-max, refusal, no-leaf, too-many, too-deep, too-short}
 use Rattle.graftable.proofs.Questions.{all-right, first-refused, second-refused, both-accepted, passed-graftable}
@@ -55,17 +55,20 @@ refused-number : (q q′ : ℕ) {p p′ : ℕ} → refused q p ≡ refused q′ 
 refused-number q q′ {p} {p′} e = let r : refusal q p ≡ refusal q′ p′ = cc in ap (λ x. x .number) r
 
 module _ (t : List ℕ) (k : ℕ) (u b : List ℕ) where
+  answered : graftOutcome t k u b .answer ≡ answer (graftSize t u) (graftRejection t k u (length b))
+  answered = answer-of (graftRejection t k u (length b)) _ _ _ _
+
   -- what the questions say is what is answered
   rejected-by : (r : Rejection) → graftRejection t k u (length b) ≡ some r
       → graftOutcome t k u b .answer ≡ Rejected r
-  rejected-by r e = ap (answer (graftSize t u)) e
+  rejected-by r e = rw e
 
   -- a rejection is the first "no", and the buffer is as it was
   pub graft-keeps : (r : Rejection) → graftOutcome t k u b .answer ≡ Rejected r
-      → (graftRejection t k u (length b) ≡ some r) × (graftOutcome t k u b .result ≡ b)
+      → (graftRejection t k u (length b) ≡ some r) × (graftOutcome t k u b .left ≡ b)
   graft-keeps r e =
-      let p = answer-rejected (graftSize t u) r (graftRejection t k u (length b)) (sym e) in
-      (p, ap (grafting t k u b) p)
+      let p = answer-rejected (graftSize t u) r (graftRejection t k u (length b)) (sym e ∙ answered) in
+      (p, rw p)
 
   -- the tables in turn
   pub graft-first : (r : Rejection) → rejection t ≡ some r → graftOutcome t k u b .answer ≡ Rejected r
@@ -124,7 +127,7 @@ module _ (t : List ℕ) (k : ℕ) (u b : List ℕ) where
             let asked = both-accepted t k u (length b) a c in
             elim (decLe (frameSize * graftSize t u) (length b)) [
               | yes h ↦ nodes-apart _ 18 0
-                  (sym (ap (answer (graftSize t u)) (asked ∙ all-right t k u (length b) m f deep h)) ∙ e)
+                  (sym (answered ∙ ap (answer (graftSize t u)) (asked ∙ all-right t k u (length b) m f deep h)) ∙ e)
               | no h ↦ omega (
                 arith,
                 refused-number 10 18
@@ -142,19 +145,19 @@ module _ (t : List ℕ) (k : ℕ) (u b : List ℕ) where
     -- no "no"
     pub graft-gives : frameSize * graftSize t u ≤ length b → graftOutcome t k u b .answer ≡ Nodes (graftSize t u)
     graft-gives h =
-        ap (answer (graftSize t u)) (both-accepted t k u (length b) (g .first) (g .second)
+        answered ∙ ap (answer (graftSize t u)) (both-accepted t k u (length b) (g .first) (g .second)
         ∙ all-right t k u (length b) (leaf-max t k (g .leaf)) (g .atMost) (graftable-deepest t k u (length b) g) h)
 
   -- a call that gives the number of nodes n
   module _ (n : ℕ) (e : graftOutcome t k u b .answer ≡ Nodes n) where
     passed : (graftRejection t k u (length b) ≡ none) × (n ≡ graftSize t u)
-    passed = answer-nodes (graftSize t u) n (graftRejection t k u (length b)) (sym e)
+    passed = answer-nodes (graftSize t u) n (graftRejection t k u (length b)) (sym e ∙ answered)
 
     pub given-graftable : Graftable t k u
     given-graftable = passed-graftable t k u (length b) (passed .0) .0
 
-    written : graftOutcome t k u b .result ≡ graftTable t k u ++ drop (frameSize * graftSize t u) b
-    written = ap (grafting t k u b) (passed .0)
+    written : graftOutcome t k u b .left ≡ graftTable t k u ++ drop (frameSize * graftSize t u) b
+    written = rw (passed .0)
 
     table-length : length (graftTable t k u) ≡ frameSize * n
     table-length = omega (arith, laid-length t k u (graftSize t u), passed .1)
@@ -168,7 +171,7 @@ module _ (t : List ℕ) (k : ℕ) (u b : List ℕ) where
     grafted-nodes = omega (arith, passed .1, accepted-formed t (given-graftable .first) .nonEmpty)
 
     -- bytes past the result keep their contents
-    pub grafted-rest : drop (frameSize * n) (graftOutcome t k u b .result) ≡ drop (frameSize * n) b
+    pub grafted-rest : drop (frameSize * n) (graftOutcome t k u b .left) ≡ drop (frameSize * n) b
     grafted-rest =
         ap (drop (frameSize * n)) written ∙ drop-at (graftTable t k u) _ (frameSize * n) table-length
         ∙ ap (λ m. drop (frameSize * m) b) (sym (passed .1))

@@ -8,7 +8,7 @@ use Rattle.frames.specs.declared.Rejection.{Rejection}
 use Rattle.frames.specs.declared.Checked.{Checked}
 use Rattle.frames.specs.declared.Checked.the-variants.{Nodes, Rejected}
 use Rattle.frames.specs.Frame.{frameSize}
-use Rattle.frames.specs.Rejection.{answer}
+use Rattle.frames.specs.Rejection.{answer, _leaving_}
 use Rattle.frames.proofs.Asked.{answer-nodes, answer-rejected}
 use Rattle.graftable.specs.Questions.{graftSize, graftRejection}
 use Rattle.graftable.specs.Graftable.{Graftable}
@@ -28,10 +28,10 @@ module _ (t : List ℕ) (k : ℕ) (u b : List ℕ) where
       (p .1, g .0, g .1)
 
   pub graft-written : (n : ℕ) (b′ : List ℕ) → Nodes n ≡ asked → b′ ≡ graftTable t k u ++ drop (frameSize * n) b
-      → record { answer = Nodes n; result = b′ } ≡ graftOutcome t k u b
+      → Nodes n leaving b′ ≡ graftOutcome t k u b
   graft-written n b′ e f =
       let p = answer-nodes (graftSize t u) n (graftRejection t k u (length b)) e in rw (p .0, f, p .1)
 
   pub graft-rejected : (r : Rejection) → Rejected r ≡ asked
-      → record { answer = Rejected r; result = b } ≡ graftOutcome t k u b
+      → Rejected r leaving b ≡ graftOutcome t k u b
   graft-rejected r e = rw (answer-rejected (graftSize t u) r (graftRejection t k u (length b)) e)

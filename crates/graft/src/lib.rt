@@ -14,6 +14,7 @@ ghost use lib.Dec.{eqb};
 ghost use lib.ListN.{length, drop};
 ghost use lib.Seq.{sets};
 ghost use Rattle.frames.specs.Frame.{frameSize, maxNodes, twoBytes, frames, firstChild, childCount};
+ghost use Rattle.frames.specs.Rejection.{_leaving_};
 ghost use Rattle.positions.specs.Buffer.{stored};
 ghost use Rattle.graftable.specs.Questions.{graftSize};
 ghost use Rattle.graftable.specs.Graftable.{Graftable};
@@ -25,7 +26,7 @@ ghost use Rattle.graft.specs.engine.Joined.{Joined};
 // Puts the second tree in the place of the first's named leaf: the number of nodes of the result, whose table then
 // stands at the buffer's front, or the first rejection, and then the buffer is as it was.
 pub fn graft(first: &[u8], node: usize, second: &[u8], result: &mut [u8]) -> Checked
-    ensures { λ r. ⌜ record { answer = r; result = now (result .exit) }
+    ensures { λ r. ⌜ r leaving now (result .exit)
         ≡ graftOutcome (now (first .entry)) node (now (second .entry)) (now (result .entry)) ⌝ }
 {
     let checked = ask(first, node, second, result.len());

@@ -4,6 +4,7 @@ use mathlib.Core.Path.{_≡_, ap, subst}
 use mathlib.Core.List.{List}
 use lib.ListN.{length, take, drop, replicate}
 use Rattle.frames.specs.declared.Checked.{Checked}
+use Rattle.frames.specs.Rejection.{_leaving_}
 use Rattle.lines.specs.Line.{lineSize}
 use Rattle.reader.specs.File.{tableAfter}
 use Rattle.writer.specs.Write.{writeOutcome}
@@ -13,17 +14,17 @@ use Rattle.tablecalls.specs.Buffers.{tableRoom, filledWith, front}
 use Rattle.graftcalls.specs.Grafts.{tableOf, graftResult, graftSaved, graftingSaved, SavedAs}
 
 module _ (t : List ℕ) (k : ℕ) (u b : List ℕ) (answer : Checked) (result : List ℕ)
-    (made : record { answer = answer; result = result } ≡ graftOutcome t k u b) where
+    (made : answer leaving result ≡ graftOutcome t k u b) where
   pub result-made : result ≡ graftResult t k u b
   unfolding graftResult
-  result-made = ap (λ g. g .result) made
+  result-made = ap (λ g. g .left) made
 
   -- so many bytes of the result are saved as its frames have
   pub result-saved : (saved : List ℕ) (size n : ℕ) (after : List ℕ) → size ≡ min (framesSize answer) (length result)
       → SavedAs (writeOutcome (take size result) saved) n after → SavedAs (graftSaved t k u b saved) n after
   unfolding graftSaved
   result-saved saved size n after z s =
-      subst (λ g. SavedAs (writeOutcome (front (framesSize (g .answer)) (g .result)) saved) n after) made (rw (← z) s)
+      subst (λ g. SavedAs (writeOutcome (front (framesSize (g .answer)) (g .left)) saved) n after) made (rw (← z) s)
 
 -- so many bytes of the table that a file is read into
 pub table-read : (file table : List ℕ) (size n : ℕ) → table ≡ tableAfter file (replicate tableRoom 0)

@@ -25,8 +25,8 @@ use Rattle.frames.proofs.Proper.{every-leaf}
 use Rattle.frames.proofs.Worth.{score-kept}
 use Rattle.bounds.specs.Marks.{marked}
 use Rattle.bounds.specs.engine.Bounds.{boundOf}
-use Rattle.leafvalue.specs.LeastValue.{isLeaf, rootScore, firstScore, scoreCount, smallest}
-use Rattle.leafvalue.specs.engine.Candidates.{candidate, held}
+use Rattle.leafvalue.specs.LeastValue.{isLeaf, rootScore, smallest}
+use Rattle.leafvalue.specs.engine.Candidates.{firstScore, scoreCount, candidate, held}
 use Rattle.leafvalue.proofs.First.{first-same}
 use Rattle.leafvalue.proofs.Candidates.{candidate-below, candidate-smallest}
 

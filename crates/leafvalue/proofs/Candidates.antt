@@ -11,10 +11,10 @@ use Rattle.lists.proofs.Choice.{cond-cases, is-false, true-not-false, and-both}
 use Rattle.gametree.specs.Tree.{Score, least, greatest}
 use Rattle.gametree.specs.AlphaBeta.{clamp}
 use Rattle.frames.specs.Frame.{maxDepth}
-use Rattle.frames.specs.Tree.{won, lost, leafScore}
-use Rattle.frames.proofs.Worth.{score-won, score-lost, score-other}
-use Rattle.leafvalue.specs.LeastValue.{firstFrom, firstScore, scoreCount}
-use Rattle.leafvalue.specs.engine.Candidates.{reaches, candidate, held}
+use Rattle.frames.specs.Tree.{leafScore}
+use Rattle.frames.proofs.Worth.{won, lost, score-won, score-lost, score-other}
+use Rattle.leafvalue.specs.LeastValue.{firstFrom}
+use Rattle.leafvalue.specs.engine.Candidates.{firstScore, scoreCount, reaches, candidate, held}
 use Rattle.leafvalue.proofs.First.{first-found, none-found}
 
 -- how a score comes to count x at depth d: as a loss, as it is, or as a win

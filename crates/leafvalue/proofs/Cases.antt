@@ -9,10 +9,11 @@ use Rattle.frames.specs.declared.Rejection.{Rejection}
 use Rattle.frames.specs.Frame.{next}
 use Rattle.frames.specs.Position.{depthOf, parentBefore, positionWithin, positionOf}
 use Rattle.frames.specs.Tree.{childrenFrom, grow, treeAt, valuation}
-use Rattle.frames.specs.Rejection.{eachNode}
+use Rattle.frames.specs.Rejection.{eachNode, unless}
 use Rattle.frames.specs.Check.{framesRejection, rejection}
 use Rattle.leafvalue.specs.declared.LeastValue.{LeastValue}
-use Rattle.leafvalue.specs.LeastValue.{smallest, wantedScore, answerFor, unless, valueRejection, leastValue}
+use Rattle.leafvalue.specs.declared.LeastValue.the-variants.{Rejected}
+use Rattle.leafvalue.specs.LeastValue.{smallest, wantedScore, answerFor, valueRejection, leastValue}
 use Rattle.leafvalue.specs.engine.Candidates.{candidate, held}
 use Rattle.leafvalue.specs.results.Cases.{cases}
 use Rattle.leafvalue.proofs.Values.{score-range}
@@ -22,7 +23,7 @@ use Rattle.leafvalue.proofs.Theorems.{asked}
 module _ (t : List ℕ) (k : ℕ) (w : ℤ) where
   -- the answer by the candidates
   abbrev computed : LeastValue
-  computed = unless (valueRejection t k w) (answerFor k
+  computed = unless (valueRejection t k w) Rejected (answerFor k
       (held (candidate (low t k) (high t k) (depthOf t k) (wantedScore w))))
 
   by-candidates : leastValue t k w ≡ computed
@@ -30,8 +31,8 @@ module _ (t : List ℕ) (k : ℕ) (w : ℤ) where
   by-candidates = by (valueRejection t k w) refl
     where
       by : (q : Option Rejection) → valueRejection t k w ≡ q
-          → unless q (answerFor k (smallest t k (wantedScore w)))
-          ≡ unless q (answerFor k (held (candidate (low t k) (high t k) (depthOf t k) (wantedScore w))))
+          → unless q Rejected (answerFor k (smallest t k (wantedScore w)))
+          ≡ unless q Rejected (answerFor k (held (candidate (low t k) (high t k) (depthOf t k) (wantedScore w))))
       by (some r) e = refl
       by none e =
           let a = asked t k w e in

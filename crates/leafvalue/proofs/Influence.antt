@@ -16,13 +16,16 @@ use Rattle.frames.specs.Position.{depthOf}
 use Rattle.frames.specs.Tree.{tree, valuation, leafScore}
 use Rattle.frames.specs.Value.{valueOf}
 use Rattle.frames.specs.Formed.{WellFormed}
+use Rattle.frames.specs.Rejection.{unless}
 use Rattle.frames.specs.Check.{Accepted}
 use Rattle.frames.specs.results.Leaf.{Leaf}
 use Rattle.frames.proofs.Acceptance.{accepted-formed}
 use Rattle.frames.proofs.Proper.{every-leaf}
 use Rattle.frames.proofs.Shapes.{same-position, same-score, same-tree}
-use Rattle.leafvalue.specs.LeastValue.{isLeaf, check20, rootScore, firstScore, scoreCount, smallest, wantedScore}
-use Rattle.leafvalue.specs.LeastValue.{answerFor, unless, leastValue}
+use Rattle.leafvalue.specs.declared.LeastValue.the-variants.{Rejected}
+use Rattle.leafvalue.specs.LeastValue.{isLeaf, check20, rootScore, smallest, wantedScore}
+use Rattle.leafvalue.specs.LeastValue.{answerFor, leastValue}
+use Rattle.leafvalue.specs.engine.Candidates.{firstScore, scoreCount}
 use Rattle.leafvalue.specs.results.Root.{rootValue, SameBut, heldValue}
 use Rattle.leafvalue.proofs.First.{first-same}
 use Rattle.leafvalue.proofs.Values.{score-again}
@@ -91,6 +94,6 @@ module _ (t u : List ℕ) (k : ℕ) (d : SameBut t u k) (a : Accepted t) (b : Ac
       by : (c : Bool) → isLeaf t k ≡ c → due t k w ≡ due u k w
       by true e =
           rw (e, sym same-test ∙ e)
-          (ap (λ o. unless (check20 w) (answerFor k o)) (first-same _ _ firstScore scoreCount (λ s p q.
+          (ap (λ o. unless (check20 w) Rejected (answerFor k o)) (first-same _ _ firstScore scoreCount (λ s p q.
           ap (λ r. eqb r (wantedScore w)) (same-root (leaf-is t k e .0) s))))
       by false e = no-leaf t k w e ∙ sym (no-leaf u k w (sym same-test ∙ e))

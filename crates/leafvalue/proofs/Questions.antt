@@ -12,11 +12,11 @@ use Rattle.lists.proofs.Choice.{clash}
 use Rattle.frames.specs.declared.Rejection.{Rejection}
 use Rattle.frames.specs.Frame.{frames, childCount}
 use Rattle.frames.specs.Value.{valueOf, maxValue}
-use Rattle.frames.specs.Rejection.{_andThen_}
+use Rattle.frames.specs.Rejection.{_andThen_, unless}
 use Rattle.frames.specs.Check.{rejection, Accepted}
 use Rattle.leafvalue.specs.declared.LeastValue.{LeastValue}
 use Rattle.leafvalue.specs.declared.LeastValue.the-variants.{Value, Rejected}
-use Rattle.leafvalue.specs.LeastValue.{isLeaf, check19, check20, smallest, wantedScore, answerFor, unless}
+use Rattle.leafvalue.specs.LeastValue.{isLeaf, check19, check20, smallest, wantedScore, answerFor}
 use Rattle.leafvalue.specs.LeastValue.{valueRejection, leastValue}
 use Rattle.leafvalue.specs.engine.Candidates.{held}
 
@@ -35,7 +35,7 @@ module _ (t : List ℕ) (k : ℕ) where
   module _ (v : ℤ) where
     -- the answer that is due to 19 to 21
     abbrev pub due : LeastValue
-    due = unless (check19 t k andThen check20 v) (answerFor k (smallest t k (wantedScore v)))
+    due = unless (check19 t k andThen check20 v) Rejected (answerFor k (smallest t k (wantedScore v)))
 
     pub no-leaf : isLeaf t k ≡ false → due ≡ refused 19 k
     no-leaf e = rw e
@@ -70,7 +70,8 @@ rejected-found : (k : ℕ) (o : Option ℕ) (r : Rejection) → answerFor k o �
 rejected-found k none r e = cc
 rejected-found k (some s) r e = clash (cc)
 
-rejected-unless : (k : ℕ) (o : Option Rejection) (p : Option ℕ) (r : Rejection) → unless o (answerFor k p) ≡ Rejected r
+rejected-unless : (k : ℕ) (o : Option Rejection) (p : Option ℕ) (r : Rejection)
+    → unless o Rejected (answerFor k p) ≡ Rejected r
     → (o ≡ some r) ⊎ ((o ≡ none) × (r ≡ record { number = 21; place = k }))
 rejected-unless k none p r e = inr (refl, rejected-found k p r e)
 rejected-unless k (some s) p r e = inl (cc)

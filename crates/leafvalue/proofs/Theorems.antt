@@ -18,6 +18,7 @@ use Rattle.frames.specs.Frame.{frames, childCount}
 use Rattle.frames.specs.Position.{depthOf}
 use Rattle.frames.specs.Tree.{tree}
 use Rattle.frames.specs.Value.{valueOf, maxValue}
+use Rattle.frames.specs.Rejection.{unless}
 use Rattle.frames.specs.Check.{rejection, Accepted}
 use Rattle.frames.specs.results.Leaf.{Leaf}
 use Rattle.frames.proofs.Stated.{ask-yes, both-passed}
@@ -27,9 +28,10 @@ use Rattle.frames.proofs.Proper.{every-leaf, leaf-scored}
 use Rattle.frames.proofs.Worth.{score-kept}
 use Rattle.leafvalue.specs.declared.LeastValue.{LeastValue}
 use Rattle.leafvalue.specs.declared.LeastValue.the-variants.{Value, Rejected}
-use Rattle.leafvalue.specs.LeastValue.{isLeaf, check19, check20, rootScore, firstScore, scoreCount, smallest}
+use Rattle.leafvalue.specs.LeastValue.{isLeaf, check19, check20, rootScore, smallest}
 use Rattle.leafvalue.specs.LeastValue.{wantedScore}
-use Rattle.leafvalue.specs.LeastValue.{answerFor, unless, valueRejection, leastValue}
+use Rattle.leafvalue.specs.LeastValue.{answerFor, valueRejection, leastValue}
+use Rattle.leafvalue.specs.engine.Candidates.{firstScore, scoreCount}
 use Rattle.leafvalue.specs.results.Root.{rootValue}
 use Rattle.leafvalue.proofs.First.{found-first, found-none, none-found}
 use Rattle.leafvalue.proofs.Values.{score-range, score-value, score-again, same-scores, smaller}
@@ -44,7 +46,8 @@ pub test-leaf : (t : List ℕ) (k : ℕ) → isLeaf t k ≡ true → Leaf t k
 test-leaf t k e = let b = leaf-is t k e in record { inside = b .0; childless = b .1 }
 
 -- an answer is the earlier "no", or what is found
-unless-value : (q : Option Rejection) (a : LeastValue) (v : ℤ) → unless q a ≡ Value v → (q ≡ none) × (a ≡ Value v)
+unless-value : (q : Option Rejection) (a : LeastValue) (v : ℤ) → unless q Rejected a ≡ Value v
+    → (q ≡ none) × (a ≡ Value v)
 unless-value none a v e = (refl, e)
 unless-value (some r) a v e = clash (cc)
 

@@ -13,7 +13,7 @@ use Rattle.frames.specs.Frame.{frames, childCount}
 use Rattle.frames.specs.Position.{depthOf}
 use Rattle.frames.specs.Tree.{tree, valuation, leafScore}
 use Rattle.frames.specs.Value.{valueOf, maxValue}
-use Rattle.frames.specs.Rejection.{ask, _andThen_}
+use Rattle.frames.specs.Rejection.{ask, _andThen_, unless}
 use Rattle.frames.specs.Check.{rejection}
 use Rattle.leafvalue.specs.declared.LeastValue.{LeastValue}
 use Rattle.leafvalue.specs.declared.LeastValue.the-variants.{Value, Rejected}
@@ -40,16 +40,10 @@ unfoldable pub firstFrom : (ℕ → Bool) → (i n : ℕ) → Option ℕ
 firstFrom f i zero = none
 firstFrom f i (suc n) = cond (f i) (some i) (firstFrom f (i + 1) n)
 
--- the scores of the values from -32,000 to 32,000 are 1 to 64,001, in order: the first, and how many there are
-abbrev pub firstScore : ℕ
-firstScore = 1
-
-abbrev pub scoreCount : ℕ
-scoreCount = 64001
-
--- the smallest score with which the leaf k gives the root the score w
+-- the smallest score with which the leaf k gives the root the score w; the values from -32,000 to 32,000 have the
+-- scores from 1 to 64,001
 unfoldable pub smallest : (t : List ℕ) (k w : ℕ) → Option ℕ
-smallest t k w = firstFrom (λ s. eqb (rootScore t k s) w) firstScore scoreCount
+smallest t k w = firstFrom (λ s. eqb (rootScore t k s) w) 1 64001
 
 -- the score of a value: the value plus 32,001
 abbrev pub wantedScore : ℤ → ℕ
@@ -60,15 +54,11 @@ abbrev pub answerFor : (k : ℕ) → Option ℕ → LeastValue
 answerFor k (some s) = Value (valueOf s)
 answerFor k none = Rejected (record { number = 21; place = k })
 
--- a "no" to an earlier question comes first
-abbrev pub unless : Option Rejection → LeastValue → LeastValue
-unless none answer = answer
-unless (some r) answer = Rejected r
-
 -- the first "no" to 1 to 9, 19 and 20
 abbrev pub valueRejection : (t : List ℕ) (k : ℕ) (wanted : ℤ) → Option Rejection
 valueRejection t k wanted = rejection t andThen check19 t k andThen check20 wanted
 
 -- the answer of a call with the table, the named node and the wanted value
 unfoldable pub leastValue : (t : List ℕ) (k : ℕ) (wanted : ℤ) → LeastValue
-leastValue t k wanted = unless (valueRejection t k wanted) (answerFor k (smallest t k (wantedScore wanted)))
+leastValue t k wanted =
+    unless (valueRejection t k wanted) Rejected (answerFor k (smallest t k (wantedScore wanted)))

@@ -25,8 +25,9 @@ ghost use Rattle.gametree.specs.Tree.{greatest, Score};
 ghost use Rattle.frames.specs.Frame.{maxDepth, frames};
 ghost use Rattle.frames.specs.Value.{maxValue};
 ghost use Rattle.frames.specs.Check.{Accepted};
-ghost use Rattle.frames.specs.Rejection.{_andThen_};
-ghost use Rattle.leafvalue.specs.LeastValue.{isLeaf, check19, check20, smallest, wantedScore, answerFor, unless};
+ghost use Rattle.frames.specs.Rejection.{_andThen_, unless};
+ghost use Rattle.leafvalue.specs.declared.LeastValue.the-variants.{Rejected};
+ghost use Rattle.leafvalue.specs.LeastValue.{isLeaf, check19, check20, smallest, wantedScore, answerFor};
 ghost use Rattle.leafvalue.specs.LeastValue.{leastValue};
 ghost use Rattle.leafvalue.specs.engine.Candidates.{reaches as reachesOf, candidate as candidateOf, held};
 
@@ -66,7 +67,7 @@ pub fn least_value(table: &[u8], node: usize, wanted: i32) -> LeastValue
 // Questions 19 to 21, for an accepted table.
 fn ask(table: &[u8], node: usize, wanted: i32) -> LeastValue
     requires { ⌜ Accepted (now table) ⌝ }
-    ensures { λ r. ⌜ r ≡ unless (check19 (now (table .entry)) node andThen check20 wanted)
+    ensures { λ r. ⌜ r ≡ unless (check19 (now (table .entry)) node andThen check20 wanted) Rejected
         (answerFor node (smallest (now (table .entry)) node (wantedScore wanted))) ⌝ }
 {
     if !is_leaf(table, node) {

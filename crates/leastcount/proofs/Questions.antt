@@ -9,9 +9,10 @@ use borrow.Author.Tests.{ltb-true, leb-true, lt-ltb, le-leb, lt-leb}
 use Rattle.lists.proofs.Choice.{clash, and-both}
 use Rattle.frames.specs.declared.Rejection.{Rejection}
 use Rattle.frames.specs.Frame.{maxChildren, maxDepth}
+use Rattle.frames.specs.Rejection.{unless}
 use Rattle.frames.proofs.Stated.{ask-yes, both-passed}
 use Rattle.leastcount.specs.declared.Least.the-variants.{Leaves, Rejected}
-use Rattle.leastcount.specs.Answer.{check22, check23, leastRejection, leastGiven}
+use Rattle.leastcount.specs.Answer.{check22, check23, leastRejection}
 
 -- a width outside the table, whatever the depth
 pub wrong-width : (w d : ℕ) → (w ≡ 0) ⊎ (maxChildren < w)
@@ -36,10 +37,11 @@ passed-inside w d e =
     (ltb-true _ _ (q .0), leb-true _ _ (q .1), leb-true _ _ (ask-yes _ _ _ (p .1)))
 
 -- a count is given where there is no "no", and a rejection is the first one
-pub given-leaves : (n m : ℕ) (o : Option Rejection) → leastGiven n o ≡ Leaves m → (o ≡ none) × (m ≡ n)
+pub given-leaves : (n m : ℕ) (o : Option Rejection) → unless o Rejected (Leaves n) ≡ Leaves m → (o ≡ none) × (m ≡ n)
 given-leaves n m none e = (refl, cc)
 given-leaves n m (some r) e = clash (cc)
 
-pub given-rejected : (n : ℕ) (r : Rejection) (o : Option Rejection) → leastGiven n o ≡ Rejected r → o ≡ some r
+pub given-rejected : (n : ℕ) (r : Rejection) (o : Option Rejection) → unless o Rejected (Leaves n) ≡ Rejected r
+    → o ≡ some r
 given-rejected n r none e = clash (cc)
 given-rejected n r (some q) e = cc

@@ -1,11 +1,11 @@
 -- The questions of a width and a depth in order, and the answer (SPEC 18.4).
 use Prim.Native.Nat.{ℕ}
 use mathlib.Core.Bool.{_&&_}
-use mathlib.Core.Option.{Option, none, some}
+use mathlib.Core.Option.{Option}
 use lib.Dec.{ltb, leb}
 use Rattle.frames.specs.declared.Rejection.{Rejection}
 use Rattle.frames.specs.Frame.{maxChildren, maxDepth}
-use Rattle.frames.specs.Rejection.{ask, _andThen_}
+use Rattle.frames.specs.Rejection.{ask, _andThen_, unless}
 use Rattle.leastcount.specs.declared.Least.{Least}
 use Rattle.leastcount.specs.declared.Least.the-variants.{Leaves, Rejected}
 use Rattle.leastcount.specs.Rule.{leastCount}
@@ -22,11 +22,6 @@ check23 d = ask (leb d maxDepth) 23 0
 abbrev pub leastRejection : (width depth : ℕ) → Option Rejection
 leastRejection w d = check22 w andThen check23 d
 
--- a count where no question got a "no"
-abbrev pub leastGiven : ℕ → Option Rejection → Least
-leastGiven n none = Leaves n
-leastGiven n (some r) = Rejected r
-
--- the answer of a call
+-- the answer of a call: the least count, unless a question got a "no"
 abbrev pub leastAnswer : (width depth : ℕ) → Least
-leastAnswer w d = leastGiven (leastCount w d) (leastRejection w d)
+leastAnswer w d = unless (leastRejection w d) Rejected (Leaves (leastCount w d))

@@ -31,11 +31,12 @@ ghost use Rattle.frames.specs.Frame.{maxNodes, frames, childCount};
 ghost use Rattle.frames.specs.Position.{depthOf};
 ghost use Rattle.frames.specs.Tree.{treeAt, tree, valuation};
 ghost use Rattle.frames.specs.Formed.{WellFormed};
+ghost use Rattle.frames.specs.Rejection.{_leaving_};
 ghost use Rattle.bounds.specs.Marks.{marked, ones};
 ghost use Rattle.bounds.specs.engine.Evaluable.{Evaluable};
 ghost use Rattle.bounds.specs.engine.Ranges.{bestIn};
 ghost use Rattle.bounds.specs.engine.Progress.{progress, evaluateAll, Listable};
-ghost use Rattle.certificate.specs.Search.{marksOf, flagsOf, listed};
+ghost use Rattle.certificate.specs.Search.{marksOf, flagsOf, buffers, listed};
 ghost use Rattle.mtd.specs.Outcome.{mtdLeaves, mtdFound, mtdOutcome};
 ghost use Rattle.mtd.specs.engine.Memory.{memory, firstHigh, Fresh, VisitReady, Enterable, Passed, Looked};
 ghost use Rattle.mtd.specs.engine.Memory.{PassedOver};
@@ -61,10 +62,8 @@ pub fn search(
     certificate: &mut [u8],
     order: &mut [u16],
 ) -> MtdAnswer
-    ensures { λ r. ⌜ record {
-      order = now (order .exit);
-      search = record { answer = r; evaluated = now (evaluated .exit); certificate = now (certificate .exit) };
-    } ≡ mtdOutcome (now (table .entry)) (now (evaluated .entry)) (now (certificate .entry))
+    ensures { λ r. ⌜ r leaving buffers (now (evaluated .exit)) (now (certificate .exit)) leaving now (order .exit)
+        ≡ mtdOutcome (now (table .entry)) (buffers (now (evaluated .entry)) (now (certificate .entry)))
         (now (order .entry)) ⌝ }
 {
     let shortest = lesser(lesser(evaluated.len(), certificate.len()), order.len());

@@ -2,16 +2,15 @@
 -- value and the table alone.
 use Prim.Native.Nat.{ℕ}
 use mathlib.Core.Bool.{cond}
-use mathlib.Core.List.{List, [], _∷_}
+use mathlib.Core.List.{List}
 use lib.Dec.{leb}
-use lib.ListN.{length}
 use lib.IntN.{ℤ, pos, natAbs}
 use lib.Signed.{ltZ}
 use Rattle.gametree.specs.Tree.{least, greatest}
 use Rattle.gametree.specs.FirstMove.{Decision, mtdf}
 use Rattle.frames.specs.Tree.{tree, valuation}
 use Rattle.frames.specs.Value.{maxValue}
-use Rattle.certificate.specs.Search.{searchRejection, findings, Search, ListedOutcome, listedOutcome}
+use Rattle.certificate.specs.Search.{findings, Buffers, SearchOutcome, searchOutcome}
 use Rattle.leafvalue.specs.LeastValue.{wantedScore}
 use Rattle.mtdf.specs.declared.MtdfResult.{MtdfResult}
 use Rattle.mtdf.specs.declared.MtdfAnswer.{MtdfAnswer}
@@ -33,14 +32,7 @@ mtdfLeaves f t = decisionOf f t .evaluated
 abbrev pub mtdfFound : (f : ℕ) (t : List ℕ) → MtdfResult
 mtdfFound f t = record { findings = findings (mtdfLeaves f t) t; tests = decisionOf f t .tests }
 
--- a search of the table t with the buffers e and c: it evaluates these leaves
-abbrev pub mtdfSearch : (f : ℕ) (t e c : List ℕ) → Search
-mtdfSearch f t e c = record { table = t; evaluated = e; certificate = c; leaves = mtdfLeaves f t }
-
--- the outcome of a call with the starting value v, the table t, the buffers e and c and the list o: the first "no" to
--- questions 1 to 10, or the findings
-abbrev pub mtdfOutcome : (v : ℤ) (t e c o : List ℕ) → ListedOutcome MtdfAnswer
-mtdfOutcome v t e c o =
-    let f = startScore v in
-    listedOutcome Rejected (FoundAnswer (mtdfFound f t))
-    (mtdfSearch f t e c) o (searchRejection t (length e ∷ length c ∷ length o ∷ []))
+-- the outcome of a call with the starting value v, the table t, the buffers b and the list o: it evaluates these leaves
+abbrev pub mtdfOutcome : (v : ℤ) (t : List ℕ) → Buffers → (order : List ℕ) → SearchOutcome MtdfAnswer
+mtdfOutcome v t b o =
+    let f = startScore v in searchOutcome Rejected (FoundAnswer (mtdfFound f t)) (mtdfLeaves f t) t b o

@@ -34,10 +34,11 @@ ghost use Rattle.frames.specs.Frame.{frames, childCount};
 ghost use Rattle.frames.specs.Position.{rootPosition};
 ghost use Rattle.frames.specs.Tree.{treeAt, valuation};
 ghost use Rattle.frames.specs.Formed.{WellFormed};
+ghost use Rattle.frames.specs.Rejection.{_leaving_};
 ghost use Rattle.bounds.specs.Marks.{marked};
 ghost use Rattle.bounds.specs.engine.Evaluable.{Evaluable};
 ghost use Rattle.bounds.specs.engine.Progress.{progress, Listable};
-ghost use Rattle.certificate.specs.Search.{marksOf, flagsOf, listed};
+ghost use Rattle.certificate.specs.Search.{marksOf, flagsOf, buffers, listed};
 ghost use Rattle.mtdf.specs.Outcome.{startScore, mtdfLeaves, mtdfFound, mtdfOutcome};
 ghost use Rattle.mtdf.specs.engine.Memory.{memory, Fresh, VisitReady, VisitedBy, Entered, Looked};
 ghost use Rattle.mtdf.specs.engine.Memory.{Settles, Met, MovedTo};
@@ -64,10 +65,8 @@ pub fn search(
     certificate: &mut [u8],
     order: &mut [u16],
 ) -> MtdfAnswer
-    ensures { λ r. ⌜ record {
-      order = now (order .exit);
-      search = record { answer = r; evaluated = now (evaluated .exit); certificate = now (certificate .exit) };
-    } ≡ mtdfOutcome start (now (table .entry)) (now (evaluated .entry)) (now (certificate .entry))
+    ensures { λ r. ⌜ r leaving buffers (now (evaluated .exit)) (now (certificate .exit)) leaving now (order .exit)
+        ≡ mtdfOutcome start (now (table .entry)) (buffers (now (evaluated .entry)) (now (certificate .entry)))
         (now (order .entry)) ⌝ }
 {
     let shortest = lesser(lesser(evaluated.len(), certificate.len()), order.len());

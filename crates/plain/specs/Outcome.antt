@@ -2,11 +2,10 @@
 use Prim.Native.Nat.{ℕ}
 use mathlib.Core.List.{List, [], _∷_}
 use lib.ListN.{length}
-use Rattle.gametree.specs.Tree.{minimax, leaves}
-use Rattle.gametree.specs.Move.{rootMove}
-use Rattle.frames.specs.Tree.{tree, valuation}
-use Rattle.frames.specs.Value.{valueOf}
-use Rattle.certificate.specs.Search.{searchRejection, Search, Outcome, outcome}
+use Rattle.gametree.specs.Tree.{leaves}
+use Rattle.frames.specs.Tree.{tree}
+use Rattle.frames.specs.Rejection.{unless, Outcome, _leaving_}
+use Rattle.certificate.specs.Search.{searchRejection, findings, Buffers, buffersOf}
 use Rattle.plain.specs.declared.PlainResult.{PlainResult}
 use Rattle.plain.specs.declared.PlainAnswer.{PlainAnswer}
 use Rattle.plain.specs.declared.PlainAnswer.the-variants.{Found as FoundAnswer, Rejected}
@@ -15,20 +14,12 @@ use Rattle.plain.specs.declared.PlainAnswer.the-variants.{Found as Found
 abbrev pub allLeaves : List ℕ → List ℕ
 allLeaves t = leaves (tree t)
 
--- the minimax value, and the first root move that reaches it
+-- what every search finds, but for the count: the minimax value, and the first root move that reaches it
 abbrev pub plainFound : List ℕ → PlainResult
-plainFound t =
-    record {
-      value = valueOf (minimax (valuation t) (tree t));
-      «root_move» = rootMove (valuation t) (tree t);
-    }
+plainFound t = let f = findings (allLeaves t) t in record { value = f .value; «root_move» = f .«root_move» }
 
--- a search of the table t with the buffers e and c: it evaluates all leaves
-abbrev pub plainSearch : (t e c : List ℕ) → Search
-plainSearch t e c = record { table = t; evaluated = e; certificate = c; leaves = allLeaves t }
-
--- the outcome of a call with the table t and the buffers e and c: the first "no" to questions 1 to 10, or what is found
-abbrev pub plainOutcome : (t e c : List ℕ) → Outcome PlainAnswer
-plainOutcome t e c =
-    outcome Rejected (FoundAnswer (plainFound t))
-    (plainSearch t e c) (searchRejection t (length e ∷ length c ∷ []))
+-- the outcome of a call with the table t and the buffers b, which are as they were on a "no" to questions 1 to 10
+abbrev pub plainOutcome : (t : List ℕ) → Buffers → Outcome PlainAnswer Buffers
+plainOutcome t b =
+    unless (searchRejection t (length (b .marks) ∷ length (b .flags) ∷ [])) (λ r. Rejected r leaving b)
+    (FoundAnswer (plainFound t) leaving buffersOf (allLeaves t) t b)

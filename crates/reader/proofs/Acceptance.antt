@@ -22,8 +22,9 @@ use Rattle.lines.specs.Line.{lineDigits, isLine, hasLowercase}
 use Rattle.lines.specs.Lines.{linesOf, decoded}
 use Rattle.lines.proofs.CapitalDigits.{capital-at, capitals-all}
 use Rattle.lines.proofs.Lines.{line-length, line-digits, digit-at}
-use Rattle.reader.specs.File.{maxFile, eachLine, lineCheck3, fileCheck2, fileCheck3, lineCheck16, fileCheck16}
+use Rattle.reader.specs.File.{maxFile, eachLine, fileCheck2, fileCheck3, fileCheck16}
 use Rattle.reader.specs.File.{fileRejection, AcceptedFile, readRejection, readAnswer, tableAfter}
+use Rattle.reader.specs.engine.Decoded.{lineCheck16, lineCheck3}
 use Rattle.reader.specs.results.Stated.{LineAsStated, FileAsStated}
 use Rattle.reader.proofs.Counts.{line-count, decoded-length, frame-count}
 use Rattle.reader.proofs.Reading.{accepted-parts}

@@ -13,7 +13,8 @@ use Rattle.frames.proofs.Stated.{ask-yes, both-passed}
 use Rattle.lines.specs.Line.{lineDigits, lineFeed, bytesOf}
 use Rattle.lines.specs.Lines.{putBefore, linesOf, decode, decoded}
 use Rattle.lines.proofs.Lines.{line-length, line-bytes}
-use Rattle.reader.specs.File.{maxFile, eachLine, lineCheck3, fileCheck3}
+use Rattle.reader.specs.File.{maxFile, eachLine, fileCheck3}
+use Rattle.reader.specs.engine.Decoded.{lineCheck3}
 
 -- the bytes of lines with a line feed after each
 closedLength : List (List ℕ) → ℕ

@@ -15,8 +15,8 @@ use Rattle.lines.specs.Line.{lineDigits, bytesOf, bytesAt, isLineAt}
 use Rattle.lines.specs.Lines.{linesOf, decode, decoded}
 use Rattle.lines.proofs.Lines.{line-bytes}
 use Rattle.lines.proofs.Positions.{lineBytes, line-is, line-fits}
-use Rattle.reader.specs.File.{eachLine, lineCheck3, fileCheck3}
-use Rattle.reader.specs.engine.Decoded.{Decoded, LongEnough}
+use Rattle.reader.specs.File.{eachLine, fileCheck3}
+use Rattle.reader.specs.engine.Decoded.{lineCheck3, Decoded, LongEnough}
 use Rattle.reader.proofs.Left.{lines-next, lines-stop}
 
 -- six bytes stored behind n frames

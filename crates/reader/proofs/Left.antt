@@ -13,7 +13,8 @@ use Rattle.lines.specs.Lines.{linesOf}
 use Rattle.lines.proofs.Lines.{line-length}
 use Rattle.lines.proofs.Positions.{lineBytes, line-fits}
 use Rattle.lines.proofs.Splits.{firstLine, afterLine, lines-first, first-take, after-drop, first-digits}
-use Rattle.reader.specs.File.{eachLine, lineCheck3}
+use Rattle.reader.specs.File.{eachLine}
+use Rattle.reader.specs.engine.Decoded.{lineCheck3}
 
 module _ (f : List ℕ) (at : ℕ) where
   abbrev left : List ℕ

@@ -16,7 +16,8 @@ use Rattle.hex.specs.Digit.{isLowercase}
 use Rattle.lines.specs.Line.{lineFeed, lineDigits, lineSize, hasLowercase, isLineAt}
 use Rattle.lines.specs.Lines.{putBefore, linesOf}
 use Rattle.lines.proofs.Positions.{lineBytes, line-fits}
-use Rattle.reader.specs.File.{eachLine, lineCheck3, fileCheck3, lineCheck16, fileCheck16}
+use Rattle.reader.specs.File.{eachLine, fileCheck3, fileCheck16}
+use Rattle.reader.specs.engine.Decoded.{lineCheck16, lineCheck3}
 use Rattle.reader.proofs.Left.{lines-next, line-stands}
 
 -- where a file has no lowercase letter, none of its lines has one

@@ -2,14 +2,14 @@
 use Prim.Native.Nat.{ℕ, _+_, _*_}
 use mathlib.Core.Path.{_≡_}
 use mathlib.Core.Bool.{not}
-use mathlib.Core.Option.{Option, none, some}
+use mathlib.Core.Option.{Option, none}
 use mathlib.Core.List.{List, [], _∷_, _++_}
 use lib.Dec.{leb}
 use lib.ListN.{length, drop}
 use Rattle.frames.specs.declared.Rejection.{Rejection}
 use Rattle.frames.specs.declared.Checked.{Checked}
 use Rattle.frames.specs.Frame.{frameSize, maxNodes, frames}
-use Rattle.frames.specs.Rejection.{ask, _andThen_, answer}
+use Rattle.frames.specs.Rejection.{ask, _andThen_, unless, answer}
 use Rattle.frames.specs.Check.{check1, framesRejection}
 use Rattle.lines.specs.Line.{lineSize, isLine, hasLowercase}
 use Rattle.lines.specs.Lines.{linesOf, decoded}
@@ -27,21 +27,13 @@ unfoldable pub eachLine : (ℕ → List ℕ → Option Rejection) → ℕ → Li
 eachLine q i [] = none
 eachLine q i (l ∷ ls) = q i l andThen eachLine q (i + 1) ls
 
--- 3: is each line twelve hexadecimal digits?
-abbrev pub lineCheck3 : ℕ → List ℕ → Option Rejection
-lineCheck3 i l = ask (isLine l) 3 i
-
--- the place is the number of the first line that is not
+-- 3: is each line twelve hexadecimal digits? The place of a "no" is the number of the first line that is not.
 abbrev pub fileCheck3 : List ℕ → Option Rejection
-fileCheck3 f = eachLine lineCheck3 0 (linesOf f)
+fileCheck3 f = eachLine (λ i l. ask (isLine l) 3 i) 0 (linesOf f)
 
--- 16: has the line no lowercase letter?
-abbrev pub lineCheck16 : ℕ → List ℕ → Option Rejection
-lineCheck16 i l = ask (not (hasLowercase l)) 16 i
-
--- the place is the number of the first line that has one
+-- 16: has no line a lowercase letter? The place of a "no" is the number of the first line that has one.
 abbrev pub fileCheck16 : List ℕ → Option Rejection
-fileCheck16 f = eachLine lineCheck16 0 (linesOf f)
+fileCheck16 f = eachLine (λ i l. ask (not (hasLowercase l)) 16 i) 0 (linesOf f)
 
 -- 10: has the lent table six bytes for each line?
 abbrev pub fileCheck10 : List ℕ → List ℕ → Option Rejection
@@ -64,11 +56,6 @@ readRejection f table = fileRejection f andThen fileCheck10 f table
 abbrev pub readAnswer : List ℕ → List ℕ → Checked
 readAnswer f table = answer (frames (decoded f)) (readRejection f table)
 
--- a table as it was on a rejection, else with bytes at its front and what it held past them
-abbrev pub filled : Option Rejection → List ℕ → List ℕ → List ℕ
-filled none bytes table = bytes ++ drop (length bytes) table
-filled (some r) bytes table = table
-
--- the lent table afterwards
+-- the lent table afterwards: as it was on a "no", else with the frames at its front and what it held past them
 abbrev pub tableAfter : List ℕ → List ℕ → List ℕ
-tableAfter f table = filled (readRejection f table) (decoded f) table
+tableAfter f table = unless (readRejection f table) (λ r. table) (decoded f ++ drop (length (decoded f)) table)

@@ -12,12 +12,10 @@ use Rattle.lines.specs.Line.{allDigits, isLine, hasLowercase, bytesOf}
 use Rattle.lines.specs.Lines.{linesOf, decode}
 use Rattle.reader.specs.File.{eachLine, fileRejection}
 use Rattle.text.specs.Text.{decimalWithin}
-use Rattle.report.specs.Report.{abLine, mtdLine, sssLine}
 use Rattle.report.specs.results.Cases.{computed, expected, cases}
 
 -- each case is as stated
 pub small-files : map computed cases ≡ map expected cases
 unfolding mtd next parentBefore positionWithin positionOf childrenFrom grow treeAt valuation eachNode framesRejection
-    digitOf allDigits isLine hasLowercase bytesOf linesOf decode eachLine fileRejection decimalWithin abLine mtdLine
-    sssLine
+    digitOf allDigits isLine hasLowercase bytesOf linesOf decode eachLine fileRejection decimalWithin
 small-files = refl

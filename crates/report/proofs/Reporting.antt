@@ -1,20 +1,27 @@
 -- What the reader of a file gives is what the report goes by: an accepted table, or the first rejection of the file.
 use Prim.Native.Nat.{ℕ, _*_, _≤_}
 use native.Mathlib.Omega.{arith}
-use mathlib.Core.Path.{_≡_, sym, ap, _∙_}
+use mathlib.Core.Path.{_≡_, refl, sym, ap, _∙_}
 use mathlib.Core.List.{List}
 use lib.ListN.{length, take}
 use Rattle.frames.specs.declared.Rejection.{Rejection}
 use Rattle.frames.specs.declared.Checked.{Checked}
 use Rattle.frames.specs.declared.Checked.the-variants.{Nodes, Rejected as RejectedFile}
 use Rattle.frames.specs.Frame.{frameSize, maxNodes, maxTable}
+use Rattle.frames.specs.Tree.{tree, valuation}
 use Rattle.frames.specs.Check.{Accepted}
 use Rattle.frames.proofs.Acceptance.{accepted-formed}
 use Rattle.lines.specs.Lines.{decoded}
 use Rattle.reader.specs.File.{readAnswer, tableAfter}
 use Rattle.reader.proofs.Acceptance.{read-nodes, long-enough-rejected}
 use Rattle.text.specs.Text.{refusedLine}
-use Rattle.report.specs.Report.{analysis, printed, report}
+use Rattle.report.specs.Report.{analysisOn, report}
+use Rattle.report.specs.engine.Lines.{abLine, mtdLine, sssLine, analysis}
+
+-- the analysis of a table's tree is laid down line by line
+analysed : (t : List ℕ) → analysisOn (valuation t) (tree t) ≡ analysis t
+unfolding abLine mtdLine sssLine
+analysed t = refl
 
 module _ (f : List ℕ) where
   -- what is known once a file was read into a table: its first n frames are the file's, and accepted
@@ -32,10 +39,10 @@ module _ (f : List ℕ) where
           accepted = p .1;
           atMost = omega (arith, p .2, accepted-formed (decoded f) (p .1) .atMost);
           bytes = ap (take (frameSize * n)) h ∙ p .3;
-          reported = ap (printed f) (p .0);
+          reported = rw (p .0) (analysed (decoded f));
         }
 
   -- the rejection of a file that is read into a roomy table is printed
   pub read-rejected : (fresh : List ℕ) → maxTable ≤ length fresh → (r : Rejection)
-      → RejectedFile r ≡ readAnswer f fresh → report f ≡ refusedLine (r .number) (r .place)
-  read-rejected fresh room r e = ap (printed f) (long-enough-rejected f fresh room r e)
+      → RejectedFile r ≡ readAnswer f fresh → report f ≡ refusedLine r
+  read-rejected fresh room r e = rw (long-enough-rejected f fresh room r e)

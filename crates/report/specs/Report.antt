@@ -1,14 +1,17 @@
 -- What the program prints for a file (SPEC 12.1).
 use Prim.Native.Nat.{ℕ}
-use mathlib.Core.Option.{Option, none, some}
 use mathlib.Core.List.{List, [], _∷_, _++_}
-use Rattle.frames.specs.declared.Rejection.{Rejection}
+use lib.ListN.{length}
+use Rattle.gametree.specs.Tree.{Tree, least, greatest, minimax}
+use Rattle.gametree.specs.Move.{rootMove}
+use Rattle.gametree.specs.AlphaBeta.{reached}
+use Rattle.gametree.specs.Mtd as rule
+use Rattle.gametree.specs.Sss.{sss as run}
+use Rattle.frames.specs.Value.{valueOf}
+use Rattle.frames.specs.Tree.{tree, valuation}
+use Rattle.frames.specs.Rejection.{unless}
 use Rattle.lines.specs.Lines.{decoded}
 use Rattle.reader.specs.File.{fileRejection}
-use Rattle.certificate.specs.Search.{findings}
-use Rattle.alphabeta.specs.Outcome.{reachedLeaves}
-use Rattle.mtd.specs.Outcome.{mtdLeaves}
-use Rattle.sss.specs.Outcome.{sssLeaves}
 use Rattle.certificate.specs.declared.Findings.{Findings}
 use Rattle.text.specs.Text.{decimal, signedDecimal, space, lineFeed, refusedLine}
 
@@ -25,35 +28,20 @@ methodLine name f =
     ++ (space ∷ (signedDecimal (f .value)
     ++ (space ∷ (decimal (f .«root_move») ++ (space ∷ (decimal (f .leaves) ++ (lineFeed ∷ [])))))))
 
--- "ab", "mtd" and "sss"
-abbrev pub abName : List ℕ
-abName = 97 ∷ 98 ∷ []
+-- the line of a method that evaluates the leaves w of a tree
+abbrev pub lineOn : (name : List ℕ) → (ℕ → ℕ) → Tree → (leaves : List ℕ) → List ℕ
+lineOn name ν x w =
+    methodLine name
+    (record { value = valueOf (minimax ν x); «root_move» = rootMove ν x; leaves = length w })
 
-abbrev pub mtdName : List ℕ
-mtdName = 109 ∷ 116 ∷ 100 ∷ []
+-- a heading, then the lines of "ab", "mtd" and "sss"
+abbrev pub analysisOn : (ℕ → ℕ) → Tree → List ℕ
+analysisOn ν x =
+    heading
+    ++ (lineOn (97 ∷ 98 ∷ []) ν x (reached ν least greatest x)
+    ++ (lineOn (109 ∷ 116 ∷ 100 ∷ []) ν x (rule.mtd ν x .evaluated)
+    ++ lineOn (115 ∷ 115 ∷ 115 ∷ []) ν x (run ν x .evaluated)))
 
-abbrev pub sssName : List ℕ
-sssName = 115 ∷ 115 ∷ 115 ∷ []
-
--- the line of each method, for an accepted table
-unfoldable pub abLine : List ℕ → List ℕ
-abLine t = methodLine abName (findings (reachedLeaves t) t)
-
-unfoldable pub mtdLine : List ℕ → List ℕ
-mtdLine t = methodLine mtdName (findings (mtdLeaves t) t)
-
-unfoldable pub sssLine : List ℕ → List ℕ
-sssLine t = methodLine sssName (findings (sssLeaves t) t)
-
--- a heading, then a line for each method
-abbrev pub analysis : List ℕ → List ℕ
-analysis t = heading ++ (abLine t ++ (mtdLine t ++ sssLine t))
-
--- the analysis of a file's table where there is no rejection, else the rejection
-abbrev pub printed : List ℕ → Option Rejection → List ℕ
-printed f none = analysis (decoded f)
-printed f (some r) = refusedLine (r .number) (r .place)
-
--- what the program prints for a file, by the first "no" to the reader's questions, 1 to 9 and 16
+-- what the program prints for a file: the analysis of its tree, or the first "no" to questions 1 to 9 and 16
 abbrev pub report : List ℕ → List ℕ
-report f = printed f (fileRejection f)
+report f = unless (fileRejection f) refusedLine (analysisOn (valuation (decoded f)) (tree (decoded f)))

@@ -21,7 +21,8 @@ ghost use Rattle.frames.specs.Frame.{frames};
 ghost use Rattle.frames.specs.Formed.{WellFormed};
 ghost use Rattle.frames.specs.Check.{Accepted};
 ghost use Rattle.text.specs.Text.{TextRoom, Put, textOf};
-ghost use Rattle.report.specs.Report.{methodLine, abLine, mtdLine, sssLine, analysis, report};
+ghost use Rattle.report.specs.engine.Lines.{abLine, mtdLine, sssLine, analysis};
+ghost use Rattle.report.specs.Report.{methodLine, report};
 
 // The report of a file: the analysis of its tree, or the line of its rejection.
 pub fn write(file: &[u8]) -> Text

@@ -3,7 +3,8 @@ use Prim.Native.Nat.{ℕ}
 use mathlib.Core.Path.{_≡_, ap}
 use mathlib.Core.List.{List}
 use lib.IntN.{ℤ}
-use Rattle.certificate.specs.Search.{Outcome, ListedOutcome}
+use Rattle.frames.specs.Rejection.{Outcome}
+use Rattle.certificate.specs.Search.{Buffers, buffers, SearchOutcome}
 use Rattle.alphabeta.specs.declared.AlphaBetaAnswer as ab
 use Rattle.alphabeta.specs.Outcome.{alphaBetaOutcome}
 use Rattle.mtd.specs.declared.MtdAnswer as mtd
@@ -19,25 +20,27 @@ use Rattle.searchcalls.specs.declared.Method.the-variants.{AlphaBeta, Mt
 use Rattle.searchcalls.specs.Lent.{lentTo, listedTo, lentAfter}
 
 module _ (m : Method) (t e c o : List ℕ) where
-  pub by-alphabeta : (r : ListedOutcome ab.AlphaBetaAnswer) → m ≡ AlphaBeta → r ≡ alphaBetaOutcome t e c o
+  pub by-alphabeta : (r : SearchOutcome ab.AlphaBetaAnswer) → m ≡ AlphaBeta → r ≡ alphaBetaOutcome t (buffers e c) o
       → listedTo r ≡ lentAfter m t e c o
   unfolding lentAfter
   by-alphabeta r k h = rw k (ap listedTo h)
 
-  pub by-mtd : (r : ListedOutcome mtd.MtdAnswer) → m ≡ Mtd → r ≡ mtdOutcome t e c o → listedTo r ≡ lentAfter m t e c o
+  pub by-mtd : (r : SearchOutcome mtd.MtdAnswer) → m ≡ Mtd → r ≡ mtdOutcome t (buffers e c) o
+      → listedTo r ≡ lentAfter m t e c o
   unfolding lentAfter
   by-mtd r k h = rw k (ap listedTo h)
 
-  pub by-mtdf : (v : ℤ) (r : ListedOutcome mtdf.MtdfAnswer) → m ≡ Mtdf v → r ≡ mtdfOutcome v t e c o
+  pub by-mtdf : (v : ℤ) (r : SearchOutcome mtdf.MtdfAnswer) → m ≡ Mtdf v → r ≡ mtdfOutcome v t (buffers e c) o
       → listedTo r ≡ lentAfter m t e c o
   unfolding lentAfter
   by-mtdf v r k h = rw k (ap listedTo h)
 
-  pub by-sss : (a : ℕ) (r : ListedOutcome sss.SssAnswer) → m ≡ Sss a → r ≡ solveOutcome a t e c o
+  pub by-sss : (a : ℕ) (r : SearchOutcome sss.SssAnswer) → m ≡ Sss a → r ≡ solveOutcome a t (buffers e c) o
       → listedTo r ≡ lentAfter m t e c o
   unfolding lentAfter
   by-sss a r k h = rw k (ap listedTo h)
 
-  pub by-plain : (r : Outcome plain.PlainAnswer) → m ≡ Plain → r ≡ plainOutcome t e c → lentTo r o ≡ lentAfter m t e c o
+  pub by-plain : (r : Outcome plain.PlainAnswer Buffers) → m ≡ Plain → r ≡ plainOutcome t (buffers e c)
+      → lentTo (r .left) o ≡ lentAfter m t e c o
   unfolding lentAfter
-  by-plain r k h = rw k (ap (λ s. lentTo s o) h)
+  by-plain r k h = rw k (ap (λ s. lentTo (s .left) o) h)

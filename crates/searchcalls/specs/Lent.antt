@@ -3,7 +3,7 @@ use Prim.Native.Nat.{ℕ}
 use mathlib.Core.List.{List}
 use lib.ListN.{replicate}
 use Rattle.frames.specs.Frame.{maxNodes}
-use Rattle.certificate.specs.Search.{Outcome, ListedOutcome}
+use Rattle.certificate.specs.Search.{Buffers, buffers, SearchOutcome}
 use Rattle.alphabeta.specs.Outcome.{alphaBetaOutcome}
 use Rattle.mtd.specs.Outcome.{mtdOutcome}
 use Rattle.mtdf.specs.Outcome.{mtdfOutcome}
@@ -22,19 +22,19 @@ pub record LentBuffers : Type 0 where
 abbrev pub lentBuffers : (e c o : List ℕ) → LentBuffers
 lentBuffers e c o = record { evaluated = e; certificate = c; order = o }
 
-abbrev pub lentTo : {A : Type 0} → Outcome A → List ℕ → LentBuffers
-lentTo s o = lentBuffers (s .evaluated) (s .certificate) o
+abbrev pub lentTo : Buffers → List ℕ → LentBuffers
+lentTo b o = lentBuffers (b .marks) (b .flags) o
 
-abbrev pub listedTo : {A : Type 0} → ListedOutcome A → LentBuffers
-listedTo r = lentTo (r .search) (r .order)
+abbrev pub listedTo : {A : Type 0} → SearchOutcome A → LentBuffers
+listedTo r = lentTo (r .answer .left) (r .left)
 
 -- after a search of the table t by each method; the plain engine is lent no list
 unfoldable pub lentAfter : Method → (t e c o : List ℕ) → LentBuffers
-lentAfter AlphaBeta t e c o = listedTo (alphaBetaOutcome t e c o)
-lentAfter Mtd t e c o = listedTo (mtdOutcome t e c o)
-lentAfter (Mtdf start) t e c o = listedTo (mtdfOutcome start t e c o)
-lentAfter (Sss allowance) t e c o = listedTo (solveOutcome allowance t e c o)
-lentAfter Plain t e c o = lentTo (plainOutcome t e c) o
+lentAfter AlphaBeta t e c o = listedTo (alphaBetaOutcome t (buffers e c) o)
+lentAfter Mtd t e c o = listedTo (mtdOutcome t (buffers e c) o)
+lentAfter (Mtdf start) t e c o = listedTo (mtdfOutcome start t (buffers e c) o)
+lentAfter (Sss allowance) t e c o = listedTo (solveOutcome allowance t (buffers e c) o)
+lentAfter Plain t e c o = lentTo (plainOutcome t (buffers e c) .left) o
 
 -- what the list is filled with: it is no node's number
 abbrev pub unlisted : ℕ

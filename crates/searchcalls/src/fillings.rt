@@ -20,7 +20,7 @@ pub fn print_filling(file: &[u8], size: u32) {
 }
 
 fn print_filled(table: &mut [u8])
-    ensures { λ _. ⌜ now (table .exit) ≡ fillOutcome (now (table .entry)) .table ⌝ }
+    ensures { λ _. ⌜ now (table .exit) ≡ fillOutcome (now (table .entry)) .left ⌝ }
 {
     io::write_all(STDOUT_FILENO, b"dearest");
     match worstcase::fill(table) {

@@ -13,11 +13,12 @@ use Rattle.frames.specs.Frame.{frames}
 use Rattle.frames.specs.Rejection.{_andThen_}
 use Rattle.frames.specs.Check.{rejection, check10}
 use Rattle.frames.proofs.Stated.{ask-yes, both-passed}
+use Rattle.frames.specs.Rejection.{unless}
 use Rattle.verify.specs.declared.Verdict.the-variants as verdicts
 use Rattle.verify.specs.Check.{flagsRejection, judged}
 use Rattle.shorter.specs.declared.Choice.{Choice}
 use Rattle.shorter.specs.declared.Choice.the-variants.{First, Second, Rejected}
-use Rattle.shorter.specs.Choice.{fewerSecond, choiceBy, afterTable, choice}
+use Rattle.shorter.specs.Choice.{fewerSecond, choiceBy, choice}
 
 module _ (t flags : List ℕ) where
   -- a certificate that gets a value is not rejected
@@ -44,7 +45,7 @@ Says o p q First = (o ≡ none) × (p ≡ none)
 Says o p q Second = (o ≡ none) × (q ≡ none)
 Says o p q (Rejected r) = o andThen p ≡ some r
 
-says : (o p q : Option Rejection) (b : Bool) → Says o p q (afterTable o (choiceBy p q b))
+says : (o p q : Option Rejection) (b : Bool) → Says o p q (unless o Rejected (choiceBy p q b))
 says none none none true = (refl, refl)
 says none none none false = (refl, refl)
 says none none (some s) b = (refl, refl)

@@ -13,7 +13,7 @@ use Rattle.gametree.specs.Tree.{minimax}
 use Rattle.gametree.proofs.Theorems.{certificate-minimax}
 use Rattle.frames.specs.declared.Rejection.{Rejection}
 use Rattle.frames.specs.Frame.{frames}
-use Rattle.frames.specs.Rejection.{_andThen_}
+use Rattle.frames.specs.Rejection.{_andThen_, unless}
 use Rattle.frames.specs.Tree.{tree, valuation}
 use Rattle.frames.specs.Value.{valueOf}
 use Rattle.frames.specs.Check.{rejection}
@@ -26,13 +26,13 @@ use Rattle.verify.proofs.Theorems.{certificate-verdict, verdict-certificate}
 use Rattle.verify.proofs.Parts.{certificate-part}
 use Rattle.shorter.specs.declared.Choice.{Choice}
 use Rattle.shorter.specs.declared.Choice.the-variants.{First, Second, Rejected}
-use Rattle.shorter.specs.Choice.{flaggedLeaves, fewerSecond, choiceBy, afterTable, choice, flagsBy}
+use Rattle.shorter.specs.Choice.{flaggedLeaves, fewerSecond, choiceBy, choice, flagsBy}
 use Rattle.shorter.specs.Choice.{chosenFlags}
 use Rattle.shorter.proofs.Choosing.{value-passed, rejected-by, choice-says}
 
 -- where neither passes, the first one's rejection stands, which is the table's if the table has one
 both-rejected : (o p q : Option Rejection) (b : Bool) {r s : Rejection} → o andThen p ≡ some r → o andThen q ≡ some s
-    → afterTable o (choiceBy p q b) ≡ Rejected r
+    → unless o Rejected (choiceBy p q b) ≡ Rejected r
 both-rejected none none q b e d = clash (cc)
 both-rejected none (some x) none b e d = clash (cc)
 both-rejected none (some x) (some y) b e d = cc

@@ -7,6 +7,7 @@ use lib.Dec.{eqb, ltb}
 use lib.ListN.{getD, take}
 use Rattle.frames.specs.declared.Rejection.{Rejection}
 use Rattle.frames.specs.Frame.{frames, childCount}
+use Rattle.frames.specs.Rejection.{unless}
 use Rattle.frames.specs.Check.{rejection}
 use Rattle.verify.specs.Check.{flagsRejection}
 use Rattle.shorter.specs.declared.Choice.{Choice}
@@ -37,15 +38,10 @@ choiceBy none (some s) b = First
 choiceBy (some r) none b = Second
 choiceBy (some r) (some s) b = Rejected r
 
--- the same after questions 1 to 9 of the table
-abbrev pub afterTable : Option Rejection → Choice → Choice
-afterTable none c = c
-afterTable (some r) c = Rejected r
-
 -- the answer: questions 1 to 9 of the table, then 10 to 14 of each certificate by itself
 unfoldable pub choice : (t first second : List ℕ) → Choice
 choice t first second =
-    afterTable (rejection t)
+    unless (rejection t) Rejected
     (choiceBy (flagsRejection t first) (flagsRejection t second) (fewerSecond t first second))
 
 -- the flags of the choice, one a node; none on a rejection

@@ -19,21 +19,21 @@ use Rattle.gametree.proofs.Searches.{Searched, bySss, Deciding}
 use Rattle.gametree.proofs.Within.{evaluations-count, covered-full, spent-first, within-value, within-count, within-all}
 use Rattle.gametree.proofs.Within.{full-few}
 use Rattle.frames.specs.declared.Rejection.{Rejection}
+use Rattle.frames.specs.Rejection.{unless, _leaving_}
 use Rattle.frames.specs.Frame.{frames}
 use Rattle.frames.specs.Tree.{tree, valuation}
 use Rattle.frames.specs.Value.{valueOf}
 use Rattle.frames.specs.Formed.{WellFormed}
 use Rattle.frames.proofs.Totals.{tree-size}
 use Rattle.frames.proofs.Proper.{tree-proper}
-use Rattle.certificate.specs.Search.{marksOf, listed, ListedOutcome, listedOutcome}
+use Rattle.certificate.specs.Search.{marksOf, Buffers, buffers, buffersOf, listed, SearchOutcome}
 use Rattle.certificate.proofs.Marks.{evaluated-within}
 use Rattle.sss.specs.declared.SssResult.{SssResult}
 use Rattle.sss.specs.declared.Spent.{Spent}
 use Rattle.sss.specs.declared.SssAnswer.{SssAnswer}
 use Rattle.sss.specs.declared.SssAnswer.the-variants.{Found as FoundAnswer, Spent as SpentAnswer}
 use Rattle.sss.specs.declared.SssAnswer.the-variants.{Rejected as RejectedAnswer}
-use Rattle.sss.specs.Outcome.{runOf, sssLeaves, sssFound, sssSearch, sssUncovered, sssSpent, outcomeBy}
-use Rattle.sss.specs.Outcome.{withinOutcome}
+use Rattle.sss.specs.Outcome.{runOf, sssLeaves, sssFound, sssUncovered, sssSpent, givenBy, sssGiven}
 use Rattle.sss.proofs.Replacements.{own}
 
 module _ (t : List ℕ) (wf : WellFormed t) where
@@ -86,31 +86,25 @@ module _ (t : List ℕ) (wf : WellFormed t) where
             let s = spent-first (valuation t) (tree t) (layoutOf (tree t)) a x xs i in
             clash (cc (e, ap (λ r. r .end) s))
 
-    module _ (e c o : List ℕ) where
+    module _ (b : Buffers) (o : List ℕ) where
       -- so the outcome is that of the full run
       pub outcome-found : {v : ℕ} → within .end ≡ theory.finished v
-          → withinOutcome a t e c o none
-          ≡ listedOutcome RejectedAnswer (FoundAnswer (sssFound t)) (sssSearch t e c) o none
-      outcome-found h = ap (λ xs. outcomeBy xs a t e c o none) (finished-covered h)
+          → sssGiven a t b o
+          ≡ FoundAnswer (sssFound t) leaving buffersOf (sssLeaves t) t b leaving listed (sssLeaves t) o
+      outcome-found h = ap (λ xs. givenBy xs a t b o) (finished-covered h)
 
       -- where it ends spent, the outcome has its merit, its counts and its leaves
       module _ (m k : ℕ) (w : List ℕ) where
-        abbrev Spending : ListedOutcome SssAnswer
-        Spending = record {
-          order = listed w o;
-          search =
-              record {
-                answer = SpentAnswer (record { merit = valueOf m; leaves = length w; replacements = k });
-                evaluated = marksOf w t e;
-                certificate = c;
-              };
-        }
+        abbrev Spending : SearchOutcome SssAnswer
+        Spending =
+            SpentAnswer (record { merit = valueOf m; leaves = length w; replacements = k })
+            leaving buffers (marksOf w t (b .marks)) (b .flags) leaving listed w o
 
         pub outcome-spent : within ≡ record { end = theory.spent m; evaluated = w; replacements = k }
-            → withinOutcome a t e c o none ≡ Spending
+            → sssGiven a t b o ≡ Spending
         outcome-spent h = by-left (sssUncovered a t) refl
           where
-            by-left : (xs : List Evaluation) → sssUncovered a t ≡ xs → outcomeBy xs a t e c o none ≡ Spending
+            by-left : (xs : List Evaluation) → sssUncovered a t ≡ xs → givenBy xs a t b o ≡ Spending
             by-left [] i =
                 let f = covered-full (valuation t) (tree t) (layoutOf (tree t)) a i in
                 clash (cc (ap (λ r. r .end) h, f, full-ends))
@@ -123,22 +117,16 @@ module _ (t : List ℕ) (wf : WellFormed t) where
                 let y : x .merit ≡ m = cc (ap (λ r. r .end) s) in
                 rw (y, ap (λ r. r .replacements) s, ap (λ r. r .evaluated) s, ← l) refl
 
--- after a rejection the buffers and the list are as they were
-module _ (a : ℕ) (t e c o : List ℕ) where
-  abbrev Rejecting : Rejection → ListedOutcome SssAnswer
-  Rejecting r = record { order = o; search = record { answer = RejectedAnswer r; evaluated = e; certificate = c } }
-
-  rejects : (xs : List Evaluation) (r : Rejection) → outcomeBy xs a t e c o (some r) ≡ Rejecting r
-  rejects [] r = refl
-  rejects (x ∷ xs) r = refl
-
-  pub outcome-rejected : (r : Rejection) → withinOutcome a t e c o (some r) ≡ Rejecting r
-  outcome-rejected r = rejects (sssUncovered a t) r
+-- by the evaluations that are not covered, and the first "no" to the questions: after one the buffers and the list are
+-- as they were
+module _ (a : ℕ) (t : List ℕ) (b : Buffers) (o : List ℕ) where
+  abbrev pub outcomeBy : List Evaluation → Option Rejection → SearchOutcome SssAnswer
+  outcomeBy xs q = unless q (λ r. RejectedAnswer r leaving b leaving o) (givenBy xs a t b o)
 
   -- a rejection is the first "no"
   pub by-rejection : (xs : List Evaluation) (q : Option Rejection) (r : Rejection)
-      → outcomeBy xs a t e c o q .search .answer ≡ RejectedAnswer r
-      → (q ≡ some r) × (outcomeBy xs a t e c o q ≡ Rejecting r)
+      → outcomeBy xs q .answer .answer ≡ RejectedAnswer r
+      → (q ≡ some r) × (outcomeBy xs q ≡ RejectedAnswer r leaving b leaving o)
   by-rejection [] none r h = clash (cc)
   by-rejection (x ∷ xs) none r h = clash (cc)
   by-rejection [] (some y) r h = let i : y ≡ r = cc in (rw i refl, rw i refl)
@@ -146,7 +134,7 @@ module _ (a : ℕ) (t e c o : List ℕ) where
 
   -- with findings every question was passed, and the allowance covers all evaluations
   pub by-value : (xs : List Evaluation) (q : Option Rejection) (f : SssResult)
-      → outcomeBy xs a t e c o q .search .answer ≡ FoundAnswer f → (q ≡ none) × (xs ≡ [])
+      → outcomeBy xs q .answer .answer ≡ FoundAnswer f → (q ≡ none) × (xs ≡ [])
   by-value [] none f h = (refl, refl)
   by-value [] (some y) f h = clash (cc)
   by-value (x ∷ xs) none f h = clash (cc)
@@ -154,7 +142,7 @@ module _ (a : ℕ) (t e c o : List ℕ) where
 
   -- where the allowance is spent, every question was passed, and an evaluation is left
   pub by-allowance : (xs : List Evaluation) (q : Option Rejection) (s : Spent)
-      → outcomeBy xs a t e c o q .search .answer ≡ SpentAnswer s
+      → outcomeBy xs q .answer .answer ≡ SpentAnswer s
       → (q ≡ none) × ((x : Evaluation) × ((ys : List Evaluation) × ((xs ≡ x ∷ ys) × (s ≡ sssSpent a x))))
   by-allowance [] none s h = clash (cc)
   by-allowance [] (some y) s h = clash (cc)

@@ -3,7 +3,6 @@ use Prim.Native.Nat.{ℕ, _≤_}
 use native.Mathlib.Omega.{arith}
 use mathlib.Core.Path.{_≡_, ap, _∙_, subst}
 use mathlib.Core.Bool.{Bool, true, false, cond}
-use mathlib.Core.Option.{none}
 use mathlib.Core.List.{List, []}
 use lib.ListN.{length, replicate}
 use Rattle.lists.proofs.Choice.{clash}
@@ -11,7 +10,7 @@ use Rattle.frames.specs.declared.Checked.the-variants.{Nodes}
 use Rattle.frames.specs.Frame.{maxNodes, frames}
 use Rattle.frames.specs.Formed.{WellFormed}
 use Rattle.positions.specs.Buffer.{written}
-use Rattle.certificate.specs.Search.{marksOf, listed}
+use Rattle.certificate.specs.Search.{marksOf, buffers, listed}
 use Rattle.states.specs.Entry.{blank}
 use Rattle.turns.specs.declared.Run.{Run}
 use Rattle.turns.specs.engine.Turn.{going, Config}
@@ -23,7 +22,7 @@ use Rattle.sss.specs.engine.Invariant.{Running}
 use Rattle.sss.specs.engine.Driven.{DrivenOwn}
 use Rattle.sss.specs.engine.Start.{begun}
 use Rattle.sss.specs.engine.Finish.{Answerable, isSpent, endMerit, foundBy, spentBy}
-use Rattle.sss.specs.Outcome.{sssLeaves, sssFound, outcomeBy}
+use Rattle.sss.specs.Outcome.{sssLeaves, sssFound, givenBy}
 use Rattle.sss.proofs.Allowed.{leaves-few, enough}
 use Rattle.sss.proofs.Whole.{answerable, run-answers}
 
@@ -55,9 +54,9 @@ module _ (t : List ℕ) (wf : WellFormed t) (b o b₁ : List ℕ) (r : Run) (cle
   own-gives =
       let e =
       run-answers t wf maxNodes _ b o config ran (d .driven .stopped) []
-      ∙ ap (λ xs. outcomeBy xs maxNodes t b [] o none)
+      ∙ ap (λ xs. givenBy xs maxNodes t (buffers b []) o)
       (enough t wf maxNodes (omega (arith, leaves-few t wf, wf .atMost))) in (
         found-only (isSpent (r′ .stage)) (spentBy (endMerit (r′ .stage)) (r′ .counts)) _ _
-            (ap (λ x. x .search .answer) e),
-        (ap (λ x. x .search .evaluated) e, ap (λ x. x .order) e),
+            (ap (λ x. x .answer .answer) e),
+        (ap (λ x. x .answer .left .marks) e, ap (λ x. x .left) e),
       )

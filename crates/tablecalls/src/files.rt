@@ -42,7 +42,7 @@ fn print_written_in(table: &[u8], room: u32, size: u32) {
 }
 
 fn print_written(table: &[u8], file: &mut [u8], size: u32)
-    ensures { λ _. ⌜ now (file .exit) ≡ writeOutcome (now (table .entry)) (now (file .entry)) .file ⌝ }
+    ensures { λ _. ⌜ now (file .exit) ≡ writeOutcome (now (table .entry)) (now (file .entry)) .left ⌝ }
 {
     let written = treefile::write(table, file);
     print_length(b"write", written);
@@ -78,7 +78,7 @@ pub fn print_output(file: &[u8], room: u32) {
 }
 
 fn print_output_in(file: &[u8], buffer: &mut [u8])
-    ensures { λ _. ⌜ now (buffer .exit) ≡ outputOutcome (now (file .entry)) (now (buffer .entry)) .file ⌝ }
+    ensures { λ _. ⌜ now (buffer .exit) ≡ outputOutcome (now (file .entry)) (now (buffer .entry)) .left ⌝ }
 {
     print_length(b"output", convert::output(file, buffer));
     print_bytes(b"text", buffer);

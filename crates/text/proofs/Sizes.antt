@@ -18,7 +18,7 @@ signedDecimal-few (pos n) = omega (arith, decimal-few 20 n)
 signedDecimal-few (negsuc n) = omega (arith, decimal-few 20 (suc n))
 
 -- a rejection's line
-pub refused-few : (r : Rejection) → length (refusedLine (r .number) (r .place)) ≤ textSize
+pub refused-few : (r : Rejection) → length (refusedLine r) ≤ textSize
 refused-few r = simp length-append (omega (arith, decimal-few 20 (r .number), decimal-few 20 (r .place)))
 
 -- what is left of zeros

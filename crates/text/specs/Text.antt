@@ -7,6 +7,7 @@ use lib.Dec.{ltb}
 use lib.IntN.{ℤ, pos, negsuc}
 use lib.ListN.{length, take, drop, replicate}
 pub use Rattle.lines.specs.Line.{lineFeed}
+use Rattle.frames.specs.declared.Rejection.{Rejection}
 use Rattle.text.specs.declared.Text.{Text}
 
 -- the text of a number in base ten, of at most so many digits
@@ -28,9 +29,10 @@ abbrev pub space : ℕ
 space = 32
 
 -- "refused", the number and the place
-abbrev pub refusedLine : ℕ → ℕ → List ℕ
-refusedLine number place =
-    114 ∷ 101 ∷ 102 ∷ 117 ∷ 115 ∷ 101 ∷ 100 ∷ space ∷ (decimal number ++ (space ∷ (decimal place ++ (lineFeed ∷ []))))
+abbrev pub refusedLine : Rejection → List ℕ
+refusedLine r =
+    114 ∷ 101 ∷ 102 ∷ 117 ∷ 115 ∷ 101 ∷ 100 ∷ space
+    ∷ (decimal (r .number) ++ (space ∷ (decimal (r .place) ++ (lineFeed ∷ []))))
 
 -- the bytes x laid into a buffer from a position on
 unfoldable pub laid : ℕ → List ℕ → List ℕ → List ℕ

@@ -27,7 +27,7 @@ pub struct Text {
 
 // The line of a rejection.
 pub fn refused(rejection: Rejection) -> Text
-    ensures { λ r. ⌜ r ≡ textOf (refusedLine (rejection .number) (rejection .place)) ⌝ }
+    ensures { λ r. ⌜ r ≡ textOf (refusedLine rejection) ⌝ }
 {
     let mut line = [0u8; TEXT_SIZE];
     let length = put_refused(&mut line, rejection);
@@ -39,8 +39,8 @@ pub fn refused(rejection: Rejection) -> Text
 
 // A rejection's line at the beginning of the text; gives the position after it.
 pub fn put_refused(text: &mut [u8], rejection: Rejection) -> usize
-    requires { ⌜ TextRoom 0 (refusedLine (rejection .number) (rejection .place)) (now text) ⌝ }
-    ensures { λ r. ⌜ Put 0 (refusedLine (rejection .number) (rejection .place)) (now (text .entry)) r
+    requires { ⌜ TextRoom 0 (refusedLine rejection) (now text) ⌝ }
+    ensures { λ r. ⌜ Put 0 (refusedLine rejection) (now (text .entry)) r
         (now (text .exit)) ⌝ }
 {
     let number = rejection.number as usize;

@@ -16,7 +16,8 @@ use Rattle.hex.specs.Digit.{noDigit, digitOf}
 use Rattle.lines.specs.Line.{allDigits, bytesOf}
 use Rattle.lines.specs.Lines.{linesOf, decode, decoded}
 use Rattle.lines.proofs.Lines.{line-digits}
-use Rattle.reader.specs.File.{eachLine, lineCheck3, fileCheck3}
+use Rattle.reader.specs.File.{eachLine, fileCheck3}
+use Rattle.reader.specs.engine.Decoded.{lineCheck3}
 use Rattle.treefile.specs.results.Saved.{Bytes}
 
 -- of a line

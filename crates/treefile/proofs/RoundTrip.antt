@@ -17,7 +17,8 @@ use Rattle.frames.proofs.Acceptance.{accepted-stated}
 use Rattle.hex.specs.Digit.{isCapitalDigit}
 use Rattle.lines.specs.Line.{lineDigits, lineFeed, lineSize}
 use Rattle.lines.specs.Lines.{linesOf, decode, decoded}
-use Rattle.reader.specs.File.{eachLine, lineCheck3, lineCheck16, AcceptedFile, readAnswer, tableAfter}
+use Rattle.reader.specs.File.{eachLine, AcceptedFile, readAnswer, tableAfter}
+use Rattle.reader.specs.engine.Decoded.{lineCheck16, lineCheck3}
 use Rattle.reader.proofs.Acceptance.{table-accepted, accepted-read}
 use Rattle.writer.specs.Encoded.{digitsOf, lineOf, encode, fileOf}
 use Rattle.writer.proofs.Laying.{digits-length, line-size, line-feed}

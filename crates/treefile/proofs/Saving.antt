@@ -15,7 +15,7 @@ use Rattle.frames.specs.Check.{Accepted}
 use Rattle.lines.specs.Line.{lineSize}
 use Rattle.reader.specs.File.{readAnswer, tableAfter}
 use Rattle.writer.specs.Encoded.{fileOf}
-use Rattle.writer.specs.Write.{writeRejection, writtenFile, writeOutcome}
+use Rattle.writer.specs.Write.{writeRejection, atFront, writeOutcome}
 use Rattle.writer.specs.declared.Written.the-variants.{Length, Rejected}
 use Rattle.writer.proofs.Questions.{passed-room, room-passed}
 use Rattle.treefile.specs.results.Saved.{Bytes, Saved}
@@ -25,11 +25,11 @@ use Rattle.treefile.proofs.RoundTrip.{written-length, written-read, wri
 pub record LengthWritten (t file : List ℕ) (x : Option Rejection) (n : ℕ) : Type 0 where
   pub passed : x ≡ none
   pub size : n ≡ length (fileOf t)
-  pub front : take n (writtenFile t file x .file) ≡ fileOf t
-  pub past : drop n (writtenFile t file x .file) ≡ drop n file
+  pub front : take n (atFront x (fileOf t) file .left) ≡ fileOf t
+  pub past : drop n (atFront x (fileOf t) file .left) ≡ drop n file
 
 module _ (t file : List ℕ) where
-  pub length-written : (x : Option Rejection) (n : ℕ) → writtenFile t file x .answer ≡ Length n
+  pub length-written : (x : Option Rejection) (n : ℕ) → atFront x (fileOf t) file .answer ≡ Length n
       → LengthWritten t file x n
   length-written none n e =
       let same : length (fileOf t) ≡ n = cc in
@@ -42,8 +42,8 @@ module _ (t file : List ℕ) where
   length-written (some r) n e = clash (cc)
 
   -- and where it gives a rejection
-  pub rejection-written : (x : Option Rejection) (r : Rejection) → writtenFile t file x .answer ≡ Rejected r
-      → (x ≡ some r) × (writtenFile t file x .file ≡ file)
+  pub rejection-written : (x : Option Rejection) (r : Rejection) → atFront x (fileOf t) file .answer ≡ Rejected r
+      → (x ≡ some r) × (atFront x (fileOf t) file .left ≡ file)
   rejection-written none r e = clash (cc)
   rejection-written (some x) r e = (cc, refl)
 
@@ -67,13 +67,13 @@ module _ (t file : List ℕ) where
 
   -- where there is a rejection, it is the first "no", and the buffer is as it was
   pub write-keeps : (r : Rejection) → writeOutcome t file .answer ≡ Rejected r
-      → (writeRejection t (length file) ≡ some r) × (writeOutcome t file .file ≡ file)
+      → (writeRejection t (length file) ≡ some r) × (writeOutcome t file .left ≡ file)
   write-keeps = rejection-written (writeRejection t (length file))
 
   -- reading the bytes that were written into any table with room restores the table exactly
   pub saved-read : (n : ℕ) → writeOutcome t file .answer ≡ Length n → Bytes t → (table : List ℕ)
       → length t ≤ length table →
-      let f = take n (writeOutcome t file .file) in
+      let f = take n (writeOutcome t file .left) in
       (readAnswer f table ≡ Nodes (frames t)) × (tableAfter f table ≡ t ++ drop (length t) table)
   saved-read n e h table room =
       let s = write-saves n e in rw (s .front) (written-read t (s .accepted) h table room)
@@ -81,7 +81,7 @@ module _ (t file : List ℕ) where
 -- two calls leave the same file only for the same table
 pub saved-once : (t u file other : List ℕ) (n m : ℕ) → writeOutcome t file .answer ≡ Length n
     → writeOutcome u other .answer ≡ Length m → Bytes t → Bytes u
-    → take n (writeOutcome t file .file) ≡ take m (writeOutcome u other .file) → t ≡ u
+    → take n (writeOutcome t file .left) ≡ take m (writeOutcome u other .left) → t ≡ u
 saved-once t u file other n m e g h k same =
     let a = write-saves t file n e in
     let b = write-saves u other m g in

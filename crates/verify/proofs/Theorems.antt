@@ -26,7 +26,7 @@ use Rattle.frames.specs.Value.{valueOf}
 use Rattle.verify.specs.declared.Verdict.the-variants.{Value}
 use Rattle.verify.specs.Flags.{ruleHolds}
 use Rattle.verify.specs.Value.{treeValue}
-use Rattle.verify.specs.Check.{check11, check12, check13, check14, treesRejection, flagsRejection}
+use Rattle.verify.specs.Check.{check11, checkTree, check14, treesRejection, flagsRejection}
 use Rattle.verify.specs.Check.{certificateRejection, judged, verdict}
 use Rattle.verify.specs.Certificate.{Certificate}
 use Rattle.verify.proofs.Rules.{rules-solve, solved-rules}
@@ -57,8 +57,8 @@ module _ (t flags : List ℕ) where
       let a = both-passed (rejection t) _ e in
       let b = both-passed (check10 (frames t) (length flags ∷ [])) _ (a .1) in
       let c = both-passed (check11 t flags) _ (b .1) in
-      let d = both-passed (check12 t flags) _ (c .1) in
-      let f = both-passed (check13 t flags) (check14 t flags) (d .1) in
+      let d = both-passed (checkTree 12 Max t flags) _ (c .1) in
+      let f = both-passed (checkTree 13 Min t flags) (check14 t flags) (d .1) in
       let wf = accepted-formed t (a .0) in
       record {
         accepted = a .0;
@@ -82,8 +82,9 @@ module _ (t flags : List ℕ) where
       passed-both (rejection t) _ (c .accepted)
       (passed-both (check10 (frames t) (length flags ∷ [])) _ (rw (le-leb _ _ (c .enough)))
       (passed-both (check11 t flags) _ (yes-each (λ i. leb (getD flags i 0) 3) 11 (λ i h. le-leb _ _ (c .inRange i h)))
-      (passed-both (check12 t flags) _ (yes-each (ruleHolds Max t flags) 12 (solved-rules Max t flags wf (p .maxTree)))
-      (passed-both (check13 t flags) (check14 t flags)
+      (passed-both (checkTree 12 Max t flags) _
+      (yes-each (ruleHolds Max t flags) 12 (solved-rules Max t flags wf (p .maxTree)))
+      (passed-both (checkTree 13 Min t flags) (check14 t flags)
       (yes-each (ruleHolds Min t flags) 13 (solved-rules Min t flags wf (p .minTree)))
       (yes-ask _ 14 0 (eq-eqb _ _ e))))))
 

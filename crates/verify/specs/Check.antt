@@ -1,6 +1,6 @@
 -- The check of a lent certificate: questions 1 to 14 in order (SPEC 4.2, 5.5).
 use Prim.Native.Nat.{ℕ}
-use mathlib.Core.Option.{Option, none, some}
+use mathlib.Core.Option.{Option}
 use mathlib.Core.List.{List, [], _∷_}
 use lib.Dec.{leb, eqb}
 use lib.ListN.{length, getD}
@@ -9,7 +9,7 @@ use Rattle.gametree.specs.declared.Side.the-variants.{Max, Min}
 use Rattle.gametree.specs.Certificate.{inBoth}
 use Rattle.frames.specs.declared.Rejection.{Rejection}
 use Rattle.frames.specs.Frame.{frames}
-use Rattle.frames.specs.Rejection.{ask, _andThen_, eachNode}
+use Rattle.frames.specs.Rejection.{ask, _andThen_, eachNode, unless}
 use Rattle.frames.specs.Check.{rejection, check10}
 use Rattle.frames.specs.Value.{valueOf}
 use Rattle.verify.specs.declared.Verdict.{Verdict}
@@ -21,17 +21,10 @@ use Rattle.verify.specs.Value.{treeValue}
 abbrev pub check11 : List ℕ → List ℕ → Option Rejection
 check11 t flags = eachNode (λ i. ask (leb (getD flags i 0) inBoth) 11 i) 0 (frames t)
 
--- do side p's flags form a solution tree, as question q? The place of a "no" is the lowest node whose rule breaks.
+-- 12 of Max and 13 of Min: do side p's flags form a solution tree, as question q? The place of a "no" is the lowest
+-- node whose rule breaks.
 abbrev pub checkTree : ℕ → Side → List ℕ → List ℕ → Option Rejection
 checkTree q p t flags = eachNode (λ i. ask (ruleHolds p t flags i) q i) 0 (frames t)
-
--- 12: do the max flags form a max solution tree?
-abbrev pub check12 : List ℕ → List ℕ → Option Rejection
-check12 t flags = checkTree 12 Max t flags
-
--- 13: the same for the min flags
-abbrev pub check13 : List ℕ → List ℕ → Option Rejection
-check13 t flags = checkTree 13 Min t flags
 
 -- 14: are both values equal?
 abbrev pub check14 : List ℕ → List ℕ → Option Rejection
@@ -39,7 +32,7 @@ check14 t flags = ask (eqb (treeValue Max t flags) (treeValue Min t flags)) 14 0
 
 -- the first "no" to questions 12 to 14, which concern the two trees
 unfoldable pub treesRejection : List ℕ → List ℕ → Option Rejection
-treesRejection t flags = check12 t flags andThen check13 t flags andThen check14 t flags
+treesRejection t flags = checkTree 12 Max t flags andThen checkTree 13 Min t flags andThen check14 t flags
 
 -- the first "no" to questions 10 to 14, which concern the flags
 unfoldable pub flagsRejection : List ℕ → List ℕ → Option Rejection
@@ -52,8 +45,7 @@ certificateRejection t flags = rejection t andThen flagsRejection t flags
 
 -- the value of the max tree, unless there is a rejection
 abbrev pub judged : List ℕ → List ℕ → Option Rejection → Verdict
-judged t flags none = Value (valueOf (treeValue Max t flags))
-judged t flags (some r) = Rejected r
+judged t flags q = unless q Rejected (Value (valueOf (treeValue Max t flags)))
 
 -- the answer of the check of a certificate
 unfoldable pub verdict : List ℕ → List ℕ → Verdict

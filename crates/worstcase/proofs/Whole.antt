@@ -10,15 +10,17 @@ use Rattle.gametree.specs.declared.Side.the-variants.{Max}
 use Rattle.gametree.specs.Tree.{leaves}
 use Rattle.gametree.proofs.minimax.Counts.{leaves-size}
 use Rattle.frames.specs.declared.Rejection.{Rejection}
+use Rattle.frames.specs.Rejection.{unless, Outcome, _leaving_}
 use Rattle.frames.specs.declared.Checked.the-variants as checked-answer
 use Rattle.frames.specs.Tree.{tree}
 use Rattle.frames.specs.Check.{rejection, Accepted, checked}
 use Rattle.frames.proofs.Acceptance.{accepted-formed, nodes-accepted, rejected-first}
 use Rattle.frames.proofs.Positions.{position-root}
 use Rattle.frames.proofs.Totals.{tree-size}
+use Rattle.worstcase.specs.declared.Filled.{Filled}
 use Rattle.worstcase.specs.declared.Filled.the-variants.{Leaves, Rejected}
 use Rattle.worstcase.specs.Ranks.{ranked, worstCase}
-use Rattle.worstcase.specs.Outcome.{filling, fillOutcome}
+use Rattle.worstcase.specs.Outcome.{fillOutcome}
 use Rattle.worstcase.specs.engine.Fillable.{Fillable}
 
 module _ (t : List ℕ) where
@@ -40,35 +42,38 @@ module _ (t : List ℕ) where
 
     -- and what the recursion gives is the outcome
     pub fill-gives : (x : ℕ) (u : List ℕ) → x ≡ 0 + length (leaves (tree t)) → u ≡ ranked 0 (tree t) t
-        → record { answer = Leaves x; table = u } ≡ fillOutcome t
+        → Leaves x leaving u ≡ fillOutcome t
     unfolding worstCase
     fill-gives x u p q =
         let z : x ≡ length (leaves (tree t)) = omega arith in rw (nodes-accepted t n e .0, z, q)
 
   -- a rejection leaves the table
   pub fill-refused : (r : Rejection) → checked-answer.Rejected r ≡ checked t
-      → record { answer = Rejected r; table = t } ≡ fillOutcome t
+      → Rejected r leaving t ≡ fillOutcome t
   fill-refused r e = rw (rejected-first t r e)
 
   -- what a number of leaves for an answer says, and what a rejection
-  given-parts : (q : Option Rejection) (n : ℕ) → filling t q .answer ≡ Leaves n
-      → (q ≡ none) × (n ≡ length (leaves (tree t))) × (filling t q .table ≡ worstCase t)
+  abbrev outcomeBy : Option Rejection → Outcome Filled (List ℕ)
+  outcomeBy q = unless q (λ r. Rejected r leaving t) (Leaves (length (leaves (tree t))) leaving worstCase t)
+
+  given-parts : (q : Option Rejection) (n : ℕ) → outcomeBy q .answer ≡ Leaves n
+      → (q ≡ none) × (n ≡ length (leaves (tree t))) × (outcomeBy q .left ≡ worstCase t)
   given-parts none n e = (refl, cc, refl)
   given-parts (some r) n e = clash (cc)
 
-  refused-parts : (q : Option Rejection) (r : Rejection) → filling t q .answer ≡ Rejected r
-      → (q ≡ some r) × (filling t q .table ≡ t)
+  refused-parts : (q : Option Rejection) (r : Rejection) → outcomeBy q .answer ≡ Rejected r
+      → (q ≡ some r) × (outcomeBy q .left ≡ t)
   refused-parts none r e = clash (cc)
   refused-parts (some x) r e = (cc, refl)
 
   pub fill-given : (n : ℕ) → fillOutcome t .answer ≡ Leaves n
-      → Accepted t × (n ≡ length (leaves (tree t))) × (fillOutcome t .table ≡ worstCase t)
+      → Accepted t × (n ≡ length (leaves (tree t))) × (fillOutcome t .left ≡ worstCase t)
   fill-given n e = given-parts (rejection t) n e
 
   pub fill-kept : (r : Rejection) → fillOutcome t .answer ≡ Rejected r
-      → (rejection t ≡ some r) × (fillOutcome t .table ≡ t)
+      → (rejection t ≡ some r) × (fillOutcome t .left ≡ t)
   fill-kept r e = refused-parts (rejection t) r e
 
   -- an accepted table is filled
-  pub fill-accepted : Accepted t → fillOutcome t ≡ filling t none
-  fill-accepted a = ap (filling t) a
+  pub fill-accepted : Accepted t → fillOutcome t ≡ Leaves (length (leaves (tree t))) leaving worstCase t
+  fill-accepted a = ap outcomeBy a

@@ -14,6 +14,7 @@ ghost use lib.ListN.{length};
 ghost use Rattle.gametree.specs.Tree.{leaves};
 ghost use Rattle.frames.specs.Frame.{maxNodes, frames, twoBytes};
 ghost use Rattle.frames.specs.Tree.{treeAt};
+ghost use Rattle.frames.specs.Rejection.{_leaving_};
 ghost use Rattle.worstcase.specs.Ranks.{withRank, ranked};
 ghost use Rattle.worstcase.specs.Outcome.{fillOutcome};
 ghost use Rattle.worstcase.specs.engine.Fillable.{Fillable, nthChild};
@@ -27,7 +28,7 @@ pub enum Filled {
 // Writes each leaf's rank into the lent table, in blocks that rise from left to right at Max and fall at Min: the
 // number of leaves, or the first rejection, and then the table is as it was.
 pub fn fill(table: &mut [u8]) -> Filled
-    ensures { λ r. ⌜ record { answer = r; table = now (table .exit) } ≡ fillOutcome (now (table .entry)) ⌝ }
+    ensures { λ r. ⌜ r leaving now (table .exit) ≡ fillOutcome (now (table .entry)) ⌝ }
 {
     match check(table) {
         Checked::Nodes(_) => Filled::Leaves(fill_node(table, 0, Side::Max, 0)),

@@ -40,19 +40,19 @@ module _ (t : List ℕ) where
   module _ (file : List ℕ) where
     -- the table is rejected
     pub table-refused : (r : Rejection) → Rejected r ≡ checked t
-        → record { answer = RejectedWrite r; file = file } ≡ writeOutcome t file
+        → record { answer = RejectedWrite r; left = file } ≡ writeOutcome t file
     unfolding writeRejection
     table-refused r e = rw (answer-rejected (frames t) r (rejection t) e)
 
     module _ (e : Accepted t) (n : ℕ) (q : n ≡ frames t) where
       -- the buffer is too short
       pub buffer-short : length file < lineSize * n
-          → record { answer = RejectedWrite (record { number = 10; place = 0 }); file = file } ≡ writeOutcome t file
+          → record { answer = RejectedWrite (record { number = 10; place = 0 }); left = file } ≡ writeOutcome t file
       unfolding writeRejection
       buffer-short h = rw (e, ← q, lt-leb (lineSize * n) (length file) h)
 
       -- the file is written
       pub file-written : (after : List ℕ) → lineSize * n ≤ length file
           → after ≡ encode n t ++ drop (lineSize * n) file
-          → record { answer = Length (lineSize * n); file = after } ≡ writeOutcome t file
+          → record { answer = Length (lineSize * n); left = after } ≡ writeOutcome t file
       file-written after h g = rw (room-passed (length file) e (omega (arith, q)), g, file-length e, q)

@@ -1,12 +1,12 @@
 -- The writer of a file: its questions in order, its answer, and what it leaves in the lent buffer.
 use Prim.Native.Nat.{ℕ, _*_}
-use mathlib.Core.Option.{Option, none, some}
+use mathlib.Core.Option.{Option}
 use mathlib.Core.List.{List, _++_}
 use lib.Dec.{leb}
 use lib.ListN.{length, drop}
 use Rattle.frames.specs.declared.Rejection.{Rejection}
 use Rattle.frames.specs.Frame.{frames}
-use Rattle.frames.specs.Rejection.{ask, _andThen_}
+use Rattle.frames.specs.Rejection.{ask, _andThen_, unless, Outcome, _leaving_}
 use Rattle.frames.specs.Check.{rejection}
 use Rattle.lines.specs.Line.{lineSize}
 use Rattle.writer.specs.Encoded.{fileOf}
@@ -21,20 +21,13 @@ writeCheck10 t room = ask (leb (lineSize * frames t) room) 10 0
 unfoldable pub writeRejection : List ℕ → ℕ → Option Rejection
 writeRejection t room = rejection t andThen writeCheck10 t room
 
--- what the writer answers, and what the lent buffer holds then
-pub record WriteResult : Type 0 where
-  pub answer : Written
-  pub file : List ℕ
+-- bytes at a buffer's front, with what it held past them, and their length; on a "no" the buffer as it was
+abbrev pub atFront : Option Rejection → (bytes buffer : List ℕ) → Outcome Written (List ℕ)
+atFront q x b = unless q (λ r. Rejected r leaving b) (Length (length x) leaving (x ++ drop (length x) b))
 
--- the file of the table at the buffer's front, with what it held past the file; on a rejection the buffer as it was
-abbrev pub writtenFile : List ℕ → List ℕ → Option Rejection → WriteResult
-writtenFile t file none =
-    record { answer = Length (length (fileOf t)); file = fileOf t ++ drop (length (fileOf t)) file }
-writtenFile t file (some r) = record { answer = Rejected r; file = file }
-
--- the outcome of a call with a table and a buffer
-abbrev pub writeOutcome : List ℕ → List ℕ → WriteResult
-writeOutcome t file = writtenFile t file (writeRejection t (length file))
+-- the outcome of a call with a table and a buffer: the file of the table
+abbrev pub writeOutcome : List ℕ → List ℕ → Outcome Written (List ℕ)
+writeOutcome t file = atFront (writeRejection t (length file)) (fileOf t) file
 
 -- the length that is given, 0 on a rejection
 abbrev pub lengthGiven : Written → ℕ

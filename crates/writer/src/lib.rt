@@ -14,6 +14,7 @@ ghost use mathlib.Core.List.{_++_};
 ghost use Prim.Native.Nat.{_*_, _≤_};
 ghost use lib.ListN.{length, drop};
 ghost use Rattle.frames.specs.Frame.{frameSize, maxNodes, frames};
+ghost use Rattle.frames.specs.Rejection.{_leaving_};
 ghost use Rattle.frames.specs.Check.{Accepted};
 ghost use Rattle.lines.specs.Line.{lineSize};
 ghost use Rattle.writer.specs.Encoded.{lineOf, encode};
@@ -28,8 +29,7 @@ pub enum Written {
 // Writes the file of an accepted table, in capital letters and with every line closed: its length in bytes, or the
 // first rejection, and then the buffer is as it was.
 pub fn write(table: &[u8], file: &mut [u8]) -> Written
-    ensures { λ r. ⌜ record { answer = r; file = now (file .exit) }
-        ≡ writeOutcome (now (table .entry)) (now (file .entry)) ⌝ }
+    ensures { λ r. ⌜ r leaving now (file .exit) ≡ writeOutcome (now (table .entry)) (now (file .entry)) ⌝ }
 {
     match check(table) {
         Checked::Nodes(nodes) => write_accepted(table, file, nodes),
@@ -50,8 +50,7 @@ pub fn length_given(written: Written) -> usize
 // The same for an accepted table of so many nodes: only question 10 is still to be asked.
 pub fn write_accepted(table: &[u8], file: &mut [u8], nodes: usize) -> Written
     requires { ⌜ (Accepted (now table)) × (nodes ≡ frames (now table)) ⌝ }
-    ensures { λ r. ⌜ record { answer = r; file = now (file .exit) }
-        ≡ writeOutcome (now (table .entry)) (now (file .entry)) ⌝ }
+    ensures { λ r. ⌜ r leaving now (file .exit) ≡ writeOutcome (now (table .entry)) (now (file .entry)) ⌝ }
 {
     if file.len() < LINE_SIZE * nodes {
         return Written::Rejected(Rejection {

@@ -1,7 +1,7 @@
 -- `buulset::buulset_alphabeta` meets its contract: what the call that it makes gives, flat.
 use borrow.Author.Needs.{needs}
 use Rattle.flat.specs.Flat.{flatAlphaBeta}
-use Rattle.buulset.proofs.Listing.{handed-on}
+use Rattle.buulset.proofs.Listing.{list-handed-on}
 use Rattle.buulset.proofs.buulset_alphabeta.Statement.{statement}
 use Rattle.buulset.proofs.buulset_alphabeta.Tie as tie
 
@@ -22,7 +22,7 @@ same-length-3 c = search needs
 
 returns : tie.Need-returns
 returns c =
-    handed-on flatAlphaBeta _ _ _ _ _ _ (c .flat-alphabeta .ensures)
+    list-handed-on flatAlphaBeta _ _ _ _ _ (c .flat-alphabeta .ensures)
     (c .before .before .before .before .before .before .before .search .ensures)
 
 pub buulset-alphabeta-spec : {M : Type 1} → statement M

@@ -1,7 +1,7 @@
 -- `buulset::buulset_mtd` meets its contract: what the call that it makes gives, flat.
 use borrow.Author.Needs.{needs}
 use Rattle.flat.specs.Flat.{flatMtd}
-use Rattle.buulset.proofs.Listing.{handed-on}
+use Rattle.buulset.proofs.Listing.{list-handed-on}
 use Rattle.buulset.proofs.buulset_mtd.Statement.{statement}
 use Rattle.buulset.proofs.buulset_mtd.Tie as tie
 
@@ -22,7 +22,7 @@ same-length-3 c = search needs
 
 returns : tie.Need-returns
 returns c =
-    handed-on flatMtd _ _ _ _ _ _ (c .flat-mtd .ensures)
+    list-handed-on flatMtd _ _ _ _ _ (c .flat-mtd .ensures)
     (c .before .before .before .before .before .before .before .search .ensures)
 
 pub buulset-mtd-spec : {M : Type 1} → statement M

@@ -1,7 +1,7 @@
 -- `buulset::buulset_sss` meets its contract: what the call that it makes gives, flat.
 use borrow.Author.Needs.{needs}
 use Rattle.flat.specs.Flat.{flatSss}
-use Rattle.buulset.proofs.Listing.{handed-on}
+use Rattle.buulset.proofs.Listing.{list-handed-on}
 use Rattle.buulset.proofs.buulset_sss.Statement.{statement}
 use Rattle.buulset.proofs.buulset_sss.Tie as tie
 
@@ -22,7 +22,7 @@ same-length-3 c = search needs
 
 returns : tie.Need-returns
 returns c =
-    handed-on flatSss _ _ _ _ _ _ (c .flat-sss .ensures)
+    list-handed-on flatSss _ _ _ _ _ (c .flat-sss .ensures)
     (c .before .before .before .before .before .before .before .solve .ensures)
 
 pub buulset-sss-spec : {M : Type 1} → statement M

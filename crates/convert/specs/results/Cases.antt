@@ -3,7 +3,8 @@ use Prim.Native.Nat.{ℕ}
 use Prim.Native.String.{String}
 use mathlib.Core.List.{List, [], _∷_, _++_}
 use Rattle.lines.specs.results.Text.{text}
-use Rattle.writer.specs.Write.{WriteResult}
+use Rattle.frames.specs.Rejection.{Outcome, _leaving_}
+use Rattle.writer.specs.declared.Written.{Written}
 use Rattle.writer.specs.declared.Written.the-variants.{Length, Rejected}
 use Rattle.convert.specs.Convert.{convertOutcome}
 
@@ -11,7 +12,7 @@ use Rattle.convert.specs.Convert.{convertOutcome}
 pub record Case : Type 0 where
   pub file : String
   pub buffer : String
-  pub outcome : WriteResult
+  pub outcome : Outcome Written (List ℕ)
 
 -- the case as the definitions have it
 abbrev pub computed : Case → Case
@@ -28,7 +29,7 @@ converted f length new =
     record {
       file = f;
       buffer = "...............";
-      outcome = record { answer = Length length; file = text new ++ text ".." };
+      outcome = Length length leaving (text new ++ text "..");
     }
 
 -- a file that is still rejected, with this number and place
@@ -37,7 +38,7 @@ refused f buffer q p =
     record {
       file = f;
       buffer = buffer;
-      outcome = record { answer = Rejected (record { number = q; place = p }); file = text buffer };
+      outcome = Rejected (record { number = q; place = p }) leaving text buffer;
     }
 
 -- the cases that proofs/Cases.antt computes

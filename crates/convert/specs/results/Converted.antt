@@ -23,5 +23,5 @@ baseRejection f = check1 f andThen fileCheck2 f andThen fileCheck3 f andThen fra
 pub record Converted (f buffer : List ℕ) (n : ℕ) : Type 0 where
   pub accepted : Accepted (decoded f)
   pub size : n ≡ lineSize * frames (decoded f)
-  pub front : take n (convertOutcome f buffer .file) ≡ fileOf (decoded f)
-  pub past : drop n (convertOutcome f buffer .file) ≡ drop n buffer
+  pub front : take n (convertOutcome f buffer .left) ≡ fileOf (decoded f)
+  pub past : drop n (convertOutcome f buffer .left) ≡ drop n buffer

@@ -5,6 +5,7 @@ use mathlib.Core.List.{List, [], _∷_, _++_}
 use lib.IntN.{pos, negℤ}
 use lib.ListN.{replicate}
 use Rattle.frames.specs.results.Cases.{leafFrame, innerFrame, againFrame, small, capture}
+use Rattle.certificate.specs.Search.{buffers}
 use Rattle.alphabeta.specs.Outcome.{alphaBetaOutcome}
 use Rattle.mtd.specs.Outcome.{mtdOutcome}
 use Rattle.states.specs.Entry.{blank}
@@ -103,9 +104,9 @@ pub record StoppedRow : Type 0 where
 
 abbrev pub stoppedAt : ℕ → StoppedRow
 stoppedAt n =
-    let buffer : List ℕ = replicate 7 0 in
-    let s = sssOutcome n (small 2 3 4 1) (replicate 7 blank) buffer buffer (replicate 7 9) in
-    record { gives = bySss (s .search .answer); order = s .order }
+    let b = buffers (replicate 7 0) (replicate 7 0) in
+    let s = sssOutcome n (small 2 3 4 1) (replicate 7 blank) b (replicate 7 9) .answer in
+    record { gives = bySss (s .answer .answer); order = s .left }
 
 abbrev stoppedRow : Given → List ℕ → StoppedRow
 stoppedRow g o = record { gives = g; order = o }
@@ -124,9 +125,9 @@ stoppedRows =
 abbrev pub withEntries : ℕ → List Given
 withEntries n =
     let t = small 2 3 4 1 in
-    let buffer : List ℕ = replicate 7 0 in
-    byAlphaBeta (alphaBetaOutcome t buffer buffer (replicate n 0) .search .answer)
-    ∷ byMtd (mtdOutcome t buffer buffer (replicate n 0) .search .answer)
-    ∷ bySss (sssOutcome 7 t (replicate 7 blank) buffer buffer (replicate n 0) .search .answer)
-    ∷ bySss (solveOutcome 7 t buffer buffer (replicate n 0) .search .answer)
+    let b = buffers (replicate 7 0) (replicate 7 0) in
+    byAlphaBeta (alphaBetaOutcome t b (replicate n 0) .answer .answer)
+    ∷ byMtd (mtdOutcome t b (replicate n 0) .answer .answer)
+    ∷ bySss (sssOutcome 7 t (replicate 7 blank) b (replicate n 0) .answer .answer .answer)
+    ∷ bySss (solveOutcome 7 t b (replicate n 0) .answer .answer)
     ∷ []

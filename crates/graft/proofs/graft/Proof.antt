@@ -11,7 +11,7 @@ returns c =
     let g = c .enum-told .given .1 in
     let k = c .before .before in
     let a = k .before .before .before .before .args in
-    ap (λ x. record { answer = x; result = a .result .now }) g
+    ap (λ x. record { answer = x; left = a .result .now }) g
     ∙ graft-rejected (a .first .now) (a .node) (a .second .now) (a .result .now) _ (rw g at (k .ask .ensures))
 
 write-frames-requires : tie.Need-write-frames-requires

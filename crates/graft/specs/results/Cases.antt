@@ -2,9 +2,10 @@
 use Prim.Native.Nat.{ℕ, zero, suc, _+_}
 use mathlib.Core.List.{List, [], _∷_, _++_}
 use lib.ListN.{replicate}
+use Rattle.frames.specs.declared.Checked.{Checked}
 use Rattle.frames.specs.declared.Checked.the-variants.{Nodes, Rejected}
+use Rattle.frames.specs.Rejection.{Outcome, _leaving_}
 use Rattle.frames.specs.results.Cases.{leafFrame, innerFrame, leaves, chain, small, lone, single}
-use Rattle.graft.specs.Outcome.{GraftResult}
 
 -- a root with two leaves of these values
 abbrev pub pair : ℕ → ℕ → List ℕ
@@ -41,7 +42,7 @@ pub record Case : Type 0 where
   pub node : ℕ
   pub second : List ℕ
   pub room : ℕ
-  pub outcome : GraftResult
+  pub outcome : Outcome Checked (List ℕ)
 
 -- a result: the number of nodes and the table, with so many bytes of the buffer behind it
 abbrev pub gives : List ℕ → ℕ → List ℕ → ℕ → ℕ → List ℕ → ℕ → Case
@@ -51,7 +52,7 @@ gives t k u room n table rest =
       node = k;
       second = u;
       room = room;
-      outcome = record { answer = Nodes n; result = table ++ buffer rest };
+      outcome = Nodes n leaving (table ++ buffer rest);
     }
 
 -- a rejection: number and place, with the buffer as it was
@@ -62,7 +63,7 @@ refuses t k u room q p =
       node = k;
       second = u;
       room = room;
-      outcome = record { answer = Rejected (record { number = q; place = p }); result = buffer room };
+      outcome = Rejected (record { number = q; place = p }) leaving buffer room;
     }
 
 abbrev pub given : List Case

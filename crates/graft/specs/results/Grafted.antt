@@ -23,4 +23,4 @@ graftValue t k u = minimax (substituted (valuation t) k (minimax (valuationFrom 
 
 -- the table of n nodes at the buffer's front after a call
 abbrev pub handed : (t : List ℕ) (k : ℕ) (u b : List ℕ) (n : ℕ) → List ℕ
-handed t k u b n = take (frameSize * n) (graftOutcome t k u b .result)
+handed t k u b n = take (frameSize * n) (graftOutcome t k u b .left)

@@ -7,8 +7,7 @@ use lib.Dec.{ltb}
 use borrow.Author.Tests.{lt-ltb, le-ltb}
 use borrow.Author.Needs.{needs}
 use Rattle.gametree.specs.Tree.{least, greatest}
-use Rattle.leafvalue.specs.LeastValue.{firstScore}
-use Rattle.leafvalue.specs.engine.Candidates.{reaches, candidate}
+use Rattle.leafvalue.specs.engine.Candidates.{firstScore, reaches, candidate}
 use Rattle.leafvalue.proofs.candidate.Statement.{statement}
 use Rattle.leafvalue.proofs.candidate.Tie as tie
 

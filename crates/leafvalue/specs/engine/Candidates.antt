@@ -7,7 +7,13 @@ use lib.Dec.{ltb, eqb}
 use Rattle.gametree.specs.Tree.{least, greatest}
 use Rattle.gametree.specs.AlphaBeta.{clamp}
 use Rattle.frames.specs.Tree.{leafScore}
-use Rattle.leafvalue.specs.LeastValue.{firstScore}
+
+-- the scores of the values from -32,000 to 32,000: the first, and how many there are
+abbrev pub firstScore : ℕ
+firstScore = 1
+
+abbrev pub scoreCount : ℕ
+scoreCount = 64001
 
 -- does the root get the score w from the score s at a leaf at depth d, where l is its score for the least and u for the
 -- greatest score of that leaf?

@@ -1,15 +1,23 @@
 -- `least_leaves` meets its contract: one law for each of its returns.
-use Prim.Native.Nat.{_≤_, _<_}
+use Prim.Native.Nat.{ℕ, _≤_, _<_}
 use native.Mathlib.Omega.{arith}
 use mathlib.Core.Path.{sym, ap, ap₂, _∙_}
+use mathlib.Core.Option.{Option}
 use mathlib.Core.Logic.{inl, inr, ⊎-elim}
 use borrow.Author.Tests.{ltb-true, ltb-false}
 use borrow.Author.Needs.{needs}
+use Rattle.frames.specs.declared.Rejection.{Rejection}
 use Rattle.frames.specs.Frame.{maxChildren}
-use Rattle.leastcount.specs.Answer.{leastGiven}
+use Rattle.frames.specs.Rejection.{unless}
+use Rattle.leastcount.specs.declared.Least.{Least}
+use Rattle.leastcount.specs.declared.Least.the-variants.{Leaves, Rejected}
+use Rattle.leastcount.specs.Rule.{leastCount}
 use Rattle.leastcount.proofs.Questions.{wrong-width, wrong-depth, inside-table}
 use Rattle.leastcount.proofs.least_leaves.Statement.{statement}
 use Rattle.leastcount.proofs.least_leaves.Tie as tie
+
+abbrev given : (width depth : ℕ) → Option Rejection → Least
+given w d q = unless q Rejected (Leaves (leastCount w d))
 
 -- the width is inside the table once 22 has passed
 width-inside : (e : tie.Else2) → (0 < e .before .before .args .width) × (e .before .before .args .width ≤ maxChildren)
@@ -19,7 +27,7 @@ returns : tie.Need-returns
 returns c =
     let g = c .before .before .args in
     c .rejected .ensures
-    ∙ ap (leastGiven _) (sym (wrong-width (g .width) (g .depth)
+    ∙ ap (given (g .width) (g .depth)) (sym (wrong-width (g .width) (g .depth)
     (⊎-elim (λ x. inl (x .taken)) (λ x. inr (omega (arith, ltb-true))) (c .before .if1 .came))))
 
 returns-2 : tie.Need-returns-2
@@ -28,7 +36,7 @@ returns-2 c =
     let g = e .before .before .args in
     let w = width-inside e in
     c .rejected2 .ensures
-    ∙ ap (leastGiven _) (sym (wrong-depth (g .width) (g .depth) (w .0) (w .1) (omega arith)))
+    ∙ ap (given (g .width) (g .depth)) (sym (wrong-depth (g .width) (g .depth) (w .0) (w .1) (omega arith)))
 
 entry-requires : tie.Need-entry-requires
 entry-requires c κs = let w = width-inside (c .before) in (w .0, w .1, omega arith)
@@ -38,7 +46,7 @@ returns-3 c =
     let e = c .before .before in
     let g = e .before .before .args in
     let w = width-inside e in
-    ap₂ leastGiven (c .entry .ensures)
+    ap₂ (λ n q. unless q Rejected (Leaves n)) (c .entry .ensures)
     (sym (inside-table (g .width) (g .depth) (w .0) (w .1) (omega arith)))
 
 pub least-leaves-spec : {M : Type 1} → statement M

@@ -1,14 +1,16 @@
 -- `mtd::search` meets its contract: the questions are answered, and then the search is run or nothing is done.
 use Prim.Native.Nat.{ℕ}
-use mathlib.Core.Path.{_≡_, sym, _∙_}
+use mathlib.Core.Path.{_≡_, sym, ap, _∙_}
 use mathlib.Core.List.{List, [], _∷_}
 use lib.ListN.{length}
 use borrow.Author.Needs.{needs}
-use Rattle.certificate.specs.Search.{Search}
+use Rattle.frames.specs.declared.Rejection.{Rejection}
+use Rattle.frames.specs.Rejection.{_leaving_}
+use Rattle.certificate.specs.Search.{buffers, SearchOutcome}
 use Rattle.certificate.proofs.Questions.{asked, nodes-long-enough, of-least}
-use Rattle.certificate.proofs.Outcomes.{finds, refuses}
+use Rattle.certificate.proofs.Outcomes.{finding, rejecting, alike}
+use Rattle.mtd.specs.declared.MtdAnswer.{MtdAnswer}
 use Rattle.mtd.specs.declared.MtdAnswer.the-variants.{Found, Rejected}
-use Rattle.mtd.specs.Outcome.{mtdFound, mtdSearch}
 use Rattle.mtd.proofs.search.Statement.{statement}
 use Rattle.mtd.proofs.search.Tie as tie
 
@@ -16,11 +18,11 @@ use Rattle.mtd.proofs.search.Tie as tie
 abbrev start : tie.After-ask → tie.Start
 start c = c .before .before .before .before .before .before .before
 
--- the search
-abbrev searching : tie.After-ask → Search
-searching c =
+-- what is given and left on a rejection
+abbrev refused : tie.After-ask → Rejection → SearchOutcome MtdAnswer
+refused c r =
     let a = start c .args in
-    mtdSearch (a .table .now) (a .evaluated .now) (a .certificate .now)
+    Rejected r leaving buffers (a .evaluated .now) (a .certificate .now) leaving a .order .now
 
 -- the lengths of which question 10 asks
 abbrev lengths : tie.After-ask → List ℕ
@@ -45,16 +47,15 @@ returns c =
     let f = c .before .before .before .before .before .before in
     let k = f .before .before .before .before in
     let q = k .before .before in
-    let s = searching q in
-    finds Rejected Found (mtdFound (s .table)) s (start q .args .order .now) _ (sym (k .enum-told .given .1) ∙ told q)
-    (f .run .ensures)
+    let r = f .run .ensures in
+    finding (start q .args .table .now) (lengths q) (refused q) _ _ _ (sym (k .enum-told .given .1) ∙ told q)
+    (alike (ap Found (r .0)) (r .1 .0) (r .1 .1 .0) (r .1 .1 .1))
 
 returns-2 : tie.Need-returns-2
 returns-2 c =
-    let q = c .before .before .before in
-    let s = searching q in
-    refuses Rejected Found (mtdFound (s .table)) s (start q .args .order .now) _
-    (sym (c .before .rejection .given .1) ∙ told q)
+    let k = c .before in
+    let q = k .before .before in
+    rejecting (start q .args .table .now) (lengths q) (refused q) _ _ (sym (k .rejection .given .1) ∙ told q)
 
 pub search-spec : {M : Type 1} → statement M
 search-spec =

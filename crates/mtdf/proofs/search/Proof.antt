@@ -1,16 +1,19 @@
 -- `mtdf::search` meets its contract: the questions are answered, and then the search is run or nothing is done.
 use Prim.Native.Nat.{ℕ}
-use mathlib.Core.Path.{_≡_, sym, ap, ap₂, _∙_}
+use mathlib.Core.Path.{_≡_, sym, ap, _∙_}
 use mathlib.Core.List.{List, [], _∷_}
 use lib.ListN.{length}
 use mir.Syntax.{w32}
 use mir.ValLaws.{toZ-ofZ}
 use borrow.Author.Needs.{needs}
-use Rattle.certificate.specs.Search.{Search}
+use Rattle.frames.specs.declared.Rejection.{Rejection}
+use Rattle.frames.specs.Rejection.{_leaving_}
+use Rattle.certificate.specs.Search.{buffers, SearchOutcome}
 use Rattle.certificate.proofs.Questions.{asked, nodes-long-enough, of-lesser}
-use Rattle.certificate.proofs.Outcomes.{finding, rejecting, listing, not-listing}
+use Rattle.certificate.proofs.Outcomes.{finding, rejecting, alike}
+use Rattle.mtdf.specs.declared.MtdfAnswer.{MtdfAnswer}
 use Rattle.mtdf.specs.declared.MtdfAnswer.the-variants.{Found, Rejected}
-use Rattle.mtdf.specs.Outcome.{startScore, mtdfFound, mtdfSearch}
+use Rattle.mtdf.specs.Outcome.{startScore}
 use Rattle.mtdf.proofs.search.Statement.{statement}
 use Rattle.mtdf.proofs.search.Tie as tie
 
@@ -18,11 +21,11 @@ use Rattle.mtdf.proofs.search.Tie as tie
 abbrev start : tie.After-ask → tie.Start
 start c = c .before .before .before .before .before .before .before
 
--- the search
-abbrev searching : tie.After-ask → Search
-searching c =
+-- what is given and left on a rejection
+abbrev refused : tie.After-ask → Rejection → SearchOutcome MtdfAnswer
+refused c r =
     let a = start c .args in
-    mtdfSearch (startScore (a .start)) (a .table .now) (a .evaluated .now) (a .certificate .now)
+    Rejected r leaving buffers (a .evaluated .now) (a .certificate .now) leaving a .order .now
 
 -- the lengths of which question 10 asks
 abbrev lengths : tie.After-ask → List ℕ
@@ -88,24 +91,15 @@ returns c =
     let g = f .before .before .before .before in
     let k = g .before in
     let q = k .before .before in
-    let s = searching q in
-    let found = Found (mtdfFound (startScore (start q .args .start)) (s .table)) in
-    let nodes = sym (k .enum-told .given .1) ∙ told q in
     let r = rw (guess g) at (f .run .ensures) in
-    ap₂ (λ x y. record { order = x; search = y })
-    (listing Rejected found s (lengths q) _ _ _ nodes (r .1 .1 .1))
-    (finding Rejected found s (lengths q) _ _ _ _ nodes (ap Found (r .0)) (r .1 .0) (r .1 .1 .0))
+    finding (start q .args .table .now) (lengths q) (refused q) _ _ _ (sym (k .enum-told .given .1) ∙ told q)
+    (alike (ap Found (r .0)) (r .1 .0) (r .1 .1 .0) (r .1 .1 .1))
 
 returns-2 : tie.Need-returns-2
 returns-2 c =
     let k = c .before in
     let q = k .before .before in
-    let s = searching q in
-    let found = Found (mtdfFound (startScore (start q .args .start)) (s .table)) in
-    let refused = sym (k .rejection .given .1) ∙ told q in
-    ap₂ (λ x y. record { order = x; search = y })
-    (not-listing Rejected found s (lengths q) _ (start q .args .order .now) refused)
-    (rejecting Rejected found s (lengths q) _ refused)
+    rejecting (start q .args .table .now) (lengths q) (refused q) _ _ (sym (k .rejection .given .1) ∙ told q)
 
 pub search-spec : {M : Type 1} → statement M
 search-spec =

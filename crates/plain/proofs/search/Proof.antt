@@ -4,11 +4,13 @@ use mathlib.Core.Path.{_≡_, sym, ap, _∙_}
 use mathlib.Core.List.{List, [], _∷_}
 use lib.ListN.{length}
 use borrow.Author.Needs.{needs}
-use Rattle.certificate.specs.Search.{Search}
+use Rattle.frames.specs.declared.Rejection.{Rejection}
+use Rattle.frames.specs.Rejection.{Outcome, _leaving_}
+use Rattle.certificate.specs.Search.{Buffers, buffers}
 use Rattle.certificate.proofs.Questions.{asked, of-lesser}
-use Rattle.certificate.proofs.Outcomes.{finding, rejecting}
+use Rattle.certificate.proofs.Outcomes.{finding, rejecting, both-alike}
+use Rattle.plain.specs.declared.PlainAnswer.{PlainAnswer}
 use Rattle.plain.specs.declared.PlainAnswer.the-variants.{Found, Rejected}
-use Rattle.plain.specs.Outcome.{plainFound, plainSearch}
 use Rattle.plain.proofs.Whole.{may-run}
 use Rattle.plain.proofs.search.Statement.{statement}
 use Rattle.plain.proofs.search.Tie as tie
@@ -17,11 +19,9 @@ use Rattle.plain.proofs.search.Tie as tie
 abbrev start : tie.After-ask → tie.Start
 start c = c .before .before .before .before .before
 
--- the search, and the lengths of which question 10 asks
-abbrev searching : tie.After-ask → Search
-searching c =
-    let a = start c .args in
-    plainSearch (a .table .now) (a .evaluated .now) (a .certificate .now)
+-- what is given and left on a rejection; and the lengths of the buffers, of which question 10 asks
+abbrev refused : tie.After-ask → Rejection → Outcome PlainAnswer Buffers
+refused c r = Rejected r leaving buffers (start c .args .evaluated .now) (start c .args .certificate .now)
 
 abbrev lengths : tie.After-ask → List ℕ
 lengths c = length (start c .args .evaluated .now) ∷ length (start c .args .certificate .now) ∷ []
@@ -40,18 +40,15 @@ returns c =
     let f = c .before .before .before .before in
     let k = f .before .before .before in
     let q = k .before .before in
-    let s = searching q in
-    finding Rejected (Found (plainFound (s .table))) s (lengths q) _ _ _ _
-    (sym (k .enum-told .given .1) ∙ told q) (ap Found (f .run .ensures .0))
-    (f .run .ensures .1 .0) (f .run .ensures .1 .1)
+    let r = f .run .ensures in
+    finding (start q .args .table .now) (lengths q) (refused q) _ _ _ (sym (k .enum-told .given .1) ∙ told q)
+    (both-alike (ap Found (r .0)) (r .1 .0) (r .1 .1))
 
 returns-2 : tie.Need-returns-2
 returns-2 c =
     let k = c .before in
     let q = k .before .before in
-    let s = searching q in
-    rejecting Rejected (Found (plainFound (s .table))) s (lengths q) _
-    (sym (k .rejection .given .1) ∙ told q)
+    rejecting (start q .args .table .now) (lengths q) (refused q) _ _ (sym (k .rejection .given .1) ∙ told q)
 
 pub search-spec : {M : Type 1} → statement M
 search-spec =

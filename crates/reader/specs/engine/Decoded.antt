@@ -1,5 +1,6 @@
 -- What decoding a file gives.
 use mathlib.Core.Path.{_≡_}
+use mathlib.Core.Bool.{not}
 use mathlib.Core.Option.{Option, none}
 use mathlib.Core.List.{List}
 use Prim.Native.Nat.{ℕ, _*_, _/_, _≤_}
@@ -7,11 +8,18 @@ use lib.ListN.{length, take}
 use Rattle.frames.specs.declared.Rejection.{Rejection}
 use Rattle.frames.specs.declared.Checked.{Checked}
 use Rattle.frames.specs.Frame.{frameSize, frames}
-use Rattle.frames.specs.Rejection.{_andThen_, answer}
+use Rattle.frames.specs.Rejection.{ask, _andThen_, answer}
 use Rattle.frames.specs.Check.{check1}
-use Rattle.lines.specs.Line.{lineSize}
+use Rattle.lines.specs.Line.{lineSize, isLine, hasLowercase}
 use Rattle.lines.specs.Lines.{decoded}
 use Rattle.reader.specs.File.{fileCheck2, fileCheck3}
+
+-- questions 3 and 16 of one line
+abbrev pub lineCheck3 : ℕ → List ℕ → Option Rejection
+lineCheck3 i l = ask (isLine l) 3 i
+
+abbrev pub lineCheck16 : ℕ → List ℕ → Option Rejection
+lineCheck16 i l = ask (not (hasLowercase l)) 16 i
 
 -- the first "no" to questions 1 to 3, which see no letter case
 unfoldable pub linesRejection : List ℕ → Option Rejection

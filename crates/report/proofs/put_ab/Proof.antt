@@ -1,6 +1,6 @@
 -- `report::put_ab` meets its contract: the line says what the search found.
 use borrow.Author.Needs.{needs}
-use Rattle.report.specs.Report.{abLine}
+use Rattle.report.specs.engine.Lines.{abLine}
 use Rattle.report.proofs.put_ab.Statement.{statement}
 use Rattle.report.proofs.put_ab.Tie as tie
 

@@ -1,6 +1,6 @@
 -- `report::put_mtd` meets its contract: the line says what the search found.
 use borrow.Author.Needs.{needs}
-use Rattle.report.specs.Report.{mtdLine}
+use Rattle.report.specs.engine.Lines.{mtdLine}
 use Rattle.report.proofs.put_mtd.Statement.{statement}
 use Rattle.report.proofs.put_mtd.Tie as tie
 

@@ -6,7 +6,8 @@ use borrow.Author.Needs.{needs}
 use denote.Ref.{now}
 use Rattle.frames.specs.Check.{Accepted}
 use Rattle.text.specs.Text.{refusedLine, TextRoom, Put}
-use Rattle.report.specs.Report.{analysis, report}
+use Rattle.report.specs.engine.Lines.{analysis}
+use Rattle.report.specs.Report.{report}
 use Rattle.report.proofs.Reporting.{Read, read-accepted, read-rejected}
 use Rattle.report.proofs.put_report.Statement.{statement}
 use Rattle.report.proofs.put_report.Tie as tie
@@ -27,7 +28,7 @@ accepted c =
 rejected : (c : tie.After-known-told2) →
     let d = c .before .before .before .before in
     let r = c .before .rejection .given .0 .0 in
-    report (now (start d .args .file)) ≡ refusedLine (r .number) (r .place)
+    report (now (start d .args .file)) ≡ refusedLine r
 rejected c =
     let d = c .before .before .before .before in
     let e = sym (c .before .rejection .given .1) ∙ d .read .ensures .0 in

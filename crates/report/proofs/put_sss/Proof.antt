@@ -1,7 +1,7 @@
 -- `report::put_sss` meets its contract: what is filled in are the positions, and the line says what the search found.
 use borrow.Author.Needs.{needs}
 use Rattle.positions.proofs.Positions.{positioned}
-use Rattle.report.specs.Report.{sssLine}
+use Rattle.report.specs.engine.Lines.{sssLine}
 use Rattle.report.proofs.put_sss.Statement.{statement}
 use Rattle.report.proofs.put_sss.Tie as tie
 

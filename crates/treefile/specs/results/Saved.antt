@@ -26,5 +26,5 @@ pub record InCapitals (f : List ℕ) (n : ℕ) : Type 0 where
 pub record Saved (t file : List ℕ) (n : ℕ) : Type 0 where
   pub accepted : Accepted t
   pub size : n ≡ lineSize * frames t
-  pub front : take n (writeOutcome t file .file) ≡ fileOf t
-  pub past : drop n (writeOutcome t file .file) ≡ drop n file
+  pub front : take n (writeOutcome t file .left) ≡ fileOf t
+  pub past : drop n (writeOutcome t file .left) ≡ drop n file

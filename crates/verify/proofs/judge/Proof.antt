@@ -16,7 +16,7 @@ use Rattle.frames.specs.Value.{valueOf}
 use Rattle.verify.specs.declared.Verdict.{Verdict}
 use Rattle.verify.specs.declared.Verdict.the-variants.{Value, Rejected}
 use Rattle.verify.specs.Value.{treeValue}
-use Rattle.verify.specs.Check.{check12, check13, check14, treesRejection, judged}
+use Rattle.verify.specs.Check.{checkTree, check14, treesRejection, judged}
 use Rattle.verify.proofs.Values.{value-within}
 use Rattle.verify.proofs.Judging.{judged-until, judged-onward}
 use Rattle.verify.proofs.judge.Statement.{statement}
@@ -27,31 +27,32 @@ module _ (t flags : List ℕ) where
   abbrev due : Verdict
   due = judged t flags (treesRejection t flags)
 
-  no-max : (r : Rejection) → checked.Rejected r ≡ answer (frames t) (check12 t flags) → Rejected r ≡ due
+  no-max : (r : Rejection) → checked.Rejected r ≡ answer (frames t) (checkTree 12 Max t flags) → Rejected r ≡ due
   unfolding treesRejection
-  no-max r e = judged-until t flags (frames t) (check12 t flags) (check13 t flags andThen check14 t flags) r e
+  no-max r e =
+      judged-until t flags (frames t) (checkTree 12 Max t flags) (checkTree 13 Min t flags andThen check14 t flags) r e
 
-  module _ (k : ℕ) (e : checked.Nodes k ≡ answer (frames t) (check12 t flags)) where
-    no-min : (r : Rejection) → checked.Rejected r ≡ answer (frames t) (check13 t flags) → Rejected r ≡ due
+  module _ (k : ℕ) (e : checked.Nodes k ≡ answer (frames t) (checkTree 12 Max t flags)) where
+    no-min : (r : Rejection) → checked.Rejected r ≡ answer (frames t) (checkTree 13 Min t flags) → Rejected r ≡ due
     unfolding treesRejection
     no-min r f =
-        judged-until t flags (frames t) (check13 t flags) (check14 t flags) r f
-        ∙ judged-onward t flags (frames t) (check12 t flags) (check13 t flags andThen check14 t flags) k e
+        judged-until t flags (frames t) (checkTree 13 Min t flags) (check14 t flags) r f
+        ∙ judged-onward t flags (frames t) (checkTree 12 Max t flags) _ k e
 
     -- both sets of flags are solution trees
-    both-hold : (j : ℕ) → checked.Nodes j ≡ answer (frames t) (check13 t flags)
+    both-hold : (j : ℕ) → checked.Nodes j ≡ answer (frames t) (checkTree 13 Min t flags)
         → judged t flags (check14 t flags) ≡ due
     unfolding treesRejection
     both-hold j f =
-        judged-onward t flags (frames t) (check13 t flags) (check14 t flags) j f
-        ∙ judged-onward t flags (frames t) (check12 t flags) (check13 t flags andThen check14 t flags) k e
+        judged-onward t flags (frames t) (checkTree 13 Min t flags) (check14 t flags) j f
+        ∙ judged-onward t flags (frames t) (checkTree 12 Max t flags) _ k e
 
   module _ (x y : ℕ) (p : x ≡ treeValue Max t flags) (q : y ≡ treeValue Min t flags) where
     unequal : (x ≡ y → ⊥) → Rejected (record { number = 14; place = 0 }) ≡ judged t flags (check14 t flags)
     unequal h = rw (← p, ← q, ne-eqb x y h)
 
     equal : x ≡ y → Value (valueOf x) ≡ judged t flags (check14 t flags)
-    equal h = rw (← p, ← q, eq-eqb x y h) (ap (λ s. Value (valueOf s)) p)
+    equal h = rw (← p, ← q, eq-eqb x y h)
 
 returns : tie.Need-returns
 returns c =

@@ -3,7 +3,8 @@ use Prim.Native.Nat.{ℕ}
 use mathlib.Core.List.{List, [], _∷_, _++_}
 use Rattle.frames.specs.results.Cases.{leafFrame, innerFrame, againFrame, small, capture, lone, single}
 use Rattle.worstcase.specs.declared.Filled.the-variants.{Leaves, Rejected}
-use Rattle.worstcase.specs.Outcome.{FillResult}
+use Rattle.frames.specs.Rejection.{Outcome, _leaving_}
+use Rattle.worstcase.specs.declared.Filled.{Filled}
 
 -- Max(Min(Min(a, b))), where Min moves twice
 abbrev pub minTwice : ℕ → ℕ → List ℕ
@@ -22,10 +23,10 @@ largerBlock a b c =
 -- a table, and what the call makes of it
 pub record Case : Type 0 where
   pub table : List ℕ
-  pub outcome : FillResult
+  pub outcome : Outcome Filled (List ℕ)
 
 abbrev pub fills : (table : List ℕ) (leaves : ℕ) (filled : List ℕ) → Case
-fills t n u = record { table = t; outcome = record { answer = Leaves n; table = u } }
+fills t n u = record { table = t; outcome = Leaves n leaving u }
 
 abbrev pub given : List Case
 given =
@@ -45,7 +46,7 @@ given =
 -- a rejection: number and place, with the table as it was
 abbrev pub refuses : (table : List ℕ) (number place : ℕ) → Case
 refuses t q p =
-    record { table = t; outcome = record { answer = Rejected (record { number = q; place = p }); table = t } }
+    record { table = t; outcome = Rejected (record { number = q; place = p }) leaving t }
 
 abbrev pub refused : List Case
 refused =

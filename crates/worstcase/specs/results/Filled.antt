@@ -11,7 +11,7 @@ use Rattle.worstcase.specs.Outcome.{fillOutcome}
 
 -- what the call leaves in the lent table
 abbrev pub handed : List ℕ → List ℕ
-handed t = fillOutcome t .table
+handed t = fillOutcome t .left
 
 -- the leaf x stands in the tree at node i: it is below i, or i itself
 pub record LeafBelow (t : List ℕ) (i x : ℕ) : Type 0 where

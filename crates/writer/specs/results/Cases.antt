@@ -3,14 +3,16 @@ use Prim.Native.Nat.{ℕ}
 use Prim.Native.String.{String}
 use mathlib.Core.List.{List, [], _∷_, _++_}
 use Rattle.lines.specs.results.Text.{text}
-use Rattle.writer.specs.Write.{WriteResult, writeOutcome}
+use Rattle.frames.specs.Rejection.{Outcome, _leaving_}
+use Rattle.writer.specs.declared.Written.{Written}
+use Rattle.writer.specs.Write.{writeOutcome}
 use Rattle.writer.specs.declared.Written.the-variants.{Length, Rejected}
 
 -- a table, the lent buffer, and what the writer answers and leaves there
 pub record Writing : Type 0 where
   pub table : List ℕ
   pub buffer : List ℕ
-  pub outcome : WriteResult
+  pub outcome : Outcome Written (List ℕ)
 
 -- the same as the definitions have it
 abbrev pub performed : Writing → Writing
@@ -31,7 +33,7 @@ saved table buffer length f =
     record {
       table = table;
       buffer = buffer ++ (9 ∷ 9 ∷ []);
-      outcome = record { answer = Length length; file = text f ++ (9 ∷ 9 ∷ []) };
+      outcome = Length length leaving (text f ++ (9 ∷ 9 ∷ []));
     }
 
 -- a table that is rejected with this number and place
@@ -40,7 +42,7 @@ unsaved table buffer q p =
     record {
       table = table;
       buffer = buffer;
-      outcome = record { answer = Rejected (record { number = q; place = p }); file = buffer };
+      outcome = Rejected (record { number = q; place = p }) leaving buffer;
     }
 
 -- the tables that proofs/Cases.antt computes

@@ -12,7 +12,7 @@ returns c =
     let w = c .before .before .before .before .before .write in
     let most = length (w .last .1 .0) in
     let given = c .before .before .length-given .ensures ∙ ap (λ o. lengthGiven (o .answer)) (w .ensures) in
-    (c .fitted .ensures .0, (ap (λ o. o .file) (w .ensures), c .fitted .ensures .1 ∙ ap (λ n. min n most) given))
+    (c .fitted .ensures .0, (ap (λ o. o .left) (w .ensures), c .fitted .ensures .1 ∙ ap (λ n. min n most) given))
 
 pub save-spec : {M : Type 1} → statement M
 save-spec =

@@ -7,7 +7,7 @@ use Rattle.searchcalls.proofs.fillings.print_filled.Tie as tie
 returns : tie.Need-returns
 returns c =
     let p = c .before .before .before .before .before in
-    ap (λ o. o .table) (p .before .before .before .before .fill .ensures)
+    ap (λ o. o .left) (p .before .before .before .before .fill .ensures)
 
 pub print-filled-spec : {M : Type 1} → statement M
 print-filled-spec =

@@ -5,7 +5,7 @@ use Rattle.tablecalls.proofs.files.print_output_in.Statement.{statement
 use Rattle.tablecalls.proofs.files.print_output_in.Tie as tie
 
 returns : tie.Need-returns
-returns c = ap (λ o. o .file) (c .before .before .before .before .before .before .output .ensures)
+returns c = ap (λ o. o .left) (c .before .before .before .before .before .before .output .ensures)
 
 pub print-output-in-spec : {M : Type 1} → statement M
 print-output-in-spec =

@@ -1,0 +1,2 @@
+-- Definitions that private functions alone cite.
+pub mod Lines
