@@ -12,7 +12,7 @@ use positions::fill;
 use tables::check;
 ghost use mathlib.Core.Path.{_≡_};
 ghost use mathlib.Core.List.{[], _∷_};
-ghost use Prim.Native.Nat.{_≤_, min};
+ghost use Prim.Native.Nat.{_≤_, _<_, min};
 ghost use lib.ListN.{length};
 ghost use Rattle.gametree.specs.Certificate.{flag};
 ghost use Rattle.gametree.specs.Move.{boundMove};
@@ -88,6 +88,8 @@ pub fn write_certificate_at(
         ≡ written (flag (valuation (now (table .entry))) (marked (now (evaluated .entry))) (tree (now (table .entry))))
         (frames (now (table .entry))) (now (certificate .entry))) ⌝ }
     ensures { λ _. ⌜ now (evaluated .exit) ≡ now (evaluated .entry) ⌝ }
+    ensures { λ _. ⌜ (length (now (certificate .entry)) < frames (now (table .entry))
+        → now (certificate .exit) ≡ now (certificate .entry)) ⌝ }
 {
     let mut lows = [0u32; MAX_NODES];
     let mut highs = [0u32; MAX_NODES];

@@ -30,7 +30,7 @@ returns c =
     let w = c .before .before .before .before in
     let a = w .before .before .before .before .before .before .before .before .before .before .pre in
     let e = w .write-certificate-at .ensures in
-    (e .0, (e .1 .0 (a .1 .1), e .1 .1))
+    (e .0, (e .1 .0 (a .1 .1), e .1 .1 .0))
 
 pub write-certificate-spec : {M : Type 1} → statement M
 write-certificate-spec =

@@ -1,6 +1,7 @@
 -- `certificate::write_certificate_at` meets its contract: the arrays hold the sides and the bounds, and the move and,
 -- in a buffer that has room for them, the flags follow.
 use native.Mathlib.Omega.{arith}
+use mathlib.Core.Path.{refl}
 use Rattle.bounds.specs.Marks.{marked}
 use Rattle.certificate.proofs.Chosen.{Bounded, bounded, chosen-move}
 use Rattle.certificate.proofs.Flags.{flags-follow}
@@ -55,7 +56,7 @@ returns c =
       rw (c .root-choice .ensures) (chosen-move _ (start b .pre .0 .0) _ (holds-bounds b)),
       (
         λ room. absurd (omega (arith, room, f .frame-count .ensures, t .if1 .taken)),
-        b .fill-bounds .ensures .1 .1,
+        (b .fill-bounds .ensures .1 .1, λ _. refl),
       ),
     )
 
@@ -90,10 +91,20 @@ same-length-3 c = search needs
 returns-2 : tie.Need-returns-2
 returns-2 c =
     let r = c .before .before .read-off .ensures in
-    let b = filled (c .before .before .before .before .before .before .before) in
+    let e = c .before .before .before .before .before .before in
+    let f = e .before in
+    let b = filled f in
     let wf = start b .pre .0 .0 in
-    let h = holds-bounds b in
-    (rw (r .0) (chosen-move _ wf _ h), (λ _. r .1 _ (flags-follow _ wf _ h), b .fill-bounds .ensures .1 .1))
+    let h = holds-bounds b in (
+      rw (r .0) (chosen-move _ wf _ h),
+      (
+        λ _. r .1 _ (flags-follow _ wf _ h),
+        (
+          b .fill-bounds .ensures .1 .1,
+          λ short. absurd (omega (arith, short, f .frame-count .ensures, e .if1 .left)),
+        ),
+      ),
+    )
 
 pub write-certificate-at-spec : {M : Type 1} → statement M
 write-certificate-at-spec =
