@@ -10,6 +10,7 @@ use lib.Dec.{leb}
 use lib.ListN.{length, take, drop, length-append}
 use lib.Seq.{take-length}
 use borrow.Author.Tests.{le-leb, lt-leb}
+use Rattle.lists.proofs.Choice.{clash}
 use Rattle.frames.specs.declared.Rejection.{Rejection}
 use Rattle.frames.specs.Rejection.{ask, Outcome}
 use Rattle.frames.specs.Frame.{frames}
@@ -63,6 +64,17 @@ module _ (x buffer : List ℕ) where
   pub laid-within : lengthGiven (laidText x buffer .answer) ≤ length (laidText x buffer .left)
   unfolding laidText
   laid-within = within-by _ refl
+
+  -- where no length is given, the answer is 10, and the buffer is as it was
+  kept-by : (b : Bool) (r : Rejection) → atFront (ask b 10 0) x buffer .answer ≡ Rejected r
+      → (r ≡ record { number = 10; place = 0 }) × (atFront (ask b 10 0) x buffer .left ≡ buffer)
+  kept-by true r e = clash (cc)
+  kept-by false r e = (cc, refl)
+
+  pub laid-keeps : (r : Rejection) → laidText x buffer .answer ≡ Rejected r
+      → (r ≡ record { number = 10; place = 0 }) × (laidText x buffer .left ≡ buffer)
+  unfolding laidText
+  laid-keeps = kept-by (leb (length x) (length buffer))
 
 module _ (f buffer : List ℕ) where
   abbrev asked : Option Rejection

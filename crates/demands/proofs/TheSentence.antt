@@ -46,7 +46,9 @@ use Rattle.treefile.proofs.Saving as saving
 use Rattle.writer.specs.declared.Written.the-variants.{Rejected as RejectedWrite}
 use Rattle.convert.proofs as convert
 use Rattle.convert.specs.results.Converted.{baseRejection}
+use Rattle.convert.specs.Printed.{printed}
 use Rattle.convert.proofs.Converted as converted
+use Rattle.convert.proofs.Printing.{laid-keeps}
 use Rattle.graft.proofs as graft
 use Rattle.graftable.specs.Questions.{graftRejection}
 use Rattle.graft.proofs.Grafting as grafting
@@ -118,9 +120,8 @@ checker =
 -- THE BYTES
 
 -- "After a refusal all lent memory holds what it held before": the refusal is the first "no" to the questions that the
--- function puts, and what it could change is as it was. `convert::output` refuses only with 10, and then keeps its
--- buffer by definition (`laidBy` in convert/specs/Printed.antt); the other public functions are lent nothing that they
--- could change
+-- function puts, and what it could change is as it was; the other public functions are lent nothing that they could
+-- change
 pub alphabeta-keeps : Runs alphabeta.search.ended alphabeta.search.Symbol.routine
     (λ κs (t, (m, (f, (o, _)))) r (_, (m′, (f′, (o′, _)))). (q : Rejection) → r ≡ ab-answer.Rejected q
     → (searchRejection (t .now) (length (m .now) ∷ length (f .now) ∷ length (o .now) ∷ []) ≡ some q)
@@ -216,6 +217,16 @@ convert-keeps =
     follows contracts.convert-convert
     (λ κs (f, (b, _)) r (_, (b′, _)) s q e.
     let k = converted.convert-keeps (f .now) (b .now) q (sym (ap (λ o. o .answer) s) ∙ e) in
+    (k .0, ap (λ o. o .left) s ∙ k .1))
+
+-- what `capitals` prints is refused only where there is no room for it
+pub output-keeps : Runs convert.output.ended convert.output.Symbol.routine
+    (λ κs (f, (b, _)) r (_, (b′, _)). (q : Rejection) → r ≡ RejectedWrite q
+    → (q ≡ record { number = 10; place = 0 }) × (b′ .now ≡ b .now))
+output-keeps =
+    follows contracts.convert-output
+    (λ κs (f, (b, _)) r (_, (b′, _)) s q e.
+    let k = laid-keeps (printed (f .now) (length (b .now))) (b .now) q (sym (ap (λ o. o .answer) s) ∙ e) in
     (k .0, ap (λ o. o .left) s ∙ k .1))
 
 pub graft-keeps : Runs graft.graft.ended graft.graft.Symbol.routine
