@@ -2,8 +2,8 @@
 use Prim.Native.Nat.{ℕ}
 use mathlib.Core.Path.{subst}
 use mathlib.Core.List.{List}
-use Rattle.gametree.proofs.Searches.{Searched, byAlphaBeta}
-use Rattle.gametree.proofs.Theorems.{alphaBeta-leaves}
+use Rattle.gametree_theory.proofs.Searches.{Searched, byAlphaBeta}
+use Rattle.gametree_theory.proofs.Theorems.{alphaBeta-leaves}
 use Rattle.frames.specs.Tree.{tree, valuation}
 use Rattle.alphabeta.specs.Outcome.{reachedLeaves}
 

@@ -11,9 +11,9 @@ use borrow.Author.Tests.{ltb-true, ltb-false, lt-ltb, le-ltb}
 use Rattle.gametree.specs.Tree.{Tree, least, greatest, minimax, number, Score}
 use Rattle.gametree.specs.AlphaBeta.{fullWindow}
 use Rattle.gametree.specs.Move.{rootMove}
-use Rattle.gametree.proofs.minimax.Bounds.{minimax-score}
-use Rattle.gametree.proofs.alphabeta.Window.{alphaBeta-value}
-use Rattle.gametree.proofs.alphabeta.RootMove.{raiser, raiser-move}
+use Rattle.gametree_theory.proofs.minimax.Bounds.{minimax-score}
+use Rattle.gametree_theory.proofs.alphabeta.Window.{alphaBeta-value}
+use Rattle.gametree_theory.proofs.alphabeta.RootMove.{raiser, raiser-move}
 use Rattle.frames.specs.Frame.{frames, firstChild, childCount, next}
 use Rattle.frames.specs.Position.{rootPosition}
 use Rattle.frames.specs.Tree.{childrenFrom, treeAt, tree, valuation}

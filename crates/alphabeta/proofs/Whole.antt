@@ -9,7 +9,7 @@ use lib.IntN.{ℤ}
 use Rattle.gametree.specs.Tree.{greatest, minimax}
 use Rattle.gametree.specs.Move.{rootMove}
 use Rattle.gametree.specs.AlphaBeta.{fullWindow}
-use Rattle.gametree.proofs.Theorems.{value-score, alphaBeta-leaves, alphaBeta-minimax, search-deciding}
+use Rattle.gametree_theory.proofs.Theorems.{value-score, alphaBeta-leaves, alphaBeta-minimax, search-deciding}
 use Rattle.frames.specs.Frame.{frames}
 use Rattle.frames.specs.Tree.{tree, valuation}
 use Rattle.frames.specs.Formed.{WellFormed}

@@ -10,7 +10,7 @@ use Rattle.gametree.specs.declared.Side.the-variants.{Max, Min}
 use Rattle.gametree.specs.Bounds.{known}
 use Rattle.gametree.specs.Certificate.{worst, flag}
 use Rattle.gametree.specs.Move.{boundMove}
-use Rattle.gametree.proofs.minimax.Bounds.{minimax-mono}
+use Rattle.gametree_theory.proofs.minimax.Bounds.{minimax-mono}
 use Rattle.frames.specs.Frame.{frames, childCount, next}
 use Rattle.frames.specs.Position.{sideOf}
 use Rattle.frames.specs.Tree.{treeAt, tree, valuation}

@@ -8,11 +8,11 @@ use lib.Dec.{eqb}
 use lib.ListN.{length}
 use Rattle.lists.specs.Lists.{All, among}
 use Rattle.gametree.specs.Tree.{leaves, leafCount}
-use Rattle.gametree.proofs.Searches.{Deciding}
+use Rattle.gametree_theory.proofs.Searches.{Deciding}
 use Rattle.lists.proofs.Choice.{is-false}
 use Rattle.lists.proofs.Lists.{all-map, all-at}
-use Rattle.gametree.proofs.Theorems.{deciding-count}
-use Rattle.gametree.proofs.tests.Subtree.{every-all}
+use Rattle.gametree_theory.proofs.Theorems.{deciding-count}
+use Rattle.gametree_theory.proofs.tests.Subtree.{every-all}
 use Rattle.frames.specs.Frame.{frames, childCount}
 use Rattle.frames.specs.Tree.{tree, valuation}
 use Rattle.frames.specs.Formed.{WellFormed}

@@ -7,7 +7,7 @@ use mathlib.Core.List.{List}
 use Rattle.lists.specs.Lists.{among}
 use Rattle.gametree.specs.Move.{rootMove, boundMove}
 use Rattle.gametree.specs.Certificate.{flag}
-use Rattle.gametree.proofs.Searches.{Deciding}
+use Rattle.gametree_theory.proofs.Searches.{Deciding}
 use Rattle.frames.specs.declared.Rejection.{Rejection}
 use Rattle.frames.specs.declared.Checked.the-variants.{Nodes, Rejected}
 use Rattle.frames.specs.Frame.{frames}

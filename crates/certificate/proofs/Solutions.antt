@@ -14,7 +14,7 @@ use Rattle.gametree.specs.Tree.{Tree, other, minimax, minimaxChildren}
 use Rattle.gametree.specs.Bounds.{known}
 use Rattle.gametree.specs.Certificate.{worst, same, solutionOf}
 use Rattle.lists.proofs.Choice.{cond-cases}
-use Rattle.gametree.proofs.certificates.ReadOff.{ReadOff, ReadEach, ReadFirst, read-root, fits}
+use Rattle.gametree_theory.proofs.certificates.ReadOff.{ReadOff, ReadEach, ReadFirst, read-root, fits}
 use Rattle.frames.specs.Frame.{frames, firstChild, childCount, next}
 use Rattle.frames.specs.Position.{sideOf}
 use Rattle.frames.specs.Tree.{childrenFrom, treeAt, tree, valuation}

@@ -12,7 +12,7 @@ use lib.Signed.{_≤ℤ_}
 use Rattle.lists.specs.Lists.{among}
 use Rattle.gametree.specs.Tree.{greatest}
 use Rattle.gametree.specs.Layout.{layoutOf}
-use Rattle.gametree.proofs.Within as within
+use Rattle.gametree_theory.proofs.Within as within
 use Rattle.frames.specs.Frame.{frames}
 use Rattle.frames.specs.Tree.{tree, valuation}
 use Rattle.frames.specs.Value.{valueOf}

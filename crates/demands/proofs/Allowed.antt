@@ -13,7 +13,7 @@ use Rattle.gametree.specs.Tree.{minimax}
 use Rattle.gametree.specs.Layout.{layoutOf}
 use Rattle.gametree.specs.Sss.{ListAfter}
 use Rattle.gametree.specs.engine.Within.{sssWithin}
-use Rattle.gametree.proofs.Within as within
+use Rattle.gametree_theory.proofs.Within as within
 use Rattle.frames.specs.Rejection.{_leaving_}
 use Rattle.frames.specs.Frame.{frames}
 use Rattle.frames.specs.Tree.{tree, valuation}

@@ -9,7 +9,7 @@ use lib.ListN.{length, getD}
 use Rattle.lists.specs.Lists.{among}
 use Rattle.lists.proofs.Lists.{sub-length}
 use Rattle.gametree.specs.Tree.{leaves}
-use Rattle.gametree.proofs.Theorems.{alphaBeta-leaves, alphaBeta-ordered}
+use Rattle.gametree_theory.proofs.Theorems.{alphaBeta-leaves, alphaBeta-ordered}
 use Rattle.frames.specs.Frame.{frames, childCount}
 use Rattle.frames.specs.Tree.{tree, valuation}
 use Rattle.frames.specs.Shape.{SameShape}

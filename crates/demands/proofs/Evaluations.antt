@@ -12,9 +12,9 @@ use Rattle.gametree.specs.Mtd as rule
 use Rattle.gametree.specs.Layout.{layoutOf}
 use Rattle.gametree.specs.Sss.{sss as run}
 use Rattle.gametree.specs.Certificate.{Smallest, pairLeaves}
-use Rattle.gametree.proofs.Theorems.{alphaBeta-leaves, alphaBeta-ordered, mtd-passes, sss-mtd, sss-replacements}
-use Rattle.gametree.proofs.Theorems.{layout-own, search-once, search-smallest, smallest-exists}
-use Rattle.gametree.proofs.Theorems as theory
+use Rattle.gametree_theory.proofs.Theorems.{alphaBeta-leaves, alphaBeta-ordered, mtd-passes, sss-mtd, sss-replacements}
+use Rattle.gametree_theory.proofs.Theorems.{layout-own, search-once, search-smallest, smallest-exists}
+use Rattle.gametree_theory.proofs.Theorems as theory
 use Rattle.frames.specs.Frame.{frames}
 use Rattle.frames.specs.Tree.{tree, valuation}
 use Rattle.frames.specs.Formed.{WellFormed}

@@ -3,7 +3,7 @@ use Prim.Native.Nat.{ℕ, _≤_}
 use native.Mathlib.Omega.{arith}
 use mathlib.Core.Path.{_≡_}
 use mathlib.Core.List.{List}
-use Rattle.gametree.proofs.minimax.Counts.{pairLeaves-all}
+use Rattle.gametree_theory.proofs.minimax.Counts.{pairLeaves-all}
 use Rattle.frames.specs.Frame.{frames}
 use Rattle.frames.specs.Tree.{tree}
 use Rattle.frames.specs.results.Regular.{RegularTable}

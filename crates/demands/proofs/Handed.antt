@@ -13,11 +13,11 @@ use Rattle.gametree.specs.Tree.{other, minimax, Proper}
 use Rattle.gametree.specs.Bounds.{known}
 use Rattle.gametree.specs.Certificate.{worst, inside, solutionOf, flag}
 use Rattle.lists.proofs.Lists.{all-at}
-use Rattle.gametree.proofs.minimax.Bounds.{every-map}
-use Rattle.gametree.proofs.tests.Subtree.{every-all}
-use Rattle.gametree.proofs.certificates.ReadOff.{ReadOff, fits}
-use Rattle.gametree.proofs.certificates.Flags.{flag-inside, read-bounds}
-use Rattle.gametree.proofs.Theorems.{alphaBeta-leaves, domination, domination-count}
+use Rattle.gametree_theory.proofs.minimax.Bounds.{every-map}
+use Rattle.gametree_theory.proofs.tests.Subtree.{every-all}
+use Rattle.gametree_theory.proofs.certificates.ReadOff.{ReadOff, fits}
+use Rattle.gametree_theory.proofs.certificates.Flags.{flag-inside, read-bounds}
+use Rattle.gametree_theory.proofs.Theorems.{alphaBeta-leaves, domination, domination-count}
 use Rattle.frames.specs.Frame.{frames}
 use Rattle.frames.specs.Tree.{tree, valuation}
 use Rattle.frames.specs.Formed.{WellFormed}

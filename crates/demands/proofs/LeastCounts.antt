@@ -11,8 +11,8 @@ use mathlib.Core.Bool.{Bool}
 use mathlib.Core.Option.{some}
 use mathlib.Core.List.{List}
 use Rattle.gametree.specs.Certificate.{Certifies, pairLeaves}
-use Rattle.gametree.proofs.minimax.Counts.{leaves-size, pairLeaves-all}
-use Rattle.gametree.proofs.certificates.Regular.{pair-count}
+use Rattle.gametree_theory.proofs.minimax.Counts.{leaves-size, pairLeaves-all}
+use Rattle.gametree_theory.proofs.certificates.Regular.{pair-count}
 use Rattle.frames.specs.declared.Rejection.{Rejection}
 use Rattle.frames.specs.Rejection.{unless}
 use Rattle.frames.specs.Frame.{maxChildren, maxDepth}

@@ -10,9 +10,9 @@ use Rattle.lists.specs.Lists.{All, among}
 use Rattle.gametree.specs.Tree.{minimax, Proper}
 use Rattle.gametree.specs.Certificate.{flag}
 use Rattle.gametree.specs.Move.{rootMove}
-use Rattle.gametree.proofs.Searches.{SameResults}
+use Rattle.gametree_theory.proofs.Searches.{SameResults}
 use Rattle.lists.proofs.Lists.{all-among, all-zip}
-use Rattle.gametree.proofs.Theorems.{local-results}
+use Rattle.gametree_theory.proofs.Theorems.{local-results}
 use Rattle.frames.specs.Frame.{frames}
 use Rattle.frames.specs.Tree.{tree, valuation}
 use Rattle.frames.specs.Shape.{SameShape}

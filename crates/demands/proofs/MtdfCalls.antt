@@ -14,8 +14,8 @@ use Rattle.lists.proofs.Lists.{all-at, once-length}
 use Rattle.gametree.specs.Tree.{greatest, minimax}
 use Rattle.gametree.specs.Tests.{searchBy, mtdFrom}
 use Rattle.gametree.specs.FirstMove.{lastPhase, mtdf as rule}
-use Rattle.gametree.proofs.Theorems.{value-score, local-decide}
-use Rattle.gametree.proofs.TestRuns.{guess-two, tests-few, falling-decides-sss}
+use Rattle.gametree_theory.proofs.Theorems.{value-score, local-decide}
+use Rattle.gametree_theory.proofs.TestRuns.{guess-two, tests-few, falling-decides-sss}
 use Rattle.frames.specs.Frame.{frames}
 use Rattle.frames.specs.Tree.{tree, valuation}
 use Rattle.frames.specs.Shape.{SameShape}

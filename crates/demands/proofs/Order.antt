@@ -17,7 +17,7 @@ use Rattle.lists.specs.Lists.{among, Once}
 use Rattle.gametree.specs.Tree.{minimax}
 use Rattle.gametree.specs.Layout.{layoutOf}
 use Rattle.gametree.specs.Sss.{State, stop, step, finished, ListAfter}
-use Rattle.gametree.proofs.Theorems as theory
+use Rattle.gametree_theory.proofs.Theorems as theory
 use Rattle.frames.specs.Frame.{frames}
 use Rattle.frames.specs.Tree.{tree, valuation}
 use Rattle.frames.specs.Rejection.{ask, _andThen_}

@@ -8,7 +8,7 @@ use lib.ListN.{length, getD}
 use Rattle.lists.proofs.Choice.{clash}
 use Rattle.gametree.specs.Tree.{minimax}
 use Rattle.gametree.specs.Move.{rootMove}
-use Rattle.gametree.proofs.Theorems.{all-deciding}
+use Rattle.gametree_theory.proofs.Theorems.{all-deciding}
 use Rattle.frames.specs.declared.Rejection.{Rejection}
 use Rattle.frames.specs.Frame.{frames, childCount}
 use Rattle.frames.specs.Tree.{tree, valuation}

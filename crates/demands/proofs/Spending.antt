@@ -15,10 +15,11 @@ use Rattle.gametree.specs.Sss.{spent}
 use Rattle.gametree.specs.Allowance.{Evaluation}
 use Rattle.gametree.specs.engine.OverLayout.{evaluationsOver}
 use Rattle.gametree.specs.engine.Within.{sssWithin}
-use Rattle.gametree.proofs.Searches.{bySss}
-use Rattle.gametree.proofs.Theorems.{alphaBeta-leaves, search-deciding}
-use Rattle.gametree.proofs.Within.{evaluations-count, spent-first, within-leaves, within-all, within-once, within-marks}
-use Rattle.gametree.proofs.Within.{within-dominated, local-within}
+use Rattle.gametree_theory.proofs.Searches.{bySss}
+use Rattle.gametree_theory.proofs.Theorems.{alphaBeta-leaves, search-deciding}
+use Rattle.gametree_theory.proofs.Within.{evaluations-count, spent-first, within-leaves, within-all, within-once}
+use Rattle.gametree_theory.proofs.Within.{within-marks}
+use Rattle.gametree_theory.proofs.Within.{within-dominated, local-within}
 use Rattle.lists.proofs.Lists.{all-at, all-among, all-zip}
 use Rattle.frames.specs.Frame.{frames, childCount}
 use Rattle.frames.specs.Tree.{tree, valuation}

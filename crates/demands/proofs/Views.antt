@@ -7,8 +7,8 @@ use lib.ListN.{length, drop, replicate}
 use Rattle.lists.proofs.Choice.{clash}
 use Rattle.gametree.specs.Allowance.{Evaluation}
 use Rattle.gametree.specs.Tests.{mtdFrom}
-use Rattle.gametree.proofs.Searches.{Searched, byMtd, byTests, Deciding}
-use Rattle.gametree.proofs.Theorems.{search-deciding}
+use Rattle.gametree_theory.proofs.Searches.{Searched, byMtd, byTests, Deciding}
+use Rattle.gametree_theory.proofs.Theorems.{search-deciding}
 use Rattle.frames.specs.declared.Rejection.{Rejection}
 use Rattle.frames.specs.Rejection.{unless, Outcome, _leaving_}
 use Rattle.frames.specs.Frame.{frames}

@@ -9,8 +9,8 @@ use lib.IntN.{pos}
 use lib.ListN.{length}
 use Rattle.gametree.specs.declared.Side.the-variants.{Max, Min}
 use Rattle.gametree.specs.Tree.{leaves}
-use Rattle.gametree.proofs.minimax.Nodes.{nodes-in}
-use Rattle.gametree.proofs.alphabeta.WorstCase.{blocks-at}
+use Rattle.gametree_theory.proofs.minimax.Nodes.{nodes-in}
+use Rattle.gametree_theory.proofs.alphabeta.WorstCase.{blocks-at}
 use Rattle.frames.specs.Frame.{frameSize, frames, byteOf, childCount, valueBytes}
 use Rattle.frames.specs.Position.{sideOf}
 use Rattle.frames.specs.Tree.{treeAt, tree, valuation}

@@ -12,7 +12,7 @@ use borrow.Author.Tests.{lt-ltb, le-ltb}
 use Rattle.gametree.specs.declared.Side.{Side}
 use Rattle.gametree.specs.Tree.{leaf, inner}
 use Rattle.gametree.specs.Layout.{Layout, root, under, firstOf, othersOf}
-use Rattle.gametree.proofs.sss.Described.{Answers, AnswersChildren, Describes}
+use Rattle.gametree_theory.proofs.sss.Described.{Answers, AnswersChildren, Describes}
 use Rattle.frames.specs.Frame.{frames, firstChild, childCount}
 use Rattle.frames.specs.Position.{sideOf}
 use Rattle.frames.specs.Tree.{upFrom, childrenFrom, treeAt, tree}

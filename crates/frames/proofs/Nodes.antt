@@ -5,7 +5,7 @@ use mathlib.Core.Path.{_≡_, sym, ap, _∙_, subst}
 use mathlib.Core.Logic.{inl, inr}
 use mathlib.Core.List.{List}
 use Rattle.gametree.specs.Tree.{In, Distinct, DistinctChildren}
-use Rattle.gametree.proofs.minimax.Nodes.{number-in}
+use Rattle.gametree_theory.proofs.minimax.Nodes.{number-in}
 use Rattle.frames.specs.Frame.{frames, firstChild, childCount}
 use Rattle.frames.specs.Position.{parentOf, depthOf}
 use Rattle.frames.specs.Tree.{childrenFrom, treeAt, tree}

@@ -8,7 +8,7 @@ use borrow.Author.Tests.{ne-eqb}
 use Rattle.gametree.specs.declared.Side.{Side}
 use Rattle.gametree.specs.declared.Side.the-variants.{Max}
 use Rattle.gametree.specs.Tree.{Tree, other}
-use Rattle.gametree.proofs.certificates.Regular.{Regular, RegularChildren}
+use Rattle.gametree_theory.proofs.certificates.Regular.{Regular, RegularChildren}
 use Rattle.frames.specs.Frame.{maxChildren, maxDepth, frames, firstChild, childCount, byte3, sameMover}
 use Rattle.frames.specs.Position.{depthOf, sideOf}
 use Rattle.frames.specs.Tree.{childrenFrom, treeAt, tree}

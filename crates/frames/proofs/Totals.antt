@@ -7,7 +7,7 @@ use mathlib.Core.Bool.{Bool, cond}
 use mathlib.Core.List.{List}
 use Rattle.gametree.specs.Tree.{Tree, leaf, inner, Children, last, _then_, size, sizeChildren, leafCount}
 use Rattle.gametree.specs.Tree.{leafCountChildren}
-use Rattle.gametree.proofs.minimax.Nodes.{size-then}
+use Rattle.gametree_theory.proofs.minimax.Nodes.{size-then}
 use Rattle.frames.specs.Frame.{frames, firstChild, childCount, next}
 use Rattle.frames.specs.Tree.{childrenFrom, treeAt, tree}
 use Rattle.frames.specs.Formed.{WellFormed}

@@ -7,7 +7,7 @@ use mathlib.Core.Logic.{inl, inr}
 use mathlib.Core.List.{List}
 use Rattle.gametree.specs.declared.Side.{Side}
 use Rattle.gametree.specs.Tree.{Tree, leaf, inner, last, _then_, number, In, InChildren}
-use Rattle.gametree.proofs.certificates.Counting.{kidCount}
+use Rattle.gametree_theory.proofs.certificates.Counting.{kidCount}
 use Rattle.frames.specs.Frame.{frames, firstChild, childCount}
 use Rattle.frames.specs.Position.{sideOf}
 use Rattle.frames.specs.Tree.{childrenFrom, node, grow, treeAt}

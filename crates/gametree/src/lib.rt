@@ -1,5 +1,6 @@
-// The theory of game-tree search: definitions in specs/, theorems in proofs/ (Theorems states what is for use).
-// The code holds what the theory and the searches share: two plain types, the opponent, and the better of two scores.
+// Game trees and the rules of the searches: definitions in specs/, small trees computed from them in proofs/; what
+// holds of them is in gametree_theory. The code holds what these and the searches share: two plain types, the
+// opponent, and the better of two scores.
 ghost use mathlib.Core.Path.{_≡_};
 ghost use Rattle.gametree.specs.Tree.{other as otherSide, better as betterOf};
 

@@ -9,7 +9,7 @@ use Rattle.lists.specs.Lists.{All}
 use Rattle.gametree.specs.declared.Side.{Side}
 use Rattle.gametree.specs.Tree.{Tree, inner, last, _then_, size, sizeChildren}
 use Rattle.gametree.specs.Graft.{grafted, graftedChildren, relabelled, relabelledChildren}
-use Rattle.gametree.proofs.minimax.Nodes.{size-then}
+use Rattle.gametree_theory.proofs.minimax.Nodes.{size-then}
 use Rattle.frames.specs.Tree.{upFrom, childrenFrom, node}
 use Rattle.graft.proofs.Listing.{weight}
 

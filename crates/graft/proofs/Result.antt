@@ -7,7 +7,7 @@ use mathlib.Core.List.{List, _++_}
 use lib.ListN.{getD}
 use Rattle.gametree.specs.Tree.{minimax}
 use Rattle.gametree.specs.Graft.{relabelled, substituted}
-use Rattle.gametree.proofs.minimax.Grafts.{graft-value, relabelled-value, minimax-same}
+use Rattle.gametree_theory.proofs.minimax.Grafts.{graft-value, relabelled-value, minimax-same}
 use Rattle.frames.specs.Frame.{frames, firstChild, childCount, storedScore}
 use Rattle.frames.specs.Position.{depthOf, sideOf}
 use Rattle.frames.specs.Tree.{node, treeAt, tree, valuation, leafScore}

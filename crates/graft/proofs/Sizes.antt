@@ -9,8 +9,8 @@ use lib.Dec.{eqb}
 use borrow.Author.Tests.{eq-eqb, ne-eqb}
 use Rattle.gametree.specs.Tree.{Tree, leaf, inner, Children, last, _then_, size, sizeChildren}
 use Rattle.gametree.specs.Graft.{grafted, graftedChildren, relabelled}
-use Rattle.gametree.proofs.minimax.Nodes.{size-then}
-use Rattle.gametree.proofs.minimax.Grafts.{relabelled-size}
+use Rattle.gametree_theory.proofs.minimax.Nodes.{size-then}
+use Rattle.gametree_theory.proofs.minimax.Grafts.{relabelled-size}
 use Rattle.frames.specs.Frame.{frames, childCount}
 use Rattle.frames.specs.Tree.{tree}
 use Rattle.frames.specs.Formed.{WellFormed}

@@ -12,8 +12,8 @@ use borrow.Author.Tests.{ltb-true, eqb-true, eq-eqb, ne-eqb}
 use Rattle.lists.proofs.Choice.{and-both}
 use Rattle.gametree.specs.Tree.{Score, least, greatest, minimax}
 use Rattle.gametree.specs.Graft.{substituted}
-use Rattle.gametree.proofs.minimax.Grafts.{minimax-same}
-use Rattle.gametree.proofs.minimax.OneLeaf.{low-high, median}
+use Rattle.gametree_theory.proofs.minimax.Grafts.{minimax-same}
+use Rattle.gametree_theory.proofs.minimax.OneLeaf.{low-high, median}
 use Rattle.gametree.specs.AlphaBeta.{clamp}
 use Rattle.frames.specs.Frame.{maxDepth, frames, childCount}
 use Rattle.frames.specs.Position.{depthOf}

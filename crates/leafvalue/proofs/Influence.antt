@@ -10,7 +10,7 @@ use lib.IntN.{ℤ}
 use borrow.Author.Tests.{lt-ltb, le-ltb, eq-eqb, ne-eqb}
 use Rattle.gametree.specs.Tree.{minimax}
 use Rattle.gametree.specs.Graft.{substituted}
-use Rattle.gametree.proofs.minimax.Grafts.{minimax-same}
+use Rattle.gametree_theory.proofs.minimax.Grafts.{minimax-same}
 use Rattle.frames.specs.Frame.{frames, storedScore}
 use Rattle.frames.specs.Position.{depthOf}
 use Rattle.frames.specs.Tree.{tree, valuation, leafScore}

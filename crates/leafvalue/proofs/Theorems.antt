@@ -12,7 +12,7 @@ use lib.Signed.{_<ℤ_}
 use borrow.Author.Tests.{lt-ltb, le-leb, eq-eqb, leb-true, eqb-true}
 use Rattle.lists.proofs.Choice.{cond-cases, clash, is-false, true-not-false}
 use Rattle.gametree.specs.Tree.{Score}
-use Rattle.gametree.proofs.minimax.Bounds.{minimax-score}
+use Rattle.gametree_theory.proofs.minimax.Bounds.{minimax-score}
 use Rattle.frames.specs.declared.Rejection.{Rejection}
 use Rattle.frames.specs.Frame.{frames, childCount}
 use Rattle.frames.specs.Position.{depthOf}

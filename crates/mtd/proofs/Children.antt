@@ -9,7 +9,7 @@ use Rattle.gametree.specs.Tree.{Tree, Children, last, _then_, In, InChildren}
 use Rattle.gametree.specs.Mtd.{settles}
 use Rattle.gametree.specs.engine.Memo.{MemoChildren, PassChildren, joined, passChildren}
 use Rattle.gametree.specs.engine.MemoArrays.{readMemoChildren, KidsRemembered}
-use Rattle.gametree.proofs.mtd.MemoArrays.{rest-same, visit-ended, visit-joined}
+use Rattle.gametree_theory.proofs.mtd.MemoArrays.{rest-same, visit-ended, visit-joined}
 use Rattle.frames.specs.Tree.{valuation}
 use Rattle.bounds.specs.Marks.{marked}
 use Rattle.mtd.specs.declared.Tried.{Tried}

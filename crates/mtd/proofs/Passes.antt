@@ -15,7 +15,7 @@ use Rattle.gametree.specs.Tree.{Tree, leaf, inner, Children, InChildren}
 use Rattle.gametree.specs.Bounds.{high}
 use Rattle.gametree.specs.engine.Memo.{Memo, memoHigh, Pass, stay, entered}
 use Rattle.lists.proofs.Choice.{cond-cases}
-use Rattle.gametree.proofs.mtd.MemoArrays.{readMemoChildren-same, read-high}
+use Rattle.gametree_theory.proofs.mtd.MemoArrays.{readMemoChildren-same, read-high}
 use Rattle.frames.specs.Tree.{treeAt, valuation}
 use Rattle.frames.specs.Frame.{frames}
 use Rattle.bounds.specs.Marks.{marked, ones}

@@ -9,10 +9,10 @@ use Rattle.gametree.specs.Tree.{Tree, greatest}
 use Rattle.gametree.specs.Mtd.{MtdRun, mtd}
 use Rattle.gametree.specs.engine.Memo.{Memo, memoHigh, pass, MemoRun, settled, followed, run, fresh, memoMtd}
 use Rattle.gametree.specs.engine.Memo.{withoutMemo}
-use Rattle.gametree.proofs.mtd.Sound.{Kept, Sound, sound}
-use Rattle.gametree.proofs.mtd.Value.{kept-lower, fresh-kept, fresh-memoHigh}
-use Rattle.gametree.proofs.mtd.MemoArrays.{read-fresh, read-high}
-use Rattle.gametree.proofs.mtd.Memory.{memo-run}
+use Rattle.gametree_theory.proofs.mtd.Sound.{Kept, Sound, sound}
+use Rattle.gametree_theory.proofs.mtd.Value.{kept-lower, fresh-kept, fresh-memoHigh}
+use Rattle.gametree_theory.proofs.mtd.MemoArrays.{read-fresh, read-high}
+use Rattle.gametree_theory.proofs.mtd.Memory.{memo-run}
 use Rattle.frames.specs.Frame.{frames, childCount, next}
 use Rattle.frames.specs.Position.{rootPosition}
 use Rattle.frames.specs.Tree.{treeAt, tree, valuation}

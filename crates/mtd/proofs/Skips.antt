@@ -12,7 +12,7 @@ use Rattle.gametree.specs.declared.Side.{Side}
 use Rattle.gametree.specs.declared.Side.the-variants.{Max}
 use Rattle.gametree.specs.Tree.{greatest}
 use Rattle.gametree.specs.Bounds.{known}
-use Rattle.gametree.proofs.minimax.Bounds.{minimax-within}
+use Rattle.gametree_theory.proofs.minimax.Bounds.{minimax-within}
 use Rattle.frames.specs.Frame.{childCount}
 use Rattle.frames.specs.Position.{childPosition}
 use Rattle.frames.specs.Tree.{treeAt, valuation}

@@ -14,10 +14,10 @@ use Rattle.gametree.specs.Tree.{Tree, inner, Children, greatest, minimax, Prope
 use Rattle.gametree.specs.Bounds.{high}
 use Rattle.gametree.specs.Mtd.{mtd}
 use Rattle.gametree.specs.Move.{firstWith, rootMove}
-use Rattle.gametree.proofs.mtd.Moves.{mtd-highMove}
-use Rattle.gametree.proofs.mtd.Memory.{memo-run}
-use Rattle.gametree.proofs.Searches.{byMtd}
-use Rattle.gametree.proofs.Theorems.{value-score, mtd-minimax, search-deciding}
+use Rattle.gametree_theory.proofs.mtd.Moves.{mtd-highMove}
+use Rattle.gametree_theory.proofs.mtd.Memory.{memo-run}
+use Rattle.gametree_theory.proofs.Searches.{byMtd}
+use Rattle.gametree_theory.proofs.Theorems.{value-score, mtd-minimax, search-deciding}
 use Rattle.frames.specs.Frame.{frames, childCount, next}
 use Rattle.frames.specs.Tree.{childrenFrom, treeAt, tree, valuation}
 use Rattle.frames.specs.Formed.{WellFormed}

@@ -13,11 +13,11 @@ use Rattle.gametree.specs.Tree.{Tree, least, greatest, minimax, leaves, Scored}
 use Rattle.gametree.specs.Bounds.{known, low, high}
 use Rattle.gametree.specs.AlphaBeta.{clamp, reached}
 use Rattle.gametree.specs.Tests.{test, view, Strategy, chosenTest, TestSearch, met, tested, drive, afterGuess, mtdFrom}
-use Rattle.gametree.proofs.minimax.Bounds.{every-leaf, minimax-within}
-use Rattle.gametree.proofs.minimax.Closer.{bounds≤, high≤}
-use Rattle.gametree.proofs.results.Domination.{Reaches}
-use Rattle.gametree.proofs.tests.Leaves.{New, new-append, test-dominated, test-once}
-use Rattle.gametree.proofs.tests.Runs.{reaches-own, test-opens}
+use Rattle.gametree_theory.proofs.minimax.Bounds.{every-leaf, minimax-within}
+use Rattle.gametree_theory.proofs.minimax.Closer.{bounds≤, high≤}
+use Rattle.gametree_theory.proofs.results.Domination.{Reaches}
+use Rattle.gametree_theory.proofs.tests.Leaves.{New, new-append, test-dominated, test-once}
+use Rattle.gametree_theory.proofs.tests.Runs.{reaches-own, test-opens}
 use Rattle.frames.specs.Frame.{frames}
 use Rattle.frames.specs.Position.{rootPosition}
 use Rattle.frames.specs.Tree.{treeAt, tree, valuation}

@@ -13,10 +13,10 @@ use Rattle.gametree.specs.Tests.{mtdFrom}
 use Rattle.gametree.specs.FirstMove.{lastPhase}
 use Rattle.gametree.specs.Move.{boundMove}
 use Rattle.gametree.specs.Certificate.{flag}
-use Rattle.gametree.proofs.Searches.{Deciding, byTests}
-use Rattle.gametree.proofs.Theorems.{value-score, search-deciding}
-use Rattle.gametree.proofs.TestRuns.{decide-minimax}
-use Rattle.gametree.proofs.tests.FirstMove.{moveAmong-leaves}
+use Rattle.gametree_theory.proofs.Searches.{Deciding, byTests}
+use Rattle.gametree_theory.proofs.Theorems.{value-score, search-deciding}
+use Rattle.gametree_theory.proofs.TestRuns.{decide-minimax}
+use Rattle.gametree_theory.proofs.tests.FirstMove.{moveAmong-leaves}
 use Rattle.frames.specs.Frame.{frames, firstChild, childCount}
 use Rattle.frames.specs.Position.{rootPosition}
 use Rattle.frames.specs.Tree.{tree, valuation}

@@ -8,7 +8,7 @@ use borrow.Author.Tests.{eq-eqb, ne-eqb}
 use Rattle.lists.specs.Lists.{among}
 use Rattle.lists.proofs.Choice.{is-false}
 use Rattle.lists.proofs.Lists.{all-at}
-use Rattle.gametree.proofs.Theorems.{all-deciding}
+use Rattle.gametree_theory.proofs.Theorems.{all-deciding}
 use Rattle.frames.specs.Frame.{frames, childCount}
 use Rattle.frames.specs.Tree.{tree, valuation}
 use Rattle.frames.specs.Formed.{WellFormed}

@@ -8,8 +8,8 @@ use lib.ListN.{length, set}
 use Rattle.gametree.specs.declared.Side.{Side}
 use Rattle.gametree.specs.Tree.{better, minimax, leaves, Score}
 use Rattle.gametree.specs.Certificate.{worst}
-use Rattle.gametree.proofs.minimax.Nodes.{leaves-in}
-use Rattle.gametree.proofs.Theorems.{value-score}
+use Rattle.gametree_theory.proofs.minimax.Nodes.{leaves-in}
+use Rattle.gametree_theory.proofs.Theorems.{value-score}
 use Rattle.frames.specs.Frame.{maxDepth, firstChild, childCount}
 use Rattle.frames.specs.Position.{childSide}
 use Rattle.frames.specs.Tree.{treeAt, valuation}

@@ -9,7 +9,7 @@ use Rattle.gametree.specs.declared.Side.the-variants.{Max}
 use Rattle.gametree.specs.Tree.{greatest, minimax}
 use Rattle.gametree.specs.Move.{boundMove}
 use Rattle.gametree.specs.Certificate.{flag}
-use Rattle.gametree.proofs.Theorems.{value-score, all-deciding}
+use Rattle.gametree_theory.proofs.Theorems.{value-score, all-deciding}
 use Rattle.frames.specs.declared.Checked.the-variants.{Nodes}
 use Rattle.frames.specs.Frame.{maxDepth, frames}
 use Rattle.frames.specs.Tree.{tree, valuation}

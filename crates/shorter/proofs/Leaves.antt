@@ -9,7 +9,7 @@ use lib.ListN.{getD}
 use borrow.Author.Tests.{ne-eqb}
 use Rattle.gametree.specs.declared.Side.the-variants.{Max, Min}
 use Rattle.gametree.specs.Certificate.{inBoth, inside, pairLeaves}
-use Rattle.gametree.proofs.certificates.Leaves.{pair-count}
+use Rattle.gametree_theory.proofs.certificates.Leaves.{pair-count}
 use Rattle.frames.specs.Frame.{frames, childCount}
 use Rattle.frames.specs.Tree.{tree}
 use Rattle.frames.proofs.Trees.{zero-or-suc}

@@ -10,7 +10,7 @@ use lib.ListN.{length, take, length-take}
 use borrow.Author.Tests.{lt-ltb, le-ltb}
 use Rattle.lists.proofs.Choice.{clash}
 use Rattle.gametree.specs.Tree.{minimax}
-use Rattle.gametree.proofs.Theorems.{certificate-minimax}
+use Rattle.gametree_theory.proofs.Theorems.{certificate-minimax}
 use Rattle.frames.specs.declared.Rejection.{Rejection}
 use Rattle.frames.specs.Frame.{frames}
 use Rattle.frames.specs.Rejection.{_andThen_, unless}

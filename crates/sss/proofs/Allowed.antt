@@ -14,10 +14,11 @@ use Rattle.gametree.specs.Allowance.{Evaluation}
 use Rattle.gametree.specs.engine.OverLayout.{evaluationsOver}
 use Rattle.gametree.specs.engine.Within.{sssWithin}
 use Rattle.lists.proofs.Choice.{clash}
-use Rattle.gametree.proofs.Theorems.{sss-minimax, search-deciding}
-use Rattle.gametree.proofs.Searches.{Searched, bySss, Deciding}
-use Rattle.gametree.proofs.Within.{evaluations-count, covered-full, spent-first, within-value, within-count, within-all}
-use Rattle.gametree.proofs.Within.{full-few}
+use Rattle.gametree_theory.proofs.Theorems.{sss-minimax, search-deciding}
+use Rattle.gametree_theory.proofs.Searches.{Searched, bySss, Deciding}
+use Rattle.gametree_theory.proofs.Within.{evaluations-count, covered-full, spent-first, within-value, within-count}
+use Rattle.gametree_theory.proofs.Within.{within-all}
+use Rattle.gametree_theory.proofs.Within.{full-few}
 use Rattle.frames.specs.declared.Rejection.{Rejection}
 use Rattle.frames.specs.Rejection.{unless, _leaving_}
 use Rattle.frames.specs.Frame.{frames}

@@ -8,9 +8,9 @@ use Rattle.gametree.specs.declared.Side.{Side}
 use Rattle.gametree.specs.declared.Side.the-variants.{Max, Min}
 use Rattle.gametree.specs.Tree.{Tree, inner, Children, last, _then_, number, In, InChildren, Distinct, DistinctChildren}
 use Rattle.gametree.specs.Sss.{Status, State, LIVE, live}
-use Rattle.gametree.proofs.sss.Fronts.{ChildIn}
-use Rattle.gametree.proofs.sss.FrontSteps.{in-child}
-use Rattle.gametree.proofs.minimax.Nodes.{number-in}
+use Rattle.gametree_theory.proofs.sss.Fronts.{ChildIn}
+use Rattle.gametree_theory.proofs.sss.FrontSteps.{in-child}
+use Rattle.gametree_theory.proofs.minimax.Nodes.{number-in}
 use Rattle.states.specs.engine.Shown.{Arrays, Listed, Above, Leads, Shows, listed, expanded, Siblings, none, one}
 use Rattle.states.specs.engine.Shown.{more}
 use Rattle.states.specs.engine.Shown.{Beside, only, first, later, Around, top, child, stateAt}

@@ -14,7 +14,7 @@ use Rattle.gametree.specs.declared.Side.{Side}
 use Rattle.gametree.specs.declared.Side.the-variants.{Max, Min}
 use Rattle.gametree.specs.Tree.{Tree, inner, Children, number, InChildren, Distinct}
 use Rattle.gametree.specs.Sss as theory
-use Rattle.gametree.proofs.sss.FrontSteps.{in-child}
+use Rattle.gametree_theory.proofs.sss.FrontSteps.{in-child}
 use Rattle.frames.specs.Frame.{frames, firstChild}
 use Rattle.frames.specs.Position.{parentOf}
 use Rattle.frames.specs.Formed.{WellFormed, ChildOf}

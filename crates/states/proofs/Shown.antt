@@ -8,7 +8,7 @@ use mathlib.Core.List.{List, [], _∷_, _++_, append-assoc, append-nil}
 use Rattle.gametree.specs.declared.Side.{Side}
 use Rattle.gametree.specs.Tree.{Tree, Children, number}
 use Rattle.gametree.specs.Sss.{State}
-use Rattle.gametree.proofs.sss.Fronts as fronts
+use Rattle.gametree_theory.proofs.sss.Fronts as fronts
 use Rattle.lists.proofs.Lists.{all-append, all-map}
 use Rattle.states.specs.engine.Shown.{Arrays, Listed, Leads, Shows, listed, expanded, Siblings, none, one, more}
 use Rattle.states.specs.engine.Shown.{Beside, only, first, later, Around, top, child, Below, BestFound, stateAt}

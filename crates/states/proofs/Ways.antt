@@ -12,7 +12,7 @@ use Rattle.gametree.specs.declared.Side.the-variants.{Max, Min}
 use Rattle.gametree.specs.Tree.{Tree, leaf, inner, Children, number}
 use Rattle.gametree.specs.Sss.{State, live}
 use Rattle.lists.proofs.Choice.{clash}
-use Rattle.gametree.proofs.sss.Fronts.{ChildIn}
+use Rattle.gametree_theory.proofs.sss.Fronts.{ChildIn}
 use Rattle.frames.specs.Frame.{frames, firstChild, childCount}
 use Rattle.frames.specs.Position.{parentOf, sideOf}
 use Rattle.frames.specs.Formed.{WellFormed, ChildOf}

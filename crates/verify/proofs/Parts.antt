@@ -8,8 +8,8 @@ use lib.Seq.{getD-take}
 use Rattle.gametree.specs.declared.Side.{Side}
 use Rattle.gametree.specs.declared.Side.the-variants.{Max, Min}
 use Rattle.gametree.specs.Certificate.{inside}
-use Rattle.gametree.proofs.certificates.Checker.{certificate-passes, passed-certifies}
-use Rattle.gametree.proofs.certificates.SmallestPair.{Same, certificate-like, value-same}
+use Rattle.gametree_theory.proofs.certificates.Checker.{certificate-passes, passed-certifies}
+use Rattle.gametree_theory.proofs.certificates.SmallestPair.{Same, certificate-like, value-same}
 use Rattle.frames.specs.Frame.{frames}
 use Rattle.frames.specs.Tree.{tree, valuation}
 use Rattle.frames.proofs.Acceptance.{accepted-formed}

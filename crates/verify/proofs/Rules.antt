@@ -9,9 +9,9 @@ use borrow.Author.Tests.{eq-eqb, eqb-true}
 use Rattle.gametree.specs.declared.Side.{Side}
 use Rattle.gametree.specs.Tree.{Tree, Children}
 use Rattle.gametree.specs.Certificate.{Rule, Rules, RulesChildren, SolutionTree}
-use Rattle.gametree.proofs.certificates.Counting.{kidCount, members, required}
+use Rattle.gametree_theory.proofs.certificates.Counting.{kidCount, members, required}
 use Rattle.lists.proofs.Choice.{and-both}
-use Rattle.gametree.proofs.Theorems.{rule-counting}
+use Rattle.gametree_theory.proofs.Theorems.{rule-counting}
 use Rattle.frames.specs.Frame.{frames, firstChild, childCount}
 use Rattle.frames.specs.Position.{sideOf}
 use Rattle.frames.specs.Tree.{childrenFrom, treeAt, tree}

@@ -13,7 +13,7 @@ use borrow.Author.Tests.{le-leb, leb-true, eq-eqb, eqb-true}
 use Rattle.gametree.specs.declared.Side.the-variants.{Max, Min}
 use Rattle.gametree.specs.Tree.{minimax}
 use Rattle.lists.proofs.Choice.{and-both}
-use Rattle.gametree.proofs.Theorems.{certificate-minimax}
+use Rattle.gametree_theory.proofs.Theorems.{certificate-minimax}
 use Rattle.frames.specs.declared.Rejection.{Rejection}
 use Rattle.frames.specs.Frame.{frames}
 use Rattle.frames.specs.Tree.{tree, valuation}

@@ -15,8 +15,8 @@ use Rattle.gametree.specs.Tree.{EveryLeafChildren}
 use Rattle.gametree.specs.Tree.{Score, Scored, ScoredChildren}
 use Rattle.gametree.specs.Certificate.{worst, solutionValue}
 use Rattle.lists.proofs.Choice.{cond-cases}
-use Rattle.gametree.proofs.certificates.Leaves.{bestLeaf, bestLeafChildren, value-best}
-use Rattle.gametree.proofs.certificates.Solution.{Under, under-refl, under-both}
+use Rattle.gametree_theory.proofs.certificates.Leaves.{bestLeaf, bestLeafChildren, value-best}
+use Rattle.gametree_theory.proofs.certificates.Solution.{Under, under-refl, under-both}
 use Rattle.frames.specs.Frame.{frames, childCount}
 use Rattle.frames.specs.Tree.{tree, valuation}
 use Rattle.frames.specs.Formed.{WellFormed}

@@ -10,8 +10,8 @@ use Rattle.gametree.specs.declared.Side.the-variants.{Max, Min}
 use Rattle.gametree.specs.Tree.{Tree, leaf, inner, Children, last, _then_, leaves, leavesChildren, EveryLeaf}
 use Rattle.gametree.specs.Tree.{EveryLeafChildren}
 use Rattle.gametree.specs.Tree.{In, InChildren, Distinct, DistinctChildren}
-use Rattle.gametree.proofs.minimax.Bounds.{every-map, every-map-kids}
-use Rattle.gametree.proofs.alphabeta.WorstCase.{Blocks, BlocksChildren, blocks-more}
+use Rattle.gametree_theory.proofs.minimax.Bounds.{every-map, every-map-kids}
+use Rattle.gametree_theory.proofs.alphabeta.WorstCase.{Blocks, BlocksChildren, blocks-more}
 use Rattle.frames.specs.Frame.{frameSize, frames, byteOf, valueBytes}
 use Rattle.worstcase.specs.Ranks.{ranked, rankedChildren}
 use Rattle.worstcase.proofs.Ranks.{off-other, rank-value, ranked-length, ranked-other}

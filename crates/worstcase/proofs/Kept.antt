@@ -6,7 +6,7 @@ use mathlib.Core.Path.{_≡_, refl, sym, ap₂, _∙_}
 use mathlib.Core.List.{List}
 use lib.ListN.{length}
 use Rattle.gametree.specs.Tree.{Tree, zeroScore, leaves, EveryLeaf, Score}
-use Rattle.gametree.proofs.minimax.Bounds.{every-leaf}
+use Rattle.gametree_theory.proofs.minimax.Bounds.{every-leaf}
 use Rattle.frames.specs.Frame.{frameSize, maxNodes, twoBytes, frames, byteOf, valueBytes, storedScore}
 use Rattle.frames.specs.Formed.{WellFormed}
 use Rattle.frames.specs.Shape.{SameShape}

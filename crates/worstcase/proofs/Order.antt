@@ -10,8 +10,9 @@ use Rattle.lists.specs.Lists.{among}
 use Rattle.gametree.specs.declared.Side.{Side}
 use Rattle.gametree.specs.declared.Side.the-variants.{Max, Min}
 use Rattle.gametree.specs.Tree.{Tree, leaves}
-use Rattle.gametree.proofs.alphabeta.WorstCase.{total, totalChildren, elderFrom, youngerFrom, Blocks, BlocksChildren}
-use Rattle.gametree.proofs.alphabeta.WorstCase.{blocks-at, blocksChildren-at}
+use Rattle.gametree_theory.proofs.alphabeta.WorstCase.{total, totalChildren, elderFrom, youngerFrom, Blocks}
+use Rattle.gametree_theory.proofs.alphabeta.WorstCase.{BlocksChildren}
+use Rattle.gametree_theory.proofs.alphabeta.WorstCase.{blocks-at, blocksChildren-at}
 use Rattle.frames.specs.Frame.{frames, firstChild, childCount}
 use Rattle.frames.specs.Position.{sideOf}
 use Rattle.frames.specs.Tree.{childrenFrom, treeAt, tree}

@@ -12,7 +12,7 @@ use Rattle.gametree.specs.declared.Side.{Side}
 use Rattle.gametree.specs.declared.Side.the-variants.{Max, Min}
 use Rattle.gametree.specs.Tree.{Tree, leaf, inner, Children, last, _then_, leaves, leavesChildren, EveryLeaf}
 use Rattle.gametree.specs.Tree.{EveryLeafChildren}
-use Rattle.gametree.proofs.minimax.Bounds.{every-leaf}
+use Rattle.gametree_theory.proofs.minimax.Bounds.{every-leaf}
 use Rattle.frames.specs.Frame.{frameSize, frames, byteOf, valueBytes}
 use Rattle.frames.specs.Shape.{AgreeOn}
 use Rattle.worstcase.specs.Ranks.{withRank, ranked, rankedChildren}

@@ -8,7 +8,7 @@ use lib.ListN.{length}
 use Rattle.lists.proofs.Choice.{clash}
 use Rattle.gametree.specs.declared.Side.the-variants.{Max}
 use Rattle.gametree.specs.Tree.{leaves}
-use Rattle.gametree.proofs.minimax.Counts.{leaves-size}
+use Rattle.gametree_theory.proofs.minimax.Counts.{leaves-size}
 use Rattle.frames.specs.declared.Rejection.{Rejection}
 use Rattle.frames.specs.Rejection.{unless, Outcome, _leaving_}
 use Rattle.frames.specs.declared.Checked.the-variants as checked-answer

@@ -12,8 +12,9 @@ use Rattle.lists.specs.Lists.{among}
 use Rattle.lists.proofs.Lists.{all-at}
 use Rattle.gametree.specs.Tree.{zeroScore, least, greatest, leaves, EveryLeaf}
 use Rattle.gametree.specs.AlphaBeta.{reached}
-use Rattle.gametree.proofs.alphabeta.WorstCase.{Blocks, blocks-more, blocks-at, blocks-once, blocks-all, all-reached}
-use Rattle.gametree.proofs.minimax.Counts.{leaves-size}
+use Rattle.gametree_theory.proofs.alphabeta.WorstCase.{Blocks, blocks-more, blocks-at, blocks-once, blocks-all}
+use Rattle.gametree_theory.proofs.alphabeta.WorstCase.{all-reached}
+use Rattle.gametree_theory.proofs.minimax.Counts.{leaves-size}
 use Rattle.frames.specs.Frame.{frameSize, maxNodes, frames, byteOf, childCount, valueBytes, storedScore}
 use Rattle.frames.specs.Position.{depthOf}
 use Rattle.frames.specs.Tree.{tree, valuation}

@@ -1,0 +1,280 @@
+-- The theorems for use on searches made of null-window tests with memory, in the manner of Theorems: each says in one
+-- sentence what it gives. Sections: one test, a search by any strategy, the last phase, MTD(f), its two ends,
+-- bisection, Scout.
+use Prim.Native.Nat.{ℕ, suc, _+_, _≤_, _<_}
+use native.Mathlib.Omega.{arith}
+use mathlib.Core.Path.{_≡_, refl, sym, _∙_, ap, ap₂, subst}
+use mathlib.Core.Logic.{_↔_}
+use mathlib.Core.Bool.{Bool, true, false, cond}
+use mathlib.Core.List.{List, [], _++_, map}
+use lib.ListN.{length}
+use borrow.Author.Tests.{leb-true, leb-false, le-leb, lt-leb}
+use Rattle.lists.specs.Lists.{All, among, Once, different}
+use Rattle.gametree.specs.declared.Side.the-variants.{Max, Min}
+use Rattle.gametree.specs.Tree.{Tree, least, greatest, minimax, leaves, Scored, Proper}
+use Rattle.gametree.specs.Bounds.{low, high, Decided}
+use Rattle.gametree.specs.AlphaBeta.{alphaBeta, fullWindow}
+use Rattle.gametree.specs.Layout.{layoutOf}
+use Rattle.gametree.specs.Sss.{sss}
+use Rattle.gametree.specs.Certificate.{pairLeaves, chosen, flag, Smallest}
+use Rattle.gametree.specs.Move.{rootMove, boundMove}
+use Rattle.gametree.specs.results.Mirror.{mirror, mirrored, oppositeTest}
+use Rattle.gametree.specs.results.Scout.{scout}
+use Rattle.gametree.specs.Tests.{test, Strategy, TestSearch, searchBy, mtdFrom, falling, rising, bisection}
+use Rattle.gametree.specs.FirstMove.{decideBy, mtdf}
+use Rattle.lists.proofs.Lists.{once-length}
+use Rattle.gametree_theory.proofs.minimax.Bounds.{every-leaf, known-local}
+use Rattle.gametree_theory.proofs.minimax.Moves.{boundMove-local}
+use Rattle.gametree_theory.proofs.alphabeta.Window.{alphaBeta-evaluated}
+use Rattle.gametree_theory.proofs.certificates.Flags.{FlagsCertify, decided-certify}
+use Rattle.gametree_theory.proofs.certificates.SmallestPair.{smallest≤}
+use Rattle.gametree_theory.proofs.sss.Run.{sss-is-mtd}
+use Rattle.gametree_theory.proofs.Theorems.{alphaBeta-leaves, layout-own}
+use Rattle.gametree_theory.proofs.tests.Answer.{test-answer}
+use Rattle.gametree_theory.proofs.tests.Leaves.{New, test-dominated, test-once}
+use Rattle.gametree_theory.proofs.tests.Progress.{confirmed-low, confirmed-high, test-confirmed}
+use Rattle.gametree_theory.proofs.tests.Narrower.{reached-narrower}
+use Rattle.gametree_theory.proofs.tests.Local.{run-local}
+use Rattle.gametree_theory.proofs.tests.Null.{test-null}
+use Rattle.gametree_theory.proofs.tests.Runs.{reaches-own, test-opens, search-right}
+use Rattle.gametree_theory.proofs.tests.Move.{BestMove, decided-best}
+use Rattle.gametree_theory.proofs.tests.Guess.{right-guess}
+use Rattle.gametree_theory.proofs.tests.Few.{guess-scores}
+use Rattle.gametree_theory.proofs.tests.Bisection.{bisection-tests}
+use Rattle.gametree_theory.proofs.tests.FirstMove.{ElderMovesWorse, decide-right}
+use Rattle.gametree_theory.proofs.tests.Falling.{falling-mtd}
+use Rattle.gametree_theory.proofs.tests.FallingMove.{falling-decides-mtd}
+use Rattle.gametree_theory.proofs.tests.Scout.{scout-value, scout-decides, scout-once}
+use Rattle.gametree_theory.proofs.tests.Mirror.{proper-mirror, RunMirrors, search-mirror, decide-mirror}
+
+-- ONE TEST
+
+module _ (ν : ℕ → ℕ) (t : Tree) (h : Scored ν t) (γ : ℕ) (w : List ℕ) where
+  -- the answer is "not below" exactly if the test is at most the minimax value, whatever leaves were evaluated before
+  pub test-not-below : (test ν γ w t .notBelow ≡ true) ↔ (γ ≤ minimax ν t)
+  test-not-below = (
+    λ e. leb-true γ (minimax ν t) (sym (test-answer ν γ w t h) ∙ e),
+    λ k. test-answer ν γ w t h ∙ le-leb γ (minimax ν t) k,
+  )
+
+  -- and "below" exactly if the value is below the test
+  pub test-below : (test ν γ w t .notBelow ≡ false) ↔ (minimax ν t < γ)
+  test-below = (
+    λ e. leb-false γ (minimax ν t) (sym (test-answer ν γ w t h) ∙ e),
+    λ k. test-answer ν γ w t h ∙ lt-leb γ (minimax ν t) k,
+  )
+
+  -- every leaf that it evaluates is one that alpha-beta evaluates with any window that holds γ - 1 and γ
+  pub test-domination : (α β : ℕ) → α < γ → γ ≤ β
+      → All (λ k. among (alphaBeta ν α β t .evaluated) k ≡ true) (test ν γ w t .evaluated)
+  test-domination α β l u =
+      rw (alphaBeta-evaluated ν α β (omega arith) t) (test-dominated ν γ α β w t h l u)
+
+  -- none of them was evaluated before, and none is evaluated twice
+  pub test-new : New w (test ν γ w t .evaluated)
+  test-new = test-once ν γ w t
+
+  -- after the answer "below" the high by the leaves evaluated now is below the test, after "not below" the low is not
+  pub test-narrows : (test ν γ w t .notBelow ≡ false → high ν (among (w ++ test ν γ w t .evaluated)) t < γ)
+      × (test ν γ w t .notBelow ≡ true → γ ≤ low ν (among (w ++ test ν γ w t .evaluated)) t)
+  test-narrows = (
+    λ e. confirmed-high γ (test ν γ w t .notBelow) _ _ e (test-confirmed ν γ w t h),
+    λ e. confirmed-low γ (test ν γ w t .notBelow) _ _ e (test-confirmed ν γ w t h),
+  )
+
+  -- so a test between the bounds evaluates a leaf
+  pub test-evaluates : low ν (among w) t < γ → γ ≤ high ν (among w) t → 0 < length (test ν γ w t .evaluated)
+  test-evaluates l u = test-opens ν γ w t h l u
+
+-- the first test is alpha-beta with the null window from γ - 1 to γ, here g and g + 1
+pub first-test : (ν : ℕ → ℕ) (t : Tree) → Proper ν t → (g : ℕ) → g < greatest
+    → test ν (suc g) [] t .evaluated ≡ alphaBeta ν g (suc g) t .evaluated
+first-test ν t r g l =
+    test-null ν g [] t (r .scored) (r .distinct) l (every-leaf (λ n. among [] n ≡ false) (λ n. refl) t)
+    ∙ sym (alphaBeta-evaluated ν g (suc g) (omega arith) t)
+
+-- alpha-beta with a narrower window evaluates no other leaves
+pub narrower-window : (ν : ℕ → ℕ) (t : Tree) (α β α′ β′ : ℕ) → α < β → α′ ≤ α → β ≤ β′
+    → All (λ k. among (alphaBeta ν α′ β′ t .evaluated) k ≡ true) (alphaBeta ν α β t .evaluated)
+narrower-window ν t α β α′ β′ o l u =
+    rw (alphaBeta-evaluated ν α β o t, alphaBeta-evaluated ν α′ β′ (omega arith) t)
+    (reached-narrower ν α β α′ β′ l u t)
+
+-- A SEARCH BY ANY STRATEGY
+
+module _ (σ : Strategy) (ν : ℕ → ℕ) (t : Tree) (h : Scored ν t) where
+  -- it ends with the minimax value
+  pub tests-minimax : searchBy σ ν t .value ≡ minimax ν t
+  tests-minimax = search-right σ ν t h .value
+
+  -- the bounds of the leaves that it evaluates meet at the minimax value
+  pub tests-decide : Decided ν (among (searchBy σ ν t .evaluated)) t
+  tests-decide = search-right σ ν t h .decided
+
+  -- no leaf is evaluated twice, even if leaves of the tree share a number
+  pub tests-once : Once (searchBy σ ν t .evaluated)
+  tests-once = search-right σ ν t h .once
+
+  -- domination: every leaf that it evaluates is one that alpha-beta evaluates
+  pub tests-domination : All (λ k. among (fullWindow ν t .evaluated) k ≡ true) (searchBy σ ν t .evaluated)
+  tests-domination = rw (alphaBeta-leaves ν t) (search-right σ ν t h .reaches)
+
+  -- so it evaluates no more leaves than alpha-beta
+  pub tests-count : length (searchBy σ ν t .evaluated) ≤ length (fullWindow ν t .evaluated)
+  tests-count = once-length (searchBy σ ν t .evaluated) (fullWindow ν t .evaluated) tests-once tests-domination
+
+  -- they are leaves of the tree
+  pub tests-own : All (λ k. among (leaves t) k ≡ true) (searchBy σ ν t .evaluated)
+  tests-own = reaches-own ν least greatest t (searchBy σ ν t .evaluated) (search-right σ ν t h .reaches)
+
+  -- it makes no more tests than it evaluates leaves
+  pub tests-few : length (searchBy σ ν t .tests) ≤ length (searchBy σ ν t .evaluated)
+  tests-few = omega (arith, search-right σ ν t h .counted)
+
+  -- the move that the bounds show leads to a child with the root's value, though not always to the first one
+  pub tests-move : BestMove ν t (boundMove ν (among (searchBy σ ν t .evaluated)) t)
+  tests-move = decided-best ν _ t h tests-decide
+
+-- the flags read off the bounds are a certificate of the value, made of evaluated leaves only
+pub tests-certify : (σ : Strategy) (ν : ℕ → ℕ) (t : Tree) → Proper ν t
+    → FlagsCertify ν (among (searchBy σ ν t .evaluated)) t
+tests-certify σ ν t r = decided-certify ν _ t r (tests-decide σ ν t (r .scored))
+
+-- so no strategy evaluates fewer leaves than a smallest certificate has
+pub tests-smallest : (σ : Strategy) (ν : ℕ → ℕ) (t : Tree) → Proper ν t → (g h : ℕ → Bool) → Smallest ν t g h
+    → pairLeaves g h t ≤ length (searchBy σ ν t .evaluated)
+tests-smallest σ ν t r g h m = smallest≤ ν t g h (searchBy σ ν t .evaluated) r m (tests-certify σ ν t r)
+
+-- it gives the same value, leaves and tests under a valuation that agrees on the leaves that it evaluates
+pub local-tests : (σ : Strategy) (ν μ : ℕ → ℕ) (t : Tree) → All (λ k. ν k ≡ μ k) (searchBy σ ν t .evaluated)
+    → searchBy σ ν t ≡ searchBy σ μ t
+local-tests σ ν μ t a = run-local ν μ σ (suc (length (leaves t))) t [] [] a
+
+-- so the value, the flags of the certificate and the move that the bounds show are the same
+pub local-tests-results : (σ : Strategy) (ν μ : ℕ → ℕ) (t : Tree) → Scored ν t → Scored μ t → (w : List ℕ)
+    → w ≡ searchBy σ ν t .evaluated → All (λ k. ν k ≡ μ k) w
+    → (minimax ν t ≡ minimax μ t)
+    × ((k : ℕ) → flag ν (among w) t k ≡ flag μ (among w) t k)
+    × (boundMove ν (among w) t ≡ boundMove μ (among w) t)
+local-tests-results σ ν μ t h i w e a = (
+  sym (tests-minimax σ ν t h)
+      ∙ ap (λ (q : TestSearch). q .value) (local-tests σ ν μ t (subst (All (λ k. ν k ≡ μ k)) e a))
+      ∙ tests-minimax σ μ t i,
+  λ k.
+      ap₂ (λ κ χ. cond (among (chosen Max κ t) k) 1 0 + cond (among (chosen Min χ t) k) 2 0)
+      (known-local ν μ w a greatest)
+      (known-local ν μ w a least),
+  boundMove-local ν μ w a t,
+)
+
+-- THE LAST PHASE
+
+-- With it a search made of tests is `Searched` (by `byTests`), so that its leaves are `Deciding`: the certificate, the
+-- move by the bounds, domination, the smallest certificate and locality are those of Theorems.
+
+module _ (σ : Strategy) (ν : ℕ → ℕ) (t : Tree) (h : Scored ν t) where
+  -- the value is the minimax value
+  pub decide-minimax : decideBy σ ν t .value ≡ minimax ν t
+  decide-minimax = decide-right σ ν t h .value
+
+  -- the move is the first child with the root's value
+  pub decide-move : decideBy σ ν t .move ≡ rootMove ν t
+  decide-move = decide-right σ ν t h .move
+
+  -- the bounds show each elder brother of the move to be worse: under Max its high is below the value, under Min its
+  -- low is above it
+  pub decide-elders : ElderMovesWorse ν (among (decideBy σ ν t .evaluated)) t
+  decide-elders = decide-right σ ν t h .elders
+
+-- so the strategy matters neither for the value nor for the move
+pub decide-same : (σ τ : Strategy) (ν : ℕ → ℕ) (t : Tree) → Scored ν t
+    → (decideBy σ ν t .value ≡ decideBy τ ν t .value) × (decideBy σ ν t .move ≡ decideBy τ ν t .move)
+decide-same σ τ ν t h = (
+  decide-minimax σ ν t h ∙ sym (decide-minimax τ ν t h),
+  decide-move σ ν t h ∙ sym (decide-move τ ν t h),
+)
+
+-- MTD(f)
+
+-- the first guess matters neither for the value nor for the move
+pub guess-same : (f g : ℕ) (ν : ℕ → ℕ) (t : Tree) → Scored ν t
+    → (mtdf f ν t .value ≡ mtdf g ν t .value) × (mtdf f ν t .move ≡ mtdf g ν t .move)
+guess-same f g ν t h = decide-same (mtdFrom f) (mtdFrom g) ν t h
+
+-- two tests of the root suffice where it is the value
+pub guess-two : (ν : ℕ → ℕ) (t : Tree) → Scored ν t → mtdf (minimax ν t) ν t .tests ≤ 2
+guess-two ν t h = right-guess ν t h
+
+-- whatever the guess, it makes at most one test more than there are different scores among the leaves that it evaluates
+pub guess-few : (ν : ℕ → ℕ) (f : ℕ) (t : Tree) → Scored ν t
+    → length (searchBy (mtdFrom f) ν t .tests) ≤ suc (different (map ν (searchBy (mtdFrom f) ν t .evaluated)))
+guess-few ν f t h = guess-scores ν f t h
+
+-- in the game with the sides exchanged the opposite guess gives the same leaves and the opposite tests
+pub guess-mirror : (ν : ℕ → ℕ) (f : ℕ) (t : Tree) → Scored ν t
+    → RunMirrors (searchBy (mtdFrom f) ν t) (searchBy (mtdFrom (oppositeTest f)) (mirrored ν) (mirror t))
+guess-mirror ν f t h = search-mirror ν f t h
+
+-- with the last phase the leaves are the same, too
+pub guess-mirror-decides : (ν : ℕ → ℕ) (f : ℕ) (t : Tree) → Scored ν t
+    → mtdf (oppositeTest f) (mirrored ν) (mirror t) .evaluated ≡ mtdf f ν t .evaluated
+guess-mirror-decides ν f t h = decide-mirror ν f t h
+
+-- ITS TWO ENDS
+
+module _ (ν : ℕ → ℕ) (t : Tree) (r : Proper ν t) where
+  -- from `greatest` it evaluates only leaves that SSS* evaluates
+  pub falling-sss : All (λ k. among (sss ν t .evaluated) k ≡ true) (searchBy falling ν t .evaluated)
+  falling-sss =
+      subst (λ w. All (λ k. among w k ≡ true) (searchBy falling ν t .evaluated))
+      (sym (sss-is-mtd ν (layoutOf t) t (layout-own t (r .distinct)) (r .scored) .leaves-are)) (falling-mtd ν t r)
+
+  -- so no more than SSS*
+  pub falling-count : length (searchBy falling ν t .evaluated) ≤ length (sss ν t .evaluated)
+  falling-count =
+      once-length (searchBy falling ν t .evaluated) (sss ν t .evaluated) (tests-once falling ν t (r .scored))
+      falling-sss
+
+  -- with the last phase too
+  pub falling-decides-sss : All (λ k. among (sss ν t .evaluated) k ≡ true) (mtdf greatest ν t .evaluated)
+  falling-decides-sss =
+      subst (λ w. All (λ k. among w k ≡ true) (mtdf greatest ν t .evaluated))
+      (sym (sss-is-mtd ν (layoutOf t) t (layout-own t (r .distinct)) (r .scored) .leaves-are))
+      (falling-decides-mtd ν t r)
+
+-- DUAL*, from `least`, evaluates only leaves that SSS* evaluates in the game with the sides exchanged
+pub rising-sss : (ν : ℕ → ℕ) (t : Tree) → Proper ν t
+    → All (λ k. among (sss (mirrored ν) (mirror t) .evaluated) k ≡ true) (searchBy rising ν t .evaluated)
+rising-sss ν t r =
+    subst (All (λ k. among (sss (mirrored ν) (mirror t) .evaluated) k ≡ true))
+    (search-mirror ν (suc least) t (r .scored) .leaves-are)
+    (falling-sss (mirrored ν) (mirror t) (proper-mirror ν t r))
+
+-- with the last phase too
+pub rising-decides-sss : (ν : ℕ → ℕ) (t : Tree) → Proper ν t
+    → All (λ k. among (sss (mirrored ν) (mirror t) .evaluated) k ≡ true) (mtdf (suc least) ν t .evaluated)
+rising-decides-sss ν t r =
+    subst (All (λ k. among (sss (mirrored ν) (mirror t) .evaluated) k ≡ true))
+    (decide-mirror ν (suc least) t (r .scored))
+    (falling-decides-sss (mirrored ν) (mirror t) (proper-mirror ν t r))
+
+-- BISECTION
+
+-- bisection makes at most 16 tests, however large the tree
+pub bisection-few : (ν : ℕ → ℕ) (t : Tree) → Scored ν t → length (searchBy bisection ν t .tests) ≤ 16
+bisection-few ν t h = bisection-tests ν t h
+
+-- SCOUT
+
+module _ (ν : ℕ → ℕ) (t : Tree) where
+  -- Scout gives the minimax value
+  pub scout-minimax : Scored ν t → scout ν [] t .value ≡ minimax ν t
+  scout-minimax h = scout-value ν [] t h
+
+  -- the bounds of the leaves that it evaluates meet there
+  pub scout-decided : Scored ν t → Decided ν (among (scout ν [] t .evaluated)) t
+  scout-decided h = scout-decides ν [] t h
+
+  -- no leaf is evaluated twice; but not each is one that alpha-beta evaluates: `scout-more` in tests/Scout
+  pub scout-leaves : Once (scout ν [] t .evaluated)
+  scout-leaves = scout-once ν [] t .once

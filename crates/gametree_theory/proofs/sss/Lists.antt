@@ -1,0 +1,110 @@
+-- Every list that SSS* reaches: few replacements led there, the state taken from it has no less merit than the tree has
+-- value, and the run goes on from it.
+use Prim.Native.Nat.{ℕ, suc, _+_, _*_, _≤_, _<_}
+use native.Mathlib.Omega.{arith}
+use mathlib.Core.Path.{_≡_, refl, sym, _∙_, ap, subst}
+use mathlib.Core.List.{List, [], _∷_, _++_, append-assoc}
+use Rattle.gametree.specs.Tree.{Tree, minimax, size, Scored}
+use Rattle.gametree.specs.engine.Memo.{memoMtd}
+use Rattle.gametree.specs.Layout.{Layout}
+use Rattle.gametree_theory.proofs.sss.Described.{Describes}
+use Rattle.gametree.specs.Sss.{takenMerit, State, stop, quiet, evaluating, step, End, Ran, runFrom}
+use Rattle.gametree.specs.Sss.{start, ListAfter, atStart, afterQuiet, afterEvaluating}
+use Rattle.gametree.specs.engine.OverLayout.{sssOver, resumed}
+use Rattle.lists.proofs.Choice.{clash}
+use Rattle.gametree_theory.proofs.sss.Steps.{Steps, done, quietly, evaluates}
+use Rattle.gametree_theory.proofs.mtd.Value.{mtd-right}
+use Rattle.gametree_theory.proofs.results.Merits.{steps-fall}
+use Rattle.gametree_theory.proofs.sss.Work.{full, full-size}
+use Rattle.gametree_theory.proofs.sss.Run.{root-stops, mtd-steps}
+
+-- what is ahead of the list L in a run of SSS* that ends at N, evaluates the leaves W and makes at most A replacements
+record Ahead (ν : ℕ → ℕ) (Y : Layout) (N : List State) (W : List ℕ) (A k : ℕ) (w : List ℕ)
+    (L : List State) : Type 0 where
+  left : ℕ
+  toCome : List ℕ
+  steps : Steps ν Y left L toCome N 0
+  whole : w ++ toCome ≡ W
+  atMost : k + left ≤ A
+
+module _ (ν : ℕ → ℕ) (Y : Layout) (N : List State) (W : List ℕ) (A v : ℕ) (e : step ν Y N ≡ stop v) where
+  -- a quiet step takes the run ahead
+  ahead-quiet : {k a : ℕ} {w u : List ℕ} {L M : List State} → Steps ν Y a L u N 0 → w ++ u ≡ W → k + a ≤ A
+      → step ν Y L ≡ quiet M
+      → Ahead ν Y N W A (suc k) w M
+  ahead-quiet (done l) i f s = clash (cc)
+  ahead-quiet {u = u} {M = M} (quietly {c = c} {M = M′} t l p) i f s =
+      let z : M′ ≡ M = cc in
+      record { left = c; toCome = u; steps = subst (λ X. Steps ν Y c X u N 0) z p; whole = i; atMost = omega arith }
+  ahead-quiet (evaluates t l p) i f s = clash (cc)
+
+  -- and so does one that evaluates a leaf
+  ahead-evaluating : {k a n : ℕ} (w : List ℕ) {u : List ℕ} {L M : List State} → Steps ν Y a L u N 0 → w ++ u ≡ W
+      → k + a ≤ A
+      → step ν Y L ≡ evaluating n M → Ahead ν Y N W A (suc k) (w ++ (n ∷ [])) M
+  ahead-evaluating w (done l) i f s = clash (cc)
+  ahead-evaluating w (quietly t l p) i f s = clash (cc)
+  ahead-evaluating {n = n} w {M = M} (evaluates {c = c} {M = M′} {w = x} {n = n′} t l p) i f s =
+      let z : M′ ≡ M = cc in
+      let y : n′ ≡ n = cc in
+      record {
+        left = c;
+        toCome = x;
+        steps = subst (λ X. Steps ν Y c X x N 0) z p;
+        whole = append-assoc w (n ∷ []) x ∙ ap (λ j. w ++ (j ∷ x)) (sym y) ∙ i;
+        atMost = omega arith;
+      }
+
+  -- what is ahead of every list
+  list-ahead : (t : Tree) → Steps ν Y A (start t) W N 0 → {k : ℕ} {w : List ℕ} {L : List State}
+      → ListAfter ν Y t k w L → Ahead ν Y N W A k w L
+  list-ahead t p atStart = record { left = A; toCome = W; steps = p; whole = refl; atMost = omega arith }
+  list-ahead t p (afterQuiet r s) = let a = list-ahead t p r in ahead-quiet (a .steps) (a .whole) (a .atMost) s
+  list-ahead t p (afterEvaluating {leaves = w} r s) =
+      let a = list-ahead t p r in ahead-evaluating w (a .steps) (a .whole) (a .atMost) s
+
+-- what holds of every list that SSS* reaches, with W the leaves of the whole run
+pub record Reaching (ν : ℕ → ℕ) (Y : Layout) (t : Tree) (W : List ℕ) (k : ℕ) (w : List ℕ)
+    (L : List State) : Type 0 where
+  -- fewer replacements than twice the number of nodes led to it
+  pub atMost : k < 2 * size t
+  -- the state taken has no less merit than the tree has value
+  pub merit : minimax ν t ≤ takenMerit Y L
+  -- the leaves so far are the first of the whole run's
+  pub toCome : List ℕ
+  pub whole : w ++ toCome ≡ W
+
+module _ (ν : ℕ → ℕ) (Y : Layout) (t : Tree) (d : Describes Y t) (h : Scored ν t) where
+  -- every list that SSS* reaches
+  pub list-reached : {k : ℕ} {w : List ℕ} {L : List State} → ListAfter ν Y t k w L
+      → Reaching ν Y t (memoMtd ν t .evaluated) k w L
+  list-reached {L = L} r =
+      let v = memoMtd ν t .value in
+      let e = root-stops ν Y t v (d .top) in
+      let a = list-ahead ν Y _ (memoMtd ν t .evaluated) (full t) v e t (mtd-steps ν Y t (d .answers) h) r in
+      record {
+        atMost = omega (arith, a .atMost, full-size t);
+        merit = rw (← mtd-right ν t h .value) (steps-fall ν Y (a .steps));
+        toCome = a .toCome;
+        whole = a .whole;
+      }
+
+-- a run by its parts
+pub ran-path : {e : End} {u w : List ℕ} {m n : ℕ} → u ≡ w → m ≡ n
+    → _≡_ {A = Ran} (record { end = e; evaluated = u; replacements = m })
+    (record { end = e; evaluated = w; replacements = n })
+ran-path p q = cc
+
+-- the run goes on from each list that it reaches
+pub resume : (ν : ℕ → ℕ) (Y : Layout) (t : Tree) {k : ℕ} {w : List ℕ} {L : List State} → ListAfter ν Y t k w L → (f : ℕ)
+    → k + f ≡ 2 * size t
+    → sssOver ν Y t ≡ resumed k w (runFrom (λ M. step ν Y M) f L)
+resume ν Y t atStart f e =
+    let z : f ≡ 2 * size t = omega arith in
+    rw z (ran-path refl (omega arith))
+resume ν Y t (afterQuiet {leaves = w} {L = L} r s) f e =
+    let i = resume ν Y t r (suc f) (omega arith) in
+    i ∙ rw s (ran-path refl (omega arith))
+resume ν Y t (afterEvaluating {n = n} {leaves = w} r s) f e =
+    let i = resume ν Y t r (suc f) (omega arith) in
+    i ∙ rw s (ran-path (sym (append-assoc w (n ∷ []) _)) (omega arith))

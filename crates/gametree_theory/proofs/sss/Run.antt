@@ -1,0 +1,101 @@
+-- SSS* from the LIVE root evaluates the leaves that MTD evaluates, in the same order, and ends with the minimax value:
+-- step 8 of the argument that Simulation sets out, and what follows for the run.
+use Prim.Native.Nat.{ℕ, zero, suc, _+_, _*_, _≤_, _<_}
+use native.Mathlib.Nat.{le-refl}
+use native.Mathlib.Omega.{arith}
+use mathlib.Core.Path.{_≡_, refl, ap, subst}
+use mathlib.Core.Logic.{inl, inr}
+use mathlib.Core.List.{List, [], _∷_, append-nil}
+use Rattle.gametree.specs.Tree.{Tree, greatest, minimax, number, size, Scored}
+use Rattle.gametree.specs.engine.Memo.{Memo, memoHigh, pass, MemoRun, run, fresh, memoMtd}
+use Rattle.gametree.specs.Layout.{root, Layout}
+use Rattle.gametree_theory.proofs.sss.Described.{Answers, Describes}
+use Rattle.gametree.specs.Sss.{SOLVED, State, live, solved, stop, step, finished, Ran, runFrom}
+use Rattle.gametree.specs.engine.OverLayout.{sssOver}
+use Rattle.lists.proofs.Choice.{cond-cases}
+use Rattle.gametree_theory.proofs.mtd.Sound.{Kept, sound}
+use Rattle.gametree_theory.proofs.mtd.Value.{kept-lower, fresh-kept, mtd-right}
+use Rattle.gametree_theory.proofs.sss.Steps.{Steps, done, quietly, evaluates, allow, chain}
+use Rattle.gametree_theory.proofs.sss.Frontier.{AtMost, frontier, Fitted, ready-lower, states, next, next-high}
+use Rattle.gametree_theory.proofs.sss.Work.{full, part, work, full-size}
+use Rattle.gametree_theory.proofs.sss.Simulation.{sim}
+use Rattle.gametree_theory.proofs.sss.Around.{AroundTree, takes}
+
+-- a list that holds the tree's states and nothing else
+alone : (Y : Layout) (γ : ℕ) (t : Tree) → AroundTree Y γ t [] []
+alone Y γ t = record { less = tt; noMore = tt; behind = tt; clearLeft = tt; clearRight = tt }
+
+-- STEP 8. THE NEXT TEST IS THE ROOT'S HIGH
+
+-- the passes of MTD, one after the other, are a run of SSS*: the high that a pass leaves bounds the frontier again
+run-steps : (ν : ℕ → ℕ) (Y : Layout) (f γ : ℕ) (t : Tree) (m : Memo t) (w : Fitted ν γ t m) → Answers Y t
+    → Scored ν t → Kept ν γ t m → γ ≤ greatest
+    → AtMost γ (states ν γ t m w) → γ < f
+    → Steps ν Y (work ν γ t m w) (states ν γ t m w) (run ν f γ t m .evaluated)
+    (solved (number t) (run ν f γ t m .value) ∷ []) 0
+run-steps ν Y zero γ t m w p h k g b l = absurd (omega (arith, l))
+run-steps ν Y (suc f) γ t m w p h k g b l =
+    let S = sim ν Y γ g t m w p h k b [] [] (alone Y γ t) in
+    let n = pass ν γ t m .next in
+    let F = states ν γ t m w in
+    let more : work ν γ t m w + 0 ≤ work ν γ t m w = omega arith in
+    cond-cases (λ (q : MemoRun t). Steps ν Y (work ν γ t m w) F (q .evaluated) (solved (number t) (q .value) ∷ []) 0)
+    (pass ν γ t m .notBelow) _ _
+    (λ e. allow more (rw (append-nil F) at (S .above 0 e)))
+    (λ e.
+    let s = sound ν γ t m h k in
+    let d = s .below e in
+    let N = next ν γ g t m w h k b e in
+    let enough : part ν t n ≤ part ν t n + 0 = omega arith in
+    chain (allow more (rw (append-nil F, append-nil (frontier ν t n)) at (S .below 0 e))) enough
+    (run-steps ν Y f (memoHigh ν t n) t n (inr (ready-lower ν t n (omega arith) (N .0))) p h
+    (kept-lower ν t n (omega arith) (s .kept)) (omega arith) (next-high ν γ g t m w h k b e) (omega arith)))
+
+-- THE RUN
+
+-- what a run gives that ends with v, evaluates the leaves w, and makes at most a replacements
+pub record Gives (r : Ran) (v : ℕ) (w : List ℕ) (a : ℕ) : Type 0 where
+  pub end-is : r .end ≡ finished v
+  pub leaves-are : r .evaluated ≡ w
+  pub replaced : r .replacements ≤ a
+
+module _ (ν : ℕ → ℕ) (Y : Layout) (v : ℕ) where
+  -- the run follows the steps
+  go-steps : (f : ℕ) {a b : ℕ} {L N : List State} {w : List ℕ} → Steps ν Y a L w N b → step ν Y N ≡ stop v
+      → a < f → Gives (runFrom (λ L. step ν Y L) f L) v w a
+  go-steps zero s e l = absurd (omega (arith, l))
+  go-steps (suc f) (done k) e l =
+      rw e (record { end-is = refl; leaves-are = refl; replaced = omega arith })
+  go-steps (suc f) (quietly t k p) e l =
+      let q = go-steps f p e (omega arith) in
+      rw t (record { end-is = q .end-is; leaves-are = q .leaves-are; replaced = omega (arith, q .replaced) })
+  go-steps (suc f) (evaluates {n = n} t k p) e l =
+      let q = go-steps f p e (omega arith) in
+      rw t (record {
+        end-is = q .end-is;
+        leaves-are = ap (λ x. n ∷ x) (q .leaves-are);
+        replaced = omega (arith, q .replaced);
+      })
+
+-- the root, SOLVED, stops the run
+pub root-stops : (ν : ℕ → ℕ) (Y : Layout) (t : Tree) (v : ℕ) → Y .link (number t) ≡ root
+    → step ν Y (solved (number t) v ∷ []) ≡ stop v
+root-stops ν Y t v o = takes ν Y v t [] [] (alone Y v t) SOLVED (stop v) (rw o refl)
+
+-- from the LIVE root MTD's leaves are evaluated
+pub mtd-steps : (ν : ℕ → ℕ) (Y : Layout) (t : Tree) → Answers Y t → Scored ν t
+    → Steps ν Y (full t) (live (number t) greatest ∷ []) (memoMtd ν t .evaluated)
+    (solved (number t) (memoMtd ν t .value) ∷ []) 0
+unfolding memoMtd
+mtd-steps ν Y t p h =
+    run-steps ν Y (suc greatest) greatest t (fresh t) (inl refl) p h (fresh-kept ν greatest t) (le-refl greatest)
+    (le-refl greatest, tt) (omega arith)
+
+-- SSS* gives the minimax value and MTD's leaves in MTD's order, and makes fewer replacements than twice the number of
+-- nodes
+pub sss-is-mtd : (ν : ℕ → ℕ) (Y : Layout) (t : Tree) → Describes Y t → Scored ν t
+    → Gives (sssOver ν Y t) (minimax ν t) (memoMtd ν t .evaluated) (full t)
+sss-is-mtd ν Y t d h =
+    subst (λ v. Gives (sssOver ν Y t) v (memoMtd ν t .evaluated) (full t)) (mtd-right ν t h .value)
+    (go-steps ν Y (memoMtd ν t .value) (2 * size t) (mtd-steps ν Y t (d .answers) h)
+    (root-stops ν Y t (memoMtd ν t .value) (d .top)) (full-size t))
