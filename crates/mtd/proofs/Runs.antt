@@ -27,10 +27,10 @@ use Rattle.bounds.specs.engine.Bounds.{boundOf}
 use Rattle.bounds.proofs.Listing.{ones-none}
 use Rattle.flags.specs.engine.Chosen.{firstEqual}
 use Rattle.flags.proofs.Chosen.{first-same}
-use Rattle.mtd.specs.declared.Tried.{Tried}
-use Rattle.mtd.specs.engine.Memory.{Memory, progressOf, memoOf, passOf, MemoryRoom, HighsRight}
-use Rattle.mtd.specs.engine.Memory.{firstHigh, Counted, VisitReady, Evaluated, Passed, Fresh}
-use Rattle.mtd.proofs.Arrays.{Long, room-kept, evaluated-none, evaluated-more}
+use Rattle.mtd_memory.specs.declared.Tried.{Tried}
+use Rattle.mtd_memory.specs.engine.Memory.{Memory, progressOf, memoOf, passOf, MemoryRoom, HighsRight}
+use Rattle.mtd_memory.specs.engine.Memory.{firstHigh, Counted, VisitReady, Evaluated, Passed, Fresh}
+use Rattle.mtd_memory.proofs.Arrays.{Long, room-kept, evaluated-none, evaluated-more}
 
 -- where the highs are right, the first of the root's children whose high is the root's is the one that the marks give
 pub move-right : (t : List ℕ) → WellFormed t → (m : Memory) → HighsRight t m (tree t)

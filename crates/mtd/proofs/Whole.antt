@@ -37,7 +37,7 @@ use Rattle.certificate.proofs.Concluded.{chosen-same}
 use Rattle.certificate.proofs.Marks.{marked-written}
 use Rattle.certificate.proofs.Outcomes.{search-marks}
 use Rattle.mtd.specs.declared.Settled.{Settled}
-use Rattle.mtd.specs.engine.Memory.{memory, firstHigh, Fresh}
+use Rattle.mtd_memory.specs.engine.Memory.{memory, firstHigh, Fresh}
 use Rattle.mtd.specs.Outcome.{mtdLeaves, mtdFound}
 
 module _ (t : List ℕ) (wf : WellFormed t) where

@@ -1,3 +1,2 @@
--- Definitions for MTD over a table: what a search gives and hands back, and what its engine keeps.
+-- Definitions for MTD over a table: what a search gives and hands back.
 pub mod Outcome
-pub mod engine

@@ -21,8 +21,8 @@ use Rattle.frames.proofs.Next.{child-within}
 use Rattle.frames.proofs.Positions.{position-child}
 use Rattle.frames.proofs.Trees.{kids-in}
 use Rattle.frames.proofs.Nodes.{in-parent, in-trans, children-apart}
-use Rattle.mtd.proofs.Arrays.{bound-local}
-use Rattle.mtd.proofs.Turns.{childrenUpTo, kids-last, kids-more, Family, child}
+use Rattle.mtd_memory.proofs.Arrays.{bound-local}
+use Rattle.mtd_memory.proofs.Turns.{childrenUpTo, kids-last, kids-more, Family, child}
 use Rattle.mtdf.specs.declared.Tried.{Tried}
 use Rattle.mtdf.specs.engine.Memory.{Memory, soFar, Bounded, BoundsRight, Counted, VisitReady, Same, VisitedBy}
 use Rattle.mtdf.proofs.Arrays.{Long, room-kept, same-more}

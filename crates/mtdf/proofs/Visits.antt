@@ -25,7 +25,7 @@ use Rattle.bounds.specs.engine.Progress.{Listable}
 use Rattle.bounds.specs.engine.Ranges.{bestIn}
 use Rattle.bounds.proofs.Bounds.{best-same, minimax-best}
 use Rattle.bounds.proofs.Listing.{next-fits}
-use Rattle.mtd.proofs.Turns.{childrenUpTo, Family, tree-kids}
+use Rattle.mtd_memory.proofs.Turns.{childrenUpTo, Family, tree-kids}
 use Rattle.mtdf.specs.declared.Seen.{Seen}
 use Rattle.mtdf.specs.declared.Seen.the-variants.{Answered, Open}
 use Rattle.mtdf.specs.declared.Tried.{Tried}

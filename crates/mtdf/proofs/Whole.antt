@@ -31,7 +31,7 @@ use Rattle.bounds.specs.engine.Progress.{progress, evaluateAll}
 use Rattle.bounds.proofs.Listing.{first-evaluated}
 use Rattle.certificate.specs.Search.{marksOf, flagsOf, listed}
 use Rattle.certificate.proofs.Outcomes.{search-concludes}
-use Rattle.mtd.proofs.Turns.{childrenUpTo, tree-kids}
+use Rattle.mtd_memory.proofs.Turns.{childrenUpTo, tree-kids}
 use Rattle.mtdf.specs.declared.Settled.{Settled}
 use Rattle.mtdf.specs.declared.Tried.{Tried}
 use Rattle.mtdf.specs.Outcome.{decisionOf, mtdfLeaves, mtdfFound}

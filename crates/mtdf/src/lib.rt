@@ -23,7 +23,7 @@ use gametree::Position;
 use gametree::Side;
 use leafvalue::in_range;
 use leafvalue::score_of;
-use mtd::last_tried;
+use mtd_memory::last_tried;
 ghost use mathlib.Core.Path.{_≡_};
 ghost use mathlib.Core.Bool.{cond, false};
 ghost use Prim.Native.Nat.{ℕ, suc, _+_, _<_, _≤_};

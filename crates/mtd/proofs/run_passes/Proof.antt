@@ -8,8 +8,8 @@ use Rattle.gametree.specs.Mtd.{mtd}
 use Rattle.frames.specs.Frame.{childCount, next}
 use Rattle.frames.specs.Tree.{tree, valuation}
 use Rattle.frames.proofs.Next.{next-within}
-use Rattle.mtd.specs.engine.Memory.{Memory, memory}
-use Rattle.mtd.proofs.Arrays.{Long}
+use Rattle.mtd_memory.specs.engine.Memory.{Memory, memory}
+use Rattle.mtd_memory.proofs.Arrays.{Long}
 use Rattle.mtd.proofs.Runs.{Passing, passing-first, passing-ready, passing-last}
 use Rattle.mtd.proofs.Runs.{next-falls, passing-next, move-right}
 use Rattle.mtd.proofs.run_passes.Statement.{statement}

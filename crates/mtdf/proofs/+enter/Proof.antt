@@ -13,7 +13,7 @@ use Rattle.frames.specs.Tree.{treeAt}
 use Rattle.frames.proofs.Next.{child-later, child-within}
 use Rattle.mtdf.specs.engine.Memory.{Memory, memory, MemoryRoom, VisitReady, VisitedBy}
 use Rattle.mtdf.proofs.Arrays.{Long, room-kept}
-use Rattle.mtd.proofs.Turns.{Family, family-within}
+use Rattle.mtd_memory.proofs.Turns.{Family, family-within}
 use Rattle.mtdf.proofs.Turns.{Turn, turn-first, turn-child, turn-ready}
 use Rattle.mtdf.proofs.Turns.{turn-next, turn-last}
 use Rattle.mtdf.proofs.Visits.{looked-visited, open-ready, open-visited, visited-same, ready-shallow}
@@ -25,7 +25,7 @@ use Rattle.frames.proofs.child_count.Reads as child-count-reads
 use Rattle.frames.proofs.child_position.Reads as child-position-reads
 use Rattle.frames.proofs.first_child.Reads as first-child-reads
 use Rattle.bounds.proofs.best.Reads as best-reads
-use Rattle.mtd.proofs.last_tried.Reads as last-tried-reads
+use Rattle.mtd_memory.proofs.last_tried.Reads as last-tried-reads
 use Rattle.mtdf.proofs.look.Reads as look-reads
 use Rattle.mtdf.proofs.+enter.{statement}
 use Rattle.mtdf.proofs.+enter.Tie.{close}

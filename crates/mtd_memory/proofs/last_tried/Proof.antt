@@ -1,8 +1,8 @@
 -- `last_tried` meets its contract: by the test whether a child is left.
 use borrow.Author.Needs.{needs}
 use borrow.Author.Tests.{eq-eqb, ne-eqb}
-use Rattle.mtd.proofs.last_tried.Statement.{statement}
-use Rattle.mtd.proofs.last_tried.Tie as tie
+use Rattle.mtd_memory.proofs.last_tried.Statement.{statement}
+use Rattle.mtd_memory.proofs.last_tried.Tie as tie
 
 pub last-tried-spec : {M : Type 1} → statement M
 last-tried-spec =

@@ -12,9 +12,9 @@ use Rattle.gametree.specs.engine.MemoArrays.{readMemoChildren, KidsRemembered}
 use Rattle.gametree_theory.proofs.mtd.MemoArrays.{rest-same, visit-ended, visit-joined}
 use Rattle.frames.specs.Tree.{valuation}
 use Rattle.bounds.specs.Marks.{marked}
-use Rattle.mtd.specs.declared.Tried.{Tried}
-use Rattle.mtd.specs.engine.Memory.{Memory, passOf, Evaluated, Counted, Passed}
-use Rattle.mtd.proofs.Arrays.{evaluated-none, evaluated-more}
+use Rattle.mtd_memory.specs.declared.Tried.{Tried}
+use Rattle.mtd_memory.specs.engine.Memory.{Memory, passOf, Evaluated, Counted, Passed}
+use Rattle.mtd_memory.proofs.Arrays.{evaluated-none, evaluated-more}
 
 -- what the arrays remember of the children of a node
 abbrev pub memoChildrenOf : Memory → (ks : Children) → MemoChildren ks

@@ -1,8 +1,8 @@
 -- `mtd::remember` meets its contract: the entries are the best of the highs and the answer.
 use mathlib.Core.Path.{refl}
 use borrow.Author.Needs.{needs}
-use Rattle.mtd.proofs.remember.Statement.{statement}
-use Rattle.mtd.proofs.remember.Tie as tie
+use Rattle.mtd_memory.proofs.remember.Statement.{statement}
+use Rattle.mtd_memory.proofs.remember.Tie as tie
 
 returns : tie.Need-returns
 returns c = (rw (c .before .best .ensures) refl, rw (c .not-below-entry .ensures) refl)

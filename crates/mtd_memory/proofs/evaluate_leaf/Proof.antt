@@ -1,8 +1,8 @@
 -- `evaluate_leaf` meets its contract: the leaf is evaluated, and its score stored.
 use mathlib.Core.Path.{refl}
 use borrow.Author.Needs.{needs}
-use Rattle.mtd.proofs.evaluate_leaf.Statement.{statement}
-use Rattle.mtd.proofs.evaluate_leaf.Tie as tie
+use Rattle.mtd_memory.proofs.evaluate_leaf.Statement.{statement}
+use Rattle.mtd_memory.proofs.evaluate_leaf.Tie as tie
 
 returns : tie.Need-returns
 returns c =

@@ -8,9 +8,9 @@ use Rattle.frames.specs.Frame.{frames}
 use Rattle.bounds.specs.Marks.{ones}
 use Rattle.bounds.specs.engine.Evaluable.{Evaluable}
 use Rattle.bounds.proofs.Listing.{next-counted}
-use Rattle.mtd.proofs.Arrays.{set-same, leaf-again, leaf-first}
-use Rattle.mtd.proofs.visit_leaf.Statement.{statement}
-use Rattle.mtd.proofs.visit_leaf.Tie as tie
+use Rattle.mtd_memory.proofs.Arrays.{set-same, leaf-again, leaf-first}
+use Rattle.mtd_memory.proofs.visit_leaf.Statement.{statement}
+use Rattle.mtd_memory.proofs.visit_leaf.Tie as tie
 
 -- a leaf without a mark may be evaluated
 leaf-of : (c : tie.Else1) → let a = c .before .before .before .before .before .before .args in

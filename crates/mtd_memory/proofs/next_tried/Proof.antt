@@ -1,8 +1,8 @@
 -- `mtd::next_tried` meets its contract, by the side: under Min no child is passed over.
 use native.Mathlib.Omega.{arith}
 use borrow.Author.Needs.{needs}
-use Rattle.mtd.proofs.next_tried.Statement.{statement}
-use Rattle.mtd.proofs.next_tried.Tie as tie
+use Rattle.mtd_memory.proofs.next_tried.Statement.{statement}
+use Rattle.mtd_memory.proofs.next_tried.Tie as tie
 
 returns-2 : tie.Need-returns-2
 returns-2 c =

@@ -16,7 +16,7 @@ use Rattle.gametree.specs.engine.MemoArrays.{Bits}
 use Rattle.bounds.specs.Marks.{marked}
 use Rattle.bounds.specs.engine.Progress.{progress, evaluateAll}
 use Rattle.bounds.proofs.Listing.{none-evaluated, one-evaluated, evaluateAll-append}
-use Rattle.mtd.specs.engine.Memory.{Memory, progressOf, MemoryRoom, Evaluated}
+use Rattle.mtd_memory.specs.engine.Memory.{Memory, progressOf, MemoryRoom, Evaluated}
 
 -- what stands there already is stored
 pub set-same : (l : List ℕ) (i v : ℕ) → getD l i 0 ≡ v → set l i v ≡ l

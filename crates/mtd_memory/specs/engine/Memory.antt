@@ -20,9 +20,9 @@ use Rattle.bounds.specs.Marks.{marked, ones}
 use Rattle.bounds.specs.engine.Progress.{Progress, progress, evaluateAll}
 use Rattle.bounds.specs.engine.Bounds.{boundOf}
 use Rattle.flags.specs.engine.Chosen.{firstEqual}
-use Rattle.mtd.specs.declared.Seen.{Seen}
-use Rattle.mtd.specs.declared.Seen.the-variants.{Answered, Open}
-use Rattle.mtd.specs.declared.Tried.{Tried}
+use Rattle.mtd_memory.specs.declared.Seen.{Seen}
+use Rattle.mtd_memory.specs.declared.Seen.the-variants.{Answered, Open}
+use Rattle.mtd_memory.specs.declared.Tried.{Tried}
 
 -- how many leaves are evaluated, their marks, the list of them, the high of each node, and a 1 for each inner node that
 -- a pass found not below its test

@@ -6,10 +6,11 @@ use mathlib.Core.Bool.{true, false}
 use borrow.Author.Needs.{needs}
 use borrow.Author.Tests.{eq-eqb, ne-eqb}
 use Rattle.frames.specs.Frame.{childCount}
-use Rattle.mtd.specs.engine.Memory.{Memory, memory}
-use Rattle.mtd.proofs.Visits.{looked-answer, ready-shallow, leaf-known, visit-leaf, visit-below, visit-not-below}
-use Rattle.mtd.proofs.look.Statement.{statement}
-use Rattle.mtd.proofs.look.Tie as tie
+use Rattle.mtd_memory.specs.engine.Memory.{Memory, memory}
+use Rattle.mtd_memory.proofs.Visits.{looked-answer, ready-shallow, leaf-known, visit-leaf, visit-below}
+use Rattle.mtd_memory.proofs.Visits.{visit-not-below}
+use Rattle.mtd_memory.proofs.look.Statement.{statement}
+use Rattle.mtd_memory.proofs.look.Tie as tie
 
 -- the arrays at the entry, with a count
 abbrev counting : tie.Start → ℕ → Memory

@@ -19,14 +19,15 @@ use Rattle.bounds.specs.Marks.{marked, ones}
 use Rattle.bounds.specs.engine.Progress.{progress, evaluateAll}
 use Rattle.bounds.specs.engine.Ranges.{bestIn}
 use Rattle.bounds.proofs.Bounds.{best-same, minimax-best}
-use Rattle.mtd.specs.declared.Seen.{Seen}
-use Rattle.mtd.specs.declared.Seen.the-variants.{Answered, Open}
-use Rattle.mtd.specs.declared.Tried.{Tried}
-use Rattle.mtd.specs.engine.Memory.{Memory, memory, progressOf, MemoryRoom, HighsRight, VisitReady, Enterable}
-use Rattle.mtd.specs.engine.Memory.{Passed, Looked}
-use Rattle.mtd.proofs.Arrays.{room-at}
-use Rattle.mtd.proofs.Passes.{leaf-passed, below-passed, not-below-passed, entered-passed}
-use Rattle.mtd.proofs.Turns.{childrenUpTo, Left, Family, tree-kids}
+use Rattle.mtd_memory.specs.declared.Seen.{Seen}
+use Rattle.mtd_memory.specs.declared.Seen.the-variants.{Answered, Open}
+use Rattle.mtd_memory.specs.declared.Tried.{Tried}
+use Rattle.mtd_memory.specs.engine.Memory.{Memory, memory, progressOf, MemoryRoom, HighsRight, VisitReady}
+use Rattle.mtd_memory.specs.engine.Memory.{Enterable}
+use Rattle.mtd_memory.specs.engine.Memory.{Passed, Looked}
+use Rattle.mtd_memory.proofs.Arrays.{room-at}
+use Rattle.mtd_memory.proofs.Passes.{leaf-passed, below-passed, not-below-passed, entered-passed}
+use Rattle.mtd_memory.proofs.Turns.{childrenUpTo, Left, Family, tree-kids}
 
 -- a visit of the same tree
 passed-at : {t : List ℕ} {T U : Tree} {γ : ℕ} {m m′ : Memory} {r : Tried} → U ≡ T → Passed t T γ m m′ r

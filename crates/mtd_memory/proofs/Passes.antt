@@ -21,11 +21,11 @@ use Rattle.frames.specs.Frame.{frames}
 use Rattle.bounds.specs.Marks.{marked, ones}
 use Rattle.bounds.specs.engine.Progress.{progress, evaluateAll}
 use Rattle.bounds.proofs.Marking.{marked-other}
-use Rattle.mtd.specs.declared.Tried.{Tried}
-use Rattle.mtd.specs.engine.Memory.{Memory, memory, progressOf, memoOf, passOf, MemoryRoom, HighsRight}
-use Rattle.mtd.specs.engine.Memory.{Counted, Evaluated, Passed}
-use Rattle.mtd.proofs.Arrays.{marked-same, evaluated-none}
-use Rattle.mtd.proofs.Children.{passChildrenOf, PassedChildren}
+use Rattle.mtd_memory.specs.declared.Tried.{Tried}
+use Rattle.mtd_memory.specs.engine.Memory.{Memory, memory, progressOf, memoOf, passOf, MemoryRoom, HighsRight}
+use Rattle.mtd_memory.specs.engine.Memory.{Counted, Evaluated, Passed}
+use Rattle.mtd_memory.proofs.Arrays.{marked-same, evaluated-none}
+use Rattle.mtd_memory.proofs.Children.{passChildrenOf, PassedChildren}
 
 -- a leaf that was tried: evaluated now, if it was not before, and compared with the test
 module _ (t : List ℕ) (i γ : ℕ) (m : Memory) (n : ℕ) (o : List ℕ) (r : Tried) (is-leaf : treeAt t i ≡ leaf i)

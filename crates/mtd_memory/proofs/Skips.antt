@@ -20,11 +20,11 @@ use Rattle.frames.proofs.Nodes.{in-own}
 use Rattle.frames.proofs.Proper.{every-leaf, leaf-scored}
 use Rattle.frames.proofs.Trees.{zero-or-suc, tree-leaf}
 use Rattle.bounds.specs.Marks.{marked}
-use Rattle.mtd.specs.declared.Tried.{Tried}
-use Rattle.mtd.specs.engine.Memory.{Memory, memory, VisitReady, Passed, PassedOver}
-use Rattle.mtd.proofs.Arrays.{set-same, Long, leaf-again}
-use Rattle.mtd.proofs.Turns.{PassLoop, Left, Family, turn-ready, turn-next, turn-last}
-use Rattle.mtd.proofs.Visits.{leaf-known, visit-leaf, visit-below}
+use Rattle.mtd_memory.specs.declared.Tried.{Tried}
+use Rattle.mtd_memory.specs.engine.Memory.{Memory, memory, VisitReady, Passed, PassedOver}
+use Rattle.mtd_memory.proofs.Arrays.{set-same, Long, leaf-again}
+use Rattle.mtd_memory.proofs.Turns.{PassLoop, Left, Family, turn-ready, turn-next, turn-last}
+use Rattle.mtd_memory.proofs.Visits.{leaf-known, visit-leaf, visit-below}
 
 -- no high exceeds the greatest score
 capped : (b : Bool) (v : ℕ) → v < greatest → cond b v greatest ≤ greatest

@@ -22,11 +22,12 @@ use Rattle.frames.proofs.Next.{child-within, children-within}
 use Rattle.frames.proofs.Positions.{position-child}
 use Rattle.frames.proofs.Trees.{in-kids, kids-in, tree-inner}
 use Rattle.frames.proofs.Nodes.{in-parent, in-trans, children-apart}
-use Rattle.mtd.specs.declared.Tried.{Tried}
-use Rattle.mtd.specs.engine.Memory.{Memory, HighsRight, Counted, VisitReady, Passed}
-use Rattle.mtd.proofs.Arrays.{bound-local, Long, room-kept}
-use Rattle.mtd.proofs.Children.{PassedChildren, Remainder, remainder-all, remainder-last, remainder-settled}
-use Rattle.mtd.proofs.Children.{remainder-rest}
+use Rattle.mtd_memory.specs.declared.Tried.{Tried}
+use Rattle.mtd_memory.specs.engine.Memory.{Memory, HighsRight, Counted, VisitReady, Passed}
+use Rattle.mtd_memory.proofs.Arrays.{bound-local, Long, room-kept}
+use Rattle.mtd_memory.proofs.Children.{PassedChildren, Remainder, remainder-all, remainder-last}
+use Rattle.mtd_memory.proofs.Children.{remainder-settled}
+use Rattle.mtd_memory.proofs.Children.{remainder-rest}
 
 -- the trees of the children of a node from number i up to `end`
 abbrev pub childrenUpTo : List ℕ → ℕ → ℕ → Children

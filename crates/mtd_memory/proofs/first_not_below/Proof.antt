@@ -4,8 +4,8 @@ use native.Mathlib.Omega.{arith}
 use native.Mathlib.Decide.{ℕ-discrete}
 use lib.ListN.{getD}
 use borrow.Author.Needs.{needs}
-use Rattle.mtd.proofs.first_not_below.Statement.{statement}
-use Rattle.mtd.proofs.first_not_below.Tie as tie
+use Rattle.mtd_memory.proofs.first_not_below.Statement.{statement}
+use Rattle.mtd_memory.proofs.first_not_below.Tie as tie
 
 below-more : (f : ℕ → ℕ) (from n γ : ℕ) → ((k : ℕ) → from ≤ k → k < n → f k < γ) → f n < γ
     → (k : ℕ) → from ≤ k → k < n + 1 → f k < γ
