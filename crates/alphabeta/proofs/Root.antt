@@ -25,10 +25,10 @@ use Rattle.frames.proofs.Trees.{tree-inner, tree-number}
 use Rattle.bounds.specs.engine.Progress.{Progress, progress, Listable}
 use Rattle.certificate.specs.engine.Searchable.{Searchable}
 use Rattle.certificate.proofs.Unmarked.{all-wait}
-use Rattle.alphabeta.specs.declared.Visited.{Visited}
-use Rattle.alphabeta.proofs.Evaluated.{visit-waits}
-use Rattle.alphabeta.proofs.Pass.{Gives, pass-ends, pass-goes-on}
-use Rattle.alphabeta.proofs.Visits.{VisitLoop, Visits, inner-remainder}
+use Rattle.alphabeta_visits.specs.declared.Visited.{Visited}
+use Rattle.alphabeta_visits.proofs.Evaluated.{visit-waits}
+use Rattle.alphabeta_visits.proofs.Pass.{Gives, pass-ends, pass-goes-on}
+use Rattle.alphabeta_visits.proofs.Visits.{VisitLoop, Visits, inner-remainder}
 
 -- at the head of the loop over the root's children up to `end`: child k is next, alpha is a and m the last child that
 -- raised it; the children that are left end with the root move

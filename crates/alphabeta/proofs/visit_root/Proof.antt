@@ -15,7 +15,7 @@ use Rattle.frames.proofs.Trees.{tree-leaf}
 use Rattle.frames.proofs.Next.{child-within}
 use Rattle.bounds.specs.engine.Progress.{progress}
 use Rattle.certificate.proofs.Searchable.{searchable-depth, searchable-child}
-use Rattle.alphabeta.proofs.Visits.{Visits, searchable-leaf, leaf-visits}
+use Rattle.alphabeta_visits.proofs.Visits.{Visits, searchable-leaf, leaf-visits}
 use Rattle.alphabeta.proofs.Root.{RootTurn, root-start, root-child, root-last, root-next}
 use Rattle.alphabeta.proofs.visit_root.Statement.{statement}
 use Rattle.alphabeta.proofs.visit_root.Tie as tie

@@ -15,23 +15,23 @@ use Rattle.frames.proofs.Next.{child-later, child-within}
 use Rattle.bounds.specs.engine.Evaluable.{Evaluable}
 use Rattle.bounds.specs.engine.Progress.{Progress, progress}
 use Rattle.certificate.specs.engine.Searchable.{Searchable}
-use Rattle.alphabeta.proofs.Pass.{pass-ends, pass-stops, pass-goes-on}
+use Rattle.alphabeta_visits.proofs.Pass.{pass-ends, pass-stops, pass-goes-on}
 use Rattle.certificate.proofs.Unmarked.{all-wait}
 use Rattle.certificate.proofs.Searchable.{searchable-depth, searchable-child}
-use Rattle.alphabeta.proofs.Evaluated.{visit-waits}
-use Rattle.alphabeta.proofs.Visits.{VisitLoop, Visits, visits-same, searchable-leaf, leaf-visits}
-use Rattle.alphabeta.proofs.Visits.{inner-remainder}
-use Rattle.alphabeta.proofs.alpha_beta.Reads as own
-use Rattle.alphabeta.proofs.alpha_beta.Kinds as own-kinds
-use Rattle.alphabeta.proofs.+alpha_beta.Lts-alpha_beta as lts
-use Rattle.alphabeta.proofs.lowered.Reads as lowered-reads
-use Rattle.alphabeta.proofs.raised.Reads as raised-reads
-use Rattle.alphabeta.proofs.visit_leaf.Reads as visit-leaf-reads
+use Rattle.alphabeta_visits.proofs.Evaluated.{visit-waits}
+use Rattle.alphabeta_visits.proofs.Visits.{VisitLoop, Visits, visits-same, searchable-leaf, leaf-visits}
+use Rattle.alphabeta_visits.proofs.Visits.{inner-remainder}
+use Rattle.alphabeta_visits.proofs.alpha_beta.Reads as own
+use Rattle.alphabeta_visits.proofs.alpha_beta.Kinds as own-kinds
+use Rattle.alphabeta_visits.proofs.+alpha_beta.Lts-alpha_beta as lts
+use Rattle.alphabeta_visits.proofs.lowered.Reads as lowered-reads
+use Rattle.alphabeta_visits.proofs.raised.Reads as raised-reads
+use Rattle.alphabeta_visits.proofs.visit_leaf.Reads as visit-leaf-reads
 use Rattle.frames.proofs.child_count.Reads as child-count-reads
 use Rattle.frames.proofs.child_position.Reads as child-position-reads
 use Rattle.frames.proofs.first_child.Reads as first-child-reads
-use Rattle.alphabeta.proofs.+alpha_beta.{statement}
-use Rattle.alphabeta.proofs.+alpha_beta.Tie.{close}
+use Rattle.alphabeta_visits.proofs.+alpha_beta.{statement}
+use Rattle.alphabeta_visits.proofs.+alpha_beta.Tie.{close}
 
 abbrev μ : Measures 3 own-kinds.ps ℕ
 μ κs a = frames (a .0 .now) - a .1 .1 .1 .0

@@ -1,7 +1,7 @@
 -- `alphabeta::raised` meets its contract, by the side.
 use borrow.Author.Needs.{needs}
-use Rattle.alphabeta.proofs.raised.Statement.{statement}
-use Rattle.alphabeta.proofs.raised.Tie as tie
+use Rattle.alphabeta_visits.proofs.raised.Statement.{statement}
+use Rattle.alphabeta_visits.proofs.raised.Tie as tie
 
 pub raised-spec : {M : Type 1} → statement M
 raised-spec =

@@ -2,8 +2,8 @@
 use mathlib.Core.Path.{ap, _∙_}
 use borrow.Author.Needs.{needs}
 use Rattle.gametree.specs.AlphaBeta.{clamp}
-use Rattle.alphabeta.proofs.visit_leaf.Statement.{statement}
-use Rattle.alphabeta.proofs.visit_leaf.Tie as tie
+use Rattle.alphabeta_visits.proofs.visit_leaf.Statement.{statement}
+use Rattle.alphabeta_visits.proofs.visit_leaf.Tie as tie
 
 returns : tie.Need-returns
 returns c =

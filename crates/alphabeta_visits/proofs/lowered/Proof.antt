@@ -1,7 +1,7 @@
 -- `alphabeta::lowered` meets its contract, by the side.
 use borrow.Author.Needs.{needs}
-use Rattle.alphabeta.proofs.lowered.Statement.{statement}
-use Rattle.alphabeta.proofs.lowered.Tie as tie
+use Rattle.alphabeta_visits.proofs.lowered.Statement.{statement}
+use Rattle.alphabeta_visits.proofs.lowered.Tie as tie
 
 pub lowered-spec : {M : Type 1} → statement M
 lowered-spec =

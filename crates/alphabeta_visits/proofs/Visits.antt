@@ -19,8 +19,8 @@ use Rattle.bounds.proofs.Listing.{next-counted}
 use Rattle.certificate.specs.engine.Searchable.{Searchable}
 use Rattle.certificate.proofs.Searchable.{searchable-depth}
 use Rattle.certificate.proofs.Unmarked.{Unvisited}
-use Rattle.alphabeta.specs.declared.Visited.{Visited}
-use Rattle.alphabeta.proofs.Pass.{Gives, Remainder, remainder-all, rest}
+use Rattle.alphabeta_visits.specs.declared.Visited.{Visited}
+use Rattle.alphabeta_visits.proofs.Pass.{Gives, Remainder, remainder-all, rest}
 
 -- at the head of the loop over the children of node i, from `first` to `end`: child k is next, the window is a b, and
 -- the progress was p₀ and is p
