@@ -27,11 +27,13 @@ use Rattle.frames.proofs.Trees.{zero-or-suc}
 use Rattle.frames.proofs.Nodes.{in-own, tree-range}
 use Rattle.frames.proofs.Proper.{tree-proper}
 use Rattle.bounds.proofs.Listing.{ones-none, ones-few}
-use Rattle.mtdf.specs.declared.Tried.{Tried}
+use Rattle.mtdf_visits.specs.declared.Tried.{Tried}
 use Rattle.mtdf.specs.declared.Settled.{Settled}
-use Rattle.mtdf.specs.engine.Memory.{Memory, memory, soFar, MemoryRoom, Bounded, BoundsRight, Counted, VisitReady}
-use Rattle.mtdf.specs.engine.Memory.{Evaluated, VisitedBy, Fresh, drivenOf, Met}
-use Rattle.mtdf.proofs.Arrays.{Long, room-kept, evaluated-none, evaluated-more}
+use Rattle.mtdf_visits.specs.engine.Memory.{Memory, memory, soFar, MemoryRoom, Bounded, BoundsRight, Counted}
+use Rattle.mtdf_visits.specs.engine.Memory.{VisitReady}
+use Rattle.mtdf_visits.specs.engine.Memory.{Evaluated, VisitedBy, Fresh}
+use Rattle.mtdf.specs.engine.Settling.{drivenOf, Met}
+use Rattle.mtdf_visits.proofs.Arrays.{Long, room-kept, evaluated-none, evaluated-more}
 
 -- the bounds have met, or another test follows
 drive-met : (ν : ℕ → ℕ) (σ : Strategy) (n : ℕ) (T : Tree) (bs : List Bool) (w : List ℕ)

@@ -33,11 +33,12 @@ use Rattle.certificate.specs.Search.{marksOf, flagsOf, listed}
 use Rattle.certificate.proofs.Outcomes.{search-concludes}
 use Rattle.mtd_memory.proofs.Turns.{childrenUpTo, tree-kids}
 use Rattle.mtdf.specs.declared.Settled.{Settled}
-use Rattle.mtdf.specs.declared.Tried.{Tried}
+use Rattle.mtdf_visits.specs.declared.Tried.{Tried}
 use Rattle.mtdf.specs.Outcome.{decisionOf, mtdfLeaves, mtdfFound}
-use Rattle.mtdf.specs.engine.Memory.{Memory, memory, progressOf, soFar, MemoryRoom, VisitReady, Counted}
-use Rattle.mtdf.specs.engine.Memory.{Evaluated, Entered, Fresh, drivenOf, Met, MovedTo, Settles}
-use Rattle.mtdf.proofs.Arrays.{Long, room-kept, evaluated-none, evaluated-more}
+use Rattle.mtdf_visits.specs.engine.Memory.{Memory, memory, progressOf, soFar, MemoryRoom, VisitReady, Counted}
+use Rattle.mtdf_visits.specs.engine.Memory.{Evaluated, Entered, Fresh}
+use Rattle.mtdf.specs.engine.Settling.{drivenOf, Met, MovedTo, Settles}
+use Rattle.mtdf_visits.proofs.Arrays.{Long, room-kept, evaluated-none, evaluated-more}
 
 module _ (t : List ℕ) (wf : WellFormed t) where
   -- where no node has a mark, the least lows and the greatest highs are the memory to start with

@@ -1,10 +1,7 @@
 // MTD(f) over a byte table: the starting value never changes the value or the move that is found, only how many leaves
 // it takes; nothing is guessed past the leaves. The root is tested until its bounds meet; then its children are tested
 // for the first move.
-use bounds::Evaluation;
-use bounds::best;
 use bounds::clear;
-use bounds::evaluate_next;
 use certificate::Findings;
 use certificate::ask;
 use certificate::lesser;
@@ -15,33 +12,30 @@ use frames::LEAST;
 use frames::MAX_NODES;
 use frames::Rejection;
 use frames::child_count;
-use frames::child_position;
-use frames::first_child;
 use frames::frame_count;
 use frames::value;
 use gametree::Position;
 use gametree::Side;
 use leafvalue::in_range;
 use leafvalue::score_of;
-use mtd_memory::last_tried;
+use mtdf_visits::enter;
+use mtdf_visits::visit;
 ghost use mathlib.Core.Path.{_≡_};
 ghost use mathlib.Core.Bool.{cond, false};
-ghost use Prim.Native.Nat.{ℕ, suc, _+_, _<_, _≤_};
-ghost use lib.ListN.{length, getD, set};
+ghost use Prim.Native.Nat.{ℕ, suc, _<_, _≤_};
+ghost use lib.ListN.{length, getD};
 ghost use Rattle.gametree.specs.Tree.{greatest};
 ghost use Rattle.gametree.specs.AlphaBeta.{clamp};
-ghost use Rattle.frames.specs.Frame.{frames, childCount};
+ghost use Rattle.frames.specs.Frame.{frames};
 ghost use Rattle.frames.specs.Position.{rootPosition};
-ghost use Rattle.frames.specs.Tree.{treeAt, valuation};
 ghost use Rattle.frames.specs.Formed.{WellFormed};
 ghost use Rattle.frames.specs.Rejection.{_leaving_};
 ghost use Rattle.bounds.specs.Marks.{marked};
-ghost use Rattle.bounds.specs.engine.Evaluable.{Evaluable};
-ghost use Rattle.bounds.specs.engine.Progress.{progress, Listable};
+ghost use Rattle.bounds.specs.engine.Progress.{progress};
 ghost use Rattle.certificate.specs.Search.{marksOf, flagsOf, buffers, listed};
 ghost use Rattle.mtdf.specs.Outcome.{startScore, mtdfLeaves, mtdfFound, mtdfOutcome};
-ghost use Rattle.mtdf.specs.engine.Memory.{memory, Fresh, VisitReady, VisitedBy, Entered, Looked};
-ghost use Rattle.mtdf.specs.engine.Memory.{Settles, Met, MovedTo};
+ghost use Rattle.mtdf_visits.specs.engine.Memory.{memory, Fresh, VisitReady};
+ghost use Rattle.mtdf.specs.engine.Settling.{Settles, Met, MovedTo};
 
 // What MTD(f) finds: what every search finds, and how many tests were put to the root.
 pub struct MtdfResult {
@@ -251,202 +245,4 @@ fn find_move(
     };
     let tried = enter(table, evaluated, order, lows, highs, 0, root, score, leaves);
     tried.leaves
-}
-
-// What a node that was tested gives: the answer, true where the node is not below the test, and how many leaves are
-// evaluated by then.
-struct Tried {
-    answer: bool,
-    leaves: usize,
-}
-
-// A test of a node: it is answered at once, or entered.
-fn visit(
-    table: &[u8],
-    evaluated: &mut [u8],
-    order: &mut [u16],
-    lows: &mut [u32],
-    highs: &mut [u32],
-    node: usize,
-    position: Position,
-    test: u32,
-    leaves: usize,
-) -> Tried
-    requires { ⌜ VisitReady (now table) (memory leaves (now evaluated) (now order) (now lows) (now highs)) node
-        position ⌝ }
-    ensures { λ r. ⌜ VisitedBy (now (table .entry)) (treeAt (now (table .entry)) node) test
-        (memory leaves (now (evaluated .entry)) (now (order .entry)) (now (lows .entry)) (now (highs .entry)))
-        (memory (r .leaves) (now (evaluated .exit)) (now (order .exit)) (now (lows .exit)) (now (highs .exit)))
-        r ⌝ }
-{
-    match look(
-        table,
-        evaluated,
-        order,
-        lows,
-        highs,
-        node,
-        position,
-        test,
-        leaves,
-    ) {
-        Seen::Answered(tried) => tried,
-        Seen::Open => enter(
-            table,
-            evaluated,
-            order,
-            lows,
-            highs,
-            node,
-            position,
-            test,
-            leaves,
-        ),
-    }
-}
-
-// What a look at a node gives: the node's answer, or that it has to be entered.
-enum Seen {
-    Answered(Tried),
-    Open,
-}
-
-// A look at a node: it is below where its high is, and not below where its low is not; any other is evaluated if it is
-// a leaf, and else is open.
-fn look(
-    table: &[u8],
-    evaluated: &mut [u8],
-    order: &mut [u16],
-    lows: &mut [u32],
-    highs: &mut [u32],
-    node: usize,
-    position: Position,
-    test: u32,
-    leaves: usize,
-) -> Seen
-    requires { ⌜ VisitReady (now table) (memory leaves (now evaluated) (now order) (now lows) (now highs)) node
-        position ⌝ }
-    ensures { λ r. ⌜ Looked (now (table .entry)) node test
-        (memory leaves (now (evaluated .entry)) (now (order .entry)) (now (lows .entry)) (now (highs .entry)))
-        (λ n. memory n (now (evaluated .exit)) (now (order .exit)) (now (lows .exit)) (now (highs .exit)))
-        r ⌝ }
-{
-    if highs[node] < test {
-        return not_entered(false, leaves);
-    }
-    if test <= lows[node] {
-        return not_entered(true, leaves);
-    }
-    if child_count(table, node) != 0 {
-        return Seen::Open;
-    }
-    let leaf = evaluate_leaf(
-        table,
-        evaluated,
-        order,
-        lows,
-        highs,
-        node,
-        position.depth,
-        leaves,
-    );
-    let answer = test <= leaf.score;
-    not_entered(answer, leaf.leaves)
-}
-
-// A node that is not entered has its answer at once.
-fn not_entered(answer: bool, leaves: usize) -> Seen
-    ensures { λ r. ⌜ r ≡ Seen.Answered (record { answer = answer; leaves = leaves }) ⌝ }
-{
-    Seen::Answered(Tried { answer, leaves })
-}
-
-// A test of a node's children from the left, entering only open ones, until one settles the node; the node's bounds are
-// then the best of theirs.
-fn enter(
-    table: &[u8],
-    evaluated: &mut [u8],
-    order: &mut [u16],
-    lows: &mut [u32],
-    highs: &mut [u32],
-    node: usize,
-    position: Position,
-    test: u32,
-    mut leaves: usize,
-) -> Tried
-    requires { ⌜ VisitReady (now table) (memory leaves (now evaluated) (now order) (now lows) (now highs)) node
-        position ⌝ }
-    requires { ⌜ 0 < childCount (now table) node ⌝ }
-    ensures { λ r. ⌜ Entered (now (table .entry)) (treeAt (now (table .entry)) node) test
-        (memory leaves (now (evaluated .entry)) (now (order .entry)) (now (lows .entry)) (now (highs .entry)))
-        (memory (r .leaves) (now (evaluated .exit)) (now (order .exit)) (now (lows .exit)) (now (highs .exit)))
-        r ⌝ }
-{
-    let side = position.side;
-    let first = first_child(table, node);
-    let end = first + child_count(table, node);
-    let mut child = first;
-    let answer = loop {
-        let at = child_position(table, child, position);
-        let tried = match look(
-            table,
-            evaluated,
-            order,
-            lows,
-            highs,
-            child,
-            at,
-            test,
-            leaves,
-        ) {
-            Seen::Answered(tried) => tried,
-            Seen::Open => enter(
-                table,
-                evaluated,
-                order,
-                lows,
-                highs,
-                child,
-                at,
-                test,
-                leaves,
-            ),
-        };
-        leaves = tried.leaves;
-        child += 1;
-        if last_tried(side, tried.answer, child, end) {
-            break tried.answer;
-        }
-    };
-    let low = best(lows, first, end, side);
-    let high = best(highs, first, end, side);
-    lows[node] = low;
-    highs[node] = high;
-    Tried { answer, leaves }
-}
-
-// A leaf without a mark is evaluated, and its score is both of its bounds from then on.
-fn evaluate_leaf(
-    table: &[u8],
-    evaluated: &mut [u8],
-    order: &mut [u16],
-    lows: &mut [u32],
-    highs: &mut [u32],
-    node: usize,
-    depth: u32,
-    leaves: usize,
-) -> Evaluation
-    requires { ⌜ Evaluable (now table) (now evaluated) node depth ⌝ }
-    requires { ⌜ Listable (now table) (progress leaves (now evaluated) (now order)) ⌝ }
-    requires { ⌜ (node < length (now lows)) × (node < length (now highs)) ⌝ }
-    ensures { λ r. ⌜ (r .score ≡ valuation (now (table .entry)) node) × (r .leaves ≡ leaves + 1) ⌝ }
-    ensures { λ _. ⌜ now (evaluated .exit) ≡ set (now (evaluated .entry)) node 1 ⌝ }
-    ensures { λ _. ⌜ now (order .exit) ≡ set (now (order .entry)) leaves node ⌝ }
-    ensures { λ r. ⌜ now (lows .exit) ≡ set (now (lows .entry)) node (r .score) ⌝ }
-    ensures { λ r. ⌜ now (highs .exit) ≡ set (now (highs .entry)) node (r .score) ⌝ }
-{
-    let leaf = evaluate_next(table, evaluated, order, node, depth, leaves);
-    lows[node] = leaf.score;
-    highs[node] = leaf.score;
-    leaf
 }

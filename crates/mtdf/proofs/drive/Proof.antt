@@ -6,8 +6,8 @@ use mathlib.Core.Path.{_≡_, refl, sym, _∙_}
 use lib.ListN.{length, getD}
 use Rattle.gametree.specs.AlphaBeta.{clamp}
 use Rattle.frames.specs.Frame.{frames}
-use Rattle.mtdf.specs.engine.Memory.{Memory, memory}
-use Rattle.mtdf.proofs.Arrays.{Long}
+use Rattle.mtdf_visits.specs.engine.Memory.{Memory, memory}
+use Rattle.mtdf_visits.proofs.Arrays.{Long}
 use Rattle.mtdf.proofs.Runs.{Driving, driving-first, root-ordered, root-small, driving-ready, driving-last}
 use Rattle.mtdf.proofs.Runs.{leaves-grow, leaves-few, next-small, driving-next}
 use Rattle.mtdf.proofs.drive.Statement.{statement}

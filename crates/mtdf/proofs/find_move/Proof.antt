@@ -1,7 +1,7 @@
 -- `find_move` meets its contract: a leaf has no move, and an inner root's children are tested.
 use native.Mathlib.Omega.{arith}
 use borrow.Author.Needs.{needs}
-use Rattle.mtdf.specs.engine.Memory.{memory}
+use Rattle.mtdf_visits.specs.engine.Memory.{memory}
 use Rattle.mtdf.proofs.Whole.{moved-leaf, moved-inner}
 use Rattle.mtdf.proofs.find_move.Statement.{statement}
 use Rattle.mtdf.proofs.find_move.Tie as tie

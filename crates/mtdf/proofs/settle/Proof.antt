@@ -4,8 +4,8 @@ use borrow.Author.Needs.{needs}
 use lib.ListN.{replicate}
 use Rattle.gametree.specs.Tree.{least, greatest}
 use Rattle.frames.specs.Frame.{maxNodes}
-use Rattle.mtdf.specs.engine.Memory.{Memory, memory, Fresh}
-use Rattle.mtdf.proofs.Arrays.{Long}
+use Rattle.mtdf_visits.specs.engine.Memory.{Memory, memory, Fresh}
+use Rattle.mtdf_visits.proofs.Arrays.{Long}
 use Rattle.mtdf.proofs.Whole.{start-fresh, met-ready, settled-both}
 use Rattle.mtdf.proofs.settle.Statement.{statement}
 use Rattle.mtdf.proofs.settle.Tie as tie

@@ -6,11 +6,12 @@ use mathlib.Core.Bool.{true, false}
 use lib.Dec.{leb}
 use borrow.Author.Needs.{needs}
 use Rattle.frames.specs.Frame.{childCount}
-use Rattle.mtdf.specs.engine.Memory.{Memory, memory}
-use Rattle.mtdf.proofs.Visits.{looked-answer, ready-listable, leaf-evaluable, visit-below, visit-not-below}
-use Rattle.mtdf.proofs.Visits.{visit-leaf}
-use Rattle.mtdf.proofs.look.Statement.{statement}
-use Rattle.mtdf.proofs.look.Tie as tie
+use Rattle.mtdf_visits.specs.engine.Memory.{Memory, memory}
+use Rattle.mtdf_visits.proofs.Visits.{looked-answer, ready-listable, leaf-evaluable, visit-below}
+use Rattle.mtdf_visits.proofs.Visits.{visit-not-below}
+use Rattle.mtdf_visits.proofs.Visits.{visit-leaf}
+use Rattle.mtdf_visits.proofs.look.Statement.{statement}
+use Rattle.mtdf_visits.proofs.look.Tie as tie
 
 -- the arrays at the entry, with a count
 abbrev counting : tie.Start → ℕ → Memory

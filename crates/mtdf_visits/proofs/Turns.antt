@@ -23,11 +23,13 @@ use Rattle.frames.proofs.Trees.{kids-in}
 use Rattle.frames.proofs.Nodes.{in-parent, in-trans, children-apart}
 use Rattle.mtd_memory.proofs.Arrays.{bound-local}
 use Rattle.mtd_memory.proofs.Turns.{childrenUpTo, kids-last, kids-more, Family, child}
-use Rattle.mtdf.specs.declared.Tried.{Tried}
-use Rattle.mtdf.specs.engine.Memory.{Memory, soFar, Bounded, BoundsRight, Counted, VisitReady, Same, VisitedBy}
-use Rattle.mtdf.proofs.Arrays.{Long, room-kept, same-more}
-use Rattle.mtdf.proofs.Children.{DoneChildren, Remainder, remainder-all, remainder-last, remainder-settled}
-use Rattle.mtdf.proofs.Children.{remainder-rest}
+use Rattle.mtdf_visits.specs.declared.Tried.{Tried}
+use Rattle.mtdf_visits.specs.engine.Memory.{Memory, soFar, Bounded, BoundsRight, Counted, VisitReady, Same}
+use Rattle.mtdf_visits.specs.engine.Memory.{VisitedBy}
+use Rattle.mtdf_visits.proofs.Arrays.{Long, room-kept, same-more}
+use Rattle.mtdf_visits.proofs.Children.{DoneChildren, Remainder, remainder-all, remainder-last}
+use Rattle.mtdf_visits.proofs.Children.{remainder-settled}
+use Rattle.mtdf_visits.proofs.Children.{remainder-rest}
 
 -- the bounds below the children are right, and at every other node nothing has changed
 pub record Around (t : List ℕ) (first end : ℕ) (m m′ : Memory) : Type 0 where

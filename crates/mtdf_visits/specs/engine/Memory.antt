@@ -10,19 +10,16 @@ use Rattle.lists.specs.Lists.{among}
 use Rattle.gametree.specs.declared.Position.{Position}
 use Rattle.gametree.specs.Tree.{Tree, leaf, inner, least, greatest, In}
 use Rattle.gametree.specs.Bounds.{low, high}
-use Rattle.gametree.specs.Tests.{Tested, opened, test, testChildren, TestSearch, searchBy, mtdFrom}
-use Rattle.gametree.specs.FirstMove.{lastPhase}
+use Rattle.gametree.specs.Tests.{Tested, opened, test, testChildren}
 use Rattle.frames.specs.Frame.{frames, childCount}
 use Rattle.frames.specs.Position.{positionOf}
-use Rattle.frames.specs.Tree.{treeAt, tree, valuation}
+use Rattle.frames.specs.Tree.{treeAt, valuation}
 use Rattle.frames.specs.Formed.{WellFormed}
 use Rattle.bounds.specs.Marks.{marked, ones}
 use Rattle.bounds.specs.engine.Progress.{Progress, progress, evaluateAll}
-use Rattle.mtdf.specs.Outcome.{decisionOf, mtdfLeaves}
-use Rattle.mtdf.specs.declared.Seen.{Seen}
-use Rattle.mtdf.specs.declared.Seen.the-variants.{Answered, Open}
-use Rattle.mtdf.specs.declared.Tried.{Tried}
-use Rattle.mtdf.specs.declared.Settled.{Settled}
+use Rattle.mtdf_visits.specs.declared.Seen.{Seen}
+use Rattle.mtdf_visits.specs.declared.Seen.the-variants.{Answered, Open}
+use Rattle.mtdf_visits.specs.declared.Tried.{Tried}
 
 -- how many leaves are evaluated, their marks, the list of them, and the low and the high of each node
 pub record Memory : Type 0 where
@@ -125,27 +122,3 @@ pub record Fresh (t : List ℕ) (m : Memory) : Type 0 where
   pub evaluated : (k : ℕ) → k < frames t → marked (m .evaluated) k ≡ false
   pub lows : (k : ℕ) → k < frames t → getD (m .lows) k 0 ≡ least
   pub highs : (k : ℕ) → k < frames t → getD (m .highs) k 0 ≡ greatest
-
--- the run of tests from the first guess f
-unfoldable pub drivenOf : (f : ℕ) (t : List ℕ) → TestSearch
-drivenOf f t = searchBy (mtdFrom f) (valuation t) (tree t)
-
--- after the tests of the root: its bounds have met
-pub record Met (t : List ℕ) (f : ℕ) (m m′ : Memory) (r : Settled) : Type 0 where
-  pub score : r .score ≡ drivenOf f t .value
-  pub tests : r .tests ≡ length (drivenOf f t .tests)
-  pub evaluated : Evaluated m m′ (drivenOf f t .evaluated)
-  pub counted : Counted t m′
-  pub right : BoundsRight t m′ (tree t)
-
--- after the last phase for the value v
-pub record MovedTo (t : List ℕ) (v : ℕ) (m m′ : Memory) : Type 0 where
-  pub evaluated : Evaluated m m′ (lastPhase (valuation t) v (soFar m) (tree t) .evaluated)
-  pub counted : Counted t m′
-
--- after both, from the progress p to p′
-pub record Settles (t : List ℕ) (f : ℕ) (p p′ : Progress) (r : Settled) : Type 0 where
-  pub score : r .score ≡ decisionOf f t .value
-  pub tests : r .tests ≡ decisionOf f t .tests
-  pub evaluated : p′ ≡ evaluateAll p (mtdfLeaves f t)
-  pub counted : p′ .leaves ≡ ones (p′ .marks) (frames t)

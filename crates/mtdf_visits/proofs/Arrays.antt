@@ -18,7 +18,7 @@ use Rattle.bounds.specs.engine.Evaluable.{Evaluable}
 use Rattle.bounds.proofs.Marking.{marked-other}
 use Rattle.bounds.proofs.Listing.{none-evaluated, one-evaluated, evaluateAll-append, next-counted}
 use Rattle.mtd_memory.proofs.Arrays.{marked-same}
-use Rattle.mtdf.specs.engine.Memory.{Memory, progressOf, soFar, MemoryRoom, Counted, Evaluated, Same}
+use Rattle.mtdf_visits.specs.engine.Memory.{Memory, progressOf, soFar, MemoryRoom, Counted, Evaluated, Same}
 
 -- the arrays keep their lengths
 pub record Long (m m′ : Memory) : Type 0 where

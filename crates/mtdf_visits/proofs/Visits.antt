@@ -26,13 +26,14 @@ use Rattle.bounds.specs.engine.Ranges.{bestIn}
 use Rattle.bounds.proofs.Bounds.{best-same, minimax-best}
 use Rattle.bounds.proofs.Listing.{next-fits}
 use Rattle.mtd_memory.proofs.Turns.{childrenUpTo, Family, tree-kids}
-use Rattle.mtdf.specs.declared.Seen.{Seen}
-use Rattle.mtdf.specs.declared.Seen.the-variants.{Answered, Open}
-use Rattle.mtdf.specs.declared.Tried.{Tried}
-use Rattle.mtdf.specs.engine.Memory.{Memory, memory, progressOf, soFar, MemoryRoom, Bounded, BoundsRight, Counted}
-use Rattle.mtdf.specs.engine.Memory.{VisitReady, Done, enteredTest, VisitedBy, Entered, Undecided, Looked}
-use Rattle.mtdf.proofs.Arrays.{evaluated-none, leaf-evaluated, leaf-counted, among-own, among-other}
-use Rattle.mtdf.proofs.Turns.{Left}
+use Rattle.mtdf_visits.specs.declared.Seen.{Seen}
+use Rattle.mtdf_visits.specs.declared.Seen.the-variants.{Answered, Open}
+use Rattle.mtdf_visits.specs.declared.Tried.{Tried}
+use Rattle.mtdf_visits.specs.engine.Memory.{Memory, memory, progressOf, soFar, MemoryRoom, Bounded, BoundsRight}
+use Rattle.mtdf_visits.specs.engine.Memory.{Counted}
+use Rattle.mtdf_visits.specs.engine.Memory.{VisitReady, Done, enteredTest, VisitedBy, Entered, Undecided, Looked}
+use Rattle.mtdf_visits.proofs.Arrays.{evaluated-none, leaf-evaluated, leaf-counted, among-own, among-other}
+use Rattle.mtdf_visits.proofs.Turns.{Left}
 
 -- the test of a tree by its bounds
 module _ (ν : ℕ → ℕ) (γ : ℕ) (w : List ℕ) where

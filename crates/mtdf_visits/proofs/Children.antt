@@ -9,9 +9,9 @@ use Rattle.gametree.specs.Tree.{Tree, Children, last, _then_}
 use Rattle.gametree.specs.Mtd.{settles}
 use Rattle.gametree.specs.Tests.{Tested, passedOn, test, testChildren}
 use Rattle.frames.specs.Tree.{valuation}
-use Rattle.mtdf.specs.declared.Tried.{Tried}
-use Rattle.mtdf.specs.engine.Memory.{Memory, soFar, Evaluated, Counted, VisitedBy}
-use Rattle.mtdf.proofs.Arrays.{evaluated-none, evaluated-more}
+use Rattle.mtdf_visits.specs.declared.Tried.{Tried}
+use Rattle.mtdf_visits.specs.engine.Memory.{Memory, soFar, Evaluated, Counted, VisitedBy}
+use Rattle.mtdf_visits.proofs.Arrays.{evaluated-none, evaluated-more}
 
 -- the test of the children of a node after the leaves evaluated so far
 abbrev pub testChildrenOf : List ℕ → ℕ → Side → Memory → Children → Tested

@@ -11,24 +11,24 @@ use borrow.Fn.PlainCycle.{Measures, is, falls, and}
 use Rattle.frames.specs.Frame.{frames}
 use Rattle.frames.specs.Tree.{treeAt}
 use Rattle.frames.proofs.Next.{child-later, child-within}
-use Rattle.mtdf.specs.engine.Memory.{Memory, memory, MemoryRoom, VisitReady, VisitedBy}
-use Rattle.mtdf.proofs.Arrays.{Long, room-kept}
+use Rattle.mtdf_visits.specs.engine.Memory.{Memory, memory, MemoryRoom, VisitReady, VisitedBy}
+use Rattle.mtdf_visits.proofs.Arrays.{Long, room-kept}
 use Rattle.mtd_memory.proofs.Turns.{Family, family-within}
-use Rattle.mtdf.proofs.Turns.{Turn, turn-first, turn-child, turn-ready}
-use Rattle.mtdf.proofs.Turns.{turn-next, turn-last}
-use Rattle.mtdf.proofs.Visits.{looked-visited, open-ready, open-visited, visited-same, ready-shallow}
-use Rattle.mtdf.proofs.Visits.{visit-entered}
-use Rattle.mtdf.proofs.enter.Reads as enter′
-use Rattle.mtdf.proofs.enter.Kinds as enter-kinds
-use Rattle.mtdf.proofs.+enter.Lts-enter as lts
+use Rattle.mtdf_visits.proofs.Turns.{Turn, turn-first, turn-child, turn-ready}
+use Rattle.mtdf_visits.proofs.Turns.{turn-next, turn-last}
+use Rattle.mtdf_visits.proofs.Visits.{looked-visited, open-ready, open-visited, visited-same, ready-shallow}
+use Rattle.mtdf_visits.proofs.Visits.{visit-entered}
+use Rattle.mtdf_visits.proofs.enter.Reads as enter′
+use Rattle.mtdf_visits.proofs.enter.Kinds as enter-kinds
+use Rattle.mtdf_visits.proofs.+enter.Lts-enter as lts
 use Rattle.frames.proofs.child_count.Reads as child-count-reads
 use Rattle.frames.proofs.child_position.Reads as child-position-reads
 use Rattle.frames.proofs.first_child.Reads as first-child-reads
 use Rattle.bounds.proofs.best.Reads as best-reads
 use Rattle.mtd_memory.proofs.last_tried.Reads as last-tried-reads
-use Rattle.mtdf.proofs.look.Reads as look-reads
-use Rattle.mtdf.proofs.+enter.{statement}
-use Rattle.mtdf.proofs.+enter.Tie.{close}
+use Rattle.mtdf_visits.proofs.look.Reads as look-reads
+use Rattle.mtdf_visits.proofs.+enter.{statement}
+use Rattle.mtdf_visits.proofs.+enter.Tie.{close}
 
 abbrev μ : Measures 5 enter-kinds.ps ℕ
 μ κs a = frames (a .0 .now) - a .1 .1 .1 .1 .1 .0

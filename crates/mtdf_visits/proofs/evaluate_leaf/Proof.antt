@@ -1,8 +1,8 @@
 -- `evaluate_leaf` meets its contract: the leaf is evaluated, and its score stored twice.
 use mathlib.Core.Path.{refl}
 use borrow.Author.Needs.{needs}
-use Rattle.mtdf.proofs.evaluate_leaf.Statement.{statement}
-use Rattle.mtdf.proofs.evaluate_leaf.Tie as tie
+use Rattle.mtdf_visits.proofs.evaluate_leaf.Statement.{statement}
+use Rattle.mtdf_visits.proofs.evaluate_leaf.Tie as tie
 
 evaluate-next-requires : tie.Need-evaluate-next-requires
 evaluate-next-requires c κs = search needs

@@ -1,10 +1,10 @@
 -- `visit` meets its contract: the look answers, or the node is entered.
 use Prim.Native.Nat.{ℕ}
 use borrow.Author.Needs.{needs}
-use Rattle.mtdf.specs.engine.Memory.{Memory, memory}
-use Rattle.mtdf.proofs.Visits.{looked-visited, open-ready, open-visited}
-use Rattle.mtdf.proofs.visit.Statement.{statement}
-use Rattle.mtdf.proofs.visit.Tie as tie
+use Rattle.mtdf_visits.specs.engine.Memory.{Memory, memory}
+use Rattle.mtdf_visits.proofs.Visits.{looked-visited, open-ready, open-visited}
+use Rattle.mtdf_visits.proofs.visit.Statement.{statement}
+use Rattle.mtdf_visits.proofs.visit.Tie as tie
 
 -- the function's entry, from the look on
 abbrev start : tie.After-look → tie.Start

@@ -1,0 +1,2 @@
+-- What the engine keeps.
+pub mod engine

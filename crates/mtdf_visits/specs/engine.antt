@@ -1,0 +1,2 @@
+-- Definitions that building blocks alone cite.
+pub mod Memory
