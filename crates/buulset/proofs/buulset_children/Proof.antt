@@ -91,17 +91,8 @@ module _ (t : List ℕ) (i : ℕ) where
         stands _
         (ap (λ (k : ℕ). record { first = k; count = length p / frameSize }) q ∙ some-children _ _ _ h same-count)
 
-children-requires : tie.Need-children-requires
-children-requires c κs = search needs
-
-no-children-requires : tie.Need-no-children-requires
-no-children-requires c κs = search needs
-
 returns : tie.Need-returns
 returns c = none _ _ _ (c .before .before .children .ensures) _ (c .no-children .ensures) (omega arith)
-
-first-child-requires : tie.Need-first-child-requires
-first-child-requires c κs = among _ _ _ (c .before .children .ensures) (omega arith)
 
 returns-2 : tie.Need-returns-2
 returns-2 c =
@@ -109,4 +100,5 @@ returns-2 c =
 
 pub buulset-children-spec : {M : Type 1} → statement M
 buulset-children-spec =
-    tie.close (tie.spec children-requires no-children-requires returns first-child-requires returns-2)
+    tie.close (tie.spec (λ c κs. search needs) (λ c κs. search needs) returns
+    (λ c κs. among _ _ _ (c .before .children .ensures) (omega arith)) returns-2)

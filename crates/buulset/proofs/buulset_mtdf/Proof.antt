@@ -7,21 +7,6 @@ use Rattle.buulset.proofs.Listing.{list-handed-on}
 use Rattle.buulset.proofs.buulset_mtdf.Statement.{statement}
 use Rattle.buulset.proofs.buulset_mtdf.Tie as tie
 
-search-requires : tie.Need-search-requires
-search-requires c κs = search needs
-
-flat-mtdf-requires : tie.Need-flat-mtdf-requires
-flat-mtdf-requires c κs = search needs
-
-same-length : tie.Need-same-length
-same-length c = search needs
-
-same-length-2 : tie.Need-same-length-2
-same-length-2 c = search needs
-
-same-length-3 : tie.Need-same-length-3
-same-length-3 c = search needs
-
 returns : tie.Need-returns
 returns c =
     let s = c .before .before .before .before .before .before .before in
@@ -31,4 +16,5 @@ returns c =
 
 pub buulset-mtdf-spec : {M : Type 1} → statement M
 buulset-mtdf-spec =
-    tie.close (tie.spec search-requires flat-mtdf-requires same-length same-length-2 same-length-3 returns)
+    tie.close (tie.spec (λ c κs. search needs) (λ c κs. search needs) (λ c. search needs) (λ c. search needs)
+    (λ c. search needs) returns)

@@ -3,17 +3,8 @@ use borrow.Author.Needs.{needs}
 use Rattle.buulset.proofs.buulset_shorter.Statement.{statement}
 use Rattle.buulset.proofs.buulset_shorter.Tie as tie
 
-choose-requires : tie.Need-choose-requires
-choose-requires c κs = search needs
-
-flags-requires : tie.Need-flags-requires
-flags-requires c κs = search needs
-
-flat-choice-requires : tie.Need-flat-choice-requires
-flat-choice-requires c κs = search needs
-
 returns : tie.Need-returns
 returns c = rw (c .flat-choice .ensures, c .before .before .choose .ensures, c .before .flags .ensures .0)
 
 pub buulset-shorter-spec : {M : Type 1} → statement M
-buulset-shorter-spec = tie.close (tie.spec choose-requires flags-requires flat-choice-requires returns)
+buulset-shorter-spec = tie.close (tie.spec (λ c κs. search needs) (λ c κs. search needs) (λ c κs. search needs) returns)

@@ -5,21 +5,6 @@ use Rattle.buulset.proofs.Listing.{list-handed-on}
 use Rattle.buulset.proofs.buulset_sss.Statement.{statement}
 use Rattle.buulset.proofs.buulset_sss.Tie as tie
 
-solve-requires : tie.Need-solve-requires
-solve-requires c κs = search needs
-
-flat-sss-requires : tie.Need-flat-sss-requires
-flat-sss-requires c κs = search needs
-
-same-length : tie.Need-same-length
-same-length c = search needs
-
-same-length-2 : tie.Need-same-length-2
-same-length-2 c = search needs
-
-same-length-3 : tie.Need-same-length-3
-same-length-3 c = search needs
-
 returns : tie.Need-returns
 returns c =
     list-handed-on flatSss _ _ _ _ _ (c .flat-sss .ensures)
@@ -27,4 +12,5 @@ returns c =
 
 pub buulset-sss-spec : {M : Type 1} → statement M
 buulset-sss-spec =
-    tie.close (tie.spec solve-requires flat-sss-requires same-length same-length-2 same-length-3 returns)
+    tie.close (tie.spec (λ c κs. search needs) (λ c κs. search needs) (λ c. search needs) (λ c. search needs)
+    (λ c. search needs) returns)

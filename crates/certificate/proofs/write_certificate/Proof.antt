@@ -4,26 +4,11 @@ use Rattle.positions.proofs.Positions.{positioned}
 use Rattle.certificate.proofs.write_certificate.Statement.{statement}
 use Rattle.certificate.proofs.write_certificate.Tie as tie
 
-slice-aggregate-fill : tie.Need-slice-aggregate-fill
-slice-aggregate-fill c = search needs
-
-fill-requires : tie.Need-fill-requires
-fill-requires c κs = search needs
-
-slice-aggregate-write-certificate-at : tie.Need-slice-aggregate-write-certificate-at
-slice-aggregate-write-certificate-at c = search needs
-
 write-certificate-at-requires : tie.Need-write-certificate-at-requires
 write-certificate-at-requires c κs =
     let f = c .before .before .before .before in
     let a = f .before .before .before .before .before .pre in
     ((a .0, positioned _ (a .0) _ (a .0 .atMost) (f .fill .ensures)), a .1 .0)
-
-same-length : tie.Need-same-length
-same-length c = search needs
-
-same-length-2 : tie.Need-same-length-2
-same-length-2 c = search needs
 
 returns : tie.Need-returns
 returns c =
@@ -34,12 +19,5 @@ returns c =
 
 pub write-certificate-spec : {M : Type 1} → statement M
 write-certificate-spec =
-    tie.close
-    (tie.spec
-    slice-aggregate-fill
-    fill-requires
-    slice-aggregate-write-certificate-at
-    write-certificate-at-requires
-    same-length
-    same-length-2
-    returns)
+    tie.close (tie.spec (λ c. search needs) (λ c κs. search needs) (λ c. search needs) write-certificate-at-requires
+    (λ c. search needs) (λ c. search needs) returns)

@@ -24,30 +24,6 @@ holds-bounds c =
     let e = c .fill-bounds .ensures in
     bounded _ _ _ _ (start c .pre .0 .1) (e .0) (e .1 .0)
 
-slice-aggregate-fill-bounds : tie.Need-slice-aggregate-fill-bounds
-slice-aggregate-fill-bounds c = search needs
-
-slice-aggregate-fill-bounds-2 : tie.Need-slice-aggregate-fill-bounds-2
-slice-aggregate-fill-bounds-2 c = search needs
-
-fill-bounds-requires : tie.Need-fill-bounds-requires
-fill-bounds-requires c κs = search needs
-
-frame-count-requires : tie.Need-frame-count-requires
-frame-count-requires c κs = search needs
-
-slice-aggregate-root-choice : tie.Need-slice-aggregate-root-choice
-slice-aggregate-root-choice c = search needs
-
-slice-aggregate-root-choice-2 : tie.Need-slice-aggregate-root-choice-2
-slice-aggregate-root-choice-2 c = search needs
-
-root-choice-requires : tie.Need-root-choice-requires
-root-choice-requires c κs = search needs
-
-same-length : tie.Need-same-length
-same-length c = search needs
-
 returns : tie.Need-returns
 returns c =
     let t = c .before .before .before in
@@ -59,12 +35,6 @@ returns c =
         (b .fill-bounds .ensures .1 .1, λ _. refl),
       ),
     )
-
-slice-aggregate-read-off : tie.Need-slice-aggregate-read-off
-slice-aggregate-read-off c = search needs
-
-slice-aggregate-read-off-2 : tie.Need-slice-aggregate-read-off-2
-slice-aggregate-read-off-2 c = search needs
 
 read-off-requires : tie.Need-read-off-requires
 read-off-requires c κs =
@@ -81,12 +51,6 @@ read-off-requires c κs =
         ),
       ),
     )
-
-same-length-2 : tie.Need-same-length-2
-same-length-2 c = search needs
-
-same-length-3 : tie.Need-same-length-3
-same-length-3 c = search needs
 
 returns-2 : tie.Need-returns-2
 returns-2 c =
@@ -108,20 +72,6 @@ returns-2 c =
 
 pub write-certificate-at-spec : {M : Type 1} → statement M
 write-certificate-at-spec =
-    tie.close
-    (tie.spec
-    slice-aggregate-fill-bounds
-    slice-aggregate-fill-bounds-2
-    fill-bounds-requires
-    frame-count-requires
-    slice-aggregate-root-choice
-    slice-aggregate-root-choice-2
-    root-choice-requires
-    same-length
-    returns
-    slice-aggregate-read-off
-    slice-aggregate-read-off-2
-    read-off-requires
-    same-length-2
-    same-length-3
-    returns-2)
+    tie.close (tie.spec (λ c. search needs) (λ c. search needs) (λ c κs. search needs) (λ c κs. search needs)
+    (λ c. search needs) (λ c. search needs) (λ c κs. search needs) (λ c. search needs) returns (λ c. search needs)
+    (λ c. search needs) read-off-requires (λ c. search needs) (λ c. search needs) returns-2)

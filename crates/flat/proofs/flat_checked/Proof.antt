@@ -4,18 +4,6 @@ use Rattle.flat.specs.Flat.{flatChecked}
 use Rattle.flat.proofs.flat_checked.Statement.{statement}
 use Rattle.flat.proofs.flat_checked.Tie as tie
 
-enum-known-answer : tie.Need-enum-known-answer
-enum-known-answer c = search needs
-
-counted-requires : tie.Need-counted-requires
-counted-requires c κs = search needs
-
-enum-known-answer-2 : tie.Need-enum-known-answer-2
-enum-known-answer-2 c = search needs
-
-refused-requires : tie.Need-refused-requires
-refused-requires c κs = search needs
-
 returns : tie.Need-returns
 unfolding flatChecked
 returns c = rw (c .before .before .answer .given .1) (c .counted .ensures)
@@ -26,11 +14,5 @@ returns-2 c = rw (c .before .before .answer2 .given .1) (c .refused .ensures)
 
 pub flat-checked-spec : {M : Type 1} → statement M
 flat-checked-spec =
-    tie.close
-    (tie.spec
-    enum-known-answer
-    counted-requires
-    enum-known-answer-2
-    refused-requires
-    returns
+    tie.close (tie.spec (λ c. search needs) (λ c κs. search needs) (λ c. search needs) (λ c κs. search needs) returns
     returns-2)

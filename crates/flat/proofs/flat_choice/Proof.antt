@@ -4,24 +4,6 @@ use Rattle.flat.specs.Flat.{flatChoice}
 use Rattle.flat.proofs.flat_choice.Statement.{statement}
 use Rattle.flat.proofs.flat_choice.Tie as tie
 
-enum-told : tie.Need-enum-told
-enum-told c = search needs
-
-chosen-requires : tie.Need-chosen-requires
-chosen-requires c κs = search needs
-
-enum-told-2 : tie.Need-enum-told-2
-enum-told-2 c = search needs
-
-chosen-requires-2 : tie.Need-chosen-requires-2
-chosen-requires-2 c κs = search needs
-
-enum-known-answer : tie.Need-enum-known-answer
-enum-known-answer c = search needs
-
-no-choice-requires : tie.Need-no-choice-requires
-no-choice-requires c κs = search needs
-
 returns : tie.Need-returns
 unfolding flatChoice
 returns c = rw (c .before .enum-told .given .1) (c .chosen .ensures)
@@ -36,14 +18,5 @@ returns-3 c = rw (c .before .before .answer .given .1) (c .no-choice .ensures)
 
 pub flat-choice-spec : {M : Type 1} → statement M
 flat-choice-spec =
-    tie.close
-    (tie.spec
-    enum-told
-    chosen-requires
-    enum-told-2
-    chosen-requires-2
-    enum-known-answer
-    no-choice-requires
-    returns
-    returns-2
-    returns-3)
+    tie.close (tie.spec (λ c. search needs) (λ c κs. search needs) (λ c. search needs) (λ c κs. search needs)
+    (λ c. search needs) (λ c κs. search needs) returns returns-2 returns-3)

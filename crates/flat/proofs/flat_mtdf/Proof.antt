@@ -4,18 +4,6 @@ use Rattle.flat.specs.Flat.{flatMtdf}
 use Rattle.flat.proofs.flat_mtdf.Statement.{statement}
 use Rattle.flat.proofs.flat_mtdf.Tie as tie
 
-enum-known-answer : tie.Need-enum-known-answer
-enum-known-answer c = search needs
-
-found-requires : tie.Need-found-requires
-found-requires c κs = search needs
-
-enum-known-answer-2 : tie.Need-enum-known-answer-2
-enum-known-answer-2 c = search needs
-
-refused-requires : tie.Need-refused-requires
-refused-requires c κs = search needs
-
 returns : tie.Need-returns
 unfolding flatMtdf
 returns c = rw (c .before .before .before .answer .given .1) (c .found .ensures)
@@ -26,11 +14,5 @@ returns-2 c = rw (c .before .before .answer2 .given .1) (c .refused .ensures)
 
 pub flat-mtdf-spec : {M : Type 1} → statement M
 flat-mtdf-spec =
-    tie.close
-    (tie.spec
-    enum-known-answer
-    found-requires
-    enum-known-answer-2
-    refused-requires
-    returns
+    tie.close (tie.spec (λ c. search needs) (λ c κs. search needs) (λ c. search needs) (λ c κs. search needs) returns
     returns-2)

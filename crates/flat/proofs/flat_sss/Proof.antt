@@ -4,24 +4,6 @@ use Rattle.flat.specs.Flat.{flatSss}
 use Rattle.flat.proofs.flat_sss.Statement.{statement}
 use Rattle.flat.proofs.flat_sss.Tie as tie
 
-enum-known-answer : tie.Need-enum-known-answer
-enum-known-answer c = search needs
-
-found-requires : tie.Need-found-requires
-found-requires c κs = search needs
-
-enum-known-answer-2 : tie.Need-enum-known-answer-2
-enum-known-answer-2 c = search needs
-
-spent-requires : tie.Need-spent-requires
-spent-requires c κs = search needs
-
-enum-known-answer-3 : tie.Need-enum-known-answer-3
-enum-known-answer-3 c = search needs
-
-refused-requires : tie.Need-refused-requires
-refused-requires c κs = search needs
-
 returns : tie.Need-returns
 unfolding flatSss
 returns c = rw (c .before .before .before .answer .given .1) (c .found .ensures)
@@ -36,14 +18,5 @@ returns-3 c = rw (c .before .before .answer3 .given .1) (c .refused .ensures)
 
 pub flat-sss-spec : {M : Type 1} → statement M
 flat-sss-spec =
-    tie.close
-    (tie.spec
-    enum-known-answer
-    found-requires
-    enum-known-answer-2
-    spent-requires
-    enum-known-answer-3
-    refused-requires
-    returns
-    returns-2
-    returns-3)
+    tie.close (tie.spec (λ c. search needs) (λ c κs. search needs) (λ c. search needs) (λ c κs. search needs)
+    (λ c. search needs) (λ c κs. search needs) returns returns-2 returns-3)

@@ -8,18 +8,6 @@ use Rattle.flat.specs.Flat.{flatVerdict}
 use Rattle.flat.proofs.flat_verdict.Statement.{statement}
 use Rattle.flat.proofs.flat_verdict.Tie as tie
 
-enum-known-answer : tie.Need-enum-known-answer
-enum-known-answer c = search needs
-
-valued-requires : tie.Need-valued-requires
-valued-requires c κs = search needs
-
-enum-known-answer-2 : tie.Need-enum-known-answer-2
-enum-known-answer-2 c = search needs
-
-refused-requires : tie.Need-refused-requires
-refused-requires c κs = search needs
-
 returns : tie.Need-returns
 unfolding flatVerdict
 returns c =
@@ -32,11 +20,5 @@ returns-2 c = rw (c .before .before .answer2 .given .1) (c .refused .ensures)
 
 pub flat-verdict-spec : {M : Type 1} → statement M
 flat-verdict-spec =
-    tie.close
-    (tie.spec
-    enum-known-answer
-    valued-requires
-    enum-known-answer-2
-    refused-requires
-    returns
+    tie.close (tie.spec (λ c. search needs) (λ c κs. search needs) (λ c. search needs) (λ c κs. search needs) returns
     returns-2)

@@ -33,5 +33,4 @@ returns-2 c =
 
 pub count-of-spec : {M : Type 1} → statement M
 count-of-spec =
-    tie.close
-    (tie.spec (λ c κs. search needs) (λ c κs. search needs) (λ c κs. search needs) returns returns-2)
+    tie.close (tie.spec (λ c κs. search needs) (λ c κs. search needs) (λ c κs. search needs) returns returns-2)

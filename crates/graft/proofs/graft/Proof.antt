@@ -33,13 +33,5 @@ returns-2 c =
 
 pub graft-spec : {M : Type 1} → statement M
 graft-spec =
-    tie.close
-    (tie.spec
-    (λ c κs. search needs)
-    (λ c. search needs)
-    (λ c. search needs)
-    returns
-    (λ c. search needs)
-    write-frames-requires
-    (λ c. search needs)
-    returns-2)
+    tie.close (tie.spec (λ c κs. search needs) (λ c. search needs) (λ c. search needs) returns (λ c. search needs)
+    write-frames-requires (λ c. search needs) returns-2)

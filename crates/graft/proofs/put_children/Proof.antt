@@ -16,35 +16,14 @@ Inv-loop sources₀ next end from node root at₀ sources at =
 abbrev μ-loop : tie.MeasureT-loop
 μ-loop sources₀ next end from node root at₀ sources at = end - at
 
-loop-holds : tie.Need-loop-holds Inv-loop μ-loop
-loop-holds c = (omega arith, run-begins _ _ _ _ (omega arith))
-
-cast-sources : tie.Need-cast-sources Inv-loop μ-loop
-cast-sources c = omega (arith, c .before .before .loop .inv .1 .inside)
-
 loop-again : tie.Need-loop-again Inv-loop μ-loop
 loop-again c =
     let i = c .before .before .loop .inv in
     (omega arith, run-step _ _ _ _ _ _ _ _ (omega arith) (c .replaced .ensures .0) refl (i .1))
 
-returns : tie.Need-returns Inv-loop μ-loop
-returns c = run-ends _ _ _ _ _ _ (omega arith) (c .before .loop .inv .1)
-
 pub put-children-spec : {M : Type 1} → statement M
 put-children-spec =
-    tie.close
-    (tie.spec
-    Inv-loop
-    μ-loop
-    loop-holds
-    (λ c. search needs)
-    (λ c. search needs)
-    (λ c κs. search needs)
-    cast-sources
-    (λ c. search needs)
-    (λ c. search needs)
-    (λ c. search needs)
-    (λ c. search needs)
-    loop-again
-    (λ c. search needs)
-    returns)
+    tie.close (tie.spec Inv-loop μ-loop (λ c. (omega arith, run-begins _ _ _ _ (omega arith))) (λ c. search needs)
+    (λ c. search needs) (λ c κs. search needs) (λ c. omega (arith, c .before .before .loop .inv .1 .inside))
+    (λ c. search needs) (λ c. search needs) (λ c. search needs) (λ c. search needs) loop-again (λ c. search needs)
+    (λ c. run-ends _ _ _ _ _ _ (omega arith) (c .before .loop .inv .1)))

@@ -93,9 +93,6 @@ slice-read-source c =
 cast-source : tie.Need-cast-source Inv-loop μ-loop
 cast-source c = omega (arith, c .slice-known3 .given (c .before .before .loop .i))
 
-count-of-requires : tie.Need-count-of-requires Inv-loop μ-loop
-count-of-requires c κs = source-inside c
-
 first-of-requires : tie.Need-first-of-requires Inv-loop μ-loop
 first-of-requires c κs = (source-inside (c .before), first-few (at-start (c .before .before .before)))
 
@@ -148,9 +145,6 @@ loop-again c =
     (p .before .first-number .ensures .0) (omega (arith, a .pre .1)) (p .put-source .ensures)
     (rw (l .before .before .frame-count .ensures) at (c .before .before .put-children .ensures))
 
-same-length : tie.Need-same-length Inv-loop μ-loop
-same-length c = c .before .loop .inv .long
-
 same-length-2 : tie.Need-same-length-2 Inv-loop μ-loop
 same-length-2 c = c .before .loop .inv .listed .visit .long ∙ length-set (at-start (c .before) .args .sources .now) 0 _
 
@@ -164,28 +158,7 @@ returns c =
 
 pub write-frames-spec : {M : Type 1} → statement M
 write-frames-spec =
-    tie.close
-    (tie.spec
-    Inv-loop
-    μ-loop
-    (λ c κs. search needs)
-    (λ c κs. search needs)
-    cast-sources
-    slice-write-sources
-    loop-holds
-    (λ c. search needs)
-    slice-read-source
-    cast-source
-    count-of-requires
-    first-of-requires
-    add-end
-    (λ c κs. search needs)
-    (λ c. search needs)
-    put-source-requires
-    put-children-requires
-    (λ c. search needs)
-    (λ c. search needs)
-    loop-again
-    same-length
-    same-length-2
-    returns)
+    tie.close (tie.spec Inv-loop μ-loop (λ c κs. search needs) (λ c κs. search needs) cast-sources slice-write-sources
+    loop-holds (λ c. search needs) slice-read-source cast-source (λ c κs. source-inside c) first-of-requires add-end
+    (λ c κs. search needs) (λ c. search needs) put-source-requires put-children-requires (λ c. search needs)
+    (λ c. search needs) loop-again (λ c. c .before .loop .inv .long) same-length-2 returns)

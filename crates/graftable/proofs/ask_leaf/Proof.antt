@@ -69,9 +69,6 @@ depths h =
           (max-leaf (first m) (node m) (passed e) .inside),
     )
 
-is-max-leaf-requires : tie.Need-is-max-leaf-requires
-is-max-leaf-requires c κs = holds-positions (c .before .before)
-
 returns : tie.Need-returns
 returns c =
     let m = c .before .before in
@@ -139,29 +136,8 @@ returns-5 c =
 
 pub ask-leaf-spec : {M : Type 1} → statement M
 ask-leaf-spec =
-    tie.close
-    (tie.spec
-    (λ c. search needs)
-    (λ c κs. search needs)
-    (λ c. search needs)
-    is-max-leaf-requires
-    (λ c κs. search needs)
-    returns
-    (λ c κs. search needs)
-    (λ c κs. search needs)
-    (λ c. search needs)
-    (λ c. search needs)
-    (λ c κs. search needs)
-    returns-2
-    (λ c. search needs)
-    depth-at-requires
-    (λ c. search needs)
-    height-requires
-    (λ c. search needs)
-    (λ c. search needs)
-    (λ c κs. search needs)
-    returns-3
-    (λ c. search needs)
-    (λ c κs. search needs)
-    returns-4
-    returns-5)
+    tie.close (tie.spec (λ c. search needs) (λ c κs. search needs) (λ c. search needs)
+    (λ c κs. holds-positions (c .before .before)) (λ c κs. search needs) returns (λ c κs. search needs)
+    (λ c κs. search needs) (λ c. search needs) (λ c. search needs) (λ c κs. search needs) returns-2 (λ c. search needs)
+    depth-at-requires (λ c. search needs) height-requires (λ c. search needs) (λ c. search needs) (λ c κs. search needs)
+    returns-3 (λ c. search needs) (λ c κs. search needs) returns-4 returns-5)

@@ -34,9 +34,6 @@ not-wanted c =
     let r = c .before in
     rw (not-first (r .before .before), not-loss (r .before), ← r .reaches3 .ensures, c .if4 .left)
 
-returns : tie.Need-returns
-returns c = rw (sym (c .before .reaches .ensures) ∙ c .if1 .taken)
-
 returns-2 : tie.Need-returns-2
 returns-2 c =
     let r = c .before in
@@ -58,22 +55,8 @@ returns-5 c =
     let q = c .before in
     rw (not-wanted (q .before .before), lt-ltb _ _ (q .before .if5 .taken), ← q .reaches4 .ensures, c .if6 .left)
 
-returns-6 : tie.Need-returns-6
-returns-6 c = rw (not-wanted (c .before), le-ltb _ _ (c .if5 .left))
-
 pub candidate-spec : {M : Type 1} → statement M
 candidate-spec =
-    tie.close
-    (tie.spec
-    (λ c κs. search needs)
-    returns
-    (λ c. search needs)
-    (λ c κs. search needs)
-    returns-2
-    (λ c κs. search needs)
-    returns-3
-    (λ c. search needs)
-    (λ c κs. search needs)
-    returns-4
-    returns-5
-    returns-6)
+    tie.close (tie.spec (λ c κs. search needs) (λ c. rw (sym (c .before .reaches .ensures) ∙ c .if1 .taken))
+    (λ c. search needs) (λ c κs. search needs) returns-2 (λ c κs. search needs) returns-3 (λ c. search needs)
+    (λ c κs. search needs) returns-4 returns-5 (λ c. rw (not-wanted (c .before), le-ltb _ _ (c .if5 .left))))

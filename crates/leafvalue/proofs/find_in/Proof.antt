@@ -110,17 +110,6 @@ returns c =
 
 pub find-in-spec : {M : Type 1} → statement M
 find-in-spec =
-    tie.close
-    (tie.spec
-    fill-requires
-    slice-write-known
-    fill-bounds-requires
-    slice-read-candidate
-    slice-read-candidate-2
-    depth-at-requires
-    candidate-requires
-    (λ c. search needs)
-    same-length-2
-    (λ c. search needs)
-    (λ c. search needs)
+    tie.close (tie.spec fill-requires slice-write-known fill-bounds-requires slice-read-candidate slice-read-candidate-2
+    depth-at-requires candidate-requires (λ c. search needs) same-length-2 (λ c. search needs) (λ c. search needs)
     returns)

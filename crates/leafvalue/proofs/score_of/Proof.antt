@@ -19,9 +19,6 @@ fits c =
     let v = c .args .wanted in
     rw (score-sum v (c .pre)) (record { sfits = omega (arith, score-range v (c .pre)) })
 
-add-result : tie.Need-add-result
-add-result c = rw (plain c) (fits c)
-
 cast-result : tie.Need-cast-result
 cast-result c =
     let v = c .args .wanted in
@@ -32,4 +29,4 @@ returns : tie.Need-returns
 returns c = rw (plain c, toZ-ofZ w32 (c .args .wanted +ℤ pos zeroScore) (fits c))
 
 pub score-of-spec : {M : Type 1} → statement M
-score-of-spec = tie.close (tie.spec add-result cast-result returns)
+score-of-spec = tie.close (tie.spec (λ c. rw (plain c) (fits c)) cast-result returns)

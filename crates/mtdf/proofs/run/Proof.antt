@@ -22,34 +22,16 @@ cleared c =
     c .clear .ensures
     ∙ ap (λ m. written (λ _. 0) m (start c .args .evaluated .now)) (c .before .frame-count .ensures)
 
-frame-count-requires : tie.Need-frame-count-requires
-frame-count-requires c κs = search needs
-
-clear-requires : tie.Need-clear-requires
-clear-requires c κs = search needs
-
 settle-requires : tie.Need-settle-requires
 settle-requires c κs =
     let k = c .before .before .before .before in
     let a = start k .pre in
     ((a .0, omega (arith, k .clear .kept, a .1 .0), a .1 .1), cleared-unmarked _ _ (cleared k))
 
-write-certificate-requires : tie.Need-write-certificate-requires
-write-certificate-requires c κs = search needs
-
 value-requires : tie.Need-value-requires
 value-requires c κs =
     let f = c .before .before .before .before .before .before .before .before .before .before .before in
     run-small _ (start (f .before .before .before .before .before) .pre .0) _ _ (f .settle .ensures .score)
-
-same-length : tie.Need-same-length
-same-length c = search needs
-
-same-length-2 : tie.Need-same-length-2
-same-length-2 c = search needs
-
-same-length-3 : tie.Need-same-length-3
-same-length-3 c = search needs
 
 returns : tie.Need-returns
 returns c =
@@ -62,14 +44,5 @@ returns c =
 
 pub run-spec : {M : Type 1} → statement M
 run-spec =
-    tie.close
-    (tie.spec
-    frame-count-requires
-    clear-requires
-    settle-requires
-    write-certificate-requires
-    value-requires
-    same-length
-    same-length-2
-    same-length-3
-    returns)
+    tie.close (tie.spec (λ c κs. search needs) (λ c κs. search needs) settle-requires (λ c κs. search needs)
+    value-requires (λ c. search needs) (λ c. search needs) (λ c. search needs) returns)

@@ -51,39 +51,12 @@ guess c =
     let a = start (c .before .before .before) in
     rw (toZ-ofZ w32 (a .args .start) (a .fits .start)) at (c .start-score .ensures)
 
-lesser-requires : tie.Need-lesser-requires
-lesser-requires c κs = search needs
-
-lesser-requires-2 : tie.Need-lesser-requires-2
-lesser-requires-2 c κs = search needs
-
-ask-requires : tie.Need-ask-requires
-ask-requires c κs = search needs
-
-enum-told : tie.Need-enum-told
-enum-told c = search needs
-
-start-score-requires : tie.Need-start-score-requires
-start-score-requires c κs = search needs
-
 run-requires : tie.Need-run-requires
 run-requires c κs =
     let k = c .before .before .before .before in
     let q = k .before .before in
     let r = nodes-long-enough _ (lengths q) _ (sym (k .enum-told .given .1) ∙ told q) in
     (r .0, ((r .1 .0, r .1 .1 .0), r .1 .1 .1 .0))
-
-enum-known-rejection : tie.Need-enum-known-rejection
-enum-known-rejection c = search needs
-
-same-length : tie.Need-same-length
-same-length c = search needs
-
-same-length-2 : tie.Need-same-length-2
-same-length-2 c = search needs
-
-same-length-3 : tie.Need-same-length-3
-same-length-3 c = search needs
 
 returns : tie.Need-returns
 returns c =
@@ -103,17 +76,6 @@ returns-2 c =
 
 pub search-spec : {M : Type 1} → statement M
 search-spec =
-    tie.close
-    (tie.spec
-    lesser-requires
-    lesser-requires-2
-    ask-requires
-    enum-told
-    start-score-requires
-    run-requires
-    enum-known-rejection
-    same-length
-    same-length-2
-    same-length-3
-    returns
-    returns-2)
+    tie.close (tie.spec (λ c κs. search needs) (λ c κs. search needs) (λ c κs. search needs) (λ c. search needs)
+    (λ c κs. search needs) run-requires (λ c. search needs) (λ c. search needs) (λ c. search needs) (λ c. search needs)
+    returns returns-2)

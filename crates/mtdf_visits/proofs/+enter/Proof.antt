@@ -173,31 +173,10 @@ module _ (t : ℕ) where
       → c .before .first-child .result < c .before .first-child .result + c .child-count .result
   some c = omega (arith, entry c .pre .1 .1, c .child-count .ensures .0)
 
-  first-child-requires : lts.Need-first-child-requires (calls t) (at t) enter′.Post Inv μ-loop
-  first-child-requires c κs = search needs
-
-  child-count-requires : lts.Need-child-count-requires (calls t) (at t) enter′.Post Inv μ-loop
-  child-count-requires c κs = search needs
-
-  add-end : lts.Need-add-end (calls t) (at t) enter′.Post Inv μ-loop
-  add-end c = search needs
-
-  loop-holds : lts.Need-loop-holds (calls t) (at t) enter′.Post Inv μ-loop
-  loop-holds c = turn-first (family c) (entry c .pre .1 .0) (some c)
-
   child-position-requires : lts.Need-child-position-requires (calls t) (at t) enter′.Post Inv μ-loop
   child-position-requires c κs =
       let p = entry (c .before) .pre .1 .0 in
       (child-within _ (p .formed) (p .inside) (turn-child (family (c .before)) (c .loop .inv)), ready-shallow p)
-
-  look-requires : lts.Need-look-requires (calls t) (at t) enter′.Post Inv μ-loop
-  look-requires c κs = ready (c .before .before .before .before)
-
-  enum-known-tried : lts.Need-enum-known-tried (calls t) (at t) enter′.Post Inv μ-loop
-  enum-known-tried c = search needs
-
-  enum-told : lts.Need-enum-told (calls t) (at t) enter′.Post Inv μ-loop
-  enum-told c = search needs
 
   enter-requires : lts.Need-enter-requires (calls t) (at t) enter′.Post Inv μ-loop
   enter-requires c κs =
@@ -216,15 +195,6 @@ module _ (t : ℕ) where
         open-ready (a .table .now) (l .loop .child) (a .test) (present l) (looked k) (k .look .result)
             (k .look .ensures) (g .enum-told .given .1) (ready (k .before .before .before .before .before)),
       )
-
-  add-child : lts.Need-add-child (calls t) (at t) enter′.Post Inv μ-loop
-  add-child c = search needs
-
-  last-tried-requires : lts.Need-last-tried-requires (calls t) (at t) enter′.Post Inv μ-loop
-  last-tried-requires c κs = search needs
-
-  loop-less : lts.Need-loop-less (calls t) (at t) enter′.Post Inv μ-loop
-  loop-less c = omega (arith, head (seen (child (c .before))) .loop .inv .to)
 
   loop-again : lts.Need-loop-again (calls t) (at t) enter′.Post Inv μ-loop
   loop-again c =
@@ -270,18 +240,6 @@ module _ (t : ℕ) where
       let d = ended c in
       omega (arith, entry (head (seen d) .before) .pre .1 .0 .inside, room d .highs)
 
-  same-length : lts.Need-same-length (calls t) (at t) enter′.Post Inv μ-loop
-  same-length c = long (ended c) .evaluated
-
-  same-length-2 : lts.Need-same-length-2 (calls t) (at t) enter′.Post Inv μ-loop
-  same-length-2 c = long (ended c) .order
-
-  same-length-3 : lts.Need-same-length-3 (calls t) (at t) enter′.Post Inv μ-loop
-  same-length-3 c = simp length-set (long (ended c) .lows)
-
-  same-length-4 : lts.Need-same-length-4 (calls t) (at t) enter′.Post Inv μ-loop
-  same-length-4 c = simp length-set (long (ended c) .highs)
-
   returns : lts.Need-returns (calls t) (at t) enter′.Post Inv μ-loop
   returns c =
       let e = c .before .before .before .before .before in
@@ -294,32 +252,11 @@ module _ (t : ℕ) where
       (c .before .before .best .ensures) (c .best2 .ensures)
 
 pub +enter-spec : {M : Type 1} → statement M
-+enter-spec = close μ λ t. lts.spec (calls t)
-    (at t)
-    enter′.Post
-    Inv
-    μ-loop
-    (first-child-requires t)
-    (child-count-requires t)
-    (add-end t)
-    (loop-holds t)
-    (child-position-requires t)
-    (look-requires t)
-    (enum-known-tried t)
-    (enum-told t)
-    (enter-requires t)
-    (add-child t)
-    (last-tried-requires t)
-    (loop-less t)
-    (loop-again t)
-    (best-requires t)
-    (best-requires-2 t)
-    (mul-lows t)
-    (slice-write-lows t)
-    (mul-highs t)
-    (slice-write-highs t)
-    (same-length t)
-    (same-length-2 t)
-    (same-length-3 t)
-    (same-length-4 t)
-    (returns t)
++enter-spec = close μ λ t. lts.spec (calls t) (at t) enter′.Post Inv μ-loop (λ c κs. search needs)
+    (λ c κs. search needs) (λ c. search needs) (λ c. turn-first (family c) (entry c .pre .1 .0) (some c))
+    (child-position-requires t) (λ c κs. ready (c .before .before .before .before)) (λ c. search needs)
+    (λ c. search needs) (enter-requires t) (λ c. search needs) (λ c κs. search needs)
+    (λ c. omega (arith, head (seen (child (c .before))) .loop .inv .to)) (loop-again t) (best-requires t)
+    (best-requires-2 t) (mul-lows t) (slice-write-lows t) (mul-highs t) (slice-write-highs t)
+    (λ c. long (ended c) .evaluated) (λ c. long (ended c) .order) (λ c. simp length-set (long (ended c) .lows))
+    (λ c. simp length-set (long (ended c) .highs)) (returns t)

@@ -35,15 +35,6 @@ after c n =
 none : (c : tie.Else3) → childCount (entry c .args .table .now) (entry c .args .node) ≡ 0
 none c = omega (arith, c .if3 .left, c .before .child-count .ensures .0)
 
-mul-if1 : tie.Need-mul-if1
-mul-if1 c = search needs
-
-slice-read-if1 : tie.Need-slice-read-if1
-slice-read-if1 c = search needs
-
-not-entered-requires : tie.Need-not-entered-requires
-not-entered-requires c κs = search needs
-
 returns : tie.Need-returns
 returns c =
     let a = c .before .before .before .before .before .before .before .before in
@@ -51,24 +42,12 @@ returns c =
     (record { answer = false; leaves = a .args .leaves }) (c .not-entered .ensures)
     (visit-below (a .pre) refl (c .before .if1 .taken))
 
-mul-if2 : tie.Need-mul-if2
-mul-if2 c = search needs
-
-slice-read-if2 : tie.Need-slice-read-if2
-slice-read-if2 c = search needs
-
-not-entered-requires-2 : tie.Need-not-entered-requires-2
-not-entered-requires-2 c κs = search needs
-
 returns-2 : tie.Need-returns-2
 returns-2 c =
     let a = c .before .before .before .before .before .before .before .before .before .before in
     looked-answer (a .args .table .now) (a .args .node) (a .args .test) (before a) (counting a)
     (c .not-entered2 .result) (record { answer = true; leaves = a .args .leaves }) (c .not-entered2 .ensures)
     (visit-not-below (a .pre) refl (c .before .before .before .if1 .left) (omega (arith, c .before .if2 .taken)))
-
-child-count-requires : tie.Need-child-count-requires
-child-count-requires c κs = search needs
 
 returns-3 : tie.Need-returns-3
 returns-3 c = (
@@ -91,21 +70,6 @@ evaluate-leaf-requires c κs =
       ),
     )
 
-not-entered-requires-3 : tie.Need-not-entered-requires-3
-not-entered-requires-3 c κs = search needs
-
-same-length : tie.Need-same-length
-same-length c = search needs
-
-same-length-2 : tie.Need-same-length-2
-same-length-2 c = search needs
-
-same-length-3 : tie.Need-same-length-3
-same-length-3 c = search needs
-
-same-length-4 : tie.Need-same-length-4
-same-length-4 c = search needs
-
 returns-4 : tie.Need-returns-4
 returns-4 c =
     let v = c .before .before .before .before .before .before .before .before .before .before in
@@ -120,22 +84,6 @@ returns-4 c =
 
 pub look-spec : {M : Type 1} → statement M
 look-spec =
-    tie.close
-    (tie.spec
-    mul-if1
-    slice-read-if1
-    not-entered-requires
-    returns
-    mul-if2
-    slice-read-if2
-    not-entered-requires-2
-    returns-2
-    child-count-requires
-    returns-3
-    evaluate-leaf-requires
-    not-entered-requires-3
-    same-length
-    same-length-2
-    same-length-3
-    same-length-4
-    returns-4)
+    tie.close (tie.spec (λ c. search needs) (λ c. search needs) (λ c κs. search needs) returns (λ c. search needs)
+    (λ c. search needs) (λ c κs. search needs) returns-2 (λ c κs. search needs) returns-3 evaluate-leaf-requires
+    (λ c κs. search needs) (λ c. search needs) (λ c. search needs) (λ c. search needs) (λ c. search needs) returns-4)

@@ -29,12 +29,6 @@ left c =
 look-requires : tie.Need-look-requires
 look-requires c κs = c .before .before .before .before .before .before .before .before .before .pre
 
-enum-known-tried : tie.Need-enum-known-tried
-enum-known-tried c = search needs
-
-enum-told : tie.Need-enum-told
-enum-told c = search needs
-
 enter-requires : tie.Need-enter-requires
 enter-requires c κs =
     let g = c .before .before .before .before in
@@ -43,36 +37,12 @@ enter-requires c κs =
     open-ready (a .table .now) (a .node) (a .test) (before k) (after k) (k .look .result) (k .look .ensures)
     (g .enum-told .given .1) (start k .pre)
 
-same-length : tie.Need-same-length
-same-length c = search needs
-
-same-length-2 : tie.Need-same-length-2
-same-length-2 c = search needs
-
-same-length-3 : tie.Need-same-length-3
-same-length-3 c = search needs
-
-same-length-4 : tie.Need-same-length-4
-same-length-4 c = search needs
-
 returns : tie.Need-returns
 returns c =
     let k = c .before .before .before .before .before .before .before .before .before .before .before in
     let a = start k .args in
     looked-visited (a .table .now) (a .node) (a .test) (before k) (after k) (k .look .result) (k .look .ensures)
     (c .before .tried .given .0 .0) (c .before .tried .given .1)
-
-same-length-5 : tie.Need-same-length-5
-same-length-5 c = search needs
-
-same-length-6 : tie.Need-same-length-6
-same-length-6 c = search needs
-
-same-length-7 : tie.Need-same-length-7
-same-length-7 c = search needs
-
-same-length-8 : tie.Need-same-length-8
-same-length-8 c = search needs
 
 returns-2 : tie.Need-returns-2
 returns-2 c =
@@ -85,19 +55,6 @@ returns-2 c =
 
 pub visit-spec : {M : Type 1} → statement M
 visit-spec =
-    tie.close
-    (tie.spec
-    look-requires
-    enum-known-tried
-    enum-told
-    enter-requires
-    same-length
-    same-length-2
-    same-length-3
-    same-length-4
-    returns
-    same-length-5
-    same-length-6
-    same-length-7
-    same-length-8
-    returns-2)
+    tie.close (tie.spec look-requires (λ c. search needs) (λ c. search needs) enter-requires (λ c. search needs)
+    (λ c. search needs) (λ c. search needs) (λ c. search needs) returns (λ c. search needs) (λ c. search needs)
+    (λ c. search needs) (λ c. search needs) returns-2)

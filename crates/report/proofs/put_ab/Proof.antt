@@ -4,26 +4,11 @@ use Rattle.report.specs.engine.Lines.{abLine}
 use Rattle.report.proofs.put_ab.Statement.{statement}
 use Rattle.report.proofs.put_ab.Tie as tie
 
-find-requires : tie.Need-find-requires
-find-requires c κs = search needs
-
-slice-aggregate-put-line : tie.Need-slice-aggregate-put-line
-slice-aggregate-put-line c = search needs
-
 put-line-requires : tie.Need-put-line-requires
 unfolding abLine
 put-line-requires c κs =
     let f = c .before .before .before .before .before .before in
     rw (f .find .ensures .0) (f .before .before .before .before .before .before .before .pre .1 .1)
-
-same-length : tie.Need-same-length
-same-length c = search needs
-
-same-length-2 : tie.Need-same-length-2
-same-length-2 c = search needs
-
-same-length-3 : tie.Need-same-length-3
-same-length-3 c = search needs
 
 returns : tie.Need-returns
 unfolding abLine
@@ -33,12 +18,5 @@ returns c =
 
 pub put-ab-spec : {M : Type 1} → statement M
 put-ab-spec =
-    tie.close
-    (tie.spec
-    find-requires
-    slice-aggregate-put-line
-    put-line-requires
-    same-length
-    same-length-2
-    same-length-3
-    returns)
+    tie.close (tie.spec (λ c κs. search needs) (λ c. search needs) put-line-requires (λ c. search needs)
+    (λ c. search needs) (λ c. search needs) returns)

@@ -11,30 +11,12 @@ use Rattle.report.proofs.put_analysis.Tie as tie
 abbrev start : tie.After-put-bytes → tie.Start
 start h = h .before .before .before .before .before
 
-slice-aggregate-put-bytes : tie.Need-slice-aggregate-put-bytes
-slice-aggregate-put-bytes c = search needs
-
-put-bytes-requires : tie.Need-put-bytes-requires
-put-bytes-requires c κs = search needs
-
-slice-aggregate-put-ab : tie.Need-slice-aggregate-put-ab
-slice-aggregate-put-ab c = search needs
-
-slice-aggregate-put-ab-2 : tie.Need-slice-aggregate-put-ab-2
-slice-aggregate-put-ab-2 c = search needs
-
 put-ab-requires : tie.Need-put-ab-requires
 put-ab-requires c κs =
     let h = c .before .before .before .before .before in
     let r = start h .pre in
     let room = fresh-room _ (r .0) in
     (accepted-formed _ (r .0), ((room, room), room-front _ (room-rest _ (h .put-bytes .ensures) (r .1))))
-
-slice-aggregate-put-mtd : tie.Need-slice-aggregate-put-mtd
-slice-aggregate-put-mtd c = search needs
-
-slice-aggregate-put-mtd-2 : tie.Need-slice-aggregate-put-mtd-2
-slice-aggregate-put-mtd-2 c = search needs
 
 put-mtd-requires : tie.Need-put-mtd-requires
 put-mtd-requires c κs =
@@ -49,12 +31,6 @@ put-mtd-requires c κs =
         room-front _ (room-rest _ (a .put-ab .ensures) (room-rest _ (h .put-bytes .ensures) (r .1))),
       ),
     )
-
-slice-aggregate-put-sss : tie.Need-slice-aggregate-put-sss
-slice-aggregate-put-sss c = search needs
-
-slice-aggregate-put-sss-2 : tie.Need-slice-aggregate-put-sss-2
-slice-aggregate-put-sss-2 c = search needs
 
 put-sss-requires : tie.Need-put-sss-requires
 put-sss-requires c κs =
@@ -73,9 +49,6 @@ put-sss-requires c κs =
       ),
     )
 
-same-length : tie.Need-same-length
-same-length c = search needs
-
 returns : tie.Need-returns
 returns c =
     let s = c .before .before .before .before in
@@ -90,18 +63,6 @@ returns c =
 
 pub put-analysis-spec : {M : Type 1} → statement M
 put-analysis-spec =
-    tie.close
-    (tie.spec
-    slice-aggregate-put-bytes
-    put-bytes-requires
-    slice-aggregate-put-ab
-    slice-aggregate-put-ab-2
-    put-ab-requires
-    slice-aggregate-put-mtd
-    slice-aggregate-put-mtd-2
-    put-mtd-requires
-    slice-aggregate-put-sss
-    slice-aggregate-put-sss-2
-    put-sss-requires
-    same-length
-    returns)
+    tie.close (tie.spec (λ c. search needs) (λ c κs. search needs) (λ c. search needs) (λ c. search needs)
+    put-ab-requires (λ c. search needs) (λ c. search needs) put-mtd-requires (λ c. search needs) (λ c. search needs)
+    put-sss-requires (λ c. search needs) returns)

@@ -5,9 +5,6 @@ use Rattle.report.proofs.Searches.{value-passed}
 use Rattle.report.proofs.put_line.Statement.{statement}
 use Rattle.report.proofs.put_line.Tie as tie
 
-put-bytes-requires : tie.Need-put-bytes-requires
-put-bytes-requires c κs = room-front _ (c .before .before .before .pre)
-
 put-value-requires : tie.Need-put-value-requires
 put-value-requires c κs =
     let t = c .before .before .before .before in
@@ -43,9 +40,6 @@ put-byte-requires c κs =
     room-rest _ (l .put-count2 .ensures)
     (room-rest _ (m .put-count .ensures) (room-rest _ valued (room-rest _ (t .put-bytes .ensures) (s .pre))))
 
-same-length : tie.Need-same-length
-same-length c = search needs
-
 returns : tie.Need-returns
 returns c =
     let f = c .before .before in
@@ -65,12 +59,5 @@ returns c =
 
 pub put-line-spec : {M : Type 1} → statement M
 put-line-spec =
-    tie.close
-    (tie.spec
-    put-bytes-requires
-    put-value-requires
-    put-count-requires
-    put-count-requires-2
-    put-byte-requires
-    same-length
-    returns)
+    tie.close (tie.spec (λ c κs. room-front _ (c .before .before .before .pre)) put-value-requires put-count-requires
+    put-count-requires-2 put-byte-requires (λ c. search needs) returns)

@@ -34,21 +34,6 @@ rejected c =
     let e = sym (c .before .rejection .given .1) ∙ d .read .ensures .0 in
     read-rejected (now (start d .args .file)) _ (omega arith) _ e
 
-slice-aggregate-read : tie.Need-slice-aggregate-read
-slice-aggregate-read c = search needs
-
-read-requires : tie.Need-read-requires
-read-requires c κs = search needs
-
-enum-known-nodes : tie.Need-enum-known-nodes
-enum-known-nodes c = search needs
-
-mul-end : tie.Need-mul-end
-mul-end c = omega (arith, accepted c .atMost)
-
-array-share-prefix-table : tie.Need-array-share-prefix-table
-array-share-prefix-table c = omega (arith, accepted c .atMost)
-
 slice-aggregate-put-analysis : tie.Need-slice-aggregate-put-analysis
 slice-aggregate-put-analysis c = sym (length-take-le _ _ (omega (arith, accepted (c .before) .atMost)))
 
@@ -59,16 +44,10 @@ put-analysis-requires c κs =
     subst (λ t. Accepted t × TextRoom 0 (analysis t) (now (s .args .text))) (sym (w .bytes))
     (w .accepted, subst (λ x. TextRoom 0 x (now (s .args .text))) (w .reported) (s .pre))
 
-enum-known-rejection : tie.Need-enum-known-rejection
-enum-known-rejection c = search needs
-
 put-refused-requires : tie.Need-put-refused-requires
 put-refused-requires c κs =
     let s = start (c .before .before .before .before .before) in
     subst (λ x. TextRoom 0 x (now (s .args .text))) (rejected (c .before)) (s .pre)
-
-same-length : tie.Need-same-length
-same-length c = search needs
 
 returns : tie.Need-returns
 returns c =
@@ -79,9 +58,6 @@ returns c =
     subst (λ x. Put 0 x b (p .result) (p .last .1 .0)) (sym (w .reported))
     (subst (λ t. Put 0 (analysis t) b (p .result) (p .last .1 .0)) (w .bytes) (p .ensures))
 
-same-length-2 : tie.Need-same-length-2
-same-length-2 c = search needs
-
 returns-2 : tie.Need-returns-2
 returns-2 c =
     let k = c .before .before .before .before in
@@ -91,18 +67,7 @@ returns-2 c =
 
 pub put-report-spec : {M : Type 1} → statement M
 put-report-spec =
-    tie.close
-    (tie.spec
-    slice-aggregate-read
-    read-requires
-    enum-known-nodes
-    mul-end
-    array-share-prefix-table
-    slice-aggregate-put-analysis
-    put-analysis-requires
-    enum-known-rejection
-    put-refused-requires
-    same-length
-    returns
-    same-length-2
+    tie.close (tie.spec (λ c. search needs) (λ c κs. search needs) (λ c. search needs)
+    (λ c. omega (arith, accepted c .atMost)) (λ c. omega (arith, accepted c .atMost)) slice-aggregate-put-analysis
+    put-analysis-requires (λ c. search needs) put-refused-requires (λ c. search needs) returns (λ c. search needs)
     returns-2)

@@ -9,14 +9,9 @@ use Rattle.text.proofs.Sizes.{text-room, text-laid}
 use Rattle.report.proofs.write.Statement.{statement}
 use Rattle.report.proofs.write.Tie as tie
 
-slice-aggregate-put-report : tie.Need-slice-aggregate-put-report
-slice-aggregate-put-report c = search needs
-
 put-report-requires : tie.Need-put-report-requires
 put-report-requires c κs = text-room _ (report-few _) (omega (arith, length-replicate {A = ℕ} textSize 0))
 
-returns : tie.Need-returns
-returns c = text-laid _ (c .before .put-report .ensures)
-
 pub write-spec : {M : Type 1} → statement M
-write-spec = tie.close (tie.spec slice-aggregate-put-report put-report-requires returns)
+write-spec =
+    tie.close (tie.spec (λ c. search needs) put-report-requires (λ c. text-laid _ (c .before .put-report .ensures)))

@@ -46,9 +46,6 @@ Inv-loop table flags n leaves₀ node₀ leaves node = Counted table flags node 
 abbrev μ-loop : tie.MeasureT-loop
 μ-loop table flags n leaves₀ node₀ leaves node = n - node
 
-loop-holds : tie.Need-loop-holds Inv-loop μ-loop
-loop-holds c = counted-none _ _
-
 loop-again : tie.Need-loop-again Inv-loop μ-loop
 loop-again c =
     let m = c .before in
@@ -56,20 +53,8 @@ loop-again c =
     counted-more _ _ _ _ (m .before .before .loop .inv) _ (omega arith)
     (⊎-elim (λ w. rw (e ∙ w .0 .taken) (w .1)) (λ w. rw (e ∙ w .0 .left) (omega arith)) (c .if1 .came))
 
-returns : tie.Need-returns Inv-loop μ-loop
-returns c = counted-all _ _ _ _ (c .before .loop .inv) (omega arith)
-
 pub flagged-leaves-spec : {M : Type 1} → statement M
 flagged-leaves-spec =
-    tie.close
-    (tie.spec
-    Inv-loop
-    μ-loop
-    (λ c κs. search needs)
-    loop-holds
-    (λ c κs. search needs)
-    (λ c. search needs)
-    (λ c. search needs)
-    (λ c. search needs)
-    loop-again
-    returns)
+    tie.close (tie.spec Inv-loop μ-loop (λ c κs. search needs) (λ c. counted-none _ _) (λ c κs. search needs)
+    (λ c. search needs) (λ c. search needs) (λ c. search needs) loop-again
+    (λ c. counted-all _ _ _ _ (c .before .loop .inv) (omega arith)))

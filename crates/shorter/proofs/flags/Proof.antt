@@ -70,21 +70,6 @@ returns-3 c =
 
 pub flags-spec : {M : Type 1} → statement M
 flags-spec =
-    tie.close
-    (tie.spec
-    (λ c κs. search needs)
-    (λ c. search needs)
-    (λ c. search needs)
-    (λ c. search needs)
-    part-result-end
-    returns
-    (λ c. search needs)
-    (λ c. search needs)
-    (λ c. search needs)
-    part-result-end-2
-    returns-2
-    (λ c. search needs)
-    (λ c. search needs)
-    (λ c. search needs)
-    (λ c. search needs)
-    returns-3)
+    tie.close (tie.spec (λ c κs. search needs) (λ c. search needs) (λ c. search needs) (λ c. search needs)
+    part-result-end returns (λ c. search needs) (λ c. search needs) (λ c. search needs) part-result-end-2 returns-2
+    (λ c. search needs) (λ c. search needs) (λ c. search needs) (λ c. search needs) returns-3)

@@ -30,15 +30,6 @@ cleared c =
     c .clear .ensures
     ∙ ap (λ m. written (λ _. 0) m (start c .args .evaluated .now)) (c .before .before .frame-count .ensures)
 
-frame-count-requires : tie.Need-frame-count-requires
-frame-count-requires c κs = search needs
-
-clear-requires : tie.Need-clear-requires
-clear-requires c κs = search needs
-
-begun-requires : tie.Need-begun-requires
-begun-requires c κs = search needs
-
 drive-own-requires : tie.Need-drive-own-requires
 drive-own-requires c κs =
     let k = c .before .before .before .before .before in
@@ -50,12 +41,6 @@ drive-own-requires c κs =
     (omega (arith, wf .atMost, length-replicate {A = State} maxNodes blank)) (p .1 .0) (p .1 .1) (zeros-sound t wf) _
     (p .0 .1))
 
-slice-aggregate-found : tie.Need-slice-aggregate-found
-slice-aggregate-found c = search needs
-
-end-merit-requires : tie.Need-end-merit-requires
-end-merit-requires c κs = search needs
-
 found-requires : tie.Need-found-requires
 found-requires c κs =
     let d = run c in
@@ -66,12 +51,6 @@ found-requires c κs =
       p .0 .1,
       own-asks _ (p .0 .0) _ _ _ _ (cleared k) (b .begun .ensures) (d .drive-own .ensures) (p .1 .0),
     )
-
-same-length : tie.Need-same-length
-same-length c = search needs
-
-same-length-2 : tie.Need-same-length-2
-same-length-2 c = search needs
 
 returns : tie.Need-returns
 returns c =
@@ -85,15 +64,5 @@ returns c =
 
 pub find-spec : {M : Type 1} → statement M
 find-spec =
-    tie.close
-    (tie.spec
-    frame-count-requires
-    clear-requires
-    begun-requires
-    drive-own-requires
-    slice-aggregate-found
-    end-merit-requires
-    found-requires
-    same-length
-    same-length-2
-    returns)
+    tie.close (tie.spec (λ c κs. search needs) (λ c κs. search needs) (λ c κs. search needs) drive-own-requires
+    (λ c. search needs) (λ c κs. search needs) found-requires (λ c. search needs) (λ c. search needs) returns)

@@ -24,9 +24,6 @@ Inv-loop table flags n node₀ node = Asking (inRange flags) 11 (frames table) n
 abbrev μ-loop : tie.MeasureT-loop
 μ-loop table flags n node₀ node = n - node
 
-loop-holds : tie.Need-loop-holds Inv-loop μ-loop
-loop-holds c = asking-none _ _ _
-
 returns : tie.Need-returns Inv-loop μ-loop
 returns c =
     let l = c .before .before .before .before in
@@ -42,16 +39,5 @@ returns-2 c =
 
 pub check-flags-spec : {M : Type 1} → statement M
 check-flags-spec =
-    tie.close
-    (tie.spec
-    Inv-loop
-    μ-loop
-    (λ c κs. search needs)
-    loop-holds
-    (λ c. search needs)
-    (λ c κs. search needs)
-    returns
-    (λ c. search needs)
-    (λ c. search needs)
-    loop-again
-    returns-2)
+    tie.close (tie.spec Inv-loop μ-loop (λ c κs. search needs) (λ c. asking-none _ _ _) (λ c. search needs)
+    (λ c κs. search needs) returns (λ c. search needs) (λ c. search needs) loop-again returns-2)

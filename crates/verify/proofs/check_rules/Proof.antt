@@ -29,12 +29,6 @@ holds : (c : tie.Else1 Inv-loop μ-loop) →
     ruleHolds (a .side) (a .table .now) (a .flags .now) (l .loop .node) ≡ true
 holds c = sym (c .before .rule-holds .ensures) ∙ not-false _ (c .if1 .left)
 
-loop-holds : tie.Need-loop-holds Inv-loop μ-loop
-loop-holds c = ruling-none _ _ _ _ (c .before .before .before .before .pre .0)
-
-side-at-requires : tie.Need-side-at-requires Inv-loop μ-loop
-side-at-requires c κs = omega (arith, c .loop .inv .inside, at-start c .pre .2 .room)
-
 rule-holds-requires : tie.Need-rule-holds-requires Inv-loop μ-loop
 rule-holds-requires c κs =
     let l = c .before in
@@ -49,9 +43,6 @@ returns c =
     rw (c .rejected .ensures)
     (ruling-until _ _ _ _ (at-start l .pre .0) _ _ (l .loop .inv)
     (rw (← r .rule-holds .ensures) (not-true _ (c .before .if1 .taken))))
-
-child-count-requires : tie.Need-child-count-requires Inv-loop μ-loop
-child-count-requires c κs = c .before .before .before .loop .inv .inside
 
 add-next : tie.Need-add-next Inv-loop μ-loop
 add-next c =
@@ -84,19 +75,7 @@ returns-2 c =
 
 pub check-rules-spec : {M : Type 1} → statement M
 check-rules-spec =
-    tie.close
-    (tie.spec
-    Inv-loop
-    μ-loop
-    (λ c κs. search needs)
-    loop-holds
-    side-at-requires
-    rule-holds-requires
-    (λ c κs. search needs)
-    returns
-    child-count-requires
-    add-next
-    add-node
-    loop-less
-    loop-again
-    returns-2)
+    tie.close (tie.spec Inv-loop μ-loop (λ c κs. search needs)
+    (λ c. ruling-none _ _ _ _ (c .before .before .before .before .pre .0))
+    (λ c κs. omega (arith, c .loop .inv .inside, at-start c .pre .2 .room)) rule-holds-requires (λ c κs. search needs)
+    returns (λ c κs. c .before .before .before .loop .inv .inside) add-next add-node loop-less loop-again returns-2)

@@ -12,10 +12,5 @@ judge-requires c κs =
 
 pub check-trees-spec : {M : Type 1} → statement M
 check-trees-spec =
-    tie.close
-    (tie.spec
-    (λ c. search needs)
-    (λ c κs. search needs)
-    (λ c. search needs)
-    judge-requires
+    tie.close (tie.spec (λ c. search needs) (λ c κs. search needs) (λ c. search needs) judge-requires
     (λ c. search needs))

@@ -14,9 +14,6 @@ Inv-loop flags first count side end members₀ node₀ members node = Counted si
 abbrev μ-loop : tie.MeasureT-loop
 μ-loop flags first count side end members₀ node₀ members node = end - node
 
-loop-holds : tie.Need-loop-holds Inv-loop μ-loop
-loop-holds c = counted-none _ _ _ _
-
 loop-again : tie.Need-loop-again Inv-loop μ-loop
 loop-again c =
     let m = c .before in
@@ -24,21 +21,8 @@ loop-again c =
     counted-more _ _ _ _ _ _ (m .before .before .before .loop .inv) _ (omega arith)
     (⊎-elim (λ w. rw (e ∙ w .0 .taken) (w .1)) (λ w. rw (e ∙ w .0 .left) (omega arith)) (c .if1 .came))
 
-returns : tie.Need-returns Inv-loop μ-loop
-returns c = counted-all _ _ _ _ _ _ (c .before .loop .inv) (omega arith)
-
 pub count-members-spec : {M : Type 1} → statement M
 count-members-spec =
-    tie.close
-    (tie.spec
-    Inv-loop
-    μ-loop
-    (λ c. search needs)
-    loop-holds
-    (λ c. search needs)
-    (λ c κs. search needs)
-    (λ c. search needs)
-    (λ c. search needs)
-    (λ c. search needs)
-    loop-again
-    returns)
+    tie.close (tie.spec Inv-loop μ-loop (λ c. search needs) (λ c. counted-none _ _ _ _) (λ c. search needs)
+    (λ c κs. search needs) (λ c. search needs) (λ c. search needs) (λ c. search needs) loop-again
+    (λ c. counted-all _ _ _ _ _ _ (c .before .loop .inv) (omega arith)))

@@ -23,9 +23,6 @@ or-false false = refl
 in-one : (f k : ℕ) → (f ≡ 3 → ⊥) → eqb f k ≡ eqb f k || eqb f 3
 in-one f k h = rw (ne-eqb f 3 h) (or-false (eqb f k))
 
-returns : tie.Need-returns
-returns c = in-both (c .before .args .side) _ (c .if1 .taken)
-
 returns-2 : tie.Need-returns-2
 returns-2 c =
     let e = c .before .before in
@@ -37,4 +34,6 @@ returns-3 c =
     rw (c .enum-told2 .given .1) (in-one (e .before .args .flag) 2 (e .if1 .left))
 
 pub is-member-spec : {M : Type 1} → statement M
-is-member-spec = tie.close (tie.spec returns (λ c. search needs) (λ c. search needs) returns-2 returns-3)
+is-member-spec =
+    tie.close (tie.spec (λ c. in-both (c .before .args .side) _ (c .if1 .taken)) (λ c. search needs) (λ c. search needs)
+    returns-2 returns-3)

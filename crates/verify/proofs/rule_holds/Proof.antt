@@ -99,15 +99,5 @@ returns-4 c = inner (c .before .before) true _ (not-false _ (c .before .if4 .lef
 
 pub rule-holds-spec : {M : Type 1} → statement M
 rule-holds-spec =
-    tie.close
-    (tie.spec
-    (λ c. search needs)
-    (λ c κs. search needs)
-    returns
-    (λ c κs. search needs)
-    returns-2
-    (λ c κs. search needs)
-    count-members-requires
-    returns-3
-    (λ c κs. search needs)
-    returns-4)
+    tie.close (tie.spec (λ c. search needs) (λ c κs. search needs) returns (λ c κs. search needs) returns-2
+    (λ c κs. search needs) count-members-requires returns-3 (λ c κs. search needs) returns-4)

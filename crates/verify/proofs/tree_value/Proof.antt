@@ -45,17 +45,5 @@ returns c =
 
 pub tree-value-spec : {M : Type 1} → statement M
 tree-value-spec =
-    tie.close
-    (tie.spec
-    Inv-loop
-    μ-loop
-    (λ c κs. search needs)
-    (λ c κs. search needs)
-    loop-holds
-    (λ c κs. search needs)
-    leaf-in-requires
-    (λ c κs. search needs)
-    (λ c. search needs)
-    (λ c. search needs)
-    loop-again
-    returns)
+    tie.close (tie.spec Inv-loop μ-loop (λ c κs. search needs) (λ c κs. search needs) loop-holds (λ c κs. search needs)
+    leaf-in-requires (λ c κs. search needs) (λ c. search needs) (λ c. search needs) loop-again returns)

@@ -113,23 +113,7 @@ module _ (t : ℕ) where
       let l = c .before in turns-end _ _ _ _ (start l .pre .1) _ _ _ _ _ (l .loop .inv) (omega arith)
 
 pub +fill-node-spec : {M : Type 1} → statement M
-+fill-node-spec = close μ λ t. lts.spec (calls t)
-    (at t)
-    own.Post
-    Inv
-    μ-loop
-    (λ c κs. search needs)
-    (put-rank-requires t)
-    (add-result t)
-    (λ c. search needs)
-    (returns t)
-    (λ c κs. search needs)
-    (loop-holds t)
-    (λ c κs. search needs)
-    (child-side-requires t)
-    (fill-node-requires t)
-    (λ c. search needs)
-    (λ c. search needs)
-    (loop-again t)
-    (λ c. search needs)
-    (returns-2 t)
++fill-node-spec = close μ λ t. lts.spec (calls t) (at t) own.Post Inv μ-loop (λ c κs. search needs)
+    (put-rank-requires t) (add-result t) (λ c. search needs) (returns t) (λ c κs. search needs) (loop-holds t)
+    (λ c κs. search needs) (child-side-requires t) (fill-node-requires t) (λ c. search needs) (λ c. search needs)
+    (loop-again t) (λ c. search needs) (returns-2 t)

@@ -4,21 +4,8 @@ use borrow.Author.Needs.{needs}
 use Rattle.worstcase.proofs.nth_child.Statement.{statement}
 use Rattle.worstcase.proofs.nth_child.Tie as tie
 
-returns : tie.Need-returns
-returns c = rw (c .enum-told .given .1) (omega arith)
-
-returns-2 : tie.Need-returns-2
-returns-2 c = rw (c .enum-told2 .given .1) (omega arith)
-
 pub nth-child-spec : {M : Type 1} → statement M
 nth-child-spec =
-    tie.close
-    (tie.spec
-    (λ c. search needs)
-    (λ c. search needs)
-    (λ c. search needs)
-    (λ c. search needs)
-    (λ c. search needs)
-    (λ c. search needs)
-    returns
-    returns-2)
+    tie.close (tie.spec (λ c. search needs) (λ c. search needs) (λ c. search needs) (λ c. search needs)
+    (λ c. search needs) (λ c. search needs) (λ c. rw (c .enum-told .given .1) (omega arith))
+    (λ c. rw (c .enum-told2 .given .1) (omega arith)))

@@ -6,23 +6,11 @@ use Rattle.worstcase.specs.Ranks.{withRank}
 use Rattle.worstcase.proofs.put_rank.Statement.{statement}
 use Rattle.worstcase.proofs.put_rank.Tie as tie
 
-slice-write-table-2 : tie.Need-slice-write-table-2
-slice-write-table-2 c = simp length-set (omega arith)
-
 returns : tie.Need-returns
 unfolding withRank
 returns c = search needs
 
 pub put-rank-spec : {M : Type 1} → statement M
 put-rank-spec =
-    tie.close
-    (tie.spec
-    (λ c. search needs)
-    (λ c. search needs)
-    (λ c. search needs)
-    (λ c. search needs)
-    (λ c. search needs)
-    (λ c. search needs)
-    slice-write-table-2
-    (λ c. search needs)
-    returns)
+    tie.close (tie.spec (λ c. search needs) (λ c. search needs) (λ c. search needs) (λ c. search needs)
+    (λ c. search needs) (λ c. search needs) (λ c. simp length-set (omega arith)) (λ c. search needs) returns)

@@ -6,11 +6,8 @@ use borrow.Author.Needs.{needs}
 use Rattle.sss.proofs.ends.spent.Statement.{statement}
 use Rattle.sss.proofs.ends.spent.Tie as tie
 
-as-value-requires : tie.Need-as-value-requires
-as-value-requires c κs = search needs
-
 returns : tie.Need-returns
 returns c = rw (toZ-ofZ w32 (c .as-value .result) (record { sfits = c .as-value .ok }) ∙ c .as-value .ensures)
 
 pub spent-spec : {M : Type 1} → statement M
-spent-spec = tie.close (tie.spec as-value-requires returns)
+spent-spec = tie.close (tie.spec (λ c κs. search needs) returns)
