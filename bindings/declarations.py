@@ -4,7 +4,7 @@
     declarations.py [ARCHIVE]       compares; the last line says how many declarations there are, and how many differ
     declarations.py --try           tries wrong declarations: each must be found
 
-It reads each `#[no_mangle] pub extern "C" fn` of crates/buulset and each `#[repr(C)]` struct of crates/answers, and
+It reads each `#[no_mangle] pub extern "C" fn` of crates/buulset and each `#[repr(C)]` struct of crates/buulset_answers, and
 compares, in order, the kinds and names of the parameters, the result, and the members of the structs; the constants
 that stand in both; the version; and, where an archive is given, its symbols."""
 import ctypes
@@ -15,7 +15,7 @@ import subprocess
 import sys
 
 HERE = pathlib.Path(__file__).resolve().parent
-SOURCES = [HERE / "../crates" / crate / "src/lib.rt" for crate in ("buulset", "answers")]
+SOURCES = [HERE / "../crates" / crate / "src/lib.rt" for crate in ("buulset", "buulset_answers")]
 HEADER, FFI, LIB, MODULE = (HERE / path for path in (
     "c/buulset.h", "rust/src/ffi.rs", "rust/src/lib.rs", "python/buulset.py"))
 KINDS = {"size_t": "usize", "uint8_t": "u8", "uint16_t": "u16", "uint32_t": "u32", "int16_t": "i16", "int32_t": "i32",

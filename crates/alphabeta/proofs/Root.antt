@@ -22,7 +22,7 @@ use Rattle.frames.proofs.Next.{child-within}
 use Rattle.frames.proofs.Positions.{position-root}
 use Rattle.frames.proofs.Proper.{every-leaf, leaf-scored, tree-proper}
 use Rattle.frames.proofs.Trees.{tree-inner, tree-number}
-use Rattle.bounds.specs.engine.Progress.{Progress, progress, Listable}
+use Rattle.certificate_bounds.specs.engine.Progress.{Progress, progress, Listable}
 use Rattle.certificate.specs.engine.Searchable.{Searchable}
 use Rattle.certificate.proofs.Unmarked.{all-wait}
 use Rattle.alphabeta_visits.specs.declared.Visited.{Visited}

@@ -15,9 +15,9 @@ use Rattle.frames.specs.Tree.{tree, valuation}
 use Rattle.frames.specs.Formed.{WellFormed}
 use Rattle.frames.proofs.Proper.{tree-proper}
 use Rattle.positions.specs.Buffer.{written}
-use Rattle.bounds.specs.Marks.{ones}
-use Rattle.bounds.specs.engine.Progress.{progress, evaluateAll}
-use Rattle.bounds.proofs.Listing.{first-evaluated}
+use Rattle.certificate_bounds.specs.Marks.{ones}
+use Rattle.certificate_bounds.specs.engine.Progress.{progress, evaluateAll}
+use Rattle.certificate_bounds.proofs.Listing.{first-evaluated}
 use Rattle.frames.specs.Value.{valueOf}
 use Rattle.certificate.specs.Search.{marksOf, findings, listed}
 use Rattle.certificate.proofs.Outcomes.{search-marks}

@@ -1,11 +1,11 @@
 // Alpha-beta over a byte table: the public search, and the pass over the root's children.
 use alphabeta_visits::alpha_beta;
 use alphabeta_visits::visit_leaf;
-use bounds::clear;
 use certificate::Findings;
 use certificate::ask;
 use certificate::lesser;
 use certificate::write_certificate;
+use certificate_bounds::clear;
 use frames::Checked;
 use frames::GREATEST;
 use frames::LEAST;
@@ -26,8 +26,8 @@ ghost use Rattle.frames.specs.Formed.{WellFormed};
 ghost use Rattle.frames.specs.Position.{rootPosition};
 ghost use Rattle.frames.specs.Tree.{tree, valuation};
 ghost use Rattle.frames.specs.Rejection.{_leaving_};
-ghost use Rattle.bounds.specs.Marks.{ones};
-ghost use Rattle.bounds.specs.engine.Progress.{progress, evaluateAll, Listable};
+ghost use Rattle.certificate_bounds.specs.Marks.{ones};
+ghost use Rattle.certificate_bounds.specs.engine.Progress.{progress, evaluateAll, Listable};
 ghost use Rattle.certificate.specs.engine.Searchable.{Searchable};
 ghost use Rattle.certificate.specs.Search.{marksOf, flagsOf, findings, buffers, listed};
 ghost use Rattle.alphabeta.specs.Outcome.{reachedLeaves, alphaBetaOutcome};

@@ -14,7 +14,7 @@ use Rattle.lists.proofs.Lists.{all-append}
 use Rattle.frames.specs.Frame.{frames}
 use Rattle.frames.specs.Tree.{treeAt}
 use Rattle.frames.specs.Formed.{WellFormed, ChildOf}
-use Rattle.bounds.specs.Marks.{markAll}
+use Rattle.certificate_bounds.specs.Marks.{markAll}
 use Rattle.certificate.proofs.Unmarked.{Unvisited, younger-wait}
 
 onward-all : (P : ℕ → Type 0) (b : Bool) (r q : SearchResult) → All P (r .evaluated) → All P (q .evaluated)

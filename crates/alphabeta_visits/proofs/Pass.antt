@@ -10,8 +10,8 @@ use Rattle.gametree.specs.declared.Side.{Side}
 use Rattle.gametree.specs.Tree.{Tree}
 use Rattle.gametree.specs.AlphaBeta.{raise, lower, SearchResult, after, onward, alphaBeta, alphaBetaChildren}
 use Rattle.frames.specs.Tree.{childrenFrom}
-use Rattle.bounds.specs.engine.Progress.{Progress, evaluateAll}
-use Rattle.bounds.proofs.Listing.{evaluateAll-append}
+use Rattle.certificate_bounds.specs.engine.Progress.{Progress, evaluateAll}
+use Rattle.certificate_bounds.proofs.Listing.{evaluateAll-append}
 
 -- the score v and the progress p′ are what the result f gives, from the progress p
 abbrev pub Gives : SearchResult → (p p′ : Progress) → ℕ → Type 0

@@ -12,10 +12,10 @@ use Rattle.frames.specs.Tree.{treeAt, valuation}
 use Rattle.frames.specs.Formed.{WellFormed}
 use Rattle.frames.proofs.Nodes.{in-own}
 use Rattle.frames.proofs.Trees.{tree-leaf, tree-inner}
-use Rattle.bounds.specs.Marks.{ones, markAll}
-use Rattle.bounds.specs.engine.Evaluable.{Evaluable}
-use Rattle.bounds.specs.engine.Progress.{Progress, progress, Listable}
-use Rattle.bounds.proofs.Listing.{next-counted}
+use Rattle.certificate_bounds.specs.Marks.{ones, markAll}
+use Rattle.certificate_bounds.specs.engine.Evaluable.{Evaluable}
+use Rattle.certificate_bounds.specs.engine.Progress.{Progress, progress, Listable}
+use Rattle.certificate_bounds.proofs.Listing.{next-counted}
 use Rattle.certificate.specs.engine.Searchable.{Searchable}
 use Rattle.certificate.proofs.Searchable.{searchable-depth}
 use Rattle.certificate.proofs.Unmarked.{Unvisited}

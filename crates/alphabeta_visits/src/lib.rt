@@ -1,6 +1,6 @@
 // Alpha-beta of a node and of what is below it, in a window: the leaves that it reaches are evaluated, from left to
 // right.
-use bounds::evaluate_next;
+use certificate_bounds::evaluate_next;
 use frames::child_count;
 use frames::child_position;
 use frames::first_child;
@@ -13,9 +13,9 @@ ghost use lib.ListN.{set};
 ghost use Rattle.gametree.specs.AlphaBeta.{raise, lower, clamp, alphaBeta};
 ghost use Rattle.frames.specs.Frame.{frames};
 ghost use Rattle.frames.specs.Tree.{treeAt, valuation};
-ghost use Rattle.bounds.specs.Marks.{ones};
-ghost use Rattle.bounds.specs.engine.Evaluable.{Evaluable};
-ghost use Rattle.bounds.specs.engine.Progress.{progress, evaluateAll, Listable};
+ghost use Rattle.certificate_bounds.specs.Marks.{ones};
+ghost use Rattle.certificate_bounds.specs.engine.Evaluable.{Evaluable};
+ghost use Rattle.certificate_bounds.specs.engine.Progress.{progress, evaluateAll, Listable};
 ghost use Rattle.certificate.specs.engine.Searchable.{Searchable};
 
 // What the engine gives for a subtree: its score in the window, and how many leaves are evaluated by then.

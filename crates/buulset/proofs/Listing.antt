@@ -4,7 +4,7 @@ use mathlib.Core.Path.{_≡_, ap, _∙_}
 use mathlib.Core.List.{List}
 use Rattle.frames.specs.Rejection.{Outcome, _leaving_}
 use Rattle.certificate.specs.Search.{Buffers, SearchOutcome}
-use Rattle.answers.specs.declared.Answer.{Answer}
+use Rattle.buulset_answers.specs.declared.Answer.{Answer}
 use Rattle.buulset.specs.Outcome.{flatBy, flatListed}
 
 pub handed-on : {A B : Type 0} (f : A → Answer) (a : A) (r : Answer) (b : B) (w : Outcome A B) → r ≡ f a

@@ -4,8 +4,8 @@ use mathlib.Core.List.{List}
 use lib.ListN.{length, take, drop}
 use Rattle.frames.specs.Frame.{frameSize, firstChild}
 use Rattle.frames.specs.Children.{childrenOf}
-use Rattle.answers.specs.declared.Children.{Children}
-use Rattle.answers.specs.Answers.{noChildren}
+use Rattle.buulset_answers.specs.declared.Children.{Children}
+use Rattle.buulset_answers.specs.Answers.{noChildren}
 
 abbrev pub childrenFrom : (first count : ℕ) → Children
 childrenFrom k zero = noChildren

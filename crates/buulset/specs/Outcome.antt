@@ -1,7 +1,7 @@
 -- What an exported call leaves: the outcome of the call that it makes, with its answer flat.
 use Rattle.frames.specs.Rejection.{Outcome, _leaving_}
 use Rattle.certificate.specs.Search.{SearchOutcome}
-use Rattle.answers.specs.declared.Answer.{Answer}
+use Rattle.buulset_answers.specs.declared.Answer.{Answer}
 
 -- an outcome with its answer flat, and what is left as it is
 abbrev pub flatBy : {A B : Type 0} → (A → Answer) → Outcome A B → Outcome Answer B

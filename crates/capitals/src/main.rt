@@ -1,10 +1,10 @@
 // The program: reads a tree file from standard input, lifts its letters a to f to capitals, and writes its tree's file
 // to standard output, or, where the file is still refused, the line of the refusal.
+use file_writer::length_given;
 use input::Input;
 use libc::STDERR_FILENO;
 use libc::STDOUT_FILENO;
 use treefile::MAX_FILE;
-use writer::length_given;
 
 // If a read fails there is no file to judge: one line goes to standard error. There is room for 65,536 bytes, more than
 // a file may have, so a longer file is refused as too long and never cut to one that passes.

@@ -1,9 +1,9 @@
 // The reports of files: of one that is given, of the result of a graft, and of made trees.
-use casetext::numbers::NUMBERS;
-use graftcalls::grafts::print_grafting;
-use graftcalls::made::make_file;
+use cases_grafts::grafts::print_grafting;
+use cases_grafts::made::make_file;
+use cases_tables::files::FILE_SIZE;
+use cases_text::numbers::NUMBERS;
 use libc::STDOUT_FILENO;
-use tablecalls::files::FILE_SIZE;
 ghost use Prim.Native.Nat.{_*_, _<_};
 
 // The reports of the trees at the limits (SPEC 3.2), and just past them.

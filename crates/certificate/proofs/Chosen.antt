@@ -23,9 +23,9 @@ use Rattle.positions.specs.Buffer.{written}
 use Rattle.positions.specs.engine.Positions.{sideIn, Positioned}
 use Rattle.positions.proofs.Buffers.{written-at}
 use Rattle.positions.proofs.Positions.{positioned-side}
-use Rattle.flags.specs.engine.Chosen.{firstEqual, bySide, chosenChild}
-use Rattle.flags.proofs.Chosen.{first-same}
-use Rattle.bounds.specs.engine.Bounds.{boundOf}
+use Rattle.certificate_flags.specs.engine.Chosen.{firstEqual, bySide, chosenChild}
+use Rattle.certificate_flags.proofs.Chosen.{first-same}
+use Rattle.certificate_bounds.specs.engine.Bounds.{boundOf}
 
 -- the arrays hold the side and both bounds of each node
 pub record Bounded (t : List ℕ) (E : ℕ → Bool) (positions lows highs : List ℕ) : Type 0 where

@@ -19,11 +19,11 @@ use Rattle.frames.proofs.Next.{next-more, next-within}
 use Rattle.frames.proofs.Parents.{top-down}
 use Rattle.frames.proofs.Proper.{every-leaf}
 use Rattle.positions.specs.Buffer.{written}
-use Rattle.bounds.specs.Marks.{mark, marked}
-use Rattle.flags.specs.engine.Chosen.{firstEqual}
-use Rattle.bounds.specs.engine.Bounds.{boundOf}
+use Rattle.certificate_bounds.specs.Marks.{mark, marked}
+use Rattle.certificate_flags.specs.engine.Chosen.{firstEqual}
+use Rattle.certificate_bounds.specs.engine.Bounds.{boundOf}
 use Rattle.positions.proofs.Buffers.{written-same}
-use Rattle.flags.proofs.Chosen.{first-same}
+use Rattle.certificate_flags.proofs.Chosen.{first-same}
 use Rattle.certificate.proofs.Chosen.{chosenOf, chosen-root}
 use Rattle.certificate.proofs.Solutions.{childIn, solution, solution-root, solution-child}
 use Rattle.certificate.proofs.Marks.{marked-written}

@@ -10,7 +10,7 @@ use Rattle.gametree.specs.Certificate.{same, flag}
 use Rattle.frames.specs.Position.{sideOf}
 use Rattle.frames.specs.Tree.{tree, valuation}
 use Rattle.frames.specs.Formed.{WellFormed}
-use Rattle.flags.specs.engine.Flags.{moversFlag, childFlag, FlagsFrom}
+use Rattle.certificate_flags.specs.engine.Flags.{moversFlag, childFlag, FlagsFrom}
 use Rattle.certificate.proofs.Chosen.{Bounded, chosenOf, chosen-arrays}
 use Rattle.certificate.proofs.Solutions.{solution, solution-root, solution-child}
 

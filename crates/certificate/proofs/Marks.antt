@@ -20,7 +20,7 @@ use Rattle.frames.proofs.Trees.{zero-or-suc}
 use Rattle.frames.proofs.Totals.{sumTo, atNode, sum-same, tree-leaf-count}
 use Rattle.frames.proofs.Proper.{every-leaf, tree-proper}
 use Rattle.positions.specs.Buffer.{written}
-use Rattle.bounds.specs.Marks.{mark, marked, ones}
+use Rattle.certificate_bounds.specs.Marks.{mark, marked, ones}
 use Rattle.positions.proofs.Buffers.{written-at}
 
 mark-set : (b : Bool) → eqb (cond b 1 0) 1 ≡ b

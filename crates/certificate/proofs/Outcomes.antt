@@ -16,9 +16,9 @@ use Rattle.frames.specs.Formed.{WellFormed}
 use Rattle.frames.specs.Rejection.{unless, answer, _leaving_}
 use Rattle.frames.proofs.Asked.{answer-nodes, answer-rejected}
 use Rattle.positions.specs.Buffer.{written}
-use Rattle.bounds.specs.Marks.{marked, markAll}
+use Rattle.certificate_bounds.specs.Marks.{marked, markAll}
 use Rattle.certificate.specs.Search.{searchRejection, marksOf, flagsOf, buffers}
-use Rattle.bounds.proofs.Marking.{marks-from-clear}
+use Rattle.certificate_bounds.proofs.Marking.{marks-from-clear}
 use Rattle.certificate.proofs.Marks.{evaluated-within}
 use Rattle.certificate.proofs.Concluded.{concluded}
 

@@ -14,7 +14,7 @@ use Rattle.frames.proofs.Nodes.{tree-range}
 use Rattle.frames.proofs.Positions.{depth-at-most, position-root, position-child}
 use Rattle.positions.specs.Buffer.{written}
 use Rattle.certificate.specs.engine.Searchable.{Unmarked, Searchable}
-use Rattle.bounds.proofs.Marking.{cleared-unmarked}
+use Rattle.certificate_bounds.proofs.Marking.{cleared-unmarked}
 
 -- the root, after the marks e have been cleared to e₁
 pub searchable-root : (t : List ℕ) → WellFormed t → (e e₁ : List ℕ) (n : ℕ) → e₁ ≡ written (λ k. 0) n e → n ≡ frames t

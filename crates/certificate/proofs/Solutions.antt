@@ -22,8 +22,8 @@ use Rattle.frames.specs.Formed.{WellFormed, ChildOf}
 use Rattle.frames.proofs.Parents.{top-down}
 use Rattle.frames.proofs.Trees.{zero-or-suc, tree-inner, tree-number}
 use Rattle.frames.proofs.Nodes.{tree-distinct}
-use Rattle.flags.specs.engine.Chosen.{firstEqual}
-use Rattle.bounds.specs.engine.Bounds.{boundOf}
+use Rattle.certificate_flags.specs.engine.Chosen.{firstEqual}
+use Rattle.certificate_bounds.specs.engine.Bounds.{boundOf}
 use Rattle.certificate.proofs.Chosen.{chosenOf}
 
 -- the first of later numbers is no earlier one but 0

@@ -11,9 +11,9 @@ use Rattle.frames.specs.Frame.{frames}
 use Rattle.frames.specs.Tree.{treeAt}
 use Rattle.frames.specs.Formed.{WellFormed, ChildOf}
 use Rattle.frames.proofs.Nodes.{in-parent, children-apart}
-use Rattle.bounds.specs.Marks.{markAll}
+use Rattle.certificate_bounds.specs.Marks.{markAll}
 use Rattle.certificate.specs.engine.Searchable.{Unmarked}
-use Rattle.bounds.proofs.Marking.{markAll-other}
+use Rattle.certificate_bounds.proofs.Marking.{markAll-other}
 
 -- marks in one tree leave another without a mark
 marks-apart : (T U : Tree) (e w : List ℕ) → ((p : ℕ) → In p T → In p U → ⊥) → All (λ k. In k T) w → Unmarked e U

@@ -13,7 +13,7 @@ use Rattle.frames.specs.Tree.{tree, valuation}
 use Rattle.frames.specs.Rejection.{_andThen_, unless, Outcome, _leaving_}
 use Rattle.frames.specs.Check.{rejection, check10}
 use Rattle.positions.specs.Buffer.{written}
-use Rattle.bounds.specs.Marks.{mark}
+use Rattle.certificate_bounds.specs.Marks.{mark}
 use Rattle.certificate.specs.declared.Findings.{Findings}
 use Rattle.frames.specs.Value.{valueOf}
 

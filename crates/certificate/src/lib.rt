@@ -1,8 +1,8 @@
 // What every search shares: its questions, and what follows from the leaves that it evaluated, the certificate and the
 // root move.
-use bounds::fill_bounds;
-use flags::read_off;
-use flags::root_choice;
+use certificate_bounds::fill_bounds;
+use certificate_flags::read_off;
+use certificate_flags::root_choice;
 use frames::Checked;
 use frames::MAX_NODES;
 use frames::SHORT_BUFFER;
@@ -22,7 +22,7 @@ ghost use Rattle.frames.specs.Rejection.{answer};
 ghost use Rattle.frames.specs.Formed.{WellFormed};
 ghost use Rattle.positions.specs.Buffer.{written};
 ghost use Rattle.positions.specs.engine.Positions.{Positioned};
-ghost use Rattle.bounds.specs.Marks.{marked};
+ghost use Rattle.certificate_bounds.specs.Marks.{marked};
 ghost use Rattle.certificate.specs.Search.{searchRejection};
 
 // What every search finds: the minimax value, the first root move that reaches it (0 for a leaf), and how many leaves

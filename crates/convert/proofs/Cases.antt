@@ -5,11 +5,11 @@ use Rattle.frames.specs.Frame.{next}
 use Rattle.frames.specs.Position.{positionWithin, positionOf}
 use Rattle.frames.specs.Rejection.{eachNode}
 use Rattle.frames.specs.Check.{framesRejection}
-use Rattle.hex.specs.Digit.{digitOf, capitalOf}
-use Rattle.lines.specs.Line.{allDigits, isLine, hasLowercase, bytesOf}
-use Rattle.lines.specs.Lines.{linesOf, decode}
-use Rattle.reader.specs.File.{eachLine, fileRejection}
-use Rattle.writer.specs.Encoded.{digitsOf, lineOf, encode}
+use Rattle.file_hex.specs.Digit.{digitOf, capitalOf}
+use Rattle.file_lines.specs.Line.{allDigits, isLine, hasLowercase, bytesOf}
+use Rattle.file_lines.specs.Lines.{linesOf, decode}
+use Rattle.file_reader.specs.File.{eachLine, fileRejection}
+use Rattle.file_writer.specs.Encoded.{digitsOf, lineOf, encode}
 use Rattle.convert.specs.RaiseCase.{raiseCase}
 use Rattle.convert.specs.Convert.{convertRejection, convertOutcome}
 use Rattle.convert.specs.results.Cases.{computed, cases}

@@ -15,15 +15,15 @@ use Rattle.frames.specs.Frame.{frames}
 use Rattle.frames.specs.Rejection.{_andThen_}
 use Rattle.frames.specs.Check.{framesRejection, Accepted}
 use Rattle.frames.proofs.Stated.{ask-yes, both-passed}
-use Rattle.lines.specs.Line.{lineSize}
-use Rattle.lines.specs.Lines.{decoded}
-use Rattle.reader.specs.File.{maxFile, fileCheck3, fileRejection, AcceptedFile}
-use Rattle.reader.specs.engine.Decoded.{linesRejection}
-use Rattle.reader.proofs.Reading.{lines-parts, lines-then}
-use Rattle.reader.proofs.Acceptance.{accepted-table, accepted-letters}
-use Rattle.writer.specs.Encoded.{fileOf}
-use Rattle.writer.specs.Write.{writeCheck10, atFront}
-use Rattle.writer.specs.declared.Written.the-variants.{Length, Rejected}
+use Rattle.file_lines.specs.Line.{lineSize}
+use Rattle.file_lines.specs.Lines.{decoded}
+use Rattle.file_reader.specs.File.{maxFile, fileCheck3, fileRejection, AcceptedFile}
+use Rattle.file_reader.specs.engine.Decoded.{linesRejection}
+use Rattle.file_reader.proofs.Reading.{lines-parts, lines-then}
+use Rattle.file_reader.proofs.Acceptance.{accepted-table, accepted-letters}
+use Rattle.file_writer.specs.Encoded.{fileOf}
+use Rattle.file_writer.specs.Write.{writeCheck10, atFront}
+use Rattle.file_writer.specs.declared.Written.the-variants.{Length, Rejected}
 use Rattle.treefile.specs.results.Saved.{Bytes}
 use Rattle.treefile.proofs.DecodedBytes.{decoded-bytes}
 use Rattle.treefile.proofs.RoundTrip.{written-length, written-decoded, written-accepted}

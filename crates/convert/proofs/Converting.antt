@@ -4,9 +4,9 @@ use mathlib.Core.Path.{_≡_, sym, _∙_}
 use mathlib.Core.Option.{none, some}
 use mathlib.Core.List.{List}
 use Rattle.frames.specs.declared.Rejection.{Rejection}
-use Rattle.lines.specs.Lines.{decoded}
-use Rattle.writer.specs.Write.{writeRejection, writeOutcome}
-use Rattle.writer.specs.declared.Written.the-variants.{Rejected}
+use Rattle.file_lines.specs.Lines.{decoded}
+use Rattle.file_writer.specs.Write.{writeRejection, writeOutcome}
+use Rattle.file_writer.specs.declared.Written.the-variants.{Rejected}
 use Rattle.convert.specs.Convert.{convertOutcome}
 use Rattle.convert.specs.results.Converted.{baseRejection}
 use Rattle.convert.proofs.Converted.{base-table, convert-own}

@@ -9,12 +9,13 @@ use lib.Dec.{eqb}
 use lib.ListN.{length, take, drop, length-map}
 use native.Mathlib.Omega.{arith}
 use borrow.Author.Tests.{ne-eqb}
-use Rattle.hex.specs.Digit.{isLowercase, digitOf}
-use Rattle.hex.proofs.Digits.{inside, below, above, bounds}
-use Rattle.lines.specs.Line.{lineDigits, lineFeed, allDigits, isLine, hasLowercase, bytesOf, closed, isLineAt, lineAt}
-use Rattle.lines.specs.Lines.{putBefore, linesOf, decode, decoded}
-use Rattle.reader.specs.File.{eachLine, fileCheck3, fileCheck16, fileRejection}
-use Rattle.reader.specs.engine.Decoded.{lineCheck16, lineCheck3}
+use Rattle.file_hex.specs.Digit.{isLowercase, digitOf}
+use Rattle.file_hex.proofs.Digits.{inside, below, above, bounds}
+use Rattle.file_lines.specs.Line.{lineDigits, lineFeed, allDigits, isLine, hasLowercase, bytesOf, closed, isLineAt}
+use Rattle.file_lines.specs.Line.{lineAt}
+use Rattle.file_lines.specs.Lines.{putBefore, linesOf, decode, decoded}
+use Rattle.file_reader.specs.File.{eachLine, fileCheck3, fileCheck16, fileRejection}
+use Rattle.file_reader.specs.engine.Decoded.{lineCheck16, lineCheck3}
 use Rattle.convert.specs.RaiseCase.{raiseCase, raised}
 use Rattle.convert.specs.results.Converted.{baseRejection}
 

@@ -15,13 +15,13 @@ use Rattle.frames.specs.declared.Rejection.{Rejection}
 use Rattle.frames.specs.Rejection.{ask, Outcome}
 use Rattle.frames.specs.Frame.{frames}
 use Rattle.frames.proofs.Acceptance.{accepted-formed}
-use Rattle.lines.specs.Line.{lineSize}
-use Rattle.lines.specs.Lines.{decoded}
-use Rattle.reader.specs.File.{maxFile}
-use Rattle.writer.specs.Encoded.{fileOf}
-use Rattle.writer.specs.Write.{atFront, lengthGiven}
-use Rattle.writer.specs.declared.Written.{Written}
-use Rattle.writer.specs.declared.Written.the-variants.{Length, Rejected}
+use Rattle.file_lines.specs.Line.{lineSize}
+use Rattle.file_lines.specs.Lines.{decoded}
+use Rattle.file_reader.specs.File.{maxFile}
+use Rattle.file_writer.specs.Encoded.{fileOf}
+use Rattle.file_writer.specs.Write.{atFront, lengthGiven}
+use Rattle.file_writer.specs.declared.Written.{Written}
+use Rattle.file_writer.specs.declared.Written.the-variants.{Length, Rejected}
 use Rattle.treefile.proofs.Saving.{length-written, rejection-written}
 use Rattle.text.specs.declared.Text.{Text}
 use Rattle.text.specs.Text.{refusedLine, textOf}

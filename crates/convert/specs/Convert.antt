@@ -5,11 +5,11 @@ use mathlib.Core.List.{List}
 use lib.ListN.{length}
 use Rattle.frames.specs.declared.Rejection.{Rejection}
 use Rattle.frames.specs.Rejection.{_andThen_, Outcome}
-use Rattle.lines.specs.Lines.{decoded}
-use Rattle.reader.specs.File.{fileRejection}
-use Rattle.writer.specs.declared.Written.{Written}
-use Rattle.writer.specs.Encoded.{fileOf}
-use Rattle.writer.specs.Write.{writeCheck10, atFront}
+use Rattle.file_lines.specs.Lines.{decoded}
+use Rattle.file_reader.specs.File.{fileRejection}
+use Rattle.file_writer.specs.declared.Written.{Written}
+use Rattle.file_writer.specs.Encoded.{fileOf}
+use Rattle.file_writer.specs.Write.{writeCheck10, atFront}
 use Rattle.convert.specs.RaiseCase.{raised}
 
 -- the first "no": the reader's questions to the lifted file, and then 10 for a buffer of so many bytes

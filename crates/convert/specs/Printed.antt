@@ -4,10 +4,10 @@ use mathlib.Core.List.{List}
 use lib.Dec.{leb}
 use lib.ListN.{length}
 use Rattle.frames.specs.Rejection.{ask, unless, Outcome}
-use Rattle.lines.specs.Lines.{decoded}
-use Rattle.writer.specs.Encoded.{fileOf}
-use Rattle.writer.specs.declared.Written.{Written}
-use Rattle.writer.specs.Write.{atFront}
+use Rattle.file_lines.specs.Lines.{decoded}
+use Rattle.file_writer.specs.Encoded.{fileOf}
+use Rattle.file_writer.specs.declared.Written.{Written}
+use Rattle.file_writer.specs.Write.{atFront}
 use Rattle.text.specs.Text.{refusedLine}
 use Rattle.convert.specs.RaiseCase.{raised}
 use Rattle.convert.specs.Convert.{convertRejection}

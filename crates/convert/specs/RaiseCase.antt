@@ -2,7 +2,7 @@
 use Prim.Native.Nat.{ℕ, _-_}
 use mathlib.Core.Bool.{cond}
 use mathlib.Core.List.{List, map}
-use Rattle.hex.specs.Digit.{isLowercase}
+use Rattle.file_hex.specs.Digit.{isLowercase}
 
 -- the capital of a letter a to f, the bytes 97 to 102; any other byte as it is
 unfoldable pub raiseCase : ℕ → ℕ

@@ -1,23 +1,23 @@
 // Conversion of stored files (02: N7): the letters a to f are lifted to capitals, and the file is then read and
 // written.
+use file_reader::SHORT_FILE;
+use file_reader::SHORT_TABLE;
+use file_reader::check_lines;
+use file_writer::Written;
+use file_writer::write_accepted;
 use frames::Checked;
 use frames::FRAME_SIZE;
 use frames::MAX_TABLE;
 use frames::Rejection;
 use frames::SHORT_BUFFER;
-use reader::SHORT_FILE;
-use reader::SHORT_TABLE;
-use reader::check_lines;
 use tables::check_frames;
-use writer::Written;
-use writer::write_accepted;
 ghost use mathlib.Core.Path.{_≡_};
 ghost use Prim.Native.Nat.{_≤_};
 ghost use lib.ListN.{length};
 ghost use Rattle.frames.specs.Rejection.{_leaving_};
 ghost use Rattle.text.specs.Text.{refusedLine};
-ghost use Rattle.reader.specs.File.{maxFile};
-ghost use Rattle.reader.specs.engine.Decoded.{Decoded, LongEnough};
+ghost use Rattle.file_reader.specs.File.{maxFile};
+ghost use Rattle.file_reader.specs.engine.Decoded.{Decoded, LongEnough};
 ghost use Rattle.convert.specs.Convert.{convertOutcome};
 ghost use Rattle.convert.specs.Printed.{laidText, outputOutcome};
 ghost use Rattle.convert.specs.results.Converted.{baseRejection};

@@ -20,7 +20,7 @@ use Rattle.frames.specs.Check.{Accepted}
 use Rattle.frames.specs.Shape.{SameShape}
 use Rattle.frames.proofs.Acceptance.{accepted-formed}
 use Rattle.frames.proofs.Proper.{tree-proper}
-use Rattle.bounds.specs.Marks.{ones}
+use Rattle.certificate_bounds.specs.Marks.{ones}
 use Rattle.certificate.specs.Search.{marksOf, listed, buffers}
 use Rattle.alphabeta.specs.Outcome.{reachedLeaves}
 use Rattle.sss.proofs as sss

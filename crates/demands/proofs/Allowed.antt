@@ -25,7 +25,7 @@ use Rattle.frames.proofs.Proper.{tree-proper}
 use Rattle.frames.proofs.Values.{value-order}
 use Rattle.positions.specs.Buffer.{tabulate}
 use Rattle.certificate.specs.declared.Findings.{Findings}
-use Rattle.bounds.specs.Marks.{mark, ones}
+use Rattle.certificate_bounds.specs.Marks.{mark, ones}
 use Rattle.certificate.specs.Search.{searchRejection}
 use Rattle.alphabeta.specs.declared.AlphaBetaAnswer.the-variants as ab-answer
 use Rattle.alphabeta.specs.Outcome.{reachedLeaves}
@@ -33,7 +33,7 @@ use Rattle.sss.specs.declared.SssResult.{SssResult}
 use Rattle.sss.specs.declared.Spent.{Spent}
 use Rattle.sss.specs.declared.SssAnswer.{SssAnswer}
 use Rattle.sss.specs.declared.SssAnswer.the-variants as sss-answer
-use Rattle.states.specs.Entry.{blank}
+use Rattle.sss_states.specs.Entry.{blank}
 use Rattle.sss.specs.Outcome.{runOf, sssLeaves, sssUncovered, sssSpent, sssOutcome}
 use Rattle.sss.proofs.Replacements.{own}
 use Rattle.sss.proofs.Allowed.{enough, outcome-spent, outcomeBy}

@@ -19,10 +19,10 @@ use Rattle.frames.specs.Check.{framesRejection}
 use Rattle.frames.specs.results.Alternating.{Alternating, zeroRejection, treeByDepth}
 use Rattle.frames.proofs.Acceptance.{accepted-formed}
 use Rattle.frames.proofs.Sides.{check4-before, rejection-before, side-parity, tree-before}
-use Rattle.lines.specs.Lines.{decoded}
-use Rattle.reader.specs.File.{fileCheck2, fileCheck3, fileCheck16, fileCheck10, fileRejection, readRejection}
-use Rattle.reader.specs.File.{readAnswer, tableAfter}
-use Rattle.reader.proofs.Acceptance.{accepted-table}
+use Rattle.file_lines.specs.Lines.{decoded}
+use Rattle.file_reader.specs.File.{fileCheck2, fileCheck3, fileCheck16, fileCheck10, fileRejection, readRejection}
+use Rattle.file_reader.specs.File.{readAnswer, tableAfter}
+use Rattle.file_reader.proofs.Acceptance.{accepted-table}
 use Rattle.verify.specs.Flags.{ruleHolds}
 use Rattle.verify.specs.Check.{checkTree, check11, check14, treesRejection, flagsRejection, certificateRejection}
 use Rattle.verify.specs.Check.{judged, verdict}

@@ -21,7 +21,7 @@ use Rattle.mtdf.specs.declared.MtdfResult.{MtdfResult}
 use Rattle.mtdf.specs.declared.MtdfAnswer.{MtdfAnswer}
 use Rattle.mtdf.specs.declared.MtdfAnswer.the-variants as mtdf-answer
 use Rattle.mtdf.specs.Outcome.{startScore, mtdfLeaves, mtdfOutcome}
-use Rattle.states.specs.declared.State.{State}
+use Rattle.sss_states.specs.declared.State.{State}
 use Rattle.sss.specs.declared.SssResult.{SssResult}
 use Rattle.sss.specs.declared.SssAnswer.{SssAnswer}
 use Rattle.sss.specs.declared.SssAnswer.the-variants as sss-answer

@@ -19,12 +19,13 @@ use Rattle.frames.specs.Rejection.{_andThen_, unless, _leaving_}
 use Rattle.frames.specs.Check.{check1}
 use Rattle.frames.proofs.Stated.{both-passed, passed-then}
 use Rattle.frames.proofs.Acceptance.{accepted-stated}
-use Rattle.lines.specs.Line.{lineSize, hasLowercase, lineAt}
-use Rattle.lines.specs.Lines.{linesOf, decoded}
-use Rattle.reader.specs.File.{maxFile, fileCheck2, fileCheck3, fileCheck16, fileRejection, readRejection, readAnswer}
-use Rattle.reader.proofs.FirstLine.{line-asked}
-use Rattle.writer.specs.Encoded.{fileOf}
-use Rattle.writer.specs.declared.Written.the-variants.{Length}
+use Rattle.file_lines.specs.Line.{lineSize, hasLowercase, lineAt}
+use Rattle.file_lines.specs.Lines.{linesOf, decoded}
+use Rattle.file_reader.specs.File.{maxFile, fileCheck2, fileCheck3, fileCheck16, fileRejection, readRejection}
+use Rattle.file_reader.specs.File.{readAnswer}
+use Rattle.file_reader.proofs.FirstLine.{line-asked}
+use Rattle.file_writer.specs.Encoded.{fileOf}
+use Rattle.file_writer.specs.declared.Written.the-variants.{Length}
 use Rattle.treefile.proofs.RoundTrip.{written-length}
 use Rattle.convert.specs.RaiseCase.{raised}
 use Rattle.text.specs.Text.{refusedLine}

@@ -14,7 +14,7 @@ use Rattle.mtd.proofs as mtd
 use Rattle.mtd.specs.Outcome.{mtdOutcome}
 use Rattle.mtdf.proofs as mtdf
 use Rattle.mtdf.specs.Outcome.{mtdfOutcome}
-use Rattle.states.specs.Entry.{blank}
+use Rattle.sss_states.specs.Entry.{blank}
 use Rattle.sss.proofs as sss
 use Rattle.sss.specs.Outcome.{sssOutcome, solveOutcome}
 use Rattle.graft.proofs as graft
@@ -29,21 +29,21 @@ use Rattle.worstcase.proofs as worstcase
 use Rattle.worstcase.specs.Outcome.{fillOutcome}
 use Rattle.leastcount.proofs as leastcount
 use Rattle.leastcount.specs.Answer.{leastAnswer}
-use Rattle.writer.proofs as writer
-use Rattle.writer.specs.Write.{writeOutcome}
+use Rattle.file_writer.proofs as file_writer
+use Rattle.file_writer.specs.Write.{writeOutcome}
 use Rattle.convert.proofs as convert
 use Rattle.convert.specs.Convert.{convertOutcome}
 use Rattle.convert.specs.Printed.{outputOutcome}
-use Rattle.reader.proofs as reader
-use Rattle.reader.specs.File.{readAnswer, tableAfter}
+use Rattle.file_reader.proofs as file_reader
+use Rattle.file_reader.specs.File.{readAnswer, tableAfter}
 use Rattle.tables.proofs as tables
 use Rattle.frames.proofs as frames
 use Rattle.frames.specs.Check.{checked}
 use Rattle.frames.specs.Children.{childrenOf}
-use Rattle.hex.proofs as hex
-use Rattle.hex.specs.Digit.{digitOf}
-use Rattle.lines.proofs as lines
-use Rattle.lines.specs.Line.{lineAt}
+use Rattle.file_hex.proofs as file_hex
+use Rattle.file_hex.specs.Digit.{digitOf}
+use Rattle.file_lines.proofs as file_lines
+use Rattle.file_lines.specs.Line.{lineAt}
 use Rattle.report.proofs as report
 use Rattle.text.proofs as text
 use Rattle.text.specs.Text.{refusedLine, textOf}
@@ -102,20 +102,20 @@ frames-children = record { meets = frames.children.Met.met }
 
 -- files
 
-pub treefile-digit : Runs hex.digit.ended hex.digit.Symbol.routine (λ κs (b, _) r e. r ≡ digitOf b)
-treefile-digit = record { meets = hex.digit.Met.met }
+pub treefile-digit : Runs file_hex.digit.ended file_hex.digit.Symbol.routine (λ κs (b, _) r e. r ≡ digitOf b)
+treefile-digit = record { meets = file_hex.digit.Met.met }
 
-pub treefile-read-line : Runs lines.Cursor.read_line.ended lines.Cursor.read_line.Symbol.routine
+pub treefile-read-line : Runs file_lines.Cursor.read_line.ended file_lines.Cursor.read_line.Symbol.routine
     (λ κs (c, (f, _)) r e. r ≡ lineAt (f .now) (c .at))
-treefile-read-line = record { meets = lines.Cursor.read_line.Met.met }
+treefile-read-line = record { meets = file_lines.Cursor.read_line.Met.met }
 
-pub treefile-read : Runs reader.read.ended reader.read.Symbol.routine
+pub treefile-read : Runs file_reader.read.ended file_reader.read.Symbol.routine
     (λ κs (f, (t, _)) r (_, (t′, _)). (r ≡ readAnswer (f .now) (t .now)) × (t′ .now ≡ tableAfter (f .now) (t .now)))
-treefile-read = record { meets = reader.read.Met.met }
+treefile-read = record { meets = file_reader.read.Met.met }
 
-pub treefile-write : Runs writer.write.ended writer.write.Symbol.routine
+pub treefile-write : Runs file_writer.write.ended file_writer.write.Symbol.routine
     (λ κs (t, (f, _)) r (_, (f′, _)). r leaving f′ .now ≡ writeOutcome (t .now) (f .now))
-treefile-write = record { meets = writer.write.Met.met }
+treefile-write = record { meets = file_writer.write.Met.met }
 
 pub convert-convert : Runs convert.convert.ended convert.convert.Symbol.routine
     (λ κs (f, (b, _)) r (_, (b′, _)). r leaving b′ .now ≡ convertOutcome (f .now) (b .now))

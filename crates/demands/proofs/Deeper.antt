@@ -12,9 +12,9 @@ use Rattle.frames.specs.Check.{check1, checked}
 use Rattle.frames.specs.FirstNo.{LowestDeep, framesBefore9, rejectionBefore9}
 use Rattle.frames.proofs.Stated.{both-passed, passed-then}
 use Rattle.frames.proofs.FirstNo.{deeper-frames, deeper-rejected}
-use Rattle.lines.specs.Lines.{decoded}
-use Rattle.reader.specs.File.{fileCheck2, fileCheck3, fileCheck16, fileRejection, readRejection, readAnswer}
-use Rattle.writer.specs.Write.{writeRejection}
+use Rattle.file_lines.specs.Lines.{decoded}
+use Rattle.file_reader.specs.File.{fileCheck2, fileCheck3, fileCheck16, fileRejection, readRejection, readAnswer}
+use Rattle.file_writer.specs.Write.{writeRejection}
 use Rattle.certificate.specs.Search.{searchRejection}
 use Rattle.verify.specs.Check.{certificateRejection}
 

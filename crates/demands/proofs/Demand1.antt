@@ -15,9 +15,9 @@ use Rattle.frames.specs.Check.{checkNode, nodesRejection, rejection, checked}
 use Rattle.frames.specs.FirstNo.{LowestNo}
 use Rattle.frames.proofs.Acceptance.{rejected-first}
 use Rattle.frames.proofs.FirstNo.{lowest-no, nodes-first}
-use Rattle.lines.specs.Lines.{linesOf}
-use Rattle.reader.specs.File.{eachLine}
-use Rattle.reader.proofs.FirstLine.{line-first}
+use Rattle.file_lines.specs.Lines.{linesOf}
+use Rattle.file_reader.specs.File.{eachLine}
+use Rattle.file_reader.proofs.FirstLine.{line-first}
 use Rattle.certificate.specs.Search.{buffers}
 use Rattle.sss.proofs as sss
 use Rattle.sss.proofs.OwnList.{own-list as same-outcome}

@@ -24,7 +24,7 @@ use Rattle.mtd.specs.Outcome.{mtdLeaves}
 use Rattle.sss.proofs as sss
 use Rattle.sss.specs.declared.SssResult.{SssResult}
 use Rattle.sss.specs.declared.SssAnswer.the-variants as sss-answer
-use Rattle.states.specs.Entry.{blank}
+use Rattle.sss_states.specs.Entry.{blank}
 use Rattle.sss.specs.Outcome.{runOf}
 use Rattle.demands.specs.Runs.{Runs}
 use Rattle.demands.specs.Handed.{Marked}

@@ -6,10 +6,10 @@ use lib.ListN.{length}
 use Rattle.frames.specs.Rejection.{_leaving_}
 use Rattle.frames.specs.Check.{checked}
 use Rattle.frames.specs.Children.{childrenOf}
-use Rattle.hex.specs.Digit.{digitOf}
-use Rattle.lines.specs.Line.{lineAt}
-use Rattle.reader.specs.File.{readAnswer, tableAfter}
-use Rattle.writer.specs.Write.{writeOutcome}
+use Rattle.file_hex.specs.Digit.{digitOf}
+use Rattle.file_lines.specs.Line.{lineAt}
+use Rattle.file_reader.specs.File.{readAnswer, tableAfter}
+use Rattle.file_writer.specs.Write.{writeOutcome}
 use Rattle.convert.specs.Convert.{convertOutcome}
 use Rattle.convert.specs.Printed.{outputOutcome}
 use Rattle.certificate.specs.Search.{buffers}
@@ -30,8 +30,9 @@ use Rattle.buulset.proofs as buulset
 use Rattle.buulset.specs.Version.{version}
 use Rattle.buulset.specs.Children.{flatChildren, partOf}
 use Rattle.buulset.specs.Outcome.{flatBy, flatListed}
-use Rattle.flat.specs.Flat.{flatChecked, flatWritten, flatFilled, flatAlphaBeta, flatPlain, flatMtd, flatMtdf, flatSss}
-use Rattle.flat.specs.Flat.{flatVerdict, flatLeastValue, flatLeast, flatChoice, flatLine, flatText}
+use Rattle.buulset_flat.specs.Flat.{flatChecked, flatWritten, flatFilled, flatAlphaBeta, flatPlain, flatMtd, flatMtdf}
+use Rattle.buulset_flat.specs.Flat.{flatSss}
+use Rattle.buulset_flat.specs.Flat.{flatVerdict, flatLeastValue, flatLeast, flatChoice, flatLine, flatText}
 use Rattle.demands.specs.Runs.{Runs}
 
 pub exported-version : Runs buulset.buulset_version.ended buulset.buulset_version.Symbol.routine

@@ -7,7 +7,7 @@ use Rattle.gametree_theory.proofs.minimax.Counts.{pairLeaves-all}
 use Rattle.frames.specs.Frame.{frames}
 use Rattle.frames.specs.Tree.{tree}
 use Rattle.frames.specs.results.Regular.{RegularTable}
-use Rattle.bounds.specs.Marks.{ones}
+use Rattle.certificate_bounds.specs.Marks.{ones}
 use Rattle.plain.specs.declared.PlainResult.{PlainResult}
 use Rattle.plain.specs.declared.PlainAnswer.the-variants as plain-answer
 use Rattle.leastcount.specs.declared.Least.the-variants.{Leaves}

@@ -21,9 +21,9 @@ use Rattle.frames.specs.Tree.{tree}
 use Rattle.frames.specs.Check.{rejection, Accepted}
 use Rattle.frames.proofs.Positions.{position-root}
 use Rattle.frames.proofs.Acceptance.{accepted-formed}
-use Rattle.graftable.specs.Questions.{graftSize}
+use Rattle.graft_questions.specs.Questions.{graftSize}
 use Rattle.graft.specs.Sources.{sources}
-use Rattle.graftable.specs.Graftable.{MaxLeaf, Graftable}
+use Rattle.graft_questions.specs.Graftable.{MaxLeaf, Graftable}
 use Rattle.graft.specs.Outcome.{graftOutcome}
 use Rattle.graft.specs.results.Grafted.{graftTree, handed}
 use Rattle.graft.proofs.Acceptance.{accepted-graftable}

@@ -24,7 +24,7 @@ use Rattle.frames.specs.Formed.{WellFormed}
 use Rattle.frames.proofs.Acceptance.{accepted-formed}
 use Rattle.frames.proofs.Nodes.{tree-range}
 use Rattle.frames.proofs.Proper.{tree-proper}
-use Rattle.bounds.specs.Marks.{mark, marked, ones}
+use Rattle.certificate_bounds.specs.Marks.{mark, marked, ones}
 use Rattle.certificate.specs.Search.{Buffers}
 use Rattle.verify.specs.Flags.{member}
 use Rattle.frames.specs.Value.{valueOf}

@@ -14,7 +14,7 @@ use Rattle.gametree.specs.Certificate.{flag}
 use Rattle.frames.specs.Frame.{frames}
 use Rattle.frames.specs.Tree.{tree, valuation}
 use Rattle.positions.specs.Buffer.{tabulate, written}
-use Rattle.bounds.specs.Marks.{mark}
+use Rattle.certificate_bounds.specs.Marks.{mark}
 use Rattle.certificate.specs.declared.Findings.{Findings}
 use Rattle.certificate.specs.Search.{findings, listed}
 use Rattle.certificate.proofs.Marks.{evaluated-within}

@@ -17,7 +17,7 @@ use Rattle.frames.specs.Frame.{frames}
 use Rattle.frames.specs.Tree.{tree, valuation}
 use Rattle.frames.specs.Shape.{SameShape}
 use Rattle.frames.proofs.Shapes.{same-score, same-tree}
-use Rattle.bounds.specs.Marks.{mark}
+use Rattle.certificate_bounds.specs.Marks.{mark}
 use Rattle.positions.specs.Buffer.{tabulate, written}
 use Rattle.certificate.specs.Search.{findings}
 use Rattle.positions.proofs.Buffers.{length-tabulate, tabulate-same}

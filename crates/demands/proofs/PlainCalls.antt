@@ -17,7 +17,7 @@ use Rattle.frames.specs.Check.{Accepted}
 use Rattle.frames.proofs.Acceptance.{accepted-formed}
 use Rattle.frames.proofs.Proper.{tree-proper}
 use Rattle.certificate.specs.declared.Findings.{Findings}
-use Rattle.bounds.specs.Marks.{ones}
+use Rattle.certificate_bounds.specs.Marks.{ones}
 use Rattle.certificate.specs.Search.{searchRejection, flagsOf, buffersOf}
 use Rattle.verify.specs.declared.Verdict.the-variants.{Value}
 use Rattle.verify.specs.Check.{verdict}

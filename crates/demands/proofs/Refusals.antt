@@ -11,7 +11,7 @@ use Rattle.certificate.specs.Search.{searchRejection}
 use Rattle.alphabeta.specs.declared.AlphaBetaAnswer.the-variants as ab-answer
 use Rattle.mtd.specs.declared.MtdAnswer.the-variants as mtd-answer
 use Rattle.mtdf.specs.declared.MtdfAnswer.the-variants as mtdf-answer
-use Rattle.states.specs.declared.State.{State}
+use Rattle.sss_states.specs.declared.State.{State}
 use Rattle.sss.specs.declared.SssAnswer.{SssAnswer}
 use Rattle.sss.specs.declared.SssAnswer.the-variants as sss-answer
 use Rattle.sss.specs.Outcome.{sssUncovered, sssOutcome}

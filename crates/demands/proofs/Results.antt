@@ -11,14 +11,14 @@ use Rattle.frames.specs.Frame.{frames}
 use Rattle.frames.specs.Tree.{tree, valuation}
 use Rattle.frames.specs.Check.{Accepted}
 use Rattle.frames.proofs.Acceptance.{accepted-formed}
-use Rattle.bounds.specs.Marks.{mark}
+use Rattle.certificate_bounds.specs.Marks.{mark}
 use Rattle.frames.specs.Value.{valueOf}
 use Rattle.certificate.specs.Search.{marksOf, flagsOf, findings, Buffers, buffersOf, listed}
 use Rattle.verify.specs.declared.Verdict.the-variants.{Value}
 use Rattle.verify.specs.Check.{verdict}
-use Rattle.states.specs.declared.State.{State}
+use Rattle.sss_states.specs.declared.State.{State}
 use Rattle.sss.specs.declared.SssAnswer.the-variants as sss-answer
-use Rattle.states.specs.Entry.{blank}
+use Rattle.sss_states.specs.Entry.{blank}
 use Rattle.sss.specs.Outcome.{sssLeaves, sssFound, sssUncovered}
 use Rattle.sss.proofs.Allowed.{leaves-few, enough as covered}
 use Rattle.demands.specs.Handed.{Room, CertifiedBy}

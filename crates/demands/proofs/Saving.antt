@@ -1,5 +1,5 @@
 -- Saving a tree (02: N3), sentence by sentence, over the definitions that the contracts of the writer and of the reader
--- cite. "Each line is laid behind the lines already written": `encode` in writer/specs/Encoded.antt.
+-- cite. "Each line is laid behind the lines already written": `encode` in file_writer/specs/Encoded.antt.
 -- "Reading a written file restores the table exactly": `written-read` in Sentences.antt.
 use Prim.Native.Nat.{ℕ, _*_, _≤_, _<_}
 use mathlib.Core.Path.{_≡_}
@@ -7,11 +7,11 @@ use mathlib.Core.List.{List}
 use lib.ListN.{length, take}
 use Rattle.frames.specs.Frame.{frames}
 use Rattle.frames.specs.Check.{Accepted}
-use Rattle.lines.specs.Line.{lineSize}
-use Rattle.reader.specs.File.{AcceptedFile}
-use Rattle.writer.specs.declared.Written.the-variants.{Length, Rejected as RejectedWrite}
-use Rattle.writer.specs.Encoded.{fileOf}
-use Rattle.writer.specs.Write.{writeOutcome}
+use Rattle.file_lines.specs.Line.{lineSize}
+use Rattle.file_reader.specs.File.{AcceptedFile}
+use Rattle.file_writer.specs.declared.Written.the-variants.{Length, Rejected as RejectedWrite}
+use Rattle.file_writer.specs.Encoded.{fileOf}
+use Rattle.file_writer.specs.Write.{writeOutcome}
 use Rattle.treefile.specs.results.Saved.{Bytes, InCapitals, Saved}
 use Rattle.treefile.proofs.RoundTrip.{written-capitals, written-accepted}
 use Rattle.treefile.proofs.Saving.{write-gives, write-short, write-saves, saved-once}

@@ -26,18 +26,18 @@ use Rattle.frames.specs.results.Alternating.{Alternating, treeByDepth}
 use Rattle.frames.specs.results.Regular.{RegularTable}
 use Rattle.frames.proofs.Acceptance.{accepted-formed}
 use Rattle.frames.proofs.TreeOfTable.{ordinary-scores}
-use Rattle.hex.specs.Digit.{isCapitalDigit}
-use Rattle.lines.specs.Line.{lineDigits}
-use Rattle.lines.specs.Lines.{linesOf, decoded}
-use Rattle.bounds.specs.Marks.{mark, ones}
+use Rattle.file_hex.specs.Digit.{isCapitalDigit}
+use Rattle.file_lines.specs.Line.{lineDigits}
+use Rattle.file_lines.specs.Lines.{linesOf, decoded}
+use Rattle.certificate_bounds.specs.Marks.{mark, ones}
 use Rattle.certificate.specs.declared.Findings.{Findings}
 use Rattle.certificate.specs.Search.{findings, buffers}
 use Rattle.tables.proofs as tables
-use Rattle.reader.proofs as reader
-use Rattle.reader.specs.File.{AcceptedFile, readAnswer, tableAfter}
-use Rattle.reader.proofs.Acceptance.{accepted-exactly, read-nodes}
-use Rattle.writer.proofs as writer
-use Rattle.writer.specs.declared.Written.the-variants.{Length}
+use Rattle.file_reader.proofs as reader
+use Rattle.file_reader.specs.File.{AcceptedFile, readAnswer, tableAfter}
+use Rattle.file_reader.proofs.Acceptance.{accepted-exactly, read-nodes}
+use Rattle.file_writer.proofs as writer
+use Rattle.file_writer.specs.declared.Written.the-variants.{Length}
 use Rattle.treefile.specs.results.Saved.{Bytes}
 use Rattle.treefile.proofs.Saving.{saved-read}
 use Rattle.convert.proofs as convert

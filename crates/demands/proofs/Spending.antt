@@ -30,13 +30,13 @@ use Rattle.frames.proofs.Acceptance.{accepted-formed}
 use Rattle.frames.proofs.Proper.{tree-proper}
 use Rattle.frames.proofs.Shapes.{same-score, same-tree}
 use Rattle.positions.proofs.Buffers.{written-at}
-use Rattle.bounds.specs.Marks.{mark, ones}
+use Rattle.certificate_bounds.specs.Marks.{mark, ones}
 use Rattle.certificate.specs.Search.{searchRejection, marksOf, listed}
 use Rattle.certificate.proofs.Marks.{marked-written, evaluated-hold, ones-leaves}
 use Rattle.alphabeta.specs.Outcome.{reachedLeaves}
 use Rattle.sss.specs.declared.Spent.{Spent}
 use Rattle.sss.specs.declared.SssAnswer.the-variants as sss-answer
-use Rattle.states.specs.Entry.{blank}
+use Rattle.sss_states.specs.Entry.{blank}
 use Rattle.sss.specs.Outcome.{sssLeaves, sssUncovered, sssSpent}
 use Rattle.sss.proofs.Replacements.{own}
 use Rattle.sss.proofs.Allowed.{by-allowance}

@@ -9,7 +9,7 @@ use Rattle.frames.specs.Tree.{childrenFrom, grow, treeAt, valuation}
 use Rattle.frames.specs.Rejection.{eachNode}
 use Rattle.frames.specs.Check.{framesRejection, rejection}
 use Rattle.positions.specs.Buffer.{tabulate, written}
-use Rattle.bounds.specs.Marks.{ones}
+use Rattle.certificate_bounds.specs.Marks.{ones}
 use Rattle.demands.specs.Cases.{rowOf, rejected}
 use Rattle.demands.specs.results.Cases.{path, winTables, winRows, leavesOf, captureTables, captureRows}
 use Rattle.demands.specs.results.Cases.{deeperTables, deeperRows, stoppedAt, stoppedRows, withEntries}

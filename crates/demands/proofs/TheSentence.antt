@@ -22,7 +22,7 @@ use Rattle.frames.specs.Tree.{tree, valuation}
 use Rattle.frames.specs.Rejection.{_andThen_}
 use Rattle.frames.specs.Check.{rejection}
 use Rattle.frames.proofs.Asked.{answer-rejected}
-use Rattle.lines.specs.Lines.{decoded}
+use Rattle.file_lines.specs.Lines.{decoded}
 use Rattle.certificate.specs.Search.{searchRejection, buffers}
 use Rattle.alphabeta.proofs as alphabeta
 use Rattle.alphabeta.specs.declared.AlphaBetaAnswer.the-variants as ab-answer
@@ -38,19 +38,19 @@ use Rattle.verify.proofs as verify
 use Rattle.verify.specs.declared.Verdict.the-variants.{Value}
 use Rattle.verify.specs.Certificate.{Certificate}
 use Rattle.verify.proofs.Theorems.{accepts-certificates, accepted-minimax}
-use Rattle.reader.proofs as reader
-use Rattle.reader.specs.File.{readRejection}
-use Rattle.writer.proofs as writer
-use Rattle.writer.specs.Write.{writeCheck10, writeRejection}
+use Rattle.file_reader.proofs as reader
+use Rattle.file_reader.specs.File.{readRejection}
+use Rattle.file_writer.proofs as writer
+use Rattle.file_writer.specs.Write.{writeCheck10, writeRejection}
 use Rattle.treefile.proofs.Saving as saving
-use Rattle.writer.specs.declared.Written.the-variants.{Rejected as RejectedWrite}
+use Rattle.file_writer.specs.declared.Written.the-variants.{Rejected as RejectedWrite}
 use Rattle.convert.proofs as convert
 use Rattle.convert.specs.results.Converted.{baseRejection}
 use Rattle.convert.specs.Printed.{printed}
 use Rattle.convert.proofs.Converted as converted
 use Rattle.convert.proofs.Printing.{laid-keeps}
 use Rattle.graft.proofs as graft
-use Rattle.graftable.specs.Questions.{graftRejection}
+use Rattle.graft_questions.specs.Questions.{graftRejection}
 use Rattle.graft.proofs.Grafting as grafting
 use Rattle.worstcase.proofs as worstcase
 use Rattle.worstcase.proofs.Whole.{fill-kept}

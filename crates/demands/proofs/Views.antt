@@ -30,8 +30,8 @@ use Rattle.mtd.specs.Outcome.{mtdLeaves, mtdFound}
 use Rattle.mtdf.specs.declared.MtdfResult.{MtdfResult}
 use Rattle.mtdf.specs.declared.MtdfAnswer.the-variants as mtdf-answer
 use Rattle.mtdf.specs.Outcome.{startScore, decisionOf, mtdfLeaves, mtdfFound}
-use Rattle.states.specs.declared.State.{State}
-use Rattle.states.specs.Entry.{blank}
+use Rattle.sss_states.specs.declared.State.{State}
+use Rattle.sss_states.specs.Entry.{blank}
 use Rattle.sss.specs.declared.SssResult.{SssResult}
 use Rattle.sss.specs.declared.SssAnswer.{SssAnswer}
 use Rattle.sss.specs.declared.SssAnswer.the-variants as sss-answer

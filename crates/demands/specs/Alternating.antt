@@ -15,8 +15,8 @@ use Rattle.frames.specs.Tree.{valuation}
 use Rattle.frames.specs.Rejection.{ask, _andThen_, eachNode, unless}
 use Rattle.frames.specs.Check.{check1, check5, check6, check7, check8, check10, depthsRejection}
 use Rattle.frames.specs.results.Alternating.{zeroCheck4, zeroRejection, sideByDepth, treeByDepth}
-use Rattle.lines.specs.Lines.{decoded}
-use Rattle.reader.specs.File.{fileCheck2, fileCheck3, fileCheck16, fileCheck10}
+use Rattle.file_lines.specs.Lines.{decoded}
+use Rattle.file_reader.specs.File.{fileCheck2, fileCheck3, fileCheck16, fileCheck10}
 use Rattle.verify.specs.declared.Verdict.{Verdict}
 use Rattle.verify.specs.Flags.{member, membersFrom, requiredOf, rootMember}
 use Rattle.verify.specs.Check.{check11, check14, judged}

@@ -7,7 +7,7 @@ use lib.ListN.{length, replicate}
 use Rattle.frames.specs.Frame.{frames}
 use Rattle.frames.specs.results.Cases.{small, lone, single}
 use Rattle.certificate.specs.Search.{buffers, listed}
-use Rattle.bounds.specs.Marks.{ones}
+use Rattle.certificate_bounds.specs.Marks.{ones}
 use Rattle.alphabeta.specs.declared.AlphaBetaAnswer as ab
 use Rattle.alphabeta.specs.declared.AlphaBetaAnswer.the-variants as ab-answer
 use Rattle.alphabeta.specs.Outcome.{alphaBetaOutcome}
@@ -19,7 +19,7 @@ use Rattle.mtd.specs.declared.MtdAnswer.the-variants as mtd-answer
 use Rattle.mtd.specs.Outcome.{mtdOutcome}
 use Rattle.sss.specs.declared.SssAnswer as sss
 use Rattle.sss.specs.declared.SssAnswer.the-variants as sss-answer
-use Rattle.states.specs.Entry.{blank}
+use Rattle.sss_states.specs.Entry.{blank}
 use Rattle.sss.specs.Outcome.{sssOutcome}
 
 -- what a search gives: the value, the move, the count of evaluated leaves and, if it has one, its second count; of an

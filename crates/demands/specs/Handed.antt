@@ -11,7 +11,7 @@ use Rattle.gametree.specs.Certificate.{Certifies}
 use Rattle.frames.specs.Frame.{frames}
 use Rattle.frames.specs.Tree.{tree, valuation}
 use Rattle.frames.specs.Shape.{AgreeOn}
-use Rattle.bounds.specs.Marks.{marked}
+use Rattle.certificate_bounds.specs.Marks.{marked}
 use Rattle.certificate.specs.Search.{Buffers}
 use Rattle.verify.specs.Flags.{member}
 

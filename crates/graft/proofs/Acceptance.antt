@@ -13,10 +13,10 @@ use Rattle.frames.specs.Check.{Accepted}
 use Rattle.frames.proofs.Next.{child-within}
 use Rattle.frames.proofs.Parents.{top-down}
 use Rattle.frames.proofs.Acceptance.{accepted-stated, stated-accepted}
-use Rattle.graftable.specs.Questions.{graftSize}
+use Rattle.graft_questions.specs.Questions.{graftSize}
 use Rattle.graft.specs.Sources.{rootFor, sources}
 use Rattle.graft.specs.Table.{graftTable}
-use Rattle.graftable.specs.Graftable.{MaxLeaf, Graftable}
+use Rattle.graft_questions.specs.Graftable.{MaxLeaf, Graftable}
 use Rattle.graft.proofs.Joined.{source-cases}
 use Rattle.graft.proofs.Sources.{Fitting, fitting, Source, positionAt, firstIn, countIn, first-stated}
 use Rattle.graft.proofs.Sources.{first-formed}

@@ -11,7 +11,7 @@ use Rattle.frames.specs.Check.{framesRejection, rejection, Accepted}
 use Rattle.frames.specs.results.Cases.{leaves, chain, small}
 use Rattle.graft.specs.Sources.{rootFor, base, childSources, breadthFirst}
 use Rattle.graft.specs.Table.{frameAt, laidFrames}
-use Rattle.graftable.specs.Questions.{deepest}
+use Rattle.graft_questions.specs.Questions.{deepest}
 use Rattle.graft.specs.Outcome.{graftOutcome}
 use Rattle.graft.specs.results.Grafted.{valuationFrom, graftValue}
 use Rattle.graft.specs.results.Cases.{pair, chainTo, buffer, given, refused, far, values}

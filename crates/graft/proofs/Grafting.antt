@@ -23,16 +23,16 @@ use Rattle.frames.proofs.Asked.{refused, answer-nodes, answer-rejected, answer-
 use Rattle.frames.proofs.Acceptance.{accepted-stated, accepted-formed}
 use Rattle.frames.proofs.Parents.{parent-child}
 use Rattle.frames.proofs.Sides.{mover-other}
-use Rattle.graftable.specs.Questions.{graftSize, isMaxLeaf, deepest, leafRejection, graftRejection}
+use Rattle.graft_questions.specs.Questions.{graftSize, isMaxLeaf, deepest, leafRejection, graftRejection}
 use Rattle.graft.specs.Sources.{sources}
 use Rattle.graft.specs.Table.{graftTable}
-use Rattle.graftable.specs.Graftable.{MaxLeaf, Graftable}
+use Rattle.graft_questions.specs.Graftable.{MaxLeaf, Graftable}
 use Rattle.graft.specs.Outcome.{graftOutcome}
 use Rattle.graft.specs.results.Grafted.{graftTree, graftValue, handed}
-use Rattle.graftable.proofs.Questions.{max-leaf, leaf-max, refusal, no-leaf, too-many, too-deep, too-short}
-use Rattle.graftable.proofs.Questions.{all-right, first-refused, second-refused, both-accepted, passed-graftable}
-use Rattle.graftable.proofs.Questions.{graftable-deepest}
-use Rattle.graftable.proofs.Heights.{deepest-at, last-deepest}
+use Rattle.graft_questions.proofs.Questions.{max-leaf, leaf-max, refusal, no-leaf, too-many, too-deep, too-short}
+use Rattle.graft_questions.proofs.Questions.{all-right, first-refused, second-refused, both-accepted, passed-graftable}
+use Rattle.graft_questions.proofs.Questions.{graftable-deepest}
+use Rattle.graft_questions.proofs.Heights.{deepest-at, last-deepest}
 use Rattle.graft.proofs.Sources.{fitting}
 use Rattle.graft.proofs.Laid.{laid-length, result-frames, result-carried}
 use Rattle.graft.proofs.Acceptance.{result-accepted}

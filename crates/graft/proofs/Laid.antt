@@ -16,7 +16,7 @@ use Rattle.frames.proofs.Next.{child-within}
 use Rattle.frames.proofs.Parents.{top-down}
 use Rattle.frames.proofs.Positions.{position-root, position-child}
 use Rattle.frames.proofs.Acceptance.{stated-formed}
-use Rattle.graftable.specs.Questions.{graftSize}
+use Rattle.graft_questions.specs.Questions.{graftSize}
 use Rattle.graft.specs.Sources.{rootFor, childSources, breadthFirst, knownSources, sources}
 use Rattle.graft.specs.Table.{firstNumber, sourceAt, frameAt, laidFrames, graftTable}
 use Rattle.graft.proofs.Listing.{list-kept, list-child}

@@ -10,9 +10,9 @@ use Rattle.frames.specs.declared.Checked.the-variants.{Nodes, Rejected}
 use Rattle.frames.specs.Frame.{frameSize}
 use Rattle.frames.specs.Rejection.{answer, _leaving_}
 use Rattle.frames.proofs.Asked.{answer-nodes, answer-rejected}
-use Rattle.graftable.specs.Questions.{graftSize, graftRejection}
-use Rattle.graftable.specs.Graftable.{Graftable}
-use Rattle.graftable.proofs.Questions.{passed-graftable}
+use Rattle.graft_questions.specs.Questions.{graftSize, graftRejection}
+use Rattle.graft_questions.specs.Graftable.{Graftable}
+use Rattle.graft_questions.proofs.Questions.{passed-graftable}
 use Rattle.graft.specs.Table.{graftTable}
 use Rattle.graft.specs.Outcome.{graftOutcome}
 

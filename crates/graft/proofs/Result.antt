@@ -14,7 +14,7 @@ use Rattle.frames.specs.Tree.{node, treeAt, tree, valuation, leafScore}
 use Rattle.frames.proofs.Parents.{bottom-up}
 use Rattle.frames.proofs.Trees.{tree-node}
 use Rattle.frames.proofs.Proper.{every-leaf}
-use Rattle.graftable.specs.Questions.{graftSize}
+use Rattle.graft_questions.specs.Questions.{graftSize}
 use Rattle.graft.specs.Sources.{rootFor, sources}
 use Rattle.graft.specs.Table.{graftTable}
 use Rattle.graft.specs.results.Grafted.{graftTree, valuationFrom, graftValue}

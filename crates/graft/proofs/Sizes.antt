@@ -15,7 +15,7 @@ use Rattle.frames.specs.Frame.{frames, childCount}
 use Rattle.frames.specs.Tree.{tree}
 use Rattle.frames.specs.Formed.{WellFormed}
 use Rattle.frames.proofs.Totals.{total, totalChildren, sumTo, atNode, tree-total, tree-size}
-use Rattle.graftable.specs.Questions.{graftSize}
+use Rattle.graft_questions.specs.Questions.{graftSize}
 use Rattle.graft.specs.results.Grafted.{graftTree}
 
 -- a node of a tree in which the leaf k counts for m nodes

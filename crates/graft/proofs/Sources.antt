@@ -23,9 +23,9 @@ use Rattle.frames.proofs.Next.{child-within}
 use Rattle.frames.proofs.Acceptance.{accepted-stated, accepted-formed}
 use Rattle.frames.proofs.Positions.{position-root, position-child}
 use Rattle.frames.proofs.Trees.{tree-node, tree-leaf, node-same}
-use Rattle.graftable.specs.Questions.{graftSize}
+use Rattle.graft_questions.specs.Questions.{graftSize}
 use Rattle.graft.specs.Sources.{rootFor, base, childSources, knownSources, sources}
-use Rattle.graftable.specs.Graftable.{MaxLeaf, Graftable}
+use Rattle.graft_questions.specs.Graftable.{MaxLeaf, Graftable}
 use Rattle.graft.specs.results.Grafted.{graftTree}
 use Rattle.graft.proofs.Sizes.{graft-size}
 use Rattle.graft.proofs.Listing.{Weighs, waits, kind, list-all}

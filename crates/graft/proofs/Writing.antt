@@ -12,7 +12,7 @@ use lib.Seq.{sets, sets-eq, length-sets, take-at, drop-append-add, drop-drop}
 use Rattle.frames.specs.Frame.{frameSize, frames, firstChild, childCount}
 use Rattle.positions.specs.Buffer.{stored}
 use Rattle.positions.proofs.TopDown.{Filled, filled-root, filled-at, filled-step, visit-within}
-use Rattle.graftable.specs.Questions.{graftSize}
+use Rattle.graft_questions.specs.Questions.{graftSize}
 use Rattle.graft.specs.Sources.{rootFor, base, sources}
 use Rattle.graft.specs.Table.{firstNumber, renumbered, frameAt, laidFrames, graftTable}
 use Rattle.graft.proofs.Sources.{Fitting, first-stated, second-stated, firstIn, countIn}

@@ -6,7 +6,7 @@ use Rattle.frames.specs.declared.Checked.{Checked}
 use Rattle.frames.specs.declared.Checked.the-variants.{Nodes, Rejected}
 use Rattle.frames.specs.Frame.{frameSize}
 use Rattle.frames.specs.Rejection.{unless, Outcome, _leaving_}
-use Rattle.graftable.specs.Questions.{graftSize, graftRejection}
+use Rattle.graft_questions.specs.Questions.{graftSize, graftRejection}
 use Rattle.graft.specs.Table.{graftTable}
 
 -- the outcome of a call with the first table, the named node, the second table and a buffer: the grafted table at the

@@ -7,7 +7,7 @@ use lib.Dec.{ltb, eqb}
 use lib.ListN.{getD}
 use Rattle.frames.specs.Frame.{frames, firstChild, childCount}
 use Rattle.frames.specs.Tree.{upFrom}
-use Rattle.graftable.specs.Questions.{graftSize}
+use Rattle.graft_questions.specs.Questions.{graftSize}
 
 -- the source s, with the second table's root in place of the leaf k of the first
 unfoldable pub rootFor : (t : List ℕ) (k : ℕ) → ℕ → ℕ

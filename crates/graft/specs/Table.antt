@@ -3,7 +3,7 @@ use Prim.Native.Nat.{ℕ, zero, suc, _/_, _%_}
 use mathlib.Core.List.{List, [], _∷_, _++_}
 use lib.ListN.{length, getD}
 use Rattle.frames.specs.Frame.{byteOf, childCount}
-use Rattle.graftable.specs.Questions.{graftSize}
+use Rattle.graft_questions.specs.Questions.{graftSize}
 use Rattle.graft.specs.Sources.{knownSources}
 
 -- the first child of a node with so many children, which are numbered from `next` on: a leaf's is 0

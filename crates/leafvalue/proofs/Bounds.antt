@@ -23,8 +23,8 @@ use Rattle.frames.specs.Check.{Accepted}
 use Rattle.frames.proofs.Acceptance.{accepted-stated}
 use Rattle.frames.proofs.Proper.{every-leaf}
 use Rattle.frames.proofs.Worth.{score-kept}
-use Rattle.bounds.specs.Marks.{marked}
-use Rattle.bounds.specs.engine.Bounds.{boundOf}
+use Rattle.certificate_bounds.specs.Marks.{marked}
+use Rattle.certificate_bounds.specs.engine.Bounds.{boundOf}
 use Rattle.leafvalue.specs.LeastValue.{isLeaf, rootScore, smallest}
 use Rattle.leafvalue.specs.engine.Candidates.{firstScore, scoreCount, candidate, held}
 use Rattle.leafvalue.proofs.First.{first-same}

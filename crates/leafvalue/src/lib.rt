@@ -1,5 +1,5 @@
 // The smallest value of a leaf that gives the root a wanted value (02: what score would save it?).
-use bounds::fill_bounds;
+use certificate_bounds::fill_bounds;
 use frames::Checked;
 use frames::GREATEST;
 use frames::LEAST;

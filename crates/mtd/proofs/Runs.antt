@@ -21,12 +21,12 @@ use Rattle.frames.proofs.Positions.{position-root}
 use Rattle.frames.proofs.Trees.{zero-or-suc}
 use Rattle.frames.proofs.Nodes.{in-own, in-parent, tree-range}
 use Rattle.frames.proofs.Proper.{tree-proper}
-use Rattle.bounds.specs.Marks.{marked}
-use Rattle.bounds.specs.engine.Progress.{evaluateAll}
-use Rattle.bounds.specs.engine.Bounds.{boundOf}
-use Rattle.bounds.proofs.Listing.{ones-none}
-use Rattle.flags.specs.engine.Chosen.{firstEqual}
-use Rattle.flags.proofs.Chosen.{first-same}
+use Rattle.certificate_bounds.specs.Marks.{marked}
+use Rattle.certificate_bounds.specs.engine.Progress.{evaluateAll}
+use Rattle.certificate_bounds.specs.engine.Bounds.{boundOf}
+use Rattle.certificate_bounds.proofs.Listing.{ones-none}
+use Rattle.certificate_flags.specs.engine.Chosen.{firstEqual}
+use Rattle.certificate_flags.proofs.Chosen.{first-same}
 use Rattle.mtd_memory.specs.declared.Tried.{Tried}
 use Rattle.mtd_memory.specs.engine.Memory.{Memory, progressOf, memoOf, passOf, MemoryRoom, HighsRight}
 use Rattle.mtd_memory.specs.engine.Memory.{firstHigh, Counted, VisitReady, Evaluated, Passed, Fresh}

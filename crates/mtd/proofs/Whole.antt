@@ -25,12 +25,12 @@ use Rattle.frames.proofs.Positions.{position-root}
 use Rattle.frames.proofs.Proper.{tree-proper}
 use Rattle.frames.proofs.Trees.{zero-or-suc, tree-leaf, tree-inner, tree-number}
 use Rattle.positions.specs.Buffer.{written}
-use Rattle.bounds.specs.Marks.{marked, ones}
-use Rattle.bounds.specs.engine.Bounds.{boundOf}
-use Rattle.bounds.specs.engine.Progress.{progress, evaluateAll}
-use Rattle.bounds.proofs.Listing.{first-evaluated}
+use Rattle.certificate_bounds.specs.Marks.{marked, ones}
+use Rattle.certificate_bounds.specs.engine.Bounds.{boundOf}
+use Rattle.certificate_bounds.specs.engine.Progress.{progress, evaluateAll}
+use Rattle.certificate_bounds.proofs.Listing.{first-evaluated}
 use Rattle.frames.specs.Value.{valueOf}
-use Rattle.flags.specs.engine.Chosen.{firstEqual}
+use Rattle.certificate_flags.specs.engine.Chosen.{firstEqual}
 use Rattle.certificate.specs.Search.{marksOf, listed}
 use Rattle.certificate.proofs.Chosen.{chosenOf, first-with}
 use Rattle.certificate.proofs.Concluded.{chosen-same}

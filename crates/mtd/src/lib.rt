@@ -1,11 +1,11 @@
 // MTD over a byte table: the public search, and its engine of passes with falling tests, each asking whether the root
 // is below its test.
-use bounds::clear;
 use certificate::Findings;
 use certificate::ask;
 use certificate::lesser;
 use certificate::write_certificate;
-use flags::first_equal;
+use certificate_bounds::clear;
+use certificate_flags::first_equal;
 use frames::Checked;
 use frames::GREATEST;
 use frames::MAX_NODES;
@@ -31,8 +31,8 @@ ghost use Rattle.frames.specs.Frame.{frames};
 ghost use Rattle.frames.specs.Tree.{treeAt, tree, valuation};
 ghost use Rattle.frames.specs.Formed.{WellFormed};
 ghost use Rattle.frames.specs.Rejection.{_leaving_};
-ghost use Rattle.bounds.specs.Marks.{ones};
-ghost use Rattle.bounds.specs.engine.Progress.{progress, evaluateAll};
+ghost use Rattle.certificate_bounds.specs.Marks.{ones};
+ghost use Rattle.certificate_bounds.specs.engine.Progress.{progress, evaluateAll};
 ghost use Rattle.certificate.specs.Search.{marksOf, flagsOf, buffers, listed};
 ghost use Rattle.mtd.specs.Outcome.{mtdLeaves, mtdFound, mtdOutcome};
 ghost use Rattle.mtd_memory.specs.engine.Memory.{memory, firstHigh, Fresh, VisitReady, Enterable, Passed};

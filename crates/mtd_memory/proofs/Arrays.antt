@@ -13,9 +13,9 @@ use Rattle.gametree.specs.Tree.{Tree, leaf, inner, Children, last, _then_, bett
 use Rattle.gametree.specs.Tree.{In, InChildren}
 use Rattle.gametree.specs.Bounds.{known}
 use Rattle.gametree.specs.engine.MemoArrays.{Bits}
-use Rattle.bounds.specs.Marks.{marked}
-use Rattle.bounds.specs.engine.Progress.{progress, evaluateAll}
-use Rattle.bounds.proofs.Listing.{none-evaluated, one-evaluated, evaluateAll-append}
+use Rattle.certificate_bounds.specs.Marks.{marked}
+use Rattle.certificate_bounds.specs.engine.Progress.{progress, evaluateAll}
+use Rattle.certificate_bounds.proofs.Listing.{none-evaluated, one-evaluated, evaluateAll-append}
 use Rattle.mtd_memory.specs.engine.Memory.{Memory, progressOf, MemoryRoom, Evaluated}
 
 -- what stands there already is stored

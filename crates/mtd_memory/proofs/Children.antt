@@ -11,7 +11,7 @@ use Rattle.gametree.specs.engine.Memo.{MemoChildren, PassChildren, joined, pass
 use Rattle.gametree.specs.engine.MemoArrays.{readMemoChildren, KidsRemembered}
 use Rattle.gametree_theory.proofs.mtd.MemoArrays.{rest-same, visit-ended, visit-joined}
 use Rattle.frames.specs.Tree.{valuation}
-use Rattle.bounds.specs.Marks.{marked}
+use Rattle.certificate_bounds.specs.Marks.{marked}
 use Rattle.mtd_memory.specs.declared.Tried.{Tried}
 use Rattle.mtd_memory.specs.engine.Memory.{Memory, passOf, Evaluated, Counted, Passed}
 use Rattle.mtd_memory.proofs.Arrays.{evaluated-none, evaluated-more}

@@ -18,9 +18,9 @@ use Rattle.lists.proofs.Choice.{cond-cases}
 use Rattle.gametree_theory.proofs.mtd.MemoArrays.{readMemoChildren-same, read-high}
 use Rattle.frames.specs.Tree.{treeAt, valuation}
 use Rattle.frames.specs.Frame.{frames}
-use Rattle.bounds.specs.Marks.{marked, ones}
-use Rattle.bounds.specs.engine.Progress.{progress, evaluateAll}
-use Rattle.bounds.proofs.Marking.{marked-other}
+use Rattle.certificate_bounds.specs.Marks.{marked, ones}
+use Rattle.certificate_bounds.specs.engine.Progress.{progress, evaluateAll}
+use Rattle.certificate_bounds.proofs.Marking.{marked-other}
 use Rattle.mtd_memory.specs.declared.Tried.{Tried}
 use Rattle.mtd_memory.specs.engine.Memory.{Memory, memory, progressOf, memoOf, passOf, MemoryRoom, HighsRight}
 use Rattle.mtd_memory.specs.engine.Memory.{Counted, Evaluated, Passed}

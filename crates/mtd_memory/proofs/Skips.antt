@@ -19,7 +19,7 @@ use Rattle.frames.specs.Tree.{treeAt, valuation}
 use Rattle.frames.proofs.Nodes.{in-own}
 use Rattle.frames.proofs.Proper.{every-leaf, leaf-scored}
 use Rattle.frames.proofs.Trees.{zero-or-suc, tree-leaf}
-use Rattle.bounds.specs.Marks.{marked}
+use Rattle.certificate_bounds.specs.Marks.{marked}
 use Rattle.mtd_memory.specs.declared.Tried.{Tried}
 use Rattle.mtd_memory.specs.engine.Memory.{Memory, memory, VisitReady, Passed, PassedOver}
 use Rattle.mtd_memory.proofs.Arrays.{set-same, Long, leaf-again}

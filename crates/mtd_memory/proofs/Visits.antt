@@ -15,10 +15,10 @@ use Rattle.frames.specs.Formed.{WellFormed}
 use Rattle.frames.proofs.Positions.{depth-at-most}
 use Rattle.frames.proofs.Trees.{in-kids, tree-leaf}
 use Rattle.frames.proofs.Nodes.{in-own, tree-distinct}
-use Rattle.bounds.specs.Marks.{marked, ones}
-use Rattle.bounds.specs.engine.Progress.{progress, evaluateAll}
-use Rattle.bounds.specs.engine.Ranges.{bestIn}
-use Rattle.bounds.proofs.Bounds.{best-same, minimax-best}
+use Rattle.certificate_bounds.specs.Marks.{marked, ones}
+use Rattle.certificate_bounds.specs.engine.Progress.{progress, evaluateAll}
+use Rattle.certificate_bounds.specs.engine.Ranges.{bestIn}
+use Rattle.certificate_bounds.proofs.Bounds.{best-same, minimax-best}
 use Rattle.mtd_memory.specs.declared.Seen.{Seen}
 use Rattle.mtd_memory.specs.declared.Seen.the-variants.{Answered, Open}
 use Rattle.mtd_memory.specs.declared.Tried.{Tried}

@@ -1,8 +1,8 @@
 // MTD's memory, marks, highs and what was found not below, over node numbers: what a pass sees of a node, what it
 // does at a leaf, and what a node keeps.
-use bounds::Evaluation;
-use bounds::best;
-use bounds::evaluate_next;
+use certificate_bounds::Evaluation;
+use certificate_bounds::best;
+use certificate_bounds::evaluate_next;
 use frames::child_count;
 use gametree::Position;
 use gametree::Side;
@@ -16,10 +16,10 @@ ghost use Rattle.gametree.specs.Mtd.{settles as settlesOf};
 ghost use Rattle.frames.specs.Frame.{maxNodes, frames, childCount};
 ghost use Rattle.frames.specs.Position.{depthOf};
 ghost use Rattle.frames.specs.Tree.{valuation};
-ghost use Rattle.bounds.specs.Marks.{marked, ones};
-ghost use Rattle.bounds.specs.engine.Evaluable.{Evaluable};
-ghost use Rattle.bounds.specs.engine.Ranges.{bestIn};
-ghost use Rattle.bounds.specs.engine.Progress.{progress, evaluateAll, Listable};
+ghost use Rattle.certificate_bounds.specs.Marks.{marked, ones};
+ghost use Rattle.certificate_bounds.specs.engine.Evaluable.{Evaluable};
+ghost use Rattle.certificate_bounds.specs.engine.Ranges.{bestIn};
+ghost use Rattle.certificate_bounds.specs.engine.Progress.{progress, evaluateAll, Listable};
 ghost use Rattle.mtd_memory.specs.engine.Memory.{memory, VisitReady, Looked};
 ghost use Rattle.mtd_memory.specs.engine.Memory.{PassedOver};
 

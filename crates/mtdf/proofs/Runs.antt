@@ -26,7 +26,7 @@ use Rattle.frames.proofs.Positions.{position-root}
 use Rattle.frames.proofs.Trees.{zero-or-suc}
 use Rattle.frames.proofs.Nodes.{in-own, tree-range}
 use Rattle.frames.proofs.Proper.{tree-proper}
-use Rattle.bounds.proofs.Listing.{ones-none, ones-few}
+use Rattle.certificate_bounds.proofs.Listing.{ones-none, ones-few}
 use Rattle.mtdf_visits.specs.declared.Tried.{Tried}
 use Rattle.mtdf.specs.declared.Settled.{Settled}
 use Rattle.mtdf_visits.specs.engine.Memory.{Memory, memory, soFar, MemoryRoom, Bounded, BoundsRight, Counted}

@@ -26,9 +26,9 @@ use Rattle.frames.proofs.Positions.{position-root}
 use Rattle.frames.proofs.Trees.{tree-leaf}
 use Rattle.frames.proofs.Proper.{tree-proper}
 use Rattle.positions.specs.Buffer.{written}
-use Rattle.bounds.specs.Marks.{marked}
-use Rattle.bounds.specs.engine.Progress.{progress, evaluateAll}
-use Rattle.bounds.proofs.Listing.{first-evaluated}
+use Rattle.certificate_bounds.specs.Marks.{marked}
+use Rattle.certificate_bounds.specs.engine.Progress.{progress, evaluateAll}
+use Rattle.certificate_bounds.proofs.Listing.{first-evaluated}
 use Rattle.certificate.specs.Search.{marksOf, flagsOf, listed}
 use Rattle.certificate.proofs.Outcomes.{search-concludes}
 use Rattle.mtd_memory.proofs.Turns.{childrenUpTo, tree-kids}

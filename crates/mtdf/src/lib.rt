@@ -1,11 +1,11 @@
 // MTD(f) over a byte table: the starting value never changes the value or the move that is found, only how many leaves
 // it takes; nothing is guessed past the leaves. The root is tested until its bounds meet; then its children are tested
 // for the first move.
-use bounds::clear;
 use certificate::Findings;
 use certificate::ask;
 use certificate::lesser;
 use certificate::write_certificate;
+use certificate_bounds::clear;
 use frames::Checked;
 use frames::GREATEST;
 use frames::LEAST;
@@ -30,8 +30,8 @@ ghost use Rattle.frames.specs.Frame.{frames};
 ghost use Rattle.frames.specs.Position.{rootPosition};
 ghost use Rattle.frames.specs.Formed.{WellFormed};
 ghost use Rattle.frames.specs.Rejection.{_leaving_};
-ghost use Rattle.bounds.specs.Marks.{marked};
-ghost use Rattle.bounds.specs.engine.Progress.{progress};
+ghost use Rattle.certificate_bounds.specs.Marks.{marked};
+ghost use Rattle.certificate_bounds.specs.engine.Progress.{progress};
 ghost use Rattle.certificate.specs.Search.{marksOf, flagsOf, buffers, listed};
 ghost use Rattle.mtdf.specs.Outcome.{startScore, mtdfLeaves, mtdfFound, mtdfOutcome};
 ghost use Rattle.mtdf_visits.specs.engine.Memory.{memory, Fresh, VisitReady};

@@ -12,11 +12,11 @@ use borrow.Author.Tests.{eq-eqb, ne-eqb}
 use Rattle.lists.specs.Lists.{among}
 use Rattle.lists.proofs.Lists.{among-append, among-right}
 use Rattle.frames.specs.Frame.{frames}
-use Rattle.bounds.specs.Marks.{marked}
-use Rattle.bounds.specs.engine.Progress.{evaluateAll, Listable}
-use Rattle.bounds.specs.engine.Evaluable.{Evaluable}
-use Rattle.bounds.proofs.Marking.{marked-other}
-use Rattle.bounds.proofs.Listing.{none-evaluated, one-evaluated, evaluateAll-append, next-counted}
+use Rattle.certificate_bounds.specs.Marks.{marked}
+use Rattle.certificate_bounds.specs.engine.Progress.{evaluateAll, Listable}
+use Rattle.certificate_bounds.specs.engine.Evaluable.{Evaluable}
+use Rattle.certificate_bounds.proofs.Marking.{marked-other}
+use Rattle.certificate_bounds.proofs.Listing.{none-evaluated, one-evaluated, evaluateAll-append, next-counted}
 use Rattle.mtd_memory.proofs.Arrays.{marked-same}
 use Rattle.mtdf_visits.specs.engine.Memory.{Memory, progressOf, soFar, MemoryRoom, Counted, Evaluated, Same}
 

@@ -20,11 +20,11 @@ use Rattle.frames.specs.Tree.{treeAt, valuation}
 use Rattle.frames.proofs.Positions.{depth-at-most}
 use Rattle.frames.proofs.Trees.{in-kids, tree-leaf}
 use Rattle.frames.proofs.Nodes.{in-own, tree-distinct}
-use Rattle.bounds.specs.engine.Evaluable.{Evaluable}
-use Rattle.bounds.specs.engine.Progress.{Listable}
-use Rattle.bounds.specs.engine.Ranges.{bestIn}
-use Rattle.bounds.proofs.Bounds.{best-same, minimax-best}
-use Rattle.bounds.proofs.Listing.{next-fits}
+use Rattle.certificate_bounds.specs.engine.Evaluable.{Evaluable}
+use Rattle.certificate_bounds.specs.engine.Progress.{Listable}
+use Rattle.certificate_bounds.specs.engine.Ranges.{bestIn}
+use Rattle.certificate_bounds.proofs.Bounds.{best-same, minimax-best}
+use Rattle.certificate_bounds.proofs.Listing.{next-fits}
 use Rattle.mtd_memory.proofs.Turns.{childrenUpTo, Family, tree-kids}
 use Rattle.mtdf_visits.specs.declared.Seen.{Seen}
 use Rattle.mtdf_visits.specs.declared.Seen.the-variants.{Answered, Open}

@@ -1,8 +1,8 @@
 // The test of a node in MTD(f), and of what is below it: leaves are evaluated, and every node that was entered keeps
 // the best of its children's lows and highs.
-use bounds::Evaluation;
-use bounds::best;
-use bounds::evaluate_next;
+use certificate_bounds::Evaluation;
+use certificate_bounds::best;
+use certificate_bounds::evaluate_next;
 use frames::child_count;
 use frames::child_position;
 use frames::first_child;
@@ -13,8 +13,8 @@ ghost use Prim.Native.Nat.{_+_, _<_};
 ghost use lib.ListN.{length, set};
 ghost use Rattle.frames.specs.Frame.{childCount};
 ghost use Rattle.frames.specs.Tree.{treeAt, valuation};
-ghost use Rattle.bounds.specs.engine.Evaluable.{Evaluable};
-ghost use Rattle.bounds.specs.engine.Progress.{progress, Listable};
+ghost use Rattle.certificate_bounds.specs.engine.Evaluable.{Evaluable};
+ghost use Rattle.certificate_bounds.specs.engine.Progress.{progress, Listable};
 ghost use Rattle.mtdf_visits.specs.engine.Memory.{memory, VisitReady, VisitedBy, Entered, Looked};
 
 // What a node that was tested gives: the answer, true where the node is not below the test, and how many leaves are

@@ -9,8 +9,8 @@ use Rattle.gametree.specs.declared.Side.the-variants.{Max, Min}
 use Rattle.gametree.specs.Tree.{Tree, greatest, better, minimax, minimaxChildren, leaves, leavesChildren}
 use Rattle.gametree.specs.Certificate.{worst}
 use Rattle.frames.specs.Tree.{childrenFrom}
-use Rattle.bounds.specs.Marks.{markAll}
-use Rattle.bounds.proofs.Marking.{markAll-append}
+use Rattle.certificate_bounds.specs.Marks.{markAll}
+use Rattle.certificate_bounds.proofs.Marking.{markAll-append}
 
 better-assoc : (s : Side) (a b c : ℕ) → better s (better s a b) c ≡ better s a (better s b c)
 better-assoc Max a b c = omega arith

@@ -19,10 +19,10 @@ use Rattle.frames.proofs.Next.{child-within}
 use Rattle.frames.proofs.Positions.{depth-child}
 use Rattle.frames.proofs.Proper.{every-leaf, leaf-scored}
 use Rattle.frames.proofs.Trees.{tree-leaf, tree-inner}
-use Rattle.bounds.specs.Marks.{markAll}
-use Rattle.bounds.specs.engine.Evaluable.{Evaluable}
+use Rattle.certificate_bounds.specs.Marks.{markAll}
+use Rattle.certificate_bounds.specs.engine.Evaluable.{Evaluable}
 use Rattle.certificate.specs.engine.Searchable.{Unmarked}
-use Rattle.bounds.proofs.Marking.{markAll-length}
+use Rattle.certificate_bounds.proofs.Marking.{markAll-length}
 use Rattle.certificate.proofs.Unmarked.{Unvisited, all-wait, younger-wait}
 use Rattle.certificate.proofs.Searchable.{searchable-depth, searchable-child}
 use Rattle.plain.specs.engine.Ready.{turnPosition, Ready}

@@ -19,7 +19,7 @@ use Rattle.frames.proofs.Asked.{answer-nodes}
 use Rattle.frames.proofs.Acceptance.{accepted-stated, accepted-formed}
 use Rattle.frames.proofs.Proper.{tree-proper}
 use Rattle.positions.specs.Buffer.{written}
-use Rattle.bounds.specs.Marks.{marked, markAll}
+use Rattle.certificate_bounds.specs.Marks.{marked, markAll}
 use Rattle.certificate.specs.Search.{searchRejection, marksOf, flagsOf}
 use Rattle.certificate.proofs.Questions.{passed-room, asked}
 use Rattle.certificate.proofs.Outcomes.{search-concludes}

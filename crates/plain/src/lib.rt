@@ -1,10 +1,10 @@
 // The plain engine over a byte table: minimax without cuts. Max's turn asks Min's turn for each child, and Min's turn
 // asks Max's; where the same side moves again, a turn asks itself.
-use bounds::clear;
-use bounds::evaluate;
 use certificate::ask;
 use certificate::lesser;
 use certificate::write_certificate;
+use certificate_bounds::clear;
+use certificate_bounds::evaluate;
 use frames::Checked;
 use frames::GREATEST;
 use frames::LEAST;
@@ -25,7 +25,7 @@ ghost use Rattle.frames.specs.Frame.{frames};
 ghost use Rattle.frames.specs.Check.{Accepted};
 ghost use Rattle.frames.specs.Tree.{treeAt, valuation};
 ghost use Rattle.frames.specs.Rejection.{_leaving_};
-ghost use Rattle.bounds.specs.Marks.{markAll};
+ghost use Rattle.certificate_bounds.specs.Marks.{markAll};
 ghost use Rattle.certificate.specs.Search.{marksOf, flagsOf, buffers};
 ghost use Rattle.plain.specs.Outcome.{allLeaves, plainFound, plainOutcome};
 ghost use Rattle.plain.specs.engine.Ready.{Ready};

@@ -7,10 +7,10 @@ use Rattle.frames.specs.Position.{parentBefore, positionWithin, positionOf}
 use Rattle.frames.specs.Tree.{childrenFrom, grow, treeAt, valuation}
 use Rattle.frames.specs.Rejection.{eachNode}
 use Rattle.frames.specs.Check.{framesRejection}
-use Rattle.hex.specs.Digit.{digitOf}
-use Rattle.lines.specs.Line.{allDigits, isLine, hasLowercase, bytesOf}
-use Rattle.lines.specs.Lines.{linesOf, decode}
-use Rattle.reader.specs.File.{eachLine, fileRejection}
+use Rattle.file_hex.specs.Digit.{digitOf}
+use Rattle.file_lines.specs.Line.{allDigits, isLine, hasLowercase, bytesOf}
+use Rattle.file_lines.specs.Lines.{linesOf, decode}
+use Rattle.file_reader.specs.File.{eachLine, fileRejection}
 use Rattle.text.specs.Text.{decimalWithin}
 use Rattle.report.specs.results.Cases.{computed, expected, cases}
 

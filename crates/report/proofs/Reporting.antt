@@ -11,9 +11,9 @@ use Rattle.frames.specs.Frame.{frameSize, maxNodes, maxTable}
 use Rattle.frames.specs.Tree.{tree, valuation}
 use Rattle.frames.specs.Check.{Accepted}
 use Rattle.frames.proofs.Acceptance.{accepted-formed}
-use Rattle.lines.specs.Lines.{decoded}
-use Rattle.reader.specs.File.{readAnswer, tableAfter}
-use Rattle.reader.proofs.Acceptance.{read-nodes, long-enough-rejected}
+use Rattle.file_lines.specs.Lines.{decoded}
+use Rattle.file_reader.specs.File.{readAnswer, tableAfter}
+use Rattle.file_reader.proofs.Acceptance.{read-nodes, long-enough-rejected}
 use Rattle.text.specs.Text.{refusedLine}
 use Rattle.report.specs.Report.{analysisOn, report}
 use Rattle.report.specs.engine.Lines.{abLine, mtdLine, sssLine, analysis}

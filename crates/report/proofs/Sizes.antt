@@ -7,8 +7,8 @@ use lib.ListN.{length, length-append}
 use Rattle.frames.specs.declared.Rejection.{Rejection}
 use Rattle.frames.specs.Tree.{tree, valuation}
 use Rattle.frames.specs.Rejection.{unless}
-use Rattle.lines.specs.Lines.{decoded}
-use Rattle.reader.specs.File.{fileRejection}
+use Rattle.file_lines.specs.Lines.{decoded}
+use Rattle.file_reader.specs.File.{fileRejection}
 use Rattle.certificate.specs.declared.Findings.{Findings}
 use Rattle.certificate.specs.Search.{findings}
 use Rattle.alphabeta.specs.Outcome.{reachedLeaves}

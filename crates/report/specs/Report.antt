@@ -10,8 +10,8 @@ use Rattle.gametree.specs.Sss.{sss as run}
 use Rattle.frames.specs.Value.{valueOf}
 use Rattle.frames.specs.Tree.{tree, valuation}
 use Rattle.frames.specs.Rejection.{unless}
-use Rattle.lines.specs.Lines.{decoded}
-use Rattle.reader.specs.File.{fileRejection}
+use Rattle.file_lines.specs.Lines.{decoded}
+use Rattle.file_reader.specs.File.{fileRejection}
 use Rattle.certificate.specs.declared.Findings.{Findings}
 use Rattle.text.specs.Text.{decimal, signedDecimal, space, lineFeed, refusedLine}
 

@@ -11,9 +11,9 @@ use Rattle.frames.specs.Frame.{maxNodes, frames}
 use Rattle.frames.specs.Formed.{WellFormed}
 use Rattle.positions.specs.Buffer.{written}
 use Rattle.certificate.specs.Search.{marksOf, buffers, listed}
-use Rattle.states.specs.Entry.{blank}
-use Rattle.turns.specs.declared.Run.{Run}
-use Rattle.turns.specs.engine.Turn.{going, Config}
+use Rattle.sss_states.specs.Entry.{blank}
+use Rattle.sss_turns.specs.declared.Run.{Run}
+use Rattle.sss_turns.specs.engine.Turn.{going, Config}
 use Rattle.sss.specs.declared.SssResult.{SssResult}
 use Rattle.sss.specs.declared.Spent.{Spent}
 use Rattle.sss.specs.declared.SssAnswer.{SssAnswer}

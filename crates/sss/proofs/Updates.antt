@@ -6,11 +6,11 @@ use mathlib.Core.Path.{_≡_, refl, sym, ap, _∙_}
 use mathlib.Core.List.{List, [], _∷_, _++_}
 use lib.ListN.{length, set, drop, replicate, length-set}
 use lib.Seq.{drop-set-lt}
-use Rattle.states.specs.declared.State.{State}
-use Rattle.turns.specs.declared.Update.{Update}
-use Rattle.states.specs.Entry.{blank}
-use Rattle.states.specs.engine.Kept.{stored}
-use Rattle.turns.specs.engine.Update.{entryIn, updated, blanks}
+use Rattle.sss_states.specs.declared.State.{State}
+use Rattle.sss_turns.specs.declared.Update.{Update}
+use Rattle.sss_states.specs.Entry.{blank}
+use Rattle.sss_states.specs.engine.Kept.{stored}
+use Rattle.sss_turns.specs.engine.Update.{entryIn, updated, blanks}
 
 -- entries from n on are kept
 pub stored-drop : {A : Type 0} (f : ℕ → A) (n i c : ℕ) (xs : List A) → i + c ≤ n → drop n (stored f i c xs) ≡ drop n xs

@@ -1,14 +1,14 @@
 // The lent list: the best entry is taken, and entries are replaced.
 use crate::blank;
-use states::State;
-use turns::Content;
-use turns::Update;
+use sss_states::State;
+use sss_turns::Content;
+use sss_turns::Update;
 ghost use mathlib.Core.Path.{_≡_};
 ghost use Prim.Native.Nat.{_<_};
 ghost use lib.ListN.{length, getD};
 ghost use Rattle.frames.specs.Frame.{maxNodes};
-ghost use Rattle.states.specs.Entry.{blank as blankEntry};
-ghost use Rattle.turns.specs.engine.Update.{entryIn, updated, Within};
+ghost use Rattle.sss_states.specs.Entry.{blank as blankEntry};
+ghost use Rattle.sss_turns.specs.engine.Update.{entryIn, updated, Within};
 
 // The entry of a node.
 pub fn take(list: &[State], at: usize) -> State

@@ -6,7 +6,7 @@ use mathlib.Core.List.{List, [], _∷_, _++_}
 use lib.Dec.{ltb}
 use lib.IntN.{ℤ, pos, negsuc}
 use lib.ListN.{length, take, drop, replicate}
-pub use Rattle.lines.specs.Line.{lineFeed}
+pub use Rattle.file_lines.specs.Line.{lineFeed}
 use Rattle.frames.specs.declared.Rejection.{Rejection}
 use Rattle.text.specs.declared.Text.{Text}
 

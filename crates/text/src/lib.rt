@@ -1,6 +1,6 @@
 // Text laid down piece by piece: words, numbers in base ten, and the line of a rejection, which is given back by value.
+pub use file_lines::LINE_FEED;
 use frames::Rejection;
-pub use lines::LINE_FEED;
 ghost use mathlib.Core.Path.{_≡_};
 ghost use mathlib.Core.List.{_∷_, []};
 ghost use lib.IntN.{natAbs};

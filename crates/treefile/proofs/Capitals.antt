@@ -11,14 +11,14 @@ use native.Mathlib.Decide.{decLt}
 use borrow.Author.Tests.{lt-ltb, le-ltb, eq-eqb}
 use Rattle.lists.proofs.Choice.{true-not-false, and-both, or-right}
 use Rattle.frames.specs.Frame.{frameSize}
-use Rattle.hex.specs.Digit.{within, noDigit, digitOf, capitalOf, isCapitalDigit}
-use Rattle.hex.proofs.Digits.{inside, above}
-use Rattle.lines.specs.Line.{lineDigits, lineFeed, allDigits, isLine, hasLowercase, bytesOf}
-use Rattle.lines.specs.Lines.{putBefore, linesOf}
-use Rattle.lines.proofs.CapitalDigits.{capitals-all}
-use Rattle.lines.proofs.Splits.{feed-no-digit}
-use Rattle.writer.specs.Encoded.{digitsOf}
-use Rattle.writer.proofs.Laying.{digits-length}
+use Rattle.file_hex.specs.Digit.{within, noDigit, digitOf, capitalOf, isCapitalDigit}
+use Rattle.file_hex.proofs.Digits.{inside, above}
+use Rattle.file_lines.specs.Line.{lineDigits, lineFeed, allDigits, isLine, hasLowercase, bytesOf}
+use Rattle.file_lines.specs.Lines.{putBefore, linesOf}
+use Rattle.file_lines.proofs.CapitalDigits.{capitals-all}
+use Rattle.file_lines.proofs.Splits.{feed-no-digit}
+use Rattle.file_writer.specs.Encoded.{digitsOf}
+use Rattle.file_writer.proofs.Laying.{digits-length}
 use Rattle.treefile.specs.results.Saved.{Bytes}
 
 module _ (n : ℕ) (small : n < noDigit) where

@@ -12,12 +12,12 @@ use native.Mathlib.Decide.{decLt}
 use borrow.Author.Tests.{ltb-true}
 use Rattle.lists.proofs.Choice.{and-both}
 use Rattle.frames.proofs.Stated.{ask-yes, both-passed}
-use Rattle.hex.specs.Digit.{noDigit, digitOf}
-use Rattle.lines.specs.Line.{allDigits, bytesOf}
-use Rattle.lines.specs.Lines.{linesOf, decode, decoded}
-use Rattle.lines.proofs.Lines.{line-digits}
-use Rattle.reader.specs.File.{eachLine, fileCheck3}
-use Rattle.reader.specs.engine.Decoded.{lineCheck3}
+use Rattle.file_hex.specs.Digit.{noDigit, digitOf}
+use Rattle.file_lines.specs.Line.{allDigits, bytesOf}
+use Rattle.file_lines.specs.Lines.{linesOf, decode, decoded}
+use Rattle.file_lines.proofs.Lines.{line-digits}
+use Rattle.file_reader.specs.File.{eachLine, fileCheck3}
+use Rattle.file_reader.specs.engine.Decoded.{lineCheck3}
 use Rattle.treefile.specs.results.Saved.{Bytes}
 
 -- of a line

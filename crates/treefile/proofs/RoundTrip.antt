@@ -14,15 +14,15 @@ use Rattle.frames.specs.Frame.{frameSize, frames}
 use Rattle.frames.specs.Check.{Accepted}
 use Rattle.frames.proofs.Stated.{yes-ask, passed-both}
 use Rattle.frames.proofs.Acceptance.{accepted-stated}
-use Rattle.hex.specs.Digit.{isCapitalDigit}
-use Rattle.lines.specs.Line.{lineDigits, lineFeed, lineSize}
-use Rattle.lines.specs.Lines.{linesOf, decode, decoded}
-use Rattle.reader.specs.File.{eachLine, AcceptedFile, readAnswer, tableAfter}
-use Rattle.reader.specs.engine.Decoded.{lineCheck16, lineCheck3}
-use Rattle.reader.proofs.Acceptance.{table-accepted, accepted-read}
-use Rattle.writer.specs.Encoded.{digitsOf, lineOf, encode, fileOf}
-use Rattle.writer.proofs.Laying.{digits-length, line-size, line-feed}
-use Rattle.writer.proofs.Questions.{file-length}
+use Rattle.file_hex.specs.Digit.{isCapitalDigit}
+use Rattle.file_lines.specs.Line.{lineDigits, lineFeed, lineSize}
+use Rattle.file_lines.specs.Lines.{linesOf, decode, decoded}
+use Rattle.file_reader.specs.File.{eachLine, AcceptedFile, readAnswer, tableAfter}
+use Rattle.file_reader.specs.engine.Decoded.{lineCheck16, lineCheck3}
+use Rattle.file_reader.proofs.Acceptance.{table-accepted, accepted-read}
+use Rattle.file_writer.specs.Encoded.{digitsOf, lineOf, encode, fileOf}
+use Rattle.file_writer.proofs.Laying.{digits-length, line-size, line-feed}
+use Rattle.file_writer.proofs.Questions.{file-length}
 use Rattle.treefile.specs.results.Saved.{Bytes, InCapitals}
 use Rattle.treefile.proofs.Capitals.{digits-capital, digits-large, digits-read, bytes-back}
 use Rattle.treefile.proofs.Capitals.{frame-line, digits-first}

@@ -12,12 +12,12 @@ use Rattle.frames.specs.declared.Rejection.{Rejection}
 use Rattle.frames.specs.declared.Checked.the-variants.{Nodes}
 use Rattle.frames.specs.Frame.{frames}
 use Rattle.frames.specs.Check.{Accepted}
-use Rattle.lines.specs.Line.{lineSize}
-use Rattle.reader.specs.File.{readAnswer, tableAfter}
-use Rattle.writer.specs.Encoded.{fileOf}
-use Rattle.writer.specs.Write.{writeRejection, atFront, writeOutcome}
-use Rattle.writer.specs.declared.Written.the-variants.{Length, Rejected}
-use Rattle.writer.proofs.Questions.{passed-room, room-passed}
+use Rattle.file_lines.specs.Line.{lineSize}
+use Rattle.file_reader.specs.File.{readAnswer, tableAfter}
+use Rattle.file_writer.specs.Encoded.{fileOf}
+use Rattle.file_writer.specs.Write.{writeRejection, atFront, writeOutcome}
+use Rattle.file_writer.specs.declared.Written.the-variants.{Length, Rejected}
+use Rattle.file_writer.proofs.Questions.{passed-room, room-passed}
 use Rattle.treefile.specs.results.Saved.{Bytes, Saved}
 use Rattle.treefile.proofs.RoundTrip.{written-length, written-read, written-once}
 

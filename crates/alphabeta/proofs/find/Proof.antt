@@ -5,7 +5,7 @@ use mir.Syntax.{w16}
 use mir.ValLaws.{toZ-ofZ}
 use borrow.Author.Needs.{needs}
 use Rattle.positions.specs.Buffer.{written}
-use Rattle.bounds.proofs.Listing.{listable-first}
+use Rattle.certificate_bounds.proofs.Listing.{listable-first}
 use Rattle.certificate.proofs.Searchable.{searchable-root}
 use Rattle.alphabeta.proofs.Whole.{run-small, find-gives}
 use Rattle.alphabeta.proofs.find.Statement.{statement}

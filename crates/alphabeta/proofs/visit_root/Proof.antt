@@ -13,7 +13,7 @@ use Rattle.gametree.specs.Tree.{greatest}
 use Rattle.frames.specs.Frame.{childCount}
 use Rattle.frames.proofs.Trees.{tree-leaf}
 use Rattle.frames.proofs.Next.{child-within}
-use Rattle.bounds.specs.engine.Progress.{progress}
+use Rattle.certificate_bounds.specs.engine.Progress.{progress}
 use Rattle.certificate.proofs.Searchable.{searchable-depth, searchable-child}
 use Rattle.alphabeta_visits.proofs.Visits.{Visits, searchable-leaf, leaf-visits}
 use Rattle.alphabeta.proofs.Root.{RootTurn, root-start, root-child, root-last, root-next}

@@ -12,8 +12,8 @@ use lib.ListN.{length}
 use Rattle.frames.specs.Frame.{frames}
 use Rattle.frames.specs.Formed.{ChildOf}
 use Rattle.frames.proofs.Next.{child-later, child-within}
-use Rattle.bounds.specs.engine.Evaluable.{Evaluable}
-use Rattle.bounds.specs.engine.Progress.{Progress, progress}
+use Rattle.certificate_bounds.specs.engine.Evaluable.{Evaluable}
+use Rattle.certificate_bounds.specs.engine.Progress.{Progress, progress}
 use Rattle.certificate.specs.engine.Searchable.{Searchable}
 use Rattle.alphabeta_visits.proofs.Pass.{pass-ends, pass-stops, pass-goes-on}
 use Rattle.certificate.proofs.Unmarked.{all-wait}

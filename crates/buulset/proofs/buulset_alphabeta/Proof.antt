@@ -1,6 +1,6 @@
 -- `buulset::buulset_alphabeta` meets its contract: what the call that it makes gives, flat.
 use borrow.Author.Needs.{needs}
-use Rattle.flat.specs.Flat.{flatAlphaBeta}
+use Rattle.buulset_flat.specs.Flat.{flatAlphaBeta}
 use Rattle.buulset.proofs.Listing.{list-handed-on}
 use Rattle.buulset.proofs.buulset_alphabeta.Statement.{statement}
 use Rattle.buulset.proofs.buulset_alphabeta.Tie as tie

@@ -13,8 +13,8 @@ use borrow.Author.Needs.{needs}
 use Rattle.lists.proofs.Choice.{cond-cases, and-both}
 use Rattle.frames.specs.Frame.{frameSize, frames, firstChild, childCount}
 use Rattle.frames.specs.Children.{childrenOf}
-use Rattle.answers.specs.declared.Children.{Children}
-use Rattle.answers.specs.Answers.{noChildren}
+use Rattle.buulset_answers.specs.declared.Children.{Children}
+use Rattle.buulset_answers.specs.Answers.{noChildren}
 use Rattle.buulset.specs.Children.{childrenFrom, flatChildren, partOf}
 use Rattle.buulset.proofs.buulset_children.Statement.{statement}
 use Rattle.buulset.proofs.buulset_children.Tie as tie

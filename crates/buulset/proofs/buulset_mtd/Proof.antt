@@ -1,6 +1,6 @@
 -- `buulset::buulset_mtd` meets its contract: what the call that it makes gives, flat.
 use borrow.Author.Needs.{needs}
-use Rattle.flat.specs.Flat.{flatMtd}
+use Rattle.buulset_flat.specs.Flat.{flatMtd}
 use Rattle.buulset.proofs.Listing.{list-handed-on}
 use Rattle.buulset.proofs.buulset_mtd.Statement.{statement}
 use Rattle.buulset.proofs.buulset_mtd.Tie as tie

@@ -2,7 +2,7 @@
 use mir.Syntax.{w32}
 use mir.ValLaws.{toZ-ofZ}
 use borrow.Author.Needs.{needs}
-use Rattle.flat.specs.Flat.{flatMtdf}
+use Rattle.buulset_flat.specs.Flat.{flatMtdf}
 use Rattle.buulset.proofs.Listing.{list-handed-on}
 use Rattle.buulset.proofs.buulset_mtdf.Statement.{statement}
 use Rattle.buulset.proofs.buulset_mtdf.Tie as tie

@@ -1,6 +1,6 @@
 -- `buulset::buulset_sss` meets its contract: what the call that it makes gives, flat.
 use borrow.Author.Needs.{needs}
-use Rattle.flat.specs.Flat.{flatSss}
+use Rattle.buulset_flat.specs.Flat.{flatSss}
 use Rattle.buulset.proofs.Listing.{list-handed-on}
 use Rattle.buulset.proofs.buulset_sss.Statement.{statement}
 use Rattle.buulset.proofs.buulset_sss.Tie as tie

@@ -5,8 +5,8 @@ use native.Mathlib.Omega.{arith}
 use lib.ListN.{length, replicate}
 use lib.Seq.{length-take-le}
 use borrow.Author.Needs.{needs}
-use Rattle.writer.specs.Write.{lengthGiven}
-use Rattle.reader.specs.File.{maxFile}
+use Rattle.file_writer.specs.Write.{lengthGiven}
+use Rattle.file_reader.specs.File.{maxFile}
 use Rattle.convert.proofs.Printing.{printed-within}
 use Rattle.capitals.proofs.print_converted.Statement.{statement}
 use Rattle.capitals.proofs.print_converted.Tie as tie

@@ -2,7 +2,7 @@
 -- in a buffer that has room for them, the flags follow.
 use native.Mathlib.Omega.{arith}
 use mathlib.Core.Path.{refl}
-use Rattle.bounds.specs.Marks.{marked}
+use Rattle.certificate_bounds.specs.Marks.{marked}
 use Rattle.certificate.proofs.Chosen.{Bounded, bounded, chosen-move}
 use Rattle.certificate.proofs.Flags.{flags-follow}
 use borrow.Author.Needs.{needs}

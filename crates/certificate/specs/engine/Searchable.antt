@@ -10,7 +10,7 @@ use Rattle.frames.specs.Frame.{frames}
 use Rattle.frames.specs.Position.{positionOf}
 use Rattle.frames.specs.Tree.{treeAt}
 use Rattle.frames.specs.Formed.{WellFormed}
-use Rattle.bounds.specs.Marks.{marked}
+use Rattle.certificate_bounds.specs.Marks.{marked}
 
 -- no node of the tree is marked
 abbrev pub Unmarked : List ℕ → Tree → Type 0

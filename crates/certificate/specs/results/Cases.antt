@@ -11,7 +11,7 @@ use Rattle.frames.specs.Tree.{tree, valuation}
 use Rattle.frames.specs.Value.{valueOf}
 use Rattle.frames.specs.results.Cases.{small, lone, single}
 use Rattle.positions.specs.Buffer.{written}
-use Rattle.bounds.specs.Marks.{marked}
+use Rattle.certificate_bounds.specs.Marks.{marked}
 
 -- a table, the marks of its nodes, and a buffer for the flags
 pub record Case : Type 0 where

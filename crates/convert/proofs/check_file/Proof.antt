@@ -7,10 +7,10 @@ use borrow.Author.Needs.{needs}
 use denote.Ref.{now}
 use lib.Seq.{length-take-le}
 use Rattle.frames.specs.Check.{framesRejection}
-use Rattle.lines.specs.Lines.{decoded}
-use Rattle.reader.specs.engine.Decoded.{linesRejection}
-use Rattle.reader.proofs.Reading.{Front, front-room, decoded-front, lines-parts, lines-then}
-use Rattle.reader.proofs.Reading.{lines-refused, frames-asked}
+use Rattle.file_lines.specs.Lines.{decoded}
+use Rattle.file_reader.specs.engine.Decoded.{linesRejection}
+use Rattle.file_reader.proofs.Reading.{Front, front-room, decoded-front, lines-parts, lines-then}
+use Rattle.file_reader.proofs.Reading.{lines-refused, frames-asked}
 use Rattle.convert.proofs.check_file.Statement.{statement}
 use Rattle.convert.proofs.check_file.Tie as tie
 

@@ -4,7 +4,7 @@ use native.Mathlib.Omega.{arith}
 use borrow.Author.Needs.{needs}
 use denote.Ref.{now}
 use lib.Seq.{length-take-le}
-use Rattle.reader.proofs.Reading.{Front, front-room, decoded-front, decoded-rejected}
+use Rattle.file_reader.proofs.Reading.{Front, front-room, decoded-front, decoded-rejected}
 use Rattle.convert.specs.results.Converted.{baseRejection}
 use Rattle.convert.proofs.Converted.{base-table, base-sized}
 use Rattle.convert.proofs.Converting.{convert-refused, convert-written}

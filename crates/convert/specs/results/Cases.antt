@@ -2,10 +2,10 @@
 use Prim.Native.Nat.{ℕ}
 use Prim.Native.String.{String}
 use mathlib.Core.List.{List, [], _∷_, _++_}
-use Rattle.lines.specs.results.Text.{text}
+use Rattle.file_lines.specs.results.Text.{text}
 use Rattle.frames.specs.Rejection.{Outcome, _leaving_}
-use Rattle.writer.specs.declared.Written.{Written}
-use Rattle.writer.specs.declared.Written.the-variants.{Length, Rejected}
+use Rattle.file_writer.specs.declared.Written.{Written}
+use Rattle.file_writer.specs.declared.Written.the-variants.{Length, Rejected}
 use Rattle.convert.specs.Convert.{convertOutcome}
 
 -- a file, the lent buffer, and what the converter answers and leaves there

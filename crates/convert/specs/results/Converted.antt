@@ -8,10 +8,10 @@ use Rattle.frames.specs.declared.Rejection.{Rejection}
 use Rattle.frames.specs.Frame.{frames}
 use Rattle.frames.specs.Rejection.{_andThen_}
 use Rattle.frames.specs.Check.{check1, framesRejection, Accepted}
-use Rattle.lines.specs.Line.{lineSize}
-use Rattle.lines.specs.Lines.{decoded}
-use Rattle.reader.specs.File.{fileCheck2, fileCheck3}
-use Rattle.writer.specs.Encoded.{fileOf}
+use Rattle.file_lines.specs.Line.{lineSize}
+use Rattle.file_lines.specs.Lines.{decoded}
+use Rattle.file_reader.specs.File.{fileCheck2, fileCheck3}
+use Rattle.file_writer.specs.Encoded.{fileOf}
 use Rattle.convert.specs.Convert.{convertOutcome}
 
 -- the first "no" to the reader's questions without 16, as the base put them

@@ -8,7 +8,7 @@ use Rattle.frames.specs.results.Cases.{leafFrame, innerFrame, againFrame, small
 use Rattle.certificate.specs.Search.{buffers}
 use Rattle.alphabeta.specs.Outcome.{alphaBetaOutcome}
 use Rattle.mtd.specs.Outcome.{mtdOutcome}
-use Rattle.states.specs.Entry.{blank}
+use Rattle.sss_states.specs.Entry.{blank}
 use Rattle.sss.specs.Outcome.{sssOutcome, solveOutcome}
 use Rattle.demands.specs.Cases.{Given, found, spent, Row, row, rowWith, byAlphaBeta, byMtd, bySss}
 

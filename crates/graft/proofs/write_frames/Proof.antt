@@ -8,7 +8,7 @@ use lib.Dec.{eqb}
 use borrow.Author.Needs.{needs}
 use Rattle.frames.specs.Frame.{maxNodes, frames}
 use Rattle.frames.proofs.Acceptance.{accepted-formed}
-use Rattle.graftable.specs.Questions.{graftSize}
+use Rattle.graft_questions.specs.Questions.{graftSize}
 use Rattle.graft.specs.engine.Joined.{Joined}
 use Rattle.graft.proofs.Sources.{fitting, first-stated, graft-some}
 use Rattle.graft.proofs.Laid.{result-frames}

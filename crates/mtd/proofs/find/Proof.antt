@@ -6,7 +6,7 @@ use mir.ValLaws.{toZ-ofZ}
 use borrow.Author.Needs.{needs}
 use Rattle.frames.specs.Frame.{maxNodes, frames}
 use Rattle.positions.specs.Buffer.{written}
-use Rattle.bounds.proofs.Marking.{cleared-unmarked}
+use Rattle.certificate_bounds.proofs.Marking.{cleared-unmarked}
 use Rattle.mtd.proofs.Whole.{start-fresh, run-small, find-gives}
 use Rattle.mtd.proofs.find.Statement.{statement}
 use Rattle.mtd.proofs.find.Tie as tie

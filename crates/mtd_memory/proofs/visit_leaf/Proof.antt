@@ -5,9 +5,9 @@ use lib.ListN.{set}
 use borrow.Author.Needs.{needs}
 use borrow.Author.Tests.{eq-eqb, ne-eqb}
 use Rattle.frames.specs.Frame.{frames}
-use Rattle.bounds.specs.Marks.{ones}
-use Rattle.bounds.specs.engine.Evaluable.{Evaluable}
-use Rattle.bounds.proofs.Listing.{next-counted}
+use Rattle.certificate_bounds.specs.Marks.{ones}
+use Rattle.certificate_bounds.specs.engine.Evaluable.{Evaluable}
+use Rattle.certificate_bounds.proofs.Listing.{next-counted}
 use Rattle.mtd_memory.proofs.Arrays.{set-same, leaf-again, leaf-first}
 use Rattle.mtd_memory.proofs.visit_leaf.Statement.{statement}
 use Rattle.mtd_memory.proofs.visit_leaf.Tie as tie

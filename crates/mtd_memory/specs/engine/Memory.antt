@@ -16,10 +16,10 @@ use Rattle.frames.specs.Frame.{frames, childCount}
 use Rattle.frames.specs.Position.{positionOf}
 use Rattle.frames.specs.Tree.{treeAt, valuation}
 use Rattle.frames.specs.Formed.{WellFormed}
-use Rattle.bounds.specs.Marks.{marked, ones}
-use Rattle.bounds.specs.engine.Progress.{Progress, progress, evaluateAll}
-use Rattle.bounds.specs.engine.Bounds.{boundOf}
-use Rattle.flags.specs.engine.Chosen.{firstEqual}
+use Rattle.certificate_bounds.specs.Marks.{marked, ones}
+use Rattle.certificate_bounds.specs.engine.Progress.{Progress, progress, evaluateAll}
+use Rattle.certificate_bounds.specs.engine.Bounds.{boundOf}
+use Rattle.certificate_flags.specs.engine.Chosen.{firstEqual}
 use Rattle.mtd_memory.specs.declared.Seen.{Seen}
 use Rattle.mtd_memory.specs.declared.Seen.the-variants.{Answered, Open}
 use Rattle.mtd_memory.specs.declared.Tried.{Tried}

@@ -6,7 +6,7 @@ use mir.ValLaws.{toZ-ofZ}
 use borrow.Author.Needs.{needs}
 use Rattle.frames.specs.Frame.{frames}
 use Rattle.positions.specs.Buffer.{written}
-use Rattle.bounds.proofs.Marking.{cleared-unmarked}
+use Rattle.certificate_bounds.proofs.Marking.{cleared-unmarked}
 use Rattle.mtdf.proofs.Whole.{run-small, run-gives}
 use Rattle.mtdf.proofs.run.Statement.{statement}
 use Rattle.mtdf.proofs.run.Tie as tie

@@ -7,8 +7,8 @@ use Rattle.gametree.specs.Tests.{TestSearch, searchBy, mtdFrom}
 use Rattle.gametree.specs.FirstMove.{lastPhase}
 use Rattle.frames.specs.Frame.{frames}
 use Rattle.frames.specs.Tree.{tree, valuation}
-use Rattle.bounds.specs.Marks.{ones}
-use Rattle.bounds.specs.engine.Progress.{Progress, evaluateAll}
+use Rattle.certificate_bounds.specs.Marks.{ones}
+use Rattle.certificate_bounds.specs.engine.Progress.{Progress, evaluateAll}
 use Rattle.mtdf.specs.Outcome.{decisionOf, mtdfLeaves}
 use Rattle.mtdf.specs.declared.Settled.{Settled}
 use Rattle.mtdf_visits.specs.engine.Memory.{Memory, soFar, BoundsRight, Counted, Evaluated}

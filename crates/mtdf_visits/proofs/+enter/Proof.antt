@@ -24,7 +24,7 @@ use Rattle.mtdf_visits.proofs.+enter.Lts-enter as lts
 use Rattle.frames.proofs.child_count.Reads as child-count-reads
 use Rattle.frames.proofs.child_position.Reads as child-position-reads
 use Rattle.frames.proofs.first_child.Reads as first-child-reads
-use Rattle.bounds.proofs.best.Reads as best-reads
+use Rattle.certificate_bounds.proofs.best.Reads as best-reads
 use Rattle.mtd_memory.proofs.last_tried.Reads as last-tried-reads
 use Rattle.mtdf_visits.proofs.look.Reads as look-reads
 use Rattle.mtdf_visits.proofs.+enter.{statement}

@@ -15,8 +15,8 @@ use Rattle.frames.specs.Frame.{frames, childCount}
 use Rattle.frames.specs.Position.{positionOf}
 use Rattle.frames.specs.Tree.{treeAt, valuation}
 use Rattle.frames.specs.Formed.{WellFormed}
-use Rattle.bounds.specs.Marks.{marked, ones}
-use Rattle.bounds.specs.engine.Progress.{Progress, progress, evaluateAll}
+use Rattle.certificate_bounds.specs.Marks.{marked, ones}
+use Rattle.certificate_bounds.specs.engine.Progress.{Progress, progress, evaluateAll}
 use Rattle.mtdf_visits.specs.declared.Seen.{Seen}
 use Rattle.mtdf_visits.specs.declared.Seen.the-variants.{Answered, Open}
 use Rattle.mtdf_visits.specs.declared.Tried.{Tried}

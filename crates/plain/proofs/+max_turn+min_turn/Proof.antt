@@ -16,7 +16,7 @@ use Rattle.frames.proofs.Next.{child-within}
 use Rattle.frames.proofs.child_count.Reads as child-count-reads
 use Rattle.frames.proofs.child_side.Reads as child-side-reads
 use Rattle.frames.proofs.first_child.Reads as first-child-reads
-use Rattle.bounds.proofs.evaluate.Reads as evaluate-reads
+use Rattle.certificate_bounds.proofs.evaluate.Reads as evaluate-reads
 use Rattle.plain.specs.engine.Ready.{Ready}
 use Rattle.plain.proofs.Turns.{Gives, TurnLoop, leaf-evaluable, leaf-gives, turn-starts, inner-left, ready-child}
 use Rattle.plain.proofs.Turns.{turn-goes-on, turn-ends}

@@ -2,7 +2,7 @@
 use Prim.Native.String.{String}
 use mathlib.Core.List.{List, [], _∷_}
 use Prim.Native.Nat.{ℕ}
-use Rattle.lines.specs.results.Text.{text}
+use Rattle.file_lines.specs.results.Text.{text}
 use Rattle.report.specs.Report.{report}
 
 pub record Case : Type 0 where

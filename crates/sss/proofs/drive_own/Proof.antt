@@ -18,15 +18,15 @@ use Rattle.walks.proofs.Walk.{sets, shared, slice-vals, sliceVal, stays-of, sto
 use Rattle.walks.proofs.Walk.{u16, u32, u8, uint-copy, uint-lawful, valued, via, w32, walkOf, ‵, ⋆}
 use denote.Struct.Laws as LL
 use Rattle.frames.specs.Frame.{maxNodes}
-use Rattle.states.specs.declared.State.{State}
-use Rattle.turns.specs.declared.Run.{Run}
-use Rattle.states.specs.Entry.{blank as blankEntry}
+use Rattle.sss_states.specs.declared.State.{State}
+use Rattle.sss_turns.specs.declared.Run.{Run}
+use Rattle.sss_states.specs.Entry.{blank as blankEntry}
 use Rattle.sss.specs.engine.Driven.{Prepared, Driven, PreparedOwn, DrivenOwn}
 use Rattle.sss.proofs.Starting.{zeros}
-use Rattle.states.proofs.State as S
-use Rattle.states.proofs.State.Laws as S′
-use Rattle.turns.proofs.Run as N
-use Rattle.turns.proofs.Run.Laws as N′
+use Rattle.sss_states.proofs.State as S
+use Rattle.sss_states.proofs.State.Laws as S′
+use Rattle.sss_turns.proofs.Run as N
+use Rattle.sss_turns.proofs.Run.Laws as N′
 use Rattle.sss.proofs.blank as blank
 use Rattle.sss.proofs.blank.Symbol as blank-def
 use Rattle.sss.proofs.blank.Symbol.{name as #blank}

@@ -5,8 +5,8 @@ use lib.ListN.{length-replicate}
 use borrow.Author.Needs.{needs}
 use Rattle.frames.specs.Frame.{maxNodes, frames}
 use Rattle.positions.specs.Buffer.{written}
-use Rattle.states.specs.declared.State.{State}
-use Rattle.states.specs.Entry.{blank}
+use Rattle.sss_states.specs.declared.State.{State}
+use Rattle.sss_states.specs.Entry.{blank}
 use Rattle.sss.proofs.Starting.{zeros, zeros-sound, prepared-at}
 use Rattle.sss.proofs.Own.{own-asks, own-gives}
 use Rattle.sss.proofs.find.Statement.{statement}

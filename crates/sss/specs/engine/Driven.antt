@@ -6,12 +6,12 @@ use Prim.Native.Nat.{ℕ}
 use lib.ListN.{length, replicate}
 use Rattle.frames.specs.Frame.{maxNodes}
 use Rattle.frames.specs.Formed.{WellFormed}
-use Rattle.states.specs.declared.State.{State}
-use Rattle.states.specs.Entry.{blank}
-use Rattle.turns.specs.declared.Run.{Run}
+use Rattle.sss_states.specs.declared.State.{State}
+use Rattle.sss_states.specs.Entry.{blank}
+use Rattle.sss_turns.specs.declared.Run.{Run}
 use Rattle.positions.specs.engine.Positions.{Positioned}
-use Rattle.turns.specs.engine.Update.{updated, Within}
-use Rattle.turns.specs.engine.Turn.{going, Config}
+use Rattle.sss_turns.specs.engine.Update.{updated, Within}
+use Rattle.sss_turns.specs.engine.Turn.{going, Config}
 use Rattle.sss.specs.engine.Invariant.{Running}
 
 -- a run that goes is at its start, over the front w, the states l, the marks b and the leaves o; one that does not

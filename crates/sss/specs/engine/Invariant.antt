@@ -10,16 +10,16 @@ use Rattle.gametree.specs.Sss as theory
 use Rattle.frames.specs.Frame.{frames}
 use Rattle.frames.specs.Tree.{tree, valuation}
 use Rattle.positions.specs.Buffer.{written}
-use Rattle.bounds.specs.Marks.{ones}
-use Rattle.bounds.specs.engine.Progress.{progress, evaluateAll}
-use Rattle.states.specs.declared.State.{State}
-use Rattle.states.specs.Entry.{blank}
+use Rattle.certificate_bounds.specs.Marks.{ones}
+use Rattle.certificate_bounds.specs.engine.Progress.{progress, evaluateAll}
+use Rattle.sss_states.specs.declared.State.{State}
+use Rattle.sss_states.specs.Entry.{blank}
 use Rattle.gametree.specs.engine.Within.{sssWithin}
-use Rattle.states.specs.engine.Shown.{BestFound}
-use Rattle.states.specs.engine.Kept.{arraysOf, Sound}
-use Rattle.turns.specs.declared.Stage.{Stage}
-use Rattle.turns.specs.declared.Stage.the-variants.{Going, Finished, Spent}
-use Rattle.turns.specs.engine.Turn.{Config}
+use Rattle.sss_states.specs.engine.Shown.{BestFound}
+use Rattle.sss_states.specs.engine.Kept.{arraysOf, Sound}
+use Rattle.sss_turns.specs.declared.Stage.{Stage}
+use Rattle.sss_turns.specs.declared.Stage.the-variants.{Going, Finished, Spent}
+use Rattle.sss_turns.specs.engine.Turn.{Config}
 
 -- the run of SSS* on the tree of a table within an allowance of a leaves
 abbrev pub sssRun : (a : ℕ) → List ℕ → theory.Ran

@@ -2,7 +2,7 @@
 use lib.IntN.{pos, _-ℤ_}
 use mir.Syntax.{w16, w64}
 use mir.ValLaws.{toZ-ofZ}
-use Rattle.signs.proofs.Signs.{wide32, wide64, negative, positive}
+use Rattle.text_signs.proofs.Signs.{wide32, wide64, negative, positive}
 use Rattle.text.proofs.magnitude.Statement.{statement}
 use Rattle.text.proofs.magnitude.Tie as tie
 

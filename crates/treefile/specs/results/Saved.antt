@@ -6,10 +6,10 @@ use mathlib.Core.List.{List}
 use lib.ListN.{length, getD, take, drop}
 use Rattle.frames.specs.Frame.{frames}
 use Rattle.frames.specs.Check.{Accepted}
-use Rattle.hex.specs.Digit.{isCapitalDigit}
-use Rattle.lines.specs.Line.{lineDigits, lineFeed, lineSize}
-use Rattle.writer.specs.Encoded.{fileOf}
-use Rattle.writer.specs.Write.{writeOutcome}
+use Rattle.file_hex.specs.Digit.{isCapitalDigit}
+use Rattle.file_lines.specs.Line.{lineDigits, lineFeed, lineSize}
+use Rattle.file_writer.specs.Encoded.{fileOf}
+use Rattle.file_writer.specs.Write.{writeOutcome}
 
 -- every entry is a byte, as in any lent memory
 abbrev pub Bytes : List ℕ → Type 0

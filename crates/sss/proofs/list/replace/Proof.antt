@@ -25,17 +25,17 @@ use Rattle.walks.proofs.Walk.{needs, Stays, walkOf, ends-at, ByValue, of-struct
 use Rattle.walks.proofs.Walk.{store-at, entry-out, called, by-test, homes, held, part, sets, none, room, full, frees}
 use Rattle.walks.proofs.Walk.{Parameters, stays-of, by-walk, lent, valued}
 use denote.Struct.Laws as LL
-use Rattle.states.specs.declared.State.{State}
-use Rattle.turns.specs.declared.Update.{Update}
-use Rattle.states.specs.Entry.{blank}
-use Rattle.turns.specs.engine.Update.{entryIn, updated, Within}
+use Rattle.sss_states.specs.declared.State.{State}
+use Rattle.sss_turns.specs.declared.Update.{Update}
+use Rattle.sss_states.specs.Entry.{blank}
+use Rattle.sss_turns.specs.engine.Update.{entryIn, updated, Within}
 use Rattle.sss.proofs.Updates.{Replacing, replacing-start, replacing-on, replacing-end}
-use Rattle.states.proofs.State as S
-use Rattle.states.proofs.State.Laws as S′
-use Rattle.turns.proofs.Content as C
-use Rattle.turns.proofs.Content.Laws as C′
-use Rattle.turns.proofs.Update as U
-use Rattle.turns.proofs.Update.Laws as U′
+use Rattle.sss_states.proofs.State as S
+use Rattle.sss_states.proofs.State.Laws as S′
+use Rattle.sss_turns.proofs.Content as C
+use Rattle.sss_turns.proofs.Content.Laws as C′
+use Rattle.sss_turns.proofs.Update as U
+use Rattle.sss_turns.proofs.Update.Laws as U′
 use Rattle.sss.proofs.list.entry_in as entry-in
 use Rattle.sss.proofs.list.entry_in.Symbol as entry-in-def
 use Rattle.sss.proofs.list.entry_in.Symbol.{name as #entry-in}

@@ -13,10 +13,10 @@ use Rattle.walks.proofs.Walk.{Args, Vals, onEntry, Meets, tripleOf, entered, sa
 use Rattle.walks.proofs.Walk.{ByValue, of-struct, looks, looked, entry-out, held, part, sets, none, full, frees}
 use Rattle.walks.proofs.Walk.{Parameters, stays-of, by-walk, shared, valued}
 use denote.Struct.Laws as LL
-use Rattle.states.specs.declared.State.{State}
-use Rattle.states.specs.Entry.{blank}
-use Rattle.states.proofs.State as S
-use Rattle.states.proofs.State.Laws as S′
+use Rattle.sss_states.specs.declared.State.{State}
+use Rattle.sss_states.specs.Entry.{blank}
+use Rattle.sss_states.proofs.State as S
+use Rattle.sss_states.proofs.State.Laws as S′
 use Rattle.sss.proofs.list.take.Key.{name as #take}
 use Rattle.sss.proofs.list.take as fn
 use Rattle.sss.proofs.list.take.Statement as stated

@@ -1,0 +1,18 @@
+-- `buulset_flat::flat_alphabeta` meets its contract: each variant gives its own answer.
+use borrow.Author.Needs.{needs}
+use Rattle.buulset_flat.specs.Flat.{flatAlphaBeta}
+use Rattle.buulset_flat.proofs.flat_alphabeta.Statement.{statement}
+use Rattle.buulset_flat.proofs.flat_alphabeta.Tie as tie
+
+returns : tie.Need-returns
+unfolding flatAlphaBeta
+returns c = rw (c .before .before .answer .given .1) (c .found .ensures)
+
+returns-2 : tie.Need-returns-2
+unfolding flatAlphaBeta
+returns-2 c = rw (c .before .before .answer2 .given .1) (c .refused .ensures)
+
+pub flat-alphabeta-spec : {M : Type 1} → statement M
+flat-alphabeta-spec =
+    tie.close (tie.spec (λ c. search needs) (λ c κs. search needs) (λ c. search needs) (λ c κs. search needs) returns
+    returns-2)

@@ -1,0 +1,69 @@
+// Hexadecimal digits: the number of a digit, and the digit of a number.
+ghost use mathlib.Core.Path.{_≡_};
+ghost use Prim.Native.Nat.{_<_, _≤_};
+ghost use Rattle.file_hex.specs.Digit.{isLowercase, noDigit, digitOf, capitalOf};
+ghost use Rattle.file_hex.specs.engine.Kinds.{oneFrom, oneWithin};
+
+// How many digits there are, and how many of them are figures.
+pub const BASE: u8 = 16;
+
+const FIGURES: u8 = 10;
+
+// What a byte that is no digit gives, and the offset from a letter's low four bits to its number.
+const NO_DIGIT: u8 = 16;
+
+const LETTER_MORE: u8 = 9;
+
+// How many values half a byte, rounded down, may have.
+const HALVES: u8 = 128;
+
+// The number of a hexadecimal digit in either letter case, 0 to 15; NO_DIGIT for any other byte. It is arithmetic on
+// the byte: a figure's number is its low four bits, a letter's is LETTER_MORE more. No sum goes past a byte, so that
+// the compiler reads many digits in one register.
+pub fn digit(byte: u8) -> u8
+    ensures { λ r. ⌜ r ≡ digitOf byte ⌝ }
+{
+    let figure = one_within(b'0', b'9', byte);
+    let upper = one_within(b'A', b'F', byte);
+    let lower = one_within(b'a', b'f', byte);
+    let letter = upper + lower;
+    let other = 1 - (figure + letter);
+    let low = byte % BASE;
+    low + LETTER_MORE * letter + (NO_DIGIT - low) * other
+}
+
+// 1 if the byte is one of those from the first to the last, else 0.
+fn one_within(first: u8, last: u8, byte: u8) -> u8
+    requires { ⌜ (0 < first) × (first ≤ last) × (last < 255) ⌝ }
+    ensures { λ r. ⌜ r ≡ oneWithin first last byte ⌝ }
+{
+    one_from(first, byte) - one_from(last + 1, byte)
+}
+
+// 1 from the byte `first` on, else 0. The quotient is 1 exactly if half the byte reaches half of `first`; both halves
+// are rounded up if `first` is odd, and down if not.
+fn one_from(first: u8, byte: u8) -> u8
+    requires { ⌜ 0 < first ⌝ }
+    ensures { λ r. ⌜ r ≡ oneFrom first byte ⌝ }
+{
+    let odd = first % 2;
+    (byte / 2 + byte % 2 * odd + (HALVES - (first / 2 + odd))) / HALVES
+}
+
+// The digit of a number, in capital letters.
+pub fn capital(number: u8) -> u8
+    requires { ⌜ number < noDigit ⌝ }
+    ensures { λ r. ⌜ r ≡ capitalOf number ⌝ }
+{
+    if number < FIGURES {
+        return b'0' + number;
+    }
+    b'A' + (number - FIGURES)
+}
+
+// Is the byte a letter from a to f?
+pub fn is_lowercase(byte: u8) -> bool
+    ensures { λ r. ⌜ r ≡ isLowercase byte ⌝ }
+{
+    b'a' <= byte && byte <= b'f'
+}

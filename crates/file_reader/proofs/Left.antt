@@ -1,0 +1,53 @@
+-- The lines that are left at a position: reading one line takes the first of them.
+use Prim.Native.Nat.{ℕ, suc, _+_, _<_}
+use mathlib.Core.Path.{_≡_, sym, ap, _∙_}
+use mathlib.Core.Bool.{true, false}
+use mathlib.Core.Option.{none, some}
+use mathlib.Core.List.{List, _∷_}
+use lib.ListN.{length, getD, take, drop}
+use lib.Seq.{drop-cons, drop-drop}
+use native.Mathlib.Omega.{arith}
+use Rattle.frames.proofs.Stated.{ask-yes, both-passed}
+use Rattle.file_lines.specs.Line.{lineDigits, isLine, isLineAt}
+use Rattle.file_lines.specs.Lines.{linesOf}
+use Rattle.file_lines.proofs.Lines.{line-length}
+use Rattle.file_lines.proofs.Positions.{lineBytes, line-fits}
+use Rattle.file_lines.proofs.Splits.{firstLine, afterLine, lines-first, first-take, after-drop, first-digits}
+use Rattle.file_reader.specs.File.{eachLine}
+use Rattle.file_reader.specs.engine.Decoded.{lineCheck3}
+
+module _ (f : List ℕ) (at : ℕ) where
+  abbrev left : List ℕ
+  left = drop at f
+
+  -- a position that is not at the end has a line
+  lines-left : at < length f → linesOf left ≡ firstLine left ∷ linesOf (afterLine left)
+  lines-left h = rw (drop-cons f at 0 h) (lines-first (getD f at 0) (drop (suc at) f))
+
+  -- it is as SPEC 2.2 says exactly if a line stands at the position
+  first-is : isLine (firstLine left) ≡ isLineAt f at
+  unfolding isLine isLineAt
+  first-is = first-digits lineDigits left ∙ rw (drop-drop lineDigits at f)
+
+  -- where question 3 passes for the lines that are left, a line stands at the position
+  pub line-stands : (n : ℕ) → at < length f → eachLine lineCheck3 n (linesOf left) ≡ none → isLineAt f at ≡ true
+  unfolding eachLine
+  line-stands n h e =
+      sym first-is ∙ ask-yes _ _ _ (both-passed (lineCheck3 n (firstLine left)) _ (rw (lines-left h) at e) .0)
+
+  -- a line that stands at the position is the first that is left
+  pub lines-next : isLineAt f at ≡ true
+      → linesOf left ≡ lineBytes f at ∷ linesOf (drop (at + (lineDigits + 1)) f)
+  lines-next is =
+      let twelve : length (firstLine left) ≡ lineDigits = line-length (firstLine left) (first-is ∙ is) in
+      let first : firstLine left ≡ lineBytes f at =
+      first-take left ∙ ap (λ (n : ℕ). take n left) twelve in
+      let after : afterLine left ≡ drop (at + (lineDigits + 1)) f =
+      after-drop left ∙ rw (twelve, drop-drop (lineDigits + 1) at f) in
+      lines-left (omega (arith, line-fits f at is)) ∙ rw (first, after)
+
+  -- where none stands, the first that is left is not as SPEC 2.2 says
+  pub lines-stop : (n : ℕ) → at < length f → isLineAt f at ≡ false
+      → eachLine lineCheck3 n (linesOf left) ≡ some (record { number = 3; place = n })
+  unfolding eachLine
+  lines-stop n h not = rw (lines-left h, first-is, not)

@@ -1,0 +1,40 @@
+-- `file_writer::write_lines` meets its contract: each turn lays a line at the front of what is left of the file.
+use Prim.Native.Nat.{_*_, _-_}
+use native.Mathlib.Omega.{arith}
+use native.Mathlib.Nat.{add-sub-cancel-left}
+use borrow.Author.Needs.{needs}
+use lib.ListN.{length-take, length-drop}
+use Rattle.frames.specs.Frame.{frameSize}
+use Rattle.file_writer.proofs.Writing.{Writing, writing-none, writing-next, writing-all}
+use Rattle.file_writer.proofs.write_lines.Statement.{statement}
+use Rattle.file_writer.proofs.write_lines.Tie as tie
+
+abbrev Inv-loop : tie.InvT-loop
+Inv-loop table file₀ nodes node₀ file node = Writing table file₀ nodes file node
+
+abbrev μ-loop : tie.MeasureT-loop
+μ-loop table file₀ nodes node₀ file node = nodes - node
+
+write-line-requires : tie.Need-write-line-requires Inv-loop μ-loop
+write-line-requires c κs =
+    (simp (length-take, length-drop) (omega arith), simp (length-take, length-drop) (omega arith))
+
+loop-again : tie.Need-loop-again Inv-loop μ-loop
+loop-again c =
+    let l = c .before .before .before .before .before .before in
+    let a = l .before .before .before in
+    writing-next _ _ _ (a .pre .0 .1) (a .pre .1) _ _ (l .loop .inv) (omega arith) _ _ _ (omega arith)
+    (rw (add-sub-cancel-left (frameSize * l .loop .node) frameSize)) (c .before .before .write-line .ensures)
+
+returns : tie.Need-returns Inv-loop μ-loop
+returns c =
+    let l = c .before in
+    let a = l .before .before .before in
+    writing-all _ _ _ (a .pre .0 .1) (a .pre .1) _ _ (l .loop .inv) (omega arith)
+
+pub write-lines-spec : {M : Type 1} → statement M
+write-lines-spec =
+    tie.close (tie.spec Inv-loop μ-loop (λ c. writing-none _ _ _) (λ c. search needs) (λ c. search needs)
+    (λ c. search needs) (λ c. search needs) (λ c. search needs) (λ c. search needs) (λ c. search needs)
+    (λ c. search needs) (λ c. search needs) write-line-requires (λ c. search needs) (λ c. search needs) loop-again
+    (λ c. search needs) returns)

@@ -1,0 +1,163 @@
+// The states of SSS*, and their front: for each node that is, or has below it, a listed state, the greatest merit in
+// its subtree and the child to go down to, packed in one u32.
+use frames::child_count;
+use frames::first_child;
+use gametree::Side;
+use positions::parent_at;
+use positions::side_at;
+ghost use mathlib.Core.Path.{_≡_};
+ghost use Prim.Native.Nat.{_+_, _-_, _≤_, _<_};
+ghost use lib.ListN.{length};
+ghost use Rattle.gametree.specs.Tree.{greatest};
+ghost use Rattle.frames.specs.Frame.{maxNodes, frames};
+ghost use Rattle.sss_states.specs.engine.Kept.{bestAt, linkAt, packedEntry as packedOf, leftmostBest, chosenOf};
+ghost use Rattle.sss_states.specs.engine.Kept.{needsRefresh};
+ghost use Rattle.sss_states.specs.engine.Kept.{refreshed, descended, changed, Puttable, Fits};
+
+// LIVE and SOLVED (SPEC 10.1).
+pub enum Status {
+    Live,
+    Solved,
+}
+
+// An entry of the lent list (SPEC 10.6): a state, with its merit as a value.
+pub struct State {
+    pub node: u16,
+    pub status: Status,
+    pub merit: i32,
+}
+
+// What replaces a state: `count` nodes from `first` on get a state with this status and score; nothing changes but at
+// and below `node`.
+pub struct Change {
+    pub node: usize,
+    pub first: usize,
+    pub count: usize,
+    pub status: Status,
+    pub score: u32,
+}
+
+// How many links an entry tells apart: as many as a tree may have nodes.
+const LINKS: u32 = 4096;
+
+// The new states' entries, and the node's, which goes down to the first of them.
+pub fn put(front: &mut [u32], change: Change, merit: u32)
+    requires { ⌜ Puttable merit change (now front) ⌝ }
+    ensures { λ _. ⌜ now (front .exit) ≡ changed merit change (now (front .entry)) ⌝ }
+{
+    let node = change.node;
+    let first = change.first;
+    let end = first + change.count;
+    let fresh = packed(change.score, 0);
+    front[node] = packed(merit, first);
+    let mut at = first;
+    while at < end {
+        front[at] = fresh;
+        at += 1;
+    }
+}
+
+// Renews the greatest merits above a node whose merit fell, up to the first node whose greatest merit stays, or the
+// root. That node is the result.
+pub fn refresh_ancestors(
+    table: &[u8],
+    positions: &[u32],
+    front: &mut [u32],
+    node: usize,
+    merit: u32,
+) -> usize
+    requires { ⌜ Fits (now table) (now positions) (now front) ⌝ }
+    requires { ⌜ node < frames (now table) ⌝ }
+    ensures { λ r. ⌜ r ≡ refreshed node (now (table .entry)) merit (now (front .entry)) node .top ⌝ }
+    ensures { λ _. ⌜ now (front .exit) ≡ refreshed node (now (table .entry)) merit (now (front .entry)) node .front ⌝ }
+{
+    let mut at = node;
+    while needs_refresh(front, at, merit) {
+        at = parent_at(positions, at);
+        let child = chosen(table, positions, front, at);
+        front[at] = packed(best_at(front, child), child);
+    }
+    at
+}
+
+// The state to take, from a node down by the links.
+pub fn descend(table: &[u8], positions: &[u32], front: &[u32], node: usize) -> usize
+    requires { ⌜ Fits (now table) (now positions) (now front) ⌝ }
+    requires { ⌜ node < frames (now table) ⌝ }
+    ensures { λ r. ⌜ r ≡ descended (frames (now (table .entry)) - node) (now (front .entry)) node ⌝ }
+{
+    let mut at = node;
+    let mut link = link_at(front, at);
+    while link != 0 {
+        at = link;
+        link = link_at(front, at);
+    }
+    at
+}
+
+// The greatest merit at and below a node.
+fn best_at(front: &[u32], node: usize) -> u32
+    requires { ⌜ node < length (now front) ⌝ }
+    ensures { λ r. ⌜ r ≡ bestAt (now (front .entry)) node ⌝ }
+{
+    front[node] / LINKS
+}
+
+// The child that an expanded node goes down to, from the merits of its children.
+fn chosen(table: &[u8], positions: &[u32], front: &[u32], node: usize) -> usize
+    requires { ⌜ Fits (now table) (now positions) (now front) ⌝ }
+    requires { ⌜ node < frames (now table) ⌝ }
+    ensures { λ r. ⌜ r ≡ chosenOf (now (table .entry)) (now (front .entry)) node ⌝ }
+{
+    let count = child_count(table, node);
+    if count == 0 {
+        return 0;
+    }
+    match side_at(positions, node) {
+        Side::Max => leftmost_best(front, first_child(table, node), count),
+        Side::Min => link_at(front, node),
+    }
+}
+
+// The leftmost of `count` nodes of greatest merit.
+fn leftmost_best(front: &[u32], first: usize, count: usize) -> usize
+    requires { ⌜ (0 < count) × (first + count ≤ length (now front)) × (length (now front) ≤ maxNodes) ⌝ }
+    ensures { λ r. ⌜ r ≡ leftmostBest (now (front .entry)) first (count - 1) ⌝ }
+{
+    let mut at = first + (count - 1);
+    let mut best = at;
+    while first < at {
+        at -= 1;
+        if best_at(front, best) <= best_at(front, at) {
+            best = at;
+        }
+    }
+    best
+}
+
+// Is a node other than the root below this merit?
+fn needs_refresh(front: &[u32], node: usize, merit: u32) -> bool
+    requires { ⌜ node < length (now front) ⌝ }
+    ensures { λ r. ⌜ r ≡ needsRefresh (now (front .entry)) merit node ⌝ }
+{
+    if node == 0 {
+        false
+    } else {
+        best_at(front, node) < merit
+    }
+}
+
+// The child to go down to; 0 where the node is on the list.
+fn link_at(front: &[u32], node: usize) -> usize
+    requires { ⌜ node < length (now front) ⌝ }
+    ensures { λ r. ⌜ r ≡ linkAt (now (front .entry)) node ⌝ }
+{
+    (front[node] % LINKS) as usize
+}
+
+fn packed(best: u32, link: usize) -> u32
+    requires { ⌜ (best ≤ greatest) × (link < maxNodes) ⌝ }
+    ensures { λ r. ⌜ r ≡ packedOf best link ⌝ }
+{
+    best * LINKS + link as u32
+}
