@@ -21,14 +21,14 @@ use Rattle.frames.specs.Value.{valueOf}
 abbrev pub searchRejection : List ℕ → List ℕ → Option Rejection
 searchRejection t lengths = rejection t andThen check10 (frames t) lengths
 
--- the marks and the flags that a search of the table t writes over its two buffers, where it evaluates these leaves
+-- the marks and the flags that a search of the table t writes over its two buffers if it evaluates these leaves
 abbrev pub marksOf : (leaves t marks : List ℕ) → List ℕ
 marksOf leaves t marks = written (mark (among leaves)) (frames t) marks
 
 abbrev pub flagsOf : (leaves t flags : List ℕ) → List ℕ
 flagsOf leaves t flags = written (flag (valuation t) (among leaves) (tree t)) (frames t) flags
 
--- what a search of the table t finds that evaluates these leaves: the minimax value, the first root move that reaches
+-- what a search of the table t finds if it evaluates these leaves: the minimax value, the first root move that reaches
 -- it, and the number of evaluated leaves
 abbrev pub findings : (leaves t : List ℕ) → Findings
 findings leaves t =

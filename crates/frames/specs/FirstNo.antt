@@ -1,4 +1,4 @@
--- What it is for a "no" to be the first, where a check is put to one node after the other.
+-- When a "no" is the first, if a check is put to one node after the other.
 use Prim.Native.Nat.{ℕ, _+_, _≤_, _<_}
 use mathlib.Core.Path.{_≡_}
 use mathlib.Core.Bool.{Bool, true, false}
@@ -11,7 +11,7 @@ use Rattle.frames.specs.Position.{depthOf}
 use Rattle.frames.specs.Rejection.{_andThen_}
 use Rattle.frames.specs.Check.{check1, check2, check3, nodesRejection, check8}
 
--- the rejection r is the check q's at some node of those from i on, n of them, and the check has none before it
+-- the rejection r is that of the check q at one of the n nodes from i on, and no node before it gets one
 pub record FirstAt (q : ℕ → Option Rejection) (i n : ℕ) (r : Rejection) : Type 0 where
   pub node : ℕ
   pub from : i ≤ node
@@ -19,7 +19,7 @@ pub record FirstAt (q : ℕ → Option Rejection) (i n : ℕ) (r : Rejection) : 
   pub no : q node ≡ some r
   pub before : (k : ℕ) → i ≤ k → k < node → q k ≡ none
 
--- question q, which asks f of each of n nodes, got its "no" at the lowest node that f does not hold of
+-- question q, which asks f of each of n nodes, got its "no" at the lowest node of which f does not hold
 pub record LowestNo (f : ℕ → Bool) (q n : ℕ) (r : Rejection) : Type 0 where
   pub number : r .number ≡ q
   pub within : r .place < n

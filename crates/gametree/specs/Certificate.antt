@@ -33,7 +33,8 @@ OneOf g (last t) = g (number t) ≡ true
 OneOf g (t then ts) = ((g (number t) ≡ true) × NoneOf g ts) ⊎ ((g (number t) ≡ false) × OneOf g ts)
 
 -- the rule for the children of a node of side q in a solution tree of side p; the Bool says whether the node is in it.
--- Of a node in it each child is where p moves and exactly one where the other side moves, of a node outside it none.
+-- If the node is in it, so is every child where p moves, and exactly one where the other side moves; if it is outside,
+-- no child is.
 abbrev pub Rule : (p q : Side) → Bool → (ℕ → Bool) → Children → Type 0
 Rule p q true g ks = cond (same p q) (Each g ks) (OneOf g ks)
 Rule p q false g ks = NoneOf g ks
@@ -53,7 +54,7 @@ abbrev mutual
 abbrev pub SolutionTree : Side → (ℕ → Bool) → Tree → Type 0
 SolutionTree p g t = (g (number t) ≡ true) × Rules p g t
 
--- the worst score for a side, which every other is better than
+-- the worst score for a side: every other is better
 abbrev pub worst : Side → ℕ
 worst Max = least
 worst Min = greatest

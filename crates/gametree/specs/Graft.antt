@@ -1,4 +1,4 @@
--- Another score at a leaf, a tree in the place of a leaf (02: a graft), and other numbers for the nodes of a tree.
+-- Another score at a leaf, a tree in place of a leaf (02: a graft), and other numbers for the nodes of a tree.
 use Prim.Native.Nat.{ℕ}
 use mathlib.Core.Bool.{cond}
 use lib.Dec.{eqb}
@@ -8,7 +8,7 @@ use Rattle.gametree.specs.Tree.{Tree, leaf, inner, Children, last, _then
 abbrev pub substituted : (ℕ → ℕ) → (k x : ℕ) → ℕ → ℕ
 substituted ν k x n = cond (eqb n k) x (ν n)
 
--- the tree with the tree v in the place of the leaf k
+-- the tree with the tree v in place of the leaf k
 abbrev mutual
   pub grafted : (k : ℕ) (v : Tree) → Tree → Tree
   grafted k v (leaf n) = cond (eqb n k) v (leaf n)

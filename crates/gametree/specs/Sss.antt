@@ -24,7 +24,7 @@ live n m = record { node = n; status = LIVE; merit = m }
 abbrev pub solved : ℕ → ℕ → State
 solved n m = record { node = n; status = SOLVED; merit = m }
 
--- the state taken from the list, with what stands before and behind it
+-- the state taken from the list, with the states before and after it
 pub record Taken : Type 0 where
   pub left : List State
   pub state : State
@@ -34,7 +34,7 @@ pub record Taken : Type 0 where
 abbrev pub beats : Layout → State → State → Bool
 beats layout s x = ltb (x .merit) (s .merit) || (eqb (x .merit) (s .merit) && layout .leftOf (s .node) (x .node))
 
--- takes s, with the states ss behind it; or what is taken from ss, with s further left
+-- takes s, with the states ss after it; or what is taken from ss, with s before it
 abbrev pub choose : Bool → State → List State → Taken → Taken
 choose true s ss k = record { left = []; state = s; right = ss }
 choose false s ss k = record { left = s ∷ k .left; state = k .state; right = k .right }
@@ -57,7 +57,7 @@ pub data Step : Type 0 where
   quiet : List State → Step
   evaluating : (leaf : ℕ) → List State → Step
 
--- new states in the place of the one taken
+-- new states in place of the one taken
 abbrev pub put : Taken → List State → List State
 put k new = k .left ++ (new ++ k .right)
 

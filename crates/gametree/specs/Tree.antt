@@ -136,7 +136,7 @@ abbrev mutual
   DistinctChildren (last t) = Distinct t
   DistinctChildren (t then ts) = Distinct t × DistinctChildren ts × ((p : ℕ) → In p t → InChildren p ts → ⊥)
 
--- a tree as the theorems ask for it: no number stands twice, and each leaf's score is a real one
+-- a tree as the theorems require it: no number occurs twice, and each leaf's score is a real one
 pub record Proper (ν : ℕ → ℕ) (t : Tree) : Type 0 where
   pub scored : Scored ν t
   pub distinct : Distinct t

@@ -1,4 +1,4 @@
-// Grafting: the tree of a second table in the place of a leaf of a first.
+// Grafting: the tree of a second table in place of a leaf of a first.
 use frames::Checked;
 use frames::FRAME_SIZE;
 use frames::MAX_NODES;
@@ -23,7 +23,7 @@ ghost use Rattle.graft.specs.Table.{firstNumber, renumbered, graftTable}
 ghost use Rattle.graft.specs.Outcome.{graftOutcome};
 ghost use Rattle.graft.specs.engine.Joined.{Joined};
 
-// Puts the second tree in the place of the first's named leaf: the number of nodes of the result, whose table then
+// Puts the second tree in place of the first's named leaf: the number of nodes of the result, whose table then
 // stands at the buffer's front, or the first rejection, and then the buffer is as it was.
 pub fn graft(first: &[u8], node: usize, second: &[u8], result: &mut [u8]) -> Checked
     ensures { λ r. ⌜ r leaving now (result .exit)

@@ -33,7 +33,7 @@ pub fn write(file: &[u8]) -> Text
     Text { bytes, length }
 }
 
-// The report of a file at the beginning of the text; the position behind it.
+// The report of a file at the beginning of the text; the position after it.
 fn put_report(file: &[u8], text: &mut [u8]) -> usize
     requires { ⌜ TextRoom 0 (report (now file)) (now text) ⌝ }
     ensures { λ r. ⌜ Put 0 (report (now (file .entry))) (now (text .entry)) r (now (text .exit)) ⌝ }
@@ -48,7 +48,7 @@ fn put_report(file: &[u8], text: &mut [u8]) -> usize
     }
 }
 
-// The heading and the line of each method, at the beginning of the text; the position behind them.
+// The heading and the line of each method, at the beginning of the text; the position after them.
 fn put_analysis(table: &[u8], text: &mut [u8]) -> usize
     requires { ⌜ Accepted (now table) × TextRoom 0 (analysis (now table)) (now text) ⌝ }
     ensures { λ r. ⌜ Put 0 (analysis (now (table .entry))) (now (text .entry)) r (now (text .exit)) ⌝ }
@@ -61,7 +61,7 @@ fn put_analysis(table: &[u8], text: &mut [u8]) -> usize
     put_sss(table, &mut evaluated, &mut order, text, third)
 }
 
-// The line of alpha-beta; the position behind it.
+// The line of alpha-beta; the position after it.
 fn put_ab(
     table: &[u8],
     evaluated: &mut [u8],
@@ -116,7 +116,7 @@ fn put_sss(
     put_line(text, at, b"sss", findings)
 }
 
-// A method's line; the position behind it.
+// A method's line; the position after it.
 fn put_line(text: &mut [u8], at: usize, name: &[u8], findings: Findings) -> usize
     requires { ⌜ TextRoom at (methodLine (now name) findings) (now text) ⌝ }
     ensures { λ r. ⌜ Put at (methodLine (now (name .entry)) findings) (now (text .entry)) r (now (text .exit)) ⌝ }

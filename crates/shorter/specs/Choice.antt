@@ -30,8 +30,8 @@ flaggedLeaves t flags = flaggedBefore t flags (frames t)
 abbrev pub fewerSecond : (t first second : List ℕ) → Bool
 fewerSecond t first second = ltb (flaggedLeaves t second) (flaggedLeaves t first)
 
--- the choice by what each certificate is rejected for: an accepted one, of two the one with fewer flagged leaves, the
--- first on a tie; if neither is accepted, the first one's rejection
+-- the choice by what each certificate is rejected for: the accepted one; if both are, the one with fewer flagged
+-- leaves, the first on a tie; if neither is, the first one's rejection
 abbrev pub choiceBy : Option Rejection → Option Rejection → Bool → Choice
 choiceBy none none b = cond b Second First
 choiceBy none (some s) b = First

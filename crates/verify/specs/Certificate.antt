@@ -1,4 +1,4 @@
--- What it is for lent flags to be a certificate, said of the table's tree.
+-- When lent flags are a certificate, in terms of the table's tree.
 use Prim.Native.Nat.{ℕ, _≤_, _<_}
 use mathlib.Core.List.{List}
 use lib.ListN.{length, getD}

@@ -129,7 +129,7 @@ fn check_flags(table: &[u8], flags: &[u8]) -> Checked
 }
 
 // Questions 12 and 13, put to one node after the other: do the side's flags form a solution tree? Once every node has
-// been reached as a child, those that are left are leaves, and nothing is asked about them.
+// been reached as a child, the nodes not visited yet are leaves, and nothing is asked about them.
 fn check_rules(table: &[u8], flags: &[u8], positions: &[u32], side: Side, number: u8) -> Checked
     requires { ⌜ (WellFormed (now table)) × (frames (now table) ≤ length (now flags))
         × (Positioned (now table) (now positions)) ⌝ }
@@ -260,7 +260,7 @@ fn same(a: Side, b: Side) -> bool
     }
 }
 
-// The score that each other score is better than, for a side.
+// The worst score for a side: every other is better.
 fn worst(side: Side) -> u32
     ensures { λ r. ⌜ r ≡ worstOf side ⌝ }
 {

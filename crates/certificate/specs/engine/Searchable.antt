@@ -1,4 +1,4 @@
--- What an engine asks that searches the tree of a node from the node down.
+-- What an engine requires to search a node's tree from the node down.
 use Prim.Native.Nat.{ℕ, _≤_, _<_}
 use mathlib.Core.Path.{_≡_}
 use mathlib.Core.Bool.{false}
@@ -16,7 +16,8 @@ use Rattle.certificate_bounds.specs.Marks.{marked}
 abbrev pub Unmarked : List ℕ → Tree → Type 0
 Unmarked e T = (k : ℕ) → In k T → marked e k ≡ false
 
--- a well-formed table, a node of it with its place, an entry for the mark of each node, and no mark in the node's tree
+-- a well-formed table, a node of it with its position, an entry for the mark of each node, and no mark in the node's
+-- tree
 pub record Searchable (t e : List ℕ) (i : ℕ) (p : Position) : Type 0 where
   pub formed : WellFormed t
   pub inside : i < frames t

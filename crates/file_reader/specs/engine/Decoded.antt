@@ -25,7 +25,7 @@ lineCheck16 i l = ask (not (hasLowercase l)) 16 i
 unfoldable pub linesRejection : List ℕ → Option Rejection
 linesRejection f = check1 f andThen fileCheck2 f andThen fileCheck3 f
 
--- the answer r to questions about a file, of which x is the first "no"; where there is none, the table begins with the
+-- the answer r to questions about a file, where x is the first "no"; if there is none, the table begins with the
 -- bytes that the file's lines stand for
 pub record Decoded (f : List ℕ) (x : Option Rejection) (table : List ℕ) (r : Checked) : Type 0 where
   pub answered : r ≡ answer (frames (decoded f)) x

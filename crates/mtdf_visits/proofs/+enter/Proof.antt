@@ -253,10 +253,10 @@ module _ (t : ℕ) where
 
 pub +enter-spec : {M : Type 1} → statement M
 +enter-spec = close μ λ t. lts.spec (calls t) (at t) enter′.Post Inv μ-loop (λ c κs. search needs)
-    (λ c κs. search needs) (λ c. search needs) (λ c. turn-first (family c) (entry c .pre .1 .0) (some c))
-    (child-position-requires t) (λ c κs. ready (c .before .before .before .before)) (λ c. search needs)
+    (λ c κs. search needs) (λ c. search needs) (λ c. turn-first (family t c) (entry t c .pre .1 .0) (some t c))
+    (child-position-requires t) (λ c κs. ready t (c .before .before .before .before)) (λ c. search needs)
     (λ c. search needs) (enter-requires t) (λ c. search needs) (λ c κs. search needs)
-    (λ c. omega (arith, head (seen (child (c .before))) .loop .inv .to)) (loop-again t) (best-requires t)
+    (λ c. omega (arith, head t (seen t (child t (c .before))) .loop .inv .to)) (loop-again t) (best-requires t)
     (best-requires-2 t) (mul-lows t) (slice-write-lows t) (mul-highs t) (slice-write-highs t)
-    (λ c. long (ended c) .evaluated) (λ c. long (ended c) .order) (λ c. simp length-set (long (ended c) .lows))
-    (λ c. simp length-set (long (ended c) .highs)) (returns t)
+    (λ c. long t (ended t c) .evaluated) (λ c. long t (ended t c) .order)
+    (λ c. simp length-set (long t (ended t c) .lows)) (λ c. simp length-set (long t (ended t c) .highs)) (returns t)
