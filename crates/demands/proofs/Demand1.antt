@@ -2,27 +2,32 @@
 -- Contracts.antt says it of each entry.
 use Prim.Native.Nat.{ℕ, _≤_, _<_}
 use mathlib.Core.Path.{_≡_, sym, ap, _∙_}
-use mathlib.Core.Bool.{Bool}
+use mathlib.Core.Bool.{Bool, not}
 use mathlib.Core.Option.{Option, none, some}
 use mathlib.Core.List.{List, []}
+use lib.Dec.{leb}
 use lib.ListN.{length, getD}
 use Rattle.lists.proofs.Choice.{clash}
+use Rattle.gametree.specs.declared.Side.the-variants.{Max, Min}
+use Rattle.gametree.specs.Certificate.{inBoth}
 use Rattle.frames.specs.declared.Rejection.{Rejection}
 use Rattle.frames.specs.declared.Checked.the-variants.{Rejected as RejectedTable}
 use Rattle.frames.specs.Frame.{maxNodes, frames}
-use Rattle.frames.specs.Rejection.{ask, eachNode}
-use Rattle.frames.specs.Check.{checkNode, nodesRejection, rejection, checked}
-use Rattle.frames.specs.FirstNo.{LowestNo}
+use Rattle.frames.specs.Rejection.{ask}
+use Rattle.frames.specs.Check.{checkNode, nodesRejection, depthsRejection, rejection, checked}
+use Rattle.frames.specs.FirstNo.{LowestNo, LowestDeep}
 use Rattle.frames.proofs.Acceptance.{rejected-first}
-use Rattle.frames.proofs.FirstNo.{lowest-no, nodes-first}
+use Rattle.frames.proofs.FirstNo.{lowest-no, nodes-first, depth-first}
+use Rattle.file_lines.specs.Line.{isLine, hasLowercase}
 use Rattle.file_lines.specs.Lines.{linesOf}
-use Rattle.file_reader.specs.File.{eachLine}
+use Rattle.file_reader.specs.File.{eachLine, fileCheck3, fileCheck16}
 use Rattle.file_reader.proofs.FirstLine.{line-first}
 use Rattle.certificate.specs.Search.{buffers}
 use Rattle.sss.proofs as sss
 use Rattle.sss.proofs.OwnList.{own-list as same-outcome}
 use Rattle.verify.specs.declared.Verdict.the-variants.{Rejected as RejectedFlags}
-use Rattle.verify.specs.Check.{certificateRejection, judged, verdict}
+use Rattle.verify.specs.Flags.{ruleHolds}
+use Rattle.verify.specs.Check.{check11, checkTree, certificateRejection, judged, verdict}
 use Rattle.demands.specs.Runs.{RunBoth}
 use Rattle.demands.proofs.Contracts as contracts
 
@@ -67,20 +72,36 @@ first-certificate t flags r e = by-questions (certificateRejection t flags) e
     by-questions none e = clash (cc)
     by-questions (some x) e = cc
 
--- questions in order: `_andThen_` in frames/specs/Rejection.antt; to line after line or node after node the first "no"
--- is that of the lowest: 3 and 16, of a file
-pub lowest-line : (g : List ℕ → Bool) (q : ℕ) (f : List ℕ) (r : Rejection)
-    → eachLine (λ i l. ask (g l) q i) 0 (linesOf f) ≡ some r
-    → LowestNo (λ k. g (getD (linesOf f) k [])) q (length (linesOf f)) r
-lowest-line g q f r e =
-    let p = line-first q g f r e in record { number = p .0; within = p .1; no = p .2; before = p .3 }
+-- Questions are put in order by `_andThen_` (frames/specs/Rejection.antt). Where one is put to each line or node in
+-- turn, its first "no" is that of the lowest. Of the lines of a file: 3 and 16
+module _ (f : List ℕ) (r : Rejection) where
+  lowest : (g : List ℕ → Bool) (q : ℕ) → eachLine (λ i l. ask (g l) q i) 0 (linesOf f) ≡ some r
+      → LowestNo (λ k. g (getD (linesOf f) k [])) q (length (linesOf f)) r
+  lowest g q e = let p = line-first q g f r e in record { number = p .0; within = p .1; no = p .2; before = p .3 }
 
--- 4 to 7
-pub lowest-node : (t : List ℕ) (r : Rejection) → nodesRejection t ≡ some r
-    → (r .place < frames t) × (checkNode t (r .place) ≡ some r) × ((k : ℕ) → k < r .place → checkNode t k ≡ none)
-lowest-node t r e = nodes-first t r e
+  pub lowest-line : fileCheck3 f ≡ some r → LowestNo (λ k. isLine (getD (linesOf f) k [])) 3 (length (linesOf f)) r
+  lowest-line = lowest isLine 3
 
--- 9, 11, 12 and 13
-pub lowest-asked : (g : ℕ → Bool) (q n : ℕ) (r : Rejection) → eachNode (λ i. ask (g i) q i) 0 n ≡ some r
-    → LowestNo g q n r
-lowest-asked = lowest-no
+  pub lowest-small : fileCheck16 f ≡ some r
+      → LowestNo (λ k. not (hasLowercase (getD (linesOf f) k []))) 16 (length (linesOf f)) r
+  lowest-small = lowest (λ l. not (hasLowercase l)) 16
+
+-- of the nodes of a table: 4 to 7, and 9
+module _ (t : List ℕ) (r : Rejection) where
+  pub lowest-node : nodesRejection t ≡ some r
+      → (r .place < frames t) × (checkNode t (r .place) ≡ some r) × ((k : ℕ) → k < r .place → checkNode t k ≡ none)
+  lowest-node = nodes-first t r
+
+  pub lowest-deep : depthsRejection t ≡ some r → LowestDeep t r
+  lowest-deep = depth-first t r
+
+-- and of the flags of a certificate: 11, 12 and 13
+module _ (t flags : List ℕ) (r : Rejection) where
+  pub lowest-flag : check11 t flags ≡ some r → LowestNo (λ i. leb (getD flags i 0) inBoth) 11 (frames t) r
+  lowest-flag = lowest-no _ 11 (frames t) r
+
+  pub lowest-max : checkTree 12 Max t flags ≡ some r → LowestNo (ruleHolds Max t flags) 12 (frames t) r
+  lowest-max = lowest-no _ 12 (frames t) r
+
+  pub lowest-min : checkTree 13 Min t flags ≡ some r → LowestNo (ruleHolds Min t flags) 13 (frames t) r
+  lowest-min = lowest-no _ 13 (frames t) r

@@ -23,6 +23,7 @@ use Rattle.frames.proofs.Positions.{position-root}
 use Rattle.frames.proofs.Acceptance.{accepted-formed}
 use Rattle.graft_questions.specs.Questions.{graftSize}
 use Rattle.graft.specs.Sources.{sources}
+use Rattle.graft.specs.Table.{graftTable}
 use Rattle.graft_questions.specs.Graftable.{MaxLeaf, Graftable}
 use Rattle.graft.specs.Outcome.{graftOutcome}
 use Rattle.graft.specs.results.Grafted.{graftTree, handed}
@@ -108,6 +109,14 @@ module _ (t : List ℕ) (k : ℕ) (u b : List ℕ) where
           | inr f ↦ omega (arith, f .2, g .shallow (f .0) (f .1))
         ]),
   )
+
+  -- so a result that would not be an accepted table gets 18, and where it would be one, 18 passes
+  pub unaccepted-result : Accepted t → Accepted u → MaxLeaf t k → (Accepted (graftTable t k u) → ⊥)
+      → graftOutcome t k u b .answer ≡ Rejected (record { number = 18; place = 0 })
+  unaccepted-result = graft-too-large t k u b
+
+  pub accepted-result : Accepted t → Accepted u → MaxLeaf t k → Accepted (graftTable t k u) → Graftable t k u
+  accepted-result = accepted-graftable t k u
 
   -- "before 10, which wants six bytes for each node of the result"
   pub short-result : Graftable t k u → length b < frameSize * graftSize t u
