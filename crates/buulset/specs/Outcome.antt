@@ -3,7 +3,7 @@ use Rattle.frames.specs.Rejection.{Outcome, _leaving_}
 use Rattle.certificate.specs.Search.{SearchOutcome}
 use Rattle.buulset_answers.specs.declared.Answer.{Answer}
 
--- an outcome with its answer flat, and what is left as it is
+-- an outcome with its answer made flat; what the call leaves stays the same
 abbrev pub flatBy : {A B : Type 0} → (A → Answer) → Outcome A B → Outcome Answer B
 flatBy f o = f (o .answer) leaving o .left
 

@@ -75,7 +75,7 @@ refused r =
       steps = 0;
     }
 
--- one of two certificates, by its number, with that of its flags; or neither
+-- which of two certificates, 1 or 2, and how many flags it has; or neither
 abbrev pub chosen : (which count : ℕ) → Choice
 chosen k n = record { refused = 0; chosen = k; place = 0; count = n }
 

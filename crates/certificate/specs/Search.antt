@@ -50,7 +50,7 @@ buffers m f = record { marks = m; flags = f }
 abbrev pub buffersOf : (leaves t : List ℕ) → Buffers → Buffers
 buffersOf leaves t b = buffers (marksOf leaves t (b .marks)) (flagsOf leaves t (b .flags))
 
--- and a lent list: their numbers in the order of their evaluation, then what it held before
+-- a lent list after it: the numbers of these leaves in the order of their evaluation, then what it held past them
 abbrev pub listed : (leaves order : List ℕ) → List ℕ
 listed leaves order = leaves ++ drop (length leaves) order
 

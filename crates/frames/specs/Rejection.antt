@@ -1,5 +1,5 @@
--- Rejections (01: the first "no", with its number and a place), checks put one after the other, and what a call gives
--- and leaves that puts questions first.
+-- Rejections (01: the first "no", with its number and a place), checks put one after the other, and what a call that
+-- puts questions first gives and leaves.
 use Prim.Native.Nat.{ℕ, zero, suc, _+_}
 use mathlib.Core.Bool.{Bool, true, false}
 use mathlib.Core.Option.{Option, none, some}

@@ -33,8 +33,8 @@ OneOf g (last t) = g (number t) ≡ true
 OneOf g (t then ts) = ((g (number t) ≡ true) × NoneOf g ts) ⊎ ((g (number t) ≡ false) × OneOf g ts)
 
 -- the rule for the children of a node of side q in a solution tree of side p; the Bool says whether the node is in it.
--- If the node is in it, so is every child where p moves, and exactly one where the other side moves; if it is outside,
--- no child is.
+-- If the node is in it, all its children are if p moves at the node, and exactly one if the other side does; if it is
+-- outside, no child is.
 abbrev pub Rule : (p q : Side) → Bool → (ℕ → Bool) → Children → Type 0
 Rule p q true g ks = cond (same p q) (Each g ks) (OneOf g ks)
 Rule p q false g ks = NoneOf g ks
@@ -90,8 +90,8 @@ abbrev pub inside : Side → ℕ → Bool
 inside Max f = eqb f inMax || eqb f inBoth
 inside Min f = eqb f inMin || eqb f inBoth
 
--- the nodes of side p's tree read off the valuation μ: below a node in it, where p moves each child, where the other
--- side moves the first child with the node's value
+-- the nodes of side p's tree read off the valuation μ: the root, and of each node in it all children if p moves there,
+-- else the first child with the node's value
 abbrev mutual
   pub chosen : Side → (ℕ → ℕ) → Tree → List ℕ
   chosen p μ (leaf n) = n ∷ []

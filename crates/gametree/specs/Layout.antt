@@ -60,7 +60,7 @@ abbrev pub before : List ℕ → ℕ → ℕ → Bool
 before [] p q = false
 before (x ∷ xs) p q = cond (eqb p x) (among xs q) (before xs p q)
 
--- is p left of q: it comes before q, and is not above it
+-- is p left of q: it comes before q among the nodes, and is not above it
 abbrev pub leftIn : Tree → ℕ → ℕ → Bool
 leftIn t p q = before (nodes t) p q && not (aboveIn t p q)
 

@@ -1,4 +1,4 @@
--- Definitions for grafting: the tree of a second table in the place of a leaf of a first.
+-- Definitions for grafting: the tree of a second table in place of a leaf of a first.
 pub mod Sources
 pub mod Table
 pub mod Outcome

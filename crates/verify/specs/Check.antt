@@ -17,11 +17,11 @@ use Rattle.verify.specs.declared.Verdict.the-variants.{Value, Rejected}
 use Rattle.verify.specs.Flags.{ruleHolds}
 use Rattle.verify.specs.Value.{treeValue}
 
--- 11: is every flag 0 to 3? The place of a "no" is the lowest such node.
+-- 11: is every flag 0 to 3? The place of a "no" is the lowest node whose flag is not.
 abbrev pub check11 : List ℕ → List ℕ → Option Rejection
 check11 t flags = eachNode (λ i. ask (leb (getD flags i 0) inBoth) 11 i) 0 (frames t)
 
--- 12 of Max and 13 of Min: do side p's flags form a solution tree, as question q? The place of a "no" is the lowest
+-- 12 for Max, 13 for Min (the number is q): do side p's flags form a solution tree? The place of a "no" is the lowest
 -- node whose rule breaks.
 abbrev pub checkTree : ℕ → Side → List ℕ → List ℕ → Option Rejection
 checkTree q p t flags = eachNode (λ i. ask (ruleHolds p t flags i) q i) 0 (frames t)

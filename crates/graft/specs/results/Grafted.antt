@@ -9,7 +9,7 @@ use Rattle.frames.specs.Position.{depthOf}
 use Rattle.frames.specs.Tree.{tree, valuation, leafScore}
 use Rattle.graft.specs.Outcome.{graftOutcome}
 
--- the first table's tree with the second's in the place of the leaf k, numbered by sources
+-- the first table's tree with the second's in place of the leaf k, numbered by sources
 abbrev pub graftTree : (t : List ℕ) (k : ℕ) (u : List ℕ) → Tree
 graftTree t k u = grafted k (relabelled (λ v. frames t + v) (tree u)) (tree t)
 
