@@ -29,13 +29,12 @@ pub const LEAST: u32 = 0;
 
 pub const GREATEST: u32 = 64002;
 
-// The score of the value 0, and how many values two bytes hold.
-pub const ZERO_SCORE: usize = 32001;
+// The score of the value 0, also as a signed number; and how many values two bytes hold.
+const ZERO_SCORE: usize = 32001;
+
+pub const SIGNED_ZERO_SCORE: i32 = ZERO_SCORE as i32;
 
 pub const TWO_BYTES: usize = 65536;
-
-// The score of the value 0, for signed differences.
-const ZERO: i32 = ZERO_SCORE as i32;
 
 // From this value up a leaf is a win, from its negative down a loss; and the scores of both.
 const WIN: u32 = 31000;
@@ -242,7 +241,7 @@ pub fn value(score: u32) -> i16
     requires { ⌜ score ≤ greatest ⌝ }
     ensures { λ r. ⌜ r ≡ valueOf score ⌝ }
 {
-    (score as i32 - ZERO) as i16
+    (score as i32 - SIGNED_ZERO_SCORE) as i16
 }
 
 // Where a child of a node at `position` stands.

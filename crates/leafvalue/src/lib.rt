@@ -5,7 +5,7 @@ use frames::GREATEST;
 use frames::LEAST;
 use frames::MAX_NODES;
 use frames::Rejection;
-use frames::ZERO_SCORE;
+use frames::SIGNED_ZERO_SCORE;
 use frames::child_count;
 use frames::frame_count;
 use frames::score_at;
@@ -42,9 +42,6 @@ pub const NO_VALUE: u8 = 21;
 const MAX_VALUE: i32 = 32000;
 
 const FIRST: u32 = LEAST + 1;
-
-// The score of the value 0, for signed sums.
-const ZERO: i32 = ZERO_SCORE as i32;
 
 // The answer: the smallest value of the leaf that gives the root the wanted one, or a rejection.
 pub enum LeastValue {
@@ -115,7 +112,7 @@ pub fn score_of(wanted: i32) -> u32
     requires { ⌜ natAbs wanted ≤ maxValue ⌝ }
     ensures { λ r. ⌜ r ≡ wantedScore wanted ⌝ }
 {
-    (wanted + ZERO) as u32
+    (wanted + SIGNED_ZERO_SCORE) as u32
 }
 
 // The smallest score with which the leaf gives the root the wanted score; LEAST where there is none.

@@ -1,7 +1,7 @@
 // One turn of the run: the state that is taken is replaced, or ends the run.
 mod rules;
 
-use frames::ZERO_SCORE;
+use frames::SIGNED_ZERO_SCORE;
 use frames::child_count;
 use frames::frame_count;
 use rules::of_state;
@@ -58,8 +58,6 @@ pub struct Run {
     pub counts: Counts,
     pub update: Update,
 }
-
-const ZERO: i32 = ZERO_SCORE as i32;
 
 // What the run makes of the entry that was taken, by its node, status and merit: it ends at the SOLVED root, and before
 // a leaf that its allowance does not cover.
@@ -128,7 +126,7 @@ pub fn as_value(score: u32) -> i32
     requires { ⌜ score ≤ greatest ⌝ }
     ensures { λ r. ⌜ r ≡ valueOf score ⌝ }
 {
-    score as i32 - ZERO
+    score as i32 - SIGNED_ZERO_SCORE
 }
 
 // The score of a state's merit.
@@ -136,7 +134,7 @@ fn merit_score(entry: State) -> u32
     requires { ⌜ IsMerit (entry .merit) ⌝ }
     ensures { λ r. ⌜ r ≡ scoreOf (entry .merit) ⌝ }
 {
-    (entry.merit + ZERO) as u32
+    (entry.merit + SIGNED_ZERO_SCORE) as u32
 }
 
 // Is this state the SOLVED root?

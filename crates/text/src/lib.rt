@@ -15,7 +15,7 @@ const MINUS: u8 = b'-';
 const BLANK: u8 = b' ';
 
 // The digit 0, and the base of the numbers.
-const ZERO: usize = b'0' as usize;
+const DIGIT_ZERO: usize = b'0' as usize;
 
 const TEN: usize = 10;
 
@@ -91,10 +91,10 @@ fn put_number(text: &mut [u8], at: usize, n: usize) -> usize
     ensures { λ r. ⌜ Put at (decimal n) (now (text .entry)) r (now (text .exit)) ⌝ }
 {
     if n < TEN {
-        return put_byte(text, at, (ZERO + n) as u8);
+        return put_byte(text, at, (DIGIT_ZERO + n) as u8);
     }
     let next = put_number(text, at, n / TEN);
-    put_byte(text, next, (ZERO + n % TEN) as u8)
+    put_byte(text, next, (DIGIT_ZERO + n % TEN) as u8)
 }
 
 // One byte at a position; gives the position after it.
