@@ -378,7 +378,7 @@ static void reset(struct state *list, int n) {
 /* The state of node k is list[k]. front[k] is LINKS times the greatest merit at or below k, as a number from 0, plus
    the child to go down to, or 0 where k has a state itself: at Max the leftmost child of the greatest merit, at Min the
    one with states. */
-enum { LINKS = 4096 };
+enum { LINKS = NODES };
 
 struct front {
     const uint8_t *table;

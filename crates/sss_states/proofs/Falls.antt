@@ -15,7 +15,7 @@ use Rattle.gametree.specs.declared.Side.the-variants.{Max, Min}
 use Rattle.gametree.specs.Tree.{Tree, inner, Children, number, InChildren, Distinct}
 use Rattle.gametree.specs.Sss as theory
 use Rattle.gametree_theory.proofs.sss.FrontSteps.{in-child}
-use Rattle.frames.specs.Frame.{frames, firstChild}
+use Rattle.frames.specs.Frame.{maxNodes, frames, firstChild}
 use Rattle.frames.specs.Position.{parentOf}
 use Rattle.frames.specs.Formed.{WellFormed, ChildOf}
 use Rattle.frames.specs.Tree.{tree}
@@ -24,7 +24,7 @@ use Rattle.frames.proofs.Nodes.{tree-distinct}
 use Rattle.frames.proofs.Trees.{tree-number}
 use Rattle.sss_states.specs.declared.State.{State}
 use Rattle.sss_states.specs.engine.Shown.{Above, Leads, Shows, expanded, Siblings, Beside, Around, top, child}
-use Rattle.sss_states.specs.engine.Kept.{linkCount, bestAt, linkAt, packedEntry, arraysOf, leftmostBest, chosenBy}
+use Rattle.sss_states.specs.engine.Kept.{bestAt, linkAt, packedEntry, arraysOf, leftmostBest, chosenBy}
 use Rattle.sss_states.specs.engine.Kept.{chosenOf, renewed, needsRefresh}
 use Rattle.sss_states.specs.engine.Kept.{Refreshed, refreshed, descended}
 use Rattle.sss_states.proofs.Shown.{beside-child, whole, regroup, Standing, standing-root, standing-down}
@@ -127,7 +127,7 @@ module _ (t : List ℕ) (wf : WellFormed t) (ls : List State) (γ : ℕ) where
       let i = beside-child x (c .beside) in
       let ch : ChildOf t n j = rw (c .number-is) at (child-is t wf n q ks (c .tree) (o .0) (o .1) i .0) in
       let later = child-later t wf (o .1) ch in
-      let small : j < linkCount = omega (arith, child-within t wf (o .1) ch, wf .atMost) in
+      let small : j < maxNodes = omega (arith, child-within t wf (o .1) ch, wf .atMost) in
       let room : n < length w = omega (arith, o .1) in
       let v = packedEntry (bestAt w j) j in
       let y = arraysOf ls (set w n v) in

@@ -10,12 +10,12 @@ use Rattle.gametree.specs.declared.Side.{Side}
 use Rattle.gametree.specs.declared.Side.the-variants.{Max, Min}
 use Rattle.gametree.specs.Tree.{greatest}
 use Rattle.lists.proofs.Choice.{cond-cases, clash}
-use Rattle.frames.specs.Frame.{frames, firstChild, childCount}
+use Rattle.frames.specs.Frame.{maxNodes, frames, firstChild, childCount}
 use Rattle.frames.specs.Position.{parentOf, sideOf}
 use Rattle.frames.specs.Formed.{WellFormed, ChildOf}
 use Rattle.frames.proofs.Next.{child-within}
 use Rattle.frames.proofs.Parents.{parent-less}
-use Rattle.sss_states.specs.engine.Kept.{linkCount, bestAt, linkAt, packedEntry, chosenBy, chosenOf, renewed}
+use Rattle.sss_states.specs.engine.Kept.{bestAt, linkAt, packedEntry, chosenBy, chosenOf, renewed}
 use Rattle.sss_states.specs.engine.Kept.{needsRefresh}
 use Rattle.sss_states.specs.engine.Kept.{Refreshed, refreshed, Sound, Fits}
 use Rattle.sss_states.specs.declared.Change.{Change}
@@ -82,7 +82,7 @@ module _ (t : List ℕ) (wf : WellFormed t) where
   renewed-sound w p o h =
       let i = chosen-link t w p (o .links p h) in
       let c = chosenOf t w p in
-      let l : c < linkCount = omega (arith, link-inside h i, wf .atMost) in
+      let l : c < maxNodes = omega (arith, link-inside h i, wf .atMost) in
       let b = o .merits c (omega (arith, link-inside h i, o .room)) in
       let v = packedEntry (bestAt w c) c in
       let n = length-set w p v in
@@ -90,9 +90,9 @@ module _ (t : List ℕ) (wf : WellFormed t) where
       record {
         room = rw n (o .room);
         atMost = rw n (o .atMost);
-        merits = λ k q. set-at (λ v. v / linkCount ≤ greatest) w p k v r (λ e. omega arith) (o .merits k (rw n at q));
-        links = λ k q. set-at (λ v. LinkOf t k (v % linkCount)) w p k v r
-            (λ e. let m : v % linkCount ≡ c = omega arith in rw (m, e) i) (o .links k q);
+        merits = λ k q. set-at (λ v. v / maxNodes ≤ greatest) w p k v r (λ e. omega arith) (o .merits k (rw n at q));
+        links = λ k q. set-at (λ v. LinkOf t k (v % maxNodes)) w p k v r
+            (λ e. let m : v % maxNodes ≡ c = omega arith in rw (m, e) i) (o .links k q);
       }
 
   module _ (γ : ℕ) where
@@ -237,13 +237,13 @@ module _ (t F w : List ℕ) (γ : ℕ) (c : Change) (p : Putting t F w γ c) whe
       record {
         room = rw n (o .room);
         atMost = rw n (o .atMost);
-        merits = λ k h. changed-at (λ v. v / linkCount ≤ greatest) k (rw n at h) (omega (arith, p .score))
+        merits = λ k h. changed-at (λ v. v / maxNodes ≤ greatest) k (rw n at h) (omega (arith, p .score))
             (λ e i. omega (arith, p .merit, small i)) (o .merits k (rw n at h));
-        links = λ k h. changed-at (λ v. LinkOf t k (v % linkCount)) k (omega (arith, o .room)) (inl (omega arith))
-            (λ e i. let m : packedEntry γ (c .first) % linkCount
+        links = λ k h. changed-at (λ v. LinkOf t k (v % maxNodes)) k (omega (arith, o .room)) (inl (omega arith))
+            (λ e i. let m : packedEntry γ (c .first) % maxNodes
             ≡ c .first = omega (arith, small i) in inr (rw (m, e) i))
             (o .links k h);
       }
     where
-      small : ChildOf t (c .node) (c .first) → c .first < linkCount
+      small : ChildOf t (c .node) (c .first) → c .first < maxNodes
       small h = omega (arith, child-within t (p .fits .formed) (p .here .node) h, p .fits .formed .atMost)

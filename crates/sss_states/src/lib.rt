@@ -1,5 +1,6 @@
 // The states of SSS*, and their front: for each node that is, or has below it, a listed state, the greatest merit in
 // its subtree and the child to go down to, packed in one u32.
+use frames::MAX_NODES;
 use frames::child_count;
 use frames::first_child;
 use gametree::Side;
@@ -37,8 +38,8 @@ pub struct Change {
     pub score: u32,
 }
 
-// How many links an entry tells apart: as many as a tree may have nodes.
-const LINKS: u32 = 4096;
+// How many links an entry tells apart: a link is the number of a node.
+const LINKS: u32 = MAX_NODES as u32;
 
 // The new states' entries, and the node's, which goes down to the first of them.
 pub fn put(front: &mut [u32], change: Change, merit: u32)

@@ -19,18 +19,15 @@ unfoldable pub use Rattle.positions.specs.Buffer.{stored}
 use Rattle.positions.specs.engine.Positions.{Positioned}
 use Rattle.sss_states.specs.engine.Shown.{Arrays}
 
--- how many links an entry tells apart
-abbrev pub linkCount : ℕ
-linkCount = 4096
-
+-- an entry packs the greatest merit and the link; a link is the number of a node, so it is below maxNodes
 abbrev pub bestAt : List ℕ → ℕ → ℕ
-bestAt front k = getD front k 0 / linkCount
+bestAt front k = getD front k 0 / maxNodes
 
 abbrev pub linkAt : List ℕ → ℕ → ℕ
-linkAt front k = getD front k 0 % linkCount
+linkAt front k = getD front k 0 % maxNodes
 
 abbrev pub packedEntry : ℕ → ℕ → ℕ
-packedEntry b l = b * linkCount + l
+packedEntry b l = b * maxNodes + l
 
 -- the list and the front as the theory takes them
 abbrev pub arraysOf : List State → List ℕ → Arrays
