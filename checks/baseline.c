@@ -665,7 +665,7 @@ static int root_value(const uint8_t *table, int n, const uint8_t *place, int16_t
     return value[0];
 }
 
-struct answer c_needed(const uint8_t *table, size_t length, size_t node, int32_t wanted) {
+struct answer c_least_value(const uint8_t *table, size_t length, size_t node, int32_t wanted) {
     uint8_t place[NODES];
     int16_t value[NODES];
     struct answer a = c_check(table, length);

@@ -45,7 +45,7 @@ typedef struct answer shorter_call(const uint8_t *table, size_t length, const ui
                                    const uint8_t *second, size_t second_room);
 typedef struct answer graft_call(const uint8_t *first, size_t first_length, size_t node, const uint8_t *second,
                                  size_t second_length, uint8_t *result, size_t room);
-typedef struct answer needed_call(const uint8_t *table, size_t length, size_t node, int32_t wanted);
+typedef struct answer least_value_call(const uint8_t *table, size_t length, size_t node, int32_t wanted);
 typedef struct answer fill_call(uint8_t *table, size_t length);
 typedef struct answer least_call(size_t width, size_t depth);
 typedef struct text report_call(const uint8_t *file, size_t length);
@@ -62,7 +62,7 @@ started_call c_mtdf;
 verify_call c_verify;
 shorter_call c_shorter;
 graft_call c_graft;
-needed_call c_needed;
+least_value_call c_least_value;
 fill_call c_fill;
 least_call c_least;
 report_call c_report;

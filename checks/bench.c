@@ -21,16 +21,16 @@ started_call rattle_mtdf;
 plain_call rattle_plain;
 verify_call rattle_verify;
 graft_call rattle_graft;
-needed_call rattle_needed;
+least_value_call rattle_least_value;
 fill_call rattle_fill;
 report_call rattle_report;
 
-enum call { READ, WRITE, CONVERT, CHECK, ALPHABETA, PLAIN, MTD, MTDF, SSS, VERIFY, GRAFT, NEEDED, FILL, REPORT, LEAN,
-            CALLS };
+enum call { READ, WRITE, CONVERT, CHECK, ALPHABETA, PLAIN, MTD, MTDF, SSS, VERIFY, GRAFT, LEAST_VALUE, FILL, REPORT,
+            LEAN, CALLS };
 
 static const char *const call_names[] = {
-    "read", "write", "convert", "check", "alphabeta", "plain", "mtd", "mtdf", "sss", "verify", "graft", "needed", "fill",
-    "report", "lean"
+    "read", "write", "convert", "check", "alphabeta", "plain", "mtd", "mtdf", "sss", "verify", "graft", "least_value",
+    "fill", "report", "lean"
 };
 
 static const struct side {
@@ -46,15 +46,15 @@ static const struct side {
     search_call *sss;
     verify_call *verify;
     graft_call *graft;
-    needed_call *needed;
+    least_value_call *least_value;
     fill_call *fill;
     report_call *report, *lean; /* the same report; in C once with no more work than it needs */
 } sides[] = {
     { "rattle", rattle_read, rattle_write, rattle_convert, rattle_check,
-      rattle_alphabeta, rattle_plain, rattle_mtd, rattle_mtdf, rattle_sss, rattle_verify, rattle_graft, rattle_needed,
-      rattle_fill, rattle_report, rattle_report },
-    { "c", c_read, c_write, c_convert, c_check, c_alphabeta, c_plain, c_mtd, c_mtdf, c_sss, c_verify, c_graft, c_needed,
-      c_fill, c_report, lean_report },
+      rattle_alphabeta, rattle_plain, rattle_mtd, rattle_mtdf, rattle_sss, rattle_verify, rattle_graft,
+      rattle_least_value, rattle_fill, rattle_report, rattle_report },
+    { "c", c_read, c_write, c_convert, c_check, c_alphabeta, c_plain, c_mtd, c_mtdf, c_sss, c_verify, c_graft,
+      c_least_value, c_fill, c_report, lean_report },
 };
 
 /* What buffers are filled with; for how many runs and nanoseconds a call is timed, and for how long between two looks
@@ -90,7 +90,7 @@ static struct answer perform(const struct side *s, enum call call, struct lent *
     case SSS: return searched(s->sss, l);
     case VERIFY: return s->verify(table, FRAME * nodes, flags, nodes);
     case GRAFT: return s->graft(lone_leaf, FRAME, 0, table, FRAME * nodes, l->table, sizeof l->table);
-    case NEEDED: return s->needed(table, FRAME * nodes, nodes - 1, 0);
+    case LEAST_VALUE: return s->least_value(table, FRAME * nodes, nodes - 1, 0);
     case FILL: return s->fill(memcpy(l->table, table, FRAME * nodes), FRAME * nodes);
     case REPORT: l->text = s->report(file, file_length); return (struct answer){ 0 };
     default: l->text = s->lean(file, file_length); return (struct answer){ 0 };

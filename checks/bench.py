@@ -26,9 +26,9 @@ from library import CHECKS, ROOT, WORK, read, run
 
 PROGRAM = os.path.join(ROOT, "target", "bin", "analyse")
 BENCH, BASELINE = os.path.join(WORK, "bench"), os.path.join(WORK, "baseline")
-CALLS = ("read", "write", "convert", "check", "alphabeta", "plain", "mtd", "mtdf", "sss", "verify", "graft", "needed",
-         "fill",
-         "report", "lean")
+CALLS = ("read", "write", "convert", "check", "alphabeta", "plain", "mtd", "mtdf", "sss", "verify", "graft",
+         "least_value", "fill", "report", "lean")
+HEADINGS = [call.replace("_", " ") for call in CALLS]
 
 # How often the times are taken.
 RUNS = 5
@@ -193,12 +193,12 @@ def lines(head, rows):
 
 def calls(first, rows):
     """A table of all calls; a row is its name, what was measured, and the unit."""
-    return lines([first, *CALLS], [[name] + [against(got["rattle", call], got["c", call], unit) for call in CALLS]
-                                   for name, got, unit in rows])
+    return lines([first, *HEADINGS], [[name] + [against(got["rattle", call], got["c", call], unit) for call in CALLS]
+                                      for name, got, unit in rows])
 
 
 def timed(rows):
-    return lines(["tree", *CALLS], [[name] + [ranging(runs, call) for call in CALLS] for name, runs in rows])
+    return lines(["tree", *HEADINGS], [[name] + [ranging(runs, call) for call in CALLS] for name, runs in rows])
 
 
 def programs(paths):

@@ -98,7 +98,7 @@ def call(rng):
         size = rng.choice((6 * n,) * 12 + (6 * n - 1, 6 * n + 6, rng.randrange(6 * n + 1)))
         node, wanted = wanted_of(rng, table)
         part = (table + bytes(m.TABLE_SIZE - len(table)))[:size]
-        return file, "value %d %d %d %d" % (size, node, *m.difference(wanted)), m.needed(part, node, wanted)
+        return file, "least_value %d %d %d %d" % (size, node, *m.difference(wanted)), m.least_value(part, node, wanted)
     if kind == 11:
         size = rng.choice((6 * n, 6 * n, 6 * n, 6 * n - 1, 6 * n + 6, rng.randrange(6 * n + 1)))
         return file, "dearest %d" % size, m.dearest((table + bytes(m.TABLE_SIZE - len(table)))[:size])

@@ -199,10 +199,10 @@ def random_graft(rng, table):
     yield from grafted(table, node, second, room)
 
 
-def needed(table, node, wanted):
+def least_value(table, node, wanted):
     """The smallest value of a leaf; and, where there is one, the value of the tree that holds it."""
     r = o.least_value(table, node, wanted)
-    yield "needed", (table, node, wanted), flat(r, value=r), (table,)
+    yield "least_value", (table, node, wanted), flat(r, value=r), (table,)
     if not isinstance(r, o.Refusal):
         held = bytearray(table)
         held[6 * node + 4:6 * node + 6] = (r & 65535).to_bytes(2, "big")
@@ -210,8 +210,8 @@ def needed(table, node, wanted):
         yield from searches(held, n, n, n)
 
 
-def random_needed(rng, table):
-    yield from needed(table, *((0, 7) if o.table_no(table) else fuzz_calls.wanted_of(rng, table)))
+def random_least_value(rng, table):
+    yield from least_value(table, *((0, 7) if o.table_no(table) else fuzz_calls.wanted_of(rng, table)))
 
 
 # Max moves twice, and at the leaves there are a value just below a win and a win
@@ -237,7 +237,7 @@ def small_trees():
         if n <= 4:
             for node in range(n + 1):
                 yield from grafted(table, node, SECOND, 6 * (n + 4))
-                yield from needed(table, node, 1)
+                yield from least_value(table, node, 1)
 
 
 def least_counts():
@@ -272,7 +272,7 @@ def random_calls(rng):
     yield from written(table, rng.choice((13 * n, 13 * n, 13 * n + 1, 13 * n + 40, max(13 * n - 1, 0), 12 * n, 0)))
     yield from random_graft(rng, table)
     if rng.random() < 0.2:
-        yield from random_needed(rng, table)
+        yield from random_least_value(rng, table)
     yield from dearest(table)
     file = fuzz.damaged(rng, 60)[1] if kind < 3 else fuzz.as_file(rng, table)
     room = rng.choice((6 * n, 6 * n, 6 * n + 7, 6 * n - 1, 0, o.MAX_TABLE))

@@ -638,9 +638,9 @@ def graft_cases():
         add("graft: " + title, ROW + pair, "graft 7 %d 0 %d %d" % (node, first_size, second_size), got)
 
 
-def needed(table, node, wanted):
+def least_value(table, node, wanted):
     """The smallest value of a leaf for a wanted root value."""
-    return "value %s\n" % answered(o.least_value(table, node, wanted))
+    return "least_value %s\n" % answered(o.least_value(table, node, wanted))
 
 
 def difference(number):
@@ -648,7 +648,7 @@ def difference(number):
     return (max(number, 0), max(-number, 0))
 
 
-def wanted_cases():
+def least_value_cases():
     """02, N10: questions 1 to 9, 19, 20 and 21, and the values around the borders of losses and wins."""
     one, deep, depth = tree_file(chain(1, 0)), tree_file(chain(18, 0)), o.MAX_DEPTH
     pair, settled = tree_file([5, 0]), tree_file([5, [3, 0]])
@@ -678,14 +678,14 @@ def wanted_cases():
             ("19 before 20", ROW, 7, 40000, "refused 19 7"), ("too much", ROW, 3, 32001, "refused 20 0"),
             ("too little", ROW, 3, -32001, "refused 20 0"), ("20 before 21", LEAF, 0, 40000, "refused 20 0")):
         table = table_of_file(file)
-        got = needed(table, node, wanted)
-        assert got == "value %s\n" % want, (title, got)
-        add("wanted: " + title, file, "value %d %d %d %d" % (len(table), node, *difference(wanted)), got)
+        got = least_value(table, node, wanted)
+        assert got == "least_value %s\n" % want, (title, got)
+        add("least value: " + title, file, "least_value %d %d %d %d" % (len(table), node, *difference(wanted)), got)
     for title, size, want in (("no table", 0, "refused 1 0"), ("too many frames", 24582, "refused 2 0"),
                               ("a byte left over", 43, "refused 3 7"), ("a leaf too many", 48, "refused 8 8")):
-        got = needed(longer(ROW, size), 9, 40000)
-        assert got == "value %s\n" % want, (title, got)
-        add("wanted: " + title, ROW, "value %d 9 40000 0" % size, got)
+        got = least_value(longer(ROW, size), 9, 40000)
+        assert got == "least_value %s\n" % want, (title, got)
+        add("least value: " + title, ROW, "least_value %d 9 40000 0" % size, got)
 
 
 def dearest(table):
@@ -762,7 +762,7 @@ def main():
                  accepted_files, wins_and_losses,
                  second_captures,
                  flags_cases, buffer_cases, order_cases, allowance_cases, start_cases, table_cases, reader_cases,
-                 writer_cases, output_cases, graft_cases, wanted_cases, dearest_cases,
+                 writer_cases, output_cases, graft_cases, least_value_cases, dearest_cases,
                  regular_cases, choice_cases, service_cases):
         part()
     assert len(stdin) < 65536

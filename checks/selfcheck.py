@@ -419,7 +419,7 @@ def one_graft(rng, first, second):
     same("a short buffer", joined(first, node, second, 6 * n - 1)[0], (10, 0))
 
 
-def wanted_values():
+def least_values():
     """Request N10, worked out by hand: the borders of losses and wins, the root's bounds, and the order of the
     questions."""
     table, chain = o.table_of_nest, lambda n: o.regular(1, n, lambda k: k)
@@ -437,7 +437,7 @@ def wanted_values():
         same(name, o.least_value(given, node, wanted), want)
 
 
-def one_wanted(rng, table):
+def one_least_value(rng, table):
     """What 02 says of a leaf's value for a wanted root value, of any table; each root value is folded anew."""
     tree = o.Tree(table)
     leaf, wanted = rng.choice(tree.leaves()), tree.minimax()[0] + rng.choice((0, 0, rng.randint(-20, 20)))
@@ -613,7 +613,7 @@ def random_trees(count):
         one_tree(rng, table, literal=True, pairs=shape == 0)
         one_graft(rng, before or table, table)
         if i % 20 == 0:
-            one_wanted(rng, table)
+            one_least_value(rng, table)
         one_filling(rng, table)
         before = table
     for i in range(24):
@@ -670,7 +670,7 @@ def main():
     letters()
     second_captures()
     grafts()
-    wanted_values()
+    least_values()
     dearest_fillings()
     least_counts()
     print("papers and examples: %d checks, %d wrong" % (checks, len(wrong)))

@@ -42,7 +42,7 @@ ghost use Rattle.sss.specs.Outcome.{solveOutcome};
 ghost use Rattle.verify.specs.Check.{verdict};
 ghost use Rattle.shorter.specs.Choice.{choice, chosenFlags};
 ghost use Rattle.graft.specs.Outcome.{graftOutcome};
-ghost use Rattle.leafvalue.specs.LeastValue.{leastValue};
+ghost use Rattle.leastvalue.specs.LeastValue.{leastValue};
 ghost use Rattle.worstcase.specs.Outcome.{fillOutcome};
 ghost use Rattle.leastcount.specs.Answer.{leastAnswer};
 ghost use Rattle.report.specs.Report.{report};
@@ -252,12 +252,12 @@ pub extern "C" fn buulset_graft(
     flat_checked(graft::graft(first, node, second, result))
 }
 
-// `leafvalue::least_value`: `value` is the leaf's.
+// `leastvalue::least_value`: `value` is the leaf's.
 #[no_mangle]
 pub extern "C" fn buulset_least_value(table: &[u8], node: usize, wanted: i32) -> Answer
     ensures { λ r. ⌜ r ≡ flatLeastValue (leastValue (now (table .entry)) node wanted) ⌝ }
 {
-    flat_least_value(leafvalue::least_value(table, node, wanted))
+    flat_least_value(leastvalue::least_value(table, node, wanted))
 }
 
 // `worstcase::fill`: the ranks in the table; leaves.

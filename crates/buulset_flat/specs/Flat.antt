@@ -12,7 +12,7 @@ use Rattle.mtdf.specs.declared.MtdfAnswer as mtdf
 use Rattle.sss.specs.declared.SssAnswer as sss
 use Rattle.verify.specs.declared.Verdict as verify
 use Rattle.shorter.specs.declared.Choice as shorter
-use Rattle.leafvalue.specs.declared.LeastValue as leafvalue
+use Rattle.leastvalue.specs.declared.LeastValue as leastvalue
 use Rattle.worstcase.specs.declared.Filled as worstcase
 use Rattle.leastcount.specs.declared.Least as leastcount
 use Rattle.text.specs.declared.Text as text
@@ -56,9 +56,9 @@ unfoldable pub flatVerdict : verify.Verdict → Answer
 flatVerdict (verify.the-variants.Value v) = valued v
 flatVerdict (verify.the-variants.Rejected r) = refused r
 
-unfoldable pub flatLeastValue : leafvalue.LeastValue → Answer
-flatLeastValue (leafvalue.the-variants.Value v) = valued v
-flatLeastValue (leafvalue.the-variants.Rejected r) = refused r
+unfoldable pub flatLeastValue : leastvalue.LeastValue → Answer
+flatLeastValue (leastvalue.the-variants.Value v) = valued v
+flatLeastValue (leastvalue.the-variants.Rejected r) = refused r
 
 unfoldable pub flatFilled : worstcase.Filled → Answer
 flatFilled (worstcase.the-variants.Leaves l) = leavesOf l

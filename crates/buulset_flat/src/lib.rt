@@ -124,12 +124,12 @@ pub fn flat_choice(answer: shorter::Choice, count: usize) -> Choice
 }
 
 // That of a wanted value, flat.
-pub fn flat_least_value(answer: leafvalue::LeastValue) -> Answer
+pub fn flat_least_value(answer: leastvalue::LeastValue) -> Answer
     ensures { λ r. ⌜ r ≡ flatLeastValue answer ⌝ }
 {
     match answer {
-        leafvalue::LeastValue::Value(value) => valued(value),
-        leafvalue::LeastValue::Rejected(rejection) => refused(rejection),
+        leastvalue::LeastValue::Value(value) => valued(value),
+        leastvalue::LeastValue::Rejected(rejection) => refused(rejection),
     }
 }
 

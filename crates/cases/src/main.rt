@@ -18,8 +18,8 @@ use cases_tables::files::print_reading;
 use cases_tables::files::print_writing;
 use cases_tables::least::print_least_counts;
 use cases_tables::least::print_regular;
+use cases_tables::least_value::print_least_value;
 use cases_tables::tables::print_children;
-use cases_tables::wanted::print_least_value;
 use cases_text::numbers::NUMBERS;
 use cases_text::numbers::read_numbers;
 use libc::STDIN_FILENO;
@@ -28,8 +28,6 @@ use reports::print_graft;
 use reports::print_made_trees;
 use reports::print_report;
 use text::LINE_FEED;
-ghost use mathlib.Core.Path.{_≡_};
-ghost use lib.ListN.{getD};
 
 // What a title and a call start with.
 const TITLE: u8 = b'#';
@@ -69,51 +67,79 @@ fn print_case(case: &[u8]) {
     print_answer(&case[start..call], &case[call..]);
 }
 
-// What a call gives for a file.
+// What a call gives for a file, by its name: here the two calls that give flags.
 fn print_answer(file: &[u8], call: &[u8]) {
     let mut numbers = [0u32; NUMBERS];
     let count = read_numbers(call, &mut numbers);
-    match name(call) {
-        b'f' => print_verdict_of(file, &numbers[..count]),
-        b'p' => print_choice_of(file, &numbers[..count]),
-        letter => print_call(letter, file, &numbers),
+    if is_named(call, b"@flags") {
+        return print_verdict_of(file, &numbers[..count]);
     }
+    if is_named(call, b"@pair") {
+        return print_choice_of(file, &numbers[..count]);
+    }
+    print_call(call, file, &numbers);
 }
 
-// The first letter of a call's name; 0 where there is no call.
-fn name(call: &[u8]) -> u8
-    ensures { λ r. ⌜ r ≡ getD (now (call .entry)) 1 0 ⌝ }
-{
-    if call.len() < 2 {
-        return 0;
+// Does the call begin with this name? No name begins with another.
+fn is_named(call: &[u8], name: &[u8]) -> bool {
+    if call.len() < name.len() {
+        return false;
     }
-    call[1]
+    for i in 0..name.len() {
+        if call[i] != name[i] {
+            return false;
+        }
+    }
+    true
 }
 
-// What a call with numbers gives, by the first letter of its name: buffers, allowance, start, table, write, output,
-// graft, value, dearest, regular, check, line or kids.
-fn print_call(letter: u8, file: &[u8], numbers: &[u32; NUMBERS]) {
-    match letter {
-        b'b' => print_searches(file, numbers[0], numbers[1], numbers[2]),
-        b'a' => print_allowed(file, numbers[0], numbers[1], numbers[2], numbers[3]),
-        b's' => print_started(
+// The other calls; without a call, the file's report.
+fn print_call(call: &[u8], file: &[u8], numbers: &[u32; NUMBERS]) {
+    if is_named(call, b"@buffers") {
+        return print_searches(file, numbers[0], numbers[1], numbers[2]);
+    }
+    if is_named(call, b"@allowance") {
+        return print_allowed(file, numbers[0], numbers[1], numbers[2], numbers[3]);
+    }
+    if is_named(call, b"@start") {
+        return print_started(
             file,
             numbers[0],
             numbers[1],
             numbers[2],
             numbers[3],
             numbers[4],
-        ),
-        b't' => print_reading(file, numbers[0]),
-        b'w' => print_writing(file, numbers[0], numbers[1]),
-        b'o' => print_output(file, numbers[0]),
-        b'g' => print_graft(file, numbers),
-        b'v' => print_least_value(file, numbers[0], numbers[1], numbers[2], numbers[3]),
-        b'd' => print_filling(file, numbers[0]),
-        b'r' => print_regular(numbers[0], numbers[1]),
-        b'c' => print_checks(file, numbers[0]),
-        b'l' => print_line(file, numbers[0]),
-        b'k' => print_children(file, numbers[0]),
-        _ => print_report(file),
+        );
     }
+    if is_named(call, b"@table") {
+        return print_reading(file, numbers[0]);
+    }
+    if is_named(call, b"@write") {
+        return print_writing(file, numbers[0], numbers[1]);
+    }
+    if is_named(call, b"@output") {
+        return print_output(file, numbers[0]);
+    }
+    if is_named(call, b"@graft") {
+        return print_graft(file, numbers);
+    }
+    if is_named(call, b"@least_value") {
+        return print_least_value(file, numbers[0], numbers[1], numbers[2], numbers[3]);
+    }
+    if is_named(call, b"@dearest") {
+        return print_filling(file, numbers[0]);
+    }
+    if is_named(call, b"@regular") {
+        return print_regular(numbers[0], numbers[1]);
+    }
+    if is_named(call, b"@check") {
+        return print_checks(file, numbers[0]);
+    }
+    if is_named(call, b"@line") {
+        return print_line(file, numbers[0]);
+    }
+    if is_named(call, b"@kids") {
+        return print_children(file, numbers[0]);
+    }
+    print_report(file)
 }

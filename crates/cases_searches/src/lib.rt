@@ -4,11 +4,11 @@ mod found;
 
 use cases_tables::answers::print_checked;
 use cases_tables::certificates::print_verdict;
+use cases_tables::least_value::difference;
 use cases_tables::tables::FILLED;
 use cases_tables::tables::TABLE_SIZE;
 use cases_tables::tables::fitted;
 use cases_tables::tables::read_table;
-use cases_tables::wanted::difference;
 use cases_text::print::print_bytes;
 use cases_text::print::print_line_feed;
 use cases_text::print::print_numbers;

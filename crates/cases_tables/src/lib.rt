@@ -3,5 +3,5 @@ pub mod answers;
 pub mod certificates;
 pub mod files;
 pub mod least;
+pub mod least_value;
 pub mod tables;
-pub mod wanted;

@@ -23,8 +23,8 @@ use Rattle.shorter.proofs as shorter
 use Rattle.shorter.specs.Choice.{choice, chosenFlags, pointerBy}
 use Rattle.verify.proofs as verify
 use Rattle.verify.specs.Check.{verdict}
-use Rattle.leafvalue.proofs as leafvalue
-use Rattle.leafvalue.specs.LeastValue.{leastValue}
+use Rattle.leastvalue.proofs as leastvalue
+use Rattle.leastvalue.specs.LeastValue.{leastValue}
 use Rattle.worstcase.proofs as worstcase
 use Rattle.worstcase.specs.Outcome.{fillOutcome}
 use Rattle.leastcount.proofs as leastcount
@@ -139,9 +139,9 @@ pub graft-graft : Runs graft.graft.ended graft.graft.Symbol.routine
     (λ κs (t, (k, (u, (b, _)))) r (_, (_, (_, (b′, _)))). r leaving b′ .now ≡ graftOutcome (t .now) k (u .now) (b .now))
 graft-graft = record { meets = graft.graft.Met.met }
 
-pub leafvalue-least-value : Runs leafvalue.least_value.ended leafvalue.least_value.Symbol.routine
+pub leastvalue-least-value : Runs leastvalue.least_value.ended leastvalue.least_value.Symbol.routine
     (λ κs (t, (k, (w, _))) r e. r ≡ leastValue (t .now) k w)
-leafvalue-least-value = record { meets = leafvalue.least_value.Met.met }
+leastvalue-least-value = record { meets = leastvalue.least_value.Met.met }
 
 pub worstcase-fill : Runs worstcase.fill.ended worstcase.fill.Symbol.routine
     (λ κs (t, _) r (t′, _). r leaving t′ .now ≡ fillOutcome (t .now))

@@ -21,7 +21,7 @@ use Rattle.sss.specs.Outcome.{solveOutcome}
 use Rattle.verify.specs.Check.{verdict}
 use Rattle.shorter.specs.Choice.{choice, chosenFlags}
 use Rattle.graft.specs.Outcome.{graftOutcome}
-use Rattle.leafvalue.specs.LeastValue.{leastValue}
+use Rattle.leastvalue.specs.LeastValue.{leastValue}
 use Rattle.worstcase.specs.Outcome.{fillOutcome}
 use Rattle.leastcount.specs.Answer.{leastAnswer}
 use Rattle.report.specs.Report as reports

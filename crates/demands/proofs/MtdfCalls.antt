@@ -21,7 +21,7 @@ use Rattle.frames.specs.Tree.{tree, valuation}
 use Rattle.frames.specs.Shape.{SameShape}
 use Rattle.frames.specs.Value.{maxValue}
 use Rattle.frames.proofs.Values.{value-range}
-use Rattle.leafvalue.proofs.Values.{score-again}
+use Rattle.leastvalue.proofs.Values.{score-again}
 use Rattle.mtdf.specs.declared.MtdfResult.{MtdfResult}
 use Rattle.mtdf.specs.declared.MtdfAnswer.the-variants as mtdf-answer
 use Rattle.mtdf.specs.Outcome.{startScore, decisionOf, mtdfLeaves}

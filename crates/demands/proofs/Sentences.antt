@@ -62,10 +62,10 @@ use Rattle.sss.proofs.Allowed.{enough}
 use Rattle.graft.proofs as graft
 use Rattle.graft.specs.results.Grafted.{graftValue}
 use Rattle.graft.proofs.Grafting.{grafted-value}
-use Rattle.leafvalue.proofs as leafvalue
-use Rattle.leafvalue.specs.declared.LeastValue.the-variants.{Value}
-use Rattle.leafvalue.specs.results.Root.{rootValue}
-use Rattle.leafvalue.proofs.Theorems.{given}
+use Rattle.leastvalue.proofs as leastvalue
+use Rattle.leastvalue.specs.declared.LeastValue.the-variants.{Value}
+use Rattle.leastvalue.specs.results.Root.{rootValue}
+use Rattle.leastvalue.proofs.Theorems.{given}
 use Rattle.worstcase.proofs as worstcase
 use Rattle.worstcase.specs.declared.Filled.the-variants as filled
 use Rattle.worstcase.specs.results.Filled.{handed}
@@ -371,11 +371,11 @@ graft-value =
 
 -- N10: "The call gives the smallest leaf value from -32,000 to 32,000 that makes the root's value exactly the wanted
 -- one"
-pub smallest-value : Runs leafvalue.least_value.ended leafvalue.least_value.Symbol.routine
+pub smallest-value : Runs leastvalue.least_value.ended leastvalue.least_value.Symbol.routine
     (λ κs (t, (k, (w, _))) r e. (v : ℤ) → r ≡ Value v → (natAbs v ≤ maxValue) × (rootValue (t .now) k v ≡ w)
     × ((u : ℤ) → natAbs u ≤ maxValue → u <ℤ v → rootValue (t .now) k u ≡ w → ⊥))
 smallest-value =
-    follows contracts.leafvalue-least-value
+    follows contracts.leastvalue-least-value
     (λ κs (t, (k, (w, _))) r e s v i.
     let g = given (t .now) k w v (sym s ∙ i) in (g .ranged, g .reaches, g .smallest))
 

@@ -11,7 +11,7 @@ use Rattle.gametree.specs.FirstMove.{Decision, mtdf}
 use Rattle.frames.specs.Tree.{tree, valuation}
 use Rattle.frames.specs.Value.{maxValue}
 use Rattle.certificate.specs.Search.{findings, Buffers, SearchOutcome, searchOutcome}
-use Rattle.leafvalue.specs.LeastValue.{wantedScore}
+use Rattle.leastvalue.specs.LeastValue.{wantedScore}
 use Rattle.mtdf.specs.declared.MtdfResult.{MtdfResult}
 use Rattle.mtdf.specs.declared.MtdfAnswer.{MtdfAnswer}
 use Rattle.mtdf.specs.declared.MtdfAnswer.the-variants.{Found as FoundAnswer, Rejected}

@@ -1,0 +1,50 @@
+-- The small cases: the law by the root's two bounds turns the search through all values into four candidates, and these
+-- are computed.
+use Prim.Native.Nat.{ℕ}
+use mathlib.Core.Path.{_≡_, refl, sym, ap, _∙_, fun-ext}
+use mathlib.Core.Option.{Option, none, some}
+use mathlib.Core.List.{List, map}
+use lib.IntN.{ℤ}
+use Rattle.frames.specs.declared.Rejection.{Rejection}
+use Rattle.frames.specs.Frame.{next}
+use Rattle.frames.specs.Position.{depthOf, parentBefore, positionWithin, positionOf}
+use Rattle.frames.specs.Tree.{childrenFrom, grow, treeAt, valuation}
+use Rattle.frames.specs.Rejection.{eachNode, unless}
+use Rattle.frames.specs.Check.{framesRejection, rejection}
+use Rattle.leastvalue.specs.declared.LeastValue.{LeastValue}
+use Rattle.leastvalue.specs.declared.LeastValue.the-variants.{Rejected}
+use Rattle.leastvalue.specs.LeastValue.{smallest, wantedScore, answerFor, valueRejection, leastValue}
+use Rattle.leastvalue.specs.engine.Candidates.{candidate, held}
+use Rattle.leastvalue.specs.results.Cases.{cases}
+use Rattle.leastvalue.proofs.Values.{score-range}
+use Rattle.leastvalue.proofs.Bounds.{low, high, smallest-candidate}
+use Rattle.leastvalue.proofs.Theorems.{asked}
+
+module _ (t : List ℕ) (k : ℕ) (w : ℤ) where
+  -- the answer by the candidates
+  abbrev computed : LeastValue
+  computed = unless (valueRejection t k w) Rejected (answerFor k
+      (held (candidate (low t k) (high t k) (depthOf t k) (wantedScore w))))
+
+  by-candidates : leastValue t k w ≡ computed
+  unfolding leastValue
+  by-candidates = by (valueRejection t k w) refl
+    where
+      by : (q : Option Rejection) → valueRejection t k w ≡ q
+          → unless q Rejected (answerFor k (smallest t k (wantedScore w)))
+          ≡ unless q Rejected (answerFor k (held (candidate (low t k) (high t k) (depthOf t k) (wantedScore w))))
+      by (some r) e = refl
+      by none e =
+          let a = asked t k w e in
+          ap (answerFor k) (sym (smallest-candidate t (a .accepted) k (a .leaf .inside) (wantedScore w)
+          (score-range w (a .ranged))))
+
+computed-answers : map (λ c. computed (c .table) (c .node) (c .wanted)) cases ≡ map (λ c. c .answer) cases
+unfolding next parentBefore positionWithin positionOf childrenFrom grow treeAt valuation eachNode framesRejection
+    rejection
+computed-answers = refl
+
+-- each case gets its answer
+pub small-answers : map (λ c. leastValue (c .table) (c .node) (c .wanted)) cases ≡ map (λ c. c .answer) cases
+small-answers =
+    ap (λ f. map f cases) (fun-ext (λ c. by-candidates (c .table) (c .node) (c .wanted))) ∙ computed-answers

@@ -1,0 +1,99 @@
+-- What the named leaf held before has no influence: two tables that differ in bytes 4 and 5 of that node alone.
+use Prim.Native.Nat.{ℕ, _<_}
+use native.Mathlib.Omega.{arith}
+use native.Mathlib.Decide.{decLt, ℕ-discrete}
+use mathlib.Core.Path.{_≡_, refl, sym, ap, ap₂, _∙_}
+use mathlib.Core.Bool.{Bool, true, false}
+use mathlib.Core.List.{List}
+use lib.Dec.{eqb}
+use lib.IntN.{ℤ}
+use borrow.Author.Tests.{lt-ltb, le-ltb, eq-eqb, ne-eqb}
+use Rattle.gametree.specs.Tree.{minimax}
+use Rattle.gametree.specs.Graft.{substituted}
+use Rattle.gametree_theory.proofs.minimax.Grafts.{minimax-same}
+use Rattle.frames.specs.Frame.{frames, storedScore}
+use Rattle.frames.specs.Position.{depthOf}
+use Rattle.frames.specs.Tree.{tree, valuation, leafScore}
+use Rattle.frames.specs.Value.{valueOf}
+use Rattle.frames.specs.Formed.{WellFormed}
+use Rattle.frames.specs.Rejection.{unless}
+use Rattle.frames.specs.Check.{Accepted}
+use Rattle.frames.specs.results.Leaf.{Leaf}
+use Rattle.frames.proofs.Acceptance.{accepted-formed}
+use Rattle.frames.proofs.Proper.{every-leaf}
+use Rattle.frames.proofs.Shapes.{same-position, same-score, same-tree}
+use Rattle.leastvalue.specs.declared.LeastValue.the-variants.{Rejected}
+use Rattle.leastvalue.specs.LeastValue.{isLeaf, check20, rootScore, smallest, wantedScore}
+use Rattle.leastvalue.specs.LeastValue.{answerFor, leastValue}
+use Rattle.leastvalue.specs.engine.Candidates.{firstScore, scoreCount}
+use Rattle.leastvalue.specs.results.Root.{rootValue, SameBut, heldValue}
+use Rattle.leastvalue.proofs.First.{first-same}
+use Rattle.leastvalue.proofs.Values.{score-again}
+use Rattle.leastvalue.proofs.Bounds.{leaf-is}
+use Rattle.leastvalue.proofs.Questions.{due, no-leaf, table-accepted}
+
+-- two tables that differ in bytes 4 and 5 of one node alone
+module _ (t u : List ℕ) (k : ℕ) (d : SameBut t u k) (a : Accepted t) (b : Accepted u) where
+  wt : WellFormed t
+  wt = accepted-formed t a
+
+  wu : WellFormed u
+  wu = accepted-formed u b
+
+  -- the root has the same score where the node holds the same
+  pub same-root : k < frames t → (s : ℕ) → rootScore t k s ≡ rootScore u k s
+  unfolding rootScore
+  same-root h s =
+      let x = leafScore (depthOf t k) s in
+      minimax-same (substituted (valuation t) k x) (substituted (valuation u) k x) (tree t)
+      (every-leaf t wt _ (λ i l c.
+      elim (ℕ-discrete i k) [
+        | yes z ↦ rw (eq-eqb i k z)
+        | no z ↦ rw (ne-eqb i k z) (same-score t u (d .shape) i l (d .others i l z))
+      ]) 0 (wt .nonEmpty))
+      ∙ ap₂ (λ e T. minimax (substituted (valuation u) k (leafScore e s)) T)
+      (ap (λ p. p .depth) (same-position t u (d .shape) k h)) (same-tree t u (d .shape) wt wu)
+
+  -- it is the value of the table that holds it
+  pub root-held : k < frames t → minimax (valuation u) (tree u) ≡ rootScore t k (storedScore u k)
+  unfolding rootScore valuation
+  root-held h =
+      minimax-same (valuation u) (substituted (valuation u) k (valuation u k)) (tree u)
+      (every-leaf u wu _ (λ i l c.
+      elim (ℕ-discrete i k) [
+        | yes z ↦ rw (eq-eqb i k z, z)
+        | no z ↦ rw (ne-eqb i k z)
+      ]) 0 (wu .nonEmpty))
+      ∙ sym (same-root h (storedScore u k))
+
+  pub value-held : Leaf t k → valueOf (minimax (valuation u) (tree u)) ≡ rootValue t k (heldValue u k)
+  value-held l =
+      let n = d .shape .sameFrames in
+      let c = d .shape .sameBytes k 2 (l .inside) (omega arith) in
+      let i = wu .scored k (omega (arith, l .inside)) (sym c ∙ l .childless) in
+      ap valueOf (root-held (l .inside) ∙ ap (rootScore t k) (sym (score-again (storedScore u k) i)))
+
+  -- both are leaves, or neither
+  same-test : isLeaf t k ≡ isLeaf u k
+  same-test =
+      elim (decLt k (frames t)) [
+        | yes h ↦ rw (
+          lt-ltb k (frames t) h,
+          lt-ltb k (frames u) (omega (arith, d .shape .sameFrames)),
+          d .shape .sameBytes k 2 h (omega arith),
+        )
+        | no h ↦ rw (le-ltb k (frames t) (omega arith), le-ltb k (frames u) (omega (arith, d .shape .sameFrames)))
+      ]
+
+  -- so the answer is the same
+  pub same-answer : (w : ℤ) → leastValue t k w ≡ leastValue u k w
+  unfolding smallest
+  same-answer w =
+      table-accepted t k w a ∙ by (isLeaf t k) refl ∙ sym (table-accepted u k w b)
+    where
+      by : (c : Bool) → isLeaf t k ≡ c → due t k w ≡ due u k w
+      by true e =
+          rw (e, sym same-test ∙ e)
+          (ap (λ o. unless (check20 w) Rejected (answerFor k o)) (first-same _ _ firstScore scoreCount (λ s p q.
+          ap (λ r. eqb r (wantedScore w)) (same-root (leaf-is t k e .0) s))))
+      by false e = no-leaf t k w e ∙ sym (no-leaf u k w (sym same-test ∙ e))
