@@ -683,7 +683,7 @@ struct answer c_least_value(const uint8_t *table, size_t length, size_t node, in
     return no(21, node);
 }
 
-/* ---- the dearest filling */
+/* ---- the worst-case filling */
 
 /* Ranks from `rank` on for the leaves below node k, the children in the order of the side that moves; the next rank. */
 static int put_ranks(uint8_t *table, int k, int place, int rank) {

@@ -1,7 +1,7 @@
 #!/usr/bin/env python3
 """Runs a compiled `cases` on generated calls over lent memory and compares with oracle.py: marks, certificates, lists
 of leaves, passes, replacements, allowances, starting values, verdicts on right and on damaged flags, short buffers,
-parts of tables, written files, grafts, values for a wanted root value, dearest fillings, least counts, lines and
+parts of tables, written files, grafts, values for a wanted root value, worst-case fillings, least counts, lines and
 children.
 
     fuzz_calls.py PROGRAM [--runs N] [--seed S]     N inputs of up to 65,000 bytes each (default 40)
@@ -101,7 +101,7 @@ def call(rng):
         return file, "least_value %d %d %d %d" % (size, node, *m.difference(wanted)), m.least_value(part, node, wanted)
     if kind == 11:
         size = rng.choice((6 * n, 6 * n, 6 * n, 6 * n - 1, 6 * n + 6, rng.randrange(6 * n + 1)))
-        return file, "dearest %d" % size, m.dearest((table + bytes(m.TABLE_SIZE - len(table)))[:size])
+        return file, "fill %d" % size, m.fill((table + bytes(m.TABLE_SIZE - len(table)))[:size])
     if kind == 12:
         width, depth = rng.choice((rng.randrange(43), 99999999)), rng.choice((rng.randrange(21), 99999999))
         return file, "regular %d %d" % (width, depth), "least %s\n" % m.answered(o.least_leaves(width, depth))

@@ -178,10 +178,10 @@ def grafted(first, node, second, room):
         yield from searches(lent[:6 * r], r, r, r)
 
 
-def dearest(table):
-    """The dearest filling; and the filled table through the searches."""
+def fill(table):
+    """The worst-case filling; and the filled table through the searches."""
     lent = bytearray(table)
-    r = o.dearest(lent)
+    r = o.fill(lent)
     yield "fill", (table,), flat(r, leaves=r), (lent,)
     if not isinstance(r, o.Refusal):
         n = len(lent) // 6
@@ -233,7 +233,7 @@ def small_trees():
         flags = bytearray(n)
         o.search(o.mtd, table, bytearray(n), flags)
         yield from verified(table, flags)
-        yield from dearest(table)
+        yield from fill(table)
         if n <= 4:
             for node in range(n + 1):
                 yield from grafted(table, node, SECOND, 6 * (n + 4))
@@ -273,7 +273,7 @@ def random_calls(rng):
     yield from random_graft(rng, table)
     if rng.random() < 0.2:
         yield from random_least_value(rng, table)
-    yield from dearest(table)
+    yield from fill(table)
     file = fuzz.damaged(rng, 60)[1] if kind < 3 else fuzz.as_file(rng, table)
     room = rng.choice((6 * n, 6 * n, 6 * n + 7, 6 * n - 1, 0, o.MAX_TABLE))
     yield from reports(file, room)

@@ -11,7 +11,7 @@ CHECKS = os.path.dirname(os.path.abspath(__file__))
 ROOT = os.path.dirname(CHECKS)
 WORK = os.path.join(ROOT, "target", "bench")
 GIVEN = os.path.join(CHECKS, "calls.rt.txt")
-CRATES = ("report", "leastvalue", "graft", "worstcase", "leastcount", "shorter", "verify", "sss", "mtd", "mtdf",
+CRATES = ("report", "leastvalue", "graft", "worstfill", "leastcount", "shorter", "verify", "sss", "mtd", "mtdf",
           "plain", "alphabeta", "convert", "treefile", "tables", "frames")
 
 

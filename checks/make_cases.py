@@ -688,22 +688,22 @@ def least_value_cases():
         add("least value: " + title, ROW, "least_value %d 9 40000 0" % size, got)
 
 
-def dearest(table):
-    """The dearest filling of a table, and what it costs alpha-beta."""
+def fill(table):
+    """The worst-case filling of a table, and what it costs alpha-beta."""
     lent = bytearray(table)
-    got = o.dearest(lent)
+    got = o.fill(lent)
     if isinstance(got, o.Refusal):
         assert lent == table
     cost = o.search(o.ab, lent, bytearray(o.MAX_NODES), bytearray(o.MAX_NODES))
-    return "dearest %s\ntable%s\nab %s\n" % (answered(got), numbers(lent),
-                                             answered(cost if isinstance(cost, o.Refusal) else cost.leaves))
+    return "fill %s\ntable%s\nab %s\n" % (answered(got), numbers(lent),
+                                          answered(cost if isinstance(cost, o.Refusal) else cost.leaves))
 
 
 # Max(a leaf, Min of two, a leaf); Min over blocks of different sizes; and 266 leaves, so that ranks have a high byte
 UNEVEN, BLOCKS, MANY = tree_file([7, [7, 7], 7]), tree_file([[[9, 8], 7]]), tree_file([[0] * 38] * 7)
 
 
-def dearest_cases():
+def fill_cases():
     """Questions 1 to 9; the ranks in the lent table, by the mover."""
     for title, file, size, want in (
             ("the first row's shape", ROW, 42, "4"), ("a lone leaf", tree_file(-5), 6, "1"),
@@ -714,10 +714,10 @@ def dearest_cases():
             ("266 leaves", MANY, 1644, "266"), ("no table", LEAF, 0, "refused 1 0"),
             ("a byte left over", ROW, 43, "refused 3 7"),
             ("a leaf too few", ROW, 36, "refused 8 6"), ("a leaf too many", ROW, 48, "refused 8 8")):
-        got = dearest(longer(file, size))
-        assert got.startswith("dearest %s\n" % want), (title, got)
+        got = fill(longer(file, size))
+        assert got.startswith("fill %s\n" % want), (title, got)
         assert want.startswith("refused") or got.endswith("\nab %s\n" % want), (title, got)
-        add("dearest: " + title, file, "dearest %d" % size, got)
+        add("fill: " + title, file, "fill %d" % size, got)
 
 
 def regular_cases():
@@ -762,7 +762,7 @@ def main():
                  accepted_files, wins_and_losses,
                  second_captures,
                  flags_cases, buffer_cases, order_cases, allowance_cases, start_cases, table_cases, reader_cases,
-                 writer_cases, output_cases, graft_cases, least_value_cases, dearest_cases,
+                 writer_cases, output_cases, graft_cases, least_value_cases, fill_cases,
                  regular_cases, choice_cases, service_cases):
         part()
     assert len(stdin) < 65536

@@ -687,7 +687,7 @@ def least_value(table, node, wanted):
     return least_values(tree, node).get(wanted, Refusal(21, node))
 
 
-def dearest(table):
+def fill(table):
     """Questions 1 to 9; writes the ranks to the leaves of the table itself: a node's ranks are a block, and those of
     its children lie in it one behind the other, rising from left to right at Max, falling at Min; the number of leaves
     (02, N11)."""

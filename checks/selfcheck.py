@@ -354,7 +354,7 @@ def grafts():
     same("B60 at depth 10", o.Tree(joined(chain(10), 10, wins, 78)[1]).minimax()[0], 30990)
 
 
-def dearest_fillings():
+def fillings():
     """Request N11, worked out by hand: the ranks by the mover, and the answer; the values that came play no part but
     for question 7."""
     for nest, leaves, want in (([[1, 2], [3, 4]], 4, [[1, 0], [3, 2]]), (-5, 1, 0), ([9], 1, [0]),
@@ -363,21 +363,21 @@ def dearest_fillings():
                                ([7, [7, 7], 7], 4, [0, [2, 1], 3]),
                                ([[[9, 8], 7]], 3, [[[1, 2], 0]]), ([[5, ([6], 7)], 8], 4, [[2, ([1], 0)], 3])):
         table = o.table_of_nest(nest)
-        same("B67 %r" % (nest,), (o.dearest(table), bytes(table)), (leaves, bytes(o.table_of_nest(want))))
+        same("B67 %r" % (nest,), (o.fill(table), bytes(table)), (leaves, bytes(o.table_of_nest(want))))
         same("B67 %r costs" % (nest,), run(o.alpha_beta, table)[0].leaves, leaves)
     for table, want in ((bytearray(), (1, 0)), (bytearray(7), (3, 1)), (o.table_of_nest([7, 32001]), (7, 2)),
                         (bytearray(12), (8, 2))):
         before = bytes(table)
-        same("B67 refused", (o.dearest(table), bytes(table)), (want, before))
+        same("B67 refused", (o.fill(table), bytes(table)), (want, before))
     table = o.regular(40, 41, lambda k: k)
-    same("B67 a high byte", (o.dearest(table), bytes(table[6 * 41 + 4:6 * 41 + 6])), (1600, (39).to_bytes(2, "big")))
+    same("B67 a high byte", (o.fill(table), bytes(table[6 * 41 + 4:6 * 41 + 6])), (1600, (39).to_bytes(2, "big")))
 
 
 def one_filling(rng, table):
-    """What 02 says of the dearest filling, of any accepted table."""
+    """What 02 says of the worst-case filling, of any accepted table."""
     tree, filled = o.Tree(table), bytearray(table)
     leaves = tree.leaves()
-    same("leaves of a filling", o.dearest(filled), len(leaves))
+    same("leaves of a filling", o.fill(filled), len(leaves))
     same("an accepted filling", o.table_no(filled), None)
     rank = {k: o.frame(filled, k)[3] for k in leaves}
     same("ranks", sorted(rank.values()), list(range(len(leaves))))
@@ -393,8 +393,8 @@ def one_filling(rng, table):
         same("blocks", whole == list(range(whole[0], whole[0] + len(whole))) if whole else True, True)
     same("every leaf is valued", run(o.alpha_beta, filled)[0].leaves, len(leaves))
     other = changed_elsewhere(rng, table, bytes(tree.n))
-    same("values play no part", (o.dearest(other), other), (len(leaves), filled))
-    same("ranks again", (o.dearest(other), other), (len(leaves), filled))
+    same("values play no part", (o.fill(other), other), (len(leaves), filled))
+    same("ranks again", (o.fill(other), other), (len(leaves), filled))
 
 
 def one_graft(rng, first, second):
@@ -671,7 +671,7 @@ def main():
     second_captures()
     grafts()
     least_values()
-    dearest_fillings()
+    fillings()
     least_counts()
     print("papers and examples: %d checks, %d wrong" % (checks, len(wrong)))
     every_small_tree(6)

@@ -43,7 +43,7 @@ ghost use Rattle.verify.specs.Check.{verdict};
 ghost use Rattle.shorter.specs.Choice.{choice, chosenFlags};
 ghost use Rattle.graft.specs.Outcome.{graftOutcome};
 ghost use Rattle.leastvalue.specs.LeastValue.{leastValue};
-ghost use Rattle.worstcase.specs.Outcome.{fillOutcome};
+ghost use Rattle.worstfill.specs.Outcome.{fillOutcome};
 ghost use Rattle.leastcount.specs.Answer.{leastAnswer};
 ghost use Rattle.report.specs.Report.{report};
 ghost use Rattle.text.specs.Text.{refusedLine, textOf};
@@ -260,12 +260,12 @@ pub extern "C" fn buulset_least_value(table: &[u8], node: usize, wanted: i32) ->
     flat_least_value(leastvalue::least_value(table, node, wanted))
 }
 
-// `worstcase::fill`: the ranks in the table; leaves.
+// `worstfill::fill`: the ranks in the table; leaves.
 #[no_mangle]
 pub extern "C" fn buulset_fill(table: &mut [u8]) -> Answer
     ensures { λ r. ⌜ r leaving now (table .exit) ≡ flatBy flatFilled (fillOutcome (now (table .entry))) ⌝ }
 {
-    flat_filled(worstcase::fill(table))
+    flat_filled(worstfill::fill(table))
 }
 
 // `leastcount::least_leaves`: leaves.

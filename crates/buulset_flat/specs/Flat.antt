@@ -13,7 +13,7 @@ use Rattle.sss.specs.declared.SssAnswer as sss
 use Rattle.verify.specs.declared.Verdict as verify
 use Rattle.shorter.specs.declared.Choice as shorter
 use Rattle.leastvalue.specs.declared.LeastValue as leastvalue
-use Rattle.worstcase.specs.declared.Filled as worstcase
+use Rattle.worstfill.specs.declared.Filled as worstfill
 use Rattle.leastcount.specs.declared.Least as leastcount
 use Rattle.text.specs.declared.Text as text
 use Rattle.buulset_answers.specs.declared.Answer.{Answer}
@@ -60,9 +60,9 @@ unfoldable pub flatLeastValue : leastvalue.LeastValue → Answer
 flatLeastValue (leastvalue.the-variants.Value v) = valued v
 flatLeastValue (leastvalue.the-variants.Rejected r) = refused r
 
-unfoldable pub flatFilled : worstcase.Filled → Answer
-flatFilled (worstcase.the-variants.Leaves l) = leavesOf l
-flatFilled (worstcase.the-variants.Rejected r) = refused r
+unfoldable pub flatFilled : worstfill.Filled → Answer
+flatFilled (worstfill.the-variants.Leaves l) = leavesOf l
+flatFilled (worstfill.the-variants.Rejected r) = refused r
 
 unfoldable pub flatLeast : leastcount.Least → Answer
 flatLeast (leastcount.the-variants.Leaves l) = leavesOf l

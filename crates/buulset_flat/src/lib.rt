@@ -134,12 +134,12 @@ pub fn flat_least_value(answer: leastvalue::LeastValue) -> Answer
 }
 
 // That of a filling, flat.
-pub fn flat_filled(answer: worstcase::Filled) -> Answer
+pub fn flat_filled(answer: worstfill::Filled) -> Answer
     ensures { λ r. ⌜ r ≡ flatFilled answer ⌝ }
 {
     match answer {
-        worstcase::Filled::Leaves(leaves) => with_leaves(leaves),
-        worstcase::Filled::Rejected(rejection) => refused(rejection),
+        worstfill::Filled::Leaves(leaves) => with_leaves(leaves),
+        worstfill::Filled::Rejected(rejection) => refused(rejection),
     }
 }
 

@@ -126,7 +126,7 @@ fn print_call(call: &[u8], file: &[u8], numbers: &[u32; NUMBERS]) {
     if is_named(call, b"@least_value") {
         return print_least_value(file, numbers[0], numbers[1], numbers[2], numbers[3]);
     }
-    if is_named(call, b"@dearest") {
+    if is_named(call, b"@fill") {
         return print_filling(file, numbers[0]);
     }
     if is_named(call, b"@regular") {

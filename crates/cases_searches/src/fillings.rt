@@ -7,9 +7,9 @@ use cases_text::print::print_count;
 use cases_text::print::print_line_feed;
 use frames::MAX_NODES;
 use libc::STDOUT_FILENO;
-use worstcase::Filled;
+use worstfill::Filled;
 ghost use mathlib.Core.Path.{_≡_};
-ghost use Rattle.worstcase.specs.Outcome.{fillOutcome};
+ghost use Rattle.worstfill.specs.Outcome.{fillOutcome};
 
 // The filling of so many bytes of the table, and what they hold afterwards: zeros follow the frames of the file.
 pub fn print_filling(file: &[u8], size: u32) {
@@ -22,8 +22,8 @@ pub fn print_filling(file: &[u8], size: u32) {
 fn print_filled(table: &mut [u8])
     ensures { λ _. ⌜ now (table .exit) ≡ fillOutcome (now (table .entry)) .left ⌝ }
 {
-    io::write_all(STDOUT_FILENO, b"dearest");
-    match worstcase::fill(table) {
+    io::write_all(STDOUT_FILENO, b"fill");
+    match worstfill::fill(table) {
         Filled::Leaves(leaves) => print_count(leaves),
         Filled::Rejected(rejection) => print_rejection(rejection),
     }

@@ -25,8 +25,8 @@ use Rattle.verify.proofs as verify
 use Rattle.verify.specs.Check.{verdict}
 use Rattle.leastvalue.proofs as leastvalue
 use Rattle.leastvalue.specs.LeastValue.{leastValue}
-use Rattle.worstcase.proofs as worstcase
-use Rattle.worstcase.specs.Outcome.{fillOutcome}
+use Rattle.worstfill.proofs as worstfill
+use Rattle.worstfill.specs.Outcome.{fillOutcome}
 use Rattle.leastcount.proofs as leastcount
 use Rattle.leastcount.specs.Answer.{leastAnswer}
 use Rattle.file_writer.proofs as file_writer
@@ -143,9 +143,9 @@ pub leastvalue-least-value : Runs leastvalue.least_value.ended leastvalue.least_
     (λ κs (t, (k, (w, _))) r e. r ≡ leastValue (t .now) k w)
 leastvalue-least-value = record { meets = leastvalue.least_value.Met.met }
 
-pub worstcase-fill : Runs worstcase.fill.ended worstcase.fill.Symbol.routine
+pub worstfill-fill : Runs worstfill.fill.ended worstfill.fill.Symbol.routine
     (λ κs (t, _) r (t′, _). r leaving t′ .now ≡ fillOutcome (t .now))
-worstcase-fill = record { meets = worstcase.fill.Met.met }
+worstfill-fill = record { meets = worstfill.fill.Met.met }
 
 pub leastcount-least-leaves : Runs leastcount.least_leaves.ended leastcount.least_leaves.Symbol.routine
     (λ κs (w, (d, _)) r e. r ≡ leastAnswer w d)

@@ -22,7 +22,7 @@ use Rattle.verify.specs.Check.{verdict}
 use Rattle.shorter.specs.Choice.{choice, chosenFlags}
 use Rattle.graft.specs.Outcome.{graftOutcome}
 use Rattle.leastvalue.specs.LeastValue.{leastValue}
-use Rattle.worstcase.specs.Outcome.{fillOutcome}
+use Rattle.worstfill.specs.Outcome.{fillOutcome}
 use Rattle.leastcount.specs.Answer.{leastAnswer}
 use Rattle.report.specs.Report as reports
 use Rattle.text.specs.Text.{refusedLine, textOf}

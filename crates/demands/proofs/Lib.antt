@@ -4,7 +4,7 @@
 -- Demand2 and Demand3; the plain engine of request N1: Plain; the writer of request N3: Saving; SSS* within an
 -- allowance (request N6): Allowance; capital letters (request N7): Capitals; tables without a second capture (request
 -- N8): Alternating; grafts (request N9): Grafting; a leaf's value for a wanted root value (request N10): LeastValue;
--- the worst-case filling (request N11): WorstCase; least counts (request N12): LeastCounts; the shorter of two
+-- the worst-case filling (request N11): WorstFill; least counts (request N12): LeastCounts; the shorter of two
 -- certificates (request N13): Shorter; the lists of leaves (request N14): Order; MTD(f), which no request asks for:
 -- Mtdf. The other files carry the theory's theorems to calls over byte tables; what is proved of calls is said of the
 -- functions that run in the files above.
@@ -26,7 +26,7 @@ mod Evaluations
 mod PlainCalls
 mod Allowed
 mod Listing
-mod Dearest
+mod FilledCosts
 mod Deeper
 mod Fewest
 mod MtdfCalls
@@ -40,7 +40,7 @@ pub mod Capitals
 pub mod Alternating
 pub mod Grafting
 pub mod LeastValue
-pub mod WorstCase
+pub mod WorstFill
 pub mod LeastCounts
 pub mod Shorter
 pub mod Order

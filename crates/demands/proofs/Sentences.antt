@@ -66,9 +66,9 @@ use Rattle.leastvalue.proofs as leastvalue
 use Rattle.leastvalue.specs.declared.LeastValue.the-variants.{Value}
 use Rattle.leastvalue.specs.results.Root.{rootValue}
 use Rattle.leastvalue.proofs.Theorems.{given}
-use Rattle.worstcase.proofs as worstcase
-use Rattle.worstcase.specs.declared.Filled.the-variants as filled
-use Rattle.worstcase.specs.results.Filled.{handed}
+use Rattle.worstfill.proofs as worstfill
+use Rattle.worstfill.specs.declared.Filled.the-variants as filled
+use Rattle.worstfill.specs.results.Filled.{handed}
 use Rattle.leastcount.proofs as leastcount
 use Rattle.leastcount.specs.declared.Least.the-variants as least
 use Rattle.leastcount.specs.Answer.{leastAnswer}
@@ -92,7 +92,7 @@ use Rattle.demands.proofs.Evaluations.{no-more, count, smallest, local-
 use Rattle.demands.proofs.PlainCalls.{same-as-alphaBeta}
 use Rattle.demands.proofs.Allowed.{needs-more, merit-bounds, spent-fewer}
 use Rattle.demands.proofs.Alternating.{alternating-tree}
-use Rattle.demands.proofs.Dearest.{every-leaf-counted, every-leaf-marked, none-costlier}
+use Rattle.demands.proofs.FilledCosts.{every-leaf-counted, every-leaf-marked, none-costlier}
 use Rattle.demands.proofs.LeastCounts.{every-pair}
 use Rattle.demands.proofs.Fewest.{no-fewer, no-fewer-plain}
 use Rattle.demands.proofs.Listing.{same-list, same-findings, same-buffers, left-to-right, as-many, none-twice}
@@ -380,7 +380,7 @@ smallest-value =
     let g = given (t .now) k w v (sym s ∙ i) in (g .ranged, g .reaches, g .smallest))
 
 -- N11: "In that tree alpha-beta values every leaf, so no filling of the shape costs it more"
-pub costs-most : RunBoth worstcase.fill.ended alphabeta.search.ended worstcase.fill.Symbol.routine
+pub costs-most : RunBoth worstfill.fill.ended alphabeta.search.ended worstfill.fill.Symbol.routine
     alphabeta.search.Symbol.routine
     (λ κs (t, _) r (t′, _) κs′ (u, _) r′ (_, (m, _)). (n : ℕ) → r ≡ filled.Leaves n
     → (g : Findings) → r′ ≡ ab-answer.Found g → (SameShape (t .now) (u .now) → g .leaves ≤ n)
@@ -390,7 +390,7 @@ costs-most =
     record {
       one = _;
       other = _;
-      oneRuns = contracts.worstcase-fill;
+      oneRuns = contracts.worstfill-fill;
       otherRuns = contracts.alphabeta-search;
       both = λ κs (t, _) r (t′, _) s κs′ (u, (x, (y, (z, _)))) r′ (_, (x′, (y′, (z′, _)))) c n e g i.
           let given = sym (ap (λ o. o .answer) s) ∙ e in

@@ -52,9 +52,9 @@ use Rattle.convert.proofs.Printing.{laid-keeps}
 use Rattle.graft.proofs as graft
 use Rattle.graft_questions.specs.Questions.{graftRejection}
 use Rattle.graft.proofs.Grafting as grafting
-use Rattle.worstcase.proofs as worstcase
-use Rattle.worstcase.proofs.Whole.{fill-kept}
-use Rattle.worstcase.specs.declared.Filled.the-variants.{Rejected as RejectedFill}
+use Rattle.worstfill.proofs as worstfill
+use Rattle.worstfill.proofs.Whole.{fill-kept}
+use Rattle.worstfill.specs.declared.Filled.the-variants.{Rejected as RejectedFill}
 use Rattle.demands.specs.Runs.{Runs, RunBoth}
 use Rattle.demands.specs.Handed.{Marked, CertifiedBy}
 use Rattle.demands.specs.Searches.{EachSearch}
@@ -238,11 +238,11 @@ graft-keeps =
     let p = grafting.graft-keeps (t .now) k (u .now) (b .now) q (sym (ap (λ o. o .answer) s) ∙ e) in
     (p .0, ap (λ o. o .left) s ∙ p .1))
 
-pub fill-keeps : Runs worstcase.fill.ended worstcase.fill.Symbol.routine
+pub fill-keeps : Runs worstfill.fill.ended worstfill.fill.Symbol.routine
     (λ κs (t, _) r (t′, _). (q : Rejection) → r ≡ RejectedFill q
     → (rejection (t .now) ≡ some q) × (t′ .now ≡ t .now))
 fill-keeps =
-    follows contracts.worstcase-fill
+    follows contracts.worstfill-fill
     (λ κs (t, _) r (t′, _) s q e.
     let k = fill-kept (t .now) q (sym (ap (λ o. o .answer) s) ∙ e) in
     (k .0, ap (λ o. o .left) s ∙ k .1))

@@ -9,8 +9,8 @@ use Rattle.gametree.specs.declared.Side.{Side}
 use Rattle.gametree.specs.declared.Side.the-variants.{Max, Min}
 use Rattle.gametree.specs.Tree.{Tree, leaves, leavesChildren}
 use Rattle.frames.specs.Tree.{childrenFrom}
-use Rattle.worstcase.specs.Ranks.{ranked, rankedChildren}
-use Rattle.worstcase.specs.engine.Fillable.{nthChild}
+use Rattle.worstfill.specs.Ranks.{ranked, rankedChildren}
+use Rattle.worstfill.specs.engine.Fillable.{nthChild}
 
 -- the next rank, and the table
 pub record Filling : Type 0 where

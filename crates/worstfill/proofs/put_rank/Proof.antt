@@ -1,10 +1,10 @@
--- `worstcase::put_rank` meets its contract: the two stores are those of the definition.
+-- `worstfill::put_rank` meets its contract: the two stores are those of the definition.
 use native.Mathlib.Omega.{arith}
 use lib.ListN.{length-set}
 use borrow.Author.Needs.{needs}
-use Rattle.worstcase.specs.Ranks.{withRank}
-use Rattle.worstcase.proofs.put_rank.Statement.{statement}
-use Rattle.worstcase.proofs.put_rank.Tie as tie
+use Rattle.worstfill.specs.Ranks.{withRank}
+use Rattle.worstfill.proofs.put_rank.Statement.{statement}
+use Rattle.worstfill.proofs.put_rank.Tie as tie
 
 returns : tie.Need-returns
 unfolding withRank

@@ -13,8 +13,8 @@ use Rattle.gametree.specs.Tree.{In, InChildren, Distinct, DistinctChildren}
 use Rattle.gametree_theory.proofs.minimax.Bounds.{every-map, every-map-kids}
 use Rattle.gametree_theory.proofs.alphabeta.WorstCase.{Blocks, BlocksChildren, blocks-more}
 use Rattle.frames.specs.Frame.{frameSize, frames, byteOf, valueBytes}
-use Rattle.worstcase.specs.Ranks.{ranked, rankedChildren}
-use Rattle.worstcase.proofs.Ranks.{off-other, rank-value, ranked-length, ranked-other}
+use Rattle.worstfill.specs.Ranks.{ranked, rankedChildren}
+use Rattle.worstfill.proofs.Ranks.{off-other, rank-value, ranked-length, ranked-other}
 
 mutual
   -- the leaves of a tree are nodes of it

@@ -1,9 +1,9 @@
--- `worstcase::fill` meets its contract: the questions are answered, and then the leaves are filled or nothing is done.
+-- `worstfill::fill` meets its contract: the questions are answered, and then the leaves are filled or nothing is done.
 use mathlib.Core.Path.{sym, _∙_}
 use borrow.Author.Needs.{needs}
-use Rattle.worstcase.proofs.Whole.{checked-fillable, fill-gives, fill-refused}
-use Rattle.worstcase.proofs.fill.Statement.{statement}
-use Rattle.worstcase.proofs.fill.Tie as tie
+use Rattle.worstfill.proofs.Whole.{checked-fillable, fill-gives, fill-refused}
+use Rattle.worstfill.proofs.fill.Statement.{statement}
+use Rattle.worstfill.proofs.fill.Tie as tie
 
 fill-node-requires : tie.Need-fill-node-requires
 fill-node-requires c κs =

@@ -6,12 +6,12 @@ use Rattle.gametree.specs.Tree.{leaves}
 use Rattle.frames.specs.Tree.{tree}
 use Rattle.frames.specs.Rejection.{unless, Outcome, _leaving_}
 use Rattle.frames.specs.Check.{rejection}
-use Rattle.worstcase.specs.declared.Filled.{Filled}
-use Rattle.worstcase.specs.declared.Filled.the-variants.{Leaves, Rejected}
-use Rattle.worstcase.specs.Ranks.{worstCase}
+use Rattle.worstfill.specs.declared.Filled.{Filled}
+use Rattle.worstfill.specs.declared.Filled.the-variants.{Leaves, Rejected}
+use Rattle.worstfill.specs.Ranks.{worstFill}
 
 -- the outcome of a call with the table t: the number of leaves, and the worst-case filling; on a "no" to questions 1 to
 -- 9 the table as it was
 abbrev pub fillOutcome : List ℕ → Outcome Filled (List ℕ)
 fillOutcome t =
-    unless (rejection t) (λ r. Rejected r leaving t) (Leaves (length (leaves (tree t))) leaving worstCase t)
+    unless (rejection t) (λ r. Rejected r leaving t) (Leaves (length (leaves (tree t))) leaving worstFill t)

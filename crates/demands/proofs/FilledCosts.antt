@@ -19,15 +19,15 @@ use Rattle.certificate.specs.declared.Findings.{Findings}
 use Rattle.alphabeta.specs.declared.AlphaBetaAnswer.the-variants as ab-answer
 use Rattle.alphabeta.specs.Outcome.{reachedLeaves}
 use Rattle.plain.proofs.Leaves.{leaves-are}
-use Rattle.worstcase.specs.declared.Filled.the-variants.{Leaves}
-use Rattle.worstcase.specs.Outcome.{fillOutcome}
-use Rattle.worstcase.specs.results.Filled.{handed}
-use Rattle.worstcase.proofs.Whole.{fill-given}
-use Rattle.worstcase.proofs.WorstCase.{worst-reached}
+use Rattle.worstfill.specs.declared.Filled.the-variants.{Leaves}
+use Rattle.worstfill.specs.Outcome.{fillOutcome}
+use Rattle.worstfill.specs.results.Filled.{handed}
+use Rattle.worstfill.proofs.Whole.{fill-given}
+use Rattle.worstfill.proofs.WorstFill.{worst-reached}
 use Rattle.demands.proofs.Calls.{AlphaBetaCall, alphaBeta}
 use Rattle.demands.proofs.Views.{view}
 use Rattle.demands.proofs.Handed.{marks-at}
-use Rattle.demands.proofs.WorstCase.{only-accepted, leaf-count, filled-shape}
+use Rattle.demands.proofs.WorstFill.{only-accepted, leaf-count, filled-shape}
 
 -- alpha-beta counts the leaves that it reaches
 counted : {t : List ℕ} {f : Findings} → AlphaBetaCall t (ab-answer.Found f) → f .leaves ≡ length (reachedLeaves t)

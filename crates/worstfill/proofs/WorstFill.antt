@@ -31,10 +31,10 @@ use Rattle.frames.proofs.Shapes.{same-count, same-tree}
 use Rattle.frames.proofs.Totals.{tree-size}
 use Rattle.frames.proofs.Trees.{zero-or-suc}
 use Rattle.frames.proofs.Worth.{score-other}
-use Rattle.worstcase.specs.Ranks.{ranked, worstCase}
-use Rattle.worstcase.proofs.Ranks.{Off, off-other, ranked-length, ranked-other, ranked-alike, ranked-same}
-use Rattle.worstcase.proofs.Blocks.{ranked-blocks}
-use Rattle.worstcase.proofs.Kept.{Kept, ranked-kept, ranked-front}
+use Rattle.worstfill.specs.Ranks.{ranked, worstFill}
+use Rattle.worstfill.proofs.Ranks.{Off, off-other, ranked-length, ranked-other, ranked-alike, ranked-same}
+use Rattle.worstfill.proofs.Blocks.{ranked-blocks}
+use Rattle.worstfill.proofs.Kept.{Kept, ranked-kept, ranked-front}
 
 module _ (t : List ℕ) (a : Accepted t) where
   formed : WellFormed t
@@ -48,26 +48,26 @@ module _ (t : List ℕ) (a : Accepted t) where
   pub leaves-few : length (leaves (tree t)) ≤ maxNodes
   leaves-few = omega (arith, leaves-size (tree t), tree-size t formed, formed .atMost)
 
-  pub worst-kept : Kept t (worstCase t)
-  unfolding worstCase
+  pub worst-kept : Kept t (worstFill t)
+  unfolding worstFill
   worst-kept = ranked-kept 0 (tree t) t formed leaves-inside (omega (arith, leaves-few))
 
   -- bytes 0 to 3 stay
-  pub worst-front : (i k : ℕ) → k < 4 → byteOf (worstCase t) i k ≡ byteOf t i k
-  unfolding worstCase
+  pub worst-front : (i k : ℕ) → k < 4 → byteOf (worstFill t) i k ≡ byteOf t i k
+  unfolding worstFill
   worst-front i k h = ranked-front 0 (tree t) t i k h
 
   -- and all bytes of inner nodes
-  pub worst-inner : (i k : ℕ) → k < frameSize → 0 < childCount t i → byteOf (worstCase t) i k ≡ byteOf t i k
-  unfolding worstCase
+  pub worst-inner : (i k : ℕ) → k < frameSize → 0 < childCount t i → byteOf (worstFill t) i k ≡ byteOf t i k
+  unfolding worstFill
   worst-inner i k h c =
       ranked-other 0 (tree t) t (frameSize * i + k)
       (every-leaf t formed (Off (frameSize * i + k))
       (λ n _ z. off-other i k n h (λ e. omega (arith, rw e at c))) 0 (formed .nonEmpty))
 
   -- the ranks stand in blocks
-  pub worst-blocks : Blocks (valueBytes (worstCase t)) 0 (tree t)
-  unfolding worstCase
+  pub worst-blocks : Blocks (valueBytes (worstFill t)) 0 (tree t)
+  unfolding worstFill
   worst-blocks =
       ranked-blocks (frames t) 0 (tree t) t (omega arith) leaves-inside (tree-distinct t formed 0 (formed .nonEmpty))
 
@@ -77,35 +77,35 @@ module _ (t : List ℕ) (a : Accepted t) where
       leaf-listed t formed 0 (formed .nonEmpty) x (in-tree t formed x (l .inside)) (l .childless)
 
   -- each rank is below the number of leaves
-  pub rank-below : {x : ℕ} → Leaf t x → valueBytes (worstCase t) x < length (leaves (tree t))
-  rank-below {x} l = omega (arith, blocks-at (valueBytes (worstCase t)) 0 (tree t) worst-blocks x (listed l))
+  pub rank-below : {x : ℕ} → Leaf t x → valueBytes (worstFill t) x < length (leaves (tree t))
+  rank-below {x} l = omega (arith, blocks-at (valueBytes (worstFill t)) 0 (tree t) worst-blocks x (listed l))
 
   -- no two leaves have one rank
-  pub rank-once : {x y : ℕ} → Leaf t x → Leaf t y → valueBytes (worstCase t) x ≡ valueBytes (worstCase t) y → x ≡ y
+  pub rank-once : {x y : ℕ} → Leaf t x → Leaf t y → valueBytes (worstFill t) x ≡ valueBytes (worstFill t) y → x ≡ y
   rank-once {x} {y} l m e =
-      blocks-once (valueBytes (worstCase t)) 0 (tree t) worst-blocks x y (listed l) (listed m) e
+      blocks-once (valueBytes (worstFill t)) 0 (tree t) worst-blocks x y (listed l) (listed m) e
 
   -- each number below that of the leaves is a rank
-  pub rank-every : (r : ℕ) → r < length (leaves (tree t)) → (x : ℕ) × Leaf t x × (valueBytes (worstCase t) x ≡ r)
+  pub rank-every : (r : ℕ) → r < length (leaves (tree t)) → (x : ℕ) × Leaf t x × (valueBytes (worstFill t) x ≡ r)
   rank-every r h =
-      blocks-all (Leaf t) (valueBytes (worstCase t)) 0 (tree t)
+      blocks-all (Leaf t) (valueBytes (worstFill t)) 0 (tree t)
       (every-leaf t formed (Leaf t) (λ i l z. record { inside = l; childless = z }) 0 (formed .nonEmpty)) worst-blocks r
       (omega arith) (omega arith)
 
   -- a leaf's score is that of its rank
-  pub rank-score : {x : ℕ} → Leaf t x → valuation (worstCase t) x ≡ valueBytes (worstCase t) x + zeroScore
+  pub rank-score : {x : ℕ} → Leaf t x → valuation (worstFill t) x ≡ valueBytes (worstFill t) x + zeroScore
   unfolding valuation
   rank-score {x} l =
       let h = rank-below l in
-      let s : storedScore (worstCase t) x ≡ valueBytes (worstCase t) x + zeroScore = omega (arith, leaves-few) in
-      score-other (depthOf (worstCase t) x) (storedScore (worstCase t) x) (omega (arith, leaves-few)) (omega arith) ∙ s
+      let s : storedScore (worstFill t) x ≡ valueBytes (worstFill t) x + zeroScore = omega (arith, leaves-few) in
+      score-other (depthOf (worstFill t) x) (storedScore (worstFill t) x) (omega (arith, leaves-few)) (omega arith) ∙ s
 
   -- the filled table is accepted
-  pub worst-accepted : Accepted (worstCase t)
+  pub worst-accepted : Accepted (worstFill t)
   worst-accepted =
       let k = worst-kept in
       let n = k .shape .sameFrames in
-      same-accepted t (worstCase t) (k .shape) a
+      same-accepted t (worstFill t) (k .shape) a
       (λ i h z. k .formed .scored i (omega arith) (worst-front i 2 (omega arith) ∙ z))
       (λ i h c.
       let p = worst-inner i 4 (omega arith) c in
@@ -114,16 +114,16 @@ module _ (t : List ℕ) (a : Accepted t) where
       (k .long)
 
   -- its tree is that of the table
-  pub worst-tree : tree (worstCase t) ≡ tree t
-  worst-tree = sym (same-tree t (worstCase t) (worst-kept .shape) formed (worst-kept .formed))
+  pub worst-tree : tree (worstFill t) ≡ tree t
+  worst-tree = sym (same-tree t (worstFill t) (worst-kept .shape) formed (worst-kept .formed))
 
   -- alpha-beta reaches every leaf
-  pub worst-reached : reached (valuation (worstCase t)) least greatest (tree (worstCase t)) ≡ leaves (tree t)
+  pub worst-reached : reached (valuation (worstFill t)) least greatest (tree (worstFill t)) ≡ leaves (tree t)
   worst-reached =
       rw worst-tree
-      (all-reached (valuation (worstCase t)) (0 + zeroScore) least greatest (tree t)
-      (blocks-more (valueBytes (worstCase t)) (valuation (worstCase t)) zeroScore 0 (tree t)
-      (every-leaf t formed (λ n. valuation (worstCase t) n ≡ valueBytes (worstCase t) n + zeroScore)
+      (all-reached (valuation (worstFill t)) (0 + zeroScore) least greatest (tree t)
+      (blocks-more (valueBytes (worstFill t)) (valuation (worstFill t)) zeroScore 0 (tree t)
+      (every-leaf t formed (λ n. valuation (worstFill t) n ≡ valueBytes (worstFill t) n + zeroScore)
       (λ i l z. rank-score (record { inside = l; childless = z })) 0 (formed .nonEmpty))
       worst-blocks)
       (omega arith) (omega (arith, leaves-few)))
@@ -162,8 +162,8 @@ module _ (t u : List ℕ) (a : Accepted t) (b : Accepted u) (s : SameShape t u) 
             | no q ↦ (let q : k ≡ 5 = omega arith in rw q (e .sameLow))
           ]
 
-  pub same-worst : worstCase t ≡ worstCase u
-  unfolding worstCase
+  pub same-worst : worstFill t ≡ worstFill u
+  unfolding worstFill
   same-worst =
       rw (← same-tree t u s (accepted-formed t a) (accepted-formed u b))
       (ext-getD 0 (ranked 0 (tree t) t) (ranked 0 (tree t) u)

@@ -2,9 +2,9 @@
 use Prim.Native.Nat.{ℕ}
 use mathlib.Core.List.{List, [], _∷_, _++_}
 use Rattle.frames.specs.results.Cases.{leafFrame, innerFrame, againFrame, small, capture, lone, single}
-use Rattle.worstcase.specs.declared.Filled.the-variants.{Leaves, Rejected}
+use Rattle.worstfill.specs.declared.Filled.the-variants.{Leaves, Rejected}
 use Rattle.frames.specs.Rejection.{Outcome, _leaving_}
-use Rattle.worstcase.specs.declared.Filled.{Filled}
+use Rattle.worstfill.specs.declared.Filled.{Filled}
 
 -- Max(Min(Min(a, b))), where Min moves twice
 abbrev pub minTwice : ℕ → ℕ → List ℕ

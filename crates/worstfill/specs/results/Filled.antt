@@ -7,7 +7,7 @@ use Rattle.lists.specs.Lists.{among}
 use Rattle.gametree.specs.Tree.{nodes}
 use Rattle.frames.specs.Tree.{treeAt}
 use Rattle.frames.specs.results.Leaf.{Leaf}
-use Rattle.worstcase.specs.Outcome.{fillOutcome}
+use Rattle.worstfill.specs.Outcome.{fillOutcome}
 
 -- what the call leaves in the lent table
 abbrev pub handed : List ℕ → List ℕ

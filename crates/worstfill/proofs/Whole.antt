@@ -17,11 +17,11 @@ use Rattle.frames.specs.Check.{rejection, Accepted, checked}
 use Rattle.frames.proofs.Acceptance.{accepted-formed, nodes-accepted, rejected-first}
 use Rattle.frames.proofs.Positions.{position-root}
 use Rattle.frames.proofs.Totals.{tree-size}
-use Rattle.worstcase.specs.declared.Filled.{Filled}
-use Rattle.worstcase.specs.declared.Filled.the-variants.{Leaves, Rejected}
-use Rattle.worstcase.specs.Ranks.{ranked, worstCase}
-use Rattle.worstcase.specs.Outcome.{fillOutcome}
-use Rattle.worstcase.specs.engine.Fillable.{Fillable}
+use Rattle.worstfill.specs.declared.Filled.{Filled}
+use Rattle.worstfill.specs.declared.Filled.the-variants.{Leaves, Rejected}
+use Rattle.worstfill.specs.Ranks.{ranked, worstFill}
+use Rattle.worstfill.specs.Outcome.{fillOutcome}
+use Rattle.worstfill.specs.engine.Fillable.{Fillable}
 
 module _ (t : List ℕ) where
   -- an accepted table can be filled from the root on
@@ -43,7 +43,7 @@ module _ (t : List ℕ) where
     -- and what the recursion gives is the outcome
     pub fill-gives : (x : ℕ) (u : List ℕ) → x ≡ 0 + length (leaves (tree t)) → u ≡ ranked 0 (tree t) t
         → Leaves x leaving u ≡ fillOutcome t
-    unfolding worstCase
+    unfolding worstFill
     fill-gives x u p q =
         let z : x ≡ length (leaves (tree t)) = omega arith in rw (nodes-accepted t n e .0, z, q)
 
@@ -54,10 +54,10 @@ module _ (t : List ℕ) where
 
   -- what a number of leaves for an answer says, and what a rejection
   abbrev outcomeBy : Option Rejection → Outcome Filled (List ℕ)
-  outcomeBy q = unless q (λ r. Rejected r leaving t) (Leaves (length (leaves (tree t))) leaving worstCase t)
+  outcomeBy q = unless q (λ r. Rejected r leaving t) (Leaves (length (leaves (tree t))) leaving worstFill t)
 
   given-parts : (q : Option Rejection) (n : ℕ) → outcomeBy q .answer ≡ Leaves n
-      → (q ≡ none) × (n ≡ length (leaves (tree t))) × (outcomeBy q .left ≡ worstCase t)
+      → (q ≡ none) × (n ≡ length (leaves (tree t))) × (outcomeBy q .left ≡ worstFill t)
   given-parts none n e = (refl, cc, refl)
   given-parts (some r) n e = clash (cc)
 
@@ -67,7 +67,7 @@ module _ (t : List ℕ) where
   refused-parts (some x) r e = (cc, refl)
 
   pub fill-given : (n : ℕ) → fillOutcome t .answer ≡ Leaves n
-      → Accepted t × (n ≡ length (leaves (tree t))) × (fillOutcome t .left ≡ worstCase t)
+      → Accepted t × (n ≡ length (leaves (tree t))) × (fillOutcome t .left ≡ worstFill t)
   fill-given n e = given-parts (rejection t) n e
 
   pub fill-kept : (r : Rejection) → fillOutcome t .answer ≡ Rejected r
@@ -75,5 +75,5 @@ module _ (t : List ℕ) where
   fill-kept r e = refused-parts (rejection t) r e
 
   -- an accepted table is filled
-  pub fill-accepted : Accepted t → fillOutcome t ≡ Leaves (length (leaves (tree t))) leaving worstCase t
+  pub fill-accepted : Accepted t → fillOutcome t ≡ Leaves (length (leaves (tree t))) leaving worstFill t
   fill-accepted a = ap outcomeBy a

@@ -1,4 +1,4 @@
--- `worstcase::fill_node` meets its contract. The number of frames from the node on falls with each call; at the head of
+-- `worstfill::fill_node` meets its contract. The number of frames from the node on falls with each call; at the head of
 -- the loop stands `RankLoop`: the turns that are left make of the next rank and the table what is due.
 use Prim.Native.Nat.{ℕ, _-_, _<_}
 use native.Mathlib.Omega.{arith}
@@ -6,18 +6,18 @@ use borrow.Author.Needs.{needs}
 use borrow.Fn.Kinds.{In}
 use borrow.Fn.PlainCycle.{Measures, is, falls, and}
 use Rattle.frames.specs.Frame.{frames}
-use Rattle.worstcase.proofs.Nodes.{RankLoop, leaf-few, leaf-due, turns-begin, turn-inside, turn-later}
-use Rattle.worstcase.proofs.Nodes.{turn-fillable, turn-goes-on, turns-end}
-use Rattle.worstcase.proofs.fill_node.Reads as own
-use Rattle.worstcase.proofs.fill_node.Kinds as own-kinds
-use Rattle.worstcase.proofs.+fill_node.Lts-fill_node as lts
+use Rattle.worstfill.proofs.Nodes.{RankLoop, leaf-few, leaf-due, turns-begin, turn-inside, turn-later}
+use Rattle.worstfill.proofs.Nodes.{turn-fillable, turn-goes-on, turns-end}
+use Rattle.worstfill.proofs.fill_node.Reads as own
+use Rattle.worstfill.proofs.fill_node.Kinds as own-kinds
+use Rattle.worstfill.proofs.+fill_node.Lts-fill_node as lts
 use Rattle.frames.proofs.child_count.Reads as child-count-reads
 use Rattle.frames.proofs.child_side.Reads as child-side-reads
 use Rattle.frames.proofs.first_child.Reads as first-child-reads
-use Rattle.worstcase.proofs.nth_child.Reads as nth-child-reads
-use Rattle.worstcase.proofs.put_rank.Reads as put-rank-reads
-use Rattle.worstcase.proofs.+fill_node.{statement}
-use Rattle.worstcase.proofs.+fill_node.Tie.{close}
+use Rattle.worstfill.proofs.nth_child.Reads as nth-child-reads
+use Rattle.worstfill.proofs.put_rank.Reads as put-rank-reads
+use Rattle.worstfill.proofs.+fill_node.{statement}
+use Rattle.worstfill.proofs.+fill_node.Tie.{close}
 
 abbrev μ : Measures 1 own-kinds.ps ℕ
 μ κs a = frames (a .0 .now) - a .1 .0

@@ -15,7 +15,7 @@ use Rattle.gametree.specs.Tree.{EveryLeafChildren}
 use Rattle.gametree_theory.proofs.minimax.Bounds.{every-leaf}
 use Rattle.frames.specs.Frame.{frameSize, frames, byteOf, valueBytes}
 use Rattle.frames.specs.Shape.{AgreeOn}
-use Rattle.worstcase.specs.Ranks.{withRank, ranked, rankedChildren}
+use Rattle.worstfill.specs.Ranks.{withRank, ranked, rankedChildren}
 
 -- position p holds no byte of leaf n's value
 pub record Off (p n : ℕ) : Type 0 where

@@ -11,9 +11,9 @@ use Rattle.frames.specs.Frame.{frameSize, maxNodes, twoBytes, frames, byteOf, v
 use Rattle.frames.specs.Formed.{WellFormed}
 use Rattle.frames.specs.Shape.{SameShape}
 use Rattle.frames.proofs.OtherValues.{same-formed}
-use Rattle.worstcase.specs.Ranks.{withRank, ranked}
-use Rattle.worstcase.proofs.Ranks.{off-front, off-other, rank-length, rank-value, rank-other}
-use Rattle.worstcase.proofs.Ranks.{ranked-keeps, ranked-length, ranked-other}
+use Rattle.worstfill.specs.Ranks.{withRank, ranked}
+use Rattle.worstfill.proofs.Ranks.{off-front, off-other, rank-length, rank-value, rank-other}
+use Rattle.worstfill.proofs.Ranks.{ranked-keeps, ranked-length, ranked-other}
 
 -- u is t with other values, and well-formed
 pub record Kept (t u : List ℕ) : Type 0 where

@@ -25,14 +25,14 @@ use Rattle.frames.proofs.Leaves.{leaf-listed}
 use Rattle.frames.proofs.Next.{child-within}
 use Rattle.frames.proofs.Shapes.{same-tree}
 use Rattle.frames.proofs.Values.{value-plus}
-use Rattle.worstcase.specs.declared.Filled.the-variants.{Leaves}
-use Rattle.worstcase.specs.Ranks.{worstCase}
-use Rattle.worstcase.specs.Outcome.{fillOutcome}
-use Rattle.worstcase.specs.results.Filled.{handed, LeafBelow}
-use Rattle.worstcase.proofs.Whole.{fill-given, fill-accepted}
-use Rattle.worstcase.proofs.Order.{Before, node-block, node-order}
-use Rattle.worstcase.proofs.WorstCase.{worst-kept, worst-front, worst-inner, worst-blocks, worst-accepted, rank-below}
-use Rattle.worstcase.proofs.WorstCase.{rank-once, rank-every, rank-score, same-worst}
+use Rattle.worstfill.specs.declared.Filled.the-variants.{Leaves}
+use Rattle.worstfill.specs.Ranks.{worstFill}
+use Rattle.worstfill.specs.Outcome.{fillOutcome}
+use Rattle.worstfill.specs.results.Filled.{handed, LeafBelow}
+use Rattle.worstfill.proofs.Whole.{fill-given, fill-accepted}
+use Rattle.worstfill.proofs.Order.{Before, node-block, node-order}
+use Rattle.worstfill.proofs.WorstFill.{worst-kept, worst-front, worst-inner, worst-blocks, worst-accepted, rank-below}
+use Rattle.worstfill.proofs.WorstFill.{rank-once, rank-every, rank-score, same-worst}
 
 module _ (t : List ℕ) where
   -- "For an accepted shape the call writes the ranks": there is no other question
@@ -44,7 +44,7 @@ module _ (t : List ℕ) where
     pub only-accepted : Accepted t
     only-accepted = fill-given t n e .0
 
-    is-worst : worstCase t ≡ handed t
+    is-worst : worstFill t ≡ handed t
     is-worst = sym (fill-given t n e .2)
 
     -- "The call gives the number of leaves"
@@ -89,14 +89,14 @@ module _ (t : List ℕ) where
     pub worth-rank : {x : ℕ} → Leaf t x → valueOf (valuation (handed t) x) ≡ pos (valueBytes (handed t) x)
     worth-rank {x} l =
         subst (λ u. valueOf (valuation u x) ≡ pos (valueBytes u x)) is-worst
-        (value-plus (valuation (worstCase t) x) (valueBytes (worstCase t) x) (rank-score t only-accepted l))
+        (value-plus (valuation (worstFill t) x) (valueBytes (worstFill t) x) (rank-score t only-accepted l))
 
     -- "the children's ranks form .. blocks": the ranks below a node are consecutive
     pub ranks-block : (i : ℕ) → i < frames t → (b : ℕ) × ((x : ℕ) → LeafBelow t i x
         → (b ≤ valueBytes (handed t) x) × (valueBytes (handed t) x < b + length (leaves (treeAt t i))))
     ranks-block i h =
         let wf = accepted-formed t only-accepted in
-        let b = node-block t wf (valueBytes (worstCase t)) (worst-blocks t only-accepted) i h in
+        let b = node-block t wf (valueBytes (worstFill t)) (worst-blocks t only-accepted) i h in
         subst
         (λ u. (b : ℕ) × ((x : ℕ) → LeafBelow t i x
         → (b ≤ valueBytes u x) × (valueBytes u x < b + length (leaves (treeAt t i))))) is-worst (
@@ -111,7 +111,7 @@ module _ (t : List ℕ) where
     in-order i c d x y h p q l v w =
         let wf = accepted-formed t only-accepted in
         subst (λ u. Before (sideOf t i) (valueBytes u x) (valueBytes u y)) is-worst
-        (node-order t wf (valueBytes (worstCase t)) (worst-blocks t only-accepted) i c d x y h p q l
+        (node-order t wf (valueBytes (worstFill t)) (worst-blocks t only-accepted) i c d x y h p q l
         (leaf-listed t wf c (child-within t wf h p) x (nodes-in x (treeAt t c) (v .below)) (v .leaf .childless))
         (leaf-listed t wf d (child-within t wf h q) y (nodes-in y (treeAt t d) (w .below)) (w .leaf .childless)))
 

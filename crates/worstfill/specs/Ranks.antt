@@ -26,5 +26,5 @@ abbrev mutual
   rankedChildren r Min (v then vs) t = ranked (r + length (leavesChildren vs)) v (rankedChildren r Min vs t)
 
 -- the worst-case filling of the table's shape
-unfoldable pub worstCase : List ℕ → List ℕ
-worstCase t = ranked 0 (tree t) t
+unfoldable pub worstFill : List ℕ → List ℕ
+worstFill t = ranked 0 (tree t) t

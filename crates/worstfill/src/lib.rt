@@ -15,9 +15,9 @@ ghost use Rattle.gametree.specs.Tree.{leaves};
 ghost use Rattle.frames.specs.Frame.{maxNodes, frames, twoBytes};
 ghost use Rattle.frames.specs.Tree.{treeAt};
 ghost use Rattle.frames.specs.Rejection.{_leaving_};
-ghost use Rattle.worstcase.specs.Ranks.{withRank, ranked};
-ghost use Rattle.worstcase.specs.Outcome.{fillOutcome};
-ghost use Rattle.worstcase.specs.engine.Fillable.{Fillable, nthChild};
+ghost use Rattle.worstfill.specs.Ranks.{withRank, ranked};
+ghost use Rattle.worstfill.specs.Outcome.{fillOutcome};
+ghost use Rattle.worstfill.specs.engine.Fillable.{Fillable, nthChild};
 
 // The answer of a call: the number of leaves, or the first question that got a "no".
 pub enum Filled {

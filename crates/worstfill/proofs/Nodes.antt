@@ -16,10 +16,10 @@ use Rattle.frames.proofs.Positions.{position-child}
 use Rattle.frames.proofs.Proper.{every-leaf}
 use Rattle.frames.proofs.Shapes.{same-first, same-count, same-position, same-trees}
 use Rattle.frames.proofs.Trees.{tree-leaf, tree-inner}
-use Rattle.worstcase.specs.Ranks.{withRank, ranked}
-use Rattle.worstcase.specs.engine.Fillable.{Fillable, nthChild}
-use Rattle.worstcase.proofs.Kept.{Kept, kept-self, kept-then, ranked-kept}
-use Rattle.worstcase.proofs.Turns.{Filling, turnsFrom, next-grows, all-turns}
+use Rattle.worstfill.specs.Ranks.{withRank, ranked}
+use Rattle.worstfill.specs.engine.Fillable.{Fillable, nthChild}
+use Rattle.worstfill.proofs.Kept.{Kept, kept-self, kept-then, ranked-kept}
+use Rattle.worstfill.proofs.Turns.{Filling, turnsFrom, next-grows, all-turns}
 
 -- what node i is to be given, from the rank r on
 abbrev due : (t : List ℕ) (i r : ℕ) → Filling

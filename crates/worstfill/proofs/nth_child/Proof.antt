@@ -1,8 +1,8 @@
--- `worstcase::nth_child` meets its contract, by the side.
+-- `worstfill::nth_child` meets its contract, by the side.
 use native.Mathlib.Omega.{arith}
 use borrow.Author.Needs.{needs}
-use Rattle.worstcase.proofs.nth_child.Statement.{statement}
-use Rattle.worstcase.proofs.nth_child.Tie as tie
+use Rattle.worstfill.proofs.nth_child.Statement.{statement}
+use Rattle.worstfill.proofs.nth_child.Tie as tie
 
 pub nth-child-spec : {M : Type 1} → statement M
 nth-child-spec =
