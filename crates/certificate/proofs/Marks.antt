@@ -17,7 +17,7 @@ use Rattle.frames.specs.Frame.{frames, childCount}
 use Rattle.frames.specs.Tree.{tree, valuation}
 use Rattle.frames.specs.Formed.{WellFormed}
 use Rattle.frames.proofs.Trees.{zero-or-suc}
-use Rattle.frames.proofs.Totals.{sumTo, atNode, sum-same, tree-leaf-count}
+use Rattle.frames.proofs.Totals.{atNode, sum-same, count-sum, tree-leaf-count}
 use Rattle.frames.proofs.Proper.{every-leaf, tree-proper}
 use Rattle.positions.specs.Buffer.{written}
 use Rattle.certificate_bounds.specs.Marks.{mark, marked, ones}
@@ -43,16 +43,11 @@ module _ (t : List ℕ) (wf : WellFormed t) where
   pub evaluated-within : {w : List ℕ} → Deciding (valuation t) (tree t) w → All (λ k. k < frames t) w
   evaluated-within d = evaluated-hold (λ k. k < frames t) (λ i h e. h) d
 
-  ones-sum : (e : List ℕ) (n : ℕ) → ones e n ≡ sumTo (λ k. cond (marked e k) 1 0) n
-  unfolding ones sumTo
-  ones-sum e zero = refl
-  ones-sum e (suc n) = ap (λ x. x + cond (marked e n) 1 0) (ones-sum e n)
-
   -- where the marks are those of a set of leaves, the ones are the leaves of the set
   pub ones-leaves : (E : ℕ → Bool) → ((k : ℕ) → k < frames t → E k ≡ true → childCount t k ≡ 0) → (e : List ℕ)
       → ((k : ℕ) → k < frames t → marked e k ≡ E k) → ones e (frames t) ≡ leafCount E (tree t)
   ones-leaves E l e m =
-      ones-sum e (frames t)
+      count-sum (marked e) (frames t)
       ∙ sum-same _ (λ i. atNode (λ n. cond (E n) 1 0) (λ _. 0) (childCount t i) i) (frames t) (λ k h.
       ap (λ b. cond b 1 0) (m k h)
       ∙ zero-or-suc (childCount t k) (λ z. rw z) (λ n z. rw (z, is-false (E k) (λ p. omega (arith, l k h p)))))

@@ -4,10 +4,12 @@ use Prim.Native.Nat.{ℕ, zero, suc, _+_, _≤_, _<_}
 use native.Mathlib.Omega.{arith}
 use native.Mathlib.Decide.{decLt}
 use mathlib.Core.Path.{_≡_, refl, sym, ap, ap₂, _∙_}
-use mathlib.Core.Bool.{Bool, true, false, cond}
+use mathlib.Core.Bool.{false, cond}
 use mathlib.Core.List.{List, [], _∷_, _++_}
 use lib.ListN.{length, set, drop, length-append}
 use lib.Seq.{getD-set-same, sets, sets-eq}
+use Rattle.lists.specs.Lists.{countFrom}
+use Rattle.lists.proofs.Counting.{one-most, count-most, count-next}
 use Rattle.positions.specs.Buffer.{written}
 use Rattle.frames.specs.Frame.{maxNodes, frames}
 use Rattle.certificate_bounds.specs.Marks.{marked, ones, markAll}
@@ -15,49 +17,41 @@ use Rattle.certificate_bounds.specs.engine.Progress.{Progress, progress,
 use Rattle.certificate_bounds.specs.engine.Evaluable.{Evaluable}
 use Rattle.certificate_bounds.proofs.Marking.{marked-other, markAll-append, cleared-unmarked}
 
-one-most : (b : Bool) → cond b 1 0 ≤ 1
-one-most true = omega arith
-one-most false = omega arith
-
--- no more marks than nodes
-pub ones-few : (e : List ℕ) (n : ℕ) → ones e n ≤ n
-unfolding ones
-ones-few e zero = omega arith
-ones-few e (suc n) = omega (arith, ones-few e n, one-most (marked e n))
-
--- and fewer where a node has none
+-- fewer marks than nodes where a node has none
 pub ones-fewer : (e : List ℕ) (n k : ℕ) → k < n → marked e k ≡ false → ones e n < n
-unfolding ones
 ones-fewer e zero k h u = absurd (omega arith)
 ones-fewer e (suc n) k h u =
-    elim (decLt k n) [
+    rw (count-next (marked e) n)
+    (elim (decLt k n) [
       | yes l ↦ omega (arith, ones-fewer e n k l u, one-most (marked e n))
-      | no l ↦ (let z : k ≡ n = omega arith in rw (rw z at u) (omega (arith, ones-few e n)))
-    ]
+      | no l ↦ (let z : k ≡ n = omega arith in rw (rw z at u) (omega (arith, count-most (marked e) 0 n)))
+    ])
 
 -- where no node is marked the count is 0
 pub ones-none : (e : List ℕ) (n : ℕ) → ((k : ℕ) → k < n → marked e k ≡ false) → ones e n ≡ 0
-unfolding ones
+unfolding countFrom
 ones-none e zero u = refl
-ones-none e (suc n) u = rw (u n (omega arith)) (omega (arith, ones-none e n (λ k h. u k (omega arith))))
+ones-none e (suc n) u =
+    count-next (marked e) n ∙ rw (u n (omega arith)) (omega (arith, ones-none e n (λ k h. u k (omega arith))))
 
 -- a mark behind the nodes is not counted
 ones-behind : (e : List ℕ) (n k : ℕ) → n ≤ k → ones (set e k 1) n ≡ ones e n
-unfolding ones
+unfolding countFrom
 ones-behind e zero k h = refl
 ones-behind e (suc n) k h =
-    ap₂ (λ x b. x + cond b 1 0) (ones-behind e n k (omega arith)) (marked-other e k n 1 (λ q. omega arith))
+    rw (count-next (marked (set e k 1)) n, count-next (marked e) n)
+    (ap₂ (λ x b. x + cond b 1 0) (ones-behind e n k (omega arith)) (marked-other e k n 1 (λ q. omega arith)))
 
 -- a new mark is one more
 pub ones-set : (e : List ℕ) (n k : ℕ) → k < n → k < length e → marked e k ≡ false → ones (set e k 1) n ≡ ones e n + 1
-unfolding ones
 ones-set e zero k h r u = absurd (omega arith)
 ones-set e (suc n) k h r u =
-    elim (decLt k n) [
+    rw (count-next (marked (set e k 1)) n, count-next (marked e) n)
+    (elim (decLt k n) [
       | yes l ↦ rw (marked-other e k n 1 (λ q. omega arith)) (omega (arith, ones-set e n k l r u))
       | no l ↦ (let z : n ≡ k = omega arith in
           rw (z, u, getD-set-same e k 1 0 r) (omega (arith, ones-behind e k k (omega arith))))
-    ]
+    ])
 
 -- the leaves w, then the leaves v
 sets-append : (o : List ℕ) (n : ℕ) (w v : List ℕ) → sets o n (w ++ v) ≡ sets (sets o n w) (n + length w) v
@@ -96,7 +90,7 @@ pub first-evaluated : (n m : ℕ) (e e′ o o′ w : List ℕ) → progress n e�
     → (n ≡ length w) × ((e′ ≡ markAll e w) × (o′ ≡ w ++ drop (length w) o))
 first-evaluated n m e e′ o o′ w d c r =
     let a : n ≡ length w = omega (arith, ap (λ p. p .leaves) d) in
-    (a, (ap (λ p. p .marks) d, ap (λ p. p .order) d ∙ sets-first o w (omega (arith, ones-few e′ m))))
+    (a, (ap (λ p. p .marks) d, ap (λ p. p .order) d ∙ sets-first o w (omega (arith, count-most (marked e′) 0 m))))
 
 -- before the first leaf is evaluated
 pub listable-first : (t e e₁ o : List ℕ) (n : ℕ) → e₁ ≡ written (λ k. 0) n e → n ≡ frames t → frames t ≤ maxNodes

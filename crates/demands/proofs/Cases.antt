@@ -8,11 +8,11 @@ use Rattle.frames.specs.Tree.{childrenFrom, grow, treeAt, valuation}
 use Rattle.frames.specs.Rejection.{eachNode}
 use Rattle.frames.specs.Check.{framesRejection, rejection}
 use Rattle.positions.specs.Buffer.{tabulate, written}
-use Rattle.certificate_bounds.specs.Marks.{ones}
+use Rattle.lists.specs.Lists.{countFrom}
 use Rattle.demands.specs.Cases.{rowOf, tables, rows}
 
 -- every row of the table is what the definitions give
 pub marked-cases : map rowOf tables ≡ rows
 unfolding mtd next parentBefore positionWithin positionOf childrenFrom grow treeAt valuation eachNode
-    framesRejection rejection tabulate written ones
+    framesRejection rejection tabulate written countFrom
 marked-cases = refl

@@ -20,7 +20,7 @@ use Rattle.sss.specs.Outcome.{sssOutcome, solveOutcome}
 use Rattle.graft.proofs as graft
 use Rattle.graft.specs.Outcome.{graftOutcome}
 use Rattle.shorter.proofs as shorter
-use Rattle.shorter.specs.Choice.{choice, chosenFlags, pointerBy}
+use Rattle.shorter.specs.Choice.{choice, flagsBy, pointerBy}
 use Rattle.verify.proofs as verify
 use Rattle.verify.specs.Check.{verdict}
 use Rattle.leastvalue.proofs as leastvalue
@@ -157,6 +157,6 @@ shorter-choose = record { meets = shorter.choose.Met.met }
 
 pub shorter-select : Runs shorter.select.ended shorter.select.Symbol.routine
     (λ κs (t, (f, (s, _))) r e. (r .choice ≡ choice (t .now) (f .now) (s .now))
-    × (r .flags .now ≡ chosenFlags (t .now) (f .now) (s .now))
+    × (r .flags .now ≡ flagsBy (t .now) (f .now) (s .now) (r .choice))
     × (r .flags .ptr ≡ pointerBy (f .ptr) (s .ptr) (r .choice)))
 shorter-select = record { meets = shorter.select.Met.met }

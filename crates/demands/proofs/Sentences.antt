@@ -74,8 +74,8 @@ use Rattle.leastcount.specs.declared.Least.the-variants as least
 use Rattle.leastcount.specs.Answer.{leastAnswer}
 use Rattle.shorter.proofs as shorter
 use Rattle.shorter.specs.declared.Choice.the-variants.{First, Second}
-use Rattle.shorter.specs.Choice.{flaggedLeaves}
-use Rattle.shorter.proofs.Theorems.{both-first, both-second, handed-first, handed-second}
+use Rattle.shorter.specs.Choice.{flaggedLeaves, flagsBy}
+use Rattle.shorter.proofs.Theorems.{both-first, both-second}
 use Rattle.demands.specs.Runs.{Runs, RunBoth}
 use Rattle.demands.specs.Handed.{Room, AgreeOnMarked, Alike}
 use Rattle.demands.specs.Searches.{EachSearch, EachSpent, EachPlain}
@@ -433,10 +433,10 @@ pub fewer-leaves : Runs shorter.select.ended shorter.select.Symbol.routine
 fewer-leaves =
     follows contracts.shorter-select
     (λ κs (t, (f, (s, _))) r e o v w c d. (
-      λ l. let i = both-second (t .now) (f .now) (s .now) c d l in
-          (o .0 ∙ i, o .1 ∙ handed-second (t .now) (f .now) (s .now) i),
-      λ l. let i = both-first (t .now) (f .now) (s .now) c d l in
-          (o .0 ∙ i, o .1 ∙ handed-first (t .now) (f .now) (s .now) i),
+      λ l. let i = o .0 ∙ both-second (t .now) (f .now) (s .now) c d l in
+          (i, o .1 ∙ ap (flagsBy (t .now) (f .now) (s .now)) i),
+      λ l. let i = o .0 ∙ both-first (t .now) (f .now) (s .now) c d l in
+          (i, o .1 ∙ ap (flagsBy (t .now) (f .now) (s .now)) i),
     ))
 
 -- N14: "For every accepted tree MTD and a finished SSS* give the same list": with the same findings, marks and flags

@@ -6,6 +6,7 @@ use mathlib.Core.Option.{Option}
 use mathlib.Core.List.{List, [], _∷_}
 use lib.Dec.{eqb}
 use lib.ListN.{length}
+use Rattle.lists.specs.Lists.{countFrom}
 use Rattle.gametree.specs.declared.Side.{Side}
 use Rattle.gametree.specs.declared.Side.the-variants.{Max, Min}
 use Rattle.frames.specs.declared.Rejection.{Rejection}
@@ -18,7 +19,7 @@ use Rattle.frames.specs.results.Alternating.{zeroCheck4, zeroRejection, sideByD
 use Rattle.file_lines.specs.Lines.{decoded}
 use Rattle.file_reader.specs.File.{fileCheck2, fileCheck3, fileCheck16, fileCheck10}
 use Rattle.verify.specs.declared.Verdict.{Verdict}
-use Rattle.verify.specs.Flags.{member, membersFrom, requiredOf, rootMember}
+use Rattle.verify.specs.Flags.{member, requiredOf, rootMember}
 use Rattle.verify.specs.Check.{check11, check14, judged}
 use Rattle.text.specs.Text.{refusedLine}
 use Rattle.report.specs.Report.{analysisOn}
@@ -41,7 +42,7 @@ zeroRead f table = zeroFile f andThen fileCheck10 f table
 abbrev pub ruleByDepth : Side → List ℕ → List ℕ → ℕ → Bool
 ruleByDepth p t flags i =
     rootMember p flags i
-    && eqb (membersFrom p flags (firstChild t i) (childCount t i))
+    && eqb (countFrom (member p flags) (firstChild t i) (childCount t i))
     (requiredOf p (sideByDepth (depthOf t i)) (member p flags i) (childCount t i))
 
 abbrev pub treeRuleByDepth : ℕ → Side → List ℕ → List ℕ → Option Rejection

@@ -9,7 +9,7 @@ use native.Mathlib.Omega.{arith}
 use borrow.Author.Tests.{ltb-true, eqb-true}
 use Rattle.frames.specs.Frame.{frameSize}
 use Rattle.file_hex.specs.Digit.{noDigit, digitOf}
-use Rattle.file_lines.specs.Line.{lineDigits, allDigits, isLine, hexByte, bytesOf}
+use Rattle.file_lines.specs.Line.{lineDigits, allDigits, isLine, bytesOf}
 
 -- a line has twelve bytes
 pub line-length : (l : List ℕ) → isLine l ≡ true → length l ≡ lineDigits
@@ -32,7 +32,7 @@ digit-at (b ∷ l) (suc i) e h =
 
 -- byte k of a line is made of its digits 2k and 2k + 1
 pub byte-at : (k : ℕ) (l : List ℕ) → 2 * k + 1 < length l
-    → getD (bytesOf l) k 0 ≡ hexByte (getD l (2 * k) 0) (getD l (2 * k + 1) 0)
+    → getD (bytesOf l) k 0 ≡ 16 * digitOf (getD l (2 * k) 0) + digitOf (getD l (2 * k + 1) 0)
 unfolding bytesOf
 byte-at k [] h = absurd (omega arith)
 byte-at k (a ∷ []) h = absurd (omega arith)

@@ -35,15 +35,11 @@ unfoldable pub hasLowercase : List ℕ → Bool
 hasLowercase [] = false
 hasLowercase (b ∷ l) = isLowercase b || hasLowercase l
 
--- the byte of two digits, the high one first
-abbrev pub hexByte : ℕ → ℕ → ℕ
-hexByte h l = 16 * digitOf h + digitOf l
-
--- the bytes of a line, one for each two digits
+-- the bytes of a line, one for each two digits, the high one first
 unfoldable pub bytesOf : List ℕ → List ℕ
 bytesOf [] = []
 bytesOf (h ∷ []) = []
-bytesOf (h ∷ l ∷ ds) = hexByte h l ∷ bytesOf ds
+bytesOf (h ∷ l ∷ ds) = (16 * digitOf h + digitOf l) ∷ bytesOf ds
 
 -- six bytes as a frame
 abbrev pub frameOf : List ℕ → Frame

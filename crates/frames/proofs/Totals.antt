@@ -5,6 +5,8 @@ use native.Mathlib.Omega.{arith}
 use mathlib.Core.Path.{_≡_, refl, ap, ap₂, _∙_}
 use mathlib.Core.Bool.{Bool, cond}
 use mathlib.Core.List.{List}
+use Rattle.lists.specs.Lists.{countFrom}
+use Rattle.lists.proofs.Counting.{count-next}
 use Rattle.gametree.specs.Tree.{Tree, leaf, inner, Children, last, _then_, size, sizeChildren, leafCount}
 use Rattle.gametree.specs.Tree.{leafCountChildren}
 use Rattle.gametree_theory.proofs.minimax.Nodes.{size-then}
@@ -121,6 +123,12 @@ pub sum-same : (f g : ℕ → ℕ) (n : ℕ) → ((k : ℕ) → k < n → f k �
 unfolding sumTo
 sum-same f g zero e = refl
 sum-same f g (suc n) e = ap₂ _+_ (sum-same f g n (λ k h. e k (omega arith))) (e n (omega arith))
+
+-- how many numbers below n are in a set, as a sum
+pub count-sum : (E : ℕ → Bool) (n : ℕ) → countFrom E 0 n ≡ sumTo (λ k. cond (E k) 1 0) n
+unfolding countFrom sumTo
+count-sum E zero = refl
+count-sum E (suc n) = count-next E n ∙ ap (λ x. x + cond (E n) 1 0) (count-sum E n)
 
 sum-ones : (n : ℕ) → sumTo (λ k. 1) n ≡ n
 unfolding sumTo

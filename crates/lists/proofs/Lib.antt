@@ -1,3 +1,4 @@
--- Choices by a test, and lists.
+-- Choices by a test, lists, and counting.
 pub mod Choice
 pub mod Lists
+pub mod Counting

@@ -6,6 +6,7 @@ use mathlib.Core.Option.{Option, none, some}
 use mathlib.Core.List.{List, [], _∷_}
 use lib.IntN.{ℤ}
 use lib.ListN.{length}
+use lib.Dec.{ltb}
 use borrow.Author.Tests.{leb-true}
 use Rattle.lists.proofs.Choice.{clash, and-both}
 use Rattle.frames.specs.declared.Rejection.{Rejection}
@@ -18,7 +19,7 @@ use Rattle.verify.specs.declared.Verdict.the-variants as verdicts
 use Rattle.verify.specs.Check.{flagsRejection, judged}
 use Rattle.shorter.specs.declared.Choice.{Choice}
 use Rattle.shorter.specs.declared.Choice.the-variants.{First, Second, Rejected}
-use Rattle.shorter.specs.Choice.{fewerSecond, choiceBy, choice}
+use Rattle.shorter.specs.Choice.{flaggedLeaves, choiceBy, choice}
 
 module _ (t flags : List ℕ) where
   -- a certificate that gets a value is not rejected
@@ -56,4 +57,5 @@ says (some r) p q b = refl
 pub choice-says : (t f s : List ℕ) (c : Choice) → c ≡ choice t f s
     → Says (rejection t) (flagsRejection t f) (flagsRejection t s) c
 unfolding choice
-choice-says t f s c e = rw e (says (rejection t) (flagsRejection t f) (flagsRejection t s) (fewerSecond t f s))
+choice-says t f s c e =
+    rw e (says (rejection t) (flagsRejection t f) (flagsRejection t s) (ltb (flaggedLeaves t s) (flaggedLeaves t f)))

@@ -13,11 +13,11 @@ use Rattle.gametree_theory.proofs.certificates.Leaves.{pair-count}
 use Rattle.frames.specs.Frame.{frames, childCount}
 use Rattle.frames.specs.Tree.{tree}
 use Rattle.frames.proofs.Trees.{zero-or-suc}
-use Rattle.frames.proofs.Totals.{sumTo, atNode, sum-same, tree-leaf-count}
+use Rattle.frames.proofs.Totals.{atNode, sum-same, count-sum, tree-leaf-count}
 use Rattle.frames.proofs.Acceptance.{accepted-formed}
 use Rattle.verify.specs.Flags.{member}
 use Rattle.verify.specs.Certificate.{Certificate}
-use Rattle.shorter.specs.Choice.{flaggedLeaf, flaggedBefore, flaggedLeaves}
+use Rattle.shorter.specs.Choice.{flaggedLeaf, flaggedLeaves}
 
 -- a flag from 1 to 3 puts its node into one of the two trees, or both
 in-a-tree : (f : ℕ) → f ≤ inBoth → ltb 0 f ≡ (inside Max f || inside Min f)
@@ -27,16 +27,11 @@ in-a-tree (suc (suc zero)) h = refl
 in-a-tree (suc (suc (suc zero))) h = refl
 in-a-tree (suc (suc (suc (suc f)))) h = absurd (omega arith)
 
-before-sum : (t flags : List ℕ) (n : ℕ) → flaggedBefore t flags n ≡ sumTo (λ i. cond (flaggedLeaf t flags i) 1 0) n
-unfolding flaggedBefore sumTo
-before-sum t flags zero = refl
-before-sum t flags (suc n) = ap (λ x. x + cond (flaggedLeaf t flags n) 1 0) (before-sum t flags n)
-
 -- the flagged leaves of a certificate
 pub flagged-pair : (t flags : List ℕ) {v : ℕ} → Certificate t flags v
     → flaggedLeaves t flags ≡ pairLeaves (member Max flags) (member Min flags) (tree t)
 flagged-pair t flags c =
-    before-sum t flags (frames t)
+    count-sum (flaggedLeaf t flags) (frames t)
     ∙ sum-same _ (λ i. atNode (λ n. cond (member Max flags n || member Min flags n) 1 0) (λ _. 0) (childCount t i) i)
     (frames t) (λ i h.
     zero-or-suc (childCount t i) (λ z. rw (z, in-a-tree (getD flags i 0) (c .inRange i h)))

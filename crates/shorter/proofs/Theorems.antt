@@ -7,6 +7,7 @@ use mathlib.Core.Bool.{Bool, cond}
 use mathlib.Core.Option.{Option, none, some}
 use mathlib.Core.List.{List, []}
 use lib.ListN.{length, take, length-take}
+use lib.Dec.{ltb}
 use borrow.Author.Tests.{lt-ltb, le-ltb}
 use Rattle.lists.proofs.Choice.{clash}
 use Rattle.gametree.specs.Tree.{minimax}
@@ -26,7 +27,7 @@ use Rattle.verify.proofs.Theorems.{certificate-verdict, verdict-certificate}
 use Rattle.verify.proofs.Parts.{certificate-part}
 use Rattle.shorter.specs.declared.Choice.{Choice}
 use Rattle.shorter.specs.declared.Choice.the-variants.{First, Second, Rejected}
-use Rattle.shorter.specs.Choice.{flaggedLeaves, fewerSecond, choiceBy, choice, flagsBy}
+use Rattle.shorter.specs.Choice.{flaggedLeaves, choiceBy, choice, flagsBy}
 use Rattle.shorter.specs.Choice.{chosenFlags}
 use Rattle.shorter.proofs.Choosing.{value-passed, rejected-by, choice-says}
 
@@ -63,7 +64,7 @@ part t flags e d =
 
 module _ (t f s : List ℕ) where
   module _ {v w : ℕ} (c : Certificate t f v) (d : Certificate t s w) where
-    both : choice t f s ≡ cond (fewerSecond t f s) Second First
+    both : choice t f s ≡ cond (ltb (flaggedLeaves t s) (flaggedLeaves t f)) Second First
     unfolding choice certificateRejection
     both =
         let a = both-passed (rejection t) _ (passed t f c) in

@@ -1,10 +1,11 @@
 -- Which of two lent certificates is handed back (02: the shorter of two proofs).
-use Prim.Native.Nat.{ℕ, zero, suc, _+_}
+use Prim.Native.Nat.{ℕ, _+_}
 use mathlib.Core.Bool.{Bool, cond, _&&_}
 use mathlib.Core.Option.{Option, none, some}
 use mathlib.Core.List.{List, []}
 use lib.Dec.{eqb, ltb}
 use lib.ListN.{getD, take}
+use Rattle.lists.specs.Lists.{countFrom}
 use Rattle.frames.specs.declared.Rejection.{Rejection}
 use Rattle.frames.specs.Frame.{frames, childCount}
 use Rattle.frames.specs.Rejection.{unless}
@@ -17,21 +18,12 @@ use Rattle.shorter.specs.declared.Choice.the-variants.{First, Second, Re
 abbrev pub flaggedLeaf : (t flags : List ℕ) → ℕ → Bool
 flaggedLeaf t flags i = eqb (childCount t i) 0 && ltb 0 (getD flags i 0)
 
--- how many of the nodes before n are flagged leaves, a shared one counted once
-unfoldable pub flaggedBefore : (t flags : List ℕ) → ℕ → ℕ
-flaggedBefore t flags zero = 0
-flaggedBefore t flags (suc n) = flaggedBefore t flags n + cond (flaggedLeaf t flags n) 1 0
-
--- the flagged leaves of a table
+-- how many flagged leaves a table has, a shared one counted once
 abbrev pub flaggedLeaves : (t flags : List ℕ) → ℕ
-flaggedLeaves t flags = flaggedBefore t flags (frames t)
+flaggedLeaves t flags = countFrom (flaggedLeaf t flags) 0 (frames t)
 
--- has the second certificate fewer?
-abbrev pub fewerSecond : (t first second : List ℕ) → Bool
-fewerSecond t first second = ltb (flaggedLeaves t second) (flaggedLeaves t first)
-
--- the choice by what each certificate is rejected for: the accepted one; if both are, the one with fewer flagged
--- leaves, the first on a tie; if neither is, the first one's rejection
+-- the choice by what each certificate is rejected for, and by whether the second has fewer flagged leaves: the accepted
+-- one; if both are, the one with fewer, the first on a tie; if neither is, the first one's rejection
 abbrev pub choiceBy : Option Rejection → Option Rejection → Bool → Choice
 choiceBy none none b = cond b Second First
 choiceBy none (some s) b = First
@@ -42,7 +34,7 @@ choiceBy (some r) (some s) b = Rejected r
 unfoldable pub choice : (t first second : List ℕ) → Choice
 choice t first second =
     unless (rejection t) Rejected
-    (choiceBy (flagsRejection t first) (flagsRejection t second) (fewerSecond t first second))
+    (choiceBy (flagsRejection t first) (flagsRejection t second) (ltb (flaggedLeaves t second) (flaggedLeaves t first)))
 
 -- the flags of the choice, one a node; none on a rejection
 abbrev pub flagsBy : (t first second : List ℕ) → Choice → List ℕ

@@ -9,12 +9,12 @@ use verify::check_certificate;
 ghost use mathlib.Core.Path.{_≡_};
 ghost use mathlib.Core.Bool.{cond};
 ghost use Prim.Native.Nat.{_<_, _≤_};
+ghost use lib.Dec.{ltb};
 ghost use lib.ListN.{length};
 ghost use Rattle.frames.specs.Frame.{frames};
 ghost use Rattle.frames.specs.Formed.{WellFormed};
 ghost use Rattle.verify.specs.Check.{flagsRejection};
-ghost use Rattle.shorter.specs.Choice.{flaggedLeaf, flaggedLeaves, fewerSecond, choiceBy, choice, chosenFlags};
-ghost use Rattle.shorter.specs.Choice.{pointerBy};
+ghost use Rattle.shorter.specs.Choice.{flaggedLeaf, flaggedLeaves, choiceBy, choice, flagsBy, pointerBy};
 ghost use Rattle.shorter.specs.declared.Choice.the-variants.{First, Second};
 
 // Which of two certificates is handed back, or a rejection.
@@ -39,7 +39,7 @@ pub fn select<'t, 'a: 'r, 'b: 'r, 'r>(
     second: &'b [u8],
 ) -> Selection<'r>
     ensures { λ r. ⌜ (r .choice ≡ choice (now (table .entry)) (now (first .entry)) (now (second .entry)))
-        × (now (r .flags) ≡ chosenFlags (now (table .entry)) (now (first .entry)) (now (second .entry)))
+        × (now (r .flags) ≡ flagsBy (now (table .entry)) (now (first .entry)) (now (second .entry)) (r .choice))
         × (r .flags .ptr ≡ pointerBy (first .entry .ptr) (second .entry .ptr) (r .choice)) ⌝ }
 {
     let chosen = choose(table, first, second);
@@ -61,7 +61,7 @@ pub fn choose(table: &[u8], first: &[u8], second: &[u8]) -> Choice
 // The flags of the chosen certificate, one a node, as a part of its own memory; empty on a rejection.
 pub fn flags<'r>(table: &[u8], first: &'r [u8], second: &'r [u8], chosen: Choice) -> &'r [u8]
     requires { ⌜ chosen ≡ choice (now table) (now first) (now second) ⌝ }
-    ensures { λ r. ⌜ (now r ≡ chosenFlags (now (table .entry)) (now (first .entry)) (now (second .entry)))
+    ensures { λ r. ⌜ (now r ≡ flagsBy (now (table .entry)) (now (first .entry)) (now (second .entry)) chosen)
         × (r .ptr ≡ pointerBy (first .entry .ptr) (second .entry .ptr) chosen) ⌝ }
 {
     let n = frame_count(table);
@@ -93,7 +93,8 @@ fn choose_certificate(table: &[u8], first: &[u8], second: &[u8]) -> Choice
     requires { ⌜ WellFormed (now table) ⌝ }
     ensures { λ r. ⌜ r ≡ choiceBy (flagsRejection (now (table .entry)) (now (first .entry)))
         (flagsRejection (now (table .entry)) (now (second .entry)))
-        (fewerSecond (now (table .entry)) (now (first .entry)) (now (second .entry))) ⌝ }
+        (ltb (flaggedLeaves (now (table .entry)) (now (second .entry)))
+        (flaggedLeaves (now (table .entry)) (now (first .entry)))) ⌝ }
 {
     let of_first = check_certificate(table, first);
     let of_second = check_certificate(table, second);
@@ -113,7 +114,8 @@ fn choose_certificate(table: &[u8], first: &[u8], second: &[u8]) -> Choice
 fn fewer(table: &[u8], first: &[u8], second: &[u8]) -> Choice
     requires { ⌜ (frames (now table) ≤ length (now first)) × (frames (now table) ≤ length (now second)) ⌝ }
     ensures { λ r. ⌜ r
-        ≡ cond (fewerSecond (now (table .entry)) (now (first .entry)) (now (second .entry))) Second First ⌝ }
+        ≡ cond (ltb (flaggedLeaves (now (table .entry)) (now (second .entry)))
+        (flaggedLeaves (now (table .entry)) (now (first .entry)))) Second First ⌝ }
 {
     let of_first = flagged_leaves(table, first);
     if flagged_leaves(table, second) < of_first {

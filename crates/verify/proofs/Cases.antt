@@ -6,13 +6,14 @@ use Rattle.frames.specs.Position.{parentBefore, positionWithin, positionOf}
 use Rattle.frames.specs.Tree.{valuation}
 use Rattle.frames.specs.Rejection.{eachNode}
 use Rattle.frames.specs.Check.{framesRejection, rejection}
-use Rattle.verify.specs.Flags.{membersFrom, ruleHolds}
+use Rattle.lists.specs.Lists.{countFrom}
+use Rattle.verify.specs.Flags.{ruleHolds}
 use Rattle.verify.specs.Value.{bestBefore}
 use Rattle.verify.specs.Check.{treesRejection, flagsRejection, certificateRejection, verdict}
 use Rattle.verify.specs.results.Cases.{cases}
 
 -- each certificate gets its verdict
 pub small-verdicts : map (λ c. verdict (c .table) (c .flags)) cases ≡ map (λ c. c .verdict) cases
-unfolding next parentBefore positionWithin positionOf valuation eachNode framesRejection rejection membersFrom ruleHolds
+unfolding next parentBefore positionWithin positionOf valuation eachNode framesRejection rejection countFrom ruleHolds
     bestBefore treesRejection flagsRejection certificateRejection verdict
 small-verdicts = refl

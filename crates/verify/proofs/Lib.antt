@@ -2,7 +2,6 @@
 mod Subtrees
 mod Rules
 mod Values
-mod Counting
 mod Asking
 mod Ruling
 mod Judging

@@ -10,7 +10,9 @@ use Rattle.gametree.specs.declared.Side.{Side}
 use Rattle.gametree.specs.Tree.{Tree, Children}
 use Rattle.gametree.specs.Certificate.{Rule, Rules, RulesChildren, SolutionTree}
 use Rattle.gametree_theory.proofs.certificates.Counting.{kidCount, members, required}
+use Rattle.lists.specs.Lists.{countFrom}
 use Rattle.lists.proofs.Choice.{and-both}
+use Rattle.lists.proofs.Counting.{count-first}
 use Rattle.gametree_theory.proofs.Theorems.{rule-counting}
 use Rattle.frames.specs.Frame.{frames, firstChild, childCount}
 use Rattle.frames.specs.Position.{sideOf}
@@ -18,16 +20,17 @@ use Rattle.frames.specs.Tree.{childrenFrom, treeAt, tree}
 use Rattle.frames.specs.Formed.{WellFormed}
 use Rattle.frames.proofs.Parents.{bottom-up}
 use Rattle.frames.proofs.Trees.{kids-count, zero-or-suc, tree-leaf, tree-inner, tree-number}
-use Rattle.verify.specs.Flags.{member, membersFrom, requiredOf, rootMember, ruleHolds}
+use Rattle.verify.specs.Flags.{member, requiredOf, rootMember, ruleHolds}
 use Rattle.verify.proofs.Subtrees.{Inherited, each-subtree}
 
 module _ (p : Side) (t flags : List ℕ) where
   -- the children in the tree, counted over the table
-  members-kids : (i n : ℕ) → members (member p flags) (childrenFrom (treeAt t) i n) ≡ membersFrom p flags i (suc n)
-  unfolding childrenFrom membersFrom
-  members-kids i zero = rw (tree-number t i) (omega arith)
+  members-kids : (i n : ℕ) → members (member p flags) (childrenFrom (treeAt t) i n) ≡ countFrom (member p flags) i (suc n)
+  unfolding childrenFrom countFrom
+  members-kids i zero = rw (tree-number t i) (omega (arith, count-first (member p flags) i 0))
   members-kids i (suc n) =
       ap₂ (λ k m. cond (member p flags k) 1 0 + m) (tree-number t i) (members-kids (i + 1) n)
+      ∙ sym (count-first (member p flags) i (suc n))
 
 required-same : (p q : Side) (b : Bool) (ks : Children) (n : ℕ) → kidCount ks ≡ suc n
     → required p q b ks ≡ requiredOf p q b (suc n)
@@ -51,7 +54,7 @@ root-member p flags (suc i) f = refl
 
 -- of a leaf that is not the root nothing is asked
 pub leaf-rule : (p : Side) (t flags : List ℕ) (i : ℕ) → 0 < i → childCount t i ≡ 0 → ruleHolds p t flags i ≡ true
-unfolding ruleHolds membersFrom
+unfolding ruleHolds countFrom
 leaf-rule p t flags zero h e = absurd (omega arith)
 leaf-rule p t flags (suc i) h e = rw e
 
@@ -59,7 +62,7 @@ module _ (p : Side) (t flags : List ℕ) (wf : WellFormed t) where
   -- as many children of node i are in the tree as required
   abbrev Counted : ℕ → Type 0
   Counted i =
-      membersFrom p flags (firstChild t i) (childCount t i)
+      countFrom (member p flags) (firstChild t i) (childCount t i)
       ≡ requiredOf p (sideOf t i) (member p flags i) (childCount t i)
 
   -- the rule of an inner node, over the table and over the tree
@@ -98,7 +101,7 @@ module _ (p : Side) (t flags : List ℕ) (wf : WellFormed t) where
 
   -- and the rule of a solution tree holds at each node
   pub solved-rules : SolutionTree p (member p flags) (tree t) → (i : ℕ) → i < frames t → ruleHolds p t flags i ≡ true
-  unfolding ruleHolds membersFrom
+  unfolding ruleHolds countFrom
   solved-rules s i h =
       let x = each-subtree (rules-inherited p (member p flags)) t wf (s .1) i h in
       rw (root-member p flags i (λ z. rw z (rw (tree-number t 0) at (s .0))))

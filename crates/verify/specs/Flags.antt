@@ -1,9 +1,10 @@
 -- A lent certificate (01: the proof): one flag a node, and the rule that each node of the table sets for a side's tree.
-use Prim.Native.Nat.{ℕ, zero, suc, _+_}
+use Prim.Native.Nat.{ℕ, zero, suc}
 use mathlib.Core.Bool.{Bool, true, false, cond, _&&_}
 use mathlib.Core.List.{List}
 use lib.Dec.{eqb}
 use lib.ListN.{getD}
+use Rattle.lists.specs.Lists.{countFrom}
 use Rattle.gametree.specs.declared.Side.{Side}
 use Rattle.gametree.specs.Certificate.{inside, same}
 use Rattle.frames.specs.Frame.{firstChild, childCount}
@@ -12,11 +13,6 @@ use Rattle.frames.specs.Position.{sideOf}
 -- the set of the nodes that the flags put into side p's tree: flagged 1 or 3 for Max, 2 or 3 for Min
 abbrev pub member : Side → List ℕ → ℕ → Bool
 member p flags k = inside p (getD flags k 0)
-
--- how many of the n nodes from i on are in side p's tree
-unfoldable pub membersFrom : Side → List ℕ → ℕ → ℕ → ℕ
-membersFrom p flags i zero = 0
-membersFrom p flags i (suc n) = cond (member p flags i) 1 0 + membersFrom p flags (i + 1) n
 
 -- how many of its n children a node of side q must have in side p's tree, where b says whether it is in that tree
 -- itself: a node outside none, a node in it all of them where p moves, and exactly one where the other side moves
@@ -34,5 +30,5 @@ rootMember p flags (suc i) = true
 unfoldable pub ruleHolds : Side → List ℕ → List ℕ → ℕ → Bool
 ruleHolds p t flags i =
     rootMember p flags i
-    && eqb (membersFrom p flags (firstChild t i) (childCount t i))
+    && eqb (countFrom (member p flags) (firstChild t i) (childCount t i))
     (requiredOf p (sideOf t i) (member p flags i) (childCount t i))

@@ -23,13 +23,14 @@ ghost use mathlib.Core.Path.{_≡_};
 ghost use Prim.Native.Nat.{_+_, _≤_, _<_};
 ghost use mathlib.Core.Bool.{true};
 ghost use lib.ListN.{length};
+ghost use Rattle.lists.specs.Lists.{countFrom};
 ghost use Rattle.gametree.specs.Certificate.{inside, same as sameSide, worst as worstOf};
 ghost use Rattle.frames.specs.Frame.{maxNodes, frames};
 ghost use Rattle.frames.specs.Position.{depthOf, sideOf};
 ghost use Rattle.frames.specs.Formed.{WellFormed};
 ghost use Rattle.frames.specs.Rejection.{answer};
 ghost use Rattle.positions.specs.engine.Positions.{Positioned};
-ghost use Rattle.verify.specs.Flags.{membersFrom, requiredOf, ruleHolds};
+ghost use Rattle.verify.specs.Flags.{member, requiredOf, ruleHolds};
 ghost use Rattle.verify.specs.Value.{leafIn, treeValue};
 ghost use Rattle.verify.specs.Check.{check11, checkTree, treesRejection, flagsRejection, judged, verdict};
 
@@ -180,7 +181,7 @@ fn rule_holds(table: &[u8], flags: &[u8], node: usize, mover: Side, side: Side) 
 // How many of the `count` nodes from `first` on are in the side's tree.
 fn count_members(flags: &[u8], first: usize, count: usize, side: Side) -> usize
     requires { ⌜ first + count ≤ length (now flags) ⌝ }
-    ensures { λ r. ⌜ r ≡ membersFrom side (now (flags .entry)) first count ⌝ }
+    ensures { λ r. ⌜ r ≡ countFrom (member side (now (flags .entry))) first count ⌝ }
 {
     let end = first + count;
     let mut members: usize = 0;

@@ -2,6 +2,7 @@
 use Prim.Native.Nat.{ℕ}
 use mathlib.Core.Path.{_≡_, sym, _∙_}
 use mathlib.Core.List.{List}
+use lib.Dec.{ltb}
 use borrow.Author.Needs.{needs}
 use Rattle.frames.specs.declared.Rejection.{Rejection}
 use Rattle.frames.specs.declared.Checked.the-variants as answers
@@ -12,7 +13,7 @@ use Rattle.frames.proofs.Acceptance.{accepted-formed, nodes-accepted}
 use Rattle.verify.specs.Check.{flagsRejection}
 use Rattle.shorter.specs.declared.Choice.{Choice}
 use Rattle.shorter.specs.declared.Choice.the-variants.{Rejected}
-use Rattle.shorter.specs.Choice.{fewerSecond, choiceBy, choice}
+use Rattle.shorter.specs.Choice.{flaggedLeaves, choiceBy, choice}
 use Rattle.shorter.proofs.choose.Statement.{statement}
 use Rattle.shorter.proofs.choose.Tie as tie
 
@@ -22,7 +23,8 @@ module _ (t f s : List ℕ) where
   table-rejected r e = rw (answer-rejected (frames t) r (rejection t) e)
 
   table-accepted : (n : ℕ) → answers.Nodes n ≡ checked t → (c : Choice)
-      → c ≡ choiceBy (flagsRejection t f) (flagsRejection t s) (fewerSecond t f s) → c ≡ choice t f s
+      → c ≡ choiceBy (flagsRejection t f) (flagsRejection t s) (ltb (flaggedLeaves t s) (flaggedLeaves t f))
+      → c ≡ choice t f s
   unfolding choice
   table-accepted n e c h = rw (answer-nodes (frames t) n (rejection t) e .0) h
 

@@ -4,18 +4,19 @@ use native.Mathlib.Omega.{arith}
 use mathlib.Core.Path.{_≡_}
 use mathlib.Core.Bool.{cond}
 use mathlib.Core.List.{List}
+use lib.Dec.{ltb}
 use borrow.Author.Tests.{lt-ltb, le-ltb}
 use borrow.Author.Needs.{needs}
 use Rattle.shorter.specs.declared.Choice.the-variants.{First, Second}
-use Rattle.shorter.specs.Choice.{flaggedLeaves, fewerSecond}
+use Rattle.shorter.specs.Choice.{flaggedLeaves}
 use Rattle.shorter.proofs.fewer.Statement.{statement}
 use Rattle.shorter.proofs.fewer.Tie as tie
 
 module _ (t f s : List ℕ) (a b : ℕ) (p : a ≡ flaggedLeaves t f) (q : b ≡ flaggedLeaves t s) where
-  second : b < a → Second ≡ cond (fewerSecond t f s) Second First
+  second : b < a → Second ≡ cond (ltb (flaggedLeaves t s) (flaggedLeaves t f)) Second First
   second h = rw (← p, ← q, lt-ltb _ _ h)
 
-  first : a ≤ b → First ≡ cond (fewerSecond t f s) Second First
+  first : a ≤ b → First ≡ cond (ltb (flaggedLeaves t s) (flaggedLeaves t f)) Second First
   first h = rw (← p, ← q, le-ltb _ _ h)
 
 returns : tie.Need-returns

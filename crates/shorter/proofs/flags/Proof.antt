@@ -10,7 +10,7 @@ use Rattle.frames.specs.declared.Rejection.{Rejection}
 use Rattle.frames.specs.Frame.{frames}
 use Rattle.shorter.specs.declared.Choice.{Choice}
 use Rattle.shorter.specs.declared.Choice.the-variants.{First, Second, Rejected}
-use Rattle.shorter.specs.Choice.{choice, chosenFlags, pointerBy}
+use Rattle.shorter.specs.Choice.{flagsBy, pointerBy}
 use Rattle.shorter.proofs.Choosing.{passed-enough, choice-says}
 use Rattle.shorter.proofs.flags.Statement.{statement}
 use Rattle.shorter.proofs.flags.Tie as tie
@@ -20,18 +20,18 @@ same-pointer : (p : ℕ × ℕ) → _≡_ {A = ℕ × ℕ} (p .0, 0 + p .1) p
 same-pointer p = ap (λ x. (p .0, x)) (omega arith)
 
 -- the part for each choice: its flags, and where it begins
-module _ (t f s : List ℕ) (n : ℕ) (e : n ≡ frames t) (pf ps : ℕ × ℕ) (chosen : Choice) (h : chosen ≡ choice t f s) where
+module _ (t f s : List ℕ) (n : ℕ) (e : n ≡ frames t) (pf ps : ℕ × ℕ) (chosen : Choice) where
   of-first : chosen ≡ First
-      → (take (n - 0) f ≡ chosenFlags t f s) × (_≡_ {A = ℕ × ℕ} (pf .0, 0 + pf .1) (pointerBy pf ps chosen))
-  of-first k = let m : n - 0 ≡ frames t = omega arith in (rw (← h, k, m), rw k (same-pointer pf))
+      → (take (n - 0) f ≡ flagsBy t f s chosen) × (_≡_ {A = ℕ × ℕ} (pf .0, 0 + pf .1) (pointerBy pf ps chosen))
+  of-first k = let m : n - 0 ≡ frames t = omega arith in (rw (k, m), rw k (same-pointer pf))
 
   of-second : chosen ≡ Second
-      → (take (n - 0) s ≡ chosenFlags t f s) × (_≡_ {A = ℕ × ℕ} (ps .0, 0 + ps .1) (pointerBy pf ps chosen))
-  of-second k = let m : n - 0 ≡ frames t = omega arith in (rw (← h, k, m), rw k (same-pointer ps))
+      → (take (n - 0) s ≡ flagsBy t f s chosen) × (_≡_ {A = ℕ × ℕ} (ps .0, 0 + ps .1) (pointerBy pf ps chosen))
+  of-second k = let m : n - 0 ≡ frames t = omega arith in (rw (k, m), rw k (same-pointer ps))
 
-  of-rejection : (r : Rejection) → chosen ≡ Rejected r → (_≡_ {A = List ℕ} [] (chosenFlags t f s))
+  of-rejection : (r : Rejection) → chosen ≡ Rejected r → (_≡_ {A = List ℕ} [] (flagsBy t f s chosen))
       × (_≡_ {A = ℕ × ℕ} (pf .0, 0 + pf .1) (pointerBy pf ps chosen))
-  of-rejection r k = (rw (← h, k), rw k (same-pointer pf))
+  of-rejection r k = (rw k, rw k (same-pointer pf))
 
 part-result-end : tie.Need-part-result-end
 part-result-end c =
@@ -45,7 +45,7 @@ returns c =
     let g = c .before .before .before in
     let s = g .before .before .before .before in
     of-first (s .args .table .now) (s .args .first .now) (s .args .second .now) _ (g .frame-count .ensures)
-    (s .args .first .ptr) (s .args .second .ptr) _ (s .pre) (c .before .enum-told .given .1)
+    (s .args .first .ptr) (s .args .second .ptr) _ (c .before .enum-told .given .1)
 
 part-result-end-2 : tie.Need-part-result-end-2
 part-result-end-2 c =
@@ -59,14 +59,14 @@ returns-2 c =
     let g = c .before .before .before in
     let s = g .before .before .before .before in
     of-second (s .args .table .now) (s .args .first .now) (s .args .second .now) _ (g .frame-count .ensures)
-    (s .args .first .ptr) (s .args .second .ptr) _ (s .pre) (c .before .enum-told2 .given .1)
+    (s .args .first .ptr) (s .args .second .ptr) _ (c .before .enum-told2 .given .1)
 
 returns-3 : tie.Need-returns-3
 returns-3 c =
     let g = c .before .before .before in
     let s = g .before .before .before .before in
     of-rejection (s .args .table .now) (s .args .first .now) (s .args .second .now) _ (g .frame-count .ensures)
-    (s .args .first .ptr) (s .args .second .ptr) _ (s .pre) _ (c .before .enum-told3 .given .1)
+    (s .args .first .ptr) (s .args .second .ptr) _ _ (c .before .enum-told3 .given .1)
 
 pub flags-spec : {M : Type 1} → statement M
 flags-spec =

@@ -20,7 +20,7 @@ use Rattle.walks.proofs.Walk.{returns, says, shared, shortens, slice-vals, slic
 use Rattle.walks.proofs.Walk.{tablesOf, tripleOf, u8, via, walkOf, ‵, ⋆}
 use Rattle.shorter.specs.declared.Selection.{Selection}
 use Rattle.shorter.specs.declared.Choice.{Choice}
-use Rattle.shorter.specs.Choice.{choice, chosenFlags, pointerBy}
+use Rattle.shorter.specs.Choice.{choice, flagsBy, pointerBy}
 use Rattle.shorter.proofs.Selection as T
 use Rattle.shorter.proofs.Selection.Laws as T′
 use Rattle.shorter.proofs.Choice as S
@@ -154,15 +154,15 @@ module _ {M : Type 1} (𝓤 : URA M) (H : Heap 𝓤) (A : Atoms 𝓤) (W : Given
   abbrev Said : Selection → Type 0
   Said r =
       (r .choice ≡ choice (tb .now) (fs .now) (ss .now))
-      × (now (r .flags) ≡ chosenFlags (tb .now) (fs .now) (ss .now))
+      × (now (r .flags) ≡ flagsBy (tb .now) (fs .now) (ss .now) (r .choice))
       × (r .flags .ptr ≡ pointerBy (fs .ptr) (ss .ptr) (r .choice))
 
   said : (g : RefT (List ℕ)) (c : Choice) (r : Selection) → c ≡ choice (tb .now) (fs .now) (ss .now)
-      → (now g ≡ chosenFlags (tb .now) (fs .now) (ss .now)) × (g .ptr ≡ pointerBy (fs .ptr) (ss .ptr) c)
+      → (now g ≡ flagsBy (tb .now) (fs .now) (ss .now) c) × (g .ptr ≡ pointerBy (fs .ptr) (ss .ptr) c)
       → (r .flags ≡ g) × (r .choice ≡ c) → Said r
   said g c r e p q = (
     q .1 ∙ e,
-    ap now (q .0) ∙ p .0,
+    ap now (q .0) ∙ p .0 ∙ ap (flagsBy (tb .now) (fs .now) (ss .now)) (sym (q .1)),
     ap ptr (q .0) ∙ p .1 ∙ ap (pointerBy (fs .ptr) (ss .ptr)) (sym (q .1)),
   )
 
@@ -211,7 +211,7 @@ module _ {M : Type 1} (𝓤 : URA M) (H : Heap 𝓤) (A : Atoms 𝓤) (W : Given
         move ! (3 ∷ 19 ∷ 6 ∷ 1 ∷ 2 ∷ 0 ∷ []) $
         called-for W flags.ended (flags.clauses 𝓤 H A mem run) (to-flags c) (λ g. sliceVal (g .ptr) (length (g .now)))
         (shr-slice-tells (named 1) (κ .0) u8)
-        (λ g _. (now g ≡ chosenFlags (tb .now) (fs .now) (ss .now)) × (g .ptr ≡ pointerBy (fs .ptr) (ss .ptr) c))
+        (λ g _. (now g ≡ flagsBy (tb .now) (fs .now) (ss .now) c) × (g .ptr ≡ pointerBy (fs .ptr) (ss .ptr) c))
         (λ g ws. id⊢ 𝓤 _) (fmOf 𝓤 H (W .laws) 𝓣) hands (factI 𝓤 _ (emp 𝓤) chosen)
         (and-then ! (held ! (pos 3 1) refl) (and-then ! (held ! (pos 3 2) refl) (and-then ! (held ! (pos 3 3) refl)
         (and-then ! (held ! (pos 3 4) refl) (no-more !))))) (λ g _ g-is part.

@@ -12,8 +12,8 @@ use Rattle.gametree.specs.declared.Side.{Side}
 use Rattle.frames.specs.Frame.{firstChild, childCount}
 use Rattle.frames.specs.Position.{sideOf}
 use Rattle.frames.proofs.Next.{children-within}
-use Rattle.verify.specs.Flags.{member}
-use Rattle.verify.specs.Flags.{membersFrom, requiredOf, rootMember, ruleHolds}
+use Rattle.lists.specs.Lists.{countFrom}
+use Rattle.verify.specs.Flags.{member, requiredOf, rootMember, ruleHolds}
 use Rattle.verify.proofs.Rules.{root-member}
 use Rattle.verify.proofs.rule_holds.Statement.{statement}
 use Rattle.verify.proofs.rule_holds.Tie as tie
@@ -32,12 +32,12 @@ required-outside p q (suc n) = refl
 module _ (p : Side) (t flags : List ℕ) (i : ℕ) (r : rootMember p flags i ≡ true) where
   -- a leaf
   leaf-holds : (n : ℕ) → n ≡ childCount t i → n ≡ 0 → true ≡ ruleHolds p t flags i
-  unfolding ruleHolds membersFrom
+  unfolding ruleHolds countFrom
   leaf-holds n e z = rw (r, ← e, z)
 
   -- an inner node
   inner-holds : (m k f n : ℕ) (q : Side) (b : Bool) → f ≡ firstChild t i → n ≡ childCount t i → q ≡ sideOf t i
-      → b ≡ member p flags i → m ≡ membersFrom p flags f n → k ≡ requiredOf p q b n → eqb m k ≡ ruleHolds p t flags i
+      → b ≡ member p flags i → m ≡ countFrom (member p flags) f n → k ≡ requiredOf p q b n → eqb m k ≡ ruleHolds p t flags i
   unfolding ruleHolds
   inner-holds m k f n q b ef en eq eb em ek = rw (r, ← ef, ← en, ← eq, ← eb, em, ek)
 

@@ -27,7 +27,7 @@ use Rattle.walks.proofs.Walk.{tablesOf, tripleOf, u8, unit, unit-lit, via, vuni
 use Rattle.shorter.specs.declared.Selection.{Selection}
 use Rattle.shorter.specs.declared.Choice.{Choice}
 use Rattle.shorter.specs.declared.Choice.the-variants.{First, Second, Rejected}
-use Rattle.shorter.specs.Choice.{choice, chosenFlags, pointerBy}
+use Rattle.shorter.specs.Choice.{choice, flagsBy, pointerBy}
 use Rattle.shorter.proofs.Selection as T
 use Rattle.shorter.proofs.Selection.Laws as T′
 use Rattle.shorter.proofs.Choice as S
@@ -163,7 +163,7 @@ module _ {M : Type 1} (𝓤 : URA M) (H : Heap 𝓤) (A : Atoms 𝓤) (W : Given
         called-for W select.ended (select.clauses 𝓤 H A mem run) to-select T′.lowered
         (T′.lowers (namedLft 4 3 tt κs) .val-is)
         (λ r _. (r .choice ≡ choice (tb .now) (fs .now) (ss .now))
-        × (now (r .flags) ≡ chosenFlags (tb .now) (fs .now) (ss .now))
+        × (now (r .flags) ≡ flagsBy (tb .now) (fs .now) (ss .now) (r .choice))
         × (r .flags .ptr ≡ pointerBy (fs .ptr) (ss .ptr) (r .choice)))
         (λ r ws. id⊢ 𝓤 _) (fmOf 𝓤 H (W .laws) 𝓣) selects (id⊢ 𝓤 (emp 𝓤))
         (and-then ! (held ! (pos 1 1) refl) (and-then ! (held ! (pos 1 2) refl) (and-then ! (held ! (pos 1 3) refl)
