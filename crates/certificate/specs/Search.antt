@@ -4,7 +4,7 @@ use mathlib.Core.Option.{Option}
 use mathlib.Core.List.{List, [], _∷_, _++_}
 use lib.ListN.{length, drop}
 use Rattle.lists.specs.Lists.{among}
-use Rattle.gametree.specs.Tree.{minimax}
+use Rattle.gametree.specs.Tree.{Tree, minimax}
 use Rattle.gametree.specs.Move.{rootMove}
 use Rattle.gametree.specs.Certificate.{flag}
 use Rattle.frames.specs.declared.Rejection.{Rejection}
@@ -28,15 +28,14 @@ marksOf leaves t marks = written (mark (among leaves)) (frames t) marks
 abbrev pub flagsOf : (leaves t flags : List ℕ) → List ℕ
 flagsOf leaves t flags = written (flag (valuation t) (among leaves) (tree t)) (frames t) flags
 
--- what a search of the table t finds if it evaluates these leaves: the minimax value, the first root move that reaches
+-- what a search of the tree x finds if it evaluates these leaves: the minimax value, the first root move that reaches
 -- it, and the number of evaluated leaves
+abbrev pub findingsOn : (ℕ → ℕ) → Tree → (leaves : List ℕ) → Findings
+findingsOn ν x leaves = record { value = valueOf (minimax ν x); «root_move» = rootMove ν x; leaves = length leaves }
+
+-- the same of the table t
 abbrev pub findings : (leaves t : List ℕ) → Findings
-findings leaves t =
-    record {
-      value = valueOf (minimax (valuation t) (tree t));
-      «root_move» = rootMove (valuation t) (tree t);
-      leaves = length leaves;
-    }
+findings leaves t = findingsOn (valuation t) (tree t) leaves
 
 -- the two buffers that every search is lent: one for the marks, one for the flags of the certificate
 pub record Buffers : Type 0 where

@@ -1,18 +1,16 @@
 -- What the program prints for a file (SPEC 12.1).
 use Prim.Native.Nat.{ℕ}
 use mathlib.Core.List.{List, [], _∷_, _++_}
-use lib.ListN.{length}
-use Rattle.gametree.specs.Tree.{Tree, least, greatest, minimax}
-use Rattle.gametree.specs.Move.{rootMove}
+use Rattle.gametree.specs.Tree.{Tree, least, greatest}
 use Rattle.gametree.specs.AlphaBeta.{reached}
 use Rattle.gametree.specs.Mtd as rule
 use Rattle.gametree.specs.Sss.{sss as run}
-use Rattle.frames.specs.Value.{valueOf}
 use Rattle.frames.specs.Tree.{tree, valuation}
 use Rattle.frames.specs.Rejection.{unless}
 use Rattle.file_lines.specs.Lines.{decoded}
 use Rattle.file_reader.specs.File.{fileRejection}
 use Rattle.certificate.specs.declared.Findings.{Findings}
+use Rattle.certificate.specs.Search.{findingsOn}
 use Rattle.text.specs.Text.{decimal, signedDecimal, space, lineFeed, refusedLine}
 
 -- "method value move leaves"
@@ -28,19 +26,13 @@ methodLine name f =
     ++ (space ∷ (signedDecimal (f .value)
     ++ (space ∷ (decimal (f .«root_move») ++ (space ∷ (decimal (f .leaves) ++ (lineFeed ∷ [])))))))
 
--- the line of a method that evaluates the leaves w of a tree
-abbrev pub lineOn : (name : List ℕ) → (ℕ → ℕ) → Tree → (leaves : List ℕ) → List ℕ
-lineOn name ν x w =
-    methodLine name
-    (record { value = valueOf (minimax ν x); «root_move» = rootMove ν x; leaves = length w })
-
 -- a heading, then the lines of "ab", "mtd" and "sss"
 abbrev pub analysisOn : (ℕ → ℕ) → Tree → List ℕ
 analysisOn ν x =
     heading
-    ++ (lineOn (97 ∷ 98 ∷ []) ν x (reached ν least greatest x)
-    ++ (lineOn (109 ∷ 116 ∷ 100 ∷ []) ν x (rule.mtd ν x .evaluated)
-    ++ lineOn (115 ∷ 115 ∷ 115 ∷ []) ν x (run ν x .evaluated)))
+    ++ (methodLine (97 ∷ 98 ∷ []) (findingsOn ν x (reached ν least greatest x))
+    ++ (methodLine (109 ∷ 116 ∷ 100 ∷ []) (findingsOn ν x (rule.mtd ν x .evaluated))
+    ++ methodLine (115 ∷ 115 ∷ 115 ∷ []) (findingsOn ν x (run ν x .evaluated))))
 
 -- what the program prints for a file: the analysis of its tree, or the first "no" to questions 1 to 9 and 16
 abbrev pub report : List ℕ → List ℕ
