@@ -8,8 +8,8 @@ use Rattle.frames.specs.declared.Checked.the-variants.{Rejected as RejectedTabl
 use Rattle.frames.specs.Frame.{maxDepth, frames}
 use Rattle.frames.specs.Position.{depthOf}
 use Rattle.frames.specs.Rejection.{_andThen_}
-use Rattle.frames.specs.Check.{check1, checked}
-use Rattle.frames.specs.FirstNo.{LowestDeep, framesBefore9, rejectionBefore9}
+use Rattle.frames.specs.Check.{check1, nodesRejection, check8, checked}
+use Rattle.frames.specs.FirstNo.{LowestDeep, rejectionBefore9}
 use Rattle.frames.proofs.Stated.{both-passed, passed-then}
 use Rattle.frames.proofs.FirstNo.{deeper-frames, deeper-rejected}
 use Rattle.file_lines.specs.Lines.{decoded}
@@ -31,8 +31,8 @@ deeper-answered t e k l d =
 
 -- and a file by the reader
 pub deeper-read : (f : List ℕ)
-    → (check1 f andThen fileCheck2 f andThen fileCheck3 f andThen fileCheck16 f andThen framesBefore9 (decoded f))
-    ≡ none
+    → (check1 f andThen fileCheck2 f andThen fileCheck3 f andThen fileCheck16 f andThen nodesRejection (decoded f)
+    andThen check8 (decoded f)) ≡ none
     → (k : ℕ) → k < frames (decoded f) → maxDepth < depthOf (decoded f) k
     → (r : Rejection) × LowestDeep (decoded f) r × ((table : List ℕ) → readAnswer f table ≡ RejectedTable r)
 unfolding readRejection fileRejection

@@ -18,7 +18,7 @@ use Rattle.frames.specs.Rejection.{ask, _andThen_, eachNode}
 use Rattle.frames.specs.Check.{byte3Right, firstChildRight, valueRight, check4, check5, check6, check7}
 use Rattle.frames.specs.Check.{checkNode, check1, check2, check3, nodesRejection, check8, check9}
 use Rattle.frames.specs.Check.{depthsRejection, framesRejection, rejection}
-use Rattle.frames.specs.FirstNo.{FirstAt, LowestNo, LowestDeep, framesBefore9, rejectionBefore9}
+use Rattle.frames.specs.FirstNo.{FirstAt, LowestNo, LowestDeep, rejectionBefore9}
 use Rattle.frames.proofs.Stated.{ask-yes, both-passed, passed-then}
 use Rattle.frames.proofs.Asked.{each-passed}
 
@@ -115,8 +115,8 @@ module _ (t : List ℕ) (r : Rejection) where
   depth-first e = lowest-no _ 9 (frames t) r e
 
 -- frames that pass questions 4 to 8 and have a node that is too deep are rejected by question 9, at the lowest
-pub deeper-frames : (t : List ℕ) → framesBefore9 t ≡ none → (k : ℕ) → k < frames t → maxDepth < depthOf t k
-    → (r : Rejection) × (framesRejection t ≡ some r) × LowestDeep t r
+pub deeper-frames : (t : List ℕ) → (nodesRejection t andThen check8 t) ≡ none → (k : ℕ) → k < frames t
+    → maxDepth < depthOf t k → (r : Rejection) × (framesRejection t ≡ some r) × LowestDeep t r
 unfolding framesRejection
 deeper-frames t e k l d = by-depths (depthsRejection t) refl
   where

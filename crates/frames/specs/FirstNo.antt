@@ -30,9 +30,6 @@ pub record LowestNo (f : ℕ → Bool) (q n : ℕ) (r : Rejection) : Type 0 wher
 abbrev pub LowestDeep : List ℕ → Rejection → Type 0
 LowestDeep t r = LowestNo (λ k. leb (depthOf t k) maxDepth) 9 (frames t) r
 
--- the first "no" to the questions that come before it: 4 to 8, and 1 to 8
-abbrev pub framesBefore9 : List ℕ → Option Rejection
-framesBefore9 t = nodesRejection t andThen check8 t
-
+-- the first "no" to the questions that come before it, 1 to 8
 abbrev pub rejectionBefore9 : List ℕ → Option Rejection
-rejectionBefore9 t = check1 t andThen check2 t andThen check3 t andThen framesBefore9 t
+rejectionBefore9 t = check1 t andThen check2 t andThen check3 t andThen nodesRejection t andThen check8 t
