@@ -1,7 +1,7 @@
 -- A table or a file without a second capture gives what it gave before byte 3 had a meaning (N8): the questions are
 -- what they were, and everything else is as the tree makes it whose sides go by the depth: all that a search gives and
 -- leaves follows from the tree (`gives-exactly` and `leaves-exactly` in Demand2, `same-bounds` in Plain).
-use Prim.Native.Nat.{ℕ, zero, suc, _+_, _<_}
+use Prim.Native.Nat.{ℕ, _<_}
 use native.Mathlib.Omega.{arith}
 use mathlib.Core.Path.{_≡_, refl, ap, ap₂, _∙_}
 use mathlib.Core.Option.{Option, none, some}
@@ -13,12 +13,11 @@ use Rattle.gametree.specs.Tree.{Tree}
 use Rattle.frames.specs.Frame.{frames}
 use Rattle.frames.specs.Tree.{tree, valuation}
 use Rattle.frames.specs.declared.Rejection.{Rejection}
-use Rattle.frames.specs.Rejection.{ask, answer, _andThen_, eachNode, unless}
-use Rattle.frames.specs.Check.{Accepted, check1, check5, check6, check7, check8, check10, depthsRejection}
-use Rattle.frames.specs.Check.{framesRejection}
+use Rattle.frames.specs.Rejection.{ask, answer, _andThen_, unless}
+use Rattle.frames.specs.Check.{Accepted, check1, check10}
 use Rattle.frames.specs.results.Alternating.{Alternating, zeroRejection, treeByDepth}
 use Rattle.frames.proofs.Acceptance.{accepted-formed}
-use Rattle.frames.proofs.Sides.{check4-before, rejection-before, side-parity, tree-before}
+use Rattle.frames.proofs.Sides.{each-same, frames-before, rejection-before, side-parity, tree-before}
 use Rattle.file_lines.specs.Lines.{decoded}
 use Rattle.file_reader.specs.File.{fileCheck2, fileCheck3, fileCheck16, fileCheck10, fileRejection, readRejection}
 use Rattle.file_reader.specs.File.{readAnswer, tableAfter}
@@ -28,26 +27,10 @@ use Rattle.verify.specs.Check.{checkTree, check11, check14, treesRejection, fla
 use Rattle.verify.specs.Check.{judged, verdict}
 use Rattle.text.specs.Text.{refusedLine}
 use Rattle.report.specs.Report.{analysisOn, report}
-use Rattle.demands.specs.Alternating.{zeroFrames, zeroFile, zeroRead, ruleByDepth, treeRuleByDepth}
-use Rattle.demands.specs.Alternating.{verdictByDepth, reportByDepth}
-
--- a check put to each node says what another says that is the same at each
-each-same : (p q : ℕ → Option Rejection) (i n : ℕ) → ((k : ℕ) → k < i + n → p k ≡ q k)
-    → eachNode p i n ≡ eachNode q i n
-unfolding eachNode
-each-same p q i zero e = refl
-each-same p q i (suc n) e =
-    ap₂ _andThen_ (e i (omega arith)) (each-same p q (i + 1) n (λ k h. e k (omega arith)))
+use Rattle.demands.specs.Alternating.{zeroFile, zeroRead, ruleByDepth, treeRuleByDepth, verdictByDepth}
+use Rattle.demands.specs.Alternating.{reportByDepth}
 
 module _ (t : List ℕ) (p : Alternating t) where
-  -- the first "no" to questions 4 to 9 is what it was
-  pub frames-before : framesRejection t ≡ zeroFrames t
-  unfolding framesRejection
-  frames-before =
-      ap (λ x. x andThen check8 t andThen depthsRejection t)
-      (each-same _ _ 0 (frames t) (λ k h.
-      ap (λ x. x andThen check5 t k andThen check6 t k andThen check7 t k) (check4-before t p k (omega arith))))
-
   rule-before : (s : Side) (flags : List ℕ) (i : ℕ) → i < frames t → ruleHolds s t flags i ≡ ruleByDepth s t flags i
   unfolding ruleHolds
   rule-before s flags i h = rw (side-parity t p i h)

@@ -14,8 +14,8 @@ use Rattle.frames.specs.Frame.{frames, firstChild, childCount}
 use Rattle.frames.specs.Position.{depthOf}
 use Rattle.frames.specs.Tree.{valuation}
 use Rattle.frames.specs.Rejection.{ask, _andThen_, eachNode, unless}
-use Rattle.frames.specs.Check.{check1, check5, check6, check7, check8, check10, depthsRejection}
-use Rattle.frames.specs.results.Alternating.{zeroCheck4, zeroRejection, sideByDepth, treeByDepth}
+use Rattle.frames.specs.Check.{check1, check10}
+use Rattle.frames.specs.results.Alternating.{zeroFrames, zeroRejection, sideByDepth, treeByDepth}
 use Rattle.file_lines.specs.Lines.{decoded}
 use Rattle.file_reader.specs.File.{fileCheck2, fileCheck3, fileCheck16, fileCheck10}
 use Rattle.verify.specs.declared.Verdict.{Verdict}
@@ -24,13 +24,7 @@ use Rattle.verify.specs.Check.{check11, check14, judged}
 use Rattle.text.specs.Text.{refusedLine}
 use Rattle.report.specs.Report.{analysisOn}
 
--- the first "no" to questions 4 to 9
-abbrev pub zeroFrames : List ℕ → Option Rejection
-zeroFrames t =
-    eachNode (λ i. zeroCheck4 t i andThen check5 t i andThen check6 t i andThen check7 t i) 0 (frames t)
-    andThen check8 t andThen depthsRejection t
-
--- and to the questions put to a file
+-- the first "no" to the questions put to a file
 abbrev pub zeroFile : List ℕ → Option Rejection
 zeroFile f = check1 f andThen fileCheck2 f andThen fileCheck3 f andThen fileCheck16 f andThen zeroFrames (decoded f)
 

@@ -18,8 +18,8 @@ use Rattle.frames.specs.Formed.{WellFormed, ChildOf}
 use Rattle.frames.specs.Rejection.{_andThen_, eachNode}
 use Rattle.frames.specs.Check.{check1, check2, check3, check4, check5, check6, check7, check8, depthsRejection}
 use Rattle.frames.specs.Check.{framesRejection, rejection}
-use Rattle.frames.specs.results.Alternating.{Alternating, zeroCheck4, zeroRejection, sideByDepth, growByDepth}
-use Rattle.frames.specs.results.Alternating.{treeByDepth}
+use Rattle.frames.specs.results.Alternating.{Alternating, zeroCheck4, zeroFrames, zeroRejection, sideByDepth}
+use Rattle.frames.specs.results.Alternating.{growByDepth, treeByDepth}
 use Rattle.frames.proofs.Parents.{parent-less}
 use Rattle.frames.proofs.Positions.{position-root, position-step, position-child, depth-child}
 use Rattle.frames.proofs.Next.{child-later, child-within}
@@ -35,7 +35,8 @@ module _ (t : List ℕ) (wf : WellFormed t) {i k : ℕ} (h : i < frames t) (c : 
   mover-other e = ap (λ p. p .side) (position-child t wf h c) ∙ rw (ne-eqb (byte3 t k) sameMover (λ o. omega arith))
 
 -- the same checks of each node have the same first "no"
-each-same : (p q : ℕ → Option Rejection) (i n : ℕ) → ((k : ℕ) → k < i + n → p k ≡ q k) → eachNode p i n ≡ eachNode q i n
+pub each-same : (p q : ℕ → Option Rejection) (i n : ℕ) → ((k : ℕ) → k < i + n → p k ≡ q k)
+    → eachNode p i n ≡ eachNode q i n
 unfolding eachNode
 each-same p q i zero e = refl
 each-same p q i (suc n) e =
@@ -63,13 +64,17 @@ module _ (t : List ℕ) (a : Alternating t) where
         or-false (eqb (byte3 t i) 0),
       )
 
-  -- and the first "no" to questions 1 to 9 is what it was
-  pub rejection-before : rejection t ≡ zeroRejection t
-  unfolding rejection framesRejection
-  rejection-before =
-      ap (λ x. check1 t andThen check2 t andThen check3 t andThen (x andThen check8 t andThen depthsRejection t))
+  -- and the first "no" to questions 4 to 9 is what it was, and to questions 1 to 9
+  pub frames-before : framesRejection t ≡ zeroFrames t
+  unfolding framesRejection
+  frames-before =
+      ap (λ x. x andThen check8 t andThen depthsRejection t)
       (each-same _ _ 0 (frames t) (λ k h.
       ap (λ x. x andThen check5 t k andThen check6 t k andThen check7 t k) (check4-before k (omega arith))))
+
+  pub rejection-before : rejection t ≡ zeroRejection t
+  unfolding rejection
+  rejection-before = ap (λ x. check1 t andThen check2 t andThen check3 t andThen x) frames-before
 
   within-parity : (n k : ℕ) → k < n → k < frames t → sideOf t k ≡ sideByDepth (depthOf t k)
   within-parity zero k l h = absurd (omega arith)

@@ -22,12 +22,14 @@ Alternating t = (i : ℕ) → i < frames t → byte3 t i ≡ sameMover → ⊥
 abbrev pub zeroCheck4 : List ℕ → ℕ → Option Rejection
 zeroCheck4 t i = ask (eqb (byte3 t i) 0) 4 i
 
--- and with it the first "no" to questions 1 to 9
+-- and with it the first "no" to questions 4 to 9, and to questions 1 to 9
+abbrev pub zeroFrames : List ℕ → Option Rejection
+zeroFrames t =
+    eachNode (λ i. zeroCheck4 t i andThen check5 t i andThen check6 t i andThen check7 t i) 0 (frames t)
+    andThen check8 t andThen depthsRejection t
+
 abbrev pub zeroRejection : List ℕ → Option Rejection
-zeroRejection t =
-    check1 t andThen check2 t andThen check3 t
-    andThen (eachNode (λ i. zeroCheck4 t i andThen check5 t i andThen check6 t i andThen check7 t i) 0 (frames t)
-    andThen check8 t andThen depthsRejection t)
+zeroRejection t = check1 t andThen check2 t andThen check3 t andThen zeroFrames t
 
 -- Max at even depth, Min at odd depth
 abbrev pub sideByDepth : ℕ → Side
