@@ -2,7 +2,7 @@
 use Prim.Native.Nat.{ℕ, _≤_, _<_}
 use mathlib.Core.Path.{_≡_, sym, ap, ap₂, _∙_, subst}
 use mathlib.Core.Bool.{true, cond}
-use mathlib.Core.List.{List, _++_}
+use mathlib.Core.List.{List, _++_, map}
 use lib.IntN.{pos}
 use lib.ListN.{length, take, drop, replicate, length-replicate}
 use lib.Seq.{take-append-seam}
@@ -16,14 +16,13 @@ use Rattle.gametree.specs.engine.Within.{sssWithin}
 use Rattle.gametree_theory.proofs.Within as within
 use Rattle.frames.specs.Rejection.{_leaving_}
 use Rattle.frames.specs.Frame.{frames}
-use Rattle.frames.specs.Tree.{tree, valuation}
+use Rattle.frames.specs.Tree.{upFrom, tree, valuation}
 use Rattle.frames.specs.Check.{Accepted}
 use Rattle.frames.specs.Value.{valueOf}
 use Rattle.frames.specs.Shape.{SameShape}
 use Rattle.frames.proofs.Acceptance.{accepted-formed}
 use Rattle.frames.proofs.Proper.{tree-proper}
 use Rattle.frames.proofs.Values.{value-order}
-use Rattle.positions.specs.Buffer.{tabulate}
 use Rattle.certificate.specs.declared.Findings.{Findings}
 use Rattle.certificate_bounds.specs.Marks.{mark, ones}
 use Rattle.certificate.specs.Search.{searchRejection}
@@ -183,7 +182,7 @@ local-spent {t} {u} {s} c d q a r k n h g =
       ap (λ y. y .answer .answer) o ∙ ap sss-answer.Spent (same ∙ sym (v .gives)),
       ap₂ (λ k y. take k (y .answer .left .marks)) (h .sameFrames) o
           ∙ take-written (mark (among w)) (frames u) (d .lent .marks)
-          ∙ ap (tabulate (mark (among w))) (sym (h .sameFrames))
+          ∙ ap (λ n. map (mark (among w)) (upFrom 0 n)) (sym (h .sameFrames))
           ∙ sym (take-written (mark (among w)) (frames t) (c .lent .marks))
           ∙ ap (take (frames t)) (sym (v .marks)),
       ap₂ (λ k y. take k (y .left)) l o ∙ take-append-seam w _

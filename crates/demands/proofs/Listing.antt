@@ -4,7 +4,7 @@ use native.Mathlib.Omega.{arith}
 use mathlib.Core.Path.{_≡_, refl, sym, ap, ap₂, _∙_, subst}
 use mathlib.Core.Logic.{_↔_}
 use mathlib.Core.Bool.{Bool, true, false, cond}
-use mathlib.Core.List.{List}
+use mathlib.Core.List.{List, map}
 use lib.ListN.{length, getD, take}
 use lib.Seq.{take-append-seam}
 use Rattle.lists.specs.Lists.{All, among, Once, Subsequence}
@@ -12,8 +12,8 @@ use Rattle.lists.proofs.Lists.{all-at}
 use Rattle.gametree.specs.Tree.{leaves as treeLeaves}
 use Rattle.gametree.specs.Certificate.{flag}
 use Rattle.frames.specs.Frame.{frames}
-use Rattle.frames.specs.Tree.{tree, valuation}
-use Rattle.positions.specs.Buffer.{tabulate, written}
+use Rattle.frames.specs.Tree.{upFrom, tree, valuation}
+use Rattle.positions.specs.Buffer.{written}
 use Rattle.certificate_bounds.specs.Marks.{mark}
 use Rattle.certificate.specs.declared.Findings.{Findings}
 use Rattle.certificate.specs.Search.{findings, listed}
@@ -108,7 +108,8 @@ module _ {t : List ℕ} {f : MtdResult} {g : SssResult} (m : MtdCall t (mtd-answ
       → take (frames t) (written (k (mtdLeaves t)) (frames t) b)
       ≡ take (frames t) (written (k (sssLeaves t)) (frames t) d)
   same-written b d k =
-      take-written _ (frames t) b ∙ ap (λ w. tabulate (k w) (frames t)) same-leaves ∙ sym (take-written _ (frames t) d)
+      take-written _ (frames t) b ∙ ap (λ w. map (k w) (upFrom 0 (frames t))) same-leaves
+      ∙ sym (take-written _ (frames t) d)
 
   pub same-list : order (finished (mtd m)) ≡ order (finished (sss s))
   same-list =

@@ -3,7 +3,7 @@
 use Prim.Native.Nat.{ℕ}
 use mathlib.Core.Path.{_≡_, sym, ap, ap₂, _∙_, subst}
 use mathlib.Core.Bool.{cond}
-use mathlib.Core.List.{List}
+use mathlib.Core.List.{List, map}
 use lib.ListN.{length, take, drop}
 use lib.Seq.{take-at, take-append-seam}
 use Rattle.lists.specs.Lists.{All, among}
@@ -14,13 +14,13 @@ use Rattle.gametree_theory.proofs.Searches.{SameResults}
 use Rattle.lists.proofs.Lists.{all-among, all-zip}
 use Rattle.gametree_theory.proofs.Theorems.{local-results}
 use Rattle.frames.specs.Frame.{frames}
-use Rattle.frames.specs.Tree.{tree, valuation}
+use Rattle.frames.specs.Tree.{upFrom, tree, valuation}
 use Rattle.frames.specs.Shape.{SameShape}
 use Rattle.frames.proofs.Shapes.{same-score, same-tree}
 use Rattle.certificate_bounds.specs.Marks.{mark}
-use Rattle.positions.specs.Buffer.{tabulate, written}
+use Rattle.positions.specs.Buffer.{written}
 use Rattle.certificate.specs.Search.{findings}
-use Rattle.positions.proofs.Buffers.{length-tabulate, tabulate-same}
+use Rattle.positions.proofs.Buffers.{length-up, up-same}
 use Rattle.certificate.proofs.Marks.{evaluated-within}
 use Rattle.demands.proofs.Calls.{Call, found, lent, left, leftOrder, leaves}
 use Rattle.demands.specs.Handed.{AgreeOnMarked, Alike}
@@ -28,9 +28,9 @@ use Rattle.demands.proofs.Views.{view}
 use Rattle.demands.proofs.Handed.{formed, proper, marks-at}
 
 -- the first n entries of a buffer that was written for n nodes
-pub take-written : (f : ℕ → ℕ) (n : ℕ) (b : List ℕ) → take n (written f n b) ≡ tabulate f n
+pub take-written : (f : ℕ → ℕ) (n : ℕ) (b : List ℕ) → take n (written f n b) ≡ map f (upFrom 0 n)
 unfolding written
-take-written f n b = take-at (tabulate f n) (drop n b) n (length-tabulate f n)
+take-written f n b = take-at (map f (upFrom 0 n)) (drop n b) n (length-up f 0 n)
 
 -- the list of leaves that a call leaves begins with its leaves, as many as the count says
 pub first-leaves : {t : List ℕ} (c : Call t) → take (found c .leaves) (leftOrder c) ≡ leaves c
@@ -82,13 +82,13 @@ module _ {t u : List ℕ} (c : Call t) (d : Call u) (h : SameShape t u) (a : Agr
           marks =
               ap (take (frames t)) (view c .handed .marks)
               ∙ take-written (mark (among (leaves c))) (frames t) (lent c .marks)
-              ∙ ap₂ (λ w n. tabulate (mark (among w)) n) e (h .sameFrames)
+              ∙ ap₂ (λ w n. map (mark (among w)) (upFrom 0 n)) e (h .sameFrames)
               ∙ sym (ap₂ take (h .sameFrames) (view d .handed .marks)
               ∙ take-written (mark (among (leaves d))) (frames u) (lent d .marks));
           flags =
               ap (take (frames t)) (view c .handed .flags)
               ∙ take-written _ (frames t) (lent c .flags)
-              ∙ tabulate-same _ _ (frames t) (λ k l. flags-agree k)
-              ∙ ap (tabulate _) (h .sameFrames)
+              ∙ up-same _ _ 0 (frames t) (λ k l h. flags-agree k)
+              ∙ ap (map _) (ap (upFrom 0) (h .sameFrames))
               ∙ sym (ap₂ take (h .sameFrames) (view d .handed .flags) ∙ take-written _ (frames u) (lent d .flags));
         }

@@ -5,10 +5,10 @@ use lib.ListN.{replicate}
 use Rattle.gametree.specs.Mtd.{mtd}
 use Rattle.frames.specs.Frame.{next}
 use Rattle.frames.specs.Position.{parentBefore, positionWithin, positionOf}
-use Rattle.frames.specs.Tree.{childrenFrom, grow, treeAt, valuation}
+use Rattle.frames.specs.Tree.{upFrom, childrenFrom, grow, treeAt, valuation}
 use Rattle.frames.specs.Rejection.{eachNode}
 use Rattle.frames.specs.Check.{framesRejection, rejection}
-use Rattle.positions.specs.Buffer.{tabulate, written}
+use Rattle.positions.specs.Buffer.{written}
 use Rattle.lists.specs.Lists.{countFrom}
 use Rattle.demands.specs.Cases.{rowOf, rejected}
 use Rattle.demands.specs.results.Cases.{path, winTables, winRows, leavesOf, captureTables, captureRows}
@@ -16,27 +16,27 @@ use Rattle.demands.specs.results.Cases.{deeperTables, deeperRows, stoppe
 
 pub win-cases : map rowOf winTables ≡ winRows
 unfolding mtd next parentBefore positionWithin positionOf childrenFrom grow treeAt valuation eachNode
-    framesRejection rejection tabulate written countFrom path
+    framesRejection rejection upFrom written countFrom path
 win-cases = refl
 
 pub capture-cases : map rowOf captureTables ≡ captureRows
 unfolding mtd next parentBefore positionWithin positionOf childrenFrom grow treeAt valuation eachNode
-    framesRejection rejection tabulate written countFrom leavesOf
+    framesRejection rejection upFrom written countFrom leavesOf
 capture-cases = refl
 
 pub deeper-cases : map rowOf deeperTables ≡ deeperRows
 unfolding mtd next parentBefore positionWithin positionOf childrenFrom grow treeAt valuation eachNode
-    framesRejection rejection tabulate written countFrom leavesOf
+    framesRejection rejection upFrom written countFrom leavesOf
 deeper-cases = refl
 
 -- a run of SSS* under allowances of 0 to 4 leaves
 pub stopped-cases : map stoppedAt (0 ∷ 1 ∷ 2 ∷ 3 ∷ 4 ∷ []) ≡ stoppedRows
 unfolding mtd next parentBefore positionWithin positionOf childrenFrom grow treeAt valuation eachNode
-    framesRejection rejection tabulate written countFrom
+    framesRejection rejection upFrom written countFrom
 stopped-cases = refl
 
 -- 7 nodes and 4 entries get 10, as do 6 entries
 pub short-cases : map withEntries (4 ∷ 6 ∷ []) ≡ replicate 2 (replicate 4 (rejected 10))
 unfolding mtd next parentBefore positionWithin positionOf childrenFrom grow treeAt valuation eachNode
-    framesRejection rejection tabulate written countFrom
+    framesRejection rejection upFrom written countFrom
 short-cases = refl
