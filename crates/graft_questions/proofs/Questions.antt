@@ -1,12 +1,12 @@
 -- The questions of a graft: one law for each answer, and what holds once all have passed.
 use Prim.Native.Nat.{ℕ, _+_, _*_, _-_, _≤_, _<_}
 use native.Mathlib.Omega.{arith}
-use mathlib.Core.Path.{_≡_, refl, sym, ap, _∙_}
+use mathlib.Core.Path.{_≡_, refl}
 use mathlib.Core.Bool.{true, false, _&&_}
 use mathlib.Core.Option.{none, some}
 use mathlib.Core.List.{List}
 use lib.Dec.{ltb, leb, eqb}
-use borrow.Author.Tests.{lt-ltb, le-ltb, le-leb, lt-leb, eq-eqb, ne-eqb, ltb-true, leb-true, eqb-true}
+use borrow.Author.Tests.{lt-ltb, le-leb, lt-leb, eq-eqb, ltb-true, leb-true, eqb-true}
 use Rattle.lists.proofs.Choice.{and-both, true-not-false}
 use Rattle.gametree.specs.declared.Side.{Side}
 use Rattle.gametree.specs.declared.Side.the-variants.{Max, Min}
@@ -27,15 +27,15 @@ same-max Max e = refl
 same-max Min e = absurd (true-not-false e refl)
 
 module _ (t : List ℕ) (k : ℕ) where
-  -- the test of a leaf with Max to move: no node, an inner node, a leaf
-  pub not-inside : frames t ≤ k → false ≡ isMaxLeaf t k
-  not-inside h = rw (le-ltb k (frames t) h)
+  -- the test of a leaf with Max to move in two steps: is it a leaf, and does Max move there?
+  pub not-leaf : ltb k (frames t) && eqb (childCount t k) 0 ≡ false → isMaxLeaf t k ≡ false
+  not-leaf e = rw e
 
-  pub not-childless : k < frames t → (childCount t k ≡ 0 → ⊥) → false ≡ isMaxLeaf t k
-  not-childless h n = rw (lt-ltb k (frames t) h, ne-eqb (childCount t k) 0 n)
+  pub leaf-side : ltb k (frames t) && eqb (childCount t k) 0 ≡ true → same (sideOf t k) Max ≡ isMaxLeaf t k
+  leaf-side e = rw e
 
-  pub leaf-test : k < frames t → childCount t k ≡ 0 → same (sideOf t k) Max ≡ isMaxLeaf t k
-  leaf-test h e = rw (lt-ltb k (frames t) h, eq-eqb (childCount t k) 0 e)
+  pub leaf-inside : ltb k (frames t) && eqb (childCount t k) 0 ≡ true → k < frames t
+  leaf-inside e = ltb-true k (frames t) (and-both _ _ e .0)
 
   -- the test says what it is for
   pub max-leaf : isMaxLeaf t k ≡ true → MaxLeaf t k
@@ -49,7 +49,7 @@ module _ (t : List ℕ) (k : ℕ) where
       }
 
   pub leaf-max : MaxLeaf t k → isMaxLeaf t k ≡ true
-  leaf-max m = sym (leaf-test (m .inside) (m .childless)) ∙ ap (λ s. same s Max) (m .mover)
+  leaf-max m = rw (lt-ltb k (frames t) (m .inside), eq-eqb (childCount t k) 0 (m .childless), m .mover)
 
 -- a "no" to question q, with its place
 abbrev pub refusal : ℕ → ℕ → Rejection

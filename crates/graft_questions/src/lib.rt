@@ -5,23 +5,24 @@ use frames::MAX_DEPTH;
 use frames::MAX_NODES;
 use frames::SHORT_BUFFER;
 use frames::child_count;
+use frames::child_position;
+use frames::first_child;
 use frames::frame_count;
 use frames::rejected;
+use gametree::Position;
 use gametree::Side;
-use positions::depth_at;
-use positions::fill;
-use positions::side_at;
 use tables::check;
 ghost use mathlib.Core.Path.{_≡_};
-ghost use Prim.Native.Nat.{_<_, _≤_};
-ghost use lib.ListN.{length};
+ghost use mathlib.Core.Bool.{_&&_};
+ghost use Prim.Native.Nat.{_<_};
+ghost use lib.Dec.{ltb, eqb};
 ghost use Rattle.gametree.specs.declared.Side.the-variants.{Max};
 ghost use Rattle.gametree.specs.Certificate.{same};
-ghost use Rattle.frames.specs.Frame.{maxNodes, frames};
+ghost use Rattle.frames.specs.Frame.{maxNodes, frames, childCount};
+ghost use Rattle.frames.specs.Position.{isChild, parentOf, positionOf};
 ghost use Rattle.frames.specs.Formed.{WellFormed};
 ghost use Rattle.frames.specs.Rejection.{answer};
-ghost use Rattle.positions.specs.engine.Positions.{Positioned};
-ghost use Rattle.graft_questions.specs.Questions.{graftSize, isMaxLeaf, deepest, leafRejection, graftRejection};
+ghost use Rattle.graft_questions.specs.Questions.{graftSize, deepest, leafRejection, graftRejection};
 
 // The numbers of the questions about a graft, by what a "no" means (SPEC 4.2).
 pub const NO_MAX_LEAF: u8 = 17;
@@ -44,22 +45,26 @@ pub fn ask(first: &[u8], node: usize, second: &[u8], room: usize) -> Checked
     ask_leaf(first, node, second, room)
 }
 
-// Questions 17, 18 and 10. One work array holds the positions of the nodes of one table and then of the other.
+// Questions 17, 18 and 10.
 fn ask_leaf(first: &[u8], node: usize, second: &[u8], room: usize) -> Checked
     requires { ⌜ WellFormed (now first) × WellFormed (now second) ⌝ }
     ensures { λ r. ⌜ r ≡ answer (graftSize (now (first .entry)) (now (second .entry)))
         (leafRejection (now (first .entry)) node (now (second .entry)) room) ⌝ }
 {
-    let mut positions = [0u32; MAX_NODES];
-    fill(first, &mut positions);
-    if !is_max_leaf(first, &positions, node) {
-        return rejected(NO_MAX_LEAF, node);
+    let refused = rejected(NO_MAX_LEAF, node);
+    if !is_leaf(first, node) {
+        return refused;
+    }
+    let leaf = position_of(first, node);
+    let side = leaf.side;
+    if !is_max(side) {
+        return refused;
     }
     let size = frame_count(first) + frame_count(second) - 1;
     if MAX_NODES < size {
         return rejected(TOO_LARGE, 0);
     }
-    let depth = depth_at(&positions, node) + height(second, &mut positions);
+    let depth = leaf.depth + height(second);
     if MAX_DEPTH < depth as usize {
         return rejected(TOO_LARGE, 0);
     }
@@ -69,19 +74,14 @@ fn ask_leaf(first: &[u8], node: usize, second: &[u8], room: usize) -> Checked
     Checked::Nodes(size)
 }
 
-// Is this node a leaf with Max to move?
-fn is_max_leaf(table: &[u8], positions: &[u32], node: usize) -> bool
-    requires { ⌜ Positioned (now table) (now positions) ⌝ }
-    ensures { λ r. ⌜ r ≡ isMaxLeaf (now (table .entry)) node ⌝ }
+// Is this node a leaf?
+fn is_leaf(table: &[u8], node: usize) -> bool
+    ensures { λ r. ⌜ r ≡ ltb node (frames (now (table .entry))) && eqb (childCount (now (table .entry)) node) 0 ⌝ }
 {
     if frame_count(table) <= node {
         return false;
     }
-    if child_count(table, node) != 0 {
-        return false;
-    }
-    let side = side_at(positions, node);
-    is_max(side)
+    child_count(table, node) == 0
 }
 
 // Is it Max?
@@ -95,10 +95,56 @@ fn is_max(side: Side) -> bool
 }
 
 // The greatest depth of a node: in breadth-first order that of the last one.
-fn height(table: &[u8], positions: &mut [u32]) -> u32
-    requires { ⌜ (WellFormed (now table)) × (frames (now table) ≤ length (now positions)) ⌝ }
+fn height(table: &[u8]) -> u32
+    requires { ⌜ WellFormed (now table) ⌝ }
     ensures { λ r. ⌜ (r ≡ deepest (now (table .entry)) (frames (now (table .entry)))) × (r < maxNodes) ⌝ }
 {
-    fill(table, positions);
-    depth_at(positions, frame_count(table) - 1)
+    let last = position_of(table, frame_count(table) - 1);
+    last.depth
+}
+
+// Where a node stands, found by going up from it to the root: `position` is where it would stand if `ancestor` were
+// the root.
+fn position_of(table: &[u8], node: usize) -> Position
+    requires { ⌜ (WellFormed (now table)) × (node < frames (now table)) ⌝ }
+    ensures { λ r. ⌜ r ≡ positionOf (now (table .entry)) node ⌝ }
+{
+    let mut position = Position {
+        depth: 0,
+        side: Side::Max,
+    };
+    let mut ancestor = node;
+    while 0 < ancestor {
+        position = child_position(table, ancestor, position);
+        ancestor = parent_of(table, ancestor);
+    }
+    position
+}
+
+// The parent of a node, sought from right to left among the nodes before it: going up to the root reads no node twice.
+fn parent_of(table: &[u8], node: usize) -> usize
+    requires { ⌜ (WellFormed (now table)) × (0 < node) × (node < frames (now table)) ⌝ }
+    ensures { λ r. ⌜ r ≡ parentOf (now (table .entry)) node ⌝ }
+{
+    let mut candidate = node - 1;
+    while !is_child(table, candidate, node) {
+        candidate -= 1;
+    }
+    candidate
+}
+
+// Is `child` one of the node's children?
+fn is_child(table: &[u8], node: usize, child: usize) -> bool
+    requires { ⌜ node < frames (now table) ⌝ }
+    ensures { λ r. ⌜ r ≡ isChild (now (table .entry)) node child ⌝ }
+{
+    let count = child_count(table, node);
+    if count == 0 {
+        return false;
+    }
+    let first = first_child(table, node);
+    if child < first {
+        return false;
+    }
+    child < first + count
 }
