@@ -20,6 +20,7 @@ use cases_tables::least::print_least_counts;
 use cases_tables::least::print_regular;
 use cases_tables::least_value::print_least_value;
 use cases_tables::tables::print_children;
+use cases_text::names::is_named;
 use cases_text::numbers::NUMBERS;
 use cases_text::numbers::read_numbers;
 use libc::STDIN_FILENO;
@@ -80,20 +81,7 @@ fn print_answer(file: &[u8], call: &[u8]) {
     print_call(call, file, &numbers);
 }
 
-// Does the call begin with this name? No name begins with another.
-fn is_named(call: &[u8], name: &[u8]) -> bool {
-    if call.len() < name.len() {
-        return false;
-    }
-    for i in 0..name.len() {
-        if call[i] != name[i] {
-            return false;
-        }
-    }
-    true
-}
-
-// The other calls; without a call, the file's report.
+// The searches, and the calls on files.
 fn print_call(call: &[u8], file: &[u8], numbers: &[u32; NUMBERS]) {
     if is_named(call, b"@buffers") {
         return print_searches(file, numbers[0], numbers[1], numbers[2]);
@@ -120,6 +108,11 @@ fn print_call(call: &[u8], file: &[u8], numbers: &[u32; NUMBERS]) {
     if is_named(call, b"@output") {
         return print_output(file, numbers[0]);
     }
+    print_question(call, file, numbers);
+}
+
+// The other calls; without a call, the file's report.
+fn print_question(call: &[u8], file: &[u8], numbers: &[u32; NUMBERS]) {
     if is_named(call, b"@graft") {
         return print_graft(file, numbers);
     }

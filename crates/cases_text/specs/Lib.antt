@@ -1,2 +1,3 @@
 -- Definitions for the text of the cases.
+pub mod Names
 pub mod Numbers

@@ -1,3 +1,4 @@
-// The text of the cases: how the numbers of a call are read, and how what calls leave is printed.
+// The text of the cases: how the name and the numbers of a call are read, and how what calls leave is printed.
+pub mod names;
 pub mod numbers;
 pub mod print;
