@@ -59,21 +59,21 @@ module _ (a z : Arrays) where
         rw (g n (inl refl) .best) (beside-same b (d .1) (λ k i j. g k (inr i))) in
         expanded F M G leads (shown-same h (child-distinct u ks c (d .1)) f) beside e
 
-    brothers-same : {q : Side} {m : ℕ} {ks : Children} {L : List State} → Siblings a q m ks L → DistinctChildren ks
+    siblings-same : {q : Side} {m : ℕ} {ks : Children} {L : List State} → Siblings a q m ks L → DistinctChildren ks
         → ((k : ℕ) → InChildren k ks → AgreeAt a z k) → Siblings z q m ks L
-    brothers-same none d g = none
-    brothers-same (one {t = t} m h i) d g = one m (shown-same h d g) (rw (g (number t) (number-in t) .best) i)
-    brothers-same (more {t = t} m F G h i b e) d g =
+    siblings-same none d g = none
+    siblings-same (one {t = t} m h i) d g = one m (shown-same h d g) (rw (g (number t) (number-in t) .best) i)
+    siblings-same (more {t = t} m F G h i b e) d g =
         more m F G (shown-same h (d .0) (λ k j. g k (inl j))) (rw (g (number t) (inl (number-in t)) .best) i)
-        (brothers-same b (d .1) (λ k j. g k (inr j))) e
+        (siblings-same b (d .1) (λ k j. g k (inr j))) e
 
     -- a change within u leaves its brothers as they were
     pub beside-same : {q : Side} {m : ℕ} {ks : Children} {u : Tree} {F G : List State} → Beside a q m ks u F G
         → DistinctChildren ks → ((k : ℕ) → InChildren k ks → (In k u → ⊥) → AgreeAt a z k) → Beside z q m ks u F G
     beside-same only d g = only
-    beside-same (first b) d g = first (brothers-same b (d .1) (λ k i. g k (inr i) (λ j. d .2 k j i)))
+    beside-same (first b) d g = first (siblings-same b (d .1) (λ k i. g k (inr i) (λ j. d .2 k j i)))
     beside-same (later {u = u} {ts = ts} F₁ F₂ b c e) d g =
-        later F₁ F₂ (brothers-same b (d .0) (λ k i. g k (inl i) (λ j. d .2 k i (in-child k u ts (beside-child a c) j))))
+        later F₁ F₂ (siblings-same b (d .0) (λ k i. g k (inl i) (λ j. d .2 k i (in-child k u ts (beside-child a c) j))))
         (beside-same c (d .1) (λ k i. g k (inr i))) e
 
 -- the nodes of a tree that the links lead to are distinct

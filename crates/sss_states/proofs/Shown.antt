@@ -31,20 +31,20 @@ module _ (a : Arrays) where
         rw e (all-append (λ s. s .merit < a .best n + 1) F (M ++ G) (below F (omega arith) (r .0))
         (all-append (λ s. s .merit < a .best n + 1) M G (rw (l .best) (shown-merits h)) (r .1)))
 
-    brothers-merits : {q : Side} {m : ℕ} {ks : Children} {L : List State} → Siblings a q m ks L → Below m L
-    brothers-merits none = tt
-    brothers-merits (one {L = L} m h i) = below L (omega arith) (shown-merits h)
-    brothers-merits (more m F G h i b e) =
-        rw e (all-append (λ s. s .merit < m) F G (below F (omega arith) (shown-merits h)) (brothers-merits b))
+    siblings-merits : {q : Side} {m : ℕ} {ks : Children} {L : List State} → Siblings a q m ks L → Below m L
+    siblings-merits none = tt
+    siblings-merits (one {L = L} m h i) = below L (omega arith) (shown-merits h)
+    siblings-merits (more m F G h i b e) =
+        rw e (all-append (λ s. s .merit < m) F G (below F (omega arith) (shown-merits h)) (siblings-merits b))
 
     -- the states around a child have lesser merits before, and no greater ones behind
     beside-merits : {q : Side} {m : ℕ} {ks : Children} {u : Tree} {F G : List State} → Beside a q m ks u F G
         → Below m F × Below (m + 1) G
     beside-merits only = (tt, tt)
-    beside-merits (first b) = (tt, brothers-merits b)
+    beside-merits (first b) = (tt, siblings-merits b)
     beside-merits (later {m = m} F₁ F₂ b c e) =
         let r = beside-merits c in
-        (rw e (all-append (λ s. s .merit < m) F₁ F₂ (brothers-merits b) (r .0)), r .1)
+        (rw e (all-append (λ s. s .merit < m) F₁ F₂ (siblings-merits b) (r .0)), r .1)
 
   -- so have the states around a node on the way down
   around-merits : {r u : Tree} {m : ℕ} {A B : List State} → Around a r m u A B → Below m A × Below (m + 1) B
@@ -73,17 +73,17 @@ module _ (a : Arrays) where
     shown-front (expanded {q = q} {ks = ks} {u = u} F M G l h b e) =
         rw e (inr (fronts.beside-front q ks u F G M (beside-front b) (shown-front h)))
 
-    brothers-front : {q : Side} {m : ℕ} {ks : Children} {L : List State} → Siblings a q m ks L → fronts.Brothers q ks L
-    brothers-front none = refl
-    brothers-front (one m h i) = shown-front h
-    brothers-front (more m F G h i b e) = (F, G, e, shown-front h, brothers-front b)
+    siblings-front : {q : Side} {m : ℕ} {ks : Children} {L : List State} → Siblings a q m ks L → fronts.Siblings q ks L
+    siblings-front none = refl
+    siblings-front (one m h i) = shown-front h
+    siblings-front (more m F G h i b e) = (F, G, e, shown-front h, siblings-front b)
 
     -- beside a child
     pub beside-front : {q : Side} {m : ℕ} {ks : Children} {u : Tree} {F G : List State} → Beside a q m ks u F G
         → fronts.Beside q ks u F G
     beside-front only = (refl, refl, refl)
-    beside-front (first b) = inl (refl, refl, brothers-front b)
-    beside-front (later F₁ F₂ b c e) = inr (F₁, F₂, e, brothers-front b, beside-front c)
+    beside-front (first b) = inl (refl, refl, siblings-front b)
+    beside-front (later F₁ F₂ b c e) = inr (F₁, F₂, e, siblings-front b, beside-front c)
 
   -- and around it
   pub around-within : {r u : Tree} {m : ℕ} {A B : List State} → Around a r m u A B → fronts.Within r u A B

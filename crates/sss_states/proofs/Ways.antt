@@ -90,13 +90,13 @@ pub record Chosen (a : Arrays) (q : Side) (ks : Children) (m : ℕ) (L : List St
   pub limit : a .best c ≤ m
 
 module _ (t : List ℕ) (a : Arrays) where
-  brothers-to : (m x i n : ℕ) (L : List State) → Siblings a Max m (childrenFrom (treeAt t) i n) L
+  siblings-to : (m x i n : ℕ) (L : List State) → Siblings a Max m (childrenFrom (treeAt t) i n) L
       → ((k : ℕ) → i ≤ k → k ≤ i + n → a .best k < x) → Siblings a Max x (childrenFrom (treeAt t) i n) L
   unfolding childrenFrom
-  brothers-to m x i zero L (one _ s h) f = one x s (rw (tree-number t i) (f i (omega arith) (omega arith)))
-  brothers-to m x i (suc n) L (more _ F G s h r e) f =
+  siblings-to m x i zero L (one _ s h) f = one x s (rw (tree-number t i) (f i (omega arith) (omega arith)))
+  siblings-to m x i (suc n) L (more _ F G s h r e) f =
       more x F G s (rw (tree-number t i) (f i (omega arith) (omega arith)))
-      (brothers-to m x (i + 1) n G r (λ k p q. f k (omega arith) (omega arith))) e
+      (siblings-to m x (i + 1) n G r (λ k p q. f k (omega arith) (omega arith))) e
 
   first-chosen : {m i : ℕ} {ks : Children} {F G L : List State} → Shows a (treeAt t i) F
       → a .best (number (treeAt t i)) < m + 1 → Beside a Max (a .best i) ks (treeAt t i) [] G → L ≡ F ++ G
@@ -124,7 +124,7 @@ module _ (t : List ℕ) (a : Arrays) where
       let z : c ≡ i = omega arith in rw z (first-chosen s h only (sym (append-nil L)))
   leftmost-chosen m i (suc n) c L (more _ F G s h r e) x y f g =
       first-or-later i c x
-      (λ z. let b = brothers-to (m + 1) (a .best c + 1) (i + 1) n G r
+      (λ z. let b = siblings-to (m + 1) (a .best c + 1) (i + 1) n G r
       (λ k p q. let j = g k (omega arith) (omega arith) in omega arith) in
       rw z (first-chosen s h (first (rw z at b)) e))
       (λ o. let v = leftmost-chosen m (i + 1) n c G r o (omega arith) (λ k p q. f k (omega arith) (omega arith))
@@ -143,23 +143,23 @@ module _ (t : List ℕ) (a : Arrays) where
       })
 
   -- LIVE states of brothers
-  fresh-brothers : (m i n : ℕ) → ((k : ℕ) → i ≤ k → k ≤ i + n → Fresh a m k)
+  fresh-siblings : (m i n : ℕ) → ((k : ℕ) → i ≤ k → k ≤ i + n → Fresh a m k)
       → Siblings a Max (m + 1) (childrenFrom (treeAt t) i n) (map (λ k. live k m) (i ∷ upFrom (i + 1) n))
   unfolding childrenFrom upFrom
-  fresh-brothers m i zero f =
+  fresh-siblings m i zero f =
       let h = f i (omega arith) (omega arith) in
       one (m + 1) (fresh-shows a m (treeAt t i) (tree-number t i) h) (rw (tree-number t i) (omega (arith, h .2)))
-  fresh-brothers m i (suc n) f =
+  fresh-siblings m i (suc n) f =
       let h = f i (omega arith) (omega arith) in
       more (m + 1) _ _ (fresh-shows a m (treeAt t i) (tree-number t i) h) (rw (tree-number t i) (omega (arith, h .2)))
-      (fresh-brothers m (i + 1) n (λ k p q. f k (omega arith) (omega arith))) refl
+      (fresh-siblings m (i + 1) n (λ k p q. f k (omega arith) (omega arith))) refl
 
   -- beside the first of all children
   pub first-beside : (m i n : ℕ) → ((k : ℕ) → i ≤ k → k ≤ i + n → Fresh a m k)
       → Beside a Max m (childrenFrom (treeAt t) i n) (treeAt t i) [] (map (λ k. live k m) (upFrom (i + 1) n))
   unfolding childrenFrom upFrom
   first-beside m i zero f = only
-  first-beside m i (suc n) f = first (fresh-brothers m (i + 1) n (λ k p q. f k (omega arith) (omega arith)))
+  first-beside m i (suc n) f = first (fresh-siblings m (i + 1) n (λ k p q. f k (omega arith) (omega arith)))
 
   -- beside the child of number k of a Min node
   pub sole-beside : (m i n k : ℕ) → i ≤ k → k ≤ i + n → Beside a Min m (childrenFrom (treeAt t) i n) (treeAt t k) [] []

@@ -24,7 +24,7 @@ use Rattle.lists.proofs.Lists.{all-append, all-map, all-zip}
 use Rattle.gametree_theory.proofs.minimax.Nodes.{number-in, size-then}
 use Rattle.gametree_theory.proofs.sss.Steps.{step-at, purge-left, purge-right, purge-outside}
 use Rattle.gametree_theory.proofs.sss.Around.{handed}
-use Rattle.gametree_theory.proofs.sss.Fronts.{Front, FrontChildren, alone-front, ChildIn, Brothers, Beside}
+use Rattle.gametree_theory.proofs.sss.Fronts.{Front, FrontChildren, alone-front, ChildIn, Siblings, Beside}
 use Rattle.gametree_theory.proofs.sss.Fronts.{Within, top}
 use Rattle.gametree_theory.proofs.sss.Fronts.{child, plug, located}
 
@@ -90,17 +90,17 @@ mutual
   kids-front-in Min (t then ts) L (inl f) = inside-first t ts L (front-in t L f)
   kids-front-in Min (t then ts) L (inr f) = inside-rest t ts L (kids-front-in Min ts L f)
 
-brothers-in : (q : Side) (ks : Children) (L : List State) → Brothers q ks L → InsideChildren ks L
-brothers-in Max ks L b = kids-front-in Max ks L b
-brothers-in Min ks L b = rw b tt
+siblings-in : (q : Side) (ks : Children) (L : List State) → Siblings q ks L → InsideChildren ks L
+siblings-in Max ks L b = kids-front-in Max ks L b
+siblings-in Min ks L b = rw b tt
 
 beside-in : (q : Side) (ks : Children) (u : Tree) (F G : List State) → Beside q ks u F G
     → InsideChildren ks F × InsideChildren ks G
 beside-in q (last t) u F G b = (rw (b .1) tt, rw (b .2) tt)
-beside-in q (t then ts) u F G (inl b) = (rw (b .1) tt, inside-rest t ts G (brothers-in q ts G (b .2)))
+beside-in q (t then ts) u F G (inl b) = (rw (b .1) tt, inside-rest t ts G (siblings-in q ts G (b .2)))
 beside-in q (t then ts) u F G (inr b) =
     let r = beside-in q ts u (b .1) G (b .4) in (
-      inside-both t ts (b .0) (b .1) (b .2) (brothers-in q (last t) (b .0) (b .3)) (inside-rest t ts (b .1) (r .0)),
+      inside-both t ts (b .0) (b .1) (b .2) (siblings-in q (last t) (b .0) (b .3)) (inside-rest t ts (b .1) (r .0)),
       inside-rest t ts G (r .1),
     )
 
@@ -163,14 +163,14 @@ module _ (Y : Layout) where
     rw (b .1) tt,
     all-map (λ s. InChildren (s .node) ts) (λ s. (p : ℕ) → In p u → Behind p (s .node))
         (λ s i p j. let x = a .1 p (s .node) (subst (λ x. In p x) (b .0) j) i in (x .0, x .2)) G
-        (brothers-in q ts G (b .2)),
+        (siblings-in q ts G (b .2)),
   )
   beside-clear n q (t then ts) u F G (inr b) a =
       let r = beside-clear n q ts u (b .1) G (b .4) (a .3) in
       let c = beside-child q ts u (b .1) G (b .4) in (
         rw (b .2) (all-append (λ s. (p : ℕ) → In p u → Clear p (s .node)) (b .0) (b .1)
             (all-map (λ s. In (s .node) t) (λ s. (p : ℕ) → In p u → Clear p (s .node))
-            (λ s i p j. a .1 (s .node) p i (in-child p u ts c j) .1) (b .0) (brothers-in q (last t) (b .0) (b .3)))
+            (λ s i p j. a .1 (s .node) p i (in-child p u ts c j) .1) (b .0) (siblings-in q (last t) (b .0) (b .3)))
             (r .0)),
         r .1,
       )

@@ -38,16 +38,16 @@ ChildIn u (last t) = u ≡ t
 ChildIn u (t then ts) = (u ≡ t) ⊎ ChildIn u ts
 
 -- the fronts of some brothers of a child: below a Max node each has one, below a Min node none
-abbrev pub Brothers : Side → Children → List State → Type 0
-Brothers Max ks L = FrontChildren Max ks L
-Brothers Min ks L = L ≡ []
+abbrev pub Siblings : Side → Children → List State → Type 0
+Siblings Max ks L = FrontChildren Max ks L
+Siblings Min ks L = L ≡ []
 
 -- u is one of the children, with the fronts F of its elder brothers and G of its younger ones
 abbrev pub Beside : Side → Children → Tree → List State → List State → Type 0
 Beside q (last t) u F G = (u ≡ t) × (F ≡ []) × (G ≡ [])
 Beside q (t then ts) u F G =
-    ((u ≡ t) × (F ≡ []) × Brothers q ts G)
-    ⊎ ((F₁ : List State) × (F₂ : List State) × (F ≡ F₁ ++ F₂) × Brothers q (last t) F₁ × Beside q ts u F₂ G)
+    ((u ≡ t) × (F ≡ []) × Siblings q ts G)
+    ⊎ ((F₁ : List State) × (F₂ : List State) × (F ≡ F₁ ++ F₂) × Siblings q (last t) F₁ × Beside q ts u F₂ G)
 
 -- u is a tree within r, and a front of u between A and B makes a front of r
 pub data Within (r : Tree) : Tree → List State → List State → Type 0 where
