@@ -29,7 +29,7 @@ ghost use Rattle.frames.specs.Check.{checked};
 ghost use Rattle.frames.specs.Children.{childrenOf};
 ghost use Rattle.file_hex.specs.Digit.{digitOf};
 ghost use Rattle.file_lines.specs.Line.{lineAt};
-ghost use Rattle.file_reader.specs.File.{readAnswer, tableAfter};
+ghost use Rattle.file_reader.specs.File.{readOutcome};
 ghost use Rattle.file_writer.specs.Write.{writeOutcome};
 ghost use Rattle.convert.specs.Convert.{convertOutcome};
 ghost use Rattle.convert.specs.Printed.{outputOutcome};
@@ -69,8 +69,8 @@ pub extern "C" fn buulset_version() -> u32
 // `treefile::read`: the file's frames in the table; `count` is the number of nodes.
 #[no_mangle]
 pub extern "C" fn buulset_read(file: &[u8], table: &mut [u8]) -> Answer
-    ensures { λ r. ⌜ (r ≡ flatChecked (readAnswer (now (file .entry)) (now (table .entry))))
-        × (now (table .exit) ≡ tableAfter (now (file .entry)) (now (table .entry))) ⌝ }
+    ensures { λ r. ⌜ r leaving now (table .exit)
+        ≡ flatBy flatChecked (readOutcome (now (file .entry)) (now (table .entry))) ⌝ }
 {
     flat_checked(treefile::read(file, table))
 }

@@ -6,7 +6,7 @@ use lib.ListN.{length, take, drop, replicate}
 use Rattle.frames.specs.declared.Checked.{Checked}
 use Rattle.frames.specs.Rejection.{_leaving_}
 use Rattle.file_lines.specs.Line.{lineSize}
-use Rattle.file_reader.specs.File.{tableAfter}
+use Rattle.file_reader.specs.File.{readOutcome}
 use Rattle.file_writer.specs.Write.{writeOutcome}
 use Rattle.graft.specs.Outcome.{graftOutcome}
 use Rattle.cases_tables.specs.Sizes.{framesSize}
@@ -27,10 +27,11 @@ module _ (t : List ℕ) (k : ℕ) (u b : List ℕ) (answer : Checked) (result : 
       subst (λ g. SavedAs (writeOutcome (front (framesSize (g .answer)) (g .left)) saved) n after) made (rw (← z) s)
 
 -- so many bytes of the table that a file is read into
-pub table-read : (file table : List ℕ) (size n : ℕ) → table ≡ tableAfter file (replicate tableRoom 0)
-    → n ≡ min size (length table) → take n table ≡ tableOf file size
+pub table-read : (file table : List ℕ) (size n : ℕ) (a : Checked)
+    → a leaving table ≡ readOutcome file (replicate tableRoom 0) → n ≡ min size (length table)
+    → take n table ≡ tableOf file size
 unfolding tableOf
-table-read file table size n e z = rw (z, e)
+table-read file table size n a e z = rw z (ap (λ o. front size (o .left)) e)
 
 -- the two trees of a file are grafted
 pub both-read : (file : List ℕ) (lines k room firstSize secondSize : ℕ) (saved first rest : List ℕ) (n : ℕ)

@@ -5,7 +5,7 @@ use mathlib.Core.List.{List}
 use lib.ListN.{length, drop, replicate}
 use Rattle.frames.specs.Rejection.{Outcome}
 use Rattle.file_lines.specs.Line.{lineSize}
-use Rattle.file_reader.specs.File.{tableAfter}
+use Rattle.file_reader.specs.File.{readOutcome}
 use Rattle.file_writer.specs.declared.Written.{Written}
 use Rattle.file_writer.specs.Write.{writeOutcome, lengthGiven}
 use Rattle.graft.specs.Outcome.{graftOutcome}
@@ -14,7 +14,7 @@ use Rattle.cases_tables.specs.Buffers.{tableRoom, filledWith, front}
 
 -- so many bytes of the table that a file is read into; zeros follow its frames
 unfoldable pub tableOf : List ℕ → ℕ → List ℕ
-tableOf file size = front size (tableAfter file (replicate tableRoom 0))
+tableOf file size = front size (readOutcome file (replicate tableRoom 0) .left)
 
 -- a buffer after a graft in it
 unfoldable pub graftResult : (t : List ℕ) (k : ℕ) (u result : List ℕ) → List ℕ

@@ -11,7 +11,7 @@ ghost use Prim.Native.Nat.{_+_, _*_, _<_, _≤_, min};
 ghost use lib.ListN.{length, drop};
 ghost use Rattle.io.specs.Counts.{Counts};
 ghost use Rattle.file_lines.specs.Line.{lineSize};
-ghost use Rattle.file_reader.specs.File.{readAnswer, tableAfter};
+ghost use Rattle.file_reader.specs.File.{readOutcome};
 ghost use Rattle.cases_tables.specs.Sizes.{framesSize};
 ghost use Rattle.cases_grafts.specs.Levels.{levelFile};
 
@@ -51,9 +51,11 @@ fn print_onto(first: &[u8], second: &[u8]) {
 fn make_table(table: &mut [u8], width: usize, inner: usize) -> usize
     requires { ⌜ (width < 42) × (inner < 274) × (width * inner < 4097) ⌝ }
     ensures { λ r. ⌜ Counts r (now (table .exit)) ⌝ }
-    ensures { λ r. ⌜ r ≡ min (framesSize (readAnswer (levelFile width inner (1 + width * inner)) (now (table .entry))))
+    ensures { λ r. ⌜ r
+        ≡ min (framesSize (readOutcome (levelFile width inner (1 + width * inner)) (now (table .entry)) .answer))
         (length (now (table .exit))) ⌝ }
-    ensures { λ r. ⌜ now (table .exit) ≡ tableAfter (levelFile width inner (1 + width * inner)) (now (table .entry)) ⌝ }
+    ensures { λ r. ⌜ now (table .exit)
+        ≡ readOutcome (levelFile width inner (1 + width * inner)) (now (table .entry)) .left ⌝ }
 {
     let mut file = io::large_buffer();
     let size = make_file(&mut file, width, inner);

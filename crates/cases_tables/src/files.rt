@@ -16,7 +16,7 @@ use treefile::LINE_SIZE;
 use treefile::Line;
 use treefile::Written;
 ghost use mathlib.Core.Path.{_≡_};
-ghost use Rattle.file_reader.specs.File.{tableAfter};
+ghost use Rattle.file_reader.specs.File.{readOutcome};
 ghost use Rattle.file_writer.specs.Write.{writeOutcome};
 ghost use Rattle.convert.specs.Printed.{outputOutcome};
 
@@ -92,7 +92,7 @@ pub fn print_reading(file: &[u8], size: u32) {
 }
 
 fn print_read(file: &[u8], table: &mut [u8])
-    ensures { λ _. ⌜ now (table .exit) ≡ tableAfter (now (file .entry)) (now (table .entry)) ⌝ }
+    ensures { λ _. ⌜ now (table .exit) ≡ readOutcome (now (file .entry)) (now (table .entry)) .left ⌝ }
 {
     print_checked(b"read", treefile::read(file, table));
     print_bytes(b"table", table);

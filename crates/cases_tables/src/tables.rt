@@ -8,7 +8,7 @@ ghost use mathlib.Core.Path.{_≡_};
 ghost use Prim.Native.Nat.{min};
 ghost use lib.ListN.{length};
 ghost use Rattle.io.specs.Counts.{Counts};
-ghost use Rattle.file_reader.specs.File.{readAnswer, tableAfter};
+ghost use Rattle.file_reader.specs.File.{readOutcome};
 ghost use Rattle.cases_tables.specs.Sizes.{framesSize};
 
 // A table with one frame more than a tree may have.
@@ -27,9 +27,9 @@ pub fn print_children(file: &[u8], node: u32) {
 // Reads a file into a table: how many bytes its frames have, 0 where the file is refused.
 pub fn read_table(file: &[u8], table: &mut [u8]) -> usize
     ensures { λ r. ⌜ Counts r (now (table .exit)) ⌝ }
-    ensures { λ r. ⌜ r ≡ min (framesSize (readAnswer (now (file .entry)) (now (table .entry))))
+    ensures { λ r. ⌜ r ≡ min (framesSize (readOutcome (now (file .entry)) (now (table .entry)) .answer))
         (length (now (table .exit))) ⌝ }
-    ensures { λ r. ⌜ now (table .exit) ≡ tableAfter (now (file .entry)) (now (table .entry)) ⌝ }
+    ensures { λ r. ⌜ now (table .exit) ≡ readOutcome (now (file .entry)) (now (table .entry)) .left ⌝ }
 {
     let size = frames_size(treefile::read(file, table));
     fitted(size, table)

@@ -13,22 +13,22 @@ use Rattle.gametree.specs.Tree.{Tree}
 use Rattle.frames.specs.Frame.{frames}
 use Rattle.frames.specs.Tree.{tree, valuation}
 use Rattle.frames.specs.declared.Rejection.{Rejection}
-use Rattle.frames.specs.Rejection.{ask, answer, _andThen_, unless}
+use Rattle.frames.specs.declared.Checked.the-variants.{Nodes, Rejected}
+use Rattle.frames.specs.Rejection.{ask, _andThen_, unless, _leaving_}
 use Rattle.frames.specs.Check.{Accepted, check1, check10}
 use Rattle.frames.specs.results.Alternating.{Alternating, zeroRejection, treeByDepth}
 use Rattle.frames.proofs.Acceptance.{accepted-formed}
 use Rattle.frames.proofs.Sides.{each-same, frames-before, rejection-before, side-parity, tree-before}
 use Rattle.file_lines.specs.Lines.{decoded}
 use Rattle.file_reader.specs.File.{fileCheck2, fileCheck3, fileCheck16, fileCheck10, fileRejection, readRejection}
-use Rattle.file_reader.specs.File.{readAnswer, tableAfter}
+use Rattle.file_reader.specs.File.{readOutcome}
 use Rattle.file_reader.proofs.Acceptance.{accepted-table}
 use Rattle.verify.specs.Flags.{ruleHolds}
 use Rattle.verify.specs.Check.{checkTree, check11, check14, treesRejection, flagsRejection, certificateRejection}
 use Rattle.verify.specs.Check.{judged, verdict}
 use Rattle.text.specs.Text.{refusedLine}
 use Rattle.report.specs.Report.{analysisOn, report}
-use Rattle.demands.specs.Alternating.{zeroFile, zeroRead, ruleByDepth, treeRuleByDepth, verdictByDepth}
-use Rattle.demands.specs.Alternating.{reportByDepth}
+use Rattle.demands.specs.Alternating.{zeroFile, ruleByDepth, treeRuleByDepth, verdictByDepth, reportByDepth}
 
 module _ (t : List ℕ) (p : Alternating t) where
   rule-before : (s : Side) (flags : List ℕ) (i : ℕ) → i < frames t → ruleHolds s t flags i ≡ ruleByDepth s t flags i
@@ -61,15 +61,13 @@ module _ (f : List ℕ) (p : Alternating (decoded f)) where
       (frames-before (decoded f) p)
 
   -- and so the reader answers what it answered, and leaves what it left
-  pub alternating-read : (table : List ℕ)
-      → (readAnswer f table ≡ answer (frames (decoded f)) (zeroRead f table))
-      × (tableAfter f table
-      ≡ unless (zeroRead f table) (λ r. table) (decoded f ++ drop (length (decoded f)) table))
+  pub alternating-read : (table : List ℕ) → readOutcome f table
+      ≡ unless (zeroFile f andThen fileCheck10 f table) (λ r. Rejected r leaving table)
+      (Nodes (frames (decoded f)) leaving (decoded f ++ drop (length (decoded f)) table))
   unfolding readRejection
   alternating-read table =
-      let e = ap (λ x. x andThen fileCheck10 f table) alternating-file in
-      let after = decoded f ++ drop (length (decoded f)) table in
-      (ap (answer (frames (decoded f))) e, ap (λ x. unless x (λ r. table) after) e)
+      ap (λ x. unless (x andThen fileCheck10 f table) (λ r. Rejected r leaving table)
+      (Nodes (frames (decoded f)) leaving (decoded f ++ drop (length (decoded f)) table))) alternating-file
 
   -- and the program prints what it printed
   abbrev printedBy : Option Rejection → Tree → List ℕ

@@ -22,7 +22,7 @@ use Rattle.frames.proofs.Acceptance.{accepted-stated}
 use Rattle.file_lines.specs.Line.{lineSize, hasLowercase, lineAt}
 use Rattle.file_lines.specs.Lines.{linesOf, decoded}
 use Rattle.file_reader.specs.File.{maxFile, fileCheck2, fileCheck3, fileCheck16, fileRejection, readRejection}
-use Rattle.file_reader.specs.File.{readAnswer}
+use Rattle.file_reader.specs.File.{readOutcome}
 use Rattle.file_reader.proofs.FirstLine.{line-asked}
 use Rattle.file_writer.specs.Encoded.{fileOf}
 use Rattle.file_writer.specs.declared.Written.the-variants.{Length}
@@ -41,7 +41,7 @@ module _ (f : List ℕ) where
   -- lowercase letter gets it, whatever its frames and the lent table are
   pub small-refused : (check1 f andThen fileCheck2 f andThen fileCheck3 f) ≡ none → (i : ℕ) → i < length (linesOf f)
       → hasLowercase (getD (linesOf f) i []) ≡ true
-      → (r : Rejection) × (fileCheck16 f ≡ some r) × ((table : List ℕ) → readAnswer f table ≡ RejectedTable r)
+      → (r : Rejection) × (fileCheck16 f ≡ some r) × ((table : List ℕ) → readOutcome f table .answer ≡ RejectedTable r)
   unfolding readRejection fileRejection
   small-refused e i h s =
       let a = both-passed (check1 f) _ e in

@@ -35,7 +35,7 @@ use Rattle.convert.proofs as convert
 use Rattle.convert.specs.Convert.{convertOutcome}
 use Rattle.convert.specs.Printed.{outputOutcome}
 use Rattle.file_reader.proofs as file_reader
-use Rattle.file_reader.specs.File.{readAnswer, tableAfter}
+use Rattle.file_reader.specs.File.{readOutcome}
 use Rattle.tables.proofs as tables
 use Rattle.frames.proofs as frames
 use Rattle.frames.specs.Check.{checked}
@@ -110,7 +110,7 @@ pub treefile-read-line : Runs file_lines.Cursor.read_line.ended file_lines.Curso
 treefile-read-line = record { meets = file_lines.Cursor.read_line.Met.met }
 
 pub treefile-read : Runs file_reader.read.ended file_reader.read.Symbol.routine
-    (λ κs (f, (t, _)) r (_, (t′, _)). (r ≡ readAnswer (f .now) (t .now)) × (t′ .now ≡ tableAfter (f .now) (t .now)))
+    (λ κs (f, (t, _)) r (_, (t′, _)). r leaving t′ .now ≡ readOutcome (f .now) (t .now))
 treefile-read = record { meets = file_reader.read.Met.met }
 
 pub treefile-write : Runs file_writer.write.ended file_writer.write.Symbol.routine

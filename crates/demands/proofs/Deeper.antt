@@ -13,7 +13,7 @@ use Rattle.frames.specs.FirstNo.{LowestDeep, rejectionBefore9}
 use Rattle.frames.proofs.Stated.{both-passed, passed-then}
 use Rattle.frames.proofs.FirstNo.{deeper-frames, deeper-rejected}
 use Rattle.file_lines.specs.Lines.{decoded}
-use Rattle.file_reader.specs.File.{fileCheck2, fileCheck3, fileCheck16, fileRejection, readRejection, readAnswer}
+use Rattle.file_reader.specs.File.{fileCheck2, fileCheck3, fileCheck16, fileRejection, readRejection, readOutcome}
 use Rattle.file_writer.specs.Write.{writeRejection}
 use Rattle.certificate.specs.Search.{searchRejection}
 use Rattle.verify.specs.Check.{certificateRejection}
@@ -34,7 +34,7 @@ pub deeper-read : (f : List ℕ)
     → (check1 f andThen fileCheck2 f andThen fileCheck3 f andThen fileCheck16 f andThen nodesRejection (decoded f)
     andThen check8 (decoded f)) ≡ none
     → (k : ℕ) → k < frames (decoded f) → maxDepth < depthOf (decoded f) k
-    → (r : Rejection) × LowestDeep (decoded f) r × ((table : List ℕ) → readAnswer f table ≡ RejectedTable r)
+    → (r : Rejection) × LowestDeep (decoded f) r × ((table : List ℕ) → readOutcome f table .answer ≡ RejectedTable r)
 unfolding readRejection fileRejection
 deeper-read f e k l d =
     let a = both-passed (check1 f) _ e in

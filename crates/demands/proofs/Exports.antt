@@ -8,7 +8,7 @@ use Rattle.frames.specs.Check.{checked}
 use Rattle.frames.specs.Children.{childrenOf}
 use Rattle.file_hex.specs.Digit.{digitOf}
 use Rattle.file_lines.specs.Line.{lineAt}
-use Rattle.file_reader.specs.File.{readAnswer, tableAfter}
+use Rattle.file_reader.specs.File.{readOutcome}
 use Rattle.file_writer.specs.Write.{writeOutcome}
 use Rattle.convert.specs.Convert.{convertOutcome}
 use Rattle.convert.specs.Printed.{outputOutcome}
@@ -42,8 +42,7 @@ exported-version = record { meets = buulset.buulset_version.Met.met }
 -- files and tables
 
 pub exported-read : Runs buulset.buulset_read.ended buulset.buulset_read.Symbol.routine
-    (λ κs (f, (t, _)) r (_, (t′, _)).
-    (r ≡ flatChecked (readAnswer (f .now) (t .now))) × (t′ .now ≡ tableAfter (f .now) (t .now)))
+    (λ κs (f, (t, _)) r (_, (t′, _)). r leaving t′ .now ≡ flatBy flatChecked (readOutcome (f .now) (t .now)))
 exported-read = record { meets = buulset.buulset_read.Met.met }
 
 pub exported-read-line : Runs buulset.buulset_read_line.ended buulset.buulset_read_line.Symbol.routine

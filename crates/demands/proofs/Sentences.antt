@@ -34,7 +34,7 @@ use Rattle.certificate.specs.declared.Findings.{Findings}
 use Rattle.certificate.specs.Search.{findings, buffers}
 use Rattle.tables.proofs as tables
 use Rattle.file_reader.proofs as reader
-use Rattle.file_reader.specs.File.{AcceptedFile, readAnswer, tableAfter}
+use Rattle.file_reader.specs.File.{AcceptedFile, readOutcome}
 use Rattle.file_reader.proofs.Acceptance.{accepted-exactly, read-nodes}
 use Rattle.file_writer.proofs as writer
 use Rattle.file_writer.specs.declared.Written.the-variants.{Length}
@@ -290,7 +290,8 @@ written-read =
       both = λ κs (t, (b, _)) r (_, (b′, _)) s κs′ (f, (u, _)) r′ (_, (u′, _)) c n e bytes same room.
           let p = saved-read (t .now) (b .now) n (sym (ap (λ o. o .answer) s) ∙ e) bytes (u .now) room in
           let i = same ∙ ap (λ o. take n (o .left)) s in
-          (c .0 ∙ ap (λ x. readAnswer x (u .now)) i ∙ p .0, c .1 ∙ ap (λ x. tableAfter x (u .now)) i ∙ p .1);
+          let o = c ∙ ap (λ x. readOutcome x (u .now)) i ∙ p in
+          (ap (λ x. x .answer) o, ap (λ x. x .left) o);
     }
 
 -- N5: "A leaf's worth takes the place of its value": in `valuation` (`leaf-worth` in Demand2.antt); where no leaf is a
@@ -337,7 +338,8 @@ pub capitals-taken : Runs reader.read.ended reader.read.Symbol.routine
 capitals-taken =
     follows contracts.treefile-read
     (λ κs (f, (t, _)) r e s n given i k h l.
-    accepted-exactly (f .now) .0 (read-nodes (f .now) (t .now) n (sym given ∙ s .0) .0) .line i h .digits k l)
+    let a = read-nodes (f .now) (t .now) n (sym given ∙ ap (λ o. o .answer) s) .0 in
+    accepted-exactly (f .now) .0 a .line i h .digits k l)
 
 -- "their trees do not change"
 pub converted-same : Runs convert.convert.ended convert.convert.Symbol.routine

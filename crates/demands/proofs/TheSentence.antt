@@ -40,6 +40,7 @@ use Rattle.verify.specs.Certificate.{Certificate}
 use Rattle.verify.proofs.Theorems.{accepts-certificates, accepted-minimax}
 use Rattle.file_reader.proofs as reader
 use Rattle.file_reader.specs.File.{readRejection}
+use Rattle.file_reader.proofs.Reading.{read-answer}
 use Rattle.file_writer.proofs as writer
 use Rattle.file_writer.specs.Write.{writeCheck10, writeRejection}
 use Rattle.treefile.proofs.Saving as saving
@@ -197,8 +198,9 @@ pub read-keeps : Runs reader.read.ended reader.read.Symbol.routine
 read-keeps =
     follows contracts.treefile-read
     (λ κs (f, (t, _)) r (_, (t′, _)) s q e.
-    let i = answer-rejected (frames (decoded (f .now))) q (readRejection (f .now) (t .now)) (sym e ∙ s .0) in
-    (i, s .1 ∙ rw i))
+    let a = sym e ∙ ap (λ o. o .answer) s ∙ read-answer (f .now) (t .now) in
+    let i = answer-rejected (frames (decoded (f .now))) q (readRejection (f .now) (t .now)) a in
+    (i, ap (λ o. o .left) s ∙ rw i))
 
 pub write-keeps : Runs writer.write.ended writer.write.Symbol.routine
     (λ κs (t, (b, _)) r (_, (b′, _)). (q : Rejection) → r ≡ RejectedWrite q

@@ -17,7 +17,7 @@ use Rattle.frames.specs.Rejection.{ask, _andThen_, eachNode, unless}
 use Rattle.frames.specs.Check.{check1, check10}
 use Rattle.frames.specs.results.Alternating.{zeroFrames, zeroRejection, sideByDepth, treeByDepth}
 use Rattle.file_lines.specs.Lines.{decoded}
-use Rattle.file_reader.specs.File.{fileCheck2, fileCheck3, fileCheck16, fileCheck10}
+use Rattle.file_reader.specs.File.{fileCheck2, fileCheck3, fileCheck16}
 use Rattle.verify.specs.declared.Verdict.{Verdict}
 use Rattle.verify.specs.Flags.{member, requiredOf, rootMember}
 use Rattle.verify.specs.Check.{check11, check14, judged}
@@ -27,10 +27,6 @@ use Rattle.report.specs.Report.{analysisOn}
 -- the first "no" to the questions put to a file
 abbrev pub zeroFile : List ℕ → Option Rejection
 zeroFile f = check1 f andThen fileCheck2 f andThen fileCheck3 f andThen fileCheck16 f andThen zeroFrames (decoded f)
-
--- to the reader's, with a table
-abbrev pub zeroRead : List ℕ → List ℕ → Option Rejection
-zeroRead f table = zeroFile f andThen fileCheck10 f table
 
 -- the rule of node i for side p's tree, where who moves is read from the depth
 abbrev pub ruleByDepth : Side → List ℕ → List ℕ → ℕ → Bool

@@ -1,7 +1,7 @@
 -- A file is accepted exactly if its lines are right (SPEC 2.2), without lowercase letters, and hold an accepted table;
 -- what the reader then gives.
 use Prim.Native.Nat.{ℕ, zero, suc, _+_, _*_, _/_, _%_, _≤_, _<_}
-use mathlib.Core.Path.{_≡_, refl, sym, _∙_}
+use mathlib.Core.Path.{_≡_, refl, sym, ap, _∙_}
 use mathlib.Core.Logic.{_↔_}
 use mathlib.Core.Bool.{true, false}
 use mathlib.Core.Option.{Option, none, some}
@@ -14,6 +14,7 @@ use Rattle.lists.proofs.Choice.{clash}
 use Rattle.frames.specs.declared.Rejection.{Rejection}
 use Rattle.frames.specs.declared.Checked.the-variants.{Nodes, Rejected}
 use Rattle.frames.specs.Frame.{frameSize, frames, maxTable}
+use Rattle.frames.specs.Rejection.{_leaving_}
 use Rattle.frames.specs.Check.{check1, check2, check3, rejection, Accepted}
 use Rattle.frames.proofs.Stated.{ask-yes, yes-ask, both-passed, passed-both}
 use Rattle.frames.proofs.Asked.{answer-nodes}
@@ -23,11 +24,11 @@ use Rattle.file_lines.specs.Lines.{linesOf, decoded}
 use Rattle.file_lines.proofs.CapitalDigits.{capital-at, capitals-all}
 use Rattle.file_lines.proofs.Lines.{line-length, line-digits, digit-at}
 use Rattle.file_reader.specs.File.{maxFile, eachLine, fileCheck2, fileCheck3, fileCheck16}
-use Rattle.file_reader.specs.File.{fileRejection, AcceptedFile, readRejection, readAnswer, tableAfter}
+use Rattle.file_reader.specs.File.{fileRejection, AcceptedFile, readRejection, readOutcome}
 use Rattle.file_reader.specs.engine.Decoded.{lineCheck16, lineCheck3}
 use Rattle.file_reader.specs.results.Stated.{LineAsStated, FileAsStated}
 use Rattle.file_reader.proofs.Counts.{line-count, decoded-length, frame-count}
-use Rattle.file_reader.proofs.Reading.{accepted-parts}
+use Rattle.file_reader.proofs.Reading.{accepted-parts, read-answer}
 
 line-stated : (l : List ℕ) → isLine l ≡ true → hasLowercase l ≡ false → LineAsStated l
 line-stated l e g =
@@ -115,12 +116,12 @@ module _ (f : List ℕ) where
   accepted-nodes e = let p = accepted-table e .0 in frame-count f p ∙ line-count f p
 
   -- where the reader gives nodes, the file is accepted, and the table begins with its frames
-  pub read-nodes : (table : List ℕ) (n : ℕ) → Nodes n ≡ readAnswer f table
+  pub read-nodes : (table : List ℕ) (n : ℕ) → Nodes n ≡ readOutcome f table .answer
       → AcceptedFile f × Accepted (decoded f) × (n ≡ frames (decoded f))
-      × (take (frameSize * n) (tableAfter f table) ≡ decoded f)
+      × (take (frameSize * n) (readOutcome f table .left) ≡ decoded f)
   unfolding readRejection
   read-nodes table n e =
-      let a = answer-nodes (frames (decoded f)) n (readRejection f table) e in
+      let a = answer-nodes (frames (decoded f)) n (readRejection f table) (e ∙ read-answer f table) in
       let b = both-passed (fileRejection f) _ (a .0) in
       let p = accepted-table (b .0) in
       let size : frameSize * n ≡ length (decoded f) =
@@ -129,23 +130,20 @@ module _ (f : List ℕ) where
 
   -- an accepted file is read into every table that has six bytes for each line
   pub accepted-read : (table : List ℕ) → AcceptedFile f → frameSize * frames (decoded f) ≤ length table
-      → (readAnswer f table ≡ Nodes (frames (decoded f)))
-      × (tableAfter f table ≡ decoded f ++ drop (length (decoded f)) table)
+      → readOutcome f table ≡ Nodes (frames (decoded f)) leaving (decoded f ++ drop (length (decoded f)) table)
   unfolding readRejection
   accepted-read table e room =
       let p = accepted-table e .0 in
-      let fits = le-leb (frameSize * length (linesOf f)) (length table) (omega (arith, frame-count f p)) in
-      (rw (e, fits), rw (e, fits))
+      rw (e, le-leb (frameSize * length (linesOf f)) (length table) (omega (arith, frame-count f p)))
 
   -- into a table that has room for every file, the reader rejects by questions 1 to 9 and 16 only
   pub long-enough-rejected : (table : List ℕ) → maxTable ≤ length table → (r : Rejection)
-      → Rejected r ≡ readAnswer f table
-      → fileRejection f ≡ some r
+      → Rejected r ≡ readOutcome f table .answer → fileRejection f ≡ some r
   unfolding readRejection
   long-enough-rejected table room r e = by-questions (fileRejection f) refl
     where
       by-questions : (q : Option Rejection) → fileRejection f ≡ q → q ≡ some r
       by-questions none p =
           let atMost = accepted-formed (decoded f) (accepted-table p .1) .atMost in
-          let nodes = e ∙ accepted-read table p (omega arith) .0 in clash (cc)
+          let nodes = e ∙ ap (λ o. o .answer) (accepted-read table p (omega arith)) in clash (cc)
       by-questions (some x) p = let same : Rejected r ≡ Rejected x = (rw p at e) in cc

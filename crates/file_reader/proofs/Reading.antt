@@ -11,13 +11,13 @@ use Rattle.frames.specs.declared.Rejection.{Rejection}
 use Rattle.frames.specs.declared.Checked.{Checked}
 use Rattle.frames.specs.declared.Checked.the-variants.{Nodes, Rejected}
 use Rattle.frames.specs.Frame.{frameSize, maxNodes, frames}
-use Rattle.frames.specs.Rejection.{_andThen_, answer}
+use Rattle.frames.specs.Rejection.{_andThen_, answer, _leaving_}
 use Rattle.frames.specs.Check.{check1, framesRejection}
 use Rattle.frames.proofs.Stated.{ask-yes, both-passed}
-use Rattle.frames.proofs.Asked.{answer-nodes, answer-rejected}
+use Rattle.frames.proofs.Asked.{refused, answer-nodes, answer-rejected, answer-of}
 use Rattle.file_lines.specs.Lines.{linesOf, decoded}
 use Rattle.file_reader.specs.File.{maxFile, fileCheck2, fileCheck3, fileCheck16, fileRejection}
-use Rattle.file_reader.specs.File.{readRejection, readAnswer, tableAfter}
+use Rattle.file_reader.specs.File.{readRejection, readOutcome}
 use Rattle.file_reader.specs.engine.Decoded.{linesRejection, Decoded}
 use Rattle.file_reader.proofs.Decoding.{decoded-refused}
 use Rattle.file_reader.proofs.Counts.{decoded-length, frame-count, frames-few}
@@ -137,32 +137,31 @@ module _ (f table : List ℕ) where
           filled = λ p. rw (← w .size) (w .bytes);
         }
 
--- what the reader leaves
-abbrev pub Outcome : List ℕ → List ℕ → Checked → List ℕ → Type 0
-Outcome f table r after = (r ≡ readAnswer f table) × (after ≡ tableAfter f table)
-
 module _ (f table : List ℕ) where
-  -- one of questions 1 to 9 got a "no"
-  pub read-refused : (x : Rejection) → fileRejection f ≡ some x → Outcome f table (Rejected x) table
+  -- the answer by itself
+  pub read-answer : readOutcome f table .answer ≡ answer (frames (decoded f)) (readRejection f table)
+  read-answer = answer-of (readRejection f table) Rejected table _ _
+
+  -- one of questions 1 to 9 and 16 got a "no"
+  pub read-refused : (x : Rejection) → fileRejection f ≡ some x → Rejected x leaving table ≡ readOutcome f table
   unfolding readRejection
-  read-refused x e = (rw e, rw e)
+  read-refused x e = rw e
 
   module _ (t : List ℕ) (n : ℕ) (w : Front f (fileRejection f) t n) where
     -- question 10
-    pub read-short : length table < frameSize * n → Outcome f table (Rejected (record { number = 10; place = 0 })) table
+    pub read-short : length table < frameSize * n → refused 10 0 leaving table ≡ readOutcome f table
     unfolding readRejection
     read-short h =
-        let short = lt-leb (frameSize * length (linesOf f)) (length table) (omega (arith, w .lines)) in
-        (rw (w .passed, short), rw (w .passed, short))
+        rw (w .passed, lt-leb (frameSize * length (linesOf f)) (length table) (omega (arith, w .lines)))
 
     -- no question got a "no"
     pub read-accepted : (after : List ℕ) → frameSize * n ≤ length table
         → after ≡ take (length (take (frameSize * n) t)) (take (frameSize * n) t)
         ++ drop (length (take (frameSize * n) t)) table
-        → Outcome f table (Nodes n) after
+        → Nodes n leaving after ≡ readOutcome f table
     unfolding readRejection
     read-accepted after h e =
-        let room = le-leb (frameSize * length (linesOf f)) (length table) (omega (arith, w .lines)) in (
-          rw (w .passed, room) (ap Nodes (w .nodes)),
-          e ∙ rw (w .bytes, take-length (decoded f), w .passed, room),
-        )
+        let same : after ≡ decoded f ++ drop (length (decoded f)) table =
+        e ∙ rw (w .bytes, take-length (decoded f)) in
+        let room = le-leb (frameSize * length (linesOf f)) (length table) (omega (arith, w .lines)) in
+        rw (w .passed, room, same, w .nodes)

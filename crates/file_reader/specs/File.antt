@@ -8,8 +8,9 @@ use lib.Dec.{leb}
 use lib.ListN.{length, drop}
 use Rattle.frames.specs.declared.Rejection.{Rejection}
 use Rattle.frames.specs.declared.Checked.{Checked}
+use Rattle.frames.specs.declared.Checked.the-variants.{Nodes, Rejected}
 use Rattle.frames.specs.Frame.{frameSize, maxNodes, frames}
-use Rattle.frames.specs.Rejection.{ask, _andThen_, unless, answer}
+use Rattle.frames.specs.Rejection.{ask, _andThen_, unless, Outcome, _leaving_}
 use Rattle.frames.specs.Check.{check1, framesRejection}
 use Rattle.file_lines.specs.Line.{lineSize, isLine, hasLowercase}
 use Rattle.file_lines.specs.Lines.{linesOf, decoded}
@@ -52,10 +53,9 @@ AcceptedFile f = fileRejection f ≡ none
 unfoldable pub readRejection : List ℕ → List ℕ → Option Rejection
 readRejection f table = fileRejection f andThen fileCheck10 f table
 
--- the reader's answer: the number of nodes, or the rejection
-abbrev pub readAnswer : List ℕ → List ℕ → Checked
-readAnswer f table = answer (frames (decoded f)) (readRejection f table)
-
--- the lent table afterwards: as it was on a "no", else with the frames at its front and what it held past them
-abbrev pub tableAfter : List ℕ → List ℕ → List ℕ
-tableAfter f table = unless (readRejection f table) (λ r. table) (decoded f ++ drop (length (decoded f)) table)
+-- the outcome of a call with a file and a table: the number of nodes, and the frames at the table's front, with what it
+-- held past them; on a "no" the table as it was
+abbrev pub readOutcome : List ℕ → List ℕ → Outcome Checked (List ℕ)
+readOutcome f table =
+    unless (readRejection f table) (λ r. Rejected r leaving table)
+    (Nodes (frames (decoded f)) leaving (decoded f ++ drop (length (decoded f)) table))

@@ -17,9 +17,9 @@ ghost use mathlib.Core.Path.{_≡_};
 ghost use mathlib.Core.Option.{none};
 ghost use Prim.Native.Nat.{_≤_};
 ghost use lib.ListN.{length};
-ghost use Rattle.frames.specs.Rejection.{answer};
+ghost use Rattle.frames.specs.Rejection.{answer, _leaving_};
 ghost use Rattle.file_lines.specs.Lines.{linesOf};
-ghost use Rattle.file_reader.specs.File.{maxFile, fileCheck3, fileCheck16, fileRejection, readAnswer, tableAfter};
+ghost use Rattle.file_reader.specs.File.{maxFile, fileCheck3, fileCheck16, fileRejection, readOutcome};
 ghost use Rattle.file_reader.specs.engine.Decoded.{linesRejection, Decoded, LongEnough};
 
 // The most bytes of a file.
@@ -37,8 +37,7 @@ const LOWERCASE_LETTER: u8 = 16;
 
 // Reads a file into the table: the number of nodes, or the first rejection, and then the table is as it was.
 pub fn read(file: &[u8], table: &mut [u8]) -> Checked
-    ensures { λ r. ⌜ (r ≡ readAnswer (now (file .entry)) (now (table .entry)))
-        × (now (table .exit) ≡ tableAfter (now (file .entry)) (now (table .entry))) ⌝ }
+    ensures { λ r. ⌜ r leaving now (table .exit) ≡ readOutcome (now (file .entry)) (now (table .entry)) ⌝ }
 {
     if file.len() <= SHORT_FILE {
         let mut decoded = [0u8; SHORT_TABLE];
@@ -51,8 +50,7 @@ pub fn read(file: &[u8], table: &mut [u8]) -> Checked
 // The same, with a work array for the frames: the lent table is written to once no question is left.
 fn read_by(file: &[u8], decoded: &mut [u8], table: &mut [u8]) -> Checked
     requires { ⌜ (length (now file) ≤ maxFile → LongEnough (now file) (now decoded)) ⌝ }
-    ensures { λ r. ⌜ (r ≡ readAnswer (now (file .entry)) (now (table .entry)))
-        × (now (table .exit) ≡ tableAfter (now (file .entry)) (now (table .entry))) ⌝ }
+    ensures { λ r. ⌜ r leaving now (table .exit) ≡ readOutcome (now (file .entry)) (now (table .entry)) ⌝ }
 {
     let checked = check_file(file, decoded);
     let Checked::Nodes(nodes) = checked else {

@@ -9,10 +9,11 @@ use Rattle.frames.specs.declared.Checked.{Checked}
 use Rattle.frames.specs.declared.Checked.the-variants.{Nodes, Rejected as RejectedFile}
 use Rattle.frames.specs.Frame.{frameSize, maxNodes, maxTable}
 use Rattle.frames.specs.Tree.{tree, valuation}
+use Rattle.frames.specs.Rejection.{_leaving_}
 use Rattle.frames.specs.Check.{Accepted}
 use Rattle.frames.proofs.Acceptance.{accepted-formed}
 use Rattle.file_lines.specs.Lines.{decoded}
-use Rattle.file_reader.specs.File.{readAnswer, tableAfter}
+use Rattle.file_reader.specs.File.{readOutcome}
 use Rattle.file_reader.proofs.Acceptance.{read-nodes, long-enough-rejected}
 use Rattle.text.specs.Text.{refusedLine}
 use Rattle.report.specs.Report.{analysisOn, report}
@@ -31,18 +32,18 @@ module _ (f : List ℕ) where
     pub bytes : take (frameSize * n) table ≡ decoded f
     pub reported : report f ≡ analysis (decoded f)
 
-  module _ (fresh table : List ℕ) (a : Checked) (e : a ≡ readAnswer f fresh) (h : table ≡ tableAfter f fresh) where
+  module _ (fresh table : List ℕ) (a : Checked) (e : a leaving table ≡ readOutcome f fresh) where
     pub read-accepted : (n : ℕ) → a ≡ Nodes n → Read table n
     read-accepted n g =
-        let p = read-nodes f fresh n (sym g ∙ e) in
+        let p = read-nodes f fresh n (sym g ∙ ap (λ o. o .answer) e) in
         record {
           accepted = p .1;
           atMost = omega (arith, p .2, accepted-formed (decoded f) (p .1) .atMost);
-          bytes = ap (take (frameSize * n)) h ∙ p .3;
+          bytes = ap (λ o. take (frameSize * n) (o .left)) e ∙ p .3;
           reported = rw (p .0) (analysed (decoded f));
         }
 
   -- the rejection of a file that is read into a roomy table is printed
   pub read-rejected : (fresh : List ℕ) → maxTable ≤ length fresh → (r : Rejection)
-      → RejectedFile r ≡ readAnswer f fresh → report f ≡ refusedLine r
+      → RejectedFile r ≡ readOutcome f fresh .answer → report f ≡ refusedLine r
   read-rejected fresh room r e = rw (long-enough-rejected f fresh room r e)

@@ -11,13 +11,14 @@ use native.Mathlib.Omega.{arith}
 use Rattle.frames.specs.declared.Rejection.{Rejection}
 use Rattle.frames.specs.declared.Checked.the-variants.{Nodes}
 use Rattle.frames.specs.Frame.{frameSize, frames}
+use Rattle.frames.specs.Rejection.{_leaving_}
 use Rattle.frames.specs.Check.{Accepted}
 use Rattle.frames.proofs.Stated.{yes-ask, passed-both}
 use Rattle.frames.proofs.Acceptance.{accepted-stated}
 use Rattle.file_hex.specs.Digit.{isCapitalDigit}
 use Rattle.file_lines.specs.Line.{lineDigits, lineFeed, lineSize}
 use Rattle.file_lines.specs.Lines.{linesOf, decode, decoded}
-use Rattle.file_reader.specs.File.{eachLine, AcceptedFile, readAnswer, tableAfter}
+use Rattle.file_reader.specs.File.{eachLine, AcceptedFile, readOutcome}
 use Rattle.file_reader.specs.engine.Decoded.{lineCheck16, lineCheck3}
 use Rattle.file_reader.proofs.Acceptance.{table-accepted, accepted-read}
 use Rattle.file_writer.specs.Encoded.{digitsOf, lineOf, encode, fileOf}
@@ -159,12 +160,10 @@ module _ (t : List ℕ) (accepted : Accepted t) where
 
     -- reading a written file into any table with room restores the table exactly, and keeps what lies past it
     pub written-read : (table : List ℕ) → length t ≤ length table
-        → (readAnswer (fileOf t) table ≡ Nodes (frames t)) × (tableAfter (fileOf t) table ≡ t ++ drop (length t) table)
+        → readOutcome (fileOf t) table ≡ Nodes (frames t) leaving (t ++ drop (length t) table)
     written-read table room =
-        let read = accepted-read (fileOf t) table written-accepted (rw written-decoded (omega arith)) in (
-          read .0 ∙ ap (λ x. Nodes (frames x)) written-decoded,
-          read .1 ∙ ap (λ x. x ++ drop (length x) table) written-decoded,
-        )
+        accepted-read (fileOf t) table written-accepted (rw written-decoded (omega arith))
+        ∙ ap (λ x. Nodes (frames x) leaving (x ++ drop (length x) table)) written-decoded
 
 -- two accepted tables give one file only if they are equal
 pub written-once : (t u : List ℕ) → Accepted t → Bytes t → Accepted u → Bytes u → fileOf t ≡ fileOf u → t ≡ u

@@ -11,9 +11,10 @@ use Rattle.lists.proofs.Choice.{clash}
 use Rattle.frames.specs.declared.Rejection.{Rejection}
 use Rattle.frames.specs.declared.Checked.the-variants.{Nodes}
 use Rattle.frames.specs.Frame.{frames}
+use Rattle.frames.specs.Rejection.{_leaving_}
 use Rattle.frames.specs.Check.{Accepted}
 use Rattle.file_lines.specs.Line.{lineSize}
-use Rattle.file_reader.specs.File.{readAnswer, tableAfter}
+use Rattle.file_reader.specs.File.{readOutcome}
 use Rattle.file_writer.specs.Encoded.{fileOf}
 use Rattle.file_writer.specs.Write.{writeRejection, atFront, writeOutcome}
 use Rattle.file_writer.specs.declared.Written.the-variants.{Length, Rejected}
@@ -74,7 +75,7 @@ module _ (t file : List ℕ) where
   pub saved-read : (n : ℕ) → writeOutcome t file .answer ≡ Length n → Bytes t → (table : List ℕ)
       → length t ≤ length table →
       let f = take n (writeOutcome t file .left) in
-      (readAnswer f table ≡ Nodes (frames t)) × (tableAfter f table ≡ t ++ drop (length t) table)
+      readOutcome f table ≡ Nodes (frames t) leaving (t ++ drop (length t) table)
   saved-read n e h table room =
       let s = write-saves n e in rw (s .front) (written-read t (s .accepted) h table room)
 

@@ -24,14 +24,13 @@ returns : tie.Need-returns
 returns c =
     let k = c .before .before .before .before .check-file in
     let e = c .enum-told .given .1 in
-    let o = read-refused _ _ _ (decoded-rejected _ _ _ _ (k .ensures) _ e) in
-    (e ∙ o .0, o .1)
+    rw e (read-refused _ _ _ (decoded-rejected _ _ _ _ (k .ensures) _ e))
 
 returns-2 : tie.Need-returns-2
 returns-2 c =
     let s = c .before .before .before .before .before .before .before .before .before .before .before .before in
-    let o = read-short _ (now (s .args .table)) _ _ (front (c .before .before)) (c .before .if1 .taken) in
-    (c .rejected .ensures ∙ o .0, o .1)
+    rw (c .rejected .ensures)
+    (read-short _ (now (s .args .table)) _ _ (front (c .before .before)) (c .before .if1 .taken))
 
 slice-aggregate-copy : tie.Need-slice-aggregate-copy
 slice-aggregate-copy c = sym (length-take-le _ _ (front-room _ _ _ _ (front (c .before .before))))

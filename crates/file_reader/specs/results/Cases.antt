@@ -4,25 +4,19 @@ use Prim.Native.String.{String}
 use mathlib.Core.List.{List, [], _∷_}
 use Rattle.frames.specs.declared.Checked.{Checked}
 use Rattle.frames.specs.declared.Checked.the-variants.{Nodes, Rejected}
+use Rattle.frames.specs.Rejection.{Outcome, _leaving_}
 use Rattle.file_lines.specs.results.Text.{text}
-use Rattle.file_reader.specs.File.{readAnswer, tableAfter}
+use Rattle.file_reader.specs.File.{readOutcome}
 
--- a file, the lent table, the reader's answer, and the table afterwards
+-- a file, the lent table, the reader's answer and the table afterwards
 pub record Case : Type 0 where
   pub file : String
   pub table : List ℕ
-  pub answer : Checked
-  pub after : List ℕ
+  pub outcome : Outcome Checked (List ℕ)
 
 -- the case as the definitions have it
 abbrev pub computed : Case → Case
-computed c =
-    record {
-      file = c .file;
-      table = c .table;
-      answer = readAnswer (text (c .file)) (c .table);
-      after = tableAfter (text (c .file)) (c .table);
-    }
+computed c = record { file = c .file; table = c .table; outcome = readOutcome (text (c .file)) (c .table) }
 
 -- a table of eight bytes
 abbrev eight : List ℕ
@@ -31,22 +25,12 @@ eight = 9 ∷ 9 ∷ 9 ∷ 9 ∷ 9 ∷ 9 ∷ 9 ∷ 9 ∷ []
 -- a file with a single leaf, which has these bytes 4 and 5, read into the eight bytes
 abbrev leaf : String → ℕ → ℕ → Case
 leaf f high low =
-    record {
-      file = f;
-      table = eight;
-      answer = Nodes 1;
-      after = 0 ∷ 0 ∷ 0 ∷ 0 ∷ high ∷ low ∷ 9 ∷ 9 ∷ [];
-    }
+    record { file = f; table = eight; outcome = Nodes 1 leaving (0 ∷ 0 ∷ 0 ∷ 0 ∷ high ∷ low ∷ 9 ∷ 9 ∷ []) }
 
 -- a file that is rejected with this number and place
 abbrev refused : String → List ℕ → ℕ → ℕ → Case
 refused f table q p =
-    record {
-      file = f;
-      table = table;
-      answer = Rejected (record { number = q; place = p });
-      after = table;
-    }
+    record { file = f; table = table; outcome = Rejected (record { number = q; place = p }) leaving table }
 
 -- the cases that proofs/Cases.antt computes
 abbrev pub cases : List Case

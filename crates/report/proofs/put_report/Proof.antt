@@ -1,6 +1,6 @@
 -- `report::put_report` meets its contract: each way out lays the report of the file.
 use native.Mathlib.Omega.{arith}
-use mathlib.Core.Path.{_≡_, sym, _∙_, subst}
+use mathlib.Core.Path.{_≡_, sym, ap, _∙_, subst}
 use lib.Seq.{length-take-le}
 use borrow.Author.Needs.{needs}
 use denote.Ref.{now}
@@ -21,8 +21,7 @@ accepted : (c : tie.After-known-told) →
     let d = c .before .before .before .before in
     Read (now (start d .args .file)) (d .read .last .1 .0) (c .before .nodes .given .0 .0)
 accepted c =
-    let r = c .before .before .before .before .read .ensures in
-    read-accepted _ _ _ _ (r .0) (r .1) _ (c .before .nodes .given .1)
+    read-accepted _ _ _ _ (c .before .before .before .before .read .ensures) _ (c .before .nodes .given .1)
 
 -- the file was rejected
 rejected : (c : tie.After-known-told2) →
@@ -31,7 +30,7 @@ rejected : (c : tie.After-known-told2) →
     report (now (start d .args .file)) ≡ refusedLine r
 rejected c =
     let d = c .before .before .before .before in
-    let e = sym (c .before .rejection .given .1) ∙ d .read .ensures .0 in
+    let e = sym (c .before .rejection .given .1) ∙ ap (λ o. o .answer) (d .read .ensures) in
     read-rejected (now (start d .args .file)) _ (omega arith) _ e
 
 slice-aggregate-put-analysis : tie.Need-slice-aggregate-put-analysis

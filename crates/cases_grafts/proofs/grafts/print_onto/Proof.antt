@@ -9,9 +9,9 @@ returns c =
     let p′ = c .before .before .before .before .before in
     let q = p′ .before .before .before .before .before in
     let a = q .before .before .before .args in
-    let read = p′ .before .before .before .read .ensures .1 in
+    let read = p′ .before .before .before .read .ensures in
     let size = p′ .fitted .ensures .1 in
-    let t = table-read (a .file .now) _ (a .second-size) _ read size in
+    let t = table-read (a .file .now) _ (a .second-size) _ _ read size in
     let p = c .before .before .print-in .ensures in
     (p .0, rw t at (p .1))
 

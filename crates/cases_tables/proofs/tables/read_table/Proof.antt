@@ -14,8 +14,8 @@ returns c =
     let most = length (read .last .1 .0) in (
       c .fitted .ensures .0,
       (
-        c .fitted .ensures .1 ∙ ap (λ n. min n most) (frames ∙ ap framesSize (read .ensures .0)),
-        read .ensures .1,
+        c .fitted .ensures .1 ∙ ap (λ n. min n most) (frames ∙ ap (λ o. framesSize (o .answer)) (read .ensures)),
+        ap (λ o. o .left) (read .ensures),
       ),
     )
 
