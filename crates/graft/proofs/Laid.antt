@@ -27,7 +27,7 @@ use Rattle.graft.proofs.Sources.{sources-all, first-stated, second-stat
 use Rattle.graft.proofs.Sources.{replaced-same, source-position, root-position}
 
 module _ (t : List ℕ) (k : ℕ) (u : List ℕ) where
-  pub frame-length : (i : ℕ) → length (frameAt t k u i) ≡ frameSize
+  frame-length : (i : ℕ) → length (frameAt t k u i) ≡ frameSize
   unfolding frameAt
   frame-length i = refl
 
@@ -76,11 +76,11 @@ module _ (t : List ℕ) (k : ℕ) (u : List ℕ) where
   result-first i h =
       omega (arith, laid-at (graftSize t u) i 0 h (omega arith), laid-at (graftSize t u) i 1 h (omega arith))
 
-  children-length : (s : ℕ) → length (childSources t k u s) ≡ countIn t k u s
+  pub children-length : (s : ℕ) → length (childSources t k u s) ≡ countIn t k u s
   unfolding childSources
   children-length s = length-up (rootFor t k) (firstIn t k u s) (countIn t k u s)
 
-  pub result-next : (i : ℕ) → i ≤ graftSize t u → next (graftTable t k u) i ≡ length (knownSources t k u i)
+  result-next : (i : ℕ) → i ≤ graftSize t u → next (graftTable t k u) i ≡ length (knownSources t k u i)
   unfolding next breadthFirst
   result-next zero h = refl
   result-next (suc i) h =
@@ -177,7 +177,7 @@ module _ (t : List ℕ) (k : ℕ) (u : List ℕ) (g : Fitting t k u) where
   abbrev S : ℕ → ℕ
   S i = getD (sources t k u) i 0
 
-  pub source-same : (i : ℕ) → i < graftSize t u → S i ≡ sourceAt t k u i
+  source-same : (i : ℕ) → i < graftSize t u → S i ≡ sourceAt t k u i
   source-same i h =
       list-kept (childSources t k u) (rootFor t k 0) i (graftSize t u) i (omega arith) (source-waits t k u g i h) .1
 

@@ -8,6 +8,7 @@ pub mod Laid
 pub mod Acceptance
 pub mod Result
 pub mod Outcomes
+pub mod Queue
 pub mod Writing
 pub mod Grafting
 pub mod Cases

@@ -55,7 +55,7 @@ module _ (children : ℕ → List ℕ) (root : ℕ) where
   unfolding breadthFirst
   list-more i = rw (add-one i)
 
-  length-more : (i : ℕ) → length (L (i + 1)) ≡ length (L i) + length (children (σ i))
+  pub length-more : (i : ℕ) → length (L (i + 1)) ≡ length (L i) + length (children (σ i))
   length-more i = ap length (list-more i) ∙ length-append (L i) (children (σ i))
 
   -- what is known stays known

@@ -197,7 +197,7 @@ module _ (t : List ℕ) (k : ℕ) (u : List ℕ) where
 
     module _ (s : ℕ) (x : Source s) where
       -- the children of a source are sources
-      source-child : (m : ℕ) → m < countIn s → Source (rootFor t k (firstIn s + m))
+      pub source-child : (m : ℕ) → m < countIn s → Source (rootFor t k (firstIn s + m))
       source-child m l =
           source-cases (frames t) (frames u) s (x .inside)
           (λ h. let w = child-within t first-formed h (child-first s m h l) in

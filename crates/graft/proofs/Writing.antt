@@ -1,132 +1,150 @@
--- The loop that writes the result: it fills the list of sources as one from the root down of the result's own table,
--- and lays one frame a turn behind those before.
-use Prim.Native.Nat.{ℕ, _+_, _*_, _-_, _≤_, _<_}
+-- The loop that writes the result: before node i the frames of the nodes before it are laid, the known nodes from i on
+-- have their sources in their frames, and what is behind these is as it was.
+use Prim.Native.Nat.{ℕ, _+_, _*_, _-_, _/_, _%_, _≤_, _<_}
 use native.Mathlib.Omega.{arith}
+use native.Mathlib.Decide.{decLt}
 use native.Mathlib.Numerals.{add-one}
 use mathlib.Core.Path.{_≡_, refl, sym, ap, ap₂, _∙_}
 use mathlib.Core.Bool.{cond}
-use mathlib.Core.List.{List, _++_}
+use mathlib.Core.List.{List, [], _∷_, _++_}
 use lib.Dec.{eqb}
-use lib.ListN.{length, getD, set, drop, length-append, length-drop}
-use lib.Seq.{sets, sets-eq, length-sets, take-at, drop-append-add, drop-drop}
-use Rattle.frames.specs.Frame.{frameSize, frames, firstChild, childCount}
-use Rattle.positions.specs.Buffer.{stored}
-use Rattle.positions.proofs.TopDown.{Filled, filled-root, filled-at, filled-step, visit-within}
+use lib.ListN.{length, getD, take, drop, take-append-drop}
+use lib.Seq.{sets, length-sets, take-take}
+use Rattle.frames.specs.Frame.{frameSize, twoBytes, frames, firstChild}
 use Rattle.graft_questions.specs.Questions.{graftSize}
-use Rattle.graft.specs.Sources.{rootFor, base, sources}
-use Rattle.graft.specs.Table.{firstNumber, renumbered, frameAt, laidFrames, graftTable}
-use Rattle.graft.proofs.Sources.{Fitting, first-stated, second-stated, firstIn, countIn}
-use Rattle.graft.proofs.Laid.{laid-length, frame-length, result-frames, result-formed, result-next}
-use Rattle.graft.proofs.Laid.{result-source, result-count, result-child, result-root, source-same}
+use Rattle.graft.specs.Sources.{rootFor, childSources, breadthFirst, knownSources}
+use Rattle.graft.specs.Table.{firstNumber, renumbered, sourceAt, frameAt, laidFrames, graftTable}
+use Rattle.graft.specs.engine.Joined.{Joined}
+use Rattle.graft.specs.engine.Queue.{withFirst, Queued}
+use Rattle.graft.proofs.Listing.{length-more, list-kept, list-child}
+use Rattle.graft.proofs.Nodes.{up-at}
+use Rattle.graft.proofs.Sources.{Fitting, Source, first-stated, second-stated, firstIn, countIn}
+use Rattle.graft.proofs.Sources.{graft-some, source-child, source-waits, source-kind, sources-all}
+use Rattle.graft.proofs.Laid.{children-length}
+use Rattle.graft.proofs.Queue.{take-stored, drop-sets, drop-more, first-before, first-behind, first-stored}
 
 -- the loop before node i, with `at` the number of its first child
-pub record Writing (t : List ℕ) (k : ℕ) (u b₀ s₀ b s : List ℕ) (at i : ℕ) : Type 0 where
-  pub listed : Filled (graftTable t k u) (λ j. getD (sources t k u) j 0) s₀ s at i
+pub record Writing (t : List ℕ) (k : ℕ) (u b₀ b : List ℕ) (at i : ℕ) : Type 0 where
+  pub inside : i ≤ graftSize t u
+  pub here : at ≡ length (knownSources t k u i)
   pub long : length b ≡ length b₀
-  pub bytes : b ≡ laidFrames t k u i ++ drop (frameSize * i) b₀
-
--- a frame laid behind those before
-laid-more : (p f b : List ℕ) (n : ℕ) → length p ≡ n → n + length f ≤ length b
-    → sets (p ++ drop n b) n f ≡ (p ++ f) ++ drop (n + length f) b
-laid-more p f b n e h =
-    let l : n + length f ≤ length (p ++ drop n b) = simp (length-append, length-drop) (omega arith) in
-    let d : drop (n + length f) (p ++ drop n b) ≡ drop (n + length f) b =
-    ap (λ x. drop (x + length f) (p ++ drop n b)) (sym e) ∙ drop-append-add p (drop n b) (length f)
-    ∙ drop-drop (length f) n b in
-    sets-eq f (p ++ drop n b) n l ∙ ap₂ (λ x y. (x ++ f) ++ y) (take-at p (drop n b) n e) d
+  pub laid : take (frameSize * i) b ≡ laidFrames t k u i
+  pub queue : (j : ℕ) → i ≤ j → j < at → firstChild b j ≡ getD (knownSources t k u i) j 0
+  pub behind : drop (frameSize * at) b ≡ drop (frameSize * at) b₀
 
 module _ (t : List ℕ) (k : ℕ) (u : List ℕ) (g : Fitting t k u) where
-  abbrev R : List ℕ
-  R = graftTable t k u
-
-  abbrev S : ℕ → ℕ
-  S j = getD (sources t k u) j 0
-
   -- the root's source is stored
-  pub writing-begins : (b s : List ℕ) (v : ℕ) → v ≡ cond (eqb 0 k) (frames t) 0 → graftSize t u ≤ length s
-      → Writing t k u b (set s 0 v) b (set s 0 v) 1 0
-  unfolding rootFor laidFrames
-  writing-begins b s v e h =
+  pub writing-begins : (b : List ℕ) (v : ℕ) → v ≡ cond (eqb 0 k) (frames t) 0 → frameSize ≤ length b → (b′ : List ℕ)
+      → b′ ≡ withFirst 0 v b → Writing t k u b′ b′ 1 0
+  unfolding rootFor breadthFirst laidFrames
+  writing-begins b v e h b′ s =
       record {
-        listed = filled-root R (result-formed t k u g) S s v (e ∙ sym (result-root t k u g))
-            (omega (arith, result-frames t k u));
+        inside = omega arith;
+        here = refl;
         long = refl;
-        bytes = refl;
+        laid = refl;
+        queue = λ j a l. let z : j ≡ 0 = omega arith in rw (z, s) (first-stored b 0 v (omega arith) ∙ e);
+        behind = refl;
       }
 
-  module _ {b₀ s₀ b s : List ℕ} {at i : ℕ} (w : Writing t k u b₀ s₀ b s at i) (h : i < graftSize t u) where
-    in-frames : i < frames R
-    in-frames = omega (arith, result-frames t k u)
+  module _ {b₀ b : List ℕ} {at i : ℕ} (w : Writing t k u b₀ b at i) (h : i < graftSize t u)
+      (s : ℕ) (e : s ≡ firstChild b i) where
+    waiting : i < at
+    waiting = omega (arith, w .here, source-waits t k u g i h)
 
     -- the node's source is read
-    writing-source : getD s i 0 ≡ S i
-    writing-source = filled-at R (result-formed t k u g) S (w .listed) in-frames
+    source-is : s ≡ sourceAt t k u i
+    source-is = e ∙ w .queue i (omega arith) waiting
 
-    -- it lies within the two tables
-    pub writing-inside : (x : ℕ) → x ≡ getD s i 0 → frameSize * x + frameSize ≤ length t + length u
-    writing-inside x e =
-        let y = result-source t k u g i h .inside in
-        omega (arith, writing-source, first-stated t k u g .whole, second-stated t k u g .whole)
+    source : Source t k u s
+    source = rw source-is (source-kind t k u g i h)
 
-    module _ (x n : ℕ) (e : x ≡ getD s i 0) (c : n ≡ countIn t k u x) where
-      source-is : x ≡ S i
-      source-is = e ∙ writing-source
+    -- it has a frame in the two tables
+    pub writing-joined : (n : ℕ) → n ≡ frames t → Joined t u n s
+    writing-joined n p =
+        record {
+          number = p;
+          whole = first-stated t k u g .whole;
+          inside = omega (arith, source .inside, first-stated t k u g .whole, second-stated t k u g .whole);
+        }
 
-      count-is : n ≡ childCount R i
-      count-is = c ∙ ap (countIn t k u) source-is ∙ sym (result-count t k u g i h)
+    module _ (n : ℕ) (c : n ≡ countIn t k u s) where
+      -- its children are the next to become known
+      known-more : length (knownSources t k u (i + 1)) ≡ at + n
+      known-more =
+          length-more (childSources t k u) (rootFor t k 0) i
+          ∙ ap₂ _+_ (sym (w .here)) (children-length t k u (sourceAt t k u i) ∙ sym (c ∙ ap (countIn t k u) source-is))
 
-      -- its children fit into the list
       pub writing-within : at + n ≤ graftSize t u
       writing-within =
-          omega (
-            arith,
-            visit-within R (w .listed .visit) in-frames n count-is
-                (result-formed t k u g),
-            result-frames t k u,
-          )
+          let m = known-more in
+          let l = list-kept (childSources t k u) (rootFor t k 0) (i + 1) (graftSize t u) 0 (omega arith)
+          (omega (arith, waiting)) in
+          omega (arith, l .0, sources-all t k u g)
 
-      more : laidFrames t k u i ++ frameAt t k u i ≡ laidFrames t k u (i + 1)
-      unfolding laidFrames
-      more = rw (add-one i)
+      module _ (from : ℕ) (p : from ≡ firstIn t k u s) where
+        -- their numbers fit two bytes
+        pub writing-fits : (m : ℕ) → m < n → cond (eqb (from + m) k) (frames t) (from + m) < twoBytes
+        unfolding rootFor
+        writing-fits m l =
+            rw p (omega (arith, source-child t k u g s source m (omega (arith, c)) .inside, g .atMost))
 
-      -- a turn of the loop
-      pub writing-step : (from child : ℕ) (b′ s′ : List ℕ) → from ≡ base t x + firstChild (t ++ u) x
-          → child ≡ firstNumber n at → frameSize * graftSize t u ≤ length b₀
-          → b′ ≡ sets b (frameSize * i) (renumbered (t ++ u) x child)
-          → s′ ≡ stored (λ c. cond (eqb (from + (c - at)) k) (frames t) (from + (c - at))) at (at + n - at) s
-          → Writing t k u b₀ s₀ b′ s′ (at + n) (i + 1)
-      unfolding rootFor laidFrames frameAt
-      writing-step from child b′ s′ q r room y z =
-          let v = result-formed t k u g in
-          let here = w .listed .visit .here in
-          let known-is = here ∙ result-next t k u i (omega arith) in
-          let same = source-same t k u g i h in
-          let six : frameSize * i + length (frameAt t k u i) ≡ frameSize * (i + 1) = omega
-          (arith, frame-length t k u i) in
-          record {
-            listed =
-                filled-step R v S (w .listed) in-frames n count-is _
-                (λ j d.
-                let f : firstChild R i ≡ at = v .first i in-frames (omega (arith, d .from, d .to)) ∙ sym here in
-                let m : j - at < childCount R i = omega (arith, d .to, d .from) in
-                let p : firstChild R i + (j - at) ≡ j = omega (arith, d .from) in
-                ap (λ a. rootFor t k (a + (j - at))) (q ∙ ap (firstIn t k u) source-is)
-                ∙ sym (result-child t k u g i (j - at) h m) ∙ ap S p)
-                s′ z;
-            long = ap length y ∙ length-sets b (frameSize * i) (renumbered (t ++ u) x child) ∙ w .long;
-            bytes =
-                (y ∙ ap₂ (λ a f. sets a (frameSize * i) f) (w .bytes)
-                (ap₂ (renumbered (t ++ u)) (source-is ∙ same)
-                (r ∙ ap₂ firstNumber (c ∙ ap (countIn t k u) (source-is ∙ same)) known-is))
-                ∙ laid-more (laidFrames t k u i) (frameAt t k u i) b₀ (frameSize * i) (laid-length t k u i)
-                (omega (arith, frame-length t k u i))
-                ∙ ap (λ a. (laidFrames t k u i ++ frameAt t k u i) ++ drop a b₀) six ∙ ap
-                (λ a. a ++ drop (frameSize * (i + 1)) b₀) more);
-          }
+        known-child : (m : ℕ) → m < n → getD (knownSources t k u (i + 1)) (at + m) 0 ≡ rootFor t k (from + m)
+        unfolding childSources
+        known-child m l =
+            let x = sourceAt t k u i in
+            let few : m < countIn t k u x = omega (arith, c, ap (countIn t k u) source-is) in
+            ap (λ a. getD (knownSources t k u (i + 1)) (a + m) 0) (w .here)
+            ∙ list-child (childSources t k u) (rootFor t k 0) i (i + 1) m (omega arith)
+            (omega (arith, children-length t k u x))
+            ∙ up-at (rootFor t k) (firstIn t k u x) (countIn t k u x) m few
+            ∙ ap (λ a. rootFor t k (a + m)) (sym (p ∙ ap (firstIn t k u) source-is))
+
+        -- a turn of the loop: the frame takes the place of its own source, and its children's sources are queued
+        pub writing-step : (child : ℕ) → child ≡ firstNumber n at → frameSize * graftSize t u ≤ length b → (b₁ : List ℕ)
+            → b₁ ≡ sets b (frameSize * i) (renumbered (t ++ u) s child) → (b′ : List ℕ)
+            → Queued (λ m. cond (eqb (from + m) k) (frames t) (from + m)) at n b₁ b′
+            → Writing t k u b₀ b′ (at + n) (i + 1)
+        unfolding rootFor laidFrames frameAt
+        writing-step child f room b₁ y b′ q =
+            let a = waiting in
+            let v = renumbered (t ++ u) s child in
+            let m = frameSize * (i + 1) in
+            let six : m ≡ frameSize * i + length v = omega arith in
+            let known = list-kept (childSources t k u) (rootFor t k 0) i (i + 1) in
+            record {
+              inside = omega arith;
+              here = sym known-more;
+              long = q .long ∙ ap length y ∙ length-sets b (frameSize * i) v ∙ w .long;
+              laid =
+                  sym (take-take m (frameSize * at) b′ (omega arith)) ∙ ap (take m) (q .before)
+                  ∙ take-take m (frameSize * at) b₁ (omega arith)
+                  ∙ rw (y, six, add-one i)
+                  (take-stored v b (frameSize * i) (omega arith)
+                  ∙ ap₂ _++_ (w .laid) (ap₂ (renumbered (t ++ u)) source-is
+                  (f ∙ ap₂ firstNumber (c ∙ ap (countIn t k u) source-is) (w .here))));
+              queue = λ j h l.
+                  elim (decLt j at) [
+                    | yes z ↦ first-before b′ b₁ at j (q .before) z
+                        ∙ first-behind b₁ b (i + 1) j (ap (drop m) y ∙ drop-sets v b (frameSize * i) m (omega arith)) h
+                        ∙ w .queue j (omega arith) z
+                        ∙ sym (known j (omega arith) (omega (arith, w .here)) .1)
+                    | no z ↦ (let d : at + (j - at) ≡ j = omega arith in
+                        rw (← d) (q .entries (j - at) (omega arith) ∙ sym (known-child (j - at) (omega arith))))
+                  ];
+              behind =
+                  q .behind ∙ ap (drop (frameSize * (at + n))) y
+                  ∙ drop-sets v b (frameSize * i) (frameSize * (at + n)) (omega arith)
+                  ∙ drop-more b b₀ (frameSize * at) (frameSize * (at + n)) (omega arith) (w .behind);
+            }
 
   -- the whole table is written
-  pub writing-ends : {b₀ s₀ b s : List ℕ} {at i : ℕ} → Writing t k u b₀ s₀ b s at i → graftSize t u ≤ i
-      → b ≡ graftTable t k u ++ drop (frameSize * graftSize t u) b₀
-  writing-ends {b₀} {s₀} {b} {s} {at} {i} w h =
-      let e : i ≡ graftSize t u = omega (arith, w .listed .visit .inside, result-frames t k u) in
-      w .bytes ∙ ap (λ j. laidFrames t k u j ++ drop (frameSize * j) b₀) e
+  pub writing-ends : (b : List ℕ) (v : ℕ) {b₀ b′ : List ℕ} {at i : ℕ} → b₀ ≡ withFirst 0 v b
+      → Writing t k u b₀ b′ at i → graftSize t u ≤ i → b′ ≡ graftTable t k u ++ drop (frameSize * graftSize t u) b
+  writing-ends b v {b₀} {b′} {at} {i} s w h =
+      let n = frameSize * graftSize t u in
+      let e : i ≡ graftSize t u = omega (arith, w .inside) in
+      let a : at ≡ graftSize t u = w .here ∙ ap (λ j. length (knownSources t k u j)) e ∙ sources-all t k u g in
+      sym (take-append-drop n b′)
+      ∙ ap₂ _++_ (rw e at (w .laid)) (rw a at (w .behind) ∙ ap (drop n) s
+      ∙ drop-sets (v / 256 ∷ v % 256 ∷ []) b 0 n (omega (arith, graft-some t k u g)))

@@ -1,7 +1,6 @@
 // Grafting: the tree of a second table in place of a leaf of a first.
 use frames::Checked;
 use frames::FRAME_SIZE;
-use frames::MAX_NODES;
 use frames::child_count;
 use frames::first_child;
 use frames::frame_count;
@@ -9,19 +8,19 @@ use graft_questions::ask;
 ghost use mathlib.Core.Path.{_≡_};
 ghost use mathlib.Core.List.{_++_};
 ghost use mathlib.Core.Bool.{cond};
-ghost use Prim.Native.Nat.{_+_, _-_, _*_, _<_, _≤_};
+ghost use Prim.Native.Nat.{ℕ, _+_, _*_, _<_, _≤_};
 ghost use lib.Dec.{eqb};
 ghost use lib.ListN.{length, drop};
 ghost use lib.Seq.{sets};
 ghost use Rattle.frames.specs.Frame.{frameSize, maxNodes, twoBytes, frames, firstChild, childCount};
 ghost use Rattle.frames.specs.Rejection.{_leaving_};
-ghost use Rattle.positions.specs.Buffer.{stored};
 ghost use Rattle.graft_questions.specs.Questions.{graftSize};
 ghost use Rattle.graft_questions.specs.Graftable.{Graftable};
 ghost use Rattle.graft.specs.Sources.{base};
 ghost use Rattle.graft.specs.Table.{firstNumber, renumbered, graftTable};
 ghost use Rattle.graft.specs.Outcome.{graftOutcome};
 ghost use Rattle.graft.specs.engine.Joined.{Joined};
+ghost use Rattle.graft.specs.engine.Queue.{withFirst, Queued};
 
 // Puts the second tree in place of the first's named leaf: the number of nodes of the result, whose table then
 // stands at the buffer's front, or the first rejection, and then the buffer is as it was.
@@ -33,45 +32,29 @@ pub fn graft(first: &[u8], node: usize, second: &[u8], result: &mut [u8]) -> Che
     let Checked::Nodes(size) = checked else {
         return checked;
     };
-    let mut sources = [0u32; MAX_NODES];
-    write_frames(first, node, second, result, &mut sources, size);
+    write_frames(first, node, second, result, size);
     checked
 }
 
-// The table of the result, which has so many nodes: its frames, one source after the other, each followed by the
-// sources of its children.
-fn write_frames(
-    first: &[u8],
-    node: usize,
-    second: &[u8],
-    result: &mut [u8],
-    sources: &mut [u32],
-    size: usize,
-)
+// The result's table, node by node in breadth-first order; it has `size` nodes. Until a node is visited, the first two
+// bytes of its frame hold the number of its source, so the result itself is the queue.
+fn write_frames(first: &[u8], node: usize, second: &[u8], result: &mut [u8], size: usize)
     requires { ⌜ Graftable (now first) node (now second) ⌝ }
-    requires { ⌜ (size ≡ graftSize (now first) (now second)) × (frameSize * size ≤ length (now result))
-        × (size ≤ length (now sources)) ⌝ }
+    requires { ⌜ (size ≡ graftSize (now first) (now second)) × (frameSize * size ≤ length (now result)) ⌝ }
     ensures { λ _. ⌜ now (result .exit) ≡ graftTable (now (first .entry)) node (now (second .entry))
         ++ drop (frameSize * size) (now (result .entry)) ⌝ }
 {
     let root = frame_count(first);
-    sources[0] = replaced(root, node, 0) as u32;
+    put_first_child(result, 0, replaced(root, node, 0));
     let mut next: usize = 1;
     for i in 0..size {
-        let source = sources[i] as usize;
-        let count = count_of(first, second, source);
-        let from = first_of(first, second, source);
-        let end = next + count;
-        put_source(
-            first,
-            second,
-            result,
-            source,
-            first_number(count, next),
-            FRAME_SIZE * i,
-        );
-        put_children(sources, next, end, from, node, root);
-        next = end;
+        let source = first_child(result, i);
+        let count = count_of(first, second, root, source);
+        let from = first_of(first, second, root, source);
+        let child = first_number(count, next);
+        put_source(first, second, result, root, source, i, child);
+        put_children(result, next, count, from, node, root);
+        next += count;
     }
 }
 
@@ -89,79 +72,91 @@ fn first_number(count: usize, next: usize) -> usize
     if count == 0 { 0 } else { next }
 }
 
-// The number of children of a source.
-fn count_of(first: &[u8], second: &[u8], source: usize) -> usize
-    requires { ⌜ Joined (now first) (now second) source ⌝ }
+// The number of children of a source. Sources below `root`, the second table's root, are nodes of the first.
+fn count_of(first: &[u8], second: &[u8], root: usize, source: usize) -> usize
+    requires { ⌜ Joined (now first) (now second) root source ⌝ }
     ensures { λ r. ⌜ (r ≡ childCount (now (first .entry) ++ now (second .entry)) source) × (r < 256) ⌝ }
 {
-    let n = frame_count(first);
-    if source < n {
+    if source < root {
         child_count(first, source)
     } else {
-        child_count(second, source - n)
+        child_count(second, source - root)
     }
 }
 
 // The number of a source's first child, as a source.
-fn first_of(first: &[u8], second: &[u8], source: usize) -> usize
-    requires { ⌜ (Joined (now first) (now second) source) × (frames (now first) ≤ maxNodes) ⌝ }
+fn first_of(first: &[u8], second: &[u8], root: usize, source: usize) -> usize
+    requires { ⌜ (Joined (now first) (now second) root source) × (root ≤ maxNodes) ⌝ }
     ensures { λ r. ⌜ (r ≡ base (now (first .entry)) source
         + firstChild (now (first .entry) ++ now (second .entry)) source) × (r < maxNodes + twoBytes) ⌝ }
 {
-    let n = frame_count(first);
-    if source < n {
+    if source < root {
         first_child(first, source)
     } else {
-        n + first_child(second, source - n)
+        root + first_child(second, source - root)
     }
 }
 
-// A source's frame with another first child.
+// The frame of the result's node i: its source's, with another first child.
 fn put_source(
     first: &[u8],
     second: &[u8],
     result: &mut [u8],
+    root: usize,
     source: usize,
+    i: usize,
     child: usize,
-    at: usize,
 )
-    requires { ⌜ Joined (now first) (now second) source ⌝ }
-    requires { ⌜ (child < twoBytes) × (at + frameSize ≤ length (now result)) ⌝ }
-    ensures { λ _. ⌜ now (result .exit) ≡ sets (now (result .entry)) at
+    requires { ⌜ Joined (now first) (now second) root source ⌝ }
+    requires { ⌜ (i < frames (now result)) × (child < twoBytes) ⌝ }
+    ensures { λ _. ⌜ now (result .exit) ≡ sets (now (result .entry)) (frameSize * i)
         (renumbered (now (first .entry) ++ now (second .entry)) source child) ⌝ }
 {
-    let n = frame_count(first);
-    if source < n {
-        put_frame(first, result, source, child, at);
+    if source < root {
+        put_frame(first, result, source, i, child);
     } else {
-        put_frame(second, result, source - n, child, at);
+        put_frame(second, result, source - root, i, child);
     }
 }
 
-// A node's frame with another first child.
-fn put_frame(table: &[u8], result: &mut [u8], node: usize, child: usize, at: usize)
-    requires { ⌜ node < frames (now table) ⌝ }
-    requires { ⌜ (child < twoBytes) × (at + frameSize ≤ length (now result)) ⌝ }
-    ensures { λ _. ⌜ now (result .exit) ≡ sets (now (result .entry)) at (renumbered (now (table .entry)) node child) ⌝ }
+// The same for a source that is a node of this table. All four bytes that stay the same are read before any is written,
+// so that the compiler can copy them at once.
+fn put_frame(table: &[u8], result: &mut [u8], node: usize, i: usize, child: usize)
+    requires { ⌜ (node < frames (now table)) × (i < frames (now result)) × (child < twoBytes) ⌝ }
+    ensures { λ _. ⌜ now (result .exit)
+        ≡ sets (now (result .entry)) (frameSize * i) (renumbered (now (table .entry)) node child) ⌝ }
 {
+    put_first_child(result, i, child);
     let from = FRAME_SIZE * node;
-    result[at] = (child / 256) as u8;
-    result[at + 1] = (child % 256) as u8;
-    result[at + 2] = table[from + 2];
-    result[at + 3] = table[from + 3];
-    result[at + 4] = table[from + 4];
-    result[at + 5] = table[from + 5];
+    let count = table[from + 2];
+    let byte_3 = table[from + 3];
+    let high = table[from + 4];
+    let low = table[from + 5];
+    let at = FRAME_SIZE * i;
+    result[at + 2] = count;
+    result[at + 3] = byte_3;
+    result[at + 4] = high;
+    result[at + 5] = low;
 }
 
-// The sources from `from` on, the named node's replaced, in the entries from `next` up to `end`.
-fn put_children(sources: &mut [u32], next: usize, end: usize, from: usize, node: usize, root: usize)
-    requires { ⌜ (next ≤ end) × (end ≤ length (now sources)) × (end ≤ maxNodes) × (from < maxNodes + twoBytes)
-        × (root ≤ maxNodes) ⌝ }
-    ensures { λ _. ⌜ now (sources .exit)
-        ≡ stored (λ c. cond (eqb (from + (c - next)) node) root (from + (c - next))) next (end - next)
-        (now (sources .entry)) ⌝ }
+// The sources of `count` children, numbered from `next` on: those from `from` on, with the root for the named node.
+fn put_children(result: &mut [u8], next: usize, count: usize, from: usize, node: usize, root: usize)
+    requires { ⌜ (next + count ≤ frames (now result)) × (from < maxNodes + twoBytes) ⌝ }
+    requires { ⌜ ((c : ℕ) → c < count → cond (eqb (from + c) node) root (from + c) < twoBytes) ⌝ }
+    ensures { λ _. ⌜ Queued (λ c. cond (eqb (from + c) node) root (from + c)) next count
+        (now (result .entry)) (now (result .exit)) ⌝ }
 {
-    for at in next..end {
-        sources[at] = replaced(root, node, from + (at - next)) as u32;
+    for c in 0..count {
+        put_first_child(result, next + c, replaced(root, node, from + c));
     }
+}
+
+// A number in the first two bytes of a node's frame, high byte first.
+fn put_first_child(result: &mut [u8], node: usize, number: usize)
+    requires { ⌜ (node < frames (now result)) × (number < twoBytes) ⌝ }
+    ensures { λ _. ⌜ now (result .exit) ≡ withFirst node number (now (result .entry)) ⌝ }
+{
+    let at = FRAME_SIZE * node;
+    result[at] = (number / 256) as u8;
+    result[at + 1] = (number % 256) as u8;
 }

@@ -16,16 +16,16 @@ returns c =
 
 write-frames-requires : tie.Need-write-frames-requires
 write-frames-requires c κs =
-    let k = c .before .before .before in
+    let k = c .before .before in
     let a = k .before .before .before .before .before .before .args in
     let p = nodes-graftable (a .first .now) (a .node) (a .second .now) (a .result .now) _
     (rw (k .checked .given .1) at (k .before .before .ask .ensures)) in
-    (p .1, (p .0, omega (arith, p), omega (arith, p .1 .atMost)))
+    (p .1, (p .0, omega (arith, p)))
 
 returns-2 : tie.Need-returns-2
 returns-2 c =
-    let w = c .before .before .before in
-    let k = w .before .before .before .before in
+    let w = c .before .before in
+    let k = w .before .before .before in
     let a = k .before .before .before .before .before .before .args in
     let g = k .checked .given .1 in
     graft-written (a .first .now) (a .node) (a .second .now) (a .result .now) _ _
@@ -33,5 +33,5 @@ returns-2 c =
 
 pub graft-spec : {M : Type 1} → statement M
 graft-spec =
-    tie.close (tie.spec (λ c κs. search needs) (λ c. search needs) (λ c. search needs) returns (λ c. search needs)
+    tie.close (tie.spec (λ c κs. search needs) (λ c. search needs) (λ c. search needs) returns
     write-frames-requires (λ c. search needs) returns-2)

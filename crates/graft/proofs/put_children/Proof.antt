@@ -1,29 +1,46 @@
--- `graft::put_children` meets its contract: it stores a run of entries.
+-- `graft::put_children` meets its contract: each turn queues one source more.
 use Prim.Native.Nat.{_≤_, _+_, _-_}
 use native.Mathlib.Omega.{arith}
-use mathlib.Core.Path.{refl}
+use mathlib.Core.Path.{_≡_}
 use mathlib.Core.Bool.{cond}
 use lib.Dec.{eqb}
 use borrow.Author.Needs.{needs}
-use Rattle.positions.proofs.Runs.{Run, run-begins, run-step, run-ends}
+use Rattle.graft.specs.engine.Queue.{Queued}
+use Rattle.graft.proofs.Queue.{queued-none, queued-more}
 use Rattle.graft.proofs.put_children.Statement.{statement}
 use Rattle.graft.proofs.put_children.Tie as tie
 
 abbrev Inv-loop : tie.InvT-loop
-Inv-loop sources₀ next end from node root at₀ sources at =
-    (next ≤ at) × Run (λ k. cond (eqb (from + (k - next)) node) root (from + (k - next))) next end sources₀ sources at
+Inv-loop result₀ next count from node root c₀ result c =
+    (c ≤ count) × Queued (λ m. cond (eqb (from + m) node) root (from + m)) next c result₀ result
 
 abbrev μ-loop : tie.MeasureT-loop
-μ-loop sources₀ next end from node root at₀ sources at = end - at
+μ-loop result₀ next count from node root c₀ result c = count - c
+
+put-first-child-requires : tie.Need-put-first-child-requires Inv-loop μ-loop
+put-first-child-requires c κs =
+    let l = c .before .before .before in (
+      omega (arith, l .loop .inv .1 .long),
+      omega (arith, c .replaced .ensures .0, l .before .before .pre .1 (l .loop .c) (omega arith)),
+    )
 
 loop-again : tie.Need-loop-again Inv-loop μ-loop
 loop-again c =
-    let i = c .before .before .loop .inv in
-    (omega arith, run-step _ _ _ _ _ _ _ _ (omega arith) (c .replaced .ensures .0) refl (i .1))
+    let p = c .before .before in
+    let l = p .before .before .before .before in (
+      omega arith,
+      queued-more _ _ (l .loop .inv .1) _ (p .before .replaced .ensures .0) _ (p .put-first-child .ensures)
+          (omega (arith, l .loop .inv .1 .long)),
+    )
+
+returns : tie.Need-returns Inv-loop μ-loop
+returns c =
+    let l = c .before in
+    let e : l .loop .c ≡ l .before .before .args .count = omega arith in
+    rw e at (l .loop .inv .1)
 
 pub put-children-spec : {M : Type 1} → statement M
 put-children-spec =
-    tie.close (tie.spec Inv-loop μ-loop (λ c. (omega arith, run-begins _ _ _ _ (omega arith))) (λ c. search needs)
-    (λ c. search needs) (λ c κs. search needs) (λ c. omega (arith, c .before .before .loop .inv .1 .inside))
-    (λ c. search needs) (λ c. search needs) (λ c. search needs) (λ c. search needs) loop-again (λ c. search needs)
-    (λ c. run-ends _ _ _ _ _ _ (omega arith) (c .before .loop .inv .1)))
+    tie.close (tie.spec Inv-loop μ-loop (λ c. (omega arith, queued-none _ _ _)) (λ c. search needs) (λ c. search needs)
+    (λ c κs. search needs) put-first-child-requires (λ c. search needs) (λ c. search needs) loop-again
+    (λ c. c .before .loop .inv .1 .long) returns)

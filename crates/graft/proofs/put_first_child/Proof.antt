@@ -1,0 +1,12 @@
+-- `graft::put_first_child` meets its contract: the two stores are those of `sets`.
+use native.Mathlib.Omega.{arith}
+use native.Mathlib.Numerals.{towards-suc}
+use lib.ListN.{length-set}
+use borrow.Author.Needs.{needs}
+use Rattle.graft.proofs.put_first_child.Statement.{statement}
+use Rattle.graft.proofs.put_first_child.Tie as tie
+
+pub put-first-child-spec : {M : Type 1} → statement M
+put-first-child-spec =
+    tie.close (tie.spec (λ c. search needs) (λ c. search needs) (λ c. search needs) (λ c. search needs)
+    (λ c. search needs) (λ c. simp length-set (omega arith)) (λ c. search needs) (λ c. simp towards-suc))
