@@ -33,7 +33,8 @@ use Rattle.sss.specs.declared.Spent.{Spent}
 use Rattle.sss.specs.declared.SssAnswer.{SssAnswer}
 use Rattle.sss.specs.declared.SssAnswer.the-variants as sss-answer
 use Rattle.sss_states.specs.Entry.{blank}
-use Rattle.sss.specs.Outcome.{runOf, sssLeaves, sssUncovered, sssSpent, sssOutcome}
+use Rattle.sss.specs.Outcome.{runOf, sssLeaves, sssSpent, sssOutcome}
+use Rattle.sss.specs.engine.Invariant.{sssUncovered}
 use Rattle.sss.proofs.Replacements.{own}
 use Rattle.sss.proofs.Allowed.{enough, outcome-spent, outcomeBy}
 use Rattle.demands.specs.Handed.{Room, Marked, AgreeOnMarked}

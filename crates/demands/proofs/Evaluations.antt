@@ -11,6 +11,7 @@ use Rattle.gametree.specs.AlphaBeta.{fullWindow}
 use Rattle.gametree.specs.Mtd as rule
 use Rattle.gametree.specs.Layout.{layoutOf}
 use Rattle.gametree.specs.Sss.{sss as run}
+use Rattle.gametree.specs.engine.Within.{inFull}
 use Rattle.gametree.specs.Certificate.{Smallest, pairLeaves}
 use Rattle.gametree_theory.proofs.Theorems.{alphaBeta-leaves, alphaBeta-ordered, mtd-passes, sss-mtd, sss-replacements}
 use Rattle.gametree_theory.proofs.Theorems.{layout-own, search-once, search-smallest, smallest-exists}
@@ -131,9 +132,9 @@ pub local-sss : {t u : List ℕ} {f g : SssResult} (c : SssCall t (sss-answer.Fo
 local-sss {t} {u} c d h a =
     let x = sss c in
     let y = sss d in
-    let r : runOf t ≡ runOf u =
+    let r : inFull (runOf t) ≡ inFull (runOf u) =
     theory.local-sss (valuation t) (valuation u) (layoutOf (tree t)) (tree t) (agreed-scores x y h a)
-    ∙ ap (run (valuation u)) (one-tree x y h a) in
+    ∙ ap (λ z. inFull (run (valuation u) z)) (one-tree x y h a) in
     let e : sssLeaves t ≡ sssLeaves u = ap (λ z. z .evaluated) r in
     let n = ap (λ z. z .replacements) r in (
       sss-result c .found

@@ -14,9 +14,9 @@ use lib.Dec.{leb}
 use lib.ListN.{length, take}
 use borrow.Author.Tests.{lt-leb}
 use Rattle.lists.specs.Lists.{among, Once}
-use Rattle.gametree.specs.Tree.{minimax}
+use Rattle.gametree.specs.Tree.{least, minimax}
 use Rattle.gametree.specs.Layout.{layoutOf}
-use Rattle.gametree.specs.Sss.{State, stop, step, finished, ListAfter}
+use Rattle.gametree.specs.Sss.{State, stop, step, ListAfter}
 use Rattle.gametree_theory.proofs.Theorems as theory
 use Rattle.frames.specs.Frame.{frames}
 use Rattle.frames.specs.Tree.{tree, valuation}
@@ -27,7 +27,7 @@ use Rattle.frames.proofs.Proper.{tree-proper}
 use Rattle.certificate.specs.Search.{searchRejection}
 use Rattle.sss.specs.Outcome.{runOf}
 use Rattle.sss.proofs.Replacements.{own}
-use Rattle.sss.proofs.Allowed.{full-ends}
+use Rattle.sss.proofs.Allowed.{full-value}
 use Rattle.demands.specs.Handed.{Marked}
 use Rattle.demands.specs.Searches.{EachSearch, EachSpent}
 use Rattle.demands.proofs.ListedRuns.{finished as given, stopped}
@@ -63,9 +63,12 @@ module _ (t : List ℕ) (a : Accepted t) where
       let wf = accepted-formed t a in
       theory.held-until (valuation t) (tree t) (tree-proper t wf .scored) (layoutOf (tree t)) (own t wf) r
 
-  -- so the full run ends with the value of the root, which is taken SOLVED, and not for want of a state
-  pub no-empty : runOf t .end ≡ finished (minimax (valuation t) (tree t))
-  no-empty = full-ends t (accepted-formed t a)
+  -- so the full run gives the value of the root, which is taken SOLVED, and not `least`, as for want of a state
+  pub no-empty : (runOf t .value ≡ minimax (valuation t) (tree t)) × (least < runOf t .value)
+  no-empty =
+      let wf = accepted-formed t a in
+      let e = full-value t wf in
+      (e, rw e (theory.value-score (valuation t) (tree t) (tree-proper t wf .scored) .0))
 
 -- "A short list gets 10": place 0, after questions 1 to 9; and so does any other of the lent buffers
 pub short-list : (t before after : List ℕ) (n : ℕ) → n < frames t

@@ -11,10 +11,8 @@ use Rattle.lists.specs.Lists.{All, Once, among}
 use Rattle.gametree.specs.Tree.{leafCount}
 use Rattle.gametree.specs.AlphaBeta.{fullWindow}
 use Rattle.gametree.specs.Layout.{layoutOf}
-use Rattle.gametree.specs.Sss.{spent}
-use Rattle.gametree.specs.Allowance.{Evaluation}
-use Rattle.gametree.specs.engine.OverLayout.{evaluationsOver}
-use Rattle.gametree.specs.engine.Within.{sssWithin}
+use Rattle.gametree.specs.Sss.{Evaluation}
+use Rattle.gametree.specs.engine.Within.{spent, sssWithin}
 use Rattle.gametree_theory.proofs.Searches.{bySss}
 use Rattle.gametree_theory.proofs.Theorems.{alphaBeta-leaves, search-deciding}
 use Rattle.gametree_theory.proofs.Within.{evaluations-count, spent-first, within-leaves, within-all, within-once}
@@ -37,7 +35,8 @@ use Rattle.alphabeta.specs.Outcome.{reachedLeaves}
 use Rattle.sss.specs.declared.Spent.{Spent}
 use Rattle.sss.specs.declared.SssAnswer.the-variants as sss-answer
 use Rattle.sss_states.specs.Entry.{blank}
-use Rattle.sss.specs.Outcome.{sssLeaves, sssUncovered, sssSpent}
+use Rattle.sss.specs.Outcome.{runOf, sssLeaves, sssSpent}
+use Rattle.sss.specs.engine.Invariant.{sssUncovered}
 use Rattle.sss.proofs.Replacements.{own}
 use Rattle.sss.proofs.Allowed.{by-allowance}
 use Rattle.demands.proofs.Calls.{stateLengths, SssCall}
@@ -51,7 +50,7 @@ module _ (t : List ℕ) (n : ℕ) where
 
   left-count : length (sssUncovered n t) ≡ length (sssLeaves t) - n
   left-count =
-      length-drop n (evaluationsOver (valuation t) (layoutOf (tree t)) (tree t))
+      length-drop n (runOf t .evaluations)
       ∙ ap (λ k. k - n) (evaluations-count (valuation t) (tree t) (layoutOf (tree t)))
 
   -- where no evaluation is left, the full run needs no more leaves

@@ -5,7 +5,7 @@ use mathlib.Core.Option.{Option, none, some}
 use mathlib.Core.List.{List, [], _++_}
 use lib.ListN.{length, drop, replicate}
 use Rattle.lists.proofs.Choice.{clash}
-use Rattle.gametree.specs.Allowance.{Evaluation}
+use Rattle.gametree.specs.Sss.{Evaluation}
 use Rattle.gametree.specs.Tests.{mtdFrom}
 use Rattle.gametree_theory.proofs.Searches.{Searched, byMtd, byTests, Deciding}
 use Rattle.gametree_theory.proofs.Theorems.{search-deciding}
@@ -35,7 +35,8 @@ use Rattle.sss_states.specs.Entry.{blank}
 use Rattle.sss.specs.declared.SssResult.{SssResult}
 use Rattle.sss.specs.declared.SssAnswer.{SssAnswer}
 use Rattle.sss.specs.declared.SssAnswer.the-variants as sss-answer
-use Rattle.sss.specs.Outcome.{sssLeaves, sssFound, sssUncovered, givenBy}
+use Rattle.sss.specs.Outcome.{sssLeaves, sssFound, givenBy}
+use Rattle.sss.specs.engine.Invariant.{sssUncovered}
 use Rattle.sss.proofs.Allowed.{searched, outcomeBy, by-rejection, by-value}
 use Rattle.demands.specs.Handed.{Room}
 use Rattle.demands.proofs.Calls.{lengths, listLengths, stateLengths, AlphaBetaCall, MtdCall, MtdfCall}

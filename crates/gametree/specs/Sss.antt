@@ -6,7 +6,7 @@ use mathlib.Core.Bool.{Bool, true, false, cond, _||_, _&&_}
 use mathlib.Core.Option.{none, some}
 use mathlib.Core.List.{List, [], _∷_, _++_, map}
 use lib.Dec.{ltb, eqb}
-use Rattle.gametree.specs.Tree.{Max, Min, Tree, leaf, inner, greatest, number, size}
+use Rattle.gametree.specs.Tree.{Max, Min, Tree, leaf, inner, least, greatest, number, size}
 use Rattle.gametree.specs.Layout.{Layout, Link, root, under, firstOf, othersOf, layoutOf}
 
 -- a state: a node, its status, and its merit; the greatest merit on the list bounds the root's value from above
@@ -91,43 +91,41 @@ abbrev pub step : (ℕ → ℕ) → Layout → List State → Step
 step ν layout [] = empty
 step ν layout (s ∷ ss) = replace ν layout (pick layout s ss) (pick layout s ss .state .status)
 
--- how a run ends: with the root's value, when the root, SOLVED, is taken; before a leaf that its allowance does not
--- cover, with the merit of that leaf's state (engine/Within); or with no state to take, or past its bound on states
--- taken, which no run on a scored tree does: `no-empty` in Within
-pub data End : Type 0 where
-  finished : (value : ℕ) → End
-  spent : (merit : ℕ) → End
-  noState : End
-
--- what a run gives: its end, the leaves evaluated, in order, and how many replacements there were
-pub record Ran : Type 0 where
-  pub end : End
-  pub evaluated : List ℕ
+-- an evaluation: the leaf, the merit of its state when that is taken, and how many replacements came before
+pub record Evaluation : Type 0 where
+  pub leaf : ℕ
+  pub merit : ℕ
   pub replacements : ℕ
 
-abbrev pub ends : End → Ran
-ends e = record { end = e; evaluated = []; replacements = 0 }
+-- what a run gives: its value, its evaluations, in order, and how many replacements there were
+pub record SssRun : Type 0 where
+  pub value : ℕ
+  pub evaluations : List Evaluation
+  pub replacements : ℕ
 
-abbrev pub follow : Step → (List State → Ran) → Ran
-follow empty rest = ends noState
-follow (stop v) rest = ends (finished v)
-follow (quiet M) rest =
-    record { end = rest M .end; evaluated = rest M .evaluated; replacements = suc (rest M .replacements) }
-follow (evaluating n M) rest =
-    record { end = rest M .end; evaluated = n ∷ rest M .evaluated; replacements = suc (rest M .replacements) }
+-- a step after k replacements, m the merit of the state taken, and then the rest of the run. Without a state to take,
+-- or past its bound on states taken, a run has the value `least`, which no run on a scored tree has: `sss-minimax` in
+-- Theorems.
+abbrev pub follow : Step → (k m : ℕ) → (List State → SssRun) → SssRun
+follow empty k m rest = record { value = least; evaluations = []; replacements = k }
+follow (stop v) k m rest = record { value = v; evaluations = []; replacements = k }
+follow (quiet M) k m rest = rest M
+follow (evaluating n M) k m rest =
+    let x : Evaluation = record { leaf = n; merit = m; replacements = k } in
+    record { value = rest M .value; evaluations = x ∷ rest M .evaluations; replacements = rest M .replacements }
 
--- the run from a list by a step function; the number bounds the states taken
-abbrev pub runFrom : (List State → Step) → ℕ → List State → Ran
-runFrom next zero L = ends noState
-runFrom next (suc f) L = follow (next L) (λ M. runFrom next f M)
+-- the run from a list after k replacements; the first number bounds the states taken
+abbrev pub runFrom : (ℕ → ℕ) → Layout → ℕ → (k : ℕ) → List State → SssRun
+runFrom ν layout zero k L = record { value = least; evaluations = []; replacements = k }
+runFrom ν layout (suc f) k L = follow (step ν layout L) k (takenMerit layout L) (λ M. runFrom ν layout f (suc k) M)
 
 -- the list at the start: the root, LIVE, with the greatest merit
 abbrev pub start : Tree → List State
 start t = live (number t) greatest ∷ []
 
 -- SSS* on a tree. It takes at most 2 × nodes states: 2 × nodes - 1 are replaced, and the last is the root.
-abbrev pub sss : (ℕ → ℕ) → Tree → Ran
-sss ν t = runFrom (λ L. step ν (layoutOf t) L) (2 * size t) (start t)
+abbrev pub sss : (ℕ → ℕ) → Tree → SssRun
+sss ν t = runFrom ν (layoutOf t) (2 * size t) 0 (start t)
 
 -- after k replacements, which evaluated these leaves, the list is L
 pub data ListAfter (ν : ℕ → ℕ) (layout : Layout) (t : Tree) : ℕ → List ℕ → List State → Type 0 where

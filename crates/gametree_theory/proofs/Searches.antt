@@ -2,7 +2,7 @@
 use Prim.Native.Nat.{ℕ}
 use mathlib.Core.Path.{_≡_}
 use mathlib.Core.Bool.{true}
-use mathlib.Core.List.{List}
+use mathlib.Core.List.{List, map}
 use Rattle.lists.specs.Lists.{All, among, Once}
 use Rattle.gametree.specs.Tree.{Tree, minimax, leaves}
 use Rattle.gametree.specs.Bounds.{Decided}
@@ -14,12 +14,16 @@ use Rattle.gametree.specs.FirstMove.{decideBy}
 use Rattle.gametree.specs.Certificate.{flag}
 use Rattle.gametree.specs.Move.{rootMove, boundMove}
 
+-- the leaves that SSS* evaluates, in order
+abbrev pub sssEvaluated : (ℕ → ℕ) → Tree → List ℕ
+sssEvaluated ν t = map (λ x. x .leaf) (sss ν t .evaluations)
+
 -- the list of leaves is what one of the searches evaluates in the tree, in order; one made of tests, by any strategy,
 -- is taken with its last phase
 pub data Searched (ν : ℕ → ℕ) (t : Tree) : List ℕ → Type 0 where
   byAlphaBeta : Searched ν t (fullWindow ν t .evaluated)
   byMtd : Searched ν t (mtd ν t .evaluated)
-  bySss : Searched ν t (sss ν t .evaluated)
+  bySss : Searched ν t (sssEvaluated ν t)
   byTests : (σ : Strategy) → Searched ν t (decideBy σ ν t .evaluated)
 
 -- a list of leaves of the tree, none twice, whose bounds meet at the minimax value and prove the root move: so it is

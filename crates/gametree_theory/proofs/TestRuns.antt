@@ -15,7 +15,6 @@ use Rattle.gametree.specs.Tree.{Tree, least, greatest, minimax, leaves, Scored,
 use Rattle.gametree.specs.Bounds.{low, high, Decided}
 use Rattle.gametree.specs.AlphaBeta.{alphaBeta, fullWindow}
 use Rattle.gametree.specs.Layout.{layoutOf}
-use Rattle.gametree.specs.Sss.{sss}
 use Rattle.gametree.specs.Certificate.{pairLeaves, chosen, flag, Smallest}
 use Rattle.gametree.specs.Move.{rootMove, boundMove}
 use Rattle.gametree.specs.results.Mirror.{mirror, mirrored, oppositeTest}
@@ -28,6 +27,7 @@ use Rattle.gametree_theory.proofs.minimax.Moves.{boundMove-local}
 use Rattle.gametree_theory.proofs.alphabeta.Window.{alphaBeta-evaluated}
 use Rattle.gametree_theory.proofs.certificates.Flags.{FlagsCertify, decided-certify}
 use Rattle.gametree_theory.proofs.certificates.SmallestPair.{smallest≤}
+use Rattle.gametree_theory.proofs.Searches.{sssEvaluated}
 use Rattle.gametree_theory.proofs.sss.Run.{sss-is-mtd}
 use Rattle.gametree_theory.proofs.Theorems.{alphaBeta-leaves, layout-own}
 use Rattle.gametree_theory.proofs.tests.Answer.{test-answer}
@@ -224,19 +224,19 @@ guess-mirror-decides ν f t h = decide-mirror ν f t h
 
 module _ (ν : ℕ → ℕ) (t : Tree) (r : Proper ν t) where
   -- from `greatest` it evaluates only leaves that SSS* evaluates
-  pub falling-sss : All (λ k. among (sss ν t .evaluated) k ≡ true) (searchBy falling ν t .evaluated)
+  pub falling-sss : All (λ k. among (sssEvaluated ν t) k ≡ true) (searchBy falling ν t .evaluated)
   falling-sss =
       subst (λ w. All (λ k. among w k ≡ true) (searchBy falling ν t .evaluated))
       (sym (sss-is-mtd ν (layoutOf t) t (layout-own t (r .distinct)) (r .scored) .leaves-are)) (falling-mtd ν t r)
 
   -- so no more than SSS*
-  pub falling-count : length (searchBy falling ν t .evaluated) ≤ length (sss ν t .evaluated)
+  pub falling-count : length (searchBy falling ν t .evaluated) ≤ length (sssEvaluated ν t)
   falling-count =
-      once-length (searchBy falling ν t .evaluated) (sss ν t .evaluated) (tests-once falling ν t (r .scored))
+      once-length (searchBy falling ν t .evaluated) (sssEvaluated ν t) (tests-once falling ν t (r .scored))
       falling-sss
 
   -- with the last phase too
-  pub falling-decides-sss : All (λ k. among (sss ν t .evaluated) k ≡ true) (mtdf greatest ν t .evaluated)
+  pub falling-decides-sss : All (λ k. among (sssEvaluated ν t) k ≡ true) (mtdf greatest ν t .evaluated)
   falling-decides-sss =
       subst (λ w. All (λ k. among w k ≡ true) (mtdf greatest ν t .evaluated))
       (sym (sss-is-mtd ν (layoutOf t) t (layout-own t (r .distinct)) (r .scored) .leaves-are))
@@ -244,17 +244,17 @@ module _ (ν : ℕ → ℕ) (t : Tree) (r : Proper ν t) where
 
 -- DUAL*, from `least`, evaluates only leaves that SSS* evaluates in the game with the sides exchanged
 pub rising-sss : (ν : ℕ → ℕ) (t : Tree) → Proper ν t
-    → All (λ k. among (sss (mirrored ν) (mirror t) .evaluated) k ≡ true) (searchBy rising ν t .evaluated)
+    → All (λ k. among (sssEvaluated (mirrored ν) (mirror t)) k ≡ true) (searchBy rising ν t .evaluated)
 rising-sss ν t r =
-    subst (All (λ k. among (sss (mirrored ν) (mirror t) .evaluated) k ≡ true))
+    subst (All (λ k. among (sssEvaluated (mirrored ν) (mirror t)) k ≡ true))
     (search-mirror ν (suc least) t (r .scored) .leaves-are)
     (falling-sss (mirrored ν) (mirror t) (proper-mirror ν t r))
 
 -- with the last phase too
 pub rising-decides-sss : (ν : ℕ → ℕ) (t : Tree) → Proper ν t
-    → All (λ k. among (sss (mirrored ν) (mirror t) .evaluated) k ≡ true) (mtdf (suc least) ν t .evaluated)
+    → All (λ k. among (sssEvaluated (mirrored ν) (mirror t)) k ≡ true) (mtdf (suc least) ν t .evaluated)
 rising-decides-sss ν t r =
-    subst (All (λ k. among (sss (mirrored ν) (mirror t) .evaluated) k ≡ true))
+    subst (All (λ k. among (sssEvaluated (mirrored ν) (mirror t)) k ≡ true))
     (decide-mirror ν (suc least) t (r .scored))
     (falling-decides-sss (mirrored ν) (mirror t) (proper-mirror ν t r))
 

@@ -1,6 +1,6 @@
 -- The theorems for use, on proper trees: distinct node numbers and real scores. Each says in one sentence what it
 -- gives. Sections: bounds, alpha-beta, MTD, SSS*, certificates, the searches together, locality.
-use Prim.Native.Nat.{ℕ, suc, _+_, _-_, _*_, _≤_, _<_}
+use Prim.Native.Nat.{ℕ, suc, _+_, _*_, _≤_, _<_}
 use native.Mathlib.Nat.{lt-of-le-of-lt}
 use native.Mathlib.Omega.{arith}
 use mathlib.Core.Path.{_≡_, refl, sym, _∙_, ap, ap₂, subst}
@@ -20,9 +20,10 @@ use Rattle.gametree.specs.Mtd.{mtd}
 use Rattle.gametree.specs.engine.Memo.{fresh, memoMtd, withoutMemo}
 use Rattle.gametree.specs.Layout.{Layout, layoutOf}
 use Rattle.gametree_theory.proofs.sss.Described.{Describes}
-use Rattle.gametree.specs.Sss.{takenMerit, State, Step, empty, stop, quiet, evaluating, replace, step, finished}
-use Rattle.gametree.specs.Sss.{runFrom, start, sss, ListAfter, afterQuiet, afterEvaluating}
-use Rattle.gametree.specs.engine.OverLayout.{sssOver, resumed}
+use Rattle.gametree.specs.Sss.{takenMerit, State, Step, empty, stop, quiet, evaluating, replace, step}
+use Rattle.gametree.specs.Sss.{runFrom, start, ListAfter, afterQuiet, afterEvaluating}
+use Rattle.gametree.specs.engine.Within.{resumed, inFull}
+use Rattle.gametree.specs.engine.OverLayout.{runOver, sssOver}
 use Rattle.gametree.specs.Tests.{Strategy}
 use Rattle.gametree.specs.FirstMove.{decideBy}
 use Rattle.gametree.specs.Certificate.{Rule, SolutionTree, solutionValue, Certifies, pairLeaves, chosen}
@@ -30,9 +31,9 @@ use Rattle.gametree.specs.Certificate.{Smallest}
 use Rattle.gametree_theory.proofs.certificates.Flags.{FlagsCertify}
 use Rattle.gametree_theory.proofs.certificates.Counting.{members, required}
 use Rattle.gametree.specs.Move.{rootMove, boundMove}
-use Rattle.gametree_theory.proofs.Searches.{Searched, byAlphaBeta, byMtd, bySss, byTests, Deciding, SameResults}
+use Rattle.gametree_theory.proofs.Searches.{sssEvaluated, Searched, byAlphaBeta, byMtd, bySss, byTests}
+use Rattle.gametree_theory.proofs.Searches.{Deciding, SameResults}
 use Rattle.gametree.specs.results.ClosedForm.{unrivalled}
-use Rattle.lists.proofs.Choice.{clash}
 use Rattle.lists.proofs.Lists.{all-map, all-among, all-at, once-length, sub-all, sub-once}
 use Rattle.gametree_theory.proofs.minimax.Nodes.{leaves-once}
 use Rattle.gametree_theory.proofs.minimax.Bounds.{minimax-score, minimaxChildren-best}
@@ -49,10 +50,10 @@ use Rattle.gametree_theory.proofs.sss.Work.{full-size}
 use Rattle.gametree_theory.proofs.sss.Run.{sss-is-mtd}
 use Rattle.gametree_theory.proofs.results.Merits.{list-unique, run-falls, first-merit}
 use Rattle.gametree_theory.proofs.sss.Lists.{list-reached, resume}
-use Rattle.gametree_theory.proofs.sss.Local.{runFrom-local}
 use Rattle.gametree_theory.proofs.sss.OwnLayout.{own-layout}
 use Rattle.gametree_theory.proofs.sss.Fronts.{Front}
 use Rattle.gametree_theory.proofs.allowance.Ending.{never-empty}
+use Rattle.gametree_theory.proofs.allowance.Local.{runFrom-local}
 use Rattle.gametree_theory.proofs.sss.FrontSteps.{front-length, front-in, front-reached, front-taken}
 use Rattle.gametree_theory.proofs.certificates.Solution.{solution-bound, certified, rule-counted, counted-rule}
 use Rattle.gametree_theory.proofs.certificates.Flags.{decided-certify}
@@ -109,9 +110,9 @@ pub layout-own : (t : Tree) → Distinct t → Describes (layoutOf t) t
 layout-own t d = own-layout t d
 
 module _ (ν : ℕ → ℕ) (t : Tree) (h : Scored ν t) (Y : Layout) (d : Describes Y t) where
-  -- SSS* ends with the minimax value
-  pub sss-minimax : sssOver ν Y t .end ≡ finished (minimax ν t)
-  sss-minimax = sss-is-mtd ν Y t d h .end-is
+  -- SSS* gives the minimax value
+  pub sss-minimax : runOver ν Y t .value ≡ minimax ν t
+  sss-minimax = sss-is-mtd ν Y t d h .value-is
 
   -- it evaluates the leaves that MTD evaluates, in the same order
   pub sss-mtd : Distinct t → sssOver ν Y t .evaluated ≡ mtd ν t .evaluated
@@ -156,8 +157,7 @@ module _ (ν : ℕ → ℕ) (t : Tree) (h : Scored ν t) (Y : Layout) (d : Descr
       where
         by-step : (x : Step) → step ν Y L ≡ x
             → ((v : ℕ) × (step ν Y L ≡ stop v)) ⊎ ((v : List ℕ) × ((M : List State) × ListAfter ν Y t (suc k) v M))
-        by-step empty e =
-            clash (cc (never-empty ν t h Y d r (2 * size t - suc k) (omega (arith, list-few)) e, sss-minimax))
+        by-step empty e = absurd (never-empty ν t h Y d r e)
         by-step (stop v) e = inl (v, e)
         by-step (quiet M) e = inr (w, (M, afterQuiet r e))
         by-step (evaluating n M) e = inr (w ++ (n ∷ []), (M, afterEvaluating r e))
@@ -175,7 +175,7 @@ module _ (ν : ℕ → ℕ) (t : Tree) (h : Scored ν t) (Y : Layout) (d : Descr
     list-prefix = let a = list-reached ν Y t d h r in (a .toCome, a .whole ∙ sym (sss-is-mtd ν Y t d h .leaves-are))
 
     -- and the run goes on from it, for what is left of the bound on states taken
-    pub list-resumes : (f : ℕ) → k + f ≡ 2 * size t → sssOver ν Y t ≡ resumed k w (runFrom (λ M. step ν Y M) f L)
+    pub list-resumes : (f : ℕ) → k + f ≡ 2 * size t → sssOver ν Y t ≡ resumed w (inFull (runFrom ν Y f k L))
     list-resumes f e = resume ν Y t r f e
 
 -- the list after a number of replacements is determined, and so are the leaves that they evaluated
@@ -227,7 +227,7 @@ module _ (ν : ℕ → ℕ) (t : Tree) (r : Proper ν t) where
   as-mtd : (P : List ℕ → Type 0) → P (memoMtd ν t .evaluated) → P (mtd ν t .evaluated)
   as-mtd P x = subst P (sym (ap (λ q. q .evaluated) (memo-run ν t (r .distinct)))) x
 
-  as-sss : (P : List ℕ → Type 0) → P (memoMtd ν t .evaluated) → P (sss ν t .evaluated)
+  as-sss : (P : List ℕ → Type 0) → P (memoMtd ν t .evaluated) → P (sssEvaluated ν t)
   as-sss P x = subst P (sym (sss-is-mtd ν (layoutOf t) t (layout-own t (r .distinct)) (r .scored) .leaves-are)) x
 
   -- the bounds of the leaves that a search evaluates meet at the minimax value
@@ -310,7 +310,7 @@ module _ (ν : ℕ → ℕ) (t : Tree) (r : Proper ν t) where
       as-mtd (λ w. EveryLeaf (λ n. among w n ≡ among (unrivalled ν least greatest least t) n) t) (mtd-unrivalled ν t r)
 
   -- so does SSS*
-  pub closed-form-sss : EveryLeaf (λ n. among (sss ν t .evaluated) n ≡ among (unrivalled ν least greatest least t) n) t
+  pub closed-form-sss : EveryLeaf (λ n. among (sssEvaluated ν t) n ≡ among (unrivalled ν least greatest least t) n) t
   closed-form-sss =
       as-sss (λ w. EveryLeaf (λ n. among w n ≡ among (unrivalled ν least greatest least t) n) t) (mtd-unrivalled ν t r)
 
@@ -330,10 +330,10 @@ pub local-mtd : (ν μ : ℕ → ℕ) (t : Tree) → Distinct t → All (λ k. �
 local-mtd ν μ t d a =
     memo-run ν t d ∙ ap (withoutMemo t) (local-memo ν μ t (rw (memo-run ν t d) at a)) ∙ sym (memo-run μ t d)
 
--- SSS* gives the same end, list and replacements
+-- SSS* gives the same value, list and replacements
 pub local-sss : (ν μ : ℕ → ℕ) (Y : Layout) (t : Tree) → All (λ k. ν k ≡ μ k) (sssOver ν Y t .evaluated)
     → sssOver ν Y t ≡ sssOver μ Y t
-local-sss ν μ Y t a = runFrom-local ν μ Y (2 * size t) (start t) a
+local-sss ν μ Y t a = runFrom-local ν μ Y (2 * size t) 0 (start t) a
 
 -- a search made of tests gives the same value, move, list and number of tests
 pub local-decide : (σ : Strategy) (ν μ : ℕ → ℕ) (t : Tree) → All (λ k. ν k ≡ μ k) (decideBy σ ν t .evaluated)

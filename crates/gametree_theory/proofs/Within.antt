@@ -7,7 +7,7 @@ use native.Mathlib.Omega.{arith}
 use mathlib.Core.Path.{_≡_, refl, sym, _∙_, ap, subst}
 use mathlib.Core.Logic.{_↔_, _⊎_, inl, inr, ⊎-elim}
 use mathlib.Core.Bool.{Bool, true, false}
-use mathlib.Core.List.{List, [], _∷_, _++_, map}
+use mathlib.Core.List.{List, [], _∷_, _++_}
 use lib.ListN.{length, length-append, length-map, take, take-append-drop, drop}
 use lib.Dec.{leb}
 use lib.Seq.{take-all, take-at}
@@ -18,11 +18,10 @@ use Rattle.gametree.specs.AlphaBeta.{fullWindow}
 use Rattle.gametree.specs.Layout.{Layout}
 use Rattle.gametree_theory.proofs.sss.Described.{Describes}
 use Rattle.gametree.specs.Bounds.{Decided}
-use Rattle.gametree.specs.Sss.{State, takenMerit, stop, evaluating, step, finished, spent, noState, start}
-use Rattle.gametree.specs.Allowance.{Evaluation}
-use Rattle.gametree.specs.engine.OverLayout.{sssOver, evaluationsOver}
+use Rattle.gametree.specs.Sss.{State, takenMerit, stop, evaluating, step, Evaluation, start}
 use Rattle.gametree.specs.Sss.{ListAfter, atStart, afterEvaluating}
-use Rattle.gametree.specs.engine.Within.{sssWithinOver}
+use Rattle.gametree.specs.engine.OverLayout.{runOver, sssOver}
+use Rattle.gametree.specs.engine.Within.{finished, spent, sssWithinOver}
 use Rattle.gametree_theory.proofs.Searches.{Searched, byMtd}
 use Rattle.lists.proofs.Choice.{clash}
 use Rattle.lists.proofs.Lists.{all-left, once-left, once-length}
@@ -31,43 +30,27 @@ use Rattle.gametree_theory.proofs.minimax.Counts.{once-count, leaves-si
 use Rattle.gametree_theory.proofs.Theorems.{value-score, sss-minimax, sss-replacements, list-few, merit-bound}
 use Rattle.gametree_theory.proofs.Theorems.{merit-start, list-prefix, list-resumes, merit-falls, search-decides}
 use Rattle.gametree_theory.proofs.Theorems.{search-once, domination, search-deciding, sss-mtd}
-use Rattle.gametree_theory.proofs.sss.Lists.{ran-path}
+use Rattle.gametree_theory.proofs.sss.Lists.{run-more}
 use Rattle.gametree_theory.proofs.allowance.Ending.{Whole, Cut, stopped, stopped-within, spent-within}
 use Rattle.gametree_theory.proofs.allowance.Ending.{within-ending, leaves-grow}
 use Rattle.gametree_theory.proofs.allowance.Local.{runWithin-local}
-use Rattle.gametree_theory.proofs.allowance.Evaluations.{run-leaves, run-covered, run-spent}
+use Rattle.gametree_theory.proofs.allowance.Evaluations.{spentAt, run-covered, run-spent}
 
 module _ (ν : ℕ → ℕ) (t : Tree) (Y : Layout) where
-  -- the evaluations of SSS* are of the leaves of the full run, in its order
-  pub evaluations-leaves : map (λ x. x .leaf) (evaluationsOver ν Y t) ≡ sssOver ν Y t .evaluated
-  evaluations-leaves = run-leaves ν Y (2 * size t) 0 (start t)
-
-  pub evaluations-count : length (evaluationsOver ν Y t) ≡ length (sssOver ν Y t .evaluated)
-  evaluations-count = sym (length-map (evaluationsOver ν Y t) (λ x. x .leaf)) ∙ ap length evaluations-leaves
+  -- there are as many evaluations as leaves evaluated
+  pub evaluations-count : length (runOver ν Y t .evaluations) ≡ length (sssOver ν Y t .evaluated)
+  evaluations-count = sym (length-map (runOver ν Y t .evaluations) (λ x. x .leaf))
 
   module _ (a : ℕ) where
     -- where an allowance covers them all, the run is the full run
-    pub covered-full : drop a (evaluationsOver ν Y t) ≡ [] → sssWithinOver a ν Y t ≡ sssOver ν Y t
+    pub covered-full : drop a (runOver ν Y t .evaluations) ≡ [] → sssWithinOver a ν Y t ≡ sssOver ν Y t
     covered-full h = run-covered ν Y (2 * size t) 0 a (start t) h
 
     -- where it does not, the run is spent at the first that is left: with the merit of its state, the replacements
     -- before it, and as many first leaves of the full run as are allowed
-    pub spent-first : (x : Evaluation) (xs : List Evaluation) → drop a (evaluationsOver ν Y t) ≡ x ∷ xs
-        → sssWithinOver a ν Y t
-        ≡ record {
-          end = spent (x .merit);
-          evaluated = take a (sssOver ν Y t .evaluated);
-          replacements = x .replacements;
-        }
-    spent-first x xs h =
-        let r = run-spent ν Y (2 * size t) 0 a (start t) x xs h in
-        let k : sssWithinOver a ν Y t .replacements ≡ x .replacements = omega (arith, r .replaced) in
-        ap (λ e. record {
-          end = e;
-          evaluated = sssWithinOver a ν Y t .evaluated;
-          replacements = sssWithinOver a ν Y t .replacements;
-        }) (r .end-is)
-        ∙ ran-path (r .leaves-are) k
+    pub spent-first : (x : Evaluation) (xs : List Evaluation) → drop a (runOver ν Y t .evaluations) ≡ x ∷ xs
+        → sssWithinOver a ν Y t ≡ spentAt a (runOver ν Y t) x
+    spent-first x xs h = run-spent ν Y (2 * size t) 0 a (start t) x xs h
 
 module _ (ν : ℕ → ℕ) (t : Tree) (h : Scored ν t) (Y : Layout) (d : Describes Y t) where
   -- the leaves of the full run, over any layout, are those of a search
@@ -80,7 +63,7 @@ module _ (ν : ℕ → ℕ) (t : Tree) (h : Scored ν t) (Y : Layout) (d : Descr
         → (sssWithinOver a ν Y t ≡ sssOver ν Y t) × (length (sssOver ν Y t .evaluated) ≤ a)
     whole-full x =
         let s = stopped ν t h Y d (x .reached) (x .stops) in
-        (x .gives ∙ sym s, rw s (x .atMost))
+        (x .gives ∙ sym s, subst (λ r. length (r .evaluated) ≤ a) (sym s) (x .atMost))
 
     -- and one that was cut has leaves of the full run ahead
     cut-more : Cut ν Y t a → a < length (sssOver ν Y t .evaluated)
@@ -101,12 +84,8 @@ module _ (ν : ℕ → ℕ) (t : Tree) (h : Scored ν t) (Y : Layout) (d : Descr
     pub within-ends : (sssWithinOver a ν Y t .end ≡ finished (minimax ν t))
         ⊎ ((m : ℕ) × (sssWithinOver a ν Y t .end ≡ spent m))
     within-ends =
-        ⊎-elim (λ x. inl (ap (λ r. r .end) (whole-full x .0) ∙ sss-minimax ν t h Y d))
+        ⊎-elim (λ x. inl (ap (λ r. r .end) (whole-full x .0) ∙ ap finished (sss-minimax ν t h Y d)))
         (λ x. inr (takenMerit Y (x .list), ap (λ r. r .end) (x .gives))) (within-ending ν t h Y d a)
-
-    -- so no run ends without a state to take
-    pub no-empty : sssWithinOver a ν Y t .end ≡ noState → ⊥
-    no-empty e = ⊎-elim (λ f. clash (cc (e, f))) (λ s. clash (cc (e, s .1))) within-ends
 
     finished-few : (v : ℕ) → sssWithinOver a ν Y t .end ≡ finished v → length (sssOver ν Y t .evaluated) ≤ a
     finished-few v e =
@@ -125,7 +104,7 @@ module _ (ν : ℕ → ℕ) (t : Tree) (h : Scored ν t) (Y : Layout) (d : Descr
     pub within-finished : (sssWithinOver a ν Y t .end ≡ finished (minimax ν t))
         ↔ (length (sssOver ν Y t .evaluated) ≤ a)
     within-finished =
-        (λ e. finished-few _ e, λ l. ap (λ r. r .end) (within-full l) ∙ sss-minimax ν t h Y d)
+        (λ e. finished-few _ e, λ l. ap (λ r. r .end) (within-full l) ∙ ap finished (sss-minimax ν t h Y d))
 
     -- spent is given exactly if it evaluates more
     pub within-spent : ((m : ℕ) × (sssWithinOver a ν Y t .end ≡ spent m)) ↔ (a < length (sssOver ν Y t .evaluated))
@@ -174,7 +153,7 @@ module _ (ν : ℕ → ℕ) (t : Tree) (h : Scored ν t) (Y : Layout) (d : Descr
           let k = x .made in
           let f : ℕ = 2 * size t - k in
           let r = list-resumes ν t h Y d (x .reached) f (omega (arith, list-few ν t h Y d (x .reached))) in
-          rw (x .gives, r) (omega arith))
+          rw (x .gives) (subst (λ q. k ≤ q .replacements) (sym r) (run-more ν Y f k (x .list))))
           (within-ending ν t h Y d a),
       sss-replacements ν t h Y d,
     )
@@ -285,4 +264,4 @@ module _ (ν : ℕ → ℕ) (t : Tree) (r : Proper ν t) (Y : Layout) (d : Descr
 pub local-within : (a : ℕ) (ν μ : ℕ → ℕ) (Y : Layout) (t : Tree)
     → All (λ k. ν k ≡ μ k) (sssWithinOver a ν Y t .evaluated)
     → sssWithinOver a ν Y t ≡ sssWithinOver a μ Y t
-local-within a ν μ Y t e = runWithin-local ν μ Y (2 * size t) a (start t) e
+local-within a ν μ Y t e = runWithin-local ν μ Y (2 * size t) a 0 (start t) e

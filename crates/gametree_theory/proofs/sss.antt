@@ -10,4 +10,3 @@ pub mod Run
 pub mod Lists
 pub mod Fronts
 pub mod FrontSteps
-pub mod Local

@@ -1,6 +1,6 @@
 -- What the program prints for a file (SPEC 12.1).
 use Prim.Native.Nat.{ℕ}
-use mathlib.Core.List.{List, [], _∷_, _++_}
+use mathlib.Core.List.{List, [], _∷_, _++_, map}
 use Rattle.gametree.specs.Tree.{Tree, least, greatest}
 use Rattle.gametree.specs.AlphaBeta.{reached}
 use Rattle.gametree.specs.Mtd as rule
@@ -32,7 +32,7 @@ analysisOn ν x =
     heading
     ++ (methodLine (97 ∷ 98 ∷ []) (findingsOn ν x (reached ν least greatest x))
     ++ (methodLine (109 ∷ 116 ∷ 100 ∷ []) (findingsOn ν x (rule.mtd ν x .evaluated))
-    ++ methodLine (115 ∷ 115 ∷ 115 ∷ []) (findingsOn ν x (run ν x .evaluated))))
+    ++ methodLine (115 ∷ 115 ∷ 115 ∷ []) (findingsOn ν x (map (λ e. e .leaf) (run ν x .evaluations)))))
 
 -- what the program prints for a file: the analysis of its tree, or the first "no" to questions 1 to 9 and 16
 abbrev pub report : List ℕ → List ℕ

@@ -9,10 +9,8 @@ use lib.ListN.{length, drop-of-length-le}
 use Rattle.lists.specs.Lists.{All}
 use Rattle.gametree.specs.Tree.{minimax}
 use Rattle.gametree.specs.Layout.{layoutOf}
-use Rattle.gametree.specs.Sss as theory
-use Rattle.gametree.specs.Allowance.{Evaluation}
-use Rattle.gametree.specs.engine.OverLayout.{evaluationsOver}
-use Rattle.gametree.specs.engine.Within.{sssWithin}
+use Rattle.gametree.specs.Sss.{Evaluation}
+use Rattle.gametree.specs.engine.Within.{Ran, finished, spent, inFull, sssWithin}
 use Rattle.lists.proofs.Choice.{clash}
 use Rattle.gametree_theory.proofs.Theorems.{sss-minimax, search-deciding}
 use Rattle.gametree_theory.proofs.Searches.{Searched, bySss, Deciding}
@@ -34,7 +32,8 @@ use Rattle.sss.specs.declared.Spent.{Spent}
 use Rattle.sss.specs.declared.SssAnswer.{SssAnswer}
 use Rattle.sss.specs.declared.SssAnswer.the-variants.{Found as FoundAnswer, Spent as SpentAnswer}
 use Rattle.sss.specs.declared.SssAnswer.the-variants.{Rejected as RejectedAnswer}
-use Rattle.sss.specs.Outcome.{runOf, sssLeaves, sssFound, sssUncovered, sssSpent, givenBy, sssGiven}
+use Rattle.sss.specs.Outcome.{runOf, sssLeaves, sssFound, sssSpent, givenBy, sssGiven}
+use Rattle.sss.specs.engine.Invariant.{sssUncovered}
 use Rattle.sss.proofs.Replacements.{own}
 
 module _ (t : List ℕ) (wf : WellFormed t) where
@@ -44,9 +43,9 @@ module _ (t : List ℕ) (wf : WellFormed t) where
   pub decides : Deciding (valuation t) (tree t) (sssLeaves t)
   decides = search-deciding (valuation t) (tree t) (tree-proper t wf) searched
 
-  -- the full run ends with the minimax value
-  pub full-ends : runOf t .end ≡ theory.finished (minimax (valuation t) (tree t))
-  full-ends = sss-minimax (valuation t) (tree t) (tree-proper t wf .scored) (layoutOf (tree t)) (own t wf)
+  -- the full run gives the minimax value
+  pub full-value : runOf t .value ≡ minimax (valuation t) (tree t)
+  full-value = sss-minimax (valuation t) (tree t) (tree-proper t wf .scored) (layoutOf (tree t)) (own t wf)
 
   -- it evaluates no more leaves than there are nodes
   pub leaves-few : length (sssLeaves t) ≤ frames t
@@ -54,22 +53,22 @@ module _ (t : List ℕ) (wf : WellFormed t) where
       omega (arith, full-few (valuation t) (tree t) (tree-proper t wf) (layoutOf (tree t)) (own t wf), tree-size t wf)
 
   module _ (a : ℕ) where
-    abbrev within : theory.Ran
+    abbrev within : Ran
     within = sssWithin a (valuation t) (tree t)
 
     -- an allowance of as many leaves as the full run evaluates, or more, covers them all
     pub enough : length (sssLeaves t) ≤ a → sssUncovered a t ≡ []
     enough h =
-        drop-of-length-le (evaluationsOver (valuation t) (layoutOf (tree t)) (tree t)) {i = a}
+        drop-of-length-le (runOf t .evaluations) {i = a}
         (omega (arith, evaluations-count (valuation t) (tree t) (layoutOf (tree t))))
 
     -- with a value the run is the full run, and the value is the minimax value
-    pub value-full : {v : ℕ} → within .end ≡ theory.finished v → within ≡ runOf t
+    pub value-full : {v : ℕ} → within .end ≡ finished v → within ≡ inFull (runOf t)
     value-full {v} e =
         within-value (valuation t) (tree t) (tree-proper t wf .scored) (layoutOf (tree t)) (own t wf) a v e
 
-    pub value-minimax : {v : ℕ} → within .end ≡ theory.finished v → v ≡ minimax (valuation t) (tree t)
-    value-minimax e = cc (e, ap (λ r. r .end) (value-full e), full-ends)
+    pub value-minimax : {v : ℕ} → within .end ≡ finished v → v ≡ minimax (valuation t) (tree t)
+    value-minimax e = cc (e, ap (λ r. r .end) (value-full e), full-value)
 
     -- its leaves lie within the table
     pub leaves-within : All (λ k. k < frames t) (within .evaluated)
@@ -78,7 +77,7 @@ module _ (t : List ℕ) (wf : WellFormed t) where
         (evaluated-within t wf decides)
 
     -- where it ends with a value, the allowance covers all evaluations
-    pub finished-covered : {v : ℕ} → within .end ≡ theory.finished v → sssUncovered a t ≡ []
+    pub finished-covered : {v : ℕ} → within .end ≡ finished v → sssUncovered a t ≡ []
     finished-covered {v} e = by-left (sssUncovered a t) refl
       where
         by-left : (xs : List Evaluation) → sssUncovered a t ≡ xs → sssUncovered a t ≡ []
@@ -89,7 +88,7 @@ module _ (t : List ℕ) (wf : WellFormed t) where
 
     module _ (b : Buffers) (o : List ℕ) where
       -- so the outcome is that of the full run
-      pub outcome-found : {v : ℕ} → within .end ≡ theory.finished v
+      pub outcome-found : {v : ℕ} → within .end ≡ finished v
           → sssGiven a t b o
           ≡ FoundAnswer (sssFound t) leaving buffersOf (sssLeaves t) t b leaving listed (sssLeaves t) o
       outcome-found h = ap (λ xs. givenBy xs a t b o) (finished-covered h)
@@ -101,14 +100,14 @@ module _ (t : List ℕ) (wf : WellFormed t) where
             SpentAnswer (record { merit = valueOf m; leaves = length w; replacements = k })
             leaving buffers (marksOf w t (b .marks)) (b .flags) leaving listed w o
 
-        pub outcome-spent : within ≡ record { end = theory.spent m; evaluated = w; replacements = k }
+        pub outcome-spent : within ≡ record { end = spent m; evaluated = w; replacements = k }
             → sssGiven a t b o ≡ Spending
         outcome-spent h = by-left (sssUncovered a t) refl
           where
             by-left : (xs : List Evaluation) → sssUncovered a t ≡ xs → givenBy xs a t b o ≡ Spending
             by-left [] i =
                 let f = covered-full (valuation t) (tree t) (layoutOf (tree t)) a i in
-                clash (cc (ap (λ r. r .end) h, f, full-ends))
+                clash (cc (ap (λ r. r .end) h, ap (λ r. r .end) f))
             by-left (x ∷ xs) i =
                 let s = sym (spent-first (valuation t) (tree t) (layoutOf (tree t)) a x xs i) ∙ h in
                 let n =

@@ -7,13 +7,12 @@ use Rattle.gametree.specs.results.Cases.{Column, AllowancesRight}
 pub small-trees : Column (λ r. r .alphaBeta)
     × Column (λ r. r .mtd)
     × Column (λ r. r .passes)
-    × Column (λ r. r .end)
     × Column (λ r. r .sss)
     × Column (λ r. r .replacements)
     × Column (λ r. r .move)
     × Column (λ r. r .flags)
 unfolding mtd
-small-trees = (refl, refl, refl, refl, refl, refl, refl, refl)
+small-trees = (refl, refl, refl, refl, refl, refl, refl)
 
 -- and so they give the small trees within allowances
 pub small-allowances : AllowancesRight

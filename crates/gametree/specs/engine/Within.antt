@@ -1,30 +1,59 @@
 -- SSS* within an allowance of leaves, step by step, as the code makes it: the run of Sss, which ends before the first
 -- leaf that the allowance does not cover. `covered-full` and `spent-first` of proofs/Within say the same by the
--- evaluations of the full run, in the words of Allowance.
+-- evaluations of the full run.
 use Prim.Native.Nat.{ℕ, zero, suc, _*_}
-use mathlib.Core.List.{List}
-use Rattle.gametree.specs.Tree.{Tree, size}
+use mathlib.Core.List.{List, [], _∷_, _++_, map}
+use Rattle.gametree.specs.Tree.{Tree, least, size}
 use Rattle.gametree.specs.Layout.{Layout, layoutOf}
-use Rattle.gametree.specs.Sss.{State, takenMerit, Step, empty, stop, quiet, evaluating, step, spent, noState}
-use Rattle.gametree.specs.Sss.{Ran, ends, follow, start}
+use Rattle.gametree.specs.Sss.{State, takenMerit, Step, empty, stop, quiet, evaluating, step, SssRun, start}
 
--- a step with an allowance of a leaves left, m the merit of the state taken: a leaf uses one up; where none is left
--- the step is not made, and the run ends spent
-abbrev pub followWithin : Step → (a m : ℕ) → (ℕ → List State → Ran) → Ran
-followWithin empty a m rest = follow empty (rest a)
-followWithin (stop v) a m rest = follow (stop v) (rest a)
-followWithin (quiet M) a m rest = follow (quiet M) (rest a)
-followWithin (evaluating n M) zero m rest = ends (spent m)
-followWithin (evaluating n M) (suc a) m rest = follow (evaluating n M) (rest a)
+-- how it ends: with a value, as the full run does, or before a leaf that its allowance does not cover, with the merit
+-- of that leaf's state
+pub data End : Type 0 where
+  finished : (value : ℕ) → End
+  spent : (merit : ℕ) → End
 
--- the run from a list with an allowance of a leaves; the first number bounds the states taken, as in `runFrom`
-abbrev pub runWithin : (ℕ → ℕ) → Layout → ℕ → (a : ℕ) → List State → Ran
-runWithin ν Y zero a L = ends noState
-runWithin ν Y (suc f) a L = followWithin (step ν Y L) a (takenMerit Y L) (λ b M. runWithin ν Y f b M)
+-- what it gives: its end, the leaves evaluated, in order, and how many replacements there were
+pub record Ran : Type 0 where
+  pub end : End
+  pub evaluated : List ℕ
+  pub replacements : ℕ
+
+-- the end after k replacements
+abbrev pub ends : End → (k : ℕ) → Ran
+ends e k = record { end = e; evaluated = []; replacements = k }
+
+-- a run after others evaluated these leaves
+abbrev pub resumed : List ℕ → Ran → Ran
+resumed leaves r = record { end = r .end; evaluated = leaves ++ r .evaluated; replacements = r .replacements }
+
+-- the full run, as one within an allowance that covers all its leaves
+abbrev pub inFull : SssRun → Ran
+inFull r =
+    record {
+      end = finished (r .value);
+      evaluated = map (λ x. x .leaf) (r .evaluations);
+      replacements = r .replacements;
+    }
+
+-- a step after k replacements, with an allowance of a leaves left, m the merit of the state taken: a leaf uses one up;
+-- where none is left the step is not made, and the run ends spent
+abbrev pub followWithin : Step → (a k m : ℕ) → (ℕ → List State → Ran) → Ran
+followWithin empty a k m rest = ends (finished least) k
+followWithin (stop v) a k m rest = ends (finished v) k
+followWithin (quiet M) a k m rest = rest a M
+followWithin (evaluating n M) zero k m rest = ends (spent m) k
+followWithin (evaluating n M) (suc a) k m rest = resumed (n ∷ []) (rest a M)
+
+-- the run from a list after k replacements with an allowance of a leaves; the first number bounds the states taken, as
+-- in `runFrom`
+abbrev pub runWithin : (ℕ → ℕ) → Layout → ℕ → (a k : ℕ) → List State → Ran
+runWithin ν Y zero a k L = ends (finished least) k
+runWithin ν Y (suc f) a k L = followWithin (step ν Y L) a k (takenMerit Y L) (λ b M. runWithin ν Y f b (suc k) M)
 
 -- SSS* within an allowance of a leaves, over a layout of the tree
 abbrev pub sssWithinOver : (a : ℕ) → (ℕ → ℕ) → Layout → Tree → Ran
-sssWithinOver a ν Y t = runWithin ν Y (2 * size t) a (start t)
+sssWithinOver a ν Y t = runWithin ν Y (2 * size t) a 0 (start t)
 
 -- and on a tree
 abbrev pub sssWithin : (a : ℕ) → (ℕ → ℕ) → Tree → Ran

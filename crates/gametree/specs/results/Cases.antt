@@ -3,13 +3,12 @@
 use Prim.Native.Nat.{ℕ, suc, _+_}
 use mathlib.Core.Path.{_≡_}
 use mathlib.Core.List.{List, [], _∷_, map}
-use lib.ListN.{getD}
+use lib.ListN.{getD, drop}
 use Rattle.lists.specs.Lists.{among}
 use Rattle.gametree.specs.Tree.{Max, Min, Tree, leaf, inner, last, _then_, greatest, zeroScore}
 use Rattle.gametree.specs.AlphaBeta.{SearchResult, fullWindow}
 use Rattle.gametree.specs.Mtd.{mtd}
-use Rattle.gametree.specs.Sss.{End, finished, sss}
-use Rattle.gametree.specs.Allowance.{Evaluation, uncovered}
+use Rattle.gametree.specs.Sss.{Evaluation, sss}
 use Rattle.gametree.specs.Certificate.{flag}
 use Rattle.gametree.specs.Move.{rootMove}
 
@@ -102,14 +101,13 @@ abbrev pub numbers : ℕ → List ℕ → List ℕ
 numbers k [] = []
 numbers k (x ∷ xs) = k ∷ numbers (suc k) xs
 
--- what the searches make of a tree: alpha-beta's value and leaves; MTD's value and leaves, and its passes; how SSS*
--- ends, its leaves and its replacements; the root move; and the flags of the certificate that SSS* gives
+-- what the searches make of a tree: alpha-beta's value and leaves; MTD's value and leaves, and its passes; those of
+-- SSS*, and its replacements; the root move; and the flags of the certificate that SSS* gives
 pub record Row : Type 0 where
   pub alphaBeta : SearchResult
   pub mtd : SearchResult
   pub passes : ℕ
-  pub end : End
-  pub sss : List ℕ
+  pub sss : SearchResult
   pub replacements : ℕ
   pub move : ℕ
   pub flags : List ℕ
@@ -118,15 +116,15 @@ abbrev pub rowOf : Case → Row
 rowOf c =
     let ν = valuation c in
     let t = c .tree in
+    let w = map (λ x. x .leaf) (sss ν t .evaluations) in
     record {
       alphaBeta = fullWindow ν t;
       mtd = record { value = mtd ν t .value; evaluated = mtd ν t .evaluated };
       passes = mtd ν t .passes;
-      end = sss ν t .end;
-      sss = sss ν t .evaluated;
+      sss = record { value = sss ν t .value; evaluated = w };
       replacements = sss ν t .replacements;
       move = rootMove ν t;
-      flags = map (flag ν (among (sss ν t .evaluated)) t) (numbers 0 (c .scores));
+      flags = map (flag ν (among w) t) (numbers 0 (c .scores));
     }
 
 -- a line of the table: the score, the move, alpha-beta's leaves, those of MTD and SSS*, the passes, the replacements,
@@ -137,8 +135,7 @@ line v m a w p r f =
       alphaBeta = record { value = v; evaluated = a };
       mtd = record { value = v; evaluated = w };
       passes = p;
-      end = finished v;
-      sss = w;
+      sss = record { value = v; evaluated = w };
       replacements = r;
       move = m;
       flags = f;
@@ -206,5 +203,5 @@ allowances =
 -- the definitions give them
 abbrev pub AllowancesRight : Type 0
 AllowancesRight =
-    map (λ x. uncovered (x .allowance) (valuation (x .case)) (x .case .tree)) allowances
+    map (λ x. drop (x .allowance) (sss (valuation (x .case)) (x .case .tree) .evaluations)) allowances
     ≡ map (λ x. x .uncovered) allowances

@@ -1,20 +1,19 @@
 -- How SSS* within an allowance ends: as the full run does, or before the first leaf that the allowance does not cover.
 use Prim.Native.Nat.{ℕ, zero, suc, _+_, _-_, _*_, _≤_}
-use native.Mathlib.Nat.{add-zero, eq-or-lt-of-le, le-refl}
+use native.Mathlib.Nat.{eq-or-lt-of-le, le-refl}
 use native.Mathlib.Omega.{arith}
-use mathlib.Core.Path.{_≡_, refl, sym, _∙_, subst}
+use mathlib.Core.Path.{_≡_, refl, sym, _∙_, ap, subst}
 use mathlib.Core.Logic.{_⊎_, inl, inr, ⊎-elim}
 use mathlib.Core.List.{List, [], _∷_, append-nil, append-assoc}
 use lib.ListN.{length, length-append}
-use Rattle.gametree.specs.Tree.{Tree, size, Scored}
+use Rattle.gametree.specs.Tree.{Tree, least, size, Scored}
 use Rattle.gametree.specs.Layout.{Layout}
 use Rattle.gametree_theory.proofs.sss.Described.{Describes}
-use Rattle.gametree.specs.Sss.{Step, State, takenMerit, empty, stop, quiet, evaluating, step, finished, spent}
-use Rattle.gametree.specs.Sss.{noState, start, ListAfter, atStart, afterQuiet}
-use Rattle.gametree.specs.Sss.{afterEvaluating}
-use Rattle.gametree.specs.engine.OverLayout.{sssOver, resumed}
-use Rattle.gametree.specs.engine.Within.{runWithin, sssWithinOver}
-use Rattle.lists.proofs.Choice.{clash}
+use Rattle.gametree.specs.Sss.{Step, State, takenMerit, empty, stop, quiet, evaluating, step, start}
+use Rattle.gametree.specs.Sss.{ListAfter, atStart, afterQuiet, afterEvaluating}
+use Rattle.gametree.specs.engine.OverLayout.{runOver, sssOver}
+use Rattle.gametree.specs.engine.Within.{finished, spent, resumed, runWithin, sssWithinOver}
+use Rattle.gametree_theory.proofs.minimax.Bounds.{minimax-score}
 use Rattle.gametree_theory.proofs.results.Merits.{list-unique}
 use Rattle.gametree_theory.proofs.sss.Run.{sss-is-mtd}
 use Rattle.gametree_theory.proofs.sss.Lists.{ran-path, resume, list-reached}
@@ -49,29 +48,32 @@ Ending ν Y t a = Whole ν Y t a ⊎ Cut ν Y t a
 -- the run within an allowance goes on from each list that it reaches
 pub resume-within : (a : ℕ) (ν : ℕ → ℕ) (Y : Layout) (t : Tree) {k : ℕ} {w : List ℕ} {L : List State}
     → ListAfter ν Y t k w L → (f b : ℕ) → k + f ≡ 2 * size t → length w + b ≡ a
-    → sssWithinOver a ν Y t ≡ resumed k w (runWithin ν Y f b L)
+    → sssWithinOver a ν Y t ≡ resumed w (runWithin ν Y f b k L)
 resume-within a ν Y t atStart f b e l =
     let z : f ≡ 2 * size t = omega arith in
     let y : b ≡ a = omega arith in
-    rw (z, y) (ran-path refl (omega arith))
-resume-within a ν Y t (afterQuiet r s) f b e l =
-    resume-within a ν Y t r (suc f) b (omega arith) l ∙ rw s (ran-path refl (omega arith))
+    rw (z, y) refl
+resume-within a ν Y t (afterQuiet r s) f b e l = resume-within a ν Y t r (suc f) b (omega arith) l ∙ rw s refl
 resume-within a ν Y t (afterEvaluating {n = n} {leaves = w} r s) f b e l =
     resume-within a ν Y t r (suc f) (suc b) (omega arith) (omega (arith, simp length-append at l))
-    ∙ rw s (ran-path (sym (append-assoc w (n ∷ []) _)) (omega arith))
+    ∙ rw s (ran-path (sym (append-assoc w (n ∷ []) _)))
 
 module _ (ν : ℕ → ℕ) (t : Tree) (h : Scored ν t) (Y : Layout) (d : Describes Y t) where
-  -- the full run would find no state, where none is on the list
-  pub never-empty : {k : ℕ} {w : List ℕ} {L : List State} → ListAfter ν Y t k w L → (f : ℕ) → k + suc f ≡ 2 * size t
-      → step ν Y L ≡ empty → sssOver ν Y t .end ≡ noState
-  never-empty r f e s = rw (resume ν Y t r (suc f) e, s) refl
+  -- each list that is reached has a state: without one the full run would end with `least`, which is no score
+  pub never-empty : {k : ℕ} {w : List ℕ} {L : List State} → ListAfter ν Y t k w L → step ν Y L ≡ empty → ⊥
+  never-empty {k} r s =
+      let m : k + suc (2 * size t - suc k) ≡ 2 * size t = omega (arith, list-reached ν Y t d h r .atMost) in
+      let e : sssOver ν Y t .end ≡ finished least =
+      ap (λ q. q .end) (resume ν Y t r (suc (2 * size t - suc k)) m) ∙ rw s refl in
+      let v : runOver ν Y t .value ≡ least = cc in
+      omega (arith, sss-is-mtd ν Y t d h .value-is, minimax-score ν t h .0)
 
   -- the full run, where the SOLVED root is taken
   pub stopped : {k v : ℕ} {w : List ℕ} {L : List State} → ListAfter ν Y t k w L → step ν Y L ≡ stop v
       → sssOver ν Y t ≡ record { end = finished v; evaluated = w; replacements = k }
   stopped {k} {w = w} r s =
       let m : k + suc (2 * size t - suc k) ≡ 2 * size t = omega (arith, list-reached ν Y t d h r .atMost) in
-      resume ν Y t r (suc (2 * size t - suc k)) m ∙ rw s (ran-path (append-nil w) (add-zero k))
+      resume ν Y t r (suc (2 * size t - suc k)) m ∙ rw s (ran-path (append-nil w))
 
   -- the run within an allowance, where the SOLVED root is taken
   pub stopped-within : (a : ℕ) {k v : ℕ} {w : List ℕ} {L : List State} → ListAfter ν Y t k w L → step ν Y L ≡ stop v
@@ -79,7 +81,7 @@ module _ (ν : ℕ → ℕ) (t : Tree) (h : Scored ν t) (Y : Layout) (d : Descr
   stopped-within a {k} {w = w} r s l =
       let m : k + suc (2 * size t - suc k) ≡ 2 * size t = omega (arith, list-reached ν Y t d h r .atMost) in
       resume-within a ν Y t r (suc (2 * size t - suc k)) (a - length w) m (omega arith)
-      ∙ rw s (ran-path (append-nil w) (add-zero k))
+      ∙ rw s (ran-path (append-nil w))
 
   -- and where a leaf is taken that the allowance does not cover
   pub spent-within : (a : ℕ) {k n : ℕ} {w : List ℕ} {L M : List State} → ListAfter ν Y t k w L
@@ -88,7 +90,7 @@ module _ (ν : ℕ → ℕ) (t : Tree) (h : Scored ν t) (Y : Layout) (d : Descr
   spent-within a {k} {w = w} r s l =
       let m : k + suc (2 * size t - suc k) ≡ 2 * size t = omega (arith, list-reached ν Y t d h r .atMost) in
       resume-within a ν Y t r (suc (2 * size t - suc k)) 0 m (omega arith)
-      ∙ rw s (ran-path (append-nil w) (add-zero k))
+      ∙ rw s (ran-path (append-nil w))
 
   -- there is no other end: a list is reached from which the root is taken, or a leaf that is not covered
   module _ (a : ℕ) where
@@ -100,7 +102,7 @@ module _ (ν : ℕ → ℕ) (t : Tree) (h : Scored ν t) (Y : Layout) (d : Descr
     ending-by : (f : ℕ) → EndsFrom f → (x : Step) (b : ℕ) {k : ℕ} {w : List ℕ} {L : List State}
         → ListAfter ν Y t k w L
         → step ν Y L ≡ x → k + suc f ≡ 2 * size t → length w + b ≡ a → Ending ν Y t a
-    ending-by f i empty b r s e l = clash (cc (never-empty r f e s, sss-is-mtd ν Y t d h .end-is))
+    ending-by f i empty b r s e l = absurd (never-empty r s)
     ending-by f i (stop v) b {k} {w} {L} r s e l =
         let m : length w ≤ a = omega arith in
         inl (record {

@@ -1,14 +1,18 @@
--- SSS* within an allowance depends only on the scores of the leaves that it evaluates.
+-- SSS*, within an allowance and in full, depends only on the scores of the leaves that it evaluates.
 use Prim.Native.Nat.{ℕ, zero, suc, min}
-use mathlib.Core.Path.{_≡_, refl, ap}
+use native.Mathlib.Nat.{le-refl}
+use mathlib.Core.Path.{_≡_, refl, sym, _∙_, ap, subst}
 use mathlib.Core.List.{List, [], _∷_}
+use lib.ListN.{length, drop, drop-of-length-le}
 use Rattle.lists.specs.Lists.{All}
 use Rattle.gametree.specs.declared.Side.the-variants.{Max, Min}
 use Rattle.gametree.specs.Tree.{Tree, leaf, inner}
 use Rattle.gametree.specs.Layout.{Layout}
 use Rattle.gametree.specs.Sss.{Status, LIVE, SOLVED, State, Taken, pick, Step, empty, stop, quiet, evaluating}
-use Rattle.gametree.specs.Sss.{solved, put, replaceLive, replace, step, takenMerit, Ran}
-use Rattle.gametree.specs.engine.Within.{followWithin, runWithin}
+use Rattle.gametree.specs.Sss.{solved, put, replaceLive, replace, step, takenMerit, Evaluation, runFrom}
+use Rattle.gametree.specs.engine.Within.{Ran, inFull, followWithin, runWithin}
+use Rattle.lists.proofs.Choice.{clash}
+use Rattle.gametree_theory.proofs.allowance.Evaluations.{run-covered, run-spent}
 
 module _ (ν μ : ℕ → ℕ) where
   -- two steps that differ at most by the score of the leaf that they evaluate
@@ -34,24 +38,43 @@ module _ (ν μ : ℕ → ℕ) where
   Agreed w = All (λ n. ν n ≡ μ n) w
 
   module _ (f g : ℕ → List State → Ran) (e : (a : ℕ) (M : List State) → Agreed (f a M .evaluated) → f a M ≡ g a M) where
-    follow-same : (x : Step) (a m : ℕ) → Agreed (followWithin x a m f .evaluated)
-        → followWithin x a m f ≡ followWithin x a m g
-    follow-same empty a m h = refl
-    follow-same (stop v) a m h = refl
-    follow-same (quiet M) a m h = rw (e a M h) refl
-    follow-same (evaluating n M) zero m h = refl
-    follow-same (evaluating n M) (suc a) m h = rw (e a M (h .1)) refl
+    follow-same : (x : Step) (a k m : ℕ) → Agreed (followWithin x a k m f .evaluated)
+        → followWithin x a k m f ≡ followWithin x a k m g
+    follow-same empty a k m h = refl
+    follow-same (stop v) a k m h = refl
+    follow-same (quiet M) a k m h = e a M h
+    follow-same (evaluating n M) zero k m h = refl
+    follow-same (evaluating n M) (suc a) k m h = rw (e a M (h .1)) refl
 
-    follow-near : {x y : Step} → Near x y → (a m : ℕ) → Agreed (followWithin x a m f .evaluated)
-        → followWithin x a m f ≡ followWithin y a m g
-    follow-near {x} same a m h = follow-same x a m h
-    follow-near (scored i) zero m h = refl
-    follow-near (scored {n = n} {M = M} i) (suc a) m h = rw (← i (h .0)) (follow-same (evaluating n M) (suc a) m h)
+    follow-near : {x y : Step} → Near x y → (a k m : ℕ) → Agreed (followWithin x a k m f .evaluated)
+        → followWithin x a k m f ≡ followWithin y a k m g
+    follow-near {x} same a k m h = follow-same x a k m h
+    follow-near (scored i) zero k m h = refl
+    follow-near (scored {n = n} {M = M} i) (suc a) k m h =
+        rw (← i (h .0)) (follow-same (evaluating n M) (suc a) k m h)
 
   -- a run gives the same under valuations that agree on the leaves that it evaluates
-  pub runWithin-local : (Y : Layout) (f a : ℕ) (L : List State) → Agreed (runWithin ν Y f a L .evaluated)
-      → runWithin ν Y f a L ≡ runWithin μ Y f a L
-  runWithin-local Y zero a L h = refl
-  runWithin-local Y (suc f) a L h =
-      follow-near (λ b M. runWithin ν Y f b M) (λ b M. runWithin μ Y f b M) (λ b M k. runWithin-local Y f b M k)
-      (step-near Y L) a (takenMerit Y L) h
+  pub runWithin-local : (Y : Layout) (f a k : ℕ) (L : List State) → Agreed (runWithin ν Y f a k L .evaluated)
+      → runWithin ν Y f a k L ≡ runWithin μ Y f a k L
+  runWithin-local Y zero a k L h = refl
+  runWithin-local Y (suc f) a k L h =
+      follow-near (λ b M. runWithin ν Y f b (suc k) M) (λ b M. runWithin μ Y f b (suc k) M)
+      (λ b M i. runWithin-local Y f b (suc k) M i) (step-near Y L) a k (takenMerit Y L) h
+
+  -- so does the full run, which is the run within an allowance that covers it
+  pub runFrom-local : (Y : Layout) (f k : ℕ) (L : List State) → Agreed (inFull (runFrom ν Y f k L) .evaluated)
+      → inFull (runFrom ν Y f k L) ≡ inFull (runFrom μ Y f k L)
+  runFrom-local Y f k L h = by-left (drop a (runFrom μ Y f k L .evaluations)) refl
+    where
+      a : ℕ
+      a = length (runFrom ν Y f k L .evaluations)
+
+      as-within : inFull (runFrom ν Y f k L) ≡ runWithin μ Y f a k L
+      as-within =
+          let c = run-covered ν Y f k a L (drop-of-length-le (runFrom ν Y f k L .evaluations) {i = a} (le-refl a)) in
+          sym c ∙ runWithin-local Y f a k L (subst (λ r. Agreed (r .evaluated)) (sym c) h)
+
+      by-left : (xs : List Evaluation) → drop a (runFrom μ Y f k L .evaluations) ≡ xs
+          → inFull (runFrom ν Y f k L) ≡ inFull (runFrom μ Y f k L)
+      by-left [] i = as-within ∙ run-covered μ Y f k a L i
+      by-left (x ∷ xs) i = clash (cc (ap (λ r. r .end) (as-within ∙ run-spent μ Y f k a L x xs i)))

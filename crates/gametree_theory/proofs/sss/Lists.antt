@@ -1,6 +1,7 @@
 -- Every list that SSS* reaches: few replacements led there, the state taken from it has no less merit than the tree has
 -- value, and the run goes on from it.
-use Prim.Native.Nat.{ℕ, suc, _+_, _*_, _≤_, _<_}
+use Prim.Native.Nat.{ℕ, zero, suc, _+_, _*_, _≤_, _<_}
+use native.Mathlib.Nat.{le-refl}
 use native.Mathlib.Omega.{arith}
 use mathlib.Core.Path.{_≡_, refl, sym, _∙_, ap, subst}
 use mathlib.Core.List.{List, [], _∷_, _++_, append-assoc}
@@ -8,9 +9,10 @@ use Rattle.gametree.specs.Tree.{Tree, minimax, size, Scored}
 use Rattle.gametree.specs.engine.Memo.{memoMtd}
 use Rattle.gametree.specs.Layout.{Layout}
 use Rattle.gametree_theory.proofs.sss.Described.{Describes}
-use Rattle.gametree.specs.Sss.{takenMerit, State, stop, quiet, evaluating, step, End, Ran, runFrom}
+use Rattle.gametree.specs.Sss.{takenMerit, State, Step, empty, stop, quiet, evaluating, step, SssRun, follow, runFrom}
 use Rattle.gametree.specs.Sss.{start, ListAfter, atStart, afterQuiet, afterEvaluating}
-use Rattle.gametree.specs.engine.OverLayout.{sssOver, resumed}
+use Rattle.gametree.specs.engine.Within.{End, Ran, resumed, inFull}
+use Rattle.gametree.specs.engine.OverLayout.{sssOver}
 use Rattle.lists.proofs.Choice.{clash}
 use Rattle.gametree_theory.proofs.sss.Steps.{Steps, done, quietly, evaluates}
 use Rattle.gametree_theory.proofs.mtd.Value.{mtd-right}
@@ -89,22 +91,29 @@ module _ (ν : ℕ → ℕ) (Y : Layout) (t : Tree) (d : Describes Y t) (h : Sco
         whole = a .whole;
       }
 
--- a run by its parts
-pub ran-path : {e : End} {u w : List ℕ} {m n : ℕ} → u ≡ w → m ≡ n
-    → _≡_ {A = Ran} (record { end = e; evaluated = u; replacements = m })
-    (record { end = e; evaluated = w; replacements = n })
-ran-path p q = cc
+-- a run by its leaves
+pub ran-path : {e : End} {u w : List ℕ} {k : ℕ} → u ≡ w
+    → _≡_ {A = Ran} (record { end = e; evaluated = u; replacements = k })
+    (record { end = e; evaluated = w; replacements = k })
+ran-path p = cc
 
 -- the run goes on from each list that it reaches
 pub resume : (ν : ℕ → ℕ) (Y : Layout) (t : Tree) {k : ℕ} {w : List ℕ} {L : List State} → ListAfter ν Y t k w L → (f : ℕ)
     → k + f ≡ 2 * size t
-    → sssOver ν Y t ≡ resumed k w (runFrom (λ M. step ν Y M) f L)
-resume ν Y t atStart f e =
-    let z : f ≡ 2 * size t = omega arith in
-    rw z (ran-path refl (omega arith))
-resume ν Y t (afterQuiet {leaves = w} {L = L} r s) f e =
-    let i = resume ν Y t r (suc f) (omega arith) in
-    i ∙ rw s (ran-path refl (omega arith))
+    → sssOver ν Y t ≡ resumed w (inFull (runFrom ν Y f k L))
+resume ν Y t atStart f e = let z : f ≡ 2 * size t = omega arith in rw z refl
+resume ν Y t (afterQuiet r s) f e = resume ν Y t r (suc f) (omega arith) ∙ rw s refl
 resume ν Y t (afterEvaluating {n = n} {leaves = w} r s) f e =
-    let i = resume ν Y t r (suc f) (omega arith) in
-    i ∙ rw s (ran-path (sym (append-assoc w (n ∷ []) _)) (omega arith))
+    resume ν Y t r (suc f) (omega arith) ∙ rw s (ran-path (sym (append-assoc w (n ∷ []) _)))
+
+-- it makes no fewer replacements than it has made
+follow-more : (s : Step) (k m : ℕ) (rest : List State → SssRun) → ((M : List State) → k < rest M .replacements)
+    → k ≤ follow s k m rest .replacements
+follow-more empty k m rest h = le-refl k
+follow-more (stop v) k m rest h = le-refl k
+follow-more (quiet M) k m rest h = omega (arith, h M)
+follow-more (evaluating n M) k m rest h = omega (arith, h M)
+
+pub run-more : (ν : ℕ → ℕ) (Y : Layout) (f k : ℕ) (L : List State) → k ≤ runFrom ν Y f k L .replacements
+run-more ν Y zero k L = le-refl k
+run-more ν Y (suc f) k L = follow-more (step ν Y L) k (takenMerit Y L) _ (λ M. run-more ν Y f (suc k) M)

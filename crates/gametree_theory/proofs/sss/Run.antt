@@ -5,13 +5,13 @@ use native.Mathlib.Nat.{le-refl}
 use native.Mathlib.Omega.{arith}
 use mathlib.Core.Path.{_≡_, refl, ap, subst}
 use mathlib.Core.Logic.{inl, inr}
-use mathlib.Core.List.{List, [], _∷_, append-nil}
+use mathlib.Core.List.{List, [], _∷_, append-nil, map}
 use Rattle.gametree.specs.Tree.{Tree, greatest, minimax, number, size, Scored}
 use Rattle.gametree.specs.engine.Memo.{Memo, memoHigh, pass, MemoRun, run, fresh, memoMtd}
 use Rattle.gametree.specs.Layout.{root, Layout}
 use Rattle.gametree_theory.proofs.sss.Described.{Answers, Describes}
-use Rattle.gametree.specs.Sss.{SOLVED, State, live, solved, stop, step, finished, Ran, runFrom}
-use Rattle.gametree.specs.engine.OverLayout.{sssOver}
+use Rattle.gametree.specs.Sss.{SOLVED, State, live, solved, stop, step, SssRun, runFrom}
+use Rattle.gametree.specs.engine.OverLayout.{runOver}
 use Rattle.lists.proofs.Choice.{cond-cases}
 use Rattle.gametree_theory.proofs.mtd.Sound.{Kept, sound}
 use Rattle.gametree_theory.proofs.mtd.Value.{kept-lower, fresh-kept, mtd-right}
@@ -54,27 +54,24 @@ run-steps ν Y (suc f) γ t m w p h k g b l =
 -- THE RUN
 
 -- what a run gives that ends with v, evaluates the leaves w, and makes at most a replacements
-pub record Gives (r : Ran) (v : ℕ) (w : List ℕ) (a : ℕ) : Type 0 where
-  pub end-is : r .end ≡ finished v
-  pub leaves-are : r .evaluated ≡ w
+pub record Gives (r : SssRun) (v : ℕ) (w : List ℕ) (a : ℕ) : Type 0 where
+  pub value-is : r .value ≡ v
+  pub leaves-are : map (λ x. x .leaf) (r .evaluations) ≡ w
   pub replaced : r .replacements ≤ a
 
 module _ (ν : ℕ → ℕ) (Y : Layout) (v : ℕ) where
   -- the run follows the steps
-  go-steps : (f : ℕ) {a b : ℕ} {L N : List State} {w : List ℕ} → Steps ν Y a L w N b → step ν Y N ≡ stop v
-      → a < f → Gives (runFrom (λ L. step ν Y L) f L) v w a
-  go-steps zero s e l = absurd (omega (arith, l))
-  go-steps (suc f) (done k) e l =
-      rw e (record { end-is = refl; leaves-are = refl; replaced = omega arith })
-  go-steps (suc f) (quietly t k p) e l =
-      let q = go-steps f p e (omega arith) in
-      rw t (record { end-is = q .end-is; leaves-are = q .leaves-are; replaced = omega (arith, q .replaced) })
-  go-steps (suc f) (evaluates {n = n} t k p) e l =
-      let q = go-steps f p e (omega arith) in
+  go-steps : (f k c : ℕ) {a b : ℕ} {L N : List State} {w : List ℕ} → Steps ν Y a L w N b → step ν Y N ≡ stop v
+      → a < f → k + a ≤ c → Gives (runFrom ν Y f k L) v w c
+  go-steps zero k c s e l u = absurd (omega (arith, l))
+  go-steps (suc f) k c (done i) e l u = rw e (record { value-is = refl; leaves-are = refl; replaced = omega arith })
+  go-steps (suc f) k c (quietly t i p) e l u = rw t (go-steps f (suc k) c p e (omega arith) (omega arith))
+  go-steps (suc f) k c (evaluates {n = n} t i p) e l u =
+      let q = go-steps f (suc k) c p e (omega arith) (omega arith) in
       rw t (record {
-        end-is = q .end-is;
+        value-is = q .value-is;
         leaves-are = ap (λ x. n ∷ x) (q .leaves-are);
-        replaced = omega (arith, q .replaced);
+        replaced = q .replaced;
       })
 
 -- the root, SOLVED, stops the run
@@ -94,8 +91,8 @@ mtd-steps ν Y t p h =
 -- SSS* gives the minimax value and MTD's leaves in MTD's order, and makes fewer replacements than twice the number of
 -- nodes
 pub sss-is-mtd : (ν : ℕ → ℕ) (Y : Layout) (t : Tree) → Describes Y t → Scored ν t
-    → Gives (sssOver ν Y t) (minimax ν t) (memoMtd ν t .evaluated) (full t)
+    → Gives (runOver ν Y t) (minimax ν t) (memoMtd ν t .evaluated) (full t)
 sss-is-mtd ν Y t d h =
-    subst (λ v. Gives (sssOver ν Y t) v (memoMtd ν t .evaluated) (full t)) (mtd-right ν t h .value)
-    (go-steps ν Y (memoMtd ν t .value) (2 * size t) (mtd-steps ν Y t (d .answers) h)
-    (root-stops ν Y t (memoMtd ν t .value) (d .top)) (full-size t))
+    subst (λ v. Gives (runOver ν Y t) v (memoMtd ν t .evaluated) (full t)) (mtd-right ν t h .value)
+    (go-steps ν Y (memoMtd ν t .value) (2 * size t) 0 (full t) (mtd-steps ν Y t (d .answers) h)
+    (root-stops ν Y t (memoMtd ν t .value) (d .top)) (full-size t) (omega arith))

@@ -6,6 +6,7 @@ use mathlib.Core.List.{List, _++_}
 use lib.ListN.{length, drop, replicate}
 use Rattle.gametree.specs.Tree.{greatest}
 use Rattle.gametree.specs.Layout.{layoutOf}
+use Rattle.gametree.specs.Sss.{Evaluation}
 use Rattle.gametree.specs.Sss as theory
 use Rattle.frames.specs.Frame.{frames}
 use Rattle.frames.specs.Tree.{tree, valuation}
@@ -14,15 +15,20 @@ use Rattle.certificate_bounds.specs.Marks.{ones}
 use Rattle.certificate_bounds.specs.engine.Progress.{progress, evaluateAll}
 use Rattle.sss_states.specs.declared.State.{State}
 use Rattle.sss_states.specs.Entry.{blank}
-use Rattle.gametree.specs.engine.Within.{sssWithin}
+use Rattle.gametree.specs.engine.Within.{End, Ran, finished, spent, sssWithin}
 use Rattle.sss_states.specs.engine.Shown.{BestFound}
 use Rattle.sss_states.specs.engine.Kept.{arraysOf, Sound}
 use Rattle.sss_turns.specs.declared.Stage.{Stage}
 use Rattle.sss_turns.specs.declared.Stage.the-variants.{Going, Finished, Spent}
 use Rattle.sss_turns.specs.engine.Turn.{Config}
+use Rattle.sss.specs.Outcome.{runOf}
+
+-- the evaluations of the full run that an allowance of a leaves does not cover
+abbrev pub sssUncovered : (a : ℕ) → List ℕ → List Evaluation
+sssUncovered a t = drop a (runOf t .evaluations)
 
 -- the run of SSS* on the tree of a table within an allowance of a leaves
-abbrev pub sssRun : (a : ℕ) → List ℕ → theory.Ran
+abbrev pub sssRun : (a : ℕ) → List ℕ → Ran
 sssRun a t = sssWithin a (valuation t) (tree t)
 
 -- after k replacements that evaluated the leaves v, SSS* has the list L
@@ -43,7 +49,7 @@ pub record GoesOn (t : List ℕ) (ls : List State) (w : List ℕ) (i k : ℕ) (v
 
 -- the run within an allowance of a leaves has ended so with the merit γ, after k replacements that evaluated the leaves
 -- v, and its entries of ls are blank
-pub record Over (a : ℕ) (t : List ℕ) (ls : List State) (end : ℕ → theory.End) (γ k : ℕ) (v : List ℕ) : Type 0 where
+pub record Over (a : ℕ) (t : List ℕ) (ls : List State) (end : ℕ → End) (γ k : ℕ) (v : List ℕ) : Type 0 where
   pub ended : sssRun a t ≡ record { end = end γ; evaluated = v; replacements = k }
   pub atMost : γ ≤ greatest
   pub blank-all : ls ≡ replicate (frames t) blank ++ drop (frames t) ls
@@ -51,8 +57,8 @@ pub record Over (a : ℕ) (t : List ℕ) (ls : List State) (end : ℕ → theory
 -- what holds of a run at each stage
 abbrev pub Stands : Stage → (a : ℕ) (t : List ℕ) → List State → List ℕ → ℕ → ℕ → List ℕ → Type 0
 Stands Going a t ls w i k v = GoesOn t ls w i k v
-Stands (Finished γ) a t ls w i k v = Over a t ls theory.finished γ k v
-Stands (Spent γ) a t ls w i k v = Over a t ls theory.spent γ k v
+Stands (Finished γ) a t ls w i k v = Over a t ls finished γ k v
+Stands (Spent γ) a t ls w i k v = Over a t ls spent γ k v
 
 -- the invariant, for an allowance of a leaves, a table t, and at entry the states l, the marks b and the leaves o
 pub record Running (a : ℕ) (t : List ℕ) (l : List State) (b o : List ℕ) (c : Config) : Type 0 where
