@@ -20,7 +20,7 @@ use Rattle.frames.proofs.Shapes.{same-score, same-tree}
 use Rattle.certificate_bounds.specs.Marks.{mark}
 use Rattle.positions.specs.Buffer.{written}
 use Rattle.certificate.specs.Search.{findings}
-use Rattle.positions.proofs.Buffers.{length-up, up-same}
+use Rattle.frames.proofs.Ranges.{length-up, up-same}
 use Rattle.certificate.proofs.Marks.{evaluated-within}
 use Rattle.demands.proofs.Calls.{Call, found, lent, left, leftOrder, leaves}
 use Rattle.demands.specs.Handed.{AgreeOnMarked, Alike}

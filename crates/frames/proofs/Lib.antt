@@ -1,4 +1,5 @@
 -- The laws that link a table to its tree, grouped by idea.
+pub mod Ranges
 pub mod Next
 pub mod Parents
 pub mod Positions

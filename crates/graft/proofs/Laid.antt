@@ -16,11 +16,11 @@ use Rattle.frames.proofs.Next.{child-within}
 use Rattle.frames.proofs.Parents.{top-down}
 use Rattle.frames.proofs.Positions.{position-root, position-child}
 use Rattle.frames.proofs.Acceptance.{stated-formed}
+use Rattle.frames.proofs.Ranges.{length-up, up-at}
 use Rattle.graft_questions.specs.Questions.{graftSize}
 use Rattle.graft.specs.Sources.{rootFor, childSources, breadthFirst, knownSources, sources}
 use Rattle.graft.specs.Table.{firstNumber, sourceAt, frameAt, laidFrames, graftTable}
 use Rattle.graft.proofs.Listing.{list-kept, list-child}
-use Rattle.graft.proofs.Nodes.{length-up, up-at}
 use Rattle.graft.proofs.Joined.{source-cases, joined-first, joined-second}
 use Rattle.graft.proofs.Sources.{Fitting, Source, positionAt, firstIn, countIn, source-waits, source-kind}
 use Rattle.graft.proofs.Sources.{sources-all, first-stated, second-stated, graft-some, replaced-leaf}

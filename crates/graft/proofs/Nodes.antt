@@ -3,7 +3,6 @@ use Prim.Native.Nat.{ℕ, zero, suc, _+_, _≤_, _<_}
 use native.Mathlib.Omega.{arith}
 use mathlib.Core.Path.{_≡_, refl, ap, ap₂, _∙_}
 use mathlib.Core.List.{List, [], _∷_, map}
-use lib.ListN.{length, getD}
 use borrow.Author.Tests.{ne-eqb}
 use Rattle.lists.specs.Lists.{All}
 use Rattle.gametree.specs.declared.Side.{Side}
@@ -85,14 +84,3 @@ all-up P f i (suc n) h =
       rw a at (h 0 (omega arith)),
       all-up P f (i + 1) n (λ m l. let e : i + 1 + m ≡ i + suc m = omega arith in rw e (h (suc m) (omega arith))),
     )
-
-pub length-up : (f : ℕ → ℕ) (i n : ℕ) → length (map f (upFrom i n)) ≡ n
-unfolding upFrom
-length-up f i zero = refl
-length-up f i (suc n) = omega (arith, length-up f (i + 1) n)
-
-pub up-at : (f : ℕ → ℕ) (i n m : ℕ) → m < n → getD (map f (upFrom i n)) m 0 ≡ f (i + m)
-unfolding upFrom
-up-at f i zero m h = absurd (omega arith)
-up-at f i (suc n) zero h = ap f (omega arith)
-up-at f i (suc n) (suc m) h = up-at f (i + 1) n m (omega arith) ∙ ap f (omega arith)

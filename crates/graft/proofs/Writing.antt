@@ -11,13 +11,13 @@ use lib.Dec.{eqb}
 use lib.ListN.{length, getD, take, drop, take-append-drop}
 use lib.Seq.{sets, length-sets, take-take}
 use Rattle.frames.specs.Frame.{frameSize, twoBytes, frames, firstChild}
+use Rattle.frames.proofs.Ranges.{up-at}
 use Rattle.graft_questions.specs.Questions.{graftSize}
 use Rattle.graft.specs.Sources.{rootFor, childSources, breadthFirst, knownSources}
 use Rattle.graft.specs.Table.{firstNumber, renumbered, sourceAt, frameAt, laidFrames, graftTable}
 use Rattle.graft.specs.engine.Joined.{Joined}
 use Rattle.graft.specs.engine.Queue.{withFirst, Queued}
 use Rattle.graft.proofs.Listing.{length-more, list-kept, list-child}
-use Rattle.graft.proofs.Nodes.{up-at}
 use Rattle.graft.proofs.Sources.{Fitting, Source, first-stated, second-stated, firstIn, countIn}
 use Rattle.graft.proofs.Sources.{graft-some, source-child, source-waits, source-kind, sources-all}
 use Rattle.graft.proofs.Laid.{children-length}

@@ -11,31 +11,8 @@ use lib.Seq.{drop-cons, drop-set-lt, set-at, set-append-left, getD-append-add, g
 use lib.Seq.{getD-set-same}
 use borrow.Author.Tests.{eq-eqb, ne-eqb}
 use Rattle.frames.specs.Tree.{upFrom}
+use Rattle.frames.proofs.Ranges.{length-up, up-at, up-same, up-next}
 use Rattle.positions.specs.Buffer.{written}
-
--- the values of f at the n numbers from i on: how many, each by its place, the same of another f, and one more
-pub length-up : (f : ℕ → ℕ) (i n : ℕ) → length (map f (upFrom i n)) ≡ n
-unfolding upFrom
-length-up f i zero = refl
-length-up f i (suc n) = omega (arith, length-up f (i + 1) n)
-
-pub up-at : (f : ℕ → ℕ) (i n k : ℕ) → k < n → getD (map f (upFrom i n)) k 0 ≡ f (i + k)
-unfolding upFrom
-up-at f i zero k h = absurd (omega arith)
-up-at f i (suc n) zero h = ap f (omega arith)
-up-at f i (suc n) (suc k) h = up-at f (i + 1) n k (omega arith) ∙ ap f (omega arith)
-
-pub up-same : (f g : ℕ → ℕ) (i n : ℕ) → ((k : ℕ) → i ≤ k → k < i + n → f k ≡ g k)
-    → map f (upFrom i n) ≡ map g (upFrom i n)
-unfolding upFrom
-up-same f g i zero e = refl
-up-same f g i (suc n) e =
-    ap₂ _∷_ (e i (omega arith) (omega arith)) (up-same f g (i + 1) n (λ k l h. e k (omega arith) (omega arith)))
-
-up-next : (f : ℕ → ℕ) (i n k : ℕ) → k ≡ i + n → map f (upFrom i (suc n)) ≡ map f (upFrom i n) ++ (f k ∷ [])
-unfolding upFrom
-up-next f i zero k e = ap (λ j. f j ∷ []) (omega arith)
-up-next f i (suc n) k e = ap (λ l. f i ∷ l) (up-next f (i + 1) n k (omega arith))
 
 -- nothing written
 pub written-none : (f : ℕ → ℕ) (b : List ℕ) → written f 0 b ≡ b
