@@ -11,7 +11,6 @@ use lib.ListN.{length, take}
 use lib.Signed.{_≤ℤ_}
 use Rattle.lists.specs.Lists.{among}
 use Rattle.gametree.specs.Tree.{greatest}
-use Rattle.gametree.specs.Layout.{layoutOf}
 use Rattle.gametree_theory.proofs.Within as within
 use Rattle.frames.specs.Frame.{frames}
 use Rattle.frames.specs.Tree.{tree, valuation}
@@ -28,7 +27,6 @@ use Rattle.sss.specs.declared.SssResult.{SssResult}
 use Rattle.sss.specs.declared.Spent.{Spent}
 use Rattle.sss.specs.declared.SssAnswer.the-variants as sss-answer
 use Rattle.sss.specs.Outcome.{runOf, sssLeaves}
-use Rattle.sss.proofs.Replacements.{own}
 use Rattle.demands.specs.Runs.{Runs, RunBoth}
 use Rattle.demands.specs.Handed.{Room, Marked, AgreeOnMarked}
 use Rattle.demands.specs.Searches.{EachSpent}
@@ -68,9 +66,8 @@ none-allowed =
     (λ κs (t, (l, (m, (f, (o, (n, _)))))) r e s none a h long entries.
     let wf = accepted-formed (t .now) a in
     let p = tree-proper (t .now) wf in
-    let e = within.within-none (valuation (t .now)) (tree (t .now)) p (layoutOf (tree (t .now))) (own (t .now) wf) .0 in
-    let i = within.within-spent (valuation (t .now)) (tree (t .now)) (p .scored) (layoutOf (tree (t .now)))
-    (own (t .now) wf) 0 .0 (greatest, e) in
+    let e = within.within-none (valuation (t .now)) (tree (t .now)) p .0 in
+    let i = within.within-spent (valuation (t .now)) (tree (t .now)) p 0 .0 (greatest, e) in
     let x = more-left (t .now) 0 i in
     let y = run-is (t .now) 0 (x .0) (x .1 .0) (x .1 .1) in
     let γ : x .0 .merit ≡ greatest = cc (e, ap (λ r. r .end) y) in (

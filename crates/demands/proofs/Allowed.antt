@@ -10,7 +10,6 @@ use lib.Signed.{_≤ℤ_}
 use native.Mathlib.Omega.{arith}
 use Rattle.lists.specs.Lists.{among}
 use Rattle.gametree.specs.Tree.{minimax}
-use Rattle.gametree.specs.Layout.{layoutOf}
 use Rattle.gametree.specs.Sss.{ListAfter}
 use Rattle.gametree.specs.engine.Within.{sssWithin}
 use Rattle.gametree_theory.proofs.Within as within
@@ -35,7 +34,6 @@ use Rattle.sss.specs.declared.SssAnswer.the-variants as sss-answer
 use Rattle.sss_states.specs.Entry.{blank}
 use Rattle.sss.specs.Outcome.{runOf, sssLeaves, sssSpent, sssOutcome}
 use Rattle.sss.specs.engine.Invariant.{sssUncovered}
-use Rattle.sss.proofs.Replacements.{own}
 use Rattle.sss.proofs.Allowed.{enough, outcome-spent, outcomeBy}
 use Rattle.demands.specs.Handed.{Room, Marked, AgreeOnMarked}
 use Rattle.demands.proofs.Calls.{stateLengths, AlphaBetaCall, SssCall, alphaBeta, sss}
@@ -54,11 +52,11 @@ module _ {t : List ℕ} {s : Spent} (c : SssCall t (sss-answer.Spent s)) where
   cut-short =
       let v = spent-view c in
       let wf = spent-formed c in
-      let h = tree-proper t wf .scored in
+      let h = tree-proper t wf in
       let n = c .allowance in
       let γ = v .next .merit in
-      let x = within.within-cut (valuation t) (tree t) h (layoutOf (tree t)) (own t wf) n γ (spent-end c) in
-      let m = within.within-cut-merit (valuation t) (tree t) h (layoutOf (tree t)) (own t wf) n γ (spent-end c) in
+      let x = within.within-cut (valuation t) (tree t) h n γ (spent-end c) in
+      let m = within.within-cut-merit (valuation t) (tree t) h n γ (spent-end c) in
       let k : s .replacements ≡ x .made =
       ap (λ y. y .replacements) (v .gives) ∙ ap (λ r. r .replacements) (sym (spent-run c) ∙ x .gives) in
       record {
@@ -66,9 +64,7 @@ module _ {t : List ℕ} {s : Spent} (c : SssCall t (sss-answer.Spent s)) where
         states = x .list;
         leaf = x .beyond;
         next = x .after;
-        reached =
-            subst (λ j. ListAfter (valuation t) (layoutOf (tree t)) (tree t) j (x .leaves) (x .list)) (sym k)
-            (x .reached);
+        reached = subst (λ j. ListAfter (valuation t) (tree t) j (x .leaves) (x .list)) (sym k) (x .reached);
         evaluates = x .more;
         leaves = ap (λ y. y .leaves) (v .gives) ∙ sym (x .all);
         merit = ap (λ y. y .merit) (v .gives) ∙ ap valueOf (sym m);
@@ -88,8 +84,8 @@ pub merit-bounds : {t : List ℕ} {s : Spent} → SssCall t (sss-answer.Spent s)
 merit-bounds {t} c =
     let v = spent-view c in
     let wf = spent-formed c in
-    let m = within.within-merit (valuation t) (tree t) (tree-proper t wf .scored) (layoutOf (tree t))
-    (own t wf) (c .allowance) (v .next .merit) (spent-end c) in
+    let m =
+    within.within-merit (valuation t) (tree t) (tree-proper t wf) (c .allowance) (v .next .merit) (spent-end c) in
     let i = ap (λ x. x .merit) (v .gives) in
     (rw i (value-order _ _ (m .0)), rw i (value-order _ _ (m .1)))
 
@@ -101,8 +97,8 @@ merit-falls {t} c d l =
     let w = spent-view d in
     let wf = spent-formed c in
     rw (ap (λ x. x .merit) (v .gives), ap (λ x. x .merit) (w .gives))
-    (value-order _ _ (within.within-falls (valuation t) (tree t) (tree-proper t wf .scored) (layoutOf (tree t))
-    (own t wf) (c .allowance) (d .allowance) (v .next .merit) (w .next .merit) l (spent-end c) (spent-end d)))
+    (value-order _ _ (within.within-falls (valuation t) (tree t) (tree-proper t wf) (c .allowance)
+    (d .allowance) (v .next .merit) (w .next .merit) l (spent-end c) (spent-end d)))
 
 -- "A value once given is the same under every larger allowance": so is all that the call gives and leaves
 pub value-stays : {t : List ℕ} {f : SssResult} (c : SssCall t (sss-answer.Found f)) (n : ℕ) → c .allowance ≤ n
@@ -126,8 +122,7 @@ spent-counts {t} c =
     let wf = spent-formed c in
     let n = c .allowance in
     let k = ap (λ x. x .leaves) (v .gives) in
-    let r = within.within-replacements (valuation t) (tree t) (tree-proper t wf .scored) (layoutOf (tree t)) (own t wf)
-    n .0 in (
+    let r = within.within-replacements (valuation t) (tree t) (tree-proper t wf) n .0 in (
       k,
       k ∙ sym (ap (λ x. ones x (frames t)) (v .marks) ∙ ones-within t wf n (c .lent .marks) ∙ first-count c),
       rw (ap (λ x. x .replacements) (v .gives)) (rw (spent-run c) at r),

@@ -9,12 +9,11 @@ use Rattle.lists.specs.Lists.{All, Once, Subsequence, among, different}
 use Rattle.gametree.specs.Tree.{leaves as treeLeaves}
 use Rattle.gametree.specs.AlphaBeta.{fullWindow}
 use Rattle.gametree.specs.Mtd as rule
-use Rattle.gametree.specs.Layout.{layoutOf}
 use Rattle.gametree.specs.Sss.{sss as run}
 use Rattle.gametree.specs.engine.Within.{inFull}
 use Rattle.gametree.specs.Certificate.{Smallest, pairLeaves}
 use Rattle.gametree_theory.proofs.Theorems.{alphaBeta-leaves, alphaBeta-ordered, mtd-passes, sss-mtd, sss-replacements}
-use Rattle.gametree_theory.proofs.Theorems.{layout-own, search-once, search-smallest, smallest-exists}
+use Rattle.gametree_theory.proofs.Theorems.{search-once, search-smallest, smallest-exists}
 use Rattle.gametree_theory.proofs.Theorems as theory
 use Rattle.frames.specs.Frame.{frames}
 use Rattle.frames.specs.Tree.{tree, valuation}
@@ -133,7 +132,7 @@ local-sss {t} {u} c d h a =
     let x = sss c in
     let y = sss d in
     let r : inFull (runOf t) ≡ inFull (runOf u) =
-    theory.local-sss (valuation t) (valuation u) (layoutOf (tree t)) (tree t) (agreed-scores x y h a)
+    theory.local-sss (valuation t) (valuation u) (tree t) (agreed-scores x y h a)
     ∙ ap (λ z. inFull (run (valuation u) z)) (one-tree x y h a) in
     let e : sssLeaves t ≡ sssLeaves u = ap (λ z. z .evaluated) r in
     let n = ap (λ z. z .replacements) r in (
@@ -154,9 +153,7 @@ ordered t =
 
 -- MTD and SSS* evaluate the same leaves in the same order
 pub one-order : (t : List ℕ) → WellFormed t → sssLeaves t ≡ mtdLeaves t
-one-order t wf =
-    let p = tree-proper t wf in
-    sss-mtd (valuation t) (tree t) (p .scored) (layoutOf (tree t)) (layout-own (tree t) (p .distinct)) (p .distinct)
+one-order t wf = sss-mtd (valuation t) (tree t) (tree-proper t wf)
 
 -- MTD's passes are those of its rule, and at most one more than there are different worths, as scores, among the
 -- evaluated leaves
@@ -171,10 +168,8 @@ passes {t} c =
 pub replacements : {t : List ℕ} {f : SssResult} (c : SssCall t (sss-answer.Found f))
     → (f .replacements ≡ runOf t .replacements) × (f .replacements < 2 * frames t)
 replacements {t} c =
-    let p = proper (view (sss c) .handed) in
     let n = ap (λ x. x .replacements) (sss-result c .found) in
-    let k = sss-replacements (valuation t) (tree t) (p .scored) (layoutOf (tree t))
-    (layout-own (tree t) (p .distinct)) in
+    let k = sss-replacements (valuation t) (tree t) (proper (view (sss c) .handed)) in
     (n, rw n (subst (λ m. runOf t .replacements < 2 * m) (tree-size t (formed (view (sss c) .handed))) k))
 
 -- and its list's first entries, one a node, are reset, and later ones are kept

@@ -15,7 +15,6 @@ use lib.ListN.{length, take}
 use borrow.Author.Tests.{lt-leb}
 use Rattle.lists.specs.Lists.{among, Once}
 use Rattle.gametree.specs.Tree.{least, minimax}
-use Rattle.gametree.specs.Layout.{layoutOf}
 use Rattle.gametree.specs.Sss.{State, stop, step, ListAfter}
 use Rattle.gametree_theory.proofs.Theorems as theory
 use Rattle.frames.specs.Frame.{frames}
@@ -26,7 +25,6 @@ use Rattle.frames.proofs.Acceptance.{accepted-formed}
 use Rattle.frames.proofs.Proper.{tree-proper}
 use Rattle.certificate.specs.Search.{searchRejection}
 use Rattle.sss.specs.Outcome.{runOf}
-use Rattle.sss.proofs.Replacements.{own}
 use Rattle.sss.proofs.Allowed.{full-value}
 use Rattle.demands.specs.Handed.{Marked}
 use Rattle.demands.specs.Searches.{EachSearch, EachSpent}
@@ -48,20 +46,20 @@ spent-listed =
 -- table, by any number of replacements, holds one, so also the one where an allowance ends the run (`CutShort`)
 module _ (t : List ℕ) (a : Accepted t) where
   abbrev After : ℕ → List ℕ → List State → Type 0
-  After k w L = ListAfter (valuation t) (layoutOf (tree t)) (tree t) k w L
+  After k w L = ListAfter (valuation t) (tree t) k w L
 
   pub state-held : {k : ℕ} {w : List ℕ} {L : List State} → After k w L → 0 < length L
   state-held r =
       let wf = accepted-formed t a in
-      theory.state-held (valuation t) (tree t) (tree-proper t wf .scored) (layoutOf (tree t)) (own t wf) r
+      theory.state-held (valuation t) (tree t) (tree-proper t wf) r
 
   -- and from it the root is taken, SOLVED, or a state is replaced, which leads to the next list
   pub held-until : {k : ℕ} {w : List ℕ} {L : List State} → After k w L
-      → ((v : ℕ) × (step (valuation t) (layoutOf (tree t)) L ≡ stop v))
+      → ((v : ℕ) × (step (valuation t) (tree t) L ≡ stop v))
       ⊎ ((v : List ℕ) × ((M : List State) × After (suc k) v M))
   held-until r =
       let wf = accepted-formed t a in
-      theory.held-until (valuation t) (tree t) (tree-proper t wf .scored) (layoutOf (tree t)) (own t wf) r
+      theory.held-until (valuation t) (tree t) (tree-proper t wf) r
 
   -- so the full run gives the value of the root, which is taken SOLVED, and not `least`, as for want of a state
   pub no-empty : (runOf t .value ≡ minimax (valuation t) (tree t)) × (least < runOf t .value)

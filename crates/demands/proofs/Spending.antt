@@ -10,7 +10,6 @@ use borrow.Author.Tests.{eq-eqb}
 use Rattle.lists.specs.Lists.{All, Once, among}
 use Rattle.gametree.specs.Tree.{leafCount}
 use Rattle.gametree.specs.AlphaBeta.{fullWindow}
-use Rattle.gametree.specs.Layout.{layoutOf}
 use Rattle.gametree.specs.Sss.{Evaluation}
 use Rattle.gametree.specs.engine.Within.{spent, sssWithin}
 use Rattle.gametree_theory.proofs.Searches.{bySss}
@@ -37,7 +36,6 @@ use Rattle.sss.specs.declared.SssAnswer.the-variants as sss-answer
 use Rattle.sss_states.specs.Entry.{blank}
 use Rattle.sss.specs.Outcome.{runOf, sssLeaves, sssSpent}
 use Rattle.sss.specs.engine.Invariant.{sssUncovered}
-use Rattle.sss.proofs.Replacements.{own}
 use Rattle.sss.proofs.Allowed.{by-allowance}
 use Rattle.demands.proofs.Calls.{stateLengths, SssCall}
 use Rattle.demands.specs.Handed.{Room, Marked, AgreeOnMarked}
@@ -51,7 +49,7 @@ module _ (t : List ℕ) (n : ℕ) where
   left-count : length (sssUncovered n t) ≡ length (sssLeaves t) - n
   left-count =
       length-drop n (runOf t .evaluations)
-      ∙ ap (λ k. k - n) (evaluations-count (valuation t) (tree t) (layoutOf (tree t)))
+      ∙ ap (λ k. k - n) (evaluations-count (valuation t) (tree t))
 
   -- where no evaluation is left, the full run needs no more leaves
   pub none-more : sssUncovered n t ≡ [] → length (sssLeaves t) ≤ n
@@ -65,7 +63,7 @@ module _ (t : List ℕ) (n : ℕ) where
     -- and the run within the allowance ends there
     pub run-is : sssWithin n (valuation t) (tree t)
         ≡ record { end = spent (x .merit); evaluated = firstLeaves; replacements = x .replacements }
-    run-is = spent-first (valuation t) (tree t) (layoutOf (tree t)) n x xs e
+    run-is = spent-first (valuation t) (tree t) n x xs e
 
   -- where it needs more, one is left
   pub more-left : n < length (sssLeaves t)
@@ -80,12 +78,12 @@ module _ (t : List ℕ) (n : ℕ) where
 module _ (t : List ℕ) (wf : WellFormed t) (n : ℕ) where
   -- they are the leaves of the run within the allowance
   leaves-are : sssWithin n (valuation t) (tree t) .evaluated ≡ firstLeaves t n
-  leaves-are = within-leaves (valuation t) (tree t) (tree-proper t wf .scored) (layoutOf (tree t)) (own t wf) n
+  leaves-are = within-leaves (valuation t) (tree t) (tree-proper t wf) n
 
   first-all : (P : ℕ → Type 0) → All P (sssLeaves t) → All P (firstLeaves t n)
   first-all P h =
       subst (All P) leaves-are
-      (within-all (valuation t) (tree t) (tree-proper t wf) (layoutOf (tree t)) (own t wf) n P h)
+      (within-all (valuation t) (tree t) (tree-proper t wf) n P h)
 
   -- each is a node without children
   pub leaves-hold : (P : ℕ → Type 0) → ((i : ℕ) → i < frames t → childCount t i ≡ 0 → P i) → All P (firstLeaves t n)
@@ -95,7 +93,7 @@ module _ (t : List ℕ) (wf : WellFormed t) (n : ℕ) where
   -- none stands twice among them
   pub first-once : Once (firstLeaves t n)
   first-once =
-      subst Once leaves-are (within-once (valuation t) (tree t) (tree-proper t wf) (layoutOf (tree t)) (own t wf) n)
+      subst Once leaves-are (within-once (valuation t) (tree t) (tree-proper t wf) n)
 
   -- as many of their marks are 1 as there are of them
   pub ones-within : (e : List ℕ) → ones (marksOf (firstLeaves t n) t e) (frames t) ≡ length (firstLeaves t n)
@@ -105,7 +103,7 @@ module _ (t : List ℕ) (wf : WellFormed t) (n : ℕ) where
       ones-leaves t wf (among w) (λ k _ p. all-at (λ k. childCount t k ≡ 0) w l k p) (marksOf w t e)
       (marked-written (among w) (frames t) e)
       ∙ subst (λ v. leafCount (among v) (tree t) ≡ length v) leaves-are
-      (within-marks (valuation t) (tree t) (tree-proper t wf) (layoutOf (tree t)) (own t wf) n)
+      (within-marks (valuation t) (tree t) (tree-proper t wf) n)
 
   -- each is one that Baudet's condition reaches
   pub run-reached : (k : ℕ) → among (firstLeaves t n) k ≡ true → among (reachedLeaves t) k ≡ true
@@ -113,14 +111,14 @@ module _ (t : List ℕ) (wf : WellFormed t) (n : ℕ) where
       all-at (λ k. among (reachedLeaves t) k ≡ true) (firstLeaves t n)
       (subst (λ v. All (λ k. among v k ≡ true) (firstLeaves t n)) (alphaBeta-leaves (valuation t) (tree t))
       (subst (All (λ k. among (fullWindow (valuation t) (tree t) .evaluated) k ≡ true)) leaves-are
-      (within-dominated (valuation t) (tree t) (tree-proper t wf) (layoutOf (tree t)) (own t wf) n)))
+      (within-dominated (valuation t) (tree t) (tree-proper t wf) n)))
 
   -- a table of one shape that agrees on them has the same run within the allowance
   pub run-local : (u : List ℕ) → WellFormed u → SameShape t u
       → ((k : ℕ) → k < frames t → among (firstLeaves t n) k ≡ true → valuation t k ≡ valuation u k)
       → sssWithin n (valuation t) (tree t) ≡ sssWithin n (valuation u) (tree u)
   run-local u wu h same =
-      local-within n (valuation t) (valuation u) (layoutOf (tree t)) (tree t)
+      local-within n (valuation t) (valuation u) (tree t)
       (subst (All (λ k. valuation t k ≡ valuation u k)) (sym leaves-are)
       (all-zip _ _ _ (λ k i j. same k i j) (firstLeaves t n) (leaves-hold (λ k. k < frames t) (λ i j _. j))
       (all-among (firstLeaves t n))))

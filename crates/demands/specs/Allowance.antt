@@ -3,7 +3,6 @@ use Prim.Native.Nat.{ℕ}
 use mathlib.Core.Path.{_≡_}
 use mathlib.Core.List.{List}
 use lib.ListN.{length}
-use Rattle.gametree.specs.Layout.{layoutOf}
 use Rattle.gametree.specs.Sss.{State, takenMerit, evaluating, step, ListAfter}
 use Rattle.frames.specs.Tree.{tree, valuation}
 use Rattle.frames.specs.Value.{valueOf}
@@ -16,7 +15,7 @@ pub record CutShort (t : List ℕ) (s : Spent) : Type 0 where
   pub states : List State
   pub leaf : ℕ
   pub next : List State
-  pub reached : ListAfter (valuation t) (layoutOf (tree t)) (tree t) (s .replacements) evaluated states
-  pub evaluates : step (valuation t) (layoutOf (tree t)) states ≡ evaluating leaf next
+  pub reached : ListAfter (valuation t) (tree t) (s .replacements) evaluated states
+  pub evaluates : step (valuation t) (tree t) states ≡ evaluating leaf next
   pub leaves : s .leaves ≡ length evaluated
-  pub merit : s .merit ≡ valueOf (takenMerit (layoutOf (tree t)) states)
+  pub merit : s .merit ≡ valueOf (takenMerit (tree t) states)

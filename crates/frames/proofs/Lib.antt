@@ -13,7 +13,7 @@ pub mod Proper
 pub mod Shapes
 pub mod OtherValues
 pub mod Leaves
-pub mod Layouts
+pub mod Links
 pub mod Stated
 pub mod Asked
 pub mod Acceptance

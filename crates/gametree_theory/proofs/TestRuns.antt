@@ -14,7 +14,6 @@ use Rattle.gametree.specs.declared.Side.the-variants.{Max, Min}
 use Rattle.gametree.specs.Tree.{Tree, least, greatest, minimax, leaves, Scored, Proper}
 use Rattle.gametree.specs.Bounds.{low, high, Decided}
 use Rattle.gametree.specs.AlphaBeta.{alphaBeta, fullWindow}
-use Rattle.gametree.specs.Layout.{layoutOf}
 use Rattle.gametree.specs.Certificate.{pairLeaves, chosen, flag, Smallest}
 use Rattle.gametree.specs.Move.{rootMove, boundMove}
 use Rattle.gametree.specs.results.Mirror.{mirror, mirrored, oppositeTest}
@@ -29,7 +28,7 @@ use Rattle.gametree_theory.proofs.certificates.Flags.{FlagsCertify, dec
 use Rattle.gametree_theory.proofs.certificates.SmallestPair.{smallest≤}
 use Rattle.gametree_theory.proofs.Searches.{sssEvaluated}
 use Rattle.gametree_theory.proofs.sss.Run.{sss-is-mtd}
-use Rattle.gametree_theory.proofs.Theorems.{alphaBeta-leaves, layout-own}
+use Rattle.gametree_theory.proofs.Theorems.{alphaBeta-leaves}
 use Rattle.gametree_theory.proofs.tests.Answer.{test-answer}
 use Rattle.gametree_theory.proofs.tests.Leaves.{New, test-dominated, test-once}
 use Rattle.gametree_theory.proofs.tests.Progress.{confirmed-low, confirmed-high, test-confirmed}
@@ -227,7 +226,7 @@ module _ (ν : ℕ → ℕ) (t : Tree) (r : Proper ν t) where
   pub falling-sss : All (λ k. among (sssEvaluated ν t) k ≡ true) (searchBy falling ν t .evaluated)
   falling-sss =
       subst (λ w. All (λ k. among w k ≡ true) (searchBy falling ν t .evaluated))
-      (sym (sss-is-mtd ν (layoutOf t) t (layout-own t (r .distinct)) (r .scored) .leaves-are)) (falling-mtd ν t r)
+      (sym (sss-is-mtd ν t r .leaves-are)) (falling-mtd ν t r)
 
   -- so no more than SSS*
   pub falling-count : length (searchBy falling ν t .evaluated) ≤ length (sssEvaluated ν t)
@@ -239,8 +238,7 @@ module _ (ν : ℕ → ℕ) (t : Tree) (r : Proper ν t) where
   pub falling-decides-sss : All (λ k. among (sssEvaluated ν t) k ≡ true) (mtdf greatest ν t .evaluated)
   falling-decides-sss =
       subst (λ w. All (λ k. among w k ≡ true) (mtdf greatest ν t .evaluated))
-      (sym (sss-is-mtd ν (layoutOf t) t (layout-own t (r .distinct)) (r .scored) .leaves-are))
-      (falling-decides-mtd ν t r)
+      (sym (sss-is-mtd ν t r .leaves-are)) (falling-decides-mtd ν t r)
 
 -- DUAL*, from `least`, evaluates only leaves that SSS* evaluates in the game with the sides exchanged
 pub rising-sss : (ν : ℕ → ℕ) (t : Tree) → Proper ν t

@@ -18,12 +18,9 @@ use Rattle.gametree.specs.Bounds.{known, low, high, bestOf, Decided}
 use Rattle.gametree.specs.AlphaBeta.{reached, fullWindow}
 use Rattle.gametree.specs.Mtd.{mtd}
 use Rattle.gametree.specs.engine.Memo.{fresh, memoMtd, withoutMemo}
-use Rattle.gametree.specs.Layout.{Layout, layoutOf}
-use Rattle.gametree_theory.proofs.sss.Described.{Describes}
 use Rattle.gametree.specs.Sss.{takenMerit, State, Step, empty, stop, quiet, evaluating, replace, step}
-use Rattle.gametree.specs.Sss.{runFrom, start, ListAfter, afterQuiet, afterEvaluating}
+use Rattle.gametree.specs.Sss.{runFrom, start, sss, ListAfter, afterQuiet, afterEvaluating}
 use Rattle.gametree.specs.engine.Within.{resumed, inFull}
-use Rattle.gametree.specs.engine.OverLayout.{runOver, sssOver}
 use Rattle.gametree.specs.Tests.{Strategy}
 use Rattle.gametree.specs.FirstMove.{decideBy}
 use Rattle.gametree.specs.Certificate.{Rule, SolutionTree, solutionValue, Certifies, pairLeaves, chosen}
@@ -50,7 +47,7 @@ use Rattle.gametree_theory.proofs.sss.Work.{full-size}
 use Rattle.gametree_theory.proofs.sss.Run.{sss-is-mtd}
 use Rattle.gametree_theory.proofs.results.Merits.{list-unique, run-falls, first-merit}
 use Rattle.gametree_theory.proofs.sss.Lists.{list-reached, resume}
-use Rattle.gametree_theory.proofs.sss.OwnLayout.{own-layout}
+use Rattle.gametree_theory.proofs.sss.OwnNodes.{own-answers}
 use Rattle.gametree_theory.proofs.sss.Fronts.{Front}
 use Rattle.gametree_theory.proofs.allowance.Ending.{never-empty}
 use Rattle.gametree_theory.proofs.allowance.Local.{runFrom-local}
@@ -105,27 +102,23 @@ mtd-passes ν t h = rw (memo-run ν t (h .distinct)) (passes-few ν t h)
 
 -- SSS*
 
--- a tree with distinct numbers is described by its own layout, so what follows holds of `sss`
-pub layout-own : (t : Tree) → Distinct t → Describes (layoutOf t) t
-layout-own t d = own-layout t d
-
-module _ (ν : ℕ → ℕ) (t : Tree) (h : Scored ν t) (Y : Layout) (d : Describes Y t) where
+module _ (ν : ℕ → ℕ) (t : Tree) (h : Proper ν t) where
   -- SSS* gives the minimax value
-  pub sss-minimax : runOver ν Y t .value ≡ minimax ν t
-  sss-minimax = sss-is-mtd ν Y t d h .value-is
+  pub sss-minimax : sss ν t .value ≡ minimax ν t
+  sss-minimax = sss-is-mtd ν t h .value-is
 
   -- it evaluates the leaves that MTD evaluates, in the same order
-  pub sss-mtd : Distinct t → sssOver ν Y t .evaluated ≡ mtd ν t .evaluated
-  sss-mtd u = sss-is-mtd ν Y t d h .leaves-are ∙ sym (ap (λ q. q .evaluated) (memo-run ν t u))
+  pub sss-mtd : sssEvaluated ν t ≡ mtd ν t .evaluated
+  sss-mtd = sss-is-mtd ν t h .leaves-are ∙ sym (ap (λ q. q .evaluated) (memo-run ν t (h .distinct)))
 
   -- it makes at most twice as many replacements as there are nodes, less 1
-  pub sss-replacements : sssOver ν Y t .replacements < 2 * size t
-  sss-replacements = lt-of-le-of-lt (sss-is-mtd ν Y t d h .replaced) (full-size t)
+  pub sss-replacements : sss ν t .replacements < 2 * size t
+  sss-replacements = lt-of-le-of-lt (sss-is-mtd ν t h .replaced) (full-size t)
 
-  module _ {k : ℕ} {w : List ℕ} {L : List State} (r : ListAfter ν Y t k w L) where
+  module _ {k : ℕ} {w : List ℕ} {L : List State} (r : ListAfter ν t k w L) where
     -- a list that it reaches is a front of the tree
     pub list-front : Front t L
-    list-front = front-reached ν Y t d r
+    list-front = front-reached ν t (own-answers t (h .distinct)) r
 
     -- so it holds a state
     pub state-held : 0 < length L
@@ -143,50 +136,50 @@ module _ (ν : ℕ → ℕ) (t : Tree) (h : Scored ν t) (Y : Layout) (d : Descr
     -- and the first of greatest merit is the one that the rule takes
     pub list-first : (A : List State) (s : State) (B : List State) → L ≡ A ++ (s ∷ B)
         → All (λ x. x .merit < s .merit) A → All (λ x. x .merit ≤ s .merit) B
-        → step ν Y L ≡ replace ν Y (record { left = A; state = s; right = B }) (s .status)
-    list-first A s B e l g = rw e (front-taken ν Y t d A s B (rw e at list-front) l g)
+        → step ν t L ≡ replace ν t (record { left = A; state = s; right = B }) (s .status)
+    list-first A s B e l g = rw e (front-taken ν t (own-answers t (h .distinct)) A s B (rw e at list-front) l g)
 
     -- fewer replacements than twice the number of nodes led to it
     pub list-few : k < 2 * size t
-    list-few = list-reached ν Y t d h r .atMost
+    list-few = list-reached ν t h r .atMost
 
     -- from it the root is taken, SOLVED, or a state is replaced, which leads to the next list
-    pub held-until : ((v : ℕ) × (step ν Y L ≡ stop v))
-        ⊎ ((v : List ℕ) × ((M : List State) × ListAfter ν Y t (suc k) v M))
-    held-until = by-step (step ν Y L) refl
+    pub held-until : ((v : ℕ) × (step ν t L ≡ stop v))
+        ⊎ ((v : List ℕ) × ((M : List State) × ListAfter ν t (suc k) v M))
+    held-until = by-step (step ν t L) refl
       where
-        by-step : (x : Step) → step ν Y L ≡ x
-            → ((v : ℕ) × (step ν Y L ≡ stop v)) ⊎ ((v : List ℕ) × ((M : List State) × ListAfter ν Y t (suc k) v M))
-        by-step empty e = absurd (never-empty ν t h Y d r e)
+        by-step : (x : Step) → step ν t L ≡ x
+            → ((v : ℕ) × (step ν t L ≡ stop v)) ⊎ ((v : List ℕ) × ((M : List State) × ListAfter ν t (suc k) v M))
+        by-step empty e = absurd (never-empty ν t h r e)
         by-step (stop v) e = inl (v, e)
         by-step (quiet M) e = inr (w, (M, afterQuiet r e))
         by-step (evaluating n M) e = inr (w ++ (n ∷ []), (M, afterEvaluating r e))
 
     -- the merit of the state taken from it is not below the minimax value
-    pub merit-bound : minimax ν t ≤ takenMerit Y L
-    merit-bound = list-reached ν Y t d h r .merit
+    pub merit-bound : minimax ν t ≤ takenMerit t L
+    merit-bound = list-reached ν t h r .merit
 
     -- and is `greatest` until a leaf is evaluated
-    pub merit-start : length w ≡ 0 → takenMerit Y L ≡ greatest
-    merit-start e = first-merit ν Y t L r e state-held
+    pub merit-start : length w ≡ 0 → takenMerit t L ≡ greatest
+    merit-start e = first-merit ν t L r e state-held
 
     -- the leaves so far are the first of the whole run's list
-    pub list-prefix : (u : List ℕ) × (w ++ u ≡ sssOver ν Y t .evaluated)
-    list-prefix = let a = list-reached ν Y t d h r in (a .toCome, a .whole ∙ sym (sss-is-mtd ν Y t d h .leaves-are))
+    pub list-prefix : (u : List ℕ) × (w ++ u ≡ sssEvaluated ν t)
+    list-prefix = let a = list-reached ν t h r in (a .toCome, a .whole ∙ sym (sss-is-mtd ν t h .leaves-are))
 
     -- and the run goes on from it, for what is left of the bound on states taken
-    pub list-resumes : (f : ℕ) → k + f ≡ 2 * size t → sssOver ν Y t ≡ resumed w (inFull (runFrom ν Y f k L))
-    list-resumes f e = resume ν Y t r f e
+    pub list-resumes : (f : ℕ) → k + f ≡ 2 * size t → inFull (sss ν t) ≡ resumed w (inFull (runFrom ν t f k L))
+    list-resumes f e = resume ν t r f e
 
 -- the list after a number of replacements is determined, and so are the leaves that they evaluated
-pub list-determined : (ν : ℕ → ℕ) (Y : Layout) (t : Tree) {k : ℕ} {w v : List ℕ} {L M : List State}
-    → ListAfter ν Y t k w L → ListAfter ν Y t k v M → (w ≡ v) × (L ≡ M)
-list-determined ν Y t r q = list-unique ν Y t r q
+pub list-determined : (ν : ℕ → ℕ) (t : Tree) {k : ℕ} {w v : List ℕ} {L M : List State}
+    → ListAfter ν t k w L → ListAfter ν t k v M → (w ≡ v) × (L ≡ M)
+list-determined ν t r q = list-unique ν t r q
 
 -- the merit of the state taken never rises along a run
-pub merit-falls : (ν : ℕ → ℕ) (Y : Layout) (t : Tree) {k j : ℕ} {w v : List ℕ} {L M : List State}
-    → ListAfter ν Y t k w L → ListAfter ν Y t j v M → k ≤ j → takenMerit Y M ≤ takenMerit Y L
-merit-falls ν Y t r q h = run-falls ν Y t r q h
+pub merit-falls : (ν : ℕ → ℕ) (t : Tree) {k j : ℕ} {w v : List ℕ} {L M : List State}
+    → ListAfter ν t k w L → ListAfter ν t j v M → k ≤ j → takenMerit t M ≤ takenMerit t L
+merit-falls ν t r q h = run-falls ν t r q h
 
 -- CERTIFICATES
 
@@ -228,7 +221,7 @@ module _ (ν : ℕ → ℕ) (t : Tree) (r : Proper ν t) where
   as-mtd P x = subst P (sym (ap (λ q. q .evaluated) (memo-run ν t (r .distinct)))) x
 
   as-sss : (P : List ℕ → Type 0) → P (memoMtd ν t .evaluated) → P (sssEvaluated ν t)
-  as-sss P x = subst P (sym (sss-is-mtd ν (layoutOf t) t (layout-own t (r .distinct)) (r .scored) .leaves-are)) x
+  as-sss P x = subst P (sym (sss-is-mtd ν t r .leaves-are)) x
 
   -- the bounds of the leaves that a search evaluates meet at the minimax value
   pub search-decides : {w : List ℕ} → Searched ν t w → Decided ν (among w) t
@@ -331,9 +324,9 @@ local-mtd ν μ t d a =
     memo-run ν t d ∙ ap (withoutMemo t) (local-memo ν μ t (rw (memo-run ν t d) at a)) ∙ sym (memo-run μ t d)
 
 -- SSS* gives the same value, list and replacements
-pub local-sss : (ν μ : ℕ → ℕ) (Y : Layout) (t : Tree) → All (λ k. ν k ≡ μ k) (sssOver ν Y t .evaluated)
-    → sssOver ν Y t ≡ sssOver μ Y t
-local-sss ν μ Y t a = runFrom-local ν μ Y (2 * size t) 0 (start t) a
+pub local-sss : (ν μ : ℕ → ℕ) (t : Tree) → All (λ k. ν k ≡ μ k) (sssEvaluated ν t)
+    → inFull (sss ν t) ≡ inFull (sss μ t)
+local-sss ν μ t a = runFrom-local ν μ t (2 * size t) 0 (start t) a
 
 -- a search made of tests gives the same value, move, list and number of tests
 pub local-decide : (σ : Strategy) (ν μ : ℕ → ℕ) (t : Tree) → All (λ k. ν k ≡ μ k) (decideBy σ ν t .evaluated)
@@ -346,7 +339,7 @@ pub local-search : (ν μ : ℕ → ℕ) (t : Tree) → Distinct t → {w : List
 local-search ν μ t d byAlphaBeta a =
     subst (λ x. Searched μ t (x .evaluated)) (sym (local-alphaBeta ν μ t a)) byAlphaBeta
 local-search ν μ t d byMtd a = subst (λ x. Searched μ t (x .evaluated)) (sym (local-mtd ν μ t d a)) byMtd
-local-search ν μ t d bySss a = subst (λ x. Searched μ t (x .evaluated)) (sym (local-sss ν μ (layoutOf t) t a)) bySss
+local-search ν μ t d bySss a = subst (λ x. Searched μ t (x .evaluated)) (sym (local-sss ν μ t a)) bySss
 local-search ν μ t d (byTests σ) a =
     subst (λ x. Searched μ t (x .evaluated)) (sym (local-decide σ ν μ t a)) (byTests σ)
 

@@ -1,6 +1,6 @@
--- SSS*: layouts, steps, that it does what MTD does, and the lists that it reaches.
+-- SSS*: what a tree answers, steps, that it does what MTD does, and the lists that it reaches.
 pub mod Described
-pub mod OwnLayout
+pub mod OwnNodes
 pub mod Steps
 pub mod Frontier
 pub mod Around

@@ -8,7 +8,6 @@ use mathlib.Core.List.{List, [], _∷_}
 use lib.ListN.{length, drop-of-length-le}
 use Rattle.lists.specs.Lists.{All}
 use Rattle.gametree.specs.Tree.{minimax}
-use Rattle.gametree.specs.Layout.{layoutOf}
 use Rattle.gametree.specs.Sss.{Evaluation}
 use Rattle.gametree.specs.engine.Within.{Ran, finished, spent, inFull, sssWithin}
 use Rattle.lists.proofs.Choice.{clash}
@@ -34,7 +33,6 @@ use Rattle.sss.specs.declared.SssAnswer.the-variants.{Found as FoundAnsw
 use Rattle.sss.specs.declared.SssAnswer.the-variants.{Rejected as RejectedAnswer}
 use Rattle.sss.specs.Outcome.{runOf, sssLeaves, sssFound, sssSpent, givenBy, sssGiven}
 use Rattle.sss.specs.engine.Invariant.{sssUncovered}
-use Rattle.sss.proofs.Replacements.{own}
 
 module _ (t : List ℕ) (wf : WellFormed t) where
   pub searched : Searched (valuation t) (tree t) (sssLeaves t)
@@ -45,12 +43,11 @@ module _ (t : List ℕ) (wf : WellFormed t) where
 
   -- the full run gives the minimax value
   pub full-value : runOf t .value ≡ minimax (valuation t) (tree t)
-  full-value = sss-minimax (valuation t) (tree t) (tree-proper t wf .scored) (layoutOf (tree t)) (own t wf)
+  full-value = sss-minimax (valuation t) (tree t) (tree-proper t wf)
 
   -- it evaluates no more leaves than there are nodes
   pub leaves-few : length (sssLeaves t) ≤ frames t
-  leaves-few =
-      omega (arith, full-few (valuation t) (tree t) (tree-proper t wf) (layoutOf (tree t)) (own t wf), tree-size t wf)
+  leaves-few = omega (arith, full-few (valuation t) (tree t) (tree-proper t wf), tree-size t wf)
 
   module _ (a : ℕ) where
     abbrev within : Ran
@@ -59,13 +56,11 @@ module _ (t : List ℕ) (wf : WellFormed t) where
     -- an allowance of as many leaves as the full run evaluates, or more, covers them all
     pub enough : length (sssLeaves t) ≤ a → sssUncovered a t ≡ []
     enough h =
-        drop-of-length-le (runOf t .evaluations) {i = a}
-        (omega (arith, evaluations-count (valuation t) (tree t) (layoutOf (tree t))))
+        drop-of-length-le (runOf t .evaluations) {i = a} (omega (arith, evaluations-count (valuation t) (tree t)))
 
     -- with a value the run is the full run, and the value is the minimax value
     pub value-full : {v : ℕ} → within .end ≡ finished v → within ≡ inFull (runOf t)
-    value-full {v} e =
-        within-value (valuation t) (tree t) (tree-proper t wf .scored) (layoutOf (tree t)) (own t wf) a v e
+    value-full {v} e = within-value (valuation t) (tree t) (tree-proper t wf) a v e
 
     pub value-minimax : {v : ℕ} → within .end ≡ finished v → v ≡ minimax (valuation t) (tree t)
     value-minimax e = cc (e, ap (λ r. r .end) (value-full e), full-value)
@@ -73,8 +68,7 @@ module _ (t : List ℕ) (wf : WellFormed t) where
     -- its leaves lie within the table
     pub leaves-within : All (λ k. k < frames t) (within .evaluated)
     leaves-within =
-        within-all (valuation t) (tree t) (tree-proper t wf) (layoutOf (tree t)) (own t wf) a (λ k. k < frames t)
-        (evaluated-within t wf decides)
+        within-all (valuation t) (tree t) (tree-proper t wf) a (λ k. k < frames t) (evaluated-within t wf decides)
 
     -- where it ends with a value, the allowance covers all evaluations
     pub finished-covered : {v : ℕ} → within .end ≡ finished v → sssUncovered a t ≡ []
@@ -83,7 +77,7 @@ module _ (t : List ℕ) (wf : WellFormed t) where
         by-left : (xs : List Evaluation) → sssUncovered a t ≡ xs → sssUncovered a t ≡ []
         by-left [] i = i
         by-left (x ∷ xs) i =
-            let s = spent-first (valuation t) (tree t) (layoutOf (tree t)) a x xs i in
+            let s = spent-first (valuation t) (tree t) a x xs i in
             clash (cc (e, ap (λ r. r .end) s))
 
     module _ (b : Buffers) (o : List ℕ) where
@@ -106,13 +100,11 @@ module _ (t : List ℕ) (wf : WellFormed t) where
           where
             by-left : (xs : List Evaluation) → sssUncovered a t ≡ xs → givenBy xs a t b o ≡ Spending
             by-left [] i =
-                let f = covered-full (valuation t) (tree t) (layoutOf (tree t)) a i in
+                let f = covered-full (valuation t) (tree t) a i in
                 clash (cc (ap (λ r. r .end) h, ap (λ r. r .end) f))
             by-left (x ∷ xs) i =
-                let s = sym (spent-first (valuation t) (tree t) (layoutOf (tree t)) a x xs i) ∙ h in
-                let n =
-                within-count (valuation t) (tree t) (tree-proper t wf .scored) (layoutOf (tree t)) (own t wf) a m
-                (ap (λ r. r .end) h) in
+                let s = sym (spent-first (valuation t) (tree t) a x xs i) ∙ h in
+                let n = within-count (valuation t) (tree t) (tree-proper t wf) a m (ap (λ r. r .end) h) in
                 let l : a ≡ length w = sym n ∙ ap (λ r. length (r .evaluated)) h in
                 let y : x .merit ≡ m = cc (ap (λ r. r .end) s) in
                 rw (y, ap (λ r. r .replacements) s, ap (λ r. r .evaluated) s, ← l) refl

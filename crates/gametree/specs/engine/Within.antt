@@ -4,7 +4,6 @@
 use Prim.Native.Nat.{ℕ, zero, suc, _*_}
 use mathlib.Core.List.{List, [], _∷_, _++_, map}
 use Rattle.gametree.specs.Tree.{Tree, least, size}
-use Rattle.gametree.specs.Layout.{Layout, layoutOf}
 use Rattle.gametree.specs.Sss.{State, takenMerit, Step, empty, stop, quiet, evaluating, step, SssRun, start}
 
 -- how it ends: with a value, as the full run does, or before a leaf that its allowance does not cover, with the merit
@@ -47,14 +46,10 @@ followWithin (evaluating n M) (suc a) k m rest = resumed (n ∷ []) (rest a M)
 
 -- the run from a list after k replacements with an allowance of a leaves; the first number bounds the states taken, as
 -- in `runFrom`
-abbrev pub runWithin : (ℕ → ℕ) → Layout → ℕ → (a k : ℕ) → List State → Ran
-runWithin ν Y zero a k L = ends (finished least) k
-runWithin ν Y (suc f) a k L = followWithin (step ν Y L) a k (takenMerit Y L) (λ b M. runWithin ν Y f b (suc k) M)
+abbrev pub runWithin : (ℕ → ℕ) → Tree → ℕ → (a k : ℕ) → List State → Ran
+runWithin ν t zero a k L = ends (finished least) k
+runWithin ν t (suc f) a k L = followWithin (step ν t L) a k (takenMerit t L) (λ b M. runWithin ν t f b (suc k) M)
 
--- SSS* within an allowance of a leaves, over a layout of the tree
-abbrev pub sssWithinOver : (a : ℕ) → (ℕ → ℕ) → Layout → Tree → Ran
-sssWithinOver a ν Y t = runWithin ν Y (2 * size t) a 0 (start t)
-
--- and on a tree
+-- SSS* within an allowance of a leaves
 abbrev pub sssWithin : (a : ℕ) → (ℕ → ℕ) → Tree → Ran
-sssWithin a ν t = sssWithinOver a ν (layoutOf t) t
+sssWithin a ν t = runWithin ν t (2 * size t) a 0 (start t)

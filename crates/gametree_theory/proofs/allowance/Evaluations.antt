@@ -4,7 +4,7 @@ use Prim.Native.Nat.{ℕ, zero, suc}
 use mathlib.Core.Path.{_≡_, refl}
 use mathlib.Core.List.{List, [], _∷_}
 use lib.ListN.{take, drop}
-use Rattle.gametree.specs.Layout.{Layout}
+use Rattle.gametree.specs.Tree.{Tree}
 use Rattle.gametree.specs.Sss.{State, takenMerit, Step, empty, stop, quiet, evaluating, step, Evaluation, SssRun}
 use Rattle.gametree.specs.Sss.{follow, runFrom}
 use Rattle.gametree.specs.engine.Within.{Ran, spent, inFull, followWithin, runWithin}
@@ -41,19 +41,19 @@ module _ (k m : ℕ) (full : List State → SssRun) (part : ℕ → List State �
           let y : _≡_ {A = Evaluation} (record { leaf = n; merit = m; replacements = k }) x = cc in rw (← y) refl
       spent-by (evaluating n M) (suc a) h = rw (e a M h) refl
 
-module _ (ν : ℕ → ℕ) (Y : Layout) where
-  pub run-covered : (f k a : ℕ) (L : List State) → drop a (runFrom ν Y f k L .evaluations) ≡ []
-      → runWithin ν Y f a k L ≡ inFull (runFrom ν Y f k L)
+module _ (ν : ℕ → ℕ) (t : Tree) where
+  pub run-covered : (f k a : ℕ) (L : List State) → drop a (runFrom ν t f k L .evaluations) ≡ []
+      → runWithin ν t f a k L ≡ inFull (runFrom ν t f k L)
   run-covered zero k a L h = refl
   run-covered (suc f) k a L h =
-      covered-by k (takenMerit Y L) (λ M. runFrom ν Y f (suc k) M) (λ b M. runWithin ν Y f b (suc k) M)
-      (λ b M i. run-covered f (suc k) b M i) (step ν Y L) a h
+      covered-by k (takenMerit t L) (λ M. runFrom ν t f (suc k) M) (λ b M. runWithin ν t f b (suc k) M)
+      (λ b M i. run-covered f (suc k) b M i) (step ν t L) a h
 
   pub run-spent : (f k a : ℕ) (L : List State) (x : Evaluation) (xs : List Evaluation)
-      → drop a (runFrom ν Y f k L .evaluations) ≡ x ∷ xs
-      → runWithin ν Y f a k L ≡ spentAt a (runFrom ν Y f k L) x
+      → drop a (runFrom ν t f k L .evaluations) ≡ x ∷ xs
+      → runWithin ν t f a k L ≡ spentAt a (runFrom ν t f k L) x
   run-spent zero k zero L x xs h = clash (cc)
   run-spent zero k (suc a) L x xs h = clash (cc)
   run-spent (suc f) k a L x xs h =
-      spent-by k (takenMerit Y L) (λ M. runFrom ν Y f (suc k) M) (λ b M. runWithin ν Y f b (suc k) M) x xs
-      (λ b M i. run-spent f (suc k) b M x xs i) (step ν Y L) a h
+      spent-by k (takenMerit t L) (λ M. runFrom ν t f (suc k) M) (λ b M. runWithin ν t f b (suc k) M) x xs
+      (λ b M i. run-spent f (suc k) b M x xs i) (step ν t L) a h

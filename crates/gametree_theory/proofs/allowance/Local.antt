@@ -7,7 +7,7 @@ use lib.ListN.{length, drop, drop-of-length-le}
 use Rattle.lists.specs.Lists.{All}
 use Rattle.gametree.specs.declared.Side.the-variants.{Max, Min}
 use Rattle.gametree.specs.Tree.{Tree, leaf, inner}
-use Rattle.gametree.specs.Layout.{Layout}
+use Rattle.gametree.specs.Nodes.{subtreeAt}
 use Rattle.gametree.specs.Sss.{Status, LIVE, SOLVED, State, Taken, pick, Step, empty, stop, quiet, evaluating}
 use Rattle.gametree.specs.Sss.{solved, put, replaceLive, replace, step, takenMerit, Evaluation, runFrom}
 use Rattle.gametree.specs.engine.Within.{Ran, inFull, followWithin, runWithin}
@@ -26,13 +26,13 @@ module _ (ν μ : ℕ → ℕ) where
   live-near k (inner n Max ks) = same
   live-near k (inner n Min ks) = same
 
-  replace-near : (Y : Layout) (k : Taken) (u : Status) → Near (replace ν Y k u) (replace μ Y k u)
-  replace-near Y k LIVE = live-near k (Y .subtree (k .state .node))
-  replace-near Y k SOLVED = same
+  replace-near : (T : Tree) (k : Taken) (u : Status) → Near (replace ν T k u) (replace μ T k u)
+  replace-near T k LIVE = live-near k (subtreeAt (k .state .node) T)
+  replace-near T k SOLVED = same
 
-  step-near : (Y : Layout) (L : List State) → Near (step ν Y L) (step μ Y L)
-  step-near Y [] = same
-  step-near Y (s ∷ ss) = replace-near Y (pick Y s ss) (pick Y s ss .state .status)
+  step-near : (T : Tree) (L : List State) → Near (step ν T L) (step μ T L)
+  step-near T [] = same
+  step-near T (s ∷ ss) = replace-near T (pick T s ss) (pick T s ss .state .status)
 
   abbrev Agreed : List ℕ → Type 0
   Agreed w = All (λ n. ν n ≡ μ n) w
@@ -54,27 +54,27 @@ module _ (ν μ : ℕ → ℕ) where
         rw (← i (h .0)) (follow-same (evaluating n M) (suc a) k m h)
 
   -- a run gives the same under valuations that agree on the leaves that it evaluates
-  pub runWithin-local : (Y : Layout) (f a k : ℕ) (L : List State) → Agreed (runWithin ν Y f a k L .evaluated)
-      → runWithin ν Y f a k L ≡ runWithin μ Y f a k L
-  runWithin-local Y zero a k L h = refl
-  runWithin-local Y (suc f) a k L h =
-      follow-near (λ b M. runWithin ν Y f b (suc k) M) (λ b M. runWithin μ Y f b (suc k) M)
-      (λ b M i. runWithin-local Y f b (suc k) M i) (step-near Y L) a k (takenMerit Y L) h
+  pub runWithin-local : (T : Tree) (f a k : ℕ) (L : List State) → Agreed (runWithin ν T f a k L .evaluated)
+      → runWithin ν T f a k L ≡ runWithin μ T f a k L
+  runWithin-local T zero a k L h = refl
+  runWithin-local T (suc f) a k L h =
+      follow-near (λ b M. runWithin ν T f b (suc k) M) (λ b M. runWithin μ T f b (suc k) M)
+      (λ b M i. runWithin-local T f b (suc k) M i) (step-near T L) a k (takenMerit T L) h
 
   -- so does the full run, which is the run within an allowance that covers it
-  pub runFrom-local : (Y : Layout) (f k : ℕ) (L : List State) → Agreed (inFull (runFrom ν Y f k L) .evaluated)
-      → inFull (runFrom ν Y f k L) ≡ inFull (runFrom μ Y f k L)
-  runFrom-local Y f k L h = by-left (drop a (runFrom μ Y f k L .evaluations)) refl
+  pub runFrom-local : (T : Tree) (f k : ℕ) (L : List State) → Agreed (inFull (runFrom ν T f k L) .evaluated)
+      → inFull (runFrom ν T f k L) ≡ inFull (runFrom μ T f k L)
+  runFrom-local T f k L h = by-left (drop a (runFrom μ T f k L .evaluations)) refl
     where
       a : ℕ
-      a = length (runFrom ν Y f k L .evaluations)
+      a = length (runFrom ν T f k L .evaluations)
 
-      as-within : inFull (runFrom ν Y f k L) ≡ runWithin μ Y f a k L
+      as-within : inFull (runFrom ν T f k L) ≡ runWithin μ T f a k L
       as-within =
-          let c = run-covered ν Y f k a L (drop-of-length-le (runFrom ν Y f k L .evaluations) {i = a} (le-refl a)) in
-          sym c ∙ runWithin-local Y f a k L (subst (λ r. Agreed (r .evaluated)) (sym c) h)
+          let c = run-covered ν T f k a L (drop-of-length-le (runFrom ν T f k L .evaluations) {i = a} (le-refl a)) in
+          sym c ∙ runWithin-local T f a k L (subst (λ r. Agreed (r .evaluated)) (sym c) h)
 
-      by-left : (xs : List Evaluation) → drop a (runFrom μ Y f k L .evaluations) ≡ xs
-          → inFull (runFrom ν Y f k L) ≡ inFull (runFrom μ Y f k L)
-      by-left [] i = as-within ∙ run-covered μ Y f k a L i
-      by-left (x ∷ xs) i = clash (cc (ap (λ r. r .end) (as-within ∙ run-spent μ Y f k a L x xs i)))
+      by-left : (xs : List Evaluation) → drop a (runFrom μ T f k L .evaluations) ≡ xs
+          → inFull (runFrom ν T f k L) ≡ inFull (runFrom μ T f k L)
+      by-left [] i = as-within ∙ run-covered μ T f k a L i
+      by-left (x ∷ xs) i = clash (cc (ap (λ r. r .end) (as-within ∙ run-spent μ T f k a L x xs i)))

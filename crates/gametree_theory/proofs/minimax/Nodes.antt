@@ -10,7 +10,7 @@ use Rattle.lists.specs.Lists.{All, among, Once}
 use Rattle.gametree.specs.Tree.{Tree, leaf, inner, Children, last, _then_, number, leaves, leavesChildren, In}
 use Rattle.gametree.specs.Tree.{InChildren, nodes, nodesChildren, size, sizeChildren}
 use Rattle.gametree.specs.Tree.{Distinct, DistinctChildren}
-use Rattle.gametree.specs.Layout.{firstOf, othersOf}
+use Rattle.gametree.specs.Nodes.{firstOf, othersOf}
 use Rattle.lists.proofs.Choice.{is-false, or-left, or-right, or-cases}
 use Rattle.lists.proofs.Lists.{all-append, all-map, among-append, among-left, among-right, once-append}
 

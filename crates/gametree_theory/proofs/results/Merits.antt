@@ -14,7 +14,7 @@ use borrow.Author.Tests.{ltb-true, ltb-false, eqb-true}
 use Rattle.lists.specs.Lists.{All}
 use Rattle.gametree.specs.declared.Side.the-variants.{Max, Min}
 use Rattle.gametree.specs.Tree.{Tree, leaf, inner, greatest}
-use Rattle.gametree.specs.Layout.{Link, root, under, Layout, firstOf, othersOf}
+use Rattle.gametree.specs.Nodes.{Link, root, under, firstOf, othersOf, subtreeAt, linkIn}
 use Rattle.gametree.specs.Sss.{Status, LIVE, SOLVED, State, live, solved, Taken, beats, choose, pick, takenMerit}
 use Rattle.gametree.specs.Sss.{put, Step, empty, stop, quiet, evaluating, purge, replaceLive, replaceSolved}
 use Rattle.gametree.specs.Sss.{replace, step, ListAfter, atStart, afterQuiet, afterEvaluating}
@@ -25,43 +25,43 @@ use Rattle.gametree_theory.proofs.sss.Steps.{purge-all}
 use Rattle.gametree_theory.proofs.sss.Frontier.{AtMost}
 
 -- a state that beats another has no less merit, and one that does not has no more
-beats-true : (Y : Layout) (s x : State) → beats Y s x ≡ true → x .merit ≤ s .merit
-beats-true Y s x e =
+beats-true : (T : Tree) (s x : State) → beats T s x ≡ true → x .merit ≤ s .merit
+beats-true T s x e =
     ⊎-elim (λ p. le-of-lt (ltb-true _ _ p))
     (λ p. let q = eqb-true (x .merit) (s .merit) (and-both _ _ p .0) in omega arith)
     (or-cases (ltb (x .merit) (s .merit)) _ e)
 
-beats-false : (Y : Layout) (s x : State) → beats Y s x ≡ false → s .merit ≤ x .merit
-beats-false Y s x e = ltb-false _ _ (or-false-both (ltb (x .merit) (s .merit)) _ e .0)
+beats-false : (T : Tree) (s x : State) → beats T s x ≡ false → s .merit ≤ x .merit
+beats-false T s x e = ltb-false _ _ (or-false-both (ltb (x .merit) (s .merit)) _ e .0)
 
 -- so no state of the list has more merit than the one taken
-pick-greatest : (Y : Layout) (s : State) (ss : List State) → AtMost (pick Y s ss .state .merit) (s ∷ ss)
-pick-greatest Y s [] = (le-refl _, tt)
-pick-greatest Y s (x ∷ xs) = here (beats Y s (pick Y x xs .state)) refl (pick-greatest Y x xs)
+pick-greatest : (T : Tree) (s : State) (ss : List State) → AtMost (pick T s ss .state .merit) (s ∷ ss)
+pick-greatest T s [] = (le-refl _, tt)
+pick-greatest T s (x ∷ xs) = here (beats T s (pick T x xs .state)) refl (pick-greatest T x xs)
   where
-    here : (b : Bool) → beats Y s (pick Y x xs .state) ≡ b → AtMost (pick Y x xs .state .merit) (x ∷ xs)
-        → AtMost (choose b s (x ∷ xs) (pick Y x xs) .state .merit) (s ∷ x ∷ xs)
+    here : (b : Bool) → beats T s (pick T x xs .state) ≡ b → AtMost (pick T x xs .state .merit) (x ∷ xs)
+        → AtMost (choose b s (x ∷ xs) (pick T x xs) .state .merit) (s ∷ x ∷ xs)
     here true e i =
-        (le-refl (s .merit), all-map _ _ (λ y k. le-trans k (beats-true Y s (pick Y x xs .state) e)) (x ∷ xs) i)
-    here false e i = (beats-false Y s (pick Y x xs .state) e, i)
+        (le-refl (s .merit), all-map _ _ (λ y k. le-trans k (beats-true T s (pick T x xs .state) e)) (x ∷ xs) i)
+    here false e i = (beats-false T s (pick T x xs .state) e, i)
 
-taken-greatest : (Y : Layout) (L : List State) → AtMost (takenMerit Y L) L
-taken-greatest Y [] = tt
-taken-greatest Y (s ∷ ss) = pick-greatest Y s ss
+taken-greatest : (T : Tree) (L : List State) → AtMost (takenMerit T L) L
+taken-greatest T [] = tt
+taken-greatest T (s ∷ ss) = pick-greatest T s ss
 
 -- and a list whose merits are at most γ has no state of more taken
-taken-atMost : (Y : Layout) (γ : ℕ) (L : List State) → AtMost γ L → takenMerit Y L ≤ γ
-taken-atMost Y γ [] h = omega arith
-taken-atMost Y γ (s ∷ ss) h = pick-all Y (λ x. x .merit ≤ γ) s ss (h .0) (h .1) .1
+taken-atMost : (T : Tree) (γ : ℕ) (L : List State) → AtMost γ L → takenMerit T L ≤ γ
+taken-atMost T γ [] h = omega arith
+taken-atMost T γ (s ∷ ss) h = pick-all T (λ x. x .merit ≤ γ) s ss (h .0) (h .1) .1
 
 -- so the merit taken is that of any state that no other on the list exceeds
-pub taken-merit : (Y : Layout) (A B : List State) (s : State) → AtMost (s .merit) (A ++ (s ∷ B))
-    → takenMerit Y (A ++ (s ∷ B)) ≡ s .merit
-taken-merit Y A B s h =
+pub taken-merit : (T : Tree) (A B : List State) (s : State) → AtMost (s .merit) (A ++ (s ∷ B))
+    → takenMerit T (A ++ (s ∷ B)) ≡ s .merit
+taken-merit T A B s h =
     omega (
       arith,
-      taken-atMost Y (s .merit) (A ++ (s ∷ B)) h,
-      all-right (λ x. x .merit ≤ takenMerit Y (A ++ (s ∷ B))) A (s ∷ B) (taken-greatest Y (A ++ (s ∷ B))) .0,
+      taken-atMost T (s .merit) (A ++ (s ∷ B)) h,
+      all-right (λ x. x .merit ≤ takenMerit T (A ++ (s ∷ B))) A (s ∷ B) (taken-greatest T (A ++ (s ∷ B))) .0,
     )
 
 -- REPLACEMENTS
@@ -102,93 +102,93 @@ module _ (Q R : ℕ → Type 0) (f : (m : ℕ) → Q m → R m) (g : (m v : ℕ)
       put-all (λ s. Q (s .merit)) k (map (λ c. live c (k .state .merit)) cs) h (lives _ (h .1) cs)
   live-merits ν k (inner n Min ks) h = put-one k (live (firstOf ks) (k .state .merit)) h (h .1)
 
-  solved-merits : (Y : Layout) (k : Taken) (c : Link) → TakenMerits k → StepMerits Q R (replaceSolved Y k c)
-  solved-merits Y k root h = tt
-  solved-merits Y k (under p Max b) h =
-      all-append (λ s. Q (s .merit)) (purge Y p (k .left)) (solved p (k .state .merit) ∷ purge Y p (k .right))
-      (purge-all Y p (λ s. Q (s .merit)) (k .left) (h .0))
-      (h .1, purge-all Y p (λ s. Q (s .merit)) (k .right) (h .2))
-  solved-merits Y k (under p Min none) h = put-one k (solved p (k .state .merit)) h (h .1)
-  solved-merits Y k (under p Min (some b)) h = put-one k (live b (k .state .merit)) h (h .1)
+  solved-merits : (T : Tree) (k : Taken) (c : Link) → TakenMerits k → StepMerits Q R (replaceSolved T k c)
+  solved-merits T k root h = tt
+  solved-merits T k (under p Max b) h =
+      all-append (λ s. Q (s .merit)) (purge T p (k .left)) (solved p (k .state .merit) ∷ purge T p (k .right))
+      (purge-all T p (λ s. Q (s .merit)) (k .left) (h .0))
+      (h .1, purge-all T p (λ s. Q (s .merit)) (k .right) (h .2))
+  solved-merits T k (under p Min none) h = put-one k (solved p (k .state .merit)) h (h .1)
+  solved-merits T k (under p Min (some b)) h = put-one k (live b (k .state .merit)) h (h .1)
 
-  replace-merits : (ν : ℕ → ℕ) (Y : Layout) (k : Taken) (u : Status) → TakenMerits k
-      → StepMerits Q R (replace ν Y k u)
-  replace-merits ν Y k LIVE h = live-merits ν k (Y .subtree (k .state .node)) h
-  replace-merits ν Y k SOLVED h = solved-merits Y k (Y .link (k .state .node)) h
+  replace-merits : (ν : ℕ → ℕ) (T : Tree) (k : Taken) (u : Status) → TakenMerits k
+      → StepMerits Q R (replace ν T k u)
+  replace-merits ν T k LIVE h = live-merits ν k (subtreeAt (k .state .node) T) h
+  replace-merits ν T k SOLVED h = solved-merits T k (linkIn T (k .state .node)) h
 
   -- so what holds of all merits of a list holds of them after a step
-  step-merits : (ν : ℕ → ℕ) (Y : Layout) (L : List State) → Merits Q L → StepMerits Q R (step ν Y L)
-  step-merits ν Y [] h = tt
-  step-merits ν Y (s ∷ ss) h =
-      let k = pick Y s ss in
-      replace-merits ν Y k (k .state .status) (pick-all Y (λ x. Q (x .merit)) s ss (h .0) (h .1))
+  step-merits : (ν : ℕ → ℕ) (T : Tree) (L : List State) → Merits Q L → StepMerits Q R (step ν T L)
+  step-merits ν T [] h = tt
+  step-merits ν T (s ∷ ss) h =
+      let k = pick T s ss in
+      replace-merits ν T k (k .state .status) (pick-all T (λ x. Q (x .merit)) s ss (h .0) (h .1))
 
 -- RUNS
 
-module _ (ν : ℕ → ℕ) (Y : Layout) where
+module _ (ν : ℕ → ℕ) (t : Tree) where
   -- no merit after a step exceeds that of the state taken
-  step-atMost : (L : List State) → StepMerits (λ m. m ≤ takenMerit Y L) (λ m. m ≤ takenMerit Y L) (step ν Y L)
+  step-atMost : (L : List State) → StepMerits (λ m. m ≤ takenMerit t L) (λ m. m ≤ takenMerit t L) (step ν t L)
   step-atMost L =
-      step-merits _ _ (λ m h. h) (λ m v h. omega arith) ν Y L (taken-greatest Y L)
+      step-merits _ _ (λ m h. h) (λ m v h. omega arith) ν t L (taken-greatest t L)
 
   -- so the merit taken does not rise in a step
-  quiet-falls : (L M : List State) → step ν Y L ≡ quiet M → takenMerit Y M ≤ takenMerit Y L
-  quiet-falls L M e = taken-atMost Y _ M (subst (StepMerits _ _) e (step-atMost L))
+  quiet-falls : (L M : List State) → step ν t L ≡ quiet M → takenMerit t M ≤ takenMerit t L
+  quiet-falls L M e = taken-atMost t _ M (subst (StepMerits _ _) e (step-atMost L))
 
-  evaluating-falls : (L M : List State) (n : ℕ) → step ν Y L ≡ evaluating n M → takenMerit Y M ≤ takenMerit Y L
-  evaluating-falls L M n e = taken-atMost Y _ M (subst (StepMerits _ _) e (step-atMost L))
+  evaluating-falls : (L M : List State) (n : ℕ) → step ν t L ≡ evaluating n M → takenMerit t M ≤ takenMerit t L
+  evaluating-falls L M n e = taken-atMost t _ M (subst (StepMerits _ _) e (step-atMost L))
 
   -- nor in several
-  pub steps-fall : {a b : ℕ} {L N : List State} {w : List ℕ} → Steps ν Y a L w N b → takenMerit Y N ≤ takenMerit Y L
+  pub steps-fall : {a b : ℕ} {L N : List State} {w : List ℕ} → Steps ν t a L w N b → takenMerit t N ≤ takenMerit t L
   steps-fall (done k) = le-refl _
   steps-fall (quietly {L = L} {M = M} e k p) = le-trans (steps-fall p) (quiet-falls L M e)
   steps-fall (evaluates {L = L} {M = M} {n = n} e k p) =
       le-trans (steps-fall p) (evaluating-falls L M n e)
 
   -- the list after a number of replacements, and the leaves that they evaluated, are determined
-  pub list-unique : (t : Tree) {k : ℕ} {w v : List ℕ} {L M : List State} → ListAfter ν Y t k w L → ListAfter ν Y t k v M
+  pub list-unique : {k : ℕ} {w v : List ℕ} {L M : List State} → ListAfter ν t k w L → ListAfter ν t k v M
       → (w ≡ v) × (L ≡ M)
-  list-unique t atStart atStart = (refl, refl)
-  list-unique t (afterQuiet r e) (afterQuiet q d) = let i = list-unique t r q in (i .0, cc (i .1))
-  list-unique t (afterQuiet r e) (afterEvaluating q d) =
-      let i = list-unique t r q in clash (cc (i .1))
-  list-unique t (afterEvaluating r e) (afterQuiet q d) =
-      let i = list-unique t r q in clash (cc (i .1))
-  list-unique t (afterEvaluating r e) (afterEvaluating q d) =
-      let i = list-unique t r q in
+  list-unique atStart atStart = (refl, refl)
+  list-unique (afterQuiet r e) (afterQuiet q d) = let i = list-unique r q in (i .0, cc (i .1))
+  list-unique (afterQuiet r e) (afterEvaluating q d) =
+      let i = list-unique r q in clash (cc (i .1))
+  list-unique (afterEvaluating r e) (afterQuiet q d) =
+      let i = list-unique r q in clash (cc (i .1))
+  list-unique (afterEvaluating r e) (afterEvaluating q d) =
+      let i = list-unique r q in
       (cc (i .0, i .1), cc (i .1))
 
   -- so is the merit taken
-  same-merit : (t : Tree) {k j : ℕ} {w v : List ℕ} {L M : List State} → ListAfter ν Y t k w L → ListAfter ν Y t j v M
-      → k ≡ j → takenMerit Y M ≤ takenMerit Y L
-  same-merit t {w = w} {L = L} r q e =
-      let i = list-unique t (subst (λ x. ListAfter ν Y t x w L) e r) q .1 in
+  same-merit : {k j : ℕ} {w v : List ℕ} {L M : List State} → ListAfter ν t k w L → ListAfter ν t j v M
+      → k ≡ j → takenMerit t M ≤ takenMerit t L
+  same-merit {w = w} {L = L} r q e =
+      let i = list-unique (subst (λ x. ListAfter ν t x w L) e r) q .1 in
       rw i (le-refl _)
 
   -- which never rises along a run
-  pub run-falls : (t : Tree) {k j : ℕ} {w v : List ℕ} {L M : List State} → ListAfter ν Y t k w L → ListAfter ν Y t j v M
-      → k ≤ j → takenMerit Y M ≤ takenMerit Y L
-  run-falls t r atStart h = same-merit t r atStart (omega arith)
-  run-falls t r (afterQuiet {L = L} {M = M} q d) h =
-      ⊎-elim (λ e. same-merit t r (afterQuiet q d) e)
-      (λ l. le-trans (quiet-falls L M d) (run-falls t r q (omega arith))) (eq-or-lt-of-le h)
-  run-falls t r (afterEvaluating {n = n} {L = L} {M = M} q d) h =
-      ⊎-elim (λ e. same-merit t r (afterEvaluating q d) e)
-      (λ l. le-trans (evaluating-falls L M n d) (run-falls t r q (omega arith))) (eq-or-lt-of-le h)
+  pub run-falls : {k j : ℕ} {w v : List ℕ} {L M : List State} → ListAfter ν t k w L → ListAfter ν t j v M
+      → k ≤ j → takenMerit t M ≤ takenMerit t L
+  run-falls r atStart h = same-merit r atStart (omega arith)
+  run-falls r (afterQuiet {L = L} {M = M} q d) h =
+      ⊎-elim (λ e. same-merit r (afterQuiet q d) e)
+      (λ l. le-trans (quiet-falls L M d) (run-falls r q (omega arith))) (eq-or-lt-of-le h)
+  run-falls r (afterEvaluating {n = n} {L = L} {M = M} q d) h =
+      ⊎-elim (λ e. same-merit r (afterEvaluating q d) e)
+      (λ l. le-trans (evaluating-falls L M n d) (run-falls r q (omega arith))) (eq-or-lt-of-le h)
 
   -- until a leaf is evaluated all merits are those of the start
-  first-merits : (t : Tree) {k : ℕ} {w : List ℕ} {L : List State} → ListAfter ν Y t k w L → length w ≡ 0
+  first-merits : {k : ℕ} {w : List ℕ} {L : List State} → ListAfter ν t k w L → length w ≡ 0
       → Merits (λ m. m ≡ greatest) L
-  first-merits t atStart e = (refl, tt)
-  first-merits t (afterQuiet {L = L} {M = M} r s) e =
+  first-merits atStart e = (refl, tt)
+  first-merits (afterQuiet {L = L} {M = M} r s) e =
       subst (StepMerits (λ m. m ≡ greatest) (λ _. Unit)) s
-      (step-merits (λ m. m ≡ greatest) (λ _. Unit) (λ m h. tt) (λ m v h. tt) ν Y L (first-merits t r e))
-  first-merits t (afterEvaluating {leaves = w} r s) e = absurd (omega (arith, simp length-append at e))
+      (step-merits (λ m. m ≡ greatest) (λ _. Unit) (λ m h. tt) (λ m v h. tt) ν t L (first-merits r e))
+  first-merits (afterEvaluating {leaves = w} r s) e = absurd (omega (arith, simp length-append at e))
 
   -- so is that of the state taken
-  pub first-merit : (t : Tree) {k : ℕ} {w : List ℕ} (L : List State) → ListAfter ν Y t k w L → length w ≡ 0
-      → 0 < length L → takenMerit Y L ≡ greatest
-  first-merit t [] r e n = absurd (omega arith)
-  first-merit t (s ∷ ss) r e n =
-      let h = first-merits t r e in
-      pick-all Y (λ x. x .merit ≡ greatest) s ss (h .0) (h .1) .1
+  pub first-merit : {k : ℕ} {w : List ℕ} (L : List State) → ListAfter ν t k w L → length w ≡ 0
+      → 0 < length L → takenMerit t L ≡ greatest
+  first-merit [] r e n = absurd (omega arith)
+  first-merit (s ∷ ss) r e n =
+      let h = first-merits r e in
+      pick-all t (λ x. x .merit ≡ greatest) s ss (h .0) (h .1) .1

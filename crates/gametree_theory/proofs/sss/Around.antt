@@ -11,7 +11,7 @@ use Rattle.gametree.specs.declared.Side.{Side}
 use Rattle.gametree.specs.declared.Side.the-variants.{Max, Min}
 use Rattle.gametree.specs.Tree.{Tree, leaf, inner, Children, last, _then_, number, In, InChildren}
 use Rattle.gametree.specs.engine.Memo.{Memo, MemoChildren}
-use Rattle.gametree.specs.Layout.{under, Layout, firstOf, othersOf}
+use Rattle.gametree.specs.Nodes.{under, firstOf, othersOf, subtreeAt, linkIn, aboveIn, leftIn}
 use Rattle.gametree_theory.proofs.sss.Described.{Apart}
 use Rattle.gametree.specs.Sss.{Status, LIVE, SOLVED, State, live, solved, Step, quiet, evaluating, purge, replace}
 use Rattle.gametree.specs.Sss.{step}
@@ -83,27 +83,27 @@ statesChildren-nodes ν γ Min (t then ts) m (inr w) =
 -- WHAT STANDS BEFORE AND BEHIND THEM
 
 -- the lists L and R stand around the states of a set P of nodes, in a pass with the test γ
-pub record Around (Y : Layout) (γ : ℕ) (P : ℕ → Type 0) (L R : List State) : Type 0 where
+pub record Around (T : Tree) (γ : ℕ) (P : ℕ → Type 0) (L R : List State) : Type 0 where
   -- all before them have less merit, none behind has more
   pub less : Below γ L
   pub noMore : AtMost γ R
   -- all behind them are right of them
-  pub behind : All (λ s. (p : ℕ) → P p → Y .leftOf p (s .node) ≡ true) R
+  pub behind : All (λ s. (p : ℕ) → P p → leftIn T p (s .node) ≡ true) R
   -- no other state is below one of them
-  pub clearLeft : All (λ s. (p : ℕ) → P p → Y .above p (s .node) ≡ false) L
-  pub clearRight : All (λ s. (p : ℕ) → P p → Y .above p (s .node) ≡ false) R
+  pub clearLeft : All (λ s. (p : ℕ) → P p → aboveIn T p (s .node) ≡ false) L
+  pub clearRight : All (λ s. (p : ℕ) → P p → aboveIn T p (s .node) ≡ false) R
 
 -- around a tree
-abbrev pub AroundTree : Layout → ℕ → Tree → List State → List State → Type 0
-AroundTree Y γ t L R = Around Y γ (λ p. In p t) L R
+abbrev pub AroundTree : Tree → ℕ → Tree → List State → List State → Type 0
+AroundTree T γ t L R = Around T γ (λ p. In p t) L R
 
 -- around the children of a node
-abbrev pub AroundChildren : Layout → ℕ → Children → List State → List State → Type 0
-AroundChildren Y γ ks L R = Around Y γ (λ p. InChildren p ks) L R
+abbrev pub AroundChildren : Tree → ℕ → Children → List State → List State → Type 0
+AroundChildren T γ ks L R = Around T γ (λ p. InChildren p ks) L R
 
 -- what is around some nodes is around a part of them
-pub narrow : {Y : Layout} {γ : ℕ} {P Q : ℕ → Type 0} → ((p : ℕ) → Q p → P p) → {L R : List State}
-    → Around Y γ P L R → Around Y γ Q L R
+pub narrow : {T : Tree} {γ : ℕ} {P Q : ℕ → Type 0} → ((p : ℕ) → Q p → P p) → {L R : List State}
+    → Around T γ P L R → Around T γ Q L R
 narrow f {L} {R} a =
     record {
       less = a .less;
@@ -113,13 +113,13 @@ narrow f {L} {R} a =
       clearRight = all-map _ _ (λ s i p j. i p (f p j)) R (a .clearRight);
     }
 
-module _ (Y : Layout) (γ : ℕ) (t : Tree) (ts : Children) (L R : List State) (z : Apart Y t ts)
-    (a : AroundChildren Y γ (t then ts) L R) where
+module _ (T : Tree) (γ : ℕ) (t : Tree) (ts : Children) (L R : List State) (z : Apart T t ts)
+    (a : AroundChildren T γ (t then ts) L R) where
   -- around the first child of a Max node, with the states G of its brothers behind it
   pub around-first : (G : List State) → AtMost γ G → Nodes (λ p. InChildren p ts) G
-      → AroundTree Y γ t L (G ++ R)
+      → AroundTree T γ t L (G ++ R)
   around-first G b w =
-      let u : AroundTree Y γ t L R = narrow (λ p i. inl i) a in
+      let u : AroundTree T γ t L R = narrow (λ p i. inl i) a in
       record {
         less = u .less;
         noMore = all-append _ G R b (u .noMore);
@@ -129,9 +129,9 @@ module _ (Y : Layout) (γ : ℕ) (t : Tree) (ts : Children) (L R : List State) (
       }
 
   -- around its brothers, with its frontier F before them
-  pub around-rest : (F : List State) → Below γ F → Nodes (λ p. In p t) F → AroundChildren Y γ ts (L ++ F) R
+  pub around-rest : (F : List State) → Below γ F → Nodes (λ p. In p t) F → AroundChildren T γ ts (L ++ F) R
   around-rest F b w =
-      let u : AroundChildren Y γ ts L R = narrow (λ p i. inr i) a in
+      let u : AroundChildren T γ ts L R = narrow (λ p i. inr i) a in
       record {
         less = all-append _ L F (u .less) b;
         noMore = u .noMore;
@@ -141,64 +141,64 @@ module _ (Y : Layout) (γ : ℕ) (t : Tree) (ts : Children) (L R : List State) (
       }
 
 -- what a SOLVED child hands up leaves of a list: under Max what is not below the parent p, under Min all
-abbrev pub handed : Side → Layout → (p : ℕ) → List State → List State
-handed Max Y p L = purge Y p L
-handed Min Y p L = L
+abbrev pub handed : Side → Tree → (p : ℕ) → List State → List State
+handed Max T p L = purge T p L
+handed Min T p L = L
 
 -- nothing goes of a list that is clear of p
-handed-outside : (s : Side) (Y : Layout) (p : ℕ) (L : List State) → All (λ x. Y .above p (x .node) ≡ false) L
-    → handed s Y p L ≡ L
-handed-outside Max Y p L h = purge-outside Y p L h
-handed-outside Min Y p L h = refl
+handed-outside : (s : Side) (T : Tree) (p : ℕ) (L : List State) → All (λ x. aboveIn T p (x .node) ≡ false) L
+    → handed s T p L ≡ L
+handed-outside Max T p L h = purge-outside T p L h
+handed-outside Min T p L h = refl
 
 -- what an inner node hands up leaves all that is around it
-pub handed-clear : (Y : Layout) (γ n : ℕ) (s : Side) (ks : Children) (L R : List State)
-    → AroundTree Y γ (inner n s ks) L R
-    → (handed s Y n L ≡ L) × (handed s Y n R ≡ R)
-handed-clear Y γ n s ks L R a = (
-  handed-outside s Y n L (all-map _ _ (λ x f. f n (inl refl)) L (a .clearLeft)),
-  handed-outside s Y n R (all-map _ _ (λ x f. f n (inl refl)) R (a .clearRight)),
+pub handed-clear : (T : Tree) (γ n : ℕ) (s : Side) (ks : Children) (L R : List State)
+    → AroundTree T γ (inner n s ks) L R
+    → (handed s T n L ≡ L) × (handed s T n R ≡ R)
+handed-clear T γ n s ks L R a = (
+  handed-outside s T n L (all-map _ _ (λ x f. f n (inl refl)) L (a .clearLeft)),
+  handed-outside s T n R (all-map _ _ (λ x f. f n (inl refl)) R (a .clearRight)),
 )
 
 -- STEP 1. THE STATE OF MERIT γ IS TAKEN
 
-module _ (ν : ℕ → ℕ) (Y : Layout) (γ : ℕ) (t : Tree) (L R : List State) (a : AroundTree Y γ t L R) where
+module _ (ν : ℕ → ℕ) (T : Tree) (γ : ℕ) (t : Tree) (L R : List State) (a : AroundTree T γ t L R) where
   -- the node's state is taken: all before it are less, none behind it has more, and all behind it are right of it
   pub takes : (u : Status) (x : Step)
-      → replace ν Y (record { left = L; state = record { node = number t; status = u; merit = γ }; right = R }) u ≡ x
-      → step ν Y (L ++ (record { node = number t; status = u; merit = γ } ∷ R)) ≡ x
+      → replace ν T (record { left = L; state = record { node = number t; status = u; merit = γ }; right = R }) u ≡ x
+      → step ν T (L ++ (record { node = number t; status = u; merit = γ } ∷ R)) ≡ x
   takes u x e =
       let s : State = record { node = number t; status = u; merit = γ } in
       let r =
-      all-zip _ _ (λ y. (y .merit ≤ γ) × (Y .leftOf (number t) (y .node) ≡ true))
+      all-zip _ _ (λ y. (y .merit ≤ γ) × (leftIn T (number t) (y .node) ≡ true))
       (λ y h k. (h, k (number t) (number-in t))) R (a .noMore) (a .behind) in
-      step-at ν Y L s R (a .less) r ∙ e
+      step-at ν T L s R (a .less) r ∙ e
 
   -- a LIVE leaf is evaluated
-  pub takes-leaf : (n : ℕ) → Y .subtree (number t) ≡ leaf n
-      → step ν Y (L ++ (live (number t) γ ∷ R))
+  pub takes-leaf : (n : ℕ) → subtreeAt (number t) T ≡ leaf n
+      → step ν T (L ++ (live (number t) γ ∷ R))
       ≡ evaluating (number t) (L ++ (solved (number t) (min γ (ν (number t))) ∷ R))
   takes-leaf n e = takes LIVE _ (rw e refl)
 
   -- a LIVE inner node is replaced by children
-  pub takes-inner : (n : ℕ) (s : Side) (ks : Children) → Y .subtree (number t) ≡ inner n s ks
-      → step ν Y (L ++ (live (number t) γ ∷ R))
+  pub takes-inner : (n : ℕ) (s : Side) (ks : Children) → subtreeAt (number t) T ≡ inner n s ks
+      → step ν T (L ++ (live (number t) γ ∷ R))
       ≡ quiet (L ++ (map (λ k. live k γ) (opened s (firstOf ks) (othersOf ks)) ++ R))
   takes-inner n Max ks e = takes LIVE _ (rw e refl)
   takes-inner n Min ks e = takes LIVE _ (rw e refl)
 
   -- a SOLVED child of a Max node hands up
-  pub takes-max : (p : ℕ) (b : Option ℕ) → Y .link (number t) ≡ under p Max b
-      → step ν Y (L ++ (solved (number t) γ ∷ R)) ≡ quiet (purge Y p L ++ (solved p γ ∷ purge Y p R))
+  pub takes-max : (p : ℕ) (b : Option ℕ) → linkIn T (number t) ≡ under p Max b
+      → step ν T (L ++ (solved (number t) γ ∷ R)) ≡ quiet (purge T p L ++ (solved p γ ∷ purge T p R))
   takes-max p b e = takes SOLVED _ (rw e refl)
 
   -- the last child of any node hands up
-  pub takes-last : (s : Side) (p : ℕ) → Y .link (number t) ≡ under p s none
-      → step ν Y (L ++ (solved (number t) γ ∷ R)) ≡ quiet (handed s Y p L ++ (solved p γ ∷ handed s Y p R))
+  pub takes-last : (s : Side) (p : ℕ) → linkIn T (number t) ≡ under p s none
+      → step ν T (L ++ (solved (number t) γ ∷ R)) ≡ quiet (handed s T p L ++ (solved p γ ∷ handed s T p R))
   takes-last Max p e = takes-max p none e
   takes-last Min p e = takes SOLVED _ (rw e refl)
 
   -- behind any other SOLVED child of a Min node the next brother is LIVE
-  pub takes-next : (p b : ℕ) → Y .link (number t) ≡ under p Min (some b)
-      → step ν Y (L ++ (solved (number t) γ ∷ R)) ≡ quiet (L ++ (live b γ ∷ R))
+  pub takes-next : (p b : ℕ) → linkIn T (number t) ≡ under p Min (some b)
+      → step ν T (L ++ (solved (number t) γ ∷ R)) ≡ quiet (L ++ (live b γ ∷ R))
   takes-next p b e = takes SOLVED _ (rw e refl)

@@ -1,4 +1,4 @@
--- What a layout says of a front: which state is whose child, which states are below a Max node, and which are behind
+-- What a tree says of a front: which state is whose child, which states are below a Max node, and which are behind
 -- others. So every list that SSS* reaches is a front, has a state and no more of them than the tree has nodes, and the
 -- first state of greatest merit on it is the one that the rule takes.
 use Prim.Native.Nat.{ℕ, _≤_, _<_}
@@ -15,8 +15,9 @@ use Rattle.gametree.specs.declared.Side.the-variants.{Max, Min}
 use Rattle.gametree.specs.Tree.{Tree, leaf, inner, Children, last, _then_, number, size}
 use Rattle.gametree.specs.Tree.{sizeChildren, In}
 use Rattle.gametree.specs.Tree.{InChildren}
-use Rattle.gametree.specs.Layout.{root, under, Layout, firstOf, othersOf}
-use Rattle.gametree_theory.proofs.sss.Described.{Answers, AnswersChildren, Describes}
+use Rattle.gametree.specs.Nodes.{root, under, firstOf, othersOf, subtreeAt, linkIn, aboveIn, leftIn}
+use Rattle.gametree_theory.proofs.sss.Described.{Answers, AnswersChildren}
+use Rattle.gametree_theory.proofs.sss.OwnNodes.{own-root}
 use Rattle.gametree.specs.Sss.{Status, LIVE, SOLVED, State, live, solved, Taken, choose, beats, pick, Step, empty}
 use Rattle.gametree.specs.Sss.{stop, quiet, evaluating, purge, replaceLive, replaceSolved, replace, step}
 use Rattle.gametree.specs.Sss.{ListAfter, atStart, afterQuiet, afterEvaluating}
@@ -124,23 +125,23 @@ first-child : (ks : Children) → (v : Tree) × (number v ≡ firstOf ks) × Chi
 first-child (last t) = (t, refl, refl)
 first-child (t then ts) = (t, refl, inl refl)
 
-module _ (Y : Layout) where
-  child-answers : (n : ℕ) (q : Side) (u : Tree) (ks : Children) → ChildIn u ks → AnswersChildren Y n q ks → Answers Y u
-  child-answers n q u (last t) c a = subst (λ x. Answers Y x) (sym c) (a .1)
-  child-answers n q u (t then ts) (inl c) a = subst (λ x. Answers Y x) (sym c) (a .2)
+module _ (T : Tree) where
+  child-answers : (n : ℕ) (q : Side) (u : Tree) (ks : Children) → ChildIn u ks → AnswersChildren T n q ks → Answers T u
+  child-answers n q u (last t) c a = subst (λ x. Answers T x) (sym c) (a .1)
+  child-answers n q u (t then ts) (inl c) a = subst (λ x. Answers T x) (sym c) (a .2)
   child-answers n q u (t then ts) (inr c) a = child-answers n q u ts c (a .3)
 
-  child-link : (n : ℕ) (q : Side) (u : Tree) (ks : Children) → ChildIn u ks → AnswersChildren Y n q ks
-      → (o : Option ℕ) × (Y .link (number u) ≡ under n q o) × NextIn o ks
-  child-link n q u (last t) c a = (none, ap (λ x. Y .link (number x)) c ∙ a .0, tt)
+  child-link : (n : ℕ) (q : Side) (u : Tree) (ks : Children) → ChildIn u ks → AnswersChildren T n q ks
+      → (o : Option ℕ) × (linkIn T (number u) ≡ under n q o) × NextIn o ks
+  child-link n q u (last t) c a = (none, ap (λ x. linkIn T (number x)) c ∙ a .0, tt)
   child-link n q u (t then ts) (inl c) a =
       let f = first-child ts in
-      (some (firstOf ts), ap (λ x. Y .link (number x)) c ∙ a .0, (f .0, f .1, inr (f .2)))
+      (some (firstOf ts), ap (λ x. linkIn T (number x)) c ∙ a .0, (f .0, f .1, inr (f .2)))
   child-link n q u (t then ts) (inr c) a =
       let r = child-link n q u ts c (a .3) in (r .0, r .1, next-later (r .0) t ts (r .2))
 
-  -- the layout answers for each tree within
-  within-answers : {r u : Tree} {A B : List State} → Within r u A B → Answers Y r → Answers Y u
+  -- the tree answers for each tree within
+  within-answers : {r u : Tree} {A B : List State} → Within r u A B → Answers T r → Answers T u
   within-answers top a = a
   within-answers (child {n = n} {q = s} {ks = ks} {u = u} F G w b p q) a =
       child-answers n s u ks (beside-child s ks u F G b) (within-answers w a .2)
@@ -151,13 +152,13 @@ module _ (Y : Layout) where
 
   -- no node of the tree is above a state's, nor, for those behind, right of it
   abbrev Clear : ℕ → ℕ → Type 0
-  Clear p k = Y .above p k ≡ false
+  Clear p k = aboveIn T p k ≡ false
 
   abbrev Behind : ℕ → ℕ → Type 0
-  Behind p k = (Y .above p k ≡ false) × (Y .leftOf p k ≡ true)
+  Behind p k = (aboveIn T p k ≡ false) × (leftIn T p k ≡ true)
 
   beside-clear : (n : ℕ) (q : Side) (ks : Children) (u : Tree) (F G : List State) → Beside q ks u F G
-      → AnswersChildren Y n q ks → Each Clear u F × Each Behind u G
+      → AnswersChildren T n q ks → Each Clear u F × Each Behind u G
   beside-clear n q (last t) u F G b a = (rw (b .1) tt, rw (b .2) tt)
   beside-clear n q (t then ts) u F G (inl b) a = (
     rw (b .1) tt,
@@ -182,7 +183,7 @@ module _ (Y : Layout) where
       (λ s f p i. f p (inr (in-child p u ks c i))) L o
 
   -- what stands before and behind a tree within is outside it, and what stands behind is right of it
-  within-clear : {r u : Tree} {A B : List State} → Within r u A B → Answers Y r → Each Clear u A × Each Behind u B
+  within-clear : {r u : Tree} {A B : List State} → Within r u A B → Answers T r → Each Clear u A × Each Behind u B
   within-clear top a = (tt, tt)
   within-clear (child {n = n} {q = s} {ks = ks} {u = u} {X = X} {Z = Z} F G w b p q) a =
       let o = within-clear w a in
@@ -194,35 +195,35 @@ module _ (Y : Layout) where
 
   -- a purge below the Max node n, around one of its children, leaves what stands around n
   purge-around : {r : Tree} {X Z : List State} (u : Tree) (n : ℕ) (ks : Children) (F G : List State)
-      → Within r (inner n Max ks) X Z → Beside Max ks u F G → Answers Y r
-      → (purge Y n (X ++ F) ≡ X) × (purge Y n (G ++ Z) ≡ Z)
+      → Within r (inner n Max ks) X Z → Beside Max ks u F G → Answers T r
+      → (purge T n (X ++ F) ≡ X) × (purge T n (G ++ Z) ≡ Z)
   purge-around {r} {X} {Z} u n ks F G w b a =
       let o = within-clear w a in
       let i = beside-in Max ks u F G b in
-      let down : (L : List State) → InsideChildren ks L → All (λ s. Y .above n (s .node) ≡ true) L =
-      λ L. all-map (λ s. InChildren (s .node) ks) (λ s. Y .above n (s .node) ≡ true)
+      let down : (L : List State) → InsideChildren ks L → All (λ s. aboveIn T n (s .node) ≡ true) L =
+      λ L. all-map (λ s. InChildren (s .node) ks) (λ s. aboveIn T n (s .node) ≡ true)
       (λ s j. within-answers w a .1 (s .node) j) L in (
-        purge-left Y n X F (down F (i .0))
-            ∙ purge-outside Y n X (all-map _ (λ s. Y .above n (s .node) ≡ false) (λ s f. f n (inl refl)) X (o .0)),
-        purge-right Y n G Z (down G (i .1))
-            ∙ purge-outside Y n Z (all-map _ (λ s. Y .above n (s .node) ≡ false) (λ s f. f n (inl refl) .0) Z (o .1)),
+        purge-left T n X F (down F (i .0))
+            ∙ purge-outside T n X (all-map _ (λ s. aboveIn T n (s .node) ≡ false) (λ s f. f n (inl refl)) X (o .0)),
+        purge-right T n G Z (down G (i .1))
+            ∙ purge-outside T n Z (all-map _ (λ s. aboveIn T n (s .node) ≡ false) (λ s f. f n (inl refl) .0) Z (o .1)),
       )
 
   -- so does what a child hands up on either side
   pub handed-around : {r : Tree} {X Z : List State} (q : Side) (u : Tree) (n : ℕ) (ks : Children) (F G : List State)
-      → Within r (inner n q ks) X Z → Beside q ks u F G → Answers Y r
-      → (handed q Y n (X ++ F) ≡ X) × (handed q Y n (G ++ Z) ≡ Z)
+      → Within r (inner n q ks) X Z → Beside q ks u F G → Answers T r
+      → (handed q T n (X ++ F) ≡ X) × (handed q T n (G ++ Z) ≡ Z)
   handed-around Max u n ks F G w b a = purge-around u n ks F G w b a
   handed-around {X = X} {Z = Z} Min u n ks F G w b a =
       let z = beside-none ks u F G b in (ap (λ l. X ++ l) (z .0) ∙ append-nil X, ap (λ l. l ++ Z) (z .1))
 
   -- a state with lesser merits before it and no greater ones behind is taken
-  pub within-taken : (ν : ℕ → ℕ) {r u : Tree} {A B : List State} (s : State) → Within r u A B → Answers Y r
+  pub within-taken : (ν : ℕ → ℕ) {r u : Tree} {A B : List State} (s : State) → Within r u A B → Answers T r
       → number u ≡ s .node → All (λ x. x .merit < s .merit) A → All (λ x. x .merit ≤ s .merit) B
-      → step ν Y (A ++ (s ∷ B)) ≡ replace ν Y (record { left = A; state = s; right = B }) (s .status)
+      → step ν T (A ++ (s ∷ B)) ≡ replace ν T (record { left = A; state = s; right = B }) (s .status)
   within-taken ν {u = u} {A = A} {B = B} s w a e l g =
-      step-at ν Y A s B l
-      (all-zip _ _ (λ x. (x .merit ≤ s .merit) × (Y .leftOf (s .node) (x .node) ≡ true))
+      step-at ν T A s B l
+      (all-zip _ _ (λ x. (x .merit ≤ s .merit) × (leftIn T (s .node) (x .node) ≡ true))
       (λ x h k. (h, rw (← e) (k (number u) (number-in u) .1))) B g (within-clear w a .1))
 
 kids-live : (m : ℕ) (ks : Children) → FrontChildren Max ks (map (λ n. live n m) (firstOf ks ∷ othersOf ks))
@@ -249,36 +250,36 @@ FrontStep t (stop v) = Unit {0}
 FrontStep t (quiet M) = Front t M
 FrontStep t (evaluating n M) = Front t M
 
-module _ (ν : ℕ → ℕ) (Y : Layout) (r : Tree) (a : Answers Y r) (o : Y .link (number r) ≡ root) where
+module _ (ν : ℕ → ℕ) (T : Tree) (r : Tree) (a : Answers T r) (o : linkIn T (number r) ≡ root) where
   live-front : (k : Taken) (u : Tree) → number u ≡ k .state .node → Within r u (k .left) (k .right)
-      → FrontStep r (replaceLive ν k (Y .subtree (k .state .node)))
+      → FrontStep r (replaceLive ν k (subtreeAt (k .state .node) T))
   live-front k (leaf n) e w =
-      rw (ap (Y .subtree) (sym e) ∙ within-answers Y w a)
+      rw (ap (λ p. subtreeAt p T) (sym e) ∙ within-answers T w a)
       (plug w (solved (k .state .node) _ ∷ []) (alone-front (leaf n) (solved (k .state .node) _) (sym e)))
   live-front k (inner n Max ks) e w =
-      rw (ap (Y .subtree) (sym e) ∙ within-answers Y w a .0)
+      rw (ap (λ p. subtreeAt p T) (sym e) ∙ within-answers T w a .0)
       (plug w (map (λ n. live n (k .state .merit)) (firstOf ks ∷ othersOf ks)) (inr (kids-live (k .state .merit) ks)))
   live-front k (inner n Min ks) e w =
       let c = first-child ks in
-      rw (ap (Y .subtree) (sym e) ∙ within-answers Y w a .0)
+      rw (ap (λ p. subtreeAt p T) (sym e) ∙ within-answers T w a .0)
       (plug w (live (firstOf ks) (k .state .merit) ∷ [])
       (inr (child-front ks (c .0) (c .2) (live (firstOf ks) _) (sym (c .1)))))
 
   solved-under : (k : Taken) (u : Tree) (A B : List State) → A ≡ k .left → B ≡ k .right → number u ≡ k .state .node
-      → Within r u A B → FrontStep r (replaceSolved Y k (Y .link (k .state .node)))
-  solved-under k u A B i j e top = rw (ap (Y .link) (sym e) ∙ o) tt
+      → Within r u A B → FrontStep r (replaceSolved T k (linkIn T (k .state .node)))
+  solved-under k u A B i j e top = rw (ap (linkIn T) (sym e) ∙ o) tt
   solved-under k u A B i j e (child {n = n} {q = Max} {ks = ks} F G w b p q) =
-      let z = handed-around Y Max u n ks F G w b a in
-      let c = child-link Y n Max u ks (beside-child Max ks u F G b) (within-answers Y w a .2) in
-      rw (ap (Y .link) (sym e) ∙ c .1, ← i, ← j, p, q, z .0, z .1)
+      let z = handed-around T Max u n ks F G w b a in
+      let c = child-link T n Max u ks (beside-child Max ks u F G b) (within-answers T w a .2) in
+      rw (ap (linkIn T) (sym e) ∙ c .1, ← i, ← j, p, q, z .0, z .1)
       (plug w (solved n (k .state .merit) ∷ []) (alone-front (inner n Max ks) (solved n _) refl))
   solved-under k u A B i j e (child {n = n} {q = Min} {ks = ks} {X = X} {Z = Z} F G w b p q) =
-      let l = child-link Y n Min u ks (beside-child Min ks u F G b) (within-answers Y w a .2) in
-      let z = handed-around Y Min u n ks F G w b a in
-      rw (ap (Y .link) (sym e) ∙ l .1) (next-front (l .0) (l .2) (rw (p ∙ z .0, q ∙ z .1) w))
+      let l = child-link T n Min u ks (beside-child Min ks u F G b) (within-answers T w a .2) in
+      let z = handed-around T Min u n ks F G w b a in
+      rw (ap (linkIn T) (sym e) ∙ l .1) (next-front (l .0) (l .2) (rw (p ∙ z .0, q ∙ z .1) w))
     where
       next-front : (b : Option ℕ) → NextIn b ks → Within r (inner n Min ks) A B
-          → FrontStep r (replaceSolved Y k (under n Min b))
+          → FrontStep r (replaceSolved T k (under n Min b))
       next-front none x w =
           rw (← i, ← j) (plug w (solved n (k .state .merit) ∷ []) (alone-front (inner n Min ks) (solved n _) refl))
       next-front (some b) x w =
@@ -286,7 +287,7 @@ module _ (ν : ℕ → ℕ) (Y : Layout) (r : Tree) (a : Answers Y r) (o : Y .li
           (inr (child-front ks (x .0) (x .2) (live b (k .state .merit)) (sym (x .1)))))
 
   replace-front : (k : Taken) → Front r (k .left ++ (k .state ∷ k .right)) → (b : Status)
-      → FrontStep r (replace ν Y k b)
+      → FrontStep r (replace ν T k b)
   replace-front k f LIVE =
       let l = located r (k .left) (k .state) (k .right) f in live-front k (l .tree) (l .number-is) (l .within)
   replace-front k f SOLVED =
@@ -299,22 +300,22 @@ choose-parts true s ss k e = refl
 choose-parts false s ss k e = ap (λ l. s ∷ l) e
 
 -- the state taken, with what stands before and behind it, is the list
-pick-parts : (Y : Layout) (s : State) (ss : List State)
-    → pick Y s ss .left ++ (pick Y s ss .state ∷ pick Y s ss .right) ≡ s ∷ ss
-pick-parts Y s [] = refl
-pick-parts Y s (x ∷ xs) = choose-parts (beats Y s (pick Y x xs .state)) s (x ∷ xs) (pick Y x xs) (pick-parts Y x xs)
+pick-parts : (T : Tree) (s : State) (ss : List State)
+    → pick T s ss .left ++ (pick T s ss .state ∷ pick T s ss .right) ≡ s ∷ ss
+pick-parts T s [] = refl
+pick-parts T s (x ∷ xs) = choose-parts (beats T s (pick T x xs .state)) s (x ∷ xs) (pick T x xs) (pick-parts T x xs)
 
-module _ (ν : ℕ → ℕ) (Y : Layout) (r : Tree) (d : Describes Y r) where
+module _ (ν : ℕ → ℕ) (r : Tree) (a : Answers r r) where
   -- a step from a front leaves a front
-  step-front : (L : List State) → Front r L → FrontStep r (step ν Y L)
+  step-front : (L : List State) → Front r L → FrontStep r (step ν r L)
   step-front [] f = tt
   step-front (s ∷ ss) f =
-      let k = pick Y s ss in
-      replace-front ν Y r (d .answers) (d .top) k (subst (λ l. Front r l) (sym (pick-parts Y s ss)) f)
+      let k = pick r s ss in
+      replace-front ν r r a (own-root r) k (subst (λ l. Front r l) (sym (pick-parts r s ss)) f)
       (k .state .status)
 
   -- every list that SSS* reaches is a front of the tree
-  pub front-reached : {k : ℕ} {w : List ℕ} {L : List State} → ListAfter ν Y r k w L → Front r L
+  pub front-reached : {k : ℕ} {w : List ℕ} {L : List State} → ListAfter ν r k w L → Front r L
   front-reached atStart = alone-front r _ refl
   front-reached (afterQuiet {L = L} l e) = subst (FrontStep r) e (step-front L (front-reached l))
   front-reached (afterEvaluating {L = L} l e) = subst (FrontStep r) e (step-front L (front-reached l))
@@ -322,6 +323,6 @@ module _ (ν : ℕ → ℕ) (Y : Layout) (r : Tree) (d : Describes Y r) where
   -- the first state of greatest merit on a front is the one taken
   pub front-taken : (A : List State) (s : State) (B : List State) → Front r (A ++ (s ∷ B))
       → All (λ x. x .merit < s .merit) A → All (λ x. x .merit ≤ s .merit) B
-      → step ν Y (A ++ (s ∷ B)) ≡ replace ν Y (record { left = A; state = s; right = B }) (s .status)
+      → step ν r (A ++ (s ∷ B)) ≡ replace ν r (record { left = A; state = s; right = B }) (s .status)
   front-taken A s B f l g =
-      let i = located r A s B f in within-taken Y ν s (i .within) (d .answers) (i .number-is) l g
+      let i = located r A s B f in within-taken r ν s (i .within) a (i .number-is) l g

@@ -17,7 +17,7 @@ use Rattle.gametree.specs.Tree.{Scored}
 use Rattle.gametree.specs.Tree.{ScoredChildren}
 use Rattle.gametree.specs.engine.Memo.{Memo, MemoChildren, memoHigh, memoHighChildren, Pass, PassChildren, pass}
 use Rattle.gametree.specs.engine.Memo.{passChildren, fresh, freshChildren}
-use Rattle.gametree.specs.Layout.{firstOf, othersOf}
+use Rattle.gametree.specs.Nodes.{firstOf, othersOf}
 use Rattle.gametree.specs.Sss.{State, live, solved}
 use Rattle.lists.proofs.Choice.{cond-cases, true-not-false}
 use Rattle.lists.proofs.Lists.{all-append, all-left, all-right, all-map, all-zip}

@@ -5,14 +5,11 @@ use native.Mathlib.Nat.{le-refl}
 use native.Mathlib.Omega.{arith}
 use mathlib.Core.Path.{_≡_, refl, sym, _∙_, ap, subst}
 use mathlib.Core.List.{List, [], _∷_, _++_, append-assoc}
-use Rattle.gametree.specs.Tree.{Tree, minimax, size, Scored}
+use Rattle.gametree.specs.Tree.{Tree, minimax, size, Proper}
 use Rattle.gametree.specs.engine.Memo.{memoMtd}
-use Rattle.gametree.specs.Layout.{Layout}
-use Rattle.gametree_theory.proofs.sss.Described.{Describes}
 use Rattle.gametree.specs.Sss.{takenMerit, State, Step, empty, stop, quiet, evaluating, step, SssRun, follow, runFrom}
-use Rattle.gametree.specs.Sss.{start, ListAfter, atStart, afterQuiet, afterEvaluating}
+use Rattle.gametree.specs.Sss.{start, sss, ListAfter, atStart, afterQuiet, afterEvaluating}
 use Rattle.gametree.specs.engine.Within.{End, Ran, resumed, inFull}
-use Rattle.gametree.specs.engine.OverLayout.{sssOver}
 use Rattle.lists.proofs.Choice.{clash}
 use Rattle.gametree_theory.proofs.sss.Steps.{Steps, done, quietly, evaluates}
 use Rattle.gametree_theory.proofs.mtd.Value.{mtd-right}
@@ -21,72 +18,71 @@ use Rattle.gametree_theory.proofs.sss.Work.{full, full-size}
 use Rattle.gametree_theory.proofs.sss.Run.{root-stops, mtd-steps}
 
 -- what is ahead of the list L in a run of SSS* that ends at N, evaluates the leaves W and makes at most A replacements
-record Ahead (ν : ℕ → ℕ) (Y : Layout) (N : List State) (W : List ℕ) (A k : ℕ) (w : List ℕ)
+record Ahead (ν : ℕ → ℕ) (t : Tree) (N : List State) (W : List ℕ) (A k : ℕ) (w : List ℕ)
     (L : List State) : Type 0 where
   left : ℕ
   toCome : List ℕ
-  steps : Steps ν Y left L toCome N 0
+  steps : Steps ν t left L toCome N 0
   whole : w ++ toCome ≡ W
   atMost : k + left ≤ A
 
-module _ (ν : ℕ → ℕ) (Y : Layout) (N : List State) (W : List ℕ) (A v : ℕ) (e : step ν Y N ≡ stop v) where
+module _ (ν : ℕ → ℕ) (t : Tree) (N : List State) (W : List ℕ) (A v : ℕ) (e : step ν t N ≡ stop v) where
   -- a quiet step takes the run ahead
-  ahead-quiet : {k a : ℕ} {w u : List ℕ} {L M : List State} → Steps ν Y a L u N 0 → w ++ u ≡ W → k + a ≤ A
-      → step ν Y L ≡ quiet M
-      → Ahead ν Y N W A (suc k) w M
+  ahead-quiet : {k a : ℕ} {w u : List ℕ} {L M : List State} → Steps ν t a L u N 0 → w ++ u ≡ W → k + a ≤ A
+      → step ν t L ≡ quiet M
+      → Ahead ν t N W A (suc k) w M
   ahead-quiet (done l) i f s = clash (cc)
-  ahead-quiet {u = u} {M = M} (quietly {c = c} {M = M′} t l p) i f s =
+  ahead-quiet {u = u} {M = M} (quietly {c = c} {M = M′} q l p) i f s =
       let z : M′ ≡ M = cc in
-      record { left = c; toCome = u; steps = subst (λ X. Steps ν Y c X u N 0) z p; whole = i; atMost = omega arith }
-  ahead-quiet (evaluates t l p) i f s = clash (cc)
+      record { left = c; toCome = u; steps = subst (λ X. Steps ν t c X u N 0) z p; whole = i; atMost = omega arith }
+  ahead-quiet (evaluates q l p) i f s = clash (cc)
 
   -- and so does one that evaluates a leaf
-  ahead-evaluating : {k a n : ℕ} (w : List ℕ) {u : List ℕ} {L M : List State} → Steps ν Y a L u N 0 → w ++ u ≡ W
+  ahead-evaluating : {k a n : ℕ} (w : List ℕ) {u : List ℕ} {L M : List State} → Steps ν t a L u N 0 → w ++ u ≡ W
       → k + a ≤ A
-      → step ν Y L ≡ evaluating n M → Ahead ν Y N W A (suc k) (w ++ (n ∷ [])) M
+      → step ν t L ≡ evaluating n M → Ahead ν t N W A (suc k) (w ++ (n ∷ [])) M
   ahead-evaluating w (done l) i f s = clash (cc)
-  ahead-evaluating w (quietly t l p) i f s = clash (cc)
-  ahead-evaluating {n = n} w {M = M} (evaluates {c = c} {M = M′} {w = x} {n = n′} t l p) i f s =
+  ahead-evaluating w (quietly q l p) i f s = clash (cc)
+  ahead-evaluating {n = n} w {M = M} (evaluates {c = c} {M = M′} {w = x} {n = n′} q l p) i f s =
       let z : M′ ≡ M = cc in
       let y : n′ ≡ n = cc in
       record {
         left = c;
         toCome = x;
-        steps = subst (λ X. Steps ν Y c X x N 0) z p;
+        steps = subst (λ X. Steps ν t c X x N 0) z p;
         whole = append-assoc w (n ∷ []) x ∙ ap (λ j. w ++ (j ∷ x)) (sym y) ∙ i;
         atMost = omega arith;
       }
 
   -- what is ahead of every list
-  list-ahead : (t : Tree) → Steps ν Y A (start t) W N 0 → {k : ℕ} {w : List ℕ} {L : List State}
-      → ListAfter ν Y t k w L → Ahead ν Y N W A k w L
-  list-ahead t p atStart = record { left = A; toCome = W; steps = p; whole = refl; atMost = omega arith }
-  list-ahead t p (afterQuiet r s) = let a = list-ahead t p r in ahead-quiet (a .steps) (a .whole) (a .atMost) s
-  list-ahead t p (afterEvaluating {leaves = w} r s) =
-      let a = list-ahead t p r in ahead-evaluating w (a .steps) (a .whole) (a .atMost) s
+  list-ahead : Steps ν t A (start t) W N 0 → {k : ℕ} {w : List ℕ} {L : List State}
+      → ListAfter ν t k w L → Ahead ν t N W A k w L
+  list-ahead p atStart = record { left = A; toCome = W; steps = p; whole = refl; atMost = omega arith }
+  list-ahead p (afterQuiet r s) = let a = list-ahead p r in ahead-quiet (a .steps) (a .whole) (a .atMost) s
+  list-ahead p (afterEvaluating {leaves = w} r s) =
+      let a = list-ahead p r in ahead-evaluating w (a .steps) (a .whole) (a .atMost) s
 
 -- what holds of every list that SSS* reaches, with W the leaves of the whole run
-pub record Reaching (ν : ℕ → ℕ) (Y : Layout) (t : Tree) (W : List ℕ) (k : ℕ) (w : List ℕ)
+pub record Reaching (ν : ℕ → ℕ) (t : Tree) (W : List ℕ) (k : ℕ) (w : List ℕ)
     (L : List State) : Type 0 where
   -- fewer replacements than twice the number of nodes led to it
   pub atMost : k < 2 * size t
   -- the state taken has no less merit than the tree has value
-  pub merit : minimax ν t ≤ takenMerit Y L
+  pub merit : minimax ν t ≤ takenMerit t L
   -- the leaves so far are the first of the whole run's
   pub toCome : List ℕ
   pub whole : w ++ toCome ≡ W
 
-module _ (ν : ℕ → ℕ) (Y : Layout) (t : Tree) (d : Describes Y t) (h : Scored ν t) where
+module _ (ν : ℕ → ℕ) (t : Tree) (h : Proper ν t) where
   -- every list that SSS* reaches
-  pub list-reached : {k : ℕ} {w : List ℕ} {L : List State} → ListAfter ν Y t k w L
-      → Reaching ν Y t (memoMtd ν t .evaluated) k w L
+  pub list-reached : {k : ℕ} {w : List ℕ} {L : List State} → ListAfter ν t k w L
+      → Reaching ν t (memoMtd ν t .evaluated) k w L
   list-reached {L = L} r =
       let v = memoMtd ν t .value in
-      let e = root-stops ν Y t v (d .top) in
-      let a = list-ahead ν Y _ (memoMtd ν t .evaluated) (full t) v e t (mtd-steps ν Y t (d .answers) h) r in
+      let a = list-ahead ν t _ (memoMtd ν t .evaluated) (full t) v (root-stops ν t v) (mtd-steps ν t h) r in
       record {
         atMost = omega (arith, a .atMost, full-size t);
-        merit = rw (← mtd-right ν t h .value) (steps-fall ν Y (a .steps));
+        merit = rw (← mtd-right ν t (h .scored) .value) (steps-fall ν t (a .steps));
         toCome = a .toCome;
         whole = a .whole;
       }
@@ -98,13 +94,13 @@ pub ran-path : {e : End} {u w : List ℕ} {k : ℕ} → u ≡ w
 ran-path p = cc
 
 -- the run goes on from each list that it reaches
-pub resume : (ν : ℕ → ℕ) (Y : Layout) (t : Tree) {k : ℕ} {w : List ℕ} {L : List State} → ListAfter ν Y t k w L → (f : ℕ)
+pub resume : (ν : ℕ → ℕ) (t : Tree) {k : ℕ} {w : List ℕ} {L : List State} → ListAfter ν t k w L → (f : ℕ)
     → k + f ≡ 2 * size t
-    → sssOver ν Y t ≡ resumed w (inFull (runFrom ν Y f k L))
-resume ν Y t atStart f e = let z : f ≡ 2 * size t = omega arith in rw z refl
-resume ν Y t (afterQuiet r s) f e = resume ν Y t r (suc f) (omega arith) ∙ rw s refl
-resume ν Y t (afterEvaluating {n = n} {leaves = w} r s) f e =
-    resume ν Y t r (suc f) (omega arith) ∙ rw s (ran-path (sym (append-assoc w (n ∷ []) _)))
+    → inFull (sss ν t) ≡ resumed w (inFull (runFrom ν t f k L))
+resume ν t atStart f e = let z : f ≡ 2 * size t = omega arith in rw z refl
+resume ν t (afterQuiet r s) f e = resume ν t r (suc f) (omega arith) ∙ rw s refl
+resume ν t (afterEvaluating {n = n} {leaves = w} r s) f e =
+    resume ν t r (suc f) (omega arith) ∙ rw s (ran-path (sym (append-assoc w (n ∷ []) _)))
 
 -- it makes no fewer replacements than it has made
 follow-more : (s : Step) (k m : ℕ) (rest : List State → SssRun) → ((M : List State) → k < rest M .replacements)
@@ -114,6 +110,6 @@ follow-more (stop v) k m rest h = le-refl k
 follow-more (quiet M) k m rest h = omega (arith, h M)
 follow-more (evaluating n M) k m rest h = omega (arith, h M)
 
-pub run-more : (ν : ℕ → ℕ) (Y : Layout) (f k : ℕ) (L : List State) → k ≤ runFrom ν Y f k L .replacements
-run-more ν Y zero k L = le-refl k
-run-more ν Y (suc f) k L = follow-more (step ν Y L) k (takenMerit Y L) _ (λ M. run-more ν Y f (suc k) M)
+pub run-more : (ν : ℕ → ℕ) (t : Tree) (f k : ℕ) (L : List State) → k ≤ runFrom ν t f k L .replacements
+run-more ν t zero k L = le-refl k
+run-more ν t (suc f) k L = follow-more (step ν t L) k (takenMerit t L) _ (λ M. run-more ν t f (suc k) M)

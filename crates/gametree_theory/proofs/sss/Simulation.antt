@@ -30,7 +30,7 @@ use Rattle.gametree.specs.Tree.{InChildren}
 use Rattle.gametree.specs.Tree.{Scored, ScoredChildren}
 use Rattle.gametree.specs.engine.Memo.{Memo, MemoChildren, memoHighChildren, Pass, PassChildren, entered, pass}
 use Rattle.gametree.specs.engine.Memo.{passChildren, freshChildren}
-use Rattle.gametree.specs.Layout.{under, Layout, firstOf}
+use Rattle.gametree.specs.Nodes.{under, firstOf, subtreeAt, linkIn, aboveIn}
 use Rattle.gametree_theory.proofs.sss.Described.{Answers, AnswersChildren}
 use Rattle.gametree.specs.Sss.{State, live, solved, quiet, step}
 use Rattle.lists.proofs.Choice.{cond-cases, true-not-false}
@@ -53,43 +53,43 @@ use Rattle.gametree_theory.proofs.sss.Work.{work-positive}
 
 -- SSS* does what a pass does at a node, whose states are F: found below, they become the node's frontier; found not
 -- below, the node SOLVED. The number a bounds the replacements, with what is then left to do; B is for those elsewhere.
-pub record Sim (ν : ℕ → ℕ) (Y : Layout) (γ : ℕ) (t : Tree) (a : ℕ) (F L R : List State) (r : Pass t) : Type 0 where
+pub record Sim (ν : ℕ → ℕ) (T : Tree) (γ : ℕ) (t : Tree) (a : ℕ) (F L R : List State) (r : Pass t) : Type 0 where
   pub below : (B : ℕ) → r .notBelow ≡ false
-      → Steps ν Y (a + B) (L ++ (F ++ R)) (r .evaluated) (L ++ (frontier ν t (r .next) ++ R)) (part ν t (r .next) + B)
+      → Steps ν T (a + B) (L ++ (F ++ R)) (r .evaluated) (L ++ (frontier ν t (r .next) ++ R)) (part ν t (r .next) + B)
   pub above : (B : ℕ) → r .notBelow ≡ true
-      → Steps ν Y (a + B) (L ++ (F ++ R)) (r .evaluated) (L ++ (solved (number t) γ ∷ R)) B
+      → Steps ν T (a + B) (L ++ (F ++ R)) (r .evaluated) (L ++ (solved (number t) γ ∷ R)) B
 
 -- the same at the children of the node n: found not below, they have handed up, and n is SOLVED
-pub record SimChildren (ν : ℕ → ℕ) (Y : Layout) (γ n : ℕ) (s : Side) (ks : Children) (a : ℕ) (F L R : List State)
+pub record SimChildren (ν : ℕ → ℕ) (T : Tree) (γ n : ℕ) (s : Side) (ks : Children) (a : ℕ) (F L R : List State)
     (q : PassChildren ks) : Type 0 where
   pub below : (B : ℕ) → q .notBelow ≡ false
-      → Steps ν Y (a + B) (L ++ (F ++ R)) (q .evaluated) (L ++ (frontierChildren ν s ks (q .next) ++ R))
+      → Steps ν T (a + B) (L ++ (F ++ R)) (q .evaluated) (L ++ (frontierChildren ν s ks (q .next) ++ R))
       (partChildren ν s ks (q .next) + B)
   pub above : (B : ℕ) → q .notBelow ≡ true
-      → Steps ν Y (a + B) (L ++ (F ++ R)) (q .evaluated) (handed s Y n L ++ (solved n γ ∷ handed s Y n R)) B
+      → Steps ν T (a + B) (L ++ (F ++ R)) (q .evaluated) (handed s T n L ++ (solved n γ ∷ handed s T n R)) B
 
 -- the replacement of a LIVE inner node comes first
-enter : {ν : ℕ → ℕ} {Y : Layout} (x B : ℕ) {b : ℕ} {L M N : List State} {w : List ℕ} → step ν Y L ≡ quiet M
-    → Steps ν Y (x + B) M w N b → Steps ν Y (suc x + B) L w N b
+enter : {ν : ℕ → ℕ} {T : Tree} (x B : ℕ) {b : ℕ} {L M N : List State} {w : List ℕ} → step ν T L ≡ quiet M
+    → Steps ν T (x + B) M w N b → Steps ν T (suc x + B) L w N b
 enter x B e p = let less : x + B < suc x + B = omega arith in quietly e less p
 
 -- handing up comes last
-hand-up : {ν : ℕ → ℕ} {Y : Layout} (x B : ℕ) {L M N : List State} {w : List ℕ} → ((C : ℕ) → Steps ν Y (x + C) L w M C)
-    → step ν Y M ≡ quiet N → Steps ν Y (suc x + B) L w N B
+hand-up : {ν : ℕ → ℕ} {T : Tree} (x B : ℕ) {L M N : List State} {w : List ℕ} → ((C : ℕ) → Steps ν T (x + C) L w M C)
+    → step ν T M ≡ quiet N → Steps ν T (suc x + B) L w N B
 hand-up x B p e =
     let more : x + suc B ≤ suc x + B = omega arith in
     allow more (then-quiet (p (suc B)) (le-refl _) e)
 
-module _ (ν : ℕ → ℕ) (Y : Layout) (γ : ℕ) (g : γ ≤ greatest) where
+module _ (ν : ℕ → ℕ) (T : Tree) (γ : ℕ) (g : γ ≤ greatest) where
   -- STEP 5. A LEAF
 
   -- LIVE, it is evaluated; SOLVED, nothing is done
-  sim-leaf : (n : ℕ) (m : Memo (leaf n)) (w : Fitted ν γ (leaf n) m) → Y .subtree n ≡ leaf n
-      → AtMost γ (states ν γ (leaf n) m w) → (L R : List State) → AroundTree Y γ (leaf n) L R
-      → Sim ν Y γ (leaf n) (work ν γ (leaf n) m w) (states ν γ (leaf n) m w) L R (pass ν γ (leaf n) m)
+  sim-leaf : (n : ℕ) (m : Memo (leaf n)) (w : Fitted ν γ (leaf n) m) → subtreeAt n T ≡ leaf n
+      → AtMost γ (states ν γ (leaf n) m w) → (L R : List State) → AroundTree T γ (leaf n) L R
+      → Sim ν T γ (leaf n) (work ν γ (leaf n) m w) (states ν γ (leaf n) m w) L R (pass ν γ (leaf n) m)
   sim-leaf n m (inl e) p b L R a =
       let f : m .evaluated ≡ false = ap (λ (x : Memo (leaf n)). x .evaluated) e in
-      let taken = takes-leaf ν Y γ (leaf n) L R a n p in
+      let taken = takes-leaf ν T γ (leaf n) L R a n p in
       rw f (record {
         below = λ B d.
             let h : min γ (ν n) ≡ ν n = omega (arith, leb-false γ (ν n) d) in
@@ -107,27 +107,27 @@ module _ (ν : ℕ → ℕ) (Y : Layout) (γ : ℕ) (g : γ ≤ greatest) where
         above = λ B d.
             let h : ν n ≡ γ = omega (arith, leb-true γ (ν n) d, b .0) in
             let rest : B ≤ 0 + B = omega arith in
-            subst (λ x. Steps ν Y (0 + B) (L ++ (solved n (ν n) ∷ R)) [] (L ++ (solved n x ∷ R)) B) h (done rest);
+            subst (λ x. Steps ν T (0 + B) (L ++ (solved n (ν n) ∷ R)) [] (L ++ (solved n x ∷ R)) B) h (done rest);
       })
 
   -- AN INNER NODE
 
   -- one that is ready and whose high is below the test costs no step; an untouched one is entered
   sim-inner : (n : ℕ) (s : Side) (ks : Children) (m : Memo (inner n s ks)) (w : Fitted ν γ (inner n s ks) m)
-      → (L R : List State) → AroundTree Y γ (inner n s ks) L R
-      → Sim ν Y γ (inner n s ks) (work ν γ (inner n s ks) m w) (states ν γ (inner n s ks) m w) L R
+      → (L R : List State) → AroundTree T γ (inner n s ks) L R
+      → Sim ν T γ (inner n s ks) (work ν γ (inner n s ks) m w) (states ν γ (inner n s ks) m w) L R
       (entered n s ks (passChildren ν γ s ks (m .kids)))
-      → Sim ν Y γ (inner n s ks) (work ν γ (inner n s ks) m w) (states ν γ (inner n s ks) m w) L R
+      → Sim ν T γ (inner n s ks) (work ν γ (inner n s ks) m w) (states ν γ (inner n s ks) m w) L R
       (pass ν γ (inner n s ks) m)
   sim-inner n s ks m (inl e) L R a q =
-      let P = Sim ν Y γ (inner n s ks) (suc (fullChildren s ks)) (live n γ ∷ []) L R in
+      let P = Sim ν T γ (inner n s ks) (suc (fullChildren s ks)) (live n γ ∷ []) L R in
       cond-cases P (ltb (memoHighChildren ν s ks (m .kids)) γ) _ _
       (λ l. absurd (fresh-not-below ν γ g s ks (m .kids) (kids-fresh n s ks e) (ltb-true _ γ l)))
       (λ _. cond-cases P (m .notBelow) _ _
       (λ f. absurd (true-not-false f (ap (λ (x : Memo (inner n s ks)). x .notBelow) e)))
       (λ _. q))
   sim-inner n s ks m (inr d) L R a q =
-      let P = Sim ν Y γ (inner n s ks) (partChildren ν s ks (m .kids)) (frontierChildren ν s ks (m .kids)) L R in
+      let P = Sim ν T γ (inner n s ks) (partChildren ν s ks (m .kids)) (frontierChildren ν s ks (m .kids)) L R in
       cond-cases P (ltb (memoHighChildren ν s ks (m .kids)) γ) _ _
       (λ _. record {
         below = λ B _. done (le-refl _);
@@ -139,25 +139,25 @@ module _ (ν : ℕ → ℕ) (Y : Layout) (γ : ℕ) (g : γ ≤ greatest) where
 
   -- the first by A, with the states G of its brothers behind it, the others by B
   sim-max : (n : ℕ) (t : Tree) (ts : Children) (m : MemoChildren (t then ts)) (a b : ℕ) (F G L R : List State) → 0 < b
-      → Y .link (number t) ≡ under n Max (some (firstOf ts)) → AroundTree Y γ t L (G ++ R)
-      → All (λ s. Y .above n (s .node) ≡ true) G
-      → All (λ s. Y .above n (s .node) ≡ true) (frontier ν t (pass ν γ t (m .first) .next))
-      → Sim ν Y γ t a F L (G ++ R) (pass ν γ t (m .first))
+      → linkIn T (number t) ≡ under n Max (some (firstOf ts)) → AroundTree T γ t L (G ++ R)
+      → All (λ s. aboveIn T n (s .node) ≡ true) G
+      → All (λ s. aboveIn T n (s .node) ≡ true) (frontier ν t (pass ν γ t (m .first) .next))
+      → Sim ν T γ t a F L (G ++ R) (pass ν γ t (m .first))
       → (pass ν γ t (m .first) .notBelow ≡ false
-      → SimChildren ν Y γ n Max ts b G (L ++ frontier ν t (pass ν γ t (m .first) .next)) R
+      → SimChildren ν T γ n Max ts b G (L ++ frontier ν t (pass ν γ t (m .first) .next)) R
       (passChildren ν γ Max ts (m .rest)))
-      → SimChildren ν Y γ n Max (t then ts) (a + b) (F ++ G) L R (passChildren ν γ Max (t then ts) m)
+      → SimChildren ν T γ n Max (t then ts) (a + b) (F ++ G) L R (passChildren ν γ Max (t then ts) m)
   sim-max n t ts m a b F G L R pos link u gin fin A B =
-      let hand = takes-max ν Y γ t L (G ++ R) u n _ link in
+      let hand = takes-max ν T γ t L (G ++ R) u n _ link in
       let F′ = frontier ν t (pass ν γ t (m .first) .next) in
       let G′ = frontierChildren ν Max ts (passChildren ν γ Max ts (m .rest) .next) in
       let c = part ν t (pass ν γ t (m .first) .next) in
-      cond-cases (SimChildren ν Y γ n Max (t then ts) (a + b) (F ++ G) L R) (pass ν γ t (m .first) .notBelow) _ _
+      cond-cases (SimChildren ν T γ n Max (t then ts) (a + b) (F ++ G) L R) (pass ν γ t (m .first) .notBelow) _ _
       (λ e. record {
         below = λ x f. absurd (true-not-false e f);
         above = λ x f.
             rw (append-assoc F G R, add-assoc a b x)
-            (rw (purge-right Y n G R gin) at
+            (rw (purge-right T n G R gin) at
             (then-quiet {c = x} (A .above (b + x) e) (omega arith) hand));
       })
       (λ e. record {
@@ -169,7 +169,7 @@ module _ (ν : ℕ → ℕ) (Y : Layout) (γ : ℕ) (g : γ ≤ greatest) where
         above = λ x f.
             rw (append-assoc F G R, add-assoc a b x)
             (chain (A .below (b + x) e) (omega arith)
-            (spare {c = x} (rw (append-assoc L F′ (G ++ R), purge-left Y n L F′ fin) at (B e .above (c + x) f))
+            (spare {c = x} (rw (append-assoc L F′ (G ++ R), purge-left T n L F′ fin) at (B e .above (c + x) f))
             (omega arith)));
       })
 
@@ -179,10 +179,10 @@ module _ (ν : ℕ → ℕ) (Y : Layout) (γ : ℕ) (g : γ ≤ greatest) where
   sim-min-found : (n : ℕ) (t : Tree) (ts : Children) (m : MemoChildren (t then ts)) (b : ℕ) (G L R : List State)
       → ScoredChildren ν (t then ts) → KeptChildren ν γ (t then ts) m → pass ν γ t (m .first) .notBelow ≡ true
       → pass ν γ t (m .first) .evaluated ≡ []
-      → SimChildren ν Y γ n Min ts b G L R (passChildren ν γ Min ts (m .rest))
-      → SimChildren ν Y γ n Min (t then ts) b G L R (passChildren ν γ Min (t then ts) m)
+      → SimChildren ν T γ n Min ts b G L R (passChildren ν γ Min ts (m .rest))
+      → SimChildren ν T γ n Min (t then ts) b G L R (passChildren ν γ Min (t then ts) m)
   sim-min-found n t ts m b G L R h k a v B =
-      cond-cases (SimChildren ν Y γ n Min (t then ts) b G L R) (not (pass ν γ t (m .first) .notBelow)) _ _
+      cond-cases (SimChildren ν T γ n Min (t then ts) b G L R) (not (pass ν γ t (m .first) .notBelow)) _ _
       (λ e. absurd (true-not-false a (not-true _ e)))
       (λ e. record {
         below = λ x f. rw (v, first-outdone ν γ g t ts m h k a f) (B .below x f);
@@ -191,15 +191,15 @@ module _ (ν : ℕ → ℕ) (Y : Layout) (γ : ℕ) (g : γ ≤ greatest) where
 
   -- the first runs by A; if it is not below, its brothers, untouched, go on by B
   sim-min : (n : ℕ) (t : Tree) (ts : Children) (m : MemoChildren (t then ts)) (a : ℕ) (F L R : List State)
-      → Y .link (number t) ≡ under n Min (some (firstOf ts)) → AroundTree Y γ t L R
+      → linkIn T (number t) ≡ under n Min (some (firstOf ts)) → AroundTree T γ t L R
       → ScoredChildren ν (t then ts) → KeptChildren ν γ (t then ts) m → m .rest ≡ freshChildren ts
-      → Sim ν Y γ t a F L R (pass ν γ t (m .first))
-      → SimChildren ν Y γ n Min ts (fullChildren Min ts) (live (firstOf ts) γ ∷ []) L R
+      → Sim ν T γ t a F L R (pass ν γ t (m .first))
+      → SimChildren ν T γ n Min ts (fullChildren Min ts) (live (firstOf ts) γ ∷ []) L R
       (passChildren ν γ Min ts (m .rest))
-      → SimChildren ν Y γ n Min (t then ts) (suc a + fullChildren Min ts) F L R (passChildren ν γ Min (t then ts) m)
+      → SimChildren ν T γ n Min (t then ts) (suc a + fullChildren Min ts) F L R (passChildren ν γ Min (t then ts) m)
   sim-min n t ts m a F L R link u h k untouched A B =
       let b = fullChildren Min ts in
-      cond-cases (SimChildren ν Y γ n Min (t then ts) (suc a + b) F L R) (not (pass ν γ t (m .first) .notBelow)) _ _
+      cond-cases (SimChildren ν T γ n Min (t then ts) (suc a + b) F L R) (not (pass ν γ t (m .first) .notBelow)) _ _
       (λ e. record {
         below = λ x f.
             rw (first-least ν γ g t ts m h k f untouched)
@@ -208,7 +208,7 @@ module _ (ν : ℕ → ℕ) (Y : Layout) (γ : ℕ) (g : γ ≤ greatest) where
       })
       (λ e.
       let d = not-false _ e in
-      let nextLive = takes-next ν Y γ t L R u n (firstOf ts) link in
+      let nextLive = takes-next ν T γ t L R u n (firstOf ts) link in
       record {
         below = λ x f.
             rw (first-outdone ν γ g t ts m h k d f)
@@ -223,20 +223,20 @@ module _ (ν : ℕ → ℕ) (Y : Layout) (γ : ℕ) (g : γ ≤ greatest) where
 
   mutual
     -- one pass of MTD at a node is a run of SSS* over its states
-    pub sim : (t : Tree) (m : Memo t) (w : Fitted ν γ t m) → Answers Y t → Scored ν t → Kept ν γ t m
-        → AtMost γ (states ν γ t m w) → (L R : List State) → AroundTree Y γ t L R
-        → Sim ν Y γ t (work ν γ t m w) (states ν γ t m w) L R (pass ν γ t m)
+    pub sim : (t : Tree) (m : Memo t) (w : Fitted ν γ t m) → Answers T t → Scored ν t → Kept ν γ t m
+        → AtMost γ (states ν γ t m w) → (L R : List State) → AroundTree T γ t L R
+        → Sim ν T γ t (work ν γ t m w) (states ν γ t m w) L R (pass ν γ t m)
     sim (leaf n) m w p h k b L R a = sim-leaf n m w p b L R a
     sim (inner n s ks) m (inl e) p h k b L R a =
         let f = kids-fresh n s ks e in
         let E = states-fresh ν γ s ks (m .kids) f in
         let W = work-fresh ν γ s ks (m .kids) f in
-        let C = handed-clear Y γ n s ks L R a in
+        let C = handed-clear T γ n s ks L R a in
         let S =
         simChildren n s ks (m .kids) (fitted-fresh ν γ s ks (m .kids) f) (p .2) h (k .1)
         (fresh-atMost ν γ s ks (m .kids) f)
         (p .1) L R (narrow (λ p i. inr i) a) in
-        let entry = takes-inner ν Y γ (inner n s ks) L R a n s ks (p .0) in
+        let entry = takes-inner ν T γ (inner n s ks) L R a n s ks (p .0) in
         sim-inner n s ks m (inl e) L R a
         (record {
           below = λ x d. enter (fullChildren s ks) x entry (rw (E, W) at (S .below x d));
@@ -245,7 +245,7 @@ module _ (ν : ℕ → ℕ) (Y : Layout) (γ : ℕ) (g : γ ≤ greatest) where
     sim (inner n s ks) m (inr r) p h k b L R a =
         let E = states-ready ν γ s ks (m .kids) (r .1) in
         let W = work-ready ν γ s ks (m .kids) (r .1) in
-        let C = handed-clear Y γ n s ks L R a in
+        let C = handed-clear T γ n s ks L R a in
         let S =
         simChildren n s ks (m .kids) (fitted-ready ν γ s ks (m .kids) (r .1)) (p .2) h (k .1) (rw E b) (p .1) L R
         (narrow (λ p i. inr i) a) in
@@ -256,14 +256,14 @@ module _ (ν : ℕ → ℕ) (Y : Layout) (γ : ℕ) (g : γ ≤ greatest) where
         })
 
     simChildren : (n : ℕ) (s : Side) (ks : Children) (m : MemoChildren ks) (w : FittedChildren ν γ s ks m)
-        → AnswersChildren Y n s ks
+        → AnswersChildren T n s ks
         → ScoredChildren ν ks → KeptChildren ν γ ks m → AtMost γ (statesChildren ν γ s ks m w)
-        → ((p : ℕ) → InChildren p ks → Y .above n p ≡ true) → (L R : List State) → AroundChildren Y γ ks L R
-        → SimChildren ν Y γ n s ks (workChildren ν γ s ks m w) (statesChildren ν γ s ks m w) L R
+        → ((p : ℕ) → InChildren p ks → aboveIn T n p ≡ true) → (L R : List State) → AroundChildren T γ ks L R
+        → SimChildren ν T γ n s ks (workChildren ν γ s ks m w) (statesChildren ν γ s ks m w) L R
         (passChildren ν γ s ks m)
     simChildren n s (last t) m w p h k b i L R a =
         let S = sim t m w (p .1) h k b L R a in
-        let hand = takes-last ν Y γ t L R a s n (p .0) in
+        let hand = takes-last ν T γ t L R a s n (p .0) in
         record {
           below = λ x d. allow (omega arith) (spare (S .below (suc x) d) (omega arith));
           above = λ x d. hand-up (work ν γ t m w) x (λ c. S .above c d) hand;
@@ -277,14 +277,14 @@ module _ (ν : ℕ → ℕ) (Y : Layout) (γ : ℕ) (g : γ ≤ greatest) where
         let gin = statesChildren-nodes ν γ Max ts (m .rest) (w .1) in
         let fin = frontier-nodes ν t (pass ν γ t (m .first) .next) in
         let N = next ν γ g t (m .first) (w .0) (h .0) (k .0) bF in
-        let u = around-first Y γ t ts L R (p .1) a G bG gin in
+        let u = around-first T γ t ts L R (p .1) a G bG gin in
         let lower = all-map _ _ (λ s j. i (s .node) (inl j)) F′ fin in
         sim-max n t ts m (work ν γ t (m .first) (w .0)) (workChildren ν γ Max ts (m .rest) (w .1)) F G L R
         (work-positive ν γ Max ts (m .rest) (w .1)) (p .0) u
         (all-map _ _ (λ s j. i (s .node) (inr j)) G gin) lower
         (sim t (m .first) (w .0) (p .2) (h .0) (k .0) bF L (G ++ R) u)
         (λ e. simChildren n Max ts (m .rest) (w .1) (p .3) (h .1) (k .1) bG (λ x j. i x (inr j)) (L ++ F′) R
-        (around-rest Y γ t ts L R (p .1) a F′ (N e .1) fin))
+        (around-rest T γ t ts L R (p .1) a F′ (N e .1) fin))
     simChildren n Min (t then ts) m (inl w) p h k b i L R a =
         let A = notBelow-again ν γ t (m .first) (h .0) (k .0) (w .0) in
         sim-min-found n t ts m (workChildren ν γ Min ts (m .rest) (w .1)) (statesChildren ν γ Min ts (m .rest) (w .1))
@@ -299,7 +299,7 @@ module _ (ν : ℕ → ℕ) (Y : Layout) (γ : ℕ) (g : γ ≤ greatest) where
         (fresh-atMost ν γ Min ts (m .rest) f) (λ x j. i x (inr j)) L R (narrow (λ p i. inr i) a) in
         let E = states-fresh ν γ Min ts (m .rest) f in
         let W = work-fresh ν γ Min ts (m .rest) f in
-        let u : AroundTree Y γ t L R = narrow (λ p i. inl i) a in
+        let u : AroundTree T γ t L R = narrow (λ p i. inl i) a in
         sim-min n t ts m (work ν γ t (m .first) (w .0)) (states ν γ t (m .first) (w .0)) L R (p .0) u
         h k f
         (sim t (m .first) (w .0) (p .2) (h .0) (k .0) b L R u)

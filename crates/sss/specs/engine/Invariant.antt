@@ -5,7 +5,6 @@ use mathlib.Core.Path.{_≡_}
 use mathlib.Core.List.{List, _++_}
 use lib.ListN.{length, drop, replicate}
 use Rattle.gametree.specs.Tree.{greatest}
-use Rattle.gametree.specs.Layout.{layoutOf}
 use Rattle.gametree.specs.Sss.{Evaluation}
 use Rattle.gametree.specs.Sss as theory
 use Rattle.frames.specs.Frame.{frames}
@@ -33,7 +32,7 @@ sssRun a t = sssWithin a (valuation t) (tree t)
 
 -- after k replacements that evaluated the leaves v, SSS* has the list L
 abbrev pub Reaches : List ℕ → ℕ → List ℕ → List theory.State → Type 0
-Reaches t k v L = theory.ListAfter (valuation t) (layoutOf (tree t)) (tree t) k v L
+Reaches t k v L = theory.ListAfter (valuation t) (tree t) k v L
 
 -- the list ls and the front w show a list that SSS* reaches, and node i is the one to take, with merit γ
 pub record Keeps (t : List ℕ) (ls : List State) (w : List ℕ) (γ i k : ℕ) (v : List ℕ) : Type 0 where

@@ -10,13 +10,15 @@ use mathlib.Core.List.{List, _∷_}
 use lib.Dec.{ltb}
 use borrow.Author.Tests.{lt-ltb, le-ltb}
 use Rattle.gametree.specs.declared.Side.{Side}
-use Rattle.gametree.specs.Tree.{leaf, inner}
-use Rattle.gametree.specs.Layout.{Layout, root, under, firstOf, othersOf}
-use Rattle.gametree_theory.proofs.sss.Described.{Answers, AnswersChildren, Describes}
+use Rattle.gametree.specs.Tree.{Tree, leaf, inner}
+use Rattle.gametree.specs.Nodes.{root, under, firstOf, othersOf, subtreeAt, linkIn}
+use Rattle.gametree_theory.proofs.sss.Described.{Answers, AnswersChildren}
+use Rattle.gametree_theory.proofs.sss.OwnNodes.{own-root, own-answers}
 use Rattle.frames.specs.Frame.{frames, firstChild, childCount}
 use Rattle.frames.specs.Position.{sideOf}
 use Rattle.frames.specs.Tree.{upFrom, childrenFrom, treeAt, tree}
 use Rattle.frames.specs.Formed.{WellFormed, ChildOf}
+use Rattle.frames.proofs.Nodes.{tree-distinct}
 use Rattle.frames.proofs.Parents.{top-down}
 use Rattle.frames.proofs.Trees.{zero-or-suc, tree-leaf, tree-inner, tree-number}
 
@@ -35,10 +37,13 @@ others-of t i (suc n) = ap₂ _∷_ (first-of t (i + 1) n) (others-of t (i + 1) 
 abbrev pub nextBrother : ℕ → ℕ → Option ℕ
 nextBrother k end = cond (ltb (k + 1) end) (some (k + 1)) none
 
-module _ (t : List ℕ) (wf : WellFormed t) (Y : Layout) (d : Describes Y (tree t)) where
-  kid-answers : (i : ℕ) (s : Side) (first n k : ℕ) → AnswersChildren Y i s (childrenFrom (treeAt t) first n) → first ≤ k
+module _ (t : List ℕ) (wf : WellFormed t) where
+  abbrev T : Tree
+  T = tree t
+
+  kid-answers : (i : ℕ) (s : Side) (first n k : ℕ) → AnswersChildren T i s (childrenFrom (treeAt t) first n) → first ≤ k
       → k ≤ first + n
-      → (Y .link k ≡ under i s (nextBrother k (first + suc n))) × Answers Y (treeAt t k)
+      → (linkIn T k ≡ under i s (nextBrother k (first + suc n))) × Answers T (treeAt t k)
   unfolding childrenFrom
   kid-answers i s first zero k a l m =
       let e : k ≡ first = omega arith in
@@ -53,31 +58,35 @@ module _ (t : List ℕ) (wf : WellFormed t) (Y : Layout) (d : Describes Y (tree 
             (rw (tree-number t first, first-of t (first + 1) n) at (a .0), a .2))
       ]
 
-  answers-child : {i k : ℕ} → i < frames t → ChildOf t i k → Answers Y (treeAt t i)
-      → (Y .link k ≡ under i (sideOf t i) (nextBrother k (firstChild t i + childCount t i))) × Answers Y (treeAt t k)
+  answers-child : {i k : ℕ} → i < frames t → ChildOf t i k → Answers T (treeAt t i)
+      → (linkIn T k ≡ under i (sideOf t i) (nextBrother k (firstChild t i + childCount t i))) × Answers T (treeAt t k)
   answers-child {i} {k} h c a =
       zero-or-suc (childCount t i) (λ e. absurd (omega (arith, c .from, c .to))) (λ n e.
       rw e (kid-answers i (sideOf t i) (firstChild t i) n k ((rw (tree-inner t wf i n h e) at a) .2) (c .from)
       (omega (arith, c .to))))
 
-  -- the layout answers for the tree at each node
-  pub answers-at : (k : ℕ) → k < frames t → Answers Y (treeAt t k)
-  answers-at = top-down t wf (λ k. Answers Y (treeAt t k)) (d .answers) (λ i k h c a. answers-child h c a .1)
+  -- the tree answers as it says
+  pub answers : Answers T T
+  answers = own-answers T (tree-distinct t wf 0 (wf .nonEmpty))
+
+  -- so it does for the tree at each node
+  pub answers-at : (k : ℕ) → k < frames t → Answers T (treeAt t k)
+  answers-at = top-down t wf (λ k. Answers T (treeAt t k)) answers (λ i k h c a. answers-child h c a .1)
 
   -- the root has no parent
-  pub link-root : Y .link 0 ≡ root
-  link-root = rw (tree-number t 0) at (d .top)
+  pub link-root : linkIn T 0 ≡ root
+  link-root = rw (tree-number t 0) at (own-root T)
 
   -- a child's parent, its side, and the next brother
   pub link-child : {i k : ℕ} → i < frames t → ChildOf t i k
-      → Y .link k ≡ under i (sideOf t i) (nextBrother k (firstChild t i + childCount t i))
+      → linkIn T k ≡ under i (sideOf t i) (nextBrother k (firstChild t i + childCount t i))
   link-child {i} h c = answers-child h c (answers-at i h) .0
 
   -- a node without children is a leaf
-  pub subtree-leaf : (i : ℕ) → i < frames t → childCount t i ≡ 0 → Y .subtree i ≡ leaf i
+  pub subtree-leaf : (i : ℕ) → i < frames t → childCount t i ≡ 0 → subtreeAt i T ≡ leaf i
   subtree-leaf i h e = rw (tree-leaf t wf i h e) at (answers-at i h)
 
   -- another has its side and its children
   pub subtree-inner : (i n : ℕ) → i < frames t → childCount t i ≡ suc n
-      → Y .subtree i ≡ inner i (sideOf t i) (childrenFrom (treeAt t) (firstChild t i) n)
+      → subtreeAt i T ≡ inner i (sideOf t i) (childrenFrom (treeAt t) (firstChild t i) n)
   subtree-inner i n h e = (rw (tree-inner t wf i n h e) at (answers-at i h)) .0

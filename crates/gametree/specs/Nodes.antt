@@ -1,4 +1,6 @@
--- What SSS* asks of a tree by the numbers of its nodes, and the answers that the tree itself gives.
+-- What SSS* asks of a tree by the numbers of its nodes: a node's subtree and its link to its parent, whether it is
+-- above another (its ancestor), and whether it is left of it (in the subtree of an elder brother of a node on the
+-- other's path).
 use Prim.Native.Nat.{ℕ}
 use mathlib.Core.Bool.{Bool, false, cond, not, _&&_}
 use mathlib.Core.Option.{Option, none, some}
@@ -11,14 +13,6 @@ use Rattle.gametree.specs.Tree.{Side, Tree, leaf, inner, Children, last,
 pub data Link : Type 0 where
   root : Link
   under : (parent : ℕ) (side : Side) (next : Option ℕ) → Link
-
--- each node's subtree and its link to its parent, whether the first of two nodes is above the second (its ancestor),
--- and whether it is left of it (in the subtree of an elder brother of a node on the other's path)
-pub record Layout : Type 0 where
-  pub subtree : ℕ → Tree
-  pub link : ℕ → Link
-  pub above : ℕ → ℕ → Bool
-  pub leftOf : ℕ → ℕ → Bool
 
 -- the first child's number, and those of the others
 abbrev pub firstOf : Children → ℕ
@@ -63,8 +57,3 @@ before (x ∷ xs) p q = cond (eqb p x) (among xs q) (before xs p q)
 -- is p left of q: it comes before q among the nodes, and is not above it
 abbrev pub leftIn : Tree → ℕ → ℕ → Bool
 leftIn t p q = before (nodes t) p q && not (aboveIn t p q)
-
--- the tree's own layout
-abbrev pub layoutOf : Tree → Layout
-layoutOf t =
-    record { subtree = λ p. subtreeAt p t; link = linkIn t; above = aboveIn t; leftOf = leftIn t }

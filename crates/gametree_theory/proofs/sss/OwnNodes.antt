@@ -1,4 +1,4 @@
--- A tree with distinct numbers is described by its own layout.
+-- What a tree with distinct numbers answers, by the numbers of its nodes, is what the tree says.
 use Prim.Native.Nat.{ℕ}
 use mathlib.Core.Path.{_≡_, refl, sym, _∙_, ap, subst}
 use mathlib.Core.Logic.{inl, inr}
@@ -10,9 +10,8 @@ use Rattle.lists.specs.Lists.{among}
 use Rattle.gametree.specs.declared.Side.{Side}
 use Rattle.gametree.specs.Tree.{Tree, leaf, inner, Children, last, _then_, number, nodes, nodesChildren, In}
 use Rattle.gametree.specs.Tree.{InChildren, Distinct, DistinctChildren}
-use Rattle.gametree.specs.Layout.{root, subtreeAt, subtreeAtChildren, linkIn, linkInChildren, aboveIn, before}
-use Rattle.gametree.specs.Layout.{layoutOf}
-use Rattle.gametree_theory.proofs.sss.Described.{Apart, Answers, AnswersChildren, Describes}
+use Rattle.gametree.specs.Nodes.{root, subtreeAt, subtreeAtChildren, linkIn, linkInChildren, aboveIn, before}
+use Rattle.gametree_theory.proofs.sss.Described.{Apart, Answers, AnswersChildren}
 use Rattle.lists.proofs.Choice.{cond-cases, true-not-false, or-false-both}
 use Rattle.lists.proofs.Lists.{among-append, among-right}
 use Rattle.gametree_theory.proofs.minimax.Nodes.{number-in, in-nodes, in-nodesChildren, out-nodes}
@@ -134,15 +133,15 @@ module _ (T : Tree) (n : ℕ) (s : Side) (t : Tree) (ts : Children) (d : (p : �
   apart-rest p q i j =
       rw (rest-subtrees q j, out-nodes p (subtreeAtChildren q ts) (λ k. d p i (subtreeChildren-in q p ts k))) refl
 
-  looks-apart : Apart (layoutOf T) t ts
+  looks-apart : Apart T t ts
   looks-apart p q i j =
       let b = l .orders p q (inl i) (inr j)
       ∙ before-apart (nodes t) (nodesChildren ts) p q (in-nodes p t i) (in-nodesChildren q ts j) in
       (apart-first p q i j, apart-rest p q i j, rw (b, apart-first p q i j) refl)
 
 mutual
-  -- so its layout answers as t says
-  looks-answers : (T t : Tree) → Distinct t → Looks T t → Answers (layoutOf T) t
+  -- so it answers as t says
+  looks-answers : (T t : Tree) → Distinct t → Looks T t → Answers T t
   looks-answers T (leaf n) d l = l .subtrees n refl
   looks-answers T (inner n s ks) d l =
       let e : subtreeAt n T ≡ inner n s ks = l .subtrees n (inl refl) ∙ rw (eq-eqb n n refl) refl in (
@@ -152,7 +151,7 @@ mutual
       )
 
   looks-answersChildren : (T : Tree) (n : ℕ) (s : Side) (ks : Children) → DistinctChildren ks → LooksChildren T n s ks
-      → AnswersChildren (layoutOf T) n s ks
+      → AnswersChildren T n s ks
   looks-answersChildren T n s (last t) d l = (
     l .links (number t) (number-in t) ∙ rw (eq-eqb (number t) (number t) refl) refl,
     looks-answers T t d (looks-last T n s t l),
@@ -164,15 +163,12 @@ mutual
     looks-answersChildren T n s ts (d .1) (looks-rest T n s t ts (d .2) l),
   )
 
-own-root : (t : Tree) → linkIn t (number t) ≡ root
+-- the root of a tree has no parent in it
+pub own-root : (t : Tree) → linkIn t (number t) ≡ root
 own-root (leaf n) = refl
 own-root (inner n s ks) = rw (eq-eqb n n refl) refl
 
--- a tree with distinct numbers is described by its own layout
-pub own-layout : (t : Tree) → Distinct t → Describes (layoutOf t) t
-own-layout t d =
-    record {
-      top = own-root t;
-      answers =
-          looks-answers t t d (record { subtrees = λ p i. refl; links = λ p i h. refl; orders = λ p q i j. refl });
-    }
+-- a tree with distinct numbers answers as it says itself
+pub own-answers : (t : Tree) → Distinct t → Answers t t
+own-answers t d =
+    looks-answers t t d (record { subtrees = λ p i. refl; links = λ p i h. refl; orders = λ p q i j. refl })
