@@ -75,7 +75,7 @@ def many(counts):
 
 def falling(counts):
     """Values such that the root's high falls by one leaf after the other: each leaf is worth less than every leaf of a
-    smaller path read upwards; a leaf with an inner brother is worth least."""
+    smaller path read upwards; a leaf with an inner sibling is worth least."""
     tree = o.Tree(o.table_of(counts, [0] * len(counts)))
 
     def key(k):

@@ -1,5 +1,5 @@
 -- The leaves that alpha-beta evaluates in a tree are nodes of the tree, so that a visit of a child leaves the trees of
--- its younger brothers without a mark.
+-- its younger siblings without a mark.
 use Prim.Native.Nat.{ℕ, _+_, _<_}
 use mathlib.Core.Path.{_≡_, refl}
 use mathlib.Core.Logic.{inl, inr}

@@ -1,4 +1,4 @@
--- No leaf is evaluated twice: a visit marks leaves of the node's own tree only, and the trees of its younger brothers
+-- No leaf is evaluated twice: a visit marks leaves of the node's own tree only, and the trees of its younger siblings
 -- have no node in common with that, so that they stay without a mark until their own visit.
 use Prim.Native.Nat.{ℕ, _+_, _≤_, _<_}
 use native.Mathlib.Omega.{arith}

@@ -1,4 +1,4 @@
--- What SSS* asks of a tree, answered from the table: a node's subtree, its parent and next brother, and which nodes are
+-- What SSS* asks of a tree, answered from the table: a node's subtree, its parent and next sibling, and which nodes are
 -- below it.
 use Prim.Native.Nat.{ℕ, zero, suc, _+_, _≤_, _<_}
 use native.Mathlib.Omega.{arith}
@@ -33,9 +33,9 @@ unfolding childrenFrom upFrom
 others-of t i zero = refl
 others-of t i (suc n) = ap₂ _∷_ (first-of t (i + 1) n) (others-of t (i + 1) n)
 
--- the next brother of child k, where the children end before `end`
-abbrev pub nextBrother : ℕ → ℕ → Option ℕ
-nextBrother k end = cond (ltb (k + 1) end) (some (k + 1)) none
+-- the next sibling of child k, where the children end before `end`
+abbrev pub nextSibling : ℕ → ℕ → Option ℕ
+nextSibling k end = cond (ltb (k + 1) end) (some (k + 1)) none
 
 module _ (t : List ℕ) (wf : WellFormed t) where
   abbrev T : Tree
@@ -43,7 +43,7 @@ module _ (t : List ℕ) (wf : WellFormed t) where
 
   kid-answers : (i : ℕ) (s : Side) (first n k : ℕ) → AnswersChildren T i s (childrenFrom (treeAt t) first n) → first ≤ k
       → k ≤ first + n
-      → (linkIn T k ≡ under i s (nextBrother k (first + suc n))) × Answers T (treeAt t k)
+      → (linkIn T k ≡ under i s (nextSibling k (first + suc n))) × Answers T (treeAt t k)
   unfolding childrenFrom
   kid-answers i s first zero k a l m =
       let e : k ≡ first = omega arith in
@@ -59,7 +59,7 @@ module _ (t : List ℕ) (wf : WellFormed t) where
       ]
 
   answers-child : {i k : ℕ} → i < frames t → ChildOf t i k → Answers T (treeAt t i)
-      → (linkIn T k ≡ under i (sideOf t i) (nextBrother k (firstChild t i + childCount t i))) × Answers T (treeAt t k)
+      → (linkIn T k ≡ under i (sideOf t i) (nextSibling k (firstChild t i + childCount t i))) × Answers T (treeAt t k)
   answers-child {i} {k} h c a =
       zero-or-suc (childCount t i) (λ e. absurd (omega (arith, c .from, c .to))) (λ n e.
       rw e (kid-answers i (sideOf t i) (firstChild t i) n k ((rw (tree-inner t wf i n h e) at a) .2) (c .from)
@@ -77,9 +77,9 @@ module _ (t : List ℕ) (wf : WellFormed t) where
   pub link-root : linkIn T 0 ≡ root
   link-root = rw (tree-number t 0) at (own-root T)
 
-  -- a child's parent, its side, and the next brother
+  -- a child's parent, its side, and the next sibling
   pub link-child : {i k : ℕ} → i < frames t → ChildOf t i k
-      → linkIn T k ≡ under i (sideOf t i) (nextBrother k (firstChild t i + childCount t i))
+      → linkIn T k ≡ under i (sideOf t i) (nextSibling k (firstChild t i + childCount t i))
   link-child {i} h c = answers-child h c (answers-at i h) .0
 
   -- a node without children is a leaf

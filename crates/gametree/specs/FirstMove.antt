@@ -18,7 +18,7 @@ pub record Moved : Type 0 where
 abbrev pub moveTo : ℕ → Tested → Moved
 moveTo n r = record { move = n; evaluated = r .evaluated }
 
--- the move q among the younger brothers, after the leaves of the eldest's test r
+-- the move q among the younger siblings, after the leaves of the eldest's test r
 abbrev pub moveLater : Tested → Moved → Moved
 moveLater r q = record { move = q .move; evaluated = r .evaluated ++ q .evaluated }
 

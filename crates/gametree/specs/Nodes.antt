@@ -1,5 +1,5 @@
 -- What SSS* asks of a tree by the numbers of its nodes: a node's subtree and its link to its parent, whether it is
--- above another (its ancestor), and whether it is left of it (in the subtree of an elder brother of a node on the
+-- above another (its ancestor), and whether it is left of it (in the subtree of an elder sibling of a node on the
 -- other's path).
 use Prim.Native.Nat.{ℕ}
 use mathlib.Core.Bool.{Bool, false, cond, not, _&&_}
@@ -9,7 +9,7 @@ use lib.Dec.{eqb}
 use Rattle.lists.specs.Lists.{among}
 use Rattle.gametree.specs.Tree.{Side, Tree, leaf, inner, Children, last, _then_, number, nodes}
 
--- the root, or a node under a parent, with the parent's side and the next brother
+-- the root, or a node under a parent, with the parent's side and the next sibling (01: brother)
 pub data Link : Type 0 where
   root : Link
   under : (parent : ℕ) (side : Side) (next : Option ℕ) → Link

@@ -73,7 +73,7 @@ replaceLive ν k (leaf n) =
 replaceLive ν k (inner n Max ks) = quiet (put k (map (λ c. live c (k .state .merit)) (firstOf ks ∷ othersOf ks)))
 replaceLive ν k (inner n Min ks) = quiet (put k (live (firstOf ks) (k .state .merit) ∷ []))
 
--- a SOLVED state: under Max the parent is SOLVED and all states below it go; under Min the next brother is LIVE,
+-- a SOLVED state: under Max the parent is SOLVED and all states below it go; under Min the next sibling is LIVE,
 -- after the last the parent is SOLVED
 abbrev pub replaceSolved : Tree → Taken → Link → Step
 replaceSolved t k root = stop (k .state .merit)

@@ -180,7 +180,7 @@ module _ (σ : Strategy) (ν : ℕ → ℕ) (t : Tree) (h : Scored ν t) where
   pub decide-move : decideBy σ ν t .move ≡ rootMove ν t
   decide-move = decide-right σ ν t h .move
 
-  -- the bounds show each elder brother of the move to be worse: under Max its high is below the value, under Min its
+  -- the bounds show each elder sibling of the move to be worse: under Max its high is below the value, under Min its
   -- low is above it
   pub decide-elders : ElderMovesWorse ν (among (decideBy σ ν t .evaluated)) t
   decide-elders = decide-right σ ν t h .elders

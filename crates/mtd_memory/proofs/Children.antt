@@ -78,7 +78,7 @@ module _ {t : List ℕ} {γ : ℕ} {s : Side} {ks : Children} {m m′ m″ : Mem
         let e = ap (settles s) (sym (p .answer)) ∙ h in
         remainder-end o (rw e) (rw e) (visit-ended (valuation t) γ s T ts d _ _ _ _ (p .memo) e)
 
-    -- after another one its younger brothers are owed
+    -- after another one its younger siblings are owed
     pub remainder-rest : settles s (r .answer) ≡ false → Remainder t γ s ks ts m m″
     remainder-rest h =
         let e = ap (settles s) (sym (p .answer)) ∙ h in

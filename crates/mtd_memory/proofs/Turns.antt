@@ -52,7 +52,7 @@ pub record Left (t : List ℕ) (s : Side) (γ first end : ℕ) (m m′ : Memory)
   pub passed : PassedChildren t γ s (childrenUpTo t first end) m m′ b
   pub highs : Highs t first end m m′
 
--- the first of the children left, alone or with younger brothers
+-- the first of the children left, alone or with younger siblings
 pub kids-last : (t : List ℕ) (i end : ℕ) → i + 1 ≡ end → childrenUpTo t i end ≡ last (treeAt t i)
 unfolding childrenFrom
 kids-last t i end e = let z : end - (i + 1) ≡ 0 = omega arith in rw z

@@ -60,7 +60,7 @@ module _ {t : List ℕ} {γ : ℕ} {s : Side} {ks : Children} {m m′ m″ : Mem
         let e = ap (settles s) (sym (p .answer)) ∙ h in
         remainder-end o (rw e)
 
-    -- after another one its younger brothers are owed
+    -- after another one its younger siblings are owed
     pub remainder-rest : settles s (r .answer) ≡ false → Remainder t γ s ks ts m m″
     remainder-rest h =
         let e = ap (settles s) (sym (p .answer)) ∙ h in

@@ -67,7 +67,7 @@ module _ (a z : Arrays) where
         more m F G (shown-same h (d .0) (λ k j. g k (inl j))) (rw (g (number t) (inl (number-in t)) .best) i)
         (siblings-same b (d .1) (λ k j. g k (inr j))) e
 
-    -- a change within u leaves its brothers as they were
+    -- a change within u leaves its siblings as they were
     pub beside-same : {q : Side} {m : ℕ} {ks : Children} {u : Tree} {F G : List State} → Beside a q m ks u F G
         → DistinctChildren ks → ((k : ℕ) → InChildren k ks → (In k u → ⊥) → AgreeAt a z k) → Beside z q m ks u F G
     beside-same only d g = only
@@ -120,7 +120,7 @@ opened a n {q = q} {ks = ks} {u = u} {m = m} {c = c} {G = G} i b f l h e =
     let leads : Leads a n u = record { link = l ∙ sym i; later = rw i h; best = best } in
     expanded {q = q} {ks = ks} [] (live c m ∷ []) G leads (fresh-shows a m u i f) (rw e b) refl
 
--- brothers and a child whose merit may have fallen: no merit is above m
+-- siblings and a child whose merit may have fallen: no merit is above m
 pub beside-all : (a : Arrays) {m : ℕ} {ks : Children} {u : Tree} {F G : List State} (M : List State)
     → Beside a Max m ks u F G → Shows a u M → a .best (number u) ≤ m → Siblings a Max (m + 1) ks (F ++ (M ++ G))
 beside-all a {m} {u = u} M only h i = one (m + 1) (subst (λ l. Shows a u l) (sym (append-nil M)) h) (omega arith)
@@ -129,7 +129,7 @@ beside-all a {G = G} M (later F₁ F₂ (one m s j) c e) h i =
     more (m + 1) F₁ (F₂ ++ (M ++ G)) s (omega arith) (beside-all a M c h i)
     (ap (λ f. f ++ (M ++ G)) e ∙ append-assoc F₁ F₂ (M ++ G))
 
--- the brothers of a Min node's child have no states, whatever their limit
+-- the siblings of a Min node's child have no states, whatever their limit
 pub beside-min : (a : Arrays) {m : ℕ} {ks : Children} {u : Tree} {F G : List State} (k : ℕ) → Beside a Min m ks u F G
     → Beside a Min k ks u F G
 beside-min a k only = only

@@ -77,7 +77,7 @@ module _ (t : List ℕ) (wf : WellFormed t) where
   parent-own {a} {n = n} {q = s} {ks = ks} {u = u} w b =
       let o = around-own w in parent-is t wf (o .1) (child-is n s ks u (o .0) (o .1) (beside-child a b) .0)
 
--- the child of number c, with its states between those of its brothers
+-- the child of number c, with its states between those of its siblings
 pub record Chosen (a : Arrays) (q : Side) (ks : Children) (m : ℕ) (L : List State) (c : ℕ) : Type 0 where
   pub tree : Tree
   pub number-is : number tree ≡ c
@@ -115,7 +115,7 @@ module _ (t : List ℕ) (a : Arrays) where
         limit = omega arith;
       }
 
-  -- the leftmost of greatest merit among brothers
+  -- the leftmost of greatest merit among siblings
   pub leftmost-chosen : (m i n c : ℕ) (L : List State) → Siblings a Max (m + 1) (childrenFrom (treeAt t) i n) L → i ≤ c
       → c ≤ i + n → ((k : ℕ) → i ≤ k → k < c → a .best k < a .best c)
       → ((k : ℕ) → i ≤ k → k ≤ i + n → a .best k ≤ a .best c) → Chosen a Max (childrenFrom (treeAt t) i n) m L c
@@ -142,7 +142,7 @@ module _ (t : List ℕ) (a : Arrays) where
         limit = v .limit;
       })
 
-  -- LIVE states of brothers
+  -- LIVE states of siblings
   fresh-siblings : (m i n : ℕ) → ((k : ℕ) → i ≤ k → k ≤ i + n → Fresh a m k)
       → Siblings a Max (m + 1) (childrenFrom (treeAt t) i n) (map (λ k. live k m) (i ∷ upFrom (i + 1) n))
   unfolding childrenFrom upFrom

@@ -131,7 +131,7 @@ fn of_inner(table: &[u8], node: usize, count: usize, side: Side, merit: u32) -> 
     }
 }
 
-// Under Max the parent of a SOLVED state is SOLVED; under Min the next brother is LIVE, after the last the parent is
+// Under Max the parent of a SOLVED state is SOLVED; under Min the next sibling is LIVE, after the last the parent is
 // SOLVED.
 fn of_child(table: &[u8], node: usize, parent: usize, side: Side, merit: u32) -> Change
     requires { ⌜ (node < maxNodes) × (parent < frames (now table)) ⌝ }
@@ -140,9 +140,9 @@ fn of_child(table: &[u8], node: usize, parent: usize, side: Side, merit: u32) ->
     match side {
         Side::Max => one(parent, parent, Status::Solved, merit),
         Side::Min => {
-            let brother = node + 1;
-            if brother < first_child(table, parent) + child_count(table, parent) {
-                one(parent, brother, Status::Live, merit)
+            let sibling = node + 1;
+            if sibling < first_child(table, parent) + child_count(table, parent) {
+                one(parent, sibling, Status::Live, merit)
             } else {
                 one(parent, parent, Status::Solved, merit)
             }

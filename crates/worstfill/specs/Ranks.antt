@@ -14,7 +14,7 @@ unfoldable pub withRank : (i r : ℕ) → List ℕ → List ℕ
 withRank i r t = set (set t (frameSize * i + 4) (r / 256)) (frameSize * i + 5) (r % 256)
 
 -- the table with the ranks from r on at the leaves of a tree, a child's ranks being a block: at Max the first child's
--- block comes before those of its younger brothers, so that they rise from left to right, at Min after them
+-- block comes before those of its younger siblings, so that they rise from left to right, at Min after them
 abbrev mutual
   pub ranked : (r : ℕ) → Tree → List ℕ → List ℕ
   ranked r (leaf i) t = withRank i r t

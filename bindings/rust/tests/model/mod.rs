@@ -511,7 +511,7 @@ pub fn search(method: Method, table: &[u8], lent: Lent) -> Answer<Within> {
     })
 }
 
-/// Is a leaf evaluated by alpha-beta? Baudet's condition: of the minimax values of elder brothers on its path, the
+/// Is a leaf evaluated by alpha-beta? Baudet's condition: of the minimax values of elder siblings on its path, the
 /// greatest below a Max node is less than the least below a Min node. For an accepted table.
 pub fn baudet(table: &[u8]) -> Vec<bool> {
     let tree = Tree::new(table);

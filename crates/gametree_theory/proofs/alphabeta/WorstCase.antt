@@ -26,7 +26,7 @@ total t = length (leaves t)
 abbrev pub totalChildren : Children → ℕ
 totalChildren ks = length (leavesChildren ks)
 
--- where the blocks of a child and of its younger brothers begin: rising at Max, falling at Min
+-- where the blocks of a child and of its younger siblings begin: rising at Max, falling at Min
 abbrev pub elderFrom : Side → (b younger : ℕ) → ℕ
 elderFrom Max b younger = b
 elderFrom Min b younger = b + younger
@@ -46,7 +46,7 @@ abbrev mutual
   BlocksChildren ν s b (t then ts) =
       Blocks ν (elderFrom s b (totalChildren ts)) t × BlocksChildren ν s (youngerFrom s b (total t)) ts
 
--- the leaves of a child and of its younger brothers, together
+-- the leaves of a child and of its younger siblings, together
 total-then : (t : Tree) (ts : Children) → totalChildren (t then ts) ≡ total t + totalChildren ts
 total-then t ts = length-append (leaves t) (leavesChildren ts)
 
@@ -87,7 +87,7 @@ apart : (s : Side) (b m n x y : ℕ) → (elderFrom s b n ≤ x) × (x < elderFr
 apart Max b m n x y h k e = omega arith
 apart Min b m n x y h k e = omega arith
 
--- a leaf is one of a child's, or of its younger brothers'
+-- a leaf is one of a child's, or of its younger siblings'
 pub leaf-cases : (t : Tree) (ts : Children) (x : ℕ) → among (leavesChildren (t then ts)) x ≡ true
     → (among (leaves t) x ≡ true) ⊎ (among (leavesChildren ts) x ≡ true)
 leaf-cases t ts x h =

@@ -82,7 +82,7 @@ marking-stay w t m b h = record { new = tt; once = tt; marks = rw append-nil h }
 
 module _ (w : List ℕ) (t : Tree) (ts : Children) (d : (p : ℕ) → In p t → InChildren p ts → ⊥) (r : Pass t)
     (a : Marking w t r) where
-  -- the first child's leaves are none of its brothers'
+  -- the first child's leaves are none of its siblings'
   not-theirs : All (λ k. InChildren k ts → ⊥) (r .evaluated)
   not-theirs = all-map _ _ (λ k x i. d k (x .0) i) (r .evaluated) (a .new)
 
@@ -101,7 +101,7 @@ module _ (w : List ℕ) (t : Tree) (ts : Children) (d : (p : ℕ) → In p t →
         );
       }
 
-  -- it does not, and its brothers are tried
+  -- it does not, and its siblings are tried
   marking-joined : (q : PassChildren ts) → MarkingChildren (w ++ r .evaluated) ts q
       → MarkingChildren w (t then ts) (joined t ts r q)
   marking-joined q b =

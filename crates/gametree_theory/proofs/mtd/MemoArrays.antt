@@ -61,7 +61,7 @@ mutual
 
 module _ (ν : ℕ → ℕ) (γ : ℕ) (s : Side) (t : Tree) (ts : Children) (d : (p : ℕ) → In p t → InChildren p ts → ⊥)
     (M F M₁ F₁ : Bits) (a : Remembered ν γ t M F M₁ F₁) where
-  -- the brothers' memo is untouched by the first child's visit
+  -- the siblings' memo is untouched by the first child's visit
   pub rest-same : readMemoChildren M₁ F₁ ts ≡ readMemoChildren M F ts
   rest-same = readMemoChildren-same M₁ F₁ M F ts (λ p i. a .elsewhere p (λ j. d p j i))
 
@@ -74,7 +74,7 @@ module _ (ν : ℕ → ℕ) (γ : ℕ) (s : Side) (t : Tree) (ts : Children) (d 
         elsewhere = λ p h. a .elsewhere p (λ i. h (inl i));
       }
 
-  -- it does not, and its brothers are visited next
+  -- it does not, and its siblings are visited next
   pub visit-joined : (M₂ F₂ : Bits) → settles s (pass ν γ t (readMemo M F t) .notBelow) ≡ false
       → KidsRemembered ν γ s ts M₁ F₁ M₂ F₂ → KidsRemembered ν γ s (t then ts) M F M₂ F₂
   visit-joined M₂ F₂ e b =

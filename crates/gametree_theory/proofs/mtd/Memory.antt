@@ -152,7 +152,7 @@ module _ (ν : ℕ → ℕ) (γ : ℕ) (s : Side) (t : Tree) (ts : Children) (d 
       let k = visit-ended ν γ s t ts d _ _ _ _ first-remembered e in
       record { answer = rw e (a .answer); leaves = rw e (a .leaves); got = k .got; elsewhere = k .elsewhere }
 
-  -- it does not, and its brothers are tried
+  -- it does not, and its siblings are tried
   matches-joined : settles s (pass ν γ t (memoOf m t) .notBelow) ≡ false → (x : Trial)
       → MatchesChildren ts (r .memory) x (passChildren ν γ s ts (memoOfChildren (r .memory) ts))
       → MatchesChildren (t then ts) m x (passChildren ν γ s (t then ts) (memoOfChildren m (t then ts)))
@@ -169,7 +169,7 @@ module _ (ν : ℕ → ℕ) (γ : ℕ) (s : Side) (t : Tree) (ts : Children) (d 
         elsewhere = k .elsewhere;
       }
 
-  -- its brothers are tried if it does not settle its parent
+  -- its siblings are tried if it does not settle its parent
   matches-then : (x : Trial)
       → MatchesChildren ts (r .memory) x (passChildren ν γ s ts (memoOfChildren (r .memory) ts))
       → MatchesChildren (t then ts) m (cond (settles s (r .notBelow)) r x)

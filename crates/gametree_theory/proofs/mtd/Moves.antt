@@ -91,7 +91,7 @@ module _ (ν : ℕ → ℕ) (n : ℕ) (ks : Children) where
       runMax-decides f (memoHigh ν t x) x h (kept-lower ν t x (omega arith) (a .kept)) (rootMax-below γ m b e)
       (le-refl _) (omega arith))
 
--- MTD decides at a Max root: the elder brothers of the first child not below the value have their highs below it
+-- MTD decides at a Max root: the elder siblings of the first child not below the value have their highs below it
 mtdMax-decides : (ν : ℕ → ℕ) (n : ℕ) (ks : Children) → ScoredChildren ν ks
     → DecidesMax ν (memoMtd ν (inner n Max ks) .value) ks (memoMtd ν (inner n Max ks) .memo .kids)
 unfolding memoMtd
@@ -209,7 +209,7 @@ module _ (ν : ℕ → ℕ) (n : ℕ) (ks : Children) where
       (kept-lower ν t x (omega arith) (a .kept)) (omega arith) i
       (inr (readyMin-decides ν γ _ ks (x .kids) h (a .kept .1) g (N .0 .1) refl c)) (omega arith))
 
--- MTD decides at a Min root: the elder brothers of the first child whose high is at most the value have their lows
+-- MTD decides at a Min root: the elder siblings of the first child whose high is at most the value have their lows
 -- above it
 mtdMin-decides : (ν : ℕ → ℕ) (n : ℕ) (ks : Children) → ScoredChildren ν ks
     → DecidesMin ν (memoMtd ν (inner n Min ks) .value) ks (memoMtd ν (inner n Min ks) .memo .kids)

@@ -55,7 +55,7 @@ floor-test α β δ = go (ltb α β) refl (leb δ β) refl
     go true p false q = let y = leb-false δ β q in sym (lt-leb (max (suc α) δ) β (omega arith))
     go false p b q = let x = ltb-false α β p in sym (lt-leb (max (suc α) δ) β (omega arith))
 
--- a first child's floor, and its brothers'
+-- a first child's floor, and its siblings'
 first-floor : (s : Side) (α β δ y : ℕ) → max (suc α) (rival s δ β y) ≡ firstFloor s (max (suc α) δ) β y
 first-floor Max α β δ y = omega arith
 first-floor Min α β δ y = refl
@@ -157,7 +157,7 @@ min-first γ β u y h = omega arith
 floor-first : (γ z : ℕ) → z ≤ γ → (max (suc γ) z ≡ suc γ) × (γ ≡ max γ z)
 floor-first γ z h = omega arith
 
--- once the first child's value is reached, its brothers' floors no longer depend on the test; before, they are the test
+-- once the first child's value is reached, its siblings' floors no longer depend on the test; before, they are the test
 floor-reached : (γ u : ℕ) → γ ≤ u → max (suc γ) (suc u) ≡ max γ (suc u)
 floor-reached γ u h = omega arith
 

@@ -18,13 +18,13 @@ use Rattle.gametree.specs.engine.Memo.{Memo, MemoChildren, memoHigh, memoHighCh
 use Rattle.gametree_theory.proofs.mtd.Sound.{minimax-memoHigh, minimaxChildren-memoHighChildren}
 use Rattle.gametree_theory.proofs.mtd.Value.{freshChildren-memoHigh}
 
--- the least test with which a first child is tried: under Max no younger brother may reach more, y being the best of
+-- the least test with which a first child is tried: under Max no younger sibling may reach more, y being the best of
 -- theirs
 abbrev pub firstFloor : Side → (c β y : ℕ) → ℕ
 firstFloor Max c β y = max c (min β y)
 firstFloor Min c β y = c
 
--- and with which its younger brothers are: under Max more than its own value v
+-- and with which its younger siblings are: under Max more than its own value v
 abbrev pub restFloor : Side → (c v : ℕ) → ℕ
 restFloor Max c v = max c (suc v)
 restFloor Min c v = c

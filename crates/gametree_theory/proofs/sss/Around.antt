@@ -38,7 +38,7 @@ more-nodes f F w = all-map _ _ (λ s i. f (s .node) i) F w
 both-nodes : (P Q : ℕ → Type 0) (F G : List State) → Nodes P F → Nodes Q G → Nodes (λ p. P p ⊎ Q p) (F ++ G)
 both-nodes P Q F G v w = all-append _ F G (more-nodes (λ p i. inl i) F v) (more-nodes (λ p i. inr i) G w)
 
--- the frontiers of two brothers
+-- the frontiers of two siblings
 join-nodes : (P Q : ℕ → Type 0) (s : Side) (b : Bool) (F G : List State) → Nodes P F → Nodes Q G
     → Nodes (λ p. P p ⊎ Q p) (join-frontier s b F G)
 join-nodes P Q Max b F G v w = both-nodes P Q F G v w
@@ -115,7 +115,7 @@ narrow f {L} {R} a =
 
 module _ (T : Tree) (γ : ℕ) (t : Tree) (ts : Children) (L R : List State) (z : Apart T t ts)
     (a : AroundChildren T γ (t then ts) L R) where
-  -- around the first child of a Max node, with the states G of its brothers behind it
+  -- around the first child of a Max node, with the states G of its siblings behind it
   pub around-first : (G : List State) → AtMost γ G → Nodes (λ p. InChildren p ts) G
       → AroundTree T γ t L (G ++ R)
   around-first G b w =
@@ -128,7 +128,7 @@ module _ (T : Tree) (γ : ℕ) (t : Tree) (ts : Children) (L R : List State) (z 
         clearRight = all-append _ G R (all-map _ _ (λ s i p j. z p (s .node) j i .0) G w) (u .clearRight);
       }
 
-  -- around its brothers, with its frontier F before them
+  -- around its siblings, with its frontier F before them
   pub around-rest : (F : List State) → Below γ F → Nodes (λ p. In p t) F → AroundChildren T γ ts (L ++ F) R
   around-rest F b w =
       let u : AroundChildren T γ ts L R = narrow (λ p i. inr i) a in
@@ -198,7 +198,7 @@ module _ (ν : ℕ → ℕ) (T : Tree) (γ : ℕ) (t : Tree) (L R : List State) 
   takes-last Max p e = takes-max p none e
   takes-last Min p e = takes SOLVED _ (rw e refl)
 
-  -- behind any other SOLVED child of a Min node the next brother is LIVE
+  -- behind any other SOLVED child of a Min node the next sibling is LIVE
   pub takes-next : (p b : ℕ) → linkIn T (number t) ≡ under p Min (some b)
       → step ν T (L ++ (solved (number t) γ ∷ R)) ≡ quiet (L ++ (live b γ ∷ R))
   takes-next p b e = takes SOLVED _ (rw e refl)

@@ -7,7 +7,7 @@ use Rattle.gametree.specs.declared.Side.{Side}
 use Rattle.gametree.specs.Tree.{Tree, leaf, inner, Children, last, _then_, number, In, InChildren}
 use Rattle.gametree.specs.Nodes.{under, firstOf, subtreeAt, linkIn, aboveIn, leftIn}
 
--- no node of a child's tree is above a node of a younger brother's, nor the other way round, and the elder's are left
+-- no node of a child's tree is above a node of a younger sibling's, nor the other way round, and the elder's are left
 -- of the younger's
 abbrev pub Apart : Tree → Tree → Children → Type 0
 Apart T t ts =

@@ -105,14 +105,14 @@ beside-in q (t then ts) u F G (inr b) =
       inside-rest t ts G (r .1),
     )
 
--- the brothers of a child of a Min node have no states
+-- the siblings of a child of a Min node have no states
 beside-none : (ks : Children) (u : Tree) (F G : List State) → Beside Min ks u F G → (F ≡ []) × (G ≡ [])
 beside-none (last t) u F G b = (b .1, b .2)
 beside-none (t then ts) u F G (inl b) = (b .1, b .2)
 beside-none (t then ts) u F G (inr b) =
     let r = beside-none ts u (b .1) G (b .4) in (b .2 ∙ ap₂ _++_ (b .3) (r .0), r .1)
 
--- the next brother, where there is one, is a child too
+-- the next sibling, where there is one, is a child too
 abbrev NextIn : Option ℕ → Children → Type 0
 NextIn none ks = Unit {0}
 NextIn (some b) ks = (v : Tree) × (number v ≡ b) × ChildIn v ks

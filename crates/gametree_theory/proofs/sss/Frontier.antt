@@ -36,11 +36,11 @@ Below γ L = All (λ s. s .merit < γ) L
 
 -- THE STATES OF A NODE
 
--- has a younger brother of the first child a lesser high
+-- has a younger sibling of the first child a lesser high
 abbrev pub outdone : (ν : ℕ → ℕ) → Side → (t : Tree) (ts : Children) → MemoChildren (t then ts) → Bool
 outdone ν s t ts m = ltb (memoHighChildren ν s ts (m .rest)) (memoHigh ν t (m .first))
 
--- the frontiers of two brothers: at Max both, at Min that of the one with the lesser high
+-- the frontiers of two siblings: at Max both, at Min that of the one with the lesser high
 abbrev pub join-frontier : Side → Bool → List State → List State → List State
 join-frontier Max b F G = F ++ G
 join-frontier Min true F G = G
@@ -274,7 +274,7 @@ module _ (ν : ℕ → ℕ) (γ : ℕ) where
         let c = ap (λ x. memoHighChildren ν s ks x) e ∙ freshChildren-memoHigh ν s ks in
         omega arith
 
-    -- at Min a first child found below has the least high, if its brothers are untouched
+    -- at Min a first child found below has the least high, if its siblings are untouched
     pub first-least : (t : Tree) (ts : Children) (m : MemoChildren (t then ts)) → ScoredChildren ν (t then ts)
         → KeptChildren ν γ (t then ts) m → pass ν γ t (m .first) .notBelow ≡ false → m .rest ≡ freshChildren ts
         → outdone ν Min t ts (record { first = pass ν γ t (m .first) .next; rest = m .rest }) ≡ false
@@ -283,7 +283,7 @@ module _ (ν : ℕ → ℕ) (γ : ℕ) where
         let l = sound ν γ t (m .first) (h .0) (k .0) .below e in
         le-ltb (memoHighChildren ν Min ts (m .rest)) (memoHigh ν t (pass ν γ t (m .first) .next)) (omega arith)
 
-    -- and one found not below has a greater high than a brother found below
+    -- and one found not below has a greater high than a sibling found below
     pub first-outdone : (t : Tree) (ts : Children) (m : MemoChildren (t then ts)) → ScoredChildren ν (t then ts)
         → KeptChildren ν γ (t then ts) m → pass ν γ t (m .first) .notBelow ≡ true
         → passChildren ν γ Min ts (m .rest) .notBelow ≡ false

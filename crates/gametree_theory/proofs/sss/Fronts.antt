@@ -37,12 +37,12 @@ abbrev pub ChildIn : Tree → Children → Type 0
 ChildIn u (last t) = u ≡ t
 ChildIn u (t then ts) = (u ≡ t) ⊎ ChildIn u ts
 
--- the fronts of some brothers of a child: below a Max node each has one, below a Min node none
+-- the fronts of some siblings of a child: below a Max node each has one, below a Min node none
 abbrev pub Siblings : Side → Children → List State → Type 0
 Siblings Max ks L = FrontChildren Max ks L
 Siblings Min ks L = L ≡ []
 
--- u is one of the children, with the fronts F of its elder brothers and G of its younger ones
+-- u is one of the children, with the fronts F of its elder siblings and G of its younger ones
 abbrev pub Beside : Side → Children → Tree → List State → List State → Type 0
 Beside q (last t) u F G = (u ≡ t) × (F ≡ []) × (G ≡ [])
 Beside q (t then ts) u F G =
@@ -55,13 +55,13 @@ pub data Within (r : Tree) : Tree → List State → List State → Type 0 where
   child : {n : ℕ} {q : Side} {ks : Children} {u : Tree} {X Z A B : List State} (F G : List State)
       → Within r (inner n q ks) X Z → Beside q ks u F G → A ≡ X ++ F → B ≡ G ++ Z → Within r u A B
 
--- a front of u is one of its parent where its brothers have none
+-- a front of u is one of its parent where its siblings have none
 between : {u t : Tree} {F G : List State} (M : List State) → u ≡ t → F ≡ [] → G ≡ [] → Front u M
     → Front t (F ++ (M ++ G))
 between {t = t} M e p q f =
     subst (λ L. Front t L) (sym (ap₂ (λ x y. x ++ (M ++ y)) p q ∙ append-nil M)) (subst (λ x. Front x M) e f)
 
--- with the fronts of its brothers it makes one of its parent
+-- with the fronts of its siblings it makes one of its parent
 pub beside-front : (q : Side) (ks : Children) (u : Tree) (F G M : List State) → Beside q ks u F G → Front u M
     → FrontChildren q ks (F ++ (M ++ G))
 beside-front q (last t) u F G M b f = between M (b .0) (b .1) (b .2) f

@@ -9,7 +9,7 @@
 --   5. A leaf takes one step or none.
 --   6. Max: the children go from left to right. One that is below leaves its frontier to the left part; one that is not
 --      hands up, and the purge removes just what is below the node.
---   7. Min: children found not below cost nothing. The ready child runs; if it is not below, the next brother goes
+--   7. Min: children found not below cost nothing. The ready child runs; if it is not below, the next sibling goes
 --      LIVE, and all behind that are untouched.
 --   8. The next test is the root's high, which bounds the frontier again (Run).
 use Prim.Native.Nat.{ℕ, suc, _+_, _≤_, _<_, min}
@@ -137,7 +137,7 @@ module _ (ν : ℕ → ℕ) (T : Tree) (γ : ℕ) (g : γ ≤ greatest) where
 
   -- STEP 6. THE CHILDREN OF A MAX NODE
 
-  -- the first by A, with the states G of its brothers behind it, the others by B
+  -- the first by A, with the states G of its siblings behind it, the others by B
   sim-max : (n : ℕ) (t : Tree) (ts : Children) (m : MemoChildren (t then ts)) (a b : ℕ) (F G L R : List State) → 0 < b
       → linkIn T (number t) ≡ under n Max (some (firstOf ts)) → AroundTree T γ t L (G ++ R)
       → All (λ s. aboveIn T n (s .node) ≡ true) G
@@ -189,7 +189,7 @@ module _ (ν : ℕ → ℕ) (T : Tree) (γ : ℕ) (g : γ ≤ greatest) where
         above = λ x f. rw v (B .above x f);
       })
 
-  -- the first runs by A; if it is not below, its brothers, untouched, go on by B
+  -- the first runs by A; if it is not below, its siblings, untouched, go on by B
   sim-min : (n : ℕ) (t : Tree) (ts : Children) (m : MemoChildren (t then ts)) (a : ℕ) (F L R : List State)
       → linkIn T (number t) ≡ under n Min (some (firstOf ts)) → AroundTree T γ t L R
       → ScoredChildren ν (t then ts) → KeptChildren ν γ (t then ts) m → m .rest ≡ freshChildren ts

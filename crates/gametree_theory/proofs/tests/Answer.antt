@@ -36,7 +36,7 @@ test-same γ a b f g = at (leb γ a) refl
     at true e = sym (le-leb γ b (f (leb-true γ a e)))
     at false e = sym (lt-leb γ b (g (leb-false γ a e)))
 
--- a child of the value a that settles its parent has the parent's answer, whatever its brothers' best, b
+-- a child of the value a that settles its parent has the parent's answer, whatever its siblings' best, b
 settled-answer : (s : Side) (γ a b : ℕ) → settles s (leb γ a) ≡ true → leb γ a ≡ leb γ (better s a b)
 settled-answer Max γ a b e =
     let k = leb-true γ a e in

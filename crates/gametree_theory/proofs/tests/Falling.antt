@@ -1,6 +1,6 @@
 -- MTD(f) from `greatest` with this memory evaluates only leaves that SSS* evaluates: those of the closed form. In
 -- steps: its test is always the root's high, so the tests fall; so under a Min node a child is opened only after its
--- elder brothers were found not below (`InTurn`); so on the way to a leaf no younger brother under Min holds a high
+-- elder siblings were found not below (`InTurn`); so on the way to a leaf no younger sibling under Min holds a high
 -- down, and as the root's high is not above the test, no rival of the leaf exceeds the test, and its beta is not below
 -- the test.
 use Prim.Native.Nat.{ℕ, zero, suc, _≤_, _<_, min}
@@ -46,7 +46,7 @@ use Rattle.gametree_theory.proofs.tests.Subtree.{Untouched, untouched-s
 
 -- IN TURN
 
--- under Min the brothers of a child whose low is below γ are untouched
+-- under Min the siblings of a child whose low is below γ are untouched
 abbrev pub Waits : (ℕ → ℕ) → (ℕ → Bool) → ℕ → Side → Tree → Children → Type 0
 Waits ν E γ Max t ts = Unit
 Waits ν E γ Min t ts = (γ ≤ low ν E t) ⊎ Untouched E ts
@@ -122,7 +122,7 @@ mutual
   inTurnChildren-none ν γ s (last t) = inTurn-none ν γ t
   inTurnChildren-none ν γ s (t then ts) = (inTurn-none ν γ t, inTurnChildren-none ν γ s ts, waits-none ν γ s t ts)
 
--- brothers wait for a child that settles its parent as they did before it was tested
+-- siblings wait for a child that settles its parent as they did before it was tested
 pub waits-settled : (ν : ℕ → ℕ) (γ : ℕ) (s : Side) (w v : List ℕ) (t : Tree) (ts : Children)
     → All (λ k. InChildren k ts → ⊥) v
     → Waits ν (among w) γ s t ts → Waits ν (among (w ++ v)) γ s t ts
@@ -189,12 +189,12 @@ Unrivalled ν α β δ t w = All (λ k. among (unrivalled ν α β δ t) k ≡ t
 abbrev UnrivalledChildren : (ℕ → ℕ) → (α β δ : ℕ) → Side → Children → List ℕ → Type 0
 UnrivalledChildren ν α β δ s ks w = All (λ k. among (unrivalledChildren ν s α β δ ks) k ≡ true) w
 
--- where H is the high of a first child and K that of its brothers, y their value: its rivals do not exceed the test
+-- where H is the high of a first child and K that of its siblings, y their value: its rivals do not exceed the test
 first-rivals : (s : Side) (γ β δ H K y : ℕ) → δ ≤ γ → y ≤ K → min β (better s H K) ≤ γ → rival s δ β y ≤ γ
 first-rivals Max γ β δ H K y h k i = omega arith
 first-rivals Min γ β δ H K y h k i = h
 
--- and its brothers' high, K′ by then, does not within their beta, where m is its value
+-- and its siblings' high, K′ by then, does not within their beta, where m is its value
 rest-high : (s : Side) (γ β m H K K′ : ℕ) → m ≤ H → K′ ≤ K → min β (better s H K) ≤ γ → min (lower s β m) K′ ≤ γ
 rest-high Max γ β m H K K′ h k i = omega arith
 rest-high Min γ β m H K K′ h k i = omega arith

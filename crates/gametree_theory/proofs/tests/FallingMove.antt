@@ -1,6 +1,6 @@
 -- With its last phase, too, MTD(f) from `greatest` evaluates only leaves of SSS*. Under Max the test of the last phase
 -- is the root's high, as every test before. Under Min the last phase evaluates nothing, because the bounds show the
--- first move already: the child that the last answer "below" came from has the root's high, its elder brothers were
+-- first move already: the child that the last answer "below" came from has the root's high, its elder siblings were
 -- found not below that test, and its younger ones were untouched (`InTurn`).
 use Prim.Native.Nat.{ℕ, suc, _≤_, _<_, min}
 use native.Mathlib.Nat.{le-refl, le-trans}
@@ -54,7 +54,7 @@ shows-more ν E F v f (t then ts) h (inl s) = inl (le-trans (high-falls ν E F f
 shows-more ν E F v f (t then ts) h (inr s) =
     inr (omega (arith, low-rises ν E F f t, s .0), shows-more ν E F v f ts (h .1) (s .1))
 
--- a child whose younger brothers were untouched was found below: it has the root's high
+-- a child whose younger siblings were untouched was found below: it has the root's high
 below-shows : (ν : ℕ → ℕ) (E : ℕ → Bool) (γ : ℕ) (t : Tree) (ts : Children) → Scored ν t → high ν E t < γ
     → Waits ν E γ Min t ts
     → high ν E t ≤ minimaxChildren (known ν E greatest) Min (t then ts)

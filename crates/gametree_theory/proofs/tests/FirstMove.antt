@@ -1,6 +1,6 @@
 -- The last phase gives the first root move. It tests the children as a test of the root would, so its leaves are new
 -- and meet Baudet's condition; the bounds confirm the answer of each child up to the move, so they show the move to
--- have the root's value, and each elder brother to be worse.
+-- have the root's value, and each elder sibling to be worse.
 use Prim.Native.Nat.{ℕ, suc, _≤_, _<_}
 use native.Mathlib.Omega.{arith}
 use mathlib.Core.Path.{_≡_, refl, sym, _∙_, ap, subst}

@@ -48,7 +48,7 @@ confirms-settled Max γ false l h l′ h′ e c = absurd (true-not-false e refl)
 confirms-settled Min γ true l h l′ h′ e c = absurd (true-not-false e refl)
 confirms-settled Min γ false l h l′ h′ e c = omega arith
 
--- or if those of a child that does not and those of its brothers are
+-- or if those of a child that does not and those of its siblings are
 confirms-passed : (s : Side) (γ : ℕ) (b c : Bool) (l h l′ h′ : ℕ) → settles s b ≡ false → Confirms γ b l h
     → Confirms γ c l′ h′
     → Confirms γ c (better s l l′) (better s h h′)

@@ -117,7 +117,7 @@ pinned-more Max v m l h l′ h′ a b c d p =
 pinned-more Min v m l h l′ h′ a b c d p =
     record { low-is = omega (arith, p .low-is); high-is = omega (arith, p .high-is) }
 
--- a first child beside v and its brothers beside the better of v and it
+-- a first child beside v and its siblings beside the better of v and it
 pinned-then : (s : Side) (v x m l h M L H : ℕ) → x ≡ better s v m → Pinned s v m l h → Pinned s x M L H
     → Pinned s v (better s m M) (better s l L) (better s h H)
 pinned-then s v x m l h M L H e p q =

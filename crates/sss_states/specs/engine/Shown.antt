@@ -47,20 +47,20 @@ module _ (a : Arrays) where
 
   mutual
     -- the arrays show the states L at and below a node: its own, or those of the child that it goes down to, between
-    -- its brothers'
+    -- its siblings'
     pub data Shows : Tree → List State → Type 0 where
       listed : {t : Tree} {L : List State} → Listed (number t) L → Shows t L
       expanded : {n : ℕ} {q : Side} {ks : Children} {u : Tree} {L : List State} (F M G : List State)
           → Leads n u → Shows u M → Beside q (a .best n) ks u F G → L ≡ F ++ (M ++ G) → Shows (inner n q ks) L
 
-    -- some brothers of that child, with greatest merits below m, show the states L: below a Min node they have none
+    -- some siblings of that child, with greatest merits below m, show the states L: below a Min node they have none
     pub data Siblings : Side → ℕ → Children → List State → Type 0 where
       none : {m : ℕ} {ks : Children} → Siblings Min m ks []
       one : {t : Tree} {L : List State} (m : ℕ) → Shows t L → a .best (number t) < m → Siblings Max m (last t) L
       more : {t : Tree} {ts : Children} {L : List State} (m : ℕ) (F G : List State) → Shows t F → a .best (number t) < m
           → Siblings Max m ts G → L ≡ F ++ G → Siblings Max m (t then ts) L
 
-    -- u is one of the children: its elder brothers show the states F, with merits below m, the younger ones G, with
+    -- u is one of the children: its elder siblings show the states F, with merits below m, the younger ones G, with
     -- merits of at most m
     pub data Beside : Side → ℕ → Children → Tree → List State → List State → Type 0 where
       only : {q : Side} {m : ℕ} {u : Tree} → Beside q m (last u) u [] []

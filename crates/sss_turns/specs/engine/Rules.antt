@@ -26,7 +26,7 @@ abbrev pub ofLive : List ℕ → ℕ → ℕ → Side → ℕ → Change
 ofLive t i γ s zero = one i i Solved (min γ (valuation t i))
 ofLive t i γ s (suc n) = ofInner t i γ s (suc n)
 
--- a SOLVED child i of p: under Max p is SOLVED; under Min the next brother is LIVE, after the last p is SOLVED
+-- a SOLVED child i of p: under Max p is SOLVED; under Min the next sibling is LIVE, after the last p is SOLVED
 abbrev pub ofChild : List ℕ → ℕ → ℕ → ℕ → Side → Change
 ofChild t i γ p Max = one p p Solved γ
 ofChild t i γ p Min = cond (ltb (i + 1) (firstChild t p + childCount t p)) (one p (i + 1) Live γ) (one p p Solved γ)
