@@ -17,10 +17,10 @@
  * STACK, in thousands of bytes, the most over small, deep and large trees (bindings/c/stack.c measures it). Give a
  * thread 256: no call uses the heap instead, and none checks whether its stack suffices.
  *
- *     report       112    least_value  54    graft          33    verify   17
- *     mtdf          67    alphabeta    51    read           25    shorter  17
- *     sss           66    plain        50    capitals       25    convert  25
- *     mtd           50    least_leaves  3    fill            2    every other call under 1
+ *     report       112    alphabeta    51    convert        25    shorter       17
+ *     mtdf          67    plain        50    read           25    least_leaves   3
+ *     sss           66    mtd          50    capitals       25    fill           2
+ *     least_value   54    verify       17    every other call under 1
  */
 #ifndef BUULSET_H
 #define BUULSET_H
