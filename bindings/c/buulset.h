@@ -17,8 +17,8 @@
  * STACK, in thousands of bytes, the most over small, deep and large trees (bindings/c/stack.c measures it). Give a
  * thread 256: no call uses the heap instead, and none checks whether its stack suffices.
  *
- *     report       112    alphabeta    51    convert        25    shorter       17
- *     mtdf          67    plain        50    read           25    least_leaves   3
+ *     report       112    alphabeta    50    convert        25    shorter       17
+ *     mtdf          66    plain        50    read           25    least_leaves   3
  *     sss           66    mtd          50    capitals       25    fill           2
  *     least_value   54    verify       17    every other call under 1
  */

@@ -68,7 +68,7 @@ fn print_case(case: &[u8]) {
     print_answer(&case[start..call], &case[call..]);
 }
 
-// What a call gives for a file, by its name: here the two calls that give flags.
+// What a call gives for a file, by its name. Here are the two calls whose numbers are flags.
 fn print_answer(file: &[u8], call: &[u8]) {
     let mut numbers = [0u32; NUMBERS];
     let count = read_numbers(call, &mut numbers);
@@ -111,7 +111,7 @@ fn print_call(call: &[u8], file: &[u8], numbers: &[u32; NUMBERS]) {
     print_question(call, file, numbers);
 }
 
-// The other calls; without a call, the file's report.
+// The other calls; the file's report where there is no call or its name is not known.
 fn print_question(call: &[u8], file: &[u8], numbers: &[u32; NUMBERS]) {
     if is_named(call, b"@graft") {
         return print_graft(file, numbers);

@@ -61,7 +61,8 @@ module _ (t : List ℕ) (a : Accepted t) where
       let wf = accepted-formed t a in
       theory.held-until (valuation t) (tree t) (tree-proper t wf) r
 
-  -- so the full run gives the value of the root, which is taken SOLVED, and not `least`, as for want of a state
+  -- so the full run gives the root's value, from the root taken SOLVED, and not `least`, which a run without a state to
+  -- take would give
   pub no-empty : (runOf t .value ≡ minimax (valuation t) (tree t)) × (least < runOf t .value)
   no-empty =
       let wf = accepted-formed t a in

@@ -1,5 +1,5 @@
 -- The shorter of two certificates (02: N13, of two proofs), sentence by sentence, over the definitions that the
--- contract of `shorter::select` cites: `choice`, `flagsBy` (`chosenFlags` is that of the choice) and `pointerBy`. The
+-- contract of `shorter::select` cites: `choice`, `flagsBy` (of the choice it is `chosenFlags`) and `pointerBy`. The
 -- table is t, the lent certificates are f and s. Both are lent to be read only, and so keep their bytes. "the one with
 -- fewer flagged leaves, the first on a tie": `fewer-leaves` in Sentences.antt.
 use Prim.Native.Nat.{ℕ}

@@ -12,7 +12,7 @@ use borrow.Author.Tests.{lt-ltb, le-ltb}
 use Rattle.gametree.specs.declared.Side.{Side}
 use Rattle.gametree.specs.Tree.{Tree, leaf, inner}
 use Rattle.gametree.specs.Nodes.{root, under, firstOf, othersOf, subtreeAt, linkIn}
-use Rattle.gametree_theory.proofs.sss.Described.{Answers, AnswersChildren}
+use Rattle.gametree_theory.proofs.sss.Lookups.{Answers, AnswersChildren}
 use Rattle.gametree_theory.proofs.sss.OwnNodes.{own-root, own-answers}
 use Rattle.frames.specs.Frame.{frames, firstChild, childCount}
 use Rattle.frames.specs.Position.{sideOf}

@@ -23,7 +23,7 @@ abbrev pub othersOf : Children → List ℕ
 othersOf (last t) = []
 othersOf (t then ts) = firstOf ts ∷ othersOf ts
 
--- the subtree at the node p
+-- the subtree at p, which is one of the tree's nodes
 abbrev mutual
   pub subtreeAt : ℕ → Tree → Tree
   subtreeAt p (leaf n) = leaf n
@@ -33,7 +33,7 @@ abbrev mutual
   subtreeAtChildren p (last t) = subtreeAt p t
   subtreeAtChildren p (t then ts) = cond (among (nodes t) p) (subtreeAt p t) (subtreeAtChildren p ts)
 
--- the link of the node p, the tree's own node being the root
+-- the link of p, which is one of the tree's nodes; the tree's own node is the root
 abbrev mutual
   pub linkIn : Tree → ℕ → Link
   linkIn (leaf n) p = root

@@ -49,8 +49,9 @@ abbrev pub takenMerit : Tree → List State → ℕ
 takenMerit t [] = 0
 takenMerit t (s ∷ ss) = pick t s ss .state .merit
 
--- what one step does: there is no state to take (no run comes to this: `state-held` in Theorems); the root, SOLVED, is
--- taken; a state is replaced; a state is replaced and a leaf evaluated
+-- what one step does: there is no state to take (no run on a proper tree comes to this: `state-held` in
+-- gametree_theory/proofs/Theorems); the root, SOLVED, is taken; a state is replaced; a state is replaced and a leaf
+-- evaluated
 pub data Step : Type 0 where
   empty : Step
   stop : (value : ℕ) → Step
@@ -103,9 +104,9 @@ pub record SssRun : Type 0 where
   pub evaluations : List Evaluation
   pub replacements : ℕ
 
--- a step after k replacements, m the merit of the state taken, and then the rest of the run. Without a state to take,
--- or past its bound on states taken, a run has the value `least`, which no run on a scored tree has: `sss-minimax` in
--- Theorems.
+-- a step after k replacements, m the merit of the state taken, and then the rest of the run. With no state to take, or
+-- past the bound on states taken, the value is `least`, which no run on a proper tree gives: `sss-minimax` in
+-- gametree_theory/proofs/Theorems.
 abbrev pub follow : Step → (k m : ℕ) → (List State → SssRun) → SssRun
 follow empty k m rest = record { value = least; evaluations = []; replacements = k }
 follow (stop v) k m rest = record { value = v; evaluations = []; replacements = k }

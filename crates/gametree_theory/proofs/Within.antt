@@ -1,5 +1,5 @@
 -- The theorems for use on SSS* within an allowance of leaves, in the manner of Theorems: each says in one sentence what
--- it gives. What the run is by the evaluations of the full run is said first.
+-- it gives. First comes what the run is in terms of the full run's evaluations.
 use Prim.Native.Nat.{ℕ, _-_, _*_, _≤_, _<_}
 use native.Mathlib.Nat.{le-refl, le-of-lt}
 use native.Mathlib.Omega.{arith}

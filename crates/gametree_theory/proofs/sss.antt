@@ -1,5 +1,5 @@
 -- SSS*: what a tree answers, steps, that it does what MTD does, and the lists that it reaches.
-pub mod Described
+pub mod Lookups
 pub mod OwnNodes
 pub mod Steps
 pub mod Frontier

@@ -139,7 +139,8 @@ fn put_frame(table: &[u8], result: &mut [u8], node: usize, i: usize, child: usiz
     result[at + 5] = low;
 }
 
-// The sources of `count` children, numbered from `next` on: those from `from` on, with the root for the named node.
+// Queues the sources of `count` children, the nodes from `next` on: the sources from `from` on, with the second root in
+// place of the named node.
 fn put_children(result: &mut [u8], next: usize, count: usize, from: usize, node: usize, root: usize)
     requires { ⌜ (next + count ≤ frames (now result)) × (from < maxNodes + twoBytes) ⌝ }
     requires { ⌜ ((c : ℕ) → c < count → cond (eqb (from + c) node) root (from + c) < twoBytes) ⌝ }

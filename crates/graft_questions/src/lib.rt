@@ -121,7 +121,8 @@ fn position_of(table: &[u8], node: usize) -> Position
     position
 }
 
-// The parent of a node, sought from right to left among the nodes before it: going up to the root reads no node twice.
+// The parent of a node, sought from right to left among the nodes before it: on the way to the root no candidate is
+// tried twice.
 fn parent_of(table: &[u8], node: usize) -> usize
     requires { ⌜ (WellFormed (now table)) × (0 < node) × (node < frames (now table)) ⌝ }
     ensures { λ r. ⌜ r ≡ parentOf (now (table .entry)) node ⌝ }

@@ -1,6 +1,6 @@
 -- SSS* within an allowance of leaves, step by step, as the code makes it: the run of Sss, which ends before the first
--- leaf that the allowance does not cover. `covered-full` and `spent-first` of proofs/Within say the same by the
--- evaluations of the full run.
+-- leaf that the allowance does not cover. `covered-full` and `spent-first` of gametree_theory/proofs/Within say the
+-- same by the evaluations of the full run.
 use Prim.Native.Nat.{ℕ, zero, suc, _*_}
 use mathlib.Core.List.{List, [], _∷_, _++_, map}
 use Rattle.gametree.specs.Tree.{Tree, least, size}
@@ -18,11 +18,11 @@ pub record Ran : Type 0 where
   pub evaluated : List ℕ
   pub replacements : ℕ
 
--- the end after k replacements
+-- a run that ends so after k replacements, with no leaf evaluated
 abbrev pub ends : End → (k : ℕ) → Ran
 ends e k = record { end = e; evaluated = []; replacements = k }
 
--- a run after others evaluated these leaves
+-- the run r, with these leaves evaluated before its own
 abbrev pub resumed : List ℕ → Ran → Ran
 resumed leaves r = record { end = r .end; evaluated = leaves ++ r .evaluated; replacements = r .replacements }
 

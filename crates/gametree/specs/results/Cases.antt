@@ -101,8 +101,8 @@ abbrev pub numbers : ℕ → List ℕ → List ℕ
 numbers k [] = []
 numbers k (x ∷ xs) = k ∷ numbers (suc k) xs
 
--- what the searches make of a tree: alpha-beta's value and leaves; MTD's value and leaves, and its passes; those of
--- SSS*, and its replacements; the root move; and the flags of the certificate that SSS* gives
+-- what the searches make of a tree: alpha-beta's value and leaves; MTD's value and leaves, and its passes; SSS*'s value
+-- and leaves, and its replacements; the root move; and the flags of the certificate that SSS* gives
 pub record Row : Type 0 where
   pub alphaBeta : SearchResult
   pub mtd : SearchResult

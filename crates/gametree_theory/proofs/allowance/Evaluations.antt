@@ -1,5 +1,5 @@
--- The run within an allowance follows from what the allowance does not cover of the full run's evaluations: by the
--- steps of the run, whatever they are.
+-- The evaluations of the full run that an allowance does not cover determine the run within it: by induction on the
+-- steps, whatever they are.
 use Prim.Native.Nat.{ℕ, zero, suc}
 use mathlib.Core.Path.{_≡_, refl}
 use mathlib.Core.List.{List, [], _∷_}
@@ -10,7 +10,7 @@ use Rattle.gametree.specs.Sss.{follow, runFrom}
 use Rattle.gametree.specs.engine.Within.{Ran, spent, inFull, followWithin, runWithin}
 use Rattle.lists.proofs.Choice.{clash}
 
--- the run that is spent at the evaluation x, as many leaves of the full run r behind it as are allowed
+-- the run that is spent at the evaluation x, after the first a leaves of the full run r
 abbrev pub spentAt : (a : ℕ) → SssRun → Evaluation → Ran
 spentAt a r x =
     record { end = spent (x .merit); evaluated = take a (inFull r .evaluated); replacements = x .replacements }

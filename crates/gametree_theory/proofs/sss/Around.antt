@@ -12,7 +12,7 @@ use Rattle.gametree.specs.declared.Side.the-variants.{Max, Min}
 use Rattle.gametree.specs.Tree.{Tree, leaf, inner, Children, last, _then_, number, In, InChildren}
 use Rattle.gametree.specs.engine.Memo.{Memo, MemoChildren}
 use Rattle.gametree.specs.Nodes.{under, firstOf, othersOf, subtreeAt, linkIn, aboveIn, leftIn}
-use Rattle.gametree_theory.proofs.sss.Described.{Apart}
+use Rattle.gametree_theory.proofs.sss.Lookups.{Apart}
 use Rattle.gametree.specs.Sss.{Status, LIVE, SOLVED, State, live, solved, Step, quiet, evaluating, purge, replace}
 use Rattle.gametree.specs.Sss.{step}
 use Rattle.lists.proofs.Lists.{all-append, all-map, all-zip}

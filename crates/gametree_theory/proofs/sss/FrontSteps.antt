@@ -16,7 +16,7 @@ use Rattle.gametree.specs.Tree.{Tree, leaf, inner, Children, last, _then_, numb
 use Rattle.gametree.specs.Tree.{sizeChildren, In}
 use Rattle.gametree.specs.Tree.{InChildren}
 use Rattle.gametree.specs.Nodes.{root, under, firstOf, othersOf, subtreeAt, linkIn, aboveIn, leftIn}
-use Rattle.gametree_theory.proofs.sss.Described.{Answers, AnswersChildren}
+use Rattle.gametree_theory.proofs.sss.Lookups.{Answers, AnswersChildren}
 use Rattle.gametree_theory.proofs.sss.OwnNodes.{own-root}
 use Rattle.gametree.specs.Sss.{Status, LIVE, SOLVED, State, live, solved, Taken, choose, beats, pick, Step, empty}
 use Rattle.gametree.specs.Sss.{stop, quiet, evaluating, purge, replaceLive, replaceSolved, replace, step}

@@ -102,7 +102,7 @@ resume ν t (afterQuiet r s) f e = resume ν t r (suc f) (omega arith) ∙ rw s 
 resume ν t (afterEvaluating {n = n} {leaves = w} r s) f e =
     resume ν t r (suc f) (omega arith) ∙ rw s (ran-path (sym (append-assoc w (n ∷ []) _)))
 
--- it makes no fewer replacements than it has made
+-- a run counts at least the replacements made before it
 follow-more : (s : Step) (k m : ℕ) (rest : List State → SssRun) → ((M : List State) → k < rest M .replacements)
     → k ≤ follow s k m rest .replacements
 follow-more empty k m rest h = le-refl k

@@ -1,4 +1,4 @@
--- What a tree with distinct numbers answers, by the numbers of its nodes, is what the tree says.
+-- In a tree with distinct numbers, lookups by number agree with the tree's structure.
 use Prim.Native.Nat.{ℕ}
 use mathlib.Core.Path.{_≡_, refl, sym, _∙_, ap, subst}
 use mathlib.Core.Logic.{inl, inr}
@@ -11,7 +11,7 @@ use Rattle.gametree.specs.declared.Side.{Side}
 use Rattle.gametree.specs.Tree.{Tree, leaf, inner, Children, last, _then_, number, nodes, nodesChildren, In}
 use Rattle.gametree.specs.Tree.{InChildren, Distinct, DistinctChildren}
 use Rattle.gametree.specs.Nodes.{root, subtreeAt, subtreeAtChildren, linkIn, linkInChildren, aboveIn, before}
-use Rattle.gametree_theory.proofs.sss.Described.{Apart, Answers, AnswersChildren}
+use Rattle.gametree_theory.proofs.sss.Lookups.{Apart, Answers, AnswersChildren}
 use Rattle.lists.proofs.Choice.{cond-cases, true-not-false, or-false-both}
 use Rattle.lists.proofs.Lists.{among-append, among-right}
 use Rattle.gametree_theory.proofs.minimax.Nodes.{number-in, in-nodes, in-nodesChildren, out-nodes}

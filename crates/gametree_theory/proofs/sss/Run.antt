@@ -8,7 +8,7 @@ use mathlib.Core.Logic.{inl, inr}
 use mathlib.Core.List.{List, [], _∷_, append-nil, map}
 use Rattle.gametree.specs.Tree.{Tree, greatest, minimax, number, size, Scored, Proper}
 use Rattle.gametree.specs.engine.Memo.{Memo, memoHigh, pass, MemoRun, run, fresh, memoMtd}
-use Rattle.gametree_theory.proofs.sss.Described.{Answers}
+use Rattle.gametree_theory.proofs.sss.Lookups.{Answers}
 use Rattle.gametree.specs.Sss.{SOLVED, State, live, solved, stop, step, SssRun, runFrom, sss}
 use Rattle.lists.proofs.Choice.{cond-cases}
 use Rattle.gametree_theory.proofs.mtd.Sound.{Kept, sound}

@@ -31,7 +31,7 @@ use Rattle.gametree.specs.Tree.{Scored, ScoredChildren}
 use Rattle.gametree.specs.engine.Memo.{Memo, MemoChildren, memoHighChildren, Pass, PassChildren, entered, pass}
 use Rattle.gametree.specs.engine.Memo.{passChildren, freshChildren}
 use Rattle.gametree.specs.Nodes.{under, firstOf, subtreeAt, linkIn, aboveIn}
-use Rattle.gametree_theory.proofs.sss.Described.{Answers, AnswersChildren}
+use Rattle.gametree_theory.proofs.sss.Lookups.{Answers, AnswersChildren}
 use Rattle.gametree.specs.Sss.{State, live, solved, quiet, step}
 use Rattle.lists.proofs.Choice.{cond-cases, true-not-false}
 use Rattle.lists.proofs.Lists.{all-left, all-right, all-map}

@@ -27,8 +27,8 @@ abbrev pub sssUncovered : (a : ℕ) → List ℕ → List Evaluation
 sssUncovered a t = drop a (runOf t .evaluations)
 
 -- the run of SSS* on the tree of a table within an allowance of a leaves
-abbrev pub sssRun : (a : ℕ) → List ℕ → Ran
-sssRun a t = sssWithin a (valuation t) (tree t)
+abbrev pub allowedRun : (a : ℕ) → List ℕ → Ran
+allowedRun a t = sssWithin a (valuation t) (tree t)
 
 -- after k replacements that evaluated the leaves v, SSS* has the list L
 abbrev pub Reaches : List ℕ → ℕ → List ℕ → List theory.State → Type 0
@@ -49,7 +49,7 @@ pub record GoesOn (t : List ℕ) (ls : List State) (w : List ℕ) (i k : ℕ) (v
 -- the run within an allowance of a leaves has ended so with the merit γ, after k replacements that evaluated the leaves
 -- v, and its entries of ls are blank
 pub record Over (a : ℕ) (t : List ℕ) (ls : List State) (end : ℕ → End) (γ k : ℕ) (v : List ℕ) : Type 0 where
-  pub ended : sssRun a t ≡ record { end = end γ; evaluated = v; replacements = k }
+  pub ended : allowedRun a t ≡ record { end = end γ; evaluated = v; replacements = k }
   pub atMost : γ ≤ greatest
   pub blank-all : ls ≡ replicate (frames t) blank ++ drop (frames t) ls
 

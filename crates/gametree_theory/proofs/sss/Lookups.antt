@@ -1,4 +1,4 @@
--- What it is for a tree T, by the numbers of its nodes, to answer as a part t of it says.
+-- Lookups by number in a tree T (`subtreeAt`, `linkIn`, `aboveIn`, `leftIn`) agree with the structure of its part t.
 use Prim.Native.Nat.{ℕ}
 use mathlib.Core.Path.{_≡_}
 use mathlib.Core.Bool.{true, false}
