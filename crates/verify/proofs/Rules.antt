@@ -25,7 +25,8 @@ use Rattle.verify.proofs.Subtrees.{Inherited, each-subtree}
 
 module _ (p : Side) (t flags : List ℕ) where
   -- the children in the tree, counted over the table
-  members-kids : (i n : ℕ) → members (member p flags) (childrenFrom (treeAt t) i n) ≡ countFrom (member p flags) i (suc n)
+  members-kids : (i n : ℕ)
+      → members (member p flags) (childrenFrom (treeAt t) i n) ≡ countFrom (member p flags) i (suc n)
   unfolding childrenFrom countFrom
   members-kids i zero = rw (tree-number t i) (omega (arith, count-first (member p flags) i 0))
   members-kids i (suc n) =

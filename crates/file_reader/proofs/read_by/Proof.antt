@@ -1,5 +1,5 @@
 -- `file_reader::read_by` meets its contract: nothing is written to the lent table before question 10 has passed.
-use mathlib.Core.Path.{sym, _∙_}
+use mathlib.Core.Path.{sym}
 use native.Mathlib.Omega.{arith}
 use borrow.Author.Needs.{needs}
 use denote.Ref.{now}

@@ -37,7 +37,8 @@ module _ (p : Side) (t flags : List ℕ) (i : ℕ) (r : rootMember p flags i ≡
 
   -- an inner node
   inner-holds : (m k f n : ℕ) (q : Side) (b : Bool) → f ≡ firstChild t i → n ≡ childCount t i → q ≡ sideOf t i
-      → b ≡ member p flags i → m ≡ countFrom (member p flags) f n → k ≡ requiredOf p q b n → eqb m k ≡ ruleHolds p t flags i
+      → b ≡ member p flags i → m ≡ countFrom (member p flags) f n → k ≡ requiredOf p q b n
+      → eqb m k ≡ ruleHolds p t flags i
   unfolding ruleHolds
   inner-holds m k f n q b ef en eq eb em ek = rw (r, ← ef, ← en, ← eq, ← eb, em, ek)
 
