@@ -33,7 +33,7 @@ use Rattle.sss.specs.declared.SssAnswer.{SssAnswer}
 use Rattle.sss.specs.declared.SssAnswer.the-variants as sss-answer
 use Rattle.sss_states.specs.Entry.{blank}
 use Rattle.sss.specs.Outcome.{runOf, sssLeaves, sssSpent, sssOutcome}
-use Rattle.sss.specs.engine.Invariant.{sssUncovered}
+use Rattle.sss.specs.engine.Uncovered.{sssUncovered}
 use Rattle.sss.proofs.Allowed.{enough, outcome-spent, outcomeBy}
 use Rattle.demands.specs.Handed.{Room, Marked, AgreeOnMarked}
 use Rattle.demands.proofs.Calls.{stateLengths, AlphaBetaCall, SssCall, alphaBeta, sss}

@@ -14,6 +14,7 @@ use Rattle.mtd.proofs as mtd
 use Rattle.mtd.specs.Outcome.{mtdOutcome}
 use Rattle.mtdf.proofs as mtdf
 use Rattle.mtdf.specs.Outcome.{mtdfOutcome}
+use Rattle.sss_states.proofs as sss_states
 use Rattle.sss_states.specs.Entry.{blank}
 use Rattle.sss.proofs as sss
 use Rattle.sss.specs.Outcome.{sssOutcome, solveOutcome}
@@ -84,8 +85,8 @@ pub sss-solve : Runs sss.solve.ended sss.solve.Symbol.routine
 sss-solve = record { meets = sss.solve.Met.met }
 
 -- an entry for a list of states to lend
-pub sss-blank : Runs sss.blank.ended sss.blank.Symbol.routine (λ κs x r e. r ≡ blank)
-sss-blank = record { meets = sss.blank.Met.met }
+pub sss-blank : Runs sss_states.blank.ended sss_states.blank.Symbol.routine (λ κs x r e. r ≡ blank)
+sss-blank = record { meets = sss_states.blank.Met.met }
 
 -- the check of a table, of a certificate, and the children of a node
 

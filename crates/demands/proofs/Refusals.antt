@@ -15,7 +15,7 @@ use Rattle.sss_states.specs.declared.State.{State}
 use Rattle.sss.specs.declared.SssAnswer.{SssAnswer}
 use Rattle.sss.specs.declared.SssAnswer.the-variants as sss-answer
 use Rattle.sss.specs.Outcome.{sssOutcome}
-use Rattle.sss.specs.engine.Invariant.{sssUncovered}
+use Rattle.sss.specs.engine.Uncovered.{sssUncovered}
 use Rattle.sss.proofs.Allowed.{by-rejection}
 use Rattle.sss.proofs.OwnList.{own-list}
 use Rattle.demands.proofs.Calls.{listLengths, stateLengths, AlphaBetaCall, MtdCall, MtdfCall, SssCall, SolveCall}

@@ -20,7 +20,7 @@ use Rattle.sss_states.specs.declared.State.{State}
 use Rattle.sss.specs.declared.SssAnswer.the-variants as sss-answer
 use Rattle.sss_states.specs.Entry.{blank}
 use Rattle.sss.specs.Outcome.{sssLeaves, sssFound}
-use Rattle.sss.specs.engine.Invariant.{sssUncovered}
+use Rattle.sss.specs.engine.Uncovered.{sssUncovered}
 use Rattle.sss.proofs.Allowed.{leaves-few, enough as covered}
 use Rattle.demands.specs.Handed.{Room, CertifiedBy}
 use Rattle.demands.proofs.Calls.{SssCall, Call, found, lent, left, leaves}

@@ -35,7 +35,7 @@ use Rattle.sss.specs.declared.Spent.{Spent}
 use Rattle.sss.specs.declared.SssAnswer.the-variants as sss-answer
 use Rattle.sss_states.specs.Entry.{blank}
 use Rattle.sss.specs.Outcome.{runOf, sssLeaves, sssSpent}
-use Rattle.sss.specs.engine.Invariant.{sssUncovered}
+use Rattle.sss.specs.engine.Uncovered.{sssUncovered}
 use Rattle.sss.proofs.Allowed.{by-allowance}
 use Rattle.demands.proofs.Calls.{stateLengths, SssCall}
 use Rattle.demands.specs.Handed.{Room, Marked, AgreeOnMarked}

@@ -36,7 +36,7 @@ use Rattle.sss.specs.declared.SssResult.{SssResult}
 use Rattle.sss.specs.declared.SssAnswer.{SssAnswer}
 use Rattle.sss.specs.declared.SssAnswer.the-variants as sss-answer
 use Rattle.sss.specs.Outcome.{sssLeaves, sssFound, givenBy}
-use Rattle.sss.specs.engine.Invariant.{sssUncovered}
+use Rattle.sss.specs.engine.Uncovered.{sssUncovered}
 use Rattle.sss.proofs.Allowed.{searched, outcomeBy, by-rejection, by-value}
 use Rattle.demands.specs.Handed.{Room}
 use Rattle.demands.proofs.Calls.{lengths, listLengths, stateLengths, AlphaBetaCall, MtdCall, MtdfCall}

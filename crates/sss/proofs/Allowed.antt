@@ -32,7 +32,7 @@ use Rattle.sss.specs.declared.SssAnswer.{SssAnswer}
 use Rattle.sss.specs.declared.SssAnswer.the-variants.{Found as FoundAnswer, Spent as SpentAnswer}
 use Rattle.sss.specs.declared.SssAnswer.the-variants.{Rejected as RejectedAnswer}
 use Rattle.sss.specs.Outcome.{runOf, sssLeaves, sssFound, sssSpent, givenBy, sssGiven}
-use Rattle.sss.specs.engine.Invariant.{sssUncovered}
+use Rattle.sss.specs.engine.Uncovered.{sssUncovered}
 
 module _ (t : List ℕ) (wf : WellFormed t) where
   pub searched : Searched (valuation t) (tree t) (sssLeaves t)

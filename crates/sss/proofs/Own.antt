@@ -18,8 +18,8 @@ use Rattle.sss.specs.declared.SssResult.{SssResult}
 use Rattle.sss.specs.declared.Spent.{Spent}
 use Rattle.sss.specs.declared.SssAnswer.{SssAnswer}
 use Rattle.sss.specs.declared.SssAnswer.the-variants.{Found as FoundAnswer, Spent as SpentAnswer}
-use Rattle.sss.specs.engine.Invariant.{Running}
-use Rattle.sss.specs.engine.Driven.{DrivenOwn}
+use Rattle.sss_loop.specs.engine.Invariant.{Running}
+use Rattle.sss_loop.specs.engine.Driven.{DrivenOwn}
 use Rattle.sss.specs.engine.Start.{begun}
 use Rattle.sss.specs.engine.Finish.{Answerable, isSpent, endMerit, foundBy, spentBy}
 use Rattle.sss.specs.Outcome.{sssLeaves, sssFound, givenBy}

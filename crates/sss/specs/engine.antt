@@ -1,5 +1,4 @@
 -- What private functions and proofs are stated with, and no public contract or demand cites.
-pub mod Driven
 pub mod Finish
-pub mod Invariant
 pub mod Start
+pub mod Uncovered

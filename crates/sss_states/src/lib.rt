@@ -11,6 +11,7 @@ ghost use Prim.Native.Nat.{_+_, _-_, _≤_, _<_};
 ghost use lib.ListN.{length};
 ghost use Rattle.gametree.specs.Tree.{greatest};
 ghost use Rattle.frames.specs.Frame.{maxNodes, frames};
+ghost use Rattle.sss_states.specs.Entry.{blank as blankEntry};
 ghost use Rattle.sss_states.specs.engine.Kept.{bestAt, linkAt, packedEntry as packedOf, leftmostBest, chosenOf};
 ghost use Rattle.sss_states.specs.engine.Kept.{needsRefresh};
 ghost use Rattle.sss_states.specs.engine.Kept.{refreshed, descended, changed, Puttable, Fits};
@@ -26,6 +27,17 @@ pub struct State {
     pub node: u16,
     pub status: Status,
     pub merit: i32,
+}
+
+// The entry that a search leaves for each node: node 0, LIVE, merit 0.
+pub fn blank() -> State
+    ensures { λ r. ⌜ r ≡ blankEntry ⌝ }
+{
+    State {
+        node: 0,
+        status: Status::Live,
+        merit: 0,
+    }
 }
 
 // What replaces a state: `count` nodes from `first` on get a state with this status and score; nothing changes but at

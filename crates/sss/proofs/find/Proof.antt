@@ -7,7 +7,8 @@ use Rattle.frames.specs.Frame.{maxNodes, frames}
 use Rattle.positions.specs.Buffer.{written}
 use Rattle.sss_states.specs.declared.State.{State}
 use Rattle.sss_states.specs.Entry.{blank}
-use Rattle.sss.proofs.Starting.{zeros, zeros-sound, prepared-at}
+use Rattle.sss_loop.specs.engine.Driven.{zeros}
+use Rattle.sss.proofs.Starting.{zeros-sound, prepared-at}
 use Rattle.sss.proofs.Own.{own-asks, own-gives}
 use Rattle.sss.proofs.find.Statement.{statement}
 use Rattle.sss.proofs.find.Tie as tie

@@ -1,4 +1,4 @@
--- `sss::list::take` meets its contract: a walk of its MIR by hand, since it holds a slice of structs.
+-- `sss_loop::list::take` meets its contract: a walk of its MIR by hand, since it holds a slice of structs.
 use mathlib.Core.Path.{refl}
 use Prim.Native.Nat.{ℕ, _<_, _+_, _*_, _-_, _^_}
 use native.Mathlib.Omega.{arith}
@@ -17,10 +17,10 @@ use Rattle.sss_states.specs.declared.State.{State}
 use Rattle.sss_states.specs.Entry.{blank}
 use Rattle.sss_states.proofs.State as S
 use Rattle.sss_states.proofs.State.Laws as S′
-use Rattle.sss.proofs.list.take.Key.{name as #take}
-use Rattle.sss.proofs.list.take as fn
-use Rattle.sss.proofs.list.take.Statement as stated
-use Rattle.sss.proofs.list.take.Code as code
+use Rattle.sss_loop.proofs.list.take.Key.{name as #take}
+use Rattle.sss_loop.proofs.list.take as fn
+use Rattle.sss_loop.proofs.list.take.Statement as stated
+use Rattle.sss_loop.proofs.list.take.Code as code
 
 abbrev R : RattleType
 R = S.the-row

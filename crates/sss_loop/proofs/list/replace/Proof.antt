@@ -1,4 +1,4 @@
--- `sss::list::replace` meets its contract: a walk of its MIR by hand, since it holds a slice of structs. The list is
+-- `sss_loop::list::replace` meets its contract: a walk of its MIR by hand, since it holds a slice of structs. The list is
 -- opened as a row (`Rows.antt`) before the loop and shut after it, and each new entry is what `entry_in` gives.
 use mathlib.Core.Path.{_≡_, refl, sym, subst}
 use Prim.Native.Nat.{ℕ, _<_, _≤_, _+_, _-_, _*_, _^_}
@@ -29,22 +29,22 @@ use Rattle.sss_states.specs.declared.State.{State}
 use Rattle.sss_turns.specs.declared.Update.{Update}
 use Rattle.sss_states.specs.Entry.{blank}
 use Rattle.sss_turns.specs.engine.Update.{entryIn, updated, Within}
-use Rattle.sss.proofs.Updates.{Replacing, replacing-start, replacing-on, replacing-end}
+use Rattle.sss_loop.proofs.Updates.{Replacing, replacing-start, replacing-on, replacing-end}
 use Rattle.sss_states.proofs.State as S
 use Rattle.sss_states.proofs.State.Laws as S′
 use Rattle.sss_turns.proofs.Content as C
 use Rattle.sss_turns.proofs.Content.Laws as C′
 use Rattle.sss_turns.proofs.Update as U
 use Rattle.sss_turns.proofs.Update.Laws as U′
-use Rattle.sss.proofs.list.entry_in as entry-in
-use Rattle.sss.proofs.list.entry_in.Symbol as entry-in-def
-use Rattle.sss.proofs.list.entry_in.Symbol.{name as #entry-in}
-use Rattle.sss.proofs.list.entry_in.Met as entry-in-thm
-use Rattle.sss.proofs.list.replace.Key.{name as #replace}
-use Rattle.sss.proofs.list.replace as fn
-use Rattle.sss.proofs.list.replace.Statement as stated
-use Rattle.sss.proofs.list.replace.Code as code
-use Rattle.sss.proofs.list.replace.Code.Mir.{turn-1, t-4, t-5}
+use Rattle.sss_loop.proofs.list.entry_in as entry-in
+use Rattle.sss_loop.proofs.list.entry_in.Symbol as entry-in-def
+use Rattle.sss_loop.proofs.list.entry_in.Symbol.{name as #entry-in}
+use Rattle.sss_loop.proofs.list.entry_in.Met as entry-in-thm
+use Rattle.sss_loop.proofs.list.replace.Key.{name as #replace}
+use Rattle.sss_loop.proofs.list.replace as fn
+use Rattle.sss_loop.proofs.list.replace.Statement as stated
+use Rattle.sss_loop.proofs.list.replace.Code as code
+use Rattle.sss_loop.proofs.list.replace.Code.Mir.{turn-1, t-4, t-5}
 
 abbrev R : RattleType
 R = S.the-row
@@ -256,4 +256,4 @@ replace-spec 𝓤 H 𝓜 𝓖 𝓡 =
     (tables 𝓤 H 𝓜 𝓡 code.env .C) (tables 𝓤 H 𝓜 𝓡 code.env .Λ) #replace code.function (code.unfolded 𝓤 H 𝓜 𝓡)
     (replace-meets 𝓤 H (𝓖 .A) (givenOf 𝓤 H 𝓜 𝓖) (𝓜 .mem) (𝓡 .run) (tablesOf 𝓤 H 𝓜 (tables 𝓤 H 𝓜 𝓡 code.env))
     (cited 𝓤 H (EntryIn 𝓤 H (𝓖 .A) (𝓜 .mem) (𝓡 .run)) 𝓜 𝓡 code.env #entry-in entry-in-def.routine
-    code.calls-sss·list·entry-in (entry-in-thm.met 𝓤 H 𝓜 𝓖 𝓡)))
+    code.calls-sss-loop·list·entry-in (entry-in-thm.met 𝓤 H 𝓜 𝓖 𝓡)))

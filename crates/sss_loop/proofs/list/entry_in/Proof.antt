@@ -1,7 +1,7 @@
--- `sss::list::entry_in` meets its contract.
+-- `sss_loop::list::entry_in` meets its contract.
 use borrow.Author.Needs.{needs}
-use Rattle.sss.proofs.list.entry_in.Statement.{statement}
-use Rattle.sss.proofs.list.entry_in.Tie as tie
+use Rattle.sss_loop.proofs.list.entry_in.Statement.{statement}
+use Rattle.sss_loop.proofs.list.entry_in.Tie as tie
 
 pub entry-in-spec : {M : Type 1} → statement M
 entry-in-spec =

@@ -1,4 +1,4 @@
--- `sss::drive_own` meets its contract: a walk of its MIR by hand, since it lends an array of structs. It lends a front
+-- `sss_loop::drive_own` meets its contract: a walk of its MIR by hand, since it lends an array of structs. It lends a front
 -- of zeros and a list of blank entries to `drive`; the buffers are passed on for good.
 use mathlib.Core.Path.{_≡_, refl, sym, subst}
 use Prim.Native.Nat.{ℕ, _+_, _-_, _*_}
@@ -21,24 +21,23 @@ use Rattle.frames.specs.Frame.{maxNodes}
 use Rattle.sss_states.specs.declared.State.{State}
 use Rattle.sss_turns.specs.declared.Run.{Run}
 use Rattle.sss_states.specs.Entry.{blank as blankEntry}
-use Rattle.sss.specs.engine.Driven.{Prepared, Driven, PreparedOwn, DrivenOwn}
-use Rattle.sss.proofs.Starting.{zeros}
+use Rattle.sss_loop.specs.engine.Driven.{Prepared, Driven, zeros, PreparedOwn, DrivenOwn}
 use Rattle.sss_states.proofs.State as S
 use Rattle.sss_states.proofs.State.Laws as S′
 use Rattle.sss_turns.proofs.Run as N
 use Rattle.sss_turns.proofs.Run.Laws as N′
-use Rattle.sss.proofs.blank as blank
-use Rattle.sss.proofs.blank.Symbol as blank-def
-use Rattle.sss.proofs.blank.Symbol.{name as #blank}
-use Rattle.sss.proofs.blank.Met as blank-thm
-use Rattle.sss.proofs.drive as drive
-use Rattle.sss.proofs.drive.Symbol as drive-def
-use Rattle.sss.proofs.drive.Symbol.{name as #drive}
-use Rattle.sss.proofs.drive.Met as drive-thm
-use Rattle.sss.proofs.drive_own.Key.{name as #drive-own}
-use Rattle.sss.proofs.drive_own as fn
-use Rattle.sss.proofs.drive_own.Statement as stated
-use Rattle.sss.proofs.drive_own.Code as code
+use Rattle.sss_states.proofs.blank as blank
+use Rattle.sss_states.proofs.blank.Symbol as blank-def
+use Rattle.sss_states.proofs.blank.Symbol.{name as #blank}
+use Rattle.sss_states.proofs.blank.Met as blank-thm
+use Rattle.sss_loop.proofs.drive as drive
+use Rattle.sss_loop.proofs.drive.Symbol as drive-def
+use Rattle.sss_loop.proofs.drive.Symbol.{name as #drive}
+use Rattle.sss_loop.proofs.drive.Met as drive-thm
+use Rattle.sss_loop.proofs.drive_own.Key.{name as #drive-own}
+use Rattle.sss_loop.proofs.drive_own as fn
+use Rattle.sss_loop.proofs.drive_own.Statement as stated
+use Rattle.sss_loop.proofs.drive_own.Code as code
 
 abbrev R : RattleType
 R = S.the-row
@@ -273,7 +272,7 @@ drive-own-spec 𝓤 H 𝓜 𝓖 𝓡 =
     entered 𝓤 H (tripleOf 𝓤 H (𝓖 .A) fn.signature (fn.spec 𝓤 H (𝓖 .A) (𝓜 .mem) (𝓡 .run)))
     (tables 𝓤 H 𝓜 𝓡 code.env .C) (tables 𝓤 H 𝓜 𝓡 code.env .Λ) #drive-own code.function (code.unfolded 𝓤 H 𝓜 𝓡)
     (drive-own-meets 𝓤 H (𝓖 .A) (givenOf 𝓤 H 𝓜 𝓖) (𝓜 .mem) (𝓡 .run) (tablesOf 𝓤 H 𝓜 (tables 𝓤 H 𝓜 𝓡 code.env))
-    (cited 𝓤 H (Blank 𝓤 H (𝓖 .A) (𝓜 .mem) (𝓡 .run)) 𝓜 𝓡 code.env #blank blank-def.routine code.calls-sss·blank
+    (cited 𝓤 H (Blank 𝓤 H (𝓖 .A) (𝓜 .mem) (𝓡 .run)) 𝓜 𝓡 code.env #blank blank-def.routine code.calls-sss-states·blank
     (blank-thm.met 𝓤 H 𝓜 𝓖 𝓡))
-    (cited 𝓤 H (Drive 𝓤 H (𝓖 .A) (𝓜 .mem) (𝓡 .run)) 𝓜 𝓡 code.env #drive drive-def.routine code.calls-sss·drive
+    (cited 𝓤 H (Drive 𝓤 H (𝓖 .A) (𝓜 .mem) (𝓡 .run)) 𝓜 𝓡 code.env #drive drive-def.routine code.calls-sss-loop·drive
     (drive-thm.met 𝓤 H 𝓜 𝓖 𝓡)))

@@ -1,6 +1,6 @@
 // The lent list: the best entry is taken, and entries are replaced.
-use crate::blank;
 use sss_states::State;
+use sss_states::blank;
 use sss_turns::Content;
 use sss_turns::Update;
 ghost use mathlib.Core.Path.{_≡_};

@@ -5,7 +5,6 @@ use mathlib.Core.Path.{_≡_}
 use mathlib.Core.List.{List, _++_}
 use lib.ListN.{length, drop, replicate}
 use Rattle.gametree.specs.Tree.{greatest}
-use Rattle.gametree.specs.Sss.{Evaluation}
 use Rattle.gametree.specs.Sss as theory
 use Rattle.frames.specs.Frame.{frames}
 use Rattle.frames.specs.Tree.{tree, valuation}
@@ -20,11 +19,6 @@ use Rattle.sss_states.specs.engine.Kept.{arraysOf, Sound}
 use Rattle.sss_turns.specs.declared.Stage.{Stage}
 use Rattle.sss_turns.specs.declared.Stage.the-variants.{Going, Finished, Spent}
 use Rattle.sss_turns.specs.engine.Turn.{Config}
-use Rattle.sss.specs.Outcome.{runOf}
-
--- the evaluations of the full run that an allowance of a leaves does not cover
-abbrev pub sssUncovered : (a : ℕ) → List ℕ → List Evaluation
-sssUncovered a t = drop a (runOf t .evaluations)
 
 -- the run of SSS* on the tree of a table within an allowance of a leaves
 abbrev pub allowedRun : (a : ℕ) → List ℕ → Ran

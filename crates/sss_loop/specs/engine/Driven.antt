@@ -12,7 +12,7 @@ use Rattle.sss_turns.specs.declared.Run.{Run}
 use Rattle.positions.specs.engine.Positions.{Positioned}
 use Rattle.sss_turns.specs.engine.Update.{updated, Within}
 use Rattle.sss_turns.specs.engine.Turn.{going, Config}
-use Rattle.sss.specs.engine.Invariant.{Running}
+use Rattle.sss_loop.specs.engine.Invariant.{Running}
 
 -- a run that goes is at its start, over the front w, the states l, the marks b and the leaves o; one that does not
 -- changes no entry
@@ -35,14 +35,18 @@ pub record Driven (t w : List ℕ) (l : List State) (b o : List ℕ) (r : Run) (
   pub ran : going (r .stage) ≡ true → Running (r .counts .allowance) t l b o c
   pub stayed : going (r .stage) ≡ false → c ≡ record { front = w; list = l; marks = b; order = o; run = r }
 
+-- a work array at first
+abbrev pub zeros : List ℕ
+zeros = replicate maxNodes 0
+
 -- the same of a front of zeros and a list of blank entries
 abbrev pub PreparedOwn : (t F b o : List ℕ) → Run → Type 0
-PreparedOwn t F b o r = Prepared t F (replicate maxNodes 0) (replicate maxNodes blank) b o r
+PreparedOwn t F b o r = Prepared t F zeros (replicate maxNodes blank) b o r
 
 pub record DrivenOwn (t b o : List ℕ) (r : Run) (b′ o′ : List ℕ) (r′ : Run) : Type 0 where
   pub front : List ℕ
   pub list : List State
-  pub driven : Driven t (replicate maxNodes 0) (replicate maxNodes blank) b o r (record {
+  pub driven : Driven t zeros (replicate maxNodes blank) b o r (record {
     front = front;
     list = list;
     marks = b′;

@@ -1,0 +1,2 @@
+-- Definitions for the loop over a list of entries.
+pub mod engine
