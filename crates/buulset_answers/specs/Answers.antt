@@ -8,7 +8,6 @@ use Rattle.file_lines.specs.declared.Frame.{Frame}
 use Rattle.file_lines.specs.declared.Cursor.{Cursor}
 use Rattle.certificate.specs.declared.Findings.{Findings}
 use Rattle.plain.specs.declared.PlainResult.{PlainResult}
-use Rattle.sss.specs.declared.Spent.{Spent}
 use Rattle.buulset_answers.specs.declared.Answer.{Answer}
 use Rattle.buulset_answers.specs.declared.Choice.{Choice}
 use Rattle.buulset_answers.specs.declared.Children.{Children}
@@ -44,21 +43,6 @@ found f s = result (f .value) 0 (f .«root_move») (f .leaves) s
 
 abbrev pub moved : PlainResult → Answer
 moved f = result (f .value) 0 (f .«root_move») 0 0
-
--- that an allowance is spent, with its merit
-abbrev pub spent : Spent → Answer
-spent s =
-    record {
-      refused = 0;
-      spent = 1;
-      value = pos 0;
-      merit = s .merit;
-      place = 0;
-      count = 0;
-      «root_move» = 0;
-      leaves = s .leaves;
-      steps = s .replacements;
-    }
 
 -- a rejection
 abbrev pub refused : Rejection → Answer

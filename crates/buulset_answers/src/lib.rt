@@ -6,12 +6,11 @@ use file_lines::Frame;
 use frames::FRAME_SIZE;
 use frames::Rejection;
 use plain::PlainResult;
-use sss::Spent;
 use text::TEXT_SIZE;
 ghost use mathlib.Core.Path.{_≡_};
 ghost use Rattle.buulset_answers.specs.Answers.{counted as countedOf, leavesOf, valued as valuedOf};
 ghost use Rattle.buulset_answers.specs.Answers.{found as foundOf};
-ghost use Rattle.buulset_answers.specs.Answers.{moved as movedOf, spent as spentOf, refused as refusedOf};
+ghost use Rattle.buulset_answers.specs.Answers.{moved as movedOf, refused as refusedOf};
 ghost use Rattle.buulset_answers.specs.Answers.{chosen as chosenOf, noChoice as noChoiceOf, noChildren};
 ghost use Rattle.buulset_answers.specs.Answers.{readLine as readOf, noLine as noLineOf};
 
@@ -146,23 +145,6 @@ pub fn moved(f: PlainResult) -> Answer
         root_move: f.root_move,
         leaves: 0,
         steps: 0,
-    }
-}
-
-// That an allowance is spent as an answer.
-pub fn spent(s: Spent) -> Answer
-    ensures { λ r. ⌜ r ≡ spentOf s ⌝ }
-{
-    Answer {
-        refused: 0,
-        spent: 1,
-        value: 0,
-        merit: s.merit,
-        place: 0,
-        count: 0,
-        root_move: 0,
-        leaves: s.leaves,
-        steps: s.replacements,
     }
 }
 

@@ -1,5 +1,6 @@
 -- What each call gives back, as an answer of numbers.
 use Prim.Native.Nat.{ℕ}
+use lib.IntN.{pos}
 use Rattle.frames.specs.declared.Checked.{Checked}
 use Rattle.frames.specs.declared.Checked.the-variants as checked
 use Rattle.file_lines.specs.declared.Line as lines
@@ -10,6 +11,7 @@ use Rattle.plain.specs.declared.PlainAnswer as plain
 use Rattle.mtd.specs.declared.MtdAnswer as mtd
 use Rattle.mtdf.specs.declared.MtdfAnswer as mtdf
 use Rattle.sss.specs.declared.SssAnswer as sss
+use Rattle.sss.specs.declared.Spent.{Spent}
 use Rattle.verify.specs.declared.Verdict as verify
 use Rattle.shorter.specs.declared.Choice as shorter
 use Rattle.leastvalue.specs.declared.LeastValue as leastvalue
@@ -20,7 +22,7 @@ use Rattle.buulset_answers.specs.declared.Answer.{Answer}
 use Rattle.buulset_answers.specs.declared.Choice.{Choice}
 use Rattle.buulset_answers.specs.declared.Line.{Line}
 use Rattle.buulset_answers.specs.declared.Text.{Text}
-use Rattle.buulset_answers.specs.Answers.{counted, leavesOf, valued, found, moved, spent, refused, chosen, noChoice}
+use Rattle.buulset_answers.specs.Answers.{counted, leavesOf, valued, found, moved, refused, chosen, noChoice}
 use Rattle.buulset_answers.specs.Answers.{readLine, noLine}
 
 unfoldable pub flatChecked : Checked → Answer
@@ -46,6 +48,21 @@ flatMtd (mtd.the-variants.Rejected r) = refused r
 unfoldable pub flatMtdf : mtdf.MtdfAnswer → Answer
 flatMtdf (mtdf.the-variants.Found f) = found (f .findings) (f .tests)
 flatMtdf (mtdf.the-variants.Rejected r) = refused r
+
+-- that an allowance is spent, with its merit
+abbrev pub spent : Spent → Answer
+spent s =
+    record {
+      refused = 0;
+      spent = 1;
+      value = pos 0;
+      merit = s .merit;
+      place = 0;
+      count = 0;
+      «root_move» = 0;
+      leaves = s .leaves;
+      steps = s .replacements;
+    }
 
 unfoldable pub flatSss : sss.SssAnswer → Answer
 flatSss (sss.the-variants.Found f) = found (f .findings) (f .replacements)

@@ -11,14 +11,14 @@ use buulset_answers::no_choice;
 use buulset_answers::no_line;
 use buulset_answers::read;
 use buulset_answers::refused;
-use buulset_answers::spent;
 use buulset_answers::valued;
 use buulset_answers::with_leaves;
 use file_writer::Written;
 use frames::Checked;
+use sss::Spent;
 ghost use mathlib.Core.Path.{_≡_};
 ghost use Rattle.buulset_flat.specs.Flat.{flatChecked, flatWritten, flatAlphaBeta, flatPlain, flatMtd, flatMtdf};
-ghost use Rattle.buulset_flat.specs.Flat.{flatSss};
+ghost use Rattle.buulset_flat.specs.Flat.{spent as spentOf, flatSss};
 ghost use Rattle.buulset_flat.specs.Flat.{flatVerdict, flatLeastValue, flatFilled, flatLeast, flatChoice};
 ghost use Rattle.buulset_flat.specs.Flat.{flatLine, flatText};
 
@@ -99,6 +99,23 @@ pub fn flat_sss(answer: sss::SssAnswer) -> Answer
         },
         sss::SssAnswer::Spent(s) => spent(s),
         sss::SssAnswer::Rejected(rejection) => refused(rejection),
+    }
+}
+
+// That an allowance is spent as an answer.
+fn spent(s: Spent) -> Answer
+    ensures { λ r. ⌜ r ≡ spentOf s ⌝ }
+{
+    Answer {
+        refused: 0,
+        spent: 1,
+        value: 0,
+        merit: s.merit,
+        place: 0,
+        count: 0,
+        root_move: 0,
+        leaves: s.leaves,
+        steps: s.replacements,
     }
 }
 
