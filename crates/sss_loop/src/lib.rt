@@ -1,5 +1,5 @@
-// SSS*'s run over the lent list: the best entry is taken and replaced, turn by turn; a front of greatest merits leads to
-// it.
+// SSS*'s run over the lent list: turn by turn the best entry is taken and replaced; a front of greatest merits leads
+// to it.
 mod list;
 
 use frames::MAX_NODES;

@@ -1,5 +1,5 @@
--- `sss_loop::drive_own` meets its contract: a walk of its MIR by hand, since it lends an array of structs. It lends a front
--- of zeros and a list of blank entries to `drive`; the buffers are passed on for good.
+-- `sss_loop::drive_own` meets its contract: a walk of its MIR by hand, since it lends an array of structs. It lends
+-- a front of zeros and a list of blank entries to `drive`; the buffers are passed on for good.
 use mathlib.Core.Path.{_≡_, refl, sym, subst}
 use Prim.Native.Nat.{ℕ, _+_, _-_, _*_}
 use native.Mathlib.Omega.{arith}

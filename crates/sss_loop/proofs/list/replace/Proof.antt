@@ -1,5 +1,5 @@
--- `sss_loop::list::replace` meets its contract: a walk of its MIR by hand, since it holds a slice of structs. The list is
--- opened as a row (`Rows.antt`) before the loop and shut after it, and each new entry is what `entry_in` gives.
+-- `sss_loop::list::replace` meets its contract: a walk of its MIR by hand, since it holds a slice of structs. The list
+-- is opened as a row (`Rows.antt`) before the loop and shut after it, and each new entry is what `entry_in` gives.
 use mathlib.Core.Path.{_≡_, refl, sym, subst}
 use Prim.Native.Nat.{ℕ, _<_, _≤_, _+_, _-_, _*_, _^_}
 use native.Mathlib.Omega.{arith}
