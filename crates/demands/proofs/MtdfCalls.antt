@@ -57,7 +57,7 @@ module _ {t : List ℕ} {f : MtdfResult} (c : MtdfCall t (mtdf-answer.Found f)) 
       let σ = mtdFrom (startScore (c .start)) in
       let k = tests-few σ (valuation t) (tree t) (proper (view (mtdf c) .handed) .scored) in
       let q = searchBy σ (valuation t) (tree t) in
-      let n = length-append (q .evaluated) (lastPhase (valuation t) (q .value) (q .evaluated) (tree t) .evaluated) in
+      let n = length-append (q .evaluated) (lastPhase (valuation t) (q .value) (q .evaluated) (tree t)) in
       omega (arith, tests-are, count (mtdf c) .0)
 
   -- a starting value that is the value takes at most two of them

@@ -172,13 +172,9 @@ local-tests-results σ ν μ t h i w e a = (
 -- move by the bounds, domination, the smallest certificate and locality are those of Theorems.
 
 module _ (σ : Strategy) (ν : ℕ → ℕ) (t : Tree) (h : Scored ν t) where
-  -- the value is the minimax value
-  pub decide-minimax : decideBy σ ν t .value ≡ minimax ν t
-  decide-minimax = decide-right σ ν t h .value
-
-  -- the move is the first child with the root's value
-  pub decide-move : decideBy σ ν t .move ≡ rootMove ν t
-  decide-move = decide-right σ ν t h .move
+  -- the move that the bounds show is the first child with the root's value
+  pub decide-move : boundMove ν (among (decideBy σ ν t .evaluated)) t ≡ rootMove ν t
+  decide-move = decide-right σ ν t h .shown
 
   -- the bounds show each elder sibling of the move to be worse: under Max its high is below the value, under Min its
   -- low is above it
@@ -187,9 +183,10 @@ module _ (σ : Strategy) (ν : ℕ → ℕ) (t : Tree) (h : Scored ν t) where
 
 -- so the strategy matters neither for the value nor for the move
 pub decide-same : (σ τ : Strategy) (ν : ℕ → ℕ) (t : Tree) → Scored ν t
-    → (decideBy σ ν t .value ≡ decideBy τ ν t .value) × (decideBy σ ν t .move ≡ decideBy τ ν t .move)
+    → (searchBy σ ν t .value ≡ searchBy τ ν t .value)
+    × (boundMove ν (among (decideBy σ ν t .evaluated)) t ≡ boundMove ν (among (decideBy τ ν t .evaluated)) t)
 decide-same σ τ ν t h = (
-  decide-minimax σ ν t h ∙ sym (decide-minimax τ ν t h),
+  tests-minimax σ ν t h ∙ sym (tests-minimax τ ν t h),
   decide-move σ ν t h ∙ sym (decide-move τ ν t h),
 )
 
@@ -197,7 +194,8 @@ decide-same σ τ ν t h = (
 
 -- the first guess matters neither for the value nor for the move
 pub guess-same : (f g : ℕ) (ν : ℕ → ℕ) (t : Tree) → Scored ν t
-    → (mtdf f ν t .value ≡ mtdf g ν t .value) × (mtdf f ν t .move ≡ mtdf g ν t .move)
+    → (searchBy (mtdFrom f) ν t .value ≡ searchBy (mtdFrom g) ν t .value)
+    × (boundMove ν (among (mtdf f ν t .evaluated)) t ≡ boundMove ν (among (mtdf g ν t .evaluated)) t)
 guess-same f g ν t h = decide-same (mtdFrom f) (mtdFrom g) ν t h
 
 -- two tests of the root suffice where it is the value

@@ -328,7 +328,7 @@ pub local-sss : (ν μ : ℕ → ℕ) (t : Tree) → All (λ k. ν k ≡ μ k) (
     → inFull (sss ν t) ≡ inFull (sss μ t)
 local-sss ν μ t a = runFrom-local ν μ t (2 * size t) 0 (start t) a
 
--- a search made of tests gives the same value, move, list and number of tests
+-- a search made of tests gives the same list and number of tests
 pub local-decide : (σ : Strategy) (ν μ : ℕ → ℕ) (t : Tree) → All (λ k. ν k ≡ μ k) (decideBy σ ν t .evaluated)
     → decideBy σ ν t ≡ decideBy σ μ t
 local-decide σ ν μ t a = decide-local ν μ σ t a

@@ -1,6 +1,6 @@
 -- The steps of a whole search: the cleared memory is the fresh one, the last phase is a test of the root's children,
 -- the tests end with the minimax value, and the marks are those of the leaves of MTD(f).
-use Prim.Native.Nat.{ℕ, _+_, _≤_, _<_}
+use Prim.Native.Nat.{ℕ, _≤_, _<_}
 use native.Mathlib.Omega.{arith}
 use mathlib.Core.Path.{_≡_, refl, sym, ap, ap₂, _∙_, subst}
 use mathlib.Core.Bool.{false}
@@ -15,9 +15,8 @@ use Rattle.gametree.specs.Move.{boundMove}
 use Rattle.gametree.specs.Certificate.{flag}
 use Rattle.gametree_theory.proofs.Searches.{Deciding, byTests}
 use Rattle.gametree_theory.proofs.Theorems.{value-score, search-deciding}
-use Rattle.gametree_theory.proofs.TestRuns.{decide-minimax}
-use Rattle.gametree_theory.proofs.tests.FirstMove.{moveAmong-leaves}
-use Rattle.frames.specs.Frame.{frames, firstChild, childCount}
+use Rattle.gametree_theory.proofs.TestRuns.{tests-minimax}
+use Rattle.frames.specs.Frame.{frames, childCount}
 use Rattle.frames.specs.Position.{rootPosition}
 use Rattle.frames.specs.Tree.{tree, valuation}
 use Rattle.frames.specs.Formed.{WellFormed}
@@ -31,7 +30,7 @@ use Rattle.certificate_bounds.specs.engine.Progress.{progress, evaluateAll}
 use Rattle.certificate_bounds.proofs.Listing.{first-evaluated}
 use Rattle.certificate.specs.Search.{marksOf, flagsOf, listed}
 use Rattle.certificate.proofs.Outcomes.{search-concludes}
-use Rattle.mtd_memory.proofs.Turns.{childrenUpTo, tree-kids}
+use Rattle.mtd_memory.proofs.Turns.{tree-kids}
 use Rattle.mtdf.specs.declared.Settled.{Settled}
 use Rattle.mtdf_visits.specs.declared.Tried.{Tried}
 use Rattle.mtdf.specs.Outcome.{decisionOf, mtdfLeaves, mtdfFound}
@@ -80,7 +79,7 @@ module _ (t : List ℕ) (wf : WellFormed t) where
       let is = tree-leaf t wf 0 (wf .nonEmpty) none in
       record {
         evaluated =
-            subst (λ T. Evaluated m m (lastPhase (valuation t) v (soFar m) T .evaluated)) (sym is) (evaluated-none m);
+            subst (λ T. Evaluated m m (lastPhase (valuation t) v (soFar m) T)) (sym is) (evaluated-none m);
         counted = c;
       }
 
@@ -89,12 +88,9 @@ module _ (t : List ℕ) (wf : WellFormed t) where
   moved-inner v m m′ r some d =
       let is = tree-kids (record { formed = wf; inside = wf .nonEmpty; from = refl; to = refl }) Max
       (sym (ap (λ p. p .side) (position-root t))) (omega arith) in
-      let kids = childrenUpTo t (firstChild t 0) (firstChild t 0 + childCount t 0) in
       record {
         evaluated =
-            subst (λ T. Evaluated m m′ (lastPhase (valuation t) v (soFar m) T .evaluated)) (sym is)
-            (subst (Evaluated m m′) (sym (moveAmong-leaves (valuation t) v (soFar m) Max kids))
-            (rw is at (d .evaluated)));
+            subst (λ T. Evaluated m m′ (lastPhase (valuation t) v (soFar m) T)) (sym is) (rw is at (d .evaluated));
         counted = d .counted;
       }
 
@@ -104,7 +100,7 @@ module _ (t : List ℕ) (wf : WellFormed t) where
       → Settles t f (progress 0 e o) (progressOf m″) r
   unfolding decisionOf drivenOf
   settled-both f e o l h m′ m″ s r x y p q =
-      let same = ap₂ (λ v w. lastPhase (valuation t) v w (tree t) .evaluated) (x .score) (x .evaluated .listed) in
+      let same = ap₂ (λ v w. lastPhase (valuation t) v w (tree t)) (x .score) (x .evaluated .listed) in
       record {
         score = p ∙ x .score;
         tests = q ∙ x .tests;
@@ -119,12 +115,12 @@ module _ (t : List ℕ) (wf : WellFormed t) where
     unfolding decisionOf
     decision-right = search-deciding (valuation t) (tree t) (tree-proper t wf) (byTests (mtdFrom f))
 
-    decision-value : decisionOf f t .value ≡ minimax (valuation t) (tree t)
-    unfolding decisionOf
-    decision-value = decide-minimax (mtdFrom f) (valuation t) (tree t) (tree-proper t wf .scored)
+    decision-value : drivenOf f t .value ≡ minimax (valuation t) (tree t)
+    unfolding drivenOf
+    decision-value = tests-minimax (mtdFrom f) (valuation t) (tree t) (tree-proper t wf .scored)
 
     -- the score has a value
-    pub run-small : (s : ℕ) → s ≡ decisionOf f t .value → s ≤ greatest
+    pub run-small : (s : ℕ) → s ≡ drivenOf f t .value → s ≤ greatest
     run-small s d =
         omega (arith, d, decision-value, value-score (valuation t) (tree t) (tree-proper t wf .scored))
 

@@ -30,7 +30,7 @@ use Rattle.gametree_theory.proofs.tests.Progress.{confirmed-low, confir
 use Rattle.gametree_theory.proofs.tests.Progress.{testChildren-confirmed}
 use Rattle.gametree_theory.proofs.tests.Subtree.{test-in, othersChildren-same, untouched-bound}
 use Rattle.gametree_theory.proofs.tests.Runs.{search-right}
-use Rattle.gametree_theory.proofs.tests.FirstMove.{moveAmong-leaves, decide-right}
+use Rattle.gametree_theory.proofs.tests.FirstMove.{decide-right}
 use Rattle.gametree_theory.proofs.tests.Falling.{Waits, InTurn, InTurnChildren, inTurnChildren-same}
 use Rattle.gametree_theory.proofs.tests.Falling.{waits-settled}
 use Rattle.gametree_theory.proofs.tests.Falling.{known-unopened, Unrivalled, testChildren-unrivalled}
@@ -168,23 +168,18 @@ testChildren-shown ν v w (t then ts) h (inr s) =
 lastPhase-unrivalled : (ν : ℕ → ℕ) (w : List ℕ) (t : Tree) → Scored ν t → Distinct t
     → high ν (among w) t ≡ minimax ν t
     → InTurn ν (among w) (high ν (among w) t) t
-    → FirstShown ν (among w) t → Unrivalled ν least greatest least t (lastPhase ν (minimax ν t) w t .evaluated)
+    → FirstShown ν (among w) t → Unrivalled ν least greatest least t (lastPhase ν (minimax ν t) w t)
 lastPhase-unrivalled ν w (leaf n) h d e k s = tt
 lastPhase-unrivalled ν w (inner n Max ks) h d e k s =
     let v = minimaxChildren ν Max ks in
     let i = minimax-score ν (inner n Max ks) h in
-    rw (moveAmong-leaves ν v w Max ks)
-    (testChildren-unrivalled ν v least greatest least w Max ks h (d .1) (rw e at k) (omega arith) (omega arith)
-    (omega arith) (omega arith))
+    testChildren-unrivalled ν v least greatest least w Max ks h (d .1) (rw e at k) (omega arith) (omega arith)
+    (omega arith) (omega arith)
 lastPhase-unrivalled ν w (inner n Min ks) h d e k (inl g) =
     absurd (omega (arith, minimax-score ν (inner n Min ks) h))
 lastPhase-unrivalled ν w (inner n Min ks) h d e k (inr s) =
     let v = minimaxChildren ν Min ks in
-    rw (
-      moveAmong-leaves ν (suc v) w Min ks,
-      testChildren-shown ν v w ks h (subst (λ x. Shows ν (among w) x ks) e s),
-    )
-    tt
+    rw (testChildren-shown ν v w ks h (subst (λ x. Shows ν (among w) x ks) e s)) tt
 
 first-shown : (ν : ℕ → ℕ) (t : Tree) → Scored ν t → FirstShown ν (among []) t
 first-shown ν (leaf n) h = tt

@@ -1,6 +1,6 @@
--- The last phase gives the first root move. It tests the children as a test of the root would, so its leaves are new
--- and meet Baudet's condition; the bounds confirm the answer of each child up to the move, so they show the move to
--- have the root's value, and each elder sibling to be worse.
+-- After the last phase the bounds show the first root move. It tests the children as a test of the root would, so its
+-- leaves are new and meet Baudet's condition; the bounds confirm the answer of each child up to the move, so they show
+-- the move to have the root's value, and each elder sibling to be worse.
 use Prim.Native.Nat.{ℕ, suc, _≤_, _<_}
 use native.Mathlib.Omega.{arith}
 use mathlib.Core.Path.{_≡_, refl, sym, _∙_, ap, subst}
@@ -18,10 +18,9 @@ use Rattle.gametree.specs.Bounds.{known, low, high, Decided}
 use Rattle.gametree.specs.AlphaBeta.{reached}
 use Rattle.gametree.specs.Mtd.{settles}
 use Rattle.gametree.specs.Certificate.{worst}
-use Rattle.gametree.specs.Move.{firstWith, rootMove, boundMove}
+use Rattle.gametree.specs.Move.{rootMove, boundMove}
 use Rattle.gametree.specs.Tests.{Tested, passedOn, test, testChildren, Strategy, searchBy}
-use Rattle.gametree.specs.FirstMove.{Moved, moveTo, moveLater, moveAmong, equalTest, lastPhase, Decision}
-use Rattle.gametree.specs.FirstMove.{decideBy}
+use Rattle.gametree.specs.FirstMove.{equalTest, lastPhase, Decision, decideBy}
 use Rattle.lists.proofs.Choice.{true-not-false}
 use Rattle.lists.proofs.Lists.{all-append, all-map, all-among, among-left}
 use Rattle.gametree_theory.proofs.minimax.Bounds.{low≤, ≤high, minimax-score}
@@ -36,20 +35,7 @@ use Rattle.gametree_theory.proofs.tests.Progress.{Confirms, confirmed-l
 use Rattle.gametree_theory.proofs.tests.Progress.{test-confirmed}
 use Rattle.gametree_theory.proofs.tests.Runs.{search-right}
 
--- THE MOVE
-
--- the leaves of the last phase are those of a test of the node that enters it
-pub moveAmong-leaves : (ν : ℕ → ℕ) (γ : ℕ) (w : List ℕ) (s : Side) (ks : Children)
-    → moveAmong ν γ w s ks .evaluated ≡ testChildren ν γ w s ks .evaluated
-moveAmong-leaves ν γ w s (last t) = refl
-moveAmong-leaves ν γ w s (t then ts) =
-    let r = test ν γ w t in
-    at (settles s (r .notBelow)) (number t) r _ _ (moveAmong-leaves ν γ (w ++ r .evaluated) s ts)
-  where
-    at : (b : Bool) (n : ℕ) (r : Tested) (m : Moved) (q : Tested) → m .evaluated ≡ q .evaluated
-        → cond b (moveTo n r) (moveLater r m) .evaluated ≡ cond b r (passedOn r q) .evaluated
-    at true n r m q e = refl
-    at false n r m q e = ap (λ u. r .evaluated ++ u) e
+-- WHAT THE BOUNDS SHOW
 
 -- of scores that are no better than v only v itself settles the test
 equal-settles : (s : Side) (v m : ℕ) → Under s m v → settles s (leb (equalTest s v) m) ≡ eqb m v
@@ -60,26 +46,6 @@ equal-settles s v m u = at s u (eqb m v) refl
     at Max u false e = lt-leb (equalTest Max v) m (omega (arith, eqb-false m v e))
     at Min u true e = rw (lt-leb (equalTest Min v) m (omega (arith, eqb-true m v e))) refl
     at Min u false e = rw (le-leb (equalTest Min v) m (omega (arith, eqb-false m v e))) refl
-
--- so the move is the first child of the value v
-pub moveAmong-first : (ν : ℕ → ℕ) (v : ℕ) (w : List ℕ) (s : Side) (ks : Children) → ScoredChildren ν ks
-    → Under s (minimaxChildren ν s ks) v
-    → moveAmong ν (equalTest s v) w s ks .move ≡ firstWith (minimax ν) v ks
-moveAmong-first ν v w s (last t) h u =
-    rw (test-answer ν (equalTest s v) w t h, equal-settles s v (minimax ν t) u) refl
-moveAmong-first ν v w s (t then ts) h u =
-    let r = test ν (equalTest s v) w t in
-    let k = under-both s (minimax ν t) (minimaxChildren ν s ts) v u in
-    let e = ap (settles s) (test-answer ν (equalTest s v) w t (h .0)) ∙ equal-settles s v (minimax ν t) (k .0) in
-    at (settles s (r .notBelow)) (eqb (minimax ν t) v) (number t) r _ _ e
-    (moveAmong-first ν v (w ++ r .evaluated) s ts (h .1) (k .1))
-  where
-    at : (b c : Bool) (n : ℕ) (r : Tested) (m : Moved) (x : ℕ) → b ≡ c → m .move ≡ x
-        → cond b (moveTo n r) (moveLater r m) .move ≡ cond c n x
-    at true c n r m x e f = rw (← e) refl
-    at false c n r m x e f = rw (← e) f
-
--- WHAT THE BOUNDS SHOW
 
 -- the bounds of the leaves E confirm the answer to γ of each child up to the first that settles its parent
 abbrev Answered : (ℕ → ℕ) → (ℕ → Bool) → ℕ → Side → Children → Type 0
@@ -199,27 +165,24 @@ equal-inside Max v h = omega arith
 equal-inside Min v h = omega arith
 
 -- what the last phase gives, after leaves w whose bounds have met
-record Concludes (ν : ℕ → ℕ) (w : List ℕ) (t : Tree) (m : Moved) : Type 0 where
-  move : m .move ≡ rootMove ν t
-  new : New w (m .evaluated)
-  reaches : Reaches ν least greatest t (m .evaluated)
-  shown : boundMove ν (among (w ++ m .evaluated)) t ≡ rootMove ν t
-  elders : ElderMovesWorse ν (among (w ++ m .evaluated)) t
+record Concludes (ν : ℕ → ℕ) (w : List ℕ) (t : Tree) (u : List ℕ) : Type 0 where
+  new : New w u
+  reaches : Reaches ν least greatest t u
+  shown : boundMove ν (among (w ++ u)) t ≡ rootMove ν t
+  elders : ElderMovesWorse ν (among (w ++ u)) t
 
 lastPhase-concludes : (ν : ℕ → ℕ) (w : List ℕ) (t : Tree) → Scored ν t → Decided ν (among w) t
     → Concludes ν w t (lastPhase ν (minimax ν t) w t)
-lastPhase-concludes ν w (leaf n) h d = record { move = refl; new = new-none w; reaches = tt; shown = refl; elders = tt }
+lastPhase-concludes ν w (leaf n) h d = record { new = new-none w; reaches = tt; shown = refl; elders = tt }
 lastPhase-concludes ν w (inner n s ks) h d =
     let v = minimaxChildren ν s ks in
     let γ = equalTest s v in
-    let u = moveAmong ν γ w s ks .evaluated in
-    let e = moveAmong-leaves ν γ w s ks in
+    let u = testChildren ν γ w s ks .evaluated in
     let i = equal-inside s v (minimax-score ν (inner n s ks) h) in
-    let a = testChildren-answered ν (among (w ++ u)) γ w s ks h (λ n k. rw e k) in
+    let a = testChildren-answered ν (among (w ++ u)) γ w s ks h (λ n k. k) in
     record {
-      move = moveAmong-first ν v w s ks h (under-refl s v);
-      new = rw e (testChildren-once ν γ w s ks);
-      reaches = rw e (testChildren-dominated ν γ least greatest w s ks h (i .0) (i .1));
+      new = testChildren-once ν γ w s ks;
+      reaches = testChildren-dominated ν γ least greatest w s ks h (i .0) (i .1);
       shown =
           move-same ν (among (w ++ u)) n s ks h (decided-more ν w u (inner n s ks) h d)
           (answered-shown s ν (among (w ++ u)) v ks h (under-refl s v) a);
@@ -228,8 +191,6 @@ lastPhase-concludes ν w (inner n s ks) h d =
 
 -- what a search with the last phase gives
 pub record Decides (ν : ℕ → ℕ) (t : Tree) (d : Decision) : Type 0 where
-  pub value : d .value ≡ minimax ν t
-  pub move : d .move ≡ rootMove ν t
   pub once : Once (d .evaluated)
   pub reaches : Reaches ν least greatest t (d .evaluated)
   pub decided : Decided ν (among (d .evaluated)) t
@@ -243,16 +204,14 @@ decide-right σ ν t h =
     let w = searchBy σ ν t .evaluated in
     let c =
     subst (λ v. Concludes ν w t (lastPhase ν v w t)) (sym (r .value)) (lastPhase-concludes ν w t h (r .decided)) in
-    let m = lastPhase ν (searchBy σ ν t .value) w t in
+    let u = lastPhase ν (searchBy σ ν t .value) w t in
     record {
-      value = r .value;
-      move = c .move;
       once =
-          new-append [] w (m .evaluated)
+          new-append [] w u
           (record { new = all-map _ _ (λ k _. refl) w (all-among w); once = r .once }) (c .new) .once;
       reaches =
-          all-append (λ k. among (reached ν least greatest t) k ≡ true) w (m .evaluated) (r .reaches) (c .reaches);
-      decided = decided-more ν w (m .evaluated) t h (r .decided);
+          all-append (λ k. among (reached ν least greatest t) k ≡ true) w u (r .reaches) (c .reaches);
+      decided = decided-more ν w u t h (r .decided);
       shown = c .shown;
       elders = c .elders;
     }

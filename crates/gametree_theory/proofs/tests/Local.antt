@@ -8,13 +8,12 @@ use lib.ListN.{length}
 use Rattle.lists.specs.Lists.{All, among}
 use Rattle.gametree.specs.declared.Side.{Side}
 use Rattle.gametree.specs.Tree.{Tree, leaf, inner, Children, last, _then_, least, greatest, minimax}
-use Rattle.gametree.specs.Tree.{number, leaves}
+use Rattle.gametree.specs.Tree.{leaves}
 use Rattle.gametree.specs.Bounds.{low, high}
 use Rattle.gametree.specs.Mtd.{settles}
 use Rattle.gametree.specs.Tests.{Tested, opened, passedOn, byBounds, test, testChildren, View, view, Strategy}
 use Rattle.gametree.specs.Tests.{chosenTest, TestSearch, met, tested, drive, searchBy}
-use Rattle.gametree.specs.FirstMove.{Moved, moveTo, moveLater, moveAmong, equalTest, lastPhase, decision}
-use Rattle.gametree.specs.FirstMove.{decideBy}
+use Rattle.gametree.specs.FirstMove.{equalTest, lastPhase, Decision, decideBy}
 use Rattle.lists.proofs.Choice.{cond-cases}
 use Rattle.lists.proofs.Lists.{all-append, all-left, all-right}
 use Rattle.gametree_theory.proofs.minimax.Bounds.{known-local}
@@ -131,43 +130,16 @@ run-local ν μ σ (suc f) t bs w a =
 
 -- THE LAST PHASE
 
-module _ (ν μ : ℕ → ℕ) where
-  -- the leaves of the first child are some of all
-  eldest-alike : (b : Bool) (n : ℕ) (r : Tested) (m : Moved)
-      → Alike ν μ (cond b (moveTo n r) (moveLater r m) .evaluated)
-      → Alike ν μ (r .evaluated)
-  eldest-alike true n r m a = a
-  eldest-alike false n r m a = all-left (λ k. ν k ≡ μ k) (r .evaluated) (m .evaluated) a
-
-  -- the move is the same if that among the others is, where the first does not settle
-  later-local : (b : Bool) (n : ℕ) (r : Tested) (m p : Moved) → (Alike ν μ (m .evaluated) → m ≡ p)
-      → Alike ν μ (cond b (moveTo n r) (moveLater r m) .evaluated)
-      → cond b (moveTo n r) (moveLater r m) ≡ cond b (moveTo n r) (moveLater r p)
-  later-local true n r m p f a = refl
-  later-local false n r m p f a =
-      ap (moveLater r) (f (all-right (λ k. ν k ≡ μ k) (r .evaluated) (m .evaluated) a))
-
-moveAmong-local : (ν μ : ℕ → ℕ) (γ : ℕ) (w : List ℕ) (s : Side) (ks : Children) → Alike ν μ w
-    → Alike ν μ (moveAmong ν γ w s ks .evaluated)
-    → moveAmong ν γ w s ks ≡ moveAmong μ γ w s ks
-moveAmong-local ν μ γ w s (last t) a b =
-    ap (λ (x : Tested). moveTo (cond (settles s (x .notBelow)) (number t) 0) x) (test-local ν μ γ w t a b)
-moveAmong-local ν μ γ w s (t then ts) a b =
-    let r = test ν γ w t in
-    let v = w ++ r .evaluated in
-    let m = moveAmong ν γ v s ts in
-    let c = eldest-alike ν μ (settles s (r .notBelow)) (number t) r m b in
-    later-local ν μ (settles s (r .notBelow)) (number t) r m (moveAmong μ γ v s ts)
-    (λ e. moveAmong-local ν μ γ v s ts (all-append (λ k. ν k ≡ μ k) w (r .evaluated) a c) e) b
-    ∙ ap (λ (x : Tested). cond (settles s (x .notBelow)) (moveTo (number t) x)
-    (moveLater x (moveAmong μ γ (w ++ x .evaluated) s ts)))
-    (test-local ν μ γ w t a c)
-
 lastPhase-local : (ν μ : ℕ → ℕ) (v : ℕ) (w : List ℕ) (t : Tree) → Alike ν μ w
-    → Alike ν μ (lastPhase ν v w t .evaluated)
+    → Alike ν μ (lastPhase ν v w t)
     → lastPhase ν v w t ≡ lastPhase μ v w t
 lastPhase-local ν μ v w (leaf n) a b = refl
-lastPhase-local ν μ v w (inner n s ks) a b = moveAmong-local ν μ (equalTest s v) w s ks a b
+lastPhase-local ν μ v w (inner n s ks) a b =
+    ap (λ x. x .evaluated) (testChildren-local ν μ (equalTest s v) w s ks a b)
+
+-- the run q, and then the leaves u
+abbrev concluded : TestSearch → List ℕ → Decision
+concluded q u = record { evaluated = q .evaluated ++ u; tests = length (q .tests) }
 
 -- a search with the last phase gives the same under valuations that agree on the leaves that it evaluates
 pub decide-local : (ν μ : ℕ → ℕ) (σ : Strategy) (t : Tree) → Alike ν μ (decideBy σ ν t .evaluated)
@@ -175,8 +147,8 @@ pub decide-local : (ν μ : ℕ → ℕ) (σ : Strategy) (t : Tree) → Alike ν
 decide-local ν μ σ t a =
     let q = searchBy σ ν t in
     let w = q .evaluated in
-    let u = lastPhase ν (q .value) w t .evaluated in
+    let u = lastPhase ν (q .value) w t in
     let b = all-left (λ k. ν k ≡ μ k) w u a in
-    ap (decision q) (lastPhase-local ν μ (q .value) w t b (all-right (λ k. ν k ≡ μ k) w u a))
-    ∙ ap (λ (p : TestSearch). decision p (lastPhase μ (p .value) (p .evaluated) t))
+    ap (concluded q) (lastPhase-local ν μ (q .value) w t b (all-right (λ k. ν k ≡ μ k) w u a))
+    ∙ ap (λ (p : TestSearch). concluded p (lastPhase μ (p .value) (p .evaluated) t))
     (run-local ν μ σ (suc (length (leaves t))) t [] [] b)

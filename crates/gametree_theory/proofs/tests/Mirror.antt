@@ -29,7 +29,7 @@ use Rattle.gametree.specs.FirstMove.{equalTest, lastPhase, decideBy}
 use Rattle.gametree_theory.proofs.minimax.Bounds.{minimax-score}
 use Rattle.gametree_theory.proofs.minimax.Closer.{bounds≤, high≤}
 use Rattle.gametree_theory.proofs.tests.Runs.{search-right}
-use Rattle.gametree_theory.proofs.tests.FirstMove.{moveAmong-leaves, equal-inside}
+use Rattle.gametree_theory.proofs.tests.FirstMove.{equal-inside}
 
 -- VALUES
 
@@ -298,17 +298,14 @@ equal-mirror Max v h = omega arith
 equal-mirror Min v h = omega arith
 
 lastPhase-mirror : (ν : ℕ → ℕ) (w : List ℕ) (t : Tree) → Scored ν t
-    → lastPhase (mirrored ν) (opposite (minimax ν t)) w (mirror t) .evaluated
-    ≡ lastPhase ν (minimax ν t) w t .evaluated
+    → lastPhase (mirrored ν) (opposite (minimax ν t)) w (mirror t) ≡ lastPhase ν (minimax ν t) w t
 lastPhase-mirror ν w (leaf n) h = refl
 lastPhase-mirror ν w (inner n s ks) h =
     let v = minimaxChildren ν s ks in
     let γ = equalTest s v in
     let i = minimax-score ν (inner n s ks) h in
-    moveAmong-leaves (mirrored ν) _ w (other s) (mirrorChildren ks)
-    ∙ ap (λ x. testChildren (mirrored ν) x w (other s) (mirrorChildren ks) .evaluated) (equal-mirror s v (omega arith))
+    ap (λ x. testChildren (mirrored ν) x w (other s) (mirrorChildren ks) .evaluated) (equal-mirror s v (omega arith))
     ∙ testChildren-mirror ν γ w s ks h (equal-inside s v i .1) .leaves-are
-    ∙ sym (moveAmong-leaves ν γ w s ks)
 
 -- with it the leaves are the same, too
 pub decide-mirror : (ν : ℕ → ℕ) (g : ℕ) (t : Tree) → Scored ν t
@@ -321,5 +318,5 @@ decide-mirror ν g t h =
     let x =
     search-right (mtdFrom (oppositeTest g)) (mirrored ν) (mirror t) (scored-mirror ν t h) .value
     ∙ minimax-mirror ν t in
-    ap₂ (λ y z. y ++ lastPhase (mirrored ν) z y (mirror t) .evaluated) e x
-    ∙ ap (λ y. w ++ y) (lastPhase-mirror ν w t h ∙ ap (λ y. lastPhase ν y w t .evaluated) (sym v))
+    ap₂ (λ y z. y ++ lastPhase (mirrored ν) z y (mirror t)) e x
+    ∙ ap (λ y. w ++ y) (lastPhase-mirror ν w t h ∙ ap (λ y. lastPhase ν y w t) (sym v))

@@ -27,12 +27,12 @@ pub record Met (t : List ℕ) (f : ℕ) (m m′ : Memory) (r : Settled) : Type 0
 
 -- after the last phase for the value v
 pub record MovedTo (t : List ℕ) (v : ℕ) (m m′ : Memory) : Type 0 where
-  pub evaluated : Evaluated m m′ (lastPhase (valuation t) v (soFar m) (tree t) .evaluated)
+  pub evaluated : Evaluated m m′ (lastPhase (valuation t) v (soFar m) (tree t))
   pub counted : Counted t m′
 
 -- after both, from the progress p to p′
 pub record Settles (t : List ℕ) (f : ℕ) (p p′ : Progress) (r : Settled) : Type 0 where
-  pub score : r .score ≡ decisionOf f t .value
+  pub score : r .score ≡ drivenOf f t .value
   pub tests : r .tests ≡ decisionOf f t .tests
   pub evaluated : p′ ≡ evaluateAll p (mtdfLeaves f t)
   pub counted : p′ .leaves ≡ ones (p′ .marks) (frames t)
