@@ -8,7 +8,7 @@ use mathlib.Core.Bool.{true}
 use lib.IntN.{pos}
 use lib.Signed.{ltZ}
 use lib.ListN.{length, take}
-use Rattle.gametree.specs.FirstMove.{mtdf as rule}
+use Rattle.gametree.specs.Mtdf.{mtdf as rule}
 use Rattle.frames.specs.Frame.{frames}
 use Rattle.frames.specs.Tree.{tree, valuation}
 use Rattle.frames.specs.Check.{Accepted}

@@ -6,16 +6,15 @@ use mathlib.Core.Bool.{true, cond}
 use mathlib.Core.List.{List}
 use lib.IntN.{ℤ, pos, negsuc}
 use lib.Signed.{ltZ}
-use lib.ListN.{take, length-append}
+use lib.ListN.{take}
 use borrow.Author.Tests.{le-leb, lt-leb, le-ltb, ltb-true, eq-eqb}
 use Rattle.lists.specs.Lists.{All, among}
 use Rattle.lists.proofs.Choice.{true-not-false}
 use Rattle.lists.proofs.Lists.{all-at, once-length}
 use Rattle.gametree.specs.Tree.{greatest, minimax}
-use Rattle.gametree.specs.Tests.{searchBy, mtdFrom}
-use Rattle.gametree.specs.FirstMove.{lastPhase, mtdf as rule}
-use Rattle.gametree_theory.proofs.Theorems.{value-score, local-decide}
-use Rattle.gametree_theory.proofs.TestRuns.{guess-two, tests-few, falling-decides-sss}
+use Rattle.gametree.specs.Mtdf.{mtdf as rule}
+use Rattle.gametree_theory.proofs.Theorems.{value-score}
+use Rattle.gametree_theory.proofs.TestRuns.{guess-tests, guess-two, falling-decides-sss, local-mtdf as local-rule}
 use Rattle.frames.specs.Frame.{frames}
 use Rattle.frames.specs.Tree.{tree, valuation}
 use Rattle.frames.specs.Shape.{SameShape}
@@ -54,10 +53,7 @@ module _ {t : List ℕ} {f : MtdfResult} (c : MtdfCall t (mtdf-answer.Found f)) 
   pub fewer-tests : f .tests ≤ f .findings .leaves
   unfolding decisionOf
   fewer-tests =
-      let σ = mtdFrom (startScore (c .start)) in
-      let k = tests-few σ (valuation t) (tree t) (proper (view (mtdf c) .handed) .scored) in
-      let q = searchBy σ (valuation t) (tree t) in
-      let n = length-append (q .evaluated) (lastPhase (valuation t) (q .value) (q .evaluated) (tree t)) in
+      let k = guess-tests (valuation t) (startScore (c .start)) (tree t) (proper (view (mtdf c) .handed) .scored) in
       omega (arith, tests-are, count (mtdf c) .0)
 
   -- a starting value that is the value takes at most two of them
@@ -119,7 +115,7 @@ local-mtdf {t} {u} c d v h a =
     let y = mtdf d in
     let n = startScore (c .start) in
     let r : decisionOf n t ≡ decisionOf (startScore (d .start)) u =
-    local-decide (mtdFrom n) (valuation t) (valuation u) (tree t) (agreed-scores x y h a)
+    local-rule n (valuation t) (valuation u) (tree t) (agreed-scores x y h a)
     ∙ ap₂ (λ z T. rule (startScore z) (valuation u) T) v (one-tree x y h a) in
     let e = ap (λ z. z .evaluated) r in (
       mtdf-result c .found

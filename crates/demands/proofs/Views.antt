@@ -6,9 +6,9 @@ use mathlib.Core.List.{List, [], _++_}
 use lib.ListN.{length, drop, replicate}
 use Rattle.lists.proofs.Choice.{clash}
 use Rattle.gametree.specs.Sss.{Evaluation}
-use Rattle.gametree.specs.Tests.{mtdFrom}
-use Rattle.gametree_theory.proofs.Searches.{Searched, byMtd, byTests, Deciding}
+use Rattle.gametree_theory.proofs.Searches.{Searched, byMtd, Deciding}
 use Rattle.gametree_theory.proofs.Theorems.{search-deciding}
+use Rattle.gametree_theory.proofs.TestRuns.{mtdf-searched}
 use Rattle.frames.specs.declared.Rejection.{Rejection}
 use Rattle.frames.specs.Rejection.{unless, Outcome, _leaving_}
 use Rattle.frames.specs.Frame.{frames}
@@ -228,7 +228,7 @@ decides t a s = search-deciding (valuation t) (tree t) (tree-proper t (accepted-
 -- the leaves of MTD(f) are those of a search by tests
 tests-searched : (f : ℕ) (t : List ℕ) → Searched (valuation t) (tree t) (mtdfLeaves f t)
 unfolding decisionOf
-tests-searched f t = byTests (mtdFrom f)
+tests-searched f t = mtdf-searched (valuation t) f (tree t)
 
 -- each call that gives a result is such a call
 pub view : {t : List ℕ} (c : Call t) → View c

@@ -9,8 +9,7 @@ use Rattle.gametree.specs.Bounds.{Decided}
 use Rattle.gametree.specs.AlphaBeta.{fullWindow}
 use Rattle.gametree.specs.Mtd.{mtd}
 use Rattle.gametree.specs.Sss.{sss}
-use Rattle.gametree.specs.Tests.{Strategy}
-use Rattle.gametree.specs.FirstMove.{decideBy}
+use Rattle.gametree.specs.results.Family.{Strategy, decideBy}
 use Rattle.gametree.specs.Certificate.{flag}
 use Rattle.gametree.specs.Move.{rootMove, boundMove}
 

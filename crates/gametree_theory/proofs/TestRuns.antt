@@ -7,7 +7,7 @@ use mathlib.Core.Path.{_≡_, refl, sym, _∙_, ap, ap₂, subst}
 use mathlib.Core.Logic.{_↔_}
 use mathlib.Core.Bool.{Bool, true, false, cond}
 use mathlib.Core.List.{List, [], _++_, map}
-use lib.ListN.{length}
+use lib.ListN.{length, length-append}
 use borrow.Author.Tests.{leb-true, leb-false, le-leb, lt-leb}
 use Rattle.lists.specs.Lists.{All, among, Once, different}
 use Rattle.gametree.specs.declared.Side.the-variants.{Max, Min}
@@ -18,17 +18,18 @@ use Rattle.gametree.specs.Certificate.{pairLeaves, chosen, flag, Smallest}
 use Rattle.gametree.specs.Move.{rootMove, boundMove}
 use Rattle.gametree.specs.results.Mirror.{mirror, mirrored, oppositeTest}
 use Rattle.gametree.specs.results.Scout.{scout}
-use Rattle.gametree.specs.Tests.{test, Strategy, TestSearch, searchBy, mtdFrom, falling, rising, bisection}
-use Rattle.gametree.specs.FirstMove.{decideBy, mtdf}
+use Rattle.gametree.specs.Tests.{test}
+use Rattle.gametree.specs.Mtdf.{lastPhase, mtdf}
+use Rattle.gametree.specs.results.Family.{Strategy, TestSearch, searchBy, mtdFrom, falling, rising, bisection, decideBy}
 use Rattle.lists.proofs.Lists.{once-length}
 use Rattle.gametree_theory.proofs.minimax.Bounds.{every-leaf, known-local}
 use Rattle.gametree_theory.proofs.minimax.Moves.{boundMove-local}
 use Rattle.gametree_theory.proofs.alphabeta.Window.{alphaBeta-evaluated}
 use Rattle.gametree_theory.proofs.certificates.Flags.{FlagsCertify, decided-certify}
 use Rattle.gametree_theory.proofs.certificates.SmallestPair.{smallest≤}
-use Rattle.gametree_theory.proofs.Searches.{sssEvaluated}
+use Rattle.gametree_theory.proofs.Searches.{sssEvaluated, Searched, byTests}
 use Rattle.gametree_theory.proofs.sss.Run.{sss-is-mtd}
-use Rattle.gametree_theory.proofs.Theorems.{alphaBeta-leaves}
+use Rattle.gametree_theory.proofs.Theorems.{alphaBeta-leaves, local-decide}
 use Rattle.gametree_theory.proofs.tests.Answer.{test-answer}
 use Rattle.gametree_theory.proofs.tests.Leaves.{New, test-dominated, test-once}
 use Rattle.gametree_theory.proofs.tests.Progress.{confirmed-low, confirmed-high, test-confirmed}
@@ -37,6 +38,7 @@ use Rattle.gametree_theory.proofs.tests.Local.{run-local}
 use Rattle.gametree_theory.proofs.tests.Null.{test-null}
 use Rattle.gametree_theory.proofs.tests.Runs.{reaches-own, test-opens, search-right}
 use Rattle.gametree_theory.proofs.tests.Move.{BestMove, decided-best}
+use Rattle.gametree_theory.proofs.tests.Member.{mtdf-member}
 use Rattle.gametree_theory.proofs.tests.Guess.{right-guess}
 use Rattle.gametree_theory.proofs.tests.Few.{guess-scores}
 use Rattle.gametree_theory.proofs.tests.Bisection.{bisection-tests}
@@ -192,15 +194,38 @@ decide-same σ τ ν t h = (
 
 -- MTD(f)
 
+module _ (ν : ℕ → ℕ) (f : ℕ) (t : Tree) where
+  -- MTD(f) is the search by the strategy that starts with f, with the last phase
+  pub mtdf-by-tests : mtdf f ν t ≡ decideBy (mtdFrom f) ν t
+  mtdf-by-tests = mtdf-member ν f t
+
+  -- so it is one of the searches of Theorems
+  pub mtdf-searched : Searched ν t (mtdf f ν t .evaluated)
+  mtdf-searched = rw mtdf-by-tests (byTests (mtdFrom f))
+
+  -- it makes no more tests than it evaluates leaves
+  pub guess-tests : Scored ν t → mtdf f ν t .tests ≤ length (mtdf f ν t .evaluated)
+  guess-tests h =
+      let q = searchBy (mtdFrom f) ν t in
+      let k = tests-few (mtdFrom f) ν t h in
+      let n = length-append (q .evaluated) (lastPhase ν (q .value) (q .evaluated) t) in
+      rw mtdf-by-tests (omega arith)
+
+-- it gives the same leaves and number of tests under a valuation that agrees on the leaves that it evaluates
+pub local-mtdf : (f : ℕ) (ν μ : ℕ → ℕ) (t : Tree) → All (λ k. ν k ≡ μ k) (mtdf f ν t .evaluated)
+    → mtdf f ν t ≡ mtdf f μ t
+local-mtdf f ν μ t a =
+    mtdf-by-tests ν f t ∙ local-decide (mtdFrom f) ν μ t (rw mtdf-by-tests at a) ∙ sym (mtdf-by-tests μ f t)
+
 -- the first guess matters neither for the value nor for the move
 pub guess-same : (f g : ℕ) (ν : ℕ → ℕ) (t : Tree) → Scored ν t
     → (searchBy (mtdFrom f) ν t .value ≡ searchBy (mtdFrom g) ν t .value)
     × (boundMove ν (among (mtdf f ν t .evaluated)) t ≡ boundMove ν (among (mtdf g ν t .evaluated)) t)
-guess-same f g ν t h = decide-same (mtdFrom f) (mtdFrom g) ν t h
+guess-same f g ν t h = rw (mtdf-by-tests ν f t, mtdf-by-tests ν g t) (decide-same (mtdFrom f) (mtdFrom g) ν t h)
 
 -- two tests of the root suffice where it is the value
 pub guess-two : (ν : ℕ → ℕ) (t : Tree) → Scored ν t → mtdf (minimax ν t) ν t .tests ≤ 2
-guess-two ν t h = right-guess ν t h
+guess-two ν t h = rw (mtdf-by-tests ν (minimax ν t) t) (right-guess ν t h)
 
 -- whatever the guess, it makes at most one test more than there are different scores among the leaves that it evaluates
 pub guess-few : (ν : ℕ → ℕ) (f : ℕ) (t : Tree) → Scored ν t
@@ -215,7 +240,8 @@ guess-mirror ν f t h = search-mirror ν f t h
 -- with the last phase the leaves are the same, too
 pub guess-mirror-decides : (ν : ℕ → ℕ) (f : ℕ) (t : Tree) → Scored ν t
     → mtdf (oppositeTest f) (mirrored ν) (mirror t) .evaluated ≡ mtdf f ν t .evaluated
-guess-mirror-decides ν f t h = decide-mirror ν f t h
+guess-mirror-decides ν f t h =
+    rw (mtdf-by-tests ν f t, mtdf-by-tests (mirrored ν) (oppositeTest f) (mirror t)) (decide-mirror ν f t h)
 
 -- ITS TWO ENDS
 
@@ -236,7 +262,7 @@ module _ (ν : ℕ → ℕ) (t : Tree) (r : Proper ν t) where
   pub falling-decides-sss : All (λ k. among (sssEvaluated ν t) k ≡ true) (mtdf greatest ν t .evaluated)
   falling-decides-sss =
       subst (λ w. All (λ k. among w k ≡ true) (mtdf greatest ν t .evaluated))
-      (sym (sss-is-mtd ν t r .leaves-are)) (falling-decides-mtd ν t r)
+      (sym (sss-is-mtd ν t r .leaves-are)) (rw (mtdf-by-tests ν greatest t) (falling-decides-mtd ν t r))
 
 -- DUAL*, from `least`, evaluates only leaves that SSS* evaluates in the game with the sides exchanged
 pub rising-sss : (ν : ℕ → ℕ) (t : Tree) → Proper ν t
@@ -251,7 +277,7 @@ pub rising-decides-sss : (ν : ℕ → ℕ) (t : Tree) → Proper ν t
     → All (λ k. among (sssEvaluated (mirrored ν) (mirror t)) k ≡ true) (mtdf (suc least) ν t .evaluated)
 rising-decides-sss ν t r =
     subst (All (λ k. among (sssEvaluated (mirrored ν) (mirror t)) k ≡ true))
-    (decide-mirror ν (suc least) t (r .scored))
+    (guess-mirror-decides ν (suc least) t (r .scored))
     (falling-decides-sss (mirrored ν) (mirror t) (proper-mirror ν t r))
 
 -- BISECTION

@@ -21,8 +21,7 @@ use Rattle.gametree.specs.engine.Memo.{fresh, memoMtd, withoutMemo}
 use Rattle.gametree.specs.Sss.{takenMerit, State, Step, empty, stop, quiet, evaluating, replace, step}
 use Rattle.gametree.specs.Sss.{runFrom, start, sss, ListAfter, afterQuiet, afterEvaluating}
 use Rattle.gametree.specs.engine.Within.{resumed, inFull}
-use Rattle.gametree.specs.Tests.{Strategy}
-use Rattle.gametree.specs.FirstMove.{decideBy}
+use Rattle.gametree.specs.results.Family.{Strategy, decideBy}
 use Rattle.gametree.specs.Certificate.{Rule, SolutionTree, solutionValue, Certifies, pairLeaves, chosen}
 use Rattle.gametree.specs.Certificate.{Smallest}
 use Rattle.gametree_theory.proofs.certificates.Flags.{FlagsCertify}

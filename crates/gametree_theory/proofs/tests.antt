@@ -10,6 +10,7 @@ pub mod Local
 pub mod Runs
 pub mod Move
 pub mod FirstMove
+pub mod Member
 pub mod Guess
 pub mod Mirror
 pub mod Few

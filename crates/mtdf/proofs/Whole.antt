@@ -4,18 +4,17 @@ use Prim.Native.Nat.{ℕ, _≤_, _<_}
 use native.Mathlib.Omega.{arith}
 use mathlib.Core.Path.{_≡_, refl, sym, ap, ap₂, _∙_, subst}
 use mathlib.Core.Bool.{false}
-use mathlib.Core.List.{List, _++_}
+use mathlib.Core.List.{List}
 use lib.ListN.{length, replicate, length-replicate, getD-replicate}
 use lib.IntN.{ℤ}
 use Rattle.gametree.specs.declared.Side.the-variants.{Max}
 use Rattle.gametree.specs.Tree.{least, greatest, minimax}
-use Rattle.gametree.specs.Tests.{mtdFrom}
-use Rattle.gametree.specs.FirstMove.{lastPhase}
+use Rattle.gametree.specs.Mtdf.{lastPhase}
 use Rattle.gametree.specs.Move.{boundMove}
 use Rattle.gametree.specs.Certificate.{flag}
-use Rattle.gametree_theory.proofs.Searches.{Deciding, byTests}
+use Rattle.gametree_theory.proofs.Searches.{Deciding}
 use Rattle.gametree_theory.proofs.Theorems.{value-score, search-deciding}
-use Rattle.gametree_theory.proofs.TestRuns.{tests-minimax}
+use Rattle.gametree_theory.proofs.TestRuns.{mtdf-searched}
 use Rattle.frames.specs.Frame.{frames, childCount}
 use Rattle.frames.specs.Position.{rootPosition}
 use Rattle.frames.specs.Tree.{tree, valuation}
@@ -36,7 +35,7 @@ use Rattle.mtdf_visits.specs.declared.Tried.{Tried}
 use Rattle.mtdf.specs.Outcome.{decisionOf, mtdfLeaves, mtdfFound}
 use Rattle.mtdf_visits.specs.engine.Memory.{Memory, memory, progressOf, soFar, MemoryRoom, VisitReady, Counted}
 use Rattle.mtdf_visits.specs.engine.Memory.{Evaluated, Entered, Fresh}
-use Rattle.mtdf.specs.engine.Settling.{drivenOf, Met, MovedTo, Settles}
+use Rattle.mtdf.specs.engine.Settling.{Met, MovedTo, Settles}
 use Rattle.mtdf_visits.proofs.Arrays.{Long, room-kept, evaluated-none, evaluated-more}
 
 module _ (t : List ℕ) (wf : WellFormed t) where
@@ -98,31 +97,25 @@ module _ (t : List ℕ) (wf : WellFormed t) where
   pub settled-both : (f : ℕ) (e o l h : List ℕ) (m′ m″ : Memory) (s r : Settled) → Met t f (memory 0 e o l h) m′ s
       → MovedTo t (s .score) m′ m″ → r .score ≡ s .score → r .tests ≡ s .tests
       → Settles t f (progress 0 e o) (progressOf m″) r
-  unfolding decisionOf drivenOf
   settled-both f e o l h m′ m″ s r x y p q =
-      let same = ap₂ (λ v w. lastPhase (valuation t) v w (tree t)) (x .score) (x .evaluated .listed) in
       record {
         score = p ∙ x .score;
         tests = q ∙ x .tests;
         evaluated =
             evaluated-more (x .evaluated) (y .evaluated) .all
-            ∙ ap (λ w. evaluateAll (progress 0 e o) (drivenOf f t .evaluated ++ w)) same;
+            ∙ ap (evaluateAll (progress 0 e o)) (sym (x .leaves));
         counted = y .counted .number;
       }
+
+  -- the score has a value
+  pub run-small : (s : ℕ) → s ≡ minimax (valuation t) (tree t) → s ≤ greatest
+  run-small s d = omega (arith, d, value-score (valuation t) (tree t) (tree-proper t wf .scored))
 
   module _ (f : ℕ) where
     decision-right : Deciding (valuation t) (tree t) (mtdfLeaves f t)
     unfolding decisionOf
-    decision-right = search-deciding (valuation t) (tree t) (tree-proper t wf) (byTests (mtdFrom f))
-
-    decision-value : drivenOf f t .value ≡ minimax (valuation t) (tree t)
-    unfolding drivenOf
-    decision-value = tests-minimax (mtdFrom f) (valuation t) (tree t) (tree-proper t wf .scored)
-
-    -- the score has a value
-    pub run-small : (s : ℕ) → s ≡ drivenOf f t .value → s ≤ greatest
-    run-small s d =
-        omega (arith, d, decision-value, value-score (valuation t) (tree t) (tree-proper t wf .scored))
+    decision-right =
+        search-deciding (valuation t) (tree t) (tree-proper t wf) (mtdf-searched (valuation t) f (tree t))
 
     -- the steps together: e is cleared to e₁, the tests make it e₂ and the list o₂, and c₂, m and v follow from that
     pub run-gives : (e e₁ e₂ e₃ c c₂ o o₂ : List ℕ) (r : Settled) (m : ℕ) (v : ℤ)
@@ -142,7 +135,7 @@ module _ (t : List ℕ) (wf : WellFormed t) where
         (settled .counted) room in
         let b = search-concludes t wf (mtdfLeaves f t) decision-right e e₁ e₂ e₃ c c₂ m cleared (g .1 .0) move flags
         kept in
-        let x : v ≡ valueOf (minimax (valuation t) (tree t)) = value ∙ ap valueOf (settled .score ∙ decision-value) in
+        let x : v ≡ valueOf (minimax (valuation t) (tree t)) = value ∙ ap valueOf (settled .score) in
         let y = b .0 in
         let z = g .0 in
         let n = settled .tests in

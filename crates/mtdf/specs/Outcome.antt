@@ -7,7 +7,7 @@ use lib.Dec.{leb}
 use lib.IntN.{ℤ, pos, natAbs}
 use lib.Signed.{ltZ}
 use Rattle.gametree.specs.Tree.{least, greatest}
-use Rattle.gametree.specs.FirstMove.{Decision, mtdf}
+use Rattle.gametree.specs.Mtdf.{Decision, mtdf}
 use Rattle.frames.specs.Tree.{tree, valuation}
 use Rattle.frames.specs.Value.{maxValue}
 use Rattle.certificate.specs.Search.{findings, Buffers, SearchOutcome, searchOutcome}

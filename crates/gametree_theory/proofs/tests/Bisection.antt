@@ -11,7 +11,8 @@ use borrow.Author.Tests.{eqb-false}
 use Rattle.lists.specs.Lists.{among}
 use Rattle.gametree.specs.Tree.{Tree, leaves, Scored}
 use Rattle.gametree.specs.Bounds.{low, high}
-use Rattle.gametree.specs.Tests.{test, view, chosenTest, TestSearch, drive, searchBy, bisection}
+use Rattle.gametree.specs.Tests.{test}
+use Rattle.gametree.specs.results.Family.{view, chosenTest, TestSearch, drive, searchBy, bisection}
 use Rattle.lists.proofs.Choice.{cond-cases}
 use Rattle.lists.proofs.Lists.{among-left}
 use Rattle.gametree_theory.proofs.minimax.Bounds.{low≤, ≤high, low-none}

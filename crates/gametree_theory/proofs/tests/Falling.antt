@@ -26,9 +26,8 @@ use Rattle.gametree.specs.AlphaBeta.{raise, lower}
 use Rattle.gametree.specs.Mtd.{settles}
 use Rattle.gametree.specs.engine.Memo.{memoMtd}
 use Rattle.gametree.specs.results.ClosedForm.{rival, unrivalled, unrivalledChildren}
-use Rattle.gametree.specs.Tests.{Tested, opened, byBounds, test, testChildren, view, chosenTest, TestSearch}
-use Rattle.gametree.specs.Tests.{drive}
-use Rattle.gametree.specs.Tests.{searchBy, afterGuess, falling}
+use Rattle.gametree.specs.Tests.{Tested, opened, byBounds, test, testChildren}
+use Rattle.gametree.specs.results.Family.{view, chosenTest, TestSearch, drive, searchBy, afterGuess, falling}
 use Rattle.lists.proofs.Choice.{cond-cases, true-not-false, or-left}
 use Rattle.lists.proofs.Lists.{all-append, all-map, all-zip, all-at, among-left, among-right}
 use Rattle.gametree_theory.proofs.minimax.Bounds.{every-map, every-leaf, ≤high}

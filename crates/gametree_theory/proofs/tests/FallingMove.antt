@@ -19,8 +19,9 @@ use Rattle.gametree.specs.Bounds.{known, low, high}
 use Rattle.gametree.specs.Mtd.{settles}
 use Rattle.gametree.specs.engine.Memo.{memoMtd}
 use Rattle.gametree.specs.results.ClosedForm.{unrivalled}
-use Rattle.gametree.specs.Tests.{Tested, byBounds, test, testChildren, searchBy, falling}
-use Rattle.gametree.specs.FirstMove.{lastPhase, decideBy}
+use Rattle.gametree.specs.Tests.{Tested, byBounds, test, testChildren}
+use Rattle.gametree.specs.Mtdf.{lastPhase}
+use Rattle.gametree.specs.results.Family.{searchBy, falling, decideBy}
 use Rattle.lists.proofs.Choice.{cond-cases}
 use Rattle.lists.proofs.Lists.{all-append, all-map, among-left}
 use Rattle.gametree_theory.proofs.minimax.Bounds.{every-leaf, low≤, ≤high, minimax-score}

@@ -13,7 +13,8 @@ use Rattle.lists.specs.Lists.{All, among, different}
 use Rattle.gametree.specs.Tree.{Tree, greatest, minimax, leaves, Scored}
 use Rattle.gametree.specs.Bounds.{low, high}
 use Rattle.gametree.specs.results.Mirror.{mirror, opposite, mirrored, oppositeTest}
-use Rattle.gametree.specs.Tests.{test, view, Strategy, chosenTest, TestSearch, drive, searchBy, mtdFrom}
+use Rattle.gametree.specs.Tests.{test}
+use Rattle.gametree.specs.results.Family.{view, Strategy, chosenTest, TestSearch, drive, searchBy, mtdFrom}
 use Rattle.lists.proofs.Choice.{cond-cases, true-not-false}
 use Rattle.lists.proofs.Lists.{all-map, all-among, all-at, among-left}
 use Rattle.gametree_theory.proofs.minimax.Bounds.{≤high, low-none, minimax-score}

@@ -19,8 +19,9 @@ use Rattle.gametree.specs.AlphaBeta.{reached}
 use Rattle.gametree.specs.Mtd.{settles}
 use Rattle.gametree.specs.Certificate.{worst}
 use Rattle.gametree.specs.Move.{rootMove, boundMove}
-use Rattle.gametree.specs.Tests.{Tested, passedOn, test, testChildren, Strategy, searchBy}
-use Rattle.gametree.specs.FirstMove.{equalTest, lastPhase, Decision, decideBy}
+use Rattle.gametree.specs.Tests.{Tested, passedOn, test, testChildren}
+use Rattle.gametree.specs.Mtdf.{equalTest, lastPhase, Decision}
+use Rattle.gametree.specs.results.Family.{Strategy, searchBy, decideBy}
 use Rattle.lists.proofs.Choice.{true-not-false}
 use Rattle.lists.proofs.Lists.{all-append, all-map, all-among, among-left}
 use Rattle.gametree_theory.proofs.minimax.Bounds.{low≤, ≤high, minimax-score}

@@ -10,7 +10,8 @@ use borrow.Author.Tests.{eqb-false, eq-eqb, le-leb, lt-leb}
 use Rattle.lists.specs.Lists.{among}
 use Rattle.gametree.specs.Tree.{Tree, minimax, leaves, Scored}
 use Rattle.gametree.specs.Bounds.{low, high}
-use Rattle.gametree.specs.Tests.{test, view, Strategy, chosenTest, TestSearch, drive, searchBy, mtdFrom}
+use Rattle.gametree.specs.Tests.{test}
+use Rattle.gametree.specs.results.Family.{view, Strategy, chosenTest, TestSearch, drive, searchBy, mtdFrom}
 use Rattle.lists.proofs.Choice.{cond-cases}
 use Rattle.lists.proofs.Lists.{among-left}
 use Rattle.gametree_theory.proofs.minimax.Bounds.{low≤, ≤high, low-none, minimax-score}

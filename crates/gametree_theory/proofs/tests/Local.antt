@@ -11,9 +11,10 @@ use Rattle.gametree.specs.Tree.{Tree, leaf, inner, Children, last, _then_, leas
 use Rattle.gametree.specs.Tree.{leaves}
 use Rattle.gametree.specs.Bounds.{low, high}
 use Rattle.gametree.specs.Mtd.{settles}
-use Rattle.gametree.specs.Tests.{Tested, opened, passedOn, byBounds, test, testChildren, View, view, Strategy}
-use Rattle.gametree.specs.Tests.{chosenTest, TestSearch, met, tested, drive, searchBy}
-use Rattle.gametree.specs.FirstMove.{equalTest, lastPhase, Decision, decideBy}
+use Rattle.gametree.specs.Tests.{Tested, opened, passedOn, byBounds, test, testChildren}
+use Rattle.gametree.specs.Mtdf.{equalTest, lastPhase, Decision}
+use Rattle.gametree.specs.results.Family.{View, view, Strategy, chosenTest, TestSearch, met, tested, drive, searchBy}
+use Rattle.gametree.specs.results.Family.{decideBy}
 use Rattle.lists.proofs.Choice.{cond-cases}
 use Rattle.lists.proofs.Lists.{all-append, all-left, all-right}
 use Rattle.gametree_theory.proofs.minimax.Bounds.{known-local}

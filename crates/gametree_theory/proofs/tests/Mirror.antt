@@ -22,10 +22,10 @@ use Rattle.gametree.specs.Bounds.{known, low, high}
 use Rattle.gametree.specs.AlphaBeta.{clamp}
 use Rattle.gametree.specs.Mtd.{settles}
 use Rattle.gametree.specs.results.Mirror.{mirror, mirrorChildren, opposite, mirrored, oppositeTest}
-use Rattle.gametree.specs.Tests.{Tested, unopened, passedOn, byBounds, test, testChildren, view, chosenTest}
-use Rattle.gametree.specs.Tests.{TestSearch}
-use Rattle.gametree.specs.Tests.{met, tested, drive, searchBy, afterGuess, mtdFrom}
-use Rattle.gametree.specs.FirstMove.{equalTest, lastPhase, decideBy}
+use Rattle.gametree.specs.Tests.{Tested, unopened, passedOn, byBounds, test, testChildren}
+use Rattle.gametree.specs.Mtdf.{equalTest, lastPhase}
+use Rattle.gametree.specs.results.Family.{view, chosenTest, TestSearch, met, tested, drive, searchBy, afterGuess}
+use Rattle.gametree.specs.results.Family.{mtdFrom, decideBy}
 use Rattle.gametree_theory.proofs.minimax.Bounds.{minimax-score}
 use Rattle.gametree_theory.proofs.minimax.Closer.{bounds≤, high≤}
 use Rattle.gametree_theory.proofs.tests.Runs.{search-right}

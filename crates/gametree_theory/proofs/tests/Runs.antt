@@ -12,7 +12,8 @@ use Rattle.lists.specs.Lists.{All, among, Once}
 use Rattle.gametree.specs.Tree.{Tree, least, greatest, minimax, leaves, Scored}
 use Rattle.gametree.specs.Bounds.{low, high, Decided}
 use Rattle.gametree.specs.AlphaBeta.{reached}
-use Rattle.gametree.specs.Tests.{test, view, Strategy, chosenTest, TestSearch, drive, searchBy}
+use Rattle.gametree.specs.Tests.{test}
+use Rattle.gametree.specs.results.Family.{view, Strategy, chosenTest, TestSearch, drive, searchBy}
 use Rattle.lists.proofs.Choice.{cond-cases}
 use Rattle.lists.proofs.Lists.{all-append, all-map, all-among, all-at, once-length, sub-all}
 use Rattle.gametree_theory.proofs.minimax.Bounds.{low≤, ≤high}

@@ -31,7 +31,7 @@ settle-requires c κs =
 value-requires : tie.Need-value-requires
 value-requires c κs =
     let f = c .before .before .before .before .before .before .before .before .before .before .before in
-    run-small _ (start (f .before .before .before .before .before) .pre .0) _ _ (f .settle .ensures .score)
+    run-small _ (start (f .before .before .before .before .before) .pre .0) _ (f .settle .ensures .score)
 
 returns : tie.Need-returns
 returns c =

@@ -1,10 +1,9 @@
 -- What the run of tests and the last phase of MTD(f) leave of the memory.
 use Prim.Native.Nat.{ℕ}
 use mathlib.Core.Path.{_≡_}
-use mathlib.Core.List.{List}
-use lib.ListN.{length}
-use Rattle.gametree.specs.Tests.{TestSearch, searchBy, mtdFrom}
-use Rattle.gametree.specs.FirstMove.{lastPhase}
+use mathlib.Core.List.{List, _++_}
+use Rattle.gametree.specs.Tree.{minimax}
+use Rattle.gametree.specs.Mtdf.{lastPhase}
 use Rattle.frames.specs.Frame.{frames}
 use Rattle.frames.specs.Tree.{tree, valuation}
 use Rattle.certificate_bounds.specs.Marks.{ones}
@@ -13,15 +12,12 @@ use Rattle.mtdf.specs.Outcome.{decisionOf, mtdfLeaves}
 use Rattle.mtdf.specs.declared.Settled.{Settled}
 use Rattle.mtdf_visits.specs.engine.Memory.{Memory, soFar, BoundsRight, Counted, Evaluated}
 
--- the run of tests from the first guess f
-unfoldable pub drivenOf : (f : ℕ) (t : List ℕ) → TestSearch
-drivenOf f t = searchBy (mtdFrom f) (valuation t) (tree t)
-
--- after the tests of the root: its bounds have met
+-- after the tests of the root: its bounds have met at the score, and the last phase is left
 pub record Met (t : List ℕ) (f : ℕ) (m m′ : Memory) (r : Settled) : Type 0 where
-  pub score : r .score ≡ drivenOf f t .value
-  pub tests : r .tests ≡ length (drivenOf f t .tests)
-  pub evaluated : Evaluated m m′ (drivenOf f t .evaluated)
+  pub score : r .score ≡ minimax (valuation t) (tree t)
+  pub evaluated : Evaluated m m′ (soFar m′)
+  pub leaves : mtdfLeaves f t ≡ soFar m′ ++ lastPhase (valuation t) (r .score) (soFar m′) (tree t)
+  pub tests : r .tests ≡ decisionOf f t .tests
   pub counted : Counted t m′
   pub right : BoundsRight t m′ (tree t)
 
@@ -32,7 +28,7 @@ pub record MovedTo (t : List ℕ) (v : ℕ) (m m′ : Memory) : Type 0 where
 
 -- after both, from the progress p to p′
 pub record Settles (t : List ℕ) (f : ℕ) (p p′ : Progress) (r : Settled) : Type 0 where
-  pub score : r .score ≡ drivenOf f t .value
+  pub score : r .score ≡ minimax (valuation t) (tree t)
   pub tests : r .tests ≡ decisionOf f t .tests
   pub evaluated : p′ ≡ evaluateAll p (mtdfLeaves f t)
   pub counted : p′ .leaves ≡ ones (p′ .marks) (frames t)
