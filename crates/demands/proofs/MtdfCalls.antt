@@ -19,8 +19,7 @@ use Rattle.frames.specs.Frame.{frames}
 use Rattle.frames.specs.Tree.{tree, valuation}
 use Rattle.frames.specs.Shape.{SameShape}
 use Rattle.frames.specs.Value.{maxValue}
-use Rattle.frames.proofs.Values.{value-range}
-use Rattle.leastvalue.proofs.Values.{score-again}
+use Rattle.frames.proofs.Values.{value-range, score-back}
 use Rattle.mtdf.specs.declared.MtdfResult.{MtdfResult}
 use Rattle.mtdf.specs.declared.MtdfAnswer.the-variants as mtdf-answer
 use Rattle.mtdf.specs.Outcome.{startScore, decisionOf, mtdfLeaves}
@@ -63,7 +62,7 @@ module _ {t : List ℕ} {f : MtdfResult} (c : MtdfCall t (mtdf-answer.Found f)) 
       let v = minimax (valuation t) (tree t) in
       let s = value-score (valuation t) (tree t) (p .scored) in
       let i = le-leb _ maxValue (value-range v s) in
-      let g : startScore (c .start) ≡ v = ap startScore (e ∙ value-minimax (mtdf c)) ∙ rw i (score-again v s) in
+      let g : startScore (c .start) ≡ v = ap startScore (e ∙ value-minimax (mtdf c)) ∙ rw i (score-back v) in
       rw (tests-are, g) (guess-two (valuation t) (tree t) (p .scored))
 
 -- a starting value above every value, as 32,001 is: MTD(+∞) evaluates only leaves that SSS* evaluates

@@ -2,16 +2,16 @@
 use Prim.Native.Nat.{ℕ, suc, _+_, _-_, _^_, _≤_, _<_}
 use native.Mathlib.Omega.{arith}
 use native.Mathlib.Decide.{decLt}
-use mathlib.Core.Path.{_≡_, ap}
+use mathlib.Core.Path.{_≡_, refl, ap}
 use mathlib.Core.Logic.{_↔_}
 use mathlib.Core.List.{List}
 use lib.Dec.{le→leb}
 use borrow.Author.Tests.{lt-ltb, le-ltb}
-use lib.IntN.{pos, negsuc, natAbs, _-ℤ_}
+use lib.IntN.{ℤ, pos, negsuc, natAbs, _+ℤ_, _-ℤ_}
 use lib.Signed.{mag, _≤ℤ_}
-use Rattle.gametree.specs.Tree.{Score, zeroScore}
+use Rattle.gametree.specs.Tree.{Score, zeroScore, greatest}
 use Rattle.frames.specs.Frame.{byteOf, valueBytes, storedScore, twoBytes}
-use Rattle.frames.specs.Value.{valueOf, signed, maxValue}
+use Rattle.frames.specs.Value.{valueOf, scoreOf, signed, maxValue}
 
 -- the value of a score takes 16 bits
 pub value-small : (s : ℕ) → s ≤ 64002 → mag (valueOf s) < 2 ^ 15
@@ -52,6 +52,36 @@ value-plus s v e = rw (le-ltb s zeroScore (omega arith)) (ap pos (omega arith))
 -- a smaller one has a negative value
 pub value-below : (s v : ℕ) → s + v ≡ maxValue → valueOf s ≡ negsuc v
 value-below s v e = rw (lt-ltb s zeroScore (omega arith)) (ap negsuc (omega arith))
+
+-- the score of a negative value
+pub score-negative : (v : ℕ) → v < zeroScore → scoreOf (negsuc v) ≡ zeroScore - suc v
+score-negative v h = rw (le-ltb zeroScore (suc v) (omega arith))
+
+-- a value and 32,001 are its score, which is none past the greatest
+pub score-sum : (v : ℤ) → natAbs v ≤ zeroScore → v +ℤ pos zeroScore ≡ pos (scoreOf v)
+score-sum (pos n) h = refl
+score-sum (negsuc n) h = rw (le-ltb zeroScore (suc n) (omega arith))
+
+pub score-small : (v : ℤ) → natAbs v ≤ zeroScore → scoreOf v ≤ greatest
+score-small (pos n) h = omega arith
+score-small (negsuc n) h = rw (score-negative n (omega arith)) (omega arith)
+
+-- the value of a score is from -32,001 to 32,001
+pub value-within : (s : ℕ) → s ≤ greatest → natAbs (valueOf s) ≤ zeroScore
+value-within s h =
+    elim (decLt s zeroScore) [
+      | yes p ↦ rw (lt-ltb s zeroScore p) (omega arith)
+      | no p ↦ rw (le-ltb s zeroScore (omega arith)) (omega arith)
+    ]
+
+-- a score is that of its value
+pub score-back : (s : ℕ) → scoreOf (valueOf s) ≡ s
+score-back s =
+    elim (decLt s zeroScore) [
+      | yes p ↦ rw (value-below s (maxValue - s) (omega arith), score-negative (maxValue - s) (omega arith))
+          (omega arith)
+      | no p ↦ rw (value-plus s (s - zeroScore) (omega arith)) (omega arith)
+    ]
 
 -- a smaller one is that of the number less 65,536
 value-minus : (s v : ℕ) → s + 33535 ≡ v → v < twoBytes → valueOf s ≡ pos v -ℤ pos twoBytes

@@ -2,15 +2,15 @@
 use Prim.Native.Nat.{ℕ, zero, suc, _+_, _-_, _≤_, _<_}
 use native.Mathlib.Omega.{arith}
 use native.Mathlib.Decide.{decLt}
-use mathlib.Core.Path.{_≡_, ap, sym}
+use mathlib.Core.Path.{_≡_, ap, sym, _∙_}
 use mathlib.Core.Logic.{_↔_}
 use lib.IntN.{ℤ, pos, negsuc, natAbs, _+ℤ_, _-ℤ_}
 use borrow.Author.Tests.{le-leb, lt-leb, lt-ltb, le-ltb}
 use Rattle.gametree.specs.Tree.{Score, zeroScore}
 use Rattle.frames.specs.Frame.{maxNodes, maxDepth}
-use Rattle.frames.specs.Value.{valueOf, maxValue, win, worth}
+use Rattle.frames.specs.Value.{valueOf, scoreOf, maxValue, win, worth}
 use Rattle.frames.specs.Tree.{leafScore}
-use Rattle.frames.proofs.Values.{value-plus, value-below}
+use Rattle.frames.proofs.Values.{value-plus, value-below, score-negative, score-back}
 
 -- the scores of 31,000 and -31,000
 abbrev pub won : ℕ
@@ -18,27 +18,6 @@ won = zeroScore + win
 
 abbrev pub lost : ℕ
 lost = zeroScore - win
-
-module _ (d s : ℕ) where
-  pub score-won : won ≤ s → leafScore d s ≡ s - d
-  score-won h = rw (le-leb won s h)
-
-  pub score-lost : s ≤ lost → leafScore d s ≡ s + d
-  score-lost h = rw (lt-leb won s (omega arith), le-leb s lost h)
-
-  pub score-other : s < won → lost < s → leafScore d s ≡ s
-  score-other h k = rw (lt-leb won s h, lt-leb s lost k)
-
-  -- so small a depth keeps it in range
-  pub score-kept : d ≤ maxNodes → Score s → Score (leafScore d s)
-  score-kept e h =
-      elim (decLt s won) [
-        | yes p ↦ elim (decLt lost s) [
-          | yes q ↦ rw (score-other p q) h
-          | no q ↦ rw (score-lost (omega arith)) (omega arith, omega arith)
-        ]
-        | no p ↦ rw (score-won (omega arith)) (omega arith, omega arith)
-      ]
 
 -- a difference that is not negative, and a sum that is
 difference : (v d : ℕ) → d ≤ v → pos v -ℤ pos d ≡ pos (v - d)
@@ -81,6 +60,34 @@ ordinary-score s =
       | no p ↦ rw (le-ltb s zeroScore (omega arith)) (λ h. omega (arith, h .1), λ h. (omega arith, omega arith))
     ]
 
+-- the score of a leaf that is neither a win's nor a loss's, of a win's, and of a loss's
+module _ (d s : ℕ) where
+  pub score-other : s < won → lost < s → leafScore d s ≡ s
+  score-other h k = ap scoreOf (worth-ordinary d (valueOf s) (ordinary-score s .0 (k, h))) ∙ score-back s
+
+  module _ (e : d ≤ maxNodes) where
+    pub score-won : won ≤ s → leafScore d s ≡ s - d
+    score-won h =
+        ap (λ v. scoreOf (worth d v)) (value-plus s (s - zeroScore) (omega arith))
+        ∙ ap scoreOf (worth-won d (s - zeroScore) (omega arith) (omega arith)) ∙ omega arith
+
+    pub score-lost : s ≤ lost → leafScore d s ≡ s + d
+    score-lost h =
+        ap (λ v. scoreOf (worth d v)) (value-below s (maxValue - s) (omega arith))
+        ∙ ap scoreOf (worth-lost d (maxValue - s) (omega arith) (omega arith))
+        ∙ score-negative (maxValue - s - d) (omega arith) ∙ omega arith
+
+    -- so small a depth keeps it in range
+    pub score-kept : Score s → Score (leafScore d s)
+    score-kept h =
+        elim (decLt s won) [
+          | yes p ↦ elim (decLt lost s) [
+            | yes q ↦ rw (score-other p q) h
+            | no q ↦ rw (score-lost (omega arith)) (omega arith, omega arith)
+          ]
+          | no p ↦ rw (score-won (omega arith)) (omega arith, omega arith)
+        ]
+
 -- the score of a leaf is that of its worth: its value is the worth of the stored value at the leaf's depth
 pub worth-stated : (d s : ℕ) → d ≤ maxNodes → valueOf (leafScore d s) ≡ worth d (valueOf s)
 worth-stated d s e =
@@ -89,7 +96,7 @@ worth-stated d s e =
         | yes q ↦ rw (score-other d s p q) (sym (worth-ordinary d (valueOf s) (ordinary-score s .0 (q, p))))
         | no q ↦
             rw (
-              score-lost d s (omega arith),
+              score-lost d s e (omega arith),
               value-below s (maxValue - s) (omega arith),
               value-below (s + d) (maxValue - s - d) (omega arith),
             )
@@ -97,7 +104,7 @@ worth-stated d s e =
       ]
       | no p ↦
           rw (
-            score-won d s (omega arith),
+            score-won d s e (omega arith),
             value-plus s (s - zeroScore) (omega arith),
             value-plus (s - d) (s - zeroScore - d) (omega arith),
           )

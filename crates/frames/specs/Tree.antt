@@ -1,13 +1,11 @@
 -- The tree that a table describes, and the scores of its leaves.
 use Prim.Native.Nat.{ℕ, zero, suc, _+_, _-_}
-use mathlib.Core.Bool.{cond}
 use mathlib.Core.List.{List, [], _∷_}
-use lib.Dec.{leb}
 use Rattle.gametree.specs.declared.Side.{Side}
-use Rattle.gametree.specs.Tree.{Tree, leaf, inner, Children, last, _then_, zeroScore}
+use Rattle.gametree.specs.Tree.{Tree, leaf, inner, Children, last, _then_}
 use Rattle.frames.specs.Frame.{frames, firstChild, childCount, storedScore}
 use Rattle.frames.specs.Position.{depthOf, sideOf}
-use Rattle.frames.specs.Value.{win}
+use Rattle.frames.specs.Value.{valueOf, scoreOf, worth}
 
 -- the n numbers from i on
 unfoldable pub upFrom : ℕ → ℕ → List ℕ
@@ -38,11 +36,9 @@ treeAt t i = grow (frames t - i) t i
 abbrev pub tree : List ℕ → Tree
 tree t = treeAt t 0
 
--- the score of a leaf from its depth and its stored score: the worth (Value.antt), as a score
-abbrev pub leafScore : ℕ → ℕ → ℕ
-leafScore depth stored =
-    cond (leb (zeroScore + win) stored) (stored - depth)
-    (cond (leb stored (zeroScore - win)) (stored + depth) stored)
+-- the score of a leaf from its depth and its stored score: that of its worth
+abbrev pub leafScore : (depth stored : ℕ) → ℕ
+leafScore depth stored = scoreOf (worth depth (valueOf stored))
 
 -- the score of each leaf
 unfoldable pub valuation : List ℕ → ℕ → ℕ

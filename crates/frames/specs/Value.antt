@@ -13,6 +13,10 @@ use Rattle.frames.specs.Frame.{twoBytes, frames, childCount, storedScore
 abbrev pub valueOf : ℕ → ℤ
 valueOf score = pos score -ℤ pos zeroScore
 
+-- the score of a value: the value plus 32,001
+abbrev pub scoreOf : ℤ → ℕ
+scoreOf value = natAbs (value +ℤ pos zeroScore)
+
 -- the number that two bytes hold in two's complement, high byte first
 abbrev pub signed : (high low : ℕ) → ℤ
 signed high low = cond (ltb high 128) (pos (high * 256 + low)) (pos (high * 256 + low) -ℤ pos twoBytes)

@@ -4,13 +4,14 @@ use gametree::Side;
 use gametree::other;
 ghost use mathlib.Core.Path.{_≡_};
 ghost use Prim.Native.Nat.{_<_, _≤_};
-ghost use Rattle.gametree.specs.Tree.{greatest};
+ghost use lib.IntN.{natAbs};
+ghost use Rattle.gametree.specs.Tree.{greatest, zeroScore};
 ghost use Rattle.frames.specs.Frame.{frameSize, maxNodes, frames, next as nextOf, twoBytes};
 ghost use Rattle.frames.specs.Frame.{byteOf, firstChild, childCount, byte3, valueBytes, storedScore};
 ghost use Rattle.frames.specs.Children.{childrenOf};
 ghost use Rattle.frames.specs.Position.{childSide, childPosition};
 ghost use Rattle.frames.specs.Tree.{leafScore};
-ghost use Rattle.frames.specs.Value.{valueOf};
+ghost use Rattle.frames.specs.Value.{valueOf, scoreOf};
 ghost use Rattle.frames.specs.Check.{byte3Right, firstChildRight, valueRight};
 
 // The limits (SPEC 3.2).
@@ -242,6 +243,14 @@ pub fn value(score: u32) -> i16
     ensures { λ r. ⌜ r ≡ valueOf score ⌝ }
 {
     (score as i32 - SIGNED_ZERO_SCORE) as i16
+}
+
+// The score of a value.
+pub fn score_of(signed: i32) -> u32
+    requires { ⌜ natAbs signed ≤ zeroScore ⌝ }
+    ensures { λ r. ⌜ r ≡ scoreOf signed ⌝ }
+{
+    (signed + SIGNED_ZERO_SCORE) as u32
 }
 
 // Where a child of a node at `position` stands.

@@ -23,14 +23,14 @@ data Counts (d s x : ℕ) : Type 0 where
   asIs : lost < s → s < won → x ≡ s → Counts d s x
   asWin : won ≤ s → x ≡ s - d → Counts d s x
 
-counts : (d s : ℕ) → Counts d s (leafScore d s)
-counts d s =
+counts : (d s : ℕ) → d ≤ maxDepth → Counts d s (leafScore d s)
+counts d s h =
     elim (decLt s won) [
       | yes p ↦ elim (decLt lost s) [
         | yes q ↦ asIs q p (score-other d s p q)
-        | no q ↦ asLoss (omega arith) (score-lost d s (omega arith))
+        | no q ↦ asLoss (omega arith) (score-lost d s (omega arith) (omega arith))
       ]
-      | no p ↦ asWin (omega arith) (score-won d s (omega arith))
+      | no p ↦ asWin (omega arith) (score-won d s (omega arith) (omega arith))
     ]
 
 held-some : (s : ℕ) → firstScore ≤ s → held s ≡ some s
@@ -65,7 +65,7 @@ module _ (l u d w : ℕ) where
 
     -- a score that counts no more than the root's lower bound: -32,000 reaches what it reaches
     too-low : Counts d s x → l ≤ u → x ≤ l → w ≡ l → NoLarger s
-    too-low n o b e = first (rw (score-lost d firstScore (omega arith)) (omega (arith, counts-least n)))
+    too-low n o b e = first (rw (score-lost d firstScore (omega arith) (omega arith)) (omega (arith, counts-least n)))
 
     -- one that counts w is a candidate itself
     exact : Counts d s x → x ≡ w → Reaches s → NoLarger s
@@ -78,12 +78,12 @@ module _ (l u d w : ℕ) where
     too-high n o e b =
         let m = more n (omega arith) in
         elim (decLe w (firstScore + d)) [
-          | yes f ↦ first (rw (score-lost d firstScore (omega arith)) (omega arith))
+          | yes f ↦ first (rw (score-lost d firstScore (omega arith) (omega arith)) (omega arith))
           | no f ↦ elim (decLe (w - d) lost) [
-            | yes g ↦ loss (omega arith) (m .0 g) (rw (score-lost d (w - d) g) (omega arith))
+            | yes g ↦ loss (omega arith) (m .0 g) (rw (score-lost d (w - d) (omega arith) g) (omega arith))
             | no g ↦ elim (decLt w won) [
               | yes k ↦ itself (m .1 (omega arith)) (rw (score-other d w k (omega arith)) (omega arith))
-              | no k ↦ win (m .2 (omega arith)) (rw (score-won d (w + d) (omega arith)) (omega arith))
+              | no k ↦ win (m .2 (omega arith)) (rw (score-won d (w + d) (omega arith) (omega arith)) (omega arith))
             ]
           ]
         ]
@@ -104,7 +104,7 @@ module _ (l u d w : ℕ) where
   module _ (o : l ≤ u) (h : d ≤ maxDepth) where
     -- where a score reaches w, a candidate no larger does
     no-larger : (s : ℕ) → firstScore ≤ s → Reaches s → NoLarger s
-    no-larger s a r = by (leafScore d s) (counts d s) r
+    no-larger s a r = by (leafScore d s) (counts d s h) r
       where
         by : (x : ℕ) → Counts d s x → clamp l u x ≡ w → NoLarger s
         by x n e =

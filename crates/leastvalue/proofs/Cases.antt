@@ -11,9 +11,10 @@ use Rattle.frames.specs.Position.{depthOf, parentBefore, positionWithin, positi
 use Rattle.frames.specs.Tree.{childrenFrom, grow, treeAt, valuation}
 use Rattle.frames.specs.Rejection.{eachNode, unless}
 use Rattle.frames.specs.Check.{framesRejection, rejection}
+use Rattle.frames.specs.Value.{scoreOf}
 use Rattle.leastvalue.specs.declared.LeastValue.{LeastValue}
 use Rattle.leastvalue.specs.declared.LeastValue.the-variants.{Rejected}
-use Rattle.leastvalue.specs.LeastValue.{smallest, wantedScore, answerFor, valueRejection, leastValue}
+use Rattle.leastvalue.specs.LeastValue.{smallest, answerFor, valueRejection, leastValue}
 use Rattle.leastvalue.specs.engine.Candidates.{candidate, held}
 use Rattle.leastvalue.specs.results.Cases.{cases}
 use Rattle.leastvalue.proofs.Values.{score-range}
@@ -24,19 +25,19 @@ module _ (t : List ℕ) (k : ℕ) (w : ℤ) where
   -- the answer by the candidates
   abbrev computed : LeastValue
   computed = unless (valueRejection t k w) Rejected (answerFor k
-      (held (candidate (low t k) (high t k) (depthOf t k) (wantedScore w))))
+      (held (candidate (low t k) (high t k) (depthOf t k) (scoreOf w))))
 
   by-candidates : leastValue t k w ≡ computed
   unfolding leastValue
   by-candidates = by (valueRejection t k w) refl
     where
       by : (q : Option Rejection) → valueRejection t k w ≡ q
-          → unless q Rejected (answerFor k (smallest t k (wantedScore w)))
-          ≡ unless q Rejected (answerFor k (held (candidate (low t k) (high t k) (depthOf t k) (wantedScore w))))
+          → unless q Rejected (answerFor k (smallest t k (scoreOf w)))
+          ≡ unless q Rejected (answerFor k (held (candidate (low t k) (high t k) (depthOf t k) (scoreOf w))))
       by (some r) e = refl
       by none e =
           let a = asked t k w e in
-          ap (answerFor k) (sym (smallest-candidate t (a .accepted) k (a .leaf .inside) (wantedScore w)
+          ap (answerFor k) (sym (smallest-candidate t (a .accepted) k (a .leaf .inside) (scoreOf w)
           (score-range w (a .ranged))))
 
 computed-answers : map (λ c. computed (c .table) (c .node) (c .wanted)) cases ≡ map (λ c. c .answer) cases

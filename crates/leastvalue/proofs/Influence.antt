@@ -14,7 +14,7 @@ use Rattle.gametree_theory.proofs.minimax.Grafts.{minimax-same}
 use Rattle.frames.specs.Frame.{frames, storedScore}
 use Rattle.frames.specs.Position.{depthOf}
 use Rattle.frames.specs.Tree.{tree, valuation, leafScore}
-use Rattle.frames.specs.Value.{valueOf}
+use Rattle.frames.specs.Value.{valueOf, scoreOf}
 use Rattle.frames.specs.Formed.{WellFormed}
 use Rattle.frames.specs.Rejection.{unless}
 use Rattle.frames.specs.Check.{Accepted}
@@ -23,12 +23,12 @@ use Rattle.frames.proofs.Acceptance.{accepted-formed}
 use Rattle.frames.proofs.Proper.{every-leaf}
 use Rattle.frames.proofs.Shapes.{same-position, same-score, same-tree}
 use Rattle.leastvalue.specs.declared.LeastValue.the-variants.{Rejected}
-use Rattle.leastvalue.specs.LeastValue.{isLeaf, check20, rootScore, smallest, wantedScore}
+use Rattle.leastvalue.specs.LeastValue.{isLeaf, check20, rootScore, smallest}
 use Rattle.leastvalue.specs.LeastValue.{answerFor, leastValue}
 use Rattle.leastvalue.specs.engine.Candidates.{firstScore, scoreCount}
 use Rattle.leastvalue.specs.results.Root.{rootValue, SameBut, heldValue}
 use Rattle.leastvalue.proofs.First.{first-same}
-use Rattle.leastvalue.proofs.Values.{score-again}
+use Rattle.frames.proofs.Values.{score-back}
 use Rattle.leastvalue.proofs.Bounds.{leaf-is}
 use Rattle.leastvalue.proofs.Questions.{due, no-leaf, table-accepted}
 
@@ -71,7 +71,7 @@ module _ (t u : List ℕ) (k : ℕ) (d : SameBut t u k) (a : Accepted t) (b : Ac
       let n = d .shape .sameFrames in
       let c = d .shape .sameBytes k 2 (l .inside) (omega arith) in
       let i = wu .scored k (omega (arith, l .inside)) (sym c ∙ l .childless) in
-      ap valueOf (root-held (l .inside) ∙ ap (rootScore t k) (sym (score-again (storedScore u k) i)))
+      ap valueOf (root-held (l .inside) ∙ ap (rootScore t k) (sym (score-back (storedScore u k))))
 
   -- both are leaves, or neither
   same-test : isLeaf t k ≡ isLeaf u k
@@ -95,5 +95,5 @@ module _ (t u : List ℕ) (k : ℕ) (d : SameBut t u k) (a : Accepted t) (b : Ac
       by true e =
           rw (e, sym same-test ∙ e)
           (ap (λ o. unless (check20 w) Rejected (answerFor k o)) (first-same _ _ firstScore scoreCount (λ s p q.
-          ap (λ r. eqb r (wantedScore w)) (same-root (leaf-is t k e .0) s))))
+          ap (λ r. eqb r (scoreOf w)) (same-root (leaf-is t k e .0) s))))
       by false e = no-leaf t k w e ∙ sym (no-leaf u k w (sym same-test ∙ e))

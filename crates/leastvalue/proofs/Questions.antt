@@ -11,12 +11,12 @@ use borrow.Author.Tests.{lt-ltb, le-ltb}
 use Rattle.lists.proofs.Choice.{clash}
 use Rattle.frames.specs.declared.Rejection.{Rejection}
 use Rattle.frames.specs.Frame.{frames, childCount}
-use Rattle.frames.specs.Value.{valueOf, maxValue}
+use Rattle.frames.specs.Value.{valueOf, scoreOf, maxValue}
 use Rattle.frames.specs.Rejection.{_andThen_, unless}
 use Rattle.frames.specs.Check.{rejection, Accepted}
 use Rattle.leastvalue.specs.declared.LeastValue.{LeastValue}
 use Rattle.leastvalue.specs.declared.LeastValue.the-variants.{Value, Rejected}
-use Rattle.leastvalue.specs.LeastValue.{isLeaf, check19, check20, smallest, wantedScore, answerFor}
+use Rattle.leastvalue.specs.LeastValue.{isLeaf, check19, check20, smallest, answerFor}
 use Rattle.leastvalue.specs.LeastValue.{valueRejection, leastValue}
 use Rattle.leastvalue.specs.engine.Candidates.{held}
 
@@ -35,7 +35,7 @@ module _ (t : List ℕ) (k : ℕ) where
   module _ (v : ℤ) where
     -- the answer that is due to 19 to 21
     abbrev pub due : LeastValue
-    due = unless (check19 t k andThen check20 v) Rejected (answerFor k (smallest t k (wantedScore v)))
+    due = unless (check19 t k andThen check20 v) Rejected (answerFor k (smallest t k (scoreOf v)))
 
     pub no-leaf : isLeaf t k ≡ false → due ≡ refused 19 k
     no-leaf e = rw e
@@ -44,7 +44,7 @@ module _ (t : List ℕ) (k : ℕ) where
       pub out-of-range : leb (natAbs v) maxValue ≡ false → due ≡ refused 20 0
       out-of-range f = rw (e, f)
 
-      pub in-range : leb (natAbs v) maxValue ≡ true → due ≡ answerFor k (smallest t k (wantedScore v))
+      pub in-range : leb (natAbs v) maxValue ≡ true → due ≡ answerFor k (smallest t k (scoreOf v))
       in-range f = rw (e, f)
 
     -- questions 1 to 9 come before them
@@ -80,4 +80,4 @@ rejected-unless k (some s) p r e = inl (cc)
 pub first-no : (t : List ℕ) (k : ℕ) (w : ℤ) (r : Rejection) → leastValue t k w ≡ Rejected r
     → (valueRejection t k w ≡ some r) ⊎ ((valueRejection t k w ≡ none) × (r ≡ record { number = 21; place = k }))
 unfolding leastValue
-first-no t k w r e = rejected-unless k (valueRejection t k w) (smallest t k (wantedScore w)) r e
+first-no t k w r e = rejected-unless k (valueRejection t k w) (smallest t k (scoreOf w)) r e

@@ -17,24 +17,23 @@ use Rattle.frames.specs.declared.Rejection.{Rejection}
 use Rattle.frames.specs.Frame.{frames, childCount}
 use Rattle.frames.specs.Position.{depthOf}
 use Rattle.frames.specs.Tree.{tree}
-use Rattle.frames.specs.Value.{valueOf, maxValue}
+use Rattle.frames.specs.Value.{valueOf, scoreOf, maxValue}
 use Rattle.frames.specs.Rejection.{unless}
 use Rattle.frames.specs.Check.{rejection, Accepted}
 use Rattle.frames.specs.results.Leaf.{Leaf}
 use Rattle.frames.proofs.Stated.{ask-yes, both-passed}
 use Rattle.frames.proofs.Acceptance.{accepted-formed}
-use Rattle.frames.proofs.Values.{value-range}
+use Rattle.frames.proofs.Values.{value-range, score-back}
 use Rattle.frames.proofs.Proper.{every-leaf, leaf-scored}
 use Rattle.frames.proofs.Worth.{score-kept}
 use Rattle.leastvalue.specs.declared.LeastValue.{LeastValue}
 use Rattle.leastvalue.specs.declared.LeastValue.the-variants.{Value, Rejected}
 use Rattle.leastvalue.specs.LeastValue.{isLeaf, check19, check20, rootScore, smallest}
-use Rattle.leastvalue.specs.LeastValue.{wantedScore}
 use Rattle.leastvalue.specs.LeastValue.{answerFor, valueRejection, leastValue}
 use Rattle.leastvalue.specs.engine.Candidates.{firstScore, scoreCount}
 use Rattle.leastvalue.specs.results.Root.{rootValue}
 use Rattle.leastvalue.proofs.First.{found-first, found-none, none-found}
-use Rattle.leastvalue.proofs.Values.{score-range, score-value, score-again, same-scores, smaller}
+use Rattle.leastvalue.proofs.Values.{score-range, score-value, same-scores, smaller}
 use Rattle.leastvalue.proofs.Bounds.{leaf-is, leaf-shallow}
 use Rattle.leastvalue.proofs.Questions.{refused, no-leaf, out-of-range, in-range, table-accepted}
 
@@ -82,7 +81,7 @@ module _ (t : List ℕ) (k : ℕ) (w : ℤ) where
       }
 
   -- then the answer is what is found
-  pub asked-found : Asked → leastValue t k w ≡ answerFor k (smallest t k (wantedScore w))
+  pub asked-found : Asked → leastValue t k w ≡ answerFor k (smallest t k (scoreOf w))
   asked-found a =
       table-accepted t k w (a .accepted)
       ∙ in-range t k w (leaf-test t k (a .leaf)) (le-leb _ _ (a .ranged))
@@ -100,25 +99,24 @@ module _ (t : List ℕ) (k : ℕ) (w : ℤ) where
 
     -- a score passes the test exactly if it gives the root the wanted value
     pub reached : (s : ℕ) → Score s
-        → (eqb (rootScore t k s) (wantedScore w) ≡ true) ↔ (valueOf (rootScore t k s) ≡ w)
+        → (eqb (rootScore t k s) (scoreOf w) ≡ true) ↔ (valueOf (rootScore t k s) ≡ w)
     reached s h = (
-      λ e. ap valueOf (eqb-true (rootScore t k s) (wantedScore w) e) ∙ score-value w (a .ranged),
-      λ e. eq-eqb (rootScore t k s) (wantedScore w)
-          (same-scores (rootScore t k s) (wantedScore w) (root-scored s h) (score-range w (a .ranged))
-          (e ∙ sym (score-value w (a .ranged)))),
+      λ e. ap valueOf (eqb-true (rootScore t k s) (scoreOf w) e) ∙ score-value w (a .ranged),
+      λ e. eq-eqb (rootScore t k s) (scoreOf w)
+          (same-scores (rootScore t k s) (scoreOf w) (e ∙ sym (score-value w (a .ranged)))),
     )
 
     -- where a value does, one is given
     pub value-exists : (u : ℤ) → natAbs u ≤ maxValue → rootValue t k u ≡ w → (v : ℤ) × (leastValue t k w ≡ Value v)
     unfolding smallest
-    value-exists u h e = by (smallest t k (wantedScore w)) refl
+    value-exists u h e = by (smallest t k (scoreOf w)) refl
       where
-        by : (o : Option ℕ) → smallest t k (wantedScore w) ≡ o → (v : ℤ) × (leastValue t k w ≡ Value v)
+        by : (o : Option ℕ) → smallest t k (scoreOf w) ≡ o → (v : ℤ) × (leastValue t k w ≡ Value v)
         by (some s) p = (valueOf s, asked-found a ∙ ap (answerFor k) p)
         by none p =
             let i = score-range u h in
-            absurd (true-not-false (reached (wantedScore u) i .1 e)
-            (found-none _ firstScore scoreCount p (wantedScore u) (i .0) (omega (arith, i .1))))
+            absurd (true-not-false (reached (scoreOf u) i .1 e)
+            (found-none _ firstScore scoreCount p (scoreOf u) (i .0) (omega (arith, i .1))))
 
     -- where none does, 21 is given
     pub none-exists : ((u : ℤ) → natAbs u ≤ maxValue → rootValue t k u ≡ w → ⊥) → leastValue t k w ≡ refused 21 k
@@ -127,7 +125,7 @@ module _ (t : List ℕ) (k : ℕ) (w : ℤ) where
         asked-found a
         ∙ ap (answerFor k) (none-found _ firstScore scoreCount (λ s p q.
         let i : Score s = (omega arith, omega arith) in
-        is-false _ (λ e. f (valueOf s) (value-range s i) (rw (score-again s i) (reached s i .0 e)))))
+        is-false _ (λ e. f (valueOf s) (value-range s i) (rw (score-back s) (reached s i .0 e)))))
 
   -- a value that is given: in range, it gives the root the wanted value, and no smaller one does
   pub record Given (v : ℤ) : Type 0 where
@@ -141,19 +139,19 @@ module _ (t : List ℕ) (k : ℕ) (w : ℤ) where
   given v e =
       let p = unless-value (valueRejection t k w) _ v e in
       let a = asked (p .0) in
-      let q = found-some k (smallest t k (wantedScore w)) v (p .1) in
+      let q = found-some k (smallest t k (scoreOf w)) v (p .1) in
       let f = found-first _ firstScore scoreCount (q .0) (q .1) in
       let i : Score (q .0) = (f .from, omega (arith, f .within)) in
       let r : natAbs v ≤ maxValue = rw (q .2) at (value-range (q .0) i) in
-      let s : wantedScore v ≡ q .0 = ap wantedScore (sym (q .2)) ∙ score-again (q .0) i in
+      let s : scoreOf v ≡ q .0 = ap scoreOf (sym (q .2)) ∙ score-back (q .0) in
       record {
         asked = a;
         ranged = r;
         reaches = rw s (reached a (q .0) i .0 (f .passes));
         smallest = λ u h l z.
             let j = score-range u h in
-            true-not-false (reached a (wantedScore u) j .1 z)
-            (f .before (wantedScore u) (j .0) (omega (arith, s, smaller u v h r l)));
+            true-not-false (reached a (scoreOf u) j .1 z)
+            (f .before (scoreOf u) (j .0) (omega (arith, s, smaller u v h r l)));
       }
 
   -- the place of 21 is the node
@@ -176,7 +174,7 @@ module _ (t : List ℕ) (k : ℕ) (w : ℤ) where
           absurd (omega arith)
       by true true x y =
           let q : Asked = record { accepted = a; leaf = test-leaf t k x; ranged = leb-true _ _ y } in (
-            place-named (smallest t k (wantedScore w)) p (sym (asked-found q) ∙ e),
+            place-named (smallest t k (scoreOf w)) p (sym (asked-found q) ∙ e),
             q .leaf,
             q .ranged,
             λ u h z.

@@ -10,9 +10,8 @@ use lib.Signed.{ltZ, leZ, _<ℤ_, clashℤ}
 use borrow.Author.Tests.{le-ltb, le-leb, lt-leb, ltb-true, ltb-false}
 use Rattle.lists.proofs.Choice.{true-not-false}
 use Rattle.gametree.specs.Tree.{Score, zeroScore}
-use Rattle.frames.specs.Value.{valueOf, maxValue}
-use Rattle.frames.proofs.Values.{value-order, value-plus, value-below}
-use Rattle.leastvalue.specs.LeastValue.{wantedScore}
+use Rattle.frames.specs.Value.{valueOf, scoreOf, maxValue}
+use Rattle.frames.proofs.Values.{value-order, value-plus, value-below, score-back}
 
 -- a value above the range is out of it
 pub above-range : (v : ℤ) → ltZ (pos maxValue) v ≡ true → false ≡ leb (natAbs v) maxValue
@@ -28,40 +27,26 @@ not-above (negsuc n) e =
       | no h ↦ rw (lt-leb (suc n) maxValue (omega arith), lt-leb n (maxValue - 1) (omega arith))
     ]
 
--- the sum is the score, for a value in range
-pub score-sum : (v : ℤ) → natAbs v ≤ maxValue → v +ℤ pos zeroScore ≡ pos (wantedScore v)
-score-sum (pos n) h = refl
-score-sum (negsuc n) h = rw (le-ltb zeroScore (suc n) (omega arith))
-
--- it is that of a leaf
-pub score-range : (v : ℤ) → natAbs v ≤ maxValue → Score (wantedScore v)
+-- the score of a value in range is that of a leaf
+pub score-range : (v : ℤ) → natAbs v ≤ maxValue → Score (scoreOf v)
 score-range (pos n) h = (omega arith, omega arith)
 score-range (negsuc n) h = rw (le-ltb zeroScore (suc n) (omega arith)) (omega arith, omega arith)
 
 -- and its value is the value
-pub score-value : (v : ℤ) → natAbs v ≤ maxValue → valueOf (wantedScore v) ≡ v
+pub score-value : (v : ℤ) → natAbs v ≤ maxValue → valueOf (scoreOf v) ≡ v
 score-value (pos n) h = value-plus (n + zeroScore) n refl
 score-value (negsuc n) h = rw (le-ltb zeroScore (suc n) (omega arith)) (value-below (zeroScore - suc n) n (omega arith))
 
--- a score is that of its value
-pub score-again : (s : ℕ) → Score s → wantedScore (valueOf s) ≡ s
-score-again s h =
-    elim (decLt s zeroScore) [
-      | yes p ↦ rw (value-below s (maxValue - s) (omega arith), le-ltb zeroScore (suc (maxValue - s)) (omega arith))
-          (omega arith)
-      | no p ↦ rw (value-plus s (s - zeroScore) (omega arith)) (omega arith)
-    ]
-
 -- two scores of one value are one
-pub same-scores : (r s : ℕ) → Score r → Score s → valueOf r ≡ valueOf s → r ≡ s
-same-scores r s h k e = sym (score-again r h) ∙ ap wantedScore e ∙ score-again s k
+pub same-scores : (r s : ℕ) → valueOf r ≡ valueOf s → r ≡ s
+same-scores r s e = sym (score-back r) ∙ ap scoreOf e ∙ score-back s
 
 -- a smaller value has a smaller score
-pub smaller : (u v : ℤ) → natAbs u ≤ maxValue → natAbs v ≤ maxValue → u <ℤ v → wantedScore u < wantedScore v
+pub smaller : (u v : ℤ) → natAbs u ≤ maxValue → natAbs v ≤ maxValue → u <ℤ v → scoreOf u < scoreOf v
 smaller u v a b l =
-    elim (decLt (wantedScore u) (wantedScore v)) [
+    elim (decLt (scoreOf u) (scoreOf v)) [
       | yes h ↦ h
       | no h ↦
           clashℤ l (rw (score-value v b, score-value u a)
-          at (value-order (wantedScore v) (wantedScore u) (omega arith)))
+          at (value-order (scoreOf v) (scoreOf u) (omega arith)))
     ]

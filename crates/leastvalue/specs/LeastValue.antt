@@ -5,14 +5,14 @@ use mathlib.Core.Bool.{Bool, cond, _&&_}
 use mathlib.Core.Option.{Option, none, some}
 use mathlib.Core.List.{List}
 use lib.Dec.{ltb, leb, eqb}
-use lib.IntN.{ℤ, pos, natAbs, _+ℤ_}
-use Rattle.gametree.specs.Tree.{zeroScore, minimax}
+use lib.IntN.{ℤ, natAbs}
+use Rattle.gametree.specs.Tree.{minimax}
 use Rattle.gametree.specs.Graft.{substituted}
 use Rattle.frames.specs.declared.Rejection.{Rejection}
 use Rattle.frames.specs.Frame.{frames, childCount}
 use Rattle.frames.specs.Position.{depthOf}
 use Rattle.frames.specs.Tree.{tree, valuation, leafScore}
-use Rattle.frames.specs.Value.{valueOf, maxValue}
+use Rattle.frames.specs.Value.{valueOf, scoreOf, maxValue}
 use Rattle.frames.specs.Rejection.{ask, _andThen_, unless}
 use Rattle.frames.specs.Check.{rejection}
 use Rattle.leastvalue.specs.declared.LeastValue.{LeastValue}
@@ -45,10 +45,6 @@ firstFrom f i (suc n) = cond (f i) (some i) (firstFrom f (i + 1) n)
 unfoldable pub smallest : (t : List ℕ) (k w : ℕ) → Option ℕ
 smallest t k w = firstFrom (λ s. eqb (rootScore t k s) w) 1 64001
 
--- the score of a value: the value plus 32,001
-abbrev pub wantedScore : ℤ → ℕ
-wantedScore v = natAbs (v +ℤ pos zeroScore)
-
 -- the value of that score; 21 where there is none
 abbrev pub answerFor : (k : ℕ) → Option ℕ → LeastValue
 answerFor k (some s) = Value (valueOf s)
@@ -61,4 +57,4 @@ valueRejection t k wanted = rejection t andThen check19 t k andThen check20 want
 -- the answer of a call with the table, the named node and the wanted value
 unfoldable pub leastValue : (t : List ℕ) (k : ℕ) (wanted : ℤ) → LeastValue
 leastValue t k wanted =
-    unless (valueRejection t k wanted) Rejected (answerFor k (smallest t k (wantedScore wanted)))
+    unless (valueRejection t k wanted) Rejected (answerFor k (smallest t k (scoreOf wanted)))

@@ -5,10 +5,10 @@ use frames::GREATEST;
 use frames::LEAST;
 use frames::MAX_NODES;
 use frames::Rejection;
-use frames::SIGNED_ZERO_SCORE;
 use frames::child_count;
 use frames::frame_count;
 use frames::score_at;
+use frames::score_of;
 use frames::value;
 use gametree::Side;
 use gametree::better;
@@ -23,11 +23,11 @@ ghost use lib.IntN.{natAbs};
 ghost use lib.ListN.{length, getD};
 ghost use Rattle.gametree.specs.Tree.{greatest, Score};
 ghost use Rattle.frames.specs.Frame.{maxDepth, frames};
-ghost use Rattle.frames.specs.Value.{maxValue};
+ghost use Rattle.frames.specs.Value.{scoreOf, maxValue};
 ghost use Rattle.frames.specs.Check.{Accepted};
 ghost use Rattle.frames.specs.Rejection.{_andThen_, unless};
 ghost use Rattle.leastvalue.specs.declared.LeastValue.the-variants.{Rejected};
-ghost use Rattle.leastvalue.specs.LeastValue.{isLeaf, check19, check20, smallest, wantedScore, answerFor};
+ghost use Rattle.leastvalue.specs.LeastValue.{isLeaf, check19, check20, smallest, answerFor};
 ghost use Rattle.leastvalue.specs.LeastValue.{leastValue};
 ghost use Rattle.leastvalue.specs.engine.Candidates.{reaches as reachesOf, candidate as candidateOf, held};
 
@@ -65,7 +65,7 @@ pub fn least_value(table: &[u8], node: usize, wanted: i32) -> LeastValue
 fn ask(table: &[u8], node: usize, wanted: i32) -> LeastValue
     requires { ⌜ Accepted (now table) ⌝ }
     ensures { λ r. ⌜ r ≡ unless (check19 (now (table .entry)) node andThen check20 wanted) Rejected
-        (answerFor node (smallest (now (table .entry)) node (wantedScore wanted))) ⌝ }
+        (answerFor node (smallest (now (table .entry)) node (scoreOf wanted))) ⌝ }
 {
     if !is_leaf(table, node) {
         return rejected(NO_LEAF, node);
@@ -105,14 +105,6 @@ pub fn in_range(wanted: i32) -> bool
         return false;
     }
     0 - MAX_VALUE <= wanted
-}
-
-// The score of a value.
-pub fn score_of(wanted: i32) -> u32
-    requires { ⌜ natAbs wanted ≤ maxValue ⌝ }
-    ensures { λ r. ⌜ r ≡ wantedScore wanted ⌝ }
-{
-    (wanted + SIGNED_ZERO_SCORE) as u32
 }
 
 // The smallest score with which the leaf gives the root the wanted score; LEAST where there is none.

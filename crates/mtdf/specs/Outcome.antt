@@ -9,16 +9,15 @@ use lib.Signed.{ltZ}
 use Rattle.gametree.specs.Tree.{least, greatest}
 use Rattle.gametree.specs.Mtdf.{Decision, mtdf}
 use Rattle.frames.specs.Tree.{tree, valuation}
-use Rattle.frames.specs.Value.{maxValue}
+use Rattle.frames.specs.Value.{scoreOf, maxValue}
 use Rattle.certificate.specs.Search.{findings, Buffers, SearchOutcome, searchOutcome}
-use Rattle.leastvalue.specs.LeastValue.{wantedScore}
 use Rattle.mtdf.specs.declared.MtdfResult.{MtdfResult}
 use Rattle.mtdf.specs.declared.MtdfAnswer.{MtdfAnswer}
 use Rattle.mtdf.specs.declared.MtdfAnswer.the-variants.{Found as FoundAnswer, Rejected}
 
 -- the first guess for a starting value: its score; below the range of values minus infinity, above it plus infinity
 abbrev pub startScore : ℤ → ℕ
-startScore v = cond (leb (natAbs v) maxValue) (wantedScore v) (cond (ltZ v (pos 0)) least greatest)
+startScore v = cond (leb (natAbs v) maxValue) (scoreOf v) (cond (ltZ v (pos 0)) least greatest)
 
 -- what MTD(f) with the first guess f gives in the tree of a table
 unfoldable pub decisionOf : (f : ℕ) (t : List ℕ) → Decision

@@ -14,6 +14,7 @@ use Rattle.frames.specs.Frame.{frames, childCount}
 use Rattle.certificate_bounds.specs.Marks.{marked, ones, markAll}
 use Rattle.certificate_bounds.specs.engine.Progress.{progress, evaluateAll}
 use Rattle.certificate_bounds.proofs.Listing.{ones-set}
+use Rattle.frames.specs.Value.{scoreOf}
 use Rattle.sss_states.specs.declared.Status.{Status}
 use Rattle.sss_states.specs.declared.Status.the-variants.{Live, Solved}
 use Rattle.sss_states.specs.declared.State.{State}
@@ -21,7 +22,6 @@ use Rattle.sss_states.specs.declared.Change.{Change}
 use Rattle.sss_turns.specs.declared.Counts.{Counts}
 use Rattle.sss_turns.specs.declared.Stage.the-variants.{Spent}
 use Rattle.sss_turns.specs.declared.Run.{Run}
-use Rattle.sss_turns.specs.engine.Merit.{scoreOf}
 use Rattle.sss_turns.specs.engine.Rules.{ofInner, ofLive, ofState}
 use Rattle.sss_turns.specs.engine.Turn.{isSolvedRoot, evaluatedBy, newLeaves, isLiveLeaf, isUncovered}
 use Rattle.sss_turns.specs.engine.Turn.{settledFront}

@@ -4,6 +4,7 @@ mod rules;
 use frames::SIGNED_ZERO_SCORE;
 use frames::child_count;
 use frames::frame_count;
+use frames::score_of;
 use rules::of_state;
 use sss_states::Change;
 use sss_states::State;
@@ -15,11 +16,11 @@ ghost use mathlib.Core.Path.{_≡_};
 ghost use Prim.Native.Nat.{_<_, _≤_};
 ghost use Rattle.gametree.specs.Tree.{greatest};
 ghost use Rattle.frames.specs.Frame.{frames, childCount};
-ghost use Rattle.frames.specs.Value.{valueOf};
+ghost use Rattle.frames.specs.Value.{valueOf, scoreOf};
 ghost use Rattle.sss_turns.specs.engine.Update.{ofChange, blanks as blanksOf};
 ghost use Rattle.sss_turns.specs.engine.Turn.{isSolvedRoot, isLiveLeaf, isUncovered, replacedRun, settledFront};
 ghost use Rattle.sss_turns.specs.engine.Turn.{endedRun as endedOf, taken};
-ghost use Rattle.sss_turns.specs.engine.Merit.{scoreOf, IsMerit};
+ghost use Rattle.sss_turns.specs.engine.Merit.{IsMerit};
 ghost use Rattle.sss_states.specs.engine.Putting.{Putting};
 ghost use Rattle.sss_turns.specs.engine.Ready.{Takeable};
 
@@ -134,7 +135,7 @@ fn merit_score(entry: State) -> u32
     requires { ⌜ IsMerit (entry .merit) ⌝ }
     ensures { λ r. ⌜ r ≡ scoreOf (entry .merit) ⌝ }
 {
-    (entry.merit + SIGNED_ZERO_SCORE) as u32
+    score_of(entry.merit)
 }
 
 // Is this state the SOLVED root?

@@ -6,10 +6,14 @@ use Rattle.frames.proofs.score_at.Statement.{statement}
 use Rattle.frames.proofs.score_at.Tie as tie
 
 returns : tie.Need-returns
-returns c = let a = c .before .args in (rw (score-won (a .depth) (a .stored) (c .if1 .taken)), omega arith)
+returns c =
+    let a = c .before .args in
+    (rw (score-won (a .depth) (a .stored) (omega arith) (c .if1 .taken)), omega arith)
 
 returns-2 : tie.Need-returns-2
-returns-2 c = let a = c .before .before .args in (rw (score-lost (a .depth) (a .stored) (c .if2 .taken)), omega arith)
+returns-2 c =
+    let a = c .before .before .args in
+    (rw (score-lost (a .depth) (a .stored) (omega arith) (c .if2 .taken)), omega arith)
 
 returns-3 : tie.Need-returns-3
 returns-3 c =

@@ -1,4 +1,5 @@
 -- `leastvalue::ask` meets its contract: one law for each of its returns.
+use native.Mathlib.Omega.{arith}
 use mathlib.Core.Path.{_≡_, sym, ap, _∙_}
 use mathlib.Core.Bool.{true}
 use lib.Dec.{leb}
@@ -8,9 +9,9 @@ use mir.Val.{toZ, ofZ}
 use mir.ValLaws.{toZ-ofZ}
 use borrow.Author.Tests.{not-true, not-false, leb-true}
 use borrow.Author.Needs.{needs}
-use Rattle.frames.specs.Value.{maxValue}
+use Rattle.frames.specs.Value.{scoreOf, maxValue}
 use Rattle.leastvalue.specs.declared.LeastValue.the-variants.{Value}
-use Rattle.leastvalue.specs.LeastValue.{isLeaf, smallest, wantedScore, answerFor}
+use Rattle.leastvalue.specs.LeastValue.{isLeaf, smallest, answerFor}
 use Rattle.leastvalue.specs.engine.Candidates.{held}
 use Rattle.leastvalue.proofs.Values.{score-range}
 use Rattle.leastvalue.proofs.Questions.{due, no-leaf, out-of-range, in-range, found-none, found-value}
@@ -36,8 +37,8 @@ looked : (c : tie.After-find) →
     let s = c .before .before .before .before .before .before .before in
     let a = s .args in
     (due (a .table .now) (a .node) (a .wanted)
-    ≡ answerFor (a .node) (smallest (a .table .now) (a .node) (wantedScore (a .wanted))))
-    × (held (c .find .result) ≡ smallest (a .table .now) (a .node) (wantedScore (a .wanted)))
+    ≡ answerFor (a .node) (smallest (a .table .now) (a .node) (scoreOf (a .wanted))))
+    × (held (c .find .result) ≡ smallest (a .table .now) (a .node) (scoreOf (a .wanted)))
 looked c =
     let o = c .before in
     let e = o .before in
@@ -46,7 +47,7 @@ looked c =
     let a = s .args in (
       in-range (a .table .now) (a .node) (a .wanted) (leaf l) (ranged e),
       c .find .ensures .0
-          ∙ ap (smallest (a .table .now) (a .node)) (o .score-of .ensures ∙ ap wantedScore (plain s)),
+          ∙ ap (smallest (a .table .now) (a .node)) (o .score-of .ensures ∙ ap scoreOf (plain s)),
     )
 
 returns : tie.Need-returns
@@ -70,7 +71,8 @@ returns-2 c =
 
 score-of-requires : tie.Need-score-of-requires
 score-of-requires c κs =
-    rw (plain (c .before .before .before .before .before)) (leb-true _ _ (ranged c))
+    let s = c .before .before .before .before .before in
+    rw (plain s) (omega (arith, leb-true (natAbs (s .args .wanted)) maxValue (ranged c)))
 
 find-requires : tie.Need-find-requires
 find-requires c κs =

@@ -4,13 +4,13 @@ use mathlib.Core.Path.{_≡_}
 use mathlib.Core.List.{List}
 use lib.IntN.{ℤ}
 use Rattle.frames.specs.Frame.{frames, storedScore}
-use Rattle.frames.specs.Value.{valueOf}
+use Rattle.frames.specs.Value.{valueOf, scoreOf}
 use Rattle.frames.specs.Shape.{SameShape, AgreeOn}
-use Rattle.leastvalue.specs.LeastValue.{wantedScore, rootScore}
+use Rattle.leastvalue.specs.LeastValue.{rootScore}
 
 -- the root's value where the leaf k holds the value v, and each other leaf what it holds
 abbrev pub rootValue : (t : List ℕ) (k : ℕ) (v : ℤ) → ℤ
-rootValue t k v = valueOf (rootScore t k (wantedScore v))
+rootValue t k v = valueOf (rootScore t k (scoreOf v))
 
 -- the table u is t with other bytes 4 and 5 at node k, or the same
 pub record SameBut (t u : List ℕ) (k : ℕ) : Type 0 where

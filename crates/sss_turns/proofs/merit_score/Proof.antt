@@ -1,21 +1,21 @@
--- `sss_turns::merit_score` meets its contract: the sum takes 32 bits, and is no negative number.
-use native.Mathlib.Omega.{arith}
-use mathlib.Core.Path.{ap}
-use lib.IntN.{natAbs}
-use Rattle.sss_turns.proofs.Merits.{sum-fits, sum-is}
+-- `sss_turns::merit_score` meets its contract: a merit is a value with a score.
+use mathlib.Core.Path.{_≡_}
+use mir.Syntax.{w32}
+use mir.Val.{toZ, ofZ}
+use mir.ValLaws.{toZ-ofZ}
+use Rattle.sss_turns.proofs.Merits.{merit-within, merit-fits}
 use Rattle.sss_turns.proofs.merit_score.Statement.{statement}
 use Rattle.sss_turns.proofs.merit_score.Tie as tie
 
-add-result : tie.Need-add-result
-add-result c = sum-fits (c .before .before .args .entry .merit) (c .before .before .pre)
+-- the merit is read as it is
+plain : (c : tie.Start) → toZ w32 (ofZ w32 (c .args .entry .merit)) ≡ c .args .entry .merit
+plain c = toZ-ofZ w32 (c .args .entry .merit) (merit-fits _ (c .pre))
 
-cast-result : tie.Need-cast-result
-cast-result c =
-    let s = c .before .before in
-    rw (sum-is (s .args .entry .merit) (s .pre)) (tt, record { fits = omega (arith, s .pre .atMost) })
+score-of-requires : tie.Need-score-of-requires
+score-of-requires c κs = rw (plain (c .before)) (merit-within _ (c .before .pre))
 
 returns : tie.Need-returns
-returns c = ap natAbs (sum-is (c .before .before .args .entry .merit) (c .before .before .pre))
+returns c = rw (plain (c .before .before)) at (c .score-of .ensures)
 
 pub merit-score-spec : {M : Type 1} → statement M
-merit-score-spec = tie.close (tie.spec add-result cast-result returns)
+merit-score-spec = tie.close (tie.spec score-of-requires returns)

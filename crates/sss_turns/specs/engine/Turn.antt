@@ -7,6 +7,7 @@ use lib.Dec.{eqb, ltb}
 use lib.ListN.{getD}
 use Rattle.frames.specs.Frame.{frames, childCount}
 use Rattle.certificate_bounds.specs.engine.Progress.{progress, evaluateAll}
+use Rattle.frames.specs.Value.{scoreOf}
 use Rattle.sss_states.specs.declared.Status.{Status}
 use Rattle.sss_states.specs.declared.Status.the-variants.{Live, Solved}
 use Rattle.sss_states.specs.declared.State.{State}
@@ -17,7 +18,6 @@ use Rattle.sss_turns.specs.declared.Stage.the-variants.{Going, Finished,
 use Rattle.sss_turns.specs.declared.Run.{Run}
 use Rattle.sss_states.specs.Entry.{blank}
 use Rattle.sss_states.specs.engine.Kept.{Refreshed, refreshed, descended, changed}
-use Rattle.sss_turns.specs.engine.Merit.{scoreOf}
 use Rattle.sss_turns.specs.engine.Rules.{ofState}
 use Rattle.sss_turns.specs.engine.Update.{updated, ofChange, blanks}
 
