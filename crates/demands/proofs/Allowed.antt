@@ -63,6 +63,7 @@ module _ {t : List ℕ} {s : Spent} (c : SssCall t (sss-answer.Spent s)) where
         evaluated = x .leaves;
         states = x .list;
         leaf = x .beyond;
+        taken = x .merit;
         next = x .after;
         reached = subst (λ j. ListAfter (valuation t) (tree t) j (x .leaves) (x .list)) (sym k) (x .reached);
         evaluates = x .more;

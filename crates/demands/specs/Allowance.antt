@@ -3,7 +3,7 @@ use Prim.Native.Nat.{ℕ}
 use mathlib.Core.Path.{_≡_}
 use mathlib.Core.List.{List}
 use lib.ListN.{length}
-use Rattle.gametree.specs.Sss.{State, takenMerit, evaluating, step, ListAfter}
+use Rattle.gametree.specs.Sss.{State, evaluating, step, ListAfter}
 use Rattle.frames.specs.Tree.{tree, valuation}
 use Rattle.frames.specs.Value.{valueOf}
 use Rattle.sss.specs.declared.Spent.{Spent}
@@ -14,8 +14,9 @@ pub record CutShort (t : List ℕ) (s : Spent) : Type 0 where
   pub evaluated : List ℕ
   pub states : List State
   pub leaf : ℕ
+  pub taken : ℕ
   pub next : List State
   pub reached : ListAfter (valuation t) (tree t) (s .replacements) evaluated states
-  pub evaluates : step (valuation t) (tree t) states ≡ evaluating leaf next
+  pub evaluates : step (valuation t) (tree t) states ≡ evaluating leaf taken next
   pub leaves : s .leaves ≡ length evaluated
-  pub merit : s .merit ≡ valueOf (takenMerit (tree t) states)
+  pub merit : s .merit ≡ valueOf taken

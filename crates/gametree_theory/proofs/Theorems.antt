@@ -18,7 +18,7 @@ use Rattle.gametree.specs.Bounds.{known, low, high, bestOf, Decided}
 use Rattle.gametree.specs.AlphaBeta.{reached, fullWindow}
 use Rattle.gametree.specs.Mtd.{mtd}
 use Rattle.gametree.specs.engine.Memo.{fresh, memoMtd, withoutMemo}
-use Rattle.gametree.specs.Sss.{takenMerit, State, Step, empty, stop, quiet, evaluating, replace, step}
+use Rattle.gametree.specs.Sss.{State, Step, empty, stop, quiet, evaluating, replace, step}
 use Rattle.gametree.specs.Sss.{runFrom, start, sss, ListAfter, afterQuiet, afterEvaluating}
 use Rattle.gametree.specs.engine.Within.{resumed, inFull}
 use Rattle.gametree.specs.results.Family.{Strategy, decideBy}
@@ -42,6 +42,7 @@ use Rattle.gametree_theory.proofs.mtd.Marks.{mtd-marks}
 use Rattle.gametree_theory.proofs.mtd.Passes.{passes-few}
 use Rattle.gametree_theory.proofs.mtd.Local.{run-local, fresh-agree}
 use Rattle.gametree_theory.proofs.mtd.Memory.{memo-run}
+use Rattle.gametree_theory.proofs.sss.Steps.{between, takenMerit}
 use Rattle.gametree_theory.proofs.sss.Work.{full-size}
 use Rattle.gametree_theory.proofs.sss.Run.{sss-is-mtd}
 use Rattle.gametree_theory.proofs.results.Merits.{list-unique, run-falls, first-merit}
@@ -135,7 +136,7 @@ module _ (ν : ℕ → ℕ) (t : Tree) (h : Proper ν t) where
     -- and the first of greatest merit is the one that the rule takes
     pub list-first : (A : List State) (s : State) (B : List State) → L ≡ A ++ (s ∷ B)
         → All (λ x. x .merit < s .merit) A → All (λ x. x .merit ≤ s .merit) B
-        → step ν t L ≡ replace ν t (record { left = A; state = s; right = B }) (s .status)
+        → step ν t L ≡ replace ν t s (between A B) (s .status)
     list-first A s B e l g = rw e (front-taken ν t (own-answers t (h .distinct)) A s B (rw e at list-front) l g)
 
     -- fewer replacements than twice the number of nodes led to it
@@ -152,7 +153,7 @@ module _ (ν : ℕ → ℕ) (t : Tree) (h : Proper ν t) where
         by-step empty e = absurd (never-empty ν t h r e)
         by-step (stop v) e = inl (v, e)
         by-step (quiet M) e = inr (w, (M, afterQuiet r e))
-        by-step (evaluating n M) e = inr (w ++ (n ∷ []), (M, afterEvaluating r e))
+        by-step (evaluating n m M) e = inr (w ++ (n ∷ []), (M, afterEvaluating r e))
 
     -- the merit of the state taken from it is not below the minimax value
     pub merit-bound : minimax ν t ≤ takenMerit t L

@@ -15,7 +15,7 @@ use Rattle.lists.specs.Lists.{All, among, Once}
 use Rattle.gametree.specs.Tree.{Tree, greatest, minimax, size, leaves, leafCount, Proper}
 use Rattle.gametree.specs.AlphaBeta.{fullWindow}
 use Rattle.gametree.specs.Bounds.{Decided}
-use Rattle.gametree.specs.Sss.{State, takenMerit, stop, evaluating, step, Evaluation, start, sss}
+use Rattle.gametree.specs.Sss.{State, stop, evaluating, step, Evaluation, start, sss}
 use Rattle.gametree.specs.Sss.{ListAfter, atStart, afterEvaluating}
 use Rattle.gametree.specs.engine.Within.{finished, spent, inFull, sssWithin}
 use Rattle.gametree_theory.proofs.Searches.{sssEvaluated, bySss}
@@ -26,6 +26,7 @@ use Rattle.gametree_theory.proofs.minimax.Counts.{once-count, leaves-si
 use Rattle.gametree_theory.proofs.Theorems.{value-score, sss-minimax, sss-replacements, list-few, merit-bound}
 use Rattle.gametree_theory.proofs.Theorems.{merit-start, list-prefix, list-resumes, merit-falls, search-decides}
 use Rattle.gametree_theory.proofs.Theorems.{search-once, domination, search-deciding}
+use Rattle.gametree_theory.proofs.sss.Steps.{merit-taken}
 use Rattle.gametree_theory.proofs.sss.Lists.{run-more}
 use Rattle.gametree_theory.proofs.allowance.Ending.{Whole, Cut, stopped, stopped-within, spent-within}
 use Rattle.gametree_theory.proofs.allowance.Ending.{within-ending, leaves-grow}
@@ -75,7 +76,7 @@ module _ (ν : ℕ → ℕ) (t : Tree) (h : Proper ν t) where
     pub within-ends : (sssWithin a ν t .end ≡ finished (minimax ν t)) ⊎ ((m : ℕ) × (sssWithin a ν t .end ≡ spent m))
     within-ends =
         ⊎-elim (λ x. inl (ap (λ r. r .end) (whole-full x .0) ∙ ap finished (sss-minimax ν t h)))
-        (λ x. inr (takenMerit t (x .list), ap (λ r. r .end) (x .gives))) (within-ending ν t h a)
+        (λ x. inr (x .merit, ap (λ r. r .end) (x .gives))) (within-ending ν t h a)
 
     finished-few : (v : ℕ) → sssWithin a ν t .end ≡ finished v → length (sssEvaluated ν t) ≤ a
     finished-few v e =
@@ -100,7 +101,7 @@ module _ (ν : ℕ → ℕ) (t : Tree) (h : Proper ν t) where
     pub within-spent : ((m : ℕ) × (sssWithin a ν t .end ≡ spent m)) ↔ (a < length (sssEvaluated ν t))
     within-spent = (
       λ e. cut-more (within-cut (e .0) (e .1)),
-      λ l. let x = cut l in (takenMerit t (x .list), ap (λ r. r .end) (x .gives)),
+      λ l. let x = cut l in (x .merit, ap (λ r. r .end) (x .gives)),
     )
 
     -- a run that gives a value is the full run, in its leaves and its replacements too
@@ -122,14 +123,14 @@ module _ (ν : ℕ → ℕ) (t : Tree) (h : Proper ν t) where
     within-count m e = let x = within-cut m e in ap (λ r. length (r .evaluated)) (x .gives) ∙ x .all
 
     -- what it gives is the merit of the state taken there
-    pub within-cut-merit : (m : ℕ) (e : sssWithin a ν t .end ≡ spent m) → takenMerit t (within-cut m e .list) ≡ m
+    pub within-cut-merit : (m : ℕ) (e : sssWithin a ν t .end ≡ spent m) → within-cut m e .merit ≡ m
     within-cut-merit m e = cc (e, ap (λ r. r .end) (within-cut m e .gives))
 
     -- the merit is not below the minimax value, nor above `greatest`
     pub within-merit : (m : ℕ) → sssWithin a ν t .end ≡ spent m → (minimax ν t ≤ m) × (m ≤ greatest)
     within-merit m e =
         let x = within-cut m e in
-        let n = within-cut-merit m e in (
+        let n = sym (merit-taken ν t (x .list) (x .more)) ∙ within-cut-merit m e in (
           rw (← n) (merit-bound ν t h (x .reached)),
           rw (← n) (merit-falls ν t atStart (x .reached) (omega arith)),
         )
@@ -150,16 +151,18 @@ module _ (ν : ℕ → ℕ) (t : Tree) (h : Proper ν t) where
 
   -- of two runs that are cut, the one with the larger allowance has no more merit
   cuts-fall : (a b : ℕ) → a ≤ b → (x : Cut ν t a) (y : Cut ν t b)
-      → takenMerit t (y .list) ≤ takenMerit t (x .list)
+      → y .merit ≤ x .merit
   cuts-fall a b l x y = at (leb (x .made) (y .made)) refl
     where
-      at : (c : Bool) → leb (x .made) (y .made) ≡ c → takenMerit t (y .list) ≤ takenMerit t (x .list)
-      at true c = merit-falls ν t (x .reached) (y .reached) (leb-true _ _ c)
+      at : (c : Bool) → leb (x .made) (y .made) ≡ c → y .merit ≤ x .merit
+      at true c =
+          let f = merit-falls ν t (x .reached) (y .reached) (leb-true _ _ c) in
+          omega (arith, merit-taken ν t (x .list) (x .more), merit-taken ν t (y .list) (y .more))
       at false c =
           let s = leaves-grow ν t (y .reached) (x .reached) (le-of-lt (leb-false _ _ c)) in
           let z : a ≡ b = omega (arith, x .all, y .all) in
           let u = ap (λ c. sssWithin c ν t .end) z in
-          let w : takenMerit t (x .list) ≡ takenMerit t (y .list) =
+          let w : x .merit ≡ y .merit =
           cc (u, ap (λ r. r .end) (x .gives), ap (λ r. r .end) (y .gives)) in
           omega arith
 
@@ -185,9 +188,9 @@ module _ (ν : ℕ → ℕ) (t : Tree) (h : Proper ν t) where
   within-stops a r s l = stopped-within ν t h a r s l
 
   -- where a leaf is taken and the allowance is used up, it ends spent
-  pub within-cuts : (a : ℕ) {k n : ℕ} {w : List ℕ} {L M : List State} → ListAfter ν t k w L
-      → step ν t L ≡ evaluating n M → length w ≡ a
-      → sssWithin a ν t ≡ record { end = spent (takenMerit t L); evaluated = w; replacements = k }
+  pub within-cuts : (a : ℕ) {k n m : ℕ} {w : List ℕ} {L M : List State} → ListAfter ν t k w L
+      → step ν t L ≡ evaluating n m M → length w ≡ a
+      → sssWithin a ν t ≡ record { end = spent m; evaluated = w; replacements = k }
   within-cuts a r s l = spent-within ν t h a r s l
 
 module _ (ν : ℕ → ℕ) (t : Tree) (r : Proper ν t) where
@@ -202,7 +205,7 @@ module _ (ν : ℕ → ℕ) (t : Tree) (r : Proper ν t) where
   pub within-none : (sssWithin 0 ν t .end ≡ spent greatest) × (sssWithin 0 ν t .evaluated ≡ [])
   within-none =
       let x = cut ν t r 0 some-leaf in
-      let m = merit-start ν t r (x .reached) (x .all) in
+      let m = merit-taken ν t (x .list) (x .more) ∙ merit-start ν t r (x .reached) (x .all) in
       (ap (λ q. q .end) (x .gives) ∙ ap spent m, within-leaves ν t r 0)
 
   -- the full run evaluates no more leaves than the tree has nodes

@@ -4,7 +4,7 @@
 use Prim.Native.Nat.{ℕ, zero, suc, _*_}
 use mathlib.Core.List.{List, [], _∷_, _++_, map}
 use Rattle.gametree.specs.Tree.{Tree, least, size}
-use Rattle.gametree.specs.Sss.{State, takenMerit, Step, empty, stop, quiet, evaluating, step, SssRun, start}
+use Rattle.gametree.specs.Sss.{State, Step, empty, stop, quiet, evaluating, step, SssRun, start}
 
 -- how it ends: with a value, as the full run does, or before a leaf that its allowance does not cover, with the merit
 -- of that leaf's state
@@ -35,20 +35,20 @@ inFull r =
       replacements = r .replacements;
     }
 
--- a step after k replacements, with an allowance of a leaves left, m the merit of the state taken: a leaf uses one up;
--- where none is left the step is not made, and the run ends spent
-abbrev pub followWithin : Step → (a k m : ℕ) → (ℕ → List State → Ran) → Ran
-followWithin empty a k m rest = ends (finished least) k
-followWithin (stop v) a k m rest = ends (finished v) k
-followWithin (quiet M) a k m rest = rest a M
-followWithin (evaluating n M) zero k m rest = ends (spent m) k
-followWithin (evaluating n M) (suc a) k m rest = resumed (n ∷ []) (rest a M)
+-- a step after k replacements, with an allowance of a leaves left: a leaf uses one up; where none is left the step is
+-- not made, and the run ends spent
+abbrev pub followWithin : Step → (a k : ℕ) → (ℕ → List State → Ran) → Ran
+followWithin empty a k rest = ends (finished least) k
+followWithin (stop v) a k rest = ends (finished v) k
+followWithin (quiet M) a k rest = rest a M
+followWithin (evaluating n m M) zero k rest = ends (spent m) k
+followWithin (evaluating n m M) (suc a) k rest = resumed (n ∷ []) (rest a M)
 
 -- the run from a list after k replacements with an allowance of a leaves; the first number bounds the states taken, as
 -- in `runFrom`
 abbrev pub runWithin : (ℕ → ℕ) → Tree → ℕ → (a k : ℕ) → List State → Ran
 runWithin ν t zero a k L = ends (finished least) k
-runWithin ν t (suc f) a k L = followWithin (step ν t L) a k (takenMerit t L) (λ b M. runWithin ν t f b (suc k) M)
+runWithin ν t (suc f) a k L = followWithin (step ν t L) a k (λ b M. runWithin ν t f b (suc k) M)
 
 -- SSS* within an allowance of a leaves
 abbrev pub sssWithin : (a : ℕ) → (ℕ → ℕ) → Tree → Ran

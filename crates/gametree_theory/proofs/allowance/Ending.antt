@@ -7,7 +7,7 @@ use mathlib.Core.Logic.{_⊎_, inl, inr, ⊎-elim}
 use mathlib.Core.List.{List, [], _∷_, append-nil, append-assoc}
 use lib.ListN.{length, length-append}
 use Rattle.gametree.specs.Tree.{Tree, least, size, Proper}
-use Rattle.gametree.specs.Sss.{Step, State, takenMerit, empty, stop, quiet, evaluating, step, start, sss}
+use Rattle.gametree.specs.Sss.{Step, State, empty, stop, quiet, evaluating, step, start, sss}
 use Rattle.gametree.specs.Sss.{ListAfter, atStart, afterQuiet, afterEvaluating}
 use Rattle.gametree.specs.engine.Within.{finished, spent, resumed, inFull, runWithin, sssWithin}
 use Rattle.gametree_theory.proofs.minimax.Bounds.{minimax-score}
@@ -32,12 +32,12 @@ pub record Cut (ν : ℕ → ℕ) (t : Tree) (a : ℕ) : Type 0 where
   pub leaves : List ℕ
   pub list : List State
   pub beyond : ℕ
+  pub merit : ℕ
   pub after : List State
   pub reached : ListAfter ν t made leaves list
-  pub more : step ν t list ≡ evaluating beyond after
+  pub more : step ν t list ≡ evaluating beyond merit after
   pub all : length leaves ≡ a
-  pub gives :
-      sssWithin a ν t ≡ record { end = spent (takenMerit t list); evaluated = leaves; replacements = made }
+  pub gives : sssWithin a ν t ≡ record { end = spent merit; evaluated = leaves; replacements = made }
 
 abbrev pub Ending : (ℕ → ℕ) → Tree → ℕ → Type 0
 Ending ν t a = Whole ν t a ⊎ Cut ν t a
@@ -81,9 +81,9 @@ module _ (ν : ℕ → ℕ) (t : Tree) (h : Proper ν t) where
       ∙ rw s (ran-path (append-nil w))
 
   -- and where a leaf is taken that the allowance does not cover
-  pub spent-within : (a : ℕ) {k n : ℕ} {w : List ℕ} {L M : List State} → ListAfter ν t k w L
-      → step ν t L ≡ evaluating n M → length w ≡ a
-      → sssWithin a ν t ≡ record { end = spent (takenMerit t L); evaluated = w; replacements = k }
+  pub spent-within : (a : ℕ) {k n m : ℕ} {w : List ℕ} {L M : List State} → ListAfter ν t k w L
+      → step ν t L ≡ evaluating n m M → length w ≡ a
+      → sssWithin a ν t ≡ record { end = spent m; evaluated = w; replacements = k }
   spent-within a {k} {w = w} r s l =
       let m : k + suc (2 * size t - suc k) ≡ 2 * size t = omega (arith, list-reached ν t h r .atMost) in
       resume-within a ν t r (suc (2 * size t - suc k)) 0 m (omega arith)
@@ -113,20 +113,21 @@ module _ (ν : ℕ → ℕ) (t : Tree) (h : Proper ν t) where
           gives = stopped-within a r s m;
         })
     ending-by f i (quiet M) b r s e l = i b _ _ _ (afterQuiet r s) (omega arith) l
-    ending-by f i (evaluating n M) zero {k} {w} {L} r s e l =
-        let m : length w ≡ a = omega arith in
+    ending-by f i (evaluating n m M) zero {k} {w} {L} r s e l =
+        let c : length w ≡ a = omega arith in
         inr (record {
           made = k;
           leaves = w;
           list = L;
           beyond = n;
+          merit = m;
           after = M;
           reached = r;
           more = s;
-          all = m;
-          gives = spent-within a r s m;
+          all = c;
+          gives = spent-within a r s c;
         })
-    ending-by f i (evaluating n M) (suc b) {w = w} r s e l =
+    ending-by f i (evaluating n m M) (suc b) {w = w} r s e l =
         i b _ _ _ (afterEvaluating r s) (omega arith) (omega (arith, length-append w (n ∷ [])))
 
     ending : (f : ℕ) → EndsFrom f

@@ -5,7 +5,7 @@ use mathlib.Core.Path.{_≡_, refl}
 use mathlib.Core.List.{List, [], _∷_}
 use lib.ListN.{take, drop}
 use Rattle.gametree.specs.Tree.{Tree}
-use Rattle.gametree.specs.Sss.{State, takenMerit, Step, empty, stop, quiet, evaluating, step, Evaluation, SssRun}
+use Rattle.gametree.specs.Sss.{State, Step, empty, stop, quiet, evaluating, step, Evaluation, SssRun}
 use Rattle.gametree.specs.Sss.{follow, runFrom}
 use Rattle.gametree.specs.engine.Within.{Ran, spent, inFull, followWithin, runWithin}
 use Rattle.lists.proofs.Choice.{clash}
@@ -15,38 +15,38 @@ abbrev pub spentAt : (a : ℕ) → SssRun → Evaluation → Ran
 spentAt a r x =
     record { end = spent (x .merit); evaluated = take a (inFull r .evaluated); replacements = x .replacements }
 
-module _ (k m : ℕ) (full : List State → SssRun) (part : ℕ → List State → Ran) where
+module _ (k : ℕ) (full : List State → SssRun) (part : ℕ → List State → Ran) where
   -- what the allowance covers
   module _ (e : (a : ℕ) (M : List State) → drop a (full M .evaluations) ≡ [] → part a M ≡ inFull (full M)) where
-    covered-by : (s : Step) (a : ℕ) → drop a (follow s k m full .evaluations) ≡ []
-        → followWithin s a k m part ≡ inFull (follow s k m full)
+    covered-by : (s : Step) (a : ℕ) → drop a (follow s k full .evaluations) ≡ []
+        → followWithin s a k part ≡ inFull (follow s k full)
     covered-by empty a h = refl
     covered-by (stop v) a h = refl
     covered-by (quiet M) a h = e a M h
-    covered-by (evaluating n M) zero h = clash (cc)
-    covered-by (evaluating n M) (suc a) h = rw (e a M h) refl
+    covered-by (evaluating n m M) zero h = clash (cc)
+    covered-by (evaluating n m M) (suc a) h = rw (e a M h) refl
 
   -- and what it does not
   module _ (x : Evaluation) (xs : List Evaluation)
       (e : (a : ℕ) (M : List State) → drop a (full M .evaluations) ≡ x ∷ xs → part a M ≡ spentAt a (full M) x)
     where
-      spent-by : (s : Step) (a : ℕ) → drop a (follow s k m full .evaluations) ≡ x ∷ xs
-          → followWithin s a k m part ≡ spentAt a (follow s k m full) x
+      spent-by : (s : Step) (a : ℕ) → drop a (follow s k full .evaluations) ≡ x ∷ xs
+          → followWithin s a k part ≡ spentAt a (follow s k full) x
       spent-by empty zero h = clash (cc)
       spent-by empty (suc a) h = clash (cc)
       spent-by (stop v) zero h = clash (cc)
       spent-by (stop v) (suc a) h = clash (cc)
       spent-by (quiet M) a h = e a M h
-      spent-by (evaluating n M) zero h =
+      spent-by (evaluating n m M) zero h =
           let y : _≡_ {A = Evaluation} (record { leaf = n; merit = m; replacements = k }) x = cc in rw (← y) refl
-      spent-by (evaluating n M) (suc a) h = rw (e a M h) refl
+      spent-by (evaluating n m M) (suc a) h = rw (e a M h) refl
 
 module _ (ν : ℕ → ℕ) (t : Tree) where
   pub run-covered : (f k a : ℕ) (L : List State) → drop a (runFrom ν t f k L .evaluations) ≡ []
       → runWithin ν t f a k L ≡ inFull (runFrom ν t f k L)
   run-covered zero k a L h = refl
   run-covered (suc f) k a L h =
-      covered-by k (takenMerit t L) (λ M. runFrom ν t f (suc k) M) (λ b M. runWithin ν t f b (suc k) M)
+      covered-by k (λ M. runFrom ν t f (suc k) M) (λ b M. runWithin ν t f b (suc k) M)
       (λ b M i. run-covered f (suc k) b M i) (step ν t L) a h
 
   pub run-spent : (f k a : ℕ) (L : List State) (x : Evaluation) (xs : List Evaluation)
@@ -55,5 +55,5 @@ module _ (ν : ℕ → ℕ) (t : Tree) where
   run-spent zero k zero L x xs h = clash (cc)
   run-spent zero k (suc a) L x xs h = clash (cc)
   run-spent (suc f) k a L x xs h =
-      spent-by k (takenMerit t L) (λ M. runFrom ν t f (suc k) M) (λ b M. runWithin ν t f b (suc k) M) x xs
+      spent-by k (λ M. runFrom ν t f (suc k) M) (λ b M. runWithin ν t f b (suc k) M) x xs
       (λ b M i. run-spent f (suc k) b M x xs i) (step ν t L) a h

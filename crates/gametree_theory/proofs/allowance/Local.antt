@@ -8,8 +8,8 @@ use Rattle.lists.specs.Lists.{All}
 use Rattle.gametree.specs.declared.Side.the-variants.{Max, Min}
 use Rattle.gametree.specs.Tree.{Tree, leaf, inner}
 use Rattle.gametree.specs.Nodes.{subtreeAt}
-use Rattle.gametree.specs.Sss.{Status, LIVE, SOLVED, State, Taken, pick, Step, empty, stop, quiet, evaluating}
-use Rattle.gametree.specs.Sss.{solved, put, replaceLive, replace, step, takenMerit, Evaluation, runFrom}
+use Rattle.gametree.specs.Sss.{Status, LIVE, SOLVED, State, bestState, put, Step, empty, stop, quiet, evaluating}
+use Rattle.gametree.specs.Sss.{solved, replaceLive, replace, step, Evaluation, runFrom}
 use Rattle.gametree.specs.engine.Within.{Ran, inFull, followWithin, runWithin}
 use Rattle.lists.proofs.Choice.{clash}
 use Rattle.gametree_theory.proofs.allowance.Evaluations.{run-covered, run-spent}
@@ -18,40 +18,40 @@ module _ (ν μ : ℕ → ℕ) where
   -- two steps that differ at most by the score of the leaf that they evaluate
   data Near : Step → Step → Type 0 where
     same : {x : Step} → Near x x
-    scored : {n : ℕ} {M N : List State} → (ν n ≡ μ n → M ≡ N) → Near (evaluating n M) (evaluating n N)
+    scored : {n m : ℕ} {M N : List State} → (ν n ≡ μ n → M ≡ N) → Near (evaluating n m M) (evaluating n m N)
 
-  live-near : (k : Taken) (t : Tree) → Near (replaceLive ν k t) (replaceLive μ k t)
-  live-near k (leaf n) =
-      scored (λ e. ap (λ v. put k (solved (k .state .node) (min (k .state .merit) v) ∷ [])) e)
-  live-near k (inner n Max ks) = same
-  live-near k (inner n Min ks) = same
+  module _ (s : State) (p : List State → List State) where
+    live-near : (t : Tree) → Near (replaceLive ν s p t) (replaceLive μ s p t)
+    live-near (leaf n) = scored (λ e. ap (λ v. p (solved (s .node) (min (s .merit) v) ∷ [])) e)
+    live-near (inner n Max ks) = same
+    live-near (inner n Min ks) = same
 
-  replace-near : (T : Tree) (k : Taken) (u : Status) → Near (replace ν T k u) (replace μ T k u)
-  replace-near T k LIVE = live-near k (subtreeAt (k .state .node) T)
-  replace-near T k SOLVED = same
+    replace-near : (T : Tree) (u : Status) → Near (replace ν T s p u) (replace μ T s p u)
+    replace-near T LIVE = live-near (subtreeAt (s .node) T)
+    replace-near T SOLVED = same
 
   step-near : (T : Tree) (L : List State) → Near (step ν T L) (step μ T L)
   step-near T [] = same
-  step-near T (s ∷ ss) = replace-near T (pick T s ss) (pick T s ss .state .status)
+  step-near T (s ∷ ss) = replace-near (bestState T s ss) (put T s ss) T (bestState T s ss .status)
 
   abbrev Agreed : List ℕ → Type 0
   Agreed w = All (λ n. ν n ≡ μ n) w
 
   module _ (f g : ℕ → List State → Ran) (e : (a : ℕ) (M : List State) → Agreed (f a M .evaluated) → f a M ≡ g a M) where
-    follow-same : (x : Step) (a k m : ℕ) → Agreed (followWithin x a k m f .evaluated)
-        → followWithin x a k m f ≡ followWithin x a k m g
-    follow-same empty a k m h = refl
-    follow-same (stop v) a k m h = refl
-    follow-same (quiet M) a k m h = e a M h
-    follow-same (evaluating n M) zero k m h = refl
-    follow-same (evaluating n M) (suc a) k m h = rw (e a M (h .1)) refl
+    follow-same : (x : Step) (a k : ℕ) → Agreed (followWithin x a k f .evaluated)
+        → followWithin x a k f ≡ followWithin x a k g
+    follow-same empty a k h = refl
+    follow-same (stop v) a k h = refl
+    follow-same (quiet M) a k h = e a M h
+    follow-same (evaluating n m M) zero k h = refl
+    follow-same (evaluating n m M) (suc a) k h = rw (e a M (h .1)) refl
 
-    follow-near : {x y : Step} → Near x y → (a k m : ℕ) → Agreed (followWithin x a k m f .evaluated)
-        → followWithin x a k m f ≡ followWithin y a k m g
-    follow-near {x} same a k m h = follow-same x a k m h
-    follow-near (scored i) zero k m h = refl
-    follow-near (scored {n = n} {M = M} i) (suc a) k m h =
-        rw (← i (h .0)) (follow-same (evaluating n M) (suc a) k m h)
+    follow-near : {x y : Step} → Near x y → (a k : ℕ) → Agreed (followWithin x a k f .evaluated)
+        → followWithin x a k f ≡ followWithin y a k g
+    follow-near {x} same a k h = follow-same x a k h
+    follow-near (scored i) zero k h = refl
+    follow-near (scored {n = n} {m = m} {M = M} i) (suc a) k h =
+        rw (← i (h .0)) (follow-same (evaluating n m M) (suc a) k h)
 
   -- a run gives the same under valuations that agree on the leaves that it evaluates
   pub runWithin-local : (T : Tree) (f a k : ℕ) (L : List State) → Agreed (runWithin ν T f a k L .evaluated)
@@ -59,7 +59,7 @@ module _ (ν μ : ℕ → ℕ) where
   runWithin-local T zero a k L h = refl
   runWithin-local T (suc f) a k L h =
       follow-near (λ b M. runWithin ν T f b (suc k) M) (λ b M. runWithin μ T f b (suc k) M)
-      (λ b M i. runWithin-local T f b (suc k) M i) (step-near T L) a k (takenMerit T L) h
+      (λ b M i. runWithin-local T f b (suc k) M i) (step-near T L) a k h
 
   -- so does the full run, which is the run within an allowance that covers it
   pub runFrom-local : (T : Tree) (f k : ℕ) (L : List State) → Agreed (inFull (runFrom ν T f k L) .evaluated)

@@ -1,7 +1,7 @@
 -- The list around a node's states: what stands before and behind them, how that goes over to the children's states, and
 -- which state is taken there: step 1 of the argument that Simulation sets out.
 use Prim.Native.Nat.{ℕ, _≤_, min}
-use mathlib.Core.Path.{_≡_, refl, _∙_}
+use mathlib.Core.Path.{_≡_, refl, _∙_, ap}
 use mathlib.Core.Logic.{_⊎_, inl, inr}
 use mathlib.Core.Bool.{Bool, true, false}
 use mathlib.Core.Option.{Option, none, some}
@@ -17,7 +17,7 @@ use Rattle.gametree.specs.Sss.{Status, LIVE, SOLVED, State, live, solved, Step,
 use Rattle.gametree.specs.Sss.{step}
 use Rattle.lists.proofs.Lists.{all-append, all-map, all-zip}
 use Rattle.gametree_theory.proofs.minimax.Nodes.{number-in}
-use Rattle.gametree_theory.proofs.sss.Steps.{step-at, purge-outside}
+use Rattle.gametree_theory.proofs.sss.Steps.{between, step-at, purge-between, purge-outside}
 use Rattle.gametree_theory.proofs.sss.Frontier.{AtMost, Below, outdone, join-frontier, frontier}
 use Rattle.gametree_theory.proofs.sss.Frontier.{frontierChildren}
 use Rattle.gametree_theory.proofs.sss.Frontier.{Fitted}
@@ -165,7 +165,7 @@ handed-clear T γ n s ks L R a = (
 module _ (ν : ℕ → ℕ) (T : Tree) (γ : ℕ) (t : Tree) (L R : List State) (a : AroundTree T γ t L R) where
   -- the node's state is taken: all before it are less, none behind it has more, and all behind it are right of it
   pub takes : (u : Status) (x : Step)
-      → replace ν T (record { left = L; state = record { node = number t; status = u; merit = γ }; right = R }) u ≡ x
+      → replace ν T (record { node = number t; status = u; merit = γ }) (between L R) u ≡ x
       → step ν T (L ++ (record { node = number t; status = u; merit = γ } ∷ R)) ≡ x
   takes u x e =
       let s : State = record { node = number t; status = u; merit = γ } in
@@ -177,7 +177,7 @@ module _ (ν : ℕ → ℕ) (T : Tree) (γ : ℕ) (t : Tree) (L R : List State) 
   -- a LIVE leaf is evaluated
   pub takes-leaf : (n : ℕ) → subtreeAt (number t) T ≡ leaf n
       → step ν T (L ++ (live (number t) γ ∷ R))
-      ≡ evaluating (number t) (L ++ (solved (number t) (min γ (ν (number t))) ∷ R))
+      ≡ evaluating (number t) γ (L ++ (solved (number t) (min γ (ν (number t))) ∷ R))
   takes-leaf n e = takes LIVE _ (rw e refl)
 
   -- a LIVE inner node is replaced by children
@@ -190,7 +190,7 @@ module _ (ν : ℕ → ℕ) (T : Tree) (γ : ℕ) (t : Tree) (L R : List State) 
   -- a SOLVED child of a Max node hands up
   pub takes-max : (p : ℕ) (b : Option ℕ) → linkIn T (number t) ≡ under p Max b
       → step ν T (L ++ (solved (number t) γ ∷ R)) ≡ quiet (purge T p L ++ (solved p γ ∷ purge T p R))
-  takes-max p b e = takes SOLVED _ (rw e refl)
+  takes-max p b e = takes SOLVED _ (rw e (ap quiet (purge-between T p L R γ)))
 
   -- the last child of any node hands up
   pub takes-last : (s : Side) (p : ℕ) → linkIn T (number t) ≡ under p s none

@@ -18,12 +18,13 @@ use Rattle.gametree.specs.Tree.{InChildren}
 use Rattle.gametree.specs.Nodes.{root, under, firstOf, othersOf, subtreeAt, linkIn, aboveIn, leftIn}
 use Rattle.gametree_theory.proofs.sss.Lookups.{Answers, AnswersChildren}
 use Rattle.gametree_theory.proofs.sss.OwnNodes.{own-root}
-use Rattle.gametree.specs.Sss.{Status, LIVE, SOLVED, State, live, solved, Taken, choose, beats, pick, Step, empty}
+use Rattle.gametree.specs.Sss.{Status, LIVE, SOLVED, State, live, solved, bestState, Step, empty}
 use Rattle.gametree.specs.Sss.{stop, quiet, evaluating, purge, replaceLive, replaceSolved, replace, step}
 use Rattle.gametree.specs.Sss.{ListAfter, atStart, afterQuiet, afterEvaluating}
 use Rattle.lists.proofs.Lists.{all-append, all-map, all-zip}
 use Rattle.gametree_theory.proofs.minimax.Nodes.{number-in, size-then}
-use Rattle.gametree_theory.proofs.sss.Steps.{step-at, purge-left, purge-right, purge-outside}
+use Rattle.gametree_theory.proofs.sss.Steps.{between, taken, step-taken, step-at, purge-between}
+use Rattle.gametree_theory.proofs.sss.Steps.{purge-left, purge-right, purge-outside}
 use Rattle.gametree_theory.proofs.sss.Around.{handed}
 use Rattle.gametree_theory.proofs.sss.Fronts.{Front, FrontChildren, alone-front, ChildIn, Siblings, Beside}
 use Rattle.gametree_theory.proofs.sss.Fronts.{Within, top}
@@ -220,7 +221,7 @@ module _ (T : Tree) where
   -- a state with lesser merits before it and no greater ones behind is taken
   pub within-taken : (ν : ℕ → ℕ) {r u : Tree} {A B : List State} (s : State) → Within r u A B → Answers T r
       → number u ≡ s .node → All (λ x. x .merit < s .merit) A → All (λ x. x .merit ≤ s .merit) B
-      → step ν T (A ++ (s ∷ B)) ≡ replace ν T (record { left = A; state = s; right = B }) (s .status)
+      → step ν T (A ++ (s ∷ B)) ≡ replace ν T s (between A B) (s .status)
   within-taken ν {u = u} {A = A} {B = B} s w a e l g =
       step-at ν T A s B l
       (all-zip _ _ (λ x. (x .merit ≤ s .merit) × (leftIn T (s .node) (x .node) ≡ true))
@@ -248,71 +249,60 @@ abbrev FrontStep : Tree → Step → Type 0
 FrontStep t empty = Unit {0}
 FrontStep t (stop v) = Unit {0}
 FrontStep t (quiet M) = Front t M
-FrontStep t (evaluating n M) = Front t M
+FrontStep t (evaluating n m M) = Front t M
 
 module _ (ν : ℕ → ℕ) (T : Tree) (r : Tree) (a : Answers T r) (o : linkIn T (number r) ≡ root) where
-  live-front : (k : Taken) (u : Tree) → number u ≡ k .state .node → Within r u (k .left) (k .right)
-      → FrontStep r (replaceLive ν k (subtreeAt (k .state .node) T))
-  live-front k (leaf n) e w =
+  live-front : (s : State) (A B : List State) (u : Tree) → number u ≡ s .node → Within r u A B
+      → FrontStep r (replaceLive ν s (between A B) (subtreeAt (s .node) T))
+  live-front s A B (leaf n) e w =
       rw (ap (λ p. subtreeAt p T) (sym e) ∙ within-answers T w a)
-      (plug w (solved (k .state .node) _ ∷ []) (alone-front (leaf n) (solved (k .state .node) _) (sym e)))
-  live-front k (inner n Max ks) e w =
+      (plug w (solved (s .node) _ ∷ []) (alone-front (leaf n) (solved (s .node) _) (sym e)))
+  live-front s A B (inner n Max ks) e w =
       rw (ap (λ p. subtreeAt p T) (sym e) ∙ within-answers T w a .0)
-      (plug w (map (λ n. live n (k .state .merit)) (firstOf ks ∷ othersOf ks)) (inr (kids-live (k .state .merit) ks)))
-  live-front k (inner n Min ks) e w =
+      (plug w (map (λ n. live n (s .merit)) (firstOf ks ∷ othersOf ks)) (inr (kids-live (s .merit) ks)))
+  live-front s A B (inner n Min ks) e w =
       let c = first-child ks in
       rw (ap (λ p. subtreeAt p T) (sym e) ∙ within-answers T w a .0)
-      (plug w (live (firstOf ks) (k .state .merit) ∷ [])
+      (plug w (live (firstOf ks) (s .merit) ∷ [])
       (inr (child-front ks (c .0) (c .2) (live (firstOf ks) _) (sym (c .1)))))
 
-  solved-under : (k : Taken) (u : Tree) (A B : List State) → A ≡ k .left → B ≡ k .right → number u ≡ k .state .node
-      → Within r u A B → FrontStep r (replaceSolved T k (linkIn T (k .state .node)))
-  solved-under k u A B i j e top = rw (ap (linkIn T) (sym e) ∙ o) tt
-  solved-under k u A B i j e (child {n = n} {q = Max} {ks = ks} F G w b p q) =
+  solved-under : (s : State) (u : Tree) (A B : List State) → number u ≡ s .node
+      → Within r u A B → FrontStep r (replaceSolved T s (between A B) (linkIn T (s .node)))
+  solved-under s u A B e top = rw (ap (linkIn T) (sym e) ∙ o) tt
+  solved-under s u A B e (child {n = n} {q = Max} {ks = ks} F G w b p q) =
       let z = handed-around T Max u n ks F G w b a in
       let c = child-link T n Max u ks (beside-child Max ks u F G b) (within-answers T w a .2) in
-      rw (ap (linkIn T) (sym e) ∙ c .1, ← i, ← j, p, q, z .0, z .1)
-      (plug w (solved n (k .state .merit) ∷ []) (alone-front (inner n Max ks) (solved n _) refl))
-  solved-under k u A B i j e (child {n = n} {q = Min} {ks = ks} {X = X} {Z = Z} F G w b p q) =
+      rw (ap (linkIn T) (sym e) ∙ c .1, purge-between T n A B (s .merit), p, q, z .0, z .1)
+      (plug w (solved n (s .merit) ∷ []) (alone-front (inner n Max ks) (solved n _) refl))
+  solved-under s u A B e (child {n = n} {q = Min} {ks = ks} {X = X} {Z = Z} F G w b p q) =
       let l = child-link T n Min u ks (beside-child Min ks u F G b) (within-answers T w a .2) in
       let z = handed-around T Min u n ks F G w b a in
       rw (ap (linkIn T) (sym e) ∙ l .1) (next-front (l .0) (l .2) (rw (p ∙ z .0, q ∙ z .1) w))
     where
       next-front : (b : Option ℕ) → NextIn b ks → Within r (inner n Min ks) A B
-          → FrontStep r (replaceSolved T k (under n Min b))
+          → FrontStep r (replaceSolved T s (between A B) (under n Min b))
       next-front none x w =
-          rw (← i, ← j) (plug w (solved n (k .state .merit) ∷ []) (alone-front (inner n Min ks) (solved n _) refl))
+          plug w (solved n (s .merit) ∷ []) (alone-front (inner n Min ks) (solved n _) refl)
       next-front (some b) x w =
-          rw (← i, ← j) (plug w (live b (k .state .merit) ∷ [])
-          (inr (child-front ks (x .0) (x .2) (live b (k .state .merit)) (sym (x .1)))))
+          plug w (live b (s .merit) ∷ [])
+          (inr (child-front ks (x .0) (x .2) (live b (s .merit)) (sym (x .1))))
 
-  replace-front : (k : Taken) → Front r (k .left ++ (k .state ∷ k .right)) → (b : Status)
-      → FrontStep r (replace ν T k b)
-  replace-front k f LIVE =
-      let l = located r (k .left) (k .state) (k .right) f in live-front k (l .tree) (l .number-is) (l .within)
-  replace-front k f SOLVED =
-      let l = located r (k .left) (k .state) (k .right) f in
-      solved-under k (l .tree) (k .left) (k .right) refl refl (l .number-is) (l .within)
-
-choose-parts : (b : Bool) (s : State) (ss : List State) (k : Taken) → k .left ++ (k .state ∷ k .right) ≡ ss
-    → choose b s ss k .left ++ (choose b s ss k .state ∷ choose b s ss k .right) ≡ s ∷ ss
-choose-parts true s ss k e = refl
-choose-parts false s ss k e = ap (λ l. s ∷ l) e
-
--- the state taken, with what stands before and behind it, is the list
-pick-parts : (T : Tree) (s : State) (ss : List State)
-    → pick T s ss .left ++ (pick T s ss .state ∷ pick T s ss .right) ≡ s ∷ ss
-pick-parts T s [] = refl
-pick-parts T s (x ∷ xs) = choose-parts (beats T s (pick T x xs .state)) s (x ∷ xs) (pick T x xs) (pick-parts T x xs)
+  replace-front : (A : List State) (s : State) (B : List State) → Front r (A ++ (s ∷ B)) → (b : Status)
+      → FrontStep r (replace ν T s (between A B) b)
+  replace-front A s B f LIVE =
+      let l = located r A s B f in live-front s A B (l .tree) (l .number-is) (l .within)
+  replace-front A s B f SOLVED =
+      let l = located r A s B f in solved-under s (l .tree) A B (l .number-is) (l .within)
 
 module _ (ν : ℕ → ℕ) (r : Tree) (a : Answers r r) where
   -- a step from a front leaves a front
   step-front : (L : List State) → Front r L → FrontStep r (step ν r L)
   step-front [] f = tt
   step-front (s ∷ ss) f =
-      let k = pick r s ss in
-      replace-front ν r r a (own-root r) k (subst (λ l. Front r l) (sym (pick-parts r s ss)) f)
-      (k .state .status)
+      let k = taken r s ss in
+      rw (step-taken ν r s ss)
+      (replace-front ν r r a (own-root r) (k .left) (bestState r s ss) (k .right) (subst (Front r) (sym (k .parts)) f)
+      (bestState r s ss .status))
 
   -- every list that SSS* reaches is a front of the tree
   pub front-reached : {k : ℕ} {w : List ℕ} {L : List State} → ListAfter ν r k w L → Front r L
@@ -323,6 +313,6 @@ module _ (ν : ℕ → ℕ) (r : Tree) (a : Answers r r) where
   -- the first state of greatest merit on a front is the one taken
   pub front-taken : (A : List State) (s : State) (B : List State) → Front r (A ++ (s ∷ B))
       → All (λ x. x .merit < s .merit) A → All (λ x. x .merit ≤ s .merit) B
-      → step ν r (A ++ (s ∷ B)) ≡ replace ν r (record { left = A; state = s; right = B }) (s .status)
+      → step ν r (A ++ (s ∷ B)) ≡ replace ν r s (between A B) (s .status)
   front-taken A s B f l g =
       let i = located r A s B f in within-taken r ν s (i .within) a (i .number-is) l g

@@ -7,11 +7,11 @@ use mathlib.Core.Path.{_≡_, refl, sym, _∙_, ap, subst}
 use mathlib.Core.List.{List, [], _∷_, _++_, append-assoc}
 use Rattle.gametree.specs.Tree.{Tree, minimax, size, Proper}
 use Rattle.gametree.specs.engine.Memo.{memoMtd}
-use Rattle.gametree.specs.Sss.{takenMerit, State, Step, empty, stop, quiet, evaluating, step, SssRun, follow, runFrom}
+use Rattle.gametree.specs.Sss.{State, Step, empty, stop, quiet, evaluating, step, SssRun, follow, runFrom}
 use Rattle.gametree.specs.Sss.{start, sss, ListAfter, atStart, afterQuiet, afterEvaluating}
 use Rattle.gametree.specs.engine.Within.{End, Ran, resumed, inFull}
 use Rattle.lists.proofs.Choice.{clash}
-use Rattle.gametree_theory.proofs.sss.Steps.{Steps, done, quietly, evaluates}
+use Rattle.gametree_theory.proofs.sss.Steps.{Steps, done, quietly, evaluates, takenMerit}
 use Rattle.gametree_theory.proofs.mtd.Value.{mtd-right}
 use Rattle.gametree_theory.proofs.results.Merits.{steps-fall}
 use Rattle.gametree_theory.proofs.sss.Work.{full, full-size}
@@ -38,9 +38,9 @@ module _ (ν : ℕ → ℕ) (t : Tree) (N : List State) (W : List ℕ) (A v : �
   ahead-quiet (evaluates q l p) i f s = clash (cc)
 
   -- and so does one that evaluates a leaf
-  ahead-evaluating : {k a n : ℕ} (w : List ℕ) {u : List ℕ} {L M : List State} → Steps ν t a L u N 0 → w ++ u ≡ W
+  ahead-evaluating : {k a n m : ℕ} (w : List ℕ) {u : List ℕ} {L M : List State} → Steps ν t a L u N 0 → w ++ u ≡ W
       → k + a ≤ A
-      → step ν t L ≡ evaluating n M → Ahead ν t N W A (suc k) (w ++ (n ∷ [])) M
+      → step ν t L ≡ evaluating n m M → Ahead ν t N W A (suc k) (w ++ (n ∷ [])) M
   ahead-evaluating w (done l) i f s = clash (cc)
   ahead-evaluating w (quietly q l p) i f s = clash (cc)
   ahead-evaluating {n = n} w {M = M} (evaluates {c = c} {M = M′} {w = x} {n = n′} q l p) i f s =
@@ -103,13 +103,13 @@ resume ν t (afterEvaluating {n = n} {leaves = w} r s) f e =
     resume ν t r (suc f) (omega arith) ∙ rw s (ran-path (sym (append-assoc w (n ∷ []) _)))
 
 -- a run counts at least the replacements made before it
-follow-more : (s : Step) (k m : ℕ) (rest : List State → SssRun) → ((M : List State) → k < rest M .replacements)
-    → k ≤ follow s k m rest .replacements
-follow-more empty k m rest h = le-refl k
-follow-more (stop v) k m rest h = le-refl k
-follow-more (quiet M) k m rest h = omega (arith, h M)
-follow-more (evaluating n M) k m rest h = omega (arith, h M)
+follow-more : (s : Step) (k : ℕ) (rest : List State → SssRun) → ((M : List State) → k < rest M .replacements)
+    → k ≤ follow s k rest .replacements
+follow-more empty k rest h = le-refl k
+follow-more (stop v) k rest h = le-refl k
+follow-more (quiet M) k rest h = omega (arith, h M)
+follow-more (evaluating n m M) k rest h = omega (arith, h M)
 
 pub run-more : (ν : ℕ → ℕ) (t : Tree) (f k : ℕ) (L : List State) → k ≤ runFrom ν t f k L .replacements
 run-more ν t zero k L = le-refl k
-run-more ν t (suc f) k L = follow-more (step ν t L) k (takenMerit t L) _ (λ M. run-more ν t f (suc k) M)
+run-more ν t (suc f) k L = follow-more (step ν t L) k _ (λ M. run-more ν t f (suc k) M)
