@@ -30,6 +30,7 @@ mod FilledCosts
 mod Deeper
 mod Fewest
 mod MtdfCalls
+mod AlternatingCalls
 pub mod Demand1
 pub mod Demand2
 pub mod Demand3

@@ -91,7 +91,7 @@ use Rattle.demands.proofs.Results.{marks-rule, only-accepted, value-min
 use Rattle.demands.proofs.Evaluations.{no-more, count, smallest, local-alphaBeta, local-mtd, local-sss}
 use Rattle.demands.proofs.PlainCalls.{same-as-alphaBeta}
 use Rattle.demands.proofs.Allowed.{needs-more, merit-bounds, spent-fewer}
-use Rattle.demands.proofs.Alternating.{alternating-tree}
+use Rattle.demands.proofs.AlternatingCalls.{alternating-tree}
 use Rattle.demands.proofs.FilledCosts.{every-leaf-counted, every-leaf-marked, none-costlier}
 use Rattle.demands.proofs.LeastCounts.{every-pair}
 use Rattle.demands.proofs.Fewest.{no-fewer, no-fewer-plain}

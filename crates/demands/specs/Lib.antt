@@ -3,6 +3,5 @@ pub mod Runs
 pub mod Handed
 pub mod Searches
 pub mod Allowance
-pub mod Alternating
 pub mod Cases
 pub mod results

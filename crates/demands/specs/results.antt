@@ -1,2 +1,3 @@
--- What only tests cite.
+-- What only tests and consequences cite.
+pub mod Alternating
 pub mod Cases
