@@ -10,9 +10,15 @@ use Rattle.frames.specs.Rejection.{eachNode}
 use Rattle.frames.specs.Check.{framesRejection, rejection}
 use Rattle.positions.specs.Buffer.{written}
 use Rattle.lists.specs.Lists.{countFrom}
-use Rattle.demands.specs.Cases.{rowOf, rejected}
+use Rattle.demands.specs.results.Rows.{rowOf, rejected, tables, rows}
 use Rattle.demands.specs.results.Cases.{path, winTables, winRows, leavesOf, captureTables, captureRows}
 use Rattle.demands.specs.results.Cases.{deeperTables, deeperRows, stoppedAt, stoppedRows, withEntries}
+
+-- the cases marked P, with what all searches give and leave
+pub marked-rows : map rowOf tables ≡ rows
+unfolding mtd next parentBefore positionWithin positionOf childrenFrom grow treeAt valuation eachNode
+    framesRejection rejection upFrom written countFrom
+marked-rows = refl
 
 pub win-cases : map rowOf winTables ≡ winRows
 unfolding mtd next parentBefore positionWithin positionOf childrenFrom grow treeAt valuation eachNode

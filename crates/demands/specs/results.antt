@@ -1,3 +1,4 @@
 -- What only tests and consequences cite.
 pub mod Alternating
+pub mod Rows
 pub mod Cases

@@ -10,7 +10,7 @@ use Rattle.alphabeta.specs.Outcome.{alphaBetaOutcome}
 use Rattle.mtd.specs.Outcome.{mtdOutcome}
 use Rattle.sss_states.specs.Entry.{blank}
 use Rattle.sss.specs.Outcome.{sssOutcome, solveOutcome}
-use Rattle.demands.specs.Cases.{Given, found, spent, Row, row, rowWith, byAlphaBeta, byMtd, bySss}
+use Rattle.demands.specs.results.Rows.{Given, found, spent, Row, row, rowWith, byAlphaBeta, byMtd, bySss}
 
 -- leaves of 31,000 and -31,000
 abbrev winLeaf : List ℕ
