@@ -1,28 +1,26 @@
 -- The theorems for use on searches made of null-window tests with memory, in the manner of Theorems: each says in one
--- sentence what it gives. Sections: one test, a search by any strategy, the last phase, MTD(f), its two ends,
--- bisection, Scout.
+-- sentence what it gives. Sections: one test, a search by any strategy, the last phase, MTD(f), its upper end. What no
+-- call needs is in gametree_family.
 use Prim.Native.Nat.{ℕ, suc, _+_, _≤_, _<_}
 use native.Mathlib.Omega.{arith}
-use mathlib.Core.Path.{_≡_, refl, sym, _∙_, ap, ap₂, subst}
+use mathlib.Core.Path.{_≡_, sym, _∙_, ap, ap₂, subst}
 use mathlib.Core.Logic.{_↔_}
 use mathlib.Core.Bool.{Bool, true, false, cond}
-use mathlib.Core.List.{List, [], _++_, map}
+use mathlib.Core.List.{List, [], _++_}
 use lib.ListN.{length, length-append}
 use borrow.Author.Tests.{leb-true, leb-false, le-leb, lt-leb}
-use Rattle.lists.specs.Lists.{All, among, Once, different}
+use Rattle.lists.specs.Lists.{All, among, Once}
 use Rattle.gametree.specs.declared.Side.the-variants.{Max, Min}
 use Rattle.gametree.specs.Tree.{Tree, least, greatest, minimax, leaves, Scored, Proper}
 use Rattle.gametree.specs.Bounds.{low, high, Decided}
 use Rattle.gametree.specs.AlphaBeta.{alphaBeta, fullWindow}
 use Rattle.gametree.specs.Certificate.{pairLeaves, chosen, flag, Smallest}
 use Rattle.gametree.specs.Move.{rootMove, boundMove}
-use Rattle.gametree.specs.results.Mirror.{mirror, mirrored, oppositeTest}
-use Rattle.gametree.specs.results.Scout.{scout}
 use Rattle.gametree.specs.Tests.{test}
 use Rattle.gametree.specs.Mtdf.{lastPhase, mtdf}
-use Rattle.gametree.specs.results.Family.{Strategy, TestSearch, searchBy, mtdFrom, falling, rising, bisection, decideBy}
+use Rattle.gametree.specs.results.Family.{Strategy, TestSearch, searchBy, mtdFrom, falling, decideBy}
 use Rattle.lists.proofs.Lists.{once-length}
-use Rattle.gametree_theory.proofs.minimax.Bounds.{every-leaf, known-local}
+use Rattle.gametree_theory.proofs.minimax.Bounds.{known-local}
 use Rattle.gametree_theory.proofs.minimax.Moves.{boundMove-local}
 use Rattle.gametree_theory.proofs.alphabeta.Window.{alphaBeta-evaluated}
 use Rattle.gametree_theory.proofs.certificates.Flags.{FlagsCertify, decided-certify}
@@ -33,20 +31,13 @@ use Rattle.gametree_theory.proofs.Theorems.{alphaBeta-leaves, local-dec
 use Rattle.gametree_theory.proofs.tests.Answer.{test-answer}
 use Rattle.gametree_theory.proofs.tests.Leaves.{New, test-dominated, test-once}
 use Rattle.gametree_theory.proofs.tests.Progress.{confirmed-low, confirmed-high, test-confirmed}
-use Rattle.gametree_theory.proofs.tests.Narrower.{reached-narrower}
 use Rattle.gametree_theory.proofs.tests.Local.{run-local}
-use Rattle.gametree_theory.proofs.tests.Null.{test-null}
 use Rattle.gametree_theory.proofs.tests.Runs.{reaches-own, test-opens, search-right}
-use Rattle.gametree_theory.proofs.tests.Move.{BestMove, decided-best}
 use Rattle.gametree_theory.proofs.tests.Member.{mtdf-member}
 use Rattle.gametree_theory.proofs.tests.Guess.{right-guess}
-use Rattle.gametree_theory.proofs.tests.Few.{guess-scores}
-use Rattle.gametree_theory.proofs.tests.Bisection.{bisection-tests}
 use Rattle.gametree_theory.proofs.tests.FirstMove.{ElderMovesWorse, decide-right}
 use Rattle.gametree_theory.proofs.tests.Falling.{falling-mtd}
 use Rattle.gametree_theory.proofs.tests.FallingMove.{falling-decides-mtd}
-use Rattle.gametree_theory.proofs.tests.Scout.{scout-value, scout-decides, scout-once}
-use Rattle.gametree_theory.proofs.tests.Mirror.{proper-mirror, RunMirrors, search-mirror, decide-mirror}
 
 -- ONE TEST
 
@@ -87,20 +78,6 @@ module _ (ν : ℕ → ℕ) (t : Tree) (h : Scored ν t) (γ : ℕ) (w : List �
   pub test-evaluates : low ν (among w) t < γ → γ ≤ high ν (among w) t → 0 < length (test ν γ w t .evaluated)
   test-evaluates l u = test-opens ν γ w t h l u
 
--- the first test is alpha-beta with the null window from γ - 1 to γ, here g and g + 1
-pub first-test : (ν : ℕ → ℕ) (t : Tree) → Proper ν t → (g : ℕ) → g < greatest
-    → test ν (suc g) [] t .evaluated ≡ alphaBeta ν g (suc g) t .evaluated
-first-test ν t r g l =
-    test-null ν g [] t (r .scored) (r .distinct) l (every-leaf (λ n. among [] n ≡ false) (λ n. refl) t)
-    ∙ sym (alphaBeta-evaluated ν g (suc g) (omega arith) t)
-
--- alpha-beta with a narrower window evaluates no other leaves
-pub narrower-window : (ν : ℕ → ℕ) (t : Tree) (α β α′ β′ : ℕ) → α < β → α′ ≤ α → β ≤ β′
-    → All (λ k. among (alphaBeta ν α′ β′ t .evaluated) k ≡ true) (alphaBeta ν α β t .evaluated)
-narrower-window ν t α β α′ β′ o l u =
-    rw (alphaBeta-evaluated ν α β o t, alphaBeta-evaluated ν α′ β′ (omega arith) t)
-    (reached-narrower ν α β α′ β′ l u t)
-
 -- A SEARCH BY ANY STRATEGY
 
 module _ (σ : Strategy) (ν : ℕ → ℕ) (t : Tree) (h : Scored ν t) where
@@ -131,10 +108,6 @@ module _ (σ : Strategy) (ν : ℕ → ℕ) (t : Tree) (h : Scored ν t) where
   -- it makes no more tests than it evaluates leaves
   pub tests-few : length (searchBy σ ν t .tests) ≤ length (searchBy σ ν t .evaluated)
   tests-few = omega (arith, search-right σ ν t h .counted)
-
-  -- the move that the bounds show leads to a child with the root's value, though not always to the first one
-  pub tests-move : BestMove ν t (boundMove ν (among (searchBy σ ν t .evaluated)) t)
-  tests-move = decided-best ν _ t h tests-decide
 
 -- the flags read off the bounds are a certificate of the value, made of evaluated leaves only
 pub tests-certify : (σ : Strategy) (ν : ℕ → ℕ) (t : Tree) → Proper ν t
@@ -227,23 +200,7 @@ guess-same f g ν t h = rw (mtdf-by-tests ν f t, mtdf-by-tests ν g t) (decide-
 pub guess-two : (ν : ℕ → ℕ) (t : Tree) → Scored ν t → mtdf (minimax ν t) ν t .tests ≤ 2
 guess-two ν t h = rw (mtdf-by-tests ν (minimax ν t) t) (right-guess ν t h)
 
--- whatever the guess, it makes at most one test more than there are different scores among the leaves that it evaluates
-pub guess-few : (ν : ℕ → ℕ) (f : ℕ) (t : Tree) → Scored ν t
-    → length (searchBy (mtdFrom f) ν t .tests) ≤ suc (different (map ν (searchBy (mtdFrom f) ν t .evaluated)))
-guess-few ν f t h = guess-scores ν f t h
-
--- in the game with the sides exchanged the opposite guess gives the same leaves and the opposite tests
-pub guess-mirror : (ν : ℕ → ℕ) (f : ℕ) (t : Tree) → Scored ν t
-    → RunMirrors (searchBy (mtdFrom f) ν t) (searchBy (mtdFrom (oppositeTest f)) (mirrored ν) (mirror t))
-guess-mirror ν f t h = search-mirror ν f t h
-
--- with the last phase the leaves are the same, too
-pub guess-mirror-decides : (ν : ℕ → ℕ) (f : ℕ) (t : Tree) → Scored ν t
-    → mtdf (oppositeTest f) (mirrored ν) (mirror t) .evaluated ≡ mtdf f ν t .evaluated
-guess-mirror-decides ν f t h =
-    rw (mtdf-by-tests ν f t, mtdf-by-tests (mirrored ν) (oppositeTest f) (mirror t)) (decide-mirror ν f t h)
-
--- ITS TWO ENDS
+-- ITS UPPER END
 
 module _ (ν : ℕ → ℕ) (t : Tree) (r : Proper ν t) where
   -- from `greatest` it evaluates only leaves that SSS* evaluates
@@ -263,40 +220,3 @@ module _ (ν : ℕ → ℕ) (t : Tree) (r : Proper ν t) where
   falling-decides-sss =
       subst (λ w. All (λ k. among w k ≡ true) (mtdf greatest ν t .evaluated))
       (sym (sss-is-mtd ν t r .leaves-are)) (rw (mtdf-by-tests ν greatest t) (falling-decides-mtd ν t r))
-
--- DUAL*, from `least`, evaluates only leaves that SSS* evaluates in the game with the sides exchanged
-pub rising-sss : (ν : ℕ → ℕ) (t : Tree) → Proper ν t
-    → All (λ k. among (sssEvaluated (mirrored ν) (mirror t)) k ≡ true) (searchBy rising ν t .evaluated)
-rising-sss ν t r =
-    subst (All (λ k. among (sssEvaluated (mirrored ν) (mirror t)) k ≡ true))
-    (search-mirror ν (suc least) t (r .scored) .leaves-are)
-    (falling-sss (mirrored ν) (mirror t) (proper-mirror ν t r))
-
--- with the last phase too
-pub rising-decides-sss : (ν : ℕ → ℕ) (t : Tree) → Proper ν t
-    → All (λ k. among (sssEvaluated (mirrored ν) (mirror t)) k ≡ true) (mtdf (suc least) ν t .evaluated)
-rising-decides-sss ν t r =
-    subst (All (λ k. among (sssEvaluated (mirrored ν) (mirror t)) k ≡ true))
-    (guess-mirror-decides ν (suc least) t (r .scored))
-    (falling-decides-sss (mirrored ν) (mirror t) (proper-mirror ν t r))
-
--- BISECTION
-
--- bisection makes at most 16 tests, however large the tree
-pub bisection-few : (ν : ℕ → ℕ) (t : Tree) → Scored ν t → length (searchBy bisection ν t .tests) ≤ 16
-bisection-few ν t h = bisection-tests ν t h
-
--- SCOUT
-
-module _ (ν : ℕ → ℕ) (t : Tree) where
-  -- Scout gives the minimax value
-  pub scout-minimax : Scored ν t → scout ν [] t .value ≡ minimax ν t
-  scout-minimax h = scout-value ν [] t h
-
-  -- the bounds of the leaves that it evaluates meet there
-  pub scout-decided : Scored ν t → Decided ν (among (scout ν [] t .evaluated)) t
-  scout-decided h = scout-decides ν [] t h
-
-  -- no leaf is evaluated twice; but not each is one that alpha-beta evaluates: `scout-more` in tests/Scout
-  pub scout-leaves : Once (scout ν [] t .evaluated)
-  scout-leaves = scout-once ν [] t .once

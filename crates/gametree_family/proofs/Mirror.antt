@@ -21,15 +21,15 @@ use Rattle.gametree.specs.Tree.{Distinct, DistinctChildren, Proper}
 use Rattle.gametree.specs.Bounds.{known, low, high}
 use Rattle.gametree.specs.AlphaBeta.{clamp}
 use Rattle.gametree.specs.Mtd.{settles}
-use Rattle.gametree.specs.results.Mirror.{mirror, mirrorChildren, opposite, mirrored, oppositeTest}
+use Rattle.gametree_family.specs.Mirror.{mirror, mirrorChildren, opposite, mirrored, oppositeTest}
 use Rattle.gametree.specs.Tests.{Tested, unopened, passedOn, byBounds, test, testChildren}
 use Rattle.gametree.specs.Mtdf.{equalTest, lastPhase}
 use Rattle.gametree.specs.results.Family.{view, chosenTest, TestSearch, met, tested, drive, searchBy, afterGuess}
 use Rattle.gametree.specs.results.Family.{mtdFrom, decideBy}
 use Rattle.gametree_theory.proofs.minimax.Bounds.{minimax-score}
 use Rattle.gametree_theory.proofs.minimax.Closer.{bounds≤, high≤}
 use Rattle.gametree_theory.proofs.tests.Runs.{search-right}
 use Rattle.gametree_theory.proofs.tests.FirstMove.{equal-inside}
 
 -- VALUES
 

@@ -16,15 +16,15 @@ use Rattle.gametree.specs.Bounds.{low, high, Decided}
 use Rattle.gametree.specs.AlphaBeta.{SearchResult, fullWindow}
 use Rattle.gametree.specs.Mtd.{settles}
 use Rattle.gametree.specs.Tests.{Tested, test}
-use Rattle.gametree.specs.results.Scout.{found, betterTest, probed, scout, scoutChildren, probeChildren}
+use Rattle.gametree_family.specs.Scout.{scouted, betterTest, probed, scout, scoutChildren, probeChildren}
 use Rattle.gametree.specs.results.Cases.{Case, valuation, evaluatedWith}
 use Rattle.lists.proofs.Choice.{cond-cases, true-not-false}
 use Rattle.lists.proofs.Lists.{all-among, among-left, among-right}
 use Rattle.gametree_theory.proofs.minimax.Bounds.{low≤, ≤high}
 use Rattle.gametree_theory.proofs.tests.Answer.{test-answer}
 use Rattle.gametree_theory.proofs.minimax.Closer.{low-rises, high-falls}
 use Rattle.gametree_theory.proofs.tests.Progress.{Confirms, test-confirmed}
 use Rattle.gametree_theory.proofs.tests.Leaves.{New, new-none, new-append, test-once}
 
 -- THE VALUE
 
@@ -53,7 +53,7 @@ probed-value ν w s v t q h e =
 
 -- bounds that have met are the value
 met-value : (ν : ℕ → ℕ) (w : List ℕ) (t : Tree) (q : SearchResult) → Scored ν t → q .value ≡ minimax ν t
-    → cond (eqb (low ν (among w) t) (high ν (among w) t)) (found (low ν (among w) t) []) q .value ≡ minimax ν t
+    → cond (eqb (low ν (among w) t) (high ν (among w) t)) (scouted (low ν (among w) t) []) q .value ≡ minimax ν t
 met-value ν w t q h e =
     cond-cases (λ (x : SearchResult). x .value ≡ minimax ν t) (eqb (low ν (among w) t) (high ν (among w) t)) _ _
     (λ k.
@@ -64,7 +64,7 @@ met-value ν w t q h e =
 mutual
   -- Scout gives the minimax value, whatever leaves were evaluated before
   pub scout-value : (ν : ℕ → ℕ) (w : List ℕ) (t : Tree) → Scored ν t → scout ν w t .value ≡ minimax ν t
-  scout-value ν w (leaf n) h = met-value ν w (leaf n) (found (ν n) (n ∷ [])) h refl
+  scout-value ν w (leaf n) h = met-value ν w (leaf n) (scouted (ν n) (n ∷ [])) h refl
   scout-value ν w (inner n s ks) h =
       met-value ν w (inner n s ks) (scoutChildren ν w s ks) h (scoutChildren-value ν w s ks h)
 
@@ -159,7 +159,7 @@ module _ (ν : ℕ → ℕ) where
   -- where the bounds have met they are decided, else what is found decides them
   met-decides : (w : List ℕ) (t : Tree) (q : SearchResult) → Scored ν t → Decided ν (among (w ++ q .evaluated)) t
       → Decided ν
-      (among (w ++ cond (eqb (low ν (among w) t) (high ν (among w) t)) (found (low ν (among w) t) []) q .evaluated)) t
+      (among (w ++ cond (eqb (low ν (among w) t) (high ν (among w) t)) (scouted (low ν (among w) t) []) q .evaluated)) t
   met-decides w t q h d =
       cond-cases (λ (x : SearchResult). Decided ν (among (w ++ x .evaluated)) t)
       (eqb (low ν (among w) t) (high ν (among w) t))
@@ -176,7 +176,7 @@ module _ (ν : ℕ → ℕ) where
     pub scout-decides : (w : List ℕ) (t : Tree) → Scored ν t → Decided ν (among (w ++ scout ν w t .evaluated)) t
     scout-decides w (leaf n) h =
         let e = among-right w (n ∷ []) n (all-among (n ∷ []) .0) in
-        met-decides w (leaf n) (found (ν n) (n ∷ [])) h (record { lowIs = rw e refl; highIs = rw e refl })
+        met-decides w (leaf n) (scouted (ν n) (n ∷ [])) h (record { lowIs = rw e refl; highIs = rw e refl })
     scout-decides w (inner n s ks) h =
         met-decides w (inner n s ks) (scoutChildren ν w s ks) h (scoutChildren-decides w n s ks h)
 
@@ -226,7 +226,8 @@ probed-once s v w p q a b =
 
 -- a leaf that was evaluated has met its bounds
 leaf-once : (w : List ℕ) (n v : ℕ) (b : Bool) → among w n ≡ b
-    → New w (cond (eqb (cond b v least) (cond b v greatest)) (found (cond b v least) []) (found v (n ∷ [])) .evaluated)
+    → New w (cond (eqb (cond b v least) (cond b v greatest)) (scouted (cond b v least) []) (scouted v (n ∷ []))
+    .evaluated)
 leaf-once w n v true e = rw (eq-eqb v v refl) (new-none w)
 leaf-once w n v false e = record { new = (e, tt); once = (tt, tt) }
 

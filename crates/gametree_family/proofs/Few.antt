@@ -12,20 +12,20 @@ use borrow.Author.Tests.{eqb-false, leb-true, leb-false, lt-leb}
 use Rattle.lists.specs.Lists.{All, among, different}
 use Rattle.gametree.specs.Tree.{Tree, greatest, minimax, leaves, Scored}
 use Rattle.gametree.specs.Bounds.{low, high}
-use Rattle.gametree.specs.results.Mirror.{mirror, opposite, mirrored, oppositeTest}
+use Rattle.gametree_family.specs.Mirror.{mirror, opposite, mirrored, oppositeTest}
 use Rattle.gametree.specs.Tests.{test}
 use Rattle.gametree.specs.results.Family.{view, Strategy, chosenTest, TestSearch, drive, searchBy, mtdFrom}
 use Rattle.lists.proofs.Choice.{cond-cases, true-not-false}
 use Rattle.lists.proofs.Lists.{all-map, all-among, all-at, among-left}
 use Rattle.gametree_theory.proofs.minimax.Bounds.{≤high, low-none, minimax-score}
 use Rattle.gametree_theory.proofs.minimax.Closer.{high-falls, bounds≤, high≤}
 use Rattle.gametree_theory.proofs.mtd.Passes.{how-many, more-there, how-many-different, high-score, among-map}
 use Rattle.gametree_theory.proofs.tests.Answer.{test-answer}
 use Rattle.gametree_theory.proofs.tests.Progress.{Confirms, test-confirmed}
 use Rattle.gametree_theory.proofs.tests.Local.{run-earlier}
 use Rattle.gametree_theory.proofs.tests.Guess.{met-none}
-use Rattle.gametree_theory.proofs.tests.Mirror.{minimax-mirror, scored-mirror, search-mirror, test-opposite}
-use Rattle.gametree_theory.proofs.tests.Mirror.{clamp≤}
+use Rattle.gametree_family.proofs.Mirror.{minimax-mirror, scored-mirror, search-mirror, test-opposite}
+use Rattle.gametree_family.proofs.Mirror.{clamp≤}
 
 -- a fact of each score of a list
 all-scores : (ν : ℕ → ℕ) (P : ℕ → Type 0) (w : List ℕ) → All (λ k. P (ν k)) w → All P (map ν w)
