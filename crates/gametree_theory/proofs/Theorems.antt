@@ -52,6 +52,7 @@ use Rattle.gametree_theory.proofs.sss.Fronts.{Front}
 use Rattle.gametree_theory.proofs.allowance.Ending.{never-empty}
 use Rattle.gametree_theory.proofs.allowance.Local.{runFrom-local}
 use Rattle.gametree_theory.proofs.sss.FrontSteps.{front-length, front-in, front-reached, front-taken}
+use Rattle.gametree_theory.proofs.sss.LastMove.{MaxRoot, last-move}
 use Rattle.gametree_theory.proofs.certificates.Solution.{solution-bound, certified, rule-counted, counted-rule}
 use Rattle.gametree_theory.proofs.certificates.Flags.{decided-certify}
 use Rattle.gametree_theory.proofs.minimax.Counts.{once-count}
@@ -170,6 +171,13 @@ module _ (ν : ℕ → ℕ) (t : Tree) (h : Proper ν t) where
     -- and the run goes on from it, for what is left of the bound on states taken
     pub list-resumes : (f : ℕ) → k + f ≡ 2 * size t → inFull (sss ν t) ≡ resumed w (inFull (runFrom ν t f k L))
     list-resumes f e = resume ν t r f e
+
+-- where the root is taken SOLVED, the state that was replaced last is the root move's: of a list that SSS* reaches s is
+-- the state taken, and M is the next list
+pub solved-by : (ν : ℕ → ℕ) (t : Tree) → Proper ν t → MaxRoot t → {k v : ℕ} {w u : List ℕ} (A : List State) (s : State)
+    (B : List State) {M : List State} → ListAfter ν t k w (A ++ (s ∷ B)) → All (λ x. x .merit < s .merit) A
+    → All (λ x. x .merit ≤ s .merit) B → ListAfter ν t (suc k) u M → step ν t M ≡ stop v → s .node ≡ rootMove ν t
+solved-by = last-move
 
 -- the list after a number of replacements is determined, and so are the leaves that they evaluated
 pub list-determined : (ν : ℕ → ℕ) (t : Tree) {k : ℕ} {w v : List ℕ} {L M : List State}

@@ -10,3 +10,4 @@ pub mod Run
 pub mod Lists
 pub mod Fronts
 pub mod FrontSteps
+pub mod LastMove

@@ -1,7 +1,7 @@
 -- A run over a front and a list of its own that no allowance stops: what it leaves is what SSS* finds.
 use Prim.Native.Nat.{ℕ, _≤_}
 use native.Mathlib.Omega.{arith}
-use mathlib.Core.Path.{_≡_, ap, _∙_, subst}
+use mathlib.Core.Path.{_≡_, refl, ap, _∙_, subst}
 use mathlib.Core.Bool.{Bool, true, false, cond}
 use mathlib.Core.List.{List, []}
 use lib.ListN.{length, replicate}
@@ -21,16 +21,16 @@ use Rattle.sss.specs.declared.SssAnswer.the-variants.{Found as FoundAnsw
 use Rattle.sss_loop.specs.engine.Invariant.{Running}
 use Rattle.sss_loop.specs.engine.Driven.{DrivenOwn}
 use Rattle.sss.specs.engine.Start.{begun}
-use Rattle.sss.specs.engine.Finish.{Answerable, isSpent, endMerit, foundBy, spentBy}
+use Rattle.sss.specs.engine.Finish.{Answerable, isSpent, endMerit, foundAlone, spentBy}
 use Rattle.sss.specs.Outcome.{sssLeaves, sssFound, givenBy}
 use Rattle.sss.proofs.Allowed.{leaves-few, enough}
-use Rattle.sss.proofs.Whole.{answerable, run-answers}
+use Rattle.sss.proofs.Whole.{answerable, move-is, run-answers}
 
 -- an answer with findings has no others
 found-only : (x : Bool) (s : Spent) (f g : SssResult)
-    → _≡_ {A = SssAnswer} (cond x (SpentAnswer s) (FoundAnswer f)) (FoundAnswer g) → f ≡ g
+    → _≡_ {A = SssAnswer} (cond x (SpentAnswer s) (FoundAnswer f)) (FoundAnswer g) → (x ≡ false) × (f ≡ g)
 found-only true s f g e = clash (cc)
-found-only false s f g e = cc
+found-only false s f g e = (refl, cc)
 
 module _ (t : List ℕ) (wf : WellFormed t) (b o b₁ : List ℕ) (r : Run) (cleared : b₁ ≡ written (λ k. 0) (frames t) b)
     (begins : r ≡ begun maxNodes (Nodes (frames t))) {b′ o′ : List ℕ} {r′ : Run} (d : DrivenOwn t b₁ o r b′ o′ r′) where
@@ -49,14 +49,21 @@ module _ (t : List ℕ) (wf : WellFormed t) (b o b₁ : List ℕ) (r : Run) (cle
   own-asks i = answerable t wf maxNodes _ b o config ran (d .driven .stopped) i
 
   -- no tree has more leaves than are allowed, so the run finds
-  pub own-gives : (foundBy t b′ (endMerit (r′ .stage)) (r′ .counts) ≡ sssFound t)
+  pub own-gives : (foundAlone (endMerit (r′ .stage)) (r′ .counts) ≡ sssFound t)
       × ((b′ ≡ marksOf (sssLeaves t) t b) × (o′ ≡ listed (sssLeaves t) o))
   own-gives =
       let e =
       run-answers t wf maxNodes _ b o config ran (d .driven .stopped) []
       ∙ ap (λ xs. givenBy xs maxNodes t (buffers b []) o)
-      (enough t wf maxNodes (omega (arith, leaves-few t wf, wf .atMost))) in (
-        found-only (isSpent (r′ .stage)) (spentBy (endMerit (r′ .stage)) (r′ .counts)) _ _
-            (ap (λ x. x .answer .answer) e),
+      (enough t wf maxNodes (omega (arith, leaves-few t wf, wf .atMost))) in
+      let g = found-only (isSpent (r′ .stage)) (spentBy (endMerit (r′ .stage)) (r′ .counts)) _ _
+      (ap (λ x. x .answer .answer) e) in
+      let m = move-is t wf maxNodes _ b o config ran (d .driven .stopped) (g .0) in (
+        cc (
+          m,
+          ap (λ x. x .findings .value) (g .1),
+          ap (λ x. x .findings .leaves) (g .1),
+          ap (λ x. x .replacements) (g .1),
+        ),
         (ap (λ x. x .answer .left .marks) e, ap (λ x. x .left) e),
       )

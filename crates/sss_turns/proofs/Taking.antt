@@ -116,7 +116,7 @@ module _ (t w b o : List ℕ) (r : Run) (e : State) (q : isSolvedRoot (e .status
   pub stepped-is : (c : Change) (n : ℕ) {w′ b′ o′ : List ℕ} {r′ : Run} → isUncovered t e (r .counts) ≡ false
       → c ≡ ofState t (e .node) m (e .status) → w′ ≡ settledFront t m c w .front
       → progress n b′ o′ ≡ evaluateAll (progress (r .counts .leaves) b o) (newLeaves t e)
-      → r′ ≡ replacedRun t w c m (recounted n (r .counts))
+      → r′ ≡ replacedRun t w c m (recounted n (r .best) (r .counts))
       → record { front = w′; marks = b′; order = o′; run = r′ } ≡ taken t w b o r e
   stepped-is c n h i f p x =
       rw (q, h, x, f, ap (λ y. y .marks) p, ap (λ y. y .order) p, ap (λ y. y .leaves) p, i, is)

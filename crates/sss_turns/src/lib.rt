@@ -37,11 +37,12 @@ pub struct Update {
     pub content: Content,
 }
 
-// Evaluated leaves, replacements, and how many leaves may be evaluated.
+// Evaluated leaves, replacements, how many leaves may be evaluated, and the node whose state was replaced last.
 pub struct Counts {
     pub leaves: usize,
     pub replacements: usize,
     pub allowance: usize,
+    pub replaced: usize,
 }
 
 // Whether a run goes on, has taken the SOLVED root, or has taken a leaf's state that its allowance does not cover; at
@@ -101,6 +102,7 @@ pub fn next(
         leaves: replacement.leaves,
         replacements: counts.replacements + 1,
         allowance: counts.allowance,
+        replaced: run.best,
     };
     let change = replacement.change;
     replacing(table, positions, front, change, merit, counts)

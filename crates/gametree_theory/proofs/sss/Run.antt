@@ -21,7 +21,7 @@ use Rattle.gametree_theory.proofs.sss.Simulation.{sim}
 use Rattle.gametree_theory.proofs.sss.Around.{AroundTree, takes}
 
 -- a list that holds the tree's states and nothing else
-alone : (γ : ℕ) (t : Tree) → AroundTree t γ t [] []
+pub alone : (γ : ℕ) (t : Tree) → AroundTree t γ t [] []
 alone γ t = record { less = tt; noMore = tt; behind = tt; clearLeft = tt; clearRight = tt }
 
 -- STEP 8. THE NEXT TEST IS THE ROOT'S HIGH

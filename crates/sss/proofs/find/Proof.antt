@@ -22,7 +22,7 @@ clearing c = c .before .before .before .before .before .before
 
 -- the run, from the merit at its end on
 abbrev run : tie.After-end-merit → tie.After-drive-own
-run c = c .before .before .before .before .before .before .before .before
+run c = c .before .before .before .before .before .before
 
 -- the marks after the clearing
 cleared : (c : tie.After-clear)
@@ -42,28 +42,24 @@ drive-own-requires c κs =
     (omega (arith, wf .atMost, length-replicate {A = State} maxNodes blank)) (p .1 .0) (p .1 .1) (zeros-sound t wf) _
     (p .0 .1))
 
-found-requires : tie.Need-found-requires
-found-requires c κs =
+found-alone-requires : tie.Need-found-alone-requires
+found-alone-requires c κs =
     let d = run c in
     let k = clearing d in
     let p = start k .pre in
     let b = d .before .before .before in
-    rw (c .end-merit .ensures) (
-      p .0 .1,
-      own-asks _ (p .0 .0) _ _ _ _ (cleared k) (b .begun .ensures) (d .drive-own .ensures) (p .1 .0),
-    )
+    rw (c .end-merit .ensures)
+    (own-asks _ (p .0 .0) _ _ _ _ (cleared k) (b .begun .ensures) (d .drive-own .ensures) (p .1 .0) .merit)
 
 returns : tie.Need-returns
 returns c =
-    let f = c .before .before .before in
-    let d = run (f .before) in
+    let d = run (c .before) in
     let k = clearing d in
     let b = d .before .before .before in
-    let e = f .found .ensures in
     let g = own-gives _ (start k .pre .0 .0) _ _ _ _ (cleared k) (b .begun .ensures) (d .drive-own .ensures) in
-    ((rw (f .before .end-merit .ensures) at (e .0)) ∙ g .0, (e .1 .0 ∙ g .1 .0, g .1 .1))
+    ((rw (c .before .end-merit .ensures) at (c .found-alone .ensures)) ∙ g .0, g .1)
 
 pub find-spec : {M : Type 1} → statement M
 find-spec =
     tie.close (tie.spec (λ c κs. search needs) (λ c κs. search needs) (λ c κs. search needs) drive-own-requires
-    (λ c. search needs) (λ c κs. search needs) found-requires (λ c. search needs) (λ c. search needs) returns)
+    (λ c κs. search needs) found-alone-requires (λ c. search needs) (λ c. search needs) returns)

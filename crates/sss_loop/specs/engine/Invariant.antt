@@ -6,6 +6,7 @@ use mathlib.Core.List.{List, _++_}
 use lib.ListN.{length, drop, replicate}
 use Rattle.gametree.specs.Tree.{greatest}
 use Rattle.gametree.specs.Sss as theory
+use Rattle.gametree.specs.Move.{rootMove}
 use Rattle.frames.specs.Frame.{frames}
 use Rattle.frames.specs.Tree.{tree, valuation}
 use Rattle.positions.specs.Buffer.{written}
@@ -27,6 +28,11 @@ allowedRun a t = sssWithin a (valuation t) (tree t)
 -- after k replacements that evaluated the leaves v, SSS* has the list L
 abbrev pub Reaches : List ℕ → ℕ → List ℕ → List theory.State → Type 0
 Reaches t k v L = theory.ListAfter (valuation t) (tree t) k v L
+
+-- where the root is taken SOLVED after k replacements, node i, whose state was replaced last, is the root move
+abbrev pub Moves : List ℕ → (k i : ℕ) → Type 0
+Moves t k i = (v : List ℕ) (L : List theory.State) (x : ℕ) → Reaches t k v L
+    → theory.step (valuation t) (tree t) L ≡ theory.stop x → i ≡ rootMove (valuation t) (tree t)
 
 -- the list ls and the front w show a list that SSS* reaches, and node i is the one to take, with merit γ
 pub record Keeps (t : List ℕ) (ls : List State) (w : List ℕ) (γ i k : ℕ) (v : List ℕ) : Type 0 where
@@ -67,5 +73,6 @@ pub record Running (a : ℕ) (t : List ℕ) (l : List State) (b o : List ℕ) (c
   pub allowance : c .run .counts .allowance ≡ a
   pub allowed : length evaluated ≤ a
   pub sound : Sound t (c .front)
+  pub moves : Moves t (c .run .counts .replacements) (c .run .counts .replaced)
   pub stands :
       Stands (c .run .stage) a t (c .list) (c .front) (c .run .best) (c .run .counts .replacements) evaluated

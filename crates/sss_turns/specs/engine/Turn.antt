@@ -41,9 +41,9 @@ evaluatedBy (suc n) s i = []
 abbrev pub newLeaves : List ℕ → State → List ℕ
 newLeaves t e = evaluatedBy (childCount t (e .node)) (e .status) (e .node)
 
--- the counts after a replacement, with which n leaves are evaluated
-abbrev pub recounted : (n : ℕ) → Counts → Counts
-recounted n k = record { leaves = n; replacements = k .replacements + 1; allowance = k .allowance }
+-- the counts after a replacement of node i's state, with which n leaves are evaluated
+abbrev pub recounted : (n i : ℕ) → Counts → Counts
+recounted n i k = record { leaves = n; replacements = k .replacements + 1; allowance = k .allowance; replaced = i }
 
 -- is a state of a node with n children, with this status, that of a LIVE leaf?
 abbrev pub isLiveLeaf : ℕ → Status → Bool
@@ -92,7 +92,7 @@ stepped t front marks order r e =
       front = settledFront t γ c front .front;
       marks = p .marks;
       order = p .order;
-      run = replacedRun t front c γ (recounted (p .leaves) (r .counts));
+      run = replacedRun t front c γ (recounted (p .leaves) (r .best) (r .counts));
     }
 
 -- the state e is taken
