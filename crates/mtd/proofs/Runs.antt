@@ -4,6 +4,7 @@ use native.Mathlib.Omega.{arith}
 use mathlib.Core.Path.{_≡_, refl, sym, ap, ap₂, _∙_, subst}
 use mathlib.Core.Bool.{true, false}
 use mathlib.Core.List.{List, [], _++_, append-assoc}
+use lib.Dec.{eqb}
 use lib.ListN.{getD}
 use Rattle.gametree.specs.Tree.{Tree, greatest}
 use Rattle.gametree.specs.Mtd.{MtdRun, mtd}
@@ -30,7 +31,8 @@ use Rattle.certificate_flags.proofs.Chosen.{first-same}
 use Rattle.mtd_memory.specs.declared.Tried.{Tried}
 use Rattle.mtd_memory.specs.engine.Memory.{Memory, progressOf, memoOf, passOf, MemoryRoom, HighsRight}
 use Rattle.mtd_memory.specs.engine.Memory.{firstHigh, Counted, VisitReady, Evaluated, Passed, Fresh}
-use Rattle.mtd_memory.proofs.Arrays.{Long, room-kept, evaluated-none, evaluated-more}
+use Rattle.mtd_memory.specs.engine.Memory.{SkipsRight}
+use Rattle.mtd_memory.proofs.Arrays.{Long, room-kept, evaluated-none, evaluated-more, no-skips}
 
 -- where the highs are right, the first of the root's children whose high is the root's is the one that the marks give
 pub move-right : (t : List ℕ) → WellFormed t → (m : Memory) → HighsRight t m (tree t)
@@ -53,6 +55,7 @@ pub record Passing (t : List ℕ) (q : MtdRun) (m m′ : Memory) (test passes : 
   pub long : Long m m′
   pub counted : Counted t m′
   pub right : HighsRight t m′ (tree t)
+  pub skips : SkipsRight t m′ (tree t)
   pub kept : Kept (valuation t) test (tree t) (memoOf m′ (tree t))
   pub atMost : passes + test ≤ greatest
   pub spare : ℕ
@@ -68,7 +71,7 @@ passing-from : (t : List ℕ) (m : Memory) → Fresh t m → (f : ℕ) → great
     → Passing t (withoutMemo (tree t) (run (valuation t) (suc f) greatest (tree t) (fresh (tree t)))) m m greatest 0
 passing-from t m h f l =
     let bits : (p : ℕ) → p < frames t → (marked (m .evaluated) p ≡ false) × (marked (m .notBelow) p ≡ false) =
-    λ p x. (h .evaluated p x, h .notBelow p x) in
+    λ p x. (h .evaluated p x, ap (λ x. eqb x 1) (h .notBelow p x)) in
     let inside = tree-range t (h .formed) in
     let start = read-fresh _ _ (tree t) (λ p i. bits p (inside 0 (h .formed .nonEmpty) p i .1)) in
     record {
@@ -80,6 +83,8 @@ passing-from t m h f l =
           h .highs k own
           ∙ sym (sym (read-high (valuation t) (marked (m .evaluated)) (marked (m .notBelow)) (treeAt t k))
           ∙ ap (memoHigh (valuation t) (treeAt t k)) at-start ∙ fresh-memoHigh (valuation t) (treeAt t k));
+      skips = λ k i.
+          no-skips t m k (omega (arith, h .notBelow k (inside 0 (h .formed .nonEmpty) k i .1)));
       kept = subst (Kept (valuation t) greatest (tree t)) (sym start) (fresh-kept (valuation t) greatest (tree t));
       atMost = omega arith;
       spare = f;
@@ -124,6 +129,7 @@ module _ {t : List ℕ} {q : MtdRun} {m m′ : Memory} {test passes : ℕ} (wf :
         room = room-kept room (u .long);
         counted = u .counted;
         right = u .right;
+        skips = u .skips;
       }
 
   module _ {m″ : Memory} {r : Tried} (p : Passed t (tree t) test m′ m″ r) where
@@ -169,6 +175,7 @@ module _ {t : List ℕ} {q : MtdRun} {m m′ : Memory} {test passes : ℕ} (wf :
             long = long;
             counted = p .counted;
             right = p .right;
+            skips = p .skips;
             kept =
                 subst (Kept (valuation t) (getD (m″ .highs) 0 0) (tree t)) (sym (p .memo .got))
                 (kept-lower (valuation t) (tree t) _ (omega (arith, next-falls)) (next-sound .kept));

@@ -5,7 +5,6 @@ use native.Mathlib.Omega.{arith}
 use mathlib.Core.Path.{_≡_, refl, sym, ap, ap₂, _∙_, subst}
 use mathlib.Core.Bool.{false}
 use mathlib.Core.List.{List}
-use lib.Dec.{eqb}
 use lib.ListN.{length, replicate, length-replicate, getD-replicate}
 use lib.IntN.{ℤ}
 use Rattle.lists.specs.Lists.{among}
@@ -57,7 +56,7 @@ module _ (t : List ℕ) (wf : WellFormed t) where
             };
         leaves = refl;
         evaluated = unmarked;
-        notBelow = λ k l. ap (λ x. eqb x 1) (getD-replicate m k 0 0 (omega arith));
+        notBelow = λ k l. getD-replicate m k 0 0 (omega arith);
         highs = λ k l. getD-replicate m k greatest 0 (omega arith);
       }
 

@@ -23,6 +23,7 @@ use mtd_memory::last_tried;
 use mtd_memory::look;
 use mtd_memory::next_tried;
 use mtd_memory::remember;
+use mtd_memory::skipped;
 ghost use mathlib.Core.Path.{_≡_};
 ghost use Prim.Native.Nat.{_<_, _≤_};
 ghost use lib.ListN.{length, getD};
@@ -224,8 +225,8 @@ fn visit(
     }
 }
 
-// A pass at an open node: its children are tried from the left, and entered only where they are open; the node keeps
-// their answer and the best of their highs.
+// A pass at an open node: its children are tried from the left, those that it skips left out, and entered only where
+// they are open; the node keeps their answer and the best of their highs.
 fn enter(
     table: &[u8],
     evaluated: &mut [u8],
@@ -249,7 +250,7 @@ fn enter(
     let side = position.side;
     let first = first_child(table, node);
     let end = first + child_count(table, node);
-    let mut child = first;
+    let mut child = first + skipped(not_below, node);
     let answer = loop {
         child = next_tried(side, highs, child, end, test);
         if child == end {
@@ -286,6 +287,6 @@ fn enter(
             break tried.answer;
         }
     };
-    remember(highs, not_below, node, first, end, side, answer);
+    remember(highs, not_below, node, first, child, end, side, answer);
     Tried { answer, leaves }
 }

@@ -1,5 +1,5 @@
 -- Marks, flags and highs in arrays of numbers: what is stored and read, and the bounds that the marks give.
-use Prim.Native.Nat.{ℕ, suc, _+_, _<_}
+use Prim.Native.Nat.{ℕ, suc, _+_, _≤_, _<_}
 use native.Mathlib.Omega.{arith}
 use mathlib.Core.Path.{_≡_, refl, sym, ap, ap₂, _∙_}
 use mathlib.Core.Logic.{inl, inr}
@@ -16,11 +16,39 @@ use Rattle.gametree.specs.engine.MemoArrays.{Bits}
 use Rattle.certificate_bounds.specs.Marks.{marked}
 use Rattle.certificate_bounds.specs.engine.Progress.{progress, evaluateAll}
 use Rattle.certificate_bounds.proofs.Listing.{none-evaluated, one-evaluated, evaluateAll-append}
-use Rattle.mtd_memory.specs.engine.Memory.{Memory, progressOf, MemoryRoom, Evaluated}
+use Rattle.frames.specs.Frame.{firstChild}
+use Rattle.mtd_memory.specs.engine.Memory.{Memory, progressOf, MemoryRoom, Evaluated, skipAt, Settled, Skips}
 
 -- what stands there already is stored
 pub set-same : (l : List ℕ) (i v : ℕ) → getD l i 0 ≡ v → set l i v ≡ l
 set-same l i v e = ap (set l i) (sym e) ∙ set-getD l i 0
+
+-- a node that skips no child
+pub no-skips : (t : List ℕ) (m : Memory) (k : ℕ) → skipAt (m .notBelow) k ≡ 0 → Skips t m k
+no-skips t m k e =
+    record {
+      mover = λ h. absurd (omega (arith, e));
+      few = λ h. absurd (omega (arith, e));
+      settled = λ j a b. absurd (omega (arith, e));
+    }
+
+-- what is settled stays so where the entries are the same
+pub settled-same : {t : List ℕ} {m m′ : Memory} {j : ℕ} → marked (m′ .evaluated) j ≡ marked (m .evaluated) j
+    → marked (m′ .notBelow) j ≡ marked (m .notBelow) j → Settled t m j → Settled t m′ j
+settled-same e f s = record { leaf-is = λ n. e ∙ s .leaf-is n; inner-is = λ n. f ∙ s .inner-is n }
+
+-- and so do the children to skip
+pub skips-same : {t : List ℕ} {m m′ : Memory} {k : ℕ} → getD (m′ .notBelow) k 0 ≡ getD (m .notBelow) k 0
+    → ((j : ℕ) → firstChild t k ≤ j → j < firstChild t k + skipAt (m .notBelow) k
+    → (marked (m′ .evaluated) j ≡ marked (m .evaluated) j) × (marked (m′ .notBelow) j ≡ marked (m .notBelow) j))
+    → Skips t m k → Skips t m′ k
+skips-same e f s =
+    record {
+      mover = λ h. s .mover (omega (arith, e));
+      few = λ h. omega (arith, e, s .few (omega (arith, e)));
+      settled = λ j a b.
+          let x = f j a (omega (arith, e)) in settled-same (x .0) (x .1) (s .settled j a (omega (arith, e)));
+    }
 
 -- a flag that is stored is read
 pub marked-same : (l : List ℕ) (i : ℕ) (b : Bool) → i < length l → marked (set l i (cond b 1 0)) i ≡ b

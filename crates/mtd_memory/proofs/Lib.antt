@@ -1,5 +1,6 @@
 -- Arrays and the memory that they hold, the child loop, and a pass at a node.
 pub mod Arrays
+pub mod Answers
 pub mod Children
 pub mod Passes
 pub mod Turns

@@ -2,16 +2,19 @@
 -- next of them.
 use Prim.Native.Nat.{ℕ, suc, _+_, _-_, _≤_, _<_}
 use native.Mathlib.Omega.{arith}
-use native.Mathlib.Decide.{ℕ-discrete}
+use native.Mathlib.Nat.{le-refl}
+use native.Mathlib.Decide.{ℕ-discrete, decLt}
 use mathlib.Core.Path.{_≡_, refl, sym, ap, ap₂, _∙_, subst}
 use mathlib.Core.Bool.{Bool, true, false, _||_}
 use mathlib.Core.List.{List}
 use lib.Dec.{eqb}
 use lib.ListN.{getD}
-use borrow.Author.Tests.{eqb-false, ne-eqb}
+use borrow.Author.Tests.{eqb-false, ne-eqb, not-false}
 use Rattle.gametree.specs.declared.Position.{Position}
 use Rattle.gametree.specs.declared.Side.{Side}
-use Rattle.gametree.specs.Tree.{inner, Children, last, _then_, greatest, In, InChildren}
+use Rattle.gametree.specs.declared.Side.the-variants.{Min}
+use Rattle.gametree.specs.Tree.{inner, Children, last, _then_, greatest, minimax, In, InChildren}
+use Rattle.gametree.specs.Bounds.{known}
 use Rattle.gametree.specs.Mtd.{settles}
 use Rattle.lists.proofs.Choice.{or-false-both}
 use Rattle.frames.specs.Frame.{frames, firstChild, childCount}
@@ -21,10 +24,15 @@ use Rattle.frames.specs.Formed.{WellFormed, ChildOf}
 use Rattle.frames.proofs.Next.{child-within, children-within}
 use Rattle.frames.proofs.Positions.{position-child}
 use Rattle.frames.proofs.Trees.{in-kids, kids-in, tree-inner}
-use Rattle.frames.proofs.Nodes.{in-parent, in-trans, children-apart}
+use Rattle.frames.proofs.Nodes.{in-own, in-parent, in-trans, tree-range, children-apart}
+use Rattle.certificate_bounds.specs.Marks.{marked}
+use Rattle.certificate_bounds.specs.engine.Ranges.{bestIn}
+use Rattle.certificate_bounds.proofs.Bounds.{minimax-best}
 use Rattle.mtd_memory.specs.declared.Tried.{Tried}
 use Rattle.mtd_memory.specs.engine.Memory.{Memory, HighsRight, Counted, VisitReady, Passed}
-use Rattle.mtd_memory.proofs.Arrays.{bound-local, Long, room-kept}
+use Rattle.mtd_memory.specs.engine.Memory.{Settled, SkipsRight}
+use Rattle.mtd_memory.proofs.Arrays.{bound-local, Long, room-kept, settled-same, skips-same}
+use Rattle.mtd_memory.proofs.Answers.{tried-high, tried-settled, best-least, best-is}
 use Rattle.mtd_memory.proofs.Children.{PassedChildren, Remainder, remainder-all, remainder-last}
 use Rattle.mtd_memory.proofs.Children.{remainder-settled}
 use Rattle.mtd_memory.proofs.Children.{remainder-rest}
@@ -37,6 +45,9 @@ childrenUpTo t i end = childrenFrom (treeAt t) i (end - (i + 1))
 pub record Highs (t : List ℕ) (first end : ℕ) (m m′ : Memory) : Type 0 where
   pub right : (k : ℕ) → first ≤ k → k < end → HighsRight t m′ (treeAt t k)
   pub others : (k : ℕ) → (InChildren k (childrenUpTo t first end) → ⊥) → getD (m′ .highs) k 0 ≡ getD (m .highs) k 0
+  pub skips : (k : ℕ) → first ≤ k → k < end → SkipsRight t m′ (treeAt t k)
+  pub flags : (k : ℕ) → (InChildren k (childrenUpTo t first end) → ⊥)
+      → getD (m′ .notBelow) k 0 ≡ getD (m .notBelow) k 0
 
 -- the head of the loop: the children before `now` have been tried
 pub record PassLoop (t : List ℕ) (s : Side) (γ first end : ℕ) (m m′ : Memory) (now : ℕ) : Type 0 where
@@ -46,11 +57,23 @@ pub record PassLoop (t : List ℕ) (s : Side) (γ first end : ℕ) (m m′ : Mem
   pub counted : Counted t m′
   pub remainder : Remainder t γ s (childrenUpTo t first end) (childrenUpTo t now end) m m′
   pub highs : Highs t first end m m′
+  -- of a Min node the children that are left have their highs at the test or above
+  pub ahead : s ≡ Min → (j : ℕ) → now ≤ j → j < end → γ ≤ getD (m′ .highs) j 0
+  -- and so have those before, which are settled
+  pub elders : s ≡ Min → (j : ℕ) → first ≤ j → j < now → Settled t m′ j × (γ ≤ getD (m′ .highs) j 0)
 
--- after the loop: the children's answer is b
-pub record Left (t : List ℕ) (s : Side) (γ first end : ℕ) (m m′ : Memory) (b : Bool) : Type 0 where
+-- of a Min node that is below the child before `child` has the least high, and the children before it are settled
+pub record Down (t : List ℕ) (first end child : ℕ) (m′ : Memory) : Type 0 where
+  pub from : first < child
+  pub to : child ≤ end
+  pub settled : (j : ℕ) → first ≤ j → j + 1 < child → Settled t m′ j
+  pub best : bestIn Min (λ k. getD (m′ .highs) k 0) first (end - (first + 1)) ≡ getD (m′ .highs) (child - 1) 0
+
+-- after the loop: the children's answer is b, and `child` comes after the last one tried
+pub record Left (t : List ℕ) (s : Side) (γ first end : ℕ) (m m′ : Memory) (child : ℕ) (b : Bool) : Type 0 where
   pub passed : PassedChildren t γ s (childrenUpTo t first end) m m′ b
   pub highs : Highs t first end m m′
+  pub down : s ≡ Min → b ≡ false → Down t first end child m′
 
 -- the first of the children left, alone or with younger siblings
 pub kids-last : (t : List ℕ) (i end : ℕ) → i + 1 ≡ end → childrenUpTo t i end ≡ last (treeAt t i)
@@ -91,10 +114,28 @@ module _ {t : List ℕ} {i first end : ℕ} (family : Family t i first end) wher
   family-within some =
       omega (arith, children-within t wf i inside (omega (arith, family .to)), family .from, family .to)
 
+  -- a Min node's high is at most that of each child
+  kid-above : {m : Memory} {p : Position} → VisitReady t m i p → first < end → p .side ≡ Min → (j : ℕ) → first ≤ j
+      → j < end → getD (m .highs) i 0 ≤ getD (m .highs) j 0
+  kid-above {m} {p} ready some e j a b =
+      let n = end - (first + 1) in
+      let μ = known (valuation t) (marked (m .evaluated)) greatest in
+      let c = child j a b in
+      let x : getD (m .highs) i 0 ≡ bestIn Min (λ k. minimax μ (treeAt t k)) first n =
+      ready .right i (in-own t wf i)
+      ∙ ap (minimax μ) (tree-kids Min (sym e ∙ ap (λ p. p .side) (ready .positioned)) some)
+      ∙ minimax-best μ Min (treeAt t) first n in
+      omega (
+        arith,
+        x,
+        best-least (λ k. minimax μ (treeAt t k)) first n j a (omega arith),
+        ready .right j (in-parent t wf inside c j (in-own t wf j)),
+      )
+
   -- before the first child
-  pub turn-first : {γ : ℕ} {m : Memory} {p : Position} → VisitReady t m i p → first < end
+  pub turn-first : {γ : ℕ} {m : Memory} {p : Position} → VisitReady t m i p → first < end → γ ≤ getD (m .highs) i 0
       → PassLoop t (p .side) γ first end m m first
-  turn-first {γ} {m} {p} ready some =
+  turn-first {γ} {m} {p} ready some high =
       record {
         from = omega arith;
         to = some;
@@ -105,7 +146,11 @@ module _ {t : List ℕ} {i first end : ℕ} (family : Family t i first end) wher
             record {
               right = λ k a b j x. ready .right j (in-parent t wf inside (child k a b) j x);
               others = λ k x. refl;
+              skips = λ k a b j x. ready .skips j (in-parent t wf inside (child k a b) j x);
+              flags = λ k x. refl;
             };
+        ahead = λ e j a b. omega (arith, kid-above ready some e j a b);
+        elders = λ e j a b. absurd (omega arith);
       }
 
   -- the next child
@@ -125,6 +170,7 @@ module _ {t : List ℕ} {i first end : ℕ} (family : Family t i first end) wher
         room = room-kept (r .room) (u .long);
         counted = u .counted;
         right = u .highs .right now (u .from) (u .to);
+        skips = u .highs .skips now (u .from) (u .to);
       }
 
   module _ {s : Side} {γ : ℕ} {m m′ m″ : Memory} {now : ℕ} {r : Tried} (u : PassLoop t s γ first end m m′ now)
@@ -144,6 +190,48 @@ module _ {t : List ℕ} {i first end : ℕ} (family : Family t i first end) wher
               (λ q y. sym (p .memo .elsewhere q (out q (below q x y)) .0)))
         ]
 
+    still-skips : (k : ℕ) → first ≤ k → k < end → SkipsRight t m″ (treeAt t k)
+    still-skips k a b =
+        elim (ℕ-discrete k now) [
+          | yes e ↦ rw e (p .skips)
+          | no e ↦ (λ j x.
+              let c = child-within t wf inside (child k a b) in
+              let out : (q : ℕ) → In q (treeAt t k) → In q (treeAt t now) → ⊥ = λ q y z.
+              e (children-apart t wf inside (child k a b) (turn-child u) q y z)
+              in
+              let s = u .highs .skips k a b j x in
+              skips-same (p .flags j (out j x)) (λ q g h.
+              let o : ChildOf t j q = record { from = g; to = omega (arith, s .few (omega arith)) } in
+              p .memo .elsewhere q (out q (in-trans t wf k c j q x
+              (in-parent t wf (tree-range t wf k c j x .1) o q (in-own t wf q))))) s)
+        ]
+
+    -- another child is not of this one's tree
+    apart : (j : ℕ) → first ≤ j → j < end → (j ≡ now → ⊥) → In j (treeAt t now) → ⊥
+    apart j a b e x = e (children-apart t wf inside (child j a b) (turn-child u) j (in-own t wf j) x)
+
+    -- what holds of the elder siblings holds still
+    elders-still : s ≡ Min → (j : ℕ) → first ≤ j → j < now → Settled t m″ j × (γ ≤ getD (m″ .highs) j 0)
+    elders-still e j a b =
+        let o = u .to in
+        let x = apart j a (omega arith) (λ z. omega (arith, z)) in
+        let y = u .elders e j a b in
+        let z = p .memo .elsewhere j x in
+        (settled-same (z .0) (z .1) (y .0), omega (arith, y .1, p .others j x))
+
+    -- and of the younger ones
+    ahead-still : s ≡ Min → (j : ℕ) → now < j → j < end → γ ≤ getD (m″ .highs) j 0
+    ahead-still e j a b =
+        let o = u .from in
+        omega (
+          arith,
+          u .ahead e j (omega arith) b,
+          p .others j (apart j (omega arith) b (λ z. omega (arith, z))),
+        )
+
+    inside-now : now < frames t
+    inside-now = child-within t wf inside (turn-child u)
+
     still : Highs t first end m m″
     still =
         record {
@@ -151,6 +239,10 @@ module _ {t : List ℕ} {i first end : ℕ} (family : Family t i first end) wher
           others = λ k x.
               let own = kids-in (treeAt t) first (end - (first + 1)) k now (u .from) (omega (arith, u .to)) in
               p .others k (λ y. x (own y)) ∙ u .highs .others k x;
+          skips = still-skips;
+          flags = λ k x.
+              let own = kids-in (treeAt t) first (end - (first + 1)) k now (u .from) (omega (arith, u .to)) in
+              p .flags k (λ y. x (own y)) ∙ u .highs .flags k x;
         }
 
     module _ (more : now + 1 < end) where
@@ -179,11 +271,19 @@ module _ {t : List ℕ} {i first end : ℕ} (family : Family t i first end) wher
           counted = p .counted;
           remainder = remainder-rest p (younger-apart more) (remainder-more more) (b .1);
           highs = still;
+          ahead = λ z j c d. ahead-still z j (omega arith) d;
+          elders = λ z j c d.
+              elim (ℕ-discrete j now) [
+                | yes g ↦ (let a : r .answer ≡ true =
+                    not-false (r .answer) (ap (λ x. settles x (r .answer)) (sym z) ∙ b .1) in
+                    rw g (tried-settled wf inside-now p a, tried-high wf inside-now p .above a))
+                | no g ↦ elders-still z j c (omega arith)
+              ];
         }
 
     -- after the last one tried
     pub turn-last : eqb (now + 1) end || settles s (r .answer) ≡ true
-        → Left t s γ first end m m″ (r .answer)
+        → Left t s γ first end m m″ (now + 1) (r .answer)
     turn-last e =
         record {
           passed =
@@ -196,4 +296,22 @@ module _ {t : List ℕ} {i first end : ℕ} (family : Family t i first end) wher
                     remainder-settled p (younger-apart more) (remainder-more more) (rw (ne-eqb _ _ z) at e))
               ];
           highs = still;
+          down = λ z a.
+              let low = tried-high wf inside-now p .below a in
+              let o = u .to in
+              let same : now + 1 - 1 ≡ now = omega arith in
+              record {
+                from = omega (arith, u .from);
+                to = omega arith;
+                settled = λ j c d. elders-still z j c (omega arith) .0;
+                best = rw same (best-is (λ k. getD (m″ .highs) k 0) first (end - (first + 1)) now (u .from)
+                    (omega arith)
+                    (λ k c d. elim (ℕ-discrete k now) [
+                      | yes g ↦ rw g (le-refl _)
+                      | no g ↦ elim (decLt k now) [
+                        | yes l ↦ omega (arith, elders-still z k c l .1)
+                        | no l ↦ omega (arith, ahead-still z k (omega arith) (omega arith))
+                      ]
+                    ]));
+              };
         }

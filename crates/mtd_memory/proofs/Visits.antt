@@ -1,33 +1,40 @@
 -- Visits of the table's nodes, in the terms of the code: a look at a node, a leaf, and each way out of an inner node.
-use Prim.Native.Nat.{ℕ, _+_, _-_, _≤_, _<_}
+use Prim.Native.Nat.{ℕ, zero, suc, _+_, _-_, _≤_, _<_}
 use native.Mathlib.Omega.{arith}
-use mathlib.Core.Path.{_≡_, sym, ap, _∙_, subst}
-use mathlib.Core.Bool.{true, false, cond}
+use mathlib.Core.Path.{_≡_, refl, sym, ap, _∙_, subst}
+use mathlib.Core.Bool.{Bool, true, false, cond}
 use mathlib.Core.List.{List, [], _∷_}
-use lib.Dec.{leb}
-use lib.ListN.{getD, set}
+use lib.Dec.{leb, eqb}
+use lib.ListN.{length, getD, set}
+use lib.Seq.{getD-set-same}
+use borrow.Author.Tests.{ne-eqb}
 use Rattle.gametree.specs.declared.Position.{Position}
+use Rattle.gametree.specs.declared.Side.{Side}
+use Rattle.gametree.specs.declared.Side.the-variants.{Max, Min}
 use Rattle.gametree.specs.Tree.{Tree, inner, greatest, minimax, Distinct}
 use Rattle.gametree.specs.Bounds.{known}
-use Rattle.frames.specs.Frame.{maxNodes, frames, childCount}
+use Rattle.frames.specs.Frame.{maxNodes, frames, firstChild, childCount}
+use Rattle.frames.specs.Position.{sideOf}
 use Rattle.frames.specs.Tree.{treeAt, valuation}
-use Rattle.frames.specs.Formed.{WellFormed}
+use Rattle.frames.specs.Formed.{WellFormed, ChildOf}
+use Rattle.frames.proofs.Next.{child-later, child-within}
 use Rattle.frames.proofs.Positions.{depth-at-most}
-use Rattle.frames.proofs.Trees.{in-kids, tree-leaf}
-use Rattle.frames.proofs.Nodes.{in-own, tree-distinct}
+use Rattle.frames.proofs.Trees.{zero-or-suc, in-kids, tree-leaf}
+use Rattle.frames.proofs.Nodes.{in-own, tree-distinct, tree-range}
 use Rattle.certificate_bounds.specs.Marks.{marked, ones}
 use Rattle.certificate_bounds.specs.engine.Progress.{progress, evaluateAll}
 use Rattle.certificate_bounds.specs.engine.Ranges.{bestIn}
 use Rattle.certificate_bounds.proofs.Bounds.{best-same, minimax-best}
+use Rattle.certificate_bounds.proofs.Marking.{marked-other}
 use Rattle.mtd_memory.specs.declared.Seen.{Seen}
 use Rattle.mtd_memory.specs.declared.Seen.the-variants.{Answered, Open}
 use Rattle.mtd_memory.specs.declared.Tried.{Tried}
 use Rattle.mtd_memory.specs.engine.Memory.{Memory, memory, progressOf, MemoryRoom, HighsRight, VisitReady}
 use Rattle.mtd_memory.specs.engine.Memory.{Enterable}
-use Rattle.mtd_memory.specs.engine.Memory.{Passed, Looked}
-use Rattle.mtd_memory.proofs.Arrays.{room-at}
+use Rattle.mtd_memory.specs.engine.Memory.{Passed, Looked, skipAt, skipEntry, keptEntry, Skips, SkipsRight}
+use Rattle.mtd_memory.proofs.Arrays.{room-at, no-skips, settled-same}
 use Rattle.mtd_memory.proofs.Passes.{leaf-passed, below-passed, not-below-passed, entered-passed}
-use Rattle.mtd_memory.proofs.Turns.{childrenUpTo, Left, Family, tree-kids}
+use Rattle.mtd_memory.proofs.Turns.{childrenUpTo, Down, Left, Family, child, tree-kids}
 
 -- a visit of the same tree
 passed-at : {t : List ℕ} {T U : Tree} {γ : ℕ} {m m′ : Memory} {r : Tried} → U ≡ T → Passed t T γ m m′ r
@@ -71,6 +78,18 @@ pub ready-shallow : {t : List ℕ} {m : Memory} {p : Position} {i : ℕ} → Vis
 ready-shallow {t} {m} {p} {i} r =
     omega (arith, depth-at-most t i, r .inside, r .formed .atMost, ap (λ p. p .depth) (r .positioned))
 
+-- the children that an entry says to skip
+skip-back : (n : ℕ) → skipEntry n - 1 ≡ n
+skip-back zero = refl
+skip-back (suc n) = omega arith
+
+-- and its answer
+flag-kept : (s : Side) (b : Bool) (n : ℕ) → eqb (keptEntry s b n) 1 ≡ b
+flag-kept s true n = refl
+flag-kept Max false n = refl
+flag-kept Min false zero = refl
+flag-kept Min false (suc n) = ne-eqb (suc (suc n)) 1 (λ e. omega (arith, e))
+
 -- a leaf
 module _ (t : List ℕ) (wf : WellFormed t) (i : ℕ) (inside : i < frames t) (none : childCount t i ≡ 0) (m : Memory) where
   -- an evaluated leaf's high is its score
@@ -82,48 +101,82 @@ module _ (t : List ℕ) (wf : WellFormed t) (i : ℕ) (inside : i < frames t) (n
       → r .answer ≡ leb γ (valuation t i)
       → progress (r .leaves) e o ≡ evaluateAll (progressOf m) (cond (marked (m .evaluated) i) [] (i ∷ []))
       → e ≡ set (m .evaluated) i 1 → h ≡ set (m .highs) i (valuation t i)
-      → r .leaves ≡ ones e (frames t)
+      → r .leaves ≡ ones e (frames t) → Skips t m i
       → Passed t (treeAt t i) γ m (memory (r .leaves) e o h (m .notBelow)) r
-  visit-leaf γ e o h r room a w p q c =
+  visit-leaf γ e o h r room a w p q c s =
       let is-leaf = tree-leaf t wf i inside none in
+      let z : skipAt (m .notBelow) i ≡ 0 =
+      zero-or-suc (skipAt (m .notBelow) i) (λ z. z) (λ n z. absurd (omega (arith, s .few (omega arith)))) in
       rw (p, q) (passed-at is-leaf (leaf-passed t i γ m (r .leaves) o r is-leaf (room-at room inside) a
-      (rw p at w) (rw p at c)))
+      (rw p at w) (rw p at c) z))
 
 -- an inner node
 module _ {t : List ℕ} {i first end : ℕ} (family : Family t i first end) {m : Memory} {p : Position}
     (ready : VisitReady t m i p) (some : first < end) where
+  child-of : (k : ℕ) → first ≤ k → k < end → ChildOf t i k
+  child-of k a b = child family k a b
+
   node-inner : treeAt t i ≡ inner i (p .side) (childrenUpTo t first end)
   node-inner = tree-kids family (p .side) (ap (λ p. p .side) (ready .positioned)) some
 
   right-inner : HighsRight t m (inner i (p .side) (childrenUpTo t first end))
   right-inner = subst (HighsRight t m) node-inner (ready .right)
 
+  skips-inner : SkipsRight t m (inner i (p .side) (childrenUpTo t first end))
+  skips-inner = subst (SkipsRight t m) node-inner (ready .skips)
+
   -- a node whose high is below the test is below
   pub visit-below : {γ : ℕ} {r : Tried} → r .answer ≡ false → getD (m .highs) i 0 < γ
       → Passed t (treeAt t i) γ m m r
   visit-below {γ} a h =
-      passed-at node-inner (below-passed t i γ m (p .side) _ node-inner right-inner _ (ready .counted) a h)
+      passed-at node-inner (below-passed t i γ m (p .side) _ node-inner right-inner skips-inner _ (ready .counted) a h)
 
   -- a node that a pass found not below is not below
   pub visit-not-below : {γ : ℕ} {r : Tried} → r .answer ≡ true → γ ≤ getD (m .highs) i 0
       → marked (m .notBelow) i ≡ true → Passed t (treeAt t i) γ m m r
   visit-not-below {γ} a h b =
-      passed-at node-inner (not-below-passed t i γ m (p .side) _ node-inner right-inner _ (ready .counted) a h b)
+      passed-at node-inner
+      (not-below-passed t i γ m (p .side) _ node-inner right-inner skips-inner _ (ready .counted) a h b)
+
+  -- what an entered node skips from then on
+  own-skips : (s : Side) → s ≡ sideOf t i → (b : Bool) (now : ℕ) {m′ m″ : Memory} (l : List ℕ) → i < length l
+      → (s ≡ Min → b ≡ false → Down t first end now m′)
+      → ((j : ℕ) → (j ≡ i → ⊥) → (marked (m″ .evaluated) j ≡ marked (m′ .evaluated) j)
+      × (marked (m″ .notBelow) j ≡ marked (m′ .notBelow) j))
+      → m″ .notBelow ≡ set l i (keptEntry s b (now - (first + 1))) → Skips t m″ i
+  own-skips s e true now {m″ = m″} l room d same is =
+      no-skips t m″ i (omega (arith, ap (λ x. getD x i 0) is, getD-set-same l i 1 0 room))
+  own-skips Max e false now {m″ = m″} l room d same is =
+      no-skips t m″ i (omega (arith, ap (λ x. getD x i 0) is, getD-set-same l i 0 0 room))
+  own-skips Min e false now {m″ = m″} l room d same is =
+      let x = d refl refl in
+      let n = now - (first + 1) in
+      let z : skipAt (m″ .notBelow) i ≡ n =
+      omega (arith, ap (λ x. getD x i 0) is, getD-set-same l i (skipEntry n) 0 room, skip-back n) in
+      let later : i < firstChild t i = family .formed .later i (family .inside) (omega (arith, family .to)) in
+      record {
+        mover = λ _. sym e;
+        few = λ _. omega (arith, z, x .from, x .to, family .to);
+        settled = λ j a b.
+            let y = same j (λ q. omega (arith, q)) in
+            settled-same (y .0) (y .1)
+            (x .settled j (omega (arith, family .from)) (omega (arith, z, family .from, x .from)));
+      }
 
   -- any other is entered, and gets the best of its children's highs and their answer
-  pub visit-entered : {γ v : ℕ} {m′ : Memory} {r : Tried} → γ ≤ getD (m .highs) i 0 → marked (m .notBelow) i ≡ false
-      → MemoryRoom (frames t) m′ → Left t (p .side) γ first end m m′ (r .answer)
+  pub visit-entered : {γ v now : ℕ} {m′ : Memory} {r : Tried} → γ ≤ getD (m .highs) i 0 → marked (m .notBelow) i ≡ false
+      → MemoryRoom (frames t) m′ → Left t (p .side) γ first end m m′ now (r .answer)
       → v ≡ bestIn (p .side) (λ k. getD (m′ .highs) k 0) first (end - (first + 1))
       → Passed t (treeAt t i) γ m
       (memory (m′ .leaves) (m′ .evaluated) (m′ .order) (set (m′ .highs) i v)
-      (set (m′ .notBelow) i (cond (r .answer) 1 0))) r
-  visit-entered {γ} {v} {m′} {r} h b room left best =
+      (set (m′ .notBelow) i (keptEntry (p .side) (r .answer) (now - (first + 1))))) r
+  visit-entered {γ} {v} {now} {m′} {r} h b room left best =
       let wf = family .formed in
       let n = end - (first + 1) in
       let μ = known (valuation t) (marked (m′ .evaluated)) greatest in
       let in-range : (k : ℕ) → k ≤ first + n → k < end = λ k x. omega arith in
       passed-at node-inner
-      (entered-passed t i γ m (p .side) _ node-inner right-inner m′ r v h b (room-at room (family .inside))
+      (entered-passed t i γ m (p .side) _ node-inner right-inner skips-inner m′ r v h b (room-at room (family .inside))
       (subst Distinct node-inner (tree-distinct t wf i (family .inside)) .0)
       (left .passed)
       (λ k x.
@@ -133,4 +186,19 @@ module _ {t : List ℕ} {i first end : ℕ} (family : Family t i first end) {m :
       (best
       ∙ best-same (p .side) _ (λ k. minimax μ (treeAt t k)) first n
       (λ k a b. left .highs .right k a (in-range k b) k (in-own t wf k))
-      ∙ sym (minimax-best μ (p .side) (treeAt t) first n)))
+      ∙ sym (minimax-best μ (p .side) (treeAt t) first n))
+      (keptEntry (p .side) (r .answer) (now - (first + 1))) (flag-kept (p .side) (r .answer) _)
+      (λ k x.
+      let j = in-kids (treeAt t) first n k x in
+      left .highs .skips (j .0) (j .1) (in-range (j .0) (j .2)) k (j .3))
+      (λ k j x c d e.
+      let y = in-kids (treeAt t) first n k x in
+      let o = child-of (y .0) (y .1) (in-range (y .0) (y .2)) in
+      let q = tree-range t wf (y .0) (child-within t wf (family .inside) o) k (y .3) in
+      let s = left .highs .skips (y .0) (y .1) (in-range (y .0) (y .2)) k (y .3) in
+      let l = wf .later k (q .1) (omega (arith, s .few (omega arith))) in
+      omega (arith, e, child-later t wf (family .inside) o, q .0, l))
+      (left .highs .flags)
+      (own-skips (p .side) (ap (λ p. p .side) (ready .positioned)) (r .answer) now (m′ .notBelow)
+      (omega (arith, room .notBelow, family .inside))
+      (left .down) (λ j e. (refl, marked-other (m′ .notBelow) i j _ e)) refl))

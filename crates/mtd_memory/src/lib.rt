@@ -7,7 +7,7 @@ use frames::child_count;
 use gametree::Position;
 use gametree::Side;
 ghost use mathlib.Core.Path.{_≡_};
-ghost use mathlib.Core.Bool.{true, cond, _||_};
+ghost use mathlib.Core.Bool.{true, false, cond, _||_};
 ghost use mathlib.Core.List.{[], _∷_};
 ghost use Prim.Native.Nat.{ℕ, _+_, _-_, _<_, _≤_};
 ghost use lib.Dec.{leb, eqb};
@@ -21,7 +21,7 @@ ghost use Rattle.certificate_bounds.specs.engine.Evaluable.{Evaluable};
 ghost use Rattle.certificate_bounds.specs.engine.Ranges.{bestIn};
 ghost use Rattle.certificate_bounds.specs.engine.Progress.{progress, evaluateAll, Listable};
 ghost use Rattle.mtd_memory.specs.engine.Memory.{memory, VisitReady, Looked};
-ghost use Rattle.mtd_memory.specs.engine.Memory.{PassedOver};
+ghost use Rattle.mtd_memory.specs.engine.Memory.{PassedOver, skipAt, skipEntry, keptEntry, Fallen};
 
 // What a node that was tried gives: the answer, true where the node is not below the test, and how many leaves are
 // evaluated by then.
@@ -104,25 +104,75 @@ pub fn first_not_below(highs: &[u32], from: usize, end: usize, test: u32) -> usi
     node
 }
 
-// A node keeps the best of its children's highs, and their answer.
+// How many leading children of a node are skipped, since a pass found them not below.
+pub fn skipped(not_below: &[u8], node: usize) -> usize
+    requires { ⌜ node < length (now «not_below») ⌝ }
+    ensures { λ r. ⌜ r ≡ skipAt (now («not_below» .entry)) node ⌝ }
+{
+    let entry = not_below[node];
+    if entry == 0 { 0 } else { (entry - 1) as usize }
+}
+
+// A node keeps the best of its children's highs, and their answer; `child` comes after the last child that was tried.
 pub fn remember(
     highs: &mut [u32],
     not_below: &mut [u8],
     node: usize,
     first: usize,
+    child: usize,
     end: usize,
     side: Side,
     answer: bool,
 )
     requires { ⌜ (first < end) × (end ≤ length (now highs)) ⌝ }
     requires { ⌜ (node < maxNodes) × (node < length (now highs)) × (node < length (now «not_below»)) ⌝ }
+    requires { ⌜ (side ≡ Side.Min → answer ≡ false → Fallen (now highs) first end child) ⌝ }
     ensures { λ _. ⌜ now (highs .exit) ≡ set (now (highs .entry)) node
         (bestIn side (λ k. getD (now (highs .entry)) k 0) first (end - (first + 1))) ⌝ }
-    ensures { λ _. ⌜ now («not_below» .exit) ≡ set (now («not_below» .entry)) node (cond answer 1 0) ⌝ }
+    ensures { λ _. ⌜ now («not_below» .exit) ≡ set (now («not_below» .entry)) node
+        (keptEntry side answer (child - (first + 1))) ⌝ }
 {
-    let high = best(highs, first, end, side);
+    let high = kept_high(highs, first, child, end, side, answer);
     highs[node] = high;
-    not_below[node] = not_below_entry(answer);
+    not_below[node] = kept_entry(first, child, side, answer);
+}
+
+// The best of the children's highs: at a Min node that is below it is that of the child found below.
+fn kept_high(highs: &[u32], first: usize, child: usize, end: usize, side: Side, answer: bool) -> u32
+    requires { ⌜ (first < end) × (end ≤ length (now highs)) ⌝ }
+    requires { ⌜ (side ≡ Side.Min → answer ≡ false → Fallen (now highs) first end child) ⌝ }
+    ensures { λ r. ⌜ r ≡ bestIn side (λ k. getD (now (highs .entry)) k 0) first (end - (first + 1)) ⌝ }
+{
+    if answer {
+        return best(highs, first, end, side);
+    }
+    match side {
+        Side::Max => best(highs, first, end, side),
+        Side::Min => highs[child - 1],
+    }
+}
+
+// The entry of `not_below`: 1 where the node is not below; at a Min node that is below the children before the one
+// found below are skipped from then on.
+fn kept_entry(first: usize, child: usize, side: Side, answer: bool) -> u8
+    requires { ⌜ (side ≡ Side.Min → answer ≡ false → (first < child) × (child ≤ first + 255)) ⌝ }
+    ensures { λ r. ⌜ r ≡ keptEntry side answer (child - (first + 1)) ⌝ }
+{
+    if answer {
+        return 1;
+    }
+    match side {
+        Side::Max => 0,
+        Side::Min => skip_entry(child - (first + 1)),
+    }
+}
+
+// The entry that says to skip so many children.
+fn skip_entry(count: usize) -> u8
+    requires { ⌜ count < 255 ⌝ }
+    ensures { λ r. ⌜ r ≡ skipEntry count ⌝ }
+{
+    if count == 0 { 0 } else { (count + 1) as u8 }
 }
 
 // A node that is not entered has its answer at once.
@@ -210,11 +260,4 @@ pub fn evaluate_leaf(
     let leaf = evaluate_next(table, evaluated, order, node, depth, leaves);
     highs[node] = leaf.score;
     leaf
-}
-
-// The entry of `not_below` for an answer: 1 where the node is not below.
-pub fn not_below_entry(answer: bool) -> u8
-    ensures { λ r. ⌜ r ≡ cond answer 1 0 ⌝ }
-{
-    if answer { 1 } else { 0 }
 }

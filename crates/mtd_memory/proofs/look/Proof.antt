@@ -6,6 +6,7 @@ use mathlib.Core.Bool.{true, false}
 use borrow.Author.Needs.{needs}
 use borrow.Author.Tests.{eq-eqb, ne-eqb}
 use Rattle.frames.specs.Frame.{childCount}
+use Rattle.frames.proofs.Nodes.{in-own}
 use Rattle.mtd_memory.specs.engine.Memory.{Memory, memory}
 use Rattle.mtd_memory.proofs.Visits.{looked-answer, ready-shallow, leaf-known, visit-leaf, visit-below}
 use Rattle.mtd_memory.proofs.Visits.{visit-not-below}
@@ -43,7 +44,7 @@ returns c =
     let l = v .visit-leaf .ensures in
     let none : childCount (a .args .table .now) (a .args .node) ≡ 0 = search needs in
     visit-leaf (a .args .table .now) (p .formed) (a .args .node) (p .inside) none (before a) (a .args .test) _ _ _ _
-    (p .room) (l .0) (l .1 .0) (l .1 .1 .0) (l .1 .1 .1 .0) (l .1 .1 .1 .1)
+    (p .room) (l .0) (l .1 .0) (l .1 .1 .0) (l .1 .1 .1 .0) (l .1 .1 .1 .1) (p .skips _ (in-own _ (p .formed) _))
 
 returns-2 : tie.Need-returns-2
 returns-2 c =

@@ -1,31 +1,32 @@
 -- MTD's memory as the engine keeps it, a count, the list of leaves and three arrays over the node numbers, and what a
 -- visit of a node asks of it and does to it.
-use Prim.Native.Nat.{ℕ, _≤_, _<_}
+use Prim.Native.Nat.{ℕ, zero, suc, _+_, _-_, _≤_, _<_}
 use mathlib.Core.Path.{_≡_}
-use mathlib.Core.Bool.{false}
+use mathlib.Core.Bool.{Bool, true, false}
 use mathlib.Core.List.{List}
 use lib.ListN.{length, getD}
 use Rattle.gametree.specs.declared.Position.{Position}
 use Rattle.gametree.specs.declared.Side.{Side}
-use Rattle.gametree.specs.declared.Side.the-variants.{Max}
+use Rattle.gametree.specs.declared.Side.the-variants.{Max, Min}
 use Rattle.gametree.specs.Tree.{Tree, greatest, In}
 use Rattle.gametree.specs.Bounds.{high}
 use Rattle.gametree.specs.engine.Memo.{Memo, Pass, pass}
 use Rattle.gametree.specs.engine.MemoArrays.{readMemo, Remembered}
-use Rattle.frames.specs.Frame.{frames, childCount}
-use Rattle.frames.specs.Position.{positionOf}
+use Rattle.frames.specs.Frame.{frames, firstChild, childCount}
+use Rattle.frames.specs.Position.{positionOf, sideOf}
 use Rattle.frames.specs.Tree.{treeAt, valuation}
 use Rattle.frames.specs.Formed.{WellFormed}
 use Rattle.certificate_bounds.specs.Marks.{marked, ones}
 use Rattle.certificate_bounds.specs.engine.Progress.{Progress, progress, evaluateAll}
 use Rattle.certificate_bounds.specs.engine.Bounds.{boundOf}
+use Rattle.certificate_bounds.specs.engine.Ranges.{bestIn}
 use Rattle.certificate_flags.specs.engine.Chosen.{firstEqual}
 use Rattle.mtd_memory.specs.declared.Seen.{Seen}
 use Rattle.mtd_memory.specs.declared.Seen.the-variants.{Answered, Open}
 use Rattle.mtd_memory.specs.declared.Tried.{Tried}
 
--- how many leaves are evaluated, their marks, the list of them, the high of each node, and a 1 for each inner node that
--- a pass found not below its test
+-- how many leaves are evaluated, their marks, the list of them, the high of each node, and an entry for each inner
+-- node: 1 where a pass found it not below its test, else 0, or one more than the number of its leading children to skip
 pub record Memory : Type 0 where
   pub leaves : ℕ
   pub evaluated : List ℕ
@@ -61,6 +62,42 @@ abbrev pub HighsRight : List ℕ → Memory → Tree → Type 0
 HighsRight t m T =
     (k : ℕ) → In k T → getD (m .highs) k 0 ≡ high (valuation t) (marked (m .evaluated)) (treeAt t k)
 
+-- the leading children that an entry says to skip: none by 0 and 1
+abbrev pub skipAt : List ℕ → ℕ → ℕ
+skipAt l k = getD l k 0 - 1
+
+-- the entry that says to skip n of them
+abbrev pub skipEntry : ℕ → ℕ
+skipEntry zero = 0
+skipEntry (suc n) = suc (suc n)
+
+-- the entry of a node with the answer b: below, a Min node skips the n children that came before the one found below
+abbrev pub keptEntry : Side → (b : Bool) → (n : ℕ) → ℕ
+keptEntry s true n = 1
+keptEntry Max false n = 0
+keptEntry Min false n = skipEntry n
+
+-- a leaf that is evaluated, or an inner node that a pass found not below
+pub record Settled (t : List ℕ) (m : Memory) (j : ℕ) : Type 0 where
+  pub leaf-is : childCount t j ≡ 0 → marked (m .evaluated) j ≡ true
+  pub inner-is : 0 < childCount t j → marked (m .notBelow) j ≡ true
+
+-- the leading children to skip are those of a Min node, not all of them, and settled
+pub record Skips (t : List ℕ) (m : Memory) (k : ℕ) : Type 0 where
+  pub mover : 0 < skipAt (m .notBelow) k → sideOf t k ≡ Min
+  pub few : 0 < skipAt (m .notBelow) k → skipAt (m .notBelow) k < childCount t k
+  pub settled : (j : ℕ) → firstChild t k ≤ j → j < firstChild t k + skipAt (m .notBelow) k → Settled t m j
+
+abbrev pub SkipsRight : List ℕ → Memory → Tree → Type 0
+SkipsRight t m T = (k : ℕ) → In k T → Skips t m k
+
+-- what is kept of a Min node that is below: the child before `child` was found below, and has the least high
+pub record Fallen (highs : List ℕ) (first end child : ℕ) : Type 0 where
+  pub from : first < child
+  pub to : child ≤ end
+  pub few : child ≤ first + 255
+  pub best : bestIn Min (λ k. getD highs k 0) first (end - (first + 1)) ≡ getD highs (child - 1) 0
+
 -- the count is the number of marks
 abbrev pub Counted : List ℕ → Memory → Type 0
 Counted t m = m .leaves ≡ ones (m .evaluated) (frames t)
@@ -73,6 +110,7 @@ pub record VisitReady (t : List ℕ) (m : Memory) (i : ℕ) (p : Position) : Typ
   pub room : MemoryRoom (frames t) m
   pub counted : Counted t m
   pub right : HighsRight t m (treeAt t i)
+  pub skips : SkipsRight t m (treeAt t i)
 
 -- node i is entered by the pass with the test γ: it has children, its high is not below the test, and no pass has found
 -- it not below
@@ -95,6 +133,8 @@ pub record Passed (t : List ℕ) (T : Tree) (γ : ℕ) (m m′ : Memory) (r : Tr
       (marked (m′ .notBelow))
   pub right : HighsRight t m′ T
   pub others : (k : ℕ) → (In k T → ⊥) → getD (m′ .highs) k 0 ≡ getD (m .highs) k 0
+  pub skips : SkipsRight t m′ T
+  pub flags : (k : ℕ) → (In k T → ⊥) → getD (m′ .notBelow) k 0 ≡ getD (m .notBelow) k 0
 
 -- what a look at node i does, which leaves the memory m′ with a count: the pass, where the node is answered; nothing,
 -- where it is to be entered
@@ -119,5 +159,5 @@ pub record Fresh (t : List ℕ) (m : Memory) : Type 0 where
   pub room : MemoryRoom (frames t) m
   pub leaves : m .leaves ≡ 0
   pub evaluated : (k : ℕ) → k < frames t → marked (m .evaluated) k ≡ false
-  pub notBelow : (k : ℕ) → k < frames t → marked (m .notBelow) k ≡ false
+  pub notBelow : (k : ℕ) → k < frames t → getD (m .notBelow) k 0 ≡ 0
   pub highs : (k : ℕ) → k < frames t → getD (m .highs) k 0 ≡ greatest
