@@ -40,7 +40,7 @@ use Rattle.file_reader.specs.File.{readOutcome}
 use Rattle.tables.proofs as tables
 use Rattle.frames.proofs as frames
 use Rattle.frames.specs.Check.{checked}
-use Rattle.frames.specs.Children.{childrenOf}
+use Rattle.frames.specs.Children.{childrenOf, childrenAt}
 use Rattle.file_hex.proofs as file_hex
 use Rattle.file_hex.specs.Digit.{digitOf}
 use Rattle.file_lines.proofs as file_lines
@@ -98,7 +98,7 @@ pub verify-check : Runs verify.check.ended verify.check.Symbol.routine
 verify-check = record { meets = verify.check.Met.met }
 
 pub frames-children : Runs frames.children.ended frames.children.Symbol.routine
-    (λ κs (t, (k, _)) r e. r .now ≡ childrenOf (t .now) k)
+    (λ κs (t, (k, _)) r e. (r .now ≡ childrenOf (t .now) k) × (r .ptr ≡ childrenAt (t .ptr) (t .now) k))
 frames-children = record { meets = frames.children.Met.met }
 
 -- files

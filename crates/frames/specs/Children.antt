@@ -12,3 +12,9 @@ unfoldable pub childrenOf : List ℕ → ℕ → List ℕ
 childrenOf t i =
     cond (ltb i (frames t) && leb (firstChild t i + childCount t i) (frames t))
     (take (frameSize * childCount t i) (drop (frameSize * firstChild t i) t)) []
+
+-- where they begin: at the first child's frame, and at the table's front where there are none to hand back
+unfoldable pub childrenAt : ℕ × ℕ → List ℕ → ℕ → ℕ × ℕ
+childrenAt p t i =
+    cond (ltb i (frames t) && leb (firstChild t i + childCount t i) (frames t))
+    (p .0, frameSize * firstChild t i + p .1) p

@@ -8,7 +8,7 @@ ghost use lib.IntN.{natAbs};
 ghost use Rattle.gametree.specs.Tree.{greatest, zeroScore};
 ghost use Rattle.frames.specs.Frame.{frameSize, maxNodes, frames, next as nextOf, twoBytes};
 ghost use Rattle.frames.specs.Frame.{byteOf, firstChild, childCount, byte3, valueBytes, storedScore};
-ghost use Rattle.frames.specs.Children.{childrenOf};
+ghost use Rattle.frames.specs.Children.{childrenOf, childrenAt};
 ghost use Rattle.frames.specs.Position.{childSide, childPosition};
 ghost use Rattle.frames.specs.Tree.{leafScore};
 ghost use Rattle.frames.specs.Value.{valueOf, scoreOf};
@@ -90,7 +90,8 @@ pub enum Checked {
 // The frames of a node's children, as a part of the table; empty on a leaf, past the last frame, and where it would
 // reach past the table.
 pub fn children(table: &[u8], node: usize) -> &[u8]
-    ensures { λ r. ⌜ now r ≡ childrenOf (now (table .entry)) node ⌝ }
+    ensures { λ r. ⌜ (now r ≡ childrenOf (now (table .entry)) node)
+        × (r .ptr ≡ childrenAt (table .entry .ptr) (now (table .entry)) node) ⌝ }
 {
     if frame_count(table) <= node {
         return &table[0..0];

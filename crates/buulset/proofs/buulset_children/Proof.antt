@@ -92,13 +92,13 @@ module _ (t : List ℕ) (i : ℕ) where
         (ap (λ (k : ℕ). record { first = k; count = length p / frameSize }) q ∙ some-children _ _ _ h same-count)
 
 returns : tie.Need-returns
-returns c = none _ _ _ (c .before .before .children .ensures) _ (c .no-children .ensures) (omega arith)
+returns c = none _ _ _ (c .before .before .children .ensures .0) _ (c .no-children .ensures) (omega arith)
 
 returns-2 : tie.Need-returns-2
 returns-2 c =
-    some _ _ _ (c .before .before .children .ensures) _ (c .first-child .ensures .0) (omega arith)
+    some _ _ _ (c .before .before .children .ensures .0) _ (c .first-child .ensures .0) (omega arith)
 
 pub buulset-children-spec : {M : Type 1} → statement M
 buulset-children-spec =
     tie.close (tie.spec (λ c κs. search needs) (λ c κs. search needs) returns
-    (λ c κs. among _ _ _ (c .before .children .ensures) (omega arith)) returns-2)
+    (λ c κs. among _ _ _ (c .before .children .ensures .0) (omega arith)) returns-2)
