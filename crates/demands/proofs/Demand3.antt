@@ -11,10 +11,13 @@ use lib.ListN.{length, drop, replicate}
 use Rattle.lists.specs.Lists.{Once, among, different}
 use Rattle.gametree.specs.Mtd as rule
 use Rattle.gametree.specs.Certificate.{Smallest}
+use Rattle.gametree.specs.results.Reason.{Reason}
 use Rattle.frames.specs.declared.Rejection.{Rejection}
 use Rattle.frames.specs.Frame.{frames}
 use Rattle.frames.specs.Tree.{tree, valuation}
 use Rattle.frames.specs.Check.{Accepted}
+use Rattle.frames.specs.results.Leaf.{Leaf}
+use Rattle.certificate_bounds.specs.Marks.{marked}
 use Rattle.certificate.specs.Search.{buffers}
 use Rattle.alphabeta.specs.Outcome.{reachedLeaves}
 use Rattle.mtd.proofs as mtd
@@ -39,6 +42,13 @@ reached-only = each-search _ (λ t c. calls.reached-only c)
 
 pub reached-most : EachSearch (λ t rule f _ _ _ _. f .leaves ≤ length (reachedLeaves t))
 reached-most = each-search _ (λ t c. calls.reached-most c)
+
+-- a leaf is passed over only for a reason: for each leaf of the table that is not marked 1 there are, beside the path
+-- to it, a child of a Max node and a child of a Min node, and by the bounds of the leaves that are marked 1 the low of
+-- the first is at least the high of the second
+pub passed-over : EachSearch (λ t rule f _ _ d _. (k : ℕ) → Leaf t k → (Marked t d k → ⊥)
+    → Reason (valuation t) (marked (d .marks)) (tree t) k)
+passed-over = each-search _ (λ t c. calls.passed-over c)
 
 -- "Neither values a leaf twice": among the leaves of the rule no number stands twice
 pub once : EachSearch (λ t rule f _ _ _ _. Once rule)

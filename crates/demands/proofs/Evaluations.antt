@@ -4,14 +4,18 @@ use Prim.Native.Nat.{ℕ, suc, _*_, _≤_, _<_}
 use mathlib.Core.Path.{_≡_, sym, ap, ap₂, _∙_, subst}
 use mathlib.Core.Bool.{Bool, true, cond}
 use mathlib.Core.List.{List, _++_, map}
-use lib.ListN.{length, take, drop, replicate}
+use lib.ListN.{length, getD, take, drop, replicate}
+use borrow.Author.Tests.{eqb-true}
 use Rattle.lists.specs.Lists.{All, Once, Subsequence, among, different}
+use Rattle.lists.proofs.Choice.{is-false}
 use Rattle.gametree.specs.Tree.{leaves as treeLeaves}
 use Rattle.gametree.specs.AlphaBeta.{fullWindow}
 use Rattle.gametree.specs.Mtd as rule
 use Rattle.gametree.specs.Sss.{sss as run}
 use Rattle.gametree.specs.engine.Within.{inFull}
 use Rattle.gametree.specs.Certificate.{Smallest, pairLeaves}
+use Rattle.gametree.specs.results.Reason.{Reason}
+use Rattle.gametree_theory.proofs.results.Reason.{decided-reason}
 use Rattle.gametree_theory.proofs.Theorems.{alphaBeta-leaves, alphaBeta-ordered, mtd-passes, sss-mtd, sss-replacements}
 use Rattle.gametree_theory.proofs.Theorems.{search-once, search-smallest, smallest-exists}
 use Rattle.gametree_theory.proofs.Theorems as theory
@@ -20,12 +24,15 @@ use Rattle.frames.specs.Tree.{tree, valuation}
 use Rattle.frames.specs.Formed.{WellFormed}
 use Rattle.frames.specs.Check.{Accepted}
 use Rattle.frames.specs.Shape.{SameShape}
+use Rattle.frames.specs.results.Leaf.{Leaf}
 use Rattle.frames.proofs.Acceptance.{accepted-formed}
+use Rattle.frames.proofs.Nodes.{in-tree}
+use Rattle.frames.proofs.Leaves.{leaf-listed}
 use Rattle.frames.proofs.Totals.{tree-size}
 use Rattle.frames.proofs.Proper.{tree-proper}
 use Rattle.certificate.specs.declared.Findings.{Findings}
 use Rattle.certificate.specs.Search.{searchRejection}
-use Rattle.certificate_bounds.specs.Marks.{ones}
+use Rattle.certificate_bounds.specs.Marks.{marked, ones}
 use Rattle.alphabeta.specs.declared.AlphaBetaAnswer.the-variants as ab-answer
 use Rattle.alphabeta.specs.Outcome.{reachedLeaves}
 use Rattle.mtd.specs.declared.MtdResult.{MtdResult}
@@ -40,7 +47,8 @@ use Rattle.demands.proofs.Calls.{found, left, leaves}
 use Rattle.demands.specs.Handed.{Marked, AgreeOnMarked, Alike}
 use Rattle.demands.proofs.Parts.{left-due}
 use Rattle.demands.proofs.Views.{view, mtd-result, sss-result}
-use Rattle.demands.proofs.Handed.{formed, proper, marks-at, marks-count, marks-reached, count-most}
+use Rattle.demands.proofs.Handed.{formed, proper, marks-at, marks-decided, marks-count, marks-reached}
+use Rattle.demands.proofs.Handed.{count-most}
 use Rattle.demands.proofs.Local.{one-tree, agreed-scores, same-findings, same-found, same-left, same-order}
 
 -- What any of the three searches or MTD(f) marks, Baudet's condition reaches, and a call of alpha-beta with that table
@@ -63,6 +71,17 @@ module _ {t : List ℕ} {f : Findings} (a : AlphaBetaCall t (ab-answer.Found f))
 
   pub no-more : found c .leaves ≤ f .leaves
   no-more = rw (ap (λ x. x .leaves) (view (alphaBeta a) .results)) (reached-most c)
+
+-- a leaf of the table that is not marked 1 was passed over for a reason, by the bounds of those that are
+pub passed-over : {t : List ℕ} (c : Call t) (k : ℕ) → Leaf t k → (Marked t (left c) k → ⊥)
+    → Reason (valuation t) (marked (left c .marks)) (tree t) k
+passed-over {t} c k l h =
+    let v = view c .handed in
+    let wf = formed v in
+    decided-reason (valuation t) _ (tree t) (proper v) (marks-decided v) k
+    (leaf-listed t wf 0 (wf .nonEmpty) k (in-tree t wf k (l .inside)) (l .childless))
+    (is-false (marked (left c .marks) k)
+    (λ e. h (record { node = l .inside; mark = eqb-true (getD (left c .marks) k 0) 1 e })))
 
 -- "Neither values a leaf twice": in the list of evaluated leaves no number stands twice
 pub once : {t : List ℕ} (c : Call t) → Once (leaves c)

@@ -9,11 +9,12 @@ use borrow.Author.Tests.{eq-eqb}
 use Rattle.gametree.specs.declared.Side.{Side}
 use Rattle.gametree.specs.declared.Side.the-variants.{Max, Min}
 use Rattle.lists.specs.Lists.{All, among}
-use Rattle.gametree.specs.Tree.{other, minimax, Proper}
-use Rattle.gametree.specs.Bounds.{known}
+use Rattle.gametree.specs.Tree.{other, least, greatest, minimax, Proper}
+use Rattle.gametree.specs.Bounds.{known, Decided}
 use Rattle.gametree.specs.Certificate.{worst, inside, solutionOf, flag}
 use Rattle.lists.proofs.Lists.{all-at}
 use Rattle.gametree_theory.proofs.minimax.Bounds.{every-map}
+use Rattle.gametree_theory.proofs.minimax.Grafts.{minimax-same}
 use Rattle.gametree_theory.proofs.tests.Subtree.{every-all}
 use Rattle.gametree_theory.proofs.certificates.ReadOff.{ReadOff, fits}
 use Rattle.gametree_theory.proofs.certificates.Flags.{flag-inside, read-bounds}
@@ -23,7 +24,7 @@ use Rattle.frames.specs.Tree.{tree, valuation}
 use Rattle.frames.specs.Formed.{WellFormed}
 use Rattle.frames.proofs.Acceptance.{accepted-formed}
 use Rattle.frames.proofs.Nodes.{tree-range}
-use Rattle.frames.proofs.Proper.{tree-proper}
+use Rattle.frames.proofs.Proper.{every-leaf, tree-proper}
 use Rattle.certificate_bounds.specs.Marks.{mark, marked, ones}
 use Rattle.certificate.specs.Search.{Buffers}
 use Rattle.verify.specs.Flags.{member}
@@ -60,6 +61,17 @@ module _ {t w : List ℕ} {lent left : Buffers} (handed : HandedBack t w lent le
   pub marked-at : (k : ℕ) → k < frames t → marked (left .marks) k ≡ among w k
   marked-at k h =
       ap (λ x. marked x k) (handed .marks) ∙ marked-written (among w) (frames t) (lent .marks) k h
+
+  -- so the bounds of the leaves that are marked 1 meet at the minimax value
+  pub marks-decided : Decided (valuation t) (marked (left .marks)) (tree t)
+  marks-decided =
+      let d = handed .deciding .decided in
+      let same : (x : ℕ) → minimax (known (valuation t) (marked (left .marks)) x) (tree t)
+      ≡ minimax (known (valuation t) (among w) x) (tree t) =
+      λ x. minimax-same _ _ (tree t)
+      (every-leaf t formed (λ n. known (valuation t) (marked (left .marks)) x n ≡ known (valuation t) (among w) x n)
+      (λ i h _. ap (λ b. cond b (valuation t i) x) (marked-at i h)) 0 (formed .nonEmpty)) in
+      record { lowIs = same least ∙ d .lowIs; highIs = same greatest ∙ d .highIs }
 
   flags-at : (k : ℕ) → k < frames t → getD (left .flags) k 0 ≡ flag (valuation t) (among w) (tree t) k
   flags-at k h =

@@ -30,6 +30,7 @@ use Rattle.gametree.specs.Move.{rootMove, boundMove}
 use Rattle.gametree_theory.proofs.Searches.{sssEvaluated, Searched, byAlphaBeta, byMtd, bySss, byTests}
 use Rattle.gametree_theory.proofs.Searches.{Deciding, SameResults}
 use Rattle.gametree.specs.results.ClosedForm.{unrivalled}
+use Rattle.gametree.specs.results.Reason.{Reason}
 use Rattle.lists.proofs.Lists.{all-map, all-among, all-at, once-length, sub-all, sub-once}
 use Rattle.gametree_theory.proofs.minimax.Nodes.{leaves-once}
 use Rattle.gametree_theory.proofs.minimax.Bounds.{minimax-score, minimaxChildren-best}
@@ -63,6 +64,7 @@ use Rattle.gametree_theory.proofs.tests.Local.{decide-local}
 use Rattle.gametree_theory.proofs.tests.FirstMove.{decide-right}
 use Rattle.gametree_theory.proofs.results.Domination.{mtd-reaches}
 use Rattle.gametree_theory.proofs.results.ClosedForm.{mtd-unrivalled}
+use Rattle.gametree_theory.proofs.results.Reason.{decided-reason}
 
 -- BOUNDS
 
@@ -237,6 +239,11 @@ module _ (ν : ℕ → ℕ) (t : Tree) (r : Proper ν t) where
   search-decides byMtd = as-mtd (λ w. Decided ν (among w) t) (mtd-decided ν t r)
   search-decides bySss = as-sss (λ w. Decided ν (among w) t) (mtd-decided ν t r)
   search-decides (byTests σ) = decide-right σ ν t (r .scored) .decided
+
+  -- so a leaf that it does not evaluate is passed over for a reason, by those bounds
+  pub search-reason : {w : List ℕ} → Searched ν t w → (k : ℕ) → among (leaves t) k ≡ true → among w k ≡ false
+      → Reason ν (among w) t k
+  search-reason s = decided-reason ν _ t r (search-decides s)
 
   -- the flags read off them are a certificate of that value, made of evaluated leaves only
   pub search-certifies : {w : List ℕ} → Searched ν t w → FlagsCertify ν (among w) t

@@ -116,7 +116,7 @@ pub minimaxChildren-best : (ν : ℕ → ℕ) (s : Side) (ks : Children) → min
 minimaxChildren-best ν s (last t) = refl
 minimaxChildren-best ν s (t then ts) = ap (better s (minimax ν t)) (minimaxChildren-best ν s ts)
 
-known-leaf-local : (b : Bool) (x y z : ℕ) → (b ≡ true → x ≡ y) → cond b x z ≡ cond b y z
+pub known-leaf-local : (b : Bool) (x y z : ℕ) → (b ≡ true → x ≡ y) → cond b x z ≡ cond b y z
 known-leaf-local true x y z f = f refl
 known-leaf-local false x y z f = refl
 

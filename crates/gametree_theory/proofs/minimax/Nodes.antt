@@ -74,7 +74,7 @@ mutual
   leaves-in (leaf n) = (refl, tt)
   leaves-in (inner n s ks) = all-map _ _ (λ k i. inr i) (leavesChildren ks) (leavesChildren-in ks)
 
-  leavesChildren-in : (ks : Children) → All (λ k. InChildren k ks) (leavesChildren ks)
+  pub leavesChildren-in : (ks : Children) → All (λ k. InChildren k ks) (leavesChildren ks)
   leavesChildren-in (last t) = leaves-in t
   leavesChildren-in (t then ts) =
       all-append _ (leaves t) (leavesChildren ts) (all-map _ _ (λ k i. inl i) (leaves t) (leaves-in t))
