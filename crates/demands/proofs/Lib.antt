@@ -46,6 +46,7 @@ pub mod LeastCounts
 pub mod Shorter
 pub mod Order
 pub mod Mtdf
+pub mod Variation
 pub mod Cases
 mod Tests
 mod RegularTests

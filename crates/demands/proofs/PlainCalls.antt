@@ -46,7 +46,8 @@ module _ {t : List ℕ} {f : PlainResult} (c : PlainCall t (plain-answer.Found f
       (c .left)
   result = result-of plain-apart _ _ _ _ _ (c .outcome)
 
-  handed : HandedBack t (allLeaves t) (c .lent) (c .left)
+  -- what it hands back is read off all leaves
+  pub handed : HandedBack t (allLeaves t) (c .lent) (c .left)
   handed =
       let p = both-room t (c .lent) (result .passed) in
       record {
