@@ -4,35 +4,23 @@ use mathlib.Core.Path.{_≡_, refl}
 use mathlib.Core.Bool.{Bool, true, false}
 use mathlib.Core.Option.{Option, none, some}
 use mathlib.Core.List.{List, [], _∷_}
-use lib.IntN.{ℤ}
 use lib.ListN.{length}
 use lib.Dec.{ltb}
 use borrow.Author.Tests.{leb-true}
-use Rattle.lists.proofs.Choice.{clash, and-both}
+use Rattle.lists.proofs.Choice.{and-both}
 use Rattle.frames.specs.declared.Rejection.{Rejection}
 use Rattle.frames.specs.Frame.{frames}
 use Rattle.frames.specs.Rejection.{_andThen_}
 use Rattle.frames.specs.Check.{rejection, check10}
 use Rattle.frames.proofs.Stated.{ask-yes, both-passed}
 use Rattle.frames.specs.Rejection.{unless}
-use Rattle.verify.specs.declared.Verdict.the-variants as verdicts
-use Rattle.verify.specs.Check.{flagsRejection, judged}
+use Rattle.verify.specs.Check.{flagsRejection}
 use Rattle.shorter.specs.declared.Choice.{Choice}
 use Rattle.shorter.specs.declared.Choice.the-variants.{First, Second, Rejected}
 use Rattle.shorter.specs.Choice.{flaggedLeaves, choiceBy, choice}
 
 module _ (t flags : List ℕ) where
-  -- a certificate that gets a value is not rejected
-  pub value-passed : {z : ℤ} (o : Option Rejection) → verdicts.Value z ≡ judged t flags o → o ≡ none
-  value-passed none e = refl
-  value-passed (some r) e = clash (cc)
-
-  -- one that is rejected gets that rejection
-  pub rejected-by : {r : Rejection} (o : Option Rejection) → verdicts.Rejected r ≡ judged t flags o → o ≡ some r
-  rejected-by none e = clash (cc)
-  rejected-by (some s) e = cc
-
-  -- one that passes question 10 has a flag for each node
+  -- a certificate that passes question 10 has a flag for each node
   pub passed-enough : flagsRejection t flags ≡ none → frames t ≤ length flags
   unfolding flagsRejection
   passed-enough e =

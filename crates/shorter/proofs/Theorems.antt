@@ -23,13 +23,14 @@ use Rattle.frames.proofs.Acceptance.{accepted-formed}
 use Rattle.verify.specs.declared.Verdict.the-variants as verdicts
 use Rattle.verify.specs.Check.{flagsRejection, certificateRejection, judged, verdict}
 use Rattle.verify.specs.Certificate.{Certificate}
-use Rattle.verify.proofs.Theorems.{certificate-verdict, verdict-certificate}
+use Rattle.verify.proofs.Judging.{rejected-by}
+use Rattle.verify.proofs.Theorems.{certificate-passed, certificate-verdict, verdict-certificate}
 use Rattle.verify.proofs.Parts.{certificate-part}
 use Rattle.shorter.specs.declared.Choice.{Choice}
 use Rattle.shorter.specs.declared.Choice.the-variants.{First, Second, Rejected}
 use Rattle.shorter.specs.Choice.{flaggedLeaves, choiceBy, choice, flagsBy}
 use Rattle.shorter.specs.Choice.{chosenFlags}
-use Rattle.shorter.proofs.Choosing.{value-passed, rejected-by, choice-says}
+use Rattle.shorter.proofs.Choosing.{choice-says}
 
 -- where neither passes, the first one's rejection stands, which is the table's if the table has one
 both-rejected : (o p q : Option Rejection) (b : Bool) {r s : Rejection} → o andThen p ≡ some r → o andThen q ≡ some s
@@ -39,11 +40,7 @@ both-rejected none (some x) none b e d = clash (cc)
 both-rejected none (some x) (some y) b e d = cc
 both-rejected (some x) p q b e d = cc
 
--- a certificate passes every question, and a rejection is the first "no"
-passed : (t flags : List ℕ) {v : ℕ} → Certificate t flags v → certificateRejection t flags ≡ none
-unfolding verdict
-passed t flags c = value-passed t flags (certificateRejection t flags) (sym (certificate-verdict t flags _ c))
-
+-- a rejection is the first "no"
 refused : (t flags : List ℕ) {r : Rejection} → verdict t flags ≡ verdicts.Rejected r
     → certificateRejection t flags ≡ some r
 unfolding verdict
@@ -67,8 +64,8 @@ module _ (t f s : List ℕ) where
     both : choice t f s ≡ cond (ltb (flaggedLeaves t s) (flaggedLeaves t f)) Second First
     unfolding choice certificateRejection
     both =
-        let a = both-passed (rejection t) _ (passed t f c) in
-        let b = both-passed (rejection t) _ (passed t s d) in
+        let a = both-passed (rejection t) _ (certificate-passed t f _ c) in
+        let b = both-passed (rejection t) _ (certificate-passed t s _ d) in
         rw (a .0, a .1, b .1)
 
     pub both-second : flaggedLeaves t s < flaggedLeaves t f → choice t f s ≡ Second
@@ -81,7 +78,7 @@ module _ (t f s : List ℕ) where
       → choice t f s ≡ First
   unfolding choice certificateRejection
   only-first {v} {r} c e =
-      let a = both-passed (rejection t) _ (passed t f c) in
+      let a = both-passed (rejection t) _ (certificate-passed t f _ c) in
       let b : flagsRejection t s ≡ some r = rw (a .0) at (refused t s e) in
       rw (a .0, a .1, b)
 
@@ -89,7 +86,7 @@ module _ (t f s : List ℕ) where
       → choice t f s ≡ Second
   unfolding choice certificateRejection
   only-second {w} {r} e d =
-      let b = both-passed (rejection t) _ (passed t s d) in
+      let b = both-passed (rejection t) _ (certificate-passed t s _ d) in
       let a : flagsRejection t f ≡ some r = rw (b .0) at (refused t f e) in
       rw (b .0, a, b .1)
 

@@ -1,13 +1,16 @@
--- The verdict on questions in order: a "no" settles it, a question that passes leaves it to those that follow.
+-- The verdict on questions in order: a "no" settles it, a question that passes leaves it to those that follow; and a
+-- verdict says whether there was a "no", and which.
 use Prim.Native.Nat.{ℕ}
-use mathlib.Core.Path.{_≡_}
-use mathlib.Core.Option.{Option}
+use mathlib.Core.Path.{_≡_, refl}
+use mathlib.Core.Option.{Option, none, some}
 use mathlib.Core.List.{List}
+use lib.IntN.{ℤ}
+use Rattle.lists.proofs.Choice.{clash}
 use Rattle.frames.specs.declared.Rejection.{Rejection}
 use Rattle.frames.specs.declared.Checked.the-variants as checked
 use Rattle.frames.specs.Rejection.{_andThen_, answer}
 use Rattle.frames.proofs.Asked.{answer-nodes, answer-rejected}
-use Rattle.verify.specs.declared.Verdict.the-variants.{Rejected}
+use Rattle.verify.specs.declared.Verdict.the-variants.{Value, Rejected}
 use Rattle.verify.specs.Check.{judged}
 
 module _ (t flags : List ℕ) (n : ℕ) (x y : Option Rejection) where
@@ -16,3 +19,14 @@ module _ (t flags : List ℕ) (n : ℕ) (x y : Option Rejection) where
 
   pub judged-onward : (k : ℕ) → checked.Nodes k ≡ answer n x → judged t flags y ≡ judged t flags (x andThen y)
   judged-onward k e = rw (answer-nodes n k x e .0)
+
+module _ (t flags : List ℕ) where
+  -- a certificate that gets a value is not rejected
+  pub value-passed : {z : ℤ} (o : Option Rejection) → Value z ≡ judged t flags o → o ≡ none
+  value-passed none e = refl
+  value-passed (some r) e = clash (cc)
+
+  -- one that is rejected gets that rejection
+  pub rejected-by : {r : Rejection} (o : Option Rejection) → Rejected r ≡ judged t flags o → o ≡ some r
+  rejected-by none e = clash (cc)
+  rejected-by (some s) e = cc

@@ -1,10 +1,10 @@
 -- Why the check of a certificate is right, grouped by idea.
-mod Subtrees
-mod Rules
+pub mod Subtrees
+pub mod Rules
 mod Values
 mod Asking
 mod Ruling
-mod Judging
+pub mod Judging
 pub mod Theorems
 pub mod Parts
 mod Cases

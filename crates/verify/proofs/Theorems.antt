@@ -51,7 +51,7 @@ module _ (t flags : List ℕ) where
       passed-each (λ i. ask (f i) q i) 0 (frames t) (λ i l h. yes-ask (f i) q i (y i (omega arith)))
 
   -- flags that pass every question are a certificate of the max tree's value
-  passed-certificate : certificateRejection t flags ≡ none → Certificate t flags (treeValue Max t flags)
+  pub passed-certificate : certificateRejection t flags ≡ none → Certificate t flags (treeValue Max t flags)
   unfolding certificateRejection flagsRejection treesRejection
   passed-certificate e =
       let a = both-passed (rejection t) _ e in
@@ -73,7 +73,7 @@ module _ (t flags : List ℕ) where
       }
 
   -- a certificate passes every question
-  certificate-passed : (v : ℕ) → Certificate t flags v → certificateRejection t flags ≡ none
+  pub certificate-passed : (v : ℕ) → Certificate t flags v → certificateRejection t flags ≡ none
   unfolding certificateRejection flagsRejection treesRejection
   certificate-passed v c =
       let wf = accepted-formed t (c .accepted) in

@@ -16,7 +16,7 @@ use Rattle.gametree.specs.Tree.{Score, Scored, ScoredChildren}
 use Rattle.gametree.specs.Certificate.{worst, solutionValue}
 use Rattle.lists.proofs.Choice.{cond-cases}
 use Rattle.gametree_theory.proofs.certificates.Leaves.{bestLeaf, bestLeafChildren, value-best}
-use Rattle.gametree_theory.proofs.certificates.Solution.{Under, under-refl, under-both}
+use Rattle.gametree_theory.proofs.certificates.Solution.{Under, under-refl, under-both, both-under}
 use Rattle.frames.specs.Frame.{frames, childCount}
 use Rattle.frames.specs.Tree.{tree, valuation}
 use Rattle.frames.specs.Formed.{WellFormed}
@@ -25,11 +25,6 @@ use Rattle.frames.proofs.Proper.{every-leaf, leaf-scored, tree-proper}
 use Rattle.verify.specs.Flags.{member}
 use Rattle.verify.specs.Value.{leafIn, bestBefore, treeValue}
 use Rattle.verify.proofs.Subtrees.{Inherited, each-subtree}
-
--- the better of two is bounded if both are
-both-under : (p : Side) (a b x : ℕ) → Under p a x → Under p b x → Under p (better p a b) x
-both-under Max a b x h k = omega arith
-both-under Min a b x h k = omega arith
 
 under-antisym : (p : Side) (a b : ℕ) → Under p a b → Under p b a → a ≡ b
 under-antisym Max a b h k = omega arith

@@ -25,7 +25,8 @@ pub under-refl : (p : Side) (a : ℕ) → Under p a a
 under-refl Max a = le-refl a
 under-refl Min a = le-refl a
 
-under-trans : (p : Side) (a b c : ℕ) → Under p a b → Under p b c → Under p a c
+-- c is at least as good as a if b is and c is at least as good as b
+pub under-trans : (p : Side) (a b c : ℕ) → Under p a b → Under p b c → Under p a c
 under-trans Max a b c h k = le-trans h k
 under-trans Min a b c h k = le-trans k h
 
@@ -43,6 +44,11 @@ under-own Min a b = omega arith
 pub under-both : (p : Side) (a b x : ℕ) → Under p (better p a b) x → Under p a x × Under p b x
 under-both Max a b x h = omega arith
 under-both Min a b x h = omega arith
+
+-- and what bounds each of the two bounds it
+pub both-under : (p : Side) (a b x : ℕ) → Under p a x → Under p b x → Under p (better p a b) x
+both-under Max a b x h k = omega arith
+both-under Min a b x h k = omega arith
 
 -- and for the other side at most
 under-other : (p q : Side) → same p q ≡ false → (a b : ℕ) → Under p (better q a b) a × Under p (better q a b) b

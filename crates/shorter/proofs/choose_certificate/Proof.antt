@@ -5,7 +5,8 @@ use borrow.Author.Needs.{needs}
 use Rattle.frames.specs.declared.Rejection.{Rejection}
 use Rattle.verify.specs.declared.Verdict.the-variants.{Value, Rejected}
 use Rattle.verify.specs.Check.{flagsRejection}
-use Rattle.shorter.proofs.Choosing.{value-passed, rejected-by, passed-enough}
+use Rattle.verify.proofs.Judging.{value-passed, rejected-by}
+use Rattle.shorter.proofs.Choosing.{passed-enough}
 use Rattle.shorter.proofs.choose_certificate.Statement.{statement}
 use Rattle.shorter.proofs.choose_certificate.Tie as tie
 
