@@ -51,8 +51,8 @@ steps-lead (quietly e h p) k v r = steps-lead p (suc k) v (afterQuiet r e)
 steps-lead (evaluates {n = n} e h p) k v r = steps-lead p (suc k) (v ++ (n ∷ [])) (afterEvaluating r e)
 
 -- each state of the list is below the node n
-abbrev Under : Tree → ℕ → List State → Type 0
-Under T n L = All (λ s. aboveIn T n (s .node) ≡ true) L
+abbrev AllUnder : Tree → ℕ → List State → Type 0
+AllUnder T n L = All (λ s. aboveIn T n (s .node) ≡ true) L
 
 -- from the list M a list is reached on which the child c of the Max node n, SOLVED with the merit γ, is taken, and all
 -- other states are below n
@@ -65,8 +65,8 @@ record Hands (ν : ℕ → ℕ) (T : Tree) (γ n c : ℕ) (M : List State) : Typ
   right : List State
   leads : Leads ν T M (left ++ (solved (number child) γ ∷ right))
   around : AroundTree T γ child left right
-  under-left : Under T n left
-  under-right : Under T n right
+  under-left : AllUnder T n left
+  under-right : AllUnder T n right
 
 -- and from a list that leads to M
 earlier : {ν : ℕ → ℕ} {T : Tree} {γ n c : ℕ} {L M : List State} → Leads ν T L M → Hands ν T γ n c M → Hands ν T γ n c L
@@ -87,7 +87,7 @@ earlier f H =
 module _ (ν : ℕ → ℕ) (T : Tree) (γ : ℕ) (g : γ ≤ greatest) where
   -- a child that is found not below, with the value γ, hands up
   hands-up : (n : ℕ) (t : Tree) (a : ℕ) (F L R : List State) (r : Pass t) (x : Option ℕ)
-      → linkIn T (number t) ≡ under n Max x → AroundTree T γ t L R → Under T n L → Under T n R
+      → linkIn T (number t) ≡ under n Max x → AroundTree T γ t L R → AllUnder T n L → AllUnder T n R
       → Sim ν T γ t a F L R r → r .notBelow ≡ true → Hands ν T γ n (number t) (L ++ (F ++ R))
   hands-up n t a F L R r x l u uL uR S e =
       record {
@@ -105,8 +105,8 @@ module _ (ν : ℕ → ℕ) (T : Tree) (γ : ℕ) (g : γ ≤ greatest) where
 
   -- the first of several, with the states G of its siblings behind it, by A; the others by B
   hands-max : (n : ℕ) (t : Tree) (ts : Children) (m : MemoChildren (t then ts)) (a : ℕ) (F G L R : List State)
-      → linkIn T (number t) ≡ under n Max (some (firstOf ts)) → AroundTree T γ t L (G ++ R) → Under T n L
-      → Under T n (G ++ R) → Scored ν t → Kept ν γ t (m .first) → minimax ν t ≤ γ
+      → linkIn T (number t) ≡ under n Max (some (firstOf ts)) → AroundTree T γ t L (G ++ R) → AllUnder T n L
+      → AllUnder T n (G ++ R) → Scored ν t → Kept ν γ t (m .first) → minimax ν t ≤ γ
       → Sim ν T γ t a F L (G ++ R) (pass ν γ t (m .first))
       → (pass ν γ t (m .first) .notBelow ≡ false → passChildren ν γ Max ts (m .rest) .notBelow ≡ true
       → Hands ν T γ n (firstWith (minimax ν) γ ts) ((L ++ frontier ν t (pass ν γ t (m .first) .next)) ++ (G ++ R)))
@@ -135,7 +135,7 @@ module _ (ν : ℕ → ℕ) (T : Tree) (γ : ℕ) (g : γ ≤ greatest) where
       → AnswersChildren T n Max ks → ScoredChildren ν ks → KeptChildren ν γ ks m
       → AtMost γ (statesChildren ν γ Max ks m w)
       → ((p : ℕ) → InChildren p ks → aboveIn T n p ≡ true) → (L R : List State) → AroundChildren T γ ks L R
-      → Under T n L → Under T n R
+      → AllUnder T n L → AllUnder T n R
       → minimaxChildren ν Max ks ≤ γ → passChildren ν γ Max ks m .notBelow ≡ true
       → Hands ν T γ n (firstWith (minimax ν) γ ks) (L ++ (statesChildren ν γ Max ks m w ++ R))
   hands n (last t) m w p h k b i L R a uL uR top e =
