@@ -1,5 +1,5 @@
 -- What the answer of a pass says of the highs that it leaves, and of what is remembered: a node that is not below has
--- its high at the test or above, and is settled; one that is below has its high below the test.
+-- its high at the test or above, and is explored; one that is below has its high below the test.
 use Prim.Native.Nat.{ℕ, zero, suc, _+_, _≤_, _<_}
 use native.Mathlib.Nat.{le-refl}
 use native.Mathlib.Decide.{ℕ-discrete}
@@ -26,7 +26,7 @@ use Rattle.frames.proofs.Trees.{zero-or-suc, tree-leaf, tree-inner}
 use Rattle.certificate_bounds.specs.Marks.{marked}
 use Rattle.certificate_bounds.specs.engine.Ranges.{bestIn}
 use Rattle.mtd_memory.specs.declared.Tried.{Tried}
-use Rattle.mtd_memory.specs.engine.Memory.{Memory, memoOf, passOf, Passed, Settled}
+use Rattle.mtd_memory.specs.engine.Memory.{Memory, memoOf, passOf, Passed, Explored}
 
 -- the high v after a pass with the test γ and the answer b
 pub record HighBy (γ : ℕ) (b : Bool) (v : ℕ) : Type 0 where
@@ -115,8 +115,8 @@ module _ {t : List ℕ} (wf : WellFormed t) {j γ : ℕ} (inside : j < frames t)
       ∙ ap (memoHigh (valuation t) (treeAt t j)) (p .memo .got) in
       rw (p .answer, e) (pass-high (valuation t) γ (treeAt t j) (memoOf m (treeAt t j)))
 
-  pub tried-settled : r .answer ≡ true → Settled t m′ j
-  tried-settled a = record { leaf-is = at-leaf; inner-is = at-inner }
+  pub tried-explored : r .answer ≡ true → Explored t m′ j
+  tried-explored a = record { leaf-is = at-leaf; inner-is = at-inner }
     where
       at-leaf : childCount t j ≡ 0 → marked (m′ .evaluated) j ≡ true
       at-leaf z =

@@ -17,7 +17,7 @@ use Rattle.certificate_bounds.specs.Marks.{marked}
 use Rattle.certificate_bounds.specs.engine.Progress.{progress, evaluateAll}
 use Rattle.certificate_bounds.proofs.Listing.{none-evaluated, one-evaluated, evaluateAll-append}
 use Rattle.frames.specs.Frame.{firstChild}
-use Rattle.mtd_memory.specs.engine.Memory.{Memory, progressOf, MemoryRoom, Evaluated, skipAt, Settled, Skips}
+use Rattle.mtd_memory.specs.engine.Memory.{Memory, progressOf, MemoryRoom, Evaluated, skipAt, Explored, Skips}
 
 -- what stands there already is stored
 pub set-same : (l : List ℕ) (i v : ℕ) → getD l i 0 ≡ v → set l i v ≡ l
@@ -29,13 +29,13 @@ no-skips t m k e =
     record {
       mover = λ h. absurd (omega (arith, e));
       few = λ h. absurd (omega (arith, e));
-      settled = λ j a b. absurd (omega (arith, e));
+      explored = λ j a b. absurd (omega (arith, e));
     }
 
--- what is settled stays so where the entries are the same
-pub settled-same : {t : List ℕ} {m m′ : Memory} {j : ℕ} → marked (m′ .evaluated) j ≡ marked (m .evaluated) j
-    → marked (m′ .notBelow) j ≡ marked (m .notBelow) j → Settled t m j → Settled t m′ j
-settled-same e f s = record { leaf-is = λ n. e ∙ s .leaf-is n; inner-is = λ n. f ∙ s .inner-is n }
+-- what is explored stays so where the entries are the same
+pub explored-same : {t : List ℕ} {m m′ : Memory} {j : ℕ} → marked (m′ .evaluated) j ≡ marked (m .evaluated) j
+    → marked (m′ .notBelow) j ≡ marked (m .notBelow) j → Explored t m j → Explored t m′ j
+explored-same e f s = record { leaf-is = λ n. e ∙ s .leaf-is n; inner-is = λ n. f ∙ s .inner-is n }
 
 -- and so do the children to skip
 pub skips-same : {t : List ℕ} {m m′ : Memory} {k : ℕ} → getD (m′ .notBelow) k 0 ≡ getD (m .notBelow) k 0
@@ -46,8 +46,8 @@ skips-same e f s =
     record {
       mover = λ h. s .mover (omega (arith, e));
       few = λ h. omega (arith, e, s .few (omega (arith, e)));
-      settled = λ j a b.
-          let x = f j a (omega (arith, e)) in settled-same (x .0) (x .1) (s .settled j a (omega (arith, e)));
+      explored = λ j a b.
+          let x = f j a (omega (arith, e)) in explored-same (x .0) (x .1) (s .explored j a (omega (arith, e)));
     }
 
 -- a flag that is stored is read

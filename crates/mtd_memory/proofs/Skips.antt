@@ -1,5 +1,5 @@
 -- Children that are passed over: under Max a child whose high is below the test is below; under Min one that is
--- settled, and whose high is not below the test, is not below. The pass does nothing else there.
+-- explored, and whose high is not below the test, is not below. The pass does nothing else there.
 use Prim.Native.Nat.{ℕ, zero, suc, _+_, _-_, _≤_, _<_}
 use native.Mathlib.Omega.{arith}
 use mathlib.Core.Path.{_≡_, refl, sym, ap, _∙_, subst}
@@ -22,7 +22,7 @@ use Rattle.frames.proofs.Trees.{zero-or-suc, tree-leaf}
 use Rattle.certificate_bounds.specs.Marks.{marked}
 use Rattle.mtd_memory.specs.declared.Tried.{Tried}
 use Rattle.mtd_memory.specs.engine.Memory.{Memory, memory, VisitReady, Passed, PassedOver}
-use Rattle.mtd_memory.specs.engine.Memory.{skipAt, Settled}
+use Rattle.mtd_memory.specs.engine.Memory.{skipAt, Explored}
 use Rattle.mtd_memory.proofs.Arrays.{set-same, Long, leaf-again}
 use Rattle.mtd_memory.proofs.Turns.{PassLoop, Left, Family, turn-first, turn-ready, turn-next, turn-last}
 use Rattle.mtd_memory.proofs.Visits.{leaf-known, visit-leaf, visit-below, visit-not-below}
@@ -73,8 +73,8 @@ module _ {t : List ℕ} {m : Memory} {i : ℕ} {p : Position} (ready : VisitRead
   abbrev not-at-once : Tried
   not-at-once = record { answer = true; leaves = m .leaves }
 
-  -- a settled node whose high is not below the test
-  above-at-once : {γ : ℕ} → γ ≤ getD (m .highs) i 0 → Settled t m i → Passed t (treeAt t i) γ m m not-at-once
+  -- an explored node whose high is not below the test
+  above-at-once : {γ : ℕ} → γ ≤ getD (m .highs) i 0 → Explored t m i → Passed t (treeAt t i) γ m m not-at-once
   above-at-once {γ} h s =
       zero-or-suc (childCount t i) (λ none.
       let wf = ready .formed in
@@ -89,17 +89,17 @@ module _ {t : List ℕ} {m : Memory} {i : ℕ} {p : Position} (ready : VisitRead
 
 module _ {t : List ℕ} {i first end : ℕ} (family : Family t i first end) {m : Memory} {p : Position}
     (ready : VisitReady t m i p) {γ : ℕ} where
-  -- the leading children of a Min node that are settled are passed over
-  skip-settled : (n now : ℕ) → PassLoop t Min γ first end m m now
-      → ((j : ℕ) → now ≤ j → j < now + n → Settled t m j) → now + n < end → PassLoop t Min γ first end m m (now + n)
-  skip-settled zero now u h l =
+  -- the leading children of a Min node that are explored are passed over
+  skip-explored : (n now : ℕ) → PassLoop t Min γ first end m m now
+      → ((j : ℕ) → now ≤ j → j < now + n → Explored t m j) → now + n < end → PassLoop t Min γ first end m m (now + n)
+  skip-explored zero now u h l =
       let z : now + 0 ≡ now = omega arith in subst (PassLoop t Min γ first end m m) (sym z) u
-  skip-settled (suc n) now u h l =
+  skip-explored (suc n) now u h l =
       let z : now + 1 + n ≡ now + suc n = omega arith in
       let p = above-at-once (turn-ready family ready u refl) (u .ahead refl now (omega arith) (omega arith))
       (h now (omega arith) (omega arith)) in
       subst (PassLoop t Min γ first end m m) z
-      (skip-settled n (now + 1)
+      (skip-explored n (now + 1)
       (turn-next family {m″ = m} u p (u .long) (rw (ne-eqb (now + 1) end (λ e. omega (arith, e))) refl))
       (λ j a b. h j (omega arith) (omega arith)) (omega arith))
 
@@ -116,8 +116,8 @@ module _ {t : List ℕ} {i first end : ℕ} (family : Family t i first end) {m :
       (λ n z.
       let q : p .side ≡ Min = ap (λ p. p .side) (ready .positioned) ∙ s .mover (omega arith) in
       subst (λ x. PassLoop t x γ first end m m (first + skipAt (m .notBelow) i)) (sym q)
-      (skip-settled (skipAt (m .notBelow) i) first (subst (λ x. PassLoop t x γ first end m m first) q u)
-      (λ j a b. s .settled j (omega (arith, family .from)) (omega (arith, family .from)))
+      (skip-explored (skipAt (m .notBelow) i) first (subst (λ x. PassLoop t x γ first end m m first) q u)
+      (λ j a b. s .explored j (omega (arith, family .from)) (omega (arith, family .from)))
       (omega (arith, s .few (omega arith), family .to)))))
 
 module _ {t : List ℕ} {i first end : ℕ} (family : Family t i first end) {m : Memory} {p : Position}

@@ -30,9 +30,9 @@ use Rattle.certificate_bounds.specs.engine.Ranges.{bestIn}
 use Rattle.certificate_bounds.proofs.Bounds.{minimax-best}
 use Rattle.mtd_memory.specs.declared.Tried.{Tried}
 use Rattle.mtd_memory.specs.engine.Memory.{Memory, HighsRight, Counted, VisitReady, Passed}
-use Rattle.mtd_memory.specs.engine.Memory.{Settled, SkipsRight}
-use Rattle.mtd_memory.proofs.Arrays.{bound-local, Long, room-kept, settled-same, skips-same}
-use Rattle.mtd_memory.proofs.Answers.{tried-high, tried-settled, best-least, best-is}
+use Rattle.mtd_memory.specs.engine.Memory.{Explored, SkipsRight}
+use Rattle.mtd_memory.proofs.Arrays.{bound-local, Long, room-kept, explored-same, skips-same}
+use Rattle.mtd_memory.proofs.Answers.{tried-high, tried-explored, best-least, best-is}
 use Rattle.mtd_memory.proofs.Children.{PassedChildren, Remainder, remainder-all, remainder-last}
 use Rattle.mtd_memory.proofs.Children.{remainder-settled}
 use Rattle.mtd_memory.proofs.Children.{remainder-rest}
@@ -59,14 +59,14 @@ pub record PassLoop (t : List ℕ) (s : Side) (γ first end : ℕ) (m m′ : Mem
   pub highs : Highs t first end m m′
   -- of a Min node the children that are left have their highs at the test or above
   pub ahead : s ≡ Min → (j : ℕ) → now ≤ j → j < end → γ ≤ getD (m′ .highs) j 0
-  -- and so have those before, which are settled
-  pub elders : s ≡ Min → (j : ℕ) → first ≤ j → j < now → Settled t m′ j × (γ ≤ getD (m′ .highs) j 0)
+  -- and so have those before, which are explored
+  pub elders : s ≡ Min → (j : ℕ) → first ≤ j → j < now → Explored t m′ j × (γ ≤ getD (m′ .highs) j 0)
 
--- of a Min node that is below the child before `child` has the least high, and the children before it are settled
+-- of a Min node that is below the child before `child` has the least high, and the children before it are explored
 pub record Down (t : List ℕ) (first end child : ℕ) (m′ : Memory) : Type 0 where
   pub from : first < child
   pub to : child ≤ end
-  pub settled : (j : ℕ) → first ≤ j → j + 1 < child → Settled t m′ j
+  pub explored : (j : ℕ) → first ≤ j → j + 1 < child → Explored t m′ j
   pub best : bestIn Min (λ k. getD (m′ .highs) k 0) first (end - (first + 1)) ≡ getD (m′ .highs) (child - 1) 0
 
 -- after the loop: the children's answer is b, and `child` comes after the last one tried
@@ -211,13 +211,13 @@ module _ {t : List ℕ} {i first end : ℕ} (family : Family t i first end) wher
     apart j a b e x = e (children-apart t wf inside (child j a b) (turn-child u) j (in-own t wf j) x)
 
     -- what holds of the elder siblings holds still
-    elders-still : s ≡ Min → (j : ℕ) → first ≤ j → j < now → Settled t m″ j × (γ ≤ getD (m″ .highs) j 0)
+    elders-still : s ≡ Min → (j : ℕ) → first ≤ j → j < now → Explored t m″ j × (γ ≤ getD (m″ .highs) j 0)
     elders-still e j a b =
         let o = u .to in
         let x = apart j a (omega arith) (λ z. omega (arith, z)) in
         let y = u .elders e j a b in
         let z = p .memo .elsewhere j x in
-        (settled-same (z .0) (z .1) (y .0), omega (arith, y .1, p .others j x))
+        (explored-same (z .0) (z .1) (y .0), omega (arith, y .1, p .others j x))
 
     -- and of the younger ones
     ahead-still : s ≡ Min → (j : ℕ) → now < j → j < end → γ ≤ getD (m″ .highs) j 0
@@ -276,7 +276,7 @@ module _ {t : List ℕ} {i first end : ℕ} (family : Family t i first end) wher
               elim (ℕ-discrete j now) [
                 | yes g ↦ (let a : r .answer ≡ true =
                     not-false (r .answer) (ap (λ x. settles x (r .answer)) (sym z) ∙ b .1) in
-                    rw g (tried-settled wf inside-now p a, tried-high wf inside-now p .above a))
+                    rw g (tried-explored wf inside-now p a, tried-high wf inside-now p .above a))
                 | no g ↦ elders-still z j c (omega arith)
               ];
         }
@@ -303,7 +303,7 @@ module _ {t : List ℕ} {i first end : ℕ} (family : Family t i first end) wher
               record {
                 from = omega (arith, u .from);
                 to = omega arith;
-                settled = λ j c d. elders-still z j c (omega arith) .0;
+                explored = λ j c d. elders-still z j c (omega arith) .0;
                 best = rw same (best-is (λ k. getD (m″ .highs) k 0) first (end - (first + 1)) now (u .from)
                     (omega arith)
                     (λ k c d. elim (ℕ-discrete k now) [

@@ -32,7 +32,7 @@ use Rattle.mtd_memory.specs.declared.Tried.{Tried}
 use Rattle.mtd_memory.specs.engine.Memory.{Memory, memory, progressOf, MemoryRoom, HighsRight, VisitReady}
 use Rattle.mtd_memory.specs.engine.Memory.{Enterable}
 use Rattle.mtd_memory.specs.engine.Memory.{Passed, Looked, skipAt, skipEntry, keptEntry, Skips, SkipsRight}
-use Rattle.mtd_memory.proofs.Arrays.{room-at, no-skips, settled-same}
+use Rattle.mtd_memory.proofs.Arrays.{room-at, no-skips, explored-same}
 use Rattle.mtd_memory.proofs.Passes.{leaf-passed, below-passed, not-below-passed, entered-passed}
 use Rattle.mtd_memory.proofs.Turns.{childrenUpTo, Down, Left, Family, child, tree-kids}
 
@@ -157,10 +157,10 @@ module _ {t : List ℕ} {i first end : ℕ} (family : Family t i first end) {m :
       record {
         mover = λ _. sym e;
         few = λ _. omega (arith, z, x .from, x .to, family .to);
-        settled = λ j a b.
+        explored = λ j a b.
             let y = same j (λ q. omega (arith, q)) in
-            settled-same (y .0) (y .1)
-            (x .settled j (omega (arith, family .from)) (omega (arith, z, family .from, x .from)));
+            explored-same (y .0) (y .1)
+            (x .explored j (omega (arith, family .from)) (omega (arith, z, family .from, x .from)));
       }
 
   -- any other is entered, and gets the best of its children's highs and their answer

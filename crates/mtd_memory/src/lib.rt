@@ -21,7 +21,7 @@ ghost use Rattle.certificate_bounds.specs.engine.Evaluable.{Evaluable};
 ghost use Rattle.certificate_bounds.specs.engine.Ranges.{bestIn};
 ghost use Rattle.certificate_bounds.specs.engine.Progress.{progress, evaluateAll, Listable};
 ghost use Rattle.mtd_memory.specs.engine.Memory.{memory, VisitReady, Looked};
-ghost use Rattle.mtd_memory.specs.engine.Memory.{PassedOver, skipAt, skipEntry, keptEntry, Fallen};
+ghost use Rattle.mtd_memory.specs.engine.Memory.{PassedOver, skipAt, skipEntry, keptEntry, FoundBelow};
 
 // What a node that was tried gives: the answer, true where the node is not below the test, and how many leaves are
 // evaluated by then.
@@ -126,7 +126,7 @@ pub fn remember(
 )
     requires { ⌜ (first < end) × (end ≤ length (now highs)) ⌝ }
     requires { ⌜ (node < maxNodes) × (node < length (now highs)) × (node < length (now «not_below»)) ⌝ }
-    requires { ⌜ (side ≡ Side.Min → answer ≡ false → Fallen (now highs) first end child) ⌝ }
+    requires { ⌜ (side ≡ Side.Min → answer ≡ false → FoundBelow (now highs) first end child) ⌝ }
     ensures { λ _. ⌜ now (highs .exit) ≡ set (now (highs .entry)) node
         (bestIn side (λ k. getD (now (highs .entry)) k 0) first (end - (first + 1))) ⌝ }
     ensures { λ _. ⌜ now («not_below» .exit) ≡ set (now («not_below» .entry)) node
@@ -140,7 +140,7 @@ pub fn remember(
 // The best of the children's highs: at a Min node that is below it is that of the child found below.
 fn kept_high(highs: &[u32], first: usize, child: usize, end: usize, side: Side, answer: bool) -> u32
     requires { ⌜ (first < end) × (end ≤ length (now highs)) ⌝ }
-    requires { ⌜ (side ≡ Side.Min → answer ≡ false → Fallen (now highs) first end child) ⌝ }
+    requires { ⌜ (side ≡ Side.Min → answer ≡ false → FoundBelow (now highs) first end child) ⌝ }
     ensures { λ r. ⌜ r ≡ bestIn side (λ k. getD (now (highs .entry)) k 0) first (end - (first + 1)) ⌝ }
 {
     if answer {

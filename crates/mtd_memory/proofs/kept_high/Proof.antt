@@ -2,28 +2,28 @@
 use native.Mathlib.Omega.{arith}
 use mathlib.Core.Path.{sym}
 use borrow.Author.Needs.{needs}
-use Rattle.mtd_memory.specs.engine.Memory.{Fallen}
+use Rattle.mtd_memory.specs.engine.Memory.{FoundBelow}
 use Rattle.mtd_memory.proofs.kept_high.Statement.{statement}
 use Rattle.mtd_memory.proofs.kept_high.Tie as tie
 
 -- at a Min node that is below
-fallen : (c : tie.After-enum-told2) → let a = c .before .before .before .before .args in
-    Fallen (a .highs .now) (a .first) (a .end) (a .child)
-fallen c = c .before .before .before .before .pre .1 (c .enum-told2 .given .1) (c .before .before .if1 .left)
+found-below : (c : tie.After-enum-told2) → let a = c .before .before .before .before .args in
+    FoundBelow (a .highs .now) (a .first) (a .end) (a .child)
+found-below c = c .before .before .before .before .pre .1 (c .enum-told2 .given .1) (c .before .before .if1 .left)
 
 sub-result : tie.Need-sub-result
-sub-result c = omega (arith, fallen c .from)
+sub-result c = omega (arith, found-below c .from)
 
 mul-result : tie.Need-mul-result
 mul-result c =
-    let p = c .before .before .before .before .pre .0 .1 in omega (arith, fallen c .to, p)
+    let p = c .before .before .before .before .pre .0 .1 in omega (arith, found-below c .to, p)
 
 shared-slice-read-result : tie.Need-shared-slice-read-result
 shared-slice-read-result c =
-    let f = fallen (c .before) in omega (arith, f .from, f .to, c .before .before .before .before .before .pre .0 .1)
+    let f = found-below (c .before) in omega (arith, f .from, f .to, c .before .before .before .before .before .pre .0 .1)
 
 returns-3 : tie.Need-returns-3
-returns-3 c = rw (c .before .enum-told2 .given .1) (sym (fallen (c .before) .best))
+returns-3 c = rw (c .before .enum-told2 .given .1) (sym (found-below (c .before) .best))
 
 pub kept-high-spec : {M : Type 1} → statement M
 kept-high-spec =

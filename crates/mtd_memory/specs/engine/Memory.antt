@@ -62,7 +62,7 @@ abbrev pub HighsRight : List ℕ → Memory → Tree → Type 0
 HighsRight t m T =
     (k : ℕ) → In k T → getD (m .highs) k 0 ≡ high (valuation t) (marked (m .evaluated)) (treeAt t k)
 
--- the leading children that an entry says to skip: none by 0 and 1
+-- how many leading children an entry says to skip: none by 0 and 1
 abbrev pub skipAt : List ℕ → ℕ → ℕ
 skipAt l k = getD l k 0 - 1
 
@@ -78,21 +78,21 @@ keptEntry Max false n = 0
 keptEntry Min false n = skipEntry n
 
 -- a leaf that is evaluated, or an inner node that a pass found not below
-pub record Settled (t : List ℕ) (m : Memory) (j : ℕ) : Type 0 where
+pub record Explored (t : List ℕ) (m : Memory) (j : ℕ) : Type 0 where
   pub leaf-is : childCount t j ≡ 0 → marked (m .evaluated) j ≡ true
   pub inner-is : 0 < childCount t j → marked (m .notBelow) j ≡ true
 
--- the leading children to skip are those of a Min node, not all of them, and settled
+-- the leading children to skip are those of a Min node, not all of them, and explored
 pub record Skips (t : List ℕ) (m : Memory) (k : ℕ) : Type 0 where
   pub mover : 0 < skipAt (m .notBelow) k → sideOf t k ≡ Min
   pub few : 0 < skipAt (m .notBelow) k → skipAt (m .notBelow) k < childCount t k
-  pub settled : (j : ℕ) → firstChild t k ≤ j → j < firstChild t k + skipAt (m .notBelow) k → Settled t m j
+  pub explored : (j : ℕ) → firstChild t k ≤ j → j < firstChild t k + skipAt (m .notBelow) k → Explored t m j
 
 abbrev pub SkipsRight : List ℕ → Memory → Tree → Type 0
 SkipsRight t m T = (k : ℕ) → In k T → Skips t m k
 
 -- what is kept of a Min node that is below: the child before `child` was found below, and has the least high
-pub record Fallen (highs : List ℕ) (first end child : ℕ) : Type 0 where
+pub record FoundBelow (highs : List ℕ) (first end child : ℕ) : Type 0 where
   pub from : first < child
   pub to : child ≤ end
   pub few : child ≤ first + 255
