@@ -1,6 +1,6 @@
 -- MTD(f): tests of the root from a first guess until its bounds meet, and then the last phase. Where the bounds have
--- met they may show another best child than the first; so the root's children are tested from the left against the
--- value, with the same memory, until one is found to have it. Then the bounds show the first root move.
+-- met they may single out a best child that is not the first; so the root's children are tested from the left against
+-- the value, with the same memory, until one is found to have it. Then the bounds show the first root move.
 use Prim.Native.Nat.{ℕ, zero, suc}
 use mathlib.Core.Bool.{cond}
 use mathlib.Core.List.{List, [], _++_}
@@ -35,7 +35,7 @@ concluded ν k w t = record { evaluated = w ++ lastPhase ν (low ν (among w) t)
 -- tests of the root, after k of them and the leaves w, until its bounds meet. The test g is brought between low + 1 and
 -- high; after the answer "not below" the next one is the root's low + 1, after "below" its high. The first number
 -- bounds how many: each test evaluates a leaf, so `suc (length (leaves t))` suffices, and the clause for none left is
--- never asked (`tests-minimax` in TestRuns).
+-- never asked (`tests-minimax` in gametree_theory/proofs/TestRuns).
 abbrev pub testsFrom : (ℕ → ℕ) → ℕ → (k g : ℕ) → List ℕ → Tree → Decision
 testsFrom ν zero k g w t = concluded ν k w t
 testsFrom ν (suc n) k g w t =

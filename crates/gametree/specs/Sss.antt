@@ -2,7 +2,7 @@
 -- Stockman's words (source 002; SPEC 10).
 use Prim.Native.Nat.{ℕ, zero, suc, _*_, min}
 use mathlib.Core.Path.{_≡_}
-use mathlib.Core.Bool.{Bool, true, false, cond, _||_, _&&_}
+use mathlib.Core.Bool.{Bool, cond, _||_, _&&_}
 use mathlib.Core.Option.{none, some}
 use mathlib.Core.List.{List, [], _∷_, _++_, map}
 use lib.Dec.{ltb, eqb}
@@ -52,15 +52,15 @@ abbrev pub purge : Tree → ℕ → List State → List State
 purge t p [] = []
 purge t p (s ∷ ss) = cond (aboveIn t p (s .node)) (purge t p ss) (s ∷ purge t p ss)
 
--- a LIVE state s is replaced by what p puts in its place: a leaf is evaluated, and SOLVED; of a Max node all children
--- are LIVE, of a Min node the first
+-- the LIVE state s is replaced, and p puts the new states in its place: a leaf is evaluated, and SOLVED; of a Max node
+-- all children are LIVE, of a Min node the first
 abbrev pub replaceLive : (ℕ → ℕ) → State → (List State → List State) → Tree → Step
 replaceLive ν s p (leaf n) = evaluating (s .node) (s .merit) (p (solved (s .node) (min (s .merit) (ν (s .node))) ∷ []))
 replaceLive ν s p (inner n Max ks) = quiet (p (map (λ c. live c (s .merit)) (firstOf ks ∷ othersOf ks)))
 replaceLive ν s p (inner n Min ks) = quiet (p (live (firstOf ks) (s .merit) ∷ []))
 
--- so is a SOLVED state s: under Max the parent q is SOLVED and all states below it go; under Min the next sibling is
--- LIVE, after the last the parent is SOLVED
+-- the SOLVED state s is replaced: under Max the parent q is SOLVED and all states below it go; under Min the next
+-- sibling is LIVE, after the last the parent is SOLVED
 abbrev pub replaceSolved : Tree → State → (List State → List State) → Link → Step
 replaceSolved t s p root = stop (s .merit)
 replaceSolved t s p (under q Max b) = quiet (purge t q (p (solved q (s .merit) ∷ [])))

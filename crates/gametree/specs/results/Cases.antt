@@ -96,6 +96,12 @@ equalBelow =
 abbrev pub threePasses : Case
 threePasses = evaluatedWith (inner 0 Max (last (inner 1 Min (leaf 2 then last (leaf 3))))) (0 ∷ 0 ∷ 4 ∷ 3 ∷ [])
 
+-- Max(Min(5, 4, 3)): from above each leaf takes a test of its own
+abbrev pub fallingLeaves : Case
+fallingLeaves =
+    evaluatedWith (inner 0 Max (last (inner 1 Min (leaf 2 then (leaf 3 then last (leaf 4))))))
+    (0 ∷ 0 ∷ 5 ∷ 4 ∷ 3 ∷ [])
+
 -- the numbers from k on, one for each entry of a list
 abbrev pub numbers : ℕ → List ℕ → List ℕ
 numbers k [] = []

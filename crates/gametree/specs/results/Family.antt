@@ -1,5 +1,6 @@
 -- The family of searches made of null-window tests with memory: a strategy chooses each test of the root. MTD(f) is one
--- of them (`mtdf-by-tests` in TestRuns); others are its two ends and bisection (source 000, sections 8 and 9).
+-- of them (`mtdf-by-tests` in gametree_theory/proofs/TestRuns); others are its two ends and bisection (source 000,
+-- sections 8 and 9).
 use Prim.Native.Nat.{ℕ, zero, suc, _+_, _/_}
 use mathlib.Core.Bool.{Bool, true, false, cond}
 use mathlib.Core.List.{List, [], _∷_, _++_}
