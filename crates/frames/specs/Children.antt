@@ -13,7 +13,8 @@ childrenOf t i =
     cond (ltb i (frames t) && leb (firstChild t i + childCount t i) (frames t))
     (take (frameSize * childCount t i) (drop (frameSize * firstChild t i) t)) []
 
--- where they begin: at the first child's frame, and at the table's front where there are none to hand back
+-- where that part begins in a table with the pointer p: at the first child's frame; at the table's front for a number
+-- past the last frame, and where the part would reach past the table
 unfoldable pub childrenAt : ℕ × ℕ → List ℕ → ℕ → ℕ × ℕ
 childrenAt p t i =
     cond (ltb i (frames t) && leb (firstChild t i + childCount t i) (frames t))

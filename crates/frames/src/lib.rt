@@ -87,8 +87,8 @@ pub enum Checked {
     Rejected(Rejection),
 }
 
-// The frames of a node's children, as a part of the table; empty on a leaf, past the last frame, and where it would
-// reach past the table.
+// The frames of a node's children, as a part of the table that begins at the first child's; empty on a leaf, past the
+// last frame, and where it would reach past the table.
 pub fn children(table: &[u8], node: usize) -> &[u8]
     ensures { λ r. ⌜ (now r ≡ childrenOf (now (table .entry)) node)
         × (r .ptr ≡ childrenAt (table .entry .ptr) (now (table .entry)) node) ⌝ }
