@@ -24,6 +24,8 @@ use Rattle.shorter.proofs as shorter
 use Rattle.shorter.specs.Choice.{choice, flagsBy, pointerBy}
 use Rattle.verify.proofs as verify
 use Rattle.verify.specs.Check.{verdict}
+use Rattle.variation.proofs as variation
+use Rattle.variation.specs.Outcome.{principalOutcome}
 use Rattle.leastvalue.proofs as leastvalue
 use Rattle.leastvalue.specs.LeastValue.{leastValue}
 use Rattle.worstfill.proofs as worstfill
@@ -88,7 +90,7 @@ sss-solve = record { meets = sss.solve.Met.met }
 pub sss-blank : Runs sss_states.blank.ended sss_states.blank.Symbol.routine (λ κs x r e. r ≡ blank)
 sss-blank = record { meets = sss_states.blank.Met.met }
 
--- the check of a table, of a certificate, and the children of a node
+-- the check of a table, of a certificate, its principal variation, and the children of a node
 
 pub tables-check : Runs tables.check.ended tables.check.Symbol.routine (λ κs (t, _) r e. r ≡ checked (t .now))
 tables-check = record { meets = tables.check.Met.met }
@@ -96,6 +98,10 @@ tables-check = record { meets = tables.check.Met.met }
 pub verify-check : Runs verify.check.ended verify.check.Symbol.routine
     (λ κs (t, (f, _)) r e. r ≡ verdict (t .now) (f .now))
 verify-check = record { meets = verify.check.Met.met }
+
+pub variation-principal : Runs variation.principal.ended variation.principal.Symbol.routine
+    (λ κs (t, (f, (l, _))) r (_, (_, (l′, _))). r leaving l′ .now ≡ principalOutcome (t .now) (f .now) (l .now))
+variation-principal = record { meets = variation.principal.Met.met }
 
 pub frames-children : Runs frames.children.ended frames.children.Symbol.routine
     (λ κs (t, (k, _)) r e. (r .now ≡ childrenOf (t .now) k) × (r .ptr ≡ childrenAt (t .ptr) (t .now) k))

@@ -5,9 +5,9 @@
 -- allowance (request N6): Allowance; capital letters (request N7): Capitals; tables without a second capture (request
 -- N8): Alternating; grafts (request N9): Grafting; a leaf's value for a wanted root value (request N10): LeastValue;
 -- the worst-case filling (request N11): WorstFill; least counts (request N12): LeastCounts; the shorter of two
--- certificates (request N13): Shorter; the lists of leaves (request N14): Order; MTD(f), which no request asks for:
--- Mtdf. The other files carry the theory's theorems to calls over byte tables; what is proved of calls is said of the
--- functions that run in the files above.
+-- certificates (request N13): Shorter; the lists of leaves (request N14): Order; and what no request asks for: MTD(f),
+-- in Mtdf, and the best line of play, in Variation. The other files carry the theory's theorems to calls over byte
+-- tables; what is proved of calls is said of the functions that run in the files above.
 pub mod TheSentence
 pub mod Sentences
 pub mod Contracts
