@@ -1,13 +1,13 @@
 -- The theorems for use on the family of searches made of tests, beyond those that calls need (TestRuns in
 -- gametree_theory).
-use Prim.Native.Nat.{ℕ, suc, _+_, _≤_, _<_}
+use Prim.Native.Nat.{ℕ, suc, _≤_, _<_}
 use native.Mathlib.Omega.{arith}
 use mathlib.Core.Path.{_≡_, refl, sym, _∙_, subst}
 use mathlib.Core.Bool.{true, false}
 use mathlib.Core.List.{[], map}
 use lib.ListN.{length}
 use Rattle.lists.specs.Lists.{All, among, Once, different}
-use Rattle.gametree.specs.Tree.{Tree, least, greatest, minimax, leaves, Scored, Proper}
+use Rattle.gametree.specs.Tree.{Tree, least, greatest, minimax, Scored, Proper}
 use Rattle.gametree.specs.Bounds.{Decided}
 use Rattle.gametree.specs.AlphaBeta.{alphaBeta}
 use Rattle.gametree.specs.Move.{boundMove}

@@ -7,7 +7,7 @@ use mathlib.Core.Path.{_≡_, refl, subst}
 use mathlib.Core.Logic.{⊎-elim}
 use mathlib.Core.Bool.{Bool, true, false, cond}
 use mathlib.Core.Option.{none, some}
-use mathlib.Core.List.{List, [], _∷_, _++_, map}
+use mathlib.Core.List.{List, [], _∷_, map}
 use lib.Dec.{ltb}
 use lib.ListN.{length, length-append}
 use borrow.Author.Tests.{ltb-true, ltb-false, eqb-true}
@@ -19,7 +19,7 @@ use Rattle.gametree.specs.Sss.{Status, LIVE, SOLVED, State, live, solved, beats
 use Rattle.gametree.specs.Sss.{Step, empty, stop, quiet, evaluating, replaceLive, replaceSolved}
 use Rattle.gametree.specs.Sss.{replace, step, ListAfter, atStart, afterQuiet, afterEvaluating}
 use Rattle.lists.proofs.Choice.{clash, or-cases, or-false-both, and-both}
-use Rattle.lists.proofs.Lists.{all-map, all-right}
+use Rattle.lists.proofs.Lists.{all-map}
 use Rattle.gametree_theory.proofs.sss.Steps.{Steps, done, quietly, evaluates, between, taken, step-taken}
 use Rattle.gametree_theory.proofs.sss.Steps.{taken-all, between-all, takenMerit, purge-all}
 use Rattle.gametree_theory.proofs.sss.Frontier.{AtMost}

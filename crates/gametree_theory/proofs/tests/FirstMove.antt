@@ -13,7 +13,7 @@ use Rattle.gametree.specs.declared.Side.{Side}
 use Rattle.gametree.specs.declared.Side.the-variants.{Max, Min}
 use Rattle.gametree.specs.Tree.{Tree, leaf, inner, Children, last, _then_, least, greatest}
 use Rattle.gametree.specs.Tree.{minimax}
-use Rattle.gametree.specs.Tree.{minimaxChildren, number, Score, Scored, ScoredChildren}
+use Rattle.gametree.specs.Tree.{minimaxChildren, Score, Scored, ScoredChildren}
 use Rattle.gametree.specs.Bounds.{known, low, high, Decided}
 use Rattle.gametree.specs.AlphaBeta.{reached}
 use Rattle.gametree.specs.Mtd.{settles}
