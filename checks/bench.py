@@ -92,8 +92,18 @@ def falling(counts):
     return o.table_of(counts, [rank[k] for k in tree.leaves()])
 
 
-def worst(counts):
-    return trees.ranked(counts, False)
+def worst(counts, again=()):
+    return trees.ranked(counts, False, again)
+
+
+def again_path(top, length, leaves):
+    """A path of nodes with 40 children each, the last of which goes on, where one side moves again and again: Min below
+    a root with a single child (top 1), or Max from the root on (top 0). At its end Min moves on, down to so many
+    leaves, each worth less than all before."""
+    full, rest = divmod(leaves, 40)
+    counts = [1] * top + ([40] + [0] * 39) * length + [3, 40, 40, full - 79] + [40] * full + [rest] + [0] * leaves
+    mover_changes = 0 if top else 40 * length       # the node with 3 children, below a path of Max nodes
+    return worst(counts, {k for k in range(top + 1, len(counts)) if counts[k] and k != mover_changes})
 
 
 TREES = {
@@ -107,6 +117,8 @@ TREES = {
     "wide front": lambda: falling(wide_front()),
     "deep front": lambda: falling(below_path(30, 2)),
     "many passes": lambda: falling(below_path(2, 40)),
+    "Min path": lambda: again_path(1, 14, 3436),
+    "Max path": lambda: again_path(0, 15, 3398),
 }
 
 
