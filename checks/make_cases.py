@@ -33,14 +33,15 @@ def add(title, file, call, want):
 
 
 def file_case(title, file, refused=None, rows=None, made_by_program=False):
-    """What the program prints for a file: refused = (number, place) or rows = [(method, value, move, leaves)] where a
-    paper says so."""
+    """What the program prints for a file, which is meant to be refused = (number, place), or to be accepted, with
+    rows = [(method, value, move, leaves)] where these are given."""
     global made
     got = o.report(file).decode()
     if refused:
         assert got == "refused %d %d\n" % refused, (title, got)
-    elif rows:
-        assert got == "method value move leaves\n" + "".join("%s %d %d %d\n" % r for r in rows), (title, got)
+    else:
+        assert got.startswith("method value move leaves\n"), (title, got)
+        assert not rows or got.split("\n", 1)[1] == "".join("%s %d %d %d\n" % r for r in rows), (title, got)
     if made_by_program:
         made += b"# " + title.encode() + b"\n" + got.encode()
     else:
@@ -176,17 +177,18 @@ def rejected_files():
 
 
 def accepted_files():
-    for title, file in (
-            ("last line feed missing", ROW[:-1]),
-            ("value -32000", tree_file(-32000)),
-            ("negative values and ties", tree_file([[-3, 5, -3], [-7, -3, 2], [-3, -1], -3])),
-            ("equal merits: 2 5 2 1", tree_file([[2, 5], [2, 1]])),
-            ("equal leaves: 7 7 7 7", tree_file([[7, 7], [7, 7]])),
-            ("leftmost is not the lower number", tree_file([[[1]], [1, 1]])),
-            ("a low decides nothing in MTD", tree_file([[1, 1], 1])),
-            ("found not below stays so in MTD", tree_file([[[[1, 4], 3], 1]])),
-            ("purge reaches grandchildren", tree_file([[[1, [1]], 2]]))):
-        file_case(title, file)
+    """Trees on which a wrong rule evaluates other leaves: value, move, and the leaves of alpha-beta, MTD and SSS*."""
+    for title, file, value, move, counts in (
+            ("last line feed missing", ROW[:-1], 3, 2, (4, 3, 3)),
+            ("value -32000", tree_file(-32000), -32000, 0, (1, 1, 1)),
+            ("negative values and ties", tree_file([[-3, 5, -3], [-7, -3, 2], [-3, -1], -3]), -3, 1, (6, 6, 6)),
+            ("equal merits: 2 5 2 1", tree_file([[2, 5], [2, 1]]), 2, 1, (3, 3, 3)),
+            ("equal leaves: 7 7 7 7", tree_file([[7, 7], [7, 7]]), 7, 1, (3, 3, 3)),
+            ("leftmost is not the lower number", tree_file([[[1]], [1, 1]]), 1, 1, (2, 2, 2)),
+            ("a low decides nothing in MTD", tree_file([[1, 1], 1]), 1, 1, (3, 3, 3)),
+            ("found not below stays so in MTD", tree_file([[[[1, 4], 3], 1]]), 1, 1, (4, 3, 3)),
+            ("purge reaches grandchildren", tree_file([[[1, [1]], 2]]), 1, 1, (3, 3, 3))):
+        file_case(title, file, rows=[(m, value, move, n) for m, n in zip(("ab", "mtd", "sss"), counts)])
 
 
 # one value of a win at two depths
@@ -559,10 +561,10 @@ def long_output():
 def output_cases():
     """02, N7: a file with small letters, files that are still refused, each with its line, and short buffers."""
     deep = o.file_of(o.regular(1, o.MAX_DEPTH + 1, lambda k: k))
-    for title, file, room, line in (("small letters", b"00000000fffb\n", 16, None),
-                                    ("capitals stay", tree_file(-5), 13, None),
-                                    ("a missing line feed is supplied", b"00000000FfFb", 13, None),
-                                    ("seven lines", ROW, 96, None),
+    for title, file, room, want in (("small letters", b"00000000fffb\n", 16, b"00000000FFFB\n"),
+                                    ("capitals stay", tree_file(-5), 13, b"00000000FFFB\n"),
+                                    ("a missing line feed is supplied", b"00000000FfFb", 13, b"00000000FFFB\n"),
+                                    ("seven lines", ROW, 96, ROW),
                                     ("no byte", b"", 16, b"refused 1 0\n"),
                                     ("a short line", b"00000000fff\n", 16, b"refused 3 0\n"),
                                     ("byte 3 of a leaf", b"00000001fffb\n", 16, b"refused 4 0\n"),
@@ -571,9 +573,9 @@ def output_cases():
                                     ("a short buffer", ROW, 12, None), ("a refusal in a short buffer", b"", 11, None),
                                     ("no buffer", LEAF, 0, None)):
         got = printed(file, room)
-        if line is not None:
-            rest = bytes((FILLED,) * (room - len(line)))
-            assert got == "output %d\ntext%s\n" % (len(line), numbers(line + rest)), title
+        length = "refused 10 0" if want is None else "%d" % len(want)
+        lent = (want or b"") + bytes((FILLED,) * (room - len(want or b"")))
+        assert got == "output %s\ntext%s\n" % (length, numbers(lent)), (title, got)
         add("output: " + title, file, "output %d" % room, got)
 
 
@@ -738,22 +740,30 @@ def regular_cases():
 
 def service_cases():
     """One line, and the children of a node."""
-    for title, file, at in (("first line", ROW, 0), ("second line", ROW, 13), ("last line", ROW, 78),
-                            ("last line without line feed", ROW[:-1], 78), ("end of the file", ROW, 91),
-                            ("past the end", ROW, 92),
-                            ("far past the end", ROW, 99999), ("middle of a line", ROW, 1), ("at a line feed", ROW, 12),
-                            ("small letters in a line", b"00000000fffb\n", 0),
-                            ("carriage return", b"000000000005\r\n", 0),
-                            ("bad digit", b"00000000000g\n", 0), ("empty line", b"\n", 0), ("line of no file", b"", 0),
-                            ("line of a file that is no tree", b"FfFFffFFFFFF0\nFFFFFFFFFFFF\n", 14)):
+    for title, file, at, want in (
+            ("first line", ROW, 0, "line 0 1 2 0 0 0 13"), ("second line", ROW, 13, "line 0 3 2 0 0 0 26"),
+            ("last line", ROW, 78, "line 0 0 0 0 0 4 91"),
+            ("last line without line feed", ROW[:-1], 78, "line 0 0 0 0 0 4 90"),
+            ("end of the file", ROW, 91, "no line 91"), ("past the end", ROW, 92, "no line 92"),
+            ("far past the end", ROW, 99999, "no line 99999"), ("middle of a line", ROW, 1, "no line 1"),
+            ("at a line feed", ROW, 12, "no line 12"),
+            ("small letters in a line", b"00000000fffb\n", 0, "line 0 0 0 0 255 251 13"),
+            ("carriage return", b"000000000005\r\n", 0, "no line 0"), ("bad digit", b"00000000000g\n", 0, "no line 0"),
+            ("empty line", b"\n", 0, "no line 0"), ("line of no file", b"", 0, "no line 0"),
+            ("line of a file that is no tree", b"FfFFffFFFFFF0\nFFFFFFFFFFFF\n", 14,
+             "line 255 255 255 255 255 255 27")):
         got, moved = o.read_line(file, at)
-        add("one line: " + title, file, "line %d" % at, ("line" + numbers(got) if got else "no line") + " %d\n" % moved)
-    for title, file, node in (("root", ROW, 0), ("last family", ROW, 2), ("leaf", ROW, 3),
-                              ("past the last frame", ROW, 7),
-                              ("far past the last frame", ROW, 99999), ("only child", tree_file([9]), 0)):
+        text = ("line" + numbers(got) if got else "no line") + " %d" % moved
+        assert text == want, (title, text)
+        add("one line: " + title, file, "line %d" % at, text + "\n")
+    for title, file, node, want in (
+            ("root", ROW, 0, " 0 3 2 0 0 0 0 5 2 0 0 0"), ("last family", ROW, 2, " 0 0 0 0 0 3 0 0 0 0 0 4"),
+            ("leaf", ROW, 3, ""), ("past the last frame", ROW, 7, ""), ("far past the last frame", ROW, 99999, ""),
+            ("only child", tree_file([9]), 0, " 0 0 0 0 0 9")):
         table = table_of_file(file)
         start, end = o.children(table, node)
-        add("children: " + title, file, "kids %d" % node, "children%s\n" % numbers(table[start:end]))
+        assert numbers(table[start:end]) == want, title
+        add("children: " + title, file, "kids %d" % node, "children%s\n" % want)
 
 
 def main():

@@ -26,29 +26,42 @@ def chain(nodes):
     return b"".join(b"%04X01000000\n" % (k + 1) for k in range(nodes - 1)) + b"000000000001\n"
 
 
+def found(value, move, *counts):
+    """What is printed for an accepted file: value, move, and the leaves of alpha-beta, MTD and SSS*."""
+    rows = "".join("%s %d %d %d\n" % (name, value, move, n) for name, n in zip(("ab", "mtd", "sss"), counts))
+    return "method value move leaves\n" + rows
+
+
+def refused(number, place):
+    return "refused %d %d\n" % (number, place)
+
+
 def samples():
+    """Each file with what it is meant to show; the model must say the same."""
     first = o.file_of(o.table_of_nest([[1, 2], [3, 4]]))
     ending = o.file_of(o.table_of_nest(ENDING))
     wins = o.file_of(o.table_of_nest(WINS))
+    captures = o.file_of(o.table_of_nest(CAPTURES))
     # a child count that went up by one: the next inner node's first child no longer fits
     miscounted = ending.split(b"\n")
     miscounted[2] = miscounted[2][:4] + b"03" + miscounted[2][6:]
+    wide = b"0001%02X000000\n" % (o.MAX_CHILDREN + 1) + b"000000000000\n" * (o.MAX_CHILDREN + 1)
     return {
-        "seven": first,                                             # 01's own sample
-        "ending": ending,                                           # wider: negative values, ties, two depths of leaves
-        "wins": wins,                                               # the sooner win is the better one: worths
-        "captures": o.file_of(o.table_of_nest(CAPTURES)),           # second captures: byte 3
-        "cut-off": ending[:200],                                    # a transfer that broke off in line 15
-        "miscounted": b"\n".join(miscounted),
-        "refused-1": b"",
-        "refused-3": first + b"\n",                                 # a blank line at the end
-        "refused-4": b"000000010005\n",
-        "refused-5": b"000129000000\n" + b"000000000000\n" * 41,    # 41 children
-        "refused-6": b"000000000005\n000101000000\n",               # a leaf, and a node that names itself as its child
-        "refused-7": b"000000007D01\n",                             # 32,001
-        "refused-8": b"000000000005\n000000000006\n",               # two leaves
-        "refused-9": chain(o.MAX_DEPTH + 2),
-        "stored": wins.lower()[:-1],                                # refused with 16; converted it is wins.tree
+        "seven": (first, found(3, 2, 4, 3, 3)),                     # 01's own sample
+        "ending": (ending, found(-20, 2, 15, 11, 11)),              # wider: negative values, ties, two depths of leaves
+        "wins": (wins, found(31499, 2, 4, 3, 3)),                   # the sooner win is the better one: worths
+        "captures": (captures, found(40, 1, 6, 6, 6)),              # second captures: byte 3
+        "cut-off": (ending[:200], refused(3, 15)),                  # a transfer that broke off in line 15
+        "miscounted": (b"\n".join(miscounted), refused(6, 3)),
+        "refused-1": (b"", refused(1, 0)),
+        "refused-3": (first + b"\n", refused(3, 7)),                # a blank line at the end
+        "refused-4": (b"000000010005\n", refused(4, 0)),
+        "refused-5": (wide, refused(5, 0)),                         # a child too many
+        "refused-6": (b"000000000005\n000101000000\n", refused(6, 1)),      # a leaf, then a node that is its own child
+        "refused-7": (b"000000007D01\n", refused(7, 0)),            # 32,001
+        "refused-8": (b"000000000005\n000000000006\n", refused(8, 2)),      # two leaves
+        "refused-9": (chain(o.MAX_DEPTH + 2), refused(9, o.MAX_DEPTH + 1)),
+        "stored": (wins.lower()[:-1], refused(16, 2)),              # converted it is wins.tree
     }
 
 
@@ -68,15 +81,21 @@ def certificates():
 def main():
     root = os.path.dirname(os.path.dirname(os.path.abspath(__file__)))
     directory = sys.argv[1] if len(sys.argv) > 1 else os.path.join(root, "samples")
-    for name, file in samples().items():
-        for ending, data in [("tree", file), ("expected", o.report(file))] + [("capitals",
-                                                                               o.capitals(file))] * (name == "stored"):
-            with open(os.path.join(directory, name + "." + ending), "wb") as f:
-                f.write(data)
-    for name, data in certificates().items():
-        with open(os.path.join(directory, name + ".certificate"), "wb") as f:
+    files = {}
+    for name, (file, meant) in samples().items():
+        got = o.report(file)
+        number = name[len("refused-"):] if name.startswith("refused-") else ""
+        if got != meant.encode() or not got.startswith(b"refused %s " % number.encode() if number else b""):
+            sys.exit("%s no longer shows what it is meant to: %r, and not %r" % (name, got.decode(), meant))
+        files[name + ".tree"], files[name + ".expected"] = file, got
+    files["stored.capitals"] = o.capitals(files["stored.tree"])
+    if files["stored.capitals"] != files["wins.tree"]:
+        sys.exit("stored is no longer converted to wins")
+    files.update((name + ".certificate", data) for name, data in certificates().items())
+    for name, data in files.items():
+        with open(os.path.join(directory, name), "wb") as f:
             f.write(data)
-    print("%d samples" % (len(samples()) + len(certificates())))
+    print("%d samples, each shows what it is meant to" % (len(samples()) + len(certificates())))
 
 
 if __name__ == "__main__":
