@@ -2,8 +2,8 @@
 -- converter cite. "lifts the letters a to f to capitals and then reads and writes as in N3": `convertOutcome` in
 -- convert/specs/Convert.antt. "The reader takes capital hexadecimal letters and no others" and "their trees do not
 -- change": `capitals-taken` and `converted-same` in Sentences.antt; "For a file still refused" nothing is written:
--- `convert-keeps` in TheSentence.antt. "a lowercase letter a to f in a line, 16, place the first such line":
--- `lowest-line` in Demand1.antt.
+-- `convert-keeps` in TheSentence.antt. "a small letter a to f in a line, 16, place the first such line":
+-- `lowest-small` in Demand1.antt.
 use Prim.Native.Nat.{ℕ, _*_, _≤_, _<_}
 use native.Mathlib.Omega.{arith}
 use mathlib.Core.Path.{_≡_, refl, sym, ap, _∙_}
@@ -38,7 +38,7 @@ use Rattle.convert.proofs.Printing.{line-printed, file-printed}
 
 module _ (f : List ℕ) where
   -- "asked after question 3 .. has passed for all lines and before 4": a file that passes 1 to 3 and has a line with a
-  -- lowercase letter gets it, whatever its frames and the lent table are
+  -- small letter gets it, whatever its frames and the lent table are
   pub small-refused : (check1 f andThen fileCheck2 f andThen fileCheck3 f) ≡ none → (i : ℕ) → i < length (linesOf f)
       → hasLowercase (getD (linesOf f) i []) ≡ true
       → (r : Rejection) × (fileCheck16 f ≡ some r) × ((table : List ℕ) → readOutcome f table .answer ≡ RejectedTable r)
