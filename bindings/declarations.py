@@ -6,7 +6,8 @@
 
 It reads each `#[no_mangle] pub extern "C" fn` of crates/buulset and each `#[repr(C)]` struct of crates/buulset_answers, and
 compares, in order, the kinds and names of the parameters, the result, and the members of the structs; the constants
-that stand in both; the version; and, where an archive is given, its symbols."""
+that stand in both; the version; the texts of the refusals, in C with those in Rust; and, where an archive is given, its
+symbols."""
 import ctypes
 import importlib.util
 import pathlib
@@ -134,6 +135,12 @@ def differences(source, header, ffi, lib, module, archive=None):
         for name in sorted(set(of) & set(named)):
             compare(where, name, of[name], named[name])
         compare(where, "that it has the version", "VERSION" in of, True)
+    texts = dict(re.findall(r'case (\d+): return ("[^"]*");', header))
+    in_rust = dict(re.findall(r'^ +(\d+) => ("[^"]*"),$', lib, re.M))
+    questions = header[:header.index("Flags of a certificate")]
+    for number in re.findall(r"BUULSET_\w+ = (\d+),? +/\*", questions):
+        compare("C", "the text of refusal " + number, texts.get(number), in_rust.get(number, "there"))
+    compare("C", "which refusals have a text", sorted(set(texts) - {"0"}), sorted(in_rust))
     if archive:
         symbols = subprocess.run(["nm", archive], capture_output=True, text=True, check=True).stdout
         compare(archive, "its functions", sorted(re.findall(r" T (\w+)", symbols)), sorted(want[0]))
@@ -151,6 +158,8 @@ WRONG = (
     (1, "uint16_t *BUULSET_RESTRICT order", "uint8_t *BUULSET_RESTRICT order"),
     (1, "#define BUULSET_MAX_DEPTH 18", "#define BUULSET_MAX_DEPTH 24"),
     (1, "#define BUULSET_VERSION 10100", "#define BUULSET_VERSION 10101"),
+    (1, 'case 11: return "a wrong flag";', 'case 11: return "a wrong value";'),
+    (1, '    case 23: return "the depth is more than 18";\n', ""),
     (2, "fn fill(table: &mut [u8])", "fn fill(table: &[u8])"),
     (2, "node: usize, wanted: i32", "wanted: i32, node: usize"),
     (2, "    pub leaves: usize,\n    pub steps: usize,", "    pub steps: usize,\n    pub leaves: usize,"),

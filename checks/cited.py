@@ -40,9 +40,9 @@ def files(folder, *ends):
 
 
 def declared():
-    """Every name that a file of the crates declares, and every word that one uses."""
+    """Every name that a file of the crates or the header for C declares, and every word that one uses."""
     names = set()
-    for path in files("crates", ".antt", ".rt"):
+    for path in [*files("crates", ".antt", ".rt"), *files("bindings/c", ".h")]:
         for word in re.findall(r"[^\s(){}\[\],;.:`«»]+", read(path)):
             names.add(word)
     return names

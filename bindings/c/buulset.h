@@ -56,14 +56,16 @@ extern "C" {
 #define BUULSET_WIN 31000         /* from here up a value is a win, and from -31,000 down a loss */
 #define BUULSET_NOTHING_YET 32001 /* the merit of a run that was stopped before it had a bound */
 
-/* THE QUESTIONS: what `refused` says. docs/SPEC.md, section 4, has each with its place. */
+/* THE QUESTIONS: what `refused` says; buulset_meaning gives a text for it. docs/SPEC.md, section 4, has each with its
+ * place. */
 enum {
     BUULSET_EMPTY = 1,             /* there is no byte */
     BUULSET_TOO_LONG = 2,          /* more bytes than a file or a table may have */
     BUULSET_NOT_WHOLE = 3,         /* a line is not twelve digits; bytes are left over after the last frame */
     BUULSET_WRONG_BYTE_3 = 4,      /* byte 3 is neither 0, nor 1 on an inner node other than the root */
     BUULSET_TOO_MANY_CHILDREN = 5, /* more than 40 */
-    BUULSET_WRONG_FIRST_CHILD = 6, /* not 1 plus the child counts of all nodes before; not 0 on a leaf */
+    BUULSET_WRONG_FIRST_CHILD = 6, /* an inner node's is not 1 plus the child counts of all nodes before it, or is not
+                                    * greater than its own number; a leaf's is not 0 */
     BUULSET_WRONG_VALUE = 7,       /* not -32,000 to 32,000 on a leaf, not 0 on an inner node */
     BUULSET_WRONG_TOTAL = 8,       /* 1 plus all child counts is not the number of nodes */
     BUULSET_TOO_DEEP = 9,          /* a node below depth 18 */
@@ -87,7 +89,8 @@ enum {
 enum { BUULSET_IN_MAX = 1, BUULSET_IN_MIN = 2, BUULSET_IN_BOTH = 3 };
 
 /* ANSWERS, by value. `refused` is 0 for a result; otherwise it is the number of the first question that got a "no",
- * `place` is its place (a node, a line, or 0), and every other member is 0. A member that a call does not give is 0. */
+ * `place` is its place (a node, a line, a number of frames, or 0), and every other member is 0. A member that a call
+ * does not give is 0. */
 typedef struct buulset_answer {
     uint8_t refused;
     uint8_t spent; /* sss: 1 if the allowance stopped the run */
@@ -228,6 +231,36 @@ buulset_text buulset_report(const uint8_t *file, size_t file_len);
 
 /* The line that it prints for a refusal. */
 buulset_text buulset_refused(uint8_t number, size_t place);
+
+/* What a refusal means, in a few words; of this header, and not of the library. */
+static inline const char *buulset_meaning(uint8_t refused) {
+    switch (refused) {
+    case 0: return "no refusal";
+    case 1: return "no bytes";
+    case 2: return "too many bytes";
+    case 3: return "not whole lines or frames";
+    case 4: return "a wrong byte 3";
+    case 5: return "too many children";
+    case 6: return "a wrong first child";
+    case 7: return "a wrong value";
+    case 8: return "a wrong number of nodes";
+    case 9: return "too deep";
+    case 10: return "a lent buffer is too short";
+    case 11: return "a wrong flag";
+    case 12: return "the max flags form no solution tree";
+    case 13: return "the min flags form no solution tree";
+    case 14: return "the two solution trees have different values";
+    case 16: return "a small letter";
+    case 17: return "the node is no leaf where Max would move";
+    case 18: return "the grafted tree is too large or too deep";
+    case 19: return "the node is no leaf";
+    case 20: return "the wanted value is out of range";
+    case 21: return "no value of the leaf gives the root the wanted one";
+    case 22: return "the width is not 1 to 40";
+    case 23: return "the depth is more than 18";
+    default: return "no question has this number";
+    }
+}
 
 /* READING A TABLE THAT WAS CHECKED: `node` is less than the number of nodes. */
 

@@ -95,6 +95,7 @@ static int16_t one_search(const lent *t, int which) {
     memset(t->flags, 7, n);
     buulset_answer no = searched(t, which, n - 1, n);
     EXPECT(no.refused == BUULSET_SHORT_BUFFER && no.place == 0 && all(t->marks, n, 7) && all(t->flags, n, 7));
+    EXPECT(!strcmp(buulset_meaning(no.refused), "a lent buffer is too short"));
     if (which > 0) {
         no = searched(t, which, n, n - 1);
         EXPECT(no.refused == BUULSET_SHORT_BUFFER && all(t->marks, n, 7) && all(t->flags, n, 7));

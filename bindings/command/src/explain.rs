@@ -55,7 +55,8 @@ pub const QUESTIONS: [Question; 22] = [
     ask(5, TREES, "has the node at most 40 children?", "the node",
         "Byte 2 (digits 5 and 6) is the count of children, in hexadecimal: 28 is 40."),
     ask(6, TREES,
-        "is the first child (digits 1 to 4) 1 plus the children of all nodes before, and 0000 on a leaf?",
+        "is the first child (digits 1 to 4) 1 plus the children of all nodes before and greater than the node's own \
+         number, and 0000 on a leaf?",
         "the node",
         "Usually a child was miscounted, at this node or at one before it, or a line is missing."),
     ask(7, TREES,

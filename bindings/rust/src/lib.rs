@@ -52,7 +52,7 @@ pub const VERSION: u32 = 10100;
 pub struct Refusal {
     /// The number of the question, 1 to 23.
     pub number: u8,
-    /// Where: a node, a line, or 0.
+    /// Where: a node, a line, a number of frames, or 0.
     pub place: usize,
 }
 
