@@ -1,59 +1,60 @@
 //! The words after a command: files and numbers by their place, and options.
+use crate::table::{Choice, Command};
 use crate::{help, Failure};
 use std::ffi::{OsStr, OsString};
 use std::fmt::Display;
+use std::io::{self, IsTerminal};
+use std::os::unix::ffi::{OsStrExt, OsStringExt};
 use std::str::FromStr;
 
 pub struct Arguments {
-    command: &'static str,
+    command: &'static Command,
     words: std::vec::IntoIter<OsString>,
     options: Vec<(&'static str, Option<OsString>)>,
 }
 
 impl Arguments {
-    /// Takes the words apart. An option of `flags` stands alone, one of `valued` has a value after it or after `=`.
-    /// A word that is `-`, or a negative number, or comes after `--`, is no option.
-    pub fn new(
-        command: &'static str,
-        words: Vec<OsString>,
-        flags: &[&'static str],
-        valued: &[&'static str],
-    ) -> Result<Arguments, Failure> {
+    /// Takes the words apart by the options of the command. An option that has a value finds it in the next word or
+    /// after `=`. A word that is `-`, or a negative number, or comes after `--`, is no option.
+    pub fn new(command: &'static Command, words: Vec<OsString>) -> Result<Arguments, Failure> {
         let (mut plain, mut options) = (Vec::new(), Vec::new());
         let mut rest = words.into_iter();
         while let Some(word) = rest.next() {
-            let text = word.to_string_lossy().into_owned();
-            if text == "--" {
+            let bytes = word.as_bytes();
+            if bytes == b"--" {
                 plain.extend(rest.by_ref());
-            } else if !text.starts_with('-') || text == "-" || text[1..].starts_with(|c: char| c.is_ascii_digit()) {
+            } else if bytes.len() < 2 || bytes[0] != b'-' || bytes[1].is_ascii_digit() {
                 plain.push(word);
             } else {
-                let (name, value) = match text.split_once('=') {
-                    Some((name, value)) => (name.to_string(), Some(OsString::from(value))),
-                    None => (text.clone(), None),
-                };
-                let name = if name == "-q" { "--quiet".into() } else { name };
-                if let Some(flag) = flags.iter().find(|f| **f == name && value.is_none()) {
-                    options.push((*flag, None));
-                } else if let Some(option) = valued.iter().find(|v| **v == name) {
-                    let Some(value) = value.or_else(|| rest.next()) else {
-                        return Err(wrong(command, format!("{name} wants a value")));
-                    };
-                    options.push((*option, Some(value)));
-                } else {
-                    return Err(wrong(command, format!("there is no option {text}")));
-                }
+                options.push(option(command, &word, &mut rest)?);
             }
         }
-        Ok(Arguments { command, words: plain.into_iter(), options })
+        let arguments = Arguments { command, words: plain.into_iter(), options };
+        arguments.check_output()?;
+        Ok(arguments)
+    }
+
+    /// Where the result goes is said once, and `--force` only of a file.
+    fn check_output(&self) -> Result<(), Failure> {
+        let (output, in_place) = (self.has("--output"), self.has("--in-place"));
+        if output && in_place {
+            return Err(self.wrong("-o and --in-place exclude each other"));
+        }
+        if self.has("--force") && !output && !in_place {
+            return Err(self.wrong("--force is about a file that is replaced: it goes with -o or --in-place"));
+        }
+        if in_place && self.words.as_slice().first().is_some_and(|word| word == "-") {
+            return Err(self.wrong("standard input has no place to be changed in"));
+        }
+        Ok(())
     }
 
     pub fn wrong(&self, text: impl Display) -> Failure {
         wrong(self.command, text)
     }
 
-    pub fn has(&self, flag: &str) -> bool {
-        self.options.iter().any(|(name, _)| *name == flag)
+    pub fn has(&self, name: &str) -> bool {
+        self.options.iter().any(|(n, _)| *n == name)
     }
 
     /// The value of an option; the last one counts.
@@ -64,6 +65,21 @@ impl Arguments {
     /// The next word, which is called `what`.
     pub fn word(&mut self, what: &str) -> Result<OsString, Failure> {
         self.words.next().ok_or_else(|| self.wrong(format!("{what} is missing")))
+    }
+
+    /// The next word as the last file; where there is none, standard input, if it is a pipe or a file.
+    pub fn last_file(&mut self) -> Result<OsString, Failure> {
+        if self.words.len() == 0 && self.takes_input() {
+            return Ok("-".into());
+        }
+        let name = self.word("FILE")?;
+        self.end()?;
+        Ok(name)
+    }
+
+    /// May standard input stand for a file that is not named?
+    pub fn takes_input(&self) -> bool {
+        !self.has("--in-place") && !io::stdin().is_terminal()
     }
 
     /// The next word as a number.
@@ -79,9 +95,7 @@ impl Arguments {
 
     fn parsed<T: FromStr>(&self, what: &str, word: &OsStr) -> Result<T, Failure> {
         let text = word.to_string_lossy();
-        // thousands may be written as in the papers: 32,000
-        let digits = text.replace(',', "");
-        digits.parse().map_err(|_| self.wrong(format!("{what} is no number that fits: {text}")))
+        number(&text).ok_or_else(|| self.wrong(format!("{what} is no number that fits: {text}")))
     }
 
     pub fn is_empty(&self) -> bool {
@@ -102,6 +116,72 @@ impl Arguments {
     }
 }
 
-fn wrong(command: &str, text: impl Display) -> Failure {
-    Failure::Use(format!("{text}\n{}\n`buulset {command} --help` says more", help::usage(command)))
+/// The option that a word names, with its value.
+fn option(
+    command: &'static Command,
+    word: &OsStr,
+    rest: &mut impl Iterator<Item = OsString>,
+) -> Result<(&'static str, Option<OsString>), Failure> {
+    let bytes = word.as_bytes();
+    let equals = bytes.iter().position(|&b| b == b'=');
+    let name = String::from_utf8_lossy(&bytes[..equals.unwrap_or(bytes.len())]).into_owned();
+    let after = equals.map(|at| OsString::from_vec(bytes[at + 1..].to_vec()));
+    let Some(choice) = command.choices().find(|c| c.name == name || c.short == Some(&name)) else {
+        let names: Vec<&str> = command.choices().map(|c: &Choice| c.name).collect();
+        let meant = nearest(&name, &names).map_or(String::new(), |near| format!(": did you mean {near}?"));
+        return Err(wrong(command, format!("there is no option {}{meant}", word.to_string_lossy())));
+    };
+    match (choice.value, after) {
+        (None, None) => Ok((choice.name, None)),
+        (None, Some(_)) => Err(wrong(command, format!("{name} has no value"))),
+        (Some(_), Some(value)) => Ok((choice.name, Some(value))),
+        (Some(_), None) => match rest.next() {
+            Some(value) => Ok((choice.name, Some(value))),
+            None => Err(wrong(command, format!("{name} wants a value"))),
+        },
+    }
+}
+
+/// A number in base ten; thousands may be set off by commas, all of them: 32,000.
+pub fn number<T: FromStr>(text: &str) -> Option<T> {
+    let digits = text.trim_start_matches(['-', '+']);
+    if digits.len() + 1 < text.len() || !digits.starts_with(|c: char| c.is_ascii_digit()) {
+        return None;
+    }
+    let groups: Vec<&str> = digits.split(',').collect();
+    let grouped = groups.len() == 1
+        || (groups[0].len() <= 3 && !digits.starts_with('0') && groups[1..].iter().all(|group| group.len() == 3));
+    if !grouped {
+        return None;
+    }
+    text.replace(',', "").parse().ok()
+}
+
+/// The one of these names that a mistyped one is nearest to, if it is near.
+pub fn nearest<'a>(typed: &str, names: &[&'a str]) -> Option<&'a str> {
+    let most = if typed.trim_start_matches('-').len() > 4 { 2 } else { 1 };
+    names.iter().map(|name| (distance(typed, name), *name)).filter(|(d, _)| *d <= most).min().map(|(_, name)| name)
+}
+
+/// How many letters must be changed, added, left out or swapped with the next to get from one word to another.
+fn distance(a: &str, b: &str) -> usize {
+    let (a, b): (Vec<char>, Vec<char>) = (a.chars().collect(), b.chars().collect());
+    let mut rows = vec![(0..=b.len()).collect::<Vec<usize>>()];
+    for i in 1..=a.len() {
+        let mut row = vec![i];
+        for j in 1..=b.len() {
+            let changed = rows[i - 1][j - 1] + usize::from(a[i - 1] != b[j - 1]);
+            let mut least = changed.min(rows[i - 1][j] + 1).min(row[j - 1] + 1);
+            if i > 1 && j > 1 && a[i - 1] == b[j - 2] && a[i - 2] == b[j - 1] {
+                least = least.min(rows[i - 2][j - 2] + 1);
+            }
+            row.push(least);
+        }
+        rows.push(row);
+    }
+    rows[a.len()][b.len()]
+}
+
+fn wrong(command: &Command, text: impl Display) -> Failure {
+    Failure::Use(format!("{text}\n{}\n`buulset {} --help` says more", help::usage(command), command.name))
 }

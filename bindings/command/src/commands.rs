@@ -1,72 +1,79 @@
 //! The commands, one a row of the table in docs/COMMAND.md.
 use crate::archive::{self, How, Made};
-use crate::arguments::Arguments;
-use crate::{explain, files, help, hints, picture, plan::Plan, Done, Failure};
+use crate::arguments::{nearest, number, Arguments};
+use crate::{files, help, hints, picture, plan::Plan, replace, table, tidy, Done, Failure};
 use buulset::{Refusal, Search, Tree, MAX_FILE};
 use std::ffi::{OsStr, OsString};
 use std::os::unix::ffi::OsStringExt;
 
-pub fn run(mut words: Vec<OsString>) -> Done {
-    if words.is_empty() {
-        return Err(Failure::Use(help::COMMANDS.trim_end().into()));
+pub fn run(words: Vec<OsString>) -> Done {
+    let mut words = words.into_iter().peekable();
+    let mut before = Vec::new();
+    while let Some(quiet) = words.next_if(|word| is_quiet(word)) {
+        before.push(quiet);
     }
-    let command = words.remove(0).to_string_lossy().into_owned();
-    let before_end = words.iter().take_while(|w| *w != "--");
-    if let Some(asked) = before_end.map(|w| w.to_string_lossy()).find(|w| is_help(w) || is_version(w)) {
-        return information(if is_help(&asked) { &command } else { "--version" });
-    }
-    match command.as_str() {
-        "analyse" => analyse(words),
-        "search" => search(words),
-        "order" => order(words),
-        "certify" => certify(words),
-        "verify" => verify(words),
-        "shorter" => shorter(words),
-        "graft" => graft(words),
-        "set" => set(words),
-        "capitals" => capitals(words),
-        "needs" => needs(words),
-        "hardest" => hardest(words),
-        "least" => least(words),
-        "draw" => draw(words),
-        "explain" => explain::run(words),
-        "help" if words.len() == 1 => information(&words[0].to_string_lossy()),
-        other => information(other),
+    let Some(name) = words.next() else {
+        return Err(Failure::Use(help::all().trim_end().into()));
+    };
+    let (name, words): (_, Vec<OsString>) =
+        (name.to_string_lossy().into_owned(), before.into_iter().chain(words).collect());
+    let asked = words.iter().take_while(|word| *word != "--").find(|word| is_help(word) || is_version(word));
+    match (table::command(&name), asked) {
+        (Some(command), None) => (command.run)(Arguments::new(command, words)?),
+        (_, None) if name == tidy::WORD => tidy::run(),
+        (_, None) if name == "help" && words.len() == 1 => information(&words[0].to_string_lossy()),
+        (_, Some(word)) if is_version(word) => information("--version"),
+        _ => information(&name),
     }
 }
 
-fn is_help(word: &str) -> bool {
+fn is_quiet(word: &OsStr) -> bool {
+    word == table::QUIET.name || Some(word) == table::QUIET.short.map(OsStr::new)
+}
+
+fn is_help(word: &OsStr) -> bool {
     word == "--help" || word == "-h"
 }
 
-fn is_version(word: &str) -> bool {
+fn is_version(word: &OsStr) -> bool {
     word == "--version" || word == "-V"
 }
 
 /// The help of a command, or of all; the version.
 fn information(what: &str) -> Done {
-    if is_version(what) {
+    if is_version(what.as_ref()) {
         return files::print(help::version().as_bytes());
     }
-    match help::of(what) {
-        Some(text) => files::print(text.as_bytes()),
-        None => Err(Failure::Use(format!("there is no command {what}\n{}", help::COMMANDS.trim_end()))),
+    if what == "help" || is_help(what.as_ref()) {
+        return files::print(help::all().as_bytes());
+    }
+    match table::command(what) {
+        Some(command) => files::print(help::of(command).as_bytes()),
+        None => Err(no_command(what)),
     }
 }
 
+fn no_command(what: &str) -> Failure {
+    let names: Vec<&str> = table::COMMANDS.iter().map(|command| command.name).collect();
+    Failure::Use(match nearest(what, &names) {
+        Some(near) => format!("there is no command {what}: did you mean {near}?\n`buulset --help` lists all commands"),
+        None => format!("there is no command {what}\n{}", help::all().trim_end()),
+    })
+}
+
 /// The tree of a file, or its refusal with a hint.
-fn tree(name: &OsStr) -> Result<Tree, Failure> {
+pub fn tree(name: &OsStr) -> Result<Tree, Failure> {
     named_tree(name, &files::shown(name))
 }
 
 /// The same with other words for the file.
-fn named_tree(name: &OsStr, shown: &str) -> Result<Tree, Failure> {
+pub fn named_tree(name: &OsStr, shown: &str) -> Result<Tree, Failure> {
     let file = files::tree(name)?;
     Tree::from_file(&file).map_err(|refusal| Failure::Refused(refusal, hints::tree(name, shown, &file, refusal)))
 }
 
 /// The refusal of a call; `what` says what was asked.
-fn refused(what: String) -> impl FnOnce(Refusal) -> Failure {
+pub fn refused(what: String) -> impl FnOnce(Refusal) -> Failure {
     move |refusal| Failure::Refused(refusal, hints::other(&what, refusal))
 }
 
@@ -78,7 +85,7 @@ fn names(arguments: &mut Arguments) -> Result<(Vec<OsString>, bool), Failure> {
     if let Some(list) = listed {
         names.extend(list.split(|&b| b == b'\n').filter(|l| !l.is_empty()).map(|l| OsString::from_vec(l.to_vec())));
     } else if names.is_empty() {
-        return Err(arguments.wrong("FILE is missing"));
+        names.push(arguments.last_file()?);
     }
     let inputs =
         names.iter().filter(|n| *n == "-").count() + usize::from(arguments.option("--from") == Some("-".as_ref()));
@@ -87,15 +94,14 @@ fn names(arguments: &mut Arguments) -> Result<(Vec<OsString>, bool), Failure> {
 }
 
 /// Standard input can be read once.
-fn once(arguments: &Arguments, inputs: usize) -> Done {
+pub fn once(arguments: &Arguments, inputs: usize) -> Done {
     match inputs {
         0 | 1 => Ok(()),
         _ => Err(arguments.wrong("standard input, -, is named more than once")),
     }
 }
 
-fn analyse(words: Vec<OsString>) -> Done {
-    let mut arguments = Arguments::new("analyse", words, &["--quiet"], &["--from"])?;
+pub fn analyse(mut arguments: Arguments) -> Done {
     let (names, named) = names(&mut arguments)?;
     archive::run(&names, How { named, quiet: arguments.has("--quiet") }, |name| {
         let file = files::tree(name)?;
@@ -108,12 +114,11 @@ fn analyse(words: Vec<OsString>) -> Done {
     })
 }
 
-fn capitals(words: Vec<OsString>) -> Done {
-    let mut arguments = Arguments::new("capitals", words, &["--quiet", "--in-place"], &["--from"])?;
+pub fn capitals(mut arguments: Arguments) -> Done {
     let (names, named) = names(&mut arguments)?;
-    let in_place = arguments.has("--in-place");
+    let (in_place, force) = (arguments.has("--in-place"), arguments.has("--force"));
     if in_place && names.iter().any(|n| n == "-") {
-        return Err(arguments.wrong("standard input has no place to be converted in"));
+        return Err(arguments.wrong("standard input has no place to be changed in"));
     }
     archive::run(&names, How { named, quiet: arguments.has("--quiet") }, |name| {
         let file = files::tree(name)?;
@@ -124,7 +129,7 @@ fn capitals(words: Vec<OsString>) -> Done {
                 converted.truncate(length);
                 if in_place {
                     if converted != file {
-                        files::replace(name, &converted)?;
+                        replace::replace(name, &converted, force)?;
                     }
                     converted.clear();
                 }
@@ -135,7 +140,7 @@ fn capitals(words: Vec<OsString>) -> Done {
 }
 
 /// A search by the name of its method.
-fn searched(arguments: &Arguments, method: &OsStr, tree: &Tree) -> Result<Search, Failure> {
+pub fn searched(arguments: &Arguments, method: &OsStr, tree: &Tree) -> Result<Search, Failure> {
     Ok(match method.to_str() {
         Some("ab") => tree.alphabeta(),
         Some("mtd") => tree.mtd(),
@@ -147,7 +152,7 @@ fn searched(arguments: &Arguments, method: &OsStr, tree: &Tree) -> Result<Search
 
 /// The starting value of mtdf:N.
 fn start(method: &OsStr) -> Option<i32> {
-    method.to_str()?.strip_prefix("mtdf:")?.parse().ok()
+    number(method.to_str()?.strip_prefix("mtdf:")?)
 }
 
 fn no_method(arguments: &Arguments, method: &OsStr) -> Failure {
@@ -155,18 +160,16 @@ fn no_method(arguments: &Arguments, method: &OsStr) -> Failure {
 }
 
 /// METHOD and FILE: the method is looked at before the file.
-fn method_and_tree(arguments: &mut Arguments) -> Result<(OsString, Tree), Failure> {
+pub fn method_and_tree(arguments: &mut Arguments) -> Result<(OsString, Tree), Failure> {
     let method = arguments.word("METHOD")?;
     if !["ab", "mtd", "sss", "plain"].iter().any(|m| method == *m) && start(&method).is_none() {
         return Err(no_method(arguments, &method));
     }
-    let name = arguments.word("FILE")?;
-    arguments.end()?;
+    let name = arguments.last_file()?;
     Ok((method, tree(&name)?))
 }
 
-fn search(words: Vec<OsString>) -> Done {
-    let mut arguments = Arguments::new("search", words, &["--quiet"], &["--leaves"])?;
+pub fn search(mut arguments: Arguments) -> Done {
     let allowance: Option<usize> = arguments.optional("--leaves")?;
     let (method, tree) = method_and_tree(&mut arguments)?;
     let search = match allowance {
@@ -191,8 +194,7 @@ fn search(words: Vec<OsString>) -> Done {
     files::print(format!("{line}\n").as_bytes())
 }
 
-fn order(words: Vec<OsString>) -> Done {
-    let mut arguments = Arguments::new("order", words, &["--quiet"], &[])?;
+pub fn order(mut arguments: Arguments) -> Done {
     let (method, tree) = method_and_tree(&mut arguments)?;
     if method == "plain" {
         return Err(arguments.wrong("the plain engine keeps no order: it evaluates every leaf"));
@@ -203,20 +205,19 @@ fn order(words: Vec<OsString>) -> Done {
     files::print(lines.as_bytes())
 }
 
-fn certify(words: Vec<OsString>) -> Done {
-    let mut arguments = Arguments::new("certify", words, &["--quiet"], &[])?;
+pub fn certify(mut arguments: Arguments) -> Done {
     let (method, tree) = method_and_tree(&mut arguments)?;
-    print_certificate(&searched(&arguments, &method, &tree)?.certificate)
+    deliver_certificate(&arguments, &searched(&arguments, &method, &tree)?.certificate)
 }
 
-fn print_certificate(flags: &[u8]) -> Done {
+fn deliver_certificate(arguments: &Arguments, flags: &[u8]) -> Done {
     let mut text: Vec<u8> = flags.iter().map(|flag| b'0' + flag).collect();
     text.push(b'\n');
-    files::print(&text)
+    files::deliver(arguments, None, &text)
 }
 
 /// The flags of a certificate file: one line of digits, which are lent as they are.
-fn certificate(name: &OsStr) -> Result<Vec<u8>, Failure> {
+pub fn certificate(name: &OsStr) -> Result<Vec<u8>, Failure> {
     // flags past the nodes are not asked, and no tree has more than 4,096
     const MOST: u64 = 1 << 16;
     let mut text = files::limited(name, MOST)?;
@@ -237,8 +238,7 @@ fn certificate(name: &OsStr) -> Result<Vec<u8>, Failure> {
     }
 }
 
-fn verify(words: Vec<OsString>) -> Done {
-    let mut arguments = Arguments::new("verify", words, &["--quiet"], &[])?;
+pub fn verify(mut arguments: Arguments) -> Done {
     let (name, proof) = (arguments.word("FILE")?, arguments.word("CERTIFICATE")?);
     arguments.end()?;
     once(&arguments, [&name, &proof].iter().filter(|n| *n == &"-").count())?;
@@ -247,8 +247,7 @@ fn verify(words: Vec<OsString>) -> Done {
     files::print(format!("{value}\n").as_bytes())
 }
 
-fn shorter(words: Vec<OsString>) -> Done {
-    let mut arguments = Arguments::new("shorter", words, &["--quiet"], &[])?;
+pub fn shorter(mut arguments: Arguments) -> Done {
     let (name, a, b) = (arguments.word("FILE")?, arguments.word("A")?, arguments.word("B")?);
     arguments.end()?;
     once(&arguments, [&name, &a, &b].iter().filter(|n| *n == &"-").count())?;
@@ -256,11 +255,10 @@ fn shorter(words: Vec<OsString>) -> Done {
     let chosen = tree
         .shorter(&first, &second)
         .map_err(refused(format!("neither certificate is accepted; {}", files::shown(&a))))?;
-    print_certificate(chosen)
+    deliver_certificate(&arguments, chosen)
 }
 
-fn graft(words: Vec<OsString>) -> Done {
-    let mut arguments = Arguments::new("graft", words, &["--quiet"], &[])?;
+pub fn graft(mut arguments: Arguments) -> Done {
     let one = arguments.word("FILE")?;
     let node: usize = arguments.number("NODE")?;
     let two = arguments.word("the second FILE")?;
@@ -276,39 +274,37 @@ fn graft(words: Vec<OsString>) -> Done {
         };
         refused(what)(refusal)
     })?;
-    files::print(&result.to_file())
+    files::deliver(&arguments, Some(&one), &result.to_file())
 }
 
-/// FILE, LEAF and VALUE: a tree and two numbers.
-fn tree_leaf_and_value(command: &'static str, words: Vec<OsString>) -> Result<(Tree, usize, i32), Failure> {
-    let mut arguments = Arguments::new(command, words, &["--quiet"], &[])?;
+/// FILE, LEAF and VALUE.
+fn file_leaf_and_value(arguments: &mut Arguments) -> Result<(OsString, usize, i32), Failure> {
     let name = arguments.word("FILE")?;
     let (leaf, value) = (arguments.number("LEAF")?, arguments.number("VALUE")?);
     arguments.end()?;
-    Ok((tree(&name)?, leaf, value))
+    Ok((name, leaf, value))
 }
 
-fn set(words: Vec<OsString>) -> Done {
-    let (tree, leaf, value) = tree_leaf_and_value("set", words)?;
-    let changed = tree.with_value(leaf, value).map_err(refused(format!("node {leaf} with the value {value}")))?;
-    files::print(&changed.to_file())
+pub fn set(mut arguments: Arguments) -> Done {
+    let (name, leaf, value) = file_leaf_and_value(&mut arguments)?;
+    let asked = format!("node {leaf} with the value {value}");
+    let changed = tree(&name)?.with_value(leaf, value).map_err(refused(asked))?;
+    files::deliver(&arguments, Some(&name), &changed.to_file())
 }
 
-fn needs(words: Vec<OsString>) -> Done {
-    let (tree, leaf, wanted) = tree_leaf_and_value("needs", words)?;
-    let value = tree.least_value(leaf, wanted).map_err(refused(format!("node {leaf} for the root value {wanted}")))?;
+pub fn needs(mut arguments: Arguments) -> Done {
+    let (name, leaf, wanted) = file_leaf_and_value(&mut arguments)?;
+    let asked = format!("node {leaf} for the root value {wanted}");
+    let value = tree(&name)?.least_value(leaf, wanted).map_err(refused(asked))?;
     files::print(format!("{value}\n").as_bytes())
 }
 
-fn hardest(words: Vec<OsString>) -> Done {
-    let mut arguments = Arguments::new("hardest", words, &["--quiet"], &[])?;
-    let name = arguments.word("FILE")?;
-    arguments.end()?;
-    files::print(&tree(&name)?.filled().0.to_file())
+pub fn hardest(mut arguments: Arguments) -> Done {
+    let name = arguments.last_file()?;
+    files::deliver(&arguments, Some(&name), &tree(&name)?.filled().0.to_file())
 }
 
-fn least(words: Vec<OsString>) -> Done {
-    let mut arguments = Arguments::new("least", words, &["--quiet"], &[])?;
+pub fn least(mut arguments: Arguments) -> Done {
     let (width, depth): (usize, usize) = (arguments.number("WIDTH")?, arguments.number("DEPTH")?);
     arguments.end()?;
     let count = buulset::least_leaves(width, depth).map_err(refused(format!("width {width} and depth {depth}")))?;
@@ -319,11 +315,8 @@ fn least(words: Vec<OsString>) -> Done {
     Ok(())
 }
 
-fn draw(words: Vec<OsString>) -> Done {
-    let flags = ["--quiet", "--watch", "--all"];
-    let mut arguments = Arguments::new("draw", words, &flags, &["--method", "--certificate"])?;
-    let name = arguments.word("FILE")?;
-    arguments.end()?;
+pub fn draw(mut arguments: Arguments) -> Done {
+    let name = arguments.last_file()?;
     let proof = arguments.option("--certificate").map(OsStr::to_os_string);
     once(&arguments, [Some(&name), proof.as_ref()].iter().filter(|n| **n == Some(&"-".into())).count())?;
     let method = match (arguments.option("--method"), &proof) {
@@ -344,5 +337,5 @@ fn draw(words: Vec<OsString>) -> Done {
         watch: arguments.has("--watch"),
         all: arguments.has("--all"),
     };
-    files::print(picture::svg(&tree, &of).as_bytes())
+    files::deliver(&arguments, None, picture::svg(&tree, &of).as_bytes())
 }

@@ -1,6 +1,5 @@
 //! What each question asks, in plain words.
 use crate::{arguments::Arguments, files, Done};
-use std::ffi::OsString;
 
 pub struct Question {
     pub number: u8,
@@ -112,8 +111,7 @@ impl Question {
 const STRUCK_TEXT: &str = "15: struck, and not used again.\n    \
     It asked of SSS* whether a state is on its list while the root is unsolved; that there always is one is proved.\n";
 
-pub fn run(words: Vec<OsString>) -> Done {
-    let mut arguments = Arguments::new("explain", words, &[], &[])?;
+pub fn run(mut arguments: Arguments) -> Done {
     if arguments.is_empty() {
         let all: String = (1..=23).map(|n| question(n).map_or(STRUCK_TEXT.into(), Question::text)).collect();
         return files::print(all.as_bytes());

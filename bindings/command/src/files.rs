@@ -1,10 +1,10 @@
 //! Files in and out.
-use crate::Failure;
+use crate::arguments::Arguments;
+use crate::{replace, Failure};
 use buulset::MAX_FILE;
 use std::ffi::OsStr;
-use std::fs::{self, File};
+use std::fs::File;
 use std::io::{self, ErrorKind, Read, Write};
-use std::path::Path;
 
 /// The most bytes that are read of a tree file: one more than question 2 passes, so it answers as for the whole file.
 const MOST: u64 = MAX_FILE as u64 + 1;
@@ -59,31 +59,12 @@ pub fn print(bytes: &[u8]) -> Result<(), Failure> {
     })
 }
 
-/// Puts a file in the place of another by a rename, so that nobody sees a part of it. A link stays a link.
-pub fn replace(name: &OsStr, bytes: &[u8]) -> Result<(), Failure> {
-    let write = || -> io::Result<()> {
-        let path = fs::canonicalize(name)?;
-        let rights = fs::metadata(&path)?.permissions();
-        let new = beside(&path);
-        let result = File::create_new(&new)
-            .and_then(|mut file| {
-                file.write_all(bytes)?;
-                file.set_permissions(rights)?;
-                file.sync_all()
-            })
-            .and_then(|()| fs::rename(&new, &path));
-        if result.is_err() {
-            fs::remove_file(&new).ok();
-        }
-        result
-    };
-    write().map_err(|error| Failure::Unwritable(format!("{} cannot be replaced: {error}", shown(name))))
-}
-
-/// A name beside a file that no other run takes.
-fn beside(path: &Path) -> std::path::PathBuf {
-    let mut name = std::ffi::OsString::from(".");
-    name.push(path.file_name().unwrap_or_default());
-    name.push(format!(".{}", std::process::id()));
-    path.with_file_name(name)
+/// Puts what a command made where its options say: into the file of `-o`, in the place of the file `from` that it was
+/// made of (`--in-place`), or on standard output. Call it with a result only; a refusal leaves every file as it is.
+pub fn deliver(arguments: &Arguments, from: Option<&OsStr>, made: &[u8]) -> Result<(), Failure> {
+    let target = arguments.option("--output").or(from.filter(|_| arguments.has("--in-place")));
+    match target {
+        Some(name) if name != "-" => replace::replace(name, made, arguments.has("--force")),
+        _ => print(made),
+    }
 }

@@ -4,12 +4,17 @@
 mod archive;
 mod arguments;
 mod commands;
+mod completions;
 mod explain;
 mod files;
 mod help;
 mod hints;
+mod manual;
 mod picture;
 mod plan;
+mod replace;
+mod table;
+mod tidy;
 
 use buulset::Refusal;
 use std::{env, ffi::OsString, process::ExitCode};
@@ -34,8 +39,10 @@ pub type Done = Result<(), Failure>;
 
 fn main() -> ExitCode {
     let arguments: Vec<OsString> = env::args_os().skip(1).collect();
-    let quiet = arguments.iter().any(|a| a == "-q" || a == "--quiet");
-    let failure = match commands::run(arguments) {
+    let quiet = arguments.iter().take_while(|a| *a != "--").any(|a| a == "-q" || a == "--quiet");
+    let done = commands::run(arguments);
+    tidy::end();
+    let failure = match done {
         Ok(()) => return ExitCode::SUCCESS,
         Err(failure) => failure,
     };

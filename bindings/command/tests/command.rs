@@ -1,92 +1,9 @@
 //! The command as its users run it: every command, every exit status, every hint.
+mod common;
+use common::*;
 use std::fs;
-use std::io::Write;
-use std::path::{Path, PathBuf};
-use std::process::{Command, Stdio};
-
-const SEVEN: &str =
-    "000102000000\n000302000000\n000502000000\n000000000001\n000000000002\n000000000003\n000000000004\n";
-
-struct Ran {
-    status: i32,
-    out: String,
-    err: String,
-}
-
-fn command(arguments: &[&str]) -> Command {
-    let mut command = Command::new(env!("CARGO_BIN_EXE_buulset"));
-    command.args(arguments).current_dir(root());
-    command
-}
-
-/// The repository, where `samples` and `docs` are.
-fn root() -> PathBuf {
-    Path::new(env!("CARGO_MANIFEST_DIR")).join("../..")
-}
-
-fn with_input(arguments: &[&str], input: &[u8]) -> Ran {
-    let mut child = command(arguments)
-        .stdin(Stdio::piped())
-        .stdout(Stdio::piped())
-        .stderr(Stdio::piped())
-        .spawn()
-        .expect("the command starts");
-    // a command that refuses its arguments does not read
-    child.stdin.take().unwrap().write_all(input).ok();
-    let output = child.wait_with_output().unwrap();
-    let text = |bytes| String::from_utf8(bytes).unwrap();
-    Ran { status: output.status.code().unwrap(), out: text(output.stdout), err: text(output.stderr) }
-}
-
-fn run(arguments: &[&str]) -> Ran {
-    with_input(arguments, b"")
-}
-
-/// What a command prints that gives a result and says nothing.
-fn prints(arguments: &[&str]) -> String {
-    let ran = run(arguments);
-    assert_eq!((ran.status, ran.err.as_str()), (0, ""), "{arguments:?}");
-    ran.out
-}
-
-/// A command that is refused: its line, and a hint that holds each of these words.
-fn is_refused(ran: &Ran, line: &str, hint: &[&str]) {
-    assert_eq!((ran.status, ran.out.as_str()), (1, format!("{line}\n").as_str()), "{}", ran.err);
-    for words in hint {
-        assert!(ran.err.contains(words), "{words:?} is not in {:?}", ran.err);
-    }
-}
-
-/// Wrong use: nothing on standard output, and these words on standard error.
-fn is_wrong_use(arguments: &[&str], words: &str) {
-    let ran = run(arguments);
-    assert_eq!((ran.status, ran.out.as_str()), (2, ""), "{arguments:?}");
-    assert!(ran.err.contains(words), "{words:?} is not in {:?}", ran.err);
-}
-
-/// A folder for one test.
-struct Folder(PathBuf);
-
-impl Folder {
-    fn new(name: &str) -> Folder {
-        let path = std::env::temp_dir().join(format!("buulset-{name}-{}", std::process::id()));
-        fs::create_dir_all(&path).unwrap();
-        Folder(path)
-    }
-
-    /// A file in it: its name, as an argument.
-    fn file(&self, name: &str, bytes: impl AsRef<[u8]>) -> String {
-        let path = self.0.join(name);
-        fs::write(&path, bytes).unwrap();
-        path.to_str().unwrap().into()
-    }
-}
-
-impl Drop for Folder {
-    fn drop(&mut self) {
-        fs::remove_dir_all(&self.0).ok();
-    }
-}
+use std::path::PathBuf;
+use std::process::Stdio;
 
 fn samples() -> Vec<PathBuf> {
     let mut paths: Vec<_> = fs::read_dir(root().join("samples")).unwrap().map(|e| e.unwrap().path()).collect();
@@ -137,7 +54,6 @@ fn analyse_takes_archives() {
     assert_eq!((ran.status, ran.out), (0, all));
     let list = folder.file("list", &good);
     assert_eq!(run(&["analyse", "--from", &list]).out, format!("{good}\n{report}"));
-    is_wrong_use(&["analyse"], "FILE is missing");
     is_wrong_use(&["analyse", "-", "-"], "more than once");
     is_wrong_use(&["analyse", "--from"], "--from wants a value");
 }
@@ -163,7 +79,7 @@ fn search_gives_one_line() {
     assert_eq!(prints(&["order", "mtdf:3", "samples/seven.tree"]), prints(&["order", "sss", "samples/seven.tree"]));
     is_wrong_use(&["search", "mtdf:", "samples/seven.tree"], "METHOD is ab, mtd, mtdf:N, sss or plain, not mtdf:");
     is_wrong_use(&["search", "minimax", "samples/seven.tree"], "METHOD is ab, mtd, mtdf:N, sss or plain, not minimax");
-    is_wrong_use(&["search", "ab"], "FILE is missing");
+    is_wrong_use(&["verify", "samples/seven.tree"], "CERTIFICATE is missing");
     is_refused(&run(&["search", "ab", "samples/refused-7.tree"]), "refused 7 0", &["the leaf holds 32001"]);
 }
 
@@ -419,11 +335,25 @@ fn is_wrong_use_of_file(name: &str, words: &str) {
 #[test]
 fn help_and_version_are_everywhere() {
     let commands = [
-        "analyse", "search", "order", "certify", "verify", "shorter", "graft", "set", "capitals", "needs", "hardest",
-        "least", "draw", "explain",
+        "analyse",
+        "search",
+        "order",
+        "certify",
+        "verify",
+        "shorter",
+        "graft",
+        "set",
+        "capitals",
+        "needs",
+        "hardest",
+        "least",
+        "draw",
+        "explain",
+        "completions",
+        "manual",
     ];
     let all = prints(&["--help"]);
-    let page = fs::read_to_string(Path::new(env!("CARGO_MANIFEST_DIR")).join("buulset.1")).unwrap();
+    let page = prints(&["manual"]);
     for name in commands {
         let help = prints(&[name, "--help"]);
         assert!(help.starts_with(&format!("usage: buulset {name} ")), "{help}");

@@ -1,0 +1,278 @@
+//! The table of commands. Help, usage, the parsing of options, shell completions and the manual page are made from it.
+use crate::arguments::Arguments;
+use crate::{commands, completions, explain, manual, Done};
+
+pub struct Command {
+    pub name: &'static str,
+    /// The words after the name, as the usage line has them.
+    pub words: &'static str,
+    /// What it does, in the list of all commands.
+    pub does: &'static str,
+    /// What its help and the manual page say; an empty line separates paragraphs.
+    pub about: &'static str,
+    /// The options that it takes besides those of every command.
+    pub options: &'static [Choice],
+    pub examples: &'static [&'static str],
+    pub run: fn(Arguments) -> Done,
+}
+
+/// An option.
+pub struct Choice {
+    pub name: &'static str,
+    pub short: Option<&'static str>,
+    /// What its value is called; `None` where it stands alone.
+    pub value: Option<&'static str>,
+    pub says: &'static str,
+}
+
+const fn flag(name: &'static str, says: &'static str) -> Choice {
+    Choice { name, short: None, value: None, says }
+}
+
+const fn valued(name: &'static str, value: &'static str, says: &'static str) -> Choice {
+    Choice { name, short: None, value: Some(value), says }
+}
+
+/// What every command takes.
+pub const QUIET: Choice = Choice {
+    name: "--quiet",
+    short: Some("-q"),
+    value: None,
+    says: "no hints, progress or summary on standard error; it may also stand before the command",
+};
+
+const OUTPUT: Choice = Choice {
+    name: "--output",
+    short: Some("-o"),
+    value: Some("FILE"),
+    says: "writes to FILE instead of standard output: only a result, and whole or not at all",
+};
+const IN_PLACE: Choice =
+    flag("--in-place", "replaces FILE itself: only by a result, and whole or not at all; its mode is kept");
+const FORCE: Choice =
+    flag("--force", "with -o or --in-place: also replaces a file that is read-only or has hard links");
+const FROM: Choice = valued("--from", "LIST", "takes file names from LIST too, one a line; - is standard input");
+
+pub fn command(name: &str) -> Option<&'static Command> {
+    COMMANDS.iter().find(|command| command.name == name)
+}
+
+impl Command {
+    /// Its options, with those of every command.
+    pub fn choices(&self) -> impl Iterator<Item = &'static Choice> {
+        self.options.iter().chain([&QUIET])
+    }
+}
+
+impl Choice {
+    /// As a usage line has it.
+    pub fn usage(&self) -> String {
+        let name = self.short.filter(|_| self.value.is_some()).unwrap_or(self.name);
+        self.value.map_or(name.into(), |value| format!("{name} {value}"))
+    }
+}
+
+/// What stands for a method, where METHOD is wanted.
+pub const METHODS: [&str; 5] = ["ab", "mtd", "mtdf:", "sss", "plain"];
+
+pub static COMMANDS: &[Command] = &[
+    Command {
+        name: "analyse",
+        words: "FILE..",
+        does: "value, move and leaves by ab, mtd and sss",
+        about: "\
+Prints the minimax value of the root, the first root move that reaches it, and how many leaves were evaluated, by \
+alpha-beta, MTD and SSS*; or `refused`, the number of a question and a place. With several files each report follows a \
+line with the file's name, a summary comes on standard error, and the exit status is 1 if any was refused, 2 if any \
+could not be read.",
+        options: &[FROM],
+        examples: &[
+            "buulset analyse samples/seven.tree",
+            "find archive -name '*.tree' | buulset analyse --from - > reports.txt",
+        ],
+        run: commands::analyse,
+    },
+    Command {
+        name: "search",
+        words: "METHOD FILE",
+        does: "one search, with its passes, tests or replacements",
+        about: "\
+One search, METHOD ab, mtd, mtdf:N, sss or plain, on one line: the method, the value, the root move (0 where the root \
+is a leaf), the number of evaluated leaves, and the passes of mtd, the tests of mtdf or the replacements of sss; plain \
+counts neither. mtdf:N starts from the value N, a guess: it never changes the value or the move, only how many leaves \
+it takes.",
+        options: &[valued(
+            "--leaves",
+            "N",
+            "sss evaluates N leaves at most; where it needs more: `spent`, the merit (the root's value is at most this; \
+             32001 says nothing yet), the leaves and the replacements so far",
+        )],
+        examples: &[
+            "buulset search mtd samples/ending.tree",
+            "buulset search mtdf:-20 samples/ending.tree",
+            "buulset search sss samples/ending.tree --leaves 10",
+        ],
+        run: commands::search,
+    },
+    Command {
+        name: "order",
+        words: "METHOD FILE",
+        does: "the evaluated leaves in their order: node and worth",
+        about: "\
+The evaluated leaves in the order in which METHOD, ab, mtd, mtdf:N or sss, evaluates them: a line each, with the \
+node's number and the leaf's worth.",
+        options: &[],
+        examples: &["buulset order sss samples/seven.tree"],
+        run: commands::order,
+    },
+    Command {
+        name: "certify",
+        words: "METHOD FILE",
+        does: "a certificate of the value",
+        about: "\
+A certificate of the root's value, as METHOD, ab, mtd, mtdf:N, sss or plain, finds it: one line with a digit for each \
+node, 1 in the max solution tree, 2 in the min solution tree, 3 in both, 0 in neither. `buulset verify` checks it.",
+        options: &[OUTPUT, FORCE],
+        examples: &["buulset certify sss samples/ending.tree -o ending.certificate"],
+        run: commands::certify,
+    },
+    Command {
+        name: "verify",
+        words: "FILE CERTIFICATE",
+        does: "the value that a certificate certifies",
+        about: "\
+Checks a certificate, one line of digits, and prints the value that it certifies: the minimax value of the root. \
+Digits past the nodes of the tree are not looked at.",
+        options: &[],
+        examples: &["buulset certify ab samples/seven.tree | buulset verify samples/seven.tree -"],
+        run: commands::verify,
+    },
+    Command {
+        name: "shorter",
+        words: "FILE A B",
+        does: "of two certificates the one with fewer leaves",
+        about: "\
+Of two certificates the one with fewer flagged leaves, the first on a tie; if only one is accepted, that one. If \
+neither is, the refusal of the first stands.",
+        options: &[OUTPUT, FORCE],
+        examples: &["buulset shorter samples/ending.tree samples/ending-long.certificate samples/ending.certificate"],
+        run: commands::shorter,
+    },
+    Command {
+        name: "graft",
+        words: "FILE NODE FILE",
+        does: "the first tree with the second in place of a leaf",
+        about: "\
+The file of the first tree with the second in place of the leaf NODE, where Max would move. On a refusal standard \
+error says which file is meant. --in-place replaces the first file.",
+        options: &[OUTPUT, IN_PLACE, FORCE],
+        examples: &["buulset graft samples/seven.tree 4 samples/ending.tree -o deeper.tree"],
+        run: commands::graft,
+    },
+    Command {
+        name: "set",
+        words: "FILE LEAF VALUE",
+        does: "the tree with another value at a leaf",
+        about: "\
+The file with another value at a leaf, from -32,000 to 32,000. The changed table is checked before anything is \
+written: a node that is no leaf is refused with 19, a value out of range with 7.",
+        options: &[OUTPUT, IN_PLACE, FORCE],
+        examples: &[
+            "buulset set samples/seven.tree 4 -120 -o changed.tree",
+            "buulset set changed.tree 4 -1,200 --in-place",
+        ],
+        run: commands::set,
+    },
+    Command {
+        name: "capitals",
+        words: "FILE..",
+        does: "files with their letters as capitals",
+        about: "\
+Files with their letters a to f as capitals and every line closed; the trees do not change. With several files each \
+follows a line with its name. With --in-place only refusals are printed, a refused file stays as it is, and standard \
+error says how many files changed.",
+        options: &[IN_PLACE, FORCE, FROM],
+        examples: &["buulset capitals samples/stored.tree", "buulset capitals --in-place archive/*.tree"],
+        run: commands::capitals,
+    },
+    Command {
+        name: "needs",
+        words: "FILE LEAF VALUE",
+        does: "the smallest value of the leaf that gives the root VALUE",
+        about: "\
+The smallest value of the leaf, from -32,000 to 32,000, that makes the root's value exactly VALUE, the other leaves as \
+they are. Where there is none: `refused 21` and the leaf.",
+        options: &[],
+        examples: &["buulset needs samples/seven.tree 5 4"],
+        run: commands::needs,
+    },
+    Command {
+        name: "hardest",
+        words: "FILE",
+        does: "the same shape, filled so that alpha-beta evaluates every leaf",
+        about: "\
+The file of the hardest tree of this shape: its leaves hold 0, 1, 2 and so on, arranged so that alpha-beta evaluates \
+every one of them.",
+        options: &[OUTPUT, IN_PLACE, FORCE],
+        examples: &["buulset hardest samples/ending.tree | buulset search ab -"],
+        run: commands::hardest,
+    },
+    Command {
+        name: "least",
+        words: "WIDTH DEPTH",
+        does: "the fewest leaves that decide a regular tree",
+        about: "\
+The fewest leaves to expect of any search where every inner node has WIDTH children, 1 to 40, all leaves lie at DEPTH, \
+0 to 18, and the sides alternate; 65535 is that or more.",
+        options: &[],
+        examples: &["buulset least 10 6"],
+        run: commands::least,
+    },
+    Command {
+        name: "draw",
+        words: "FILE",
+        does: "a picture of the tree and its solution trees, as SVG",
+        about: "\
+A picture of the tree as SVG, for any browser: the root at the left, a leaf a row, the evaluated leaves with their \
+number in the order, the two solution trees drawn out, what was passed over drawn together.",
+        options: &[
+            valued("--method", "METHOD", "ab, mtd, mtdf:N, sss (if nothing is said) or plain"),
+            valued("--certificate", "FILE", "draws the solution trees of this certificate; without --method, nothing else"),
+            flag("--watch", "lets the leaves light up in their order"),
+            flag("--all", "draws what was passed over, too"),
+            OUTPUT,
+            FORCE,
+        ],
+        examples: &["buulset draw samples/ending.tree -o ending.svg"],
+        run: commands::draw,
+    },
+    Command {
+        name: "explain",
+        words: "[NUMBER]",
+        does: "what a question asks that got a \"no\"",
+        about: "What a question asks, with its place, in plain words; without a number all of them.",
+        options: &[],
+        examples: &["buulset explain 6"],
+        run: explain::run,
+    },
+    Command {
+        name: "completions",
+        words: "SHELL",
+        does: "what bash, zsh or fish needs to complete commands and options",
+        about: "\
+Completions for SHELL: bash, zsh or fish. `tools/install` puts them where the shells look for them; by hand, for \
+bash in this session alone, as below.",
+        options: &[OUTPUT, FORCE],
+        examples: &["eval \"$(buulset completions bash)\"", "buulset completions fish -o buulset.fish"],
+        run: completions::run,
+    },
+    Command {
+        name: "manual",
+        words: "",
+        does: "the manual page, for man",
+        about: "The manual page in the language of `man`, made of what `--help` says.",
+        options: &[OUTPUT, FORCE],
+        examples: &["buulset manual -o buulset.1"],
+        run: manual::run,
+    },
+];
