@@ -26,7 +26,11 @@ impl Arguments {
             } else if bytes.len() < 2 || bytes[0] != b'-' || bytes[1].is_ascii_digit() {
                 plain.push(word);
             } else {
-                options.push(option(command, &word, &mut rest)?);
+                let (name, value) = option(command, &word, &mut rest)?;
+                if value.is_some() && options.iter().any(|(other, _)| *other == name) {
+                    return Err(wrong(command, format!("{name} is given twice")));
+                }
+                options.push((name, value));
             }
         }
         let arguments = Arguments { command, words: plain.into_iter(), options };
@@ -37,16 +41,22 @@ impl Arguments {
     /// Where the result goes is said once, and `--force` only of a file.
     fn check_output(&self) -> Result<(), Failure> {
         let (output, in_place) = (self.has("--output"), self.has("--in-place"));
-        if output && in_place {
-            return Err(self.wrong("-o and --in-place exclude each other"));
-        }
-        if self.has("--force") && !output && !in_place {
+        self.exclude("--output", "--in-place")?;
+        if self.has("--force") && !output && !in_place && !self.has("--map") {
             return Err(self.wrong("--force is about a file that is replaced: it goes with -o or --in-place"));
         }
         if in_place && self.words.as_slice().first().is_some_and(|word| word == "-") {
             return Err(self.wrong("standard input has no place to be changed in"));
         }
         Ok(())
+    }
+
+    /// Two options that cannot be had together.
+    pub fn exclude(&self, one: &str, other: &str) -> Result<(), Failure> {
+        match self.has(one) && self.has(other) {
+            true => Err(self.wrong(format!("{one} and {other} exclude each other"))),
+            false => Ok(()),
+        }
     }
 
     pub fn wrong(&self, text: impl Display) -> Failure {
@@ -57,9 +67,9 @@ impl Arguments {
         self.options.iter().any(|(n, _)| *n == name)
     }
 
-    /// The value of an option; the last one counts.
+    /// The value of an option.
     pub fn option(&self, name: &str) -> Option<&OsStr> {
-        self.options.iter().rev().find(|(n, _)| *n == name).and_then(|(_, value)| value.as_deref())
+        self.options.iter().find(|(n, _)| *n == name).and_then(|(_, value)| value.as_deref())
     }
 
     /// The next word, which is called `what`.

@@ -1,10 +1,12 @@
 //! The commands, one a row of the table in docs/COMMAND.md.
-use crate::archive::{self, How, Made};
+use crate::archive::{self, End, How, Made};
 use crate::arguments::{nearest, number, Arguments};
-use crate::{files, help, hints, picture, plan::Plan, replace, table, tidy, Done, Failure};
-use buulset::{Refusal, Search, Tree, MAX_FILE};
+use crate::json::Object;
+use crate::{files, grafted, help, hints, picture, plan::Plan, table, tidy, Done, Failure};
+use buulset::{Refusal, Search, Stopped, Tree, MAX_FILE};
 use std::ffi::{OsStr, OsString};
-use std::os::unix::ffi::OsStringExt;
+use std::os::unix::ffi::{OsStrExt, OsStringExt};
+use std::path::Path;
 
 pub fn run(words: Vec<OsString>) -> Done {
     let mut words = words.into_iter().peekable();
@@ -78,19 +80,35 @@ pub fn refused(what: String) -> impl FnOnce(Refusal) -> Failure {
 }
 
 /// Names of files, by their places or from a list; and are there several?
-fn names(arguments: &mut Arguments) -> Result<(Vec<OsString>, bool), Failure> {
+pub fn names(arguments: &mut Arguments) -> Result<(Vec<OsString>, bool), Failure> {
     let mut names = arguments.rest();
-    let listed = arguments.option("--from").map(|list| files::limited(list, u64::MAX)).transpose()?;
-    let several = listed.is_some() || names.len() > 1;
-    if let Some(list) = listed {
-        names.extend(list.split(|&b| b == b'\n').filter(|l| !l.is_empty()).map(|l| OsString::from_vec(l.to_vec())));
+    let list = arguments.option("--from").map(OsStr::to_os_string);
+    let several = list.is_some() || names.len() > 1;
+    if let Some(list) = &list {
+        names.extend(listed(&files::whole(list)?, arguments)?);
     } else if names.is_empty() {
         names.push(arguments.last_file()?);
     }
-    let inputs =
-        names.iter().filter(|n| *n == "-").count() + usize::from(arguments.option("--from") == Some("-".as_ref()));
+    let inputs = names.iter().chain(&list).filter(|name| *name == "-").count();
     once(arguments, inputs)?;
+    if arguments.has("--in-place") && names.iter().any(|name| name == "-") {
+        return Err(arguments.wrong("standard input has no place to be changed in"));
+    }
     Ok((names, several))
+}
+
+/// The names of a list, one a line, which may come from Windows.
+fn listed(list: &[u8], arguments: &Arguments) -> Result<Vec<OsString>, Failure> {
+    if list.contains(&0) {
+        return Err(arguments.wrong("the list has a zero byte: is it stored as UTF-16? Save it as plain text"));
+    }
+    let list = list.strip_prefix(b"\xEF\xBB\xBF").unwrap_or(list);
+    let names = list.split(|&b| b == b'\n').map(|line| match line.strip_suffix(b"\r") {
+        // a name may end with a carriage return, but hardly any does
+        Some(short) if !Path::new(OsStr::from_bytes(line)).exists() => short,
+        _ => line,
+    });
+    Ok(names.filter(|name| !name.is_empty()).map(|name| OsString::from_vec(name.to_vec())).collect())
 }
 
 /// Standard input can be read once.
@@ -101,42 +119,48 @@ pub fn once(arguments: &Arguments, inputs: usize) -> Done {
     }
 }
 
-pub fn analyse(mut arguments: Arguments) -> Done {
-    let (names, named) = names(&mut arguments)?;
-    archive::run(&names, How { named, quiet: arguments.has("--quiet") }, |name| {
-        let file = files::tree(name)?;
-        let report = buulset::report(&file);
-        // the report of a refused file is its line; the number and the place are asked for again
-        Ok(match report.as_bytes().starts_with(b"refused") {
-            true => archive::refused(name, &file, Tree::from_file(&file).expect_err("the report refuses it")),
-            false => Made { text: report.as_bytes().to_vec(), refused: None },
-        })
-    })
-}
-
 pub fn capitals(mut arguments: Arguments) -> Done {
-    let (names, named) = names(&mut arguments)?;
-    let (in_place, force) = (arguments.has("--in-place"), arguments.has("--force"));
-    if in_place && names.iter().any(|n| n == "-") {
-        return Err(arguments.wrong("standard input has no place to be changed in"));
-    }
-    archive::run(&names, How { named, quiet: arguments.has("--quiet") }, |name| {
-        let file = files::tree(name)?;
+    let (names, several) = names(&mut arguments)?;
+    let (in_place, quiet) = (arguments.has("--in-place"), arguments.has("--quiet"));
+    let how = How { named: several, in_place, summary: several || in_place, quiet, most: files::MOST };
+    archive::run(&names, how, |name, file, text| {
+        let file = file?;
         let mut converted = vec![0; MAX_FILE];
-        match buulset::convert(&file, &mut converted) {
-            Err(refusal) => Ok(archive::refused(name, &file, refusal)),
+        match buulset::convert(file, &mut converted) {
+            Err(refusal) => Ok(refused_file(name, file, refusal, text)),
             Ok(length) => {
                 converted.truncate(length);
-                if in_place {
-                    if converted != file {
-                        replace::replace(name, &converted, force)?;
-                    }
-                    converted.clear();
-                }
-                Ok(Made { text: converted, refused: None })
+                put(&arguments, name, file, converted, text).map(|end| Made { end, said: Vec::new() })
             }
         }
     })
+}
+
+/// The refusal of one of many files: its line is printed, and the hint said.
+pub fn refused_file(name: &OsStr, file: &[u8], refusal: Refusal, text: &mut Vec<u8>) -> Made {
+    text.extend_from_slice(buulset::refused(refusal).as_bytes());
+    Made { end: End::Refused(refusal.number), said: hints::tree(name, &files::shown(name), file, refusal) }
+}
+
+/// Puts what was made of one of many files in its place, into the file of `-o`, or among what is printed. In place, a
+/// file that is as it should be is not written again.
+pub fn put(
+    arguments: &Arguments,
+    name: &OsStr,
+    file: &[u8],
+    made: Vec<u8>,
+    text: &mut Vec<u8>,
+) -> Result<End, Failure> {
+    let in_place = arguments.has("--in-place");
+    if in_place && made == file {
+        return Ok(End::Accepted);
+    }
+    if !in_place && !arguments.has("--output") {
+        text.extend(made);
+        return Ok(End::Accepted);
+    }
+    files::deliver(arguments, Some(name), &made)?;
+    Ok(if in_place { End::Changed } else { End::Accepted })
 }
 
 /// A search by the name of its method.
@@ -159,54 +183,100 @@ fn no_method(arguments: &Arguments, method: &OsStr) -> Failure {
     arguments.wrong(format!("METHOD is ab, mtd, mtdf:N, sss or plain, not {}", method.to_string_lossy()))
 }
 
-/// METHOD and FILE: the method is looked at before the file.
-pub fn method_and_tree(arguments: &mut Arguments) -> Result<(OsString, Tree), Failure> {
+/// METHOD and FILE.
+pub fn method_and_file(arguments: &mut Arguments) -> Result<(OsString, OsString), Failure> {
     let method = arguments.word("METHOD")?;
     if !["ab", "mtd", "sss", "plain"].iter().any(|m| method == *m) && start(&method).is_none() {
         return Err(no_method(arguments, &method));
     }
-    let name = arguments.last_file()?;
-    Ok((method, tree(&name)?))
+    Ok((method, arguments.last_file()?))
+}
+
+/// Prints a result: as its text or, with `--json`, as an object that begins with what was asked. So a refusal, too.
+pub fn answer(arguments: &Arguments, asked: Object, result: Result<(String, Object), Failure>) -> Done {
+    if !arguments.has("--json") {
+        return files::print(result?.0.as_bytes());
+    }
+    let (object, hints, status) = match result {
+        Ok((_, found)) => return files::print(asked.and(found).line().as_bytes()),
+        Err(Failure::Refused(refusal, hints)) => (asked.and(hints::object(refusal, &hints)), hints, 1),
+        Err(Failure::Unreadable(text)) => (asked.with("error", text.as_str()), vec![text], 2),
+        Err(other) => return Err(other),
+    };
+    files::print(object.line().as_bytes())?;
+    if status > 1 || !arguments.has("--quiet") {
+        hints.iter().for_each(|line| crate::say(line));
+    }
+    Err(Failure::Some(status))
 }
 
 pub fn search(mut arguments: Arguments) -> Done {
+    arguments.exclude("--json", "--heading")?;
     let allowance: Option<usize> = arguments.optional("--leaves")?;
-    let (method, tree) = method_and_tree(&mut arguments)?;
-    let search = match allowance {
-        None => searched(&arguments, &method, &tree)?,
-        Some(_) if method != "sss" => return Err(arguments.wrong("--leaves is an allowance of sss")),
-        Some(allowance) => match tree.sss_within(allowance) {
-            Ok(search) => search,
-            Err(stopped) => {
-                let s = stopped.spent;
-                return files::print(format!("spent {} {} {}\n", s.merit, s.leaves, s.replacements).as_bytes());
-            }
-        },
-    };
-    let found = search.found;
-    let mut line = format!("{} {} {}", method.to_string_lossy(), found.value, found.root_move.unwrap_or(0));
+    let (method, name) = method_and_file(&mut arguments)?;
+    if allowance.is_some() && method != "sss" {
+        return Err(arguments.wrong("--leaves is an allowance of sss"));
+    }
+    let asked = Object::new().with("file", &*name).with("method", &*method);
+    let found = tree(&name).and_then(|tree| match allowance.map(|n| tree.sss_within(n)) {
+        None => Ok(found_line(&method, &searched(&arguments, &method, &tree)?)),
+        Some(Ok(search)) => Ok(found_line(&method, &search)),
+        Some(Err(stopped)) => Ok(spent_line(&stopped)),
+    });
+    let with_heading = found.map(|(heading, line, object)| match arguments.has("--heading") {
+        true => (format!("{heading}\n{line}\n"), object),
+        false => (format!("{line}\n"), object),
+    });
+    answer(&arguments, asked, with_heading)
+}
+
+/// A heading, the line of a search, and its object.
+fn found_line(method: &OsStr, search: &Search) -> (String, String, Object) {
+    let (found, name) = (search.found, method.to_string_lossy());
+    let root_move = found.root_move.unwrap_or(0);
+    let (mut heading, mut line) = (String::from("method value move"), format!("{name} {} {root_move}", found.value));
+    let mut object = Object::new().with("value", found.value).with("move", root_move);
     if method != "plain" {
-        line += &format!(" {}", found.leaves);
+        (heading, line) = (heading + " leaves", format!("{line} {}", found.leaves));
+        object = object.with("leaves", found.leaves);
     }
-    if method != "ab" && method != "plain" {
-        line += &format!(" {}", found.steps);
-    }
-    files::print(format!("{line}\n").as_bytes())
+    let steps = match method.to_str() {
+        Some("mtd") => "passes",
+        Some("sss") => "replacements",
+        Some("ab" | "plain") => return (heading, line, object),
+        _ => "tests",
+    };
+    (format!("{heading} {steps}"), format!("{line} {}", found.steps), object.with(steps, found.steps))
+}
+
+/// The same of a run that its allowance stopped.
+fn spent_line(stopped: &Stopped) -> (String, String, Object) {
+    let s = stopped.spent;
+    let object = Object::new().with("spent", true).with("merit", s.merit).with("leaves", s.leaves);
+    let line = format!("spent {} {} {}", s.merit, s.leaves, s.replacements);
+    ("answer merit leaves replacements".into(), line, object.with("replacements", s.replacements))
 }
 
 pub fn order(mut arguments: Arguments) -> Done {
-    let (method, tree) = method_and_tree(&mut arguments)?;
+    let (method, name) = method_and_file(&mut arguments)?;
     if method == "plain" {
         return Err(arguments.wrong("the plain engine keeps no order: it evaluates every leaf"));
     }
-    let plan = Plan::new(&tree);
-    let order = searched(&arguments, &method, &tree)?.order;
-    let lines: String = order.iter().map(|&k| format!("{k} {}\n", plan.worth[usize::from(k)])).collect();
-    files::print(lines.as_bytes())
+    let asked = Object::new().with("file", &*name).with("method", &*method);
+    let found = tree(&name).and_then(|tree| {
+        let (plan, order) = (Plan::new(&tree), searched(&arguments, &method, &tree)?.order);
+        let leaves: Vec<(usize, i32)> = order.iter().map(|&k| (k.into(), plan.worth[usize::from(k)])).collect();
+        let lines = leaves.iter().map(|(node, worth)| format!("{node} {worth}\n")).collect();
+        let list: Vec<Object> =
+            leaves.iter().map(|&(node, worth)| Object::new().with("node", node).with("worth", worth)).collect();
+        Ok((lines, Object::new().with("order", list)))
+    });
+    answer(&arguments, asked, found)
 }
 
 pub fn certify(mut arguments: Arguments) -> Done {
-    let (method, tree) = method_and_tree(&mut arguments)?;
+    let (method, name) = method_and_file(&mut arguments)?;
+    let tree = tree(&name)?;
     deliver_certificate(&arguments, &searched(&arguments, &method, &tree)?.certificate)
 }
 
@@ -219,8 +289,10 @@ fn deliver_certificate(arguments: &Arguments, flags: &[u8]) -> Done {
 /// The flags of a certificate file: one line of digits, which are lent as they are.
 pub fn certificate(name: &OsStr) -> Result<Vec<u8>, Failure> {
     // flags past the nodes are not asked, and no tree has more than 4,096
-    const MOST: u64 = 1 << 16;
-    let mut text = files::limited(name, MOST)?;
+    const MOST: usize = 1 << 16;
+    let mut text = vec![0; MOST];
+    let length = files::read(name, &mut text)?;
+    text.truncate(length);
     if text.last() == Some(&b'\n') {
         text.pop();
     }
@@ -242,9 +314,24 @@ pub fn verify(mut arguments: Arguments) -> Done {
     let (name, proof) = (arguments.word("FILE")?, arguments.word("CERTIFICATE")?);
     arguments.end()?;
     once(&arguments, [&name, &proof].iter().filter(|n| *n == &"-").count())?;
-    let (tree, flags) = (tree(&name)?, certificate(&proof)?);
-    let value = tree.verify(&flags).map_err(refused(files::shown(&proof)))?;
-    files::print(format!("{value}\n").as_bytes())
+    let asked = Object::new().with("file", &*name).with("certificate", &*proof);
+    let value = tree(&name).and_then(|tree| {
+        let flags = certificate(&proof)?;
+        tree.verify(&flags).map_err(refused_certificate(&tree, &flags, files::shown(&proof)))
+    });
+    answer(&arguments, asked, value.map(|value| (format!("{value}\n"), Object::new().with("value", value))))
+}
+
+/// The refusal of a certificate; `what` stands for it in a sentence.
+pub fn refused_certificate(tree: &Tree, flags: &[u8], what: String) -> impl FnOnce(Refusal) -> Failure {
+    let (digits, nodes) = (flags.len(), tree.nodes());
+    move |refusal| {
+        let mut lines = hints::other(&what, refusal);
+        if digits != nodes {
+            lines.insert(1, format!("it has {digits} digits, and the tree {nodes} nodes: it is of another tree"));
+        }
+        Failure::Refused(refusal, lines)
+    }
 }
 
 pub fn shorter(mut arguments: Arguments) -> Done {
@@ -252,9 +339,11 @@ pub fn shorter(mut arguments: Arguments) -> Done {
     arguments.end()?;
     once(&arguments, [&name, &a, &b].iter().filter(|n| *n == &"-").count())?;
     let (tree, first, second) = (tree(&name)?, certificate(&a)?, certificate(&b)?);
-    let chosen = tree
-        .shorter(&first, &second)
-        .map_err(refused(format!("neither certificate is accepted; {}", files::shown(&a))))?;
+    let chosen = tree.shorter(&first, &second).map_err(refused_certificate(
+        &tree,
+        &first,
+        format!("neither certificate is accepted; {}", files::shown(&a)),
+    ))?;
     deliver_certificate(&arguments, chosen)
 }
 
@@ -264,6 +353,13 @@ pub fn graft(mut arguments: Arguments) -> Done {
     let two = arguments.word("the second FILE")?;
     arguments.end()?;
     once(&arguments, [&one, &two].iter().filter(|n| *n == &"-").count())?;
+    let map = arguments.option("--map");
+    if map == Some(OsStr::new("-")) && !arguments.has("--output") && !arguments.has("--in-place") {
+        return Err(arguments.wrong("the map and the tree would both go to standard output"));
+    }
+    if map.is_some() && map == arguments.option("--output") {
+        return Err(arguments.wrong("the map and the tree would both go to one file"));
+    }
     let shown = |which: &str, name: &OsStr| format!("the {which} tree, {}", files::shown(name));
     let first = named_tree(&one, &shown("first", &one))?;
     let second = named_tree(&two, &shown("second", &two))?;
@@ -274,6 +370,9 @@ pub fn graft(mut arguments: Arguments) -> Done {
         };
         refused(what)(refusal)
     })?;
+    if let Some(map) = map {
+        files::write(map, grafted::map(&first, node, &second).as_bytes(), arguments.has("--force"))?;
+    }
     files::deliver(&arguments, Some(&one), &result.to_file())
 }
 
@@ -295,8 +394,9 @@ pub fn set(mut arguments: Arguments) -> Done {
 pub fn needs(mut arguments: Arguments) -> Done {
     let (name, leaf, wanted) = file_leaf_and_value(&mut arguments)?;
     let asked = format!("node {leaf} for the root value {wanted}");
-    let value = tree(&name)?.least_value(leaf, wanted).map_err(refused(asked))?;
-    files::print(format!("{value}\n").as_bytes())
+    let object = Object::new().with("file", &*name).with("leaf", leaf).with("wanted", wanted);
+    let value = tree(&name).and_then(|tree| tree.least_value(leaf, wanted).map_err(refused(asked)));
+    answer(&arguments, object, value.map(|value| (format!("{value}\n"), Object::new().with("value", value))))
 }
 
 pub fn hardest(mut arguments: Arguments) -> Done {
@@ -307,9 +407,12 @@ pub fn hardest(mut arguments: Arguments) -> Done {
 pub fn least(mut arguments: Arguments) -> Done {
     let (width, depth): (usize, usize) = (arguments.number("WIDTH")?, arguments.number("DEPTH")?);
     arguments.end()?;
-    let count = buulset::least_leaves(width, depth).map_err(refused(format!("width {width} and depth {depth}")))?;
-    files::print(format!("{count}\n").as_bytes())?;
-    if count == u16::MAX && !arguments.has("--quiet") {
+    let asked = Object::new().with("width", width).with("depth", depth);
+    let count = buulset::least_leaves(width, depth).map_err(refused(format!("width {width} and depth {depth}")));
+    let capped = count.as_ref().is_ok_and(|&count| count == u16::MAX);
+    let object = |count: u16| Object::new().with("leaves", usize::from(count)).with("or_more", capped);
+    answer(&arguments, asked, count.map(|count| (format!("{count}\n"), object(count))))?;
+    if capped && !arguments.has("--quiet") && !arguments.has("--json") {
         crate::say("65535 stands for that or more");
     }
     Ok(())
@@ -324,11 +427,16 @@ pub fn draw(mut arguments: Arguments) -> Done {
         (None, None) => Some("sss".into()),
         (None, Some(_)) => None,
     };
+    if arguments.has("--watch") && method.as_ref().is_none_or(|m| m == "plain") {
+        return Err(
+            arguments.wrong("--watch shows the order of a search: it goes with --method ab, mtd, mtdf:N or sss")
+        );
+    }
     let tree = tree(&name)?;
     let search = method.as_ref().map(|m| searched(&arguments, m, &tree)).transpose()?;
     let flags = proof.as_ref().map(|p| certificate(p)).transpose()?;
     if let (Some(flags), Some(proof)) = (&flags, &proof) {
-        tree.verify(flags).map_err(refused(files::shown(proof)))?;
+        tree.verify(flags).map_err(refused_certificate(&tree, flags, files::shown(proof)))?;
     }
     let of = picture::Subject {
         method: method.map(|m| m.to_string_lossy().into_owned()),

@@ -116,11 +116,11 @@ pub fn run(mut arguments: Arguments) -> Done {
         let all: String = (1..=23).map(|n| question(n).map_or(STRUCK_TEXT.into(), Question::text)).collect();
         return files::print(all.as_bytes());
     }
-    let number: u8 = arguments.number("NUMBER")?;
+    let number: i64 = arguments.number("NUMBER")?;
     arguments.end()?;
-    let text = match question(number) {
+    let text = match u8::try_from(number).ok().and_then(question) {
         Some(question) => question.text(),
-        None if number == STRUCK => STRUCK_TEXT.into(),
+        None if number == STRUCK.into() => STRUCK_TEXT.into(),
         None => return Err(arguments.wrong(format!("there is no question {number}: they are 1 to 23"))),
     };
     files::print(text.as_bytes())

@@ -1,35 +1,59 @@
 //! Files in and out.
 use crate::arguments::Arguments;
-use crate::{replace, Failure};
+use crate::{output, replace, Failure};
 use buulset::MAX_FILE;
 use std::ffi::OsStr;
-use std::fs::File;
+use std::fs::{self, File, Metadata};
 use std::io::{self, ErrorKind, Read, Write};
+use std::os::fd::AsFd;
+use std::os::unix::fs::MetadataExt;
 
 /// The most bytes that are read of a tree file: one more than question 2 passes, so it answers as for the whole file.
-const MOST: u64 = MAX_FILE as u64 + 1;
+pub const MOST: usize = MAX_FILE + 1;
 
 /// The bytes of a tree file, or of standard input where the name is `-`.
 pub fn tree(name: &OsStr) -> Result<Vec<u8>, Failure> {
-    limited(name, MOST)
-}
-
-/// The first bytes of a file, at most so many.
-pub fn limited(name: &OsStr, most: u64) -> Result<Vec<u8>, Failure> {
-    let read = if name == "-" { up_to(io::stdin().lock(), most) } else { file(name, most) };
-    read.map_err(|error| Failure::Unreadable(format!("{}: {}", shown(name), reason(&error))))
-}
-
-fn file(name: &OsStr, most: u64) -> io::Result<Vec<u8>> {
-    let file = File::open(name)?;
-    // a directory opens; reading it is an error
-    up_to(file, most)
-}
-
-fn up_to(input: impl Read, most: u64) -> io::Result<Vec<u8>> {
-    let mut bytes = Vec::new();
-    input.take(most).read_to_end(&mut bytes)?;
+    let mut bytes = vec![0; MOST];
+    let length = read(name, &mut bytes)?;
+    bytes.truncate(length);
     Ok(bytes)
+}
+
+/// Fills a buffer from the start of a file, and gives how many bytes there were.
+pub fn read(name: &OsStr, buffer: &mut [u8]) -> Result<usize, Failure> {
+    let read = match name == "-" {
+        true => fill(io::stdin().lock(), buffer),
+        // a directory opens; reading it is an error
+        false => File::open(name).and_then(|file| fill(file, buffer)),
+    };
+    read.map_err(|error| unreadable(name, &error))
+}
+
+fn fill(mut input: impl Read, buffer: &mut [u8]) -> io::Result<usize> {
+    let mut length = 0;
+    while length < buffer.len() {
+        match input.read(&mut buffer[length..]) {
+            Ok(0) => break,
+            Ok(more) => length += more,
+            Err(error) if error.kind() == ErrorKind::Interrupted => {}
+            Err(error) => return Err(error),
+        }
+    }
+    Ok(length)
+}
+
+/// All bytes of a file.
+pub fn whole(name: &OsStr) -> Result<Vec<u8>, Failure> {
+    let mut bytes = Vec::new();
+    let read = match name == "-" {
+        true => io::stdin().lock().read_to_end(&mut bytes),
+        false => File::open(name).and_then(|mut file| file.read_to_end(&mut bytes)),
+    };
+    read.map(|_| bytes).map_err(|error| unreadable(name, &error))
+}
+
+fn unreadable(name: &OsStr, error: &io::Error) -> Failure {
+    Failure::Unreadable(format!("{}: {}", shown(name), reason(error)))
 }
 
 fn reason(error: &io::Error) -> String {
@@ -41,17 +65,30 @@ fn reason(error: &io::Error) -> String {
     }
 }
 
-/// A name as it is shown.
+/// A name as it is shown: control characters by their escapes.
 pub fn shown(name: &OsStr) -> String {
     if name == "-" {
-        "standard input".into()
-    } else {
-        name.to_string_lossy().into_owned()
+        return "standard input".into();
+    }
+    let escape = |c: char| if c.is_control() { c.escape_default().to_string() } else { c.into() };
+    name.to_string_lossy().chars().map(escape).collect()
+}
+
+/// A name as a shell takes it in a command.
+pub fn for_a_shell(name: &OsStr) -> String {
+    let text = name.to_string_lossy();
+    let plain = |c: char| c.is_alphanumeric() || "_-./,+:@%=".contains(c);
+    match !text.is_empty() && text.chars().all(plain) {
+        true => text.into(),
+        false => format!("'{}'", text.replace('\'', "'\\''")),
     }
 }
 
 /// Writes to standard output; a pipe that nobody reads any more is told apart.
 pub fn print(bytes: &[u8]) -> Result<(), Failure> {
+    if !bytes.is_empty() && output::is_closed() {
+        return Err(Failure::Unwritable("standard output cannot be written: it is closed".into()));
+    }
     let mut out = io::stdout().lock();
     out.write_all(bytes).and_then(|()| out.flush()).map_err(|error| match error.kind() {
         ErrorKind::BrokenPipe => Failure::Closed,
@@ -59,12 +96,24 @@ pub fn print(bytes: &[u8]) -> Result<(), Failure> {
     })
 }
 
+/// Does standard output go to the file of this name?
+pub fn is_standard_output(name: &OsStr) -> bool {
+    let output = io::stdout().as_fd().try_clone_to_owned().and_then(|fd| File::from(fd).metadata());
+    let same = |a: Metadata, b: Metadata| a.is_file() && (a.dev(), a.ino()) == (b.dev(), b.ino());
+    output.and_then(|output| fs::metadata(name).map(|file| same(output, file))).unwrap_or(false)
+}
+
 /// Puts what a command made where its options say: into the file of `-o`, in the place of the file `from` that it was
 /// made of (`--in-place`), or on standard output. Call it with a result only; a refusal leaves every file as it is.
 pub fn deliver(arguments: &Arguments, from: Option<&OsStr>, made: &[u8]) -> Result<(), Failure> {
     let target = arguments.option("--output").or(from.filter(|_| arguments.has("--in-place")));
-    match target {
-        Some(name) if name != "-" => replace::replace(name, made, arguments.has("--force")),
-        _ => print(made),
+    write(target.unwrap_or(OsStr::new("-")), made, arguments.has("--force"))
+}
+
+/// Writes a file, whole or not at all; `-` is standard output.
+pub fn write(name: &OsStr, bytes: &[u8], force: bool) -> Result<(), Failure> {
+    if name == "-" {
+        return print(bytes);
     }
+    replace::replace(name, bytes, force)
 }

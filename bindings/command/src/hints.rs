@@ -1,5 +1,7 @@
 //! A refusal for a person: which question, where, and what it usually is.
 use crate::explain::question;
+use crate::json::Object;
+use crate::{files, repair};
 use buulset::{Refusal, FRAME_SIZE, LINE_SIZE, MAX_FILE};
 use std::ffi::OsStr;
 
@@ -20,13 +22,23 @@ pub fn other(what: &str, refusal: Refusal) -> Vec<String> {
     ]
 }
 
+/// A refusal as the fields of an object.
+pub fn object(refusal: Refusal, hints: &[String]) -> Object {
+    Object::new()
+        .with("refused", usize::from(refusal.number))
+        .with("place", refusal.place)
+        .with("meaning", refusal.meaning())
+        .with("hints", hints.to_vec())
+}
+
 fn place(file: &[u8], refusal: Refusal) -> String {
     match refusal.number {
         3 | 16 => format!(", not line {}: {}", refusal.place + 1, quoted(line(file, refusal.place))),
-        4..=7 | 9 => {
+        4..=7 => {
             let (node, text) = (refusal.place, quoted(line(file, refusal.place)));
             format!(", not node {node}, line {}: {text}", node + 1)
         }
+        9 => format!(": node {}, line {}, is 19 moves from the root.", refusal.place, refusal.place + 1),
         _ => ".".into(),
     }
 }
@@ -47,11 +59,11 @@ fn quoted(line: &[u8]) -> String {
 /// What the refusal of a file usually is.
 fn cause(name: &OsStr, file: &[u8], refusal: Refusal) -> Option<String> {
     Some(match refusal.number {
-        1 => "the file is empty".into(),
-        2 => too_long(file),
-        3 => not_a_line(file, refusal.place),
+        1 => empty(name),
+        2 => too_long(name, file),
+        3 => repair::hint(name, file, refusal.place).unwrap_or_else(|| not_a_line(file, refusal.place)),
         16 => {
-            format!("small letters: `buulset capitals {}` writes the same tree with capitals", name.to_string_lossy())
+            format!("small letters: `buulset capitals {}` writes the same tree with capitals", files::for_a_shell(name))
         }
         4..=7 => node(refusal, file)?,
         8 => total(file),
@@ -60,33 +72,44 @@ fn cause(name: &OsStr, file: &[u8], refusal: Refusal) -> Option<String> {
     })
 }
 
-fn too_long(file: &[u8]) -> String {
-    if file.contains(&b'\r') {
-        return "Windows line ends, which take a byte more a line: `tr -d '\\r'` removes them".into();
+/// An empty file; it may be that the shell emptied it before this command began.
+fn empty(name: &OsStr) -> String {
+    match files::is_standard_output(name) {
+        true => format!(
+            "the file is empty: the shell emptied it for `> {0}` before it was read; `--in-place`, or `-o {0}`, \
+             writes a file only when the result is there",
+            files::for_a_shell(name)
+        ),
+        false => "the file is empty".into(),
     }
-    let lines = MAX_FILE / LINE_SIZE;
-    format!("a tree has at most {lines} nodes, a line each")
 }
 
-/// Why a line is not twelve digits.
+fn too_long(name: &OsStr, file: &[u8]) -> String {
+    let first = line(file, 0);
+    if first.strip_suffix(b"\r").is_some_and(is_line) {
+        let name = files::for_a_shell(name);
+        return format!("Windows line ends, which take a byte more a line: `buulset repair {name}` removes them");
+    }
+    let lines = MAX_FILE / LINE_SIZE;
+    let other = if is_line(first) { "" } else { ", and this one does not begin with one: is it a tree file?" };
+    format!("a tree has at most {lines} nodes, a line of twelve digits each{other}")
+}
+
+/// Is this a line of twelve digits, in either letter case?
+pub fn is_line(line: &[u8]) -> bool {
+    line.len() == 2 * FRAME_SIZE && line.iter().all(u8::is_ascii_hexdigit)
+}
+
+/// Why a line is not twelve digits, where no repair makes it so.
 fn not_a_line(file: &[u8], number: usize) -> String {
     let text = line(file, number);
-    let rest: Vec<&[u8]> = file.split(|&b| b == b'\n').skip(number).collect();
-    let closed = rest.len() > 1;
-    if number == 0 && file.starts_with(b"\xEF\xBB\xBF") {
-        "a byte order mark before the first digit: save the file as plain text without it".into()
-    } else if number == 0 && (file.starts_with(b"\xFF\xFE") || file.starts_with(b"\xFE\xFF")) {
+    let closed = file.split(|&b| b == b'\n').nth(number + 1).is_some();
+    if number == 0 && (file.starts_with(b"\xFF\xFE") || file.starts_with(b"\xFE\xFF")) {
         "the file is stored as UTF-16: save it as plain text".into()
-    } else if text.iter().position(|&b| b == b'\r').is_some_and(|at| at + 1 == text.len()) {
-        "Windows line ends: `tr -d '\\r'` removes them".into()
-    } else if text.contains(&b'\r') {
-        "lines that end with a carriage return alone: `tr '\\r' '\\n'` makes line feeds of them".into()
-    } else if rest.iter().all(|l| l.is_empty()) {
-        "a blank line at the end: remove it".into()
+    } else if file.iter().take(512).any(|&b| b == 0 || b >= 0x80) {
+        "the file has bytes that no text has: is it packed, or no tree file?".into()
     } else if text.is_empty() {
         "a blank line among the others: remove it".into()
-    } else if text.iter().any(|b| b.is_ascii_whitespace()) {
-        "a blank or a tab in the line: remove it".into()
     } else if let Some((at, &byte)) = text.iter().enumerate().find(|(_, b)| !b.is_ascii_hexdigit()) {
         let zero = if matches!(byte, b'O' | b'o') { ": a zero is meant?" } else { "" };
         format!("character {} is no digit 0 to 9 or A to F: {}{zero}", at + 1, quoted(&[byte]))

@@ -7,12 +7,17 @@ mod commands;
 mod completions;
 mod explain;
 mod files;
+mod grafted;
 mod help;
 mod hints;
+mod json;
 mod manual;
+mod output;
 mod picture;
 mod plan;
+mod repair;
 mod replace;
+mod reports;
 mod table;
 mod tidy;
 

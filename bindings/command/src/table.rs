@@ -1,6 +1,6 @@
 //! The table of commands. Help, usage, the parsing of options, shell completions and the manual page are made from it.
 use crate::arguments::Arguments;
-use crate::{commands, completions, explain, manual, Done};
+use crate::{commands, completions, explain, manual, repair, reports, Done};
 
 pub struct Command {
     pub name: &'static str,
@@ -53,6 +53,8 @@ const FORCE: Choice =
     flag("--force", "with -o or --in-place: also replaces a file that is read-only or has hard links");
 const FROM: Choice = valued("--from", "LIST", "takes file names from LIST too, one a line; - is standard input");
 
+const JSON: Choice = flag("--json", "prints an object of JSON on one line, a refusal too");
+
 pub fn command(name: &str) -> Option<&'static Command> {
     COMMANDS.iter().find(|command| command.name == name)
 }
@@ -85,12 +87,17 @@ Prints the minimax value of the root, the first root move that reaches it, and h
 alpha-beta, MTD and SSS*; or `refused`, the number of a question and a place. With several files each report follows a \
 line with the file's name, a summary comes on standard error, and the exit status is 1 if any was refused, 2 if any \
 could not be read.",
-        options: &[FROM],
+        options: &[
+            FROM,
+            JSON,
+            flag("--csv", "prints a table: a heading, and a row for each file with value, move and leaves, or its refusal"),
+        ],
         examples: &[
             "buulset analyse samples/seven.tree",
             "find archive -name '*.tree' | buulset analyse --from - > reports.txt",
+            "buulset analyse --csv archive/*.tree > archive.csv",
         ],
-        run: commands::analyse,
+        run: reports::analyse,
     },
     Command {
         name: "search",
@@ -101,12 +108,16 @@ One search, METHOD ab, mtd, mtdf:N, sss or plain, on one line: the method, the v
 is a leaf), the number of evaluated leaves, and the passes of mtd, the tests of mtdf or the replacements of sss; plain \
 counts neither. mtdf:N starts from the value N, a guess: it never changes the value or the move, only how many leaves \
 it takes.",
-        options: &[valued(
+        options: &[
+            valued(
             "--leaves",
             "N",
             "sss evaluates N leaves at most; where it needs more: `spent`, the merit (the root's value is at most this; \
              32001 says nothing yet), the leaves and the replacements so far",
-        )],
+            ),
+            flag("--heading", "prints a line with the names of the numbers first"),
+            JSON,
+        ],
         examples: &[
             "buulset search mtd samples/ending.tree",
             "buulset search mtdf:-20 samples/ending.tree",
@@ -121,7 +132,7 @@ it takes.",
         about: "\
 The evaluated leaves in the order in which METHOD, ab, mtd, mtdf:N or sss, evaluates them: a line each, with the \
 node's number and the leaf's worth.",
-        options: &[],
+        options: &[JSON],
         examples: &["buulset order sss samples/seven.tree"],
         run: commands::order,
     },
@@ -143,7 +154,7 @@ node, 1 in the max solution tree, 2 in the min solution tree, 3 in both, 0 in ne
         about: "\
 Checks a certificate, one line of digits, and prints the value that it certifies: the minimax value of the root. \
 Digits past the nodes of the tree are not looked at.",
-        options: &[],
+        options: &[JSON],
         examples: &["buulset certify ab samples/seven.tree | buulset verify samples/seven.tree -"],
         run: commands::verify,
     },
@@ -165,7 +176,17 @@ neither is, the refusal of the first stands.",
         about: "\
 The file of the first tree with the second in place of the leaf NODE, where Max would move. On a refusal standard \
 error says which file is meant. --in-place replaces the first file.",
-        options: &[OUTPUT, IN_PLACE, FORCE],
+        options: &[
+            OUTPUT,
+            IN_PLACE,
+            FORCE,
+            valued(
+                "--map",
+                "FILE",
+                "writes to FILE which node got which number: a line for each, with `first` or `second`, the node, and \
+                 its number in the result",
+            ),
+        ],
         examples: &["buulset graft samples/seven.tree 4 samples/ending.tree -o deeper.tree"],
         run: commands::graft,
     },
@@ -196,13 +217,26 @@ error says how many files changed.",
         run: commands::capitals,
     },
     Command {
+        name: "repair",
+        words: "FILE..",
+        does: "files without what editors and other systems do to them",
+        about: "\
+Files without a byte order mark, Windows or old Macintosh line ends, blanks and tabs, blank lines at the end, small \
+letters and a missing last line feed; standard error says what was mended. A file that is still refused gets the line \
+of its refusal and stays as it is. With several files each follows a line with its name; with --in-place only refusals \
+are printed, and standard error says how many files changed.",
+        options: &[OUTPUT, IN_PLACE, FORCE, FROM],
+        examples: &["buulset repair samples/stored.tree -o mended.tree", "buulset repair --in-place archive/*.tree"],
+        run: repair::run,
+    },
+    Command {
         name: "needs",
         words: "FILE LEAF VALUE",
         does: "the smallest value of the leaf that gives the root VALUE",
         about: "\
 The smallest value of the leaf, from -32,000 to 32,000, that makes the root's value exactly VALUE, the other leaves as \
 they are. Where there is none: `refused 21` and the leaf.",
-        options: &[],
+        options: &[JSON],
         examples: &["buulset needs samples/seven.tree 5 4"],
         run: commands::needs,
     },
@@ -224,7 +258,7 @@ every one of them.",
         about: "\
 The fewest leaves to expect of any search where every inner node has WIDTH children, 1 to 40, all leaves lie at DEPTH, \
 0 to 18, and the sides alternate; 65535 is that or more.",
-        options: &[],
+        options: &[JSON],
         examples: &["buulset least 10 6"],
         run: commands::least,
     },

@@ -212,6 +212,7 @@ fn capitals_converts() {
     let link = folder.0.join("link.tree");
     symlink(&small, &link).unwrap();
     let ran = run(&["capitals", "--in-place", link.to_str().unwrap(), &bad]);
+    assert!(ran.err.ends_with("2 files: 1 changed, 0 as they should be, 1 refused (1 with 3)\n"), "{}", ran.err);
     assert_eq!(ran.out, format!("{bad}\nrefused 3 0\n"));
     assert_eq!(ran.status, 1);
     assert_eq!(fs::read_to_string(&small).unwrap(), expected);
@@ -221,7 +222,7 @@ fn capitals_converts() {
     assert_eq!(fs::read_dir(&folder.0).unwrap().count(), 3, "nothing is left over");
     // a file that is as it should be is not written again
     let before = fs::metadata(&small).unwrap();
-    assert_eq!(prints(&["capitals", "--in-place", &small]), "");
+    assert_eq!(prints(&["capitals", "--in-place", "-q", &small]), "");
     assert_eq!(fs::metadata(&small).unwrap().ino(), before.ino());
     is_refused(&run(&["capitals", "--in-place", &bad]), "refused 3 0", &["\"g\""]);
     is_wrong_use(&["capitals", "--in-place", "-"], "standard input has no place");
@@ -270,14 +271,14 @@ fn hints_name_the_usual_causes() {
         (b"", "refused 1 0", &["standard input: question 1", "empty"]),
         (long.as_bytes(), "refused 2 0", &["Windows line ends"]),
         (&b"000000000000\n".repeat(4097), "refused 2 0", &["at most 4096 nodes"]),
-        (crlf.as_bytes(), "refused 3 0", &["line 1: \"000102000000\\r\"", "Windows line ends: `tr -d '\\r'`"]),
-        (cr.as_bytes(), "refused 3 0", &["carriage return alone"]),
+        (crlf.as_bytes(), "refused 3 0", &["line 1: \"000102000000\\r\"", "Windows line ends: `buulset repair -` mends it"]),
+        (cr.as_bytes(), "refused 3 0", &["a carriage return alone: `buulset repair -`"]),
         (b"\xEF\xBB\xBF000000000001\n", "refused 3 0", &["\\xef\\xbb\\xbf0000", "byte order mark"]),
         (b"\xFF\xFE0\x000\x00", "refused 3 0", &["UTF-16"]),
-        (b"000000000001 \n", "refused 3 0", &["a blank or a tab"]),
-        (b"0001 0200 0000\n", "refused 3 0", &["a blank or a tab"]),
-        (b"000000000001\n\n", "refused 3 1", &["line 2: \"\"", "a blank line at the end"]),
-        (b"000000000001\n\n\n\n", "refused 3 1", &["a blank line at the end"]),
+        (b"000000000001 \n", "refused 3 0", &["blanks or tabs: `buulset repair -`"]),
+        (b"0001 0200 0000\n", "refused 3 0", &["blanks or tabs: `buulset repair -`"]),
+        (b"000000000001\n\n", "refused 3 1", &["line 2: \"\"", "blank lines at the end"]),
+        (b"000000000001\n\n\n\n", "refused 3 1", &["blank lines at the end"]),
         (b"000101000000\n\n000000000001\n", "refused 3 1", &["a blank line among the others"]),
         (b"000101000000\n00000000", "refused 3 1", &["(8 of 12 digits): it was cut off?"]),
         (b"00010100000\n000000000000\n", "refused 3 0", &["the line has 11 digits, not 12"]),
