@@ -5,6 +5,7 @@
 # 3 a program that cannot be built or output that cannot be written.
 program=$root/target/bin/$name
 log=$root/target/$name.log
+. "$root/tools/progress.sh"
 
 # Says why nothing is printed, and ends with this status.
 fail() { # STATUS TEXT
@@ -18,34 +19,6 @@ is_current() {
     command -v rt >/dev/null || return 0
     for source in "$root/crates.txt" "$root"/crates/*/src/*.rt; do
         [ ! "$source" -nt "$program" ] || return 1
-    done
-}
-
-# The crates that the program needs; crates.txt lists each after those that it needs itself.
-needed() {
-    sed 's/#.*//; /:/!d; s/:/ /' "$root/crates.txt" | awk -v name="$name" '
-        { line[NR] = $0 }
-        END {
-            need[name] = 1
-            for (i = NR; i > 0; i--) {
-                count = split(line[i], word, " ")
-                if (word[1] in need) { print word[1]; for (k = 2; k <= count; k++) need[word[k]] = 1 }
-            }
-        }'
-}
-
-# Shows a line for each crate that is proved, out of what the prover says.
-progress() {
-    total=$(needed | wc -l) number=0
-    while IFS= read -r line; do
-        case $line in
-        "rt: "*" proved ("*)
-            line=${line#rt: } number=$((number + 1))
-            time=${line#*(} time=${time%)}
-            case $time in unchanged*) time=already ;; esac
-            echo "$number/$((total)) ${line%% *} proved, $time"
-            ;;
-        esac
     done
 }
 
