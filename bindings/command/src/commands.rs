@@ -410,7 +410,7 @@ pub fn least(mut arguments: Arguments) -> Done {
     let asked = Object::new().with("width", width).with("depth", depth);
     let count = buulset::least_leaves(width, depth).map_err(refused(format!("width {width} and depth {depth}")));
     let capped = count.as_ref().is_ok_and(|&count| count == u16::MAX);
-    let object = |count: u16| Object::new().with("leaves", usize::from(count)).with("or_more", capped);
+    let object = |count: u16| Object::new().with("leaves", usize::from(count)).with("capped", capped);
     answer(&arguments, asked, count.map(|count| (format!("{count}\n"), object(count))))?;
     if capped && !arguments.has("--quiet") && !arguments.has("--json") {
         crate::say("65535 stands for that or more");

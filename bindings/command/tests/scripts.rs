@@ -59,8 +59,8 @@ fn results_are_objects() {
         r#"{"certificate":"samples/ending.certificate","file":"samples/ending.tree","value":-20}"#,
     );
     gives(&["needs", seven, "5", "4"], r#"{"file":"samples/seven.tree","leaf":5,"value":4,"wanted":4}"#);
-    gives(&["least", "10", "6"], r#"{"depth":6,"leaves":1999,"or_more":false,"width":10}"#);
-    gives(&["least", "40", "18"], r#"{"depth":18,"leaves":65535,"or_more":true,"width":40}"#);
+    gives(&["least", "10", "6"], r#"{"capped":false,"depth":6,"leaves":1999,"width":10}"#);
+    gives(&["least", "40", "18"], r#"{"capped":true,"depth":18,"leaves":65535,"width":40}"#);
 }
 
 #[test]
