@@ -23,7 +23,9 @@ pub fn run(words: Vec<OsString>) -> Done {
     match (table::command(&name), asked) {
         (Some(command), None) => (command.run)(Arguments::new(command, words)?),
         (_, None) if name == tidy::WORD => tidy::run(),
-        (_, None) if name == "help" && words.len() == 1 => information(&words[0].to_string_lossy()),
+        (_, None) if name == "help" => {
+            information(&words.iter().find(|word| !is_quiet(word)).map_or(name.into(), |word| word.to_string_lossy()))
+        }
         (_, Some(word)) if is_version(word) => information("--version"),
         _ => information(&name),
     }
@@ -328,7 +330,8 @@ pub fn refused_certificate(tree: &Tree, flags: &[u8], what: String) -> impl FnOn
     move |refusal| {
         let mut lines = hints::other(&what, refusal);
         if digits != nodes {
-            lines.insert(1, format!("it has {digits} digits, and the tree {nodes} nodes: it is of another tree"));
+            let cut = if digits < nodes { ", or was cut off" } else { "" };
+            lines.insert(1, format!("it has {digits} digits, and the tree {nodes} nodes: it is of another tree{cut}"));
         }
         Failure::Refused(refusal, lines)
     }

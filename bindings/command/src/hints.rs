@@ -2,7 +2,7 @@
 use crate::explain::question;
 use crate::json::Object;
 use crate::{files, repair};
-use buulset::{Refusal, FRAME_SIZE, LINE_SIZE, MAX_FILE};
+use buulset::{Refusal, FRAME_SIZE, LINE_SIZE, MAX_DEPTH, MAX_FILE};
 use std::ffi::OsStr;
 
 /// What is said on standard error of a tree file that is refused: `shown` stands for it in a sentence.
@@ -38,7 +38,10 @@ fn place(file: &[u8], refusal: Refusal) -> String {
             let (node, text) = (refusal.place, quoted(line(file, refusal.place)));
             format!(", not node {node}, line {}: {text}", node + 1)
         }
-        9 => format!(": node {}, line {}, is 19 moves from the root.", refusal.place, refusal.place + 1),
+        9 => {
+            let (node, moves) = (refusal.place, MAX_DEPTH + 1);
+            format!(": node {node}, line {}, is {moves} moves from the root.", node + 1)
+        }
         _ => ".".into(),
     }
 }

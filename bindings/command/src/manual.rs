@@ -32,9 +32,10 @@ buulset \\- proved minimax searches of analysis trees
 .I COMMAND ARGUMENT\\fR..
 .SH DESCRIPTION
 Reads tree files, makes the proved calls of the library, and prints what they give.
-A tree file has a line of twelve capital hexadecimal digits for each node, in breadth\\-first order from the root, node 0.
-Where a \\fIFILE\\fR is wanted, \\fB\\-\\fR is standard input, once; so is a last \\fIFILE\\fR that is not named, if standard
-input is a pipe or a file.
+A tree file has a line of twelve capital hexadecimal digits for each node, in breadth\\-first order from the root,
+node 0.
+Where a \\fIFILE\\fR is wanted, \\fB\\-\\fR is standard input, once; so is a last \\fIFILE\\fR that is not named, if
+standard input is a pipe or a file.
 \\fIMETHOD\\fR is \\fBab\\fR (alpha\\-beta), \\fBmtd\\fR, \\fBmtdf:\\fIN\\fR (MTD(f) from the value \\fIN\\fR, a guess),
 \\fBsss\\fR (SSS*) or \\fBplain\\fR (minimax without cuts).
 Numbers may have commas at the thousands, as in 32,000.

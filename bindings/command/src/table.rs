@@ -90,7 +90,7 @@ could not be read.",
         options: &[
             FROM,
             JSON,
-            flag("--csv", "prints a table: a heading, and a row for each file with value, move and leaves, or its refusal"),
+            flag("--csv", "prints a table: a heading, and a row for each file with its numbers or its refusal"),
         ],
         examples: &[
             "buulset analyse samples/seven.tree",
@@ -110,10 +110,10 @@ counts neither. mtdf:N starts from the value N, a guess: it never changes the va
 it takes.",
         options: &[
             valued(
-            "--leaves",
-            "N",
-            "sss evaluates N leaves at most; where it needs more: `spent`, the merit (the root's value is at most this; \
-             32001 says nothing yet), the leaves and the replacements so far",
+                "--leaves",
+                "N",
+                "sss evaluates N leaves at most; where it needs more: `spent`, the merit (the root's value is at most \
+                 this; 32001 says nothing yet), the leaves and the replacements so far",
             ),
             flag("--heading", "prints a line with the names of the numbers first"),
             JSON,
@@ -271,7 +271,11 @@ A picture of the tree as SVG, for any browser: the root at the left, a leaf a ro
 number in the order, the two solution trees drawn out, what was passed over drawn together.",
         options: &[
             valued("--method", "METHOD", "ab, mtd, mtdf:N, sss (if nothing is said) or plain"),
-            valued("--certificate", "FILE", "draws the solution trees of this certificate; without --method, nothing else"),
+            valued(
+                "--certificate",
+                "FILE",
+                "draws the solution trees of this certificate; without --method, only these",
+            ),
             flag("--watch", "lets the leaves light up in their order"),
             flag("--all", "draws what was passed over, too"),
             OUTPUT,

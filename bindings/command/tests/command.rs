@@ -271,7 +271,7 @@ fn hints_name_the_usual_causes() {
         (b"", "refused 1 0", &["standard input: question 1", "empty"]),
         (long.as_bytes(), "refused 2 0", &["Windows line ends"]),
         (&b"000000000000\n".repeat(4097), "refused 2 0", &["at most 4096 nodes"]),
-        (crlf.as_bytes(), "refused 3 0", &["line 1: \"000102000000\\r\"", "Windows line ends: `buulset repair -` mends it"]),
+        (crlf.as_bytes(), "refused 3 0", &["line 1: \"000102000000\\r\"", "Windows line ends: `buulset repair -`"]),
         (cr.as_bytes(), "refused 3 0", &["a carriage return alone: `buulset repair -`"]),
         (b"\xEF\xBB\xBF000000000001\n", "refused 3 0", &["\\xef\\xbb\\xbf0000", "byte order mark"]),
         (b"\xFF\xFE0\x000\x00", "refused 3 0", &["UTF-16"]),
@@ -335,26 +335,10 @@ fn is_wrong_use_of_file(name: &str, words: &str) {
 
 #[test]
 fn help_and_version_are_everywhere() {
-    let commands = [
-        "analyse",
-        "search",
-        "order",
-        "certify",
-        "verify",
-        "shorter",
-        "graft",
-        "set",
-        "capitals",
-        "needs",
-        "hardest",
-        "least",
-        "draw",
-        "explain",
-        "completions",
-        "manual",
-    ];
-    let all = prints(&["--help"]);
-    let page = prints(&["manual"]);
+    let (all, page) = (prints(&["--help"]), prints(&["manual"]));
+    let commands: Vec<&str> =
+        all.lines().filter(|line| line.starts_with("  ")).filter_map(|line| line.split_whitespace().next()).collect();
+    assert!(commands.len() > 15);
     for name in commands {
         let help = prints(&[name, "--help"]);
         assert!(help.starts_with(&format!("usage: buulset {name} ")), "{help}");

@@ -3,6 +3,7 @@ mod common;
 use common::*;
 use std::fs::{self, Permissions};
 use std::os::unix::fs::{symlink, MetadataExt, PermissionsExt};
+use std::process::Command;
 
 const CHANGED: &str =
     "000102000000\n000302000000\n000502000000\n000000000001\n00000000FF88\n000000000003\n000000000004\n";
@@ -137,6 +138,7 @@ fn targets_that_are_no_files() {
     };
     fails(folder.0.to_str().unwrap(), "it is a directory");
     fails(&path("no/such"), "there is no such folder");
+    fails("", "it is no name of a file");
     symlink(path("nothing"), path("dangling")).unwrap();
     fails(&path("dangling"), "a link to a file that is not there");
     if fs::metadata("/dev/full").is_ok() {
@@ -144,4 +146,37 @@ fn targets_that_are_no_files() {
     }
     assert_eq!(prints(&["set", "samples/seven.tree", "4", "5", "-o", "/dev/null"]), "");
     assert_eq!(names(&folder), ["dangling"]);
+}
+
+/// What somebody sees who may not write here: the command as another user, where this one is root.
+#[test]
+fn without_permission() {
+    let folder = Folder::new("permission");
+    fs::copy(env!("CARGO_BIN_EXE_buulset"), folder.0.join("buulset")).unwrap();
+    let file = folder.file("e.tree", SEVEN);
+    let as_nobody = |arguments: &[&str]| {
+        let mut other = Command::new("setpriv");
+        other.args(["--reuid=65534", "--regid=65534", "--clear-groups"]).arg(folder.0.join("buulset")).args(arguments);
+        other.output().ok().map(|ran| (ran.status.code(), String::from_utf8(ran.stderr).unwrap()))
+    };
+    if fs::metadata(&file).unwrap().uid() != 0 || !as_nobody(&["-V"]).is_some_and(|(status, _)| status == Some(0)) {
+        println!("left out: the command cannot be run as another user");
+        return;
+    }
+    let fails = |arguments: &[&str], why: &str| {
+        let (status, said) = as_nobody(arguments).unwrap();
+        assert!(status == Some(3) && said.contains(why), "{arguments:?}: {said}");
+    };
+    let set = ["set", &file, "4", "-120"];
+    fails(&[&set[..], &["--in-place"]].concat(), "it is read-only");
+    fails(&[&set[..], &["--in-place", "--force"]].concat(), "no permission to write a file there");
+    fails(&[&set[..], &["-o", folder.0.join("new").to_str().unwrap()]].concat(), "no permission to write a file there");
+    // the owner is not to be had: the rights that it lent are dropped
+    fs::set_permissions(&folder.0, Permissions::from_mode(0o777)).unwrap();
+    fs::set_permissions(&file, Permissions::from_mode(0o4646)).unwrap();
+    assert_eq!(as_nobody(&[&set[..], &["--in-place"]].concat()).unwrap().0, Some(0));
+    let after = fs::metadata(&file).unwrap();
+    assert_eq!((after.mode() & 0o7777, after.uid()), (0o646, 65534));
+    assert_eq!(fs::read_to_string(&file).unwrap(), CHANGED);
+    assert_eq!(names(&folder), ["buulset", "e.tree"]);
 }

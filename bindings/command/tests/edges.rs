@@ -93,6 +93,8 @@ fn quiet_may_come_first() {
     }
     is_wrong_use(&["-q"], "usage: buulset COMMAND");
     assert!(prints(&["-q", "--version"]).starts_with("buulset "));
+    assert_eq!(prints(&["-q", "help", "set"]), prints(&["set", "--help"]));
+    assert_eq!(prints(&["-q", "help"]), prints(&["--help"]));
     is_wrong_use(&["--json", "analyse", &bad], "there is no command --json");
 }
 

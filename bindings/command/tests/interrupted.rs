@@ -123,7 +123,8 @@ fn on_a_full_disk() {
     // a small file system that is full, where one may be mounted
     let mounted = "d=${1%/*}/disk; mkdir \"$d\"; cp \"$1\" \"$d/e.tree\" || exit 9
         exec unshare -m sh -c '
-            f=$2/e.tree; cp \"$f\" \"$2.copy\" && mount -t tmpfs -o size=8k none \"$2\" && cp \"$2.copy\" \"$f\" || exit 9
+            f=$2/e.tree; cp \"$f\" \"$2.copy\" || exit 9
+            mount -t tmpfs -o size=8k none \"$2\" && cp \"$2.copy\" \"$f\" || exit 9
             cat /dev/zero >\"$2/rest\" 2>/dev/null
             \"$1\" set \"$f\" 4 -120 --in-place; [ $? = 3 ] || exit 1
             cmp -s \"$f\" \"$2.copy\" || exit 2

@@ -32,7 +32,10 @@ fn results_are_objects() {
     let seven = "samples/seven.tree";
     gives(
         &["analyse", seven],
-        r#"{"ab":{"leaves":4,"move":2,"value":3},"file":"samples/seven.tree","mtd":{"leaves":3,"move":2,"value":3},"sss":{"leaves":3,"move":2,"value":3}}"#,
+        concat!(
+            r#"{"ab":{"leaves":4,"move":2,"value":3},"file":"samples/seven.tree","#,
+            r#""mtd":{"leaves":3,"move":2,"value":3},"sss":{"leaves":3,"move":2,"value":3}}"#
+        ),
     );
     let search = |method: &str, rest: &str| {
         let object = format!(r#"{{"file":"samples/ending.tree",{rest},"value":-20}}"#);
@@ -52,7 +55,10 @@ fn results_are_objects() {
     );
     gives(
         &["order", "sss", seven],
-        r#"{"file":"samples/seven.tree","method":"sss","order":[{"node":3,"worth":1},{"node":5,"worth":3},{"node":6,"worth":4}]}"#,
+        concat!(
+            r#"{"file":"samples/seven.tree","method":"sss","#,
+            r#""order":[{"node":3,"worth":1},{"node":5,"worth":3},{"node":6,"worth":4}]}"#
+        ),
     );
     gives(
         &["verify", "samples/ending.tree", "samples/ending.certificate"],
