@@ -5,6 +5,7 @@ use crate::json::Object;
 use crate::{files, grafted, help, hints, picture, plan::Plan, table, tidy, Done, Failure};
 use buulset::{Refusal, Search, Stopped, Tree, MAX_FILE};
 use std::ffi::{OsStr, OsString};
+use std::fs;
 use std::os::unix::ffi::{OsStrExt, OsStringExt};
 use std::path::Path;
 
@@ -356,13 +357,7 @@ pub fn graft(mut arguments: Arguments) -> Done {
     let two = arguments.word("the second FILE")?;
     arguments.end()?;
     once(&arguments, [&one, &two].iter().filter(|n| *n == &"-").count())?;
-    let map = arguments.option("--map");
-    if map == Some(OsStr::new("-")) && !arguments.has("--output") && !arguments.has("--in-place") {
-        return Err(arguments.wrong("the map and the tree would both go to standard output"));
-    }
-    if map.is_some() && map == arguments.option("--output") {
-        return Err(arguments.wrong("the map and the tree would both go to one file"));
-    }
+    check_map(&arguments, &[&one, &two])?;
     let shown = |which: &str, name: &OsStr| format!("the {which} tree, {}", files::shown(name));
     let first = named_tree(&one, &shown("first", &one))?;
     let second = named_tree(&two, &shown("second", &two))?;
@@ -373,10 +368,26 @@ pub fn graft(mut arguments: Arguments) -> Done {
         };
         refused(what)(refusal)
     })?;
-    if let Some(map) = map {
+    if let Some(map) = arguments.option("--map") {
         files::write(map, grafted::map(&first, node, &second).as_bytes(), arguments.has("--force"))?;
     }
     files::deliver(&arguments, Some(&one), &result.to_file())
+}
+
+/// The map of a graft has a file of its own.
+fn check_map(arguments: &Arguments, trees: &[&OsStr]) -> Done {
+    let Some(map) = arguments.option("--map") else { return Ok(()) };
+    let path = |name: &OsStr| fs::canonicalize(name).ok();
+    if map == "-" && !arguments.has("--output") && !arguments.has("--in-place") {
+        return Err(arguments.wrong("the map and the tree would both go to standard output"));
+    }
+    if Some(map) == arguments.option("--output") {
+        return Err(arguments.wrong("the map and the tree would both go to one file"));
+    }
+    if path(map).is_some_and(|map| trees.iter().any(|tree| path(tree).as_ref() == Some(&map))) {
+        return Err(arguments.wrong("the map would take the place of a tree"));
+    }
+    Ok(())
 }
 
 /// FILE, LEAF and VALUE.

@@ -167,6 +167,11 @@ fn a_graft_tells_which_node_got_which_number() {
     assert!(fs::metadata(&map).is_err(), "a refusal writes no map");
     is_wrong_use(&["graft", "a", "1", "b", "--map", "-"], "both go to standard output");
     is_wrong_use(&["graft", "a", "1", "b", "--map", "x", "-o", "x"], "both go to one file");
+    let seven = "samples/seven.tree";
+    is_wrong_use(
+        &["graft", "samples/ending.tree", "9", seven, "--map", "samples/../samples/seven.tree"],
+        "place of a tree",
+    );
     let tree = folder.0.join("tree").to_str().unwrap().to_string();
     let printed = prints(&["graft", "samples/seven.tree", "4", "samples/seven.tree", "--map", "-", "-o", &tree]);
     assert!(printed.contains("first 4 4\n") && printed.contains("second 0 4\n"), "{printed}");
