@@ -27,7 +27,7 @@ use std::{error, fmt};
 mod ffi;
 mod tree;
 
-pub use tree::{Search, Stopped, Tree};
+pub use tree::{Line, Search, Stopped, Tree};
 
 /// The most nodes of a tree. As an allowance of [`sss`] it never stops a run.
 pub const MAX_NODES: usize = 4096;

@@ -42,6 +42,15 @@ pub struct Stopped {
     pub order: Vec<u16>,
 }
 
+/// The best line of a [`Tree`]: what both sides play who play their best.
+#[derive(Clone, PartialEq, Eq, Debug)]
+pub struct Line {
+    /// The minimax value of the root, over the leaves' worths; every node of the line has it.
+    pub value: i16,
+    /// The nodes from the root to a leaf.
+    pub nodes: Vec<usize>,
+}
+
 const ACCEPTED: &str = "an accepted table with buffers of its size is not refused";
 
 impl Tree {
@@ -145,6 +154,22 @@ impl Tree {
         let found = by(&self.table, &mut evaluated, &mut certificate, &mut order).expect(ACCEPTED);
         order.truncate(found.leaves);
         Search { found, evaluated, certificate, order }
+    }
+
+    /// The principal variation: from the root to a leaf by nodes of the root's value.
+    ///
+    /// ```
+    /// # use buulset::Tree;
+    /// let tree = Tree::from_file(b"000102000000\n000000000001\n000000000002\n")?;
+    /// assert_eq!((tree.line().value, tree.line().nodes), (2, vec![0, 2]));
+    /// # Ok::<(), buulset::Refusal>(())
+    /// ```
+    pub fn line(&self) -> Line {
+        // The two solution trees share one child of each inner node that they share, so the flags 3 are one path, and
+        // its nodes have the root's value. No proof says so of this function yet; all else takes the line from here.
+        let Search { found, certificate, .. } = self.sss();
+        let shared_child = |&node: &usize| self.children(node).find(|&child| certificate[child] == 3);
+        Line { value: found.value, nodes: std::iter::successors(Some(0), shared_child).collect() }
     }
 
     /// Checks a certificate of the tree, and gives the value that it certifies.
