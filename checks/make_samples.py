@@ -1,6 +1,6 @@
 #!/usr/bin/env python3
 """Writes sample files, *.tree with *.expected, what `analyse` prints for each, one for `capitals`, *.tree with
-*.capitals, and two certificates, by oracle.py.
+*.capitals, two certificates, and the names of some moves, by oracle.py.
 
     make_samples.py [DIRECTORY]     (default: samples)
 """
@@ -12,6 +12,9 @@ import oracle as o
 # Four moves for White, scores in hundredths of a man. Moves 2 and 4 both reach -20; the first of them is the answer.
 # Alpha-beta values 15 of the 19 leaves, SSS* 11.
 ENDING = [[-50, [20, 70, -70], [-60, -70, 70]], [0, -20], [[-20, 0, 10], [-60, -60, 40], -70], [-20, 90, 0]]
+
+# White's moves, and Black's answers to the second: the names of the moves to these nodes of ENDING.
+NAMES = {1: "31-27", 2: "32-28", 3: "33-29", 4: "34-30", 8: "19-23", 9: "18-23"}
 
 # Two moves for White: a capture, after which White moves again, and one after which Black may capture and move again.
 # By the depth alone the value would be 45, with move 2.
@@ -92,10 +95,11 @@ def main():
     if files["stored.capitals"] != files["wins.tree"]:
         sys.exit("stored is no longer converted to wins")
     files.update((name + ".certificate", data) for name, data in certificates().items())
+    files["ending.names"] = "".join("%d %s\n" % entry for entry in NAMES.items()).encode()
     for name, data in files.items():
         with open(os.path.join(directory, name), "wb") as f:
             f.write(data)
-    print("%d samples, each shows what it is meant to" % (len(samples()) + len(certificates())))
+    print("%d samples, each shows what it is meant to" % (len(samples()) + len(certificates()) + 1))
 
 
 if __name__ == "__main__":

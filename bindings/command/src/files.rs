@@ -52,6 +52,18 @@ pub fn whole(name: &OsStr) -> Result<Vec<u8>, Failure> {
     read.map(|_| bytes).map_err(|error| unreadable(name, &error))
 }
 
+/// The bytes of a nested text or of a names file, which have a few for each of at most 4,096 nodes.
+pub fn text(name: &OsStr) -> Result<Vec<u8>, Failure> {
+    const MOST: usize = 1 << 22;
+    let mut bytes = vec![0; MOST + 1];
+    let length = read(name, &mut bytes)?;
+    bytes.truncate(length);
+    match length <= MOST {
+        true => Ok(bytes),
+        false => Err(Failure::Use(format!("{} is longer than 4 MiB: is it the file that is meant?", shown(name)))),
+    }
+}
+
 fn unreadable(name: &OsStr, error: &io::Error) -> Failure {
     Failure::Unreadable(format!("{}: {}", shown(name), reason(error)))
 }

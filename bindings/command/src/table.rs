@@ -1,6 +1,6 @@
 //! The table of commands. Help, usage, the parsing of options, shell completions and the manual page are made from it.
 use crate::arguments::Arguments;
-use crate::{commands, completions, explain, manual, repair, reports, Done};
+use crate::{commands, completions, explain, line, manual, repair, reports, Done};
 
 pub struct Command {
     pub name: &'static str,
@@ -54,6 +54,12 @@ const FORCE: Choice =
 const FROM: Choice = valued("--from", "LIST", "takes file names from LIST too, one a line; - is standard input");
 
 const JSON: Choice = flag("--json", "prints an object of JSON on one line, a refusal too");
+
+const NAMES: Choice = valued(
+    "--names",
+    "FILE",
+    "takes the names of moves from FILE, a line each: a node number, a blank, the name of the move to that node",
+);
 
 pub fn command(name: &str) -> Option<&'static Command> {
     COMMANDS.iter().find(|command| command.name == name)
@@ -261,6 +267,22 @@ The fewest leaves to expect of any search where every inner node has WIDTH child
         options: &[JSON],
         examples: &["buulset least 10 6"],
         run: commands::least,
+    },
+    Command {
+        name: "line",
+        words: "FILE",
+        does: "the best line from the root, with its value",
+        about: "\
+The best line, which both sides play who play their best: `value` and the root's value, then `line` and the node \
+numbers from the root to a leaf. Every node of the line has the root's value, and its first move is that of `buulset \
+search`. With names of moves a third line has `moves` and the names, or the node number in brackets where a move has \
+no name.",
+        options: &[NAMES, JSON],
+        examples: &[
+            "buulset line samples/ending.tree",
+            "buulset line samples/ending.tree --names samples/ending.names",
+        ],
+        run: line::run,
     },
     Command {
         name: "draw",

@@ -60,6 +60,11 @@ fn results_are_objects() {
             r#""order":[{"node":3,"worth":1},{"node":5,"worth":3},{"node":6,"worth":4}]}"#
         ),
     );
+    gives(&["line", "samples/ending.tree"], r#"{"file":"samples/ending.tree","line":[0,2,9],"value":-20}"#);
+    gives(
+        &["line", "samples/ending.tree", "--names", "samples/ending.names"],
+        r#"{"file":"samples/ending.tree","line":[0,2,9],"moves":["32-28","18-23"],"value":-20}"#,
+    );
     gives(
         &["verify", "samples/ending.tree", "samples/ending.certificate"],
         r#"{"certificate":"samples/ending.certificate","file":"samples/ending.tree","value":-20}"#,
@@ -84,6 +89,7 @@ fn refusals_are_objects() {
     refused(&["analyse", "samples/refused-7.tree"], r#""file":"samples/refused-7.tree" "place":0 "refused":7"#);
     refused(&["search", "sss", "samples/refused-3.tree"], r#""method":"sss" "place":7 "refused":3"#);
     refused(&["order", "ab", "samples/refused-1.tree"], r#""place":0 "refused":1"#);
+    refused(&["line", "samples/cut-off.tree"], r#""file":"samples/cut-off.tree" "place":15 "refused":3"#);
     refused(&["verify", "samples/seven.tree", "samples/ending.certificate"], r#""refused":12"#);
     refused(&["needs", "samples/seven.tree", "3", "9"], r#""leaf":3 "place":3 "refused":21 "wanted":9"#);
     refused(&["least", "41", "2"], r#""place":0 "refused":22 "width":41"#);
