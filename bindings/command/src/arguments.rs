@@ -79,10 +79,15 @@ impl Arguments {
 
     /// The next word as the last file; where there is none, standard input, if it is a pipe or a file.
     pub fn last_file(&mut self) -> Result<OsString, Failure> {
+        self.last("FILE")
+    }
+
+    /// The same where the file is called `what`.
+    pub fn last(&mut self, what: &str) -> Result<OsString, Failure> {
         if self.words.len() == 0 && self.takes_input() {
             return Ok("-".into());
         }
-        let name = self.word("FILE")?;
+        let name = self.word(what)?;
         self.end()?;
         Ok(name)
     }

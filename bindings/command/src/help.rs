@@ -4,6 +4,9 @@ use crate::table::{Choice, Command, COMMANDS, QUIET};
 /// The columns of a line of help.
 const WIDTH: usize = 100;
 
+/// What a paragraph begins with whose lines are not broken anew.
+pub const AS_IT_IS: &str = "  ";
+
 pub const STATUSES: [(&str, &str); 4] = [
     ("0", "a result"),
     ("1", "refused"),
@@ -46,12 +49,20 @@ pub fn usage(command: &Command) -> String {
 
 /// The help of a command.
 pub fn of(command: &Command) -> String {
-    let about: String = command.about.split("\n\n").map(|paragraph| wrapped(0, paragraph) + "\n\n").collect();
+    let about: String = command.about.split("\n\n").map(|paragraph| paragraph_of(paragraph) + "\n\n").collect();
     let column = 4 + command.choices().map(|choice| named(choice).len()).max().unwrap_or(0);
     let options: String =
         command.choices().map(|choice| hanging(&format!("  {}", named(choice)), column, choice.says) + "\n").collect();
     let examples: String = command.examples.iter().map(|example| format!("  {example}\n")).collect();
     format!("{}\n\n{about}{options}\n{examples}", usage(command))
+}
+
+/// A paragraph in lines; one that begins with two blanks stands as it is.
+fn paragraph_of(text: &str) -> String {
+    match text.starts_with(AS_IT_IS) {
+        true => text.into(),
+        false => wrapped(0, text),
+    }
 }
 
 /// An option with its short name and its value.

@@ -1,6 +1,7 @@
 //! A refusal for a person: which question, where, and what it usually is.
 use crate::explain::question;
 use crate::json::Object;
+use crate::text::read::nest;
 use crate::{files, repair};
 use buulset::{Refusal, FRAME_SIZE, LINE_SIZE, MAX_DEPTH, MAX_FILE};
 use std::ffi::OsStr;
@@ -64,6 +65,9 @@ fn cause(name: &OsStr, file: &[u8], refusal: Refusal) -> Option<String> {
     Some(match refusal.number {
         1 => empty(name),
         2 => too_long(name, file),
+        3 if file.contains(&b'(') && nest(&String::from_utf8_lossy(file)).is_ok() => {
+            format!("a tree as nested text: `buulset make {}` makes a tree file of it", files::for_a_shell(name))
+        }
         3 => repair::hint(name, file, refusal.place).unwrap_or_else(|| not_a_line(file, refusal.place)),
         16 => {
             format!("small letters: `buulset capitals {}` writes the same tree with capitals", files::for_a_shell(name))

@@ -12,6 +12,7 @@ mod help;
 mod hints;
 mod json;
 mod line;
+mod make;
 mod manual;
 mod names;
 mod output;
@@ -21,6 +22,7 @@ mod repair;
 mod replace;
 mod reports;
 mod table;
+mod text;
 mod tidy;
 
 use buulset::Refusal;

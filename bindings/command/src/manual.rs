@@ -73,7 +73,11 @@ fn option_name(choice: &Choice) -> String {
 
 /// A paragraph with a tag before it.
 fn item(tag: &str, text: &str) -> String {
-    let paragraphs: Vec<String> = text.split("\n\n").map(escaped).collect();
+    let paragraph = |text| match str::starts_with(text, help::AS_IT_IS) {
+        true => format!(".nf\n{}\n.fi", escaped(text)),
+        false => escaped(text),
+    };
+    let paragraphs: Vec<String> = text.split("\n\n").map(paragraph).collect();
     format!(".TP\n{tag}\n{}\n", paragraphs.join("\n.IP\n"))
 }
 

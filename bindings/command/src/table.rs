@@ -1,6 +1,6 @@
 //! The table of commands. Help, usage, the parsing of options, shell completions and the manual page are made from it.
 use crate::arguments::Arguments;
-use crate::{commands, completions, explain, line, manual, repair, reports, Done};
+use crate::{commands, completions, explain, line, make, manual, repair, reports, text, Done};
 
 pub struct Command {
     pub name: &'static str,
@@ -8,7 +8,8 @@ pub struct Command {
     pub words: &'static str,
     /// What it does, in the list of all commands.
     pub does: &'static str,
-    /// What its help and the manual page say; an empty line separates paragraphs.
+    /// What its help and the manual page say; an empty line separates paragraphs. One that begins with two blanks
+    /// stands as it is.
     pub about: &'static str,
     /// The options that it takes besides those of every command.
     pub options: &'static [Choice],
@@ -283,6 +284,43 @@ no name.",
             "buulset line samples/ending.tree --names samples/ending.names",
         ],
         run: line::run,
+    },
+    Command {
+        name: "make",
+        words: "TEXT",
+        does: "a tree file from nested text, such as (1 2) (3 4)",
+        about: "\
+The tree file of nested text: (1 2) (3 4) is a root with two nodes of two leaves each. TEXT is a file, - standard \
+input; a word with a bracket or a blank in it that is no file is the text itself.
+
+  text  = tree [ \"~\" ]                   ~ where the last line of the file has no line feed
+  tree  = child { child }                the children of the root, where Max moves
+        | \"=\" value                      a root that is a leaf
+  child = value                          a leaf
+        | \"(\" child { child } \")\"        a node with children; the other side moves than at its parent
+        | \"x\" \"(\" child { child } \")\"    a second capture: the same side moves as at its parent
+  value = [ \"-\" ] digit { digit }        -32000 to 32000
+  digit = \"0\" | \"1\" | .. | \"9\"
+  White space separates values; between other words there may be any amount of it.
+  # begins a comment, which goes to the end of the line.
+
+Where the grammar does not take the text, standard error has the line, the column and what was expected, and the exit \
+status is 2. A tree that is too large, too wide or too deep is refused as its file would be, with 2, 5 or 9, and a \
+value out of range with 7; standard error has the line and the column.",
+        options: &[OUTPUT, FORCE],
+        examples: &["buulset make '(1 2) (3 4)' -o small.tree", "buulset make ending.text -o ending.tree"],
+        run: make::run,
+    },
+    Command {
+        name: "text",
+        words: "FILE",
+        does: "a tree file as nested text",
+        about: "\
+The tree as nested text: (1 2) (3 4) is a root with two nodes of two leaves each. `buulset make` makes the same file \
+of it, byte for byte, and `buulset make --help` has the grammar.",
+        options: &[OUTPUT, FORCE],
+        examples: &["buulset text samples/ending.tree", "buulset text samples/ending.tree -o ending.text"],
+        run: text::run,
     },
     Command {
         name: "draw",

@@ -124,3 +124,36 @@ fn worth(value: i32, depth: usize) -> i32 {
         _ => value,
     }
 }
+
+/// The text of a tree, with white space and comments at random.
+pub fn text(random: &mut Random, tree: &Nest) -> String {
+    let mut text = space(random, "");
+    match tree {
+        Nest::Leaf(value) => text += &format!("={}{value}", space(random, "")),
+        Nest::Inner(_, children) => write(random, children, &mut text),
+    }
+    text + &space(random, "")
+}
+
+fn write(random: &mut Random, children: &[Nest], out: &mut String) {
+    for (i, child) in children.iter().enumerate() {
+        // two values must not touch
+        let is_after_value = i > 0 && matches!(children[i - 1], Nest::Leaf(_));
+        *out += &space(random, if is_after_value { " " } else { "" });
+        match child {
+            Nest::Leaf(value) => *out += &value.to_string(),
+            Nest::Inner(is_second_capture, below) => {
+                *out += if *is_second_capture { "x" } else { "" };
+                *out += &format!("{}({}", space(random, ""), space(random, ""));
+                write(random, below, out);
+                *out += &format!("{})", space(random, ""));
+            }
+        }
+    }
+}
+
+/// White space that begins with this.
+fn space(random: &mut Random, least: &str) -> String {
+    let more = ["", "", "", " ", "\n", "\t", "\r\n", "  ", "# (a comment = ~ x\n", "\u{A0}", "#\r\n\n"];
+    format!("{least}{}", random.pick(&more))
+}
