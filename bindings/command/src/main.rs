@@ -21,6 +21,7 @@ mod plan;
 mod repair;
 mod replace;
 mod reports;
+mod show;
 mod table;
 mod text;
 mod tidy;

@@ -1,6 +1,6 @@
 //! The table of commands. Help, usage, the parsing of options, shell completions and the manual page are made from it.
 use crate::arguments::Arguments;
-use crate::{commands, completions, explain, line, make, manual, repair, reports, text, Done};
+use crate::{commands, completions, explain, line, make, manual, repair, reports, show, text, Done};
 
 pub struct Command {
     pub name: &'static str,
@@ -55,6 +55,8 @@ const FORCE: Choice =
 const FROM: Choice = valued("--from", "LIST", "takes file names from LIST too, one a line; - is standard input");
 
 const JSON: Choice = flag("--json", "prints an object of JSON on one line, a refusal too");
+
+const METHOD: Choice = valued("--method", "METHOD", "ab, mtd, mtdf:N, sss (if nothing is said) or plain");
 
 const NAMES: Choice = valued(
     "--names",
@@ -270,6 +272,26 @@ The fewest leaves to expect of any search where every inner node has WIDTH child
         run: commands::least,
     },
     Command {
+        name: "show",
+        words: "FILE",
+        does: "the tree in the terminal, with the evaluated leaves and the best line",
+        about: "\
+The tree in the terminal, a node a line: its number, who moves there or the value that the leaf holds, with its worth \
+where that differs. #1, #2 and so on number the evaluated leaves in their order, * marks the best line. There is colour \
+on a terminal alone, and none where NO_COLOR is set.",
+        options: &[
+            METHOD,
+            valued("--depth", "N", "shows no more than N moves; 0 is the root alone"),
+            NAMES,
+            flag("--ascii", "draws lines of |, - and ` for terminals without box characters"),
+        ],
+        examples: &[
+            "buulset show samples/ending.tree",
+            "buulset show docs/pictures/largest.tree --depth 3 | less",
+        ],
+        run: show::run,
+    },
+    Command {
         name: "line",
         words: "FILE",
         does: "the best line from the root, with its value",
@@ -330,7 +352,7 @@ of it, byte for byte, and `buulset make --help` has the grammar.",
 A picture of the tree as SVG, for any browser: the root at the left, a leaf a row, the evaluated leaves with their \
 number in the order, the two solution trees drawn out, what was passed over drawn together.",
         options: &[
-            valued("--method", "METHOD", "ab, mtd, mtdf:N, sss (if nothing is said) or plain"),
+            METHOD,
             valued(
                 "--certificate",
                 "FILE",

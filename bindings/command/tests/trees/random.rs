@@ -115,6 +115,16 @@ impl Nodes {
         };
         (0..self.stored.len()).map(line).collect()
     }
+
+    /// The nodes as they are come to from the root: a node, then all below its first child, and so on.
+    pub fn in_text_order(&self) -> Vec<usize> {
+        let (mut order, mut stack) = (Vec::new(), vec![0]);
+        while let Some(k) = stack.pop() {
+            order.push(k);
+            stack.extend(self.children[k].iter().rev());
+        }
+        order
+    }
 }
 
 fn worth(value: i32, depth: usize) -> i32 {
