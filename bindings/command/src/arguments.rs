@@ -1,6 +1,6 @@
 //! The words after a command: files and numbers by their place, and options.
 use crate::table::{Choice, Command};
-use crate::{help, Failure};
+use crate::{help, table, Failure};
 use std::ffi::{OsStr, OsString};
 use std::fmt::Display;
 use std::io::{self, IsTerminal};
@@ -143,7 +143,10 @@ fn option(
     let after = equals.map(|at| OsString::from_vec(bytes[at + 1..].to_vec()));
     let Some(choice) = command.choices().find(|c| c.name == name || c.short == Some(&name)) else {
         let names: Vec<&str> = command.choices().map(|c: &Choice| c.name).collect();
-        let meant = nearest(&name, &names).map_or(String::new(), |near| format!(": did you mean {near}?"));
+        let meant = match (table::command(name.trim_start_matches('-')), nearest(&name, &names)) {
+            (Some(other), _) => format!(": `buulset {}` is a command of its own", other.name),
+            (None, near) => near.map_or(String::new(), |near| format!(": did you mean {near}?")),
+        };
         return Err(wrong(command, format!("there is no option {}{meant}", word.to_string_lossy())));
     };
     match (choice.value, after) {

@@ -2,7 +2,7 @@
 use crate::archive::{self, End, How, Made};
 use crate::arguments::{nearest, number, Arguments};
 use crate::json::Object;
-use crate::{files, grafted, help, hints, picture, plan::Plan, table, tidy, Done, Failure};
+use crate::{files, grafted, help, hints, plan::Plan, table, tidy, Done, Failure};
 use buulset::{Refusal, Search, Stopped, Tree, MAX_FILE};
 use std::ffi::{OsStr, OsString};
 use std::fs;
@@ -430,34 +430,4 @@ pub fn least(mut arguments: Arguments) -> Done {
         crate::say("65535 stands for that or more");
     }
     Ok(())
-}
-
-pub fn draw(mut arguments: Arguments) -> Done {
-    let name = arguments.last_file()?;
-    let proof = arguments.option("--certificate").map(OsStr::to_os_string);
-    once(&arguments, [Some(&name), proof.as_ref()].iter().filter(|n| **n == Some(&"-".into())).count())?;
-    let method = match (arguments.option("--method"), &proof) {
-        (Some(method), _) => Some(method.to_os_string()),
-        (None, None) => Some("sss".into()),
-        (None, Some(_)) => None,
-    };
-    if arguments.has("--watch") && method.as_ref().is_none_or(|m| m == "plain") {
-        return Err(
-            arguments.wrong("--watch shows the order of a search: it goes with --method ab, mtd, mtdf:N or sss")
-        );
-    }
-    let tree = tree(&name)?;
-    let search = method.as_ref().map(|m| searched(&arguments, m, &tree)).transpose()?;
-    let flags = proof.as_ref().map(|p| certificate(p)).transpose()?;
-    if let (Some(flags), Some(proof)) = (&flags, &proof) {
-        tree.verify(flags).map_err(refused_certificate(&tree, flags, files::shown(proof)))?;
-    }
-    let of = picture::Subject {
-        method: method.map(|m| m.to_string_lossy().into_owned()),
-        search: search.as_ref(),
-        certificate: flags.as_deref(),
-        watch: arguments.has("--watch"),
-        all: arguments.has("--all"),
-    };
-    files::deliver(&arguments, None, picture::svg(&tree, &of).as_bytes())
 }

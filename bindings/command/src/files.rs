@@ -7,6 +7,7 @@ use std::fs::{self, File, Metadata};
 use std::io::{self, ErrorKind, Read, Write};
 use std::os::fd::AsFd;
 use std::os::unix::fs::MetadataExt;
+use std::path::Path;
 
 /// The most bytes that are read of a tree file: one more than question 2 passes, so it answers as for the whole file.
 pub const MOST: usize = MAX_FILE + 1;
@@ -94,6 +95,11 @@ pub fn for_a_shell(name: &OsStr) -> String {
         true => text.into(),
         false => format!("'{}'", text.replace('\'', "'\\''")),
     }
+}
+
+/// A name without its folders.
+pub fn base(name: &OsStr) -> String {
+    Path::new(name).file_name().filter(|_| name != "-").map_or(shown(name), shown)
 }
 
 /// Writes to standard output; a pipe that nobody reads any more is told apart.

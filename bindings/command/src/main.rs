@@ -3,8 +3,10 @@
 
 mod archive;
 mod arguments;
+mod bounds;
 mod commands;
 mod completions;
+mod draw;
 mod explain;
 mod files;
 mod grafted;
@@ -21,6 +23,7 @@ mod plan;
 mod repair;
 mod replace;
 mod reports;
+mod run;
 mod show;
 mod table;
 mod text;

@@ -1,6 +1,6 @@
 //! The table of commands. Help, usage, the parsing of options, shell completions and the manual page are made from it.
 use crate::arguments::Arguments;
-use crate::{commands, completions, explain, line, make, manual, repair, reports, show, text, Done};
+use crate::{commands, completions, draw, explain, line, make, manual, repair, reports, show, text, Done};
 
 pub struct Command {
     pub name: &'static str,
@@ -347,24 +347,32 @@ of it, byte for byte, and `buulset make --help` has the grammar.",
     Command {
         name: "draw",
         words: "FILE",
-        does: "a picture of the tree and its solution trees, as SVG",
+        does: "a picture of the tree that says why leaves were passed over, as SVG",
         about: "\
-A picture of the tree as SVG, for any browser: the root at the left, a leaf a row, the evaluated leaves with their \
-number in the order, the two solution trees drawn out, what was passed over drawn together.",
+A picture of the tree as SVG, for any browser and for print: the root at the left, the table of leaves at the right, \
+in every node its value or its bound, the best line strongest, and for what was passed over the reason.",
         options: &[
             METHOD,
             valued(
                 "--certificate",
                 "FILE",
-                "draws the solution trees of this certificate; without --method, only these",
+                "draws the solution trees of this certificate; without --method, nothing else",
             ),
-            flag("--watch", "lets the leaves light up in their order"),
-            flag("--all", "draws what was passed over, too"),
+            valued(
+                "--rows",
+                "N",
+                "folds what lies far from the best line, so that there are at most N rows (40) if that can be",
+            ),
+            flag("--all", "draws every node, also what was passed over"),
+            NAMES,
             OUTPUT,
             FORCE,
         ],
-        examples: &["buulset draw samples/ending.tree -o ending.svg"],
-        run: commands::draw,
+        examples: &[
+            "buulset draw samples/ending.tree -o ending.svg",
+            "buulset draw samples/ending.tree --names samples/ending.names -o ending.svg",
+        ],
+        run: draw::run,
     },
     Command {
         name: "explain",

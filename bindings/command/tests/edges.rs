@@ -58,19 +58,24 @@ fn prints_with_summary(names: &[String]) -> String {
 
 #[test]
 fn a_pipe_stands_for_a_file_that_is_not_named() {
-    let commands: [&[&str]; 7] = [
+    let commands: [&[&str]; 9] = [
         &["analyse"],
         &["search", "sss"],
         &["order", "ab"],
         &["certify", "sss"],
         &["hardest"],
-        &["draw"],
+        &["show"],
+        &["line"],
+        &["text"],
         &["capitals"],
     ];
     for command in commands {
         let named = prints(&[command, &["samples/seven.tree"]].concat());
         assert_eq!(with_input(command, SEVEN.as_bytes()).out, named, "{command:?}");
     }
+    // a picture has the name of its file
+    let drawn = with_input(&["draw"], SEVEN.as_bytes()).out.replace("standard input", "seven.tree");
+    assert!(drawn == prints(&["draw", "samples/seven.tree"]), "draw");
     is_wrong_use(&["capitals", "--in-place"], "FILE is missing");
     // a terminal does not
     let terminal = "import os, pty, sys\nsys.exit(os.waitstatus_to_exitcode(pty.spawn(sys.argv[1:])))";
@@ -114,8 +119,8 @@ fn mistyped_words_are_guessed() {
 #[test]
 fn options_without_effect_are_wrong_use() {
     let ending = "samples/ending.tree";
-    is_wrong_use(&["draw", ending, "--watch", "--method", "plain"], "--watch shows the order of a search");
-    is_wrong_use(&["draw", ending, "--watch", "--certificate", "samples/ending.certificate"], "--watch shows");
+    is_wrong_use(&["draw", ending, "--all", "--rows", "9"], "--all and --rows exclude each other");
+    is_wrong_use(&["draw", ending, "--order"], "there is no option --order: `buulset order` is a command of its own");
     is_wrong_use(&["search", "ab", ending, "--leaves", "2"], "--leaves is an allowance of sss");
 }
 
