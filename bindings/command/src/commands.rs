@@ -186,12 +186,18 @@ fn no_method(arguments: &Arguments, method: &OsStr) -> Failure {
     arguments.wrong(format!("METHOD is ab, mtd, mtdf:N, sss or plain, not {}", method.to_string_lossy()))
 }
 
+/// Is there such a method?
+pub fn known(arguments: &Arguments, method: &OsStr) -> Done {
+    match ["ab", "mtd", "sss", "plain"].iter().any(|m| method == *m) || start(method).is_some() {
+        true => Ok(()),
+        false => Err(no_method(arguments, method)),
+    }
+}
+
 /// METHOD and FILE.
 pub fn method_and_file(arguments: &mut Arguments) -> Result<(OsString, OsString), Failure> {
     let method = arguments.word("METHOD")?;
-    if !["ab", "mtd", "sss", "plain"].iter().any(|m| method == *m) && start(&method).is_none() {
-        return Err(no_method(arguments, &method));
-    }
+    known(arguments, &method)?;
     Ok((method, arguments.last_file()?))
 }
 

@@ -1,4 +1,5 @@
 //! Objects of JSON, each on one line.
+use std::borrow::Cow;
 
 /// A value of a field.
 pub enum Value {
@@ -12,7 +13,7 @@ pub enum Value {
 
 /// Fields in the order in which they were added.
 #[derive(Default)]
-pub struct Object(Vec<(&'static str, Value)>);
+pub struct Object(Vec<(Cow<'static, str>, Value)>);
 
 impl Object {
     pub fn new() -> Object {
@@ -20,8 +21,8 @@ impl Object {
     }
 
     /// The object with one more field.
-    pub fn with(mut self, name: &'static str, value: impl Into<Value>) -> Object {
-        self.0.push((name, value.into()));
+    pub fn with(mut self, name: impl Into<Cow<'static, str>>, value: impl Into<Value>) -> Object {
+        self.0.push((name.into(), value.into()));
         self
     }
 
@@ -33,9 +34,16 @@ impl Object {
 
     /// The object as a line, with its line feed.
     pub fn line(self) -> String {
+        Value::Object(self).text() + "\n"
+    }
+}
+
+impl Value {
+    /// The value as JSON, without a line feed.
+    pub fn text(&self) -> String {
         let mut text = String::new();
-        Value::Object(self).write(&mut text);
-        text + "\n"
+        self.write(&mut text);
+        text
     }
 }
 

@@ -28,6 +28,7 @@ mod show;
 mod table;
 mod text;
 mod tidy;
+mod watch;
 
 use buulset::Refusal;
 use std::{env, ffi::OsString, process::ExitCode};

@@ -20,6 +20,11 @@ impl Names {
         self.0.get(node)?.as_deref()
     }
 
+    /// The nodes that have a name, with their names.
+    pub fn iter(&self) -> impl Iterator<Item = (usize, &str)> {
+        self.0.iter().enumerate().filter_map(|(node, name)| Some((node, name.as_deref()?)))
+    }
+
     /// The names, or the first line that is wrong, counted from 1, and why.
     fn parse(bytes: &[u8], nodes: usize) -> Result<Names, (usize, String)> {
         let bytes = bytes.strip_prefix(b"\xEF\xBB\xBF").unwrap_or(bytes);

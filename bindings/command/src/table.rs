@@ -1,6 +1,6 @@
 //! The table of commands. Help, usage, the parsing of options, shell completions and the manual page are made from it.
 use crate::arguments::Arguments;
-use crate::{commands, completions, draw, explain, line, make, manual, repair, reports, show, text, Done};
+use crate::{commands, completions, draw, explain, line, make, manual, repair, reports, show, text, watch, Done};
 
 pub struct Command {
     pub name: &'static str,
@@ -373,6 +373,33 @@ in every node its value or its bound, the best line strongest, and for what was 
             "buulset draw samples/ending.tree --names samples/ending.names -o ending.svg",
         ],
         run: draw::run,
+    },
+    Command {
+        name: "watch",
+        words: "FILE..",
+        does: "a page that plays alpha-beta, MTD and SSS* one under another, as HTML",
+        about: "\
+A page of HTML that plays the runs leaf by leaf, one under another: what is known of each node so far, what was cut \
+off and why, and at the end what the runs have in common. It is one file and loads nothing. With several files the \
+page has a choice of trees.
+
+Space plays and pauses, the arrow keys step, Home and End go to the ends, + and - change the speed. In the page's \
+address ?step=7 or ?step=end opens it there, ?play plays at once, ?loop plays for ever, ?tree=2 takes the second tree.",
+        options: &[
+            valued(
+                "--methods",
+                "LIST",
+                "ab,mtd,sss (if nothing is said), or others of ab, mtd, mtdf:N, sss and plain, with commas",
+            ),
+            NAMES,
+            OUTPUT,
+            FORCE,
+        ],
+        examples: &[
+            "buulset watch samples/ending.tree -o run.html",
+            "buulset watch samples/ending.tree --methods ab,mtd,mtdf:-20 -o guess.html",
+        ],
+        run: watch::run,
     },
     Command {
         name: "explain",

@@ -121,6 +121,7 @@ fn options_without_effect_are_wrong_use() {
     let ending = "samples/ending.tree";
     is_wrong_use(&["draw", ending, "--all", "--rows", "9"], "--all and --rows exclude each other");
     is_wrong_use(&["draw", ending, "--order"], "there is no option --order: `buulset order` is a command of its own");
+    is_wrong_use(&["draw", ending, "--watch"], "`buulset watch` is a command of its own");
     is_wrong_use(&["search", "ab", ending, "--leaves", "2"], "--leaves is an allowance of sss");
 }
 

@@ -171,6 +171,8 @@ fn pictures_show_what_is_asked() {
     let all = ending(&["--all"]);
     assert!((0..28).all(|k| all.contains(&format!("<title>node {k}: "))));
     assert!(all.contains(">worth −70</text>"));
+    let (status, _, err) = runs(&["draw", "samples/ending.tree", "--watch"]);
+    assert!(status == 2 && err.contains("`buulset watch` is a command of its own"), "{err}");
     // a root that is a leaf, and wins
     let folder = Folder::new("draw");
     let leaf = draw(&folder.file("leaf", "000000007B0C\n"), &[]);
