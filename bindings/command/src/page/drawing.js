@@ -21,26 +21,27 @@ function label(x, y, text, em, kind, turned = false) {
   return `<text class="${kind}" font-size="${f(size)}" ${at}>${escaped(text)}</text>`;
 }
 
-// How large everything is, so that all runs fit the window where that can be.
-function measure(tree, runs) {
-  const root = document.documentElement, L = tree.columns.length, R = runs.length;
-  room.narrow = matchMedia("(max-width:760px)").matches;
+// How large everything is, so that all runs fit the window, or a page of A4, where that can be.
+function measure(tree, runs, paper = false) {
+  const root = document.documentElement, L = tree.columns.length, R = runs.length, deepest = tree.deepest;
+  const [across, down] = paper ? [1040, 690] : [innerWidth, innerHeight];
+  room.narrow = !paper && matchMedia("(max-width:760px)").matches;
   root.style.fontSize = "";
-  room.size = parseFloat(getComputedStyle(root).fontSize);
-  if (!room.narrow) { // as large as a wall allows
-    const panel = (innerWidth - 19 * room.size) / L > 1.1 * room.size ? 2.9 * tree.deepest + 4.2 : 1.6 * tree.deepest + 4;
-    room.size = Math.max(room.size, Math.min(30, innerHeight / (R * Math.max(11.5, panel) + 16), innerWidth / (2.4 * L + 20)));
+  room.size = paper ? 12 : parseFloat(getComputedStyle(root).fontSize);
+  if (!room.narrow && !paper) { // as large as a wall allows
+    const panel = (across - 19 * room.size) / L > 1.1 * room.size ? 2.9 * deepest + 4.2 : 1.6 * deepest + 4;
+    room.size = Math.max(room.size, Math.min(30, down / (R * Math.max(11.5, panel) + 16), across / (2.4 * L + 20)));
     root.style.fontSize = room.size + "px";
   }
-  const {size, narrow} = room, space = document.getElementById("leaves").clientWidth;
-  room.column = L <= 60 ? Math.max(space / L, size * 1.15) : space / L;
+  const {size, narrow} = room, space = paper ? across - 20 * size : document.getElementById("leaves").clientWidth;
+  room.column = L <= 60 && !paper ? Math.max(space / L, size * 1.15) : space / L;
   room.width = room.column * L;
   document.body.classList.toggle("scrolls", room.width > space + 1);
   const others = [...document.querySelectorAll("header,.controls")].reduce((sum, e) => sum + e.offsetHeight, 0) + (1.45 * R + 6) * size;
-  const free = (innerHeight - others) / R - 1.7 * size;
-  room.linked = room.column >= size * 1.1 && (narrow && tree.deepest < 8 || free - size >= size * 1.9 * (tree.deepest + .45));
-  room.level = room.linked ? Math.max(size * 2.2, Math.min(size * 4.4, (free - size) / (tree.deepest + .45)))
-    : Math.max(size * (narrow ? 1.3 : .8), Math.min(size * 3, (free - 10) / (tree.deepest + 1)));
+  const free = Math.max((down - others) / R - 1.7 * size, 8 * size); // the words beside a tree take as much
+  room.linked = room.column >= size * 1.1 && (narrow && deepest < 8 || free - size >= size * 1.9 * (deepest + .45));
+  room.level = room.linked ? Math.max(size * 2.2, Math.min(size * 4.4, (free - size) / (deepest + .45)))
+    : Math.max(size * (narrow ? 1.3 : .64), Math.min(size * 3, (free - 10) / (deepest + 1)));
   document.body.classList.toggle("stacked", !room.linked);
   room.box = Math.min(room.level * .62, size * 1.6);
   room.row = size * (narrow ? 2.1 : 1.45);
@@ -105,16 +106,17 @@ function edge(drawing, parent, x, end, top, kind) {
 // A node as a block upon the blocks of its children; too narrow ones of a kind are one path.
 function drawBlock(drawing, k) {
   const {tree, nodes, slim, frame} = drawing, {column, level, size} = room, {value, on, exact, open, kind} = look(drawing, k), leaf = tree.leaf(k);
-  const x = tree.from[k] * column, y = drawing.top(k), w = Math.max((tree.to[k] - tree.from[k]) * column - 1, on ? 1.6 : 0), h = level - 3;
+  const x = tree.from[k] * column, y = drawing.top(k), w = Math.max((tree.to[k] - tree.from[k]) * column - 1, on ? 1.6 : 0), h = level - Math.min(3, level * .1);
   const marked = frame.path.has(k) || drawing.best(k);
   if (w < 6 && !marked) {
     const which = leaf && on ? "tick" : on ? "wall" : w > 1.5 ? "ghost" : "";
     if (which) slim[which] += outline(x, y, w, h);
   } else if (w > 1.5 || on) {
-    const em = value && w > size && [.92, .78, .66].find(e => size * e < h && wide(value, e, exact) < w - 5);
+    const em = value && w > size && [.92, .78, .66, .56].find(e => size * e * .95 < h && wide(value, e, exact) < w - 5);
     const turned = leaf && on && !em && w > size * .5 && wide(value, .62) < h;
     const named = !leaf && h > size && w > size * 2 && w > wide(value, .92, true) + 2 * wide(nameOf(tree, k), .62) + 16;
-    nodes.push(open, rect(x, y, w, h, leaf || tree.max[k] ? 0 : Math.min(h / 2, w / 2, 9)), em ? label(x + w / 2, y + h / 2, value, em, "value") : "",
+    const round = leaf || tree.max[k] ? 0 : Math.min(h / 2, w / 2, 9), ring = tree.again.has(k) && w > 12 && h > 9 ? rect(x + 2, y + 2, w - 4, h - 4, round && round - 2, 'class="ring"') : "";
+    nodes.push(open, rect(x, y, w, h, round), ring, em ? label(x + w / 2, y + h / 2, value, em, "value") : "",
       turned ? label(x + w / 2, y + h / 2, value, .62, "value", true) : "", named ? label(x + 5, y + size * .5, nameOf(tree, k), .62, "number start") : "", "</g>");
   }
   if (k === frame.now) nodes.push(`<path class="pointer" d="M${f(x + w / 2)} ${f(y + h + 1)}l-5 9h10z"/>`);
@@ -125,7 +127,7 @@ function drawCut(drawing, cut) {
   const {tree, nodes} = drawing, {column, level, box, linked, size} = room, {first, last} = cut;
   const x = tree.from[first] * column, w = (tree.to[last] - tree.from[first]) * column, gap = linked ? Math.min(4, column * .1) : .5;
   const lowest = Math.max(...tree.lowest.slice(first, last + 1)), y = linked ? drawing.top(first) - box / 2 : drawing.top(first);
-  const h = (lowest - tree.depth[first]) * level + (linked ? box : level - 3), kind = cut.now ? "cut now" : "cut";
+  const h = (lowest - tree.depth[first]) * level + (linked ? box : level - Math.min(3, level * .1)), kind = cut.now ? "cut now" : "cut";
   if (linked) drawing.edges.push(edge(drawing, tree.parent[first], x + w / 2, y, y, kind));
   else if (w < 6 && !cut.now) { drawing.slim.gone += outline(x, y, Math.max(w - 1, .8), h); return; }
   nodes.push(`<g class="${kind}" data-cut="${first}"><title>${escaped(cutHint(tree, cut))}</title>`, rect(x + gap, y, Math.max(w - 2 * gap, .8), h));

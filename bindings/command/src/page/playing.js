@@ -105,6 +105,7 @@ function play(on) {
   if (!on) return;
   if (t >= last) go(0);
   timer = setTimeout(next, beat());
+  tell();
 }
 
 function next() {
@@ -148,8 +149,8 @@ function listen() {
   });
   addEventListener("resize", () => { measure(tree, runs); show(); });
   let before = 0;
-  addEventListener("beforeprint", () => { before = t; play(false); t = last; show(); });
-  addEventListener("afterprint", () => { t = before; show(); });
+  addEventListener("beforeprint", () => { before = t; play(false); t = last; measure(tree, runs, true); show(); });
+  addEventListener("afterprint", () => { t = before; measure(tree, runs); show(); });
 }
 
 $("tree").innerHTML = DATA.map((data, i) => `<option value="${i}">${escaped(data.file)}</option>`).join("");
