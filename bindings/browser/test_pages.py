@@ -234,6 +234,10 @@ def test_controls(browser, folder):
     browser.open(address + "?step=end")
     browser.click("#run2 [data-cut='14']")
     assert "Nodes 14\u201315, 2 leaves, cut off: at node 4 Min" in browser.run("$('run2').querySelector('.reason').textContent")
+    if SHOTS:  # docs/pictures has this one
+        browser.size(1360, 800)
+        browser.open(address + "?step=end")
+        shot(browser, "ending-page", "webp", quality=60)
     several = page(folder, "several.html", *SAMPLES, "--methods", "ab,sss")
     browser.open(several + "?tree=2&step=3")
     assert browser.run("[$('tree').value, $('file').textContent, runs.length, t]") == ["1", "ending.tree", 2, 3]
@@ -374,9 +378,9 @@ def test_pictures(browser, folder):
     return f"{count} pictures"
 
 
-def shot(browser, name):
-    data = browser.call("Page.captureScreenshot", format="png")["data"]
-    with open(os.path.join(SHOTS, name + ".png"), "wb") as file:
+def shot(browser, name, kind="png", **more):
+    data = browser.call("Page.captureScreenshot", format=kind, **more)["data"]
+    with open(os.path.join(SHOTS, f"{name}.{kind}"), "wb") as file:
         file.write(base64.b64decode(data))
 
 

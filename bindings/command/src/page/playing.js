@@ -58,7 +58,7 @@ function choose(i) {
   compared = compare(tree, runs);
   asked = null;
   $("file").textContent = data.file;
-  $("about").textContent = `${count(tree.n, "node", "nodes")}, ${count(tree.columns.length)}; Max moves first. \u25a1 Max, \u25ef Min; \u2264 at most, \u2265 at least; hatched: cut off.`;
+  $("about").textContent = `${count(tree.n, "node", "nodes")}, ${count(tree.columns.length)}. Max (\u25a1) moves first and wants the most, Min (\u25ef) the least; \u2264 at most, \u2265 at least; hatched: cut off.`;
   $("slider").max = last;
   $("runs").innerHTML = runs.map((run, j) => `<section class="run" id="run${j}" aria-label="${escaped(run.title)}"><div class="say"><h2>${escaped(run.title)} <span></span></h2><div class="bar"><i></i></div><div class="words"></div></div><div class="tree"></div></section>`).join("");
   measure(tree, runs);

@@ -105,11 +105,11 @@ impl Picture<'_> {
         let any = |of: &dyn Fn(usize) -> bool| inner.iter().any(|&k| of(k));
         let mut items = Vec::new();
         if any(&|k| self.plan.max[k]) {
-            items.push(Item::new("<path class=\"b\" d=\"M2 -12h17v15h-17z\"/>", 22.0, "Max moves"));
+            items.push(Item::new("<path class=\"b\" d=\"M2 -12h17v15h-17z\"/>", 22.0, "Max moves, for the most"));
         }
         if any(&|k| !self.plan.max[k]) {
             let sign = "<rect class=\"b\" x=\"1\" y=\"-12\" width=\"20\" height=\"15\" rx=\"7.5\"/>";
-            items.push(Item::new(sign, 22.0, "Min moves"));
+            items.push(Item::new(sign, 22.0, "Min moves, for the least"));
         }
         if any(&|k| self.tree.second_capture(k)) {
             items.push(Item::new("<path class=\"a\" d=\"M1 -13h20v17h-20z\"/>", 22.0, "the same side moves again"));

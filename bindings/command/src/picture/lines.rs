@@ -1,6 +1,5 @@
 //! The branches: right-angled, on a common trunk; what proves more lies above the rest.
 use super::layout::Layout;
-use super::place::Kind;
 use super::text::N;
 use super::Picture;
 use std::fmt::Write;
@@ -56,9 +55,8 @@ impl Picture<'_> {
         out.push_str(&rect(&format!("b f{}", self.flags[k]), 0.0));
     }
 
-    /// A dotted leader from a row to the table.
-    pub fn leader(&self, out: &mut String, kind: Kind, y: f64, from: f64, at: f64) {
-        let (from, to) = if kind == Kind::Leaf { (from, at + 8.0) } else { (from + 4.0, at - 2.0) };
+    /// A dotted leader between two places of a row.
+    pub fn leader(&self, out: &mut String, y: f64, from: f64, to: f64) {
         if to > from {
             write!(out, "<path class=\"i\" d=\"M{} {}H{}\"/>", N(from), N(y), N(to)).ok();
         }

@@ -1,7 +1,7 @@
 //! The rows of the table and the boxes of the tree.
 use super::layout::{Layout, NOTE, ORDER, WORTH};
 use super::place::{Kind, Row};
-use super::text::{escape, N};
+use super::text::{escape, wide, N};
 use super::Picture;
 use crate::bounds::{known, number};
 use std::fmt::Write;
@@ -18,7 +18,8 @@ impl Picture<'_> {
         let end = left + layout.tail[&k];
         match row.kind {
             Kind::Leaf => {
-                self.leader(out, row.kind, y, end, layout.at);
+                let worth = wide(&number(self.plan.worth[k]), 12.5);
+                self.leader(out, y, end, layout.at + (WORTH - worth - 6.0).min(8.0));
                 self.leaf(out, k, left, y, layout.at);
             }
             Kind::Passed => self.passed(out, row, left, end, layout.at),
@@ -46,7 +47,7 @@ impl Picture<'_> {
         write!(out, "<path class=\"c\" d=\"M{} {}l3 -10m1 10l3 -10\"/>", N(left - 1.0), N(y + 5.0)).ok();
         text(out, "q", left + 11.0, y + 4.0, &self.label(row));
         if let Some(brief) = self.brief(row) {
-            self.leader(out, row.kind, y, end, at);
+            self.leader(out, y, end + 4.0, at - 2.0);
             text(out, "q", at + 4.0, y + 4.0, &brief);
         }
     }
