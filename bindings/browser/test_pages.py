@@ -129,8 +129,8 @@ def test_numbers(browser, folder):
 
 # what the page shows
 
-def check_frame(tree, orders, t, shown, marks):
-    """The trees and the strip of a step; no value stands before its evaluation."""
+def check_frame(tree, orders, t, shown, marks, whole=True):
+    """The trees and the strip of a step; no value stands before its evaluation. A large tree is not shown whole."""
     last = max(map(len, orders)) + 1
     for order, run in zip(orders, shown, strict=True):
         done = min(t, len(order))
@@ -139,8 +139,9 @@ def check_frame(tree, orders, t, shown, marks):
         assert run["count"] == done, (t, run["count"])
         cut = {k for k in tree.never(order) if tree.closed(k, low, high)}
         gone = {k for k in range(tree.n) if k in cut or any(above in cut for above, _ in tree.path(k))}
-        assert {k for k, *_ in run["nodes"]} == set(range(tree.n)) - gone, (t, run["title"])
-        assert {k for k, _ in run["cuts"]} <= cut and bool(run["cuts"]) == bool(cut)
+        nodes, rest = {k for k, *_ in run["nodes"]}, set(range(tree.n)) - gone
+        assert nodes == rest if whole else 0 in nodes <= rest, (t, run["title"])
+        assert {k for k, _ in run["cuts"]} <= cut and (bool(run["cuts"]) == bool(cut) or not whole)
         for k, value, hint, kind in run["nodes"]:
             if tree.leaf(k):
                 right = number(tree.worth[k]) if k in evaluated else ""
@@ -160,6 +161,11 @@ def check_frame(tree, orders, t, shown, marks):
     assert all(rank is None or rank == right for (_, rank), (_, right) in zip(found, ranks))
 
 
+def orders_of(path):
+    """The evaluated leaves of the three runs, as the command lists them."""
+    return [[int(line.split()[0]) for line in command("order", m, path).splitlines()] for m in ("ab", "mtd", "sss")]
+
+
 def at(browser):
     return browser.run("[t, +$('slider').value, $('at').textContent, last]")
 
@@ -169,7 +175,7 @@ def test_keys(browser, folder):
     frames = 0
     for path in SAMPLES:
         tree = tree_of(path)
-        orders = [[int(line.split()[0]) for line in command("order", m, path).splitlines()] for m in ("ab", "mtd", "sss")]
+        orders = orders_of(path)
         last = max(map(len, orders)) + 1
         address = page(folder, "keys.html", path)
         for name, (width, height) in SIZES.items():
@@ -194,15 +200,18 @@ def test_keys(browser, folder):
 
 def test_controls(browser, folder):
     """Buttons, slider, speed, playing, the address, and the choice of a tree."""
-    address = page(folder, "controls.html", SAMPLES[1])
+    address, tree, orders = page(folder, "controls.html", SAMPLES[1]), tree_of(SAMPLES[1]), orders_of(SAMPLES[1])
     for name, (width, height) in SIZES.items():
         browser.size(width, height)
         browser.open(address)
         for selector, place in (("#on", 1), ("#on", 2), ("#back", 1), ("#last", 16), ("#on", 16), ("#first", 0), ("#back", 0)):
             browser.click(selector)
             assert at(browser)[0] == place, (name, selector)
-        browser.run("$('slider').value = 7; $('slider').dispatchEvent(new Event('input', {bubbles: true}))")
-        assert at(browser)[0] == 7
+            check_frame(tree, orders, place, browser.run(READ), browser.run(MARKS))
+        for place in (7, 15, 3, 16, 0, 7):
+            browser.run(f"$('slider').value = {place}; $('slider').dispatchEvent(new Event('input', {{bubbles: true}}))")
+            assert at(browser)[0] == place
+            check_frame(tree, orders, place, browser.run(READ), browser.run(MARKS))
         browser.click("#slider")  # in its middle
         assert at(browser)[0] == 8
         browser.key("ArrowRight")  # the slider's own key
@@ -336,6 +345,10 @@ def test_large(browser, folder):
                 assert browser.run("document.documentElement.scrollHeight <= innerHeight + 2"), (path, "does not fit a wall")
             took = browser.run("(() => { const start = performance.now(); go(Math.trunc(last / 2)); return performance.now() - start; })()")
             assert took < 2000, (path, took)
+            tree, orders = tree_of(path), orders_of(path)
+            for t in {1, max(map(len, orders)) // 2, max(map(len, orders)) + 1}:
+                browser.run(f"go({t})")
+                check_frame(tree, orders, t, browser.run(READ), browser.run(MARKS), whole=False)
             if SHOTS:
                 shot(browser, f"{os.path.basename(path)[:-5]}-{name}")
         assert not browser.errors(), browser.errors()
