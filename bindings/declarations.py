@@ -3,11 +3,12 @@
 
     declarations.py [ARCHIVE]       compares; the last line says how many declarations there are, and how many differ
     declarations.py --try           tries wrong declarations: each must be found
+    declarations.py --set-version X.Y.Z   writes the version into every place that has it
 
-It reads each `#[no_mangle] pub extern "C" fn` of crates/buulset and each `#[repr(C)]` struct of crates/buulset_answers, and
-compares, in order, the kinds and names of the parameters, the result, and the members of the structs; the constants
-that stand in both; the version; the texts of the refusals, in C with those in Rust; and, where an archive is given, its
-symbols."""
+It reads each `#[no_mangle] pub extern "C" fn` of crates/buulset and each `#[repr(C)]` struct of crates/buulset_answers,
+and compares, in order, the kinds and names of the parameters, the result, and the members of the structs; the
+constants that stand in both; the texts of the refusals, in C, Rust and Python; the version, in every place of VERSIONS;
+and, where an archive is given, its symbols."""
 import ctypes
 import importlib.util
 import pathlib
@@ -18,9 +19,20 @@ import sys
 HERE = pathlib.Path(__file__).resolve().parent
 SOURCES = [HERE / "../crates" / crate / "src/lib.rt" for crate in ("buulset", "buulset_answers")]
 HEADER, FFI, LIB, MODULE = (HERE / path for path in (
-    "c/buulset.h", "rust/src/ffi.rs", "rust/src/lib.rs", "python/buulset.py"))
+    "c/buulset.h", "rust/src/ffi.rs", "rust/src/lib.rs", "python/buulset/calls.py"))
+LIMITS, MEANINGS = HERE / "python/buulset/tree.py", HERE / "python/buulset/refusal.py"
 KINDS = {"size_t": "usize", "uint8_t": "u8", "uint16_t": "u16", "uint32_t": "u32", "int16_t": "i16", "int32_t": "i32",
          "children_of": "children"}
+# where the version stands, and after what; the library's own is the first, and the others follow it
+VERSIONS = (
+    ("crates/buulset/src/lib.rt", r"const VERSION: u32 = (\d+);"),
+    ("crates/buulset/specs/Version.antt", r"^version = (\d+)$"),
+    ("crates/buulset/specs/Version.antt", r"^-- the version of the library: ([\d.]+)$"),
+    ("bindings/c/buulset.h", r"^#define BUULSET_VERSION (\d+)$"),
+    ("bindings/rust/src/lib.rs", r"^pub const VERSION: u32 = (\d+);$"),
+    ("bindings/Cargo.toml", r'^version = "([\d.]+)"$'),
+    ("bindings/python/buulset/library.py", r'^__version__ = "([\d.]+)"$'),
+)
 SIZES = {"FRAME_SIZE": "6", "TEXT_SIZE": "256", "BUULSET_FRAME_SIZE": "6", "BUULSET_TEXT_SIZE": "256"}
 
 
@@ -111,6 +123,53 @@ def constants(pattern, text):
     return {n: int(v.replace("_", "")) for n, v in re.findall(pattern, text)}
 
 
+def version_files():
+    return {path: (HERE.parent / path).read_text() for path, _ in VERSIONS}
+
+
+def numbered(version):
+    """10203 for 1.2.3, and as it is for a number."""
+    major, minor, patch = (int(part) for part in version.split(".")) if "." in version else (0, 0, int(version))
+    return 10000 * major + 100 * minor + patch
+
+
+def dotted(number):
+    return "%d.%d.%d" % (number // 10000, number // 100 % 100, number % 100)
+
+
+def with_version(text, pattern, number):
+    """The text with another version in one place, as a number or with points, as it stands there."""
+    at = re.search(pattern, text, re.M)
+    return text[:at.start(1)] + (dotted(number) if "." in at[1] else str(number)) + text[at.end(1):]
+
+
+def version_differences(files):
+    """The number of comparisons, and a line for each place whose version is not the library's."""
+    found = [re.search(pattern, files[path], re.M) for path, pattern in VERSIONS]
+    wanted = numbered(found[0][1])
+    lines = ["%s: its version is %s and should be %s" % (path, at and at[1], dotted(wanted))
+             for (path, _), at in zip(VERSIONS, found) if at is None or numbered(at[1]) != wanted]
+    changes = (HERE / "../CHANGELOG.md").read_text()
+    if not re.search("^## %s$" % re.escape(dotted(wanted)), changes, re.M):
+        lines.append("CHANGELOG.md: it has no section %s" % dotted(wanted))
+    return len(VERSIONS) + 1, lines
+
+
+def set_version(version):
+    """Writes the version into every place."""
+    for path, pattern in VERSIONS:
+        file = HERE.parent / path
+        file.write_text(with_version(file.read_text(), pattern, numbered(version)))
+        print("%s: %s" % (path, version))
+
+
+def meanings():
+    """What a refusal means, in Rust and in Python."""
+    rust_text = re.search(r"fn meaning.*?\n    }\n", LIB.read_text(), re.S)[0]
+    return (re.findall(r'(\d+) => "(.*?)"', rust_text),
+            re.findall(r'^    (\d+): "(.*?)",$', MEANINGS.read_text(), re.M))
+
+
 def differences(source, header, ffi, lib, module, archive=None):
     """The number of comparisons, and a line for each that fails."""
     compared, lines = 0, []
@@ -131,16 +190,17 @@ def differences(source, header, ffi, lib, module, archive=None):
     sources = "".join(p.read_text() for p in sorted((HERE / "../crates").glob("*/src/*.rt")) if p not in SOURCES)
     named = constants(r"const (\w+): \w+ = ([\d_]+);", sources) | constants(r"const (\w+): \w+ = ([\d_]+);", source)
     for where, of in (("C", constants(r"#define BUULSET_(\w+) (\d+)\b", header)),
-                      ("Rust", constants(r"pub const (\w+): \w+ = ([\d_]+);", lib))):
+                      ("Rust", constants(r"pub const (\w+): \w+ = ([\d_]+);", lib)),
+                      ("Python", constants(r"(?m)^([A-Z_]+) = (\d+)$", LIMITS.read_text()))):
         for name in sorted(set(of) & set(named)):
             compare(where, name, of[name], named[name])
-        compare(where, "that it has the version", "VERSION" in of, True)
     texts = dict(re.findall(r'case (\d+): return ("[^"]*");', header))
     in_rust = dict(re.findall(r'^ +(\d+) => ("[^"]*"),$', lib, re.M))
     questions = header[:header.index("Flags of a certificate")]
     for number in re.findall(r"BUULSET_\w+ = (\d+),? +/\*", questions):
         compare("C", "the text of refusal " + number, texts.get(number), in_rust.get(number, "there"))
     compare("C", "which refusals have a text", sorted(set(texts) - {"0"}), sorted(in_rust))
+    compare("Python", "what refusals mean", *reversed(meanings()))
     if archive:
         symbols = subprocess.run(["nm", archive], capture_output=True, text=True, check=True).stdout
         compare(archive, "its functions", sorted(re.findall(r" T (\w+)", symbols)), sorted(want[0]))
@@ -157,7 +217,6 @@ WRONG = (
     (1, "uint32_t buulset_version(void);", ""),
     (1, "uint16_t *BUULSET_RESTRICT order", "uint8_t *BUULSET_RESTRICT order"),
     (1, "#define BUULSET_MAX_DEPTH 18", "#define BUULSET_MAX_DEPTH 24"),
-    (1, "#define BUULSET_VERSION 10100", "#define BUULSET_VERSION 10101"),
     (1, 'case 11: return "a wrong flag";', 'case 11: return "a wrong value";'),
     (1, '    case 23: return "the depth is more than 18";\n', ""),
     (2, "fn fill(table: &mut [u8])", "fn fill(table: &[u8])"),
@@ -172,6 +231,18 @@ WRONG = (
 )
 
 
+def missed_versions():
+    """How many places there are where another version is not found."""
+    missed = 0
+    for path, pattern in VERSIONS:
+        files = version_files()
+        files[path] = with_version(files[path], pattern, 99999)
+        if not version_differences(files)[1]:
+            missed += 1
+            print("not found: another version in %s" % path)
+    return missed
+
+
 def main():
     texts = ["".join(p.read_text() for p in SOURCES)] + [p.read_text() for p in (HEADER, FFI, LIB, MODULE)]
     if sys.argv[1:] == ["--try"]:
@@ -182,9 +253,14 @@ def main():
             if not differences(*wrong)[1]:
                 missed += 1
                 print("not found: %s for %s" % (new, old))
-        print("%d wrong declarations, %d not found" % (len(WRONG), missed))
+        missed += missed_versions()
+        print("%d wrong declarations, %d not found" % (len(WRONG) + len(VERSIONS), missed))
         sys.exit(missed != 0)
+    if sys.argv[1:2] == ["--set-version"]:
+        return set_version(sys.argv[2])
     compared, lines, calls, structs = differences(*texts, *sys.argv[1:])
+    more, wrong_versions = version_differences(version_files())
+    compared, lines = compared + more, lines + wrong_versions
     print(*lines, sep="\n", end="\n" if lines else "")
     print("%d functions, %d structs: %d declarations compared, %d differ" % (calls, structs, compared, len(lines)))
     sys.exit(bool(lines))
