@@ -9,7 +9,7 @@ pub const AS_IT_IS: &str = "  ";
 
 pub const STATUSES: [(&str, &str); 4] = [
     ("0", "a result"),
-    ("1", "refused"),
+    ("1", "refused, or a self-test that failed"),
     ("2", "wrong use or a file that cannot be read"),
     ("3", "output that cannot be written"),
 ];
@@ -24,18 +24,21 @@ pub fn all() -> String {
         "usage: buulset COMMAND ARGUMENT..\n\n{list}\n\
          METHOD is ab, mtd, mtdf:N (MTD(f) from the value N), sss or plain. FILE is a tree file; - is standard input.\n\
          `buulset COMMAND --help` has options and examples; {}, {}: {}.\n\
-         Exit status: {}.\n",
+         {}\n",
         QUIET.short.unwrap_or_default(),
         QUIET.name,
         QUIET.says.split(';').next().unwrap_or_default(),
-        statuses.join(", ")
+        wrapped(0, &format!("Exit status: {}.", statuses.join(", ")))
     )
 }
 
+/// The versions, and of what sources and with which kit it was built (build.rs).
+/// The versions, and of what sources and with which kit it was built (build.rs).
 pub fn version() -> String {
     let library = buulset::version();
     let parts = (library / 10000, library / 100 % 100, library % 100);
-    format!("buulset {} (library {}.{}.{})\n", env!("CARGO_PKG_VERSION"), parts.0, parts.1, parts.2)
+    let versions = format!("{} (library {}.{}.{})", env!("CARGO_PKG_VERSION"), parts.0, parts.1, parts.2);
+    format!("buulset {versions}\ncommit {}\nkit {}\n", env!("BUULSET_COMMIT"), env!("BUULSET_KIT"))
 }
 
 /// The usage of a command, in as many lines as it takes.

@@ -15,7 +15,10 @@ fn page() -> String {
     page += ".SH OPTIONS\n";
     page += &item(&option_name(&QUIET), QUIET.says);
     page += &item("\\fB\\-h\\fR, \\fB\\-\\-help\\fR", "The help of a command, with examples.");
-    page += &item("\\fB\\-V\\fR, \\fB\\-\\-version\\fR", "The versions of the command and of the library.");
+    page += &item(
+        "\\fB\\-V\\fR, \\fB\\-\\-version\\fR",
+        "The versions of the command and of the library, the commit and the kit.",
+    );
     page += ".SH EXIT STATUS\n";
     page.extend(help::STATUSES.iter().map(|(number, meaning)| item(&format!("\\fB{number}\\fR"), meaning)));
     page += NOTES;

@@ -342,20 +342,19 @@ fn help_and_version_are_everywhere() {
     for name in commands {
         let help = prints(&[name, "--help"]);
         assert!(help.starts_with(&format!("usage: buulset {name} ")), "{help}");
-        assert!(
-            help.contains(&format!("\n  buulset {name} ")) || help.contains(&format!("| buulset {name} ")),
-            "{name}"
-        );
+        let call = format!("buulset {name}");
+        let is_called = |line: &str| line.split(" | ").any(|part| part.trim_start().starts_with(&call));
+        assert!(help.lines().filter(|line| line.starts_with("  ")).any(is_called), "{name}");
         assert_eq!(help, prints(&["help", name]));
         assert_eq!(help, prints(&[name, "-h", "and more"]));
         assert!(all.contains(&format!("\n  {name} ")));
         assert!(page.contains(&format!("\\fB{name}\\fR")), "{name} is not in the manual page");
-        assert!(prints(&[name, "--version"]).starts_with("buulset 1."));
+        assert!(prints(&[name, "--version"]).starts_with("buulset "));
         is_wrong_use(&[name, "--no-such-option"], "there is no option --no-such-option");
     }
     assert_eq!(all, prints(&["help"]));
     assert_eq!(all, prints(&["-h"]));
-    assert!(prints(&["-V"]).starts_with("buulset 1."));
+    assert!(prints(&["-V"]).starts_with("buulset "));
     is_wrong_use(&[], "usage: buulset COMMAND");
     is_wrong_use(&["analyze"], "there is no command analyze");
     assert!(all.lines().all(|line| line.len() <= 120));
