@@ -1,15 +1,20 @@
 """Tests of the module: the samples, every call, refusals, how the library is found, and the documents' examples.
 
     test_buulset.py LIBRARY     LIBRARY is the shared library to load"""
+import base64
 import doctest
+import hashlib
 import inspect
 import os
 import pickle
 import subprocess
 import sys
+import tempfile
 import threading
 import typing
 import unittest
+import unittest.mock
+import zipfile
 from pathlib import Path
 
 HERE = Path(__file__).resolve().parent
@@ -22,6 +27,7 @@ if __name__ == "__main__":
     os.chdir(ROOT)
 
 import buulset
+import wheel_builder
 from buulset import Refused, Search, Stopped, Tree
 from buulset.calls import CALLS
 
@@ -228,7 +234,8 @@ class Library(unittest.TestCase):
         self.assertNotIn("libbuulset", said)
 
     def test_a_file_that_is_no_library(self):
-        self.assertIn("looked for %s (" % __file__, self.said(BUULSET_LIBRARY=os.path.abspath(__file__)))
+        other = str(HERE / "pyproject.toml")
+        self.assertIn("looked for %s (" % other, self.said(BUULSET_LIBRARY=other))
 
     def test_import_needs_no_library(self):
         self.assertEqual(self.said("import buulset; print(buulset.__version__)", BUULSET_LIBRARY="/nowhere"),
@@ -237,6 +244,37 @@ class Library(unittest.TestCase):
     def test_another_major_version(self):
         program = "from buulset import library; library._MAJOR = 99; import buulset; buulset.version()"
         self.assertIn("and this module is of version", self.said(program, BUULSET_LIBRARY=LIBRARY))
+
+
+class Wheel(unittest.TestCase):
+    """What pip is given."""
+
+    def built(self, folder, **environment):
+        with unittest.mock.patch.dict(os.environ, environment):
+            return Path(folder) / wheel_builder.build_wheel(folder)
+
+    def test_one_source_gives_one_wheel(self):
+        with tempfile.TemporaryDirectory() as one, tempfile.TemporaryDirectory() as other:
+            first, second = self.built(one), self.built(other)
+            self.assertEqual((first.name, first.read_bytes()), (second.name, second.read_bytes()))
+
+    def test_its_record_is_right(self):
+        with tempfile.TemporaryDirectory() as folder, zipfile.ZipFile(self.built(folder)) as wheel:
+            record = wheel.read("buulset-%s.dist-info/RECORD" % buulset.__version__).decode().splitlines()
+            self.assertEqual([line.split(",")[0] for line in record], wheel.namelist())
+            self.assertIn("buulset/py.typed", wheel.namelist())
+            for line in record[:-1]:
+                name, digest, size = line.split(",")
+                content = wheel.read(name)
+                found = base64.urlsafe_b64encode(hashlib.sha256(content).digest()).rstrip(b"=").decode()
+                self.assertEqual((digest, int(size)), ("sha256=" + found, len(content)), name)
+
+    def test_without_the_archive_it_is_python_alone(self):
+        with tempfile.TemporaryDirectory() as folder:
+            wheel = self.built(folder, BUULSET_LIB_DIR=folder)
+            self.assertTrue(wheel.name.endswith("-py3-none-any.whl"), wheel.name)
+            with zipfile.ZipFile(wheel) as content:
+                self.assertFalse([name for name in content.namelist() if ".so" in name])
 
 
 def load_tests(loader, tests, pattern):
