@@ -51,8 +51,8 @@ standard error says what is usually meant. Of several files the status is 1 if a
 A pipe that nobody reads any more ends the command quietly, with 0.
 .SH NOTES
 A file is never to be redirected onto itself, as in \\fBset e.tree 4 5 > e.tree\\fR: the shell empties it before the
-command begins. \\fB\\-\\-in\\-place\\fR and \\fB\\-o\\fR write a file only when the result is there, whole or not at all; an
-interrupted run leaves the old file or the new one, and no other.
+command begins. \\fB\\-\\-in\\-place\\fR and \\fB\\-o\\fR write a file only when the result is there, whole or not
+at all; an interrupted run leaves the old file or the new one, and no other.
 ";
 
 /// A command: its words and options, what it does, and each option.

@@ -115,6 +115,6 @@ pub fn hint(name: &OsStr, file: &[u8], line: usize) -> Option<String> {
         format!("`buulset repair {}{}`", files::for_a_shell(name), if name == "-" { "" } else { " --in-place" });
     Some(match Tree::from_file(&made) {
         Ok(_) => format!("{}: {command} mends it", listed(&found)),
-        Err(still) => format!("{}: {command} would mend this, and the file still be {still}", listed(&found)),
+        Err(still) => format!("{}: {command} would mend this, but the file would then be {still}", listed(&found)),
     })
 }

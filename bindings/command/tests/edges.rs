@@ -181,7 +181,7 @@ fn hints_do_not_mislead() {
     says(&noise, &["at most 4096 nodes", "is it a tree file?"], &["Windows"]);
     let both = format!("\u{FEFF}{}", SEVEN.replace('\n', "\r\n"));
     says(both.as_bytes(), &["a byte order mark, Windows line ends: `buulset repair -` mends it"], &[]);
-    says(b"000000000001\r\n000000000001\r\n", &["Windows line ends", "and the file still be refused 8 2"], &[]);
+    says(b"000000000001\r\n000000000001\r\n", &["Windows line ends", "but the file would then be refused 8 2"], &[]);
     let named = folder.file("a file", SEVEN.replace('\n', "\r\n"));
     assert!(run(&["analyse", &named]).err.contains(&format!("`buulset repair '{named}' --in-place` mends it")));
     let other = run(&["verify", "samples/seven.tree", "samples/ending.certificate"]);

@@ -42,16 +42,7 @@ fn damaged(file: &str, random: &mut Random) -> Vec<u8> {
     let mut text = if random.is_chosen() { file.to_lowercase() } else { file.to_string() };
     if random.is_chosen() {
         let blanks = ["", " ", "\t", "  "];
-        text = text
-            .chars()
-            .flat_map(|c| {
-                [blanks[random.below(4)], if c == '\n' { "\n" } else { "" }]
-                    .concat()
-                    .chars()
-                    .chain((c != '\n').then_some(c))
-                    .collect::<Vec<_>>()
-            })
-            .collect();
+        text = text.chars().map(|c| format!("{}{c}", blanks[random.below(4)])).collect();
     }
     if random.is_chosen() {
         text = text.trim_end_matches('\n').to_string();
