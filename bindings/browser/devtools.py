@@ -20,8 +20,9 @@ class Socket:
         host, port, path = re.fullmatch(r"ws://([^:/]+):(\d+)(/.*)", address).groups()
         self.socket = socket.create_connection((host, int(port)), timeout=60)
         key = base64.b64encode(os.urandom(16)).decode()
-        self.socket.sendall((f"GET {path} HTTP/1.1\r\nHost: {host}:{port}\r\nUpgrade: websocket\r\n"
-                             f"Connection: Upgrade\r\nSec-WebSocket-Key: {key}\r\nSec-WebSocket-Version: 13\r\n\r\n").encode())
+        head = [f"GET {path} HTTP/1.1", f"Host: {host}:{port}", "Upgrade: websocket", "Connection: Upgrade",
+                f"Sec-WebSocket-Key: {key}", "Sec-WebSocket-Version: 13", "", ""]
+        self.socket.sendall("\r\n".join(head).encode())
         self.bytes = b""
         while b"\r\n\r\n" not in self.bytes:
             self.bytes += self.socket.recv(65536)
@@ -31,8 +32,12 @@ class Socket:
     def send(self, text):
         payload, mask = text.encode(), os.urandom(4)
         length = len(payload)
-        head = struct.pack("!BB", 0x81, 0x80 | length) if length < 126 else \
-            struct.pack("!BBH", 0x81, 0x80 | 126, length) if length < 65536 else struct.pack("!BBQ", 0x81, 0x80 | 127, length)
+        if length < 126:
+            head = struct.pack("!BB", 0x81, 0x80 | length)
+        elif length < 65536:
+            head = struct.pack("!BBH", 0x81, 0x80 | 126, length)
+        else:
+            head = struct.pack("!BBQ", 0x81, 0x80 | 127, length)
         masked = bytes(b ^ mask[i % 4] for i, b in enumerate(payload))
         self.socket.sendall(head + mask + masked)
 
@@ -68,7 +73,8 @@ class Browser:
         self.folder = tempfile.mkdtemp(prefix="buulset-browser-")
         self.process = subprocess.Popen(
             [program, "--headless", "--no-sandbox", "--disable-gpu", "--hide-scrollbars", "--remote-debugging-port=0",
-             f"--user-data-dir={self.folder}", "about:blank"], stderr=subprocess.PIPE, stdout=subprocess.DEVNULL, text=True)
+             f"--user-data-dir={self.folder}", "about:blank"],
+            stderr=subprocess.PIPE, stdout=subprocess.DEVNULL, text=True)
         port = None
         for line in self.process.stderr:
             found = re.search(r"listening on ws://[^:]+:(\d+)/", line)

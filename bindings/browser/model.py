@@ -1,4 +1,4 @@
-"""Trees with a minimax of their own, and what a page must show of them at each step. It shares nothing with the command."""
+"""Trees with a minimax of their own, and what a page must show of them; it shares nothing with the command."""
 import random
 
 NONE = 32001

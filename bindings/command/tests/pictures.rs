@@ -112,7 +112,7 @@ fn check(tree: &str, method: &str, more: &[&str]) {
     assert!((1..model.nodes()).all(|k| shown[k] || model.path(k).iter().any(|&(above, _)| shown[above])));
 }
 
-/// The reason of a row, in few words and in plain ones: the nodes are beside the path, the numbers leave nothing between.
+/// The reason of a row, in few words and in plain ones: two choices beside the path that leave nothing between them.
 fn has_reason(model: &Model, first: usize, brief: &str, said: &str) {
     let numbers = |text: &str| -> Vec<i32> {
         let words = text.split([' ', ';', ',', '.', ':']).filter(|word| !word.is_empty());

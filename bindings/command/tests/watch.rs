@@ -77,8 +77,8 @@ fn methods_trees_and_names_are_chosen() {
     assert_eq!(runs(&["watch", "samples/seven.tree", "samples/refused-7.tree"]).1, "refused 7 0\n");
 }
 
-/// What the script computes, in lines: of each step its leaf, the bounds that it changed, and the places that it cut off
-/// with their reasons.
+/// What the script computes, in lines: of each step its leaf, the bounds that it changed, and the places that it cut
+/// off with their reasons.
 const PRINT: &str = r#"
 for (const data of JSON.parse(require("fs").readFileSync(0, "utf8"))) {
   const tree = makeTree(data);
@@ -165,7 +165,7 @@ fn the_script_computes_what_the_command_does() {
     assert_eq!(said.next(), None);
 }
 
-/// The evaluated leaves of a method, all from left to right for the plain engine; the passes of MTD, the tests of MTD(f).
+/// The leaves of a method, all from left to right for the plain engine; the passes of MTD, or the tests of MTD(f).
 fn searched(tree: &Tree, method: &str) -> (Vec<usize>, Option<usize>) {
     fn leaves(tree: &Tree, k: usize) -> Vec<usize> {
         match tree.stored(k) {

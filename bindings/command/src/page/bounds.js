@@ -3,10 +3,11 @@
 // bounds.rs. A low of -32,001 and a high of 32,001 say nothing.
 const NONE = 32001;
 
-// A tree from its data: a node's children are first .. first + count - 1, and its leaves have the columns from .. to - 1.
+// A tree from its data: a node has the children first .. first + count - 1, its leaves the columns from .. to - 1.
 function makeTree(data) {
   const n = data.count.length, again = new Set(data.again);
-  const tree = {n, again, count: data.count, worth: data.worth, names: data.names, first: [], parent: [-1], depth: [0], max: [true]};
+  const tree = {n, again, count: data.count, worth: data.worth, names: data.names};
+  Object.assign(tree, {first: [], parent: [-1], depth: [0], max: [true]});
   for (let k = 0, next = 1; k < n; next += tree.count[k], k++) {
     tree.first.push(next);
     for (let c = next; c < next + tree.count[k]; c++) {
@@ -19,7 +20,7 @@ function makeTree(data) {
   tree.leaf = k => tree.count[k] === 0;
   tree.deepest = Math.max(...tree.depth);
   tree.lowest = tree.depth.slice(); // the depth of the deepest node below
-  for (let k = n - 1; k > 0; k--) tree.lowest[tree.parent[k]] = Math.max(tree.lowest[tree.parent[k]], tree.lowest[k]);
+  for (let k = n - 1, {lowest, parent} = tree; k > 0; k--) lowest[parent[k]] = Math.max(lowest[parent[k]], lowest[k]);
   addColumns(tree);
   return tree;
 }
@@ -74,7 +75,8 @@ class Bounds {
     for (let child = node; parent[child] >= 0; child = parent[child]) {
       const offer = this.beside(parent[child], child);
       if (!offer) continue;
-      const met = offers.find(o => max[o.at] !== max[offer.at] && (max[o.at] ? o.value >= offer.value : offer.value >= o.value));
+      const closes = o => max[o.at] ? o.value >= offer.value : offer.value >= o.value;
+      const met = offers.find(o => max[o.at] !== max[offer.at] && closes(o));
       if (met) return {at: met.at, by: met.by, known: met.value, above: offer.at, other: offer.by, has: offer.value};
       offers.push(offer);
     }
@@ -99,8 +101,12 @@ function brief(tree, r, node) {
 
 // A reason in plain words, for so many leaves.
 function sentences(tree, r, leaves) {
-  const known = number(r.known), has = number(r.has), these = leaves === 1 ? "this leaf holds" : `these ${leaves} leaves hold`;
+  const known = number(r.known), has = number(r.has);
+  const these = leaves === 1 ? "this leaf holds" : `these ${leaves} leaves hold`;
+  const end = `gains nothing by coming here, whatever ${these}.`;
   return tree.max[r.at]
-    ? `At node ${r.at} Max can reach ${known} or more, by node ${r.by}. Higher up Min already has ${has} or less, at node ${r.other}. So Min gains nothing by coming here, whatever ${these}.`
-    : `At node ${r.at} Min can hold Max to ${known} or less, by node ${r.by}. Higher up Max already has ${has} or more, at node ${r.other}. So Max gains nothing by coming here, whatever ${these}.`;
+    ? `At node ${r.at} Max can reach ${known} or more, by node ${r.by}. `
+      + `Higher up Min already has ${has} or less, at node ${r.other}. So Min ${end}`
+    : `At node ${r.at} Min can hold Max to ${known} or less, by node ${r.by}. `
+      + `Higher up Max already has ${has} or more, at node ${r.other}. So Max ${end}`;
 }

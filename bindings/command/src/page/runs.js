@@ -25,18 +25,19 @@ function cutOff(tree, bounds, open, leaf, changed) {
   const highest = [leaf, ...changed].filter(k => k > 0).pop(), near = tree.parent[highest], cuts = [];
   if (near === undefined) return [cuts, open];
   const stays = open.filter(k => {
-    const reason = tree.from[near] <= tree.from[k] && tree.from[k] < tree.to[near] ? bounds.reason(k) : null;
+    const below = tree.from[near] <= tree.from[k] && tree.from[k] < tree.to[near], reason = below && bounds.reason(k);
     if (!reason) return true;
     const text = brief(tree, reason, k), last = cuts[cuts.length - 1];
-    if (last && last.last + 1 === k && tree.parent[k] === tree.parent[last.first] && last.text.join() === text.join()) last.last = k;
+    const joins = last && last.last + 1 === k && tree.parent[k] === tree.parent[last.first];
+    if (joins && last.text.join() === text.join()) last.last = k;
     else cuts.push({first: k, last: k, reason, text});
     return false;
   });
   return [cuts, stays];
 }
 
-// What a method asks at each leaf. All of it comes out of the bounds: alpha and beta are those of elder siblings, SSS*'s
-// merit and MTD's test the root's high; MTD(f) puts its own tests to the root, the first of them the guess.
+// What a method asks at each leaf. All of it comes out of the bounds: alpha and beta are those of elder siblings,
+// SSS*'s merit and MTD's test the root's high; MTD(f) puts its own tests to the root, the first of them the guess.
 class Asks {
   constructor(tree, method) {
     this.tree = tree;
@@ -67,8 +68,9 @@ class Asks {
 // Everything that is known of a run after step t.
 function frameOf(tree, run, t) {
   const done = Math.min(t, run.order.length), now = t > 0 && t <= run.order.length ? run.order[t - 1] : -1;
-  const frame = {t, now, done, finished: done === run.order.length, bounds: new Bounds(tree), cuts: [], hidden: new Set(),
-    entered: new Set(), path: new Set(), changed: new Set(now < 0 ? [] : run.steps[t].changed.map(([k]) => k))};
+  const frame = {t, now, done, finished: done === run.order.length, bounds: new Bounds(tree), cuts: []};
+  const changed = now < 0 ? [] : run.steps[t].changed.map(([k]) => k);
+  Object.assign(frame, {hidden: new Set(), entered: new Set(), path: new Set(), changed: new Set(changed)});
   const {low, high} = frame.bounds;
   for (let i = 1; i <= done; i++) {
     const {leaf, changed, cuts} = run.steps[i];
@@ -82,37 +84,50 @@ function frameOf(tree, run, t) {
   return frame;
 }
 
-// What the runs on a tree have in common, computed from their leaves. Proved for every tree is that SSS*, MTD and MTD(f)
-// evaluate no leaf that alpha-beta passes over, that MTD and SSS* evaluate the same leaves in the same order, and that
-// each leaf passed over has a reason.
+const count = (k, what = "leaf", many = "leaves") => `${k} ${k === 1 ? what : many}`;
+const isGuess = run => run.method.startsWith("mtdf:");
+
+// What the runs on a tree have in common, computed from their leaves. Proved for every tree is that SSS*, MTD and
+// MTD(f) evaluate no leaf that alpha-beta passes over, that MTD and SSS* evaluate the same leaves in the same order,
+// and that each leaf passed over has a reason.
 function compare(tree, runs) {
-  const leaves = tree.columns.length, by = name => runs.find(r => r.method === name), guess = runs.find(r => r.method.startsWith("mtdf:"));
-  const ab = by("ab"), mtd = by("mtd"), sss = by("sss"), plain = by("plain"), less = sss || mtd || guess;
-  const said = [];
-  let tinted = [];
-  if (leaves === 1) return {said: ["There is one leaf, and each run evaluated it."], tinted};
-  if (ab && less) {
-    const foreign = less.order.filter(l => !ab.rank.has(l));
-    tinted = ab.order.filter(l => !less.rank.has(l));
-    said.push(foreign.length ? `${less.title} evaluated ${count(foreign.length)} that alpha-beta passed over.`
-      : `${less.title} evaluated no leaf that alpha-beta passed over: ${less.order.length === 1 ? "its one leaf is" : `each of its ${less.order.length} is`} one of alpha-beta\u2019s ${ab.order.length}.`);
-    said.push(tinted.length ? `Alpha-beta alone: ${tinted.length <= 12 ? tinted.join(", ") : count(tinted.length)} (tinted).` : "Here alpha-beta evaluated no other.");
-  }
-  if (mtd && sss) said.push(mtd.order.join() === sss.order.join() ? "MTD evaluated the same leaves as SSS*, in the same order." : "MTD went another way than SSS*.");
-  for (const run of runs.filter(r => r.method.startsWith("mtdf:") && r !== (ab && less))) said.push(guessed(run, mtd || sss || ab));
-  if (plain) said.push(`Plain minimax evaluated all ${leaves}.`);
+  const leaves = tree.columns.length, by = name => runs.find(r => r.method === name);
+  const ab = by("ab"), mtd = by("mtd"), sss = by("sss"), less = sss || mtd || runs.find(isGuess), said = [];
+  if (leaves === 1) return {said: ["There is one leaf, and each run evaluated it."], tinted: []};
+  const tinted = ab && less ? ab.order.filter(l => !less.rank.has(l)) : [];
+  if (ab && less) said.push(inside(less, ab), alone(tinted));
+  if (mtd && sss) said.push(sameOrder(mtd, sss));
+  for (const run of runs) if (isGuess(run) && !(ab && run === less)) said.push(guessed(run, mtd || sss || ab));
+  if (by("plain")) said.push(`Plain minimax evaluated all ${leaves}.`);
   if (!said.length) said.push(runs.map(r => `${r.title} evaluated ${r.order.length} of ${count(leaves)}.`).join(" "));
-  const passed = runs.some(r => r.order.length < leaves);
-  if (ab && less || mtd && sss) said.push(`Proved for every tree${passed ? ", as is that each leaf passed over has a reason" : ""}.`);
-  else if (passed) said.push("Each leaf passed over has a reason: proved for every tree.");
+  const passed = runs.some(r => r.order.length < leaves), reason = "each leaf passed over has a reason";
+  if (ab && less || mtd && sss) said.push(`Proved for every tree${passed ? `, as is that ${reason}` : ""}.`);
+  else if (passed) said.push(`That ${reason} is proved for every tree.`);
   return {said, tinted};
+}
+
+// The sentence: no leaf that alpha-beta passed over.
+function inside(less, ab) {
+  const foreign = less.order.filter(l => !ab.rank.has(l)).length, n = less.order.length;
+  if (foreign) return `${less.title} evaluated ${count(foreign)} that alpha-beta passed over.`;
+  return `${less.title} evaluated no leaf that alpha-beta passed over: `
+    + `${n === 1 ? "its one leaf is" : `each of its ${n} is`} one of alpha-beta\u2019s ${ab.order.length}.`;
+}
+
+function alone(leaves) {
+  if (!leaves.length) return "Here alpha-beta evaluated no other.";
+  return `Alpha-beta alone: ${leaves.length <= 12 ? leaves.join(", ") : count(leaves.length)} (tinted).`;
+}
+
+function sameOrder(mtd, sss) {
+  const same = mtd.order.join() === sss.order.join();
+  return same ? "MTD evaluated the same leaves as SSS*, in the same order." : "MTD went another way than SSS*.";
 }
 
 // What a guess saves.
 function guessed(run, other) {
-  if (!other) return `${run.title} evaluated ${count(run.order.length)}.`;
-  const saved = other.order.length - run.order.length;
-  return `${run.title} evaluated ${count(run.order.length)}: ${saved > 0 ? `${saved} fewer than` : saved < 0 ? `${-saved} more than` : "as many as"} ${other.title === "Alpha-beta" ? "alpha-beta" : other.title}.`;
+  const said = `${run.title} evaluated ${count(run.order.length)}`;
+  if (!other) return `${said}.`;
+  const saved = other.order.length - run.order.length, title = other.method === "ab" ? "alpha-beta" : other.title;
+  return `${said}: ${saved > 0 ? `${saved} fewer than` : saved < 0 ? `${-saved} more than` : "as many as"} ${title}.`;
 }
-
-const count = (k, what = "leaf", many = "leaves") => `${k} ${k === 1 ? what : many}`;

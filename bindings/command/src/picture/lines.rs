@@ -44,9 +44,9 @@ impl Picture<'_> {
         let round = |by: f64| if self.plan.max[k] { 0.0 } else { HEIGHT / 2.0 + by };
         let rect = |class: &str, by: f64| {
             let (left, top) = (N(x - by), N(y - HEIGHT / 2.0 - by));
-            let (width, height, round) = (N(width + 2.0 * by), N(HEIGHT + 2.0 * by), N(round(by)));
+            let (wide, high, round) = (N(width + 2.0 * by), N(HEIGHT + 2.0 * by), N(round(by)));
             format!(
-                "<rect class=\"{class}\" x=\"{left}\" y=\"{top}\" width=\"{width}\" height=\"{height}\" rx=\"{round}\"/>"
+                "<rect class=\"{class}\" x=\"{left}\" y=\"{top}\" width=\"{wide}\" height=\"{high}\" rx=\"{round}\"/>"
             )
         };
         if self.tree.second_capture(k) {
