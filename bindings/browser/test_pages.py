@@ -200,6 +200,8 @@ def test_keys(browser, folder):
                 end = browser.run("$('end').textContent")
                 assert ("SSS* evaluated no leaf that alpha-beta passed over" in end) == (t == last)
                 assert browser.run("document.documentElement.scrollWidth <= innerWidth"), (name, "the page is too wide")
+                fits = browser.run("document.documentElement.scrollHeight <= innerHeight + 2")
+                assert fits or name != "wall", (path, t, "a wall cannot be scrolled")
                 frames += 1
                 browser.key("ArrowRight")
             assert at(browser)[0] == last, "it ends"
@@ -369,7 +371,7 @@ def test_large(browser, folder):
             slowest = max(slowest, time.time() - start)
             assert browser.run("document.documentElement.scrollWidth <= innerWidth"), (path, name)
             if name == "wall":
-                assert browser.run("document.documentElement.scrollHeight <= innerHeight + 2"), path
+                assert browser.run("document.documentElement.scrollHeight <= innerHeight + 2"), (path, "at the end")
             took = browser.run("[performance.now(), go(Math.trunc(last / 2)), performance.now()]")
             assert took[2] - took[0] < 2000, (path, took)
             tree, orders = tree_of(path), orders_of(path)

@@ -43,7 +43,7 @@ function measure(tree, runs, paper = false) {
   room.head = room.column > size * 1.6 ? size * 1.1 : 2;
   const bars = [...document.querySelectorAll("header,.controls")].reduce((sum, e) => sum + e.offsetHeight, 0);
   const free = (down - bars - (1.45 * R + 6) * size) / R - 1.7 * size;
-  levels(tree.deepest, Math.max(free, 8 * size)); // the words beside a tree take as much
+  levels(tree.deepest, Math.max(free, (paper ? 8 : 10) * size)); // the words beside a tree take as much
   document.body.classList.toggle("scrolls", room.width > space + 1);
   document.body.classList.toggle("stacked", !room.linked);
 }
@@ -54,8 +54,8 @@ function letters(tree, runs, across, down) {
   root.style.fontSize = "";
   const size = parseFloat(getComputedStyle(root).fontSize);
   if (room.narrow) return size;
-  const panel = (across - 19 * size) / L > 1.1 * size ? 2.9 * tree.deepest + 4.2 : 1.6 * tree.deepest + 4;
-  const large = Math.min(30, down / (runs * Math.max(11.5, panel) + 16), across / (2.4 * L + 20));
+  const panel = (across - 22 * size) / L > 1.1 * size ? 2.9 * tree.deepest + 4.2 : 1.6 * tree.deepest + 4;
+  const large = Math.min(30, down / (runs * Math.max(12.5, panel) + 17), across / (2.4 * L + 23));
   root.style.fontSize = Math.max(size, large) + "px";
   return Math.max(size, large);
 }

@@ -41,16 +41,18 @@ function sayStep(run, step, p) {
   const {leaf, changed, cuts} = step, gone = cuts.reduce((sum, c) => sum + leavesOf(tree, c), 0);
   const bounds = changed.map(([k, low, high]) => `${k ? "node " + k : "the root"}: ${known(low, high)}`).join(", ");
   const places = cuts.length < 5 ? cuts.map(c => nodesOf(tree, c)).join(", ") : cuts.length + " places";
-  p("ask", ask(run, step));
+  const goes = t < run.order.length; // at the end of a run its result takes the room
+  if (goes) p("ask", ask(run, step));
   p("now", `Leaf ${nameOf(tree, leaf)} is worth ${number(tree.worth[leaf])}.`);
   if (step.late) p("ask", "It can no longer change the value; the rule takes it all the same.");
-  if (bounds && t < run.order.length) p("", `So ${bounds}.`);
-  if (cuts.length > 1) p("", `Cut off: ${places}, ${count(gone)}.`);
+  if (goes && bounds) p("", `So ${bounds}.`);
+  if (goes && cuts.length > 1) p("", `Cut off: ${places}, ${count(gone)}.`);
 }
 
 function finish(run) {
   const line = run.line.slice(1), value = number(tree.worth[run.line[run.line.length - 1]]);
-  const best = line.map(k => tree.names[k] || k).join(line.some(k => tree.names[k]) ? ", " : "\u00a0\u2013 ");
+  const dash = line.length < 5 ? "\u00a0\u2013\u00a0" : "\u00a0\u2013 ";
+  const best = line.map(k => tree.names[k] || k).join(line.some(k => tree.names[k]) ? ", " : dash);
   const tests = run.method === "mtd" ? ["pass", "passes"] : isGuess(run) ? ["test", "tests"] : null;
   const passes = tests ? " in " + count(run.passes, ...tests) : "";
   return `Done after ${count(run.order.length)}${passes}. Value ${value}${best && ", best line " + best}.`;
