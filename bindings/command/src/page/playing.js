@@ -51,7 +51,7 @@ function sayStep(run, step, p) {
 
 function finish(run) {
   const line = run.line.slice(1), value = number(tree.worth[run.line[run.line.length - 1]]);
-  const dash = line.length < 5 ? "\u00a0\u2013\u00a0" : "\u00a0\u2013 ";
+  const dash = line.length < 5 ? "\u00a0\u2013\u2060\u00a0" : "\u00a0\u2013 ";
   const best = line.map(k => tree.names[k] || k).join(line.some(k => tree.names[k]) ? ", " : dash);
   const tests = run.method === "mtd" ? ["pass", "passes"] : isGuess(run) ? ["test", "tests"] : null;
   const passes = tests ? " in " + count(run.passes, ...tests) : "";
