@@ -409,12 +409,13 @@ def test_pictures(browser, folder):
         with open(trees[-1], "w") as file:
             file.write(text)
     names = os.path.join(folder, "names")
-    with open(names, "w") as file:
-        file.write("".join(f"{k} {k % 50 + 1}-{k % 47 + 2}\n" for k in range(1, 300)))
     count = 0
     browser.size(*SIZES["wall"])
     for path in trees:
-        every = [["--all"]] if tree_of(path).n < 300 else []
+        nodes = tree_of(path).n
+        every = [["--all"]] if nodes < 300 else []
+        with open(names, "w") as file:
+            file.write("".join(f"{k} {k % 50 + 1}-{k % 47 + 2}\n" for k in range(1, min(nodes, 300))))
         for more in [[], ["--method", "ab", "--rows", "90"], ["--names", names], *every]:
             drawn = os.path.join(folder, "picture.svg")
             with open(drawn, "w") as file:
