@@ -30,9 +30,9 @@ enum Place {
 
 fn place(what: &str) -> Place {
     match what {
-        "METHOD" => Place::Words(METHODS.join(" ")),
+        "METHOD" | "METHODS" => Place::Words(METHODS.join(" ")),
         "SHELL" => Place::Words("bash zsh fish".into()),
-        "FILE" | "FILE.." | "CERTIFICATE" | "A" | "B" | "LIST" => Place::File,
+        "FILE" | "FILE.." | "CERTIFICATE" | "A" | "B" | "LIST" | "TEXT" => Place::File,
         _ => Place::Other,
     }
 }
@@ -65,7 +65,7 @@ _buulset() {
     help) COMPREPLY=($(compgen -W 'COMMANDS' -- "$word")) && return ;;
     CASES
     esac
-    if [ "$before" = --method ]; then
+    if [[ $before == --method || $before == --methods ]]; then
         COMPREPLY=($(compgen -W 'METHODS' -- "$word"))
     elif [[ $word == -* ]]; then
         COMPREPLY=($(compgen -W "$options --help" -- "$word"))

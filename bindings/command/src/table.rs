@@ -390,7 +390,7 @@ address ?step=7 or ?step=end opens it there, ?play plays at once, ?loop plays fo
         options: &[
             valued(
                 "--methods",
-                "LIST",
+                "METHODS",
                 "ab,mtd,sss (if nothing is said), or others of ab, mtd, mtdf:N, sss and plain, with commas",
             ),
             NAMES,
