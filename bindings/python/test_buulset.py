@@ -83,6 +83,13 @@ class Searches(unittest.TestCase):
                 self.assertTrue(all(found.evaluated[node] for node in found.order))
                 self.assertEqual(tree.verify(found.certificate), found.value)
 
+    def test_the_best_line(self):
+        for _, tree in accepted():
+            line, found = tree.line(), tree.sss()
+            self.assertEqual((line.value, (line.nodes + (None,))[1]), (found.value, found.root_move))
+            self.assertTrue(all(below in tree.children(node) for node, below in zip(line.nodes, line.nodes[1:])))
+            self.assertIsNotNone(tree.stored(line.nodes[-1]))
+
     def test_plain_marks_every_leaf(self):
         for _, tree in accepted():
             plain, leaves = tree.plain(), [tree.stored(k) is not None for k in range(tree.nodes)]

@@ -228,8 +228,8 @@ pub fn search(mut arguments: Arguments) -> Done {
     }
     let asked = Object::new().with("file", &*name).with("method", &*method);
     let found = tree(&name).and_then(|tree| match allowance.map(|n| tree.sss_within(n)) {
-        None => Ok(found_line(&method, &searched(&arguments, &method, &tree)?)),
-        Some(Ok(search)) => Ok(found_line(&method, &search)),
+        None => Ok(found_line(&method, &tree, &searched(&arguments, &method, &tree)?)),
+        Some(Ok(search)) => Ok(found_line(&method, &tree, &search)),
         Some(Err(stopped)) => Ok(spent_line(&stopped)),
     });
     let with_heading = found.map(|(heading, line, object)| match arguments.has("--heading") {
@@ -240,11 +240,11 @@ pub fn search(mut arguments: Arguments) -> Done {
 }
 
 /// A heading, the line of a search, and its object.
-fn found_line(method: &OsStr, search: &Search) -> (String, String, Object) {
+fn found_line(method: &OsStr, tree: &Tree, search: &Search) -> (String, String, Object) {
     let (found, name) = (search.found, method.to_string_lossy());
     let root_move = found.root_move.unwrap_or(0);
     let (mut heading, mut line) = (String::from("method value move"), format!("{name} {} {root_move}", found.value));
-    let mut object = Object::new().with("value", found.value).with("move", root_move);
+    let mut object = Object::new().with("value", found.value).with("move", root_move).with("line", tree.line().nodes);
     if method != "plain" {
         (heading, line) = (heading + " leaves", format!("{line} {}", found.leaves));
         object = object.with("leaves", found.leaves);

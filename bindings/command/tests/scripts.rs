@@ -38,7 +38,8 @@ fn results_are_objects() {
         ),
     );
     let search = |method: &str, rest: &str| {
-        let object = format!(r#"{{"file":"samples/ending.tree",{rest},"value":-20}}"#);
+        let (leaves, rest) = rest.split_once(r#""method""#).unwrap();
+        let object = format!(r#"{{"file":"samples/ending.tree",{leaves}"line":[0,2,9],"method"{rest},"value":-20}}"#);
         gives(&["search", method, "samples/ending.tree"], &object);
     };
     search("ab", r#""leaves":15,"method":"ab","move":2"#);
@@ -47,7 +48,7 @@ fn results_are_objects() {
     search("plain", r#""method":"plain","move":2"#);
     gives(
         &["search", "mtdf:3", seven],
-        r#"{"file":"samples/seven.tree","leaves":3,"method":"mtdf:3","move":2,"tests":1,"value":3}"#,
+        r#"{"file":"samples/seven.tree","leaves":3,"line":[0,2,5],"method":"mtdf:3","move":2,"tests":1,"value":3}"#,
     );
     gives(
         &["search", "sss", seven, "--leaves", "2"],

@@ -13,9 +13,9 @@ give."""
 from .files import capitals, check, convert, digit, least_leaves, read_line, refused, report, version
 from .library import __version__
 from .refusal import Refused
-from .tree import (FRAME_SIZE, LINE_SIZE, MAX_CHILDREN, MAX_DEPTH, MAX_FILE, MAX_NODES, MAX_TABLE, Search, Stopped,
-                   Tree)
+from .tree import (FRAME_SIZE, LINE_SIZE, MAX_CHILDREN, MAX_DEPTH, MAX_FILE, MAX_NODES, MAX_TABLE, Line, Search,
+                   Stopped, Tree)
 
-__all__ = ["FRAME_SIZE", "LINE_SIZE", "MAX_CHILDREN", "MAX_DEPTH", "MAX_FILE", "MAX_NODES", "MAX_TABLE", "Refused",
-           "Search", "Stopped", "Tree", "__version__", "capitals", "check", "convert", "digit", "least_leaves",
+__all__ = ["FRAME_SIZE", "LINE_SIZE", "MAX_CHILDREN", "MAX_DEPTH", "MAX_FILE", "MAX_NODES", "MAX_TABLE", "Line",
+           "Refused", "Search", "Stopped", "Tree", "__version__", "capitals", "check", "convert", "digit", "least_leaves",
            "read_line", "refused", "report", "version"]

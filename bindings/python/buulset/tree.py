@@ -64,6 +64,14 @@ class Stopped(NamedTuple):
     """The evaluated leaves in the order in which they were evaluated."""
 
 
+class Line(NamedTuple):
+    """The best line of a tree: what both sides play who play their best."""
+    value: int
+    """The minimax value of the root; every node of the line has it."""
+    nodes: Tuple[int, ...]
+    """The nodes from the root to a leaf."""
+
+
 class Tree:
     """An accepted tree, which never changes. What is not accepted is a `Refused` when the tree is made. In the examples
     `seven` is the tree of samples/seven.tree.
@@ -226,6 +234,18 @@ class Tree:
         if answer.spent:
             return Stopped(answer.merit, answer.leaves, answer.steps, marks, order)
         return self._result(answer, marks, flags, order)
+
+    def line(self) -> Line:
+        """The principal variation: from the root to a leaf by nodes of the root's value.
+
+        >>> seven.line()
+        Line(value=3, nodes=(0, 2, 5))
+        """
+        found, nodes = self.sss(), [0]
+        while self.stored(nodes[-1]) is None:
+            # both solution trees share one child of a node that they share
+            nodes.append(next(child for child in self.children(nodes[-1]) if found.certificate[child] == 3))
+        return Line(found.value, tuple(nodes))
 
     def _found(self, name: str, **more: Any) -> Search:
         return self._result(*self._searched(name, **more))
