@@ -20,7 +20,10 @@ fn names(folder: &Folder) -> Vec<String> {
 fn a_result_goes_to_the_named_file() {
     let folder = Folder::new("output");
     let target = folder.0.join("made").to_str().unwrap().to_string();
-    let commands: [&[&str]; 8] = [
+    let commands: [&[&str]; 11] = [
+        &["make", "(1 2) (3 4)"],
+        &["text", "samples/ending.tree"],
+        &["watch", "samples/ending.tree"],
         &["set", "samples/seven.tree", "4", "-120"],
         &["graft", "samples/seven.tree", "4", "samples/ending.tree"],
         &["hardest", "samples/ending.tree"],
@@ -64,6 +67,9 @@ fn a_refusal_leaves_every_file() {
     is_refused(&run(&["set", "samples/seven.tree", "1", "5", "-o", &file]), "refused 19 1", &[]);
     is_refused(&run(&["set", &file, "1", "5", "--in-place"]), "refused 19 1", &[]);
     is_refused(&run(&["hardest", "samples/refused-8.tree", "-o", &file]), "refused 8 2", &[]);
+    is_refused(&run(&["make", "32001 1", "-o", &file]), "refused 7 1", &[]);
+    assert_eq!(run(&["make", "(1 2", "-o", &file]).status, 2);
+    is_refused(&run(&["watch", &file, "samples/refused-8.tree", "-o", &file]), "refused 8 2", &[]);
     assert_eq!(fs::read_to_string(&file).unwrap(), SEVEN);
     assert_eq!(names(&folder), ["good.tree"]);
 }
