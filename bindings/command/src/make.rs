@@ -15,10 +15,14 @@ pub fn run(mut arguments: Arguments) -> Done {
 
 /// The text of a file, or the word itself where that is the text; and what stands for it in a sentence.
 fn source(word: &OsStr) -> Result<(Vec<u8>, String), Failure> {
-    let is_text = word.to_string_lossy().contains(['(', ' ']) && !Path::new(word).exists();
-    match is_text {
-        true => Ok((word.as_bytes().to_vec(), "TEXT, which is no file".into())),
-        false => Ok((files::text(word)?, files::shown(word))),
+    let is_missing = word != "-" && !Path::new(word).exists();
+    match word.to_string_lossy().contains(['(', ' ']) {
+        true if is_missing => Ok((word.as_bytes().to_vec(), "TEXT, which is no file".into())),
+        false if is_missing => Err(Failure::Unreadable(format!(
+            "{}: there is no such file, and a text in its place has a bracket or a blank in it",
+            files::shown(word)
+        ))),
+        _ => Ok((files::text(word)?, files::shown(word))),
     }
 }
 

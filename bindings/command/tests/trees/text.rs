@@ -67,7 +67,10 @@ fn the_text_may_be_a_word() {
     let folder = Folder::new("words");
     assert_eq!(prints(&["make", &folder.file("(a name).text", "(1 2) (3 4)")]), seven);
     is_wrong_use(&with_input(&["make", "no such.text"], ""), "TEXT, which is no file, line 1, column 1: expected");
-    is_wrong_use(&with_input(&["make", "no-such.text"], ""), "no-such.text: there is no such file");
+    for word in ["no-such.text", "5"] {
+        let words = format!("{word}: there is no such file, and a text in its place has a bracket or a blank in it");
+        is_wrong_use(&with_input(&["make", word], ""), &words);
+    }
     assert_eq!(gives(&["make"], "(1 2) (3 4)"), seven, "a pipe stands for TEXT");
     assert_eq!(gives(&["text"], &seven), "(1 2) (3 4)\n");
     is_wrong_use(&with_input(&["make", "1 2", "3"], ""), "3 is one word too many");
