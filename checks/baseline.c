@@ -230,7 +230,7 @@ struct answer c_alphabeta(const uint8_t *table, size_t length, uint8_t *marks, s
     memset(marks, 0, asked.count);
     int value = alpha_beta(table, &v, 0, 0, LEAST, GREATEST);
     int move = conclude(table, asked.count, marks, proof);
-    return (struct answer){ .value = value, .root_move = move, .leaves = v.leaves };
+    return (struct answer){ .value = value, .root_move = move, .count = v.leaves };
 }
 
 /* ---- the plain engine */
@@ -307,7 +307,7 @@ struct answer c_mtd(const uint8_t *table, size_t length, uint8_t *marks, size_t 
     for (int k = 0; k < n; k++) p.high[k] = GREATEST;
     for (; below(&p, 0, 0, test); passes++) test = p.high[0];
     int move = conclude(table, n, marks, proof);
-    return (struct answer){ .value = test, .root_move = move, .leaves = p.valued.leaves, .steps = passes };
+    return (struct answer){ .value = test, .root_move = move, .count = p.valued.leaves, .steps = passes };
 }
 
 /* ---- MTD(f) */
@@ -358,7 +358,7 @@ struct answer c_mtdf(const uint8_t *table, size_t length, int32_t start, uint8_t
     int value = p.low[0];
     if (child_count(table, 0)) children_not_below(&p, 0, 0, value);
     int move = conclude(table, n, marks, proof);
-    return (struct answer){ .value = value, .root_move = move, .leaves = p.valued.leaves, .steps = tests };
+    return (struct answer){ .value = value, .root_move = move, .count = p.valued.leaves, .steps = tests };
 }
 
 /* ---- SSS* */
@@ -516,34 +516,19 @@ static inline struct answer sss(run *run, const uint8_t *table, size_t length, u
     if (asked.refused) return asked;
     struct valued v = { marks, order, 0 };
     memset(marks, 0, asked.count);
-    int test = run(table, asked.count, list, &v, allowance, &found);
-    found.leaves = v.leaves;
-    if (found.spent) {
-        found.merit = test;
-    } else {
-        found.value = test;
-        found.root_move = conclude(table, asked.count, marks, proof);
-    }
+    found.value = run(table, asked.count, list, &v, allowance, &found);
+    found.count = v.leaves;
+    if (!found.spent) found.root_move = conclude(table, asked.count, marks, proof);
     return found;
 }
 
 struct answer c_sss(const uint8_t *table, size_t length, uint8_t *marks, size_t marks_room, uint8_t *proof,
-                    size_t proof_room, uint16_t *order, size_t order_room) {
-    return sss(run_front, table, length, marks, marks_room, proof, proof_room, order, order_room, NODES);
-}
-
-struct answer c_sss_list(const uint8_t *table, size_t length, uint8_t *marks, size_t marks_room, uint8_t *proof,
-                         size_t proof_room, uint16_t *order, size_t order_room) {
-    return sss(run_list, table, length, marks, marks_room, proof, proof_room, order, order_room, NODES);
-}
-
-struct answer c_allowed(const uint8_t *table, size_t length, uint8_t *marks, size_t marks_room, uint8_t *proof,
-                        size_t proof_room, uint16_t *order, size_t order_room, size_t allowance) {
+                    size_t proof_room, uint16_t *order, size_t order_room, size_t allowance) {
     return sss(run_front, table, length, marks, marks_room, proof, proof_room, order, order_room, allowance);
 }
 
-struct answer c_allowed_list(const uint8_t *table, size_t length, uint8_t *marks, size_t marks_room, uint8_t *proof,
-                             size_t proof_room, uint16_t *order, size_t order_room, size_t allowance) {
+struct answer c_sss_list(const uint8_t *table, size_t length, uint8_t *marks, size_t marks_room, uint8_t *proof,
+                         size_t proof_room, uint16_t *order, size_t order_room, size_t allowance) {
     return sss(run_list, table, length, marks, marks_room, proof, proof_room, order, order_room, allowance);
 }
 
@@ -590,16 +575,38 @@ static size_t flagged_leaves(const uint8_t *table, size_t n, const uint8_t *flag
     return leaves;
 }
 
+static struct choice none(struct answer no) { return (struct choice){ .refused = no.refused, .place = no.place }; }
+
 /* The certificate with fewer flagged leaves, 1 or 2, and how many flags it has, one a node. */
-struct answer c_shorter(const uint8_t *table, size_t length, const uint8_t *first, size_t first_room,
+struct choice c_shorter(const uint8_t *table, size_t length, const uint8_t *first, size_t first_room,
                         const uint8_t *second, size_t second_room) {
     struct answer asked = c_check(table, length);
-    if (asked.refused) return asked;
+    if (asked.refused) return none(asked);
     size_t n = asked.count;
     struct answer a = c_verify(table, length, first, first_room), b = c_verify(table, length, second, second_room);
-    if (a.refused && b.refused) return a;
+    if (a.refused && b.refused) return none(a);
     bool fewer = !a.refused && !b.refused && flagged_leaves(table, n, second) < flagged_leaves(table, n, first);
-    return (struct answer){ .count = a.refused || fewer ? 2 : 1, .leaves = n };
+    return (struct choice){ .chosen = a.refused || fewer ? 2 : 1, .count = n };
+}
+
+/* ---- the best line */
+
+/* SSS*, the check of its certificate, and then from the root the child in both trees. */
+struct answer c_line(const uint8_t *table, size_t length, uint16_t *line, size_t room) {
+    uint8_t marks[NODES], proof[NODES];
+    uint16_t order[NODES];
+    struct answer asked = ask(table, length, room);
+    if (asked.refused) return asked;
+    struct answer found = c_sss(table, length, marks, NODES, proof, NODES, order, NODES, NODES);
+    struct answer checked = c_verify(table, length, proof, NODES);
+    if (checked.refused) return checked;
+    size_t count = 0;
+    int k = 0;
+    while (line[count++] = k, child_count(table, k)) {
+        k = first_child(table, k);
+        while (proof[k] != 3) k++;
+    }
+    return (struct answer){ .value = found.value, .root_move = found.root_move, .count = count };
 }
 
 /* ---- grafts */
@@ -703,12 +710,12 @@ static int put_ranks(uint8_t *table, int k, int place, int rank) {
 struct answer c_fill(uint8_t *table, size_t length) {
     struct answer asked = c_check(table, length);
     if (asked.refused) return asked;
-    return (struct answer){ .leaves = put_ranks(table, 0, 0, 0) };
+    return (struct answer){ .count = put_ranks(table, 0, 0, 0) };
 }
 
 /* ---- the least count of a regular tree */
 
-struct answer c_least(size_t width, size_t depth) {
+struct answer c_least_leaves(size_t width, size_t depth) {
     if (width < 1 || width > CHILDREN) return no(22, 0);
     if (depth > DEPTH) return no(23, 0);
     uint64_t power = 1; /* of half the depth, rounded down */
@@ -731,9 +738,9 @@ struct text c_report(const uint8_t *file, size_t length) {
     }
     struct answer a = c_alphabeta(table, FRAME * r.count, marks, NODES, proof, NODES, order, NODES);
     struct answer m = c_mtd(table, FRAME * r.count, marks, NODES, proof, NODES, order, NODES);
-    struct answer s = c_sss(table, FRAME * r.count, marks, NODES, proof, NODES, order, NODES);
+    struct answer s = c_sss(table, FRAME * r.count, marks, NODES, proof, NODES, order, NODES, NODES);
     text.length =
         snprintf(bytes, TEXT_BYTES, "method value move leaves\nab %d %zu %zu\nmtd %d %zu %zu\nsss %d %zu %zu\n",
-                 a.value, a.root_move, a.leaves, m.value, m.root_move, m.leaves, s.value, s.root_move, s.leaves);
+                 a.value, a.root_move, a.count, m.value, m.root_move, m.count, s.value, s.root_move, s.count);
     return text;
 }

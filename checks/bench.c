@@ -1,4 +1,4 @@
-/* Measures the public calls of the crates (rattle_..) and of baseline.c (c_..) on one tree file; bench.py runs it.
+/* Measures the calls of the library (buulset_..) and of baseline.c (c_..) on one tree file; bench.py runs it.
 
    bench FILE count    under callgrind: a dump, titled SIDE CALL, of the instructions of each call
    bench FILE time     prints SIDE CALL and the least time of many runs, in nanoseconds
@@ -13,24 +13,26 @@
 #include <time.h>
 #include <valgrind/callgrind.h>
 
-read_call rattle_read, rattle_convert;
-write_call rattle_write;
-check_call rattle_check;
-search_call rattle_alphabeta, rattle_mtd, rattle_sss;
-started_call rattle_mtdf;
-plain_call rattle_plain;
-verify_call rattle_verify;
-graft_call rattle_graft;
-least_value_call rattle_least_value;
-fill_call rattle_fill;
-report_call rattle_report;
+read_call buulset_read, buulset_convert;
+write_call buulset_write;
+check_call buulset_check;
+search_call buulset_alphabeta, buulset_mtd;
+allowed_call buulset_sss;
+started_call buulset_mtdf;
+plain_call buulset_plain;
+line_call buulset_line;
+verify_call buulset_verify;
+graft_call buulset_graft;
+least_value_call buulset_least_value;
+fill_call buulset_fill;
+report_call buulset_report;
 
-enum call { READ, WRITE, CONVERT, CHECK, ALPHABETA, PLAIN, MTD, MTDF, SSS, VERIFY, GRAFT, LEAST_VALUE, FILL, REPORT,
-            LEAN, CALLS };
+enum call { READ, WRITE, CONVERT, CHECK, ALPHABETA, PLAIN, MTD, MTDF, SSS, BEST_LINE, LEAN_LINE, VERIFY, GRAFT,
+            LEAST_VALUE, FILL, REPORT, LEAN, CALLS };
 
 static const char *const call_names[] = {
-    "read", "write", "convert", "check", "alphabeta", "plain", "mtd", "mtdf", "sss", "verify", "graft", "least_value",
-    "fill", "report", "lean"
+    "read", "write", "convert", "check", "alphabeta", "plain", "mtd", "mtdf", "sss", "line", "lean_line", "verify",
+    "graft", "least_value", "fill", "report", "lean"
 };
 
 static const struct side {
@@ -43,18 +45,19 @@ static const struct side {
     plain_call *plain;
     search_call *mtd;
     started_call *mtdf;
-    search_call *sss;
+    allowed_call *sss;
+    line_call *line, *lean_line; /* the same line; in C once with no more work than it needs */
     verify_call *verify;
     graft_call *graft;
     least_value_call *least_value;
     fill_call *fill;
     report_call *report, *lean; /* the same report; in C once with no more work than it needs */
 } sides[] = {
-    { "rattle", rattle_read, rattle_write, rattle_convert, rattle_check,
-      rattle_alphabeta, rattle_plain, rattle_mtd, rattle_mtdf, rattle_sss, rattle_verify, rattle_graft,
-      rattle_least_value, rattle_fill, rattle_report, rattle_report },
-    { "c", c_read, c_write, c_convert, c_check, c_alphabeta, c_plain, c_mtd, c_mtdf, c_sss, c_verify, c_graft,
-      c_least_value, c_fill, c_report, lean_report },
+    { "rattle", buulset_read, buulset_write, buulset_convert, buulset_check,
+      buulset_alphabeta, buulset_plain, buulset_mtd, buulset_mtdf, buulset_sss, buulset_line, buulset_line,
+      buulset_verify, buulset_graft, buulset_least_value, buulset_fill, buulset_report, buulset_report },
+    { "c", c_read, c_write, c_convert, c_check, c_alphabeta, c_plain, c_mtd, c_mtdf, c_sss, c_line, lean_line,
+      c_verify, c_graft, c_least_value, c_fill, c_report, lean_report },
 };
 
 /* What buffers are filled with; for how many runs and nanoseconds a call is timed, and for how long between two looks
@@ -87,7 +90,9 @@ static struct answer perform(const struct side *s, enum call call, struct lent *
     case MTD: return searched(s->mtd, l);
     case MTDF: /* from the value 0 */
         return s->mtdf(table, FRAME * nodes, 0, l->marks, NODES, l->proof, NODES, l->order, NODES);
-    case SSS: return searched(s->sss, l);
+    case SSS: return s->sss(table, FRAME * nodes, l->marks, NODES, l->proof, NODES, l->order, NODES, NODES);
+    case BEST_LINE: return s->line(table, FRAME * nodes, l->order, NODES);
+    case LEAN_LINE: return s->lean_line(table, FRAME * nodes, l->order, NODES);
     case VERIFY: return s->verify(table, FRAME * nodes, flags, nodes);
     case GRAFT: return s->graft(lone_leaf, FRAME, 0, table, FRAME * nodes, l->table, sizeof l->table);
     case LEAST_VALUE: return s->least_value(table, FRAME * nodes, nodes - 1, 0);
@@ -98,9 +103,8 @@ static struct answer perform(const struct side *s, enum call call, struct lent *
 }
 
 static int same(struct answer a, struct answer b) {
-    return a.refused == b.refused && a.spent == b.spent && a.merit == b.merit && a.value == b.value
-        && a.place == b.place && a.count == b.count
-        && a.root_move == b.root_move && a.leaves == b.leaves && a.steps == b.steps;
+    return a.refused == b.refused && a.spent == b.spent && a.value == b.value && a.place == b.place
+        && a.count == b.count && a.root_move == b.root_move && a.steps == b.steps;
 }
 
 /* The processor time of this process, which other processes do not add to. */

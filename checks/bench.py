@@ -4,11 +4,11 @@
     bench.py [--write]      all trees, growth, stack and the whole program; --write puts the tables into docs/COSTS.md
     bench.py TREE..         these trees alone
 
-A cell of a table is the cost of the call in Rattle, then how many times that of the call in C; `lean` is the report
-against one in C that does no more work than the report needs (lean.c). Instructions are counted by valgrind's
+A cell of a table is the cost of the call in Rattle, then how many times that of the call in C; `lean` and `lean line`
+are the report and the best line against C that does no more work than they need (lean.c). Instructions are counted by valgrind's
 callgrind, for each call alone. Times are of the processor, the least of many calls of both sides in turn; this is done
-some times over, and a cell has the median and the range of the ratios. The crates' calls are taken from a static
-library that `rt staticlib` proves and compiles (library.py); the C calls are in baseline.c. Both sides must give the
+some times over, and a cell has the median and the range of the ratios. The crates' calls are those of the library for
+other languages, which `rt staticlib` proves and compiles (library.py); the C calls are in baseline.c. Both sides must give the
 same answers and buffers. Needs the kit, gcc and valgrind.
 """
 import argparse
@@ -26,8 +26,8 @@ from library import CHECKS, ROOT, WORK, read, run
 
 PROGRAM = os.path.join(ROOT, "target", "bin", "analyse")
 BENCH, BASELINE = os.path.join(WORK, "bench"), os.path.join(WORK, "baseline")
-CALLS = ("read", "write", "convert", "check", "alphabeta", "plain", "mtd", "mtdf", "sss", "verify", "graft",
-         "least_value", "fill", "report", "lean")
+CALLS = ("read", "write", "convert", "check", "alphabeta", "plain", "mtd", "mtdf", "sss", "line", "lean_line", "verify",
+         "graft", "least_value", "fill", "report", "lean")
 HEADINGS = [call.replace("_", " ") for call in CALLS]
 
 # How often the times are taken.

@@ -1,6 +1,6 @@
 #!/usr/bin/env python3
 """Runs the public calls in this process, over lent memory with guards around it, and compares answers and memory with
-oracle.py: those of the crates (library.py), and those of baseline.c.
+oracle.py: those of the library for other languages (library.py), and those of baseline.c.
 
     fuzz_library.py [--count N] [--seed S]      all trees of up to 6 nodes, then N random tables and files, good and
                                                 damaged (default 3000)
@@ -21,13 +21,17 @@ import oracle as o
 import selfcheck
 
 FILLED, UNLISTED, GUARD, TEXT_SIZE = 170, 43690, 64, 256
-ONLY_IN_C = ("allowed_list",)
+ONLY_IN_C = ("sss_list",)
 
 
 class Answer(ctypes.Structure):
-    _fields_ = [("refused", ctypes.c_uint8), ("spent", ctypes.c_uint8), ("merit", ctypes.c_int32),
-                ("value", ctypes.c_int16)] + [
-        (name, ctypes.c_size_t) for name in ("place", "count", "root_move", "leaves", "steps")]
+    _fields_ = [("refused", ctypes.c_uint8), ("spent", ctypes.c_uint8), ("value", ctypes.c_int32)] + [
+        (name, ctypes.c_size_t) for name in ("place", "count", "root_move", "steps")]
+
+
+class Choice(ctypes.Structure):
+    _fields_ = [("refused", ctypes.c_uint8), ("chosen", ctypes.c_uint8), ("place", ctypes.c_size_t),
+                ("count", ctypes.c_size_t)]
 
 
 class Text(ctypes.Structure):
@@ -36,11 +40,11 @@ class Text(ctypes.Structure):
 
 def libraries():
     """The calls of each side as a shared library, with the prefix of their names."""
-    rattle, c = (os.path.join(library.WORK, name) for name in ("librattle.so", "libbaseline.so"))
-    library.run(["gcc", "-shared", "-o", rattle, "-Wl,--whole-archive", library.build(), "-Wl,--no-whole-archive"])
+    ours, c = (os.path.join(library.WORK, name) for name in ("libbuulset.so", "libbaseline.so"))
+    library.run(["gcc", "-shared", "-o", ours, "-Wl,--whole-archive", library.build(), "-Wl,--no-whole-archive"])
     baseline = os.path.join(library.CHECKS, "baseline.c")
     library.run(["gcc", "-O2", "-fPIC", "-shared", "-DDEPTH=%d" % o.MAX_DEPTH, "-o", c, baseline])
-    return (ctypes.CDLL(rattle), "rattle_"), (ctypes.CDLL(c), "c_")
+    return (ctypes.CDLL(ours), "buulset_"), (ctypes.CDLL(c), "c_")
 
 
 def lend(data):
@@ -56,7 +60,7 @@ def call(side, name, *buffers):
     """The answer, and what the buffers hold afterwards; the guards must be as they were."""
     lib, prefix = side
     function = getattr(lib, prefix + name)
-    function.restype = Text if name == "report" else Answer
+    function.restype = {"report": Text, "shorter": Choice}.get(name, Answer)
     lent = [lend(data) for data in buffers]
     got = function(*itertools.chain.from_iterable(words for _, words in lent))
     for room, _ in lent:
@@ -65,14 +69,14 @@ def call(side, name, *buffers):
     left = [bytes(room[GUARD:-GUARD]) for room, words in lent if len(words) > 1]
     if name == "report":
         return (bytes(got.bytes), got.length), left
-    return tuple(getattr(got, field) for field, _ in Answer._fields_), left
+    return tuple(getattr(got, field) for field, _ in got._fields_), left
 
 
-def flat(answer, **fields):
+def flat(answer, kind=Answer, **fields):
     """What a call should answer, in the order of the fields."""
     if isinstance(answer, o.Refusal):
         fields = {"refused": answer.number, "place": answer.place}
-    return tuple(fields.get(field, 0) for field, _ in Answer._fields_)
+    return tuple(fields.get(field, 0) for field, _ in kind._fields_)
 
 
 # ---------------------------------------------------------------- what is asked, and what must come
@@ -90,39 +94,47 @@ def lent_to(name, marks, flags, entries):
     return (filled(marks), filled(flags)) + (() if name == "plain" else (unlisted(entries),))
 
 
+def found(r):
+    """What a search finds, or where its allowance is spent, by the fields of the answer."""
+    if isinstance(r, o.Refusal):
+        return {}
+    if isinstance(r, o.Spent):
+        return {"spent": 1, "value": r.merit, "count": r.leaves, "steps": r.extra}
+    return {"value": r.value, "root_move": r.move, "count": r.leaves, "steps": r.extra or 0}
+
+
 def searches(table, *sizes):
-    for name, rule in (("alphabeta", o.ab), ("plain", o.plain), ("mtd", o.mtd), ("sss", o.sss)):
+    for name, rule in (("alphabeta", o.ab), ("plain", o.plain), ("mtd", o.mtd)):
         lent = lent_to(name, *sizes)
         r = o.search(rule, table, *lent)
-        fields = {}
-        if not isinstance(r, o.Refusal):
-            fields = {"value": r.value, "root_move": r.move, "leaves": r.leaves, "steps": r.extra or 0}
-            if name == "plain":         # it gives no count
-                del fields["leaves"]
+        fields = found(r)
+        if name == "plain":             # it gives no count
+            fields.pop("count", None)
         yield name, (table, *lent_to(name, *sizes)), flat(r, **fields), (table, *lent)
+    yield from allowed(table, *sizes, allowance=o.MAX_NODES)
 
 
 def allowed(table, *sizes, allowance):
     """02, N6: SSS* within an allowance, of the crate and of both lists in C."""
     lent = lent_to("sss", *sizes)
     r = o.sss_search(table, None, *lent, allowance)
-    fields = {}
-    if isinstance(r, o.Spent):
-        fields = {"spent": 1, "merit": r.merit, "leaves": r.leaves, "steps": r.extra}
-    elif not isinstance(r, o.Refusal):
-        fields = {"value": r.value, "root_move": r.move, "leaves": r.leaves, "steps": r.extra}
-    for name in ("allowed", "allowed_list"):
-        yield name, (table, *lent_to(name, *sizes), allowance), flat(r, **fields), (table, *lent)
+    for name in ("sss", "sss_list"):
+        yield name, (table, *lent_to(name, *sizes), allowance), flat(r, **found(r)), (table, *lent)
+
+
+def lined(table, entries):
+    """The best line, in a list of so many entries."""
+    lent = unlisted(entries)
+    r = o.best_line(table, lent)
+    fields = {} if isinstance(r, o.Refusal) else {"value": r.value, "root_move": r.move, "count": r.length}
+    yield "line", (table, unlisted(entries)), flat(r, **fields), (table, lent)
 
 
 def started(table, *sizes, start):
     """MTD(f) from a starting value."""
     lent = lent_to("mtdf", *sizes)
     r = o.mtdf_search(table, start, *lent)
-    fields = {}
-    if not isinstance(r, o.Refusal):
-        fields = {"value": r.value, "root_move": r.move, "leaves": r.leaves, "steps": r.extra}
-    yield "mtdf", (table, start, *lent_to("mtdf", *sizes)), flat(r, **fields), (table, *lent)
+    yield "mtdf", (table, start, *lent_to("mtdf", *sizes)), flat(r, **found(r)), (table, *lent)
 
 
 def verified(table, flags):
@@ -133,8 +145,8 @@ def verified(table, flags):
 def shorter(table, first, second):
     """02, N13: 1 or 2 for the certificate that is handed back, and how many flags that are."""
     r = o.shorter(table, first, second)
-    fields = {} if isinstance(r, o.Refusal) else {"count": r[0] + 1, "leaves": len(r[1])}
-    yield "shorter", (table, first, second), flat(r, **fields), (table, first, second)
+    fields = {} if isinstance(r, o.Refusal) else {"chosen": r[0] + 1, "count": len(r[1])}
+    yield "shorter", (table, first, second), flat(r, Choice, **fields), (table, first, second)
 
 
 def checked(table):
@@ -182,7 +194,7 @@ def fill(table):
     """The worst-case filling; and the filled table through the searches."""
     lent = bytearray(table)
     r = o.fill(lent)
-    yield "fill", (table,), flat(r, leaves=r), (lent,)
+    yield "fill", (table,), flat(r, count=r), (lent,)
     if not isinstance(r, o.Refusal):
         n = len(lent) // 6
         yield from searches(lent, n, n, n)
@@ -228,6 +240,7 @@ def small_trees():
             yield from allowed(table, n, n, n + 1, allowance=allowance)
         for start in (-2 ** 31, 0, 1, 2, 30999, 31000, 32001):
             yield from started(table, n, n, n + 1, start=start)
+        yield from lined(table, n + 1)
         yield from written(table, 13 * n)
         yield from converted(o.file_of(table, last=False).lower(), 13 * n)
         flags = bytearray(n)
@@ -245,7 +258,7 @@ def least_counts():
     far = (255, 256, 65535, 65536, 2 ** 32, 2 ** 64 - 1)
     for width, depth in itertools.product((*range(43), *far), (*range(21), *far)):
         r = o.least_leaves(width, depth)
-        yield "least", (width, depth), flat(r, count=r), ()
+        yield "least_leaves", (width, depth), flat(r, count=r), ()
 
 
 def random_calls(rng):
@@ -268,6 +281,7 @@ def random_calls(rng):
     yield from allowed(table, size(), size(), size(), allowance=allowance)
     start = rng.choice((-2 ** 31, 2 ** 31 - 1, -32001, 32001, rng.randint(-5, 5), rng.randint(-33000, 33000)))
     yield from started(table, size(), size(), size(), start=start)
+    yield from lined(table, size())
     yield from verified(table, bytes(rng.choice((0, 1, 2, 3)) for _ in range(size())))
     yield from written(table, rng.choice((13 * n, 13 * n, 13 * n + 1, 13 * n + 40, max(13 * n - 1, 0), 12 * n, 0)))
     yield from random_graft(rng, table)

@@ -1,9 +1,11 @@
 /* The program's report as lean as plain C can have it: each frame is decoded, checked and placed once, and each of the
-   three searches runs and gives its own value, move and count of leaves; no marks, lists or certificates. Compiled with
-   -O2 and with DEPTH, the greatest depth of a node, from oracle.py. */
+   three searches runs and gives its own value, move and count of leaves; no marks, lists or certificates. And the best
+   line: SSS*, and the bounds that its leaves give. Compiled with -O2 and with DEPTH, the greatest depth of a node, from
+   oracle.py. */
 #include "baseline.h"
 #include <stdbool.h>
 #include <stdio.h>
+#include <string.h>
 
 enum { DIGITS = 12, SMALL = 16, OTHER = 32, CHILDREN = 40, VALUE = 32000, WIN = 31000, LEAST = -32001, GREATEST = 32001 };
 
@@ -26,6 +28,7 @@ struct found {
 
 static inline bool max_moves(const struct node *node) { return node->place % 2 == 0; }
 static inline int greater(int a, int b) { return a > b ? a : b; }
+static inline int lesser(int a, int b) { return a < b ? a : b; }
 
 /* ---- reading */
 
@@ -209,9 +212,9 @@ static int fall(const struct node *nodes, uint32_t *front, int k, uint32_t test)
     return k;
 }
 
-/* The move is the child that solves the root. */
-static struct found run_sss(const struct node *nodes) {
-    uint32_t front[NODES], test = packed(GREATEST);
+/* The move is the child that solves the root. The entry of an evaluated leaf is left SOLVED. */
+static struct found run_sss(const struct node *nodes, uint32_t *front) {
+    uint32_t test = packed(GREATEST);
     struct found found = { GREATEST, 0, 0 };
     int k = 0;
     front[0] = test;
@@ -248,6 +251,7 @@ static struct found run_sss(const struct node *nodes) {
 
 struct text lean_report(const uint8_t *file, size_t length) {
     struct node nodes[NODES];
+    uint32_t front[NODES];
     struct text text = { { 0 }, 0 };
     char *bytes = (char *)text.bytes;
     size_t n = 0;
@@ -256,9 +260,65 @@ struct text lean_report(const uint8_t *file, size_t length) {
         text.length = snprintf(bytes, TEXT_BYTES, "refused %d %zu\n", r.number, r.place);
         return text;
     }
-    struct found a = run_alpha_beta(nodes), m = run_mtd(nodes, n), s = run_sss(nodes);
+    struct found a = run_alpha_beta(nodes), m = run_mtd(nodes, n), s = run_sss(nodes, front);
     text.length =
         snprintf(bytes, TEXT_BYTES, "method value move leaves\nab %d %zu %zu\nmtd %d %zu %zu\nsss %d %zu %zu\n",
                  a.value, a.move, a.leaves, m.value, m.move, m.leaves, s.value, s.move, s.leaves);
     return text;
+}
+
+/* ---- the best line */
+
+static void place_nodes(const uint8_t *table, size_t n, struct node *nodes) {
+    nodes[0].parent = nodes[0].place = 0;
+    for (size_t k = 0, next = 1; k < n; k++) {
+        const uint8_t *frame = table + FRAME * k;
+        struct node *node = nodes + k;
+        node->first = frame[0] << 8 | frame[1], node->count = frame[2];
+        node->worth = worth((int16_t)(frame[4] << 8 | frame[5]), node->place / 2);
+        for (size_t end = next + frame[2]; next < end; next++)
+            nodes[next].parent = k, nodes[next].place = (node->place + 2) ^ (table[FRAME * next + 3] != 1);
+    }
+}
+
+struct bounds {
+    int16_t low, high;
+};
+
+/* The bounds of every node from the evaluated leaves. */
+static void fill_bounds(const struct node *nodes, size_t n, const uint32_t *front, struct bounds *of) {
+    for (size_t k = n; k-- > 0;) {
+        const struct node *node = nodes + k;
+        bool evaluated = node->count == 0 && front[k] & SOLVED;
+        of[k] = evaluated ? (struct bounds){ node->worth, node->worth } : (struct bounds){ LEAST, GREATEST };
+        if (node->count == 0) continue;
+        struct bounds *c = of + node->first, *end = c + node->count;
+        of[k] = *c;
+        if (max_moves(node))
+            while (++c < end) of[k] = (struct bounds){ greater(of[k].low, c->low), greater(of[k].high, c->high) };
+        else
+            while (++c < end) of[k] = (struct bounds){ lesser(of[k].low, c->low), lesser(of[k].high, c->high) };
+    }
+}
+
+/* A node of the line is followed by its first child whose bound on the side that moves is the value. */
+struct answer lean_line(const uint8_t *table, size_t length, uint16_t *line, size_t room) {
+    struct node nodes[NODES];
+    uint32_t front[NODES];
+    struct bounds of[NODES];
+    struct answer asked = c_check(table, length);
+    if (asked.refused) return asked;
+    if (room < asked.count) return (struct answer){ .refused = 10 };
+    place_nodes(table, asked.count, nodes);
+    memset(front, 0, asked.count * sizeof *front);
+    struct found found = run_sss(nodes, front);
+    fill_bounds(nodes, asked.count, front, of);
+    size_t count = 0;
+    int k = 0;
+    while (line[count++] = k, nodes[k].count) {
+        bool is_max = max_moves(nodes + k);
+        k = nodes[k].first;
+        while ((is_max ? of[k].low : of[k].high) != found.value) k++;
+    }
+    return (struct answer){ .value = found.value, .root_move = found.move, .count = count };
 }

@@ -287,8 +287,8 @@ def searches(table, marks, flags, entries):
             assert set(memory[0] + memory[1]) <= {FILLED} and set(memory[2]) <= {UNLISTED}
             text += "%s %s\n" % (name, answered(r))
         else:
-            counts = () if name == "plain" else (r.leaves, r.extra)
-            text += name + numbers(x for x in (r.value, r.move, *counts) if x is not None) + "\n"
+            counts = () if name == "plain" else (r.leaves, r.extra or 0)
+            text += name + numbers((r.value, r.move, *counts)) + "\n"
         text += left(table, *memory)
     return text
 
@@ -548,8 +548,11 @@ def printed(file, room):
     """What the converting program lays in so many bytes of a filled buffer."""
     lent = bytearray((FILLED,) * room)
     got = o.output(file, lent)
-    assert not isinstance(got, o.Refusal) or set(lent) <= {FILLED}
-    return "output %s\ntext%s\n" % (answered(got), numbers(lent))
+    if got is None:
+        assert set(lent) <= {FILLED}
+        return "output no room\ntext%s\n" % numbers(lent)
+    length, refusal = got
+    return "output %d%s\ntext%s\n" % (length, " " + answered(refusal) if refusal else "", numbers(lent))
 
 
 def long_output():
@@ -573,8 +576,11 @@ def output_cases():
                                     ("a short buffer", ROW, 12, None), ("a refusal in a short buffer", b"", 11, None),
                                     ("no buffer", LEAF, 0, None)):
         got = printed(file, room)
-        length = "refused 10 0" if want is None else "%d" % len(want)
-        lent = (want or b"") + bytes((FILLED,) * (room - len(want or b"")))
+        if want is None:
+            length, want = "no room", b""
+        else:
+            length = "%d %s" % (len(want), want[:-1].decode()) if want.startswith(b"refused") else "%d" % len(want)
+        lent = want + bytes((FILLED,) * (room - len(want)))
         assert got == "output %s\ntext%s\n" % (length, numbers(lent)), (title, got)
         add("output: " + title, file, "output %d" % room, got)
 
@@ -697,8 +703,8 @@ def fill(table):
     if isinstance(got, o.Refusal):
         assert lent == table
     cost = o.search(o.ab, lent, bytearray(o.MAX_NODES), bytearray(o.MAX_NODES))
-    return "fill %s\ntable%s\nab %s\n" % (answered(got), numbers(lent),
-                                          answered(cost if isinstance(cost, o.Refusal) else cost.leaves))
+    found = " " + answered(cost) if isinstance(cost, o.Refusal) else numbers((cost.value, cost.move, cost.leaves, 0))
+    return "fill %s\ntable%s\nab%s\n" % (answered(got), numbers(lent), found)
 
 
 # Max(a leaf, Min of two, a leaf); Min over blocks of different sizes; and 266 leaves, so that ranks have a high byte
@@ -718,7 +724,7 @@ def fill_cases():
             ("a leaf too few", ROW, 36, "refused 8 6"), ("a leaf too many", ROW, 48, "refused 8 8")):
         got = fill(longer(file, size))
         assert got.startswith("fill %s\n" % want), (title, got)
-        assert want.startswith("refused") or got.endswith("\nab %s\n" % want), (title, got)
+        assert want.startswith("refused") or got.endswith(" %s 0\n" % want), (title, got)
         add("fill: " + title, file, "fill %d" % size, got)
 
 

@@ -623,15 +623,15 @@ def convert(file, new):
 
 def output(file, text):
     """02, N7: what the converting program prints, at the front of a buffer: the new file, or the line of the refusal;
-    its length."""
+    its length, and the refusal or None; None alone without room for it."""
     n = convert(file, text)
     if not isinstance(n, Refusal):
-        return n
+        return n, None
     line = b"refused %d %d\n" % n
     if len(text) < len(line):
-        return Refusal(10, 0)
+        return None
     text[:len(line)] = line
-    return len(line)
+    return len(line), n
 
 
 def check_table(table):
@@ -770,6 +770,28 @@ def mtdf_search(table, start, marks, proof, order):
 def sss_search(table, states, marks, proof, order, allowance=None):
     """Without an allowance the run is never stopped, as in the program."""
     return search(lambda tree: sss(tree, allowance), table, marks, proof, order, states)
+
+
+Line = namedtuple("Line", "value move length")
+
+
+def best_line(table, line):
+    """Questions 1 to 9 of the table and 10 of the list; then at each node the child that is in both trees of the
+    certificate of SSS*, the root first. Each node of it is worth the root's value, by plain minimax."""
+    no = table_no(table)
+    if no:
+        return no
+    tree = Tree(table)
+    if len(line) < tree.n:
+        return Refusal(10, 0)
+    value, flags = tree.minimax(), tree.flags(set(sss(tree)[1]))
+    nodes = [0]
+    while tree.kids[nodes[-1]]:
+        (child,) = (c for c in tree.kids[nodes[-1]] if flags[c] == 3)
+        nodes.append(child)
+    assert all(value[k] == value[0] for k in nodes) and tree.worth[nodes[-1]] == value[0]
+    line[:len(nodes)] = array("H", nodes)
+    return Line(value[0], tree.move(), len(nodes))
 
 
 # ---------------------------------------------------------------- the program

@@ -18,6 +18,10 @@ static struct answer run(search_call *search) {
     return search(table, FRAME * nodes, marks, NODES, proof, NODES, order, NODES);
 }
 
+static struct answer run_sss(allowed_call *sss) {
+    return sss(table, FRAME * nodes, marks, NODES, proof, NODES, order, NODES, NODES);
+}
+
 static void show_order(const char *name, size_t leaves) {
     printf("%s order", name);
     for (size_t i = 0; i < leaves; i++) printf(" %d", order[i]);
@@ -30,9 +34,9 @@ static void show(const char *name, const char *what, const uint8_t *bytes) {
     printf("\n");
 }
 
-static void detail(const char *name, search_call *search, const char *steps) {
-    struct answer found = run(search);
-    show_order(name, found.leaves);
+/* What a search left. */
+static void detail(const char *name, struct answer found, const char *steps) {
+    show_order(name, found.count);
     show(name, "marks", marks);
     show(name, "flags", proof);
     if (steps) printf("%s %s %zu\n", name, steps, found.steps);
@@ -53,14 +57,14 @@ int main(int argc, char **argv) {
         return 0;
     }
     nodes = r.count;
-    struct answer a = run(c_alphabeta), m = run(c_mtd), s = run(strcmp(option, "-l") ? c_sss : c_sss_list);
+    struct answer a = run(c_alphabeta), m = run(c_mtd), s = run_sss(strcmp(option, "-l") ? c_sss : c_sss_list);
     printf("method value move leaves\nab %d %zu %zu\nmtd %d %zu %zu\nsss %d %zu %zu\n",
-           a.value, a.root_move, a.leaves, m.value, m.root_move, m.leaves, s.value, s.root_move, s.leaves);
+           a.value, a.root_move, a.count, m.value, m.root_move, m.count, s.value, s.root_move, s.count);
     if (!strcmp(option, "-d")) {
-        detail("ab", c_alphabeta, NULL);
-        detail("mtd", c_mtd, "passes");
-        detail("sss", c_sss, "replacements");
-        detail("sss", c_sss_list, "replacements");
+        detail("ab", run(c_alphabeta), NULL);
+        detail("mtd", run(c_mtd), "passes");
+        detail("sss", run_sss(c_sss), "replacements");
+        detail("sss", run_sss(c_sss_list), "replacements");
     }
     return 0;
 }

@@ -535,6 +535,20 @@ def first_by_bounds(tree, valued):
     return next((c for c in tree.kids[0] if low[c] == low[0]), 0)
 
 
+def one_line(table, tree, move, proof):
+    """The best line: a path to a leaf by nodes of the root's value, exactly those in both trees of the proof of SSS*."""
+    line = array("H", (UNLISTED,) * (tree.n + 1))
+    r = o.best_line(table, line)
+    nodes, value = list(line[:r.length]), tree.minimax()
+    same("line: the list behind it", list(line[r.length:]), [UNLISTED] * (tree.n + 1 - r.length))
+    same("line: a path to a leaf", [tree.parent[k] for k in nodes], [None] + nodes[:-1])
+    same("line: its end", list(tree.kids[nodes[-1]]), [])
+    same("line: values", {value[k] for k in nodes}, {r.value})
+    same("line: both trees", sorted(nodes), [k for k in range(tree.n) if proof[k] == 3])
+    same("line: the move", (r.value, r.move, nodes[1] if nodes[1:] else 0), (value[0], move, move))
+    same("line: a list one entry short", o.best_line(table, line[:tree.n - 1]), (10, 0))
+
+
 def one_tree(rng, table, literal, pairs):
     tree = o.Tree(table)
     n = tree.n
@@ -555,6 +569,7 @@ def one_tree(rng, table, literal, pairs):
     fewer = int(counts[1] < counts[0])
     same("N13: the shorter proof", o.shorter(table, a[2], s[2]), (fewer, bytes((a[2], s[2])[fewer])))
     same("N13: the only proof", o.shorter(table, b"", s[2]), (1, bytes(s[2])))
+    one_line(table, tree, s[0].move, s[2])
     p = run(o.plain_search, table)
     same("plain", (p[0].value, p[0].move, sum(p[1])), (value, a[0].move, len(tree.leaves())))
     same("plain marks the leaves", all(p[1][k] for k in tree.leaves()), True)

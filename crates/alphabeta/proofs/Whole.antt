@@ -2,14 +2,14 @@
 -- lists the leaves that Baudet's condition reaches.
 use Prim.Native.Nat.{ℕ, _≤_}
 use native.Mathlib.Omega.{arith}
-use mathlib.Core.Path.{_≡_, ap, _∙_}
+use mathlib.Core.Path.{_≡_, refl, ap, _∙_}
 use mathlib.Core.List.{List}
 use lib.ListN.{length}
 use lib.IntN.{ℤ}
 use Rattle.gametree.specs.Tree.{greatest, minimax}
 use Rattle.gametree.specs.Move.{rootMove}
 use Rattle.gametree.specs.AlphaBeta.{fullWindow}
-use Rattle.gametree_theory.proofs.Theorems.{value-score, alphaBeta-leaves, alphaBeta-minimax, search-deciding}
+use Rattle.gametree_theory.proofs.Theorems.{value-score, alphaBeta-leaves, alphaBeta-minimax}
 use Rattle.frames.specs.Frame.{frames}
 use Rattle.frames.specs.Tree.{tree, valuation}
 use Rattle.frames.specs.Formed.{WellFormed}
@@ -19,10 +19,12 @@ use Rattle.certificate_bounds.specs.Marks.{ones}
 use Rattle.certificate_bounds.specs.engine.Progress.{progress, evaluateAll}
 use Rattle.certificate_bounds.proofs.Listing.{first-evaluated}
 use Rattle.frames.specs.Value.{valueOf}
-use Rattle.certificate.specs.Search.{marksOf, findings, listed}
+use Rattle.certificate.specs.Search.{marksOf, listed}
 use Rattle.certificate.proofs.Outcomes.{search-marks}
-use Rattle.alphabeta.specs.Outcome.{reachedLeaves}
-use Rattle.alphabeta.proofs.Reached.{searched}
+use Rattle.methods.specs.declared.Method.the-variants.{AlphaBeta}
+use Rattle.methods.specs.Rules.{evaluatedBy}
+use Rattle.methods.specs.Outcome.{findingsBy}
+use Rattle.methods.proofs.Rules.{decides}
 
 module _ (t : List ℕ) (wf : WellFormed t) where
   module _ (s : ℕ) (d : s ≡ fullWindow (valuation t) (tree t) .value) where
@@ -41,15 +43,14 @@ module _ (t : List ℕ) (wf : WellFormed t) where
       → n ≡ ones e₂ (frames t)
       → frames t ≤ length o
       → v ≡ valueOf s
-      → (record { value = v; «root_move» = m; leaves = n } ≡ findings (reachedLeaves t) t)
-      × ((e₂ ≡ marksOf (reachedLeaves t) t e) × (o₂ ≡ listed (reachedLeaves t) o))
+      → (record { value = v; «root_move» = m; leaves = n; steps = 0 } ≡ findingsBy AlphaBeta t)
+      × ((e₂ ≡ marksOf (evaluatedBy AlphaBeta t) t e) × (o₂ ≡ listed (evaluatedBy AlphaBeta t) o))
   find-gives e e₁ e₂ o o₂ s n m v cleared found evaluated counted room value =
-      let w = reachedLeaves t in
+      let w = evaluatedBy AlphaBeta t in
       let g =
       first-evaluated n (frames t) e₁ e₂ o o₂ w
       (evaluated ∙ ap (evaluateAll (progress 0 e₁ o)) (alphaBeta-leaves (valuation t) (tree t))) counted room in
-      let d = search-deciding (valuation t) (tree t) (tree-proper t wf) (searched t) in
       let x : v ≡ valueOf (minimax (valuation t) (tree t)) = value ∙ ap valueOf (run-score s (found .0)) in
       let y = found .1 in
       let z = g .0 in
-      (cc, (search-marks t wf w d e e₁ e₂ cleared (g .1 .0), g .1 .1))
+      (cc, (search-marks t wf w (decides t wf AlphaBeta refl) e e₁ e₂ cleared (g .1 .0), g .1 .1))

@@ -1,21 +1,16 @@
-// Alpha-beta over a byte table: the public search, and the pass over the root's children.
+// Alpha-beta over a byte table: the pass over the root's children, and what it finds.
 use alphabeta_visits::alpha_beta;
 use alphabeta_visits::visit_leaf;
-use certificate::Findings;
-use certificate::ask;
-use certificate::lesser;
-use certificate::write_certificate;
 use certificate_bounds::clear;
-use frames::Checked;
 use frames::GREATEST;
 use frames::LEAST;
-use frames::Rejection;
 use frames::child_count;
 use frames::child_position;
 use frames::frame_count;
 use frames::value;
 use gametree::Position;
 use gametree::Side;
+use methods::Findings;
 ghost use mathlib.Core.Path.{_≡_};
 ghost use Prim.Native.Nat.{_≤_};
 ghost use lib.ListN.{length};
@@ -25,63 +20,23 @@ ghost use Rattle.frames.specs.Frame.{frames};
 ghost use Rattle.frames.specs.Formed.{WellFormed};
 ghost use Rattle.frames.specs.Position.{rootPosition};
 ghost use Rattle.frames.specs.Tree.{tree, valuation};
-ghost use Rattle.frames.specs.Rejection.{_leaving_};
 ghost use Rattle.certificate_bounds.specs.Marks.{ones};
 ghost use Rattle.certificate_bounds.specs.engine.Progress.{progress, evaluateAll, Listable};
 ghost use Rattle.certificate.specs.engine.Searchable.{Searchable};
-ghost use Rattle.certificate.specs.Search.{marksOf, flagsOf, findings, buffers, listed};
-ghost use Rattle.alphabeta.specs.Outcome.{reachedLeaves, alphaBetaOutcome};
+ghost use Rattle.certificate.specs.Search.{marksOf, listed};
+ghost use Rattle.methods.specs.declared.Method.the-variants.{AlphaBeta};
+ghost use Rattle.methods.specs.Rules.{evaluatedBy};
+ghost use Rattle.methods.specs.Outcome.{findingsBy};
 
-// The answer of a call: what was found, or the first question that got a "no".
-pub enum AlphaBetaAnswer {
-    Found(Findings),
-    Rejected(Rejection),
-}
-
-// Alpha-beta of the whole tree: questions 1 to 10, then the value, the root move and the count of evaluated leaves; the
-// marks of these leaves and the certificate (01: the proof) go into the buffers, and the leaves' numbers into the list.
-pub fn search(
-    table: &[u8],
-    evaluated: &mut [u8],
-    certificate: &mut [u8],
-    order: &mut [u16],
-) -> AlphaBetaAnswer
-    ensures { λ r. ⌜ r leaving buffers (now (evaluated .exit)) (now (certificate .exit)) leaving now (order .exit)
-        ≡ alphaBetaOutcome (now (table .entry)) (buffers (now (evaluated .entry)) (now (certificate .entry)))
-        (now (order .entry)) ⌝ }
-{
-    let shortest = lesser(lesser(evaluated.len(), certificate.len()), order.len());
-    match ask(table, shortest) {
-        Checked::Nodes(_) => AlphaBetaAnswer::Found(run(table, evaluated, certificate, order)),
-        Checked::Rejected(rejection) => AlphaBetaAnswer::Rejected(rejection),
-    }
-}
-
-// The search of an accepted table, into buffers with an entry per node.
-fn run(table: &[u8], evaluated: &mut [u8], certificate: &mut [u8], order: &mut [u16]) -> Findings
-    requires { ⌜ WellFormed (now table) ⌝ }
-    requires { ⌜ (frames (now table) ≤ length (now evaluated)) × (frames (now table) ≤ length (now certificate)) ⌝ }
-    requires { ⌜ frames (now table) ≤ length (now order) ⌝ }
-    ensures { λ r. ⌜ r ≡ findings (reachedLeaves (now (table .entry))) (now (table .entry)) ⌝ }
-    ensures { λ _. ⌜ now (evaluated .exit)
-        ≡ marksOf (reachedLeaves (now (table .entry))) (now (table .entry)) (now (evaluated .entry)) ⌝ }
-    ensures { λ _. ⌜ now (certificate .exit)
-        ≡ flagsOf (reachedLeaves (now (table .entry))) (now (table .entry)) (now (certificate .entry)) ⌝ }
-    ensures { λ _. ⌜ now (order .exit) ≡ listed (reachedLeaves (now (table .entry))) (now (order .entry)) ⌝ }
-{
-    let findings = find(table, evaluated, order);
-    write_certificate(table, evaluated, certificate);
-    findings
-}
-
-// The same without a certificate, for callers that have checked the table.
+// What alpha-beta finds in a table that was checked: the marks of the evaluated leaves go into the buffer, and their
+// numbers into the list.
 pub fn find(table: &[u8], evaluated: &mut [u8], order: &mut [u16]) -> Findings
     requires { ⌜ WellFormed (now table) ⌝ }
     requires { ⌜ (frames (now table) ≤ length (now evaluated)) × (frames (now table) ≤ length (now order)) ⌝ }
-    ensures { λ r. ⌜ r ≡ findings (reachedLeaves (now (table .entry))) (now (table .entry)) ⌝ }
+    ensures { λ r. ⌜ r ≡ findingsBy AlphaBeta (now (table .entry)) ⌝ }
     ensures { λ _. ⌜ now (evaluated .exit)
-        ≡ marksOf (reachedLeaves (now (table .entry))) (now (table .entry)) (now (evaluated .entry)) ⌝ }
-    ensures { λ _. ⌜ now (order .exit) ≡ listed (reachedLeaves (now (table .entry))) (now (order .entry)) ⌝ }
+        ≡ marksOf (evaluatedBy AlphaBeta (now (table .entry))) (now (table .entry)) (now (evaluated .entry)) ⌝ }
+    ensures { λ _. ⌜ now (order .exit) ≡ listed (evaluatedBy AlphaBeta (now (table .entry))) (now (order .entry)) ⌝ }
 {
     clear(evaluated, frame_count(table));
     let visit = visit_root(table, evaluated, order);
@@ -90,6 +45,7 @@ pub fn find(table: &[u8], evaluated: &mut [u8], order: &mut [u16]) -> Findings
         value,
         root_move: visit.root_move,
         leaves: visit.leaves,
+        steps: 0,
     }
 }
 

@@ -1,2 +1,2 @@
 -- Why the exported calls give what they do.
-mod Listing
+mod Handing

@@ -1,5 +1,5 @@
 use Prim.Native.Nat.{ℕ}
 
--- the version of the library: 1.1.0
+-- the version of the library: 2.0.0
 abbrev pub version : ℕ
-version = 10100
+version = 20000

@@ -6,23 +6,24 @@ use buulset_answers::Choice;
 use buulset_answers::Line;
 use buulset_answers::Text;
 use buulset_answers::no_children;
-use buulset_flat::flat_alphabeta;
+use buulset_flat::flat_answer;
+use buulset_flat::flat_best_line;
 use buulset_flat::flat_checked;
 use buulset_flat::flat_choice;
 use buulset_flat::flat_filled;
 use buulset_flat::flat_least;
 use buulset_flat::flat_least_value;
 use buulset_flat::flat_line;
-use buulset_flat::flat_mtd;
-use buulset_flat::flat_mtdf;
 use buulset_flat::flat_plain;
-use buulset_flat::flat_sss;
+use buulset_flat::flat_printed;
 use buulset_flat::flat_text;
 use buulset_flat::flat_verdict;
 use buulset_flat::flat_written;
 use frames::FRAME_SIZE;
 use frames::Rejection;
+use search::Method;
 ghost use mathlib.Core.Path.{_≡_};
+ghost use mathlib.Core.List.{[]};
 ghost use lib.ListN.{length};
 ghost use Rattle.frames.specs.Rejection.{_leaving_};
 ghost use Rattle.frames.specs.Check.{checked};
@@ -33,12 +34,10 @@ ghost use Rattle.file_reader.specs.File.{readOutcome};
 ghost use Rattle.file_writer.specs.Write.{writeOutcome};
 ghost use Rattle.convert.specs.Convert.{convertOutcome};
 ghost use Rattle.convert.specs.Printed.{outputOutcome};
-ghost use Rattle.certificate.specs.Search.{buffers};
-ghost use Rattle.alphabeta.specs.Outcome.{alphaBetaOutcome};
+ghost use Rattle.methods.specs.declared.Method.the-variants.{AlphaBeta, Mtd, MtdFrom, Sss};
+ghost use Rattle.methods.specs.Outcome.{lent, searchOutcome};
 ghost use Rattle.plain.specs.Outcome.{plainOutcome};
-ghost use Rattle.mtd.specs.Outcome.{mtdOutcome};
-ghost use Rattle.mtdf.specs.Outcome.{mtdfOutcome};
-ghost use Rattle.sss.specs.Outcome.{solveOutcome};
+ghost use Rattle.best_line.specs.Line.{lineOutcome};
 ghost use Rattle.verify.specs.Check.{verdict};
 ghost use Rattle.shorter.specs.Choice.{choice, chosenFlags};
 ghost use Rattle.graft.specs.Outcome.{graftOutcome};
@@ -47,16 +46,15 @@ ghost use Rattle.worstfill.specs.Outcome.{fillOutcome};
 ghost use Rattle.leastcount.specs.Answer.{leastAnswer};
 ghost use Rattle.report.specs.Report.{report};
 ghost use Rattle.text.specs.Text.{refusedLine, textOf};
-ghost use Rattle.buulset_flat.specs.Flat.{flatChecked, flatWritten, flatFilled, flatAlphaBeta, flatPlain, flatMtd};
-ghost use Rattle.buulset_flat.specs.Flat.{flatMtdf};
-ghost use Rattle.buulset_flat.specs.Flat.{flatSss, flatVerdict, flatLeastValue, flatLeast, flatChoice, flatLine};
-ghost use Rattle.buulset_flat.specs.Flat.{flatText};
+ghost use Rattle.buulset_flat.specs.Flat.{flatChecked, flatWritten, flatPrinted, flatAnswer, flatPlain, flatFilled};
+ghost use Rattle.buulset_flat.specs.Flat.{flatVerdict, flatLeastValue, flatLeast, flatChoice, flatLine, flatText};
+ghost use Rattle.buulset_flat.specs.Flat.{flatBestLine};
 ghost use Rattle.buulset.specs.Version.{version};
 ghost use Rattle.buulset.specs.Children.{flatChildren, partOf};
-ghost use Rattle.buulset.specs.Outcome.{flatBy, flatListed};
+ghost use Rattle.buulset.specs.Outcome.{flatBy};
 
 // The version of these declarations, as 10,000 times the major, plus 100 times the minor, plus the patch number.
-const VERSION: u32 = 10100;
+const VERSION: u32 = 20000;
 
 // The version of the library.
 #[no_mangle]
@@ -110,13 +108,14 @@ pub extern "C" fn buulset_convert(file: &[u8], converted: &mut [u8]) -> Answer
     flat_written(convert::convert(file, converted))
 }
 
-// `convert::output`: what `capitals` prints for the file in the buffer; `count` is its length in bytes.
+// `convert::output`: what `capitals` prints for the file in the buffer; `count` is its length in bytes. Where it is the
+// line of a refusal, that refusal is the answer's.
 #[no_mangle]
 pub extern "C" fn buulset_capitals(file: &[u8], printed: &mut [u8]) -> Answer
     ensures { λ r. ⌜ r leaving now (printed .exit)
-        ≡ flatBy flatWritten (outputOutcome (now (file .entry)) (now (printed .entry))) ⌝ }
+        ≡ flatBy flatPrinted (outputOutcome (now (file .entry)) (now (printed .entry))) ⌝ }
 {
-    flat_written(convert::output(file, printed))
+    flat_printed(convert::output(file, printed))
 }
 
 // `tables::check`: `count` is the number of nodes.
@@ -143,7 +142,7 @@ pub extern "C" fn buulset_children(table: &[u8], node: usize) -> Children
     }
 }
 
-// `alphabeta::search`: value, root move, leaves.
+// `search::search` by alpha-beta: `count` is the number of evaluated leaves.
 #[no_mangle]
 pub extern "C" fn buulset_alphabeta(
     table: &[u8],
@@ -151,11 +150,77 @@ pub extern "C" fn buulset_alphabeta(
     certificate: &mut [u8],
     order: &mut [u16],
 ) -> Answer
-    ensures { λ r. ⌜ r leaving buffers (now (evaluated .exit)) (now (certificate .exit)) leaving now (order .exit)
-        ≡ flatListed flatAlphaBeta (alphaBetaOutcome (now (table .entry))
-        (buffers (now (evaluated .entry)) (now (certificate .entry))) (now (order .entry))) ⌝ }
+    ensures { λ r. ⌜ r leaving lent (now (evaluated .exit)) (now (certificate .exit)) (now (order .exit))
+        ≡ flatBy flatAnswer (searchOutcome AlphaBeta (now (table .entry))
+        (lent (now (evaluated .entry)) (now (certificate .entry)) (now (order .entry)))) ⌝ }
 {
-    flat_alphabeta(alphabeta::search(table, evaluated, certificate, order))
+    let method = Method::AlphaBeta;
+    flat_search(method, table, evaluated, certificate, order)
+}
+
+// `search::search` by MTD; `steps` are its passes.
+#[no_mangle]
+pub extern "C" fn buulset_mtd(
+    table: &[u8],
+    evaluated: &mut [u8],
+    certificate: &mut [u8],
+    order: &mut [u16],
+) -> Answer
+    ensures { λ r. ⌜ r leaving lent (now (evaluated .exit)) (now (certificate .exit)) (now (order .exit))
+        ≡ flatBy flatAnswer (searchOutcome Mtd (now (table .entry))
+        (lent (now (evaluated .entry)) (now (certificate .entry)) (now (order .entry)))) ⌝ }
+{
+    let method = Method::Mtd;
+    flat_search(method, table, evaluated, certificate, order)
+}
+
+// `search::search` by MTD(f) from the value `start`; `steps` are its tests of the root.
+#[no_mangle]
+pub extern "C" fn buulset_mtdf(
+    table: &[u8],
+    start: i32,
+    evaluated: &mut [u8],
+    certificate: &mut [u8],
+    order: &mut [u16],
+) -> Answer
+    ensures { λ r. ⌜ r leaving lent (now (evaluated .exit)) (now (certificate .exit)) (now (order .exit))
+        ≡ flatBy flatAnswer (searchOutcome (MtdFrom start) (now (table .entry))
+        (lent (now (evaluated .entry)) (now (certificate .entry)) (now (order .entry)))) ⌝ }
+{
+    let method = Method::MtdFrom(start);
+    flat_search(method, table, evaluated, certificate, order)
+}
+
+// `search::search` by SSS*; `steps` are its replacements. Where the allowance is spent, `value` is the merit.
+#[no_mangle]
+pub extern "C" fn buulset_sss(
+    table: &[u8],
+    evaluated: &mut [u8],
+    certificate: &mut [u8],
+    order: &mut [u16],
+    allowance: usize,
+) -> Answer
+    ensures { λ r. ⌜ r leaving lent (now (evaluated .exit)) (now (certificate .exit)) (now (order .exit))
+        ≡ flatBy flatAnswer (searchOutcome (Sss allowance) (now (table .entry))
+        (lent (now (evaluated .entry)) (now (certificate .entry)) (now (order .entry)))) ⌝ }
+{
+    let method = Method::Sss(allowance);
+    flat_search(method, table, evaluated, certificate, order)
+}
+
+// The search by a method, with its answer made flat.
+fn flat_search(
+    method: Method,
+    table: &[u8],
+    evaluated: &mut [u8],
+    certificate: &mut [u8],
+    order: &mut [u16],
+) -> Answer
+    ensures { λ r. ⌜ r leaving lent (now (evaluated .exit)) (now (certificate .exit)) (now (order .exit))
+        ≡ flatBy flatAnswer (searchOutcome method (now (table .entry))
+        (lent (now (evaluated .entry)) (now (certificate .entry)) (now (order .entry)))) ⌝ }
+{
+    flat_answer(search::search(method, table, evaluated, certificate, order))
 }
 
 // `plain::search`: value, root move.
@@ -165,59 +230,21 @@ pub extern "C" fn buulset_plain(
     evaluated: &mut [u8],
     certificate: &mut [u8],
 ) -> Answer
-    ensures { λ r. ⌜ r leaving buffers (now (evaluated .exit)) (now (certificate .exit))
+    ensures { λ r. ⌜ r leaving lent (now (evaluated .exit)) (now (certificate .exit)) []
         ≡ flatBy flatPlain (plainOutcome (now (table .entry))
-        (buffers (now (evaluated .entry)) (now (certificate .entry)))) ⌝ }
+        (lent (now (evaluated .entry)) (now (certificate .entry)) [])) ⌝ }
 {
     flat_plain(plain::search(table, evaluated, certificate))
 }
 
-// `mtd::search`: value, root move, leaves; `steps` are its passes.
+// `best_line::line`: value, root move, and in `count` the number of nodes of the best line, which stand at the list's
+// front, the root first.
 #[no_mangle]
-pub extern "C" fn buulset_mtd(
-    table: &[u8],
-    evaluated: &mut [u8],
-    certificate: &mut [u8],
-    order: &mut [u16],
-) -> Answer
-    ensures { λ r. ⌜ r leaving buffers (now (evaluated .exit)) (now (certificate .exit)) leaving now (order .exit)
-        ≡ flatListed flatMtd (mtdOutcome (now (table .entry))
-        (buffers (now (evaluated .entry)) (now (certificate .entry))) (now (order .entry))) ⌝ }
+pub extern "C" fn buulset_line(table: &[u8], line: &mut [u16]) -> Answer
+    ensures { λ r. ⌜ r leaving now (line .exit)
+        ≡ flatBy flatBestLine (lineOutcome (now (table .entry)) (now (line .entry))) ⌝ }
 {
-    flat_mtd(mtd::search(table, evaluated, certificate, order))
-}
-
-// `mtdf::search` from the value `start`: value, root move, leaves; `steps` are its tests of the root.
-#[no_mangle]
-pub extern "C" fn buulset_mtdf(
-    table: &[u8],
-    start: i32,
-    evaluated: &mut [u8],
-    certificate: &mut [u8],
-    order: &mut [u16],
-) -> Answer
-    ensures { λ r. ⌜ r leaving buffers (now (evaluated .exit)) (now (certificate .exit)) leaving now (order .exit)
-        ≡ flatListed flatMtdf (mtdfOutcome start (now (table .entry))
-        (buffers (now (evaluated .entry)) (now (certificate .entry))) (now (order .entry))) ⌝ }
-{
-    flat_mtdf(mtdf::search(table, start, evaluated, certificate, order))
-}
-
-// `sss::solve`: value, root move, leaves; `steps` are its replacements. Where the allowance is spent: merit, leaves,
-// steps.
-#[no_mangle]
-pub extern "C" fn buulset_sss(
-    table: &[u8],
-    evaluated: &mut [u8],
-    certificate: &mut [u8],
-    order: &mut [u16],
-    allowance: usize,
-) -> Answer
-    ensures { λ r. ⌜ r leaving buffers (now (evaluated .exit)) (now (certificate .exit)) leaving now (order .exit)
-        ≡ flatListed flatSss (solveOutcome allowance (now (table .entry))
-        (buffers (now (evaluated .entry)) (now (certificate .entry))) (now (order .entry))) ⌝ }
-{
-    flat_sss(sss::solve(table, evaluated, certificate, order, allowance))
+    flat_best_line(best_line::line(table, line))
 }
 
 // `verify::check`: `value` is what the certificate certifies.
@@ -260,7 +287,7 @@ pub extern "C" fn buulset_least_value(table: &[u8], node: usize, wanted: i32) ->
     flat_least_value(leastvalue::least_value(table, node, wanted))
 }
 
-// `worstfill::fill`: the ranks in the table; leaves.
+// `worstfill::fill`: the ranks in the table; `count` is the number of leaves.
 #[no_mangle]
 pub extern "C" fn buulset_fill(table: &mut [u8]) -> Answer
     ensures { λ r. ⌜ r leaving now (table .exit) ≡ flatBy flatFilled (fillOutcome (now (table .entry))) ⌝ }
@@ -268,7 +295,7 @@ pub extern "C" fn buulset_fill(table: &mut [u8]) -> Answer
     flat_filled(worstfill::fill(table))
 }
 
-// `leastcount::least_leaves`: leaves.
+// `leastcount::least_leaves`: `count` is the number of leaves.
 #[no_mangle]
 pub extern "C" fn buulset_least_leaves(width: usize, depth: usize) -> Answer
     ensures { λ r. ⌜ r ≡ flatLeast (leastAnswer width depth) ⌝ }

@@ -6,58 +6,73 @@ use lib.ListN.{replicate}
 use Rattle.frames.specs.declared.Rejection.{Rejection}
 use Rattle.file_lines.specs.declared.Frame.{Frame}
 use Rattle.file_lines.specs.declared.Cursor.{Cursor}
-use Rattle.certificate.specs.declared.Findings.{Findings}
+use Rattle.methods.specs.declared.Findings.{Findings}
+use Rattle.methods.specs.declared.Spent.{Spent}
 use Rattle.plain.specs.declared.PlainResult.{PlainResult}
+use Rattle.best_line.specs.declared.LineFound.{LineFound}
 use Rattle.buulset_answers.specs.declared.Answer.{Answer}
 use Rattle.buulset_answers.specs.declared.Choice.{Choice}
 use Rattle.buulset_answers.specs.declared.Children.{Children}
 use Rattle.buulset_answers.specs.declared.Line.{Line}
 
--- a result with its value, count, root move, leaves and steps
-abbrev pub result : ℤ → (count move leaves steps : ℕ) → Answer
-result v n m l s =
+-- a result with its value, count, root move and steps
+abbrev pub result : ℤ → (count move steps : ℕ) → Answer
+result v n m s =
     record {
       refused = 0;
       spent = 0;
       value = v;
-      merit = pos 0;
       place = 0;
       count = n;
       «root_move» = m;
-      leaves = l;
       steps = s;
     }
 
--- a count, a number of leaves, a value, what a search finds in so many steps
+-- a count, a value, what a search finds, what the plain engine finds
 abbrev pub counted : ℕ → Answer
-counted n = result (pos 0) n 0 0 0
-
-abbrev pub leavesOf : ℕ → Answer
-leavesOf l = result (pos 0) 0 0 l 0
+counted n = result (pos 0) n 0 0
 
 abbrev pub valued : ℤ → Answer
-valued v = result v 0 0 0 0
+valued v = result v 0 0 0
 
-abbrev pub found : Findings → ℕ → Answer
-found f s = result (f .value) 0 (f .«root_move») (f .leaves) s
+abbrev pub found : Findings → Answer
+found f = result (f .value) (f .leaves) (f .«root_move») (f .steps)
 
 abbrev pub moved : PlainResult → Answer
-moved f = result (f .value) 0 (f .«root_move») 0 0
+moved f = result (f .value) 0 (f .«root_move») 0
 
--- a rejection
-abbrev pub refused : Rejection → Answer
-refused r =
+-- the best line, whose length is the count
+abbrev pub lined : LineFound → Answer
+lined f = result (f .value) (f .length) (f .«root_move») 0
+
+-- that an allowance is spent: the merit stands where the value would
+abbrev pub spent : Spent → Answer
+spent s =
+    record {
+      refused = 0;
+      spent = 1;
+      value = s .merit;
+      place = 0;
+      count = s .leaves;
+      «root_move» = 0;
+      steps = s .steps;
+    }
+
+-- a rejection whose line has n bytes and was laid down; and one without a line
+abbrev pub laidLine : Rejection → ℕ → Answer
+laidLine r n =
     record {
       refused = r .number;
       spent = 0;
       value = pos 0;
-      merit = pos 0;
       place = r .place;
-      count = 0;
+      count = n;
       «root_move» = 0;
-      leaves = 0;
       steps = 0;
     }
+
+abbrev pub refused : Rejection → Answer
+refused r = laidLine r 0
 
 -- which of two certificates, 1 or 2, and how many flags it has; or neither
 abbrev pub chosen : (which count : ℕ) → Choice

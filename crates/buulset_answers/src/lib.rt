@@ -1,16 +1,18 @@
 // The answers of the library for other languages: structs of numbers with the layout of C, and how each kind of answer
 // is made. Every member of an answer that is not given is 0.
-use certificate::Findings;
+use best_line::LineFound;
 use file_lines::Cursor;
 use file_lines::Frame;
 use frames::FRAME_SIZE;
 use frames::Rejection;
+use methods::Findings;
+use methods::Spent;
 use plain::PlainResult;
 use text::TEXT_SIZE;
 ghost use mathlib.Core.Path.{_≡_};
-ghost use Rattle.buulset_answers.specs.Answers.{counted as countedOf, leavesOf, valued as valuedOf};
-ghost use Rattle.buulset_answers.specs.Answers.{found as foundOf};
-ghost use Rattle.buulset_answers.specs.Answers.{moved as movedOf, refused as refusedOf};
+ghost use Rattle.buulset_answers.specs.Answers.{result as resultOf, counted as countedOf, valued as valuedOf};
+ghost use Rattle.buulset_answers.specs.Answers.{found as foundOf, moved as movedOf, spent as spentOf};
+ghost use Rattle.buulset_answers.specs.Answers.{lined as linedOf, refused as refusedOf, laidLine as laidLineOf};
 ghost use Rattle.buulset_answers.specs.Answers.{chosen as chosenOf, noChoice as noChoiceOf, noChildren};
 ghost use Rattle.buulset_answers.specs.Answers.{readLine as readOf, noLine as noLineOf};
 
@@ -19,15 +21,14 @@ ghost use Rattle.buulset_answers.specs.Answers.{readLine as readOf, noLi
 #[repr(C)]
 pub struct Answer {
     pub refused: u8,
-    // 1 where its allowance ended the run of SSS*; then `merit` is given, and no value
+    // 1 where its allowance ended the run of SSS*
     pub spent: u8,
-    pub value: i16,
-    pub merit: i32,
+    // the value; of a spent allowance the merit: the root's value is at most this
+    pub value: i32,
     pub place: usize,
-    // nodes, or bytes of a file
+    // what the call counts: nodes, bytes of a file, evaluated leaves, or nodes of the best line
     pub count: usize,
     pub root_move: usize,
-    pub leaves: usize,
     // passes of MTD, tests of MTD(f), replacements of SSS*
     pub steps: usize,
 }
@@ -63,88 +64,68 @@ pub struct Text {
     pub length: usize,
 }
 
+// A result as an answer.
+fn result(value: i16, count: usize, root_move: usize, steps: usize) -> Answer
+    ensures { λ r. ⌜ r ≡ resultOf value count «root_move» steps ⌝ }
+{
+    Answer {
+        refused: 0,
+        spent: 0,
+        value: value as i32,
+        place: 0,
+        count,
+        root_move,
+        steps,
+    }
+}
+
 // A count as an answer.
 pub fn counted(count: usize) -> Answer
     ensures { λ r. ⌜ r ≡ countedOf count ⌝ }
 {
-    Answer {
-        refused: 0,
-        spent: 0,
-        value: 0,
-        merit: 0,
-        place: 0,
-        count,
-        root_move: 0,
-        leaves: 0,
-        steps: 0,
-    }
-}
-
-// A number of leaves as an answer.
-pub fn with_leaves(leaves: usize) -> Answer
-    ensures { λ r. ⌜ r ≡ leavesOf leaves ⌝ }
-{
-    Answer {
-        refused: 0,
-        spent: 0,
-        value: 0,
-        merit: 0,
-        place: 0,
-        count: 0,
-        root_move: 0,
-        leaves,
-        steps: 0,
-    }
+    result(0, count, 0, 0)
 }
 
 // A value as an answer.
 pub fn valued(value: i16) -> Answer
     ensures { λ r. ⌜ r ≡ valuedOf value ⌝ }
 {
-    Answer {
-        refused: 0,
-        spent: 0,
-        value,
-        merit: 0,
-        place: 0,
-        count: 0,
-        root_move: 0,
-        leaves: 0,
-        steps: 0,
-    }
+    result(value, 0, 0, 0)
 }
 
-// What a search finds, with its passes or replacements, as an answer.
-pub fn found(f: Findings, steps: usize) -> Answer
-    ensures { λ r. ⌜ r ≡ foundOf f steps ⌝ }
+// What a search finds as an answer.
+pub fn found(f: Findings) -> Answer
+    ensures { λ r. ⌜ r ≡ foundOf f ⌝ }
 {
-    Answer {
-        refused: 0,
-        spent: 0,
-        value: f.value,
-        merit: 0,
-        place: 0,
-        count: 0,
-        root_move: f.root_move,
-        leaves: f.leaves,
-        steps,
-    }
+    result(f.value, f.leaves, f.root_move, f.steps)
+}
+
+// The best line as an answer: its length is the count.
+pub fn lined(f: LineFound) -> Answer
+    ensures { λ r. ⌜ r ≡ linedOf f ⌝ }
+{
+    result(f.value, f.length, f.root_move, 0)
 }
 
 // What the plain engine finds as an answer.
 pub fn moved(f: PlainResult) -> Answer
     ensures { λ r. ⌜ r ≡ movedOf f ⌝ }
 {
+    result(f.value, 0, f.root_move, 0)
+}
+
+// That an allowance is spent as an answer.
+pub fn spent(s: Spent) -> Answer
+    ensures { λ r. ⌜ r ≡ spentOf s ⌝ }
+{
     Answer {
         refused: 0,
-        spent: 0,
-        value: f.value,
-        merit: 0,
+        spent: 1,
+        value: s.merit,
         place: 0,
-        count: 0,
-        root_move: f.root_move,
-        leaves: 0,
-        steps: 0,
+        count: s.leaves,
+        root_move: 0,
+        steps: s.steps,
     }
 }
 
@@ -156,11 +137,24 @@ pub fn refused(rejection: Rejection) -> Answer
         refused: rejection.number,
         spent: 0,
         value: 0,
-        merit: 0,
         place: rejection.place,
         count: 0,
         root_move: 0,
-        leaves: 0,
+        steps: 0,
+    }
+}
+
+// A rejection whose line was laid down, with the length of the line.
+pub fn laid_line(rejection: Rejection, length: usize) -> Answer
+    ensures { λ r. ⌜ r ≡ laidLineOf rejection length ⌝ }
+{
+    Answer {
+        refused: rejection.number,
+        spent: 0,
+        value: 0,
+        place: rejection.place,
+        count: length,
+        root_move: 0,
         steps: 0,
     }
 }

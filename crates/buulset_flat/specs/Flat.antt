@@ -1,17 +1,14 @@
 -- What each call gives back, as an answer of numbers.
 use Prim.Native.Nat.{ℕ}
-use lib.IntN.{pos}
 use Rattle.frames.specs.declared.Checked.{Checked}
 use Rattle.frames.specs.declared.Checked.the-variants as checked
 use Rattle.file_lines.specs.declared.Line as lines
 use Rattle.file_writer.specs.declared.Written.{Written}
 use Rattle.file_writer.specs.declared.Written.the-variants as written
-use Rattle.alphabeta.specs.declared.AlphaBetaAnswer as alphabeta
+use Rattle.convert.specs.declared.Printed as printed
+use Rattle.methods.specs.declared.Answer as search
 use Rattle.plain.specs.declared.PlainAnswer as plain
-use Rattle.mtd.specs.declared.MtdAnswer as mtd
-use Rattle.mtdf.specs.declared.MtdfAnswer as mtdf
-use Rattle.sss.specs.declared.SssAnswer as sss
-use Rattle.sss.specs.declared.Spent.{Spent}
+use Rattle.best_line.specs.declared.LineAnswer as best_line
 use Rattle.verify.specs.declared.Verdict as verify
 use Rattle.shorter.specs.declared.Choice as shorter
 use Rattle.leastvalue.specs.declared.LeastValue as leastvalue
@@ -22,7 +19,7 @@ use Rattle.buulset_answers.specs.declared.Answer.{Answer}
 use Rattle.buulset_answers.specs.declared.Choice.{Choice}
 use Rattle.buulset_answers.specs.declared.Line.{Line}
 use Rattle.buulset_answers.specs.declared.Text.{Text}
-use Rattle.buulset_answers.specs.Answers.{counted, leavesOf, valued, found, moved, refused, chosen, noChoice}
+use Rattle.buulset_answers.specs.Answers.{counted, valued, found, lined, moved, spent, refused, laidLine, chosen, noChoice}
 use Rattle.buulset_answers.specs.Answers.{readLine, noLine}
 
 unfoldable pub flatChecked : Checked → Answer
@@ -33,41 +30,26 @@ unfoldable pub flatWritten : Written → Answer
 flatWritten (written.Length n) = counted n
 flatWritten (written.Rejected r) = refused r
 
-unfoldable pub flatAlphaBeta : alphabeta.AlphaBetaAnswer → Answer
-flatAlphaBeta (alphabeta.the-variants.Found f) = found f 0
-flatAlphaBeta (alphabeta.the-variants.Rejected r) = refused r
+-- the converted file, or a refusal whose line is laid down; 10 where there is no room for it
+unfoldable pub flatPrinted : printed.Printed → Answer
+flatPrinted (printed.the-variants.File n) = counted n
+flatPrinted (printed.the-variants.Line r n) = laidLine r n
+flatPrinted printed.the-variants.NoRoom = refused (record { number = 10; place = 0 })
+
+-- a search by any method
+unfoldable pub flatAnswer : search.Answer → Answer
+flatAnswer (search.the-variants.Found f) = found f
+flatAnswer (search.the-variants.Spent s) = spent s
+flatAnswer (search.the-variants.Rejected r) = refused r
+
+-- the best line
+unfoldable pub flatBestLine : best_line.LineAnswer → Answer
+flatBestLine (best_line.the-variants.Found f) = lined f
+flatBestLine (best_line.the-variants.Rejected r) = refused r
 
 unfoldable pub flatPlain : plain.PlainAnswer → Answer
 flatPlain (plain.the-variants.Found f) = moved f
 flatPlain (plain.the-variants.Rejected r) = refused r
-
-unfoldable pub flatMtd : mtd.MtdAnswer → Answer
-flatMtd (mtd.the-variants.Found f) = found (f .findings) (f .passes)
-flatMtd (mtd.the-variants.Rejected r) = refused r
-
-unfoldable pub flatMtdf : mtdf.MtdfAnswer → Answer
-flatMtdf (mtdf.the-variants.Found f) = found (f .findings) (f .tests)
-flatMtdf (mtdf.the-variants.Rejected r) = refused r
-
--- that an allowance is spent, with its merit
-abbrev pub spent : Spent → Answer
-spent s =
-    record {
-      refused = 0;
-      spent = 1;
-      value = pos 0;
-      merit = s .merit;
-      place = 0;
-      count = 0;
-      «root_move» = 0;
-      leaves = s .leaves;
-      steps = s .replacements;
-    }
-
-unfoldable pub flatSss : sss.SssAnswer → Answer
-flatSss (sss.the-variants.Found f) = found (f .findings) (f .replacements)
-flatSss (sss.the-variants.Spent s) = spent s
-flatSss (sss.the-variants.Rejected r) = refused r
 
 unfoldable pub flatVerdict : verify.Verdict → Answer
 flatVerdict (verify.the-variants.Value v) = valued v
@@ -78,11 +60,11 @@ flatLeastValue (leastvalue.the-variants.Value v) = valued v
 flatLeastValue (leastvalue.the-variants.Rejected r) = refused r
 
 unfoldable pub flatFilled : worstfill.Filled → Answer
-flatFilled (worstfill.the-variants.Leaves l) = leavesOf l
+flatFilled (worstfill.the-variants.Leaves l) = counted l
 flatFilled (worstfill.the-variants.Rejected r) = refused r
 
 unfoldable pub flatLeast : leastcount.Least → Answer
-flatLeast (leastcount.the-variants.Leaves l) = leavesOf l
+flatLeast (leastcount.the-variants.Leaves l) = counted l
 flatLeast (leastcount.the-variants.Rejected r) = refused r
 
 unfoldable pub flatChoice : shorter.Choice → ℕ → Choice

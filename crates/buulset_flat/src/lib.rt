@@ -1,4 +1,5 @@
 // What each call gives back, as an answer of numbers.
+use best_line::LineAnswer;
 use buulset_answers::Answer;
 use buulset_answers::Choice;
 use buulset_answers::Line;
@@ -6,21 +7,24 @@ use buulset_answers::Text;
 use buulset_answers::chosen;
 use buulset_answers::counted;
 use buulset_answers::found;
+use buulset_answers::laid_line;
+use buulset_answers::lined;
 use buulset_answers::moved;
 use buulset_answers::no_choice;
 use buulset_answers::no_line;
 use buulset_answers::read;
 use buulset_answers::refused;
+use buulset_answers::spent;
 use buulset_answers::valued;
-use buulset_answers::with_leaves;
+use convert::Printed;
 use file_writer::Written;
 use frames::Checked;
-use sss::Spent;
+use frames::Rejection;
+use frames::SHORT_BUFFER;
 ghost use mathlib.Core.Path.{_≡_};
-ghost use Rattle.buulset_flat.specs.Flat.{flatChecked, flatWritten, flatAlphaBeta, flatPlain, flatMtd, flatMtdf};
-ghost use Rattle.buulset_flat.specs.Flat.{spent as spentOf, flatSss};
+ghost use Rattle.buulset_flat.specs.Flat.{flatChecked, flatWritten, flatPrinted, flatAnswer, flatPlain};
 ghost use Rattle.buulset_flat.specs.Flat.{flatVerdict, flatLeastValue, flatFilled, flatLeast, flatChoice};
-ghost use Rattle.buulset_flat.specs.Flat.{flatLine, flatText};
+ghost use Rattle.buulset_flat.specs.Flat.{flatLine, flatText, flatBestLine};
 
 // The answer of a check, flat.
 pub fn flat_checked(answer: Checked) -> Answer
@@ -42,13 +46,38 @@ pub fn flat_written(answer: Written) -> Answer
     }
 }
 
-// That of alpha-beta, flat.
-pub fn flat_alphabeta(answer: alphabeta::AlphaBetaAnswer) -> Answer
-    ensures { λ r. ⌜ r ≡ flatAlphaBeta answer ⌝ }
+// That of the program that converts, flat. Without room for what is printed the number is 10, and nothing is laid down.
+pub fn flat_printed(answer: Printed) -> Answer
+    ensures { λ r. ⌜ r ≡ flatPrinted answer ⌝ }
 {
     match answer {
-        alphabeta::AlphaBetaAnswer::Found(f) => found(f, 0),
-        alphabeta::AlphaBetaAnswer::Rejected(rejection) => refused(rejection),
+        Printed::File(length) => counted(length),
+        Printed::Line(rejection, length) => laid_line(rejection, length),
+        Printed::NoRoom => refused(Rejection {
+            number: SHORT_BUFFER,
+            place: 0,
+        }),
+    }
+}
+
+// That of a search, flat.
+pub fn flat_answer(answer: methods::Answer) -> Answer
+    ensures { λ r. ⌜ r ≡ flatAnswer answer ⌝ }
+{
+    match answer {
+        methods::Answer::Found(f) => found(f),
+        methods::Answer::Spent(s) => spent(s),
+        methods::Answer::Rejected(rejection) => refused(rejection),
+    }
+}
+
+// That of the best line, flat.
+pub fn flat_best_line(answer: LineAnswer) -> Answer
+    ensures { λ r. ⌜ r ≡ flatBestLine answer ⌝ }
+{
+    match answer {
+        LineAnswer::Found(f) => lined(f),
+        LineAnswer::Rejected(rejection) => refused(rejection),
     }
 }
 
@@ -59,63 +88,6 @@ pub fn flat_plain(answer: plain::PlainAnswer) -> Answer
     match answer {
         plain::PlainAnswer::Found(f) => moved(f),
         plain::PlainAnswer::Rejected(rejection) => refused(rejection),
-    }
-}
-
-// That of MTD, flat.
-pub fn flat_mtd(answer: mtd::MtdAnswer) -> Answer
-    ensures { λ r. ⌜ r ≡ flatMtd answer ⌝ }
-{
-    match answer {
-        mtd::MtdAnswer::Found(f) => {
-            let findings = f.findings;
-            found(findings, f.passes)
-        },
-        mtd::MtdAnswer::Rejected(rejection) => refused(rejection),
-    }
-}
-
-// That of MTD(f), flat.
-pub fn flat_mtdf(answer: mtdf::MtdfAnswer) -> Answer
-    ensures { λ r. ⌜ r ≡ flatMtdf answer ⌝ }
-{
-    match answer {
-        mtdf::MtdfAnswer::Found(f) => {
-            let findings = f.findings;
-            found(findings, f.tests)
-        },
-        mtdf::MtdfAnswer::Rejected(rejection) => refused(rejection),
-    }
-}
-
-// That of SSS*, flat.
-pub fn flat_sss(answer: sss::SssAnswer) -> Answer
-    ensures { λ r. ⌜ r ≡ flatSss answer ⌝ }
-{
-    match answer {
-        sss::SssAnswer::Found(f) => {
-            let findings = f.findings;
-            found(findings, f.replacements)
-        },
-        sss::SssAnswer::Spent(s) => spent(s),
-        sss::SssAnswer::Rejected(rejection) => refused(rejection),
-    }
-}
-
-// That an allowance is spent as an answer.
-fn spent(s: Spent) -> Answer
-    ensures { λ r. ⌜ r ≡ spentOf s ⌝ }
-{
-    Answer {
-        refused: 0,
-        spent: 1,
-        value: 0,
-        merit: s.merit,
-        place: 0,
-        count: 0,
-        root_move: 0,
-        leaves: s.leaves,
-        steps: s.replacements,
     }
 }
 
@@ -155,7 +127,7 @@ pub fn flat_filled(answer: worstfill::Filled) -> Answer
     ensures { λ r. ⌜ r ≡ flatFilled answer ⌝ }
 {
     match answer {
-        worstfill::Filled::Leaves(leaves) => with_leaves(leaves),
+        worstfill::Filled::Leaves(leaves) => counted(leaves),
         worstfill::Filled::Rejected(rejection) => refused(rejection),
     }
 }
@@ -165,7 +137,7 @@ pub fn flat_least(answer: leastcount::Least) -> Answer
     ensures { λ r. ⌜ r ≡ flatLeast answer ⌝ }
 {
     match answer {
-        leastcount::Least::Leaves(leaves) => with_leaves(leaves as usize),
+        leastcount::Least::Leaves(leaves) => counted(leaves as usize),
         leastcount::Least::Rejected(rejection) => refused(rejection),
     }
 }

@@ -1,6 +1,6 @@
 // The program: reads a tree file from standard input, lifts its letters a to f to capitals, and writes its tree's file
 // to standard output, or, where the file is still refused, the line of the refusal.
-use file_writer::length_given;
+use convert::length_printed;
 use input::Input;
 use libc::STDERR_FILENO;
 use libc::STDOUT_FILENO;
@@ -19,8 +19,8 @@ fn main() {
 // The converted file, or the refusal; there is room for either.
 fn print_converted(file: &[u8]) {
     let mut text = [0u8; MAX_FILE];
-    let written = convert::output(file, &mut text);
-    let end = length_given(written);
+    let printed = convert::output(file, &mut text);
+    let end = length_printed(printed);
     io::write_all(STDOUT_FILENO, &text[..end]);
 }
 

@@ -1,46 +1,24 @@
--- What each method leaves in what it is lent.
+-- What each engine leaves of what it is lent.
 use Prim.Native.Nat.{ℕ}
 use mathlib.Core.Path.{_≡_, ap}
-use mathlib.Core.List.{List}
-use lib.IntN.{ℤ}
+use mathlib.Core.List.{List, []}
 use Rattle.frames.specs.Rejection.{Outcome}
-use Rattle.certificate.specs.Search.{Buffers, buffers, SearchOutcome}
-use Rattle.alphabeta.specs.declared.AlphaBetaAnswer as ab
-use Rattle.alphabeta.specs.Outcome.{alphaBetaOutcome}
-use Rattle.mtd.specs.declared.MtdAnswer as mtd
-use Rattle.mtd.specs.Outcome.{mtdOutcome}
-use Rattle.mtdf.specs.declared.MtdfAnswer as mtdf
-use Rattle.mtdf.specs.Outcome.{mtdfOutcome}
-use Rattle.sss.specs.declared.SssAnswer as sss
-use Rattle.sss.specs.Outcome.{solveOutcome}
-use Rattle.plain.specs.declared.PlainAnswer as plain
+use Rattle.methods.specs.declared.Method.{Method}
+use Rattle.methods.specs.declared.Answer.{Answer}
+use Rattle.methods.specs.Outcome.{Lent, lent, searchOutcome}
+use Rattle.plain.specs.declared.PlainAnswer.{PlainAnswer}
 use Rattle.plain.specs.Outcome.{plainOutcome}
-use Rattle.cases_searches.specs.declared.Method.{Method}
-use Rattle.cases_searches.specs.declared.Method.the-variants.{AlphaBeta, Mtd, Mtdf, Sss, Plain}
-use Rattle.cases_searches.specs.Lent.{lentTo, listedTo, lentAfter}
+use Rattle.cases_searches.specs.declared.Engine.{Engine}
+use Rattle.cases_searches.specs.declared.Engine.the-variants.{By, Plain}
+use Rattle.cases_searches.specs.Lent.{leftBy}
 
-module _ (m : Method) (t e c o : List ℕ) where
-  pub by-alphabeta : (r : SearchOutcome ab.AlphaBetaAnswer) → m ≡ AlphaBeta → r ≡ alphaBetaOutcome t (buffers e c) o
-      → listedTo r ≡ lentAfter m t e c o
-  unfolding lentAfter
-  by-alphabeta r k h = rw k (ap listedTo h)
+module _ (e : Engine) (t : List ℕ) (l : Lent) where
+  pub by-method : (m : Method) (r : Outcome Answer Lent) → e ≡ By m → r ≡ searchOutcome m t l
+      → r .left ≡ leftBy e t l
+  unfolding leftBy
+  by-method m r k h = rw k (ap (λ o. o .left) h)
 
-  pub by-mtd : (r : SearchOutcome mtd.MtdAnswer) → m ≡ Mtd → r ≡ mtdOutcome t (buffers e c) o
-      → listedTo r ≡ lentAfter m t e c o
-  unfolding lentAfter
-  by-mtd r k h = rw k (ap listedTo h)
-
-  pub by-mtdf : (v : ℤ) (r : SearchOutcome mtdf.MtdfAnswer) → m ≡ Mtdf v → r ≡ mtdfOutcome v t (buffers e c) o
-      → listedTo r ≡ lentAfter m t e c o
-  unfolding lentAfter
-  by-mtdf v r k h = rw k (ap listedTo h)
-
-  pub by-sss : (a : ℕ) (r : SearchOutcome sss.SssAnswer) → m ≡ Sss a → r ≡ solveOutcome a t (buffers e c) o
-      → listedTo r ≡ lentAfter m t e c o
-  unfolding lentAfter
-  by-sss a r k h = rw k (ap listedTo h)
-
-  pub by-plain : (r : Outcome plain.PlainAnswer Buffers) → m ≡ Plain → r ≡ plainOutcome t (buffers e c)
-      → lentTo (r .left) o ≡ lentAfter m t e c o
-  unfolding lentAfter
-  by-plain r k h = rw k (ap (λ s. lentTo (s .left) o) h)
+  pub by-plain : (r : Outcome PlainAnswer Lent) → e ≡ Plain → r ≡ plainOutcome t (lent (l .marks) (l .flags) [])
+      → lent (r .left .marks) (r .left .flags) (l .order) ≡ leftBy e t l
+  unfolding leftBy
+  by-plain r k h = rw k (ap (λ o. lent (o .left .marks) (o .left .flags) (l .order)) h)

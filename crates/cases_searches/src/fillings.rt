@@ -1,4 +1,5 @@
 // The worst-case filling of a table, and what it costs.
+use crate::found::print_found;
 use cases_tables::answers::print_rejection;
 use cases_tables::tables::TABLE_SIZE;
 use cases_tables::tables::read_table;
@@ -7,6 +8,7 @@ use cases_text::print::print_count;
 use cases_text::print::print_line_feed;
 use frames::MAX_NODES;
 use libc::STDOUT_FILENO;
+use search::Method;
 use worstfill::Filled;
 ghost use mathlib.Core.Path.{_≡_};
 ghost use Rattle.worstfill.specs.Outcome.{fillOutcome};
@@ -32,15 +34,13 @@ fn print_filled(table: &mut [u8])
     print_cost(table);
 }
 
-// How many leaves alpha-beta evaluates.
+// What alpha-beta finds in it.
 fn print_cost(table: &[u8]) {
     let mut evaluated = [0u8; MAX_NODES];
     let mut certificate = [0u8; MAX_NODES];
     let mut order = [0u16; MAX_NODES];
+    let method = Method::AlphaBeta;
     io::write_all(STDOUT_FILENO, b"ab");
-    match alphabeta::search(table, &mut evaluated, &mut certificate, &mut order) {
-        alphabeta::AlphaBetaAnswer::Found(findings) => print_count(findings.leaves),
-        alphabeta::AlphaBetaAnswer::Rejected(rejection) => print_rejection(rejection),
-    }
+    print_found(search::search(method, table, &mut evaluated, &mut certificate, &mut order));
     print_line_feed();
 }

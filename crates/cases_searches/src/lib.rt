@@ -12,17 +12,17 @@ use cases_tables::tables::read_table;
 use cases_text::print::print_bytes;
 use cases_text::print::print_line_feed;
 use cases_text::print::print_numbers;
-use found::print_alphabeta;
-use found::print_mtd;
-use found::print_mtdf;
+use found::print_found;
+use found::print_name;
 use found::print_plain;
-use found::print_sss;
 use frames::MAX_NODES;
+use search::Method;
 ghost use mathlib.Core.Path.{_≡_};
 ghost use Prim.Native.Nat.{min};
 ghost use lib.ListN.{length};
 ghost use Rattle.io.specs.Counts.{Counts};
-ghost use Rattle.cases_searches.specs.Lent.{lentBuffers, lentAfter, lentList, lentFlags};
+ghost use Rattle.methods.specs.Outcome.{lent};
+ghost use Rattle.cases_searches.specs.Lent.{leftBy, lentList, lentFlags};
 
 // What lent lists are filled with: it is no node's number.
 const UNLISTED: u16 = 43690;
@@ -38,26 +38,16 @@ pub fn print_searches(file: &[u8], marks: u32, flags: u32, entries: u32) {
 pub fn print_allowed(file: &[u8], allowance: u32, marks: u32, flags: u32, entries: u32) {
     let mut table = [0u8; TABLE_SIZE];
     let size = read_table(file, &mut table);
-    print_search(
-        Method::Sss(allowance as usize),
-        &table[..size],
-        marks,
-        flags,
-        entries,
-    );
+    let method = Method::Sss(allowance as usize);
+    print_search(Engine::By(method), &table[..size], marks, flags, entries);
 }
 
 // MTD(f) from the value `plus` less `minus`, with buffers and a list of these lengths.
 pub fn print_started(file: &[u8], plus: u32, minus: u32, marks: u32, flags: u32, entries: u32) {
     let mut table = [0u8; TABLE_SIZE];
     let size = read_table(file, &mut table);
-    print_search(
-        Method::Mtdf(difference(plus, minus)),
-        &table[..size],
-        marks,
-        flags,
-        entries,
-    );
+    let method = Method::MtdFrom(difference(plus, minus));
+    print_search(Engine::By(method), &table[..size], marks, flags, entries);
 }
 
 // The calls that check a table, on so many bytes of it and with empty buffers: zeros follow the frames of the file.
@@ -76,55 +66,58 @@ fn print_checks_of(table: &[u8]) {
 
 // The three searches, and the plain engine, which fills no list.
 fn print_all(table: &[u8], marks: u32, flags: u32, entries: u32) {
-    print_search(Method::AlphaBeta, table, marks, flags, entries);
-    print_search(Method::Mtd, table, marks, flags, entries);
-    print_search(Method::Sss(MAX_NODES), table, marks, flags, entries);
-    print_search(Method::Plain, table, marks, flags, 0);
+    print_search(Engine::By(Method::AlphaBeta), table, marks, flags, entries);
+    print_search(Engine::By(Method::Mtd), table, marks, flags, entries);
+    print_search(
+        Engine::By(Method::Sss(MAX_NODES)),
+        table,
+        marks,
+        flags,
+        entries,
+    );
+    print_search(Engine::Plain, table, marks, flags, 0);
 }
 
-// The searches; MTD(f) has a starting value, SSS* an allowance of leaves.
-enum Method {
-    AlphaBeta,
-    Mtd,
-    Mtdf(i32),
-    Sss(usize),
+// What searches: `search` by a method, or the plain engine.
+enum Engine {
+    By(Method),
     Plain,
 }
 
 // A search with parts of filled buffers and of a filled list.
-fn print_search(method: Method, table: &[u8], marks: u32, flags: u32, entries: u32) {
+fn print_search(engine: Engine, table: &[u8], marks: u32, flags: u32, entries: u32) {
     let mut evaluated = [FILLED; MAX_NODES];
     let end = fitted(marks as usize, &evaluated);
-    print_marked(method, table, &mut evaluated[..end], flags, entries);
+    print_marked(engine, table, &mut evaluated[..end], flags, entries);
 }
 
-fn print_marked(method: Method, table: &[u8], evaluated: &mut [u8], flags: u32, entries: u32)
+fn print_marked(engine: Engine, table: &[u8], evaluated: &mut [u8], flags: u32, entries: u32)
     ensures { λ _. ⌜ now (evaluated .exit)
-        ≡ lentAfter method (now (table .entry)) (now (evaluated .entry)) (lentFlags flags) (lentList entries)
-        .evaluated ⌝ }
+        ≡ leftBy engine (now (table .entry)) (lent (now (evaluated .entry)) (lentFlags flags) (lentList entries))
+        .marks ⌝ }
 {
     let mut certificate = [FILLED; MAX_NODES];
     let end = fitted(flags as usize, &certificate);
-    print_listed(method, table, evaluated, &mut certificate[..end], entries);
+    print_listed(engine, table, evaluated, &mut certificate[..end], entries);
 }
 
 fn print_listed(
-    method: Method,
+    engine: Engine,
     table: &[u8],
     evaluated: &mut [u8],
     certificate: &mut [u8],
     entries: u32,
 )
     ensures { λ _. ⌜ now (evaluated .exit)
-        ≡ lentAfter method (now (table .entry)) (now (evaluated .entry)) (now (certificate .entry)) (lentList entries)
-        .evaluated ⌝ }
+        ≡ leftBy engine (now (table .entry))
+        (lent (now (evaluated .entry)) (now (certificate .entry)) (lentList entries)) .marks ⌝ }
     ensures { λ _. ⌜ now (certificate .exit)
-        ≡ lentAfter method (now (table .entry)) (now (evaluated .entry)) (now (certificate .entry)) (lentList entries)
-        .certificate ⌝ }
+        ≡ leftBy engine (now (table .entry))
+        (lent (now (evaluated .entry)) (now (certificate .entry)) (lentList entries)) .flags ⌝ }
 {
     let mut order = [UNLISTED; MAX_NODES];
     let end = count_entries(entries, &order);
-    print_lent(method, table, evaluated, certificate, &mut order[..end]);
+    print_lent(engine, table, evaluated, certificate, &mut order[..end]);
 }
 
 // So many of a list's entries, at most all: `io::count` for a list of numbers.
@@ -142,17 +135,17 @@ fn count_entries(entries: u32, order: &[u16]) -> usize
 
 // What a search answers, the marks, the certificate, the list of leaves, and the verdict on the certificate.
 fn print_lent(
-    method: Method,
+    engine: Engine,
     table: &[u8],
     evaluated: &mut [u8],
     certificate: &mut [u8],
     order: &mut [u16],
 )
-    ensures { λ _. ⌜ lentBuffers (now (evaluated .exit)) (now (certificate .exit)) (now (order .exit))
-        ≡ lentAfter method (now (table .entry)) (now (evaluated .entry)) (now (certificate .entry))
-        (now (order .entry)) ⌝ }
+    ensures { λ _. ⌜ lent (now (evaluated .exit)) (now (certificate .exit)) (now (order .exit))
+        ≡ leftBy engine (now (table .entry))
+        (lent (now (evaluated .entry)) (now (certificate .entry)) (now (order .entry))) ⌝ }
 {
-    print_answer(method, table, evaluated, certificate, order);
+    print_answer(engine, table, evaluated, certificate, order);
     print_line_feed();
     print_bytes(b"evaluated", evaluated);
     print_bytes(b"certificate", certificate);
@@ -162,27 +155,21 @@ fn print_lent(
 
 // Each arm returns, so that no branches meet behind the calls that write.
 fn print_answer(
-    method: Method,
+    engine: Engine,
     table: &[u8],
     evaluated: &mut [u8],
     certificate: &mut [u8],
     order: &mut [u16],
 )
-    ensures { λ _. ⌜ lentBuffers (now (evaluated .exit)) (now (certificate .exit)) (now (order .exit))
-        ≡ lentAfter method (now (table .entry)) (now (evaluated .entry)) (now (certificate .entry))
-        (now (order .entry)) ⌝ }
+    ensures { λ _. ⌜ lent (now (evaluated .exit)) (now (certificate .exit)) (now (order .exit))
+        ≡ leftBy engine (now (table .entry))
+        (lent (now (evaluated .entry)) (now (certificate .entry)) (now (order .entry))) ⌝ }
 {
-    match method {
-        Method::AlphaBeta => {
-            return print_alphabeta(alphabeta::search(table, evaluated, certificate, order));
+    print_name(engine);
+    match engine {
+        Engine::By(method) => {
+            return print_found(search::search(method, table, evaluated, certificate, order));
         }
-        Method::Mtd => return print_mtd(mtd::search(table, evaluated, certificate, order)),
-        Method::Mtdf(start) => {
-            return print_mtdf(mtdf::search(table, start, evaluated, certificate, order));
-        }
-        Method::Sss(allowance) => {
-            return print_sss(sss::solve(table, evaluated, certificate, order, allowance));
-        }
-        Method::Plain => return print_plain(plain::search(table, evaluated, certificate)),
+        Engine::Plain => return print_plain(plain::search(table, evaluated, certificate)),
     }
 }

@@ -8,6 +8,7 @@ use cases_text::print::print_byte;
 use cases_text::print::print_bytes;
 use cases_text::print::print_count;
 use cases_text::print::print_line_feed;
+use convert::Printed;
 use frames::MAX_NODES;
 use libc::STDOUT_FILENO;
 use treefile::Cursor;
@@ -45,7 +46,7 @@ fn print_written(table: &[u8], file: &mut [u8], size: u32)
     ensures { λ _. ⌜ now (file .exit) ≡ writeOutcome (now (table .entry)) (now (file .entry)) .left ⌝ }
 {
     let written = treefile::write(table, file);
-    print_length(b"write", written);
+    print_length(written);
     print_bytes(b"file", file);
     let end = fitted(file_writer::length_given(written), file);
     if 0 < end {
@@ -53,9 +54,9 @@ fn print_written(table: &[u8], file: &mut [u8], size: u32)
     }
 }
 
-// A word and the length that is given, or the rejection, as a line.
-fn print_length(word: &[u8], written: Written) {
-    io::write_all(STDOUT_FILENO, word);
+// The length that is given, or the rejection, as a line.
+fn print_length(written: Written) {
+    io::write_all(STDOUT_FILENO, b"write");
     match written {
         Written::Length(n) => print_count(n),
         Written::Rejected(rejection) => print_rejection(rejection),
@@ -80,8 +81,24 @@ pub fn print_output(file: &[u8], room: u32) {
 fn print_output_in(file: &[u8], buffer: &mut [u8])
     ensures { λ _. ⌜ now (buffer .exit) ≡ outputOutcome (now (file .entry)) (now (buffer .entry)) .left ⌝ }
 {
-    print_length(b"output", convert::output(file, buffer));
+    print_printed(convert::output(file, buffer));
     print_bytes(b"text", buffer);
+}
+
+// The length of what is printed; behind that of a refusal's line the refusal.
+fn print_printed(printed: Printed) {
+    io::write_all(STDOUT_FILENO, b"output");
+    match printed {
+        Printed::File(length) => print_count(length),
+        Printed::Line(rejection, length) => {
+            print_count(length);
+            print_rejection(rejection);
+        }
+        Printed::NoRoom => {
+            io::write_all(STDOUT_FILENO, b" no room");
+        }
+    }
+    print_line_feed();
 }
 
 // The reader with a table of this length, and what that holds afterwards.

@@ -13,11 +13,11 @@ use Rattle.frames.specs.declared.Checked.the-variants.{Nodes, Rejected}
 use Rattle.frames.specs.Frame.{frames}
 use Rattle.frames.specs.Tree.{tree, valuation}
 use Rattle.frames.specs.Formed.{WellFormed}
-use Rattle.frames.specs.Rejection.{unless, answer, _leaving_}
+use Rattle.frames.specs.Rejection.{unless, answer}
 use Rattle.frames.proofs.Asked.{answer-nodes, answer-rejected}
 use Rattle.positions.specs.Buffer.{written}
 use Rattle.certificate_bounds.specs.Marks.{marked, markAll}
-use Rattle.certificate.specs.Search.{searchRejection, marksOf, flagsOf, buffers}
+use Rattle.certificate.specs.Search.{searchRejection, marksOf, flagsOf}
 use Rattle.certificate_bounds.proofs.Marking.{marks-from-clear}
 use Rattle.certificate.proofs.Marks.{evaluated-within}
 use Rattle.certificate.proofs.Concluded.{concluded}
@@ -64,12 +64,3 @@ module _ {A : Type 0} (t lengths : List ℕ) (refused : Rejection → A) (given 
   rejecting r p =
       let z : questions ≡ some r = answer-rejected (frames t) r _ p in
       rw z
-
--- results that are alike part by part
-pub alike : {A : Type 0} {a a′ : A} {e e′ c c′ o o′ : List ℕ} → a ≡ a′ → e ≡ e′ → c ≡ c′ → o ≡ o′
-    → a leaving buffers e c leaving o ≡ a′ leaving buffers e′ c′ leaving o′
-alike p q r s = rw (p, q, r, s)
-
-pub both-alike : {A : Type 0} {a a′ : A} {e e′ c c′ : List ℕ} → a ≡ a′ → e ≡ e′ → c ≡ c′
-    → a leaving buffers e c ≡ a′ leaving buffers e′ c′
-both-alike p q r = rw (p, q, r)

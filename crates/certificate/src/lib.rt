@@ -2,17 +2,15 @@
 // root move.
 use certificate_bounds::fill_bounds;
 use certificate_flags::read_off;
-use certificate_flags::root_choice;
 use frames::Checked;
 use frames::MAX_NODES;
 use frames::SHORT_BUFFER;
-use frames::frame_count;
 use frames::rejected;
 use positions::fill;
 use tables::check;
 ghost use mathlib.Core.Path.{_≡_};
 ghost use mathlib.Core.List.{[], _∷_};
-ghost use Prim.Native.Nat.{_≤_, _<_, min};
+ghost use Prim.Native.Nat.{_≤_, min};
 ghost use lib.ListN.{length};
 ghost use Rattle.gametree.specs.Certificate.{flag};
 ghost use Rattle.gametree.specs.Move.{boundMove};
@@ -24,14 +22,6 @@ ghost use Rattle.positions.specs.Buffer.{written};
 ghost use Rattle.positions.specs.engine.Positions.{Positioned};
 ghost use Rattle.certificate_bounds.specs.Marks.{marked};
 ghost use Rattle.certificate.specs.Search.{searchRejection};
-
-// What every search finds: the minimax value, the first root move that reaches it (0 for a leaf), and how many leaves
-// were evaluated.
-pub struct Findings {
-    pub value: i16,
-    pub root_move: usize,
-    pub leaves: usize,
-}
 
 // Questions 1 to 10, where the shortest lent buffer has this length: the number of nodes, or the first rejection.
 pub fn ask(table: &[u8], shortest: usize) -> Checked
@@ -71,8 +61,7 @@ pub fn write_certificate(table: &[u8], evaluated: &mut [u8], certificate: &mut [
     write_certificate_at(table, &positions, evaluated, certificate)
 }
 
-// The same by positions that are filled already. A buffer with less than an entry per node is no place for a
-// certificate: a caller that wants the move alone lends an empty one.
+// The same by positions that are filled already.
 pub fn write_certificate_at(
     table: &[u8],
     positions: &[u32],
@@ -80,22 +69,16 @@ pub fn write_certificate_at(
     certificate: &mut [u8],
 ) -> usize
     requires { ⌜ (WellFormed (now table)) × (Positioned (now table) (now positions)) ⌝ }
-    requires { ⌜ frames (now table) ≤ length (now evaluated) ⌝ }
+    requires { ⌜ (frames (now table) ≤ length (now evaluated)) × (frames (now table) ≤ length (now certificate)) ⌝ }
     ensures { λ r. ⌜ r ≡ boundMove (valuation (now (table .entry))) (marked (now (evaluated .entry)))
         (tree (now (table .entry))) ⌝ }
-    ensures { λ _. ⌜ (frames (now (table .entry)) ≤ length (now (certificate .entry))
-        → now (certificate .exit)
+    ensures { λ _. ⌜ now (certificate .exit)
         ≡ written (flag (valuation (now (table .entry))) (marked (now (evaluated .entry))) (tree (now (table .entry))))
-        (frames (now (table .entry))) (now (certificate .entry))) ⌝ }
+        (frames (now (table .entry))) (now (certificate .entry)) ⌝ }
     ensures { λ _. ⌜ now (evaluated .exit) ≡ now (evaluated .entry) ⌝ }
-    ensures { λ _. ⌜ (length (now (certificate .entry)) < frames (now (table .entry))
-        → now (certificate .exit) ≡ now (certificate .entry)) ⌝ }
 {
     let mut lows = [0u32; MAX_NODES];
     let mut highs = [0u32; MAX_NODES];
     fill_bounds(table, positions, evaluated, &mut lows, &mut highs);
-    if certificate.len() < frame_count(table) {
-        return root_choice(table, positions, &lows, &highs);
-    }
     read_off(table, positions, &lows, &highs, certificate)
 }

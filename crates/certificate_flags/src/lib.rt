@@ -39,8 +39,8 @@ pub fn read_off(
     root_choice(table, positions, lows, highs)
 }
 
-// The root's chosen child alone.
-pub fn root_choice(table: &[u8], positions: &[u32], lows: &[u32], highs: &[u32]) -> usize
+// The root's chosen child.
+fn root_choice(table: &[u8], positions: &[u32], lows: &[u32], highs: &[u32]) -> usize
     requires { ⌜ WellFormed (now table) ⌝ }
     requires { ⌜ (frames (now table) ≤ length (now positions)) × (frames (now table) ≤ length (now lows))
         × (frames (now table) ≤ length (now highs)) ⌝ }

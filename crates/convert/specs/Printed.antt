@@ -1,25 +1,32 @@
 -- What the program that converts prints for a file: the converted file, or the line of the refusal.
 use Prim.Native.Nat.{ℕ}
-use mathlib.Core.List.{List}
+use mathlib.Core.Bool.{cond}
+use mathlib.Core.List.{List, _++_}
 use lib.Dec.{leb}
-use lib.ListN.{length}
-use Rattle.frames.specs.Rejection.{ask, unless, Outcome}
+use lib.ListN.{length, drop}
+use Rattle.frames.specs.Rejection.{unless, Outcome, _leaving_}
 use Rattle.file_lines.specs.Lines.{decoded}
 use Rattle.file_writer.specs.Encoded.{fileOf}
-use Rattle.file_writer.specs.declared.Written.{Written}
-use Rattle.file_writer.specs.Write.{atFront}
 use Rattle.text.specs.Text.{refusedLine}
+use Rattle.convert.specs.declared.Printed.{Printed}
+use Rattle.convert.specs.declared.Printed.the-variants.{File, Line, NoRoom}
 use Rattle.convert.specs.RaiseCase.{raised}
 use Rattle.convert.specs.Convert.{convertRejection}
 
--- what is printed for a file, where the buffer has so many bytes
-unfoldable pub printed : List ℕ → ℕ → List ℕ
-printed f room = unless (convertRejection f room) refusedLine (fileOf (decoded (raised f)))
+-- how many bytes are printed
+abbrev pub lengthPrinted : Printed → ℕ
+lengthPrinted (File n) = n
+lengthPrinted (Line r n) = n
+lengthPrinted NoRoom = 0
 
--- a text at the buffer's front, and 10 where it has no room for it
-unfoldable pub laidText : List ℕ → List ℕ → Outcome Written (List ℕ)
-laidText x buffer = atFront (ask (leb (length x) (length buffer)) 10 0) x buffer
+-- a text at the buffer's front, named with its length; where it has no room, the buffer as it was
+unfoldable pub laidText : (named : ℕ → Printed) (text buffer : List ℕ) → Outcome Printed (List ℕ)
+laidText named x buffer =
+    cond (leb (length x) (length buffer)) (named (length x) leaving (x ++ drop (length x) buffer))
+    (NoRoom leaving buffer)
 
 -- the outcome of a call with a file and a buffer
-abbrev pub outputOutcome : List ℕ → List ℕ → Outcome Written (List ℕ)
-outputOutcome f buffer = laidText (printed f (length buffer)) buffer
+abbrev pub outputOutcome : List ℕ → List ℕ → Outcome Printed (List ℕ)
+outputOutcome f buffer =
+    unless (convertRejection f (length buffer)) (λ r. laidText (Line r) (refusedLine r) buffer)
+    (laidText File (fileOf (decoded (raised f))) buffer)

@@ -9,7 +9,6 @@ use frames::Checked;
 use frames::FRAME_SIZE;
 use frames::MAX_TABLE;
 use frames::Rejection;
-use frames::SHORT_BUFFER;
 use tables::check_frames;
 ghost use mathlib.Core.Path.{_≡_};
 ghost use Prim.Native.Nat.{_≤_};
@@ -19,8 +18,17 @@ ghost use Rattle.text.specs.Text.{refusedLine};
 ghost use Rattle.file_reader.specs.File.{maxFile};
 ghost use Rattle.file_reader.specs.engine.Decoded.{Decoded, LongEnough};
 ghost use Rattle.convert.specs.Convert.{convertOutcome};
-ghost use Rattle.convert.specs.Printed.{laidText, outputOutcome};
+ghost use Rattle.convert.specs.declared.Printed.the-variants.{Line};
+ghost use Rattle.convert.specs.Printed.{lengthPrinted, laidText, outputOutcome};
 ghost use Rattle.convert.specs.results.Converted.{baseRejection};
+
+// What is printed for a file, with its length in bytes: the converted file, or the line of a refusal; or that there is
+// no room for it.
+pub enum Printed {
+    File(usize),
+    Line(Rejection, usize),
+    NoRoom,
+}
 
 // Lifts the letters a to f of a file to capitals, reads it, and writes its table's file: the length in bytes, or the
 // first rejection, and then the buffer is as it was.
@@ -51,32 +59,40 @@ fn convert_by(file: &[u8], table: &mut [u8], converted: &mut [u8]) -> Written
 }
 
 // What the program prints for a file, at the front of the lent buffer: the converted file, or the line of the refusal.
-// Gives its length in bytes; or 10 if there is no room for it, and then the buffer is as it was.
-pub fn output(file: &[u8], buffer: &mut [u8]) -> Written
+// If there is no room for it, the buffer is as it was.
+pub fn output(file: &[u8], buffer: &mut [u8]) -> Printed
     ensures { λ r. ⌜ r leaving now (buffer .exit) ≡ outputOutcome (now (file .entry)) (now (buffer .entry)) ⌝ }
 {
-    let answer = convert(file, buffer);
-    match answer {
-        Written::Length(_) => answer,
+    match convert(file, buffer) {
+        Written::Length(length) => Printed::File(length),
         Written::Rejected(rejection) => lay_refused(rejection, buffer),
     }
 }
 
 // The line of a refusal at the front of the buffer.
-fn lay_refused(rejection: Rejection, buffer: &mut [u8]) -> Written
-    ensures { λ r. ⌜ r leaving now (buffer .exit) ≡ laidText (refusedLine rejection) (now (buffer .entry)) ⌝ }
+fn lay_refused(rejection: Rejection, buffer: &mut [u8]) -> Printed
+    ensures { λ r. ⌜ r leaving now (buffer .exit)
+        ≡ laidText (Line rejection) (refusedLine rejection) (now (buffer .entry)) ⌝ }
 {
     let line = text::refused(rejection);
     let bytes = line.bytes;
     let length = line.length;
     if buffer.len() < length {
-        return Written::Rejected(Rejection {
-            number: SHORT_BUFFER,
-            place: 0,
-        });
+        return Printed::NoRoom;
     }
     bytes::copy(&bytes[..length], buffer);
-    Written::Length(length)
+    Printed::Line(rejection, length)
+}
+
+// How many bytes are printed.
+pub fn length_printed(printed: Printed) -> usize
+    ensures { λ r. ⌜ r ≡ lengthPrinted printed ⌝ }
+{
+    match printed {
+        Printed::File(length) => length,
+        Printed::Line(_, length) => length,
+        Printed::NoRoom => 0,
+    }
 }
 
 // Questions 1 to 9: the number of nodes, whose frames then stand at the table's front, or the first rejection.

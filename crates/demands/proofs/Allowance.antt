@@ -1,174 +1,134 @@
--- Request N6, sentence by sentence, said of `sss::search` as it runs; what `sss::solve` gives is the same (`own-list`
--- in Demand1). "Spent is given exactly when the full run needs more leaves than the allowance" and "That merit is never
--- below the root's value": `spent-exactly` and `merit-not-below` in Sentences. "Demand 2 and the proof and
--- smallest-pair wishes concern finished runs only": `EachSearch` speaks of calls that give a result, SSS* under
--- whatever allowance.
+-- Request N6, sentence by sentence, said of `search::search` by SSS* as it runs; of `sss::search` it holds too
+-- (`lent-list` in TheSentence). "Spent is given exactly when the full run needs more leaves than the allowance" and
+-- "That merit is never below the root's value": `spent-exactly` and `merit-not-below` in Sentences. "Demand 2 and the
+-- proof and smallest-pair wishes concern finished runs only": they speak of calls that give a result, SSS* within
+-- whatever allowance. "trees that agree on valued leaves also agree on spent answers under one allowance": `local` in
+-- Sentences.
 use Prim.Native.Nat.{ℕ, _≤_, _<_}
-use mathlib.Core.Path.{_≡_, sym, ap, ap₂, _∙_}
-use mathlib.Core.Bool.{true}
+use native.Mathlib.Omega.{arith}
+use mathlib.Core.Path.{_≡_, refl, sym, ap, ap₂, _∙_, subst}
+use mathlib.Core.List.{map}
 use lib.IntN.{pos}
 use lib.ListN.{length, take}
 use lib.Signed.{_≤ℤ_}
-use Rattle.lists.specs.Lists.{among}
-use Rattle.gametree.specs.Tree.{greatest}
-use Rattle.gametree_theory.proofs.Within as within
+use Rattle.gametree_theory.proofs.Within.{within-falls}
 use Rattle.frames.specs.Frame.{frames}
 use Rattle.frames.specs.Tree.{tree, valuation}
-use Rattle.frames.specs.Value.{valueOf}
 use Rattle.frames.specs.Check.{Accepted}
 use Rattle.frames.specs.Shape.{SameShape}
-use Rattle.frames.proofs.Acceptance.{accepted-formed}
 use Rattle.frames.proofs.Proper.{tree-proper}
+use Rattle.frames.proofs.Values.{value-order}
 use Rattle.certificate_bounds.specs.Marks.{ones}
-use Rattle.certificate.specs.Search.{marksOf, listed, buffers}
-use Rattle.alphabeta.specs.Outcome.{reachedLeaves}
-use Rattle.sss.proofs as sss
-use Rattle.sss.specs.declared.SssResult.{SssResult}
-use Rattle.sss.specs.declared.Spent.{Spent}
-use Rattle.sss.specs.declared.SssAnswer.the-variants as sss-answer
-use Rattle.sss.specs.Outcome.{runOf, sssLeaves}
-use Rattle.demands.specs.Runs.{Runs, RunBoth}
-use Rattle.demands.specs.Handed.{Room, Marked, AgreeOnMarked}
-use Rattle.demands.specs.Searches.{EachSpent}
+use Rattle.certificate.specs.Search.{marksOf, listed}
+use Rattle.methods.specs.declared.Method.the-variants.{Sss}
+use Rattle.methods.specs.declared.Findings.{Findings}
+use Rattle.methods.specs.declared.Spent.{Spent as Spending}
+use Rattle.methods.specs.declared.Answer.the-variants.{Found, Spent}
+use Rattle.methods.specs.Rules.{runOf, evaluatedBy, beyond}
+use Rattle.methods.specs.Outcome.{searchOutcome}
+use Rattle.demands.specs.Searches.{EverySearch, EveryTwo, Given, countOf}
+use Rattle.demands.specs.Handed.{Room, AgreeOnMarked, Alike}
 use Rattle.demands.specs.Allowance.{CutShort}
-use Rattle.demands.proofs.Contracts as contracts
-use Rattle.demands.proofs.Running.{follows, each-spent, sssCall}
-use Rattle.demands.proofs.Views.{sssBy, rooms-passed}
-use Rattle.demands.proofs.Spending.{run-is, more-left, spent-view}
+use Rattle.demands.proofs.Running.{every, every-two}
+use Rattle.demands.proofs.Views.{Stopped}
+use Rattle.demands.proofs.Views as views
+use Rattle.demands.proofs.Handed.{count-ones}
+use Rattle.demands.proofs.Local as locals
+use Rattle.demands.proofs.Listing.{first-of}
 use Rattle.demands.proofs.Allowed as calls
 
 -- "SSS* takes an allowance and answers with the value, or with "spent" and the merit of the state whose leaf it
--- couldn't value" (the value where the allowance is enough: `sss-gives` in Sentences): merit and counts are those of
--- the place where the full run was cut short
-pub cut-short : EachSpent (λ n t s _ _ _ _. CutShort t s)
-cut-short = each-spent _ (λ t s c. calls.cut-short c)
+-- couldn't value" (the value where the allowance is enough: `gives` in Sentences): merit and counts are those of the
+-- place where the full run was cut short
+pub cut-short : EverySearch (λ c. (p : Spending) → c .answer ≡ Spent p → CutShort (c .table) p)
+cut-short = every calls.cut-short
 
--- spent is given only where the full run needs more leaves, and the value only where it does not
-pub needs-more : EachSpent (λ n t s _ _ _ _. n < length (sssLeaves t))
-needs-more = each-spent _ (λ t s c. calls.needs-more c)
+-- spent is given only by SSS* and where the full run needs more leaves, and the value only where it does not
+pub needs-more : EverySearch (λ c. (p : Spending) → c .answer ≡ Spent p
+    → (n : ℕ) × (c .method ≡ Sss n) × (n < length (runOf (c .table) .evaluations)))
+needs-more = every (λ c s p e.
+    let n = calls.by-sss c s p e in (n .0, n .1, calls.needs-more c s p e (n .0) (n .1)))
 
-pub had-enough : Runs sss.search.ended sss.search.Symbol.routine
-    (λ κs (t, (_, (_, (_, (_, (n, _)))))) r e. (g : SssResult) → r ≡ sss-answer.Found g
-    → length (sssLeaves (t .now)) ≤ n)
-had-enough =
-    follows contracts.sss-search
-    (λ κs (t, (l, (m, (f, (o, (n, _)))))) r (_, (l′, (m′, (f′, (o′, _))))) c g e.
-    calls.had-enough (sssCall (t .now) (buffers (m .now) (f .now)) (o .now) n (l .now) (sss-answer.Found g)
-    (l′ .now) (buffers (m′ .now) (f′ .now)) (o′ .now) (rw e at c)))
+pub had-enough : EverySearch (λ c. (n : ℕ) → c .method ≡ Sss n → (g : Findings) → c .answer ≡ Found g
+    → length (runOf (c .table) .evaluations) ≤ n)
+had-enough = every (λ c s n i g e.
+    calls.none-more (c .table) n (ap (λ m. beyond m (c .table)) (sym i) ∙ views.nothing-beyond c s g e))
 
 -- "With allowance 0 the answer is spent with 32,001": whatever the tree, and so where the root is a leaf
-pub none-allowed : Runs sss.search.ended sss.search.Symbol.routine
-    (λ κs (t, (l, (m, (f, (o, (n, _)))))) r e. n ≡ 0 → Accepted (t .now) → Room (t .now) (buffers (m .now) (f .now))
-    → frames (t .now) ≤ length (o .now) → frames (t .now) ≤ length (l .now)
-    → (k : ℕ) × (r ≡ sss-answer.Spent (record { merit = pos 32001; leaves = 0; replacements = k })))
-none-allowed =
-    follows contracts.sss-search
-    (λ κs (t, (l, (m, (f, (o, (n, _)))))) r e s none a h long entries.
-    let wf = accepted-formed (t .now) a in
-    let p = tree-proper (t .now) wf in
-    let e = within.within-none (valuation (t .now)) (tree (t .now)) p .0 in
-    let i = within.within-spent (valuation (t .now)) (tree (t .now)) p 0 .0 (greatest, e) in
-    let x = more-left (t .now) 0 i in
-    let y = run-is (t .now) 0 (x .0) (x .1 .0) (x .1 .1) in
-    let γ : x .0 .merit ≡ greatest = cc (e, ap (λ r. r .end) y) in (
-      x .0 .replacements,
-      ap (λ x. x .answer .answer .answer) (rw none at s)
-          ∙ ap₂ (λ xs q. sssBy 0 (t .now) (l .now) (buffers (m .now) (f .now)) (o .now) xs q .answer .answer .answer)
-          (x .1 .1) (rooms-passed (t .now) (buffers (m .now) (f .now)) (o .now) a h long (l .now) entries)
-          ∙ ap (λ m. sss-answer.Spent (record { merit = valueOf m; leaves = 0; replacements = x .0 .replacements })) γ,
-    ))
+pub none-allowed : EverySearch (λ c. c .method ≡ Sss 0 → Accepted (c .table) → Room (c .table) (c .lent)
+    → (k : ℕ) × (c .answer ≡ Spent (record { merit = pos 32001; leaves = 0; steps = k })))
+none-allowed = every calls.none-allowed
 
 -- "and a larger allowance never raises it"
-pub merit-falls : RunBoth sss.search.ended sss.search.ended sss.search.Symbol.routine sss.search.Symbol.routine
-    (λ κs (t, (_, (_, (_, (_, (n, _)))))) r e κs′ (u, (_, (_, (_, (_, (k, _)))))) r′ e′. u .now ≡ t .now → n ≤ k
-    → (s : Spent) → r ≡ sss-answer.Spent s → (s′ : Spent) → r′ ≡ sss-answer.Spent s′ → s′ .merit ≤ℤ s .merit)
-merit-falls =
-    record {
-      one = _;
-      other = _;
-      oneRuns = contracts.sss-search;
-      otherRuns = contracts.sss-search;
-      both = λ κs (t, (l, (m, (f, (o, (n, _)))))) r (_, (l′, (m′, (f′, (o′, _))))) c.
-          λ κs′ (u, (w, (x, (y, (z, (k, _)))))) r′ (_, (w′, (x′, (y′, (z′, _))))) d same more s i s′ j.
-          calls.merit-falls
-          (sssCall (t .now) (buffers (m .now) (f .now)) (o .now) n (l .now) (sss-answer.Spent s) (l′ .now)
-          (buffers (m′ .now) (f′ .now)) (o′ .now) (rw i at c))
-          (sssCall (t .now) (buffers (x .now) (y .now)) (z .now) k (w .now) (sss-answer.Spent s′) (w′ .now)
-          (buffers (x′ .now) (y′ .now)) (z′ .now) (rw same at (rw j at d))) more;
-    }
+pub merit-falls : EveryTwo (λ c d. (n k : ℕ) → c .method ≡ Sss n → d .method ≡ Sss k → d .table ≡ c .table → n ≤ k
+    → (p q : Spending) → c .answer ≡ Spent p → d .answer ≡ Spent q → q .merit ≤ℤ p .merit)
+merit-falls = every-two (λ c d s z n k i j t l p q e f.
+    let wf = calls.spent-formed c s p e in
+    let v = calls.stopped-at c s p e n i in
+    let w = subst (λ u. Stopped (Sss k) u q) t (calls.stopped-at d z q f k j) in
+    rw (ap (λ x. x .merit) (v .gives), ap (λ x. x .merit) (w .gives))
+    (value-order _ _ (within-falls (valuation (c .table)) (tree (c .table)) (tree-proper (c .table) wf) n k
+    (v .next .merit) (w .next .merit) l (calls.end-is (c .table) wf n p v) (calls.end-is (c .table) wf k q w))))
 
 -- "A value once given is the same under every larger allowance": so is all that the call gives and leaves
-pub value-stays : RunBoth sss.search.ended sss.search.ended sss.search.Symbol.routine sss.search.Symbol.routine
-    (λ κs (t, (l, (m, (f, (o, (n, _)))))) r (_, (l′, (m′, (f′, (o′, _))))).
-    λ κs′ (u, (w, (x, (y, (z, (k, _)))))) r′ (_, (w′, (x′, (y′, (z′, _))))). u .now ≡ t .now → w .now ≡ l .now
-    → x .now ≡ m .now → y .now ≡ f .now → z .now ≡ o .now → n ≤ k → (g : SssResult) → r ≡ sss-answer.Found g
-    → (r′ ≡ r) × (w′ .now ≡ l′ .now) × (x′ .now ≡ m′ .now) × (y′ .now ≡ f′ .now) × (z′ .now ≡ o′ .now))
-value-stays =
-    record {
-      one = _;
-      other = _;
-      oneRuns = contracts.sss-search;
-      otherRuns = contracts.sss-search;
-      both = λ κs (t, (l, (m, (f, (o, (n, _)))))) r (_, (l′, (m′, (f′, (o′, _))))) c.
-          λ κs′ (u, (w, (x, (y, (z, (k, _)))))) r′ (_, (w′, (x′, (y′, (z′, _))))) d i₁ i₂ i₃ i₄ i₅ more g e.
-          let p = calls.value-stays
-          (sssCall (t .now) (buffers (m .now) (f .now)) (o .now) n (l .now) (sss-answer.Found g) (l′ .now)
-          (buffers (m′ .now) (f′ .now)) (o′ .now) (rw e at c)) k more in
-          let q = rw i₁ at (rw i₂ at (rw i₃ at (rw i₄ at (rw i₅ at d)))) in
-          let same = q ∙ sym p in (
-            ap (λ x. x .answer .answer .answer) same ∙ sym e,
-            ap (λ x. x .left) same,
-            ap (λ x. x .answer .answer .left .marks) same,
-            ap (λ x. x .answer .answer .left .flags) same,
-            ap (λ x. x .answer .left) same,
-          );
-    }
+pub value-stays : EveryTwo (λ c d. (n k : ℕ) → c .method ≡ Sss n → d .method ≡ Sss k → d .table ≡ c .table
+    → d .lent ≡ c .lent → n ≤ k → (g : Findings) → c .answer ≡ Found g
+    → (d .answer ≡ c .answer) × (d .left ≡ c .left))
+value-stays = every-two (λ c d s z n k i j t l h g e.
+    let b = ap (λ m. beyond m (c .table)) (sym i) ∙ views.nothing-beyond c s g e in
+    let more = calls.nothing-left (c .table) (Sss k) (λ m u.
+    let v : k ≡ m = cc in omega (arith, calls.none-more (c .table) n b)) in
+    let same = ap₂ (λ m t. searchOutcome m t (d .lent)) j t ∙ ap (searchOutcome (Sss k) (c .table)) l
+    ∙ calls.settled (c .table) (c .lent) n k b more ∙ sym (ap (λ m. searchOutcome m (c .table) (c .lent)) i) in
+    let o = z ∙ same ∙ sym s in
+    (ap (λ x. x .answer) o, ap (λ x. x .left) o))
 
 -- "Spent carries no move and the counts so far" (`cut-short`): the leaves are as many as are allowed, and as the marks
 -- at 1; the replacements are no more than those of the full run
-pub spent-counts : EachSpent (λ n t s _ _ d _. (s .leaves ≡ n) × (s .leaves ≡ ones (d .marks) (frames t))
-    × (s .replacements ≤ runOf t .replacements))
-spent-counts = each-spent _ (λ t s c. calls.spent-counts c)
+pub spent-counts : EverySearch (λ c. (n : ℕ) → c .method ≡ Sss n → (p : Spending) → c .answer ≡ Spent p
+    → (p .leaves ≡ n) × (p .leaves ≡ ones (c .left .marks) (frames (c .table)))
+    × (p .steps ≤ runOf (c .table) .replacements))
+spent-counts = every (λ c s n i p e.
+    let k = calls.counts-so-far c s p e n i in
+    (k .0, ap countOf (sym e) ∙ count-ones c s (views.spent-given c s p e), k .1))
 
 -- "it writes the marks so far": those of the first leaves of the full run, as many as are allowed; "and leaves the
--- proof buffer as found"; and "A stopped run under N6 gives the first leaves of the full run's list" (02, N14)
-pub first-leaves : EachSpent (λ n t s b o d p. (d .marks ≡ marksOf (take n (sssLeaves t)) t (b .marks))
-    × (d .flags ≡ b .flags) × (p ≡ listed (take n (sssLeaves t)) o))
-first-leaves = each-spent _ (λ t s c. let v = spent-view c in (v .marks, v .flags, v .order))
+-- proof buffer as found"
+pub first-leaves : EverySearch (λ c. (n : ℕ) → c .method ≡ Sss n → (p : Spending) → c .answer ≡ Spent p
+    → let first = take n (map (λ x. x .leaf) (runOf (c .table) .evaluations)) in
+    (c .left .marks ≡ marksOf first (c .table) (c .lent .marks)) × (c .left .flags ≡ c .lent .flags)
+    × (c .left .order ≡ listed first (c .lent .order)))
+first-leaves = every (λ c s n i p e.
+    let x = views.spent-given c s p e in (
+      views.marks c s x ∙ ap (λ m. marksOf (evaluatedBy m (c .table)) (c .table) (c .lent .marks)) i,
+      views.flags-kept c s p e,
+      views.order c s x ∙ ap (λ m. listed (evaluatedBy m (c .table)) (c .lent .order)) i,
+    ))
 
--- so each marked 1 is one that Baudet's condition reaches (and that alpha-beta marks: `no-leaf-passed-over`)
-pub spent-reached : EachSpent (λ n t s _ _ d _. (k : ℕ) → Marked t d k → among (reachedLeaves t) k ≡ true)
-spent-reached = each-spent _ (λ t s c. calls.spent-reached c)
+-- and "A stopped run under N6 gives the first leaves of the full run's list" (02, N14), as a run that is not stopped
+-- leaves it
+pub first-of-list : EveryTwo (λ c d. (n k : ℕ) → c .method ≡ Sss n → d .method ≡ Sss k → d .table ≡ c .table → Given c
+    → (g : Findings) → d .answer ≡ Found g
+    → take (countOf (c .answer)) (c .left .order) ≡ take (countOf (c .answer)) (d .left .order))
+first-of-list = every-two (λ c d s z n k i j t x g f.
+    let b = ap₂ beyond (sym j) (sym t) ∙ views.nothing-beyond d z g f in
+    first-of c d s z x (views.found-given d z g f) n
+    (ap (λ m. evaluatedBy m (c .table)) i
+    ∙ ap (take n) (sym (ap₂ evaluatedBy j t ∙ calls.all-leaves (c .table) k b))))
 
--- "trees that agree on valued leaves also agree on spent answers under one allowance": the answer is the same, and so
--- are the marks and the list of leaves; and where the first call finishes, so does the second, with the same result
-pub local-allowed : RunBoth sss.search.ended sss.search.ended sss.search.Symbol.routine sss.search.Symbol.routine
-    (λ κs (t, (_, (_, (_, (_, (n, _)))))) r (_, (_, (m, (f, (o, _))))).
-    λ κs′ (u, (w, (x, (y, (z, (k, _)))))) r′ (_, (_, (x′, (_, (z′, _))))). k ≡ n → Accepted (u .now)
-    → Room (u .now) (buffers (x .now) (y .now)) → frames (u .now) ≤ length (z .now)
-    → frames (u .now) ≤ length (w .now) → SameShape (t .now) (u .now)
-    → AgreeOnMarked (t .now) (u .now) (buffers (m .now) (f .now))
-    → ((g : SssResult) → r ≡ sss-answer.Found g → r′ ≡ r) × ((s : Spent) → r ≡ sss-answer.Spent s → (r′ ≡ r)
-    × (take (frames (t .now)) (x′ .now) ≡ take (frames (t .now)) (m .now))
-    × (take (s .leaves) (z′ .now) ≡ take (s .leaves) (o .now))))
-local-allowed =
-    record {
-      one = _;
-      other = _;
-      oneRuns = contracts.sss-search;
-      otherRuns = contracts.sss-search;
-      both = λ κs (t, (l, (m, (f, (o, (n, _)))))) r (_, (l′, (m′, (f′, (o′, _))))) c.
-          λ κs′ (u, (w, (x, (y, (z, (k, _)))))) r′ (_, (w′, (x′, (y′, (z′, _))))) d same a h long entries shape agree.
-          let e = sssCall (u .now) (buffers (x .now) (y .now)) (z .now) k (w .now) r′ (w′ .now)
-          (buffers (x′ .now) (y′ .now)) (z′ .now) d in (
-            λ g i. calls.finishes-too
-                (sssCall (t .now) (buffers (m .now) (f .now)) (o .now) n (l .now) (sss-answer.Found g) (l′ .now)
-                (buffers (m′ .now) (f′ .now)) (o′ .now) (rw i at c)) e same a h long entries shape agree
-                ∙ sym i,
-            λ s i.
-                let p = calls.local-spent
-                (sssCall (t .now) (buffers (m .now) (f .now)) (o .now) n (l .now) (sss-answer.Spent s) (l′ .now)
-                (buffers (m′ .now) (f′ .now)) (o′ .now) (rw i at c)) e same a h long entries shape agree in
-                (p .0 ∙ sym i, p .1, p .2),
-          );
-    }
+-- finished runs are alike on trees that agree on valued leaves, each within an allowance of its own (`local` in
+-- Sentences has them within one)
+pub local-finished : EveryTwo (λ c d. (n k : ℕ) → c .method ≡ Sss n → d .method ≡ Sss k → (g h : Findings)
+    → c .answer ≡ Found g → d .answer ≡ Found h → SameShape (c .table) (d .table)
+    → AgreeOnMarked (c .table) (d .table) (c .left)
+    → (g ≡ h) × Alike (frames (c .table)) (c .left) (d .left)
+    × (take (g .leaves) (c .left .order) ≡ take (h .leaves) (d .left .order)))
+local-finished = every-two (λ c d s z n k i j g h e f shape agree.
+    let x = views.found-given c s g e in
+    let y = views.found-given d z h f in
+    let u = calls.finishes c d s z n k i j g h e f shape agree in
+    let o = locals.orders-alike c (calls.asBy c d) s u refl x y shape agree in (
+      cc (locals.answers-alike c (calls.asBy c d) s u refl x y shape agree),
+      locals.buffers-alike c (calls.asBy c d) s u refl x y shape agree g e,
+      rw (e, f) at o,
+    ))

@@ -27,6 +27,7 @@ use Rattle.file_reader.proofs.FirstLine.{line-asked}
 use Rattle.file_writer.specs.Encoded.{fileOf}
 use Rattle.file_writer.specs.declared.Written.the-variants.{Length}
 use Rattle.treefile.proofs.RoundTrip.{written-length}
+use Rattle.convert.specs.declared.Printed.the-variants.{File, Line}
 use Rattle.convert.specs.RaiseCase.{raised}
 use Rattle.text.specs.Text.{refusedLine}
 use Rattle.convert.specs.Convert.{convertOutcome}
@@ -83,15 +84,17 @@ module _ (f : List ℕ) where
     -- base refused is the line of that refusal and nothing else, and for any other the file of its table
     pub printed-only : maxFile ≤ length buffer →
         let x = unless (baseRejection f) refusedLine (fileOf (decoded f)) in
-        outputOutcome f buffer ≡ Length (length x) leaving (x ++ drop (length x) buffer)
+        outputOutcome f buffer
+        ≡ unless (baseRejection f) (λ r. Line r (length x)) (File (length x)) leaving (x ++ drop (length x) buffer)
     printed-only room = by (baseRejection f) refl
       where
         by : (q : Option Rejection) → baseRejection f ≡ q →
             let x = unless q refusedLine (fileOf (decoded f)) in
-            outputOutcome f buffer ≡ Length (length x) leaving (x ++ drop (length x) buffer)
+            outputOutcome f buffer
+            ≡ unless q (λ r. Line r (length x)) (File (length x)) leaving (x ++ drop (length x) buffer)
         by none e =
             file-printed f buffer room e
-            ∙ ap (λ n. Length n leaving (fileOf (decoded f) ++ drop n buffer))
+            ∙ ap (λ n. File n leaving (fileOf (decoded f) ++ drop n buffer))
             (sym (written-length (decoded f) (base-table f e)))
         by (some r) e = line-printed f buffer room r e
 

@@ -4,26 +4,24 @@
 -- less, or asks for something, is refused here. The theorems of the other files are about the definitions that are
 -- cited here.
 use mathlib.Core.Path.{_≡_}
+use mathlib.Core.List.{[]}
 use Rattle.frames.specs.Rejection.{_leaving_}
-use Rattle.certificate.specs.Search.{buffers}
-use Rattle.alphabeta.proofs as alphabeta
-use Rattle.alphabeta.specs.Outcome.{alphaBetaOutcome}
-use Rattle.plain.proofs as plain
-use Rattle.plain.specs.Outcome.{plainOutcome}
-use Rattle.mtd.proofs as mtd
-use Rattle.mtd.specs.Outcome.{mtdOutcome}
-use Rattle.mtdf.proofs as mtdf
-use Rattle.mtdf.specs.Outcome.{mtdfOutcome}
+use Rattle.methods.specs.Outcome.{lent, searchOutcome}
+use Rattle.search.proofs as search
 use Rattle.sss_states.proofs as sss_states
 use Rattle.sss_states.specs.Entry.{blank}
 use Rattle.sss.proofs as sss
-use Rattle.sss.specs.Outcome.{sssOutcome, solveOutcome}
+use Rattle.sss.specs.Outcome.{sssOutcome}
+use Rattle.plain.proofs as plain
+use Rattle.plain.specs.Outcome.{plainOutcome}
 use Rattle.graft.proofs as graft
 use Rattle.graft.specs.Outcome.{graftOutcome}
 use Rattle.shorter.proofs as shorter
 use Rattle.shorter.specs.Choice.{choice, flagsBy, pointerBy}
 use Rattle.verify.proofs as verify
 use Rattle.verify.specs.Check.{verdict}
+use Rattle.best_line.proofs as best_line
+use Rattle.best_line.specs.Line.{lineOutcome}
 use Rattle.variation.proofs as variation
 use Rattle.variation.specs.Outcome.{principalOutcome}
 use Rattle.leastvalue.proofs as leastvalue
@@ -36,7 +34,7 @@ use Rattle.file_writer.proofs as file_writer
 use Rattle.file_writer.specs.Write.{writeOutcome}
 use Rattle.convert.proofs as convert
 use Rattle.convert.specs.Convert.{convertOutcome}
-use Rattle.convert.specs.Printed.{outputOutcome}
+use Rattle.convert.specs.Printed.{lengthPrinted, outputOutcome}
 use Rattle.file_reader.proofs as file_reader
 use Rattle.file_reader.specs.File.{readOutcome}
 use Rattle.tables.proofs as tables
@@ -55,42 +53,28 @@ use Rattle.demands.specs.Runs.{Runs}
 
 -- the searches
 
-pub alphabeta-search : Runs alphabeta.search.ended alphabeta.search.Symbol.routine
-    (λ κs (t, (m, (f, (o, _)))) r (_, (m′, (f′, (o′, _)))). r leaving buffers (m′ .now) (f′ .now) leaving o′ .now
-    ≡ alphaBetaOutcome (t .now) (buffers (m .now) (f .now)) (o .now))
-alphabeta-search = record { meets = alphabeta.search.Met.met }
+pub search-search : Runs search.search.ended search.search.Symbol.routine
+    (λ κs (w, (t, (m, (f, (o, _))))) r (_, (_, (m′, (f′, (o′, _))))). r leaving lent (m′ .now) (f′ .now) (o′ .now)
+    ≡ searchOutcome w (t .now) (lent (m .now) (f .now) (o .now)))
+search-search = record { meets = search.search.Met.met }
+
+-- SSS* over a lent list of states
+pub sss-search : Runs sss.search.ended sss.search.Symbol.routine
+    (λ κs (t, (l, (m, (f, (o, (n, _)))))) r (_, (l′, (m′, (f′, (o′, _))))).
+    r leaving lent (m′ .now) (f′ .now) (o′ .now) leaving l′ .now
+    ≡ sssOutcome n (t .now) (l .now) (lent (m .now) (f .now) (o .now)))
+sss-search = record { meets = sss.search.Met.met }
 
 pub plain-search : Runs plain.search.ended plain.search.Symbol.routine
     (λ κs (t, (m, (f, _))) r (_, (m′, (f′, _))).
-    r leaving buffers (m′ .now) (f′ .now) ≡ plainOutcome (t .now) (buffers (m .now) (f .now)))
+    r leaving lent (m′ .now) (f′ .now) [] ≡ plainOutcome (t .now) (lent (m .now) (f .now) []))
 plain-search = record { meets = plain.search.Met.met }
-
-pub mtd-search : Runs mtd.search.ended mtd.search.Symbol.routine
-    (λ κs (t, (m, (f, (o, _)))) r (_, (m′, (f′, (o′, _)))). r leaving buffers (m′ .now) (f′ .now) leaving o′ .now
-    ≡ mtdOutcome (t .now) (buffers (m .now) (f .now)) (o .now))
-mtd-search = record { meets = mtd.search.Met.met }
-
-pub mtdf-search : Runs mtdf.search.ended mtdf.search.Symbol.routine
-    (λ κs (t, (v, (m, (f, (o, _))))) r (_, (_, (m′, (f′, (o′, _))))).
-    r leaving buffers (m′ .now) (f′ .now) leaving o′ .now ≡ mtdfOutcome v (t .now) (buffers (m .now) (f .now)) (o .now))
-mtdf-search = record { meets = mtdf.search.Met.met }
-
-pub sss-search : Runs sss.search.ended sss.search.Symbol.routine
-    (λ κs (t, (l, (m, (f, (o, (n, _)))))) r (_, (l′, (m′, (f′, (o′, _))))).
-    r leaving buffers (m′ .now) (f′ .now) leaving o′ .now leaving l′ .now
-    ≡ sssOutcome n (t .now) (l .now) (buffers (m .now) (f .now)) (o .now))
-sss-search = record { meets = sss.search.Met.met }
-
-pub sss-solve : Runs sss.solve.ended sss.solve.Symbol.routine
-    (λ κs (t, (m, (f, (o, (n, _))))) r (_, (m′, (f′, (o′, _)))). r leaving buffers (m′ .now) (f′ .now) leaving o′ .now
-    ≡ solveOutcome n (t .now) (buffers (m .now) (f .now)) (o .now))
-sss-solve = record { meets = sss.solve.Met.met }
 
 -- an entry for a list of states to lend
 pub sss-blank : Runs sss_states.blank.ended sss_states.blank.Symbol.routine (λ κs x r e. r ≡ blank)
 sss-blank = record { meets = sss_states.blank.Met.met }
 
--- the check of a table, of a certificate, its principal variation, and the children of a node
+-- the check of a table, of a certificate, its principal variation, that of a table, and the children of a node
 
 pub tables-check : Runs tables.check.ended tables.check.Symbol.routine (λ κs (t, _) r e. r ≡ checked (t .now))
 tables-check = record { meets = tables.check.Met.met }
@@ -102,6 +86,10 @@ verify-check = record { meets = verify.check.Met.met }
 pub variation-principal : Runs variation.principal.ended variation.principal.Symbol.routine
     (λ κs (t, (f, (l, _))) r (_, (_, (l′, _))). r leaving l′ .now ≡ principalOutcome (t .now) (f .now) (l .now))
 variation-principal = record { meets = variation.principal.Met.met }
+
+pub best-line-line : Runs best_line.line.ended best_line.line.Symbol.routine
+    (λ κs (t, (l, _)) r (_, (l′, _)). r leaving l′ .now ≡ lineOutcome (t .now) (l .now))
+best-line-line = record { meets = best_line.line.Met.met }
 
 pub frames-children : Runs frames.children.ended frames.children.Symbol.routine
     (λ κs (t, (k, _)) r e. (r .now ≡ childrenOf (t .now) k) × (r .ptr ≡ childrenAt (t .ptr) (t .now) k))
@@ -131,6 +119,10 @@ convert-convert = record { meets = convert.convert.Met.met }
 pub convert-output : Runs convert.output.ended convert.output.Symbol.routine
     (λ κs (f, (b, _)) r (_, (b′, _)). r leaving b′ .now ≡ outputOutcome (f .now) (b .now))
 convert-output = record { meets = convert.output.Met.met }
+
+pub convert-length-printed : Runs convert.length_printed.ended convert.length_printed.Symbol.routine
+    (λ κs (p, _) r e. r ≡ lengthPrinted p)
+convert-length-printed = record { meets = convert.length_printed.Met.met }
 
 pub report-write : Runs report.write.ended report.write.Symbol.routine
     (λ κs (f, _) r e. r ≡ textOf (reports.report (f .now)))

@@ -1,7 +1,7 @@
 -- Demand 1, sentence by sentence. "each public entry takes whatever bytes it is lent, stays inside them, finishes":
 -- Contracts.antt says it of each entry.
-use Prim.Native.Nat.{ℕ, _≤_, _<_}
-use mathlib.Core.Path.{_≡_, sym, ap, _∙_}
+use Prim.Native.Nat.{ℕ, _<_}
+use mathlib.Core.Path.{_≡_, sym}
 use mathlib.Core.Bool.{Bool, not}
 use mathlib.Core.Option.{Option, none, some}
 use mathlib.Core.List.{List, []}
@@ -12,7 +12,7 @@ use Rattle.gametree.specs.declared.Side.the-variants.{Max, Min}
 use Rattle.gametree.specs.Certificate.{inBoth}
 use Rattle.frames.specs.declared.Rejection.{Rejection}
 use Rattle.frames.specs.declared.Checked.the-variants.{Rejected as RejectedTable}
-use Rattle.frames.specs.Frame.{maxNodes, frames}
+use Rattle.frames.specs.Frame.{frames}
 use Rattle.frames.specs.Rejection.{ask}
 use Rattle.frames.specs.Check.{checkNode, nodesRejection, depthsRejection, rejection, checked}
 use Rattle.frames.specs.FirstNo.{LowestNo, LowestDeep}
@@ -22,43 +22,13 @@ use Rattle.file_lines.specs.Line.{isLine, hasLowercase}
 use Rattle.file_lines.specs.Lines.{linesOf}
 use Rattle.file_reader.specs.File.{eachLine, fileCheck3, fileCheck16}
 use Rattle.file_reader.proofs.FirstLine.{line-first}
-use Rattle.certificate.specs.Search.{buffers}
-use Rattle.sss.proofs as sss
-use Rattle.sss.proofs.OwnList.{own-list as same-outcome}
 use Rattle.verify.specs.declared.Verdict.the-variants.{Rejected as RejectedFlags}
 use Rattle.verify.specs.Flags.{ruleHolds}
 use Rattle.verify.specs.Check.{check11, checkTree, certificateRejection, judged, verdict}
-use Rattle.demands.specs.Runs.{RunBoth}
-use Rattle.demands.proofs.Contracts as contracts
-
--- The function `sss::solve`, which has a list of states of its own, gives and leaves what `sss::search` does that is
--- lent so long a list: all that is said of `sss::search` in these files holds of it.
-pub own-list : RunBoth sss.solve.ended sss.search.ended sss.solve.Symbol.routine sss.search.Symbol.routine
-    (λ κs (t, (m, (f, (o, (n, _))))) r (_, (m′, (f′, (o′, _)))) κs′ (u, (l, (x, (y, (z, (k, _)))))) r′.
-    λ (_, (_, (x′, (y′, (z′, _))))). maxNodes ≤ length (l .now) → u .now ≡ t .now → x .now ≡ m .now
-    → y .now ≡ f .now → z .now ≡ o .now → k ≡ n
-    → (r ≡ r′) × (m′ .now ≡ x′ .now) × (f′ .now ≡ y′ .now) × (o′ .now ≡ z′ .now))
-own-list =
-    record {
-      one = _;
-      other = _;
-      oneRuns = contracts.sss-solve;
-      otherRuns = contracts.sss-search;
-      both = λ κs (t, (m, (f, (o, (n, _))))) r (_, (m′, (f′, (o′, _)))) s.
-          λ κs′ (u, (l, (x, (y, (z, (k, _)))))) r′ (_, (l′, (x′, (y′, (z′, _))))) c long i₁ i₂ i₃ i₄ i₅.
-          let d = rw i₁ at (rw i₂ at (rw i₃ at (rw i₄ at (rw i₅ at c)))) in
-          let e = s ∙ sym (same-outcome n (t .now) (l .now) (buffers (m .now) (f .now)) (o .now) long)
-          ∙ sym (ap (λ x. x .answer) d) in (
-            ap (λ x. x .answer .answer) e,
-            ap (λ x. x .answer .left .marks) e,
-            ap (λ x. x .answer .left .flags) e,
-            ap (λ x. x .left) e,
-          );
-    }
 
 -- "and gives a result or one numbered refusal with its place": a refusal is the first "no" to the questions that the
--- call puts. Of each call that is lent memory to change: `alphabeta-keeps` and its like in TheSentence.antt, which say
--- that the memory is then as it was
+-- call puts. Of each call that is lent memory to change: `keeps` and its like in TheSentence.antt, which say that the
+-- memory is then as it was
 
 pub first-table : (t : List ℕ) (r : Rejection) → checked t ≡ RejectedTable r → rejection t ≡ some r
 first-table t r e = rejected-first t r (sym e)

@@ -1,47 +1,70 @@
 -- Demand 2: what is said beside the headline sentences (`minimax-value`, `first-move`, `solution-trees` and `checker`
--- in TheSentence, `rule-leaves` and `alphabeta-gives` with its like in Sentences), of the searches as they run.
+-- in TheSentence, `rule-leaves` and `gives` in Sentences), of the searches as they run.
 use Prim.Native.Nat.{ℕ, _≤_, _<_}
-use mathlib.Core.Path.{_≡_, ap, _∙_}
+use native.Mathlib.Omega.{arith}
+use mathlib.Core.Path.{_≡_, sym, ap, _∙_}
 use mathlib.Core.List.{List}
 use lib.ListN.{length}
+use Rattle.gametree_theory.proofs.Within.{evaluations-count, full-few}
 use Rattle.frames.specs.Frame.{frames, byteOf, childCount}
 use Rattle.frames.specs.Position.{depthOf}
-use Rattle.frames.specs.Tree.{valuation}
+use Rattle.frames.specs.Tree.{tree, valuation}
 use Rattle.frames.specs.Value.{valueOf, signed, worth}
 use Rattle.frames.specs.Check.{Accepted}
 use Rattle.frames.proofs.Acceptance.{accepted-formed}
+use Rattle.frames.proofs.Proper.{tree-proper}
+use Rattle.frames.proofs.Totals.{tree-size}
 use Rattle.frames.proofs.TreeOfTable.{score-worth}
 use Rattle.frames.proofs.Values.{value-stored}
-use Rattle.certificate.specs.Search.{marksOf, flagsOf, findings, listed}
+use Rattle.certificate.specs.Search.{marksOf, flagsOf, listed}
 use Rattle.verify.specs.declared.Verdict.the-variants.{Value}
 use Rattle.verify.specs.Check.{verdict}
-use Rattle.sss.specs.Outcome.{sssLeaves}
-use Rattle.sss.proofs.Allowed.{leaves-few}
-use Rattle.demands.specs.Searches.{EachSearch}
-use Rattle.demands.proofs.Running.{each-search}
-use Rattle.demands.proofs.Views.{view}
-use Rattle.demands.proofs.Results as calls
+use Rattle.methods.specs.declared.Findings.{Findings}
+use Rattle.methods.specs.declared.Spent.{Spent as Spending}
+use Rattle.methods.specs.declared.Answer.the-variants.{Found, Spent}
+use Rattle.methods.specs.Rules.{runOf, evaluatedBy}
+use Rattle.methods.specs.Outcome.{findingsBy}
+use Rattle.demands.specs.Searches.{EverySearch, Given}
+use Rattle.demands.specs.Handed.{Room}
+use Rattle.demands.proofs.Running.{every}
+use Rattle.demands.proofs.Views as views
+use Rattle.demands.proofs.Handed.{handed, flags-verified}
 
--- only an accepted table gets a result
-pub only-accepted : EachSearch (λ t rule f _ _ _ _. Accepted t)
-only-accepted = each-search _ (λ t c. calls.only-accepted c)
+-- a call with an accepted table and room in what is lent is not refused, and no other is answered
+pub not-refused : EverySearch (λ c. Accepted (c .table) → Room (c .table) (c .lent) → Given c)
+not-refused = every views.room-given
+
+pub only-accepted : EverySearch (λ c. Given c → Accepted (c .table) × Room (c .table) (c .lent))
+only-accepted = every (λ c s x. (views.accepted c s x, views.room c s x))
 
 -- SSS* evaluates no more leaves than there are nodes, so that an allowance of so many is enough
-pub leaves-at-most : (t : List ℕ) → Accepted t → length (sssLeaves t) ≤ frames t
-leaves-at-most t a = leaves-few t (accepted-formed t a)
+pub leaves-at-most : (t : List ℕ) → Accepted t → length (runOf t .evaluations) ≤ frames t
+leaves-at-most t a =
+    let wf = accepted-formed t a in
+    omega (
+      arith,
+      full-few (valuation t) (tree t) (tree-proper t wf),
+      evaluations-count (valuation t) (tree t),
+      tree-size t wf,
+    )
 
--- what a search gives and leaves follows from the leaves of its rule: the findings; the marks, the flags and the list
--- of leaves, with what was lent behind them
-pub gives-exactly : EachSearch (λ t rule f _ _ _ _. f ≡ findings rule t)
-gives-exactly = each-search _ (λ t c. calls.gives-exactly c)
+-- what a search gives and leaves follows from the leaves of its rule: the findings; the marks and the list of leaves,
+-- with what was lent behind them, and the flags, which a spent allowance leaves as they were
+pub gives-exactly : EverySearch (λ c. (g : Findings) → c .answer ≡ Found g → g ≡ findingsBy (c .method) (c .table))
+gives-exactly = every views.findings
 
-pub leaves-exactly : EachSearch (λ t rule f b o d p. (d .marks ≡ marksOf rule t (b .marks))
-    × (d .flags ≡ flagsOf rule t (b .flags)) × (p ≡ listed rule o))
-leaves-exactly = each-search _ (λ t c. let m = calls.leaves-exactly c in (m .0, m .1, view c .order))
+pub leaves-exactly : EverySearch (λ c. let rule = evaluatedBy (c .method) (c .table) in Given c
+    → (c .left .marks ≡ marksOf rule (c .table) (c .lent .marks)) × (c .left .order ≡ listed rule (c .lent .order))
+    × ((g : Findings) → c .answer ≡ Found g → c .left .flags ≡ flagsOf rule (c .table) (c .lent .flags))
+    × ((p : Spending) → c .answer ≡ Spent p → c .left .flags ≡ c .lent .flags))
+leaves-exactly =
+    every (λ c s x. (views.marks c s x, views.order c s x, views.flags c s, views.flags-kept c s))
 
 -- the checker accepts what each search hands back, and gives the value that the search found
-pub verified : EachSearch (λ t rule f _ _ d _. verdict t (d .flags) ≡ Value (f .value))
-verified = each-search _ (λ t c. calls.verified c)
+pub verified : EverySearch (λ c. (g : Findings) → c .answer ≡ Found g
+    → verdict (c .table) (c .left .flags) ≡ Value (g .value))
+verified = every (λ c s g e.
+    flags-verified (handed c s g e) ∙ ap Value (sym (ap (λ x. x .value) (views.findings c s g e))))
 
 -- "Guessing past the leaves was never wanted, so the value is that of the tree handed over": `tree t` is the tree that
 -- the frames of the table describe (frames/proofs/TreeOfTable.antt), and a leaf counts with the worth, at its depth, of

@@ -1,8 +1,11 @@
 -- What the functions of the library for other languages promise: each asks nothing, and leaves what is said here of its
 -- arguments, its answer r and its parameters at exit, which are marked ′. It is the outcome of the call that it makes
 -- (Contracts.antt), as numbers. As there, this is the function's own contract, compared with it by computing.
-use mathlib.Core.Path.{_≡_}
-use lib.ListN.{length}
+use Prim.Native.Nat.{ℕ, _<_}
+use mathlib.Core.Path.{_≡_, refl, sym, ap, _∙_}
+use mathlib.Core.List.{List, []}
+use lib.ListN.{length, getD}
+use Rattle.frames.specs.Frame.{frames}
 use Rattle.frames.specs.Rejection.{_leaving_}
 use Rattle.frames.specs.Check.{checked}
 use Rattle.frames.specs.Children.{childrenOf}
@@ -12,12 +15,11 @@ use Rattle.file_reader.specs.File.{readOutcome}
 use Rattle.file_writer.specs.Write.{writeOutcome}
 use Rattle.convert.specs.Convert.{convertOutcome}
 use Rattle.convert.specs.Printed.{outputOutcome}
-use Rattle.certificate.specs.Search.{buffers}
-use Rattle.alphabeta.specs.Outcome.{alphaBetaOutcome}
+use Rattle.methods.specs.declared.Method.{Method}
+use Rattle.methods.specs.declared.Method.the-variants.{AlphaBeta, Mtd, MtdFrom, Sss}
+use Rattle.methods.specs.Outcome.{Lent, lent, searchOutcome}
 use Rattle.plain.specs.Outcome.{plainOutcome}
-use Rattle.mtd.specs.Outcome.{mtdOutcome}
-use Rattle.mtdf.specs.Outcome.{mtdfOutcome}
-use Rattle.sss.specs.Outcome.{solveOutcome}
+use Rattle.best_line.specs.Line.{lineOutcome}
 use Rattle.verify.specs.Check.{verdict}
 use Rattle.shorter.specs.Choice.{choice, chosenFlags}
 use Rattle.graft.specs.Outcome.{graftOutcome}
@@ -29,11 +31,17 @@ use Rattle.text.specs.Text.{refusedLine, textOf}
 use Rattle.buulset.proofs as buulset
 use Rattle.buulset.specs.Version.{version}
 use Rattle.buulset.specs.Children.{flatChildren, partOf}
-use Rattle.buulset.specs.Outcome.{flatBy, flatListed}
-use Rattle.buulset_flat.specs.Flat.{flatChecked, flatWritten, flatFilled, flatAlphaBeta, flatPlain, flatMtd, flatMtdf}
-use Rattle.buulset_flat.specs.Flat.{flatSss}
+use Rattle.buulset.specs.Outcome.{flatBy}
+use Rattle.buulset_answers.specs.declared.Answer.{Answer}
+use Rattle.buulset_flat.specs.Flat.{flatChecked, flatWritten, flatPrinted, flatAnswer, flatPlain, flatFilled}
 use Rattle.buulset_flat.specs.Flat.{flatVerdict, flatLeastValue, flatLeast, flatChoice, flatLine, flatText}
-use Rattle.demands.specs.Runs.{Runs}
+use Rattle.buulset_flat.specs.Flat.{flatBestLine}
+use Rattle.demands.specs.Runs.{Runs, RunBoth}
+use Rattle.demands.specs.Searches.{Call, Given}
+use Rattle.demands.proofs.Running.{Says}
+use Rattle.demands.proofs.Views.{lengths, refused}
+use Rattle.demands.proofs.Handed.{dominated}
+use Rattle.demands.proofs.Numbers.{never-zero}
 
 pub exported-version : Runs buulset.buulset_version.ended buulset.buulset_version.Symbol.routine
     (λ κs x r e. r ≡ version)
@@ -62,7 +70,7 @@ pub exported-convert : Runs buulset.buulset_convert.ended buulset.buulset_conver
 exported-convert = record { meets = buulset.buulset_convert.Met.met }
 
 pub exported-capitals : Runs buulset.buulset_capitals.ended buulset.buulset_capitals.Symbol.routine
-    (λ κs (f, (b, _)) r (_, (b′, _)). r leaving b′ .now ≡ flatBy flatWritten (outputOutcome (f .now) (b .now)))
+    (λ κs (f, (b, _)) r (_, (b′, _)). r leaving b′ .now ≡ flatBy flatPrinted (outputOutcome (f .now) (b .now)))
 exported-capitals = record { meets = buulset.buulset_capitals.Met.met }
 
 pub exported-check : Runs buulset.buulset_check.ended buulset.buulset_check.Symbol.routine
@@ -76,32 +84,73 @@ exported-children = record { meets = buulset.buulset_children.Met.met }
 -- searches
 
 pub exported-alphabeta : Runs buulset.buulset_alphabeta.ended buulset.buulset_alphabeta.Symbol.routine
-    (λ κs (t, (m, (f, (o, _)))) r (_, (m′, (f′, (o′, _)))). r leaving buffers (m′ .now) (f′ .now) leaving o′ .now
-    ≡ flatListed flatAlphaBeta (alphaBetaOutcome (t .now) (buffers (m .now) (f .now)) (o .now)))
+    (λ κs (t, (m, (f, (o, _)))) r (_, (m′, (f′, (o′, _)))). r leaving lent (m′ .now) (f′ .now) (o′ .now)
+    ≡ flatBy flatAnswer (searchOutcome AlphaBeta (t .now) (lent (m .now) (f .now) (o .now))))
 exported-alphabeta = record { meets = buulset.buulset_alphabeta.Met.met }
 
-pub exported-plain : Runs buulset.buulset_plain.ended buulset.buulset_plain.Symbol.routine
-    (λ κs (t, (m, (f, _))) r (_, (m′, (f′, _))). r leaving buffers (m′ .now) (f′ .now)
-    ≡ flatBy flatPlain (plainOutcome (t .now) (buffers (m .now) (f .now))))
-exported-plain = record { meets = buulset.buulset_plain.Met.met }
-
 pub exported-mtd : Runs buulset.buulset_mtd.ended buulset.buulset_mtd.Symbol.routine
-    (λ κs (t, (m, (f, (o, _)))) r (_, (m′, (f′, (o′, _)))). r leaving buffers (m′ .now) (f′ .now) leaving o′ .now
-    ≡ flatListed flatMtd (mtdOutcome (t .now) (buffers (m .now) (f .now)) (o .now)))
+    (λ κs (t, (m, (f, (o, _)))) r (_, (m′, (f′, (o′, _)))). r leaving lent (m′ .now) (f′ .now) (o′ .now)
+    ≡ flatBy flatAnswer (searchOutcome Mtd (t .now) (lent (m .now) (f .now) (o .now))))
 exported-mtd = record { meets = buulset.buulset_mtd.Met.met }
 
 pub exported-mtdf : Runs buulset.buulset_mtdf.ended buulset.buulset_mtdf.Symbol.routine
-    (λ κs (t, (v, (m, (f, (o, _))))) r (_, (_, (m′, (f′, (o′, _))))).
-    r leaving buffers (m′ .now) (f′ .now) leaving o′ .now
-    ≡ flatListed flatMtdf (mtdfOutcome v (t .now) (buffers (m .now) (f .now)) (o .now)))
+    (λ κs (t, (v, (m, (f, (o, _))))) r (_, (_, (m′, (f′, (o′, _))))). r leaving lent (m′ .now) (f′ .now) (o′ .now)
+    ≡ flatBy flatAnswer (searchOutcome (MtdFrom v) (t .now) (lent (m .now) (f .now) (o .now))))
 exported-mtdf = record { meets = buulset.buulset_mtdf.Met.met }
 
 pub exported-sss : Runs buulset.buulset_sss.ended buulset.buulset_sss.Symbol.routine
-    (λ κs (t, (m, (f, (o, (n, _))))) r (_, (m′, (f′, (o′, _)))). r leaving buffers (m′ .now) (f′ .now) leaving o′ .now
-    ≡ flatListed flatSss (solveOutcome n (t .now) (buffers (m .now) (f .now)) (o .now)))
+    (λ κs (t, (m, (f, (o, (n, _))))) r (_, (m′, (f′, (o′, _)))). r leaving lent (m′ .now) (f′ .now) (o′ .now)
+    ≡ flatBy flatAnswer (searchOutcome (Sss n) (t .now) (lent (m .now) (f .now) (o .now))))
 exported-sss = record { meets = buulset.buulset_sss.Met.met }
 
+pub exported-plain : Runs buulset.buulset_plain.ended buulset.buulset_plain.Symbol.routine
+    (λ κs (t, (m, (f, _))) r (_, (m′, (f′, _))). r leaving lent (m′ .now) (f′ .now) []
+    ≡ flatBy flatPlain (plainOutcome (t .now) (lent (m .now) (f .now) [])))
+exported-plain = record { meets = buulset.buulset_plain.Met.met }
+
+-- what an export of a search is called with, gives and leaves, as a call of the search
+exported-call : (w : Method) (t : List ℕ) (l l′ : Lent) (r : Answer)
+    → r leaving l′ ≡ flatBy flatAnswer (searchOutcome w t l)
+    → (c : Call) × (c .method ≡ w) × (c .table ≡ t) × (c .left ≡ l′) × Says c × (r .refused ≡ 0 → Given c)
+unfolding flatAnswer
+exported-call w t l l′ r e =
+    let o = searchOutcome w t l in
+    let c : Call = record { method = w; table = t; lent = l; answer = o .answer; left = o .left } in (
+      c,
+      refl,
+      refl,
+      sym (ap (λ x. x .left) e),
+      refl,
+      λ z q i. never-zero t (lengths l) q (refused c refl q i .0)
+          (sym (ap (λ x. x .answer .refused) e ∙ ap (λ a. flatAnswer a .refused) i) ∙ z),
+    )
+
+-- THE SENTENCE of the two exports: whenever `buulset_sss`, within any allowance, and `buulset_alphabeta` are called on
+-- one table and neither is refused, each node that the first marks 1 the second marks 1 too
+pub exported-sentence : RunBoth buulset.buulset_sss.ended buulset.buulset_alphabeta.ended
+    buulset.buulset_sss.Symbol.routine buulset.buulset_alphabeta.Symbol.routine
+    (λ κs (t, _) r (_, (m, _)) κs′ (u, _) q (_, (x, _)). u .now ≡ t .now → r .refused ≡ 0 → q .refused ≡ 0
+    → (k : ℕ) → k < frames (t .now) → getD (m .now) k 0 ≡ 1 → getD (x .now) k 0 ≡ 1)
+exported-sentence =
+    record {
+      one = _;
+      other = _;
+      oneRuns = exported-sss;
+      otherRuns = exported-alphabeta;
+      both = λ κs (t, (m, (f, (o, (n, _))))) r (_, (m′, (f′, (o′, _)))) e.
+          λ κs′ (u, (x, (y, (z, _)))) q (_, (x′, (y′, (z′, _)))) i same g h k l mark.
+          let c = exported-call (Sss n) (t .now) (lent (m .now) (f .now) (o .now)) _ r e in
+          let d = exported-call AlphaBeta (u .now) (lent (x .now) (y .now) (z .now)) _ q i in
+          ap (λ v. getD (v .marks) k 0) (sym (d .3))
+          ∙ dominated (c .0) (d .0) (c .4) (d .4) (d .1) (d .2 ∙ same ∙ sym (c .2)) (c .5 g) (d .5 h) k
+          (record { node = rw (c .2) l; mark = ap (λ v. getD (v .marks) k 0) (c .3) ∙ mark }) .mark;
+    }
+
 -- certificates
+
+pub exported-line : Runs buulset.buulset_line.ended buulset.buulset_line.Symbol.routine
+    (λ κs (t, (l, _)) r (_, (l′, _)). r leaving l′ .now ≡ flatBy flatBestLine (lineOutcome (t .now) (l .now)))
+exported-line = record { meets = buulset.buulset_line.Met.met }
 
 pub exported-verify : Runs buulset.buulset_verify.ended buulset.buulset_verify.Symbol.routine
     (λ κs (t, (f, _)) r e. r ≡ flatVerdict (verdict (t .now) (f .now)))

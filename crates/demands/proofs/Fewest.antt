@@ -1,41 +1,59 @@
--- What is proved of calls with a regular table, for `counts-no-fewer` in Sentences.antt.
+-- No result counts fewer leaves than the smallest pair has, nor fewer than the entry of a regular table: for
+-- `smallest-pair` and `counts-no-fewer` in Sentences.antt.
 use Prim.Native.Nat.{ℕ, _≤_}
 use native.Mathlib.Omega.{arith}
-use mathlib.Core.Path.{_≡_}
+use mathlib.Core.Path.{_≡_, ap}
+use mathlib.Core.Bool.{Bool}
 use mathlib.Core.List.{List}
+use Rattle.gametree.specs.Certificate.{Smallest, pairLeaves}
 use Rattle.gametree_theory.proofs.minimax.Counts.{pairLeaves-all}
+use Rattle.gametree_theory.proofs.Theorems.{search-smallest}
 use Rattle.frames.specs.Frame.{frames}
-use Rattle.frames.specs.Tree.{tree}
+use Rattle.frames.specs.Tree.{tree, valuation}
 use Rattle.frames.specs.results.Regular.{RegularTable}
 use Rattle.certificate_bounds.specs.Marks.{ones}
+use Rattle.methods.specs.declared.Findings.{Findings}
+use Rattle.methods.specs.declared.Answer.the-variants.{Found}
+use Rattle.methods.specs.Outcome.{Lent}
+use Rattle.methods.proofs.Rules as rules
 use Rattle.plain.specs.declared.PlainResult.{PlainResult}
-use Rattle.plain.specs.declared.PlainAnswer.the-variants as plain-answer
 use Rattle.leastcount.specs.declared.Least.the-variants.{Leaves}
 use Rattle.leastcount.specs.Answer.{leastAnswer}
-use Rattle.demands.proofs.Calls.{PlainCall, Call, found}
-use Rattle.demands.proofs.Results.{only-accepted}
-use Rattle.demands.proofs.Evaluations.{smallest, smallest-pair}
+use Rattle.demands.specs.Searches.{Call}
+use Rattle.demands.proofs.Running.{Says, PlainSays}
+use Rattle.demands.proofs.Views as views
+use Rattle.demands.proofs.Handed.{handed, proper}
 use Rattle.demands.proofs.PlainCalls.{plain-accepted, leaves-marked}
+use Rattle.demands.proofs.Demand3.{pair-exists}
 use Rattle.demands.proofs.LeastCounts.{every-pair}
 
-module _ (t : List ℕ) (w d : ℕ) (r : RegularTable w d t) (n : ℕ) (e : leastAnswer w d ≡ Leaves n) where
-  -- "and no finished search counts fewer"
-  pub no-fewer : (c : Call t) → n ≤ found c .leaves
-  no-fewer c =
-      let s = smallest-pair t (only-accepted c) in
+module _ (c : Call) (s : Says c) (f : Findings) (e : c .answer ≡ Found f) where
+  pub smallest : (g h : ℕ → Bool) → Smallest (valuation (c .table)) (tree (c .table)) g h
+      → pairLeaves g h (tree (c .table)) ≤ f .leaves
+  smallest g h m =
+      rw (ap (λ x. x .leaves) (views.findings c s f e))
+      (search-smallest (valuation (c .table)) (tree (c .table)) (proper (handed c s f e)) g h m
+      (rules.searched (c .method) (c .table) (views.nothing-beyond c s f e)))
+
+  pub no-fewer : (w d n : ℕ) → RegularTable w d (c .table) → leastAnswer w d ≡ Leaves n → n ≤ f .leaves
+  no-fewer w d n r i =
+      let a = handed c s f e .accepted in
+      let p = pair-exists (c .table) a in
       omega (
         arith,
-        every-pair t w d r n e (only-accepted c) (s .0) (s .1) _ (s .2 .certifies),
-        smallest c (s .0) (s .1) (s .2),
+        every-pair (c .table) w d r n i a (p .0) (p .1) _ (p .2 .certifies),
+        smallest (p .0) (p .1) (p .2),
       )
 
-  -- nor does the plain engine mark fewer
-  pub no-fewer-plain : {f : PlainResult} (c : PlainCall t (plain-answer.Found f)) → n ≤ ones (c .left .marks) (frames t)
-  no-fewer-plain c =
-      let s = smallest-pair t (plain-accepted c) in
-      omega (
-        arith,
-        every-pair t w d r n e (plain-accepted c) (s .0) (s .1) _ (s .2 .certifies),
-        pairLeaves-all (s .0) (s .1) (tree t),
-        leaves-marked c,
-      )
+-- nor does the plain engine mark fewer
+pub no-fewer-plain : (t : List ℕ) (f : PlainResult) (l l′ : Lent) → PlainSays t l f l′ → (w d n : ℕ)
+    → RegularTable w d t → leastAnswer w d ≡ Leaves n → n ≤ ones (l′ .marks) (frames t)
+no-fewer-plain t f l l′ s w d n r i =
+    let a = plain-accepted t f l l′ s in
+    let p = pair-exists t a in
+    omega (
+      arith,
+      every-pair t w d r n i a (p .0) (p .1) _ (p .2 .certifies),
+      pairLeaves-all (p .0) (p .1) (tree t),
+      leaves-marked t f l l′ s,
+    )

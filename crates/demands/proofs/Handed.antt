@@ -1,68 +1,92 @@
 -- What is handed back in the buffers: the theory's theorems, carried to the bytes.
-use Prim.Native.Nat.{ℕ, _+_, _≤_, _<_}
-use native.Mathlib.Omega.{arith}
-use mathlib.Core.Path.{_≡_, sym, ap, _∙_, subst}
-use mathlib.Core.Bool.{Bool, true, false, cond}
+use Prim.Native.Nat.{ℕ, _≤_, _<_}
+use mathlib.Core.Path.{_≡_, sym, ap, _∙_}
+use mathlib.Core.Bool.{true, cond}
 use mathlib.Core.List.{List}
-use lib.ListN.{length, getD}
+use lib.ListN.{length, getD, take}
+use lib.Seq.{take-append-seam}
 use borrow.Author.Tests.{eq-eqb}
 use Rattle.gametree.specs.declared.Side.{Side}
 use Rattle.gametree.specs.declared.Side.the-variants.{Max, Min}
 use Rattle.lists.specs.Lists.{All, among}
+use Rattle.lists.proofs.Lists.{all-at, once-length}
 use Rattle.gametree.specs.Tree.{other, least, greatest, minimax, Proper}
 use Rattle.gametree.specs.Bounds.{known, Decided}
-use Rattle.gametree.specs.Certificate.{worst, inside, solutionOf, flag}
-use Rattle.lists.proofs.Lists.{all-at}
+use Rattle.gametree.specs.Certificate.{worst, flag}
+use Rattle.gametree_theory.proofs.Searches.{Deciding}
 use Rattle.gametree_theory.proofs.minimax.Bounds.{every-map}
 use Rattle.gametree_theory.proofs.minimax.Grafts.{minimax-same}
 use Rattle.gametree_theory.proofs.tests.Subtree.{every-all}
-use Rattle.gametree_theory.proofs.certificates.ReadOff.{ReadOff, fits}
-use Rattle.gametree_theory.proofs.certificates.Flags.{flag-inside, read-bounds}
-use Rattle.gametree_theory.proofs.Theorems.{alphaBeta-leaves, domination, domination-count}
+use Rattle.gametree_theory.proofs.certificates.ReadOff.{ReadOff}
+use Rattle.gametree_theory.proofs.certificates.Flags.{read-bounds}
 use Rattle.frames.specs.Frame.{frames}
 use Rattle.frames.specs.Tree.{tree, valuation}
 use Rattle.frames.specs.Formed.{WellFormed}
-use Rattle.frames.proofs.Acceptance.{accepted-formed}
-use Rattle.frames.proofs.Nodes.{tree-range}
-use Rattle.frames.proofs.Proper.{every-leaf, tree-proper}
-use Rattle.certificate_bounds.specs.Marks.{mark, marked, ones}
-use Rattle.certificate.specs.Search.{Buffers}
-use Rattle.verify.specs.Flags.{member}
+use Rattle.frames.specs.Check.{Accepted}
 use Rattle.frames.specs.Value.{valueOf}
-use Rattle.positions.proofs.Buffers.{written-length, written-at}
-use Rattle.certificate.proofs.Marks.{marked-written, evaluated-within, ones-evaluated}
-use Rattle.alphabeta.specs.Outcome.{reachedLeaves}
+use Rattle.frames.proofs.Acceptance.{accepted-formed}
+use Rattle.frames.proofs.Proper.{every-leaf, tree-proper}
+use Rattle.positions.proofs.Buffers.{written-at}
+use Rattle.certificate_bounds.specs.Marks.{mark, marked, ones}
+use Rattle.certificate.specs.Search.{marksOf, flagsOf}
+use Rattle.certificate.proofs.Marks.{marked-written}
 use Rattle.verify.specs.declared.Verdict.the-variants.{Value}
 use Rattle.verify.specs.Check.{verdict}
+use Rattle.verify.specs.Flags.{member}
+use Rattle.verify.specs.Certificate.{Certificate}
 use Rattle.verify.proofs.Theorems.{certificate-verdict}
+use Rattle.methods.specs.declared.Method.the-variants.{AlphaBeta}
+use Rattle.methods.specs.declared.Findings.{Findings}
+use Rattle.methods.specs.declared.Answer.the-variants.{Found}
+use Rattle.methods.specs.Rules.{evaluatedBy}
+use Rattle.methods.specs.Outcome.{Lent}
+use Rattle.methods.proofs.Rules as rules
+use Rattle.best_line.proofs.Certified.{reads, written-certificate}
+use Rattle.best_line.proofs.Certified as written
+use Rattle.demands.specs.Searches.{Call, Given, countOf}
 use Rattle.demands.specs.Handed.{Marked, CertifiedBy}
-use Rattle.demands.proofs.Calls.{Call, left, leaves}
-use Rattle.demands.proofs.Views.{HandedBack, view}
+use Rattle.demands.proofs.Running.{Says}
+use Rattle.demands.proofs.Views as views
 
--- a flag is at most 3
-two-bits : (x y : Bool) → cond x 1 0 + cond y 2 0 ≤ 3
-two-bits true true = omega arith
-two-bits true false = omega arith
-two-bits false true = omega arith
-two-bits false false = omega arith
+-- the leaves w, which are nodes of the table t, are marked
+pub record MarkedLeaves (t w : List ℕ) (lent left : Lent) : Type 0 where
+  pub within : All (λ k. k < frames t) w
+  pub marks : left .marks ≡ marksOf w t (lent .marks)
 
-module _ {t w : List ℕ} {lent left : Buffers} (handed : HandedBack t w lent left) where
+module _ {t w : List ℕ} {lent left : Lent} (m : MarkedLeaves t w lent left) where
+  -- they are marked 1, and every other node 0
+  pub marks-at : (k : ℕ) → k < frames t → getD (left .marks) k 0 ≡ mark (among w) k
+  marks-at k h =
+      ap (λ x. getD x k 0) (m .marks) ∙ written-at (mark (among w)) (frames t) k (lent .marks) h
+
+  pub marked-at : (k : ℕ) → k < frames t → marked (left .marks) k ≡ among w k
+  marked-at k h =
+      ap (λ x. marked x k) (m .marks) ∙ marked-written (among w) (frames t) (lent .marks) k h
+
+  pub marked-leaf : (k : ℕ) → Marked t left k → among w k ≡ true
+  marked-leaf k n = sym (marked-at k (n .node)) ∙ eq-eqb _ _ (n .mark)
+
+  pub leaf-marked : (k : ℕ) → among w k ≡ true → Marked t left k
+  leaf-marked k e =
+      let h = all-at (λ k. k < frames t) w (m .within) k e in
+      record { node = h; mark = marks-at k h ∙ ap (λ b. cond b 1 0) e }
+
+-- and decide: the flags are read off their bounds
+pub record HandedBack (t w : List ℕ) (lent left : Lent) : Type 0 where
+  pub accepted : Accepted t
+  pub room : frames t ≤ length (lent .flags)
+  pub deciding : Deciding (valuation t) (tree t) w
+  pub marked : MarkedLeaves t w lent left
+  pub flags : left .flags ≡ flagsOf w t (lent .flags)
+
+module _ {t w : List ℕ} {lent left : Lent} (handed : HandedBack t w lent left) where
   pub formed : WellFormed t
   formed = accepted-formed t (handed .accepted)
 
   pub proper : Proper (valuation t) (tree t)
   proper = tree-proper t formed
 
-  -- the evaluated leaves are marked 1, and every other node 0
-  pub marks-at : (k : ℕ) → k < frames t → getD (left .marks) k 0 ≡ mark (among w) k
-  marks-at k h =
-      ap (λ x. getD x k 0) (handed .marks) ∙ written-at (mark (among w)) (frames t) k (lent .marks) h
-
-  pub marked-at : (k : ℕ) → k < frames t → marked (left .marks) k ≡ among w k
-  marked-at k h =
-      ap (λ x. marked x k) (handed .marks) ∙ marked-written (among w) (frames t) (lent .marks) k h
-
-  -- so the bounds of the leaves that are marked 1 meet at the minimax value
+  -- the bounds of the leaves that are marked 1 meet at the minimax value
   pub marks-decided : Decided (valuation t) (marked (left .marks)) (tree t)
   marks-decided =
       let d = handed .deciding .decided in
@@ -70,71 +94,113 @@ module _ {t w : List ℕ} {lent left : Buffers} (handed : HandedBack t w lent le
       ≡ minimax (known (valuation t) (among w) x) (tree t) =
       λ x. minimax-same _ _ (tree t)
       (every-leaf t formed (λ n. known (valuation t) (marked (left .marks)) x n ≡ known (valuation t) (among w) x n)
-      (λ i h _. ap (λ b. cond b (valuation t i) x) (marked-at i h)) 0 (formed .nonEmpty)) in
+      (λ i h _. ap (λ b. cond b (valuation t i) x) (marked-at (handed .marked) i h)) 0 (formed .nonEmpty)) in
       record { lowIs = same least ∙ d .lowIs; highIs = same greatest ∙ d .highIs }
 
-  flags-at : (k : ℕ) → k < frames t → getD (left .flags) k 0 ≡ flag (valuation t) (among w) (tree t) k
+  pub flags-at : (k : ℕ) → k < frames t → getD (left .flags) k 0 ≡ flag (valuation t) (among w) (tree t) k
   flags-at k h =
       ap (λ x. getD x k 0) (handed .flags)
-      ∙ written-at (flag (valuation t) (among w) (tree t)) (frames t) k (lent .flags) h
+      ∙ written.flags-at t (handed .accepted) w (handed .deciding) (lent .flags) (handed .room) k h
 
-  leaf-marked : (k : ℕ) → among w k ≡ true → marked (left .marks) k ≡ true
-  leaf-marked k h =
-      marked-at k (all-at (λ k. k < frames t) w (evaluated-within t formed (handed .deciding)) k h) ∙ h
+  -- the flags are a certificate
+  pub certificate : Certificate t (left .flags) (minimax (valuation t) (tree t))
+  certificate =
+      rw (handed .flags)
+      (written-certificate t (handed .accepted) w (handed .deciding) (lent .flags) (handed .room))
 
-  reads : (p : Side)
+  flagged : (p : Side)
       → ReadOff p (known (valuation t) (among w) (worst (other p))) (member p (left .flags)) true (tree t)
-  reads p =
-      fits p _ (member p (left .flags)) (tree t) (proper .distinct) (λ k i.
-      ap (inside p) (flags-at k (tree-range t formed 0 (formed .nonEmpty) k i .1))
-      ∙ flag-inside p (valuation t) (among w) (tree t) k)
+  flagged p = rw (handed .flags) (reads t (handed .accepted) w (handed .deciding) (lent .flags) (handed .room) p)
 
-  -- the flags certify the minimax value, by leaves that are marked 1 only
+  set-marked : (k : ℕ) → among w k ≡ true → marked (left .marks) k ≡ true
+  set-marked k h = marked-at (handed .marked) k (leaf-marked (handed .marked) k h .node) ∙ h
+
+  -- of the minimax value, by leaves that are marked 1 only
   pub flags-certify : CertifiedBy t left
   flags-certify =
       let d = handed .deciding .decided in
-      let x = read-bounds Max (valuation t) (among w) (tree t) proper d _ (reads Max) in
-      let y = read-bounds Min (valuation t) (among w) (tree t) proper d _ (reads Min) in
+      let x = read-bounds Max (valuation t) (among w) (tree t) proper d _ (flagged Max) in
+      let y = read-bounds Min (valuation t) (among w) (tree t) proper d _ (flagged Min) in
       record {
-        certifies = record { maxTree = x .0; minTree = y .0; maxValue = x .1; minValue = y .1 };
-        maxLeaves = every-all _ (tree t) (every-map _ _ (λ k f h. leaf-marked k (f h)) (tree t) (x .2));
-        minLeaves = every-all _ (tree t) (every-map _ _ (λ k f h. leaf-marked k (f h)) (tree t) (y .2));
+        certifies = certificate .certifies;
+        maxLeaves = every-all _ (tree t) (every-map _ _ (λ k f h. set-marked k (f h)) (tree t) (x .2));
+        minLeaves = every-all _ (tree t) (every-map _ _ (λ k f h. set-marked k (f h)) (tree t) (y .2));
       }
 
   -- the check of certificates accepts them, and gives the minimax value
   pub flags-verified : verdict t (left .flags) ≡ Value (valueOf (minimax (valuation t) (tree t)))
-  flags-verified =
-      let f = flag (valuation t) (among w) (tree t) in
-      let h = handed .room .flags in
-      certificate-verdict t (left .flags) (minimax (valuation t) (tree t)) (record {
-        accepted = handed .accepted;
-        enough = omega (arith, h, ap length (handed .flags), written-length f (frames t) (lent .flags) h);
-        inRange = λ i l.
-            omega (
-              arith,
-              flags-at i l,
-              two-bits (solutionOf Max (valuation t) (among w) (tree t) i)
-                  (solutionOf Min (valuation t) (among w) (tree t) i),
-            );
-        certifies = flags-certify .certifies;
-      })
+  flags-verified = certificate-verdict t (left .flags) _ certificate
 
-  -- there are as many marks at 1 as evaluated leaves
-  pub marks-count : length w ≡ ones (left .marks) (frames t)
-  marks-count =
-      sym (ap (λ x. ones x (frames t)) (handed .marks) ∙ ones-evaluated t formed (handed .deciding) (lent .marks))
+-- the leaves that a call evaluates
+abbrev pub leavesBy : Call → List ℕ
+leavesBy c = evaluatedBy (c .method) (c .table)
 
-module _ {t : List ℕ} (c : Call t) where
-  -- each leaf marked 1 is one that Baudet's condition reaches
-  pub marks-reached : (k : ℕ) → Marked t (left c) k → among (reachedLeaves t) k ≡ true
-  marks-reached k m =
-      let leaf = sym (marked-at (view c .handed) k (m .node)) ∙ eq-eqb _ _ (m .mark) in
-      let all = domination (valuation t) (tree t) (proper (view c .handed)) (view c .searched) in
-      all-at (λ k. among (reachedLeaves t) k ≡ true) (leaves c)
-      (subst (λ v. All (λ k. among v k ≡ true) (leaves c)) (alphaBeta-leaves (valuation t) (tree t)) all) k leaf
+module _ (c : Call) (s : Says c) where
+  module _ (given : Given c) where
+    -- they are marked
+    pub marking : MarkedLeaves (c .table) (leavesBy c) (c .lent) (c .left)
+    marking =
+        record {
+          within = rules.within (c .table) (views.formed c s given) (c .method);
+          marks = views.marks c s given;
+        }
 
-  -- so there are no more of them than alpha-beta evaluates
-  pub count-most : length (leaves c) ≤ length (reachedLeaves t)
-  count-most =
-      rw (← alphaBeta-leaves (valuation t) (tree t))
-      (domination-count (valuation t) (tree t) (proper (view c .handed)) (view c .searched))
+    -- the count is the number of marks at 1
+    pub count-ones : countOf (c .answer) ≡ ones (c .left .marks) (frames (c .table))
+    count-ones =
+        views.counted c s given
+        ∙ sym (ap (λ x. ones x (frames (c .table))) (views.marks c s given)
+        ∙ rules.ones-count (c .table) (views.formed c s given) (c .method) (c .lent .marks))
+
+    -- each that is marked 1 is one that alpha-beta evaluates, and there are no more
+    pub marks-reached : (k : ℕ) → Marked (c .table) (c .left) k → among (evaluatedBy AlphaBeta (c .table)) k ≡ true
+    marks-reached k m =
+        all-at (λ k. among (evaluatedBy AlphaBeta (c .table)) k ≡ true) (leavesBy c)
+        (rules.dominated (c .table) (views.formed c s given) (c .method)) k (marked-leaf marking k m)
+
+    pub count-most : countOf (c .answer) ≤ length (evaluatedBy AlphaBeta (c .table))
+    count-most = rw (views.counted c s given) (rules.no-more (c .table) (views.formed c s given) (c .method))
+
+    -- the list begins with the leaves, as many as the count says
+    pub first-leaves : take (countOf (c .answer)) (c .left .order) ≡ leavesBy c
+    first-leaves =
+        ap (λ n. take n (c .left .order)) (views.counted c s given)
+        ∙ ap (take (length (leavesBy c))) (views.order c s given)
+        ∙ take-append-seam (leavesBy c) _
+
+  -- what a call with a result hands back
+  pub handed : (g : Findings) → c .answer ≡ Found g → HandedBack (c .table) (leavesBy c) (c .lent) (c .left)
+  handed g e =
+      let given = views.found-given c s g e in
+      record {
+        accepted = views.accepted c s given;
+        room = views.room c s given .flags;
+        deciding = rules.decides (c .table) (views.formed c s given) (c .method) (views.nothing-beyond c s g e);
+        marked = marking given;
+        flags = views.flags c s g e;
+      }
+
+-- a call that evaluates all leaves of another marks them, and counts no fewer
+module _ (c d : Call) (s : Says c) (q : Says d) (gc : Given c) (gd : Given d)
+    (all : All (λ k. among (leavesBy d) k ≡ true) (leavesBy c)) where
+  pub marks-covered : (k : ℕ) → Marked (c .table) (c .left) k → Marked (d .table) (d .left) k
+  marks-covered k m =
+      leaf-marked (marking d q gd) k
+      (all-at (λ k. among (leavesBy d) k ≡ true) (leavesBy c) all k (marked-leaf (marking c s gc) k m))
+
+  pub count-covered : countOf (c .answer) ≤ countOf (d .answer)
+  count-covered =
+      rw (views.counted c s gc, views.counted d q gd)
+      (once-length (leavesBy c) (leavesBy d) (rules.once (c .table) (views.formed c s gc) (c .method)) all)
+
+-- so does one by alpha-beta with that table
+module _ (c d : Call) (s : Says c) (q : Says d) (m : d .method ≡ AlphaBeta) (t : d .table ≡ c .table) (gc : Given c)
+    (gd : Given d) where
+  reaches : All (λ k. among (leavesBy d) k ≡ true) (leavesBy c)
+  reaches = rw (m, t) (rules.dominated (c .table) (views.formed c s gc) (c .method))
+
+  pub dominated : (k : ℕ) → Marked (c .table) (c .left) k → Marked (d .table) (d .left) k
+  dominated = marks-covered c d s q gc gd reaches
+
+  pub no-more : countOf (c .answer) ≤ countOf (d .answer)
+  no-more = count-covered c d s q gc gd reaches

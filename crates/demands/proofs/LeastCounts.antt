@@ -27,7 +27,7 @@ use Rattle.leastcount.specs.Rule.{cap, leastOf, leastCount}
 use Rattle.leastcount.specs.Answer.{leastRejection, leastAnswer}
 use Rattle.leastcount.proofs.Questions.{wrong-width, wrong-depth, inside-table, passed-inside, given-leaves}
 use Rattle.leastcount.proofs.Questions.{given-rejected}
-use Rattle.demands.proofs.Evaluations.{smallest-pair}
+use Rattle.demands.proofs.Demand3.{pair-exists}
 
 -- "width 1 to 40 by depth 0 to 18: width to the power of half the depth rounded up, plus width to the power of half
 -- rounded down, less 1, capped at 65,535": so says `leastCount`, and each entry is given
@@ -61,7 +61,7 @@ module _ (t : List ℕ) (w d : ℕ) (r : RegularTable w d t) where
     -- "Below the cap": where the tree is accepted the entry always is, as there are no more than 4,096 nodes
     pub below-the-cap : Accepted t → n < cap
     below-the-cap a =
-        let s = smallest-pair t a in
+        let s = pair-exists t a in
         let p = pairs-alike a (s .0) (s .1) _ (s .2 .certifies) in
         let q = le-trans (pairLeaves-all (s .0) (s .1) (tree t)) (leaves-size (tree t)) in
         omega (arith, p, q, counted, tree-size t (accepted-formed t a), accepted-formed t a .atMost)

@@ -12,24 +12,18 @@ pub mod TheSentence
 pub mod Sentences
 pub mod Contracts
 pub mod Exports
-mod Calls
-mod ListedRuns
 mod Running
 mod Parts
 mod Views
 mod Handed
 mod Local
-mod Spending
-mod Refusals
-mod Results
-mod Evaluations
-mod PlainCalls
 mod Allowed
 mod Listing
+mod Numbers
+mod PlainCalls
 mod FilledCosts
 mod Deeper
 mod Fewest
-mod MtdfCalls
 mod AlternatingCalls
 pub mod Demand1
 pub mod Demand2

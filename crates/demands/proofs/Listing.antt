@@ -1,140 +1,122 @@
--- What is proved of the lists of leaves that runs leave, for Order.antt and Sentences.antt.
-use Prim.Native.Nat.{ℕ, _<_}
-use native.Mathlib.Omega.{arith}
-use mathlib.Core.Path.{_≡_, refl, sym, ap, ap₂, _∙_, subst}
+-- What is proved of the lists of leaves that calls leave, for Order.antt and Sentences.antt.
+use Prim.Native.Nat.{ℕ}
+use mathlib.Core.Path.{_≡_, sym, ap, ap₂, _∙_, subst}
 use mathlib.Core.Logic.{_↔_}
-use mathlib.Core.Bool.{Bool, true, false, cond}
-use mathlib.Core.List.{List, map}
-use lib.ListN.{length, getD, take}
+use mathlib.Core.Bool.{true}
+use mathlib.Core.List.{List, _++_, map, append-assoc}
+use lib.ListN.{length, take, drop, take-append-drop}
 use lib.Seq.{take-append-seam}
-use Rattle.lists.specs.Lists.{All, among, Once, Subsequence}
-use Rattle.lists.proofs.Lists.{all-at}
-use Rattle.gametree.specs.Tree.{leaves as treeLeaves}
+use Rattle.lists.specs.Lists.{among, Once, Subsequence}
+use Rattle.gametree.specs.Tree.{leaves, minimax}
 use Rattle.gametree.specs.Certificate.{flag}
+use Rattle.gametree.specs.Move.{rootMove}
+use Rattle.gametree_theory.proofs.Theorems.{alphaBeta-leaves, alphaBeta-ordered, sss-mtd}
 use Rattle.frames.specs.Frame.{frames}
 use Rattle.frames.specs.Tree.{upFrom, tree, valuation}
+use Rattle.frames.specs.Value.{valueOf}
+use Rattle.frames.proofs.Proper.{tree-proper}
 use Rattle.positions.specs.Buffer.{written}
 use Rattle.certificate_bounds.specs.Marks.{mark}
-use Rattle.certificate.specs.declared.Findings.{Findings}
-use Rattle.certificate.specs.Search.{findings, listed}
-use Rattle.certificate.proofs.Marks.{evaluated-within}
-use Rattle.alphabeta.specs.declared.AlphaBetaAnswer.the-variants as ab-answer
-use Rattle.mtd.specs.declared.MtdResult.{MtdResult}
-use Rattle.mtd.specs.declared.MtdAnswer.the-variants as mtd-answer
-use Rattle.mtd.specs.Outcome.{mtdLeaves}
-use Rattle.sss.specs.declared.SssResult.{SssResult}
-use Rattle.sss.specs.declared.SssAnswer.the-variants as sss-answer
-use Rattle.sss.specs.Outcome.{sssLeaves}
+use Rattle.methods.specs.declared.Method.the-variants.{AlphaBeta, Mtd, Sss}
+use Rattle.methods.specs.declared.Findings.{Findings}
+use Rattle.methods.specs.declared.Answer.the-variants.{Found}
+use Rattle.methods.specs.Rules.{evaluatedBy}
+use Rattle.methods.proofs.Rules as rules
+use Rattle.demands.specs.Searches.{Call, Given, countOf}
 use Rattle.demands.specs.Handed.{Marked, Alike}
-use Rattle.demands.proofs.Calls.{AlphaBetaCall, MtdCall, SssCall, alphaBeta, mtd, sss}
-use Rattle.demands.proofs.ListedRuns.{Run, finished, stopped, count, left, lentOrder, leftOrder, evaluated}
-use Rattle.demands.proofs.ListedRuns.{order}
-use Rattle.demands.proofs.Views.{view}
-use Rattle.demands.proofs.Handed.{formed, marks-at}
+use Rattle.demands.proofs.Running.{Says}
+use Rattle.demands.proofs.Views as views
+use Rattle.demands.proofs.Handed.{leavesBy, marking, marked-leaf, leaf-marked, first-leaves}
 use Rattle.demands.proofs.Local.{take-written}
-use Rattle.demands.proofs.Spending.{leaves-hold, first-once, spent-view, spent-formed, first-count}
-use Rattle.demands.proofs.Spending.{spent-marks-at}
-use Rattle.demands.proofs.Evaluations.{once, ordered, one-order}
+use Rattle.demands.proofs.Allowed.{all-leaves}
 
--- what is common to the runs
-record Listing {t : List ℕ} (r : Run t) : Type 0 where
-  counted : count r ≡ length (evaluated r)
-  left-is : leftOrder r ≡ listed (evaluated r) (lentOrder r)
-  once-each : Once (evaluated r)
-  within-table : All (λ k. k < frames t) (evaluated r)
-  marks-are : (k : ℕ) → k < frames t → getD (left r .marks) k 0 ≡ mark (among (evaluated r)) k
+-- the list that a call gives: the first entries of the one that it leaves, as many as the count says
+abbrev listOf : Call → List ℕ
+listOf c = take (countOf (c .answer)) (c .left .order)
 
-listing : {t : List ℕ} (r : Run t) → Listing r
-listing {t} (finished c) =
-    let v = view c in
-    record {
-      counted = ap (λ f. f .leaves) (v .results);
-      left-is = v .order;
-      once-each = once c;
-      within-table = evaluated-within t (formed (v .handed)) (v .handed .deciding);
-      marks-are = marks-at (v .handed);
-    }
-listing {t} (stopped c) =
-    let v = spent-view c in
-    let wf = spent-formed c in
-    record {
-      counted = ap (λ s. s .leaves) (v .gives) ∙ sym (first-count c);
-      left-is = v .order;
-      once-each = first-once t wf (c .allowance);
-      within-table = leaves-hold t wf (c .allowance) (λ k. k < frames t) (λ i h _. h);
-      marks-are = spent-marks-at c;
-    }
+module _ (c : Call) (s : Says c) (given : Given c) where
+  pub as-many : length (listOf c) ≡ countOf (c .answer)
+  as-many = ap length (first-leaves c s given) ∙ sym (views.counted c s given)
 
-module _ {t : List ℕ} (r : Run t) where
-  -- "Each of the three searches also fills a lent list with the numbers of the valued leaves, in the order valued"
-  pub order-left : leftOrder r ≡ listed (evaluated r) (lentOrder r)
-  order-left = listing r .left-is
-
-  pub order-evaluated : order r ≡ evaluated r
-  order-evaluated = ap₂ take (listing r .counted) order-left ∙ take-append-seam (evaluated r) _
-
-  -- "Each valuing adds one number: a list has as many as the count"
-  pub as-many : length (order r) ≡ count r
-  as-many = ap length order-evaluated ∙ sym (listing r .counted)
-
-  -- "and none stands in it twice"
-  pub none-twice : Once (order r)
-  none-twice = subst Once (sym order-evaluated) (listing r .once-each)
+  pub none-twice : Once (listOf c)
+  none-twice =
+      subst Once (sym (first-leaves c s given)) (rules.once (c .table) (views.formed c s given) (c .method))
 
   -- the nodes in it are those marked 1
-  pub listed-marked : (k : ℕ) → (among (order r) k ≡ true) ↔ Marked t (left r) k
+  pub listed-marked : (k : ℕ) → (among (listOf c) k ≡ true) ↔ Marked (c .table) (c .left) k
   listed-marked k = (
-    λ e.
-        let m = ap (λ w. among w k) (sym order-evaluated) ∙ e in
-        let h = all-at (λ k. k < frames t) (evaluated r) (listing r .within-table) k m in
-        record { node = h; mark = listing r .marks-are k h ∙ ap (λ b. cond b 1 0) m },
-    λ m. ap (λ w. among w k) order-evaluated ∙ by-mark (among (evaluated r) k)
-        (sym (listing r .marks-are k (m .node)) ∙ m .mark),
+    λ e. leaf-marked (marking c s given) k (ap (λ w. among w k) (sym (first-leaves c s given)) ∙ e),
+    λ m. ap (λ w. among w k) (first-leaves c s given) ∙ marked-leaf (marking c s given) k m,
   )
-    where
-      by-mark : (b : Bool) → _≡_ {A = ℕ} (cond b 1 0) 1 → b ≡ true
-      by-mark true e = refl
-      by-mark false e = absurd (omega arith)
 
--- "For every accepted tree MTD and a finished SSS* give the same list": with the same findings, and so the same count,
--- and the same marks and flags
-module _ {t : List ℕ} {f : MtdResult} {g : SssResult} (m : MtdCall t (mtd-answer.Found f))
-    (s : SssCall t (sss-answer.Found g)) where
-  same-leaves : mtdLeaves t ≡ sssLeaves t
-  same-leaves = sym (one-order t (formed (view (mtd m) .handed)))
+-- alpha-beta's comes from the tree's leaves, from left to right, by leaving some out
+pub left-to-right : (c : Call) → Says c → c .method ≡ AlphaBeta → Given c
+    → Subsequence (listOf c) (leaves (tree (c .table)))
+left-to-right c s m x =
+    subst (λ w. Subsequence w (leaves (tree (c .table))))
+    (alphaBeta-leaves (valuation (c .table)) (tree (c .table))
+    ∙ sym (first-leaves c s x ∙ ap (λ n. evaluatedBy n (c .table)) m))
+    (alphaBeta-ordered (valuation (c .table)) (tree (c .table)))
 
-  -- what is written for the same leaves is the same
-  same-written : (b d : List ℕ) (k : List ℕ → ℕ → ℕ)
-      → take (frames t) (written (k (mtdLeaves t)) (frames t) b)
-      ≡ take (frames t) (written (k (sssLeaves t)) (frames t) d)
-  same-written b d k =
-      take-written _ (frames t) b ∙ ap (λ w. map (k w) (upFrom 0 (frames t))) same-leaves
-      ∙ sym (take-written _ (frames t) d)
+-- a call that evaluates the first leaves of another gives the first of its list
+pub first-of : (c d : Call) → Says c → Says d → Given c → Given d → (n : ℕ) → leavesBy c ≡ take n (leavesBy d)
+    → listOf c ≡ take (countOf (c .answer)) (d .left .order)
+first-of c d s q x y n e =
+    let w = leavesBy d in
+    let rest = drop (length w) (d .lent .order) in
+    let split : w ++ rest ≡ take n w ++ (drop n w ++ rest) =
+    ap (λ v. v ++ rest) (sym (take-append-drop n w)) ∙ append-assoc (take n w) (drop n w) rest in
+    first-leaves c s x ∙ e
+    ∙ sym (ap₂ take (views.counted c s x ∙ ap length e) (views.order d q y ∙ split) ∙ take-append-seam (take n w) _)
 
-  pub same-list : order (finished (mtd m)) ≡ order (finished (sss s))
-  same-list =
-      order-evaluated (finished (mtd m)) ∙ same-leaves ∙ sym (order-evaluated (finished (sss s)))
+-- what was written for the same leaves of the same table
+same-written : (F : (w t : List ℕ) → ℕ → ℕ) (w v t u a b x y : List ℕ) → w ≡ v → u ≡ t
+    → x ≡ written (F w t) (frames t) a → y ≡ written (F v u) (frames u) b → take (frames t) x ≡ take (frames t) y
+same-written F w v t u a b x y e i j k =
+    ap (take (frames t)) j ∙ take-written (F w t) (frames t) a
+    ∙ ap₂ (λ w t. map (F w t) (upFrom 0 (frames t))) e (sym i)
+    ∙ sym (ap₂ take (ap frames (sym i)) k ∙ take-written (F v u) (frames u) b)
 
-  pub same-findings : f .findings ≡ g .findings
-  same-findings =
-      view (mtd m) .results ∙ ap (λ w. findings w t) same-leaves ∙ sym (view (sss s) .results)
+-- two calls with results on one table
+module _ (c d : Call) (s : Says c) (q : Says d) (t : d .table ≡ c .table) (g h : Findings) (e : c .answer ≡ Found g)
+    (f : d .answer ≡ Found h) where
+  pub agree : (g .value ≡ h .value) × (g .«root_move» ≡ h .«root_move»)
+  agree = (
+    ap (λ x. x .value) (views.findings c s g e)
+        ∙ sym (ap (λ x. x .value) (views.findings d q h f) ∙ ap (λ t. valueOf (minimax (valuation t) (tree t))) t),
+    ap (λ x. x .«root_move») (views.findings c s g e)
+        ∙ sym (ap (λ x. x .«root_move») (views.findings d q h f) ∙ ap (λ t. rootMove (valuation t) (tree t)) t),
+  )
 
-  pub same-buffers : Alike (frames t) (m .left) (s .left)
-  same-buffers =
-      record {
-        marks =
-            ap (take (frames t)) (view (mtd m) .handed .marks)
-            ∙ same-written (m .lent .marks) (s .lent .marks) (λ w. mark (among w))
-            ∙ sym (ap (take (frames t)) (view (sss s) .handed .marks));
-        flags =
-            ap (take (frames t)) (view (mtd m) .handed .flags)
-            ∙ same-written (m .lent .flags) (s .lent .flags) (λ w. flag (valuation t) (among w) (tree t))
-            ∙ sym (ap (take (frames t)) (view (sss s) .handed .flags));
-      }
+  -- that evaluate the same leaves
+  module _ (w : leavesBy c ≡ leavesBy d) where
+    pub same-count : g .leaves ≡ h .leaves
+    same-count =
+        ap (λ x. x .leaves) (views.findings c s g e) ∙ ap length w
+        ∙ sym (ap (λ x. x .leaves) (views.findings d q h f))
 
--- "and alpha-beta's list is in left-to-right order": it comes from the tree's leaves, from left to right, by leaving
--- some out
-pub left-to-right : {t : List ℕ} {f : Findings} (c : AlphaBetaCall t (ab-answer.Found f))
-    → Subsequence (order (finished (alphaBeta c))) (treeLeaves (tree t))
-left-to-right {t} c =
-    subst (λ w. Subsequence w (treeLeaves (tree t))) (sym (order-evaluated (finished (alphaBeta c)))) (ordered t)
+    pub same-buffers : Alike (frames (c .table)) (c .left) (d .left)
+    same-buffers =
+        record {
+          marks =
+              same-written (λ w _. mark (among w)) (leavesBy c) (leavesBy d) (c .table) (d .table) _ _ _ _ w t
+              (views.marks c s (views.found-given c s g e)) (views.marks d q (views.found-given d q h f));
+          flags =
+              same-written (λ w t. flag (valuation t) (among w) (tree t)) (leavesBy c) (leavesBy d) (c .table)
+              (d .table) _ _ _ _ w t (views.flags c s g e) (views.flags d q h f);
+        }
+
+-- MTD evaluates the leaves of the full run of SSS*, and SSS* the first of them
+module _ (c d : Call) (s : Says c) (x : Given c) (n : ℕ) (i : c .method ≡ Mtd) (j : d .method ≡ Sss n)
+    (t : d .table ≡ c .table) where
+  pub first-of-mtd : leavesBy d ≡ take n (leavesBy c)
+  first-of-mtd =
+      ap₂ evaluatedBy j t
+      ∙ ap (take n) (sss-mtd (valuation (c .table)) (tree (c .table)) (tree-proper (c .table) (views.formed c s x)))
+      ∙ sym (ap (λ m. take n (evaluatedBy m (c .table))) i)
+
+  pub all-of-mtd : (q : Says d) (h : Findings) → d .answer ≡ Found h → leavesBy c ≡ leavesBy d
+  all-of-mtd q h f =
+      ap (λ m. evaluatedBy m (c .table)) i
+      ∙ sym (ap₂ evaluatedBy j t ∙ all-leaves (c .table) n (rw (j, t) at (views.nothing-beyond d q h f))
+      ∙ sss-mtd (valuation (c .table)) (tree (c .table)) (tree-proper (c .table) (views.formed c s x)))

@@ -1,9 +1,9 @@
 -- Request N14, sentence by sentence. "fills a lent list with the numbers of the valued leaves, in the order valued, and
--- leaves the rest of it": `leaves-exactly` in Demand2, and of a run that is stopped `first-leaves` in Allowance. MTD
--- and SSS* give one list, alpha-beta's is in left-to-right order, and a list has as many as the count and none twice:
--- `one-list`, `from-the-left` and `listed-once` in Sentences. After a refusal all of the list is as it was:
--- `alphabeta-keeps` and its like in TheSentence. Tables that agree on the valued leaves get the same lists:
--- `alphabeta-local` and its like in Sentences, `mtdf-local` in Mtdf, and `local-allowed` in Allowance.
+-- leaves the rest of it": `leaves-exactly` in Demand2. MTD and SSS* give one list, alpha-beta's is in left-to-right
+-- order, and a list has as many as the count and none twice: `one-list`, `from-the-left` and `listed-once` in
+-- Sentences. A run that is stopped gives the first leaves of the full run's list: `first-of-list` in Allowance. After a
+-- refusal all of the list is as it was: `keeps` in TheSentence. Tables that agree on the valued leaves get the same
+-- lists: `local` in Sentences.
 use Prim.Native.Nat.{ℕ, suc, _<_}
 use mathlib.Core.Path.{_≡_, refl, ap, _∙_}
 use mathlib.Core.Logic.{_↔_, _⊎_}
@@ -13,7 +13,7 @@ use mathlib.Core.List.{List, [], _∷_, _++_}
 use lib.Dec.{leb}
 use lib.ListN.{length, take}
 use borrow.Author.Tests.{lt-leb}
-use Rattle.lists.specs.Lists.{among, Once}
+use Rattle.lists.specs.Lists.{among}
 use Rattle.gametree.specs.Tree.{least, minimax}
 use Rattle.gametree.specs.Sss.{State, stop, step, ListAfter}
 use Rattle.gametree_theory.proofs.Theorems as theory
@@ -24,23 +24,16 @@ use Rattle.frames.specs.Check.{rejection, longEnough, Accepted}
 use Rattle.frames.proofs.Acceptance.{accepted-formed}
 use Rattle.frames.proofs.Proper.{tree-proper}
 use Rattle.certificate.specs.Search.{searchRejection}
-use Rattle.sss.specs.Outcome.{runOf}
-use Rattle.sss.proofs.Allowed.{full-value}
+use Rattle.methods.specs.Rules.{runOf}
+use Rattle.demands.specs.Searches.{EverySearch, Given, countOf}
 use Rattle.demands.specs.Handed.{Marked}
-use Rattle.demands.specs.Searches.{EachSearch, EachSpent}
-use Rattle.demands.proofs.ListedRuns.{finished as given, stopped}
-use Rattle.demands.proofs.Running.{each-search, each-spent}
-use Rattle.demands.proofs.Listing as runs
+use Rattle.demands.proofs.Running.{every}
+use Rattle.demands.proofs.Listing as calls
 
 -- the nodes in the list are those marked 1
-pub listed-marked : EachSearch (λ t rule f _ _ d p. (k : ℕ) → (among (take (f .leaves) p) k ≡ true) ↔ Marked t d k)
-listed-marked = each-search _ (λ t c. runs.listed-marked (given c))
-
--- so it is with a run that is stopped, whose list too has as many as the count, and none twice
-pub spent-listed : EachSpent (λ n t s _ _ d p. (length (take (s .leaves) p) ≡ s .leaves)
-    × Once (take (s .leaves) p) × ((k : ℕ) → (among (take (s .leaves) p) k ≡ true) ↔ Marked t d k))
-spent-listed =
-    each-spent _ (λ t s c. (runs.as-many (stopped c), runs.none-twice (stopped c), runs.listed-marked (stopped c)))
+pub listed-marked : EverySearch (λ c. Given c → (k : ℕ)
+    → (among (take (countOf (c .answer)) (c .left .order)) k ≡ true) ↔ Marked (c .table) (c .left) k)
+listed-marked = every calls.listed-marked
 
 -- "show that the state list holds a state until the root is taken SOLVED": each list that SSS* reaches on an accepted
 -- table, by any number of replacements, holds one, so also the one where an allowance ends the run (`CutShort`)
@@ -66,7 +59,7 @@ module _ (t : List ℕ) (a : Accepted t) where
   pub no-empty : (runOf t .value ≡ minimax (valuation t) (tree t)) × (least < runOf t .value)
   no-empty =
       let wf = accepted-formed t a in
-      let e = full-value t wf in
+      let e = theory.sss-minimax (valuation t) (tree t) (tree-proper t wf) in
       (e, rw e (theory.value-score (valuation t) (tree t) (tree-proper t wf .scored) .0))
 
 -- "A short list gets 10": place 0, after questions 1 to 9; and so does any other of the lent buffers

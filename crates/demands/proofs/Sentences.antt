@@ -1,7 +1,7 @@
 -- The headline sentences of the demands and of each request, said of the functions that run (TheSentence.antt has the
 -- first of them). N4: `treefile-digit` in Contracts.antt.
 use Prim.Native.Nat.{ℕ, _*_, _≤_, _<_}
-use mathlib.Core.Path.{_≡_, sym, ap, ap₂, _∙_, subst}
+use mathlib.Core.Path.{_≡_, sym, ap, _∙_, subst}
 use mathlib.Core.Logic.{_↔_}
 use mathlib.Core.Bool.{Bool, true, cond}
 use mathlib.Core.Option.{none}
@@ -13,6 +13,7 @@ use lib.Signed.{_≤ℤ_, _<ℤ_}
 use Rattle.lists.specs.Lists.{Once, Subsequence, among}
 use Rattle.gametree.specs.Tree.{leaves as treeLeaves, minimax}
 use Rattle.gametree.specs.Certificate.{Certifies, Smallest, pairLeaves}
+use Rattle.gametree.specs.Move.{rootMove}
 use Rattle.frames.specs.declared.Rejection.{Rejection}
 use Rattle.frames.specs.declared.Checked.the-variants.{Nodes, Rejected as RejectedTable}
 use Rattle.frames.specs.Frame.{frameSize, maxDepth, frames, childCount, storedScore}
@@ -24,14 +25,12 @@ use Rattle.frames.specs.FirstNo.{LowestDeep, rejectionBefore9}
 use Rattle.frames.specs.Shape.{SameShape}
 use Rattle.frames.specs.results.Alternating.{Alternating, treeByDepth}
 use Rattle.frames.specs.results.Regular.{RegularTable}
-use Rattle.frames.proofs.Acceptance.{accepted-formed}
+use Rattle.frames.proofs.Sides.{tree-before}
 use Rattle.frames.proofs.TreeOfTable.{ordinary-scores}
 use Rattle.file_hex.specs.Digit.{isCapitalDigit}
 use Rattle.file_lines.specs.Line.{lineDigits}
 use Rattle.file_lines.specs.Lines.{linesOf, decoded}
 use Rattle.certificate_bounds.specs.Marks.{mark, ones}
-use Rattle.certificate.specs.declared.Findings.{Findings}
-use Rattle.certificate.specs.Search.{findings, buffers}
 use Rattle.tables.proofs as tables
 use Rattle.file_reader.proofs as reader
 use Rattle.file_reader.specs.File.{AcceptedFile, readOutcome}
@@ -43,22 +42,15 @@ use Rattle.treefile.proofs.Saving.{saved-read}
 use Rattle.convert.proofs as convert
 use Rattle.convert.proofs.Converted.{converted-accepted, converted-table}
 use Rattle.verify.specs.Certificate.{Certificate}
-use Rattle.alphabeta.proofs as alphabeta
-use Rattle.alphabeta.specs.declared.AlphaBetaAnswer.the-variants as ab-answer
-use Rattle.alphabeta.specs.Outcome.{reachedLeaves}
+use Rattle.methods.specs.declared.Method.the-variants.{AlphaBeta, Mtd, Sss}
+use Rattle.methods.specs.declared.Findings.{Findings}
+use Rattle.methods.specs.declared.Spent.{Spent as Spending}
+use Rattle.methods.specs.declared.Answer.the-variants.{Found, Spent}
+use Rattle.methods.specs.Rules.{runOf, evaluatedBy}
+use Rattle.methods.specs.Outcome.{lent, findingsBy, answerBy}
 use Rattle.plain.proofs as plain
 use Rattle.plain.specs.declared.PlainResult.{PlainResult}
 use Rattle.plain.specs.declared.PlainAnswer.the-variants as plain-answer
-use Rattle.mtd.proofs as mtd
-use Rattle.mtd.specs.declared.MtdResult.{MtdResult}
-use Rattle.mtd.specs.declared.MtdAnswer.the-variants as mtd-answer
-use Rattle.mtd.specs.Outcome.{mtdFound}
-use Rattle.sss.proofs as sss
-use Rattle.sss.specs.declared.SssResult.{SssResult}
-use Rattle.sss.specs.declared.Spent.{Spent}
-use Rattle.sss.specs.declared.SssAnswer.the-variants as sss-answer
-use Rattle.sss.specs.Outcome.{sssLeaves, sssSpent}
-use Rattle.sss.proofs.Allowed.{enough}
 use Rattle.graft.proofs as graft
 use Rattle.graft.specs.results.Grafted.{graftValue}
 use Rattle.graft.proofs.Grafting.{grafted-value}
@@ -68,7 +60,6 @@ use Rattle.leastvalue.specs.results.Root.{rootValue}
 use Rattle.leastvalue.proofs.Theorems.{given}
 use Rattle.worstfill.proofs as worstfill
 use Rattle.worstfill.specs.declared.Filled.the-variants as filled
-use Rattle.worstfill.specs.results.Filled.{handed}
 use Rattle.leastcount.proofs as leastcount
 use Rattle.leastcount.specs.declared.Least.the-variants as least
 use Rattle.leastcount.specs.Answer.{leastAnswer}
@@ -77,195 +68,90 @@ use Rattle.shorter.specs.declared.Choice.the-variants.{First, Second}
 use Rattle.shorter.specs.Choice.{flaggedLeaves, flagsBy}
 use Rattle.shorter.proofs.Theorems.{both-first, both-second}
 use Rattle.demands.specs.Runs.{Runs, RunBoth}
+use Rattle.demands.specs.Searches.{EverySearch, EveryTwo, EverySearchAnd, EachPlain, Given, countOf}
 use Rattle.demands.specs.Handed.{Room, AgreeOnMarked, Alike}
-use Rattle.demands.specs.Searches.{EachSearch, EachSpent, EachPlain}
-use Rattle.demands.proofs.Calls.{PlainCall, sss as sss-call}
-use Rattle.demands.proofs.ListedRuns.{finished}
-use Rattle.demands.proofs.Running.{follows, each-search, each-spent, each-plain, alphaBetaCall, mtdCall}
-use Rattle.demands.proofs.Running.{sssCall}
 use Rattle.demands.proofs.Contracts as contracts
-use Rattle.demands.proofs.Views.{sssBy, list-passed, rooms-passed}
-use Rattle.demands.proofs.Spending.{more-left}
+use Rattle.demands.proofs.Running.{follows, every, every-two, every-and, each-plain}
+use Rattle.demands.proofs.Views as views
+use Rattle.demands.proofs.Handed.{marks-at, marking, count-ones, no-more}
+use Rattle.demands.proofs.Local.{answers-alike, marks-alike, orders-alike, buffers-alike}
+use Rattle.demands.proofs.Allowed.{nothing-left, needs-more, spends, merit-bounds}
+use Rattle.demands.proofs.Listing.{as-many, none-twice, left-to-right, first-of, first-of-mtd, all-of-mtd}
+use Rattle.demands.proofs.Listing.{agree, same-count, same-buffers}
+use Rattle.demands.proofs.PlainCalls.{plain-value, plain-move}
 use Rattle.demands.proofs.Deeper.{deeper-answered}
-use Rattle.demands.proofs.Results.{marks-rule, only-accepted, value-minimax}
-use Rattle.demands.proofs.Evaluations.{no-more, count, smallest, local-alphaBeta, local-mtd, local-sss}
-use Rattle.demands.proofs.PlainCalls.{same-as-alphaBeta}
-use Rattle.demands.proofs.Allowed.{needs-more, merit-bounds, spent-fewer}
-use Rattle.demands.proofs.AlternatingCalls.{alternating-tree}
 use Rattle.demands.proofs.FilledCosts.{every-leaf-counted, every-leaf-marked, none-costlier}
 use Rattle.demands.proofs.LeastCounts.{every-pair}
-use Rattle.demands.proofs.Fewest.{no-fewer, no-fewer-plain}
-use Rattle.demands.proofs.Listing.{same-list, same-findings, same-buffers, left-to-right, as-many, none-twice}
+use Rattle.demands.proofs.Fewest.{smallest, no-fewer, no-fewer-plain}
 
 -- DEMAND 2
 
--- "each valuing the leaves that its rule names and no others"
-pub rule-leaves : EachSearch (λ t rule f _ _ b _. (k : ℕ) → k < frames t → getD (b .marks) k 0 ≡ mark (among rule) k)
-rule-leaves = each-search _ (λ t c. marks-rule c)
+-- "each valuing the leaves that its rule names and no others", a stopped run the first of them
+pub rule-leaves : EverySearch (λ c. Given c → (k : ℕ) → k < frames (c .table)
+    → getD (c .left .marks) k 0 ≡ mark (among (evaluatedBy (c .method) (c .table))) k)
+rule-leaves = every (λ c s x. marks-at (marking c s x))
 
--- "give for every accepted tree": with room in what is lent, there is a result; from SSS* within its allowance
-pub alphabeta-gives : Runs alphabeta.search.ended alphabeta.search.Symbol.routine
-    (λ κs (t, (m, (f, (o, _)))) r e. Accepted (t .now) → Room (t .now) (buffers (m .now) (f .now))
-    → frames (t .now) ≤ length (o .now) → (g : Findings) × (r ≡ ab-answer.Found g))
-alphabeta-gives =
-    follows contracts.alphabeta-search
-    (λ κs (t, (m, (f, (o, _)))) r e s a h long. (
-      findings (reachedLeaves (t .now)) (t .now),
-      ap (λ x. x .answer .answer) s
-          ∙ rw (list-passed (t .now) (buffers (m .now) (f .now)) (o .now) a h long),
-    ))
-
-pub mtd-gives : Runs mtd.search.ended mtd.search.Symbol.routine
-    (λ κs (t, (m, (f, (o, _)))) r e. Accepted (t .now) → Room (t .now) (buffers (m .now) (f .now))
-    → frames (t .now) ≤ length (o .now) → (g : MtdResult) × (r ≡ mtd-answer.Found g))
-mtd-gives =
-    follows contracts.mtd-search
-    (λ κs (t, (m, (f, (o, _)))) r e s a h long. (
-      mtdFound (t .now),
-      ap (λ x. x .answer .answer) s
-          ∙ rw (list-passed (t .now) (buffers (m .now) (f .now)) (o .now) a h long),
-    ))
-
-pub sss-gives : Runs sss.search.ended sss.search.Symbol.routine
-    (λ κs (t, (l, (m, (f, (o, (n, _)))))) r e. Accepted (t .now) → Room (t .now) (buffers (m .now) (f .now))
-    → frames (t .now) ≤ length (o .now) → frames (t .now) ≤ length (l .now) → length (sssLeaves (t .now)) ≤ n
-    → (g : SssResult) × (r ≡ sss-answer.Found g))
-sss-gives =
-    follows contracts.sss-search
-    (λ κs (t, (l, (m, (f, (o, (n, _)))))) r e s a h long entries allowed. (
-      _,
-      ap (λ x. x .answer .answer .answer) s
-          ∙ ap₂ (λ xs q. sssBy n (t .now) (l .now) (buffers (m .now) (f .now)) (o .now) xs q .answer .answer .answer)
-          (enough (t .now) (accepted-formed (t .now) a) n allowed)
-          (rooms-passed (t .now) (buffers (m .now) (f .now)) (o .now) a h long (l .now) entries),
-    ))
+-- "give for every accepted tree": with room in what is lent there is a result; from SSS* within its allowance
+pub gives : EverySearch (λ c. Accepted (c .table) → Room (c .table) (c .lent)
+    → ((n : ℕ) → c .method ≡ Sss n → length (runOf (c .table) .evaluations) ≤ n)
+    → (g : Findings) × (c .answer ≡ Found g))
+gives = every (λ c s a r enough. (
+  findingsBy (c .method) (c .table),
+  views.room-answered c s a r ∙ ap (λ xs. answerBy xs (c .method) (c .table))
+      (nothing-left (c .table) (c .method) enough),
+))
 
 -- DEMAND 3
 
--- "so the count in its result is at most the one in alpha-beta's", also where SSS* is stopped by its allowance
-pub counts : RunBoth sss.search.ended alphabeta.search.ended sss.search.Symbol.routine alphabeta.search.Symbol.routine
-    (λ κs (t, _) r e κs′ (u, _) r′ e′. u .now ≡ t .now → (g : Findings) → r′ ≡ ab-answer.Found g
-    → ((f : SssResult) → r ≡ sss-answer.Found f → f .findings .leaves ≤ g .leaves)
-    × ((s : Spent) → r ≡ sss-answer.Spent s → s .leaves ≤ g .leaves))
-counts =
-    record {
-      one = _;
-      other = _;
-      oneRuns = contracts.sss-search;
-      otherRuns = contracts.alphabeta-search;
-      both = λ κs (t, (l, (m, (f, (o, (n, _)))))) r (_, (l′, (m′, (f′, (o′, _))))) s.
-          λ κs′ (u, (x, (y, (z, _)))) r′ (_, (x′, (y′, (z′, _)))) c same h j.
-          let a = alphaBetaCall (t .now) (buffers (x .now) (y .now)) (z .now) (ab-answer.Found h)
-          (buffers (x′ .now) (y′ .now)) (z′ .now) (rw same at (rw j at c)) in (
-            λ g i. no-more a (sss-call (sssCall (t .now) (buffers (m .now) (f .now)) (o .now) n (l .now)
-                (sss-answer.Found g) (l′ .now) (buffers (m′ .now) (f′ .now)) (o′ .now) (rw i at s))),
-            λ g i. spent-fewer (sssCall (t .now) (buffers (m .now) (f .now)) (o .now) n (l .now)
-                (sss-answer.Spent g) (l′ .now) (buffers (m′ .now) (f′ .now)) (o′ .now) (rw i at s)) a,
-          );
-    }
+-- "so the count in its result is at most the one in alpha-beta's", whatever the first call's method, and also where it
+-- is stopped by its allowance
+pub counts : EveryTwo (λ c d. d .method ≡ AlphaBeta → d .table ≡ c .table → Given c → Given d
+    → countOf (c .answer) ≤ countOf (d .answer))
+counts = every-two no-more
 
 -- "Neither values a leaf twice: each count is exactly the number of leaves valued"
-pub exact-count : EachSearch (λ t rule f _ _ b _. (f .leaves ≡ length rule)
-    × (f .leaves ≡ ones (b .marks) (frames t)))
-exact-count = each-search _ (λ t c. count c)
+pub exact-count : EverySearch (λ c. Given c → (countOf (c .answer) ≡ length (evaluatedBy (c .method) (c .table)))
+    × (countOf (c .answer) ≡ ones (c .left .marks) (frames (c .table))))
+exact-count = every (λ c s x. (views.counted c s x, count-ones c s x))
 
 -- "Neither count is below the number of leaves .. in the smallest pair of max and min solution trees of equal value"
-pub smallest-pair : EachSearch (λ t rule f _ _ _ _. (g h : ℕ → Bool) → Smallest (valuation t) (tree t) g h
-    → pairLeaves g h (tree t) ≤ f .leaves)
-smallest-pair = each-search _ (λ t c. smallest c)
+pub smallest-pair : EverySearch (λ c. (f : Findings) → c .answer ≡ Found f → (g h : ℕ → Bool)
+    → Smallest (valuation (c .table)) (tree (c .table)) g h → pairLeaves g h (tree (c .table)) ≤ f .leaves)
+smallest-pair = every smallest
 
 -- "whatever the leaves it passed over hold: two accepted trees of one shape that agree on the leaves it valued in one
 -- of them get results from it that are alike in value, move and every count, with the same valued leaves and the same
--- solution trees"; and the same lists of leaves
-pub alphabeta-local : RunBoth alphabeta.search.ended alphabeta.search.ended alphabeta.search.Symbol.routine
-    alphabeta.search.Symbol.routine
-    (λ κs (t, _) r (_, (m, (f, (o, _)))) κs′ (u, _) r′ (_, (m′, (f′, (o′, _)))).
-    (g h : Findings) → r ≡ ab-answer.Found g → r′ ≡ ab-answer.Found h → SameShape (t .now) (u .now)
-    → AgreeOnMarked (t .now) (u .now) (buffers (m .now) (f .now))
-    → (g ≡ h) × Alike (frames (t .now)) (buffers (m .now) (f .now)) (buffers (m′ .now) (f′ .now))
-    × (take (g .leaves) (o .now) ≡ take (h .leaves) (o′ .now)))
-alphabeta-local =
-    record {
-      one = _;
-      other = _;
-      oneRuns = contracts.alphabeta-search;
-      otherRuns = contracts.alphabeta-search;
-      both = λ κs (t, (m, (f, (o, _)))) r (_, (m′, (f′, (o′, _)))) s.
-          λ κs′ (u, (x, (y, (z, _)))) r′ (_, (x′, (y′, (z′, _)))) c g h i j.
-          local-alphaBeta
-          (alphaBetaCall (t .now) (buffers (m .now) (f .now)) (o .now) (ab-answer.Found g)
-          (buffers (m′ .now) (f′ .now)) (o′ .now) (rw i at s))
-          (alphaBetaCall (u .now) (buffers (x .now) (y .now)) (z .now) (ab-answer.Found h)
-          (buffers (x′ .now) (y′ .now)) (z′ .now) (rw j at c));
-    }
-
-pub mtd-local : RunBoth mtd.search.ended mtd.search.ended mtd.search.Symbol.routine mtd.search.Symbol.routine
-    (λ κs (t, _) r (_, (m, (f, (o, _)))) κs′ (u, _) r′ (_, (m′, (f′, (o′, _)))).
-    (g h : MtdResult) → r ≡ mtd-answer.Found g → r′ ≡ mtd-answer.Found h → SameShape (t .now) (u .now)
-    → AgreeOnMarked (t .now) (u .now) (buffers (m .now) (f .now))
-    → (g ≡ h) × Alike (frames (t .now)) (buffers (m .now) (f .now)) (buffers (m′ .now) (f′ .now))
-    × (take (g .findings .leaves) (o .now) ≡ take (h .findings .leaves) (o′ .now)))
-mtd-local =
-    record {
-      one = _;
-      other = _;
-      oneRuns = contracts.mtd-search;
-      otherRuns = contracts.mtd-search;
-      both = λ κs (t, (m, (f, (o, _)))) r (_, (m′, (f′, (o′, _)))) s.
-          λ κs′ (u, (x, (y, (z, _)))) r′ (_, (x′, (y′, (z′, _)))) c g h i j.
-          local-mtd
-          (mtdCall (t .now) (buffers (m .now) (f .now)) (o .now) (mtd-answer.Found g)
-          (buffers (m′ .now) (f′ .now)) (o′ .now) (rw i at s))
-          (mtdCall (u .now) (buffers (x .now) (y .now)) (z .now) (mtd-answer.Found h)
-          (buffers (x′ .now) (y′ .now)) (z′ .now) (rw j at c));
-    }
-
-pub sss-local : RunBoth sss.search.ended sss.search.ended sss.search.Symbol.routine sss.search.Symbol.routine
-    (λ κs (t, _) r (_, (_, (m, (f, (o, _))))) κs′ (u, _) r′ (_, (_, (m′, (f′, (o′, _))))).
-    (g h : SssResult) → r ≡ sss-answer.Found g → r′ ≡ sss-answer.Found h → SameShape (t .now) (u .now)
-    → AgreeOnMarked (t .now) (u .now) (buffers (m .now) (f .now))
-    → (g ≡ h) × Alike (frames (t .now)) (buffers (m .now) (f .now)) (buffers (m′ .now) (f′ .now))
-    × (take (g .findings .leaves) (o .now) ≡ take (h .findings .leaves) (o′ .now)))
-sss-local =
-    record {
-      one = _;
-      other = _;
-      oneRuns = contracts.sss-search;
-      otherRuns = contracts.sss-search;
-      both = λ κs (t, (l, (m, (f, (o, (n, _)))))) r (_, (l′, (m′, (f′, (o′, _))))) s.
-          λ κs′ (u, (w, (x, (y, (z, (a, _)))))) r′ (_, (w′, (x′, (y′, (z′, _))))) c g h i j.
-          local-sss
-          (sssCall (t .now) (buffers (m .now) (f .now)) (o .now) n (l .now) (sss-answer.Found g) (l′ .now)
-          (buffers (m′ .now) (f′ .now)) (o′ .now) (rw i at s))
-          (sssCall (u .now) (buffers (x .now) (y .now)) (z .now) a (w .now) (sss-answer.Found h) (w′ .now)
-          (buffers (x′ .now) (y′ .now)) (z′ .now) (rw j at c));
-    }
+-- solution trees"; the same lists of leaves; and N6: "trees that agree on valued leaves also agree on spent answers
+-- under one allowance"
+pub local : EveryTwo (λ c d. d .method ≡ c .method → Given c → Given d → SameShape (c .table) (d .table)
+    → AgreeOnMarked (c .table) (d .table) (c .left)
+    → (c .answer ≡ d .answer)
+    × (take (frames (c .table)) (c .left .marks) ≡ take (frames (c .table)) (d .left .marks))
+    × (take (countOf (c .answer)) (c .left .order) ≡ take (countOf (d .answer)) (d .left .order))
+    × ((g : Findings) → c .answer ≡ Found g → Alike (frames (c .table)) (c .left) (d .left)))
+local = every-two (λ c d s q i x y h a. (
+  answers-alike c d s q i x y h a,
+  marks-alike c d s q i x y h a,
+  orders-alike c d s q i x y h a,
+  buffers-alike c d s q i x y h a,
+))
 
 -- THE REQUESTS
 
--- N1: "It is proved equal to alpha-beta in both for every accepted tree"
-pub plain-agrees : RunBoth alphabeta.search.ended plain.search.ended alphabeta.search.Symbol.routine
-    plain.search.Symbol.routine
-    (λ κs (t, _) r e κs′ (u, _) r′ e′. u .now ≡ t .now → (f : Findings) → r ≡ ab-answer.Found f
-    → (g : PlainResult) → r′ ≡ plain-answer.Found g → (g .value ≡ f .value) × (g .«root_move» ≡ f .«root_move»))
+-- N1: "It is proved equal to alpha-beta in both for every accepted tree", and so to every method
+pub plain-agrees : EverySearchAnd plain.search.ended plain.search.Symbol.routine
+    (λ c κs (u, _) r e. u .now ≡ c .table → (f : Findings) → c .answer ≡ Found f
+    → (g : PlainResult) → r ≡ plain-answer.Found g → (g .value ≡ f .value) × (g .«root_move» ≡ f .«root_move»))
 plain-agrees =
-    record {
-      one = _;
-      other = _;
-      oneRuns = contracts.alphabeta-search;
-      otherRuns = contracts.plain-search;
-      both = λ κs (t, (m, (f, (o, _)))) r (_, (m′, (f′, (o′, _)))) s κs′ (u, (x, (y, _))) r′ (_, (x′, (y′, _))) c.
-          λ same g i h j.
-          let p : PlainCall (t .now) (plain-answer.Found h) =
-          record {
-            lent = buffers (x .now) (y .now);
-            left = buffers (x′ .now) (y′ .now);
-            outcome = rw same at (rw j at c);
-          } in
-          same-as-alphaBeta
-          (alphaBetaCall (t .now) (buffers (m .now) (f .now)) (o .now) (ab-answer.Found g)
-          (buffers (m′ .now) (f′ .now)) (o′ .now) (rw i at s)) p;
-    }
+    every-and contracts.plain-search (λ c s κs (u, (m, (f, _))) r e o same g i h j.
+    let l = lent (m .now) (f .now) [] in
+    let p = rw j at o in
+    let v = views.findings c s g i in (
+      plain-value (u .now) h l _ p ∙ ap (λ t. valueOf (minimax (valuation t) (tree t))) same
+          ∙ sym (ap (λ x. x .value) v),
+      plain-move (u .now) h l _ p ∙ ap (λ t. rootMove (valuation t) (tree t)) same
+          ∙ sym (ap (λ x. x .«root_move») v),
+    ))
 
 -- N2: "Deeper trees are answered with 9"
 pub deeper-refused : Runs tables.check.ended tables.check.Symbol.routine
@@ -301,35 +187,25 @@ written-read =
 pub stored-scores : (t : List ℕ) → Accepted t → Ordinary t → valuation t ≡ storedScore t
 stored-scores = ordinary-scores
 
-pub ordinary : EachSearch (λ t rule f _ _ _ _. Ordinary t → f .value ≡ valueOf (minimax (storedScore t) (tree t)))
-ordinary =
-    each-search _
-    (λ t c p. value-minimax c ∙ ap (λ ν. valueOf (minimax ν (tree t))) (ordinary-scores t (only-accepted c) p))
+pub ordinary : EverySearch (λ c. (g : Findings) → c .answer ≡ Found g → Ordinary (c .table)
+    → g .value ≡ valueOf (minimax (storedScore (c .table)) (tree (c .table))))
+ordinary = every (λ c s g e p.
+    ap (λ x. x .value) (views.findings c s g e)
+    ∙ ap (λ ν. valueOf (minimax ν (tree (c .table))))
+    (ordinary-scores (c .table) (views.accepted c s (views.found-given c s g e)) p))
 
 -- N6: "Spent is given exactly when the full run needs more leaves than the allowance"
-pub spent-exactly : Runs sss.search.ended sss.search.Symbol.routine
-    (λ κs (t, (l, (m, (f, (o, (n, _)))))) r e. Accepted (t .now) → Room (t .now) (buffers (m .now) (f .now))
-    → frames (t .now) ≤ length (o .now) → frames (t .now) ≤ length (l .now)
-    → ((s : Spent) × (r ≡ sss-answer.Spent s)) ↔ (n < length (sssLeaves (t .now))))
-spent-exactly =
-    follows contracts.sss-search
-    (λ κs (t, (l, (m, (f, (o, (n, _)))))) r (_, (l′, (m′, (f′, (o′, _))))) c a h long entries. (
-      λ p. needs-more (sssCall (t .now) (buffers (m .now) (f .now)) (o .now) n (l .now) (sss-answer.Spent (p .0))
-          (l′ .now) (buffers (m′ .now) (f′ .now)) (o′ .now) (rw (p .1) at c)),
-      λ more.
-          let x = more-left (t .now) n more in (
-            sssSpent n (x .0),
-            ap (λ x. x .answer .answer .answer) c
-                ∙ ap₂ (λ xs q. sssBy n (t .now) (l .now) (buffers (m .now) (f .now)) (o .now) xs q
-                .answer .answer .answer) (x .1 .1)
-                (rooms-passed (t .now) (buffers (m .now) (f .now)) (o .now) a h long (l .now) entries),
-          ),
-    ))
+pub spent-exactly : EverySearch (λ c. (n : ℕ) → c .method ≡ Sss n → Accepted (c .table) → Room (c .table) (c .lent)
+    → ((p : Spending) × (c .answer ≡ Spent p)) ↔ (n < length (runOf (c .table) .evaluations)))
+spent-exactly = every (λ c s n i a r. (
+  λ p. needs-more c s (p .0) (p .1) n i,
+  λ more. spends c s n i a r more,
+))
 
 -- "That merit is never below the root's value" (nor above 32,001)
-pub merit-not-below : EachSpent (λ n t s _ _ _ _. (valueOf (minimax (valuation t) (tree t)) ≤ℤ s .merit)
-    × (s .merit ≤ℤ pos 32001))
-merit-not-below = each-spent _ (λ t s c. merit-bounds c)
+pub merit-not-below : EverySearch (λ c. (p : Spending) → c .answer ≡ Spent p
+    → (valueOf (minimax (valuation (c .table)) (tree (c .table))) ≤ℤ p .merit) × (p .merit ≤ℤ pos 32001))
+merit-not-below = every merit-bounds
 
 -- N7: "The reader takes capital hexadecimal letters and no others"
 pub capitals-taken : Runs reader.read.ended reader.read.Symbol.routine
@@ -353,11 +229,12 @@ converted-same =
     (converted-accepted (f .now) (b .now) n given, converted-table (f .now) (b .now) n given)))
 
 -- N8: "Old files mean what they meant"
-pub alternating : EachSearch (λ t rule f _ _ _ _. Alternating t
-    → f .value ≡ valueOf (minimax (valuation t) (treeByDepth t)))
-alternating =
-    each-search _
-    (λ t c p. value-minimax c ∙ ap (λ x. valueOf (minimax (valuation t) x)) (alternating-tree t p (only-accepted c)))
+pub alternating : EverySearch (λ c. (g : Findings) → c .answer ≡ Found g → Alternating (c .table)
+    → g .value ≡ valueOf (minimax (valuation (c .table)) (treeByDepth (c .table))))
+alternating = every (λ c s g e p.
+    ap (λ x. x .value) (views.findings c s g e)
+    ∙ ap (λ x. valueOf (minimax (valuation (c .table)) x))
+    (tree-before (c .table) p (views.formed c s (views.found-given c s g e))))
 
 -- N9: "Its minimax value equals that of the first tree with the leaf's worth replaced by the grafted tree's value"
 pub graft-value : Runs graft.graft.ended graft.graft.Symbol.routine
@@ -382,29 +259,19 @@ smallest-value =
     let g = given (t .now) k w v (sym s ∙ i) in (g .ranged, g .reaches, g .smallest))
 
 -- N11: "In that tree alpha-beta values every leaf, so no filling of the shape costs it more"
-pub costs-most : RunBoth worstfill.fill.ended alphabeta.search.ended worstfill.fill.Symbol.routine
-    alphabeta.search.Symbol.routine
-    (λ κs (t, _) r (t′, _) κs′ (u, _) r′ (_, (m, _)). (n : ℕ) → r ≡ filled.Leaves n
-    → (g : Findings) → r′ ≡ ab-answer.Found g → (SameShape (t .now) (u .now) → g .leaves ≤ n)
-    × (u .now ≡ t′ .now → (g .leaves ≡ n) × ((k : ℕ) → k < frames (t .now)
-    → getD (m .now) k 0 ≡ cond (eqb (childCount (t .now) k) 0) 1 0)))
+pub costs-most : EverySearchAnd worstfill.fill.ended worstfill.fill.Symbol.routine
+    (λ c κs (t, _) r (t′, _). (n : ℕ) → r ≡ filled.Leaves n → c .method ≡ AlphaBeta
+    → (g : Findings) → c .answer ≡ Found g → (SameShape (t .now) (c .table) → g .leaves ≤ n)
+    × (c .table ≡ t′ .now → (g .leaves ≡ n) × ((k : ℕ) → k < frames (t .now)
+    → getD (c .left .marks) k 0 ≡ cond (eqb (childCount (t .now) k) 0) 1 0)))
 costs-most =
-    record {
-      one = _;
-      other = _;
-      oneRuns = contracts.worstfill-fill;
-      otherRuns = contracts.alphabeta-search;
-      both = λ κs (t, _) r (t′, _) s κs′ (u, (x, (y, (z, _)))) r′ (_, (x′, (y′, (z′, _)))) c n e g i.
-          let given = sym (ap (λ o. o .answer) s) ∙ e in
-          let call = alphaBetaCall (u .now) (buffers (x .now) (y .now)) (z .now) (ab-answer.Found g)
-          (buffers (x′ .now) (y′ .now)) (z′ .now) (rw i at c) in (
-            λ shape. none-costlier (t .now) n given (u .now) shape call,
-            λ same.
-                let there = alphaBetaCall (handed (t .now)) (buffers (x .now) (y .now)) (z .now) (ab-answer.Found g)
-                (buffers (x′ .now) (y′ .now)) (z′ .now) (rw (same ∙ ap (λ o. o .left) s) at (rw i at c)) in
-                (every-leaf-counted (t .now) n given there, every-leaf-marked (t .now) n given there),
-          );
-    }
+    every-and contracts.worstfill-fill (λ c s κs (t, _) r (t′, _) o n e i g f.
+    let given = sym (ap (λ x. x .answer) o) ∙ e in (
+      none-costlier (t .now) n given c s i g f,
+      λ same.
+          let there = same ∙ ap (λ x. x .left) o in
+          (every-leaf-counted (t .now) n given c s i g f there, every-leaf-marked (t .now) n given c s i g f there),
+    ))
 
 -- N12: "each entry is the number of leaves, a shared one counted once, in every max and min pair of equal value, in
 -- each such tree that is accepted"
@@ -416,14 +283,14 @@ least-leaves =
     (λ κs (w, (d, _)) r e s n i t regular. every-pair t w d regular n (sym s ∙ i))
 
 -- "and no finished search counts fewer"
-pub counts-no-fewer : EachSearch (λ t rule f _ _ _ _. (w d n : ℕ) → RegularTable w d t
-    → leastAnswer w d ≡ least.Leaves n → n ≤ f .leaves)
-counts-no-fewer = each-search _ (λ t c w d n regular e. no-fewer t w d regular n e c)
+pub counts-no-fewer : EverySearch (λ c. (g : Findings) → c .answer ≡ Found g → (w d n : ℕ)
+    → RegularTable w d (c .table) → leastAnswer w d ≡ least.Leaves n → n ≤ g .leaves)
+counts-no-fewer = every no-fewer
 
 -- nor does the plain engine mark fewer
-pub marks-no-fewer : EachPlain (λ t f _ b. (w d n : ℕ) → RegularTable w d t → leastAnswer w d ≡ least.Leaves n
-    → n ≤ ones (b .marks) (frames t))
-marks-no-fewer = each-plain _ (λ t f c w d n regular e. no-fewer-plain t w d regular n e c)
+pub marks-no-fewer : EachPlain (λ t f _ l. (w d n : ℕ) → RegularTable w d t → leastAnswer w d ≡ least.Leaves n
+    → n ≤ ones (l .marks) (frames t))
+marks-no-fewer = each-plain no-fewer-plain
 
 -- N13: "the call hands back the flags of the one with fewer flagged leaves, the first on a tie"
 pub fewer-leaves : Runs shorter.select.ended shorter.select.Symbol.routine
@@ -441,38 +308,27 @@ fewer-leaves =
           (i, o .1 ∙ ap (flagsBy (t .now) (f .now) (s .now)) i),
     ))
 
--- N14: "For every accepted tree MTD and a finished SSS* give the same list": with the same findings, marks and flags
-pub one-list : RunBoth mtd.search.ended sss.search.ended mtd.search.Symbol.routine sss.search.Symbol.routine
-    (λ κs (t, _) r (_, (m, (f, (o, _)))) κs′ (u, _) r′ (_, (_, (m′, (f′, (o′, _))))). u .now ≡ t .now
-    → (g : MtdResult) → r ≡ mtd-answer.Found g → (h : SssResult) → r′ ≡ sss-answer.Found h
-    → (take (g .findings .leaves) (o .now) ≡ take (h .findings .leaves) (o′ .now)) × (g .findings ≡ h .findings)
-    × Alike (frames (t .now)) (buffers (m .now) (f .now)) (buffers (m′ .now) (f′ .now)))
-one-list =
-    record {
-      one = _;
-      other = _;
-      oneRuns = contracts.mtd-search;
-      otherRuns = contracts.sss-search;
-      both = λ κs (t, (m, (f, (o, _)))) r (_, (m′, (f′, (o′, _)))) s.
-          λ κs′ (u, (w, (x, (y, (z, (a′, _)))))) r′ (_, (w′, (x′, (y′, (z′, _))))) c same g i h j.
-          let a = mtdCall (t .now) (buffers (m .now) (f .now)) (o .now) (mtd-answer.Found g)
-          (buffers (m′ .now) (f′ .now)) (o′ .now) (rw i at s) in
-          let b = sssCall (t .now) (buffers (x .now) (y .now)) (z .now) a′ (w .now) (sss-answer.Found h) (w′ .now)
-          (buffers (x′ .now) (y′ .now)) (z′ .now) (rw same at (rw j at c)) in
-          (same-list a b, same-findings a b, same-buffers a b);
-    }
+-- N14: "For every accepted tree MTD and a finished SSS* give the same list": with the same value, move and count, marks
+-- and flags; and where its allowance stops SSS*, it gives the first leaves of that list
+pub one-list : EveryTwo (λ c d. (n : ℕ) → c .method ≡ Mtd → d .method ≡ Sss n → d .table ≡ c .table → Given c → Given d
+    → (take (countOf (d .answer)) (d .left .order) ≡ take (countOf (d .answer)) (c .left .order))
+    × ((g h : Findings) → c .answer ≡ Found g → d .answer ≡ Found h
+    → (g .leaves ≡ h .leaves) × (g .value ≡ h .value) × (g .«root_move» ≡ h .«root_move»)
+    × Alike (frames (c .table)) (c .left) (d .left)))
+one-list = every-two (λ c d s q n i j t x y. (
+  first-of d c q s y x n (first-of-mtd c d s x n i j t),
+  λ g h e f.
+      let w = all-of-mtd c d s x n i j t q h f in
+      let a = agree c d s q t g h e f in
+      (same-count c d s q t g h e f w, a .0, a .1, same-buffers c d s q t g h e f w),
+))
 
 -- "and alpha-beta's list is in left-to-right order"
-pub from-the-left : Runs alphabeta.search.ended alphabeta.search.Symbol.routine
-    (λ κs (t, _) r (_, (_, (_, (o, _)))). (g : Findings) → r ≡ ab-answer.Found g
-    → Subsequence (take (g .leaves) (o .now)) (treeLeaves (tree (t .now))))
-from-the-left =
-    follows contracts.alphabeta-search
-    (λ κs (t, (m, (f, (o, _)))) r (_, (m′, (f′, (o′, _)))) s g e.
-    left-to-right (alphaBetaCall (t .now) (buffers (m .now) (f .now)) (o .now) (ab-answer.Found g)
-    (buffers (m′ .now) (f′ .now)) (o′ .now) (rw e at s)))
+pub from-the-left : EverySearch (λ c. c .method ≡ AlphaBeta → Given c
+    → Subsequence (take (countOf (c .answer)) (c .left .order)) (treeLeaves (tree (c .table))))
+from-the-left = every left-to-right
 
 -- "a list has as many as the count, and none stands in it twice"
-pub listed-once : EachSearch (λ t rule f _ _ _ o. (length (take (f .leaves) o) ≡ f .leaves)
-    × Once (take (f .leaves) o))
-listed-once = each-search _ (λ t c. (as-many (finished c), none-twice (finished c)))
+pub listed-once : EverySearch (λ c. Given c → let list = take (countOf (c .answer)) (c .left .order) in
+    (length list ≡ countOf (c .answer)) × Once list)
+listed-once = every (λ c s x. (as-many c s x, none-twice c s x))

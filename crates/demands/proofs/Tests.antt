@@ -10,8 +10,9 @@ use Rattle.frames.specs.Rejection.{eachNode}
 use Rattle.frames.specs.Check.{framesRejection, rejection}
 use Rattle.positions.specs.Buffer.{written}
 use Rattle.lists.specs.Lists.{countFrom}
-use Rattle.demands.specs.results.Rows.{rowOf, rejected, tables, rows}
-use Rattle.demands.specs.results.Cases.{path, winTables, winRows, leavesOf, captureTables, captureRows}
+use Rattle.methods.specs.declared.Answer.the-variants.{Rejected}
+use Rattle.demands.specs.results.Rows.{rowOf, tables, rows}
+use Rattle.demands.specs.results.Cases.{path, winTables, winRows, leafFrames, captureTables, captureRows}
 use Rattle.demands.specs.results.Cases.{deeperTables, deeperRows, stoppedAt, stoppedRows, withEntries}
 
 -- the cases marked P, with what all searches give and leave
@@ -27,12 +28,12 @@ win-cases = refl
 
 pub capture-cases : map rowOf captureTables ≡ captureRows
 unfolding mtd next parentBefore positionWithin positionOf childrenFrom grow treeAt valuation eachNode
-    framesRejection rejection upFrom written countFrom leavesOf
+    framesRejection rejection upFrom written countFrom leafFrames
 capture-cases = refl
 
 pub deeper-cases : map rowOf deeperTables ≡ deeperRows
 unfolding mtd next parentBefore positionWithin positionOf childrenFrom grow treeAt valuation eachNode
-    framesRejection rejection upFrom written countFrom leavesOf
+    framesRejection rejection upFrom written countFrom leafFrames
 deeper-cases = refl
 
 -- a run of SSS* under allowances of 0 to 4 leaves
@@ -42,7 +43,8 @@ unfolding mtd next parentBefore positionWithin positionOf childrenFrom grow tree
 stopped-cases = refl
 
 -- 7 nodes and 4 entries get 10, as do 6 entries
-pub short-cases : map withEntries (4 ∷ 6 ∷ []) ≡ replicate 2 (replicate 4 (rejected 10))
+pub short-cases : map withEntries (4 ∷ 6 ∷ [])
+    ≡ replicate 2 (replicate 5 (Rejected (record { number = 10; place = 0 })))
 unfolding mtd next parentBefore positionWithin positionOf childrenFrom grow treeAt valuation eachNode
     framesRejection rejection upFrom written countFrom
 short-cases = refl

@@ -1,308 +1,189 @@
--- What is common to the calls that give a result, from their contracts.
+-- What a call says, by its answer.
 use Prim.Native.Nat.{ℕ, _≤_}
-use mathlib.Core.Path.{_≡_, sym, ap, _∙_}
+use mathlib.Core.Path.{_≡_, refl, sym, ap, _∙_}
 use mathlib.Core.Option.{Option, none, some}
-use mathlib.Core.List.{List, [], _++_}
+use mathlib.Core.List.{List, [], _∷_, _++_}
 use lib.ListN.{length, drop, replicate}
+use borrow.Author.Tests.{le-leb}
 use Rattle.lists.proofs.Choice.{clash}
 use Rattle.gametree.specs.Sss.{Evaluation}
-use Rattle.gametree_theory.proofs.Searches.{Searched, byMtd, Deciding}
-use Rattle.gametree_theory.proofs.Theorems.{search-deciding}
-use Rattle.gametree_theory.proofs.TestRuns.{mtdf-searched}
 use Rattle.frames.specs.declared.Rejection.{Rejection}
-use Rattle.frames.specs.Rejection.{unless, Outcome, _leaving_}
 use Rattle.frames.specs.Frame.{frames}
-use Rattle.frames.specs.Tree.{tree, valuation}
+use Rattle.frames.specs.Formed.{WellFormed}
+use Rattle.frames.specs.Rejection.{unless, Outcome, _leaving_}
+use Rattle.frames.specs.Value.{valueOf}
 use Rattle.frames.specs.Check.{Accepted}
 use Rattle.frames.proofs.Asked.{answer-of}
 use Rattle.frames.proofs.Acceptance.{accepted-formed}
-use Rattle.frames.proofs.Proper.{tree-proper}
-use Rattle.certificate.specs.declared.Findings.{Findings}
-use Rattle.certificate.specs.Search.{searchRejection, marksOf, flagsOf, findings, Buffers, buffersOf, listed}
-use Rattle.certificate.specs.Search.{SearchOutcome}
+use Rattle.certificate.specs.Search.{searchRejection, marksOf, flagsOf, listed}
 use Rattle.certificate.proofs.Questions.{passed-room, room-passed}
-use Rattle.alphabeta.specs.declared.AlphaBetaAnswer.the-variants as ab-answer
-use Rattle.alphabeta.specs.Outcome.{reachedLeaves}
-use Rattle.alphabeta.proofs.Reached as reached
-use Rattle.mtd.specs.declared.MtdResult.{MtdResult}
-use Rattle.mtd.specs.declared.MtdAnswer.the-variants as mtd-answer
-use Rattle.mtd.specs.Outcome.{mtdLeaves, mtdFound}
-use Rattle.mtdf.specs.declared.MtdfResult.{MtdfResult}
-use Rattle.mtdf.specs.declared.MtdfAnswer.the-variants as mtdf-answer
-use Rattle.mtdf.specs.Outcome.{startScore, decisionOf, mtdfLeaves, mtdfFound}
+use Rattle.methods.specs.declared.Method.{Method}
+use Rattle.methods.specs.declared.Method.the-variants.{Sss}
+use Rattle.methods.specs.declared.Findings.{Findings}
+use Rattle.methods.specs.declared.Spent.{Spent as Spending}
+use Rattle.methods.specs.declared.Answer.{Answer}
+use Rattle.methods.specs.declared.Answer.the-variants.{Found, Spent, Rejected}
+use Rattle.methods.specs.Rules.{evaluatedBy, beyond}
+use Rattle.methods.specs.Outcome.{Lent, rejectionOf, findingsBy, answerBy, flagsLeft, givenBy, searchOutcome}
 use Rattle.sss_states.specs.declared.State.{State}
 use Rattle.sss_states.specs.Entry.{blank}
-use Rattle.sss.specs.declared.SssResult.{SssResult}
-use Rattle.sss.specs.declared.SssAnswer.{SssAnswer}
-use Rattle.sss.specs.declared.SssAnswer.the-variants as sss-answer
-use Rattle.sss.specs.Outcome.{sssLeaves, sssFound, givenBy}
-use Rattle.sss.specs.engine.Uncovered.{sssUncovered}
-use Rattle.sss.proofs.Allowed.{searched, outcomeBy, by-rejection, by-value}
+use Rattle.sss.specs.Outcome.{sssOutcome}
+use Rattle.demands.specs.Searches.{Call, Given, countOf}
 use Rattle.demands.specs.Handed.{Room}
-use Rattle.demands.proofs.Calls.{lengths, listLengths, stateLengths, AlphaBetaCall, MtdCall, MtdfCall}
-use Rattle.demands.proofs.Calls.{SssCall, Call, alphaBeta, mtd, mtdf, sss, found, lent, left, lentOrder}
-use Rattle.demands.proofs.Calls.{leftOrder, leaves}
-use Rattle.demands.proofs.Parts.{Result, Refusal, Apart, result-of, refusal-of, left-due}
+use Rattle.demands.proofs.Parts.{by-given, by-refusal}
+use Rattle.demands.proofs.Running.{Says}
 
--- the answers of each search
-ab-apart : Apart ab-answer.Found ab-answer.Rejected
-ab-apart =
-    record {
-      sameFound = λ g h e. cc;
-      sameRejected = λ x y e. cc;
-      neverBoth = λ g x e. clash (cc);
-    }
+-- the lengths of which question 10 asks
+abbrev pub lengths : Lent → List ℕ
+lengths l = length (l .marks) ∷ length (l .flags) ∷ length (l .order) ∷ []
 
-mtd-apart : Apart mtd-answer.Found mtd-answer.Rejected
-mtd-apart =
-    record {
-      sameFound = λ g h e. cc;
-      sameRejected = λ x y e. cc;
-      neverBoth = λ g x e. clash (cc);
-    }
+-- questions that pass: an accepted table, and room
+pub list-room : (t : List ℕ) (l : Lent) → rejectionOf t l ≡ none → Accepted t × Room t l
+list-room t l e =
+    let p = passed-room t (lengths l) e in
+    (p .0, record { marks = p .1 .0; flags = p .1 .1 .0; order = p .1 .1 .1 .0 })
 
-mtdf-apart : Apart mtdf-answer.Found mtdf-answer.Rejected
-mtdf-apart =
-    record {
-      sameFound = λ g h e. cc;
-      sameRejected = λ x y e. cc;
-      neverBoth = λ g x e. clash (cc);
-    }
+pub list-passed : (t : List ℕ) (l : Lent) → Accepted t → Room t l → rejectionOf t l ≡ none
+list-passed t l a r = room-passed t (lengths l) a (r .marks, (r .flags, (r .order, tt)))
 
-sss-apart : Apart sss-answer.Found sss-answer.Rejected
-sss-apart =
-    record {
-      sameFound = λ g h e. cc;
-      sameRejected = λ x y e. cc;
-      neverBoth = λ g x e. clash (cc);
-    }
+-- the allowance of a method is spent: an evaluation is left, and what is given follows from the first
+pub record Stopped (m : Method) (t : List ℕ) (p : Spending) : Type 0 where
+  pub next : Evaluation
+  pub later : List Evaluation
+  pub left : beyond m t ≡ next ∷ later
+  pub gives : p ≡ record {
+    merit = valueOf (next .merit);
+    leaves = length (evaluatedBy m t);
+    steps = next .replacements;
+  }
 
--- what a result of each search says
-module _ {t : List ℕ} where
-  pub alphaBeta-result : {f : Findings} (c : AlphaBetaCall t (ab-answer.Found f))
-      → Result (searchRejection t (listLengths (c .lent) (c .lentOrder))) (findings (reachedLeaves t) t) f
-      (buffersOf (reachedLeaves t) t (c .lent)) (c .left)
-  alphaBeta-result c =
-      result-of ab-apart _ (c .lent) _ _ _
-      (ap (λ x. x .answer) (c .outcome) ∙ answer-of (searchRejection t (listLengths (c .lent) (c .lentOrder))) _ _ _ _)
+same-refusal : (x y : Rejection) → Rejected x ≡ Rejected y → x ≡ y
+same-refusal x y e = cc
 
-  pub mtd-result : {f : MtdResult} (c : MtdCall t (mtd-answer.Found f))
-      → Result (searchRejection t (listLengths (c .lent) (c .lentOrder))) (mtdFound t) f
-      (buffersOf (mtdLeaves t) t (c .lent)) (c .left)
-  mtd-result c =
-      result-of mtd-apart _ (c .lent) _ _ _
-      (ap (λ x. x .answer) (c .outcome) ∙ answer-of (searchRejection t (listLengths (c .lent) (c .lentOrder))) _ _ _ _)
+-- what a method answers, by the evaluations that it has no allowance for
+module _ (m : Method) (t : List ℕ) where
+  by-answer : (xs : List Evaluation) (r : Rejection) → answerBy xs m t ≡ Rejected r → ⊥
+  by-answer [] r e = clash (cc)
+  by-answer (x ∷ xs) r e = clash (cc)
 
-  pub mtdf-result : {f : MtdfResult} (c : MtdfCall t (mtdf-answer.Found f))
-      → Result (searchRejection t (listLengths (c .lent) (c .lentOrder))) (mtdfFound (startScore (c .start)) t) f
-      (buffersOf (mtdfLeaves (startScore (c .start)) t) t (c .lent)) (c .left)
-  mtdf-result c =
-      result-of mtdf-apart _ (c .lent) _ _ _
-      (ap (λ x. x .answer) (c .outcome) ∙ answer-of (searchRejection t (listLengths (c .lent) (c .lentOrder))) _ _ _ _)
+  by-count : (xs : List Evaluation) → countOf (answerBy xs m t) ≡ length (evaluatedBy m t)
+  by-count [] = refl
+  by-count (x ∷ xs) = refl
 
-  -- what a call of SSS* gives beside its list of states
-  pub sss-beside : {a : SssAnswer} (c : SssCall t a)
-      → a leaving c .left leaving c .leftOrder
-      ≡ outcomeBy (c .allowance) t (c .lent) (c .lentOrder) (sssUncovered (c .allowance) t)
-      (searchRejection t (stateLengths (c .lentList) (c .lent) (c .lentOrder)))
-  sss-beside c =
-      ap (λ x. x .answer) (c .outcome)
-      ∙ answer-of (searchRejection t (stateLengths (c .lentList) (c .lent) (c .lentOrder))) _ _ _ _
+  pub by-found : (xs : List Evaluation) (g : Findings) → Found g ≡ answerBy xs m t → (xs ≡ []) × (g ≡ findingsBy m t)
+  by-found [] g e = (refl, cc)
+  by-found (x ∷ xs) g e = clash (cc)
 
-  -- with findings the allowance of SSS* covers all evaluations, so the outcome is that of the full run
-  pub all-covered : {f : SssResult} (c : SssCall t (sss-answer.Found f)) → sssUncovered (c .allowance) t ≡ []
-  all-covered {f} c =
-      by-value (c .allowance) t (c .lent) (c .lentOrder) (sssUncovered (c .allowance) t)
-      (searchRejection t (stateLengths (c .lentList) (c .lent) (c .lentOrder))) f
-      (sym (ap (λ x. x .answer .answer) (sss-beside c))) .1
+  by-spent : (xs : List Evaluation) (p : Spending) → beyond m t ≡ xs → Spent p ≡ answerBy xs m t → Stopped m t p
+  by-spent [] p i e = clash (cc)
+  by-spent (x ∷ xs) p i e = record { next = x; later = xs; left = i; gives = cc }
 
-  full-outcome : {f : SssResult} (c : SssCall t (sss-answer.Found f))
-      → sss-answer.Found f leaving c .left leaving c .leftOrder
-      ≡ unless (searchRejection t (stateLengths (c .lentList) (c .lent) (c .lentOrder)))
-      (λ r. sss-answer.Rejected r leaving c .lent leaving c .lentOrder)
-      (sss-answer.Found (sssFound t) leaving buffersOf (sssLeaves t) t (c .lent)
-      leaving listed (sssLeaves t) (c .lentOrder))
-  full-outcome c =
-      sss-beside c
-      ∙ ap (λ xs. outcomeBy (c .allowance) t (c .lent) (c .lentOrder) xs
-      (searchRejection t (stateLengths (c .lentList) (c .lent) (c .lentOrder)))) (all-covered c)
+module _ (c : Call) (s : Says c) where
+  pub refused : (q : Rejection) → c .answer ≡ Rejected q
+      → (rejectionOf (c .table) (c .lent) ≡ some q) × (c .left ≡ c .lent)
+  refused q e =
+      by-refusal Rejected (givenBy (c .method) (c .table) (c .lent)) (c .lent)
+      (by-answer (c .method) (c .table) (beyond (c .method) (c .table))) same-refusal
+      (rejectionOf (c .table) (c .lent)) q (c .left) (ap (λ (a : Answer). a leaving c .left) (sym e) ∙ s)
 
-  pub sss-result : {f : SssResult} (c : SssCall t (sss-answer.Found f))
-      → Result (searchRejection t (stateLengths (c .lentList) (c .lent) (c .lentOrder))) (sssFound t) f
-      (buffersOf (sssLeaves t) t (c .lent)) (c .left)
-  sss-result c =
-      result-of sss-apart _ (c .lent) _ _ _
-      (ap (λ x. x .answer) (full-outcome c)
-      ∙ answer-of (searchRejection t (stateLengths (c .lentList) (c .lent) (c .lentOrder))) _ _ _ _)
+  -- with an accepted table and room it is not refused
+  pub room-answered : Accepted (c .table) → Room (c .table) (c .lent)
+      → c .answer ≡ answerBy (beyond (c .method) (c .table)) (c .method) (c .table)
+  room-answered a r = ap (λ x. x .answer) s ∙ rw (list-passed (c .table) (c .lent) a r)
 
--- what a call of SSS* with an allowance of n leaves gives and leaves, by the evaluations that are not covered and the
--- first "no" to its questions
-abbrev pub sssBy : (n : ℕ) (t : List ℕ) → List State → Buffers → (order : List ℕ) → List Evaluation → Option Rejection
-    → Outcome (SearchOutcome SssAnswer) (List State)
-sssBy n t l b o xs q =
-    unless q (λ r. sss-answer.Rejected r leaving b leaving o leaving l)
-    (givenBy xs n t b o leaving (replicate (frames t) blank ++ drop (frames t) l))
+  pub room-given : Accepted (c .table) → Room (c .table) (c .lent) → Given c
+  room-given a r q e =
+      by-answer (c .method) (c .table) (beyond (c .method) (c .table)) q (sym (room-answered a r) ∙ e)
 
--- and what its refusal says
-module _ {t : List ℕ} {r : Rejection} where
-  pub alphaBeta-refusal : (c : AlphaBetaCall t (ab-answer.Rejected r))
-      → Refusal (searchRejection t (listLengths (c .lent) (c .lentOrder))) r (c .lent) (c .left)
-  alphaBeta-refusal c =
-      refusal-of ab-apart (findings (reachedLeaves t) t) _ (buffersOf (reachedLeaves t) t (c .lent)) _ _
-      (ap (λ x. x .answer) (c .outcome) ∙ answer-of (searchRejection t (listLengths (c .lent) (c .lentOrder))) _ _ _ _)
+  module _ (given : Given c) where
+    passed : (rejectionOf (c .table) (c .lent) ≡ none)
+        × (c .answer leaving c .left ≡ givenBy (c .method) (c .table) (c .lent))
+    passed =
+        by-given Rejected (givenBy (c .method) (c .table) (c .lent)) (c .lent) (rejectionOf (c .table) (c .lent))
+        (c .answer) (c .left) given s
 
-  pub mtd-refusal : (c : MtdCall t (mtd-answer.Rejected r))
-      → Refusal (searchRejection t (listLengths (c .lent) (c .lentOrder))) r (c .lent) (c .left)
-  mtd-refusal c =
-      refusal-of mtd-apart (mtdFound t) _ (buffersOf (mtdLeaves t) t (c .lent)) _ _
-      (ap (λ x. x .answer) (c .outcome) ∙ answer-of (searchRejection t (listLengths (c .lent) (c .lentOrder))) _ _ _ _)
+    pub accepted : Accepted (c .table)
+    accepted = list-room (c .table) (c .lent) (passed .0) .0
 
-  pub mtdf-refusal : (c : MtdfCall t (mtdf-answer.Rejected r))
-      → Refusal (searchRejection t (listLengths (c .lent) (c .lentOrder))) r (c .lent) (c .left)
-  mtdf-refusal c =
-      refusal-of mtdf-apart (mtdfFound (startScore (c .start)) t) _
-      (buffersOf (mtdfLeaves (startScore (c .start)) t) t (c .lent)) _ _
-      (ap (λ x. x .answer) (c .outcome) ∙ answer-of (searchRejection t (listLengths (c .lent) (c .lentOrder))) _ _ _ _)
+    pub room : Room (c .table) (c .lent)
+    room = list-room (c .table) (c .lent) (passed .0) .1
 
-  -- the refusal of SSS*, whatever its allowance
-  pub sss-refusal : (c : SssCall t (sss-answer.Rejected r))
-      → (searchRejection t (stateLengths (c .lentList) (c .lent) (c .lentOrder)) ≡ some r)
-      × (sss-answer.Rejected r leaving c .left leaving c .leftOrder
-      ≡ sss-answer.Rejected r leaving c .lent leaving c .lentOrder)
-  sss-refusal c =
-      let p = by-rejection (c .allowance) t (c .lent) (c .lentOrder) (sssUncovered (c .allowance) t)
-      (searchRejection t (stateLengths (c .lentList) (c .lent) (c .lentOrder))) r
-      (sym (ap (λ x. x .answer .answer) (sss-beside c))) in
-      (p .0, sss-beside c ∙ p .1)
+    pub formed : WellFormed (c .table)
+    formed = accepted-formed (c .table) accepted
 
--- the leaves w of an accepted table were evaluated: they decide its value and its move, and what was left in the
--- buffers, which have room, follows from them
-pub record HandedBack (t w : List ℕ) (lent left : Buffers) : Type 0 where
-  pub accepted : Accepted t
-  pub room : Room t lent
-  pub deciding : Deciding (valuation t) (tree t) w
-  pub marks : left .marks ≡ marksOf w t (lent .marks)
-  pub flags : left .flags ≡ flagsOf w t (lent .flags)
+    -- the leaves of the method are counted, marked and listed
+    pub answered : c .answer ≡ answerBy (beyond (c .method) (c .table)) (c .method) (c .table)
+    answered = ap (λ x. x .answer) (passed .1)
 
--- a call that gives a result: its leaves are those of a search of the theory, and what it finds and hands back follows
--- from them
-pub record View {t : List ℕ} (c : Call t) : Type 0 where
-  pub handed : HandedBack t (leaves c) (lent c) (left c)
-  pub searched : Searched (valuation t) (tree t) (leaves c)
-  pub results : found c ≡ findings (leaves c) t
-  pub long : frames t ≤ length (lentOrder c)
-  pub order : leftOrder c ≡ listed (leaves c) (lentOrder c)
+    pub counted : countOf (c .answer) ≡ length (evaluatedBy (c .method) (c .table))
+    counted = ap countOf answered ∙ by-count (c .method) (c .table) (beyond (c .method) (c .table))
 
--- passed questions: an accepted table, and room
-module _ (t : List ℕ) (b : Buffers) where
-  pub both-room : searchRejection t (lengths b) ≡ none → Accepted t × Room t b
-  both-room e =
-      let p = passed-room t (lengths b) e in
-      (p .0, record { marks = p .1 .0; flags = p .1 .1 .0 })
+    pub marks : c .left .marks ≡ marksOf (evaluatedBy (c .method) (c .table)) (c .table) (c .lent .marks)
+    marks = ap (λ x. x .left .marks) (passed .1)
 
-  module _ (o : List ℕ) where
-    pub list-room : searchRejection t (listLengths b o) ≡ none → Accepted t × Room t b × (frames t ≤ length o)
-    list-room e =
-        let p = passed-room t (listLengths b o) e in
-        (p .0, record { marks = p .1 .0; flags = p .1 .1 .0 }, p .1 .1 .1 .0)
+    pub order : c .left .order ≡ listed (evaluatedBy (c .method) (c .table)) (c .lent .order)
+    order = ap (λ x. x .left .order) (passed .1)
 
-    pub all-room : (l : List State) → searchRejection t (stateLengths l b o) ≡ none
-        → Accepted t × Room t b × (frames t ≤ length o)
-    all-room l e =
-        let p = passed-room t (stateLengths l b o) e in
-        (p .0, record { marks = p .1 .1 .0; flags = p .1 .1 .1 .0 }, p .1 .1 .1 .1 .0)
+    flags-by : (xs : List Evaluation) → beyond (c .method) (c .table) ≡ xs
+        → c .left .flags ≡ flagsLeft xs (c .method) (c .table) (c .lent .flags)
+    flags-by xs e =
+        ap (λ x. x .left .flags) (passed .1) ∙ ap (λ xs. flagsLeft xs (c .method) (c .table) (c .lent .flags)) e
 
-    -- and the other way round
-    module _ (a : Accepted t) (h : Room t b) (long : frames t ≤ length o) where
-      pub list-passed : searchRejection t (listLengths b o) ≡ none
-      list-passed = room-passed t (listLengths b o) a (h .marks, (h .flags, (long, tt)))
+  -- a result: nothing stopped the method
+  module _ (g : Findings) (e : c .answer ≡ Found g) where
+    pub found-given : Given c
+    found-given q i = clash (cc)
 
-      pub rooms-passed : (l : List State) → frames t ≤ length l → searchRejection t (stateLengths l b o) ≡ none
-      rooms-passed l m = room-passed t (stateLengths l b o) a (m, (h .marks, (h .flags, (long, tt))))
+    found : (beyond (c .method) (c .table) ≡ []) × (g ≡ findingsBy (c .method) (c .table))
+    found = by-found (c .method) (c .table) (beyond (c .method) (c .table)) g (sym e ∙ answered found-given)
 
--- the leaves of a search of an accepted table decide
-decides : (t : List ℕ) → Accepted t → {w : List ℕ} → Searched (valuation t) (tree t) w
-    → Deciding (valuation t) (tree t) w
-decides t a s = search-deciding (valuation t) (tree t) (tree-proper t (accepted-formed t a)) s
+    pub nothing-beyond : beyond (c .method) (c .table) ≡ []
+    nothing-beyond = found .0
 
--- the leaves of MTD(f) are those of a search by tests
-tests-searched : (f : ℕ) (t : List ℕ) → Searched (valuation t) (tree t) (mtdfLeaves f t)
-unfolding decisionOf
-tests-searched f t = mtdf-searched (valuation t) f (tree t)
+    pub findings : g ≡ findingsBy (c .method) (c .table)
+    findings = found .1
 
--- each call that gives a result is such a call
-pub view : {t : List ℕ} (c : Call t) → View c
-view {t} (alphaBeta c) =
-    let x = alphaBeta-result c in
-    let p = list-room t (c .lent) (c .lentOrder) (x .passed) in
-    record {
-      handed =
-          record {
-            accepted = p .0;
-            room = p .1;
-            deciding = decides t (p .0) (reached.searched t);
-            marks = ap (λ b. b .marks) (x .leaves);
-            flags = ap (λ b. b .flags) (x .leaves);
-          };
-      searched = reached.searched t;
-      results = x .found;
-      long = p .2;
-      order = ap (λ y. y .left) (c .outcome) ∙ left-due
-          (searchRejection t (listLengths (c .lent) (c .lentOrder))) _ _ _ _ (x .passed);
-    }
-view {t} (mtd c) =
-    let x = mtd-result c in
-    let p = list-room t (c .lent) (c .lentOrder) (x .passed) in
-    record {
-      handed =
-          record {
-            accepted = p .0;
-            room = p .1;
-            deciding = decides t (p .0) byMtd;
-            marks = ap (λ b. b .marks) (x .leaves);
-            flags = ap (λ b. b .flags) (x .leaves);
-          };
-      searched = byMtd;
-      results = ap (λ f. f .findings) (x .found);
-      long = p .2;
-      order = ap (λ y. y .left) (c .outcome) ∙ left-due
-          (searchRejection t (listLengths (c .lent) (c .lentOrder))) _ _ _ _ (x .passed);
-    }
-view {t} (mtdf c) =
-    let x = mtdf-result c in
-    let p = list-room t (c .lent) (c .lentOrder) (x .passed) in
-    let s = tests-searched (startScore (c .start)) t in
-    record {
-      handed =
-          record {
-            accepted = p .0;
-            room = p .1;
-            deciding = decides t (p .0) s;
-            marks = ap (λ b. b .marks) (x .leaves);
-            flags = ap (λ b. b .flags) (x .leaves);
-          };
-      searched = s;
-      results = ap (λ f. f .findings) (x .found);
-      long = p .2;
-      order = ap (λ y. y .left) (c .outcome) ∙ left-due
-          (searchRejection t (listLengths (c .lent) (c .lentOrder))) _ _ _ _ (x .passed);
-    }
-view {t} (sss c) =
-    let x = sss-result c in
-    let p = all-room t (c .lent) (c .lentOrder) (c .lentList) (x .passed) in
-    let s = searched t (accepted-formed t (p .0)) in
-    record {
-      handed =
-          record {
-            accepted = p .0;
-            room = p .1;
-            deciding = decides t (p .0) s;
-            marks = ap (λ b. b .marks) (x .leaves);
-            flags = ap (λ b. b .flags) (x .leaves);
-          };
-      searched = s;
-      results = ap (λ f. f .findings) (x .found);
-      long = p .2;
-      order = ap (λ y. y .left) (full-outcome c) ∙ left-due
-          (searchRejection t (stateLengths (c .lentList) (c .lent) (c .lentOrder))) _ _ _ _ (x .passed);
-    }
+    pub flags : c .left .flags ≡ flagsOf (evaluatedBy (c .method) (c .table)) (c .table) (c .lent .flags)
+    flags = flags-by found-given [] nothing-beyond
+
+  -- a spent allowance
+  module _ (p : Spending) (e : c .answer ≡ Spent p) where
+    pub spent-given : Given c
+    spent-given q i = clash (cc)
+
+    pub stopped : Stopped (c .method) (c .table) p
+    stopped =
+        by-spent (c .method) (c .table) (beyond (c .method) (c .table)) p refl (sym e ∙ answered spent-given)
+
+    pub flags-kept : c .left .flags ≡ c .lent .flags
+    flags-kept = flags-by spent-given (stopped .next ∷ stopped .later) (stopped .left)
+
+-- the first "no" of SSS* over a lent list of states s
+abbrev pub listRejection : (t : List ℕ) → List State → Lent → Option Rejection
+listRejection t s l = searchRejection t (length s ∷ lengths l)
+
+-- and its outcome, with an allowance of n leaves
+module _ (n : ℕ) (t : List ℕ) (s : List State) (l : Lent) where
+  abbrev outcomeBy : Option Rejection → Outcome (Outcome Answer Lent) (List State)
+  outcomeBy q =
+      unless q (λ r. Rejected r leaving l leaving s)
+      (givenBy (Sss n) t l leaving (replicate (frames t) blank ++ drop (frames t) s))
+
+  -- with an entry per node in the list it answers and leaves what the method gives
+  pub list-outcome : frames t ≤ length s → sssOutcome n t s l .answer ≡ searchOutcome (Sss n) t l
+  list-outcome h = rw (le-leb (frames t) (length s) h) (answer-of (rejectionOf t l) _ _ _ _)
+
+  -- a refusal is the first "no", and leaves all as it was
+  pub list-refused : (q : Option Rejection) (r : Rejection) (l′ : Lent) (s′ : List State)
+      → Rejected r leaving l′ leaving s′ ≡ outcomeBy q → (q ≡ some r) × (s′ ≡ s) × (l′ ≡ l)
+  list-refused none r l′ s′ e =
+      absurd (by-answer (Sss n) t (beyond (Sss n) t) r (sym (ap (λ x. x .answer .answer) e)))
+  list-refused (some y) r l′ s′ e =
+      (rw (same-refusal r y (ap (λ x. x .answer .answer) e)) refl, ap (λ x. x .left) e, ap (λ x. x .answer .left) e)
+
+  -- any other answer leaves the list reset
+  pub list-given : (q : Option Rejection) (a : Answer) (l′ : Lent) (s′ : List State)
+      → ((r : Rejection) → a ≡ Rejected r → ⊥) → a leaving l′ leaving s′ ≡ outcomeBy q
+      → s′ ≡ replicate (frames t) blank ++ drop (frames t) s
+  list-given none a l′ s′ h e = ap (λ x. x .left) e
+  list-given (some y) a l′ s′ h e = absurd (h y (ap (λ x. x .answer .answer) e))

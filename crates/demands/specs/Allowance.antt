@@ -6,7 +6,7 @@ use lib.ListN.{length}
 use Rattle.gametree.specs.Sss.{State, evaluating, step, ListAfter}
 use Rattle.frames.specs.Tree.{tree, valuation}
 use Rattle.frames.specs.Value.{valueOf}
-use Rattle.sss.specs.declared.Spent.{Spent}
+use Rattle.methods.specs.declared.Spent.{Spent}
 
 -- where the full run was cut short: after the counted replacements, which evaluated the leaves so far, it has reached a
 -- list of states from which the rule takes a state of the given merit and would evaluate its leaf
@@ -16,7 +16,7 @@ pub record CutShort (t : List ℕ) (s : Spent) : Type 0 where
   pub leaf : ℕ
   pub taken : ℕ
   pub next : List State
-  pub reached : ListAfter (valuation t) (tree t) (s .replacements) evaluated states
+  pub reached : ListAfter (valuation t) (tree t) (s .steps) evaluated states
   pub evaluates : step (valuation t) (tree t) states ≡ evaluating leaf taken next
   pub leaves : s .leaves ≡ length evaluated
   pub merit : s .merit ≡ valueOf taken

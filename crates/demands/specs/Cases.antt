@@ -6,13 +6,10 @@ use lib.IntN.{ℤ, pos, negℤ}
 use lib.ListN.{replicate}
 use Rattle.frames.specs.Frame.{frames}
 use Rattle.frames.specs.results.Cases.{small, lone, single}
-use Rattle.certificate.specs.declared.Findings.{Findings}
-use Rattle.certificate.specs.Search.{buffers}
-use Rattle.alphabeta.specs.declared.AlphaBetaAnswer.the-variants as ab-answer
-use Rattle.alphabeta.specs.Outcome.{alphaBetaOutcome}
-use Rattle.sss.specs.declared.SssAnswer.the-variants as sss-answer
-use Rattle.sss_states.specs.Entry.{blank}
-use Rattle.sss.specs.Outcome.{sssOutcome}
+use Rattle.methods.specs.declared.Method.the-variants.{AlphaBeta, Sss}
+use Rattle.methods.specs.declared.Findings.{Findings}
+use Rattle.methods.specs.declared.Answer.the-variants.{Found}
+use Rattle.methods.specs.Outcome.{lent, searchOutcome}
 
 -- a line of 01's table: the tree, its value and move, how many leaves alpha-beta and SSS* evaluate; and for SSS* the
 -- replacements and the flags that it writes
@@ -20,18 +17,17 @@ pub data CaseLine : Type 0 where
   says : (table : List ℕ) (value : ℤ) (move ab sss replacements : ℕ) (flags : List ℕ) → CaseLine
 
 -- what a search finds
-abbrev pub findingsAre : ℤ → (move leaves : ℕ) → Findings
-findingsAre v m n = record { value = v; «root_move» = m; leaves = n }
+abbrev pub findingsAre : ℤ → (move leaves steps : ℕ) → Findings
+findingsAre v m n k = record { value = v; «root_move» = m; leaves = n; steps = k }
 
--- the two searches give what the line says, with buffers and a list of zeros, and an allowance that covers all leaves
+-- the two searches give what the line says, with buffers of zeros and an allowance that covers all leaves
 abbrev pub LineHolds : CaseLine → Type 0
 LineHolds (says t v m ab sss r flags) =
     let zeros : List ℕ = replicate (frames t) 0 in
-    let b = buffers zeros zeros in
-    let s = sssOutcome (frames t) t (replicate (frames t) blank) b zeros .answer in
-    (alphaBetaOutcome t b zeros .answer .answer ≡ ab-answer.Found (findingsAre v m ab))
-    × (s .answer .answer ≡ sss-answer.Found (record { findings = findingsAre v m sss; replacements = r }))
-    × (s .answer .left .flags ≡ flags)
+    let l = lent zeros zeros zeros in
+    let s = searchOutcome (Sss (frames t)) t l in
+    (searchOutcome AlphaBeta t l .answer ≡ Found (findingsAre v m ab 0))
+    × (s .answer ≡ Found (findingsAre v m sss r)) × (s .left .flags ≡ flags)
 
 -- leaves, value, move, AB, SSS*, replacements, flags
 abbrev pub caseLines : List CaseLine

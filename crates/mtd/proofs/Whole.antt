@@ -15,8 +15,7 @@ use Rattle.gametree.specs.Mtd.{mtd}
 use Rattle.gametree.specs.Move.{firstWith, rootMove}
 use Rattle.gametree_theory.proofs.mtd.Moves.{mtd-highMove}
 use Rattle.gametree_theory.proofs.mtd.Memory.{memo-run}
-use Rattle.gametree_theory.proofs.Searches.{byMtd}
-use Rattle.gametree_theory.proofs.Theorems.{value-score, mtd-minimax, search-deciding}
+use Rattle.gametree_theory.proofs.Theorems.{value-score, mtd-minimax}
 use Rattle.frames.specs.Frame.{frames, childCount, next}
 use Rattle.frames.specs.Tree.{childrenFrom, treeAt, tree, valuation}
 use Rattle.frames.specs.Formed.{WellFormed}
@@ -37,7 +36,10 @@ use Rattle.certificate.proofs.Marks.{marked-written}
 use Rattle.certificate.proofs.Outcomes.{search-marks}
 use Rattle.mtd.specs.declared.Settled.{Settled}
 use Rattle.mtd_memory.specs.engine.Memory.{memory, firstHigh, Fresh}
-use Rattle.mtd.specs.Outcome.{mtdLeaves, mtdFound}
+use Rattle.methods.specs.declared.Method.the-variants.{Mtd}
+use Rattle.methods.specs.Rules.{evaluatedBy}
+use Rattle.methods.specs.Outcome.{findingsBy}
+use Rattle.methods.proofs.Rules.{decides}
 
 module _ (t : List ℕ) (wf : WellFormed t) where
   -- where no node has a mark, the greatest highs and flags of zeros are the memory to start with
@@ -78,7 +80,7 @@ module _ (t : List ℕ) (wf : WellFormed t) where
       (sym e) (λ r. rw (memo-run (valuation t) (inner n Max ks) (r .distinct)) (mtd-highMove (valuation t) n ks r))
 
   -- the first of the root's children whose high is the root's, by MTD's leaves, is the root move
-  high-root : firstEqual (boundOf t (among (mtdLeaves t)) greatest) (boundOf t (among (mtdLeaves t)) greatest 0) 1
+  high-root : firstEqual (boundOf t (among (evaluatedBy Mtd t)) greatest) (boundOf t (among (evaluatedBy Mtd t)) greatest 0) 1
       (childCount t 0)
       ≡ rootMove (valuation t) (tree t)
   unfolding firstEqual next
@@ -88,15 +90,15 @@ module _ (t : List ℕ) (wf : WellFormed t) where
       let side = ap (λ p. p .side) (position-root t) in
       let is = tree-inner t wf 0 n (wf .nonEmpty) e ∙ ap₂ (λ s k. inner 0 s (childrenFrom (treeAt t) k n)) side first in
       rw e
-      (first-with (high (valuation t) (among (mtdLeaves t))) (treeAt t) (tree-number t) _ 1 n
+      (first-with (high (valuation t) (among (evaluatedBy Mtd t))) (treeAt t) (tree-number t) _ 1 n
       ∙ high-of (tree t) 0 (childrenFrom (treeAt t) 1 n) is (tree-proper t wf)))
 
   -- so it is by their marks
-  high-move : (e e₂ : List ℕ) → e₂ ≡ marksOf (mtdLeaves t) t e → firstHigh t e₂ ≡ rootMove (valuation t) (tree t)
+  high-move : (e e₂ : List ℕ) → e₂ ≡ marksOf (evaluatedBy Mtd t) t e → firstHigh t e₂ ≡ rootMove (valuation t) (tree t)
   unfolding chosenOf next
   high-move e e₂ q =
-      chosen-same t wf (marked e₂) (among (mtdLeaves t))
-      (λ k h. ap (λ l. marked l k) q ∙ marked-written (among (mtdLeaves t)) (frames t) e k h) Min 0 (wf .nonEmpty)
+      chosen-same t wf (marked e₂) (among (evaluatedBy Mtd t))
+      (λ k h. ap (λ l. marked l k) q ∙ marked-written (among (evaluatedBy Mtd t)) (frames t) e k h) Min 0 (wf .nonEmpty)
       ∙ high-root
 
   -- the steps together: e is cleared to e₁, the passes make it e₂ and the list o₂, and v follows from that
@@ -104,20 +106,15 @@ module _ (t : List ℕ) (wf : WellFormed t) where
       → e₁ ≡ written (λ k. 0) (frames t) e
       → (r .score ≡ mtd (valuation t) (tree t) .value) × (r .passes ≡ mtd (valuation t) (tree t) .passes)
       → r .«root_move» ≡ firstHigh t e₂
-      → progress (r .leaves) e₂ o₂ ≡ evaluateAll (progress 0 e₁ o) (mtdLeaves t)
+      → progress (r .leaves) e₂ o₂ ≡ evaluateAll (progress 0 e₁ o) (evaluatedBy Mtd t)
       → r .leaves ≡ ones e₂ (frames t)
       → frames t ≤ length o
       → v ≡ valueOf (r .score)
-      → (record {
-        findings = record { value = v; «root_move» = r .«root_move»; leaves = r .leaves };
-        passes = r .passes;
-      }
-      ≡ mtdFound t)
-      × ((e₂ ≡ marksOf (mtdLeaves t) t e) × (o₂ ≡ listed (mtdLeaves t) o))
+      → (record { value = v; «root_move» = r .«root_move»; leaves = r .leaves; steps = r .passes } ≡ findingsBy Mtd t)
+      × ((e₂ ≡ marksOf (evaluatedBy Mtd t) t e) × (o₂ ≡ listed (evaluatedBy Mtd t) o))
   find-gives e e₁ e₂ o o₂ r v cleared settled move evaluated counted room value =
-      let d = search-deciding (valuation t) (tree t) (tree-proper t wf) byMtd in
-      let g = first-evaluated (r .leaves) (frames t) e₁ e₂ o o₂ (mtdLeaves t) evaluated counted room in
-      let a = search-marks t wf (mtdLeaves t) d e e₁ e₂ cleared (g .1 .0) in
+      let g = first-evaluated (r .leaves) (frames t) e₁ e₂ o o₂ (evaluatedBy Mtd t) evaluated counted room in
+      let a = search-marks t wf (evaluatedBy Mtd t) (decides t wf Mtd refl) e e₁ e₂ cleared (g .1 .0) in
       let x : v ≡ valueOf (minimax (valuation t) (tree t)) = value ∙ ap valueOf (run-score (r .score) (settled .0)) in
       let y = move ∙ high-move e e₂ a in
       let z = g .0 in

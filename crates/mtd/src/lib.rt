@@ -1,15 +1,8 @@
-// MTD over a byte table: the public search, and its engine of passes with falling tests, each asking whether the root
-// is below its test.
-use certificate::Findings;
-use certificate::ask;
-use certificate::lesser;
-use certificate::write_certificate;
+// MTD over a byte table: passes with falling tests, each asking whether the root is below its test.
 use certificate_bounds::clear;
 use certificate_flags::first_equal;
-use frames::Checked;
 use frames::GREATEST;
 use frames::MAX_NODES;
-use frames::Rejection;
 use frames::child_count;
 use frames::child_position;
 use frames::first_child;
@@ -17,6 +10,7 @@ use frames::frame_count;
 use frames::value;
 use gametree::Position;
 use gametree::Side;
+use methods::Findings;
 use mtd_memory::Seen;
 use mtd_memory::Tried;
 use mtd_memory::last_tried;
@@ -31,83 +25,34 @@ ghost use Rattle.gametree.specs.Mtd.{mtd};
 ghost use Rattle.frames.specs.Frame.{frames};
 ghost use Rattle.frames.specs.Tree.{treeAt, tree, valuation};
 ghost use Rattle.frames.specs.Formed.{WellFormed};
-ghost use Rattle.frames.specs.Rejection.{_leaving_};
 ghost use Rattle.certificate_bounds.specs.Marks.{ones};
 ghost use Rattle.certificate_bounds.specs.engine.Progress.{progress, evaluateAll};
-ghost use Rattle.certificate.specs.Search.{marksOf, flagsOf, buffers, listed};
-ghost use Rattle.mtd.specs.Outcome.{mtdLeaves, mtdFound, mtdOutcome};
+ghost use Rattle.certificate.specs.Search.{marksOf, listed};
+ghost use Rattle.methods.specs.declared.Method.the-variants.{Mtd};
+ghost use Rattle.methods.specs.Rules.{evaluatedBy};
+ghost use Rattle.methods.specs.Outcome.{findingsBy};
 ghost use Rattle.mtd_memory.specs.engine.Memory.{memory, firstHigh, Fresh, VisitReady, Enterable, Passed};
 
-// What MTD finds: what every search finds, and how many passes were made.
-pub struct MtdResult {
-    pub findings: Findings,
-    pub passes: usize,
-}
-
-// The answer of a call: what was found, or the first question that got a "no".
-pub enum MtdAnswer {
-    Found(MtdResult),
-    Rejected(Rejection),
-}
-
-// MTD of the whole tree: questions 1 to 10, then the value, the root move and the counts of evaluated leaves and of
-// passes; the marks of these leaves and the certificate (01: the proof) go into the buffers, and the leaves' numbers
+// What MTD finds in a table that was checked: the marks of the evaluated leaves go into the buffer, and their numbers
 // into the list.
-pub fn search(
-    table: &[u8],
-    evaluated: &mut [u8],
-    certificate: &mut [u8],
-    order: &mut [u16],
-) -> MtdAnswer
-    ensures { λ r. ⌜ r leaving buffers (now (evaluated .exit)) (now (certificate .exit)) leaving now (order .exit)
-        ≡ mtdOutcome (now (table .entry)) (buffers (now (evaluated .entry)) (now (certificate .entry)))
-        (now (order .entry)) ⌝ }
-{
-    let shortest = lesser(lesser(evaluated.len(), certificate.len()), order.len());
-    match ask(table, shortest) {
-        Checked::Nodes(_) => MtdAnswer::Found(run(table, evaluated, certificate, order)),
-        Checked::Rejected(rejection) => MtdAnswer::Rejected(rejection),
-    }
-}
-
-// The search of an accepted table, into buffers with an entry per node.
-fn run(table: &[u8], evaluated: &mut [u8], certificate: &mut [u8], order: &mut [u16]) -> MtdResult
-    requires { ⌜ WellFormed (now table) ⌝ }
-    requires { ⌜ (frames (now table) ≤ length (now evaluated)) × (frames (now table) ≤ length (now certificate)) ⌝ }
-    requires { ⌜ frames (now table) ≤ length (now order) ⌝ }
-    ensures { λ r. ⌜ r ≡ mtdFound (now (table .entry)) ⌝ }
-    ensures { λ _. ⌜ now (evaluated .exit)
-        ≡ marksOf (mtdLeaves (now (table .entry))) (now (table .entry)) (now (evaluated .entry)) ⌝ }
-    ensures { λ _. ⌜ now (certificate .exit)
-        ≡ flagsOf (mtdLeaves (now (table .entry))) (now (table .entry)) (now (certificate .entry)) ⌝ }
-    ensures { λ _. ⌜ now (order .exit) ≡ listed (mtdLeaves (now (table .entry))) (now (order .entry)) ⌝ }
-{
-    let found = find(table, evaluated, order);
-    write_certificate(table, evaluated, certificate);
-    found
-}
-
-// The same without a certificate, for callers that have checked the table.
-pub fn find(table: &[u8], evaluated: &mut [u8], order: &mut [u16]) -> MtdResult
+pub fn find(table: &[u8], evaluated: &mut [u8], order: &mut [u16]) -> Findings
     requires { ⌜ WellFormed (now table) ⌝ }
     requires { ⌜ (frames (now table) ≤ length (now evaluated)) × (frames (now table) ≤ length (now order)) ⌝ }
-    ensures { λ r. ⌜ r ≡ mtdFound (now (table .entry)) ⌝ }
+    ensures { λ r. ⌜ r ≡ findingsBy Mtd (now (table .entry)) ⌝ }
     ensures { λ _. ⌜ now (evaluated .exit)
-        ≡ marksOf (mtdLeaves (now (table .entry))) (now (table .entry)) (now (evaluated .entry)) ⌝ }
-    ensures { λ _. ⌜ now (order .exit) ≡ listed (mtdLeaves (now (table .entry))) (now (order .entry)) ⌝ }
+        ≡ marksOf (evaluatedBy Mtd (now (table .entry))) (now (table .entry)) (now (evaluated .entry)) ⌝ }
+    ensures { λ _. ⌜ now (order .exit) ≡ listed (evaluatedBy Mtd (now (table .entry))) (now (order .entry)) ⌝ }
 {
     clear(evaluated, frame_count(table));
     let mut highs = [GREATEST; MAX_NODES];
     let mut not_below = [0u8; MAX_NODES];
     let settled = run_passes(table, evaluated, order, &mut highs, &mut not_below);
     let value = value(settled.score);
-    MtdResult {
-        findings: Findings {
-            value,
-            root_move: settled.root_move,
-            leaves: settled.leaves,
-        },
-        passes: settled.passes,
+    Findings {
+        value,
+        root_move: settled.root_move,
+        leaves: settled.leaves,
+        steps: settled.passes,
     }
 }
 
@@ -133,7 +78,7 @@ fn run_passes(
         × (r .passes ≡ mtd (valuation (now (table .entry))) (tree (now (table .entry))) .passes) ⌝ }
     ensures { λ r. ⌜ r .«root_move» ≡ firstHigh (now (table .entry)) (now (evaluated .exit)) ⌝ }
     ensures { λ r. ⌜ progress (r .leaves) (now (evaluated .exit)) (now (order .exit))
-        ≡ evaluateAll (progress 0 (now (evaluated .entry)) (now (order .entry))) (mtdLeaves (now (table .entry))) ⌝ }
+        ≡ evaluateAll (progress 0 (now (evaluated .entry)) (now (order .entry))) (evaluatedBy Mtd (now (table .entry))) ⌝ }
     ensures { λ r. ⌜ r .leaves ≡ ones (now (evaluated .exit)) (frames (now (table .entry))) ⌝ }
 {
     let root = Position {

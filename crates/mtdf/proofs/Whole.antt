@@ -1,42 +1,54 @@
 -- The steps of a whole search: the cleared memory is the fresh one, the last phase is a test of the root's children,
--- the tests end with the minimax value, and the marks are those of the leaves of MTD(f).
+-- the tests end with the minimax value and the root move, and the marks are those of the leaves of MTD(f).
 use Prim.Native.Nat.{ℕ, _≤_, _<_}
 use native.Mathlib.Omega.{arith}
 use mathlib.Core.Path.{_≡_, refl, sym, ap, ap₂, _∙_, subst}
 use mathlib.Core.Bool.{false}
 use mathlib.Core.List.{List}
-use lib.ListN.{length, replicate, length-replicate, getD-replicate}
+use lib.ListN.{length, getD, replicate, length-replicate, getD-replicate}
 use lib.IntN.{ℤ}
+use Rattle.lists.specs.Lists.{among}
 use Rattle.gametree.specs.declared.Side.the-variants.{Max}
 use Rattle.gametree.specs.Tree.{least, greatest, minimax}
 use Rattle.gametree.specs.Mtdf.{lastPhase}
 use Rattle.gametree.specs.Move.{boundMove}
-use Rattle.gametree.specs.Certificate.{flag}
 use Rattle.gametree_theory.proofs.Searches.{Deciding}
 use Rattle.gametree_theory.proofs.Theorems.{value-score, search-deciding}
 use Rattle.gametree_theory.proofs.TestRuns.{mtdf-searched}
-use Rattle.frames.specs.Frame.{frames, childCount}
+use Rattle.frames.specs.Frame.{frames, childCount, next}
 use Rattle.frames.specs.Position.{rootPosition}
 use Rattle.frames.specs.Tree.{tree, valuation}
 use Rattle.frames.specs.Formed.{WellFormed}
 use Rattle.frames.specs.Value.{valueOf}
 use Rattle.frames.proofs.Positions.{position-root}
 use Rattle.frames.proofs.Trees.{tree-leaf}
+use Rattle.frames.proofs.Nodes.{in-tree}
 use Rattle.frames.proofs.Proper.{tree-proper}
 use Rattle.positions.specs.Buffer.{written}
 use Rattle.certificate_bounds.specs.Marks.{marked}
 use Rattle.certificate_bounds.specs.engine.Progress.{progress, evaluateAll}
 use Rattle.certificate_bounds.proofs.Listing.{first-evaluated}
-use Rattle.certificate.specs.Search.{marksOf, flagsOf, listed}
-use Rattle.certificate.proofs.Outcomes.{search-concludes}
+use Rattle.certificate_flags.specs.engine.Chosen.{firstEqual}
+use Rattle.certificate.specs.Search.{marksOf, listed}
+use Rattle.certificate.proofs.Chosen.{chosenOf, by-bounds, chosen-root}
+use Rattle.certificate.proofs.Outcomes.{search-marks}
 use Rattle.mtd_memory.proofs.Turns.{tree-kids}
-use Rattle.mtdf.specs.declared.Settled.{Settled}
+use Rattle.mtdf.specs.declared.Met.{Met}
 use Rattle.mtdf_visits.specs.declared.Tried.{Tried}
-use Rattle.mtdf.specs.Outcome.{decisionOf, mtdfLeaves, mtdfFound}
-use Rattle.mtdf_visits.specs.engine.Memory.{Memory, memory, progressOf, soFar, MemoryRoom, VisitReady, Counted}
+use Rattle.methods.specs.declared.Findings.{Findings}
+use Rattle.methods.specs.declared.Method.the-variants.{MtdFrom}
+use Rattle.methods.specs.Rules.{startScore, decisionOf, evaluatedBy}
+use Rattle.methods.specs.Outcome.{findingsBy}
+use Rattle.methods.proofs.Rules.{decides}
+use Rattle.mtdf_visits.specs.engine.Memory.{Memory, memory, progressOf, soFar, MemoryRoom, VisitReady, Counted, BoundsRight}
 use Rattle.mtdf_visits.specs.engine.Memory.{Evaluated, Entered, Fresh}
-use Rattle.mtdf.specs.engine.Settling.{Met, MovedTo, Settles}
+use Rattle.mtdf.specs.engine.Settling.{mtdfLeaves, MetAt, MovedTo, Settles}
 use Rattle.mtdf_visits.proofs.Arrays.{Long, room-kept, evaluated-none, evaluated-more}
+
+-- findings that agree field by field
+same-fields : (f : Findings) {v : ℤ} {m k n : ℕ} → v ≡ f .value → m ≡ f .«root_move» → k ≡ f .leaves → n ≡ f .steps
+    → record { value = v; «root_move» = m; leaves = k; steps = n } ≡ f
+same-fields f a b c d = rw (a, b, c, d)
 
 module _ (t : List ℕ) (wf : WellFormed t) where
   -- where no node has a mark, the least lows and the greatest highs are the memory to start with
@@ -60,7 +72,7 @@ module _ (t : List ℕ) (wf : WellFormed t) where
       }
 
   -- what the last phase asks
-  pub met-ready : (f : ℕ) (m m′ : Memory) (r : Settled) → MemoryRoom (frames t) m → Long m m′ → Met t f m m′ r
+  pub met-ready : (f : ℕ) (m m′ : Memory) (r : Met) → MemoryRoom (frames t) m → Long m m′ → MetAt t f m m′ r
       → VisitReady t m′ 0 rootPosition
   met-ready f m m′ r room long met =
       record {
@@ -73,13 +85,14 @@ module _ (t : List ℕ) (wf : WellFormed t) where
       }
 
   -- the last phase at a leaf, and at an inner root
-  pub moved-leaf : (v : ℕ) (m : Memory) → childCount t 0 ≡ 0 → Counted t m → MovedTo t v m m
-  moved-leaf v m none c =
+  pub moved-leaf : (v : ℕ) (m : Memory) → childCount t 0 ≡ 0 → Counted t m → BoundsRight t m (tree t) → MovedTo t v m m
+  moved-leaf v m none c b =
       let is = tree-leaf t wf 0 (wf .nonEmpty) none in
       record {
         evaluated =
             subst (λ T. Evaluated m m (lastPhase (valuation t) v (soFar m) T)) (sym is) (evaluated-none m);
         counted = c;
+        right = b;
       }
 
   pub moved-inner : (v : ℕ) (m m′ : Memory) (r : Tried) → 0 < childCount t 0 → Entered t (tree t) v m m′ r
@@ -91,25 +104,23 @@ module _ (t : List ℕ) (wf : WellFormed t) where
         evaluated =
             subst (λ T. Evaluated m m′ (lastPhase (valuation t) v (soFar m) T)) (sym is) (rw is at (d .evaluated));
         counted = d .counted;
-      }
-
-  -- both together
-  pub settled-both : (f : ℕ) (e o l h : List ℕ) (m′ m″ : Memory) (s r : Settled) → Met t f (memory 0 e o l h) m′ s
-      → MovedTo t (s .score) m′ m″ → r .score ≡ s .score → r .tests ≡ s .tests
-      → Settles t f (progress 0 e o) (progressOf m″) r
-  settled-both f e o l h m′ m″ s r x y p q =
-      record {
-        score = p ∙ x .score;
-        tests = q ∙ x .tests;
-        evaluated =
-            evaluated-more (x .evaluated) (y .evaluated) .all
-            ∙ ap (evaluateAll (progress 0 e o)) (sym (x .leaves));
-        counted = y .counted .number;
+        right = d .right;
       }
 
   -- the score has a value
   pub run-small : (s : ℕ) → s ≡ minimax (valuation t) (tree t) → s ≤ greatest
   run-small s d = omega (arith, d, value-score (valuation t) (tree t) (tree-proper t wf .scored))
+
+  -- where the lows are right, the first of the root's children whose low is the root's is the move that they show
+  low-move : (m : Memory) → BoundsRight t m (tree t)
+      → firstEqual (λ k. getD (m .lows) k 0) (getD (m .lows) 0 0) 1 (childCount t 0)
+      ≡ boundMove (valuation t) (among (soFar m)) (tree t)
+  unfolding chosenOf next
+  low-move m right =
+      let E = among (soFar m) in
+      let side = ap (λ p. p .side) (position-root t) in
+      by-bounds t wf E (m .lows) least 0 (wf .nonEmpty) (λ k h. right k (in-tree t wf k h) .low)
+      ∙ (rw side at (chosen-root t wf E))
 
   module _ (f : ℕ) where
     decision-right : Deciding (valuation t) (tree t) (mtdfLeaves f t)
@@ -117,26 +128,34 @@ module _ (t : List ℕ) (wf : WellFormed t) where
     decision-right =
         search-deciding (valuation t) (tree t) (tree-proper t wf) (mtdf-searched (valuation t) f (tree t))
 
-    -- the steps together: e is cleared to e₁, the tests make it e₂ and the list o₂, and c₂, m and v follow from that
-    pub run-gives : (e e₁ e₂ e₃ c c₂ o o₂ : List ℕ) (r : Settled) (m : ℕ) (v : ℤ)
-        → e₁ ≡ written (λ k. 0) (frames t) e
-        → Settles t f (progress 0 e₁ o) (progress (r .leaves) e₂ o₂) r
-        → frames t ≤ length o
-        → m ≡ boundMove (valuation t) (marked e₂) (tree t)
-        → c₂ ≡ written (flag (valuation t) (marked e₂) (tree t)) (frames t) c
-        → e₃ ≡ e₂
-        → v ≡ valueOf (r .score)
-        → (record { findings = record { value = v; «root_move» = m; leaves = r .leaves }; tests = r .tests }
-        ≡ mtdfFound f t)
-        × ((e₃ ≡ marksOf (mtdfLeaves f t) t e)
-        × ((c₂ ≡ flagsOf (mtdfLeaves f t) t c) × (o₂ ≡ listed (mtdfLeaves f t) o)))
-    run-gives e e₁ e₂ e₃ c c₂ o o₂ r m v cleared settled room move flags kept value =
-        let g = first-evaluated (r .leaves) (frames t) e₁ e₂ o o₂ (mtdfLeaves f t) (settled .evaluated)
-        (settled .counted) room in
-        let b = search-concludes t wf (mtdfLeaves f t) decision-right e e₁ e₂ e₃ c c₂ m cleared (g .1 .0) move flags
-        kept in
-        let x : v ≡ valueOf (minimax (valuation t) (tree t)) = value ∙ ap valueOf (settled .score) in
-        let y = b .0 in
-        let z = g .0 in
-        let n = settled .tests in
-        (cc, (b .1 .0, (b .1 .1, g .1 .1)))
+    -- both phases together: the leaves of MTD(f), and the move by the lows that they leave
+    pub settled-both : (e o l h : List ℕ) (m′ m″ : Memory) (s : Met) (r : Findings) → MetAt t f (memory 0 e o l h) m′ s
+        → MovedTo t (s .score) m′ m″ → r .value ≡ valueOf (s .score)
+        → r .«root_move» ≡ firstEqual (λ k. getD (m″ .lows) k 0) (getD (m″ .lows) 0 0) 1 (childCount t 0)
+        → r .steps ≡ s .tests → Settles t f (progress 0 e o) (progressOf m″) r
+    settled-both e o l h m′ m″ s r x y p q n =
+        let w : soFar m″ ≡ mtdfLeaves f t = y .evaluated .listed ∙ sym (x .leaves) in
+        record {
+          value = p ∙ ap valueOf (x .score);
+          move =
+              q ∙ low-move m″ (y .right) ∙ ap (λ v. boundMove (valuation t) (among v) (tree t)) w
+              ∙ decision-right .move;
+          tests = n ∙ x .tests;
+          evaluated =
+              evaluated-more (x .evaluated) (y .evaluated) .all
+              ∙ ap (evaluateAll (progress 0 e o)) (sym (x .leaves));
+          counted = y .counted .number;
+        }
+
+  -- the steps together: e is cleared to e₁, and the tests from the starting value make it e₂ and the list o₂
+  pub find-gives : (v : ℤ) (e e₁ e₂ o o₂ : List ℕ) (r : Findings)
+      → e₁ ≡ written (λ k. 0) (frames t) e
+      → Settles t (startScore v) (progress 0 e₁ o) (progress (r .leaves) e₂ o₂) r
+      → frames t ≤ length o
+      → (r ≡ findingsBy (MtdFrom v) t)
+      × ((e₂ ≡ marksOf (evaluatedBy (MtdFrom v) t) t e) × (o₂ ≡ listed (evaluatedBy (MtdFrom v) t) o))
+  find-gives v e e₁ e₂ o o₂ r cleared settled room =
+      let w = evaluatedBy (MtdFrom v) t in
+      let g = first-evaluated (r .leaves) (frames t) e₁ e₂ o o₂ w (settled .evaluated) (settled .counted) room in
+      let a = search-marks t wf w (decides t wf (MtdFrom v) refl) e e₁ e₂ cleared (g .1 .0) in
+      (same-fields _ (settled .value) (settled .move) (g .0) (settled .tests), (a, g .1 .1))

@@ -1,3 +1,2 @@
--- Definitions for MTD(f) over a table: what a search gives and hands back, and what its engine keeps.
-pub mod Outcome
+-- No definitions that a reader has to believe.
 pub mod engine

@@ -1,16 +1,11 @@
 // MTD(f) over a byte table: the starting value never changes the value or the move that is found, only how many leaves
 // it takes; nothing is guessed past the leaves. The root is tested until its bounds meet; then its children are tested
 // for the first move.
-use certificate::Findings;
-use certificate::ask;
-use certificate::lesser;
-use certificate::write_certificate;
 use certificate_bounds::clear;
-use frames::Checked;
+use certificate_flags::first_equal;
 use frames::GREATEST;
 use frames::LEAST;
 use frames::MAX_NODES;
-use frames::Rejection;
 use frames::child_count;
 use frames::frame_count;
 use frames::score_of;
@@ -18,6 +13,7 @@ use frames::value;
 use gametree::Position;
 use gametree::Side;
 use leastvalue::in_range;
+use methods::Findings;
 use mtdf_visits::enter;
 use mtdf_visits::visit;
 ghost use mathlib.Core.Path.{_≡_};
@@ -29,51 +25,28 @@ ghost use Rattle.gametree.specs.AlphaBeta.{clamp};
 ghost use Rattle.frames.specs.Frame.{frames};
 ghost use Rattle.frames.specs.Position.{rootPosition};
 ghost use Rattle.frames.specs.Formed.{WellFormed};
-ghost use Rattle.frames.specs.Rejection.{_leaving_};
 ghost use Rattle.certificate_bounds.specs.Marks.{marked};
 ghost use Rattle.certificate_bounds.specs.engine.Progress.{progress};
-ghost use Rattle.certificate.specs.Search.{marksOf, flagsOf, buffers, listed};
-ghost use Rattle.mtdf.specs.Outcome.{startScore, mtdfLeaves, mtdfFound, mtdfOutcome};
+ghost use Rattle.certificate.specs.Search.{marksOf, listed};
+ghost use Rattle.methods.specs.declared.Method.the-variants.{MtdFrom};
+ghost use Rattle.methods.specs.Rules.{startScore, evaluatedBy};
+ghost use Rattle.methods.specs.Outcome.{findingsBy};
 ghost use Rattle.mtdf_visits.specs.engine.Memory.{memory, Fresh, VisitReady};
-ghost use Rattle.mtdf.specs.engine.Settling.{Settles, Met, MovedTo};
+ghost use Rattle.mtdf.specs.engine.Settling.{Settles, MetAt, MovedTo};
 
-// What MTD(f) finds: what every search finds, and how many tests were put to the root.
-pub struct MtdfResult {
-    pub findings: Findings,
-    pub tests: usize,
-}
-
-// The answer of a call: what was found, or the first question that got a "no".
-pub enum MtdfAnswer {
-    Found(MtdfResult),
-    Rejected(Rejection),
-}
-
-// MTD(f) of the whole tree from a starting value: questions 1 to 10, then the value, the root move and the counts of
-// evaluated leaves and of tests; the marks of these leaves and the certificate (01: the proof) go into the buffers, and
-// the leaves' numbers into the list.
-pub fn search(
-    table: &[u8],
-    start: i32,
-    evaluated: &mut [u8],
-    certificate: &mut [u8],
-    order: &mut [u16],
-) -> MtdfAnswer
-    ensures { λ r. ⌜ r leaving buffers (now (evaluated .exit)) (now (certificate .exit)) leaving now (order .exit)
-        ≡ mtdfOutcome start (now (table .entry)) (buffers (now (evaluated .entry)) (now (certificate .entry)))
-        (now (order .entry)) ⌝ }
+// What MTD(f) finds from a starting value in a table that was checked: the marks of the evaluated leaves go into the
+// buffer, and their numbers into the list.
+pub fn find(table: &[u8], start: i32, evaluated: &mut [u8], order: &mut [u16]) -> Findings
+    requires { ⌜ WellFormed (now table) ⌝ }
+    requires { ⌜ (frames (now table) ≤ length (now evaluated)) × (frames (now table) ≤ length (now order)) ⌝ }
+    ensures { λ r. ⌜ r ≡ findingsBy (MtdFrom start) (now (table .entry)) ⌝ }
+    ensures { λ _. ⌜ now (evaluated .exit)
+        ≡ marksOf (evaluatedBy (MtdFrom start) (now (table .entry))) (now (table .entry)) (now (evaluated .entry)) ⌝ }
+    ensures { λ _. ⌜ now (order .exit)
+        ≡ listed (evaluatedBy (MtdFrom start) (now (table .entry))) (now (order .entry)) ⌝ }
 {
-    let shortest = lesser(lesser(evaluated.len(), certificate.len()), order.len());
-    match ask(table, shortest) {
-        Checked::Nodes(_) => MtdfAnswer::Found(run(
-            table,
-            start_score(start),
-            evaluated,
-            certificate,
-            order,
-        )),
-        Checked::Rejected(rejection) => MtdfAnswer::Rejected(rejection),
-    }
+    clear(evaluated, frame_count(table));
+    settle(table, start_score(start), evaluated, order)
 }
 
 // The score of a starting value; one above the range of values counts as plus infinity, one below it as minus infinity.
@@ -86,48 +59,17 @@ fn start_score(start: i32) -> u32
     if start < 0 { LEAST } else { GREATEST }
 }
 
-// The search of an accepted table, into buffers with an entry per node.
-fn run(
-    table: &[u8],
-    guess: u32,
-    evaluated: &mut [u8],
-    certificate: &mut [u8],
-    order: &mut [u16],
-) -> MtdfResult
-    requires { ⌜ WellFormed (now table) ⌝ }
-    requires { ⌜ (frames (now table) ≤ length (now evaluated)) × (frames (now table) ≤ length (now certificate)) ⌝ }
-    requires { ⌜ frames (now table) ≤ length (now order) ⌝ }
-    ensures { λ r. ⌜ r ≡ mtdfFound guess (now (table .entry)) ⌝ }
-    ensures { λ _. ⌜ now (evaluated .exit)
-        ≡ marksOf (mtdfLeaves guess (now (table .entry))) (now (table .entry)) (now (evaluated .entry)) ⌝ }
-    ensures { λ _. ⌜ now (certificate .exit)
-        ≡ flagsOf (mtdfLeaves guess (now (table .entry))) (now (table .entry)) (now (certificate .entry)) ⌝ }
-    ensures { λ _. ⌜ now (order .exit) ≡ listed (mtdfLeaves guess (now (table .entry))) (now (order .entry)) ⌝ }
-{
-    clear(evaluated, frame_count(table));
-    let settled = settle(table, guess, evaluated, order);
-    let root_move = write_certificate(table, evaluated, certificate);
-    let value = value(settled.score);
-    MtdfResult {
-        findings: Findings {
-            value,
-            root_move,
-            leaves: settled.leaves,
-        },
-        tests: settled.tests,
-    }
-}
-
-// What the tests end with: the score at which the root's bounds meet, how many leaves were evaluated, and how many
-// tests were put to the root.
-struct Settled {
+// What the tests of the root end with: the score at which its bounds meet, how many leaves were evaluated, and how many
+// tests there were.
+struct Met {
     score: u32,
     leaves: usize,
     tests: usize,
 }
 
-// The tests over a table without marks: those of the root until its bounds meet, then the last phase.
-fn settle(table: &[u8], guess: u32, evaluated: &mut [u8], order: &mut [u16]) -> Settled
+// The tests over a table without marks: those of the root until its bounds meet, then the last phase; the move is then
+// the first child of the root whose low is the root's.
+fn settle(table: &[u8], guess: u32, evaluated: &mut [u8], order: &mut [u16]) -> Findings
     requires { ⌜ (WellFormed (now table)) × (frames (now table) ≤ length (now evaluated))
         × (frames (now table) ≤ length (now order)) ⌝ }
     requires { ⌜ ((k : ℕ) → k < frames (now table) → marked (now evaluated) k ≡ false) ⌝ }
@@ -146,10 +88,14 @@ fn settle(table: &[u8], guess: u32, evaluated: &mut [u8], order: &mut [u16]) -> 
         met.score,
         met.leaves,
     );
-    Settled {
-        score: met.score,
+    let end = 1 + child_count(table, 0);
+    let root_move = first_equal(&lows, 1, end, root_bound(&lows));
+    let value = value(met.score);
+    Findings {
+        value,
+        root_move,
         leaves,
-        tests: met.tests,
+        steps: met.tests,
     }
 }
 
@@ -161,9 +107,9 @@ fn drive(
     order: &mut [u16],
     lows: &mut [u32],
     highs: &mut [u32],
-) -> Settled
+) -> Met
     requires { ⌜ Fresh (now table) (memory 0 (now evaluated) (now order) (now lows) (now highs)) ⌝ }
-    ensures { λ r. ⌜ Met (now (table .entry)) guess
+    ensures { λ r. ⌜ MetAt (now (table .entry)) guess
         (memory 0 (now (evaluated .entry)) (now (order .entry)) (now (lows .entry)) (now (highs .entry)))
         (memory (r .leaves) (now (evaluated .exit)) (now (order .exit)) (now (lows .exit)) (now (highs .exit))) r ⌝ }
 {
@@ -181,7 +127,7 @@ fn drive(
         tests += 1;
         wish = next_wish(lows, highs, tried.answer);
     }
-    Settled {
+    Met {
         score: root_bound(lows),
         leaves,
         tests,

@@ -2,10 +2,13 @@
 use Prim.Native.Nat.{ℕ}
 use mathlib.Core.List.{List, [], _∷_}
 use lib.ListN.{length}
-use Rattle.gametree.specs.Tree.{leaves}
-use Rattle.frames.specs.Tree.{tree}
+use Rattle.gametree.specs.Tree.{leaves, minimax}
+use Rattle.gametree.specs.Move.{rootMove}
+use Rattle.frames.specs.Tree.{tree, valuation}
+use Rattle.frames.specs.Value.{valueOf}
 use Rattle.frames.specs.Rejection.{unless, Outcome, _leaving_}
-use Rattle.certificate.specs.Search.{searchRejection, findings, Buffers, buffersOf}
+use Rattle.certificate.specs.Search.{searchRejection, marksOf, flagsOf}
+use Rattle.methods.specs.Outcome.{Lent, lent}
 use Rattle.plain.specs.declared.PlainResult.{PlainResult}
 use Rattle.plain.specs.declared.PlainAnswer.{PlainAnswer}
 use Rattle.plain.specs.declared.PlainAnswer.the-variants.{Found as FoundAnswer, Rejected}
@@ -14,12 +17,15 @@ use Rattle.plain.specs.declared.PlainAnswer.the-variants.{Found as Found
 abbrev pub allLeaves : List ℕ → List ℕ
 allLeaves t = leaves (tree t)
 
--- what every search finds, but for the count: the minimax value, and the first root move that reaches it
+-- the minimax value, and the first root move that reaches it
 abbrev pub plainFound : List ℕ → PlainResult
-plainFound t = let f = findings (allLeaves t) t in record { value = f .value; «root_move» = f .«root_move» }
+plainFound t =
+    record { value = valueOf (minimax (valuation t) (tree t)); «root_move» = rootMove (valuation t) (tree t) }
 
--- the outcome of a call with the table t and the buffers b, which are as they were on a "no" to questions 1 to 10
-abbrev pub plainOutcome : (t : List ℕ) → Buffers → Outcome PlainAnswer Buffers
-plainOutcome t b =
-    unless (searchRejection t (length (b .marks) ∷ length (b .flags) ∷ [])) (λ r. Rejected r leaving b)
-    (FoundAnswer (plainFound t) leaving buffersOf (allLeaves t) t b)
+-- the outcome of a call with the table t and what is lent, of which all is as it was on a "no" to questions 1 to 10; the
+-- plain engine keeps no list of leaves
+abbrev pub plainOutcome : (t : List ℕ) → Lent → Outcome PlainAnswer Lent
+plainOutcome t l =
+    let w = allLeaves t in
+    unless (searchRejection t (length (l .marks) ∷ length (l .flags) ∷ [])) (λ r. Rejected r leaving l)
+    (FoundAnswer (plainFound t) leaving lent (marksOf w t (l .marks)) (flagsOf w t (l .flags)) (l .order))

@@ -18,6 +18,7 @@ use frames::value;
 use gametree::Side;
 use gametree::better;
 ghost use mathlib.Core.Path.{_≡_};
+ghost use mathlib.Core.List.{[]};
 ghost use Prim.Native.Nat.{_≤_};
 ghost use lib.ListN.{length};
 ghost use Rattle.gametree.specs.Tree.{minimax, leaves};
@@ -26,7 +27,8 @@ ghost use Rattle.frames.specs.Check.{Accepted};
 ghost use Rattle.frames.specs.Tree.{treeAt, valuation};
 ghost use Rattle.frames.specs.Rejection.{_leaving_};
 ghost use Rattle.certificate_bounds.specs.Marks.{markAll};
-ghost use Rattle.certificate.specs.Search.{marksOf, flagsOf, buffers};
+ghost use Rattle.certificate.specs.Search.{marksOf, flagsOf};
+ghost use Rattle.methods.specs.Outcome.{lent};
 ghost use Rattle.plain.specs.Outcome.{allLeaves, plainFound, plainOutcome};
 ghost use Rattle.plain.specs.engine.Ready.{Ready};
 
@@ -48,8 +50,8 @@ pub enum PlainAnswer {
 // Minimax of the whole tree: questions 1 to 10, then the value and the root move; the marks of all leaves and the
 // certificate (01: the proof) go into the buffers.
 pub fn search(table: &[u8], evaluated: &mut [u8], certificate: &mut [u8]) -> PlainAnswer
-    ensures { λ r. ⌜ r leaving buffers (now (evaluated .exit)) (now (certificate .exit))
-        ≡ plainOutcome (now (table .entry)) (buffers (now (evaluated .entry)) (now (certificate .entry))) ⌝ }
+    ensures { λ r. ⌜ r leaving lent (now (evaluated .exit)) (now (certificate .exit)) []
+        ≡ plainOutcome (now (table .entry)) (lent (now (evaluated .entry)) (now (certificate .entry)) []) ⌝ }
 {
     match ask(table, lesser(evaluated.len(), certificate.len())) {
         Checked::Nodes(_) => PlainAnswer::Found(run(table, evaluated, certificate)),

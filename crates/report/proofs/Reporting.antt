@@ -11,18 +11,20 @@ use Rattle.frames.specs.Frame.{frameSize, maxNodes, maxTable}
 use Rattle.frames.specs.Tree.{tree, valuation}
 use Rattle.frames.specs.Rejection.{_leaving_}
 use Rattle.frames.specs.Check.{Accepted}
+use Rattle.frames.specs.Formed.{WellFormed}
 use Rattle.frames.proofs.Acceptance.{accepted-formed}
 use Rattle.file_lines.specs.Lines.{decoded}
 use Rattle.file_reader.specs.File.{readOutcome}
 use Rattle.file_reader.proofs.Acceptance.{read-nodes, long-enough-rejected}
 use Rattle.text.specs.Text.{refusedLine}
 use Rattle.report.specs.Report.{analysisOn, report}
-use Rattle.report.specs.engine.Lines.{abLine, mtdLine, sssLine, analysis}
+use Rattle.methods.proofs.Rules.{all-evaluated}
+use Rattle.report.specs.engine.Lines.{lineBy, analysis}
 
 -- the analysis of a table's tree is laid down line by line
-analysed : (t : List ℕ) → analysisOn (valuation t) (tree t) ≡ analysis t
-unfolding abLine mtdLine sssLine
-analysed t = refl
+analysed : (t : List ℕ) → WellFormed t → analysisOn (valuation t) (tree t) ≡ analysis t
+unfolding lineBy
+analysed t wf = rw (all-evaluated t wf maxNodes (wf .atMost))
 
 module _ (f : List ℕ) where
   -- what is known once a file was read into a table: its first n frames are the file's, and accepted
@@ -40,7 +42,7 @@ module _ (f : List ℕ) where
           accepted = p .1;
           atMost = omega (arith, p .2, accepted-formed (decoded f) (p .1) .atMost);
           bytes = ap (λ o. take (frameSize * n) (o .left)) e ∙ p .3;
-          reported = rw (p .0) (analysed (decoded f));
+          reported = rw (p .0) (analysed (decoded f) (accepted-formed (decoded f) (p .1)));
         }
 
   -- the rejection of a file that is read into a roomy table is printed

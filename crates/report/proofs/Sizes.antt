@@ -2,29 +2,34 @@
 use Prim.Native.Nat.{ℕ, _+_, _≤_}
 use native.Mathlib.Omega.{arith}
 use mathlib.Core.Option.{Option, none, some}
-use mathlib.Core.List.{List, [], _∷_, _++_}
+use mathlib.Core.List.{List, [], _∷_, _++_, map}
 use lib.ListN.{length, length-append}
 use Rattle.frames.specs.declared.Rejection.{Rejection}
+use Rattle.gametree.specs.Tree.{Tree, least, greatest, minimax}
+use Rattle.gametree.specs.Move.{rootMove}
+use Rattle.gametree.specs.AlphaBeta.{reached}
+use Rattle.gametree.specs.Mtd as rule
+use Rattle.gametree.specs.Sss.{sss as run}
 use Rattle.frames.specs.Tree.{tree, valuation}
+use Rattle.frames.specs.Value.{valueOf}
 use Rattle.frames.specs.Rejection.{unless}
 use Rattle.file_lines.specs.Lines.{decoded}
 use Rattle.file_reader.specs.File.{fileRejection}
-use Rattle.certificate.specs.declared.Findings.{Findings}
-use Rattle.certificate.specs.Search.{findings}
-use Rattle.alphabeta.specs.Outcome.{reachedLeaves}
-use Rattle.mtd.specs.Outcome.{mtdLeaves}
-use Rattle.sss.specs.Outcome.{sssLeaves}
 use Rattle.text.specs.Text.{refusedLine, textSize}
 use Rattle.text.proofs.Laying.{decimal-few}
 use Rattle.text.proofs.Sizes.{signedDecimal-few, refused-few}
 use Rattle.report.specs.Report.{heading, methodLine, analysisOn, report}
-use Rattle.report.specs.engine.Lines.{abLine, mtdLine, sssLine}
 
 -- a line besides the name
-line-few : (name : List ℕ) (f : Findings) → length (methodLine name f) ≤ length name + 65
-line-few name f =
+line-few : (name : List ℕ) (ν : ℕ → ℕ) (x : Tree) (w : List ℕ) → length (methodLine name ν x w) ≤ length name + 65
+line-few name ν x w =
     simp length-append
-    (omega (arith, signedDecimal-few (f .value), decimal-few 20 (f .«root_move»), decimal-few 20 (f .leaves)))
+    (omega (
+      arith,
+      signedDecimal-few (valueOf (minimax ν x)),
+      decimal-few 20 (rootMove ν x),
+      decimal-few 20 (length w),
+    ))
 
 -- the heading with three lines
 lines-few : (a b c : List ℕ) → length a ≤ 67 → length b ≤ 68 → length c ≤ 68
@@ -33,11 +38,15 @@ lines-few a b c h i j = simp length-append (omega (arith, h, i, j))
 
 printed-few : (t : List ℕ) (q : Option Rejection)
     → length (unless q refusedLine (analysisOn (valuation t) (tree t))) ≤ textSize
-unfolding abLine mtdLine sssLine
 printed-few t none =
-    lines-few (abLine t) (mtdLine t) (sssLine t) (line-few (97 ∷ 98 ∷ []) (findings (reachedLeaves t) t))
-    (line-few (109 ∷ 116 ∷ 100 ∷ []) (findings (mtdLeaves t) t))
-    (line-few (115 ∷ 115 ∷ 115 ∷ []) (findings (sssLeaves t) t))
+    let ν = valuation t in
+    let x = tree t in
+    let ab = reached ν least greatest x in
+    let mtd = rule.mtd ν x .evaluated in
+    let sss = map (λ e. e .leaf) (run ν x .evaluations) in
+    lines-few (methodLine (97 ∷ 98 ∷ []) ν x ab) (methodLine (109 ∷ 116 ∷ 100 ∷ []) ν x mtd)
+    (methodLine (115 ∷ 115 ∷ 115 ∷ []) ν x sss) (line-few (97 ∷ 98 ∷ []) ν x ab)
+    (line-few (109 ∷ 116 ∷ 100 ∷ []) ν x mtd) (line-few (115 ∷ 115 ∷ 115 ∷ []) ν x sss)
 printed-few t (some r) = refused-few r
 
 -- there is room for them, and for a rejection

@@ -1,10 +1,13 @@
 // The program's text: what it prints for a file, laid down piece by piece and given back by value.
-use certificate::Findings;
 use frames::Checked;
 use frames::FRAME_SIZE;
 use frames::MAX_NODES;
 use frames::MAX_TABLE;
 use positions::fill;
+use search::Answer;
+use search::Findings;
+use search::Method;
+use search::find;
 use text::LINE_FEED;
 pub use text::TEXT_SIZE;
 pub use text::Text;
@@ -15,14 +18,17 @@ use text::put_refused;
 use text::put_value;
 pub use text::refused;
 ghost use mathlib.Core.Path.{_≡_};
+ghost use mathlib.Core.List.{[]};
 ghost use Prim.Native.Nat.{_≤_};
 ghost use lib.ListN.{length};
 ghost use Rattle.frames.specs.Frame.{frames};
 ghost use Rattle.frames.specs.Formed.{WellFormed};
 ghost use Rattle.frames.specs.Check.{Accepted};
+ghost use Rattle.positions.specs.engine.Positions.{Positioned};
+ghost use Rattle.methods.specs.Rules.{beyond};
 ghost use Rattle.text.specs.Text.{TextRoom, Put, textOf};
-ghost use Rattle.report.specs.engine.Lines.{abLine, mtdLine, sssLine, analysis};
-ghost use Rattle.report.specs.Report.{methodLine, report};
+ghost use Rattle.report.specs.engine.Lines.{findingsLine, lineBy, analysis};
+ghost use Rattle.report.specs.Report.{report};
 
 // The report of a file: the analysis of its tree, or the line of its rejection.
 pub fn write(file: &[u8]) -> Text
@@ -48,78 +54,78 @@ fn put_report(file: &[u8], text: &mut [u8]) -> usize
     }
 }
 
-// The heading and the line of each method, at the beginning of the text; the position after them.
+// The heading and the line of each method, at the beginning of the text; the position after them. No tree has more
+// leaves than SSS* is allowed.
 fn put_analysis(table: &[u8], text: &mut [u8]) -> usize
     requires { ⌜ Accepted (now table) × TextRoom 0 (analysis (now table)) (now text) ⌝ }
     ensures { λ r. ⌜ Put 0 (analysis (now (table .entry))) (now (text .entry)) r (now (text .exit)) ⌝ }
 {
+    let mut positions = [0u32; MAX_NODES];
     let mut evaluated = [0u8; MAX_NODES];
     let mut order = [0u16; MAX_NODES];
-    let first = put_bytes(text, 0, b"method value move leaves\n");
-    let second = put_ab(table, &mut evaluated, &mut order, text, first);
-    let third = put_mtd(table, &mut evaluated, &mut order, text, second);
-    put_sss(table, &mut evaluated, &mut order, text, third)
-}
-
-// The line of alpha-beta; the position after it.
-fn put_ab(
-    table: &[u8],
-    evaluated: &mut [u8],
-    order: &mut [u16],
-    text: &mut [u8],
-    at: usize,
-) -> usize
-    requires { ⌜ WellFormed (now table) ⌝ }
-    requires { ⌜ (frames (now table) ≤ length (now evaluated)) × (frames (now table) ≤ length (now order)) ⌝ }
-    requires { ⌜ TextRoom at (abLine (now table)) (now text) ⌝ }
-    ensures { λ r. ⌜ Put at (abLine (now (table .entry))) (now (text .entry)) r (now (text .exit)) ⌝ }
-{
-    let findings = alphabeta::find(table, evaluated, order);
-    put_line(text, at, b"ab", findings)
-}
-
-// The line of MTD.
-fn put_mtd(
-    table: &[u8],
-    evaluated: &mut [u8],
-    order: &mut [u16],
-    text: &mut [u8],
-    at: usize,
-) -> usize
-    requires { ⌜ WellFormed (now table) ⌝ }
-    requires { ⌜ (frames (now table) ≤ length (now evaluated)) × (frames (now table) ≤ length (now order)) ⌝ }
-    requires { ⌜ TextRoom at (mtdLine (now table)) (now text) ⌝ }
-    ensures { λ r. ⌜ Put at (mtdLine (now (table .entry))) (now (text .entry)) r (now (text .exit)) ⌝ }
-{
-    let found = mtd::find(table, evaluated, order);
-    let findings = found.findings;
-    put_line(text, at, b"mtd", findings)
-}
-
-// The line of SSS*, which goes by the positions of the nodes.
-fn put_sss(
-    table: &[u8],
-    evaluated: &mut [u8],
-    order: &mut [u16],
-    text: &mut [u8],
-    at: usize,
-) -> usize
-    requires { ⌜ WellFormed (now table) ⌝ }
-    requires { ⌜ (frames (now table) ≤ length (now evaluated)) × (frames (now table) ≤ length (now order)) ⌝ }
-    requires { ⌜ TextRoom at (sssLine (now table)) (now text) ⌝ }
-    ensures { λ r. ⌜ Put at (sssLine (now (table .entry))) (now (text .entry)) r (now (text .exit)) ⌝ }
-{
-    let mut positions = [0u32; MAX_NODES];
     fill(table, &mut positions);
-    let found = sss::find(table, &positions, evaluated, order);
-    let findings = found.findings;
-    put_line(text, at, b"sss", findings)
+    let first = put_bytes(text, 0, b"method value move leaves\n");
+    let second = put_method(
+        Method::AlphaBeta,
+        b"ab",
+        table,
+        &positions,
+        &mut evaluated,
+        &mut order,
+        text,
+        first,
+    );
+    let third = put_method(
+        Method::Mtd,
+        b"mtd",
+        table,
+        &positions,
+        &mut evaluated,
+        &mut order,
+        text,
+        second,
+    );
+    put_method(
+        Method::Sss(MAX_NODES),
+        b"sss",
+        table,
+        &positions,
+        &mut evaluated,
+        &mut order,
+        text,
+        third,
+    )
+}
+
+// The line of a method that nothing stops; the position after it.
+fn put_method(
+    method: Method,
+    name: &[u8],
+    table: &[u8],
+    positions: &[u32],
+    evaluated: &mut [u8],
+    order: &mut [u16],
+    text: &mut [u8],
+    at: usize,
+) -> usize
+    requires { ⌜ (WellFormed (now table)) × (Positioned (now table) (now positions))
+        × (beyond method (now table) ≡ []) ⌝ }
+    requires { ⌜ (frames (now table) ≤ length (now evaluated)) × (frames (now table) ≤ length (now order)) ⌝ }
+    requires { ⌜ TextRoom at (lineBy (now name) method (now table)) (now text) ⌝ }
+    ensures { λ r. ⌜ Put at (lineBy (now (name .entry)) method (now (table .entry))) (now (text .entry)) r
+        (now (text .exit)) ⌝ }
+{
+    match find(method, table, positions, evaluated, order) {
+        Answer::Found(findings) => put_line(text, at, name, findings),
+        Answer::Spent(_) => at,
+        Answer::Rejected(_) => at,
+    }
 }
 
 // A method's line; the position after it.
 fn put_line(text: &mut [u8], at: usize, name: &[u8], findings: Findings) -> usize
-    requires { ⌜ TextRoom at (methodLine (now name) findings) (now text) ⌝ }
-    ensures { λ r. ⌜ Put at (methodLine (now (name .entry)) findings) (now (text .entry)) r (now (text .exit)) ⌝ }
+    requires { ⌜ TextRoom at (findingsLine (now name) findings) (now text) ⌝ }
+    ensures { λ r. ⌜ Put at (findingsLine (now (name .entry)) findings) (now (text .entry)) r (now (text .exit)) ⌝ }
 {
     let named = put_bytes(text, at, name);
     let valued = put_value(text, named, findings.value);

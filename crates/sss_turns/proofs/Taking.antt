@@ -23,7 +23,7 @@ use Rattle.sss_turns.specs.declared.Counts.{Counts}
 use Rattle.sss_turns.specs.declared.Stage.the-variants.{Spent}
 use Rattle.sss_turns.specs.declared.Run.{Run}
 use Rattle.sss_turns.specs.engine.Rules.{ofInner, ofLive, ofState}
-use Rattle.sss_turns.specs.engine.Turn.{isSolvedRoot, evaluatedBy, newLeaves, isLiveLeaf, isUncovered}
+use Rattle.sss_turns.specs.engine.Turn.{isSolvedRoot, evaluatedAt, newLeaves, isLiveLeaf, isUncovered}
 use Rattle.sss_turns.specs.engine.Turn.{settledFront}
 use Rattle.sss_turns.specs.engine.Turn.{replacedRun, recounted, endedRun, taken}
 
@@ -38,11 +38,11 @@ live-inner t i γ q zero z = absurd (z refl)
 live-inner t i γ q (suc n) z = refl
 
 -- only a LIVE leaf is evaluated, so at most one leaf
-pub inner-none : (n : ℕ) (s : Status) (i : ℕ) → (n ≡ 0 → ⊥) → evaluatedBy n s i ≡ []
+pub inner-none : (n : ℕ) (s : Status) (i : ℕ) → (n ≡ 0 → ⊥) → evaluatedAt n s i ≡ []
 inner-none zero s i z = absurd (z refl)
 inner-none (suc n) s i z = refl
 
-pub solved-none : (n i : ℕ) → evaluatedBy n Solved i ≡ []
+pub solved-none : (n i : ℕ) → evaluatedAt n Solved i ≡ []
 solved-none zero i = refl
 solved-none (suc n) i = refl
 
@@ -62,12 +62,12 @@ solved-not zero = refl
 solved-not (suc n) = refl
 
 -- no other state evaluates a leaf
-no-leaves : (n : ℕ) (s : Status) (i : ℕ) → isLiveLeaf n s ≡ false → length (evaluatedBy n s i) ≡ 0
+no-leaves : (n : ℕ) (s : Status) (i : ℕ) → isLiveLeaf n s ≡ false → length (evaluatedAt n s i) ≡ 0
 no-leaves zero Live i e = absurd (true-not-false refl e)
 no-leaves zero Solved i e = refl
 no-leaves (suc n) s i e = refl
 
-few-leaves : (n : ℕ) (s : Status) (i : ℕ) → length (evaluatedBy n s i) ≤ 1
+few-leaves : (n : ℕ) (s : Status) (i : ℕ) → length (evaluatedAt n s i) ≤ 1
 few-leaves zero Live i = omega arith
 few-leaves zero Solved i = omega arith
 few-leaves (suc n) s i = omega arith
@@ -98,7 +98,7 @@ module _ (t : List ℕ) (e : State) (k : Counts) (h : k .leaves ≤ k .allowance
 -- where the count is that of the marks, it is so after a replacement too
 pub counted-on : (t b : List ℕ) (n : ℕ) (s : Status) (i k : ℕ) → k ≡ ones b (frames t) → i < frames t
     → frames t ≤ length b → (s ≡ Live → n ≡ 0 → marked b i ≡ false)
-    → k + length (evaluatedBy n s i) ≡ ones (markAll b (evaluatedBy n s i)) (frames t)
+    → k + length (evaluatedAt n s i) ≡ ones (markAll b (evaluatedAt n s i)) (frames t)
 unfolding markAll
 counted-on t b zero Live i k c h r u = omega (arith, c, ones-set b (frames t) i h (omega arith) (u refl refl))
 counted-on t b zero Solved i k c h r u = omega (arith, c)

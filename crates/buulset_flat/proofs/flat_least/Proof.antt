@@ -6,7 +6,7 @@ use Rattle.buulset_flat.proofs.flat_least.Tie as tie
 
 returns : tie.Need-returns
 unfolding flatLeast
-returns c = rw (c .before .before .answer .given .1) (c .with-leaves .ensures)
+returns c = rw (c .before .before .answer .given .1) (c .counted .ensures)
 
 returns-2 : tie.Need-returns-2
 unfolding flatLeast

@@ -5,20 +5,20 @@ use native.Mathlib.Omega.{arith}
 use lib.ListN.{length, replicate}
 use lib.Seq.{length-take-le}
 use borrow.Author.Needs.{needs}
-use Rattle.file_writer.specs.Write.{lengthGiven}
 use Rattle.file_reader.specs.File.{maxFile}
+use Rattle.convert.specs.Printed.{lengthPrinted}
 use Rattle.convert.proofs.Printing.{printed-within}
 use Rattle.capitals.proofs.print_converted.Statement.{statement}
 use Rattle.capitals.proofs.print_converted.Tie as tie
 
 -- what is printed is within the buffer
-within : (c : tie.After-length-given) → c .length-given .result ≤ length (c .before .before .output .last .1 .0)
+within : (c : tie.After-length-printed) → c .length-printed .result ≤ length (c .before .before .output .last .1 .0)
 within c =
     let o = c .before .before .output in
     let file = c .before .before .before .before .before .args .file .now in
-    let fits : lengthGiven (o .result) ≤ length (o .last .1 .0) =
+    let fits : lengthPrinted (o .result) ≤ length (o .last .1 .0) =
     printed-within file (replicate maxFile 0) _ (o .ensures) in
-    omega (arith, c .length-given .ensures)
+    omega (arith, c .length-printed .ensures)
 
 pub print-converted-spec : {M : Type 1} → statement M
 print-converted-spec =

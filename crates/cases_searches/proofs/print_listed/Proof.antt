@@ -8,7 +8,7 @@ returns : tie.Need-returns
 returns c =
     let n = c .before .before .before .before .before .before .before .before .before .count-entries .ensures .1 in
     let l = rw n at (c .before .before .before .before .before .print-lent .ensures) in
-    (ap (λ b. b .evaluated) l, ap (λ b. b .certificate) l)
+    (ap (λ b. b .marks) l, ap (λ b. b .flags) l)
 
 pub print-listed-spec : {M : Type 1} → statement M
 print-listed-spec =

@@ -8,14 +8,12 @@ write-certificate-at-requires : tie.Need-write-certificate-at-requires
 write-certificate-at-requires c κs =
     let f = c .before .before .before .before in
     let a = f .before .before .before .before .before .pre in
-    ((a .0, positioned _ (a .0) _ (a .0 .atMost) (f .fill .ensures)), a .1 .0)
+    ((a .0, positioned _ (a .0) _ (a .0 .atMost) (f .fill .ensures)), a .1)
 
 returns : tie.Need-returns
 returns c =
     let w = c .before .before .before .before in
-    let a = w .before .before .before .before .before .before .before .before .before .before .pre in
-    let e = w .write-certificate-at .ensures in
-    (e .0, (e .1 .0 (a .1 .1), e .1 .1 .0))
+    w .write-certificate-at .ensures
 
 pub write-certificate-spec : {M : Type 1} → statement M
 write-certificate-spec =

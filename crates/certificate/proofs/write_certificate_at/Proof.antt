@@ -1,7 +1,6 @@
--- `certificate::write_certificate_at` meets its contract: the arrays hold the sides and the bounds, and the move and,
--- in a buffer that has room for them, the flags follow.
+-- `certificate::write_certificate_at` meets its contract: the arrays hold the sides and the bounds, and the move and the
+-- flags follow.
 use native.Mathlib.Omega.{arith}
-use mathlib.Core.Path.{refl}
 use Rattle.certificate_bounds.specs.Marks.{marked}
 use Rattle.certificate.proofs.Chosen.{Bounded, bounded, chosen-move}
 use Rattle.certificate.proofs.Flags.{flags-follow}
@@ -9,12 +8,9 @@ use borrow.Author.Needs.{needs}
 use Rattle.certificate.proofs.write_certificate_at.Statement.{statement}
 use Rattle.certificate.proofs.write_certificate_at.Tie as tie
 
--- from the bounds to the start, and from the test to the bounds
+-- from the bounds to the start
 abbrev start : tie.After-fill-bounds → tie.Start
 start c = c .before .before .before .before .before .before .before .before
-
-abbrev filled : tie.After-frame-count → tie.After-fill-bounds
-filled c = c .before .before .before .before .before
 
 -- the arrays hold the sides and the bounds
 holds-bounds : (c : tie.After-fill-bounds) → let a = start c .args in
@@ -24,54 +20,27 @@ holds-bounds c =
     let e = c .fill-bounds .ensures in
     bounded _ _ _ _ (start c .pre .0 .1) (e .0) (e .1 .0)
 
-returns : tie.Need-returns
-returns c =
-    let t = c .before .before .before in
-    let f = t .before in
-    let b = filled f in (
-      rw (c .root-choice .ensures) (chosen-move _ (start b .pre .0 .0) _ (holds-bounds b)),
-      (
-        λ room. absurd (omega (arith, room, f .frame-count .ensures, t .if1 .taken)),
-        (b .fill-bounds .ensures .1 .1, λ _. refl),
-      ),
-    )
-
 read-off-requires : tie.Need-read-off-requires
 read-off-requires c κs =
-    let e = c .before .before .before in
-    let f = e .before in
-    let b = filled f in
+    let b = c .before .before .before .before .before .before .before in
     let a = start b .pre in (
       a .0 .0,
       (
         (a .0 .1 .room, omega (arith, a .0 .0 .atMost, b .fill-bounds .kept)),
-        (
-          omega (arith, a .0 .0 .atMost, b .fill-bounds .kept),
-          omega (arith, f .frame-count .ensures, e .if1 .left),
-        ),
+        (omega (arith, a .0 .0 .atMost, b .fill-bounds .kept), a .1 .1),
       ),
     )
 
-returns-2 : tie.Need-returns-2
-returns-2 c =
-    let r = c .before .before .read-off .ensures in
-    let e = c .before .before .before .before .before .before in
-    let f = e .before in
-    let b = filled f in
+returns : tie.Need-returns
+returns c =
+    let g = c .before .before in
+    let b = g .before .before .before .before .before .before .before .before in
     let wf = start b .pre .0 .0 in
-    let h = holds-bounds b in (
-      rw (r .0) (chosen-move _ wf _ h),
-      (
-        λ _. r .1 _ (flags-follow _ wf _ h),
-        (
-          b .fill-bounds .ensures .1 .1,
-          λ short. absurd (omega (arith, short, f .frame-count .ensures, e .if1 .left)),
-        ),
-      ),
-    )
+    let h = holds-bounds b in
+    let r = g .read-off .ensures in
+    (rw (r .0) (chosen-move _ wf _ h), (r .1 _ (flags-follow _ wf _ h), b .fill-bounds .ensures .1 .1))
 
 pub write-certificate-at-spec : {M : Type 1} → statement M
 write-certificate-at-spec =
-    tie.close (tie.spec (λ c. search needs) (λ c. search needs) (λ c κs. search needs) (λ c κs. search needs)
-    (λ c. search needs) (λ c. search needs) (λ c κs. search needs) (λ c. search needs) returns (λ c. search needs)
-    (λ c. search needs) read-off-requires (λ c. search needs) (λ c. search needs) returns-2)
+    tie.close (tie.spec (λ c. search needs) (λ c. search needs) (λ c κs. search needs) (λ c. search needs)
+    (λ c. search needs) read-off-requires (λ c. search needs) (λ c. search needs) returns)

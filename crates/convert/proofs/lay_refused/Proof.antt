@@ -11,7 +11,7 @@ use Rattle.convert.proofs.lay_refused.Tie as tie
 
 returns : tie.Need-returns
 returns c =
-    text-short _ _ (omega (arith, text-bytes _ (c .before .before .refused .ensures) .0))
+    text-short _ _ _ (omega (arith, text-bytes _ (c .before .before .refused .ensures) .0))
 
 slice-aggregate-copy : tie.Need-slice-aggregate-copy
 slice-aggregate-copy c =
@@ -26,7 +26,7 @@ returns-2 : tie.Need-returns-2
 returns-2 c =
     let k = c .before .before in
     let r = k .before .before .before .before .before .refused in
-    copied-laid _ _ _ _ (r .ensures) (omega arith) (k .copy .ensures .1)
+    copied-laid _ _ _ _ _ (r .ensures) (omega arith) (k .copy .ensures .1)
 
 pub lay-refused-spec : {M : Type 1} → statement M
 lay-refused-spec =

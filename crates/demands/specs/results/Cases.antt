@@ -5,12 +5,12 @@ use mathlib.Core.List.{List, [], _∷_, _++_}
 use lib.IntN.{pos, negℤ}
 use lib.ListN.{replicate}
 use Rattle.frames.specs.results.Cases.{leafFrame, innerFrame, againFrame, small, capture}
-use Rattle.certificate.specs.Search.{buffers}
-use Rattle.alphabeta.specs.Outcome.{alphaBetaOutcome}
-use Rattle.mtd.specs.Outcome.{mtdOutcome}
+use Rattle.methods.specs.declared.Method.the-variants.{AlphaBeta, Mtd, MtdFrom, Sss}
+use Rattle.methods.specs.declared.Answer.{Answer}
+use Rattle.methods.specs.Outcome.{lent, searchOutcome}
 use Rattle.sss_states.specs.Entry.{blank}
-use Rattle.sss.specs.Outcome.{sssOutcome, solveOutcome}
-use Rattle.demands.specs.results.Rows.{Given, found, spent, Row, row, rowWith, byAlphaBeta, byMtd, bySss}
+use Rattle.sss.specs.Outcome.{sssOutcome}
+use Rattle.demands.specs.results.Rows.{found, spent, Row, row, rowWith}
 
 -- leaves of 31,000 and -31,000
 abbrev winLeaf : List ℕ
@@ -59,22 +59,22 @@ winRows =
     ∷ []
 
 -- leaves of these values, from 0 to 255
-unfoldable pub leavesOf : List ℕ → List ℕ
-leavesOf [] = []
-leavesOf (v ∷ vs) = leafFrame 0 v ++ leavesOf vs
+unfoldable pub leafFrames : List ℕ → List ℕ
+leafFrames [] = []
+leafFrames (v ∷ vs) = leafFrame 0 v ++ leafFrames vs
 
 -- Max(Max(1, 2)); Max(Min(Min(2, 1))); Max five times in a row above 1 and 2; Max(Max(Min(1, 2), Min(3, 4))); and
 -- Max(Min(Min(1, 2), Min(3, 4)), Max(Min(2, 5), Min(2, 1)))
 abbrev pub captureTables : List (List ℕ)
 captureTables =
     capture
-    ∷ (innerFrame 1 1 ++ innerFrame 2 1 ++ againFrame 3 2 ++ leavesOf (2 ∷ 1 ∷ []))
+    ∷ (innerFrame 1 1 ++ innerFrame 2 1 ++ againFrame 3 2 ++ leafFrames (2 ∷ 1 ∷ []))
     ∷ (innerFrame 1 1 ++ againFrame 2 1 ++ againFrame 3 1 ++ againFrame 4 1 ++ againFrame 5 2
-    ++ leavesOf (1 ∷ 2 ∷ []))
-    ∷ (innerFrame 1 1 ++ againFrame 2 2 ++ innerFrame 4 2 ++ innerFrame 6 2 ++ leavesOf (1 ∷ 2 ∷ 3 ∷ 4 ∷ []))
+    ++ leafFrames (1 ∷ 2 ∷ []))
+    ∷ (innerFrame 1 1 ++ againFrame 2 2 ++ innerFrame 4 2 ++ innerFrame 6 2 ++ leafFrames (1 ∷ 2 ∷ 3 ∷ 4 ∷ []))
     ∷ (innerFrame 1 2 ++ innerFrame 3 2 ++ againFrame 5 2
     ++ againFrame 7 2 ++ againFrame 9 2 ++ innerFrame 11 2 ++ innerFrame 13 2
-    ++ leavesOf (1 ∷ 2 ∷ 3 ∷ 4 ∷ 2 ∷ 5 ∷ 2 ∷ 1 ∷ []))
+    ++ leafFrames (1 ∷ 2 ∷ 3 ∷ 4 ∷ 2 ∷ 5 ∷ 2 ∷ 1 ∷ []))
     ∷ []
 
 -- by the depth the first would be 1
@@ -91,7 +91,7 @@ captureRows =
 
 -- Max(Min(2, 3), 1), whose leaves lie at two depths: from left to right they are the nodes 3, 4 and 2
 abbrev pub deeperTables : List (List ℕ)
-deeperTables = (innerFrame 1 2 ++ innerFrame 3 2 ++ leavesOf (1 ∷ 2 ∷ 3 ∷ [])) ∷ []
+deeperTables = (innerFrame 1 2 ++ innerFrame 3 2 ++ leafFrames (1 ∷ 2 ∷ 3 ∷ [])) ∷ []
 
 abbrev pub deeperRows : List Row
 deeperRows = row (pos 2) 1 3 3 3 2 3 8 (3 ∷ 4 ∷ 2 ∷ []) (3 ∷ 2 ∷ 4 ∷ []) (3 ∷ 3 ∷ 1 ∷ 3 ∷ 2 ∷ []) ∷ []
@@ -99,16 +99,15 @@ deeperRows = row (pos 2) 1 3 3 3 2 3 8 (3 ∷ 4 ∷ 2 ∷ []) (3 ∷ 2 ∷ 4 ∷
 -- Max(Min(2, 3), Min(4, 1)) by SSS* within an allowance of n leaves: what it gives, and its list, lent with a 9 in each
 -- of the 7 entries
 pub record StoppedRow : Type 0 where
-  pub gives : Given
+  pub gives : Answer
   pub order : List ℕ
 
 abbrev pub stoppedAt : ℕ → StoppedRow
 stoppedAt n =
-    let b = buffers (replicate 7 0) (replicate 7 0) in
-    let s = sssOutcome n (small 2 3 4 1) (replicate 7 blank) b (replicate 7 9) .answer in
-    record { gives = bySss (s .answer .answer); order = s .left }
+    let s = searchOutcome (Sss n) (small 2 3 4 1) (lent (replicate 7 0) (replicate 7 0) (replicate 7 9)) in
+    record { gives = s .answer; order = s .left .order }
 
-abbrev stoppedRow : Given → List ℕ → StoppedRow
+abbrev stoppedRow : Answer → List ℕ → StoppedRow
 stoppedRow g o = record { gives = g; order = o }
 
 -- from no leaf to the 4 that it needs
@@ -121,13 +120,14 @@ stoppedRows =
     ∷ stoppedRow (found (pos 2) 1 4 11) (3 ∷ 5 ∷ 6 ∷ 4 ∷ replicate 3 9)
     ∷ []
 
--- the same tree by each search with a list of n entries
-abbrev pub withEntries : ℕ → List Given
+-- the same tree by each method, and by SSS* over a lent list of states, with a list of n entries for the leaves
+abbrev pub withEntries : ℕ → List Answer
 withEntries n =
     let t = small 2 3 4 1 in
-    let b = buffers (replicate 7 0) (replicate 7 0) in
-    byAlphaBeta (alphaBetaOutcome t b (replicate n 0) .answer .answer)
-    ∷ byMtd (mtdOutcome t b (replicate n 0) .answer .answer)
-    ∷ bySss (sssOutcome 7 t (replicate 7 blank) b (replicate n 0) .answer .answer .answer)
-    ∷ bySss (solveOutcome 7 t b (replicate n 0) .answer .answer)
+    let l = lent (replicate 7 0) (replicate 7 0) (replicate n 0) in
+    searchOutcome AlphaBeta t l .answer
+    ∷ searchOutcome Mtd t l .answer
+    ∷ searchOutcome (MtdFrom (pos 0)) t l .answer
+    ∷ searchOutcome (Sss 7) t l .answer
+    ∷ sssOutcome 7 t (replicate 7 blank) l .answer .answer
     ∷ []

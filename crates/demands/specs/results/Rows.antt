@@ -6,69 +6,50 @@ use lib.IntN.{ℤ, pos, negsuc}
 use lib.ListN.{length, replicate}
 use Rattle.frames.specs.Frame.{frames}
 use Rattle.frames.specs.results.Cases.{small, lone, single}
-use Rattle.certificate.specs.Search.{buffers, listed}
+use Rattle.certificate.specs.Search.{listed}
 use Rattle.certificate_bounds.specs.Marks.{ones}
-use Rattle.alphabeta.specs.declared.AlphaBetaAnswer as ab
-use Rattle.alphabeta.specs.declared.AlphaBetaAnswer.the-variants as ab-answer
-use Rattle.alphabeta.specs.Outcome.{alphaBetaOutcome}
-use Rattle.plain.specs.declared.PlainAnswer as plain
+use Rattle.methods.specs.declared.Method.the-variants.{AlphaBeta, Mtd, Sss}
+use Rattle.methods.specs.declared.Answer.{Answer}
+use Rattle.methods.specs.declared.Answer.the-variants.{Found, Spent, Rejected}
+use Rattle.methods.specs.Outcome.{lent, searchOutcome}
+use Rattle.plain.specs.declared.PlainAnswer.{PlainAnswer}
 use Rattle.plain.specs.declared.PlainAnswer.the-variants as plain-answer
 use Rattle.plain.specs.Outcome.{plainOutcome}
-use Rattle.mtd.specs.declared.MtdAnswer as mtd
-use Rattle.mtd.specs.declared.MtdAnswer.the-variants as mtd-answer
-use Rattle.mtd.specs.Outcome.{mtdOutcome}
-use Rattle.sss.specs.declared.SssAnswer as sss
-use Rattle.sss.specs.declared.SssAnswer.the-variants as sss-answer
-use Rattle.sss_states.specs.Entry.{blank}
-use Rattle.sss.specs.Outcome.{sssOutcome}
+use Rattle.demands.specs.Cases.{findingsAre}
 
--- what a search gives: the value, the move, the count of evaluated leaves and, if it has one, its second count; of an
--- allowance that is spent the merit and the counts; or a rejection's number
-pub data Given : Type 0 where
-  found : (value : ℤ) (move leaves second : ℕ) → Given
-  spent : (merit : ℤ) (leaves replacements : ℕ) → Given
-  rejected : (number : ℕ) → Given
+-- what a search gives: the value, the move, the count of evaluated leaves and the steps; or of an allowance that is
+-- spent the merit and the counts
+abbrev pub found : ℤ → (move leaves steps : ℕ) → Answer
+found v m n k = Found (findingsAre v m n k)
 
-abbrev pub byAlphaBeta : ab.AlphaBetaAnswer → Given
-byAlphaBeta (ab-answer.Found f) = found (f .value) (f .«root_move») (f .leaves) 0
-byAlphaBeta (ab-answer.Rejected r) = rejected (r .number)
+abbrev pub spent : ℤ → (leaves steps : ℕ) → Answer
+spent v n k = Spent (record { merit = v; leaves = n; steps = k })
 
 -- the plain engine gives no count: it is that of the marks at 1
-abbrev byPlain : (marks : ℕ) → plain.PlainAnswer → Given
+abbrev byPlain : (marks : ℕ) → PlainAnswer → Answer
 byPlain n (plain-answer.Found f) = found (f .value) (f .«root_move») n 0
-byPlain n (plain-answer.Rejected r) = rejected (r .number)
-
-abbrev pub byMtd : mtd.MtdAnswer → Given
-byMtd (mtd-answer.Found f) = found (f .findings .value) (f .findings .«root_move») (f .findings .leaves) (f .passes)
-byMtd (mtd-answer.Rejected r) = rejected (r .number)
-
-abbrev pub bySss : sss.SssAnswer → Given
-bySss (sss-answer.Found f) =
-    found (f .findings .value) (f .findings .«root_move») (f .findings .leaves) (f .replacements)
-bySss (sss-answer.Spent s) = spent (s .merit) (s .leaves) (s .replacements)
-bySss (sss-answer.Rejected r) = rejected (r .number)
+byPlain n (plain-answer.Rejected r) = Rejected r
 
 -- a line of the table: what alpha-beta, the plain engine, MTD and SSS* give, the list of leaves that each of the three
 -- searches leaves in one of zeros, and the flags that SSS* and the plain engine write
 pub record Row : Type 0 where
-  pub given : List Given
+  pub given : List Answer
   pub lists : List (List ℕ)
   pub flags : List (List ℕ)
 
 abbrev pub rowOf : List ℕ → Row
 rowOf t =
     let zeros : List ℕ = replicate (frames t) 0 in
-    let b = buffers zeros zeros in
-    let a = alphaBetaOutcome t b zeros in
-    let p = plainOutcome t b in
-    let m = mtdOutcome t b zeros in
-    let s = sssOutcome (frames t) t (replicate (frames t) blank) b zeros .answer in
+    let l = lent zeros zeros zeros in
+    let a = searchOutcome AlphaBeta t l in
+    let p = plainOutcome t (lent zeros zeros []) in
+    let m = searchOutcome Mtd t l in
+    let s = searchOutcome (Sss (frames t)) t l in
     record {
       given =
-          byAlphaBeta (a .answer .answer) ∷ byPlain (ones (p .left .marks) (frames t)) (p .answer)
-          ∷ byMtd (m .answer .answer) ∷ bySss (s .answer .answer) ∷ [];
-      lists = a .left ∷ m .left ∷ s .left ∷ [];
-      flags = s .answer .left .flags ∷ p .left .flags ∷ [];
+          a .answer ∷ byPlain (ones (p .left .marks) (frames t)) (p .answer) ∷ m .answer ∷ s .answer ∷ [];
+      lists = a .left .order ∷ m .left .order ∷ s .left .order ∷ [];
+      flags = s .left .flags ∷ p .left .flags ∷ [];
     }
 
 -- value, move, all leaves, alpha-beta's leaves, MTD's leaves and passes, SSS*'s leaves and replacements; the leaves of

@@ -1,16 +1,16 @@
 -- `plain::search` meets its contract: the questions are answered, and then the search is run or nothing is done.
 use Prim.Native.Nat.{ℕ}
-use mathlib.Core.Path.{_≡_, sym, ap, _∙_}
+use mathlib.Core.Path.{_≡_, sym, _∙_}
 use mathlib.Core.List.{List, [], _∷_}
 use lib.ListN.{length}
 use borrow.Author.Needs.{needs}
 use Rattle.frames.specs.declared.Rejection.{Rejection}
 use Rattle.frames.specs.Rejection.{Outcome, _leaving_}
-use Rattle.certificate.specs.Search.{Buffers, buffers}
+use Rattle.methods.specs.Outcome.{Lent, lent}
 use Rattle.certificate.proofs.Questions.{asked, of-lesser}
-use Rattle.certificate.proofs.Outcomes.{finding, rejecting, both-alike}
+use Rattle.certificate.proofs.Outcomes.{finding, rejecting}
 use Rattle.plain.specs.declared.PlainAnswer.{PlainAnswer}
-use Rattle.plain.specs.declared.PlainAnswer.the-variants.{Found, Rejected}
+use Rattle.plain.specs.declared.PlainAnswer.the-variants.{Rejected}
 use Rattle.plain.proofs.Whole.{may-run}
 use Rattle.plain.proofs.search.Statement.{statement}
 use Rattle.plain.proofs.search.Tie as tie
@@ -20,8 +20,8 @@ abbrev start : tie.After-ask → tie.Start
 start c = c .before .before .before .before .before
 
 -- what is given and left on a rejection; and the lengths of the buffers, of which question 10 asks
-abbrev refused : tie.After-ask → Rejection → Outcome PlainAnswer Buffers
-refused c r = Rejected r leaving buffers (start c .args .evaluated .now) (start c .args .certificate .now)
+abbrev refused : tie.After-ask → Rejection → Outcome PlainAnswer Lent
+refused c r = Rejected r leaving lent (start c .args .evaluated .now) (start c .args .certificate .now) []
 
 abbrev lengths : tie.After-ask → List ℕ
 lengths c = length (start c .args .evaluated .now) ∷ length (start c .args .certificate .now) ∷ []
@@ -42,7 +42,7 @@ returns c =
     let q = k .before .before in
     let r = f .run .ensures in
     finding (start q .args .table .now) (lengths q) (refused q) _ _ _ (sym (k .enum-told .given .1) ∙ told q)
-    (both-alike (ap Found (r .0)) (r .1 .0) (r .1 .1))
+    (rw (r .0, r .1 .0, r .1 .1))
 
 returns-2 : tie.Need-returns-2
 returns-2 c =

@@ -20,10 +20,6 @@ start c = c .before .before .before .before .before .before .before
 abbrev clearing : tie.After-drive-own → tie.After-clear
 clearing c = c .before .before .before .before .before .before
 
--- the run, from the merit at its end on
-abbrev run : tie.After-end-merit → tie.After-drive-own
-run c = c .before .before .before .before .before .before
-
 -- the marks after the clearing
 cleared : (c : tie.After-clear)
     → c .clear .last .0 ≡ written (λ _. 0) (frames (start c .args .table .now)) (start c .args .evaluated .now)
@@ -38,28 +34,30 @@ drive-own-requires c κs =
     let wf = p .0 .0 in
     let t = start k .args .table .now in
     rw (c .before .before .begun .ensures, cleared k)
-    (prepared-at maxNodes t _ _ zeros _ wf
+    (prepared-at (start k .args .allowance) t _ _ zeros _ wf
     (omega (arith, wf .atMost, length-replicate {A = State} maxNodes blank)) (p .1 .0) (p .1 .1) (zeros-sound t wf) _
     (p .0 .1))
 
-found-alone-requires : tie.Need-found-alone-requires
-found-alone-requires c κs =
-    let d = run c in
+answer-requires : tie.Need-answer-requires
+answer-requires c κs =
+    let d = c .before .before .before .before in
     let k = clearing d in
     let p = start k .pre in
     let b = d .before .before .before in
-    rw (c .end-merit .ensures)
-    (own-asks _ (p .0 .0) _ _ _ _ (cleared k) (b .begun .ensures) (d .drive-own .ensures) (p .1 .0) .merit)
+    own-asks (start k .args .allowance) _ (p .0 .0) _ _ _ _ (cleared k) (b .begun .ensures) (d .drive-own .ensures)
+    (p .1 .0) .merit
 
 returns : tie.Need-returns
 returns c =
-    let d = run (c .before) in
+    let d = c .before .before .before .before .before in
     let k = clearing d in
     let b = d .before .before .before in
-    let g = own-gives _ (start k .pre .0 .0) _ _ _ _ (cleared k) (b .begun .ensures) (d .drive-own .ensures) in
-    ((rw (c .before .end-merit .ensures) at (c .found-alone .ensures)) ∙ g .0, g .1)
+    let g =
+    own-gives (start k .args .allowance) _ (start k .pre .0 .0) _ _ _ _ (cleared k) (b .begun .ensures)
+    (d .drive-own .ensures) in
+    (c .answer .ensures ∙ g .0, g .1)
 
 pub find-spec : {M : Type 1} → statement M
 find-spec =
     tie.close (tie.spec (λ c κs. search needs) (λ c κs. search needs) (λ c κs. search needs) drive-own-requires
-    (λ c κs. search needs) found-alone-requires (λ c. search needs) (λ c. search needs) returns)
+    answer-requires (λ c. search needs) (λ c. search needs) returns)

@@ -33,13 +33,13 @@ isSolvedRoot Live i = false
 isSolvedRoot Solved i = eqb i 0
 
 -- the leaves that a replacement of node i, with n children, evaluates: a LIVE leaf
-abbrev pub evaluatedBy : ℕ → Status → ℕ → List ℕ
-evaluatedBy zero Live i = i ∷ []
-evaluatedBy zero Solved i = []
-evaluatedBy (suc n) s i = []
+abbrev pub evaluatedAt : ℕ → Status → ℕ → List ℕ
+evaluatedAt zero Live i = i ∷ []
+evaluatedAt zero Solved i = []
+evaluatedAt (suc n) s i = []
 
 abbrev pub newLeaves : List ℕ → State → List ℕ
-newLeaves t e = evaluatedBy (childCount t (e .node)) (e .status) (e .node)
+newLeaves t e = evaluatedAt (childCount t (e .node)) (e .status) (e .node)
 
 -- the counts after a replacement of node i's state, with which n leaves are evaluated
 abbrev pub recounted : (n i : ℕ) → Counts → Counts

@@ -9,5 +9,5 @@ returns c = ap (λ o. o .left) (c .before .before .before .before .before .befor
 
 pub print-output-in-spec : {M : Type 1} → statement M
 print-output-in-spec =
-    tie.close (tie.spec (λ c. search needs) (λ c κs. search needs) (λ c κs. search needs) (λ c. search needs)
-    (λ c κs. search needs) (λ c. search needs) returns)
+    tie.close (tie.spec (λ c κs. search needs) (λ c κs. search needs) (λ c. search needs) (λ c κs. search needs)
+    (λ c. search needs) returns)

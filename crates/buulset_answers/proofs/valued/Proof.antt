@@ -1,0 +1,12 @@
+-- `buulset_answers::valued` meets its contract: a value is passed on as it is.
+use borrow.Author.Needs.{needs}
+use mir.Syntax.{w16}
+use mir.ValLaws.{toZ-ofZ}
+use Rattle.buulset_answers.proofs.valued.Statement.{statement}
+use Rattle.buulset_answers.proofs.valued.Tie as tie
+
+returns : tie.Need-returns
+returns c = rw (toZ-ofZ w16 (c .before .args .value) (c .before .fits .value)) at (c .result .ensures)
+
+pub valued-spec : {M : Type 1} → statement M
+valued-spec = tie.close (tie.spec (λ c κs. search needs) returns)
