@@ -22,7 +22,7 @@ HEADER, FFI, LIB, MODULE = (HERE / path for path in (
     "c/buulset.h", "rust/src/ffi.rs", "rust/src/lib.rs", "python/buulset/calls.py"))
 LIMITS, MEANINGS = HERE / "python/buulset/tree.py", HERE / "python/buulset/refusal.py"
 KINDS = {"size_t": "usize", "uint8_t": "u8", "uint16_t": "u16", "uint32_t": "u32", "int16_t": "i16", "int32_t": "i32",
-         "children_of": "children"}
+         "children_of": "children", "file_line": "line"}
 # where the version stands, and after what; the library's own is the first, and the others follow it
 VERSIONS = (
     ("crates/buulset/src/lib.rt", r"const VERSION: u32 = (\d+);"),
@@ -216,17 +216,18 @@ WRONG = (
     (1, "    uint8_t spent; ", "    uint16_t spent; "),
     (1, "uint32_t buulset_version(void);", ""),
     (1, "uint16_t *BUULSET_RESTRICT order", "uint8_t *BUULSET_RESTRICT order"),
+    (1, "uint16_t *BUULSET_RESTRICT line", "const uint16_t *line"),
     (1, "#define BUULSET_MAX_DEPTH 18", "#define BUULSET_MAX_DEPTH 24"),
     (1, 'case 11: return "a wrong flag";', 'case 11: return "a wrong value";'),
     (1, '    case 23: return "the depth is more than 18";\n', ""),
     (2, "fn fill(table: &mut [u8])", "fn fill(table: &[u8])"),
     (2, "node: usize, wanted: i32", "wanted: i32, node: usize"),
-    (2, "    pub leaves: usize,\n    pub steps: usize,", "    pub steps: usize,\n    pub leaves: usize,"),
+    (2, "    pub root_move: usize,\n    pub steps: usize,", "    pub steps: usize,\n    pub root_move: usize,"),
     (2, "fn refused(number: u8, place: usize) -> Text;", ""),
     (3, "pub const MAX_CHILDREN: usize = 40;", "pub const MAX_CHILDREN: usize = 41;"),
-    (4, '("merit", ctypes.c_int32)', '("merit", ctypes.c_int16)'),
+    (4, '("value", ctypes.c_int32)', '("value", ctypes.c_int16)'),
     (4, '"fill": (_LENT, Answer)', '"fill": (_BYTES, Answer)'),
-    (0, "    pub merit: i32,", "    pub merit: i16,"),
+    (0, "    pub value: i32,", "    pub value: i16,"),
     (0, "pub extern \"C\" fn buulset_digit(byte: u8) -> u8", "pub extern \"C\" fn buulset_digit(byte: u16) -> u8"),
 )
 

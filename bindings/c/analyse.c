@@ -9,7 +9,7 @@ static uint16_t order[NODES];
 
 static int report(const char *name, size_t size, buulset_answer found) {
     buulset_answer proved = buulset_verify(table, size, certificate, NODES);
-    printf("%s %d %zu %zu\n", name, found.value, found.root_move, found.leaves);
+    printf("%s %d %zu %zu\n", name, found.value, found.root_move, found.count);
     return proved.refused == 0 && proved.value == found.value;
 }
 

@@ -17,10 +17,10 @@
  * STACK, in thousands of bytes, the most over small, deep and large trees (bindings/c/stack.c measures it). Give a
  * thread 256: no call uses the heap instead, and none checks whether its stack suffices.
  *
- *     report       112    alphabeta    50    convert        25    shorter       17
- *     mtdf          66    plain        50    read           25    least_leaves   3
- *     sss           66    mtd          50    capitals       25    fill           2
- *     least_value   54    verify       17    every other call under 1
+ *     report       118    alphabeta    71    capitals       25    shorter       17
+ *     line          83    sss          67    convert        25    least_leaves   3
+ *     mtdf          73    least_value  54    read           25    fill           2
+ *     mtd           72    plain        50    verify         17    every other call under 1
  */
 #ifndef BUULSET_H
 #define BUULSET_H
@@ -38,7 +38,7 @@ extern "C" {
 /* The version of this header: 10,000 times the major, 100 times the minor, and the patch number. The major number is
  * raised by every change that would break a program compiled against an older header; compare it with that of the
  * linked library: buulset_version() / 10000 == BUULSET_VERSION / 10000. */
-#define BUULSET_VERSION 10100
+#define BUULSET_VERSION 20000
 
 /* SIZES */
 
@@ -54,7 +54,7 @@ extern "C" {
 
 #define BUULSET_MAX_VALUE 32000   /* a leaf holds -32,000 to 32,000 */
 #define BUULSET_WIN 31000         /* from here up a value is a win, and from -31,000 down a loss */
-#define BUULSET_NOTHING_YET 32001 /* the merit of a run that was stopped before it had a bound */
+#define BUULSET_NOTHING_YET 32001 /* the value of a spent run that has no bound yet */
 
 /* THE QUESTIONS: what `refused` says; buulset_meaning gives a text for it. docs/SPEC.md, section 4, has each with its
  * place. */
@@ -88,19 +88,18 @@ enum {
 /* Flags of a certificate, one byte a node: in the max solution tree, in the min one, in both. */
 enum { BUULSET_IN_MAX = 1, BUULSET_IN_MIN = 2, BUULSET_IN_BOTH = 3 };
 
-/* ANSWERS, by value. `refused` is 0 for a result; otherwise it is the number of the first question that got a "no",
- * `place` is its place (a node, a line, a number of frames, or 0), and every other member is 0. A member that a call
- * does not give is 0. */
+/* ANSWERS, by value. `refused` is 0 for a result; otherwise it is the number of the first question that got a "no", and
+ * `place` is its place (a node, a line, a number of frames, or 0). A member that a call does not give is 0; a refused
+ * call gives no other, but for buulset_capitals. */
 typedef struct buulset_answer {
     uint8_t refused;
     uint8_t spent; /* sss: 1 if the allowance stopped the run */
-    int16_t value; /* the root's value (a win counts less the deeper it lies: README.md, "What it prints") */
-    int32_t merit; /* sss, spent: the root's value is at most this; 32,001 says nothing yet */
+    int32_t value; /* the root's value (a win counts less the deeper it lies: README.md, "What it prints"); if the
+                      allowance is spent, the root's value is at most this, and 32,001 says nothing yet */
     size_t place;
-    size_t count;     /* nodes, or bytes of a file */
+    size_t count;     /* what the call counts: nodes, bytes of a file, evaluated leaves, or nodes of the best line */
     size_t root_move; /* number of a child of the root; 0 where the root is a leaf */
-    size_t leaves;
-    size_t steps; /* passes of mtd, tests of mtdf, replacements of sss */
+    size_t steps;     /* passes of mtd, tests of mtdf, replacements of sss */
 } buulset_answer;
 
 /* Which of two certificates is chosen, and how many of its flags count, from its front. */
@@ -119,11 +118,11 @@ typedef struct buulset_children_of {
 
 /* A line of a file: `read` is 1, `bytes` is its frame and `at` the position past it; or 0, zeros, and the position as
  * it was. */
-typedef struct buulset_line {
+typedef struct buulset_file_line {
     uint8_t bytes[BUULSET_FRAME_SIZE];
     uint8_t read;
     size_t at;
-} buulset_line;
+} buulset_file_line;
 
 /* A text: `length` bytes, then zeros, so it is a C string too. */
 typedef struct buulset_text {
@@ -140,7 +139,7 @@ uint32_t buulset_version(void);
 buulset_answer buulset_read(const uint8_t *file, size_t file_len, uint8_t *BUULSET_RESTRICT table, size_t table_len);
 
 /* Reads the line that starts at a position of a file, in either letter case; it puts no questions. */
-buulset_line buulset_read_line(const uint8_t *file, size_t file_len, size_t at);
+buulset_file_line buulset_read_line(const uint8_t *file, size_t file_len, size_t at);
 
 /* The number of a hexadecimal digit in either letter case; 16 for any other byte. */
 uint8_t buulset_digit(uint8_t byte);
@@ -154,7 +153,8 @@ buulset_answer buulset_convert(const uint8_t *file, size_t file_len, uint8_t *BU
                                size_t converted_len);
 
 /* What the program `capitals` prints for a file: the converted file, or the line of the refusal, which is 10 where the
- * converted file has no room. Gives count: its bytes. Refused with 10 alone, where not even the line has room. */
+ * converted file has no room. Gives count: its bytes. Where it is a line, `refused` and `place` are that refusal's;
+ * where not even the line has room, `refused` is 10 and count 0. */
 buulset_answer buulset_capitals(const uint8_t *file, size_t file_len, uint8_t *BUULSET_RESTRICT printed,
                                 size_t printed_len);
 
@@ -167,9 +167,9 @@ buulset_children_of buulset_children(const uint8_t *table, size_t table_len, siz
 
 /* SEARCHES: an entry for each node is written to `evaluated` (1 on an evaluated leaf, else 0) and to `certificate` (its
  * flags). The numbers of the evaluated leaves are written to the front of `order`, which has room for all nodes, in the
- * order in which they were evaluated: as many as `leaves` says. */
+ * order in which they were evaluated: as many as `count` says. */
 
-/* Alpha-beta. Gives value, root_move, leaves. */
+/* Alpha-beta. Gives value, root_move, count. */
 buulset_answer buulset_alphabeta(const uint8_t *table, size_t table_len, uint8_t *BUULSET_RESTRICT evaluated,
                                  size_t evaluated_len, uint8_t *BUULSET_RESTRICT certificate, size_t certificate_len,
                                  uint16_t *BUULSET_RESTRICT order, size_t order_len);
@@ -178,23 +178,31 @@ buulset_answer buulset_alphabeta(const uint8_t *table, size_t table_len, uint8_t
 buulset_answer buulset_plain(const uint8_t *table, size_t table_len, uint8_t *BUULSET_RESTRICT evaluated,
                              size_t evaluated_len, uint8_t *BUULSET_RESTRICT certificate, size_t certificate_len);
 
-/* MTD. Gives value, root_move, leaves, steps (passes). */
+/* MTD. Gives value, root_move, count, steps (passes). */
 buulset_answer buulset_mtd(const uint8_t *table, size_t table_len, uint8_t *BUULSET_RESTRICT evaluated,
                            size_t evaluated_len, uint8_t *BUULSET_RESTRICT certificate, size_t certificate_len,
                            uint16_t *BUULSET_RESTRICT order, size_t order_len);
 
 /* MTD(f) from the value `start`, any number: a guess of the value, such as the one that the tree had before a leaf was
- * changed. It never changes the value or the move, only how many leaves it takes. Gives value, root_move, leaves, steps
+ * changed. It never changes the value or the move, only how many leaves it takes. Gives value, root_move, count, steps
  * (tests put to the root). */
 buulset_answer buulset_mtdf(const uint8_t *table, size_t table_len, int32_t start, uint8_t *BUULSET_RESTRICT evaluated,
                             size_t evaluated_len, uint8_t *BUULSET_RESTRICT certificate, size_t certificate_len,
                             uint16_t *BUULSET_RESTRICT order, size_t order_len);
 
-/* SSS* that evaluates at most `allowance` leaves. Gives value, root_move, leaves, steps (replacements); or spent,
- * merit, leaves, steps: then the marks and the list so far are written, and the certificate keeps its contents. */
+/* SSS* that evaluates at most `allowance` leaves. Gives value, root_move, count, steps (replacements); or spent, value,
+ * count, steps: then the marks and the list so far are written, and the certificate keeps its contents. */
 buulset_answer buulset_sss(const uint8_t *table, size_t table_len, uint8_t *BUULSET_RESTRICT evaluated,
                            size_t evaluated_len, uint8_t *BUULSET_RESTRICT certificate, size_t certificate_len,
                            uint16_t *BUULSET_RESTRICT order, size_t order_len, size_t allowance);
+
+/* THE BEST LINE */
+
+/* What both sides play who play their best: the numbers of its nodes are written to the front of `line`, the root
+ * first, a leaf last. `line` has room for all nodes of the tree (BUULSET_MAX_NODES is always enough), though no line has
+ * more than BUULSET_MAX_DEPTH + 1. Every node of it has the root's value, and its second is the root move. Gives value,
+ * root_move, count: the nodes of the line. */
+buulset_answer buulset_line(const uint8_t *table, size_t table_len, uint16_t *BUULSET_RESTRICT line, size_t line_len);
 
 /* CERTIFICATES */
 
@@ -217,10 +225,10 @@ buulset_answer buulset_graft(const uint8_t *first, size_t first_len, size_t node
 /* Gives value: the smallest value of the leaf `node` that gives the root exactly the value `wanted`. */
 buulset_answer buulset_least_value(const uint8_t *table, size_t table_len, size_t node, int32_t wanted);
 
-/* Writes the worst case for alpha-beta into the leaves of the table itself. Gives leaves: how many there are. */
+/* Writes the worst case for alpha-beta into the leaves of the table itself. Gives count: how many there are. */
 buulset_answer buulset_fill(uint8_t *table, size_t table_len);
 
-/* The fewest leaves that decide a tree of this width and depth in which the sides alternate. Gives leaves; 65,535 is
+/* The fewest leaves that decide a tree of this width and depth in which the sides alternate. Gives count; 65,535 is
  * that or more. */
 buulset_answer buulset_least_leaves(size_t width, size_t depth);
 
@@ -283,11 +291,11 @@ static inline int buulset_stored_value(const uint8_t *table, size_t node) {
 #define BUULSET_ASSERT(x) _Static_assert(x, "not the layout of x86-64 System V")
 #endif
 #ifdef BUULSET_ASSERT
-BUULSET_ASSERT(sizeof(size_t) == 8 && sizeof(buulset_answer) == 48 && sizeof(buulset_text) == 264);
-BUULSET_ASSERT(sizeof(buulset_line) == 16 && offsetof(buulset_line, at) == 8);
+BUULSET_ASSERT(sizeof(size_t) == 8 && sizeof(buulset_answer) == 40 && sizeof(buulset_text) == 264);
+BUULSET_ASSERT(sizeof(buulset_file_line) == 16 && offsetof(buulset_file_line, at) == 8);
 BUULSET_ASSERT(sizeof(buulset_choice) == 24 && sizeof(buulset_children_of) == 16);
-BUULSET_ASSERT(offsetof(buulset_answer, value) == 2 && offsetof(buulset_answer, merit) == 4);
-BUULSET_ASSERT(offsetof(buulset_answer, place) == 8 && offsetof(buulset_answer, steps) == 40);
+BUULSET_ASSERT(offsetof(buulset_answer, value) == 4 && offsetof(buulset_answer, place) == 8);
+BUULSET_ASSERT(offsetof(buulset_answer, count) == 16 && offsetof(buulset_answer, steps) == 32);
 #undef BUULSET_ASSERT
 #endif
 

@@ -24,7 +24,7 @@ static int run(void) {
     buulset_answer r = buulset_read((const uint8_t *)file, sizeof file - 1, table, sizeof table);
     if (r.refused || r.count != 7) return 1;
     r = buulset_sss(table, sizeof table, evaluated, 7, certificate, 7, order, 7, BUULSET_NO_LIMIT);
-    if (r.refused || r.value != 3 || r.root_move != 2 || r.leaves != 3 || r.steps != 9) return 2;
+    if (r.refused || r.value != 3 || r.root_move != 2 || r.count != 3 || r.steps != 9) return 2;
     if (order[0] != 3 || order[1] != 5 || order[2] != 6 || order[3] != 0) return 4;
     r = buulset_verify(table, sizeof table, certificate, sizeof certificate);
     return r.refused || r.value != 3 ? 3 : 0;

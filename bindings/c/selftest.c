@@ -81,15 +81,15 @@ static buulset_answer verified(const lent *t) {
 }
 
 /* One search: its marks, list and certificate, and short buffers, after which nothing is written. Gives its value. */
-static int16_t one_search(const lent *t, int which) {
+static int32_t one_search(const lent *t, int which) {
     size_t n = t->n, marked = 0;
     memset(t->order, 0xFF, n * sizeof *t->order);
     buulset_answer r = searched(t, which, n, n);
     EXPECT(!r.refused && !r.spent);
     for (size_t k = 0; k < n; k++) marked += t->marks[k];
-    EXPECT(marked == (which == 0 ? t->leaves : r.leaves));
+    EXPECT(marked == (which == 0 ? t->leaves : r.count));
     for (size_t k = 0; k < n; k++)
-        EXPECT(k < r.leaves ? t->order[k] < n && t->marks[t->order[k]] : t->order[k] == 0xFFFF);
+        EXPECT(k < r.count ? t->order[k] < n && t->marks[t->order[k]] : t->order[k] == 0xFFFF);
     EXPECT(verified(t).value == r.value && !verified(t).refused);
     memset(t->marks, 7, n);
     memset(t->flags, 7, n);
@@ -104,6 +104,29 @@ static int16_t one_search(const lent *t, int which) {
     return r.value;
 }
 
+/* The best line: a path of nodes in both trees of the certificate that SSS* left, and a short list, after which nothing
+ * is written. */
+static void best_line(const lent *t, int32_t value) {
+    size_t n = t->n, move = searched(t, 4, n, n).root_move, k;
+    memset(t->order, 0xFF, n * sizeof *t->order);
+    buulset_answer r = buulset_line(t->table, t->size, t->order, n - 1);
+    EXPECT(r.refused == BUULSET_SHORT_BUFFER && r.place == 0 && r.count == 0);
+    for (k = 0; k < n; k++) EXPECT(t->order[k] == 0xFFFF);
+    r = buulset_line(t->table, t->size, t->order, n);
+    EXPECT(!r.refused && !r.spent && r.value == value && r.root_move == move && r.steps == 0);
+    EXPECT(r.count > 0 && r.count <= BUULSET_MAX_DEPTH + 1 && t->order[0] == 0 && (r.count == 1 || t->order[1] == move));
+    for (k = 0; k < n; k++) {
+        if (k >= r.count) {
+            EXPECT(t->order[k] == 0xFFFF);
+            continue;
+        }
+        EXPECT(t->flags[t->order[k]] == BUULSET_IN_BOTH);
+        buulset_children_of children = buulset_children(t->table, t->size, t->order[k]);
+        if (k + 1 < r.count) EXPECT(t->order[k + 1] - children.first < children.count);
+        else EXPECT(children.count == 0);
+    }
+}
+
 /* A certificate that is accepted, as the last search left it, beside one that is not: what a spent run leaves. */
 static void certificates(const lent *t) {
     size_t n = t->n;
@@ -113,7 +136,7 @@ static void certificates(const lent *t) {
     EXPECT(!choice.refused && choice.chosen == 1 && choice.count == n);
     memset(t->flags, 7, n);
     buulset_answer r = buulset_sss(t->table, t->size, t->marks, n, t->flags, n, t->order, n, 0);
-    EXPECT(!r.refused && r.spent == 1 && r.merit == BUULSET_NOTHING_YET && r.leaves == 0);
+    EXPECT(!r.refused && r.spent == 1 && r.value == BUULSET_NOTHING_YET && r.count == 0);
     EXPECT(all(t->marks, n, 0) && all(t->flags, n, 7));
     EXPECT(verified(t).refused == BUULSET_WRONG_FLAG);
     choice = buulset_shorter(t->table, t->size, t->flags, n, good, n);
@@ -132,12 +155,12 @@ static void written_and_filled(const lent *t, const uint8_t *file, size_t length
     EXPECT(memcmp(written, file, length) == 0);
     EXPECT(buulset_read(written, r.count, again, size).count == n && memcmp(again, t->table, size) == 0);
     EXPECT(buulset_read(written, r.count, again, size - 1).refused == BUULSET_SHORT_BUFFER);
-    buulset_line line = buulset_read_line(written, r.count, 0);
+    buulset_file_line line = buulset_read_line(written, r.count, 0);
     EXPECT(line.read == 1 && line.at == 13 && memcmp(line.bytes, t->table, 6) == 0);
     r = buulset_fill(again, size);
-    EXPECT(!r.refused && r.leaves == t->leaves);
+    EXPECT(!r.refused && r.count == t->leaves);
     r = buulset_alphabeta(again, size, t->marks, n, t->flags, n, t->order, n);
-    EXPECT(r.leaves == t->leaves);
+    EXPECT(r.count == t->leaves);
     free(written), free(again);
 }
 
@@ -168,8 +191,9 @@ static void accepted(const uint8_t *table, size_t n, const uint8_t *file, size_t
         t.leaves += children.count == 0;
     }
     EXPECT(next == n);
-    int16_t value = one_search(&t, 0);
+    int32_t value = one_search(&t, 0);
     for (int which = 1; which < 5; which++) EXPECT(one_search(&t, which) == value);
+    best_line(&t, value);
     EXPECT(!buulset_least_value(table, t.size, n - 1, value).refused); /* the last node is a leaf */
     certificates(&t);
     written_and_filled(&t, file, length);
@@ -195,6 +219,11 @@ static void sample(const char *name) {
     if (r.refused) {
         text = buulset_refused(r.refused, r.place);
         EXPECT(text.length == w && !memcmp(text.bytes, want, w));
+        buulset_answer no = buulset_capitals(file, n, converted, BUULSET_MAX_FILE);
+        if (r.refused != BUULSET_SMALL_LETTER) { /* its line is laid down, and told from a file */
+            EXPECT(no.refused == r.refused && no.place == r.place && no.count == w && !memcmp(converted, want, w));
+            EXPECT(buulset_capitals(file, n, converted, w - 1).count == 0);
+        }
     } else {
         accepted(table = realloc(table, 6 * r.count), r.count, file, n);
     }
@@ -217,16 +246,19 @@ static void ends_of_the_range(void) {
     EXPECT(buulset_read(NULL, 0, NULL, 0).refused == BUULSET_EMPTY);
     EXPECT(buulset_convert(NULL, 0, NULL, 0).refused == BUULSET_EMPTY);
     EXPECT(buulset_capitals(NULL, 0, NULL, 0).refused == BUULSET_SHORT_BUFFER);
+    EXPECT(buulset_capitals(NULL, 0, NULL, 0).count == 0);
     EXPECT(buulset_check(NULL, 0).refused == BUULSET_EMPTY);
     EXPECT(buulset_write(leaf, 6, NULL, 0).refused == BUULSET_SHORT_BUFFER);
     EXPECT(buulset_alphabeta(leaf, 6, NULL, 0, NULL, 0, NULL, 0).refused == BUULSET_SHORT_BUFFER);
     EXPECT(buulset_sss(leaf, 6, NULL, 0, NULL, 0, NULL, 0, SIZE_MAX).refused == BUULSET_SHORT_BUFFER);
+    EXPECT(buulset_line(leaf, 6, NULL, 0).refused == BUULSET_SHORT_BUFFER);
+    EXPECT(buulset_line(NULL, 0, NULL, 0).refused == BUULSET_EMPTY);
     EXPECT(buulset_verify(leaf, 6, NULL, 0).refused == BUULSET_SHORT_BUFFER);
     EXPECT(buulset_shorter(leaf, 6, NULL, 0, NULL, 0).refused == BUULSET_SHORT_BUFFER);
     EXPECT(buulset_graft(leaf, 6, 0, leaf, 6, NULL, 0).refused == BUULSET_SHORT_BUFFER);
     EXPECT(buulset_graft(leaf, 6, SIZE_MAX, leaf, 6, NULL, 0).place == SIZE_MAX);
     EXPECT(buulset_fill(NULL, 0).refused == BUULSET_EMPTY);
-    EXPECT(buulset_fill(scratch, 6).leaves == 1);
+    EXPECT(buulset_fill(scratch, 6).count == 1);
     EXPECT(buulset_report(NULL, 0).length == 12);
     EXPECT(buulset_check((const uint8_t *)"", SIZE_MAX).refused == BUULSET_TOO_LONG); /* before a byte is read */
     EXPECT(buulset_children(leaf, 6, SIZE_MAX).count == 0);
@@ -236,7 +268,7 @@ static void ends_of_the_range(void) {
     EXPECT(buulset_least_value(leaf, 6, 0, -32000).value == -32000);
     EXPECT(buulset_least_value(leaf, 6, 0, INT32_MIN).refused == BUULSET_OUT_OF_RANGE);
     EXPECT(buulset_least_value(leaf, 6, 1, 0).refused == BUULSET_NO_LEAF);
-    EXPECT(buulset_least_leaves(2, 3).leaves == 5 && buulset_least_leaves(40, 18).leaves == 65535);
+    EXPECT(buulset_least_leaves(2, 3).count == 5 && buulset_least_leaves(40, 18).count == 65535);
     EXPECT(buulset_least_leaves(0, 99).refused == BUULSET_WRONG_WIDTH);
     EXPECT(buulset_least_leaves(SIZE_MAX, 0).refused == BUULSET_WRONG_WIDTH);
     EXPECT(buulset_least_leaves(1, 19).refused == BUULSET_WRONG_DEPTH);

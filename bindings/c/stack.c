@@ -20,7 +20,7 @@ static size_t length, size, nodes;
 static const char *const names[] = {
     "",    "read",   "read_line", "write", "convert",     "check", "children",     "alphabeta", "plain",   "mtd",
     "sss", "verify", "shorter",   "graft", "least_value", "fill",  "least_leaves", "report",    "refused", "capitals",
-    "mtdf"};
+    "mtdf", "line"};
 enum { CALLS = sizeof names / sizeof *names };
 
 static void *run(void *which) {
@@ -50,6 +50,7 @@ static void *run(void *which) {
     case 18: buulset_refused(3, 15); break;
     case 19: buulset_capitals(file, length, text, sizeof text); break;
     case 20: buulset_mtdf(table, size, 0, marks, sizeof marks, flags, sizeof flags, order, BUULSET_MAX_NODES); break;
+    case 21: buulset_line(table, size, order, BUULSET_MAX_NODES); break;
     }
     return NULL;
 }

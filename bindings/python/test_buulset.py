@@ -28,7 +28,7 @@ if __name__ == "__main__":
 
 import buulset
 import wheel_builder
-from buulset import Refused, Search, Stopped, Tree
+from buulset import Line, Refused, Search, Stopped, Tree
 from buulset.calls import CALLS
 
 
@@ -72,6 +72,7 @@ class Samples(unittest.TestCase):
             file = path.with_suffix(".tree").read_bytes()
             self.assertEqual(buulset.convert(file), path.read_bytes())
             self.assertEqual(buulset.capitals(file), path.read_bytes())
+        self.assertEqual(buulset.capitals((ROOT / "samples/cut-off.tree").read_bytes()), b"refused 3 15\n")
 
 
 class Searches(unittest.TestCase):
@@ -117,7 +118,19 @@ class Searches(unittest.TestCase):
                     self.assertEqual(within, whole)
             self.assertEqual(tree.sss_within(2 ** 64 - 1), whole)
 
+    def test_the_best_line(self):
+        self.assertEqual(sample("ending").line().nodes, (0, 2, 9))
+        for _, tree in accepted():
+            line, found = tree.line(), tree.sss()
+            self.assertEqual((line.value, line.nodes[0]), (found.value, 0))
+            self.assertEqual(line.nodes[1:2], () if found.root_move is None else (found.root_move,))
+            for node, child in zip(line.nodes, line.nodes[1:]):
+                self.assertIn(child, tree.children(node))
+            self.assertEqual({found.certificate[node] for node in line.nodes}, {3})
+            self.assertIsNotNone(tree.stored(line.nodes[-1]))
+
     def test_root_that_is_a_leaf(self):
+        self.assertEqual(Tree.from_file(b"00000000FFFB").line(), Line(-5, (0,)))
         found = Tree.from_file(b"00000000FFFB").sss()
         self.assertEqual(found, Search(-5, None, 1, 1, b"\1", b"\3", (0,)))
 

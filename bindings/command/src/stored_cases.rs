@@ -1,6 +1,7 @@
 //! The stored cases of 01 and 02, made through the linked library. They are those of the program `cases`, and what this
 //! module prints for them is what that program must print: `checks/README.md` has the form of both.
-use buulset::{Found, Refusal, Spent, Within, FRAME_SIZE, LINE_SIZE, MAX_CHILDREN, MAX_DEPTH, MAX_FILE, MAX_NODES};
+use buulset::{Found, Printed, Refusal, Spent, Within};
+use buulset::{FRAME_SIZE, LINE_SIZE, MAX_CHILDREN, MAX_DEPTH, MAX_FILE, MAX_NODES};
 use std::fmt::Display;
 
 const INPUT: &[u8] = include_bytes!("../../../crates/cases/stdin");
@@ -177,7 +178,12 @@ fn writing(table: &[u8], room: usize) -> String {
 
 fn output(file: &[u8], room: usize) -> String {
     let mut text = vec![FILLED; room];
-    line("output", buulset::capitals(file, &mut text)) + &row("text", &text)
+    let printed = match buulset::capitals(file, &mut text) {
+        Ok(Printed::File(length)) => length.to_string(),
+        Ok(Printed::Line(refusal, length)) => format!("{length} {refusal}"),
+        Err(_) => "no room".to_string(),
+    };
+    format!("output {printed}\n") + &row("text", &text)
 }
 
 /// A graft with so much room, and the report of the result's file.
@@ -193,11 +199,11 @@ fn graft(first: &[u8], node: usize, second: &[u8], room: usize) -> String {
     }
 }
 
-/// The worst-case filling, and how many leaves it costs alpha-beta.
+/// The worst-case filling, and what alpha-beta finds in it.
 fn filling(mut table: Vec<u8>) -> String {
     let said = line("fill", buulset::fill(&mut table)) + &row("table", &table);
-    let cost = buulset::alphabeta(&table, &mut [0; MAX_NODES], &mut [0; MAX_NODES], &mut [0; MAX_NODES]);
-    said + &line("ab", cost.map(|found| found.leaves))
+    let (mut marks, mut flags, mut order) = ([0; MAX_NODES], [0; MAX_NODES], [0; MAX_NODES]);
+    said + &answer(Method::AlphaBeta, &table, &mut marks, &mut flags, &mut order)
 }
 
 fn one_line(file: &[u8], at: usize) -> String {
@@ -235,19 +241,18 @@ fn search(method: Method, table: &[u8], marks: usize, flags: usize, entries: usi
 
 /// The call of a search, and its answer as a line.
 fn answer(method: Method, table: &[u8], marks: &mut [u8], flags: &mut [u8], order: &mut [u16]) -> String {
-    let counted = |f: Found| format!("{} {} {}", f.value, f.root_move.unwrap_or(0), f.leaves);
-    let stepped = |f: Found| format!("{} {}", counted(f), f.steps);
+    let found = |f: Found| format!("{} {} {} {}", f.value, f.root_move.unwrap_or(0), f.leaves, f.steps);
     let spent = |s: Spent| format!("spent {} {} {}", s.merit, s.leaves, s.replacements);
     match method {
-        Method::AlphaBeta => line("ab", buulset::alphabeta(table, marks, flags, order).map(counted)),
-        Method::Mtd => line("mtd", buulset::mtd(table, marks, flags, order).map(stepped)),
-        Method::Mtdf(start) => line("mtdf", buulset::mtdf(table, start, marks, flags, order).map(stepped)),
+        Method::AlphaBeta => line("ab", buulset::alphabeta(table, marks, flags, order).map(found)),
+        Method::Mtd => line("mtd", buulset::mtd(table, marks, flags, order).map(found)),
+        Method::Mtdf(start) => line("mtdf", buulset::mtdf(table, start, marks, flags, order).map(found)),
         Method::Sss(allowance) => {
             let within = buulset::sss(table, marks, flags, order, allowance);
             line(
                 "sss",
                 within.map(|within| match within {
-                    Within::Found(found) => stepped(found),
+                    Within::Found(f) => found(f),
                     Within::Spent(stopped) => spent(stopped),
                 }),
             )

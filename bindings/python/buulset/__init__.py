@@ -16,6 +16,6 @@ from .refusal import Refused
 from .tree import (FRAME_SIZE, LINE_SIZE, MAX_CHILDREN, MAX_DEPTH, MAX_FILE, MAX_NODES, MAX_TABLE, Line, Search,
                    Stopped, Tree)
 
-__all__ = ["FRAME_SIZE", "LINE_SIZE", "MAX_CHILDREN", "MAX_DEPTH", "MAX_FILE", "MAX_NODES", "MAX_TABLE", "Line",
+__all__ = ["FRAME_SIZE", "LINE_SIZE", "Line", "MAX_CHILDREN", "MAX_DEPTH", "MAX_FILE", "MAX_NODES", "MAX_TABLE",
            "Refused", "Search", "Stopped", "Tree", "__version__", "capitals", "check", "convert", "digit", "least_leaves",
            "read_line", "refused", "report", "version"]

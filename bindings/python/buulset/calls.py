@@ -8,10 +8,10 @@ SIZE = ctypes.c_size_t
 
 
 class Answer(ctypes.Structure):
-    """What most calls give: `refused` is 0 for a result, otherwise the number of a question; `place` goes with it."""
-    _fields_ = [("refused", ctypes.c_uint8), ("spent", ctypes.c_uint8), ("value", ctypes.c_int16),
-                ("merit", ctypes.c_int32), ("place", SIZE), ("count", SIZE), ("root_move", SIZE), ("leaves", SIZE),
-                ("steps", SIZE)]
+    """What most calls give: `refused` is 0 for a result, otherwise the number of a question; `place` goes with it. Where
+    `spent` is 1, `value` is the merit; `count` is what the call counts."""
+    _fields_ = [("refused", ctypes.c_uint8), ("spent", ctypes.c_uint8), ("value", ctypes.c_int32), ("place", SIZE),
+                ("count", SIZE), ("root_move", SIZE), ("steps", SIZE)]
 
 
 class Choice(ctypes.Structure):
@@ -52,6 +52,7 @@ CALLS = {
     "mtd": (_SEARCH + _ORDER, Answer),
     "mtdf": (_BYTES + [ctypes.c_int32] + _LENT + _LENT + _ORDER, Answer),
     "sss": (_SEARCH + _ORDER + [SIZE], Answer),
+    "line": (_BYTES + _ORDER, Answer),
     "verify": (_BYTES + _BYTES, Answer),
     "shorter": (_BYTES + _BYTES + _BYTES, Choice),
     "graft": (_BYTES + [SIZE] + _BYTES + _LENT, Answer),

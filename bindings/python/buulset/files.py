@@ -44,8 +44,8 @@ def capitals(file: Bytes) -> bytes:
     >>> capitals(b"00000000fff0"), capitals(b"")
     (b'00000000FFF0\\n', b'refused 1 0\\n')
     """
-    printed = bytearray(max(MAX_FILE, 256))
-    return bytes(printed[:answered(call("capitals", file, printed)).count])
+    printed = bytearray(MAX_FILE)  # a refusal's line has room in it too, so the answer's refusal is that of the line
+    return bytes(printed[:call("capitals", file, printed).count])
 
 
 def report(file: Bytes) -> str:
@@ -101,4 +101,4 @@ def least_leaves(width: int, depth: int) -> int:
     >>> least_leaves(10, 6)
     1999
     """
-    return int(answered(call("least_leaves", width, depth)).leaves)
+    return int(answered(call("least_leaves", width, depth)).count)

@@ -17,7 +17,7 @@ from typing import Any, Iterator, Optional, Union
 
 from .calls import CALLS, LIST, READ, WRITE
 
-__version__ = "1.1.0"
+__version__ = "2.0.0"
 
 _PACKAGE = Path(__file__).resolve().parent
 _MAJOR = int(__version__.split(".")[0])
@@ -95,10 +95,10 @@ def as_bytes(data: Union[bytes, bytearray, memoryview]) -> bytes:
 
 def call(name: str, *arguments: Any) -> Any:
     """A call as it is declared in `calls`: bytes where it reads, a bytearray where it writes bytes, an array of
-    unsigned 16-bit numbers where it writes a list of leaves, and numbers. A number that does not fit its parameter is
+    unsigned 16-bit numbers where it writes a list of nodes, and numbers. A number that does not fit its parameter is
     an OverflowError here, where ctypes would cut it.
 
-    >>> call("least_leaves", 10, 6).leaves
+    >>> call("least_leaves", 10, 6).count
     1999
     >>> call("least_leaves", -1, 6)
     Traceback (most recent call last):

@@ -67,7 +67,7 @@ class Stopped(NamedTuple):
 class Line(NamedTuple):
     """The best line of a tree: what both sides play who play their best."""
     value: int
-    """The minimax value of the root; every node of the line has it."""
+    """The minimax value of the root, over the leaves' worths; every node of the line has it."""
     nodes: Tuple[int, ...]
     """The nodes from the root to a leaf."""
 
@@ -232,20 +232,8 @@ class Tree:
         """
         answer, marks, flags, order = self._searched("sss", after=(allowance,))
         if answer.spent:
-            return Stopped(answer.merit, answer.leaves, answer.steps, marks, order)
+            return Stopped(answer.value, answer.count, answer.steps, marks, order)
         return self._result(answer, marks, flags, order)
-
-    def line(self) -> Line:
-        """The principal variation: from the root to a leaf by nodes of the root's value.
-
-        >>> seven.line()
-        Line(value=3, nodes=(0, 2, 5))
-        """
-        found, nodes = self.sss(), [0]
-        while self.stored(nodes[-1]) is None:
-            # both solution trees share one child of a node that they share
-            nodes.append(next(child for child in self.children(nodes[-1]) if found.certificate[child] == 3))
-        return Line(found.value, tuple(nodes))
 
     def _found(self, name: str, **more: Any) -> Search:
         return self._result(*self._searched(name, **more))
@@ -258,11 +246,23 @@ class Tree:
         order = array("H", bytes(2 * self.nodes))
         lent = (marks, flags, order) if listed else (marks, flags)
         answer = answered(call(name, self._table, *before, *lent, *after))
-        return answer, bytes(marks), bytes(flags), tuple(order[:answer.leaves])
+        return answer, bytes(marks), bytes(flags), tuple(order[:answer.count])
 
     @staticmethod
     def _result(answer: Any, marks: bytes, flags: bytes, order: Tuple[int, ...]) -> Search:
-        return Search(answer.value, answer.root_move or None, answer.leaves, answer.steps, marks, flags, order)
+        return Search(answer.value, answer.root_move or None, answer.count, answer.steps, marks, flags, order)
+
+    # the best line
+
+    def line(self) -> Line:
+        """The best line: what both sides play who play their best.
+
+        >>> seven.line()
+        Line(value=3, nodes=(0, 2, 5))
+        """
+        nodes = array("H", bytes(2 * self.nodes))
+        answer = answered(call("line", self._table, nodes))
+        return Line(answer.value, tuple(nodes[:answer.count]))
 
     # certificates
 
@@ -332,7 +332,7 @@ class Tree:
         (4, 4)
         """
         table = bytearray(self._table)
-        leaves = int(answered(call("fill", table)).leaves)
+        leaves = int(answered(call("fill", table)).count)
         return self._accepted(table), leaves
 
     # as a value of Python

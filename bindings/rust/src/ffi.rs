@@ -10,12 +10,10 @@
 pub struct Answer {
     pub refused: u8,
     pub spent: u8,
-    pub value: i16,
-    pub merit: i32,
+    pub value: i32,
     pub place: usize,
     pub count: usize,
     pub root_move: usize,
-    pub leaves: usize,
     pub steps: usize,
 }
 
@@ -58,9 +56,9 @@ macro_rules! exported {
         pub fn $f($($taken)*) -> $r {
             extern "C" {
                 #[link_name = concat!("buulset_", stringify!($f))]
-                fn $f($($declared)*) -> $r;
+                fn function($($declared)*) -> $r;
             }
-            unsafe { $f($($passed)*) }
+            unsafe { function($($passed)*) }
         }
     };
     (@ $f:ident $r:ty; [$($taken:tt)*] [$($declared:tt)*] [$($passed:tt)*] $x:ident: &[$t:ty], $($rest:tt)*) => {
@@ -91,6 +89,7 @@ exported! {
     fn mtd(table: &[u8], evaluated: &mut [u8], certificate: &mut [u8], order: &mut [u16]) -> Answer;
     fn mtdf(table: &[u8], start: i32, evaluated: &mut [u8], certificate: &mut [u8], order: &mut [u16]) -> Answer;
     fn sss(table: &[u8], evaluated: &mut [u8], certificate: &mut [u8], order: &mut [u16], allowance: usize) -> Answer;
+    fn line(table: &[u8], line: &mut [u16]) -> Answer;
     fn verify(table: &[u8], certificate: &[u8]) -> Answer;
     fn shorter(table: &[u8], first: &[u8], second: &[u8]) -> Choice;
     fn graft(first: &[u8], node: usize, second: &[u8], result: &mut [u8]) -> Answer;

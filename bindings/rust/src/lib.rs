@@ -18,7 +18,7 @@
 //! lent buffer is as it was; after a result, what lies past the part that the call writes keeps its contents. What the
 //! proofs assume of a caller, that a buffer which is written overlaps no other argument, Rust's own rules give.
 //!
-//! A call takes up to 112 kB of stack ([`report`]; `bindings/README.md` has a table): give a thread 256 kB. The library
+//! A call takes up to 118 kB of stack ([`report`]; `bindings/README.md` has a table): give a thread 256 kB. The library
 //! has no state, so any number of threads may call it at once.
 #![deny(missing_docs, unsafe_code)]
 
@@ -45,7 +45,7 @@ pub const MAX_TABLE: usize = FRAME_SIZE * MAX_NODES;
 pub const MAX_FILE: usize = LINE_SIZE * MAX_NODES;
 /// The version of this crate: 10,000 times the major, 100 times the minor, and the patch number. [`version`] is that of
 /// the library that is linked.
-pub const VERSION: u32 = 10100;
+pub const VERSION: u32 = 20000;
 
 /// The first question that got a "no" (docs/SPEC.md, section 4).
 #[derive(Clone, Copy, PartialEq, Eq, Hash, Debug)]
@@ -133,6 +133,27 @@ pub enum Within {
     Spent(Spent),
 }
 
+/// What [`line()`] finds.
+#[derive(Clone, Copy, PartialEq, Eq, Debug)]
+pub struct LineFound {
+    /// The minimax value of the root, over the leaves' worths; every node of the line has it.
+    pub value: i16,
+    /// The first child of the root that reaches it, which is the second node of the line; `None` where the root is a
+    /// leaf.
+    pub root_move: Option<usize>,
+    /// How many nodes the line has.
+    pub length: usize,
+}
+
+/// What [`capitals`] lays down, with its length in bytes.
+#[derive(Clone, Copy, PartialEq, Eq, Debug)]
+pub enum Printed {
+    /// The converted file.
+    File(usize),
+    /// The line of the file's refusal.
+    Line(Refusal, usize),
+}
+
 /// A text of at most 256 bytes, by value.
 #[derive(Clone, Copy)]
 pub struct Text(ffi::Text);
@@ -169,7 +190,8 @@ fn answered(answer: ffi::Answer) -> Result<ffi::Answer, Refusal> {
 }
 
 fn found(a: ffi::Answer) -> Found {
-    Found { value: a.value, root_move: (a.root_move != 0).then_some(a.root_move), leaves: a.leaves, steps: a.steps }
+    let root_move = (a.root_move != 0).then_some(a.root_move);
+    Found { value: a.value as i16, root_move, leaves: a.count, steps: a.steps }
 }
 
 /// The version of the library that is linked; its major number is that of [`VERSION`].
@@ -228,11 +250,17 @@ pub fn convert(file: &[u8], converted: &mut [u8]) -> Result<usize, Refusal> {
 ///
 /// ```
 /// let mut printed = [0; 12];
-/// assert_eq!(buulset::capitals(b"", &mut printed), Ok(12));
+/// let refusal = buulset::read(b"", &mut []).unwrap_err();
+/// assert_eq!(buulset::capitals(b"", &mut printed), Ok(buulset::Printed::Line(refusal, 12)));
 /// assert_eq!(&printed, b"refused 1 0\n");
 /// ```
-pub fn capitals(file: &[u8], printed: &mut [u8]) -> Result<usize, Refusal> {
-    answered(ffi::capitals(file, printed)).map(|a| a.count)
+pub fn capitals(file: &[u8], printed: &mut [u8]) -> Result<Printed, Refusal> {
+    let a = ffi::capitals(file, printed);
+    match (answered(a), a.count) {
+        (Ok(_), length) => Ok(Printed::File(length)),
+        (Err(refusal), 0) => Err(refusal),
+        (Err(refusal), length) => Ok(Printed::Line(refusal, length)),
+    }
 }
 
 /// Checks a table, and gives the number of nodes.
@@ -326,13 +354,32 @@ pub fn sss(
     let a = answered(ffi::sss(table, evaluated, certificate, order, allowance))?;
     Ok(match a.spent {
         0 => Within::Found(found(a)),
-        _ => Within::Spent(Spent { merit: a.merit, leaves: a.leaves, replacements: a.steps }),
+        _ => Within::Spent(Spent { merit: a.value, leaves: a.count, replacements: a.steps }),
     })
+}
+
+/// The best line, what both sides play who play their best: the numbers of its nodes, from the root to a leaf, go to the
+/// front of the list, which has room for all nodes of the tree.
+///
+/// ```
+/// # let mut table = [0; 42];
+/// # let file = b"000102000000\n000302000000\n000502000000\n000000000001\n000000000002\n000000000003\n000000000004\n";
+/// # buulset::read(file, &mut table)?;
+/// let mut line = [9; 7];
+/// let found = buulset::line(&table, &mut line)?;
+/// assert_eq!((found.value, found.root_move, found.length), (3, Some(2), 3));
+/// assert_eq!(line, [0, 2, 5, 9, 9, 9, 9]);
+/// # Ok::<(), buulset::Refusal>(())
+/// ```
+pub fn line(table: &[u8], line: &mut [u16]) -> Result<LineFound, Refusal> {
+    let a = answered(ffi::line(table, line))?;
+    let Found { value, root_move, leaves: length, .. } = found(a);
+    Ok(LineFound { value, root_move, length })
 }
 
 /// Checks a certificate, and gives the value that it certifies.
 pub fn verify(table: &[u8], certificate: &[u8]) -> Result<i16, Refusal> {
-    answered(ffi::verify(table, certificate)).map(|a| a.value)
+    answered(ffi::verify(table, certificate)).map(|a| a.value as i16)
 }
 
 /// The flags of the shorter of two certificates, one a node, as a part of its own memory: of two that are accepted the
@@ -365,12 +412,12 @@ pub fn graft(first: &[u8], node: usize, second: &[u8], result: &mut [u8]) -> Res
 /// assert_eq!(buulset::least_value(&[0; 6], 0, 32001).unwrap_err().to_string(), "refused 20 0");
 /// ```
 pub fn least_value(table: &[u8], node: usize, wanted: i32) -> Result<i16, Refusal> {
-    answered(ffi::least_value(table, node, wanted)).map(|a| a.value)
+    answered(ffi::least_value(table, node, wanted)).map(|a| a.value as i16)
 }
 
 /// Writes the worst case for alpha-beta into the leaves of the table itself, and gives their number.
 pub fn fill(table: &mut [u8]) -> Result<usize, Refusal> {
-    answered(ffi::fill(table)).map(|a| a.leaves)
+    answered(ffi::fill(table)).map(|a| a.count)
 }
 
 /// The fewest leaves that decide a tree of this width and depth in which the sides alternate; 65,535 is that or more.
@@ -380,7 +427,7 @@ pub fn fill(table: &mut [u8]) -> Result<usize, Refusal> {
 /// assert_eq!(buulset::least_leaves(41, 2).unwrap_err().meaning(), "the width is not 1 to 40");
 /// ```
 pub fn least_leaves(width: usize, depth: usize) -> Result<u16, Refusal> {
-    answered(ffi::least_leaves(width, depth)).map(|a| a.leaves as u16)
+    answered(ffi::least_leaves(width, depth)).map(|a| a.count as u16)
 }
 
 /// What the program `analyse` prints for a file; it refuses nothing.

@@ -165,11 +165,9 @@ impl Tree {
     /// # Ok::<(), buulset::Refusal>(())
     /// ```
     pub fn line(&self) -> Line {
-        // The two solution trees share one child of each inner node that they share, so the flags 3 are one path: SPEC
-        // 22 has the theorem, of a call that the archive does not export yet. All else takes the line from here.
-        let Search { found, certificate, .. } = self.sss();
-        let shared_child = |&node: &usize| self.children(node).find(|&child| certificate[child] == 3);
-        Line { value: found.value, nodes: std::iter::successors(Some(0), shared_child).collect() }
+        let mut nodes = vec![0; self.nodes()];
+        let found = line(&self.table, &mut nodes).expect(ACCEPTED);
+        Line { value: found.value, nodes: nodes[..found.length].iter().map(|&node| node.into()).collect() }
     }
 
     /// Checks a certificate of the tree, and gives the value that it certifies.

@@ -127,6 +127,9 @@ fn compare_table(t: &[u8], n: usize, rng: &mut Rng) {
     }
     let certificates = compare_searches(t, n, rng);
     compare_certificates(t, n, certificates, rng);
+    for room in [n, n + rng.below(9), n.saturating_sub(1 + rng.below(3))] {
+        compare_line(t, room);
+    }
     for room in [13 * n, 13 * n + rng.below(30), (13 * n).saturating_sub(1 + rng.below(13))] {
         let before = lent(rng, room);
         same("write", &before, |b| buulset::write(t, b), |b| model::write(t, b)).ok();
@@ -161,6 +164,22 @@ fn compare_searches(t: &[u8], n: usize, rng: &mut Rng) -> Vec<Vec<u8>> {
         compare_search(method, t, some, rng);
     }
     certificates
+}
+
+/// The best line, in a list of this length.
+fn compare_line(t: &[u8], room: usize) {
+    let before: Vec<u16> = (0..room).map(|i| (i as u16).wrapping_mul(0x1357) ^ 0xA5A5).collect();
+    let (mut ours, mut theirs) = (before.clone(), before.clone());
+    let got = same("line", &[], |_| buulset::line(t, &mut ours), |_| model::line(t, &mut theirs));
+    assert!(ours == theirs, "the best line");
+    match got {
+        Ok(found) => {
+            let nodes: Vec<usize> = ours[..found.length].iter().map(|&node| node.into()).collect();
+            assert_eq!(nodes.get(1).copied(), found.root_move, "the line begins with the move");
+            assert_eq!(tree(t).line(), buulset::Line { value: found.value, nodes });
+        }
+        Err(_) => assert!(ours == before, "the list after a refusal"),
+    }
 }
 
 /// The calls on certificates: any bytes, as found, of a tree of the same shape with other values, damaged, cut.
@@ -318,7 +337,7 @@ fn every_answer_was_given() {
     let with = |more: &[u8]| [&table, more].concat();
     was_given("check", &table);
     was_given("fill", &table);
-    for what in ["alphabeta", "plain", "mtd", "mtdf", "sss", "write"] {
+    for what in ["alphabeta", "plain", "mtd", "mtdf", "sss", "line", "write"] {
         was_given(what, &with(&[10]));
     }
     for what in ["verify", "shorter"] {
@@ -415,7 +434,7 @@ fn ends_of_the_range() {
     }
     grafts_at_the_limits(&mut rng);
     // question 2, which no random input gets
-    let calls = "read write convert check alphabeta plain mtd sss verify shorter graft least_value fill";
+    let calls = "read write convert check alphabeta plain mtd sss line verify shorter graft least_value fill";
     for what in calls.split(' ') {
         assert!(SEEN.lock().unwrap().contains_key(&(what, 2)), "{what}: 2 was never given");
     }

@@ -3,7 +3,7 @@
 //! rest is written from the papers' sentences; who wrote it had read the crates' definitions.
 #![allow(dead_code)]
 
-use buulset::{Found, Refusal, Spent, Within};
+use buulset::{Found, LineFound, Printed, Refusal, Spent, Within};
 use std::cmp::Reverse;
 use std::collections::BTreeSet;
 use std::ops::Range;
@@ -108,16 +108,16 @@ pub fn convert(file: &[u8], buffer: &mut [u8]) -> Answer<usize> {
 }
 
 /// What the program prints: the converted file, or the line of its refusal where there is room for that.
-pub fn capitals(file: &[u8], buffer: &mut [u8]) -> Answer<usize> {
+pub fn capitals(file: &[u8], buffer: &mut [u8]) -> Answer<Printed> {
     match convert(file, buffer) {
-        Ok(length) => Ok(length),
+        Ok(length) => Ok(Printed::File(length)),
         Err(refusal) => {
             let line = format!("{refusal}\n");
             match buffer.get_mut(..line.len()) {
                 Some(front) => front.copy_from_slice(line.as_bytes()),
                 None => return no(10, 0),
             }
-            Ok(line.len())
+            Ok(Printed::Line(refusal, line.len()))
         }
     }
 }
@@ -509,6 +509,33 @@ pub fn search(method: Method, table: &[u8], lent: Lent) -> Answer<Within> {
         }
         Err(merit) => Within::Spent(Spent { merit, leaves, replacements: steps }),
     })
+}
+
+/// The best line: at each node the child that is in both trees of the certificate of SSS*. Each node on it is worth the
+/// root's value, by plain minimax.
+pub fn line(table: &[u8], line: &mut [u16]) -> Answer<LineFound> {
+    let n = check(table)?;
+    if line.len() < n {
+        return no(10, 0);
+    }
+    let (mut evaluated, mut certificate, mut order) = (vec![0; n], vec![0; n], vec![0; n]);
+    let lent = Lent { evaluated: &mut evaluated, certificate: &mut certificate, order: &mut order };
+    search(Method::Sss(n), table, lent)?;
+    let tree = Tree::new(table);
+    let value = tree.fold(|k| tree.worth[k]);
+    let (mut node, mut length) = (0, 0);
+    loop {
+        assert_eq!(value[node], value[0], "node {node} of the line");
+        line[length] = node as u16;
+        length += 1;
+        let mut shared = tree.kids[node].clone().filter(|&c| certificate[c] == 3);
+        match (shared.next(), shared.next()) {
+            (Some(child), None) => node = child,
+            (None, None) if tree.leaf(node) => break,
+            _ => panic!("node {node} of the line has not one child in both trees"),
+        }
+    }
+    Ok(LineFound { value: value[0] as i16, root_move: tree.root_move(), length })
 }
 
 /// Is a leaf evaluated by alpha-beta? Baudet's condition: of the minimax values of elder siblings on its path, the
