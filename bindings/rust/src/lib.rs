@@ -18,7 +18,7 @@
 //! lent buffer is as it was; after a result, what lies past the part that the call writes keeps its contents. What the
 //! proofs assume of a caller, that a buffer which is written overlaps no other argument, Rust's own rules give.
 //!
-//! A call takes up to 118 kB of stack ([`report`]; `bindings/README.md` has a table): give a thread 256 kB. The library
+//! A call takes up to 112 kB of stack ([`report`]; `bindings/README.md` has a table): give a thread 256 kB. The library
 //! has no state, so any number of threads may call it at once.
 #![deny(missing_docs, unsafe_code)]
 

@@ -19,6 +19,7 @@ ghost use Rattle.positions.specs.engine.Positions.{Positioned};
 ghost use Rattle.certificate.specs.Search.{marksOf, listed};
 ghost use Rattle.methods.specs.Rules.{evaluatedBy, beyond};
 ghost use Rattle.methods.specs.Outcome.{answerBy, lent, givenBy, searchOutcome};
+ghost use Rattle.methods.specs.engine.Certified.{certifiedFlags};
 
 // The search of the whole tree by a method: questions 1 to 10, then the value, the root move and the counts of
 // evaluated leaves and of steps, or that the allowance is spent; the marks of these leaves, their numbers in the order
@@ -41,7 +42,8 @@ pub fn search(
     }
 }
 
-// The search of an accepted table, into buffers with an entry per node.
+// The search of an accepted table, into buffers with an entry per node. Each engine is called here and in `find`, so
+// that the compiler puts none of their work arrays into the frame of either.
 fn run(
     method: Method,
     table: &[u8],
@@ -58,8 +60,60 @@ fn run(
 {
     let mut positions = [0u32; MAX_NODES];
     fill(table, &mut positions);
-    let answer = find(method, table, &positions, evaluated, order);
-    certify(answer, table, &positions, evaluated, certificate);
+    match method {
+        Method::AlphaBeta => {
+            let findings = alphabeta::find(table, evaluated, order);
+            conclude(
+                Answer::Found(findings),
+                table,
+                &positions,
+                evaluated,
+                certificate,
+            )
+        }
+        Method::Mtd => {
+            let findings = mtd::find(table, evaluated, order);
+            conclude(
+                Answer::Found(findings),
+                table,
+                &positions,
+                evaluated,
+                certificate,
+            )
+        }
+        Method::MtdFrom(start) => {
+            let findings = mtdf::find(table, start, evaluated, order);
+            conclude(
+                Answer::Found(findings),
+                table,
+                &positions,
+                evaluated,
+                certificate,
+            )
+        }
+        Method::Sss(allowance) => {
+            let answer = sss::find(table, &positions, allowance, evaluated, order);
+            conclude(answer, table, &positions, evaluated, certificate)
+        }
+    }
+}
+
+// An answer, once its certificate is written.
+fn conclude(
+    answer: Answer,
+    table: &[u8],
+    positions: &[u32],
+    evaluated: &mut [u8],
+    certificate: &mut [u8],
+) -> Answer
+    requires { ⌜ (WellFormed (now table)) × (Positioned (now table) (now positions)) ⌝ }
+    requires { ⌜ (frames (now table) ≤ length (now evaluated)) × (frames (now table) ≤ length (now certificate)) ⌝ }
+    ensures { λ r. ⌜ r ≡ answer ⌝ }
+    ensures { λ _. ⌜ now (evaluated .exit) ≡ now (evaluated .entry) ⌝ }
+    ensures { λ _. ⌜ now (certificate .exit)
+        ≡ certifiedFlags answer (now (table .entry)) (now (evaluated .entry)) (now (certificate .entry)) ⌝ }
+{
+    certify(answer, table, positions, evaluated, certificate);
     answer
 }
 
