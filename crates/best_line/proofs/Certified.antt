@@ -1,4 +1,5 @@
--- The flags that a search writes are a certificate of the minimax value, for every list of leaves that decides the tree.
+-- The flags that a search writes are a certificate of the minimax value, for every list of leaves that decides the
+-- tree.
 use Prim.Native.Nat.{ℕ, _+_, _≤_, _<_}
 use native.Mathlib.Omega.{arith}
 use mathlib.Core.Path.{_≡_, ap, _∙_}

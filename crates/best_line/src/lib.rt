@@ -18,7 +18,8 @@ ghost use Rattle.frames.specs.Rejection.{_leaving_};
 ghost use Rattle.best_line.specs.Line.{lineFound, bestLineOf, lineOutcome};
 ghost use Rattle.best_line.specs.engine.Parts.{nothingIn, foundIn, lineLength};
 
-// What is found: the minimax value, the first root move that reaches it (0 for a leaf), and how many nodes the line has.
+// What is found: the minimax value, the first root move that reaches it (0 for a leaf), and how many nodes the line
+// has.
 pub struct LineFound {
     pub value: i16,
     pub root_move: usize,

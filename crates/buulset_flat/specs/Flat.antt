@@ -19,8 +19,8 @@ use Rattle.buulset_answers.specs.declared.Answer.{Answer}
 use Rattle.buulset_answers.specs.declared.Choice.{Choice}
 use Rattle.buulset_answers.specs.declared.Line.{Line}
 use Rattle.buulset_answers.specs.declared.Text.{Text}
-use Rattle.buulset_answers.specs.Answers.{counted, valued, found, lined, moved, spent, refused, laidLine, chosen, noChoice}
-use Rattle.buulset_answers.specs.Answers.{readLine, noLine}
+use Rattle.buulset_answers.specs.Answers.{counted, valued, found, lined, moved, spent, refused, laidLine}
+use Rattle.buulset_answers.specs.Answers.{chosen, noChoice, readLine, noLine}
 
 unfoldable pub flatChecked : Checked → Answer
 flatChecked (checked.Nodes n) = counted n

@@ -60,7 +60,8 @@ module _ (named : ℕ → Printed) (x buffer : List ℕ) where
       → lengthPrinted (laidText named x buffer .answer) ≤ length (laidText named x buffer .left)
   unfolding laidText
   laid-within e =
-      cond-cases (λ (o : Outcome Printed (List ℕ)). lengthPrinted (o .answer) ≤ length (o .left)) (leb (length x) (length buffer)) _ _
+      cond-cases (λ (o : Outcome Printed (List ℕ)). lengthPrinted (o .answer) ≤ length (o .left))
+      (leb (length x) (length buffer)) _ _
       (λ h. omega (arith, e (length x), length-append x (drop (length x) buffer))) (λ h. omega arith)
 
   -- where there is no room, the buffer is as it was
@@ -68,7 +69,8 @@ module _ (named : ℕ → Printed) (x buffer : List ℕ) where
       → laidText named x buffer .left ≡ buffer
   unfolding laidText
   laid-keeps c =
-      cond-cases (λ (o : Outcome Printed (List ℕ)). o .answer ≡ NoRoom → o .left ≡ buffer) (leb (length x) (length buffer)) _ _
+      cond-cases (λ (o : Outcome Printed (List ℕ)). o .answer ≡ NoRoom → o .left ≡ buffer)
+      (leb (length x) (length buffer)) _ _
       (λ h e. absurd (c (length x) e)) (λ h e. refl)
 
 module _ (f buffer : List ℕ) where

@@ -80,7 +80,8 @@ module _ (t : List ℕ) (wf : WellFormed t) where
       (sym e) (λ r. rw (memo-run (valuation t) (inner n Max ks) (r .distinct)) (mtd-highMove (valuation t) n ks r))
 
   -- the first of the root's children whose high is the root's, by MTD's leaves, is the root move
-  high-root : firstEqual (boundOf t (among (evaluatedBy Mtd t)) greatest) (boundOf t (among (evaluatedBy Mtd t)) greatest 0) 1
+  high-root : firstEqual (boundOf t (among (evaluatedBy Mtd t)) greatest)
+      (boundOf t (among (evaluatedBy Mtd t)) greatest 0) 1
       (childCount t 0)
       ≡ rootMove (valuation t) (tree t)
   unfolding firstEqual next

@@ -78,7 +78,8 @@ fn run_passes(
         × (r .passes ≡ mtd (valuation (now (table .entry))) (tree (now (table .entry))) .passes) ⌝ }
     ensures { λ r. ⌜ r .«root_move» ≡ firstHigh (now (table .entry)) (now (evaluated .exit)) ⌝ }
     ensures { λ r. ⌜ progress (r .leaves) (now (evaluated .exit)) (now (order .exit))
-        ≡ evaluateAll (progress 0 (now (evaluated .entry)) (now (order .entry))) (evaluatedBy Mtd (now (table .entry))) ⌝ }
+        ≡ evaluateAll (progress 0 (now (evaluated .entry)) (now (order .entry)))
+        (evaluatedBy Mtd (now (table .entry))) ⌝ }
     ensures { λ r. ⌜ r .leaves ≡ ones (now (evaluated .exit)) (frames (now (table .entry))) ⌝ }
 {
     let root = Position {

@@ -40,7 +40,8 @@ use Rattle.methods.specs.declared.Method.the-variants.{MtdFrom}
 use Rattle.methods.specs.Rules.{startScore, decisionOf, evaluatedBy}
 use Rattle.methods.specs.Outcome.{findingsBy}
 use Rattle.methods.proofs.Rules.{decides}
-use Rattle.mtdf_visits.specs.engine.Memory.{Memory, memory, progressOf, soFar, MemoryRoom, VisitReady, Counted, BoundsRight}
+use Rattle.mtdf_visits.specs.engine.Memory.{Memory, memory, progressOf, soFar, MemoryRoom, VisitReady, Counted}
+use Rattle.mtdf_visits.specs.engine.Memory.{BoundsRight}
 use Rattle.mtdf_visits.specs.engine.Memory.{Evaluated, Entered, Fresh}
 use Rattle.mtdf.specs.engine.Settling.{mtdfLeaves, MetAt, MovedTo, Settles}
 use Rattle.mtdf_visits.proofs.Arrays.{Long, room-kept, evaluated-none, evaluated-more}

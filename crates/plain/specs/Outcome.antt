@@ -22,8 +22,8 @@ abbrev pub plainFound : List ℕ → PlainResult
 plainFound t =
     record { value = valueOf (minimax (valuation t) (tree t)); «root_move» = rootMove (valuation t) (tree t) }
 
--- the outcome of a call with the table t and what is lent, of which all is as it was on a "no" to questions 1 to 10; the
--- plain engine keeps no list of leaves
+-- the outcome of a call with the table t and what is lent, of which all is as it was on a "no" to questions 1 to 10;
+-- the plain engine keeps no list of leaves
 abbrev pub plainOutcome : (t : List ℕ) → Lent → Outcome PlainAnswer Lent
 plainOutcome t l =
     let w = allLeaves t in

@@ -36,13 +36,15 @@ returns-2 : tie.Need-returns-2
 returns-2 c =
     let f = c .before .before .before .before .before .before in
     let a = start f in
-    never-spent (a .args .method) (a .args .table .now) _ (f .find .ensures .0) (a .pre .0 .2) _ (c .enum-told .given .1)
+    never-spent (a .args .method) (a .args .table .now) _ (f .find .ensures .0) (a .pre .0 .2) _
+    (c .enum-told .given .1)
 
 returns-3 : tie.Need-returns-3
 returns-3 c =
     let f = c .before .before .before .before .before .before in
     let a = start f in
-    never-rejected (a .args .method) (a .args .table .now) _ (f .find .ensures .0) (a .pre .0 .2) _ (c .enum-told2 .given .1)
+    never-rejected (a .args .method) (a .args .table .now) _ (f .find .ensures .0) (a .pre .0 .2) _
+    (c .enum-told2 .given .1)
 
 pub put-method-spec : {M : Type 1} → statement M
 put-method-spec =

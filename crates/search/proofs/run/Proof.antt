@@ -50,7 +50,8 @@ returns c =
     let d = k .conclude .ensures in
     let e = r .find .ensures in
     rw (n .enum-told .given .1)
-    (concluded _ (s .pre .0) AlphaBeta (s .args .evaluated .now) (s .args .certificate .now) (s .args .order .now) _ _ _ _ _ _
+    (concluded _ (s .pre .0) AlphaBeta (s .args .evaluated .now) (s .args .certificate .now) (s .args .order .now) _
+    _ _ _ _ _
     (d .0) (ap Found (e .0)) (e .1 .0) (e .1 .1) (d .1 .0) (d .1 .1))
 
 conclude-requires-2 : tie.Need-conclude-requires-2
@@ -93,7 +94,8 @@ returns-3 c =
     let m = n .before .method .given in
     let e = rw (toZ-ofZ w32 (m .0 .0) (record { sfits = n .known-told .given .0 .1 })) at (r .find3 .ensures) in
     rw (m .1)
-    (concluded _ (s .pre .0) (MtdFrom (m .0 .0)) (s .args .evaluated .now) (s .args .certificate .now) (s .args .order .now) _ _ _ _ _ _
+    (concluded _ (s .pre .0) (MtdFrom (m .0 .0)) (s .args .evaluated .now) (s .args .certificate .now)
+    (s .args .order .now) _ _ _ _ _ _
     (d .0) (ap Found (e .0)) (e .1 .0) (e .1 .1) (d .1 .0) (d .1 .1))
 
 conclude-requires-4 : tie.Need-conclude-requires-4
@@ -121,9 +123,16 @@ returns-4 c =
     let e = r .find4 .ensures in
     let m = n .before .method2 .given in
     rw (m .1)
-    (concluded _ (s .pre .0) (Sss (m .0 .0)) (s .args .evaluated .now) (s .args .certificate .now) (s .args .order .now) _ _ _ _ _ _
+    (concluded _ (s .pre .0) (Sss (m .0 .0)) (s .args .evaluated .now) (s .args .certificate .now)
+    (s .args .order .now) _ _ _ _ _ _
     (d .0) (e .0) (e .1 .0) (e .1 .1) (d .1 .0) (d .1 .1))
 
 pub run-spec : {M : Type 1} → statement M
 run-spec =
-    tie.close (tie.spec (λ c. search needs) (λ c κs. search needs) (λ c. search needs) (λ c κs. search needs) (λ c. search needs) conclude-requires (λ c. search needs) (λ c κs. search needs) (λ c. search needs) conclude-requires-2 (λ c. search needs) (λ c κs. search needs) (λ c. search needs) conclude-requires-3 (λ c. search needs) (λ c. search needs) find-requires-4 (λ c. search needs) conclude-requires-4 (λ c. search needs) (λ c. search needs) (λ c. search needs) returns (λ c. search needs) (λ c. search needs) (λ c. search needs) returns-2 (λ c. search needs) (λ c. search needs) (λ c. search needs) returns-3 (λ c. search needs) (λ c. search needs) (λ c. search needs) returns-4)
+    tie.close (tie.spec (λ c. search needs) (λ c κs. search needs) (λ c. search needs) (λ c κs. search needs)
+    (λ c. search needs) conclude-requires (λ c. search needs) (λ c κs. search needs) (λ c. search needs)
+    conclude-requires-2 (λ c. search needs) (λ c κs. search needs) (λ c. search needs) conclude-requires-3
+    (λ c. search needs) (λ c. search needs) find-requires-4 (λ c. search needs) conclude-requires-4
+    (λ c. search needs) (λ c. search needs) (λ c. search needs) returns (λ c. search needs) (λ c. search needs)
+    (λ c. search needs) returns-2 (λ c. search needs) (λ c. search needs) (λ c. search needs) returns-3
+    (λ c. search needs) (λ c. search needs) (λ c. search needs) returns-4)
