@@ -1,12 +1,12 @@
 -- Demand 2: what is said beside the headline sentences (`minimax-value`, `first-move`, `solution-trees` and `checker`
 -- in TheSentence, `rule-leaves` and `gives` in Sentences), of the searches as they run.
-use Prim.Native.Nat.{ℕ, _≤_, _<_}
+use Prim.Native.Nat.{ℕ, _+_, _*_, _≤_, _<_}
 use native.Mathlib.Omega.{arith}
 use mathlib.Core.Path.{_≡_, sym, ap, _∙_}
 use mathlib.Core.List.{List}
 use lib.ListN.{length}
 use Rattle.gametree_theory.proofs.Within.{evaluations-count, full-few}
-use Rattle.frames.specs.Frame.{frames, byteOf, childCount}
+use Rattle.frames.specs.Frame.{frameSize, frames, byteOf, childCount}
 use Rattle.frames.specs.Position.{depthOf}
 use Rattle.frames.specs.Tree.{tree, valuation}
 use Rattle.frames.specs.Value.{valueOf, signed, worth}
@@ -27,6 +27,7 @@ use Rattle.methods.specs.Outcome.{findingsBy}
 use Rattle.demands.specs.Searches.{EverySearch, Given}
 use Rattle.demands.specs.Handed.{Room}
 use Rattle.demands.proofs.Running.{every}
+use Rattle.demands.proofs.LentBytes.{every-of-bytes}
 use Rattle.demands.proofs.Views as views
 use Rattle.demands.proofs.Handed.{handed, flags-verified}
 
@@ -69,8 +70,12 @@ verified = every (λ c s g e.
 -- "Guessing past the leaves was never wanted, so the value is that of the tree handed over": `tree t` is the tree that
 -- the frames of the table describe (frames/proofs/TreeOfTable.antt), and a leaf counts with the worth, at its depth, of
 -- the number that its bytes 4 and 5 hold in two's complement
-pub leaf-worth : (t : List ℕ) → Accepted t → (i : ℕ) → i < frames t → childCount t i ≡ 0
-    → byteOf t i 4 < 256 → byteOf t i 5 < 256
-    → valueOf (valuation t i) ≡ worth (depthOf t i) (signed (byteOf t i 4) (byteOf t i 5))
-leaf-worth t a i h e x y =
-    score-worth t a i h ∙ ap (worth (depthOf t i)) (value-stored t i x y (accepted-formed t a .scored i h e))
+pub leaf-worth : EverySearch (λ c. Given c → (i : ℕ) → i < frames (c .table) → childCount (c .table) i ≡ 0 →
+    let t = c .table in
+    valueOf (valuation t i) ≡ worth (depthOf t i) (signed (byteOf t i 4) (byteOf t i 5)))
+leaf-worth = every-of-bytes (λ c s bytes x i h e.
+    let t = c .table in
+    let a = views.accepted c s x in
+    score-worth t a i h ∙ ap (worth (depthOf t i))
+    (value-stored t i (bytes (frameSize * i + 4) (omega arith)) (bytes (frameSize * i + 5) (omega arith))
+    (accepted-formed t a .scored i h e)))

@@ -13,6 +13,7 @@ pub mod Sentences
 pub mod Contracts
 pub mod Exports
 mod Running
+mod LentBytes
 mod Parts
 mod Views
 mod Handed

@@ -1,20 +1,23 @@
--- Saving a tree (02: N3), sentence by sentence, over the definitions that the contracts of the writer and of the reader
--- cite. "Each line is laid behind the lines already written": `encode` in file_writer/specs/Encoded.antt.
+-- Saving a tree (02: N3), sentence by sentence: of the writer as it runs, or over the definition that its contract
+-- cites. "Each line is laid behind the lines already written": `encode` in file_writer/specs/Encoded.antt.
 -- "Reading a written file restores the table exactly": `written-read` in Sentences.antt.
 use Prim.Native.Nat.{ℕ, _*_, _≤_, _<_}
-use mathlib.Core.Path.{_≡_}
+use mathlib.Core.Path.{_≡_, sym, ap, _∙_, subst}
 use mathlib.Core.List.{List}
 use lib.ListN.{length, take}
 use Rattle.frames.specs.Frame.{frames}
 use Rattle.frames.specs.Check.{Accepted}
 use Rattle.file_lines.specs.Line.{lineSize}
 use Rattle.file_reader.specs.File.{AcceptedFile}
+use Rattle.file_writer.proofs as writer
 use Rattle.file_writer.specs.declared.Written.the-variants.{Length, Rejected as RejectedWrite}
-use Rattle.file_writer.specs.Encoded.{fileOf}
 use Rattle.file_writer.specs.Write.{writeOutcome}
-use Rattle.treefile.specs.results.Saved.{Bytes, InCapitals, Saved}
+use Rattle.treefile.specs.results.Saved.{InCapitals, Saved}
 use Rattle.treefile.proofs.RoundTrip.{written-capitals, written-accepted}
 use Rattle.treefile.proofs.Saving.{write-gives, write-short, write-saves, saved-once}
+use Rattle.demands.specs.Runs.{Runs, RunBoth}
+use Rattle.demands.proofs.Running.{follows}
+use Rattle.demands.proofs.LentBytes.{writer-says}
 
 module _ (t file : List ℕ) where
   -- "a writer from an accepted table to a file", "It gives the file's length in bytes": with room, there is a length
@@ -33,15 +36,35 @@ module _ (t file : List ℕ) where
   file-laid = write-saves t file
 
 -- "capital letters, a line feed after every line, the last included"
-pub in-capitals : (t : List ℕ) → Accepted t → Bytes t → InCapitals (fileOf t) (frames t)
-in-capitals = written-capitals
+pub in-capitals : Runs writer.write.ended writer.write.Symbol.routine
+    (λ κs (t, _) r (_, (b, _)). (n : ℕ) → r ≡ Length n → InCapitals (take n (b .now)) (frames (t .now)))
+in-capitals =
+    follows writer-says (λ κs (t, (b, _)) r (_, (b′, _)) (bytes, s) n i.
+    let w = write-saves (t .now) (b .now) n (sym (ap (λ o. o .answer) s) ∙ i) in
+    subst (λ f. InCapitals f (frames (t .now))) (sym (ap (λ o. take n (o .left)) s ∙ w .front))
+    (written-capitals (t .now) (w .accepted) bytes))
 
 -- a written file is accepted
-pub file-accepted : (t : List ℕ) → Accepted t → Bytes t → AcceptedFile (fileOf t)
-file-accepted = written-accepted
+pub file-accepted : Runs writer.write.ended writer.write.Symbol.routine
+    (λ κs _ r (_, (b, _)). (n : ℕ) → r ≡ Length n → AcceptedFile (take n (b .now)))
+file-accepted =
+    follows writer-says (λ κs (t, (b, _)) r (_, (b′, _)) (bytes, s) n i.
+    let w = write-saves (t .now) (b .now) n (sym (ap (λ o. o .answer) s) ∙ i) in
+    subst AcceptedFile (sym (ap (λ o. take n (o .left)) s ∙ w .front))
+    (written-accepted (t .now) (w .accepted) bytes))
 
 -- "and two tables give one file only if they are equal"
-pub one-file : (t u file other : List ℕ) (n m : ℕ) → writeOutcome t file .answer ≡ Length n
-    → writeOutcome u other .answer ≡ Length m → Bytes t → Bytes u
-    → take n (writeOutcome t file .left) ≡ take m (writeOutcome u other .left) → t ≡ u
-one-file = saved-once
+pub one-file : RunBoth writer.write.ended writer.write.ended writer.write.Symbol.routine writer.write.Symbol.routine
+    (λ κs (t, _) r (_, (b, _)) κs′ (u, _) q (_, (d, _)). (n m : ℕ) → r ≡ Length n → q ≡ Length m
+    → take n (b .now) ≡ take m (d .now) → t .now ≡ u .now)
+one-file =
+    record {
+      one = _;
+      other = _;
+      oneRuns = writer-says;
+      otherRuns = writer-says;
+      both = λ κs (t, (b, _)) r (_, (b′, _)) (bytes, s) κs′ (u, (d, _)) q (_, (d′, _)) (bytes′, c) n m i j same.
+          saved-once (t .now) (u .now) (b .now) (d .now) n m (sym (ap (λ o. o .answer) s) ∙ i)
+          (sym (ap (λ o. o .answer) c) ∙ j) bytes bytes′
+          (sym (ap (λ o. take n (o .left)) s) ∙ same ∙ ap (λ o. take m (o .left)) c);
+    }

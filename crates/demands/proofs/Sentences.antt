@@ -37,7 +37,6 @@ use Rattle.file_reader.specs.File.{AcceptedFile, readOutcome}
 use Rattle.file_reader.proofs.Acceptance.{accepted-exactly, read-nodes}
 use Rattle.file_writer.proofs as writer
 use Rattle.file_writer.specs.declared.Written.the-variants.{Length}
-use Rattle.treefile.specs.results.Saved.{Bytes}
 use Rattle.treefile.proofs.Saving.{saved-read}
 use Rattle.convert.proofs as convert
 use Rattle.convert.proofs.Converted.{converted-accepted, converted-table}
@@ -72,6 +71,7 @@ use Rattle.demands.specs.Searches.{EverySearch, EveryTwo, EverySearchAnd
 use Rattle.demands.specs.Handed.{Room, AgreeOnMarked, Alike}
 use Rattle.demands.proofs.Contracts as contracts
 use Rattle.demands.proofs.Running.{follows, every, every-two, every-and, each-plain}
+use Rattle.demands.proofs.LentBytes.{writer-says}
 use Rattle.demands.proofs.Views as views
 use Rattle.demands.proofs.Handed.{marks-at, marking, count-ones, no-more}
 use Rattle.demands.proofs.Local.{answers-alike, marks-alike, orders-alike, buffers-alike}
@@ -164,16 +164,16 @@ deeper-refused =
 
 -- N3: "Reading a written file restores the table exactly"
 pub written-read : RunBoth writer.write.ended reader.read.ended writer.write.Symbol.routine reader.read.Symbol.routine
-    (λ κs (t, _) r (_, (b, _)) κs′ (f, (u, _)) r′ (_, (u′, _)). (n : ℕ) → r ≡ Length n → Bytes (t .now)
+    (λ κs (t, _) r (_, (b, _)) κs′ (f, (u, _)) r′ (_, (u′, _)). (n : ℕ) → r ≡ Length n
     → f .now ≡ take n (b .now) → length (t .now) ≤ length (u .now)
     → (r′ ≡ Nodes (frames (t .now))) × (u′ .now ≡ t .now ++ drop (length (t .now)) (u .now)))
 written-read =
     record {
       one = _;
       other = _;
-      oneRuns = contracts.treefile-write;
+      oneRuns = writer-says;
       otherRuns = contracts.treefile-read;
-      both = λ κs (t, (b, _)) r (_, (b′, _)) s κs′ (f, (u, _)) r′ (_, (u′, _)) c n e bytes same room.
+      both = λ κs (t, (b, _)) r (_, (b′, _)) (bytes, s) κs′ (f, (u, _)) r′ (_, (u′, _)) c n e same room.
           let p = saved-read (t .now) (b .now) n (sym (ap (λ o. o .answer) s) ∙ e) bytes (u .now) room in
           let i = same ∙ ap (λ o. take n (o .left)) s in
           let o = c ∙ ap (λ x. readOutcome x (u .now)) i ∙ p in
