@@ -6,16 +6,18 @@ use mathlib.Core.Path.{_≡_, sym, ap, _∙_}
 use mathlib.Core.List.{List}
 use lib.ListN.{length}
 use Rattle.gametree_theory.proofs.Within.{evaluations-count, full-few}
+use Rattle.frames.specs.declared.Checked.the-variants.{Nodes}
 use Rattle.frames.specs.Frame.{frameSize, frames, byteOf, childCount}
 use Rattle.frames.specs.Position.{depthOf}
 use Rattle.frames.specs.Tree.{tree, valuation}
 use Rattle.frames.specs.Value.{valueOf, signed, worth}
 use Rattle.frames.specs.Check.{Accepted}
-use Rattle.frames.proofs.Acceptance.{accepted-formed}
+use Rattle.frames.proofs.Acceptance.{accepted-formed, nodes-accepted}
 use Rattle.frames.proofs.Proper.{tree-proper}
 use Rattle.frames.proofs.Totals.{tree-size}
 use Rattle.frames.proofs.TreeOfTable.{score-worth}
 use Rattle.frames.proofs.Values.{value-stored}
+use Rattle.tables.proofs as tables
 use Rattle.certificate.specs.Search.{marksOf, flagsOf, listed}
 use Rattle.verify.specs.declared.Verdict.the-variants.{Value}
 use Rattle.verify.specs.Check.{verdict}
@@ -24,10 +26,12 @@ use Rattle.methods.specs.declared.Spent.{Spent as Spending}
 use Rattle.methods.specs.declared.Answer.the-variants.{Found, Spent}
 use Rattle.methods.specs.Rules.{runOf, evaluatedBy}
 use Rattle.methods.specs.Outcome.{findingsBy}
+use Rattle.demands.specs.Runs.{Runs}
 use Rattle.demands.specs.Searches.{EverySearch, Given}
 use Rattle.demands.specs.Handed.{Room}
-use Rattle.demands.proofs.Running.{every}
-use Rattle.demands.proofs.LentBytes.{every-of-bytes}
+use Rattle.demands.proofs.Contracts as contracts
+use Rattle.demands.proofs.Running.{follows, every}
+use Rattle.demands.proofs.LentBytes.{first-bytes}
 use Rattle.demands.proofs.Views as views
 use Rattle.demands.proofs.Handed.{handed, flags-verified}
 
@@ -70,12 +74,13 @@ verified = every (λ c s g e.
 -- "Guessing past the leaves was never wanted, so the value is that of the tree handed over": `tree t` is the tree that
 -- the frames of the table describe (frames/proofs/TreeOfTable.antt), and a leaf counts with the worth, at its depth, of
 -- the number that its bytes 4 and 5 hold in two's complement
-pub leaf-worth : EverySearch (λ c. Given c → (i : ℕ) → i < frames (c .table) → childCount (c .table) i ≡ 0 →
-    let t = c .table in
-    valueOf (valuation t i) ≡ worth (depthOf t i) (signed (byteOf t i 4) (byteOf t i 5)))
-leaf-worth = every-of-bytes (λ c s bytes x i h e.
-    let t = c .table in
-    let a = views.accepted c s x in
-    score-worth t a i h ∙ ap (worth (depthOf t i))
-    (value-stored t i (bytes (frameSize * i + 4) (omega arith)) (bytes (frameSize * i + 5) (omega arith))
-    (accepted-formed t a .scored i h e)))
+pub leaf-worth : Runs tables.check.ended tables.check.Symbol.routine
+    (λ κs (t, _) r e. (n : ℕ) → r ≡ Nodes n → (i : ℕ) → i < frames (t .now) → childCount (t .now) i ≡ 0
+    → valueOf (valuation (t .now) i)
+    ≡ worth (depthOf (t .now) i) (signed (byteOf (t .now) i 4) (byteOf (t .now) i 5)))
+leaf-worth =
+    first-bytes (follows contracts.tables-check (λ κs (t, _) r e s bytes n given i h leaf.
+    let a = nodes-accepted (t .now) n (sym given ∙ s) .0 in
+    score-worth (t .now) a i h ∙ ap (worth (depthOf (t .now) i))
+    (value-stored (t .now) i (bytes (frameSize * i + 4) (omega arith)) (bytes (frameSize * i + 5) (omega arith))
+    (accepted-formed (t .now) a .scored i h leaf))))
