@@ -20,7 +20,7 @@ use Rattle.variation.specs.declared.VariationAnswer.{VariationAnswer}
 use Rattle.variation.specs.declared.VariationAnswer.the-variants.{Length}
 use Rattle.variation.specs.Outcome.{principalOutcome}
 use Rattle.variation.proofs.Given.{gives}
-use Rattle.best_line.specs.declared.LineFound.{LineFound}
+use Rattle.variation.specs.declared.LineFound.{LineFound}
 use Rattle.best_line.specs.Line.{certificateOf, bestLineOf, lineFound}
 use Rattle.best_line.specs.engine.Parts.{foundIn, lineLength}
 use Rattle.best_line.proofs.Certified.{written-certificate}

@@ -12,9 +12,9 @@ use Rattle.certificate.specs.Search.{searchRejection, flagsOf}
 use Rattle.methods.specs.declared.Method.the-variants.{Sss}
 use Rattle.methods.specs.Rules.{evaluatedBy}
 use Rattle.variation.specs.Variation.{variation}
-use Rattle.best_line.specs.declared.LineFound.{LineFound}
-use Rattle.best_line.specs.declared.LineAnswer.{LineAnswer}
-use Rattle.best_line.specs.declared.LineAnswer.the-variants.{Found, Rejected}
+use Rattle.variation.specs.declared.LineFound.{LineFound}
+use Rattle.variation.specs.declared.LineAnswer.{LineAnswer}
+use Rattle.variation.specs.declared.LineAnswer.the-variants.{Found, Rejected}
 
 -- the certificate of a table that SSS* writes over zeros, with an allowance that no tree exceeds
 abbrev pub certificateOf : List ℕ → List ℕ

@@ -2,10 +2,11 @@
 use certificate::ask;
 use frames::Checked;
 use frames::MAX_NODES;
-use frames::Rejection;
 use search::Answer;
 use search::Method;
 use search::search;
+pub use variation::LineAnswer;
+pub use variation::LineFound;
 use variation::VariationAnswer;
 use variation::principal;
 ghost use mathlib.Core.Path.{_≡_};
@@ -17,20 +18,6 @@ ghost use Rattle.frames.specs.Check.{Accepted};
 ghost use Rattle.frames.specs.Rejection.{_leaving_};
 ghost use Rattle.best_line.specs.Line.{lineFound, bestLineOf, lineOutcome};
 ghost use Rattle.best_line.specs.engine.Parts.{nothingIn, foundIn, lineLength};
-
-// What is found: the minimax value, the first root move that reaches it (0 for a leaf), and how many nodes the line
-// has.
-pub struct LineFound {
-    pub value: i16,
-    pub root_move: usize,
-    pub length: usize,
-}
-
-// The answer of a call: what was found, or the first question that got a "no".
-pub enum LineAnswer {
-    Found(LineFound),
-    Rejected(Rejection),
-}
 
 // Questions 1 to 9 of the table and 10 of the lent list, then the value, and the nodes of the best line of play, the
 // root first, in the first entries of the list; after a rejection the list is as it was.

@@ -9,7 +9,7 @@ use Rattle.file_lines.specs.declared.Cursor.{Cursor}
 use Rattle.methods.specs.declared.Findings.{Findings}
 use Rattle.methods.specs.declared.Spent.{Spent}
 use Rattle.plain.specs.declared.PlainResult.{PlainResult}
-use Rattle.best_line.specs.declared.LineFound.{LineFound}
+use Rattle.variation.specs.declared.LineFound.{LineFound}
 use Rattle.buulset_answers.specs.declared.Answer.{Answer}
 use Rattle.buulset_answers.specs.declared.Choice.{Choice}
 use Rattle.buulset_answers.specs.declared.Children.{Children}

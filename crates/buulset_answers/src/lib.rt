@@ -1,6 +1,5 @@
 // The answers of the library for other languages: structs of numbers with the layout of C, and how each kind of answer
 // is made. Every member of an answer that is not given is 0.
-use best_line::LineFound;
 use file_lines::Cursor;
 use file_lines::Frame;
 use frames::FRAME_SIZE;
@@ -9,6 +8,7 @@ use methods::Findings;
 use methods::Spent;
 use plain::PlainResult;
 use text::TEXT_SIZE;
+use variation::LineFound;
 ghost use mathlib.Core.Path.{_≡_};
 ghost use Rattle.buulset_answers.specs.Answers.{result as resultOf, counted as countedOf, valued as valuedOf};
 ghost use Rattle.buulset_answers.specs.Answers.{found as foundOf, moved as movedOf, spent as spentOf};

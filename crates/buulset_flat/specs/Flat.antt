@@ -8,7 +8,7 @@ use Rattle.file_writer.specs.declared.Written.the-variants as written
 use Rattle.convert.specs.declared.Printed as printed
 use Rattle.methods.specs.declared.Answer as search
 use Rattle.plain.specs.declared.PlainAnswer as plain
-use Rattle.best_line.specs.declared.LineAnswer as best_line
+use Rattle.variation.specs.declared.LineAnswer as best_line
 use Rattle.verify.specs.declared.Verdict as verify
 use Rattle.shorter.specs.declared.Choice as shorter
 use Rattle.leastvalue.specs.declared.LeastValue as leastvalue

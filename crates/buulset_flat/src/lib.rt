@@ -1,5 +1,4 @@
 // What each call gives back, as an answer of numbers.
-use best_line::LineAnswer;
 use buulset_answers::Answer;
 use buulset_answers::Choice;
 use buulset_answers::Line;
@@ -21,6 +20,7 @@ use file_writer::Written;
 use frames::Checked;
 use frames::Rejection;
 use frames::SHORT_BUFFER;
+use variation::LineAnswer;
 ghost use mathlib.Core.Path.{_≡_};
 ghost use Rattle.buulset_flat.specs.Flat.{flatChecked, flatWritten, flatPrinted, flatAnswer, flatPlain};
 ghost use Rattle.buulset_flat.specs.Flat.{flatVerdict, flatLeastValue, flatFilled, flatLeast, flatChoice};

@@ -11,8 +11,8 @@ use Rattle.frames.proofs.Asked.{answer-nodes}
 use Rattle.certificate.specs.Search.{searchRejection}
 use Rattle.certificate.proofs.Questions.{passed-room}
 use Rattle.certificate.proofs.Outcomes.{finding, rejecting}
-use Rattle.best_line.specs.declared.LineAnswer.{LineAnswer}
-use Rattle.best_line.specs.declared.LineAnswer.the-variants.{Found, Rejected}
+use Rattle.variation.specs.declared.LineAnswer.{LineAnswer}
+use Rattle.variation.specs.declared.LineAnswer.the-variants.{Found, Rejected}
 use Rattle.best_line.specs.Line.{bestLineOf}
 use Rattle.best_line.proofs.line.Statement.{statement}
 use Rattle.best_line.proofs.line.Tie as tie

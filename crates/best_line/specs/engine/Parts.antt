@@ -5,7 +5,7 @@ use Rattle.methods.specs.declared.Answer.{Answer}
 use Rattle.methods.specs.declared.Answer.the-variants.{Found, Spent, Rejected}
 use Rattle.variation.specs.declared.VariationAnswer.{VariationAnswer}
 use Rattle.variation.specs.declared.VariationAnswer.the-variants as line
-use Rattle.best_line.specs.declared.LineFound.{LineFound}
+use Rattle.variation.specs.declared.LineFound.{LineFound}
 
 -- no value and no move
 abbrev pub nothingIn : (length : ℕ) → LineFound
