@@ -95,7 +95,6 @@ pub list-reset : Runs sss.search.ended sss.search.Symbol.routine
     (λ κs (t, (l, _)) r (_, (l′, _)). ((q : Rejection) → r ≡ Rejected q → ⊥)
     → l′ .now ≡ replicate (frames (t .now)) blank ++ drop (frames (t .now)) (l .now))
 list-reset =
-    follows contracts.sss-search
-    (λ κs (t, (l, (m, (f, (o, (n, _)))))) r (_, (l′, (m′, (f′, (o′, _))))) s given.
+    follows contracts.sss-search (λ κs (t, (l, (m, (f, (o, (n, _)))))) r (_, (l′, (m′, (f′, (o′, _))))) s given.
     let x = lent (m .now) (f .now) (o .now) in
     views.list-given n (t .now) (l .now) x (views.listRejection (t .now) (l .now) x) r _ (l′ .now) given s)

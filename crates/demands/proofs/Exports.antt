@@ -38,7 +38,7 @@ use Rattle.buulset_flat.specs.Flat.{flatVerdict, flatLeastValue, flatLeast, fla
 use Rattle.buulset_flat.specs.Flat.{flatBestLine}
 use Rattle.demands.specs.Runs.{Runs, RunBoth}
 use Rattle.demands.specs.Searches.{Call, Given}
-use Rattle.demands.proofs.Running.{Says}
+use Rattle.demands.proofs.Running.{together, Says}
 use Rattle.demands.proofs.Views.{lengths, refused}
 use Rattle.demands.proofs.Handed.{dominated}
 use Rattle.demands.proofs.Numbers.{never-zero}
@@ -132,19 +132,14 @@ pub exported-sentence : RunBoth buulset.buulset_sss.ended buulset.buulset_alphab
     (λ κs (t, _) r (_, (m, _)) κs′ (u, _) q (_, (x, _)). u .now ≡ t .now → r .refused ≡ 0 → q .refused ≡ 0
     → (k : ℕ) → k < frames (t .now) → getD (m .now) k 0 ≡ 1 → getD (x .now) k 0 ≡ 1)
 exported-sentence =
-    record {
-      one = _;
-      other = _;
-      oneRuns = exported-sss;
-      otherRuns = exported-alphabeta;
-      both = λ κs (t, (m, (f, (o, (n, _))))) r (_, (m′, (f′, (o′, _)))) e.
-          λ κs′ (u, (x, (y, (z, _)))) q (_, (x′, (y′, (z′, _)))) i same g h k l mark.
-          let c = exported-call (Sss n) (t .now) (lent (m .now) (f .now) (o .now)) _ r e in
-          let d = exported-call AlphaBeta (u .now) (lent (x .now) (y .now) (z .now)) _ q i in
-          ap (λ v. getD (v .marks) k 0) (sym (d .3))
-          ∙ dominated (c .0) (d .0) (c .4) (d .4) (d .1) (d .2 ∙ same ∙ sym (c .2)) (c .5 g) (d .5 h) k
-          (record { node = rw (c .2) l; mark = ap (λ v. getD (v .marks) k 0) (c .3) ∙ mark }) .mark;
-    }
+    together exported-sss exported-alphabeta
+    (λ κs (t, (m, (f, (o, (n, _))))) r (_, (m′, (f′, (o′, _)))) e.
+    λ κs′ (u, (x, (y, (z, _)))) q (_, (x′, (y′, (z′, _)))) i same g h k l mark.
+    let c = exported-call (Sss n) (t .now) (lent (m .now) (f .now) (o .now)) _ r e in
+    let d = exported-call AlphaBeta (u .now) (lent (x .now) (y .now) (z .now)) _ q i in
+    ap (λ v. getD (v .marks) k 0) (sym (d .3))
+    ∙ dominated (c .0) (d .0) (c .4) (d .4) (d .1) (d .2 ∙ same ∙ sym (c .2)) (c .5 g) (d .5 h) k
+    (record { node = rw (c .2) l; mark = ap (λ v. getD (v .marks) k 0) (c .3) ∙ mark }) .mark)
 
 -- certificates
 

@@ -35,8 +35,7 @@ pub plain-gives : Runs plain.search.ended plain.search.Symbol.routine
     (λ κs (t, (m, (f, _))) r e. Accepted (t .now) → frames (t .now) ≤ length (m .now)
     → frames (t .now) ≤ length (f .now) → r ≡ plain-answer.Found (plainFound (t .now)))
 plain-gives =
-    follows contracts.plain-search
-    (λ κs (t, (m, (f, _))) r e s a h k.
+    follows contracts.plain-search (λ κs (t, (m, (f, _))) r e s a h k.
     ap (λ x. x .answer) s ∙ rw (room-passed (t .now) (length (m .now) ∷ length (f .now) ∷ []) a (h, (k, tt))))
 
 -- and only an accepted table gets one

@@ -16,7 +16,7 @@ use Rattle.treefile.specs.results.Saved.{InCapitals, Saved}
 use Rattle.treefile.proofs.RoundTrip.{written-capitals, written-accepted}
 use Rattle.treefile.proofs.Saving.{write-gives, write-short, write-saves, saved-once}
 use Rattle.demands.specs.Runs.{Runs, RunBoth}
-use Rattle.demands.proofs.Running.{follows}
+use Rattle.demands.proofs.Running.{follows, together}
 use Rattle.demands.proofs.LentBytes.{writer-says}
 
 module _ (t file : List ℕ) where
@@ -58,13 +58,8 @@ pub one-file : RunBoth writer.write.ended writer.write.ended writer.write.Symbol
     (λ κs (t, _) r (_, (b, _)) κs′ (u, _) q (_, (d, _)). (n m : ℕ) → r ≡ Length n → q ≡ Length m
     → take n (b .now) ≡ take m (d .now) → t .now ≡ u .now)
 one-file =
-    record {
-      one = _;
-      other = _;
-      oneRuns = writer-says;
-      otherRuns = writer-says;
-      both = λ κs (t, (b, _)) r (_, (b′, _)) (bytes, s) κs′ (u, (d, _)) q (_, (d′, _)) (bytes′, c) n m i j same.
-          saved-once (t .now) (u .now) (b .now) (d .now) n m (sym (ap (λ o. o .answer) s) ∙ i)
-          (sym (ap (λ o. o .answer) c) ∙ j) bytes bytes′
-          (sym (ap (λ o. take n (o .left)) s) ∙ same ∙ ap (λ o. take m (o .left)) c);
-    }
+    together writer-says writer-says
+    (λ κs (t, (b, _)) r (_, (b′, _)) (bytes, s) κs′ (u, (d, _)) q (_, (d′, _)) (bytes′, c) n m i j same.
+    saved-once (t .now) (u .now) (b .now) (d .now) n m (sym (ap (λ o. o .answer) s) ∙ i)
+    (sym (ap (λ o. o .answer) c) ∙ j) bytes bytes′
+    (sym (ap (λ o. take n (o .left)) s) ∙ same ∙ ap (λ o. take m (o .left)) c))

@@ -70,7 +70,7 @@ use Rattle.demands.specs.Runs.{Runs, RunBoth}
 use Rattle.demands.specs.Searches.{EverySearch, EveryTwo, EverySearchAnd, EachPlain, Given, countOf}
 use Rattle.demands.specs.Handed.{Room, AgreeOnMarked, Alike}
 use Rattle.demands.proofs.Contracts as contracts
-use Rattle.demands.proofs.Running.{follows, every, every-two, every-and, each-plain}
+use Rattle.demands.proofs.Running.{follows, together, every, every-two, every-and, each-plain}
 use Rattle.demands.proofs.LentBytes.{writer-says}
 use Rattle.demands.proofs.Views as views
 use Rattle.demands.proofs.Handed.{marks-at, marking, count-ones, no-more}
@@ -158,8 +158,7 @@ pub deeper-refused : Runs tables.check.ended tables.check.Symbol.routine
     (λ κs (t, _) r e. rejectionBefore9 (t .now) ≡ none → (k : ℕ) → k < frames (t .now)
     → maxDepth < depthOf (t .now) k → (q : Rejection) × LowestDeep (t .now) q × (r ≡ RejectedTable q))
 deeper-refused =
-    follows contracts.tables-check
-    (λ κs (t, _) r e s passed k h d.
+    follows contracts.tables-check (λ κs (t, _) r e s passed k h d.
     let p = deeper-answered (t .now) passed k h d in (p .0, p .1, s ∙ p .2))
 
 -- N3: "Reading a written file restores the table exactly"
@@ -168,17 +167,12 @@ pub written-read : RunBoth writer.write.ended reader.read.ended writer.write.Sym
     → f .now ≡ take n (b .now) → length (t .now) ≤ length (u .now)
     → (r′ ≡ Nodes (frames (t .now))) × (u′ .now ≡ t .now ++ drop (length (t .now)) (u .now)))
 written-read =
-    record {
-      one = _;
-      other = _;
-      oneRuns = writer-says;
-      otherRuns = contracts.treefile-read;
-      both = λ κs (t, (b, _)) r (_, (b′, _)) (bytes, s) κs′ (f, (u, _)) r′ (_, (u′, _)) c n e same room.
-          let p = saved-read (t .now) (b .now) n (sym (ap (λ o. o .answer) s) ∙ e) bytes (u .now) room in
-          let i = same ∙ ap (λ o. take n (o .left)) s in
-          let o = c ∙ ap (λ x. readOutcome x (u .now)) i ∙ p in
-          (ap (λ x. x .answer) o, ap (λ x. x .left) o);
-    }
+    together writer-says contracts.treefile-read
+    (λ κs (t, (b, _)) r (_, (b′, _)) (bytes, s) κs′ (f, (u, _)) r′ (_, (u′, _)) c n e same room.
+    let p = saved-read (t .now) (b .now) n (sym (ap (λ o. o .answer) s) ∙ e) bytes (u .now) room in
+    let i = same ∙ ap (λ o. take n (o .left)) s in
+    let o = c ∙ ap (λ x. readOutcome x (u .now)) i ∙ p in
+    (ap (λ x. x .answer) o, ap (λ x. x .left) o))
 
 -- N5: "A leaf's worth takes the place of its value": in `valuation` (`leaf-worth` in Demand2.antt); where no leaf is a
 -- win or a loss, the scores are the stored ones, and so is all that follows from them: the value, the move, the leaves
@@ -212,8 +206,7 @@ pub capitals-taken : Runs reader.read.ended reader.read.Symbol.routine
     (λ κs (f, _) r e. (n : ℕ) → r ≡ Nodes n → (i k : ℕ) → i < length (linesOf (f .now)) → k < lineDigits
     → isCapitalDigit (getD (getD (linesOf (f .now)) i []) k 0) ≡ true)
 capitals-taken =
-    follows contracts.treefile-read
-    (λ κs (f, (t, _)) r e s n given i k h l.
+    follows contracts.treefile-read (λ κs (f, (t, _)) r e s n given i k h l.
     let a = read-nodes (f .now) (t .now) n (sym given ∙ ap (λ o. o .answer) s) .0 in
     accepted-exactly (f .now) .0 a .line i h .digits k l)
 
@@ -222,8 +215,7 @@ pub converted-same : Runs convert.convert.ended convert.convert.Symbol.routine
     (λ κs (f, _) r (_, (b, _)). (n : ℕ) → r ≡ Length n
     → AcceptedFile (take n (b .now)) × (decoded (take n (b .now)) ≡ decoded (f .now)))
 converted-same =
-    follows contracts.convert-convert
-    (λ κs (f, (b, _)) r (_, (b′, _)) s n e.
+    follows contracts.convert-convert (λ κs (f, (b, _)) r (_, (b′, _)) s n e.
     subst (λ x. AcceptedFile (take n x) × (decoded (take n x) ≡ decoded (f .now))) (sym (ap (λ o. o .left) s))
     (let given = sym (ap (λ o. o .answer) s) ∙ e in
     (converted-accepted (f .now) (b .now) n given, converted-table (f .now) (b .now) n given)))
@@ -242,8 +234,7 @@ pub graft-value : Runs graft.graft.ended graft.graft.Symbol.routine
     let result = take (frameSize * n) (b .now) in
     minimax (valuation result) (tree result) ≡ graftValue (t .now) k (u .now))
 graft-value =
-    follows contracts.graft-graft
-    (λ κs (t, (k, (u, (b, _)))) r e s n i.
+    follows contracts.graft-graft (λ κs (t, (k, (u, (b, _)))) r e s n i.
     subst (λ x. minimax (valuation (take (frameSize * n) x)) (tree (take (frameSize * n) x))
     ≡ graftValue (t .now) k (u .now)) (sym (ap (λ o. o .left) s))
     (grafted-value (t .now) k (u .now) (b .now) n (sym (ap (λ o. o .answer) s) ∙ i)))
@@ -254,8 +245,7 @@ pub smallest-value : Runs leastvalue.least_value.ended leastvalue.least_value.Sy
     (λ κs (t, (k, (w, _))) r e. (v : ℤ) → r ≡ Value v → (natAbs v ≤ maxValue) × (rootValue (t .now) k v ≡ w)
     × ((u : ℤ) → natAbs u ≤ maxValue → u <ℤ v → rootValue (t .now) k u ≡ w → ⊥))
 smallest-value =
-    follows contracts.leastvalue-least-value
-    (λ κs (t, (k, (w, _))) r e s v i.
+    follows contracts.leastvalue-least-value (λ κs (t, (k, (w, _))) r e s v i.
     let g = given (t .now) k w v (sym s ∙ i) in (g .ranged, g .reaches, g .smallest))
 
 -- N11: "In that tree alpha-beta values every leaf, so no filling of the shape costs it more"
@@ -300,8 +290,7 @@ pub fewer-leaves : Runs shorter.select.ended shorter.select.Symbol.routine
     × (flaggedLeaves (t .now) (f .now) ≤ flaggedLeaves (t .now) (s .now)
     → (r .choice ≡ First) × (r .flags .now ≡ take (frames (t .now)) (f .now))))
 fewer-leaves =
-    follows contracts.shorter-select
-    (λ κs (t, (f, (s, _))) r e o v w c d. (
+    follows contracts.shorter-select (λ κs (t, (f, (s, _))) r e o v w c d. (
       λ l. let i = o .0 ∙ both-second (t .now) (f .now) (s .now) c d l in
           (i, o .1 ∙ ap (flagsBy (t .now) (f .now) (s .now)) i),
       λ l. let i = o .0 ∙ both-first (t .now) (f .now) (s .now) c d l in

@@ -95,8 +95,7 @@ pub checker : Runs verify.check.ended verify.check.Symbol.routine
     (λ κs (t, (f, _)) r e. (((z : ℤ) × (r ≡ Value z)) ↔ ((v : ℕ) × Certificate (t .now) (f .now) v))
     × ((z : ℤ) → r ≡ Value z → z ≡ valueOf (minimax (valuation (t .now)) (tree (t .now)))))
 checker =
-    follows contracts.verify-check
-    (λ κs (t, (f, _)) r e o.
+    follows contracts.verify-check (λ κs (t, (f, _)) r e o.
     let a = accepts-certificates (t .now) (f .now) in (
       (λ p. a .0 (p .0, sym o ∙ p .1), λ p. (a .1 p .0, o ∙ a .1 p .1)),
       λ z p. accepted-minimax (t .now) (f .now) z (sym o ∙ p),
@@ -111,8 +110,7 @@ pub lent-list : Runs sss.search.ended sss.search.Symbol.routine
     → r leaving lent (m′ .now) (f′ .now) (o′ .now)
     ≡ searchOutcome (Sss n) (t .now) (lent (m .now) (f .now) (o .now)))
 lent-list =
-    follows contracts.sss-search
-    (λ κs (t, (l, (m, (f, (o, (n, _)))))) r e s long.
+    follows contracts.sss-search (λ κs (t, (l, (m, (f, (o, (n, _)))))) r e s long.
     ap (λ x. x .answer) s ∙ views.list-outcome n (t .now) (l .now) (lent (m .now) (f .now) (o .now)) long)
 
 -- THE BYTES
@@ -130,8 +128,7 @@ pub sss-keeps : Runs sss.search.ended sss.search.Symbol.routine
     → (searchRejection (t .now) (length (l .now) ∷ length (m .now) ∷ length (f .now) ∷ length (o .now) ∷ []) ≡ some q)
     × (l′ .now ≡ l .now) × (lent (m′ .now) (f′ .now) (o′ .now) ≡ lent (m .now) (f .now) (o .now)))
 sss-keeps =
-    follows contracts.sss-search
-    (λ κs (t, (l, (m, (f, (o, (n, _)))))) r (_, (l′, (m′, (f′, (o′, _))))) s q e.
+    follows contracts.sss-search (λ κs (t, (l, (m, (f, (o, (n, _)))))) r (_, (l′, (m′, (f′, (o′, _))))) s q e.
     views.list-refused n (t .now) (l .now) (lent (m .now) (f .now) (o .now)) _ q _ (l′ .now) (rw e at s))
 
 pub plain-keeps : Runs plain.search.ended plain.search.Symbol.routine
@@ -139,16 +136,14 @@ pub plain-keeps : Runs plain.search.ended plain.search.Symbol.routine
     → (searchRejection (t .now) (length (m .now) ∷ length (f .now) ∷ []) ≡ some q)
     × (lent (m′ .now) (f′ .now) [] ≡ lent (m .now) (f .now) []))
 plain-keeps =
-    follows contracts.plain-search
-    (λ κs (t, (m, (f, _))) r (_, (m′, (f′, _))) s q e.
+    follows contracts.plain-search (λ κs (t, (m, (f, _))) r (_, (m′, (f′, _))) s q e.
     plain-refused (t .now) (lent (m .now) (f .now) []) (lent (m′ .now) (f′ .now) []) q (rw e at s))
 
 pub read-keeps : Runs reader.read.ended reader.read.Symbol.routine
     (λ κs (f, (t, _)) r (_, (t′, _)). (q : Rejection) → r ≡ RejectedTable q
     → (readRejection (f .now) (t .now) ≡ some q) × (t′ .now ≡ t .now))
 read-keeps =
-    follows contracts.treefile-read
-    (λ κs (f, (t, _)) r (_, (t′, _)) s q e.
+    follows contracts.treefile-read (λ κs (f, (t, _)) r (_, (t′, _)) s q e.
     let a = sym e ∙ ap (λ o. o .answer) s ∙ read-answer (f .now) (t .now) in
     let i = answer-rejected (frames (decoded (f .now))) q (readRejection (f .now) (t .now)) a in
     (i, ap (λ o. o .left) s ∙ rw i))
@@ -157,8 +152,7 @@ pub write-keeps : Runs writer.write.ended writer.write.Symbol.routine
     (λ κs (t, (b, _)) r (_, (b′, _)). (q : Rejection) → r ≡ RejectedWrite q
     → (writeRejection (t .now) (length (b .now)) ≡ some q) × (b′ .now ≡ b .now))
 write-keeps =
-    follows contracts.treefile-write
-    (λ κs (t, (b, _)) r (_, (b′, _)) s q e.
+    follows contracts.treefile-write (λ κs (t, (b, _)) r (_, (b′, _)) s q e.
     let k = saving.write-keeps (t .now) (b .now) q (sym (ap (λ o. o .answer) s) ∙ e) in
     (k .0, ap (λ o. o .left) s ∙ k .1))
 
@@ -167,8 +161,7 @@ pub convert-keeps : Runs convert.convert.ended convert.convert.Symbol.routine
     → ((baseRejection (f .now) andThen writeCheck10 (decoded (f .now)) (length (b .now))) ≡ some q)
     × (b′ .now ≡ b .now))
 convert-keeps =
-    follows contracts.convert-convert
-    (λ κs (f, (b, _)) r (_, (b′, _)) s q e.
+    follows contracts.convert-convert (λ κs (f, (b, _)) r (_, (b′, _)) s q e.
     let k = converted.convert-keeps (f .now) (b .now) q (sym (ap (λ o. o .answer) s) ∙ e) in
     (k .0, ap (λ o. o .left) s ∙ k .1))
 
@@ -176,16 +169,14 @@ convert-keeps =
 pub output-keeps : Runs convert.output.ended convert.output.Symbol.routine
     (λ κs (f, (b, _)) r (_, (b′, _)). r ≡ NoRoom → b′ .now ≡ b .now)
 output-keeps =
-    follows contracts.convert-output
-    (λ κs (f, (b, _)) r (_, (b′, _)) s e.
+    follows contracts.convert-output (λ κs (f, (b, _)) r (_, (b′, _)) s e.
     ap (λ o. o .left) s ∙ no-room-keeps (f .now) (b .now) (sym (ap (λ o. o .answer) s) ∙ e))
 
 pub graft-keeps : Runs graft.graft.ended graft.graft.Symbol.routine
     (λ κs (t, (k, (u, (b, _)))) r (_, (_, (_, (b′, _)))). (q : Rejection) → r ≡ RejectedTable q
     → (graftRejection (t .now) k (u .now) (length (b .now)) ≡ some q) × (b′ .now ≡ b .now))
 graft-keeps =
-    follows contracts.graft-graft
-    (λ κs (t, (k, (u, (b, _)))) r (_, (_, (_, (b′, _)))) s q e.
+    follows contracts.graft-graft (λ κs (t, (k, (u, (b, _)))) r (_, (_, (_, (b′, _)))) s q e.
     let p = grafting.graft-keeps (t .now) k (u .now) (b .now) q (sym (ap (λ o. o .answer) s) ∙ e) in
     (p .0, ap (λ o. o .left) s ∙ p .1))
 
@@ -193,7 +184,6 @@ pub fill-keeps : Runs worstfill.fill.ended worstfill.fill.Symbol.routine
     (λ κs (t, _) r (t′, _). (q : Rejection) → r ≡ RejectedFill q
     → (rejection (t .now) ≡ some q) × (t′ .now ≡ t .now))
 fill-keeps =
-    follows contracts.worstfill-fill
-    (λ κs (t, _) r (t′, _) s q e.
+    follows contracts.worstfill-fill (λ κs (t, _) r (t′, _) s q e.
     let k = fill-kept (t .now) q (sym (ap (λ o. o .answer) s) ∙ e) in
     (k .0, ap (λ o. o .left) s ∙ k .1))

@@ -4,19 +4,11 @@ use Rattle.buulset_flat.specs.Flat.{flatAnswer}
 use Rattle.buulset_flat.proofs.flat_answer.Statement.{statement}
 use Rattle.buulset_flat.proofs.flat_answer.Tie as tie
 
-returns : tie.Need-returns
-unfolding flatAnswer
-returns c = rw (c .before .before .answer .given .1) (c .found .ensures)
-
-returns-2 : tie.Need-returns-2
-unfolding flatAnswer
-returns-2 c = rw (c .before .before .answer2 .given .1) (c .spent .ensures)
-
-returns-3 : tie.Need-returns-3
-unfolding flatAnswer
-returns-3 c = rw (c .before .before .answer3 .given .1) (c .refused .ensures)
-
 pub flat-answer-spec : {M : Type 1} → statement M
+unfolding flatAnswer
 flat-answer-spec =
     tie.close (tie.spec (λ c. search needs) (λ c κs. search needs) (λ c. search needs) (λ c κs. search needs)
-    (λ c. search needs) (λ c κs. search needs) returns returns-2 returns-3)
+    (λ c. search needs) (λ c κs. search needs)
+    (λ c. rw (c .before .before .answer .given .1) (c .found .ensures))
+    (λ c. rw (c .before .before .answer2 .given .1) (c .spent .ensures))
+    (λ c. rw (c .before .before .answer3 .given .1) (c .refused .ensures)))

@@ -4,15 +4,9 @@ use Rattle.buulset_flat.specs.Flat.{flatBestLine}
 use Rattle.buulset_flat.proofs.flat_best_line.Statement.{statement}
 use Rattle.buulset_flat.proofs.flat_best_line.Tie as tie
 
-returns : tie.Need-returns
-unfolding flatBestLine
-returns c = rw (c .before .before .answer .given .1) (c .lined .ensures)
-
-returns-2 : tie.Need-returns-2
-unfolding flatBestLine
-returns-2 c = rw (c .before .before .answer2 .given .1) (c .refused .ensures)
-
 pub flat-best-line-spec : {M : Type 1} → statement M
+unfolding flatBestLine
 flat-best-line-spec =
-    tie.close (tie.spec (λ c. search needs) (λ c κs. search needs) (λ c. search needs) (λ c κs. search needs) returns
-    returns-2)
+    tie.close (tie.spec (λ c. search needs) (λ c κs. search needs) (λ c. search needs) (λ c κs. search needs)
+    (λ c. rw (c .before .before .answer .given .1) (c .lined .ensures))
+    (λ c. rw (c .before .before .answer2 .given .1) (c .refused .ensures)))

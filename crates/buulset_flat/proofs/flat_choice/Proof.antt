@@ -4,19 +4,11 @@ use Rattle.buulset_flat.specs.Flat.{flatChoice}
 use Rattle.buulset_flat.proofs.flat_choice.Statement.{statement}
 use Rattle.buulset_flat.proofs.flat_choice.Tie as tie
 
-returns : tie.Need-returns
-unfolding flatChoice
-returns c = rw (c .before .enum-told .given .1) (c .chosen .ensures)
-
-returns-2 : tie.Need-returns-2
-unfolding flatChoice
-returns-2 c = rw (c .before .enum-told2 .given .1) (c .chosen2 .ensures)
-
-returns-3 : tie.Need-returns-3
-unfolding flatChoice
-returns-3 c = rw (c .before .before .answer .given .1) (c .no-choice .ensures)
-
 pub flat-choice-spec : {M : Type 1} → statement M
+unfolding flatChoice
 flat-choice-spec =
     tie.close (tie.spec (λ c. search needs) (λ c κs. search needs) (λ c. search needs) (λ c κs. search needs)
-    (λ c. search needs) (λ c κs. search needs) returns returns-2 returns-3)
+    (λ c. search needs) (λ c κs. search needs)
+    (λ c. rw (c .before .enum-told .given .1) (c .chosen .ensures))
+    (λ c. rw (c .before .enum-told2 .given .1) (c .chosen2 .ensures))
+    (λ c. rw (c .before .before .answer .given .1) (c .no-choice .ensures)))

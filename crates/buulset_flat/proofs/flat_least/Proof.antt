@@ -4,15 +4,10 @@ use Rattle.buulset_flat.specs.Flat.{flatLeast}
 use Rattle.buulset_flat.proofs.flat_least.Statement.{statement}
 use Rattle.buulset_flat.proofs.flat_least.Tie as tie
 
-returns : tie.Need-returns
-unfolding flatLeast
-returns c = rw (c .before .before .answer .given .1) (c .counted .ensures)
-
-returns-2 : tie.Need-returns-2
-unfolding flatLeast
-returns-2 c = rw (c .before .before .answer2 .given .1) (c .refused .ensures)
-
 pub flat-least-spec : {M : Type 1} → statement M
+unfolding flatLeast
 flat-least-spec =
     tie.close (tie.spec (λ c. search needs) (λ c. search needs) (λ c κs. search needs) (λ c. search needs)
-    (λ c κs. search needs) returns returns-2)
+    (λ c κs. search needs)
+    (λ c. rw (c .before .before .answer .given .1) (c .counted .ensures))
+    (λ c. rw (c .before .before .answer2 .given .1) (c .refused .ensures)))

@@ -8,17 +8,11 @@ use Rattle.buulset_flat.specs.Flat.{flatLeastValue}
 use Rattle.buulset_flat.proofs.flat_least_value.Statement.{statement}
 use Rattle.buulset_flat.proofs.flat_least_value.Tie as tie
 
-returns : tie.Need-returns
-unfolding flatLeastValue
-returns c =
-    c .valued .ensures ∙ ap valued (toZ-ofZ w16 _ (record { sfits = c .before .known-told .given .0 .1 }))
-    ∙ ap flatLeastValue (sym (c .before .before .answer .given .1))
-
-returns-2 : tie.Need-returns-2
-unfolding flatLeastValue
-returns-2 c = rw (c .before .before .answer2 .given .1) (c .refused .ensures)
-
 pub flat-least-value-spec : {M : Type 1} → statement M
+unfolding flatLeastValue
 flat-least-value-spec =
-    tie.close (tie.spec (λ c. search needs) (λ c κs. search needs) (λ c. search needs) (λ c κs. search needs) returns
-    returns-2)
+    tie.close (tie.spec (λ c. search needs) (λ c κs. search needs) (λ c. search needs) (λ c κs. search needs)
+    (λ c. c .valued .ensures
+    ∙ ap valued (toZ-ofZ w16 _ (record { sfits = c .before .known-told .given .0 .1 }))
+    ∙ ap flatLeastValue (sym (c .before .before .answer .given .1)))
+    (λ c. rw (c .before .before .answer2 .given .1) (c .refused .ensures)))

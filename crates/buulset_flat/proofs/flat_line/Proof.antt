@@ -4,15 +4,9 @@ use Rattle.buulset_flat.specs.Flat.{flatLine}
 use Rattle.buulset_flat.proofs.flat_line.Statement.{statement}
 use Rattle.buulset_flat.proofs.flat_line.Tie as tie
 
-returns : tie.Need-returns
-unfolding flatLine
-returns c = rw (c .before .before .line .given .1) (c .read .ensures)
-
-returns-2 : tie.Need-returns-2
-unfolding flatLine
-returns-2 c = rw (c .before .before .line2 .given .1) (c .no-line .ensures)
-
 pub flat-line-spec : {M : Type 1} → statement M
+unfolding flatLine
 flat-line-spec =
-    tie.close (tie.spec (λ c. search needs) (λ c κs. search needs) (λ c. search needs) (λ c κs. search needs) returns
-    returns-2)
+    tie.close (tie.spec (λ c. search needs) (λ c κs. search needs) (λ c. search needs) (λ c κs. search needs)
+    (λ c. rw (c .before .before .line .given .1) (c .read .ensures))
+    (λ c. rw (c .before .before .line2 .given .1) (c .no-line .ensures)))

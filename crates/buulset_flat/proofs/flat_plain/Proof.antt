@@ -4,15 +4,9 @@ use Rattle.buulset_flat.specs.Flat.{flatPlain}
 use Rattle.buulset_flat.proofs.flat_plain.Statement.{statement}
 use Rattle.buulset_flat.proofs.flat_plain.Tie as tie
 
-returns : tie.Need-returns
-unfolding flatPlain
-returns c = rw (c .before .before .answer .given .1) (c .moved .ensures)
-
-returns-2 : tie.Need-returns-2
-unfolding flatPlain
-returns-2 c = rw (c .before .before .answer2 .given .1) (c .refused .ensures)
-
 pub flat-plain-spec : {M : Type 1} → statement M
+unfolding flatPlain
 flat-plain-spec =
-    tie.close (tie.spec (λ c. search needs) (λ c κs. search needs) (λ c. search needs) (λ c κs. search needs) returns
-    returns-2)
+    tie.close (tie.spec (λ c. search needs) (λ c κs. search needs) (λ c. search needs) (λ c κs. search needs)
+    (λ c. rw (c .before .before .answer .given .1) (c .moved .ensures))
+    (λ c. rw (c .before .before .answer2 .given .1) (c .refused .ensures)))

@@ -8,17 +8,11 @@ use Rattle.buulset_flat.specs.Flat.{flatVerdict}
 use Rattle.buulset_flat.proofs.flat_verdict.Statement.{statement}
 use Rattle.buulset_flat.proofs.flat_verdict.Tie as tie
 
-returns : tie.Need-returns
-unfolding flatVerdict
-returns c =
-    c .valued .ensures ∙ ap valued (toZ-ofZ w16 _ (record { sfits = c .before .known-told .given .0 .1 }))
-    ∙ ap flatVerdict (sym (c .before .before .answer .given .1))
-
-returns-2 : tie.Need-returns-2
-unfolding flatVerdict
-returns-2 c = rw (c .before .before .answer2 .given .1) (c .refused .ensures)
-
 pub flat-verdict-spec : {M : Type 1} → statement M
+unfolding flatVerdict
 flat-verdict-spec =
-    tie.close (tie.spec (λ c. search needs) (λ c κs. search needs) (λ c. search needs) (λ c κs. search needs) returns
-    returns-2)
+    tie.close (tie.spec (λ c. search needs) (λ c κs. search needs) (λ c. search needs) (λ c κs. search needs)
+    (λ c. c .valued .ensures
+    ∙ ap valued (toZ-ofZ w16 _ (record { sfits = c .before .known-told .given .0 .1 }))
+    ∙ ap flatVerdict (sym (c .before .before .answer .given .1)))
+    (λ c. rw (c .before .before .answer2 .given .1) (c .refused .ensures)))

@@ -4,15 +4,9 @@ use Rattle.buulset_flat.specs.Flat.{flatWritten}
 use Rattle.buulset_flat.proofs.flat_written.Statement.{statement}
 use Rattle.buulset_flat.proofs.flat_written.Tie as tie
 
-returns : tie.Need-returns
-unfolding flatWritten
-returns c = rw (c .before .before .answer .given .1) (c .counted .ensures)
-
-returns-2 : tie.Need-returns-2
-unfolding flatWritten
-returns-2 c = rw (c .before .before .answer2 .given .1) (c .refused .ensures)
-
 pub flat-written-spec : {M : Type 1} → statement M
+unfolding flatWritten
 flat-written-spec =
-    tie.close (tie.spec (λ c. search needs) (λ c κs. search needs) (λ c. search needs) (λ c κs. search needs) returns
-    returns-2)
+    tie.close (tie.spec (λ c. search needs) (λ c κs. search needs) (λ c. search needs) (λ c κs. search needs)
+    (λ c. rw (c .before .before .answer .given .1) (c .counted .ensures))
+    (λ c. rw (c .before .before .answer2 .given .1) (c .refused .ensures)))
