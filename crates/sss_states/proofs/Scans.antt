@@ -1,61 +1,99 @@
 -- The loops over the front: the leftmost best of some children, the fall, and the way down.
-use Prim.Native.Nat.{ℕ, zero, suc, _+_, _-_, _≤_, _<_}
+use Prim.Native.Nat.{ℕ, zero, suc, _+_, _-_, _*_, _/_, _≤_, _<_}
 use native.Mathlib.Omega.{arith}
-use mathlib.Core.Path.{_≡_, refl, sym, _∙_, ap, ap₂}
+use native.Mathlib.Decide.{decLe}
+use mathlib.Core.Path.{_≡_, refl, sym, _∙_, ap}
 use mathlib.Core.Logic.{inl, inr}
 use mathlib.Core.List.{List}
 use lib.Dec.{ltb}
-use borrow.Author.Tests.{le-leb, lt-leb, eq-eqb, ne-eqb}
-use Rattle.frames.specs.Frame.{frames}
+use lib.ListN.{length, getD}
+use borrow.Author.Tests.{eq-eqb, ne-eqb}
+use Rattle.frames.specs.Frame.{maxNodes, frames}
 use Rattle.frames.specs.Formed.{WellFormed}
 use Rattle.frames.proofs.Next.{child-within, child-later}
 use Rattle.sss_states.specs.engine.Kept.{bestAt, linkAt, leftmostBest, needsRefresh, descended, Sound, Fits}
+use Rattle.sss_states.specs.engine.Scanned.{Attained, GreatestEntry, FirstFrom}
+use Rattle.sss_states.proofs.Ways.{leftmost-same}
 
--- best is the leftmost best from `at` to the last
-pub record Scanning (w : List ℕ) (first count at best : ℕ) : Type 0 where
+-- the greatest of the entries before `at`
+pub record Scanning (w : List ℕ) (first end greatest at : ℕ) : Type 0 where
   pub from : first ≤ at
-  pub to : at < first + count
-  pub above : at ≤ best
-  pub below : best < first + count
-  pub is : best ≡ leftmostBest w at (first + (count - 1) - at)
+  pub to : at ≤ end
+  pub attained : Attained w first end greatest
+  pub atMost : (k : ℕ) → first ≤ k → k < at → getD w k 0 ≤ greatest
 
-pub scan-start : (w : List ℕ) (first count : ℕ) → 0 < count
-    → Scanning w first count (first + (count - 1)) (first + (count - 1))
-unfolding leftmostBest
-scan-start w first count h =
-    let z : first + (count - 1) - (first + (count - 1)) ≡ 0 = omega arith in
-    record { from = omega arith; to = omega arith; above = omega arith; below = omega arith; is = rw z refl }
+pub scan-start : (w : List ℕ) (first end : ℕ) → first < end → Scanning w first end 0 first
+scan-start w first end h =
+    record {
+      from = omega arith;
+      to = omega arith;
+      attained = record { node = first; from = omega arith; to = h; enough = omega arith };
+      atMost = λ k a b. absurd (omega arith);
+    }
 
-module _ {w : List ℕ} {first count at best : ℕ} (s : Scanning w first count at best) where
-  -- a step to the left: the node there, or the best so far
-  scan-step : (next : ℕ) → first < at → at - 1 ≤ next → next < first + count
-      → next ≡ leftmostBest w (at - 1) (suc (first + (count - 1) - at)) → Scanning w first count (at - 1) next
-  scan-step next h a b e =
+module _ {w : List ℕ} {first end greatest at : ℕ} (s : Scanning w first end greatest at) (h : at < end) where
+  -- a step: the entry there, or the greatest so far
+  scan-step : (v : ℕ) → Attained w first end v → greatest ≤ v → getD w at 0 ≤ v → Scanning w first end v (at + 1)
+  scan-step v a l g =
       record {
-        from = omega arith;
-        to = omega (arith, s .to);
-        above = a;
-        below = b;
-        is = e ∙ ap (leftmostBest w (at - 1)) (omega (arith, s .to));
+        from = omega (arith, s .from);
+        to = omega arith;
+        attained = a;
+        atMost = λ k i j. elim (decLe at k) [
+          | yes o ↦ let e : k ≡ at = omega arith in rw e g
+          | no o ↦ let m = s .atMost k i (omega arith) in omega arith
+        ];
       }
 
-  pub scan-here : first < at → bestAt w best ≤ bestAt w (at - 1) → Scanning w first count (at - 1) (at - 1)
-  unfolding leftmostBest
-  scan-here h l =
-      let z : at - 1 + 1 ≡ at = omega arith in
-      scan-step (at - 1) h (omega arith) (omega (arith, s .to))
-      (rw (z, ← s .is, le-leb (bestAt w best) (bestAt w (at - 1)) l))
+  pub scan-here : greatest < getD w at 0 → Scanning w first end (getD w at 0) (at + 1)
+  scan-here l =
+      scan-step (getD w at 0) (record { node = at; from = s .from; to = h; enough = omega arith }) (omega arith)
+      (omega arith)
 
-  pub scan-there : first < at → bestAt w (at - 1) < bestAt w best → Scanning w first count (at - 1) best
-  unfolding leftmostBest
-  scan-there h l =
-      let z : at - 1 + 1 ≡ at = omega arith in
-      scan-step best h (omega (arith, s .above)) (s .below)
-      (rw (z, ← s .is, lt-leb (bestAt w best) (bestAt w (at - 1)) l))
+  pub scan-there : getD w at 0 ≤ greatest → Scanning w first end greatest (at + 1)
+  scan-there l = scan-step greatest (s .attained) (omega arith) l
 
-  pub scan-end : at ≤ first → best ≡ leftmostBest w first (count - 1)
-  scan-end h =
-      let z : at ≡ first = omega (arith, s .from) in s .is ∙ ap₂ (leftmostBest w) z (omega (arith, z))
+pub scan-end : {w : List ℕ} {first end greatest at : ℕ} → Scanning w first end greatest at → end ≤ at
+    → GreatestEntry w first end greatest
+scan-end s h = record { attained = s .attained; atMost = λ k a b. s .atMost k a (omega arith) }
+
+-- no entry before `at` is enough
+pub record Passing (w : List ℕ) (first least at : ℕ) : Type 0 where
+  pub from : first ≤ at
+  pub attained : Attained w at (length w) least
+  pub earlier : (k : ℕ) → first ≤ k → k < at → getD w k 0 < least
+
+pub pass-on : {w : List ℕ} {first least at : ℕ} → Passing w first least at → getD w at 0 < least
+    → Passing w first least (at + 1)
+pass-on {at = at} p h =
+    let a = p .attained in
+    record {
+      from = omega (arith, p .from);
+      attained = elim (decLe (a .node) at) [
+        | yes o ↦ let e : a .node ≡ at = omega (arith, a .from) in absurd (omega (arith, rw e at (a .enough)))
+        | no o ↦ record { node = a .node; from = omega arith; to = a .to; enough = a .enough }
+      ];
+      earlier = λ k i j. elim (decLe at k) [
+        | yes o ↦ let e : k ≡ at = omega arith in rw e h
+        | no o ↦ p .earlier k i (omega arith)
+      ];
+    }
+
+-- the first entry with the merit of the greatest is the leftmost best's
+pub first-best : (w : List ℕ) (first count greatest r : ℕ) → 0 < count
+    → GreatestEntry w first (first + count) greatest
+    → FirstFrom w first (greatest / maxNodes * maxNodes) r → r ≡ leftmostBest w first (count - 1)
+first-best w first count greatest r h g f =
+    leftmost-same (record {
+      from = f .from;
+      to = elim (decLe r (g .attained .node)) [
+        | yes o ↦ omega (arith, g .attained .to)
+        | no o ↦ (let x = f .earlier (g .attained .node) (g .attained .from) (omega arith) in
+            absurd (omega (arith, g .attained .enough)))
+      ];
+      greatest = λ k a b. let x = g .atMost k a (omega arith) in omega (arith, f .enough);
+      leftmost = λ k a b. let x = f .earlier k a b in omega (arith, f .enough);
+    })
 
 -- the test of the fall
 pub needsRefresh-other : (w : List ℕ) (γ k : ℕ) → (k ≡ 0 → ⊥) → ltb (bestAt w k) γ ≡ needsRefresh w γ k

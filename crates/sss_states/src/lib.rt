@@ -14,6 +14,7 @@ ghost use Rattle.frames.specs.Frame.{maxNodes, frames};
 ghost use Rattle.sss_states.specs.Entry.{blank as blankEntry};
 ghost use Rattle.sss_states.specs.engine.Kept.{bestAt, linkAt, packedEntry as packedOf, leftmostBest, chosenOf};
 ghost use Rattle.sss_states.specs.engine.Kept.{needsRefresh};
+ghost use Rattle.sss_states.specs.engine.Scanned.{Attained, GreatestEntry, FirstFrom};
 ghost use Rattle.sss_states.specs.engine.Kept.{refreshed, descended, changed, Puttable, Fits};
 
 // LIVE and SOLVED (SPEC 10.1).
@@ -132,20 +133,43 @@ fn chosen(table: &[u8], positions: &[u32], front: &[u32], node: usize) -> usize
     }
 }
 
-// The leftmost of `count` nodes of greatest merit.
+// The leftmost of `count` nodes of greatest merit: the first with that of the greatest entry.
 fn leftmost_best(front: &[u32], first: usize, count: usize) -> usize
     requires { ⌜ (0 < count) × (first + count ≤ length (now front)) × (length (now front) ≤ maxNodes) ⌝ }
     ensures { λ r. ⌜ r ≡ leftmostBest (now (front .entry)) first (count - 1) ⌝ }
 {
-    let mut at = first + (count - 1);
-    let mut best = at;
-    while first < at {
-        at -= 1;
-        if best_at(front, best) <= best_at(front, at) {
-            best = at;
+    let greatest = greatest_entry(front, first, first + count);
+    first_from(front, first, greatest / LINKS * LINKS)
+}
+
+// The greatest entry of the nodes from `first` to before `end`.
+fn greatest_entry(front: &[u32], first: usize, end: usize) -> u32
+    requires { ⌜ (first < end) × (end ≤ length (now front)) × (length (now front) ≤ maxNodes) ⌝ }
+    ensures { λ r. ⌜ GreatestEntry (now (front .entry)) first end r ⌝ }
+{
+    let mut greatest = 0;
+    let mut at = first;
+    while at < end {
+        let entry = front[at];
+        if greatest < entry {
+            greatest = entry;
         }
+        at += 1;
     }
-    best
+    greatest
+}
+
+// The first node from `first` on whose entry is no less than this.
+fn first_from(front: &[u32], first: usize, least: u32) -> usize
+    requires { ⌜ length (now front) ≤ maxNodes ⌝ }
+    requires { ⌜ Attained (now front) first (length (now front)) least ⌝ }
+    ensures { λ r. ⌜ FirstFrom (now (front .entry)) first least r ⌝ }
+{
+    let mut at = first;
+    while front[at] < least {
+        at += 1;
+    }
+    at
 }
 
 // Is a node other than the root below this merit?

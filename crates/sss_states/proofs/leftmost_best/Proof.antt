@@ -1,25 +1,18 @@
--- `sss_states::leftmost_best` meets its contract: from the last child down to the first.
+-- `sss_states::leftmost_best` meets its contract.
 use native.Mathlib.Omega.{arith}
-use Rattle.sss_states.proofs.Scans.{Scanning, scan-start, scan-here, scan-there, scan-end}
+use Rattle.sss_states.proofs.Scans.{first-best}
 use Rattle.sss_states.proofs.leftmost_best.Statement.{statement}
 use Rattle.sss_states.proofs.leftmost_best.Tie as tie
 
-abbrev Inv-loop : tie.InvT-loop
-Inv-loop front first count at₀ best₀ at best = Scanning front first count at best
+first-from-requires : tie.Need-first-from-requires
+first-from-requires c κs =
+    let a = c .greatest-entry .ensures .attained in
+    (omega arith, record { node = a .node; from = a .from; to = omega (arith, a .to); enough = omega (arith, a .enough) })
 
-abbrev μ-loop : tie.MeasureT-loop
-μ-loop front first count at₀ best₀ at best = at
-
-loop-again : tie.Need-loop-again Inv-loop μ-loop
-loop-again c =
-    let d = c .before .before .before in scan-here (d .before .loop .inv) (d .loop-test .taken) (omega arith)
-
-loop-again-2 : tie.Need-loop-again-2 Inv-loop μ-loop
-loop-again-2 c =
-    let d = c .before .before .before in scan-there (d .before .loop .inv) (d .loop-test .taken) (omega arith)
+returns : tie.Need-returns
+returns c = first-best _ _ _ _ _ (omega arith) (c .before .greatest-entry .ensures) (c .first-from .ensures)
 
 pub leftmost-best-spec : {M : Type 1} → statement M
 leftmost-best-spec =
-    tie.close (tie.spec Inv-loop μ-loop (λ c. omega arith) (λ c. omega arith) (λ c. scan-start _ _ _ (omega arith))
-    (λ c. omega arith) (λ c κs. omega arith) (λ c κs. omega arith) (λ c. omega arith) loop-again (λ c. omega arith)
-    loop-again-2 (λ c. scan-end (c .before .loop .inv) (c .loop-test .left)))
+    tie.close (tie.spec (λ c. omega arith) (λ c κs. (omega arith, omega arith, omega arith)) (λ c. omega arith)
+    first-from-requires returns)
