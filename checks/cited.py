@@ -10,7 +10,8 @@ import sys
 
 ROOT = os.path.dirname(os.path.dirname(os.path.abspath(__file__)))
 DOCUMENTS = ("README.md", "CONTRIBUTING.md", "docs/SPEC.md", "docs/THEOREMS.md", "docs/DECISIONS.md",
-             "docs/RELEASE_NOTE.md", "docs/COSTS.md", "docs/COMMAND.md", "checks/README.md", "bindings/README.md")
+             "docs/RELEASE_NOTE.md", "docs/COSTS.md", "docs/COMMAND.md", "docs/TOUR.md", "checks/README.md",
+             "bindings/README.md")
 # where a path in a document may begin
 ROOTS = ("", "crates", "checks", "docs", "samples", "docs/changes")
 PATH = re.compile(r"[\w.+-]+(?:/[\w.+*-]+)+/?|[\w-]+\.(?:antt|rt|py|sh|md|c|h|tree)")
