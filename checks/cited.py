@@ -1,8 +1,10 @@
 #!/usr/bin/env python3
 """Holds what the documents cite to the tree: each file, folder, edit, function and theorem that they name is there, and
-where a name is cited with its file, as `name` in `file` or `file` (`name`), it stands in that file.
+where a name is cited with its file, as `name` in `file` or `file` (`name`), it stands in that file; each link leads to
+a file and a heading of the tree; each decision that is cited by its name is one of docs/DECISIONS.md, and has it alone.
 
-    cited.py
+    cited.py            compares
+    cited.py --link     makes the links of docs/THEOREMS.md anew: of each file, and of each statement of crates/demands
 """
 import os
 import re
@@ -26,6 +28,9 @@ NAME = re.compile(r"[a-z]\w*[A-Z_]\w*|[A-Z][a-z]\w*")
 NAMES = r"(?:`[^`\n]+`(?:, | and )?)+"
 IN_FILE = re.compile(r"(%s) in `([^`\n]+\.(?:antt|rt))`" % NAMES)
 OF_FILE = re.compile(r"`([^`\n]+\.(?:antt|rt))` \((%s)\)" % NAMES)
+LINK = re.compile(r"\]\(([^)\s]+)\)|^\[[^\]\n]+\]: (\S+)$", re.M)
+DECISION = re.compile(r"^- \*\*(.+?)(?:\.|,|:)?\*\*", re.M)
+CITED_DECISION = re.compile(r"[Dd]ecision \"([^\"\n]+)\"")
 
 
 def read(*path):
@@ -38,6 +43,12 @@ def files(folder, *ends):
         for name in names:
             if name.endswith(ends):
                 yield os.path.relpath(os.path.join(base, name), ROOT)
+
+
+def without_links(text):
+    """A text with the words of its links alone: those in brackets, `[words](target)` or `[words]`, in code type."""
+    text = re.sub(r"^\[[^\]\n]+\]: \S+$", "", text, flags=re.M)
+    return re.sub(r"\[(`[^`\n]+`)\](?:\([^)\s]+\))?", r"\1", text)
 
 
 def declared():
@@ -62,7 +73,7 @@ def there(path):
 
 def prose(document):
     """A document's text, each paragraph on one line, without code: fenced, or a paragraph indented by four spaces."""
-    text = re.sub(r"^```[\s\S]*?^```$", "", read(document), flags=re.M)
+    text = re.sub(r"^```[\s\S]*?^```$", "", without_links(read(document)), flags=re.M)
     paragraphs = (p.split("\n") for p in re.split(r"\n\s*\n", text))
     return "\n".join(" ".join(map(str.strip, p)) for p in paragraphs if not all(l.startswith("    ") for l in p))
 
@@ -96,16 +107,90 @@ def misses(document, names):
                         yield word
 
 
+def anchors(document):
+    """The anchors of a document's headings."""
+    titles = re.findall(r"^#+ (.*)$", read(document), re.M)
+    return {re.sub(r"[^\w -]", "", title.lower()).replace(" ", "-") for title in titles}
+
+
+def dead_links(document):
+    """The links of a document that lead nowhere."""
+    for target in (a or b for a, b in LINK.findall(read(document))):
+        path, _, anchor = target.partition("#")
+        if re.match(r"\w+:", target) or ANY.fullmatch(target):
+            continue
+        file = os.path.normpath(os.path.join(os.path.dirname(document), path)) if path else document
+        if not os.path.exists(os.path.join(ROOT, file)):
+            yield "](%s)" % target
+        elif anchor and anchor not in anchors(file):
+            yield "](%s)" % target
+
+
+def unknown_decisions():
+    """Where a decision is cited that docs/DECISIONS.md has not; and names that it has twice."""
+    names = DECISION.findall(read("docs/DECISIONS.md"))
+    for name in sorted({name for name in names if names.count(name) > 1}):
+        yield "docs/DECISIONS.md has two decisions \"%s\"" % name
+    ends = (".md", ".rt", ".antt", ".py", ".rs", ".h", ".txt", "checks/doors")
+    for path in sorted({*DOCUMENTS, *(p for p in PATHS if p.endswith(ends))} - {"checks/cited.py"}):
+        for name in CITED_DECISION.findall(read(path)):
+            if name not in names:
+                yield "%s cites the decision \"%s\", which is not there" % (path, name)
+
+
+def home(name, section):
+    """The file of a statement of crates/demands: the section's own, if it is there, else the only one that has it."""
+    held = [p for p in files("crates/demands/proofs", ".antt")
+            if re.search(r"^ *pub %s :" % re.escape(name), read(p), re.M)]
+    return section if section in held else held[0] if len(held) == 1 else None
+
+
+def linked(text):
+    """docs/THEOREMS.md with its links made anew: in the tables each file, and each statement that has none with it."""
+    targets, lines, section = {}, [], None
+    for line in without_links(text).rstrip().split("\n"):
+        heading = re.match(r"## .*\(`(?:crates/)?(demands/proofs/\w+\.antt)`\)", line)
+        if line.startswith("## "):
+            section = heading and "crates/" + heading[1]
+        if line.startswith(("|", "## ")) and not line.startswith("|---"):
+            at_file = {name for names, _ in IN_FILE.findall(line) for name in re.findall(r"`([^`]+)`", names)}
+
+            def link(word):
+                path = next((p for p in ("crates/" + word[1], word[1]) if os.path.isfile(os.path.join(ROOT, p))), None)
+                edit = EDIT.fullmatch(word[1])
+                if edit:
+                    path = "crates/%s/must-fail/%s.edit" % edit.groups()
+                elif not path and word[1] not in at_file and re.fullmatch(r"[a-z][\w′-]*", word[1]):
+                    path = home(word[1], section)
+                if not path or not os.path.isfile(os.path.join(ROOT, path)):
+                    return word[0]
+                if targets.setdefault(word[1], path) != path:
+                    return word[0]
+                return "[%s]" % word[0]
+
+            line = re.sub(r"`([^`\n]+)`", link, line) if line.startswith("|") else line
+        lines.append(line)
+    ends = ["[`%s`]: ../%s" % (name, path) for name, path in sorted(targets.items())]
+    return "\n".join(lines + ["", *ends, ""])
+
+
 PATHS = [p for folder in ("crates", "checks", "docs", "samples", "bindings", "tools")
          for p in files(folder, "")]
 
 
 def main():
+    if sys.argv[1:] == ["--link"]:
+        text = linked(read("docs/THEOREMS.md"))
+        with open(os.path.join(ROOT, "docs/THEOREMS.md"), "w", encoding="utf-8") as f:
+            f.write(text)
     names, bad = declared(), 0
     for document in DOCUMENTS:
-        for word in sorted(set(misses(document, names)) | set(misplaced(document))):
+        for word in sorted(set(misses(document, names)) | set(misplaced(document)) | set(dead_links(document))):
             print("%s cites `%s`, which is not there" % (document, word))
             bad += 1
+    for words in unknown_decisions():
+        print(words)
+        bad += 1
     if bad:
         sys.exit(1)
     print("every file and name that the documents cite is there")
