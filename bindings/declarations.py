@@ -7,8 +7,8 @@
 
 It reads each `#[no_mangle] pub extern "C" fn` of crates/buulset and each `#[repr(C)]` struct of crates/buulset_answers,
 and compares, in order, the kinds and names of the parameters, the result, and the members of the structs; the
-constants that stand in both; the texts of the refusals, in C, Rust and Python; the version, in every place of VERSIONS;
-and, where an archive is given, its symbols."""
+constants that stand in both; the texts of the refusals, in C, Rust and Python; every list of the questions with the
+table of docs/SPEC.md, 4.2; the version, in every place of VERSIONS; and, where an archive is given, its symbols."""
 import ctypes
 import importlib.util
 import pathlib
@@ -21,6 +21,7 @@ SOURCES = [HERE / "../crates" / crate / "src/lib.rt" for crate in ("buulset", "b
 HEADER, FFI, LIB, MODULE = (HERE / path for path in (
     "c/buulset.h", "rust/src/ffi.rs", "rust/src/lib.rs", "python/buulset/calls.py"))
 LIMITS, MEANINGS = HERE / "python/buulset/tree.py", HERE / "python/buulset/refusal.py"
+EXPLAIN, SPEC = HERE / "command/src/explain.rs", HERE / "../docs/SPEC.md"
 KINDS = {"size_t": "usize", "uint8_t": "u8", "uint16_t": "u16", "uint32_t": "u32", "int16_t": "i16", "int32_t": "i32",
          "children_of": "children", "file_line": "line"}
 # where the version stands, and after what; the library's own is the first, and the others follow it
@@ -170,7 +171,36 @@ def meanings():
             re.findall(r'^    (\d+): "(.*?)",$', MEANINGS.read_text(), re.M))
 
 
-def differences(source, header, ffi, lib, module, archive=None):
+def numerals(text):
+    """The numbers of a text that are no small ones, as 40 and 53,248: limits."""
+    return {n for n in (int(n.replace(",", "")) for n in re.findall(r"\d[\d,]*\b", text)) if n >= 18}
+
+
+def spec_questions():
+    """The questions of docs/SPEC.md, 4.2: for each number whether its place is always 0, and the limits it may name."""
+    spec = SPEC.read_text()
+    limits = numerals(re.search(r"^3\.2 .*?(?=^3\.3)", spec, re.M | re.S)[0])
+    table = re.search(r"^4\.2 .*?(?=^4\.3)", spec, re.M | re.S)[0]
+    rows = re.findall(r"^\| (\d+) \| (.*?) \| (.*?) \| .*\|$", table, re.M)
+    numbers = sorted({int(number) for number, _, _ in rows})
+    return {n: (all(place == "0" for number, _, place in rows if int(number) == n),
+                limits.union(*(numerals(asks) for number, asks, _ in rows if int(number) == n))) for n in numbers}
+
+
+def lists_of_questions(header, lib, explain):
+    """Each list of the questions: where it stands, and for each number its text and, if it is told, its place."""
+    enum = header[header.index("THE QUESTIONS"):header.index("Flags of a certificate")]
+    yield "C", {int(n): (text, None) for n, text in re.findall(r"BUULSET_\w+ = (\d+),? +/\*(.*?)\*/", enum, re.S)}
+    yield "C", {int(n): (text, None) for n, text in re.findall(r'case (\d+): return "([^"]*)";', header) if n != "0"}
+    yield "Rust", {int(n): (text, None) for n, text in re.findall(r'^ +(\d+) => "([^"]*)",$', lib, re.M)}
+    yield "Python", {int(n): (text, None) for n, text in meanings()[1]}
+    told = {int(n): (asks, place) for n, asks, place in re.findall(
+        r'ask\((\d+), (?:\w+|"[^"]*"),\s*("(?:[^"\\]|\\.|\\\n)*"),\s*"([^"]*)",', explain)}
+    told |= {int(n): ("", "the first node whose rule breaks") for n in re.findall(r"solution_tree!\((\d+),", explain)}
+    yield "explain", told
+
+
+def differences(source, header, ffi, lib, module, explain, archive=None):
     """The number of comparisons, and a line for each that fails."""
     compared, lines = 0, []
 
@@ -201,6 +231,15 @@ def differences(source, header, ffi, lib, module, archive=None):
         compare("C", "the text of refusal " + number, texts.get(number), in_rust.get(number, "there"))
     compare("C", "which refusals have a text", sorted(set(texts) - {"0"}), sorted(in_rust))
     compare("Python", "what refusals mean", *reversed(meanings()))
+    spec = spec_questions()
+    for where, known in lists_of_questions(header, lib, explain):
+        compare(where, "which questions there are", sorted(known), sorted(spec))
+        for number in sorted(set(known) & set(spec)):
+            text, place = known[number]
+            beyond = numerals(text) - spec[number][1]
+            compare(where, "which limits question %d names beyond SPEC's" % number, beyond, set())
+            if place is not None:
+                compare(where, "is the place of question %d always 0" % number, place == "0", spec[number][0])
     if archive:
         symbols = subprocess.run(["nm", archive], capture_output=True, text=True, check=True).stdout
         compare(archive, "its functions", sorted(re.findall(r" T (\w+)", symbols)), sorted(want[0]))
@@ -227,6 +266,11 @@ WRONG = (
     (3, "pub const MAX_CHILDREN: usize = 40;", "pub const MAX_CHILDREN: usize = 41;"),
     (4, '("value", ctypes.c_int32)', '("value", ctypes.c_int16)'),
     (4, '"fill": (_LENT, Answer)', '"fill": (_BYTES, Answer)'),
+    (1, "/* a node below depth 18 */", "/* a node below depth 24 */"),
+    (5, "has the file at most 53,248 bytes?", "has the file at most 53,247 bytes?"),
+    (5, 'does some value of the leaf give the root the wanted value?",\n        "the leaf"',
+     'does some value of the leaf give the root the wanted value?",\n        "0"'),
+    (5, 'ask(23, "of least"', 'ask(24, "of least"'),
     (0, "    pub value: i32,", "    pub value: i16,"),
     (0, "pub extern \"C\" fn buulset_digit(byte: u8) -> u8", "pub extern \"C\" fn buulset_digit(byte: u16) -> u8"),
 )
@@ -245,7 +289,7 @@ def missed_versions():
 
 
 def main():
-    texts = ["".join(p.read_text() for p in SOURCES)] + [p.read_text() for p in (HEADER, FFI, LIB, MODULE)]
+    texts = ["".join(p.read_text() for p in SOURCES)] + [p.read_text() for p in (HEADER, FFI, LIB, MODULE, EXPLAIN)]
     if sys.argv[1:] == ["--try"]:
         missed = 0
         for which, old, new in WRONG:

@@ -139,10 +139,11 @@ def unknown_decisions():
 
 
 def home(name, section):
-    """The file of a statement of crates/demands: the section's own, if it is there, else the only one that has it."""
+    """The file of a statement of crates/demands, or None."""
     held = [p for p in files("crates/demands/proofs", ".antt")
             if re.search(r"^ *pub %s :" % re.escape(name), read(p), re.M)]
-    return section if section in held else held[0] if len(held) == 1 else None
+    first = ["crates/demands/proofs/TheSentence.antt", "crates/demands/proofs/Sentences.antt", section]
+    return next((p for p in first if p in held), held[0] if len(held) == 1 else None)
 
 
 def linked(text):
@@ -168,7 +169,7 @@ def linked(text):
                     return word[0]
                 return "[%s]" % word[0]
 
-            line = re.sub(r"`([^`\n]+)`", link, line) if line.startswith("|") else line
+            line = re.sub(r"`([^`\n]+)`", link, line)
         lines.append(line)
     ends = ["[`%s`]: ../%s" % (name, path) for name, path in sorted(targets.items())]
     return "\n".join(lines + ["", *ends, ""])
