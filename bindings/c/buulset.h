@@ -138,7 +138,7 @@ uint32_t buulset_version(void);
 /* Reads a file into a table of at least six bytes a line. Gives count: the nodes. */
 buulset_answer buulset_read(const uint8_t *file, size_t file_len, uint8_t *BUULSET_RESTRICT table, size_t table_len);
 
-/* Reads the line that starts at a position of a file, in either letter case; it puts no questions. */
+/* Reads the line that starts at a position of a file, in either letter case; it refuses nothing. */
 buulset_file_line buulset_read_line(const uint8_t *file, size_t file_len, size_t at);
 
 /* The number of a hexadecimal digit in either letter case; 16 for any other byte. */
@@ -147,7 +147,7 @@ uint8_t buulset_digit(uint8_t byte);
 /* Writes a table as its file, 13 bytes a node, in capitals, every line closed. Gives count: the bytes of the file. */
 buulset_answer buulset_write(const uint8_t *table, size_t table_len, uint8_t *BUULSET_RESTRICT file, size_t file_len);
 
-/* Reads a file after its letters a to f are lifted to capitals, and writes it as buulset_write does. Gives count: the
+/* Reads a file after turning its letters a to f into capitals, and writes it as buulset_write does. Gives count: the
  * bytes of the converted file. */
 buulset_answer buulset_convert(const uint8_t *file, size_t file_len, uint8_t *BUULSET_RESTRICT converted,
                                size_t converted_len);
@@ -162,7 +162,7 @@ buulset_answer buulset_capitals(const uint8_t *file, size_t file_len, uint8_t *B
 buulset_answer buulset_check(const uint8_t *table, size_t table_len);
 
 /* The children of a node whose frames stand in the table, which need not be checked: none for a leaf, for a number past
- * the last frame, and where they would reach past the table. It puts no questions. */
+ * the last frame, and where they would reach past the table. It refuses nothing. */
 buulset_children_of buulset_children(const uint8_t *table, size_t table_len, size_t node);
 
 /* SEARCHES: an entry for each node is written to `evaluated` (1 on an evaluated leaf, else 0) and to `certificate` (its
@@ -198,7 +198,7 @@ buulset_answer buulset_sss(const uint8_t *table, size_t table_len, uint8_t *BUUL
 
 /* THE BEST LINE */
 
-/* What both sides play who play their best: the numbers of its nodes are written to the front of `line`, the root
+/* What both sides play if each plays its best: the numbers of its nodes are written to the front of `line`, the root
  * first, a leaf last. `line` has room for all nodes of the tree (BUULSET_MAX_NODES is always enough), though no line has
  * more than BUULSET_MAX_DEPTH + 1. Every node of it has the root's value, and its second is the root move. Gives value,
  * root_move, count: the nodes of the line. */
@@ -210,8 +210,8 @@ buulset_answer buulset_line(const uint8_t *table, size_t table_len, uint16_t *BU
 buulset_answer buulset_verify(const uint8_t *table, size_t table_len, const uint8_t *certificate,
                               size_t certificate_len);
 
-/* Of two certificates the one that is accepted; of two accepted ones that with fewer flagged leaves, the first on a
- * tie. Refused where the table is, or, if neither is accepted, as the first. */
+/* Of two certificates the one that is accepted; if both are, the one with fewer flagged leaves, the first on a tie.
+ * Refused where the table is; if neither certificate is accepted, the refusal is the first one's. */
 buulset_choice buulset_shorter(const uint8_t *table, size_t table_len, const uint8_t *first, size_t first_len,
                                const uint8_t *second, size_t second_len);
 
@@ -240,7 +240,7 @@ buulset_text buulset_report(const uint8_t *file, size_t file_len);
 /* The line that it prints for a refusal. */
 buulset_text buulset_refused(uint8_t number, size_t place);
 
-/* What a refusal means, in a few words; of this header, and not of the library. */
+/* What a refusal means, in a few words. The text is part of this header, and not of the library. */
 static inline const char *buulset_meaning(uint8_t refused) {
     switch (refused) {
     case 0: return "no refusal";

@@ -298,7 +298,7 @@ on a terminal alone, and none where NO_COLOR is set.",
         words: "FILE",
         does: "the best line from the root, with its value",
         about: "\
-The best line, which both sides play who play their best: `value` and the root's value, then `line` and the node \
+The best line, what both sides play if each plays its best: `value` and the root's value, then `line` and the node \
 numbers from the root to a leaf. Every node of the line has the root's value, and its first move is that of `buulset \
 search`. With names of moves a third line has `moves` and the names, or the node number in brackets where a move has \
 no name.",

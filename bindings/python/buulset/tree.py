@@ -65,7 +65,7 @@ class Stopped(NamedTuple):
 
 
 class Line(NamedTuple):
-    """The best line of a tree: what both sides play who play their best."""
+    """The best line of a tree: what both sides play if each plays its best."""
     value: int
     """The minimax value of the root, over the leaves' worths; every node of the line has it."""
     nodes: Tuple[int, ...]
@@ -255,7 +255,7 @@ class Tree:
     # the best line
 
     def line(self) -> Line:
-        """The best line: what both sides play who play their best.
+        """The best line: what both sides play if each plays its best.
 
         >>> seven.line()
         Line(value=3, nodes=(0, 2, 5))

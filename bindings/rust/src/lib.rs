@@ -358,7 +358,7 @@ pub fn sss(
     })
 }
 
-/// The best line, what both sides play who play their best: the numbers of its nodes, from the root to a leaf, go to the
+/// The best line, what both sides play if each plays its best: the numbers of its nodes, root to leaf, go to the
 /// front of the list, which has room for all nodes of the tree.
 ///
 /// ```

@@ -42,7 +42,7 @@ pub struct Stopped {
     pub order: Vec<u16>,
 }
 
-/// The best line of a [`Tree`]: what both sides play who play their best.
+/// The best line of a [`Tree`]: what both sides play if each plays its best.
 #[derive(Clone, PartialEq, Eq, Debug)]
 pub struct Line {
     /// The minimax value of the root, over the leaves' worths; every node of the line has it.
