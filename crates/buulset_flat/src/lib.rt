@@ -26,7 +26,7 @@ ghost use Rattle.buulset_flat.specs.Flat.{flatChecked, flatWritten, flat
 ghost use Rattle.buulset_flat.specs.Flat.{flatVerdict, flatLeastValue, flatFilled, flatLeast, flatChoice};
 ghost use Rattle.buulset_flat.specs.Flat.{flatLine, flatText, flatBestLine};
 
-// The answer of a check, flat.
+// Flattens the answer of a check.
 pub fn flat_checked(answer: Checked) -> Answer
     ensures { λ r. ⌜ r ≡ flatChecked answer ⌝ }
 {
@@ -36,7 +36,7 @@ pub fn flat_checked(answer: Checked) -> Answer
     }
 }
 
-// That of a writer, flat.
+// Flattens a writer's answer.
 pub fn flat_written(answer: Written) -> Answer
     ensures { λ r. ⌜ r ≡ flatWritten answer ⌝ }
 {
@@ -46,7 +46,8 @@ pub fn flat_written(answer: Written) -> Answer
     }
 }
 
-// That of the program that converts, flat. Without room for what is printed the number is 10, and nothing is laid down.
+// Flattens what `convert::output` answers. Without room for what is printed it is refused with 10, and nothing is laid
+// down.
 pub fn flat_printed(answer: Printed) -> Answer
     ensures { λ r. ⌜ r ≡ flatPrinted answer ⌝ }
 {
@@ -60,7 +61,7 @@ pub fn flat_printed(answer: Printed) -> Answer
     }
 }
 
-// That of a search, flat.
+// Flattens a search's answer.
 pub fn flat_answer(answer: methods::Answer) -> Answer
     ensures { λ r. ⌜ r ≡ flatAnswer answer ⌝ }
 {
@@ -71,7 +72,7 @@ pub fn flat_answer(answer: methods::Answer) -> Answer
     }
 }
 
-// That of the best line, flat.
+// Flattens the answer of the best line.
 pub fn flat_best_line(answer: LineAnswer) -> Answer
     ensures { λ r. ⌜ r ≡ flatBestLine answer ⌝ }
 {
@@ -81,7 +82,7 @@ pub fn flat_best_line(answer: LineAnswer) -> Answer
     }
 }
 
-// That of the plain engine, flat.
+// Flattens the plain engine's answer.
 pub fn flat_plain(answer: plain::PlainAnswer) -> Answer
     ensures { λ r. ⌜ r ≡ flatPlain answer ⌝ }
 {
@@ -91,7 +92,7 @@ pub fn flat_plain(answer: plain::PlainAnswer) -> Answer
     }
 }
 
-// That of the check of a certificate, flat.
+// Flattens the verdict on a certificate.
 pub fn flat_verdict(answer: verify::Verdict) -> Answer
     ensures { λ r. ⌜ r ≡ flatVerdict answer ⌝ }
 {
@@ -101,7 +102,7 @@ pub fn flat_verdict(answer: verify::Verdict) -> Answer
     }
 }
 
-// That of a choice, flat, with the number of its flags.
+// Flattens a choice, with the number of its flags.
 pub fn flat_choice(answer: shorter::Choice, count: usize) -> Choice
     ensures { λ r. ⌜ r ≡ flatChoice answer count ⌝ }
 {
@@ -112,7 +113,7 @@ pub fn flat_choice(answer: shorter::Choice, count: usize) -> Choice
     }
 }
 
-// That of a wanted value, flat.
+// Flattens the answer for a wanted value.
 pub fn flat_least_value(answer: leastvalue::LeastValue) -> Answer
     ensures { λ r. ⌜ r ≡ flatLeastValue answer ⌝ }
 {
@@ -122,7 +123,7 @@ pub fn flat_least_value(answer: leastvalue::LeastValue) -> Answer
     }
 }
 
-// That of a filling, flat.
+// Flattens a filling's answer.
 pub fn flat_filled(answer: worstfill::Filled) -> Answer
     ensures { λ r. ⌜ r ≡ flatFilled answer ⌝ }
 {
@@ -132,7 +133,7 @@ pub fn flat_filled(answer: worstfill::Filled) -> Answer
     }
 }
 
-// That of a least count, flat.
+// Flattens the answer of a least count.
 pub fn flat_least(answer: leastcount::Least) -> Answer
     ensures { λ r. ⌜ r ≡ flatLeast answer ⌝ }
 {
@@ -142,7 +143,7 @@ pub fn flat_least(answer: leastcount::Least) -> Answer
     }
 }
 
-// A line, flat.
+// Flattens a line.
 pub fn flat_line(line: file_lines::Line) -> Line
     ensures { λ r. ⌜ r ≡ flatLine line ⌝ }
 {

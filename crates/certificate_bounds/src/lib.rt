@@ -37,8 +37,8 @@ fn read_leaf(table: &[u8], evaluated: &mut [u8], node: usize, depth: u32) -> u32
     leaf_score(table, node, depth)
 }
 
-// Evaluates a leaf that has no mark yet: as long as marks stay, no leaf is evaluated twice. That a search has no other
-// way to a score is looked at by `checks/doors`.
+// Evaluates a leaf that has no mark yet: as long as marks stay, no leaf is evaluated twice. `checks/doors` shows that a
+// search has no other way to a score.
 pub fn evaluate(table: &[u8], evaluated: &mut [u8], node: usize, depth: u32) -> u32
     requires { ⌜ Evaluable (now table) (now evaluated) node depth ⌝ }
     ensures { λ r. ⌜ (r ≡ valuation (now (table .entry)) node) × (r < twoBytes) ⌝ }

@@ -14,7 +14,7 @@ const NO_DIGIT: u8 = 16;
 
 const LETTER_MORE: u8 = 9;
 
-// How many values half a byte, rounded down, may have.
+// `byte / 2` is below this.
 const HALVES: u8 = 128;
 
 // The number of a hexadecimal digit in either letter case, 0 to 15; NO_DIGIT for any other byte. It is arithmetic on

@@ -20,7 +20,7 @@ pub const LINE_FEED: u8 = 10;
 // The bytes of a line with its line feed.
 pub const LINE_SIZE: usize = LINE_DIGITS + 1;
 
-// How many digits are read at once: a line's and some more, to a power of two, so that the compiler reads them in one
+// How many digits are read at once: a line's, padded to a power of two, so that the compiler reads them in one
 // register.
 const ABREAST: usize = 16;
 
@@ -64,8 +64,8 @@ impl Cursor {
     }
 }
 
-// Do twelve digits stand at the position, and then a line feed or the end of the file? If so, stores the six bytes that
-// the digits stand for from an index on.
+// Are there twelve digits at the position, and then a line feed or the end of the file? If so, stores the six bytes
+// that they encode from an index on.
 pub fn decode_line(file: &[u8], at: usize, table: &mut [u8], to: usize) -> bool
     requires { ⌜ to + frameSize ≤ length (now table) ⌝ }
     ensures { λ r. ⌜ Stored (isLineAt (now (file .entry)) at) (bytesAt (now (file .entry)) at)
@@ -85,7 +85,7 @@ pub fn decode_line(file: &[u8], at: usize, table: &mut [u8], to: usize) -> bool
     decode_digits(&file[at..end], table, to)
 }
 
-// Does the file end at the index, or a line feed stand there?
+// Does the file end at the index, or is there a line feed?
 fn is_closed(file: &[u8], end: usize) -> bool
     requires { ⌜ end ≤ length (now file) ⌝ }
     ensures { λ r. ⌜ r ≡ closed (drop end (now (file .entry))) ⌝ }
@@ -115,7 +115,7 @@ fn decode_digits(line: &[u8], table: &mut [u8], to: usize) -> bool
     true
 }
 
-// The number of each digit; and how many are no digits, so that no turn branches.
+// Stores the number of each digit; returns how many bytes are not digits, so that no iteration branches.
 fn read_digits(digits: &[u8], numbers: &mut [u8]) -> u8
     requires { ⌜ (length (now digits) ≡ digitsAtOnce) × (length (now numbers) ≡ digitsAtOnce) ⌝ }
     ensures { λ r. ⌜ Numbered (now (digits .entry)) (now (numbers .exit)) r digitsAtOnce ⌝ }
@@ -143,7 +143,7 @@ fn frame_of(bytes: &[u8; FRAME_SIZE]) -> Frame
     }
 }
 
-// Has a text a lowercase letter? Every byte is looked at, so that no turn branches.
+// Does a text contain a lowercase letter? Every byte is looked at, so that no iteration branches.
 pub fn has_lowercase(text: &[u8]) -> bool
     ensures { λ r. ⌜ r ≡ hasLowercase (now (text .entry)) ⌝ }
 {

@@ -25,7 +25,7 @@ ghost use Rattle.file_reader.specs.engine.Decoded.{linesRejection, Decod
 // The most bytes of a file.
 pub const MAX_FILE: usize = LINE_SIZE * MAX_NODES;
 
-// A file of at most so many lines is small, and so are then its bytes and the work array for its frames.
+// A file of at most this many lines gets a smaller work array; then the most bytes of such a file, and of its table.
 const SHORT_LINES: usize = 64;
 
 pub const SHORT_FILE: usize = LINE_SIZE * SHORT_LINES;

@@ -30,7 +30,7 @@ check3 t = ask (eqb (length t % frameSize) 0) 3 (frames t)
 abbrev pub byte3Right : List ℕ → ℕ → Bool
 byte3Right t i = eqb (byte3 t i) 0 || (ltb 0 i && (ltb 0 (childCount t i) && eqb (byte3 t i) sameMover))
 
--- 4: is byte 3 as it must be?
+-- 4: is byte 3 valid?
 abbrev pub check4 : List ℕ → ℕ → Option Rejection
 check4 t i = ask (byte3Right t i) 4 i
 
@@ -43,7 +43,7 @@ abbrev pub firstChildRight : List ℕ → ℕ → ℕ → Bool
 firstChildRight t i zero = eqb (firstChild t i) 0
 firstChildRight t i (suc n) = eqb (firstChild t i) (next t i) && ltb i (firstChild t i)
 
--- 6: is the first child as it must be?
+-- 6: is the number of the first child valid?
 abbrev pub check6 : List ℕ → ℕ → Option Rejection
 check6 t i = ask (firstChildRight t i (childCount t i)) 6 i
 
@@ -52,7 +52,7 @@ abbrev pub valueRight : List ℕ → ℕ → ℕ → Bool
 valueRight t i zero = ltb least (storedScore t i) && ltb (storedScore t i) greatest
 valueRight t i (suc n) = eqb (valueBytes t i) 0
 
--- 7: is the value as it must be?
+-- 7: is the value valid?
 abbrev pub check7 : List ℕ → ℕ → Option Rejection
 check7 t i = ask (valueRight t i (childCount t i)) 7 i
 

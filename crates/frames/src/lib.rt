@@ -107,7 +107,7 @@ pub fn children(table: &[u8], node: usize) -> &[u8]
     }
 }
 
-// Question 4 of a node: is its byte 3 as it must be?
+// Question 4 of a node: is its byte 3 valid?
 pub fn byte_3_right(table: &[u8], node: usize) -> bool
     requires { ⌜ node < frames (now table) ⌝ }
     ensures { λ r. ⌜ r ≡ byte3Right (now (table .entry)) node ⌝ }
@@ -124,7 +124,7 @@ pub fn byte_3_right(table: &[u8], node: usize) -> bool
     false
 }
 
-// Question 6 of a node: is its first child as it must be?
+// Question 6 of a node: is the number of its first child valid?
 pub fn first_child_right(table: &[u8], node: usize, next: usize) -> bool
     requires { ⌜ (node < frames (now table)) × (next ≡ nextOf (now table) node) ⌝ }
     ensures { λ r. ⌜ r ≡ firstChildRight (now (table .entry)) node (childCount (now (table .entry)) node) ⌝ }
@@ -139,7 +139,7 @@ pub fn first_child_right(table: &[u8], node: usize, next: usize) -> bool
     node < first
 }
 
-// Question 7 of a node: is its value as it must be?
+// Question 7 of a node: is its value valid?
 pub fn value_right(table: &[u8], node: usize) -> bool
     requires { ⌜ node < frames (now table) ⌝ }
     ensures { λ r. ⌜ r ≡ valueRight (now (table .entry)) node (childCount (now (table .entry)) node) ⌝ }

@@ -15,7 +15,7 @@ ghost use Rattle.positions.specs.Buffer.{written, stored};
 ghost use Rattle.positions.specs.engine.Positions.{sideNumber, packed as packedOf, positionEntry};
 ghost use Rattle.positions.specs.engine.Positions.{parentIn, depthIn, sideIn, positionIn};
 
-// How many depths and sides an entry tells apart.
+// The radices of a packed entry: an entry is (parent * DEPTHS + depth) * SIDES + side.
 const DEPTHS: u32 = MAX_NODES as u32;
 
 const SIDES: u32 = 2;

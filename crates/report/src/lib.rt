@@ -1,4 +1,4 @@
-// The program's text: what it prints for a file, laid down piece by piece and given back by value.
+// The program's report: what it prints for a file, written piece by piece and returned by value.
 use frames::Checked;
 use frames::FRAME_SIZE;
 use frames::MAX_NODES;

@@ -52,7 +52,7 @@ pub struct Change {
     pub score: u32,
 }
 
-// How many links an entry tells apart: a link is the number of a node.
+// The radix of a packed entry: its link is the number of a node.
 const LINKS: u32 = MAX_NODES as u32;
 
 // The new states' entries, and the node's, which goes down to the first of them.
@@ -72,8 +72,8 @@ pub fn put(front: &mut [u32], change: Change, merit: u32)
     }
 }
 
-// Renews the greatest merits above a node whose merit fell, up to the first node whose greatest merit stays, or the
-// root. That node is the result.
+// Recomputes the greatest merits of the ancestors of a node whose merit fell; returns the first node whose greatest
+// merit is unchanged, or the root.
 pub fn refresh_ancestors(
     table: &[u8],
     positions: &[u32],

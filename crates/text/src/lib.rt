@@ -1,4 +1,4 @@
-// Text laid down piece by piece: words, numbers in base ten, and the line of a rejection, which is given back by value.
+// Text written piece by piece: words, numbers in base ten, and the line of a rejection, which is returned by value.
 pub use file_lines::LINE_FEED;
 use frames::Rejection;
 ghost use mathlib.Core.Path.{_≡_};
@@ -106,7 +106,7 @@ pub fn put_byte(text: &mut [u8], at: usize, byte: u8) -> usize
     at + 1
 }
 
-// How far a value is from zero.
+// The absolute value.
 fn magnitude(value: i16) -> usize
     ensures { λ r. ⌜ r ≡ natAbs value ⌝ }
 {

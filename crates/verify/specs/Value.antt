@@ -10,7 +10,7 @@ use Rattle.frames.specs.Frame.{frames, childCount}
 use Rattle.frames.specs.Tree.{valuation}
 use Rattle.verify.specs.Flags.{member}
 
--- the score of node i if it is a leaf of side p's tree, else p's worst score, which is better than none
+-- the score of node i if it is a leaf of side p's tree, else p's worst score, which never wins
 abbrev pub leafIn : Side → List ℕ → List ℕ → ℕ → ℕ
 leafIn p t flags i = cond (eqb (childCount t i) 0 && member p flags i) (valuation t i) (worst p)
 
