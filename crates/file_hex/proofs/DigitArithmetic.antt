@@ -1,5 +1,5 @@
 -- What `digit` computes is the number of a digit, for each of the 256 bytes: one test, computed over all of them.
-use Prim.Native.Nat.{ℕ, zero, suc, _+_, _-_, _*_, _/_, _%_, _≤_, _<_}
+use Prim.Native.Nat.{ℕ, zero, suc, _+_, _-_, _*_, _/_, _%_, _≤_, _<_, min}
 use mathlib.Core.Path.{_≡_, refl, subst}
 use mathlib.Core.Bool.{Bool, true, _&&_}
 use lib.Dec.{leb, eqb}
@@ -62,38 +62,47 @@ ranges a z b h =
       ]
     ]
 
--- the offset from a letter's low four bits to its number
-abbrev letterMore : ℕ
-letterMore = 9
-
--- of which kind it is
+-- of which kind it is; a letter in either case
 abbrev figureAt : ℕ → ℕ
 figureAt b = oneWithin 48 57 b
 
 abbrev letterAt : ℕ → ℕ
-letterAt b = oneWithin 65 70 b + oneWithin 97 102 b
+letterAt b = oneWithin 65 70 (b - b / 32 % 2 * 32)
 
--- it is of one kind at most, and the number is the digit's
+-- how much less than 16 is added to its low four bits
+abbrev less : (figure letter : ℕ) → ℕ
+less figure letter = noDigit * figure + 7 * letter
+
+-- that is 16 at most, and the number is the digit's, or from 16 on
 unfoldable right : ℕ → Bool
 right b =
-    let letter = letterAt b in
-    let other = 1 - (figureAt b + letter) in
-    leb (figureAt b + letter) 1 && eqb (b % noDigit + letterMore * letter + (noDigit - b % noDigit) * other) (digitOf b)
+    let l = less (figureAt b) (letterAt b) in
+    leb l noDigit && eqb (min (b % noDigit + (noDigit - l)) noDigit) (digitOf b)
 
 -- for each of the 256 bytes
 all-right : every right 256 ≡ true
 unfolding every right digitOf
 all-right = refl
 
--- what the arithmetic of `digit` needs, and gives
+-- what the arithmetic of `digit_or_more` needs, and gives
 pub record Right (figure letter b : ℕ) : Type 0 where
-  pub atMost : figure + letter ≤ 1
-  pub number :
-      b % noDigit + letterMore * letter + (noDigit - b % noDigit) * (1 - (figure + letter)) ≡ digitOf b
+  pub atMost : less figure letter ≤ noDigit
+  pub number : min (b % noDigit + (noDigit - less figure letter)) noDigit ≡ digitOf b
 
-pub digit-right : (b figure upper lower : ℕ) → b < 256 → figure ≡ oneWithin 48 57 b
-    → upper ≡ oneWithin 65 70 b → lower ≡ oneWithin 97 102 b → Right figure (upper + lower) b
+pub digit-right : (b figure letter : ℕ) → b < 256 → figure ≡ oneWithin 48 57 b
+    → letter ≡ oneWithin 65 70 (b - b / 32 % 2 * 32) → Right figure letter b
 unfolding right
-digit-right b figure upper lower h e f g =
+digit-right b figure letter h e f =
     let p = and-both _ _ (every-at right 256 all-right b h) in
-    rw (e, f, g) (record { atMost = leb-true _ _ (p .0); number = eqb-true _ _ (p .1) })
+    rw (e, f) (record { atMost = leb-true _ _ (p .0); number = eqb-true _ _ (p .1) })
+
+-- a number below 32, cut off at 16
+pub cut-off : (n : ℕ) → n < 2 * noDigit
+    → (n / noDigit * (n % noDigit) ≤ n) × (n - n / noDigit * (n % noDigit) ≡ min n noDigit)
+cut-off n h = go (n / noDigit) refl
+  where
+    go : (q : ℕ) → n / noDigit ≡ q
+        → (q * (n % noDigit) ≤ n) × (n - q * (n % noDigit) ≡ min n noDigit)
+    go zero e = (omega arith, omega arith)
+    go (suc zero) e = (omega arith, omega arith)
+    go (suc (suc q)) e = absurd (omega arith)

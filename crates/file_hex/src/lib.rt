@@ -1,6 +1,6 @@
 // Hexadecimal digits: the number of a digit, and the digit of a number.
 ghost use mathlib.Core.Path.{_≡_};
-ghost use Prim.Native.Nat.{_<_, _≤_};
+ghost use Prim.Native.Nat.{_*_, _<_, _≤_, min};
 ghost use Rattle.file_hex.specs.Digit.{isLowercase, noDigit, digitOf, capitalOf};
 ghost use Rattle.file_hex.specs.engine.Kinds.{oneFrom, oneWithin};
 
@@ -14,22 +14,31 @@ const NO_DIGIT: u8 = 16;
 
 const LETTER_MORE: u8 = 9;
 
+// The bit that a lowercase letter has and its capital has not.
+const CASE: u8 = b'a' - b'A';
+
 // `byte / 2` is below this.
 const HALVES: u8 = 128;
 
 // The number of a hexadecimal digit in either letter case, 0 to 15; NO_DIGIT for any other byte. It is arithmetic on
-// the byte: a figure's number is its low four bits, a letter's is LETTER_MORE more. No sum goes past a byte, so that
-// the compiler reads many digits in one register.
+// the byte.
 pub fn digit(byte: u8) -> u8
     ensures { λ r. ⌜ r ≡ digitOf byte ⌝ }
 {
+    let number = digit_or_more(byte);
+    number - number / NO_DIGIT * (number % NO_DIGIT)
+}
+
+// The same, with any number from NO_DIGIT on for a byte that is no digit. A figure's number is its low four bits, a
+// letter's is LETTER_MORE more, and all other bytes get NO_DIGIT more. No sum goes past a byte and no two numbers of the
+// byte are multiplied, so that the compiler reads many digits in one register.
+pub fn digit_or_more(byte: u8) -> u8
+    ensures { λ r. ⌜ (min r noDigit ≡ digitOf byte) × (r < 2 * noDigit) ⌝ }
+{
     let figure = one_within(b'0', b'9', byte);
-    let upper = one_within(b'A', b'F', byte);
-    let lower = one_within(b'a', b'f', byte);
-    let letter = upper + lower;
-    let other = 1 - (figure + letter);
-    let low = byte % BASE;
-    low + LETTER_MORE * letter + (NO_DIGIT - low) * other
+    let letter = one_within(b'A', b'F', byte - byte / CASE % 2 * CASE);
+    let less = NO_DIGIT * figure + (NO_DIGIT - LETTER_MORE) * letter;
+    byte % BASE + (NO_DIGIT - less)
 }
 
 // 1 if the byte is one of those from the first to the last, else 0.

@@ -1,6 +1,6 @@
 -- Reading digits one after the other: each gets its number, and those that are none are counted; and what that says of
 -- a line whose bytes stand in front of further digits.
-use Prim.Native.Nat.{ℕ, suc, _+_, _-_, _/_, _≤_, _<_}
+use Prim.Native.Nat.{ℕ, suc, _+_, _-_, _*_, _/_, _≤_, _<_, min}
 use mathlib.Core.Path.{_≡_, refl, ap, _∙_}
 use mathlib.Core.Bool.{Bool, true, false}
 use mathlib.Core.List.{List, [], _∷_, _++_}
@@ -10,7 +10,6 @@ use native.Mathlib.Omega.{arith}
 use native.Mathlib.Decide.{decLt}
 use borrow.Author.Tests.{lt-ltb}
 use Rattle.file_hex.specs.Digit.{noDigit, digitOf}
-use Rattle.file_hex.proofs.Digits.{digit-small}
 use Rattle.file_lines.specs.Line.{lineDigits, allDigits}
 use Rattle.file_lines.specs.engine.Numbered.{digitsAtOnce, Numbered}
 use Rattle.file_lines.proofs.Lines.{digit-at}
@@ -26,11 +25,8 @@ numbered-none digits numbers =
     }
 
 module _ (digits numbers : List ℕ) (x k number : ℕ) (d : Numbered digits numbers x k) (inside : k < length numbers)
-    (e : number ≡ digitOf (getD digits k 0))
+    (e : min number noDigit ≡ digitOf (getD digits k 0)) (small : number < 2 * noDigit)
   where
-    small : number ≤ noDigit
-    small = rw e (digit-small (getD digits k 0))
-
     -- one digit more
     pub numbered-next : Numbered digits (set numbers k number) (x + number / noDigit) (k + 1)
     numbered-next =
@@ -38,10 +34,10 @@ module _ (digits numbers : List ℕ) (x k number : ℕ) (d : Numbered digits num
           atMost = omega (arith, d .atMost, small);
           each = λ i h.
               elim (decLt i k) [
-                | yes l ↦ getD-set-other numbers k i number 0 (λ q. omega arith) ∙ d .each i l
+                | yes l ↦ rw (getD-set-other numbers k i number 0 (λ q. omega arith)) (d .each i l)
                 | no l ↦
                     let last : k ≡ i = omega arith in
-                    rw (← last) (getD-set-same numbers k number 0 inside ∙ e)
+                    rw (← last, getD-set-same numbers k number 0 inside) e
               ];
           none = λ z i h.
               elim (decLt i k) [
@@ -87,14 +83,17 @@ module _ (line copied : List ℕ) (twelve : length line ≡ lineDigits)
       line-at : (i : ℕ) → i < lineDigits → getD copied i 0 ≡ getD line i 0
       line-at i h = rw padded (List·getD-append line zeros 0 i (omega arith))
 
-      -- each digit of the line has its number
-      pub line-number : (i : ℕ) → i < lineDigits → getD numbers i 0 ≡ digitOf (getD line i 0)
-      line-number i h = d .each i (omega arith) ∙ ap digitOf (line-at i h)
-
       module _ (none : x ≡ 0) where
-        -- which is below 16, if none was counted as no digit
+        -- where none was counted as no digit, each byte of the line is one
         line-digit : (i : ℕ) → i < lineDigits → digitOf (getD line i 0) < noDigit
         line-digit i h = rw (← line-at i h) (d .none none i (omega arith))
+
+        -- and has its number, below 16
+        pub line-number : (i : ℕ) → i < lineDigits → getD numbers i 0 ≡ digitOf (getD line i 0)
+        line-number i h =
+            let cut : min (getD numbers i 0) noDigit ≡ digitOf (getD line i 0) =
+            d .each i (omega arith) ∙ ap digitOf (line-at i h) in
+            omega (arith, cut, line-digit i h)
 
         pub number-small : (i : ℕ) → i < lineDigits → getD numbers i 0 < noDigit
         number-small i h = rw (line-number i h) (line-digit i h)

@@ -1,6 +1,6 @@
 // One line of a file: its twelve digits, its frame, and the position past it.
 use file_hex::BASE;
-use file_hex::digit;
+use file_hex::digit_or_more;
 use file_hex::is_lowercase;
 use frames::FRAME_SIZE;
 ghost use mathlib.Core.Path.{_≡_};
@@ -115,14 +115,15 @@ fn decode_digits(line: &[u8], table: &mut [u8], to: usize) -> bool
     true
 }
 
-// Stores the number of each digit; returns how many bytes are not digits, so that no iteration branches.
+// Stores the number of each digit, and 16 or more for any other byte; returns how many bytes are not digits, so that no
+// iteration branches.
 fn read_digits(digits: &[u8], numbers: &mut [u8]) -> u8
     requires { ⌜ (length (now digits) ≡ digitsAtOnce) × (length (now numbers) ≡ digitsAtOnce) ⌝ }
     ensures { λ r. ⌜ Numbered (now (digits .entry)) (now (numbers .exit)) r digitsAtOnce ⌝ }
 {
     let mut others = 0;
     for k in 0..ABREAST {
-        let number = digit(digits[k]);
+        let number = digit_or_more(digits[k]);
         numbers[k] = number;
         others += number / BASE;
     }

@@ -53,7 +53,8 @@ number c i h =
     let r = c .before .before .before .before in
     let k = r .before .before .before .before in
     let s = k .before .before .before .before in
-    line-number (s .args .line .now) _ (s .pre .0) (k .copy .ensures .1) _ _ (r .read-digits .ensures) i h
+    line-number (s .args .line .now) _ (s .pre .0) (k .copy .ensures .1) _ _ (r .read-digits .ensures) (omega arith)
+    i h
 
 small : (c : tie.In-loop Inv-loop μ-loop) (i : ℕ) → i < lineDigits
     → getD (c .before .before .before .before .read-digits .last .1 .0) i 0 < noDigit

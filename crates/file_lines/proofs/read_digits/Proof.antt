@@ -3,8 +3,7 @@ use Prim.Native.Nat.{_-_, _≤_}
 use mathlib.Core.Path.{_≡_}
 use native.Mathlib.Omega.{arith}
 use borrow.Author.Needs.{needs}
-use lib.ListN.{length, getD, length-set}
-use Rattle.file_hex.proofs.Digits.{digit-small}
+use lib.ListN.{length, length-set}
 use Rattle.file_lines.specs.engine.Numbered.{digitsAtOnce, Numbered}
 use Rattle.file_lines.proofs.Numbering.{numbered-none, numbered-next}
 use Rattle.file_lines.proofs.read_digits.Statement.{statement}
@@ -20,16 +19,15 @@ abbrev μ-loop : tie.MeasureT-loop
 add-others : tie.Need-add-others Inv-loop μ-loop
 add-others c =
     let l = c .before .before .before .loop in
-    let s = c .before .before .before .before .before .before in
-    let atMost = digit-small (getD (s .args .digits .now) (l .k) 0) in
-    record { fits = omega (arith, l .inv .1, l .inv .2 .atMost, c .digit .ensures, atMost) }
+    record { fits = omega (arith, l .inv .1, l .inv .2 .atMost, c .digit-or-more .ensures .1) }
 
 loop-again : tie.Need-loop-again Inv-loop μ-loop
 loop-again c =
     let l = c .before .before .before in (
       simp length-set (l .loop .inv .0),
       omega arith,
-      numbered-next _ _ _ _ _ (l .loop .inv .2) (omega arith) (c .digit .ensures),
+      numbered-next _ _ _ _ _ (l .loop .inv .2) (omega arith) (c .digit-or-more .ensures .0)
+          (c .digit-or-more .ensures .1),
     )
 
 returns : tie.Need-returns Inv-loop μ-loop
