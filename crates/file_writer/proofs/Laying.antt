@@ -1,16 +1,19 @@
 -- Writing one line: what holds after the digits of k bytes, and that each two digits, laid behind the ones before, keep
 -- it.
 use Prim.Native.Nat.{ℕ, zero, suc, _+_, _*_, _/_, _%_, _≤_, _<_}
-use mathlib.Core.Path.{_≡_, refl, _∙_}
-use mathlib.Core.List.{List, [], _∷_, _++_}
+use mathlib.Core.Path.{_≡_, refl, ap, _∙_}
+use mathlib.Core.List.{List, [], _∷_, _++_, map-id}
 use lib.ListN.{length, getD, set, take, drop, length-append, length-set, List·getD-append}
 use lib.Seq.{sets, sets-eq, take-length, getD-at}
 use native.Mathlib.Omega.{arith}
 use Rattle.frames.specs.Frame.{frameSize}
+use Rattle.frames.specs.Tree.{upFrom}
+use Rattle.frames.proofs.Ranges.{length-up, up-at}
 use Rattle.file_hex.specs.Digit.{capitalOf}
 use Rattle.file_lines.specs.Line.{lineDigits, lineFeed, lineSize}
 use Rattle.file_lines.proofs.Storing.{stored-next}
 use Rattle.file_writer.specs.Encoded.{digitsOf, lineOf}
+use Rattle.file_writer.specs.engine.Pairs.{byteValues, digitPairs}
 
 -- a byte has two digits
 pub digits-length : (bs : List ℕ) → length (digitsOf bs) ≡ 2 * length bs
@@ -32,6 +35,32 @@ digit-low [] k h = absurd (omega arith)
 digit-low (b ∷ bs) zero h = refl
 digit-low (b ∷ bs) (suc k) h =
     let e : 2 * suc k + 1 ≡ suc (suc (2 * k + 1)) = omega arith in rw e (digit-low bs k (omega arith))
+
+-- where the digits of a byte are looked up
+module _ (b : ℕ) (h : b < byteValues) where
+  bytes : List ℕ
+  bytes = upFrom 0 byteValues
+
+  inside : b < length bytes
+  unfolding bytes
+  inside = omega (arith, rw (map-id (upFrom 0 byteValues)) at (length-up (λ x. x) 0 byteValues))
+
+  byte : getD bytes b 0 ≡ b
+  unfolding bytes
+  byte = omega (arith, rw (map-id (upFrom 0 byteValues)) at (up-at (λ x. x) 0 byteValues b h))
+
+  pair-high : getD digitPairs (2 * b) 0 ≡ capitalOf (b / 16)
+  unfolding bytes digitPairs
+  pair-high = digit-high bytes b inside ∙ ap (λ x. capitalOf (x / 16)) byte
+
+  pair-low : getD digitPairs (2 * b + 1) 0 ≡ capitalOf (b % 16)
+  unfolding bytes digitPairs
+  pair-low = digit-low bytes b inside ∙ ap (λ x. capitalOf (x % 16)) byte
+
+  -- from these pairs, for this byte
+  pub looked-up : (pairs : List ℕ) (w : ℕ) → pairs ≡ digitPairs → b ≡ w
+      → (getD pairs (2 * b) 0 ≡ capitalOf (w / 16)) × (getD pairs (2 * b + 1) 0 ≡ capitalOf (w % 16))
+  looked-up pairs w e f = rw (e, ← f) (pair-high, pair-low)
 
 -- the digits of k bytes of a frame have been laid at the front of a file f
 pub record Laying (frame f file : List ℕ) (k : ℕ) : Type 0 where

@@ -1,7 +1,12 @@
 -- `file_writer::write_accepted` meets its contract: the buffer is too short, or the lines are written.
+use mathlib.Core.Path.{refl}
 use native.Mathlib.Omega.{arith}
 use borrow.Author.Needs.{needs}
+use Rattle.frames.specs.Tree.{upFrom}
 use Rattle.frames.proofs.Acceptance.{accepted-stated}
+use Rattle.file_hex.specs.Digit.{capitalOf}
+use Rattle.file_writer.specs.Encoded.{digitsOf}
+use Rattle.file_writer.specs.engine.Pairs.{digitPairs}
 use Rattle.file_writer.proofs.Questions.{buffer-short, file-written}
 use Rattle.file_writer.proofs.write_accepted.Statement.{statement}
 use Rattle.file_writer.proofs.write_accepted.Tie as tie
@@ -14,17 +19,19 @@ returns : tie.Need-returns
 returns c =
     let p = c .before .before .before .pre in buffer-short _ _ (p .0) _ (p .1) (c .if1 .taken)
 
+-- the table in the code holds the digits of each byte
 write-lines-requires : tie.Need-write-lines-requires
+unfolding capitalOf upFrom digitsOf digitPairs
 write-lines-requires c κs =
-    let e = c .before in
+    let e = c .before .before in
     let p = e .before .before .before .pre in
     let s = accepted-stated _ (p .0) in
-    ((omega (arith, p .1, s .most), omega (arith, p .1, s .whole)), omega (arith, e .if1 .left))
+    (refl, ((omega (arith, p .1, s .most), omega (arith, p .1, s .whole)), omega (arith, e .if1 .left)))
 
 returns-2 : tie.Need-returns-2
 returns-2 c =
     let w = c .before .before in
-    let e = w .before .before in
+    let e = w .before .before .before in
     let p = e .before .before .before .pre in
     file-written _ _ (p .0) _ (p .1) _ (omega (arith, e .if1 .left)) (w .write-lines .ensures)
 

@@ -10,27 +10,28 @@ use Rattle.file_writer.proofs.write_lines.Statement.{statement}
 use Rattle.file_writer.proofs.write_lines.Tie as tie
 
 abbrev Inv-loop : tie.InvT-loop
-Inv-loop table file₀ nodes node₀ file node = Writing table file₀ nodes file node
+Inv-loop pairs table file₀ nodes node₀ file node = Writing table file₀ nodes file node
 
 abbrev μ-loop : tie.MeasureT-loop
-μ-loop table file₀ nodes node₀ file node = nodes - node
+μ-loop pairs table file₀ nodes node₀ file node = nodes - node
 
 write-line-requires : tie.Need-write-line-requires Inv-loop μ-loop
 write-line-requires c κs =
-    (simp (length-take, length-drop) (omega arith), simp (length-take, length-drop) (omega arith))
+    let l = c .before .before .before in
+    (l .before .before .before .pre .0, (simp (length-take, length-drop) (omega arith), simp (length-take, length-drop) (omega arith)))
 
 loop-again : tie.Need-loop-again Inv-loop μ-loop
 loop-again c =
     let l = c .before .before .before .before .before .before in
     let a = l .before .before .before in
-    writing-next _ _ _ (a .pre .0 .1) (a .pre .1) _ _ (l .loop .inv) (omega arith) _ _ _ (omega arith)
+    writing-next _ _ _ (a .pre .1 .0 .1) (a .pre .1 .1) _ _ (l .loop .inv) (omega arith) _ _ _ (omega arith)
     (rw (add-sub-cancel-left (frameSize * l .loop .node) frameSize)) (c .before .before .write-line .ensures)
 
 returns : tie.Need-returns Inv-loop μ-loop
 returns c =
     let l = c .before in
     let a = l .before .before .before in
-    writing-all _ _ _ (a .pre .0 .1) (a .pre .1) _ _ (l .loop .inv) (omega arith)
+    writing-all _ _ _ (a .pre .1 .0 .1) (a .pre .1 .1) _ _ (l .loop .inv) (omega arith)
 
 pub write-lines-spec : {M : Type 1} → statement M
 write-lines-spec =
