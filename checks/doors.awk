@@ -172,9 +172,12 @@ function keep_edges(memory, kind, where,    words, k, n) {
 }
 # every load in a term; a reference to a place is none
 function loads(node, looping,    k) {
-    if (head[node] == "addrOf") return
-    if (head[node] == "copy" && is_behind(kid(node, 1))) touch("reads", kid(node, 1), "", looping)
-    for (k = 1; k <= count[node]; k++) loads(kid(node, k), looping)
+    while (head[node] != "addrOf") {
+        if (head[node] == "copy" && is_behind(kid(node, 1))) touch("reads", kid(node, 1), "", looping)
+        if (!count[node]) return
+        for (k = 1; k < count[node]; k++) loads(kid(node, k), looping)
+        node = kid(node, count[node])   # no call for the rest of a list: an array of constants is a long one
+    }
 }
 function calls(node, looping,    list, text, all, lent, k) {
     for (list = kid(node, 2); head[list] == "lcons"; list = rest_of(list)) {

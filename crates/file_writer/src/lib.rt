@@ -19,10 +19,10 @@ ghost use Rattle.file_writer.specs.Encoded.{lineOf, encode};
 ghost use Rattle.file_writer.specs.Write.{lengthGiven, writeOutcome};
 ghost use Rattle.file_writer.specs.engine.Pairs.{byteValues, digitPairs};
 
-// How many values a byte has, and the two digits of each of them, in capital letters and in order.
-const BYTES: usize = 256;
+// The two digits of each of the 256 bytes, in capital letters and in order.
+const PAIRS_SIZE: usize = 512;
 
-const DIGIT_PAIRS: [u8; 2 * BYTES] = *b"\
+const DIGIT_PAIRS: [u8; PAIRS_SIZE] = *b"\
     000102030405060708090A0B0C0D0E0F\
     101112131415161718191A1B1C1D1E1F\
     202122232425262728292A2B2C2D2E2F\
@@ -84,7 +84,7 @@ pub fn write_accepted(table: &[u8], file: &mut [u8], nodes: usize) -> Written
 
 // The lines of the first nodes of a table, each laid behind the lines already written. The digits of each byte are
 // handed over, so that they are at hand before the first line.
-fn write_lines(pairs: &[u8; 2 * BYTES], table: &[u8], file: &mut [u8], nodes: usize)
+fn write_lines(pairs: &[u8; PAIRS_SIZE], table: &[u8], file: &mut [u8], nodes: usize)
     requires { ⌜ now pairs ≡ digitPairs ⌝ }
     requires { ⌜ (nodes ≤ maxNodes) × (frameSize * nodes ≤ length (now table)) ⌝ }
     requires { ⌜ lineSize * nodes ≤ length (now file) ⌝ }
@@ -101,7 +101,7 @@ fn write_lines(pairs: &[u8; 2 * BYTES], table: &[u8], file: &mut [u8], nodes: us
 
 // The line of a frame, at the front of what is left of the file. Both digits of a byte are read before one is written,
 // so that the compiler copies them at once.
-fn write_line(pairs: &[u8; 2 * BYTES], file: &mut [u8], frame: &[u8])
+fn write_line(pairs: &[u8; PAIRS_SIZE], file: &mut [u8], frame: &[u8])
     requires { ⌜ now pairs ≡ digitPairs ⌝ }
     requires { ⌜ (lineSize ≤ length (now file)) × (length (now frame) ≡ frameSize) ⌝ }
     ensures { λ _. ⌜ now (file .exit) ≡ lineOf (now (frame .entry)) ++ drop lineSize (now (file .entry)) ⌝ }
