@@ -22,6 +22,9 @@ ghost use Rattle.graft.specs.Outcome.{graftOutcome};
 ghost use Rattle.graft.specs.engine.Joined.{Joined};
 ghost use Rattle.graft.specs.engine.Queue.{withFirst, Queued};
 
+// How many values a byte has.
+const BYTE_VALUES: usize = 256;
+
 // Puts the second tree in place of the first's named leaf: the number of nodes of the result, whose table then
 // stands at the buffer's front, or the first rejection, and then the buffer is as it was.
 pub fn graft(first: &[u8], node: usize, second: &[u8], result: &mut [u8]) -> Checked
@@ -158,6 +161,6 @@ fn put_first_child(result: &mut [u8], node: usize, number: usize)
     ensures { λ _. ⌜ now (result .exit) ≡ withFirst node number (now (result .entry)) ⌝ }
 {
     let at = FRAME_SIZE * node;
-    result[at] = (number / 256) as u8;
-    result[at + 1] = (number % 256) as u8;
+    result[at] = (number / BYTE_VALUES) as u8;
+    result[at + 1] = (number % BYTE_VALUES) as u8;
 }

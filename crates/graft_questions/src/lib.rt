@@ -25,9 +25,9 @@ ghost use Rattle.frames.specs.Rejection.{answer};
 ghost use Rattle.graft_questions.specs.Questions.{graftSize, deepest, leafRejection, graftRejection};
 
 // The numbers of the questions about a graft, by what a "no" means (SPEC 4.2).
-pub const NO_MAX_LEAF: u8 = 17;
+const NO_MAX_LEAF: u8 = 17;
 
-pub const TOO_LARGE: u8 = 18;
+const TOO_LARGE: u8 = 18;
 
 // All questions, for a buffer of this length: the number of nodes of the result, or the first rejection.
 pub fn ask(first: &[u8], node: usize, second: &[u8], room: usize) -> Checked
