@@ -15,13 +15,12 @@ from array import array
 from collections import Counter
 
 import fuzz
-import fuzz_calls
 import library
 import oracle as o
 import selfcheck
 
 FILLED, UNLISTED, GUARD, TEXT_SIZE = 170, 43690, 64, 256
-ONLY_IN_C = ("sss_list",)
+ONLY_IN_C, ONLY_OURS = ("sss_list",), ("read_line", "children")
 
 
 class Answer(ctypes.Structure):
@@ -38,13 +37,31 @@ class Text(ctypes.Structure):
     _fields_ = [("bytes", ctypes.c_uint8 * TEXT_SIZE), ("length", ctypes.c_size_t)]
 
 
-def libraries():
-    """The calls of each side as a shared library, with the prefix of their names."""
-    ours, c = (os.path.join(library.WORK, name) for name in ("libbuulset.so", "libbaseline.so"))
-    library.run(["gcc", "-shared", "-o", ours, "-Wl,--whole-archive", library.build(), "-Wl,--no-whole-archive"])
-    baseline = os.path.join(library.CHECKS, "baseline.c")
-    library.run(["gcc", "-O2", "-fPIC", "-shared", "-DDEPTH=%d" % o.MAX_DEPTH, "-o", c, baseline])
-    return (ctypes.CDLL(ours), "buulset_"), (ctypes.CDLL(c), "c_")
+class FileLine(ctypes.Structure):
+    _fields_ = [("bytes", ctypes.c_uint8 * 6), ("read", ctypes.c_uint8), ("at", ctypes.c_size_t)]
+
+
+class ChildrenOf(ctypes.Structure):
+    _fields_ = [("first", ctypes.c_size_t), ("count", ctypes.c_size_t)]
+
+
+def result(name):
+    """The type of what a call answers."""
+    return {"report": Text, "shorter": Choice, "read_line": FileLine, "children": ChildrenOf}.get(name, Answer)
+
+
+def ours():
+    """The library for other languages as a shared one, with the prefix of its names."""
+    shared, archive = os.path.join(library.WORK, "libbuulset.so"), library.build()
+    library.run(["gcc", "-shared", "-o", shared, "-Wl,--whole-archive", archive, "-Wl,--no-whole-archive"])
+    return ctypes.CDLL(shared), "buulset_"
+
+
+def baseline():
+    """The calls of baseline.c, likewise."""
+    shared, code = os.path.join(library.WORK, "libbaseline.so"), os.path.join(library.CHECKS, "baseline.c")
+    library.run(["gcc", "-O2", "-fPIC", "-shared", "-DDEPTH=%d" % o.MAX_DEPTH, "-o", shared, code])
+    return ctypes.CDLL(shared), "c_"
 
 
 def lend(data):
@@ -60,16 +77,15 @@ def call(side, name, *buffers):
     """The answer, and what the buffers hold afterwards; the guards must be as they were."""
     lib, prefix = side
     function = getattr(lib, prefix + name)
-    function.restype = {"report": Text, "shorter": Choice}.get(name, Answer)
+    function.restype = result(name)
     lent = [lend(data) for data in buffers]
     got = function(*itertools.chain.from_iterable(words for _, words in lent))
     for room, _ in lent:
         if set(room[:GUARD] + room[-GUARD:]) != {FILLED}:
             return "%s wrote outside its memory" % name
     left = [bytes(room[GUARD:-GUARD]) for room, words in lent if len(words) > 1]
-    if name == "report":
-        return (bytes(got.bytes), got.length), left
-    return tuple(getattr(got, field) for field, _ in got._fields_), left
+    fields = (getattr(got, field) for field, _ in got._fields_)
+    return tuple(bytes(value) if isinstance(value, ctypes.Array) else value for value in fields), left
 
 
 def flat(answer, kind=Answer, **fields):
@@ -80,6 +96,42 @@ def flat(answer, kind=Answer, **fields):
 
 
 # ---------------------------------------------------------------- what is asked, and what must come
+
+def damaged_flags(rng, table):
+    """The certificate of a search, as it is or with a few flags changed, or flags at random."""
+    n = len(table) // 6
+    marks, flags = bytearray(n), bytearray(n)
+    o.search(rng.choice((o.ab, o.mtd)), table, marks, flags)
+    kind = rng.randrange(6)
+    if kind == 0:
+        return flags
+    if kind == 1:
+        return bytearray(rng.choice((0, 1, 2, 3)) for _ in range(n))
+    if kind == 2:
+        return flags[:rng.randrange(n + 1)]
+    for _ in range(rng.choice((1, 1, 2, 3))):
+        flags[rng.randrange(n)] = rng.choice((0, 1, 2, 3, 3, 4, 255))
+    return flags
+
+
+def graft_of(rng, first, second):
+    """A node to graft at, mostly a leaf where Max would move; a buffer's length; and the lengths of both tables, mostly
+    whole."""
+    tree, most = o.Tree(first), len(first) + len(second) - 6
+    fit = [k for k in tree.leaves() if tree.is_max[k]]
+    node = rng.choice(fit) if fit and rng.random() < 0.8 else rng.choice((rng.randrange(tree.n), tree.n, 9999999))
+    size = lambda t: rng.choice((len(t),) * 12 + (len(t) - 1, len(t) + 6, rng.randrange(len(t) + 1)))
+    return node, rng.choice((most, most, most + 9, most - 1, 0)), (size(first), size(second))
+
+
+def wanted_of(rng, table):
+    """A node, mostly a leaf, and a wanted value: near the root's, near a border or a limit, or any."""
+    tree = o.Tree(table)
+    node = rng.choice(tree.leaves()) if rng.random() < 0.9 else rng.choice((rng.randrange(tree.n), tree.n, 9999999))
+    about = rng.choice((tree.minimax()[0],) * 3 + (0, o.WIN, -o.WIN, o.MAX_VALUE, -o.MAX_VALUE,
+                                                   rng.randint(-33000, 33000)))
+    return node, about + rng.choice((0, 0, rng.randint(-2, 2), rng.randint(-20, 20)))
+
 
 def filled(size):
     return bytearray((FILLED,) * size)
@@ -180,6 +232,14 @@ def reports(file, room):
     yield "report", (file,), (text.ljust(TEXT_SIZE, b"\0"), len(text)), (file,)
 
 
+def served(file, at, table, node):
+    """One line of a file, and the children of a node; these put no questions."""
+    got, moved = o.read_line(file, at)
+    yield "read_line", (file, at), (bytes(got or 6), int(got is not None), moved), (file,)
+    start, end = o.children(table, node)
+    yield "children", (table, node), (start // 6 if start < end else 0, (end - start) // 6), (table,)
+
+
 def grafted(first, node, second, room):
     """A graft; and its result through the writer, the reader and the searches."""
     lent = filled(room)
@@ -205,7 +265,7 @@ def random_graft(rng, table):
     kind = rng.randrange(20)
     second = table if kind == 0 else fuzz.large_table(rng) if kind == 1 else fuzz.good_table(rng,
                                                                                              rng.choice((2, 7, 20, 60)))
-    node, room = (0, 60) if o.table_no(table) else fuzz_calls.graft_of(rng, table, second)[:2]
+    node, room = (0, 60) if o.table_no(table) else graft_of(rng, table, second)[:2]
     if kind == 2:
         rng.choice(fuzz.TABLE_DAMAGE)(rng, second)
     yield from grafted(table, node, second, room)
@@ -223,7 +283,7 @@ def least_value(table, node, wanted):
 
 
 def random_least_value(rng, table):
-    yield from least_value(table, *((0, 7) if o.table_no(table) else fuzz_calls.wanted_of(rng, table)))
+    yield from least_value(table, *((0, 7) if o.table_no(table) else wanted_of(rng, table)))
 
 
 # Max moves twice, and at the leaves there are a value just below a win and a win
@@ -273,8 +333,8 @@ def random_calls(rng):
     elif kind == 2 and rng.random() < 0.1:
         table = table + bytes(rng.choice((1, 6, o.MAX_TABLE - len(table), o.MAX_TABLE - len(table) + 1)))
     else:
-        yield from verified(table, fuzz_calls.damaged_flags(rng, table))
-        yield from shorter(table, fuzz_calls.damaged_flags(rng, table), fuzz_calls.damaged_flags(rng, table))
+        yield from verified(table, damaged_flags(rng, table))
+        yield from shorter(table, damaged_flags(rng, table), damaged_flags(rng, table))
     yield from checked(table)
     yield from searches(table, size(), size(), size())
     allowance = rng.choice((0, 1, 2, rng.randrange(n + 2), rng.randrange(n + 2), 2 ** 64 - 1))
@@ -291,6 +351,8 @@ def random_calls(rng):
     file = fuzz.damaged(rng, 60)[1] if kind < 3 else fuzz.as_file(rng, table)
     room = rng.choice((6 * n, 6 * n, 6 * n + 7, 6 * n - 1, 0, o.MAX_TABLE))
     yield from reports(file, room)
+    place = rng.choice((13 * rng.randrange(n + 1), rng.randrange(13 * n + 3)))
+    yield from served(file, place, table, rng.choice((rng.randrange(n + 1), n, n + 1)))
     yield from converted(file, rng.choice((13 * n, 13 * n + 7, max(13 * n - 1, 0), 0, o.MAX_FILE)))
     read = bytearray(o.MAX_TABLE)
     nodes = o.read_file(file, read)
@@ -303,13 +365,13 @@ def main():
     parser.add_argument("--count", type=int, default=3000)
     parser.add_argument("--seed", type=int, default=1)
     args = parser.parse_args()
-    sides, rng, asked, bad = libraries(), random.Random(args.seed), Counter(), 0
+    sides, rng, asked, bad = (ours(), baseline()), random.Random(args.seed), Counter(), 0
     todo = itertools.chain(least_counts(), small_trees(),
                            itertools.chain.from_iterable(random_calls(rng) for _ in range(args.count)))
     for name, lent, answer, left in todo:
         asked[name] += 1
         want = answer, [bytes(data) for data in left]
-        for side in sides[1:] if name in ONLY_IN_C else sides:
+        for side in sides[1:] if name in ONLY_IN_C else sides[:1] if name in ONLY_OURS else sides:
             got = call(side, name, *lent)
             if got != want:
                 bad += 1

@@ -1,10 +1,11 @@
 #!/usr/bin/env python3
-"""Writes the input of the program `cases` and the output that it must give: crates/cases/stdin and crates/cases/stdout.
+"""Writes the stored cases and what they must give: those of the program `cases` to crates/cases/stdin and
+crates/cases/stdout, and those that run_cases.py runs through the library to checks/cases/stdin and checks/cases/stdout.
 
 Expected results come from 01, from table 2 in 002 (papers.py), or from oracle.py, never from the Rattle code. What a
 paper gives is compared with the oracle. README.md has the form of the input.
 
-    make_cases.py [DIRECTORY]   (default: crates/cases)
+    make_cases.py [DIRECTORY]   (default: the repository's root)
 """
 import os
 import sys
@@ -13,39 +14,40 @@ from array import array
 import oracle as o
 import papers
 
-HERE = os.path.dirname(os.path.abspath(__file__))
-# the bytes of the program's longest table, the byte that its buffers are filled with, and the number that its lists are
+ROOT = os.path.dirname(os.path.dirname(os.path.abspath(__file__)))
+# the bytes of the longest table, the byte that buffers are filled with, and the number that lists are
 TABLE_SIZE, FILLED, UNLISTED = 6 * 4097, 170, 43690
+# the program's list of states, its buffers beside that, and its list for a best line
+STATES, STATES_ROOM, LINE_ENTRIES = 8, 12, 32
 
-made, asked = b"", b""      # the expected output for the trees that the program makes, and for the input
-stdin = b""
+# the calls of the program, with how many numbers each has; the library runs the others
+PROGRAM = {("report", 0), ("pair", None), ("states", 2), ("best", 0), ("graft", 2), ("least_value", 4), ("regular", 2)}
+stored = {"crates/cases": [b"", b""], "checks/cases": [b"", b""]}      # by folder: the input, and what it must give
 titles = set()
 
 
 def add(title, file, call, want):
-    """A case of the input: the file, the line of its call (empty for the report), and the lines that it prints."""
-    global stdin, asked
+    """A case: the file, the line of its call (empty for the report), and the lines that it prints."""
     assert not set(b"#@") & set(file) and "\n" not in title and title not in titles, title
     titles.add(title)
+    name, *given = call.split() or ["report"]
+    in_program = PROGRAM & {(name, len(given)), (name, None)}
+    case = stored["crates/cases" if in_program else "checks/cases"]
     head = b"# " + title.encode() + b"\n"
-    stdin += head + file + (b"@" + call.encode() + b"\n" if call else b"")
-    asked += head + want.encode()
+    case[0] += head + file + (b"@" + call.encode() + b"\n" if call else b"")
+    case[1] += head + want.encode()
 
 
-def file_case(title, file, refused=None, rows=None, made_by_program=False):
-    """What the program prints for a file, which is meant to be refused = (number, place), or to be accepted, with
-    rows = [(method, value, move, leaves)] where these are given."""
-    global made
+def file_case(title, file, refused=None, rows=None, call=""):
+    """The report of a file, which is meant to be refused = (number, place), or to be accepted, with rows = [(method,
+    value, move, leaves)] where these are given; a file that a call makes is not in the input."""
     got = o.report(file).decode()
     if refused:
         assert got == "refused %d %d\n" % refused, (title, got)
     else:
         assert got.startswith("method value move leaves\n"), (title, got)
         assert not rows or got.split("\n", 1)[1] == "".join("%s %d %d %d\n" % r for r in rows), (title, got)
-    if made_by_program:
-        made += b"# " + title.encode() + b"\n" + got.encode()
-    else:
-        add(title, file, "", got)
+    add(title, b"" if call else file, call, got)
 
 
 def tree_file(nest, last=True):
@@ -80,33 +82,42 @@ def tuple_chain(plies, nest):
     return [nest]
 
 
-def made_trees():
-    """01, "Also run": what the limits let pass and what they stop."""
+def made_by_program():
+    """01, "Also run": as many frames as pass, and as many bytes as one frame more, which the program makes itself."""
+    largest = o.file_of(o.regular(15, 273, lambda k: k))
+    for title, file, first in (("4096 frames", largest, "method"),
+                               ("as many bytes as 4097 frames", b"0" * 13 * 4097, "refused 2 0\n")):
+        got = o.report(file).decode()
+        assert got.startswith(first), (title, got)
+        titles.add(title)
+        stored["crates/cases"][1] += b"# " + title.encode() + b"\n" + got.encode()
+
+
+def limits():
+    """01, "Also run": what the limits let pass and what they stop; the library makes the large trees itself."""
     depth = o.MAX_DEPTH
     for title, width, inner, refused in (("40 children", 40, 1, None), ("41 children", 41, 1, (5, 0)),
                                          ("depth %d" % depth, 1, depth, None),
                                          ("depth %d" % (depth + 1), 1, depth + 1, (9, depth + 1)),
-                                         ("4096 frames", 15, 273, None),
-                                         ("4097 frames", 16, 256, (2, 0))):
-        file_case(title, o.file_of(o.regular(width, inner, lambda k: k)), refused=refused, made_by_program=True)
+                                         ("regular: 4096 frames", 15, 273, None),
+                                         ("regular: 4097 frames", 16, 256, (2, 0))):
+        call = "made %d %d" % (width, inner) if title.startswith("regular") else ""
+        file_case(title, o.file_of(o.regular(width, inner, lambda k: k)), refused=refused, call=call)
 
 
 def made_grafts():
     """02, N9: 4,096 nodes pass, one more is stopped; at the first leaf of a tree of 2,049 nodes."""
-    global made
     first = o.regular(16, 128, lambda k: k)
     for title, width, inner, want in (("4096", 23, 89, "4096"), ("4097", 16, 128, "refused 18 0")):
         got = answered(o.graft(first, 128, o.regular(width, inner, lambda k: k), bytearray(o.MAX_TABLE)))
         assert got == want, (title, got)
-        made += b"# a graft of %s nodes\ngraft %s\n" % (title.encode(), got.encode())
+        add("a graft of %s nodes" % title, b"", "made_graft %d %d" % (width, inner), "graft %s\n" % got)
 
 
 def least_counts():
     """02, N12: the whole table, a line for each width."""
-    global made
-    made += b"# the least counts\n"
-    for width in range(1, o.MAX_CHILDREN + 1):
-        made += b"least%s\n" % numbers(o.least_leaves(width, d) for d in range(o.MAX_DEPTH + 1)).encode()
+    row = lambda width: "least%s\n" % numbers(o.least_leaves(width, d) for d in range(o.MAX_DEPTH + 1))
+    add("the least counts", b"", "least_counts", "".join(map(row, range(1, o.MAX_CHILDREN + 1))))
 
 
 def files_of_01():
@@ -557,8 +568,7 @@ def printed(file, room):
 
 def long_output():
     """02, N7: the converter is lent a file of one byte too many."""
-    global made
-    made += b"# output: one byte too many\n" + printed(b"0" * (o.MAX_FILE + 1), 16).encode()
+    add("output: one byte too many", b"", "long_output 16", printed(b"0" * (o.MAX_FILE + 1), 16))
 
 
 def output_cases():
@@ -644,6 +654,81 @@ def graft_cases():
         got = grafted(longer(ROW, first_size), node, longer(pair, second_size), 0)
         assert got.startswith("graft %s\n" % want), (title, got)
         add("graft: " + title, ROW + pair, "graft 7 %d 0 %d %d" % (node, first_size, second_size), got)
+
+
+def grafts_of_program():
+    """02, N9, with room for any result: an answer of each kind."""
+    pair, chained = tree_file([5, 6]), tree_file(chain(18, 1))
+    for title, first, node, second, want in (
+            ("a result", ROW, 4, pair, "9"), ("depth 18", chained, 18, LEAF, "19"),
+            ("no node of this number", ROW, 9999999, pair, "refused 17 9999999"),
+            ("an inner node", ROW, 2, pair, "refused 17 2"),
+            ("a leaf where Min would move", tree_file([9]), 1, pair, "refused 17 1"),
+            ("depth 19", chained, 18, tree_file([9]), "refused 18 0"),
+            ("17 before 18", tree_file([9]), 1, chained, "refused 17 1"),
+            ("the first tree before the second", b"", 9, b"", "refused 1 0")):
+        got = answered(o.graft(table_of_file(first) if first else b"", node, table_of_file(second) if second else b"",
+                               bytearray(o.MAX_TABLE)))
+        assert got == want, (title, got)
+        add("two trees: " + title, first + second, "graft %d %d" % (len(first), node), "graft %s\n" % got)
+
+
+def states(table, allowance):
+    """SSS* over a lent list of states: the list before, the answer, the list then, and the other buffers."""
+    entries = [(k, o.SOLVED, k) for k in range(1, STATES + 1)]
+    text = lambda word: word + "".join(" %d %s %d" % (k, status.lower(), merit) for k, status, merit in entries) + "\n"
+    before, memory = text("before"), lend(STATES_ROOM, STATES_ROOM, STATES_ROOM)
+    r = o.sss_search(table, entries, *memory, allowance)
+    if isinstance(r, o.Refusal):
+        assert text("before") == before
+        found = " " + answered(r)
+    else:
+        spent = isinstance(r, o.Spent)
+        result = (r.merit,) if spent else (r.value, r.move)
+        found = " spent" * spent + numbers((*result, r.leaves, r.extra))
+    lent = "evaluated%s\ncertificate%s\norder%s\n" % tuple(map(numbers, memory))
+    return before + "sss%s\n" % found + text("after") + lent
+
+
+def states_cases():
+    """01, "The state list is lent as a slice of entries": longer than the nodes, exactly as long, one short."""
+    eight, nine = tree_file([[1, 2], [3, 4], 5]), tree_file([[1, 2], [3, 4], 5, 6])
+    for title, file, allowance, size, want in (
+            ("one entry more than nodes", ROW, 4096, 42, "3 2 3 9"),
+            ("as many entries as nodes", eight, 4096, 48, "5 3 3 7"),
+            ("one entry too few", nine, 4096, 54, "refused 10 0"),
+            ("a lone leaf", LEAF, 4096, 6, "5 0 1 1"), ("a second capture", MAX_TWICE, 4096, 24, "6 1 2 6"),
+            ("spent at once", ROW, 0, 42, "spent 32001 0 2"), ("spent before the last leaf", ROW, 2, 42, "spent 3 2 6"),
+            ("spent, as many entries as nodes", eight, 2, 48, "spent 32001 2 5"),
+            ("just enough", ROW, 3, 42, "3 2 3 9"),
+            ("no table", ROW, 4096, 0, "refused 1 0"), ("a byte left over", ROW, 4096, 43, "refused 3 7"),
+            ("a leaf too many", ROW, 4096, 48, "refused 8 8")):
+        got = states(longer(file, size), allowance)
+        assert not want or "\nsss %s\n" % want in got, (title, got)
+        add("states: " + title, file, "states %d %d" % (allowance, size), got)
+
+
+def best(table):
+    """The best line, in a filled list, and what that holds then."""
+    line = array("H", (UNLISTED,) * LINE_ENTRIES)
+    r = o.best_line(table, line)
+    found = " " + answered(r) if isinstance(r, o.Refusal) else numbers((r.value, r.move, r.length))
+    return "best%s\nline%s\n" % (found, numbers(line))
+
+
+def best_cases():
+    """The line of play that stays in both trees of the certificate."""
+    with open(os.path.join(ROOT, "samples", "ending.tree"), "rb") as f:
+        ending = f.read()
+    for title, file, line, want in (
+            ("the sample's ending", ending, "0 2 9", None), ("the first row", ROW, "0 2 5", "3 2 3"),
+            ("a lone leaf", LEAF, "0", "5 0 1"),
+            ("as many entries as nodes", tree_file([[1] * 14, [2] * 15]), "0 2 17", None),
+            ("one entry too few", tree_file([[1] * 15, [2] * 15]), "", "refused 10 0"),
+            ("no table", b"", "", "refused 1 0")):
+        got = best(table_of_file(file) if file else b"")
+        assert "\nline %s" % line in got and (not want or got.startswith("best %s\n" % want)), (title, got)
+        add("best line: " + title, file, "best", got)
 
 
 def least_value(table, node, wanted):
@@ -773,19 +858,21 @@ def service_cases():
 
 
 def main():
-    directory = sys.argv[1] if len(sys.argv) > 1 else os.path.join(os.path.dirname(HERE), "crates", "cases")
-    for part in (made_trees, made_grafts, least_counts, long_output, files_of_01, rows_of_002, rejected_files,
-                 accepted_files, wins_and_losses,
-                 second_captures,
+    root = sys.argv[1] if len(sys.argv) > 1 else ROOT
+    for part in (made_by_program, limits, made_grafts, least_counts, long_output, files_of_01, rows_of_002,
+                 rejected_files, accepted_files, wins_and_losses, second_captures, states_cases, best_cases,
                  flags_cases, buffer_cases, order_cases, allowance_cases, start_cases, table_cases, reader_cases,
-                 writer_cases, output_cases, graft_cases, least_value_cases, fill_cases,
+                 writer_cases, output_cases, graft_cases, grafts_of_program, least_value_cases, fill_cases,
                  regular_cases, choice_cases, service_cases):
         part()
-    assert len(stdin) < 65536
-    for name, data in (("stdin", stdin), ("stdout", made + asked)):
-        with open(os.path.join(directory, name), "wb") as f:
-            f.write(data)
-    print("%d cases in the input, %d bytes; %d bytes of output" % (len(titles), len(stdin), len(made + asked)))
+    assert len(stored["crates/cases"][0]) < 65536
+    for folder, files in stored.items():
+        os.makedirs(os.path.join(root, folder), exist_ok=True)
+        for name, data in zip(("stdin", "stdout"), files):
+            with open(os.path.join(root, folder, name), "wb") as f:
+                f.write(data)
+        print("%s: %d cases, %d bytes of input, %d bytes that it must give"
+              % (folder, files[1].count(b"# "), *map(len, files)))
 
 
 if __name__ == "__main__":

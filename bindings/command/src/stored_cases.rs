@@ -1,47 +1,38 @@
-//! The stored cases of 01 and 02, made through the linked library. They are those of the program `cases`, and what this
-//! module prints for them is what that program must print: `checks/README.md` has the form of both.
+//! The stored cases of 01 and 02, made through the linked library: those of the program `cases`, but for its list of
+//! states, which is lent as structs, and those of `checks/cases`. What this module prints for them is what is stored:
+//! `checks/README.md` has the form of both.
 use buulset::{Found, Printed, Refusal, Spent, Within};
 use buulset::{FRAME_SIZE, LINE_SIZE, MAX_CHILDREN, MAX_DEPTH, MAX_FILE, MAX_NODES};
 use std::fmt::Display;
 
-const INPUT: &[u8] = include_bytes!("../../../crates/cases/stdin");
+const INPUTS: [&[u8]; 2] =
+    [include_bytes!("../../../crates/cases/stdin"), include_bytes!("../../../checks/cases/stdin")];
+/// The call of the program that is no call of the library.
+pub const STATES: &str = "states";
 
 /// A table with one frame more than a tree may have.
 const TABLE_SIZE: usize = FRAME_SIZE * (MAX_NODES + 1);
 /// What lent buffers are filled with, and lent lists: no call writes either.
 const FILLED: u8 = 170;
 const UNLISTED: u16 = 43690;
+/// How many entries the list for a best line has.
+const LINE_ENTRIES: usize = 32;
 
-/// Each case by its title, with what it gives: first those that are made here, then those of the input.
+/// Each case by its title, with what it gives: first the two that the program makes, then those of the inputs.
 pub fn results() -> Vec<(String, String)> {
-    let mut results = made_trees();
-    results.extend(made_grafts());
-    results.push(("the least counts".into(), (1..=MAX_CHILDREN).map(least_counts).collect()));
-    results.push(("output: one byte too many".into(), output(&[b'0'; MAX_FILE + 1], 16)));
-    results.extend(INPUT.split(|&byte| byte == b'#').skip(1).map(stored));
+    let too_large = [b'0'; MAX_FILE + LINE_SIZE];
+    let mut results = vec![
+        ("4096 frames".into(), report(&regular_file(15, 273))),
+        ("as many bytes as 4097 frames".into(), report(&too_large)),
+    ];
+    results.extend(INPUTS.iter().flat_map(|input| input.split(|&byte| byte == b'#').skip(1)).filter_map(stored));
     results
 }
 
-fn made_trees() -> Vec<(String, String)> {
-    let trees = [
-        ("40 children", 40, 1),
-        ("41 children", 41, 1),
-        ("depth 18", 1, 18),
-        ("depth 19", 1, 19),
-        ("4096 frames", 15, 273),
-        ("4097 frames", 16, 256),
-    ];
-    trees.iter().map(|&(title, width, inner)| (title.into(), report(&regular_file(width, inner)))).collect()
-}
-
-fn made_grafts() -> Vec<(String, String)> {
-    let first = table(&regular_file(16, 128));
-    let grafts = [("a graft of 4096 nodes", 23, 89), ("a graft of 4097 nodes", 16, 128)];
-    let graft = |width, inner| {
-        let second = table(&regular_file(width, inner));
-        line("graft", buulset::graft(&first, 128, &second, &mut [FILLED; TABLE_SIZE]))
-    };
-    grafts.iter().map(|&(title, width, inner)| (title.into(), graft(width, inner))).collect()
+/// A tree that is made so takes the place of the first leaf of another.
+fn made_graft(width: usize, inner: usize) -> String {
+    let (first, second) = (table(&regular_file(16, 128)), table(&regular_file(width, inner)));
+    line("graft", buulset::graft(&first, 128, &second, &mut [FILLED; TABLE_SIZE]))
 }
 
 /// The file of a tree whose first nodes have `width` children each; a leaf's value is its number.
@@ -53,8 +44,9 @@ fn regular_file(width: usize, inner: usize) -> Vec<u8> {
     (0..=width * inner).map(line).collect::<String>().into_bytes()
 }
 
-/// A case of the input: its title, the bytes of a file, and a line with a call, without which it is the report.
-fn stored(case: &[u8]) -> (String, String) {
+/// A case of the input: its title, the bytes of a file, and a line with a call, without which it is the report; nothing
+/// where the library has no such call.
+fn stored(case: &[u8]) -> Option<(String, String)> {
     let title = case.iter().position(|&byte| byte == b'\n').unwrap_or(case.len());
     let rest = &case[(title + 1).min(case.len())..];
     let call = rest.iter().position(|&byte| byte == b'@').unwrap_or(rest.len());
@@ -62,7 +54,8 @@ fn stored(case: &[u8]) -> (String, String) {
     let mut words = words.trim_start_matches('@').split_whitespace();
     let name = words.next().unwrap_or("report");
     let numbers: Vec<usize> = words.map_while(|word| word.parse().ok()).collect();
-    (String::from_utf8_lossy(&case[..title]).trim().into(), called(name, &rest[..call], &numbers))
+    let title = String::from_utf8_lossy(&case[..title]).trim().into();
+    (name != STATES).then(|| (title, called(name, &rest[..call], &numbers)))
 }
 
 fn called(name: &str, file: &[u8], numbers: &[usize]) -> String {
@@ -80,6 +73,10 @@ fn called(name: &str, file: &[u8], numbers: &[usize]) -> String {
         ("table", &[size]) => reading(file, size),
         ("write", &[room, size]) => writing(&longer(file, size), room),
         ("output", &[room]) => output(file, room),
+        ("graft", &[end, node]) => {
+            let (one, two) = file.split_at(end.min(file.len()));
+            line("graft", buulset::graft(&table(one), node, &table(two), &mut [FILLED; TABLE_SIZE]))
+        }
         ("graft", &[lines, node, room, first, second]) => {
             let (one, two) = file.split_at((LINE_SIZE * lines).min(file.len()));
             graft(&longer(one, first), node, &longer(two, second), room)
@@ -94,6 +91,11 @@ fn called(name: &str, file: &[u8], numbers: &[usize]) -> String {
             line("check", buulset::check(&table)) + &verdict(&table, b"") + &searches(&table, 0, 0, 0)
         }
         ("line", &[at]) => one_line(file, at),
+        ("best", []) => best_line(&table(file)),
+        ("made", &[width, inner]) => report(&regular_file(width, inner)),
+        ("made_graft", &[width, inner]) => made_graft(width, inner),
+        ("least_counts", []) => (1..=MAX_CHILDREN).map(least_counts).collect(),
+        ("long_output", &[room]) => output(&[b'0'; MAX_FILE + 1], room),
         ("kids", &[node]) => row("children", buulset::children(&table(file), node)),
         _ => format!("no call {name} with {} numbers\n", numbers.len()),
     }
@@ -197,6 +199,14 @@ fn graft(first: &[u8], node: usize, second: &[u8], room: usize) -> String {
         Ok(_) => said + &report(&file),
         Err(refusal) => format!("{said}{refusal}\n"),
     }
+}
+
+/// The best line in a filled list, and what that holds then.
+fn best_line(table: &[u8]) -> String {
+    let mut line_of = [UNLISTED; LINE_ENTRIES];
+    let found = buulset::line(table, &mut line_of);
+    let found = found.map(|f| format!("{} {} {}", f.value, f.root_move.unwrap_or(0), f.length));
+    line("best", found) + &row("line", &line_of)
 }
 
 /// The worst-case filling, and what alpha-beta finds in it.

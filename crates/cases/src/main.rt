@@ -1,33 +1,22 @@
 // Runs the cases of standard input and prints their results. A case is a line with its title, the bytes of a file, and
 // a line with a call and its numbers; without that line it is the file's report (checks/README.md).
-mod reports;
+mod made;
+mod numbers;
 
 use bytes::scan::find;
-use cases_grafts::made::print_made_grafts;
-use cases_searches::fillings::print_filling;
-use cases_searches::print_allowed;
-use cases_searches::print_checks;
-use cases_searches::print_searches;
-use cases_searches::print_started;
-use cases_tables::certificates::print_choice_of;
-use cases_tables::certificates::print_verdict_of;
-use cases_tables::files::print_line;
-use cases_tables::files::print_long_output;
-use cases_tables::files::print_output;
-use cases_tables::files::print_reading;
-use cases_tables::files::print_writing;
-use cases_tables::least::print_least_counts;
-use cases_tables::least::print_regular;
-use cases_tables::least_value::print_least_value;
-use cases_tables::tables::print_children;
-use cases_text::names::is_named;
-use cases_text::numbers::NUMBERS;
-use cases_text::numbers::read_numbers;
+use cases_calls::certificates::NUMBERS;
+use cases_calls::certificates::print_choice_of;
+use cases_calls::questions::print_best_line;
+use cases_calls::questions::print_graft;
+use cases_calls::questions::print_least_value;
+use cases_calls::questions::print_regular;
+use cases_calls::states::print_states;
 use libc::STDIN_FILENO;
 use libc::STDOUT_FILENO;
-use reports::print_graft;
-use reports::print_made_trees;
-use reports::print_report;
+use made::print_largest;
+use made::print_report;
+use made::print_too_large;
+use numbers::read_numbers;
 use text::LINE_FEED;
 
 // What a title and a call start with.
@@ -36,10 +25,8 @@ const TITLE: u8 = b'#';
 const CALL: u8 = b'@';
 
 fn main() {
-    print_made_trees();
-    print_made_grafts();
-    print_least_counts();
-    print_long_output();
+    print_largest();
+    print_too_large();
     let mut input = io::large_buffer();
     let size = io::read_full(STDIN_FILENO, &mut input);
     print_cases(&input[..size]);
@@ -68,71 +55,25 @@ fn print_case(case: &[u8]) {
     print_answer(&case[start..call], &case[call..]);
 }
 
-// What a call gives for a file, by its name. Here are the two calls whose numbers are flags.
+// What a call gives for a file, by the first letter of its name; the file's report where there is no call.
 fn print_answer(file: &[u8], call: &[u8]) {
     let mut numbers = [0u32; NUMBERS];
     let count = read_numbers(call, &mut numbers);
-    if is_named(call, b"@flags") {
-        return print_verdict_of(file, &numbers[..count]);
+    match first_letter(call) {
+        b'p' => print_choice_of(file, &numbers[..count]),
+        b's' => print_states(file, numbers[0], numbers[1]),
+        b'b' => print_best_line(file),
+        b'g' => print_graft(file, numbers[0], numbers[1]),
+        b'l' => print_least_value(file, numbers[0], numbers[1], numbers[2], numbers[3]),
+        b'r' => print_regular(numbers[0], numbers[1]),
+        _ => print_report(file),
     }
-    if is_named(call, b"@pair") {
-        return print_choice_of(file, &numbers[..count]);
-    }
-    print_call(call, file, &numbers);
 }
 
-// The searches, and the calls on files.
-fn print_call(call: &[u8], file: &[u8], numbers: &[u32; NUMBERS]) {
-    if is_named(call, b"@buffers") {
-        return print_searches(file, numbers[0], numbers[1], numbers[2]);
+// The first letter of a call's name; 0 where there is none.
+fn first_letter(call: &[u8]) -> u8 {
+    if 1 < call.len() {
+        return call[1];
     }
-    if is_named(call, b"@allowance") {
-        return print_allowed(file, numbers[0], numbers[1], numbers[2], numbers[3]);
-    }
-    if is_named(call, b"@start") {
-        return print_started(
-            file,
-            numbers[0],
-            numbers[1],
-            numbers[2],
-            numbers[3],
-            numbers[4],
-        );
-    }
-    if is_named(call, b"@table") {
-        return print_reading(file, numbers[0]);
-    }
-    if is_named(call, b"@write") {
-        return print_writing(file, numbers[0], numbers[1]);
-    }
-    if is_named(call, b"@output") {
-        return print_output(file, numbers[0]);
-    }
-    print_question(call, file, numbers);
-}
-
-// The other calls; the file's report where there is no call or its name is not known.
-fn print_question(call: &[u8], file: &[u8], numbers: &[u32; NUMBERS]) {
-    if is_named(call, b"@graft") {
-        return print_graft(file, numbers);
-    }
-    if is_named(call, b"@least_value") {
-        return print_least_value(file, numbers[0], numbers[1], numbers[2], numbers[3]);
-    }
-    if is_named(call, b"@fill") {
-        return print_filling(file, numbers[0]);
-    }
-    if is_named(call, b"@regular") {
-        return print_regular(numbers[0], numbers[1]);
-    }
-    if is_named(call, b"@check") {
-        return print_checks(file, numbers[0]);
-    }
-    if is_named(call, b"@line") {
-        return print_line(file, numbers[0]);
-    }
-    if is_named(call, b"@kids") {
-        return print_children(file, numbers[0]);
-    }
-    print_report(file)
+    0
 }

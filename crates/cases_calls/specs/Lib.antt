@@ -1,0 +1,3 @@
+-- Definitions for the calls of the cases.
+pub mod Sizes
+pub mod Numbers

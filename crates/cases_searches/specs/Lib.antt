@@ -1,2 +1,0 @@
--- Definitions for the calls of the searches.
-pub mod Lent

@@ -1,2 +1,0 @@
--- Proofs about the buffers of calls.
-pub mod Each

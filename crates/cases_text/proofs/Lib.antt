@@ -1,2 +1,0 @@
--- Proofs about the text of the cases.
-pub mod Reading

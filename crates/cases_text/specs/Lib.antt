@@ -1,3 +1,0 @@
--- Definitions for the text of the cases.
-pub mod Names
-pub mod Numbers
