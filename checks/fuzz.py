@@ -1,7 +1,7 @@
 #!/usr/bin/env python3
 """Runs a compiled program (standard input to standard output) on generated files and compares it with oracle.py.
 
-    fuzz.py PROGRAM [--good N] [--damaged N] [--large N] [--every] [--seed S] [--keep DIR] [--detail] [--lean]
+    fuzz.py PROGRAM [--good N] [--damaged N] [--large N] [--every] [--seed S] [--keep DIR] [--detail]
             [--capitals]
 
 Good files: random shapes, widths and depths to the limits, second captures, ties, extremes.
@@ -12,9 +12,8 @@ change of one byte of a small file: cut there, lost, put in, or another byte. A 
 got a "no" to is an error.
 The program's output, its standard error (must be empty) and its exit status (must be 0) are compared.
 With --capitals the program is `capitals`; what it wrote is given to it again, and must not change.
-With --detail (for baseline.c) the program gets the word -d and has to print leaves in order, marks, flags, passes and
-replacements too, those of SSS* twice.
-With --lean it gets the word -s, for the report of lean.c.
+With --detail (for program.c) the program gets the word -d and has to print leaves in order, marks, flags, passes and
+replacements too.
 Files that differ are kept in DIR (default target/checks); the exit status is 1 if there is one.
 """
 import argparse
@@ -336,10 +335,9 @@ def main():
     parser.add_argument("--seed", type=int, default=1)
     parser.add_argument("--keep", default=os.path.join(ROOT, "target", "checks"))
     parser.add_argument("--detail", action="store_true")
-    parser.add_argument("--lean", action="store_true")
     parser.add_argument("--capitals", action="store_true")
     args = parser.parse_args()
-    program = [os.path.abspath(args.program)] + ["-d"] * args.detail + ["-s"] * args.lean
+    program = [os.path.abspath(args.program)] + ["-d"] * args.detail
     os.makedirs(args.keep, exist_ok=True)
     rng = random.Random(args.seed)
     start, total, bad, model_time = time.time(), 0, 0, 0.0
@@ -349,8 +347,7 @@ def main():
         before = time.time()
         want = o.capitals(file) if args.capitals else o.report(file)
         if args.detail:
-            lines = o.detail(file).splitlines(True)
-            want += "".join(lines + [line for line in lines if line.startswith("sss ")]).encode()
+            want += o.detail(file).encode()
         model_time += time.time() - before
         answers[want.split()[1].decode() if want.startswith(b"refused") else "result"] += 1
         mode = rng.random()

@@ -1,32 +1,30 @@
-/* The program of document 01 over the calls of baseline.c, and over the report of lean.c.
+/* The program of document 01 in lean C.
 
-   baseline < FILE        prints what 01 says
-   baseline -l < FILE     the same, SSS* with the textbook's list
-   baseline -s < FILE     the same, by the report of lean.c
-   baseline -d < FILE     the same as the first, then leaves in order, marks, flags, passes and replacements, as
-                          oracle.py --detail, by both kinds of SSS* */
-#include "baseline.h"
+   lean < FILE        prints what 01 says
+   lean -d < FILE     the same by the calls over lent memory, then leaves in order, marks, flags, passes and replacements,
+                      as oracle.py --detail
+
+   With -DREPORT=rust_report the report is lean.rs's. */
+#include "lean.h"
 #include <stdio.h>
 #include <string.h>
 #include <unistd.h>
 
-static uint8_t file[FILE_BYTES + 1], table[TABLE_BYTES], marks[NODES], proof[NODES];
-static uint16_t order[NODES];
+#ifndef REPORT
+#define REPORT c_report
+#endif
+
+enum { NODES = BUULSET_MAX_NODES };
+
+static uint8_t file[BUULSET_MAX_FILE + 1], table[BUULSET_MAX_TABLE];
 static size_t nodes;
 
-static struct answer run(search_call *search) {
-    return search(table, FRAME * nodes, marks, NODES, proof, NODES, order, NODES);
-}
-
-static struct answer run_sss(allowed_call *sss) {
-    return sss(table, FRAME * nodes, marks, NODES, proof, NODES, order, NODES, NODES);
-}
-
-static void show_order(const char *name, size_t leaves) {
-    printf("%s order", name);
-    for (size_t i = 0; i < leaves; i++) printf(" %d", order[i]);
-    printf("\n");
-}
+/* What a search gives and leaves. */
+struct run {
+    buulset_answer answer;
+    uint8_t evaluated[NODES], certificate[NODES];
+    uint16_t order[NODES];
+};
 
 static void show(const char *name, const char *what, const uint8_t *bytes) {
     printf("%s %s", name, what);
@@ -34,37 +32,43 @@ static void show(const char *name, const char *what, const uint8_t *bytes) {
     printf("\n");
 }
 
-/* What a search left. */
-static void detail(const char *name, struct answer found, const char *steps) {
-    show_order(name, found.count);
-    show(name, "marks", marks);
-    show(name, "flags", proof);
-    if (steps) printf("%s %s %zu\n", name, steps, found.steps);
+static void detail(const char *name, const struct run *run, const char *steps) {
+    printf("%s order", name);
+    for (size_t i = 0; i < run->answer.count; i++) printf(" %d", run->order[i]);
+    printf("\n");
+    show(name, "marks", run->evaluated);
+    show(name, "flags", run->certificate);
+    if (steps) printf("%s %s %zu\n", name, steps, run->answer.steps);
+}
+
+static void print_result(const char *name, buulset_answer found) {
+    printf("%s %d %zu %zu\n", name, found.value, found.root_move, found.count);
+}
+
+static void print_details(void) {
+    static struct run a, m, s;
+    size_t length = BUULSET_FRAME_SIZE * nodes;
+    a.answer = c_alphabeta(table, length, a.evaluated, NODES, a.certificate, NODES, a.order, NODES);
+    m.answer = c_mtd(table, length, m.evaluated, NODES, m.certificate, NODES, m.order, NODES);
+    s.answer = c_sss(table, length, s.evaluated, NODES, s.certificate, NODES, s.order, NODES, NODES);
+    printf("method value move leaves\n");
+    print_result("ab", a.answer);
+    print_result("mtd", m.answer);
+    print_result("sss", s.answer);
+    detail("ab", &a, NULL);
+    detail("mtd", &m, "passes");
+    detail("sss", &s, "replacements");
 }
 
 int main(int argc, char **argv) {
-    const char *option = argc > 1 ? argv[1] : "";
     size_t length = 0;
     for (ssize_t got; length < sizeof file && (got = read(0, file + length, sizeof file - length)) > 0;) length += got;
-    if (!strcmp(option, "-s")) {
-        struct text text = lean_report(file, length);
-        fwrite(text.bytes, 1, text.length, stdout);
+    if (argc > 1 && !strcmp(argv[1], "-d")) nodes = c_read(file, length, table, sizeof table).count;
+    if (nodes) {
+        print_details();
         return 0;
     }
-    struct answer r = c_read(file, length, table, sizeof table);
-    if (r.refused) {
-        printf("refused %d %zu\n", r.refused, r.place);
-        return 0;
-    }
-    nodes = r.count;
-    struct answer a = run(c_alphabeta), m = run(c_mtd), s = run_sss(strcmp(option, "-l") ? c_sss : c_sss_list);
-    printf("method value move leaves\nab %d %zu %zu\nmtd %d %zu %zu\nsss %d %zu %zu\n",
-           a.value, a.root_move, a.count, m.value, m.root_move, m.count, s.value, s.root_move, s.count);
-    if (!strcmp(option, "-d")) {
-        detail("ab", run(c_alphabeta), NULL);
-        detail("mtd", run(c_mtd), "passes");
-        detail("sss", run_sss(c_sss), "replacements");
-        detail("sss", run_sss(c_sss_list), "replacements");
-    }
+    buulset_text text = REPORT(file, length);
+    fwrite(text.bytes, 1, text.length, stdout);
     return 0;
 }

@@ -8,6 +8,7 @@ import os
 import random
 import sys
 
+import library
 import oracle as o
 import trees
 
@@ -17,7 +18,6 @@ MOST = 100                              # values are from -100 to 100
 OFF = (2, 10, 50)
 HEAD = "| width | depth | leaves | alpha-beta | SSS* | DUAL* | the value | " + " | ".join("%d off" % d for d in OFF) + \
     " | a leaf changed | a graft |"
-BEGIN, END = "<!-- starts -->\n", "<!-- /starts -->\n"
 
 
 def random_table(rng, width, depth):
@@ -69,13 +69,7 @@ def main():
     if "--write" not in sys.argv[1:]:
         sys.stdout.write(text)
         return
-    path = os.path.join(os.path.dirname(os.path.abspath(__file__)), "..", "docs", "COSTS.md")
-    with open(path) as f:
-        costs = f.read()
-    before, rest = costs.split(BEGIN)
-    after = rest.split(END)[1]
-    with open(path, "w") as f:
-        f.write(before + BEGIN + text + END + after)
+    library.put(os.path.join(library.ROOT, "docs", "COSTS.md"), "starts", text)
 
 
 if __name__ == "__main__":
