@@ -1,6 +1,6 @@
 #!/usr/bin/env python3
 """Runs the public calls in this process, over lent memory with guards around it, and compares answers and memory with
-oracle.py: those of the library for other languages (library.py), and those of baseline.c.
+oracle.py: those of the library for other languages (library.py), and those of lean.c.
 
     fuzz_library.py [--count N] [--seed S]      all trees of up to 6 nodes, then N random tables and files, good and
                                                 damaged (default 3000)
@@ -20,7 +20,7 @@ import oracle as o
 import selfcheck
 
 FILLED, UNLISTED, GUARD, TEXT_SIZE = 170, 43690, 64, 256
-ONLY_IN_C, ONLY_OURS = ("sss_list",), ("read_line", "children")
+ONLY_OURS = ("read_line", "children")
 
 
 class Answer(ctypes.Structure):
@@ -57,10 +57,10 @@ def ours():
     return ctypes.CDLL(shared), "buulset_"
 
 
-def baseline():
-    """The calls of baseline.c, likewise."""
-    shared, code = os.path.join(library.WORK, "libbaseline.so"), os.path.join(library.CHECKS, "baseline.c")
-    library.run(["gcc", "-O2", "-fPIC", "-shared", "-DDEPTH=%d" % o.MAX_DEPTH, "-o", shared, code])
+def lean():
+    """The calls of lean.c, likewise."""
+    shared, code = os.path.join(library.WORK, "liblean.so"), os.path.join(library.CHECKS, "lean.c")
+    library.run(["gcc", "-O2", "-fPIC", "-shared", "-o", shared, code])
     return ctypes.CDLL(shared), "c_"
 
 
@@ -167,11 +167,10 @@ def searches(table, *sizes):
 
 
 def allowed(table, *sizes, allowance):
-    """02, N6: SSS* within an allowance, of the crate and of both lists in C."""
+    """02, N6: SSS* within an allowance."""
     lent = lent_to("sss", *sizes)
     r = o.sss_search(table, None, *lent, allowance)
-    for name in ("sss", "sss_list"):
-        yield name, (table, *lent_to(name, *sizes), allowance), flat(r, **found(r)), (table, *lent)
+    yield "sss", (table, *lent_to("sss", *sizes), allowance), flat(r, **found(r)), (table, *lent)
 
 
 def lined(table, entries):
@@ -365,13 +364,13 @@ def main():
     parser.add_argument("--count", type=int, default=3000)
     parser.add_argument("--seed", type=int, default=1)
     args = parser.parse_args()
-    sides, rng, asked, bad = (ours(), baseline()), random.Random(args.seed), Counter(), 0
+    sides, rng, asked, bad = (ours(), lean()), random.Random(args.seed), Counter(), 0
     todo = itertools.chain(least_counts(), small_trees(),
                            itertools.chain.from_iterable(random_calls(rng) for _ in range(args.count)))
     for name, lent, answer, left in todo:
         asked[name] += 1
         want = answer, [bytes(data) for data in left]
-        for side in sides[1:] if name in ONLY_IN_C else sides[:1] if name in ONLY_OURS else sides:
+        for side in sides[:1] if name in ONLY_OURS else sides:
             got = call(side, name, *lent)
             if got != want:
                 bad += 1
