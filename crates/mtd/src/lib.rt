@@ -17,7 +17,7 @@ use mtd_memory::last_tried;
 use mtd_memory::look;
 use mtd_memory::next_tried;
 use mtd_memory::remember;
-use mtd_memory::skipped;
+use mtd_memory::to_try;
 ghost use mathlib.Core.Path.{_≡_};
 ghost use Prim.Native.Nat.{_<_, _≤_};
 ghost use lib.ListN.{length, getD};
@@ -45,7 +45,7 @@ pub fn find(table: &[u8], evaluated: &mut [u8], order: &mut [u16]) -> Findings
 {
     clear(evaluated, frame_count(table));
     let mut highs = [GREATEST; MAX_NODES];
-    let mut not_below = [0u8; MAX_NODES];
+    let mut not_below = [0u16; MAX_NODES];
     let settled = run_passes(table, evaluated, order, &mut highs, &mut not_below);
     let value = value(settled.score);
     Findings {
@@ -71,7 +71,7 @@ fn run_passes(
     evaluated: &mut [u8],
     order: &mut [u16],
     highs: &mut [u32],
-    not_below: &mut [u8],
+    not_below: &mut [u16],
 ) -> Settled
     requires { ⌜ Fresh (now table) (memory 0 (now evaluated) (now order) (now highs) (now «not_below»)) ⌝ }
     ensures { λ r. ⌜ (r .score ≡ mtd (valuation (now (table .entry))) (tree (now (table .entry))) .value)
@@ -132,7 +132,7 @@ fn visit(
     evaluated: &mut [u8],
     order: &mut [u16],
     highs: &mut [u32],
-    not_below: &mut [u8],
+    not_below: &mut [u16],
     node: usize,
     position: Position,
     test: u32,
@@ -178,7 +178,7 @@ fn enter(
     evaluated: &mut [u8],
     order: &mut [u16],
     highs: &mut [u32],
-    not_below: &mut [u8],
+    not_below: &mut [u16],
     node: usize,
     position: Position,
     test: u32,
@@ -196,10 +196,11 @@ fn enter(
     let side = position.side;
     let first = first_child(table, node);
     let end = first + child_count(table, node);
-    let mut child = first + skipped(not_below, node);
+    let tries = to_try(side, highs, not_below, node, first, end, test);
+    let mut child = tries.from;
     let answer = loop {
-        child = next_tried(side, highs, child, end, test);
-        if child == end {
+        child = next_tried(side, highs, child, tries.to, test);
+        if child == tries.to {
             break false;
         }
         let at = child_position(table, child, position);
@@ -229,10 +230,20 @@ fn enter(
         };
         leaves = tried.leaves;
         child += 1;
-        if last_tried(side, tried.answer, child, end) {
+        if last_tried(side, tried.answer, child, tries.to) {
             break tried.answer;
         }
     };
-    remember(highs, not_below, node, first, child, end, side, answer);
+    remember(
+        highs,
+        not_below,
+        node,
+        first,
+        child,
+        tries,
+        end,
+        side,
+        answer,
+    );
     Tried { answer, leaves }
 }

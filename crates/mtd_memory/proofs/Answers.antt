@@ -12,7 +12,7 @@ use lib.ListN.{getD}
 use borrow.Author.Tests.{ltb-true, ltb-false, leb-true, leb-false, not-true, not-false}
 use Rattle.gametree.specs.declared.Side.{Side}
 use Rattle.gametree.specs.declared.Side.the-variants.{Max, Min}
-use Rattle.gametree.specs.Tree.{Tree, leaf, inner, Children, last, _then_}
+use Rattle.gametree.specs.Tree.{Tree, leaf, inner, Children, last, _then_, better}
 use Rattle.gametree.specs.engine.Memo.{Memo, MemoChildren, memoHigh, memoHighChildren, Pass, PassChildren, pass}
 use Rattle.gametree.specs.engine.Memo.{passChildren}
 use Rattle.lists.proofs.Choice.{cond-cases, true-not-false}
@@ -156,3 +156,29 @@ best-more f i (suc n) v h =
 pub best-is : (f : ℕ → ℕ) (i n j : ℕ) → i ≤ j → j ≤ i + n → ((k : ℕ) → i ≤ k → k ≤ i + n → f j ≤ f k)
     → bestIn Min f i n ≡ f j
 best-is f i n j a b h = omega (arith, best-least f i n j a b, best-more f i n (f j) h)
+
+-- the greatest of them is at least each, is the one that no other is above
+best-greatest : (f : ℕ → ℕ) (i n j : ℕ) → i ≤ j → j ≤ i + n → f j ≤ bestIn Max f i n
+unfolding bestIn
+best-greatest f i zero j a b = let z : i ≡ j = omega arith in rw z (le-refl (f j))
+best-greatest f i (suc n) j a b =
+    elim (ℕ-discrete i j) [
+      | yes e ↦ rw e (omega arith)
+      | no e ↦ omega (arith, best-greatest f (i + 1) n j (omega arith) (omega arith))
+    ]
+
+best-less : (f : ℕ → ℕ) (i n v : ℕ) → ((k : ℕ) → i ≤ k → k ≤ i + n → f k ≤ v) → bestIn Max f i n ≤ v
+unfolding bestIn
+best-less f i zero v h = h i (omega arith) (omega arith)
+best-less f i (suc n) v h =
+    omega (
+      arith,
+      h i (omega arith) (omega arith),
+      best-less f (i + 1) n v (λ k a b. h k (omega arith) (omega arith)),
+    )
+
+-- so it is the greater of two where no other is above that
+pub best-of-two : (f : ℕ → ℕ) (i n j l : ℕ) → i ≤ j → j ≤ i + n → i ≤ l → l ≤ i + n
+    → ((k : ℕ) → i ≤ k → k ≤ i + n → f k ≤ better Max (f j) (f l)) → better Max (f j) (f l) ≡ bestIn Max f i n
+best-of-two f i n j l a b c d h =
+    omega (arith, best-less f i n (better Max (f j) (f l)) h, best-greatest f i n j a b, best-greatest f i n l c d)

@@ -1,5 +1,5 @@
 -- Marks, flags and highs in arrays of numbers: what is stored and read, and the bounds that the marks give.
-use Prim.Native.Nat.{ℕ, suc, _+_, _≤_, _<_}
+use Prim.Native.Nat.{ℕ, suc, _+_, _/_, _≤_, _<_}
 use native.Mathlib.Omega.{arith}
 use mathlib.Core.Path.{_≡_, refl, sym, ap, ap₂, _∙_}
 use mathlib.Core.Logic.{inl, inr}
@@ -16,20 +16,52 @@ use Rattle.gametree.specs.engine.MemoArrays.{Bits}
 use Rattle.certificate_bounds.specs.Marks.{marked}
 use Rattle.certificate_bounds.specs.engine.Progress.{progress, evaluateAll}
 use Rattle.certificate_bounds.proofs.Listing.{none-evaluated, one-evaluated, evaluateAll-append}
-use Rattle.frames.specs.Frame.{firstChild}
-use Rattle.mtd_memory.specs.engine.Memory.{Memory, progressOf, MemoryRoom, Evaluated, skipAt, Explored, Skips}
+use Rattle.frames.specs.Frame.{firstChild, childCount}
+use Rattle.mtd_memory.specs.engine.Memory.{Memory, progressOf, MemoryRoom, Evaluated, Explored, Leads, Skips}
 
 -- what stands there already is stored
 pub set-same : (l : List ℕ) (i v : ℕ) → getD l i 0 ≡ v → set l i v ≡ l
 set-same l i v e = ap (set l i) (sym e) ∙ set-getD l i 0
 
--- a node that skips no child
-pub no-skips : (t : List ℕ) (m : Memory) (k : ℕ) → skipAt (m .notBelow) k ≡ 0 → Skips t m k
+-- what was stored is what stands there
+pub set-own : (l : List ℕ) (i v : ℕ) → i < length l → set l i v ≡ set l i (getD (set l i v) i 0)
+set-own l i v h = ap (set l i) (sym (getD-set-same l i v 0 h))
+
+-- a small entry names no children
+pub no-leads : {h : List ℕ} {first end x : ℕ} → x < 256 → Leads h first end x
+no-leads few =
+    record {
+      lead = λ n. absurd (omega arith);
+      second = λ n. absurd (omega arith);
+      apart = λ n. absurd (omega arith);
+      others = λ n. absurd (omega arith);
+    }
+
+-- the entry names the same children where the highs of all but the leading one are the same
+pub leads-others : {h h′ : List ℕ} {first end x : ℕ}
+    → ((j : ℕ) → first ≤ j → j < end → (j + 1 ≡ first + x / 256 → ⊥) → getD h′ j 0 ≡ getD h j 0)
+    → Leads h first end x → Leads h′ first end x
+leads-others {x = x} same l =
+    record {
+      lead = l .lead;
+      second = l .second;
+      apart = l .apart;
+      others = λ n j a b c.
+          omega (
+            arith,
+            l .others n j a b c,
+            same j a b c,
+            same _ (omega arith) (l .second n) (λ e. l .apart n (omega (arith, e))),
+          );
+    }
+
+-- a node that skips no child and names none
+pub no-skips : (t : List ℕ) (m : Memory) (k : ℕ) → getD (m .notBelow) k 0 ≤ 1 → Skips t m k
 no-skips t m k e =
     record {
-      mover = λ h. absurd (omega (arith, e));
-      few = λ h. absurd (omega (arith, e));
-      explored = λ j a b. absurd (omega (arith, e));
+      few = λ w h. absurd (omega (arith, e));
+      explored = λ w j a b. absurd (omega (arith, e));
+      leads = λ w. no-leads (omega (arith, e));
     }
 
 -- what is explored stays so where the entries are the same
@@ -37,17 +69,19 @@ pub explored-same : {t : List ℕ} {m m′ : Memory} {j : ℕ} → marked (m′ 
     → marked (m′ .notBelow) j ≡ marked (m .notBelow) j → Explored t m j → Explored t m′ j
 explored-same e f s = record { leaf-is = λ n. e ∙ s .leaf-is n; inner-is = λ n. f ∙ s .inner-is n }
 
--- and so do the children to skip
+-- and so do the children to skip or to try
 pub skips-same : {t : List ℕ} {m m′ : Memory} {k : ℕ} → getD (m′ .notBelow) k 0 ≡ getD (m .notBelow) k 0
-    → ((j : ℕ) → firstChild t k ≤ j → j < firstChild t k + skipAt (m .notBelow) k
-    → (marked (m′ .evaluated) j ≡ marked (m .evaluated) j) × (marked (m′ .notBelow) j ≡ marked (m .notBelow) j))
+    → ((j : ℕ) → firstChild t k ≤ j → j < firstChild t k + childCount t k
+    → (marked (m′ .evaluated) j ≡ marked (m .evaluated) j) × (marked (m′ .notBelow) j ≡ marked (m .notBelow) j)
+    × (getD (m′ .highs) j 0 ≡ getD (m .highs) j 0))
     → Skips t m k → Skips t m′ k
 skips-same e f s =
     record {
-      mover = λ h. s .mover (omega (arith, e));
-      few = λ h. omega (arith, e, s .few (omega (arith, e)));
-      explored = λ j a b.
-          let x = f j a (omega (arith, e)) in explored-same (x .0) (x .1) (s .explored j a (omega (arith, e)));
+      few = λ w h. omega (arith, e, s .few w (omega (arith, e)));
+      explored = λ w j a b.
+          let x = f j a (omega (arith, e, s .few w (omega (arith, e)))) in
+          explored-same (x .0) (x .1) (s .explored w j a (omega (arith, e)));
+      leads = λ w. rw e (leads-others (λ j a b _. f j a b .2) (s .leads w));
     }
 
 -- a flag that is stored is read

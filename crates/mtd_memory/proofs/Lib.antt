@@ -6,3 +6,4 @@ pub mod Passes
 pub mod Turns
 pub mod Visits
 pub mod Skips
+pub mod Entries

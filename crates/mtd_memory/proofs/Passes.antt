@@ -17,14 +17,14 @@ use Rattle.gametree.specs.engine.Memo.{Memo, memoHigh, Pass, stay, entered}
 use Rattle.lists.proofs.Choice.{cond-cases}
 use Rattle.gametree_theory.proofs.mtd.MemoArrays.{readMemoChildren-same, read-high}
 use Rattle.frames.specs.Tree.{treeAt, valuation}
-use Rattle.frames.specs.Frame.{frames, firstChild}
+use Rattle.frames.specs.Frame.{frames, firstChild, childCount}
 use Rattle.certificate_bounds.specs.Marks.{marked, ones}
 use Rattle.certificate_bounds.specs.engine.Progress.{progress, evaluateAll}
 use Rattle.certificate_bounds.proofs.Marking.{marked-other}
 use Rattle.mtd_memory.specs.declared.Tried.{Tried}
 use Rattle.mtd_memory.specs.engine.Memory.{Memory, memory, progressOf, memoOf, passOf, MemoryRoom, HighsRight}
-use Rattle.mtd_memory.specs.engine.Memory.{Counted, Evaluated, Passed, skipAt, Skips, SkipsRight}
-use Rattle.mtd_memory.proofs.Arrays.{marked-same, evaluated-none, no-skips, skips-same}
+use Rattle.mtd_memory.specs.engine.Memory.{Counted, Evaluated, Passed, Skips, SkipsRight}
+use Rattle.mtd_memory.proofs.Arrays.{marked-same, evaluated-none, skips-same}
 use Rattle.mtd_memory.proofs.Children.{passChildrenOf, PassedChildren}
 
 -- a leaf that was tried: evaluated now, if it was not before, and compared with the test
@@ -32,7 +32,7 @@ module _ (t : List ℕ) (i γ : ℕ) (m : Memory) (n : ℕ) (o : List ℕ) (r : 
     (room : MemoryRoom (suc i) m) (a : r .answer ≡ leb γ (valuation t i))
     (w : progress n (set (m .evaluated) i 1) o
     ≡ evaluateAll (progressOf m) (cond (marked (m .evaluated) i) [] (i ∷ [])))
-    (c : n ≡ ones (set (m .evaluated) i 1) (frames t)) (skipless : skipAt (m .notBelow) i ≡ 0) where
+    (c : n ≡ ones (set (m .evaluated) i 1) (frames t)) (none : childCount t i ≡ 0) (own-skips : Skips t m i) where
   -- its mark is 1 now
   leaf-marked : marked (set (m .evaluated) i 1) i ≡ true
   leaf-marked = marked-same (m .evaluated) i true (omega (arith, room .evaluated))
@@ -76,7 +76,7 @@ module _ (t : List ℕ) (i γ : ℕ) (m : Memory) (n : ℕ) (o : List ℕ) (r : 
             rw (h, is-leaf, leaf-marked)
             (getD-set-same (m .highs) i (valuation t i) 0 (omega (arith, room .highs)));
         others = λ k h. getD-set-other (m .highs) i k (valuation t i) 0 h;
-        skips = λ k h. rw h (no-skips t tried i skipless);
+        skips = λ k h. rw h (skips-same refl (λ j a b. absurd (omega (arith, none))) own-skips);
         flags = λ k h. refl;
       }
 
@@ -118,7 +118,7 @@ module _ (t : List ℕ) (i γ : ℕ) (m : Memory) (s : Side) (ks : Children) (is
       (others : (k : ℕ) → (InChildren k ks → ⊥) → getD (m′ .highs) k 0 ≡ getD (m .highs) k 0)
       (best : v ≡ high (valuation t) (marked (m′ .evaluated)) (inner i s ks)) (x : ℕ) (flag : eqb x 1 ≡ r .answer)
       (kids-skips : (k : ℕ) → InChildren k ks → Skips t m′ k)
-      (later : (k j : ℕ) → InChildren k ks → firstChild t k ≤ j → j < firstChild t k + skipAt (m′ .notBelow) k
+      (later : (k j : ℕ) → InChildren k ks → firstChild t k ≤ j → j < firstChild t k + childCount t k
       → j ≡ i → ⊥)
       (flags : (k : ℕ) → (InChildren k ks → ⊥) → getD (m′ .notBelow) k 0 ≡ getD (m .notBelow) k 0)
       (own-skips : Skips t (memory (m′ .leaves) (m′ .evaluated) (m′ .order) (set (m′ .highs) i v)
@@ -162,7 +162,12 @@ module _ (t : List ℕ) (i γ : ℕ) (m : Memory) (s : Side) (ks : Children) (is
               elim z [
                 | inl e ↦ rw e own-skips
                 | inr y ↦ skips-same (getD-set-other (m′ .notBelow) i k x 0 (not-own k y))
-                    (λ j a b. (refl, marked-other (m′ .notBelow) i j x (later k j y a b))) (kids-skips k y)
+                    (λ j a b. (
+                      refl,
+                      marked-other (m′ .notBelow) i j x (later k j y a b),
+                      getD-set-other (m′ .highs) i j v 0 (later k j y a b),
+                    ))
+                    (kids-skips k y)
               ];
           flags = λ k z. getD-set-other (m′ .notBelow) i k x 0 (λ e. z (inl e)) ∙ flags k (λ y. z (inr y));
         }

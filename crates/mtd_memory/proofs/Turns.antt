@@ -173,6 +173,11 @@ module _ {t : List ℕ} {i first end : ℕ} (family : Family t i first end) wher
         skips = u .highs .skips now (u .from) (u .to);
       }
 
+  -- another child is not of its tree
+  pub turn-apart : {s : Side} {γ : ℕ} {m m′ : Memory} {now : ℕ} → PassLoop t s γ first end m m′ now → (j : ℕ)
+      → first ≤ j → j < end → (j ≡ now → ⊥) → In j (treeAt t now) → ⊥
+  turn-apart u j a b e x = e (children-apart t wf inside (child j a b) (turn-child u) j (in-own t wf j) x)
+
   module _ {s : Side} {γ : ℕ} {m m′ m″ : Memory} {now : ℕ} {r : Tried} (u : PassLoop t s γ first end m m′ now)
       (p : Passed t (treeAt t now) γ m′ m″ r) where
     -- the highs below the other children are as they were
@@ -199,22 +204,20 @@ module _ {t : List ℕ} {i first end : ℕ} (family : Family t i first end) wher
               let out : (q : ℕ) → In q (treeAt t k) → In q (treeAt t now) → ⊥ = λ q y z.
               e (children-apart t wf inside (child k a b) (turn-child u) q y z)
               in
-              let s = u .highs .skips k a b j x in
               skips-same (p .flags j (out j x)) (λ q g h.
-              let o : ChildOf t j q = record { from = g; to = omega (arith, s .few (omega arith)) } in
-              p .memo .elsewhere q (out q (in-trans t wf k c j q x
-              (in-parent t wf (tree-range t wf k c j x .1) o q (in-own t wf q))))) s)
+              let o : ChildOf t j q = record { from = g; to = h } in
+              let y = out q (in-trans t wf k c j q x
+              (in-parent t wf (tree-range t wf k c j x .1) o q (in-own t wf q))) in
+              let z = p .memo .elsewhere q y in
+              (z .0, z .1, p .others q y))
+              (u .highs .skips k a b j x))
         ]
-
-    -- another child is not of this one's tree
-    apart : (j : ℕ) → first ≤ j → j < end → (j ≡ now → ⊥) → In j (treeAt t now) → ⊥
-    apart j a b e x = e (children-apart t wf inside (child j a b) (turn-child u) j (in-own t wf j) x)
 
     -- what holds of the elder siblings holds still
     elders-still : s ≡ Min → (j : ℕ) → first ≤ j → j < now → Explored t m″ j × (γ ≤ getD (m″ .highs) j 0)
     elders-still e j a b =
         let o = u .to in
-        let x = apart j a (omega arith) (λ z. omega (arith, z)) in
+        let x = turn-apart u j a (omega arith) (λ z. omega (arith, z)) in
         let y = u .elders e j a b in
         let z = p .memo .elsewhere j x in
         (explored-same (z .0) (z .1) (y .0), omega (arith, y .1, p .others j x))
@@ -226,7 +229,7 @@ module _ {t : List ℕ} {i first end : ℕ} (family : Family t i first end) wher
         omega (
           arith,
           u .ahead e j (omega arith) b,
-          p .others j (apart j (omega arith) b (λ z. omega (arith, z))),
+          p .others j (turn-apart u j (omega arith) b (λ z. omega (arith, z))),
         )
 
     inside-now : now < frames t

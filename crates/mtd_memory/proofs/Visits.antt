@@ -4,13 +4,12 @@ use native.Mathlib.Omega.{arith}
 use mathlib.Core.Path.{_≡_, refl, sym, ap, _∙_, subst}
 use mathlib.Core.Bool.{Bool, true, false, cond}
 use mathlib.Core.List.{List, [], _∷_}
-use lib.Dec.{leb, eqb}
-use lib.ListN.{length, getD, set}
-use lib.Seq.{getD-set-same}
-use borrow.Author.Tests.{ne-eqb}
+use lib.Dec.{leb}
+use lib.ListN.{getD, set}
+use lib.Seq.{getD-set-same, getD-set-other}
 use Rattle.gametree.specs.declared.Position.{Position}
 use Rattle.gametree.specs.declared.Side.{Side}
-use Rattle.gametree.specs.declared.Side.the-variants.{Max, Min}
+use Rattle.gametree.specs.declared.Side.the-variants.{Min}
 use Rattle.gametree.specs.Tree.{Tree, inner, greatest, minimax, Distinct}
 use Rattle.gametree.specs.Bounds.{known}
 use Rattle.frames.specs.Frame.{maxNodes, frames, firstChild, childCount}
@@ -19,11 +18,10 @@ use Rattle.frames.specs.Tree.{treeAt, valuation}
 use Rattle.frames.specs.Formed.{WellFormed, ChildOf}
 use Rattle.frames.proofs.Next.{child-later, child-within}
 use Rattle.frames.proofs.Positions.{depth-at-most}
-use Rattle.frames.proofs.Trees.{zero-or-suc, in-kids, tree-leaf}
+use Rattle.frames.proofs.Trees.{in-kids, tree-leaf}
 use Rattle.frames.proofs.Nodes.{in-own, tree-distinct, tree-range}
 use Rattle.certificate_bounds.specs.Marks.{marked, ones}
 use Rattle.certificate_bounds.specs.engine.Progress.{progress, evaluateAll}
-use Rattle.certificate_bounds.specs.engine.Ranges.{bestIn}
 use Rattle.certificate_bounds.proofs.Bounds.{best-same, minimax-best}
 use Rattle.certificate_bounds.proofs.Marking.{marked-other}
 use Rattle.mtd_memory.specs.declared.Seen.{Seen}
@@ -31,8 +29,8 @@ use Rattle.mtd_memory.specs.declared.Seen.the-variants.{Answered, Open}
 use Rattle.mtd_memory.specs.declared.Tried.{Tried}
 use Rattle.mtd_memory.specs.engine.Memory.{Memory, memory, progressOf, MemoryRoom, HighsRight, VisitReady}
 use Rattle.mtd_memory.specs.engine.Memory.{Enterable}
-use Rattle.mtd_memory.specs.engine.Memory.{Passed, Looked, skipAt, skipEntry, keptEntry, Skips, SkipsRight}
-use Rattle.mtd_memory.proofs.Arrays.{room-at, no-skips, explored-same}
+use Rattle.mtd_memory.specs.engine.Memory.{Passed, Looked, skipEntry, keptEntry, Skips, SkipsRight, Keeps}
+use Rattle.mtd_memory.proofs.Arrays.{room-at, explored-same, leads-others}
 use Rattle.mtd_memory.proofs.Passes.{leaf-passed, below-passed, not-below-passed, entered-passed}
 use Rattle.mtd_memory.proofs.Turns.{childrenUpTo, Down, Left, Family, child, tree-kids}
 
@@ -83,12 +81,10 @@ skip-back : (n : ℕ) → skipEntry n - 1 ≡ n
 skip-back zero = refl
 skip-back (suc n) = omega arith
 
--- and its answer
-flag-kept : (s : Side) (b : Bool) (n : ℕ) → eqb (keptEntry s b n) 1 ≡ b
-flag-kept s true n = refl
-flag-kept Max false n = refl
-flag-kept Min false zero = refl
-flag-kept Min false (suc n) = ne-eqb (suc (suc n)) 1 (λ e. omega (arith, e))
+-- a Min node's entry skips children only where the node is below
+skip-count : (b : Bool) (n x : ℕ) → x ≡ keptEntry b n → 0 < x - 1 → (b ≡ false) × (x - 1 ≡ n)
+skip-count true n x e h = absurd (omega (arith, e))
+skip-count false n x e h = (refl, omega (arith, e, skip-back n))
 
 -- a leaf
 module _ (t : List ℕ) (wf : WellFormed t) (i : ℕ) (inside : i < frames t) (none : childCount t i ≡ 0) (m : Memory) where
@@ -105,10 +101,8 @@ module _ (t : List ℕ) (wf : WellFormed t) (i : ℕ) (inside : i < frames t) (n
       → Passed t (treeAt t i) γ m (memory (r .leaves) e o h (m .notBelow)) r
   visit-leaf γ e o h r room a w p q c s =
       let is-leaf = tree-leaf t wf i inside none in
-      let z : skipAt (m .notBelow) i ≡ 0 =
-      zero-or-suc (skipAt (m .notBelow) i) (λ z. z) (λ n z. absurd (omega (arith, s .few (omega arith)))) in
       rw (p, q) (passed-at is-leaf (leaf-passed t i γ m (r .leaves) o r is-leaf (room-at room inside) a
-      (rw p at w) (rw p at c) z))
+      (rw p at w) (rw p at c) none s))
 
 -- an inner node
 module _ {t : List ℕ} {i first end : ℕ} (family : Family t i first end) {m : Memory} {p : Position}
@@ -138,39 +132,38 @@ module _ {t : List ℕ} {i first end : ℕ} (family : Family t i first end) {m :
       passed-at node-inner
       (not-below-passed t i γ m (p .side) _ node-inner right-inner skips-inner _ (ready .counted) a h b)
 
-  -- what an entered node skips from then on
-  own-skips : (s : Side) → s ≡ sideOf t i → (b : Bool) (now : ℕ) {m′ m″ : Memory} (l : List ℕ) → i < length l
+  -- what an entered node skips or tries from then on
+  own-skips : {s : Side} {b : Bool} {now v x : ℕ} {m′ m″ : Memory} → s ≡ sideOf t i
       → (s ≡ Min → b ≡ false → Down t first end now m′)
       → ((j : ℕ) → (j ≡ i → ⊥) → (marked (m″ .evaluated) j ≡ marked (m′ .evaluated) j)
-      × (marked (m″ .notBelow) j ≡ marked (m′ .notBelow) j))
-      → m″ .notBelow ≡ set l i (keptEntry s b (now - (first + 1))) → Skips t m″ i
-  own-skips s e true now {m″ = m″} l room d same is =
-      no-skips t m″ i (omega (arith, ap (λ x. getD x i 0) is, getD-set-same l i 1 0 room))
-  own-skips Max e false now {m″ = m″} l room d same is =
-      no-skips t m″ i (omega (arith, ap (λ x. getD x i 0) is, getD-set-same l i 0 0 room))
-  own-skips Min e false now {m″ = m″} l room d same is =
-      let x = d refl refl in
-      let n = now - (first + 1) in
-      let z : skipAt (m″ .notBelow) i ≡ n =
-      omega (arith, ap (λ x. getD x i 0) is, getD-set-same l i (skipEntry n) 0 room, skip-back n) in
+      × (marked (m″ .notBelow) j ≡ marked (m′ .notBelow) j) × (getD (m″ .highs) j 0 ≡ getD (m′ .highs) j 0))
+      → getD (m″ .notBelow) i 0 ≡ x → Keeps s b (m′ .highs) first end now v x → Skips t m″ i
+  own-skips {s} {b} {now} {v} {x} {m′} {m″} e down same is k =
       let later : i < firstChild t i = family .formed .later i (family .inside) (omega (arith, family .to)) in
       record {
-        mover = λ _. sym e;
-        few = λ _. omega (arith, z, x .from, x .to, family .to);
-        explored = λ j a b.
+        few = λ w h.
+            let c = skip-count b (now - (first + 1)) x (k .skips (e ∙ w)) (omega (arith, is)) in
+            let d = down (e ∙ w) (c .0) in
+            omega (arith, is, c .1, d .from, d .to, family .to);
+        explored = λ w j a l.
+            let c = skip-count b (now - (first + 1)) x (k .skips (e ∙ w)) (omega (arith, is)) in
+            let d = down (e ∙ w) (c .0) in
             let y = same j (λ q. omega (arith, q)) in
             explored-same (y .0) (y .1)
-            (x .explored j (omega (arith, family .from)) (omega (arith, z, family .from, x .from)));
+            (d .explored j (omega (arith, family .from)) (omega (arith, is, c .1, family .from, d .from)));
+        leads = λ w.
+            rw (is, ← family .from, ← family .to)
+            (leads-others (λ j a l _. same j (λ q. omega (arith, q, family .from)) .2) (k .leads (e ∙ w)));
       }
 
   -- any other is entered, and gets the best of its children's highs and their answer
-  pub visit-entered : {γ v now : ℕ} {m′ : Memory} {r : Tried} → γ ≤ getD (m .highs) i 0 → marked (m .notBelow) i ≡ false
+  pub visit-entered : {γ v x now : ℕ} {m′ : Memory} {r : Tried} → γ ≤ getD (m .highs) i 0
+      → marked (m .notBelow) i ≡ false
       → MemoryRoom (frames t) m′ → Left t (p .side) γ first end m m′ now (r .answer)
-      → v ≡ bestIn (p .side) (λ k. getD (m′ .highs) k 0) first (end - (first + 1))
+      → Keeps (p .side) (r .answer) (m′ .highs) first end now v x
       → Passed t (treeAt t i) γ m
-      (memory (m′ .leaves) (m′ .evaluated) (m′ .order) (set (m′ .highs) i v)
-      (set (m′ .notBelow) i (keptEntry (p .side) (r .answer) (now - (first + 1))))) r
-  visit-entered {γ} {v} {now} {m′} {r} h b room left best =
+      (memory (m′ .leaves) (m′ .evaluated) (m′ .order) (set (m′ .highs) i v) (set (m′ .notBelow) i x)) r
+  visit-entered {γ} {v} {x} {now} {m′} {r} h b room left keeps =
       let wf = family .formed in
       let n = end - (first + 1) in
       let μ = known (valuation t) (marked (m′ .evaluated)) greatest in
@@ -183,11 +176,11 @@ module _ {t : List ℕ} {i first end : ℕ} (family : Family t i first end) {m :
       let j = in-kids (treeAt t) first n k x in
       left .highs .right (j .0) (j .1) (in-range (j .0) (j .2)) k (j .3))
       (left .highs .others)
-      (best
+      (keeps .high
       ∙ best-same (p .side) _ (λ k. minimax μ (treeAt t k)) first n
       (λ k a b. left .highs .right k a (in-range k b) k (in-own t wf k))
       ∙ sym (minimax-best μ (p .side) (treeAt t) first n))
-      (keptEntry (p .side) (r .answer) (now - (first + 1))) (flag-kept (p .side) (r .answer) _)
+      x (keeps .flag)
       (λ k x.
       let j = in-kids (treeAt t) first n k x in
       left .highs .skips (j .0) (j .1) (in-range (j .0) (j .2)) k (j .3))
@@ -195,10 +188,9 @@ module _ {t : List ℕ} {i first end : ℕ} (family : Family t i first end) {m :
       let y = in-kids (treeAt t) first n k x in
       let o = child-of (y .0) (y .1) (in-range (y .0) (y .2)) in
       let q = tree-range t wf (y .0) (child-within t wf (family .inside) o) k (y .3) in
-      let s = left .highs .skips (y .0) (y .1) (in-range (y .0) (y .2)) k (y .3) in
-      let l = wf .later k (q .1) (omega (arith, s .few (omega arith))) in
+      let l = wf .later k (q .1) (omega arith) in
       omega (arith, e, child-later t wf (family .inside) o, q .0, l))
       (left .highs .flags)
-      (own-skips (p .side) (ap (λ p. p .side) (ready .positioned)) (r .answer) now (m′ .notBelow)
-      (omega (arith, room .notBelow, family .inside))
-      (left .down) (λ j e. (refl, marked-other (m′ .notBelow) i j _ e)) refl))
+      (own-skips (ap (λ p. p .side) (ready .positioned)) (left .down)
+      (λ j e. (refl, marked-other (m′ .notBelow) i j _ e, getD-set-other (m′ .highs) i j v 0 e))
+      (getD-set-same (m′ .notBelow) i x 0 (omega (arith, room .notBelow, family .inside))) keeps))

@@ -6,6 +6,7 @@ use certificate_bounds::evaluate_next;
 use frames::child_count;
 use gametree::Position;
 use gametree::Side;
+use gametree::better;
 ghost use mathlib.Core.Path.{_≡_};
 ghost use mathlib.Core.Bool.{true, false, cond, _||_};
 ghost use mathlib.Core.List.{[], _∷_};
@@ -18,10 +19,15 @@ ghost use Rattle.frames.specs.Position.{depthOf};
 ghost use Rattle.frames.specs.Tree.{valuation};
 ghost use Rattle.certificate_bounds.specs.Marks.{marked, ones};
 ghost use Rattle.certificate_bounds.specs.engine.Evaluable.{Evaluable};
-ghost use Rattle.certificate_bounds.specs.engine.Ranges.{bestIn};
 ghost use Rattle.certificate_bounds.specs.engine.Progress.{progress, evaluateAll, Listable};
-ghost use Rattle.mtd_memory.specs.engine.Memory.{memory, VisitReady, Looked};
-ghost use Rattle.mtd_memory.specs.engine.Memory.{PassedOver, skipAt, skipEntry, keptEntry, FoundBelow};
+ghost use Rattle.mtd_memory.specs.engine.Memory.{memory, VisitReady, Looked, PassedOver, skipAt, skipEntry};
+ghost use Rattle.mtd_memory.specs.engine.Memory.{Leads, leadEntry, ToTry, Alone, Keeps, FoundBelow, Best};
+
+// An entry of `not_below` from this one on names a leading child.
+const LEADS: u16 = 256;
+
+// A node with fewer children names no leading one: to look at each of them costs less.
+const FEW: usize = 4;
 
 // What a node that was tried gives: the answer, true where the node is not below the test, and how many leaves are
 // evaluated by then.
@@ -43,7 +49,7 @@ pub fn look(
     evaluated: &mut [u8],
     order: &mut [u16],
     highs: &mut [u32],
-    not_below: &[u8],
+    not_below: &[u16],
     node: usize,
     position: Position,
     test: u32,
@@ -77,6 +83,67 @@ pub fn look(
     Seen::Open
 }
 
+// The children that a pass has to try: those from `from` up to `to`.
+pub struct Tries {
+    pub from: usize,
+    pub to: usize,
+}
+
+// The children of a node that a pass has to try: a Min node skips the leading ones that were found not below, and a Max
+// node tries the leading one alone, where the highs of all the others are below the test.
+pub fn to_try(
+    side: Side,
+    highs: &[u32],
+    not_below: &[u16],
+    node: usize,
+    first: usize,
+    end: usize,
+    test: u32,
+) -> Tries
+    requires { ⌜ (first < end) × (end ≤ length (now highs)) × (node < length (now «not_below»)) ⌝ }
+    requires { ⌜ (side ≡ Side.Min → first + skipAt (now «not_below») node < end) ⌝ }
+    requires { ⌜ (side ≡ Side.Max → Leads (now highs) first end (getD (now «not_below») node 0)) ⌝ }
+    ensures { λ r. ⌜ ToTry side (now (highs .entry)) test first end (getD (now («not_below» .entry)) node 0) r ⌝ }
+{
+    let entry = not_below[node];
+    match side {
+        Side::Max => tried_by_max(highs, entry, first, end, test),
+        Side::Min => Tries {
+            from: first + skipped(entry),
+            to: end,
+        },
+    }
+}
+
+// The children of a Max node that a pass has to try.
+fn tried_by_max(highs: &[u32], entry: u16, first: usize, end: usize, test: u32) -> Tries
+    requires { ⌜ (first < end) × (end ≤ length (now highs)) ⌝ }
+    requires { ⌜ Leads (now highs) first end entry ⌝ }
+    ensures { λ r. ⌜ ToTry Side.Max (now (highs .entry)) test first end entry r ⌝ }
+{
+    if entry < LEADS {
+        return Tries {
+            from: first,
+            to: end,
+        };
+    }
+    if test <= highs[first + (entry % LEADS) as usize] {
+        return Tries {
+            from: first,
+            to: end,
+        };
+    }
+    let to = first + (entry / LEADS) as usize;
+    Tries { from: to - 1, to }
+}
+
+// How many leading children an entry says to skip, since a pass found them not below.
+fn skipped(entry: u16) -> usize
+    ensures { λ r. ⌜ r ≡ entry - 1 ⌝ }
+{
+    if entry == 0 { 0 } else { (entry - 1) as usize }
+}
+
 // The next child to try: under Max those whose highs are below the test are passed over.
 pub fn next_tried(side: Side, highs: &[u32], child: usize, end: usize, test: u32) -> usize
     requires { ⌜ (child ≤ end) × (end ≤ length (now highs)) ⌝ }
@@ -104,75 +171,202 @@ pub fn first_not_below(highs: &[u32], from: usize, end: usize, test: u32) -> usi
     node
 }
 
-// How many leading children of a node are skipped, since a pass found them not below.
-pub fn skipped(not_below: &[u8], node: usize) -> usize
-    requires { ⌜ node < length (now «not_below») ⌝ }
-    ensures { λ r. ⌜ r ≡ skipAt (now («not_below» .entry)) node ⌝ }
-{
-    let entry = not_below[node];
-    if entry == 0 { 0 } else { (entry - 1) as usize }
+// What a node keeps: its high, and its entry of `not_below`.
+pub struct Kept {
+    pub high: u32,
+    pub entry: u16,
 }
 
 // A node keeps the best of its children's highs, and their answer; `child` comes after the last child that was tried.
 pub fn remember(
     highs: &mut [u32],
-    not_below: &mut [u8],
+    not_below: &mut [u16],
     node: usize,
     first: usize,
     child: usize,
+    tries: Tries,
     end: usize,
     side: Side,
     answer: bool,
 )
-    requires { ⌜ (first < end) × (end ≤ length (now highs)) ⌝ }
+    requires { ⌜ (first < end) × (end ≤ length (now highs)) × (end ≤ first + 255) ⌝ }
     requires { ⌜ (node < maxNodes) × (node < length (now highs)) × (node < length (now «not_below»)) ⌝ }
     requires { ⌜ (side ≡ Side.Min → answer ≡ false → FoundBelow (now highs) first end child) ⌝ }
-    ensures { λ _. ⌜ now (highs .exit) ≡ set (now (highs .entry)) node
-        (bestIn side (λ k. getD (now (highs .entry)) k 0) first (end - (first + 1))) ⌝ }
-    ensures { λ _. ⌜ now («not_below» .exit) ≡ set (now («not_below» .entry)) node
-        (keptEntry side answer (child - (first + 1))) ⌝ }
+    requires { ⌜ (side ≡ Side.Max → Alone (now highs) first end (getD (now «not_below») node 0) tries) ⌝ }
+    ensures { λ _. ⌜ now (highs .exit) ≡ set (now (highs .entry)) node (getD (now (highs .exit)) node 0) ⌝ }
+    ensures { λ _. ⌜ now («not_below» .exit)
+        ≡ set (now («not_below» .entry)) node (getD (now («not_below» .exit)) node 0) ⌝ }
+    ensures { λ _. ⌜ Keeps side answer (now (highs .entry)) first end child (getD (now (highs .exit)) node 0)
+        (getD (now («not_below» .exit)) node 0) ⌝ }
 {
-    let high = kept_high(highs, first, child, end, side, answer);
-    highs[node] = high;
-    not_below[node] = kept_entry(first, child, side, answer);
+    let entry = not_below[node];
+    let kept = kept_by(highs, entry, first, child, tries, end, side, answer);
+    highs[node] = kept.high;
+    not_below[node] = kept.entry;
 }
 
-// The best of the children's highs: at a Min node that is below it is that of the child found below.
-fn kept_high(highs: &[u32], first: usize, child: usize, end: usize, side: Side, answer: bool) -> u32
-    requires { ⌜ (first < end) × (end ≤ length (now highs)) ⌝ }
+// What a node keeps of its children.
+fn kept_by(
+    highs: &[u32],
+    entry: u16,
+    first: usize,
+    child: usize,
+    tries: Tries,
+    end: usize,
+    side: Side,
+    answer: bool,
+) -> Kept
+    requires { ⌜ (first < end) × (end ≤ length (now highs)) × (end ≤ first + 255) ⌝ }
     requires { ⌜ (side ≡ Side.Min → answer ≡ false → FoundBelow (now highs) first end child) ⌝ }
-    ensures { λ r. ⌜ r ≡ bestIn side (λ k. getD (now (highs .entry)) k 0) first (end - (first + 1)) ⌝ }
+    requires { ⌜ (side ≡ Side.Max → Alone (now highs) first end entry tries) ⌝ }
+    ensures { λ r. ⌜ Keeps side answer (now (highs .entry)) first end child (r .high) (r .entry) ⌝ }
 {
-    if answer {
-        return best(highs, first, end, side);
-    }
     match side {
-        Side::Max => best(highs, first, end, side),
-        Side::Min => highs[child - 1],
+        Side::Max => kept_by_max(highs, entry, first, tries, end, answer),
+        Side::Min => kept_by_min(highs, first, child, end, answer),
     }
 }
 
-// The entry of `not_below`: 1 where the node is not below; at a Min node that is below the children before the one
-// found below are skipped from then on.
-fn kept_entry(first: usize, child: usize, side: Side, answer: bool) -> u8
-    requires { ⌜ (side ≡ Side.Min → answer ≡ false → (first < child) × (child ≤ first + 255)) ⌝ }
-    ensures { λ r. ⌜ r ≡ keptEntry side answer (child - (first + 1)) ⌝ }
+// What a Min node keeps: below, the high of the child found below, and to skip the children before it.
+fn kept_by_min(highs: &[u32], first: usize, child: usize, end: usize, answer: bool) -> Kept
+    requires { ⌜ (first < end) × (end ≤ length (now highs)) × (end ≤ first + 255) ⌝ }
+    requires { ⌜ (answer ≡ false → FoundBelow (now highs) first end child) ⌝ }
+    ensures { λ r. ⌜ Keeps Side.Min answer (now (highs .entry)) first end child (r .high) (r .entry) ⌝ }
 {
     if answer {
-        return 1;
+        let high = best(highs, first, end, Side::Min);
+        return Kept { high, entry: 1 };
     }
-    match side {
-        Side::Max => 0,
-        Side::Min => skip_entry(child - (first + 1)),
+    let entry = skip_entry(child - (first + 1));
+    Kept {
+        high: highs[child - 1],
+        entry,
+    }
+}
+
+// What a Max node keeps: where the leading child alone was tried, the greater of its high and the second one's.
+fn kept_by_max(
+    highs: &[u32],
+    entry: u16,
+    first: usize,
+    tries: Tries,
+    end: usize,
+    answer: bool,
+) -> Kept
+    requires { ⌜ (first < end) × (end ≤ length (now highs)) × (end ≤ first + 255) ⌝ }
+    requires { ⌜ Alone (now highs) first end entry tries ⌝ }
+    ensures { λ r. ⌜ ((child : ℕ)
+        → Keeps Side.Max answer (now (highs .entry)) first end child (r .high) (r .entry)) ⌝ }
+{
+    if entry < LEADS {
+        return kept_of_all(highs, first, end, answer);
+    }
+    if tries.from + 1 != tries.to {
+        return kept_of_all(highs, first, end, answer);
+    }
+    let lead = tries.from;
+    let high = better(
+        Side::Max,
+        highs[lead],
+        highs[first + (entry % LEADS) as usize],
+    );
+    if answer {
+        return Kept { high, entry: 1 };
+    }
+    Kept { high, entry }
+}
+
+// What a Max node keeps where all its children may have been tried.
+fn kept_of_all(highs: &[u32], first: usize, end: usize, answer: bool) -> Kept
+    requires { ⌜ (first < end) × (end ≤ length (now highs)) × (end ≤ first + 255) ⌝ }
+    ensures { λ r. ⌜ ((child : ℕ)
+        → Keeps Side.Max answer (now (highs .entry)) first end child (r .high) (r .entry)) ⌝ }
+{
+    if answer {
+        let high = best(highs, first, end, Side::Max);
+        return Kept { high, entry: 1 };
+    }
+    if end - first < FEW {
+        let high = best(highs, first, end, Side::Max);
+        return Kept { high, entry: 0 };
+    }
+    let two = two_best(highs, first, end);
+    Kept {
+        high: two.most,
+        entry: lead_entry(two.lead - first, two.second - first),
+    }
+}
+
+// The entry that names the leading child and the second one by their places.
+fn lead_entry(lead: usize, second: usize) -> u16
+    requires { ⌜ (lead < 255) × (second < 255) ⌝ }
+    ensures { λ r. ⌜ r ≡ leadEntry lead second ⌝ }
+{
+    if lead == second {
+        return 0;
+    }
+    ((lead + 1) * LEADS as usize + second) as u16
+}
+
+// The child with the greatest high, and the one with the greatest of the other highs, with these highs; the same child
+// twice, and 0, where there is no other high.
+struct TwoBest {
+    lead: usize,
+    second: usize,
+    most: u32,
+    more: u32,
+}
+
+// The two best children by their highs.
+fn two_best(highs: &[u32], first: usize, end: usize) -> TwoBest
+    requires { ⌜ (first < end) × (end ≤ length (now highs)) ⌝ }
+    ensures { λ r. ⌜ Best (now (highs .entry)) first end r ⌝ }
+{
+    let mut two = TwoBest {
+        lead: first,
+        second: first,
+        most: highs[first],
+        more: 0,
+    };
+    let mut at = first + 1;
+    while at < end {
+        two = with_child(highs, first, at, two);
+        at += 1;
+    }
+    two
+}
+
+// The two best children where one more is looked at.
+fn with_child(highs: &[u32], first: usize, child: usize, two: TwoBest) -> TwoBest
+    requires { ⌜ (child < length (now highs)) × (Best (now highs) first child two) ⌝ }
+    ensures { λ r. ⌜ Best (now (highs .entry)) first (child + 1) r ⌝ }
+{
+    let high = highs[child];
+    if high <= two.more {
+        return two;
+    }
+    if high <= two.most {
+        return TwoBest {
+            lead: two.lead,
+            second: child,
+            most: two.most,
+            more: high,
+        };
+    }
+    TwoBest {
+        lead: child,
+        second: two.lead,
+        most: high,
+        more: two.most,
     }
 }
 
 // The entry that says to skip so many children.
-fn skip_entry(count: usize) -> u8
+fn skip_entry(count: usize) -> u16
     requires { ⌜ count < 255 ⌝ }
     ensures { λ r. ⌜ r ≡ skipEntry count ⌝ }
 {
-    if count == 0 { 0 } else { (count + 1) as u8 }
+    if count == 0 { 0 } else { (count + 1) as u16 }
 }
 
 // A node that is not entered has its answer at once.

@@ -70,4 +70,4 @@ pub look-spec : {M : Type 1} → statement M
 look-spec =
     tie.close (tie.spec (λ c κs. search needs) visit-leaf-requires (λ c. search needs) (λ c. search needs)
     (λ c. search needs) returns (λ c. search needs) (λ c. search needs) (λ c κs. search needs) returns-2
-    (λ c. search needs) (λ c κs. search needs) returns-3 returns-4)
+    (λ c. search needs) (λ c. search needs) (λ c κs. search needs) returns-3 returns-4)

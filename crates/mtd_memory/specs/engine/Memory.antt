@@ -1,9 +1,10 @@
 -- MTD's memory as the engine keeps it, a count, the list of leaves and three arrays over the node numbers, and what a
 -- visit of a node asks of it and does to it.
-use Prim.Native.Nat.{ℕ, zero, suc, _+_, _-_, _≤_, _<_}
+use Prim.Native.Nat.{ℕ, zero, suc, _+_, _-_, _*_, _/_, _%_, _≤_, _<_}
 use mathlib.Core.Path.{_≡_}
-use mathlib.Core.Bool.{Bool, true, false}
+use mathlib.Core.Bool.{Bool, true, false, cond}
 use mathlib.Core.List.{List}
+use lib.Dec.{eqb}
 use lib.ListN.{length, getD}
 use Rattle.gametree.specs.declared.Position.{Position}
 use Rattle.gametree.specs.declared.Side.{Side}
@@ -24,9 +25,12 @@ use Rattle.certificate_flags.specs.engine.Chosen.{firstEqual}
 use Rattle.mtd_memory.specs.declared.Seen.{Seen}
 use Rattle.mtd_memory.specs.declared.Seen.the-variants.{Answered, Open}
 use Rattle.mtd_memory.specs.declared.Tried.{Tried}
+use Rattle.mtd_memory.specs.declared.Tries.{Tries}
+use Rattle.mtd_memory.specs.declared.TwoBest.{TwoBest}
 
 -- how many leaves are evaluated, their marks, the list of them, the high of each node, and an entry for each inner
--- node: 1 where a pass found it not below its test, else 0, or one more than the number of its leading children to skip
+-- node: 1 where a pass found it not below its test; else 0, or for a Min node one more than the number of its leading
+-- children to skip, or for a Max node one that names its two best children
 pub record Memory : Type 0 where
   pub leaves : ℕ
   pub evaluated : List ℕ
@@ -71,22 +75,47 @@ abbrev pub skipEntry : ℕ → ℕ
 skipEntry zero = 0
 skipEntry (suc n) = suc (suc n)
 
--- the entry of a node with the answer b: below, a Min node skips the n children that came before the one found below
-abbrev pub keptEntry : Side → (b : Bool) → (n : ℕ) → ℕ
-keptEntry s true n = 1
-keptEntry Max false n = 0
-keptEntry Min false n = skipEntry n
+-- the entry of a Min node with the answer b: below, it skips the n children that came before the one found below
+abbrev pub keptEntry : (b : Bool) → (n : ℕ) → ℕ
+keptEntry true n = 1
+keptEntry false n = skipEntry n
+
+-- an entry x from 256 on names two children of a Max node by their places: one more than that of the leading child, by
+-- x / 256, and that of the second one; none of the others has a greater high than the second one
+pub record Leads (highs : List ℕ) (first end x : ℕ) : Type 0 where
+  pub lead : 256 ≤ x → first + x / 256 ≤ end
+  pub second : 256 ≤ x → first + x % 256 < end
+  pub apart : 256 ≤ x → x % 256 + 1 ≡ x / 256 → ⊥
+  pub others : 256 ≤ x → (j : ℕ) → first ≤ j → j < end → (j + 1 ≡ first + x / 256 → ⊥)
+      → getD highs j 0 ≤ getD highs (first + x % 256) 0
+
+-- the entry that names two different children by their places
+abbrev pub leadEntry : (lead second : ℕ) → ℕ
+leadEntry lead second = cond (eqb lead second) 0 ((lead + 1) * 256 + second)
+
+-- the two best of the children so far
+pub record Best (highs : List ℕ) (first end : ℕ) (two : TwoBest) : Type 0 where
+  pub lead-from : first ≤ two .lead
+  pub lead-to : two .lead < end
+  pub second-from : first ≤ two .second
+  pub second-to : two .second < end
+  pub most : two .most ≡ getD highs (two .lead) 0
+  pub more : two .more ≤ getD highs (two .second) 0
+  pub order : two .more ≤ two .most
+  pub others : (j : ℕ) → first ≤ j → j < end → (j ≡ two .lead → ⊥) → getD highs j 0 ≤ two .more
 
 -- a leaf that is evaluated, or an inner node that a pass found not below
 pub record Explored (t : List ℕ) (m : Memory) (j : ℕ) : Type 0 where
   pub leaf-is : childCount t j ≡ 0 → marked (m .evaluated) j ≡ true
   pub inner-is : 0 < childCount t j → marked (m .notBelow) j ≡ true
 
--- the leading children to skip are those of a Min node, not all of them, and explored
+-- the leading children that a Min node skips are not all of them, and explored; a Max node's entry names two children
 pub record Skips (t : List ℕ) (m : Memory) (k : ℕ) : Type 0 where
-  pub mover : 0 < skipAt (m .notBelow) k → sideOf t k ≡ Min
-  pub few : 0 < skipAt (m .notBelow) k → skipAt (m .notBelow) k < childCount t k
-  pub explored : (j : ℕ) → firstChild t k ≤ j → j < firstChild t k + skipAt (m .notBelow) k → Explored t m j
+  pub few : sideOf t k ≡ Min → 0 < skipAt (m .notBelow) k → skipAt (m .notBelow) k < childCount t k
+  pub explored : sideOf t k ≡ Min → (j : ℕ) → firstChild t k ≤ j → j < firstChild t k + skipAt (m .notBelow) k
+      → Explored t m j
+  pub leads : sideOf t k ≡ Max
+      → Leads (m .highs) (firstChild t k) (firstChild t k + childCount t k) (getD (m .notBelow) k 0)
 
 abbrev pub SkipsRight : List ℕ → Memory → Tree → Type 0
 SkipsRight t m T = (k : ℕ) → In k T → Skips t m k
@@ -95,8 +124,30 @@ SkipsRight t m T = (k : ℕ) → In k T → Skips t m k
 pub record FoundBelow (highs : List ℕ) (first end child : ℕ) : Type 0 where
   pub from : first < child
   pub to : child ≤ end
-  pub few : child ≤ first + 255
   pub best : bestIn Min (λ k. getD highs k 0) first (end - (first + 1)) ≡ getD highs (child - 1) 0
+
+-- the children that a pass with the test γ has to try, by the entry x: of a Max node all others are below the test
+pub record ToTry (s : Side) (highs : List ℕ) (γ first end x : ℕ) (r : Tries) : Type 0 where
+  pub start : first ≤ r .from
+  pub some : r .from < r .to
+  pub within : r .to ≤ end
+  pub skips : s ≡ Min → (r .from ≡ first + (x - 1)) × (r .to ≡ end)
+  pub outside : s ≡ Max → (k : ℕ) → first ≤ k → k < end → (r .from ≤ k → k < r .to → ⊥) → getD highs k 0 < γ
+  pub alone : s ≡ Max → 256 ≤ x → r .from + 1 ≡ r .to → r .to ≡ first + x / 256
+
+-- where one child alone was tried, it is the leading one that the entry x names
+pub record Alone (highs : List ℕ) (first end x : ℕ) (r : Tries) : Type 0 where
+  pub some : r .from < r .to
+  pub within : r .to ≤ end
+  pub alone : 256 ≤ x → r .from + 1 ≡ r .to → r .to ≡ first + x / 256
+  pub leads : 256 ≤ x → r .from + 1 ≡ r .to → Leads highs first end x
+
+-- what a node with the answer b keeps of its children: the best high v, and the entry x
+pub record Keeps (s : Side) (b : Bool) (highs : List ℕ) (first end child v x : ℕ) : Type 0 where
+  pub high : v ≡ bestIn s (λ k. getD highs k 0) first (end - (first + 1))
+  pub flag : eqb x 1 ≡ b
+  pub skips : s ≡ Min → x ≡ keptEntry b (child - (first + 1))
+  pub leads : s ≡ Max → Leads highs first end x
 
 -- the count is the number of marks
 abbrev pub Counted : List ℕ → Memory → Type 0
