@@ -43,6 +43,9 @@ pub const NO_MIN_TREE: u8 = 13;
 
 pub const UNEQUAL_VALUES: u8 = 14;
 
+// A tree of at most so many nodes gets a small work array.
+const FEW_NODES: usize = 512;
+
 // The answer: the value that the certificate proves, or a rejection.
 pub enum Verdict {
     Value(i16),
@@ -79,12 +82,17 @@ pub fn check_certificate(table: &[u8], flags: &[u8]) -> Verdict
     }
 }
 
-// Questions 12 to 14, for a well-formed table and a flag for each node.
+// Questions 12 to 14, for a well-formed table and a flag for each node; a small tree gets a small work array.
 fn check_trees(table: &[u8], flags: &[u8]) -> Verdict
     requires { ⌜ (WellFormed (now table)) × (frames (now table) ≤ length (now flags)) ⌝ }
     ensures { λ r. ⌜ r ≡ judged (now (table .entry)) (now (flags .entry))
         (treesRejection (now (table .entry)) (now (flags .entry))) ⌝ }
 {
+    if frame_count(table) <= FEW_NODES {
+        let mut positions = [0u32; FEW_NODES];
+        fill(table, &mut positions);
+        return judge(table, flags, &positions);
+    }
     let mut positions = [0u32; MAX_NODES];
     fill(table, &mut positions);
     judge(table, flags, &positions)
@@ -105,8 +113,9 @@ fn judge(table: &[u8], flags: &[u8], positions: &[u32]) -> Verdict
     if let Checked::Rejected(r) = min_tree {
         return Verdict::Rejected(r);
     }
-    let score = tree_value(table, flags, positions, Side::Max);
-    if score != tree_value(table, flags, positions, Side::Min) {
+    let values = tree_values(table, flags, positions);
+    let score = values.greatest;
+    if score != values.least {
         return Verdict::Rejected(Rejection {
             number: UNEQUAL_VALUES,
             place: 0,
@@ -201,19 +210,30 @@ fn required(side: Side, mover: Side, count: usize) -> usize
     if same(side, mover) { count } else { 1 }
 }
 
-// The value of the side's tree: the best score of its leaves.
-fn tree_value(table: &[u8], flags: &[u8], positions: &[u32], side: Side) -> u32
+// The values of the two trees: the greatest score of the max tree's leaves, the least of the min tree's.
+struct TreeValues {
+    greatest: u32,
+    least: u32,
+}
+
+// Both values, in one pass over the nodes.
+fn tree_values(table: &[u8], flags: &[u8], positions: &[u32]) -> TreeValues
     requires { ⌜ (WellFormed (now table)) × (frames (now table) ≤ length (now flags))
         × (Positioned (now table) (now positions)) ⌝ }
-    ensures { λ r. ⌜ r ≡ treeValue side (now (table .entry)) (now (flags .entry)) ⌝ }
+    ensures { λ r. ⌜ (r .greatest ≡ treeValue Side.Max (now (table .entry)) (now (flags .entry)))
+        × (r .least ≡ treeValue Side.Min (now (table .entry)) (now (flags .entry))) ⌝ }
 {
     let n = frame_count(table);
-    let mut best = worst(side);
+    let mut greatest = LEAST;
+    let mut least = GREATEST;
     for node in 0..n {
-        let leaf = leaf_in(table, flags, node, depth_at(positions, node), side);
-        best = better(side, best, leaf);
+        let depth = depth_at(positions, node);
+        let max_leaf = leaf_in(table, flags, node, depth, Side::Max);
+        greatest = better(Side::Max, greatest, max_leaf);
+        let min_leaf = leaf_in(table, flags, node, depth, Side::Min);
+        least = better(Side::Min, least, min_leaf);
     }
-    best
+    TreeValues { greatest, least }
 }
 
 // The score of a node if it is a leaf of the side's tree, else the side's worst.
@@ -222,10 +242,10 @@ fn leaf_in(table: &[u8], flags: &[u8], node: usize, depth: u32, side: Side) -> u
     requires { ⌜ (depth ≡ depthOf (now table) node) × (depth ≤ maxNodes) ⌝ }
     ensures { λ r. ⌜ r ≡ leafIn side (now (table .entry)) (now (flags .entry)) node ⌝ }
 {
-    if child_count(table, node) != 0 {
+    if !is_member(flags[node], side) {
         return worst(side);
     }
-    if is_member(flags[node], side) {
+    if child_count(table, node) == 0 {
         leaf_score(table, node, depth)
     } else {
         worst(side)

@@ -85,26 +85,23 @@ passed c =
 
 returns-3 : tie.Need-returns-3
 returns-3 c =
-    let y = c .before in
-    let x = y .before in
-    unequal _ _ _ _ (x .tree-value .ensures) (y .tree-value2 .ensures) (c .if1 .taken) ∙ passed (x .before)
+    let v = c .before .before in
+    unequal _ _ _ _ (v .tree-values .ensures .0) (v .tree-values .ensures .1) (c .if1 .taken) ∙ passed (v .before)
 
 value-requires : tie.Need-value-requires
 value-requires c κs =
-    let x = c .before .before in
-    let s = x .before .before .before .before .before .before .before .before .before .before in
-    omega (arith, x .tree-value .ensures, value-within Max (s .args .table .now) (s .args .flags .now) (s .pre .0))
+    let v = c .before .before in
+    let s = v .before .before .before .before .before .before .before .before .before .before in
+    omega (arith, v .tree-values .ensures .0, value-within Max (s .args .table .now) (s .args .flags .now) (s .pre .0))
 
 returns-4 : tie.Need-returns-4
 returns-4 c =
-    let y = c .before .before in
-    let x = y .before in
+    let v = c .before .before .before in
     ap Value (toZ-ofZ w16 (c .value .result) (record { sfits = c .value .ok }) ∙ c .value .ensures)
-    ∙ equal _ _ _ _ (x .tree-value .ensures) (y .tree-value2 .ensures) (c .before .if1 .left)
-    ∙ passed (x .before)
+    ∙ equal _ _ _ _ (v .tree-values .ensures .0) (v .tree-values .ensures .1) (c .before .if1 .left)
+    ∙ passed (v .before)
 
 pub judge-spec : {M : Type 1} → statement M
 judge-spec =
     tie.close (tie.spec (λ c κs. search needs) (λ c. search needs) returns (λ c. search needs) (λ c κs. search needs)
-    (λ c. search needs) returns-2 (λ c. search needs) (λ c κs. search needs) (λ c κs. search needs) returns-3
-    value-requires returns-4)
+    (λ c. search needs) returns-2 (λ c. search needs) (λ c κs. search needs) returns-3 value-requires returns-4)
