@@ -14,7 +14,7 @@ use Rattle.frames.specs.Frame.{maxNodes, frames, firstChild, childCount}
 use Rattle.frames.specs.Position.{parentOf, sideOf}
 use Rattle.frames.specs.Formed.{WellFormed, ChildOf}
 use Rattle.frames.proofs.Next.{child-within}
-use Rattle.frames.proofs.Parents.{parent-less, parent-child}
+use Rattle.frames.proofs.Parents.{parent-less}
 use Rattle.sss_states.specs.engine.Kept.{bestAt, linkAt, packedEntry, chosenBy, chosenOf, renewed}
 use Rattle.sss_states.specs.engine.Kept.{needsRefresh}
 use Rattle.sss_states.specs.engine.Kept.{Refreshed, refreshed, Sound, Fits}
@@ -59,7 +59,6 @@ pub record Falling (t F : List ℕ) (γ : ℕ) (w₀ : List ℕ) (node : ℕ) (w
 pub record Rises (t w : List ℕ) (at p : ℕ) : Type 0 where
   pub inside : p < frames t
   pub less : p < at
-  pub from : ChildOf t p at
   pub child : chosenOf t w p < frames t
   pub merit : bestAt w (chosenOf t w p) ≤ greatest
 
@@ -152,13 +151,7 @@ module _ {t F : List ℕ} {γ : ℕ} {w₀ : List ℕ} {node : ℕ} {w : List �
       let h : p < frames t = omega (arith, f .inside) in
       let o = f .fits .sound in
       let c = link-inside t (f .fits .formed) h (chosen-link t w p (o .links p h)) in
-      record {
-        inside = h;
-        less = omega arith;
-        from = rw q (parent-child t (f .fits .formed) at (omega arith) (f .inside) .1);
-        child = c;
-        merit = o .merits _ (omega (arith, o .room));
-      }
+      record { inside = h; less = omega arith; child = c; merit = o .merits _ (omega (arith, o .room)) }
 
   -- and leaves what is still to be done
   pub falling-again : (p c b v : ℕ) → needsRefresh w γ at ≡ true → p ≡ parentOf t at → c ≡ chosenOf t w p

@@ -1,5 +1,5 @@
 -- The loops over the front: the leftmost best of some children, the fall, and the way down.
-use Prim.Native.Nat.{ℕ, zero, suc, _+_, _-_, _≤_, _<_}
+use Prim.Native.Nat.{ℕ, zero, suc, _+_, _-_, _*_, _/_, _≤_, _<_}
 use native.Mathlib.Omega.{arith}
 use native.Mathlib.Decide.{decLe}
 use mathlib.Core.Path.{_≡_, refl, sym, _∙_, ap}
@@ -8,11 +8,11 @@ use mathlib.Core.List.{List}
 use lib.Dec.{ltb}
 use lib.ListN.{length, getD}
 use borrow.Author.Tests.{eq-eqb, ne-eqb}
-use Rattle.frames.specs.Frame.{frames}
+use Rattle.frames.specs.Frame.{maxNodes, frames}
 use Rattle.frames.specs.Formed.{WellFormed}
 use Rattle.frames.proofs.Next.{child-within, child-later}
 use Rattle.sss_states.specs.engine.Kept.{bestAt, linkAt, leftmostBest, needsRefresh, descended, Sound, Fits}
-use Rattle.sss_states.specs.engine.Scanned.{leastAlike, Attained, GreatestEntry, FirstFrom}
+use Rattle.sss_states.specs.engine.Scanned.{Attained, GreatestEntry, FirstFrom}
 use Rattle.sss_states.proofs.Ways.{leftmost-same}
 
 -- the greatest of the entries before `at`
@@ -79,43 +79,20 @@ pass-on {at = at} p h =
       ];
     }
 
--- the first that is enough is no later than one that is
-pub first-before : {w : List ℕ} {i v r : ℕ} (m : ℕ) → FirstFrom w i v r → Attained w i m v → r < m
-first-before {r = r} m f a =
-    elim (decLe r (a .node)) [
-      | yes o ↦ omega (arith, a .to)
-      | no o ↦ (let x = f .earlier (a .node) (a .from) (omega arith) in absurd (omega (arith, a .enough)))
-    ]
-
--- a node has its own merit
-pub own-attained : (w : List ℕ) (i n from : ℕ) → i ≤ from → from < n → Attained w i n (leastAlike (getD w from 0))
-own-attained w i n from a b = record { node = from; from = a; to = b; enough = omega arith }
-
--- the merit of the greatest entry is attained
-pub greatest-attained : {w : List ℕ} {i n v : ℕ} (m : ℕ) → GreatestEntry w i n v → n ≤ m → Attained w i m (leastAlike v)
-greatest-attained m g l =
-    let a = g .attained in
-    record { node = a .node; from = a .from; to = omega (arith, a .to); enough = omega (arith, a .enough) }
-
--- the leftmost best is the first with the greatest merit from the first on that is no less than the node `from`
-pub first-best : {w : List ℕ} {first noLess greatest r : ℕ} (count from : ℕ) → first ≤ from → from < first + count
-    → FirstFrom w first (leastAlike (getD w from 0)) noLess → GreatestEntry w noLess (first + count) greatest
-    → FirstFrom w noLess (leastAlike greatest) r → r ≡ leftmostBest w first (count - 1)
-first-best {w} {first} {noLess} {greatest} {r} count from i j n g f =
-    let l = first-before (from + 1) n (own-attained w first (from + 1) from i (omega arith)) in
-    let m = g .atMost from (omega arith) j in
-    let o = first-before (first + count) f (greatest-attained (first + count) g (omega arith)) in
+-- the first entry with the merit of the greatest is the leftmost best's
+pub first-best : (w : List ℕ) (first count greatest r : ℕ) → 0 < count
+    → GreatestEntry w first (first + count) greatest
+    → FirstFrom w first (greatest / maxNodes * maxNodes) r → r ≡ leftmostBest w first (count - 1)
+first-best w first count greatest r h g f =
     leftmost-same (record {
-      from = omega (arith, n .from, f .from);
-      to = omega arith;
-      greatest = λ k b c. elim (decLe noLess k) [
-        | yes d ↦ (let x = g .atMost k d (omega arith) in omega (arith, f .enough))
-        | no d ↦ (let x = n .earlier k b (omega arith) in omega (arith, f .enough))
+      from = f .from;
+      to = elim (decLe r (g .attained .node)) [
+        | yes o ↦ omega (arith, g .attained .to)
+        | no o ↦ (let x = f .earlier (g .attained .node) (g .attained .from) (omega arith) in
+            absurd (omega (arith, g .attained .enough)))
       ];
-      leftmost = λ k b c. elim (decLe noLess k) [
-        | yes d ↦ (let x = f .earlier k d c in omega (arith, f .enough))
-        | no d ↦ (let x = n .earlier k b (omega arith) in omega (arith, f .enough))
-      ];
+      greatest = λ k a b. let x = g .atMost k a (omega arith) in omega (arith, f .enough);
+      leftmost = λ k a b. let x = f .earlier k a b in omega (arith, f .enough);
     })
 
 -- the test of the fall

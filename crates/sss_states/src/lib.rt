@@ -11,11 +11,10 @@ ghost use Prim.Native.Nat.{_+_, _-_, _≤_, _<_};
 ghost use lib.ListN.{length};
 ghost use Rattle.gametree.specs.Tree.{greatest};
 ghost use Rattle.frames.specs.Frame.{maxNodes, frames};
-ghost use Rattle.frames.specs.Formed.{ChildOf};
 ghost use Rattle.sss_states.specs.Entry.{blank as blankEntry};
 ghost use Rattle.sss_states.specs.engine.Kept.{bestAt, linkAt, packedEntry as packedOf, leftmostBest, chosenOf};
 ghost use Rattle.sss_states.specs.engine.Kept.{needsRefresh};
-ghost use Rattle.sss_states.specs.engine.Scanned.{leastAlike, Attained, GreatestEntry, FirstFrom};
+ghost use Rattle.sss_states.specs.engine.Scanned.{Attained, GreatestEntry, FirstFrom};
 ghost use Rattle.sss_states.specs.engine.Kept.{refreshed, descended, changed, Puttable, Fits};
 
 // LIVE and SOLVED (SPEC 10.1).
@@ -88,10 +87,9 @@ pub fn refresh_ancestors(
 {
     let mut at = node;
     while needs_refresh(front, at, merit) {
-        let parent = parent_at(positions, at);
-        let child = chosen(table, positions, front, parent, at);
-        front[parent] = packed(best_at(front, child), child);
-        at = parent;
+        at = parent_at(positions, at);
+        let child = chosen(table, positions, front, at);
+        front[at] = packed(best_at(front, child), child);
     }
     at
 }
@@ -119,11 +117,10 @@ fn best_at(front: &[u32], node: usize) -> u32
     front[node] / LINKS
 }
 
-// The child that an expanded node goes down to, from the merits of its children, where that of `from` fell.
-fn chosen(table: &[u8], positions: &[u32], front: &[u32], node: usize, from: usize) -> usize
+// The child that an expanded node goes down to, from the merits of its children.
+fn chosen(table: &[u8], positions: &[u32], front: &[u32], node: usize) -> usize
     requires { ⌜ Fits (now table) (now positions) (now front) ⌝ }
     requires { ⌜ node < frames (now table) ⌝ }
-    requires { ⌜ ChildOf (now table) node from ⌝ }
     ensures { λ r. ⌜ r ≡ chosenOf (now (table .entry)) (now (front .entry)) node ⌝ }
 {
     let count = child_count(table, node);
@@ -131,28 +128,18 @@ fn chosen(table: &[u8], positions: &[u32], front: &[u32], node: usize, from: usi
         return 0;
     }
     match side_at(positions, node) {
-        Side::Max => leftmost_best(front, first_child(table, node), count, from),
+        Side::Max => leftmost_best(front, first_child(table, node), count),
         Side::Min => link_at(front, node),
     }
 }
 
-// The leftmost of `count` nodes of greatest merit: it is not before the first that is no less than the node `from`.
-fn leftmost_best(front: &[u32], first: usize, count: usize, from: usize) -> usize
-    requires { ⌜ (first + count ≤ length (now front)) × (length (now front) ≤ maxNodes) ⌝ }
-    requires { ⌜ (first ≤ from) × (from < first + count) ⌝ }
+// The leftmost of `count` nodes of greatest merit: the first with that of the greatest entry.
+fn leftmost_best(front: &[u32], first: usize, count: usize) -> usize
+    requires { ⌜ (0 < count) × (first + count ≤ length (now front)) × (length (now front) ≤ maxNodes) ⌝ }
     ensures { λ r. ⌜ r ≡ leftmostBest (now (front .entry)) first (count - 1) ⌝ }
 {
-    let end = first + count;
-    let no_less = first_from(front, first, least_alike(front[from]));
-    let greatest = greatest_entry(front, no_less, end);
-    first_from(front, no_less, least_alike(greatest))
-}
-
-// The least entry with the merit of this one.
-fn least_alike(entry: u32) -> u32
-    ensures { λ r. ⌜ r ≡ leastAlike entry ⌝ }
-{
-    entry / LINKS * LINKS
+    let greatest = greatest_entry(front, first, first + count);
+    first_from(front, first, greatest / LINKS * LINKS)
 }
 
 // The greatest entry of the nodes from `first` to before `end`.

@@ -16,7 +16,7 @@ start c = c .before .before .before .before .before .before
 
 -- the side that is read is the node's
 side : (c : tie.After-side-at) → c .side-at .result ≡ sideOf (start c .args .table .now) (start c .args .node)
-side c = c .side-at .ensures ∙ positioned-side _ _ (start c .pre .0 .positions) _ (start c .pre .1 .0)
+side c = c .side-at .ensures ∙ positioned-side _ _ (start c .pre .0 .positions) _ (start c .pre .1)
 
 returns : tie.Need-returns
 returns c =
@@ -30,12 +30,9 @@ leftmost-best-requires c κs =
     let h = a .pre .0 in
     let n = c .before .before .before .before .before .child-count in
     let z = c .before .before .before .before .if1 .left in
-    let w = children-within _ (h .formed) (a .args .node) (a .pre .1 .0) (omega (arith, n .ensures .0)) in
+    let w = children-within _ (h .formed) (a .args .node) (a .pre .1) (omega (arith, n .ensures .0)) in
     let e = c .first-child .ensures .0 in
-    let f = a .pre .1 .1 in (
-      (omega (arith, n .ensures .0, e, h .sound .room), omega (arith, h .sound .atMost)),
-      (omega (arith, e, f .from), omega (arith, n .ensures .0, e, f .to)),
-    )
+    (omega arith, omega (arith, n .ensures .0, e, h .sound .room), omega (arith, h .sound .atMost))
 
 returns-2 : tie.Need-returns-2
 returns-2 c =

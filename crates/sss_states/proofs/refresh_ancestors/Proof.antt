@@ -48,9 +48,6 @@ parent-at-requires : tie.Need-parent-at-requires Inv-loop μ-loop
 parent-at-requires c κs =
     let f = c .before .before .before .loop .inv in positioned-room _ _ (f .fits .positions) _ (f .inside)
 
-chosen-requires : tie.Need-chosen-requires Inv-loop μ-loop
-chosen-requires c κs = let r = risen (c .before) in (head (c .before) .loop .inv .fits, (r .inside, r .from))
-
 best-at-requires : tie.Need-best-at-requires Inv-loop μ-loop
 best-at-requires c κs =
     let s = c .before .before .before in
@@ -86,6 +83,6 @@ returns c =
 pub refresh-ancestors-spec : {M : Type 1} → statement M
 refresh-ancestors-spec =
     tie.close (tie.spec Inv-loop μ-loop loop-holds needs-refresh-requires parent-at-requires
-    chosen-requires best-at-requires packed-requires mul-front
+    (λ c κs. (head (c .before) .loop .inv .fits, risen (c .before) .inside)) best-at-requires packed-requires mul-front
     slice-write-front (λ c. risen (c .before .before .before .before .before) .less) loop-again
     (λ c. c .before .before .before .loop .inv .size) returns)

@@ -1,12 +1,7 @@
 -- What the scans over a run of entries find.
-use Prim.Native.Nat.{ℕ, _*_, _/_, _≤_, _<_}
+use Prim.Native.Nat.{ℕ, _≤_, _<_}
 use mathlib.Core.List.{List}
 use lib.ListN.{getD}
-use Rattle.frames.specs.Frame.{maxNodes}
-
--- the least entry with the merit of the entry e
-abbrev pub leastAlike : ℕ → ℕ
-leastAlike e = e / maxNodes * maxNodes
 
 -- a node from i to before n has an entry of at least v
 pub record Attained (w : List ℕ) (i n v : ℕ) : Type 0 where
