@@ -312,10 +312,13 @@ def main():
     if unknown:
         parser.error("no such tree: %s" % ", ".join(sorted(unknown)))
     build()
-    for title, made in some(args.trees) if args.trees else measure():
-        print("%s\n\n%s" % (title, made), flush=True)
-        if args.write and not args.trees:
-            library.put(COSTS, title, made)
+    made = {}
+    for title, text in some(args.trees) if args.trees else measure():
+        print("%s\n\n%s" % (title, text), flush=True)
+        made[title] = text
+    if args.write and not args.trees:
+        for title, text in made.items():
+            library.put(COSTS, title, text)
 
 
 if __name__ == "__main__":
