@@ -260,7 +260,7 @@ def programs(paths, counted):
 
 def growth():
     """How the worst families grow: thousands of instructions."""
-    columns = [("Min", "mtd"), ("Max", "mtd"), ("Max", "mtdf"), ("Max", "sss"), ("Max", "alphabeta")]
+    columns = [("Min", "mtd"), ("Min", "mtdf"), ("Max", "mtd"), ("Max", "mtdf"), ("Max", "sss"), ("Max", "alphabeta")]
     rows = []
     for nodes in GROWTH["Min"]:
         made = {side: family[nodes]() for side, family in GROWTH.items()}
