@@ -52,7 +52,8 @@ chosenOf t E s i =
 
 module _ (t : List ℕ) (wf : WellFormed t) (E : ℕ → Bool) where
   -- an array of one bound gives the one that the definitions name by it
-  pub by-bounds : (bounds : List ℕ) (x i : ℕ) → i < frames t → ((k : ℕ) → k < frames t → getD bounds k 0 ≡ boundOf t E x k)
+  pub by-bounds : (bounds : List ℕ) (x i : ℕ) → i < frames t
+      → ((k : ℕ) → k < frames t → getD bounds k 0 ≡ boundOf t E x k)
       → chosenChild bounds i (next t i) (childCount t i)
       ≡ firstEqual (boundOf t E x) (boundOf t E x i) (next t i) (childCount t i)
   by-bounds bounds x i h e =

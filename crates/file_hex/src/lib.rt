@@ -7,8 +7,6 @@ ghost use Rattle.file_hex.specs.engine.Kinds.{oneFrom, oneWithin};
 // How many digits there are, and how many of them are figures.
 pub const BASE: u8 = 16;
 
-const FIGURES: u8 = 10;
-
 // What a byte that is no digit gives, and the offset from a letter's low four bits to its number.
 const NO_DIGIT: u8 = 16;
 
@@ -30,8 +28,8 @@ pub fn digit(byte: u8) -> u8
 }
 
 // The same, with any number from NO_DIGIT on for a byte that is no digit. A figure's number is its low four bits, a
-// letter's is LETTER_MORE more, and all other bytes get NO_DIGIT more. No sum goes past a byte and no two numbers of the
-// byte are multiplied, so that the compiler reads many digits in one register.
+// letter's is LETTER_MORE more, and all other bytes get NO_DIGIT more. No sum goes past a byte and no two numbers of
+// the byte are multiplied, so that the compiler reads many digits in one register.
 pub fn digit_or_more(byte: u8) -> u8
     ensures { λ r. ⌜ (min r noDigit ≡ digitOf byte) × (r < 2 * noDigit) ⌝ }
 {
@@ -57,17 +55,6 @@ fn one_from(first: u8, byte: u8) -> u8
 {
     let odd = first % 2;
     (byte / 2 + byte % 2 * odd + (HALVES - (first / 2 + odd))) / HALVES
-}
-
-// The digit of a number, in capital letters.
-pub fn capital(number: u8) -> u8
-    requires { ⌜ number < noDigit ⌝ }
-    ensures { λ r. ⌜ r ≡ capitalOf number ⌝ }
-{
-    if number < FIGURES {
-        return b'0' + number;
-    }
-    b'A' + (number - FIGURES)
 }
 
 // Is the byte a letter from a to f?

@@ -1,10 +1,10 @@
 // The least number of leaves that decide a regular tree, held as a table (SPEC 18; 02: N12).
-mod table;
+mod counts;
 
+use counts::LEAST_COUNTS;
 use frames::MAX_CHILDREN;
 use frames::MAX_DEPTH;
 use frames::Rejection;
-use table::LEAST_COUNTS;
 ghost use mathlib.Core.Path.{_≡_};
 ghost use Prim.Native.Nat.{_<_, _≤_};
 ghost use Rattle.frames.specs.Frame.{maxChildren, maxDepth};

@@ -17,7 +17,7 @@ use Rattle.certificate_bounds.specs.Marks.{marked}
 use Rattle.certificate_bounds.specs.engine.Progress.{progress, evaluateAll}
 use Rattle.certificate_bounds.proofs.Listing.{none-evaluated, one-evaluated, evaluateAll-append}
 use Rattle.frames.specs.Frame.{firstChild, childCount}
-use Rattle.mtd_memory.specs.engine.Memory.{Memory, progressOf, MemoryRoom, Evaluated, Explored, Leads, Skips}
+use Rattle.mtd_memory.specs.engine.Memory.{Memory, progressOf, MemoryRoom, Evaluated, Explored, NamesTwo, Skips}
 
 -- what stands there already is stored
 pub set-same : (l : List ℕ) (i v : ℕ) → getD l i 0 ≡ v → set l i v ≡ l
@@ -28,7 +28,7 @@ pub set-own : (l : List ℕ) (i v : ℕ) → i < length l → set l i v ≡ set 
 set-own l i v h = ap (set l i) (sym (getD-set-same l i v 0 h))
 
 -- a small entry names no children
-pub no-leads : {h : List ℕ} {first end x : ℕ} → x < 256 → Leads h first end x
+pub no-leads : {h : List ℕ} {first end x : ℕ} → x < 256 → NamesTwo h first end x
 no-leads few =
     record {
       lead = λ n. absurd (omega arith);
@@ -40,7 +40,7 @@ no-leads few =
 -- the entry names the same children where the highs of all but the leading one are the same
 pub leads-others : {h h′ : List ℕ} {first end x : ℕ}
     → ((j : ℕ) → first ≤ j → j < end → (j + 1 ≡ first + x / 256 → ⊥) → getD h′ j 0 ≡ getD h j 0)
-    → Leads h first end x → Leads h′ first end x
+    → NamesTwo h first end x → NamesTwo h′ first end x
 leads-others {x = x} same l =
     record {
       lead = l .lead;

@@ -16,7 +16,7 @@ use Rattle.gametree.specs.Tree.{better}
 use Rattle.lists.proofs.Choice.{clash, cond-cases}
 use Rattle.certificate_bounds.specs.engine.Ranges.{bestIn}
 use Rattle.mtd_memory.specs.declared.TwoBest.{TwoBest}
-use Rattle.mtd_memory.specs.engine.Memory.{skipEntry, keptEntry, Leads, leadEntry, Best, ToTry, Keeps}
+use Rattle.mtd_memory.specs.engine.Memory.{skipEntry, keptEntry, NamesTwo, leadEntry, Best, ToTry, KeepsBest}
 use Rattle.mtd_memory.proofs.Arrays.{no-leads}
 use Rattle.mtd_memory.proofs.Answers.{best-of-two}
 
@@ -24,7 +24,7 @@ use Rattle.mtd_memory.proofs.Answers.{best-of-two}
 pub max-not-min : {s : Side} → s ≡ Max → s ≡ Min → ⊥
 max-not-min e f = clash (cc)
 
-module _ {highs : List ℕ} {γ first end x : ℕ} (some : first < end) (l : Leads highs first end x) where
+module _ {highs : List ℕ} {γ first end x : ℕ} (some : first < end) (l : NamesTwo highs first end x) where
   -- all children of a Max node are tried
   pub all-to-try : ToTry Max highs γ first end x (record { from = first; to = end })
   all-to-try =
@@ -137,22 +137,22 @@ module _ {highs : List ℕ} {first n : ℕ} {two : TwoBest} (b : Best highs firs
 
 -- what a Max node keeps
 pub keeps-max : {answer : Bool} {highs : List ℕ} {first end child v x : ℕ}
-    → v ≡ bestIn Max (λ k. getD highs k 0) first (end - (first + 1)) → eqb x 1 ≡ answer → Leads highs first end x
-    → Keeps Max answer highs first end child v x
+    → v ≡ bestIn Max (λ k. getD highs k 0) first (end - (first + 1)) → eqb x 1 ≡ answer → NamesTwo highs first end x
+    → KeepsBest Max answer highs first end child v x
 keeps-max h f l = record { high = h; flag = f; skips = λ e. absurd (max-not-min refl e); leads = λ _. l }
 
 -- what a Min node keeps
 pub keeps-min : {answer : Bool} {highs : List ℕ} {first end child v x : ℕ}
     → v ≡ bestIn Min (λ k. getD highs k 0) first (end - (first + 1)) → eqb x 1 ≡ answer
-    → x ≡ keptEntry answer (child - (first + 1)) → Keeps Min answer highs first end child v x
+    → x ≡ keptEntry answer (child - (first + 1)) → KeepsBest Min answer highs first end child v x
 keeps-min h f s = record { high = h; flag = f; skips = λ _. s; leads = λ e. absurd (max-not-min e refl) }
 
 -- a node keeps the same by other names
 pub keeps-same : {s : Side} {answer : Bool} {highs : List ℕ} {first end child v v′ x x′ : ℕ} → v′ ≡ v → x′ ≡ x
-    → Keeps s answer highs first end child v x → Keeps s answer highs first end child v′ x′
+    → KeepsBest s answer highs first end child v x → KeepsBest s answer highs first end child v′ x′
 keeps-same e f k = rw (e, f) k
 
-pub leads-entry : {highs : List ℕ} {first end x y : ℕ} → x ≡ y → Leads highs first end y → Leads highs first end x
+pub leads-entry : {highs : List ℕ} {first end x y : ℕ} → x ≡ y → NamesTwo highs first end y → NamesTwo highs first end x
 leads-entry e l = rw e l
 
 -- an entry that skips children is no answer
@@ -164,7 +164,7 @@ skip-flag (suc n) x e = ne-eqb x 1 (λ z. omega (arith, z, e))
 pub named-flag : (x : ℕ) → 256 ≤ x → eqb x 1 ≡ false
 named-flag x h = ne-eqb x 1 (λ e. omega (arith, e))
 
-module _ {highs : List ℕ} {first end x : ℕ} (n : 256 ≤ x) (l : Leads highs first end x) where
+module _ {highs : List ℕ} {first end x : ℕ} (n : 256 ≤ x) (l : NamesTwo highs first end x) where
   -- the best high is the greater of the leading child's and the second one's
   pub alone-best : (k : ℕ) → k + 1 ≡ first + x / 256
       → better Max (getD highs k 0) (getD highs (first + x % 256) 0)
@@ -181,13 +181,13 @@ module _ {highs : List ℕ} {first end x : ℕ} (n : 256 ≤ x) (l : Leads highs
 
 module _ {highs : List ℕ} {first end : ℕ} {two : TwoBest} (b : Best highs first end two) where
   -- the entry of the two best children
-  pub best-leads : end ≤ first + 255 → Leads highs first end (leadEntry (two .lead - first) (two .second - first))
+  pub best-leads : end ≤ first + 255 → NamesTwo highs first end (leadEntry (two .lead - first) (two .second - first))
   best-leads few =
-      cond-cases (Leads highs first end) (eqb (two .lead - first) (two .second - first)) _ _
+      cond-cases (NamesTwo highs first end) (eqb (two .lead - first) (two .second - first)) _ _
       (λ _. no-leads (omega arith)) (λ e. named (eqb-false _ _ e))
     where
       named : (two .lead - first ≡ two .second - first → ⊥)
-          → Leads highs first end ((two .lead - first + 1) * 256 + (two .second - first))
+          → NamesTwo highs first end ((two .lead - first + 1) * 256 + (two .second - first))
       named apart =
           let lf = b .lead-from in
           let lt = b .lead-to in

@@ -28,7 +28,7 @@ use Rattle.certificate_bounds.specs.Marks.{marked}
 use Rattle.mtd_memory.specs.declared.Tried.{Tried}
 use Rattle.mtd_memory.specs.declared.Tries.{Tries}
 use Rattle.mtd_memory.specs.engine.Memory.{Memory, memory, VisitReady, Passed, PassedOver}
-use Rattle.mtd_memory.specs.engine.Memory.{skipAt, Explored, Leads, Skips, ToTry, Alone}
+use Rattle.mtd_memory.specs.engine.Memory.{skipAt, Explored, NamesTwo, Skips, ToTry, Alone}
 use Rattle.mtd_memory.proofs.Arrays.{set-same, Long, leaf-again, leads-others}
 use Rattle.mtd_memory.proofs.Turns.{PassLoop, Left, Family, turn-first, turn-ready, turn-apart, child}
 use Rattle.mtd_memory.proofs.Turns.{turn-next, turn-last}
@@ -110,7 +110,7 @@ module _ {t : List ℕ} {i first end : ℕ} (family : Family t i first end) {m :
       (λ n z. omega (arith, own .few (mover e) (omega arith), family .to))
 
   -- what the entry of a Max node names
-  pub leads-own : p .side ≡ Max → Leads (m .highs) first end (getD (m .notBelow) i 0)
+  pub leads-own : p .side ≡ Max → NamesTwo (m .highs) first end (getD (m .notBelow) i 0)
   leads-own e = rw (family .to, family .from) (own .leads (mover e))
 
 module _ {t : List ℕ} {i first end : ℕ} (family : Family t i first end) {m : Memory} {p : Position}
@@ -137,7 +137,8 @@ module _ {t : List ℕ} {i first end : ℕ} (family : Family t i first end) {m :
       subst (λ x. PassLoop t x γ first end m m now) (sym e)
       (skip-explored (skipAt (m .notBelow) i) first
       (subst (λ x. PassLoop t x γ first end m m first) e (turn-first family ready some high))
-      (λ j a b. own family ready .explored (mover family ready e) j (omega (arith, family .from)) (omega (arith, family .from)))
+      (λ j a b. own family ready .explored (mover family ready e) j (omega (arith, family .from))
+      (omega (arith, family .from)))
       (skips-within family ready some e))
 
 module _ {t : List ℕ} {i first end : ℕ} (family : Family t i first end) {m : Memory} {p : Position}
@@ -339,7 +340,8 @@ module _ {t : List ℕ} {i first end : ℕ} (family : Family t i first end) {m :
             → Left t (p .side) γ first end m m″ (now + 1) (x .answer)
         try-last e =
             elim (ℕ-discrete (r .to) end) [
-              | yes f ↦ turn-last family {m″ = m″} u v (ap (λ k. eqb (now + 1) k || settles (p .side) (x .answer)) (sym f) ∙ e)
+              | yes f ↦ turn-last family {m″ = m″} u v
+                  (ap (λ k. eqb (now + 1) k || settles (p .side) (x .answer)) (sym f) ∙ e)
               | no f ↦ by-answer (settles (p .side) (x .answer)) refl (by-side (p .side) refl f) f
             ]
           where

@@ -29,7 +29,7 @@ use Rattle.mtd_memory.specs.declared.Seen.the-variants.{Answered, Open}
 use Rattle.mtd_memory.specs.declared.Tried.{Tried}
 use Rattle.mtd_memory.specs.engine.Memory.{Memory, memory, progressOf, MemoryRoom, HighsRight, VisitReady}
 use Rattle.mtd_memory.specs.engine.Memory.{Enterable}
-use Rattle.mtd_memory.specs.engine.Memory.{Passed, Looked, skipEntry, keptEntry, Skips, SkipsRight, Keeps}
+use Rattle.mtd_memory.specs.engine.Memory.{Passed, Looked, skipEntry, keptEntry, Skips, SkipsRight, KeepsBest}
 use Rattle.mtd_memory.proofs.Arrays.{room-at, explored-same, leads-others}
 use Rattle.mtd_memory.proofs.Passes.{leaf-passed, below-passed, not-below-passed, entered-passed}
 use Rattle.mtd_memory.proofs.Turns.{childrenUpTo, Down, Left, Family, child, tree-kids}
@@ -137,7 +137,7 @@ module _ {t : List ℕ} {i first end : ℕ} (family : Family t i first end) {m :
       → (s ≡ Min → b ≡ false → Down t first end now m′)
       → ((j : ℕ) → (j ≡ i → ⊥) → (marked (m″ .evaluated) j ≡ marked (m′ .evaluated) j)
       × (marked (m″ .notBelow) j ≡ marked (m′ .notBelow) j) × (getD (m″ .highs) j 0 ≡ getD (m′ .highs) j 0))
-      → getD (m″ .notBelow) i 0 ≡ x → Keeps s b (m′ .highs) first end now v x → Skips t m″ i
+      → getD (m″ .notBelow) i 0 ≡ x → KeepsBest s b (m′ .highs) first end now v x → Skips t m″ i
   own-skips {s} {b} {now} {v} {x} {m′} {m″} e down same is k =
       let later : i < firstChild t i = family .formed .later i (family .inside) (omega (arith, family .to)) in
       record {
@@ -160,7 +160,7 @@ module _ {t : List ℕ} {i first end : ℕ} (family : Family t i first end) {m :
   pub visit-entered : {γ v x now : ℕ} {m′ : Memory} {r : Tried} → γ ≤ getD (m .highs) i 0
       → marked (m .notBelow) i ≡ false
       → MemoryRoom (frames t) m′ → Left t (p .side) γ first end m m′ now (r .answer)
-      → Keeps (p .side) (r .answer) (m′ .highs) first end now v x
+      → KeepsBest (p .side) (r .answer) (m′ .highs) first end now v x
       → Passed t (treeAt t i) γ m
       (memory (m′ .leaves) (m′ .evaluated) (m′ .order) (set (m′ .highs) i v) (set (m′ .notBelow) i x)) r
   visit-entered {γ} {v} {x} {now} {m′} {r} h b room left keeps =

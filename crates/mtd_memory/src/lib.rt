@@ -21,7 +21,7 @@ ghost use Rattle.certificate_bounds.specs.Marks.{marked, ones};
 ghost use Rattle.certificate_bounds.specs.engine.Evaluable.{Evaluable};
 ghost use Rattle.certificate_bounds.specs.engine.Progress.{progress, evaluateAll, Listable};
 ghost use Rattle.mtd_memory.specs.engine.Memory.{memory, VisitReady, Looked, PassedOver, skipAt, skipEntry};
-ghost use Rattle.mtd_memory.specs.engine.Memory.{Leads, leadEntry, ToTry, Alone, Keeps, FoundBelow, Best};
+ghost use Rattle.mtd_memory.specs.engine.Memory.{NamesTwo, leadEntry, ToTry, Alone, KeepsBest, FoundBelow, Best};
 
 // An entry of `not_below` from this one on names a leading child.
 const LEADS: u16 = 256;
@@ -102,7 +102,7 @@ pub fn to_try(
 ) -> Tries
     requires { ⌜ (first < end) × (end ≤ length (now highs)) × (node < length (now «not_below»)) ⌝ }
     requires { ⌜ (side ≡ Side.Min → first + skipAt (now «not_below») node < end) ⌝ }
-    requires { ⌜ (side ≡ Side.Max → Leads (now highs) first end (getD (now «not_below») node 0)) ⌝ }
+    requires { ⌜ (side ≡ Side.Max → NamesTwo (now highs) first end (getD (now «not_below») node 0)) ⌝ }
     ensures { λ r. ⌜ ToTry side (now (highs .entry)) test first end (getD (now («not_below» .entry)) node 0) r ⌝ }
 {
     let entry = not_below[node];
@@ -118,7 +118,7 @@ pub fn to_try(
 // The children of a Max node that a pass has to try.
 fn tried_by_max(highs: &[u32], entry: u16, first: usize, end: usize, test: u32) -> Tries
     requires { ⌜ (first < end) × (end ≤ length (now highs)) ⌝ }
-    requires { ⌜ Leads (now highs) first end entry ⌝ }
+    requires { ⌜ NamesTwo (now highs) first end entry ⌝ }
     ensures { λ r. ⌜ ToTry Side.Max (now (highs .entry)) test first end entry r ⌝ }
 {
     if entry < LEADS {
@@ -196,7 +196,7 @@ pub fn remember(
     ensures { λ _. ⌜ now (highs .exit) ≡ set (now (highs .entry)) node (getD (now (highs .exit)) node 0) ⌝ }
     ensures { λ _. ⌜ now («not_below» .exit)
         ≡ set (now («not_below» .entry)) node (getD (now («not_below» .exit)) node 0) ⌝ }
-    ensures { λ _. ⌜ Keeps side answer (now (highs .entry)) first end child (getD (now (highs .exit)) node 0)
+    ensures { λ _. ⌜ KeepsBest side answer (now (highs .entry)) first end child (getD (now (highs .exit)) node 0)
         (getD (now («not_below» .exit)) node 0) ⌝ }
 {
     let entry = not_below[node];
@@ -219,7 +219,7 @@ fn kept_by(
     requires { ⌜ (first < end) × (end ≤ length (now highs)) × (end ≤ first + 255) ⌝ }
     requires { ⌜ (side ≡ Side.Min → answer ≡ false → FoundBelow (now highs) first end child) ⌝ }
     requires { ⌜ (side ≡ Side.Max → Alone (now highs) first end entry tries) ⌝ }
-    ensures { λ r. ⌜ Keeps side answer (now (highs .entry)) first end child (r .high) (r .entry) ⌝ }
+    ensures { λ r. ⌜ KeepsBest side answer (now (highs .entry)) first end child (r .high) (r .entry) ⌝ }
 {
     match side {
         Side::Max => kept_by_max(highs, entry, first, tries, end, answer),
@@ -231,7 +231,7 @@ fn kept_by(
 fn kept_by_min(highs: &[u32], first: usize, child: usize, end: usize, answer: bool) -> Kept
     requires { ⌜ (first < end) × (end ≤ length (now highs)) × (end ≤ first + 255) ⌝ }
     requires { ⌜ (answer ≡ false → FoundBelow (now highs) first end child) ⌝ }
-    ensures { λ r. ⌜ Keeps Side.Min answer (now (highs .entry)) first end child (r .high) (r .entry) ⌝ }
+    ensures { λ r. ⌜ KeepsBest Side.Min answer (now (highs .entry)) first end child (r .high) (r .entry) ⌝ }
 {
     if answer {
         let high = best(highs, first, end, Side::Min);
@@ -256,7 +256,7 @@ fn kept_by_max(
     requires { ⌜ (first < end) × (end ≤ length (now highs)) × (end ≤ first + 255) ⌝ }
     requires { ⌜ Alone (now highs) first end entry tries ⌝ }
     ensures { λ r. ⌜ ((child : ℕ)
-        → Keeps Side.Max answer (now (highs .entry)) first end child (r .high) (r .entry)) ⌝ }
+        → KeepsBest Side.Max answer (now (highs .entry)) first end child (r .high) (r .entry)) ⌝ }
 {
     if entry < LEADS {
         return kept_of_all(highs, first, end, answer);
@@ -280,7 +280,7 @@ fn kept_by_max(
 fn kept_of_all(highs: &[u32], first: usize, end: usize, answer: bool) -> Kept
     requires { ⌜ (first < end) × (end ≤ length (now highs)) × (end ≤ first + 255) ⌝ }
     ensures { λ r. ⌜ ((child : ℕ)
-        → Keeps Side.Max answer (now (highs .entry)) first end child (r .high) (r .entry)) ⌝ }
+        → KeepsBest Side.Max answer (now (highs .entry)) first end child (r .high) (r .entry)) ⌝ }
 {
     if answer {
         let high = best(highs, first, end, Side::Max);

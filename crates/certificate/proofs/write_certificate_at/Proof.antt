@@ -1,5 +1,5 @@
--- `certificate::write_certificate_at` meets its contract: the arrays hold the sides and the bounds, and the move and the
--- flags follow.
+-- `certificate::write_certificate_at` meets its contract: the arrays hold the sides and the bounds, and the move and
+-- the flags follow.
 use native.Mathlib.Omega.{arith}
 use Rattle.certificate_bounds.specs.Marks.{marked}
 use Rattle.certificate.proofs.Chosen.{Bounded, bounded, chosen-move}

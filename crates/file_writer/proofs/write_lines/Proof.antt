@@ -17,8 +17,10 @@ abbrev μ-loop : tie.MeasureT-loop
 
 write-line-requires : tie.Need-write-line-requires Inv-loop μ-loop
 write-line-requires c κs =
-    let l = c .before .before .before in
-    (l .before .before .before .pre .0, (simp (length-take, length-drop) (omega arith), simp (length-take, length-drop) (omega arith)))
+    let l = c .before .before .before in (
+      l .before .before .before .pre .0,
+      (simp (length-take, length-drop) (omega arith), simp (length-take, length-drop) (omega arith)),
+    )
 
 loop-again : tie.Need-loop-again Inv-loop μ-loop
 loop-again c =

@@ -40,7 +40,8 @@ returns-2 : tie.Need-returns-2
 returns-2 c =
     let a = c .before .before .before .before .args in
     rw (c .before .before .if1 .left)
-    (keeps-min {answer = false} (sym (found (c .before .before) .best)) (skip-flag (a .child - (a .first + 1)) _ (c .before .skip-entry .ensures))
+    (keeps-min {answer = false} (sym (found (c .before .before) .best))
+    (skip-flag (a .child - (a .first + 1)) _ (c .before .skip-entry .ensures))
     (c .before .skip-entry .ensures))
 
 pub kept-by-min-spec : {M : Type 1} → statement M

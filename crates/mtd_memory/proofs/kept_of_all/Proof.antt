@@ -10,7 +10,8 @@ use Rattle.mtd_memory.proofs.kept_of_all.Statement.{statement}
 use Rattle.mtd_memory.proofs.kept_of_all.Tie as tie
 
 returns : tie.Need-returns
-returns c = λ child. rw (c .before .if1 .taken) (keeps-max {answer = true} (c .best .ensures) refl (no-leads (omega arith)))
+returns c = λ child.
+    rw (c .before .if1 .taken) (keeps-max {answer = true} (c .best .ensures) refl (no-leads (omega arith)))
 
 returns-2 : tie.Need-returns-2
 returns-2 c =

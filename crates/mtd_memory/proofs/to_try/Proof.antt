@@ -24,7 +24,8 @@ returns-2 : tie.Need-returns-2
 returns-2 c =
     let s = c .before .enum-told2 .given .1 in
     let p = c .before .before .before .before .before .before .pre in
-    rw s (skips-to-try (p .1 .0 s) (ap (λ n. c .before .before .before .before .before .before .args .first + n) (c .skipped .ensures)))
+    rw s (skips-to-try (p .1 .0 s)
+    (ap (λ n. c .before .before .before .before .before .before .args .first + n) (c .skipped .ensures)))
 
 pub to-try-spec : {M : Type 1} → statement M
 to-try-spec =

@@ -8,7 +8,8 @@ returns : tie.Need-returns
 returns c = best-neither (c .before .before .before .pre .1) (c .if1 .taken)
 
 returns-2 : tie.Need-returns-2
-returns-2 c = best-second (c .before .before .before .before .before .pre .1) (c .before .before .if1 .left) (c .if2 .taken)
+returns-2 c =
+    best-second (c .before .before .before .before .before .pre .1) (c .before .before .if1 .left) (c .if2 .taken)
 
 returns-3 : tie.Need-returns-3
 returns-3 c = best-lead (c .before .before .before .before .before .pre .1) (c .if2 .left)

@@ -82,7 +82,7 @@ keptEntry false n = skipEntry n
 
 -- an entry x from 256 on names two children of a Max node by their places: one more than that of the leading child, by
 -- x / 256, and that of the second one; none of the others has a greater high than the second one
-pub record Leads (highs : List ℕ) (first end x : ℕ) : Type 0 where
+pub record NamesTwo (highs : List ℕ) (first end x : ℕ) : Type 0 where
   pub lead : 256 ≤ x → first + x / 256 ≤ end
   pub second : 256 ≤ x → first + x % 256 < end
   pub apart : 256 ≤ x → x % 256 + 1 ≡ x / 256 → ⊥
@@ -115,7 +115,7 @@ pub record Skips (t : List ℕ) (m : Memory) (k : ℕ) : Type 0 where
   pub explored : sideOf t k ≡ Min → (j : ℕ) → firstChild t k ≤ j → j < firstChild t k + skipAt (m .notBelow) k
       → Explored t m j
   pub leads : sideOf t k ≡ Max
-      → Leads (m .highs) (firstChild t k) (firstChild t k + childCount t k) (getD (m .notBelow) k 0)
+      → NamesTwo (m .highs) (firstChild t k) (firstChild t k + childCount t k) (getD (m .notBelow) k 0)
 
 abbrev pub SkipsRight : List ℕ → Memory → Tree → Type 0
 SkipsRight t m T = (k : ℕ) → In k T → Skips t m k
@@ -140,14 +140,14 @@ pub record Alone (highs : List ℕ) (first end x : ℕ) (r : Tries) : Type 0 whe
   pub some : r .from < r .to
   pub within : r .to ≤ end
   pub alone : 256 ≤ x → r .from + 1 ≡ r .to → r .to ≡ first + x / 256
-  pub leads : 256 ≤ x → r .from + 1 ≡ r .to → Leads highs first end x
+  pub leads : 256 ≤ x → r .from + 1 ≡ r .to → NamesTwo highs first end x
 
 -- what a node with the answer b keeps of its children: the best high v, and the entry x
-pub record Keeps (s : Side) (b : Bool) (highs : List ℕ) (first end child v x : ℕ) : Type 0 where
+pub record KeepsBest (s : Side) (b : Bool) (highs : List ℕ) (first end child v x : ℕ) : Type 0 where
   pub high : v ≡ bestIn s (λ k. getD highs k 0) first (end - (first + 1))
   pub flag : eqb x 1 ≡ b
   pub skips : s ≡ Min → x ≡ keptEntry b (child - (first + 1))
-  pub leads : s ≡ Max → Leads highs first end x
+  pub leads : s ≡ Max → NamesTwo highs first end x
 
 -- the count is the number of marks
 abbrev pub Counted : List ℕ → Memory → Type 0

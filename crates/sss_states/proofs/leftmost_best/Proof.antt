@@ -6,8 +6,10 @@ use Rattle.sss_states.proofs.leftmost_best.Tie as tie
 
 first-from-requires : tie.Need-first-from-requires
 first-from-requires c κs =
-    let a = c .greatest-entry .ensures .attained in
-    (omega arith, record { node = a .node; from = a .from; to = omega (arith, a .to); enough = omega (arith, a .enough) })
+    let a = c .greatest-entry .ensures .attained in (
+      omega arith,
+      record { node = a .node; from = a .from; to = omega (arith, a .to); enough = omega (arith, a .enough) },
+    )
 
 returns : tie.Need-returns
 returns c = first-best _ _ _ _ _ (omega arith) (c .before .greatest-entry .ensures) (c .first-from .ensures)
