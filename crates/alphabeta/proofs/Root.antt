@@ -1,29 +1,19 @@
 -- The pass over the root's children: beta stays the greatest score, alpha ends as the value, and the last child that
 -- raised it is the root move.
-use Prim.Native.Nat.{ℕ, suc, _+_, _-_, _≤_, _<_, max}
-use native.Mathlib.Omega.{arith}
-use mathlib.Core.Path.{_≡_, refl, sym, ap, ap₂, _∙_}
-use mathlib.Core.Bool.{Bool, true, false, cond}
-use mathlib.Core.List.{List}
-use lib.Dec.{ltb}
-use lib.ListN.{length}
-use borrow.Author.Tests.{ltb-true, ltb-false, lt-ltb, le-ltb}
-use Rattle.gametree.specs.Tree.{Tree, least, greatest, minimax, number, Score}
-use Rattle.gametree.specs.AlphaBeta.{fullWindow}
-use Rattle.gametree.specs.Move.{rootMove}
+use Rattle.prelude.proofs.{ℕ, suc, _+_, _-_, _≤_, _<_, max, arith, _≡_, refl, sym, ap, ap₂, _∙_, Bool, true, false}
+use Rattle.prelude.proofs.{cond, List, ltb, length, ltb-true, ltb-false, lt-ltb, le-ltb}
+use Rattle.gametree.specs.{Tree, least, greatest, minimax, number, Score, fullWindow, rootMove}
 use Rattle.gametree_theory.proofs.minimax.Bounds.{minimax-score}
 use Rattle.gametree_theory.proofs.alphabeta.Window.{alphaBeta-value}
 use Rattle.gametree_theory.proofs.alphabeta.RootMove.{raiser, raiser-move}
-use Rattle.frames.specs.Frame.{frames, firstChild, childCount, next}
-use Rattle.frames.specs.Position.{rootPosition}
-use Rattle.frames.specs.Tree.{childrenFrom, treeAt, tree, valuation}
-use Rattle.frames.specs.Formed.{WellFormed, ChildOf}
+use Rattle.frames.specs.{frames, firstChild, childCount, next, rootPosition, childrenFrom, treeAt, tree, valuation}
+use Rattle.frames.specs.{WellFormed, ChildOf}
 use Rattle.frames.proofs.Next.{child-within}
 use Rattle.frames.proofs.Positions.{position-root}
 use Rattle.frames.proofs.Proper.{every-leaf, leaf-scored, tree-proper}
 use Rattle.frames.proofs.Trees.{tree-inner, tree-number}
-use Rattle.certificate_bounds.specs.engine.Progress.{Progress, progress, Listable}
-use Rattle.certificate.specs.engine.Searchable.{Searchable}
+use Rattle.certificate_bounds.specs.{Progress, progress, Listable}
+use Rattle.certificate.specs.{Searchable}
 use Rattle.certificate.proofs.Unmarked.{all-wait}
 use Rattle.alphabeta_visits.specs.declared.Visited.{Visited}
 use Rattle.alphabeta_visits.proofs.Evaluated.{visit-waits}

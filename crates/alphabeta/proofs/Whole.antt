@@ -1,29 +1,17 @@
 -- The steps of a whole search: the engine's result from the full window is the minimax value, and it counts, marks and
 -- lists the leaves that Baudet's condition reaches.
-use Prim.Native.Nat.{ℕ, _≤_}
-use native.Mathlib.Omega.{arith}
-use mathlib.Core.Path.{_≡_, refl, ap, _∙_}
-use mathlib.Core.List.{List}
-use lib.ListN.{length}
-use lib.IntN.{ℤ}
-use Rattle.gametree.specs.Tree.{greatest, minimax}
-use Rattle.gametree.specs.Move.{rootMove}
-use Rattle.gametree.specs.AlphaBeta.{fullWindow}
+use Rattle.prelude.proofs.{ℕ, _≤_, arith, _≡_, refl, ap, _∙_, List, length, ℤ}
+use Rattle.gametree.specs.{greatest, minimax, rootMove, fullWindow}
 use Rattle.gametree_theory.proofs.Theorems.{value-score, alphaBeta-leaves, alphaBeta-minimax}
-use Rattle.frames.specs.Frame.{frames}
-use Rattle.frames.specs.Tree.{tree, valuation}
-use Rattle.frames.specs.Formed.{WellFormed}
+use Rattle.frames.specs.{frames, tree, valuation, WellFormed, valueOf}
 use Rattle.frames.proofs.Proper.{tree-proper}
-use Rattle.positions.specs.Buffer.{written}
-use Rattle.certificate_bounds.specs.Marks.{ones}
-use Rattle.certificate_bounds.specs.engine.Progress.{progress, evaluateAll}
+use Rattle.positions.specs.{written}
+use Rattle.certificate_bounds.specs.{ones, progress, evaluateAll}
 use Rattle.certificate_bounds.proofs.Listing.{first-evaluated}
-use Rattle.frames.specs.Value.{valueOf}
-use Rattle.certificate.specs.Search.{marksOf, listed}
+use Rattle.certificate.specs.{marksOf, listed}
 use Rattle.certificate.proofs.Outcomes.{search-marks}
 use Rattle.methods.specs.declared.Method.the-variants.{AlphaBeta}
-use Rattle.methods.specs.Rules.{evaluatedBy}
-use Rattle.methods.specs.Outcome.{findingsBy}
+use Rattle.methods.specs.{evaluatedBy, findingsBy}
 use Rattle.methods.proofs.Rules.{decides}
 
 module _ (t : List ℕ) (wf : WellFormed t) where

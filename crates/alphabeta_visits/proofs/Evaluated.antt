@@ -1,20 +1,13 @@
 -- The leaves that alpha-beta evaluates in a tree are nodes of the tree, so that a visit of a child leaves the trees of
 -- its younger siblings without a mark.
-use Prim.Native.Nat.{ℕ, _+_, _<_}
-use mathlib.Core.Path.{_≡_, refl}
-use mathlib.Core.Logic.{inl, inr}
-use mathlib.Core.Bool.{Bool, true, false}
-use mathlib.Core.List.{List}
-use lib.Dec.{ltb}
+use Rattle.prelude.proofs.{ℕ, _+_, _<_, _≡_, refl, inl, inr, Bool, true, false, List, ltb}
 use Rattle.gametree.specs.declared.Side.{Side}
-use Rattle.lists.specs.Lists.{All}
-use Rattle.gametree.specs.Tree.{Tree, leaf, inner, Children, last, _then_, In, InChildren}
-use Rattle.gametree.specs.AlphaBeta.{raise, lower, SearchResult, onward, alphaBeta, alphaBetaChildren}
+use Rattle.lists.specs.{All}
+use Rattle.gametree.specs.{Tree, leaf, inner, Children, last, _then_, In, InChildren, raise, lower, SearchResult}
+use Rattle.gametree.specs.{onward, alphaBeta, alphaBetaChildren}
 use Rattle.lists.proofs.Lists.{all-append}
-use Rattle.frames.specs.Frame.{frames}
-use Rattle.frames.specs.Tree.{treeAt}
-use Rattle.frames.specs.Formed.{WellFormed, ChildOf}
-use Rattle.certificate_bounds.specs.Marks.{markAll}
+use Rattle.frames.specs.{frames, treeAt, WellFormed, ChildOf}
+use Rattle.certificate_bounds.specs.{markAll}
 use Rattle.certificate.proofs.Unmarked.{Unvisited, younger-wait}
 
 onward-all : (P : ℕ → Type 0) (b : Bool) (r q : SearchResult) → All P (r .evaluated) → All P (q .evaluated)

@@ -1,16 +1,11 @@
 -- The pass over the children of a node: before each child, what the children that are left give from the present window
 -- completes what the node was to give.
-use Prim.Native.Nat.{ℕ, suc, _+_, _-_, _≤_, _<_}
-use native.Mathlib.Omega.{arith}
-use mathlib.Core.Path.{_≡_, refl, sym, ap, _∙_}
-use mathlib.Core.Bool.{Bool, true, false}
-use lib.Dec.{ltb}
-use borrow.Author.Tests.{lt-ltb, le-ltb}
+use Rattle.prelude.proofs.{ℕ, suc, _+_, _-_, _≤_, _<_, arith, _≡_, refl, sym, ap, _∙_, Bool, true, false, ltb, lt-ltb}
+use Rattle.prelude.proofs.{le-ltb}
 use Rattle.gametree.specs.declared.Side.{Side}
-use Rattle.gametree.specs.Tree.{Tree}
-use Rattle.gametree.specs.AlphaBeta.{raise, lower, SearchResult, after, onward, alphaBeta, alphaBetaChildren}
-use Rattle.frames.specs.Tree.{childrenFrom}
-use Rattle.certificate_bounds.specs.engine.Progress.{Progress, evaluateAll}
+use Rattle.gametree.specs.{Tree, raise, lower, SearchResult, after, onward, alphaBeta, alphaBetaChildren}
+use Rattle.frames.specs.{childrenFrom}
+use Rattle.certificate_bounds.specs.{Progress, evaluateAll}
 use Rattle.certificate_bounds.proofs.Listing.{evaluateAll-append}
 
 -- the score v and the progress p′ are what the result f gives, from the progress p

@@ -1,22 +1,13 @@
 -- What a visit of a node asks and hands back: at a leaf, and at the head of the loop over an inner node's children.
-use Prim.Native.Nat.{ℕ, suc, _+_, _-_, _≤_, _<_}
-use native.Mathlib.Omega.{arith}
-use mathlib.Core.Path.{_≡_, refl, sym, ap, _∙_}
-use mathlib.Core.List.{List}
-use lib.ListN.{length, set}
+use Rattle.prelude.proofs.{ℕ, suc, _+_, _-_, _≤_, _<_, arith, _≡_, refl, sym, ap, _∙_, List, length, set}
 use Rattle.gametree.specs.declared.Position.{Position}
-use Rattle.gametree.specs.AlphaBeta.{clamp, alphaBeta}
-use Rattle.frames.specs.Frame.{frames, firstChild, childCount}
-use Rattle.frames.specs.Position.{positionOf}
-use Rattle.frames.specs.Tree.{treeAt, valuation}
-use Rattle.frames.specs.Formed.{WellFormed}
+use Rattle.gametree.specs.{clamp, alphaBeta}
+use Rattle.frames.specs.{frames, firstChild, childCount, positionOf, treeAt, valuation, WellFormed}
 use Rattle.frames.proofs.Nodes.{in-own}
 use Rattle.frames.proofs.Trees.{tree-leaf, tree-inner}
-use Rattle.certificate_bounds.specs.Marks.{ones, markAll}
-use Rattle.certificate_bounds.specs.engine.Evaluable.{Evaluable}
-use Rattle.certificate_bounds.specs.engine.Progress.{Progress, progress, Listable}
+use Rattle.certificate_bounds.specs.{ones, markAll, Evaluable, Progress, progress, Listable}
 use Rattle.certificate_bounds.proofs.Listing.{next-counted}
-use Rattle.certificate.specs.engine.Searchable.{Searchable}
+use Rattle.certificate.specs.{Searchable}
 use Rattle.certificate.proofs.Searchable.{searchable-depth}
 use Rattle.certificate.proofs.Unmarked.{Unvisited}
 use Rattle.alphabeta_visits.specs.declared.Visited.{Visited}

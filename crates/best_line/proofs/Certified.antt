@@ -1,30 +1,20 @@
 -- The flags that a search writes are a certificate of the minimax value, for every list of leaves that decides the
 -- tree.
-use Prim.Native.Nat.{ℕ, _+_, _≤_, _<_}
-use native.Mathlib.Omega.{arith}
-use mathlib.Core.Path.{_≡_, ap, _∙_}
-use mathlib.Core.Bool.{Bool, true, false, cond}
-use mathlib.Core.List.{List}
-use lib.ListN.{length, getD}
-use Rattle.lists.specs.Lists.{among}
+use Rattle.prelude.proofs.{ℕ, _+_, _≤_, _<_, arith, _≡_, ap, _∙_, Bool, true, false, cond, List, length, getD}
+use Rattle.lists.specs.{among}
 use Rattle.gametree.specs.declared.Side.{Side}
 use Rattle.gametree.specs.declared.Side.the-variants.{Max, Min}
-use Rattle.gametree.specs.Tree.{minimax, other, Proper}
-use Rattle.gametree.specs.Bounds.{known}
-use Rattle.gametree.specs.Certificate.{worst, inside, flag, solutionOf}
+use Rattle.gametree.specs.{minimax, other, Proper, known, worst, inside, flag, solutionOf}
 use Rattle.gametree_theory.proofs.Searches.{Deciding}
 use Rattle.gametree_theory.proofs.certificates.ReadOff.{ReadOff, fits}
 use Rattle.gametree_theory.proofs.certificates.Flags.{flag-inside, read-bounds}
-use Rattle.frames.specs.Frame.{frames}
-use Rattle.frames.specs.Tree.{tree, valuation}
-use Rattle.frames.specs.Formed.{WellFormed}
-use Rattle.frames.specs.Check.{Accepted}
+use Rattle.frames.specs.{frames, tree, valuation, WellFormed, Accepted}
 use Rattle.frames.proofs.Acceptance.{accepted-formed}
 use Rattle.frames.proofs.Nodes.{tree-range}
 use Rattle.frames.proofs.Proper.{tree-proper}
 use Rattle.positions.proofs.Buffers.{written-at, written-length}
-use Rattle.certificate.specs.Search.{flagsOf}
-use Rattle.verify.specs.Flags.{member}
+use Rattle.certificate.specs.{flagsOf}
+use Rattle.verify.specs.{member}
 use Rattle.verify.specs.Certificate.{Certificate}
 
 -- a flag is at most 3

@@ -1,28 +1,21 @@
 -- The steps of a call: SSS* finds the value and writes its certificate, whose principal variation is then given.
-use Prim.Native.Nat.{ℕ, _≤_}
-use native.Mathlib.Omega.{arith}
-use mathlib.Core.Path.{_≡_, sym, ap, ap₂, _∙_}
-use mathlib.Core.List.{List, [], _∷_, _++_}
-use lib.ListN.{length, drop, replicate, length-replicate}
-use Rattle.frames.specs.Frame.{maxNodes, frames}
-use Rattle.frames.specs.Check.{Accepted}
-use Rattle.frames.specs.Rejection.{_leaving_}
+use Rattle.prelude.proofs.{ℕ, _≤_, arith, _≡_, sym, ap, ap₂, _∙_, List, [], _∷_, _++_, length, drop, replicate}
+use Rattle.prelude.proofs.{length-replicate}
+use Rattle.frames.specs.{maxNodes, frames, Accepted, _leaving_}
 use Rattle.frames.proofs.Acceptance.{accepted-formed}
 use Rattle.certificate.proofs.Questions.{room-passed}
 use Rattle.methods.specs.declared.Method.{Method}
 use Rattle.methods.specs.declared.Method.the-variants.{Sss}
 use Rattle.methods.specs.declared.Answer.{Answer}
 use Rattle.methods.specs.declared.Answer.the-variants.{Found}
-use Rattle.methods.specs.Rules.{evaluatedBy}
-use Rattle.methods.specs.Outcome.{Lent, lent, findingsBy, answerBy, flagsLeft, searchOutcome}
+use Rattle.methods.specs.{evaluatedBy, Lent, lent, findingsBy, answerBy, flagsLeft, searchOutcome}
 use Rattle.methods.proofs.Rules.{enough, decides}
 use Rattle.variation.specs.declared.VariationAnswer.{VariationAnswer}
 use Rattle.variation.specs.declared.VariationAnswer.the-variants.{Length}
-use Rattle.variation.specs.Outcome.{principalOutcome}
+use Rattle.variation.specs.{principalOutcome}
 use Rattle.variation.proofs.Given.{gives}
 use Rattle.variation.specs.declared.LineFound.{LineFound}
-use Rattle.best_line.specs.Line.{certificateOf, bestLineOf, lineFound}
-use Rattle.best_line.specs.engine.Parts.{foundIn, lineLength}
+use Rattle.best_line.specs.{certificateOf, bestLineOf, lineFound, foundIn, lineLength}
 use Rattle.best_line.proofs.Certified.{written-certificate}
 
 abbrev zeros : List ℕ

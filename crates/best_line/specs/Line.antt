@@ -2,7 +2,7 @@
 use Prim.Native.Nat.{ℕ}
 use mathlib.Core.List.{List, [], _∷_, _++_}
 use lib.ListN.{length, drop, replicate}
-use Rattle.gametree.specs.Tree.{minimax}
+use Rattle.gametree.specs.Trees.{minimax}
 use Rattle.gametree.specs.Move.{rootMove}
 use Rattle.frames.specs.Frame.{maxNodes}
 use Rattle.frames.specs.Tree.{tree, valuation}

@@ -1,2 +1,3 @@
 -- The answers of the library for other languages.
 pub mod Answers
+pub use Answers.{valued, noChildren}

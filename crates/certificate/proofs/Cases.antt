@@ -1,10 +1,9 @@
 -- The small trees, computed from the definitions.
-use mathlib.Core.Path.{_≡_, refl}
-use mathlib.Core.List.{map}
-use Rattle.frames.specs.Position.{parentBefore, positionWithin, positionOf}
-use Rattle.frames.specs.Tree.{upFrom, childrenFrom, grow, treeAt, valuation}
-use Rattle.positions.specs.Buffer.{written}
-use Rattle.certificate.specs.results.Cases.{resultOf, cases, results}
+use Rattle.prelude.proofs.{_≡_, refl, map}
+use Rattle.frames.specs.{parentBefore, positionWithin, positionOf, upFrom, childrenFrom, grow, treeAt, valuation}
+use Rattle.positions.specs.{written}
+use Rattle.certificate.specs.results.Cases.{results}
+use Rattle.certificate.specs.{resultOf, cases}
 
 -- the bounds, the moves and the flags are as the table of results says
 pub small-certificates : map resultOf cases ≡ results

@@ -1,31 +1,18 @@
 -- The chosen child of a node: the first one whose bound equals the node's, by the lows where Max moves and by the highs
 -- where Min moves. The arrays give the one that the definitions name, and under the root it is the move.
-use Prim.Native.Nat.{ℕ, zero, suc, _+_, _<_}
-use native.Mathlib.Omega.{arith}
-use mathlib.Core.Path.{_≡_, sym, ap, ap₂, _∙_}
-use mathlib.Core.Bool.{Bool, cond}
-use mathlib.Core.List.{List}
-use lib.Dec.{eqb}
-use lib.ListN.{getD}
+use Rattle.prelude.proofs.{ℕ, zero, suc, _+_, _<_, arith, _≡_, sym, ap, ap₂, _∙_, Bool, cond, List, eqb, getD}
 use Rattle.gametree.specs.declared.Side.{Side}
 use Rattle.gametree.specs.declared.Side.the-variants.{Max, Min}
-use Rattle.gametree.specs.Tree.{Tree, inner, least, greatest, minimax, number}
-use Rattle.gametree.specs.Bounds.{low, high}
-use Rattle.gametree.specs.Certificate.{worst}
-use Rattle.gametree.specs.Move.{firstWith, boundMove}
-use Rattle.frames.specs.Frame.{frames, childCount, next}
-use Rattle.frames.specs.Position.{sideOf}
-use Rattle.frames.specs.Tree.{childrenFrom, treeAt, tree, valuation}
-use Rattle.frames.specs.Formed.{WellFormed}
+use Rattle.gametree.specs.{Tree, inner, least, greatest, minimax, number, low, high, worst, firstWith, boundMove}
+use Rattle.frames.specs.{frames, childCount, next, sideOf, childrenFrom, treeAt, tree, valuation, WellFormed}
 use Rattle.frames.proofs.Next.{next-more, next-within}
 use Rattle.frames.proofs.Trees.{zero-or-suc, tree-leaf, tree-inner, tree-number}
-use Rattle.positions.specs.Buffer.{written}
-use Rattle.positions.specs.engine.Positions.{sideIn, Positioned}
+use Rattle.positions.specs.{written, sideIn, Positioned}
 use Rattle.positions.proofs.Buffers.{written-at}
 use Rattle.positions.proofs.Positions.{positioned-side}
-use Rattle.certificate_flags.specs.engine.Chosen.{firstEqual, bySide, chosenChild}
+use Rattle.certificate_flags.specs.{firstEqual, bySide, chosenChild}
 use Rattle.certificate_flags.proofs.Chosen.{first-same}
-use Rattle.certificate_bounds.specs.engine.Bounds.{boundOf}
+use Rattle.certificate_bounds.specs.{boundOf}
 
 -- the arrays hold the side and both bounds of each node
 pub record Bounded (t : List ℕ) (E : ℕ → Bool) (positions lows highs : List ℕ) : Type 0 where

@@ -1,27 +1,16 @@
 -- Bounds, flags and the move depend on the marks of the table's nodes only.
-use Prim.Native.Nat.{ℕ, _+_, _≤_, _<_}
-use native.Mathlib.Nat.{le-of-eq}
-use native.Mathlib.Omega.{arith}
-use mathlib.Core.Path.{_≡_, sym, ap, ap₂, _∙_}
-use mathlib.Core.Bool.{Bool, cond}
-use mathlib.Core.List.{List}
+use Rattle.prelude.proofs.{ℕ, _+_, _≤_, _<_, le-of-eq, arith, _≡_, sym, ap, ap₂, _∙_, Bool, cond, List}
 use Rattle.gametree.specs.declared.Side.{Side}
 use Rattle.gametree.specs.declared.Side.the-variants.{Max, Min}
-use Rattle.gametree.specs.Bounds.{known}
-use Rattle.gametree.specs.Certificate.{worst, flag}
-use Rattle.gametree.specs.Move.{boundMove}
+use Rattle.gametree.specs.{known, worst, flag, boundMove}
 use Rattle.gametree_theory.proofs.minimax.Bounds.{minimax-mono}
-use Rattle.frames.specs.Frame.{frames, childCount, next}
-use Rattle.frames.specs.Position.{sideOf}
-use Rattle.frames.specs.Tree.{treeAt, tree, valuation}
-use Rattle.frames.specs.Formed.{WellFormed}
+use Rattle.frames.specs.{frames, childCount, next, sideOf, treeAt, tree, valuation, WellFormed}
 use Rattle.frames.proofs.Next.{next-more, next-within}
 use Rattle.frames.proofs.Parents.{top-down}
 use Rattle.frames.proofs.Proper.{every-leaf}
-use Rattle.positions.specs.Buffer.{written}
-use Rattle.certificate_bounds.specs.Marks.{mark, marked}
-use Rattle.certificate_flags.specs.engine.Chosen.{firstEqual}
-use Rattle.certificate_bounds.specs.engine.Bounds.{boundOf}
+use Rattle.positions.specs.{written}
+use Rattle.certificate_bounds.specs.{mark, marked, boundOf}
+use Rattle.certificate_flags.specs.{firstEqual}
 use Rattle.positions.proofs.Buffers.{written-same}
 use Rattle.certificate_flags.proofs.Chosen.{first-same}
 use Rattle.certificate.proofs.Chosen.{chosenOf, chosen-root}

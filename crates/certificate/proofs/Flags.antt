@@ -1,16 +1,10 @@
 -- The flags of the solution trees follow from the bounds by the rule for flags.
-use Prim.Native.Nat.{ℕ, _+_}
-use mathlib.Core.Path.{_≡_, refl, sym, ap₂, _∙_}
-use mathlib.Core.Bool.{Bool, true, false, cond, _&&_}
-use mathlib.Core.List.{List}
-use lib.Dec.{eqb}
+use Rattle.prelude.proofs.{ℕ, _+_, _≡_, refl, sym, ap₂, _∙_, Bool, true, false, cond, _&&_, List, eqb}
 use Rattle.gametree.specs.declared.Side.{Side}
 use Rattle.gametree.specs.declared.Side.the-variants.{Max, Min}
-use Rattle.gametree.specs.Certificate.{same, flag}
-use Rattle.frames.specs.Position.{sideOf}
-use Rattle.frames.specs.Tree.{tree, valuation}
-use Rattle.frames.specs.Formed.{WellFormed}
-use Rattle.certificate_flags.specs.engine.Flags.{moversFlag, childFlag, FlagsFrom}
+use Rattle.gametree.specs.{same, flag}
+use Rattle.frames.specs.{sideOf, tree, valuation, WellFormed}
+use Rattle.certificate_flags.specs.{moversFlag, childFlag, FlagsFrom}
 use Rattle.certificate.proofs.Chosen.{Bounded, chosenOf, chosen-arrays}
 use Rattle.certificate.proofs.Solutions.{solution, solution-root, solution-child}
 

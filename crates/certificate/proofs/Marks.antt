@@ -1,26 +1,18 @@
 -- What follows from the marks that a search leaves: the set of its leaves, and how many they are.
-use Prim.Native.Nat.{ℕ, _<_}
-use native.Mathlib.Omega.{arith}
-use mathlib.Core.Path.{_≡_, refl, ap, _∙_, sym}
-use mathlib.Core.Bool.{Bool, true, false, cond}
-use mathlib.Core.List.{List}
-use lib.Dec.{eqb}
-use lib.ListN.{length}
-use Rattle.lists.specs.Lists.{All, among}
-use Rattle.gametree.specs.Tree.{leaves, leafCount}
+use Rattle.prelude.proofs.{ℕ, _<_, arith, _≡_, refl, ap, _∙_, sym, Bool, true, false, cond, List, eqb, length}
+use Rattle.lists.specs.{All, among}
+use Rattle.gametree.specs.{leaves, leafCount}
 use Rattle.gametree_theory.proofs.Searches.{Deciding}
 use Rattle.lists.proofs.Choice.{is-false}
 use Rattle.lists.proofs.Lists.{all-map, all-at}
 use Rattle.gametree_theory.proofs.Theorems.{deciding-count}
 use Rattle.gametree_theory.proofs.tests.Subtree.{every-all}
-use Rattle.frames.specs.Frame.{frames, childCount}
-use Rattle.frames.specs.Tree.{tree, valuation}
-use Rattle.frames.specs.Formed.{WellFormed}
+use Rattle.frames.specs.{frames, childCount, tree, valuation, WellFormed}
 use Rattle.frames.proofs.Trees.{zero-or-suc}
 use Rattle.frames.proofs.Totals.{atNode, sum-same, count-sum, tree-leaf-count}
 use Rattle.frames.proofs.Proper.{every-leaf, tree-proper}
-use Rattle.positions.specs.Buffer.{written}
-use Rattle.certificate_bounds.specs.Marks.{mark, marked, ones}
+use Rattle.positions.specs.{written}
+use Rattle.certificate_bounds.specs.{mark, marked, ones}
 use Rattle.positions.proofs.Buffers.{written-at}
 
 mark-set : (b : Bool) → eqb (cond b 1 0) 1 ≡ b

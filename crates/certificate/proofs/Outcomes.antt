@@ -1,23 +1,16 @@
 -- A search, from its steps to its outcome: questions, cleared marks, the engine's marks, what `write_certificate` reads
 -- off them, and the list of the leaves.
-use Prim.Native.Nat.{ℕ}
-use mathlib.Core.Path.{_≡_, ap, _∙_}
-use mathlib.Core.Option.{Option, none, some}
-use mathlib.Core.List.{List}
-use Rattle.lists.specs.Lists.{among}
-use Rattle.gametree.specs.Move.{rootMove, boundMove}
-use Rattle.gametree.specs.Certificate.{flag}
+use Rattle.prelude.proofs.{ℕ, _≡_, ap, _∙_, Option, none, some, List}
+use Rattle.lists.specs.{among}
+use Rattle.gametree.specs.{rootMove, boundMove, flag}
 use Rattle.gametree_theory.proofs.Searches.{Deciding}
 use Rattle.frames.specs.declared.Rejection.{Rejection}
 use Rattle.frames.specs.declared.Checked.the-variants.{Nodes, Rejected}
-use Rattle.frames.specs.Frame.{frames}
-use Rattle.frames.specs.Tree.{tree, valuation}
-use Rattle.frames.specs.Formed.{WellFormed}
-use Rattle.frames.specs.Rejection.{unless, answer}
+use Rattle.frames.specs.{frames, tree, valuation, WellFormed, unless, answer}
 use Rattle.frames.proofs.Asked.{answer-nodes, answer-rejected}
-use Rattle.positions.specs.Buffer.{written}
-use Rattle.certificate_bounds.specs.Marks.{marked, markAll}
-use Rattle.certificate.specs.Search.{searchRejection, marksOf, flagsOf}
+use Rattle.positions.specs.{written}
+use Rattle.certificate_bounds.specs.{marked, markAll}
+use Rattle.certificate.specs.{searchRejection, marksOf, flagsOf}
 use Rattle.certificate_bounds.proofs.Marking.{marks-from-clear}
 use Rattle.certificate.proofs.Marks.{evaluated-within}
 use Rattle.certificate.proofs.Concluded.{concluded}

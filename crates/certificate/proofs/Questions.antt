@@ -1,27 +1,17 @@
 -- Questions 1 to 10, for any number of buffers: they pass exactly if the table is accepted and each buffer has an entry
 -- per node, so that the shortest decides.
-use Prim.Native.Nat.{ℕ, _≤_, _<_, min}
-use native.Mathlib.Omega.{arith}
-use native.Mathlib.Decide.{decLe}
-use mathlib.Core.Path.{_≡_, refl, ap, _∙_}
-use mathlib.Core.Bool.{Bool, true, _&&_}
-use mathlib.Core.Option.{none}
-use mathlib.Core.List.{List, [], _∷_}
-use lib.Dec.{leb}
-use borrow.Author.Tests.{le-leb, lt-leb, leb-true}
-use Rattle.lists.specs.Lists.{All}
+use Rattle.prelude.proofs.{ℕ, _≤_, _<_, min, arith, decLe, _≡_, refl, ap, _∙_, Bool, true, _&&_, none, List, [], _∷_}
+use Rattle.prelude.proofs.{leb, le-leb, lt-leb, leb-true}
+use Rattle.lists.specs.{All}
 use Rattle.lists.proofs.Choice.{and-both}
 use Rattle.frames.specs.declared.Rejection.{Rejection}
 use Rattle.frames.specs.declared.Checked.{Checked}
 use Rattle.frames.specs.declared.Checked.the-variants.{Nodes, Rejected}
-use Rattle.frames.specs.Frame.{frames}
-use Rattle.frames.specs.Formed.{WellFormed}
-use Rattle.frames.specs.Rejection.{answer, ask, _andThen_}
-use Rattle.frames.specs.Check.{rejection, longEnough, check10, Accepted, checked}
+use Rattle.frames.specs.{frames, WellFormed, answer, ask, _andThen_, rejection, longEnough, check10, Accepted, checked}
 use Rattle.frames.proofs.Stated.{ask-yes, both-passed}
 use Rattle.frames.proofs.Asked.{refused, answer-nodes, answer-rejected}
 use Rattle.frames.proofs.Acceptance.{accepted-formed, nodes-accepted}
-use Rattle.certificate.specs.Search.{searchRejection}
+use Rattle.certificate.specs.{searchRejection}
 
 -- each of the buffers has n entries
 abbrev pub Room : ℕ → List ℕ → Type 0

@@ -1,19 +1,12 @@
 -- The root of a table with cleared marks may be searched, and with a node each of its children whose tree has no mark.
-use Prim.Native.Nat.{ℕ, _≤_}
-use native.Mathlib.Omega.{arith}
-use mathlib.Core.Path.{_≡_, sym, ap, _∙_}
-use mathlib.Core.List.{List}
-use lib.ListN.{length}
+use Rattle.prelude.proofs.{ℕ, _≤_, arith, _≡_, sym, ap, _∙_, List, length}
 use Rattle.gametree.specs.declared.Position.{Position}
-use Rattle.frames.specs.Frame.{maxNodes, frames}
-use Rattle.frames.specs.Position.{rootPosition, childPosition, depthOf}
-use Rattle.frames.specs.Tree.{treeAt}
-use Rattle.frames.specs.Formed.{WellFormed, ChildOf}
+use Rattle.frames.specs.{maxNodes, frames, rootPosition, childPosition, depthOf, treeAt, WellFormed, ChildOf}
 use Rattle.frames.proofs.Next.{child-within}
 use Rattle.frames.proofs.Nodes.{tree-range}
 use Rattle.frames.proofs.Positions.{depth-at-most, position-root, position-child}
-use Rattle.positions.specs.Buffer.{written}
-use Rattle.certificate.specs.engine.Searchable.{Unmarked, Searchable}
+use Rattle.positions.specs.{written}
+use Rattle.certificate.specs.{Unmarked, Searchable}
 use Rattle.certificate_bounds.proofs.Marking.{cleared-unmarked}
 
 -- the root, after the marks e have been cleared to e₁

@@ -1,29 +1,19 @@
 -- The solution trees that are read off the bounds of a table, node by node: the root is in both, and whether a child is
 -- in one follows from whether its parent is.
-use Prim.Native.Nat.{ℕ, zero, suc, _+_, _≤_, _<_}
-use native.Mathlib.Omega.{arith}
-use native.Mathlib.Decide.{decLe}
-use mathlib.Core.Path.{_≡_, refl, sym, ap, ap₂, _∙_, subst}
-use mathlib.Core.Bool.{Bool, true, false, cond, not, _&&_}
-use mathlib.Core.List.{List}
-use lib.Dec.{eqb}
-use borrow.Author.Tests.{eq-eqb, ne-eqb}
+use Rattle.prelude.proofs.{ℕ, zero, suc, _+_, _≤_, _<_, arith, decLe, _≡_, refl, sym, ap, ap₂, _∙_, subst, Bool, true}
+use Rattle.prelude.proofs.{false, cond, not, _&&_, List, eqb, eq-eqb, ne-eqb}
 use Rattle.gametree.specs.declared.Side.{Side}
 use Rattle.gametree.specs.declared.Side.the-variants.{Max, Min}
-use Rattle.gametree.specs.Tree.{Tree, other, minimax, minimaxChildren}
-use Rattle.gametree.specs.Bounds.{known}
-use Rattle.gametree.specs.Certificate.{worst, same, solutionOf}
+use Rattle.gametree.specs.{Tree, other, minimax, minimaxChildren, known, worst, same, solutionOf}
 use Rattle.lists.proofs.Choice.{cond-cases}
 use Rattle.gametree_theory.proofs.certificates.ReadOff.{ReadOff, ReadEach, ReadFirst, read-root, fits}
-use Rattle.frames.specs.Frame.{frames, firstChild, childCount, next}
-use Rattle.frames.specs.Position.{sideOf}
-use Rattle.frames.specs.Tree.{childrenFrom, treeAt, tree, valuation}
-use Rattle.frames.specs.Formed.{WellFormed, ChildOf}
+use Rattle.frames.specs.{frames, firstChild, childCount, next, sideOf, childrenFrom, treeAt, tree, valuation}
+use Rattle.frames.specs.{WellFormed, ChildOf}
 use Rattle.frames.proofs.Parents.{top-down}
 use Rattle.frames.proofs.Trees.{zero-or-suc, tree-inner, tree-number}
 use Rattle.frames.proofs.Nodes.{tree-distinct}
-use Rattle.certificate_flags.specs.engine.Chosen.{firstEqual}
-use Rattle.certificate_bounds.specs.engine.Bounds.{boundOf}
+use Rattle.certificate_flags.specs.{firstEqual}
+use Rattle.certificate_bounds.specs.{boundOf}
 use Rattle.certificate.proofs.Chosen.{chosenOf}
 
 -- the first of later numbers is no earlier one but 0

@@ -1,18 +1,13 @@
 -- No leaf is evaluated twice: a visit marks leaves of the node's own tree only, and the trees of its younger siblings
 -- have no node in common with that, so that they stay without a mark until their own visit.
-use Prim.Native.Nat.{ℕ, _+_, _≤_, _<_}
-use native.Mathlib.Omega.{arith}
-use mathlib.Core.Path.{_≡_, sym, _∙_, subst}
-use mathlib.Core.List.{List}
-use Rattle.lists.specs.Lists.{All}
+use Rattle.prelude.proofs.{ℕ, _+_, _≤_, _<_, arith, _≡_, sym, _∙_, subst, List}
+use Rattle.lists.specs.{All}
 use Rattle.lists.proofs.Lists.{all-map}
-use Rattle.gametree.specs.Tree.{Tree, In}
-use Rattle.frames.specs.Frame.{frames}
-use Rattle.frames.specs.Tree.{treeAt}
-use Rattle.frames.specs.Formed.{WellFormed, ChildOf}
+use Rattle.gametree.specs.{Tree, In}
+use Rattle.frames.specs.{frames, treeAt, WellFormed, ChildOf}
 use Rattle.frames.proofs.Nodes.{in-parent, children-apart}
-use Rattle.certificate_bounds.specs.Marks.{markAll}
-use Rattle.certificate.specs.engine.Searchable.{Unmarked}
+use Rattle.certificate_bounds.specs.{markAll}
+use Rattle.certificate.specs.{Unmarked}
 use Rattle.certificate_bounds.proofs.Marking.{markAll-other}
 
 -- marks in one tree leave another without a mark

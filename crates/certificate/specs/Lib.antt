@@ -2,3 +2,6 @@
 pub mod Search
 pub mod engine
 pub mod results
+pub use Search.{searchRejection, marksOf, flagsOf, listed}
+pub use engine.Searchable.{Unmarked, Searchable}
+pub use results.Cases.{resultOf, cases}

@@ -1,11 +1,7 @@
 -- Loops that fill an array from the last entry to the first: before entry i - 1 is stored, the entries from i on are
 -- filled.
-use Prim.Native.Nat.{ℕ, _+_, _-_, _≤_, _<_}
-use native.Mathlib.Omega.{arith}
-use mathlib.Core.Path.{_≡_, refl, sym, ap, _∙_}
-use mathlib.Core.List.{List}
-use lib.ListN.{length, getD, set, length-set}
-use Rattle.positions.specs.Buffer.{written}
+use Rattle.prelude.proofs.{ℕ, _+_, _-_, _≤_, _<_, arith, _≡_, refl, sym, ap, _∙_, List, length, getD, set, length-set}
+use Rattle.positions.specs.{written}
 use Rattle.positions.proofs.Buffers.{written-none, written-at, written-past, written-behind}
 
 -- the loop before entry i - 1 of n: with the first i entries written too, the array b is b₀ with all n of them written

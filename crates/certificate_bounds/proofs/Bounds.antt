@@ -1,24 +1,12 @@
 -- The bounds of the nodes of a table, from the leaves up.
-use Prim.Native.Nat.{ℕ, zero, suc, _+_, _-_, _≤_, _<_}
-use native.Mathlib.Omega.{arith}
-use mathlib.Core.Path.{_≡_, refl, sym, ap, ap₂, _∙_}
-use mathlib.Core.Bool.{Bool}
-use mathlib.Core.List.{List}
-use lib.ListN.{getD, set}
-use lib.Seq.{set-getD}
-use borrow.Author.Tests.{eq-eqb, ne-eqb}
+use Rattle.prelude.proofs.{ℕ, zero, suc, _+_, _-_, _≤_, _<_, arith, _≡_, refl, sym, ap, ap₂, _∙_, Bool, List, getD, set}
+use Rattle.prelude.proofs.{set-getD, eq-eqb, ne-eqb}
 use Rattle.gametree.specs.declared.Side.{Side}
-use Rattle.gametree.specs.Tree.{Tree, least, greatest, better, minimax, minimaxChildren}
-use Rattle.gametree.specs.Bounds.{known}
-use Rattle.frames.specs.Frame.{frames, firstChild, childCount}
-use Rattle.frames.specs.Position.{sideOf}
-use Rattle.frames.specs.Tree.{childrenFrom, treeAt, valuation}
-use Rattle.frames.specs.Formed.{WellFormed, ChildOf}
+use Rattle.gametree.specs.{Tree, least, greatest, better, minimax, minimaxChildren, known}
+use Rattle.frames.specs.{frames, firstChild, childCount, sideOf, childrenFrom, treeAt, valuation, WellFormed, ChildOf}
 use Rattle.frames.proofs.Next.{child-later, child-within}
 use Rattle.frames.proofs.Trees.{tree-leaf, tree-inner}
-use Rattle.certificate_bounds.specs.Marks.{marked}
-use Rattle.certificate_bounds.specs.engine.Ranges.{bestIn}
-use Rattle.certificate_bounds.specs.engine.Bounds.{boundOf, leafBounds}
+use Rattle.certificate_bounds.specs.{marked, bestIn, boundOf, leafBounds}
 use Rattle.certificate_bounds.proofs.BottomUp.{Rising, rising-at}
 
 -- a marked leaf has its score for both bounds, another one the least and the greatest score

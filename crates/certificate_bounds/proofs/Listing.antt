@@ -1,20 +1,12 @@
 -- Leaves that are marked, counted and listed one by one: the count is that of the marks, so that a leaf without a mark
 -- has an entry in the list.
-use Prim.Native.Nat.{ℕ, zero, suc, _+_, _≤_, _<_}
-use native.Mathlib.Omega.{arith}
-use native.Mathlib.Decide.{decLt}
-use mathlib.Core.Path.{_≡_, refl, sym, ap, ap₂, _∙_}
-use mathlib.Core.Bool.{false, cond}
-use mathlib.Core.List.{List, [], _∷_, _++_}
-use lib.ListN.{length, set, drop, length-append}
-use lib.Seq.{getD-set-same, sets, sets-eq}
-use Rattle.lists.specs.Lists.{countFrom}
+use Rattle.prelude.proofs.{ℕ, zero, suc, _+_, _≤_, _<_, arith, decLt, _≡_, refl, sym, ap, ap₂, _∙_, false, cond, List}
+use Rattle.prelude.proofs.{[], _∷_, _++_, length, set, drop, length-append, getD-set-same, sets, sets-eq}
+use Rattle.lists.specs.{countFrom}
 use Rattle.lists.proofs.Counting.{one-most, count-most, count-next}
-use Rattle.positions.specs.Buffer.{written}
-use Rattle.frames.specs.Frame.{maxNodes, frames}
-use Rattle.certificate_bounds.specs.Marks.{marked, ones, markAll}
-use Rattle.certificate_bounds.specs.engine.Progress.{Progress, progress, evaluateAll, Listable}
-use Rattle.certificate_bounds.specs.engine.Evaluable.{Evaluable}
+use Rattle.positions.specs.{written}
+use Rattle.frames.specs.{maxNodes, frames}
+use Rattle.certificate_bounds.specs.{marked, ones, markAll, Progress, progress, evaluateAll, Listable, Evaluable}
 use Rattle.certificate_bounds.proofs.Marking.{marked-other, markAll-append, cleared-unmarked}
 
 -- fewer marks than nodes where a node has none

@@ -1,15 +1,10 @@
 -- Marks that are set one by one.
-use Prim.Native.Nat.{ℕ, _<_}
-use mathlib.Core.Path.{_≡_, refl, ap, _∙_}
-use mathlib.Core.Bool.{Bool, true, false, cond, _||_}
-use mathlib.Core.List.{List, [], _∷_, _++_}
-use lib.Dec.{eqb}
-use lib.ListN.{length, set, length-set}
-use lib.Seq.{getD-set-other}
-use Rattle.lists.specs.Lists.{All, among}
-use Rattle.positions.specs.Buffer.{written}
+use Rattle.prelude.proofs.{ℕ, _<_, _≡_, refl, ap, _∙_, Bool, true, false, cond, _||_, List, [], _∷_, _++_, eqb, length}
+use Rattle.prelude.proofs.{set, length-set, getD-set-other}
+use Rattle.lists.specs.{All, among}
+use Rattle.positions.specs.{written}
 use Rattle.positions.proofs.Buffers.{written-at, written-same, put, written-set}
-use Rattle.certificate_bounds.specs.Marks.{mark, marked, markAll}
+use Rattle.certificate_bounds.specs.{mark, marked, markAll}
 
 pub markAll-append : (b v w : List ℕ) → markAll b (v ++ w) ≡ markAll (markAll b v) w
 unfolding markAll

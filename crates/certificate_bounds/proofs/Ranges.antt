@@ -1,10 +1,8 @@
 -- The best of the entries of consecutive nodes, one entry more.
-use Prim.Native.Nat.{ℕ, suc, _+_, _-_, _<_}
-use native.Mathlib.Omega.{arith}
-use mathlib.Core.Path.{_≡_, sym, ap, ap₂, _∙_}
+use Rattle.prelude.proofs.{ℕ, suc, _+_, _-_, _<_, arith, _≡_, sym, ap, ap₂, _∙_}
 use Rattle.gametree.specs.declared.Side.{Side}
-use Rattle.gametree.specs.Tree.{better}
-use Rattle.certificate_bounds.specs.engine.Ranges.{bestIn}
+use Rattle.gametree.specs.{better}
+use Rattle.certificate_bounds.specs.{bestIn}
 
 -- the best of the last entry alone
 pub best-last : (s : Side) (f : ℕ → ℕ) (i to : ℕ) → to ≡ i + 1 → bestIn s f i (to - (i + 1)) ≡ f i

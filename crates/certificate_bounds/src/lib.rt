@@ -12,7 +12,7 @@ use positions::side_at;
 ghost use mathlib.Core.Path.{_≡_};
 ghost use Prim.Native.Nat.{ℕ, _+_, _-_, _<_, _≤_};
 ghost use lib.ListN.{length, getD, set};
-ghost use Rattle.gametree.specs.Tree.{least, greatest};
+ghost use Rattle.gametree.specs.Trees.{least, greatest};
 ghost use Rattle.frames.specs.Frame.{maxNodes, frames, twoBytes};
 ghost use Rattle.frames.specs.Position.{depthOf};
 ghost use Rattle.frames.specs.Tree.{valuation};

@@ -1,13 +1,8 @@
 -- The first of consecutive entries that is equal to a number, and the chosen child by it.
-use Prim.Native.Nat.{ℕ, zero, suc, _+_, _-_, _≤_, _<_}
-use native.Mathlib.Omega.{arith}
-use mathlib.Core.Path.{_≡_, refl, sym, ap, ap₂}
-use mathlib.Core.Bool.{cond}
-use mathlib.Core.List.{List}
-use lib.Dec.{eqb}
-use borrow.Author.Tests.{eq-eqb, ne-eqb}
+use Rattle.prelude.proofs.{ℕ, zero, suc, _+_, _-_, _≤_, _<_, arith, _≡_, refl, sym, ap, ap₂, cond, List, eqb, eq-eqb}
+use Rattle.prelude.proofs.{ne-eqb}
 use Rattle.gametree.specs.declared.Side.{Side}
-use Rattle.certificate_flags.specs.engine.Chosen.{firstEqual, bySide, chosenChild}
+use Rattle.certificate_flags.specs.{firstEqual, bySide, chosenChild}
 
 -- the first entry that is v: here, later, or none
 pub first-here : (f : ℕ → ℕ) (v i to : ℕ) → i < to → f i ≡ v → firstEqual f v i (to - i) ≡ i

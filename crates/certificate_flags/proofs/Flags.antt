@@ -1,19 +1,10 @@
 -- The flags of a certificate, from the root down, node by node.
-use Prim.Native.Nat.{ℕ, _+_, _-_, _<_}
-use native.Mathlib.Omega.{arith}
-use mathlib.Core.Path.{_≡_, refl, sym, ap₂, _∙_}
-use mathlib.Core.Bool.{Bool, true, false, cond}
-use mathlib.Core.List.{List}
-use lib.Dec.{eqb}
-use lib.ListN.{getD}
+use Rattle.prelude.proofs.{ℕ, _+_, _-_, _<_, arith, _≡_, refl, sym, ap₂, _∙_, Bool, true, false, cond, List, eqb, getD}
 use Rattle.gametree.specs.declared.Side.{Side}
-use Rattle.frames.specs.Frame.{frames, childCount, next}
-use Rattle.frames.specs.Formed.{WellFormed}
-use Rattle.positions.specs.Buffer.{stored}
-use Rattle.positions.specs.engine.Positions.{sideIn}
+use Rattle.frames.specs.{frames, childCount, next, WellFormed}
+use Rattle.positions.specs.{stored, sideIn}
 use Rattle.positions.proofs.TopDown.{Filled, filled-at, filled-step}
-use Rattle.certificate_flags.specs.engine.Chosen.{bySide, chosenChild}
-use Rattle.certificate_flags.specs.engine.Flags.{moversFlag, FlagsFrom}
+use Rattle.certificate_flags.specs.{bySide, chosenChild, moversFlag, FlagsFrom}
 
 -- the flags of a node's children are stored as the rule says
 pub flags-step : (t : List ℕ) → WellFormed t → (positions lows highs : List ℕ) (f : ℕ → ℕ)

@@ -1,35 +1,21 @@
 -- What a call of the converter gives and leaves, over the outcome that its contract cites: the file's own table,
 -- written.
-use Prim.Native.Nat.{ℕ, _*_, _≤_}
-use mathlib.Core.Path.{_≡_, sym, ap, ap₂, _∙_}
-use mathlib.Core.Logic.{_↔_}
-use mathlib.Core.Bool.{true}
-use mathlib.Core.Option.{Option, none, some}
-use mathlib.Core.List.{List, _++_}
-use lib.Dec.{leb}
-use lib.ListN.{length, take, drop}
-use native.Mathlib.Omega.{arith}
-use borrow.Author.Tests.{le-leb, leb-true}
+use Rattle.prelude.proofs.{ℕ, _*_, _≤_, _≡_, sym, ap, ap₂, _∙_, _↔_, true, Option, none, some, List, _++_, leb, length}
+use Rattle.prelude.proofs.{take, drop, arith, le-leb, leb-true}
 use Rattle.frames.specs.declared.Rejection.{Rejection}
-use Rattle.frames.specs.Frame.{frames}
-use Rattle.frames.specs.Rejection.{_andThen_}
-use Rattle.frames.specs.Check.{framesRejection, Accepted}
+use Rattle.frames.specs.{frames, _andThen_, framesRejection, Accepted}
 use Rattle.frames.proofs.Stated.{ask-yes, both-passed}
-use Rattle.file_lines.specs.Line.{lineSize}
-use Rattle.file_lines.specs.Lines.{decoded}
-use Rattle.file_reader.specs.File.{maxFile, fileCheck3, fileRejection, AcceptedFile}
-use Rattle.file_reader.specs.engine.Decoded.{linesRejection}
+use Rattle.file_lines.specs.{lineSize, decoded}
+use Rattle.file_reader.specs.{maxFile, fileCheck3, fileRejection, AcceptedFile, linesRejection}
 use Rattle.file_reader.proofs.Reading.{lines-parts, lines-then}
 use Rattle.file_reader.proofs.Acceptance.{accepted-table, accepted-letters}
-use Rattle.file_writer.specs.Encoded.{fileOf}
-use Rattle.file_writer.specs.Write.{writeCheck10, atFront}
+use Rattle.file_writer.specs.{fileOf, writeCheck10, atFront}
 use Rattle.file_writer.specs.declared.Written.the-variants.{Length, Rejected}
-use Rattle.treefile.specs.results.Saved.{Bytes}
+use Rattle.treefile.specs.{Bytes}
 use Rattle.treefile.proofs.DecodedBytes.{decoded-bytes}
 use Rattle.treefile.proofs.RoundTrip.{written-length, written-decoded, written-accepted}
 use Rattle.treefile.proofs.Saving.{length-written, rejection-written}
-use Rattle.convert.specs.Convert.{convertRejection, convertOutcome}
-use Rattle.convert.specs.results.Converted.{baseRejection, Converted}
+use Rattle.convert.specs.{convertRejection, convertOutcome, baseRejection, Converted}
 use Rattle.convert.proofs.Kept.{raised-table, raised-rejection}
 
 module _ (f : List ℕ) where

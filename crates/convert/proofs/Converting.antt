@@ -1,14 +1,10 @@
 -- The converter, way out by way out: the file is rejected, or its own table is written.
-use Prim.Native.Nat.{ℕ}
-use mathlib.Core.Path.{_≡_, sym, _∙_}
-use mathlib.Core.Option.{none, some}
-use mathlib.Core.List.{List}
+use Rattle.prelude.proofs.{ℕ, _≡_, sym, _∙_, none, some, List}
 use Rattle.frames.specs.declared.Rejection.{Rejection}
-use Rattle.file_lines.specs.Lines.{decoded}
-use Rattle.file_writer.specs.Write.{writeRejection, writeOutcome}
+use Rattle.file_lines.specs.{decoded}
+use Rattle.file_writer.specs.{writeRejection, writeOutcome}
 use Rattle.file_writer.specs.declared.Written.the-variants.{Rejected}
-use Rattle.convert.specs.Convert.{convertOutcome}
-use Rattle.convert.specs.results.Converted.{baseRejection}
+use Rattle.convert.specs.{convertOutcome, baseRejection}
 use Rattle.convert.proofs.Converted.{base-table, convert-own}
 
 module _ (f buffer : List ℕ) where

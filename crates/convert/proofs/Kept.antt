@@ -1,23 +1,13 @@
 -- What lifting keeps of a file: its lines, and the digit that each byte is. So the lifted file has the file's table,
 -- and gets the answers that the file gets, but to question 16, which passes.
-use Prim.Native.Nat.{ℕ, zero, suc, _+_, _-_}
-use mathlib.Core.Path.{_≡_, refl, ap, _∙_}
-use mathlib.Core.Bool.{Bool, true, false, cond}
-use mathlib.Core.Option.{none}
-use mathlib.Core.List.{List, [], _∷_, map}
-use lib.Dec.{eqb}
-use lib.ListN.{length, take, drop, length-map}
-use native.Mathlib.Omega.{arith}
-use borrow.Author.Tests.{ne-eqb}
-use Rattle.file_hex.specs.Digit.{isLowercase, digitOf}
+use Rattle.prelude.proofs.{ℕ, zero, suc, _+_, _-_, _≡_, refl, ap, _∙_, Bool, true, false, cond, none, List, [], _∷_}
+use Rattle.prelude.proofs.{map, eqb, length, take, drop, length-map, arith, ne-eqb}
+use Rattle.file_hex.specs.{isLowercase, digitOf}
 use Rattle.file_hex.proofs.Digits.{inside, below, above, bounds}
-use Rattle.file_lines.specs.Line.{lineDigits, lineFeed, allDigits, isLine, hasLowercase, bytesOf, closed, isLineAt}
-use Rattle.file_lines.specs.Line.{lineAt}
-use Rattle.file_lines.specs.Lines.{putBefore, linesOf, decode, decoded}
-use Rattle.file_reader.specs.File.{eachLine, fileCheck3, fileCheck16, fileRejection}
-use Rattle.file_reader.specs.engine.Decoded.{lineCheck16, lineCheck3}
-use Rattle.convert.specs.RaiseCase.{raiseCase, raised}
-use Rattle.convert.specs.results.Converted.{baseRejection}
+use Rattle.file_lines.specs.{lineDigits, lineFeed, allDigits, isLine, hasLowercase, bytesOf, closed, isLineAt, lineAt}
+use Rattle.file_lines.specs.{putBefore, linesOf, decode, decoded}
+use Rattle.file_reader.specs.{eachLine, fileCheck3, fileCheck16, fileRejection, lineCheck16, lineCheck3}
+use Rattle.convert.specs.{raiseCase, raised, baseRejection}
 
 module _ (b : ℕ) where
   -- a capital has the number of its lowercase letter

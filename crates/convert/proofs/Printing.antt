@@ -1,36 +1,24 @@
 -- What the converter gives decides what is printed: a file that it wrote is printed as it stands, a rejection as its
 -- line.
-use Prim.Native.Nat.{ℕ, _*_, _≤_, _<_}
-use native.Mathlib.Omega.{arith}
-use mathlib.Core.Path.{_≡_, refl, sym, ap, _∙_}
-use mathlib.Core.Option.{Option, none, some}
-use mathlib.Core.List.{List, _++_}
-use lib.Dec.{leb}
-use lib.ListN.{length, take, drop, length-append}
-use lib.Seq.{take-length}
-use borrow.Author.Tests.{le-leb, lt-leb}
+use Rattle.prelude.proofs.{ℕ, _*_, _≤_, _<_, arith, _≡_, refl, sym, ap, _∙_, Option, none, some, List, _++_, leb}
+use Rattle.prelude.proofs.{length, take, drop, length-append, take-length, le-leb, lt-leb}
 use Rattle.lists.proofs.Choice.{clash, cond-cases}
 use Rattle.frames.specs.declared.Rejection.{Rejection}
-use Rattle.frames.specs.Rejection.{unless, Outcome, _leaving_}
-use Rattle.frames.specs.Frame.{frames}
+use Rattle.frames.specs.{unless, Outcome, _leaving_, frames}
 use Rattle.frames.proofs.Acceptance.{accepted-formed}
-use Rattle.file_lines.specs.Line.{lineSize}
-use Rattle.file_lines.specs.Lines.{decoded}
-use Rattle.file_reader.specs.File.{maxFile}
-use Rattle.file_writer.specs.Encoded.{fileOf}
-use Rattle.file_writer.specs.Write.{atFront}
+use Rattle.file_lines.specs.{lineSize, decoded}
+use Rattle.file_reader.specs.{maxFile}
+use Rattle.file_writer.specs.{fileOf, atFront}
 use Rattle.file_writer.specs.declared.Written.{Written}
 use Rattle.file_writer.specs.declared.Written.the-variants.{Length, Rejected}
 use Rattle.treefile.proofs.Saving.{length-written, rejection-written}
 use Rattle.text.specs.declared.Text.{Text}
-use Rattle.text.specs.Text.{refusedLine, textOf}
+use Rattle.text.specs.{refusedLine, textOf}
 use Rattle.text.proofs.Sizes.{refused-few, text-bytes}
-use Rattle.convert.specs.RaiseCase.{raised}
-use Rattle.convert.specs.Convert.{convertRejection, convertOutcome}
+use Rattle.convert.specs.{raised, convertRejection, convertOutcome, lengthPrinted, laidText, outputOutcome}
+use Rattle.convert.specs.{baseRejection}
 use Rattle.convert.specs.declared.Printed.{Printed}
 use Rattle.convert.specs.declared.Printed.the-variants.{File, Line, NoRoom}
-use Rattle.convert.specs.Printed.{lengthPrinted, laidText, outputOutcome}
-use Rattle.convert.specs.results.Converted.{baseRejection}
 use Rattle.convert.proofs.Kept.{raised-rejection}
 use Rattle.convert.proofs.Converted.{base-table, convert-gives, converted-within}
 

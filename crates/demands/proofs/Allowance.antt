@@ -4,31 +4,19 @@
 -- proof and smallest-pair wishes concern finished runs only": they speak of calls that give a result, SSS* within
 -- whatever allowance. "trees that agree on valued leaves also agree on spent answers under one allowance": `local` in
 -- Sentences.
-use Prim.Native.Nat.{ℕ, _≤_, _<_}
-use native.Mathlib.Omega.{arith}
-use mathlib.Core.Path.{_≡_, refl, sym, ap, ap₂, _∙_, subst}
-use mathlib.Core.List.{map}
-use lib.IntN.{pos}
-use lib.ListN.{length, take}
-use lib.Signed.{_≤ℤ_}
+use Rattle.prelude.proofs.{ℕ, _≤_, _<_, arith, _≡_, refl, sym, ap, ap₂, _∙_, subst, map, pos, length, take, _≤ℤ_}
 use Rattle.gametree_theory.proofs.Within.{within-falls}
-use Rattle.frames.specs.Frame.{frames}
-use Rattle.frames.specs.Tree.{tree, valuation}
-use Rattle.frames.specs.Check.{Accepted}
-use Rattle.frames.specs.Shape.{SameShape}
+use Rattle.frames.specs.{frames, tree, valuation, Accepted, SameShape}
 use Rattle.frames.proofs.Proper.{tree-proper}
 use Rattle.frames.proofs.Values.{value-order}
-use Rattle.certificate_bounds.specs.Marks.{ones}
-use Rattle.certificate.specs.Search.{marksOf, listed}
+use Rattle.certificate_bounds.specs.{ones}
+use Rattle.certificate.specs.{marksOf, listed}
 use Rattle.methods.specs.declared.Method.the-variants.{Sss}
 use Rattle.methods.specs.declared.Findings.{Findings}
 use Rattle.methods.specs.declared.Spent.{Spent as Spending}
 use Rattle.methods.specs.declared.Answer.the-variants.{Found, Spent}
-use Rattle.methods.specs.Rules.{runOf, evaluatedBy, beyond}
-use Rattle.methods.specs.Outcome.{searchOutcome}
-use Rattle.demands.specs.Searches.{EverySearch, EveryTwo, Given, countOf}
-use Rattle.demands.specs.Handed.{Room, AgreeOnMarked, Alike}
-use Rattle.demands.specs.Allowance.{CutShort}
+use Rattle.methods.specs.{runOf, evaluatedBy, beyond, searchOutcome}
+use Rattle.demands.specs.{EverySearch, EveryTwo, Given, countOf, Room, AgreeOnMarked, Alike, CutShort}
 use Rattle.demands.proofs.Running.{every, every-two}
 use Rattle.demands.proofs.Views.{Stopped}
 use Rattle.demands.proofs.Views as views

@@ -1,24 +1,11 @@
 -- SSS* within an allowance: the theory's theorems on its runs, carried to calls, for Allowance.antt and Sentences.antt.
-use Prim.Native.Nat.{ℕ, _-_, _≤_, _<_}
-use native.Mathlib.Omega.{arith}
-use mathlib.Core.Path.{_≡_, refl, sym, ap, _∙_, subst}
-use mathlib.Core.List.{List, [], _∷_}
-use lib.IntN.{pos}
-use lib.ListN.{length, length-take, length-drop, drop-of-length-le}
-use lib.Seq.{take-all}
-use lib.Signed.{_≤ℤ_}
+use Rattle.prelude.proofs.{ℕ, _-_, _≤_, _<_, arith, _≡_, refl, sym, ap, _∙_, subst, List, [], _∷_, pos, length}
+use Rattle.prelude.proofs.{length-take, length-drop, drop-of-length-le, take-all, _≤ℤ_}
 use Rattle.lists.proofs.Choice.{clash}
-use Rattle.gametree.specs.Tree.{greatest, minimax}
-use Rattle.gametree.specs.Sss.{Evaluation, ListAfter}
-use Rattle.gametree.specs.engine.Within.{spent, sssWithin}
+use Rattle.gametree.specs.{greatest, minimax, Evaluation, ListAfter, spent, sssWithin}
 use Rattle.gametree_theory.proofs.Searches.{sssEvaluated}
 use Rattle.gametree_theory.proofs.Within as within
-use Rattle.frames.specs.Tree.{tree, valuation}
-use Rattle.frames.specs.Formed.{WellFormed}
-use Rattle.frames.specs.Rejection.{unless, _leaving_}
-use Rattle.frames.specs.Check.{Accepted}
-use Rattle.frames.specs.Shape.{SameShape}
-use Rattle.frames.specs.Value.{valueOf}
+use Rattle.frames.specs.{tree, valuation, WellFormed, unless, _leaving_, Accepted, SameShape, valueOf}
 use Rattle.frames.proofs.Acceptance.{accepted-formed}
 use Rattle.frames.proofs.Proper.{tree-proper}
 use Rattle.frames.proofs.Values.{value-order}
@@ -27,12 +14,9 @@ use Rattle.methods.specs.declared.Method.the-variants.{AlphaBeta, Mtd, MtdFrom,
 use Rattle.methods.specs.declared.Findings.{Findings}
 use Rattle.methods.specs.declared.Spent.{Spent as Spending}
 use Rattle.methods.specs.declared.Answer.the-variants.{Found, Spent, Rejected}
-use Rattle.methods.specs.Rules.{runOf, evaluatedBy, beyond}
-use Rattle.methods.specs.Outcome.{Lent, rejectionOf, answerBy, givenBy, searchOutcome}
+use Rattle.methods.specs.{runOf, evaluatedBy, beyond, Lent, rejectionOf, answerBy, givenBy, searchOutcome}
 use Rattle.methods.proofs.Rules as rules
-use Rattle.demands.specs.Searches.{Call}
-use Rattle.demands.specs.Handed.{Room, AgreeOnMarked}
-use Rattle.demands.specs.Allowance.{CutShort}
+use Rattle.demands.specs.{Call, Room, AgreeOnMarked, CutShort}
 use Rattle.demands.proofs.Running.{Says}
 use Rattle.demands.proofs.Views.{Stopped}
 use Rattle.demands.proofs.Views as views

@@ -2,15 +2,8 @@
 -- before byte 3 had a meaning, and who moves is what the depth says. No other definition of a call reads byte 3, so
 -- every call gives what it gave; AlternatingCalls has this for the reader, the check of certificates, the tree and what
 -- is printed, against their definitions of then.
-use Prim.Native.Nat.{ℕ, _<_}
-use mathlib.Core.Path.{_≡_}
-use mathlib.Core.List.{List}
-use lib.Dec.{eqb}
-use Rattle.frames.specs.Frame.{frames, byte3}
-use Rattle.frames.specs.Position.{depthOf, sideOf}
-use Rattle.frames.specs.Rejection.{ask}
-use Rattle.frames.specs.Check.{check4}
-use Rattle.frames.specs.results.Alternating.{Alternating, sideByDepth}
+use Rattle.prelude.proofs.{ℕ, _<_, _≡_, List, eqb}
+use Rattle.frames.specs.{frames, byte3, depthOf, sideOf, ask, check4, Alternating, sideByDepth}
 use Rattle.frames.proofs.Sides.{check4-before, side-parity}
 
 module _ (t : List ℕ) (p : Alternating t) (i : ℕ) (h : i < frames t) where

@@ -1,35 +1,26 @@
 -- What follows from Alternating for the calls: each gives what it gave before byte 3 had a meaning, by its definition
 -- of then. All that a search gives and leaves follows from the tree (`gives-exactly` and `leaves-exactly` in Demand2,
 -- `same-bounds` in Plain).
-use Prim.Native.Nat.{ℕ, _<_}
-use native.Mathlib.Omega.{arith}
-use mathlib.Core.Path.{_≡_, refl, ap, ap₂, _∙_}
-use mathlib.Core.Option.{Option, none, some}
-use mathlib.Core.List.{List, [], _∷_, _++_}
-use lib.ListN.{length, drop}
+use Rattle.prelude.proofs.{ℕ, _<_, arith, _≡_, refl, ap, ap₂, _∙_, Option, none, some, List, [], _∷_, _++_, length}
+use Rattle.prelude.proofs.{drop}
 use Rattle.gametree.specs.declared.Side.{Side}
 use Rattle.gametree.specs.declared.Side.the-variants.{Max, Min}
-use Rattle.gametree.specs.Tree.{Tree}
-use Rattle.frames.specs.Frame.{frames}
-use Rattle.frames.specs.Tree.{tree, valuation}
+use Rattle.gametree.specs.{Tree}
+use Rattle.frames.specs.{frames, tree, valuation, ask, _andThen_, unless, _leaving_, Accepted, check1, check10}
+use Rattle.frames.specs.{Alternating, zeroRejection, treeByDepth}
 use Rattle.frames.specs.declared.Rejection.{Rejection}
 use Rattle.frames.specs.declared.Checked.the-variants.{Nodes, Rejected}
-use Rattle.frames.specs.Rejection.{ask, _andThen_, unless, _leaving_}
-use Rattle.frames.specs.Check.{Accepted, check1, check10}
-use Rattle.frames.specs.results.Alternating.{Alternating, zeroRejection, treeByDepth}
 use Rattle.frames.proofs.Acceptance.{accepted-formed}
 use Rattle.frames.proofs.Sides.{each-same, frames-before, rejection-before, side-parity, tree-before}
-use Rattle.file_lines.specs.Lines.{decoded}
-use Rattle.file_reader.specs.File.{fileCheck2, fileCheck3, fileCheck16, fileCheck10, fileRejection, readRejection}
-use Rattle.file_reader.specs.File.{readOutcome}
+use Rattle.file_lines.specs.{decoded}
+use Rattle.file_reader.specs.{fileCheck2, fileCheck3, fileCheck16, fileCheck10, fileRejection, readRejection}
+use Rattle.file_reader.specs.{readOutcome}
 use Rattle.file_reader.proofs.Acceptance.{accepted-table}
-use Rattle.verify.specs.Flags.{ruleHolds}
-use Rattle.verify.specs.Check.{checkTree, check11, check14, treesRejection, flagsRejection, certificateRejection}
-use Rattle.verify.specs.Check.{judged, verdict}
-use Rattle.text.specs.Text.{refusedLine}
-use Rattle.report.specs.Report.{analysisOn, report}
-use Rattle.demands.specs.results.Alternating.{zeroFile, ruleByDepth, treeRuleByDepth, verdictByDepth}
-use Rattle.demands.specs.results.Alternating.{reportByDepth}
+use Rattle.verify.specs.{ruleHolds, checkTree, check11, check14, treesRejection, flagsRejection, certificateRejection}
+use Rattle.verify.specs.{judged, verdict}
+use Rattle.text.specs.{refusedLine}
+use Rattle.report.specs.{analysisOn, report}
+use Rattle.demands.specs.{zeroFile, ruleByDepth, treeRuleByDepth, verdictByDepth, reportByDepth}
 
 module _ (t : List ℕ) (p : Alternating t) where
   rule-before : (s : Side) (flags : List ℕ) (i : ℕ) → i < frames t → ruleHolds s t flags i ≡ ruleByDepth s t flags i

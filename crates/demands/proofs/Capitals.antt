@@ -4,35 +4,22 @@
 -- change": `capitals-taken` and `converted-same` in Sentences.antt; "For a file still refused" nothing is written:
 -- `convert-keeps` in TheSentence.antt. "a small letter a to f in a line, 16, place the first such line":
 -- `lowest-small` in Demand1.antt.
-use Prim.Native.Nat.{ℕ, _*_, _≤_, _<_}
-use native.Mathlib.Omega.{arith}
-use mathlib.Core.Path.{_≡_, refl, sym, ap, _∙_}
-use mathlib.Core.Logic.{_↔_}
-use mathlib.Core.Bool.{true, not}
-use mathlib.Core.Option.{Option, none, some}
-use mathlib.Core.List.{List, [], _++_}
-use lib.ListN.{length, getD, take, drop}
+use Rattle.prelude.proofs.{ℕ, _*_, _≤_, _<_, arith, _≡_, refl, sym, ap, _∙_, _↔_, true, not, Option, none, some, List}
+use Rattle.prelude.proofs.{[], _++_, length, getD, take, drop}
 use Rattle.frames.specs.declared.Rejection.{Rejection}
 use Rattle.frames.specs.declared.Checked.the-variants.{Rejected as RejectedTable}
-use Rattle.frames.specs.Frame.{frames}
-use Rattle.frames.specs.Rejection.{_andThen_, unless, _leaving_}
-use Rattle.frames.specs.Check.{check1}
+use Rattle.frames.specs.{frames, _andThen_, unless, _leaving_, check1}
 use Rattle.frames.proofs.Stated.{both-passed, passed-then}
 use Rattle.frames.proofs.Acceptance.{accepted-stated}
-use Rattle.file_lines.specs.Line.{lineSize, hasLowercase, lineAt}
-use Rattle.file_lines.specs.Lines.{linesOf, decoded}
-use Rattle.file_reader.specs.File.{maxFile, fileCheck2, fileCheck3, fileCheck16, fileRejection, readRejection}
-use Rattle.file_reader.specs.File.{readOutcome}
+use Rattle.file_lines.specs.{lineSize, hasLowercase, lineAt, linesOf, decoded}
+use Rattle.file_reader.specs.{maxFile, fileCheck2, fileCheck3, fileCheck16, fileRejection, readRejection, readOutcome}
 use Rattle.file_reader.proofs.FirstLine.{line-asked}
-use Rattle.file_writer.specs.Encoded.{fileOf}
+use Rattle.file_writer.specs.{fileOf}
 use Rattle.file_writer.specs.declared.Written.the-variants.{Length}
 use Rattle.treefile.proofs.RoundTrip.{written-length}
 use Rattle.convert.specs.declared.Printed.the-variants.{File, Line}
-use Rattle.convert.specs.RaiseCase.{raised}
-use Rattle.text.specs.Text.{refusedLine}
-use Rattle.convert.specs.Convert.{convertOutcome}
-use Rattle.convert.specs.Printed.{outputOutcome}
-use Rattle.convert.specs.results.Converted.{baseRejection, Converted}
+use Rattle.convert.specs.{raised, convertOutcome, outputOutcome, baseRejection, Converted}
+use Rattle.text.specs.{refusedLine}
 use Rattle.convert.proofs.Kept.{raised-table, raised-check3, raised-rejection, raised-line}
 use Rattle.convert.proofs.Converted.{base-table, convert-gives, convert-leaves, converted-again, converted-once}
 use Rattle.convert.proofs.Printing.{line-printed, file-printed}

@@ -3,51 +3,47 @@
 -- which are marked ′. This is the function's own contract, compared with it by computing: a contract that promises
 -- less, or asks for something, is refused here. The theorems of the other files are about the definitions that are
 -- cited here.
-use mathlib.Core.Path.{_≡_}
-use mathlib.Core.List.{[]}
-use Rattle.frames.specs.Rejection.{_leaving_}
-use Rattle.methods.specs.Outcome.{lent, searchOutcome}
+use Rattle.prelude.proofs.{_≡_, []}
+use Rattle.frames.specs.{_leaving_, checked, childrenOf, childrenAt}
+use Rattle.methods.specs.{lent, searchOutcome}
 use Rattle.search.proofs as search
 use Rattle.sss_states.proofs as sss_states
-use Rattle.sss_states.specs.Entry.{blank}
+use Rattle.sss_states.specs.{blank}
 use Rattle.sss.proofs as sss
-use Rattle.sss.specs.Outcome.{sssOutcome}
+use Rattle.sss.specs.{sssOutcome}
 use Rattle.plain.proofs as plain
-use Rattle.plain.specs.Outcome.{plainOutcome}
+use Rattle.plain.specs.{plainOutcome}
 use Rattle.graft.proofs as graft
-use Rattle.graft.specs.Outcome.{graftOutcome}
+use Rattle.graft.specs.{graftOutcome}
 use Rattle.shorter.proofs as shorter
-use Rattle.shorter.specs.Choice.{choice, flagsBy, pointerBy}
+use Rattle.shorter.specs.{choice, flagsBy, pointerBy}
 use Rattle.verify.proofs as verify
-use Rattle.verify.specs.Check.{verdict}
+use Rattle.verify.specs.{verdict}
 use Rattle.best_line.proofs as best_line
-use Rattle.best_line.specs.Line.{lineOutcome}
+use Rattle.best_line.specs.{lineOutcome}
 use Rattle.variation.proofs as variation
-use Rattle.variation.specs.Outcome.{principalOutcome}
+use Rattle.variation.specs.{principalOutcome}
 use Rattle.leastvalue.proofs as leastvalue
-use Rattle.leastvalue.specs.LeastValue.{leastValue}
+use Rattle.leastvalue.specs.{leastValue}
 use Rattle.worstfill.proofs as worstfill
-use Rattle.worstfill.specs.Outcome.{fillOutcome}
+use Rattle.worstfill.specs.{fillOutcome}
 use Rattle.leastcount.proofs as leastcount
-use Rattle.leastcount.specs.Answer.{leastAnswer}
+use Rattle.leastcount.specs.{leastAnswer}
 use Rattle.file_writer.proofs as file_writer
-use Rattle.file_writer.specs.Write.{writeOutcome}
+use Rattle.file_writer.specs.{writeOutcome}
 use Rattle.convert.proofs as convert
-use Rattle.convert.specs.Convert.{convertOutcome}
-use Rattle.convert.specs.Printed.{lengthPrinted, outputOutcome}
+use Rattle.convert.specs.{convertOutcome, lengthPrinted, outputOutcome}
 use Rattle.file_reader.proofs as file_reader
-use Rattle.file_reader.specs.File.{readOutcome}
+use Rattle.file_reader.specs.{readOutcome}
 use Rattle.tables.proofs as tables
 use Rattle.frames.proofs as frames
-use Rattle.frames.specs.Check.{checked}
-use Rattle.frames.specs.Children.{childrenOf, childrenAt}
 use Rattle.file_hex.proofs as file_hex
-use Rattle.file_hex.specs.Digit.{digitOf}
+use Rattle.file_hex.specs.{digitOf}
 use Rattle.file_lines.proofs as file_lines
-use Rattle.file_lines.specs.Line.{lineAt}
+use Rattle.file_lines.specs.{lineAt}
 use Rattle.report.proofs as report
 use Rattle.text.proofs as text
-use Rattle.text.specs.Text.{refusedLine, textOf}
+use Rattle.text.specs.{refusedLine, textOf}
 use Rattle.report.specs.Report as reports
 use Rattle.demands.specs.Runs.{Runs}
 

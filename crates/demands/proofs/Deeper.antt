@@ -1,22 +1,16 @@
 -- A tree that is too deep, by each call (02: N2); for `deeper-refused` in Sentences.antt.
-use Prim.Native.Nat.{ℕ, _<_}
-use mathlib.Core.Path.{_≡_, _∙_}
-use mathlib.Core.Option.{none, some}
-use mathlib.Core.List.{List}
+use Rattle.prelude.proofs.{ℕ, _<_, _≡_, _∙_, none, some, List}
 use Rattle.frames.specs.declared.Rejection.{Rejection}
 use Rattle.frames.specs.declared.Checked.the-variants.{Rejected as RejectedTable}
-use Rattle.frames.specs.Frame.{maxDepth, frames}
-use Rattle.frames.specs.Position.{depthOf}
-use Rattle.frames.specs.Rejection.{_andThen_}
-use Rattle.frames.specs.Check.{check1, nodesRejection, check8, checked}
-use Rattle.frames.specs.FirstNo.{LowestDeep, rejectionBefore9}
+use Rattle.frames.specs.{maxDepth, frames, depthOf, _andThen_, check1, nodesRejection, check8, checked, LowestDeep}
+use Rattle.frames.specs.{rejectionBefore9}
 use Rattle.frames.proofs.Stated.{both-passed, passed-then}
 use Rattle.frames.proofs.FirstNo.{deeper-frames, deeper-rejected}
-use Rattle.file_lines.specs.Lines.{decoded}
-use Rattle.file_reader.specs.File.{fileCheck2, fileCheck3, fileCheck16, fileRejection, readRejection, readOutcome}
-use Rattle.file_writer.specs.Write.{writeRejection}
-use Rattle.certificate.specs.Search.{searchRejection}
-use Rattle.verify.specs.Check.{certificateRejection}
+use Rattle.file_lines.specs.{decoded}
+use Rattle.file_reader.specs.{fileCheck2, fileCheck3, fileCheck16, fileRejection, readRejection, readOutcome}
+use Rattle.file_writer.specs.{writeRejection}
+use Rattle.certificate.specs.{searchRejection}
+use Rattle.verify.specs.{certificateRejection}
 
 -- 02, N2: "Deeper trees are answered with 9": a table by the check, by every search, by the check of certificates and
 -- by the writer

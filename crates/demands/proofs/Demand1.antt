@@ -1,30 +1,20 @@
 -- Demand 1, sentence by sentence. "each public entry takes whatever bytes it is lent, stays inside them, finishes":
 -- Contracts.antt says it of each entry.
-use Prim.Native.Nat.{ℕ, _<_}
-use mathlib.Core.Path.{_≡_, sym}
-use mathlib.Core.Bool.{Bool, not}
-use mathlib.Core.Option.{Option, none, some}
-use mathlib.Core.List.{List, []}
-use lib.Dec.{leb}
-use lib.ListN.{length, getD}
+use Rattle.prelude.proofs.{ℕ, _<_, _≡_, sym, Bool, not, Option, none, some, List, [], leb, length, getD}
 use Rattle.lists.proofs.Choice.{clash}
 use Rattle.gametree.specs.declared.Side.the-variants.{Max, Min}
-use Rattle.gametree.specs.Certificate.{inBoth}
+use Rattle.gametree.specs.{inBoth}
 use Rattle.frames.specs.declared.Rejection.{Rejection}
 use Rattle.frames.specs.declared.Checked.the-variants.{Rejected as RejectedTable}
-use Rattle.frames.specs.Frame.{frames}
-use Rattle.frames.specs.Rejection.{ask}
-use Rattle.frames.specs.Check.{checkNode, nodesRejection, depthsRejection, rejection, checked}
-use Rattle.frames.specs.FirstNo.{LowestNo, LowestDeep}
+use Rattle.frames.specs.{frames, ask, checkNode, nodesRejection, depthsRejection, rejection, checked, LowestNo}
+use Rattle.frames.specs.{LowestDeep}
 use Rattle.frames.proofs.Acceptance.{rejected-first}
 use Rattle.frames.proofs.FirstNo.{lowest-no, nodes-first, depth-first}
-use Rattle.file_lines.specs.Line.{isLine, hasLowercase}
-use Rattle.file_lines.specs.Lines.{linesOf}
-use Rattle.file_reader.specs.File.{eachLine, fileCheck3, fileCheck16}
+use Rattle.file_lines.specs.{isLine, hasLowercase, linesOf}
+use Rattle.file_reader.specs.{eachLine, fileCheck3, fileCheck16}
 use Rattle.file_reader.proofs.FirstLine.{line-first}
 use Rattle.verify.specs.declared.Verdict.the-variants.{Rejected as RejectedFlags}
-use Rattle.verify.specs.Flags.{ruleHolds}
-use Rattle.verify.specs.Check.{check11, checkTree, certificateRejection, judged, verdict}
+use Rattle.verify.specs.{ruleHolds, check11, checkTree, certificateRejection, judged, verdict}
 
 -- "and gives a result or one numbered refusal with its place": a refusal is the first "no" to the questions that the
 -- call puts. Of each call that is lent memory to change: `keeps` and its like in TheSentence.antt, which say that the

@@ -1,34 +1,25 @@
 -- Demand 2: what is said beside the headline sentences (`minimax-value`, `first-move`, `solution-trees` and `checker`
 -- in TheSentence, `rule-leaves` and `gives` in Sentences), of the searches as they run.
-use Prim.Native.Nat.{ℕ, _+_, _*_, _≤_, _<_}
-use native.Mathlib.Omega.{arith}
-use mathlib.Core.Path.{_≡_, sym, ap, _∙_}
-use mathlib.Core.List.{List}
-use lib.ListN.{length}
+use Rattle.prelude.proofs.{ℕ, _+_, _*_, _≤_, _<_, arith, _≡_, sym, ap, _∙_, List, length}
 use Rattle.gametree_theory.proofs.Within.{evaluations-count, full-few}
 use Rattle.frames.specs.declared.Checked.the-variants.{Nodes}
-use Rattle.frames.specs.Frame.{frameSize, frames, byteOf, childCount}
-use Rattle.frames.specs.Position.{depthOf}
-use Rattle.frames.specs.Tree.{tree, valuation}
-use Rattle.frames.specs.Value.{valueOf, signed, worth}
-use Rattle.frames.specs.Check.{Accepted}
+use Rattle.frames.specs.{frameSize, frames, byteOf, childCount, depthOf, tree, valuation, valueOf, signed, worth}
+use Rattle.frames.specs.{Accepted}
 use Rattle.frames.proofs.Acceptance.{accepted-formed, nodes-accepted}
 use Rattle.frames.proofs.Proper.{tree-proper}
 use Rattle.frames.proofs.Totals.{tree-size}
 use Rattle.frames.proofs.TreeOfTable.{score-worth}
 use Rattle.frames.proofs.Values.{value-stored}
 use Rattle.tables.proofs as tables
-use Rattle.certificate.specs.Search.{marksOf, flagsOf, listed}
+use Rattle.certificate.specs.{marksOf, flagsOf, listed}
 use Rattle.verify.specs.declared.Verdict.the-variants.{Value}
-use Rattle.verify.specs.Check.{verdict}
+use Rattle.verify.specs.{verdict}
 use Rattle.methods.specs.declared.Findings.{Findings}
 use Rattle.methods.specs.declared.Spent.{Spent as Spending}
 use Rattle.methods.specs.declared.Answer.the-variants.{Found, Spent}
-use Rattle.methods.specs.Rules.{runOf, evaluatedBy}
-use Rattle.methods.specs.Outcome.{findingsBy}
+use Rattle.methods.specs.{runOf, evaluatedBy, findingsBy}
 use Rattle.demands.specs.Runs.{Runs}
-use Rattle.demands.specs.Searches.{EverySearch, Given}
-use Rattle.demands.specs.Handed.{Room}
+use Rattle.demands.specs.{EverySearch, Given, Room}
 use Rattle.demands.proofs.Contracts as contracts
 use Rattle.demands.proofs.Running.{follows, every}
 use Rattle.demands.proofs.LentBytes.{first-bytes}

@@ -3,41 +3,31 @@
 -- and of the list. "same child order, full opening window, leftmost state first on equal merit": so say the rules,
 -- `childrenFrom` and `tree` (frames/specs/Tree.antt), `reached` from `least` to `greatest`
 -- (gametree/specs/AlphaBeta.antt), `pick` and `beats` (gametree/specs/Sss.antt).
-use Prim.Native.Nat.{ℕ, suc, _*_, _≤_, _<_}
-use mathlib.Core.Path.{_≡_, ap, _∙_, subst}
-use mathlib.Core.Bool.{Bool, true}
-use mathlib.Core.List.{List, _++_, map}
-use lib.ListN.{length, getD, drop, replicate}
-use borrow.Author.Tests.{eqb-true}
-use Rattle.lists.specs.Lists.{Once, among, different}
+use Rattle.prelude.proofs.{ℕ, suc, _*_, _≤_, _<_, _≡_, ap, _∙_, subst, Bool, true, List, _++_, map, length, getD, drop}
+use Rattle.prelude.proofs.{replicate, eqb-true}
+use Rattle.lists.specs.{Once, among, different}
 use Rattle.lists.proofs.Choice.{is-false}
 use Rattle.gametree.specs.Mtd as rule
-use Rattle.gametree.specs.Certificate.{Smallest}
-use Rattle.gametree.specs.results.Reason.{Reason}
+use Rattle.gametree.specs.{Smallest, Reason}
 use Rattle.gametree_theory.proofs.results.Reason.{decided-reason}
 use Rattle.gametree_theory.proofs.Theorems.{mtd-passes, sss-replacements, smallest-exists}
 use Rattle.frames.specs.declared.Rejection.{Rejection}
-use Rattle.frames.specs.Frame.{frames}
-use Rattle.frames.specs.Tree.{tree, valuation}
-use Rattle.frames.specs.Check.{Accepted}
-use Rattle.frames.specs.results.Leaf.{Leaf}
+use Rattle.frames.specs.{frames, tree, valuation, Accepted, Leaf}
 use Rattle.frames.proofs.Acceptance.{accepted-formed}
 use Rattle.frames.proofs.Nodes.{in-tree}
 use Rattle.frames.proofs.Leaves.{leaf-listed}
 use Rattle.frames.proofs.Proper.{tree-proper}
 use Rattle.frames.proofs.Totals.{tree-size}
-use Rattle.certificate_bounds.specs.Marks.{marked}
+use Rattle.certificate_bounds.specs.{marked}
 use Rattle.methods.specs.declared.Method.the-variants.{AlphaBeta, Mtd, Sss}
 use Rattle.methods.specs.declared.Findings.{Findings}
 use Rattle.methods.specs.declared.Answer.the-variants.{Found, Rejected}
-use Rattle.methods.specs.Rules.{runOf, evaluatedBy, stepsBy}
-use Rattle.methods.specs.Outcome.{lent}
+use Rattle.methods.specs.{runOf, evaluatedBy, stepsBy, lent}
 use Rattle.methods.proofs.Rules as rules
 use Rattle.sss.proofs as sss
-use Rattle.sss_states.specs.Entry.{blank}
+use Rattle.sss_states.specs.{blank}
 use Rattle.demands.specs.Runs.{Runs}
-use Rattle.demands.specs.Searches.{EverySearch, Given, countOf}
-use Rattle.demands.specs.Handed.{Marked}
+use Rattle.demands.specs.{EverySearch, Given, countOf, Marked}
 use Rattle.demands.proofs.Contracts as contracts
 use Rattle.demands.proofs.Running.{follows, every}
 use Rattle.demands.proofs.Views as views

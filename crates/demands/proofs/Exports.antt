@@ -1,43 +1,33 @@
 -- What the functions of the library for other languages promise: each asks nothing, and leaves what is said here of its
 -- arguments, its answer r and its parameters at exit, which are marked ′. It is the outcome of the call that it makes
 -- (Contracts.antt), as numbers. As there, this is the function's own contract, compared with it by computing.
-use Prim.Native.Nat.{ℕ, _<_}
-use mathlib.Core.Path.{_≡_, refl, sym, ap, _∙_}
-use mathlib.Core.List.{List, []}
-use lib.ListN.{length, getD}
-use Rattle.frames.specs.Frame.{frames}
-use Rattle.frames.specs.Rejection.{_leaving_}
-use Rattle.frames.specs.Check.{checked}
-use Rattle.frames.specs.Children.{childrenOf}
-use Rattle.file_hex.specs.Digit.{digitOf}
-use Rattle.file_lines.specs.Line.{lineAt}
-use Rattle.file_reader.specs.File.{readOutcome}
-use Rattle.file_writer.specs.Write.{writeOutcome}
-use Rattle.convert.specs.Convert.{convertOutcome}
-use Rattle.convert.specs.Printed.{outputOutcome}
+use Rattle.prelude.proofs.{ℕ, _<_, _≡_, refl, sym, ap, _∙_, List, [], length, getD}
+use Rattle.frames.specs.{frames, _leaving_, checked, childrenOf}
+use Rattle.file_hex.specs.{digitOf}
+use Rattle.file_lines.specs.{lineAt}
+use Rattle.file_reader.specs.{readOutcome}
+use Rattle.file_writer.specs.{writeOutcome}
+use Rattle.convert.specs.{convertOutcome, outputOutcome}
 use Rattle.methods.specs.declared.Method.{Method}
 use Rattle.methods.specs.declared.Method.the-variants.{AlphaBeta, Mtd, MtdFrom, Sss}
-use Rattle.methods.specs.Outcome.{Lent, lent, searchOutcome}
-use Rattle.plain.specs.Outcome.{plainOutcome}
-use Rattle.best_line.specs.Line.{lineOutcome}
-use Rattle.verify.specs.Check.{verdict}
-use Rattle.shorter.specs.Choice.{choice, chosenFlags}
-use Rattle.graft.specs.Outcome.{graftOutcome}
-use Rattle.leastvalue.specs.LeastValue.{leastValue}
-use Rattle.worstfill.specs.Outcome.{fillOutcome}
-use Rattle.leastcount.specs.Answer.{leastAnswer}
+use Rattle.methods.specs.{Lent, lent, searchOutcome}
+use Rattle.plain.specs.{plainOutcome}
+use Rattle.best_line.specs.{lineOutcome}
+use Rattle.verify.specs.{verdict}
+use Rattle.shorter.specs.{choice, chosenFlags}
+use Rattle.graft.specs.{graftOutcome}
+use Rattle.leastvalue.specs.{leastValue}
+use Rattle.worstfill.specs.{fillOutcome}
+use Rattle.leastcount.specs.{leastAnswer}
 use Rattle.report.specs.Report as reports
-use Rattle.text.specs.Text.{refusedLine, textOf}
+use Rattle.text.specs.{refusedLine, textOf}
 use Rattle.buulset.proofs as buulset
-use Rattle.buulset.specs.Version.{version}
-use Rattle.buulset.specs.Children.{flatChildren, partOf}
-use Rattle.buulset.specs.Outcome.{flatBy}
+use Rattle.buulset.specs.{version, flatChildren, partOf, flatBy}
 use Rattle.buulset_answers.specs.declared.Answer.{Answer}
-use Rattle.buulset_flat.specs.Flat.{flatChecked, flatWritten, flatPrinted, flatAnswer, flatPlain, flatFilled}
-use Rattle.buulset_flat.specs.Flat.{flatVerdict, flatLeastValue, flatLeast, flatChoice, flatLine, flatText}
-use Rattle.buulset_flat.specs.Flat.{flatBestLine}
-use Rattle.demands.specs.Runs.{Runs, RunBoth}
-use Rattle.demands.specs.Searches.{Call, Given}
+use Rattle.buulset_flat.specs.{flatChecked, flatWritten, flatPrinted, flatAnswer, flatPlain, flatFilled, flatVerdict}
+use Rattle.buulset_flat.specs.{flatLeastValue, flatLeast, flatChoice, flatLine, flatText, flatBestLine}
+use Rattle.demands.specs.Runs.{Runs}
+use Rattle.demands.specs.{RunBoth, Call, Given}
 use Rattle.demands.proofs.Running.{together, Says}
 use Rattle.demands.proofs.Views.{lengths, refused}
 use Rattle.demands.proofs.Handed.{dominated}

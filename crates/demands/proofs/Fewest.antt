@@ -1,25 +1,19 @@
 -- No result counts fewer leaves than the smallest pair has, nor fewer than the entry of a regular table: for
 -- `smallest-pair` and `counts-no-fewer` in Sentences.antt.
-use Prim.Native.Nat.{ℕ, _≤_}
-use native.Mathlib.Omega.{arith}
-use mathlib.Core.Path.{_≡_, ap}
-use mathlib.Core.Bool.{Bool}
-use mathlib.Core.List.{List}
-use Rattle.gametree.specs.Certificate.{Smallest, pairLeaves}
+use Rattle.prelude.proofs.{ℕ, _≤_, arith, _≡_, ap, Bool, List}
+use Rattle.gametree.specs.{Smallest, pairLeaves}
 use Rattle.gametree_theory.proofs.minimax.Counts.{pairLeaves-all}
 use Rattle.gametree_theory.proofs.Theorems.{search-smallest}
-use Rattle.frames.specs.Frame.{frames}
-use Rattle.frames.specs.Tree.{tree, valuation}
-use Rattle.frames.specs.results.Regular.{RegularTable}
-use Rattle.certificate_bounds.specs.Marks.{ones}
+use Rattle.frames.specs.{frames, tree, valuation, RegularTable}
+use Rattle.certificate_bounds.specs.{ones}
 use Rattle.methods.specs.declared.Findings.{Findings}
 use Rattle.methods.specs.declared.Answer.the-variants.{Found}
-use Rattle.methods.specs.Outcome.{Lent}
+use Rattle.methods.specs.{Lent}
 use Rattle.methods.proofs.Rules as rules
 use Rattle.plain.specs.declared.PlainResult.{PlainResult}
 use Rattle.leastcount.specs.declared.Least.the-variants.{Leaves}
-use Rattle.leastcount.specs.Answer.{leastAnswer}
-use Rattle.demands.specs.Searches.{Call}
+use Rattle.leastcount.specs.{leastAnswer}
+use Rattle.demands.specs.{Call}
 use Rattle.demands.proofs.Running.{Says, PlainSays}
 use Rattle.demands.proofs.Views as views
 use Rattle.demands.proofs.Handed.{handed, proper}

@@ -1,31 +1,22 @@
 -- What is proved of alpha-beta on a table that was filled, for `costs-most` in Sentences.antt.
-use Prim.Native.Nat.{ℕ, _≤_, _<_}
-use native.Mathlib.Omega.{arith}
-use mathlib.Core.Path.{_≡_, sym, ap, ap₂, _∙_, subst}
-use mathlib.Core.Bool.{cond}
-use mathlib.Core.List.{List}
-use lib.Dec.{eqb}
-use lib.ListN.{length, getD}
-use Rattle.lists.specs.Lists.{among}
+use Rattle.prelude.proofs.{ℕ, _≤_, _<_, arith, _≡_, sym, ap, ap₂, _∙_, subst, cond, List, eqb, length, getD}
+use Rattle.lists.specs.{among}
 use Rattle.lists.proofs.Lists.{sub-length}
-use Rattle.gametree.specs.Tree.{leaves}
+use Rattle.gametree.specs.{leaves}
 use Rattle.gametree_theory.proofs.Theorems.{alphaBeta-leaves, alphaBeta-ordered}
-use Rattle.frames.specs.Frame.{frames, childCount}
-use Rattle.frames.specs.Tree.{tree, valuation}
-use Rattle.frames.specs.Shape.{SameShape}
+use Rattle.frames.specs.{frames, childCount, tree, valuation, SameShape}
 use Rattle.frames.proofs.Acceptance.{accepted-formed}
 use Rattle.frames.proofs.Shapes.{same-tree}
 use Rattle.methods.specs.declared.Method.the-variants.{AlphaBeta}
 use Rattle.methods.specs.declared.Findings.{Findings}
 use Rattle.methods.specs.declared.Answer.the-variants.{Found}
-use Rattle.methods.specs.Rules.{evaluatedBy}
+use Rattle.methods.specs.{evaluatedBy}
 use Rattle.plain.proofs.Leaves.{leaves-are}
 use Rattle.worstfill.specs.declared.Filled.the-variants.{Leaves}
-use Rattle.worstfill.specs.Outcome.{fillOutcome}
-use Rattle.worstfill.specs.results.Filled.{handed}
+use Rattle.worstfill.specs.{fillOutcome, handed}
 use Rattle.worstfill.proofs.Whole.{fill-given}
 use Rattle.worstfill.proofs.WorstFill.{worst-reached}
-use Rattle.demands.specs.Searches.{Call}
+use Rattle.demands.specs.{Call}
 use Rattle.demands.proofs.Running.{Says}
 use Rattle.demands.proofs.Views as views
 use Rattle.demands.proofs.Handed.{leavesBy, marking, marks-at}

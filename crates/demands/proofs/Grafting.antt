@@ -2,31 +2,19 @@
 -- The first table is t, the named node k, the second table u, the lent buffer b; the table at the buffer's front after
 -- a call that gives n nodes is `handed t k u b n`. Its minimax value: `graft-value` in Sentences.antt; a refusal:
 -- `graft-keeps` in TheSentence.antt.
-use Prim.Native.Nat.{ℕ, _+_, _-_, _*_, _≤_, _<_}
-use native.Mathlib.Omega.{arith}
-use native.Mathlib.Decide.{decLe}
-use mathlib.Core.Path.{_≡_, ap}
-use mathlib.Core.Logic.{_⊎_, inl, inr, _↔_}
-use mathlib.Core.Option.{some}
-use mathlib.Core.List.{List, _++_}
-use lib.ListN.{length, getD, drop}
+use Rattle.prelude.proofs.{ℕ, _+_, _-_, _*_, _≤_, _<_, arith, decLe, _≡_, ap, _⊎_, inl, inr, _↔_, some, List, _++_}
+use Rattle.prelude.proofs.{length, getD, drop}
 use Rattle.gametree.specs.declared.Side.the-variants.{Max}
-use Rattle.gametree.specs.Tree.{other}
-use Rattle.gametree.specs.Graft.{relabelled}
+use Rattle.gametree.specs.{other, relabelled}
 use Rattle.frames.specs.declared.Rejection.{Rejection}
 use Rattle.frames.specs.declared.Checked.the-variants.{Nodes, Rejected}
-use Rattle.frames.specs.Frame.{frameSize, maxNodes, maxDepth, frames, byteOf, childCount}
-use Rattle.frames.specs.Position.{parentOf, depthOf, sideOf}
-use Rattle.frames.specs.Tree.{tree}
-use Rattle.frames.specs.Check.{rejection, Accepted}
+use Rattle.frames.specs.{frameSize, maxNodes, maxDepth, frames, byteOf, childCount, parentOf, depthOf, sideOf, tree}
+use Rattle.frames.specs.{rejection, Accepted}
 use Rattle.frames.proofs.Positions.{position-root}
 use Rattle.frames.proofs.Acceptance.{accepted-formed}
-use Rattle.graft_questions.specs.Questions.{graftSize}
-use Rattle.graft.specs.Sources.{sources}
-use Rattle.graft.specs.Table.{graftTable}
-use Rattle.graft_questions.specs.Graftable.{MaxLeaf, Graftable}
-use Rattle.graft.specs.Outcome.{graftOutcome}
-use Rattle.graft.specs.results.Grafted.{graftTree, handed}
+use Rattle.graft_questions.specs.{graftSize, MaxLeaf}
+use Rattle.graft.specs.{sources, graftTable, graftOutcome, graftTree, handed}
+use Rattle.graft_questions.specs.Graftable.{Graftable}
 use Rattle.graft.proofs.Acceptance.{accepted-graftable}
 use Rattle.graft.proofs.Grafting.{leaf-other, graft-first, graft-second, graft-no-leaf, graft-too-large, graft-deep}
 use Rattle.graft.proofs.Grafting.{graft-short, graft-gives, given-graftable, grafted-nodes, grafted-rest}

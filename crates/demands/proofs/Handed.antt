@@ -1,50 +1,36 @@
 -- What is handed back in the buffers: the theory's theorems, carried to the bytes.
-use Prim.Native.Nat.{ℕ, _≤_, _<_}
-use mathlib.Core.Path.{_≡_, sym, ap, _∙_}
-use mathlib.Core.Bool.{true, cond}
-use mathlib.Core.List.{List}
-use lib.ListN.{length, getD, take}
-use lib.Seq.{take-append-seam}
-use borrow.Author.Tests.{eq-eqb}
+use Rattle.prelude.proofs.{ℕ, _≤_, _<_, _≡_, sym, ap, _∙_, true, cond, List, length, getD, take, take-append-seam}
+use Rattle.prelude.proofs.{eq-eqb}
 use Rattle.gametree.specs.declared.Side.{Side}
 use Rattle.gametree.specs.declared.Side.the-variants.{Max, Min}
-use Rattle.lists.specs.Lists.{All, among}
+use Rattle.lists.specs.{All, among}
 use Rattle.lists.proofs.Lists.{all-at, once-length}
-use Rattle.gametree.specs.Tree.{other, least, greatest, minimax, Proper}
-use Rattle.gametree.specs.Bounds.{known, Decided}
-use Rattle.gametree.specs.Certificate.{worst, flag}
+use Rattle.gametree.specs.{other, least, greatest, minimax, Proper, known, Decided, worst, flag}
 use Rattle.gametree_theory.proofs.Searches.{Deciding}
 use Rattle.gametree_theory.proofs.minimax.Bounds.{every-map}
 use Rattle.gametree_theory.proofs.minimax.Grafts.{minimax-same}
 use Rattle.gametree_theory.proofs.tests.Subtree.{every-all}
 use Rattle.gametree_theory.proofs.certificates.ReadOff.{ReadOff}
 use Rattle.gametree_theory.proofs.certificates.Flags.{read-bounds}
-use Rattle.frames.specs.Frame.{frames}
-use Rattle.frames.specs.Tree.{tree, valuation}
-use Rattle.frames.specs.Formed.{WellFormed}
-use Rattle.frames.specs.Check.{Accepted}
-use Rattle.frames.specs.Value.{valueOf}
+use Rattle.frames.specs.{frames, tree, valuation, WellFormed, Accepted, valueOf}
 use Rattle.frames.proofs.Acceptance.{accepted-formed}
 use Rattle.frames.proofs.Proper.{every-leaf, tree-proper}
 use Rattle.positions.proofs.Buffers.{written-at}
-use Rattle.certificate_bounds.specs.Marks.{mark, marked, ones}
-use Rattle.certificate.specs.Search.{marksOf, flagsOf}
+use Rattle.certificate_bounds.specs.{mark, marked, ones}
+use Rattle.certificate.specs.{marksOf, flagsOf}
 use Rattle.certificate.proofs.Marks.{marked-written}
 use Rattle.verify.specs.declared.Verdict.the-variants.{Value}
-use Rattle.verify.specs.Check.{verdict}
-use Rattle.verify.specs.Flags.{member}
+use Rattle.verify.specs.{verdict, member}
 use Rattle.verify.specs.Certificate.{Certificate}
 use Rattle.verify.proofs.Theorems.{certificate-verdict}
 use Rattle.methods.specs.declared.Method.the-variants.{AlphaBeta}
 use Rattle.methods.specs.declared.Findings.{Findings}
 use Rattle.methods.specs.declared.Answer.the-variants.{Found}
-use Rattle.methods.specs.Rules.{evaluatedBy}
-use Rattle.methods.specs.Outcome.{Lent}
+use Rattle.methods.specs.{evaluatedBy, Lent}
 use Rattle.methods.proofs.Rules as rules
 use Rattle.best_line.proofs.Certified.{reads, written-certificate}
 use Rattle.best_line.proofs.Certified as written
-use Rattle.demands.specs.Searches.{Call, Given, countOf}
-use Rattle.demands.specs.Handed.{Marked, CertifiedBy}
+use Rattle.demands.specs.{Call, Given, countOf, Marked, CertifiedBy}
 use Rattle.demands.proofs.Running.{Says}
 use Rattle.demands.proofs.Views as views
 

@@ -2,29 +2,17 @@
 -- cites. "Hold a table of the 760 least counts .. The rule is shown over the whole table together": `whole_table` in
 -- leastcount/src/lib.rt, whose contract compares all entries at once; `carried` in leastcount/proofs/Carried.antt says
 -- what that is for one.
-use Prim.Native.Nat.{ℕ, _≤_, _<_}
-use native.Mathlib.Omega.{arith}
-use native.Mathlib.Nat.{le-trans}
-use mathlib.Core.Path.{_≡_, ap}
-use mathlib.Core.Logic.{_⊎_}
-use mathlib.Core.Bool.{Bool}
-use mathlib.Core.Option.{some}
-use mathlib.Core.List.{List}
-use Rattle.gametree.specs.Certificate.{Certifies, pairLeaves}
+use Rattle.prelude.proofs.{ℕ, _≤_, _<_, arith, le-trans, _≡_, ap, _⊎_, Bool, some, List}
+use Rattle.gametree.specs.{Certifies, pairLeaves}
 use Rattle.gametree_theory.proofs.minimax.Counts.{leaves-size, pairLeaves-all}
 use Rattle.gametree_theory.proofs.certificates.Regular.{pair-count}
 use Rattle.frames.specs.declared.Rejection.{Rejection}
-use Rattle.frames.specs.Rejection.{unless}
-use Rattle.frames.specs.Frame.{maxChildren, maxDepth}
-use Rattle.frames.specs.Tree.{tree, valuation}
-use Rattle.frames.specs.Check.{Accepted}
-use Rattle.frames.specs.results.Regular.{RegularTable}
+use Rattle.frames.specs.{unless, maxChildren, maxDepth, tree, valuation, Accepted, RegularTable}
 use Rattle.frames.proofs.Acceptance.{accepted-formed}
 use Rattle.frames.proofs.Totals.{tree-size}
 use Rattle.frames.proofs.Regular.{tree-regular, regular-depth, regular-width}
 use Rattle.leastcount.specs.declared.Least.the-variants.{Leaves, Rejected}
-use Rattle.leastcount.specs.Rule.{cap, leastOf, leastCount}
-use Rattle.leastcount.specs.Answer.{leastRejection, leastAnswer}
+use Rattle.leastcount.specs.{cap, leastOf, leastCount, leastRejection, leastAnswer}
 use Rattle.leastcount.proofs.Questions.{wrong-width, wrong-depth, inside-table, passed-inside, given-leaves}
 use Rattle.leastcount.proofs.Questions.{given-rejected}
 use Rattle.demands.proofs.Demand3.{pair-exists}

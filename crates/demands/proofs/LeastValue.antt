@@ -3,23 +3,13 @@
 -- `rootValue t k v` is the root's value where the leaf k holds v and each other leaf what it holds in t. "The call
 -- gives the smallest leaf value .. that makes the root's value exactly the wanted one": `smallest-value` in
 -- Sentences.antt.
-use Prim.Native.Nat.{ℕ, _≤_, _<_}
-use mathlib.Core.Path.{_≡_, _∙_}
-use mathlib.Core.Logic.{_⊎_}
-use mathlib.Core.Option.{none, some}
-use mathlib.Core.List.{List}
-use lib.IntN.{ℤ, natAbs}
-use borrow.Author.Tests.{lt-leb}
+use Rattle.prelude.proofs.{ℕ, _≤_, _<_, _≡_, _∙_, _⊎_, none, some, List, ℤ, natAbs, lt-leb}
 use Rattle.lists.proofs.Choice.{is-false}
-use Rattle.gametree.specs.Tree.{minimax}
+use Rattle.gametree.specs.{minimax}
 use Rattle.frames.specs.declared.Rejection.{Rejection}
-use Rattle.frames.specs.Tree.{tree, valuation}
-use Rattle.frames.specs.Value.{valueOf, maxValue}
-use Rattle.frames.specs.Check.{rejection, Accepted}
-use Rattle.frames.specs.results.Leaf.{Leaf}
+use Rattle.frames.specs.{tree, valuation, valueOf, maxValue, rejection, Accepted, Leaf}
 use Rattle.leastvalue.specs.declared.LeastValue.the-variants.{Value, Rejected}
-use Rattle.leastvalue.specs.LeastValue.{valueRejection, leastValue}
-use Rattle.leastvalue.specs.results.Root.{rootValue, SameBut, heldValue}
+use Rattle.leastvalue.specs.{valueRejection, leastValue, rootValue, SameBut, heldValue}
 use Rattle.leastvalue.proofs.Questions.{table-refused, table-accepted, no-leaf, out-of-range, first-no}
 use Rattle.leastvalue.proofs.Theorems.{leaf-test, test-leaf, value-exists, none-exists, only-none}
 use Rattle.leastvalue.proofs.Influence.{value-held, same-answer}

@@ -1,29 +1,19 @@
 -- What is proved of the lists of leaves that calls leave, for Order.antt and Sentences.antt.
-use Prim.Native.Nat.{ℕ}
-use mathlib.Core.Path.{_≡_, sym, ap, ap₂, _∙_, subst}
-use mathlib.Core.Logic.{_↔_}
-use mathlib.Core.Bool.{true}
-use mathlib.Core.List.{List, _++_, map, append-assoc}
-use lib.ListN.{length, take, drop, take-append-drop}
-use lib.Seq.{take-append-seam}
-use Rattle.lists.specs.Lists.{among, Once, Subsequence}
-use Rattle.gametree.specs.Tree.{leaves, minimax}
-use Rattle.gametree.specs.Certificate.{flag}
-use Rattle.gametree.specs.Move.{rootMove}
+use Rattle.prelude.proofs.{ℕ, _≡_, sym, ap, ap₂, _∙_, subst, _↔_, true, List, _++_, map, append-assoc, length, take}
+use Rattle.prelude.proofs.{drop, take-append-drop, take-append-seam}
+use Rattle.lists.specs.{among, Once, Subsequence}
+use Rattle.gametree.specs.{leaves, minimax, flag, rootMove}
 use Rattle.gametree_theory.proofs.Theorems.{alphaBeta-leaves, alphaBeta-ordered, sss-mtd}
-use Rattle.frames.specs.Frame.{frames}
-use Rattle.frames.specs.Tree.{upFrom, tree, valuation}
-use Rattle.frames.specs.Value.{valueOf}
+use Rattle.frames.specs.{frames, upFrom, tree, valuation, valueOf}
 use Rattle.frames.proofs.Proper.{tree-proper}
-use Rattle.positions.specs.Buffer.{written}
-use Rattle.certificate_bounds.specs.Marks.{mark}
+use Rattle.positions.specs.{written}
+use Rattle.certificate_bounds.specs.{mark}
 use Rattle.methods.specs.declared.Method.the-variants.{AlphaBeta, Mtd, Sss}
 use Rattle.methods.specs.declared.Findings.{Findings}
 use Rattle.methods.specs.declared.Answer.the-variants.{Found}
-use Rattle.methods.specs.Rules.{evaluatedBy}
+use Rattle.methods.specs.{evaluatedBy}
 use Rattle.methods.proofs.Rules as rules
-use Rattle.demands.specs.Searches.{Call, Given, countOf}
-use Rattle.demands.specs.Handed.{Marked, Alike}
+use Rattle.demands.specs.{Call, Given, countOf, Marked, Alike}
 use Rattle.demands.proofs.Running.{Says}
 use Rattle.demands.proofs.Views as views
 use Rattle.demands.proofs.Handed.{leavesBy, marking, marked-leaf, leaf-marked, first-leaves}

@@ -1,43 +1,28 @@
 -- Two tables of one shape that agree on the leaves that a method evaluates in the first: it answers the same on both,
 -- and leaves the same marks, the same list and, with a result, the same flags.
-use Prim.Native.Nat.{ℕ}
-use mathlib.Core.Path.{_≡_, refl, sym, ap, ap₂, _∙_, subst}
-use mathlib.Core.List.{List, [], _∷_, map}
-use lib.ListN.{length, take, drop}
-use lib.Seq.{take-at}
-use Rattle.lists.specs.Lists.{All, among}
+use Rattle.prelude.proofs.{ℕ, _≡_, refl, sym, ap, ap₂, _∙_, subst, List, [], _∷_, map, length, take, drop, take-at}
+use Rattle.lists.specs.{All, among}
 use Rattle.lists.proofs.Lists.{all-among, all-zip}
-use Rattle.gametree.specs.Tree.{minimax, Proper}
-use Rattle.gametree.specs.AlphaBeta.{fullWindow}
+use Rattle.gametree.specs.{minimax, Proper, fullWindow, mtdf, Evaluation, flag, rootMove, sssWithin}
 use Rattle.gametree.specs.Mtd as rule
-use Rattle.gametree.specs.Mtdf.{mtdf}
-use Rattle.gametree.specs.Sss.{Evaluation}
-use Rattle.gametree.specs.Certificate.{flag}
-use Rattle.gametree.specs.Move.{rootMove}
-use Rattle.gametree.specs.engine.Within.{sssWithin}
 use Rattle.gametree_theory.proofs.Searches.{SameResults}
 use Rattle.gametree_theory.proofs.Theorems.{alphaBeta-leaves, local-alphaBeta, local-mtd, local-results}
 use Rattle.gametree_theory.proofs.TestRuns.{local-mtdf}
 use Rattle.gametree_theory.proofs.Within.{covered-full, spent-first, within-leaves, local-within}
-use Rattle.frames.specs.Frame.{frames}
-use Rattle.frames.specs.Tree.{upFrom, tree, valuation}
-use Rattle.frames.specs.Formed.{WellFormed}
-use Rattle.frames.specs.Shape.{SameShape}
+use Rattle.frames.specs.{frames, upFrom, tree, valuation, WellFormed, SameShape}
 use Rattle.frames.proofs.Proper.{tree-proper}
 use Rattle.frames.proofs.Ranges.{length-up, up-same}
 use Rattle.frames.proofs.Shapes.{same-score, same-tree}
-use Rattle.positions.specs.Buffer.{written}
-use Rattle.certificate_bounds.specs.Marks.{mark}
+use Rattle.positions.specs.{written}
+use Rattle.certificate_bounds.specs.{mark}
 use Rattle.methods.specs.declared.Method.{Method}
 use Rattle.methods.specs.declared.Method.the-variants.{AlphaBeta, Mtd, MtdFrom, Sss}
 use Rattle.methods.specs.declared.Findings.{Findings}
 use Rattle.methods.specs.declared.Answer.the-variants.{Found}
-use Rattle.methods.specs.Rules.{startScore, decisionOf, evaluatedBy, beyond, stepsBy}
-use Rattle.methods.specs.Outcome.{findingsBy, answerBy}
+use Rattle.methods.specs.{startScore, decisionOf, evaluatedBy, beyond, stepsBy, findingsBy, answerBy}
 use Rattle.methods.proofs.Rules as rules
 use Rattle.sss.proofs.Allowed.{answer-finished, answer-spent}
-use Rattle.demands.specs.Searches.{Call, Given, countOf}
-use Rattle.demands.specs.Handed.{AgreeOnMarked, Alike}
+use Rattle.demands.specs.{Call, Given, countOf, AgreeOnMarked, Alike}
 use Rattle.demands.proofs.Running.{Says}
 use Rattle.demands.proofs.Views as views
 use Rattle.demands.proofs.Handed.{leavesBy, leaf-marked, marking, first-leaves}

@@ -2,32 +2,22 @@
 -- Order) is said of it too, from every starting value: no leaf that alpha-beta passes over, value, first root move,
 -- certificate, verdict, the counts, the smallest pair, none twice, which leaves have no influence. Here: what the
 -- starting value changes and what it cannot.
-use Prim.Native.Nat.{ℕ, _≤_}
-use native.Mathlib.Omega.{arith}
-use mathlib.Core.Path.{_≡_, refl, sym, ap, ap₂, _∙_, subst}
-use mathlib.Core.Bool.{true}
-use mathlib.Core.List.{List}
-use lib.IntN.{ℤ, pos, negsuc}
-use lib.Signed.{ltZ}
-use borrow.Author.Tests.{le-leb, lt-leb, le-ltb, ltb-true}
-use Rattle.lists.specs.Lists.{All, among}
+use Rattle.prelude.proofs.{ℕ, _≤_, arith, _≡_, refl, sym, ap, ap₂, _∙_, subst, true, List, ℤ, pos, negsuc, ltZ, le-leb}
+use Rattle.prelude.proofs.{lt-leb, le-ltb, ltb-true}
+use Rattle.lists.specs.{All, among}
 use Rattle.lists.proofs.Choice.{true-not-false}
-use Rattle.gametree.specs.Tree.{greatest, minimax}
-use Rattle.gametree.specs.Mtdf.{mtdf as rule}
+use Rattle.gametree.specs.{greatest, minimax, mtdf as rule}
 use Rattle.gametree_theory.proofs.Searches.{sssEvaluated}
 use Rattle.gametree_theory.proofs.Theorems.{value-score}
 use Rattle.gametree_theory.proofs.TestRuns.{guess-tests, guess-two, falling-decides-sss}
-use Rattle.frames.specs.Tree.{tree, valuation}
-use Rattle.frames.specs.Formed.{WellFormed}
-use Rattle.frames.specs.Value.{maxValue}
+use Rattle.frames.specs.{tree, valuation, WellFormed, maxValue}
 use Rattle.frames.proofs.Proper.{tree-proper}
 use Rattle.frames.proofs.Values.{value-range, score-back}
 use Rattle.methods.specs.declared.Method.the-variants.{MtdFrom, Sss}
 use Rattle.methods.specs.declared.Findings.{Findings}
 use Rattle.methods.specs.declared.Answer.the-variants.{Found}
-use Rattle.methods.specs.Rules.{startScore, decisionOf, evaluatedBy, stepsBy}
-use Rattle.demands.specs.Searches.{Call, EverySearch, EveryTwo}
-use Rattle.demands.specs.Handed.{Marked}
+use Rattle.methods.specs.{startScore, decisionOf, evaluatedBy, stepsBy}
+use Rattle.demands.specs.{Call, EverySearch, EveryTwo, Marked}
 use Rattle.demands.proofs.Running.{Says, every, every-two}
 use Rattle.demands.proofs.Views as views
 use Rattle.demands.proofs.Handed.{leavesBy, handed, proper, marks-covered, count-covered}

@@ -1,21 +1,13 @@
 -- No question of a search has the number 0, so that an answer of numbers whose `refused` is 0 is no refusal.
-use Prim.Native.Nat.{ℕ, zero, suc, _+_, _%_}
-use native.Mathlib.Omega.{arith}
-use mathlib.Core.Path.{_≡_, ap}
-use mathlib.Core.Bool.{Bool, true, false}
-use mathlib.Core.Option.{Option, none, some}
-use mathlib.Core.List.{List}
-use lib.Dec.{eqb, leb, ltb}
-use lib.ListN.{length}
+use Rattle.prelude.proofs.{ℕ, zero, suc, _+_, _%_, arith, _≡_, ap, Bool, true, false, Option, none, some, List, eqb}
+use Rattle.prelude.proofs.{leb, ltb, length}
 use Rattle.lists.proofs.Choice.{clash}
 use Rattle.frames.specs.declared.Rejection.{Rejection}
-use Rattle.frames.specs.Frame.{frameSize, maxTable, maxChildren, maxDepth, frames, childCount, next}
-use Rattle.frames.specs.Position.{depthOf}
-use Rattle.frames.specs.Rejection.{ask, _andThen_, eachNode}
-use Rattle.frames.specs.Check.{check1, check2, check3, check4, check5, check6, check7, check8, check9, check10}
-use Rattle.frames.specs.Check.{byte3Right, firstChildRight, valueRight, longEnough}
-use Rattle.frames.specs.Check.{checkNode, nodesRejection, depthsRejection, framesRejection, rejection}
-use Rattle.certificate.specs.Search.{searchRejection}
+use Rattle.frames.specs.{frameSize, maxTable, maxChildren, maxDepth, frames, childCount, next, depthOf, ask, _andThen_}
+use Rattle.frames.specs.{eachNode, check1, check2, check3, check4, check5, check6, check7, check8, check9, check10}
+use Rattle.frames.specs.{byte3Right, firstChildRight, valueRight, longEnough, checkNode, nodesRejection}
+use Rattle.frames.specs.{depthsRejection, framesRejection, rejection}
+use Rattle.certificate.specs.{searchRejection}
 
 -- a "no" has a number other than 0
 abbrev Numbered : Option Rejection → Type 0

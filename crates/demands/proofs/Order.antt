@@ -4,29 +4,17 @@
 -- Sentences. A run that is stopped gives the first leaves of the full run's list: `first-of-list` in Allowance. After a
 -- refusal all of the list is as it was: `keeps` in TheSentence. Tables that agree on the valued leaves get the same
 -- lists: `local` in Sentences.
-use Prim.Native.Nat.{ℕ, suc, _<_}
-use mathlib.Core.Path.{_≡_, refl, ap, _∙_}
-use mathlib.Core.Logic.{_↔_, _⊎_}
-use mathlib.Core.Bool.{Bool, true, false, _&&_}
-use mathlib.Core.Option.{some}
-use mathlib.Core.List.{List, [], _∷_, _++_}
-use lib.Dec.{leb}
-use lib.ListN.{length, take}
-use borrow.Author.Tests.{lt-leb}
-use Rattle.lists.specs.Lists.{among}
-use Rattle.gametree.specs.Tree.{least, minimax}
-use Rattle.gametree.specs.Sss.{State, stop, step, ListAfter}
+use Rattle.prelude.proofs.{ℕ, suc, _<_, _≡_, refl, ap, _∙_, _↔_, _⊎_, Bool, true, false, _&&_, some, List, [], _∷_}
+use Rattle.prelude.proofs.{_++_, leb, length, take, lt-leb}
+use Rattle.lists.specs.{among}
+use Rattle.gametree.specs.{least, minimax, State, stop, step, ListAfter}
 use Rattle.gametree_theory.proofs.Theorems as theory
-use Rattle.frames.specs.Frame.{frames}
-use Rattle.frames.specs.Tree.{tree, valuation}
-use Rattle.frames.specs.Rejection.{ask, _andThen_}
-use Rattle.frames.specs.Check.{rejection, longEnough, Accepted}
+use Rattle.frames.specs.{frames, tree, valuation, ask, _andThen_, rejection, longEnough, Accepted}
 use Rattle.frames.proofs.Acceptance.{accepted-formed}
 use Rattle.frames.proofs.Proper.{tree-proper}
-use Rattle.certificate.specs.Search.{searchRejection}
-use Rattle.methods.specs.Rules.{runOf}
-use Rattle.demands.specs.Searches.{EverySearch, Given, countOf}
-use Rattle.demands.specs.Handed.{Marked}
+use Rattle.certificate.specs.{searchRejection}
+use Rattle.methods.specs.{runOf}
+use Rattle.demands.specs.{EverySearch, Given, countOf, Marked}
 use Rattle.demands.proofs.Running.{every}
 use Rattle.demands.proofs.Listing as calls
 

@@ -2,29 +2,19 @@
 -- Max's turn asks Min's turn for each child, and Min's asks Max's": `max_turn` and `min_turn` in plain/src/lib.rt. "It
 -- is proved equal to alpha-beta in both for every accepted tree": `plain-agrees` in Sentences. A refusal is the first
 -- "no" to questions 1 to 10, and leaves the buffers as they were: `plain-keeps` in TheSentence.
-use Prim.Native.Nat.{ℕ, _≤_, _<_}
-use mathlib.Core.Path.{_≡_, sym, ap, _∙_}
-use mathlib.Core.Bool.{cond}
-use mathlib.Core.List.{[], _∷_}
-use lib.Dec.{eqb}
-use lib.ListN.{length, getD}
-use Rattle.gametree.specs.Tree.{minimax}
-use Rattle.gametree.specs.Move.{rootMove}
-use Rattle.frames.specs.Frame.{frames, childCount}
-use Rattle.frames.specs.Tree.{tree, valuation}
-use Rattle.frames.specs.Value.{valueOf}
-use Rattle.frames.specs.Check.{Accepted}
-use Rattle.certificate_bounds.specs.Marks.{ones}
-use Rattle.certificate.specs.Search.{flagsOf}
+use Rattle.prelude.proofs.{ℕ, _≤_, _<_, _≡_, sym, ap, _∙_, cond, [], _∷_, eqb, length, getD}
+use Rattle.gametree.specs.{minimax, rootMove}
+use Rattle.frames.specs.{frames, childCount, tree, valuation, valueOf, Accepted}
+use Rattle.certificate_bounds.specs.{ones}
+use Rattle.certificate.specs.{flagsOf}
 use Rattle.certificate.proofs.Questions.{room-passed}
 use Rattle.verify.specs.declared.Verdict.the-variants.{Value}
-use Rattle.verify.specs.Check.{verdict}
+use Rattle.verify.specs.{verdict}
 use Rattle.plain.proofs as plain
 use Rattle.plain.specs.declared.PlainAnswer.the-variants as plain-answer
-use Rattle.plain.specs.Outcome.{allLeaves, plainFound}
+use Rattle.plain.specs.{allLeaves, plainFound}
 use Rattle.demands.specs.Runs.{Runs}
-use Rattle.demands.specs.Searches.{EachPlain}
-use Rattle.demands.specs.Handed.{CertifiedBy}
+use Rattle.demands.specs.{EachPlain, CertifiedBy}
 use Rattle.demands.proofs.Contracts as contracts
 use Rattle.demands.proofs.Running.{follows, each-plain}
 use Rattle.demands.proofs.Handed.{flags-certify, flags-verified}

@@ -1,31 +1,20 @@
 -- What is proved of the calls of the plain engine, for Plain.antt.
-use Prim.Native.Nat.{ℕ, _<_}
-use mathlib.Core.Path.{_≡_, ap, _∙_}
-use mathlib.Core.Bool.{cond}
-use mathlib.Core.Option.{none, some}
-use mathlib.Core.List.{List, [], _∷_}
-use lib.Dec.{eqb}
-use lib.ListN.{length, getD}
+use Rattle.prelude.proofs.{ℕ, _<_, _≡_, ap, _∙_, cond, none, some, List, [], _∷_, eqb, length, getD}
 use Rattle.lists.proofs.Choice.{clash}
-use Rattle.gametree.specs.Tree.{minimax}
-use Rattle.gametree.specs.Move.{rootMove}
+use Rattle.gametree.specs.{minimax, rootMove}
 use Rattle.gametree_theory.proofs.Theorems.{all-deciding}
 use Rattle.frames.specs.declared.Rejection.{Rejection}
-use Rattle.frames.specs.Frame.{frames, childCount}
-use Rattle.frames.specs.Tree.{tree, valuation}
-use Rattle.frames.specs.Value.{valueOf}
-use Rattle.frames.specs.Rejection.{_leaving_}
-use Rattle.frames.specs.Check.{Accepted}
+use Rattle.frames.specs.{frames, childCount, tree, valuation, valueOf, _leaving_, Accepted}
 use Rattle.frames.proofs.Acceptance.{accepted-formed}
 use Rattle.frames.proofs.Proper.{tree-proper}
-use Rattle.certificate_bounds.specs.Marks.{ones}
-use Rattle.certificate.specs.Search.{searchRejection, marksOf, flagsOf}
+use Rattle.certificate_bounds.specs.{ones}
+use Rattle.certificate.specs.{searchRejection, marksOf, flagsOf}
 use Rattle.certificate.proofs.Questions.{passed-room}
 use Rattle.certificate.proofs.Marks.{evaluated-within, ones-evaluated}
-use Rattle.methods.specs.Outcome.{Lent, lent}
+use Rattle.methods.specs.{Lent, lent}
 use Rattle.plain.specs.declared.PlainResult.{PlainResult}
 use Rattle.plain.specs.declared.PlainAnswer.the-variants as plain-answer
-use Rattle.plain.specs.Outcome.{allLeaves, plainFound, plainOutcome}
+use Rattle.plain.specs.{allLeaves, plainFound, plainOutcome}
 use Rattle.plain.proofs.Leaves.{leaves-are}
 use Rattle.demands.proofs.Parts.{by-given, by-refusal}
 use Rattle.demands.proofs.Running.{PlainSays}

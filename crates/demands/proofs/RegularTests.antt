@@ -1,14 +1,9 @@
 -- Small cases of the least counts (SPEC 18).
-use Prim.Native.Nat.{ℕ, zero, suc, _<_}
-use native.Mathlib.Omega.{arith}
-use mathlib.Core.Path.{_≡_, refl}
-use Rattle.frames.specs.Frame.{childCount, byte3, sameMover}
-use Rattle.frames.specs.Position.{parentBefore, positionWithin, positionOf, depthOf}
-use Rattle.frames.specs.results.Regular.{RegularTable}
-use Rattle.frames.specs.results.Cases.{small}
+use Rattle.prelude.proofs.{ℕ, zero, suc, _<_, arith, _≡_, refl}
+use Rattle.frames.specs.{childCount, byte3, sameMover, parentBefore, positionWithin, positionOf, depthOf, RegularTable}
+use Rattle.frames.specs.{small}
 use Rattle.leastcount.specs.declared.Least.the-variants.{Leaves}
-use Rattle.leastcount.specs.Rule.{cap, leastOf}
-use Rattle.leastcount.specs.Answer.{leastAnswer}
+use Rattle.leastcount.specs.{cap, leastOf, leastAnswer}
 
 -- two entries meet the cap exactly, and belong to no accepted tree either
 pub at-the-cap : (leastOf 8 10 ≡ cap) × (leastOf 32 6 ≡ cap)

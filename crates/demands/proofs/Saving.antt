@@ -1,21 +1,18 @@
 -- Saving a tree (02: N3), sentence by sentence: of the writer as it runs, or over the definition that its contract
 -- cites. "Each line is laid behind the lines already written": `encode` in file_writer/specs/Encoded.antt.
 -- "Reading a written file restores the table exactly": `written-read` in Sentences.antt.
-use Prim.Native.Nat.{ℕ, _*_, _≤_, _<_}
-use mathlib.Core.Path.{_≡_, sym, ap, _∙_, subst}
-use mathlib.Core.List.{List}
-use lib.ListN.{length, take}
-use Rattle.frames.specs.Frame.{frames}
-use Rattle.frames.specs.Check.{Accepted}
-use Rattle.file_lines.specs.Line.{lineSize}
-use Rattle.file_reader.specs.File.{AcceptedFile}
+use Rattle.prelude.proofs.{ℕ, _*_, _≤_, _<_, _≡_, sym, ap, _∙_, subst, List, length, take}
+use Rattle.frames.specs.{frames, Accepted}
+use Rattle.file_lines.specs.{lineSize}
+use Rattle.file_reader.specs.{AcceptedFile}
 use Rattle.file_writer.proofs as writer
 use Rattle.file_writer.specs.declared.Written.the-variants.{Length, Rejected as RejectedWrite}
-use Rattle.file_writer.specs.Write.{writeOutcome}
-use Rattle.treefile.specs.results.Saved.{InCapitals, Saved}
+use Rattle.file_writer.specs.{writeOutcome}
+use Rattle.treefile.specs.{InCapitals, Saved}
 use Rattle.treefile.proofs.RoundTrip.{written-capitals, written-accepted}
 use Rattle.treefile.proofs.Saving.{write-gives, write-short, write-saves, saved-once}
-use Rattle.demands.specs.Runs.{Runs, RunBoth}
+use Rattle.demands.specs.Runs.{Runs}
+use Rattle.demands.specs.{RunBoth}
 use Rattle.demands.proofs.Running.{follows, together}
 use Rattle.demands.proofs.LentBytes.{writer-says}
 

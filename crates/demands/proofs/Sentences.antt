@@ -1,39 +1,22 @@
 -- The headline sentences of the demands and of each request, said of the functions that run (TheSentence.antt has the
 -- first of them). N4: `treefile-digit` in Contracts.antt.
-use Prim.Native.Nat.{ℕ, _*_, _≤_, _<_}
-use mathlib.Core.Path.{_≡_, sym, ap, _∙_, subst}
-use mathlib.Core.Logic.{_↔_}
-use mathlib.Core.Bool.{Bool, true, cond}
-use mathlib.Core.Option.{none}
-use mathlib.Core.List.{List, [], _++_}
-use lib.Dec.{eqb}
-use lib.IntN.{ℤ, pos, natAbs}
-use lib.ListN.{length, getD, take, drop}
-use lib.Signed.{_≤ℤ_, _<ℤ_}
-use Rattle.lists.specs.Lists.{Once, Subsequence, among}
-use Rattle.gametree.specs.Tree.{leaves as treeLeaves, minimax}
-use Rattle.gametree.specs.Certificate.{Certifies, Smallest, pairLeaves}
-use Rattle.gametree.specs.Move.{rootMove}
+use Rattle.prelude.proofs.{ℕ, _*_, _≤_, _<_, _≡_, sym, ap, _∙_, subst, _↔_, Bool, true, cond, none, List, [], _++_, eqb}
+use Rattle.prelude.proofs.{ℤ, pos, natAbs, length, getD, take, drop, _≤ℤ_, _<ℤ_}
+use Rattle.lists.specs.{Once, Subsequence, among}
+use Rattle.gametree.specs.{leaves as treeLeaves, minimax, Certifies, Smallest, pairLeaves, rootMove}
 use Rattle.frames.specs.declared.Rejection.{Rejection}
 use Rattle.frames.specs.declared.Checked.the-variants.{Nodes, Rejected as RejectedTable}
-use Rattle.frames.specs.Frame.{frameSize, maxDepth, frames, childCount, storedScore}
-use Rattle.frames.specs.Position.{depthOf}
-use Rattle.frames.specs.Tree.{tree, valuation}
-use Rattle.frames.specs.Value.{valueOf, maxValue, Ordinary}
-use Rattle.frames.specs.Check.{Accepted}
-use Rattle.frames.specs.FirstNo.{LowestDeep, rejectionBefore9}
-use Rattle.frames.specs.Shape.{SameShape}
-use Rattle.frames.specs.results.Alternating.{Alternating, treeByDepth}
-use Rattle.frames.specs.results.Regular.{RegularTable}
+use Rattle.frames.specs.{frameSize, maxDepth, frames, childCount, storedScore, depthOf, tree, valuation, valueOf}
+use Rattle.frames.specs.{maxValue, Ordinary, Accepted, LowestDeep, rejectionBefore9, SameShape, Alternating}
+use Rattle.frames.specs.{treeByDepth, RegularTable}
 use Rattle.frames.proofs.Sides.{tree-before}
 use Rattle.frames.proofs.TreeOfTable.{ordinary-scores}
-use Rattle.file_hex.specs.Digit.{isCapitalDigit}
-use Rattle.file_lines.specs.Line.{lineDigits}
-use Rattle.file_lines.specs.Lines.{linesOf, decoded}
-use Rattle.certificate_bounds.specs.Marks.{mark, ones}
+use Rattle.file_hex.specs.{isCapitalDigit}
+use Rattle.file_lines.specs.{lineDigits, linesOf, decoded}
+use Rattle.certificate_bounds.specs.{mark, ones}
 use Rattle.tables.proofs as tables
 use Rattle.file_reader.proofs as reader
-use Rattle.file_reader.specs.File.{AcceptedFile, readOutcome}
+use Rattle.file_reader.specs.{AcceptedFile, readOutcome}
 use Rattle.file_reader.proofs.Acceptance.{accepted-exactly, read-nodes}
 use Rattle.file_writer.proofs as writer
 use Rattle.file_writer.specs.declared.Written.the-variants.{Length}
@@ -45,30 +28,29 @@ use Rattle.methods.specs.declared.Method.the-variants.{AlphaBeta, Mtd, Sss}
 use Rattle.methods.specs.declared.Findings.{Findings}
 use Rattle.methods.specs.declared.Spent.{Spent as Spending}
 use Rattle.methods.specs.declared.Answer.the-variants.{Found, Spent}
-use Rattle.methods.specs.Rules.{runOf, evaluatedBy}
-use Rattle.methods.specs.Outcome.{lent, findingsBy, answerBy}
+use Rattle.methods.specs.{runOf, evaluatedBy, lent, findingsBy, answerBy}
 use Rattle.plain.proofs as plain
 use Rattle.plain.specs.declared.PlainResult.{PlainResult}
 use Rattle.plain.specs.declared.PlainAnswer.the-variants as plain-answer
 use Rattle.graft.proofs as graft
-use Rattle.graft.specs.results.Grafted.{graftValue}
+use Rattle.graft.specs.{graftValue}
 use Rattle.graft.proofs.Grafting.{grafted-value}
 use Rattle.leastvalue.proofs as leastvalue
 use Rattle.leastvalue.specs.declared.LeastValue.the-variants.{Value}
-use Rattle.leastvalue.specs.results.Root.{rootValue}
+use Rattle.leastvalue.specs.{rootValue}
 use Rattle.leastvalue.proofs.Theorems.{given}
 use Rattle.worstfill.proofs as worstfill
 use Rattle.worstfill.specs.declared.Filled.the-variants as filled
 use Rattle.leastcount.proofs as leastcount
 use Rattle.leastcount.specs.declared.Least.the-variants as least
-use Rattle.leastcount.specs.Answer.{leastAnswer}
+use Rattle.leastcount.specs.{leastAnswer}
 use Rattle.shorter.proofs as shorter
 use Rattle.shorter.specs.declared.Choice.the-variants.{First, Second}
-use Rattle.shorter.specs.Choice.{flaggedLeaves, flagsBy}
+use Rattle.shorter.specs.{flaggedLeaves, flagsBy}
 use Rattle.shorter.proofs.Theorems.{both-first, both-second}
-use Rattle.demands.specs.Runs.{Runs, RunBoth}
-use Rattle.demands.specs.Searches.{EverySearch, EveryTwo, EverySearchAnd, EachPlain, Given, countOf}
-use Rattle.demands.specs.Handed.{Room, AgreeOnMarked, Alike}
+use Rattle.demands.specs.Runs.{Runs}
+use Rattle.demands.specs.{RunBoth, EverySearch, EveryTwo, EverySearchAnd, EachPlain, Given, countOf, Room}
+use Rattle.demands.specs.{AgreeOnMarked, Alike}
 use Rattle.demands.proofs.Contracts as contracts
 use Rattle.demands.proofs.Running.{follows, together, every, every-two, every-and, each-plain}
 use Rattle.demands.proofs.LentBytes.{writer-says}

@@ -2,26 +2,16 @@
 -- contract of `shorter::select` cites: `choice`, `flagsBy` (of the choice it is `chosenFlags`) and `pointerBy`. The
 -- table is t, the lent certificates are f and s. Both are lent to be read only, and so keep their bytes. "the one with
 -- fewer flagged leaves, the first on a tie": `fewer-leaves` in Sentences.antt.
-use Prim.Native.Nat.{ℕ}
-use mathlib.Core.Path.{_≡_}
-use mathlib.Core.Logic.{_⊎_, _↔_}
-use mathlib.Core.Option.{some}
-use mathlib.Core.List.{List, []}
-use lib.ListN.{length, take}
+use Rattle.prelude.proofs.{ℕ, _≡_, _⊎_, _↔_, some, List, [], length, take}
 use Rattle.gametree.specs.declared.Side.the-variants.{Max, Min}
-use Rattle.gametree.specs.Tree.{minimax}
-use Rattle.gametree.specs.Certificate.{pairLeaves}
+use Rattle.gametree.specs.{minimax, pairLeaves}
 use Rattle.frames.specs.declared.Rejection.{Rejection}
-use Rattle.frames.specs.Frame.{frames}
-use Rattle.frames.specs.Tree.{tree, valuation}
-use Rattle.frames.specs.Value.{valueOf}
-use Rattle.frames.specs.Check.{rejection}
+use Rattle.frames.specs.{frames, tree, valuation, valueOf, rejection}
 use Rattle.verify.specs.declared.Verdict.the-variants as verdicts
-use Rattle.verify.specs.Flags.{member}
-use Rattle.verify.specs.Check.{verdict}
+use Rattle.verify.specs.{member, verdict}
 use Rattle.verify.specs.Certificate.{Certificate}
 use Rattle.shorter.specs.declared.Choice.the-variants.{First, Second, Rejected}
-use Rattle.shorter.specs.Choice.{flaggedLeaves, choice, chosenFlags, pointerBy}
+use Rattle.shorter.specs.{flaggedLeaves, choice, chosenFlags, pointerBy}
 use Rattle.shorter.proofs.Leaves.{flagged-pair}
 use Rattle.shorter.proofs.Theorems.{table-rejected, only-first, only-second, neither, handed-first, handed-second}
 use Rattle.shorter.proofs.Theorems.{handed-none, handed-size, handed-value, empty-refused, refused-first}

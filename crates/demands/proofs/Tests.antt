@@ -1,19 +1,13 @@
 -- Cases of SPEC 12.2 beyond those that 01 marks P, computed from the definitions over byte tables.
-use mathlib.Core.Path.{_≡_, refl}
-use mathlib.Core.List.{[], _∷_, map}
-use lib.ListN.{replicate}
-use Rattle.gametree.specs.Mtd.{mtd}
-use Rattle.frames.specs.Frame.{next}
-use Rattle.frames.specs.Position.{parentBefore, positionWithin, positionOf}
-use Rattle.frames.specs.Tree.{upFrom, childrenFrom, grow, treeAt, valuation}
-use Rattle.frames.specs.Rejection.{eachNode}
-use Rattle.frames.specs.Check.{framesRejection, rejection}
-use Rattle.positions.specs.Buffer.{written}
-use Rattle.lists.specs.Lists.{countFrom}
+use Rattle.prelude.proofs.{_≡_, refl, [], _∷_, map, replicate}
+use Rattle.gametree.specs.{mtd}
+use Rattle.frames.specs.{next, parentBefore, positionWithin, positionOf, upFrom, childrenFrom, grow, treeAt, valuation}
+use Rattle.frames.specs.{eachNode, framesRejection, rejection}
+use Rattle.positions.specs.{written}
+use Rattle.lists.specs.{countFrom}
 use Rattle.methods.specs.declared.Answer.the-variants.{Rejected}
-use Rattle.demands.specs.results.Rows.{rowOf, tables, rows}
-use Rattle.demands.specs.results.Cases.{path, winTables, winRows, leafFrames, captureTables, captureRows}
-use Rattle.demands.specs.results.Cases.{deeperTables, deeperRows, stoppedAt, stoppedRows, withEntries}
+use Rattle.demands.specs.{rowOf, tables, rows, path, winTables, winRows, leafFrames, captureTables, captureRows}
+use Rattle.demands.specs.{deeperTables, deeperRows, stoppedAt, stoppedRows, withEntries}
 
 -- the cases marked P, with what all searches give and leave
 pub marked-rows : map rowOf tables ≡ rows

@@ -7,29 +7,18 @@
 -- has the other sentences, Exports.antt this one of the two exports. In a statement about a call of another function
 -- the arguments come first, in the order of the code, then the answer r, then the parameters at exit; t and u are
 -- tables, m marks, f flags, o lists of leaves.
-use Prim.Native.Nat.{ℕ, _≤_}
-use mathlib.Core.Path.{_≡_, sym, ap, _∙_}
-use mathlib.Core.Logic.{_↔_}
-use mathlib.Core.Option.{some}
-use mathlib.Core.List.{[], _∷_}
-use lib.IntN.{ℤ}
-use lib.ListN.{length}
-use Rattle.gametree.specs.Tree.{minimax}
-use Rattle.gametree.specs.Move.{rootMove}
+use Rattle.prelude.proofs.{ℕ, _≤_, _≡_, sym, ap, _∙_, _↔_, some, [], _∷_, ℤ, length}
+use Rattle.gametree.specs.{minimax, rootMove}
 use Rattle.frames.specs.declared.Rejection.{Rejection}
 use Rattle.frames.specs.declared.Checked.the-variants.{Rejected as RejectedTable}
-use Rattle.frames.specs.Value.{valueOf}
-use Rattle.frames.specs.Frame.{frames}
-use Rattle.frames.specs.Tree.{tree, valuation}
-use Rattle.frames.specs.Rejection.{_andThen_, _leaving_}
-use Rattle.frames.specs.Check.{rejection}
+use Rattle.frames.specs.{valueOf, frames, tree, valuation, _andThen_, _leaving_, rejection}
 use Rattle.frames.proofs.Asked.{answer-rejected}
-use Rattle.file_lines.specs.Lines.{decoded}
-use Rattle.certificate.specs.Search.{searchRejection}
+use Rattle.file_lines.specs.{decoded}
+use Rattle.certificate.specs.{searchRejection}
 use Rattle.methods.specs.declared.Method.the-variants.{AlphaBeta, Sss}
 use Rattle.methods.specs.declared.Findings.{Findings}
 use Rattle.methods.specs.declared.Answer.the-variants.{Found, Rejected}
-use Rattle.methods.specs.Outcome.{lent, rejectionOf, searchOutcome}
+use Rattle.methods.specs.{lent, rejectionOf, searchOutcome}
 use Rattle.sss.proofs as sss
 use Rattle.plain.proofs as plain
 use Rattle.plain.specs.declared.PlainAnswer.the-variants as plain-answer
@@ -38,26 +27,25 @@ use Rattle.verify.specs.declared.Verdict.the-variants.{Value}
 use Rattle.verify.specs.Certificate.{Certificate}
 use Rattle.verify.proofs.Theorems.{accepts-certificates, accepted-minimax}
 use Rattle.file_reader.proofs as reader
-use Rattle.file_reader.specs.File.{readRejection}
+use Rattle.file_reader.specs.{readRejection}
 use Rattle.file_reader.proofs.Reading.{read-answer}
 use Rattle.file_writer.proofs as writer
-use Rattle.file_writer.specs.Write.{writeCheck10, writeRejection}
+use Rattle.file_writer.specs.{writeCheck10, writeRejection}
 use Rattle.treefile.proofs.Saving as saving
 use Rattle.file_writer.specs.declared.Written.the-variants.{Rejected as RejectedWrite}
 use Rattle.convert.proofs as convert
 use Rattle.convert.specs.declared.Printed.the-variants.{NoRoom}
-use Rattle.convert.specs.results.Converted.{baseRejection}
+use Rattle.convert.specs.{baseRejection}
 use Rattle.convert.proofs.Converted as converted
 use Rattle.convert.proofs.Printing.{no-room-keeps}
 use Rattle.graft.proofs as graft
-use Rattle.graft_questions.specs.Questions.{graftRejection}
+use Rattle.graft_questions.specs.{graftRejection}
 use Rattle.graft.proofs.Grafting as grafting
 use Rattle.worstfill.proofs as worstfill
 use Rattle.worstfill.proofs.Whole.{fill-kept}
 use Rattle.worstfill.specs.declared.Filled.the-variants.{Rejected as RejectedFill}
 use Rattle.demands.specs.Runs.{Runs}
-use Rattle.demands.specs.Searches.{EverySearch, EveryTwo, Given}
-use Rattle.demands.specs.Handed.{Marked, CertifiedBy}
+use Rattle.demands.specs.{EverySearch, EveryTwo, Given, Marked, CertifiedBy}
 use Rattle.demands.proofs.Contracts as contracts
 use Rattle.demands.proofs.Running.{follows, every, every-two}
 use Rattle.demands.proofs.Views as views

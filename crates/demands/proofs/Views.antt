@@ -1,21 +1,13 @@
 -- What a call says, by its answer.
-use Prim.Native.Nat.{ℕ, _≤_}
-use mathlib.Core.Path.{_≡_, refl, sym, ap, _∙_}
-use mathlib.Core.Option.{Option, none, some}
-use mathlib.Core.List.{List, [], _∷_, _++_}
-use lib.ListN.{length, drop, replicate}
-use borrow.Author.Tests.{le-leb}
+use Rattle.prelude.proofs.{ℕ, _≤_, _≡_, refl, sym, ap, _∙_, Option, none, some, List, [], _∷_, _++_, length, drop}
+use Rattle.prelude.proofs.{replicate, le-leb}
 use Rattle.lists.proofs.Choice.{clash}
-use Rattle.gametree.specs.Sss.{Evaluation}
+use Rattle.gametree.specs.{Evaluation}
 use Rattle.frames.specs.declared.Rejection.{Rejection}
-use Rattle.frames.specs.Frame.{frames}
-use Rattle.frames.specs.Formed.{WellFormed}
-use Rattle.frames.specs.Rejection.{unless, Outcome, _leaving_}
-use Rattle.frames.specs.Value.{valueOf}
-use Rattle.frames.specs.Check.{Accepted}
+use Rattle.frames.specs.{frames, WellFormed, unless, Outcome, _leaving_, valueOf, Accepted}
 use Rattle.frames.proofs.Asked.{answer-of}
 use Rattle.frames.proofs.Acceptance.{accepted-formed}
-use Rattle.certificate.specs.Search.{searchRejection, marksOf, flagsOf, listed}
+use Rattle.certificate.specs.{searchRejection, marksOf, flagsOf, listed}
 use Rattle.certificate.proofs.Questions.{passed-room, room-passed}
 use Rattle.methods.specs.declared.Method.{Method}
 use Rattle.methods.specs.declared.Method.the-variants.{Sss}
@@ -23,13 +15,12 @@ use Rattle.methods.specs.declared.Findings.{Findings}
 use Rattle.methods.specs.declared.Spent.{Spent as Spending}
 use Rattle.methods.specs.declared.Answer.{Answer}
 use Rattle.methods.specs.declared.Answer.the-variants.{Found, Spent, Rejected}
-use Rattle.methods.specs.Rules.{evaluatedBy, beyond}
-use Rattle.methods.specs.Outcome.{Lent, rejectionOf, findingsBy, answerBy, flagsLeft, givenBy, searchOutcome}
+use Rattle.methods.specs.{evaluatedBy, beyond, Lent, rejectionOf, findingsBy, answerBy, flagsLeft, givenBy}
+use Rattle.methods.specs.{searchOutcome}
 use Rattle.sss_states.specs.declared.State.{State}
-use Rattle.sss_states.specs.Entry.{blank}
-use Rattle.sss.specs.Outcome.{sssOutcome}
-use Rattle.demands.specs.Searches.{Call, Given, countOf}
-use Rattle.demands.specs.Handed.{Room}
+use Rattle.sss_states.specs.{blank}
+use Rattle.sss.specs.{sssOutcome}
+use Rattle.demands.specs.{Call, Given, countOf, Room}
 use Rattle.demands.proofs.Parts.{by-given, by-refusal}
 use Rattle.demands.proofs.Running.{Says}
 

@@ -1,34 +1,20 @@
 -- The worst-case filling (02: N11, the dearest filling), sentence by sentence, over the definition that the contract of
 -- the call cites. The lent table is t, and after the call it is `handed t`; a leaf's rank there is what its bytes 4 and
 -- 5 hold.
-use Prim.Native.Nat.{ℕ, _+_, _≤_, _<_}
-use mathlib.Core.Path.{_≡_, sym, ap, ap₂, _∙_, subst}
-use mathlib.Core.Logic.{_⊎_, inl, inr}
-use mathlib.Core.List.{List}
-use lib.IntN.{pos}
-use lib.ListN.{length}
+use Rattle.prelude.proofs.{ℕ, _+_, _≤_, _<_, _≡_, sym, ap, ap₂, _∙_, subst, _⊎_, inl, inr, List, pos, length}
 use Rattle.gametree.specs.declared.Side.the-variants.{Max, Min}
-use Rattle.gametree.specs.Tree.{leaves}
+use Rattle.gametree.specs.{leaves}
 use Rattle.gametree_theory.proofs.minimax.Nodes.{nodes-in}
 use Rattle.gametree_theory.proofs.alphabeta.WorstCase.{blocks-at}
-use Rattle.frames.specs.Frame.{frameSize, frames, byteOf, childCount, valueBytes}
-use Rattle.frames.specs.Position.{sideOf}
-use Rattle.frames.specs.Tree.{treeAt, tree, valuation}
-use Rattle.frames.specs.Value.{valueOf}
-use Rattle.frames.specs.Formed.{ChildOf}
-use Rattle.frames.specs.Shape.{SameShape}
-use Rattle.frames.specs.Rejection.{_leaving_}
-use Rattle.frames.specs.Check.{Accepted}
-use Rattle.frames.specs.results.Leaf.{Leaf}
+use Rattle.frames.specs.{frameSize, frames, byteOf, childCount, valueBytes, sideOf, treeAt, tree, valuation, valueOf}
+use Rattle.frames.specs.{ChildOf, SameShape, _leaving_, Accepted, Leaf}
 use Rattle.frames.proofs.Acceptance.{accepted-formed}
 use Rattle.frames.proofs.Leaves.{leaf-listed}
 use Rattle.frames.proofs.Next.{child-within}
 use Rattle.frames.proofs.Shapes.{same-tree}
 use Rattle.frames.proofs.Values.{value-plus}
 use Rattle.worstfill.specs.declared.Filled.the-variants.{Leaves}
-use Rattle.worstfill.specs.Ranks.{worstFill}
-use Rattle.worstfill.specs.Outcome.{fillOutcome}
-use Rattle.worstfill.specs.results.Filled.{handed, LeafBelow}
+use Rattle.worstfill.specs.{worstFill, fillOutcome, handed, LeafBelow}
 use Rattle.worstfill.proofs.Whole.{fill-given, fill-accepted}
 use Rattle.worstfill.proofs.Order.{Before, node-block, node-order}
 use Rattle.worstfill.proofs.WorstFill.{worst-kept, worst-front, worst-inner, worst-blocks, worst-accepted, rank-below}

@@ -1,14 +1,8 @@
 -- What `digit` computes is the number of a digit, for each of the 256 bytes: one test, computed over all of them.
-use Prim.Native.Nat.{ℕ, zero, suc, _+_, _-_, _*_, _/_, _%_, _≤_, _<_, min}
-use mathlib.Core.Path.{_≡_, refl, subst}
-use mathlib.Core.Bool.{Bool, true, _&&_}
-use lib.Dec.{leb, eqb}
-use native.Mathlib.Omega.{arith}
-use native.Mathlib.Decide.{decLt}
-use borrow.Author.Tests.{le-leb, lt-leb, leb-true, eqb-true}
+use Rattle.prelude.proofs.{ℕ, zero, suc, _+_, _-_, _*_, _/_, _%_, _≤_, _<_, min, _≡_, refl, subst, Bool, true, _&&_}
+use Rattle.prelude.proofs.{leb, eqb, arith, decLt, le-leb, lt-leb, leb-true, eqb-true}
 use Rattle.lists.proofs.Choice.{and-both}
-use Rattle.file_hex.specs.Digit.{noDigit, digitOf}
-use Rattle.file_hex.specs.engine.Kinds.{oneFrom, oneWithin}
+use Rattle.file_hex.specs.{noDigit, digitOf, oneFrom, oneWithin}
 
 -- the test f passes for each number below n
 unfoldable every : (ℕ → Bool) → ℕ → Bool

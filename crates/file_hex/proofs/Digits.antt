@@ -1,10 +1,6 @@
 -- A byte is in a range, below it or above it.
-use Prim.Native.Nat.{ℕ, _≤_, _<_}
-use mathlib.Core.Path.{_≡_}
-use mathlib.Core.Bool.{true, false, and-false, and-eq-true-iff}
-use lib.Dec.{leb}
-use borrow.Author.Tests.{le-leb, lt-leb, leb-true}
-use Rattle.file_hex.specs.Digit.{within}
+use Rattle.prelude.proofs.{ℕ, _≤_, _<_, _≡_, true, false, and-false, and-eq-true-iff, leb, le-leb, lt-leb, leb-true}
+use Rattle.file_hex.specs.{within}
 
 module _ (a z b : ℕ) where
   -- it is in the range

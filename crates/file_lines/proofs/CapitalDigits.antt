@@ -1,16 +1,10 @@
 -- A byte is a digit from 0 to 9 or A to F exactly if it is a digit and no lowercase letter; and so for a line's bytes.
-use Prim.Native.Nat.{ℕ, zero, suc, _+_, _-_, _<_}
-use mathlib.Core.Path.{_≡_, refl}
-use mathlib.Core.Logic.{⊎-elim}
-use mathlib.Core.Bool.{Bool, true, false, cond, _||_}
-use mathlib.Core.List.{List, [], _∷_}
-use lib.ListN.{length, getD}
-use native.Mathlib.Omega.{arith}
-use borrow.Author.Tests.{lt-ltb}
+use Rattle.prelude.proofs.{ℕ, zero, suc, _+_, _-_, _<_, _≡_, refl, ⊎-elim, Bool, true, false, cond, _||_, List, [], _∷_}
+use Rattle.prelude.proofs.{length, getD, arith, lt-ltb}
 use Rattle.lists.proofs.Choice.{clash, or-cases, or-false-both}
-use Rattle.file_hex.specs.Digit.{within, isLowercase, noDigit, digitOf, isCapitalDigit}
+use Rattle.file_hex.specs.{within, isLowercase, noDigit, digitOf, isCapitalDigit}
 use Rattle.file_hex.proofs.Digits.{below, above, bounds}
-use Rattle.file_lines.specs.Line.{allDigits, hasLowercase}
+use Rattle.file_lines.specs.{allDigits, hasLowercase}
 
 -- a digit that is no lowercase letter
 digit-capital : (b : ℕ) → digitOf b < noDigit → isLowercase b ≡ false → isCapitalDigit b ≡ true

@@ -1,15 +1,9 @@
 -- A line's digits, and the six bytes that they stand for.
-use Prim.Native.Nat.{ℕ, zero, suc, _+_, _*_, _<_}
-use mathlib.Core.Path.{_≡_, refl, ap}
-use mathlib.Core.Bool.{true, and-eq-true-iff}
-use mathlib.Core.List.{List, [], _∷_}
-use lib.Dec.{ltb, eqb}
-use lib.ListN.{length, getD}
-use native.Mathlib.Omega.{arith}
-use borrow.Author.Tests.{ltb-true, eqb-true}
-use Rattle.frames.specs.Frame.{frameSize}
-use Rattle.file_hex.specs.Digit.{noDigit, digitOf}
-use Rattle.file_lines.specs.Line.{lineDigits, allDigits, isLine, bytesOf}
+use Rattle.prelude.proofs.{ℕ, zero, suc, _+_, _*_, _<_, _≡_, refl, ap, true, and-eq-true-iff, List, [], _∷_, ltb, eqb}
+use Rattle.prelude.proofs.{length, getD, arith, ltb-true, eqb-true}
+use Rattle.frames.specs.{frameSize}
+use Rattle.file_hex.specs.{noDigit, digitOf}
+use Rattle.file_lines.specs.{lineDigits, allDigits, isLine, bytesOf}
 
 -- a line has twelve bytes
 pub line-length : (l : List ℕ) → isLine l ≡ true → length l ≡ lineDigits

@@ -1,17 +1,11 @@
 -- Reading digits one after the other: each gets its number, and those that are none are counted; and what that says of
 -- a line whose bytes stand in front of further digits.
-use Prim.Native.Nat.{ℕ, suc, _+_, _-_, _*_, _/_, _≤_, _<_, min}
-use mathlib.Core.Path.{_≡_, refl, ap, _∙_}
-use mathlib.Core.Bool.{Bool, true, false}
-use mathlib.Core.List.{List, [], _∷_, _++_}
-use lib.ListN.{length, getD, set, take, drop, replicate, getD-replicate, length-append, List·getD-append}
-use lib.Seq.{getD-set-same, getD-set-other, getD-append-add, take-length}
-use native.Mathlib.Omega.{arith}
-use native.Mathlib.Decide.{decLt}
-use borrow.Author.Tests.{lt-ltb}
-use Rattle.file_hex.specs.Digit.{noDigit, digitOf}
-use Rattle.file_lines.specs.Line.{lineDigits, allDigits}
-use Rattle.file_lines.specs.engine.Numbered.{digitsAtOnce, Numbered}
+use Rattle.prelude.proofs.{ℕ, suc, _+_, _-_, _*_, _/_, _≤_, _<_, min, _≡_, refl, ap, _∙_, Bool, true, false, List, []}
+use Rattle.prelude.proofs.{_∷_, _++_, length, getD, set, take, drop, replicate, getD-replicate, length-append}
+use Rattle.prelude.proofs.{List·getD-append, getD-set-same, getD-set-other, getD-append-add, take-length, arith, decLt}
+use Rattle.prelude.proofs.{lt-ltb}
+use Rattle.file_hex.specs.{noDigit, digitOf}
+use Rattle.file_lines.specs.{lineDigits, allDigits, digitsAtOnce, Numbered}
 use Rattle.file_lines.proofs.Lines.{digit-at}
 
 -- before the first

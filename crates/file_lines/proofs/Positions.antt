@@ -1,13 +1,7 @@
 -- What stands at a position of a file, case by case, and what reading a line there gives.
-use Prim.Native.Nat.{ℕ, _+_, _-_, _≤_, _<_, min}
-use mathlib.Core.Path.{_≡_}
-use mathlib.Core.Bool.{true, false, and-true, and-false, and-eq-true-iff}
-use mathlib.Core.List.{List}
-use lib.ListN.{length, take, drop, length-take, length-drop}
-use native.Mathlib.Nat.{add-sub-cancel-left}
-use native.Mathlib.Omega.{arith}
-use borrow.Author.Tests.{ne-eqb}
-use Rattle.file_lines.specs.Line.{lineDigits, allDigits, isLine, bytesOf, frameOf, closed, isLineAt, lineAt}
+use Rattle.prelude.proofs.{ℕ, _+_, _-_, _≤_, _<_, min, _≡_, true, false, and-true, and-false, and-eq-true-iff, List}
+use Rattle.prelude.proofs.{length, take, drop, length-take, length-drop, add-sub-cancel-left, arith, ne-eqb}
+use Rattle.file_lines.specs.{lineDigits, allDigits, isLine, bytesOf, frameOf, closed, isLineAt, lineAt}
 use Rattle.file_lines.specs.declared.Line.the-variants.{Read, NoLine}
 use Rattle.file_lines.proofs.Lines.{line-length}
 

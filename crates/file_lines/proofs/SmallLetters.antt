@@ -1,14 +1,8 @@
 -- The loop over a text that looks for a lowercase letter: what holds after k bytes.
-use Prim.Native.Nat.{ℕ, suc, _+_, _≤_, _<_}
-use mathlib.Core.Path.{_≡_, refl, sym, _∙_}
-use mathlib.Core.Bool.{Bool, false, _||_, or-false, or-assoc}
-use mathlib.Core.List.{List}
-use lib.ListN.{length, getD, drop, drop-of-length-le}
-use lib.Seq.{drop-cons}
-use native.Mathlib.Omega.{arith}
-use native.Mathlib.Numerals.{add-one}
-use Rattle.file_hex.specs.Digit.{isLowercase}
-use Rattle.file_lines.specs.Line.{hasLowercase}
+use Rattle.prelude.proofs.{ℕ, suc, _+_, _≤_, _<_, _≡_, refl, sym, _∙_, Bool, false, _||_, or-false, or-assoc, List}
+use Rattle.prelude.proofs.{length, getD, drop, drop-of-length-le, drop-cons, arith, add-one}
+use Rattle.file_hex.specs.{isLowercase}
+use Rattle.file_lines.specs.{hasLowercase}
 
 -- whether one of the first k bytes of a text was a lowercase letter: if not, the bytes from k on decide
 pub record Looking (text : List ℕ) (found : Bool) (k : ℕ) : Type 0 where

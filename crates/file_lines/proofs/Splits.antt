@@ -1,15 +1,9 @@
 -- A file's first line and what follows it. The first line is what stands before the first line feed; it is right
 -- (SPEC 2.2) exactly if twelve digits stand at the front, and then a line feed or the end.
-use Prim.Native.Nat.{ℕ, zero, suc}
-use mathlib.Core.Path.{_≡_, refl, sym, ap}
-use mathlib.Core.Bool.{Bool, true, false, cond, _&&_, and-false, and-assoc}
-use mathlib.Core.List.{List, [], _∷_}
-use lib.Dec.{ltb, eqb, eqb·zero-suc, eqb·suc-zero, eqb·suc-suc}
-use lib.ListN.{length, take, drop}
-use borrow.Author.Tests.{eqb-true}
-use Rattle.file_hex.specs.Digit.{noDigit, digitOf}
-use Rattle.file_lines.specs.Line.{lineFeed, allDigits, closed}
-use Rattle.file_lines.specs.Lines.{putBefore, linesOf}
+use Rattle.prelude.proofs.{ℕ, zero, suc, _≡_, refl, sym, ap, Bool, true, false, cond, _&&_, and-false, and-assoc, List}
+use Rattle.prelude.proofs.{[], _∷_, ltb, eqb, eqb·zero-suc, eqb·suc-zero, eqb·suc-suc, length, take, drop, eqb-true}
+use Rattle.file_hex.specs.{noDigit, digitOf}
+use Rattle.file_lines.specs.{lineFeed, allDigits, closed, putBefore, linesOf}
 
 -- the first line from a byte b on: empty where b is a line feed
 abbrev firstFrom : Bool → ℕ → List ℕ → List ℕ

@@ -1,16 +1,10 @@
 -- Storing the bytes of one line, each behind the ones before.
-use Prim.Native.Nat.{ℕ, suc, _+_, _*_, _<_}
-use mathlib.Core.Path.{_≡_, refl, sym, _∙_}
-use mathlib.Core.Bool.{Bool, true, false}
-use mathlib.Core.List.{List, [], _∷_, _++_, append-nil}
-use lib.ListN.{length, getD, set, take, drop-of-length-le}
-use lib.Seq.{sets, sets-eq, take-suc, take-length, length-take-le}
-use native.Mathlib.Omega.{arith}
-use native.Mathlib.Numerals.{add-one}
-use Rattle.frames.specs.Frame.{frameSize}
-use Rattle.file_hex.specs.Digit.{noDigit, digitOf}
-use Rattle.file_lines.specs.Line.{lineDigits, allDigits, bytesOf}
-use Rattle.file_lines.specs.engine.Stored.{Stored}
+use Rattle.prelude.proofs.{ℕ, suc, _+_, _*_, _<_, _≡_, refl, sym, _∙_, Bool, true, false, List, [], _∷_, _++_}
+use Rattle.prelude.proofs.{append-nil, length, getD, set, take, drop-of-length-le, sets, sets-eq, take-suc, take-length}
+use Rattle.prelude.proofs.{length-take-le, arith, add-one}
+use Rattle.frames.specs.{frameSize}
+use Rattle.file_hex.specs.{noDigit, digitOf}
+use Rattle.file_lines.specs.{lineDigits, allDigits, bytesOf, Stored}
 use Rattle.file_lines.proofs.Lines.{byte-at, bytes-length}
 
 -- a byte stored behind others

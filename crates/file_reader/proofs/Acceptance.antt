@@ -1,32 +1,20 @@
 -- A file is accepted exactly if its lines are right (SPEC 2.2), without lowercase letters, and hold an accepted table;
 -- what the reader then gives.
-use Prim.Native.Nat.{ℕ, zero, suc, _+_, _*_, _/_, _%_, _≤_, _<_}
-use mathlib.Core.Path.{_≡_, refl, sym, ap, _∙_}
-use mathlib.Core.Logic.{_↔_}
-use mathlib.Core.Bool.{true, false}
-use mathlib.Core.Option.{Option, none, some}
-use mathlib.Core.List.{List, [], _∷_, _++_}
-use lib.ListN.{length, getD, take, drop}
-use lib.Seq.{take-at}
-use native.Mathlib.Omega.{arith}
-use borrow.Author.Tests.{lt-ltb, le-leb, eq-eqb, ltb-true, leb-true, not-true}
+use Rattle.prelude.proofs.{ℕ, zero, suc, _+_, _*_, _/_, _%_, _≤_, _<_, _≡_, refl, sym, ap, _∙_, _↔_, true, false}
+use Rattle.prelude.proofs.{Option, none, some, List, [], _∷_, _++_, length, getD, take, drop, take-at, arith, lt-ltb}
+use Rattle.prelude.proofs.{le-leb, eq-eqb, ltb-true, leb-true, not-true}
 use Rattle.lists.proofs.Choice.{clash}
 use Rattle.frames.specs.declared.Rejection.{Rejection}
 use Rattle.frames.specs.declared.Checked.the-variants.{Nodes, Rejected}
-use Rattle.frames.specs.Frame.{frameSize, frames, maxTable}
-use Rattle.frames.specs.Rejection.{_leaving_}
-use Rattle.frames.specs.Check.{check1, check2, check3, rejection, Accepted}
+use Rattle.frames.specs.{frameSize, frames, maxTable, _leaving_, check1, check2, check3, rejection, Accepted}
 use Rattle.frames.proofs.Stated.{ask-yes, yes-ask, both-passed, passed-both}
 use Rattle.frames.proofs.Asked.{answer-nodes}
 use Rattle.frames.proofs.Acceptance.{accepted-stated, stated-accepted, accepted-formed}
-use Rattle.file_lines.specs.Line.{lineDigits, isLine, hasLowercase}
-use Rattle.file_lines.specs.Lines.{linesOf, decoded}
+use Rattle.file_lines.specs.{lineDigits, isLine, hasLowercase, linesOf, decoded}
 use Rattle.file_lines.proofs.CapitalDigits.{capital-at, capitals-all}
 use Rattle.file_lines.proofs.Lines.{line-length, line-digits, digit-at}
-use Rattle.file_reader.specs.File.{maxFile, eachLine, fileCheck2, fileCheck3, fileCheck16}
-use Rattle.file_reader.specs.File.{fileRejection, AcceptedFile, readRejection, readOutcome}
-use Rattle.file_reader.specs.engine.Decoded.{lineCheck16, lineCheck3}
-use Rattle.file_reader.specs.results.Stated.{LineAsStated, FileAsStated}
+use Rattle.file_reader.specs.{maxFile, eachLine, fileCheck2, fileCheck3, fileCheck16, fileRejection, AcceptedFile}
+use Rattle.file_reader.specs.{readRejection, readOutcome, lineCheck16, lineCheck3, LineAsStated, FileAsStated}
 use Rattle.file_reader.proofs.Counts.{line-count, decoded-length, frame-count}
 use Rattle.file_reader.proofs.Reading.{accepted-parts, read-answer}
 

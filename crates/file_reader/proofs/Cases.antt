@@ -1,21 +1,10 @@
 -- The small files, computed from the definitions; files at the limit; and the last line feed.
-use Prim.Native.Nat.{ℕ, _≤_}
-use mathlib.Core.Path.{_≡_, refl, ap, _∙_}
-use mathlib.Core.Option.{some}
-use mathlib.Core.List.{List, [], _∷_, _++_, map}
-use lib.Dec.{eqb}
-use lib.ListN.{length}
-use native.Mathlib.Omega.{arith}
-use borrow.Author.Tests.{ne-eqb}
-use Rattle.frames.specs.Frame.{maxNodes, frames, next}
-use Rattle.frames.specs.Position.{positionWithin, positionOf}
-use Rattle.frames.specs.Rejection.{_andThen_, eachNode}
-use Rattle.frames.specs.Check.{framesRejection}
-use Rattle.file_hex.specs.Digit.{digitOf}
-use Rattle.file_lines.specs.Line.{lineFeed, allDigits, isLine, hasLowercase, bytesOf}
-use Rattle.file_lines.specs.Lines.{putBefore, linesOf, decode, decoded}
-use Rattle.file_reader.specs.File.{eachLine, fileCheck3, fileCheck16, fileRejection, AcceptedFile, readRejection}
-use Rattle.file_reader.specs.results.Cases.{computed, cases}
+use Rattle.prelude.proofs.{ℕ, _≤_, _≡_, refl, ap, _∙_, some, List, [], _∷_, _++_, map, eqb, length, arith, ne-eqb}
+use Rattle.frames.specs.{maxNodes, frames, next, positionWithin, positionOf, _andThen_, eachNode, framesRejection}
+use Rattle.file_hex.specs.{digitOf}
+use Rattle.file_lines.specs.{lineFeed, allDigits, isLine, hasLowercase, bytesOf, putBefore, linesOf, decode, decoded}
+use Rattle.file_reader.specs.{eachLine, fileCheck3, fileCheck16, fileRejection, AcceptedFile, readRejection}
+use Rattle.file_reader.specs.{computed, cases}
 use Rattle.file_reader.proofs.Reading.{file-then, sized, long-refused, accepted-parts}
 use Rattle.file_reader.proofs.Acceptance.{accepted-nodes}
 

@@ -1,20 +1,12 @@
 -- How many lines and bytes a file has: each line takes its bytes and a line feed, and only the last line feed may be
 -- missing.
-use Prim.Native.Nat.{ℕ, suc, _+_, _*_, _/_, _≤_}
-use mathlib.Core.Path.{_≡_, refl}
-use mathlib.Core.Bool.{Bool, true, false}
-use mathlib.Core.Option.{none}
-use mathlib.Core.List.{List, [], _∷_}
-use lib.Dec.{eqb}
-use lib.ListN.{length, length-append}
-use native.Mathlib.Omega.{arith}
-use Rattle.frames.specs.Frame.{frameSize, maxNodes, frames}
+use Rattle.prelude.proofs.{ℕ, suc, _+_, _*_, _/_, _≤_, _≡_, refl, Bool, true, false, none, List, [], _∷_, eqb, length}
+use Rattle.prelude.proofs.{length-append, arith}
+use Rattle.frames.specs.{frameSize, maxNodes, frames}
 use Rattle.frames.proofs.Stated.{ask-yes, both-passed}
-use Rattle.file_lines.specs.Line.{lineDigits, lineFeed, bytesOf}
-use Rattle.file_lines.specs.Lines.{putBefore, linesOf, decode, decoded}
+use Rattle.file_lines.specs.{lineDigits, lineFeed, bytesOf, putBefore, linesOf, decode, decoded}
 use Rattle.file_lines.proofs.Lines.{line-length, line-bytes}
-use Rattle.file_reader.specs.File.{maxFile, eachLine, fileCheck3}
-use Rattle.file_reader.specs.engine.Decoded.{lineCheck3}
+use Rattle.file_reader.specs.{maxFile, eachLine, fileCheck3, lineCheck3}
 
 -- the bytes of lines with a line feed after each
 closedLength : List (List ℕ) → ℕ

@@ -1,22 +1,15 @@
 -- The loop that decodes a file: what holds after n lines, and that each line, stored behind the ones before, keeps it.
-use Prim.Native.Nat.{ℕ, _+_, _*_, _≤_, _<_}
-use mathlib.Core.Path.{_≡_, refl, sym, ap, _∙_}
-use mathlib.Core.Bool.{true, false}
-use mathlib.Core.Option.{Option, none, some}
-use mathlib.Core.List.{List, _++_, append-nil, append-assoc}
-use lib.ListN.{length, take, drop, length-append, drop-of-length-le}
-use lib.Seq.{sets, sets-eq, take-at, length-take-le}
-use native.Mathlib.Omega.{arith}
+use Rattle.prelude.proofs.{ℕ, _+_, _*_, _≤_, _<_, _≡_, refl, sym, ap, _∙_, true, false, Option, none, some, List, _++_}
+use Rattle.prelude.proofs.{append-nil, append-assoc, length, take, drop, length-append, drop-of-length-le, sets}
+use Rattle.prelude.proofs.{sets-eq, take-at, length-take-le, arith}
 use Rattle.lists.proofs.Choice.{clash}
 use Rattle.frames.specs.declared.Rejection.{Rejection}
 use Rattle.frames.specs.declared.Checked.the-variants.{Nodes, Rejected}
-use Rattle.frames.specs.Frame.{frameSize, frames}
-use Rattle.file_lines.specs.Line.{lineDigits, bytesOf, bytesAt, isLineAt}
-use Rattle.file_lines.specs.Lines.{linesOf, decode, decoded}
+use Rattle.frames.specs.{frameSize, frames}
+use Rattle.file_lines.specs.{lineDigits, bytesOf, bytesAt, isLineAt, linesOf, decode, decoded}
 use Rattle.file_lines.proofs.Lines.{line-bytes}
 use Rattle.file_lines.proofs.Positions.{lineBytes, line-is, line-fits}
-use Rattle.file_reader.specs.File.{eachLine, fileCheck3}
-use Rattle.file_reader.specs.engine.Decoded.{lineCheck3, Decoded, LongEnough}
+use Rattle.file_reader.specs.{eachLine, fileCheck3, lineCheck3, Decoded, LongEnough}
 use Rattle.file_reader.proofs.Left.{lines-next, lines-stop}
 
 -- six bytes stored behind n frames

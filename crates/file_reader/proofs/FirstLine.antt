@@ -1,20 +1,14 @@
 -- A question put to each line of a file in turn (3 and 16): the place of a "no" is the number of the first line that
 -- gets it.
-use Prim.Native.Nat.{ℕ, zero, suc, _+_, _<_}
-use native.Mathlib.Omega.{arith}
-use mathlib.Core.Path.{_≡_, refl, ap, subst}
-use mathlib.Core.Logic.{⊎-elim}
-use mathlib.Core.Bool.{Bool, true, false}
-use mathlib.Core.Option.{Option, none, some}
-use mathlib.Core.List.{List, [], _∷_}
-use lib.ListN.{length, getD}
+use Rattle.prelude.proofs.{ℕ, zero, suc, _+_, _<_, arith, _≡_, refl, ap, subst, ⊎-elim, Bool, true, false, Option, none}
+use Rattle.prelude.proofs.{some, List, [], _∷_, length, getD}
 use Rattle.lists.proofs.Choice.{clash, true-not-false}
 use Rattle.frames.specs.declared.Rejection.{Rejection}
-use Rattle.frames.specs.Rejection.{ask}
+use Rattle.frames.specs.{ask}
 use Rattle.frames.proofs.Stated.{ask-yes, both-passed}
 use Rattle.frames.proofs.FirstNo.{ask-no, then-first}
-use Rattle.file_lines.specs.Lines.{linesOf}
-use Rattle.file_reader.specs.File.{eachLine}
+use Rattle.file_lines.specs.{linesOf}
+use Rattle.file_reader.specs.{eachLine}
 
 -- the question of number q: does a line pass a test
 module _ (q : ℕ) (passes : List ℕ → Bool) where

@@ -1,20 +1,12 @@
 -- The lines that are left at a position: reading one line takes the first of them.
-use Prim.Native.Nat.{ℕ, suc, _+_, _<_}
-use mathlib.Core.Path.{_≡_, sym, ap, _∙_}
-use mathlib.Core.Bool.{true, false}
-use mathlib.Core.Option.{none, some}
-use mathlib.Core.List.{List, _∷_}
-use lib.ListN.{length, getD, take, drop}
-use lib.Seq.{drop-cons, drop-drop}
-use native.Mathlib.Omega.{arith}
+use Rattle.prelude.proofs.{ℕ, suc, _+_, _<_, _≡_, sym, ap, _∙_, true, false, none, some, List, _∷_, length, getD, take}
+use Rattle.prelude.proofs.{drop, drop-cons, drop-drop, arith}
 use Rattle.frames.proofs.Stated.{ask-yes, both-passed}
-use Rattle.file_lines.specs.Line.{lineDigits, isLine, isLineAt}
-use Rattle.file_lines.specs.Lines.{linesOf}
+use Rattle.file_lines.specs.{lineDigits, isLine, isLineAt, linesOf}
 use Rattle.file_lines.proofs.Lines.{line-length}
 use Rattle.file_lines.proofs.Positions.{lineBytes, line-fits}
 use Rattle.file_lines.proofs.Splits.{firstLine, afterLine, lines-first, first-take, after-drop, first-digits}
-use Rattle.file_reader.specs.File.{eachLine}
-use Rattle.file_reader.specs.engine.Decoded.{lineCheck3}
+use Rattle.file_reader.specs.{eachLine, lineCheck3}
 
 module _ (f : List ℕ) (at : ℕ) where
   abbrev left : List ℕ

@@ -1,23 +1,14 @@
 -- Question 16: the loop over the lines of a file whose lines have passed question 3; what holds after n lines.
-use Prim.Native.Nat.{ℕ, _+_, _*_, _≤_, _<_}
-use mathlib.Core.Path.{_≡_, refl, _∙_}
-use mathlib.Core.Bool.{Bool, true, false}
-use mathlib.Core.Option.{none, some}
-use mathlib.Core.List.{List, [], _∷_}
-use lib.ListN.{length, drop, drop-of-length-le}
-use lib.Dec.{eqb}
-use native.Mathlib.Omega.{arith}
-use native.Mathlib.Decide.{decLt}
+use Rattle.prelude.proofs.{ℕ, _+_, _*_, _≤_, _<_, _≡_, refl, _∙_, Bool, true, false, none, some, List, [], _∷_, length}
+use Rattle.prelude.proofs.{drop, drop-of-length-le, eqb, arith, decLt}
 use Rattle.lists.proofs.Choice.{or-false-both}
 use Rattle.frames.specs.declared.Checked.the-variants.{Nodes}
-use Rattle.frames.specs.Rejection.{answer}
+use Rattle.frames.specs.{answer}
 use Rattle.frames.proofs.Stated.{both-passed}
-use Rattle.file_hex.specs.Digit.{isLowercase}
-use Rattle.file_lines.specs.Line.{lineFeed, lineDigits, lineSize, hasLowercase, isLineAt}
-use Rattle.file_lines.specs.Lines.{putBefore, linesOf}
+use Rattle.file_hex.specs.{isLowercase}
+use Rattle.file_lines.specs.{lineFeed, lineDigits, lineSize, hasLowercase, isLineAt, putBefore, linesOf}
 use Rattle.file_lines.proofs.Positions.{lineBytes, line-fits}
-use Rattle.file_reader.specs.File.{eachLine, fileCheck3, fileCheck16}
-use Rattle.file_reader.specs.engine.Decoded.{lineCheck16, lineCheck3}
+use Rattle.file_reader.specs.{eachLine, fileCheck3, fileCheck16, lineCheck16, lineCheck3}
 use Rattle.file_reader.proofs.Left.{lines-next, line-stands}
 
 -- where a file has no lowercase letter, none of its lines has one

@@ -1,24 +1,15 @@
 -- The reader, question by question: what it answers and what it leaves in the lent table at each way out.
-use Prim.Native.Nat.{ℕ, _*_, _≤_, _<_}
-use mathlib.Core.Path.{_≡_, refl, sym, ap, _∙_}
-use mathlib.Core.Option.{Option, none, some}
-use mathlib.Core.List.{List, _++_}
-use lib.ListN.{length, take, drop, length-take}
-use lib.Seq.{take-length}
-use native.Mathlib.Omega.{arith}
-use borrow.Author.Tests.{lt-ltb, le-ltb, le-leb, lt-leb, ltb-true, leb-true}
+use Rattle.prelude.proofs.{ℕ, _*_, _≤_, _<_, _≡_, refl, sym, ap, _∙_, Option, none, some, List, _++_, length, take}
+use Rattle.prelude.proofs.{drop, length-take, take-length, arith, lt-ltb, le-ltb, le-leb, lt-leb, ltb-true, leb-true}
 use Rattle.frames.specs.declared.Rejection.{Rejection}
 use Rattle.frames.specs.declared.Checked.{Checked}
 use Rattle.frames.specs.declared.Checked.the-variants.{Nodes, Rejected}
-use Rattle.frames.specs.Frame.{frameSize, maxNodes, frames}
-use Rattle.frames.specs.Rejection.{_andThen_, answer, _leaving_}
-use Rattle.frames.specs.Check.{check1, framesRejection}
+use Rattle.frames.specs.{frameSize, maxNodes, frames, _andThen_, answer, _leaving_, check1, framesRejection}
 use Rattle.frames.proofs.Stated.{ask-yes, both-passed}
 use Rattle.frames.proofs.Asked.{refused, answer-nodes, answer-rejected, answer-of}
-use Rattle.file_lines.specs.Lines.{linesOf, decoded}
-use Rattle.file_reader.specs.File.{maxFile, fileCheck2, fileCheck3, fileCheck16, fileRejection}
-use Rattle.file_reader.specs.File.{readRejection, readOutcome}
-use Rattle.file_reader.specs.engine.Decoded.{linesRejection, Decoded}
+use Rattle.file_lines.specs.{linesOf, decoded}
+use Rattle.file_reader.specs.{maxFile, fileCheck2, fileCheck3, fileCheck16, fileRejection, readRejection}
+use Rattle.file_reader.specs.{readOutcome, linesRejection, Decoded}
 use Rattle.file_reader.proofs.Decoding.{decoded-refused}
 use Rattle.file_reader.proofs.Counts.{decoded-length, frame-count, frames-few}
 

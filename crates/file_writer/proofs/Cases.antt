@@ -1,14 +1,8 @@
 -- The small tables, computed from the definitions.
-use mathlib.Core.Path.{_≡_, refl}
-use mathlib.Core.List.{map}
-use Rattle.frames.specs.Frame.{next}
-use Rattle.frames.specs.Position.{positionWithin, positionOf}
-use Rattle.frames.specs.Rejection.{eachNode}
-use Rattle.frames.specs.Check.{framesRejection, rejection}
-use Rattle.file_hex.specs.Digit.{capitalOf}
-use Rattle.file_writer.specs.Encoded.{digitsOf, lineOf, encode}
-use Rattle.file_writer.specs.Write.{writeRejection}
-use Rattle.file_writer.specs.results.Cases.{performed, writings}
+use Rattle.prelude.proofs.{_≡_, refl, map}
+use Rattle.frames.specs.{next, positionWithin, positionOf, eachNode, framesRejection, rejection}
+use Rattle.file_hex.specs.{capitalOf}
+use Rattle.file_writer.specs.{digitsOf, lineOf, encode, writeRejection, performed, writings}
 
 -- each writing is as stated
 pub small-writings : map performed writings ≡ writings

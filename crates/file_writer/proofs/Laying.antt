@@ -1,19 +1,14 @@
 -- Writing one line: what holds after the digits of k bytes, and that each two digits, laid behind the ones before, keep
 -- it.
-use Prim.Native.Nat.{ℕ, zero, suc, _+_, _*_, _/_, _%_, _≤_, _<_}
-use mathlib.Core.Path.{_≡_, refl, ap, _∙_}
-use mathlib.Core.List.{List, [], _∷_, _++_, map-id}
-use lib.ListN.{length, getD, set, take, drop, length-append, length-set, List·getD-append}
-use lib.Seq.{sets, sets-eq, take-length, getD-at}
-use native.Mathlib.Omega.{arith}
-use Rattle.frames.specs.Frame.{frameSize}
-use Rattle.frames.specs.Tree.{upFrom}
+use Rattle.prelude.proofs.{ℕ, zero, suc, _+_, _*_, _/_, _%_, _≤_, _<_, _≡_, refl, ap, _∙_, List, [], _∷_, _++_, map-id}
+use Rattle.prelude.proofs.{length, getD, set, take, drop, length-append, length-set, List·getD-append, sets, sets-eq}
+use Rattle.prelude.proofs.{take-length, getD-at, arith}
+use Rattle.frames.specs.{frameSize, upFrom}
 use Rattle.frames.proofs.Ranges.{length-up, up-at}
-use Rattle.file_hex.specs.Digit.{capitalOf}
-use Rattle.file_lines.specs.Line.{lineDigits, lineFeed, lineSize}
+use Rattle.file_hex.specs.{capitalOf}
+use Rattle.file_lines.specs.{lineDigits, lineFeed, lineSize}
 use Rattle.file_lines.proofs.Storing.{stored-next}
-use Rattle.file_writer.specs.Encoded.{digitsOf, lineOf}
-use Rattle.file_writer.specs.engine.Pairs.{byteValues, digitPairs}
+use Rattle.file_writer.specs.{digitsOf, lineOf, byteValues, digitPairs}
 
 -- a byte has two digits
 pub digits-length : (bs : List ℕ) → length (digitsOf bs) ≡ 2 * length bs

@@ -1,21 +1,13 @@
 -- The writer, question by question: what it answers and what it leaves in the lent buffer at each way out.
-use Prim.Native.Nat.{ℕ, _*_, _≤_, _<_}
-use mathlib.Core.Path.{_≡_}
-use mathlib.Core.Option.{none}
-use mathlib.Core.List.{List, _++_}
-use lib.ListN.{length, drop}
-use native.Mathlib.Omega.{arith}
-use borrow.Author.Tests.{le-leb, lt-leb, leb-true}
+use Rattle.prelude.proofs.{ℕ, _*_, _≤_, _<_, _≡_, none, List, _++_, length, drop, arith, le-leb, lt-leb, leb-true}
 use Rattle.frames.specs.declared.Rejection.{Rejection}
 use Rattle.frames.specs.declared.Checked.the-variants.{Rejected}
-use Rattle.frames.specs.Frame.{frames}
-use Rattle.frames.specs.Check.{rejection, Accepted, checked}
+use Rattle.frames.specs.{frames, rejection, Accepted, checked}
 use Rattle.frames.proofs.Stated.{ask-yes, both-passed}
 use Rattle.frames.proofs.Asked.{answer-rejected}
 use Rattle.frames.proofs.Acceptance.{accepted-stated}
-use Rattle.file_lines.specs.Line.{lineSize}
-use Rattle.file_writer.specs.Encoded.{encode, fileOf}
-use Rattle.file_writer.specs.Write.{writeCheck10, writeRejection, writeOutcome}
+use Rattle.file_lines.specs.{lineSize}
+use Rattle.file_writer.specs.{encode, fileOf, writeCheck10, writeRejection, writeOutcome}
 use Rattle.file_writer.specs.declared.Written.the-variants.{Length, Rejected as RejectedWrite}
 use Rattle.file_writer.proofs.Writing.{encode-length}
 

@@ -1,14 +1,10 @@
 -- The loop that writes a file: what holds after n lines, and that each line, laid behind the ones before, keeps it.
-use Prim.Native.Nat.{ℕ, zero, suc, _+_, _*_, _-_, _≤_, _<_}
-use mathlib.Core.Path.{_≡_, refl, sym, ap, _∙_}
-use mathlib.Core.List.{List, [], _++_, append-nil, append-assoc}
-use lib.ListN.{length, take, drop, length-append, length-drop, drop-of-length-le}
-use lib.Seq.{take-all, take-at, drop-at, drop-drop, length-take-le}
-use native.Mathlib.Omega.{arith}
-use native.Mathlib.Numerals.{add-one}
-use Rattle.frames.specs.Frame.{frameSize}
-use Rattle.file_lines.specs.Line.{lineSize}
-use Rattle.file_writer.specs.Encoded.{lineOf, encode}
+use Rattle.prelude.proofs.{ℕ, zero, suc, _+_, _*_, _-_, _≤_, _<_, _≡_, refl, sym, ap, _∙_, List, [], _++_, append-nil}
+use Rattle.prelude.proofs.{append-assoc, length, take, drop, length-append, length-drop, drop-of-length-le, take-all}
+use Rattle.prelude.proofs.{take-at, drop-at, drop-drop, length-take-le, arith, add-one}
+use Rattle.frames.specs.{frameSize}
+use Rattle.file_lines.specs.{lineSize}
+use Rattle.file_writer.specs.{lineOf, encode}
 use Rattle.file_writer.proofs.Laying.{line-size}
 
 -- each line takes thirteen bytes

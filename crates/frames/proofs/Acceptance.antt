@@ -1,18 +1,11 @@
 -- A table is accepted exactly when it is as SPEC 3 states it, clause by clause; and an accepted table is well-formed.
-use Prim.Native.Nat.{ℕ, _%_, _≤_, _<_}
-use native.Mathlib.Omega.{arith}
-use mathlib.Core.Path.{_≡_}
-use mathlib.Core.Option.{none, some}
-use mathlib.Core.List.{List}
-use lib.ListN.{length}
-use borrow.Author.Tests.{ltb-true, leb-true, eqb-true, lt-ltb, le-leb, eq-eqb}
+use Rattle.prelude.proofs.{ℕ, _%_, _≤_, _<_, arith, _≡_, none, some, List, length, ltb-true, leb-true, eqb-true, lt-ltb}
+use Rattle.prelude.proofs.{le-leb, eq-eqb}
 use Rattle.frames.specs.declared.Rejection.{Rejection}
 use Rattle.frames.specs.declared.Checked.the-variants.{Nodes, Rejected}
-use Rattle.frames.specs.Frame.{frameSize, maxNodes, frames, next, maxTable}
-use Rattle.frames.specs.Formed.{WellFormed}
-use Rattle.frames.specs.Check.{check1, check2, check3, checkNode, check8, check9, framesRejection, rejection}
-use Rattle.frames.specs.Check.{nodesRejection, Accepted, checked}
-use Rattle.frames.specs.results.Stated.{FrameAsStated, TableAsStated}
+use Rattle.frames.specs.{frameSize, maxNodes, frames, next, maxTable, WellFormed, check1, check2, check3}
+use Rattle.frames.specs.{checkNode, check8, check9, framesRejection, rejection, nodesRejection, Accepted, checked}
+use Rattle.frames.specs.{FrameAsStated, TableAsStated}
 use Rattle.frames.proofs.Next.{next-mono}
 use Rattle.frames.proofs.Stated.{ask-yes, yes-ask, both-passed, passed-both, passed-stated, stated-passed}
 use Rattle.frames.proofs.Asked.{answer-nodes, answer-rejected, each-passed, passed-each}

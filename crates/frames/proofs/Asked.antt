@@ -1,16 +1,11 @@
 -- Questions put to node after node: as long as they pass, the first rejection is that of the nodes that are left.
-use Prim.Native.Nat.{ℕ, zero, suc, _+_, _*_, _-_, _≤_, _<_}
-use native.Mathlib.Omega.{arith}
-use native.Mathlib.Decide.{decLt}
-use mathlib.Core.Path.{_≡_, refl, sym, _∙_}
-use mathlib.Core.Option.{Option, none, some}
-use mathlib.Core.List.{List}
+use Rattle.prelude.proofs.{ℕ, zero, suc, _+_, _*_, _-_, _≤_, _<_, arith, decLt, _≡_, refl, sym, _∙_, Option, none, some}
+use Rattle.prelude.proofs.{List}
 use Rattle.frames.specs.declared.Rejection.{Rejection}
 use Rattle.frames.specs.declared.Checked.{Checked}
 use Rattle.frames.specs.declared.Checked.the-variants.{Nodes, Rejected}
-use Rattle.frames.specs.Frame.{maxChildren, frames, next}
-use Rattle.frames.specs.Rejection.{_andThen_, eachNode, unless, answer, _leaving_}
-use Rattle.frames.specs.Check.{checkNode, nodesRejection}
+use Rattle.frames.specs.{maxChildren, frames, next, _andThen_, eachNode, unless, answer, _leaving_, checkNode}
+use Rattle.frames.specs.{nodesRejection}
 use Rattle.frames.proofs.Next.{next-more}
 use Rattle.frames.proofs.Stated.{both-passed, passed-both, passed-stated}
 use Rattle.lists.proofs.Choice.{clash}

@@ -1,24 +1,13 @@
 -- The first "no" is the first: laws of `ask`, `_andThen_` and `eachNode` (specs/Rejection.antt), and what they say of
 -- the questions that are put to each node in turn.
-use Prim.Native.Nat.{ℕ, zero, suc, _+_, _≤_, _<_}
-use native.Mathlib.Omega.{arith}
-use native.Mathlib.Decide.{decLt}
-use mathlib.Core.Path.{_≡_, refl, sym, ap, subst, _∙_}
-use mathlib.Core.Logic.{_⊎_, inl, inr, ⊎-elim}
-use mathlib.Core.Bool.{Bool, true, false}
-use mathlib.Core.Option.{Option, none, some}
-use mathlib.Core.List.{List}
-use lib.Dec.{leb}
-use borrow.Author.Tests.{leb-true}
+use Rattle.prelude.proofs.{ℕ, zero, suc, _+_, _≤_, _<_, arith, decLt, _≡_, refl, sym, ap, subst, _∙_, _⊎_, inl, inr}
+use Rattle.prelude.proofs.{⊎-elim, Bool, true, false, Option, none, some, List, leb, leb-true}
 use Rattle.lists.proofs.Choice.{clash}
 use Rattle.frames.specs.declared.Rejection.{Rejection}
-use Rattle.frames.specs.Frame.{maxChildren, maxDepth, frames, childCount}
-use Rattle.frames.specs.Position.{depthOf}
-use Rattle.frames.specs.Rejection.{ask, _andThen_, eachNode}
-use Rattle.frames.specs.Check.{byte3Right, firstChildRight, valueRight, check4, check5, check6, check7}
-use Rattle.frames.specs.Check.{checkNode, check1, check2, check3, nodesRejection, check8, check9}
-use Rattle.frames.specs.Check.{depthsRejection, framesRejection, rejection}
-use Rattle.frames.specs.FirstNo.{FirstAt, LowestNo, LowestDeep, rejectionBefore9}
+use Rattle.frames.specs.{maxChildren, maxDepth, frames, childCount, depthOf, ask, _andThen_, eachNode, byte3Right}
+use Rattle.frames.specs.{firstChildRight, valueRight, check4, check5, check6, check7, checkNode, check1, check2}
+use Rattle.frames.specs.{check3, nodesRejection, check8, check9, depthsRejection, framesRejection, rejection}
+use Rattle.frames.specs.{FirstAt, LowestNo, LowestDeep, rejectionBefore9}
 use Rattle.frames.proofs.Stated.{ask-yes, both-passed, passed-then}
 use Rattle.frames.proofs.Asked.{each-passed}
 

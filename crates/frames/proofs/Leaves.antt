@@ -1,20 +1,10 @@
 -- A node without children is listed among the leaves of each tree that it is in.
-use Prim.Native.Nat.{ℕ, zero, suc, _+_, _≤_, _<_}
-use native.Mathlib.Omega.{arith}
-use native.Mathlib.Decide.{decLe}
-use mathlib.Core.Path.{_≡_}
-use mathlib.Core.Logic.{inl, inr}
-use mathlib.Core.Bool.{true, false}
-use mathlib.Core.List.{List}
-use lib.Dec.{eqb}
-use borrow.Author.Tests.{eq-eqb}
-use Rattle.lists.specs.Lists.{among}
+use Rattle.prelude.proofs.{ℕ, zero, suc, _+_, _≤_, _<_, arith, decLe, _≡_, inl, inr, true, false, List, eqb, eq-eqb}
+use Rattle.lists.specs.{among}
 use Rattle.lists.proofs.Choice.{or-left}
 use Rattle.lists.proofs.Lists.{among-left, among-right}
-use Rattle.gametree.specs.Tree.{Tree, leaves, leavesChildren, In}
-use Rattle.frames.specs.Frame.{frames, firstChild, childCount}
-use Rattle.frames.specs.Tree.{childrenFrom, treeAt}
-use Rattle.frames.specs.Formed.{WellFormed}
+use Rattle.gametree.specs.{Tree, leaves, leavesChildren, In}
+use Rattle.frames.specs.{frames, firstChild, childCount, childrenFrom, treeAt, WellFormed}
 use Rattle.frames.proofs.Parents.{bottom-up}
 use Rattle.frames.proofs.Trees.{zero-or-suc, in-kids, tree-leaf, tree-inner}
 

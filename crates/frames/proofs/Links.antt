@@ -1,23 +1,13 @@
 -- What SSS* asks of a tree, answered from the table: a node's subtree, its parent and next sibling, and which nodes are
 -- below it.
-use Prim.Native.Nat.{ℕ, zero, suc, _+_, _≤_, _<_}
-use native.Mathlib.Omega.{arith}
-use native.Mathlib.Decide.{decLt}
-use mathlib.Core.Path.{_≡_, refl, ap₂}
-use mathlib.Core.Bool.{cond}
-use mathlib.Core.Option.{Option, none, some}
-use mathlib.Core.List.{List, _∷_}
-use lib.Dec.{ltb}
-use borrow.Author.Tests.{lt-ltb, le-ltb}
+use Rattle.prelude.proofs.{ℕ, zero, suc, _+_, _≤_, _<_, arith, decLt, _≡_, refl, ap₂, cond, Option, none, some, List}
+use Rattle.prelude.proofs.{_∷_, ltb, lt-ltb, le-ltb}
 use Rattle.gametree.specs.declared.Side.{Side}
-use Rattle.gametree.specs.Tree.{Tree, leaf, inner}
-use Rattle.gametree.specs.Nodes.{root, under, firstOf, othersOf, subtreeAt, linkIn}
+use Rattle.gametree.specs.{Tree, leaf, inner, root, under, firstOf, othersOf, subtreeAt, linkIn}
 use Rattle.gametree_theory.proofs.sss.Lookups.{Answers, AnswersChildren}
 use Rattle.gametree_theory.proofs.sss.OwnNodes.{own-root, own-answers}
-use Rattle.frames.specs.Frame.{frames, firstChild, childCount}
-use Rattle.frames.specs.Position.{sideOf}
-use Rattle.frames.specs.Tree.{upFrom, childrenFrom, treeAt, tree}
-use Rattle.frames.specs.Formed.{WellFormed, ChildOf}
+use Rattle.frames.specs.{frames, firstChild, childCount, sideOf, upFrom, childrenFrom, treeAt, tree, WellFormed}
+use Rattle.frames.specs.{ChildOf}
 use Rattle.frames.proofs.Nodes.{tree-distinct}
 use Rattle.frames.proofs.Parents.{top-down}
 use Rattle.frames.proofs.Trees.{zero-or-suc, tree-leaf, tree-inner, tree-number}

@@ -1,13 +1,7 @@
 -- The number `next t i` that the nodes before i leave for the next child: it grows, stays above i, and ends at the
 -- number of frames. So the children of each node come after it and lie within the table.
-use Prim.Native.Nat.{ℕ, zero, suc, _+_, _-_, _≤_, _<_}
-use native.Mathlib.Omega.{arith}
-use native.Mathlib.Decide.{decLe}
-use native.Mathlib.Numerals.{add-one}
-use mathlib.Core.Path.{_≡_}
-use mathlib.Core.List.{List}
-use Rattle.frames.specs.Frame.{frames, firstChild, childCount, next}
-use Rattle.frames.specs.Formed.{WellFormed, ChildOf}
+use Rattle.prelude.proofs.{ℕ, zero, suc, _+_, _-_, _≤_, _<_, arith, decLe, add-one, _≡_, List}
+use Rattle.frames.specs.{frames, firstChild, childCount, next, WellFormed, ChildOf}
 
 -- past one more node
 pub next-more : (t : List ℕ) (i : ℕ) → next t (i + 1) ≡ next t i + childCount t i

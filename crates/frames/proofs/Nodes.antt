@@ -1,15 +1,9 @@
 -- Every node of a well-formed table stands in its tree exactly once.
-use Prim.Native.Nat.{ℕ, zero, suc, _+_, _≤_, _<_}
-use native.Mathlib.Omega.{arith}
-use mathlib.Core.Path.{_≡_, sym, ap, _∙_, subst}
-use mathlib.Core.Logic.{inl, inr}
-use mathlib.Core.List.{List}
-use Rattle.gametree.specs.Tree.{In, Distinct, DistinctChildren}
+use Rattle.prelude.proofs.{ℕ, zero, suc, _+_, _≤_, _<_, arith, _≡_, sym, ap, _∙_, subst, inl, inr, List}
+use Rattle.gametree.specs.{In, Distinct, DistinctChildren}
 use Rattle.gametree_theory.proofs.minimax.Nodes.{number-in}
-use Rattle.frames.specs.Frame.{frames, firstChild, childCount}
-use Rattle.frames.specs.Position.{parentOf, depthOf}
-use Rattle.frames.specs.Tree.{childrenFrom, treeAt, tree}
-use Rattle.frames.specs.Formed.{WellFormed, ChildOf}
+use Rattle.frames.specs.{frames, firstChild, childCount, parentOf, depthOf, childrenFrom, treeAt, tree}
+use Rattle.frames.specs.{WellFormed, ChildOf}
 use Rattle.frames.proofs.Next.{child-later, child-within}
 use Rattle.frames.proofs.Parents.{parent-is, top-down, bottom-up}
 use Rattle.frames.proofs.Positions.{depth-child}

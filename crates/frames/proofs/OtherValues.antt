@@ -1,16 +1,8 @@
 -- A table of the shape of an accepted one, with values as question 7 wants them, is accepted too.
-use Prim.Native.Nat.{ℕ, zero, suc, _+_, _≤_, _<_}
-use native.Mathlib.Omega.{arith}
-use mathlib.Core.Path.{_≡_, refl, sym, ap, ap₂, _∙_}
-use mathlib.Core.Logic.{inl, inr}
-use mathlib.Core.List.{List}
-use lib.ListN.{length}
-use Rattle.gametree.specs.Tree.{Score}
-use Rattle.frames.specs.Frame.{frames, childCount, valueBytes, storedScore, next}
-use Rattle.frames.specs.Formed.{WellFormed}
-use Rattle.frames.specs.Shape.{SameShape}
-use Rattle.frames.specs.Check.{Accepted}
-use Rattle.frames.specs.results.Stated.{FrameAsStated}
+use Rattle.prelude.proofs.{ℕ, zero, suc, _+_, _≤_, _<_, arith, _≡_, refl, sym, ap, ap₂, _∙_, inl, inr, List, length}
+use Rattle.gametree.specs.{Score}
+use Rattle.frames.specs.{frames, childCount, valueBytes, storedScore, next, WellFormed, SameShape, Accepted}
+use Rattle.frames.specs.{FrameAsStated}
 use Rattle.frames.proofs.Acceptance.{accepted-stated, stated-accepted}
 use Rattle.frames.proofs.Shapes.{same-first, same-count, same-position}
 

@@ -1,16 +1,10 @@
 -- Each node of a well-formed table but the root is the child of exactly one node, its parent; so what holds of the root
 -- and passes from a node to its children holds of every node, and what passes from the children to their node too.
-use Prim.Native.Nat.{ℕ, zero, suc, _+_, _≤_, _<_}
-use native.Mathlib.Omega.{arith}
-use native.Mathlib.Decide.{decLe, decLt}
-use mathlib.Core.Path.{_≡_}
-use mathlib.Core.Bool.{true, false}
-use mathlib.Core.List.{List}
-use borrow.Author.Tests.{le-ltb, lt-ltb, le-leb, lt-leb}
+use Rattle.prelude.proofs.{ℕ, zero, suc, _+_, _≤_, _<_, arith, decLe, decLt, _≡_, true, false, List, le-ltb, lt-ltb}
+use Rattle.prelude.proofs.{le-leb, lt-leb}
 use Rattle.lists.proofs.Choice.{cond-cases}
-use Rattle.frames.specs.Frame.{frames, firstChild, childCount, next}
-use Rattle.frames.specs.Position.{isChild, parentBefore, parentOf}
-use Rattle.frames.specs.Formed.{WellFormed, ChildOf}
+use Rattle.frames.specs.{frames, firstChild, childCount, next, isChild, parentBefore, parentOf, WellFormed}
+use Rattle.frames.specs.{ChildOf}
 use Rattle.frames.proofs.Next.{next-mono, child-next, next-child, child-later, child-within}
 
 -- the test of a child

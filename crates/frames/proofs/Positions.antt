@@ -1,11 +1,7 @@
 -- Where a child stands follows from where its parent stands.
-use Prim.Native.Nat.{ℕ, zero, suc, _+_, _≤_, _<_}
-use native.Mathlib.Omega.{arith}
-use mathlib.Core.Path.{_≡_, refl, ap, _∙_}
-use mathlib.Core.List.{List}
-use Rattle.frames.specs.Frame.{frames}
-use Rattle.frames.specs.Position.{parentOf, rootPosition, childPosition, positionWithin, positionOf, depthOf}
-use Rattle.frames.specs.Formed.{WellFormed, ChildOf}
+use Rattle.prelude.proofs.{ℕ, zero, suc, _+_, _≤_, _<_, arith, _≡_, refl, ap, _∙_, List}
+use Rattle.frames.specs.{frames, parentOf, rootPosition, childPosition, positionWithin, positionOf, depthOf}
+use Rattle.frames.specs.{WellFormed, ChildOf}
 use Rattle.frames.proofs.Parents.{parent-less, parent-is}
 use Rattle.frames.proofs.Next.{child-later}
 

@@ -1,13 +1,8 @@
 -- What the theory asks of a tree holds of the tree of a well-formed table: distinct numbers and scores in range.
-use Prim.Native.Nat.{ℕ, zero, suc, _+_, _≤_, _<_}
-use native.Mathlib.Omega.{arith}
-use mathlib.Core.Path.{_≡_}
-use mathlib.Core.List.{List}
-use Rattle.gametree.specs.Tree.{Tree, EveryLeaf, EveryLeafChildren, Score, Proper}
-use Rattle.frames.specs.Frame.{frames, firstChild, childCount, storedScore}
-use Rattle.frames.specs.Position.{depthOf}
-use Rattle.frames.specs.Tree.{childrenFrom, treeAt, tree, valuation}
-use Rattle.frames.specs.Formed.{WellFormed}
+use Rattle.prelude.proofs.{ℕ, zero, suc, _+_, _≤_, _<_, arith, _≡_, List}
+use Rattle.gametree.specs.{Tree, EveryLeaf, EveryLeafChildren, Score, Proper}
+use Rattle.frames.specs.{frames, firstChild, childCount, storedScore, depthOf, childrenFrom, treeAt, tree}
+use Rattle.frames.specs.{valuation, WellFormed}
 use Rattle.frames.proofs.Parents.{bottom-up}
 use Rattle.frames.proofs.Trees.{zero-or-suc, tree-leaf, tree-inner}
 use Rattle.frames.proofs.Nodes.{tree-distinct}

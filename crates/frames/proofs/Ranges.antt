@@ -1,10 +1,7 @@
 -- The values of a function at the numbers from i on.
-use Prim.Native.Nat.{ℕ, zero, suc, _+_, _≤_, _<_}
-use native.Mathlib.Omega.{arith}
-use mathlib.Core.Path.{_≡_, refl, ap, ap₂, _∙_}
-use mathlib.Core.List.{[], _∷_, _++_, map}
-use lib.ListN.{length, getD}
-use Rattle.frames.specs.Tree.{upFrom}
+use Rattle.prelude.proofs.{ℕ, zero, suc, _+_, _≤_, _<_, arith, _≡_, refl, ap, ap₂, _∙_, [], _∷_, _++_, map, length}
+use Rattle.prelude.proofs.{getD}
+use Rattle.frames.specs.{upFrom}
 
 -- how many there are, each by its place, the same of another function, and one more
 pub length-up : (f : ℕ → ℕ) (i n : ℕ) → length (map f (upFrom i n)) ≡ n

@@ -1,20 +1,12 @@
 -- The tree of a regular table is a regular tree, shown from the leaves up; and which widths and depths an accepted one
 -- has.
-use Prim.Native.Nat.{ℕ, zero, suc, _+_, _-_, _≤_, _<_}
-use native.Mathlib.Omega.{arith}
-use mathlib.Core.Path.{_≡_, refl, ap, subst, sym, _∙_}
-use mathlib.Core.List.{List}
-use borrow.Author.Tests.{ne-eqb}
+use Rattle.prelude.proofs.{ℕ, zero, suc, _+_, _-_, _≤_, _<_, arith, _≡_, refl, ap, subst, sym, _∙_, List, ne-eqb}
 use Rattle.gametree.specs.declared.Side.{Side}
 use Rattle.gametree.specs.declared.Side.the-variants.{Max}
-use Rattle.gametree.specs.Tree.{Tree, other}
+use Rattle.gametree.specs.{Tree, other}
 use Rattle.gametree_theory.proofs.certificates.Regular.{Regular, RegularChildren}
-use Rattle.frames.specs.Frame.{maxChildren, maxDepth, frames, firstChild, childCount, byte3, sameMover}
-use Rattle.frames.specs.Position.{depthOf, sideOf}
-use Rattle.frames.specs.Tree.{childrenFrom, treeAt, tree}
-use Rattle.frames.specs.Formed.{WellFormed, ChildOf}
-use Rattle.frames.specs.Check.{Accepted}
-use Rattle.frames.specs.results.Regular.{RegularTable}
+use Rattle.frames.specs.{maxChildren, maxDepth, frames, firstChild, childCount, byte3, sameMover, depthOf, sideOf}
+use Rattle.frames.specs.{childrenFrom, treeAt, tree, WellFormed, ChildOf, Accepted, RegularTable}
 use Rattle.frames.proofs.Acceptance.{accepted-stated, accepted-formed}
 use Rattle.frames.proofs.Next.{child-later, child-within}
 use Rattle.frames.proofs.Parents.{bottom-up}

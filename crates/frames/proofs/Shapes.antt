@@ -1,14 +1,9 @@
 -- Two tables of one shape have one tree, and a leaf on which they agree has one score.
-use Prim.Native.Nat.{ℕ, zero, suc, _+_, _*_, _≤_, _<_}
-use native.Mathlib.Omega.{arith}
-use mathlib.Core.Path.{_≡_, refl, sym, ap, ap₂, _∙_}
-use mathlib.Core.List.{List}
+use Rattle.prelude.proofs.{ℕ, zero, suc, _+_, _*_, _≤_, _<_, arith, _≡_, refl, sym, ap, ap₂, _∙_, List}
 use Rattle.gametree.specs.declared.Position.{Position}
-use Rattle.frames.specs.Frame.{frames, firstChild, childCount, storedScore}
-use Rattle.frames.specs.Position.{parentBefore, parentOf, childPosition, positionOf, sideOf}
-use Rattle.frames.specs.Tree.{node, treeAt, tree, leafScore, valuation}
-use Rattle.frames.specs.Formed.{WellFormed}
-use Rattle.frames.specs.Shape.{SameShape, AgreeOn}
+use Rattle.frames.specs.{frames, firstChild, childCount, storedScore, parentBefore, parentOf, childPosition}
+use Rattle.frames.specs.{positionOf, sideOf, node, treeAt, tree, leafScore, valuation, WellFormed, SameShape}
+use Rattle.frames.specs.{AgreeOn}
 use Rattle.frames.proofs.Parents.{parent-less, bottom-up}
 use Rattle.frames.proofs.Positions.{position-root, position-step}
 use Rattle.frames.proofs.Trees.{tree-node, node-same}

@@ -1,25 +1,14 @@
 -- Who moves at a node goes by the mover at its parent and by byte 3 (SPEC 3.5). Where no byte 3 is 1 it goes by the
 -- depth, and the questions and the tree are what they were before byte 3 had a meaning.
-use Prim.Native.Nat.{ℕ, zero, suc, _+_, _%_, _≤_, _<_}
-use native.Mathlib.Omega.{arith}
-use native.Mathlib.Decide.{decLt}
-use mathlib.Core.Path.{_≡_, refl, sym, ap, ap₂, subst, _∙_}
-use mathlib.Core.Bool.{and-false, or-false}
-use mathlib.Core.Option.{Option}
-use mathlib.Core.List.{List}
-use lib.Dec.{ltb, eqb}
-use borrow.Author.Tests.{eq-eqb, ne-eqb}
-use Rattle.gametree.specs.Tree.{other}
+use Rattle.prelude.proofs.{ℕ, zero, suc, _+_, _%_, _≤_, _<_, arith, decLt, _≡_, refl, sym, ap, ap₂, subst, _∙_}
+use Rattle.prelude.proofs.{and-false, or-false, Option, List, ltb, eqb, eq-eqb, ne-eqb}
+use Rattle.gametree.specs.{other}
 use Rattle.frames.specs.declared.Rejection.{Rejection}
-use Rattle.frames.specs.Frame.{frames, firstChild, childCount, byte3, sameMover}
-use Rattle.frames.specs.Position.{parentOf, positionOf, depthOf, sideOf}
-use Rattle.frames.specs.Tree.{node, treeAt, tree}
-use Rattle.frames.specs.Formed.{WellFormed, ChildOf}
-use Rattle.frames.specs.Rejection.{_andThen_, eachNode}
-use Rattle.frames.specs.Check.{check1, check2, check3, check4, check5, check6, check7, check8, depthsRejection}
-use Rattle.frames.specs.Check.{framesRejection, rejection}
-use Rattle.frames.specs.results.Alternating.{Alternating, zeroCheck4, zeroFrames, zeroRejection, sideByDepth}
-use Rattle.frames.specs.results.Alternating.{growByDepth, treeByDepth}
+use Rattle.frames.specs.{frames, firstChild, childCount, byte3, sameMover, parentOf, positionOf, depthOf, sideOf}
+use Rattle.frames.specs.{node, treeAt, tree, WellFormed, ChildOf, _andThen_, eachNode, check1, check2, check3}
+use Rattle.frames.specs.{check4, check5, check6, check7, check8, depthsRejection, framesRejection, rejection}
+use Rattle.frames.specs.{Alternating, zeroCheck4, zeroFrames, zeroRejection, sideByDepth, growByDepth}
+use Rattle.frames.specs.{treeByDepth}
 use Rattle.frames.proofs.Parents.{parent-less}
 use Rattle.frames.proofs.Positions.{position-root, position-step, position-child, depth-child}
 use Rattle.frames.proofs.Next.{child-later, child-within}

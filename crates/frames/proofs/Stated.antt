@@ -1,22 +1,12 @@
 -- A question that passes was answered yes, and a node passes questions 4 to 7 exactly when its frame is as stated.
-use Prim.Native.Nat.{ℕ, zero, suc, _<_}
-use native.Mathlib.Omega.{arith}
-use mathlib.Core.Path.{_≡_, refl}
-use mathlib.Core.Logic.{_⊎_, inl, inr, ⊎-elim}
-use mathlib.Core.Bool.{Bool, true, false, _&&_}
-use mathlib.Core.Option.{Option, none, some}
-use mathlib.Core.List.{List}
-use lib.Dec.{ltb, eqb}
-use borrow.Author.Tests.{ltb-true, leb-true, eqb-true, lt-ltb, le-leb, eq-eqb}
-use Rattle.gametree.specs.Tree.{Score}
+use Rattle.prelude.proofs.{ℕ, zero, suc, _<_, arith, _≡_, refl, _⊎_, inl, inr, ⊎-elim, Bool, true, false, _&&_, Option}
+use Rattle.prelude.proofs.{none, some, List, ltb, eqb, ltb-true, leb-true, eqb-true, lt-ltb, le-leb, eq-eqb}
+use Rattle.gametree.specs.{Score}
 use Rattle.lists.proofs.Choice.{clash, or-cases, or-right, and-both}
 use Rattle.frames.specs.declared.Rejection.{Rejection}
-use Rattle.frames.specs.Frame.{firstChild, childCount, byte3, sameMover, valueBytes, storedScore}
-use Rattle.frames.specs.Frame.{next}
-use Rattle.frames.specs.Rejection.{ask, _andThen_}
-use Rattle.frames.specs.Check.{byte3Right, firstChildRight, valueRight, check4, check5, check6, check7}
-use Rattle.frames.specs.Check.{checkNode}
-use Rattle.frames.specs.results.Stated.{FrameAsStated}
+use Rattle.frames.specs.{firstChild, childCount, byte3, sameMover, valueBytes, storedScore, next, ask, _andThen_}
+use Rattle.frames.specs.{byte3Right, firstChildRight, valueRight, check4, check5, check6, check7, checkNode}
+use Rattle.frames.specs.{FrameAsStated}
 
 -- a rejection is not none
 some-none : {r : Rejection} → some r ≡ none → ⊥

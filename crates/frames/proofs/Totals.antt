@@ -1,18 +1,11 @@
 -- What is summed over the tree's nodes is summed over the table's: the nodes from i up to `next t i` wait to be visited
 -- in breadth-first order, and what waits at i is node i and what waits at i + 1.
-use Prim.Native.Nat.{ℕ, zero, suc, _+_, _-_, _≤_, _<_}
-use native.Mathlib.Omega.{arith}
-use mathlib.Core.Path.{_≡_, refl, ap, ap₂, _∙_}
-use mathlib.Core.Bool.{Bool, cond}
-use mathlib.Core.List.{List}
-use Rattle.lists.specs.Lists.{countFrom}
+use Rattle.prelude.proofs.{ℕ, zero, suc, _+_, _-_, _≤_, _<_, arith, _≡_, refl, ap, ap₂, _∙_, Bool, cond, List}
+use Rattle.lists.specs.{countFrom}
 use Rattle.lists.proofs.Counting.{count-next}
-use Rattle.gametree.specs.Tree.{Tree, leaf, inner, Children, last, _then_, size, sizeChildren, leafCount}
-use Rattle.gametree.specs.Tree.{leafCountChildren}
+use Rattle.gametree.specs.{Tree, leaf, inner, Children, last, _then_, size, sizeChildren, leafCount, leafCountChildren}
 use Rattle.gametree_theory.proofs.minimax.Nodes.{size-then}
-use Rattle.frames.specs.Frame.{frames, firstChild, childCount, next}
-use Rattle.frames.specs.Tree.{childrenFrom, treeAt, tree}
-use Rattle.frames.specs.Formed.{WellFormed}
+use Rattle.frames.specs.{frames, firstChild, childCount, next, childrenFrom, treeAt, tree, WellFormed}
 use Rattle.frames.proofs.Next.{next-more, waits}
 use Rattle.frames.proofs.Trees.{zero-or-suc, tree-leaf, tree-inner}
 

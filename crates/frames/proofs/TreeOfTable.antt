@@ -1,20 +1,9 @@
 -- The tree of an accepted table is the one that its frames describe (SPEC 3): laws of `tree`, `treeAt` and
 -- `valuation`, by which they are determined.
-use Prim.Native.Nat.{ℕ, suc, _-_, _≤_, _<_}
-use native.Mathlib.Omega.{arith}
-use native.Mathlib.Decide.{decLt}
-use mathlib.Core.Path.{_≡_, fun-ext}
-use mathlib.Core.Logic.{_↔_}
-use mathlib.Core.List.{List}
-use lib.IntN.{natAbs}
-use lib.ListN.{List·getD-eq-default}
-use Rattle.gametree.specs.Tree.{leaf, inner, number, size, In, Distinct}
-use Rattle.frames.specs.Frame.{frames, byteOf, firstChild, childCount, storedScore}
-use Rattle.frames.specs.Position.{depthOf, sideOf}
-use Rattle.frames.specs.Formed.{ChildOf}
-use Rattle.frames.specs.Value.{valueOf, maxValue, worth, Ordinary}
-use Rattle.frames.specs.Tree.{childrenFrom, treeAt, tree, valuation}
-use Rattle.frames.specs.Check.{Accepted}
+use Rattle.prelude.proofs.{ℕ, suc, _-_, _≤_, _<_, arith, decLt, _≡_, fun-ext, _↔_, List, natAbs, List·getD-eq-default}
+use Rattle.gametree.specs.{leaf, inner, number, size, In, Distinct}
+use Rattle.frames.specs.{frames, byteOf, firstChild, childCount, storedScore, depthOf, sideOf, ChildOf, valueOf}
+use Rattle.frames.specs.{maxValue, worth, Ordinary, childrenFrom, treeAt, tree, valuation, Accepted}
 use Rattle.frames.proofs.Acceptance.{accepted-stated, accepted-formed}
 use Rattle.frames.proofs.Parents.{one-parent, parent-child}
 use Rattle.frames.proofs.Positions.{depth-at-most}

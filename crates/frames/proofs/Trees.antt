@@ -1,17 +1,10 @@
 -- The tree of a table, unfolded at each node: a leaf, or an inner node over its children's trees.
-use Prim.Native.Nat.{ℕ, zero, suc, _+_, _-_, _≤_, _<_}
-use native.Mathlib.Omega.{arith}
-use native.Mathlib.Decide.{decLe}
-use mathlib.Core.Path.{_≡_, refl, ap, ap₂, _∙_}
-use mathlib.Core.Logic.{inl, inr}
-use mathlib.Core.List.{List}
+use Rattle.prelude.proofs.{ℕ, zero, suc, _+_, _-_, _≤_, _<_, arith, decLe, _≡_, refl, ap, ap₂, _∙_, inl, inr, List}
 use Rattle.gametree.specs.declared.Side.{Side}
-use Rattle.gametree.specs.Tree.{Tree, leaf, inner, last, _then_, number, In, InChildren}
+use Rattle.gametree.specs.{Tree, leaf, inner, last, _then_, number, In, InChildren}
 use Rattle.gametree_theory.proofs.certificates.Counting.{kidCount}
-use Rattle.frames.specs.Frame.{frames, firstChild, childCount}
-use Rattle.frames.specs.Position.{sideOf}
-use Rattle.frames.specs.Tree.{childrenFrom, node, grow, treeAt}
-use Rattle.frames.specs.Formed.{WellFormed, ChildOf}
+use Rattle.frames.specs.{frames, firstChild, childCount, sideOf, childrenFrom, node, grow, treeAt, WellFormed}
+use Rattle.frames.specs.{ChildOf}
 use Rattle.frames.proofs.Next.{child-later, child-within}
 
 -- the same trees at each number give the same children

@@ -1,17 +1,8 @@
 -- Scores as signed values.
-use Prim.Native.Nat.{ℕ, suc, _+_, _-_, _^_, _≤_, _<_}
-use native.Mathlib.Omega.{arith}
-use native.Mathlib.Decide.{decLt}
-use mathlib.Core.Path.{_≡_, refl, ap}
-use mathlib.Core.Logic.{_↔_}
-use mathlib.Core.List.{List}
-use lib.Dec.{le→leb}
-use borrow.Author.Tests.{lt-ltb, le-ltb}
-use lib.IntN.{ℤ, pos, negsuc, natAbs, _+ℤ_, _-ℤ_}
-use lib.Signed.{mag, _≤ℤ_}
-use Rattle.gametree.specs.Tree.{Score, zeroScore, greatest}
-use Rattle.frames.specs.Frame.{byteOf, valueBytes, storedScore, twoBytes}
-use Rattle.frames.specs.Value.{valueOf, scoreOf, signed, maxValue}
+use Rattle.prelude.proofs.{ℕ, suc, _+_, _-_, _^_, _≤_, _<_, arith, decLt, _≡_, refl, ap, _↔_, List, le→leb, lt-ltb}
+use Rattle.prelude.proofs.{le-ltb, ℤ, pos, negsuc, natAbs, _+ℤ_, _-ℤ_, mag, _≤ℤ_}
+use Rattle.gametree.specs.{Score, zeroScore, greatest}
+use Rattle.frames.specs.{byteOf, valueBytes, storedScore, twoBytes, valueOf, scoreOf, signed, maxValue}
 
 -- the value of a score takes 16 bits
 pub value-small : (s : ℕ) → s ≤ 64002 → mag (valueOf s) < 2 ^ 15

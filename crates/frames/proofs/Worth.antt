@@ -1,15 +1,8 @@
 -- The worth of a leaf: its score case by case, that the score is that of the worth, and where worths lie.
-use Prim.Native.Nat.{ℕ, zero, suc, _+_, _-_, _≤_, _<_}
-use native.Mathlib.Omega.{arith}
-use native.Mathlib.Decide.{decLt}
-use mathlib.Core.Path.{_≡_, ap, sym, _∙_}
-use mathlib.Core.Logic.{_↔_}
-use lib.IntN.{ℤ, pos, negsuc, natAbs, _+ℤ_, _-ℤ_}
-use borrow.Author.Tests.{le-leb, lt-leb, lt-ltb, le-ltb}
-use Rattle.gametree.specs.Tree.{Score, zeroScore}
-use Rattle.frames.specs.Frame.{maxNodes, maxDepth}
-use Rattle.frames.specs.Value.{valueOf, scoreOf, maxValue, win, worth}
-use Rattle.frames.specs.Tree.{leafScore}
+use Rattle.prelude.proofs.{ℕ, zero, suc, _+_, _-_, _≤_, _<_, arith, decLt, _≡_, ap, sym, _∙_, _↔_, ℤ, pos, negsuc}
+use Rattle.prelude.proofs.{natAbs, _+ℤ_, _-ℤ_, le-leb, lt-leb, lt-ltb, le-ltb}
+use Rattle.gametree.specs.{Score, zeroScore}
+use Rattle.frames.specs.{maxNodes, maxDepth, valueOf, scoreOf, maxValue, win, worth, leafScore}
 use Rattle.frames.proofs.Values.{value-plus, value-below, score-negative, score-back}
 
 -- the scores of 31,000 and -31,000

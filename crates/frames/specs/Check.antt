@@ -11,7 +11,7 @@ use Rattle.frames.specs.declared.Checked.{Checked}
 use Rattle.frames.specs.Frame.{frameSize, maxChildren, maxDepth, frames, firstChild, childCount, byte3, sameMover}
 use Rattle.frames.specs.Frame.{maxTable, valueBytes, storedScore, next}
 use Rattle.frames.specs.Position.{depthOf}
-use Rattle.gametree.specs.Tree.{least, greatest}
+use Rattle.gametree.specs.Trees.{least, greatest}
 use Rattle.frames.specs.Rejection.{ask, _andThen_, eachNode, answer}
 
 -- 1: is there at least one byte?

@@ -2,7 +2,7 @@
 use Prim.Native.Nat.{ℕ, _+_, _≤_, _<_}
 use mathlib.Core.Path.{_≡_}
 use mathlib.Core.List.{List}
-use Rattle.gametree.specs.Tree.{Score}
+use Rattle.gametree.specs.Trees.{Score}
 use Rattle.frames.specs.Frame.{maxNodes, frames, firstChild, childCount, storedScore, next}
 
 -- a tree of 1 to 4,096 nodes in breadth-first order, with scores in range

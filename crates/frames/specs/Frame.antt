@@ -3,7 +3,7 @@
 use Prim.Native.Nat.{ℕ, zero, suc, _+_, _*_, _/_, _%_}
 use mathlib.Core.List.{List}
 use lib.ListN.{length, getD}
-use Rattle.gametree.specs.Tree.{zeroScore}
+use Rattle.gametree.specs.Trees.{zeroScore}
 
 -- the limits (SPEC 3.2)
 abbrev pub frameSize : ℕ

@@ -6,7 +6,7 @@ use lib.Dec.{ltb, leb, eqb}
 use Rattle.gametree.specs.declared.Position.{Position}
 use Rattle.gametree.specs.declared.Side.{Side}
 use Rattle.gametree.specs.declared.Side.the-variants.{Max}
-use Rattle.gametree.specs.Tree.{other}
+use Rattle.gametree.specs.Trees.{other}
 use Rattle.frames.specs.Frame.{firstChild, childCount, byte3, sameMover}
 
 -- is k one of node i's children, which are consecutive

@@ -2,7 +2,7 @@
 use Prim.Native.Nat.{ℕ, zero, suc, _+_, _-_}
 use mathlib.Core.List.{List, [], _∷_}
 use Rattle.gametree.specs.declared.Side.{Side}
-use Rattle.gametree.specs.Tree.{Tree, leaf, inner, Children, last, _then_}
+use Rattle.gametree.specs.Trees.{Tree, leaf, inner, Children, last, _then_}
 use Rattle.frames.specs.Frame.{frames, firstChild, childCount, storedScore}
 use Rattle.frames.specs.Position.{depthOf, sideOf}
 use Rattle.frames.specs.Value.{valueOf, scoreOf, worth}

@@ -6,7 +6,7 @@ use mathlib.Core.List.{List}
 use lib.Dec.{ltb}
 use lib.IntN.{ℤ, pos, negℤ, natAbs, _+ℤ_, _-ℤ_}
 use lib.Signed.{leZ}
-use Rattle.gametree.specs.Tree.{zeroScore}
+use Rattle.gametree.specs.Trees.{zeroScore}
 use Rattle.frames.specs.Frame.{twoBytes, frames, childCount, storedScore}
 
 -- the value of a score: the score less 32,001, as an integer

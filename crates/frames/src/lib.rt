@@ -5,7 +5,7 @@ use gametree::other;
 ghost use mathlib.Core.Path.{_≡_};
 ghost use Prim.Native.Nat.{_<_, _≤_};
 ghost use lib.IntN.{natAbs};
-ghost use Rattle.gametree.specs.Tree.{greatest, zeroScore};
+ghost use Rattle.gametree.specs.Trees.{greatest, zeroScore};
 ghost use Rattle.frames.specs.Frame.{frameSize, maxNodes, frames, next as nextOf, twoBytes};
 ghost use Rattle.frames.specs.Frame.{byteOf, firstChild, childCount, byte3, valueBytes, storedScore};
 ghost use Rattle.frames.specs.Children.{childrenOf, childrenAt};

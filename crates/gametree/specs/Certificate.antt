@@ -7,9 +7,9 @@ use mathlib.Core.Bool.{Bool, true, false, cond, _||_}
 use mathlib.Core.List.{List, [], _∷_, _++_, foldr, map}
 use lib.Dec.{eqb}
 use Rattle.lists.specs.Lists.{among}
-use Rattle.gametree.specs.Tree.{Side, Max, Min, Tree, leaf, inner, Children, last, _then_, least, greatest}
-use Rattle.gametree.specs.Tree.{other, better}
-use Rattle.gametree.specs.Tree.{minimax, minimaxChildren, number, leaves, EveryLeaf}
+use Rattle.gametree.specs.Trees.{Side, Max, Min, Tree, leaf, inner, Children, last, _then_, least, greatest}
+use Rattle.gametree.specs.Trees.{other, better}
+use Rattle.gametree.specs.Trees.{minimax, minimaxChildren, number, leaves, EveryLeaf}
 use Rattle.gametree.specs.Bounds.{known}
 
 -- are two sides the same

@@ -2,7 +2,7 @@
 use Prim.Native.Nat.{ℕ}
 use mathlib.Core.Bool.{cond}
 use lib.Dec.{eqb}
-use Rattle.gametree.specs.Tree.{Tree, leaf, inner, Children, last, _then_}
+use Rattle.gametree.specs.Trees.{Tree, leaf, inner, Children, last, _then_}
 
 -- the valuation with the score x at the leaf k
 abbrev pub substituted : (ℕ → ℕ) → (k x : ℕ) → ℕ → ℕ

@@ -3,7 +3,7 @@
 use Prim.Native.Nat.{ℕ}
 use mathlib.Core.Bool.{Bool, cond}
 use lib.Dec.{eqb}
-use Rattle.gametree.specs.Tree.{Max, Min, Tree, leaf, inner, Children, last, _then_, minimax, number}
+use Rattle.gametree.specs.Trees.{Max, Min, Tree, leaf, inner, Children, last, _then_, minimax, number}
 use Rattle.gametree.specs.Bounds.{low, high}
 
 -- the number of the first child at which f is v; 0 where there is none

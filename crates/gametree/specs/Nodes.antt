@@ -7,7 +7,7 @@ use mathlib.Core.Option.{Option, none, some}
 use mathlib.Core.List.{List, [], _∷_}
 use lib.Dec.{eqb}
 use Rattle.lists.specs.Lists.{among}
-use Rattle.gametree.specs.Tree.{Side, Tree, leaf, inner, Children, last, _then_, number, nodes}
+use Rattle.gametree.specs.Trees.{Side, Tree, leaf, inner, Children, last, _then_, number, nodes}
 
 -- the root, or a node under a parent, with the parent's side and the next sibling (01: brother)
 pub data Link : Type 0 where

@@ -6,7 +6,7 @@ use mathlib.Core.Bool.{Bool, cond, _||_, _&&_}
 use mathlib.Core.Option.{none, some}
 use mathlib.Core.List.{List, [], _∷_, _++_, map}
 use lib.Dec.{ltb, eqb}
-use Rattle.gametree.specs.Tree.{Max, Min, Tree, leaf, inner, least, greatest, number, size}
+use Rattle.gametree.specs.Trees.{Max, Min, Tree, leaf, inner, least, greatest, number, size}
 use Rattle.gametree.specs.Nodes.{Link, root, under, firstOf, othersOf, subtreeAt, linkIn, aboveIn, leftIn}
 
 -- a state: a node, its status, and its merit; the greatest merit on the list bounds the root's value from above

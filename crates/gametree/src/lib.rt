@@ -2,7 +2,7 @@
 // holds of them is in gametree_theory. The code holds what these and the searches share: two plain types, the
 // opponent, and the better of two scores.
 ghost use mathlib.Core.Path.{_≡_};
-ghost use Rattle.gametree.specs.Tree.{other as otherSide, better as betterOf};
+ghost use Rattle.gametree.specs.Trees.{other as otherSide, better as betterOf};
 
 // Who moves at an inner node.
 pub enum Side {

@@ -1,18 +1,9 @@
 -- Bisection makes at most 16 tests: each halves the distance of the bounds, which is less than 2 ^ 16 at the start.
-use Prim.Native.Nat.{ℕ, zero, suc, _+_, _*_, _^_, _/_, _%_, _≤_, _<_}
-use native.Mathlib.Nat.{mod-lt, div-add-mod'}
-use native.Mathlib.Omega.{arith}
-use mathlib.Core.Path.{_≡_}
-use mathlib.Core.Bool.{Bool, true, false}
-use mathlib.Core.List.{List, [], _∷_, _++_}
-use lib.Dec.{eqb}
-use lib.ListN.{length}
-use borrow.Author.Tests.{eqb-false}
-use Rattle.lists.specs.Lists.{among}
-use Rattle.gametree.specs.Tree.{Tree, leaves, Scored}
-use Rattle.gametree.specs.Bounds.{low, high}
-use Rattle.gametree.specs.Tests.{test}
-use Rattle.gametree.specs.results.Family.{view, chosenTest, TestSearch, drive, searchBy, bisection}
+use Rattle.prelude.proofs.{ℕ, zero, suc, _+_, _*_, _^_, _/_, _%_, _≤_, _<_, mod-lt, div-add-mod', arith, _≡_, Bool}
+use Rattle.prelude.proofs.{true, false, List, [], _∷_, _++_, eqb, length, eqb-false}
+use Rattle.lists.specs.{among}
+use Rattle.gametree.specs.{Tree, leaves, Scored, low, high, test, view, chosenTest, TestSearch, drive, searchBy}
+use Rattle.gametree.specs.{bisection}
 use Rattle.lists.proofs.Choice.{cond-cases}
 use Rattle.lists.proofs.Lists.{among-left}
 use Rattle.gametree_theory.proofs.minimax.Bounds.{low≤, ≤high, low-none}

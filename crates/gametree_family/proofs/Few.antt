@@ -1,20 +1,12 @@
 -- MTD(f) makes at most one test more than there are different scores among the leaves that it evaluates. After a first
 -- answer "below" each test is the score of an evaluated leaf, and they fall; after "not below" the game is mirrored.
-use Prim.Native.Nat.{ℕ, zero, suc, _≤_, _<_, suc-le-suc}
-use native.Mathlib.Nat.{le-trans}
-use native.Mathlib.Omega.{arith}
-use mathlib.Core.Path.{_≡_, refl, _∙_, subst}
-use mathlib.Core.Bool.{Bool, true, false, cond}
-use mathlib.Core.List.{List, [], _∷_, _++_, map}
-use lib.Dec.{leb, eqb}
-use lib.ListN.{length, length-map}
-use borrow.Author.Tests.{eqb-false, leb-true, leb-false, lt-leb}
-use Rattle.lists.specs.Lists.{All, among, different}
-use Rattle.gametree.specs.Tree.{Tree, greatest, minimax, leaves, Scored}
-use Rattle.gametree.specs.Bounds.{low, high}
-use Rattle.gametree_family.specs.Mirror.{mirror, opposite, mirrored, oppositeTest}
-use Rattle.gametree.specs.Tests.{test}
-use Rattle.gametree.specs.results.Family.{view, Strategy, chosenTest, TestSearch, drive, searchBy, mtdFrom}
+use Rattle.prelude.proofs.{ℕ, zero, suc, _≤_, _<_, suc-le-suc, le-trans, arith, _≡_, refl, _∙_, subst, Bool, true}
+use Rattle.prelude.proofs.{false, cond, List, [], _∷_, _++_, map, leb, eqb, length, length-map, eqb-false, leb-true}
+use Rattle.prelude.proofs.{leb-false, lt-leb}
+use Rattle.lists.specs.{All, among, different}
+use Rattle.gametree.specs.{Tree, greatest, minimax, leaves, Scored, low, high, test, view, Strategy, chosenTest}
+use Rattle.gametree.specs.{TestSearch, drive, searchBy, mtdFrom}
+use Rattle.gametree_family.specs.{mirror, opposite, mirrored, oppositeTest}
 use Rattle.lists.proofs.Choice.{cond-cases, true-not-false}
 use Rattle.lists.proofs.Lists.{all-map, all-among, all-at, among-left}
 use Rattle.gametree_theory.proofs.minimax.Bounds.{≤high, low-none, minimax-score}

@@ -1,31 +1,18 @@
 -- MTD(f) in the mirrored game makes the opposite tests, from the opposite guess, and evaluates the same leaves: so its
 -- two ends are each other's mirror images, and what holds of the one holds of the other.
-use Prim.Native.Nat.{ℕ, zero, suc, _+_, _-_, _≤_, _<_, min, max}
-use native.Mathlib.Nat.{le-trans}
-use native.Mathlib.Omega.{arith}
-use mathlib.Core.Path.{_≡_, refl, sym, _∙_, ap, ap₂, subst, fun-ext}
-use mathlib.Core.Logic.{inl, inr}
-use mathlib.Core.Bool.{Bool, true, false, cond, not}
-use mathlib.Core.List.{List, [], _∷_, _++_, map}
-use lib.Dec.{leb, ltb, eqb}
-use lib.ListN.{length}
-use borrow.Author.Tests.{ltb-true, ltb-false, leb-true, leb-false, eqb-true, eqb-false, lt-ltb, le-ltb, le-leb, lt-leb}
-use borrow.Author.Tests.{eq-eqb, ne-eqb}
-use Rattle.lists.specs.Lists.{among}
+use Rattle.prelude.proofs.{ℕ, zero, suc, _+_, _-_, _≤_, _<_, min, max, le-trans, arith, _≡_, refl, sym, _∙_, ap, ap₂}
+use Rattle.prelude.proofs.{subst, fun-ext, inl, inr, Bool, true, false, cond, not, List, [], _∷_, _++_, map, leb, ltb}
+use Rattle.prelude.proofs.{eqb, length, ltb-true, ltb-false, leb-true, leb-false, eqb-true, eqb-false, lt-ltb, le-ltb}
+use Rattle.prelude.proofs.{le-leb, lt-leb, eq-eqb, ne-eqb}
+use Rattle.lists.specs.{among}
 use Rattle.gametree.specs.declared.Side.{Side}
 use Rattle.gametree.specs.declared.Side.the-variants.{Max, Min}
-use Rattle.gametree.specs.Tree.{Tree, leaf, inner, Children, last, _then_, other, least, greatest}
-use Rattle.gametree.specs.Tree.{better, minimax, minimaxChildren, leaves, leavesChildren, In, InChildren, Scored}
-use Rattle.gametree.specs.Tree.{ScoredChildren}
-use Rattle.gametree.specs.Tree.{Distinct, DistinctChildren, Proper}
-use Rattle.gametree.specs.Bounds.{known, low, high}
-use Rattle.gametree.specs.AlphaBeta.{clamp}
-use Rattle.gametree.specs.Mtd.{settles}
-use Rattle.gametree_family.specs.Mirror.{mirror, mirrorChildren, opposite, mirrored, oppositeTest}
-use Rattle.gametree.specs.Tests.{Tested, unopened, passedOn, byBounds, test, testChildren}
-use Rattle.gametree.specs.Mtdf.{equalTest, lastPhase}
-use Rattle.gametree.specs.results.Family.{view, chosenTest, TestSearch, met, tested, drive, searchBy, afterGuess}
-use Rattle.gametree.specs.results.Family.{mtdFrom, decideBy}
+use Rattle.gametree.specs.{Tree, leaf, inner, Children, last, _then_, other, least, greatest, better, minimax}
+use Rattle.gametree.specs.{minimaxChildren, leaves, leavesChildren, In, InChildren, Scored, ScoredChildren, Distinct}
+use Rattle.gametree.specs.{DistinctChildren, Proper, known, low, high, clamp, settles, Tested, unopened, passedOn}
+use Rattle.gametree.specs.{byBounds, test, testChildren, equalTest, lastPhase, view, chosenTest, TestSearch, met}
+use Rattle.gametree.specs.{tested, drive, searchBy, afterGuess, mtdFrom, decideBy}
+use Rattle.gametree_family.specs.{mirror, mirrorChildren, opposite, mirrored, oppositeTest}
 use Rattle.gametree_theory.proofs.minimax.Bounds.{minimax-score}
 use Rattle.gametree_theory.proofs.minimax.Closer.{bounds≤, high≤}
 use Rattle.gametree_theory.proofs.tests.Runs.{search-right}

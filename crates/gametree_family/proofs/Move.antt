@@ -1,18 +1,10 @@
 -- Where the bounds of the evaluated leaves meet, the move that they show leads to a child with the root's value.
-use Prim.Native.Nat.{ℕ}
-use native.Mathlib.Omega.{arith}
-use mathlib.Core.Path.{_≡_, refl}
-use mathlib.Core.Logic.{_⊎_, inl, inr}
-use mathlib.Core.Bool.{Bool, true, false, cond}
-use lib.Dec.{eqb}
-use borrow.Author.Tests.{eqb-true, eqb-false, eq-eqb}
+use Rattle.prelude.proofs.{ℕ, arith, _≡_, refl, _⊎_, inl, inr, Bool, true, false, cond, eqb, eqb-true, eqb-false}
+use Rattle.prelude.proofs.{eq-eqb}
 use Rattle.gametree.specs.declared.Side.{Side}
 use Rattle.gametree.specs.declared.Side.the-variants.{Max, Min}
-use Rattle.gametree.specs.Tree.{Tree, leaf, inner, Children, last, _then_, better, minimax}
-use Rattle.gametree.specs.Tree.{minimaxChildren, number, Scored, ScoredChildren}
-use Rattle.gametree.specs.Bounds.{known, Decided}
-use Rattle.gametree.specs.Certificate.{worst}
-use Rattle.gametree.specs.Move.{firstWith, boundMove}
+use Rattle.gametree.specs.{Tree, leaf, inner, Children, last, _then_, better, minimax, minimaxChildren, number, Scored}
+use Rattle.gametree.specs.{ScoredChildren, known, Decided, worst, firstWith, boundMove}
 use Rattle.gametree_theory.proofs.minimax.Bounds.{low≤, ≤high}
 use Rattle.gametree_theory.proofs.certificates.Solution.{Under, under-refl, under-both}
 

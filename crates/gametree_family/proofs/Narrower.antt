@@ -1,16 +1,9 @@
 -- A narrower window reaches no other leaves.
-use Prim.Native.Nat.{ℕ, _≤_}
-use native.Mathlib.Omega.{arith}
-use mathlib.Core.Path.{_≡_, refl}
-use mathlib.Core.Bool.{true, false}
-use mathlib.Core.List.{List}
-use lib.Dec.{ltb, eqb}
-use borrow.Author.Tests.{ltb-true, lt-ltb, eq-eqb}
-use Rattle.lists.specs.Lists.{among}
+use Rattle.prelude.proofs.{ℕ, _≤_, arith, _≡_, refl, true, false, List, ltb, eqb, ltb-true, lt-ltb, eq-eqb}
+use Rattle.lists.specs.{among}
 use Rattle.gametree.specs.declared.Side.{Side}
 use Rattle.gametree.specs.declared.Side.the-variants.{Max, Min}
-use Rattle.gametree.specs.Tree.{Tree, leaf, inner, Children, last, _then_, minimax}
-use Rattle.gametree.specs.AlphaBeta.{raise, lower, reached, reachedChildren}
+use Rattle.gametree.specs.{Tree, leaf, inner, Children, last, _then_, minimax, raise, lower, reached, reachedChildren}
 use Rattle.lists.proofs.Choice.{cond-cases, or-left}
 use Rattle.lists.proofs.Lists.{all-append, all-map, among-left, among-right}
 use Rattle.gametree_theory.proofs.results.Domination.{Reaches, ReachesChildren}

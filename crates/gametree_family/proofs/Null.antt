@@ -1,20 +1,12 @@
 -- A test of a tree none of whose leaves is evaluated evaluates just what alpha-beta evaluates with the null window.
-use Prim.Native.Nat.{ℕ, suc, _≤_, _<_}
-use native.Mathlib.Omega.{arith}
-use mathlib.Core.Path.{_≡_, refl, sym, _∙_, ap, ap₂}
-use mathlib.Core.Bool.{true, false}
-use mathlib.Core.List.{List, _++_, append-nil}
-use lib.Dec.{leb}
-use borrow.Author.Tests.{leb-true, leb-false, not-true, not-false, lt-ltb, le-ltb, lt-leb}
-use Rattle.lists.specs.Lists.{among}
+use Rattle.prelude.proofs.{ℕ, suc, _≤_, _<_, arith, _≡_, refl, sym, _∙_, ap, ap₂, true, false, List, _++_, append-nil}
+use Rattle.prelude.proofs.{leb, leb-true, leb-false, not-true, not-false, lt-ltb, le-ltb, lt-leb}
+use Rattle.lists.specs.{among}
 use Rattle.gametree.specs.declared.Side.{Side}
 use Rattle.gametree.specs.declared.Side.the-variants.{Max, Min}
-use Rattle.gametree.specs.Tree.{Tree, leaf, inner, Children, last, _then_, least, greatest}
-use Rattle.gametree.specs.Tree.{minimax}
-use Rattle.gametree.specs.Tree.{EveryLeaf, InChildren, Scored, ScoredChildren, Distinct, DistinctChildren}
-use Rattle.gametree.specs.AlphaBeta.{raise, lower, reached, reachedChildren}
-use Rattle.gametree.specs.Mtd.{settles}
-use Rattle.gametree.specs.Tests.{Tested, opened, byBounds, test, testChildren}
+use Rattle.gametree.specs.{Tree, leaf, inner, Children, last, _then_, least, greatest, minimax, EveryLeaf, InChildren}
+use Rattle.gametree.specs.{Scored, ScoredChildren, Distinct, DistinctChildren, raise, lower, reached, reachedChildren}
+use Rattle.gametree.specs.{settles, Tested, opened, byBounds, test, testChildren}
 use Rattle.lists.proofs.Choice.{cond-cases}
 use Rattle.lists.proofs.Lists.{all-map}
 use Rattle.gametree_theory.proofs.alphabeta.Window.{closedChildren}

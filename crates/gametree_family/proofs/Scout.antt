@@ -1,23 +1,15 @@
 -- Scout with memory: it gives the minimax value, the bounds of its leaves meet there, and it evaluates no leaf twice;
 -- but it may evaluate a leaf that alpha-beta does not.
-use Prim.Native.Nat.{ℕ, suc, _≤_}
-use native.Mathlib.Omega.{arith}
-use mathlib.Core.Path.{_≡_, refl, sym, _∙_, ap}
-use mathlib.Core.Bool.{Bool, true, false, cond}
-use mathlib.Core.List.{List, [], _∷_, _++_, append-nil, append-assoc}
-use lib.Dec.{leb, eqb}
-use borrow.Author.Tests.{eqb-true, leb-true, leb-false, not-true, not-false, eq-eqb}
-use Rattle.lists.specs.Lists.{among}
+use Rattle.prelude.proofs.{ℕ, suc, _≤_, arith, _≡_, refl, sym, _∙_, ap, Bool, true, false, cond, List, [], _∷_, _++_}
+use Rattle.prelude.proofs.{append-nil, append-assoc, leb, eqb, eqb-true, leb-true, leb-false, not-true, not-false}
+use Rattle.prelude.proofs.{eq-eqb}
+use Rattle.lists.specs.{among}
 use Rattle.gametree.specs.declared.Side.{Side}
 use Rattle.gametree.specs.declared.Side.the-variants.{Max, Min}
-use Rattle.gametree.specs.Tree.{Tree, leaf, inner, Children, last, _then_, better, minimax}
-use Rattle.gametree.specs.Tree.{minimaxChildren, Scored, ScoredChildren, least, greatest}
-use Rattle.gametree.specs.Bounds.{low, high, Decided}
-use Rattle.gametree.specs.AlphaBeta.{SearchResult, fullWindow}
-use Rattle.gametree.specs.Mtd.{settles}
-use Rattle.gametree.specs.Tests.{Tested, test}
-use Rattle.gametree_family.specs.Scout.{scouted, betterTest, probed, scout, scoutChildren, probeChildren}
-use Rattle.gametree.specs.results.Cases.{Case, valuation, evaluatedWith}
+use Rattle.gametree.specs.{Tree, leaf, inner, Children, last, _then_, better, minimax, minimaxChildren, Scored}
+use Rattle.gametree.specs.{ScoredChildren, least, greatest, low, high, Decided, SearchResult, fullWindow, settles}
+use Rattle.gametree.specs.{Tested, test, Case, valuation, evaluatedWith}
+use Rattle.gametree_family.specs.{scouted, betterTest, probed, scout, scoutChildren, probeChildren}
 use Rattle.lists.proofs.Choice.{cond-cases, true-not-false}
 use Rattle.lists.proofs.Lists.{all-among, among-left, among-right}
 use Rattle.gametree_theory.proofs.minimax.Bounds.{low≤, ≤high}

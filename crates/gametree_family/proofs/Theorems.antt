@@ -1,21 +1,10 @@
 -- The theorems for use on the family of searches made of tests, beyond those that calls need (TestRuns in
 -- gametree_theory).
-use Prim.Native.Nat.{ℕ, suc, _≤_, _<_}
-use native.Mathlib.Omega.{arith}
-use mathlib.Core.Path.{_≡_, refl, sym, _∙_, subst}
-use mathlib.Core.Bool.{true, false}
-use mathlib.Core.List.{[], map}
-use lib.ListN.{length}
-use Rattle.lists.specs.Lists.{All, among, Once, different}
-use Rattle.gametree.specs.Tree.{Tree, least, greatest, minimax, Scored, Proper}
-use Rattle.gametree.specs.Bounds.{Decided}
-use Rattle.gametree.specs.AlphaBeta.{alphaBeta}
-use Rattle.gametree.specs.Move.{boundMove}
-use Rattle.gametree_family.specs.Mirror.{mirror, mirrored, oppositeTest}
-use Rattle.gametree_family.specs.Scout.{scout}
-use Rattle.gametree.specs.Tests.{test}
-use Rattle.gametree.specs.Mtdf.{mtdf}
-use Rattle.gametree.specs.results.Family.{Strategy, searchBy, mtdFrom, rising, bisection}
+use Rattle.prelude.proofs.{ℕ, suc, _≤_, _<_, arith, _≡_, refl, sym, _∙_, subst, true, false, [], map, length}
+use Rattle.lists.specs.{All, among, Once, different}
+use Rattle.gametree.specs.{Tree, least, greatest, minimax, Scored, Proper, Decided, alphaBeta, boundMove, test, mtdf}
+use Rattle.gametree.specs.{Strategy, searchBy, mtdFrom, rising, bisection}
+use Rattle.gametree_family.specs.{mirror, mirrored, oppositeTest, scout}
 use Rattle.gametree_theory.proofs.minimax.Bounds.{every-leaf}
 use Rattle.gametree_theory.proofs.alphabeta.Window.{alphaBeta-evaluated}
 use Rattle.gametree_theory.proofs.Searches.{sssEvaluated}

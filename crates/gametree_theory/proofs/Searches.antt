@@ -1,17 +1,8 @@
 -- The searches, as what they evaluate, and what follows from the leaves of any search.
-use Prim.Native.Nat.{ℕ}
-use mathlib.Core.Path.{_≡_}
-use mathlib.Core.Bool.{true}
-use mathlib.Core.List.{List, map}
-use Rattle.lists.specs.Lists.{All, among, Once}
-use Rattle.gametree.specs.Tree.{Tree, minimax, leaves}
-use Rattle.gametree.specs.Bounds.{Decided}
-use Rattle.gametree.specs.AlphaBeta.{fullWindow}
-use Rattle.gametree.specs.Mtd.{mtd}
-use Rattle.gametree.specs.Sss.{sss}
-use Rattle.gametree.specs.results.Family.{Strategy, decideBy}
-use Rattle.gametree.specs.Certificate.{flag}
-use Rattle.gametree.specs.Move.{rootMove, boundMove}
+use Rattle.prelude.proofs.{ℕ, _≡_, true, List, map}
+use Rattle.lists.specs.{All, among, Once}
+use Rattle.gametree.specs.{Tree, minimax, leaves, Decided, fullWindow, mtd, sss, Strategy, decideBy, flag, rootMove}
+use Rattle.gametree.specs.{boundMove}
 
 -- the leaves that SSS* evaluates, in order
 abbrev pub sssEvaluated : (ℕ → ℕ) → Tree → List ℕ

@@ -1,24 +1,13 @@
 -- The theorems for use on searches made of null-window tests with memory, in the manner of Theorems: each says in one
 -- sentence what it gives. Sections: one test, a search by any strategy, the last phase, MTD(f), its upper end. What no
 -- call needs is in gametree_family.
-use Prim.Native.Nat.{ℕ, suc, _+_, _≤_, _<_}
-use native.Mathlib.Omega.{arith}
-use mathlib.Core.Path.{_≡_, sym, _∙_, ap, ap₂, subst}
-use mathlib.Core.Logic.{_↔_}
-use mathlib.Core.Bool.{Bool, true, false, cond}
-use mathlib.Core.List.{List, [], _++_}
-use lib.ListN.{length, length-append}
-use borrow.Author.Tests.{leb-true, leb-false, le-leb, lt-leb}
-use Rattle.lists.specs.Lists.{All, among, Once}
+use Rattle.prelude.proofs.{ℕ, suc, _+_, _≤_, _<_, arith, _≡_, sym, _∙_, ap, ap₂, subst, _↔_, Bool, true, false, cond}
+use Rattle.prelude.proofs.{List, [], _++_, length, length-append, leb-true, leb-false, le-leb, lt-leb}
+use Rattle.lists.specs.{All, among, Once}
 use Rattle.gametree.specs.declared.Side.the-variants.{Max, Min}
-use Rattle.gametree.specs.Tree.{Tree, least, greatest, minimax, leaves, Scored, Proper}
-use Rattle.gametree.specs.Bounds.{low, high, Decided}
-use Rattle.gametree.specs.AlphaBeta.{alphaBeta, fullWindow}
-use Rattle.gametree.specs.Certificate.{pairLeaves, chosen, flag, Smallest}
-use Rattle.gametree.specs.Move.{rootMove, boundMove}
-use Rattle.gametree.specs.Tests.{test}
-use Rattle.gametree.specs.Mtdf.{lastPhase, mtdf}
-use Rattle.gametree.specs.results.Family.{Strategy, TestSearch, searchBy, mtdFrom, falling, decideBy}
+use Rattle.gametree.specs.{Tree, least, greatest, minimax, leaves, Scored, Proper, low, high, Decided, alphaBeta}
+use Rattle.gametree.specs.{fullWindow, pairLeaves, chosen, flag, Smallest, rootMove, boundMove, test, lastPhase, mtdf}
+use Rattle.gametree.specs.{Strategy, TestSearch, searchBy, mtdFrom, falling, decideBy}
 use Rattle.lists.proofs.Lists.{once-length}
 use Rattle.gametree_theory.proofs.minimax.Bounds.{known-local}
 use Rattle.gametree_theory.proofs.minimax.Moves.{boundMove-local}

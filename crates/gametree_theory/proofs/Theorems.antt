@@ -1,36 +1,20 @@
 -- The theorems for use, on proper trees: distinct node numbers and real scores. Each says in one sentence what it
 -- gives. Sections: bounds, alpha-beta, MTD, SSS*, certificates, the searches together, locality.
-use Prim.Native.Nat.{ℕ, suc, _+_, _*_, _≤_, _<_}
-use native.Mathlib.Nat.{lt-of-le-of-lt}
-use native.Mathlib.Omega.{arith}
-use mathlib.Core.Path.{_≡_, refl, sym, _∙_, ap, ap₂, subst}
-use mathlib.Core.Logic.{_↔_, _⊎_, inl, inr}
-use mathlib.Core.Bool.{Bool, true, false, cond}
-use mathlib.Core.List.{List, [], _∷_, _++_, map}
-use lib.ListN.{length}
-use Rattle.lists.specs.Lists.{All, among, Once, Subsequence, different}
+use Rattle.prelude.proofs.{ℕ, suc, _+_, _*_, _≤_, _<_, lt-of-le-of-lt, arith, _≡_, refl, sym, _∙_, ap, ap₂, subst, _↔_}
+use Rattle.prelude.proofs.{_⊎_, inl, inr, Bool, true, false, cond, List, [], _∷_, _++_, map, length}
+use Rattle.lists.specs.{All, among, Once, Subsequence, different}
 use Rattle.gametree.specs.declared.Side.{Side}
 use Rattle.gametree.specs.declared.Side.the-variants.{Max, Min}
-use Rattle.gametree.specs.Tree.{Tree, leaf, inner, Children, least, greatest, minimax, size}
-use Rattle.gametree.specs.Tree.{leaves}
-use Rattle.gametree.specs.Tree.{leafCount, In, EveryLeaf, Score, Scored, Distinct, Proper}
-use Rattle.gametree.specs.Bounds.{known, low, high, bestOf, Decided}
-use Rattle.gametree.specs.AlphaBeta.{reached, fullWindow}
-use Rattle.gametree.specs.Mtd.{mtd}
-use Rattle.gametree.specs.engine.Memo.{fresh, memoMtd, withoutMemo}
-use Rattle.gametree.specs.Sss.{State, Step, empty, stop, quiet, evaluating, replace, step}
-use Rattle.gametree.specs.Sss.{runFrom, start, sss, ListAfter, afterQuiet, afterEvaluating}
-use Rattle.gametree.specs.engine.Within.{resumed, inFull}
-use Rattle.gametree.specs.results.Family.{Strategy, decideBy}
-use Rattle.gametree.specs.Certificate.{Rule, SolutionTree, solutionValue, Certifies, pairLeaves, chosen}
-use Rattle.gametree.specs.Certificate.{Smallest}
+use Rattle.gametree.specs.{Tree, leaf, inner, Children, least, greatest, minimax, size, leaves, leafCount, In}
+use Rattle.gametree.specs.{EveryLeaf, Score, Scored, Distinct, Proper, known, low, high, bestOf, Decided, reached}
+use Rattle.gametree.specs.{fullWindow, mtd, fresh, memoMtd, withoutMemo, State, Step, empty, stop, quiet, evaluating}
+use Rattle.gametree.specs.{replace, step, runFrom, start, sss, ListAfter, afterQuiet, afterEvaluating, resumed, inFull}
+use Rattle.gametree.specs.{Strategy, decideBy, Rule, SolutionTree, solutionValue, Certifies, pairLeaves, chosen}
+use Rattle.gametree.specs.{Smallest, rootMove, boundMove, unrivalled, Reason}
 use Rattle.gametree_theory.proofs.certificates.Flags.{FlagsCertify}
 use Rattle.gametree_theory.proofs.certificates.Counting.{members, required}
-use Rattle.gametree.specs.Move.{rootMove, boundMove}
 use Rattle.gametree_theory.proofs.Searches.{sssEvaluated, Searched, byAlphaBeta, byMtd, bySss, byTests}
 use Rattle.gametree_theory.proofs.Searches.{Deciding, SameResults}
-use Rattle.gametree.specs.results.ClosedForm.{unrivalled}
-use Rattle.gametree.specs.results.Reason.{Reason}
 use Rattle.lists.proofs.Lists.{all-map, all-among, all-at, once-length, sub-all, sub-once}
 use Rattle.gametree_theory.proofs.minimax.Nodes.{leaves-once}
 use Rattle.gametree_theory.proofs.minimax.Bounds.{minimax-score, minimaxChildren-best}

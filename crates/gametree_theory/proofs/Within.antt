@@ -1,23 +1,12 @@
 -- The theorems for use on SSS* within an allowance of leaves, in the manner of Theorems: each says in one sentence what
 -- it gives. First comes what the run is in terms of the full run's evaluations.
-use Prim.Native.Nat.{ℕ, _-_, _*_, _≤_, _<_}
-use native.Mathlib.Nat.{le-refl, le-of-lt}
-use native.Mathlib.Omega.{arith}
-use mathlib.Core.Path.{_≡_, refl, sym, _∙_, ap, subst}
-use mathlib.Core.Logic.{_↔_, _⊎_, inl, inr, ⊎-elim}
-use mathlib.Core.Bool.{Bool, true, false}
-use mathlib.Core.List.{List, [], _∷_, _++_}
-use lib.ListN.{length, length-append, length-map, take, take-append-drop, drop}
-use lib.Dec.{leb}
-use lib.Seq.{take-all, take-at}
-use borrow.Author.Tests.{leb-true, leb-false}
-use Rattle.lists.specs.Lists.{All, among, Once}
-use Rattle.gametree.specs.Tree.{Tree, greatest, minimax, size, leaves, leafCount, Proper}
-use Rattle.gametree.specs.AlphaBeta.{fullWindow}
-use Rattle.gametree.specs.Bounds.{Decided}
-use Rattle.gametree.specs.Sss.{State, stop, evaluating, step, Evaluation, start, sss}
-use Rattle.gametree.specs.Sss.{ListAfter, atStart, afterEvaluating}
-use Rattle.gametree.specs.engine.Within.{finished, spent, inFull, sssWithin}
+use Rattle.prelude.proofs.{ℕ, _-_, _*_, _≤_, _<_, le-refl, le-of-lt, arith, _≡_, refl, sym, _∙_, ap, subst, _↔_, _⊎_}
+use Rattle.prelude.proofs.{inl, inr, ⊎-elim, Bool, true, false, List, [], _∷_, _++_, length, length-append, length-map}
+use Rattle.prelude.proofs.{take, take-append-drop, drop, leb, take-all, take-at, leb-true, leb-false}
+use Rattle.lists.specs.{All, among, Once}
+use Rattle.gametree.specs.{Tree, greatest, minimax, size, leaves, leafCount, Proper, fullWindow, Decided, State, stop}
+use Rattle.gametree.specs.{evaluating, step, Evaluation, start, sss, ListAfter, atStart, afterEvaluating, finished}
+use Rattle.gametree.specs.{spent, inFull, sssWithin}
 use Rattle.gametree_theory.proofs.Searches.{sssEvaluated, bySss}
 use Rattle.lists.proofs.Choice.{clash}
 use Rattle.lists.proofs.Lists.{all-left, once-left, once-length}

@@ -1,22 +1,13 @@
 -- The table of a graft is accepted exactly if no node of it is too deep: each node stands where its source does, and
 -- each source is some node's.
-use Prim.Native.Nat.{ℕ, _+_, _-_, _≤_, _<_}
-use native.Mathlib.Omega.{arith}
-use mathlib.Core.Path.{_≡_, ap, _∙_}
-use mathlib.Core.List.{List}
-use lib.ListN.{getD}
-use Rattle.frames.specs.Frame.{maxNodes, maxDepth, frames, firstChild, childCount}
-use Rattle.frames.specs.Position.{depthOf}
-use Rattle.frames.specs.Formed.{ChildOf}
-use Rattle.frames.specs.results.Stated.{TableAsStated}
-use Rattle.frames.specs.Check.{Accepted}
+use Rattle.prelude.proofs.{ℕ, _+_, _-_, _≤_, _<_, arith, _≡_, ap, _∙_, List, getD}
+use Rattle.frames.specs.{maxNodes, maxDepth, frames, firstChild, childCount, depthOf, ChildOf, TableAsStated, Accepted}
 use Rattle.frames.proofs.Next.{child-within}
 use Rattle.frames.proofs.Parents.{top-down}
 use Rattle.frames.proofs.Acceptance.{accepted-stated, stated-accepted}
-use Rattle.graft_questions.specs.Questions.{graftSize}
-use Rattle.graft.specs.Sources.{rootFor, sources}
-use Rattle.graft.specs.Table.{graftTable}
-use Rattle.graft_questions.specs.Graftable.{MaxLeaf, Graftable}
+use Rattle.graft_questions.specs.{graftSize, MaxLeaf}
+use Rattle.graft.specs.{rootFor, sources, graftTable}
+use Rattle.graft_questions.specs.Graftable.{Graftable}
 use Rattle.graft.proofs.Joined.{source-cases}
 use Rattle.graft.proofs.Sources.{Fitting, fitting, Source, positionAt, firstIn, countIn, first-stated}
 use Rattle.graft.proofs.Sources.{first-formed}

@@ -1,20 +1,11 @@
 -- The small grafts, computed from the definitions.
-use native.Mathlib.Omega.{arith}
-use mathlib.Core.Path.{_≡_, refl, ap₂}
-use mathlib.Core.List.{map, _++_}
-use Rattle.frames.specs.Frame.{next}
-use Rattle.frames.specs.Position.{parentBefore, positionWithin, positionOf}
-use Rattle.frames.specs.Tree.{upFrom, childrenFrom, grow, treeAt, valuation}
-use Rattle.frames.specs.Rejection.{eachNode}
+use Rattle.prelude.proofs.{arith, _≡_, refl, ap₂, map, _++_}
+use Rattle.frames.specs.{next, parentBefore, positionWithin, positionOf, upFrom, childrenFrom, grow, treeAt, valuation}
+use Rattle.frames.specs.{eachNode, framesRejection, rejection, Accepted, leaves, chain, small}
 use Rattle.frames.specs.declared.Checked.the-variants.{Rejected}
-use Rattle.frames.specs.Check.{framesRejection, rejection, Accepted}
-use Rattle.frames.specs.results.Cases.{leaves, chain, small}
-use Rattle.graft.specs.Sources.{rootFor, base, childSources, breadthFirst}
-use Rattle.graft.specs.Table.{frameAt, laidFrames}
-use Rattle.graft_questions.specs.Questions.{deepest}
-use Rattle.graft.specs.Outcome.{graftOutcome}
-use Rattle.graft.specs.results.Grafted.{valuationFrom, graftValue}
-use Rattle.graft.specs.results.Cases.{pair, chainTo, buffer, given, refused, far, values}
+use Rattle.graft.specs.{rootFor, base, childSources, breadthFirst, frameAt, laidFrames, graftOutcome}
+use Rattle.graft.specs.{valuationFrom, graftValue, pair, chainTo, buffer, given, refused, far, values}
+use Rattle.graft_questions.specs.{deepest}
 use Rattle.graft.proofs.Grafting.{graft-keeps, graft-no-leaf}
 
 -- answers and buffers

@@ -1,34 +1,20 @@
 -- What a call leaves, over the outcome that the contract cites: when it gives a number of nodes, what the table at the
 -- buffer's front is then, and what each rejection means.
-use Prim.Native.Nat.{ℕ, _+_, _-_, _*_, _≤_, _<_}
-use native.Mathlib.Omega.{arith}
-use native.Mathlib.Decide.{decLe}
-use mathlib.Core.Path.{_≡_, sym, ap, subst, _∙_}
-use mathlib.Core.Logic.{⊎-elim}
-use mathlib.Core.Option.{none, some}
-use mathlib.Core.List.{List, _++_}
-use lib.ListN.{length, getD, take, drop}
-use lib.Seq.{take-at, drop-at}
+use Rattle.prelude.proofs.{ℕ, _+_, _-_, _*_, _≤_, _<_, arith, decLe, _≡_, sym, ap, subst, _∙_, ⊎-elim, none, some, List}
+use Rattle.prelude.proofs.{_++_, length, getD, take, drop, take-at, drop-at}
 use Rattle.lists.proofs.Choice.{is-false, clash}
-use Rattle.gametree.specs.Tree.{other, minimax}
-use Rattle.gametree.specs.Graft.{relabelled}
+use Rattle.gametree.specs.{other, minimax, relabelled}
 use Rattle.frames.specs.declared.Rejection.{Rejection}
 use Rattle.frames.specs.declared.Checked.the-variants.{Nodes, Rejected}
-use Rattle.frames.specs.Frame.{frameSize, maxNodes, maxDepth, frames, byteOf, childCount}
-use Rattle.frames.specs.Position.{parentOf, depthOf, sideOf}
-use Rattle.frames.specs.Tree.{tree, valuation}
-use Rattle.frames.specs.Check.{rejection, Accepted}
-use Rattle.frames.specs.Rejection.{answer}
+use Rattle.frames.specs.{frameSize, maxNodes, maxDepth, frames, byteOf, childCount, parentOf, depthOf, sideOf, tree}
+use Rattle.frames.specs.{valuation, rejection, Accepted, answer}
 use Rattle.frames.proofs.Asked.{refused, answer-nodes, answer-rejected, answer-of}
 use Rattle.frames.proofs.Acceptance.{accepted-stated, accepted-formed}
 use Rattle.frames.proofs.Parents.{parent-child}
 use Rattle.frames.proofs.Sides.{mover-other}
-use Rattle.graft_questions.specs.Questions.{graftSize, isMaxLeaf, deepest, leafRejection, graftRejection}
-use Rattle.graft.specs.Sources.{sources}
-use Rattle.graft.specs.Table.{graftTable}
-use Rattle.graft_questions.specs.Graftable.{MaxLeaf, Graftable}
-use Rattle.graft.specs.Outcome.{graftOutcome}
-use Rattle.graft.specs.results.Grafted.{graftTree, graftValue, handed}
+use Rattle.graft_questions.specs.{graftSize, isMaxLeaf, deepest, leafRejection, graftRejection, MaxLeaf}
+use Rattle.graft.specs.{sources, graftTable, graftOutcome, graftTree, graftValue, handed}
+use Rattle.graft_questions.specs.Graftable.{Graftable}
 use Rattle.graft_questions.proofs.Questions.{max-leaf, leaf-max, refusal, no-leaf, too-many, too-deep, too-short}
 use Rattle.graft_questions.proofs.Questions.{all-right, first-refused, second-refused, both-accepted, passed-graftable}
 use Rattle.graft_questions.proofs.Questions.{graftable-deepest}

@@ -1,25 +1,18 @@
 -- The table of a graft, frame by frame: node i has the bytes of its source, and its first child is the next to become
 -- known; so each frame is as SPEC 3 states it.
-use Prim.Native.Nat.{ℕ, zero, suc, _+_, _*_, _-_, _≤_, _<_}
-use native.Mathlib.Omega.{arith}
-use native.Mathlib.Decide.{decLt, ℕ-discrete}
-use mathlib.Core.Path.{_≡_, refl, sym, ap, _∙_}
-use mathlib.Core.Logic.{_⊎_, inl, inr, ⊎-elim}
-use mathlib.Core.List.{List, _++_}
-use lib.ListN.{length, getD, length-append, List·getD-append}
-use lib.Seq.{getD-append-add}
-use Rattle.frames.specs.Frame.{frameSize, frames, byteOf, firstChild, childCount, byte3, next}
-use Rattle.frames.specs.Position.{childPosition, positionOf}
-use Rattle.frames.specs.Formed.{WellFormed}
-use Rattle.frames.specs.results.Stated.{FrameAsStated}
+use Rattle.prelude.proofs.{ℕ, zero, suc, _+_, _*_, _-_, _≤_, _<_, arith, decLt, ℕ-discrete, _≡_, refl, sym, ap, _∙_}
+use Rattle.prelude.proofs.{_⊎_, inl, inr, ⊎-elim, List, _++_, length, getD, length-append, List·getD-append}
+use Rattle.prelude.proofs.{getD-append-add}
+use Rattle.frames.specs.{frameSize, frames, byteOf, firstChild, childCount, byte3, next, childPosition, positionOf}
+use Rattle.frames.specs.{WellFormed, FrameAsStated}
 use Rattle.frames.proofs.Next.{child-within}
 use Rattle.frames.proofs.Parents.{top-down}
 use Rattle.frames.proofs.Positions.{position-root, position-child}
 use Rattle.frames.proofs.Acceptance.{stated-formed}
 use Rattle.frames.proofs.Ranges.{length-up, up-at}
-use Rattle.graft_questions.specs.Questions.{graftSize}
-use Rattle.graft.specs.Sources.{rootFor, childSources, breadthFirst, knownSources, sources}
-use Rattle.graft.specs.Table.{firstNumber, sourceAt, frameAt, laidFrames, graftTable}
+use Rattle.graft_questions.specs.{graftSize}
+use Rattle.graft.specs.{rootFor, childSources, breadthFirst, knownSources, sources, firstNumber, sourceAt}
+use Rattle.graft.specs.{frameAt, laidFrames, graftTable}
 use Rattle.graft.proofs.Listing.{list-kept, list-child}
 use Rattle.graft.proofs.Joined.{source-cases, joined-first, joined-second}
 use Rattle.graft.proofs.Sources.{Fitting, Source, positionAt, firstIn, countIn, source-waits, source-kind}

@@ -1,16 +1,11 @@
 -- A tree listed in breadth-first order. What waits after i nodes, the known nodes from the i-th on, weighs the tree
 -- without i nodes; so the list ends after as many nodes as the tree has, and each node finds its children next in line.
-use Prim.Native.Nat.{ℕ, zero, suc, _+_, _-_, _≤_, _<_}
-use native.Mathlib.Omega.{arith}
-use native.Mathlib.Decide.{decLe, decLt}
-use native.Mathlib.Numerals.{add-one}
-use mathlib.Core.Path.{_≡_, refl, ap, _∙_}
-use mathlib.Core.List.{List, [], _∷_, _++_}
-use lib.ListN.{length, getD, drop, length-append, length-drop, drop-of-length-le, List·getD-append}
-use lib.Seq.{drop-cons, drop-append-le, getD-append-add}
-use Rattle.lists.specs.Lists.{All}
+use Rattle.prelude.proofs.{ℕ, zero, suc, _+_, _-_, _≤_, _<_, arith, decLe, decLt, add-one, _≡_, refl, ap, _∙_, List, []}
+use Rattle.prelude.proofs.{_∷_, _++_, length, getD, drop, length-append, length-drop, drop-of-length-le}
+use Rattle.prelude.proofs.{List·getD-append, drop-cons, drop-append-le, getD-append-add}
+use Rattle.lists.specs.{All}
 use Rattle.lists.proofs.Lists.{all-append}
-use Rattle.graft.specs.Sources.{breadthFirst}
+use Rattle.graft.specs.{breadthFirst}
 
 -- the sum of W over a list
 abbrev pub weight : (ℕ → ℕ) → List ℕ → ℕ

@@ -1,15 +1,11 @@
 -- A node over the trees of consecutive numbers: other numbers, and the same trees elsewhere.
-use Prim.Native.Nat.{ℕ, zero, suc, _+_, _≤_, _<_}
-use native.Mathlib.Omega.{arith}
-use mathlib.Core.Path.{_≡_, refl, ap, ap₂, _∙_}
-use mathlib.Core.List.{List, [], _∷_, map}
-use borrow.Author.Tests.{ne-eqb}
-use Rattle.lists.specs.Lists.{All}
+use Rattle.prelude.proofs.{ℕ, zero, suc, _+_, _≤_, _<_, arith, _≡_, refl, ap, ap₂, _∙_, List, [], _∷_, map, ne-eqb}
+use Rattle.lists.specs.{All}
 use Rattle.gametree.specs.declared.Side.{Side}
-use Rattle.gametree.specs.Tree.{Tree, inner, last, _then_, size, sizeChildren}
-use Rattle.gametree.specs.Graft.{grafted, graftedChildren, relabelled, relabelledChildren}
+use Rattle.gametree.specs.{Tree, inner, last, _then_, size, sizeChildren, grafted, graftedChildren, relabelled}
+use Rattle.gametree.specs.{relabelledChildren}
 use Rattle.gametree_theory.proofs.minimax.Nodes.{size-then}
-use Rattle.frames.specs.Tree.{upFrom, childrenFrom, node}
+use Rattle.frames.specs.{upFrom, childrenFrom, node}
 use Rattle.graft.proofs.Listing.{weight}
 
 -- the same trees from another number on

@@ -1,20 +1,15 @@
 -- The outcome of a call from the answer to its questions: what is written where there are nodes, and the buffer as it
 -- was where there is a rejection.
-use Prim.Native.Nat.{ℕ, _*_, _≤_}
-use mathlib.Core.Path.{_≡_}
-use mathlib.Core.List.{List, _++_}
-use lib.ListN.{length, drop}
+use Rattle.prelude.proofs.{ℕ, _*_, _≤_, _≡_, List, _++_, length, drop}
 use Rattle.frames.specs.declared.Rejection.{Rejection}
 use Rattle.frames.specs.declared.Checked.{Checked}
 use Rattle.frames.specs.declared.Checked.the-variants.{Nodes, Rejected}
-use Rattle.frames.specs.Frame.{frameSize}
-use Rattle.frames.specs.Rejection.{answer, _leaving_}
+use Rattle.frames.specs.{frameSize, answer, _leaving_}
 use Rattle.frames.proofs.Asked.{answer-nodes, answer-rejected}
-use Rattle.graft_questions.specs.Questions.{graftSize, graftRejection}
+use Rattle.graft_questions.specs.{graftSize, graftRejection}
 use Rattle.graft_questions.specs.Graftable.{Graftable}
 use Rattle.graft_questions.proofs.Questions.{passed-graftable}
-use Rattle.graft.specs.Table.{graftTable}
-use Rattle.graft.specs.Outcome.{graftOutcome}
+use Rattle.graft.specs.{graftTable, graftOutcome}
 
 module _ (t : List ℕ) (k : ℕ) (u b : List ℕ) where
   abbrev pub asked : Checked

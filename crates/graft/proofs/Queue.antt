@@ -1,16 +1,11 @@
 -- Numbers stored in the first two bytes of frames: each is read back as the frame's first child, and what is before the
 -- bytes that are written, or behind them, stays.
-use Prim.Native.Nat.{ℕ, suc, _+_, _*_, _-_, _/_, _%_, _≤_, _<_}
-use native.Mathlib.Omega.{arith}
-use native.Mathlib.Decide.{decLt}
-use native.Mathlib.Numerals.{add-one}
-use mathlib.Core.Path.{_≡_, refl, sym, ap, ap₂, _∙_}
-use mathlib.Core.List.{List, [], _∷_, _++_}
-use lib.ListN.{length, getD, take, drop, set, length-append, length-set}
-use lib.Seq.{take-set-le, drop-set-lt, getD-set-same, getD-set-other, getD-take, getD-drop, drop-drop}
-use lib.Seq.{length-take-le, take-at, sets, length-sets, sets-eq}
-use Rattle.frames.specs.Frame.{frameSize, byteOf, firstChild}
-use Rattle.graft.specs.engine.Queue.{withFirst, Queued}
+use Rattle.prelude.proofs.{ℕ, suc, _+_, _*_, _-_, _/_, _%_, _≤_, _<_, arith, decLt, add-one, _≡_, refl, sym, ap, ap₂}
+use Rattle.prelude.proofs.{_∙_, List, [], _∷_, _++_, length, getD, take, drop, set, length-append, length-set}
+use Rattle.prelude.proofs.{take-set-le, drop-set-lt, getD-set-same, getD-set-other, getD-take, getD-drop, drop-drop}
+use Rattle.prelude.proofs.{length-take-le, take-at, sets, length-sets, sets-eq}
+use Rattle.frames.specs.{frameSize, byteOf, firstChild}
+use Rattle.graft.specs.{withFirst, Queued}
 
 -- stores change nothing before them, and nothing behind them
 take-sets : (vs b : List ℕ) (i n : ℕ) → n ≤ i → take n (sets b i vs) ≡ take n b

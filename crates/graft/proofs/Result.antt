@@ -1,23 +1,15 @@
 -- The tree of the result, numbered by its sources, is the grafted tree; so its value is that of the first tree with the
 -- leaf's score replaced by the second tree's value, depths counted in the result.
-use Prim.Native.Nat.{ℕ, _+_, _<_}
-use native.Mathlib.Omega.{arith}
-use mathlib.Core.Path.{_≡_, sym, ap, ap₂, _∙_}
-use mathlib.Core.List.{List, _++_}
-use lib.ListN.{getD}
-use Rattle.gametree.specs.Tree.{minimax}
-use Rattle.gametree.specs.Graft.{relabelled, substituted}
+use Rattle.prelude.proofs.{ℕ, _+_, _<_, arith, _≡_, sym, ap, ap₂, _∙_, List, _++_, getD}
+use Rattle.gametree.specs.{minimax, relabelled, substituted}
 use Rattle.gametree_theory.proofs.minimax.Grafts.{graft-value, relabelled-value, minimax-same}
-use Rattle.frames.specs.Frame.{frames, firstChild, childCount, storedScore}
-use Rattle.frames.specs.Position.{depthOf, sideOf}
-use Rattle.frames.specs.Tree.{node, treeAt, tree, valuation, leafScore}
+use Rattle.frames.specs.{frames, firstChild, childCount, storedScore, depthOf, sideOf, node, treeAt, tree, valuation}
+use Rattle.frames.specs.{leafScore}
 use Rattle.frames.proofs.Parents.{bottom-up}
 use Rattle.frames.proofs.Trees.{tree-node}
 use Rattle.frames.proofs.Proper.{every-leaf}
-use Rattle.graft_questions.specs.Questions.{graftSize}
-use Rattle.graft.specs.Sources.{rootFor, sources}
-use Rattle.graft.specs.Table.{graftTable}
-use Rattle.graft.specs.results.Grafted.{graftTree, valuationFrom, graftValue}
+use Rattle.graft_questions.specs.{graftSize}
+use Rattle.graft.specs.{rootFor, sources, graftTable, graftTree, valuationFrom, graftValue}
 use Rattle.graft.proofs.Nodes.{node-shifted, relabelled-node}
 use Rattle.graft.proofs.Joined.{joined-first, joined-second}
 use Rattle.graft.proofs.Sources.{Fitting, first-stated, first-formed, second-formed, treeOf, positionAt, firstIn}

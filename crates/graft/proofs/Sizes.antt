@@ -1,22 +1,14 @@
 -- The size of a grafted tree: that of both trees without the leaf.
-use Prim.Native.Nat.{ℕ, zero, suc, _+_, _≤_, _<_}
-use native.Mathlib.Omega.{arith}
-use native.Mathlib.Decide.{decLt, ℕ-discrete}
-use mathlib.Core.Path.{_≡_, refl, ap, ap₂, _∙_}
-use mathlib.Core.Bool.{cond}
-use mathlib.Core.List.{List}
-use lib.Dec.{eqb}
-use borrow.Author.Tests.{eq-eqb, ne-eqb}
-use Rattle.gametree.specs.Tree.{Tree, leaf, inner, Children, last, _then_, size, sizeChildren}
-use Rattle.gametree.specs.Graft.{grafted, graftedChildren, relabelled}
+use Rattle.prelude.proofs.{ℕ, zero, suc, _+_, _≤_, _<_, arith, decLt, ℕ-discrete, _≡_, refl, ap, ap₂, _∙_, cond, List}
+use Rattle.prelude.proofs.{eqb, eq-eqb, ne-eqb}
+use Rattle.gametree.specs.{Tree, leaf, inner, Children, last, _then_, size, sizeChildren, grafted, graftedChildren}
+use Rattle.gametree.specs.{relabelled}
 use Rattle.gametree_theory.proofs.minimax.Nodes.{size-then}
 use Rattle.gametree_theory.proofs.minimax.Grafts.{relabelled-size}
-use Rattle.frames.specs.Frame.{frames, childCount}
-use Rattle.frames.specs.Tree.{tree}
-use Rattle.frames.specs.Formed.{WellFormed}
+use Rattle.frames.specs.{frames, childCount, tree, WellFormed}
 use Rattle.frames.proofs.Totals.{total, totalChildren, sumTo, atNode, tree-total, tree-size}
-use Rattle.graft_questions.specs.Questions.{graftSize}
-use Rattle.graft.specs.results.Grafted.{graftTree}
+use Rattle.graft_questions.specs.{graftSize}
+use Rattle.graft.specs.{graftTree}
 
 -- a node of a tree in which the leaf k counts for m nodes
 abbrev weightOf : ℕ → ℕ → ℕ → ℕ

@@ -1,32 +1,18 @@
 -- The tree at each source of a graft and the place of each, from those of the two tables; and the sources are listed in
 -- breadth-first order, as many as both tables have nodes but the leaf.
-use Prim.Native.Nat.{ℕ, _+_, _-_, _≤_, _<_}
-use native.Mathlib.Omega.{arith}
-use native.Mathlib.Decide.{ℕ-discrete}
-use mathlib.Core.Path.{_≡_, refl, sym, ap, ap₂, _∙_}
-use mathlib.Core.Logic.{⊎-elim}
-use mathlib.Core.Bool.{cond}
-use mathlib.Core.List.{List, _++_}
-use lib.Dec.{ltb}
-use lib.ListN.{length, getD}
-use borrow.Author.Tests.{lt-ltb, le-ltb, eq-eqb, ne-eqb}
+use Rattle.prelude.proofs.{ℕ, _+_, _-_, _≤_, _<_, arith, ℕ-discrete, _≡_, refl, sym, ap, ap₂, _∙_, ⊎-elim, cond, List}
+use Rattle.prelude.proofs.{_++_, ltb, length, getD, lt-ltb, le-ltb, eq-eqb, ne-eqb}
 use Rattle.gametree.specs.declared.Position.{Position}
-use Rattle.gametree.specs.Tree.{Tree, leaf, size}
-use Rattle.gametree.specs.Graft.{grafted, relabelled}
-use Rattle.frames.specs.Frame.{maxNodes, frames, firstChild, childCount, byte3}
-use Rattle.frames.specs.Position.{rootPosition, childPosition, positionOf, depthOf, sideOf}
-use Rattle.frames.specs.Tree.{upFrom, node, treeAt, tree}
-use Rattle.frames.specs.Formed.{WellFormed, ChildOf}
-use Rattle.frames.specs.Check.{Accepted}
-use Rattle.frames.specs.results.Stated.{TableAsStated}
+use Rattle.gametree.specs.{Tree, leaf, size, grafted, relabelled}
+use Rattle.frames.specs.{maxNodes, frames, firstChild, childCount, byte3, rootPosition, childPosition, positionOf}
+use Rattle.frames.specs.{depthOf, sideOf, upFrom, node, treeAt, tree, WellFormed, ChildOf, Accepted, TableAsStated}
 use Rattle.frames.proofs.Next.{child-within}
 use Rattle.frames.proofs.Acceptance.{accepted-stated, accepted-formed}
 use Rattle.frames.proofs.Positions.{position-root, position-child}
 use Rattle.frames.proofs.Trees.{tree-node, tree-leaf, node-same}
-use Rattle.graft_questions.specs.Questions.{graftSize}
-use Rattle.graft.specs.Sources.{rootFor, base, childSources, knownSources, sources}
-use Rattle.graft_questions.specs.Graftable.{MaxLeaf, Graftable}
-use Rattle.graft.specs.results.Grafted.{graftTree}
+use Rattle.graft_questions.specs.{graftSize, MaxLeaf}
+use Rattle.graft.specs.{rootFor, base, childSources, knownSources, sources, graftTree}
+use Rattle.graft_questions.specs.Graftable.{Graftable}
 use Rattle.graft.proofs.Sizes.{graft-size}
 use Rattle.graft.proofs.Listing.{Weighs, waits, kind, list-all}
 use Rattle.graft.proofs.Nodes.{node-shifted, relabelled-node, grafted-node, node-size, weight-map, all-up}

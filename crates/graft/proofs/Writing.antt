@@ -1,22 +1,13 @@
 -- The loop that writes the result: before node i the frames of the nodes before it are laid, the known nodes from i on
 -- have their sources in their frames, and what is behind these is as it was.
-use Prim.Native.Nat.{ℕ, _+_, _*_, _-_, _/_, _%_, _≤_, _<_}
-use native.Mathlib.Omega.{arith}
-use native.Mathlib.Decide.{decLt}
-use native.Mathlib.Numerals.{add-one}
-use mathlib.Core.Path.{_≡_, refl, sym, ap, ap₂, _∙_}
-use mathlib.Core.Bool.{cond}
-use mathlib.Core.List.{List, [], _∷_, _++_}
-use lib.Dec.{eqb}
-use lib.ListN.{length, getD, take, drop, take-append-drop}
-use lib.Seq.{sets, length-sets, take-take}
-use Rattle.frames.specs.Frame.{frameSize, twoBytes, frames, firstChild}
+use Rattle.prelude.proofs.{ℕ, _+_, _*_, _-_, _/_, _%_, _≤_, _<_, arith, decLt, add-one, _≡_, refl, sym, ap, ap₂, _∙_}
+use Rattle.prelude.proofs.{cond, List, [], _∷_, _++_, eqb, length, getD, take, drop, take-append-drop, sets}
+use Rattle.prelude.proofs.{length-sets, take-take}
+use Rattle.frames.specs.{frameSize, twoBytes, frames, firstChild}
 use Rattle.frames.proofs.Ranges.{up-at}
-use Rattle.graft_questions.specs.Questions.{graftSize}
-use Rattle.graft.specs.Sources.{rootFor, childSources, breadthFirst, knownSources}
-use Rattle.graft.specs.Table.{firstNumber, renumbered, sourceAt, frameAt, laidFrames, graftTable}
-use Rattle.graft.specs.engine.Joined.{Joined}
-use Rattle.graft.specs.engine.Queue.{withFirst, Queued}
+use Rattle.graft_questions.specs.{graftSize}
+use Rattle.graft.specs.{rootFor, childSources, breadthFirst, knownSources, firstNumber, renumbered, sourceAt}
+use Rattle.graft.specs.{frameAt, laidFrames, graftTable, Joined, withFirst, Queued}
 use Rattle.graft.proofs.Listing.{length-more, list-kept, list-child}
 use Rattle.graft.proofs.Sources.{Fitting, Source, first-stated, second-stated, firstIn, countIn}
 use Rattle.graft.proofs.Sources.{graft-some, source-child, source-waits, source-kind, sources-all}

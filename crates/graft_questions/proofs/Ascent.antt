@@ -1,21 +1,14 @@
 -- The way up from a node to the root. A node's parent is sought from right to left among the nodes before it. Its
 -- position is put together from that of a node above it and the one that it would have if that node were the root.
-use Prim.Native.Nat.{ℕ, zero, suc, _+_, _≤_, _<_}
-use native.Mathlib.Omega.{arith}
-use native.Mathlib.Decide.{decLt}
-use mathlib.Core.Path.{_≡_, refl, sym, ap, _∙_}
-use mathlib.Core.Bool.{Bool, true, false, cond}
-use mathlib.Core.List.{List}
-use lib.Dec.{leb, ltb, eqb}
-use borrow.Author.Tests.{leb-true, ltb-true}
+use Rattle.prelude.proofs.{ℕ, zero, suc, _+_, _≤_, _<_, arith, decLt, _≡_, refl, sym, ap, _∙_, Bool, true, false, cond}
+use Rattle.prelude.proofs.{List, leb, ltb, eqb, leb-true, ltb-true}
 use Rattle.lists.proofs.Choice.{and-both, true-not-false}
 use Rattle.gametree.specs.declared.Position.{Position}
 use Rattle.gametree.specs.declared.Side.{Side}
 use Rattle.gametree.specs.declared.Side.the-variants.{Max, Min}
-use Rattle.gametree.specs.Tree.{other}
-use Rattle.frames.specs.Frame.{frames, firstChild, childCount, byte3, sameMover}
-use Rattle.frames.specs.Position.{isChild, parentOf, rootPosition, childPosition, positionOf}
-use Rattle.frames.specs.Formed.{WellFormed}
+use Rattle.gametree.specs.{other}
+use Rattle.frames.specs.{frames, firstChild, childCount, byte3, sameMover, isChild, parentOf, rootPosition}
+use Rattle.frames.specs.{childPosition, positionOf, WellFormed}
 use Rattle.frames.proofs.Parents.{child-test, parent-less, parent-is, parent-child}
 use Rattle.frames.proofs.Positions.{position-root, position-step, depth-at-most}
 

@@ -1,17 +1,11 @@
 -- The greatest depth of a table's nodes is that of the last one: in breadth-first order a later node's parent is no
 -- earlier, so a later node is no higher.
-use Prim.Native.Nat.{ℕ, zero, suc, _+_, _-_, _≤_, _<_}
-use native.Mathlib.Omega.{arith}
-use native.Mathlib.Decide.{decLt}
-use mathlib.Core.Path.{_≡_, ap}
-use mathlib.Core.List.{List}
-use Rattle.frames.specs.Frame.{frames}
-use Rattle.frames.specs.Position.{parentOf, depthOf}
-use Rattle.frames.specs.Formed.{WellFormed}
+use Rattle.prelude.proofs.{ℕ, zero, suc, _+_, _-_, _≤_, _<_, arith, decLt, _≡_, ap, List}
+use Rattle.frames.specs.{frames, parentOf, depthOf, WellFormed}
 use Rattle.frames.proofs.Next.{next-mono, child-next}
 use Rattle.frames.proofs.Parents.{parent-less, parent-child}
 use Rattle.frames.proofs.Positions.{position-root, depth-child}
-use Rattle.graft_questions.specs.Questions.{deepest}
+use Rattle.graft_questions.specs.{deepest}
 
 -- no node is deeper
 pub deepest-at : (t : List ℕ) (v n : ℕ) → v < n → depthOf t v ≤ deepest t n

@@ -1,25 +1,17 @@
 -- The questions of a graft: one law for each answer, and what holds once all have passed.
-use Prim.Native.Nat.{ℕ, _+_, _*_, _-_, _≤_, _<_}
-use native.Mathlib.Omega.{arith}
-use mathlib.Core.Path.{_≡_, refl}
-use mathlib.Core.Bool.{true, false, _&&_}
-use mathlib.Core.Option.{none, some}
-use mathlib.Core.List.{List}
-use lib.Dec.{ltb, leb, eqb}
-use borrow.Author.Tests.{lt-ltb, le-leb, lt-leb, eq-eqb, ltb-true, leb-true, eqb-true}
+use Rattle.prelude.proofs.{ℕ, _+_, _*_, _-_, _≤_, _<_, arith, _≡_, refl, true, false, _&&_, none, some, List, ltb, leb}
+use Rattle.prelude.proofs.{eqb, lt-ltb, le-leb, lt-leb, eq-eqb, ltb-true, leb-true, eqb-true}
 use Rattle.lists.proofs.Choice.{and-both, true-not-false}
 use Rattle.gametree.specs.declared.Side.{Side}
 use Rattle.gametree.specs.declared.Side.the-variants.{Max, Min}
-use Rattle.gametree.specs.Certificate.{same}
+use Rattle.gametree.specs.{same}
 use Rattle.frames.specs.declared.Rejection.{Rejection}
-use Rattle.frames.specs.Frame.{frameSize, maxNodes, maxDepth, frames, childCount}
-use Rattle.frames.specs.Position.{depthOf, sideOf}
-use Rattle.frames.specs.Check.{rejection, Accepted}
+use Rattle.frames.specs.{frameSize, maxNodes, maxDepth, frames, childCount, depthOf, sideOf, rejection, Accepted}
 use Rattle.frames.proofs.Stated.{ask-yes, both-passed}
 use Rattle.frames.proofs.Acceptance.{accepted-formed}
-use Rattle.graft_questions.specs.Questions.{graftSize, isMaxLeaf, deepest, check17, check18, graftCheck10}
-use Rattle.graft_questions.specs.Questions.{leafRejection, graftRejection}
-use Rattle.graft_questions.specs.Graftable.{MaxLeaf, Graftable}
+use Rattle.graft_questions.specs.{graftSize, isMaxLeaf, deepest, check17, check18, graftCheck10, leafRejection}
+use Rattle.graft_questions.specs.{graftRejection, MaxLeaf}
+use Rattle.graft_questions.specs.Graftable.{Graftable}
 use Rattle.graft_questions.proofs.Heights.{deepest-at, deepest-most}
 
 same-max : (s : Side) → same s Max ≡ true → s ≡ Max

@@ -1,9 +1,6 @@
 -- How many bytes were read, taken out of the answer that holds it.
-use Prim.Native.Nat.{ℕ, _≤_}
-use mathlib.Core.Path.{_≡_, subst}
-use mathlib.Core.List.{List}
-use lib.ListN.{length}
-use Rattle.input.specs.Input.{InputFits}
+use Rattle.prelude.proofs.{ℕ, _≤_, _≡_, subst, List, length}
+use Rattle.input.specs.{InputFits}
 use Rattle.input.specs.declared.Input.{Input}
 use Rattle.input.specs.declared.Input.the-variants.{Bytes}
 

@@ -1,2 +1,3 @@
 -- Definitions of what reading the input promises.
 pub mod Input
+pub use Input.{InputFits}

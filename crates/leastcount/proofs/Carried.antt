@@ -1,12 +1,7 @@
 -- A table that is the ruled one as a whole has the rule's count at each entry.
-use Prim.Native.Nat.{ℕ, zero, suc, _+_, _-_, _≤_, _<_}
-use native.Mathlib.Omega.{arith}
-use mathlib.Core.Path.{_≡_, ap, ap₂, _∙_}
-use mathlib.Core.List.{List, []}
-use lib.ListN.{getD}
-use Rattle.frames.specs.Frame.{maxChildren, maxDepth}
-use Rattle.leastcount.specs.Rule.{leastCount}
-use Rattle.leastcount.specs.engine.Ruled.{countRow, countRowOf, countRows, ruled}
+use Rattle.prelude.proofs.{ℕ, zero, suc, _+_, _-_, _≤_, _<_, arith, _≡_, ap, ap₂, _∙_, List, [], getD}
+use Rattle.frames.specs.{maxChildren, maxDepth}
+use Rattle.leastcount.specs.{leastCount, countRow, countRowOf, countRows, ruled}
 
 row-at : (w d n k : ℕ) → k < n → getD (countRow w d n) k 0 ≡ leastCount w (d + k)
 row-at w d zero k h = absurd (omega arith)

@@ -1,18 +1,12 @@
 -- The questions of a width and a depth: which "no" is the first, when there is none, and what an answer says of them.
-use Prim.Native.Nat.{ℕ, _≤_, _<_}
-use native.Mathlib.Omega.{arith}
-use mathlib.Core.Path.{_≡_, refl}
-use mathlib.Core.Logic.{_⊎_, inl, inr}
-use mathlib.Core.Option.{Option, none, some}
-use lib.Dec.{ltb}
-use borrow.Author.Tests.{ltb-true, leb-true, lt-ltb, le-leb, lt-leb}
+use Rattle.prelude.proofs.{ℕ, _≤_, _<_, arith, _≡_, refl, _⊎_, inl, inr, Option, none, some, ltb, ltb-true, leb-true}
+use Rattle.prelude.proofs.{lt-ltb, le-leb, lt-leb}
 use Rattle.lists.proofs.Choice.{clash, and-both}
 use Rattle.frames.specs.declared.Rejection.{Rejection}
-use Rattle.frames.specs.Frame.{maxChildren, maxDepth}
-use Rattle.frames.specs.Rejection.{unless}
+use Rattle.frames.specs.{maxChildren, maxDepth, unless}
 use Rattle.frames.proofs.Stated.{ask-yes, both-passed}
 use Rattle.leastcount.specs.declared.Least.the-variants.{Leaves, Rejected}
-use Rattle.leastcount.specs.Answer.{check22, check23, leastRejection}
+use Rattle.leastcount.specs.{check22, check23, leastRejection}
 
 -- a width outside the table, whatever the depth
 pub wrong-width : (w d : ℕ) → (w ≡ 0) ⊎ (maxChildren < w)

@@ -1,32 +1,16 @@
 -- The root's bounds where all leaves but one are known, and the smallest score of that leaf by them.
-use Prim.Native.Nat.{ℕ, _≤_, _<_}
-use native.Mathlib.Omega.{arith}
-use native.Mathlib.Decide.{ℕ-discrete}
-use mathlib.Core.Path.{_≡_, refl, sym, ap, _∙_}
-use mathlib.Core.Bool.{true}
-use mathlib.Core.List.{List}
-use lib.Dec.{ltb, eqb}
-use lib.ListN.{length, getD, set}
-use lib.Seq.{getD-set-same, getD-set-other}
-use borrow.Author.Tests.{ltb-true, eqb-true, eq-eqb, ne-eqb}
+use Rattle.prelude.proofs.{ℕ, _≤_, _<_, arith, ℕ-discrete, _≡_, refl, sym, ap, _∙_, true, List, ltb, eqb, length, getD}
+use Rattle.prelude.proofs.{set, getD-set-same, getD-set-other, ltb-true, eqb-true, eq-eqb, ne-eqb}
 use Rattle.lists.proofs.Choice.{and-both}
-use Rattle.gametree.specs.Tree.{Score, least, greatest, minimax}
-use Rattle.gametree.specs.Graft.{substituted}
+use Rattle.gametree.specs.{Score, least, greatest, minimax, substituted, clamp}
 use Rattle.gametree_theory.proofs.minimax.Grafts.{minimax-same}
 use Rattle.gametree_theory.proofs.minimax.OneLeaf.{low-high, median}
-use Rattle.gametree.specs.AlphaBeta.{clamp}
-use Rattle.frames.specs.Frame.{maxDepth, frames, childCount}
-use Rattle.frames.specs.Position.{depthOf}
-use Rattle.frames.specs.Tree.{tree, valuation, leafScore}
-use Rattle.frames.specs.Formed.{WellFormed}
-use Rattle.frames.specs.Check.{Accepted}
+use Rattle.frames.specs.{maxDepth, frames, childCount, depthOf, tree, valuation, leafScore, WellFormed, Accepted}
 use Rattle.frames.proofs.Acceptance.{accepted-stated}
 use Rattle.frames.proofs.Proper.{every-leaf}
 use Rattle.frames.proofs.Worth.{score-kept}
-use Rattle.certificate_bounds.specs.Marks.{marked}
-use Rattle.certificate_bounds.specs.engine.Bounds.{boundOf}
-use Rattle.leastvalue.specs.LeastValue.{isLeaf, rootScore, smallest}
-use Rattle.leastvalue.specs.engine.Candidates.{firstScore, scoreCount, candidate, held}
+use Rattle.certificate_bounds.specs.{marked, boundOf}
+use Rattle.leastvalue.specs.{isLeaf, rootScore, smallest, firstScore, scoreCount, candidate, held}
 use Rattle.leastvalue.proofs.First.{first-same}
 use Rattle.leastvalue.proofs.Candidates.{candidate-below, candidate-smallest}
 

@@ -1,20 +1,11 @@
 -- Of the scores that reach the wanted one, the smallest is one of four, and they are tried in their order.
-use Prim.Native.Nat.{ℕ, zero, suc, _+_, _-_, _≤_, _<_}
-use native.Mathlib.Omega.{arith}
-use native.Mathlib.Decide.{decLe, decLt}
-use mathlib.Core.Path.{_≡_, refl, sym, _∙_}
-use mathlib.Core.Bool.{Bool, true, false, cond, _&&_}
-use mathlib.Core.Option.{some}
-use lib.Dec.{ltb}
-use borrow.Author.Tests.{ltb-true, lt-ltb, eq-eqb, eqb-true, eqb-false}
+use Rattle.prelude.proofs.{ℕ, zero, suc, _+_, _-_, _≤_, _<_, arith, decLe, decLt, _≡_, refl, sym, _∙_, Bool, true}
+use Rattle.prelude.proofs.{false, cond, _&&_, some, ltb, ltb-true, lt-ltb, eq-eqb, eqb-true, eqb-false}
 use Rattle.lists.proofs.Choice.{cond-cases, is-false, true-not-false, and-both}
-use Rattle.gametree.specs.Tree.{Score, least, greatest}
-use Rattle.gametree.specs.AlphaBeta.{clamp}
-use Rattle.frames.specs.Frame.{maxDepth}
-use Rattle.frames.specs.Tree.{leafScore}
+use Rattle.gametree.specs.{Score, least, greatest, clamp}
+use Rattle.frames.specs.{maxDepth, leafScore}
 use Rattle.frames.proofs.Worth.{won, lost, score-won, score-lost, score-other}
-use Rattle.leastvalue.specs.LeastValue.{firstFrom}
-use Rattle.leastvalue.specs.engine.Candidates.{firstScore, scoreCount, reaches, candidate, held}
+use Rattle.leastvalue.specs.{firstFrom, firstScore, scoreCount, reaches, candidate, held}
 use Rattle.leastvalue.proofs.First.{first-found, none-found}
 
 -- how a score comes to count x at depth d: as a loss, as it is, or as a win

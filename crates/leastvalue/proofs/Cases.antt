@@ -1,22 +1,12 @@
 -- The small cases: the law by the root's two bounds turns the search through all values into four candidates, and these
 -- are computed.
-use Prim.Native.Nat.{ℕ}
-use mathlib.Core.Path.{_≡_, refl, sym, ap, _∙_, fun-ext}
-use mathlib.Core.Option.{Option, none, some}
-use mathlib.Core.List.{List, map}
-use lib.IntN.{ℤ}
+use Rattle.prelude.proofs.{ℕ, _≡_, refl, sym, ap, _∙_, fun-ext, Option, none, some, List, map, ℤ}
 use Rattle.frames.specs.declared.Rejection.{Rejection}
-use Rattle.frames.specs.Frame.{next}
-use Rattle.frames.specs.Position.{depthOf, parentBefore, positionWithin, positionOf}
-use Rattle.frames.specs.Tree.{childrenFrom, grow, treeAt, valuation}
-use Rattle.frames.specs.Rejection.{eachNode, unless}
-use Rattle.frames.specs.Check.{framesRejection, rejection}
-use Rattle.frames.specs.Value.{scoreOf}
+use Rattle.frames.specs.{next, depthOf, parentBefore, positionWithin, positionOf, childrenFrom, grow, treeAt, valuation}
+use Rattle.frames.specs.{eachNode, unless, framesRejection, rejection, scoreOf}
 use Rattle.leastvalue.specs.declared.LeastValue.{LeastValue}
 use Rattle.leastvalue.specs.declared.LeastValue.the-variants.{Rejected}
-use Rattle.leastvalue.specs.LeastValue.{smallest, answerFor, valueRejection, leastValue}
-use Rattle.leastvalue.specs.engine.Candidates.{candidate, held}
-use Rattle.leastvalue.specs.results.Cases.{cases}
+use Rattle.leastvalue.specs.{smallest, answerFor, valueRejection, leastValue, candidate, held, cases}
 use Rattle.leastvalue.proofs.Values.{score-range}
 use Rattle.leastvalue.proofs.Bounds.{low, high, smallest-candidate}
 use Rattle.leastvalue.proofs.Theorems.{asked}

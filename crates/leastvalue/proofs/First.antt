@@ -1,12 +1,7 @@
 -- The first of consecutive numbers that passes a test.
-use Prim.Native.Nat.{ℕ, zero, suc, _+_, _≤_, _<_}
-use native.Mathlib.Omega.{arith}
-use native.Mathlib.Decide.{decLt}
-use mathlib.Core.Path.{_≡_, refl}
-use mathlib.Core.Bool.{Bool, true, false, cond}
-use mathlib.Core.Option.{none, some}
+use Rattle.prelude.proofs.{ℕ, zero, suc, _+_, _≤_, _<_, arith, decLt, _≡_, refl, Bool, true, false, cond, none, some}
 use Rattle.lists.proofs.Choice.{clash}
-use Rattle.leastvalue.specs.LeastValue.{firstFrom}
+use Rattle.leastvalue.specs.{firstFrom}
 
 -- s is the first of the n numbers from i on that passes the test f
 pub record First (f : ℕ → Bool) (i n s : ℕ) : Type 0 where

@@ -1,32 +1,16 @@
 -- What the named leaf held before has no influence: two tables that differ in bytes 4 and 5 of that node alone.
-use Prim.Native.Nat.{ℕ, _<_}
-use native.Mathlib.Omega.{arith}
-use native.Mathlib.Decide.{decLt, ℕ-discrete}
-use mathlib.Core.Path.{_≡_, refl, sym, ap, ap₂, _∙_}
-use mathlib.Core.Bool.{Bool, true, false}
-use mathlib.Core.List.{List}
-use lib.Dec.{eqb}
-use lib.IntN.{ℤ}
-use borrow.Author.Tests.{lt-ltb, le-ltb, eq-eqb, ne-eqb}
-use Rattle.gametree.specs.Tree.{minimax}
-use Rattle.gametree.specs.Graft.{substituted}
+use Rattle.prelude.proofs.{ℕ, _<_, arith, decLt, ℕ-discrete, _≡_, refl, sym, ap, ap₂, _∙_, Bool, true, false, List, eqb}
+use Rattle.prelude.proofs.{ℤ, lt-ltb, le-ltb, eq-eqb, ne-eqb}
+use Rattle.gametree.specs.{minimax, substituted}
 use Rattle.gametree_theory.proofs.minimax.Grafts.{minimax-same}
-use Rattle.frames.specs.Frame.{frames, storedScore}
-use Rattle.frames.specs.Position.{depthOf}
-use Rattle.frames.specs.Tree.{tree, valuation, leafScore}
-use Rattle.frames.specs.Value.{valueOf, scoreOf}
-use Rattle.frames.specs.Formed.{WellFormed}
-use Rattle.frames.specs.Rejection.{unless}
-use Rattle.frames.specs.Check.{Accepted}
-use Rattle.frames.specs.results.Leaf.{Leaf}
+use Rattle.frames.specs.{frames, storedScore, depthOf, tree, valuation, leafScore, valueOf, scoreOf, WellFormed, unless}
+use Rattle.frames.specs.{Accepted, Leaf}
 use Rattle.frames.proofs.Acceptance.{accepted-formed}
 use Rattle.frames.proofs.Proper.{every-leaf}
 use Rattle.frames.proofs.Shapes.{same-position, same-score, same-tree}
 use Rattle.leastvalue.specs.declared.LeastValue.the-variants.{Rejected}
-use Rattle.leastvalue.specs.LeastValue.{isLeaf, check20, rootScore, smallest}
-use Rattle.leastvalue.specs.LeastValue.{answerFor, leastValue}
-use Rattle.leastvalue.specs.engine.Candidates.{firstScore, scoreCount}
-use Rattle.leastvalue.specs.results.Root.{rootValue, SameBut, heldValue}
+use Rattle.leastvalue.specs.{isLeaf, check20, rootScore, smallest, answerFor, leastValue, firstScore, scoreCount}
+use Rattle.leastvalue.specs.{rootValue, SameBut, heldValue}
 use Rattle.leastvalue.proofs.First.{first-same}
 use Rattle.frames.proofs.Values.{score-back}
 use Rattle.leastvalue.proofs.Bounds.{leaf-is}

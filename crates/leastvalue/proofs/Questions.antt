@@ -1,24 +1,12 @@
 -- The questions about a leaf and a wanted value: one law for each answer.
-use Prim.Native.Nat.{ℕ, zero, suc, _≤_, _<_}
-use mathlib.Core.Path.{_≡_, refl, sym, ap, _∙_}
-use mathlib.Core.Bool.{true, false}
-use mathlib.Core.Option.{Option, none, some}
-use mathlib.Core.Logic.{_⊎_, inl, inr}
-use mathlib.Core.List.{List}
-use lib.Dec.{leb, eqb}
-use lib.IntN.{ℤ, natAbs}
-use borrow.Author.Tests.{lt-ltb, le-ltb}
+use Rattle.prelude.proofs.{ℕ, zero, suc, _≤_, _<_, _≡_, refl, sym, ap, _∙_, true, false, Option, none, some, _⊎_, inl}
+use Rattle.prelude.proofs.{inr, List, leb, eqb, ℤ, natAbs, lt-ltb, le-ltb}
 use Rattle.lists.proofs.Choice.{clash}
 use Rattle.frames.specs.declared.Rejection.{Rejection}
-use Rattle.frames.specs.Frame.{frames, childCount}
-use Rattle.frames.specs.Value.{valueOf, scoreOf, maxValue}
-use Rattle.frames.specs.Rejection.{_andThen_, unless}
-use Rattle.frames.specs.Check.{rejection, Accepted}
+use Rattle.frames.specs.{frames, childCount, valueOf, scoreOf, maxValue, _andThen_, unless, rejection, Accepted}
 use Rattle.leastvalue.specs.declared.LeastValue.{LeastValue}
 use Rattle.leastvalue.specs.declared.LeastValue.the-variants.{Value, Rejected}
-use Rattle.leastvalue.specs.LeastValue.{isLeaf, check19, check20, smallest, answerFor}
-use Rattle.leastvalue.specs.LeastValue.{valueRejection, leastValue}
-use Rattle.leastvalue.specs.engine.Candidates.{held}
+use Rattle.leastvalue.specs.{isLeaf, check19, check20, smallest, answerFor, valueRejection, leastValue, held}
 
 -- a "no" to question q, with its place
 abbrev pub refused : ℕ → ℕ → LeastValue

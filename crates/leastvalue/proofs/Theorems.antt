@@ -1,26 +1,12 @@
 -- What the answer says of the root's value, by values.
-use Prim.Native.Nat.{ℕ, _≤_}
-use native.Mathlib.Omega.{arith}
-use mathlib.Core.Path.{_≡_, refl, sym, ap, _∙_}
-use mathlib.Core.Logic.{_↔_}
-use mathlib.Core.Bool.{Bool, true, false}
-use mathlib.Core.Option.{Option, none, some}
-use mathlib.Core.List.{List}
-use lib.Dec.{leb, eqb}
-use lib.IntN.{ℤ, natAbs}
-use lib.Signed.{_<ℤ_}
-use borrow.Author.Tests.{lt-ltb, le-leb, eq-eqb, leb-true, eqb-true}
+use Rattle.prelude.proofs.{ℕ, _≤_, arith, _≡_, refl, sym, ap, _∙_, _↔_, Bool, true, false, Option, none, some, List}
+use Rattle.prelude.proofs.{leb, eqb, ℤ, natAbs, _<ℤ_, lt-ltb, le-leb, eq-eqb, leb-true, eqb-true}
 use Rattle.lists.proofs.Choice.{cond-cases, clash, is-false, true-not-false}
-use Rattle.gametree.specs.Tree.{Score}
+use Rattle.gametree.specs.{Score}
 use Rattle.gametree_theory.proofs.minimax.Bounds.{minimax-score}
 use Rattle.frames.specs.declared.Rejection.{Rejection}
-use Rattle.frames.specs.Frame.{frames, childCount}
-use Rattle.frames.specs.Position.{depthOf}
-use Rattle.frames.specs.Tree.{tree}
-use Rattle.frames.specs.Value.{valueOf, scoreOf, maxValue}
-use Rattle.frames.specs.Rejection.{unless}
-use Rattle.frames.specs.Check.{rejection, Accepted}
-use Rattle.frames.specs.results.Leaf.{Leaf}
+use Rattle.frames.specs.{frames, childCount, depthOf, tree, valueOf, scoreOf, maxValue, unless, rejection, Accepted}
+use Rattle.frames.specs.{Leaf}
 use Rattle.frames.proofs.Stated.{ask-yes, both-passed}
 use Rattle.frames.proofs.Acceptance.{accepted-formed}
 use Rattle.frames.proofs.Values.{value-range, score-back}
@@ -28,10 +14,8 @@ use Rattle.frames.proofs.Proper.{every-leaf, leaf-scored}
 use Rattle.frames.proofs.Worth.{score-kept}
 use Rattle.leastvalue.specs.declared.LeastValue.{LeastValue}
 use Rattle.leastvalue.specs.declared.LeastValue.the-variants.{Value, Rejected}
-use Rattle.leastvalue.specs.LeastValue.{isLeaf, check19, check20, rootScore, smallest}
-use Rattle.leastvalue.specs.LeastValue.{answerFor, valueRejection, leastValue}
-use Rattle.leastvalue.specs.engine.Candidates.{firstScore, scoreCount}
-use Rattle.leastvalue.specs.results.Root.{rootValue}
+use Rattle.leastvalue.specs.{isLeaf, check19, check20, rootScore, smallest, answerFor, valueRejection, leastValue}
+use Rattle.leastvalue.specs.{firstScore, scoreCount, rootValue}
 use Rattle.leastvalue.proofs.First.{found-first, found-none, none-found}
 use Rattle.leastvalue.proofs.Values.{score-range, score-value, same-scores, smaller}
 use Rattle.leastvalue.proofs.Bounds.{leaf-is, leaf-shallow}

@@ -1,16 +1,10 @@
 -- Values as scores: a value's range, its score, and the order of both.
-use Prim.Native.Nat.{ℕ, suc, _+_, _-_, _≤_, _<_}
-use native.Mathlib.Omega.{arith}
-use native.Mathlib.Decide.{decLe, decLt}
-use mathlib.Core.Path.{_≡_, refl, sym, ap, _∙_}
-use mathlib.Core.Bool.{true, false}
-use lib.Dec.{leb}
-use lib.IntN.{ℤ, pos, negsuc, negℤ, natAbs}
-use lib.Signed.{ltZ, leZ, _<ℤ_, clashℤ}
-use borrow.Author.Tests.{le-ltb, le-leb, lt-leb, ltb-true, ltb-false}
+use Rattle.prelude.proofs.{ℕ, suc, _+_, _-_, _≤_, _<_, arith, decLe, decLt, _≡_, refl, sym, ap, _∙_, true, false, leb}
+use Rattle.prelude.proofs.{ℤ, pos, negsuc, negℤ, natAbs, ltZ, leZ, _<ℤ_, clashℤ, le-ltb, le-leb, lt-leb, ltb-true}
+use Rattle.prelude.proofs.{ltb-false}
 use Rattle.lists.proofs.Choice.{true-not-false}
-use Rattle.gametree.specs.Tree.{Score, zeroScore}
-use Rattle.frames.specs.Value.{valueOf, scoreOf, maxValue}
+use Rattle.gametree.specs.{Score, zeroScore}
+use Rattle.frames.specs.{valueOf, scoreOf, maxValue}
 use Rattle.frames.proofs.Values.{value-order, value-plus, value-below, score-back}
 
 -- a value above the range is out of it

@@ -21,7 +21,7 @@ ghost use mathlib.Core.Bool.{true};
 ghost use lib.Dec.{leb};
 ghost use lib.IntN.{natAbs};
 ghost use lib.ListN.{length, getD};
-ghost use Rattle.gametree.specs.Tree.{greatest, Score};
+ghost use Rattle.gametree.specs.Trees.{greatest, Score};
 ghost use Rattle.frames.specs.Frame.{maxDepth, frames};
 ghost use Rattle.frames.specs.Value.{scoreOf, maxValue};
 ghost use Rattle.frames.specs.Check.{Accepted};

@@ -1,9 +1,6 @@
 -- How many numbers of a range are in a set, counted from the left, one after the other.
-use Prim.Native.Nat.{ℕ, zero, suc, _+_, _-_, _≤_, _<_}
-use native.Mathlib.Omega.{arith}
-use mathlib.Core.Path.{_≡_, ap, _∙_}
-use mathlib.Core.Bool.{Bool, true, false, cond}
-use Rattle.lists.specs.Lists.{countFrom}
+use Rattle.prelude.proofs.{ℕ, zero, suc, _+_, _-_, _≤_, _<_, arith, _≡_, ap, _∙_, Bool, true, false, cond}
+use Rattle.lists.specs.{countFrom}
 
 -- a choice of 1 or 0 is at most 1
 pub one-most : (b : Bool) → cond b 1 0 ≤ 1

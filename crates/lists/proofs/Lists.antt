@@ -1,14 +1,7 @@
 -- Facts of every element of a list, and the set of a list's elements.
-use Prim.Native.Nat.{ℕ, suc, _≤_}
-use native.Mathlib.Omega.{arith}
-use mathlib.Core.Path.{_≡_, refl, sym, _∙_, ap, subst}
-use mathlib.Core.Logic.{⊎-elim}
-use mathlib.Core.Bool.{Bool, true, false, cond, _||_, or-assoc}
-use mathlib.Core.List.{List, [], _∷_, _++_}
-use lib.Dec.{eqb}
-use lib.ListN.{length}
-use borrow.Author.Tests.{eqb-true, eq-eqb, ne-eqb}
-use Rattle.lists.specs.Lists.{All, among, Once, Subsequence, end, skip, keep}
+use Rattle.prelude.proofs.{ℕ, suc, _≤_, arith, _≡_, refl, sym, _∙_, ap, subst, ⊎-elim, Bool, true, false, cond, _||_}
+use Rattle.prelude.proofs.{or-assoc, List, [], _∷_, _++_, eqb, length, eqb-true, eq-eqb, ne-eqb}
+use Rattle.lists.specs.{All, among, Once, Subsequence, end, skip, keep}
 use Rattle.lists.proofs.Choice.{true-not-false, or-left, or-right, or-cases}
 
 module _ {ℓ κ} {A : Type ℓ} (P : A → Type κ) where

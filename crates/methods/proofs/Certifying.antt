@@ -1,18 +1,13 @@
 -- From what a method answers, marks and lists to what a call gives and leaves.
-use Prim.Native.Nat.{ℕ}
-use mathlib.Core.Path.{_≡_, refl}
-use mathlib.Core.List.{List, [], _∷_}
-use Rattle.lists.specs.Lists.{among}
-use Rattle.gametree.specs.Sss.{Evaluation}
-use Rattle.frames.specs.Formed.{WellFormed}
-use Rattle.frames.specs.Rejection.{_leaving_}
-use Rattle.certificate.specs.Search.{marksOf, listed}
+use Rattle.prelude.proofs.{ℕ, _≡_, refl, List, [], _∷_}
+use Rattle.lists.specs.{among}
+use Rattle.gametree.specs.{Evaluation}
+use Rattle.frames.specs.{WellFormed, _leaving_}
+use Rattle.certificate.specs.{marksOf, listed}
 use Rattle.certificate.proofs.Concluded.{concluded}
 use Rattle.methods.specs.declared.Method.{Method}
 use Rattle.methods.specs.declared.Answer.{Answer}
-use Rattle.methods.specs.Rules.{evaluatedBy, beyond}
-use Rattle.methods.specs.Outcome.{lent, answerBy, flagsLeft, givenBy}
-use Rattle.methods.specs.engine.Certified.{certifiedFlags}
+use Rattle.methods.specs.{evaluatedBy, beyond, lent, answerBy, flagsLeft, givenBy, certifiedFlags}
 
 module _ (t : List ℕ) (wf : WellFormed t) (m : Method) (b c o : List ℕ) where
   -- what is read off the marks e are the flags of the leaves evaluated

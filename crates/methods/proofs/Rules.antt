@@ -1,31 +1,24 @@
 -- The leaves that a method evaluates are the first of those of a search of the theory; where nothing stops the method,
 -- they are all of them. So the theorems on searches hold of every method.
-use Prim.Native.Nat.{ℕ, _-_, _≤_, _<_}
-use native.Mathlib.Omega.{arith}
-use mathlib.Core.Path.{_≡_, refl, sym, ap, _∙_, subst}
-use mathlib.Core.Bool.{true}
-use mathlib.Core.List.{List, [], _∷_, _++_, append-nil}
-use lib.ListN.{length, take, drop, take-append-drop, length-drop, drop-of-length-le}
-use lib.Seq.{take-all}
-use Rattle.lists.specs.Lists.{All, among, Once}
+use Rattle.prelude.proofs.{ℕ, _-_, _≤_, _<_, arith, _≡_, refl, sym, ap, _∙_, subst, true, List, [], _∷_, _++_}
+use Rattle.prelude.proofs.{append-nil, length, take, drop, take-append-drop, length-drop, drop-of-length-le, take-all}
+use Rattle.lists.specs.{All, among, Once}
 use Rattle.lists.proofs.Lists.{all-left, once-left, all-at, once-length}
-use Rattle.gametree.specs.Tree.{leaves, Proper}
+use Rattle.gametree.specs.{leaves, Proper}
 use Rattle.gametree_theory.proofs.Searches.{Searched, byAlphaBeta, byMtd, bySss, Deciding, sssEvaluated}
 use Rattle.gametree_theory.proofs.minimax.Counts.{once-count}
 use Rattle.gametree_theory.proofs.TestRuns.{mtdf-searched}
 use Rattle.gametree_theory.proofs.Theorems.{alphaBeta-leaves, search-once, search-deciding, domination}
 use Rattle.gametree_theory.proofs.Within.{evaluations-count, full-few}
-use Rattle.frames.specs.Frame.{frames, childCount}
-use Rattle.frames.specs.Tree.{tree, valuation}
-use Rattle.frames.specs.Formed.{WellFormed}
+use Rattle.frames.specs.{frames, childCount, tree, valuation, WellFormed}
 use Rattle.frames.proofs.Totals.{tree-size}
 use Rattle.frames.proofs.Proper.{tree-proper}
-use Rattle.certificate_bounds.specs.Marks.{ones}
-use Rattle.certificate.specs.Search.{marksOf}
+use Rattle.certificate_bounds.specs.{ones}
+use Rattle.certificate.specs.{marksOf}
 use Rattle.certificate.proofs.Marks.{marked-written, evaluated-hold, ones-leaves}
 use Rattle.methods.specs.declared.Method.{Method}
 use Rattle.methods.specs.declared.Method.the-variants.{AlphaBeta, Mtd, MtdFrom, Sss}
-use Rattle.methods.specs.Rules.{decisionOf, startScore, runOf, evaluatedBy, beyond}
+use Rattle.methods.specs.{decisionOf, startScore, runOf, evaluatedBy, beyond}
 
 -- the leaves w are the first of those of a search
 pub record Begun (t w : List ℕ) : Type 0 where

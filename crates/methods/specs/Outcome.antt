@@ -4,7 +4,7 @@ use Prim.Native.Nat.{ℕ}
 use mathlib.Core.Option.{Option}
 use mathlib.Core.List.{List, [], _∷_}
 use lib.ListN.{length}
-use Rattle.gametree.specs.Tree.{minimax}
+use Rattle.gametree.specs.Trees.{minimax}
 use Rattle.gametree.specs.Move.{rootMove}
 use Rattle.gametree.specs.Sss.{Evaluation}
 use Rattle.frames.specs.declared.Rejection.{Rejection}

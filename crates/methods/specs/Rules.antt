@@ -7,7 +7,7 @@ use lib.Dec.{leb}
 use lib.IntN.{ℤ, pos, natAbs}
 use lib.ListN.{take, drop}
 use lib.Signed.{ltZ}
-use Rattle.gametree.specs.Tree.{least, greatest}
+use Rattle.gametree.specs.Trees.{least, greatest}
 use Rattle.gametree.specs.AlphaBeta.{reached}
 use Rattle.gametree.specs.Mtd.{mtd}
 use Rattle.gametree.specs.Mtdf.{Decision, mtdf}

@@ -1,37 +1,24 @@
 -- The run of passes: what the run gives from the present test and memory, after the passes so far, is what MTD gives.
-use Prim.Native.Nat.{ℕ, suc, _+_, _≤_, _<_}
-use native.Mathlib.Omega.{arith}
-use mathlib.Core.Path.{_≡_, refl, sym, ap, ap₂, _∙_, subst}
-use mathlib.Core.Bool.{true, false}
-use mathlib.Core.List.{List, [], _++_, append-assoc}
-use lib.Dec.{eqb}
-use lib.ListN.{getD}
-use Rattle.gametree.specs.Tree.{Tree, greatest}
-use Rattle.gametree.specs.Mtd.{MtdRun, mtd}
-use Rattle.gametree.specs.engine.Memo.{Memo, memoHigh, pass, MemoRun, settled, followed, run, fresh, memoMtd}
-use Rattle.gametree.specs.engine.Memo.{withoutMemo}
+use Rattle.prelude.proofs.{ℕ, suc, _+_, _≤_, _<_, arith, _≡_, refl, sym, ap, ap₂, _∙_, subst, true, false, List, []}
+use Rattle.prelude.proofs.{_++_, append-assoc, eqb, getD}
+use Rattle.gametree.specs.{Tree, greatest, MtdRun, mtd, Memo, memoHigh, pass, MemoRun, settled, followed, run, fresh}
+use Rattle.gametree.specs.{memoMtd, withoutMemo}
 use Rattle.gametree_theory.proofs.mtd.Sound.{Kept, Sound, sound}
 use Rattle.gametree_theory.proofs.mtd.Value.{kept-lower, fresh-kept, fresh-memoHigh}
 use Rattle.gametree_theory.proofs.mtd.MemoArrays.{read-fresh, read-high}
 use Rattle.gametree_theory.proofs.mtd.Memory.{memo-run}
-use Rattle.frames.specs.Frame.{frames, childCount, next}
-use Rattle.frames.specs.Position.{rootPosition}
-use Rattle.frames.specs.Tree.{treeAt, tree, valuation}
-use Rattle.frames.specs.Formed.{WellFormed}
+use Rattle.frames.specs.{frames, childCount, next, rootPosition, treeAt, tree, valuation, WellFormed}
 use Rattle.frames.proofs.Positions.{position-root}
 use Rattle.frames.proofs.Trees.{zero-or-suc}
 use Rattle.frames.proofs.Nodes.{in-own, in-parent, tree-range}
 use Rattle.frames.proofs.Proper.{tree-proper}
-use Rattle.certificate_bounds.specs.Marks.{marked}
-use Rattle.certificate_bounds.specs.engine.Progress.{evaluateAll}
-use Rattle.certificate_bounds.specs.engine.Bounds.{boundOf}
+use Rattle.certificate_bounds.specs.{marked, evaluateAll, boundOf}
 use Rattle.certificate_bounds.proofs.Listing.{ones-none}
-use Rattle.certificate_flags.specs.engine.Chosen.{firstEqual}
+use Rattle.certificate_flags.specs.{firstEqual}
 use Rattle.certificate_flags.proofs.Chosen.{first-same}
 use Rattle.mtd_memory.specs.declared.Tried.{Tried}
-use Rattle.mtd_memory.specs.engine.Memory.{Memory, progressOf, memoOf, passOf, MemoryRoom, HighsRight}
-use Rattle.mtd_memory.specs.engine.Memory.{firstHigh, Counted, VisitReady, Evaluated, Passed, Fresh}
-use Rattle.mtd_memory.specs.engine.Memory.{SkipsRight}
+use Rattle.mtd_memory.specs.{Memory, progressOf, memoOf, passOf, MemoryRoom, HighsRight, firstHigh, Counted, VisitReady}
+use Rattle.mtd_memory.specs.{Evaluated, Passed, Fresh, SkipsRight}
 use Rattle.mtd_memory.proofs.Arrays.{Long, room-kept, evaluated-none, evaluated-more, no-skips}
 
 -- where the highs are right, the first of the root's children whose high is the root's is the one that the marks give

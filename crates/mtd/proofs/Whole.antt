@@ -1,44 +1,30 @@
 -- The steps of a whole search: the cleared memory is the fresh one, the passes end with the minimax value and the root
 -- move, and the marks are those of MTD's leaves.
-use Prim.Native.Nat.{ℕ, _≤_, _<_}
-use native.Mathlib.Omega.{arith}
-use mathlib.Core.Path.{_≡_, refl, sym, ap, ap₂, _∙_, subst}
-use mathlib.Core.Bool.{false}
-use mathlib.Core.List.{List}
-use lib.ListN.{length, replicate, length-replicate, getD-replicate}
-use lib.IntN.{ℤ}
-use Rattle.lists.specs.Lists.{among}
+use Rattle.prelude.proofs.{ℕ, _≤_, _<_, arith, _≡_, refl, sym, ap, ap₂, _∙_, subst, false, List, length, replicate}
+use Rattle.prelude.proofs.{length-replicate, getD-replicate, ℤ}
+use Rattle.lists.specs.{among}
 use Rattle.gametree.specs.declared.Side.the-variants.{Max, Min}
-use Rattle.gametree.specs.Tree.{Tree, inner, Children, greatest, minimax, Proper}
-use Rattle.gametree.specs.Bounds.{high}
-use Rattle.gametree.specs.Mtd.{mtd}
-use Rattle.gametree.specs.Move.{firstWith, rootMove}
+use Rattle.gametree.specs.{Tree, inner, Children, greatest, minimax, Proper, high, mtd, firstWith, rootMove}
 use Rattle.gametree_theory.proofs.mtd.Moves.{mtd-highMove}
 use Rattle.gametree_theory.proofs.mtd.Memory.{memo-run}
 use Rattle.gametree_theory.proofs.Theorems.{value-score, mtd-minimax}
-use Rattle.frames.specs.Frame.{frames, childCount, next}
-use Rattle.frames.specs.Tree.{childrenFrom, treeAt, tree, valuation}
-use Rattle.frames.specs.Formed.{WellFormed}
+use Rattle.frames.specs.{frames, childCount, next, childrenFrom, treeAt, tree, valuation, WellFormed, valueOf}
 use Rattle.frames.proofs.Positions.{position-root}
 use Rattle.frames.proofs.Proper.{tree-proper}
 use Rattle.frames.proofs.Trees.{zero-or-suc, tree-leaf, tree-inner, tree-number}
-use Rattle.positions.specs.Buffer.{written}
-use Rattle.certificate_bounds.specs.Marks.{marked, ones}
-use Rattle.certificate_bounds.specs.engine.Bounds.{boundOf}
-use Rattle.certificate_bounds.specs.engine.Progress.{progress, evaluateAll}
+use Rattle.positions.specs.{written}
+use Rattle.certificate_bounds.specs.{marked, ones, boundOf, progress, evaluateAll}
 use Rattle.certificate_bounds.proofs.Listing.{first-evaluated}
-use Rattle.frames.specs.Value.{valueOf}
-use Rattle.certificate_flags.specs.engine.Chosen.{firstEqual}
-use Rattle.certificate.specs.Search.{marksOf, listed}
+use Rattle.certificate_flags.specs.{firstEqual}
+use Rattle.certificate.specs.{marksOf, listed}
 use Rattle.certificate.proofs.Chosen.{chosenOf, first-with}
 use Rattle.certificate.proofs.Concluded.{chosen-same}
 use Rattle.certificate.proofs.Marks.{marked-written}
 use Rattle.certificate.proofs.Outcomes.{search-marks}
 use Rattle.mtd.specs.declared.Settled.{Settled}
-use Rattle.mtd_memory.specs.engine.Memory.{memory, firstHigh, Fresh}
+use Rattle.mtd_memory.specs.{memory, firstHigh, Fresh}
 use Rattle.methods.specs.declared.Method.the-variants.{Mtd}
-use Rattle.methods.specs.Rules.{evaluatedBy}
-use Rattle.methods.specs.Outcome.{findingsBy}
+use Rattle.methods.specs.{evaluatedBy, findingsBy}
 use Rattle.methods.proofs.Rules.{decides}
 
 module _ (t : List ℕ) (wf : WellFormed t) where

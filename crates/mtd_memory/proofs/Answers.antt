@@ -1,32 +1,20 @@
 -- What the answer of a pass says of the highs that it leaves, and of what is remembered: a node that is not below has
 -- its high at the test or above, and is explored; one that is below has its high below the test.
-use Prim.Native.Nat.{ℕ, zero, suc, _+_, _≤_, _<_}
-use native.Mathlib.Nat.{le-refl}
-use native.Mathlib.Decide.{ℕ-discrete}
-use native.Mathlib.Omega.{arith}
-use mathlib.Core.Path.{_≡_, refl, sym, ap, _∙_, subst}
-use mathlib.Core.Bool.{Bool, true, false, not}
-use mathlib.Core.List.{List}
-use lib.Dec.{ltb}
-use lib.ListN.{getD}
-use borrow.Author.Tests.{ltb-true, ltb-false, leb-true, leb-false, not-true, not-false}
+use Rattle.prelude.proofs.{ℕ, zero, suc, _+_, _≤_, _<_, le-refl, ℕ-discrete, arith, _≡_, refl, sym, ap, _∙_, subst}
+use Rattle.prelude.proofs.{Bool, true, false, not, List, ltb, getD, ltb-true, ltb-false, leb-true, leb-false, not-true}
+use Rattle.prelude.proofs.{not-false}
 use Rattle.gametree.specs.declared.Side.{Side}
 use Rattle.gametree.specs.declared.Side.the-variants.{Max, Min}
-use Rattle.gametree.specs.Tree.{Tree, leaf, inner, Children, last, _then_, better}
-use Rattle.gametree.specs.engine.Memo.{Memo, MemoChildren, memoHigh, memoHighChildren, Pass, PassChildren, pass}
-use Rattle.gametree.specs.engine.Memo.{passChildren}
+use Rattle.gametree.specs.{Tree, leaf, inner, Children, last, _then_, better, Memo, MemoChildren, memoHigh}
+use Rattle.gametree.specs.{memoHighChildren, Pass, PassChildren, pass, passChildren}
 use Rattle.lists.proofs.Choice.{cond-cases, true-not-false}
 use Rattle.gametree_theory.proofs.mtd.MemoArrays.{read-high}
-use Rattle.frames.specs.Frame.{frames, firstChild, childCount}
-use Rattle.frames.specs.Position.{sideOf}
-use Rattle.frames.specs.Tree.{childrenFrom, treeAt, valuation}
-use Rattle.frames.specs.Formed.{WellFormed}
+use Rattle.frames.specs.{frames, firstChild, childCount, sideOf, childrenFrom, treeAt, valuation, WellFormed}
 use Rattle.frames.proofs.Nodes.{in-own}
 use Rattle.frames.proofs.Trees.{zero-or-suc, tree-leaf, tree-inner}
-use Rattle.certificate_bounds.specs.Marks.{marked}
-use Rattle.certificate_bounds.specs.engine.Ranges.{bestIn}
+use Rattle.certificate_bounds.specs.{marked, bestIn}
 use Rattle.mtd_memory.specs.declared.Tried.{Tried}
-use Rattle.mtd_memory.specs.engine.Memory.{Memory, memoOf, passOf, Passed, Explored}
+use Rattle.mtd_memory.specs.{Memory, memoOf, passOf, Passed, Explored}
 
 -- the high v after a pass with the test γ and the answer b
 pub record HighBy (γ : ℕ) (b : Bool) (v : ℕ) : Type 0 where

@@ -1,23 +1,13 @@
 -- Marks, flags and highs in arrays of numbers: what is stored and read, and the bounds that the marks give.
-use Prim.Native.Nat.{ℕ, suc, _+_, _/_, _≤_, _<_}
-use native.Mathlib.Omega.{arith}
-use mathlib.Core.Path.{_≡_, refl, sym, ap, ap₂, _∙_}
-use mathlib.Core.Logic.{inl, inr}
-use mathlib.Core.Bool.{Bool, true, false, cond}
-use mathlib.Core.List.{List, [], _∷_, _++_}
-use lib.Dec.{eqb}
-use lib.ListN.{length, getD, set}
-use lib.Seq.{getD-set-same, set-getD}
+use Rattle.prelude.proofs.{ℕ, suc, _+_, _/_, _≤_, _<_, arith, _≡_, refl, sym, ap, ap₂, _∙_, inl, inr, Bool, true, false}
+use Rattle.prelude.proofs.{cond, List, [], _∷_, _++_, eqb, length, getD, set, getD-set-same, set-getD}
 use Rattle.gametree.specs.declared.Side.{Side}
-use Rattle.gametree.specs.Tree.{Tree, leaf, inner, Children, last, _then_, better, minimax, minimaxChildren}
-use Rattle.gametree.specs.Tree.{In, InChildren}
-use Rattle.gametree.specs.Bounds.{known}
-use Rattle.gametree.specs.engine.MemoArrays.{Bits}
-use Rattle.certificate_bounds.specs.Marks.{marked}
-use Rattle.certificate_bounds.specs.engine.Progress.{progress, evaluateAll}
+use Rattle.gametree.specs.{Tree, leaf, inner, Children, last, _then_, better, minimax, minimaxChildren, In, InChildren}
+use Rattle.gametree.specs.{known, Bits}
+use Rattle.certificate_bounds.specs.{marked, progress, evaluateAll}
 use Rattle.certificate_bounds.proofs.Listing.{none-evaluated, one-evaluated, evaluateAll-append}
-use Rattle.frames.specs.Frame.{firstChild, childCount}
-use Rattle.mtd_memory.specs.engine.Memory.{Memory, progressOf, MemoryRoom, Evaluated, Explored, NamesTwo, Skips}
+use Rattle.frames.specs.{firstChild, childCount}
+use Rattle.mtd_memory.specs.{Memory, progressOf, MemoryRoom, Evaluated, Explored, NamesTwo, Skips}
 
 -- what stands there already is stored
 pub set-same : (l : List ℕ) (i v : ℕ) → getD l i 0 ≡ v → set l i v ≡ l

@@ -1,19 +1,14 @@
 -- The child loop of a node, over its memory: what the rule gives over the children that are left, from the present
 -- memory, is what it was to give over all of them from the first.
-use Prim.Native.Nat.{ℕ}
-use mathlib.Core.Path.{_≡_, refl, sym, ap, _∙_, subst}
-use mathlib.Core.Bool.{Bool, true, false}
-use mathlib.Core.List.{List, [], _++_, append-assoc}
+use Rattle.prelude.proofs.{ℕ, _≡_, refl, sym, ap, _∙_, subst, Bool, true, false, List, [], _++_, append-assoc}
 use Rattle.gametree.specs.declared.Side.{Side}
-use Rattle.gametree.specs.Tree.{Tree, Children, last, _then_, In, InChildren}
-use Rattle.gametree.specs.Mtd.{settles}
-use Rattle.gametree.specs.engine.Memo.{MemoChildren, PassChildren, joined, passChildren}
-use Rattle.gametree.specs.engine.MemoArrays.{readMemoChildren, KidsRemembered}
+use Rattle.gametree.specs.{Tree, Children, last, _then_, In, InChildren, settles, MemoChildren, PassChildren, joined}
+use Rattle.gametree.specs.{passChildren, readMemoChildren, KidsRemembered}
 use Rattle.gametree_theory.proofs.mtd.MemoArrays.{rest-same, visit-ended, visit-joined}
-use Rattle.frames.specs.Tree.{valuation}
-use Rattle.certificate_bounds.specs.Marks.{marked}
+use Rattle.frames.specs.{valuation}
+use Rattle.certificate_bounds.specs.{marked}
 use Rattle.mtd_memory.specs.declared.Tried.{Tried}
-use Rattle.mtd_memory.specs.engine.Memory.{Memory, passOf, Evaluated, Counted, Passed}
+use Rattle.mtd_memory.specs.{Memory, passOf, Evaluated, Counted, Passed}
 use Rattle.mtd_memory.proofs.Arrays.{evaluated-none, evaluated-more}
 
 -- what the arrays remember of the children of a node

@@ -1,22 +1,14 @@
 -- What a node's entry names: the two best children of a Max node, found by a look at each, and those that a pass has to
 -- try by it.
-use Prim.Native.Nat.{ℕ, zero, suc, _+_, _-_, _*_, _/_, _%_, _≤_, _<_}
-use native.Mathlib.Nat.{le-refl}
-use native.Mathlib.Decide.{ℕ-discrete}
-use native.Mathlib.Omega.{arith}
-use mathlib.Core.Path.{_≡_, refl, sym, _∙_}
-use mathlib.Core.Bool.{Bool, true, false, cond}
-use mathlib.Core.List.{List}
-use lib.Dec.{eqb}
-use lib.ListN.{getD}
-use borrow.Author.Tests.{ne-eqb, eqb-false}
+use Rattle.prelude.proofs.{ℕ, zero, suc, _+_, _-_, _*_, _/_, _%_, _≤_, _<_, le-refl, ℕ-discrete, arith, _≡_, refl, sym}
+use Rattle.prelude.proofs.{_∙_, Bool, true, false, cond, List, eqb, getD, ne-eqb, eqb-false}
 use Rattle.gametree.specs.declared.Side.{Side}
 use Rattle.gametree.specs.declared.Side.the-variants.{Max, Min}
-use Rattle.gametree.specs.Tree.{better}
+use Rattle.gametree.specs.{better}
 use Rattle.lists.proofs.Choice.{clash, cond-cases}
-use Rattle.certificate_bounds.specs.engine.Ranges.{bestIn}
+use Rattle.certificate_bounds.specs.{bestIn}
 use Rattle.mtd_memory.specs.declared.TwoBest.{TwoBest}
-use Rattle.mtd_memory.specs.engine.Memory.{skipEntry, keptEntry, NamesTwo, leadEntry, Best, ToTry, KeepsBest}
+use Rattle.mtd_memory.specs.{skipEntry, keptEntry, NamesTwo, leadEntry, Best, ToTry, KeepsBest}
 use Rattle.mtd_memory.proofs.Arrays.{no-leads}
 use Rattle.mtd_memory.proofs.Answers.{best-of-two}
 

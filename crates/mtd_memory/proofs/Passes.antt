@@ -1,29 +1,17 @@
 -- What a pass does at a node, over its tree and the arrays: a leaf is tried; a node whose high is below the test, or
 -- that was found not below, is not entered; any other is entered.
-use Prim.Native.Nat.{ℕ, suc, _+_, _≤_, _<_}
-use native.Mathlib.Omega.{arith}
-use mathlib.Core.Path.{_≡_, refl, sym, ap, ap₂, _∙_, subst}
-use mathlib.Core.Logic.{inl, inr}
-use mathlib.Core.Bool.{true, false, cond}
-use mathlib.Core.List.{List, [], _∷_}
-use lib.Dec.{leb, eqb}
-use lib.ListN.{getD, set}
-use lib.Seq.{getD-set-same, getD-set-other}
-use borrow.Author.Tests.{lt-ltb, le-ltb}
+use Rattle.prelude.proofs.{ℕ, suc, _+_, _≤_, _<_, arith, _≡_, refl, sym, ap, ap₂, _∙_, subst, inl, inr, true, false}
+use Rattle.prelude.proofs.{cond, List, [], _∷_, leb, eqb, getD, set, getD-set-same, getD-set-other, lt-ltb, le-ltb}
 use Rattle.gametree.specs.declared.Side.{Side}
-use Rattle.gametree.specs.Tree.{Tree, leaf, inner, Children, InChildren}
-use Rattle.gametree.specs.Bounds.{high}
-use Rattle.gametree.specs.engine.Memo.{Memo, memoHigh, Pass, stay, entered}
+use Rattle.gametree.specs.{Tree, leaf, inner, Children, InChildren, high, Memo, memoHigh, Pass, stay, entered}
 use Rattle.lists.proofs.Choice.{cond-cases}
 use Rattle.gametree_theory.proofs.mtd.MemoArrays.{readMemoChildren-same, read-high}
-use Rattle.frames.specs.Tree.{treeAt, valuation}
-use Rattle.frames.specs.Frame.{frames, firstChild, childCount}
-use Rattle.certificate_bounds.specs.Marks.{marked, ones}
-use Rattle.certificate_bounds.specs.engine.Progress.{progress, evaluateAll}
+use Rattle.frames.specs.{treeAt, valuation, frames, firstChild, childCount}
+use Rattle.certificate_bounds.specs.{marked, ones, progress, evaluateAll}
 use Rattle.certificate_bounds.proofs.Marking.{marked-other}
 use Rattle.mtd_memory.specs.declared.Tried.{Tried}
-use Rattle.mtd_memory.specs.engine.Memory.{Memory, memory, progressOf, memoOf, passOf, MemoryRoom, HighsRight}
-use Rattle.mtd_memory.specs.engine.Memory.{Counted, Evaluated, Passed, Skips, SkipsRight}
+use Rattle.mtd_memory.specs.{Memory, memory, progressOf, memoOf, passOf, MemoryRoom, HighsRight, Counted}
+use Rattle.mtd_memory.specs.{Evaluated, Passed, Skips, SkipsRight}
 use Rattle.mtd_memory.proofs.Arrays.{marked-same, evaluated-none, skips-same}
 use Rattle.mtd_memory.proofs.Children.{passChildrenOf, PassedChildren}
 

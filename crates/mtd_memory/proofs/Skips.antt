@@ -1,34 +1,24 @@
 -- Children that are passed over: under Max a child whose high is below the test is below; under Min one that is
 -- explored, and whose high is not below the test, is not below. The pass does nothing else there.
-use Prim.Native.Nat.{ℕ, zero, suc, _+_, _-_, _≤_, _<_}
-use native.Mathlib.Omega.{arith}
-use native.Mathlib.Decide.{ℕ-discrete, decLt}
-use mathlib.Core.Path.{_≡_, refl, sym, ap, _∙_, subst}
-use mathlib.Core.Bool.{Bool, true, false, cond, _||_}
-use mathlib.Core.List.{List}
-use lib.Dec.{eqb}
-use lib.ListN.{getD}
-use borrow.Author.Tests.{eqb-true, eqb-false, eq-eqb, ne-eqb, le-leb, lt-leb}
+use Rattle.prelude.proofs.{ℕ, zero, suc, _+_, _-_, _≤_, _<_, arith, ℕ-discrete, decLt, _≡_, refl, sym, ap, _∙_, subst}
+use Rattle.prelude.proofs.{Bool, true, false, cond, _||_, List, eqb, getD, eqb-true, eqb-false, eq-eqb, ne-eqb, le-leb}
+use Rattle.prelude.proofs.{lt-leb}
 use Rattle.gametree.specs.declared.Position.{Position}
 use Rattle.gametree.specs.declared.Side.{Side}
 use Rattle.gametree.specs.declared.Side.the-variants.{Max, Min}
-use Rattle.gametree.specs.Tree.{greatest}
-use Rattle.gametree.specs.Bounds.{known}
-use Rattle.gametree.specs.Mtd.{settles}
+use Rattle.gametree.specs.{greatest, known, settles}
 use Rattle.lists.proofs.Choice.{true-not-false, or-false-both}
 use Rattle.gametree_theory.proofs.minimax.Bounds.{minimax-within}
-use Rattle.frames.specs.Frame.{childCount}
-use Rattle.frames.specs.Position.{childPosition, sideOf}
-use Rattle.frames.specs.Tree.{treeAt, valuation}
+use Rattle.frames.specs.{childCount, childPosition, sideOf, treeAt, valuation}
 use Rattle.frames.proofs.Next.{child-later, child-within}
 use Rattle.frames.proofs.Nodes.{in-own, tree-range}
 use Rattle.frames.proofs.Proper.{every-leaf, leaf-scored}
 use Rattle.frames.proofs.Trees.{zero-or-suc, in-kids, tree-leaf}
-use Rattle.certificate_bounds.specs.Marks.{marked}
+use Rattle.certificate_bounds.specs.{marked}
 use Rattle.mtd_memory.specs.declared.Tried.{Tried}
 use Rattle.mtd_memory.specs.declared.Tries.{Tries}
-use Rattle.mtd_memory.specs.engine.Memory.{Memory, memory, VisitReady, Passed, PassedOver}
-use Rattle.mtd_memory.specs.engine.Memory.{skipAt, Explored, NamesTwo, Skips, ToTry, Alone}
+use Rattle.mtd_memory.specs.{Memory, memory, VisitReady, Passed, PassedOver, skipAt, Explored, NamesTwo, Skips}
+use Rattle.mtd_memory.specs.{ToTry, Alone}
 use Rattle.mtd_memory.proofs.Arrays.{set-same, Long, leaf-again, leads-others}
 use Rattle.mtd_memory.proofs.Turns.{PassLoop, Left, Family, turn-first, turn-ready, turn-apart, child}
 use Rattle.mtd_memory.proofs.Turns.{turn-next, turn-last}

@@ -1,36 +1,22 @@
 -- The child loop of node i over the table: its children are the numbers from `first` up to `end`, and a turn visits the
 -- next of them.
-use Prim.Native.Nat.{ℕ, suc, _+_, _-_, _≤_, _<_}
-use native.Mathlib.Omega.{arith}
-use native.Mathlib.Nat.{le-refl}
-use native.Mathlib.Decide.{ℕ-discrete, decLt}
-use mathlib.Core.Path.{_≡_, refl, sym, ap, ap₂, _∙_, subst}
-use mathlib.Core.Bool.{Bool, true, false, _||_}
-use mathlib.Core.List.{List}
-use lib.Dec.{eqb}
-use lib.ListN.{getD}
-use borrow.Author.Tests.{eqb-false, ne-eqb, not-false}
+use Rattle.prelude.proofs.{ℕ, suc, _+_, _-_, _≤_, _<_, arith, le-refl, ℕ-discrete, decLt, _≡_, refl, sym, ap, ap₂, _∙_}
+use Rattle.prelude.proofs.{subst, Bool, true, false, _||_, List, eqb, getD, eqb-false, ne-eqb, not-false}
 use Rattle.gametree.specs.declared.Position.{Position}
 use Rattle.gametree.specs.declared.Side.{Side}
 use Rattle.gametree.specs.declared.Side.the-variants.{Min}
-use Rattle.gametree.specs.Tree.{inner, Children, last, _then_, greatest, minimax, In, InChildren}
-use Rattle.gametree.specs.Bounds.{known}
-use Rattle.gametree.specs.Mtd.{settles}
+use Rattle.gametree.specs.{inner, Children, last, _then_, greatest, minimax, In, InChildren, known, settles}
 use Rattle.lists.proofs.Choice.{or-false-both}
-use Rattle.frames.specs.Frame.{frames, firstChild, childCount}
-use Rattle.frames.specs.Position.{childPosition, sideOf}
-use Rattle.frames.specs.Tree.{childrenFrom, treeAt, valuation}
-use Rattle.frames.specs.Formed.{WellFormed, ChildOf}
+use Rattle.frames.specs.{frames, firstChild, childCount, childPosition, sideOf, childrenFrom, treeAt, valuation}
+use Rattle.frames.specs.{WellFormed, ChildOf}
 use Rattle.frames.proofs.Next.{child-within, children-within}
 use Rattle.frames.proofs.Positions.{position-child}
 use Rattle.frames.proofs.Trees.{in-kids, kids-in, tree-inner}
 use Rattle.frames.proofs.Nodes.{in-own, in-parent, in-trans, tree-range, children-apart}
-use Rattle.certificate_bounds.specs.Marks.{marked}
-use Rattle.certificate_bounds.specs.engine.Ranges.{bestIn}
+use Rattle.certificate_bounds.specs.{marked, bestIn}
 use Rattle.certificate_bounds.proofs.Bounds.{minimax-best}
 use Rattle.mtd_memory.specs.declared.Tried.{Tried}
-use Rattle.mtd_memory.specs.engine.Memory.{Memory, HighsRight, Counted, VisitReady, Passed}
-use Rattle.mtd_memory.specs.engine.Memory.{Explored, SkipsRight}
+use Rattle.mtd_memory.specs.{Memory, HighsRight, Counted, VisitReady, Passed, Explored, SkipsRight}
 use Rattle.mtd_memory.proofs.Arrays.{bound-local, Long, room-kept, explored-same, skips-same}
 use Rattle.mtd_memory.proofs.Answers.{tried-high, tried-explored, best-least, best-is}
 use Rattle.mtd_memory.proofs.Children.{PassedChildren, Remainder, remainder-all, remainder-last}

@@ -1,35 +1,23 @@
 -- Visits of the table's nodes, in the terms of the code: a look at a node, a leaf, and each way out of an inner node.
-use Prim.Native.Nat.{ℕ, zero, suc, _+_, _-_, _≤_, _<_}
-use native.Mathlib.Omega.{arith}
-use mathlib.Core.Path.{_≡_, refl, sym, ap, _∙_, subst}
-use mathlib.Core.Bool.{Bool, true, false, cond}
-use mathlib.Core.List.{List, [], _∷_}
-use lib.Dec.{leb}
-use lib.ListN.{getD, set}
-use lib.Seq.{getD-set-same, getD-set-other}
+use Rattle.prelude.proofs.{ℕ, zero, suc, _+_, _-_, _≤_, _<_, arith, _≡_, refl, sym, ap, _∙_, subst, Bool, true, false}
+use Rattle.prelude.proofs.{cond, List, [], _∷_, leb, getD, set, getD-set-same, getD-set-other}
 use Rattle.gametree.specs.declared.Position.{Position}
 use Rattle.gametree.specs.declared.Side.{Side}
 use Rattle.gametree.specs.declared.Side.the-variants.{Min}
-use Rattle.gametree.specs.Tree.{Tree, inner, greatest, minimax, Distinct}
-use Rattle.gametree.specs.Bounds.{known}
-use Rattle.frames.specs.Frame.{maxNodes, frames, firstChild, childCount}
-use Rattle.frames.specs.Position.{sideOf}
-use Rattle.frames.specs.Tree.{treeAt, valuation}
-use Rattle.frames.specs.Formed.{WellFormed, ChildOf}
+use Rattle.gametree.specs.{Tree, inner, greatest, minimax, Distinct, known}
+use Rattle.frames.specs.{maxNodes, frames, firstChild, childCount, sideOf, treeAt, valuation, WellFormed, ChildOf}
 use Rattle.frames.proofs.Next.{child-later, child-within}
 use Rattle.frames.proofs.Positions.{depth-at-most}
 use Rattle.frames.proofs.Trees.{in-kids, tree-leaf}
 use Rattle.frames.proofs.Nodes.{in-own, tree-distinct, tree-range}
-use Rattle.certificate_bounds.specs.Marks.{marked, ones}
-use Rattle.certificate_bounds.specs.engine.Progress.{progress, evaluateAll}
+use Rattle.certificate_bounds.specs.{marked, ones, progress, evaluateAll}
 use Rattle.certificate_bounds.proofs.Bounds.{best-same, minimax-best}
 use Rattle.certificate_bounds.proofs.Marking.{marked-other}
 use Rattle.mtd_memory.specs.declared.Seen.{Seen}
 use Rattle.mtd_memory.specs.declared.Seen.the-variants.{Answered, Open}
 use Rattle.mtd_memory.specs.declared.Tried.{Tried}
-use Rattle.mtd_memory.specs.engine.Memory.{Memory, memory, progressOf, MemoryRoom, HighsRight, VisitReady}
-use Rattle.mtd_memory.specs.engine.Memory.{Enterable}
-use Rattle.mtd_memory.specs.engine.Memory.{Passed, Looked, skipEntry, keptEntry, Skips, SkipsRight, KeepsBest}
+use Rattle.mtd_memory.specs.{Memory, memory, progressOf, MemoryRoom, HighsRight, VisitReady, Enterable, Passed}
+use Rattle.mtd_memory.specs.{Looked, skipEntry, keptEntry, Skips, SkipsRight, KeepsBest}
 use Rattle.mtd_memory.proofs.Arrays.{room-at, explored-same, leads-others}
 use Rattle.mtd_memory.proofs.Passes.{leaf-passed, below-passed, not-below-passed, entered-passed}
 use Rattle.mtd_memory.proofs.Turns.{childrenUpTo, Down, Left, Family, child, tree-kids}

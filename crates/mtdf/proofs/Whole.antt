@@ -1,35 +1,23 @@
 -- The steps of a whole search: the cleared memory is the fresh one, the last phase is a test of the root's children,
 -- the tests end with the minimax value and the root move, and the marks are those of the leaves of MTD(f).
-use Prim.Native.Nat.{ℕ, _≤_, _<_}
-use native.Mathlib.Omega.{arith}
-use mathlib.Core.Path.{_≡_, refl, sym, ap, ap₂, _∙_, subst}
-use mathlib.Core.Bool.{false}
-use mathlib.Core.List.{List}
-use lib.ListN.{length, getD, replicate, length-replicate, getD-replicate}
-use lib.IntN.{ℤ}
-use Rattle.lists.specs.Lists.{among}
+use Rattle.prelude.proofs.{ℕ, _≤_, _<_, arith, _≡_, refl, sym, ap, ap₂, _∙_, subst, false, List, length, getD}
+use Rattle.prelude.proofs.{replicate, length-replicate, getD-replicate, ℤ}
+use Rattle.lists.specs.{among}
 use Rattle.gametree.specs.declared.Side.the-variants.{Max}
-use Rattle.gametree.specs.Tree.{least, greatest, minimax}
-use Rattle.gametree.specs.Mtdf.{lastPhase}
-use Rattle.gametree.specs.Move.{boundMove}
+use Rattle.gametree.specs.{least, greatest, minimax, lastPhase, boundMove}
 use Rattle.gametree_theory.proofs.Searches.{Deciding}
 use Rattle.gametree_theory.proofs.Theorems.{value-score, search-deciding}
 use Rattle.gametree_theory.proofs.TestRuns.{mtdf-searched}
-use Rattle.frames.specs.Frame.{frames, childCount, next}
-use Rattle.frames.specs.Position.{rootPosition}
-use Rattle.frames.specs.Tree.{tree, valuation}
-use Rattle.frames.specs.Formed.{WellFormed}
-use Rattle.frames.specs.Value.{valueOf}
+use Rattle.frames.specs.{frames, childCount, next, rootPosition, tree, valuation, WellFormed, valueOf}
 use Rattle.frames.proofs.Positions.{position-root}
 use Rattle.frames.proofs.Trees.{tree-leaf}
 use Rattle.frames.proofs.Nodes.{in-tree}
 use Rattle.frames.proofs.Proper.{tree-proper}
-use Rattle.positions.specs.Buffer.{written}
-use Rattle.certificate_bounds.specs.Marks.{marked}
-use Rattle.certificate_bounds.specs.engine.Progress.{progress, evaluateAll}
+use Rattle.positions.specs.{written}
+use Rattle.certificate_bounds.specs.{marked, progress, evaluateAll}
 use Rattle.certificate_bounds.proofs.Listing.{first-evaluated}
-use Rattle.certificate_flags.specs.engine.Chosen.{firstEqual}
-use Rattle.certificate.specs.Search.{marksOf, listed}
+use Rattle.certificate_flags.specs.{firstEqual}
+use Rattle.certificate.specs.{marksOf, listed}
 use Rattle.certificate.proofs.Chosen.{chosenOf, by-bounds, chosen-root}
 use Rattle.certificate.proofs.Outcomes.{search-marks}
 use Rattle.mtd_memory.proofs.Turns.{tree-kids}
@@ -37,13 +25,11 @@ use Rattle.mtdf.specs.declared.Met.{Met}
 use Rattle.mtdf_visits.specs.declared.Tried.{Tried}
 use Rattle.methods.specs.declared.Findings.{Findings}
 use Rattle.methods.specs.declared.Method.the-variants.{MtdFrom}
-use Rattle.methods.specs.Rules.{startScore, decisionOf, evaluatedBy}
-use Rattle.methods.specs.Outcome.{findingsBy}
+use Rattle.methods.specs.{startScore, decisionOf, evaluatedBy, findingsBy}
 use Rattle.methods.proofs.Rules.{decides}
-use Rattle.mtdf_visits.specs.engine.Memory.{Memory, memory, progressOf, soFar, MemoryRoom, VisitReady, Counted}
-use Rattle.mtdf_visits.specs.engine.Memory.{BoundsRight}
-use Rattle.mtdf_visits.specs.engine.Memory.{Evaluated, Entered, Fresh}
-use Rattle.mtdf.specs.engine.Settling.{mtdfLeaves, MetAt, MovedTo, Settles}
+use Rattle.mtdf_visits.specs.{Memory, memory, progressOf, soFar, MemoryRoom, VisitReady, Counted, BoundsRight}
+use Rattle.mtdf_visits.specs.{Evaluated, Entered, Fresh}
+use Rattle.mtdf.specs.{mtdfLeaves, MetAt, MovedTo, Settles}
 use Rattle.mtdf_visits.proofs.Arrays.{Long, room-kept, evaluated-none, evaluated-more}
 
 -- findings that agree field by field

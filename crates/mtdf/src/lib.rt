@@ -20,7 +20,7 @@ ghost use mathlib.Core.Path.{_≡_};
 ghost use mathlib.Core.Bool.{cond, false};
 ghost use Prim.Native.Nat.{ℕ, suc, _<_, _≤_};
 ghost use lib.ListN.{length, getD};
-ghost use Rattle.gametree.specs.Tree.{greatest};
+ghost use Rattle.gametree.specs.Trees.{greatest};
 ghost use Rattle.gametree.specs.AlphaBeta.{clamp};
 ghost use Rattle.frames.specs.Frame.{frames};
 ghost use Rattle.frames.specs.Position.{rootPosition};

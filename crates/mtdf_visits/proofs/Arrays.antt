@@ -1,24 +1,14 @@
 -- The memory: its lengths, what is evaluated in it, and what has not changed.
-use Prim.Native.Nat.{ℕ, _+_, _<_}
-use native.Mathlib.Omega.{arith}
-use native.Mathlib.Numerals.{add-one}
-use native.Mathlib.Decide.{ℕ-discrete}
-use mathlib.Core.Path.{_≡_, refl, sym, ap, _∙_}
-use mathlib.Core.Bool.{true, or-false}
-use mathlib.Core.List.{List, [], _∷_, _++_, append-nil, append-assoc}
-use lib.ListN.{length, set}
-use lib.Seq.{take-suc-set}
-use borrow.Author.Tests.{eq-eqb, ne-eqb}
-use Rattle.lists.specs.Lists.{among}
+use Rattle.prelude.proofs.{ℕ, _+_, _<_, arith, add-one, ℕ-discrete, _≡_, refl, sym, ap, _∙_, true, or-false, List, []}
+use Rattle.prelude.proofs.{_∷_, _++_, append-nil, append-assoc, length, set, take-suc-set, eq-eqb, ne-eqb}
+use Rattle.lists.specs.{among}
 use Rattle.lists.proofs.Lists.{among-append, among-right}
-use Rattle.frames.specs.Frame.{frames}
-use Rattle.certificate_bounds.specs.Marks.{marked}
-use Rattle.certificate_bounds.specs.engine.Progress.{evaluateAll, Listable}
-use Rattle.certificate_bounds.specs.engine.Evaluable.{Evaluable}
+use Rattle.frames.specs.{frames}
+use Rattle.certificate_bounds.specs.{marked, evaluateAll, Listable, Evaluable}
 use Rattle.certificate_bounds.proofs.Marking.{marked-other}
 use Rattle.certificate_bounds.proofs.Listing.{none-evaluated, one-evaluated, evaluateAll-append, next-counted}
 use Rattle.mtd_memory.proofs.Arrays.{marked-same}
-use Rattle.mtdf_visits.specs.engine.Memory.{Memory, progressOf, soFar, MemoryRoom, Counted, Evaluated, Same}
+use Rattle.mtdf_visits.specs.{Memory, progressOf, soFar, MemoryRoom, Counted, Evaluated, Same}
 
 -- the arrays keep their lengths
 pub record Long (m m′ : Memory) : Type 0 where

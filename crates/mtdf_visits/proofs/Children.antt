@@ -1,16 +1,11 @@
 -- The child loop of a node, over its memory: what the rule gives over the children that are left, after the leaves
 -- evaluated by then, is what it was to give over all of them from the first.
-use Prim.Native.Nat.{ℕ}
-use mathlib.Core.Path.{_≡_, refl, sym, ap, _∙_, subst}
-use mathlib.Core.Bool.{Bool, true, false}
-use mathlib.Core.List.{List, [], _++_, append-assoc}
+use Rattle.prelude.proofs.{ℕ, _≡_, refl, sym, ap, _∙_, subst, Bool, true, false, List, [], _++_, append-assoc}
 use Rattle.gametree.specs.declared.Side.{Side}
-use Rattle.gametree.specs.Tree.{Tree, Children, last, _then_}
-use Rattle.gametree.specs.Mtd.{settles}
-use Rattle.gametree.specs.Tests.{Tested, passedOn, test, testChildren}
-use Rattle.frames.specs.Tree.{valuation}
+use Rattle.gametree.specs.{Tree, Children, last, _then_, settles, Tested, passedOn, test, testChildren}
+use Rattle.frames.specs.{valuation}
 use Rattle.mtdf_visits.specs.declared.Tried.{Tried}
-use Rattle.mtdf_visits.specs.engine.Memory.{Memory, soFar, Evaluated, Counted, VisitedBy}
+use Rattle.mtdf_visits.specs.{Memory, soFar, Evaluated, Counted, VisitedBy}
 use Rattle.mtdf_visits.proofs.Arrays.{evaluated-none, evaluated-more}
 
 -- the test of the children of a node after the leaves evaluated so far

@@ -1,22 +1,13 @@
 -- The child loop of node i over the table: its children are the numbers from `first` up to `end`, and a turn tests the
 -- next of them.
-use Prim.Native.Nat.{ℕ, _+_, _-_, _≤_, _<_}
-use native.Mathlib.Omega.{arith}
-use native.Mathlib.Decide.{ℕ-discrete}
-use mathlib.Core.Path.{_≡_, refl, sym, ap, _∙_, subst}
-use mathlib.Core.Bool.{Bool, true, false, _||_}
-use mathlib.Core.List.{List}
-use lib.Dec.{eqb}
-use borrow.Author.Tests.{eqb-false, ne-eqb}
-use Rattle.lists.specs.Lists.{among}
+use Rattle.prelude.proofs.{ℕ, _+_, _-_, _≤_, _<_, arith, ℕ-discrete, _≡_, refl, sym, ap, _∙_, subst, Bool, true, false}
+use Rattle.prelude.proofs.{_||_, List, eqb, eqb-false, ne-eqb}
+use Rattle.lists.specs.{among}
 use Rattle.gametree.specs.declared.Position.{Position}
 use Rattle.gametree.specs.declared.Side.{Side}
-use Rattle.gametree.specs.Tree.{_then_, least, greatest, In, InChildren}
-use Rattle.gametree.specs.Mtd.{settles}
+use Rattle.gametree.specs.{_then_, least, greatest, In, InChildren, settles}
 use Rattle.lists.proofs.Choice.{or-false-both}
-use Rattle.frames.specs.Position.{childPosition}
-use Rattle.frames.specs.Tree.{treeAt, valuation}
-use Rattle.frames.specs.Formed.{ChildOf}
+use Rattle.frames.specs.{childPosition, treeAt, valuation, ChildOf}
 use Rattle.frames.proofs.Next.{child-within}
 use Rattle.frames.proofs.Positions.{position-child}
 use Rattle.frames.proofs.Trees.{kids-in}
@@ -24,8 +15,7 @@ use Rattle.frames.proofs.Nodes.{in-parent, in-trans, children-apart}
 use Rattle.mtd_memory.proofs.Arrays.{bound-local}
 use Rattle.mtd_memory.proofs.Turns.{childrenUpTo, kids-last, kids-more, Family, child}
 use Rattle.mtdf_visits.specs.declared.Tried.{Tried}
-use Rattle.mtdf_visits.specs.engine.Memory.{Memory, soFar, Bounded, BoundsRight, Counted, VisitReady, Same}
-use Rattle.mtdf_visits.specs.engine.Memory.{VisitedBy}
+use Rattle.mtdf_visits.specs.{Memory, soFar, Bounded, BoundsRight, Counted, VisitReady, Same, VisitedBy}
 use Rattle.mtdf_visits.proofs.Arrays.{Long, room-kept, same-more}
 use Rattle.mtdf_visits.proofs.Children.{DoneChildren, Remainder, remainder-all, remainder-last}
 use Rattle.mtdf_visits.proofs.Children.{remainder-settled}

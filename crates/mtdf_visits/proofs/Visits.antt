@@ -1,37 +1,25 @@
 -- Tests of the table's nodes, in the terms of the code: a look at a node, a leaf, and each way out of an inner node.
-use Prim.Native.Nat.{ℕ, _+_, _-_, _≤_, _<_}
-use native.Mathlib.Omega.{arith}
-use mathlib.Core.Path.{_≡_, refl, sym, ap, _∙_, subst}
-use mathlib.Core.Logic.{inl, inr}
-use mathlib.Core.Bool.{Bool, true, false}
-use mathlib.Core.List.{List, [], _∷_, _++_}
-use lib.Dec.{leb}
-use lib.ListN.{length, getD, set}
-use lib.Seq.{getD-set-same, getD-set-other}
-use borrow.Author.Tests.{lt-ltb, le-ltb, le-leb, lt-leb}
-use Rattle.lists.specs.Lists.{among}
+use Rattle.prelude.proofs.{ℕ, _+_, _-_, _≤_, _<_, arith, _≡_, refl, sym, ap, _∙_, subst, inl, inr, Bool, true, false}
+use Rattle.prelude.proofs.{List, [], _∷_, _++_, leb, length, getD, set, getD-set-same, getD-set-other, lt-ltb, le-ltb}
+use Rattle.prelude.proofs.{le-leb, lt-leb}
+use Rattle.lists.specs.{among}
 use Rattle.lists.proofs.Choice.{is-false}
 use Rattle.gametree.specs.declared.Position.{Position}
-use Rattle.gametree.specs.Tree.{Tree, leaf, inner, least, greatest, minimax, InChildren, Distinct}
-use Rattle.gametree.specs.Bounds.{known, low, high}
-use Rattle.gametree.specs.Tests.{Tested, unopened, opened, test}
-use Rattle.frames.specs.Frame.{maxNodes, frames, childCount}
-use Rattle.frames.specs.Tree.{treeAt, valuation}
+use Rattle.gametree.specs.{Tree, leaf, inner, least, greatest, minimax, InChildren, Distinct, known, low, high, Tested}
+use Rattle.gametree.specs.{unopened, opened, test}
+use Rattle.frames.specs.{maxNodes, frames, childCount, treeAt, valuation}
 use Rattle.frames.proofs.Positions.{depth-at-most}
 use Rattle.frames.proofs.Trees.{in-kids, tree-leaf}
 use Rattle.frames.proofs.Nodes.{in-own, tree-distinct}
-use Rattle.certificate_bounds.specs.engine.Evaluable.{Evaluable}
-use Rattle.certificate_bounds.specs.engine.Progress.{Listable}
-use Rattle.certificate_bounds.specs.engine.Ranges.{bestIn}
+use Rattle.certificate_bounds.specs.{Evaluable, Listable, bestIn}
 use Rattle.certificate_bounds.proofs.Bounds.{best-same, minimax-best}
 use Rattle.certificate_bounds.proofs.Listing.{next-fits}
 use Rattle.mtd_memory.proofs.Turns.{childrenUpTo, Family, tree-kids}
 use Rattle.mtdf_visits.specs.declared.Seen.{Seen}
 use Rattle.mtdf_visits.specs.declared.Seen.the-variants.{Answered, Open}
 use Rattle.mtdf_visits.specs.declared.Tried.{Tried}
-use Rattle.mtdf_visits.specs.engine.Memory.{Memory, memory, progressOf, soFar, MemoryRoom, Bounded, BoundsRight}
-use Rattle.mtdf_visits.specs.engine.Memory.{Counted}
-use Rattle.mtdf_visits.specs.engine.Memory.{VisitReady, Done, enteredTest, VisitedBy, Entered, Undecided, Looked}
+use Rattle.mtdf_visits.specs.{Memory, memory, progressOf, soFar, MemoryRoom, Bounded, BoundsRight, Counted}
+use Rattle.mtdf_visits.specs.{VisitReady, Done, enteredTest, VisitedBy, Entered, Undecided, Looked}
 use Rattle.mtdf_visits.proofs.Arrays.{evaluated-none, leaf-evaluated, leaf-counted, among-own, among-other}
 use Rattle.mtdf_visits.proofs.Turns.{Left}
 

@@ -1,23 +1,16 @@
 -- The leaves of a table's tree are its nodes without children: each is in the list, and no other node.
-use Prim.Native.Nat.{ℕ, _<_}
-use native.Mathlib.Omega.{arith}
-use mathlib.Core.Path.{_≡_, sym, _∙_}
-use mathlib.Core.List.{List}
-use lib.Dec.{eqb}
-use borrow.Author.Tests.{eq-eqb, ne-eqb}
-use Rattle.lists.specs.Lists.{among}
+use Rattle.prelude.proofs.{ℕ, _<_, arith, _≡_, sym, _∙_, List, eqb, eq-eqb, ne-eqb}
+use Rattle.lists.specs.{among}
 use Rattle.lists.proofs.Choice.{is-false}
 use Rattle.lists.proofs.Lists.{all-at}
 use Rattle.gametree_theory.proofs.Theorems.{all-deciding}
-use Rattle.frames.specs.Frame.{frames, childCount}
-use Rattle.frames.specs.Tree.{tree, valuation}
-use Rattle.frames.specs.Formed.{WellFormed}
+use Rattle.frames.specs.{frames, childCount, tree, valuation, WellFormed}
 use Rattle.frames.proofs.Leaves.{leaf-listed}
 use Rattle.frames.proofs.Nodes.{in-tree}
 use Rattle.frames.proofs.Proper.{tree-proper}
 use Rattle.frames.proofs.Trees.{zero-or-suc}
 use Rattle.certificate.proofs.Marks.{evaluated-hold}
-use Rattle.plain.specs.Outcome.{allLeaves}
+use Rattle.plain.specs.{allLeaves}
 
 module _ (t : List ℕ) (wf : WellFormed t) where
   -- a node is in the list exactly if it has no children

@@ -1,15 +1,11 @@
 -- The pass over the children of a node from the left. What it makes of the score and of the marks is what the
 -- definitions, which fold from the right, say of the children.
-use Prim.Native.Nat.{ℕ, zero, suc, _+_, _≤_}
-use native.Mathlib.Omega.{arith}
-use mathlib.Core.Path.{_≡_, refl, sym, _∙_}
-use mathlib.Core.List.{List}
+use Rattle.prelude.proofs.{ℕ, zero, suc, _+_, _≤_, arith, _≡_, refl, sym, _∙_, List}
 use Rattle.gametree.specs.declared.Side.{Side}
 use Rattle.gametree.specs.declared.Side.the-variants.{Max, Min}
-use Rattle.gametree.specs.Tree.{Tree, greatest, better, minimax, minimaxChildren, leaves, leavesChildren}
-use Rattle.gametree.specs.Certificate.{worst}
-use Rattle.frames.specs.Tree.{childrenFrom}
-use Rattle.certificate_bounds.specs.Marks.{markAll}
+use Rattle.gametree.specs.{Tree, greatest, better, minimax, minimaxChildren, leaves, leavesChildren, worst}
+use Rattle.frames.specs.{childrenFrom}
+use Rattle.certificate_bounds.specs.{markAll}
 use Rattle.certificate_bounds.proofs.Marking.{markAll-append}
 
 better-assoc : (s : Side) (a b c : ℕ) → better s (better s a b) c ≡ better s a (better s b c)

@@ -1,31 +1,22 @@
 -- What a turn needs and hands back: at a leaf, at the head of the loop over an inner node's children, and at the turn
 -- of the side that moves at a child.
-use Prim.Native.Nat.{ℕ, suc, _+_, _-_, _≤_, _<_}
-use native.Mathlib.Omega.{arith}
-use mathlib.Core.Path.{_≡_, refl, ap, ap₂, _∙_}
-use mathlib.Core.List.{List}
-use lib.ListN.{length, set}
+use Rattle.prelude.proofs.{ℕ, suc, _+_, _-_, _≤_, _<_, arith, _≡_, refl, ap, ap₂, _∙_, List, length, set}
 use Rattle.gametree.specs.declared.Side.{Side}
-use Rattle.gametree.specs.Tree.{better, minimax, leaves, Score}
-use Rattle.gametree.specs.Certificate.{worst}
+use Rattle.gametree.specs.{better, minimax, leaves, Score, worst}
 use Rattle.gametree_theory.proofs.minimax.Nodes.{leaves-in}
 use Rattle.gametree_theory.proofs.Theorems.{value-score}
-use Rattle.frames.specs.Frame.{maxDepth, firstChild, childCount}
-use Rattle.frames.specs.Position.{childSide}
-use Rattle.frames.specs.Tree.{treeAt, valuation}
-use Rattle.frames.specs.Formed.{ChildOf}
+use Rattle.frames.specs.{maxDepth, firstChild, childCount, childSide, treeAt, valuation, ChildOf}
 use Rattle.frames.proofs.Nodes.{in-own}
 use Rattle.frames.proofs.Next.{child-within}
 use Rattle.frames.proofs.Positions.{depth-child}
 use Rattle.frames.proofs.Proper.{every-leaf, leaf-scored}
 use Rattle.frames.proofs.Trees.{tree-leaf, tree-inner}
-use Rattle.certificate_bounds.specs.Marks.{markAll}
-use Rattle.certificate_bounds.specs.engine.Evaluable.{Evaluable}
-use Rattle.certificate.specs.engine.Searchable.{Unmarked}
+use Rattle.certificate_bounds.specs.{markAll, Evaluable}
+use Rattle.certificate.specs.{Unmarked}
 use Rattle.certificate_bounds.proofs.Marking.{markAll-length}
 use Rattle.certificate.proofs.Unmarked.{Unvisited, all-wait, younger-wait}
 use Rattle.certificate.proofs.Searchable.{searchable-depth, searchable-child}
-use Rattle.plain.specs.engine.Ready.{turnPosition, Ready}
+use Rattle.plain.specs.{turnPosition, Ready}
 use Rattle.plain.proofs.Pass.{better-worst, scoreAfter, marksAfter, scores-all, marks-all}
 
 -- a turn at node i gives the score r, and makes e′ of the marks e

@@ -1,31 +1,20 @@
 -- The steps of a whole search: Max's turn at the root gives the minimax value, and its marks are those of all leaves.
-use Prim.Native.Nat.{ℕ, _≤_}
-use native.Mathlib.Omega.{arith}
-use mathlib.Core.Path.{_≡_, ap, _∙_}
-use mathlib.Core.List.{List, [], _∷_}
-use lib.ListN.{length}
-use lib.IntN.{ℤ}
+use Rattle.prelude.proofs.{ℕ, _≤_, arith, _≡_, ap, _∙_, List, [], _∷_, length, ℤ}
 use Rattle.gametree.specs.declared.Side.the-variants.{Max}
-use Rattle.gametree.specs.Tree.{greatest, minimax}
-use Rattle.gametree.specs.Move.{boundMove}
-use Rattle.gametree.specs.Certificate.{flag}
+use Rattle.gametree.specs.{greatest, minimax, boundMove, flag}
 use Rattle.gametree_theory.proofs.Theorems.{value-score, all-deciding}
 use Rattle.frames.specs.declared.Checked.the-variants.{Nodes}
-use Rattle.frames.specs.Frame.{maxDepth, frames}
-use Rattle.frames.specs.Tree.{tree, valuation}
-use Rattle.frames.specs.Value.{valueOf}
-use Rattle.frames.specs.Check.{Accepted}
+use Rattle.frames.specs.{maxDepth, frames, tree, valuation, valueOf, Accepted}
 use Rattle.frames.proofs.Asked.{answer-nodes}
 use Rattle.frames.proofs.Acceptance.{accepted-stated, accepted-formed}
 use Rattle.frames.proofs.Proper.{tree-proper}
-use Rattle.positions.specs.Buffer.{written}
-use Rattle.certificate_bounds.specs.Marks.{marked, markAll}
-use Rattle.certificate.specs.Search.{searchRejection, marksOf, flagsOf}
+use Rattle.positions.specs.{written}
+use Rattle.certificate_bounds.specs.{marked, markAll}
+use Rattle.certificate.specs.{searchRejection, marksOf, flagsOf}
 use Rattle.certificate.proofs.Questions.{passed-room, asked}
 use Rattle.certificate.proofs.Outcomes.{search-concludes}
 use Rattle.certificate.proofs.Searchable.{searchable-root}
-use Rattle.plain.specs.Outcome.{allLeaves, plainFound}
-use Rattle.plain.specs.engine.Ready.{Ready}
+use Rattle.plain.specs.{allLeaves, plainFound, Ready}
 
 -- with nodes for an answer to the questions the search may be run
 pub may-run : (t : List ℕ) (e c n : ℕ) → Nodes n ≡ asked t (e ∷ c ∷ [])

@@ -2,7 +2,7 @@
 use Prim.Native.Nat.{ℕ}
 use mathlib.Core.List.{List, [], _∷_}
 use lib.ListN.{length}
-use Rattle.gametree.specs.Tree.{leaves, minimax}
+use Rattle.gametree.specs.Trees.{leaves, minimax}
 use Rattle.gametree.specs.Move.{rootMove}
 use Rattle.frames.specs.Tree.{tree, valuation}
 use Rattle.frames.specs.Value.{valueOf}

@@ -21,7 +21,7 @@ ghost use mathlib.Core.Path.{_≡_};
 ghost use mathlib.Core.List.{[]};
 ghost use Prim.Native.Nat.{_≤_};
 ghost use lib.ListN.{length};
-ghost use Rattle.gametree.specs.Tree.{minimax, leaves};
+ghost use Rattle.gametree.specs.Trees.{minimax, leaves};
 ghost use Rattle.frames.specs.Frame.{frames};
 ghost use Rattle.frames.specs.Check.{Accepted};
 ghost use Rattle.frames.specs.Tree.{treeAt, valuation};

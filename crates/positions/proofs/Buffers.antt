@@ -1,18 +1,11 @@
 -- Buffers that are written from the left.
-use Prim.Native.Nat.{ℕ, zero, suc, _+_, _-_, _≤_, _<_}
-use native.Mathlib.Omega.{arith}
-use native.Mathlib.Numerals.{add-one}
-use mathlib.Core.Path.{_≡_, refl, sym, ap, ap₂, _∙_}
-use mathlib.Core.Bool.{cond}
-use mathlib.Core.List.{List, [], _∷_, _++_, map, append-assoc}
-use lib.Dec.{eqb}
-use lib.ListN.{length, getD, set, drop, length-append, length-drop, length-set, List·getD-append}
-use lib.Seq.{drop-cons, drop-set-lt, set-at, set-append-left, getD-append-add, getD-drop}
-use lib.Seq.{getD-set-same}
-use borrow.Author.Tests.{eq-eqb, ne-eqb}
-use Rattle.frames.specs.Tree.{upFrom}
+use Rattle.prelude.proofs.{ℕ, zero, suc, _+_, _-_, _≤_, _<_, arith, add-one, _≡_, refl, sym, ap, ap₂, _∙_, cond, List}
+use Rattle.prelude.proofs.{[], _∷_, _++_, map, append-assoc, eqb, length, getD, set, drop, length-append, length-drop}
+use Rattle.prelude.proofs.{length-set, List·getD-append, drop-cons, drop-set-lt, set-at, set-append-left}
+use Rattle.prelude.proofs.{getD-append-add, getD-drop, getD-set-same, eq-eqb, ne-eqb}
+use Rattle.frames.specs.{upFrom}
 use Rattle.frames.proofs.Ranges.{length-up, up-at, up-same, up-next}
-use Rattle.positions.specs.Buffer.{written}
+use Rattle.positions.specs.{written}
 
 -- nothing written
 pub written-none : (f : ℕ → ℕ) (b : List ℕ) → written f 0 b ≡ b

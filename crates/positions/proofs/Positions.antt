@@ -1,21 +1,16 @@
 -- The array of positions: what is read from it is the node's parent, depth and side, and how it is filled from the root
 -- down.
-use Prim.Native.Nat.{ℕ, zero, suc, _+_, _-_, _%_, _≤_, _<_}
-use native.Mathlib.Omega.{arith}
-use mathlib.Core.Path.{_≡_, refl, sym, ap, ap₂, _∙_}
-use mathlib.Core.List.{List}
-use lib.ListN.{length, getD}
+use Rattle.prelude.proofs.{ℕ, zero, suc, _+_, _-_, _%_, _≤_, _<_, arith, _≡_, refl, sym, ap, ap₂, _∙_, List, length}
+use Rattle.prelude.proofs.{getD}
 use Rattle.gametree.specs.declared.Position.{Position}
 use Rattle.gametree.specs.declared.Side.{Side}
 use Rattle.gametree.specs.declared.Side.the-variants.{Max, Min}
-use Rattle.frames.specs.Frame.{maxNodes, frames, childCount}
-use Rattle.frames.specs.Position.{parentBefore, parentOf, rootPosition, childPosition, positionOf, depthOf, sideOf}
-use Rattle.frames.specs.Formed.{WellFormed}
+use Rattle.frames.specs.{maxNodes, frames, childCount, parentBefore, parentOf, rootPosition, childPosition, positionOf}
+use Rattle.frames.specs.{depthOf, sideOf, WellFormed}
 use Rattle.frames.proofs.Parents.{parent-is}
 use Rattle.frames.proofs.Positions.{position-root, position-child, depth-at-most}
-use Rattle.positions.specs.Buffer.{written, stored}
-use Rattle.positions.specs.engine.Positions.{sideCount, sideNumber, numberSide, packed, positionEntry}
-use Rattle.positions.specs.engine.Positions.{parentIn, depthIn, sideIn, positionIn, Positioned}
+use Rattle.positions.specs.{written, stored, sideCount, sideNumber, numberSide, packed, positionEntry, parentIn}
+use Rattle.positions.specs.{depthIn, sideIn, positionIn, Positioned}
 use Rattle.positions.proofs.Buffers.{written-length, written-at}
 use Rattle.positions.proofs.TopDown.{Filled, filled-at, filled-step}
 

@@ -1,10 +1,7 @@
 -- Entries that are stored one after the other, at consecutive numbers.
-use Prim.Native.Nat.{ℕ, zero, suc, _+_, _-_, _≤_, _<_}
-use native.Mathlib.Omega.{arith}
-use mathlib.Core.Path.{_≡_, refl, sym, ap, _∙_, subst}
-use mathlib.Core.List.{List}
-use lib.ListN.{length, set, length-set}
-use Rattle.positions.specs.Buffer.{written, stored}
+use Rattle.prelude.proofs.{ℕ, zero, suc, _+_, _-_, _≤_, _<_, arith, _≡_, refl, sym, ap, _∙_, subst, List, length, set}
+use Rattle.prelude.proofs.{length-set}
+use Rattle.positions.specs.{written, stored}
 use Rattle.positions.proofs.Buffers.{written-next}
 
 module _ {A : Type 0} (f : ℕ → A) where

@@ -1,17 +1,11 @@
 -- Loops that fill an array from the root down: before node i is visited, the entries of all nodes below `next t i` are
 -- filled, node i's among them, and its children are the next to come. Once `next t i` is the number of frames, each
 -- entry is filled, and the nodes from i on are leaves.
-use Prim.Native.Nat.{ℕ, _+_, _-_, _≤_, _<_}
-use native.Mathlib.Omega.{arith}
-use native.Mathlib.Decide.{decLt}
-use mathlib.Core.Path.{_≡_, refl, sym, ap, _∙_}
-use mathlib.Core.List.{List}
-use lib.ListN.{length, getD, set, length-set}
-use lib.Seq.{set-set}
-use Rattle.frames.specs.Frame.{frames, childCount, next}
-use Rattle.frames.specs.Formed.{WellFormed, ChildOf}
+use Rattle.prelude.proofs.{ℕ, _+_, _-_, _≤_, _<_, arith, decLt, _≡_, refl, sym, ap, _∙_, List, length, getD, set}
+use Rattle.prelude.proofs.{length-set, set-set}
+use Rattle.frames.specs.{frames, childCount, next, WellFormed, ChildOf}
 use Rattle.frames.proofs.Next.{next-more, next-within, next-child, waits}
-use Rattle.positions.specs.Buffer.{written, stored}
+use Rattle.positions.specs.{written, stored}
 use Rattle.positions.proofs.Buffers.{written-none, written-next, written-at, written-over}
 use Rattle.positions.proofs.Runs.{stored-length, stored-same, stored-written}
 

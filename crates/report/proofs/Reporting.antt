@@ -1,25 +1,16 @@
 -- What the reader of a file gives is what the report goes by: an accepted table, or the first rejection of the file.
-use Prim.Native.Nat.{ℕ, _*_, _≤_}
-use native.Mathlib.Omega.{arith}
-use mathlib.Core.Path.{_≡_, refl, sym, ap, _∙_}
-use mathlib.Core.List.{List}
-use lib.ListN.{length, take}
+use Rattle.prelude.proofs.{ℕ, _*_, _≤_, arith, _≡_, refl, sym, ap, _∙_, List, length, take}
 use Rattle.frames.specs.declared.Rejection.{Rejection}
 use Rattle.frames.specs.declared.Checked.{Checked}
 use Rattle.frames.specs.declared.Checked.the-variants.{Nodes, Rejected as RejectedFile}
-use Rattle.frames.specs.Frame.{frameSize, maxNodes, maxTable}
-use Rattle.frames.specs.Tree.{tree, valuation}
-use Rattle.frames.specs.Rejection.{_leaving_}
-use Rattle.frames.specs.Check.{Accepted}
-use Rattle.frames.specs.Formed.{WellFormed}
+use Rattle.frames.specs.{frameSize, maxNodes, maxTable, tree, valuation, _leaving_, Accepted, WellFormed}
 use Rattle.frames.proofs.Acceptance.{accepted-formed}
-use Rattle.file_lines.specs.Lines.{decoded}
-use Rattle.file_reader.specs.File.{readOutcome}
+use Rattle.file_lines.specs.{decoded}
+use Rattle.file_reader.specs.{readOutcome}
 use Rattle.file_reader.proofs.Acceptance.{read-nodes, long-enough-rejected}
-use Rattle.text.specs.Text.{refusedLine}
-use Rattle.report.specs.Report.{analysisOn, report}
+use Rattle.text.specs.{refusedLine}
+use Rattle.report.specs.{analysisOn, report, lineBy, analysis}
 use Rattle.methods.proofs.Rules.{all-evaluated}
-use Rattle.report.specs.engine.Lines.{lineBy, analysis}
 
 -- the analysis of a table's tree is laid down line by line
 analysed : (t : List ℕ) → WellFormed t → analysisOn (valuation t) (tree t) ≡ analysis t

@@ -1,26 +1,16 @@
 -- Buffers with an entry for every node that a table can have, and the value that a search found.
-use Prim.Native.Nat.{ℕ, _^_, _≤_, _<_}
-use native.Mathlib.Omega.{arith}
-use mathlib.Core.Path.{_≡_, sym, ap, _∙_}
-use mathlib.Core.List.{List, []}
-use lib.IntN.{ℤ}
-use lib.ListN.{length, replicate, length-replicate}
-use lib.Signed.{mag}
-use mir.Syntax.{w16}
-use mir.Val.{hbits, toZ, ofZ}
-use mir.ValLaws.{toZ-ofZ}
+use Rattle.prelude.proofs.{ℕ, _^_, _≤_, _<_, arith, _≡_, sym, ap, _∙_, List, [], ℤ, length, replicate, length-replicate}
+use Rattle.prelude.proofs.{mag, w16, hbits, toZ, ofZ, toZ-ofZ}
 use Rattle.lists.proofs.Choice.{clash}
 use Rattle.frames.specs.declared.Rejection.{Rejection}
-use Rattle.frames.specs.Frame.{maxNodes, frames}
-use Rattle.frames.specs.Check.{Accepted}
+use Rattle.frames.specs.{maxNodes, frames, Accepted}
 use Rattle.frames.proofs.Acceptance.{accepted-formed}
 use Rattle.methods.specs.declared.Method.{Method}
 use Rattle.methods.specs.declared.Findings.{Findings}
 use Rattle.methods.specs.declared.Spent.{Spent}
 use Rattle.methods.specs.declared.Answer.{Answer}
 use Rattle.methods.specs.declared.Answer.the-variants.{Found, Spent as SpentAnswer, Rejected}
-use Rattle.methods.specs.Rules.{beyond}
-use Rattle.methods.specs.Outcome.{findingsBy, answerBy}
+use Rattle.methods.specs.{beyond, findingsBy, answerBy}
 
 -- a fresh buffer has an entry per node
 pub fresh-room : (t : List ℕ) → Accepted t → frames t ≤ length (replicate {A = ℕ} maxNodes 0)

@@ -1,24 +1,15 @@
 -- Every report fits a text of the size that is asked for.
-use Prim.Native.Nat.{ℕ, _+_, _≤_}
-use native.Mathlib.Omega.{arith}
-use mathlib.Core.Option.{Option, none, some}
-use mathlib.Core.List.{List, [], _∷_, _++_, map}
-use lib.ListN.{length, length-append}
+use Rattle.prelude.proofs.{ℕ, _+_, _≤_, arith, Option, none, some, List, [], _∷_, _++_, map, length, length-append}
 use Rattle.frames.specs.declared.Rejection.{Rejection}
-use Rattle.gametree.specs.Tree.{Tree, least, greatest, minimax}
-use Rattle.gametree.specs.Move.{rootMove}
-use Rattle.gametree.specs.AlphaBeta.{reached}
+use Rattle.gametree.specs.{Tree, least, greatest, minimax, rootMove, reached, sss as run}
 use Rattle.gametree.specs.Mtd as rule
-use Rattle.gametree.specs.Sss.{sss as run}
-use Rattle.frames.specs.Tree.{tree, valuation}
-use Rattle.frames.specs.Value.{valueOf}
-use Rattle.frames.specs.Rejection.{unless}
-use Rattle.file_lines.specs.Lines.{decoded}
-use Rattle.file_reader.specs.File.{fileRejection}
-use Rattle.text.specs.Text.{refusedLine, textSize}
+use Rattle.frames.specs.{tree, valuation, valueOf, unless}
+use Rattle.file_lines.specs.{decoded}
+use Rattle.file_reader.specs.{fileRejection}
+use Rattle.text.specs.{refusedLine, textSize}
 use Rattle.text.proofs.Laying.{decimal-few}
 use Rattle.text.proofs.Sizes.{signedDecimal-few, refused-few}
-use Rattle.report.specs.Report.{heading, methodLine, analysisOn, report}
+use Rattle.report.specs.{heading, methodLine, analysisOn, report}
 
 -- a line besides the name
 line-few : (name : List ℕ) (ν : ℕ → ℕ) (x : Tree) (w : List ℕ) → length (methodLine name ν x w) ≤ length name + 65

@@ -2,7 +2,7 @@
 use Prim.Native.Nat.{ℕ}
 use mathlib.Core.List.{List, [], _∷_, _++_, map}
 use lib.ListN.{length}
-use Rattle.gametree.specs.Tree.{Tree, least, greatest, minimax}
+use Rattle.gametree.specs.Trees.{Tree, least, greatest, minimax}
 use Rattle.gametree.specs.Move.{rootMove}
 use Rattle.gametree.specs.AlphaBeta.{reached}
 use Rattle.gametree.specs.Mtd as rule

@@ -1,23 +1,14 @@
 -- What the verdict on each certificate says of the choice.
-use Prim.Native.Nat.{ℕ, _≤_}
-use mathlib.Core.Path.{_≡_, refl}
-use mathlib.Core.Bool.{Bool, true, false}
-use mathlib.Core.Option.{Option, none, some}
-use mathlib.Core.List.{List, [], _∷_}
-use lib.ListN.{length}
-use lib.Dec.{ltb}
-use borrow.Author.Tests.{leb-true}
+use Rattle.prelude.proofs.{ℕ, _≤_, _≡_, refl, Bool, true, false, Option, none, some, List, [], _∷_, length, ltb}
+use Rattle.prelude.proofs.{leb-true}
 use Rattle.lists.proofs.Choice.{and-both}
 use Rattle.frames.specs.declared.Rejection.{Rejection}
-use Rattle.frames.specs.Frame.{frames}
-use Rattle.frames.specs.Rejection.{_andThen_}
-use Rattle.frames.specs.Check.{rejection, check10}
+use Rattle.frames.specs.{frames, _andThen_, rejection, check10, unless}
 use Rattle.frames.proofs.Stated.{ask-yes, both-passed}
-use Rattle.frames.specs.Rejection.{unless}
-use Rattle.verify.specs.Check.{flagsRejection}
+use Rattle.verify.specs.{flagsRejection}
 use Rattle.shorter.specs.declared.Choice.{Choice}
 use Rattle.shorter.specs.declared.Choice.the-variants.{First, Second, Rejected}
-use Rattle.shorter.specs.Choice.{flaggedLeaves, choiceBy, choice}
+use Rattle.shorter.specs.{flaggedLeaves, choiceBy, choice}
 
 module _ (t flags : List ℕ) where
   -- a certificate that passes question 10 has a flag for each node

@@ -1,23 +1,15 @@
 -- The flagged leaves of a certificate are the leaves of its pair of solution trees, a shared one counted once.
-use Prim.Native.Nat.{ℕ, zero, suc, _≤_}
-use native.Mathlib.Omega.{arith}
-use mathlib.Core.Path.{_≡_, refl, sym, _∙_}
-use mathlib.Core.Bool.{cond, _||_}
-use mathlib.Core.List.{List}
-use lib.Dec.{ltb}
-use lib.ListN.{getD}
-use borrow.Author.Tests.{ne-eqb}
+use Rattle.prelude.proofs.{ℕ, zero, suc, _≤_, arith, _≡_, refl, sym, _∙_, cond, _||_, List, ltb, getD, ne-eqb}
 use Rattle.gametree.specs.declared.Side.the-variants.{Max, Min}
-use Rattle.gametree.specs.Certificate.{inBoth, inside, pairLeaves}
+use Rattle.gametree.specs.{inBoth, inside, pairLeaves}
 use Rattle.gametree_theory.proofs.certificates.Leaves.{pair-count}
-use Rattle.frames.specs.Frame.{frames, childCount}
-use Rattle.frames.specs.Tree.{tree}
+use Rattle.frames.specs.{frames, childCount, tree}
 use Rattle.frames.proofs.Trees.{zero-or-suc}
 use Rattle.frames.proofs.Totals.{atNode, sum-same, count-sum, tree-leaf-count}
 use Rattle.frames.proofs.Acceptance.{accepted-formed}
-use Rattle.verify.specs.Flags.{member}
+use Rattle.verify.specs.{member}
 use Rattle.verify.specs.Certificate.{Certificate}
-use Rattle.shorter.specs.Choice.{flaggedLeaf, flaggedLeaves}
+use Rattle.shorter.specs.{flaggedLeaf, flaggedLeaves}
 
 -- a flag from 1 to 3 puts its node into one of the two trees, or both
 in-a-tree : (f : ℕ) → f ≤ inBoth → ltb 0 f ≡ (inside Max f || inside Min f)

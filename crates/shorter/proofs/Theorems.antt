@@ -1,35 +1,22 @@
 -- What is chosen of two lent certificates, and what is handed back.
-use Prim.Native.Nat.{ℕ, _≤_, _<_}
-use native.Mathlib.Omega.{arith}
-use mathlib.Core.Path.{_≡_, refl, sym, ap, _∙_}
-use mathlib.Core.Logic.{_⊎_, inl, inr}
-use mathlib.Core.Bool.{Bool, cond}
-use mathlib.Core.Option.{Option, none, some}
-use mathlib.Core.List.{List, []}
-use lib.ListN.{length, take, length-take}
-use lib.Dec.{ltb}
-use borrow.Author.Tests.{lt-ltb, le-ltb}
+use Rattle.prelude.proofs.{ℕ, _≤_, _<_, arith, _≡_, refl, sym, ap, _∙_, _⊎_, inl, inr, Bool, cond, Option, none, some}
+use Rattle.prelude.proofs.{List, [], length, take, length-take, ltb, lt-ltb, le-ltb}
 use Rattle.lists.proofs.Choice.{clash}
-use Rattle.gametree.specs.Tree.{minimax}
+use Rattle.gametree.specs.{minimax}
 use Rattle.gametree_theory.proofs.Theorems.{certificate-minimax}
 use Rattle.frames.specs.declared.Rejection.{Rejection}
-use Rattle.frames.specs.Frame.{frames}
-use Rattle.frames.specs.Rejection.{_andThen_, unless}
-use Rattle.frames.specs.Tree.{tree, valuation}
-use Rattle.frames.specs.Value.{valueOf}
-use Rattle.frames.specs.Check.{rejection}
+use Rattle.frames.specs.{frames, _andThen_, unless, tree, valuation, valueOf, rejection}
 use Rattle.frames.proofs.Stated.{both-passed, passed-both}
 use Rattle.frames.proofs.Acceptance.{accepted-formed}
 use Rattle.verify.specs.declared.Verdict.the-variants as verdicts
-use Rattle.verify.specs.Check.{flagsRejection, certificateRejection, judged, verdict}
+use Rattle.verify.specs.{flagsRejection, certificateRejection, judged, verdict}
 use Rattle.verify.specs.Certificate.{Certificate}
 use Rattle.verify.proofs.Judging.{rejected-by}
 use Rattle.verify.proofs.Theorems.{certificate-passed, certificate-verdict, verdict-certificate}
 use Rattle.verify.proofs.Parts.{certificate-part}
 use Rattle.shorter.specs.declared.Choice.{Choice}
 use Rattle.shorter.specs.declared.Choice.the-variants.{First, Second, Rejected}
-use Rattle.shorter.specs.Choice.{flaggedLeaves, choiceBy, choice, flagsBy}
-use Rattle.shorter.specs.Choice.{chosenFlags}
+use Rattle.shorter.specs.{flaggedLeaves, choiceBy, choice, flagsBy, chosenFlags}
 use Rattle.shorter.proofs.Choosing.{choice-says}
 
 -- where neither passes, the first one's rejection stands, which is the table's if the table has one

@@ -1,23 +1,15 @@
 -- A run within an allowance, by how it ends: it is what the method's rule gives.
-use Prim.Native.Nat.{ℕ}
-use mathlib.Core.Path.{_≡_, refl, sym, ap, _∙_}
-use mathlib.Core.List.{List, [], _∷_}
-use lib.ListN.{length}
+use Rattle.prelude.proofs.{ℕ, _≡_, refl, sym, ap, _∙_, List, [], _∷_, length}
 use Rattle.lists.proofs.Choice.{clash}
-use Rattle.gametree.specs.Move.{rootMove}
-use Rattle.gametree.specs.Sss.{Evaluation}
-use Rattle.gametree.specs.engine.Within.{Ran as Within, finished, spent, sssWithin}
+use Rattle.gametree.specs.{rootMove, Evaluation, Ran as Within, finished, spent, sssWithin}
 use Rattle.gametree_theory.proofs.Theorems.{sss-minimax}
 use Rattle.gametree_theory.proofs.Within.{covered-full, spent-first, within-leaves}
-use Rattle.frames.specs.Tree.{tree, valuation}
-use Rattle.frames.specs.Formed.{WellFormed}
-use Rattle.frames.specs.Value.{valueOf}
+use Rattle.frames.specs.{tree, valuation, WellFormed, valueOf}
 use Rattle.frames.proofs.Proper.{tree-proper}
 use Rattle.methods.specs.declared.Answer.{Answer}
 use Rattle.methods.specs.declared.Answer.the-variants.{Found, Spent}
 use Rattle.methods.specs.declared.Method.the-variants.{Sss}
-use Rattle.methods.specs.Rules.{runOf, evaluatedBy, beyond}
-use Rattle.methods.specs.Outcome.{answerBy}
+use Rattle.methods.specs.{runOf, evaluatedBy, beyond, answerBy}
 
 module _ (t : List ℕ) (wf : WellFormed t) (a : ℕ) where
   abbrev within : Within

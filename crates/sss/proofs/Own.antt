@@ -1,23 +1,16 @@
 -- A run over a front and a list of its own: what it leaves is what the method's rule gives.
-use Prim.Native.Nat.{ℕ, _≤_}
-use mathlib.Core.Path.{_≡_, ap, subst}
-use mathlib.Core.List.{List}
-use lib.ListN.{length, replicate}
+use Rattle.prelude.proofs.{ℕ, _≤_, _≡_, ap, subst, List, length, replicate}
 use Rattle.frames.specs.declared.Checked.the-variants.{Nodes}
-use Rattle.frames.specs.Frame.{maxNodes, frames}
-use Rattle.frames.specs.Formed.{WellFormed}
-use Rattle.positions.specs.Buffer.{written}
-use Rattle.certificate.specs.Search.{marksOf, listed}
+use Rattle.frames.specs.{maxNodes, frames, WellFormed}
+use Rattle.positions.specs.{written}
+use Rattle.certificate.specs.{marksOf, listed}
 use Rattle.methods.specs.declared.Method.the-variants.{Sss}
-use Rattle.methods.specs.Rules.{evaluatedBy, beyond}
-use Rattle.methods.specs.Outcome.{answerBy}
-use Rattle.sss_states.specs.Entry.{blank}
+use Rattle.methods.specs.{evaluatedBy, beyond, answerBy}
+use Rattle.sss_states.specs.{blank}
 use Rattle.sss_turns.specs.declared.Run.{Run}
-use Rattle.sss_turns.specs.engine.Turn.{going, Config}
-use Rattle.sss_loop.specs.engine.Invariant.{Running}
-use Rattle.sss_loop.specs.engine.Driven.{DrivenOwn}
-use Rattle.sss.specs.engine.Start.{begun}
-use Rattle.sss.specs.engine.Finish.{Answerable, endMerit, answerOf}
+use Rattle.sss_turns.specs.{going, Config}
+use Rattle.sss_loop.specs.{Running, DrivenOwn}
+use Rattle.sss.specs.{begun, Answerable, endMerit, answerOf}
 use Rattle.sss.proofs.Whole.{answerable, answer-is, marks-so, order-so}
 
 module _ (a : ℕ) (t : List ℕ) (wf : WellFormed t) (b o b₁ : List ℕ) (r : Run)

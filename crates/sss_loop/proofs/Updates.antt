@@ -1,16 +1,10 @@
 -- What a list holds after some of its entries have been replaced, and the loop that replaces them.
-use Prim.Native.Nat.{ℕ, zero, suc, _+_, _-_, _≤_, _<_}
-use native.Mathlib.Omega.{arith}
-use native.Mathlib.Numerals.{add-one}
-use mathlib.Core.Path.{_≡_, refl, sym, ap, _∙_}
-use mathlib.Core.List.{List, [], _∷_, _++_}
-use lib.ListN.{length, set, drop, replicate, length-set}
-use lib.Seq.{drop-set-lt}
+use Rattle.prelude.proofs.{ℕ, zero, suc, _+_, _-_, _≤_, _<_, arith, add-one, _≡_, refl, sym, ap, _∙_, List, [], _∷_}
+use Rattle.prelude.proofs.{_++_, length, set, drop, replicate, length-set, drop-set-lt}
 use Rattle.sss_states.specs.declared.State.{State}
 use Rattle.sss_turns.specs.declared.Update.{Update}
-use Rattle.sss_states.specs.Entry.{blank}
-use Rattle.sss_states.specs.engine.Kept.{stored}
-use Rattle.sss_turns.specs.engine.Update.{entryIn, updated, blanks}
+use Rattle.sss_states.specs.{blank, stored}
+use Rattle.sss_turns.specs.{entryIn, updated, blanks}
 
 -- entries from n on are kept
 pub stored-drop : {A : Type 0} (f : ℕ → A) (n i c : ℕ) (xs : List A) → i + c ≤ n → drop n (stored f i c xs) ≡ drop n xs

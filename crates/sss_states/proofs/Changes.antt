@@ -1,20 +1,15 @@
 -- What a change of the arrays within one node's tree leaves as it was, and what new states of a node's children show.
-use Prim.Native.Nat.{ℕ, _+_, _≤_, _<_}
-use native.Mathlib.Omega.{arith}
-use mathlib.Core.Path.{_≡_, refl, sym, _∙_, ap, subst}
-use mathlib.Core.Logic.{inl, inr}
-use mathlib.Core.List.{List, [], _∷_, _++_, append-assoc, append-nil}
+use Rattle.prelude.proofs.{ℕ, _+_, _≤_, _<_, arith, _≡_, refl, sym, _∙_, ap, subst, inl, inr, List, [], _∷_, _++_}
+use Rattle.prelude.proofs.{append-assoc, append-nil}
 use Rattle.gametree.specs.declared.Side.{Side}
 use Rattle.gametree.specs.declared.Side.the-variants.{Max, Min}
-use Rattle.gametree.specs.Tree.{Tree, inner, Children, last, _then_, number, In, InChildren, Distinct, DistinctChildren}
-use Rattle.gametree.specs.Sss.{Status, State, LIVE, live}
+use Rattle.gametree.specs.{Tree, inner, Children, last, _then_, number, In, InChildren, Distinct, DistinctChildren}
+use Rattle.gametree.specs.{Status, State, LIVE, live}
 use Rattle.gametree_theory.proofs.sss.Fronts.{ChildIn}
 use Rattle.gametree_theory.proofs.sss.FrontSteps.{in-child}
 use Rattle.gametree_theory.proofs.minimax.Nodes.{number-in}
-use Rattle.sss_states.specs.engine.Shown.{Arrays, Listed, Above, Leads, Shows, listed, expanded, Siblings, none}
-use Rattle.sss_states.specs.engine.Shown.{one}
-use Rattle.sss_states.specs.engine.Shown.{more}
-use Rattle.sss_states.specs.engine.Shown.{Beside, only, first, later, Around, top, child, stateAt}
+use Rattle.sss_states.specs.{Arrays, Listed, Above, Leads, Shows, listed, expanded, Siblings, none, one, more}
+use Rattle.sss_states.specs.{Beside, only, first, later, Around, top, child, stateAt}
 use Rattle.sss_states.proofs.Shown.{beside-child}
 
 -- the arrays a and z agree at node k

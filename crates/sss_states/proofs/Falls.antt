@@ -1,32 +1,22 @@
 -- Where the merit of a node fell, the entries above it are made anew up to a node whose greatest merit stays; from
 -- there the links lead to the state to take.
-use Prim.Native.Nat.{ℕ, zero, suc, _+_, _≤_, _<_}
-use native.Mathlib.Omega.{arith}
-use mathlib.Core.Path.{_≡_, refl, sym, _∙_, ap, ap₂, subst}
-use mathlib.Core.Logic.{inl}
-use mathlib.Core.List.{List, [], _++_, append-nil}
-use lib.ListN.{length, set, length-set}
-use lib.Seq.{getD-set-same, getD-set-other}
-use lib.Dec.{eqb}
-use borrow.Author.Tests.{ltb-true, ltb-false, eqb-true, eqb-false}
+use Rattle.prelude.proofs.{ℕ, zero, suc, _+_, _≤_, _<_, arith, _≡_, refl, sym, _∙_, ap, ap₂, subst, inl, List, [], _++_}
+use Rattle.prelude.proofs.{append-nil, length, set, length-set, getD-set-same, getD-set-other, eqb, ltb-true, ltb-false}
+use Rattle.prelude.proofs.{eqb-true, eqb-false}
 use Rattle.lists.proofs.Choice.{cond-cases}
 use Rattle.gametree.specs.declared.Side.{Side}
 use Rattle.gametree.specs.declared.Side.the-variants.{Max, Min}
-use Rattle.gametree.specs.Tree.{Tree, inner, Children, number, InChildren, Distinct}
+use Rattle.gametree.specs.{Tree, inner, Children, number, InChildren, Distinct}
 use Rattle.gametree.specs.Sss as theory
 use Rattle.gametree_theory.proofs.sss.FrontSteps.{in-child}
-use Rattle.frames.specs.Frame.{maxNodes, frames, firstChild}
-use Rattle.frames.specs.Position.{parentOf}
-use Rattle.frames.specs.Formed.{WellFormed, ChildOf}
-use Rattle.frames.specs.Tree.{tree}
+use Rattle.frames.specs.{maxNodes, frames, firstChild, parentOf, WellFormed, ChildOf, tree}
 use Rattle.frames.proofs.Next.{child-within, child-later}
 use Rattle.frames.proofs.Nodes.{tree-distinct}
 use Rattle.frames.proofs.Trees.{tree-number}
 use Rattle.sss_states.specs.declared.State.{State}
-use Rattle.sss_states.specs.engine.Shown.{Above, Leads, Shows, expanded, Siblings, Beside, Around, top, child}
-use Rattle.sss_states.specs.engine.Kept.{bestAt, linkAt, packedEntry, arraysOf, leftmostBest, chosenBy}
-use Rattle.sss_states.specs.engine.Kept.{chosenOf, renewed, needsRefresh}
-use Rattle.sss_states.specs.engine.Kept.{Refreshed, refreshed, descended}
+use Rattle.sss_states.specs.{Above, Leads, Shows, expanded, Siblings, Beside, Around, top, child, bestAt, linkAt}
+use Rattle.sss_states.specs.{packedEntry, arraysOf, leftmostBest, chosenBy, chosenOf, renewed, needsRefresh}
+use Rattle.sss_states.specs.{Refreshed, refreshed, descended}
 use Rattle.sss_states.proofs.Shown.{beside-child, whole, regroup, Standing, standing-root, standing-down}
 use Rattle.sss_states.proofs.Changes.{AgreeAt, child-distinct, shown-same, beside-same, around-distinct}
 use Rattle.sss_states.proofs.Changes.{around-same}

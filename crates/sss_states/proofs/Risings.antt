@@ -1,26 +1,16 @@
 -- The fall keeps the front sound, and each step up leaves what is still to be done.
-use Prim.Native.Nat.{ℕ, zero, suc, _+_, _-_, _/_, _%_, _≤_, _<_}
-use native.Mathlib.Omega.{arith}
-use mathlib.Core.Path.{_≡_, refl, sym, _∙_, ap, ap₂, subst}
-use mathlib.Core.Logic.{_⊎_, inl, inr}
-use mathlib.Core.Bool.{true, false, cond}
-use mathlib.Core.List.{List}
-use lib.ListN.{length, getD, set, length-set}
+use Rattle.prelude.proofs.{ℕ, zero, suc, _+_, _-_, _/_, _%_, _≤_, _<_, arith, _≡_, refl, sym, _∙_, ap, ap₂, subst, _⊎_}
+use Rattle.prelude.proofs.{inl, inr, true, false, cond, List, length, getD, set, length-set}
 use Rattle.gametree.specs.declared.Side.{Side}
 use Rattle.gametree.specs.declared.Side.the-variants.{Max, Min}
-use Rattle.gametree.specs.Tree.{greatest}
+use Rattle.gametree.specs.{greatest}
 use Rattle.lists.proofs.Choice.{cond-cases, clash}
-use Rattle.frames.specs.Frame.{maxNodes, frames, firstChild, childCount}
-use Rattle.frames.specs.Position.{parentOf, sideOf}
-use Rattle.frames.specs.Formed.{WellFormed, ChildOf}
+use Rattle.frames.specs.{maxNodes, frames, firstChild, childCount, parentOf, sideOf, WellFormed, ChildOf}
 use Rattle.frames.proofs.Next.{child-within}
 use Rattle.frames.proofs.Parents.{parent-less}
-use Rattle.sss_states.specs.engine.Kept.{bestAt, linkAt, packedEntry, chosenBy, chosenOf, renewed}
-use Rattle.sss_states.specs.engine.Kept.{needsRefresh}
-use Rattle.sss_states.specs.engine.Kept.{Refreshed, refreshed, Sound, Fits}
+use Rattle.sss_states.specs.{bestAt, linkAt, packedEntry, chosenBy, chosenOf, renewed, needsRefresh, Refreshed}
+use Rattle.sss_states.specs.{refreshed, Sound, Fits, changed, Puttable, Putting}
 use Rattle.sss_states.specs.declared.Change.{Change}
-use Rattle.sss_states.specs.engine.Kept.{changed, Puttable}
-use Rattle.sss_states.specs.engine.Putting.{Putting}
 use Rattle.sss_states.proofs.Stores.{same-or-not, set-at, InRun, OutRun, in-or-out, changed-in, changed-node}
 use Rattle.sss_states.proofs.Stores.{changed-out, changed-length, run-within}
 use Rattle.sss_states.proofs.Ways.{leftmost-is}

@@ -1,18 +1,10 @@
 -- The loops over the front: the leftmost best of some children, the fall, and the way down.
-use Prim.Native.Nat.{ℕ, zero, suc, _+_, _-_, _*_, _/_, _≤_, _<_}
-use native.Mathlib.Omega.{arith}
-use native.Mathlib.Decide.{decLe}
-use mathlib.Core.Path.{_≡_, refl, sym, _∙_, ap}
-use mathlib.Core.Logic.{inl, inr}
-use mathlib.Core.List.{List}
-use lib.Dec.{ltb}
-use lib.ListN.{length, getD}
-use borrow.Author.Tests.{eq-eqb, ne-eqb}
-use Rattle.frames.specs.Frame.{maxNodes, frames}
-use Rattle.frames.specs.Formed.{WellFormed}
+use Rattle.prelude.proofs.{ℕ, zero, suc, _+_, _-_, _*_, _/_, _≤_, _<_, arith, decLe, _≡_, refl, sym, _∙_, ap, inl, inr}
+use Rattle.prelude.proofs.{List, ltb, length, getD, eq-eqb, ne-eqb}
+use Rattle.frames.specs.{maxNodes, frames, WellFormed}
 use Rattle.frames.proofs.Next.{child-within, child-later}
-use Rattle.sss_states.specs.engine.Kept.{bestAt, linkAt, leftmostBest, needsRefresh, descended, Sound, Fits}
-use Rattle.sss_states.specs.engine.Scanned.{Attained, GreatestEntry, FirstFrom}
+use Rattle.sss_states.specs.{bestAt, linkAt, leftmostBest, needsRefresh, descended, Sound, Fits, Attained}
+use Rattle.sss_states.specs.{GreatestEntry, FirstFrom}
 use Rattle.sss_states.proofs.Ways.{leftmost-same}
 
 -- the greatest of the entries before `at`

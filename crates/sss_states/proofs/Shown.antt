@@ -1,19 +1,13 @@
 -- Laws of fronts kept in arrays: their merits, that they are fronts of the tree, how the states around a node and those
 -- below it make the whole, and the way down to the best state.
-use Prim.Native.Nat.{ℕ, _+_, _≤_, _<_}
-use native.Mathlib.Omega.{arith}
-use mathlib.Core.Path.{_≡_, refl, sym, _∙_, ap, ap₂, subst}
-use mathlib.Core.Logic.{inl, inr}
-use mathlib.Core.List.{List, [], _∷_, _++_, append-assoc, append-nil}
+use Rattle.prelude.proofs.{ℕ, _+_, _≤_, _<_, arith, _≡_, refl, sym, _∙_, ap, ap₂, subst, inl, inr, List, [], _∷_, _++_}
+use Rattle.prelude.proofs.{append-assoc, append-nil}
 use Rattle.gametree.specs.declared.Side.{Side}
-use Rattle.gametree.specs.Tree.{Tree, Children, number}
-use Rattle.gametree.specs.Sss.{State}
+use Rattle.gametree.specs.{Tree, Children, number, State}
 use Rattle.gametree_theory.proofs.sss.Fronts as fronts
 use Rattle.lists.proofs.Lists.{all-append, all-map}
-use Rattle.sss_states.specs.engine.Shown.{Arrays, Listed, Leads, Shows, listed, expanded, Siblings, none, one}
-use Rattle.sss_states.specs.engine.Shown.{more}
-use Rattle.sss_states.specs.engine.Shown.{Beside, only, first, later, Around, top, child, Below, BestFound}
-use Rattle.sss_states.specs.engine.Shown.{stateAt}
+use Rattle.sss_states.specs.{Arrays, Listed, Leads, Shows, listed, expanded, Siblings, none, one, more, Beside}
+use Rattle.sss_states.specs.{only, first, later, Around, top, child, Below, BestFound, stateAt}
 
 -- merits below m are below what is no less
 below : {m k : ℕ} (L : List State) → m ≤ k → Below m L → Below k L

@@ -1,20 +1,12 @@
 -- A change at and below a node: which nodes it is at, and what is read after its run of entries has been stored.
-use Prim.Native.Nat.{ℕ, zero, suc, _+_, _≤_, _<_}
-use native.Mathlib.Omega.{arith}
-use native.Mathlib.Decide.{decLe}
-use mathlib.Core.Path.{_≡_, refl, _∙_}
-use mathlib.Core.Logic.{_⊎_, inl, inr}
-use mathlib.Core.List.{List}
-use lib.ListN.{length, getD, set, length-set}
-use lib.Seq.{getD-set-same, getD-set-other}
-use Rattle.frames.specs.Frame.{frames}
-use Rattle.frames.specs.Formed.{WellFormed, ChildOf}
+use Rattle.prelude.proofs.{ℕ, zero, suc, _+_, _≤_, _<_, arith, decLe, _≡_, refl, _∙_, _⊎_, inl, inr, List, length, getD}
+use Rattle.prelude.proofs.{set, length-set, getD-set-same, getD-set-other}
+use Rattle.frames.specs.{frames, WellFormed, ChildOf}
 use Rattle.frames.proofs.Next.{child-within}
 use Rattle.sss_states.specs.declared.Change.{Change}
-use Rattle.positions.specs.Buffer.{stored}
+use Rattle.positions.specs.{stored}
 pub use Rattle.positions.proofs.Runs.{stored-length}
-use Rattle.sss_states.specs.engine.Kept.{packedEntry, changed}
-use Rattle.sss_states.specs.engine.Putting.{Local}
+use Rattle.sss_states.specs.{packedEntry, changed, Local}
 
 -- k is the first of the numbers from i on, or a later one
 pub first-or-later : {R : Type 0} (i k : ℕ) → i ≤ k → (k ≡ i → R) → (i + 1 ≤ k → R) → R

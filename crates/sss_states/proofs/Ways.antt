@@ -1,29 +1,19 @@
 -- The nodes around which states stand are the table's; among a node's children, by their numbers, are the one that it
 -- goes down to and the leftmost of greatest merit.
-use Prim.Native.Nat.{ℕ, zero, suc, _+_, _≤_, _<_}
-use native.Mathlib.Omega.{arith}
-use native.Mathlib.Decide.{decLe}
-use mathlib.Core.Path.{_≡_, refl, sym, _∙_, ap, subst}
-use mathlib.Core.Logic.{inl, inr}
-use mathlib.Core.List.{List, [], _∷_, _++_, map, append-assoc, append-nil}
-use borrow.Author.Tests.{le-leb, lt-leb}
+use Rattle.prelude.proofs.{ℕ, zero, suc, _+_, _≤_, _<_, arith, decLe, _≡_, refl, sym, _∙_, ap, subst, inl, inr, List}
+use Rattle.prelude.proofs.{[], _∷_, _++_, map, append-assoc, append-nil, le-leb, lt-leb}
 use Rattle.gametree.specs.declared.Side.{Side}
 use Rattle.gametree.specs.declared.Side.the-variants.{Max, Min}
-use Rattle.gametree.specs.Tree.{Tree, leaf, inner, Children, number}
-use Rattle.gametree.specs.Sss.{State, live}
+use Rattle.gametree.specs.{Tree, leaf, inner, Children, number, State, live}
 use Rattle.lists.proofs.Choice.{clash}
 use Rattle.gametree_theory.proofs.sss.Fronts.{ChildIn}
-use Rattle.frames.specs.Frame.{frames, firstChild, childCount}
-use Rattle.frames.specs.Position.{parentOf, sideOf}
-use Rattle.frames.specs.Formed.{WellFormed, ChildOf}
-use Rattle.frames.specs.Tree.{upFrom, childrenFrom, treeAt, tree}
+use Rattle.frames.specs.{frames, firstChild, childCount, parentOf, sideOf, WellFormed, ChildOf, upFrom, childrenFrom}
+use Rattle.frames.specs.{treeAt, tree}
 use Rattle.frames.proofs.Next.{child-within}
 use Rattle.frames.proofs.Parents.{parent-is}
 use Rattle.frames.proofs.Trees.{zero-or-suc, tree-leaf, tree-inner, tree-number}
-use Rattle.sss_states.specs.engine.Shown.{Arrays, Shows, Siblings, none, one, more, Beside, only, first, later}
-use Rattle.sss_states.specs.engine.Shown.{Around, top}
-use Rattle.sss_states.specs.engine.Shown.{child}
-use Rattle.sss_states.specs.engine.Kept.{bestAt, leftmostBest}
+use Rattle.sss_states.specs.{Arrays, Shows, Siblings, none, one, more, Beside, only, first, later, Around, top}
+use Rattle.sss_states.specs.{child, bestAt, leftmostBest}
 use Rattle.sss_states.proofs.Shown.{beside-child}
 use Rattle.sss_states.proofs.Changes.{Fresh, fresh-shows}
 use Rattle.sss_states.proofs.Stores.{first-or-later}

@@ -9,7 +9,7 @@ use positions::side_at;
 ghost use mathlib.Core.Path.{_≡_};
 ghost use Prim.Native.Nat.{_+_, _-_, _≤_, _<_};
 ghost use lib.ListN.{length};
-ghost use Rattle.gametree.specs.Tree.{greatest};
+ghost use Rattle.gametree.specs.Trees.{greatest};
 ghost use Rattle.frames.specs.Frame.{maxNodes, frames};
 ghost use Rattle.sss_states.specs.Entry.{blank as blankEntry};
 ghost use Rattle.sss_states.specs.engine.Kept.{bestAt, linkAt, packedEntry as packedOf, leftmostBest, chosenOf};

@@ -1,22 +1,16 @@
 -- The cases of the rules and the steps of a replacement that the code tells apart by tests.
-use Prim.Native.Nat.{ℕ, _+_, _-_, _≤_, _<_}
-use native.Mathlib.Omega.{arith}
-use mathlib.Core.Path.{_≡_, ap, ap₂, _∙_}
-use mathlib.Core.List.{List}
-use borrow.Author.Tests.{lt-ltb, le-ltb}
+use Rattle.prelude.proofs.{ℕ, _+_, _-_, _≤_, _<_, arith, _≡_, ap, ap₂, _∙_, List, lt-ltb, le-ltb}
 use Rattle.gametree.specs.declared.Side.{Side}
 use Rattle.gametree.specs.declared.Side.the-variants.{Max, Min}
-use Rattle.frames.specs.Frame.{frames, firstChild, childCount}
+use Rattle.frames.specs.{frames, firstChild, childCount}
 use Rattle.sss_states.specs.declared.Status.the-variants.{Live, Solved}
 use Rattle.sss_states.specs.declared.Change.{Change}
 use Rattle.sss_turns.specs.declared.Counts.{Counts}
-use Rattle.sss_turns.specs.engine.Rules.{one, ofChild}
+use Rattle.sss_turns.specs.{one, ofChild, ofChange, nextAt, replacedRun, settledFront}
 use Rattle.sss_turns.specs.declared.Update.{Update}
 use Rattle.sss_turns.specs.declared.Stage.the-variants.{Going}
 use Rattle.sss_turns.specs.declared.Run.{Run}
-use Rattle.sss_turns.specs.engine.Update.{ofChange}
-use Rattle.sss_turns.specs.engine.Turn.{nextAt, replacedRun, settledFront}
-use Rattle.sss_states.specs.engine.Kept.{refreshed, descended, changed}
+use Rattle.sss_states.specs.{refreshed, descended, changed}
 
 module _ (t : List ℕ) (i γ p : ℕ) (s : Side) (r : Change) where
   pub child-max : s ≡ Max → r ≡ one p p Solved γ → r ≡ ofChild t i γ p s

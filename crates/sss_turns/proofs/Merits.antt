@@ -1,14 +1,9 @@
 -- Merits as signed numbers, and back.
-use Prim.Native.Nat.{ℕ, _≤_}
-use native.Mathlib.Omega.{arith}
-use mathlib.Core.Path.{sym, ap}
-use lib.IntN.{ℤ, natAbs}
-use mir.Syntax.{w32}
-use mir.Val.{SFits}
-use Rattle.gametree.specs.Tree.{greatest, zeroScore}
-use Rattle.frames.specs.Value.{valueOf, scoreOf}
+use Rattle.prelude.proofs.{ℕ, _≤_, arith, sym, ap, ℤ, natAbs, w32, SFits}
+use Rattle.gametree.specs.{greatest, zeroScore}
+use Rattle.frames.specs.{valueOf, scoreOf}
 use Rattle.frames.proofs.Values.{value-small, value-within, score-back}
-use Rattle.sss_turns.specs.engine.Merit.{IsMerit}
+use Rattle.sss_turns.specs.{IsMerit}
 
 -- the value of a score takes 32 bits
 pub value-fits : (s : ℕ) → s ≤ greatest → SFits w32 (valueOf s)

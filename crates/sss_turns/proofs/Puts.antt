@@ -1,25 +1,16 @@
 -- What replaces a state is a change at and below one node of the table.
-use Prim.Native.Nat.{ℕ, zero, suc, _+_, _≤_, _<_}
-use native.Mathlib.Omega.{arith}
-use mathlib.Core.Path.{_≡_, refl, sym}
-use mathlib.Core.Logic.{inl, inr}
-use mathlib.Core.List.{List}
-use lib.Dec.{ltb}
-use borrow.Author.Tests.{ltb-true}
+use Rattle.prelude.proofs.{ℕ, zero, suc, _+_, _≤_, _<_, arith, _≡_, refl, sym, inl, inr, List, ltb, ltb-true}
 use Rattle.gametree.specs.declared.Side.{Side}
 use Rattle.gametree.specs.declared.Side.the-variants.{Max, Min}
-use Rattle.gametree.specs.Tree.{greatest}
+use Rattle.gametree.specs.{greatest}
 use Rattle.lists.proofs.Choice.{cond-cases}
-use Rattle.frames.specs.Frame.{frames, firstChild, childCount}
-use Rattle.frames.specs.Position.{parentOf, sideOf}
-use Rattle.frames.specs.Formed.{ChildOf}
+use Rattle.frames.specs.{frames, firstChild, childCount, parentOf, sideOf, ChildOf}
 use Rattle.frames.proofs.Parents.{parent-child}
 use Rattle.sss_states.specs.declared.Status.{Status}
 use Rattle.sss_states.specs.declared.Status.the-variants.{Live, Solved}
 use Rattle.sss_states.specs.declared.Change.{Change}
-use Rattle.sss_states.specs.engine.Kept.{Fits}
-use Rattle.sss_turns.specs.engine.Rules.{one, ofInner, ofLive, ofChild, ofState}
-use Rattle.sss_states.specs.engine.Putting.{Local, Putting}
+use Rattle.sss_states.specs.{Fits, Local, Putting}
+use Rattle.sss_turns.specs.{one, ofInner, ofLive, ofChild, ofState}
 
 module _ (t : List ℕ) where
   -- a state of the node itself

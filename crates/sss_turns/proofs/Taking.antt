@@ -1,20 +1,11 @@
 -- What taking a state does, in the cases that the code tells apart.
-use Prim.Native.Nat.{ℕ, zero, suc, _+_, _≤_, _<_}
-use native.Mathlib.Omega.{arith}
-use native.Mathlib.Decide.{decLt}
-use mathlib.Core.Path.{_≡_, refl, ap}
-use mathlib.Core.Bool.{true, false}
-use mathlib.Core.List.{List, []}
-use lib.Dec.{eqb}
-use lib.ListN.{length}
-use borrow.Author.Tests.{eq-eqb, ne-eqb, lt-ltb, le-ltb}
+use Rattle.prelude.proofs.{ℕ, zero, suc, _+_, _≤_, _<_, arith, decLt, _≡_, refl, ap, true, false, List, [], eqb, length}
+use Rattle.prelude.proofs.{eq-eqb, ne-eqb, lt-ltb, le-ltb}
 use Rattle.lists.proofs.Choice.{true-not-false}
 use Rattle.gametree.specs.declared.Side.{Side}
-use Rattle.frames.specs.Frame.{frames, childCount}
-use Rattle.certificate_bounds.specs.Marks.{marked, ones, markAll}
-use Rattle.certificate_bounds.specs.engine.Progress.{progress, evaluateAll}
+use Rattle.frames.specs.{frames, childCount, scoreOf}
+use Rattle.certificate_bounds.specs.{marked, ones, markAll, progress, evaluateAll}
 use Rattle.certificate_bounds.proofs.Listing.{ones-set}
-use Rattle.frames.specs.Value.{scoreOf}
 use Rattle.sss_states.specs.declared.Status.{Status}
 use Rattle.sss_states.specs.declared.Status.the-variants.{Live, Solved}
 use Rattle.sss_states.specs.declared.State.{State}
@@ -22,10 +13,8 @@ use Rattle.sss_states.specs.declared.Change.{Change}
 use Rattle.sss_turns.specs.declared.Counts.{Counts}
 use Rattle.sss_turns.specs.declared.Stage.the-variants.{Spent}
 use Rattle.sss_turns.specs.declared.Run.{Run}
-use Rattle.sss_turns.specs.engine.Rules.{ofInner, ofLive, ofState}
-use Rattle.sss_turns.specs.engine.Turn.{isSolvedRoot, evaluatedAt, newLeaves, isLiveLeaf, isUncovered}
-use Rattle.sss_turns.specs.engine.Turn.{settledFront}
-use Rattle.sss_turns.specs.engine.Turn.{replacedRun, recounted, endedRun, taken}
+use Rattle.sss_turns.specs.{ofInner, ofLive, ofState, isSolvedRoot, evaluatedAt, newLeaves, isLiveLeaf}
+use Rattle.sss_turns.specs.{isUncovered, settledFront, replacedRun, recounted, endedRun, taken}
 
 -- a SOLVED state that is not the root's
 pub not-root : (s : Status) (i : ℕ) → isSolvedRoot s i ≡ false → s ≡ Solved → 0 < i

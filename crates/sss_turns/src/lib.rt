@@ -14,7 +14,7 @@ use sss_states::put;
 use sss_states::refresh_ancestors;
 ghost use mathlib.Core.Path.{_≡_};
 ghost use Prim.Native.Nat.{_<_, _≤_};
-ghost use Rattle.gametree.specs.Tree.{greatest};
+ghost use Rattle.gametree.specs.Trees.{greatest};
 ghost use Rattle.frames.specs.Frame.{frames, childCount};
 ghost use Rattle.frames.specs.Value.{valueOf, scoreOf};
 ghost use Rattle.sss_turns.specs.engine.Update.{ofChange, blanks as blanksOf};

@@ -15,7 +15,7 @@ ghost use mathlib.Core.Bool.{false};
 ghost use mathlib.Core.List.{[], _∷_};
 ghost use Prim.Native.Nat.{_<_, _≤_, min};
 ghost use lib.ListN.{length};
-ghost use Rattle.gametree.specs.Tree.{greatest};
+ghost use Rattle.gametree.specs.Trees.{greatest};
 ghost use Rattle.frames.specs.Frame.{maxNodes, frames, childCount};
 ghost use Rattle.frames.specs.Tree.{valuation};
 ghost use Rattle.certificate_bounds.specs.Marks.{marked};

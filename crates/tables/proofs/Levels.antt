@@ -2,19 +2,11 @@
 -- children known so far, depth d + 1; where i reaches e, the level below begins, and it ends where the children begin.
 -- If that level is the last one allowed and some node is not yet known, the first such node is too deep; once each node
 -- is known, none is.
-use Prim.Native.Nat.{ℕ, _+_, _≤_, _<_}
-use native.Mathlib.Omega.{arith}
-use native.Mathlib.Decide.{decLt}
-use mathlib.Core.Path.{_≡_, refl, ap, _∙_}
-use mathlib.Core.List.{List}
-use borrow.Author.Tests.{le-leb, lt-leb}
+use Rattle.prelude.proofs.{ℕ, _+_, _≤_, _<_, arith, decLt, _≡_, refl, ap, _∙_, List, le-leb, lt-leb}
 use Rattle.frames.specs.declared.Rejection.{Rejection}
 use Rattle.frames.specs.declared.Checked.the-variants.{Nodes}
-use Rattle.frames.specs.Frame.{maxDepth, frames, childCount, next}
-use Rattle.frames.specs.Position.{parentOf, depthOf}
-use Rattle.frames.specs.Formed.{WellFormed}
-use Rattle.frames.specs.Rejection.{answer}
-use Rattle.frames.specs.Check.{check9, depthsRejection}
+use Rattle.frames.specs.{maxDepth, frames, childCount, next, parentOf, depthOf, WellFormed, answer, check9}
+use Rattle.frames.specs.{depthsRejection}
 use Rattle.frames.proofs.Next.{next-more, next-mono, next-within, waits, child-next, next-child, child-later}
 use Rattle.frames.proofs.Parents.{parent-child}
 use Rattle.frames.proofs.Positions.{position-root, depth-child}

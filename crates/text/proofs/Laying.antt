@@ -1,17 +1,10 @@
 -- Text that is laid into a buffer piece by piece.
-use Prim.Native.Nat.{ℕ, zero, suc, _+_, _^_, _/_, _%_, _≤_, _<_}
-use native.Mathlib.Omega.{arith}
-use native.Mathlib.Numerals.{add-one}
-use mathlib.Core.Path.{_≡_, refl, sym, ap, ap₂, _∙_, subst}
-use mathlib.Core.List.{List, [], _∷_, _++_, append-assoc}
-use lib.ListN.{length, getD, set, take, drop, take-append-drop, length-append, length-take, length-drop}
-use lib.Seq.{set-split, take-suc, take-at, drop-at, drop-drop}
-use borrow.Author.Tests.{lt-ltb, le-ltb}
-use native.Mathlib.Nat.{pow-suc, div-lt-iff-lt-mul}
-use mathlib.Core.Bool.{cond}
-use lib.Dec.{ltb}
+use Rattle.prelude.proofs.{ℕ, zero, suc, _+_, _^_, _/_, _%_, _≤_, _<_, arith, add-one, _≡_, refl, sym, ap, ap₂, _∙_}
+use Rattle.prelude.proofs.{subst, List, [], _∷_, _++_, append-assoc, length, getD, set, take, drop, take-append-drop}
+use Rattle.prelude.proofs.{length-append, length-take, length-drop, set-split, take-suc, take-at, drop-at, drop-drop}
+use Rattle.prelude.proofs.{lt-ltb, le-ltb, pow-suc, div-lt-iff-lt-mul, cond, ltb}
 use Rattle.lists.proofs.Choice.{cond-cases}
-use Rattle.text.specs.Text.{decimalWithin, decimal, laid, TextRoom, Put}
+use Rattle.text.specs.{decimalWithin, decimal, laid, TextRoom, Put}
 
 -- nothing laid
 pub laid-none : (at : ℕ) (b : List ℕ) → laid at [] b ≡ b

@@ -1,13 +1,7 @@
 -- The text of a signed value, by its sign.
-use native.Mathlib.Omega.{arith}
-use mathlib.Core.Path.{_≡_, refl}
-use mathlib.Core.Bool.{true, false}
-use mathlib.Core.List.{_∷_}
-use borrow.Author.Tests.{le-ltb}
-use lib.IntN.{ℤ, pos, negsuc, natAbs}
-use lib.Signed.{ltZ}
+use Rattle.prelude.proofs.{arith, _≡_, refl, true, false, _∷_, le-ltb, ℤ, pos, negsuc, natAbs, ltZ}
 use Rattle.lists.proofs.Choice.{true-not-false}
-use Rattle.text.specs.Text.{decimal, signedDecimal}
+use Rattle.text.specs.{decimal, signedDecimal}
 
 -- a minus sign stands before the magnitude of a negative one
 pub negative-text : (v : ℤ) → ltZ v (pos 0) ≡ true → signedDecimal v ≡ 45 ∷ decimal (natAbs v)

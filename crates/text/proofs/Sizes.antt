@@ -1,15 +1,9 @@
 -- How long numbers and a rejection's line are; and what is laid into zeros is a text.
-use Prim.Native.Nat.{ℕ, zero, suc, _-_, _≤_}
-use native.Mathlib.Omega.{arith}
-use native.Mathlib.Nat.{zero-add}
-use mathlib.Core.Path.{_≡_, refl, ap, ap₂, _∙_}
-use mathlib.Core.List.{List, _++_}
-use lib.IntN.{ℤ, pos, negsuc}
-use lib.ListN.{length, take, drop, replicate, length-append}
-use lib.Seq.{take-at}
+use Rattle.prelude.proofs.{ℕ, zero, suc, _-_, _≤_, arith, zero-add, _≡_, refl, ap, ap₂, _∙_, List, _++_, ℤ, pos, negsuc}
+use Rattle.prelude.proofs.{length, take, drop, replicate, length-append, take-at}
 use Rattle.frames.specs.declared.Rejection.{Rejection}
 use Rattle.text.specs.declared.Text.{Text}
-use Rattle.text.specs.Text.{signedDecimal, refusedLine, laid, TextRoom, Put, textSize, textOf}
+use Rattle.text.specs.{signedDecimal, refusedLine, laid, TextRoom, Put, textSize, textOf}
 use Rattle.text.proofs.Laying.{decimal-few}
 
 -- 20 digits and a sign

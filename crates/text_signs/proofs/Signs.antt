@@ -1,13 +1,6 @@
 -- A signed value, its sign and its magnitude.
-use native.Mathlib.Omega.{arith}
-use mathlib.Core.Path.{_≡_, refl}
-use mathlib.Core.Bool.{true, false}
-use lib.Dec.{T}
-use borrow.Author.Tests.{le-ltb}
-use lib.IntN.{ℤ, pos, negsuc, _-ℤ_, natAbs}
-use lib.Signed.{ltZ, nonNeg}
-use mir.Syntax.{w16, w32, w64}
-use mir.Val.{Fits, SFits}
+use Rattle.prelude.proofs.{arith, _≡_, refl, true, false, T, le-ltb, ℤ, pos, negsuc, _-ℤ_, natAbs, ltZ, nonNeg, w16}
+use Rattle.prelude.proofs.{w32, w64, Fits, SFits}
 use Rattle.lists.proofs.Choice.{true-not-false}
 
 -- a value of 16 bits takes 32 too, and one of 32 bits 64

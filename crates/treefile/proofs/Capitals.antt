@@ -1,25 +1,17 @@
 -- The digits that the writer lays are capitals, and the reader takes them back: a line that is written stands for its
 -- frame.
-use Prim.Native.Nat.{ℕ, zero, suc, _+_, _*_, _/_, _%_, _<_}
-use mathlib.Core.Path.{_≡_, refl, _∙_}
-use mathlib.Core.Bool.{Bool, true, false}
-use mathlib.Core.List.{List, [], _∷_, _++_}
-use lib.Dec.{ltb, eqb}
-use lib.ListN.{length, getD}
-use native.Mathlib.Omega.{arith}
-use native.Mathlib.Decide.{decLt}
-use borrow.Author.Tests.{lt-ltb, le-ltb, eq-eqb}
+use Rattle.prelude.proofs.{ℕ, zero, suc, _+_, _*_, _/_, _%_, _<_, _≡_, refl, _∙_, Bool, true, false, List, [], _∷_}
+use Rattle.prelude.proofs.{_++_, ltb, eqb, length, getD, arith, decLt, lt-ltb, le-ltb, eq-eqb}
 use Rattle.lists.proofs.Choice.{true-not-false, and-both, or-right}
-use Rattle.frames.specs.Frame.{frameSize}
-use Rattle.file_hex.specs.Digit.{within, noDigit, digitOf, capitalOf, isCapitalDigit}
+use Rattle.frames.specs.{frameSize}
+use Rattle.file_hex.specs.{within, noDigit, digitOf, capitalOf, isCapitalDigit}
 use Rattle.file_hex.proofs.Digits.{inside, above}
-use Rattle.file_lines.specs.Line.{lineDigits, lineFeed, allDigits, isLine, hasLowercase, bytesOf}
-use Rattle.file_lines.specs.Lines.{putBefore, linesOf}
+use Rattle.file_lines.specs.{lineDigits, lineFeed, allDigits, isLine, hasLowercase, bytesOf, putBefore, linesOf}
 use Rattle.file_lines.proofs.CapitalDigits.{capitals-all}
 use Rattle.file_lines.proofs.Splits.{feed-no-digit}
-use Rattle.file_writer.specs.Encoded.{digitsOf}
+use Rattle.file_writer.specs.{digitsOf}
 use Rattle.file_writer.proofs.Laying.{digits-length}
-use Rattle.treefile.specs.results.Saved.{Bytes}
+use Rattle.treefile.specs.{Bytes}
 
 module _ (n : ℕ) (small : n < noDigit) where
   -- the digit of a number is a capital

@@ -1,24 +1,13 @@
 -- The table of a file whose lines are right is a list of bytes: two digits make less than 256.
-use Prim.Native.Nat.{ℕ, zero, suc, _+_, _-_, _<_}
-use mathlib.Core.Path.{_≡_}
-use mathlib.Core.Bool.{true}
-use mathlib.Core.Option.{none}
-use mathlib.Core.List.{List, [], _∷_, _++_}
-use lib.Dec.{ltb}
-use lib.ListN.{length, length-append, List·getD-append}
-use lib.Seq.{getD-append-add}
-use native.Mathlib.Omega.{arith}
-use native.Mathlib.Decide.{decLt}
-use borrow.Author.Tests.{ltb-true}
+use Rattle.prelude.proofs.{ℕ, zero, suc, _+_, _-_, _<_, _≡_, true, none, List, [], _∷_, _++_, ltb, length}
+use Rattle.prelude.proofs.{length-append, List·getD-append, getD-append-add, arith, decLt, ltb-true}
 use Rattle.lists.proofs.Choice.{and-both}
 use Rattle.frames.proofs.Stated.{ask-yes, both-passed}
-use Rattle.file_hex.specs.Digit.{noDigit, digitOf}
-use Rattle.file_lines.specs.Line.{allDigits, bytesOf}
-use Rattle.file_lines.specs.Lines.{linesOf, decode, decoded}
+use Rattle.file_hex.specs.{noDigit, digitOf}
+use Rattle.file_lines.specs.{allDigits, bytesOf, linesOf, decode, decoded}
 use Rattle.file_lines.proofs.Lines.{line-digits}
-use Rattle.file_reader.specs.File.{eachLine, fileCheck3}
-use Rattle.file_reader.specs.engine.Decoded.{lineCheck3}
-use Rattle.treefile.specs.results.Saved.{Bytes}
+use Rattle.file_reader.specs.{eachLine, fileCheck3, lineCheck3}
+use Rattle.treefile.specs.{Bytes}
 
 -- of a line
 line-bytes : (l : List ℕ) → allDigits l ≡ true → Bytes (bytesOf l)

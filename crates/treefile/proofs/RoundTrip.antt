@@ -1,30 +1,22 @@
 -- The file of a table, against the definitions that the public reader cites: its length, its letters and line feeds,
 -- that it is read back exactly, and that different tables give different files.
-use Prim.Native.Nat.{ℕ, zero, suc, _+_, _*_, _-_, _≤_, _<_, min}
-use mathlib.Core.Path.{_≡_, refl, sym, ap, _∙_}
-use mathlib.Core.Bool.{true}
-use mathlib.Core.Option.{Option, none}
-use mathlib.Core.List.{List, [], _∷_, _++_, append-assoc}
-use lib.ListN.{length, getD, take, drop, length-take, length-drop, List·getD-append}
-use lib.Seq.{take-all, drop-drop, take-add, getD-take, getD-drop, getD-append-add, length-take-le}
-use native.Mathlib.Omega.{arith}
+use Rattle.prelude.proofs.{ℕ, zero, suc, _+_, _*_, _-_, _≤_, _<_, min, _≡_, refl, sym, ap, _∙_, true, Option, none}
+use Rattle.prelude.proofs.{List, [], _∷_, _++_, append-assoc, length, getD, take, drop, length-take, length-drop}
+use Rattle.prelude.proofs.{List·getD-append, take-all, drop-drop, take-add, getD-take, getD-drop, getD-append-add}
+use Rattle.prelude.proofs.{length-take-le, arith}
 use Rattle.frames.specs.declared.Rejection.{Rejection}
 use Rattle.frames.specs.declared.Checked.the-variants.{Nodes}
-use Rattle.frames.specs.Frame.{frameSize, frames}
-use Rattle.frames.specs.Rejection.{_leaving_}
-use Rattle.frames.specs.Check.{Accepted}
+use Rattle.frames.specs.{frameSize, frames, _leaving_, Accepted}
 use Rattle.frames.proofs.Stated.{yes-ask, passed-both}
 use Rattle.frames.proofs.Acceptance.{accepted-stated}
-use Rattle.file_hex.specs.Digit.{isCapitalDigit}
-use Rattle.file_lines.specs.Line.{lineDigits, lineFeed, lineSize}
-use Rattle.file_lines.specs.Lines.{linesOf, decode, decoded}
-use Rattle.file_reader.specs.File.{eachLine, AcceptedFile, readOutcome}
-use Rattle.file_reader.specs.engine.Decoded.{lineCheck16, lineCheck3}
+use Rattle.file_hex.specs.{isCapitalDigit}
+use Rattle.file_lines.specs.{lineDigits, lineFeed, lineSize, linesOf, decode, decoded}
+use Rattle.file_reader.specs.{eachLine, AcceptedFile, readOutcome, lineCheck16, lineCheck3}
 use Rattle.file_reader.proofs.Acceptance.{table-accepted, accepted-read}
-use Rattle.file_writer.specs.Encoded.{digitsOf, lineOf, encode, fileOf}
+use Rattle.file_writer.specs.{digitsOf, lineOf, encode, fileOf}
 use Rattle.file_writer.proofs.Laying.{digits-length, line-size, line-feed}
 use Rattle.file_writer.proofs.Questions.{file-length}
-use Rattle.treefile.specs.results.Saved.{Bytes, InCapitals}
+use Rattle.treefile.specs.{Bytes, InCapitals}
 use Rattle.treefile.proofs.Capitals.{digits-capital, digits-large, digits-read, bytes-back}
 use Rattle.treefile.proofs.Capitals.{frame-line, digits-first}
 

@@ -1,25 +1,17 @@
 -- What a call of the writer leaves, and that the reader takes it back: N3's sentences, over the outcome that the
 -- writer's contract cites.
-use Prim.Native.Nat.{ℕ, _*_, _≤_, _<_}
-use mathlib.Core.Path.{_≡_, refl, sym, ap, _∙_}
-use mathlib.Core.Option.{Option, none, some}
-use mathlib.Core.List.{List, _++_}
-use lib.ListN.{length, take, drop}
-use lib.Seq.{take-at, drop-at}
-use borrow.Author.Tests.{lt-leb}
+use Rattle.prelude.proofs.{ℕ, _*_, _≤_, _<_, _≡_, refl, sym, ap, _∙_, Option, none, some, List, _++_, length, take}
+use Rattle.prelude.proofs.{drop, take-at, drop-at, lt-leb}
 use Rattle.lists.proofs.Choice.{clash}
 use Rattle.frames.specs.declared.Rejection.{Rejection}
 use Rattle.frames.specs.declared.Checked.the-variants.{Nodes}
-use Rattle.frames.specs.Frame.{frames}
-use Rattle.frames.specs.Rejection.{_leaving_}
-use Rattle.frames.specs.Check.{Accepted}
-use Rattle.file_lines.specs.Line.{lineSize}
-use Rattle.file_reader.specs.File.{readOutcome}
-use Rattle.file_writer.specs.Encoded.{fileOf}
-use Rattle.file_writer.specs.Write.{writeRejection, atFront, writeOutcome}
+use Rattle.frames.specs.{frames, _leaving_, Accepted}
+use Rattle.file_lines.specs.{lineSize}
+use Rattle.file_reader.specs.{readOutcome}
+use Rattle.file_writer.specs.{fileOf, writeRejection, atFront, writeOutcome}
 use Rattle.file_writer.specs.declared.Written.the-variants.{Length, Rejected}
 use Rattle.file_writer.proofs.Questions.{passed-room, room-passed}
-use Rattle.treefile.specs.results.Saved.{Bytes, Saved}
+use Rattle.treefile.specs.{Bytes, Saved}
 use Rattle.treefile.proofs.RoundTrip.{written-length, written-read, written-once}
 
 -- what the outcome of writing a table holds, by the first "no" x to the questions before it, where it gives a length

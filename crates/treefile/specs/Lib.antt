@@ -1,2 +1,3 @@
 -- Definitions over the reader and the writer together.
 pub mod results
+pub use results.Saved.{Bytes, InCapitals, Saved}

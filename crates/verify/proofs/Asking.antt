@@ -1,12 +1,8 @@
 -- A question with a number that is put to node after node: the turns of such a loop.
-use Prim.Native.Nat.{ℕ, _+_, _≤_, _<_}
-use native.Mathlib.Omega.{arith}
-use mathlib.Core.Path.{_≡_, ap}
-use mathlib.Core.Bool.{Bool, true, false}
-use mathlib.Core.Option.{Option}
+use Rattle.prelude.proofs.{ℕ, _+_, _≤_, _<_, arith, _≡_, ap, Bool, true, false, Option}
 use Rattle.frames.specs.declared.Rejection.{Rejection}
 use Rattle.frames.specs.declared.Checked.the-variants.{Nodes}
-use Rattle.frames.specs.Rejection.{ask, eachNode, answer}
+use Rattle.frames.specs.{ask, eachNode, answer}
 use Rattle.frames.proofs.Asked.{Passed, passed-none, passed-more, passed-until, passed-all, refused}
 
 -- the question that the test f answers at each node

@@ -1,16 +1,10 @@
 -- The small certificates, computed from the definitions.
-use mathlib.Core.Path.{_≡_, refl}
-use mathlib.Core.List.{map}
-use Rattle.frames.specs.Frame.{next}
-use Rattle.frames.specs.Position.{parentBefore, positionWithin, positionOf}
-use Rattle.frames.specs.Tree.{valuation}
-use Rattle.frames.specs.Rejection.{eachNode}
-use Rattle.frames.specs.Check.{framesRejection, rejection}
-use Rattle.lists.specs.Lists.{countFrom}
-use Rattle.verify.specs.Flags.{ruleHolds}
-use Rattle.verify.specs.Value.{bestBefore}
-use Rattle.verify.specs.Check.{treesRejection, flagsRejection, certificateRejection, verdict}
-use Rattle.verify.specs.results.Cases.{cases}
+use Rattle.prelude.proofs.{_≡_, refl, map}
+use Rattle.frames.specs.{next, parentBefore, positionWithin, positionOf, valuation, eachNode, framesRejection}
+use Rattle.frames.specs.{rejection}
+use Rattle.lists.specs.{countFrom}
+use Rattle.verify.specs.{ruleHolds, bestBefore, treesRejection, flagsRejection, certificateRejection, verdict}
+use Rattle.verify.specs.{cases}
 
 -- each certificate gets its verdict
 pub small-verdicts : map (λ c. verdict (c .table) (c .flags)) cases ≡ map (λ c. c .verdict) cases

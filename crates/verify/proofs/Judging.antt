@@ -1,17 +1,13 @@
 -- The verdict on questions in order: a "no" settles it, a question that passes leaves it to those that follow; and a
 -- verdict says whether there was a "no", and which.
-use Prim.Native.Nat.{ℕ}
-use mathlib.Core.Path.{_≡_, refl}
-use mathlib.Core.Option.{Option, none, some}
-use mathlib.Core.List.{List}
-use lib.IntN.{ℤ}
+use Rattle.prelude.proofs.{ℕ, _≡_, refl, Option, none, some, List, ℤ}
 use Rattle.lists.proofs.Choice.{clash}
 use Rattle.frames.specs.declared.Rejection.{Rejection}
 use Rattle.frames.specs.declared.Checked.the-variants as checked
-use Rattle.frames.specs.Rejection.{_andThen_, answer}
+use Rattle.frames.specs.{_andThen_, answer}
 use Rattle.frames.proofs.Asked.{answer-nodes, answer-rejected}
 use Rattle.verify.specs.declared.Verdict.the-variants.{Value, Rejected}
-use Rattle.verify.specs.Check.{judged}
+use Rattle.verify.specs.{judged}
 
 module _ (t flags : List ℕ) (n : ℕ) (x y : Option Rejection) where
   pub judged-until : (r : Rejection) → checked.Rejected r ≡ answer n x → Rejected r ≡ judged t flags (x andThen y)

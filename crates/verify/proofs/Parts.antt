@@ -1,20 +1,14 @@
 -- Of lent flags only those of the nodes count: a certificate's first flags, one a node, are a certificate.
-use Prim.Native.Nat.{ℕ, _<_}
-use native.Mathlib.Omega.{arith}
-use mathlib.Core.Path.{_≡_, sym, ap, _∙_}
-use mathlib.Core.List.{List}
-use lib.ListN.{getD, take, length-take}
-use lib.Seq.{getD-take}
+use Rattle.prelude.proofs.{ℕ, _<_, arith, _≡_, sym, ap, _∙_, List, getD, take, length-take, getD-take}
 use Rattle.gametree.specs.declared.Side.{Side}
 use Rattle.gametree.specs.declared.Side.the-variants.{Max, Min}
-use Rattle.gametree.specs.Certificate.{inside}
+use Rattle.gametree.specs.{inside}
 use Rattle.gametree_theory.proofs.certificates.Checker.{certificate-passes, passed-certifies}
 use Rattle.gametree_theory.proofs.certificates.SmallestPair.{Same, certificate-like, value-same}
-use Rattle.frames.specs.Frame.{frames}
-use Rattle.frames.specs.Tree.{tree, valuation}
+use Rattle.frames.specs.{frames, tree, valuation}
 use Rattle.frames.proofs.Acceptance.{accepted-formed}
 use Rattle.frames.proofs.Nodes.{tree-range}
-use Rattle.verify.specs.Flags.{member}
+use Rattle.verify.specs.{member}
 use Rattle.verify.specs.Certificate.{Certificate}
 
 -- the flags of the nodes are a certificate of the same value

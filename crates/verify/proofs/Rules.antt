@@ -1,26 +1,18 @@
 -- The rules of a side's tree hold at each node of the table exactly if its flags are a solution tree of the table's
 -- tree.
-use Prim.Native.Nat.{ℕ, zero, suc, _+_, _≤_, _<_}
-use native.Mathlib.Omega.{arith}
-use mathlib.Core.Path.{_≡_, refl, sym, ap₂, _∙_}
-use mathlib.Core.Bool.{Bool, true, false, cond}
-use mathlib.Core.List.{List}
-use borrow.Author.Tests.{eq-eqb, eqb-true}
+use Rattle.prelude.proofs.{ℕ, zero, suc, _+_, _≤_, _<_, arith, _≡_, refl, sym, ap₂, _∙_, Bool, true, false, cond, List}
+use Rattle.prelude.proofs.{eq-eqb, eqb-true}
 use Rattle.gametree.specs.declared.Side.{Side}
-use Rattle.gametree.specs.Tree.{Tree, Children}
-use Rattle.gametree.specs.Certificate.{Rule, Rules, RulesChildren, SolutionTree}
+use Rattle.gametree.specs.{Tree, Children, Rule, Rules, RulesChildren, SolutionTree}
 use Rattle.gametree_theory.proofs.certificates.Counting.{kidCount, members, required}
-use Rattle.lists.specs.Lists.{countFrom}
+use Rattle.lists.specs.{countFrom}
 use Rattle.lists.proofs.Choice.{and-both}
 use Rattle.lists.proofs.Counting.{count-first}
 use Rattle.gametree_theory.proofs.Theorems.{rule-counting}
-use Rattle.frames.specs.Frame.{frames, firstChild, childCount}
-use Rattle.frames.specs.Position.{sideOf}
-use Rattle.frames.specs.Tree.{childrenFrom, treeAt, tree}
-use Rattle.frames.specs.Formed.{WellFormed}
+use Rattle.frames.specs.{frames, firstChild, childCount, sideOf, childrenFrom, treeAt, tree, WellFormed}
 use Rattle.frames.proofs.Parents.{bottom-up}
 use Rattle.frames.proofs.Trees.{kids-count, zero-or-suc, tree-leaf, tree-inner, tree-number}
-use Rattle.verify.specs.Flags.{member, requiredOf, rootMember, ruleHolds}
+use Rattle.verify.specs.{member, requiredOf, rootMember, ruleHolds}
 use Rattle.verify.proofs.Subtrees.{Inherited, each-subtree}
 
 module _ (p : Side) (t flags : List ℕ) where

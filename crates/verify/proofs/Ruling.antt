@@ -1,20 +1,12 @@
 -- The rules of a side's tree, asked of node after node until every node has been reached as a child: those that are
 -- left are leaves, whose rules hold.
-use Prim.Native.Nat.{ℕ, _+_, _-_, _≤_, _<_}
-use native.Mathlib.Omega.{arith}
-use native.Mathlib.Decide.{decLt}
-use mathlib.Core.Path.{_≡_, refl, ap, _∙_}
-use mathlib.Core.Bool.{true, false}
-use mathlib.Core.List.{List}
+use Rattle.prelude.proofs.{ℕ, _+_, _-_, _≤_, _<_, arith, decLt, _≡_, refl, ap, _∙_, true, false, List}
 use Rattle.gametree.specs.declared.Side.{Side}
 use Rattle.frames.specs.declared.Checked.the-variants.{Nodes}
-use Rattle.frames.specs.Frame.{frames, childCount, next}
-use Rattle.frames.specs.Formed.{WellFormed}
-use Rattle.frames.specs.Rejection.{ask, answer}
+use Rattle.frames.specs.{frames, childCount, next, WellFormed, ask, answer}
 use Rattle.frames.proofs.Next.{next-more, next-within, none-after}
 use Rattle.frames.proofs.Asked.{refused, passed-each}
-use Rattle.verify.specs.Flags.{ruleHolds}
-use Rattle.verify.specs.Check.{checkTree}
+use Rattle.verify.specs.{ruleHolds, checkTree}
 use Rattle.verify.proofs.Asking.{asked, Asking, asking-none, asking-more, asking-until}
 use Rattle.verify.proofs.Rules.{leaf-rule}
 

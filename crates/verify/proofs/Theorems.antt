@@ -1,33 +1,18 @@
 -- The check of a certificate accepts exactly the certificates, and gives their value, the minimax value of the tree.
-use Prim.Native.Nat.{ℕ, _<_}
-use native.Mathlib.Omega.{arith}
-use mathlib.Core.Path.{_≡_, refl, sym, ap, _∙_}
-use mathlib.Core.Logic.{_↔_}
-use mathlib.Core.Bool.{Bool, true}
-use mathlib.Core.Option.{Option, none, some}
-use mathlib.Core.List.{List, [], _∷_}
-use lib.Dec.{leb}
-use lib.IntN.{ℤ}
-use lib.ListN.{length, getD}
-use borrow.Author.Tests.{le-leb, leb-true, eq-eqb, eqb-true}
+use Rattle.prelude.proofs.{ℕ, _<_, arith, _≡_, refl, sym, ap, _∙_, _↔_, Bool, true, Option, none, some, List, [], _∷_}
+use Rattle.prelude.proofs.{leb, ℤ, length, getD, le-leb, leb-true, eq-eqb, eqb-true}
 use Rattle.gametree.specs.declared.Side.the-variants.{Max, Min}
-use Rattle.gametree.specs.Tree.{minimax}
+use Rattle.gametree.specs.{minimax}
 use Rattle.lists.proofs.Choice.{and-both}
 use Rattle.gametree_theory.proofs.Theorems.{certificate-minimax}
 use Rattle.frames.specs.declared.Rejection.{Rejection}
-use Rattle.frames.specs.Frame.{frames}
-use Rattle.frames.specs.Tree.{tree, valuation}
-use Rattle.frames.specs.Rejection.{ask, eachNode}
-use Rattle.frames.specs.Check.{rejection, check10}
+use Rattle.frames.specs.{frames, tree, valuation, ask, eachNode, rejection, check10, valueOf}
 use Rattle.frames.proofs.Asked.{each-passed, passed-each}
 use Rattle.frames.proofs.Stated.{ask-yes, yes-ask, both-passed, passed-both}
 use Rattle.frames.proofs.Acceptance.{accepted-formed}
-use Rattle.frames.specs.Value.{valueOf}
 use Rattle.verify.specs.declared.Verdict.the-variants.{Value}
-use Rattle.verify.specs.Flags.{ruleHolds}
-use Rattle.verify.specs.Value.{treeValue}
-use Rattle.verify.specs.Check.{check11, checkTree, check14, treesRejection, flagsRejection}
-use Rattle.verify.specs.Check.{certificateRejection, judged, verdict}
+use Rattle.verify.specs.{ruleHolds, treeValue, check11, checkTree, check14, treesRejection, flagsRejection}
+use Rattle.verify.specs.{certificateRejection, judged, verdict}
 use Rattle.verify.specs.Certificate.{Certificate}
 use Rattle.verify.proofs.Rules.{rules-solve, solved-rules}
 use Rattle.verify.proofs.Values.{tree-value-same}

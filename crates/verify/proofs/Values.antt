@@ -1,29 +1,18 @@
 -- The value of a side's tree over the table's nodes is that over the leaves of the table's tree: each is the least
 -- bound, in the side's order, of the scores of the leaves in the tree.
-use Prim.Native.Nat.{ℕ, zero, suc, _+_, _≤_, _<_}
-use native.Mathlib.Omega.{arith}
-use native.Mathlib.Decide.{decLt, decLe}
-use native.Mathlib.Numerals.{add-one}
-use mathlib.Core.Path.{_≡_, _∙_}
-use mathlib.Core.Bool.{Bool, cond}
-use mathlib.Core.List.{List}
-use borrow.Author.Tests.{eq-eqb, ne-eqb}
+use Rattle.prelude.proofs.{ℕ, zero, suc, _+_, _≤_, _<_, arith, decLt, decLe, add-one, _≡_, _∙_, Bool, cond, List}
+use Rattle.prelude.proofs.{eq-eqb, ne-eqb}
 use Rattle.gametree.specs.declared.Side.{Side}
 use Rattle.gametree.specs.declared.Side.the-variants.{Max, Min}
-use Rattle.gametree.specs.Tree.{Tree, leaf, inner, Children, last, _then_, greatest, better, EveryLeaf}
-use Rattle.gametree.specs.Tree.{EveryLeafChildren}
-use Rattle.gametree.specs.Tree.{Score, Scored, ScoredChildren}
-use Rattle.gametree.specs.Certificate.{worst, solutionValue}
+use Rattle.gametree.specs.{Tree, leaf, inner, Children, last, _then_, greatest, better, EveryLeaf, EveryLeafChildren}
+use Rattle.gametree.specs.{Score, Scored, ScoredChildren, worst, solutionValue}
 use Rattle.lists.proofs.Choice.{cond-cases}
 use Rattle.gametree_theory.proofs.certificates.Leaves.{bestLeaf, bestLeafChildren, value-best}
 use Rattle.gametree_theory.proofs.certificates.Solution.{Under, under-refl, under-both, both-under}
-use Rattle.frames.specs.Frame.{frames, childCount}
-use Rattle.frames.specs.Tree.{tree, valuation}
-use Rattle.frames.specs.Formed.{WellFormed}
+use Rattle.frames.specs.{frames, childCount, tree, valuation, WellFormed}
 use Rattle.frames.proofs.Trees.{tree-leaf}
 use Rattle.frames.proofs.Proper.{every-leaf, leaf-scored, tree-proper}
-use Rattle.verify.specs.Flags.{member}
-use Rattle.verify.specs.Value.{leafIn, bestBefore, treeValue}
+use Rattle.verify.specs.{member, leafIn, bestBefore, treeValue}
 use Rattle.verify.proofs.Subtrees.{Inherited, each-subtree}
 
 under-antisym : (p : Side) (a b : ℕ) → Under p a b → Under p b a → a ≡ b

@@ -4,7 +4,7 @@ use mathlib.Core.Bool.{cond, _&&_}
 use mathlib.Core.List.{List}
 use lib.Dec.{eqb}
 use Rattle.gametree.specs.declared.Side.{Side}
-use Rattle.gametree.specs.Tree.{better}
+use Rattle.gametree.specs.Trees.{better}
 use Rattle.gametree.specs.Certificate.{worst}
 use Rattle.frames.specs.Frame.{frames, childCount}
 use Rattle.frames.specs.Tree.{valuation}

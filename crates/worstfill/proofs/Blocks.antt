@@ -1,19 +1,13 @@
 -- The ranks that a table holds after the filling stand in blocks, whatever its leaves held before.
-use Prim.Native.Nat.{ℕ, _+_, _*_, _≤_, _<_}
-use native.Mathlib.Omega.{arith}
-use mathlib.Core.Path.{_≡_, refl, ap₂}
-use mathlib.Core.Logic.{inl, inr}
-use mathlib.Core.List.{List}
-use lib.ListN.{length, getD}
+use Rattle.prelude.proofs.{ℕ, _+_, _*_, _≤_, _<_, arith, _≡_, refl, ap₂, inl, inr, List, length, getD}
 use Rattle.gametree.specs.declared.Side.{Side}
 use Rattle.gametree.specs.declared.Side.the-variants.{Max, Min}
-use Rattle.gametree.specs.Tree.{Tree, leaf, inner, Children, last, _then_, leaves, leavesChildren, EveryLeaf}
-use Rattle.gametree.specs.Tree.{EveryLeafChildren}
-use Rattle.gametree.specs.Tree.{In, InChildren, Distinct, DistinctChildren}
+use Rattle.gametree.specs.{Tree, leaf, inner, Children, last, _then_, leaves, leavesChildren, EveryLeaf}
+use Rattle.gametree.specs.{EveryLeafChildren, In, InChildren, Distinct, DistinctChildren}
 use Rattle.gametree_theory.proofs.minimax.Bounds.{every-map, every-map-kids}
 use Rattle.gametree_theory.proofs.alphabeta.WorstCase.{Blocks, BlocksChildren, blocks-more}
-use Rattle.frames.specs.Frame.{frameSize, frames, byteOf, valueBytes}
-use Rattle.worstfill.specs.Ranks.{ranked, rankedChildren}
+use Rattle.frames.specs.{frameSize, frames, byteOf, valueBytes}
+use Rattle.worstfill.specs.{ranked, rankedChildren}
 use Rattle.worstfill.proofs.Ranks.{off-other, rank-value, ranked-length, ranked-other}
 
 mutual

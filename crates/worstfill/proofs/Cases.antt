@@ -1,18 +1,9 @@
 -- The small cases, computed from the definitions.
-use mathlib.Core.Path.{_≡_, refl}
-use mathlib.Core.List.{map, _++_}
-use lib.ListN.{length}
-use Rattle.gametree.specs.Tree.{least, greatest, leaves}
-use Rattle.gametree.specs.AlphaBeta.{reached}
-use Rattle.frames.specs.Frame.{next}
-use Rattle.frames.specs.Position.{parentBefore, positionWithin, positionOf}
-use Rattle.frames.specs.Tree.{childrenFrom, grow, treeAt, tree, valuation}
-use Rattle.frames.specs.Rejection.{eachNode}
-use Rattle.frames.specs.Check.{framesRejection, rejection}
-use Rattle.frames.specs.results.Cases.{leafFrame, lone}
-use Rattle.worstfill.specs.Ranks.{withRank, worstFill}
-use Rattle.worstfill.specs.Outcome.{fillOutcome}
-use Rattle.worstfill.specs.results.Cases.{given, refused}
+use Rattle.prelude.proofs.{_≡_, refl, map, _++_, length}
+use Rattle.gametree.specs.{least, greatest, leaves, reached}
+use Rattle.frames.specs.{next, parentBefore, positionWithin, positionOf, childrenFrom, grow, treeAt, tree, valuation}
+use Rattle.frames.specs.{eachNode, framesRejection, rejection, leafFrame, lone}
+use Rattle.worstfill.specs.{withRank, worstFill, fillOutcome, given, refused}
 
 -- answers and tables
 pub small-fillings : map (λ c. fillOutcome (c .table)) (given ++ refused) ≡ map (λ c. c .outcome) (given ++ refused)

@@ -1,17 +1,10 @@
 -- Filling keeps a table's shape, and keeps it well-formed: a rank is a value in range.
-use Prim.Native.Nat.{ℕ, _+_, _*_, _%_, _≤_, _<_}
-use native.Mathlib.Omega.{arith}
-use native.Mathlib.Decide.{ℕ-discrete}
-use mathlib.Core.Path.{_≡_, refl, sym, ap₂, _∙_}
-use mathlib.Core.List.{List}
-use lib.ListN.{length}
-use Rattle.gametree.specs.Tree.{Tree, zeroScore, leaves, EveryLeaf, Score}
+use Rattle.prelude.proofs.{ℕ, _+_, _*_, _%_, _≤_, _<_, arith, ℕ-discrete, _≡_, refl, sym, ap₂, _∙_, List, length}
+use Rattle.gametree.specs.{Tree, zeroScore, leaves, EveryLeaf, Score}
 use Rattle.gametree_theory.proofs.minimax.Bounds.{every-leaf}
-use Rattle.frames.specs.Frame.{frameSize, maxNodes, twoBytes, frames, byteOf, valueBytes, storedScore}
-use Rattle.frames.specs.Formed.{WellFormed}
-use Rattle.frames.specs.Shape.{SameShape}
+use Rattle.frames.specs.{frameSize, maxNodes, twoBytes, frames, byteOf, valueBytes, storedScore, WellFormed, SameShape}
 use Rattle.frames.proofs.OtherValues.{same-formed}
-use Rattle.worstfill.specs.Ranks.{withRank, ranked}
+use Rattle.worstfill.specs.{withRank, ranked}
 use Rattle.worstfill.proofs.Ranks.{off-front, off-other, rank-length, rank-value, rank-other}
 use Rattle.worstfill.proofs.Ranks.{ranked-keeps, ranked-length, ranked-other}
 

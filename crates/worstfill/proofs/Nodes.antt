@@ -1,23 +1,15 @@
 -- The recursion at a node: what a turn needs, what it hands back, and that the turns together fill the node's leaves.
-use Prim.Native.Nat.{ℕ, suc, _+_, _-_, _≤_, _<_}
-use native.Mathlib.Omega.{arith}
-use mathlib.Core.Path.{_≡_, refl, sym, ap, _∙_}
-use mathlib.Core.List.{List}
-use lib.ListN.{length}
+use Rattle.prelude.proofs.{ℕ, suc, _+_, _-_, _≤_, _<_, arith, _≡_, refl, sym, ap, _∙_, List, length}
 use Rattle.gametree.specs.declared.Side.{Side}
 use Rattle.gametree.specs.declared.Side.the-variants.{Max, Min}
-use Rattle.gametree.specs.Tree.{leaves}
-use Rattle.frames.specs.Frame.{maxNodes, frames, firstChild, childCount}
-use Rattle.frames.specs.Position.{childSide}
-use Rattle.frames.specs.Tree.{treeAt}
-use Rattle.frames.specs.Formed.{ChildOf}
+use Rattle.gametree.specs.{leaves}
+use Rattle.frames.specs.{maxNodes, frames, firstChild, childCount, childSide, treeAt, ChildOf}
 use Rattle.frames.proofs.Next.{child-later, child-within}
 use Rattle.frames.proofs.Positions.{position-child}
 use Rattle.frames.proofs.Proper.{every-leaf}
 use Rattle.frames.proofs.Shapes.{same-first, same-count, same-position, same-trees}
 use Rattle.frames.proofs.Trees.{tree-leaf, tree-inner}
-use Rattle.worstfill.specs.Ranks.{withRank, ranked}
-use Rattle.worstfill.specs.engine.Fillable.{Fillable, nthChild}
+use Rattle.worstfill.specs.{withRank, ranked, Fillable, nthChild}
 use Rattle.worstfill.proofs.Kept.{Kept, kept-self, kept-then, ranked-kept}
 use Rattle.worstfill.proofs.Turns.{Filling, turnsFrom, next-grows, all-turns}
 

@@ -1,22 +1,14 @@
 -- Each node of a filled table has a block of ranks, and its children's blocks rise from left to right at Max and fall
 -- at Min.
-use Prim.Native.Nat.{ℕ, zero, suc, _+_, _≤_, _<_}
-use native.Mathlib.Omega.{arith}
-use native.Mathlib.Decide.{decLt}
-use mathlib.Core.Path.{_≡_}
-use mathlib.Core.Bool.{true}
-use mathlib.Core.List.{List}
-use Rattle.lists.specs.Lists.{among}
+use Rattle.prelude.proofs.{ℕ, zero, suc, _+_, _≤_, _<_, arith, decLt, _≡_, true, List}
+use Rattle.lists.specs.{among}
 use Rattle.gametree.specs.declared.Side.{Side}
 use Rattle.gametree.specs.declared.Side.the-variants.{Max, Min}
-use Rattle.gametree.specs.Tree.{Tree, leaves}
+use Rattle.gametree.specs.{Tree, leaves}
 use Rattle.gametree_theory.proofs.alphabeta.WorstCase.{total, totalChildren, elderFrom, youngerFrom, Blocks}
 use Rattle.gametree_theory.proofs.alphabeta.WorstCase.{BlocksChildren}
 use Rattle.gametree_theory.proofs.alphabeta.WorstCase.{blocks-at, blocksChildren-at}
-use Rattle.frames.specs.Frame.{frames, firstChild, childCount}
-use Rattle.frames.specs.Position.{sideOf}
-use Rattle.frames.specs.Tree.{childrenFrom, treeAt, tree}
-use Rattle.frames.specs.Formed.{WellFormed, ChildOf}
+use Rattle.frames.specs.{frames, firstChild, childCount, sideOf, childrenFrom, treeAt, tree, WellFormed, ChildOf}
 use Rattle.frames.proofs.Leaves.{kid-leaf}
 use Rattle.frames.proofs.Parents.{top-down}
 use Rattle.frames.proofs.Trees.{zero-or-suc, tree-inner}

@@ -1,21 +1,15 @@
 -- What the ranks change in a table: bytes 4 and 5 of the leaves, and nothing else.
-use Prim.Native.Nat.{ℕ, _+_, _*_, _/_, _%_, _≤_, _<_}
-use native.Mathlib.Omega.{arith}
-use native.Mathlib.Decide.{decLt, ℕ-discrete}
-use mathlib.Core.Path.{_≡_, refl, sym, _∙_}
-use mathlib.Core.List.{List}
-use lib.ListN.{length, getD, set, length-set, length-append}
-use lib.Seq.{getD-set-same, getD-set-other, set-out}
-use Rattle.lists.specs.Lists.{All}
+use Rattle.prelude.proofs.{ℕ, _+_, _*_, _/_, _%_, _≤_, _<_, arith, decLt, ℕ-discrete, _≡_, refl, sym, _∙_, List, length}
+use Rattle.prelude.proofs.{getD, set, length-set, length-append, getD-set-same, getD-set-other, set-out}
+use Rattle.lists.specs.{All}
 use Rattle.lists.proofs.Lists.{all-append, all-map}
 use Rattle.gametree.specs.declared.Side.{Side}
 use Rattle.gametree.specs.declared.Side.the-variants.{Max, Min}
-use Rattle.gametree.specs.Tree.{Tree, leaf, inner, Children, last, _then_, leaves, leavesChildren, EveryLeaf}
-use Rattle.gametree.specs.Tree.{EveryLeafChildren}
+use Rattle.gametree.specs.{Tree, leaf, inner, Children, last, _then_, leaves, leavesChildren, EveryLeaf}
+use Rattle.gametree.specs.{EveryLeafChildren}
 use Rattle.gametree_theory.proofs.minimax.Bounds.{every-leaf}
-use Rattle.frames.specs.Frame.{frameSize, frames, byteOf, valueBytes}
-use Rattle.frames.specs.Shape.{AgreeOn}
-use Rattle.worstfill.specs.Ranks.{withRank, ranked, rankedChildren}
+use Rattle.frames.specs.{frameSize, frames, byteOf, valueBytes, AgreeOn}
+use Rattle.worstfill.specs.{withRank, ranked, rankedChildren}
 
 -- position p holds no byte of leaf n's value
 pub record Off (p n : ℕ) : Type 0 where

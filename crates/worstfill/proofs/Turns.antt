@@ -1,16 +1,11 @@
 -- The turns of the loop over a node's children: each puts the ranks of one child, and together they put those of the
 -- node.
-use Prim.Native.Nat.{ℕ, zero, suc, _+_, _-_, _≤_}
-use native.Mathlib.Omega.{arith}
-use mathlib.Core.Path.{_≡_, refl, ap, ap₂, _∙_}
-use mathlib.Core.List.{List}
-use lib.ListN.{length, length-append}
+use Rattle.prelude.proofs.{ℕ, zero, suc, _+_, _-_, _≤_, arith, _≡_, refl, ap, ap₂, _∙_, List, length, length-append}
 use Rattle.gametree.specs.declared.Side.{Side}
 use Rattle.gametree.specs.declared.Side.the-variants.{Max, Min}
-use Rattle.gametree.specs.Tree.{Tree, leaves, leavesChildren}
-use Rattle.frames.specs.Tree.{childrenFrom}
-use Rattle.worstfill.specs.Ranks.{ranked, rankedChildren}
-use Rattle.worstfill.specs.engine.Fillable.{nthChild}
+use Rattle.gametree.specs.{Tree, leaves, leavesChildren}
+use Rattle.frames.specs.{childrenFrom}
+use Rattle.worstfill.specs.{ranked, rankedChildren, nthChild}
 
 -- the next rank, and the table
 pub record Filling : Type 0 where

@@ -1,27 +1,18 @@
 -- The call: from the answer to the questions to the outcome.
-use Prim.Native.Nat.{ℕ, _+_}
-use native.Mathlib.Omega.{arith}
-use mathlib.Core.Path.{_≡_, refl, sym, ap}
-use mathlib.Core.Option.{Option, none, some}
-use mathlib.Core.List.{List}
-use lib.ListN.{length}
+use Rattle.prelude.proofs.{ℕ, _+_, arith, _≡_, refl, sym, ap, Option, none, some, List, length}
 use Rattle.lists.proofs.Choice.{clash}
 use Rattle.gametree.specs.declared.Side.the-variants.{Max}
-use Rattle.gametree.specs.Tree.{leaves}
+use Rattle.gametree.specs.{leaves}
 use Rattle.gametree_theory.proofs.minimax.Counts.{leaves-size}
 use Rattle.frames.specs.declared.Rejection.{Rejection}
-use Rattle.frames.specs.Rejection.{unless, Outcome, _leaving_}
+use Rattle.frames.specs.{unless, Outcome, _leaving_, tree, rejection, Accepted, checked}
 use Rattle.frames.specs.declared.Checked.the-variants as checked-answer
-use Rattle.frames.specs.Tree.{tree}
-use Rattle.frames.specs.Check.{rejection, Accepted, checked}
 use Rattle.frames.proofs.Acceptance.{accepted-formed, nodes-accepted, rejected-first}
 use Rattle.frames.proofs.Positions.{position-root}
 use Rattle.frames.proofs.Totals.{tree-size}
 use Rattle.worstfill.specs.declared.Filled.{Filled}
 use Rattle.worstfill.specs.declared.Filled.the-variants.{Leaves, Rejected}
-use Rattle.worstfill.specs.Ranks.{ranked, worstFill}
-use Rattle.worstfill.specs.Outcome.{fillOutcome}
-use Rattle.worstfill.specs.engine.Fillable.{Fillable}
+use Rattle.worstfill.specs.{ranked, worstFill, fillOutcome, Fillable}
 
 module _ (t : List ℕ) where
   -- an accepted table can be filled from the root on

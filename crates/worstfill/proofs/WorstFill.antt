@@ -1,27 +1,15 @@
 -- The worst-case filling of an accepted table: an accepted table of the same shape, whose leaves hold the ranks, each
 -- once; alpha-beta reaches every leaf, and what the leaves held has no influence.
-use Prim.Native.Nat.{ℕ, _+_, _*_, _/_, _%_, _≤_, _<_}
-use native.Mathlib.Omega.{arith}
-use native.Mathlib.Decide.{decLt, ℕ-discrete}
-use mathlib.Core.Path.{_≡_, sym, _∙_, subst}
-use mathlib.Core.Bool.{true}
-use mathlib.Core.List.{List}
-use lib.ListN.{length, getD}
-use lib.Seq.{ext-getD}
-use Rattle.lists.specs.Lists.{among}
+use Rattle.prelude.proofs.{ℕ, _+_, _*_, _/_, _%_, _≤_, _<_, arith, decLt, ℕ-discrete, _≡_, sym, _∙_, subst, true, List}
+use Rattle.prelude.proofs.{length, getD, ext-getD}
+use Rattle.lists.specs.{among}
 use Rattle.lists.proofs.Lists.{all-at}
-use Rattle.gametree.specs.Tree.{zeroScore, least, greatest, leaves, EveryLeaf}
-use Rattle.gametree.specs.AlphaBeta.{reached}
+use Rattle.gametree.specs.{zeroScore, least, greatest, leaves, EveryLeaf, reached}
 use Rattle.gametree_theory.proofs.alphabeta.WorstCase.{Blocks, blocks-more, blocks-at, blocks-once, blocks-all}
 use Rattle.gametree_theory.proofs.alphabeta.WorstCase.{all-reached}
 use Rattle.gametree_theory.proofs.minimax.Counts.{leaves-size}
-use Rattle.frames.specs.Frame.{frameSize, maxNodes, frames, byteOf, childCount, valueBytes, storedScore}
-use Rattle.frames.specs.Position.{depthOf}
-use Rattle.frames.specs.Tree.{tree, valuation}
-use Rattle.frames.specs.Formed.{WellFormed}
-use Rattle.frames.specs.Shape.{SameShape, AgreeOn}
-use Rattle.frames.specs.Check.{Accepted}
-use Rattle.frames.specs.results.Leaf.{Leaf}
+use Rattle.frames.specs.{frameSize, maxNodes, frames, byteOf, childCount, valueBytes, storedScore, depthOf, tree}
+use Rattle.frames.specs.{valuation, WellFormed, SameShape, AgreeOn, Accepted, Leaf}
 use Rattle.frames.proofs.Acceptance.{accepted-stated, accepted-formed}
 use Rattle.frames.proofs.Leaves.{leaf-listed}
 use Rattle.frames.proofs.Nodes.{in-tree, tree-distinct}
@@ -31,7 +19,7 @@ use Rattle.frames.proofs.Shapes.{same-count, same-tree}
 use Rattle.frames.proofs.Totals.{tree-size}
 use Rattle.frames.proofs.Trees.{zero-or-suc}
 use Rattle.frames.proofs.Worth.{score-other}
-use Rattle.worstfill.specs.Ranks.{ranked, worstFill}
+use Rattle.worstfill.specs.{ranked, worstFill}
 use Rattle.worstfill.proofs.Ranks.{Off, off-other, ranked-length, ranked-other, ranked-alike, ranked-same}
 use Rattle.worstfill.proofs.Blocks.{ranked-blocks}
 use Rattle.worstfill.proofs.Kept.{Kept, ranked-kept, ranked-front}

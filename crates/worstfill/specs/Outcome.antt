@@ -2,7 +2,7 @@
 use Prim.Native.Nat.{ℕ}
 use mathlib.Core.List.{List}
 use lib.ListN.{length}
-use Rattle.gametree.specs.Tree.{leaves}
+use Rattle.gametree.specs.Trees.{leaves}
 use Rattle.frames.specs.Tree.{tree}
 use Rattle.frames.specs.Rejection.{unless, Outcome, _leaving_}
 use Rattle.frames.specs.Check.{rejection}

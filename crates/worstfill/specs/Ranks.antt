@@ -5,7 +5,7 @@ use mathlib.Core.List.{List}
 use lib.ListN.{length, set}
 use Rattle.gametree.specs.declared.Side.{Side}
 use Rattle.gametree.specs.declared.Side.the-variants.{Max, Min}
-use Rattle.gametree.specs.Tree.{Tree, leaf, inner, Children, last, _then_, leaves, leavesChildren}
+use Rattle.gametree.specs.Trees.{Tree, leaf, inner, Children, last, _then_, leaves, leavesChildren}
 use Rattle.frames.specs.Frame.{frameSize}
 use Rattle.frames.specs.Tree.{tree}
 

@@ -11,7 +11,7 @@ use tables::check;
 ghost use mathlib.Core.Path.{_≡_};
 ghost use Prim.Native.Nat.{_+_, _<_};
 ghost use lib.ListN.{length};
-ghost use Rattle.gametree.specs.Tree.{leaves};
+ghost use Rattle.gametree.specs.Trees.{leaves};
 ghost use Rattle.frames.specs.Frame.{maxNodes, frames, twoBytes};
 ghost use Rattle.frames.specs.Tree.{treeAt};
 ghost use Rattle.frames.specs.Rejection.{_leaving_};

@@ -1,10 +1,6 @@
 -- `alphabeta::find` meets its contract: the steps of a search, in order.
-use native.Mathlib.Omega.{arith}
-use mathlib.Core.Path.{ap, _∙_}
-use mir.Syntax.{w16}
-use mir.ValLaws.{toZ-ofZ}
-use borrow.Author.Needs.{needs}
-use Rattle.positions.specs.Buffer.{written}
+use Rattle.prelude.proofs.{arith, ap, _∙_, w16, toZ-ofZ, needs}
+use Rattle.positions.specs.{written}
 use Rattle.certificate_bounds.proofs.Listing.{listable-first}
 use Rattle.certificate.proofs.Searchable.{searchable-root}
 use Rattle.alphabeta.proofs.Whole.{run-small, find-gives}

@@ -1,19 +1,11 @@
 -- `alphabeta::visit_root` meets its contract. At the head of the loop stands `RootTurn`: the children that are left
 -- complete what the tree was to give, and end with the root move.
-use Prim.Native.Nat.{_-_}
-use native.Mathlib.Omega.{arith}
-use mathlib.Core.Path.{_≡_, refl, _∙_}
-use mathlib.Core.Logic.{inl, inr}
-use mathlib.Core.Bool.{cond}
-use lib.Dec.{ltb}
-use lib.ListN.{length}
-use borrow.Author.Needs.{needs}
-use borrow.Author.Tests.{lt-ltb, le-ltb}
-use Rattle.gametree.specs.Tree.{greatest}
-use Rattle.frames.specs.Frame.{childCount}
+use Rattle.prelude.proofs.{_-_, arith, _≡_, refl, _∙_, inl, inr, cond, ltb, length, needs, lt-ltb, le-ltb}
+use Rattle.gametree.specs.{greatest}
+use Rattle.frames.specs.{childCount}
 use Rattle.frames.proofs.Trees.{tree-leaf}
 use Rattle.frames.proofs.Next.{child-within}
-use Rattle.certificate_bounds.specs.engine.Progress.{progress}
+use Rattle.certificate_bounds.specs.{progress}
 use Rattle.certificate.proofs.Searchable.{searchable-depth, searchable-child}
 use Rattle.alphabeta_visits.proofs.Visits.{Visits, searchable-leaf, leaf-visits}
 use Rattle.alphabeta.proofs.Root.{RootTurn, root-start, root-child, root-last, root-next}

@@ -1,20 +1,13 @@
 -- `alphabeta::alpha_beta` meets its contract. The number of frames from the node on falls with each call; at the head
 -- of the loop stands `VisitLoop`: the children that are left complete what the node was to give, and their trees are
 -- without a mark.
-use Prim.Native.Nat.{ℕ, _-_, _<_}
-use native.Mathlib.Omega.{arith}
-use borrow.Author.Needs.{needs}
+use Rattle.prelude.proofs.{ℕ, _-_, _<_, arith, needs, _≡_, refl, ap, _∙_, inl, inr, length}
 use borrow.Fn.Kinds.{In}
 use borrow.Fn.PlainCycle.{Measures, is, falls, and}
-use mathlib.Core.Path.{_≡_, refl, ap, _∙_}
-use mathlib.Core.Logic.{inl, inr}
-use lib.ListN.{length}
-use Rattle.frames.specs.Frame.{frames}
-use Rattle.frames.specs.Formed.{ChildOf}
+use Rattle.frames.specs.{frames, ChildOf}
 use Rattle.frames.proofs.Next.{child-later, child-within}
-use Rattle.certificate_bounds.specs.engine.Evaluable.{Evaluable}
-use Rattle.certificate_bounds.specs.engine.Progress.{Progress, progress}
-use Rattle.certificate.specs.engine.Searchable.{Searchable}
+use Rattle.certificate_bounds.specs.{Evaluable, Progress, progress}
+use Rattle.certificate.specs.{Searchable}
 use Rattle.alphabeta_visits.proofs.Pass.{pass-ends, pass-stops, pass-goes-on}
 use Rattle.certificate.proofs.Unmarked.{all-wait}
 use Rattle.certificate.proofs.Searchable.{searchable-depth, searchable-child}

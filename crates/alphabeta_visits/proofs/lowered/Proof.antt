@@ -1,5 +1,5 @@
 -- `alphabeta::lowered` meets its contract, by the side.
-use borrow.Author.Needs.{needs}
+use Rattle.prelude.proofs.{needs}
 use Rattle.alphabeta_visits.proofs.lowered.Statement.{statement}
 use Rattle.alphabeta_visits.proofs.lowered.Tie as tie
 

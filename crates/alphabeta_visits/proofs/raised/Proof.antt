@@ -1,5 +1,5 @@
 -- `alphabeta::raised` meets its contract, by the side.
-use borrow.Author.Needs.{needs}
+use Rattle.prelude.proofs.{needs}
 use Rattle.alphabeta_visits.proofs.raised.Statement.{statement}
 use Rattle.alphabeta_visits.proofs.raised.Tie as tie
 

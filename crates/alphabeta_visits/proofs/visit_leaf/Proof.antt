@@ -1,7 +1,6 @@
 -- `alphabeta::visit_leaf` meets its contract: the score is the leaf's, brought into the window.
-use mathlib.Core.Path.{ap, _∙_}
-use borrow.Author.Needs.{needs}
-use Rattle.gametree.specs.AlphaBeta.{clamp}
+use Rattle.prelude.proofs.{ap, _∙_, needs}
+use Rattle.gametree.specs.{clamp}
 use Rattle.alphabeta_visits.proofs.visit_leaf.Statement.{statement}
 use Rattle.alphabeta_visits.proofs.visit_leaf.Tie as tie
 

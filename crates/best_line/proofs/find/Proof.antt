@@ -1,5 +1,5 @@
 -- `best_line::find` meets its contract: the certificate of SSS*, and the line that is read off it.
-use borrow.Author.Needs.{needs}
+use Rattle.prelude.proofs.{needs}
 use Rattle.best_line.proofs.Whole.{find-gives}
 use Rattle.best_line.proofs.find.Statement.{statement}
 use Rattle.best_line.proofs.find.Tie as tie

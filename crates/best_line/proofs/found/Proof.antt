@@ -1,7 +1,5 @@
 -- `best_line::found` meets its contract: by the answer.
-use mir.Syntax.{w16}
-use mir.ValLaws.{toZ-ofZ}
-use borrow.Author.Needs.{needs}
+use Rattle.prelude.proofs.{w16, toZ-ofZ, needs}
 use Rattle.best_line.proofs.found.Statement.{statement}
 use Rattle.best_line.proofs.found.Tie as tie
 

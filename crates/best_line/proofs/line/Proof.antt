@@ -1,19 +1,14 @@
 -- `best_line::line` meets its contract: the questions are answered, and then the line is found or nothing is done.
-use Prim.Native.Nat.{ℕ}
-use mathlib.Core.Path.{_≡_, sym, ap, _∙_}
-use mathlib.Core.List.{List, [], _∷_, _++_}
-use lib.ListN.{length, drop}
-use borrow.Author.Needs.{needs}
+use Rattle.prelude.proofs.{ℕ, _≡_, sym, ap, _∙_, List, [], _∷_, _++_, length, drop, needs}
 use Rattle.frames.specs.declared.Rejection.{Rejection}
-use Rattle.frames.specs.Frame.{frames}
-use Rattle.frames.specs.Rejection.{Outcome, _leaving_}
+use Rattle.frames.specs.{frames, Outcome, _leaving_}
 use Rattle.frames.proofs.Asked.{answer-nodes}
-use Rattle.certificate.specs.Search.{searchRejection}
+use Rattle.certificate.specs.{searchRejection}
 use Rattle.certificate.proofs.Questions.{passed-room}
 use Rattle.certificate.proofs.Outcomes.{finding, rejecting}
 use Rattle.variation.specs.declared.LineAnswer.{LineAnswer}
 use Rattle.variation.specs.declared.LineAnswer.the-variants.{Found, Rejected}
-use Rattle.best_line.specs.Line.{bestLineOf}
+use Rattle.best_line.specs.{bestLineOf}
 use Rattle.best_line.proofs.line.Statement.{statement}
 use Rattle.best_line.proofs.line.Tie as tie
 

@@ -1,5 +1,5 @@
 -- `buulset::buulset_capitals` meets its contract: what the call that it makes gives, flat.
-use borrow.Author.Needs.{needs}
+use Rattle.prelude.proofs.{needs}
 use Rattle.buulset.proofs.buulset_capitals.Statement.{statement}
 use Rattle.buulset.proofs.buulset_capitals.Tie as tie
 

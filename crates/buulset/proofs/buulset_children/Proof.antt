@@ -1,21 +1,12 @@
 -- `buulset::buulset_children` meets its contract: the part that it makes known by two numbers is the one that the call
 -- hands back.
-use Prim.Native.Nat.{ℕ, zero, suc, _+_, _*_, _/_, _<_, _≤_}
-use native.Mathlib.Omega.{arith}
-use mathlib.Core.Path.{_≡_, refl, sym, ap, _∙_}
-use mathlib.Core.Bool.{_&&_}
-use mathlib.Core.List.{List, []}
-use lib.Dec.{ltb, leb}
-use lib.ListN.{length, take, drop, length-drop}
-use lib.Seq.{length-take-le}
-use borrow.Author.Tests.{ltb-true, leb-true}
-use borrow.Author.Needs.{needs}
+use Rattle.prelude.proofs.{ℕ, zero, suc, _+_, _*_, _/_, _<_, _≤_, arith, _≡_, refl, sym, ap, _∙_, _&&_, List, [], ltb}
+use Rattle.prelude.proofs.{leb, length, take, drop, length-drop, length-take-le, ltb-true, leb-true, needs}
 use Rattle.lists.proofs.Choice.{cond-cases, and-both}
-use Rattle.frames.specs.Frame.{frameSize, frames, firstChild, childCount}
-use Rattle.frames.specs.Children.{childrenOf}
+use Rattle.frames.specs.{frameSize, frames, firstChild, childCount, childrenOf}
 use Rattle.buulset_answers.specs.declared.Children.{Children}
-use Rattle.buulset_answers.specs.Answers.{noChildren}
-use Rattle.buulset.specs.Children.{childrenFrom, flatChildren, partOf}
+use Rattle.buulset_answers.specs.{noChildren}
+use Rattle.buulset.specs.{childrenFrom, flatChildren, partOf}
 use Rattle.buulset.proofs.buulset_children.Statement.{statement}
 use Rattle.buulset.proofs.buulset_children.Tie as tie
 

@@ -1,7 +1,5 @@
 -- `buulset::buulset_mtdf` meets its contract: the starting value is handed on as it is.
-use mir.Syntax.{w32}
-use mir.ValLaws.{toZ-ofZ}
-use borrow.Author.Needs.{needs}
+use Rattle.prelude.proofs.{w32, toZ-ofZ, needs}
 use Rattle.buulset.proofs.buulset_mtdf.Statement.{statement}
 use Rattle.buulset.proofs.buulset_mtdf.Tie as tie
 

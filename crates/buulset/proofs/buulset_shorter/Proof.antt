@@ -1,5 +1,5 @@
 -- `buulset::buulset_shorter` meets its contract: what the calls that it makes give, flat.
-use borrow.Author.Needs.{needs}
+use Rattle.prelude.proofs.{needs}
 use Rattle.buulset.proofs.buulset_shorter.Statement.{statement}
 use Rattle.buulset.proofs.buulset_shorter.Tie as tie
 

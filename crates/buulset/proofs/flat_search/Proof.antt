@@ -1,6 +1,6 @@
 -- `buulset::flat_search` meets its contract: what the search gives, flat.
-use borrow.Author.Needs.{needs}
-use Rattle.buulset_flat.specs.Flat.{flatAnswer}
+use Rattle.prelude.proofs.{needs}
+use Rattle.buulset_flat.specs.{flatAnswer}
 use Rattle.buulset.proofs.Handing.{handed-on}
 use Rattle.buulset.proofs.flat_search.Statement.{statement}
 use Rattle.buulset.proofs.flat_search.Tie as tie

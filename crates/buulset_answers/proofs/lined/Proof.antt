@@ -1,7 +1,5 @@
 -- `buulset_answers::lined` meets its contract: a value is passed on as it is.
-use borrow.Author.Needs.{needs}
-use mir.Syntax.{w16}
-use mir.ValLaws.{toZ-ofZ}
+use Rattle.prelude.proofs.{needs, w16, toZ-ofZ}
 use Rattle.buulset_answers.proofs.lined.Statement.{statement}
 use Rattle.buulset_answers.proofs.lined.Tie as tie
 

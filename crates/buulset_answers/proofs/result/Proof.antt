@@ -1,7 +1,5 @@
 -- `buulset_answers::result` meets its contract: a value fits 32 bits.
-use mir.Val.{SFits}
-use mir.Syntax.{w16, w32}
-use mir.ValLaws.{toZ-ofZ}
+use Rattle.prelude.proofs.{SFits, w16, w32, toZ-ofZ}
 use Rattle.text_signs.proofs.Signs.{wide32}
 use Rattle.buulset_answers.proofs.result.Statement.{statement}
 use Rattle.buulset_answers.proofs.result.Tie as tie

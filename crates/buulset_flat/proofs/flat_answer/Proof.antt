@@ -1,6 +1,6 @@
 -- `buulset_flat::flat_answer` meets its contract: each variant gives its own answer.
-use borrow.Author.Needs.{needs}
-use Rattle.buulset_flat.specs.Flat.{flatAnswer}
+use Rattle.prelude.proofs.{needs}
+use Rattle.buulset_flat.specs.{flatAnswer}
 use Rattle.buulset_flat.proofs.flat_answer.Statement.{statement}
 use Rattle.buulset_flat.proofs.flat_answer.Tie as tie
 

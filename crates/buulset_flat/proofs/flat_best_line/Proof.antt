@@ -1,6 +1,6 @@
 -- `buulset_flat::flat_best_line` meets its contract: each variant gives its own answer.
-use borrow.Author.Needs.{needs}
-use Rattle.buulset_flat.specs.Flat.{flatBestLine}
+use Rattle.prelude.proofs.{needs}
+use Rattle.buulset_flat.specs.{flatBestLine}
 use Rattle.buulset_flat.proofs.flat_best_line.Statement.{statement}
 use Rattle.buulset_flat.proofs.flat_best_line.Tie as tie
 

@@ -1,6 +1,6 @@
 -- `buulset_flat::flat_checked` meets its contract: each variant gives its own answer.
-use borrow.Author.Needs.{needs}
-use Rattle.buulset_flat.specs.Flat.{flatChecked}
+use Rattle.prelude.proofs.{needs}
+use Rattle.buulset_flat.specs.{flatChecked}
 use Rattle.buulset_flat.proofs.flat_checked.Statement.{statement}
 use Rattle.buulset_flat.proofs.flat_checked.Tie as tie
 

@@ -1,6 +1,6 @@
 -- `buulset_flat::flat_choice` meets its contract: each variant gives its own answer.
-use borrow.Author.Needs.{needs}
-use Rattle.buulset_flat.specs.Flat.{flatChoice}
+use Rattle.prelude.proofs.{needs}
+use Rattle.buulset_flat.specs.{flatChoice}
 use Rattle.buulset_flat.proofs.flat_choice.Statement.{statement}
 use Rattle.buulset_flat.proofs.flat_choice.Tie as tie
 

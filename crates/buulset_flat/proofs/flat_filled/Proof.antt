@@ -1,6 +1,6 @@
 -- `buulset_flat::flat_filled` meets its contract: each variant gives its own answer.
-use borrow.Author.Needs.{needs}
-use Rattle.buulset_flat.specs.Flat.{flatFilled}
+use Rattle.prelude.proofs.{needs}
+use Rattle.buulset_flat.specs.{flatFilled}
 use Rattle.buulset_flat.proofs.flat_filled.Statement.{statement}
 use Rattle.buulset_flat.proofs.flat_filled.Tie as tie
 

@@ -1,6 +1,6 @@
 -- `buulset_flat::flat_least` meets its contract: each variant gives its own answer.
-use borrow.Author.Needs.{needs}
-use Rattle.buulset_flat.specs.Flat.{flatLeast}
+use Rattle.prelude.proofs.{needs}
+use Rattle.buulset_flat.specs.{flatLeast}
 use Rattle.buulset_flat.proofs.flat_least.Statement.{statement}
 use Rattle.buulset_flat.proofs.flat_least.Tie as tie
 

@@ -1,10 +1,7 @@
 -- `buulset_flat::flat_least_value` meets its contract: each variant gives its own answer.
-use borrow.Author.Needs.{needs}
-use mathlib.Core.Path.{sym, ap, _∙_}
-use mir.Syntax.{w16}
-use mir.ValLaws.{toZ-ofZ}
-use Rattle.buulset_answers.specs.Answers.{valued}
-use Rattle.buulset_flat.specs.Flat.{flatLeastValue}
+use Rattle.prelude.proofs.{needs, sym, ap, _∙_, w16, toZ-ofZ}
+use Rattle.buulset_answers.specs.{valued}
+use Rattle.buulset_flat.specs.{flatLeastValue}
 use Rattle.buulset_flat.proofs.flat_least_value.Statement.{statement}
 use Rattle.buulset_flat.proofs.flat_least_value.Tie as tie
 

@@ -1,6 +1,6 @@
 -- `buulset_flat::flat_line` meets its contract: each variant gives its own answer.
-use borrow.Author.Needs.{needs}
-use Rattle.buulset_flat.specs.Flat.{flatLine}
+use Rattle.prelude.proofs.{needs}
+use Rattle.buulset_flat.specs.{flatLine}
 use Rattle.buulset_flat.proofs.flat_line.Statement.{statement}
 use Rattle.buulset_flat.proofs.flat_line.Tie as tie
 

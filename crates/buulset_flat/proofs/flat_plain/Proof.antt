@@ -1,6 +1,6 @@
 -- `buulset_flat::flat_plain` meets its contract: each variant gives its own answer.
-use borrow.Author.Needs.{needs}
-use Rattle.buulset_flat.specs.Flat.{flatPlain}
+use Rattle.prelude.proofs.{needs}
+use Rattle.buulset_flat.specs.{flatPlain}
 use Rattle.buulset_flat.proofs.flat_plain.Statement.{statement}
 use Rattle.buulset_flat.proofs.flat_plain.Tie as tie
 

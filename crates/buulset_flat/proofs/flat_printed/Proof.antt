@@ -1,6 +1,6 @@
 -- `buulset_flat::flat_printed` meets its contract: each variant gives its own answer.
-use borrow.Author.Needs.{needs}
-use Rattle.buulset_flat.specs.Flat.{flatPrinted}
+use Rattle.prelude.proofs.{needs}
+use Rattle.buulset_flat.specs.{flatPrinted}
 use Rattle.buulset_flat.proofs.flat_printed.Statement.{statement}
 use Rattle.buulset_flat.proofs.flat_printed.Tie as tie
 

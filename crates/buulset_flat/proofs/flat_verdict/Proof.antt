@@ -1,10 +1,7 @@
 -- `buulset_flat::flat_verdict` meets its contract: each variant gives its own answer.
-use borrow.Author.Needs.{needs}
-use mathlib.Core.Path.{sym, ap, _∙_}
-use mir.Syntax.{w16}
-use mir.ValLaws.{toZ-ofZ}
-use Rattle.buulset_answers.specs.Answers.{valued}
-use Rattle.buulset_flat.specs.Flat.{flatVerdict}
+use Rattle.prelude.proofs.{needs, sym, ap, _∙_, w16, toZ-ofZ}
+use Rattle.buulset_answers.specs.{valued}
+use Rattle.buulset_flat.specs.{flatVerdict}
 use Rattle.buulset_flat.proofs.flat_verdict.Statement.{statement}
 use Rattle.buulset_flat.proofs.flat_verdict.Tie as tie
 

@@ -1,6 +1,6 @@
 -- `buulset_flat::flat_written` meets its contract: each variant gives its own answer.
-use borrow.Author.Needs.{needs}
-use Rattle.buulset_flat.specs.Flat.{flatWritten}
+use Rattle.prelude.proofs.{needs}
+use Rattle.buulset_flat.specs.{flatWritten}
 use Rattle.buulset_flat.proofs.flat_written.Statement.{statement}
 use Rattle.buulset_flat.proofs.flat_written.Tie as tie
 

@@ -1,8 +1,6 @@
 -- `capitals::main` is safe and ends: the bytes that it lends were read.
-use mathlib.Core.Path.{sym}
-use lib.Seq.{length-take-le}
+use Rattle.prelude.proofs.{sym, length-take-le, needs}
 use Rattle.input.proofs.Reading.{fits}
-use borrow.Author.Needs.{needs}
 use Rattle.capitals.proofs.main.Statement.{statement}
 use Rattle.capitals.proofs.main.Tie as tie
 

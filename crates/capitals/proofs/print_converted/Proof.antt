@@ -1,12 +1,7 @@
 -- `capitals::print_converted` is safe and ends: the buffer has the bytes that are printed.
-use Prim.Native.Nat.{_≤_}
-use mathlib.Core.Path.{sym}
-use native.Mathlib.Omega.{arith}
-use lib.ListN.{length, replicate}
-use lib.Seq.{length-take-le}
-use borrow.Author.Needs.{needs}
-use Rattle.file_reader.specs.File.{maxFile}
-use Rattle.convert.specs.Printed.{lengthPrinted}
+use Rattle.prelude.proofs.{_≤_, sym, arith, length, replicate, length-take-le, needs}
+use Rattle.file_reader.specs.{maxFile}
+use Rattle.convert.specs.{lengthPrinted}
 use Rattle.convert.proofs.Printing.{printed-within}
 use Rattle.capitals.proofs.print_converted.Statement.{statement}
 use Rattle.capitals.proofs.print_converted.Tie as tie

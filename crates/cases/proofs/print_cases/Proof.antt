@@ -1,7 +1,5 @@
 -- `cases::print_cases` is safe and ends: each case starts behind the one before it.
-use Prim.Native.Nat.{_≤_, _-_}
-use lib.ListN.{length}
-use borrow.Author.Needs.{needs}
+use Rattle.prelude.proofs.{_≤_, _-_, length, needs}
 use Rattle.cases.proofs.print_cases.Statement.{statement}
 use Rattle.cases.proofs.print_cases.Tie as tie
 

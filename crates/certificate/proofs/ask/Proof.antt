@@ -1,7 +1,6 @@
 -- `certificate::ask` meets its contract: one lemma for each of its three returns.
-use mathlib.Core.Path.{sym, _∙_}
+use Rattle.prelude.proofs.{sym, _∙_, needs}
 use Rattle.certificate.proofs.Questions.{table-refused, too-short, long-enough}
-use borrow.Author.Needs.{needs}
 use Rattle.certificate.proofs.ask.Statement.{statement}
 use Rattle.certificate.proofs.ask.Tie as tie
 

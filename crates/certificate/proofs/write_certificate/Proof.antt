@@ -1,5 +1,5 @@
 -- `certificate::write_certificate` meets its contract: what is filled in are the positions.
-use borrow.Author.Needs.{needs}
+use Rattle.prelude.proofs.{needs}
 use Rattle.positions.proofs.Positions.{positioned}
 use Rattle.certificate.proofs.write_certificate.Statement.{statement}
 use Rattle.certificate.proofs.write_certificate.Tie as tie

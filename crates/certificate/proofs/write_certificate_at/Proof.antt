@@ -1,10 +1,9 @@
 -- `certificate::write_certificate_at` meets its contract: the arrays hold the sides and the bounds, and the move and
 -- the flags follow.
-use native.Mathlib.Omega.{arith}
-use Rattle.certificate_bounds.specs.Marks.{marked}
+use Rattle.prelude.proofs.{arith, needs}
+use Rattle.certificate_bounds.specs.{marked}
 use Rattle.certificate.proofs.Chosen.{Bounded, bounded, chosen-move}
 use Rattle.certificate.proofs.Flags.{flags-follow}
-use borrow.Author.Needs.{needs}
 use Rattle.certificate.proofs.write_certificate_at.Statement.{statement}
 use Rattle.certificate.proofs.write_certificate_at.Tie as tie
 

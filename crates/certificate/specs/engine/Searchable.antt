@@ -5,7 +5,7 @@ use mathlib.Core.Bool.{false}
 use mathlib.Core.List.{List}
 use lib.ListN.{length}
 use Rattle.gametree.specs.declared.Position.{Position}
-use Rattle.gametree.specs.Tree.{Tree, In}
+use Rattle.gametree.specs.Trees.{Tree, In}
 use Rattle.frames.specs.Frame.{frames}
 use Rattle.frames.specs.Position.{positionOf}
 use Rattle.frames.specs.Tree.{treeAt}

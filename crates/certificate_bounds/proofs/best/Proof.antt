@@ -1,10 +1,6 @@
 -- `certificate_bounds::best` meets its contract: from right to left, the value is the best of the entries passed.
-use Prim.Native.Nat.{_+_, _-_, _≤_, _<_}
-use native.Mathlib.Omega.{arith}
-use mathlib.Core.Path.{_≡_, sym, _∙_}
-use lib.ListN.{getD}
-use borrow.Author.Needs.{needs}
-use Rattle.certificate_bounds.specs.engine.Ranges.{bestIn}
+use Rattle.prelude.proofs.{_+_, _-_, _≤_, _<_, arith, _≡_, sym, _∙_, getD, needs}
+use Rattle.certificate_bounds.specs.{bestIn}
 use Rattle.certificate_bounds.proofs.Ranges.{best-last, best-before}
 use Rattle.certificate_bounds.proofs.best.Statement.{statement}
 use Rattle.certificate_bounds.proofs.best.Tie as tie

@@ -1,9 +1,6 @@
 -- `certificate_bounds::clear` meets its contract: before mark i, the first i marks are 0.
-use Prim.Native.Nat.{_≤_, _-_}
-use native.Mathlib.Omega.{arith}
-use mathlib.Core.Path.{_≡_, sym, ap, _∙_}
-use lib.ListN.{length, set}
-use Rattle.positions.specs.Buffer.{written}
+use Rattle.prelude.proofs.{_≤_, _-_, arith, _≡_, sym, ap, _∙_, length, set}
+use Rattle.positions.specs.{written}
 use Rattle.positions.proofs.Buffers.{written-none, written-next, written-length}
 use Rattle.certificate_bounds.proofs.clear.Statement.{statement}
 use Rattle.certificate_bounds.proofs.clear.Tie as tie

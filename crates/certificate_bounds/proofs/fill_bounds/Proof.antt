@@ -1,14 +1,9 @@
 -- `certificate_bounds::fill_bounds` meets its contract: from the last node to the first, each bound follows from later
 -- ones.
-use Prim.Native.Nat.{_-_, _<_}
-use native.Mathlib.Omega.{arith}
-use mathlib.Core.Path.{_≡_, refl, ap, _∙_}
-use lib.ListN.{length}
-use borrow.Author.Needs.{needs}
-use Rattle.gametree.specs.Tree.{least, greatest}
-use Rattle.frames.specs.Frame.{frames}
-use Rattle.certificate_bounds.specs.Marks.{marked}
-use Rattle.certificate_bounds.specs.engine.Bounds.{boundOf}
+use Rattle.prelude.proofs.{_-_, _<_, arith, _≡_, refl, ap, _∙_, length, needs}
+use Rattle.gametree.specs.{least, greatest}
+use Rattle.frames.specs.{frames}
+use Rattle.certificate_bounds.specs.{marked, boundOf}
 use Rattle.certificate_bounds.proofs.BottomUp.{Rising, rising-begins, rising-step, rising-ends}
 use Rattle.certificate_bounds.proofs.Bounds.{children-bounded}
 use Rattle.certificate_bounds.proofs.fill_bounds.Statement.{statement}

@@ -1,7 +1,6 @@
 -- `certificate_bounds::leaf_bounds` meets its contract: only a marked leaf is read, so no mark changes.
-use mathlib.Core.Path.{refl, _∙_}
+use Rattle.prelude.proofs.{refl, _∙_, needs}
 use Rattle.certificate_bounds.proofs.Bounds.{bounds-marked, bounds-unmarked, mark-again}
-use borrow.Author.Needs.{needs}
 use Rattle.certificate_bounds.proofs.leaf_bounds.Statement.{statement}
 use Rattle.certificate_bounds.proofs.leaf_bounds.Tie as tie
 

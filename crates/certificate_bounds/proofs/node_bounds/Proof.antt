@@ -1,14 +1,11 @@
 -- `certificate_bounds::node_bounds` meets its contract: a leaf's bounds, or the best of the children's.
-use Prim.Native.Nat.{_+_, _<_, _≤_}
-use native.Mathlib.Omega.{arith}
-use mathlib.Core.Path.{refl, ap₂, _∙_}
-use Rattle.gametree.specs.Tree.{least, greatest}
-use Rattle.frames.specs.Frame.{frames, childCount}
+use Rattle.prelude.proofs.{_+_, _<_, _≤_, arith, refl, ap₂, _∙_, needs}
+use Rattle.gametree.specs.{least, greatest}
+use Rattle.frames.specs.{frames, childCount}
 use Rattle.frames.proofs.Next.{children-within}
 use Rattle.positions.proofs.Positions.{positioned-few, positioned-depth, positioned-side}
-use Rattle.certificate_bounds.specs.Marks.{marked}
+use Rattle.certificate_bounds.specs.{marked}
 use Rattle.certificate_bounds.proofs.Bounds.{bound-leaf, bound-inner}
-use borrow.Author.Needs.{needs}
 use Rattle.certificate_bounds.proofs.node_bounds.Statement.{statement}
 use Rattle.certificate_bounds.proofs.node_bounds.Tie as tie
 

@@ -2,7 +2,7 @@
 use Prim.Native.Nat.{ℕ}
 use mathlib.Core.Bool.{Bool}
 use mathlib.Core.List.{List}
-use Rattle.gametree.specs.Tree.{least, greatest, minimax}
+use Rattle.gametree.specs.Trees.{least, greatest, minimax}
 use Rattle.gametree.specs.Bounds.{known}
 use Rattle.frames.specs.Tree.{treeAt, valuation}
 use Rattle.certificate_bounds.specs.declared.Interval.{Interval}

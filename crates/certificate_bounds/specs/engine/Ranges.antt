@@ -1,7 +1,7 @@
 -- The best of the entries of consecutive nodes.
 use Prim.Native.Nat.{ℕ, zero, suc, _+_}
 use Rattle.gametree.specs.declared.Side.{Side}
-use Rattle.gametree.specs.Tree.{better}
+use Rattle.gametree.specs.Trees.{better}
 
 -- the best of f i, f (i + 1), .., f (i + n) for a side
 unfoldable pub bestIn : Side → (ℕ → ℕ) → ℕ → ℕ → ℕ

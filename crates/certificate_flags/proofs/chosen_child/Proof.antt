@@ -1,7 +1,6 @@
 -- `certificate_flags::chosen_child` meets its contract: the side says by which bounds a child is chosen.
-use mathlib.Core.Path.{sym, _∙_}
+use Rattle.prelude.proofs.{sym, _∙_, needs}
 use Rattle.certificate_flags.proofs.Chosen.{chosen-by}
-use borrow.Author.Needs.{needs}
 use Rattle.certificate_flags.proofs.chosen_child.Statement.{statement}
 use Rattle.certificate_flags.proofs.chosen_child.Tie as tie
 

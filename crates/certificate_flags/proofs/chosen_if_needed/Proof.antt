@@ -1,6 +1,6 @@
 -- `certificate_flags::chosen_if_needed` meets its contract: where the flags are the same, it makes no difference which
 -- child is chosen.
-use borrow.Author.Needs.{needs}
+use Rattle.prelude.proofs.{needs}
 use Rattle.certificate_flags.proofs.Flags.{none-chosen}
 use Rattle.certificate_flags.proofs.chosen_if_needed.Statement.{statement}
 use Rattle.certificate_flags.proofs.chosen_if_needed.Tie as tie

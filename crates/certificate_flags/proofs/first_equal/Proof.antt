@@ -1,10 +1,6 @@
 -- `certificate_flags::first_equal` meets its contract: what is left to be searched gives what all of it was to give.
-use Prim.Native.Nat.{_-_, _≤_}
-use native.Mathlib.Omega.{arith}
-use mathlib.Core.Path.{_≡_, refl, sym, _∙_}
-use lib.ListN.{getD}
-use borrow.Author.Needs.{needs}
-use Rattle.certificate_flags.specs.engine.Chosen.{firstEqual}
+use Rattle.prelude.proofs.{_-_, _≤_, arith, _≡_, refl, sym, _∙_, getD, needs}
+use Rattle.certificate_flags.specs.{firstEqual}
 use Rattle.certificate_flags.proofs.Chosen.{first-here, first-later, first-none}
 use Rattle.certificate_flags.proofs.first_equal.Statement.{statement}
 use Rattle.certificate_flags.proofs.first_equal.Tie as tie

@@ -1,11 +1,5 @@
 -- `certificate_flags::flag_children` meets its contract: it stores a run of flags.
-use Prim.Native.Nat.{_-_}
-use native.Mathlib.Omega.{arith}
-use mathlib.Core.Logic.{⊎-elim}
-use mathlib.Core.Bool.{cond}
-use lib.Dec.{eqb}
-use borrow.Author.Needs.{needs}
-use borrow.Author.Tests.{eq-eqb, ne-eqb}
+use Rattle.prelude.proofs.{_-_, arith, ⊎-elim, cond, eqb, needs, eq-eqb, ne-eqb}
 use Rattle.positions.proofs.Runs.{Run, run-begins, run-step, run-ends}
 use Rattle.certificate_flags.proofs.flag_children.Statement.{statement}
 use Rattle.certificate_flags.proofs.flag_children.Tie as tie

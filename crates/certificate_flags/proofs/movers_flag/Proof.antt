@@ -1,5 +1,5 @@
 -- `certificate_flags::movers_flag` meets its contract.
-use borrow.Author.Needs.{needs}
+use Rattle.prelude.proofs.{needs}
 use Rattle.certificate_flags.proofs.movers_flag.Statement.{statement}
 use Rattle.certificate_flags.proofs.movers_flag.Tie as tie
 

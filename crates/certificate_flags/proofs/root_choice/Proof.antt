@@ -1,11 +1,6 @@
 -- `certificate_flags::root_choice` meets its contract: the root's children are the nodes from 1 on.
-use Prim.Native.Nat.{ℕ, _+_, _-_, _≤_}
-use native.Mathlib.Omega.{arith}
-use mathlib.Core.Path.{_≡_}
-use mathlib.Core.List.{List}
-use borrow.Author.Needs.{needs}
-use Rattle.frames.specs.Frame.{frames, childCount, next}
-use Rattle.frames.specs.Formed.{WellFormed}
+use Rattle.prelude.proofs.{ℕ, _+_, _-_, _≤_, arith, _≡_, List, needs}
+use Rattle.frames.specs.{frames, childCount, next, WellFormed}
 use Rattle.frames.proofs.Next.{next-within}
 use Rattle.certificate_flags.proofs.root_choice.Statement.{statement}
 use Rattle.certificate_flags.proofs.root_choice.Tie as tie

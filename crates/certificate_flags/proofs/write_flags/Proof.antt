@@ -1,13 +1,9 @@
 -- `certificate_flags::write_flags` meets its contract: each turn stores the flags of one node's children.
-use Prim.Native.Nat.{ℕ, _+_, _-_, _≤_, _<_}
-use native.Mathlib.Omega.{arith}
-use mathlib.Core.Path.{sym, _∙_}
-use lib.ListN.{length-set}
-use borrow.Author.Needs.{needs}
-use Rattle.frames.specs.Frame.{frames}
+use Rattle.prelude.proofs.{ℕ, _+_, _-_, _≤_, _<_, arith, sym, _∙_, length-set, needs}
+use Rattle.frames.specs.{frames}
 use Rattle.positions.proofs.TopDown.{Visit, visit-root, visit-goes, visit-within, visit-step}
 use Rattle.positions.proofs.TopDown.{Filled, filled-root, filled-all}
-use Rattle.certificate_flags.specs.engine.Flags.{FlagsFrom}
+use Rattle.certificate_flags.specs.{FlagsFrom}
 use Rattle.certificate_flags.proofs.Flags.{flags-step}
 use Rattle.certificate_flags.proofs.write_flags.Statement.{statement}
 use Rattle.certificate_flags.proofs.write_flags.Tie as tie

@@ -1,14 +1,10 @@
 -- `convert::check_file` meets its contract: each way out is that of the questions on lines or of the questions on
 -- frames.
-use mathlib.Core.Path.{refl, sym}
-use mathlib.Core.Option.{none}
-use native.Mathlib.Omega.{arith}
-use borrow.Author.Needs.{needs}
+use Rattle.prelude.proofs.{refl, sym, none, arith, needs, length-take-le}
 use denote.Ref.{now}
-use lib.Seq.{length-take-le}
-use Rattle.frames.specs.Check.{framesRejection}
-use Rattle.file_lines.specs.Lines.{decoded}
-use Rattle.file_reader.specs.engine.Decoded.{linesRejection}
+use Rattle.frames.specs.{framesRejection}
+use Rattle.file_lines.specs.{decoded}
+use Rattle.file_reader.specs.{linesRejection}
 use Rattle.file_reader.proofs.Reading.{Front, front-room, decoded-front, lines-parts, lines-then}
 use Rattle.file_reader.proofs.Reading.{lines-refused, frames-asked}
 use Rattle.convert.proofs.check_file.Statement.{statement}

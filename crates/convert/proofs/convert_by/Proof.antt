@@ -1,11 +1,8 @@
 -- `convert::convert_by` meets its contract: the file is rejected, or its table is written.
-use mathlib.Core.Path.{sym, _∙_}
-use native.Mathlib.Omega.{arith}
-use borrow.Author.Needs.{needs}
+use Rattle.prelude.proofs.{sym, _∙_, arith, needs, length-take-le}
 use denote.Ref.{now}
-use lib.Seq.{length-take-le}
 use Rattle.file_reader.proofs.Reading.{Front, front-room, decoded-front, decoded-rejected}
-use Rattle.convert.specs.results.Converted.{baseRejection}
+use Rattle.convert.specs.{baseRejection}
 use Rattle.convert.proofs.Converted.{base-table, base-sized}
 use Rattle.convert.proofs.Converting.{convert-refused, convert-written}
 use Rattle.convert.proofs.convert_by.Statement.{statement}

@@ -1,9 +1,5 @@
 -- `convert::lay_refused` meets its contract: the bytes of the line are copied where they have room.
-use mathlib.Core.Path.{sym}
-use native.Mathlib.Omega.{arith}
-use lib.ListN.{length}
-use lib.Seq.{length-take-le}
-use borrow.Author.Needs.{needs}
+use Rattle.prelude.proofs.{sym, arith, length, length-take-le, needs}
 use Rattle.text.proofs.Sizes.{text-bytes, length-within}
 use Rattle.convert.proofs.Printing.{text-short, copied-laid}
 use Rattle.convert.proofs.lay_refused.Statement.{statement}

@@ -1,7 +1,6 @@
 -- `convert::output` meets its contract: what the converter answers decides what is printed.
-use mathlib.Core.Path.{sym, ap, _∙_}
-use borrow.Author.Needs.{needs}
-use Rattle.convert.specs.Printed.{laidText}
+use Rattle.prelude.proofs.{sym, ap, _∙_, needs}
+use Rattle.convert.specs.{laidText}
 use Rattle.convert.proofs.Printing.{written-printed, rejection-printed}
 use Rattle.convert.proofs.output.Statement.{statement}
 use Rattle.convert.proofs.output.Tie as tie

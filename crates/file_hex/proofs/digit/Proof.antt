@@ -1,7 +1,5 @@
 -- `file_hex::digit` meets its contract: what `digit_or_more` gives is cut off at the number of no digit.
-use mathlib.Core.Path.{_∙_}
-use borrow.Author.Needs.{needs}
-use native.Mathlib.Omega.{arith}
+use Rattle.prelude.proofs.{_∙_, needs, arith}
 use Rattle.file_hex.proofs.DigitArithmetic.{cut-off}
 use Rattle.file_hex.proofs.digit.Statement.{statement}
 use Rattle.file_hex.proofs.digit.Tie as tie

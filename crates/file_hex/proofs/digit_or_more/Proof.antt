@@ -1,7 +1,6 @@
 -- `file_hex::digit_or_more` meets its contract: of which kind the byte is, `one_within` says, and what is computed from
 -- it is right for each of the 256 bytes.
-use native.Mathlib.Omega.{arith}
-use borrow.Author.Needs.{needs}
+use Rattle.prelude.proofs.{arith, needs}
 use Rattle.file_hex.proofs.DigitArithmetic.{Right, digit-right}
 use Rattle.file_hex.proofs.digit_or_more.Statement.{statement}
 use Rattle.file_hex.proofs.digit_or_more.Tie as tie

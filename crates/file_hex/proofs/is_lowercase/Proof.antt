@@ -1,5 +1,5 @@
 -- `file_hex::is_lowercase` meets its contract: each way out is one outcome of the first test.
-use borrow.Author.Tests.{le-leb, lt-leb}
+use Rattle.prelude.proofs.{le-leb, lt-leb}
 use Rattle.file_hex.proofs.is_lowercase.Statement.{statement}
 use Rattle.file_hex.proofs.is_lowercase.Tie as tie
 

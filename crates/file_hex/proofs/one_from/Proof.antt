@@ -1,7 +1,5 @@
 -- `file_hex::one_from` meets its contract: the quotient is 1 from half of the first byte on.
-use Prim.Native.Nat.{_*_, _%_, _≤_}
-use native.Mathlib.Omega.{arith}
-use borrow.Author.Needs.{needs}
+use Rattle.prelude.proofs.{_*_, _%_, _≤_, arith, needs}
 use Rattle.file_hex.proofs.DigitArithmetic.{times-bit, halves}
 use Rattle.file_hex.proofs.one_from.Statement.{statement}
 use Rattle.file_hex.proofs.one_from.Tie as tie

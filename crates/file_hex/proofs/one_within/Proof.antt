@@ -1,5 +1,5 @@
 -- `file_hex::one_within` meets its contract: a range is what is from its first byte on and not behind its last.
-use borrow.Author.Needs.{needs}
+use Rattle.prelude.proofs.{needs}
 use Rattle.file_hex.proofs.DigitArithmetic.{ranges}
 use Rattle.file_hex.proofs.one_within.Statement.{statement}
 use Rattle.file_hex.proofs.one_within.Tie as tie

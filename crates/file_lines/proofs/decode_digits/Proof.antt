@@ -1,14 +1,10 @@
 -- `file_lines::decode_digits` meets its contract: the line's digits stand in front of four zeros when they are read,
 -- and each turn stores the byte of two of them behind the ones before.
-use Prim.Native.Nat.{ℕ, _+_, _-_, _*_, _≤_, _<_}
-use mathlib.Core.Path.{_≡_, refl, sym}
-use native.Mathlib.Omega.{arith}
-use borrow.Author.Needs.{needs}
-use lib.ListN.{length, length-set, getD, take}
-use lib.Seq.{sets}
-use Rattle.frames.specs.Frame.{frameSize}
-use Rattle.file_hex.specs.Digit.{noDigit, digitOf}
-use Rattle.file_lines.specs.Line.{lineDigits, bytesOf}
+use Rattle.prelude.proofs.{ℕ, _+_, _-_, _*_, _≤_, _<_, _≡_, refl, sym, arith, needs, length, length-set, getD, take}
+use Rattle.prelude.proofs.{sets}
+use Rattle.frames.specs.{frameSize}
+use Rattle.file_hex.specs.{noDigit, digitOf}
+use Rattle.file_lines.specs.{lineDigits, bytesOf}
 use Rattle.file_lines.proofs.Storing.{stored-refused, byte-stored, stored-all}
 use Rattle.file_lines.proofs.Numbering.{padded-length, line-number, number-small, line-right, line-wrong}
 use Rattle.file_lines.proofs.decode_digits.Statement.{statement}

@@ -1,10 +1,6 @@
 -- `file_lines::decode_line` meets its contract: each way out is a case of what stands at the position.
-use mathlib.Core.Path.{sym, _∙_}
-use native.Mathlib.Omega.{arith}
-use borrow.Author.Needs.{needs}
-use borrow.Author.Tests.{not-true, not-false}
+use Rattle.prelude.proofs.{sym, _∙_, arith, needs, not-true, not-false, length-take, length-drop}
 use denote.Ref.{now}
-use lib.ListN.{length-take, length-drop}
 use Rattle.file_lines.proofs.Positions.{line-part, line-short, line-open, line-closed}
 use Rattle.file_lines.proofs.Storing.{stored-refused}
 use Rattle.file_lines.proofs.decode_line.Statement.{statement}

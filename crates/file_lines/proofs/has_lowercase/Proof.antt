@@ -1,11 +1,5 @@
 -- `file_lines::has_lowercase` meets its contract: each turn looks at one byte.
-use Prim.Native.Nat.{_-_}
-use mathlib.Core.Path.{sym, _∙_}
-use mathlib.Core.Logic.{⊎-elim}
-use mathlib.Core.Bool.{or-true, or-false}
-use native.Mathlib.Omega.{arith}
-use borrow.Author.Needs.{needs}
-use lib.ListN.{length}
+use Rattle.prelude.proofs.{_-_, sym, _∙_, ⊎-elim, or-true, or-false, arith, needs, length}
 use Rattle.file_lines.proofs.SmallLetters.{Looking, looking-none, looking-all, looking-next}
 use Rattle.file_lines.proofs.has_lowercase.Statement.{statement}
 use Rattle.file_lines.proofs.has_lowercase.Tie as tie

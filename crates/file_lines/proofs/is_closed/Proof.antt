@@ -1,9 +1,7 @@
 -- `file_lines::is_closed` meets its contract: what is left of the file from the index on is empty, or begins with a
 -- byte.
-use native.Mathlib.Omega.{arith}
-use borrow.Author.Needs.{needs}
+use Rattle.prelude.proofs.{arith, needs, drop-cons, drop-length}
 use denote.Ref.{now}
-use lib.Seq.{drop-cons, drop-length}
 use Rattle.file_lines.proofs.is_closed.Statement.{statement}
 use Rattle.file_lines.proofs.is_closed.Tie as tie
 

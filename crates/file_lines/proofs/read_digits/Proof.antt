@@ -1,10 +1,6 @@
 -- `file_lines::read_digits` meets its contract: each turn reads one digit more.
-use Prim.Native.Nat.{_-_, _≤_}
-use mathlib.Core.Path.{_≡_}
-use native.Mathlib.Omega.{arith}
-use borrow.Author.Needs.{needs}
-use lib.ListN.{length, length-set}
-use Rattle.file_lines.specs.engine.Numbered.{digitsAtOnce, Numbered}
+use Rattle.prelude.proofs.{_-_, _≤_, _≡_, arith, needs, length, length-set}
+use Rattle.file_lines.specs.{digitsAtOnce, Numbered}
 use Rattle.file_lines.proofs.Numbering.{numbered-none, numbered-next}
 use Rattle.file_lines.proofs.read_digits.Statement.{statement}
 use Rattle.file_lines.proofs.read_digits.Tie as tie

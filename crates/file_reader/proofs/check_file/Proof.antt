@@ -1,16 +1,11 @@
 -- `file_reader::check_file` meets its contract: each way out is that of the questions on lines, of 16, or of the
 -- questions on frames.
-use mathlib.Core.Path.{_≡_, sym, _∙_}
-use mathlib.Core.Option.{none}
-use native.Mathlib.Omega.{arith}
-use borrow.Author.Needs.{needs}
+use Rattle.prelude.proofs.{_≡_, sym, _∙_, none, arith, needs, length-take-le}
 use denote.Ref.{now}
-use lib.Seq.{length-take-le}
 use Rattle.frames.proofs.Asked.{answer-nodes, answer-rejected}
-use Rattle.frames.specs.Check.{framesRejection}
-use Rattle.file_lines.specs.Lines.{decoded}
-use Rattle.file_reader.specs.File.{fileCheck16}
-use Rattle.file_reader.specs.engine.Decoded.{linesRejection}
+use Rattle.frames.specs.{framesRejection}
+use Rattle.file_lines.specs.{decoded}
+use Rattle.file_reader.specs.{fileCheck16, linesRejection}
 use Rattle.file_reader.proofs.Reading.{Front, front-room, decoded-front, lines-parts}
 use Rattle.file_reader.proofs.Reading.{file-then, lines-refused, next-refused, frames-asked}
 use Rattle.file_reader.proofs.check_file.Statement.{statement}

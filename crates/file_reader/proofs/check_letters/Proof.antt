@@ -1,6 +1,5 @@
 -- `file_reader::check_letters` meets its contract: a file without a lowercase letter has no line with one.
-use mathlib.Core.Path.{sym, _∙_}
-use borrow.Author.Needs.{needs}
+use Rattle.prelude.proofs.{sym, _∙_, needs}
 use Rattle.file_reader.proofs.Letters.{file-small}
 use Rattle.file_reader.proofs.check_letters.Statement.{statement}
 use Rattle.file_reader.proofs.check_letters.Tie as tie

@@ -1,6 +1,5 @@
 -- `file_reader::check_lines` meets its contract: each way out is that of one question.
-use native.Mathlib.Omega.{arith}
-use borrow.Author.Needs.{needs}
+use Rattle.prelude.proofs.{arith, needs}
 use Rattle.file_reader.proofs.Decoding.{decoded-refused}
 use Rattle.file_reader.proofs.Reading.{empty-refused, long-refused, sized}
 use Rattle.file_reader.proofs.check_lines.Statement.{statement}

@@ -1,11 +1,5 @@
 -- `file_reader::decode` meets its contract: each turn decodes one line and stores its bytes behind the ones before.
-use Prim.Native.Nat.{_-_}
-use mathlib.Core.Path.{_≡_, sym, _∙_}
-use mathlib.Core.Bool.{true}
-use native.Mathlib.Omega.{arith}
-use borrow.Author.Needs.{needs}
-use borrow.Author.Tests.{not-true, not-false}
-use lib.ListN.{length}
+use Rattle.prelude.proofs.{_-_, _≡_, sym, _∙_, true, arith, needs, not-true, not-false, length}
 use Rattle.file_reader.proofs.Decoding.{Decoding, decoding-none, decoding-all, decoding-stop, decoding-next}
 use Rattle.file_reader.proofs.decode.Statement.{statement}
 use Rattle.file_reader.proofs.decode.Tie as tie

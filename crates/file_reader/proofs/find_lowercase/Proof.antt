@@ -1,11 +1,7 @@
 -- `file_reader::find_lowercase` meets its contract: each turn looks at the line that stands at the next position.
-use Prim.Native.Nat.{_+_, _*_, _-_, _≤_}
-use mathlib.Core.Path.{sym, _∙_}
-use native.Mathlib.Omega.{arith}
-use borrow.Author.Needs.{needs}
+use Rattle.prelude.proofs.{_+_, _*_, _-_, _≤_, sym, _∙_, arith, needs, length}
 use denote.Ref.{now}
-use lib.ListN.{length}
-use Rattle.file_lines.specs.Line.{lineDigits, lineSize}
+use Rattle.file_lines.specs.{lineDigits, lineSize}
 use Rattle.file_lines.proofs.Positions.{line-part}
 use Rattle.file_reader.proofs.Letters.{Lettering, lettering-none, lettering-all, lettering-stop, lettering-next}
 use Rattle.file_reader.proofs.Letters.{line-room}

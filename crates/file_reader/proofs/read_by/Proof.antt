@@ -1,10 +1,7 @@
 -- `file_reader::read_by` meets its contract: nothing is written to the lent table before question 10 has passed.
-use mathlib.Core.Path.{sym}
-use native.Mathlib.Omega.{arith}
-use borrow.Author.Needs.{needs}
+use Rattle.prelude.proofs.{sym, arith, needs, length-take-le}
 use denote.Ref.{now}
-use lib.Seq.{length-take-le}
-use Rattle.file_reader.specs.File.{fileRejection}
+use Rattle.file_reader.specs.{fileRejection}
 use Rattle.file_reader.proofs.Reading.{Front, front-room, accepted-parts, decoded-front, decoded-rejected}
 use Rattle.file_reader.proofs.Reading.{read-refused, read-short, read-accepted}
 use Rattle.file_reader.proofs.read_by.Statement.{statement}

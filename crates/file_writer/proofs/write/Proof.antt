@@ -1,6 +1,5 @@
 -- `file_writer::write` meets its contract: the table is rejected, or its file is written.
-use mathlib.Core.Path.{sym, _∙_}
-use borrow.Author.Needs.{needs}
+use Rattle.prelude.proofs.{sym, _∙_, needs}
 use Rattle.frames.proofs.Acceptance.{nodes-accepted}
 use Rattle.file_writer.proofs.Questions.{table-refused}
 use Rattle.file_writer.proofs.write.Statement.{statement}

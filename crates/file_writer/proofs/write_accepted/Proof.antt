@@ -1,12 +1,9 @@
 -- `file_writer::write_accepted` meets its contract: the buffer is too short, or the lines are written.
-use mathlib.Core.Path.{refl}
-use native.Mathlib.Omega.{arith}
-use borrow.Author.Needs.{needs}
-use Rattle.frames.specs.Tree.{upFrom}
+use Rattle.prelude.proofs.{refl, arith, needs}
+use Rattle.frames.specs.{upFrom}
 use Rattle.frames.proofs.Acceptance.{accepted-stated}
-use Rattle.file_hex.specs.Digit.{capitalOf}
-use Rattle.file_writer.specs.Encoded.{digitsOf}
-use Rattle.file_writer.specs.engine.Pairs.{digitPairs}
+use Rattle.file_hex.specs.{capitalOf}
+use Rattle.file_writer.specs.{digitsOf, digitPairs}
 use Rattle.file_writer.proofs.Questions.{buffer-short, file-written}
 use Rattle.file_writer.proofs.write_accepted.Statement.{statement}
 use Rattle.file_writer.proofs.write_accepted.Tie as tie

@@ -1,9 +1,6 @@
 -- `file_writer::write_line` meets its contract: each turn lays the two digits of a byte behind the ones before.
-use Prim.Native.Nat.{_-_}
-use native.Mathlib.Omega.{arith}
-use borrow.Author.Needs.{needs}
-use lib.ListN.{length-set}
-use Rattle.frames.specs.Frame.{frameSize}
+use Rattle.prelude.proofs.{_-_, arith, needs, length-set}
+use Rattle.frames.specs.{frameSize}
 use Rattle.file_writer.proofs.Laying.{Laying, laying-none, laying-next, laying-all, looked-up}
 use Rattle.file_writer.proofs.write_line.Statement.{statement}
 use Rattle.file_writer.proofs.write_line.Tie as tie

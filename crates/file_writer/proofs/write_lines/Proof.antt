@@ -1,10 +1,6 @@
 -- `file_writer::write_lines` meets its contract: each turn lays a line at the front of what is left of the file.
-use Prim.Native.Nat.{_*_, _-_}
-use native.Mathlib.Omega.{arith}
-use native.Mathlib.Nat.{add-sub-cancel-left}
-use borrow.Author.Needs.{needs}
-use lib.ListN.{length-take, length-drop}
-use Rattle.frames.specs.Frame.{frameSize}
+use Rattle.prelude.proofs.{_*_, _-_, arith, add-sub-cancel-left, needs, length-take, length-drop}
+use Rattle.frames.specs.{frameSize}
 use Rattle.file_writer.proofs.Writing.{Writing, writing-none, writing-next, writing-all}
 use Rattle.file_writer.proofs.write_lines.Statement.{statement}
 use Rattle.file_writer.proofs.write_lines.Tie as tie

@@ -1,14 +1,6 @@
 -- `byte_3_right` meets its contract: one lemma for each of its four returns.
-use Prim.Native.Nat.{ℕ, _<_}
-use native.Mathlib.Omega.{arith}
-use mathlib.Core.Path.{_≡_, ap, _∙_}
-use mathlib.Core.Bool.{true, false}
-use mathlib.Core.List.{List}
-use lib.Dec.{eqb}
-use borrow.Author.Tests.{eq-eqb, ne-eqb, lt-ltb}
-use borrow.Author.Needs.{needs}
-use Rattle.frames.specs.Frame.{childCount, byte3, sameMover}
-use Rattle.frames.specs.Check.{byte3Right}
+use Rattle.prelude.proofs.{ℕ, _<_, arith, _≡_, ap, _∙_, true, false, List, eqb, eq-eqb, ne-eqb, lt-ltb, needs}
+use Rattle.frames.specs.{childCount, byte3, sameMover, byte3Right}
 use Rattle.frames.proofs.byte_3_right.Statement.{statement}
 use Rattle.frames.proofs.byte_3_right.Tie as tie
 

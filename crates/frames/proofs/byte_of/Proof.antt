@@ -1,8 +1,5 @@
 -- `byte_of` reads the byte that it names; a byte is below 256.
-use native.Mathlib.Omega.{arith}
-use mathlib.Core.Path.{refl}
-use Prim.Native.Nat.{_+_, _*_}
-use borrow.Author.Needs.{needs}
+use Rattle.prelude.proofs.{arith, refl, _+_, _*_, needs}
 use Rattle.frames.proofs.byte_of.Statement.{statement}
 use Rattle.frames.proofs.byte_of.Tie as tie
 

@@ -1,5 +1,5 @@
 -- `child_position` meets its contract.
-use borrow.Author.Needs.{needs}
+use Rattle.prelude.proofs.{needs}
 use Rattle.frames.proofs.child_position.Statement.{statement}
 use Rattle.frames.proofs.child_position.Tie as tie
 

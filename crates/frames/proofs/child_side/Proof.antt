@@ -1,8 +1,6 @@
 -- `child_side` meets its contract.
-use native.Mathlib.Omega.{arith}
-use borrow.Author.Needs.{needs}
-use borrow.Author.Tests.{eq-eqb, ne-eqb}
-use Rattle.frames.specs.Frame.{byte3, sameMover}
+use Rattle.prelude.proofs.{arith, needs, eq-eqb, ne-eqb}
+use Rattle.frames.specs.{byte3, sameMover}
 use Rattle.frames.proofs.child_side.Statement.{statement}
 use Rattle.frames.proofs.child_side.Tie as tie
 

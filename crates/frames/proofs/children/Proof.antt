@@ -1,13 +1,7 @@
 -- `children` meets its contract: one lemma for each of its three returns.
-use Prim.Native.Nat.{ℕ, _+_, _*_, _-_, _<_, _≤_}
-use native.Mathlib.Omega.{arith}
-use mathlib.Core.Path.{_≡_, ap}
-use mathlib.Core.List.{List, []}
-use lib.ListN.{take, drop}
-use borrow.Author.Tests.{lt-ltb, le-ltb, le-leb, lt-leb}
-use borrow.Author.Needs.{needs}
-use Rattle.frames.specs.Frame.{frameSize, frames, firstChild, childCount}
-use Rattle.frames.specs.Children.{childrenOf, childrenAt}
+use Rattle.prelude.proofs.{ℕ, _+_, _*_, _-_, _<_, _≤_, arith, _≡_, ap, List, [], take, drop, lt-ltb, le-ltb, le-leb}
+use Rattle.prelude.proofs.{lt-leb, needs}
+use Rattle.frames.specs.{frameSize, frames, firstChild, childCount, childrenOf, childrenAt}
 use Rattle.frames.proofs.children.Statement.{statement}
 use Rattle.frames.proofs.children.Tie as tie
 

@@ -1,14 +1,6 @@
 -- `first_child_right` meets its contract: one lemma for each of its three returns.
-use Prim.Native.Nat.{ℕ, zero, suc, _<_}
-use native.Mathlib.Omega.{arith}
-use mathlib.Core.Path.{_≡_, refl}
-use mathlib.Core.Bool.{false, _&&_}
-use mathlib.Core.List.{List}
-use lib.Dec.{eqb, ltb}
-use borrow.Author.Tests.{eq-eqb, ne-eqb}
-use borrow.Author.Needs.{needs}
-use Rattle.frames.specs.Frame.{firstChild, childCount, next}
-use Rattle.frames.specs.Check.{firstChildRight}
+use Rattle.prelude.proofs.{ℕ, zero, suc, _<_, arith, _≡_, refl, false, _&&_, List, eqb, ltb, eq-eqb, ne-eqb, needs}
+use Rattle.frames.specs.{firstChild, childCount, next, firstChildRight}
 use Rattle.frames.proofs.first_child_right.Statement.{statement}
 use Rattle.frames.proofs.first_child_right.Tie as tie
 

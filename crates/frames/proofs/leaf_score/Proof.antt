@@ -1,7 +1,6 @@
 -- `frames::leaf_score` meets its contract: the stored score's, at that depth.
-use mathlib.Core.Path.{ap, _∙_}
-use borrow.Author.Needs.{needs}
-use Rattle.frames.specs.Tree.{leafScore}
+use Rattle.prelude.proofs.{ap, _∙_, needs}
+use Rattle.frames.specs.{leafScore}
 use Rattle.frames.proofs.leaf_score.Statement.{statement}
 use Rattle.frames.proofs.leaf_score.Tie as tie
 

@@ -1,6 +1,5 @@
 -- `frames::score_at` meets its contract: the two tests say which of the three cases of a worth it is.
-use native.Mathlib.Omega.{arith}
-use borrow.Author.Needs.{needs}
+use Rattle.prelude.proofs.{arith, needs}
 use Rattle.frames.proofs.Worth.{score-won, score-lost, score-other}
 use Rattle.frames.proofs.score_at.Statement.{statement}
 use Rattle.frames.proofs.score_at.Tie as tie

@@ -1,11 +1,6 @@
 -- `frames::score_of` meets its contract: no step leaves the range of its type.
-use native.Mathlib.Omega.{arith}
-use mathlib.Core.Path.{_≡_}
-use lib.IntN.{pos, _+ℤ_}
-use mir.Syntax.{w32}
-use mir.Val.{SFits, toZ, ofZ}
-use mir.ValLaws.{toZ-ofZ}
-use Rattle.gametree.specs.Tree.{zeroScore}
+use Rattle.prelude.proofs.{arith, _≡_, pos, _+ℤ_, w32, SFits, toZ, ofZ, toZ-ofZ}
+use Rattle.gametree.specs.{zeroScore}
 use Rattle.frames.proofs.Values.{score-sum, score-small}
 use Rattle.frames.proofs.score_of.Statement.{statement}
 use Rattle.frames.proofs.score_of.Tie as tie

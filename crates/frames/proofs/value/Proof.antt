@@ -1,13 +1,7 @@
 -- `frames::value` meets its contract: no step leaves the range of its type.
-use mathlib.Core.Path.{_≡_}
-use native.Mathlib.Omega.{arith}
-use lib.IntN.{pos}
-use mir.Syntax.{w16, w32}
-use mir.Val.{SFits, toZ}
-use mir.ValLaws.{toZ-pos, toZ-ofZ}
-use Rattle.frames.specs.Value.{valueOf}
+use Rattle.prelude.proofs.{_≡_, arith, pos, w16, w32, SFits, toZ, toZ-pos, toZ-ofZ, needs}
+use Rattle.frames.specs.{valueOf}
 use Rattle.frames.proofs.Values.{value-small}
-use borrow.Author.Needs.{needs}
 use Rattle.frames.proofs.value.Statement.{statement}
 use Rattle.frames.proofs.value.Tie as tie
 

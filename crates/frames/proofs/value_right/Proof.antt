@@ -1,15 +1,7 @@
 -- `value_right` meets its contract: one lemma for each of its three returns.
-use Prim.Native.Nat.{ℕ, zero, suc, _≤_, _<_}
-use mathlib.Core.Path.{_≡_, refl}
-use mathlib.Core.Bool.{false}
-use mathlib.Core.List.{List}
-use native.Mathlib.Omega.{arith}
-use lib.Dec.{eqb, ltb}
-use borrow.Author.Tests.{lt-ltb, le-ltb}
-use borrow.Author.Needs.{needs}
-use Rattle.gametree.specs.Tree.{least, greatest}
-use Rattle.frames.specs.Frame.{childCount, valueBytes, storedScore}
-use Rattle.frames.specs.Check.{valueRight}
+use Rattle.prelude.proofs.{ℕ, zero, suc, _≤_, _<_, _≡_, refl, false, List, arith, eqb, ltb, lt-ltb, le-ltb, needs}
+use Rattle.gametree.specs.{least, greatest}
+use Rattle.frames.specs.{childCount, valueBytes, storedScore, valueRight}
 use Rattle.frames.proofs.value_right.Statement.{statement}
 use Rattle.frames.proofs.value_right.Tie as tie
 

@@ -4,7 +4,7 @@ use mathlib.Core.Path.{_≡_}
 use mathlib.Core.Logic.{_⊎_}
 use mathlib.Core.List.{List}
 use lib.ListN.{length}
-use Rattle.gametree.specs.Tree.{Score}
+use Rattle.gametree.specs.Trees.{Score}
 use Rattle.frames.specs.Frame.{frameSize, maxNodes, maxChildren, maxDepth, frames, firstChild, childCount, byte3}
 use Rattle.frames.specs.Frame.{sameMover, valueBytes, storedScore, next}
 use Rattle.frames.specs.Position.{depthOf}

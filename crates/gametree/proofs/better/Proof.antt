@@ -1,6 +1,5 @@
 -- `gametree::better` meets its contract.
-use native.Mathlib.Omega.{arith}
-use borrow.Author.Needs.{needs}
+use Rattle.prelude.proofs.{arith, needs}
 use Rattle.gametree.proofs.better.Statement.{statement}
 use Rattle.gametree.proofs.better.Tie as tie
 

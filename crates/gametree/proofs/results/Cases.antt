@@ -1,13 +1,7 @@
 -- The small trees, computed from the definitions.
-use native.Mathlib.Omega.{arith}
-use mathlib.Core.Path.{refl}
-use mathlib.Core.Logic.{⊎-elim}
-use mathlib.Core.Option.{some}
-use mathlib.Core.List.{[], _∷_}
-use Rattle.lists.specs.Lists.{among}
-use Rattle.gametree.specs.Mtd.{mtd}
-use Rattle.gametree.specs.results.Reason.{Reason}
-use Rattle.gametree.specs.results.Cases.{small, valuation, leavesOf, Column, AllowancesRight}
+use Rattle.prelude.proofs.{arith, refl, ⊎-elim, some, [], _∷_}
+use Rattle.lists.specs.{among}
+use Rattle.gametree.specs.{mtd, Reason, small, valuation, leavesOf, Column, AllowancesRight}
 
 -- the definitions give the whole table
 pub small-trees : Column (λ r. r .alphaBeta)

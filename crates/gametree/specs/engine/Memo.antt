@@ -4,7 +4,7 @@ use Prim.Native.Nat.{ℕ, zero, suc, _+_}
 use mathlib.Core.Bool.{Bool, true, false, cond}
 use mathlib.Core.List.{List, [], _∷_, _++_}
 use lib.Dec.{leb, ltb}
-use Rattle.gametree.specs.Tree.{Side, Tree, leaf, inner, Children, last, _then_, greatest, better}
+use Rattle.gametree.specs.Trees.{Side, Tree, leaf, inner, Children, last, _then_, greatest, better}
 use Rattle.gametree.specs.Mtd.{settles, MtdRun}
 
 -- what is remembered of a leaf: has it been evaluated (01: its mark); of an inner node: has a pass found it not below

@@ -3,7 +3,7 @@
 use Prim.Native.Nat.{ℕ}
 use mathlib.Core.Path.{_≡_}
 use mathlib.Core.Bool.{Bool}
-use Rattle.gametree.specs.Tree.{Side, Tree, leaf, inner, Children, last, _then_, In, InChildren}
+use Rattle.gametree.specs.Trees.{Side, Tree, leaf, inner, Children, last, _then_, In, InChildren}
 use Rattle.gametree.specs.engine.Memo.{Memo, MemoChildren, pass, passChildren}
 
 -- an array of Booleans

@@ -3,7 +3,7 @@
 -- same by the evaluations of the full run.
 use Prim.Native.Nat.{ℕ, zero, suc, _*_}
 use mathlib.Core.List.{List, [], _∷_, _++_, map}
-use Rattle.gametree.specs.Tree.{Tree, least, size}
+use Rattle.gametree.specs.Trees.{Tree, least, size}
 use Rattle.gametree.specs.Sss.{State, Step, empty, stop, quiet, evaluating, step, SssRun, start}
 
 -- how it ends: with a value, as the full run does, or before a leaf that its allowance does not cover, with the merit

@@ -5,7 +5,7 @@ use mathlib.Core.Path.{_≡_}
 use mathlib.Core.List.{List, [], _∷_, map}
 use lib.ListN.{getD, drop}
 use Rattle.lists.specs.Lists.{among}
-use Rattle.gametree.specs.Tree.{Max, Min, Tree, leaf, inner, last, _then_, greatest, zeroScore}
+use Rattle.gametree.specs.Trees.{Max, Min, Tree, leaf, inner, last, _then_, greatest, zeroScore}
 use Rattle.gametree.specs.AlphaBeta.{SearchResult, fullWindow}
 use Rattle.gametree.specs.Mtd.{mtd}
 use Rattle.gametree.specs.Sss.{Evaluation, sss}

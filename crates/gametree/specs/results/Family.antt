@@ -7,7 +7,7 @@ use mathlib.Core.List.{List, [], _∷_, _++_}
 use lib.Dec.{eqb}
 use lib.ListN.{length}
 use Rattle.lists.specs.Lists.{among}
-use Rattle.gametree.specs.Tree.{Tree, least, greatest, leaves}
+use Rattle.gametree.specs.Trees.{Tree, least, greatest, leaves}
 use Rattle.gametree.specs.Bounds.{low, high}
 use Rattle.gametree.specs.AlphaBeta.{clamp}
 use Rattle.gametree.specs.Tests.{test}

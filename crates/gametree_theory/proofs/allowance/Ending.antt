@@ -1,15 +1,9 @@
 -- How SSS* within an allowance ends: as the full run does, or before the first leaf that the allowance does not cover.
-use Prim.Native.Nat.{ℕ, zero, suc, _+_, _-_, _*_, _≤_}
-use native.Mathlib.Nat.{eq-or-lt-of-le, le-refl}
-use native.Mathlib.Omega.{arith}
-use mathlib.Core.Path.{_≡_, refl, sym, _∙_, ap, subst}
-use mathlib.Core.Logic.{_⊎_, inl, inr, ⊎-elim}
-use mathlib.Core.List.{List, [], _∷_, append-nil, append-assoc}
-use lib.ListN.{length, length-append}
-use Rattle.gametree.specs.Tree.{Tree, least, size, Proper}
-use Rattle.gametree.specs.Sss.{Step, State, empty, stop, quiet, evaluating, step, start, sss}
-use Rattle.gametree.specs.Sss.{ListAfter, atStart, afterQuiet, afterEvaluating}
-use Rattle.gametree.specs.engine.Within.{finished, spent, resumed, inFull, runWithin, sssWithin}
+use Rattle.prelude.proofs.{ℕ, zero, suc, _+_, _-_, _*_, _≤_, eq-or-lt-of-le, le-refl, arith, _≡_, refl, sym, _∙_, ap}
+use Rattle.prelude.proofs.{subst, _⊎_, inl, inr, ⊎-elim, List, [], _∷_, append-nil, append-assoc, length, length-append}
+use Rattle.gametree.specs.{Tree, least, size, Proper, Step, State, empty, stop, quiet, evaluating, step, start, sss}
+use Rattle.gametree.specs.{ListAfter, atStart, afterQuiet, afterEvaluating, finished, spent, resumed, inFull, runWithin}
+use Rattle.gametree.specs.{sssWithin}
 use Rattle.gametree_theory.proofs.minimax.Bounds.{minimax-score}
 use Rattle.gametree_theory.proofs.results.Merits.{list-unique}
 use Rattle.gametree_theory.proofs.sss.Run.{sss-is-mtd}

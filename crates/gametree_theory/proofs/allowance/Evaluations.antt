@@ -1,13 +1,8 @@
 -- The evaluations of the full run that an allowance does not cover determine the run within it: by induction on the
 -- steps, whatever they are.
-use Prim.Native.Nat.{ℕ, zero, suc}
-use mathlib.Core.Path.{_≡_, refl}
-use mathlib.Core.List.{List, [], _∷_}
-use lib.ListN.{take, drop}
-use Rattle.gametree.specs.Tree.{Tree}
-use Rattle.gametree.specs.Sss.{State, Step, empty, stop, quiet, evaluating, step, Evaluation, SssRun}
-use Rattle.gametree.specs.Sss.{follow, runFrom}
-use Rattle.gametree.specs.engine.Within.{Ran, spent, inFull, followWithin, runWithin}
+use Rattle.prelude.proofs.{ℕ, zero, suc, _≡_, refl, List, [], _∷_, take, drop}
+use Rattle.gametree.specs.{Tree, State, Step, empty, stop, quiet, evaluating, step, Evaluation, SssRun, follow, runFrom}
+use Rattle.gametree.specs.{Ran, spent, inFull, followWithin, runWithin}
 use Rattle.lists.proofs.Choice.{clash}
 
 -- the run that is spent at the evaluation x, after the first a leaves of the full run r

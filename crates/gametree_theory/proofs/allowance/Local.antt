@@ -1,16 +1,11 @@
 -- SSS*, within an allowance and in full, depends only on the scores of the leaves that it evaluates.
-use Prim.Native.Nat.{ℕ, zero, suc, min}
-use native.Mathlib.Nat.{le-refl}
-use mathlib.Core.Path.{_≡_, refl, sym, _∙_, ap, subst}
-use mathlib.Core.List.{List, [], _∷_}
-use lib.ListN.{length, drop, drop-of-length-le}
-use Rattle.lists.specs.Lists.{All}
+use Rattle.prelude.proofs.{ℕ, zero, suc, min, le-refl, _≡_, refl, sym, _∙_, ap, subst, List, [], _∷_, length, drop}
+use Rattle.prelude.proofs.{drop-of-length-le}
+use Rattle.lists.specs.{All}
 use Rattle.gametree.specs.declared.Side.the-variants.{Max, Min}
-use Rattle.gametree.specs.Tree.{Tree, leaf, inner}
-use Rattle.gametree.specs.Nodes.{subtreeAt}
-use Rattle.gametree.specs.Sss.{Status, LIVE, SOLVED, State, bestState, put, Step, empty, stop, quiet, evaluating}
-use Rattle.gametree.specs.Sss.{solved, replaceLive, replace, step, Evaluation, runFrom}
-use Rattle.gametree.specs.engine.Within.{Ran, inFull, followWithin, runWithin}
+use Rattle.gametree.specs.{Tree, leaf, inner, subtreeAt, Status, LIVE, SOLVED, State, bestState, put, Step, empty, stop}
+use Rattle.gametree.specs.{quiet, evaluating, solved, replaceLive, replace, step, Evaluation, runFrom, Ran, inFull}
+use Rattle.gametree.specs.{followWithin, runWithin}
 use Rattle.lists.proofs.Choice.{clash}
 use Rattle.gametree_theory.proofs.allowance.Evaluations.{run-covered, run-spent}
 

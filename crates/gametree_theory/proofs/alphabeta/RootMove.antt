@@ -1,14 +1,9 @@
 -- Alpha-beta's own root move: the last child that raised alpha is the first child that has the root's value.
-use Prim.Native.Nat.{ℕ, _≤_, _<_, max}
-use native.Mathlib.Omega.{arith}
-use mathlib.Core.Path.{_≡_, refl, _∙_}
-use mathlib.Core.Bool.{Bool, true, false, cond}
-use lib.Dec.{ltb, eqb}
-use borrow.Author.Tests.{ltb-true, ltb-false, lt-ltb, le-ltb, eq-eqb, ne-eqb}
+use Rattle.prelude.proofs.{ℕ, _≤_, _<_, max, arith, _≡_, refl, _∙_, Bool, true, false, cond, ltb, eqb, ltb-true}
+use Rattle.prelude.proofs.{ltb-false, lt-ltb, le-ltb, eq-eqb, ne-eqb}
 use Rattle.gametree.specs.declared.Side.the-variants.{Max}
-use Rattle.gametree.specs.Tree.{inner, Children, last, _then_, least, minimax, minimaxChildren, number}
-use Rattle.gametree.specs.Tree.{Scored}
-use Rattle.gametree.specs.Move.{firstWith, rootMove}
+use Rattle.gametree.specs.{inner, Children, last, _then_, least, minimax, minimaxChildren, number, Scored, firstWith}
+use Rattle.gametree.specs.{rootMove}
 use Rattle.gametree_theory.proofs.minimax.Bounds.{minimax-score}
 
 -- the last of the children under Max that raises alpha, which is α before them; k where none does

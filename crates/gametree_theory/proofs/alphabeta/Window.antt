@@ -1,21 +1,13 @@
 -- Alpha-beta in a window: it gives the minimax value brought into the window, it evaluates the leaves of Baudet's
 -- condition, from left to right, and it depends on no other leaf, so their bounds settle the value within the window.
-use Prim.Native.Nat.{ℕ, _≤_, _<_, min, max}
-use native.Mathlib.Omega.{arith}
-use mathlib.Core.Path.{_≡_, refl, sym, _∙_, ap, ap₂}
-use mathlib.Core.Bool.{Bool, true, false, cond}
-use mathlib.Core.List.{List, [], _∷_, _++_, append-nil}
-use lib.Dec.{ltb}
-use borrow.Author.Tests.{ltb-true, ltb-false, lt-ltb, le-ltb}
-use Rattle.lists.specs.Lists.{All, Subsequence, end, skip, keep}
+use Rattle.prelude.proofs.{ℕ, _≤_, _<_, min, max, arith, _≡_, refl, sym, _∙_, ap, ap₂, Bool, true, false, cond, List}
+use Rattle.prelude.proofs.{[], _∷_, _++_, append-nil, ltb, ltb-true, ltb-false, lt-ltb, le-ltb}
+use Rattle.lists.specs.{All, Subsequence, end, skip, keep}
 use Rattle.gametree.specs.declared.Side.{Side}
 use Rattle.gametree.specs.declared.Side.the-variants.{Max, Min}
-use Rattle.gametree.specs.Tree.{Tree, leaf, inner, Children, last, _then_, better, minimax, least}
-use Rattle.gametree.specs.Tree.{greatest, minimaxChildren, leaves, leavesChildren, Scored}
-use Rattle.gametree.specs.Bounds.{known, Decided}
-use Rattle.gametree.specs.AlphaBeta.{raise, lower, reached, reachedChildren, clamp, SearchResult, after, onward}
-use Rattle.gametree.specs.AlphaBeta.{alphaBeta}
-use Rattle.gametree.specs.AlphaBeta.{alphaBetaChildren}
+use Rattle.gametree.specs.{Tree, leaf, inner, Children, last, _then_, better, minimax, least, greatest, minimaxChildren}
+use Rattle.gametree.specs.{leaves, leavesChildren, Scored, known, Decided, raise, lower, reached, reachedChildren}
+use Rattle.gametree.specs.{clamp, SearchResult, after, onward, alphaBeta, alphaBetaChildren}
 use Rattle.lists.proofs.Choice.{true-not-false}
 use Rattle.lists.proofs.Lists.{all-left, all-right, all-map}
 use Rattle.gametree_theory.proofs.minimax.Bounds.{minimax-score}

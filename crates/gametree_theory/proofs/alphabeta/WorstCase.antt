@@ -1,23 +1,14 @@
 -- Scores that rise in blocks from left to right at Max and fall at Min (02: the dearest filling). Every leaf's score is
 -- another one, the score of a node lies in its block, and so no window ever closes: alpha-beta reaches every leaf.
-use Prim.Native.Nat.{ℕ, _+_, _≤_, _<_}
-use native.Mathlib.Omega.{arith}
-use native.Mathlib.Decide.{decLt}
-use mathlib.Core.Path.{_≡_, refl, sym, _∙_, ap₂}
-use mathlib.Core.Logic.{_⊎_, inl, inr}
-use mathlib.Core.Bool.{true, false}
-use mathlib.Core.List.{_++_}
-use lib.Dec.{eqb}
-use lib.ListN.{length, length-append}
-use borrow.Author.Tests.{lt-ltb, eqb-true}
-use Rattle.lists.specs.Lists.{among}
+use Rattle.prelude.proofs.{ℕ, _+_, _≤_, _<_, arith, decLt, _≡_, refl, sym, _∙_, ap₂, _⊎_, inl, inr, true, false, _++_}
+use Rattle.prelude.proofs.{eqb, length, length-append, lt-ltb, eqb-true}
+use Rattle.lists.specs.{among}
 use Rattle.lists.proofs.Choice.{true-not-false, or-cases}
 use Rattle.lists.proofs.Lists.{among-append}
 use Rattle.gametree.specs.declared.Side.{Side}
 use Rattle.gametree.specs.declared.Side.the-variants.{Max, Min}
-use Rattle.gametree.specs.Tree.{Tree, leaf, inner, Children, last, _then_, better, minimax}
-use Rattle.gametree.specs.Tree.{minimaxChildren, leaves, leavesChildren, EveryLeaf, EveryLeafChildren}
-use Rattle.gametree.specs.AlphaBeta.{raise, lower, reached, reachedChildren}
+use Rattle.gametree.specs.{Tree, leaf, inner, Children, last, _then_, better, minimax, minimaxChildren, leaves}
+use Rattle.gametree.specs.{leavesChildren, EveryLeaf, EveryLeafChildren, raise, lower, reached, reachedChildren}
 
 -- how many leaves there are
 abbrev pub total : Tree → ℕ

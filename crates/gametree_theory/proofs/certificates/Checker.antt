@@ -1,13 +1,9 @@
 -- The check of a certificate as a test that counts children, node by node; it says what the definition says.
-use Prim.Native.Nat.{ℕ}
-use mathlib.Core.Path.{_≡_, refl, sym, _∙_}
-use mathlib.Core.Bool.{Bool, true, _&&_}
-use lib.Dec.{eqb}
-use borrow.Author.Tests.{eqb-true, eq-eqb}
+use Rattle.prelude.proofs.{ℕ, _≡_, refl, sym, _∙_, Bool, true, _&&_, eqb, eqb-true, eq-eqb}
 use Rattle.gametree.specs.declared.Side.{Side}
 use Rattle.gametree.specs.declared.Side.the-variants.{Max, Min}
-use Rattle.gametree.specs.Tree.{Tree, leaf, inner, Children, last, _then_, number}
-use Rattle.gametree.specs.Certificate.{Rules, RulesChildren, solutionValue, Certifies}
+use Rattle.gametree.specs.{Tree, leaf, inner, Children, last, _then_, number, Rules, RulesChildren, solutionValue}
+use Rattle.gametree.specs.{Certifies}
 use Rattle.gametree_theory.proofs.certificates.Counting.{members, required, rulesHold, rulesHoldChildren}
 use Rattle.gametree_theory.proofs.certificates.Counting.{certificate?}
 use Rattle.lists.proofs.Choice.{and-both}

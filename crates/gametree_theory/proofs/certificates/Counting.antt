@@ -1,11 +1,8 @@
 -- The check of a certificate by counting children, node by node, as a loop over a table does it.
-use Prim.Native.Nat.{ℕ, suc, _+_}
-use mathlib.Core.Bool.{Bool, true, cond, _&&_}
-use lib.Dec.{eqb}
+use Rattle.prelude.proofs.{ℕ, suc, _+_, Bool, true, cond, _&&_, eqb}
 use Rattle.gametree.specs.declared.Side.{Side}
 use Rattle.gametree.specs.declared.Side.the-variants.{Max, Min}
-use Rattle.gametree.specs.Tree.{Tree, leaf, inner, Children, last, _then_, number}
-use Rattle.gametree.specs.Certificate.{same, solutionValue}
+use Rattle.gametree.specs.{Tree, leaf, inner, Children, last, _then_, number, same, solutionValue}
 
 -- how many children there are, and how many of them are in the set g
 abbrev pub kidCount : Children → ℕ

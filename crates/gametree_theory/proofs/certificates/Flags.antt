@@ -1,19 +1,10 @@
 -- Where the bounds of the evaluated leaves meet, the flags read off them are a certificate made of evaluated leaves.
-use Prim.Native.Nat.{ℕ, _+_, _≤_}
-use native.Mathlib.Nat.{le-refl}
-use native.Mathlib.Omega.{arith}
-use mathlib.Core.Path.{_≡_, refl, sym, _∙_, ap, ap₂}
-use mathlib.Core.Bool.{Bool, true, false, cond}
+use Rattle.prelude.proofs.{ℕ, _+_, _≤_, le-refl, arith, _≡_, refl, sym, _∙_, ap, ap₂, Bool, true, false, cond}
 use Rattle.gametree.specs.declared.Side.{Side}
 use Rattle.gametree.specs.declared.Side.the-variants.{Max, Min}
-use Rattle.gametree.specs.Tree.{Tree, leaf, inner, Children, last, _then_, greatest, better}
-use Rattle.gametree.specs.Tree.{other, minimax}
-use Rattle.gametree.specs.Tree.{EveryLeafChildren, Score, Proper}
-use Rattle.gametree.specs.Bounds.{known, Decided}
-use Rattle.gametree.specs.Certificate.{Certifies, SolutionTree, worst, solutionValue}
-use Rattle.gametree.specs.Certificate.{inside}
-use Rattle.gametree.specs.Certificate.{same}
-use Rattle.gametree.specs.Certificate.{solutionOf, flag, LeavesIn}
+use Rattle.gametree.specs.{Tree, leaf, inner, Children, last, _then_, greatest, better, other, minimax}
+use Rattle.gametree.specs.{EveryLeafChildren, Score, Proper, known, Decided, Certifies, SolutionTree, worst}
+use Rattle.gametree.specs.{solutionValue, inside, same, solutionOf, flag, LeavesIn}
 use Rattle.gametree_theory.proofs.minimax.Bounds.{every-map, minimax-score, known-capped}
 use Rattle.gametree_theory.proofs.certificates.Leaves.{bestLeaf, bestLeafChildren, value-best}
 use Rattle.gametree_theory.proofs.certificates.ReadOff.{ReadOff, Finite, read-solution, fits}

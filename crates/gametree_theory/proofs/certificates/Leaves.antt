@@ -1,15 +1,10 @@
 -- The value of a solution tree and the leaves of a pair, child by child.
-use Prim.Native.Nat.{ℕ, suc, _+_}
-use native.Mathlib.Omega.{arith}
-use mathlib.Core.Path.{_≡_, refl, _∙_, ap}
-use mathlib.Core.Bool.{Bool, true, false, cond, _||_}
-use mathlib.Core.List.{foldr, foldr-append, map, map-append}
+use Rattle.prelude.proofs.{ℕ, suc, _+_, arith, _≡_, refl, _∙_, ap, Bool, true, false, cond, _||_, foldr, foldr-append}
+use Rattle.prelude.proofs.{map, map-append}
 use Rattle.gametree.specs.declared.Side.{Side}
 use Rattle.gametree.specs.declared.Side.the-variants.{Max, Min}
-use Rattle.gametree.specs.Tree.{Tree, leaf, inner, Children, last, _then_, better}
-use Rattle.gametree.specs.Tree.{leaves, leavesChildren, leafCount, leafCountChildren}
-use Rattle.gametree.specs.Bounds.{known}
-use Rattle.gametree.specs.Certificate.{worst, solutionValue, pairLeaves}
+use Rattle.gametree.specs.{Tree, leaf, inner, Children, last, _then_, better, leaves, leavesChildren, leafCount}
+use Rattle.gametree.specs.{leafCountChildren, known, worst, solutionValue, pairLeaves}
 
 -- the best for side p of a tree's leaves in the set g
 abbrev mutual

@@ -1,23 +1,14 @@
 -- The solution tree that is read off a valuation: its local rule, and that it is a solution tree of the minimax value.
-use Prim.Native.Nat.{ℕ, _≤_, _<_}
-use native.Mathlib.Omega.{arith}
-use mathlib.Core.Path.{_≡_, refl, sym, _∙_, ap, ap₂, subst}
-use mathlib.Core.Logic.{_⊎_, inl, inr, ⊎-elim}
-use mathlib.Core.Bool.{Bool, true, false, cond, not, _&&_, _||_, and-true, and-false, or-false}
-use mathlib.Core.List.{List}
-use lib.Dec.{eqb}
-use borrow.Author.Tests.{eqb-true, eqb-false, eq-eqb, ne-eqb}
-use Rattle.lists.specs.Lists.{among}
+use Rattle.prelude.proofs.{ℕ, _≤_, _<_, arith, _≡_, refl, sym, _∙_, ap, ap₂, subst, _⊎_, inl, inr, ⊎-elim, Bool, true}
+use Rattle.prelude.proofs.{false, cond, not, _&&_, _||_, and-true, and-false, or-false, List, eqb, eqb-true, eqb-false}
+use Rattle.prelude.proofs.{eq-eqb, ne-eqb}
+use Rattle.lists.specs.{among}
 use Rattle.gametree.specs.declared.Side.{Side}
 use Rattle.gametree.specs.declared.Side.the-variants.{Max, Min}
-use Rattle.gametree.specs.Tree.{Tree, leaf, inner, Children, last, _then_, least, greatest}
-use Rattle.gametree.specs.Tree.{better}
-use Rattle.gametree.specs.Tree.{minimax, minimaxChildren, number, In, InChildren, EveryLeaf, EveryLeafChildren}
-use Rattle.gametree.specs.Tree.{Distinct}
-use Rattle.gametree.specs.Tree.{DistinctChildren}
-use Rattle.gametree.specs.Certificate.{Each, NoneOf, OneOf, Rule, Rules, RulesChildren, SolutionTree, worst}
-use Rattle.gametree.specs.Certificate.{solutionValue, same, chosen, chosenEach}
-use Rattle.gametree.specs.Certificate.{chosenFirst}
+use Rattle.gametree.specs.{Tree, leaf, inner, Children, last, _then_, least, greatest, better, minimax, minimaxChildren}
+use Rattle.gametree.specs.{number, In, InChildren, EveryLeaf, EveryLeafChildren, Distinct, DistinctChildren, Each}
+use Rattle.gametree.specs.{NoneOf, OneOf, Rule, Rules, RulesChildren, SolutionTree, worst, solutionValue, same, chosen}
+use Rattle.gametree.specs.{chosenEach, chosenFirst}
 use Rattle.lists.proofs.Choice.{cond-cases, true-not-false, is-false, or-cases, and-both}
 use Rattle.lists.proofs.Lists.{among-append}
 use Rattle.gametree_theory.proofs.minimax.Bounds.{every-map, every-map-kids, minimax-within}

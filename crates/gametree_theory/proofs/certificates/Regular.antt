@@ -1,17 +1,12 @@
 -- Regular trees: every inner node has w children, all leaves lie at one depth, and the sides alternate. A side's
 -- solution tree takes all w children where that side moves and one elsewhere, so its leaves are a power of w, and every
 -- pair of a max and a min solution tree has as many leaves as every other.
-use Prim.Native.Nat.{ℕ, zero, suc, _+_, _*_, _/_, _^_}
-use native.Mathlib.Omega.{arith}
-use native.Mathlib.Nat.{pow-zero, pow-suc, mul-comm, suc-mul}
-use mathlib.Core.Path.{_≡_, refl, sym, ap, ap₂, _∙_}
-use mathlib.Core.Bool.{Bool, true, false, cond}
+use Rattle.prelude.proofs.{ℕ, zero, suc, _+_, _*_, _/_, _^_, arith, pow-zero, pow-suc, mul-comm, suc-mul, _≡_, refl}
+use Rattle.prelude.proofs.{sym, ap, ap₂, _∙_, Bool, true, false, cond}
 use Rattle.gametree.specs.declared.Side.{Side}
 use Rattle.gametree.specs.declared.Side.the-variants.{Max, Min}
-use Rattle.gametree.specs.Tree.{Tree, leaf, inner, Children, last, _then_, other, number}
-use Rattle.gametree.specs.Tree.{leafCount}
-use Rattle.gametree.specs.Tree.{leafCountChildren}
-use Rattle.gametree.specs.Certificate.{Rules, RulesChildren, SolutionTree, same, pairLeaves}
+use Rattle.gametree.specs.{Tree, leaf, inner, Children, last, _then_, other, number, leafCount, leafCountChildren}
+use Rattle.gametree.specs.{Rules, RulesChildren, SolutionTree, same, pairLeaves}
 use Rattle.gametree_theory.proofs.certificates.Counting.{kidCount, members}
 use Rattle.gametree_theory.proofs.certificates.Solution.{rule-counted}
 use Rattle.gametree_theory.proofs.certificates.SharedLeaf.{pair-shares-one}

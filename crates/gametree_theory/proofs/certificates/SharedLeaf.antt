@@ -1,14 +1,10 @@
 -- A max and a min solution tree of one tree share exactly one leaf: of a node in both exactly one child is in both, of
 -- any other node none. So the leaves of a pair are those of both trees together, less one.
-use Prim.Native.Nat.{ℕ, _+_}
-use native.Mathlib.Omega.{arith}
-use mathlib.Core.Path.{_≡_, refl, ap₂, _∙_}
-use mathlib.Core.Bool.{Bool, true, false, cond, _&&_, _||_, and-true, and-false}
+use Rattle.prelude.proofs.{ℕ, _+_, arith, _≡_, refl, ap₂, _∙_, Bool, true, false, cond, _&&_, _||_, and-true, and-false}
 use Rattle.gametree.specs.declared.Side.{Side}
 use Rattle.gametree.specs.declared.Side.the-variants.{Max, Min}
-use Rattle.gametree.specs.Tree.{Tree, leaf, inner, Children, last, _then_, number, leafCount}
-use Rattle.gametree.specs.Tree.{leafCountChildren}
-use Rattle.gametree.specs.Certificate.{Each, NoneOf, Rule, Rules, RulesChildren, SolutionTree, pairLeaves}
+use Rattle.gametree.specs.{Tree, leaf, inner, Children, last, _then_, number, leafCount, leafCountChildren, Each}
+use Rattle.gametree.specs.{NoneOf, Rule, Rules, RulesChildren, SolutionTree, pairLeaves}
 use Rattle.gametree_theory.proofs.certificates.Leaves.{pair-count}
 use Rattle.gametree_theory.proofs.certificates.Counting.{members}
 use Rattle.gametree_theory.proofs.certificates.Solution.{rule-counted}

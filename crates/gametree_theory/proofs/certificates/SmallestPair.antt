@@ -1,22 +1,13 @@
 -- The smallest certificate: no search evaluates fewer leaves than it has, and there is one.
-use Prim.Native.Nat.{ℕ, _+_, _≤_}
-use native.Mathlib.Nat.{le-refl, le-trans, le-of-lt}
-use mathlib.Core.Path.{_≡_, refl, sym, _∙_, ap, ap₂}
-use mathlib.Core.Logic.{inl, inr}
-use mathlib.Core.Bool.{Bool, true, false, cond, _&&_, _||_}
-use mathlib.Core.List.{List, [], _∷_, _++_, map}
-use lib.Dec.{leb, eqb}
-use lib.ListN.{length}
-use borrow.Author.Tests.{leb-true, leb-false, eqb-true, eqb-false}
-use Rattle.lists.specs.Lists.{All, among}
+use Rattle.prelude.proofs.{ℕ, _+_, _≤_, le-refl, le-trans, le-of-lt, _≡_, refl, sym, _∙_, ap, ap₂, inl, inr, Bool, true}
+use Rattle.prelude.proofs.{false, cond, _&&_, _||_, List, [], _∷_, _++_, map, leb, eqb, length, leb-true, leb-false}
+use Rattle.prelude.proofs.{eqb-true, eqb-false}
+use Rattle.lists.specs.{All, among}
 use Rattle.gametree.specs.declared.Side.{Side}
 use Rattle.gametree.specs.declared.Side.the-variants.{Max, Min}
-use Rattle.gametree.specs.Tree.{Tree, leaf, inner, Children, last, _then_, better, minimax}
-use Rattle.gametree.specs.Tree.{number, nodes, leafCount, leafCountChildren}
-use Rattle.gametree.specs.Tree.{In, InChildren, Proper}
-use Rattle.gametree.specs.Certificate.{worst, solutionValue, pairLeaves}
-use Rattle.gametree.specs.Certificate.{inside, flag}
-use Rattle.gametree.specs.Certificate.{Smallest}
+use Rattle.gametree.specs.{Tree, leaf, inner, Children, last, _then_, better, minimax, number, nodes, leafCount}
+use Rattle.gametree.specs.{leafCountChildren, In, InChildren, Proper, worst, solutionValue, pairLeaves, inside, flag}
+use Rattle.gametree.specs.{Smallest}
 use Rattle.gametree_theory.proofs.certificates.Flags.{FlagsCertify}
 use Rattle.gametree_theory.proofs.certificates.Counting.{members, rulesHold, rulesHoldChildren, certificate?}
 use Rattle.lists.proofs.Choice.{cond-cases, true-not-false}

@@ -1,16 +1,10 @@
 -- Solution trees: their value is a bound of the minimax value, and two of equal value certify it.
-use Prim.Native.Nat.{ℕ, suc, _+_, _≤_}
-use native.Mathlib.Nat.{le-refl, le-trans}
-use native.Mathlib.Omega.{arith}
-use mathlib.Core.Path.{_≡_, refl}
-use mathlib.Core.Logic.{_⊎_, inl, inr, ⊎-elim}
-use mathlib.Core.Bool.{Bool, true, false, cond}
+use Rattle.prelude.proofs.{ℕ, suc, _+_, _≤_, le-refl, le-trans, arith, _≡_, refl, _⊎_, inl, inr, ⊎-elim, Bool, true}
+use Rattle.prelude.proofs.{false, cond}
 use Rattle.gametree.specs.declared.Side.{Side}
 use Rattle.gametree.specs.declared.Side.the-variants.{Max, Min}
-use Rattle.gametree.specs.Tree.{Tree, leaf, inner, Children, last, _then_, better, minimax}
-use Rattle.gametree.specs.Tree.{minimaxChildren, number}
-use Rattle.gametree.specs.Certificate.{Each, NoneOf, OneOf, Rule, RulesChildren, SolutionTree, worst}
-use Rattle.gametree.specs.Certificate.{solutionValue, Certifies, same}
+use Rattle.gametree.specs.{Tree, leaf, inner, Children, last, _then_, better, minimax, minimaxChildren, number, Each}
+use Rattle.gametree.specs.{NoneOf, OneOf, Rule, RulesChildren, SolutionTree, worst, solutionValue, Certifies, same}
 use Rattle.gametree_theory.proofs.certificates.Leaves.{bestLeaf, bestLeafChildren, value-best}
 use Rattle.gametree_theory.proofs.certificates.Counting.{kidCount, members, required}
 use Rattle.lists.proofs.Choice.{cond-cases, true-not-false}

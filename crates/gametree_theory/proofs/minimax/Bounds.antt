@@ -1,17 +1,11 @@
 -- The bounds of a set of evaluated leaves: their clauses, that they enclose the minimax value, and that more leaves
 -- bring them closer.
-use Prim.Native.Nat.{ℕ, _≤_, _<_}
-use native.Mathlib.Omega.{arith}
-use mathlib.Core.Path.{_≡_, refl, ap, fun-ext}
-use mathlib.Core.Bool.{Bool, true, false, cond}
-use mathlib.Core.List.{List, []}
-use Rattle.lists.specs.Lists.{All, among}
+use Rattle.prelude.proofs.{ℕ, _≤_, _<_, arith, _≡_, refl, ap, fun-ext, Bool, true, false, cond, List, []}
+use Rattle.lists.specs.{All, among}
 use Rattle.gametree.specs.declared.Side.{Side}
 use Rattle.gametree.specs.declared.Side.the-variants.{Max, Min}
-use Rattle.gametree.specs.Tree.{Tree, leaf, inner, Children, last, _then_, least, greatest}
-use Rattle.gametree.specs.Tree.{better}
-use Rattle.gametree.specs.Tree.{minimax, minimaxChildren, EveryLeaf, EveryLeafChildren, Score, Scored}
-use Rattle.gametree.specs.Bounds.{known, low, high, bestOf}
+use Rattle.gametree.specs.{Tree, leaf, inner, Children, last, _then_, least, greatest, better, minimax, minimaxChildren}
+use Rattle.gametree.specs.{EveryLeaf, EveryLeafChildren, Score, Scored, known, low, high, bestOf}
 use Rattle.lists.proofs.Lists.{all-at}
 
 -- the better of two scores rises with both

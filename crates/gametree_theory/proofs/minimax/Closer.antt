@@ -1,11 +1,6 @@
 -- More evaluated leaves bring the bounds closer; they never cross, and no high exceeds `greatest`.
-use Prim.Native.Nat.{ℕ, _≤_, _<_}
-use native.Mathlib.Nat.{le-refl}
-use native.Mathlib.Omega.{arith}
-use mathlib.Core.Path.{_≡_, refl}
-use mathlib.Core.Bool.{Bool, true, false, cond}
-use Rattle.gametree.specs.Tree.{Tree, least, greatest, Scored}
-use Rattle.gametree.specs.Bounds.{known, low, high}
+use Rattle.prelude.proofs.{ℕ, _≤_, _<_, le-refl, arith, _≡_, refl, Bool, true, false, cond}
+use Rattle.gametree.specs.{Tree, least, greatest, Scored, known, low, high}
 use Rattle.gametree_theory.proofs.minimax.Bounds.{every-map, every-leaf, minimax-mono, minimax-within, low≤}
 use Rattle.gametree_theory.proofs.minimax.Bounds.{≤high}
 use Rattle.gametree_theory.proofs.minimax.Bounds.{known-capped}

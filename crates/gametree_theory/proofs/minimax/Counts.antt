@@ -1,20 +1,11 @@
 -- How many leaves a set, a pair of sets and a list have.
-use Prim.Native.Nat.{ℕ, _+_, _≤_}
-use native.Mathlib.Nat.{le-refl}
-use native.Mathlib.Omega.{arith}
-use mathlib.Core.Path.{_≡_, refl, sym, _∙_, ap, ap₂, subst}
-use mathlib.Core.Logic.{inl, inr, ⊎-elim}
-use mathlib.Core.Bool.{Bool, true, false, cond, _||_}
-use mathlib.Core.List.{List, [], _∷_, _++_, append-assoc}
-use lib.Dec.{eqb}
-use lib.ListN.{length, length-append}
-use borrow.Author.Tests.{eqb-true, ne-eqb}
-use Rattle.lists.specs.Lists.{All, among, Once}
-use Rattle.gametree.specs.Tree.{Tree, leaf, inner, Children, last, _then_, In, InChildren, EveryLeafChildren}
-use Rattle.gametree.specs.Tree.{Distinct}
-use Rattle.gametree.specs.Tree.{DistinctChildren, size, sizeChildren, leaves, leavesChildren, leafCount}
-use Rattle.gametree.specs.Tree.{leafCountChildren, nodes}
-use Rattle.gametree.specs.Certificate.{pairLeaves, LeavesIn}
+use Rattle.prelude.proofs.{ℕ, _+_, _≤_, le-refl, arith, _≡_, refl, sym, _∙_, ap, ap₂, subst, inl, inr, ⊎-elim, Bool}
+use Rattle.prelude.proofs.{true, false, cond, _||_, List, [], _∷_, _++_, append-assoc, eqb, length, length-append}
+use Rattle.prelude.proofs.{eqb-true, ne-eqb}
+use Rattle.lists.specs.{All, among, Once}
+use Rattle.gametree.specs.{Tree, leaf, inner, Children, last, _then_, In, InChildren, EveryLeafChildren, Distinct}
+use Rattle.gametree.specs.{DistinctChildren, size, sizeChildren, leaves, leavesChildren, leafCount, leafCountChildren}
+use Rattle.gametree.specs.{nodes, pairLeaves, LeavesIn}
 use Rattle.lists.proofs.Choice.{cond-cases, true-not-false, or-left, or-cases}
 use Rattle.lists.proofs.Lists.{among-left, among-right, all-zip, all-among, once-length}
 use Rattle.gametree_theory.proofs.minimax.Nodes.{in-nodes, nodes-in}

@@ -1,13 +1,9 @@
 -- A tree in the place of a leaf counts as a leaf with the tree's value; other numbers change neither value nor size.
-use Prim.Native.Nat.{ℕ, suc, _+_, _≤_}
-use native.Mathlib.Omega.{arith}
-use mathlib.Core.Path.{_≡_, refl, sym, _∙_, ap, ap₂}
-use mathlib.Core.Bool.{Bool, true, false, cond}
-use lib.Dec.{eqb}
+use Rattle.prelude.proofs.{ℕ, suc, _+_, _≤_, arith, _≡_, refl, sym, _∙_, ap, ap₂, Bool, true, false, cond, eqb}
 use Rattle.gametree.specs.declared.Side.{Side}
-use Rattle.gametree.specs.Tree.{Tree, leaf, inner, Children, last, _then_, better, minimax, minimaxChildren}
-use Rattle.gametree.specs.Tree.{size, sizeChildren, EveryLeaf}
-use Rattle.gametree.specs.Graft.{substituted, grafted, graftedChildren, relabelled, relabelledChildren}
+use Rattle.gametree.specs.{Tree, leaf, inner, Children, last, _then_, better, minimax, minimaxChildren, size}
+use Rattle.gametree.specs.{sizeChildren, EveryLeaf, substituted, grafted, graftedChildren, relabelled}
+use Rattle.gametree.specs.{relabelledChildren}
 use Rattle.gametree_theory.proofs.minimax.Bounds.{every-map, minimax-mono}
 use Rattle.gametree_theory.proofs.minimax.Nodes.{size-then}
 

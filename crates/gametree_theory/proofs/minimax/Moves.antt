@@ -1,21 +1,12 @@
 -- The first child that a side's bounds prove to have the root's value is the first child that has it.
-use Prim.Native.Nat.{ℕ, _<_}
-use native.Mathlib.Omega.{arith}
-use mathlib.Core.Path.{_≡_, refl, _∙_, ap}
-use mathlib.Core.Bool.{Bool, true, false, cond}
-use mathlib.Core.List.{List}
-use lib.Dec.{ltb, eqb}
-use borrow.Author.Tests.{eqb-true, eqb-false, lt-ltb, eq-eqb, ne-eqb}
-use Rattle.lists.specs.Lists.{All, among}
+use Rattle.prelude.proofs.{ℕ, _<_, arith, _≡_, refl, _∙_, ap, Bool, true, false, cond, List, ltb, eqb, eqb-true}
+use Rattle.prelude.proofs.{eqb-false, lt-ltb, eq-eqb, ne-eqb}
+use Rattle.lists.specs.{All, among}
 use Rattle.gametree.specs.declared.Side.{Side}
 use Rattle.gametree.specs.declared.Side.the-variants.{Max, Min}
-use Rattle.gametree.specs.Tree.{Tree, leaf, inner, Children, last, _then_, least, greatest}
-use Rattle.gametree.specs.Tree.{minimax}
-use Rattle.gametree.specs.Tree.{minimaxChildren, number, Scored, ScoredChildren}
-use Rattle.gametree.specs.Bounds.{known, Decided}
-use Rattle.gametree.specs.AlphaBeta.{raise, lower, clamp, alphaBeta, alphaBetaChildren}
-use Rattle.gametree.specs.Certificate.{worst}
-use Rattle.gametree.specs.Move.{firstWith, rootMove, boundMove}
+use Rattle.gametree.specs.{Tree, leaf, inner, Children, last, _then_, least, greatest, minimax, minimaxChildren, number}
+use Rattle.gametree.specs.{Scored, ScoredChildren, known, Decided, raise, lower, clamp, alphaBeta, alphaBetaChildren}
+use Rattle.gametree.specs.{worst, firstWith, rootMove, boundMove}
 use Rattle.gametree_theory.proofs.minimax.Bounds.{minimax-score, low≤, ≤high, known-local}
 use Rattle.gametree_theory.proofs.alphabeta.Window.{alphaBeta-value, onward-first, onward-rest, known-exact}
 use Rattle.gametree_theory.proofs.alphabeta.Window.{Covers, covered-decided}

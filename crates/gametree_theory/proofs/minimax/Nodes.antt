@@ -1,16 +1,9 @@
 -- The nodes and the leaves of a tree.
-use Prim.Native.Nat.{ℕ, _+_}
-use mathlib.Core.Path.{_≡_, refl, sym, _∙_}
-use mathlib.Core.Logic.{inl, inr, ⊎-elim}
-use mathlib.Core.Bool.{true, false, or-false}
-use lib.Dec.{eqb}
-use lib.ListN.{length-append}
-use borrow.Author.Tests.{eqb-true, eq-eqb}
-use Rattle.lists.specs.Lists.{All, among, Once}
-use Rattle.gametree.specs.Tree.{Tree, leaf, inner, Children, last, _then_, number, leaves, leavesChildren, In}
-use Rattle.gametree.specs.Tree.{InChildren, nodes, nodesChildren, size, sizeChildren}
-use Rattle.gametree.specs.Tree.{Distinct, DistinctChildren}
-use Rattle.gametree.specs.Nodes.{firstOf, othersOf}
+use Rattle.prelude.proofs.{ℕ, _+_, _≡_, refl, sym, _∙_, inl, inr, ⊎-elim, true, false, or-false, eqb, length-append}
+use Rattle.prelude.proofs.{eqb-true, eq-eqb}
+use Rattle.lists.specs.{All, among, Once}
+use Rattle.gametree.specs.{Tree, leaf, inner, Children, last, _then_, number, leaves, leavesChildren, In, InChildren}
+use Rattle.gametree.specs.{nodes, nodesChildren, size, sizeChildren, Distinct, DistinctChildren, firstOf, othersOf}
 use Rattle.lists.proofs.Choice.{is-false, or-left, or-right, or-cases}
 use Rattle.lists.proofs.Lists.{all-append, all-map, among-append, among-left, among-right, once-append}
 

@@ -1,17 +1,10 @@
 -- The minimax value as a function of one leaf's score: the score, brought between the values for the least and the
 -- greatest score of that leaf.
-use Prim.Native.Nat.{ℕ, _≤_, min, max}
-use native.Mathlib.Omega.{arith}
-use mathlib.Core.Path.{_≡_}
-use mathlib.Core.Bool.{Bool, true, false, cond}
-use lib.Dec.{eqb}
+use Rattle.prelude.proofs.{ℕ, _≤_, min, max, arith, _≡_, Bool, true, false, cond, eqb}
 use Rattle.gametree.specs.declared.Side.{Side}
 use Rattle.gametree.specs.declared.Side.the-variants.{Max, Min}
-use Rattle.gametree.specs.Tree.{Tree, leaf, inner, Children, last, _then_, least, greatest}
-use Rattle.gametree.specs.Tree.{better}
-use Rattle.gametree.specs.Tree.{minimax, minimaxChildren}
-use Rattle.gametree.specs.AlphaBeta.{clamp}
-use Rattle.gametree.specs.Graft.{substituted}
+use Rattle.gametree.specs.{Tree, leaf, inner, Children, last, _then_, least, greatest, better, minimax, minimaxChildren}
+use Rattle.gametree.specs.{clamp, substituted}
 
 -- v is the score x, brought between l and u
 record Between (l u x v : ℕ) : Type 0 where

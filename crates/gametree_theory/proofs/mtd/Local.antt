@@ -1,16 +1,10 @@
 -- MTD depends only on the scores of the leaves that it evaluates.
-use Prim.Native.Nat.{ℕ, zero, suc}
-use mathlib.Core.Path.{_≡_, refl, _∙_, ap, ap₂}
-use mathlib.Core.Bool.{Bool, true, false, cond}
-use mathlib.Core.List.{List}
-use lib.Dec.{ltb}
-use Rattle.lists.specs.Lists.{All}
+use Rattle.prelude.proofs.{ℕ, zero, suc, _≡_, refl, _∙_, ap, ap₂, Bool, true, false, cond, List, ltb}
+use Rattle.lists.specs.{All}
 use Rattle.gametree.specs.declared.Side.{Side}
-use Rattle.gametree.specs.Tree.{Tree, leaf, inner, Children, last, _then_, greatest, better}
-use Rattle.gametree.specs.Mtd.{settles}
-use Rattle.gametree.specs.engine.Memo.{Memo, MemoChildren, memoHigh, memoHighChildren, Pass, PassChildren, stay}
-use Rattle.gametree.specs.engine.Memo.{ended, joined, entered, pass, passChildren, MemoRun, settled, followed}
-use Rattle.gametree.specs.engine.Memo.{run, fresh, freshChildren}
+use Rattle.gametree.specs.{Tree, leaf, inner, Children, last, _then_, greatest, better, settles, Memo, MemoChildren}
+use Rattle.gametree.specs.{memoHigh, memoHighChildren, Pass, PassChildren, stay, ended, joined, entered, pass}
+use Rattle.gametree.specs.{passChildren, MemoRun, settled, followed, run, fresh, freshChildren}
 use Rattle.lists.proofs.Choice.{cond-cases, true-not-false}
 use Rattle.lists.proofs.Lists.{all-left, all-right}
 

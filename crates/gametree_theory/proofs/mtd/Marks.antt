@@ -1,20 +1,13 @@
 -- The memory of MTD marks the leaves of its list, so its bounds are those of that set of leaves; and no leaf stands
 -- in the list twice.
-use Prim.Native.Nat.{ℕ, zero, suc}
-use mathlib.Core.Path.{_≡_, refl, sym, _∙_, ap, ap₂}
-use mathlib.Core.Logic.{inl, inr}
-use mathlib.Core.Bool.{Bool, true, false, _||_, or-false}
-use mathlib.Core.List.{List, [], _∷_, _++_, append-assoc, append-nil}
-use lib.Dec.{ltb}
-use Rattle.lists.specs.Lists.{All, among, Once}
+use Rattle.prelude.proofs.{ℕ, zero, suc, _≡_, refl, sym, _∙_, ap, ap₂, inl, inr, Bool, true, false, _||_, or-false}
+use Rattle.prelude.proofs.{List, [], _∷_, _++_, append-assoc, append-nil, ltb}
+use Rattle.lists.specs.{All, among, Once}
 use Rattle.gametree.specs.declared.Side.{Side}
-use Rattle.gametree.specs.Tree.{Tree, leaf, inner, Children, last, _then_, greatest, better, minimax}
-use Rattle.gametree.specs.Tree.{minimaxChildren, In, InChildren, Distinct, DistinctChildren}
-use Rattle.gametree.specs.Bounds.{known}
-use Rattle.gametree.specs.Mtd.{settles}
-use Rattle.gametree.specs.engine.Memo.{memoBound, memoBoundChildren, Memo, MemoChildren, memoHigh}
-use Rattle.gametree.specs.engine.Memo.{memoHighChildren, Pass, PassChildren, stay, tried, ended, joined, pass}
-use Rattle.gametree.specs.engine.Memo.{passChildren, MemoRun, run, fresh, freshChildren, memoMtd}
+use Rattle.gametree.specs.{Tree, leaf, inner, Children, last, _then_, greatest, better, minimax, minimaxChildren, In}
+use Rattle.gametree.specs.{InChildren, Distinct, DistinctChildren, known, settles, memoBound, memoBoundChildren, Memo}
+use Rattle.gametree.specs.{MemoChildren, memoHigh, memoHighChildren, Pass, PassChildren, stay, tried, ended, joined}
+use Rattle.gametree.specs.{pass, passChildren, MemoRun, run, fresh, freshChildren, memoMtd}
 use Rattle.lists.proofs.Choice.{cond-cases, true-not-false, or-false-both}
 use Rattle.lists.proofs.Lists.{all-append, all-map, all-among, among-append, among-right, among-out}
 use Rattle.lists.proofs.Lists.{once-append}

@@ -1,17 +1,10 @@
 -- MTD's memory in two arrays: arrays that agree give the same memory, empty ones the fresh one, and the highs are those
 -- of the marked leaves; a visit of the children goes child by child.
-use Prim.Native.Nat.{ℕ}
-use mathlib.Core.Path.{_≡_, refl, _∙_, ap, ap₂}
-use mathlib.Core.Logic.{inl, inr}
-use mathlib.Core.Bool.{true, false}
+use Rattle.prelude.proofs.{ℕ, _≡_, refl, _∙_, ap, ap₂, inl, inr, true, false}
 use Rattle.gametree.specs.declared.Side.{Side}
-use Rattle.gametree.specs.Tree.{Tree, leaf, inner, Children, last, _then_, greatest, better}
-use Rattle.gametree.specs.Tree.{minimaxChildren, In, InChildren}
-use Rattle.gametree.specs.Bounds.{known, high}
-use Rattle.gametree.specs.Mtd.{settles}
-use Rattle.gametree.specs.engine.Memo.{Memo, MemoChildren, memoHigh, memoHighChildren, pass, passChildren}
-use Rattle.gametree.specs.engine.Memo.{fresh, freshChildren}
-use Rattle.gametree.specs.engine.MemoArrays.{Bits, readMemo, readMemoChildren, Remembered, KidsRemembered}
+use Rattle.gametree.specs.{Tree, leaf, inner, Children, last, _then_, greatest, better, minimaxChildren, In, InChildren}
+use Rattle.gametree.specs.{known, high, settles, Memo, MemoChildren, memoHigh, memoHighChildren, pass, passChildren}
+use Rattle.gametree.specs.{fresh, freshChildren, Bits, readMemo, readMemoChildren, Remembered, KidsRemembered}
 
 mutual
   -- arrays that agree on a tree's nodes give the same memo

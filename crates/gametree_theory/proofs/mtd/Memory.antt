@@ -1,23 +1,14 @@
 -- MTD's memory in two lists (Mtd), and at each node of the tree (engine/Memo). On a tree with distinct numbers to try a
 -- node in the one is to pass it in the other, and so both runs are the same.
-use Prim.Native.Nat.{ℕ, zero, suc, _+_}
-use native.Mathlib.Omega.{arith}
-use mathlib.Core.Path.{_≡_, refl, sym, _∙_, ap, ap₂, subst}
-use mathlib.Core.Logic.{inl, inr}
-use mathlib.Core.Bool.{Bool, true, false, cond, _||_, or-false}
-use mathlib.Core.List.{List, [], _∷_, _++_, append-assoc, append-nil}
-use lib.Dec.{ltb}
-use borrow.Author.Tests.{ne-eqb}
-use Rattle.lists.specs.Lists.{among}
+use Rattle.prelude.proofs.{ℕ, zero, suc, _+_, arith, _≡_, refl, sym, _∙_, ap, ap₂, subst, inl, inr, Bool, true, false}
+use Rattle.prelude.proofs.{cond, _||_, or-false, List, [], _∷_, _++_, append-assoc, append-nil, ltb, ne-eqb}
+use Rattle.lists.specs.{among}
 use Rattle.gametree.specs.declared.Side.{Side}
-use Rattle.gametree.specs.Tree.{Tree, leaf, inner, Children, last, _then_, greatest, In, InChildren}
-use Rattle.gametree.specs.Tree.{Distinct, DistinctChildren}
-use Rattle.gametree.specs.Bounds.{high}
-use Rattle.gametree.specs.Mtd.{MtdMemory, withNode, Trial, trial, settles, tryNode, tryChildren, MtdRun}
-use Rattle.gametree.specs.Mtd.{passesFrom, mtd}
-use Rattle.gametree.specs.engine.Memo.{Memo, MemoChildren, memoHigh, Pass, PassChildren, stay, entered, pass}
-use Rattle.gametree.specs.engine.Memo.{passChildren, MemoRun, run, fresh, memoMtd, withoutMemo}
-use Rattle.gametree.specs.engine.MemoArrays.{readMemo, readMemoChildren, Remembered}
+use Rattle.gametree.specs.{Tree, leaf, inner, Children, last, _then_, greatest, In, InChildren, Distinct}
+use Rattle.gametree.specs.{DistinctChildren, high, MtdMemory, withNode, Trial, trial, settles, tryNode, tryChildren}
+use Rattle.gametree.specs.{MtdRun, passesFrom, mtd, Memo, MemoChildren, memoHigh, Pass, PassChildren, stay, entered}
+use Rattle.gametree.specs.{pass, passChildren, MemoRun, run, fresh, memoMtd, withoutMemo, readMemo, readMemoChildren}
+use Rattle.gametree.specs.{Remembered}
 use Rattle.lists.proofs.Lists.{all-among, among-append, among-right, among-out}
 use Rattle.gametree_theory.proofs.mtd.MemoArrays.{readMemoChildren-same, read-fresh, read-high, read-high-kids}
 use Rattle.gametree_theory.proofs.mtd.MemoArrays.{rest-same, visit-ended, visit-joined}

@@ -1,24 +1,14 @@
 -- MTD's leaves show the first child that has the root's value.
-use Prim.Native.Nat.{ℕ, zero, suc, _≤_, _<_}
-use native.Mathlib.Nat.{le-refl, le-trans, lt-of-lt-of-le}
-use native.Mathlib.Omega.{arith}
-use mathlib.Core.Path.{_≡_, refl, sym, _∙_, ap}
-use mathlib.Core.Logic.{_⊎_, inl, inr, ⊎-elim}
-use mathlib.Core.Bool.{true, false, not}
-use mathlib.Core.List.{List}
-use lib.Dec.{ltb}
-use borrow.Author.Tests.{eq-eqb, ne-eqb}
-use Rattle.lists.specs.Lists.{among}
+use Rattle.prelude.proofs.{ℕ, zero, suc, _≤_, _<_, le-refl, le-trans, lt-of-lt-of-le, arith, _≡_, refl, sym, _∙_, ap}
+use Rattle.prelude.proofs.{_⊎_, inl, inr, ⊎-elim, true, false, not, List, ltb, eq-eqb, ne-eqb}
+use Rattle.lists.specs.{among}
 use Rattle.gametree.specs.declared.Side.{Side}
 use Rattle.gametree.specs.declared.Side.the-variants.{Max, Min}
-use Rattle.gametree.specs.Tree.{Tree, leaf, inner, Children, last, _then_, least, greatest}
-use Rattle.gametree.specs.Tree.{minimax, minimaxChildren, ScoredChildren, Proper}
-use Rattle.gametree.specs.Bounds.{known, high, Decided}
-use Rattle.gametree.specs.engine.Memo.{Memo, MemoChildren, memoHigh, memoHighChildren, Pass, PassChildren, pass}
-use Rattle.gametree.specs.engine.Memo.{passChildren, MemoRun, run, fresh, memoMtd}
+use Rattle.gametree.specs.{Tree, leaf, inner, Children, last, _then_, least, greatest, minimax, minimaxChildren}
+use Rattle.gametree.specs.{ScoredChildren, Proper, known, high, Decided, Memo, MemoChildren, memoHigh, memoHighChildren}
+use Rattle.gametree.specs.{Pass, PassChildren, pass, passChildren, MemoRun, run, fresh, memoMtd, worst, firstWith}
+use Rattle.gametree.specs.{rootMove, boundMove}
 use Rattle.gametree_theory.proofs.mtd.Marks.{MarksChildren}
-use Rattle.gametree.specs.Certificate.{worst}
-use Rattle.gametree.specs.Move.{firstWith, rootMove, boundMove}
 use Rattle.lists.proofs.Choice.{cond-cases, true-not-false}
 use Rattle.gametree_theory.proofs.minimax.Bounds.{minimax-score, low≤, ≤high}
 use Rattle.gametree_theory.proofs.mtd.Sound.{memoLow, memoLow-minimax, minimax-memoHigh, Kept, KeptChildren}

@@ -1,20 +1,12 @@
 -- MTD makes at most one pass more than there are different scores among the evaluated leaves.
-use Prim.Native.Nat.{ℕ, zero, suc, _+_, _≤_, _<_, min, max, suc-le-suc}
-use native.Mathlib.Nat.{eq-or-lt-of-le, le-refl, le-trans}
-use native.Mathlib.Omega.{arith}
-use mathlib.Core.Path.{_≡_, refl, sym, ap, subst}
-use mathlib.Core.Logic.{⊎-elim}
-use mathlib.Core.Bool.{Bool, true, false, cond, _||_}
-use mathlib.Core.List.{List, [], _∷_, _++_, map, append-assoc}
-use lib.Dec.{leb, eqb}
-use borrow.Author.Tests.{leb-true, leb-false, eqb-true, eq-eqb, ne-eqb}
-use Rattle.lists.specs.Lists.{among, different}
+use Rattle.prelude.proofs.{ℕ, zero, suc, _+_, _≤_, _<_, min, max, suc-le-suc, eq-or-lt-of-le, le-refl, le-trans, arith}
+use Rattle.prelude.proofs.{_≡_, refl, sym, ap, subst, ⊎-elim, Bool, true, false, cond, _||_, List, [], _∷_, _++_, map}
+use Rattle.prelude.proofs.{append-assoc, leb, eqb, leb-true, leb-false, eqb-true, eq-eqb, ne-eqb}
+use Rattle.lists.specs.{among, different}
 use Rattle.gametree.specs.declared.Side.{Side}
 use Rattle.gametree.specs.declared.Side.the-variants.{Max, Min}
-use Rattle.gametree.specs.Tree.{Tree, leaf, inner, Children, last, _then_, greatest, better}
-use Rattle.gametree.specs.Tree.{minimaxChildren, Proper}
-use Rattle.gametree.specs.Bounds.{known, high}
-use Rattle.gametree.specs.engine.Memo.{Memo, memoHigh, pass, MemoRun, run, fresh, memoMtd}
+use Rattle.gametree.specs.{Tree, leaf, inner, Children, last, _then_, greatest, better, minimaxChildren, Proper, known}
+use Rattle.gametree.specs.{high, Memo, memoHigh, pass, MemoRun, run, fresh, memoMtd}
 use Rattle.gametree_theory.proofs.mtd.Marks.{Marks}
 use Rattle.lists.proofs.Choice.{cond-cases, or-left, or-right, or-cases}
 use Rattle.lists.proofs.Lists.{among-left}

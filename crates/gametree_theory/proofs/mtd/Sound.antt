@@ -1,19 +1,12 @@
 -- The memory of MTD is sound: what a pass finds below its test has its high there, what it finds not below has its
 -- low there.
-use Prim.Native.Nat.{ℕ, _≤_, _<_}
-use native.Mathlib.Nat.{le-refl}
-use native.Mathlib.Omega.{arith}
-use mathlib.Core.Path.{_≡_, refl}
-use mathlib.Core.Bool.{true, false, not}
-use lib.Dec.{ltb}
-use borrow.Author.Tests.{ltb-true, leb-true, leb-false, not-true, not-false}
+use Rattle.prelude.proofs.{ℕ, _≤_, _<_, le-refl, arith, _≡_, refl, true, false, not, ltb, ltb-true, leb-true, leb-false}
+use Rattle.prelude.proofs.{not-true, not-false}
 use Rattle.gametree.specs.declared.Side.{Side}
 use Rattle.gametree.specs.declared.Side.the-variants.{Max, Min}
-use Rattle.gametree.specs.Tree.{Tree, leaf, inner, Children, last, _then_, least, greatest}
-use Rattle.gametree.specs.Tree.{minimax}
-use Rattle.gametree.specs.Tree.{minimaxChildren, Scored, ScoredChildren}
-use Rattle.gametree.specs.engine.Memo.{memoBound, memoBoundChildren, Memo, MemoChildren, memoHigh}
-use Rattle.gametree.specs.engine.Memo.{memoHighChildren, Pass, PassChildren, pass, passChildren}
+use Rattle.gametree.specs.{Tree, leaf, inner, Children, last, _then_, least, greatest, minimax, minimaxChildren, Scored}
+use Rattle.gametree.specs.{ScoredChildren, memoBound, memoBoundChildren, Memo, MemoChildren, memoHigh, memoHighChildren}
+use Rattle.gametree.specs.{Pass, PassChildren, pass, passChildren}
 use Rattle.lists.proofs.Choice.{cond-cases, true-not-false}
 use Rattle.gametree_theory.proofs.minimax.Bounds.{better-mono}
 

@@ -1,16 +1,10 @@
 -- MTD ends with the minimax value, and the bounds that its leaves give the root are that value.
-use Prim.Native.Nat.{ℕ, zero, suc, _≤_, _<_}
-use native.Mathlib.Nat.{le-refl, le-trans}
-use native.Mathlib.Omega.{arith}
-use mathlib.Core.Path.{_≡_, refl}
-use mathlib.Core.Bool.{true}
+use Rattle.prelude.proofs.{ℕ, zero, suc, _≤_, _<_, le-refl, le-trans, arith, _≡_, refl, true}
 use Rattle.gametree.specs.declared.Side.{Side}
 use Rattle.gametree.specs.declared.Side.the-variants.{Max, Min}
-use Rattle.gametree.specs.Tree.{Tree, leaf, inner, Children, last, _then_, greatest, better}
-use Rattle.gametree.specs.Tree.{minimax}
-use Rattle.gametree.specs.Tree.{Scored}
-use Rattle.gametree.specs.engine.Memo.{Memo, MemoChildren, memoHigh, memoHighChildren, pass, MemoRun, settled}
-use Rattle.gametree.specs.engine.Memo.{run, fresh, freshChildren, memoMtd}
+use Rattle.gametree.specs.{Tree, leaf, inner, Children, last, _then_, greatest, better, minimax, Scored, Memo}
+use Rattle.gametree.specs.{MemoChildren, memoHigh, memoHighChildren, pass, MemoRun, settled, run, fresh, freshChildren}
+use Rattle.gametree.specs.{memoMtd}
 use Rattle.lists.proofs.Choice.{cond-cases, true-not-false}
 use Rattle.gametree_theory.proofs.mtd.Sound.{memoLow, memoLow-minimax, minimax-memoHigh, Kept, KeptChildren}
 use Rattle.gametree_theory.proofs.mtd.Sound.{Sound}

@@ -1,27 +1,16 @@
 -- What SSS* and MTD evaluate, in closed form. A pass with the test γ takes MTD's memory from `memoAt` of γ + 1 to that
 -- of γ; so after all passes the evaluated leaves are those of the closed form.
-use Prim.Native.Nat.{ℕ, zero, suc, _≤_, _<_, min, max}
-use native.Mathlib.Nat.{le-refl, lt-of-lt-of-le}
-use native.Mathlib.Omega.{arith}
-use mathlib.Core.Path.{_≡_, refl, sym, _∙_, ap, ap₂, subst}
-use mathlib.Core.Logic.{inl, inr, ⊎-elim}
-use mathlib.Core.Bool.{Bool, true, false, cond, not, _&&_}
-use mathlib.Core.List.{List, [], _∷_, _++_}
-use lib.Dec.{leb, ltb}
-use borrow.Author.Tests.{ltb-true, ltb-false, leb-true, leb-false, not-true, not-false, le-leb, lt-leb}
-use Rattle.lists.specs.Lists.{All, among}
+use Rattle.prelude.proofs.{ℕ, zero, suc, _≤_, _<_, min, max, le-refl, lt-of-lt-of-le, arith, _≡_, refl, sym, _∙_, ap}
+use Rattle.prelude.proofs.{ap₂, subst, inl, inr, ⊎-elim, Bool, true, false, cond, not, _&&_, List, [], _∷_, _++_, leb}
+use Rattle.prelude.proofs.{ltb, ltb-true, ltb-false, leb-true, leb-false, not-true, not-false, le-leb, lt-leb}
+use Rattle.lists.specs.{All, among}
 use Rattle.gametree.specs.declared.Side.{Side}
 use Rattle.gametree.specs.declared.Side.the-variants.{Max, Min}
-use Rattle.gametree.specs.Tree.{Tree, leaf, inner, Children, last, _then_, least, greatest}
-use Rattle.gametree.specs.Tree.{minimax}
-use Rattle.gametree.specs.Tree.{minimaxChildren, In, InChildren, EveryLeaf, EveryLeafChildren, Scored}
-use Rattle.gametree.specs.Tree.{ScoredChildren, Distinct}
-use Rattle.gametree.specs.Tree.{DistinctChildren, Proper}
-use Rattle.gametree.specs.AlphaBeta.{raise, lower}
-use Rattle.gametree.specs.engine.Memo.{Memo, MemoChildren, memoHigh, memoHighChildren, Pass, PassChildren, pass}
-use Rattle.gametree.specs.engine.Memo.{passChildren, MemoRun, run, fresh, memoMtd}
+use Rattle.gametree.specs.{Tree, leaf, inner, Children, last, _then_, least, greatest, minimax, minimaxChildren, In}
+use Rattle.gametree.specs.{InChildren, EveryLeaf, EveryLeafChildren, Scored, ScoredChildren, Distinct, DistinctChildren}
+use Rattle.gametree.specs.{Proper, raise, lower, Memo, MemoChildren, memoHigh, memoHighChildren, Pass, PassChildren}
+use Rattle.gametree.specs.{pass, passChildren, MemoRun, run, fresh, memoMtd, rival, unrivalled, unrivalledChildren}
 use Rattle.gametree_theory.proofs.mtd.Marks.{Marks, MarksChildren}
-use Rattle.gametree.specs.results.ClosedForm.{rival, unrivalled, unrivalledChildren}
 use Rattle.lists.proofs.Choice.{cond-cases, true-not-false, and-both}
 use Rattle.lists.proofs.Lists.{all-append, all-map, all-among}
 use Rattle.gametree_theory.proofs.minimax.Bounds.{minimax-score}

@@ -1,22 +1,12 @@
 -- Domination: every leaf that MTD evaluates meets Baudet's condition, so alpha-beta evaluates it too.
-use Prim.Native.Nat.{ℕ, zero, suc, _≤_, _<_}
-use native.Mathlib.Nat.{le-refl}
-use native.Mathlib.Omega.{arith}
-use mathlib.Core.Path.{_≡_, refl}
-use mathlib.Core.Bool.{true, false}
-use mathlib.Core.List.{List}
-use lib.Dec.{ltb, eqb}
-use borrow.Author.Tests.{not-false, lt-ltb, eq-eqb}
-use Rattle.lists.specs.Lists.{All, among}
+use Rattle.prelude.proofs.{ℕ, zero, suc, _≤_, _<_, le-refl, arith, _≡_, refl, true, false, List, ltb, eqb, not-false}
+use Rattle.prelude.proofs.{lt-ltb, eq-eqb}
+use Rattle.lists.specs.{All, among}
 use Rattle.gametree.specs.declared.Side.{Side}
 use Rattle.gametree.specs.declared.Side.the-variants.{Max, Min}
-use Rattle.gametree.specs.Tree.{Tree, leaf, inner, Children, last, _then_, least, greatest}
-use Rattle.gametree.specs.Tree.{minimax}
-use Rattle.gametree.specs.Tree.{Scored, ScoredChildren}
-use Rattle.gametree.specs.AlphaBeta.{raise, lower, reached, reachedChildren}
-use Rattle.gametree.specs.Mtd.{settles}
-use Rattle.gametree.specs.engine.Memo.{Memo, MemoChildren, memoHigh, memoHighChildren, Pass, PassChildren, pass}
-use Rattle.gametree.specs.engine.Memo.{passChildren, MemoRun, run, fresh, memoMtd}
+use Rattle.gametree.specs.{Tree, leaf, inner, Children, last, _then_, least, greatest, minimax, Scored, ScoredChildren}
+use Rattle.gametree.specs.{raise, lower, reached, reachedChildren, settles, Memo, MemoChildren, memoHigh}
+use Rattle.gametree.specs.{memoHighChildren, Pass, PassChildren, pass, passChildren, MemoRun, run, fresh, memoMtd}
 use Rattle.lists.proofs.Choice.{cond-cases, or-left}
 use Rattle.lists.proofs.Lists.{all-append, all-map, among-left, among-right}
 use Rattle.gametree_theory.proofs.minimax.Bounds.{minimax-score}

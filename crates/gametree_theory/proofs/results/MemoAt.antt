@@ -1,20 +1,13 @@
 -- The memory of MTD in closed form: `memoAt` gives what is remembered after the passes with tests of at least c, of a
 -- node that is first tried with the test β, from minimax values alone. A node whose value is reached stays as it is;
 -- one whose value is not reached has its high below the tests made; and tests above a node's high change nothing.
-use Prim.Native.Nat.{ℕ, suc, _≤_, _<_, min, max}
-use native.Mathlib.Nat.{le-trans, lt-of-lt-of-le}
-use native.Mathlib.Omega.{arith}
-use mathlib.Core.Path.{_≡_, refl, sym, _∙_, ap, ap₂, subst}
-use mathlib.Core.Logic.{_⊎_, inl, inr, ⊎-elim}
-use mathlib.Core.Bool.{Bool, true, false, _&&_, and-false}
-use lib.Dec.{leb}
-use borrow.Author.Tests.{leb-true, leb-false, le-leb, lt-leb}
+use Rattle.prelude.proofs.{ℕ, suc, _≤_, _<_, min, max, le-trans, lt-of-lt-of-le, arith, _≡_, refl, sym, _∙_, ap, ap₂}
+use Rattle.prelude.proofs.{subst, _⊎_, inl, inr, ⊎-elim, Bool, true, false, _&&_, and-false, leb, leb-true, leb-false}
+use Rattle.prelude.proofs.{le-leb, lt-leb}
 use Rattle.gametree.specs.declared.Side.{Side}
 use Rattle.gametree.specs.declared.Side.the-variants.{Max, Min}
-use Rattle.gametree.specs.Tree.{Tree, leaf, inner, Children, last, _then_, greatest, minimax}
-use Rattle.gametree.specs.Tree.{minimaxChildren, Scored, ScoredChildren}
-use Rattle.gametree.specs.AlphaBeta.{lower}
-use Rattle.gametree.specs.engine.Memo.{Memo, MemoChildren, memoHigh, memoHighChildren, fresh, freshChildren}
+use Rattle.gametree.specs.{Tree, leaf, inner, Children, last, _then_, greatest, minimax, minimaxChildren, Scored}
+use Rattle.gametree.specs.{ScoredChildren, lower, Memo, MemoChildren, memoHigh, memoHighChildren, fresh, freshChildren}
 use Rattle.gametree_theory.proofs.mtd.Sound.{minimax-memoHigh, minimaxChildren-memoHighChildren}
 use Rattle.gametree_theory.proofs.mtd.Value.{freshChildren-memoHigh}
 

@@ -1,23 +1,13 @@
 -- The merit of the state that SSS* takes never rises, and is never below the minimax value: no state of the list has
 -- more, and a replacement gives none more.
-use Prim.Native.Nat.{ℕ, _≤_, _<_, min}
-use native.Mathlib.Nat.{le-refl, le-trans, le-of-lt, eq-or-lt-of-le}
-use native.Mathlib.Omega.{arith}
-use mathlib.Core.Path.{_≡_, refl, subst}
-use mathlib.Core.Logic.{⊎-elim}
-use mathlib.Core.Bool.{Bool, true, false, cond}
-use mathlib.Core.Option.{none, some}
-use mathlib.Core.List.{List, [], _∷_, map}
-use lib.Dec.{ltb}
-use lib.ListN.{length, length-append}
-use borrow.Author.Tests.{ltb-true, ltb-false, eqb-true}
-use Rattle.lists.specs.Lists.{All}
+use Rattle.prelude.proofs.{ℕ, _≤_, _<_, min, le-refl, le-trans, le-of-lt, eq-or-lt-of-le, arith, _≡_, refl, subst}
+use Rattle.prelude.proofs.{⊎-elim, Bool, true, false, cond, none, some, List, [], _∷_, map, ltb, length, length-append}
+use Rattle.prelude.proofs.{ltb-true, ltb-false, eqb-true}
+use Rattle.lists.specs.{All}
 use Rattle.gametree.specs.declared.Side.the-variants.{Max, Min}
-use Rattle.gametree.specs.Tree.{Tree, leaf, inner, greatest}
-use Rattle.gametree.specs.Nodes.{Link, root, under, firstOf, othersOf, subtreeAt, linkIn}
-use Rattle.gametree.specs.Sss.{Status, LIVE, SOLVED, State, live, solved, beats, bestState}
-use Rattle.gametree.specs.Sss.{Step, empty, stop, quiet, evaluating, replaceLive, replaceSolved}
-use Rattle.gametree.specs.Sss.{replace, step, ListAfter, atStart, afterQuiet, afterEvaluating}
+use Rattle.gametree.specs.{Tree, leaf, inner, greatest, Link, root, under, firstOf, othersOf, subtreeAt, linkIn, Status}
+use Rattle.gametree.specs.{LIVE, SOLVED, State, live, solved, beats, bestState, Step, empty, stop, quiet, evaluating}
+use Rattle.gametree.specs.{replaceLive, replaceSolved, replace, step, ListAfter, atStart, afterQuiet, afterEvaluating}
 use Rattle.lists.proofs.Choice.{clash, or-cases, or-false-both, and-both}
 use Rattle.lists.proofs.Lists.{all-map}
 use Rattle.gametree_theory.proofs.sss.Steps.{Steps, done, quietly, evaluates, between, taken, step-taken}

@@ -1,20 +1,14 @@
 -- The list around a node's states: what stands before and behind them, how that goes over to the children's states, and
 -- which state is taken there: step 1 of the argument that Simulation sets out.
-use Prim.Native.Nat.{ℕ, _≤_, min}
-use mathlib.Core.Path.{_≡_, refl, _∙_, ap}
-use mathlib.Core.Logic.{_⊎_, inl, inr}
-use mathlib.Core.Bool.{Bool, true, false}
-use mathlib.Core.Option.{Option, none, some}
-use mathlib.Core.List.{List, _∷_, _++_, map}
-use Rattle.lists.specs.Lists.{All}
+use Rattle.prelude.proofs.{ℕ, _≤_, min, _≡_, refl, _∙_, ap, _⊎_, inl, inr, Bool, true, false, Option, none, some, List}
+use Rattle.prelude.proofs.{_∷_, _++_, map}
+use Rattle.lists.specs.{All}
 use Rattle.gametree.specs.declared.Side.{Side}
 use Rattle.gametree.specs.declared.Side.the-variants.{Max, Min}
-use Rattle.gametree.specs.Tree.{Tree, leaf, inner, Children, last, _then_, number, In, InChildren}
-use Rattle.gametree.specs.engine.Memo.{Memo, MemoChildren}
-use Rattle.gametree.specs.Nodes.{under, firstOf, othersOf, subtreeAt, linkIn, aboveIn, leftIn}
+use Rattle.gametree.specs.{Tree, leaf, inner, Children, last, _then_, number, In, InChildren, Memo, MemoChildren, under}
+use Rattle.gametree.specs.{firstOf, othersOf, subtreeAt, linkIn, aboveIn, leftIn, Status, LIVE, SOLVED, State, live}
+use Rattle.gametree.specs.{solved, Step, quiet, evaluating, purge, replace, step}
 use Rattle.gametree_theory.proofs.sss.Lookups.{Apart}
-use Rattle.gametree.specs.Sss.{Status, LIVE, SOLVED, State, live, solved, Step, quiet, evaluating, purge, replace}
-use Rattle.gametree.specs.Sss.{step}
 use Rattle.lists.proofs.Lists.{all-append, all-map, all-zip}
 use Rattle.gametree_theory.proofs.minimax.Nodes.{number-in}
 use Rattle.gametree_theory.proofs.sss.Steps.{between, step-at, purge-between, purge-outside}

@@ -1,26 +1,17 @@
 -- What a tree says of a front: which state is whose child, which states are below a Max node, and which are behind
 -- others. So every list that SSS* reaches is a front, has a state and no more of them than the tree has nodes, and the
 -- first state of greatest merit on it is the one that the rule takes.
-use Prim.Native.Nat.{ℕ, _≤_, _<_}
-use native.Mathlib.Omega.{arith}
-use mathlib.Core.Path.{_≡_, refl, sym, _∙_, ap, ap₂, subst}
-use mathlib.Core.Logic.{inl, inr}
-use mathlib.Core.Bool.{true, false}
-use mathlib.Core.Option.{Option, none, some}
-use mathlib.Core.List.{List, [], _∷_, _++_, map, append-nil}
-use lib.ListN.{length, length-append}
-use Rattle.lists.specs.Lists.{All}
+use Rattle.prelude.proofs.{ℕ, _≤_, _<_, arith, _≡_, refl, sym, _∙_, ap, ap₂, subst, inl, inr, true, false, Option, none}
+use Rattle.prelude.proofs.{some, List, [], _∷_, _++_, map, append-nil, length, length-append}
+use Rattle.lists.specs.{All}
 use Rattle.gametree.specs.declared.Side.{Side}
 use Rattle.gametree.specs.declared.Side.the-variants.{Max, Min}
-use Rattle.gametree.specs.Tree.{Tree, leaf, inner, Children, last, _then_, number, size}
-use Rattle.gametree.specs.Tree.{sizeChildren, In}
-use Rattle.gametree.specs.Tree.{InChildren}
-use Rattle.gametree.specs.Nodes.{root, under, firstOf, othersOf, subtreeAt, linkIn, aboveIn, leftIn}
+use Rattle.gametree.specs.{Tree, leaf, inner, Children, last, _then_, number, size, sizeChildren, In, InChildren, root}
+use Rattle.gametree.specs.{under, firstOf, othersOf, subtreeAt, linkIn, aboveIn, leftIn, Status, LIVE, SOLVED, State}
+use Rattle.gametree.specs.{live, solved, bestState, Step, empty, stop, quiet, evaluating, purge, replaceLive}
+use Rattle.gametree.specs.{replaceSolved, replace, step, ListAfter, atStart, afterQuiet, afterEvaluating}
 use Rattle.gametree_theory.proofs.sss.Lookups.{Answers, AnswersChildren}
 use Rattle.gametree_theory.proofs.sss.OwnNodes.{own-root}
-use Rattle.gametree.specs.Sss.{Status, LIVE, SOLVED, State, live, solved, bestState, Step, empty}
-use Rattle.gametree.specs.Sss.{stop, quiet, evaluating, purge, replaceLive, replaceSolved, replace, step}
-use Rattle.gametree.specs.Sss.{ListAfter, atStart, afterQuiet, afterEvaluating}
 use Rattle.lists.proofs.Lists.{all-append, all-map, all-zip}
 use Rattle.gametree_theory.proofs.minimax.Nodes.{number-in, size-then}
 use Rattle.gametree_theory.proofs.sss.Steps.{between, taken, step-taken, step-at, purge-between}

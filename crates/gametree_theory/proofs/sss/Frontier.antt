@@ -1,24 +1,14 @@
 -- The frontier: the states of SSS* that stand for a subtree between two passes of MTD, and what a pass makes of them.
 -- Here are the definitions, and steps 2, 3 and 4 of the argument that Simulation sets out.
-use Prim.Native.Nat.{ℕ, _≤_, _<_}
-use native.Mathlib.Nat.{le-refl, le-trans, lt-of-le-of-lt, le-of-lt}
-use native.Mathlib.Omega.{arith}
-use mathlib.Core.Path.{_≡_, refl, _∙_, ap}
-use mathlib.Core.Logic.{_⊎_, inl, inr}
-use mathlib.Core.Bool.{Bool, true, false, not}
-use mathlib.Core.List.{List, [], _∷_, _++_, map}
-use lib.Dec.{ltb}
-use borrow.Author.Tests.{ltb-true, leb-true, leb-false, not-false, le-leb, lt-ltb, le-ltb}
-use Rattle.lists.specs.Lists.{All}
+use Rattle.prelude.proofs.{ℕ, _≤_, _<_, le-refl, le-trans, lt-of-le-of-lt, le-of-lt, arith, _≡_, refl, _∙_, ap, _⊎_}
+use Rattle.prelude.proofs.{inl, inr, Bool, true, false, not, List, [], _∷_, _++_, map, ltb, ltb-true, leb-true}
+use Rattle.prelude.proofs.{leb-false, not-false, le-leb, lt-ltb, le-ltb}
+use Rattle.lists.specs.{All}
 use Rattle.gametree.specs.declared.Side.{Side}
 use Rattle.gametree.specs.declared.Side.the-variants.{Max, Min}
-use Rattle.gametree.specs.Tree.{Tree, leaf, inner, Children, last, _then_, greatest, number}
-use Rattle.gametree.specs.Tree.{Scored}
-use Rattle.gametree.specs.Tree.{ScoredChildren}
-use Rattle.gametree.specs.engine.Memo.{Memo, MemoChildren, memoHigh, memoHighChildren, Pass, PassChildren, pass}
-use Rattle.gametree.specs.engine.Memo.{passChildren, fresh, freshChildren}
-use Rattle.gametree.specs.Nodes.{firstOf, othersOf}
-use Rattle.gametree.specs.Sss.{State, live, solved}
+use Rattle.gametree.specs.{Tree, leaf, inner, Children, last, _then_, greatest, number, Scored, ScoredChildren, Memo}
+use Rattle.gametree.specs.{MemoChildren, memoHigh, memoHighChildren, Pass, PassChildren, pass, passChildren, fresh}
+use Rattle.gametree.specs.{freshChildren, firstOf, othersOf, State, live, solved}
 use Rattle.lists.proofs.Choice.{cond-cases, true-not-false}
 use Rattle.lists.proofs.Lists.{all-append, all-left, all-right, all-map, all-zip}
 use Rattle.gametree_theory.proofs.mtd.Sound.{memoLow, memoLow-minimax, minimax-memoHigh, Kept, KeptChildren}

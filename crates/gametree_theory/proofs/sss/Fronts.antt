@@ -1,14 +1,11 @@
 -- Every list that SSS* reaches is a front of the tree: one state for a node, or, below a Max node, the fronts of all
 -- its children from left to right, below a Min node the front of one child. So the states below a node stand together,
 -- and a purge takes the end of what stands before the state taken and the beginning of what stands behind it.
-use Prim.Native.Nat.{ℕ}
-use mathlib.Core.Path.{_≡_, refl, sym, _∙_, ap, ap₂, subst}
-use mathlib.Core.Logic.{_⊎_, inl, inr}
-use mathlib.Core.List.{List, [], _∷_, _++_, append-assoc, append-nil}
+use Rattle.prelude.proofs.{ℕ, _≡_, refl, sym, _∙_, ap, ap₂, subst, _⊎_, inl, inr, List, [], _∷_, _++_, append-assoc}
+use Rattle.prelude.proofs.{append-nil}
 use Rattle.gametree.specs.declared.Side.{Side}
 use Rattle.gametree.specs.declared.Side.the-variants.{Max, Min}
-use Rattle.gametree.specs.Tree.{Tree, leaf, inner, Children, last, _then_, number}
-use Rattle.gametree.specs.Sss.{State}
+use Rattle.gametree.specs.{Tree, leaf, inner, Children, last, _then_, number, State}
 use Rattle.lists.proofs.Choice.{clash}
 
 -- the list is one state, of node n

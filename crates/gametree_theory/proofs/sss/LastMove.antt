@@ -1,25 +1,15 @@
 -- The root move of SSS*: the child whose SOLVED state makes a Max root SOLVED is the first child with the root's value.
 -- In the pass of MTD that settles the root, the elder siblings of that child are found below the test.
-use Prim.Native.Nat.{ℕ, zero, suc, _≤_, _<_}
-use native.Mathlib.Nat.{le-refl}
-use native.Mathlib.Omega.{arith}
-use mathlib.Core.Path.{_≡_, refl, sym, _∙_, ap, subst}
-use mathlib.Core.Logic.{inl, inr}
-use mathlib.Core.Bool.{Bool, true, false}
-use lib.Dec.{ltb}
-use mathlib.Core.Option.{Option, none, some}
-use mathlib.Core.List.{List, [], _∷_, _++_, append-assoc, append-nil}
-use borrow.Author.Tests.{eq-eqb, ne-eqb}
-use Rattle.lists.specs.Lists.{All}
+use Rattle.prelude.proofs.{ℕ, zero, suc, _≤_, _<_, le-refl, arith, _≡_, refl, sym, _∙_, ap, subst, inl, inr, Bool, true}
+use Rattle.prelude.proofs.{false, ltb, Option, none, some, List, [], _∷_, _++_, append-assoc, append-nil, eq-eqb}
+use Rattle.prelude.proofs.{ne-eqb}
+use Rattle.lists.specs.{All}
 use Rattle.gametree.specs.declared.Side.the-variants.{Max, Min}
-use Rattle.gametree.specs.Tree.{Tree, leaf, inner, Children, last, _then_, greatest, minimax, minimaxChildren, number}
-use Rattle.gametree.specs.Tree.{InChildren, Scored, ScoredChildren, Proper}
-use Rattle.gametree.specs.Move.{firstWith, rootMove}
-use Rattle.gametree.specs.Nodes.{under, firstOf, subtreeAt, linkIn, aboveIn}
-use Rattle.gametree.specs.engine.Memo.{Memo, MemoChildren, memoHigh, memoHighChildren, Pass, PassChildren, pass}
-use Rattle.gametree.specs.engine.Memo.{passChildren, fresh}
-use Rattle.gametree.specs.Sss.{State, solved, stop, step, start}
-use Rattle.gametree.specs.Sss.{ListAfter, atStart, afterQuiet, afterEvaluating}
+use Rattle.gametree.specs.{Tree, leaf, inner, Children, last, _then_, greatest, minimax, minimaxChildren, number}
+use Rattle.gametree.specs.{InChildren, Scored, ScoredChildren, Proper, firstWith, rootMove, under, firstOf, subtreeAt}
+use Rattle.gametree.specs.{linkIn, aboveIn, Memo, MemoChildren, memoHigh, memoHighChildren, Pass, PassChildren, pass}
+use Rattle.gametree.specs.{passChildren, fresh, State, solved, stop, step, start, ListAfter, atStart, afterQuiet}
+use Rattle.gametree.specs.{afterEvaluating}
 use Rattle.lists.proofs.Choice.{cond-cases, true-not-false, clash}
 use Rattle.lists.proofs.Lists.{all-left, all-right, all-append, all-map}
 use Rattle.gametree_theory.proofs.mtd.Sound.{memoLow-minimax, minimax-memoHigh, Kept, KeptChildren, sound}

@@ -1,15 +1,10 @@
 -- Every list that SSS* reaches: few replacements led there, the state taken from it has no less merit than the tree has
 -- value, and the run goes on from it.
-use Prim.Native.Nat.{ℕ, zero, suc, _+_, _*_, _≤_, _<_}
-use native.Mathlib.Nat.{le-refl}
-use native.Mathlib.Omega.{arith}
-use mathlib.Core.Path.{_≡_, refl, sym, _∙_, ap, subst}
-use mathlib.Core.List.{List, [], _∷_, _++_, append-assoc}
-use Rattle.gametree.specs.Tree.{Tree, minimax, size, Proper}
-use Rattle.gametree.specs.engine.Memo.{memoMtd}
-use Rattle.gametree.specs.Sss.{State, Step, empty, stop, quiet, evaluating, step, SssRun, follow, runFrom}
-use Rattle.gametree.specs.Sss.{start, sss, ListAfter, atStart, afterQuiet, afterEvaluating}
-use Rattle.gametree.specs.engine.Within.{End, Ran, resumed, inFull}
+use Rattle.prelude.proofs.{ℕ, zero, suc, _+_, _*_, _≤_, _<_, le-refl, arith, _≡_, refl, sym, _∙_, ap, subst, List, []}
+use Rattle.prelude.proofs.{_∷_, _++_, append-assoc}
+use Rattle.gametree.specs.{Tree, minimax, size, Proper, memoMtd, State, Step, empty, stop, quiet, evaluating, step}
+use Rattle.gametree.specs.{SssRun, follow, runFrom, start, sss, ListAfter, atStart, afterQuiet, afterEvaluating, End}
+use Rattle.gametree.specs.{Ran, resumed, inFull}
 use Rattle.lists.proofs.Choice.{clash}
 use Rattle.gametree_theory.proofs.sss.Steps.{Steps, done, quietly, evaluates, takenMerit}
 use Rattle.gametree_theory.proofs.mtd.Value.{mtd-right}

@@ -1,11 +1,8 @@
 -- Lookups by number in a tree T (`subtreeAt`, `linkIn`, `aboveIn`, `leftIn`) agree with the structure of its part t.
-use Prim.Native.Nat.{ℕ}
-use mathlib.Core.Path.{_≡_}
-use mathlib.Core.Bool.{true, false}
-use mathlib.Core.Option.{none, some}
+use Rattle.prelude.proofs.{ℕ, _≡_, true, false, none, some}
 use Rattle.gametree.specs.declared.Side.{Side}
-use Rattle.gametree.specs.Tree.{Tree, leaf, inner, Children, last, _then_, number, In, InChildren}
-use Rattle.gametree.specs.Nodes.{under, firstOf, subtreeAt, linkIn, aboveIn, leftIn}
+use Rattle.gametree.specs.{Tree, leaf, inner, Children, last, _then_, number, In, InChildren, under, firstOf, subtreeAt}
+use Rattle.gametree.specs.{linkIn, aboveIn, leftIn}
 
 -- no node of a child's tree is above a node of a younger sibling's, nor the other way round, and the elder's are left
 -- of the younger's

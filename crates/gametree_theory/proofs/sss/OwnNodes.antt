@@ -1,16 +1,11 @@
 -- In a tree with distinct numbers, lookups by number agree with the tree's structure.
-use Prim.Native.Nat.{ℕ}
-use mathlib.Core.Path.{_≡_, refl, sym, _∙_, ap, subst}
-use mathlib.Core.Logic.{inl, inr}
-use mathlib.Core.Bool.{Bool, true, false, cond, _||_, or-false}
-use mathlib.Core.List.{List, [], _∷_, _++_}
-use lib.Dec.{eqb}
-use borrow.Author.Tests.{eq-eqb, ne-eqb}
-use Rattle.lists.specs.Lists.{among}
+use Rattle.prelude.proofs.{ℕ, _≡_, refl, sym, _∙_, ap, subst, inl, inr, Bool, true, false, cond, _||_, or-false, List}
+use Rattle.prelude.proofs.{[], _∷_, _++_, eqb, eq-eqb, ne-eqb}
+use Rattle.lists.specs.{among}
 use Rattle.gametree.specs.declared.Side.{Side}
-use Rattle.gametree.specs.Tree.{Tree, leaf, inner, Children, last, _then_, number, nodes, nodesChildren, In}
-use Rattle.gametree.specs.Tree.{InChildren, Distinct, DistinctChildren}
-use Rattle.gametree.specs.Nodes.{root, subtreeAt, subtreeAtChildren, linkIn, linkInChildren, aboveIn, before}
+use Rattle.gametree.specs.{Tree, leaf, inner, Children, last, _then_, number, nodes, nodesChildren, In, InChildren}
+use Rattle.gametree.specs.{Distinct, DistinctChildren, root, subtreeAt, subtreeAtChildren, linkIn, linkInChildren}
+use Rattle.gametree.specs.{aboveIn, before}
 use Rattle.gametree_theory.proofs.sss.Lookups.{Apart, Answers, AnswersChildren}
 use Rattle.lists.proofs.Choice.{cond-cases, true-not-false, or-false-both}
 use Rattle.lists.proofs.Lists.{among-append, among-right}

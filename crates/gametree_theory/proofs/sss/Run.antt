@@ -1,15 +1,10 @@
 -- SSS* from the LIVE root evaluates the leaves that MTD evaluates, in the same order, and ends with the minimax value:
 -- step 8 of the argument that Simulation sets out, and what follows for the run.
-use Prim.Native.Nat.{ℕ, zero, suc, _+_, _*_, _≤_, _<_}
-use native.Mathlib.Nat.{le-refl}
-use native.Mathlib.Omega.{arith}
-use mathlib.Core.Path.{_≡_, refl, ap, subst}
-use mathlib.Core.Logic.{inl, inr}
-use mathlib.Core.List.{List, [], _∷_, append-nil, map}
-use Rattle.gametree.specs.Tree.{Tree, greatest, minimax, number, size, Scored, Proper}
-use Rattle.gametree.specs.engine.Memo.{Memo, memoHigh, pass, MemoRun, run, fresh, memoMtd}
+use Rattle.prelude.proofs.{ℕ, zero, suc, _+_, _*_, _≤_, _<_, le-refl, arith, _≡_, refl, ap, subst, inl, inr, List, []}
+use Rattle.prelude.proofs.{_∷_, append-nil, map}
+use Rattle.gametree.specs.{Tree, greatest, minimax, number, size, Scored, Proper, Memo, memoHigh, pass, MemoRun, run}
+use Rattle.gametree.specs.{fresh, memoMtd, SOLVED, State, live, solved, stop, step, SssRun, runFrom, sss}
 use Rattle.gametree_theory.proofs.sss.Lookups.{Answers}
-use Rattle.gametree.specs.Sss.{SOLVED, State, live, solved, stop, step, SssRun, runFrom, sss}
 use Rattle.lists.proofs.Choice.{cond-cases}
 use Rattle.gametree_theory.proofs.mtd.Sound.{Kept, sound}
 use Rattle.gametree_theory.proofs.mtd.Value.{kept-lower, fresh-kept, mtd-right}

@@ -12,27 +12,17 @@
 --   7. Min: children found not below cost nothing. The ready child runs; if it is not below, the next sibling goes
 --      LIVE, and all behind that are untouched.
 --   8. The next test is the root's high, which bounds the frontier again (Run).
-use Prim.Native.Nat.{ℕ, suc, _+_, _≤_, _<_, min}
-use native.Mathlib.Nat.{le-refl, add-assoc}
-use native.Mathlib.Omega.{arith}
-use mathlib.Core.Path.{_≡_, refl, ap, subst}
-use mathlib.Core.Logic.{inl, inr}
-use mathlib.Core.Bool.{true, false, not}
-use mathlib.Core.Option.{some}
-use mathlib.Core.List.{List, [], _∷_, _++_, append-assoc}
-use lib.Dec.{ltb}
-use borrow.Author.Tests.{ltb-true, leb-true, leb-false, not-true, not-false}
-use Rattle.lists.specs.Lists.{All}
+use Rattle.prelude.proofs.{ℕ, suc, _+_, _≤_, _<_, min, le-refl, add-assoc, arith, _≡_, refl, ap, subst, inl, inr, true}
+use Rattle.prelude.proofs.{false, not, some, List, [], _∷_, _++_, append-assoc, ltb, ltb-true, leb-true, leb-false}
+use Rattle.prelude.proofs.{not-true, not-false}
+use Rattle.lists.specs.{All}
 use Rattle.gametree.specs.declared.Side.{Side}
 use Rattle.gametree.specs.declared.Side.the-variants.{Max, Min}
-use Rattle.gametree.specs.Tree.{Tree, leaf, inner, Children, last, _then_, greatest, number}
-use Rattle.gametree.specs.Tree.{InChildren}
-use Rattle.gametree.specs.Tree.{Scored, ScoredChildren}
-use Rattle.gametree.specs.engine.Memo.{Memo, MemoChildren, memoHighChildren, Pass, PassChildren, entered, pass}
-use Rattle.gametree.specs.engine.Memo.{passChildren, freshChildren}
-use Rattle.gametree.specs.Nodes.{under, firstOf, subtreeAt, linkIn, aboveIn}
+use Rattle.gametree.specs.{Tree, leaf, inner, Children, last, _then_, greatest, number, InChildren, Scored}
+use Rattle.gametree.specs.{ScoredChildren, Memo, MemoChildren, memoHighChildren, Pass, PassChildren, entered, pass}
+use Rattle.gametree.specs.{passChildren, freshChildren, under, firstOf, subtreeAt, linkIn, aboveIn, State, live, solved}
+use Rattle.gametree.specs.{quiet, step}
 use Rattle.gametree_theory.proofs.sss.Lookups.{Answers, AnswersChildren}
-use Rattle.gametree.specs.Sss.{State, live, solved, quiet, step}
 use Rattle.lists.proofs.Choice.{cond-cases, true-not-false}
 use Rattle.lists.proofs.Lists.{all-left, all-right, all-map}
 use Rattle.gametree_theory.proofs.mtd.Sound.{Kept, KeptChildren}

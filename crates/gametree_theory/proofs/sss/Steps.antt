@@ -1,19 +1,12 @@
 -- Steps of SSS*: runs of them, which state is taken, and the purge.
-use Prim.Native.Nat.{ℕ, _≤_, _<_}
-use native.Mathlib.Nat.{le-refl, le-trans, lt-of-lt-of-le}
-use native.Mathlib.Omega.{arith}
-use mathlib.Core.Path.{_≡_, refl, sym, _∙_, ap, ap₂, subst, fun-ext}
-use mathlib.Core.Bool.{Bool, true, false, cond, _&&_, _||_, and-false}
-use mathlib.Core.Option.{none, some}
-use mathlib.Core.List.{List, [], _∷_, _++_, append-nil}
-use lib.Dec.{ltb, eqb}
-use borrow.Author.Tests.{ltb-false, le-ltb, eq-eqb, ne-eqb}
-use Rattle.lists.specs.Lists.{All, among}
+use Rattle.prelude.proofs.{ℕ, _≤_, _<_, le-refl, le-trans, lt-of-lt-of-le, arith, _≡_, refl, sym, _∙_, ap, ap₂, subst}
+use Rattle.prelude.proofs.{fun-ext, Bool, true, false, cond, _&&_, _||_, and-false, none, some, List, [], _∷_, _++_}
+use Rattle.prelude.proofs.{append-nil, ltb, eqb, ltb-false, le-ltb, eq-eqb, ne-eqb}
+use Rattle.lists.specs.{All, among}
 use Rattle.gametree.specs.declared.Side.the-variants.{Max, Min}
-use Rattle.gametree.specs.Tree.{Tree, leaf, inner, nodes}
-use Rattle.gametree.specs.Nodes.{Link, root, under, subtreeAt, linkIn, aboveIn, leftIn}
-use Rattle.gametree.specs.Sss.{Status, LIVE, SOLVED, State, solved, beats, bestState, put, Step, empty, stop, quiet}
-use Rattle.gametree.specs.Sss.{evaluating, purge, replaceLive, replaceSolved, replace, step}
+use Rattle.gametree.specs.{Tree, leaf, inner, nodes, Link, root, under, subtreeAt, linkIn, aboveIn, leftIn, Status}
+use Rattle.gametree.specs.{LIVE, SOLVED, State, solved, beats, bestState, put, Step, empty, stop, quiet, evaluating}
+use Rattle.gametree.specs.{purge, replaceLive, replaceSolved, replace, step}
 use Rattle.lists.proofs.Choice.{cond-cases}
 use Rattle.lists.proofs.Lists.{all-append, all-left, all-right}
 

@@ -1,13 +1,9 @@
 -- How many replacements SSS* can still make in a subtree until its node stands on the list SOLVED.
-use Prim.Native.Nat.{ℕ, suc, _+_, _*_, _≤_, _<_}
-use native.Mathlib.Omega.{arith}
-use mathlib.Core.Path.{_≡_, refl, ap}
-use mathlib.Core.Logic.{inl, inr}
-use mathlib.Core.Bool.{Bool, true, false}
+use Rattle.prelude.proofs.{ℕ, suc, _+_, _*_, _≤_, _<_, arith, _≡_, refl, ap, inl, inr, Bool, true, false}
 use Rattle.gametree.specs.declared.Side.{Side}
 use Rattle.gametree.specs.declared.Side.the-variants.{Max, Min}
-use Rattle.gametree.specs.Tree.{Tree, leaf, inner, Children, last, _then_, size, sizeChildren}
-use Rattle.gametree.specs.engine.Memo.{Memo, MemoChildren, freshChildren}
+use Rattle.gametree.specs.{Tree, leaf, inner, Children, last, _then_, size, sizeChildren, Memo, MemoChildren}
+use Rattle.gametree.specs.{freshChildren}
 use Rattle.gametree_theory.proofs.minimax.Nodes.{size-then}
 use Rattle.gametree_theory.proofs.sss.Frontier.{outdone, ReadyChildren, Fitted, FittedChildren, rest-fresh}
 use Rattle.gametree_theory.proofs.sss.Frontier.{fitted-fresh}

@@ -1,20 +1,12 @@
 -- The answer of a test is right, whatever leaves were evaluated before: "not below" exactly if the test is at most the
 -- minimax value.
-use Prim.Native.Nat.{ℕ, _≤_, _<_}
-use native.Mathlib.Nat.{le-trans, lt-of-le-of-lt}
-use native.Mathlib.Omega.{arith}
-use mathlib.Core.Path.{_≡_, refl, sym, _∙_}
-use mathlib.Core.Bool.{Bool, true, false}
-use mathlib.Core.List.{List, _++_}
-use lib.Dec.{leb, ltb}
-use borrow.Author.Tests.{ltb-true, leb-true, leb-false, le-leb, lt-leb, not-true, not-false}
-use Rattle.lists.specs.Lists.{among}
+use Rattle.prelude.proofs.{ℕ, _≤_, _<_, le-trans, lt-of-le-of-lt, arith, _≡_, refl, sym, _∙_, Bool, true, false, List}
+use Rattle.prelude.proofs.{_++_, leb, ltb, ltb-true, leb-true, leb-false, le-leb, lt-leb, not-true, not-false}
+use Rattle.lists.specs.{among}
 use Rattle.gametree.specs.declared.Side.{Side}
 use Rattle.gametree.specs.declared.Side.the-variants.{Max, Min}
-use Rattle.gametree.specs.Tree.{Tree, leaf, inner, Children, last, _then_, better, minimax}
-use Rattle.gametree.specs.Tree.{minimaxChildren, Scored, ScoredChildren}
-use Rattle.gametree.specs.Mtd.{settles}
-use Rattle.gametree.specs.Tests.{Tested, byBounds, test, testChildren}
+use Rattle.gametree.specs.{Tree, leaf, inner, Children, last, _then_, better, minimax, minimaxChildren, Scored}
+use Rattle.gametree.specs.{ScoredChildren, settles, Tested, byBounds, test, testChildren}
 use Rattle.lists.proofs.Choice.{cond-cases}
 use Rattle.gametree_theory.proofs.minimax.Bounds.{low≤, ≤high}
 

@@ -3,31 +3,17 @@
 -- elder siblings were found not below (`InTurn`); so on the way to a leaf no younger sibling under Min holds a high
 -- down, and as the root's high is not above the test, no rival of the leaf exceeds the test, and its beta is not below
 -- the test.
-use Prim.Native.Nat.{ℕ, zero, suc, _≤_, _<_, min}
-use native.Mathlib.Nat.{le-refl, le-trans}
-use native.Mathlib.Omega.{arith}
-use mathlib.Core.Path.{_≡_, refl, sym, _∙_, ap, subst}
-use mathlib.Core.Logic.{_⊎_, inl, inr}
-use mathlib.Core.Bool.{Bool, true, false, cond}
-use mathlib.Core.List.{List, [], _∷_, _++_, append-nil, append-assoc}
-use lib.Dec.{leb, ltb, eqb}
-use lib.ListN.{length}
-use borrow.Author.Tests.{eqb-false, lt-ltb, le-leb, eq-eqb}
-use Rattle.lists.specs.Lists.{All, among}
+use Rattle.prelude.proofs.{ℕ, zero, suc, _≤_, _<_, min, le-refl, le-trans, arith, _≡_, refl, sym, _∙_, ap, subst, _⊎_}
+use Rattle.prelude.proofs.{inl, inr, Bool, true, false, cond, List, [], _∷_, _++_, append-nil, append-assoc, leb, ltb}
+use Rattle.prelude.proofs.{eqb, length, eqb-false, lt-ltb, le-leb, eq-eqb}
+use Rattle.lists.specs.{All, among}
 use Rattle.gametree.specs.declared.Side.{Side}
 use Rattle.gametree.specs.declared.Side.the-variants.{Max, Min}
-use Rattle.gametree.specs.Tree.{Tree, leaf, inner, Children, last, _then_, least, greatest}
-use Rattle.gametree.specs.Tree.{minimax}
-use Rattle.gametree.specs.Tree.{minimaxChildren, leaves, In, InChildren, EveryLeaf, EveryLeafChildren, Scored}
-use Rattle.gametree.specs.Tree.{ScoredChildren}
-use Rattle.gametree.specs.Tree.{better, Distinct, DistinctChildren, Proper}
-use Rattle.gametree.specs.Bounds.{known, low, high}
-use Rattle.gametree.specs.AlphaBeta.{raise, lower}
-use Rattle.gametree.specs.Mtd.{settles}
-use Rattle.gametree.specs.engine.Memo.{memoMtd}
-use Rattle.gametree.specs.results.ClosedForm.{rival, unrivalled, unrivalledChildren}
-use Rattle.gametree.specs.Tests.{Tested, opened, byBounds, test, testChildren}
-use Rattle.gametree.specs.results.Family.{view, chosenTest, TestSearch, drive, searchBy, afterGuess, falling}
+use Rattle.gametree.specs.{Tree, leaf, inner, Children, last, _then_, least, greatest, minimax, minimaxChildren, leaves}
+use Rattle.gametree.specs.{In, InChildren, EveryLeaf, EveryLeafChildren, Scored, ScoredChildren, better, Distinct}
+use Rattle.gametree.specs.{DistinctChildren, Proper, known, low, high, raise, lower, settles, memoMtd, rival}
+use Rattle.gametree.specs.{unrivalled, unrivalledChildren, Tested, opened, byBounds, test, testChildren, view}
+use Rattle.gametree.specs.{chosenTest, TestSearch, drive, searchBy, afterGuess, falling}
 use Rattle.lists.proofs.Choice.{cond-cases, true-not-false, or-left}
 use Rattle.lists.proofs.Lists.{all-append, all-map, all-zip, all-at, among-left, among-right}
 use Rattle.gametree_theory.proofs.minimax.Bounds.{every-map, every-leaf, ≤high}

@@ -2,26 +2,15 @@
 -- is the root's high, as every test before. Under Min the last phase evaluates nothing, because the bounds show the
 -- first move already: the child that the last answer "below" came from has the root's high, its elder siblings were
 -- found not below that test, and its younger ones were untouched (`InTurn`).
-use Prim.Native.Nat.{ℕ, suc, _≤_, _<_, min}
-use native.Mathlib.Nat.{le-refl, le-trans}
-use native.Mathlib.Omega.{arith}
-use mathlib.Core.Path.{_≡_, refl, sym, _∙_, subst}
-use mathlib.Core.Logic.{_⊎_, inl, inr}
-use mathlib.Core.Bool.{Bool, true, false}
-use mathlib.Core.List.{List, [], _++_, append-nil, append-assoc}
-use borrow.Author.Tests.{lt-ltb, le-ltb, le-leb, lt-leb, not-false}
-use Rattle.lists.specs.Lists.{All, among}
+use Rattle.prelude.proofs.{ℕ, suc, _≤_, _<_, min, le-refl, le-trans, arith, _≡_, refl, sym, _∙_, subst, _⊎_, inl, inr}
+use Rattle.prelude.proofs.{Bool, true, false, List, [], _++_, append-nil, append-assoc, lt-ltb, le-ltb, le-leb, lt-leb}
+use Rattle.prelude.proofs.{not-false}
+use Rattle.lists.specs.{All, among}
 use Rattle.gametree.specs.declared.Side.the-variants.{Max, Min}
-use Rattle.gametree.specs.Tree.{Tree, leaf, inner, Children, last, _then_, least, greatest, minimax}
-use Rattle.gametree.specs.Tree.{minimaxChildren, InChildren, Scored, ScoredChildren, Distinct, DistinctChildren}
-use Rattle.gametree.specs.Tree.{Proper}
-use Rattle.gametree.specs.Bounds.{known, low, high}
-use Rattle.gametree.specs.Mtd.{settles}
-use Rattle.gametree.specs.engine.Memo.{memoMtd}
-use Rattle.gametree.specs.results.ClosedForm.{unrivalled}
-use Rattle.gametree.specs.Tests.{Tested, byBounds, test, testChildren}
-use Rattle.gametree.specs.Mtdf.{lastPhase}
-use Rattle.gametree.specs.results.Family.{searchBy, falling, decideBy}
+use Rattle.gametree.specs.{Tree, leaf, inner, Children, last, _then_, least, greatest, minimax, minimaxChildren}
+use Rattle.gametree.specs.{InChildren, Scored, ScoredChildren, Distinct, DistinctChildren, Proper, known, low, high}
+use Rattle.gametree.specs.{settles, memoMtd, unrivalled, Tested, byBounds, test, testChildren, lastPhase, searchBy}
+use Rattle.gametree.specs.{falling, decideBy}
 use Rattle.lists.proofs.Choice.{cond-cases}
 use Rattle.lists.proofs.Lists.{all-append, all-map, among-left}
 use Rattle.gametree_theory.proofs.minimax.Bounds.{every-leaf, low≤, ≤high, minimax-score}

@@ -1,27 +1,15 @@
 -- After the last phase the bounds show the first root move. It tests the children as a test of the root would, so its
 -- leaves are new and meet Baudet's condition; the bounds confirm the answer of each child up to the move, so they show
 -- the move to have the root's value, and each elder sibling to be worse.
-use Prim.Native.Nat.{ℕ, suc, _≤_, _<_}
-use native.Mathlib.Omega.{arith}
-use mathlib.Core.Path.{_≡_, refl, sym, _∙_, ap, subst}
-use mathlib.Core.Bool.{Bool, true, false, cond}
-use mathlib.Core.List.{List, [], _++_, append-assoc}
-use lib.Dec.{leb, eqb}
-use borrow.Author.Tests.{le-leb, lt-leb, eqb-true, eqb-false, ne-eqb}
-use Rattle.lists.specs.Lists.{among, Once}
+use Rattle.prelude.proofs.{ℕ, suc, _≤_, _<_, arith, _≡_, refl, sym, _∙_, ap, subst, Bool, true, false, cond, List, []}
+use Rattle.prelude.proofs.{_++_, append-assoc, leb, eqb, le-leb, lt-leb, eqb-true, eqb-false, ne-eqb}
+use Rattle.lists.specs.{among, Once}
 use Rattle.gametree.specs.declared.Side.{Side}
 use Rattle.gametree.specs.declared.Side.the-variants.{Max, Min}
-use Rattle.gametree.specs.Tree.{Tree, leaf, inner, Children, last, _then_, least, greatest}
-use Rattle.gametree.specs.Tree.{minimax}
-use Rattle.gametree.specs.Tree.{minimaxChildren, Score, Scored, ScoredChildren}
-use Rattle.gametree.specs.Bounds.{known, low, high, Decided}
-use Rattle.gametree.specs.AlphaBeta.{reached}
-use Rattle.gametree.specs.Mtd.{settles}
-use Rattle.gametree.specs.Certificate.{worst}
-use Rattle.gametree.specs.Move.{rootMove, boundMove}
-use Rattle.gametree.specs.Tests.{Tested, passedOn, test, testChildren}
-use Rattle.gametree.specs.Mtdf.{equalTest, lastPhase, Decision}
-use Rattle.gametree.specs.results.Family.{Strategy, searchBy, decideBy}
+use Rattle.gametree.specs.{Tree, leaf, inner, Children, last, _then_, least, greatest, minimax, minimaxChildren, Score}
+use Rattle.gametree.specs.{Scored, ScoredChildren, known, low, high, Decided, reached, settles, worst, rootMove}
+use Rattle.gametree.specs.{boundMove, Tested, passedOn, test, testChildren, equalTest, lastPhase, Decision, Strategy}
+use Rattle.gametree.specs.{searchBy, decideBy}
 use Rattle.lists.proofs.Choice.{true-not-false}
 use Rattle.lists.proofs.Lists.{all-append, all-map, all-among, among-left}
 use Rattle.gametree_theory.proofs.minimax.Bounds.{low≤, ≤high, minimax-score}

@@ -1,17 +1,9 @@
 -- MTD(f) with the value for its first guess makes at most two tests.
-use Prim.Native.Nat.{ℕ, zero, suc, _≤_, _<_}
-use native.Mathlib.Omega.{arith}
-use mathlib.Core.Path.{_≡_, refl, _∙_}
-use mathlib.Core.Bool.{Bool, true}
-use mathlib.Core.List.{List, [], _∷_, _++_}
-use lib.Dec.{eqb}
-use lib.ListN.{length}
-use borrow.Author.Tests.{eqb-false, eq-eqb, le-leb, lt-leb}
-use Rattle.lists.specs.Lists.{among}
-use Rattle.gametree.specs.Tree.{Tree, minimax, leaves, Scored}
-use Rattle.gametree.specs.Bounds.{low, high}
-use Rattle.gametree.specs.Tests.{test}
-use Rattle.gametree.specs.results.Family.{view, Strategy, chosenTest, TestSearch, drive, searchBy, mtdFrom}
+use Rattle.prelude.proofs.{ℕ, zero, suc, _≤_, _<_, arith, _≡_, refl, _∙_, Bool, true, List, [], _∷_, _++_, eqb, length}
+use Rattle.prelude.proofs.{eqb-false, eq-eqb, le-leb, lt-leb}
+use Rattle.lists.specs.{among}
+use Rattle.gametree.specs.{Tree, minimax, leaves, Scored, low, high, test, view, Strategy, chosenTest, TestSearch}
+use Rattle.gametree.specs.{drive, searchBy, mtdFrom}
 use Rattle.lists.proofs.Choice.{cond-cases}
 use Rattle.lists.proofs.Lists.{among-left}
 use Rattle.gametree_theory.proofs.minimax.Bounds.{low≤, ≤high, low-none, minimax-score}

@@ -1,21 +1,13 @@
 -- The leaves that a test evaluates are new, none stands twice, and each meets Baudet's condition in every window that
 -- holds the test.
-use Prim.Native.Nat.{ℕ, _≤_, _<_}
-use native.Mathlib.Omega.{arith}
-use mathlib.Core.Path.{_≡_, refl, sym, _∙_}
-use mathlib.Core.Bool.{Bool, true, false, cond}
-use mathlib.Core.List.{List, [], _++_}
-use lib.Dec.{leb, ltb, eqb}
-use borrow.Author.Tests.{ltb-false, leb-true, leb-false, lt-ltb, eq-eqb, not-false}
-use Rattle.lists.specs.Lists.{All, among, Once}
+use Rattle.prelude.proofs.{ℕ, _≤_, _<_, arith, _≡_, refl, sym, _∙_, Bool, true, false, cond, List, [], _++_, leb, ltb}
+use Rattle.prelude.proofs.{eqb, ltb-false, leb-true, leb-false, lt-ltb, eq-eqb, not-false}
+use Rattle.lists.specs.{All, among, Once}
 use Rattle.gametree.specs.declared.Side.{Side}
 use Rattle.gametree.specs.declared.Side.the-variants.{Max, Min}
-use Rattle.gametree.specs.Tree.{Tree, leaf, inner, Children, last, _then_, least, greatest}
-use Rattle.gametree.specs.Tree.{minimax}
-use Rattle.gametree.specs.Tree.{Scored, ScoredChildren}
-use Rattle.gametree.specs.AlphaBeta.{raise, lower, reached, reachedChildren}
-use Rattle.gametree.specs.Mtd.{settles}
-use Rattle.gametree.specs.Tests.{Tested, opened, byBounds, test, testChildren}
+use Rattle.gametree.specs.{Tree, leaf, inner, Children, last, _then_, least, greatest, minimax, Scored, ScoredChildren}
+use Rattle.gametree.specs.{raise, lower, reached, reachedChildren, settles, Tested, opened, byBounds, test}
+use Rattle.gametree.specs.{testChildren}
 use Rattle.lists.proofs.Choice.{cond-cases, true-not-false, or-left, or-false-both}
 use Rattle.lists.proofs.Lists.{all-append, all-map, all-among, among-append, among-left, among-right, once-append}
 use Rattle.gametree_theory.proofs.results.Domination.{Reaches, ReachesChildren}

@@ -1,20 +1,12 @@
 -- A test, a run of tests and the last phase depend only on the scores of the leaves evaluated.
-use Prim.Native.Nat.{ℕ, zero, suc}
-use mathlib.Core.Path.{_≡_, refl, _∙_, ap, ap₂}
-use mathlib.Core.Bool.{Bool, true, false, cond}
-use mathlib.Core.List.{List, [], _∷_, _++_}
-use lib.Dec.{leb, ltb, eqb}
-use lib.ListN.{length}
-use Rattle.lists.specs.Lists.{All, among}
+use Rattle.prelude.proofs.{ℕ, zero, suc, _≡_, refl, _∙_, ap, ap₂, Bool, true, false, cond, List, [], _∷_, _++_, leb}
+use Rattle.prelude.proofs.{ltb, eqb, length}
+use Rattle.lists.specs.{All, among}
 use Rattle.gametree.specs.declared.Side.{Side}
-use Rattle.gametree.specs.Tree.{Tree, leaf, inner, Children, last, _then_, least, greatest, minimax}
-use Rattle.gametree.specs.Tree.{leaves}
-use Rattle.gametree.specs.Bounds.{low, high}
-use Rattle.gametree.specs.Mtd.{settles}
-use Rattle.gametree.specs.Tests.{Tested, opened, passedOn, byBounds, test, testChildren}
-use Rattle.gametree.specs.Mtdf.{equalTest, lastPhase, Decision}
-use Rattle.gametree.specs.results.Family.{View, view, Strategy, chosenTest, TestSearch, met, tested, drive, searchBy}
-use Rattle.gametree.specs.results.Family.{decideBy}
+use Rattle.gametree.specs.{Tree, leaf, inner, Children, last, _then_, least, greatest, minimax, leaves, low, high}
+use Rattle.gametree.specs.{settles, Tested, opened, passedOn, byBounds, test, testChildren, equalTest, lastPhase}
+use Rattle.gametree.specs.{Decision, View, view, Strategy, chosenTest, TestSearch, met, tested, drive, searchBy}
+use Rattle.gametree.specs.{decideBy}
 use Rattle.lists.proofs.Choice.{cond-cases}
 use Rattle.lists.proofs.Lists.{all-append, all-left, all-right}
 use Rattle.gametree_theory.proofs.minimax.Bounds.{known-local}

@@ -1,18 +1,9 @@
 -- MTD(f) is the search by the strategy `mtdFrom f`, with the last phase.
-use Prim.Native.Nat.{ℕ, zero, suc, _+_}
-use native.Mathlib.Omega.{arith}
-use mathlib.Core.Path.{_≡_, refl, _∙_, ap}
-use mathlib.Core.Bool.{Bool, true, false, cond}
-use mathlib.Core.List.{List, [], _∷_, _++_}
-use lib.Dec.{eqb}
-use lib.ListN.{length}
-use Rattle.lists.specs.Lists.{among}
-use Rattle.gametree.specs.Tree.{Tree, leaves}
-use Rattle.gametree.specs.Bounds.{low, high}
-use Rattle.gametree.specs.Tests.{test}
-use Rattle.gametree.specs.Mtdf.{lastPhase, Decision, concluded, testsFrom, mtdf}
-use Rattle.gametree.specs.results.Family.{view, chosenTest, TestSearch, met, tested, drive, searchBy, afterGuess}
-use Rattle.gametree.specs.results.Family.{mtdFrom, decideBy}
+use Rattle.prelude.proofs.{ℕ, zero, suc, _+_, arith, _≡_, refl, _∙_, ap, Bool, true, false, cond, List, [], _∷_, _++_}
+use Rattle.prelude.proofs.{eqb, length}
+use Rattle.lists.specs.{among}
+use Rattle.gametree.specs.{Tree, leaves, low, high, test, lastPhase, Decision, concluded, testsFrom, mtdf, view}
+use Rattle.gametree.specs.{chosenTest, TestSearch, met, tested, drive, searchBy, afterGuess, mtdFrom, decideBy}
 
 -- the run q with the last phase, and k tests in all
 abbrev ended : (ℕ → ℕ) → Tree → TestSearch → ℕ → Decision

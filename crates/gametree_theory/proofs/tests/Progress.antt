@@ -1,22 +1,12 @@
 -- After a test the bounds of the node, by the leaves evaluated by then, are on the answer's side of the test: so the
 -- root's bounds come closer with each test.
-use Prim.Native.Nat.{ℕ, _≤_, _<_}
-use native.Mathlib.Nat.{le-trans, lt-of-le-of-lt}
-use native.Mathlib.Omega.{arith}
-use mathlib.Core.Path.{_≡_, refl}
-use mathlib.Core.Bool.{Bool, true, false}
-use mathlib.Core.List.{List, [], _∷_, _++_, append-nil, append-assoc}
-use lib.Dec.{leb, ltb}
-use borrow.Author.Tests.{ltb-true, leb-true, leb-false}
-use Rattle.lists.specs.Lists.{among}
+use Rattle.prelude.proofs.{ℕ, _≤_, _<_, le-trans, lt-of-le-of-lt, arith, _≡_, refl, Bool, true, false, List, [], _∷_}
+use Rattle.prelude.proofs.{_++_, append-nil, append-assoc, leb, ltb, ltb-true, leb-true, leb-false}
+use Rattle.lists.specs.{among}
 use Rattle.gametree.specs.declared.Side.{Side}
 use Rattle.gametree.specs.declared.Side.the-variants.{Max, Min}
-use Rattle.gametree.specs.Tree.{Tree, leaf, inner, Children, last, _then_, least, greatest}
-use Rattle.gametree.specs.Tree.{better}
-use Rattle.gametree.specs.Tree.{minimaxChildren, Scored, ScoredChildren}
-use Rattle.gametree.specs.Bounds.{known, low, high}
-use Rattle.gametree.specs.Mtd.{settles}
-use Rattle.gametree.specs.Tests.{Tested, byBounds, test, testChildren}
+use Rattle.gametree.specs.{Tree, leaf, inner, Children, last, _then_, least, greatest, better, minimaxChildren, Scored}
+use Rattle.gametree.specs.{ScoredChildren, known, low, high, settles, Tested, byBounds, test, testChildren}
 use Rattle.lists.proofs.Choice.{cond-cases, true-not-false}
 use Rattle.lists.proofs.Lists.{all-among, among-left, among-right}
 use Rattle.gametree_theory.proofs.minimax.Closer.{low-rises, high-falls}

@@ -1,19 +1,10 @@
 -- A run of tests by any strategy ends with the minimax value, evaluates no leaf twice, and only leaves that meet
 -- Baudet's condition; each of its tests evaluates a leaf.
-use Prim.Native.Nat.{ℕ, zero, suc, _+_, _≤_, _<_}
-use native.Mathlib.Omega.{arith}
-use mathlib.Core.Path.{_≡_}
-use mathlib.Core.Bool.{Bool, true, false}
-use mathlib.Core.List.{List, [], _∷_, _++_, append-nil}
-use lib.Dec.{eqb}
-use lib.ListN.{length, length-append}
-use borrow.Author.Tests.{eqb-true, eqb-false}
-use Rattle.lists.specs.Lists.{All, among, Once}
-use Rattle.gametree.specs.Tree.{Tree, least, greatest, minimax, leaves, Scored}
-use Rattle.gametree.specs.Bounds.{low, high, Decided}
-use Rattle.gametree.specs.AlphaBeta.{reached}
-use Rattle.gametree.specs.Tests.{test}
-use Rattle.gametree.specs.results.Family.{view, Strategy, chosenTest, TestSearch, drive, searchBy}
+use Rattle.prelude.proofs.{ℕ, zero, suc, _+_, _≤_, _<_, arith, _≡_, Bool, true, false, List, [], _∷_, _++_, append-nil}
+use Rattle.prelude.proofs.{eqb, length, length-append, eqb-true, eqb-false}
+use Rattle.lists.specs.{All, among, Once}
+use Rattle.gametree.specs.{Tree, least, greatest, minimax, leaves, Scored, low, high, Decided, reached, test, view}
+use Rattle.gametree.specs.{Strategy, chosenTest, TestSearch, drive, searchBy}
 use Rattle.lists.proofs.Choice.{cond-cases}
 use Rattle.lists.proofs.Lists.{all-append, all-map, all-among, all-at, once-length, sub-all}
 use Rattle.gametree_theory.proofs.minimax.Bounds.{low≤, ≤high}

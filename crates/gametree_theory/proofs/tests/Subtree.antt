@@ -1,20 +1,10 @@
 -- A test and the subtrees: it evaluates leaves of its own tree, and those of other trees are no news to it. What holds
 -- of each leaf.
-use Prim.Native.Nat.{ℕ}
-use native.Mathlib.Omega.{arith}
-use mathlib.Core.Path.{_≡_, refl, _∙_, ap}
-use mathlib.Core.Logic.{inl, inr}
-use mathlib.Core.Bool.{Bool, false, _||_, or-false}
-use mathlib.Core.List.{List, _++_}
-use lib.Dec.{leb}
-use Rattle.lists.specs.Lists.{All, among}
+use Rattle.prelude.proofs.{ℕ, arith, _≡_, refl, _∙_, ap, inl, inr, Bool, false, _||_, or-false, List, _++_, leb}
+use Rattle.lists.specs.{All, among}
 use Rattle.gametree.specs.declared.Side.{Side}
-use Rattle.gametree.specs.Tree.{Tree, leaf, inner, Children, last, _then_, minimax, leaves, leavesChildren}
-use Rattle.gametree.specs.Tree.{In}
-use Rattle.gametree.specs.Tree.{InChildren, EveryLeaf, EveryLeafChildren}
-use Rattle.gametree.specs.Bounds.{known}
-use Rattle.gametree.specs.Mtd.{settles}
-use Rattle.gametree.specs.Tests.{Tested, opened, test, testChildren}
+use Rattle.gametree.specs.{Tree, leaf, inner, Children, last, _then_, minimax, leaves, leavesChildren, In, InChildren}
+use Rattle.gametree.specs.{EveryLeaf, EveryLeafChildren, known, settles, Tested, opened, test, testChildren}
 use Rattle.lists.proofs.Choice.{cond-cases}
 use Rattle.lists.proofs.Lists.{all-append, all-map, among-append, among-out}
 use Rattle.gametree_theory.proofs.minimax.Bounds.{every-map, minimax-within}

@@ -1,7 +1,5 @@
 -- `graft::count_of` meets its contract: a source is a node of the first table, or of the second.
-use native.Mathlib.Omega.{arith}
-use mathlib.Core.Path.{_∙_}
-use borrow.Author.Needs.{needs}
+use Rattle.prelude.proofs.{arith, _∙_, needs}
 use Rattle.graft.proofs.Joined.{count-first, count-second}
 use Rattle.graft.proofs.count_of.Statement.{statement}
 use Rattle.graft.proofs.count_of.Tie as tie

@@ -1,9 +1,6 @@
 -- `graft::first_of` meets its contract: a source is a node of the first table, or of the second, whose sources begin
 -- behind the first's.
-use native.Mathlib.Omega.{arith}
-use mathlib.Core.Path.{ap, _∙_}
-use Prim.Native.Nat.{_+_}
-use borrow.Author.Needs.{needs}
+use Rattle.prelude.proofs.{arith, ap, _∙_, _+_, needs}
 use Rattle.graft.proofs.Joined.{first-first, first-second}
 use Rattle.graft.proofs.first_of.Statement.{statement}
 use Rattle.graft.proofs.first_of.Tie as tie

@@ -1,7 +1,5 @@
 -- `graft::graft` meets its contract: the questions are answered, and then the result is written or nothing is done.
-use native.Mathlib.Omega.{arith}
-use mathlib.Core.Path.{ap, _∙_}
-use borrow.Author.Needs.{needs}
+use Rattle.prelude.proofs.{arith, ap, _∙_, needs}
 use Rattle.graft.proofs.Outcomes.{nodes-graftable, graft-written, graft-rejected}
 use Rattle.graft.proofs.graft.Statement.{statement}
 use Rattle.graft.proofs.graft.Tie as tie

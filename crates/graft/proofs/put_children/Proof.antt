@@ -1,11 +1,6 @@
 -- `graft::put_children` meets its contract: each turn queues one source more.
-use Prim.Native.Nat.{_≤_, _+_, _-_}
-use native.Mathlib.Omega.{arith}
-use mathlib.Core.Path.{_≡_}
-use mathlib.Core.Bool.{cond}
-use lib.Dec.{eqb}
-use borrow.Author.Needs.{needs}
-use Rattle.graft.specs.engine.Queue.{Queued}
+use Rattle.prelude.proofs.{_≤_, _+_, _-_, arith, _≡_, cond, eqb, needs}
+use Rattle.graft.specs.{Queued}
 use Rattle.graft.proofs.Queue.{queued-none, queued-more}
 use Rattle.graft.proofs.put_children.Statement.{statement}
 use Rattle.graft.proofs.put_children.Tie as tie

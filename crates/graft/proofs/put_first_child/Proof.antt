@@ -1,8 +1,5 @@
 -- `graft::put_first_child` meets its contract: the two stores are those of `sets`.
-use native.Mathlib.Omega.{arith}
-use native.Mathlib.Numerals.{towards-suc}
-use lib.ListN.{length-set}
-use borrow.Author.Needs.{needs}
+use Rattle.prelude.proofs.{arith, towards-suc, length-set, needs}
 use Rattle.graft.proofs.put_first_child.Statement.{statement}
 use Rattle.graft.proofs.put_first_child.Tie as tie
 

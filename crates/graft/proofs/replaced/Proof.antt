@@ -1,8 +1,5 @@
 -- `graft::replaced` meets its contract: one case for each of its returns.
-use native.Mathlib.Omega.{arith}
-use mathlib.Core.Path.{sym, ap}
-use mathlib.Core.Bool.{cond}
-use borrow.Author.Tests.{eq-eqb, ne-eqb}
+use Rattle.prelude.proofs.{arith, sym, ap, cond, eq-eqb, ne-eqb}
 use Rattle.graft.proofs.replaced.Statement.{statement}
 use Rattle.graft.proofs.replaced.Tie as tie
 

@@ -1,15 +1,9 @@
 -- `graft::write_frames` meets its contract: each turn lays one frame and queues its children's sources.
-use Prim.Native.Nat.{_+_, _≤_, _<_, _-_}
-use native.Mathlib.Omega.{arith}
-use mathlib.Core.Path.{_≡_, ap, _∙_}
-use mathlib.Core.Bool.{cond}
-use lib.ListN.{length, length-set}
-use lib.Dec.{eqb}
-use borrow.Author.Needs.{needs}
-use Rattle.frames.specs.Frame.{maxNodes, frames}
+use Rattle.prelude.proofs.{_+_, _≤_, _<_, _-_, arith, _≡_, ap, _∙_, cond, length, length-set, eqb, needs}
+use Rattle.frames.specs.{maxNodes, frames}
 use Rattle.frames.proofs.Acceptance.{accepted-formed}
-use Rattle.graft_questions.specs.Questions.{graftSize}
-use Rattle.graft.specs.engine.Joined.{Joined}
+use Rattle.graft_questions.specs.{graftSize}
+use Rattle.graft.specs.{Joined}
 use Rattle.graft.proofs.Sources.{fitting, graft-some}
 use Rattle.graft.proofs.Writing.{Writing, writing-begins, writing-joined, writing-within, writing-fits}
 use Rattle.graft.proofs.Writing.{writing-step, writing-ends}

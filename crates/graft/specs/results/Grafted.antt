@@ -2,7 +2,7 @@
 use Prim.Native.Nat.{ℕ, _+_, _*_}
 use mathlib.Core.List.{List}
 use lib.ListN.{take}
-use Rattle.gametree.specs.Tree.{Tree, minimax}
+use Rattle.gametree.specs.Trees.{Tree, minimax}
 use Rattle.gametree.specs.Graft.{grafted, relabelled, substituted}
 use Rattle.frames.specs.Frame.{frameSize, frames, storedScore}
 use Rattle.frames.specs.Position.{depthOf}

@@ -1,20 +1,11 @@
 -- `graft_questions::ask_leaf` meets its contract: one law for each of its returns.
-use Prim.Native.Nat.{ℕ, _+_, _-_, _<_}
-use native.Mathlib.Omega.{arith}
-use mathlib.Core.Path.{_≡_, sym, ap, _∙_}
-use mathlib.Core.Bool.{true, _&&_}
-use mathlib.Core.Option.{none}
-use mathlib.Core.List.{List}
-use lib.Dec.{ltb, eqb}
-use borrow.Author.Tests.{not-true, not-false}
-use borrow.Author.Needs.{needs}
+use Rattle.prelude.proofs.{ℕ, _+_, _-_, _<_, arith, _≡_, sym, ap, _∙_, true, _&&_, none, List, ltb, eqb, not-true}
+use Rattle.prelude.proofs.{not-false, needs}
 use Rattle.gametree.specs.declared.Side.the-variants.{Max}
-use Rattle.gametree.specs.Certificate.{same}
-use Rattle.frames.specs.Frame.{frames, childCount}
-use Rattle.frames.specs.Position.{depthOf}
-use Rattle.frames.specs.Rejection.{answer}
+use Rattle.gametree.specs.{same}
+use Rattle.frames.specs.{frames, childCount, depthOf, answer}
 use Rattle.frames.proofs.Positions.{depth-at-most}
-use Rattle.graft_questions.specs.Questions.{graftSize, isMaxLeaf, deepest}
+use Rattle.graft_questions.specs.{graftSize, isMaxLeaf, deepest}
 use Rattle.graft_questions.proofs.Questions.{not-leaf, leaf-side, leaf-inside, no-leaf, too-many, too-deep}
 use Rattle.graft_questions.proofs.Questions.{too-short, all-right}
 use Rattle.graft_questions.proofs.ask_leaf.Statement.{statement}

@@ -1,10 +1,6 @@
 -- `graft_questions::height` meets its contract: the last node is the deepest.
-use Prim.Native.Nat.{_-_}
-use native.Mathlib.Omega.{arith}
-use mathlib.Core.Path.{ap, _∙_}
-use borrow.Author.Needs.{needs}
-use Rattle.frames.specs.Frame.{frames}
-use Rattle.frames.specs.Position.{depthOf}
+use Rattle.prelude.proofs.{_-_, arith, ap, _∙_, needs}
+use Rattle.frames.specs.{frames, depthOf}
 use Rattle.frames.proofs.Positions.{depth-at-most}
 use Rattle.graft_questions.proofs.Heights.{last-deepest}
 use Rattle.graft_questions.proofs.height.Statement.{statement}

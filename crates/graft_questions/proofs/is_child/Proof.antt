@@ -1,9 +1,6 @@
 -- `graft_questions::is_child` meets its contract: one case for each of its returns.
-use native.Mathlib.Omega.{arith}
-use mathlib.Core.Path.{sym}
-use borrow.Author.Tests.{le-leb}
-use borrow.Author.Needs.{needs}
-use Rattle.frames.specs.Frame.{firstChild}
+use Rattle.prelude.proofs.{arith, sym, le-leb, needs}
+use Rattle.frames.specs.{firstChild}
 use Rattle.frames.proofs.Parents.{no-child-test}
 use Rattle.graft_questions.proofs.is_child.Statement.{statement}
 use Rattle.graft_questions.proofs.is_child.Tie as tie

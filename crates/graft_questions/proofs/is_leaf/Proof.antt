@@ -1,8 +1,6 @@
 -- `graft_questions::is_leaf` meets its contract: one case for each of its returns.
-use native.Mathlib.Omega.{arith}
-use borrow.Author.Tests.{le-ltb, lt-ltb}
-use borrow.Author.Needs.{needs}
-use Rattle.frames.specs.Frame.{frames}
+use Rattle.prelude.proofs.{arith, le-ltb, lt-ltb, needs}
+use Rattle.frames.specs.{frames}
 use Rattle.graft_questions.proofs.is_leaf.Statement.{statement}
 use Rattle.graft_questions.proofs.is_leaf.Tie as tie
 

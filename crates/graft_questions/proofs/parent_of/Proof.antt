@@ -1,10 +1,6 @@
 -- `graft_questions::parent_of` meets its contract: the parent is never after the candidate.
-use Prim.Native.Nat.{_≤_, _<_}
-use native.Mathlib.Omega.{arith}
-use mathlib.Core.Path.{sym, _∙_}
-use borrow.Author.Tests.{not-true, not-false}
-use borrow.Author.Needs.{needs}
-use Rattle.frames.specs.Position.{parentOf}
+use Rattle.prelude.proofs.{_≤_, _<_, arith, sym, _∙_, not-true, not-false, needs}
+use Rattle.frames.specs.{parentOf}
 use Rattle.frames.proofs.Parents.{parent-less}
 use Rattle.graft_questions.proofs.Ascent.{parent-found, parent-earlier}
 use Rattle.graft_questions.proofs.parent_of.Statement.{statement}

@@ -1,9 +1,5 @@
 -- `input::read_all` meets its contract: the bytes read so far fit. The measure is the room that is left.
-use Prim.Native.Nat.{_≤_, _-_}
-use mathlib.Core.Path.{_≡_}
-use native.Mathlib.Omega.{arith}
-use borrow.Author.Needs.{needs}
-use lib.ListN.{length}
+use Rattle.prelude.proofs.{_≤_, _-_, _≡_, arith, needs, length}
 use Rattle.input.proofs.Reading.{fits}
 use Rattle.input.proofs.read_all.Statement.{statement}
 use Rattle.input.proofs.read_all.Tie as tie

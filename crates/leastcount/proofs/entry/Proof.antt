@@ -1,6 +1,5 @@
 -- `entry` meets its contract: what holds of the whole table is carried to the entry.
-use native.Mathlib.Omega.{arith}
-use borrow.Author.Needs.{needs}
+use Rattle.prelude.proofs.{arith, needs}
 use Rattle.leastcount.proofs.Carried.{carried}
 use Rattle.leastcount.proofs.entry.Statement.{statement}
 use Rattle.leastcount.proofs.entry.Tie as tie

@@ -1,17 +1,10 @@
 -- `least_leaves` meets its contract: one law for each of its returns.
-use Prim.Native.Nat.{ℕ, _≤_, _<_}
-use native.Mathlib.Omega.{arith}
-use mathlib.Core.Path.{sym, ap, ap₂, _∙_}
-use mathlib.Core.Option.{Option}
-use mathlib.Core.Logic.{inl, inr, ⊎-elim}
-use borrow.Author.Tests.{ltb-true, ltb-false}
-use borrow.Author.Needs.{needs}
+use Rattle.prelude.proofs.{ℕ, _≤_, _<_, arith, sym, ap, ap₂, _∙_, Option, inl, inr, ⊎-elim, ltb-true, ltb-false, needs}
 use Rattle.frames.specs.declared.Rejection.{Rejection}
-use Rattle.frames.specs.Frame.{maxChildren}
-use Rattle.frames.specs.Rejection.{unless}
+use Rattle.frames.specs.{maxChildren, unless}
 use Rattle.leastcount.specs.declared.Least.{Least}
 use Rattle.leastcount.specs.declared.Least.the-variants.{Leaves, Rejected}
-use Rattle.leastcount.specs.Rule.{leastCount}
+use Rattle.leastcount.specs.{leastCount}
 use Rattle.leastcount.proofs.Questions.{wrong-width, wrong-depth, inside-table}
 use Rattle.leastcount.proofs.least_leaves.Statement.{statement}
 use Rattle.leastcount.proofs.least_leaves.Tie as tie

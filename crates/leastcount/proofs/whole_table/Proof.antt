@@ -1,6 +1,6 @@
 -- `whole_table` meets its contract: the rule makes all 760 entries, and they are compared in one computation.
-use mathlib.Core.Path.{refl}
-use Rattle.leastcount.specs.engine.Ruled.{ruled}
+use Rattle.prelude.proofs.{refl}
+use Rattle.leastcount.specs.{ruled}
 use Rattle.leastcount.proofs.whole_table.Statement.{statement}
 use Rattle.leastcount.proofs.whole_table.Tie as tie
 

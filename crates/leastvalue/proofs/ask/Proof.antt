@@ -1,18 +1,9 @@
 -- `leastvalue::ask` meets its contract: one law for each of its returns.
-use native.Mathlib.Omega.{arith}
-use mathlib.Core.Path.{_≡_, sym, ap, _∙_}
-use mathlib.Core.Bool.{true}
-use lib.Dec.{leb}
-use lib.IntN.{natAbs}
-use mir.Syntax.{w16, w32}
-use mir.Val.{toZ, ofZ}
-use mir.ValLaws.{toZ-ofZ}
-use borrow.Author.Tests.{not-true, not-false, leb-true}
-use borrow.Author.Needs.{needs}
-use Rattle.frames.specs.Value.{scoreOf, maxValue}
+use Rattle.prelude.proofs.{arith, _≡_, sym, ap, _∙_, true, leb, natAbs, w16, w32, toZ, ofZ, toZ-ofZ, not-true}
+use Rattle.prelude.proofs.{not-false, leb-true, needs}
+use Rattle.frames.specs.{scoreOf, maxValue}
 use Rattle.leastvalue.specs.declared.LeastValue.the-variants.{Value}
-use Rattle.leastvalue.specs.LeastValue.{isLeaf, smallest, answerFor}
-use Rattle.leastvalue.specs.engine.Candidates.{held}
+use Rattle.leastvalue.specs.{isLeaf, smallest, answerFor, held}
 use Rattle.leastvalue.proofs.Values.{score-range}
 use Rattle.leastvalue.proofs.Questions.{due, no-leaf, out-of-range, in-range, found-none, found-value}
 use Rattle.leastvalue.proofs.ask.Statement.{statement}

@@ -1,13 +1,7 @@
 -- `leastvalue::candidate` meets its contract: one case for each of its returns.
-use Prim.Native.Nat.{_+_, _-_}
-use mathlib.Core.Path.{_≡_, sym, _∙_}
-use mathlib.Core.Logic.{⊎-elim}
-use mathlib.Core.Bool.{false, cond, _&&_}
-use lib.Dec.{ltb}
-use borrow.Author.Tests.{lt-ltb, le-ltb}
-use borrow.Author.Needs.{needs}
-use Rattle.gametree.specs.Tree.{least, greatest}
-use Rattle.leastvalue.specs.engine.Candidates.{firstScore, reaches, candidate}
+use Rattle.prelude.proofs.{_+_, _-_, _≡_, sym, _∙_, ⊎-elim, false, cond, _&&_, ltb, lt-ltb, le-ltb, needs}
+use Rattle.gametree.specs.{least, greatest}
+use Rattle.leastvalue.specs.{firstScore, reaches, candidate}
 use Rattle.leastvalue.proofs.candidate.Statement.{statement}
 use Rattle.leastvalue.proofs.candidate.Tie as tie
 

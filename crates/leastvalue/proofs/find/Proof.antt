@@ -1,8 +1,6 @@
 -- `leastvalue::find` meets its contract: a table has at most as many nodes as the arrays have entries.
-use native.Mathlib.Omega.{arith}
-use lib.ListN.{getD-replicate}
-use borrow.Author.Needs.{needs}
-use Rattle.frames.specs.Frame.{maxNodes}
+use Rattle.prelude.proofs.{arith, getD-replicate, needs}
+use Rattle.frames.specs.{maxNodes}
 use Rattle.frames.proofs.Acceptance.{accepted-formed}
 use Rattle.leastvalue.proofs.find.Statement.{statement}
 use Rattle.leastvalue.proofs.find.Tie as tie

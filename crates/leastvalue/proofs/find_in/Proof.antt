@@ -1,17 +1,9 @@
 -- `leastvalue::find_in` meets its contract: the root's bounds where the leaf alone is unknown give the smallest score.
-use Prim.Native.Nat.{ℕ, _<_}
-use native.Mathlib.Omega.{arith}
-use mathlib.Core.Path.{_≡_, ap, _∙_}
-use mathlib.Core.List.{List}
-use lib.ListN.{length, getD, length-set}
-use borrow.Author.Needs.{needs}
-use Rattle.gametree.specs.Tree.{least, greatest}
-use Rattle.frames.specs.Frame.{frames}
-use Rattle.frames.specs.Position.{depthOf}
-use Rattle.frames.specs.Formed.{WellFormed}
+use Rattle.prelude.proofs.{ℕ, _<_, arith, _≡_, ap, _∙_, List, length, getD, length-set, needs}
+use Rattle.gametree.specs.{least, greatest}
+use Rattle.frames.specs.{frames, depthOf, WellFormed}
 use Rattle.frames.proofs.Acceptance.{accepted-formed}
-use Rattle.positions.specs.Buffer.{written}
-use Rattle.positions.specs.engine.Positions.{Positioned}
+use Rattle.positions.specs.{written, Positioned}
 use Rattle.positions.proofs.Buffers.{written-at}
 use Rattle.positions.proofs.Positions.{positioned, positioned-depth}
 use Rattle.leastvalue.proofs.Bounds.{leaf-is, leaf-shallow, root-bound, found-smallest}

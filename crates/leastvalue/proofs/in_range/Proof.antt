@@ -1,7 +1,5 @@
 -- `leastvalue::in_range` meets its contract: above the range, or not, and then not below.
-use mir.Syntax.{w32}
-use mir.ValLaws.{toZ-ofZ}
-use borrow.Author.Needs.{needs}
+use Rattle.prelude.proofs.{w32, toZ-ofZ, needs}
 use Rattle.leastvalue.proofs.Values.{above-range, not-above}
 use Rattle.leastvalue.proofs.in_range.Statement.{statement}
 use Rattle.leastvalue.proofs.in_range.Tie as tie

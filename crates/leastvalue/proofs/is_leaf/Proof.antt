@@ -1,8 +1,5 @@
 -- `leastvalue::is_leaf` meets its contract: one case for each of its returns.
-use native.Mathlib.Omega.{arith}
-use mathlib.Core.Path.{ap, _∙_}
-use lib.Dec.{eqb}
-use borrow.Author.Needs.{needs}
+use Rattle.prelude.proofs.{arith, ap, _∙_, eqb, needs}
 use Rattle.leastvalue.proofs.Questions.{not-inside, childless}
 use Rattle.leastvalue.proofs.is_leaf.Statement.{statement}
 use Rattle.leastvalue.proofs.is_leaf.Tie as tie

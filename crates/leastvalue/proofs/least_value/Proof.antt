@@ -1,9 +1,6 @@
 -- `leastvalue::least_value` meets its contract: a rejected table settles the answer, an accepted one leaves it to 19 to
 -- 21.
-use mathlib.Core.Path.{sym, _∙_}
-use mir.Syntax.{w32}
-use mir.ValLaws.{toZ-ofZ}
-use borrow.Author.Needs.{needs}
+use Rattle.prelude.proofs.{sym, _∙_, w32, toZ-ofZ, needs}
 use Rattle.frames.proofs.Acceptance.{nodes-accepted, rejected-first}
 use Rattle.leastvalue.proofs.Questions.{table-refused, table-accepted}
 use Rattle.leastvalue.proofs.least_value.Statement.{statement}

@@ -1,8 +1,5 @@
 -- `leastvalue::reaches` meets its contract: what the leaf counts, brought between the bounds.
-use mathlib.Core.Path.{ap, _∙_}
-use lib.Dec.{eqb}
-use Prim.Native.Nat.{max, min}
-use borrow.Author.Needs.{needs}
+use Rattle.prelude.proofs.{ap, _∙_, eqb, max, min, needs}
 use Rattle.leastvalue.proofs.reaches.Statement.{statement}
 use Rattle.leastvalue.proofs.reaches.Tie as tie
 

@@ -4,7 +4,7 @@ use Prim.Native.Nat.{ℕ, zero, suc, _+_, _-_}
 use mathlib.Core.Bool.{Bool, cond, _&&_}
 use mathlib.Core.Option.{Option, none, some}
 use lib.Dec.{ltb, eqb}
-use Rattle.gametree.specs.Tree.{least, greatest}
+use Rattle.gametree.specs.Trees.{least, greatest}
 use Rattle.gametree.specs.AlphaBeta.{clamp}
 use Rattle.frames.specs.Tree.{leafScore}
 

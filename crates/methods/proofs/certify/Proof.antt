@@ -1,6 +1,5 @@
 -- `methods::certify` meets its contract: with a value, what `write_certificate_at` writes; else nothing.
-use mathlib.Core.Path.{refl}
-use borrow.Author.Needs.{needs}
+use Rattle.prelude.proofs.{refl, needs}
 use Rattle.methods.proofs.certify.Statement.{statement}
 use Rattle.methods.proofs.certify.Tie as tie
 

@@ -1,14 +1,9 @@
 -- `run_passes` gives what MTD gives. The measure is the test, which falls with each pass.
-use Prim.Native.Nat.{_+_, _-_, _≤_}
-use native.Mathlib.Omega.{arith}
-use mathlib.Core.Path.{_≡_, _∙_}
-use lib.ListN.{length}
-use borrow.Author.Needs.{needs}
-use Rattle.gametree.specs.Mtd.{mtd}
-use Rattle.frames.specs.Frame.{childCount, next}
-use Rattle.frames.specs.Tree.{tree, valuation}
+use Rattle.prelude.proofs.{_+_, _-_, _≤_, arith, _≡_, _∙_, length, needs}
+use Rattle.gametree.specs.{mtd}
+use Rattle.frames.specs.{childCount, next, tree, valuation}
 use Rattle.frames.proofs.Next.{next-within}
-use Rattle.mtd_memory.specs.engine.Memory.{Memory, memory}
+use Rattle.mtd_memory.specs.{Memory, memory}
 use Rattle.mtd_memory.proofs.Arrays.{Long}
 use Rattle.mtd.proofs.Runs.{Passing, passing-first, passing-ready, passing-last}
 use Rattle.mtd.proofs.Runs.{next-falls, passing-next, move-right}

@@ -1,9 +1,5 @@
 -- `mtd::first_not_below` meets its contract: each node that was passed is below.
-use Prim.Native.Nat.{ℕ, _+_, _-_, _≤_, _<_}
-use native.Mathlib.Omega.{arith}
-use native.Mathlib.Decide.{ℕ-discrete}
-use lib.ListN.{getD}
-use borrow.Author.Needs.{needs}
+use Rattle.prelude.proofs.{ℕ, _+_, _-_, _≤_, _<_, arith, ℕ-discrete, getD, needs}
 use Rattle.mtd_memory.proofs.first_not_below.Statement.{statement}
 use Rattle.mtd_memory.proofs.first_not_below.Tie as tie
 

@@ -1,5 +1,5 @@
 -- `kept_by` meets its contract, by the side.
-use borrow.Author.Needs.{needs}
+use Rattle.prelude.proofs.{needs}
 use Rattle.mtd_memory.proofs.kept_by.Statement.{statement}
 use Rattle.mtd_memory.proofs.kept_by.Tie as tie
 

@@ -1,10 +1,6 @@
 -- `kept_by_max` meets its contract: the leading child was tried alone, or any.
-use native.Mathlib.Omega.{arith}
-use mathlib.Core.Path.{_≡_, refl, _∙_}
-use Prim.Native.Nat.{_+_, _/_}
-use mathlib.Core.Bool.{true, false}
+use Rattle.prelude.proofs.{arith, _≡_, refl, _∙_, _+_, _/_, true, false, needs}
 use Rattle.mtd_memory.proofs.Arrays.{no-leads}
-use borrow.Author.Needs.{needs}
 use Rattle.mtd_memory.proofs.Entries.{keeps-max, alone-best, named-flag}
 use Rattle.mtd_memory.proofs.kept_by_max.Statement.{statement}
 use Rattle.mtd_memory.proofs.kept_by_max.Tie as tie

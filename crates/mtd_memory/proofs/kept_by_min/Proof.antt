@@ -1,10 +1,6 @@
 -- `kept_by_min` meets its contract, by the answer.
-use Prim.Native.Nat.{_+_, _-_}
-use native.Mathlib.Omega.{arith}
-use mathlib.Core.Path.{refl, sym}
-use mathlib.Core.Bool.{true, false}
-use Rattle.mtd_memory.specs.engine.Memory.{FoundBelow}
-use borrow.Author.Needs.{needs}
+use Rattle.prelude.proofs.{_+_, _-_, arith, refl, sym, true, false, needs}
+use Rattle.mtd_memory.specs.{FoundBelow}
 use Rattle.mtd_memory.proofs.Entries.{keeps-min, skip-flag}
 use Rattle.mtd_memory.proofs.kept_by_min.Statement.{statement}
 use Rattle.mtd_memory.proofs.kept_by_min.Tie as tie

@@ -1,10 +1,6 @@
 -- `kept_of_all` meets its contract: by the answer, and by the two best children.
-use native.Mathlib.Omega.{arith}
-use mathlib.Core.Path.{refl, ap, _∙_}
-use mathlib.Core.Bool.{true, false}
-use lib.Dec.{eqb}
+use Rattle.prelude.proofs.{arith, refl, ap, _∙_, true, false, eqb, needs}
 use Rattle.mtd_memory.proofs.Arrays.{no-leads}
-use borrow.Author.Needs.{needs}
 use Rattle.mtd_memory.proofs.Entries.{keeps-max, best-leads, best-flag, best-high, leads-entry}
 use Rattle.mtd_memory.proofs.kept_of_all.Statement.{statement}
 use Rattle.mtd_memory.proofs.kept_of_all.Tie as tie

@@ -1,6 +1,5 @@
 -- `last_tried` meets its contract: by the test whether a child is left.
-use borrow.Author.Needs.{needs}
-use borrow.Author.Tests.{eq-eqb, ne-eqb}
+use Rattle.prelude.proofs.{needs, eq-eqb, ne-eqb}
 use Rattle.mtd_memory.proofs.last_tried.Statement.{statement}
 use Rattle.mtd_memory.proofs.last_tried.Tie as tie
 

@@ -1,6 +1,5 @@
 -- `lead_entry` meets its contract.
-use borrow.Author.Tests.{eq-eqb, ne-eqb}
-use borrow.Author.Needs.{needs}
+use Rattle.prelude.proofs.{eq-eqb, ne-eqb, needs}
 use Rattle.mtd_memory.proofs.lead_entry.Statement.{statement}
 use Rattle.mtd_memory.proofs.lead_entry.Tie as tie
 

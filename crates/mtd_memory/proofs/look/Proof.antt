@@ -1,13 +1,8 @@
 -- `look` meets its contract: a leaf is tried, an inner node is answered by its high or its entry, or is open.
-use Prim.Native.Nat.{ℕ}
-use native.Mathlib.Omega.{arith}
-use mathlib.Core.Path.{_≡_, refl, ap}
-use mathlib.Core.Bool.{true, false}
-use borrow.Author.Needs.{needs}
-use borrow.Author.Tests.{eq-eqb, ne-eqb}
-use Rattle.frames.specs.Frame.{childCount}
+use Rattle.prelude.proofs.{ℕ, arith, _≡_, refl, ap, true, false, needs, eq-eqb, ne-eqb}
+use Rattle.frames.specs.{childCount}
 use Rattle.frames.proofs.Nodes.{in-own}
-use Rattle.mtd_memory.specs.engine.Memory.{Memory, memory}
+use Rattle.mtd_memory.specs.{Memory, memory}
 use Rattle.mtd_memory.proofs.Visits.{looked-answer, ready-shallow, leaf-known, visit-leaf, visit-below}
 use Rattle.mtd_memory.proofs.Visits.{visit-not-below}
 use Rattle.mtd_memory.proofs.look.Statement.{statement}

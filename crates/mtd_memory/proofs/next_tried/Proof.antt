@@ -1,6 +1,5 @@
 -- `mtd::next_tried` meets its contract, by the side: under Min no child is passed over.
-use native.Mathlib.Omega.{arith}
-use borrow.Author.Needs.{needs}
+use Rattle.prelude.proofs.{arith, needs}
 use Rattle.mtd_memory.proofs.next_tried.Statement.{statement}
 use Rattle.mtd_memory.proofs.next_tried.Tie as tie
 

@@ -1,7 +1,6 @@
 -- `remember` meets its contract: what the node keeps is stored.
-use lib.Seq.{getD-set-same}
+use Rattle.prelude.proofs.{getD-set-same, needs}
 use Rattle.mtd_memory.proofs.Arrays.{set-own}
-use borrow.Author.Needs.{needs}
 use Rattle.mtd_memory.proofs.Entries.{keeps-same}
 use Rattle.mtd_memory.proofs.remember.Statement.{statement}
 use Rattle.mtd_memory.proofs.remember.Tie as tie

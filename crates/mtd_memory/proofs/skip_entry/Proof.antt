@@ -1,9 +1,6 @@
 -- `skip_entry` meets its contract.
-use Prim.Native.Nat.{ℕ, zero, suc, _+_}
-use native.Mathlib.Omega.{arith}
-use mathlib.Core.Path.{_≡_, refl}
-use borrow.Author.Needs.{needs}
-use Rattle.mtd_memory.specs.engine.Memory.{skipEntry}
+use Rattle.prelude.proofs.{ℕ, zero, suc, _+_, arith, _≡_, refl, needs}
+use Rattle.mtd_memory.specs.{skipEntry}
 use Rattle.mtd_memory.proofs.skip_entry.Statement.{statement}
 use Rattle.mtd_memory.proofs.skip_entry.Tie as tie
 

@@ -1,8 +1,5 @@
 -- `to_try` meets its contract, by the side.
-use native.Mathlib.Omega.{arith}
-use Prim.Native.Nat.{_+_}
-use mathlib.Core.Path.{ap}
-use borrow.Author.Needs.{needs}
+use Rattle.prelude.proofs.{arith, _+_, ap, needs}
 use Rattle.mtd_memory.proofs.Entries.{skips-to-try}
 use Rattle.mtd_memory.proofs.to_try.Statement.{statement}
 use Rattle.mtd_memory.proofs.to_try.Tie as tie

@@ -1,6 +1,5 @@
 -- `tried_by_max` meets its contract: all children, or the leading one alone.
-use native.Mathlib.Omega.{arith}
-use borrow.Author.Needs.{needs}
+use Rattle.prelude.proofs.{arith, needs}
 use Rattle.mtd_memory.proofs.Entries.{all-to-try, lead-to-try}
 use Rattle.mtd_memory.proofs.tried_by_max.Statement.{statement}
 use Rattle.mtd_memory.proofs.tried_by_max.Tie as tie

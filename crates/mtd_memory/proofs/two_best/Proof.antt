@@ -1,9 +1,6 @@
 -- `two_best` meets its contract: the two best of the children that were looked at.
-use native.Mathlib.Omega.{arith}
-use Prim.Native.Nat.{_-_, _≤_}
-use mathlib.Core.Path.{_≡_}
-use Rattle.mtd_memory.specs.engine.Memory.{Best}
-use borrow.Author.Needs.{needs}
+use Rattle.prelude.proofs.{arith, _-_, _≤_, _≡_, needs}
+use Rattle.mtd_memory.specs.{Best}
 use Rattle.mtd_memory.proofs.Entries.{best-one}
 use Rattle.mtd_memory.proofs.two_best.Statement.{statement}
 use Rattle.mtd_memory.proofs.two_best.Tie as tie

@@ -1,12 +1,7 @@
 -- `visit_leaf` meets its contract: a leaf that is marked already has its score for a high, and any other is evaluated.
-use mathlib.Core.Path.{sym, ap, _∙_}
-use lib.Dec.{leb}
-use lib.ListN.{set}
-use borrow.Author.Needs.{needs}
-use borrow.Author.Tests.{eq-eqb, ne-eqb}
-use Rattle.frames.specs.Frame.{frames}
-use Rattle.certificate_bounds.specs.Marks.{ones}
-use Rattle.certificate_bounds.specs.engine.Evaluable.{Evaluable}
+use Rattle.prelude.proofs.{sym, ap, _∙_, leb, set, needs, eq-eqb, ne-eqb}
+use Rattle.frames.specs.{frames}
+use Rattle.certificate_bounds.specs.{ones, Evaluable}
 use Rattle.certificate_bounds.proofs.Listing.{next-counted}
 use Rattle.mtd_memory.proofs.Arrays.{set-same, leaf-again, leaf-first}
 use Rattle.mtd_memory.proofs.visit_leaf.Statement.{statement}

@@ -1,5 +1,5 @@
 -- `with_child` meets its contract, by the two comparisons.
-use borrow.Author.Needs.{needs}
+use Rattle.prelude.proofs.{needs}
 use Rattle.mtd_memory.proofs.Entries.{best-neither, best-second, best-lead}
 use Rattle.mtd_memory.proofs.with_child.Statement.{statement}
 use Rattle.mtd_memory.proofs.with_child.Tie as tie

@@ -9,7 +9,7 @@ use lib.ListN.{length, getD}
 use Rattle.gametree.specs.declared.Position.{Position}
 use Rattle.gametree.specs.declared.Side.{Side}
 use Rattle.gametree.specs.declared.Side.the-variants.{Max, Min}
-use Rattle.gametree.specs.Tree.{Tree, greatest, In}
+use Rattle.gametree.specs.Trees.{Tree, greatest, In}
 use Rattle.gametree.specs.Bounds.{high}
 use Rattle.gametree.specs.engine.Memo.{Memo, Pass, pass}
 use Rattle.gametree.specs.engine.MemoArrays.{readMemo, Remembered}

@@ -2,7 +2,7 @@
 use Prim.Native.Nat.{ℕ}
 use mathlib.Core.Path.{_≡_}
 use mathlib.Core.List.{List, _++_}
-use Rattle.gametree.specs.Tree.{minimax}
+use Rattle.gametree.specs.Trees.{minimax}
 use Rattle.gametree.specs.Move.{rootMove}
 use Rattle.gametree.specs.Mtdf.{lastPhase}
 use Rattle.frames.specs.Frame.{frames}

@@ -1,17 +1,11 @@
 -- `enter` tests the children of a node, and leaves everything outside its tree as it was. The measure of the recursion
 -- is the number of frames after the node, that of the loop the number of children left.
-use Prim.Native.Nat.{ℕ, _+_, _-_, _<_}
-use native.Mathlib.Omega.{arith}
-use mathlib.Core.Path.{sym, ap, _∙_}
-use mathlib.Core.Logic.{inl, inr}
-use lib.ListN.{length, length-set}
-use borrow.Author.Needs.{needs}
+use Rattle.prelude.proofs.{ℕ, _+_, _-_, _<_, arith, sym, ap, _∙_, inl, inr, length, length-set, needs}
 use borrow.Fn.Kinds.{In}
 use borrow.Fn.PlainCycle.{Measures, is, falls, and}
-use Rattle.frames.specs.Frame.{frames}
-use Rattle.frames.specs.Tree.{treeAt}
+use Rattle.frames.specs.{frames, treeAt}
 use Rattle.frames.proofs.Next.{child-later, child-within}
-use Rattle.mtdf_visits.specs.engine.Memory.{Memory, memory, MemoryRoom, VisitReady, VisitedBy}
+use Rattle.mtdf_visits.specs.{Memory, memory, MemoryRoom, VisitReady, VisitedBy}
 use Rattle.mtdf_visits.proofs.Arrays.{Long, room-kept}
 use Rattle.mtd_memory.proofs.Turns.{Family, family-within}
 use Rattle.mtdf_visits.proofs.Turns.{Turn, turn-first, turn-child, turn-ready}

@@ -1,6 +1,5 @@
 -- `evaluate_leaf` meets its contract: the leaf is evaluated, and its score stored twice.
-use mathlib.Core.Path.{refl}
-use borrow.Author.Needs.{needs}
+use Rattle.prelude.proofs.{refl, needs}
 use Rattle.mtdf_visits.proofs.evaluate_leaf.Statement.{statement}
 use Rattle.mtdf_visits.proofs.evaluate_leaf.Tie as tie
 

@@ -1,12 +1,7 @@
 -- `look` meets its contract: a node is answered by its bounds, or is open, or is a leaf and evaluated.
-use Prim.Native.Nat.{ℕ}
-use native.Mathlib.Omega.{arith}
-use mathlib.Core.Path.{_≡_, refl}
-use mathlib.Core.Bool.{true, false}
-use lib.Dec.{leb}
-use borrow.Author.Needs.{needs}
-use Rattle.frames.specs.Frame.{childCount}
-use Rattle.mtdf_visits.specs.engine.Memory.{Memory, memory}
+use Rattle.prelude.proofs.{ℕ, arith, _≡_, refl, true, false, leb, needs}
+use Rattle.frames.specs.{childCount}
+use Rattle.mtdf_visits.specs.{Memory, memory}
 use Rattle.mtdf_visits.proofs.Visits.{looked-answer, ready-listable, leaf-evaluable, visit-below}
 use Rattle.mtdf_visits.proofs.Visits.{visit-not-below}
 use Rattle.mtdf_visits.proofs.Visits.{visit-leaf}

@@ -1,7 +1,6 @@
 -- `visit` meets its contract: the look answers, or the node is entered.
-use Prim.Native.Nat.{ℕ}
-use borrow.Author.Needs.{needs}
-use Rattle.mtdf_visits.specs.engine.Memory.{Memory, memory}
+use Rattle.prelude.proofs.{ℕ, needs}
+use Rattle.mtdf_visits.specs.{Memory, memory}
 use Rattle.mtdf_visits.proofs.Visits.{looked-visited, open-ready, open-visited}
 use Rattle.mtdf_visits.proofs.visit.Statement.{statement}
 use Rattle.mtdf_visits.proofs.visit.Tie as tie

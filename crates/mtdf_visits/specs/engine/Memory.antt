@@ -8,7 +8,7 @@ use lib.Dec.{leb}
 use lib.ListN.{length, getD, take}
 use Rattle.lists.specs.Lists.{among}
 use Rattle.gametree.specs.declared.Position.{Position}
-use Rattle.gametree.specs.Tree.{Tree, leaf, inner, least, greatest, In}
+use Rattle.gametree.specs.Trees.{Tree, leaf, inner, least, greatest, In}
 use Rattle.gametree.specs.Bounds.{low, high}
 use Rattle.gametree.specs.Tests.{Tested, opened, test, testChildren}
 use Rattle.frames.specs.Frame.{frames, childCount}

@@ -1,23 +1,19 @@
 -- `plain::max_turn` and `plain::min_turn` meet their contracts. The remaining depth falls with each call. At the head
 -- of either loop stands `TurnLoop`: the children that are left make of score and marks what the turn is to give, and
 -- their trees are without a mark.
-use Prim.Native.Nat.{ℕ, _+_, _-_, _<_}
-use native.Mathlib.Omega.{arith}
-use mathlib.Core.Path.{_≡_, sym, _∙_}
-use mathlib.Core.Logic.{inl, inr}
-use borrow.Author.Needs.{needs}
+use Rattle.prelude.proofs.{ℕ, _+_, _-_, _<_, arith, _≡_, sym, _∙_, inl, inr, needs}
 use borrow.Fn.Kinds.{In}
 use borrow.Fn.PlainCycle.{Measures, is, falls, and}
 use Rattle.gametree.specs.declared.Side.{Side}
 use Rattle.gametree.specs.declared.Side.the-variants.{Max, Min}
 use Rattle.gametree.proofs.better.Reads as better-reads
-use Rattle.frames.specs.Formed.{ChildOf}
+use Rattle.frames.specs.{ChildOf}
 use Rattle.frames.proofs.Next.{child-within}
 use Rattle.frames.proofs.child_count.Reads as child-count-reads
 use Rattle.frames.proofs.child_side.Reads as child-side-reads
 use Rattle.frames.proofs.first_child.Reads as first-child-reads
 use Rattle.certificate_bounds.proofs.evaluate.Reads as evaluate-reads
-use Rattle.plain.specs.engine.Ready.{Ready}
+use Rattle.plain.specs.{Ready}
 use Rattle.plain.proofs.Turns.{Gives, TurnLoop, leaf-evaluable, leaf-gives, turn-starts, inner-left, ready-child}
 use Rattle.plain.proofs.Turns.{turn-goes-on, turn-ends}
 use Rattle.plain.proofs.max_turn.Reads as max-turn

@@ -1,11 +1,7 @@
 -- `plain::run` meets its contract: the steps of a search, in order.
-use native.Mathlib.Omega.{arith}
-use mathlib.Core.Path.{refl, ap, _∙_}
-use mir.Syntax.{w16}
-use mir.ValLaws.{toZ-ofZ}
-use borrow.Author.Needs.{needs}
+use Rattle.prelude.proofs.{arith, refl, ap, _∙_, w16, toZ-ofZ, needs}
 use Rattle.frames.proofs.Acceptance.{accepted-formed}
-use Rattle.positions.specs.Buffer.{written}
+use Rattle.positions.specs.{written}
 use Rattle.plain.proofs.Whole.{root-ready, score-small, run-gives}
 use Rattle.plain.proofs.run.Statement.{statement}
 use Rattle.plain.proofs.run.Tie as tie

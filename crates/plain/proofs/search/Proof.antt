@@ -1,12 +1,8 @@
 -- `plain::search` meets its contract: the questions are answered, and then the search is run or nothing is done.
-use Prim.Native.Nat.{ℕ}
-use mathlib.Core.Path.{_≡_, sym, _∙_}
-use mathlib.Core.List.{List, [], _∷_}
-use lib.ListN.{length}
-use borrow.Author.Needs.{needs}
+use Rattle.prelude.proofs.{ℕ, _≡_, sym, _∙_, List, [], _∷_, length, needs}
 use Rattle.frames.specs.declared.Rejection.{Rejection}
-use Rattle.frames.specs.Rejection.{Outcome, _leaving_}
-use Rattle.methods.specs.Outcome.{Lent, lent}
+use Rattle.frames.specs.{Outcome, _leaving_}
+use Rattle.methods.specs.{Lent, lent}
 use Rattle.certificate.proofs.Questions.{asked, of-lesser}
 use Rattle.certificate.proofs.Outcomes.{finding, rejecting}
 use Rattle.plain.specs.declared.PlainAnswer.{PlainAnswer}

@@ -1,11 +1,7 @@
 -- `positions::fill` meets its contract: each turn stores the entries of one node's children.
-use Prim.Native.Nat.{_-_, _<_}
-use native.Mathlib.Omega.{arith}
-use mathlib.Core.Path.{_∙_}
-use lib.ListN.{length-set}
-use borrow.Author.Needs.{needs}
-use Rattle.frames.specs.Frame.{frames}
-use Rattle.positions.specs.engine.Positions.{positionEntry}
+use Rattle.prelude.proofs.{_-_, _<_, arith, _∙_, length-set, needs}
+use Rattle.frames.specs.{frames}
+use Rattle.positions.specs.{positionEntry}
 use Rattle.positions.proofs.TopDown.{Filled, visit-goes, visit-within, filled-root, filled-all}
 use Rattle.positions.proofs.Positions.{root-entry, filling-few, filling-step}
 use Rattle.positions.proofs.fill.Statement.{statement}

@@ -1,10 +1,7 @@
 -- `positions::fill_children` meets its contract: it stores a run of entries.
-use Prim.Native.Nat.{_-_}
-use native.Mathlib.Omega.{arith}
-use mathlib.Core.Path.{refl, ap, _∙_}
-use borrow.Author.Needs.{needs}
-use Rattle.frames.specs.Position.{childPosition}
-use Rattle.positions.specs.engine.Positions.{packed}
+use Rattle.prelude.proofs.{_-_, arith, refl, ap, _∙_, needs}
+use Rattle.frames.specs.{childPosition}
+use Rattle.positions.specs.{packed}
 use Rattle.positions.proofs.Runs.{Run, run-begins, run-step, run-ends}
 use Rattle.positions.proofs.fill_children.Statement.{statement}
 use Rattle.positions.proofs.fill_children.Tie as tie

@@ -1,6 +1,5 @@
 -- `positions::parent_at` meets its contract: what is read is a part of the entry.
-use native.Mathlib.Omega.{arith}
-use borrow.Author.Needs.{needs}
+use Rattle.prelude.proofs.{arith, needs}
 use Rattle.positions.proofs.parent_at.Statement.{statement}
 use Rattle.positions.proofs.parent_at.Tie as tie
 

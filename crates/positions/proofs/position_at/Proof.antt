@@ -1,6 +1,5 @@
 -- `positions::position_at` meets its contract: what is read are the two parts of the place.
-use mathlib.Core.Path.{ap₂}
-use borrow.Author.Needs.{needs}
+use Rattle.prelude.proofs.{ap₂, needs}
 use Rattle.positions.proofs.position_at.Statement.{statement}
 use Rattle.positions.proofs.position_at.Tie as tie
 

@@ -1,5 +1,5 @@
 -- `positions::side_at` meets its contract: by the rest that tells the side.
-use borrow.Author.Needs.{needs}
+use Rattle.prelude.proofs.{needs}
 use Rattle.positions.proofs.Positions.{number-min}
 use Rattle.positions.proofs.side_at.Statement.{statement}
 use Rattle.positions.proofs.side_at.Tie as tie

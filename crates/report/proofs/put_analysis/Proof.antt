@@ -1,11 +1,8 @@
 -- `report::put_analysis` meets its contract: each line is laid behind the one before.
-use native.Mathlib.Omega.{arith}
-use mathlib.Core.Path.{refl, _∙_}
-use borrow.Author.Needs.{needs}
-use Rattle.frames.specs.Frame.{maxNodes}
-use Rattle.frames.specs.Formed.{WellFormed}
+use Rattle.prelude.proofs.{arith, refl, _∙_, needs}
+use Rattle.frames.specs.{maxNodes, WellFormed}
 use Rattle.frames.proofs.Acceptance.{accepted-formed}
-use Rattle.positions.specs.engine.Positions.{Positioned}
+use Rattle.positions.specs.{Positioned}
 use Rattle.positions.proofs.Positions.{positioned}
 use Rattle.text.proofs.Laying.{room-front, room-rest, put-then}
 use Rattle.methods.proofs.Rules.{enough}

@@ -1,5 +1,5 @@
 -- `report::put_line` meets its contract: each piece is laid behind the one before.
-use borrow.Author.Needs.{needs}
+use Rattle.prelude.proofs.{needs}
 use Rattle.text.proofs.Laying.{room-front, room-rest, put-then}
 use Rattle.report.proofs.Searches.{value-passed}
 use Rattle.report.proofs.put_line.Statement.{statement}

@@ -1,8 +1,7 @@
 -- `report::put_method` meets its contract: the line says what the method found.
-use mathlib.Core.Path.{_≡_, sym}
-use borrow.Author.Needs.{needs}
-use Rattle.methods.specs.Outcome.{findingsBy}
-use Rattle.report.specs.engine.Lines.{lineBy}
+use Rattle.prelude.proofs.{_≡_, sym, needs}
+use Rattle.methods.specs.{findingsBy}
+use Rattle.report.specs.{lineBy}
 use Rattle.report.proofs.Searches.{found-is, never-spent, never-rejected}
 use Rattle.report.proofs.put_method.Statement.{statement}
 use Rattle.report.proofs.put_method.Tie as tie

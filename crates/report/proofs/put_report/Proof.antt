@@ -1,13 +1,9 @@
 -- `report::put_report` meets its contract: each way out lays the report of the file.
-use native.Mathlib.Omega.{arith}
-use mathlib.Core.Path.{_≡_, sym, ap, _∙_, subst}
-use lib.Seq.{length-take-le}
-use borrow.Author.Needs.{needs}
+use Rattle.prelude.proofs.{arith, _≡_, sym, ap, _∙_, subst, length-take-le, needs}
 use denote.Ref.{now}
-use Rattle.frames.specs.Check.{Accepted}
-use Rattle.text.specs.Text.{refusedLine, TextRoom, Put}
-use Rattle.report.specs.engine.Lines.{analysis}
-use Rattle.report.specs.Report.{report}
+use Rattle.frames.specs.{Accepted}
+use Rattle.text.specs.{refusedLine, TextRoom, Put}
+use Rattle.report.specs.{analysis, report}
 use Rattle.report.proofs.Reporting.{Read, read-accepted, read-rejected}
 use Rattle.report.proofs.put_report.Statement.{statement}
 use Rattle.report.proofs.put_report.Tie as tie

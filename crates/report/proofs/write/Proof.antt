@@ -1,9 +1,6 @@
 -- `report::write` meets its contract: what is laid into zeros is the text of the report.
-use native.Mathlib.Omega.{arith}
-use Prim.Native.Nat.{ℕ}
-use lib.ListN.{length-replicate}
-use borrow.Author.Needs.{needs}
-use Rattle.text.specs.Text.{textSize}
+use Rattle.prelude.proofs.{arith, ℕ, length-replicate, needs}
+use Rattle.text.specs.{textSize}
 use Rattle.report.proofs.Sizes.{report-few}
 use Rattle.text.proofs.Sizes.{text-room, text-laid}
 use Rattle.report.proofs.write.Statement.{statement}

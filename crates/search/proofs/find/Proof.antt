@@ -1,8 +1,5 @@
 -- `search::find` meets its contract: by the method.
-use mathlib.Core.Path.{ap}
-use mir.Syntax.{w32}
-use mir.ValLaws.{toZ-ofZ}
-use borrow.Author.Needs.{needs}
+use Rattle.prelude.proofs.{ap, w32, toZ-ofZ, needs}
 use Rattle.methods.specs.declared.Answer.the-variants.{Found}
 use Rattle.search.proofs.find.Statement.{statement}
 use Rattle.search.proofs.find.Tie as tie

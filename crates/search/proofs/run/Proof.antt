@@ -1,22 +1,13 @@
 -- `search::run` meets its contract: the positions, what the method's engine finds, and the certificate of a value.
-use mathlib.Core.Path.{_≡_, ap, _∙_}
-use mathlib.Core.List.{List}
-use Prim.Native.Nat.{ℕ}
-use native.Mathlib.Omega.{arith}
-use mir.Syntax.{w32}
-use mir.ValLaws.{toZ-ofZ}
-use borrow.Author.Needs.{needs}
-use Rattle.frames.specs.Formed.{WellFormed}
-use Rattle.frames.specs.Rejection.{_leaving_}
+use Rattle.prelude.proofs.{_≡_, ap, _∙_, List, ℕ, arith, w32, toZ-ofZ, needs}
+use Rattle.frames.specs.{WellFormed, _leaving_}
 use Rattle.positions.proofs.Positions.{positioned}
-use Rattle.certificate.specs.Search.{marksOf, listed}
+use Rattle.certificate.specs.{marksOf, listed}
 use Rattle.methods.specs.declared.Method.{Method}
 use Rattle.methods.specs.declared.Method.the-variants.{AlphaBeta, Mtd, MtdFrom, Sss}
 use Rattle.methods.specs.declared.Answer.{Answer}
 use Rattle.methods.specs.declared.Answer.the-variants.{Found}
-use Rattle.methods.specs.Rules.{evaluatedBy, beyond}
-use Rattle.methods.specs.Outcome.{answerBy, lent, givenBy}
-use Rattle.methods.specs.engine.Certified.{certifiedFlags}
+use Rattle.methods.specs.{evaluatedBy, beyond, answerBy, lent, givenBy, certifiedFlags}
 use Rattle.methods.proofs.Certifying.{certifies}
 use Rattle.search.proofs.run.Statement.{statement}
 use Rattle.search.proofs.run.Tie as tie

@@ -1,19 +1,14 @@
 -- `choose` meets its contract: a rejected table settles the answer, an accepted one leaves it to the certificates.
-use Prim.Native.Nat.{ℕ}
-use mathlib.Core.Path.{_≡_, sym, _∙_}
-use mathlib.Core.List.{List}
-use lib.Dec.{ltb}
-use borrow.Author.Needs.{needs}
+use Rattle.prelude.proofs.{ℕ, _≡_, sym, _∙_, List, ltb, needs}
 use Rattle.frames.specs.declared.Rejection.{Rejection}
 use Rattle.frames.specs.declared.Checked.the-variants as answers
-use Rattle.frames.specs.Frame.{frames}
-use Rattle.frames.specs.Check.{rejection, checked}
+use Rattle.frames.specs.{frames, rejection, checked}
 use Rattle.frames.proofs.Asked.{answer-nodes, answer-rejected}
 use Rattle.frames.proofs.Acceptance.{accepted-formed, nodes-accepted}
-use Rattle.verify.specs.Check.{flagsRejection}
+use Rattle.verify.specs.{flagsRejection}
 use Rattle.shorter.specs.declared.Choice.{Choice}
 use Rattle.shorter.specs.declared.Choice.the-variants.{Rejected}
-use Rattle.shorter.specs.Choice.{flaggedLeaves, choiceBy, choice}
+use Rattle.shorter.specs.{flaggedLeaves, choiceBy, choice}
 use Rattle.shorter.proofs.choose.Statement.{statement}
 use Rattle.shorter.proofs.choose.Tie as tie
 

@@ -1,10 +1,8 @@
 -- `choose_certificate` meets its contract: one case for each pair of verdicts.
-use mathlib.Core.Path.{_≡_, sym, _∙_}
-use mathlib.Core.Option.{Option, none, some}
-use borrow.Author.Needs.{needs}
+use Rattle.prelude.proofs.{_≡_, sym, _∙_, Option, none, some, needs}
 use Rattle.frames.specs.declared.Rejection.{Rejection}
 use Rattle.verify.specs.declared.Verdict.the-variants.{Value, Rejected}
-use Rattle.verify.specs.Check.{flagsRejection}
+use Rattle.verify.specs.{flagsRejection}
 use Rattle.verify.proofs.Judging.{value-passed, rejected-by}
 use Rattle.shorter.proofs.Choosing.{passed-enough}
 use Rattle.shorter.proofs.choose_certificate.Statement.{statement}

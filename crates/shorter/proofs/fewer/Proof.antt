@@ -1,14 +1,7 @@
 -- `fewer` meets its contract: the two numbers of flagged leaves are compared.
-use Prim.Native.Nat.{ℕ, _≤_, _<_}
-use native.Mathlib.Omega.{arith}
-use mathlib.Core.Path.{_≡_}
-use mathlib.Core.Bool.{cond}
-use mathlib.Core.List.{List}
-use lib.Dec.{ltb}
-use borrow.Author.Tests.{lt-ltb, le-ltb}
-use borrow.Author.Needs.{needs}
+use Rattle.prelude.proofs.{ℕ, _≤_, _<_, arith, _≡_, cond, List, ltb, lt-ltb, le-ltb, needs}
 use Rattle.shorter.specs.declared.Choice.the-variants.{First, Second}
-use Rattle.shorter.specs.Choice.{flaggedLeaves}
+use Rattle.shorter.specs.{flaggedLeaves}
 use Rattle.shorter.proofs.fewer.Statement.{statement}
 use Rattle.shorter.proofs.fewer.Tie as tie
 

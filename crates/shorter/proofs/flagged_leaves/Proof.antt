@@ -1,12 +1,8 @@
 -- `flagged_leaves` meets its contract: each turn counts one node more.
-use Prim.Native.Nat.{_-_}
-use native.Mathlib.Omega.{arith}
-use mathlib.Core.Path.{sym, _∙_}
-use mathlib.Core.Logic.{⊎-elim}
-use borrow.Author.Needs.{needs}
+use Rattle.prelude.proofs.{_-_, arith, sym, _∙_, ⊎-elim, needs}
 use Rattle.lists.proofs.Counting.{Counted, counted-none, counted-more, counted-all}
-use Rattle.frames.specs.Frame.{frames}
-use Rattle.shorter.specs.Choice.{flaggedLeaf}
+use Rattle.frames.specs.{frames}
+use Rattle.shorter.specs.{flaggedLeaf}
 use Rattle.shorter.proofs.flagged_leaves.Statement.{statement}
 use Rattle.shorter.proofs.flagged_leaves.Tie as tie
 

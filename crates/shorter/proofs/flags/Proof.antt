@@ -1,16 +1,11 @@
 -- `flags` meets its contract: the part is that of the choice, it begins where the chosen certificate does, and that one
 -- has a flag for each node.
-use Prim.Native.Nat.{ℕ, _+_, _-_}
-use native.Mathlib.Omega.{arith}
-use mathlib.Core.Path.{_≡_, sym, ap, _∙_}
-use mathlib.Core.List.{List, []}
-use lib.ListN.{take}
-use borrow.Author.Needs.{needs}
+use Rattle.prelude.proofs.{ℕ, _+_, _-_, arith, _≡_, sym, ap, _∙_, List, [], take, needs}
 use Rattle.frames.specs.declared.Rejection.{Rejection}
-use Rattle.frames.specs.Frame.{frames}
+use Rattle.frames.specs.{frames}
 use Rattle.shorter.specs.declared.Choice.{Choice}
 use Rattle.shorter.specs.declared.Choice.the-variants.{First, Second, Rejected}
-use Rattle.shorter.specs.Choice.{flagsBy, pointerBy}
+use Rattle.shorter.specs.{flagsBy, pointerBy}
 use Rattle.shorter.proofs.Choosing.{passed-enough, choice-says}
 use Rattle.shorter.proofs.flags.Statement.{statement}
 use Rattle.shorter.proofs.flags.Tie as tie

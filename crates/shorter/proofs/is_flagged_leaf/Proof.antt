@@ -1,14 +1,7 @@
 -- `is_flagged_leaf` meets its contract: an inner node is no leaf, and of a leaf the flag decides.
-use Prim.Native.Nat.{ℕ}
-use mathlib.Core.Path.{_≡_, sym, _∙_}
-use mathlib.Core.Bool.{false}
-use mathlib.Core.List.{List}
-use lib.Dec.{ltb}
-use lib.ListN.{getD}
-use borrow.Author.Tests.{eq-eqb, ne-eqb}
-use borrow.Author.Needs.{needs}
-use Rattle.frames.specs.Frame.{childCount}
-use Rattle.shorter.specs.Choice.{flaggedLeaf}
+use Rattle.prelude.proofs.{ℕ, _≡_, sym, _∙_, false, List, ltb, getD, eq-eqb, ne-eqb, needs}
+use Rattle.frames.specs.{childCount}
+use Rattle.shorter.specs.{flaggedLeaf}
 use Rattle.shorter.proofs.is_flagged_leaf.Statement.{statement}
 use Rattle.shorter.proofs.is_flagged_leaf.Tie as tie
 

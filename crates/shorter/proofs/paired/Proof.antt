@@ -1,10 +1,5 @@
 -- `shorter::paired` meets its contract: a walk of its MIR by hand, since it makes a struct that holds a reference.
-use mathlib.Core.Path.{_≡_, refl, subst}
-use Prim.Native.Nat.{ℕ}
-use mathlib.Core.List.{List, [], _∷_}
-use lib.Dec.{T as Holds}
-use lib.ListN.{length}
-use mir.Val.{hasTy, vstruct, ofList}
+use Rattle.prelude.proofs.{_≡_, refl, subst, ℕ, List, [], _∷_, T as Holds, length, hasTy, vstruct, ofList}
 use ghost.Atoms.{sem}
 use types.Kit.{fjoin}
 use denote.Enum.Laws as EL

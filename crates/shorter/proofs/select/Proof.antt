@@ -1,9 +1,6 @@
 -- `shorter::select` meets its contract: a walk of its MIR by hand, since it returns a struct that holds a reference.
 -- Both certificates are lent for longer than the part is, and are shortened to its lifetime for the call of `flags`.
-use mathlib.Core.Path.{_≡_, refl, sym, ap, _∙_}
-use Prim.Native.Nat.{ℕ, _+_, _-_, _*_}
-use mathlib.Core.List.{List, [], _∷_}
-use lib.ListN.{length}
+use Rattle.prelude.proofs.{_≡_, refl, sym, ap, _∙_, ℕ, _+_, _-_, _*_, List, [], _∷_, length}
 use contract.BorrowLft.{_⊑_}
 use denote.Enum.Laws as EL
 use denote.Ref.{NamedLft, now, ptr}
@@ -20,7 +17,7 @@ use Rattle.walks.proofs.Walk.{returns, says, shared, shortens, slice-vals, slic
 use Rattle.walks.proofs.Walk.{tablesOf, tripleOf, u8, via, walkOf, ‵, ⋆}
 use Rattle.shorter.specs.declared.Selection.{Selection}
 use Rattle.shorter.specs.declared.Choice.{Choice}
-use Rattle.shorter.specs.Choice.{choice, flagsBy, pointerBy}
+use Rattle.shorter.specs.{choice, flagsBy, pointerBy}
 use Rattle.shorter.proofs.Selection as T
 use Rattle.shorter.proofs.Selection.Laws as T′
 use Rattle.shorter.proofs.Choice as S

@@ -1,13 +1,10 @@
 -- `sss::find` meets its contract: the steps of a search, in order.
-use native.Mathlib.Omega.{arith}
-use mathlib.Core.Path.{_≡_, ap, _∙_}
-use lib.ListN.{length-replicate}
-use borrow.Author.Needs.{needs}
-use Rattle.frames.specs.Frame.{maxNodes, frames}
-use Rattle.positions.specs.Buffer.{written}
+use Rattle.prelude.proofs.{arith, _≡_, ap, _∙_, length-replicate, needs}
+use Rattle.frames.specs.{maxNodes, frames}
+use Rattle.positions.specs.{written}
 use Rattle.sss_states.specs.declared.State.{State}
-use Rattle.sss_states.specs.Entry.{blank}
-use Rattle.sss_loop.specs.engine.Driven.{zeros}
+use Rattle.sss_states.specs.{blank}
+use Rattle.sss_loop.specs.{zeros}
 use Rattle.sss.proofs.Starting.{zeros-sound, prepared-at}
 use Rattle.sss.proofs.Own.{own-asks, own-gives}
 use Rattle.sss.proofs.find.Statement.{statement}

@@ -1,11 +1,7 @@
 -- `sss_loop::drive_own` meets its contract: a walk of its MIR by hand, since it lends an array of structs. It lends
 -- a front of zeros and a list of blank entries to `drive`; the buffers are passed on for good.
-use mathlib.Core.Path.{_≡_, refl, sym, subst}
-use Prim.Native.Nat.{ℕ, _+_, _-_, _*_}
-use native.Mathlib.Omega.{arith}
-use mathlib.Core.List.{List, [], _∷_}
-use lib.Dec.{lit<}
-use lib.ListN.{length, replicate, length-replicate}
+use Rattle.prelude.proofs.{_≡_, refl, sym, subst, ℕ, _+_, _-_, _*_, arith, List, [], _∷_, lit<, length, replicate}
+use Rattle.prelude.proofs.{length-replicate}
 use Rattle.walks.proofs.Walk.{ !, Args, Atoms, ByValue, Contract, Fml, Fun, GName, Given, Heap, Is, Lfts, Meets, Memory}
 use Rattle.walks.proofs.Walk.{MutSlice, Parameters, RattleType, RefT, Room, Routine, SProp, Shares, ShrSlice, Stays}
 use Rattle.walks.proofs.Walk.{Tables, Triple, URA, Val, Vals, WpFn, _$_, _∵_, addr, agg, alloc0, alloc1, and-then}
@@ -17,11 +13,11 @@ use Rattle.walks.proofs.Walk.{pass1, passed, qed, reborrows, ref-to, rep, repea
 use Rattle.walks.proofs.Walk.{sets, shared, slice-vals, sliceVal, stays-of, stop, suffices, tables, tablesOf, tripleOf}
 use Rattle.walks.proofs.Walk.{u16, u32, u8, uint-copy, uint-lawful, valued, via, w32, walkOf, ‵, ⋆}
 use denote.Struct.Laws as LL
-use Rattle.frames.specs.Frame.{maxNodes}
+use Rattle.frames.specs.{maxNodes}
 use Rattle.sss_states.specs.declared.State.{State}
 use Rattle.sss_turns.specs.declared.Run.{Run}
-use Rattle.sss_states.specs.Entry.{blank as blankEntry}
-use Rattle.sss_loop.specs.engine.Driven.{Prepared, Driven, zeros, PreparedOwn, DrivenOwn}
+use Rattle.sss_states.specs.{blank as blankEntry}
+use Rattle.sss_loop.specs.{Prepared, Driven, zeros, PreparedOwn, DrivenOwn}
 use Rattle.sss_states.proofs.State as S
 use Rattle.sss_states.proofs.State.Laws as S′
 use Rattle.sss_turns.proofs.Run as N

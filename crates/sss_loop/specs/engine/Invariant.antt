@@ -4,7 +4,7 @@ use Prim.Native.Nat.{ℕ, _≤_}
 use mathlib.Core.Path.{_≡_}
 use mathlib.Core.List.{List, _++_}
 use lib.ListN.{length, drop, replicate}
-use Rattle.gametree.specs.Tree.{greatest}
+use Rattle.gametree.specs.Trees.{greatest}
 use Rattle.gametree.specs.Sss as theory
 use Rattle.gametree.specs.Move.{rootMove}
 use Rattle.frames.specs.Frame.{frames}

@@ -1,7 +1,5 @@
 -- `sss_states::first_from` meets its contract: some entry is enough, so that the walk ends there or before.
-use Prim.Native.Nat.{_-_, _<_}
-use native.Mathlib.Omega.{arith}
-use lib.ListN.{length}
+use Rattle.prelude.proofs.{_-_, _<_, arith, length}
 use Rattle.sss_states.proofs.Scans.{Passing, pass-on}
 use Rattle.sss_states.proofs.first_from.Statement.{statement}
 use Rattle.sss_states.proofs.first_from.Tie as tie

@@ -1,7 +1,5 @@
 -- `sss_states::greatest_entry` meets its contract: from the first to the last.
-use Prim.Native.Nat.{_-_}
-use native.Mathlib.Omega.{arith}
-use mathlib.Core.Logic.{inl, inr}
+use Rattle.prelude.proofs.{_-_, arith, inl, inr}
 use Rattle.sss_states.proofs.Scans.{Scanning, scan-start, scan-here, scan-there, scan-end}
 use Rattle.sss_states.proofs.greatest_entry.Statement.{statement}
 use Rattle.sss_states.proofs.greatest_entry.Tie as tie

@@ -1,5 +1,5 @@
 -- `sss_states::leftmost_best` meets its contract.
-use native.Mathlib.Omega.{arith}
+use Rattle.prelude.proofs.{arith}
 use Rattle.sss_states.proofs.Scans.{first-best}
 use Rattle.sss_states.proofs.leftmost_best.Statement.{statement}
 use Rattle.sss_states.proofs.leftmost_best.Tie as tie

@@ -1,5 +1,5 @@
 -- `sss_states::needs_refresh` meets its contract.
-use borrow.Author.Needs.{needs}
+use Rattle.prelude.proofs.{needs}
 use Rattle.sss_states.proofs.Scans.{needsRefresh-other}
 use Rattle.sss_states.proofs.needs_refresh.Statement.{statement}
 use Rattle.sss_states.proofs.needs_refresh.Tie as tie

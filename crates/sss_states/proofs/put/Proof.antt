@@ -1,8 +1,5 @@
 -- `sss_states::put` meets its contract.
-use native.Mathlib.Omega.{arith}
-use mathlib.Core.Path.{_≡_, refl, _∙_}
-use Prim.Native.Nat.{_-_}
-use lib.ListN.{length, length-set}
+use Rattle.prelude.proofs.{arith, _≡_, refl, _∙_, _-_, length, length-set}
 use Rattle.positions.proofs.Runs.{Run, run-begins, run-step, run-ends}
 use Rattle.sss_states.proofs.Stores.{put-change}
 use Rattle.sss_states.proofs.put.Statement.{statement}

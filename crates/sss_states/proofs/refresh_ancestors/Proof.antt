@@ -1,9 +1,7 @@
 -- `sss_states::refresh_ancestors` meets its contract: what is still to be done stays the same.
-use native.Mathlib.Omega.{arith}
-use mathlib.Core.Path.{_≡_, refl, sym, _∙_, ap}
-use mathlib.Core.Bool.{true}
-use Rattle.frames.specs.Position.{parentOf}
-use Rattle.sss_states.specs.engine.Kept.{bestAt, needsRefresh}
+use Rattle.prelude.proofs.{arith, _≡_, refl, sym, _∙_, ap, true}
+use Rattle.frames.specs.{parentOf}
+use Rattle.sss_states.specs.{bestAt, needsRefresh}
 use Rattle.positions.proofs.Positions.{positioned-room, positioned-parent}
 use Rattle.sss_states.proofs.Risings.{Falling, Rises, rises, falling-again, refreshed-top}
 use Rattle.sss_states.proofs.refresh_ancestors.Statement.{statement}

@@ -8,7 +8,7 @@ use lib.Dec.{ltb, leb, eqb}
 use lib.ListN.{length, getD, set}
 use Rattle.gametree.specs.declared.Side.{Side}
 use Rattle.gametree.specs.declared.Side.the-variants.{Max, Min}
-use Rattle.gametree.specs.Tree.{greatest}
+use Rattle.gametree.specs.Trees.{greatest}
 use Rattle.frames.specs.Frame.{maxNodes, frames, firstChild, childCount}
 use Rattle.frames.specs.Position.{parentOf, sideOf}
 use Rattle.frames.specs.Formed.{WellFormed, ChildOf}

@@ -3,7 +3,7 @@ use Prim.Native.Nat.{ℕ, _+_, _≤_, _<_}
 use mathlib.Core.Path.{_≡_}
 use mathlib.Core.Logic.{_⊎_}
 use mathlib.Core.List.{List}
-use Rattle.gametree.specs.Tree.{greatest}
+use Rattle.gametree.specs.Trees.{greatest}
 use Rattle.frames.specs.Frame.{frames}
 use Rattle.frames.specs.Formed.{ChildOf}
 use Rattle.sss_states.specs.declared.Change.{Change}

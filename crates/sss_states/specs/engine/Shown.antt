@@ -8,7 +8,7 @@ use mathlib.Core.List.{List, [], _∷_, _++_}
 use Rattle.lists.specs.Lists.{All}
 use Rattle.gametree.specs.declared.Side.{Side}
 use Rattle.gametree.specs.declared.Side.the-variants.{Max, Min}
-use Rattle.gametree.specs.Tree.{Tree, inner, Children, last, _then_, number}
+use Rattle.gametree.specs.Trees.{Tree, inner, Children, last, _then_, number}
 use Rattle.gametree.specs.Sss.{Status, State}
 
 -- the arrays: what the entry of a node says of its status and merit, the links, and the greatest merits

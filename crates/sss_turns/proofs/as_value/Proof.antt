@@ -1,13 +1,7 @@
 -- `sss_turns::as_value` meets its contract: the score's value takes 32 bits.
-use native.Mathlib.Omega.{arith}
-use mathlib.Core.Path.{_≡_}
-use lib.IntN.{pos}
-use mir.Syntax.{w32}
-use mir.Val.{toZ}
-use mir.ValLaws.{toZ-pos, toZ-ofZ}
-use Rattle.frames.specs.Value.{valueOf}
+use Rattle.prelude.proofs.{arith, _≡_, pos, w32, toZ, toZ-pos, toZ-ofZ, needs}
+use Rattle.frames.specs.{valueOf}
 use Rattle.sss_turns.proofs.Merits.{value-fits}
-use borrow.Author.Needs.{needs}
 use Rattle.sss_turns.proofs.as_value.Statement.{statement}
 use Rattle.sss_turns.proofs.as_value.Tie as tie
 

@@ -1,5 +1,5 @@
 -- `sss_turns::ended` meets its contract.
-use borrow.Author.Needs.{needs}
+use Rattle.prelude.proofs.{needs}
 use Rattle.sss_turns.proofs.ended.Statement.{statement}
 use Rattle.sss_turns.proofs.ended.Tie as tie
 

@@ -1,5 +1,5 @@
 -- `sss_turns::is_solved_root` meets its contract.
-use borrow.Author.Needs.{needs}
+use Rattle.prelude.proofs.{needs}
 use Rattle.sss_turns.proofs.is_solved_root.Statement.{statement}
 use Rattle.sss_turns.proofs.is_solved_root.Tie as tie
 

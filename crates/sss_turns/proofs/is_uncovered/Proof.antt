@@ -1,6 +1,5 @@
 -- `sss_turns::is_uncovered` meets its contract.
-use borrow.Author.Tests.{lt-ltb, le-ltb}
-use borrow.Author.Needs.{needs}
+use Rattle.prelude.proofs.{lt-ltb, le-ltb, needs}
 use Rattle.sss_turns.proofs.is_uncovered.Statement.{statement}
 use Rattle.sss_turns.proofs.is_uncovered.Tie as tie
 

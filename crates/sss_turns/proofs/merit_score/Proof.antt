@@ -1,8 +1,5 @@
 -- `sss_turns::merit_score` meets its contract: a merit is a value with a score.
-use mathlib.Core.Path.{_≡_}
-use mir.Syntax.{w32}
-use mir.Val.{toZ, ofZ}
-use mir.ValLaws.{toZ-ofZ}
+use Rattle.prelude.proofs.{_≡_, w32, toZ, ofZ, toZ-ofZ}
 use Rattle.sss_turns.proofs.Merits.{merit-within, merit-fits}
 use Rattle.sss_turns.proofs.merit_score.Statement.{statement}
 use Rattle.sss_turns.proofs.merit_score.Tie as tie

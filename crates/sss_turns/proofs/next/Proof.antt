@@ -1,10 +1,8 @@
 -- `sss_turns::next` meets its contract.
-use mathlib.Core.Path.{_≡_, sym, _∙_}
-use mathlib.Core.Bool.{false}
-use Rattle.sss_turns.specs.engine.Turn.{isSolvedRoot}
+use Rattle.prelude.proofs.{_≡_, sym, _∙_, false, needs}
+use Rattle.sss_turns.specs.{isSolvedRoot}
 use Rattle.sss_turns.proofs.Puts.{state-put}
 use Rattle.sss_turns.proofs.Taking.{not-root, ended-is, stepped-is}
-use borrow.Author.Needs.{needs}
 use Rattle.sss_turns.proofs.next.Statement.{statement}
 use Rattle.sss_turns.proofs.next.Tie as tie
 

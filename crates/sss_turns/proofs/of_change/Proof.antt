@@ -1,8 +1,5 @@
 -- `sss_turns::of_change` meets its contract: the merit is the score's value.
-use mathlib.Core.Path.{_∙_}
-use mir.Syntax.{w32}
-use mir.ValLaws.{toZ-ofZ}
-use borrow.Author.Needs.{needs}
+use Rattle.prelude.proofs.{_∙_, w32, toZ-ofZ, needs}
 use Rattle.sss_turns.proofs.of_change.Statement.{statement}
 use Rattle.sss_turns.proofs.of_change.Tie as tie
 

@@ -1,7 +1,7 @@
 -- `sss_turns::replacing` meets its contract.
+use Rattle.prelude.proofs.{needs}
 use Rattle.sss_states.proofs.Risings.{putting-fits, changed-sound, refreshed-keeps}
 use Rattle.sss_turns.proofs.Choices.{replaced-by}
-use borrow.Author.Needs.{needs}
 use Rattle.sss_turns.proofs.replacing.Statement.{statement}
 use Rattle.sss_turns.proofs.replacing.Tie as tie
 

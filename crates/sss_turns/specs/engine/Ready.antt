@@ -4,7 +4,7 @@ use mathlib.Core.Path.{_≡_}
 use mathlib.Core.Bool.{false}
 use mathlib.Core.List.{List}
 use lib.ListN.{length}
-use Rattle.gametree.specs.Tree.{greatest}
+use Rattle.gametree.specs.Trees.{greatest}
 use Rattle.frames.specs.Frame.{maxNodes, frames, childCount}
 use Rattle.frames.specs.Formed.{WellFormed}
 use Rattle.certificate_bounds.specs.Marks.{marked}

@@ -1,14 +1,7 @@
 -- `check` meets its contract: one lemma for each of its four returns.
-use Prim.Native.Nat.{ℕ, _/_, _%_, _≤_, _<_}
-use native.Mathlib.Omega.{arith}
-use mathlib.Core.Path.{_≡_, sym, ap, _∙_}
-use mathlib.Core.List.{List}
-use lib.ListN.{length}
-use borrow.Author.Tests.{lt-ltb, le-ltb, le-leb, lt-leb, ne-eqb}
-use borrow.Author.Needs.{needs}
-use Rattle.frames.specs.Frame.{frameSize, frames, maxTable}
-use Rattle.frames.specs.Rejection.{answer}
-use Rattle.frames.specs.Check.{framesRejection, rejection, checked}
+use Rattle.prelude.proofs.{ℕ, _/_, _%_, _≤_, _<_, arith, _≡_, sym, ap, _∙_, List, length, lt-ltb, le-ltb, le-leb}
+use Rattle.prelude.proofs.{lt-leb, ne-eqb, needs}
+use Rattle.frames.specs.{frameSize, frames, maxTable, answer, framesRejection, rejection, checked}
 use Rattle.frames.proofs.Asked.{refused}
 use Rattle.frames.proofs.Acceptance.{rejection-frames}
 use Rattle.tables.proofs.check.Statement.{statement}

@@ -1,11 +1,7 @@
 -- `check_depths` meets its contract: the loop goes down level by level (Levels).
-use Prim.Native.Nat.{_-_, _<_}
-use native.Mathlib.Omega.{arith}
-use mathlib.Core.Path.{ap, _∙_}
-use mathlib.Core.Logic.{⊎-elim}
-use borrow.Author.Needs.{needs}
+use Rattle.prelude.proofs.{_-_, _<_, arith, ap, _∙_, ⊎-elim, needs}
 use Rattle.frames.specs.declared.Checked.the-variants.{Nodes}
-use Rattle.frames.specs.Frame.{maxDepth, frames}
+use Rattle.frames.specs.{maxDepth, frames}
 use Rattle.tables.proofs.Levels.{Descending, descending-none, descending-more, descending-until, descending-all}
 use Rattle.tables.proofs.Levels.{Standing, visits, enters, stays, counts-within}
 use Rattle.tables.proofs.check_depths.Statement.{statement}

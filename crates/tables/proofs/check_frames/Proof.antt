@@ -1,17 +1,9 @@
 -- `check_frames` meets its contract: one lemma for each of its three returns.
-use Prim.Native.Nat.{ℕ, _≤_}
-use mathlib.Core.Path.{_≡_, sym, _∙_}
-use mathlib.Core.Option.{none}
-use mathlib.Core.List.{List}
-use borrow.Author.Tests.{eq-eqb, ne-eqb}
-use borrow.Author.Needs.{needs}
+use Rattle.prelude.proofs.{ℕ, _≤_, _≡_, sym, _∙_, none, List, eq-eqb, ne-eqb, needs}
 use Rattle.frames.specs.declared.Rejection.{Rejection}
 use Rattle.frames.specs.declared.Checked.{Checked}
 use Rattle.frames.specs.declared.Checked.the-variants.{Nodes, Rejected}
-use Rattle.frames.specs.Frame.{maxNodes, frames, next}
-use Rattle.frames.specs.Formed.{WellFormed}
-use Rattle.frames.specs.Rejection.{answer}
-use Rattle.frames.specs.Check.{nodesRejection, depthsRejection, framesRejection}
+use Rattle.frames.specs.{maxNodes, frames, next, WellFormed, answer, nodesRejection, depthsRejection, framesRejection}
 use Rattle.frames.proofs.Asked.{refused, answer-nodes, answer-rejected}
 use Rattle.frames.proofs.Acceptance.{all-stated, stated-formed}
 use Rattle.tables.proofs.check_frames.Statement.{statement}

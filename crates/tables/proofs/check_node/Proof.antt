@@ -1,15 +1,8 @@
 -- `check_node` meets its contract: one lemma for each of its five returns.
-use Prim.Native.Nat.{ℕ, _+_, _<_, _≤_}
-use native.Mathlib.Omega.{arith}
-use mathlib.Core.Path.{_≡_, sym, ap, _∙_}
-use mathlib.Core.Bool.{true, false}
-use mathlib.Core.List.{List}
-use borrow.Author.Tests.{le-leb, lt-leb, not-true, not-false}
-use borrow.Author.Needs.{needs}
+use Rattle.prelude.proofs.{ℕ, _+_, _<_, _≤_, arith, _≡_, sym, ap, _∙_, true, false, List, le-leb, lt-leb, not-true}
+use Rattle.prelude.proofs.{not-false, needs}
 use Rattle.frames.specs.declared.Checked.the-variants.{Nodes}
-use Rattle.frames.specs.Frame.{maxChildren, childCount, next}
-use Rattle.frames.specs.Rejection.{answer}
-use Rattle.frames.specs.Check.{byte3Right, firstChildRight, valueRight, checkNode}
+use Rattle.frames.specs.{maxChildren, childCount, next, answer, byte3Right, firstChildRight, valueRight, checkNode}
 use Rattle.frames.proofs.Next.{next-more}
 use Rattle.frames.proofs.Asked.{refused}
 use Rattle.tables.proofs.check_node.Statement.{statement}

@@ -1,8 +1,5 @@
 -- `check_nodes` meets its contract: the loop asks node after node (Asked).
-use Prim.Native.Nat.{_-_}
-use native.Mathlib.Omega.{arith}
-use mathlib.Core.Path.{sym, _∙_}
-use borrow.Author.Needs.{needs}
+use Rattle.prelude.proofs.{_-_, arith, sym, _∙_, needs}
 use Rattle.frames.proofs.Asked.{Asking, asking-none, asking-more, asking-until, asking-all}
 use Rattle.tables.proofs.check_nodes.Statement.{statement}
 use Rattle.tables.proofs.check_nodes.Tie as tie

@@ -1,13 +1,8 @@
 -- `text::put_number` meets its contract: the number falls with each call, and the last digit is laid behind the
 -- others.
-use native.Mathlib.Omega.{arith}
-use mathlib.Core.Path.{sym, ap, _∙_}
-use mathlib.Core.List.{[], _∷_}
-use lib.ListN.{length, length-append}
-use Rattle.text.specs.Text.{decimal, laid}
+use Rattle.prelude.proofs.{arith, sym, ap, _∙_, [], _∷_, length, length-append, needs, ℕ, _+_, _/_, _%_, _<_}
+use Rattle.text.specs.{decimal, laid}
 use Rattle.text.proofs.Laying.{decimal-one, decimal-more, room-rest, put-then}
-use borrow.Author.Needs.{needs}
-use Prim.Native.Nat.{ℕ, _+_, _/_, _%_, _<_}
 use borrow.Fn.Kinds.{In}
 use borrow.Fn.PlainCycle.{Measures, is, falls, and}
 use Rattle.text.proofs.put_number.Reads as put-number

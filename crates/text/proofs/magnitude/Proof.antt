@@ -1,7 +1,5 @@
 -- `text::magnitude` meets its contract: the value is read as it is, and negated where it is negative.
-use lib.IntN.{pos, _-ℤ_}
-use mir.Syntax.{w16, w64}
-use mir.ValLaws.{toZ-ofZ}
+use Rattle.prelude.proofs.{pos, _-ℤ_, w16, w64, toZ-ofZ}
 use Rattle.text_signs.proofs.Signs.{wide32, wide64, negative, positive}
 use Rattle.text.proofs.magnitude.Statement.{statement}
 use Rattle.text.proofs.magnitude.Tie as tie

@@ -1,8 +1,6 @@
 -- `text::put_byte` meets its contract: a byte stored is a byte laid.
-use native.Mathlib.Omega.{arith}
-use mathlib.Core.Path.{refl}
+use Rattle.prelude.proofs.{arith, refl, needs}
 use Rattle.text.proofs.Laying.{laid-one}
-use borrow.Author.Needs.{needs}
 use Rattle.text.proofs.put_byte.Statement.{statement}
 use Rattle.text.proofs.put_byte.Tie as tie
 

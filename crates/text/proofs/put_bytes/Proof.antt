@@ -1,9 +1,6 @@
 -- `text::put_bytes` meets its contract: before byte i, the first i bytes of the word are laid.
-use Prim.Native.Nat.{_+_, _≤_, _-_}
-use native.Mathlib.Omega.{arith}
-use mathlib.Core.Path.{_≡_, refl, sym, ap, _∙_}
-use lib.ListN.{length, getD, set, take, length-take}
-use Rattle.text.specs.Text.{laid}
+use Rattle.prelude.proofs.{_+_, _≤_, _-_, arith, _≡_, refl, sym, ap, _∙_, length, getD, set, take, length-take}
+use Rattle.text.specs.{laid}
 use Rattle.text.proofs.Laying.{laid-none, laid-length, laid-next, take-whole}
 use Rattle.text.proofs.put_bytes.Statement.{statement}
 use Rattle.text.proofs.put_bytes.Tie as tie

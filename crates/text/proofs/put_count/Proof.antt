@@ -1,6 +1,5 @@
 -- `text::put_count` meets its contract: the number is laid behind the blank.
-use native.Mathlib.Omega.{arith}
-use borrow.Author.Needs.{needs}
+use Rattle.prelude.proofs.{arith, needs}
 use Rattle.text.proofs.Laying.{put-then}
 use Rattle.text.proofs.put_count.Statement.{statement}
 use Rattle.text.proofs.put_count.Tie as tie

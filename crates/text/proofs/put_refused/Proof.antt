@@ -1,5 +1,5 @@
 -- `text::put_refused` meets its contract: each piece is laid behind the one before.
-use borrow.Author.Needs.{needs}
+use Rattle.prelude.proofs.{needs}
 use Rattle.text.proofs.Laying.{room-front, room-rest, put-then}
 use Rattle.text.proofs.put_refused.Statement.{statement}
 use Rattle.text.proofs.put_refused.Tie as tie

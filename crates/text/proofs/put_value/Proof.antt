@@ -1,13 +1,6 @@
 -- `text::put_value` meets its contract: behind the blank stand the minus sign of a negative value, and its magnitude.
-use native.Mathlib.Omega.{arith}
-use mathlib.Core.Path.{_≡_, sym, ap, _∙_}
-use mathlib.Core.List.{[], _∷_}
-use lib.ListN.{length}
-use lib.IntN.{natAbs}
-use mir.Syntax.{w16}
-use mir.ValLaws.{toZ-ofZ}
-use borrow.Author.Needs.{needs}
-use Rattle.text.specs.Text.{decimal, signedDecimal}
+use Rattle.prelude.proofs.{arith, _≡_, sym, ap, _∙_, [], _∷_, length, natAbs, w16, toZ-ofZ, needs}
+use Rattle.text.specs.{decimal, signedDecimal}
 use Rattle.text.proofs.Laying.{room-rest, put-then}
 use Rattle.text.proofs.Signs.{negative-text, positive-text}
 use Rattle.text.proofs.put_value.Statement.{statement}

@@ -1,9 +1,6 @@
 -- `text::refused` meets its contract: what is laid into zeros is the text of the line.
-use native.Mathlib.Omega.{arith}
-use Prim.Native.Nat.{ℕ}
-use lib.ListN.{length-replicate}
-use borrow.Author.Needs.{needs}
-use Rattle.text.specs.Text.{textSize}
+use Rattle.prelude.proofs.{arith, ℕ, length-replicate, needs}
+use Rattle.text.specs.{textSize}
 use Rattle.text.proofs.Sizes.{refused-few, text-room, text-laid}
 use Rattle.text.proofs.refused.Statement.{statement}
 use Rattle.text.proofs.refused.Tie as tie

@@ -1,15 +1,11 @@
 -- `check` meets its contract: a rejected table settles the verdict, an accepted one leaves it to the flags.
-use Prim.Native.Nat.{ℕ}
-use mathlib.Core.Path.{_≡_, sym, _∙_}
-use mathlib.Core.List.{List}
-use borrow.Author.Needs.{needs}
+use Rattle.prelude.proofs.{ℕ, _≡_, sym, _∙_, List, needs}
 use Rattle.frames.specs.declared.Rejection.{Rejection}
 use Rattle.frames.specs.declared.Checked.the-variants as answers
-use Rattle.frames.specs.Frame.{frames}
-use Rattle.frames.specs.Check.{rejection, checked}
+use Rattle.frames.specs.{frames, rejection, checked}
 use Rattle.frames.proofs.Acceptance.{accepted-formed, nodes-accepted}
 use Rattle.verify.specs.declared.Verdict.the-variants.{Rejected}
-use Rattle.verify.specs.Check.{flagsRejection, certificateRejection, judged, verdict}
+use Rattle.verify.specs.{flagsRejection, certificateRejection, judged, verdict}
 use Rattle.verify.proofs.Judging.{judged-until, judged-onward}
 use Rattle.verify.proofs.check.Statement.{statement}
 use Rattle.verify.proofs.check.Tie as tie

@@ -1,18 +1,11 @@
 -- `check_certificate` meets its contract: one lemma for each of its three returns.
-use Prim.Native.Nat.{ℕ, _≤_, _<_}
-use native.Mathlib.Omega.{arith}
-use mathlib.Core.Path.{_≡_, sym, _∙_}
-use mathlib.Core.List.{List}
-use lib.ListN.{length}
-use borrow.Author.Tests.{le-leb, lt-leb}
-use borrow.Author.Needs.{needs}
+use Rattle.prelude.proofs.{ℕ, _≤_, _<_, arith, _≡_, sym, _∙_, List, length, le-leb, lt-leb, needs}
 use Rattle.frames.specs.declared.Rejection.{Rejection}
 use Rattle.frames.specs.declared.Checked.the-variants as checked
-use Rattle.frames.specs.Frame.{frames}
-use Rattle.frames.specs.Rejection.{answer}
+use Rattle.frames.specs.{frames, answer}
 use Rattle.verify.specs.declared.Verdict.{Verdict}
 use Rattle.verify.specs.declared.Verdict.the-variants.{Rejected}
-use Rattle.verify.specs.Check.{check11, treesRejection, flagsRejection, judged}
+use Rattle.verify.specs.{check11, treesRejection, flagsRejection, judged}
 use Rattle.verify.proofs.Judging.{judged-until, judged-onward}
 use Rattle.verify.proofs.check_certificate.Statement.{statement}
 use Rattle.verify.proofs.check_certificate.Tie as tie

@@ -1,15 +1,7 @@
 -- `check_flags` meets its contract: before each node the flags behind it are in range.
-use Prim.Native.Nat.{ℕ, _-_}
-use native.Mathlib.Omega.{arith}
-use mathlib.Core.Path.{ap, _∙_}
-use mathlib.Core.Bool.{Bool}
-use mathlib.Core.List.{List}
-use lib.Dec.{leb}
-use lib.ListN.{getD}
-use borrow.Author.Tests.{le-leb, lt-leb}
-use borrow.Author.Needs.{needs}
+use Rattle.prelude.proofs.{ℕ, _-_, arith, ap, _∙_, Bool, List, leb, getD, le-leb, lt-leb, needs}
 use Rattle.frames.specs.declared.Checked.the-variants.{Nodes}
-use Rattle.frames.specs.Frame.{frames}
+use Rattle.frames.specs.{frames}
 use Rattle.verify.proofs.Asking.{Asking, asking-none, asking-more, asking-until, asking-all}
 use Rattle.verify.proofs.check_flags.Statement.{statement}
 use Rattle.verify.proofs.check_flags.Tie as tie

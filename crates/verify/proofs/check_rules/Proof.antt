@@ -1,13 +1,8 @@
 -- `check_rules` meets its contract: before each node the rules of the nodes behind it hold (Ruling).
-use Prim.Native.Nat.{_-_}
-use native.Mathlib.Omega.{arith}
-use mathlib.Core.Path.{_≡_, sym, ap, _∙_}
-use mathlib.Core.Bool.{true}
-use borrow.Author.Tests.{not-true, not-false}
-use borrow.Author.Needs.{needs}
+use Rattle.prelude.proofs.{_-_, arith, _≡_, sym, ap, _∙_, true, not-true, not-false, needs}
 use Rattle.frames.specs.declared.Checked.the-variants.{Nodes}
 use Rattle.positions.proofs.Positions.{positioned-side}
-use Rattle.verify.specs.Flags.{ruleHolds}
+use Rattle.verify.specs.{ruleHolds}
 use Rattle.verify.proofs.Ruling.{Ruling, ruling-none, ruling-until, ruling-within, ruling-more, ruling-all}
 use Rattle.verify.proofs.check_rules.Statement.{statement}
 use Rattle.verify.proofs.check_rules.Tie as tie

@@ -1,6 +1,5 @@
 -- `check_trees` meets its contract: what is filled in are the positions, in either size of the array.
-use native.Mathlib.Omega.{arith}
-use borrow.Author.Needs.{needs}
+use Rattle.prelude.proofs.{arith, needs}
 use Rattle.positions.proofs.Positions.{positioned}
 use Rattle.verify.proofs.check_trees.Statement.{statement}
 use Rattle.verify.proofs.check_trees.Tie as tie

@@ -1,11 +1,7 @@
 -- `count_members` meets its contract: each turn counts one node more.
-use Prim.Native.Nat.{_-_}
-use native.Mathlib.Omega.{arith}
-use mathlib.Core.Path.{sym, _∙_}
-use mathlib.Core.Logic.{⊎-elim}
-use borrow.Author.Needs.{needs}
+use Rattle.prelude.proofs.{_-_, arith, sym, _∙_, ⊎-elim, needs}
 use Rattle.lists.proofs.Counting.{Counted, counted-none, counted-more, counted-all}
-use Rattle.verify.specs.Flags.{member}
+use Rattle.verify.specs.{member}
 use Rattle.verify.proofs.count_members.Statement.{statement}
 use Rattle.verify.proofs.count_members.Tie as tie
 

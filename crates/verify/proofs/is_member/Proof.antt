@@ -1,13 +1,8 @@
 -- `is_member` meets its contract: a flag of 3 is in both trees, any other in the tree that it names.
-use Prim.Native.Nat.{ℕ}
-use mathlib.Core.Path.{_≡_, refl}
-use mathlib.Core.Bool.{Bool, true, false, _||_}
-use lib.Dec.{eqb}
-use borrow.Author.Tests.{ne-eqb}
-use borrow.Author.Needs.{needs}
+use Rattle.prelude.proofs.{ℕ, _≡_, refl, Bool, true, false, _||_, eqb, ne-eqb, needs}
 use Rattle.gametree.specs.declared.Side.{Side}
 use Rattle.gametree.specs.declared.Side.the-variants.{Max, Min}
-use Rattle.gametree.specs.Certificate.{inside}
+use Rattle.gametree.specs.{inside}
 use Rattle.verify.proofs.is_member.Statement.{statement}
 use Rattle.verify.proofs.is_member.Tie as tie
 

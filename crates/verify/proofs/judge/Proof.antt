@@ -1,22 +1,12 @@
 -- `judge` meets its contract: a "no" settles the verdict, and equal values give it.
-use Prim.Native.Nat.{ℕ}
-use native.Mathlib.Omega.{arith}
-use mathlib.Core.Path.{_≡_, ap, _∙_}
-use mathlib.Core.List.{List}
-use mir.Syntax.{w16}
-use mir.ValLaws.{toZ-ofZ}
-use borrow.Author.Tests.{eq-eqb, ne-eqb}
-use borrow.Author.Needs.{needs}
+use Rattle.prelude.proofs.{ℕ, arith, _≡_, ap, _∙_, List, w16, toZ-ofZ, eq-eqb, ne-eqb, needs}
 use Rattle.gametree.specs.declared.Side.the-variants.{Max, Min}
-use Rattle.frames.specs.Frame.{frames}
+use Rattle.frames.specs.{frames, _andThen_, answer, valueOf}
 use Rattle.frames.specs.declared.Rejection.{Rejection}
 use Rattle.frames.specs.declared.Checked.the-variants as checked
-use Rattle.frames.specs.Rejection.{_andThen_, answer}
-use Rattle.frames.specs.Value.{valueOf}
 use Rattle.verify.specs.declared.Verdict.{Verdict}
 use Rattle.verify.specs.declared.Verdict.the-variants.{Value, Rejected}
-use Rattle.verify.specs.Value.{treeValue}
-use Rattle.verify.specs.Check.{checkTree, check14, treesRejection, judged}
+use Rattle.verify.specs.{treeValue, checkTree, check14, treesRejection, judged}
 use Rattle.verify.proofs.Values.{value-within}
 use Rattle.verify.proofs.Judging.{judged-until, judged-onward}
 use Rattle.verify.proofs.judge.Statement.{statement}

@@ -1,17 +1,10 @@
 -- `leaf_in` meets its contract: only a leaf that is in the tree has its score.
-use Prim.Native.Nat.{ℕ}
-use mathlib.Core.Path.{_≡_, refl, sym, ap, _∙_}
-use mathlib.Core.Bool.{Bool, true, false, cond, _&&_}
-use mathlib.Core.List.{List}
-use lib.Dec.{eqb}
-use borrow.Author.Tests.{not-true, not-false}
-use borrow.Author.Needs.{needs}
+use Rattle.prelude.proofs.{ℕ, _≡_, refl, sym, ap, _∙_, Bool, true, false, cond, _&&_, List, eqb, not-true, not-false}
+use Rattle.prelude.proofs.{needs}
 use Rattle.gametree.specs.declared.Side.{Side}
-use Rattle.gametree.specs.Certificate.{worst}
-use Rattle.frames.specs.Frame.{childCount, storedScore}
-use Rattle.frames.specs.Tree.{leafScore, valuation}
-use Rattle.verify.specs.Flags.{member}
-use Rattle.verify.specs.Value.{leafIn}
+use Rattle.gametree.specs.{worst}
+use Rattle.frames.specs.{childCount, storedScore, leafScore, valuation}
+use Rattle.verify.specs.{member, leafIn}
 use Rattle.verify.proofs.Values.{leaf-in, inner-in}
 use Rattle.verify.proofs.leaf_in.Statement.{statement}
 use Rattle.verify.proofs.leaf_in.Tie as tie

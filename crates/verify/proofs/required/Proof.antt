@@ -1,12 +1,8 @@
 -- `required` meets its contract: all children where the side moves, exactly one where the other side does.
-use Prim.Native.Nat.{ℕ, zero, suc, _<_}
-use native.Mathlib.Omega.{arith}
-use mathlib.Core.Path.{_≡_, refl, sym, _∙_}
-use mathlib.Core.Bool.{true, cond}
-use borrow.Author.Needs.{needs}
+use Rattle.prelude.proofs.{ℕ, zero, suc, _<_, arith, _≡_, refl, sym, _∙_, true, cond, needs}
 use Rattle.gametree.specs.declared.Side.{Side}
-use Rattle.gametree.specs.Certificate.{same}
-use Rattle.verify.specs.Flags.{requiredOf}
+use Rattle.gametree.specs.{same}
+use Rattle.verify.specs.{requiredOf}
 use Rattle.verify.proofs.required.Statement.{statement}
 use Rattle.verify.proofs.required.Tie as tie
 

@@ -1,19 +1,11 @@
 -- `rule_holds` meets its contract: one lemma for each of its returns.
-use Prim.Native.Nat.{ℕ, zero, suc}
-use native.Mathlib.Omega.{arith}
-use mathlib.Core.Path.{_≡_, refl, sym, _∙_}
-use mathlib.Core.Logic.{⊎-elim}
-use mathlib.Core.Bool.{Bool, true, false}
-use mathlib.Core.List.{List}
-use lib.Dec.{eqb}
-use borrow.Author.Tests.{not-true, not-false}
-use borrow.Author.Needs.{needs}
+use Rattle.prelude.proofs.{ℕ, zero, suc, arith, _≡_, refl, sym, _∙_, ⊎-elim, Bool, true, false, List, eqb, not-true}
+use Rattle.prelude.proofs.{not-false, needs}
 use Rattle.gametree.specs.declared.Side.{Side}
-use Rattle.frames.specs.Frame.{firstChild, childCount}
-use Rattle.frames.specs.Position.{sideOf}
+use Rattle.frames.specs.{firstChild, childCount, sideOf}
 use Rattle.frames.proofs.Next.{children-within}
-use Rattle.lists.specs.Lists.{countFrom}
-use Rattle.verify.specs.Flags.{member, requiredOf, rootMember, ruleHolds}
+use Rattle.lists.specs.{countFrom}
+use Rattle.verify.specs.{member, requiredOf, rootMember, ruleHolds}
 use Rattle.verify.proofs.Rules.{root-member}
 use Rattle.verify.proofs.rule_holds.Statement.{statement}
 use Rattle.verify.proofs.rule_holds.Tie as tie

@@ -1,13 +1,9 @@
 -- `tree_values` meets its contract: before each node the two bests are those of the nodes behind it.
-use Prim.Native.Nat.{_-_, _≤_}
-use native.Mathlib.Omega.{arith}
-use mathlib.Core.Path.{_≡_, refl, ap, _∙_}
-use borrow.Author.Needs.{needs}
+use Rattle.prelude.proofs.{_-_, _≤_, arith, _≡_, refl, ap, _∙_, needs}
 use Rattle.gametree.specs.declared.Side.the-variants.{Max, Min}
-use Rattle.frames.specs.Frame.{maxNodes}
-use Rattle.frames.specs.Position.{depthOf}
+use Rattle.frames.specs.{maxNodes, depthOf}
 use Rattle.positions.proofs.Positions.{positioned-few, positioned-depth}
-use Rattle.verify.specs.Value.{bestBefore}
+use Rattle.verify.specs.{bestBefore}
 use Rattle.verify.proofs.Values.{best-more}
 use Rattle.verify.proofs.tree_values.Statement.{statement}
 use Rattle.verify.proofs.tree_values.Tie as tie

@@ -1,11 +1,9 @@
 -- `worstfill::fill_node` meets its contract. The number of frames from the node on falls with each call; at the head of
 -- the loop stands `RankLoop`: the turns that are left make of the next rank and the table what is due.
-use Prim.Native.Nat.{ℕ, _-_, _<_}
-use native.Mathlib.Omega.{arith}
-use borrow.Author.Needs.{needs}
+use Rattle.prelude.proofs.{ℕ, _-_, _<_, arith, needs}
 use borrow.Fn.Kinds.{In}
 use borrow.Fn.PlainCycle.{Measures, is, falls, and}
-use Rattle.frames.specs.Frame.{frames}
+use Rattle.frames.specs.{frames}
 use Rattle.worstfill.proofs.Nodes.{RankLoop, leaf-few, leaf-due, turns-begin, turn-inside, turn-later}
 use Rattle.worstfill.proofs.Nodes.{turn-fillable, turn-goes-on, turns-end}
 use Rattle.worstfill.proofs.fill_node.Reads as own

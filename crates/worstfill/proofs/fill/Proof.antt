@@ -1,6 +1,5 @@
 -- `worstfill::fill` meets its contract: the questions are answered, and then the leaves are filled or nothing is done.
-use mathlib.Core.Path.{sym, _∙_}
-use borrow.Author.Needs.{needs}
+use Rattle.prelude.proofs.{sym, _∙_, needs}
 use Rattle.worstfill.proofs.Whole.{checked-fillable, fill-gives, fill-refused}
 use Rattle.worstfill.proofs.fill.Statement.{statement}
 use Rattle.worstfill.proofs.fill.Tie as tie

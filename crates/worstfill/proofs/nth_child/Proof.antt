@@ -1,6 +1,5 @@
 -- `worstfill::nth_child` meets its contract, by the side.
-use native.Mathlib.Omega.{arith}
-use borrow.Author.Needs.{needs}
+use Rattle.prelude.proofs.{arith, needs}
 use Rattle.worstfill.proofs.nth_child.Statement.{statement}
 use Rattle.worstfill.proofs.nth_child.Tie as tie
 

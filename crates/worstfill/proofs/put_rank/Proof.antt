@@ -1,8 +1,6 @@
 -- `worstfill::put_rank` meets its contract: the two stores are those of the definition.
-use native.Mathlib.Omega.{arith}
-use lib.ListN.{length-set}
-use borrow.Author.Needs.{needs}
-use Rattle.worstfill.specs.Ranks.{withRank}
+use Rattle.prelude.proofs.{arith, length-set, needs}
+use Rattle.worstfill.specs.{withRank}
 use Rattle.worstfill.proofs.put_rank.Statement.{statement}
 use Rattle.worstfill.proofs.put_rank.Tie as tie
 

@@ -5,7 +5,7 @@ use mathlib.Core.List.{List}
 use lib.ListN.{length}
 use Rattle.gametree.specs.declared.Side.{Side}
 use Rattle.gametree.specs.declared.Side.the-variants.{Max, Min}
-use Rattle.gametree.specs.Tree.{leaves}
+use Rattle.gametree.specs.Trees.{leaves}
 use Rattle.frames.specs.Frame.{maxNodes, frames}
 use Rattle.frames.specs.Position.{sideOf}
 use Rattle.frames.specs.Tree.{treeAt}

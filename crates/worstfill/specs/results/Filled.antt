@@ -4,7 +4,7 @@ use mathlib.Core.Path.{_≡_}
 use mathlib.Core.Bool.{true}
 use mathlib.Core.List.{List}
 use Rattle.lists.specs.Lists.{among}
-use Rattle.gametree.specs.Tree.{nodes}
+use Rattle.gametree.specs.Trees.{nodes}
 use Rattle.frames.specs.Tree.{treeAt}
 use Rattle.frames.specs.results.Leaf.{Leaf}
 use Rattle.worstfill.specs.Outcome.{fillOutcome}

@@ -1,9 +1,5 @@
 -- `cases::made::make_table` is safe and ends.
-use Prim.Native.Nat.{_≤_, _-_}
-use mathlib.Core.Path.{_≡_, refl}
-use native.Mathlib.Omega.{arith}
-use lib.ListN.{length, length-set}
-use borrow.Author.Needs.{needs}
+use Rattle.prelude.proofs.{_≤_, _-_, _≡_, refl, arith, length, length-set, needs}
 use Rattle.cases.proofs.made.make_table.Statement.{statement}
 use Rattle.cases.proofs.made.make_table.Tie as tie
 

@@ -1,7 +1,5 @@
 -- `cases::made::print_report` is safe and ends: the text has the bytes that are printed.
-use mathlib.Core.Path.{sym}
-use lib.Seq.{length-take-le}
-use borrow.Author.Needs.{needs}
+use Rattle.prelude.proofs.{sym, length-take-le, needs}
 use Rattle.text.proofs.Sizes.{length-within}
 use Rattle.cases.proofs.made.print_report.Statement.{statement}
 use Rattle.cases.proofs.made.print_report.Tie as tie

@@ -1,10 +1,5 @@
 -- `cases::numbers::read_numbers` meets its contract: no more numbers are started than there is room for.
-use Prim.Native.Nat.{_≤_, _-_}
-use mathlib.Core.Path.{_≡_, refl, sym}
-use lib.Seq.{length-take-le}
-use native.Mathlib.Omega.{arith}
-use lib.ListN.{length}
-use borrow.Author.Needs.{needs}
+use Rattle.prelude.proofs.{_≤_, _-_, _≡_, refl, sym, length-take-le, arith, length, needs}
 use Rattle.cases.proofs.numbers.read_numbers.Statement.{statement}
 use Rattle.cases.proofs.numbers.read_numbers.Tie as tie
 

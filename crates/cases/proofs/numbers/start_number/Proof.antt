@@ -1,7 +1,5 @@
 -- `cases::numbers::start_number` meets its contract.
-use native.Mathlib.Omega.{arith}
-use lib.ListN.{length-set}
-use borrow.Author.Needs.{needs}
+use Rattle.prelude.proofs.{arith, length-set, needs}
 use Rattle.cases.proofs.numbers.start_number.Statement.{statement}
 use Rattle.cases.proofs.numbers.start_number.Tie as tie
 

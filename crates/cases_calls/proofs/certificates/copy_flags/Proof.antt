@@ -1,9 +1,5 @@
 -- `cases_calls::certificates::copy_flags` meets its contract: the list of flags keeps its length.
-use Prim.Native.Nat.{_≤_, _-_}
-use mathlib.Core.Path.{_≡_, refl}
-use native.Mathlib.Omega.{arith}
-use lib.ListN.{length, length-set}
-use borrow.Author.Needs.{needs}
+use Rattle.prelude.proofs.{_≤_, _-_, _≡_, refl, arith, length, length-set, needs}
 use Rattle.cases_calls.proofs.certificates.copy_flags.Statement.{statement}
 use Rattle.cases_calls.proofs.certificates.copy_flags.Tie as tie
 

@@ -1,11 +1,6 @@
 -- `certificates::print_choice` is proved safe: a walk of its MIR by hand, since it holds a struct with a reference. The
 -- struct that `select` returns is taken apart for `print_selection`.
-use mathlib.Core.Path.{_≡_, refl, subst}
-use Prim.Native.Nat.{ℕ, _+_, _-_, _*_}
-use mathlib.Core.List.{List, [], _∷_}
-use lib.ListN.{length}
-use lib.Dec.{T as Holds}
-use mir.Val.{hasTy}
+use Rattle.prelude.proofs.{_≡_, refl, subst, ℕ, _+_, _-_, _*_, List, [], _∷_, length, T as Holds, hasTy}
 use contract.BorrowLft.{_⊑_}
 use types.Kit.{given, learn, use1}
 use denote.Enum.Laws as EL
@@ -27,7 +22,7 @@ use Rattle.walks.proofs.Walk.{tablesOf, tripleOf, u8, unit, unit-lit, via, vuni
 use Rattle.shorter.specs.declared.Selection.{Selection}
 use Rattle.shorter.specs.declared.Choice.{Choice}
 use Rattle.shorter.specs.declared.Choice.the-variants.{First, Second, Rejected}
-use Rattle.shorter.specs.Choice.{choice, flagsBy, pointerBy}
+use Rattle.shorter.specs.{choice, flagsBy, pointerBy}
 use Rattle.shorter.proofs.Selection as T
 use Rattle.shorter.proofs.Selection.Laws as T′
 use Rattle.shorter.proofs.Choice as S

@@ -1,6 +1,5 @@
 -- `crate::print::print_bytes` is safe and ends.
-use Prim.Native.Nat.{_≤_, _-_}
-use borrow.Author.Needs.{needs}
+use Rattle.prelude.proofs.{_≤_, _-_, needs}
 use Rattle.cases_calls.proofs.print.print_bytes.Statement.{statement}
 use Rattle.cases_calls.proofs.print.print_bytes.Tie as tie
 

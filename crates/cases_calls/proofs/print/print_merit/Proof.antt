@@ -1,10 +1,5 @@
 -- `crate::print::print_merit` is safe and ends: a merit and its negation fit 64 bits.
-use borrow.Author.Needs.{needs}
-use mathlib.Core.Path.{_≡_}
-use lib.IntN.{pos, _-ℤ_}
-use mir.Syntax.{w32, w64}
-use mir.Val.{toZ, ofZ}
-use mir.ValLaws.{toZ-ofZ}
+use Rattle.prelude.proofs.{needs, _≡_, pos, _-ℤ_, w32, w64, toZ, ofZ, toZ-ofZ}
 use Rattle.text_signs.proofs.Signs.{wide64, negative, positive}
 use Rattle.cases_calls.proofs.print.print_merit.Statement.{statement}
 use Rattle.cases_calls.proofs.print.print_merit.Tie as tie

@@ -1,6 +1,5 @@
 -- `crate::print::print_numbers` is safe and ends.
-use Prim.Native.Nat.{_≤_, _-_}
-use borrow.Author.Needs.{needs}
+use Rattle.prelude.proofs.{_≤_, _-_, needs}
 use Rattle.cases_calls.proofs.print.print_numbers.Statement.{statement}
 use Rattle.cases_calls.proofs.print.print_numbers.Tie as tie
 

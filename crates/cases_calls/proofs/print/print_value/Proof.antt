@@ -1,7 +1,5 @@
 -- `crate::print::print_value` is safe and ends: a value fits 32 bits.
-use borrow.Author.Needs.{needs}
-use mir.Syntax.{w16}
-use mir.ValLaws.{toZ-ofZ}
+use Rattle.prelude.proofs.{needs, w16, toZ-ofZ}
 use Rattle.text_signs.proofs.Signs.{wide32}
 use Rattle.cases_calls.proofs.print.print_value.Statement.{statement}
 use Rattle.cases_calls.proofs.print.print_value.Tie as tie

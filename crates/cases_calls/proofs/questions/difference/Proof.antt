@@ -1,13 +1,6 @@
 -- `cases_calls::questions::difference` is safe: numbers of six digits and their difference are in the type's range.
-use Prim.Native.Nat.{ℕ, zero, suc, _%_, _<_}
-use native.Mathlib.Omega.{arith}
-use native.Mathlib.Decide.{decLt}
-use lib.IntN.{pos, _-ℤ_}
-use mir.Syntax.{w32}
-use mir.Val.{SFits}
-use mir.ValLaws.{toZ-pos, toZ-ofZ}
-use borrow.Author.Tests.{lt-ltb, le-ltb}
-use borrow.Author.Needs.{needs}
+use Rattle.prelude.proofs.{ℕ, zero, suc, _%_, _<_, arith, decLt, pos, _-ℤ_, w32, SFits, toZ-pos, toZ-ofZ, lt-ltb}
+use Rattle.prelude.proofs.{le-ltb, needs}
 use Rattle.cases_calls.proofs.questions.difference.Statement.{statement}
 use Rattle.cases_calls.proofs.questions.difference.Tie as tie
 

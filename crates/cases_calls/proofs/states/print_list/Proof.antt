@@ -1,6 +1,5 @@
 -- `cases_calls::states::print_list` is safe and ends.
-use Prim.Native.Nat.{_≤_, _-_}
-use borrow.Author.Needs.{needs}
+use Rattle.prelude.proofs.{_≤_, _-_, needs}
 use Rattle.cases_calls.proofs.states.print_list.Statement.{statement}
 use Rattle.cases_calls.proofs.states.print_list.Tie as tie
 

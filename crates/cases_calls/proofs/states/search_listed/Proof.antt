@@ -1,11 +1,6 @@
 -- `states::search_listed` is proved safe: a walk of its MIR by hand, since it lends an array of structs. The list by
 -- value is copied into a local, which is lent to `sss::search`; what it holds then is passed on by value.
-use mathlib.Core.Path.{_≡_, refl, _∙_}
-use Prim.Native.Nat.{ℕ, _<_, _+_, _-_, _*_, _^_}
-use native.Mathlib.Omega.{arith}
-use mathlib.Core.List.{List, [], _∷_}
-use lib.Dec.{lit<}
-use lib.ListN.{length}
+use Rattle.prelude.proofs.{_≡_, refl, _∙_, ℕ, _<_, _+_, _-_, _*_, _^_, arith, List, [], _∷_, lit<, length}
 use Rattle.walks.proofs.Walk.{ !, Args, Atoms, ByValue, Contract, Fml, Fun, GName, Given, Heap, Is, Lfts, Meets, Memory}
 use Rattle.walks.proofs.Walk.{MutSlice, Parameters, RattleType, RefT, Room, Routine, SProp, Shares, ShrSlice, Stays}
 use Rattle.walks.proofs.Walk.{Tables, Triple, URA, Val, Vals, WpFn, _$_, _∵_, addr, agg, alloc0, alloc1, and-then}
@@ -20,11 +15,11 @@ use Rattle.walks.proofs.Walk.{drop, w64, walkOf, ‵, ⋆}
 use denote.Array.{Array, array-vals, array-tells}
 use denote.Laws.{Lawful}
 use denote.Struct.Laws as LL
-use Rattle.frames.specs.Rejection.{_leaving_}
-use Rattle.methods.specs.Outcome.{lent as lentOf}
+use Rattle.frames.specs.{_leaving_}
+use Rattle.methods.specs.{lent as lentOf}
 use Rattle.methods.specs.declared.Answer.{Answer}
 use Rattle.sss_states.specs.declared.State.{State}
-use Rattle.sss.specs.Outcome.{sssOutcome}
+use Rattle.sss.specs.{sssOutcome}
 use Rattle.sss_states.proofs.State as S
 use Rattle.sss_states.proofs.State.Laws as S′
 use Rattle.methods.proofs.Answer as B

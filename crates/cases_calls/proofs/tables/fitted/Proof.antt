@@ -1,7 +1,5 @@
 -- `cases_calls::tables::fitted` meets its contract: the smaller of the two.
-use native.Mathlib.Omega.{arith}
-use mathlib.Core.Path.{sym}
-use lib.Seq.{length-take-le}
+use Rattle.prelude.proofs.{arith, sym, length-take-le}
 use Rattle.cases_calls.proofs.tables.fitted.Statement.{statement}
 use Rattle.cases_calls.proofs.tables.fitted.Tie as tie
 

@@ -1,6 +1,5 @@
 -- `cases_calls::tables::frames_size` meets its contract: one case for each of its returns.
-use native.Mathlib.Omega.{arith}
-use borrow.Author.Needs.{needs}
+use Rattle.prelude.proofs.{arith, needs}
 use Rattle.cases_calls.proofs.tables.frames_size.Statement.{statement}
 use Rattle.cases_calls.proofs.tables.frames_size.Tie as tie
 

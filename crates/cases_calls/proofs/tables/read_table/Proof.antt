@@ -1,9 +1,6 @@
 -- `cases_calls::tables::read_table` meets its contract: it is what the reader gives.
-use Prim.Native.Nat.{min}
-use mathlib.Core.Path.{ap, _∙_}
-use lib.ListN.{length}
-use Rattle.cases_calls.specs.Sizes.{framesSize}
-use borrow.Author.Needs.{needs}
+use Rattle.prelude.proofs.{min, ap, _∙_, length, needs}
+use Rattle.cases_calls.specs.{framesSize}
 use Rattle.cases_calls.proofs.tables.read_table.Statement.{statement}
 use Rattle.cases_calls.proofs.tables.read_table.Tie as tie
 

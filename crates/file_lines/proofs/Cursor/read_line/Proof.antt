@@ -1,15 +1,8 @@
 -- `file_lines::Cursor::read_line` meets its contract: where a line stands at the position, the next position is past
 -- twelve digits, and past a line feed if the file goes on.
-use Prim.Native.Nat.{ℕ, _+_, _≤_, min}
-use mathlib.Core.Path.{_≡_, sym, ap, _∙_}
-use mathlib.Core.Bool.{true}
-use mathlib.Core.List.{List}
-use lib.ListN.{length}
-use native.Mathlib.Omega.{arith}
-use borrow.Author.Needs.{needs}
-use borrow.Author.Tests.{not-true, not-false}
+use Rattle.prelude.proofs.{ℕ, _+_, _≤_, min, _≡_, sym, ap, _∙_, true, List, length, arith, needs, not-true, not-false}
 use denote.Ref.{now}
-use Rattle.file_lines.specs.Line.{lineDigits, isLineAt, bytesAt, frameOf, lineAt}
+use Rattle.file_lines.specs.{lineDigits, isLineAt, bytesAt, frameOf, lineAt}
 use Rattle.file_lines.specs.declared.Line.the-variants.{Read}
 use Rattle.file_lines.proofs.Lines.{line-bytes}
 use Rattle.file_lines.proofs.Storing.{stored-whole}

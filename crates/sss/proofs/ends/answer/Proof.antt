@@ -1,6 +1,5 @@
 -- `sss::ends::answer` meets its contract: by whether the allowance ended the run.
-use mathlib.Core.Path.{sym, _∙_}
-use borrow.Author.Needs.{needs}
+use Rattle.prelude.proofs.{sym, _∙_, needs}
 use Rattle.sss.proofs.ends.answer.Statement.{statement}
 use Rattle.sss.proofs.ends.answer.Tie as tie
 

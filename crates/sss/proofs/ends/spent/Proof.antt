@@ -1,8 +1,5 @@
 -- `sss::ends::spent` meets its contract: the merit is the score's value.
-use mathlib.Core.Path.{_∙_}
-use mir.Syntax.{w32}
-use mir.ValLaws.{toZ-ofZ}
-use borrow.Author.Needs.{needs}
+use Rattle.prelude.proofs.{_∙_, w32, toZ-ofZ, needs}
 use Rattle.sss.proofs.ends.spent.Statement.{statement}
 use Rattle.sss.proofs.ends.spent.Tie as tie
 

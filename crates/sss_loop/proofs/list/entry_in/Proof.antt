@@ -1,5 +1,5 @@
 -- `sss_loop::list::entry_in` meets its contract.
-use borrow.Author.Needs.{needs}
+use Rattle.prelude.proofs.{needs}
 use Rattle.sss_loop.proofs.list.entry_in.Statement.{statement}
 use Rattle.sss_loop.proofs.list.entry_in.Tie as tie
 

@@ -1,16 +1,9 @@
 -- `sss_loop::list::replace` meets its contract: a walk of its MIR by hand, since it holds a slice of structs. The list
 -- is opened as a row (`Rows.antt`) before the loop and shut after it, and each new entry is what `entry_in` gives.
-use mathlib.Core.Path.{_≡_, refl, sym, subst}
-use Prim.Native.Nat.{ℕ, _<_, _≤_, _+_, _-_, _*_, _^_}
-use native.Mathlib.Omega.{arith}
-use mathlib.Core.Bool.{Bool, true, false}
-use mathlib.Core.Option.{none as no-value, some}
-use mathlib.Core.List.{List, [], _∷_}
+use Rattle.prelude.proofs.{_≡_, refl, sym, subst, ℕ, _<_, _≤_, _+_, _-_, _*_, _^_, arith, Bool, true, false}
+use Rattle.prelude.proofs.{none as no-value, some, List, [], _∷_, ltb, length, set, ltb-true, ltb-false}
 use mathlib.Core.WellFounded.{WellFounded, InvImage·wf}
-use lib.Dec.{ltb}
-use lib.ListN.{length, set}
 use lib.WfN.{Nat·lt-wfRel}
-use borrow.Author.Tests.{ltb-true, ltb-false}
 use Rattle.walks.proofs.Walk.{URA, fullShare, Ty, named, mut, w64, tyInt, tyBool, tyPtr, tyRef, tyUnit, Val, vunit}
 use Rattle.walks.proofs.Walk.{vbool, vint, SProp, ent, emp, via, Fml, fat, flft, Memory, Routine, Heap}
 use Rattle.walks.proofs.Walk.{Out, Env, afterSeq, afterBlock, afterTurn, Wp, atReturn, WpFn, Tables, Atoms, Lfts}
@@ -27,8 +20,8 @@ use Rattle.walks.proofs.Walk.{Parameters, stays-of, by-walk, lent, valued}
 use denote.Struct.Laws as LL
 use Rattle.sss_states.specs.declared.State.{State}
 use Rattle.sss_turns.specs.declared.Update.{Update}
-use Rattle.sss_states.specs.Entry.{blank}
-use Rattle.sss_turns.specs.engine.Update.{entryIn, updated, Within}
+use Rattle.sss_states.specs.{blank}
+use Rattle.sss_turns.specs.{entryIn, updated, Within}
 use Rattle.sss_loop.proofs.Updates.{Replacing, replacing-start, replacing-on, replacing-end}
 use Rattle.sss_states.proofs.State as S
 use Rattle.sss_states.proofs.State.Laws as S′

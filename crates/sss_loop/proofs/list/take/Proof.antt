@@ -1,9 +1,5 @@
 -- `sss_loop::list::take` meets its contract: a walk of its MIR by hand, since it holds a slice of structs.
-use mathlib.Core.Path.{refl}
-use Prim.Native.Nat.{ℕ, _<_, _+_, _*_, _-_, _^_}
-use native.Mathlib.Omega.{arith}
-use mathlib.Core.List.{List, [], _∷_}
-use lib.ListN.{length, getD}
+use Rattle.prelude.proofs.{refl, ℕ, _<_, _+_, _*_, _-_, _^_, arith, List, [], _∷_, length, getD}
 use Rattle.walks.proofs.Walk.{URA, named, w64, Val, vint, SProp, ent, via, Fml, flft, Memory, Routine, Heap, WpFn}
 use Rattle.walks.proofs.Walk.{Tables, Atoms, Lfts, Shares, Fun, givenOf, tables, tablesOf, Given, ‵, ⋆, _$_, _∵_, ! }
 use Rattle.walks.proofs.Walk.{qed, by, move, keep, group, suffices, frame, done, look, init, stop, hop, from, load, lit}
@@ -14,7 +10,7 @@ use Rattle.walks.proofs.Walk.{ByValue, of-struct, looks, looked, entry-out, hel
 use Rattle.walks.proofs.Walk.{Parameters, stays-of, by-walk, shared, valued}
 use denote.Struct.Laws as LL
 use Rattle.sss_states.specs.declared.State.{State}
-use Rattle.sss_states.specs.Entry.{blank}
+use Rattle.sss_states.specs.{blank}
 use Rattle.sss_states.proofs.State as S
 use Rattle.sss_states.proofs.State.Laws as S′
 use Rattle.sss_loop.proofs.list.take.Key.{name as #take}

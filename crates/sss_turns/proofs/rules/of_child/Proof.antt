@@ -1,6 +1,6 @@
 -- `sss_turns::rules::of_child` meets its contract.
+use Rattle.prelude.proofs.{needs}
 use Rattle.sss_turns.proofs.Choices.{child-max, child-next, child-last}
-use borrow.Author.Needs.{needs}
 use Rattle.sss_turns.proofs.rules.of_child.Statement.{statement}
 use Rattle.sss_turns.proofs.rules.of_child.Tie as tie
 

@@ -1,5 +1,5 @@
 -- `sss_turns::rules::of_inner` meets its contract.
-use borrow.Author.Needs.{needs}
+use Rattle.prelude.proofs.{needs}
 use Rattle.sss_turns.proofs.rules.of_inner.Statement.{statement}
 use Rattle.sss_turns.proofs.rules.of_inner.Tie as tie
 

@@ -1,9 +1,7 @@
 -- `sss_turns::rules::of_leaf` meets its contract.
-use native.Mathlib.Omega.{arith}
-use mathlib.Core.Path.{_∙_}
+use Rattle.prelude.proofs.{arith, _∙_, needs}
 use Rattle.certificate_bounds.proofs.Listing.{one-evaluated}
 use Rattle.positions.proofs.Positions.{positioned-few, positioned-depth}
-use borrow.Author.Needs.{needs}
 use Rattle.sss_turns.proofs.rules.of_leaf.Statement.{statement}
 use Rattle.sss_turns.proofs.rules.of_leaf.Tie as tie
 

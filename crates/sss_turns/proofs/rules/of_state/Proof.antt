@@ -1,15 +1,12 @@
 -- `sss_turns::rules::of_state` meets its contract: by the status, and by the count of children.
-use native.Mathlib.Omega.{arith}
-use mathlib.Core.Path.{_≡_, sym, ap, ap₂, _∙_}
-use Rattle.frames.specs.Frame.{childCount}
-use Rattle.frames.specs.Position.{sideOf}
+use Rattle.prelude.proofs.{arith, _≡_, sym, ap, ap₂, _∙_, needs}
+use Rattle.frames.specs.{childCount, sideOf}
 use Rattle.frames.proofs.Parents.{parent-child}
 use Rattle.certificate_bounds.proofs.Listing.{none-evaluated}
 use Rattle.sss_states.specs.declared.Status.the-variants.{Live}
-use Rattle.sss_turns.specs.engine.Rules.{ofInner, ofChild}
+use Rattle.sss_turns.specs.{ofInner, ofChild}
 use Rattle.positions.proofs.Positions.{positioned-parent, positioned-side}
 use Rattle.sss_turns.proofs.Taking.{live-inner, inner-none, solved-none}
-use borrow.Author.Needs.{needs}
 use Rattle.sss_turns.proofs.rules.of_state.Statement.{statement}
 use Rattle.sss_turns.proofs.rules.of_state.Tie as tie
 
