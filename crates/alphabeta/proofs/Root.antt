@@ -6,15 +6,15 @@ use Rattle.gametree.specs.{Tree, least, greatest, minimax, number, Score, fullW
 use Rattle.gametree_theory.proofs.minimax.Bounds.{minimax-score}
 use Rattle.gametree_theory.proofs.alphabeta.Window.{alphaBeta-value}
 use Rattle.gametree_theory.proofs.alphabeta.RootMove.{raiser, raiser-move}
-use Rattle.frames.specs.{frames, firstChild, childCount, next, rootPosition, childrenFrom, treeAt, tree, valuation}
-use Rattle.frames.specs.{WellFormed, ChildOf}
-use Rattle.frames.proofs.Next.{child-within}
-use Rattle.frames.proofs.Positions.{position-root}
-use Rattle.frames.proofs.Proper.{every-leaf, leaf-scored, tree-proper}
-use Rattle.frames.proofs.Trees.{tree-inner, tree-number}
+use Rattle.table.specs.{frames, firstChild, childCount, next, rootPosition, childrenFrom, treeAt, tree, valuation}
+use Rattle.table.specs.{WellFormed, ChildOf}
+use Rattle.table.proofs.Next.{child-within}
+use Rattle.table.proofs.Positions.{position-root}
+use Rattle.table.proofs.Proper.{every-leaf, leaf-scored, tree-proper}
+use Rattle.table.proofs.Trees.{tree-inner, tree-number}
 use Rattle.certificate_bounds.specs.{Progress, progress, Listable}
-use Rattle.certificate.specs.{Searchable}
-use Rattle.certificate.proofs.Unmarked.{all-wait}
+use Rattle.certificate_write.specs.{Searchable}
+use Rattle.certificate_write.proofs.Unmarked.{all-wait}
 use Rattle.alphabeta_visits.specs.declared.Visited.{Visited}
 use Rattle.alphabeta_visits.proofs.Evaluated.{visit-waits}
 use Rattle.alphabeta_visits.proofs.Pass.{Gives, pass-ends, pass-goes-on}

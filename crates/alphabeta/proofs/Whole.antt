@@ -3,13 +3,13 @@
 use Rattle.prelude.proofs.{ℕ, _≤_, arith, _≡_, refl, ap, _∙_, List, length, ℤ}
 use Rattle.gametree.specs.{greatest, minimax, rootMove, fullWindow}
 use Rattle.gametree_theory.proofs.Theorems.{value-score, alphaBeta-leaves, alphaBeta-minimax}
-use Rattle.frames.specs.{frames, tree, valuation, WellFormed, valueOf}
-use Rattle.frames.proofs.Proper.{tree-proper}
-use Rattle.positions.specs.{written}
+use Rattle.table.specs.{frames, tree, valuation, WellFormed, valueOf}
+use Rattle.table.proofs.Proper.{tree-proper}
+use Rattle.table_positions.specs.{written}
 use Rattle.certificate_bounds.specs.{ones, progress, evaluateAll}
 use Rattle.certificate_bounds.proofs.Listing.{first-evaluated}
-use Rattle.certificate.specs.{marksOf, listed}
-use Rattle.certificate.proofs.Outcomes.{search-marks}
+use Rattle.certificate_write.specs.{marksOf, listed}
+use Rattle.certificate_write.proofs.Outcomes.{search-marks}
 use Rattle.methods.specs.declared.Method.the-variants.{AlphaBeta}
 use Rattle.methods.specs.{evaluatedBy, findingsBy}
 use Rattle.methods.proofs.Rules.{decides}

@@ -6,9 +6,9 @@ use Rattle.lists.specs.{All}
 use Rattle.gametree.specs.{Tree, leaf, inner, Children, last, _then_, In, InChildren, raise, lower, SearchResult}
 use Rattle.gametree.specs.{onward, alphaBeta, alphaBetaChildren}
 use Rattle.lists.proofs.Lists.{all-append}
-use Rattle.frames.specs.{frames, treeAt, WellFormed, ChildOf}
+use Rattle.table.specs.{frames, treeAt, WellFormed, ChildOf}
 use Rattle.certificate_bounds.specs.{markAll}
-use Rattle.certificate.proofs.Unmarked.{Unvisited, younger-wait}
+use Rattle.certificate_write.proofs.Unmarked.{Unvisited, younger-wait}
 
 onward-all : (P : ℕ → Type 0) (b : Bool) (r q : SearchResult) → All P (r .evaluated) → All P (q .evaluated)
     → All P (onward b r q .evaluated)

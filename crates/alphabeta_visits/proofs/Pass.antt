@@ -4,7 +4,7 @@ use Rattle.prelude.proofs.{ℕ, suc, _+_, _-_, _≤_, _<_, arith, _≡_, refl, 
 use Rattle.prelude.proofs.{le-ltb}
 use Rattle.gametree.specs.declared.Side.{Side}
 use Rattle.gametree.specs.{Tree, raise, lower, SearchResult, after, onward, alphaBeta, alphaBetaChildren}
-use Rattle.frames.specs.{childrenFrom}
+use Rattle.table.specs.{childrenFrom}
 use Rattle.certificate_bounds.specs.{Progress, evaluateAll}
 use Rattle.certificate_bounds.proofs.Listing.{evaluateAll-append}
 

@@ -2,14 +2,14 @@
 use Rattle.prelude.proofs.{ℕ, suc, _+_, _-_, _≤_, _<_, arith, _≡_, refl, sym, ap, _∙_, List, length, set}
 use Rattle.gametree.specs.declared.Position.{Position}
 use Rattle.gametree.specs.{clamp, alphaBeta}
-use Rattle.frames.specs.{frames, firstChild, childCount, positionOf, treeAt, valuation, WellFormed}
-use Rattle.frames.proofs.Nodes.{in-own}
-use Rattle.frames.proofs.Trees.{tree-leaf, tree-inner}
+use Rattle.table.specs.{frames, firstChild, childCount, positionOf, treeAt, valuation, WellFormed}
+use Rattle.table.proofs.Nodes.{in-own}
+use Rattle.table.proofs.Trees.{tree-leaf, tree-inner}
 use Rattle.certificate_bounds.specs.{ones, markAll, Evaluable, Progress, progress, Listable}
 use Rattle.certificate_bounds.proofs.Listing.{next-counted}
-use Rattle.certificate.specs.{Searchable}
-use Rattle.certificate.proofs.Searchable.{searchable-depth}
-use Rattle.certificate.proofs.Unmarked.{Unvisited}
+use Rattle.certificate_write.specs.{Searchable}
+use Rattle.certificate_write.proofs.Searchable.{searchable-depth}
+use Rattle.certificate_write.proofs.Unmarked.{Unvisited}
 use Rattle.alphabeta_visits.specs.declared.Visited.{Visited}
 use Rattle.alphabeta_visits.proofs.Pass.{Gives, Remainder, remainder-all, rest}
 

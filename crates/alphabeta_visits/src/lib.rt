@@ -1,22 +1,22 @@
 // Alpha-beta of a node and of what is below it, in a window: the leaves that it reaches are evaluated, from left to
 // right.
 use certificate_bounds::evaluate_next;
-use frames::child_count;
-use frames::child_position;
-use frames::first_child;
 use gametree::Position;
 use gametree::Side;
 use gametree::better;
+use table::child_count;
+use table::child_position;
+use table::first_child;
 ghost use mathlib.Core.Path.{_≡_};
 ghost use Prim.Native.Nat.{_+_};
 ghost use lib.ListN.{set};
 ghost use Rattle.gametree.specs.AlphaBeta.{raise, lower, clamp, alphaBeta};
-ghost use Rattle.frames.specs.Frame.{frames};
-ghost use Rattle.frames.specs.Tree.{treeAt, valuation};
+ghost use Rattle.table.specs.Frame.{frames};
+ghost use Rattle.table.specs.Tree.{treeAt, valuation};
 ghost use Rattle.certificate_bounds.specs.Marks.{ones};
 ghost use Rattle.certificate_bounds.specs.engine.Evaluable.{Evaluable};
 ghost use Rattle.certificate_bounds.specs.engine.Progress.{progress, evaluateAll, Listable};
-ghost use Rattle.certificate.specs.engine.Searchable.{Searchable};
+ghost use Rattle.certificate_write.specs.engine.Searchable.{Searchable};
 
 // What the engine gives for a subtree: its score in the window, and how many leaves are evaluated by then.
 pub struct Visited {

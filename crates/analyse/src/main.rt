@@ -16,7 +16,7 @@ fn main() {
 
 // The text of the file's report, as far as it goes.
 fn print_report(file: &[u8]) {
-    let text = report::write(file);
+    let text = analysis::write(file);
     let bytes = text.bytes;
     let end = text.length;
     io::write_all(STDOUT_FILENO, &bytes[..end]);

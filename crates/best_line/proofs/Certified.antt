@@ -8,14 +8,14 @@ use Rattle.gametree.specs.{minimax, other, Proper, known, worst, inside, flag, 
 use Rattle.gametree_theory.proofs.Searches.{Deciding}
 use Rattle.gametree_theory.proofs.certificates.ReadOff.{ReadOff, fits}
 use Rattle.gametree_theory.proofs.certificates.Flags.{flag-inside, read-bounds}
-use Rattle.frames.specs.{frames, tree, valuation, WellFormed, Accepted}
-use Rattle.frames.proofs.Acceptance.{accepted-formed}
-use Rattle.frames.proofs.Nodes.{tree-range}
-use Rattle.frames.proofs.Proper.{tree-proper}
-use Rattle.positions.proofs.Buffers.{written-at, written-length}
-use Rattle.certificate.specs.{flagsOf}
-use Rattle.verify.specs.{member}
-use Rattle.verify.specs.Certificate.{Certificate}
+use Rattle.table.specs.{frames, tree, valuation, WellFormed, Accepted}
+use Rattle.table.proofs.Acceptance.{accepted-formed}
+use Rattle.table.proofs.Nodes.{tree-range}
+use Rattle.table.proofs.Proper.{tree-proper}
+use Rattle.table_positions.proofs.Buffers.{written-at, written-length}
+use Rattle.certificate_write.specs.{flagsOf}
+use Rattle.certificate_check.specs.{member}
+use Rattle.certificate_check.specs.Certificate.{Certificate}
 
 -- a flag is at most 3
 two-bits : (x y : Bool) → cond x 1 0 + cond y 2 0 ≤ 3

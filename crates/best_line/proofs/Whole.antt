@@ -1,9 +1,9 @@
 -- The steps of a call: SSS* finds the value and writes its certificate, whose principal variation is then given.
 use Rattle.prelude.proofs.{ℕ, _≤_, arith, _≡_, sym, ap, ap₂, _∙_, List, [], _∷_, _++_, length, drop, replicate}
 use Rattle.prelude.proofs.{length-replicate}
-use Rattle.frames.specs.{maxNodes, frames, Accepted, _leaving_}
-use Rattle.frames.proofs.Acceptance.{accepted-formed}
-use Rattle.certificate.proofs.Questions.{room-passed}
+use Rattle.table.specs.{maxNodes, frames, Accepted, _leaving_}
+use Rattle.table.proofs.Acceptance.{accepted-formed}
+use Rattle.certificate_write.proofs.Questions.{room-passed}
 use Rattle.methods.specs.declared.Method.{Method}
 use Rattle.methods.specs.declared.Method.the-variants.{Sss}
 use Rattle.methods.specs.declared.Answer.{Answer}

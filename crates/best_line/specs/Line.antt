@@ -4,11 +4,11 @@ use mathlib.Core.List.{List, [], _∷_, _++_}
 use lib.ListN.{length, drop, replicate}
 use Rattle.gametree.specs.Trees.{minimax}
 use Rattle.gametree.specs.Move.{rootMove}
-use Rattle.frames.specs.Frame.{maxNodes}
-use Rattle.frames.specs.Tree.{tree, valuation}
-use Rattle.frames.specs.Value.{valueOf}
-use Rattle.frames.specs.Rejection.{unless, Outcome, _leaving_}
-use Rattle.certificate.specs.Search.{searchRejection, flagsOf}
+use Rattle.table.specs.Frame.{maxNodes}
+use Rattle.table.specs.Tree.{tree, valuation}
+use Rattle.table.specs.Value.{valueOf}
+use Rattle.table.specs.Rejection.{unless, Outcome, _leaving_}
+use Rattle.certificate_write.specs.Search.{searchRejection, flagsOf}
 use Rattle.methods.specs.declared.Method.the-variants.{Sss}
 use Rattle.methods.specs.Rules.{evaluatedBy}
 use Rattle.variation.specs.Variation.{variation}

@@ -1,10 +1,10 @@
 // The best line of play of a table, in one call: SSS* finds a certificate, and the line is read off it.
-use certificate::ask;
-use frames::Checked;
-use frames::MAX_NODES;
+use certificate_write::ask;
 use search::Answer;
 use search::Method;
 use search::search;
+use table::Checked;
+use table::MAX_NODES;
 pub use variation::LineAnswer;
 pub use variation::LineFound;
 use variation::VariationAnswer;
@@ -13,9 +13,9 @@ ghost use mathlib.Core.Path.{_≡_};
 ghost use mathlib.Core.List.{_++_};
 ghost use Prim.Native.Nat.{_≤_};
 ghost use lib.ListN.{length, drop};
-ghost use Rattle.frames.specs.Frame.{frames};
-ghost use Rattle.frames.specs.Check.{Accepted};
-ghost use Rattle.frames.specs.Rejection.{_leaving_};
+ghost use Rattle.table.specs.Frame.{frames};
+ghost use Rattle.table.specs.Check.{Accepted};
+ghost use Rattle.table.specs.Rejection.{_leaving_};
 ghost use Rattle.best_line.specs.Line.{lineFound, bestLineOf, lineOutcome};
 ghost use Rattle.best_line.specs.engine.Parts.{nothingIn, foundIn, lineLength};
 

@@ -1,6 +1,6 @@
 -- A call with its answer made flat: what the call gives is handed on.
 use Rattle.prelude.proofs.{_≡_, ap, _∙_}
-use Rattle.frames.specs.{Outcome, _leaving_}
+use Rattle.table.specs.{Outcome, _leaving_}
 use Rattle.buulset_answers.specs.declared.Answer.{Answer}
 use Rattle.buulset.specs.{flatBy}
 

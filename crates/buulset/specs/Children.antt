@@ -2,8 +2,8 @@
 use Prim.Native.Nat.{ℕ, zero, suc, _*_, _/_}
 use mathlib.Core.List.{List}
 use lib.ListN.{length, take, drop}
-use Rattle.frames.specs.Frame.{frameSize, firstChild}
-use Rattle.frames.specs.Children.{childrenOf}
+use Rattle.table.specs.Frame.{frameSize, firstChild}
+use Rattle.table.specs.Children.{childrenOf}
 use Rattle.buulset_answers.specs.declared.Children.{Children}
 use Rattle.buulset_answers.specs.Answers.{noChildren}
 

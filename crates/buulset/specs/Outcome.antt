@@ -1,5 +1,5 @@
 -- What an exported call leaves: the outcome of the call that it makes, with its answer flat.
-use Rattle.frames.specs.Rejection.{Outcome, _leaving_}
+use Rattle.table.specs.Rejection.{Outcome, _leaving_}
 use Rattle.buulset_answers.specs.declared.Answer.{Answer}
 
 -- an outcome with its answer made flat; what the call leaves stays the same

@@ -19,32 +19,32 @@ use buulset_flat::flat_printed;
 use buulset_flat::flat_text;
 use buulset_flat::flat_verdict;
 use buulset_flat::flat_written;
-use frames::FRAME_SIZE;
-use frames::Rejection;
 use search::Method;
+use table::FRAME_SIZE;
+use table::Rejection;
 ghost use mathlib.Core.Path.{_≡_};
 ghost use mathlib.Core.List.{[]};
 ghost use lib.ListN.{length};
-ghost use Rattle.frames.specs.Rejection.{_leaving_};
-ghost use Rattle.frames.specs.Check.{checked};
-ghost use Rattle.frames.specs.Children.{childrenOf};
+ghost use Rattle.table.specs.Rejection.{_leaving_};
+ghost use Rattle.table.specs.Check.{checked};
+ghost use Rattle.table.specs.Children.{childrenOf};
 ghost use Rattle.file_hex.specs.Digit.{digitOf};
-ghost use Rattle.file_lines.specs.Line.{lineAt};
-ghost use Rattle.file_reader.specs.File.{readOutcome};
-ghost use Rattle.file_writer.specs.Write.{writeOutcome};
-ghost use Rattle.convert.specs.Convert.{convertOutcome};
-ghost use Rattle.convert.specs.Printed.{outputOutcome};
+ghost use Rattle.file_line.specs.Line.{lineAt};
+ghost use Rattle.file_read.specs.File.{readOutcome};
+ghost use Rattle.file_write.specs.Write.{writeOutcome};
+ghost use Rattle.file_convert.specs.Convert.{convertOutcome};
+ghost use Rattle.file_convert.specs.Printed.{outputOutcome};
 ghost use Rattle.methods.specs.declared.Method.the-variants.{AlphaBeta, Mtd, MtdFrom, Sss};
 ghost use Rattle.methods.specs.Outcome.{lent, searchOutcome};
 ghost use Rattle.plain.specs.Outcome.{plainOutcome};
 ghost use Rattle.best_line.specs.Line.{lineOutcome};
-ghost use Rattle.verify.specs.Check.{verdict};
-ghost use Rattle.shorter.specs.Choice.{choice, chosenFlags};
+ghost use Rattle.certificate_check.specs.Check.{verdict};
+ghost use Rattle.certificate_choice.specs.Choice.{choice, chosenFlags};
 ghost use Rattle.graft.specs.Outcome.{graftOutcome};
-ghost use Rattle.leastvalue.specs.LeastValue.{leastValue};
-ghost use Rattle.worstfill.specs.Outcome.{fillOutcome};
-ghost use Rattle.leastcount.specs.Answer.{leastAnswer};
-ghost use Rattle.report.specs.Report.{report};
+ghost use Rattle.leaf_value.specs.LeastValue.{leastValue};
+ghost use Rattle.worst_fill.specs.Outcome.{fillOutcome};
+ghost use Rattle.least_count.specs.Answer.{leastAnswer};
+ghost use Rattle.analysis.specs.Report.{report};
 ghost use Rattle.text.specs.Text.{refusedLine, textOf};
 ghost use Rattle.buulset_flat.specs.Flat.{flatChecked, flatWritten, flatPrinted, flatAnswer, flatPlain, flatFilled};
 ghost use Rattle.buulset_flat.specs.Flat.{flatVerdict, flatLeastValue, flatLeast, flatChoice, flatLine, flatText};
@@ -64,80 +64,80 @@ pub extern "C" fn buulset_version() -> u32
     VERSION
 }
 
-// `treefile::read`: the file's frames in the table; `count` is the number of nodes.
+// `file::read`: the file's frames in the table; `count` is the number of nodes.
 #[no_mangle]
 pub extern "C" fn buulset_read(file: &[u8], table: &mut [u8]) -> Answer
     ensures { λ r. ⌜ r leaving now (table .exit)
         ≡ flatBy flatChecked (readOutcome (now (file .entry)) (now (table .entry))) ⌝ }
 {
-    flat_checked(treefile::read(file, table))
+    flat_checked(file::read(file, table))
 }
 
-// `treefile::Cursor::read_line`: one line of a file, from a position on.
+// `file::Cursor::read_line`: one line of a file, from a position on.
 #[no_mangle]
 pub extern "C" fn buulset_read_line(file: &[u8], at: usize) -> Line
     ensures { λ r. ⌜ r ≡ flatLine (lineAt (now (file .entry)) at) ⌝ }
 {
-    let cursor = treefile::Cursor { at };
+    let cursor = file::Cursor { at };
     flat_line(cursor.read_line(file))
 }
 
-// `treefile::digit`.
+// `file::digit`.
 #[no_mangle]
 pub extern "C" fn buulset_digit(byte: u8) -> u8
     ensures { λ r. ⌜ r ≡ digitOf byte ⌝ }
 {
-    treefile::digit(byte)
+    file::digit(byte)
 }
 
-// `treefile::write`: the table's file in the buffer; `count` is its length in bytes.
+// `file::write`: the table's file in the buffer; `count` is its length in bytes.
 #[no_mangle]
 pub extern "C" fn buulset_write(table: &[u8], file: &mut [u8]) -> Answer
     ensures { λ r. ⌜ r leaving now (file .exit)
         ≡ flatBy flatWritten (writeOutcome (now (table .entry)) (now (file .entry))) ⌝ }
 {
-    flat_written(treefile::write(table, file))
+    flat_written(file::write(table, file))
 }
 
-// `convert::convert`: the file with capitals in the buffer; `count` is its length in bytes.
+// `file_convert::convert`: the file with capitals in the buffer; `count` is its length in bytes.
 #[no_mangle]
 pub extern "C" fn buulset_convert(file: &[u8], converted: &mut [u8]) -> Answer
     ensures { λ r. ⌜ r leaving now (converted .exit)
         ≡ flatBy flatWritten (convertOutcome (now (file .entry)) (now (converted .entry))) ⌝ }
 {
-    flat_written(convert::convert(file, converted))
+    flat_written(file_convert::convert(file, converted))
 }
 
-// `convert::output`: what `capitals` prints for the file in the buffer; `count` is its length in bytes. Where it is the
+// `file_convert::output`: what `capitals` prints for the file in the buffer; `count` is its length in bytes. Where it is the
 // line of a refusal, that refusal is the answer's.
 #[no_mangle]
 pub extern "C" fn buulset_capitals(file: &[u8], printed: &mut [u8]) -> Answer
     ensures { λ r. ⌜ r leaving now (printed .exit)
         ≡ flatBy flatPrinted (outputOutcome (now (file .entry)) (now (printed .entry))) ⌝ }
 {
-    flat_printed(convert::output(file, printed))
+    flat_printed(file_convert::output(file, printed))
 }
 
-// `tables::check`: `count` is the number of nodes.
+// `table_check::check`: `count` is the number of nodes.
 #[no_mangle]
 pub extern "C" fn buulset_check(table: &[u8]) -> Answer
     ensures { λ r. ⌜ r ≡ flatChecked (checked (now (table .entry))) ⌝ }
 {
-    flat_checked(tables::check(table))
+    flat_checked(table_check::check(table))
 }
 
-// `frames::children`: the part of the table that it hands back, as the number of its first frame and of its frames.
+// `table::children`: the part of the table that it hands back, as the number of its first frame and of its frames.
 #[no_mangle]
 pub extern "C" fn buulset_children(table: &[u8], node: usize) -> Children
     ensures { λ r. ⌜ (r ≡ flatChildren (now (table .entry)) node)
         × (childrenOf (now (table .entry)) node ≡ partOf (now (table .entry)) r) ⌝ }
 {
-    let count = frames::children(table, node).len() / FRAME_SIZE;
+    let count = table::children(table, node).len() / FRAME_SIZE;
     if count == 0 {
         return no_children();
     }
     Children {
-        first: frames::first_child(table, node),
+        first: table::first_child(table, node),
         count,
     }
 }
@@ -247,22 +247,25 @@ pub extern "C" fn buulset_line(table: &[u8], line: &mut [u16]) -> Answer
     flat_best_line(best_line::line(table, line))
 }
 
-// `verify::check`: `value` is what the certificate certifies.
+// `certificate_check::check`: `value` is what the certificate certifies.
 #[no_mangle]
 pub extern "C" fn buulset_verify(table: &[u8], certificate: &[u8]) -> Answer
     ensures { λ r. ⌜ r ≡ flatVerdict (verdict (now (table .entry)) (now (certificate .entry))) ⌝ }
 {
-    flat_verdict(verify::check(table, certificate))
+    flat_verdict(certificate_check::check(table, certificate))
 }
 
-// `shorter::select`, by its two parts: which certificate, and the length of what is handed back of it.
+// `certificate_choice::select`, by its two parts: which certificate, and the length of what is handed back of it.
 #[no_mangle]
 pub extern "C" fn buulset_shorter<'a>(table: &[u8], first: &'a [u8], second: &'a [u8]) -> Choice
     ensures { λ r. ⌜ r ≡ flatChoice (choice (now (table .entry)) (now (first .entry)) (now (second .entry)))
         (length (chosenFlags (now (table .entry)) (now (first .entry)) (now (second .entry)))) ⌝ }
 {
-    let chosen = shorter::choose(table, first, second);
-    flat_choice(chosen, shorter::flags(table, first, second, chosen).len())
+    let chosen = certificate_choice::choose(table, first, second);
+    flat_choice(
+        chosen,
+        certificate_choice::flags(table, first, second, chosen).len(),
+    )
 }
 
 // `graft::graft`: the result's table in the buffer; `count` is its number of nodes.
@@ -279,36 +282,36 @@ pub extern "C" fn buulset_graft(
     flat_checked(graft::graft(first, node, second, result))
 }
 
-// `leastvalue::least_value`: `value` is the leaf's.
+// `leaf_value::least_value`: `value` is the leaf's.
 #[no_mangle]
 pub extern "C" fn buulset_least_value(table: &[u8], node: usize, wanted: i32) -> Answer
     ensures { λ r. ⌜ r ≡ flatLeastValue (leastValue (now (table .entry)) node wanted) ⌝ }
 {
-    flat_least_value(leastvalue::least_value(table, node, wanted))
+    flat_least_value(leaf_value::least_value(table, node, wanted))
 }
 
-// `worstfill::fill`: the ranks in the table; `count` is the number of leaves.
+// `worst_fill::fill`: the ranks in the table; `count` is the number of leaves.
 #[no_mangle]
 pub extern "C" fn buulset_fill(table: &mut [u8]) -> Answer
     ensures { λ r. ⌜ r leaving now (table .exit) ≡ flatBy flatFilled (fillOutcome (now (table .entry))) ⌝ }
 {
-    flat_filled(worstfill::fill(table))
+    flat_filled(worst_fill::fill(table))
 }
 
-// `leastcount::least_leaves`: `count` is the number of leaves.
+// `least_count::least_leaves`: `count` is the number of leaves.
 #[no_mangle]
 pub extern "C" fn buulset_least_leaves(width: usize, depth: usize) -> Answer
     ensures { λ r. ⌜ r ≡ flatLeast (leastAnswer width depth) ⌝ }
 {
-    flat_least(leastcount::least_leaves(width, depth))
+    flat_least(least_count::least_leaves(width, depth))
 }
 
-// `report::write`.
+// `analysis::write`.
 #[no_mangle]
 pub extern "C" fn buulset_report(file: &[u8]) -> Text
     ensures { λ r. ⌜ r ≡ flatText (textOf (report (now (file .entry)))) ⌝ }
 {
-    flat_text(report::write(file))
+    flat_text(analysis::write(file))
 }
 
 // `text::refused`.

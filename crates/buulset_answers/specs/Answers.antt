@@ -3,9 +3,9 @@ use Prim.Native.Nat.{ℕ}
 use lib.IntN.{ℤ, pos}
 use mathlib.Core.List.{[], _∷_}
 use lib.ListN.{replicate}
-use Rattle.frames.specs.declared.Rejection.{Rejection}
-use Rattle.file_lines.specs.declared.Frame.{Frame}
-use Rattle.file_lines.specs.declared.Cursor.{Cursor}
+use Rattle.table.specs.declared.Rejection.{Rejection}
+use Rattle.file_line.specs.declared.Frame.{Frame}
+use Rattle.file_line.specs.declared.Cursor.{Cursor}
 use Rattle.methods.specs.declared.Findings.{Findings}
 use Rattle.methods.specs.declared.Spent.{Spent}
 use Rattle.plain.specs.declared.PlainResult.{PlainResult}
@@ -18,15 +18,7 @@ use Rattle.buulset_answers.specs.declared.Line.{Line}
 -- a result with its value, count, root move and steps
 abbrev pub result : ℤ → (count move steps : ℕ) → Answer
 result v n m s =
-    record {
-      refused = 0;
-      spent = 0;
-      value = v;
-      place = 0;
-      count = n;
-      «root_move» = m;
-      steps = s;
-    }
+    record { refused = 0; spent = 0; value = v; place = 0; count = n; «root_move» = m; steps = s }
 
 -- a count, a value, what a search finds, what the plain engine finds
 abbrev pub counted : ℕ → Answer
@@ -61,15 +53,7 @@ spent s =
 -- a rejection whose line has n bytes and was laid down; and one without a line
 abbrev pub laidLine : Rejection → ℕ → Answer
 laidLine r n =
-    record {
-      refused = r .number;
-      spent = 0;
-      value = pos 0;
-      place = r .place;
-      count = n;
-      «root_move» = 0;
-      steps = 0;
-    }
+    record { refused = r .number; spent = 0; value = pos 0; place = r .place; count = n; «root_move» = 0; steps = 0 }
 
 abbrev pub refused : Rejection → Answer
 refused r = laidLine r 0
@@ -88,11 +72,7 @@ noChildren = record { first = 0; count = 0 }
 -- one line: its bytes with the position past it, or none with the position as it was
 abbrev pub readLine : Frame → Cursor → Line
 readLine f c =
-    record {
-      bytes = f .byte0 ∷ f .byte1 ∷ f .byte2 ∷ f .byte3 ∷ f .byte4 ∷ f .byte5 ∷ [];
-      read = 1;
-      at = c .at;
-    }
+    record { bytes = f .byte0 ∷ f .byte1 ∷ f .byte2 ∷ f .byte3 ∷ f .byte4 ∷ f .byte5 ∷ []; read = 1; at = c .at }
 
 abbrev pub noLine : Cursor → Line
 noLine c = record { bytes = replicate 6 0; read = 0; at = c .at }

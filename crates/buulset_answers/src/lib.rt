@@ -1,12 +1,12 @@
 // The answers of the library for other languages: structs of numbers with the layout of C, and how each kind of answer
 // is made. Every member of an answer that is not given is 0.
-use file_lines::Cursor;
-use file_lines::Frame;
-use frames::FRAME_SIZE;
-use frames::Rejection;
+use file_line::Cursor;
+use file_line::Frame;
 use methods::Findings;
 use methods::Spent;
 use plain::PlainResult;
+use table::FRAME_SIZE;
+use table::Rejection;
 use text::TEXT_SIZE;
 use variation::LineFound;
 ghost use mathlib.Core.Path.{_≡_};

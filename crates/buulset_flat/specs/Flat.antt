@@ -1,19 +1,19 @@
 -- What each call gives back, as an answer of numbers.
 use Prim.Native.Nat.{ℕ}
-use Rattle.frames.specs.declared.Checked.{Checked}
-use Rattle.frames.specs.declared.Checked.the-variants as checked
-use Rattle.file_lines.specs.declared.Line as lines
-use Rattle.file_writer.specs.declared.Written.{Written}
-use Rattle.file_writer.specs.declared.Written.the-variants as written
-use Rattle.convert.specs.declared.Printed as printed
+use Rattle.table.specs.declared.Checked.{Checked}
+use Rattle.table.specs.declared.Checked.the-variants as checked
+use Rattle.file_line.specs.declared.Line as lines
+use Rattle.file_write.specs.declared.Written.{Written}
+use Rattle.file_write.specs.declared.Written.the-variants as written
+use Rattle.file_convert.specs.declared.Printed as printed
 use Rattle.methods.specs.declared.Answer as search
 use Rattle.plain.specs.declared.PlainAnswer as plain
 use Rattle.variation.specs.declared.LineAnswer as best_line
-use Rattle.verify.specs.declared.Verdict as verify
-use Rattle.shorter.specs.declared.Choice as shorter
-use Rattle.leastvalue.specs.declared.LeastValue as leastvalue
-use Rattle.worstfill.specs.declared.Filled as worstfill
-use Rattle.leastcount.specs.declared.Least as leastcount
+use Rattle.certificate_check.specs.declared.Verdict as verify
+use Rattle.certificate_choice.specs.declared.Choice as shorter
+use Rattle.leaf_value.specs.declared.LeastValue as leastvalue
+use Rattle.worst_fill.specs.declared.Filled as worstfill
+use Rattle.least_count.specs.declared.Least as leastcount
 use Rattle.text.specs.declared.Text as text
 use Rattle.buulset_answers.specs.declared.Answer.{Answer}
 use Rattle.buulset_answers.specs.declared.Choice.{Choice}

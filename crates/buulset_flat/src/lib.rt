@@ -15,11 +15,11 @@ use buulset_answers::read;
 use buulset_answers::refused;
 use buulset_answers::spent;
 use buulset_answers::valued;
-use convert::Printed;
-use file_writer::Written;
-use frames::Checked;
-use frames::Rejection;
-use frames::SHORT_BUFFER;
+use file_convert::Printed;
+use file_write::Written;
+use table::Checked;
+use table::Rejection;
+use table::SHORT_BUFFER;
 use variation::LineAnswer;
 ghost use mathlib.Core.Path.{_≡_};
 ghost use Rattle.buulset_flat.specs.Flat.{flatChecked, flatWritten, flatPrinted, flatAnswer, flatPlain};
@@ -46,7 +46,7 @@ pub fn flat_written(answer: Written) -> Answer
     }
 }
 
-// Flattens what `convert::output` answers. Without room for what is printed it is refused with 10, and nothing is laid
+// Flattens what `file_convert::output` answers. Without room for what is printed it is refused with 10, and nothing is laid
 // down.
 pub fn flat_printed(answer: Printed) -> Answer
     ensures { λ r. ⌜ r ≡ flatPrinted answer ⌝ }
@@ -93,63 +93,63 @@ pub fn flat_plain(answer: plain::PlainAnswer) -> Answer
 }
 
 // Flattens the verdict on a certificate.
-pub fn flat_verdict(answer: verify::Verdict) -> Answer
+pub fn flat_verdict(answer: certificate_check::Verdict) -> Answer
     ensures { λ r. ⌜ r ≡ flatVerdict answer ⌝ }
 {
     match answer {
-        verify::Verdict::Value(value) => valued(value),
-        verify::Verdict::Rejected(rejection) => refused(rejection),
+        certificate_check::Verdict::Value(value) => valued(value),
+        certificate_check::Verdict::Rejected(rejection) => refused(rejection),
     }
 }
 
 // Flattens a choice, with the number of its flags.
-pub fn flat_choice(answer: shorter::Choice, count: usize) -> Choice
+pub fn flat_choice(answer: certificate_choice::Choice, count: usize) -> Choice
     ensures { λ r. ⌜ r ≡ flatChoice answer count ⌝ }
 {
     match answer {
-        shorter::Choice::First => chosen(1, count),
-        shorter::Choice::Second => chosen(2, count),
-        shorter::Choice::Rejected(rejection) => no_choice(rejection),
+        certificate_choice::Choice::First => chosen(1, count),
+        certificate_choice::Choice::Second => chosen(2, count),
+        certificate_choice::Choice::Rejected(rejection) => no_choice(rejection),
     }
 }
 
 // Flattens the answer for a wanted value.
-pub fn flat_least_value(answer: leastvalue::LeastValue) -> Answer
+pub fn flat_least_value(answer: leaf_value::LeastValue) -> Answer
     ensures { λ r. ⌜ r ≡ flatLeastValue answer ⌝ }
 {
     match answer {
-        leastvalue::LeastValue::Value(value) => valued(value),
-        leastvalue::LeastValue::Rejected(rejection) => refused(rejection),
+        leaf_value::LeastValue::Value(value) => valued(value),
+        leaf_value::LeastValue::Rejected(rejection) => refused(rejection),
     }
 }
 
 // Flattens a filling's answer.
-pub fn flat_filled(answer: worstfill::Filled) -> Answer
+pub fn flat_filled(answer: worst_fill::Filled) -> Answer
     ensures { λ r. ⌜ r ≡ flatFilled answer ⌝ }
 {
     match answer {
-        worstfill::Filled::Leaves(leaves) => counted(leaves),
-        worstfill::Filled::Rejected(rejection) => refused(rejection),
+        worst_fill::Filled::Leaves(leaves) => counted(leaves),
+        worst_fill::Filled::Rejected(rejection) => refused(rejection),
     }
 }
 
 // Flattens the answer of a least count.
-pub fn flat_least(answer: leastcount::Least) -> Answer
+pub fn flat_least(answer: least_count::Least) -> Answer
     ensures { λ r. ⌜ r ≡ flatLeast answer ⌝ }
 {
     match answer {
-        leastcount::Least::Leaves(leaves) => counted(leaves as usize),
-        leastcount::Least::Rejected(rejection) => refused(rejection),
+        least_count::Least::Leaves(leaves) => counted(leaves as usize),
+        least_count::Least::Rejected(rejection) => refused(rejection),
     }
 }
 
 // Flattens a line.
-pub fn flat_line(line: file_lines::Line) -> Line
+pub fn flat_line(line: file_line::Line) -> Line
     ensures { λ r. ⌜ r ≡ flatLine line ⌝ }
 {
     match line {
-        file_lines::Line::Read(f, past) => read(f, past),
-        file_lines::Line::NoLine(cursor) => no_line(cursor),
+        file_line::Line::Read(f, past) => read(f, past),
+        file_line::Line::NoLine(cursor) => no_line(cursor),
     }
 }
 

@@ -1,10 +1,10 @@
 // The program: reads a tree file from standard input, lifts its letters a to f to capitals, and writes its tree's file
 // to standard output, or, where the file is still refused, the line of the refusal.
-use convert::length_printed;
+use file::MAX_FILE;
+use file_convert::length_printed;
 use input::Input;
 use libc::STDERR_FILENO;
 use libc::STDOUT_FILENO;
-use treefile::MAX_FILE;
 
 // If a read fails there is no file to judge: one line goes to standard error. There is room for 65,536 bytes, more than
 // a file may have, so a longer file is refused as too long and never cut to one that passes.
@@ -19,7 +19,7 @@ fn main() {
 // The converted file, or the refusal; there is room for either.
 fn print_converted(file: &[u8]) {
     let mut text = [0u8; MAX_FILE];
-    let printed = convert::output(file, &mut text);
+    let printed = file_convert::output(file, &mut text);
     let end = length_printed(printed);
     io::write_all(STDOUT_FILENO, &text[..end]);
 }

@@ -1,10 +1,10 @@
 // Reports of files: of one that is given, and of the largest that pass and do not pass, which are made here because
 // they are long.
-use frames::FRAME_SIZE;
-use frames::MAX_NODES;
-use frames::MAX_TABLE;
+use file::LINE_SIZE;
 use libc::STDOUT_FILENO;
-use treefile::LINE_SIZE;
+use table::FRAME_SIZE;
+use table::MAX_NODES;
+use table::MAX_TABLE;
 
 // The longest file.
 const FILE_SIZE: usize = LINE_SIZE * MAX_NODES;
@@ -22,7 +22,7 @@ pub fn print_largest() {
     let mut table = [0u8; MAX_TABLE];
     let mut file = [0u8; FILE_SIZE];
     make_table(&mut table);
-    treefile::write(&table, &mut file);
+    file::write(&table, &mut file);
     io::write_all(STDOUT_FILENO, b"# 4096 frames\n");
     print_report(&file);
 }
@@ -69,7 +69,7 @@ fn leaf_byte(value: usize, at: usize) -> u8 {
 
 // What the program `analyse` prints for a file.
 pub fn print_report(file: &[u8]) {
-    let text = report::write(file);
+    let text = analysis::write(file);
     let bytes = text.bytes;
     let end = text.length;
     io::write_all(STDOUT_FILENO, &bytes[..end]);

@@ -4,12 +4,12 @@ use crate::print::print_count;
 use crate::print::print_line_feed;
 use crate::print::print_merit;
 use crate::print::print_value;
-use frames::Checked;
-use frames::Rejection;
 use libc::STDOUT_FILENO;
 use methods::Answer;
 use methods::Findings;
 use methods::Spent;
+use table::Checked;
+use table::Rejection;
 
 // A word and what a check answers, as a line.
 pub fn print_checked(word: &[u8], checked: Checked) {

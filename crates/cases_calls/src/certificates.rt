@@ -5,8 +5,8 @@ use crate::print::print_line_feed;
 use crate::tables::TABLE_SIZE;
 use crate::tables::fitted;
 use crate::tables::read_table;
+use certificate_choice::Choice;
 use libc::STDOUT_FILENO;
-use shorter::Choice;
 ghost use Prim.Native.Nat.{_<_};
 ghost use Rattle.io.specs.Counts.{Counts};
 
@@ -64,7 +64,7 @@ fn length_in(byte: u8) -> usize
 
 // What the choice gives, with the flags that are handed back.
 fn print_choice<'t, 'a: 'r, 'b: 'r, 'r>(table: &'t [u8], first: &'a [u8], second: &'b [u8]) {
-    let selection = shorter::select(table, first, second);
+    let selection = certificate_choice::select(table, first, second);
     print_selection(selection.choice, selection.flags);
 }
 

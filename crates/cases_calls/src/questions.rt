@@ -9,12 +9,12 @@ use crate::tables::TABLE_SIZE;
 use crate::tables::UNLISTED;
 use crate::tables::read_table;
 use best_line::LineAnswer;
-use frames::MAX_TABLE;
-use leastcount::Least;
-use leastcount::least_leaves;
-use leastvalue::LeastValue;
-use leastvalue::least_value;
+use leaf_value::LeastValue;
+use leaf_value::least_value;
+use least_count::Least;
+use least_count::least_leaves;
 use libc::STDOUT_FILENO;
+use table::MAX_TABLE;
 ghost use mathlib.Core.Path.{_≡_};
 ghost use Rattle.cases_calls.specs.Numbers.{difference as differenceOf};
 

@@ -1,13 +1,13 @@
 // Tables read from files, and what lent memory is filled with.
-use frames::Checked;
-use frames::FRAME_SIZE;
-use frames::MAX_NODES;
-use frames::MAX_TABLE;
+use table::Checked;
+use table::FRAME_SIZE;
+use table::MAX_NODES;
+use table::MAX_TABLE;
 ghost use mathlib.Core.Path.{_≡_};
 ghost use Prim.Native.Nat.{min};
 ghost use lib.ListN.{length};
 ghost use Rattle.io.specs.Counts.{Counts};
-ghost use Rattle.file_reader.specs.File.{readOutcome};
+ghost use Rattle.file_read.specs.File.{readOutcome};
 ghost use Rattle.cases_calls.specs.Sizes.{framesSize};
 
 // A table with one frame more than a tree may have.
@@ -26,7 +26,7 @@ pub fn read_table(file: &[u8], table: &mut [u8]) -> usize
         (length (now (table .exit))) ⌝ }
     ensures { λ r. ⌜ now (table .exit) ≡ readOutcome (now (file .entry)) (now (table .entry)) .left ⌝ }
 {
-    let size = frames_size(treefile::read(file, table));
+    let size = frames_size(file::read(file, table));
     fitted(size, table)
 }
 

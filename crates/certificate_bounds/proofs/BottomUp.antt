@@ -1,8 +1,8 @@
 -- Loops that fill an array from the last entry to the first: before entry i - 1 is stored, the entries from i on are
 -- filled.
 use Rattle.prelude.proofs.{ℕ, _+_, _-_, _≤_, _<_, arith, _≡_, refl, sym, ap, _∙_, List, length, getD, set, length-set}
-use Rattle.positions.specs.{written}
-use Rattle.positions.proofs.Buffers.{written-none, written-at, written-past, written-behind}
+use Rattle.table_positions.specs.{written}
+use Rattle.table_positions.proofs.Buffers.{written-none, written-at, written-past, written-behind}
 
 -- the loop before entry i - 1 of n: with the first i entries written too, the array b is b₀ with all n of them written
 pub record Rising (f : ℕ → ℕ) (n : ℕ) (b₀ b : List ℕ) (i : ℕ) : Type 0 where

@@ -3,9 +3,9 @@ use Rattle.prelude.proofs.{ℕ, zero, suc, _+_, _-_, _≤_, _<_, arith, _≡_, 
 use Rattle.prelude.proofs.{set-getD, eq-eqb, ne-eqb}
 use Rattle.gametree.specs.declared.Side.{Side}
 use Rattle.gametree.specs.{Tree, least, greatest, better, minimax, minimaxChildren, known}
-use Rattle.frames.specs.{frames, firstChild, childCount, sideOf, childrenFrom, treeAt, valuation, WellFormed, ChildOf}
-use Rattle.frames.proofs.Next.{child-later, child-within}
-use Rattle.frames.proofs.Trees.{tree-leaf, tree-inner}
+use Rattle.table.specs.{frames, firstChild, childCount, sideOf, childrenFrom, treeAt, valuation, WellFormed, ChildOf}
+use Rattle.table.proofs.Next.{child-later, child-within}
+use Rattle.table.proofs.Trees.{tree-leaf, tree-inner}
 use Rattle.certificate_bounds.specs.{marked, bestIn, boundOf, leafBounds}
 use Rattle.certificate_bounds.proofs.BottomUp.{Rising, rising-at}
 

@@ -4,8 +4,8 @@ use Rattle.prelude.proofs.{ℕ, zero, suc, _+_, _≤_, _<_, arith, decLt, _≡_
 use Rattle.prelude.proofs.{[], _∷_, _++_, length, set, drop, length-append, getD-set-same, sets, sets-eq}
 use Rattle.lists.specs.{countFrom}
 use Rattle.lists.proofs.Counting.{one-most, count-most, count-next}
-use Rattle.positions.specs.{written}
-use Rattle.frames.specs.{maxNodes, frames}
+use Rattle.table_positions.specs.{written}
+use Rattle.table.specs.{maxNodes, frames}
 use Rattle.certificate_bounds.specs.{marked, ones, markAll, Progress, progress, evaluateAll, Listable, Evaluable}
 use Rattle.certificate_bounds.proofs.Marking.{marked-other, markAll-append, cleared-unmarked}
 

@@ -2,8 +2,8 @@
 use Rattle.prelude.proofs.{ℕ, _<_, _≡_, refl, ap, _∙_, Bool, true, false, cond, _||_, List, [], _∷_, _++_, eqb, length}
 use Rattle.prelude.proofs.{set, length-set, getD-set-other}
 use Rattle.lists.specs.{All, among}
-use Rattle.positions.specs.{written}
-use Rattle.positions.proofs.Buffers.{written-at, written-same, put, written-set}
+use Rattle.table_positions.specs.{written}
+use Rattle.table_positions.proofs.Buffers.{written-at, written-same, put, written-set}
 use Rattle.certificate_bounds.specs.{mark, marked, markAll}
 
 pub markAll-append : (b v w : List ℕ) → markAll b (v ++ w) ≡ markAll (markAll b v) w

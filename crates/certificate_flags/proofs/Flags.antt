@@ -1,9 +1,9 @@
 -- The flags of a certificate, from the root down, node by node.
 use Rattle.prelude.proofs.{ℕ, _+_, _-_, _<_, arith, _≡_, refl, sym, ap₂, _∙_, Bool, true, false, cond, List, eqb, getD}
 use Rattle.gametree.specs.declared.Side.{Side}
-use Rattle.frames.specs.{frames, childCount, next, WellFormed}
-use Rattle.positions.specs.{stored, sideIn}
-use Rattle.positions.proofs.TopDown.{Filled, filled-at, filled-step}
+use Rattle.table.specs.{frames, childCount, next, WellFormed}
+use Rattle.table_positions.specs.{stored, sideIn}
+use Rattle.table_positions.proofs.TopDown.{Filled, filled-at, filled-step}
 use Rattle.certificate_flags.specs.{bySide, chosenChild, moversFlag, FlagsFrom}
 
 -- the flags of a node's children are stored as the rule says

@@ -1,19 +1,19 @@
 // The flags of a certificate and the root move, read off the sides and the two bounds of every node, whatever the
 // arrays hold.
-use frames::IN_BOTH;
-use frames::child_count;
-use frames::frame_count;
 use gametree::Side;
-use positions::side_at;
+use table::IN_BOTH;
+use table::child_count;
+use table::frame_count;
+use table_positions::side_at;
 ghost use mathlib.Core.Path.{_≡_};
 ghost use Prim.Native.Nat.{ℕ, _-_, _<_, _≤_};
 ghost use mathlib.Core.Bool.{cond};
 ghost use lib.Dec.{eqb};
 ghost use lib.ListN.{length, getD};
-ghost use Rattle.frames.specs.Frame.{frames, childCount};
-ghost use Rattle.frames.specs.Formed.{WellFormed};
-ghost use Rattle.positions.specs.Buffer.{written, stored};
-ghost use Rattle.positions.specs.engine.Positions.{sideIn};
+ghost use Rattle.table.specs.Frame.{frames, childCount};
+ghost use Rattle.table.specs.Formed.{WellFormed};
+ghost use Rattle.table_positions.specs.Buffer.{written, stored};
+ghost use Rattle.table_positions.specs.engine.Positions.{sideIn};
 ghost use Rattle.certificate_flags.specs.engine.Chosen.{firstEqual, bySide, chosenChild};
 ghost use Rattle.certificate_flags.specs.engine.Flags.{moversFlag, FlagsFrom};
 

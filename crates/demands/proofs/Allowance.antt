@@ -6,11 +6,11 @@
 -- Sentences.
 use Rattle.prelude.proofs.{ℕ, _≤_, _<_, arith, _≡_, refl, sym, ap, ap₂, _∙_, subst, map, pos, length, take, _≤ℤ_}
 use Rattle.gametree_theory.proofs.Within.{within-falls}
-use Rattle.frames.specs.{frames, tree, valuation, Accepted, SameShape}
-use Rattle.frames.proofs.Proper.{tree-proper}
-use Rattle.frames.proofs.Values.{value-order}
+use Rattle.table.specs.{frames, tree, valuation, Accepted, SameShape}
+use Rattle.table.proofs.Proper.{tree-proper}
+use Rattle.table.proofs.Values.{value-order}
 use Rattle.certificate_bounds.specs.{ones}
-use Rattle.certificate.specs.{marksOf, listed}
+use Rattle.certificate_write.specs.{marksOf, listed}
 use Rattle.methods.specs.declared.Method.the-variants.{Sss}
 use Rattle.methods.specs.declared.Findings.{Findings}
 use Rattle.methods.specs.declared.Spent.{Spent as Spending}

@@ -5,10 +5,10 @@ use Rattle.lists.proofs.Choice.{clash}
 use Rattle.gametree.specs.{greatest, minimax, Evaluation, ListAfter, spent, sssWithin}
 use Rattle.gametree_theory.proofs.Searches.{sssEvaluated}
 use Rattle.gametree_theory.proofs.Within as within
-use Rattle.frames.specs.{tree, valuation, WellFormed, unless, _leaving_, Accepted, SameShape, valueOf}
-use Rattle.frames.proofs.Acceptance.{accepted-formed}
-use Rattle.frames.proofs.Proper.{tree-proper}
-use Rattle.frames.proofs.Values.{value-order}
+use Rattle.table.specs.{tree, valuation, WellFormed, unless, _leaving_, Accepted, SameShape, valueOf}
+use Rattle.table.proofs.Acceptance.{accepted-formed}
+use Rattle.table.proofs.Proper.{tree-proper}
+use Rattle.table.proofs.Values.{value-order}
 use Rattle.methods.specs.declared.Method.{Method}
 use Rattle.methods.specs.declared.Method.the-variants.{AlphaBeta, Mtd, MtdFrom, Sss}
 use Rattle.methods.specs.declared.Findings.{Findings}

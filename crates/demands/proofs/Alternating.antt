@@ -3,8 +3,8 @@
 -- every call gives what it gave; AlternatingCalls has this for the reader, the check of certificates, the tree and what
 -- is printed, against their definitions of then.
 use Rattle.prelude.proofs.{ℕ, _<_, _≡_, List, eqb}
-use Rattle.frames.specs.{frames, byte3, depthOf, sideOf, ask, check4, Alternating, sideByDepth}
-use Rattle.frames.proofs.Sides.{check4-before, side-parity}
+use Rattle.table.specs.{frames, byte3, depthOf, sideOf, ask, check4, Alternating, sideByDepth}
+use Rattle.table.proofs.Sides.{check4-before, side-parity}
 
 module _ (t : List ℕ) (p : Alternating t) (i : ℕ) (h : i < frames t) where
   -- question 4 asks whether byte 3 is zero

@@ -6,20 +6,20 @@ use Rattle.prelude.proofs.{drop}
 use Rattle.gametree.specs.declared.Side.{Side}
 use Rattle.gametree.specs.declared.Side.the-variants.{Max, Min}
 use Rattle.gametree.specs.{Tree}
-use Rattle.frames.specs.{frames, tree, valuation, ask, _andThen_, unless, _leaving_, Accepted, check1, check10}
-use Rattle.frames.specs.{Alternating, zeroRejection, treeByDepth}
-use Rattle.frames.specs.declared.Rejection.{Rejection}
-use Rattle.frames.specs.declared.Checked.the-variants.{Nodes, Rejected}
-use Rattle.frames.proofs.Acceptance.{accepted-formed}
-use Rattle.frames.proofs.Sides.{each-same, frames-before, rejection-before, side-parity, tree-before}
-use Rattle.file_lines.specs.{decoded}
-use Rattle.file_reader.specs.{fileCheck2, fileCheck3, fileCheck16, fileCheck10, fileRejection, readRejection}
-use Rattle.file_reader.specs.{readOutcome}
-use Rattle.file_reader.proofs.Acceptance.{accepted-table}
-use Rattle.verify.specs.{ruleHolds, checkTree, check11, check14, treesRejection, flagsRejection, certificateRejection}
-use Rattle.verify.specs.{judged, verdict}
+use Rattle.table.specs.{frames, tree, valuation, ask, _andThen_, unless, _leaving_, Accepted, check1, check10}
+use Rattle.table.specs.{Alternating, zeroRejection, treeByDepth}
+use Rattle.table.specs.declared.Rejection.{Rejection}
+use Rattle.table.specs.declared.Checked.the-variants.{Nodes, Rejected}
+use Rattle.table.proofs.Acceptance.{accepted-formed}
+use Rattle.table.proofs.Sides.{each-same, frames-before, rejection-before, side-parity, tree-before}
+use Rattle.file_line.specs.{decoded}
+use Rattle.file_read.specs.{fileCheck2, fileCheck3, fileCheck16, fileCheck10, fileRejection, readRejection}
+use Rattle.file_read.specs.{readOutcome}
+use Rattle.file_read.proofs.Acceptance.{accepted-table}
+use Rattle.certificate_check.specs.{ruleHolds, checkTree, check11, check14, treesRejection, flagsRejection, certificateRejection}
+use Rattle.certificate_check.specs.{judged, verdict}
 use Rattle.text.specs.{refusedLine}
-use Rattle.report.specs.{analysisOn, report}
+use Rattle.analysis.specs.{analysisOn, report}
 use Rattle.demands.specs.{zeroFile, ruleByDepth, treeRuleByDepth, verdictByDepth, reportByDepth}
 
 module _ (t : List ℕ) (p : Alternating t) where

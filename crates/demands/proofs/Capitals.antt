@@ -1,28 +1,28 @@
 -- Capitals only (02: N7), sentence by sentence, over the definitions that the contracts of the reader and of the
 -- converter cite. "lifts the letters a to f to capitals and then reads and writes as in N3": `convertOutcome` in
--- convert/specs/Convert.antt. "The reader takes capital hexadecimal letters and no others" and "their trees do not
+-- file_convert/specs/Convert.antt. "The reader takes capital hexadecimal letters and no others" and "their trees do not
 -- change": `capitals-taken` and `converted-same` in Sentences.antt; "For a file still refused" nothing is written:
 -- `convert-keeps` in TheSentence.antt. "a small letter a to f in a line, 16, place the first such line":
 -- `lowest-small` in Demand1.antt.
 use Rattle.prelude.proofs.{ℕ, _*_, _≤_, _<_, arith, _≡_, refl, sym, ap, _∙_, _↔_, true, not, Option, none, some, List}
 use Rattle.prelude.proofs.{[], _++_, length, getD, take, drop}
-use Rattle.frames.specs.declared.Rejection.{Rejection}
-use Rattle.frames.specs.declared.Checked.the-variants.{Rejected as RejectedTable}
-use Rattle.frames.specs.{frames, _andThen_, unless, _leaving_, check1}
-use Rattle.frames.proofs.Stated.{both-passed, passed-then}
-use Rattle.frames.proofs.Acceptance.{accepted-stated}
-use Rattle.file_lines.specs.{lineSize, hasLowercase, lineAt, linesOf, decoded}
-use Rattle.file_reader.specs.{maxFile, fileCheck2, fileCheck3, fileCheck16, fileRejection, readRejection, readOutcome}
-use Rattle.file_reader.proofs.FirstLine.{line-asked}
-use Rattle.file_writer.specs.{fileOf}
-use Rattle.file_writer.specs.declared.Written.the-variants.{Length}
-use Rattle.treefile.proofs.RoundTrip.{written-length}
-use Rattle.convert.specs.declared.Printed.the-variants.{File, Line}
-use Rattle.convert.specs.{raised, convertOutcome, outputOutcome, baseRejection, Converted}
+use Rattle.table.specs.declared.Rejection.{Rejection}
+use Rattle.table.specs.declared.Checked.the-variants.{Rejected as RejectedTable}
+use Rattle.table.specs.{frames, _andThen_, unless, _leaving_, check1}
+use Rattle.table.proofs.Stated.{both-passed, passed-then}
+use Rattle.table.proofs.Acceptance.{accepted-stated}
+use Rattle.file_line.specs.{lineSize, hasLowercase, lineAt, linesOf, decoded}
+use Rattle.file_read.specs.{maxFile, fileCheck2, fileCheck3, fileCheck16, fileRejection, readRejection, readOutcome}
+use Rattle.file_read.proofs.FirstLine.{line-asked}
+use Rattle.file_write.specs.{fileOf}
+use Rattle.file_write.specs.declared.Written.the-variants.{Length}
+use Rattle.file.proofs.RoundTrip.{written-length}
+use Rattle.file_convert.specs.declared.Printed.the-variants.{File, Line}
+use Rattle.file_convert.specs.{raised, convertOutcome, outputOutcome, baseRejection, Converted}
 use Rattle.text.specs.{refusedLine}
-use Rattle.convert.proofs.Kept.{raised-table, raised-check3, raised-rejection, raised-line}
-use Rattle.convert.proofs.Converted.{base-table, convert-gives, convert-leaves, converted-again, converted-once}
-use Rattle.convert.proofs.Printing.{line-printed, file-printed}
+use Rattle.file_convert.proofs.Kept.{raised-table, raised-check3, raised-rejection, raised-line}
+use Rattle.file_convert.proofs.Converted.{base-table, convert-gives, convert-leaves, converted-again, converted-once}
+use Rattle.file_convert.proofs.Printing.{line-printed, file-printed}
 
 module _ (f : List ℕ) where
   -- "asked after question 3 .. has passed for all lines and before 4": a file that passes 1 to 3 and has a line with a

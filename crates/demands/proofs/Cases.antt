@@ -1,8 +1,8 @@
 -- The cases of 01 marked P (SPEC 12.2), computed from the definitions over byte tables.
 use Rattle.prelude.proofs.{refl}
-use Rattle.frames.specs.{next, parentBefore, positionWithin, positionOf, upFrom, childrenFrom, grow, treeAt, valuation}
-use Rattle.frames.specs.{eachNode, framesRejection, rejection}
-use Rattle.positions.specs.{written}
+use Rattle.table.specs.{next, parentBefore, positionWithin, positionOf, upFrom, childrenFrom, grow, treeAt, valuation}
+use Rattle.table.specs.{eachNode, framesRejection, rejection}
+use Rattle.table_positions.specs.{written}
 use Rattle.lists.specs.{All, countFrom}
 use Rattle.demands.specs.{LineHolds, caseLines}
 

@@ -4,7 +4,7 @@
 -- less, or asks for something, is refused here. The theorems of the other files are about the definitions that are
 -- cited here.
 use Rattle.prelude.proofs.{_≡_, []}
-use Rattle.frames.specs.{_leaving_, checked, childrenOf, childrenAt}
+use Rattle.table.specs.{_leaving_, checked, childrenOf, childrenAt}
 use Rattle.methods.specs.{lent, searchOutcome}
 use Rattle.search.proofs as search
 use Rattle.sss_states.proofs as sss_states
@@ -15,36 +15,36 @@ use Rattle.plain.proofs as plain
 use Rattle.plain.specs.{plainOutcome}
 use Rattle.graft.proofs as graft
 use Rattle.graft.specs.{graftOutcome}
-use Rattle.shorter.proofs as shorter
-use Rattle.shorter.specs.{choice, flagsBy, pointerBy}
-use Rattle.verify.proofs as verify
-use Rattle.verify.specs.{verdict}
+use Rattle.certificate_choice.proofs as certificate_choice
+use Rattle.certificate_choice.specs.{choice, flagsBy, pointerBy}
+use Rattle.certificate_check.proofs as certificate_check
+use Rattle.certificate_check.specs.{verdict}
 use Rattle.best_line.proofs as best_line
 use Rattle.best_line.specs.{lineOutcome}
 use Rattle.variation.proofs as variation
 use Rattle.variation.specs.{principalOutcome}
-use Rattle.leastvalue.proofs as leastvalue
-use Rattle.leastvalue.specs.{leastValue}
-use Rattle.worstfill.proofs as worstfill
-use Rattle.worstfill.specs.{fillOutcome}
-use Rattle.leastcount.proofs as leastcount
-use Rattle.leastcount.specs.{leastAnswer}
-use Rattle.file_writer.proofs as file_writer
-use Rattle.file_writer.specs.{writeOutcome}
-use Rattle.convert.proofs as convert
-use Rattle.convert.specs.{convertOutcome, lengthPrinted, outputOutcome}
-use Rattle.file_reader.proofs as file_reader
-use Rattle.file_reader.specs.{readOutcome}
-use Rattle.tables.proofs as tables
-use Rattle.frames.proofs as frames
+use Rattle.leaf_value.proofs as leaf_value
+use Rattle.leaf_value.specs.{leastValue}
+use Rattle.worst_fill.proofs as worst_fill
+use Rattle.worst_fill.specs.{fillOutcome}
+use Rattle.least_count.proofs as least_count
+use Rattle.least_count.specs.{leastAnswer}
+use Rattle.file_write.proofs as file_write
+use Rattle.file_write.specs.{writeOutcome}
+use Rattle.file_convert.proofs as file_convert
+use Rattle.file_convert.specs.{convertOutcome, lengthPrinted, outputOutcome}
+use Rattle.file_read.proofs as file_read
+use Rattle.file_read.specs.{readOutcome}
+use Rattle.table_check.proofs as table_check
+use Rattle.table.proofs as table
 use Rattle.file_hex.proofs as file_hex
 use Rattle.file_hex.specs.{digitOf}
-use Rattle.file_lines.proofs as file_lines
-use Rattle.file_lines.specs.{lineAt}
-use Rattle.report.proofs as report
+use Rattle.file_line.proofs as file_line
+use Rattle.file_line.specs.{lineAt}
+use Rattle.analysis.proofs as analysis
 use Rattle.text.proofs as text
 use Rattle.text.specs.{refusedLine, textOf}
-use Rattle.report.specs.Report as reports
+use Rattle.analysis.specs.Report as reports
 use Rattle.demands.specs.Runs.{Runs}
 
 -- the searches
@@ -72,12 +72,12 @@ sss-blank = record { meets = sss_states.blank.Met.met }
 
 -- the check of a table, of a certificate, its principal variation, that of a table, and the children of a node
 
-pub tables-check : Runs tables.check.ended tables.check.Symbol.routine (λ κs (t, _) r e. r ≡ checked (t .now))
-tables-check = record { meets = tables.check.Met.met }
+pub tables-check : Runs table_check.check.ended table_check.check.Symbol.routine (λ κs (t, _) r e. r ≡ checked (t .now))
+tables-check = record { meets = table_check.check.Met.met }
 
-pub verify-check : Runs verify.check.ended verify.check.Symbol.routine
+pub verify-check : Runs certificate_check.check.ended certificate_check.check.Symbol.routine
     (λ κs (t, (f, _)) r e. r ≡ verdict (t .now) (f .now))
-verify-check = record { meets = verify.check.Met.met }
+verify-check = record { meets = certificate_check.check.Met.met }
 
 pub variation-principal : Runs variation.principal.ended variation.principal.Symbol.routine
     (λ κs (t, (f, (l, _))) r (_, (_, (l′, _))). r leaving l′ .now ≡ principalOutcome (t .now) (f .now) (l .now))
@@ -87,42 +87,42 @@ pub best-line-line : Runs best_line.line.ended best_line.line.Symbol.routine
     (λ κs (t, (l, _)) r (_, (l′, _)). r leaving l′ .now ≡ lineOutcome (t .now) (l .now))
 best-line-line = record { meets = best_line.line.Met.met }
 
-pub frames-children : Runs frames.children.ended frames.children.Symbol.routine
+pub frames-children : Runs table.children.ended table.children.Symbol.routine
     (λ κs (t, (k, _)) r e. (r .now ≡ childrenOf (t .now) k) × (r .ptr ≡ childrenAt (t .ptr) (t .now) k))
-frames-children = record { meets = frames.children.Met.met }
+frames-children = record { meets = table.children.Met.met }
 
 -- files
 
 pub treefile-digit : Runs file_hex.digit.ended file_hex.digit.Symbol.routine (λ κs (b, _) r e. r ≡ digitOf b)
 treefile-digit = record { meets = file_hex.digit.Met.met }
 
-pub treefile-read-line : Runs file_lines.Cursor.read_line.ended file_lines.Cursor.read_line.Symbol.routine
+pub treefile-read-line : Runs file_line.Cursor.read_line.ended file_line.Cursor.read_line.Symbol.routine
     (λ κs (c, (f, _)) r e. r ≡ lineAt (f .now) (c .at))
-treefile-read-line = record { meets = file_lines.Cursor.read_line.Met.met }
+treefile-read-line = record { meets = file_line.Cursor.read_line.Met.met }
 
-pub treefile-read : Runs file_reader.read.ended file_reader.read.Symbol.routine
+pub treefile-read : Runs file_read.read.ended file_read.read.Symbol.routine
     (λ κs (f, (t, _)) r (_, (t′, _)). r leaving t′ .now ≡ readOutcome (f .now) (t .now))
-treefile-read = record { meets = file_reader.read.Met.met }
+treefile-read = record { meets = file_read.read.Met.met }
 
-pub treefile-write : Runs file_writer.write.ended file_writer.write.Symbol.routine
+pub treefile-write : Runs file_write.write.ended file_write.write.Symbol.routine
     (λ κs (t, (f, _)) r (_, (f′, _)). r leaving f′ .now ≡ writeOutcome (t .now) (f .now))
-treefile-write = record { meets = file_writer.write.Met.met }
+treefile-write = record { meets = file_write.write.Met.met }
 
-pub convert-convert : Runs convert.convert.ended convert.convert.Symbol.routine
+pub convert-convert : Runs file_convert.convert.ended file_convert.convert.Symbol.routine
     (λ κs (f, (b, _)) r (_, (b′, _)). r leaving b′ .now ≡ convertOutcome (f .now) (b .now))
-convert-convert = record { meets = convert.convert.Met.met }
+convert-convert = record { meets = file_convert.convert.Met.met }
 
-pub convert-output : Runs convert.output.ended convert.output.Symbol.routine
+pub convert-output : Runs file_convert.output.ended file_convert.output.Symbol.routine
     (λ κs (f, (b, _)) r (_, (b′, _)). r leaving b′ .now ≡ outputOutcome (f .now) (b .now))
-convert-output = record { meets = convert.output.Met.met }
+convert-output = record { meets = file_convert.output.Met.met }
 
-pub convert-length-printed : Runs convert.length_printed.ended convert.length_printed.Symbol.routine
+pub convert-length-printed : Runs file_convert.length_printed.ended file_convert.length_printed.Symbol.routine
     (λ κs (p, _) r e. r ≡ lengthPrinted p)
-convert-length-printed = record { meets = convert.length_printed.Met.met }
+convert-length-printed = record { meets = file_convert.length_printed.Met.met }
 
-pub report-write : Runs report.write.ended report.write.Symbol.routine
+pub report-write : Runs analysis.write.ended analysis.write.Symbol.routine
     (λ κs (f, _) r e. r ≡ textOf (reports.report (f .now)))
-report-write = record { meets = report.write.Met.met }
+report-write = record { meets = analysis.write.Met.met }
 
 pub text-refused : Runs text.refused.ended text.refused.Symbol.routine
     (λ κs (q, _) r e. r ≡ textOf (refusedLine q))
@@ -134,24 +134,24 @@ pub graft-graft : Runs graft.graft.ended graft.graft.Symbol.routine
     (λ κs (t, (k, (u, (b, _)))) r (_, (_, (_, (b′, _)))). r leaving b′ .now ≡ graftOutcome (t .now) k (u .now) (b .now))
 graft-graft = record { meets = graft.graft.Met.met }
 
-pub leastvalue-least-value : Runs leastvalue.least_value.ended leastvalue.least_value.Symbol.routine
+pub leastvalue-least-value : Runs leaf_value.least_value.ended leaf_value.least_value.Symbol.routine
     (λ κs (t, (k, (w, _))) r e. r ≡ leastValue (t .now) k w)
-leastvalue-least-value = record { meets = leastvalue.least_value.Met.met }
+leastvalue-least-value = record { meets = leaf_value.least_value.Met.met }
 
-pub worstfill-fill : Runs worstfill.fill.ended worstfill.fill.Symbol.routine
+pub worstfill-fill : Runs worst_fill.fill.ended worst_fill.fill.Symbol.routine
     (λ κs (t, _) r (t′, _). r leaving t′ .now ≡ fillOutcome (t .now))
-worstfill-fill = record { meets = worstfill.fill.Met.met }
+worstfill-fill = record { meets = worst_fill.fill.Met.met }
 
-pub leastcount-least-leaves : Runs leastcount.least_leaves.ended leastcount.least_leaves.Symbol.routine
+pub leastcount-least-leaves : Runs least_count.least_leaves.ended least_count.least_leaves.Symbol.routine
     (λ κs (w, (d, _)) r e. r ≡ leastAnswer w d)
-leastcount-least-leaves = record { meets = leastcount.least_leaves.Met.met }
+leastcount-least-leaves = record { meets = least_count.least_leaves.Met.met }
 
-pub shorter-choose : Runs shorter.choose.ended shorter.choose.Symbol.routine
+pub shorter-choose : Runs certificate_choice.choose.ended certificate_choice.choose.Symbol.routine
     (λ κs (t, (f, (s, _))) r e. r ≡ choice (t .now) (f .now) (s .now))
-shorter-choose = record { meets = shorter.choose.Met.met }
+shorter-choose = record { meets = certificate_choice.choose.Met.met }
 
-pub shorter-select : Runs shorter.select.ended shorter.select.Symbol.routine
+pub shorter-select : Runs certificate_choice.select.ended certificate_choice.select.Symbol.routine
     (λ κs (t, (f, (s, _))) r e. (r .choice ≡ choice (t .now) (f .now) (s .now))
     × (r .flags .now ≡ flagsBy (t .now) (f .now) (s .now) (r .choice))
     × (r .flags .ptr ≡ pointerBy (f .ptr) (s .ptr) (r .choice)))
-shorter-select = record { meets = shorter.select.Met.met }
+shorter-select = record { meets = certificate_choice.select.Met.met }

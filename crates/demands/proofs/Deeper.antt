@@ -1,16 +1,16 @@
 -- A tree that is too deep, by each call (02: N2); for `deeper-refused` in Sentences.antt.
 use Rattle.prelude.proofs.{ℕ, _<_, _≡_, _∙_, none, some, List}
-use Rattle.frames.specs.declared.Rejection.{Rejection}
-use Rattle.frames.specs.declared.Checked.the-variants.{Rejected as RejectedTable}
-use Rattle.frames.specs.{maxDepth, frames, depthOf, _andThen_, check1, nodesRejection, check8, checked, LowestDeep}
-use Rattle.frames.specs.{rejectionBefore9}
-use Rattle.frames.proofs.Stated.{both-passed, passed-then}
-use Rattle.frames.proofs.FirstNo.{deeper-frames, deeper-rejected}
-use Rattle.file_lines.specs.{decoded}
-use Rattle.file_reader.specs.{fileCheck2, fileCheck3, fileCheck16, fileRejection, readRejection, readOutcome}
-use Rattle.file_writer.specs.{writeRejection}
-use Rattle.certificate.specs.{searchRejection}
-use Rattle.verify.specs.{certificateRejection}
+use Rattle.table.specs.declared.Rejection.{Rejection}
+use Rattle.table.specs.declared.Checked.the-variants.{Rejected as RejectedTable}
+use Rattle.table.specs.{maxDepth, frames, depthOf, _andThen_, check1, nodesRejection, check8, checked, LowestDeep}
+use Rattle.table.specs.{rejectionBefore9}
+use Rattle.table.proofs.Stated.{both-passed, passed-then}
+use Rattle.table.proofs.FirstNo.{deeper-frames, deeper-rejected}
+use Rattle.file_line.specs.{decoded}
+use Rattle.file_read.specs.{fileCheck2, fileCheck3, fileCheck16, fileRejection, readRejection, readOutcome}
+use Rattle.file_write.specs.{writeRejection}
+use Rattle.certificate_write.specs.{searchRejection}
+use Rattle.certificate_check.specs.{certificateRejection}
 
 -- 02, N2: "Deeper trees are answered with 9": a table by the check, by every search, by the check of certificates and
 -- by the writer

@@ -4,17 +4,17 @@ use Rattle.prelude.proofs.{ℕ, _<_, _≡_, sym, Bool, not, Option, none, some,
 use Rattle.lists.proofs.Choice.{clash}
 use Rattle.gametree.specs.declared.Side.the-variants.{Max, Min}
 use Rattle.gametree.specs.{inBoth}
-use Rattle.frames.specs.declared.Rejection.{Rejection}
-use Rattle.frames.specs.declared.Checked.the-variants.{Rejected as RejectedTable}
-use Rattle.frames.specs.{frames, ask, checkNode, nodesRejection, depthsRejection, rejection, checked, LowestNo}
-use Rattle.frames.specs.{LowestDeep}
-use Rattle.frames.proofs.Acceptance.{rejected-first}
-use Rattle.frames.proofs.FirstNo.{lowest-no, nodes-first, depth-first}
-use Rattle.file_lines.specs.{isLine, hasLowercase, linesOf}
-use Rattle.file_reader.specs.{eachLine, fileCheck3, fileCheck16}
-use Rattle.file_reader.proofs.FirstLine.{line-first}
-use Rattle.verify.specs.declared.Verdict.the-variants.{Rejected as RejectedFlags}
-use Rattle.verify.specs.{ruleHolds, check11, checkTree, certificateRejection, judged, verdict}
+use Rattle.table.specs.declared.Rejection.{Rejection}
+use Rattle.table.specs.declared.Checked.the-variants.{Rejected as RejectedTable}
+use Rattle.table.specs.{frames, ask, checkNode, nodesRejection, depthsRejection, rejection, checked, LowestNo}
+use Rattle.table.specs.{LowestDeep}
+use Rattle.table.proofs.Acceptance.{rejected-first}
+use Rattle.table.proofs.FirstNo.{lowest-no, nodes-first, depth-first}
+use Rattle.file_line.specs.{isLine, hasLowercase, linesOf}
+use Rattle.file_read.specs.{eachLine, fileCheck3, fileCheck16}
+use Rattle.file_read.proofs.FirstLine.{line-first}
+use Rattle.certificate_check.specs.declared.Verdict.the-variants.{Rejected as RejectedFlags}
+use Rattle.certificate_check.specs.{ruleHolds, check11, checkTree, certificateRejection, judged, verdict}
 
 -- "and gives a result or one numbered refusal with its place": a refusal is the first "no" to the questions that the
 -- call puts. Of each call that is lent memory to change: `keeps` and its like in TheSentence.antt, which say that the
@@ -32,7 +32,7 @@ first-certificate t flags r e = by-questions (certificateRejection t flags) e
     by-questions none e = clash (cc)
     by-questions (some x) e = cc
 
--- Questions are put in order by `_andThen_` (frames/specs/Rejection.antt). Where one is put to each line or node in
+-- Questions are put in order by `_andThen_` (table/specs/Rejection.antt). Where one is put to each line or node in
 -- turn, its first "no" is that of the lowest. Of the lines of a file: 3 and 16
 module _ (f : List ℕ) (r : Rejection) where
   lowest : (g : List ℕ → Bool) (q : ℕ) → eachLine (λ i l. ask (g l) q i) 0 (linesOf f) ≡ some r

@@ -2,18 +2,18 @@
 -- in TheSentence, `rule-leaves` and `gives` in Sentences), of the searches as they run.
 use Rattle.prelude.proofs.{ℕ, _+_, _*_, _≤_, _<_, arith, _≡_, sym, ap, _∙_, List, length}
 use Rattle.gametree_theory.proofs.Within.{evaluations-count, full-few}
-use Rattle.frames.specs.declared.Checked.the-variants.{Nodes}
-use Rattle.frames.specs.{frameSize, frames, byteOf, childCount, depthOf, tree, valuation, valueOf, signed, worth}
-use Rattle.frames.specs.{Accepted}
-use Rattle.frames.proofs.Acceptance.{accepted-formed, nodes-accepted}
-use Rattle.frames.proofs.Proper.{tree-proper}
-use Rattle.frames.proofs.Totals.{tree-size}
-use Rattle.frames.proofs.TreeOfTable.{score-worth}
-use Rattle.frames.proofs.Values.{value-stored}
-use Rattle.tables.proofs as tables
-use Rattle.certificate.specs.{marksOf, flagsOf, listed}
-use Rattle.verify.specs.declared.Verdict.the-variants.{Value}
-use Rattle.verify.specs.{verdict}
+use Rattle.table.specs.declared.Checked.the-variants.{Nodes}
+use Rattle.table.specs.{frameSize, frames, byteOf, childCount, depthOf, tree, valuation, valueOf, signed, worth}
+use Rattle.table.specs.{Accepted}
+use Rattle.table.proofs.Acceptance.{accepted-formed, nodes-accepted}
+use Rattle.table.proofs.Proper.{tree-proper}
+use Rattle.table.proofs.Totals.{tree-size}
+use Rattle.table.proofs.TreeOfTable.{score-worth}
+use Rattle.table.proofs.Values.{value-stored}
+use Rattle.table_check.proofs as table_check
+use Rattle.certificate_write.specs.{marksOf, flagsOf, listed}
+use Rattle.certificate_check.specs.declared.Verdict.the-variants.{Value}
+use Rattle.certificate_check.specs.{verdict}
 use Rattle.methods.specs.declared.Findings.{Findings}
 use Rattle.methods.specs.declared.Spent.{Spent as Spending}
 use Rattle.methods.specs.declared.Answer.the-variants.{Found, Spent}
@@ -63,9 +63,9 @@ verified = every (λ c s g e.
     flags-verified (handed c s g e) ∙ ap Value (sym (ap (λ x. x .value) (views.findings c s g e))))
 
 -- "Guessing past the leaves was never wanted, so the value is that of the tree handed over": `tree t` is the tree that
--- the frames of the table describe (frames/proofs/TreeOfTable.antt), and a leaf counts with the worth, at its depth, of
+-- the frames of the table describe (table/proofs/TreeOfTable.antt), and a leaf counts with the worth, at its depth, of
 -- the number that its bytes 4 and 5 hold in two's complement
-pub leaf-worth : Runs tables.check.ended tables.check.Symbol.routine
+pub leaf-worth : Runs table_check.check.ended table_check.check.Symbol.routine
     (λ κs (t, _) r e. (n : ℕ) → r ≡ Nodes n → (i : ℕ) → i < frames (t .now) → childCount (t .now) i ≡ 0
     → valueOf (valuation (t .now) i)
     ≡ worth (depthOf (t .now) i) (signed (byteOf (t .now) i 4) (byteOf (t .now) i 5)))

@@ -1,7 +1,7 @@
 -- Demand 3: what is said beside the headline sentences (`no-leaf-passed-over` in TheSentence; `counts`, `exact-count`,
 -- `smallest-pair` and `local` in Sentences), of the searches as they run; and what SPEC 8 to 10 say of the other counts
 -- and of the list. "same child order, full opening window, leftmost state first on equal merit": so say the rules,
--- `childrenFrom` and `tree` (frames/specs/Tree.antt), `reached` from `least` to `greatest`
+-- `childrenFrom` and `tree` (table/specs/Tree.antt), `reached` from `least` to `greatest`
 -- (gametree/specs/AlphaBeta.antt), `pick` and `beats` (gametree/specs/Sss.antt).
 use Rattle.prelude.proofs.{ℕ, suc, _*_, _≤_, _<_, _≡_, ap, _∙_, subst, Bool, true, List, _++_, map, length, getD, drop}
 use Rattle.prelude.proofs.{replicate, eqb-true}
@@ -11,13 +11,13 @@ use Rattle.gametree.specs.Mtd as rule
 use Rattle.gametree.specs.{Smallest, Reason}
 use Rattle.gametree_theory.proofs.results.Reason.{decided-reason}
 use Rattle.gametree_theory.proofs.Theorems.{mtd-passes, sss-replacements, smallest-exists}
-use Rattle.frames.specs.declared.Rejection.{Rejection}
-use Rattle.frames.specs.{frames, tree, valuation, Accepted, Leaf}
-use Rattle.frames.proofs.Acceptance.{accepted-formed}
-use Rattle.frames.proofs.Nodes.{in-tree}
-use Rattle.frames.proofs.Leaves.{leaf-listed}
-use Rattle.frames.proofs.Proper.{tree-proper}
-use Rattle.frames.proofs.Totals.{tree-size}
+use Rattle.table.specs.declared.Rejection.{Rejection}
+use Rattle.table.specs.{frames, tree, valuation, Accepted, Leaf}
+use Rattle.table.proofs.Acceptance.{accepted-formed}
+use Rattle.table.proofs.Nodes.{in-tree}
+use Rattle.table.proofs.Leaves.{leaf-listed}
+use Rattle.table.proofs.Proper.{tree-proper}
+use Rattle.table.proofs.Totals.{tree-size}
 use Rattle.certificate_bounds.specs.{marked}
 use Rattle.methods.specs.declared.Method.the-variants.{AlphaBeta, Mtd, Sss}
 use Rattle.methods.specs.declared.Findings.{Findings}

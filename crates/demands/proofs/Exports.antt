@@ -2,24 +2,24 @@
 -- arguments, its answer r and its parameters at exit, which are marked ′. It is the outcome of the call that it makes
 -- (Contracts.antt), as numbers. As there, this is the function's own contract, compared with it by computing.
 use Rattle.prelude.proofs.{ℕ, _<_, _≡_, refl, sym, ap, _∙_, List, [], length, getD}
-use Rattle.frames.specs.{frames, _leaving_, checked, childrenOf}
+use Rattle.table.specs.{frames, _leaving_, checked, childrenOf}
 use Rattle.file_hex.specs.{digitOf}
-use Rattle.file_lines.specs.{lineAt}
-use Rattle.file_reader.specs.{readOutcome}
-use Rattle.file_writer.specs.{writeOutcome}
-use Rattle.convert.specs.{convertOutcome, outputOutcome}
+use Rattle.file_line.specs.{lineAt}
+use Rattle.file_read.specs.{readOutcome}
+use Rattle.file_write.specs.{writeOutcome}
+use Rattle.file_convert.specs.{convertOutcome, outputOutcome}
 use Rattle.methods.specs.declared.Method.{Method}
 use Rattle.methods.specs.declared.Method.the-variants.{AlphaBeta, Mtd, MtdFrom, Sss}
 use Rattle.methods.specs.{Lent, lent, searchOutcome}
 use Rattle.plain.specs.{plainOutcome}
 use Rattle.best_line.specs.{lineOutcome}
-use Rattle.verify.specs.{verdict}
-use Rattle.shorter.specs.{choice, chosenFlags}
+use Rattle.certificate_check.specs.{verdict}
+use Rattle.certificate_choice.specs.{choice, chosenFlags}
 use Rattle.graft.specs.{graftOutcome}
-use Rattle.leastvalue.specs.{leastValue}
-use Rattle.worstfill.specs.{fillOutcome}
-use Rattle.leastcount.specs.{leastAnswer}
-use Rattle.report.specs.Report as reports
+use Rattle.leaf_value.specs.{leastValue}
+use Rattle.worst_fill.specs.{fillOutcome}
+use Rattle.least_count.specs.{leastAnswer}
+use Rattle.analysis.specs.Report as reports
 use Rattle.text.specs.{refusedLine, textOf}
 use Rattle.buulset.proofs as buulset
 use Rattle.buulset.specs.{version, flatChildren, partOf, flatBy}

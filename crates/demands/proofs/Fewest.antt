@@ -4,15 +4,15 @@ use Rattle.prelude.proofs.{ℕ, _≤_, arith, _≡_, ap, Bool, List}
 use Rattle.gametree.specs.{Smallest, pairLeaves}
 use Rattle.gametree_theory.proofs.minimax.Counts.{pairLeaves-all}
 use Rattle.gametree_theory.proofs.Theorems.{search-smallest}
-use Rattle.frames.specs.{frames, tree, valuation, RegularTable}
+use Rattle.table.specs.{frames, tree, valuation, RegularTable}
 use Rattle.certificate_bounds.specs.{ones}
 use Rattle.methods.specs.declared.Findings.{Findings}
 use Rattle.methods.specs.declared.Answer.the-variants.{Found}
 use Rattle.methods.specs.{Lent}
 use Rattle.methods.proofs.Rules as rules
 use Rattle.plain.specs.declared.PlainResult.{PlainResult}
-use Rattle.leastcount.specs.declared.Least.the-variants.{Leaves}
-use Rattle.leastcount.specs.{leastAnswer}
+use Rattle.least_count.specs.declared.Least.the-variants.{Leaves}
+use Rattle.least_count.specs.{leastAnswer}
 use Rattle.demands.specs.{Call}
 use Rattle.demands.proofs.Running.{Says, PlainSays}
 use Rattle.demands.proofs.Views as views

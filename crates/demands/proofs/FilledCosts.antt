@@ -4,18 +4,18 @@ use Rattle.lists.specs.{among}
 use Rattle.lists.proofs.Lists.{sub-length}
 use Rattle.gametree.specs.{leaves}
 use Rattle.gametree_theory.proofs.Theorems.{alphaBeta-leaves, alphaBeta-ordered}
-use Rattle.frames.specs.{frames, childCount, tree, valuation, SameShape}
-use Rattle.frames.proofs.Acceptance.{accepted-formed}
-use Rattle.frames.proofs.Shapes.{same-tree}
+use Rattle.table.specs.{frames, childCount, tree, valuation, SameShape}
+use Rattle.table.proofs.Acceptance.{accepted-formed}
+use Rattle.table.proofs.Shapes.{same-tree}
 use Rattle.methods.specs.declared.Method.the-variants.{AlphaBeta}
 use Rattle.methods.specs.declared.Findings.{Findings}
 use Rattle.methods.specs.declared.Answer.the-variants.{Found}
 use Rattle.methods.specs.{evaluatedBy}
 use Rattle.plain.proofs.Leaves.{leaves-are}
-use Rattle.worstfill.specs.declared.Filled.the-variants.{Leaves}
-use Rattle.worstfill.specs.{fillOutcome, handed}
-use Rattle.worstfill.proofs.Whole.{fill-given}
-use Rattle.worstfill.proofs.WorstFill.{worst-reached}
+use Rattle.worst_fill.specs.declared.Filled.the-variants.{Leaves}
+use Rattle.worst_fill.specs.{fillOutcome, handed}
+use Rattle.worst_fill.proofs.Whole.{fill-given}
+use Rattle.worst_fill.proofs.WorstFill.{worst-reached}
 use Rattle.demands.specs.{Call}
 use Rattle.demands.proofs.Running.{Says}
 use Rattle.demands.proofs.Views as views

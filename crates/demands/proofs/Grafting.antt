@@ -6,12 +6,12 @@ use Rattle.prelude.proofs.{ℕ, _+_, _-_, _*_, _≤_, _<_, arith, decLe, _≡_,
 use Rattle.prelude.proofs.{length, getD, drop}
 use Rattle.gametree.specs.declared.Side.the-variants.{Max}
 use Rattle.gametree.specs.{other, relabelled}
-use Rattle.frames.specs.declared.Rejection.{Rejection}
-use Rattle.frames.specs.declared.Checked.the-variants.{Nodes, Rejected}
-use Rattle.frames.specs.{frameSize, maxNodes, maxDepth, frames, byteOf, childCount, parentOf, depthOf, sideOf, tree}
-use Rattle.frames.specs.{rejection, Accepted}
-use Rattle.frames.proofs.Positions.{position-root}
-use Rattle.frames.proofs.Acceptance.{accepted-formed}
+use Rattle.table.specs.declared.Rejection.{Rejection}
+use Rattle.table.specs.declared.Checked.the-variants.{Nodes, Rejected}
+use Rattle.table.specs.{frameSize, maxNodes, maxDepth, frames, byteOf, childCount, parentOf, depthOf, sideOf, tree}
+use Rattle.table.specs.{rejection, Accepted}
+use Rattle.table.proofs.Positions.{position-root}
+use Rattle.table.proofs.Acceptance.{accepted-formed}
 use Rattle.graft_questions.specs.{graftSize, MaxLeaf}
 use Rattle.graft.specs.{sources, graftTable, graftOutcome, graftTree, handed}
 use Rattle.graft_questions.specs.Graftable.{Graftable}

@@ -12,17 +12,17 @@ use Rattle.gametree_theory.proofs.minimax.Grafts.{minimax-same}
 use Rattle.gametree_theory.proofs.tests.Subtree.{every-all}
 use Rattle.gametree_theory.proofs.certificates.ReadOff.{ReadOff}
 use Rattle.gametree_theory.proofs.certificates.Flags.{read-bounds}
-use Rattle.frames.specs.{frames, tree, valuation, WellFormed, Accepted, valueOf}
-use Rattle.frames.proofs.Acceptance.{accepted-formed}
-use Rattle.frames.proofs.Proper.{every-leaf, tree-proper}
-use Rattle.positions.proofs.Buffers.{written-at}
+use Rattle.table.specs.{frames, tree, valuation, WellFormed, Accepted, valueOf}
+use Rattle.table.proofs.Acceptance.{accepted-formed}
+use Rattle.table.proofs.Proper.{every-leaf, tree-proper}
+use Rattle.table_positions.proofs.Buffers.{written-at}
 use Rattle.certificate_bounds.specs.{mark, marked, ones}
-use Rattle.certificate.specs.{marksOf, flagsOf}
-use Rattle.certificate.proofs.Marks.{marked-written}
-use Rattle.verify.specs.declared.Verdict.the-variants.{Value}
-use Rattle.verify.specs.{verdict, member}
-use Rattle.verify.specs.Certificate.{Certificate}
-use Rattle.verify.proofs.Theorems.{certificate-verdict}
+use Rattle.certificate_write.specs.{marksOf, flagsOf}
+use Rattle.certificate_write.proofs.Marks.{marked-written}
+use Rattle.certificate_check.specs.declared.Verdict.the-variants.{Value}
+use Rattle.certificate_check.specs.{verdict, member}
+use Rattle.certificate_check.specs.Certificate.{Certificate}
+use Rattle.certificate_check.proofs.Theorems.{certificate-verdict}
 use Rattle.methods.specs.declared.Method.the-variants.{AlphaBeta}
 use Rattle.methods.specs.declared.Findings.{Findings}
 use Rattle.methods.specs.declared.Answer.the-variants.{Found}

@@ -1,20 +1,20 @@
 -- The least a regular tree can cost (02: N12), sentence by sentence, over the definition that the contract of the call
 -- cites. "Hold a table of the 760 least counts .. The rule is shown over the whole table together": `whole_table` in
--- leastcount/src/lib.rt, whose contract compares all entries at once; `carried` in leastcount/proofs/Carried.antt says
+-- least_count/src/lib.rt, whose contract compares all entries at once; `carried` in least_count/proofs/Carried.antt says
 -- what that is for one.
 use Rattle.prelude.proofs.{ℕ, _≤_, _<_, arith, le-trans, _≡_, ap, _⊎_, Bool, some, List}
 use Rattle.gametree.specs.{Certifies, pairLeaves}
 use Rattle.gametree_theory.proofs.minimax.Counts.{leaves-size, pairLeaves-all}
 use Rattle.gametree_theory.proofs.certificates.Regular.{pair-count}
-use Rattle.frames.specs.declared.Rejection.{Rejection}
-use Rattle.frames.specs.{unless, maxChildren, maxDepth, tree, valuation, Accepted, RegularTable}
-use Rattle.frames.proofs.Acceptance.{accepted-formed}
-use Rattle.frames.proofs.Totals.{tree-size}
-use Rattle.frames.proofs.Regular.{tree-regular, regular-depth, regular-width}
-use Rattle.leastcount.specs.declared.Least.the-variants.{Leaves, Rejected}
-use Rattle.leastcount.specs.{cap, leastOf, leastCount, leastRejection, leastAnswer}
-use Rattle.leastcount.proofs.Questions.{wrong-width, wrong-depth, inside-table, passed-inside, given-leaves}
-use Rattle.leastcount.proofs.Questions.{given-rejected}
+use Rattle.table.specs.declared.Rejection.{Rejection}
+use Rattle.table.specs.{unless, maxChildren, maxDepth, tree, valuation, Accepted, RegularTable}
+use Rattle.table.proofs.Acceptance.{accepted-formed}
+use Rattle.table.proofs.Totals.{tree-size}
+use Rattle.table.proofs.Regular.{tree-regular, regular-depth, regular-width}
+use Rattle.least_count.specs.declared.Least.the-variants.{Leaves, Rejected}
+use Rattle.least_count.specs.{cap, leastOf, leastCount, leastRejection, leastAnswer}
+use Rattle.least_count.proofs.Questions.{wrong-width, wrong-depth, inside-table, passed-inside, given-leaves}
+use Rattle.least_count.proofs.Questions.{given-rejected}
 use Rattle.demands.proofs.Demand3.{pair-exists}
 
 -- "width 1 to 40 by depth 0 to 18: width to the power of half the depth rounded up, plus width to the power of half

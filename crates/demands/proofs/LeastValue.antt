@@ -6,13 +6,13 @@
 use Rattle.prelude.proofs.{ℕ, _≤_, _<_, _≡_, _∙_, _⊎_, none, some, List, ℤ, natAbs, lt-leb}
 use Rattle.lists.proofs.Choice.{is-false}
 use Rattle.gametree.specs.{minimax}
-use Rattle.frames.specs.declared.Rejection.{Rejection}
-use Rattle.frames.specs.{tree, valuation, valueOf, maxValue, rejection, Accepted, Leaf}
-use Rattle.leastvalue.specs.declared.LeastValue.the-variants.{Value, Rejected}
-use Rattle.leastvalue.specs.{valueRejection, leastValue, rootValue, SameBut, heldValue}
-use Rattle.leastvalue.proofs.Questions.{table-refused, table-accepted, no-leaf, out-of-range, first-no}
-use Rattle.leastvalue.proofs.Theorems.{leaf-test, test-leaf, value-exists, none-exists, only-none}
-use Rattle.leastvalue.proofs.Influence.{value-held, same-answer}
+use Rattle.table.specs.declared.Rejection.{Rejection}
+use Rattle.table.specs.{tree, valuation, valueOf, maxValue, rejection, Accepted, Leaf}
+use Rattle.leaf_value.specs.declared.LeastValue.the-variants.{Value, Rejected}
+use Rattle.leaf_value.specs.{valueRejection, leastValue, rootValue, SameBut, heldValue}
+use Rattle.leaf_value.proofs.Questions.{table-refused, table-accepted, no-leaf, out-of-range, first-no}
+use Rattle.leaf_value.proofs.Theorems.{leaf-test, test-leaf, value-exists, none-exists, only-none}
+use Rattle.leaf_value.proofs.Influence.{value-held, same-answer}
 
 module _ (t : List ℕ) (k : ℕ) (w : ℤ) where
   module _ (a : Accepted t) (l : Leaf t k) (r : natAbs w ≤ maxValue) where

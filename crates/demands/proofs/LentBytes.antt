@@ -26,10 +26,10 @@ use denote.Triple.Weaken.{weaken-under}
 use borrow.Table.Owned as owned
 use borrow.Table.Referent.{fInt}
 use borrow.Rule.Slice.Know.{AllWT, fit-at, shs-known}
-use Rattle.frames.specs.{_leaving_}
-use Rattle.file_writer.proofs as writer
-use Rattle.file_writer.specs.{writeOutcome}
-use Rattle.treefile.specs.{Bytes}
+use Rattle.table.specs.{_leaving_}
+use Rattle.file_write.proofs as writer
+use Rattle.file_write.specs.{writeOutcome}
+use Rattle.file.specs.{Bytes}
 use Rattle.demands.specs.Runs.{Runs}
 use Rattle.demands.specs.{Claim}
 use Rattle.demands.proofs.Contracts as contracts

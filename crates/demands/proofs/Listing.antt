@@ -4,9 +4,9 @@ use Rattle.prelude.proofs.{drop, take-append-drop, take-append-seam}
 use Rattle.lists.specs.{among, Once, Subsequence}
 use Rattle.gametree.specs.{leaves, minimax, flag, rootMove}
 use Rattle.gametree_theory.proofs.Theorems.{alphaBeta-leaves, alphaBeta-ordered, sss-mtd}
-use Rattle.frames.specs.{frames, upFrom, tree, valuation, valueOf}
-use Rattle.frames.proofs.Proper.{tree-proper}
-use Rattle.positions.specs.{written}
+use Rattle.table.specs.{frames, upFrom, tree, valuation, valueOf}
+use Rattle.table.proofs.Proper.{tree-proper}
+use Rattle.table_positions.specs.{written}
 use Rattle.certificate_bounds.specs.{mark}
 use Rattle.methods.specs.declared.Method.the-variants.{AlphaBeta, Mtd, Sss}
 use Rattle.methods.specs.declared.Findings.{Findings}

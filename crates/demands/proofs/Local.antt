@@ -9,11 +9,11 @@ use Rattle.gametree_theory.proofs.Searches.{SameResults}
 use Rattle.gametree_theory.proofs.Theorems.{alphaBeta-leaves, local-alphaBeta, local-mtd, local-results}
 use Rattle.gametree_theory.proofs.TestRuns.{local-mtdf}
 use Rattle.gametree_theory.proofs.Within.{covered-full, spent-first, within-leaves, local-within}
-use Rattle.frames.specs.{frames, upFrom, tree, valuation, WellFormed, SameShape}
-use Rattle.frames.proofs.Proper.{tree-proper}
-use Rattle.frames.proofs.Ranges.{length-up, up-same}
-use Rattle.frames.proofs.Shapes.{same-score, same-tree}
-use Rattle.positions.specs.{written}
+use Rattle.table.specs.{frames, upFrom, tree, valuation, WellFormed, SameShape}
+use Rattle.table.proofs.Proper.{tree-proper}
+use Rattle.table.proofs.Ranges.{length-up, up-same}
+use Rattle.table.proofs.Shapes.{same-score, same-tree}
+use Rattle.table_positions.specs.{written}
 use Rattle.certificate_bounds.specs.{mark}
 use Rattle.methods.specs.declared.Method.{Method}
 use Rattle.methods.specs.declared.Method.the-variants.{AlphaBeta, Mtd, MtdFrom, Sss}

@@ -10,9 +10,9 @@ use Rattle.gametree.specs.{greatest, minimax, mtdf as rule}
 use Rattle.gametree_theory.proofs.Searches.{sssEvaluated}
 use Rattle.gametree_theory.proofs.Theorems.{value-score}
 use Rattle.gametree_theory.proofs.TestRuns.{guess-tests, guess-two, falling-decides-sss}
-use Rattle.frames.specs.{tree, valuation, WellFormed, maxValue}
-use Rattle.frames.proofs.Proper.{tree-proper}
-use Rattle.frames.proofs.Values.{value-range, score-back}
+use Rattle.table.specs.{tree, valuation, WellFormed, maxValue}
+use Rattle.table.proofs.Proper.{tree-proper}
+use Rattle.table.proofs.Values.{value-range, score-back}
 use Rattle.methods.specs.declared.Method.the-variants.{MtdFrom, Sss}
 use Rattle.methods.specs.declared.Findings.{Findings}
 use Rattle.methods.specs.declared.Answer.the-variants.{Found}

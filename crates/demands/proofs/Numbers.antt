@@ -2,12 +2,12 @@
 use Rattle.prelude.proofs.{ℕ, zero, suc, _+_, _%_, arith, _≡_, ap, Bool, true, false, Option, none, some, List, eqb}
 use Rattle.prelude.proofs.{leb, ltb, length}
 use Rattle.lists.proofs.Choice.{clash}
-use Rattle.frames.specs.declared.Rejection.{Rejection}
-use Rattle.frames.specs.{frameSize, maxTable, maxChildren, maxDepth, frames, childCount, next, depthOf, ask, _andThen_}
-use Rattle.frames.specs.{eachNode, check1, check2, check3, check4, check5, check6, check7, check8, check9, check10}
-use Rattle.frames.specs.{byte3Right, firstChildRight, valueRight, longEnough, checkNode, nodesRejection}
-use Rattle.frames.specs.{depthsRejection, framesRejection, rejection}
-use Rattle.certificate.specs.{searchRejection}
+use Rattle.table.specs.declared.Rejection.{Rejection}
+use Rattle.table.specs.{frameSize, maxTable, maxChildren, maxDepth, frames, childCount, next, depthOf, ask, _andThen_}
+use Rattle.table.specs.{eachNode, check1, check2, check3, check4, check5, check6, check7, check8, check9, check10}
+use Rattle.table.specs.{byte3Right, firstChildRight, valueRight, longEnough, checkNode, nodesRejection}
+use Rattle.table.specs.{depthsRejection, framesRejection, rejection}
+use Rattle.certificate_write.specs.{searchRejection}
 
 -- a "no" has a number other than 0
 abbrev Numbered : Option Rejection → Type 0

@@ -9,10 +9,10 @@ use Rattle.prelude.proofs.{_++_, leb, length, take, lt-leb}
 use Rattle.lists.specs.{among}
 use Rattle.gametree.specs.{least, minimax, State, stop, step, ListAfter}
 use Rattle.gametree_theory.proofs.Theorems as theory
-use Rattle.frames.specs.{frames, tree, valuation, ask, _andThen_, rejection, longEnough, Accepted}
-use Rattle.frames.proofs.Acceptance.{accepted-formed}
-use Rattle.frames.proofs.Proper.{tree-proper}
-use Rattle.certificate.specs.{searchRejection}
+use Rattle.table.specs.{frames, tree, valuation, ask, _andThen_, rejection, longEnough, Accepted}
+use Rattle.table.proofs.Acceptance.{accepted-formed}
+use Rattle.table.proofs.Proper.{tree-proper}
+use Rattle.certificate_write.specs.{searchRejection}
 use Rattle.methods.specs.{runOf}
 use Rattle.demands.specs.{EverySearch, Given, countOf, Marked}
 use Rattle.demands.proofs.Running.{every}

@@ -1,7 +1,7 @@
 -- An outcome, taken apart: what an answer says of the questions, and of the memory that is left.
 use Rattle.prelude.proofs.{_≡_, refl, sym, ap, Option, none, some}
-use Rattle.frames.specs.declared.Rejection.{Rejection}
-use Rattle.frames.specs.{unless, Outcome, _leaving_}
+use Rattle.table.specs.declared.Rejection.{Rejection}
+use Rattle.table.specs.{unless, Outcome, _leaving_}
 
 -- the outcome o follows questions q, whose first "no" is answered by `refuse` and leaves l as it was
 module _ {A B : Type 0} (refuse : Rejection → A) (o : Outcome A B) (l : B) where

@@ -4,12 +4,12 @@
 -- "no" to questions 1 to 10, and leaves the buffers as they were: `plain-keeps` in TheSentence.
 use Rattle.prelude.proofs.{ℕ, _≤_, _<_, _≡_, sym, ap, _∙_, cond, [], _∷_, eqb, length, getD}
 use Rattle.gametree.specs.{minimax, rootMove}
-use Rattle.frames.specs.{frames, childCount, tree, valuation, valueOf, Accepted}
+use Rattle.table.specs.{frames, childCount, tree, valuation, valueOf, Accepted}
 use Rattle.certificate_bounds.specs.{ones}
-use Rattle.certificate.specs.{flagsOf}
-use Rattle.certificate.proofs.Questions.{room-passed}
-use Rattle.verify.specs.declared.Verdict.the-variants.{Value}
-use Rattle.verify.specs.{verdict}
+use Rattle.certificate_write.specs.{flagsOf}
+use Rattle.certificate_write.proofs.Questions.{room-passed}
+use Rattle.certificate_check.specs.declared.Verdict.the-variants.{Value}
+use Rattle.certificate_check.specs.{verdict}
 use Rattle.plain.proofs as plain
 use Rattle.plain.specs.declared.PlainAnswer.the-variants as plain-answer
 use Rattle.plain.specs.{allLeaves, plainFound}

@@ -3,14 +3,14 @@ use Rattle.prelude.proofs.{ℕ, _<_, _≡_, ap, _∙_, cond, none, some, List, 
 use Rattle.lists.proofs.Choice.{clash}
 use Rattle.gametree.specs.{minimax, rootMove}
 use Rattle.gametree_theory.proofs.Theorems.{all-deciding}
-use Rattle.frames.specs.declared.Rejection.{Rejection}
-use Rattle.frames.specs.{frames, childCount, tree, valuation, valueOf, _leaving_, Accepted}
-use Rattle.frames.proofs.Acceptance.{accepted-formed}
-use Rattle.frames.proofs.Proper.{tree-proper}
+use Rattle.table.specs.declared.Rejection.{Rejection}
+use Rattle.table.specs.{frames, childCount, tree, valuation, valueOf, _leaving_, Accepted}
+use Rattle.table.proofs.Acceptance.{accepted-formed}
+use Rattle.table.proofs.Proper.{tree-proper}
 use Rattle.certificate_bounds.specs.{ones}
-use Rattle.certificate.specs.{searchRejection, marksOf, flagsOf}
-use Rattle.certificate.proofs.Questions.{passed-room}
-use Rattle.certificate.proofs.Marks.{evaluated-within, ones-evaluated}
+use Rattle.certificate_write.specs.{searchRejection, marksOf, flagsOf}
+use Rattle.certificate_write.proofs.Questions.{passed-room}
+use Rattle.certificate_write.proofs.Marks.{evaluated-within, ones-evaluated}
 use Rattle.methods.specs.{Lent, lent}
 use Rattle.plain.specs.declared.PlainResult.{PlainResult}
 use Rattle.plain.specs.declared.PlainAnswer.the-variants as plain-answer

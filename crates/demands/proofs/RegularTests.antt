@@ -1,9 +1,9 @@
 -- Small cases of the least counts (SPEC 18).
 use Rattle.prelude.proofs.{ℕ, zero, suc, _<_, arith, _≡_, refl}
-use Rattle.frames.specs.{childCount, byte3, sameMover, parentBefore, positionWithin, positionOf, depthOf, RegularTable}
-use Rattle.frames.specs.{small}
-use Rattle.leastcount.specs.declared.Least.the-variants.{Leaves}
-use Rattle.leastcount.specs.{cap, leastOf, leastAnswer}
+use Rattle.table.specs.{childCount, byte3, sameMover, parentBefore, positionWithin, positionOf, depthOf, RegularTable}
+use Rattle.table.specs.{small}
+use Rattle.least_count.specs.declared.Least.the-variants.{Leaves}
+use Rattle.least_count.specs.{cap, leastOf, leastAnswer}
 
 -- two entries meet the cap exactly, and belong to no accepted tree either
 pub at-the-cap : (leastOf 8 10 ≡ cap) × (leastOf 32 6 ≡ cap)

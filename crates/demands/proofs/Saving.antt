@@ -1,16 +1,16 @@
 -- Saving a tree (02: N3), sentence by sentence: of the writer as it runs, or over the definition that its contract
--- cites. "Each line is laid behind the lines already written": `encode` in file_writer/specs/Encoded.antt.
+-- cites. "Each line is laid behind the lines already written": `encode` in file_write/specs/Encoded.antt.
 -- "Reading a written file restores the table exactly": `written-read` in Sentences.antt.
 use Rattle.prelude.proofs.{ℕ, _*_, _≤_, _<_, _≡_, sym, ap, _∙_, subst, List, length, take}
-use Rattle.frames.specs.{frames, Accepted}
-use Rattle.file_lines.specs.{lineSize}
-use Rattle.file_reader.specs.{AcceptedFile}
-use Rattle.file_writer.proofs as writer
-use Rattle.file_writer.specs.declared.Written.the-variants.{Length, Rejected as RejectedWrite}
-use Rattle.file_writer.specs.{writeOutcome}
-use Rattle.treefile.specs.{InCapitals, Saved}
-use Rattle.treefile.proofs.RoundTrip.{written-capitals, written-accepted}
-use Rattle.treefile.proofs.Saving.{write-gives, write-short, write-saves, saved-once}
+use Rattle.table.specs.{frames, Accepted}
+use Rattle.file_line.specs.{lineSize}
+use Rattle.file_read.specs.{AcceptedFile}
+use Rattle.file_write.proofs as writer
+use Rattle.file_write.specs.declared.Written.the-variants.{Length, Rejected as RejectedWrite}
+use Rattle.file_write.specs.{writeOutcome}
+use Rattle.file.specs.{InCapitals, Saved}
+use Rattle.file.proofs.RoundTrip.{written-capitals, written-accepted}
+use Rattle.file.proofs.Saving.{write-gives, write-short, write-saves, saved-once}
 use Rattle.demands.specs.Runs.{Runs}
 use Rattle.demands.specs.{RunBoth}
 use Rattle.demands.proofs.Running.{follows, together}

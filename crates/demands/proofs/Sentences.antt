@@ -4,26 +4,26 @@ use Rattle.prelude.proofs.{ℕ, _*_, _≤_, _<_, _≡_, sym, ap, _∙_, subst, 
 use Rattle.prelude.proofs.{ℤ, pos, natAbs, length, getD, take, drop, _≤ℤ_, _<ℤ_}
 use Rattle.lists.specs.{Once, Subsequence, among}
 use Rattle.gametree.specs.{leaves as treeLeaves, minimax, Certifies, Smallest, pairLeaves, rootMove}
-use Rattle.frames.specs.declared.Rejection.{Rejection}
-use Rattle.frames.specs.declared.Checked.the-variants.{Nodes, Rejected as RejectedTable}
-use Rattle.frames.specs.{frameSize, maxDepth, frames, childCount, storedScore, depthOf, tree, valuation, valueOf}
-use Rattle.frames.specs.{maxValue, Ordinary, Accepted, LowestDeep, rejectionBefore9, SameShape, Alternating}
-use Rattle.frames.specs.{treeByDepth, RegularTable}
-use Rattle.frames.proofs.Sides.{tree-before}
-use Rattle.frames.proofs.TreeOfTable.{ordinary-scores}
+use Rattle.table.specs.declared.Rejection.{Rejection}
+use Rattle.table.specs.declared.Checked.the-variants.{Nodes, Rejected as RejectedTable}
+use Rattle.table.specs.{frameSize, maxDepth, frames, childCount, storedScore, depthOf, tree, valuation, valueOf}
+use Rattle.table.specs.{maxValue, Ordinary, Accepted, LowestDeep, rejectionBefore9, SameShape, Alternating}
+use Rattle.table.specs.{treeByDepth, RegularTable}
+use Rattle.table.proofs.Sides.{tree-before}
+use Rattle.table.proofs.TreeOfTable.{ordinary-scores}
 use Rattle.file_hex.specs.{isCapitalDigit}
-use Rattle.file_lines.specs.{lineDigits, linesOf, decoded}
+use Rattle.file_line.specs.{lineDigits, linesOf, decoded}
 use Rattle.certificate_bounds.specs.{mark, ones}
-use Rattle.tables.proofs as tables
-use Rattle.file_reader.proofs as reader
-use Rattle.file_reader.specs.{AcceptedFile, readOutcome}
-use Rattle.file_reader.proofs.Acceptance.{accepted-exactly, read-nodes}
-use Rattle.file_writer.proofs as writer
-use Rattle.file_writer.specs.declared.Written.the-variants.{Length}
-use Rattle.treefile.proofs.Saving.{saved-read}
-use Rattle.convert.proofs as convert
-use Rattle.convert.proofs.Converted.{converted-accepted, converted-table}
-use Rattle.verify.specs.Certificate.{Certificate}
+use Rattle.table_check.proofs as table_check
+use Rattle.file_read.proofs as reader
+use Rattle.file_read.specs.{AcceptedFile, readOutcome}
+use Rattle.file_read.proofs.Acceptance.{accepted-exactly, read-nodes}
+use Rattle.file_write.proofs as writer
+use Rattle.file_write.specs.declared.Written.the-variants.{Length}
+use Rattle.file.proofs.Saving.{saved-read}
+use Rattle.file_convert.proofs as file_convert
+use Rattle.file_convert.proofs.Converted.{converted-accepted, converted-table}
+use Rattle.certificate_check.specs.Certificate.{Certificate}
 use Rattle.methods.specs.declared.Method.the-variants.{AlphaBeta, Mtd, Sss}
 use Rattle.methods.specs.declared.Findings.{Findings}
 use Rattle.methods.specs.declared.Spent.{Spent as Spending}
@@ -35,19 +35,19 @@ use Rattle.plain.specs.declared.PlainAnswer.the-variants as plain-answer
 use Rattle.graft.proofs as graft
 use Rattle.graft.specs.{graftValue}
 use Rattle.graft.proofs.Grafting.{grafted-value}
-use Rattle.leastvalue.proofs as leastvalue
-use Rattle.leastvalue.specs.declared.LeastValue.the-variants.{Value}
-use Rattle.leastvalue.specs.{rootValue}
-use Rattle.leastvalue.proofs.Theorems.{given}
-use Rattle.worstfill.proofs as worstfill
-use Rattle.worstfill.specs.declared.Filled.the-variants as filled
-use Rattle.leastcount.proofs as leastcount
-use Rattle.leastcount.specs.declared.Least.the-variants as least
-use Rattle.leastcount.specs.{leastAnswer}
-use Rattle.shorter.proofs as shorter
-use Rattle.shorter.specs.declared.Choice.the-variants.{First, Second}
-use Rattle.shorter.specs.{flaggedLeaves, flagsBy}
-use Rattle.shorter.proofs.Theorems.{both-first, both-second}
+use Rattle.leaf_value.proofs as leaf_value
+use Rattle.leaf_value.specs.declared.LeastValue.the-variants.{Value}
+use Rattle.leaf_value.specs.{rootValue}
+use Rattle.leaf_value.proofs.Theorems.{given}
+use Rattle.worst_fill.proofs as worst_fill
+use Rattle.worst_fill.specs.declared.Filled.the-variants as filled
+use Rattle.least_count.proofs as least_count
+use Rattle.least_count.specs.declared.Least.the-variants as least
+use Rattle.least_count.specs.{leastAnswer}
+use Rattle.certificate_choice.proofs as certificate_choice
+use Rattle.certificate_choice.specs.declared.Choice.the-variants.{First, Second}
+use Rattle.certificate_choice.specs.{flaggedLeaves, flagsBy}
+use Rattle.certificate_choice.proofs.Theorems.{both-first, both-second}
 use Rattle.demands.specs.Runs.{Runs}
 use Rattle.demands.specs.{RunBoth, EverySearch, EveryTwo, EverySearchAnd, EachPlain, Given, countOf, Room}
 use Rattle.demands.specs.{AgreeOnMarked, Alike}
@@ -136,7 +136,7 @@ plain-agrees =
     ))
 
 -- N2: "Deeper trees are answered with 9"
-pub deeper-refused : Runs tables.check.ended tables.check.Symbol.routine
+pub deeper-refused : Runs table_check.check.ended table_check.check.Symbol.routine
     (λ κs (t, _) r e. rejectionBefore9 (t .now) ≡ none → (k : ℕ) → k < frames (t .now)
     → maxDepth < depthOf (t .now) k → (q : Rejection) × LowestDeep (t .now) q × (r ≡ RejectedTable q))
 deeper-refused =
@@ -193,7 +193,7 @@ capitals-taken =
     accepted-exactly (f .now) .0 a .line i h .digits k l)
 
 -- "their trees do not change"
-pub converted-same : Runs convert.convert.ended convert.convert.Symbol.routine
+pub converted-same : Runs file_convert.convert.ended file_convert.convert.Symbol.routine
     (λ κs (f, _) r (_, (b, _)). (n : ℕ) → r ≡ Length n
     → AcceptedFile (take n (b .now)) × (decoded (take n (b .now)) ≡ decoded (f .now)))
 converted-same =
@@ -223,7 +223,7 @@ graft-value =
 
 -- N10: "The call gives the smallest leaf value from -32,000 to 32,000 that makes the root's value exactly the wanted
 -- one"
-pub smallest-value : Runs leastvalue.least_value.ended leastvalue.least_value.Symbol.routine
+pub smallest-value : Runs leaf_value.least_value.ended leaf_value.least_value.Symbol.routine
     (λ κs (t, (k, (w, _))) r e. (v : ℤ) → r ≡ Value v → (natAbs v ≤ maxValue) × (rootValue (t .now) k v ≡ w)
     × ((u : ℤ) → natAbs u ≤ maxValue → u <ℤ v → rootValue (t .now) k u ≡ w → ⊥))
 smallest-value =
@@ -231,7 +231,7 @@ smallest-value =
     let g = given (t .now) k w v (sym s ∙ i) in (g .ranged, g .reaches, g .smallest))
 
 -- N11: "In that tree alpha-beta values every leaf, so no filling of the shape costs it more"
-pub costs-most : EverySearchAnd worstfill.fill.ended worstfill.fill.Symbol.routine
+pub costs-most : EverySearchAnd worst_fill.fill.ended worst_fill.fill.Symbol.routine
     (λ c κs (t, _) r (t′, _). (n : ℕ) → r ≡ filled.Leaves n → c .method ≡ AlphaBeta
     → (g : Findings) → c .answer ≡ Found g → (SameShape (t .now) (c .table) → g .leaves ≤ n)
     × (c .table ≡ t′ .now → (g .leaves ≡ n) × ((k : ℕ) → k < frames (t .now)
@@ -247,7 +247,7 @@ costs-most =
 
 -- N12: "each entry is the number of leaves, a shared one counted once, in every max and min pair of equal value, in
 -- each such tree that is accepted"
-pub least-leaves : Runs leastcount.least_leaves.ended leastcount.least_leaves.Symbol.routine
+pub least-leaves : Runs least_count.least_leaves.ended least_count.least_leaves.Symbol.routine
     (λ κs (w, (d, _)) r e. (n : ℕ) → r ≡ least.Leaves n → (t : List ℕ) → RegularTable w d t → Accepted t
     → (g h : ℕ → Bool) (v : ℕ) → Certifies (valuation t) (tree t) g h v → pairLeaves g h (tree t) ≡ n)
 least-leaves =
@@ -265,7 +265,7 @@ pub marks-no-fewer : EachPlain (λ t f _ l. (w d n : ℕ) → RegularTable w d t
 marks-no-fewer = each-plain no-fewer-plain
 
 -- N13: "the call hands back the flags of the one with fewer flagged leaves, the first on a tie"
-pub fewer-leaves : Runs shorter.select.ended shorter.select.Symbol.routine
+pub fewer-leaves : Runs certificate_choice.select.ended certificate_choice.select.Symbol.routine
     (λ κs (t, (f, (s, _))) r e. (v w : ℕ) → Certificate (t .now) (f .now) v → Certificate (t .now) (s .now) w
     → (flaggedLeaves (t .now) (s .now) < flaggedLeaves (t .now) (f .now)
     → (r .choice ≡ Second) × (r .flags .now ≡ take (frames (t .now)) (s .now)))

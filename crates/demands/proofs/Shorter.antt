@@ -1,20 +1,20 @@
 -- The shorter of two certificates (02: N13, of two proofs), sentence by sentence, over the definitions that the
--- contract of `shorter::select` cites: `choice`, `flagsBy` (of the choice it is `chosenFlags`) and `pointerBy`. The
+-- contract of `certificate_choice::select` cites: `choice`, `flagsBy` (of the choice it is `chosenFlags`) and `pointerBy`. The
 -- table is t, the lent certificates are f and s. Both are lent to be read only, and so keep their bytes. "the one with
 -- fewer flagged leaves, the first on a tie": `fewer-leaves` in Sentences.antt.
 use Rattle.prelude.proofs.{ℕ, _≡_, _⊎_, _↔_, some, List, [], length, take}
 use Rattle.gametree.specs.declared.Side.the-variants.{Max, Min}
 use Rattle.gametree.specs.{minimax, pairLeaves}
-use Rattle.frames.specs.declared.Rejection.{Rejection}
-use Rattle.frames.specs.{frames, tree, valuation, valueOf, rejection}
-use Rattle.verify.specs.declared.Verdict.the-variants as verdicts
-use Rattle.verify.specs.{member, verdict}
-use Rattle.verify.specs.Certificate.{Certificate}
-use Rattle.shorter.specs.declared.Choice.the-variants.{First, Second, Rejected}
-use Rattle.shorter.specs.{flaggedLeaves, choice, chosenFlags, pointerBy}
-use Rattle.shorter.proofs.Leaves.{flagged-pair}
-use Rattle.shorter.proofs.Theorems.{table-rejected, only-first, only-second, neither, handed-first, handed-second}
-use Rattle.shorter.proofs.Theorems.{handed-none, handed-size, handed-value, empty-refused, refused-first}
+use Rattle.table.specs.declared.Rejection.{Rejection}
+use Rattle.table.specs.{frames, tree, valuation, valueOf, rejection}
+use Rattle.certificate_check.specs.declared.Verdict.the-variants as verdicts
+use Rattle.certificate_check.specs.{member, verdict}
+use Rattle.certificate_check.specs.Certificate.{Certificate}
+use Rattle.certificate_choice.specs.declared.Choice.the-variants.{First, Second, Rejected}
+use Rattle.certificate_choice.specs.{flaggedLeaves, choice, chosenFlags, pointerBy}
+use Rattle.certificate_choice.proofs.Leaves.{flagged-pair}
+use Rattle.certificate_choice.proofs.Theorems.{table-rejected, only-first, only-second, neither, handed-first, handed-second}
+use Rattle.certificate_choice.proofs.Theorems.{handed-none, handed-size, handed-value, empty-refused, refused-first}
 
 -- a flagged leaf is a leaf of the max or the min solution tree, a shared one counted once
 pub flagged-leaves : (t flags : List ℕ) (v : ℕ) → Certificate t flags v

@@ -1,9 +1,9 @@
 -- Cases of SPEC 12.2 beyond those that 01 marks P, computed from the definitions over byte tables.
 use Rattle.prelude.proofs.{_≡_, refl, [], _∷_, map, replicate}
 use Rattle.gametree.specs.{mtd}
-use Rattle.frames.specs.{next, parentBefore, positionWithin, positionOf, upFrom, childrenFrom, grow, treeAt, valuation}
-use Rattle.frames.specs.{eachNode, framesRejection, rejection}
-use Rattle.positions.specs.{written}
+use Rattle.table.specs.{next, parentBefore, positionWithin, positionOf, upFrom, childrenFrom, grow, treeAt, valuation}
+use Rattle.table.specs.{eachNode, framesRejection, rejection}
+use Rattle.table_positions.specs.{written}
 use Rattle.lists.specs.{countFrom}
 use Rattle.methods.specs.declared.Answer.the-variants.{Rejected}
 use Rattle.demands.specs.{rowOf, tables, rows, path, winTables, winRows, leafFrames, captureTables, captureRows}

@@ -2,19 +2,19 @@
 -- functions that run: of their lowered code, which an unverified back end then compiles (`Runs` in specs/Runs.antt;
 -- `EverySearch` and `EveryTwo` in specs/Searches.antt, of the calls of `search::search`, by whatever method). Read with
 -- it `Marked` and `CertifiedBy` (specs/Handed.antt), the tree of a table (`tree` and `valuation` in
--- frames/specs/Tree.antt), `minimax` and `rootMove` (gametree/specs); and `evaluatedBy` (methods/specs/Rules.antt) with
+-- table/specs/Tree.antt), `minimax` and `rootMove` (gametree/specs); and `evaluatedBy` (methods/specs/Rules.antt) with
 -- `reached`, `mtd`, `mtdf` and `sss` (gametree/specs), for whether the methods are those of the papers. Sentences.antt
 -- has the other sentences, Exports.antt this one of the two exports. In a statement about a call of another function
 -- the arguments come first, in the order of the code, then the answer r, then the parameters at exit; t and u are
 -- tables, m marks, f flags, o lists of leaves.
 use Rattle.prelude.proofs.{ℕ, _≤_, _≡_, sym, ap, _∙_, _↔_, some, [], _∷_, ℤ, length}
 use Rattle.gametree.specs.{minimax, rootMove}
-use Rattle.frames.specs.declared.Rejection.{Rejection}
-use Rattle.frames.specs.declared.Checked.the-variants.{Rejected as RejectedTable}
-use Rattle.frames.specs.{valueOf, frames, tree, valuation, _andThen_, _leaving_, rejection}
-use Rattle.frames.proofs.Asked.{answer-rejected}
-use Rattle.file_lines.specs.{decoded}
-use Rattle.certificate.specs.{searchRejection}
+use Rattle.table.specs.declared.Rejection.{Rejection}
+use Rattle.table.specs.declared.Checked.the-variants.{Rejected as RejectedTable}
+use Rattle.table.specs.{valueOf, frames, tree, valuation, _andThen_, _leaving_, rejection}
+use Rattle.table.proofs.Asked.{answer-rejected}
+use Rattle.file_line.specs.{decoded}
+use Rattle.certificate_write.specs.{searchRejection}
 use Rattle.methods.specs.declared.Method.the-variants.{AlphaBeta, Sss}
 use Rattle.methods.specs.declared.Findings.{Findings}
 use Rattle.methods.specs.declared.Answer.the-variants.{Found, Rejected}
@@ -22,28 +22,28 @@ use Rattle.methods.specs.{lent, rejectionOf, searchOutcome}
 use Rattle.sss.proofs as sss
 use Rattle.plain.proofs as plain
 use Rattle.plain.specs.declared.PlainAnswer.the-variants as plain-answer
-use Rattle.verify.proofs as verify
-use Rattle.verify.specs.declared.Verdict.the-variants.{Value}
-use Rattle.verify.specs.Certificate.{Certificate}
-use Rattle.verify.proofs.Theorems.{accepts-certificates, accepted-minimax}
-use Rattle.file_reader.proofs as reader
-use Rattle.file_reader.specs.{readRejection}
-use Rattle.file_reader.proofs.Reading.{read-answer}
-use Rattle.file_writer.proofs as writer
-use Rattle.file_writer.specs.{writeCheck10, writeRejection}
-use Rattle.treefile.proofs.Saving as saving
-use Rattle.file_writer.specs.declared.Written.the-variants.{Rejected as RejectedWrite}
-use Rattle.convert.proofs as convert
-use Rattle.convert.specs.declared.Printed.the-variants.{NoRoom}
-use Rattle.convert.specs.{baseRejection}
-use Rattle.convert.proofs.Converted as converted
-use Rattle.convert.proofs.Printing.{no-room-keeps}
+use Rattle.certificate_check.proofs as certificate_check
+use Rattle.certificate_check.specs.declared.Verdict.the-variants.{Value}
+use Rattle.certificate_check.specs.Certificate.{Certificate}
+use Rattle.certificate_check.proofs.Theorems.{accepts-certificates, accepted-minimax}
+use Rattle.file_read.proofs as reader
+use Rattle.file_read.specs.{readRejection}
+use Rattle.file_read.proofs.Reading.{read-answer}
+use Rattle.file_write.proofs as writer
+use Rattle.file_write.specs.{writeCheck10, writeRejection}
+use Rattle.file.proofs.Saving as saving
+use Rattle.file_write.specs.declared.Written.the-variants.{Rejected as RejectedWrite}
+use Rattle.file_convert.proofs as file_convert
+use Rattle.file_convert.specs.declared.Printed.the-variants.{NoRoom}
+use Rattle.file_convert.specs.{baseRejection}
+use Rattle.file_convert.proofs.Converted as converted
+use Rattle.file_convert.proofs.Printing.{no-room-keeps}
 use Rattle.graft.proofs as graft
 use Rattle.graft_questions.specs.{graftRejection}
 use Rattle.graft.proofs.Grafting as grafting
-use Rattle.worstfill.proofs as worstfill
-use Rattle.worstfill.proofs.Whole.{fill-kept}
-use Rattle.worstfill.specs.declared.Filled.the-variants.{Rejected as RejectedFill}
+use Rattle.worst_fill.proofs as worst_fill
+use Rattle.worst_fill.proofs.Whole.{fill-kept}
+use Rattle.worst_fill.specs.declared.Filled.the-variants.{Rejected as RejectedFill}
 use Rattle.demands.specs.Runs.{Runs}
 use Rattle.demands.specs.{EverySearch, EveryTwo, Given, Marked, CertifiedBy}
 use Rattle.demands.proofs.Contracts as contracts
@@ -79,7 +79,7 @@ solution-trees = every (λ c s g e. flags-certify (handed c s g e))
 
 -- "The checker accepts a pair exactly when both are solution trees of that tree with equal value, and that value is
 -- then the minimax value"
-pub checker : Runs verify.check.ended verify.check.Symbol.routine
+pub checker : Runs certificate_check.check.ended certificate_check.check.Symbol.routine
     (λ κs (t, (f, _)) r e. (((z : ℤ) × (r ≡ Value z)) ↔ ((v : ℕ) × Certificate (t .now) (f .now) v))
     × ((z : ℤ) → r ≡ Value z → z ≡ valueOf (minimax (valuation (t .now)) (tree (t .now)))))
 checker =
@@ -144,7 +144,7 @@ write-keeps =
     let k = saving.write-keeps (t .now) (b .now) q (sym (ap (λ o. o .answer) s) ∙ e) in
     (k .0, ap (λ o. o .left) s ∙ k .1))
 
-pub convert-keeps : Runs convert.convert.ended convert.convert.Symbol.routine
+pub convert-keeps : Runs file_convert.convert.ended file_convert.convert.Symbol.routine
     (λ κs (f, (b, _)) r (_, (b′, _)). (q : Rejection) → r ≡ RejectedWrite q
     → ((baseRejection (f .now) andThen writeCheck10 (decoded (f .now)) (length (b .now))) ≡ some q)
     × (b′ .now ≡ b .now))
@@ -154,7 +154,7 @@ convert-keeps =
     (k .0, ap (λ o. o .left) s ∙ k .1))
 
 -- where there is no room for what `capitals` prints
-pub output-keeps : Runs convert.output.ended convert.output.Symbol.routine
+pub output-keeps : Runs file_convert.output.ended file_convert.output.Symbol.routine
     (λ κs (f, (b, _)) r (_, (b′, _)). r ≡ NoRoom → b′ .now ≡ b .now)
 output-keeps =
     follows contracts.convert-output (λ κs (f, (b, _)) r (_, (b′, _)) s e.
@@ -168,7 +168,7 @@ graft-keeps =
     let p = grafting.graft-keeps (t .now) k (u .now) (b .now) q (sym (ap (λ o. o .answer) s) ∙ e) in
     (p .0, ap (λ o. o .left) s ∙ p .1))
 
-pub fill-keeps : Runs worstfill.fill.ended worstfill.fill.Symbol.routine
+pub fill-keeps : Runs worst_fill.fill.ended worst_fill.fill.Symbol.routine
     (λ κs (t, _) r (t′, _). (q : Rejection) → r ≡ RejectedFill q
     → (rejection (t .now) ≡ some q) × (t′ .now ≡ t .now))
 fill-keeps =

@@ -3,12 +3,12 @@ use Rattle.prelude.proofs.{ℕ, _≤_, _≡_, refl, sym, ap, _∙_, Option, non
 use Rattle.prelude.proofs.{replicate, le-leb}
 use Rattle.lists.proofs.Choice.{clash}
 use Rattle.gametree.specs.{Evaluation}
-use Rattle.frames.specs.declared.Rejection.{Rejection}
-use Rattle.frames.specs.{frames, WellFormed, unless, Outcome, _leaving_, valueOf, Accepted}
-use Rattle.frames.proofs.Asked.{answer-of}
-use Rattle.frames.proofs.Acceptance.{accepted-formed}
-use Rattle.certificate.specs.{searchRejection, marksOf, flagsOf, listed}
-use Rattle.certificate.proofs.Questions.{passed-room, room-passed}
+use Rattle.table.specs.declared.Rejection.{Rejection}
+use Rattle.table.specs.{frames, WellFormed, unless, Outcome, _leaving_, valueOf, Accepted}
+use Rattle.table.proofs.Asked.{answer-of}
+use Rattle.table.proofs.Acceptance.{accepted-formed}
+use Rattle.certificate_write.specs.{searchRejection, marksOf, flagsOf, listed}
+use Rattle.certificate_write.proofs.Questions.{passed-room, room-passed}
 use Rattle.methods.specs.declared.Method.{Method}
 use Rattle.methods.specs.declared.Method.the-variants.{Sss}
 use Rattle.methods.specs.declared.Findings.{Findings}

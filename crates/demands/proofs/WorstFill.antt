@@ -6,19 +6,19 @@ use Rattle.gametree.specs.declared.Side.the-variants.{Max, Min}
 use Rattle.gametree.specs.{leaves}
 use Rattle.gametree_theory.proofs.minimax.Nodes.{nodes-in}
 use Rattle.gametree_theory.proofs.alphabeta.WorstCase.{blocks-at}
-use Rattle.frames.specs.{frameSize, frames, byteOf, childCount, valueBytes, sideOf, treeAt, tree, valuation, valueOf}
-use Rattle.frames.specs.{ChildOf, SameShape, _leaving_, Accepted, Leaf}
-use Rattle.frames.proofs.Acceptance.{accepted-formed}
-use Rattle.frames.proofs.Leaves.{leaf-listed}
-use Rattle.frames.proofs.Next.{child-within}
-use Rattle.frames.proofs.Shapes.{same-tree}
-use Rattle.frames.proofs.Values.{value-plus}
-use Rattle.worstfill.specs.declared.Filled.the-variants.{Leaves}
-use Rattle.worstfill.specs.{worstFill, fillOutcome, handed, LeafBelow}
-use Rattle.worstfill.proofs.Whole.{fill-given, fill-accepted}
-use Rattle.worstfill.proofs.Order.{Before, node-block, node-order}
-use Rattle.worstfill.proofs.WorstFill.{worst-kept, worst-front, worst-inner, worst-blocks, worst-accepted, rank-below}
-use Rattle.worstfill.proofs.WorstFill.{rank-once, rank-every, rank-score, same-worst}
+use Rattle.table.specs.{frameSize, frames, byteOf, childCount, valueBytes, sideOf, treeAt, tree, valuation, valueOf}
+use Rattle.table.specs.{ChildOf, SameShape, _leaving_, Accepted, Leaf}
+use Rattle.table.proofs.Acceptance.{accepted-formed}
+use Rattle.table.proofs.Leaves.{leaf-listed}
+use Rattle.table.proofs.Next.{child-within}
+use Rattle.table.proofs.Shapes.{same-tree}
+use Rattle.table.proofs.Values.{value-plus}
+use Rattle.worst_fill.specs.declared.Filled.the-variants.{Leaves}
+use Rattle.worst_fill.specs.{worstFill, fillOutcome, handed, LeafBelow}
+use Rattle.worst_fill.proofs.Whole.{fill-given, fill-accepted}
+use Rattle.worst_fill.proofs.Order.{Before, node-block, node-order}
+use Rattle.worst_fill.proofs.WorstFill.{worst-kept, worst-front, worst-inner, worst-blocks, worst-accepted, rank-below}
+use Rattle.worst_fill.proofs.WorstFill.{rank-once, rank-every, rank-score, same-worst}
 
 module _ (t : List ℕ) where
   -- "For an accepted shape the call writes the ranks": there is no other question

@@ -4,8 +4,8 @@ use mathlib.Core.Path.{_≡_}
 use mathlib.Core.List.{List}
 use lib.ListN.{length}
 use Rattle.gametree.specs.Sss.{State, evaluating, step, ListAfter}
-use Rattle.frames.specs.Tree.{tree, valuation}
-use Rattle.frames.specs.Value.{valueOf}
+use Rattle.table.specs.Tree.{tree, valuation}
+use Rattle.table.specs.Value.{valueOf}
 use Rattle.methods.specs.declared.Spent.{Spent}
 
 -- where the full run was cut short: after the counted replacements, which evaluated the leaves so far, it has reached a

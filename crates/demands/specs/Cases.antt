@@ -4,8 +4,8 @@ use mathlib.Core.Path.{_≡_}
 use mathlib.Core.List.{List, [], _∷_}
 use lib.IntN.{ℤ, pos, negℤ}
 use lib.ListN.{replicate}
-use Rattle.frames.specs.Frame.{frames}
-use Rattle.frames.specs.results.Cases.{small, lone, single}
+use Rattle.table.specs.Frame.{frames}
+use Rattle.table.specs.results.Cases.{small, lone, single}
 use Rattle.methods.specs.declared.Method.the-variants.{AlphaBeta, Sss}
 use Rattle.methods.specs.declared.Findings.{Findings}
 use Rattle.methods.specs.declared.Answer.the-variants.{Found}

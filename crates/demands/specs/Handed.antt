@@ -8,12 +8,12 @@ use Rattle.lists.specs.Lists.{All}
 use Rattle.gametree.specs.declared.Side.the-variants.{Max, Min}
 use Rattle.gametree.specs.Trees.{minimax, leaves}
 use Rattle.gametree.specs.Certificate.{Certifies}
-use Rattle.frames.specs.Frame.{frames}
-use Rattle.frames.specs.Tree.{tree, valuation}
-use Rattle.frames.specs.Shape.{AgreeOn}
+use Rattle.table.specs.Frame.{frames}
+use Rattle.table.specs.Tree.{tree, valuation}
+use Rattle.table.specs.Shape.{AgreeOn}
 use Rattle.certificate_bounds.specs.Marks.{marked}
 use Rattle.methods.specs.Outcome.{Lent}
-use Rattle.verify.specs.Flags.{member}
+use Rattle.certificate_check.specs.Flags.{member}
 
 -- each buffer has an entry per node of the table
 pub record Room (t : List ℕ) (l : Lent) : Type 0 where

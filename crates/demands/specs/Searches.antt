@@ -4,7 +4,7 @@ use mathlib.Core.Path.{_≡_}
 use mathlib.Core.List.{List, []}
 use prog.Routine.{Routine}
 use denote.Triple.Clauses.{Ended}
-use Rattle.frames.specs.declared.Rejection.{Rejection}
+use Rattle.table.specs.declared.Rejection.{Rejection}
 use Rattle.methods.specs.declared.Method.{Method}
 use Rattle.methods.specs.declared.Answer.{Answer}
 use Rattle.methods.specs.declared.Answer.the-variants.{Found, Spent, Rejected}

@@ -1,10 +1,10 @@
-// Hexadecimal digits: the number of a digit, and the digit of a number.
+// The number of a hexadecimal digit.
 ghost use mathlib.Core.Path.{_≡_};
 ghost use Prim.Native.Nat.{_*_, _<_, _≤_, min};
-ghost use Rattle.file_hex.specs.Digit.{isLowercase, noDigit, digitOf, capitalOf};
+ghost use Rattle.file_hex.specs.Digit.{isLowercase, noDigit, digitOf};
 ghost use Rattle.file_hex.specs.engine.Kinds.{oneFrom, oneWithin};
 
-// How many digits there are, and how many of them are figures.
+// How many digits there are.
 pub const BASE: u8 = 16;
 
 // What a byte that is no digit gives, and the offset from a letter's low four bits to its number.

@@ -1,10 +1,10 @@
 -- The table of a graft is accepted exactly if no node of it is too deep: each node stands where its source does, and
 -- each source is some node's.
 use Rattle.prelude.proofs.{ℕ, _+_, _-_, _≤_, _<_, arith, _≡_, ap, _∙_, List, getD}
-use Rattle.frames.specs.{maxNodes, maxDepth, frames, firstChild, childCount, depthOf, ChildOf, TableAsStated, Accepted}
-use Rattle.frames.proofs.Next.{child-within}
-use Rattle.frames.proofs.Parents.{top-down}
-use Rattle.frames.proofs.Acceptance.{accepted-stated, stated-accepted}
+use Rattle.table.specs.{maxNodes, maxDepth, frames, firstChild, childCount, depthOf, ChildOf, TableAsStated, Accepted}
+use Rattle.table.proofs.Next.{child-within}
+use Rattle.table.proofs.Parents.{top-down}
+use Rattle.table.proofs.Acceptance.{accepted-stated, stated-accepted}
 use Rattle.graft_questions.specs.{graftSize, MaxLeaf}
 use Rattle.graft.specs.{rootFor, sources, graftTable}
 use Rattle.graft_questions.specs.Graftable.{Graftable}

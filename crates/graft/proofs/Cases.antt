@@ -1,8 +1,8 @@
 -- The small grafts, computed from the definitions.
 use Rattle.prelude.proofs.{arith, _≡_, refl, ap₂, map, _++_}
-use Rattle.frames.specs.{next, parentBefore, positionWithin, positionOf, upFrom, childrenFrom, grow, treeAt, valuation}
-use Rattle.frames.specs.{eachNode, framesRejection, rejection, Accepted, leaves, chain, small}
-use Rattle.frames.specs.declared.Checked.the-variants.{Rejected}
+use Rattle.table.specs.{next, parentBefore, positionWithin, positionOf, upFrom, childrenFrom, grow, treeAt, valuation}
+use Rattle.table.specs.{eachNode, framesRejection, rejection, Accepted, leaves, chain, small}
+use Rattle.table.specs.declared.Checked.the-variants.{Rejected}
 use Rattle.graft.specs.{rootFor, base, childSources, breadthFirst, frameAt, laidFrames, graftOutcome}
 use Rattle.graft.specs.{valuationFrom, graftValue, pair, chainTo, buffer, given, refused, far, values}
 use Rattle.graft_questions.specs.{deepest}

@@ -4,14 +4,14 @@ use Rattle.prelude.proofs.{ℕ, _+_, _-_, _*_, _≤_, _<_, arith, decLe, _≡_,
 use Rattle.prelude.proofs.{_++_, length, getD, take, drop, take-at, drop-at}
 use Rattle.lists.proofs.Choice.{is-false, clash}
 use Rattle.gametree.specs.{other, minimax, relabelled}
-use Rattle.frames.specs.declared.Rejection.{Rejection}
-use Rattle.frames.specs.declared.Checked.the-variants.{Nodes, Rejected}
-use Rattle.frames.specs.{frameSize, maxNodes, maxDepth, frames, byteOf, childCount, parentOf, depthOf, sideOf, tree}
-use Rattle.frames.specs.{valuation, rejection, Accepted, answer}
-use Rattle.frames.proofs.Asked.{refused, answer-nodes, answer-rejected, answer-of}
-use Rattle.frames.proofs.Acceptance.{accepted-stated, accepted-formed}
-use Rattle.frames.proofs.Parents.{parent-child}
-use Rattle.frames.proofs.Sides.{mover-other}
+use Rattle.table.specs.declared.Rejection.{Rejection}
+use Rattle.table.specs.declared.Checked.the-variants.{Nodes, Rejected}
+use Rattle.table.specs.{frameSize, maxNodes, maxDepth, frames, byteOf, childCount, parentOf, depthOf, sideOf, tree}
+use Rattle.table.specs.{valuation, rejection, Accepted, answer}
+use Rattle.table.proofs.Asked.{refused, answer-nodes, answer-rejected, answer-of}
+use Rattle.table.proofs.Acceptance.{accepted-stated, accepted-formed}
+use Rattle.table.proofs.Parents.{parent-child}
+use Rattle.table.proofs.Sides.{mover-other}
 use Rattle.graft_questions.specs.{graftSize, isMaxLeaf, deepest, leafRejection, graftRejection, MaxLeaf}
 use Rattle.graft.specs.{sources, graftTable, graftOutcome, graftTree, graftValue, handed}
 use Rattle.graft_questions.specs.Graftable.{Graftable}

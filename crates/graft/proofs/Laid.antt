@@ -3,13 +3,13 @@
 use Rattle.prelude.proofs.{ℕ, zero, suc, _+_, _*_, _-_, _≤_, _<_, arith, decLt, ℕ-discrete, _≡_, refl, sym, ap, _∙_}
 use Rattle.prelude.proofs.{_⊎_, inl, inr, ⊎-elim, List, _++_, length, getD, length-append, List·getD-append}
 use Rattle.prelude.proofs.{getD-append-add}
-use Rattle.frames.specs.{frameSize, frames, byteOf, firstChild, childCount, byte3, next, childPosition, positionOf}
-use Rattle.frames.specs.{WellFormed, FrameAsStated}
-use Rattle.frames.proofs.Next.{child-within}
-use Rattle.frames.proofs.Parents.{top-down}
-use Rattle.frames.proofs.Positions.{position-root, position-child}
-use Rattle.frames.proofs.Acceptance.{stated-formed}
-use Rattle.frames.proofs.Ranges.{length-up, up-at}
+use Rattle.table.specs.{frameSize, frames, byteOf, firstChild, childCount, byte3, next, childPosition, positionOf}
+use Rattle.table.specs.{WellFormed, FrameAsStated}
+use Rattle.table.proofs.Next.{child-within}
+use Rattle.table.proofs.Parents.{top-down}
+use Rattle.table.proofs.Positions.{position-root, position-child}
+use Rattle.table.proofs.Acceptance.{stated-formed}
+use Rattle.table.proofs.Ranges.{length-up, up-at}
 use Rattle.graft_questions.specs.{graftSize}
 use Rattle.graft.specs.{rootFor, childSources, breadthFirst, knownSources, sources, firstNumber, sourceAt}
 use Rattle.graft.specs.{frameAt, laidFrames, graftTable}

@@ -5,7 +5,7 @@ use Rattle.gametree.specs.declared.Side.{Side}
 use Rattle.gametree.specs.{Tree, inner, last, _then_, size, sizeChildren, grafted, graftedChildren, relabelled}
 use Rattle.gametree.specs.{relabelledChildren}
 use Rattle.gametree_theory.proofs.minimax.Nodes.{size-then}
-use Rattle.frames.specs.{upFrom, childrenFrom, node}
+use Rattle.table.specs.{upFrom, childrenFrom, node}
 use Rattle.graft.proofs.Listing.{weight}
 
 -- the same trees from another number on

@@ -1,11 +1,11 @@
 -- The outcome of a call from the answer to its questions: what is written where there are nodes, and the buffer as it
 -- was where there is a rejection.
 use Rattle.prelude.proofs.{ℕ, _*_, _≤_, _≡_, List, _++_, length, drop}
-use Rattle.frames.specs.declared.Rejection.{Rejection}
-use Rattle.frames.specs.declared.Checked.{Checked}
-use Rattle.frames.specs.declared.Checked.the-variants.{Nodes, Rejected}
-use Rattle.frames.specs.{frameSize, answer, _leaving_}
-use Rattle.frames.proofs.Asked.{answer-nodes, answer-rejected}
+use Rattle.table.specs.declared.Rejection.{Rejection}
+use Rattle.table.specs.declared.Checked.{Checked}
+use Rattle.table.specs.declared.Checked.the-variants.{Nodes, Rejected}
+use Rattle.table.specs.{frameSize, answer, _leaving_}
+use Rattle.table.proofs.Asked.{answer-nodes, answer-rejected}
 use Rattle.graft_questions.specs.{graftSize, graftRejection}
 use Rattle.graft_questions.specs.Graftable.{Graftable}
 use Rattle.graft_questions.proofs.Questions.{passed-graftable}

@@ -4,7 +4,7 @@ use Rattle.prelude.proofs.{ℕ, suc, _+_, _*_, _-_, _/_, _%_, _≤_, _<_, arith
 use Rattle.prelude.proofs.{_∙_, List, [], _∷_, _++_, length, getD, take, drop, set, length-append, length-set}
 use Rattle.prelude.proofs.{take-set-le, drop-set-lt, getD-set-same, getD-set-other, getD-take, getD-drop, drop-drop}
 use Rattle.prelude.proofs.{length-take-le, take-at, sets, length-sets, sets-eq}
-use Rattle.frames.specs.{frameSize, byteOf, firstChild}
+use Rattle.table.specs.{frameSize, byteOf, firstChild}
 use Rattle.graft.specs.{withFirst, Queued}
 
 -- stores change nothing before them, and nothing behind them

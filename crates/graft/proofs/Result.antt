@@ -3,11 +3,11 @@
 use Rattle.prelude.proofs.{ℕ, _+_, _<_, arith, _≡_, sym, ap, ap₂, _∙_, List, _++_, getD}
 use Rattle.gametree.specs.{minimax, relabelled, substituted}
 use Rattle.gametree_theory.proofs.minimax.Grafts.{graft-value, relabelled-value, minimax-same}
-use Rattle.frames.specs.{frames, firstChild, childCount, storedScore, depthOf, sideOf, node, treeAt, tree, valuation}
-use Rattle.frames.specs.{leafScore}
-use Rattle.frames.proofs.Parents.{bottom-up}
-use Rattle.frames.proofs.Trees.{tree-node}
-use Rattle.frames.proofs.Proper.{every-leaf}
+use Rattle.table.specs.{frames, firstChild, childCount, storedScore, depthOf, sideOf, node, treeAt, tree, valuation}
+use Rattle.table.specs.{leafScore}
+use Rattle.table.proofs.Parents.{bottom-up}
+use Rattle.table.proofs.Trees.{tree-node}
+use Rattle.table.proofs.Proper.{every-leaf}
 use Rattle.graft_questions.specs.{graftSize}
 use Rattle.graft.specs.{rootFor, sources, graftTable, graftTree, valuationFrom, graftValue}
 use Rattle.graft.proofs.Nodes.{node-shifted, relabelled-node}

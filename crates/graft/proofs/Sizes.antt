@@ -5,8 +5,8 @@ use Rattle.gametree.specs.{Tree, leaf, inner, Children, last, _then_, size, siz
 use Rattle.gametree.specs.{relabelled}
 use Rattle.gametree_theory.proofs.minimax.Nodes.{size-then}
 use Rattle.gametree_theory.proofs.minimax.Grafts.{relabelled-size}
-use Rattle.frames.specs.{frames, childCount, tree, WellFormed}
-use Rattle.frames.proofs.Totals.{total, totalChildren, sumTo, atNode, tree-total, tree-size}
+use Rattle.table.specs.{frames, childCount, tree, WellFormed}
+use Rattle.table.proofs.Totals.{total, totalChildren, sumTo, atNode, tree-total, tree-size}
 use Rattle.graft_questions.specs.{graftSize}
 use Rattle.graft.specs.{graftTree}
 

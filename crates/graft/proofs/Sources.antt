@@ -4,12 +4,12 @@ use Rattle.prelude.proofs.{ℕ, _+_, _-_, _≤_, _<_, arith, ℕ-discrete, _≡
 use Rattle.prelude.proofs.{_++_, ltb, length, getD, lt-ltb, le-ltb, eq-eqb, ne-eqb}
 use Rattle.gametree.specs.declared.Position.{Position}
 use Rattle.gametree.specs.{Tree, leaf, size, grafted, relabelled}
-use Rattle.frames.specs.{maxNodes, frames, firstChild, childCount, byte3, rootPosition, childPosition, positionOf}
-use Rattle.frames.specs.{depthOf, sideOf, upFrom, node, treeAt, tree, WellFormed, ChildOf, Accepted, TableAsStated}
-use Rattle.frames.proofs.Next.{child-within}
-use Rattle.frames.proofs.Acceptance.{accepted-stated, accepted-formed}
-use Rattle.frames.proofs.Positions.{position-root, position-child}
-use Rattle.frames.proofs.Trees.{tree-node, tree-leaf, node-same}
+use Rattle.table.specs.{maxNodes, frames, firstChild, childCount, byte3, rootPosition, childPosition, positionOf}
+use Rattle.table.specs.{depthOf, sideOf, upFrom, node, treeAt, tree, WellFormed, ChildOf, Accepted, TableAsStated}
+use Rattle.table.proofs.Next.{child-within}
+use Rattle.table.proofs.Acceptance.{accepted-stated, accepted-formed}
+use Rattle.table.proofs.Positions.{position-root, position-child}
+use Rattle.table.proofs.Trees.{tree-node, tree-leaf, node-same}
 use Rattle.graft_questions.specs.{graftSize, MaxLeaf}
 use Rattle.graft.specs.{rootFor, base, childSources, knownSources, sources, graftTree}
 use Rattle.graft_questions.specs.Graftable.{Graftable}

@@ -3,8 +3,8 @@
 use Rattle.prelude.proofs.{ℕ, _+_, _*_, _-_, _/_, _%_, _≤_, _<_, arith, decLt, add-one, _≡_, refl, sym, ap, ap₂, _∙_}
 use Rattle.prelude.proofs.{cond, List, [], _∷_, _++_, eqb, length, getD, take, drop, take-append-drop, sets}
 use Rattle.prelude.proofs.{length-sets, take-take}
-use Rattle.frames.specs.{frameSize, twoBytes, frames, firstChild}
-use Rattle.frames.proofs.Ranges.{up-at}
+use Rattle.table.specs.{frameSize, twoBytes, frames, firstChild}
+use Rattle.table.proofs.Ranges.{up-at}
 use Rattle.graft_questions.specs.{graftSize}
 use Rattle.graft.specs.{rootFor, childSources, breadthFirst, knownSources, firstNumber, renumbered, sourceAt}
 use Rattle.graft.specs.{frameAt, laidFrames, graftTable, Joined, withFirst, Queued}

@@ -2,10 +2,10 @@
 use Prim.Native.Nat.{ℕ, _*_}
 use mathlib.Core.List.{List, _++_}
 use lib.ListN.{length, drop}
-use Rattle.frames.specs.declared.Checked.{Checked}
-use Rattle.frames.specs.declared.Checked.the-variants.{Nodes, Rejected}
-use Rattle.frames.specs.Frame.{frameSize}
-use Rattle.frames.specs.Rejection.{unless, Outcome, _leaving_}
+use Rattle.table.specs.declared.Checked.{Checked}
+use Rattle.table.specs.declared.Checked.the-variants.{Nodes, Rejected}
+use Rattle.table.specs.Frame.{frameSize}
+use Rattle.table.specs.Rejection.{unless, Outcome, _leaving_}
 use Rattle.graft_questions.specs.Questions.{graftSize, graftRejection}
 use Rattle.graft.specs.Table.{graftTable}
 

@@ -5,8 +5,8 @@ use mathlib.Core.Bool.{cond}
 use mathlib.Core.List.{List, [], _∷_, _++_, map}
 use lib.Dec.{ltb, eqb}
 use lib.ListN.{getD}
-use Rattle.frames.specs.Frame.{frames, firstChild, childCount}
-use Rattle.frames.specs.Tree.{upFrom}
+use Rattle.table.specs.Frame.{frames, firstChild, childCount}
+use Rattle.table.specs.Tree.{upFrom}
 use Rattle.graft_questions.specs.Questions.{graftSize}
 
 -- the source s, with the second table's root in place of the leaf k of the first

@@ -2,7 +2,7 @@
 use Prim.Native.Nat.{ℕ, zero, suc, _/_, _%_}
 use mathlib.Core.List.{List, [], _∷_, _++_}
 use lib.ListN.{length, getD}
-use Rattle.frames.specs.Frame.{byteOf, childCount}
+use Rattle.table.specs.Frame.{byteOf, childCount}
 use Rattle.graft_questions.specs.Questions.{graftSize}
 use Rattle.graft.specs.Sources.{knownSources}
 

@@ -1,10 +1,10 @@
 // Grafting: the tree of a second table in place of a leaf of a first.
-use frames::Checked;
-use frames::FRAME_SIZE;
-use frames::child_count;
-use frames::first_child;
-use frames::frame_count;
 use graft_questions::ask;
+use table::Checked;
+use table::FRAME_SIZE;
+use table::child_count;
+use table::first_child;
+use table::frame_count;
 ghost use mathlib.Core.Path.{_≡_};
 ghost use mathlib.Core.List.{_++_};
 ghost use mathlib.Core.Bool.{cond};
@@ -12,8 +12,8 @@ ghost use Prim.Native.Nat.{ℕ, _+_, _*_, _<_, _≤_};
 ghost use lib.Dec.{eqb};
 ghost use lib.ListN.{length, drop};
 ghost use lib.Seq.{sets};
-ghost use Rattle.frames.specs.Frame.{frameSize, maxNodes, twoBytes, frames, firstChild, childCount};
-ghost use Rattle.frames.specs.Rejection.{_leaving_};
+ghost use Rattle.table.specs.Frame.{frameSize, maxNodes, twoBytes, frames, firstChild, childCount};
+ghost use Rattle.table.specs.Rejection.{_leaving_};
 ghost use Rattle.graft_questions.specs.Questions.{graftSize};
 ghost use Rattle.graft_questions.specs.Graftable.{Graftable};
 ghost use Rattle.graft.specs.Sources.{base};

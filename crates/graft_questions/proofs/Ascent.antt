@@ -7,10 +7,10 @@ use Rattle.gametree.specs.declared.Position.{Position}
 use Rattle.gametree.specs.declared.Side.{Side}
 use Rattle.gametree.specs.declared.Side.the-variants.{Max, Min}
 use Rattle.gametree.specs.{other}
-use Rattle.frames.specs.{frames, firstChild, childCount, byte3, sameMover, isChild, parentOf, rootPosition}
-use Rattle.frames.specs.{childPosition, positionOf, WellFormed}
-use Rattle.frames.proofs.Parents.{child-test, parent-less, parent-is, parent-child}
-use Rattle.frames.proofs.Positions.{position-root, position-step, depth-at-most}
+use Rattle.table.specs.{frames, firstChild, childCount, byte3, sameMover, isChild, parentOf, rootPosition}
+use Rattle.table.specs.{childPosition, positionOf, WellFormed}
+use Rattle.table.proofs.Parents.{child-test, parent-less, parent-is, parent-child}
+use Rattle.table.proofs.Positions.{position-root, position-step, depth-at-most}
 
 module _ (t : List ℕ) (wf : WellFormed t) (i k : ℕ) where
   -- a node that has k for a child is k's parent

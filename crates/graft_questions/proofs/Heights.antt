@@ -1,10 +1,10 @@
 -- The greatest depth of a table's nodes is that of the last one: in breadth-first order a later node's parent is no
 -- earlier, so a later node is no higher.
 use Rattle.prelude.proofs.{ℕ, zero, suc, _+_, _-_, _≤_, _<_, arith, decLt, _≡_, ap, List}
-use Rattle.frames.specs.{frames, parentOf, depthOf, WellFormed}
-use Rattle.frames.proofs.Next.{next-mono, child-next}
-use Rattle.frames.proofs.Parents.{parent-less, parent-child}
-use Rattle.frames.proofs.Positions.{position-root, depth-child}
+use Rattle.table.specs.{frames, parentOf, depthOf, WellFormed}
+use Rattle.table.proofs.Next.{next-mono, child-next}
+use Rattle.table.proofs.Parents.{parent-less, parent-child}
+use Rattle.table.proofs.Positions.{position-root, depth-child}
 use Rattle.graft_questions.specs.{deepest}
 
 -- no node is deeper

@@ -5,10 +5,10 @@ use Rattle.lists.proofs.Choice.{and-both, true-not-false}
 use Rattle.gametree.specs.declared.Side.{Side}
 use Rattle.gametree.specs.declared.Side.the-variants.{Max, Min}
 use Rattle.gametree.specs.{same}
-use Rattle.frames.specs.declared.Rejection.{Rejection}
-use Rattle.frames.specs.{frameSize, maxNodes, maxDepth, frames, childCount, depthOf, sideOf, rejection, Accepted}
-use Rattle.frames.proofs.Stated.{ask-yes, both-passed}
-use Rattle.frames.proofs.Acceptance.{accepted-formed}
+use Rattle.table.specs.declared.Rejection.{Rejection}
+use Rattle.table.specs.{frameSize, maxNodes, maxDepth, frames, childCount, depthOf, sideOf, rejection, Accepted}
+use Rattle.table.proofs.Stated.{ask-yes, both-passed}
+use Rattle.table.proofs.Acceptance.{accepted-formed}
 use Rattle.graft_questions.specs.{graftSize, isMaxLeaf, deepest, check17, check18, graftCheck10, leafRejection}
 use Rattle.graft_questions.specs.{graftRejection, MaxLeaf}
 use Rattle.graft_questions.specs.Graftable.{Graftable}

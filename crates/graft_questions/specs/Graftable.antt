@@ -3,9 +3,9 @@ use Prim.Native.Nat.{ℕ, _+_, _≤_, _<_}
 use mathlib.Core.Path.{_≡_}
 use mathlib.Core.List.{List}
 use Rattle.gametree.specs.declared.Side.the-variants.{Max}
-use Rattle.frames.specs.Frame.{maxNodes, maxDepth, frames, childCount}
-use Rattle.frames.specs.Position.{depthOf, sideOf}
-use Rattle.frames.specs.Check.{Accepted}
+use Rattle.table.specs.Frame.{maxNodes, maxDepth, frames, childCount}
+use Rattle.table.specs.Position.{depthOf, sideOf}
+use Rattle.table.specs.Check.{Accepted}
 use Rattle.graft_questions.specs.Questions.{graftSize}
 
 -- node k of the table is a leaf with Max to move

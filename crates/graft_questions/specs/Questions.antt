@@ -6,11 +6,11 @@ use mathlib.Core.List.{List}
 use lib.Dec.{ltb, leb, eqb}
 use Rattle.gametree.specs.declared.Side.the-variants.{Max}
 use Rattle.gametree.specs.Certificate.{same}
-use Rattle.frames.specs.declared.Rejection.{Rejection}
-use Rattle.frames.specs.Frame.{frameSize, maxNodes, maxDepth, frames, childCount}
-use Rattle.frames.specs.Position.{depthOf, sideOf}
-use Rattle.frames.specs.Rejection.{ask, _andThen_}
-use Rattle.frames.specs.Check.{rejection}
+use Rattle.table.specs.declared.Rejection.{Rejection}
+use Rattle.table.specs.Frame.{frameSize, maxNodes, maxDepth, frames, childCount}
+use Rattle.table.specs.Position.{depthOf, sideOf}
+use Rattle.table.specs.Rejection.{ask, _andThen_}
+use Rattle.table.specs.Check.{rejection}
 
 -- the number of nodes of the grafted tree: those of both, without the leaf
 abbrev pub graftSize : (t u : List ℕ) → ℕ

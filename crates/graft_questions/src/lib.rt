@@ -1,27 +1,27 @@
 // The questions of a graft: may the tree of a second table take the place of a leaf of a first?
-use frames::Checked;
-use frames::FRAME_SIZE;
-use frames::MAX_DEPTH;
-use frames::MAX_NODES;
-use frames::SHORT_BUFFER;
-use frames::child_count;
-use frames::child_position;
-use frames::first_child;
-use frames::frame_count;
-use frames::rejected;
 use gametree::Position;
 use gametree::Side;
-use tables::check;
+use table::Checked;
+use table::FRAME_SIZE;
+use table::MAX_DEPTH;
+use table::MAX_NODES;
+use table::SHORT_BUFFER;
+use table::child_count;
+use table::child_position;
+use table::first_child;
+use table::frame_count;
+use table::rejected;
+use table_check::check;
 ghost use mathlib.Core.Path.{_≡_};
 ghost use mathlib.Core.Bool.{_&&_};
 ghost use Prim.Native.Nat.{_<_};
 ghost use lib.Dec.{ltb, eqb};
 ghost use Rattle.gametree.specs.declared.Side.the-variants.{Max};
 ghost use Rattle.gametree.specs.Certificate.{same};
-ghost use Rattle.frames.specs.Frame.{maxNodes, frames, childCount};
-ghost use Rattle.frames.specs.Position.{isChild, parentOf, positionOf};
-ghost use Rattle.frames.specs.Formed.{WellFormed};
-ghost use Rattle.frames.specs.Rejection.{answer};
+ghost use Rattle.table.specs.Frame.{maxNodes, frames, childCount};
+ghost use Rattle.table.specs.Position.{isChild, parentOf, positionOf};
+ghost use Rattle.table.specs.Formed.{WellFormed};
+ghost use Rattle.table.specs.Rejection.{answer};
 ghost use Rattle.graft_questions.specs.Questions.{graftSize, deepest, leafRejection, graftRejection};
 
 // The numbers of the questions about a graft, by what a "no" means (SPEC 4.2).

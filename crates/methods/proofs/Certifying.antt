@@ -2,9 +2,9 @@
 use Rattle.prelude.proofs.{ℕ, _≡_, refl, List, [], _∷_}
 use Rattle.lists.specs.{among}
 use Rattle.gametree.specs.{Evaluation}
-use Rattle.frames.specs.{WellFormed, _leaving_}
-use Rattle.certificate.specs.{marksOf, listed}
-use Rattle.certificate.proofs.Concluded.{concluded}
+use Rattle.table.specs.{WellFormed, _leaving_}
+use Rattle.certificate_write.specs.{marksOf, listed}
+use Rattle.certificate_write.proofs.Concluded.{concluded}
 use Rattle.methods.specs.declared.Method.{Method}
 use Rattle.methods.specs.declared.Answer.{Answer}
 use Rattle.methods.specs.{evaluatedBy, beyond, lent, answerBy, flagsLeft, givenBy, certifiedFlags}

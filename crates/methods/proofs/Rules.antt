@@ -10,12 +10,12 @@ use Rattle.gametree_theory.proofs.minimax.Counts.{once-count}
 use Rattle.gametree_theory.proofs.TestRuns.{mtdf-searched}
 use Rattle.gametree_theory.proofs.Theorems.{alphaBeta-leaves, search-once, search-deciding, domination}
 use Rattle.gametree_theory.proofs.Within.{evaluations-count, full-few}
-use Rattle.frames.specs.{frames, childCount, tree, valuation, WellFormed}
-use Rattle.frames.proofs.Totals.{tree-size}
-use Rattle.frames.proofs.Proper.{tree-proper}
+use Rattle.table.specs.{frames, childCount, tree, valuation, WellFormed}
+use Rattle.table.proofs.Totals.{tree-size}
+use Rattle.table.proofs.Proper.{tree-proper}
 use Rattle.certificate_bounds.specs.{ones}
-use Rattle.certificate.specs.{marksOf}
-use Rattle.certificate.proofs.Marks.{marked-written, evaluated-hold, ones-leaves}
+use Rattle.certificate_write.specs.{marksOf}
+use Rattle.certificate_write.proofs.Marks.{marked-written, evaluated-hold, ones-leaves}
 use Rattle.methods.specs.declared.Method.{Method}
 use Rattle.methods.specs.declared.Method.the-variants.{AlphaBeta, Mtd, MtdFrom, Sss}
 use Rattle.methods.specs.{decisionOf, startScore, runOf, evaluatedBy, beyond}

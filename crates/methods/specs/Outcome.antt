@@ -7,11 +7,11 @@ use lib.ListN.{length}
 use Rattle.gametree.specs.Trees.{minimax}
 use Rattle.gametree.specs.Move.{rootMove}
 use Rattle.gametree.specs.Sss.{Evaluation}
-use Rattle.frames.specs.declared.Rejection.{Rejection}
-use Rattle.frames.specs.Tree.{tree, valuation}
-use Rattle.frames.specs.Value.{valueOf}
-use Rattle.frames.specs.Rejection.{unless, Outcome, _leaving_}
-use Rattle.certificate.specs.Search.{searchRejection, marksOf, flagsOf, listed}
+use Rattle.table.specs.declared.Rejection.{Rejection}
+use Rattle.table.specs.Tree.{tree, valuation}
+use Rattle.table.specs.Value.{valueOf}
+use Rattle.table.specs.Rejection.{unless, Outcome, _leaving_}
+use Rattle.certificate_write.specs.Search.{searchRejection, marksOf, flagsOf, listed}
 use Rattle.methods.specs.declared.Method.{Method}
 use Rattle.methods.specs.declared.Findings.{Findings}
 use Rattle.methods.specs.declared.Answer.{Answer}

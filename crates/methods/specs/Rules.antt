@@ -12,8 +12,8 @@ use Rattle.gametree.specs.AlphaBeta.{reached}
 use Rattle.gametree.specs.Mtd.{mtd}
 use Rattle.gametree.specs.Mtdf.{Decision, mtdf}
 use Rattle.gametree.specs.Sss.{Evaluation, SssRun, sss}
-use Rattle.frames.specs.Tree.{tree, valuation}
-use Rattle.frames.specs.Value.{scoreOf, maxValue}
+use Rattle.table.specs.Tree.{tree, valuation}
+use Rattle.table.specs.Value.{scoreOf, maxValue}
 use Rattle.methods.specs.declared.Method.{Method}
 use Rattle.methods.specs.declared.Method.the-variants.{AlphaBeta, Mtd, MtdFrom, Sss}
 

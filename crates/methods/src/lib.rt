@@ -1,12 +1,12 @@
 // What every search shares: the methods, the one answer, and the one place where a search writes its certificate.
-use certificate::write_certificate_at;
-use frames::Rejection;
+use certificate_write::write_certificate_at;
+use table::Rejection;
 ghost use mathlib.Core.Path.{_≡_};
 ghost use Prim.Native.Nat.{_≤_};
 ghost use lib.ListN.{length};
-ghost use Rattle.frames.specs.Frame.{frames};
-ghost use Rattle.frames.specs.Formed.{WellFormed};
-ghost use Rattle.positions.specs.engine.Positions.{Positioned};
+ghost use Rattle.table.specs.Frame.{frames};
+ghost use Rattle.table.specs.Formed.{WellFormed};
+ghost use Rattle.table_positions.specs.engine.Positions.{Positioned};
 ghost use Rattle.methods.specs.engine.Certified.{certifiedFlags};
 
 // How a tree is searched: by alpha-beta, by MTD, by MTD(f) from a starting value, or by SSS* within an allowance of

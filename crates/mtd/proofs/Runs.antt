@@ -7,11 +7,11 @@ use Rattle.gametree_theory.proofs.mtd.Sound.{Kept, Sound, sound}
 use Rattle.gametree_theory.proofs.mtd.Value.{kept-lower, fresh-kept, fresh-memoHigh}
 use Rattle.gametree_theory.proofs.mtd.MemoArrays.{read-fresh, read-high}
 use Rattle.gametree_theory.proofs.mtd.Memory.{memo-run}
-use Rattle.frames.specs.{frames, childCount, next, rootPosition, treeAt, tree, valuation, WellFormed}
-use Rattle.frames.proofs.Positions.{position-root}
-use Rattle.frames.proofs.Trees.{zero-or-suc}
-use Rattle.frames.proofs.Nodes.{in-own, in-parent, tree-range}
-use Rattle.frames.proofs.Proper.{tree-proper}
+use Rattle.table.specs.{frames, childCount, next, rootPosition, treeAt, tree, valuation, WellFormed}
+use Rattle.table.proofs.Positions.{position-root}
+use Rattle.table.proofs.Trees.{zero-or-suc}
+use Rattle.table.proofs.Nodes.{in-own, in-parent, tree-range}
+use Rattle.table.proofs.Proper.{tree-proper}
 use Rattle.certificate_bounds.specs.{marked, evaluateAll, boundOf}
 use Rattle.certificate_bounds.proofs.Listing.{ones-none}
 use Rattle.certificate_flags.specs.{firstEqual}

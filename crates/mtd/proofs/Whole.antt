@@ -8,19 +8,19 @@ use Rattle.gametree.specs.{Tree, inner, Children, greatest, minimax, Proper, hi
 use Rattle.gametree_theory.proofs.mtd.Moves.{mtd-highMove}
 use Rattle.gametree_theory.proofs.mtd.Memory.{memo-run}
 use Rattle.gametree_theory.proofs.Theorems.{value-score, mtd-minimax}
-use Rattle.frames.specs.{frames, childCount, next, childrenFrom, treeAt, tree, valuation, WellFormed, valueOf}
-use Rattle.frames.proofs.Positions.{position-root}
-use Rattle.frames.proofs.Proper.{tree-proper}
-use Rattle.frames.proofs.Trees.{zero-or-suc, tree-leaf, tree-inner, tree-number}
-use Rattle.positions.specs.{written}
+use Rattle.table.specs.{frames, childCount, next, childrenFrom, treeAt, tree, valuation, WellFormed, valueOf}
+use Rattle.table.proofs.Positions.{position-root}
+use Rattle.table.proofs.Proper.{tree-proper}
+use Rattle.table.proofs.Trees.{zero-or-suc, tree-leaf, tree-inner, tree-number}
+use Rattle.table_positions.specs.{written}
 use Rattle.certificate_bounds.specs.{marked, ones, boundOf, progress, evaluateAll}
 use Rattle.certificate_bounds.proofs.Listing.{first-evaluated}
 use Rattle.certificate_flags.specs.{firstEqual}
-use Rattle.certificate.specs.{marksOf, listed}
-use Rattle.certificate.proofs.Chosen.{chosenOf, first-with}
-use Rattle.certificate.proofs.Concluded.{chosen-same}
-use Rattle.certificate.proofs.Marks.{marked-written}
-use Rattle.certificate.proofs.Outcomes.{search-marks}
+use Rattle.certificate_write.specs.{marksOf, listed}
+use Rattle.certificate_write.proofs.Chosen.{chosenOf, first-with}
+use Rattle.certificate_write.proofs.Concluded.{chosen-same}
+use Rattle.certificate_write.proofs.Marks.{marked-written}
+use Rattle.certificate_write.proofs.Outcomes.{search-marks}
 use Rattle.mtd.specs.declared.Settled.{Settled}
 use Rattle.mtd_memory.specs.{memory, firstHigh, Fresh}
 use Rattle.methods.specs.declared.Method.the-variants.{Mtd}

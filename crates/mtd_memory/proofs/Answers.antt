@@ -9,9 +9,9 @@ use Rattle.gametree.specs.{Tree, leaf, inner, Children, last, _then_, better, M
 use Rattle.gametree.specs.{memoHighChildren, Pass, PassChildren, pass, passChildren}
 use Rattle.lists.proofs.Choice.{cond-cases, true-not-false}
 use Rattle.gametree_theory.proofs.mtd.MemoArrays.{read-high}
-use Rattle.frames.specs.{frames, firstChild, childCount, sideOf, childrenFrom, treeAt, valuation, WellFormed}
-use Rattle.frames.proofs.Nodes.{in-own}
-use Rattle.frames.proofs.Trees.{zero-or-suc, tree-leaf, tree-inner}
+use Rattle.table.specs.{frames, firstChild, childCount, sideOf, childrenFrom, treeAt, valuation, WellFormed}
+use Rattle.table.proofs.Nodes.{in-own}
+use Rattle.table.proofs.Trees.{zero-or-suc, tree-leaf, tree-inner}
 use Rattle.certificate_bounds.specs.{marked, bestIn}
 use Rattle.mtd_memory.specs.declared.Tried.{Tried}
 use Rattle.mtd_memory.specs.{Memory, memoOf, passOf, Passed, Explored}

@@ -6,7 +6,7 @@ use Rattle.gametree.specs.{Tree, leaf, inner, Children, last, _then_, better, m
 use Rattle.gametree.specs.{known, Bits}
 use Rattle.certificate_bounds.specs.{marked, progress, evaluateAll}
 use Rattle.certificate_bounds.proofs.Listing.{none-evaluated, one-evaluated, evaluateAll-append}
-use Rattle.frames.specs.{firstChild, childCount}
+use Rattle.table.specs.{firstChild, childCount}
 use Rattle.mtd_memory.specs.{Memory, progressOf, MemoryRoom, Evaluated, Explored, NamesTwo, Skips}
 
 -- what stands there already is stored

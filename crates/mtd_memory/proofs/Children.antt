@@ -5,7 +5,7 @@ use Rattle.gametree.specs.declared.Side.{Side}
 use Rattle.gametree.specs.{Tree, Children, last, _then_, In, InChildren, settles, MemoChildren, PassChildren, joined}
 use Rattle.gametree.specs.{passChildren, readMemoChildren, KidsRemembered}
 use Rattle.gametree_theory.proofs.mtd.MemoArrays.{rest-same, visit-ended, visit-joined}
-use Rattle.frames.specs.{valuation}
+use Rattle.table.specs.{valuation}
 use Rattle.certificate_bounds.specs.{marked}
 use Rattle.mtd_memory.specs.declared.Tried.{Tried}
 use Rattle.mtd_memory.specs.{Memory, passOf, Evaluated, Counted, Passed}

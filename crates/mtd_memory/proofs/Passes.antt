@@ -6,7 +6,7 @@ use Rattle.gametree.specs.declared.Side.{Side}
 use Rattle.gametree.specs.{Tree, leaf, inner, Children, InChildren, high, Memo, memoHigh, Pass, stay, entered}
 use Rattle.lists.proofs.Choice.{cond-cases}
 use Rattle.gametree_theory.proofs.mtd.MemoArrays.{readMemoChildren-same, read-high}
-use Rattle.frames.specs.{treeAt, valuation, frames, firstChild, childCount}
+use Rattle.table.specs.{treeAt, valuation, frames, firstChild, childCount}
 use Rattle.certificate_bounds.specs.{marked, ones, progress, evaluateAll}
 use Rattle.certificate_bounds.proofs.Marking.{marked-other}
 use Rattle.mtd_memory.specs.declared.Tried.{Tried}

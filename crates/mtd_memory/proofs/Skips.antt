@@ -9,11 +9,11 @@ use Rattle.gametree.specs.declared.Side.the-variants.{Max, Min}
 use Rattle.gametree.specs.{greatest, known, settles}
 use Rattle.lists.proofs.Choice.{true-not-false, or-false-both}
 use Rattle.gametree_theory.proofs.minimax.Bounds.{minimax-within}
-use Rattle.frames.specs.{childCount, childPosition, sideOf, treeAt, valuation}
-use Rattle.frames.proofs.Next.{child-later, child-within}
-use Rattle.frames.proofs.Nodes.{in-own, tree-range}
-use Rattle.frames.proofs.Proper.{every-leaf, leaf-scored}
-use Rattle.frames.proofs.Trees.{zero-or-suc, in-kids, tree-leaf}
+use Rattle.table.specs.{childCount, childPosition, sideOf, treeAt, valuation}
+use Rattle.table.proofs.Next.{child-later, child-within}
+use Rattle.table.proofs.Nodes.{in-own, tree-range}
+use Rattle.table.proofs.Proper.{every-leaf, leaf-scored}
+use Rattle.table.proofs.Trees.{zero-or-suc, in-kids, tree-leaf}
 use Rattle.certificate_bounds.specs.{marked}
 use Rattle.mtd_memory.specs.declared.Tried.{Tried}
 use Rattle.mtd_memory.specs.declared.Tries.{Tries}

@@ -7,12 +7,12 @@ use Rattle.gametree.specs.declared.Side.{Side}
 use Rattle.gametree.specs.declared.Side.the-variants.{Min}
 use Rattle.gametree.specs.{inner, Children, last, _then_, greatest, minimax, In, InChildren, known, settles}
 use Rattle.lists.proofs.Choice.{or-false-both}
-use Rattle.frames.specs.{frames, firstChild, childCount, childPosition, sideOf, childrenFrom, treeAt, valuation}
-use Rattle.frames.specs.{WellFormed, ChildOf}
-use Rattle.frames.proofs.Next.{child-within, children-within}
-use Rattle.frames.proofs.Positions.{position-child}
-use Rattle.frames.proofs.Trees.{in-kids, kids-in, tree-inner}
-use Rattle.frames.proofs.Nodes.{in-own, in-parent, in-trans, tree-range, children-apart}
+use Rattle.table.specs.{frames, firstChild, childCount, childPosition, sideOf, childrenFrom, treeAt, valuation}
+use Rattle.table.specs.{WellFormed, ChildOf}
+use Rattle.table.proofs.Next.{child-within, children-within}
+use Rattle.table.proofs.Positions.{position-child}
+use Rattle.table.proofs.Trees.{in-kids, kids-in, tree-inner}
+use Rattle.table.proofs.Nodes.{in-own, in-parent, in-trans, tree-range, children-apart}
 use Rattle.certificate_bounds.specs.{marked, bestIn}
 use Rattle.certificate_bounds.proofs.Bounds.{minimax-best}
 use Rattle.mtd_memory.specs.declared.Tried.{Tried}

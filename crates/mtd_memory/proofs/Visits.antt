@@ -5,11 +5,11 @@ use Rattle.gametree.specs.declared.Position.{Position}
 use Rattle.gametree.specs.declared.Side.{Side}
 use Rattle.gametree.specs.declared.Side.the-variants.{Min}
 use Rattle.gametree.specs.{Tree, inner, greatest, minimax, Distinct, known}
-use Rattle.frames.specs.{maxNodes, frames, firstChild, childCount, sideOf, treeAt, valuation, WellFormed, ChildOf}
-use Rattle.frames.proofs.Next.{child-later, child-within}
-use Rattle.frames.proofs.Positions.{depth-at-most}
-use Rattle.frames.proofs.Trees.{in-kids, tree-leaf}
-use Rattle.frames.proofs.Nodes.{in-own, tree-distinct, tree-range}
+use Rattle.table.specs.{maxNodes, frames, firstChild, childCount, sideOf, treeAt, valuation, WellFormed, ChildOf}
+use Rattle.table.proofs.Next.{child-later, child-within}
+use Rattle.table.proofs.Positions.{depth-at-most}
+use Rattle.table.proofs.Trees.{in-kids, tree-leaf}
+use Rattle.table.proofs.Nodes.{in-own, tree-distinct, tree-range}
 use Rattle.certificate_bounds.specs.{marked, ones, progress, evaluateAll}
 use Rattle.certificate_bounds.proofs.Bounds.{best-same, minimax-best}
 use Rattle.certificate_bounds.proofs.Marking.{marked-other}

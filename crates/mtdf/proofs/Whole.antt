@@ -8,18 +8,18 @@ use Rattle.gametree.specs.{least, greatest, minimax, lastPhase, boundMove}
 use Rattle.gametree_theory.proofs.Searches.{Deciding}
 use Rattle.gametree_theory.proofs.Theorems.{value-score, search-deciding}
 use Rattle.gametree_theory.proofs.TestRuns.{mtdf-searched}
-use Rattle.frames.specs.{frames, childCount, next, rootPosition, tree, valuation, WellFormed, valueOf}
-use Rattle.frames.proofs.Positions.{position-root}
-use Rattle.frames.proofs.Trees.{tree-leaf}
-use Rattle.frames.proofs.Nodes.{in-tree}
-use Rattle.frames.proofs.Proper.{tree-proper}
-use Rattle.positions.specs.{written}
+use Rattle.table.specs.{frames, childCount, next, rootPosition, tree, valuation, WellFormed, valueOf}
+use Rattle.table.proofs.Positions.{position-root}
+use Rattle.table.proofs.Trees.{tree-leaf}
+use Rattle.table.proofs.Nodes.{in-tree}
+use Rattle.table.proofs.Proper.{tree-proper}
+use Rattle.table_positions.specs.{written}
 use Rattle.certificate_bounds.specs.{marked, progress, evaluateAll}
 use Rattle.certificate_bounds.proofs.Listing.{first-evaluated}
 use Rattle.certificate_flags.specs.{firstEqual}
-use Rattle.certificate.specs.{marksOf, listed}
-use Rattle.certificate.proofs.Chosen.{chosenOf, by-bounds, chosen-root}
-use Rattle.certificate.proofs.Outcomes.{search-marks}
+use Rattle.certificate_write.specs.{marksOf, listed}
+use Rattle.certificate_write.proofs.Chosen.{chosenOf, by-bounds, chosen-root}
+use Rattle.certificate_write.proofs.Outcomes.{search-marks}
 use Rattle.mtd_memory.proofs.Turns.{tree-kids}
 use Rattle.mtdf.specs.declared.Met.{Met}
 use Rattle.mtdf_visits.specs.declared.Tried.{Tried}

@@ -3,7 +3,7 @@ use Rattle.prelude.proofs.{ℕ, _+_, _<_, arith, add-one, ℕ-discrete, _≡_, 
 use Rattle.prelude.proofs.{_∷_, _++_, append-nil, append-assoc, length, set, take-suc-set, eq-eqb, ne-eqb}
 use Rattle.lists.specs.{among}
 use Rattle.lists.proofs.Lists.{among-append, among-right}
-use Rattle.frames.specs.{frames}
+use Rattle.table.specs.{frames}
 use Rattle.certificate_bounds.specs.{marked, evaluateAll, Listable, Evaluable}
 use Rattle.certificate_bounds.proofs.Marking.{marked-other}
 use Rattle.certificate_bounds.proofs.Listing.{none-evaluated, one-evaluated, evaluateAll-append, next-counted}

@@ -3,7 +3,7 @@
 use Rattle.prelude.proofs.{ℕ, _≡_, refl, sym, ap, _∙_, subst, Bool, true, false, List, [], _++_, append-assoc}
 use Rattle.gametree.specs.declared.Side.{Side}
 use Rattle.gametree.specs.{Tree, Children, last, _then_, settles, Tested, passedOn, test, testChildren}
-use Rattle.frames.specs.{valuation}
+use Rattle.table.specs.{valuation}
 use Rattle.mtdf_visits.specs.declared.Tried.{Tried}
 use Rattle.mtdf_visits.specs.{Memory, soFar, Evaluated, Counted, VisitedBy}
 use Rattle.mtdf_visits.proofs.Arrays.{evaluated-none, evaluated-more}

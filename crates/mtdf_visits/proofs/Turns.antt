@@ -7,11 +7,11 @@ use Rattle.gametree.specs.declared.Position.{Position}
 use Rattle.gametree.specs.declared.Side.{Side}
 use Rattle.gametree.specs.{_then_, least, greatest, In, InChildren, settles}
 use Rattle.lists.proofs.Choice.{or-false-both}
-use Rattle.frames.specs.{childPosition, treeAt, valuation, ChildOf}
-use Rattle.frames.proofs.Next.{child-within}
-use Rattle.frames.proofs.Positions.{position-child}
-use Rattle.frames.proofs.Trees.{kids-in}
-use Rattle.frames.proofs.Nodes.{in-parent, in-trans, children-apart}
+use Rattle.table.specs.{childPosition, treeAt, valuation, ChildOf}
+use Rattle.table.proofs.Next.{child-within}
+use Rattle.table.proofs.Positions.{position-child}
+use Rattle.table.proofs.Trees.{kids-in}
+use Rattle.table.proofs.Nodes.{in-parent, in-trans, children-apart}
 use Rattle.mtd_memory.proofs.Arrays.{bound-local}
 use Rattle.mtd_memory.proofs.Turns.{childrenUpTo, kids-last, kids-more, Family, child}
 use Rattle.mtdf_visits.specs.declared.Tried.{Tried}

@@ -7,10 +7,10 @@ use Rattle.lists.proofs.Choice.{is-false}
 use Rattle.gametree.specs.declared.Position.{Position}
 use Rattle.gametree.specs.{Tree, leaf, inner, least, greatest, minimax, InChildren, Distinct, known, low, high, Tested}
 use Rattle.gametree.specs.{unopened, opened, test}
-use Rattle.frames.specs.{maxNodes, frames, childCount, treeAt, valuation}
-use Rattle.frames.proofs.Positions.{depth-at-most}
-use Rattle.frames.proofs.Trees.{in-kids, tree-leaf}
-use Rattle.frames.proofs.Nodes.{in-own, tree-distinct}
+use Rattle.table.specs.{maxNodes, frames, childCount, treeAt, valuation}
+use Rattle.table.proofs.Positions.{depth-at-most}
+use Rattle.table.proofs.Trees.{in-kids, tree-leaf}
+use Rattle.table.proofs.Nodes.{in-own, tree-distinct}
 use Rattle.certificate_bounds.specs.{Evaluable, Listable, bestIn}
 use Rattle.certificate_bounds.proofs.Bounds.{best-same, minimax-best}
 use Rattle.certificate_bounds.proofs.Listing.{next-fits}

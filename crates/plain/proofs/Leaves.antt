@@ -4,12 +4,12 @@ use Rattle.lists.specs.{among}
 use Rattle.lists.proofs.Choice.{is-false}
 use Rattle.lists.proofs.Lists.{all-at}
 use Rattle.gametree_theory.proofs.Theorems.{all-deciding}
-use Rattle.frames.specs.{frames, childCount, tree, valuation, WellFormed}
-use Rattle.frames.proofs.Leaves.{leaf-listed}
-use Rattle.frames.proofs.Nodes.{in-tree}
-use Rattle.frames.proofs.Proper.{tree-proper}
-use Rattle.frames.proofs.Trees.{zero-or-suc}
-use Rattle.certificate.proofs.Marks.{evaluated-hold}
+use Rattle.table.specs.{frames, childCount, tree, valuation, WellFormed}
+use Rattle.table.proofs.Leaves.{leaf-listed}
+use Rattle.table.proofs.Nodes.{in-tree}
+use Rattle.table.proofs.Proper.{tree-proper}
+use Rattle.table.proofs.Trees.{zero-or-suc}
+use Rattle.certificate_write.proofs.Marks.{evaluated-hold}
 use Rattle.plain.specs.{allLeaves}
 
 module _ (t : List ℕ) (wf : WellFormed t) where

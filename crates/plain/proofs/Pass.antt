@@ -4,7 +4,7 @@ use Rattle.prelude.proofs.{ℕ, zero, suc, _+_, _≤_, arith, _≡_, refl, sym,
 use Rattle.gametree.specs.declared.Side.{Side}
 use Rattle.gametree.specs.declared.Side.the-variants.{Max, Min}
 use Rattle.gametree.specs.{Tree, greatest, better, minimax, minimaxChildren, leaves, leavesChildren, worst}
-use Rattle.frames.specs.{childrenFrom}
+use Rattle.table.specs.{childrenFrom}
 use Rattle.certificate_bounds.specs.{markAll}
 use Rattle.certificate_bounds.proofs.Marking.{markAll-append}
 

@@ -5,17 +5,17 @@ use Rattle.gametree.specs.declared.Side.{Side}
 use Rattle.gametree.specs.{better, minimax, leaves, Score, worst}
 use Rattle.gametree_theory.proofs.minimax.Nodes.{leaves-in}
 use Rattle.gametree_theory.proofs.Theorems.{value-score}
-use Rattle.frames.specs.{maxDepth, firstChild, childCount, childSide, treeAt, valuation, ChildOf}
-use Rattle.frames.proofs.Nodes.{in-own}
-use Rattle.frames.proofs.Next.{child-within}
-use Rattle.frames.proofs.Positions.{depth-child}
-use Rattle.frames.proofs.Proper.{every-leaf, leaf-scored}
-use Rattle.frames.proofs.Trees.{tree-leaf, tree-inner}
+use Rattle.table.specs.{maxDepth, firstChild, childCount, childSide, treeAt, valuation, ChildOf}
+use Rattle.table.proofs.Nodes.{in-own}
+use Rattle.table.proofs.Next.{child-within}
+use Rattle.table.proofs.Positions.{depth-child}
+use Rattle.table.proofs.Proper.{every-leaf, leaf-scored}
+use Rattle.table.proofs.Trees.{tree-leaf, tree-inner}
 use Rattle.certificate_bounds.specs.{markAll, Evaluable}
-use Rattle.certificate.specs.{Unmarked}
+use Rattle.certificate_write.specs.{Unmarked}
 use Rattle.certificate_bounds.proofs.Marking.{markAll-length}
-use Rattle.certificate.proofs.Unmarked.{Unvisited, all-wait, younger-wait}
-use Rattle.certificate.proofs.Searchable.{searchable-depth, searchable-child}
+use Rattle.certificate_write.proofs.Unmarked.{Unvisited, all-wait, younger-wait}
+use Rattle.certificate_write.proofs.Searchable.{searchable-depth, searchable-child}
 use Rattle.plain.specs.{turnPosition, Ready}
 use Rattle.plain.proofs.Pass.{better-worst, scoreAfter, marksAfter, scores-all, marks-all}
 

@@ -3,17 +3,17 @@ use Rattle.prelude.proofs.{ℕ, _≤_, arith, _≡_, ap, _∙_, List, [], _∷_
 use Rattle.gametree.specs.declared.Side.the-variants.{Max}
 use Rattle.gametree.specs.{greatest, minimax, boundMove, flag}
 use Rattle.gametree_theory.proofs.Theorems.{value-score, all-deciding}
-use Rattle.frames.specs.declared.Checked.the-variants.{Nodes}
-use Rattle.frames.specs.{maxDepth, frames, tree, valuation, valueOf, Accepted}
-use Rattle.frames.proofs.Asked.{answer-nodes}
-use Rattle.frames.proofs.Acceptance.{accepted-stated, accepted-formed}
-use Rattle.frames.proofs.Proper.{tree-proper}
-use Rattle.positions.specs.{written}
+use Rattle.table.specs.declared.Checked.the-variants.{Nodes}
+use Rattle.table.specs.{maxDepth, frames, tree, valuation, valueOf, Accepted}
+use Rattle.table.proofs.Asked.{answer-nodes}
+use Rattle.table.proofs.Acceptance.{accepted-stated, accepted-formed}
+use Rattle.table.proofs.Proper.{tree-proper}
+use Rattle.table_positions.specs.{written}
 use Rattle.certificate_bounds.specs.{marked, markAll}
-use Rattle.certificate.specs.{searchRejection, marksOf, flagsOf}
-use Rattle.certificate.proofs.Questions.{passed-room, asked}
-use Rattle.certificate.proofs.Outcomes.{search-concludes}
-use Rattle.certificate.proofs.Searchable.{searchable-root}
+use Rattle.certificate_write.specs.{searchRejection, marksOf, flagsOf}
+use Rattle.certificate_write.proofs.Questions.{passed-room, asked}
+use Rattle.certificate_write.proofs.Outcomes.{search-concludes}
+use Rattle.certificate_write.proofs.Searchable.{searchable-root}
 use Rattle.plain.specs.{allLeaves, plainFound, Ready}
 
 -- with nodes for an answer to the questions the search may be run

@@ -4,10 +4,10 @@ use mathlib.Core.List.{List, [], _∷_}
 use lib.ListN.{length}
 use Rattle.gametree.specs.Trees.{leaves, minimax}
 use Rattle.gametree.specs.Move.{rootMove}
-use Rattle.frames.specs.Tree.{tree, valuation}
-use Rattle.frames.specs.Value.{valueOf}
-use Rattle.frames.specs.Rejection.{unless, Outcome, _leaving_}
-use Rattle.certificate.specs.Search.{searchRejection, marksOf, flagsOf}
+use Rattle.table.specs.Tree.{tree, valuation}
+use Rattle.table.specs.Value.{valueOf}
+use Rattle.table.specs.Rejection.{unless, Outcome, _leaving_}
+use Rattle.certificate_write.specs.Search.{searchRejection, marksOf, flagsOf}
 use Rattle.methods.specs.Outcome.{Lent, lent}
 use Rattle.plain.specs.declared.PlainResult.{PlainResult}
 use Rattle.plain.specs.declared.PlainAnswer.{PlainAnswer}

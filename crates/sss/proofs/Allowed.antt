@@ -4,8 +4,8 @@ use Rattle.lists.proofs.Choice.{clash}
 use Rattle.gametree.specs.{rootMove, Evaluation, Ran as Within, finished, spent, sssWithin}
 use Rattle.gametree_theory.proofs.Theorems.{sss-minimax}
 use Rattle.gametree_theory.proofs.Within.{covered-full, spent-first, within-leaves}
-use Rattle.frames.specs.{tree, valuation, WellFormed, valueOf}
-use Rattle.frames.proofs.Proper.{tree-proper}
+use Rattle.table.specs.{tree, valuation, WellFormed, valueOf}
+use Rattle.table.proofs.Proper.{tree-proper}
 use Rattle.methods.specs.declared.Answer.{Answer}
 use Rattle.methods.specs.declared.Answer.the-variants.{Found, Spent}
 use Rattle.methods.specs.declared.Method.the-variants.{Sss}

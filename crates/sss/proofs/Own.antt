@@ -1,9 +1,9 @@
 -- A run over a front and a list of its own: what it leaves is what the method's rule gives.
 use Rattle.prelude.proofs.{ℕ, _≤_, _≡_, ap, subst, List, length, replicate}
-use Rattle.frames.specs.declared.Checked.the-variants.{Nodes}
-use Rattle.frames.specs.{maxNodes, frames, WellFormed}
-use Rattle.positions.specs.{written}
-use Rattle.certificate.specs.{marksOf, listed}
+use Rattle.table.specs.declared.Checked.the-variants.{Nodes}
+use Rattle.table.specs.{maxNodes, frames, WellFormed}
+use Rattle.table_positions.specs.{written}
+use Rattle.certificate_write.specs.{marksOf, listed}
 use Rattle.methods.specs.declared.Method.the-variants.{Sss}
 use Rattle.methods.specs.{evaluatedBy, beyond, answerBy}
 use Rattle.sss_states.specs.{blank}

@@ -2,7 +2,6 @@
 // to it.
 mod list;
 
-use frames::MAX_NODES;
 use list::replace;
 use list::take;
 use sss_states::State;
@@ -10,6 +9,7 @@ use sss_states::blank;
 use sss_turns::Run;
 use sss_turns::Stage;
 use sss_turns::next;
+use table::MAX_NODES;
 ghost use mathlib.Core.Path.{_≡_};
 ghost use Rattle.sss_turns.specs.engine.Turn.{going};
 ghost use Rattle.sss_loop.specs.engine.Driven.{Prepared, Driven, PreparedOwn, DrivenOwn};

@@ -6,7 +6,7 @@ use sss_turns::Update;
 ghost use mathlib.Core.Path.{_≡_};
 ghost use Prim.Native.Nat.{_<_};
 ghost use lib.ListN.{length, getD};
-ghost use Rattle.frames.specs.Frame.{maxNodes};
+ghost use Rattle.table.specs.Frame.{maxNodes};
 ghost use Rattle.sss_states.specs.Entry.{blank as blankEntry};
 ghost use Rattle.sss_turns.specs.engine.Update.{entryIn, updated, Within};
 

@@ -9,10 +9,10 @@ use Rattle.gametree.specs.declared.Side.the-variants.{Max, Min}
 use Rattle.gametree.specs.{Tree, inner, Children, number, InChildren, Distinct}
 use Rattle.gametree.specs.Sss as theory
 use Rattle.gametree_theory.proofs.sss.FrontSteps.{in-child}
-use Rattle.frames.specs.{maxNodes, frames, firstChild, parentOf, WellFormed, ChildOf, tree}
-use Rattle.frames.proofs.Next.{child-within, child-later}
-use Rattle.frames.proofs.Nodes.{tree-distinct}
-use Rattle.frames.proofs.Trees.{tree-number}
+use Rattle.table.specs.{maxNodes, frames, firstChild, parentOf, WellFormed, ChildOf, tree}
+use Rattle.table.proofs.Next.{child-within, child-later}
+use Rattle.table.proofs.Nodes.{tree-distinct}
+use Rattle.table.proofs.Trees.{tree-number}
 use Rattle.sss_states.specs.declared.State.{State}
 use Rattle.sss_states.specs.{Above, Leads, Shows, expanded, Siblings, Beside, Around, top, child, bestAt, linkAt}
 use Rattle.sss_states.specs.{packedEntry, arraysOf, leftmostBest, chosenBy, chosenOf, renewed, needsRefresh}

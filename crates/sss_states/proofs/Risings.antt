@@ -5,9 +5,9 @@ use Rattle.gametree.specs.declared.Side.{Side}
 use Rattle.gametree.specs.declared.Side.the-variants.{Max, Min}
 use Rattle.gametree.specs.{greatest}
 use Rattle.lists.proofs.Choice.{cond-cases, clash}
-use Rattle.frames.specs.{maxNodes, frames, firstChild, childCount, parentOf, sideOf, WellFormed, ChildOf}
-use Rattle.frames.proofs.Next.{child-within}
-use Rattle.frames.proofs.Parents.{parent-less}
+use Rattle.table.specs.{maxNodes, frames, firstChild, childCount, parentOf, sideOf, WellFormed, ChildOf}
+use Rattle.table.proofs.Next.{child-within}
+use Rattle.table.proofs.Parents.{parent-less}
 use Rattle.sss_states.specs.{bestAt, linkAt, packedEntry, chosenBy, chosenOf, renewed, needsRefresh, Refreshed}
 use Rattle.sss_states.specs.{refreshed, Sound, Fits, changed, Puttable, Putting}
 use Rattle.sss_states.specs.declared.Change.{Change}

@@ -1,8 +1,8 @@
 -- The loops over the front: the leftmost best of some children, the fall, and the way down.
 use Rattle.prelude.proofs.{ℕ, zero, suc, _+_, _-_, _*_, _/_, _≤_, _<_, arith, decLe, _≡_, refl, sym, _∙_, ap, inl, inr}
 use Rattle.prelude.proofs.{List, ltb, length, getD, eq-eqb, ne-eqb}
-use Rattle.frames.specs.{maxNodes, frames, WellFormed}
-use Rattle.frames.proofs.Next.{child-within, child-later}
+use Rattle.table.specs.{maxNodes, frames, WellFormed}
+use Rattle.table.proofs.Next.{child-within, child-later}
 use Rattle.sss_states.specs.{bestAt, linkAt, leftmostBest, needsRefresh, descended, Sound, Fits, Attained}
 use Rattle.sss_states.specs.{GreatestEntry, FirstFrom}
 use Rattle.sss_states.proofs.Ways.{leftmost-same}

@@ -1,11 +1,11 @@
 -- A change at and below a node: which nodes it is at, and what is read after its run of entries has been stored.
 use Rattle.prelude.proofs.{ℕ, zero, suc, _+_, _≤_, _<_, arith, decLe, _≡_, refl, _∙_, _⊎_, inl, inr, List, length, getD}
 use Rattle.prelude.proofs.{set, length-set, getD-set-same, getD-set-other}
-use Rattle.frames.specs.{frames, WellFormed, ChildOf}
-use Rattle.frames.proofs.Next.{child-within}
+use Rattle.table.specs.{frames, WellFormed, ChildOf}
+use Rattle.table.proofs.Next.{child-within}
 use Rattle.sss_states.specs.declared.Change.{Change}
-use Rattle.positions.specs.{stored}
-pub use Rattle.positions.proofs.Runs.{stored-length}
+use Rattle.table_positions.specs.{stored}
+pub use Rattle.table_positions.proofs.Runs.{stored-length}
 use Rattle.sss_states.specs.{packedEntry, changed, Local}
 
 -- k is the first of the numbers from i on, or a later one

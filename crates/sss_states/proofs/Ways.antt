@@ -7,11 +7,11 @@ use Rattle.gametree.specs.declared.Side.the-variants.{Max, Min}
 use Rattle.gametree.specs.{Tree, leaf, inner, Children, number, State, live}
 use Rattle.lists.proofs.Choice.{clash}
 use Rattle.gametree_theory.proofs.sss.Fronts.{ChildIn}
-use Rattle.frames.specs.{frames, firstChild, childCount, parentOf, sideOf, WellFormed, ChildOf, upFrom, childrenFrom}
-use Rattle.frames.specs.{treeAt, tree}
-use Rattle.frames.proofs.Next.{child-within}
-use Rattle.frames.proofs.Parents.{parent-is}
-use Rattle.frames.proofs.Trees.{zero-or-suc, tree-leaf, tree-inner, tree-number}
+use Rattle.table.specs.{frames, firstChild, childCount, parentOf, sideOf, WellFormed, ChildOf, upFrom, childrenFrom}
+use Rattle.table.specs.{treeAt, tree}
+use Rattle.table.proofs.Next.{child-within}
+use Rattle.table.proofs.Parents.{parent-is}
+use Rattle.table.proofs.Trees.{zero-or-suc, tree-leaf, tree-inner, tree-number}
 use Rattle.sss_states.specs.{Arrays, Shows, Siblings, none, one, more, Beside, only, first, later, Around, top}
 use Rattle.sss_states.specs.{child, bestAt, leftmostBest}
 use Rattle.sss_states.proofs.Shown.{beside-child}

@@ -2,7 +2,7 @@
 use Prim.Native.Nat.{ℕ}
 use lib.IntN.{pos}
 use Rattle.gametree.specs.Sss as theory
-use Rattle.frames.specs.Value.{valueOf}
+use Rattle.table.specs.Value.{valueOf}
 use Rattle.sss_states.specs.declared.Status.{Status}
 use Rattle.sss_states.specs.declared.Status.the-variants.{Live, Solved}
 use Rattle.sss_states.specs.declared.State.{State}

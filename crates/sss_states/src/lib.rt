@@ -1,16 +1,16 @@
 // The states of SSS*, and their front: for each node that is, or has below it, a listed state, the greatest merit in
 // its subtree and the child to go down to, packed in one u32.
-use frames::MAX_NODES;
-use frames::child_count;
-use frames::first_child;
 use gametree::Side;
-use positions::parent_at;
-use positions::side_at;
+use table::MAX_NODES;
+use table::child_count;
+use table::first_child;
+use table_positions::parent_at;
+use table_positions::side_at;
 ghost use mathlib.Core.Path.{_≡_};
 ghost use Prim.Native.Nat.{_+_, _-_, _≤_, _<_};
 ghost use lib.ListN.{length};
 ghost use Rattle.gametree.specs.Trees.{greatest};
-ghost use Rattle.frames.specs.Frame.{maxNodes, frames};
+ghost use Rattle.table.specs.Frame.{maxNodes, frames};
 ghost use Rattle.sss_states.specs.Entry.{blank as blankEntry};
 ghost use Rattle.sss_states.specs.engine.Kept.{bestAt, linkAt, packedEntry as packedOf, leftmostBest, chosenOf};
 ghost use Rattle.sss_states.specs.engine.Kept.{needsRefresh};

@@ -2,7 +2,7 @@
 use Rattle.prelude.proofs.{ℕ, _+_, _-_, _≤_, _<_, arith, _≡_, ap, ap₂, _∙_, List, lt-ltb, le-ltb}
 use Rattle.gametree.specs.declared.Side.{Side}
 use Rattle.gametree.specs.declared.Side.the-variants.{Max, Min}
-use Rattle.frames.specs.{frames, firstChild, childCount}
+use Rattle.table.specs.{frames, firstChild, childCount}
 use Rattle.sss_states.specs.declared.Status.the-variants.{Live, Solved}
 use Rattle.sss_states.specs.declared.Change.{Change}
 use Rattle.sss_turns.specs.declared.Counts.{Counts}

@@ -1,8 +1,8 @@
 -- Merits as signed numbers, and back.
 use Rattle.prelude.proofs.{ℕ, _≤_, arith, sym, ap, ℤ, natAbs, w32, SFits}
 use Rattle.gametree.specs.{greatest, zeroScore}
-use Rattle.frames.specs.{valueOf, scoreOf}
-use Rattle.frames.proofs.Values.{value-small, value-within, score-back}
+use Rattle.table.specs.{valueOf, scoreOf}
+use Rattle.table.proofs.Values.{value-small, value-within, score-back}
 use Rattle.sss_turns.specs.{IsMerit}
 
 -- the value of a score takes 32 bits

@@ -4,8 +4,8 @@ use Rattle.gametree.specs.declared.Side.{Side}
 use Rattle.gametree.specs.declared.Side.the-variants.{Max, Min}
 use Rattle.gametree.specs.{greatest}
 use Rattle.lists.proofs.Choice.{cond-cases}
-use Rattle.frames.specs.{frames, firstChild, childCount, parentOf, sideOf, ChildOf}
-use Rattle.frames.proofs.Parents.{parent-child}
+use Rattle.table.specs.{frames, firstChild, childCount, parentOf, sideOf, ChildOf}
+use Rattle.table.proofs.Parents.{parent-child}
 use Rattle.sss_states.specs.declared.Status.{Status}
 use Rattle.sss_states.specs.declared.Status.the-variants.{Live, Solved}
 use Rattle.sss_states.specs.declared.Change.{Change}

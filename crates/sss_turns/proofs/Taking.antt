@@ -3,7 +3,7 @@ use Rattle.prelude.proofs.{ℕ, zero, suc, _+_, _≤_, _<_, arith, decLt, _≡_
 use Rattle.prelude.proofs.{eq-eqb, ne-eqb, lt-ltb, le-ltb}
 use Rattle.lists.proofs.Choice.{true-not-false}
 use Rattle.gametree.specs.declared.Side.{Side}
-use Rattle.frames.specs.{frames, childCount, scoreOf}
+use Rattle.table.specs.{frames, childCount, scoreOf}
 use Rattle.certificate_bounds.specs.{marked, ones, markAll, progress, evaluateAll}
 use Rattle.certificate_bounds.proofs.Listing.{ones-set}
 use Rattle.sss_states.specs.declared.Status.{Status}

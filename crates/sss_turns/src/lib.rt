@@ -1,10 +1,6 @@
 // One turn of the run: the state that is taken is replaced, or ends the run.
 mod rules;
 
-use frames::SIGNED_ZERO_SCORE;
-use frames::child_count;
-use frames::frame_count;
-use frames::score_of;
 use rules::of_state;
 use sss_states::Change;
 use sss_states::State;
@@ -12,11 +8,15 @@ use sss_states::Status;
 use sss_states::descend;
 use sss_states::put;
 use sss_states::refresh_ancestors;
+use table::SIGNED_ZERO_SCORE;
+use table::child_count;
+use table::frame_count;
+use table::score_of;
 ghost use mathlib.Core.Path.{_≡_};
 ghost use Prim.Native.Nat.{_<_, _≤_};
 ghost use Rattle.gametree.specs.Trees.{greatest};
-ghost use Rattle.frames.specs.Frame.{frames, childCount};
-ghost use Rattle.frames.specs.Value.{valueOf, scoreOf};
+ghost use Rattle.table.specs.Frame.{frames, childCount};
+ghost use Rattle.table.specs.Value.{valueOf, scoreOf};
 ghost use Rattle.sss_turns.specs.engine.Update.{ofChange, blanks as blanksOf};
 ghost use Rattle.sss_turns.specs.engine.Turn.{isSolvedRoot, isLiveLeaf, isUncovered, replacedRun, settledFront};
 ghost use Rattle.sss_turns.specs.engine.Turn.{endedRun as endedOf, taken};

@@ -1,7 +1,7 @@
 -- How long numbers and a rejection's line are; and what is laid into zeros is a text.
 use Rattle.prelude.proofs.{ℕ, zero, suc, _-_, _≤_, arith, zero-add, _≡_, refl, ap, ap₂, _∙_, List, _++_, ℤ, pos, negsuc}
 use Rattle.prelude.proofs.{length, take, drop, replicate, length-append, take-at}
-use Rattle.frames.specs.declared.Rejection.{Rejection}
+use Rattle.table.specs.declared.Rejection.{Rejection}
 use Rattle.text.specs.declared.Text.{Text}
 use Rattle.text.specs.{signedDecimal, refusedLine, laid, TextRoom, Put, textSize, textOf}
 use Rattle.text.proofs.Laying.{decimal-few}

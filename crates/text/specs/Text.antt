@@ -6,8 +6,8 @@ use mathlib.Core.List.{List, [], _∷_, _++_}
 use lib.Dec.{ltb}
 use lib.IntN.{ℤ, pos, negsuc}
 use lib.ListN.{length, take, drop, replicate}
-pub use Rattle.file_lines.specs.Line.{lineFeed}
-use Rattle.frames.specs.declared.Rejection.{Rejection}
+pub use Rattle.file_line.specs.Line.{lineFeed}
+use Rattle.table.specs.declared.Rejection.{Rejection}
 use Rattle.text.specs.declared.Text.{Text}
 
 -- the text of a number in base ten, of at most so many digits

@@ -1,6 +1,6 @@
 // Text written piece by piece: words, numbers in base ten, and the line of a rejection, which is returned by value.
-pub use file_lines::LINE_FEED;
-use frames::Rejection;
+pub use file_line::LINE_FEED;
+use table::Rejection;
 ghost use mathlib.Core.Path.{_≡_};
 ghost use mathlib.Core.List.{_∷_, []};
 ghost use lib.IntN.{natAbs};

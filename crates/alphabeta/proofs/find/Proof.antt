@@ -1,8 +1,8 @@
 -- `alphabeta::find` meets its contract: the steps of a search, in order.
 use Rattle.prelude.proofs.{arith, ap, _∙_, w16, toZ-ofZ, needs}
-use Rattle.positions.specs.{written}
+use Rattle.table_positions.specs.{written}
 use Rattle.certificate_bounds.proofs.Listing.{listable-first}
-use Rattle.certificate.proofs.Searchable.{searchable-root}
+use Rattle.certificate_write.proofs.Searchable.{searchable-root}
 use Rattle.alphabeta.proofs.Whole.{run-small, find-gives}
 use Rattle.alphabeta.proofs.find.Statement.{statement}
 use Rattle.alphabeta.proofs.find.Tie as tie

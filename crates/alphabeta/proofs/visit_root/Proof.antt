@@ -2,11 +2,11 @@
 -- complete what the tree was to give, and end with the root move.
 use Rattle.prelude.proofs.{_-_, arith, _≡_, refl, _∙_, inl, inr, cond, ltb, length, needs, lt-ltb, le-ltb}
 use Rattle.gametree.specs.{greatest}
-use Rattle.frames.specs.{childCount}
-use Rattle.frames.proofs.Trees.{tree-leaf}
-use Rattle.frames.proofs.Next.{child-within}
+use Rattle.table.specs.{childCount}
+use Rattle.table.proofs.Trees.{tree-leaf}
+use Rattle.table.proofs.Next.{child-within}
 use Rattle.certificate_bounds.specs.{progress}
-use Rattle.certificate.proofs.Searchable.{searchable-depth, searchable-child}
+use Rattle.certificate_write.proofs.Searchable.{searchable-depth, searchable-child}
 use Rattle.alphabeta_visits.proofs.Visits.{Visits, searchable-leaf, leaf-visits}
 use Rattle.alphabeta.proofs.Root.{RootTurn, root-start, root-child, root-last, root-next}
 use Rattle.alphabeta.proofs.visit_root.Statement.{statement}

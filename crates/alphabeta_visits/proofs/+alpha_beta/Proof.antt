@@ -4,13 +4,13 @@
 use Rattle.prelude.proofs.{ℕ, _-_, _<_, arith, needs, _≡_, refl, ap, _∙_, inl, inr, length}
 use borrow.Fn.Kinds.{In}
 use borrow.Fn.PlainCycle.{Measures, is, falls, and}
-use Rattle.frames.specs.{frames, ChildOf}
-use Rattle.frames.proofs.Next.{child-later, child-within}
+use Rattle.table.specs.{frames, ChildOf}
+use Rattle.table.proofs.Next.{child-later, child-within}
 use Rattle.certificate_bounds.specs.{Evaluable, Progress, progress}
-use Rattle.certificate.specs.{Searchable}
+use Rattle.certificate_write.specs.{Searchable}
 use Rattle.alphabeta_visits.proofs.Pass.{pass-ends, pass-stops, pass-goes-on}
-use Rattle.certificate.proofs.Unmarked.{all-wait}
-use Rattle.certificate.proofs.Searchable.{searchable-depth, searchable-child}
+use Rattle.certificate_write.proofs.Unmarked.{all-wait}
+use Rattle.certificate_write.proofs.Searchable.{searchable-depth, searchable-child}
 use Rattle.alphabeta_visits.proofs.Evaluated.{visit-waits}
 use Rattle.alphabeta_visits.proofs.Visits.{VisitLoop, Visits, visits-same, searchable-leaf, leaf-visits}
 use Rattle.alphabeta_visits.proofs.Visits.{inner-remainder}
@@ -20,9 +20,9 @@ use Rattle.alphabeta_visits.proofs.+alpha_beta.Lts-alpha_beta as lts
 use Rattle.alphabeta_visits.proofs.lowered.Reads as lowered-reads
 use Rattle.alphabeta_visits.proofs.raised.Reads as raised-reads
 use Rattle.alphabeta_visits.proofs.visit_leaf.Reads as visit-leaf-reads
-use Rattle.frames.proofs.child_count.Reads as child-count-reads
-use Rattle.frames.proofs.child_position.Reads as child-position-reads
-use Rattle.frames.proofs.first_child.Reads as first-child-reads
+use Rattle.table.proofs.child_count.Reads as child-count-reads
+use Rattle.table.proofs.child_position.Reads as child-position-reads
+use Rattle.table.proofs.first_child.Reads as first-child-reads
 use Rattle.alphabeta_visits.proofs.+alpha_beta.{statement}
 use Rattle.alphabeta_visits.proofs.+alpha_beta.Tie.{close}
 

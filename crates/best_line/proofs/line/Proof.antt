@@ -1,11 +1,11 @@
 -- `best_line::line` meets its contract: the questions are answered, and then the line is found or nothing is done.
 use Rattle.prelude.proofs.{ℕ, _≡_, sym, ap, _∙_, List, [], _∷_, _++_, length, drop, needs}
-use Rattle.frames.specs.declared.Rejection.{Rejection}
-use Rattle.frames.specs.{frames, Outcome, _leaving_}
-use Rattle.frames.proofs.Asked.{answer-nodes}
-use Rattle.certificate.specs.{searchRejection}
-use Rattle.certificate.proofs.Questions.{passed-room}
-use Rattle.certificate.proofs.Outcomes.{finding, rejecting}
+use Rattle.table.specs.declared.Rejection.{Rejection}
+use Rattle.table.specs.{frames, Outcome, _leaving_}
+use Rattle.table.proofs.Asked.{answer-nodes}
+use Rattle.certificate_write.specs.{searchRejection}
+use Rattle.certificate_write.proofs.Questions.{passed-room}
+use Rattle.certificate_write.proofs.Outcomes.{finding, rejecting}
 use Rattle.variation.specs.declared.LineAnswer.{LineAnswer}
 use Rattle.variation.specs.declared.LineAnswer.the-variants.{Found, Rejected}
 use Rattle.best_line.specs.{bestLineOf}

@@ -3,7 +3,7 @@
 use Rattle.prelude.proofs.{ℕ, zero, suc, _+_, _*_, _/_, _<_, _≤_, arith, _≡_, refl, sym, ap, _∙_, _&&_, List, [], ltb}
 use Rattle.prelude.proofs.{leb, length, take, drop, length-drop, length-take-le, ltb-true, leb-true, needs}
 use Rattle.lists.proofs.Choice.{cond-cases, and-both}
-use Rattle.frames.specs.{frameSize, frames, firstChild, childCount, childrenOf}
+use Rattle.table.specs.{frameSize, frames, firstChild, childCount, childrenOf}
 use Rattle.buulset_answers.specs.declared.Children.{Children}
 use Rattle.buulset_answers.specs.{noChildren}
 use Rattle.buulset.specs.{childrenFrom, flatChildren, partOf}

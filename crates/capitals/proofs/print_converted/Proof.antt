@@ -1,8 +1,8 @@
 -- `capitals::print_converted` is safe and ends: the buffer has the bytes that are printed.
 use Rattle.prelude.proofs.{_≤_, sym, arith, length, replicate, length-take-le, needs}
-use Rattle.file_reader.specs.{maxFile}
-use Rattle.convert.specs.{lengthPrinted}
-use Rattle.convert.proofs.Printing.{printed-within}
+use Rattle.file_read.specs.{maxFile}
+use Rattle.file_convert.specs.{lengthPrinted}
+use Rattle.file_convert.proofs.Printing.{printed-within}
 use Rattle.capitals.proofs.print_converted.Statement.{statement}
 use Rattle.capitals.proofs.print_converted.Tie as tie
 

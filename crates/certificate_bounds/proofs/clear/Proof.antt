@@ -1,7 +1,7 @@
 -- `certificate_bounds::clear` meets its contract: before mark i, the first i marks are 0.
 use Rattle.prelude.proofs.{_≤_, _-_, arith, _≡_, sym, ap, _∙_, length, set}
-use Rattle.positions.specs.{written}
-use Rattle.positions.proofs.Buffers.{written-none, written-next, written-length}
+use Rattle.table_positions.specs.{written}
+use Rattle.table_positions.proofs.Buffers.{written-none, written-next, written-length}
 use Rattle.certificate_bounds.proofs.clear.Statement.{statement}
 use Rattle.certificate_bounds.proofs.clear.Tie as tie
 

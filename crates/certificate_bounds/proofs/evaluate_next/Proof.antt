@@ -1,7 +1,7 @@
 -- `certificate_bounds::evaluate_next` meets its contract: fewer leaves are counted than the table has nodes, so that
 -- there is an entry for one more.
 use Rattle.prelude.proofs.{_<_, arith, needs, length}
-use Rattle.frames.specs.{maxNodes}
+use Rattle.table.specs.{maxNodes}
 use Rattle.certificate_bounds.proofs.Listing.{next-fits}
 use Rattle.certificate_bounds.proofs.evaluate_next.Statement.{statement}
 use Rattle.certificate_bounds.proofs.evaluate_next.Tie as tie

@@ -2,7 +2,7 @@
 -- ones.
 use Rattle.prelude.proofs.{_-_, _<_, arith, _≡_, refl, ap, _∙_, length, needs}
 use Rattle.gametree.specs.{least, greatest}
-use Rattle.frames.specs.{frames}
+use Rattle.table.specs.{frames}
 use Rattle.certificate_bounds.specs.{marked, boundOf}
 use Rattle.certificate_bounds.proofs.BottomUp.{Rising, rising-begins, rising-step, rising-ends}
 use Rattle.certificate_bounds.proofs.Bounds.{children-bounded}

@@ -1,9 +1,9 @@
 -- `certificate_bounds::node_bounds` meets its contract: a leaf's bounds, or the best of the children's.
 use Rattle.prelude.proofs.{_+_, _<_, _≤_, arith, refl, ap₂, _∙_, needs}
 use Rattle.gametree.specs.{least, greatest}
-use Rattle.frames.specs.{frames, childCount}
-use Rattle.frames.proofs.Next.{children-within}
-use Rattle.positions.proofs.Positions.{positioned-few, positioned-depth, positioned-side}
+use Rattle.table.specs.{frames, childCount}
+use Rattle.table.proofs.Next.{children-within}
+use Rattle.table_positions.proofs.Positions.{positioned-few, positioned-depth, positioned-side}
 use Rattle.certificate_bounds.specs.{marked}
 use Rattle.certificate_bounds.proofs.Bounds.{bound-leaf, bound-inner}
 use Rattle.certificate_bounds.proofs.node_bounds.Statement.{statement}

@@ -1,7 +1,7 @@
 -- `certificate_bounds::read_leaf` meets its contract: the depth is the leaf's own, so its score is that of the
 -- valuation.
 use Rattle.prelude.proofs.{refl, ap, _∙_, needs}
-use Rattle.frames.specs.{storedScore, leafScore, valuation}
+use Rattle.table.specs.{storedScore, leafScore, valuation}
 use Rattle.certificate_bounds.proofs.read_leaf.Statement.{statement}
 use Rattle.certificate_bounds.proofs.read_leaf.Tie as tie
 

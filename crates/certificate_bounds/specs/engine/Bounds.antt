@@ -4,7 +4,7 @@ use mathlib.Core.Bool.{Bool}
 use mathlib.Core.List.{List}
 use Rattle.gametree.specs.Trees.{least, greatest, minimax}
 use Rattle.gametree.specs.Bounds.{known}
-use Rattle.frames.specs.Tree.{treeAt, valuation}
+use Rattle.table.specs.Tree.{treeAt, valuation}
 use Rattle.certificate_bounds.specs.declared.Interval.{Interval}
 
 -- the bound of node k where the leaves of the set E are evaluated and each other leaf has the score x: the low bound of

@@ -4,8 +4,8 @@ use mathlib.Core.Path.{_≡_}
 use mathlib.Core.Bool.{false}
 use mathlib.Core.List.{List}
 use lib.ListN.{length}
-use Rattle.frames.specs.Frame.{maxNodes, frames, childCount}
-use Rattle.frames.specs.Position.{depthOf}
+use Rattle.table.specs.Frame.{maxNodes, frames, childCount}
+use Rattle.table.specs.Position.{depthOf}
 use Rattle.certificate_bounds.specs.Marks.{marked}
 
 -- node i is a leaf of the table t, at the depth d, with an entry among the marks e and no mark yet

@@ -4,7 +4,7 @@ use mathlib.Core.Path.{_≡_}
 use mathlib.Core.List.{List}
 use lib.ListN.{length}
 use lib.Seq.{sets}
-use Rattle.frames.specs.Frame.{maxNodes, frames}
+use Rattle.table.specs.Frame.{maxNodes, frames}
 use Rattle.certificate_bounds.specs.Marks.{ones, markAll}
 
 -- how many leaves are evaluated, the marks, and the list of the leaves in the order of their evaluation

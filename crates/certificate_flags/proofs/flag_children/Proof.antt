@@ -1,6 +1,6 @@
 -- `certificate_flags::flag_children` meets its contract: it stores a run of flags.
 use Rattle.prelude.proofs.{_-_, arith, ⊎-elim, cond, eqb, needs, eq-eqb, ne-eqb}
-use Rattle.positions.proofs.Runs.{Run, run-begins, run-step, run-ends}
+use Rattle.table_positions.proofs.Runs.{Run, run-begins, run-step, run-ends}
 use Rattle.certificate_flags.proofs.flag_children.Statement.{statement}
 use Rattle.certificate_flags.proofs.flag_children.Tie as tie
 

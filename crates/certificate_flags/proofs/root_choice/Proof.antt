@@ -1,7 +1,7 @@
 -- `certificate_flags::root_choice` meets its contract: the root's children are the nodes from 1 on.
 use Rattle.prelude.proofs.{ℕ, _+_, _-_, _≤_, arith, _≡_, List, needs}
-use Rattle.frames.specs.{frames, childCount, next, WellFormed}
-use Rattle.frames.proofs.Next.{next-within}
+use Rattle.table.specs.{frames, childCount, next, WellFormed}
+use Rattle.table.proofs.Next.{next-within}
 use Rattle.certificate_flags.proofs.root_choice.Statement.{statement}
 use Rattle.certificate_flags.proofs.root_choice.Tie as tie
 

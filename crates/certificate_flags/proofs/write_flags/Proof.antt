@@ -1,8 +1,8 @@
 -- `certificate_flags::write_flags` meets its contract: each turn stores the flags of one node's children.
 use Rattle.prelude.proofs.{ℕ, _+_, _-_, _≤_, _<_, arith, sym, _∙_, length-set, needs}
-use Rattle.frames.specs.{frames}
-use Rattle.positions.proofs.TopDown.{Visit, visit-root, visit-goes, visit-within, visit-step}
-use Rattle.positions.proofs.TopDown.{Filled, filled-root, filled-all}
+use Rattle.table.specs.{frames}
+use Rattle.table_positions.proofs.TopDown.{Visit, visit-root, visit-goes, visit-within, visit-step}
+use Rattle.table_positions.proofs.TopDown.{Filled, filled-root, filled-all}
 use Rattle.certificate_flags.specs.{FlagsFrom}
 use Rattle.certificate_flags.proofs.Flags.{flags-step}
 use Rattle.certificate_flags.proofs.write_flags.Statement.{statement}

@@ -6,9 +6,9 @@ use mathlib.Core.List.{List}
 use lib.Dec.{eqb}
 use Rattle.gametree.specs.declared.Side.{Side}
 use Rattle.gametree.specs.declared.Side.the-variants.{Max, Min}
-use Rattle.frames.specs.Frame.{frames, childCount, next}
-use Rattle.frames.specs.Formed.{ChildOf}
-use Rattle.positions.specs.engine.Positions.{sideIn}
+use Rattle.table.specs.Frame.{frames, childCount, next}
+use Rattle.table.specs.Formed.{ChildOf}
+use Rattle.table_positions.specs.engine.Positions.{sideIn}
 use Rattle.certificate_flags.specs.engine.Chosen.{bySide, chosenChild}
 
 -- what a flag says of the side's own tree: 1 in the max tree, 2 in the min tree, 0 outside it

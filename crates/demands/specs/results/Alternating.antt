@@ -9,20 +9,20 @@ use lib.ListN.{length}
 use Rattle.lists.specs.Lists.{countFrom}
 use Rattle.gametree.specs.declared.Side.{Side}
 use Rattle.gametree.specs.declared.Side.the-variants.{Max, Min}
-use Rattle.frames.specs.declared.Rejection.{Rejection}
-use Rattle.frames.specs.Frame.{frames, firstChild, childCount}
-use Rattle.frames.specs.Position.{depthOf}
-use Rattle.frames.specs.Tree.{valuation}
-use Rattle.frames.specs.Rejection.{ask, _andThen_, eachNode, unless}
-use Rattle.frames.specs.Check.{check1, check10}
-use Rattle.frames.specs.results.Alternating.{zeroFrames, zeroRejection, sideByDepth, treeByDepth}
-use Rattle.file_lines.specs.Lines.{decoded}
-use Rattle.file_reader.specs.File.{fileCheck2, fileCheck3, fileCheck16}
-use Rattle.verify.specs.declared.Verdict.{Verdict}
-use Rattle.verify.specs.Flags.{member, requiredOf, rootMember}
-use Rattle.verify.specs.Check.{check11, check14, judged}
+use Rattle.table.specs.declared.Rejection.{Rejection}
+use Rattle.table.specs.Frame.{frames, firstChild, childCount}
+use Rattle.table.specs.Position.{depthOf}
+use Rattle.table.specs.Tree.{valuation}
+use Rattle.table.specs.Rejection.{ask, _andThen_, eachNode, unless}
+use Rattle.table.specs.Check.{check1, check10}
+use Rattle.table.specs.results.Alternating.{zeroFrames, zeroRejection, sideByDepth, treeByDepth}
+use Rattle.file_line.specs.Lines.{decoded}
+use Rattle.file_read.specs.File.{fileCheck2, fileCheck3, fileCheck16}
+use Rattle.certificate_check.specs.declared.Verdict.{Verdict}
+use Rattle.certificate_check.specs.Flags.{member, requiredOf, rootMember}
+use Rattle.certificate_check.specs.Check.{check11, check14, judged}
 use Rattle.text.specs.Text.{refusedLine}
-use Rattle.report.specs.Report.{analysisOn}
+use Rattle.analysis.specs.Report.{analysisOn}
 
 -- the first "no" to the questions put to a file
 abbrev pub zeroFile : List ℕ → Option Rejection

@@ -4,7 +4,7 @@ use Prim.Native.Nat.{ℕ, zero, suc, _+_}
 use mathlib.Core.List.{List, [], _∷_, _++_}
 use lib.IntN.{pos, negℤ}
 use lib.ListN.{replicate}
-use Rattle.frames.specs.results.Cases.{leafFrame, innerFrame, againFrame, small, capture}
+use Rattle.table.specs.results.Cases.{leafFrame, innerFrame, againFrame, small, capture}
 use Rattle.methods.specs.declared.Method.the-variants.{AlphaBeta, Mtd, MtdFrom, Sss}
 use Rattle.methods.specs.declared.Answer.{Answer}
 use Rattle.methods.specs.Outcome.{lent, searchOutcome}

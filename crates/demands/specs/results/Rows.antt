@@ -4,9 +4,9 @@ use Prim.Native.Nat.{ℕ}
 use mathlib.Core.List.{List, [], _∷_}
 use lib.IntN.{ℤ, pos, negsuc}
 use lib.ListN.{length, replicate}
-use Rattle.frames.specs.Frame.{frames}
-use Rattle.frames.specs.results.Cases.{small, lone, single}
-use Rattle.certificate.specs.Search.{listed}
+use Rattle.table.specs.Frame.{frames}
+use Rattle.table.specs.results.Cases.{small, lone, single}
+use Rattle.certificate_write.specs.Search.{listed}
 use Rattle.certificate_bounds.specs.Marks.{ones}
 use Rattle.methods.specs.declared.Method.the-variants.{AlphaBeta, Mtd, Sss}
 use Rattle.methods.specs.declared.Answer.{Answer}

@@ -1,6 +1,6 @@
 -- `graft::put_source` meets its contract: a source is a node of the first table, or of the second.
 use Rattle.prelude.proofs.{arith, ap, _∙_, needs, _*_, sets}
-use Rattle.frames.specs.{frameSize}
+use Rattle.table.specs.{frameSize}
 use Rattle.graft.proofs.Joined.{frame-first, frame-second}
 use Rattle.graft.proofs.put_source.Statement.{statement}
 use Rattle.graft.proofs.put_source.Tie as tie

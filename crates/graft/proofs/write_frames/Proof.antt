@@ -1,7 +1,7 @@
 -- `graft::write_frames` meets its contract: each turn lays one frame and queues its children's sources.
 use Rattle.prelude.proofs.{_+_, _≤_, _<_, _-_, arith, _≡_, ap, _∙_, cond, length, length-set, eqb, needs}
-use Rattle.frames.specs.{maxNodes, frames}
-use Rattle.frames.proofs.Acceptance.{accepted-formed}
+use Rattle.table.specs.{maxNodes, frames}
+use Rattle.table.proofs.Acceptance.{accepted-formed}
 use Rattle.graft_questions.specs.{graftSize}
 use Rattle.graft.specs.{Joined}
 use Rattle.graft.proofs.Sources.{fitting, graft-some}

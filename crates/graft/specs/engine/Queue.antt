@@ -5,7 +5,7 @@ use mathlib.Core.Path.{_≡_}
 use mathlib.Core.List.{List, [], _∷_}
 use lib.ListN.{length, take, drop}
 use lib.Seq.{sets}
-use Rattle.frames.specs.Frame.{frameSize, firstChild}
+use Rattle.table.specs.Frame.{frameSize, firstChild}
 
 -- the buffer with the number n in these bytes of node i's frame, high byte first
 abbrev pub withFirst : (i n : ℕ) → List ℕ → List ℕ

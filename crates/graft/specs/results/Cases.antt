@@ -2,10 +2,10 @@
 use Prim.Native.Nat.{ℕ, zero, suc, _+_}
 use mathlib.Core.List.{List, [], _∷_, _++_}
 use lib.ListN.{replicate}
-use Rattle.frames.specs.declared.Checked.{Checked}
-use Rattle.frames.specs.declared.Checked.the-variants.{Nodes, Rejected}
-use Rattle.frames.specs.Rejection.{Outcome, _leaving_}
-use Rattle.frames.specs.results.Cases.{leafFrame, innerFrame, leaves, chain, small, lone, single}
+use Rattle.table.specs.declared.Checked.{Checked}
+use Rattle.table.specs.declared.Checked.the-variants.{Nodes, Rejected}
+use Rattle.table.specs.Rejection.{Outcome, _leaving_}
+use Rattle.table.specs.results.Cases.{leafFrame, innerFrame, leaves, chain, small, lone, single}
 
 -- a root with two leaves of these values
 abbrev pub pair : ℕ → ℕ → List ℕ
@@ -47,13 +47,7 @@ pub record Case : Type 0 where
 -- a result: the number of nodes and the table, with so many bytes of the buffer behind it
 abbrev pub gives : List ℕ → ℕ → List ℕ → ℕ → ℕ → List ℕ → ℕ → Case
 gives t k u room n table rest =
-    record {
-      first = t;
-      node = k;
-      second = u;
-      room = room;
-      outcome = Nodes n leaving (table ++ buffer rest);
-    }
+    record { first = t; node = k; second = u; room = room; outcome = Nodes n leaving (table ++ buffer rest) }
 
 -- a rejection: number and place, with the buffer as it was
 abbrev pub refuses : List ℕ → ℕ → List ℕ → ℕ → ℕ → ℕ → Case

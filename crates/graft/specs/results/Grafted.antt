@@ -4,9 +4,9 @@ use mathlib.Core.List.{List}
 use lib.ListN.{take}
 use Rattle.gametree.specs.Trees.{Tree, minimax}
 use Rattle.gametree.specs.Graft.{grafted, relabelled, substituted}
-use Rattle.frames.specs.Frame.{frameSize, frames, storedScore}
-use Rattle.frames.specs.Position.{depthOf}
-use Rattle.frames.specs.Tree.{tree, valuation, leafScore}
+use Rattle.table.specs.Frame.{frameSize, frames, storedScore}
+use Rattle.table.specs.Position.{depthOf}
+use Rattle.table.specs.Tree.{tree, valuation, leafScore}
 use Rattle.graft.specs.Outcome.{graftOutcome}
 
 -- the first table's tree with the second's in place of the leaf k, numbered by sources

@@ -1,7 +1,7 @@
 -- `graft_questions::ask` meets its contract: the first table's rejection, the second's, or what 17, 18 and 10 answer.
 use Rattle.prelude.proofs.{sym, ap, _∙_, needs}
-use Rattle.frames.specs.{answer}
-use Rattle.frames.proofs.Acceptance.{accepted-formed, nodes-accepted, rejected-first}
+use Rattle.table.specs.{answer}
+use Rattle.table.proofs.Acceptance.{accepted-formed, nodes-accepted, rejected-first}
 use Rattle.graft_questions.proofs.Questions.{first-refused, second-refused, both-accepted}
 use Rattle.graft_questions.proofs.ask.Statement.{statement}
 use Rattle.graft_questions.proofs.ask.Tie as tie

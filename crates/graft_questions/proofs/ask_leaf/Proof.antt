@@ -3,8 +3,8 @@ use Rattle.prelude.proofs.{ℕ, _+_, _-_, _<_, arith, _≡_, sym, ap, _∙_, tr
 use Rattle.prelude.proofs.{not-false, needs}
 use Rattle.gametree.specs.declared.Side.the-variants.{Max}
 use Rattle.gametree.specs.{same}
-use Rattle.frames.specs.{frames, childCount, depthOf, answer}
-use Rattle.frames.proofs.Positions.{depth-at-most}
+use Rattle.table.specs.{frames, childCount, depthOf, answer}
+use Rattle.table.proofs.Positions.{depth-at-most}
 use Rattle.graft_questions.specs.{graftSize, isMaxLeaf, deepest}
 use Rattle.graft_questions.proofs.Questions.{not-leaf, leaf-side, leaf-inside, no-leaf, too-many, too-deep}
 use Rattle.graft_questions.proofs.Questions.{too-short, all-right}

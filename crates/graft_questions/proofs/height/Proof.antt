@@ -1,7 +1,7 @@
 -- `graft_questions::height` meets its contract: the last node is the deepest.
 use Rattle.prelude.proofs.{_-_, arith, ap, _∙_, needs}
-use Rattle.frames.specs.{frames, depthOf}
-use Rattle.frames.proofs.Positions.{depth-at-most}
+use Rattle.table.specs.{frames, depthOf}
+use Rattle.table.proofs.Positions.{depth-at-most}
 use Rattle.graft_questions.proofs.Heights.{last-deepest}
 use Rattle.graft_questions.proofs.height.Statement.{statement}
 use Rattle.graft_questions.proofs.height.Tie as tie

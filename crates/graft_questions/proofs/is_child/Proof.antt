@@ -1,7 +1,7 @@
 -- `graft_questions::is_child` meets its contract: one case for each of its returns.
 use Rattle.prelude.proofs.{arith, sym, le-leb, needs}
-use Rattle.frames.specs.{firstChild}
-use Rattle.frames.proofs.Parents.{no-child-test}
+use Rattle.table.specs.{firstChild}
+use Rattle.table.proofs.Parents.{no-child-test}
 use Rattle.graft_questions.proofs.is_child.Statement.{statement}
 use Rattle.graft_questions.proofs.is_child.Tie as tie
 

@@ -1,6 +1,6 @@
 -- `graft_questions::is_leaf` meets its contract: one case for each of its returns.
 use Rattle.prelude.proofs.{arith, le-ltb, lt-ltb, needs}
-use Rattle.frames.specs.{frames}
+use Rattle.table.specs.{frames}
 use Rattle.graft_questions.proofs.is_leaf.Statement.{statement}
 use Rattle.graft_questions.proofs.is_leaf.Tie as tie
 

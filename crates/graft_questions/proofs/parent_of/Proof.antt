@@ -1,7 +1,7 @@
 -- `graft_questions::parent_of` meets its contract: the parent is never after the candidate.
 use Rattle.prelude.proofs.{_≤_, _<_, arith, sym, _∙_, not-true, not-false, needs}
-use Rattle.frames.specs.{parentOf}
-use Rattle.frames.proofs.Parents.{parent-less}
+use Rattle.table.specs.{parentOf}
+use Rattle.table.proofs.Parents.{parent-less}
 use Rattle.graft_questions.proofs.Ascent.{parent-found, parent-earlier}
 use Rattle.graft_questions.proofs.parent_of.Statement.{statement}
 use Rattle.graft_questions.proofs.parent_of.Tie as tie

@@ -1,6 +1,6 @@
 -- `graft_questions::position_of` meets its contract: each turn goes up to a parent.
 use Rattle.prelude.proofs.{arith}
-use Rattle.frames.proofs.Parents.{parent-less}
+use Rattle.table.proofs.Parents.{parent-less}
 use Rattle.graft_questions.proofs.Ascent.{Ascent, ascent-begins, ascent-step, ascent-ends, ascent-depth}
 use Rattle.graft_questions.proofs.position_of.Statement.{statement}
 use Rattle.graft_questions.proofs.position_of.Tie as tie

@@ -2,9 +2,9 @@
 use Prim.Native.Nat.{ℕ}
 use mathlib.Core.List.{List}
 use Rattle.gametree.specs.Certificate.{flag}
-use Rattle.frames.specs.Frame.{frames}
-use Rattle.frames.specs.Tree.{tree, valuation}
-use Rattle.positions.specs.Buffer.{written}
+use Rattle.table.specs.Frame.{frames}
+use Rattle.table.specs.Tree.{tree, valuation}
+use Rattle.table_positions.specs.Buffer.{written}
 use Rattle.certificate_bounds.specs.Marks.{marked}
 use Rattle.methods.specs.declared.Answer.{Answer}
 use Rattle.methods.specs.declared.Answer.the-variants.{Found, Spent, Rejected}

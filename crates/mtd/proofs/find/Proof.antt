@@ -1,7 +1,7 @@
 -- `mtd::find` meets its contract: the steps of a search, in order.
 use Rattle.prelude.proofs.{arith, _≡_, ap, _∙_, w16, toZ-ofZ, needs}
-use Rattle.frames.specs.{maxNodes, frames}
-use Rattle.positions.specs.{written}
+use Rattle.table.specs.{maxNodes, frames}
+use Rattle.table_positions.specs.{written}
 use Rattle.certificate_bounds.proofs.Marking.{cleared-unmarked}
 use Rattle.mtd.proofs.Whole.{start-fresh, run-small, find-gives}
 use Rattle.mtd.proofs.find.Statement.{statement}

@@ -1,8 +1,8 @@
 -- `run_passes` gives what MTD gives. The measure is the test, which falls with each pass.
 use Rattle.prelude.proofs.{_+_, _-_, _≤_, arith, _≡_, _∙_, length, needs}
 use Rattle.gametree.specs.{mtd}
-use Rattle.frames.specs.{childCount, next, tree, valuation}
-use Rattle.frames.proofs.Next.{next-within}
+use Rattle.table.specs.{childCount, next, tree, valuation}
+use Rattle.table.proofs.Next.{next-within}
 use Rattle.mtd_memory.specs.{Memory, memory}
 use Rattle.mtd_memory.proofs.Arrays.{Long}
 use Rattle.mtd.proofs.Runs.{Passing, passing-first, passing-ready, passing-last}

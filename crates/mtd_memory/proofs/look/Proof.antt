@@ -1,7 +1,7 @@
 -- `look` meets its contract: a leaf is tried, an inner node is answered by its high or its entry, or is open.
 use Rattle.prelude.proofs.{ℕ, arith, _≡_, refl, ap, true, false, needs, eq-eqb, ne-eqb}
-use Rattle.frames.specs.{childCount}
-use Rattle.frames.proofs.Nodes.{in-own}
+use Rattle.table.specs.{childCount}
+use Rattle.table.proofs.Nodes.{in-own}
 use Rattle.mtd_memory.specs.{Memory, memory}
 use Rattle.mtd_memory.proofs.Visits.{looked-answer, ready-shallow, leaf-known, visit-leaf, visit-below}
 use Rattle.mtd_memory.proofs.Visits.{visit-not-below}

@@ -1,6 +1,6 @@
 -- `visit_leaf` meets its contract: a leaf that is marked already has its score for a high, and any other is evaluated.
 use Rattle.prelude.proofs.{sym, ap, _∙_, leb, set, needs, eq-eqb, ne-eqb}
-use Rattle.frames.specs.{frames}
+use Rattle.table.specs.{frames}
 use Rattle.certificate_bounds.specs.{ones, Evaluable}
 use Rattle.certificate_bounds.proofs.Listing.{next-counted}
 use Rattle.mtd_memory.proofs.Arrays.{set-same, leaf-again, leaf-first}

@@ -13,10 +13,10 @@ use Rattle.gametree.specs.Trees.{Tree, greatest, In}
 use Rattle.gametree.specs.Bounds.{high}
 use Rattle.gametree.specs.engine.Memo.{Memo, Pass, pass}
 use Rattle.gametree.specs.engine.MemoArrays.{readMemo, Remembered}
-use Rattle.frames.specs.Frame.{frames, firstChild, childCount}
-use Rattle.frames.specs.Position.{positionOf, sideOf}
-use Rattle.frames.specs.Tree.{treeAt, valuation}
-use Rattle.frames.specs.Formed.{WellFormed}
+use Rattle.table.specs.Frame.{frames, firstChild, childCount}
+use Rattle.table.specs.Position.{positionOf, sideOf}
+use Rattle.table.specs.Tree.{treeAt, valuation}
+use Rattle.table.specs.Formed.{WellFormed}
 use Rattle.certificate_bounds.specs.Marks.{marked, ones}
 use Rattle.certificate_bounds.specs.engine.Progress.{Progress, progress, evaluateAll}
 use Rattle.certificate_bounds.specs.engine.Bounds.{boundOf}

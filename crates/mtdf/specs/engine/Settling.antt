@@ -5,9 +5,9 @@ use mathlib.Core.List.{List, _++_}
 use Rattle.gametree.specs.Trees.{minimax}
 use Rattle.gametree.specs.Move.{rootMove}
 use Rattle.gametree.specs.Mtdf.{lastPhase}
-use Rattle.frames.specs.Frame.{frames}
-use Rattle.frames.specs.Tree.{tree, valuation}
-use Rattle.frames.specs.Value.{valueOf}
+use Rattle.table.specs.Frame.{frames}
+use Rattle.table.specs.Tree.{tree, valuation}
+use Rattle.table.specs.Value.{valueOf}
 use Rattle.certificate_bounds.specs.Marks.{ones}
 use Rattle.certificate_bounds.specs.engine.Progress.{Progress, evaluateAll}
 use Rattle.methods.specs.declared.Findings.{Findings}

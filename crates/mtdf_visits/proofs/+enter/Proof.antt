@@ -3,8 +3,8 @@
 use Rattle.prelude.proofs.{ℕ, _+_, _-_, _<_, arith, sym, ap, _∙_, inl, inr, length, length-set, needs}
 use borrow.Fn.Kinds.{In}
 use borrow.Fn.PlainCycle.{Measures, is, falls, and}
-use Rattle.frames.specs.{frames, treeAt}
-use Rattle.frames.proofs.Next.{child-later, child-within}
+use Rattle.table.specs.{frames, treeAt}
+use Rattle.table.proofs.Next.{child-later, child-within}
 use Rattle.mtdf_visits.specs.{Memory, memory, MemoryRoom, VisitReady, VisitedBy}
 use Rattle.mtdf_visits.proofs.Arrays.{Long, room-kept}
 use Rattle.mtd_memory.proofs.Turns.{Family, family-within}
@@ -15,9 +15,9 @@ use Rattle.mtdf_visits.proofs.Visits.{visit-entered}
 use Rattle.mtdf_visits.proofs.enter.Reads as enter′
 use Rattle.mtdf_visits.proofs.enter.Kinds as enter-kinds
 use Rattle.mtdf_visits.proofs.+enter.Lts-enter as lts
-use Rattle.frames.proofs.child_count.Reads as child-count-reads
-use Rattle.frames.proofs.child_position.Reads as child-position-reads
-use Rattle.frames.proofs.first_child.Reads as first-child-reads
+use Rattle.table.proofs.child_count.Reads as child-count-reads
+use Rattle.table.proofs.child_position.Reads as child-position-reads
+use Rattle.table.proofs.first_child.Reads as first-child-reads
 use Rattle.certificate_bounds.proofs.best.Reads as best-reads
 use Rattle.mtd_memory.proofs.last_tried.Reads as last-tried-reads
 use Rattle.mtdf_visits.proofs.look.Reads as look-reads

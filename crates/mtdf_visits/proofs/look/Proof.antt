@@ -1,6 +1,6 @@
 -- `look` meets its contract: a node is answered by its bounds, or is open, or is a leaf and evaluated.
 use Rattle.prelude.proofs.{ℕ, arith, _≡_, refl, true, false, leb, needs}
-use Rattle.frames.specs.{childCount}
+use Rattle.table.specs.{childCount}
 use Rattle.mtdf_visits.specs.{Memory, memory}
 use Rattle.mtdf_visits.proofs.Visits.{looked-answer, ready-listable, leaf-evaluable, visit-below}
 use Rattle.mtdf_visits.proofs.Visits.{visit-not-below}

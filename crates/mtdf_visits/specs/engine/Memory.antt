@@ -11,10 +11,10 @@ use Rattle.gametree.specs.declared.Position.{Position}
 use Rattle.gametree.specs.Trees.{Tree, leaf, inner, least, greatest, In}
 use Rattle.gametree.specs.Bounds.{low, high}
 use Rattle.gametree.specs.Tests.{Tested, opened, test, testChildren}
-use Rattle.frames.specs.Frame.{frames, childCount}
-use Rattle.frames.specs.Position.{positionOf}
-use Rattle.frames.specs.Tree.{treeAt, valuation}
-use Rattle.frames.specs.Formed.{WellFormed}
+use Rattle.table.specs.Frame.{frames, childCount}
+use Rattle.table.specs.Position.{positionOf}
+use Rattle.table.specs.Tree.{treeAt, valuation}
+use Rattle.table.specs.Formed.{WellFormed}
 use Rattle.certificate_bounds.specs.Marks.{marked, ones}
 use Rattle.certificate_bounds.specs.engine.Progress.{Progress, progress, evaluateAll}
 use Rattle.mtdf_visits.specs.declared.Seen.{Seen}

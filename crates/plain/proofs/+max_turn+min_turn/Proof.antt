@@ -7,11 +7,11 @@ use borrow.Fn.PlainCycle.{Measures, is, falls, and}
 use Rattle.gametree.specs.declared.Side.{Side}
 use Rattle.gametree.specs.declared.Side.the-variants.{Max, Min}
 use Rattle.gametree.proofs.better.Reads as better-reads
-use Rattle.frames.specs.{ChildOf}
-use Rattle.frames.proofs.Next.{child-within}
-use Rattle.frames.proofs.child_count.Reads as child-count-reads
-use Rattle.frames.proofs.child_side.Reads as child-side-reads
-use Rattle.frames.proofs.first_child.Reads as first-child-reads
+use Rattle.table.specs.{ChildOf}
+use Rattle.table.proofs.Next.{child-within}
+use Rattle.table.proofs.child_count.Reads as child-count-reads
+use Rattle.table.proofs.child_side.Reads as child-side-reads
+use Rattle.table.proofs.first_child.Reads as first-child-reads
 use Rattle.certificate_bounds.proofs.evaluate.Reads as evaluate-reads
 use Rattle.plain.specs.{Ready}
 use Rattle.plain.proofs.Turns.{Gives, TurnLoop, leaf-evaluable, leaf-gives, turn-starts, inner-left, ready-child}

@@ -1,7 +1,7 @@
 -- `plain::run` meets its contract: the steps of a search, in order.
 use Rattle.prelude.proofs.{arith, refl, ap, _∙_, w16, toZ-ofZ, needs}
-use Rattle.frames.proofs.Acceptance.{accepted-formed}
-use Rattle.positions.specs.{written}
+use Rattle.table.proofs.Acceptance.{accepted-formed}
+use Rattle.table_positions.specs.{written}
 use Rattle.plain.proofs.Whole.{root-ready, score-small, run-gives}
 use Rattle.plain.proofs.run.Statement.{statement}
 use Rattle.plain.proofs.run.Tie as tie

@@ -1,10 +1,10 @@
 -- `plain::search` meets its contract: the questions are answered, and then the search is run or nothing is done.
 use Rattle.prelude.proofs.{ℕ, _≡_, sym, _∙_, List, [], _∷_, length, needs}
-use Rattle.frames.specs.declared.Rejection.{Rejection}
-use Rattle.frames.specs.{Outcome, _leaving_}
+use Rattle.table.specs.declared.Rejection.{Rejection}
+use Rattle.table.specs.{Outcome, _leaving_}
 use Rattle.methods.specs.{Lent, lent}
-use Rattle.certificate.proofs.Questions.{asked, of-lesser}
-use Rattle.certificate.proofs.Outcomes.{finding, rejecting}
+use Rattle.certificate_write.proofs.Questions.{asked, of-lesser}
+use Rattle.certificate_write.proofs.Outcomes.{finding, rejecting}
 use Rattle.plain.specs.declared.PlainAnswer.{PlainAnswer}
 use Rattle.plain.specs.declared.PlainAnswer.the-variants.{Rejected}
 use Rattle.plain.proofs.Whole.{may-run}

@@ -3,9 +3,9 @@ use Prim.Native.Nat.{ℕ, _-_, _≤_, _<_}
 use mathlib.Core.List.{List}
 use Rattle.gametree.specs.declared.Position.{Position}
 use Rattle.gametree.specs.declared.Side.{Side}
-use Rattle.frames.specs.Frame.{maxDepth, frames}
-use Rattle.frames.specs.Position.{depthOf}
-use Rattle.certificate.specs.engine.Searchable.{Searchable}
+use Rattle.table.specs.Frame.{maxDepth, frames}
+use Rattle.table.specs.Position.{depthOf}
+use Rattle.certificate_write.specs.engine.Searchable.{Searchable}
 
 -- where the side s moves and at most `left` levels may follow
 abbrev pub turnPosition : Side → (left : ℕ) → Position

@@ -1,8 +1,8 @@
 -- `search::run` meets its contract: the positions, what the method's engine finds, and the certificate of a value.
 use Rattle.prelude.proofs.{_≡_, ap, _∙_, List, ℕ, arith, w32, toZ-ofZ, needs}
-use Rattle.frames.specs.{WellFormed, _leaving_}
-use Rattle.positions.proofs.Positions.{positioned}
-use Rattle.certificate.specs.{marksOf, listed}
+use Rattle.table.specs.{WellFormed, _leaving_}
+use Rattle.table_positions.proofs.Positions.{positioned}
+use Rattle.certificate_write.specs.{marksOf, listed}
 use Rattle.methods.specs.declared.Method.{Method}
 use Rattle.methods.specs.declared.Method.the-variants.{AlphaBeta, Mtd, MtdFrom, Sss}
 use Rattle.methods.specs.declared.Answer.{Answer}

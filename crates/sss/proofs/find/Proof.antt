@@ -1,7 +1,7 @@
 -- `sss::find` meets its contract: the steps of a search, in order.
 use Rattle.prelude.proofs.{arith, _≡_, ap, _∙_, length-replicate, needs}
-use Rattle.frames.specs.{maxNodes, frames}
-use Rattle.positions.specs.{written}
+use Rattle.table.specs.{maxNodes, frames}
+use Rattle.table_positions.specs.{written}
 use Rattle.sss_states.specs.declared.State.{State}
 use Rattle.sss_states.specs.{blank}
 use Rattle.sss_loop.specs.{zeros}

@@ -13,7 +13,7 @@ use Rattle.walks.proofs.Walk.{pass1, passed, qed, reborrows, ref-to, rep, repea
 use Rattle.walks.proofs.Walk.{sets, shared, slice-vals, sliceVal, stays-of, stop, suffices, tables, tablesOf, tripleOf}
 use Rattle.walks.proofs.Walk.{u16, u32, u8, uint-copy, uint-lawful, valued, via, w32, walkOf, ‵, ⋆}
 use denote.Struct.Laws as LL
-use Rattle.frames.specs.{maxNodes}
+use Rattle.table.specs.{maxNodes}
 use Rattle.sss_states.specs.declared.State.{State}
 use Rattle.sss_turns.specs.declared.Run.{Run}
 use Rattle.sss_states.specs.{blank as blankEntry}

@@ -4,12 +4,12 @@ use mathlib.Core.Bool.{true, false}
 use mathlib.Core.List.{List}
 use Prim.Native.Nat.{ℕ}
 use lib.ListN.{length, replicate}
-use Rattle.frames.specs.Frame.{maxNodes}
-use Rattle.frames.specs.Formed.{WellFormed}
+use Rattle.table.specs.Frame.{maxNodes}
+use Rattle.table.specs.Formed.{WellFormed}
 use Rattle.sss_states.specs.declared.State.{State}
 use Rattle.sss_states.specs.Entry.{blank}
 use Rattle.sss_turns.specs.declared.Run.{Run}
-use Rattle.positions.specs.engine.Positions.{Positioned}
+use Rattle.table_positions.specs.engine.Positions.{Positioned}
 use Rattle.sss_turns.specs.engine.Update.{updated, Within}
 use Rattle.sss_turns.specs.engine.Turn.{going, Config}
 use Rattle.sss_loop.specs.engine.Invariant.{Running}

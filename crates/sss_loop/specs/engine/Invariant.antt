@@ -7,9 +7,9 @@ use lib.ListN.{length, drop, replicate}
 use Rattle.gametree.specs.Trees.{greatest}
 use Rattle.gametree.specs.Sss as theory
 use Rattle.gametree.specs.Move.{rootMove}
-use Rattle.frames.specs.Frame.{frames}
-use Rattle.frames.specs.Tree.{tree, valuation}
-use Rattle.positions.specs.Buffer.{written}
+use Rattle.table.specs.Frame.{frames}
+use Rattle.table.specs.Tree.{tree, valuation}
+use Rattle.table_positions.specs.Buffer.{written}
 use Rattle.certificate_bounds.specs.Marks.{ones}
 use Rattle.certificate_bounds.specs.engine.Progress.{progress, evaluateAll}
 use Rattle.sss_states.specs.declared.State.{State}

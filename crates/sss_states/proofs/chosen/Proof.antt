@@ -1,9 +1,9 @@
 -- `sss_states::chosen` meets its contract: by the node's children and its side.
 use Rattle.prelude.proofs.{arith, _≡_, sym, _∙_, needs}
-use Rattle.frames.specs.{sideOf}
+use Rattle.table.specs.{sideOf}
 use Rattle.gametree.specs.declared.Side.the-variants.{Max, Min}
-use Rattle.frames.proofs.Next.{children-within}
-use Rattle.positions.proofs.Positions.{positioned-side}
+use Rattle.table.proofs.Next.{children-within}
+use Rattle.table_positions.proofs.Positions.{positioned-side}
 use Rattle.sss_states.proofs.Risings.{chosen-none, chosen-some}
 use Rattle.sss_states.proofs.chosen.Statement.{statement}
 use Rattle.sss_states.proofs.chosen.Tie as tie

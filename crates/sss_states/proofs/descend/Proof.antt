@@ -1,6 +1,6 @@
 -- `sss_states::descend` meets its contract: each link is a larger number, so that the steps left are enough.
 use Rattle.prelude.proofs.{_-_, arith, refl}
-use Rattle.frames.specs.{frames}
+use Rattle.table.specs.{frames}
 use Rattle.sss_states.proofs.Scans.{Descending, descend-room, descend-on, descend-end}
 use Rattle.sss_states.proofs.descend.Statement.{statement}
 use Rattle.sss_states.proofs.descend.Tie as tie

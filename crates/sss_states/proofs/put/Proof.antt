@@ -1,6 +1,6 @@
 -- `sss_states::put` meets its contract.
 use Rattle.prelude.proofs.{arith, _≡_, refl, _∙_, _-_, length, length-set}
-use Rattle.positions.proofs.Runs.{Run, run-begins, run-step, run-ends}
+use Rattle.table_positions.proofs.Runs.{Run, run-begins, run-step, run-ends}
 use Rattle.sss_states.proofs.Stores.{put-change}
 use Rattle.sss_states.proofs.put.Statement.{statement}
 use Rattle.sss_states.proofs.put.Tie as tie

@@ -1,8 +1,8 @@
 -- `sss_states::refresh_ancestors` meets its contract: what is still to be done stays the same.
 use Rattle.prelude.proofs.{arith, _≡_, refl, sym, _∙_, ap, true}
-use Rattle.frames.specs.{parentOf}
+use Rattle.table.specs.{parentOf}
 use Rattle.sss_states.specs.{bestAt, needsRefresh}
-use Rattle.positions.proofs.Positions.{positioned-room, positioned-parent}
+use Rattle.table_positions.proofs.Positions.{positioned-room, positioned-parent}
 use Rattle.sss_states.proofs.Risings.{Falling, Rises, rises, falling-again, refreshed-top}
 use Rattle.sss_states.proofs.refresh_ancestors.Statement.{statement}
 use Rattle.sss_states.proofs.refresh_ancestors.Tie as tie

@@ -9,14 +9,14 @@ use lib.ListN.{length, getD, set}
 use Rattle.gametree.specs.declared.Side.{Side}
 use Rattle.gametree.specs.declared.Side.the-variants.{Max, Min}
 use Rattle.gametree.specs.Trees.{greatest}
-use Rattle.frames.specs.Frame.{maxNodes, frames, firstChild, childCount}
-use Rattle.frames.specs.Position.{parentOf, sideOf}
-use Rattle.frames.specs.Formed.{WellFormed, ChildOf}
+use Rattle.table.specs.Frame.{maxNodes, frames, firstChild, childCount}
+use Rattle.table.specs.Position.{parentOf, sideOf}
+use Rattle.table.specs.Formed.{WellFormed, ChildOf}
 use Rattle.sss_states.specs.declared.State.{State}
 use Rattle.sss_states.specs.declared.Change.{Change}
 use Rattle.sss_states.specs.Entry.{entry, statusOf, blank}
-unfoldable pub use Rattle.positions.specs.Buffer.{stored}
-use Rattle.positions.specs.engine.Positions.{Positioned}
+unfoldable pub use Rattle.table_positions.specs.Buffer.{stored}
+use Rattle.table_positions.specs.engine.Positions.{Positioned}
 use Rattle.sss_states.specs.engine.Shown.{Arrays}
 
 -- an entry packs the greatest merit and the link; a link is the number of a node, so it is below maxNodes

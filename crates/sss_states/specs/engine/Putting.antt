@@ -4,8 +4,8 @@ use mathlib.Core.Path.{_≡_}
 use mathlib.Core.Logic.{_⊎_}
 use mathlib.Core.List.{List}
 use Rattle.gametree.specs.Trees.{greatest}
-use Rattle.frames.specs.Frame.{frames}
-use Rattle.frames.specs.Formed.{ChildOf}
+use Rattle.table.specs.Frame.{frames}
+use Rattle.table.specs.Formed.{ChildOf}
 use Rattle.sss_states.specs.declared.Change.{Change}
 use Rattle.sss_states.specs.engine.Kept.{Fits}
 

@@ -1,6 +1,6 @@
 -- `sss_turns::as_value` meets its contract: the score's value takes 32 bits.
 use Rattle.prelude.proofs.{arith, _≡_, pos, w32, toZ, toZ-pos, toZ-ofZ, needs}
-use Rattle.frames.specs.{valueOf}
+use Rattle.table.specs.{valueOf}
 use Rattle.sss_turns.proofs.Merits.{value-fits}
 use Rattle.sss_turns.proofs.as_value.Statement.{statement}
 use Rattle.sss_turns.proofs.as_value.Tie as tie

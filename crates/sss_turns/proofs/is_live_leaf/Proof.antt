@@ -1,6 +1,6 @@
 -- `sss_turns::is_live_leaf` meets its contract: by the status, and by the count of children.
 use Rattle.prelude.proofs.{needs}
-use Rattle.frames.specs.{childCount}
+use Rattle.table.specs.{childCount}
 use Rattle.sss_turns.proofs.Taking.{live-count, solved-not}
 use Rattle.sss_turns.proofs.is_live_leaf.Statement.{statement}
 use Rattle.sss_turns.proofs.is_live_leaf.Tie as tie

@@ -3,7 +3,7 @@ use Prim.Native.Nat.{_≤_}
 use mathlib.Core.Path.{_≡_}
 use lib.IntN.{ℤ}
 use Rattle.gametree.specs.Trees.{greatest}
-use Rattle.frames.specs.Value.{valueOf, scoreOf}
+use Rattle.table.specs.Value.{valueOf, scoreOf}
 
 -- a value from -32,001 to 32,001
 pub record IsMerit (value : ℤ) : Type 0 where

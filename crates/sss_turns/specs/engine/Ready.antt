@@ -5,15 +5,15 @@ use mathlib.Core.Bool.{false}
 use mathlib.Core.List.{List}
 use lib.ListN.{length}
 use Rattle.gametree.specs.Trees.{greatest}
-use Rattle.frames.specs.Frame.{maxNodes, frames, childCount}
-use Rattle.frames.specs.Formed.{WellFormed}
+use Rattle.table.specs.Frame.{maxNodes, frames, childCount}
+use Rattle.table.specs.Formed.{WellFormed}
 use Rattle.certificate_bounds.specs.Marks.{marked}
 use Rattle.certificate_bounds.specs.engine.Progress.{Progress, progress, Listable}
 use Rattle.sss_states.specs.declared.Status.{Status}
 use Rattle.sss_states.specs.declared.Status.the-variants.{Live, Solved}
 use Rattle.sss_states.specs.declared.State.{State}
 use Rattle.sss_turns.specs.declared.Run.{Run}
-use Rattle.positions.specs.engine.Positions.{Positioned}
+use Rattle.table_positions.specs.engine.Positions.{Positioned}
 use Rattle.sss_states.specs.engine.Kept.{Fits}
 use Rattle.sss_turns.specs.engine.Merit.{IsMerit}
 

@@ -5,9 +5,9 @@ use mathlib.Core.List.{List}
 use lib.Dec.{ltb}
 use Rattle.gametree.specs.declared.Side.{Side}
 use Rattle.gametree.specs.declared.Side.the-variants.{Max, Min}
-use Rattle.frames.specs.Frame.{firstChild, childCount}
-use Rattle.frames.specs.Position.{parentOf, sideOf}
-use Rattle.frames.specs.Tree.{valuation}
+use Rattle.table.specs.Frame.{firstChild, childCount}
+use Rattle.table.specs.Position.{parentOf, sideOf}
+use Rattle.table.specs.Tree.{valuation}
 use Rattle.sss_states.specs.declared.Status.{Status}
 use Rattle.sss_states.specs.declared.Status.the-variants.{Live, Solved}
 use Rattle.sss_states.specs.declared.Change.{Change}

@@ -5,9 +5,9 @@ use mathlib.Core.Bool.{Bool, true, false, cond}
 use mathlib.Core.List.{List, [], _∷_}
 use lib.Dec.{eqb, ltb}
 use lib.ListN.{getD}
-use Rattle.frames.specs.Frame.{frames, childCount}
+use Rattle.table.specs.Frame.{frames, childCount}
 use Rattle.certificate_bounds.specs.engine.Progress.{progress, evaluateAll}
-use Rattle.frames.specs.Value.{scoreOf}
+use Rattle.table.specs.Value.{scoreOf}
 use Rattle.sss_states.specs.declared.Status.{Status}
 use Rattle.sss_states.specs.declared.Status.the-variants.{Live, Solved}
 use Rattle.sss_states.specs.declared.State.{State}
@@ -117,13 +117,7 @@ best t c = taken t (c .front) (c .marks) (c .order) (c .run) (getD (c .list) (c 
 -- the list of states, too, once the update is made
 abbrev pub updatedBy : List State → TurnTaken → Config
 updatedBy ls x =
-    record {
-      front = x .front;
-      list = updated (x .run .update) ls;
-      marks = x .marks;
-      order = x .order;
-      run = x .run;
-    }
+    record { front = x .front; list = updated (x .run .update) ls; marks = x .marks; order = x .order; run = x .run }
 
 -- one turn: the best state is taken and replaced
 abbrev pub turn : List ℕ → Config → Config

@@ -1,8 +1,8 @@
 -- What entries of the list become.
 use Prim.Native.Nat.{ℕ, _+_, _≤_}
 use mathlib.Core.List.{List}
-use Rattle.frames.specs.Frame.{maxNodes}
-use Rattle.frames.specs.Value.{valueOf}
+use Rattle.table.specs.Frame.{maxNodes}
+use Rattle.table.specs.Value.{valueOf}
 use Rattle.sss_states.specs.declared.State.{State}
 use Rattle.sss_states.specs.declared.Change.{Change}
 use Rattle.sss_turns.specs.declared.Content.{Content}

@@ -19,18 +19,18 @@ use Rattle.walks.proofs.Walk.{frees, from, fsplit, fst∗, full, givenOf, group
 use Rattle.walks.proofs.Walk.{no-more, none, nothing, of-unit, onEntry, owned, params1, part, pass0, pass1, qed}
 use Rattle.walks.proofs.Walk.{returns, sets, shared, silent, slice-vals, sliceVal, stays-of, stop, suffices, tables}
 use Rattle.walks.proofs.Walk.{tablesOf, tripleOf, u8, unit, unit-lit, via, vunit, walkOf, ‵, ⋆}
-use Rattle.shorter.specs.declared.Selection.{Selection}
-use Rattle.shorter.specs.declared.Choice.{Choice}
-use Rattle.shorter.specs.declared.Choice.the-variants.{First, Second, Rejected}
-use Rattle.shorter.specs.{choice, flagsBy, pointerBy}
-use Rattle.shorter.proofs.Selection as T
-use Rattle.shorter.proofs.Selection.Laws as T′
-use Rattle.shorter.proofs.Choice as S
-use Rattle.shorter.proofs.Choice.Laws as S′
-use Rattle.shorter.proofs.select as select
-use Rattle.shorter.proofs.select.Symbol as select-def
-use Rattle.shorter.proofs.select.Symbol.{name as #select}
-use Rattle.shorter.proofs.select.Met as select-thm
+use Rattle.certificate_choice.specs.declared.Selection.{Selection}
+use Rattle.certificate_choice.specs.declared.Choice.{Choice}
+use Rattle.certificate_choice.specs.declared.Choice.the-variants.{First, Second, Rejected}
+use Rattle.certificate_choice.specs.{choice, flagsBy, pointerBy}
+use Rattle.certificate_choice.proofs.Selection as T
+use Rattle.certificate_choice.proofs.Selection.Laws as T′
+use Rattle.certificate_choice.proofs.Choice as S
+use Rattle.certificate_choice.proofs.Choice.Laws as S′
+use Rattle.certificate_choice.proofs.select as select
+use Rattle.certificate_choice.proofs.select.Symbol as select-def
+use Rattle.certificate_choice.proofs.select.Symbol.{name as #select}
+use Rattle.certificate_choice.proofs.select.Met as select-thm
 use Rattle.cases_calls.proofs.certificates.print_selection as print
 use Rattle.cases_calls.proofs.certificates.print_selection.Symbol as print-def
 use Rattle.cases_calls.proofs.certificates.print_selection.Symbol.{name as #print}
@@ -204,6 +204,6 @@ print-choice-spec 𝓤 H 𝓜 𝓖 𝓡 =
     (tables 𝓤 H 𝓜 𝓡 code.env .C) (tables 𝓤 H 𝓜 𝓡 code.env .Λ) #print-choice code.function (code.unfolded 𝓤 H 𝓜 𝓡)
     (print-choice-meets 𝓤 H (𝓖 .A) (givenOf 𝓤 H 𝓜 𝓖) (𝓜 .mem) (𝓡 .run) (tablesOf 𝓤 H 𝓜 (tables 𝓤 H 𝓜 𝓡 code.env))
     (cited 𝓤 H (Select 𝓤 H (𝓖 .A) (𝓜 .mem) (𝓡 .run)) 𝓜 𝓡 code.env #select select-def.routine
-    code.calls-shorter·select (select-thm.met 𝓤 H 𝓜 𝓖 𝓡))
+    code.calls-certificate-choice·select (select-thm.met 𝓤 H 𝓜 𝓖 𝓡))
     (cited 𝓤 H (Print 𝓤 H (𝓖 .A) (𝓜 .mem) (𝓡 .run)) 𝓜 𝓡 code.env #print print-def.routine
     code.calls-cases-calls·certificates·print-selection (print-thm.met 𝓤 H 𝓜 𝓖 𝓡)))

@@ -15,7 +15,7 @@ use Rattle.walks.proofs.Walk.{drop, w64, walkOf, ‵, ⋆}
 use denote.Array.{Array, array-vals, array-tells}
 use denote.Laws.{Lawful}
 use denote.Struct.Laws as LL
-use Rattle.frames.specs.{_leaving_}
+use Rattle.table.specs.{_leaving_}
 use Rattle.methods.specs.{lent as lentOf}
 use Rattle.methods.specs.declared.Answer.{Answer}
 use Rattle.sss_states.specs.declared.State.{State}

@@ -1,4 +1,4 @@
--- `cases_calls::tables::fitted` meets its contract: the smaller of the two.
+-- `cases_calls::table_check::fitted` meets its contract: the smaller of the two.
 use Rattle.prelude.proofs.{arith, sym, length-take-le}
 use Rattle.cases_calls.proofs.tables.fitted.Statement.{statement}
 use Rattle.cases_calls.proofs.tables.fitted.Tie as tie

@@ -1,4 +1,4 @@
--- `cases_calls::tables::frames_size` meets its contract: one case for each of its returns.
+-- `cases_calls::table_check::frames_size` meets its contract: one case for each of its returns.
 use Rattle.prelude.proofs.{arith, needs}
 use Rattle.cases_calls.proofs.tables.frames_size.Statement.{statement}
 use Rattle.cases_calls.proofs.tables.frames_size.Tie as tie

@@ -1,4 +1,4 @@
--- `cases_calls::tables::read_table` meets its contract: it is what the reader gives.
+-- `cases_calls::table_check::read_table` meets its contract: it is what the reader gives.
 use Rattle.prelude.proofs.{min, ap, _∙_, length, needs}
 use Rattle.cases_calls.specs.{framesSize}
 use Rattle.cases_calls.proofs.tables.read_table.Statement.{statement}

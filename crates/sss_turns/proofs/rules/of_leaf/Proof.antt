@@ -1,7 +1,7 @@
 -- `sss_turns::rules::of_leaf` meets its contract.
 use Rattle.prelude.proofs.{arith, _∙_, needs}
 use Rattle.certificate_bounds.proofs.Listing.{one-evaluated}
-use Rattle.positions.proofs.Positions.{positioned-few, positioned-depth}
+use Rattle.table_positions.proofs.Positions.{positioned-few, positioned-depth}
 use Rattle.sss_turns.proofs.rules.of_leaf.Statement.{statement}
 use Rattle.sss_turns.proofs.rules.of_leaf.Tie as tie
 

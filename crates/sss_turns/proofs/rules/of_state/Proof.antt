@@ -1,11 +1,11 @@
 -- `sss_turns::rules::of_state` meets its contract: by the status, and by the count of children.
 use Rattle.prelude.proofs.{arith, _≡_, sym, ap, ap₂, _∙_, needs}
-use Rattle.frames.specs.{childCount, sideOf}
-use Rattle.frames.proofs.Parents.{parent-child}
+use Rattle.table.specs.{childCount, sideOf}
+use Rattle.table.proofs.Parents.{parent-child}
 use Rattle.certificate_bounds.proofs.Listing.{none-evaluated}
 use Rattle.sss_states.specs.declared.Status.the-variants.{Live}
 use Rattle.sss_turns.specs.{ofInner, ofChild}
-use Rattle.positions.proofs.Positions.{positioned-parent, positioned-side}
+use Rattle.table_positions.proofs.Positions.{positioned-parent, positioned-side}
 use Rattle.sss_turns.proofs.Taking.{live-inner, inner-none, solved-none}
 use Rattle.sss_turns.proofs.rules.of_state.Statement.{statement}
 use Rattle.sss_turns.proofs.rules.of_state.Tie as tie
