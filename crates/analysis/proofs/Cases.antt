@@ -1,8 +1,8 @@
 -- What the program prints for small files, computed from the definitions.
 use Rattle.prelude.proofs.{_≡_, refl, map}
 use Rattle.gametree.specs.{mtd}
-use Rattle.table.specs.{next, parentBefore, positionWithin, positionOf, childrenFrom, grow, treeAt, valuation}
-use Rattle.table.specs.{eachNode, framesRejection}
+use Rattle.table.specs.{next, parentBefore, positionWithin, positionOf, childrenFrom, grow, treeAt, valuation, eachNode}
+use Rattle.table.specs.{framesRejection}
 use Rattle.file_hex.specs.{digitOf}
 use Rattle.file_line.specs.{allDigits, isLine, hasLowercase, bytesOf, linesOf, decode}
 use Rattle.file_read.specs.{eachLine, fileRejection}

@@ -108,8 +108,8 @@ pub extern "C" fn buulset_convert(file: &[u8], converted: &mut [u8]) -> Answer
     flat_written(file_convert::convert(file, converted))
 }
 
-// `file_convert::output`: what `capitals` prints for the file in the buffer; `count` is its length in bytes. Where it is the
-// line of a refusal, that refusal is the answer's.
+// `file_convert::output`: what `capitals` prints for the file in the buffer; `count` is its length in bytes. Where it
+// is the line of a refusal, that refusal is the answer's.
 #[no_mangle]
 pub extern "C" fn buulset_capitals(file: &[u8], printed: &mut [u8]) -> Answer
     ensures { λ r. ⌜ r leaving now (printed .exit)

@@ -46,8 +46,8 @@ pub fn flat_written(answer: Written) -> Answer
     }
 }
 
-// Flattens what `file_convert::output` answers. Without room for what is printed it is refused with 10, and nothing is laid
-// down.
+// Flattens what `file_convert::output` answers. Without room for what is printed it is refused with 10, and nothing is
+// laid down.
 pub fn flat_printed(answer: Printed) -> Answer
     ensures { λ r. ⌜ r ≡ flatPrinted answer ⌝ }
 {

@@ -11,8 +11,8 @@ use Rattle.table.proofs.Asked.{each-passed, passed-each}
 use Rattle.table.proofs.Stated.{ask-yes, yes-ask, both-passed, passed-both}
 use Rattle.table.proofs.Acceptance.{accepted-formed}
 use Rattle.certificate_check.specs.declared.Verdict.the-variants.{Value}
-use Rattle.certificate_check.specs.{ruleHolds, treeValue, check11, checkTree, check14, treesRejection, flagsRejection}
-use Rattle.certificate_check.specs.{certificateRejection, judged, verdict}
+use Rattle.certificate_check.specs.{ruleHolds, treeValue, check11, checkTree, check14, treesRejection}
+use Rattle.certificate_check.specs.{flagsRejection, certificateRejection, judged, verdict}
 use Rattle.certificate_check.specs.Certificate.{Certificate}
 use Rattle.certificate_check.proofs.Rules.{rules-solve, solved-rules}
 use Rattle.certificate_check.proofs.Values.{tree-value-same}

@@ -32,7 +32,8 @@ ghost use Rattle.table.specs.Rejection.{answer};
 ghost use Rattle.table_positions.specs.engine.Positions.{Positioned};
 ghost use Rattle.certificate_check.specs.Flags.{member, requiredOf, ruleHolds};
 ghost use Rattle.certificate_check.specs.Value.{leafIn, treeValue};
-ghost use Rattle.certificate_check.specs.Check.{check11, checkTree, treesRejection, flagsRejection, judged, verdict};
+ghost use Rattle.certificate_check.specs.Check.{check11, checkTree, treesRejection, flagsRejection, judged};
+ghost use Rattle.certificate_check.specs.Check.{verdict};
 
 // The numbers of the questions about a certificate, by what a "no" means (SPEC 4.2).
 pub const WRONG_FLAG: u8 = 11;

@@ -14,7 +14,8 @@ ghost use lib.ListN.{length};
 ghost use Rattle.table.specs.Frame.{frames};
 ghost use Rattle.table.specs.Formed.{WellFormed};
 ghost use Rattle.certificate_check.specs.Check.{flagsRejection};
-ghost use Rattle.certificate_choice.specs.Choice.{flaggedLeaf, flaggedLeaves, choiceBy, choice, flagsBy, pointerBy};
+ghost use Rattle.certificate_choice.specs.Choice.{flaggedLeaf, flaggedLeaves, choiceBy, choice, flagsBy};
+ghost use Rattle.certificate_choice.specs.Choice.{pointerBy};
 ghost use Rattle.certificate_choice.specs.declared.Choice.the-variants.{First, Second};
 
 // Which of two certificates is handed back, or a rejection.

@@ -7,8 +7,8 @@ use Rattle.gametree.specs.declared.Side.the-variants.{Max, Min}
 use Rattle.gametree.specs.{Tree, other, minimax, minimaxChildren, known, worst, same, solutionOf}
 use Rattle.lists.proofs.Choice.{cond-cases}
 use Rattle.gametree_theory.proofs.certificates.ReadOff.{ReadOff, ReadEach, ReadFirst, read-root, fits}
-use Rattle.table.specs.{frames, firstChild, childCount, next, sideOf, childrenFrom, treeAt, tree, valuation}
-use Rattle.table.specs.{WellFormed, ChildOf}
+use Rattle.table.specs.{frames, firstChild, childCount, next, sideOf, childrenFrom, treeAt, tree, valuation, WellFormed}
+use Rattle.table.specs.{ChildOf}
 use Rattle.table.proofs.Parents.{top-down}
 use Rattle.table.proofs.Trees.{zero-or-suc, tree-inner, tree-number}
 use Rattle.table.proofs.Nodes.{tree-distinct}

@@ -13,11 +13,10 @@ use Rattle.table.specs.declared.Checked.the-variants.{Nodes, Rejected}
 use Rattle.table.proofs.Acceptance.{accepted-formed}
 use Rattle.table.proofs.Sides.{each-same, frames-before, rejection-before, side-parity, tree-before}
 use Rattle.file_line.specs.{decoded}
-use Rattle.file_read.specs.{fileCheck2, fileCheck3, fileCheck16, fileCheck10, fileRejection, readRejection}
-use Rattle.file_read.specs.{readOutcome}
+use Rattle.file_read.specs.{fileCheck2, fileCheck3, fileCheck16, fileCheck10, fileRejection, readRejection, readOutcome}
 use Rattle.file_read.proofs.Acceptance.{accepted-table}
-use Rattle.certificate_check.specs.{ruleHolds, checkTree, check11, check14, treesRejection, flagsRejection, certificateRejection}
-use Rattle.certificate_check.specs.{judged, verdict}
+use Rattle.certificate_check.specs.{ruleHolds, checkTree, check11, check14, treesRejection, flagsRejection}
+use Rattle.certificate_check.specs.{certificateRejection, judged, verdict}
 use Rattle.text.specs.{refusedLine}
 use Rattle.analysis.specs.{analysisOn, report}
 use Rattle.demands.specs.{zeroFile, ruleByDepth, treeRuleByDepth, verdictByDepth, reportByDepth}

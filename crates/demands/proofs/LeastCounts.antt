@@ -1,7 +1,7 @@
 -- The least a regular tree can cost (02: N12), sentence by sentence, over the definition that the contract of the call
 -- cites. "Hold a table of the 760 least counts .. The rule is shown over the whole table together": `whole_table` in
--- least_count/src/lib.rt, whose contract compares all entries at once; `carried` in least_count/proofs/Carried.antt says
--- what that is for one.
+-- least_count/src/lib.rt, whose contract compares all entries at once; `carried` in least_count/proofs/Carried.antt
+-- says what that is for one.
 use Rattle.prelude.proofs.{ℕ, _≤_, _<_, arith, le-trans, _≡_, ap, _⊎_, Bool, some, List}
 use Rattle.gametree.specs.{Certifies, pairLeaves}
 use Rattle.gametree_theory.proofs.minimax.Counts.{leaves-size, pairLeaves-all}

@@ -5,8 +5,8 @@ use Rattle.lists.proofs.Choice.{clash}
 use Rattle.table.specs.declared.Rejection.{Rejection}
 use Rattle.table.specs.{frameSize, maxTable, maxChildren, maxDepth, frames, childCount, next, depthOf, ask, _andThen_}
 use Rattle.table.specs.{eachNode, check1, check2, check3, check4, check5, check6, check7, check8, check9, check10}
-use Rattle.table.specs.{byte3Right, firstChildRight, valueRight, longEnough, checkNode, nodesRejection}
-use Rattle.table.specs.{depthsRejection, framesRejection, rejection}
+use Rattle.table.specs.{byte3Right, firstChildRight, valueRight, longEnough, checkNode, nodesRejection, depthsRejection}
+use Rattle.table.specs.{framesRejection, rejection}
 use Rattle.certificate_write.specs.{searchRejection}
 
 -- a "no" has a number other than 0

@@ -7,8 +7,8 @@ use Rattle.gametree.specs.{leaves as treeLeaves, minimax, Certifies, Smallest, 
 use Rattle.table.specs.declared.Rejection.{Rejection}
 use Rattle.table.specs.declared.Checked.the-variants.{Nodes, Rejected as RejectedTable}
 use Rattle.table.specs.{frameSize, maxDepth, frames, childCount, storedScore, depthOf, tree, valuation, valueOf}
-use Rattle.table.specs.{maxValue, Ordinary, Accepted, LowestDeep, rejectionBefore9, SameShape, Alternating}
-use Rattle.table.specs.{treeByDepth, RegularTable}
+use Rattle.table.specs.{maxValue, Ordinary, Accepted, LowestDeep, rejectionBefore9, SameShape, Alternating, treeByDepth}
+use Rattle.table.specs.{RegularTable}
 use Rattle.table.proofs.Sides.{tree-before}
 use Rattle.table.proofs.TreeOfTable.{ordinary-scores}
 use Rattle.file_hex.specs.{isCapitalDigit}

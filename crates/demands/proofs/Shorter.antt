@@ -1,7 +1,7 @@
 -- The shorter of two certificates (02: N13, of two proofs), sentence by sentence, over the definitions that the
--- contract of `certificate_choice::select` cites: `choice`, `flagsBy` (of the choice it is `chosenFlags`) and `pointerBy`. The
--- table is t, the lent certificates are f and s. Both are lent to be read only, and so keep their bytes. "the one with
--- fewer flagged leaves, the first on a tie": `fewer-leaves` in Sentences.antt.
+-- contract of `certificate_choice::select` cites: `choice`, `flagsBy` (of the choice it is `chosenFlags`) and
+-- `pointerBy`. The table is t, the lent certificates are f and s. Both are lent to be read only, and so keep their
+-- bytes. "the one with fewer flagged leaves, the first on a tie": `fewer-leaves` in Sentences.antt.
 use Rattle.prelude.proofs.{ℕ, _≡_, _⊎_, _↔_, some, List, [], length, take}
 use Rattle.gametree.specs.declared.Side.the-variants.{Max, Min}
 use Rattle.gametree.specs.{minimax, pairLeaves}
@@ -13,7 +13,8 @@ use Rattle.certificate_check.specs.Certificate.{Certificate}
 use Rattle.certificate_choice.specs.declared.Choice.the-variants.{First, Second, Rejected}
 use Rattle.certificate_choice.specs.{flaggedLeaves, choice, chosenFlags, pointerBy}
 use Rattle.certificate_choice.proofs.Leaves.{flagged-pair}
-use Rattle.certificate_choice.proofs.Theorems.{table-rejected, only-first, only-second, neither, handed-first, handed-second}
+use Rattle.certificate_choice.proofs.Theorems.{table-rejected, only-first, only-second, neither, handed-first}
+use Rattle.certificate_choice.proofs.Theorems.{handed-second}
 use Rattle.certificate_choice.proofs.Theorems.{handed-none, handed-size, handed-value, empty-refused, refused-first}
 
 -- a flagged leaf is a leaf of the max or the min solution tree, a shared one counted once

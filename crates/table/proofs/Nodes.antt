@@ -2,8 +2,8 @@
 use Rattle.prelude.proofs.{ℕ, zero, suc, _+_, _≤_, _<_, arith, _≡_, sym, ap, _∙_, subst, inl, inr, List}
 use Rattle.gametree.specs.{In, Distinct, DistinctChildren}
 use Rattle.gametree_theory.proofs.minimax.Nodes.{number-in}
-use Rattle.table.specs.{frames, firstChild, childCount, parentOf, depthOf, childrenFrom, treeAt, tree}
-use Rattle.table.specs.{WellFormed, ChildOf}
+use Rattle.table.specs.{frames, firstChild, childCount, parentOf, depthOf, childrenFrom, treeAt, tree, WellFormed}
+use Rattle.table.specs.{ChildOf}
 use Rattle.table.proofs.Next.{child-later, child-within}
 use Rattle.table.proofs.Parents.{parent-is, top-down, bottom-up}
 use Rattle.table.proofs.Positions.{depth-child}

@@ -7,8 +7,7 @@ use Rattle.table.specs.declared.Rejection.{Rejection}
 use Rattle.table.specs.{frames, firstChild, childCount, byte3, sameMover, parentOf, positionOf, depthOf, sideOf}
 use Rattle.table.specs.{node, treeAt, tree, WellFormed, ChildOf, _andThen_, eachNode, check1, check2, check3}
 use Rattle.table.specs.{check4, check5, check6, check7, check8, depthsRejection, framesRejection, rejection}
-use Rattle.table.specs.{Alternating, zeroCheck4, zeroFrames, zeroRejection, sideByDepth, growByDepth}
-use Rattle.table.specs.{treeByDepth}
+use Rattle.table.specs.{Alternating, zeroCheck4, zeroFrames, zeroRejection, sideByDepth, growByDepth, treeByDepth}
 use Rattle.table.proofs.Parents.{parent-less}
 use Rattle.table.proofs.Positions.{position-root, position-step, position-child, depth-child}
 use Rattle.table.proofs.Next.{child-later, child-within}

@@ -9,8 +9,8 @@ use Rattle.table.specs.{maxNodes, frames, childCount, parentBefore, parentOf, r
 use Rattle.table.specs.{depthOf, sideOf, WellFormed}
 use Rattle.table.proofs.Parents.{parent-is}
 use Rattle.table.proofs.Positions.{position-root, position-child, depth-at-most}
-use Rattle.table_positions.specs.{written, stored, sideCount, sideNumber, numberSide, packed, positionEntry, parentIn}
-use Rattle.table_positions.specs.{depthIn, sideIn, positionIn, Positioned}
+use Rattle.table_positions.specs.{written, stored, sideCount, sideNumber, numberSide, packed, positionEntry}
+use Rattle.table_positions.specs.{parentIn, depthIn, sideIn, positionIn, Positioned}
 use Rattle.table_positions.proofs.Buffers.{written-length, written-at}
 use Rattle.table_positions.proofs.TopDown.{Filled, filled-at, filled-step}
 

@@ -3,7 +3,8 @@ use Rattle.prelude.proofs.{_-_, arith, _≡_, sym, ap, _∙_, true, not-true, n
 use Rattle.table.specs.declared.Checked.the-variants.{Nodes}
 use Rattle.table_positions.proofs.Positions.{positioned-side}
 use Rattle.certificate_check.specs.{ruleHolds}
-use Rattle.certificate_check.proofs.Ruling.{Ruling, ruling-none, ruling-until, ruling-within, ruling-more, ruling-all}
+use Rattle.certificate_check.proofs.Ruling.{Ruling, ruling-none, ruling-until, ruling-within, ruling-more}
+use Rattle.certificate_check.proofs.Ruling.{ruling-all}
 use Rattle.certificate_check.proofs.check_rules.Statement.{statement}
 use Rattle.certificate_check.proofs.check_rules.Tie as tie
 

@@ -1,4 +1,5 @@
--- `certificate_choice::paired` meets its contract: a walk of its MIR by hand, since it makes a struct that holds a reference.
+-- `certificate_choice::paired` meets its contract: a walk of its MIR by hand, since it makes a struct that holds a
+-- reference.
 use Rattle.prelude.proofs.{_≡_, refl, subst, ℕ, List, [], _∷_, T as Holds, length, hasTy, vstruct, ofList}
 use ghost.Atoms.{sem}
 use types.Kit.{fjoin}

@@ -1,5 +1,6 @@
--- `certificate_choice::select` meets its contract: a walk of its MIR by hand, since it returns a struct that holds a reference.
--- Both certificates are lent for longer than the part is, and are shortened to its lifetime for the call of `flags`.
+-- `certificate_choice::select` meets its contract: a walk of its MIR by hand, since it returns a struct that holds a
+-- reference. Both certificates are lent for longer than the part is, and are shortened to its lifetime for the call of
+-- `flags`.
 use Rattle.prelude.proofs.{_≡_, refl, sym, ap, _∙_, ℕ, _+_, _-_, _*_, List, [], _∷_, length}
 use contract.BorrowLft.{_⊑_}
 use denote.Enum.Laws as EL

@@ -1,5 +1,5 @@
--- `certificate_write::write_certificate_at` meets its contract: the arrays hold the sides and the bounds, and the move and
--- the flags follow.
+-- `certificate_write::write_certificate_at` meets its contract: the arrays hold the sides and the bounds, and the move
+-- and the flags follow.
 use Rattle.prelude.proofs.{arith, needs}
 use Rattle.certificate_bounds.specs.{marked}
 use Rattle.certificate_write.proofs.Chosen.{Bounded, bounded, chosen-move}

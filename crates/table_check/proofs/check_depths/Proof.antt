@@ -2,7 +2,8 @@
 use Rattle.prelude.proofs.{_-_, _<_, arith, ap, _∙_, ⊎-elim, needs}
 use Rattle.table.specs.declared.Checked.the-variants.{Nodes}
 use Rattle.table.specs.{maxDepth, frames}
-use Rattle.table_check.proofs.Levels.{Descending, descending-none, descending-more, descending-until, descending-all}
+use Rattle.table_check.proofs.Levels.{Descending, descending-none, descending-more, descending-until}
+use Rattle.table_check.proofs.Levels.{descending-all}
 use Rattle.table_check.proofs.Levels.{Standing, visits, enters, stays, counts-within}
 use Rattle.table_check.proofs.check_depths.Statement.{statement}
 use Rattle.table_check.proofs.check_depths.Tie as tie

@@ -1,5 +1,5 @@
--- `worst_fill::fill_node` meets its contract. The number of frames from the node on falls with each call; at the head of
--- the loop stands `RankLoop`: the turns that are left make of the next rank and the table what is due.
+-- `worst_fill::fill_node` meets its contract. The number of frames from the node on falls with each call; at the head
+-- of the loop stands `RankLoop`: the turns that are left make of the next rank and the table what is due.
 use Rattle.prelude.proofs.{ℕ, _-_, _<_, arith, needs}
 use borrow.Fn.Kinds.{In}
 use borrow.Fn.PlainCycle.{Measures, is, falls, and}
