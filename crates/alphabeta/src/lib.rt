@@ -1,4 +1,6 @@
 // Alpha-beta over a byte table: the pass over the root's children, and what it finds.
+#![tactic(auto)]
+
 ghost use Rattle.std.specs.Prelude.{◌≡◌, ◌≤◌, length};
 ghost use Rattle.gametree.specs.AlphaBeta.{full_window};
 ghost use Rattle.gametree.specs.Move.{root_move_of};

@@ -1,5 +1,7 @@
 // Alpha-beta of a node and of what is below it, in a window: the leaves that it reaches are evaluated, from left to
 // right.
+#![tactic(auto)]
+
 ghost use Rattle.std.specs.Prelude.{◌≡◌, ◌+◌, set};
 ghost use Rattle.gametree.specs.AlphaBeta.{raise, lower, clamp, alpha_beta};
 ghost use Rattle.table.specs.Frame.{frames};

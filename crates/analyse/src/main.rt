@@ -1,4 +1,6 @@
 // The program: reads a tree file from standard input and writes its report to standard output.
+#![tactic(auto)]
+
 use input::Input;
 use libc::{STDERR_FILENO, STDOUT_FILENO};
 

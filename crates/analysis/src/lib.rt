@@ -1,4 +1,6 @@
 // The program's report: what it prints for a file, written piece by piece and returned by value.
+#![tactic(auto)]
+
 ghost use Rattle.std.specs.Prelude.{◌≡◌, [], ◌≤◌, length};
 ghost use Rattle.table.specs.Frame.{frames};
 ghost use Rattle.table.specs.Formed.{WellFormed};

@@ -1,4 +1,6 @@
 // The best line of play of a table, in one call: SSS* finds a certificate, and the line is read off it.
+#![tactic(auto)]
+
 ghost use Rattle.std.specs.Prelude.{◌≡◌, ◌++◌, ◌≤◌, length, drop};
 ghost use Rattle.table.specs.Frame.{frames};
 ghost use Rattle.table.specs.Check.{Accepted};

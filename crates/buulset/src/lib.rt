@@ -1,5 +1,7 @@
 // The calls for programs in other languages: numbers, byte slices, and answers by value. The comment of a call names
 // the call of the other crates that it makes, and what it gives; every other member of the answer is 0.
+#![tactic(auto)]
+
 ghost use Rattle.std.specs.Prelude.{◌≡◌, [], length};
 ghost use Rattle.table.specs.Rejection.{◌leaving◌};
 ghost use Rattle.table.specs.Check.{checked};

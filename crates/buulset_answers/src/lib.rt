@@ -1,5 +1,7 @@
 // The answers of the library for other languages: structs of numbers with the layout of C, and how each kind of answer
 // is made. Every member of an answer that is not given is 0.
+#![tactic(auto)]
+
 ghost use Rattle.std.specs.Prelude.{◌≡◌};
 ghost use Rattle.buulset_answers.specs.Answers.{result as result_of, counted as counted_of, valued as valued_of};
 ghost use Rattle.buulset_answers.specs.Answers.{found as found_of, moved as moved_of, spent as spent_of};

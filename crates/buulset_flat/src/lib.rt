@@ -1,4 +1,6 @@
 // What each call gives back, as an answer of numbers.
+#![tactic(auto)]
+
 ghost use Rattle.std.specs.Prelude.{◌≡◌};
 ghost use Rattle.buulset_flat.specs.Flat.{flat_checked, flat_written, flat_printed, flat_answer, flat_plain};
 ghost use Rattle.buulset_flat.specs.Flat.{flat_verdict, flat_least_value, flat_filled, flat_least, flat_choice};

@@ -1,5 +1,7 @@
 // The program: reads a tree file from standard input, lifts its letters a to f to capitals, and writes its tree's file
 // to standard output, or, where the file is still refused, the line of the refusal.
+#![tactic(auto)]
+
 use file::MAX_FILE;
 use file_convert::length_printed;
 use input::Input;

@@ -1,5 +1,7 @@
 // Runs the cases of standard input and prints their results. A case is a line with its title, the bytes of a file, and
 // a line with a call and its numbers; without that line it is the file's report (checks/README.md).
+#![tactic(auto)]
+
 mod made;
 mod numbers;
 

@@ -1,4 +1,6 @@
 // Evaluating leaves, and the bounds of every node that follow from the evaluated ones.
+#![tactic(auto)]
+
 ghost use Rattle.std.specs.Prelude.{◌≡◌, ℕ, ◌+◌, ◌-◌, ◌<◌, ◌≤◌, length, get_or, set};
 ghost use Rattle.gametree.specs.Trees.{least, greatest};
 ghost use Rattle.table.specs.Frame.{max_nodes, frames, two_bytes};

@@ -1,4 +1,6 @@
 // The check of a lent certificate (01: the proof check).
+#![tactic(auto)]
+
 ghost use Rattle.std.specs.Prelude.{◌≡◌, ◌+◌, ◌≤◌, ◌<◌, true, length};
 ghost use Rattle.lists.specs.Lists.{count_from};
 ghost use Rattle.gametree.specs.Certificate.{inside, same as same_side, worst as worst_of};

@@ -1,4 +1,6 @@
 // The certificate with fewer leaves, of two that are lent (02: the shorter of two proofs).
+#![tactic(auto)]
+
 ghost use Rattle.std.specs.Prelude.{◌≡◌, cond, ◌<◌, ◌≤◌, ltb, length};
 ghost use Rattle.table.specs.Frame.{frames};
 ghost use Rattle.table.specs.Formed.{WellFormed};

@@ -1,5 +1,7 @@
 // The flags of a certificate and the root move, read off the sides and the two bounds of every node, whatever the
 // arrays hold.
+#![tactic(auto)]
+
 ghost use Rattle.std.specs.Prelude.{◌≡◌, ℕ, ◌-◌, ◌<◌, ◌≤◌, cond, eqb, length, get_or};
 ghost use Rattle.table.specs.Frame.{frames, child_count};
 ghost use Rattle.table.specs.Formed.{WellFormed};

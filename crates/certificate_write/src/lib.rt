@@ -1,5 +1,7 @@
 // What every search shares: its questions, and what follows from the leaves that it evaluated, the certificate and the
 // root move.
+#![tactic(auto)]
+
 ghost use Rattle.std.specs.Prelude.{◌≡◌, [], ◌∷◌, ◌≤◌, min, length};
 ghost use Rattle.gametree.specs.Certificate.{flag};
 ghost use Rattle.gametree.specs.Move.{bound_move};

@@ -4,3 +4,4 @@
 // The other files have a statement for each further sentence, about the searches as they run or about these
 // definitions: a file for each demand and for most requests, and one for MTD(f). docs/THEOREMS.md lists them all. The
 // crate has no code.
+#![tactic(auto)]

@@ -1,5 +1,7 @@
 // Conversion of stored files (02: N7): the letters a to f are lifted to capitals, and the file is then read and
 // written.
+#![tactic(auto)]
+
 ghost use Rattle.std.specs.Prelude.{◌≡◌, ◌≤◌, length};
 ghost use Rattle.table.specs.Rejection.{◌leaving◌};
 ghost use Rattle.text.specs.Text.{refused_line};

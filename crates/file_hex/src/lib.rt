@@ -1,4 +1,6 @@
 // The number of a hexadecimal digit.
+#![tactic(auto)]
+
 ghost use Rattle.std.specs.Prelude.{◌≡◌, ◌*◌, ◌<◌, ◌≤◌, min};
 ghost use Rattle.file_hex.specs.Digit.{is_lowercase, no_digit, digit_of};
 ghost use Rattle.file_hex.specs.Engine.Kinds.{one_from, one_within};

@@ -1,4 +1,6 @@
 // One line of a file: its twelve digits, its frame, and the position past it.
+#![tactic(auto)]
+
 ghost use Rattle.std.specs.Prelude.{◌≡◌, ◌+◌, ◌≤◌, length, drop};
 ghost use Rattle.table.specs.Frame.{frame_size};
 ghost use Rattle.file_line.specs.Line.{line_digits, all_digits, has_lowercase, bytes_of, frame_of};

@@ -1,4 +1,6 @@
 // The reader of a file: its questions, and its frames in a table.
+#![tactic(auto)]
+
 ghost use Rattle.std.specs.Prelude.{◌≡◌, ◌≤◌, length};
 ghost use Rattle.std.proofs.Math.Option.{none};
 ghost use Rattle.table.specs.Rejection.{answer, ◌leaving◌};

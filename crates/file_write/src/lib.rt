@@ -1,4 +1,6 @@
 // The writer of a file: a line for each frame of an accepted table.
+#![tactic(auto)]
+
 ghost use Rattle.std.specs.Prelude.{◌≡◌, ◌++◌, ◌*◌, ◌<◌, ◌≤◌, length, drop};
 ghost use Rattle.table.specs.Frame.{frame_size, max_nodes, frames};
 ghost use Rattle.table.specs.Rejection.{◌leaving◌};

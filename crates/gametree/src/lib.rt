@@ -1,6 +1,8 @@
 // Game trees and the rules of the searches: definitions in specs/, small trees computed from them in proofs/; what
 // holds of them is in gametree_theory. The code holds what these and the searches share: two plain types, the
 // opponent, and the better of two scores.
+#![tactic(auto)]
+
 ghost use Rattle.std.specs.Prelude.{◌≡◌};
 ghost use Rattle.gametree.specs.Trees.{other as other_side, better as better_of};
 

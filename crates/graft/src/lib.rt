@@ -1,4 +1,6 @@
 // Grafting: the tree of a second table in place of a leaf of a first.
+#![tactic(auto)]
+
 ghost use Rattle.std.specs.Prelude.{◌≡◌, ◌++◌, cond, ℕ, ◌+◌, ◌*◌, ◌<◌, ◌≤◌, eqb, length, drop};
 ghost use Rattle.std.proofs.lemmas.List.Edits.{sets};
 ghost use Rattle.table.specs.Frame.{frame_size, max_nodes, two_bytes, frames, first_child, child_count};

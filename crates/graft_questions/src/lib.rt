@@ -1,4 +1,6 @@
 // The questions of a graft: may the tree of a second table take the place of a leaf of a first?
+#![tactic(auto)]
+
 ghost use Rattle.std.specs.Prelude.{◌≡◌, ◌&&◌, ◌<◌, ltb, eqb};
 ghost use Rattle.gametree.specs.declared.Side.TheVariants.{Max};
 ghost use Rattle.gametree.specs.Certificate.{same};

@@ -1,4 +1,6 @@
 // Standard input, read to its end.
+#![tactic(auto)]
+
 ghost use Rattle.input.specs.Input.{InputFits};
 
 use libc::STDIN_FILENO;

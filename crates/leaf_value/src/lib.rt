@@ -1,4 +1,6 @@
 // The smallest value of a leaf that gives the root a wanted value (02: what score would save it?).
+#![tactic(auto)]
+
 ghost use Rattle.std.specs.Prelude.{◌≡◌, ℕ, ◌<◌, ◌≤◌, true, leb, nat_abs, length, get_or};
 ghost use Rattle.gametree.specs.Trees.{greatest, Score};
 ghost use Rattle.table.specs.Frame.{max_depth, frames};

@@ -1,4 +1,6 @@
 // The least number of leaves that decide a regular tree, held as a table (SPEC 18; 02: N12).
+#![tactic(auto)]
+
 mod counts;
 
 ghost use Rattle.std.specs.Prelude.{◌≡◌, ◌<◌, ◌≤◌};

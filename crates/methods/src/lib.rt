@@ -1,4 +1,6 @@
 // What every search shares: the methods, the one answer, and the one place where a search writes its certificate.
+#![tactic(auto)]
+
 ghost use Rattle.std.specs.Prelude.{◌≡◌, ◌≤◌, length};
 ghost use Rattle.table.specs.Frame.{frames};
 ghost use Rattle.table.specs.Formed.{WellFormed};

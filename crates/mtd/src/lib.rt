@@ -1,4 +1,6 @@
 // MTD over a byte table: passes with falling tests, each asking whether the root is below its test.
+#![tactic(auto)]
+
 ghost use Rattle.std.specs.Prelude.{◌≡◌, ◌<◌, ◌≤◌, length, get_or};
 ghost use Rattle.gametree.specs.Mtd.{mtd};
 ghost use Rattle.table.specs.Frame.{frames};

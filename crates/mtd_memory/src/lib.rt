@@ -1,5 +1,7 @@
 // MTD's memory, marks, highs and what was found not below, over node numbers: what a pass sees of a node, what it
 // does at a leaf, and what a node keeps.
+#![tactic(auto)]
+
 ghost use Rattle.std.specs.Prelude.{◌≡◌, true, false, cond, ◌||◌, [], ◌∷◌, ℕ, ◌+◌, ◌-◌, ◌<◌, ◌≤◌, leb, eqb, length, get_or, set};
 ghost use Rattle.gametree.specs.Mtd.{settles as settles_of};
 ghost use Rattle.table.specs.Frame.{max_nodes, frames, child_count};

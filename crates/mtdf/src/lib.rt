@@ -1,6 +1,8 @@
 // MTD(f) over a byte table: the starting value never changes the value or the move that is found, only how many leaves
 // it takes; nothing is guessed past the leaves. The root is tested until its bounds meet; then its children are tested
 // for the first move.
+#![tactic(auto)]
+
 ghost use Rattle.std.specs.Prelude.{◌≡◌, cond, false, ℕ, suc, ◌<◌, ◌≤◌, length, get_or};
 ghost use Rattle.gametree.specs.Trees.{greatest};
 ghost use Rattle.gametree.specs.AlphaBeta.{clamp};

@@ -1,5 +1,7 @@
 // The test of a node in MTD(f), and of what is below it: leaves are evaluated, and every node that was entered keeps
 // the best of its children's lows and highs.
+#![tactic(auto)]
+
 ghost use Rattle.std.specs.Prelude.{◌≡◌, ◌+◌, ◌<◌, length, set};
 ghost use Rattle.table.specs.Frame.{child_count};
 ghost use Rattle.table.specs.Tree.{tree_at, valuation};

@@ -1,5 +1,7 @@
 // The plain engine over a byte table: minimax without cuts. Max's turn asks Min's turn for each child, and Min's turn
 // asks Max's; where the same side moves again, a turn asks itself.
+#![tactic(auto)]
+
 ghost use Rattle.std.specs.Prelude.{◌≡◌, [], ◌≤◌, length};
 ghost use Rattle.gametree.specs.Trees.{minimax, leaves};
 ghost use Rattle.table.specs.Frame.{frames};

@@ -1,1 +1,2 @@
 // The kit's names that proofs use, so that a file takes them from one place. The crate has no code.
+#![tactic(auto)]

@@ -1,4 +1,6 @@
 // One search: a tree is searched by the method that is asked for, its certificate is written, and the answer is given.
+#![tactic(auto)]
+
 ghost use Rattle.std.specs.Prelude.{◌≡◌, ◌≤◌, length};
 ghost use Rattle.table.specs.Frame.{frames};
 ghost use Rattle.table.specs.Formed.{WellFormed};

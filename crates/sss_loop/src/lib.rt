@@ -1,5 +1,7 @@
 // SSS*'s run over the lent list: turn by turn the best entry is taken and replaced; a front of greatest merits leads
 // to it.
+#![tactic(auto)]
+
 mod list;
 
 ghost use Rattle.std.specs.Prelude.{◌≡◌};

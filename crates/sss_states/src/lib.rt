@@ -1,5 +1,7 @@
 // The states of SSS*, and their front: for each node that is, or has below it, a listed state, the greatest merit in
 // its subtree and the child to go down to, packed in one u32.
+#![tactic(auto)]
+
 ghost use Rattle.std.specs.Prelude.{◌≡◌, ◌+◌, ◌-◌, ◌≤◌, ◌<◌, length};
 ghost use Rattle.gametree.specs.Trees.{greatest};
 ghost use Rattle.table.specs.Frame.{max_nodes, frames};

@@ -1,4 +1,6 @@
 // One turn of the run: the state that is taken is replaced, or ends the run.
+#![tactic(auto)]
+
 mod rules;
 
 ghost use Rattle.std.specs.Prelude.{◌≡◌, ◌<◌, ◌≤◌};

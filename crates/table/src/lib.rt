@@ -1,4 +1,6 @@
 // Byte tables of six-byte frames: a node's children, the fields of a frame, and what is asked of one node.
+#![tactic(auto)]
+
 ghost use Rattle.std.specs.Prelude.{◌≡◌, ◌<◌, ◌≤◌, nat_abs};
 ghost use Rattle.gametree.specs.Trees.{greatest, zero_score};
 ghost use Rattle.table.specs.Frame.{frame_size, max_nodes, frames, next as next_of, two_bytes};

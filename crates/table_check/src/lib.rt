@@ -1,4 +1,6 @@
 // The check of a table: questions 1 to 9 in order.
+#![tactic(auto)]
+
 ghost use Rattle.std.specs.Prelude.{◌≡◌, ◌+◌, ◌*◌, ◌<◌, ◌≤◌};
 ghost use Rattle.table.specs.Frame.{max_nodes, max_children, frames, next as next_of};
 ghost use Rattle.table.specs.Formed.{WellFormed};

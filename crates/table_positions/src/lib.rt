@@ -1,4 +1,6 @@
 // Where the nodes of a table stand: a work array with each node's parent, depth and side in one number.
+#![tactic(auto)]
+
 ghost use Rattle.std.specs.Prelude.{◌≡◌, ◌-◌, ◌<◌, ◌≤◌, length};
 ghost use Rattle.table.specs.Frame.{max_nodes, frames};
 ghost use Rattle.table.specs.Position.{child_position};

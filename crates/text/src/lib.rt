@@ -1,4 +1,6 @@
 // Text written piece by piece: words, numbers in base ten, and the line of a rejection, which is returned by value.
+#![tactic(auto)]
+
 ghost use Rattle.std.specs.Prelude.{◌≡◌, ◌∷◌, [], nat_abs};
 ghost use Rattle.text.specs.Text.{space, decimal, signed_decimal, refused_line, TextRoom, Put, text_of};
 

@@ -1,5 +1,7 @@
 // The worst-case filling: the ranks 0, 1, 2 and so on at the leaves of a table, so that alpha-beta evaluates every
 // leaf.
+#![tactic(auto)]
+
 ghost use Rattle.std.specs.Prelude.{◌≡◌, ◌+◌, ◌<◌, length};
 ghost use Rattle.gametree.specs.Trees.{leaves};
 ghost use Rattle.table.specs.Frame.{max_nodes, frames, two_bytes};
