@@ -45,7 +45,7 @@ pub fn find(table: &[u8], evaluated: &mut [u8], order: &mut [u16]) -> Findings
 
 // What the engine gives for the whole tree: alpha at its end, the last child that raised it, and how many leaves are
 // evaluated.
-#[derive(Drop)]
+#[derive(Clone, Copy)]
 struct RootVisit {
     alpha: u32,
     root_move: usize,

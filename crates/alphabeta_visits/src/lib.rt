@@ -16,7 +16,7 @@ use gametree::{Position, Side, better};
 use table::{child_count, child_position, first_child};
 
 // What the engine gives for a subtree: its score in the window, and how many leaves are evaluated by then.
-#[derive(Drop)]
+#[derive(Clone, Copy)]
 pub struct Visited {
     pub score: u32,
     pub leaves: usize,

@@ -19,7 +19,7 @@ use variation::LineFound;
 // The answer of a call. `refused` is 0, or the number of the first question that got a "no", and then `place` is its
 // place.
 #[repr(C)]
-#[derive(Drop)]
+#[derive(Clone, Copy)]
 pub struct Answer {
     pub refused: u8,
     // 1 where its allowance ended the run of SSS*
@@ -36,7 +36,7 @@ pub struct Answer {
 
 // Which of two certificates is chosen, 1 or 2, and how many flags of it count, from its front; or a refusal.
 #[repr(C)]
-#[derive(Drop)]
+#[derive(Clone, Copy)]
 pub struct Choice {
     pub refused: u8,
     pub chosen: u8,
@@ -46,7 +46,7 @@ pub struct Choice {
 
 // The children of a node: the number of the first, and how many there are; zeros where there are none.
 #[repr(C)]
-#[derive(Drop)]
+#[derive(Clone, Copy)]
 pub struct Children {
     pub first: usize,
     pub count: usize,
@@ -54,7 +54,7 @@ pub struct Children {
 
 // A line: 1 in `read`, its six bytes and the position past it; or zeros and the position as it was.
 #[repr(C)]
-#[derive(Drop)]
+#[derive(Clone, Copy)]
 pub struct Line {
     pub bytes: [u8; FRAME_SIZE],
     pub read: u8,
@@ -63,7 +63,7 @@ pub struct Line {
 
 // A text: its bytes, as many as `length` says, and zeros behind them.
 #[repr(C)]
-#[derive(Drop)]
+#[derive(Clone, Copy)]
 pub struct Text {
     pub bytes: [u8; TEXT_SIZE],
     pub length: usize,

@@ -42,7 +42,7 @@ pub fn evaluate(table: &[u8], evaluated: &mut [u8], node: usize, depth: u32) -> 
 }
 
 // What the evaluation of a leaf gives: its score, and how many leaves are evaluated now.
-#[derive(Drop)]
+#[derive(Clone, Copy)]
 pub struct Evaluation {
     pub score: u32,
     pub leaves: usize,
@@ -82,7 +82,7 @@ pub fn clear(evaluated: &mut [u8], n: usize)
 }
 
 // The two bounds of a node.
-#[derive(Drop)]
+#[derive(Clone, Copy)]
 struct Interval {
     low: u32,
     high: u32,

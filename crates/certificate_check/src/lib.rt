@@ -34,7 +34,7 @@ pub const UNEQUAL_VALUES: u8 = 14;
 const FEW_NODES: usize = 512;
 
 // The answer: the value that the certificate proves, or a rejection.
-#[derive(Drop)]
+#[derive(Clone, Copy)]
 pub enum Verdict {
     Value(i16),
     Rejected(Rejection),
@@ -199,7 +199,7 @@ fn required(side: Side, mover: Side, count: usize) -> usize
 }
 
 // The values of the two trees: the greatest score of the max tree's leaves, the least of the min tree's.
-#[derive(Drop)]
+#[derive(Clone, Copy)]
 struct TreeValues {
     greatest: u32,
     least: u32,

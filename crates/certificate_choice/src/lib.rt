@@ -14,7 +14,7 @@ use table::{Checked, Rejection, child_count, frame_count};
 use table_check::check;
 
 // Which of two certificates is handed back, or a rejection.
-#[derive(Drop)]
+#[derive(Clone, Copy)]
 pub enum Choice {
     First,
     Second,
@@ -23,7 +23,7 @@ pub enum Choice {
 
 // What is handed back of two certificates: the flags of the chosen one, one a node, as a part of its own memory, and
 // which one it is; on a rejection an empty part, and the rejection.
-#[derive(Drop)]
+#[derive(Clone, Copy)]
 pub struct Selection<'r> {
     pub flags: &'r [u8],
     pub choice: Choice,

@@ -19,7 +19,7 @@ use table_check::check_frames;
 
 // What is printed for a file, with its length in bytes: the converted file, or the line of a refusal; or that there is
 // no room for it.
-#[derive(Drop)]
+#[derive(Clone, Copy)]
 pub enum Printed {
     File(usize),
     Line(Rejection, usize),

@@ -24,7 +24,7 @@ pub const LINE_SIZE: usize = LINE_DIGITS + 1;
 const ABREAST: usize = 16;
 
 // A node's six bytes (01: a frame).
-#[derive(Drop)]
+#[derive(Clone, Copy)]
 pub struct Frame {
     pub byte0: u8,
     pub byte1: u8,
@@ -35,13 +35,13 @@ pub struct Frame {
 }
 
 // A position in a file (01: the reading position).
-#[derive(Drop)]
+#[derive(Clone, Copy)]
 pub struct Cursor {
     pub at: usize,
 }
 
 // What reading one line finds: its frame with the position past it, or no line with the position as it was.
-#[derive(Drop)]
+#[derive(Clone, Copy)]
 pub enum Line {
     Read(Frame, Cursor),
     NoLine(Cursor),

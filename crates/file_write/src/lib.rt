@@ -36,7 +36,7 @@ const DIGIT_PAIRS: [u8; PAIRS_SIZE] = *b"\
     F0F1F2F3F4F5F6F7F8F9FAFBFCFDFEFF";
 
 // The answer of the writer: the file's length in bytes, or the first question that got a "no".
-#[derive(Drop)]
+#[derive(Clone, Copy)]
 pub enum Written {
     Length(usize),
     Rejected(Rejection),

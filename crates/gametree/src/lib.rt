@@ -7,14 +7,14 @@ ghost use Rattle.std.specs.Prelude.{◌≡◌};
 ghost use Rattle.gametree.specs.Trees.{other as other_side, better as better_of};
 
 // Who moves at an inner node.
-#[derive(Drop)]
+#[derive(Clone, Copy)]
 pub enum Side {
     Max,
     Min,
 }
 
 // Where a node stands: its depth (the root has 0), and who moves there. (A rejection has a place: SPEC 4.1.)
-#[derive(Drop)]
+#[derive(Clone, Copy)]
 pub struct Position {
     pub depth: u32,
     pub side: Side,

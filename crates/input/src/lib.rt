@@ -6,7 +6,7 @@ ghost use Rattle.input.specs.Input.{InputFits};
 use libc::STDIN_FILENO;
 
 // What reading gives: how many bytes the input has, as far as there is room for them, or that a read failed.
-#[derive(Drop)]
+#[derive(Clone, Copy)]
 pub enum Input {
     Bytes(usize),
     Failed,

@@ -34,7 +34,7 @@ const MAX_VALUE: i32 = 32000;
 const FIRST: u32 = LEAST + 1;
 
 // The answer: the smallest value of the leaf that gives the root the wanted one, or a rejection.
-#[derive(Drop)]
+#[derive(Clone, Copy)]
 pub enum LeastValue {
     Value(i16),
     Rejected(Rejection),

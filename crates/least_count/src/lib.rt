@@ -19,7 +19,7 @@ pub const WRONG_WIDTH: u8 = 22;
 pub const WRONG_DEPTH: u8 = 23;
 
 // The answer: how many leaves, or the first question that got a "no".
-#[derive(Drop)]
+#[derive(Clone, Copy)]
 pub enum Least {
     Leaves(u16),
     Rejected(Rejection),

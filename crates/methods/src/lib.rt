@@ -12,7 +12,7 @@ use table::Rejection;
 
 // How a tree is searched: by alpha-beta, by MTD, by MTD(f) from a starting value, or by SSS* within an allowance of
 // leaves.
-#[derive(Drop)]
+#[derive(Clone, Copy)]
 pub enum Method {
     AlphaBeta,
     Mtd,
@@ -22,7 +22,7 @@ pub enum Method {
 
 // What a search finds: the minimax value, the first root move that reaches it (0 for a leaf), how many leaves were
 // evaluated, and how many passes, tests or replacements were made (0 for alpha-beta).
-#[derive(Drop)]
+#[derive(Clone, Copy)]
 pub struct Findings {
     pub value: i16,
     pub root_move: usize,
@@ -32,7 +32,7 @@ pub struct Findings {
 
 // What a search gives if its allowance of leaves stopped it: the merit, as a value, of the state whose leaf could not
 // be evaluated, and the counts so far.
-#[derive(Drop)]
+#[derive(Clone, Copy)]
 pub struct Spent {
     pub merit: i32,
     pub leaves: usize,
@@ -40,7 +40,7 @@ pub struct Spent {
 }
 
 // The answer of a call: what was found, that the allowance is spent, or the first question that got a "no".
-#[derive(Drop)]
+#[derive(Clone, Copy)]
 pub enum Answer {
     Found(Findings),
     Spent(Spent),

@@ -46,7 +46,7 @@ pub fn find(table: &[u8], evaluated: &mut [u8], order: &mut [u16]) -> Findings
 
 // What the passes end with: the test that the root is not below, the first child whose high is the root's, how many
 // leaves were evaluated, and how many passes were made.
-#[derive(Drop)]
+#[derive(Clone, Copy)]
 struct Settled {
     score: u32,
     root_move: usize,

@@ -25,14 +25,14 @@ const FEW: usize = 4;
 
 // What a node that was tried gives: the answer, true where the node is not below the test, and how many leaves are
 // evaluated by then.
-#[derive(Drop)]
+#[derive(Clone, Copy)]
 pub struct Tried {
     pub answer: bool,
     pub leaves: usize,
 }
 
 // What a look at a node gives: the node's answer, or that the pass has to enter it.
-#[derive(Drop)]
+#[derive(Clone, Copy)]
 pub enum Seen {
     Answered(Tried),
     Open,
@@ -80,7 +80,7 @@ pub fn look(
 }
 
 // The children that a pass has to try: those from `from` up to `to`.
-#[derive(Drop)]
+#[derive(Clone, Copy)]
 pub struct Tries {
     pub from: usize,
     pub to: usize,
@@ -169,7 +169,7 @@ pub fn first_not_below(highs: &[u32], from: usize, end: usize, test: u32) -> usi
 }
 
 // What a node keeps: its high, and its entry of `not_below`.
-#[derive(Drop)]
+#[derive(Clone, Copy)]
 pub struct Kept {
     pub high: u32,
     pub entry: u16,
@@ -308,7 +308,7 @@ fn lead_entry(lead: usize, second: usize) -> u16
 
 // The child with the greatest high, and the one with the greatest of the other highs, with these highs; the same child
 // twice, and 0, where there is no other high.
-#[derive(Drop)]
+#[derive(Clone, Copy)]
 struct TwoBest {
     lead: usize,
     second: usize,

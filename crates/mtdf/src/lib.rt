@@ -53,7 +53,7 @@ fn start_score(start: i32) -> u32
 
 // What the tests of the root end with: the score at which its bounds meet, how many leaves were evaluated, and how many
 // tests there were.
-#[derive(Drop)]
+#[derive(Clone, Copy)]
 struct Met {
     score: u32,
     leaves: usize,

@@ -16,7 +16,7 @@ use table::{child_count, child_position, first_child};
 
 // What a node that was tested gives: the answer, true where the node is not below the test, and how many leaves are
 // evaluated by then.
-#[derive(Drop)]
+#[derive(Clone, Copy)]
 pub struct Tried {
     pub answer: bool,
     pub leaves: usize,
@@ -52,7 +52,7 @@ pub fn visit(
 }
 
 // What a look at a node gives: the node's answer, or that it has to be entered.
-#[derive(Drop)]
+#[derive(Clone, Copy)]
 pub enum Seen {
     Answered(Tried),
     Open,

@@ -26,14 +26,14 @@ use table::{
 const DEPTH: u32 = MAX_DEPTH as u32;
 
 // What the plain engine finds: the minimax value, and the first root move that reaches it (0 for a leaf).
-#[derive(Drop)]
+#[derive(Clone, Copy)]
 pub struct PlainResult {
     pub value: i16,
     pub root_move: usize,
 }
 
 // The answer of a call: what was found, or the first question that got a "no".
-#[derive(Drop)]
+#[derive(Clone, Copy)]
 pub enum PlainAnswer {
     Found(PlainResult),
     Rejected(Rejection),

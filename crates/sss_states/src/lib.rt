@@ -16,14 +16,14 @@ use table::{MAX_NODES, child_count, first_child};
 use table_positions::{parent_at, side_at};
 
 // LIVE and SOLVED (SPEC 10.1).
-#[derive(Drop)]
+#[derive(Clone, Copy)]
 pub enum Status {
     Live,
     Solved,
 }
 
 // An entry of the lent list (SPEC 10.6): a state, with its merit as a value.
-#[derive(Drop)]
+#[derive(Clone, Copy)]
 pub struct State {
     pub node: u16,
     pub status: Status,
@@ -43,7 +43,7 @@ pub fn blank() -> State
 
 // What replaces a state: `count` nodes from `first` on get a state with this status and score; nothing changes but at
 // and below `node`.
-#[derive(Drop)]
+#[derive(Clone, Copy)]
 pub struct Change {
     pub node: usize,
     pub first: usize,

@@ -19,14 +19,14 @@ use sss_states::{Change, State, Status, descend, put, refresh_ancestors};
 use table::{SIGNED_ZERO_SCORE, child_count, frame_count, score_of};
 
 // What an entry becomes: a state of its own node, or blank.
-#[derive(Drop)]
+#[derive(Clone, Copy)]
 pub enum Content {
     Own { status: Status, merit: i32 },
     Blank,
 }
 
 // What `count` entries from `first` on become.
-#[derive(Drop)]
+#[derive(Clone, Copy)]
 pub struct Update {
     pub first: usize,
     pub count: usize,
@@ -34,7 +34,7 @@ pub struct Update {
 }
 
 // Evaluated leaves, replacements, how many leaves may be evaluated, and the node whose state was replaced last.
-#[derive(Drop)]
+#[derive(Clone, Copy)]
 pub struct Counts {
     pub leaves: usize,
     pub replacements: usize,
@@ -44,7 +44,7 @@ pub struct Counts {
 
 // Whether a run goes on, has taken the SOLVED root, or has taken a leaf's state that its allowance does not cover; at
 // its end it holds the score of the merit of the state that was taken last.
-#[derive(Drop)]
+#[derive(Clone, Copy)]
 pub enum Stage {
     Going,
     Finished(u32),
@@ -52,7 +52,7 @@ pub enum Stage {
 }
 
 // The run between two replacements: its stage, which entry is best, the counts, and what the list is to become.
-#[derive(Drop)]
+#[derive(Clone, Copy)]
 pub struct Run {
     pub stage: Stage,
     pub best: usize,

@@ -17,7 +17,7 @@ use table::{child_count, first_child};
 use table_positions::{depth_at, parent_at, side_at};
 
 // What replaces a state, and how many leaves are evaluated then.
-#[derive(Drop)]
+#[derive(Clone, Copy)]
 pub struct Replacement {
     pub change: Change,
     pub leaves: usize,

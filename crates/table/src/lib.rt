@@ -75,14 +75,14 @@ pub const TOO_DEEP: u8 = 9;
 pub const SHORT_BUFFER: u8 = 10;
 
 // A rejection (01: the first "no"): the question's number and a place (SPEC 4.1).
-#[derive(Drop)]
+#[derive(Clone, Copy)]
 pub struct Rejection {
     pub number: u8,
     pub place: usize,
 }
 
 // The answer of a check: the number of nodes, or a rejection.
-#[derive(Drop)]
+#[derive(Clone, Copy)]
 pub enum Checked {
     Nodes(usize),
     Rejected(Rejection),

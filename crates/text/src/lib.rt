@@ -21,7 +21,7 @@ const DIGIT_ZERO: usize = b'0' as usize;
 const TEN: usize = 10;
 
 // The text of a report: `length` bytes, then zeros.
-#[derive(Drop)]
+#[derive(Clone, Copy)]
 pub struct Text {
     pub bytes: [u8; TEXT_SIZE],
     pub length: usize,

@@ -16,7 +16,7 @@ use table::{Checked, FRAME_SIZE, Rejection, child_count, child_side, first_child
 use table_check::check;
 
 // The answer of a call: the number of leaves, or the first question that got a "no".
-#[derive(Drop)]
+#[derive(Clone, Copy)]
 pub enum Filled {
     Leaves(usize),
     Rejected(Rejection),

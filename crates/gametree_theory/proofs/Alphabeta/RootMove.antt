@@ -40,7 +40,7 @@ raiser-first : (ν : ℕ → ℕ) (α k : ℕ) (ks : Children)
 unfolding raiser
 raiser-first ν α k (last t) = rw (eq-eqb (minimax ν t) (minimax ν t) refl) refl
 raiser-first ν α k (t then ts) =
-    raiser-first ν _ _ ts
+    raiser-first ν (max α (minimax ν t)) _ ts
     ∙ first-raiser α (minimax ν t) (minimax_children ν Max ts) (number t) k (λ v. first_with (minimax ν) v ts)
 
 -- so from the least score on it is the root move

@@ -77,7 +77,9 @@ test_children-shows ν γ w (t then ts) h d k =
     (confirmed-high γ r.not_below _ _ a (test-confirmed ν γ w t h.0))
     (waits-settled ν γ Min w r.evaluated t ts o k.2)))
     (λ e a.
-    rw (← append_assoc w r.evaluated q.evaluated)
+    subst
+    (λ x. Shows ν (among x) (minimax_children (known ν (among x) greatest) Min (t then ts)) (t then ts))
+    (append_assoc w r.evaluated q.evaluated)
     (let i = confirmed-low γ r.not_below _ _ (not-false _ e) (test-confirmed ν γ w t h.0) in
     let l = low-rises ν (among v) E (among-left v q.evaluated) t in
     let b = bounds≤ ν E t h.0 in
