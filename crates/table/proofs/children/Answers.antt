@@ -1,9 +1,8 @@
 -- `children` meets its contract: one lemma for each of its three returns.
 use Rattle.prelude.proofs.{ℕ, ◌+◌, ◌*◌, ◌-◌, ◌<◌, ◌≤◌, arith, ◌≡◌, ap, List, [], take, drop, lt-ltb, le-ltb, le-leb}
-use Rattle.prelude.proofs.{lt-leb, needs}
+use Rattle.prelude.proofs.{lt-leb}
 use Rattle.table.specs.{frame_size, frames, first_child, child_count, children_of, children_at}
-use Rattle.table.proofs.children.Statement.{statement}
-use Rattle.table.proofs.children.Tie as tie
+use Rattle.table.proofs.children.Goals as goal
 
 -- a part that begins 0 bytes behind a pointer begins there
 same-pointer : (p : ℕ × ℕ) → ◌≡◌ {A = ℕ × ℕ} (p.0, 0 + p.1) p
@@ -31,19 +30,13 @@ module _ (p : ℕ × ℕ) (t : List ℕ) (i f k : ℕ) (h : i < frames t) (a : f
       let l : frame_size * (f + k) - frame_size * f ≡ frame_size * k = omega arith in
       (rw (lt-ltb _ _ h, ← a, ← b, le-leb _ _ r, l), rw (lt-ltb _ _ h, ← a, ← b, le-leb _ _ r))
 
-returns-2 : tie.Need-returns-2
-returns-2 c =
-    let k = c.before.before.before in
-    inside _ _ _ _ _ (omega arith) k.before.first-child.ensures.0 k.child-count.ensures.0 (omega arith)
+pub returns-then-frame_count-node : goal.returns-then-frame_count-node
+returns-then-frame_count-node c = past _ _ _ (omega arith)
 
-returns-3 : tie.Need-returns-3
-returns-3 c =
-    let k = c.before.before.before in
-    over _ _ _ _ _ (omega arith) k.before.first-child.ensures.0 k.child-count.ensures.0 (omega arith)
+pub returns-then-end-frame_count : goal.returns-then-end-frame_count
+returns-then-end-frame_count c =
+    inside _ _ _ _ _ (omega arith) c.first_child-first.ensures.0 c.child_count.ensures.0 (omega arith)
 
-pub children-spec : {M : Type 1} → statement M
-children-spec =
-    tie.close (tie.spec (λ c κs. search needs) (λ c. search needs) (λ c. search needs) (λ c. search needs)
-    (λ c. past _ _ _ (omega arith)) (λ c κs. search needs) (λ c κs. search needs) (λ c. search needs)
-    (λ c κs. search needs) (λ c. search needs) (λ c. search needs) (λ c. search needs) (λ c. search needs)
-    (λ c. search needs) (λ c. search needs) (λ c. search needs) (λ c. search needs) returns-2 returns-3)
+pub returns-else-end-frame_count : goal.returns-else-end-frame_count
+returns-else-end-frame_count c =
+    over _ _ _ _ _ (omega arith) c.first_child-first.ensures.0 c.child_count.ensures.0 (omega arith)
