@@ -79,8 +79,8 @@ unfolding up_from
 up-set f i zero j k v h e = absurd (omega arith)
 up-set f i (suc n) zero k v h e =
     let same : k ≡ i = omega arith in
-    rw same (ap₂ ◌∷◌ (sym (put_same f i v))
-    (up_same f (put f i v) (i + 1) n (λ m l _. sym (put_other f i v m (λ q. omega arith)))))
+    ap₂ ◌∷◌ (rw same (sym (put_same f i v)))
+    (up_same f (put f k v) (i + 1) n (λ m l _. sym (put_other f k v m (λ q. omega arith))))
 up-set f i (suc n) (suc j) k v h e =
     ap₂ ◌∷◌ (sym (put_other f k v i (λ q. omega arith))) (up-set f (i + 1) n j k v (omega arith) (omega arith))
 
