@@ -1,6 +1,6 @@
 -- The names that a walk by hand uses: those of the program logic, and the steps of this crate.
 pub use seplogic.Ra.Ura.{Ura}
-pub use seplogic.Ra.TreeShare.{full_share}
+pub use base.Fraction.{full_share}
 pub use mir.Syntax.{Ty, named, erased, imm, mut, w8, w16, w32, w64, ty_int, ty_bool, ty_ref, ty_unit, ty_ptr}
 pub use mir.Val.{Val, vbool, vint, vunit}
 pub use base.Logic.{SProp, ent, emp, via, id⊢, fst∗}
@@ -12,10 +12,11 @@ unfoldable pub use prog.Wp.{after_turn}
 pub use ghost.Atoms.{Atoms}
 pub use contract.Lifetimes.{Lfts, Shares}
 pub use contract.Monad.{Fun, fact_i}
-pub use contract.Running.{given_of, tables}
+pub use contract.Running.{tables}
 unfoldable pub use contract.Running.{tables_of}
 pub use sound.WpLaws.{fm_of}
-pub use types.Kit.{Given, Item, ‵, ⋆, runs, any_q, at_ret, Sq, ◌$◌, ◌∵◌, !, qed, by, move, keep, drop, group, rewrite}
+pub use types.Logic.{Logic}
+pub use types.Kit.{Item, ‵, ⋆, runs, any_q, at_ret, Sq, ◌$◌, ◌∵◌, !, qed, by, move, keep, drop, group, rewrite}
 pub use types.Kit.{suffices, frame, done, fsplit, feq_l, feq_i}
 pub use types.Run.{look, store, init, forget, stop, from, and_then, no_more, of_opd, assigns_last, land, first, blocks}
 pub use types.Run.{stays, leaves_loop, returns, enter, alloc1, alloc0, params1, pass1, pass0, exec, Below, again, loops}
