@@ -17,7 +17,7 @@ use variation::{VariationAnswer, principal};
 // Questions 1 to 9 of the table and 10 of the lent list, then the value, and the nodes of the best line of play, the
 // root first, in the first entries of the list; after a rejection the list is as it was.
 pub fn line(table: &[u8], line: &mut [u16]) -> LineAnswer
-    ensures { result leaving (λ x. x.now) line.exit ≡ line_outcome table.now line.old }
+    ensures { result leaving line.new ≡ line_outcome table.now line.old }
 {
     match ask(table, line.len()) {
         Checked::Nodes(_) => LineAnswer::Found(find(table, line)),

@@ -53,7 +53,7 @@ pub extern "C" fn buulset_version() -> u32
 // `file::read`: the file's frames in the table; `count` is the number of nodes.
 #[unsafe(no_mangle)]
 pub extern "C" fn buulset_read(file: &[u8], table: &mut [u8]) -> Answer
-    ensures { result leaving (λ x. x.now) table.exit
+    ensures { result leaving table.new
         ≡ flat_by flat_checked (read_outcome file.now table.old) }
 {
     flat_checked(file::read(file, table))
@@ -79,7 +79,7 @@ pub extern "C" fn buulset_digit(byte: u8) -> u8
 // `file::write`: the table's file in the buffer; `count` is its length in bytes.
 #[unsafe(no_mangle)]
 pub extern "C" fn buulset_write(table: &[u8], file: &mut [u8]) -> Answer
-    ensures { result leaving (λ x. x.now) file.exit
+    ensures { result leaving file.new
         ≡ flat_by flat_written (write_outcome table.now file.old) }
 {
     flat_written(file::write(table, file))
@@ -88,7 +88,7 @@ pub extern "C" fn buulset_write(table: &[u8], file: &mut [u8]) -> Answer
 // `file_convert::convert`: the file with capitals in the buffer; `count` is its length in bytes.
 #[unsafe(no_mangle)]
 pub extern "C" fn buulset_convert(file: &[u8], converted: &mut [u8]) -> Answer
-    ensures { result leaving (λ x. x.now) converted.exit
+    ensures { result leaving converted.new
         ≡ flat_by flat_written (convert_outcome file.now converted.old) }
 {
     flat_written(file_convert::convert(file, converted))
@@ -98,7 +98,7 @@ pub extern "C" fn buulset_convert(file: &[u8], converted: &mut [u8]) -> Answer
 // is the line of a refusal, that refusal is the answer's.
 #[unsafe(no_mangle)]
 pub extern "C" fn buulset_capitals(file: &[u8], printed: &mut [u8]) -> Answer
-    ensures { result leaving (λ x. x.now) printed.exit
+    ensures { result leaving printed.new
         ≡ flat_by flat_printed (output_outcome file.now printed.old) }
 {
     flat_printed(file_convert::output(file, printed))
@@ -227,7 +227,7 @@ pub extern "C" fn buulset_plain(
 // front, the root first.
 #[unsafe(no_mangle)]
 pub extern "C" fn buulset_line(table: &[u8], line: &mut [u16]) -> Answer
-    ensures { result leaving (λ x. x.now) line.exit
+    ensures { result leaving line.new
         ≡ flat_by flat_best_line (line_outcome table.now line.old) }
 {
     flat_best_line(best_line::line(table, line))
@@ -257,7 +257,7 @@ pub extern "C" fn buulset_shorter<'a>(table: &[u8], first: &'a [u8], second: &'a
 // `graft::graft`: the result's table in the buffer; `count` is its number of nodes.
 #[unsafe(no_mangle)]
 pub extern "C" fn buulset_graft(first: &[u8], node: usize, second: &[u8], res: &mut [u8]) -> Answer
-    ensures { result leaving (λ x. x.now) res.exit
+    ensures { result leaving res.new
         ≡ flat_by flat_checked (graft_outcome first.now node second.now res.old) }
 {
     flat_checked(graft::graft(first, node, second, res))
@@ -274,7 +274,7 @@ pub extern "C" fn buulset_least_value(table: &[u8], node: usize, wanted: i32) ->
 // `worst_fill::fill`: the ranks in the table; `count` is the number of leaves.
 #[unsafe(no_mangle)]
 pub extern "C" fn buulset_fill(table: &mut [u8]) -> Answer
-    ensures { result leaving (λ x. x.now) table.exit ≡ flat_by flat_filled (fill_outcome table.old) }
+    ensures { result leaving table.new ≡ flat_by flat_filled (fill_outcome table.old) }
 {
     flat_filled(worst_fill::fill(table))
 }

@@ -38,7 +38,7 @@ pub fn select<'t, 'a: 'r, 'b: 'r, 'r>(
 ) -> Selection<'r>
     ensures { (result.choice ≡ choice table.now first.now second.now)
         × (result.flags.now ≡ flags_by table.now first.now second.now result.choice)
-        × (result.flags.ptr ≡ pointer_by first.entry.ref_ptr second.entry.ref_ptr result.choice) }
+        × (result.flags.ref_ptr ≡ pointer_by first.entry.ref_ptr second.entry.ref_ptr result.choice) }
 {
     let chosen = choose(table, first, second);
     let part = flags(table, first, second, chosen);

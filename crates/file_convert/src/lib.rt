@@ -29,7 +29,7 @@ pub enum Printed {
 // Lifts the letters a to f of a file to capitals, reads it, and writes its table's file: the length in bytes, or the
 // first rejection, and then the buffer is as it was.
 pub fn convert(file: &[u8], converted: &mut [u8]) -> Written
-    ensures { result leaving (λ x. x.now) converted.exit ≡ convert_outcome file.now converted.old }
+    ensures { result leaving converted.new ≡ convert_outcome file.now converted.old }
 {
     if file.len() <= SHORT_FILE {
         let mut table = [0u8; SHORT_TABLE];
@@ -43,7 +43,7 @@ pub fn convert(file: &[u8], converted: &mut [u8]) -> Written
 // capital, so no letter has to be lifted first.
 fn convert_by(file: &[u8], table: &mut [u8], converted: &mut [u8]) -> Written
     requires { length file.now ≤ max_file → LongEnough file.now table.old }
-    ensures { result leaving (λ x. x.now) converted.exit ≡ convert_outcome file.now converted.old }
+    ensures { result leaving converted.new ≡ convert_outcome file.now converted.old }
 {
     match check_file(file, table) {
         Checked::Nodes(nodes) => {
@@ -57,7 +57,7 @@ fn convert_by(file: &[u8], table: &mut [u8], converted: &mut [u8]) -> Written
 // What the program prints for a file, at the front of the lent buffer: the converted file, or the line of the refusal.
 // If there is no room for it, the buffer is as it was.
 pub fn output(file: &[u8], buffer: &mut [u8]) -> Printed
-    ensures { result leaving (λ x. x.now) buffer.exit ≡ output_outcome file.now buffer.old }
+    ensures { result leaving buffer.new ≡ output_outcome file.now buffer.old }
 {
     match convert(file, buffer) {
         Written::Length(length) => Printed::File(length),
@@ -67,7 +67,7 @@ pub fn output(file: &[u8], buffer: &mut [u8]) -> Printed
 
 // The line of a refusal at the front of the buffer.
 fn lay_refused(rejection: Rejection, buffer: &mut [u8]) -> Printed
-    ensures { result leaving (λ x. x.now) buffer.exit
+    ensures { result leaving buffer.new
         ≡ laid_text (Line rejection) (refused_line rejection) buffer.old }
 {
     let line = text::refused(rejection);

@@ -29,7 +29,7 @@ const LOWERCASE_LETTER: u8 = 16;
 
 // Reads a file into the table: the number of nodes, or the first rejection, and then the table is as it was.
 pub fn read(file: &[u8], table: &mut [u8]) -> Checked
-    ensures { result leaving (λ x. x.now) table.exit ≡ read_outcome file.now table.old }
+    ensures { result leaving table.new ≡ read_outcome file.now table.old }
 {
     if file.len() <= SHORT_FILE {
         let mut decoded = [0u8; SHORT_TABLE];
@@ -42,7 +42,7 @@ pub fn read(file: &[u8], table: &mut [u8]) -> Checked
 // The same, with a work array for the frames: the lent table is written to once no question is left.
 fn read_by(file: &[u8], decoded: &mut [u8], table: &mut [u8]) -> Checked
     requires { length file.now ≤ max_file → LongEnough file.now decoded.old }
-    ensures { result leaving (λ x. x.now) table.exit ≡ read_outcome file.now table.old }
+    ensures { result leaving table.new ≡ read_outcome file.now table.old }
 {
     let checked = check_file(file, decoded);
     let Checked::Nodes(nodes) = checked else {

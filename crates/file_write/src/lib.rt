@@ -45,7 +45,7 @@ pub enum Written {
 // Writes the file of an accepted table, in capital letters and with every line closed: its length in bytes, or the
 // first rejection, and then the buffer is as it was.
 pub fn write(table: &[u8], file: &mut [u8]) -> Written
-    ensures { result leaving (λ x. x.now) file.exit ≡ write_outcome table.now file.old }
+    ensures { result leaving file.new ≡ write_outcome table.now file.old }
 {
     match check(table) {
         Checked::Nodes(nodes) => write_accepted(table, file, nodes),
@@ -66,7 +66,7 @@ pub fn length_given(written: Written) -> usize
 // The same for an accepted table of so many nodes: only question 10 is still to be asked.
 pub fn write_accepted(table: &[u8], file: &mut [u8], nodes: usize) -> Written
     requires { (Accepted table.now) × (nodes ≡ frames table.now) }
-    ensures { result leaving (λ x. x.now) file.exit ≡ write_outcome table.now file.old }
+    ensures { result leaving file.new ≡ write_outcome table.now file.old }
 {
     if file.len() < LINE_SIZE * nodes {
         return Written::Rejected(Rejection {

@@ -22,7 +22,7 @@ const BYTE_VALUES: usize = 256;
 // Puts the second tree in place of the first's named leaf: the number of nodes of the result, whose table then
 // stands at the buffer's front, or the first rejection, and then the buffer is as it was.
 pub fn graft(first: &[u8], node: usize, second: &[u8], res: &mut [u8]) -> Checked
-    ensures { result leaving (λ x. x.now) res.exit
+    ensures { result leaving res.new
         ≡ graft_outcome first.now node second.now res.old }
 {
     let checked = ask(first, node, second, res.len());

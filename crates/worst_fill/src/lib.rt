@@ -25,7 +25,7 @@ pub enum Filled {
 // Writes each leaf's rank into the lent table, in blocks that rise from left to right at Max and fall at Min: the
 // number of leaves, or the first rejection, and then the table is as it was.
 pub fn fill(table: &mut [u8]) -> Filled
-    ensures { result leaving (λ x. x.now) table.exit ≡ fill_outcome table.old }
+    ensures { result leaving table.new ≡ fill_outcome table.old }
 {
     match check(table) {
         Checked::Nodes(_) => Filled::Leaves(fill_node(table, 0, Side::Max, 0)),
