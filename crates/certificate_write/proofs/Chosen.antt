@@ -3,7 +3,7 @@
 use Rattle.prelude.proofs.{ℕ, zero, suc, ◌+◌, ◌<◌, arith, ◌≡◌, sym, ap, ap₂, ◌∙◌, Bool, cond, List, eqb, get_or}
 use Rattle.gametree.specs.declared.Side.{Side}
 use Rattle.gametree.specs.declared.Side.TheVariants.{Max, Min}
-use Rattle.gametree.specs.{Tree, inner, least, greatest, minimax, number, low, high, worst, first_with, bound_move}
+use Rattle.gametree.specs.{Tree, inner, least, greatest, minimax, number, low, high, worst, first_with, bound_move, known}
 use Rattle.table.specs.{frames, child_count, next, side_of, children_from, tree_at, tree, valuation, WellFormed}
 use Rattle.table.proofs.Next.{next_more, next-within}
 use Rattle.table.proofs.Trees.{zero-or-suc, tree-leaf, tree-inner, tree-number}
@@ -85,7 +85,12 @@ module _ (t : List ℕ) (wf : WellFormed t) (E : ℕ → Bool) where
   chosen-root =
       zero-or-suc (child_count t 0) (λ e. rw (e, tree-leaf t wf 0 wf.non_empty e)) (λ n e.
       let p = wf.first 0 wf.non_empty (omega arith) in
-      rw (e, tree-inner t wf 0 n wf.non_empty e, p) (move-inner (side_of t 0) 1 n))
+      let q = tree-inner t wf 0 n wf.non_empty e ∙ ap (λ k. inner 0 (side_of t 0) (children_from (tree_at t) k n)) p in
+      let x = worst (side_of t 0) in
+      ap (λ m. first_equal (bound_of t E x) (bound_of t E x 0) (next t 0) m) e
+      ∙ ap (λ T. first_equal (bound_of t E x) (minimax (known (valuation t) E x) T) (next t 0) (suc n)) q
+      ∙ move-inner (side_of t 0) 1 n
+      ∙ ap (bound_move (valuation t) E) (sym q))
 
   -- so the arrays give the move
   pub chosen-move : {positions lows highs : List ℕ} → Bounded t E positions lows highs
