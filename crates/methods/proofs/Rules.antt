@@ -1,7 +1,7 @@
 -- The leaves that a method evaluates are the first of those of a search of the theory; where nothing stops the method,
 -- they are all of them. So the theorems on searches hold of every method.
-use Rattle.prelude.proofs.{ℕ, ◌-◌, ◌≤◌, ◌<◌, arith, ◌≡◌, refl, sym, ap, ◌∙◌, subst, true, List, [], ◌∷◌, ◌++◌}
-use Rattle.prelude.proofs.{append-nil, length, take, drop, take-append-drop, length-drop, drop_of_length-le, take_all}
+use Rattle.prelude.proofs.{ℕ, ◌-◌, ◌≤◌, ◌<◌, arith, ◌≡◌, sym, ap, ◌∙◌, subst, true, List, [], ◌++◌}
+use Rattle.prelude.proofs.{append-nil, length, drop, take-append-drop, length-drop, drop_of_length-le, take_all}
 use Rattle.lists.specs.{All, among, Once}
 use Rattle.lists.proofs.Lists.{all_left, once-left, all-at, once-length}
 use Rattle.gametree.specs.{leaves, Proper}
