@@ -106,7 +106,7 @@ fn decode_digits(line: &[u8], table: &mut [u8], to: usize) -> bool
         table.old to table.new result }
 {
     let mut digits = [b'0'; ABREAST];
-    bytes::copy(line, &mut digits);
+    digits[..line.len()].copy_from_slice(line);
     let mut numbers = [0u8; ABREAST];
     if read_digits(&digits, &mut numbers) != 0 {
         return false;
