@@ -52,7 +52,7 @@ fn read_by(file: &[u8], decoded: &mut [u8], table: &mut [u8]) -> Checked
     if table.len() < size {
         return rejected(SHORT_BUFFER, 0);
     }
-    bytes::copy(&decoded[..size], table);
+    table[..size].copy_from_slice(&decoded[..size]);
     checked
 }
 
