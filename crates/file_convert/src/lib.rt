@@ -76,7 +76,7 @@ fn lay_refused(rejection: Rejection, buffer: &mut [u8]) -> Printed
     if buffer.len() < length {
         return Printed::NoRoom;
     }
-    bytes::copy(&bytes[..length], buffer);
+    buffer[..length].copy_from_slice(&bytes[..length]);
     Printed::Line(rejection, length)
 }
 
