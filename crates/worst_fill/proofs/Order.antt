@@ -31,7 +31,7 @@ module _ (ν : ℕ → ℕ) (g : ℕ → Tree) where
   kid-block s b i zero k f h l = (b, let e : k ≡ i = omega arith in rw e f)
   kid-block s b i (suc n) k f h l =
       elim (dec_lt i k) [
-        | yes p ↦ kid-block s _ (i + 1) n k f.1 (omega arith) (omega arith)
+        | yes p ↦ kid-block s (younger_from s b (total (g i))) (i + 1) n k f.1 (omega arith) (omega arith)
         | no p ↦ (elder_from s b (total_children (children_from g (i + 1) n)), let e : k ≡ i = omega arith in rw e f.0)
       ]
 
@@ -42,7 +42,7 @@ module _ (ν : ℕ → ℕ) (g : ℕ → Tree) where
   kids-order s b i zero c d x y f h l m p q = absurd (omega arith)
   kids-order s b i (suc n) c d x y f h l m p q =
       elim (dec_lt i c) [
-        | yes z ↦ kids-order s _ (i + 1) n c d x y f.1 (omega arith) l (omega arith) p q
+        | yes z ↦ kids-order s (younger_from s b (total (g i))) (i + 1) n c d x y f.1 (omega arith) l (omega arith) p q
         | no z ↦ (let e : c ≡ i = omega arith in
             let ks = children_from g (i + 1) n in
             ahead s b (total (g i)) (total_children ks) (ν x) (ν y) (blocks_at ν _ (g i) f.0 x (rw e at p))
