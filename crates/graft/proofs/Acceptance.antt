@@ -1,7 +1,8 @@
 -- The table of a graft is accepted exactly if no node of it is too deep: each node stands where its source does, and
 -- each source is some node's.
 use Rattle.prelude.proofs.{ℕ, ◌+◌, ◌-◌, ◌≤◌, ◌<◌, arith, ◌≡◌, ap, ◌∙◌, List, get_or}
-use Rattle.table.specs.{max_nodes, max_depth, frames, first_child, child_count, depth_of, ChildOf, TableAsStated, Accepted}
+use Rattle.table.specs.{max_nodes, max_depth, frames, first_child, child_count, depth_of, ChildOf, TableAsStated}
+use Rattle.table.specs.{Accepted}
 use Rattle.table.proofs.Next.{child-within}
 use Rattle.table.proofs.Parents.{top-down}
 use Rattle.table.proofs.Acceptance.{accepted-stated, stated-accepted}

@@ -1,6 +1,7 @@
 -- The small grafts, computed from the definitions.
 use Rattle.prelude.proofs.{arith, ◌≡◌, refl, ap₂, map, ◌++◌}
-use Rattle.table.specs.{next, parent_before, position_within, position_of, up_from, children_from, grow, tree_at, valuation}
+use Rattle.table.specs.{next, parent_before, position_within, position_of, up_from, children_from, grow, tree_at}
+use Rattle.table.specs.{valuation}
 use Rattle.table.specs.{each_node, frames_rejection, rejection, Accepted, leaves, chain, small}
 use Rattle.table.specs.declared.Checked.TheVariants.{Rejected}
 use Rattle.graft.specs.{root_for, base, child_sources, breadth_first, frame_at, laid_frames, graft_outcome}
@@ -11,7 +12,8 @@ use Rattle.graft.proofs.Grafting.{graft-keeps, graft-no-leaf}
 -- answers and buffers
 pub small-grafts : map (λ c. graft_outcome c.first c.node c.second (buffer c.room)) (given ++ refused)
     ≡ map (λ c. c.outcome) (given ++ refused)
-unfolding up_from root_for base child_sources breadth_first frame_at laid_frames next parent_before position_within position_of
+unfolding up_from root_for base child_sources breadth_first frame_at laid_frames next parent_before position_within
+    position_of
     each_node frames_rejection rejection leaves chain chain_to deepest
 small-grafts = refl
 

@@ -1,12 +1,14 @@
 -- What a call leaves, over the outcome that the contract cites: when it gives a number of nodes, what the table at the
 -- buffer's front is then, and what each rejection means.
-use Rattle.prelude.proofs.{ℕ, ◌+◌, ◌-◌, ◌*◌, ◌≤◌, ◌<◌, arith, dec_le, ◌≡◌, sym, ap, subst, ◌∙◌, ⊎_elim, none, some, List}
+use Rattle.prelude.proofs.{ℕ, ◌+◌, ◌-◌, ◌*◌, ◌≤◌, ◌<◌, arith, dec_le, ◌≡◌, sym, ap, subst, ◌∙◌, ⊎_elim, none, some}
+use Rattle.prelude.proofs.{List}
 use Rattle.prelude.proofs.{◌++◌, length, get_or, take, drop, take_at, drop_at}
 use Rattle.lists.proofs.Choice.{is_false, clash}
 use Rattle.gametree.specs.{other, minimax, relabelled}
 use Rattle.table.specs.declared.Rejection.{Rejection}
 use Rattle.table.specs.declared.Checked.TheVariants.{Nodes, Rejected}
-use Rattle.table.specs.{frame_size, max_nodes, max_depth, frames, byte_of, child_count, parent_of, depth_of, side_of, tree}
+use Rattle.table.specs.{frame_size, max_nodes, max_depth, frames, byte_of, child_count, parent_of, depth_of, side_of}
+use Rattle.table.specs.{tree}
 use Rattle.table.specs.{valuation, rejection, Accepted, answer}
 use Rattle.table.proofs.Asked.{refused, answer-nodes, answer-rejected, answer-of}
 use Rattle.table.proofs.Acceptance.{accepted-stated, accepted-formed}
@@ -73,7 +75,8 @@ module _ (t : List ℕ) (k : ℕ) (u b : List ℕ) where
         by-leaf (refusal 17 k) (no-leaf t k u (length b) (is_false (is_max_leaf t k) (λ e. n (max-leaf t k e))))
 
     -- 18: the table of the graft would not be accepted
-    pub graft-too-large : MaxLeaf t k → (Accepted (graft_table t k u) → ⊥) → (graft_outcome t k u b).answer ≡ refused 18 0
+    pub graft-too-large : MaxLeaf t k → (Accepted (graft_table t k u) → ⊥)
+        → (graft_outcome t k u b).answer ≡ refused 18 0
     graft-too-large l n =
         let m = leaf-max t k l in
         by-leaf (refusal 18 0)

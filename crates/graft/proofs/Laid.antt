@@ -64,7 +64,8 @@ module _ (t : List ℕ) (k : ℕ) (u : List ℕ) where
 
   -- its first child is the number of nodes known before it
   result-first : (i : ℕ) → i < graft_size t u
-      → first_child (graft_table t k u) i ≡ first_number (count_in t k u (source_at t k u i)) (length (known_sources t k u i))
+      → first_child (graft_table t k u) i ≡ first_number (count_in t k u (source_at t k u i))
+      (length (known_sources t k u i))
   unfolding frame_at
   result-first i h =
       omega (arith, laid-at (graft_size t u) i 0 h (omega arith), laid-at (graft_size t u) i 1 h (omega arith))
@@ -88,7 +89,8 @@ module _ (t : List ℕ) (k : ℕ) (u : List ℕ) where
 -- a frame with the bytes of a stated one and its own first child
 carried : (x y : List ℕ) (i j : ℕ) → ((n : ℕ) → 2 ≤ n → n < frame_size → byte_of x i n ≡ byte_of y j n)
     → FrameAsStated y j → (0 < j → 0 < i) → (child_count x i ≡ 0 → first_child x i ≡ 0)
-    → (0 < child_count x i → first_child x i ≡ next x i) → (0 < child_count x i → i < first_child x i) → FrameAsStated x i
+    → (0 < child_count x i → first_child x i ≡ next x i) → (0 < child_count x i → i < first_child x i)
+    → FrameAsStated x i
 carried x y i j e s r a b c =
     let e2 = e 2 (omega arith) (omega arith) in
     let e3 = e 3 (omega arith) (omega arith) in

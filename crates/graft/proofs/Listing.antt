@@ -1,6 +1,7 @@
 -- A tree listed in breadth-first order. What waits after i nodes, the known nodes from the i-th on, weighs the tree
 -- without i nodes; so the list ends after as many nodes as the tree has, and each node finds its children next in line.
-use Rattle.prelude.proofs.{ℕ, zero, suc, ◌+◌, ◌-◌, ◌≤◌, ◌<◌, arith, dec_le, dec_lt, add-one, ◌≡◌, refl, ap, ◌∙◌, List, []}
+use Rattle.prelude.proofs.{ℕ, zero, suc, ◌+◌, ◌-◌, ◌≤◌, ◌<◌, arith, dec_le, dec_lt, add-one, ◌≡◌, refl, ap, ◌∙◌}
+use Rattle.prelude.proofs.{List, []}
 use Rattle.prelude.proofs.{◌∷◌, ◌++◌, length, get_or, drop, length-append, length-drop, drop_of_length-le}
 use Rattle.prelude.proofs.{get_or-append, drop-cons, drop-append-le, get_or-append-add}
 use Rattle.lists.specs.{All}

@@ -55,7 +55,8 @@ grafted-node k v x s g i zero h = rw (ne_eqb x k h)
 grafted-node k v x s g i (suc n) h = ap (inner x s) (grafted-kids k v g i n)
 
 -- its size: 1 and the sizes of the trees below
-kids-size : (g : ℕ → Tree) (i n : ℕ) → size_children (children_from g i n) ≡ weight (λ c. size (g c)) (up_from i (suc n))
+kids-size : (g : ℕ → Tree) (i n : ℕ) → size_children (children_from g i n)
+    ≡ weight (λ c. size (g c)) (up_from i (suc n))
 unfolding children_from up_from
 kids-size g i zero = omega arith
 kids-size g i (suc n) =

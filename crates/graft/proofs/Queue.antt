@@ -2,7 +2,8 @@
 -- bytes that are written, or behind them, stays.
 use Rattle.prelude.proofs.{ℕ, suc, ◌+◌, ◌*◌, ◌-◌, ◌/◌, ◌%◌, ◌≤◌, ◌<◌, arith, dec_lt, add-one, ◌≡◌, refl, sym, ap, ap₂}
 use Rattle.prelude.proofs.{◌∙◌, List, [], ◌∷◌, ◌++◌, length, get_or, take, drop, set, length-append, length-set}
-use Rattle.prelude.proofs.{take-set-le, drop-set-lt, get_or-set_same, get_or-set_other, get_or-take, get_or-drop, drop-drop}
+use Rattle.prelude.proofs.{take-set-le, drop-set-lt, get_or-set_same, get_or-set_other, get_or-take, get_or-drop}
+use Rattle.prelude.proofs.{drop-drop}
 use Rattle.prelude.proofs.{length-take-le, take_at, sets, length-sets, sets-eq}
 use Rattle.table.specs.{frame_size, byte_of, first_child}
 use Rattle.graft.specs.{with_first, Queued}
@@ -61,7 +62,8 @@ first-stored b j v h =
     rw z (get_or-set_other (set b i (v / 256)) (suc i) i (v % 256) 0 (λ e. omega arith)
     ∙ get_or-set_same b i (v / 256) 0 (omega arith)) in
     let low : get_or (set (set b i (v / 256)) (suc i) (v % 256)) (i + 1) 0 ≡ v % 256 =
-    rw (add-one i) (get_or-set_same (set b i (v / 256)) (suc i) (v % 256) 0 (omega (arith, length-set b i (v / 256)))) in
+    rw (add-one i) (get_or-set_same (set b i (v / 256)) (suc i) (v % 256) 0
+    (omega (arith, length-set b i (v / 256)))) in
     omega (arith, high, low)
 
 module _ (f : ℕ → ℕ) (at : ℕ) where

@@ -3,7 +3,8 @@
 use Rattle.prelude.proofs.{ℕ, ◌+◌, ◌<◌, arith, ◌≡◌, sym, ap, ap₂, ◌∙◌, List, ◌++◌, get_or}
 use Rattle.gametree.specs.{minimax, relabelled, substituted}
 use Rattle.gametree_theory.proofs.Minimax.Grafts.{graft-value, relabelled-value, minimax-same}
-use Rattle.table.specs.{frames, first_child, child_count, stored_score, depth_of, side_of, node, tree_at, tree, valuation}
+use Rattle.table.specs.{frames, first_child, child_count, stored_score, depth_of, side_of, node, tree_at, tree}
+use Rattle.table.specs.{valuation}
 use Rattle.table.specs.{leaf_score}
 use Rattle.table.proofs.Parents.{bottom-up}
 use Rattle.table.proofs.Trees.{tree-node}

@@ -33,7 +33,8 @@ abbrev deeper : ℕ → Position → Position
 deeper d p = record { depth = d + p.depth; side = p.side }
 
 -- byte 3 alone decides who moves at a child
-child-same : (r t : List ℕ) (j c : ℕ) (p : Position) → byte3 r j ≡ byte3 t c → child_position r j p ≡ child_position t c p
+child-same : (r t : List ℕ) (j c : ℕ) (p : Position) → byte3 r j ≡ byte3 t c
+    → child_position r j p ≡ child_position t c p
 child-same r t j c p e = rw e
 
 module _ (t : List ℕ) (k : ℕ) (u : List ℕ) where
@@ -48,7 +49,8 @@ module _ (t : List ℕ) (k : ℕ) (u : List ℕ) where
   -- the tree at a source, and its place
   abbrev pub tree_of : ℕ → Tree
   tree_of s =
-      cond (ltb s (frames t)) (grafted k second (tree_at t s)) (relabelled (λ v. frames t + v) (tree_at u (s - frames t)))
+      cond (ltb s (frames t)) (grafted k second (tree_at t s))
+      (relabelled (λ v. frames t + v) (tree_at u (s - frames t)))
 
   abbrev pub position_at : ℕ → Position
   position_at s = cond (ltb s (frames t)) (position_of t s) (deeper (depth_of t k) (position_of u (s - frames t)))
@@ -134,7 +136,8 @@ module _ (t : List ℕ) (k : ℕ) (u : List ℕ) where
     repositiond-position c h =
         elim (ℕ_discrete c k) [
           | yes e ↦ rw e
-              (ap position_at replaced-leaf ∙ position-second 0 ∙ ap (deeper (depth_of t k)) (position-root u) ∙ at-root)
+              (ap position_at replaced-leaf ∙ position-second 0 ∙ ap (deeper (depth_of t k)) (position-root u)
+              ∙ at-root)
           | no e ↦ rw (replaced-same c e) (position_first c h)
         ]
       where
@@ -228,7 +231,8 @@ module _ (t : List ℕ) (k : ℕ) (u : List ℕ) where
           (omega arith)))
 
       -- the tree at a source is a node over its children's
-      pub source-tree : tree_of s ≡ node s (position_at s).side (λ c. tree_of (root_for t k c)) (first_in s) (count_in s)
+      pub source-tree : tree_of s ≡ node s (position_at s).side (λ c. tree_of (root_for t k c)) (first_in s)
+          (count_in s)
       source-tree =
           source-cases (frames t) (frames u) s x.inside
           (λ h.
@@ -242,7 +246,8 @@ module _ (t : List ℕ) (k : ℕ) (u : List ℕ) where
           rw e
           (tree-second v ∙ ap (relabelled (λ v. frames t + v)) (tree-node u second-formed v h)
           ∙ relabelled-node (λ v. frames t + v) v (side_of u v) (tree_at u) (first_child u v) (child_count u v)
-          ∙ node-shifted (side_of u v) (λ c. relabelled (λ v. frames t + v) (tree_at u c)) (λ c. tree_of (root_for t k c))
+          ∙ node-shifted (side_of u v) (λ c. relabelled (λ v. frames t + v) (tree_at u c))
+          (λ c. tree_of (root_for t k c))
           (frames t + v) (first_child u v) (first_in (frames t + v)) (child_count u v)
           (λ m l. sym (ap tree_of (second-replaced v m) ∙ tree-second (first_child u v + m)))
           ∙ rw (position-second v, count-second v)))

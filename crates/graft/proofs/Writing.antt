@@ -92,7 +92,8 @@ module _ (t : List ℕ) (k : ℕ) (u : List ℕ) (g : Fitting t k u) where
             ∙ ap (λ a. root_for t k (a + m)) (sym (p ∙ ap (first_in t k u) source_is))
 
         -- a turn of the loop: the frame takes the place of its own source, and its children's sources are queued
-        pub writing_step : (child : ℕ) → child ≡ first_number n at → frame_size * graft_size t u ≤ length b → (b₁ : List ℕ)
+        pub writing_step : (child : ℕ) → child ≡ first_number n at → frame_size * graft_size t u ≤ length b
+            → (b₁ : List ℕ)
             → b₁ ≡ sets b (frame_size * i) (renumbered (t ++ u) s child) → (b' : List ℕ)
             → Queued (λ m. cond (eqb (from + m) k) (frames t) (from + m)) at n b₁ b'
             → Writing t k u b₀ b' (at + n) (i + 1)

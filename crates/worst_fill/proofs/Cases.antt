@@ -1,7 +1,8 @@
 -- The small cases, computed from the definitions.
 use Rattle.prelude.proofs.{◌≡◌, refl, map, ◌++◌, length}
 use Rattle.gametree.specs.{least, greatest, leaves, reached}
-use Rattle.table.specs.{next, parent_before, position_within, position_of, children_from, grow, tree_at, tree, valuation}
+use Rattle.table.specs.{next, parent_before, position_within, position_of, children_from, grow, tree_at, tree}
+use Rattle.table.specs.{valuation}
 use Rattle.table.specs.{each_node, frames_rejection, rejection, leaf_frame, lone}
 use Rattle.worst_fill.specs.{with_rank, worst_fill, fill_outcome, given, refused}
 

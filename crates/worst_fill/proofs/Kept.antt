@@ -2,7 +2,8 @@
 use Rattle.prelude.proofs.{ℕ, ◌+◌, ◌*◌, ◌%◌, ◌≤◌, ◌<◌, arith, ℕ_discrete, ◌≡◌, refl, sym, ap₂, ◌∙◌, List, length}
 use Rattle.gametree.specs.{Tree, zero_score, leaves, EveryLeaf, Score}
 use Rattle.gametree_theory.proofs.Minimax.Bounds.{every-leaf}
-use Rattle.table.specs.{frame_size, max_nodes, two_bytes, frames, byte_of, value_bytes, stored_score, WellFormed, SameShape}
+use Rattle.table.specs.{frame_size, max_nodes, two_bytes, frames, byte_of, value_bytes, stored_score, WellFormed}
+use Rattle.table.specs.{SameShape}
 use Rattle.table.proofs.OtherValues.{same-formed}
 use Rattle.worst_fill.specs.{with_rank, ranked}
 use Rattle.worst_fill.proofs.Ranks.{off-front, off-other, rank-length, rank-value, rank-other}

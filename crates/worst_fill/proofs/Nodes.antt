@@ -120,7 +120,8 @@ module _ (t : List ℕ) (i : ℕ) (s : Side) (r : ℕ) (f : Fillable t i s r) wh
           }
 
       -- and then the turns behind it are left
-      pub turn-goes-on : (x : ℕ) (w : List ℕ) → x ≡ next + length (leaves (tree_at u k)) → w ≡ ranked next (tree_at u k) u
+      pub turn-goes-on : (x : ℕ) (w : List ℕ) → x ≡ next + length (leaves (tree_at u k))
+          → w ≡ ranked next (tree_at u k) u
           → RankLoop t i s r first n w x (turn + 1)
       turn-goes-on x w c d =
           record {

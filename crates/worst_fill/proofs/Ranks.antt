@@ -1,5 +1,6 @@
 -- What the ranks change in a table: bytes 4 and 5 of the leaves, and nothing else.
-use Rattle.prelude.proofs.{ℕ, ◌+◌, ◌*◌, ◌/◌, ◌%◌, ◌≤◌, ◌<◌, arith, dec_lt, ℕ_discrete, ◌≡◌, refl, sym, ◌∙◌, List, length}
+use Rattle.prelude.proofs.{ℕ, ◌+◌, ◌*◌, ◌/◌, ◌%◌, ◌≤◌, ◌<◌, arith, dec_lt, ℕ_discrete, ◌≡◌, refl, sym, ◌∙◌, List}
+use Rattle.prelude.proofs.{length}
 use Rattle.prelude.proofs.{get_or, set, length-set, length-append, get_or-set_same, get_or-set_other, set_out}
 use Rattle.lists.specs.{All}
 use Rattle.lists.proofs.Lists.{all_append, all_map}
@@ -102,7 +103,8 @@ ranked-length r T t =
     (λ i q a b f l e. rank-length i q a ∙ e) r T t t (every-leaf _ (λ n. tt) T) (omega arith) refl
 
 -- a position that holds no byte of a leaf's value keeps what it held
-pub ranked-other : (r : ℕ) (T : Tree) (t : List ℕ) (p : ℕ) → EveryLeaf (Off p) T → get_or (ranked r T t) p 0 ≡ get_or t p 0
+pub ranked-other : (r : ℕ) (T : Tree) (t : List ℕ) (p : ℕ) → EveryLeaf (Off p) T
+    → get_or (ranked r T t) p 0 ≡ get_or t p 0
 ranked-other r T t p o =
     ranked-keeps (λ a b. get_or a p 0 ≡ get_or t p 0) (Off p) (r + length (leaves T))
     (λ i q a b f l e. rank-other i q a p f ∙ e) r T t t o (omega arith) refl

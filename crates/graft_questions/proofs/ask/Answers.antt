@@ -24,6 +24,8 @@ ask_leaf-requires c = let e = sym c.in-Nodes.is ∙ c.check-checked.ensures in
     )
 
 pub returns : goal.returns
-returns c = rw c.ask_leaf.ensures (ap (answer _) (sym (both-accepted c.args.first.now c.args.node c.args.second.now c.args.room
+returns c =
+    rw c.ask_leaf.ensures
+    (ap (answer _) (sym (both-accepted c.args.first.now c.args.node c.args.second.now c.args.room
     (nodes-accepted c.args.first.now _ (sym c.in-Nodes.is ∙ c.check-checked.ensures)).0
     (nodes-accepted c.args.second.now _ (sym c.in-Nodes-checked_second.is ∙ c.check-checked_second.ensures)).0)))
