@@ -1,5 +1,6 @@
 -- The root's bounds where all leaves but one are known, and the smallest score of that leaf by them.
-use Rattle.prelude.proofs.{ℕ, ◌≤◌, ◌<◌, arith, ℕ_discrete, ◌≡◌, refl, sym, ap, ◌∙◌, true, List, ltb, eqb, length, get_or}
+use Rattle.prelude.proofs.{ℕ, ◌≤◌, ◌<◌, arith, ℕ_discrete, ◌≡◌, refl, sym, ap, ◌∙◌, true, List, ltb, eqb, length}
+use Rattle.prelude.proofs.{get_or}
 use Rattle.prelude.proofs.{set, get_or-set_same, get_or-set_other, ltb-true, eqb-true, eq-eqb, ne_eqb}
 use Rattle.lists.proofs.Choice.{and_both}
 use Rattle.gametree.specs.{Score, least, greatest, minimax, substituted, clamp}

@@ -2,7 +2,8 @@
 -- are computed.
 use Rattle.prelude.proofs.{ℕ, ◌≡◌, refl, sym, ap, ◌∙◌, fun_ext, Option, none, some, List, map, ℤ}
 use Rattle.table.specs.declared.Rejection.{Rejection}
-use Rattle.table.specs.{next, depth_of, parent_before, position_within, position_of, children_from, grow, tree_at, valuation}
+use Rattle.table.specs.{next, depth_of, parent_before, position_within, position_of, children_from, grow, tree_at}
+use Rattle.table.specs.{valuation}
 use Rattle.table.specs.{each_node, unless, frames_rejection, rejection, score_of}
 use Rattle.leaf_value.specs.declared.LeastValue.{LeastValue}
 use Rattle.leaf_value.specs.declared.LeastValue.TheVariants.{Rejected}

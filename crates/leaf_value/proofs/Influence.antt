@@ -1,9 +1,11 @@
 -- What the named leaf held before has no influence: two tables that differ in bytes 4 and 5 of that node alone.
-use Rattle.prelude.proofs.{ℕ, ◌<◌, arith, dec_lt, ℕ_discrete, ◌≡◌, refl, sym, ap, ap₂, ◌∙◌, Bool, true, false, List, eqb}
+use Rattle.prelude.proofs.{ℕ, ◌<◌, arith, dec_lt, ℕ_discrete, ◌≡◌, refl, sym, ap, ap₂, ◌∙◌, Bool, true, false, List}
+use Rattle.prelude.proofs.{eqb}
 use Rattle.prelude.proofs.{ℤ, lt-ltb, le-ltb, eq-eqb, ne_eqb}
 use Rattle.gametree.specs.{minimax, substituted}
 use Rattle.gametree_theory.proofs.Minimax.Grafts.{minimax-same}
-use Rattle.table.specs.{frames, stored_score, depth_of, tree, valuation, leaf_score, value_of, score_of, WellFormed, unless}
+use Rattle.table.specs.{frames, stored_score, depth_of, tree, valuation, leaf_score, value_of, score_of, WellFormed}
+use Rattle.table.specs.{unless}
 use Rattle.table.specs.{Accepted, Leaf}
 use Rattle.table.proofs.Acceptance.{accepted-formed}
 use Rattle.table.proofs.Proper.{every-leaf}

@@ -29,7 +29,8 @@ score-range (negsuc n) h = rw (le-ltb zero_score (suc n) (omega arith)) (omega a
 -- and its value is the value
 pub score-value : (v : ℤ) → nat_abs v ≤ max_value → value_of (score_of v) ≡ v
 score-value (pos n) h = value-plus (n + zero_score) n refl
-score-value (negsuc n) h = rw (le-ltb zero_score (suc n) (omega arith)) (value-below (zero_score - suc n) n (omega arith))
+score-value (negsuc n) h = rw (le-ltb zero_score (suc n) (omega arith))
+    (value-below (zero_score - suc n) n (omega arith))
 
 -- two scores of one value are one
 pub same-scores : (r s : ℕ) → value_of r ≡ value_of s → r ≡ s
