@@ -1,5 +1,5 @@
 -- `check` meets its contract: a rejected table settles the verdict, an accepted one leaves it to the flags.
-use Rattle.prelude.proofs.{ℕ, ◌≡◌, sym, ◌∙◌, List, needs}
+use Rattle.prelude.proofs.{ℕ, ◌≡◌, sym, ◌∙◌, List}
 use Rattle.table.specs.declared.Rejection.{Rejection}
 use Rattle.table.specs.declared.Checked.TheVariants as answers
 use Rattle.table.specs.{frames, rejection, checked}
@@ -7,8 +7,7 @@ use Rattle.table.proofs.Acceptance.{accepted-formed, nodes-accepted}
 use Rattle.certificate_check.specs.declared.Verdict.TheVariants.{Rejected}
 use Rattle.certificate_check.specs.{flags_rejection, certificate_rejection, judged, verdict}
 use Rattle.certificate_check.proofs.Judging.{judged-until, judged-onward}
-use Rattle.certificate_check.proofs.check.Statement.{statement}
-use Rattle.certificate_check.proofs.check.Tie as tie
+use Rattle.certificate_check.proofs.check.Goals as goal
 
 module _ (t flags : List ℕ) where
   table-rejected : (r : Rejection) → answers.Rejected r ≡ checked t → Rejected r ≡ verdict t flags
@@ -20,27 +19,12 @@ module _ (t flags : List ℕ) where
   unfolding verdict certificate_rejection
   table-accepted n e = judged-onward t flags (frames t) (rejection t) (flags_rejection t flags) n e
 
-check-certificate-requires : tie.Need-check-certificate-requires
-check-certificate-requires c κs =
-    let k = c.before.before in
-    let t = k.before.before.before.args.table.now in
-    accepted-formed t (nodes-accepted t _ (sym c.enum_told.given.1 ∙ k.check.ensures)).0
+pub check_certificate-requires : goal.check_certificate-requires
+check_certificate-requires c = accepted-formed c.args.table.now (nodes-accepted c.args.table.now _ (sym c.in-Nodes.is ∙ c.check-checked.ensures)).0
 
-returns : tie.Need-returns
-returns c =
-    let k = c.before.before.before in
-    let a = k.before.before.before.args in
-    table-rejected a.table.now a.flags.now _ (sym c.before.checked.given.1 ∙ k.check.ensures)
+pub returns-in-Rejected : goal.returns-in-Rejected
+returns-in-Rejected c = table-rejected c.args.table.now c.args.flags.now _ (sym c.in-Rejected.is ∙ c.check-checked.ensures)
 
-returns-2 : tie.Need-returns-2
-returns-2 c =
-    let e = c.before in
-    let k = e.before.before in
-    let a = k.before.before.before.args in
-    c.check-certificate.ensures
-    ∙ table-accepted a.table.now a.flags.now _ (sym e.enum_told.given.1 ∙ k.check.ensures)
-
-pub check-spec : {M : Type 1} → statement M
-check-spec =
-    tie.close (tie.spec (λ c κs. search needs) (λ c. search needs) (λ c. search needs) check-certificate-requires
-    returns returns-2)
+pub returns-in-Nodes : goal.returns-in-Nodes
+returns-in-Nodes c = c.check_certificate.ensures
+    ∙ table-accepted c.args.table.now c.args.flags.now _ (sym c.in-Nodes.is ∙ c.check-checked.ensures)

@@ -1,5 +1,5 @@
 -- `check_certificate` meets its contract: one lemma for each of its three returns.
-use Rattle.prelude.proofs.{ℕ, ◌≤◌, ◌<◌, arith, ◌≡◌, sym, ◌∙◌, List, length, le-leb, lt-leb, needs}
+use Rattle.prelude.proofs.{ℕ, ◌≤◌, ◌<◌, arith, ◌≡◌, sym, ◌∙◌, List, length, le-leb, lt-leb}
 use Rattle.table.specs.declared.Rejection.{Rejection}
 use Rattle.table.specs.declared.Checked.TheVariants as checked
 use Rattle.table.specs.{frames, answer}
@@ -7,8 +7,7 @@ use Rattle.certificate_check.specs.declared.Verdict.{Verdict}
 use Rattle.certificate_check.specs.declared.Verdict.TheVariants.{Rejected}
 use Rattle.certificate_check.specs.{check11, trees_rejection, flags_rejection, judged}
 use Rattle.certificate_check.proofs.Judging.{judged-until, judged-onward}
-use Rattle.certificate_check.proofs.check_certificate.Statement.{statement}
-use Rattle.certificate_check.proofs.check_certificate.Tie as tie
+use Rattle.certificate_check.proofs.check_certificate.Goals as goal
 
 module _ (t flags : List ℕ) where
   -- the verdict that is due
@@ -32,28 +31,14 @@ module _ (t flags : List ℕ) where
     right-flags k e =
         rw (le-leb _ _ h) (judged-onward t flags (frames t) (check11 t flags) (trees_rejection t flags) k e)
 
-returns : tie.Need-returns
-returns c =
-    let a = c.before.before.before.before.args in
-    too_few a.table.now a.flags.now (omega arith)
+pub returns-then-flags-frame_count : goal.returns-then-flags-frame_count
+returns-then-flags-frame_count c = too_few c.args.table.now c.args.flags.now (omega arith)
 
-returns-2 : tie.Need-returns-2
-returns-2 c =
-    let f = c.before.before.before in
-    let a = f.before.before.before.before.before.args in
-    wrong-flag a.table.now a.flags.now (omega arith) _
-    (sym c.before.checked.given.1 ∙ f.check-flags.ensures)
+pub returns-in-Rejected : goal.returns-in-Rejected
+returns-in-Rejected c = wrong-flag c.args.table.now c.args.flags.now (omega arith) _
+    (sym c.in-Rejected.is ∙ c.check_flags-checked.ensures)
 
-returns-3 : tie.Need-returns-3
-returns-3 c =
-    let e = c.before in
-    let f = e.before.before in
-    let a = f.before.before.before.before.before.args in
-    c.check-trees.ensures
-    ∙ right-flags a.table.now a.flags.now (omega arith) _
-    (sym e.enum_told.given.1 ∙ f.check-flags.ensures)
-
-pub check-certificate-spec : {M : Type 1} → statement M
-check-certificate-spec =
-    tie.close (tie.spec (λ c κs. search needs) returns (λ c κs. search needs) (λ c. search needs) (λ c. search needs)
-    (λ c κs. search needs) returns-2 returns-3)
+pub returns-in-Nodes : goal.returns-in-Nodes
+returns-in-Nodes c = c.check_trees.ensures
+    ∙ right-flags c.args.table.now c.args.flags.now (omega arith) _
+    (sym c.in-Nodes.is ∙ c.check_flags-checked.ensures)
