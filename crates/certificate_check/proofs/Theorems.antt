@@ -66,7 +66,8 @@ module _ (t flags : List ℕ) where
       let e = sym (tree-value-same Max t flags wf) ∙ p.max_value ∙ sym p.min_value ∙ tree-value-same Min t flags wf in
       passed-both (rejection t) _ c.accepted
       (passed-both (check10 (frames t) (length flags ∷ [])) _ (rw (le-leb _ _ c.enough))
-      (passed-both (check11 t flags) _ (yes-each (λ i. leb (get_or flags i 0) 3) 11 (λ i h. le-leb _ _ (c.in_range i h)))
+      (passed-both (check11 t flags) _ (yes-each (λ i. leb (get_or flags i 0) 3) 11
+      (λ i h. le-leb _ _ (c.in_range i h)))
       (passed-both (check_tree 12 Max t flags) _
       (yes-each (rule_holds Max t flags) 12 (solved-rules Max t flags wf p.max_tree))
       (passed-both (check_tree 13 Min t flags) (check14 t flags)

@@ -72,14 +72,14 @@ module _ (a z : Arrays) where
         (beside_same c d.1 (λ k i. g k (inr i))) e
 
 -- the nodes of a tree that the links lead to are distinct
-pub around-distinct : (a : Arrays) {r u : Tree} {m : ℕ} {A B : List State} → Around a r m u A B → Distinct r
+pub around-distinct : (a : Arrays) {r : Tree} {m : ℕ} {u : Tree} {A B : List State} → Around a r m u A B → Distinct r
     → Distinct u
 around-distinct a top d = d
 around-distinct a (child {ks = ks} {u = u} F G w b h p q) d =
     child-distinct u ks (beside-child a b) (around-distinct a w d).1
 
 -- a change within u leaves all that is around it
-pub around-same : (a z : Arrays) {r u : Tree} {m : ℕ} {A B : List State} → Distinct r → AgreeBut a z u
+pub around-same : (a z : Arrays) {r : Tree} {m : ℕ} {u : Tree} {A B : List State} → Distinct r → AgreeBut a z u
     → Around a r m u A B → Around z r m u A B
 around-same a z d g top = top
 around-same a z d g (child {n = n} {ks = ks} {u = u} F G w b h p q) =

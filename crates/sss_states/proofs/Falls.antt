@@ -1,7 +1,8 @@
 -- Where the merit of a node fell, the entries above it are made anew up to a node whose greatest merit stays; from
 -- there the links lead to the state to take.
 use Rattle.prelude.proofs.{ℕ, zero, suc, ◌+◌, ◌≤◌, ◌<◌, arith, ◌≡◌, refl, sym, ◌∙◌, ap, ap₂, subst, inl, List, [], ◌++◌}
-use Rattle.prelude.proofs.{append-nil, length, set, length-set, get_or-set_same, get_or-set_other, eqb, ltb-true, ltb-false}
+use Rattle.prelude.proofs.{append-nil, length, set, length-set, get_or-set_same, get_or-set_other, eqb, ltb-true}
+use Rattle.prelude.proofs.{ltb-false}
 use Rattle.prelude.proofs.{eqb-true, eqb-false}
 use Rattle.lists.proofs.Choice.{cond_cases}
 use Rattle.gametree.specs.declared.Side.{Side}

@@ -8,7 +8,8 @@ use Rattle.lists.proofs.Choice.{cond_cases, clash}
 use Rattle.table.specs.{max_nodes, frames, first_child, child_count, parent_of, side_of, WellFormed, ChildOf}
 use Rattle.table.proofs.Next.{child-within}
 use Rattle.table.proofs.Parents.{parent-less}
-use Rattle.sss_states.specs.{best_at, link_at, packed_entry, chosen_by_side, chosen_of, renewed, needs_refresh, Refreshed}
+use Rattle.sss_states.specs.{best_at, link_at, packed_entry, chosen_by_side, chosen_of, renewed, needs_refresh}
+use Rattle.sss_states.specs.{Refreshed}
 use Rattle.sss_states.specs.{refreshed, Sound, Fits, changed, Puttable, Putting}
 use Rattle.sss_states.specs.declared.Change.{Change}
 use Rattle.sss_states.proofs.Stores.{same_or_not, set_at, InRun, OutRun, in-or-out, changed-in, changed-node}
@@ -29,7 +30,8 @@ module _ (t w : List ℕ) (p : ℕ) where
   chosen-some n e h s r q i =
       let c : suc (n - 1) ≡ child_count t p = omega arith in i ∙ ap₂ (λ s c. chosen_by_side t w p s c) q c
 
-  chosen_by : (s : Side) (n : ℕ) → child_count t p ≡ n → LinkOf t p (link_at w p) → LinkOf t p (chosen_by_side t w p s n)
+  chosen_by : (s : Side) (n : ℕ) → child_count t p ≡ n → LinkOf t p (link_at w p)
+      → LinkOf t p (chosen_by_side t w p s n)
   chosen_by s zero e o = inl refl
   chosen_by Max (suc n) e o =
       let m = leftmost-is w (first_child t p) n in inr (record { from = m.from; to = omega (arith, m.to) })

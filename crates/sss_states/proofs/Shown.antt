@@ -41,7 +41,7 @@ module _ (a : Arrays) where
         (rw e (all_append (λ s. s.merit < m) F₁ F₂ (siblings-merits b) r.0), r.1)
 
   -- so have the states around a node on the way down
-  around-merits : {r u : Tree} {m : ℕ} {A B : List State} → Around a r m u A B → Below m A × Below (m + 1) B
+  around-merits : {r : Tree} {m : ℕ} {u : Tree} {A B : List State} → Around a r m u A B → Below m A × Below (m + 1) B
   around-merits top = (tt, tt)
   around-merits {m = m} (child {X = X} {Z = Z} F G w b h p q) =
       let o = around-merits w in
@@ -80,7 +80,7 @@ module _ (a : Arrays) where
     beside-front (later F₁ F₂ b c e) = inr (F₁, F₂, e, siblings-front b, beside-front c)
 
   -- and around it
-  pub around-within : {r u : Tree} {m : ℕ} {A B : List State} → Around a r m u A B → fronts.Within r u A B
+  pub around-within : {r : Tree} {m : ℕ} {u : Tree} {A B : List State} → Around a r m u A B → fronts.Within r u A B
   around-within top = fronts.top
   around-within (child F G w b h p q) = fronts.child F G (around-within w) (beside-front b) p q
 
@@ -105,7 +105,7 @@ pub record Standing (a : Arrays) (r : Tree) (m : ℕ) (L : List State) (c : ℕ)
 
 module _ (a : Arrays) where
   -- the whole, from the states around a node of greatest merit and those that it shows
-  pub whole : {r u : Tree} {m : ℕ} {A B : List State} → Around a r m u A B → (M : List State) → Shows a u M
+  pub whole : {r : Tree} {m : ℕ} {u : Tree} {A B : List State} → Around a r m u A B → (M : List State) → Shows a u M
       → a.best (number u) ≡ m → Shows a r (A ++ (M ++ B)) × (a.best (number r) ≡ m)
   whole {r} top M h e = (subst (λ L. Shows a r L) (sym (append-nil M)) h, e)
   whole {r} (child {X = X} {Z = Z} F G w b l p q) M h e =

@@ -1,5 +1,6 @@
 -- A change at and below a node: which nodes it is at, and what is read after its run of entries has been stored.
-use Rattle.prelude.proofs.{ℕ, zero, suc, ◌+◌, ◌≤◌, ◌<◌, arith, dec_le, ◌≡◌, refl, ◌∙◌, ◌⊎◌, inl, inr, List, length, get_or}
+use Rattle.prelude.proofs.{ℕ, zero, suc, ◌+◌, ◌≤◌, ◌<◌, arith, dec_le, ◌≡◌, refl, ◌∙◌, ◌⊎◌, inl, inr, List, length}
+use Rattle.prelude.proofs.{get_or}
 use Rattle.prelude.proofs.{set, length-set, get_or-set_same, get_or-set_other}
 use Rattle.table.specs.{frames, WellFormed, ChildOf}
 use Rattle.table.proofs.Next.{child-within}

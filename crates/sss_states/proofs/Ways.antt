@@ -7,7 +7,8 @@ use Rattle.gametree.specs.declared.Side.TheVariants.{Max, Min}
 use Rattle.gametree.specs.{Tree, leaf, inner, Children, number, State, live}
 use Rattle.lists.proofs.Choice.{clash}
 use Rattle.gametree_theory.proofs.Sss.Fronts.{ChildIn}
-use Rattle.table.specs.{frames, first_child, child_count, parent_of, side_of, WellFormed, ChildOf, up_from, children_from}
+use Rattle.table.specs.{frames, first_child, child_count, parent_of, side_of, WellFormed, ChildOf, up_from}
+use Rattle.table.specs.{children_from}
 use Rattle.table.specs.{tree_at, tree}
 use Rattle.table.proofs.Next.{child-within}
 use Rattle.table.proofs.Parents.{parent_is}
@@ -45,7 +46,8 @@ module _ (t : List ℕ) (wf : WellFormed t) where
       record { others = m; count = z; side = cc; kids = cc })
 
   -- a child of one is the table's too
-  pub child-is : (n : ℕ) (q : Side) (ks : Children) (u : Tree) → inner n q ks ≡ tree_at t n → n < frames t → ChildIn u ks
+  pub child-is : (n : ℕ) (q : Side) (ks : Children) (u : Tree) → inner n q ks ≡ tree_at t n → n < frames t
+      → ChildIn u ks
       → ChildOf t n (number u) × (u ≡ tree_at t (number u))
   child-is n q ks u e h c =
       let i = inner-is n q ks e h in
@@ -106,7 +108,8 @@ module _ (t : List ℕ) (a : Arrays) where
       }
 
   -- the leftmost of greatest merit among siblings
-  pub leftmost-chosen : (m i n c : ℕ) (L : List State) → Siblings a Max (m + 1) (children_from (tree_at t) i n) L → i ≤ c
+  pub leftmost-chosen : (m i n c : ℕ) (L : List State) → Siblings a Max (m + 1) (children_from (tree_at t) i n) L
+      → i ≤ c
       → c ≤ i + n → ((k : ℕ) → i ≤ k → k < c → a.best k < a.best c)
       → ((k : ℕ) → i ≤ k → k ≤ i + n → a.best k ≤ a.best c) → Chosen a Max (children_from (tree_at t) i n) m L c
   unfolding children_from
@@ -152,7 +155,8 @@ module _ (t : List ℕ) (a : Arrays) where
   first-beside m i (suc n) f = first (fresh-siblings m (i + 1) n (λ k p q. f k (omega arith) (omega arith)))
 
   -- beside the child of number k of a Min node
-  pub sole-beside : (m i n k : ℕ) → i ≤ k → k ≤ i + n → Beside a Min m (children_from (tree_at t) i n) (tree_at t k) [] []
+  pub sole-beside : (m i n k : ℕ) → i ≤ k → k ≤ i + n
+      → Beside a Min m (children_from (tree_at t) i n) (tree_at t k) [] []
   unfolding children_from
   sole-beside m i zero k x y = let e : k ≡ i = omega arith in rw e only
   sole-beside m i (suc n) k x y =

@@ -3,7 +3,18 @@ pub mod Entry
 pub mod Engine
 pub use Entry.{entry, status_of, blank}
 unfoldable pub use Engine.Kept.{stored, leftmost_best, refreshed, descended}
-pub use Engine.Kept.{best_at, link_at, packed_entry, arrays_of, Sound, Fits, chosen_by_side, chosen_of, renewed, needs_refresh}
+pub use Engine.Kept.{
+  best_at,
+  link_at,
+  packed_entry,
+  arrays_of,
+  Sound,
+  Fits,
+  chosen_by_side,
+  chosen_of,
+  renewed,
+  needs_refresh,
+}
 pub use Engine.Kept.{Refreshed, changed, changed_list, Puttable}
 pub use Engine.Putting.{Local, Putting}
 pub use Engine.Scanned.{Attained, GreatestEntry, FirstFrom}

@@ -20,10 +20,12 @@ module _ (t flags : List ℕ) where
   table-accepted n e = judged-onward t flags (frames t) (rejection t) (flags_rejection t flags) n e
 
 pub check_certificate-requires : goal.check_certificate-requires
-check_certificate-requires c = accepted-formed c.args.table.now (nodes-accepted c.args.table.now _ (sym c.in-Nodes.is ∙ c.check-checked.ensures)).0
+check_certificate-requires c = accepted-formed c.args.table.now
+    (nodes-accepted c.args.table.now _ (sym c.in-Nodes.is ∙ c.check-checked.ensures)).0
 
 pub returns-in-Rejected : goal.returns-in-Rejected
-returns-in-Rejected c = table-rejected c.args.table.now c.args.flags.now _ (sym c.in-Rejected.is ∙ c.check-checked.ensures)
+returns-in-Rejected c = table-rejected c.args.table.now c.args.flags.now _ (sym c.in-Rejected.is
+    ∙ c.check-checked.ensures)
 
 pub returns-in-Nodes : goal.returns-in-Nodes
 returns-in-Nodes c = c.check_certificate.ensures

@@ -8,10 +8,12 @@ pub loop-node-init : goal.loop-node-init
 loop-node-init c = asking-none _ _ _
 
 pub returns-then-flags-node-gt-IN_BOTH : goal.returns-then-flags-node-gt-IN_BOTH
-returns-then-flags-node-gt-IN_BOTH c = c.rejected.ensures ∙ asking-until _ _ _ _ c.loop-node.invariant (omega arith) (lt-leb _ _ c.if-flags-node-gt-IN_BOTH.true)
+returns-then-flags-node-gt-IN_BOTH c = c.rejected.ensures
+    ∙ asking-until _ _ _ _ c.loop-node.invariant (omega arith) (lt-leb _ _ c.if-flags-node-gt-IN_BOTH.true)
 
 pub loop-node-preserved : goal.loop-node-preserved
-loop-node-preserved c = asking-more _ _ _ _ c.loop-node.invariant (omega arith) (le-leb _ _ c.if-flags-node-gt-IN_BOTH.false)
+loop-node-preserved c = asking-more _ _ _ _ c.loop-node.invariant (omega arith)
+    (le-leb _ _ c.if-flags-node-gt-IN_BOTH.false)
 
 pub returns : goal.returns
 returns c = ap Nodes c.frame_count-n.ensures ∙ asking-all _ _ _ _ c.loop-node.invariant (omega arith)

@@ -14,7 +14,13 @@ pub side_at-mover-requires : goal.side_at-mover-requires
 side_at-mover-requires c = omega (arith, c.loop-side.invariant.inside, c.requires.2.room)
 
 pub rule_holds-requires : goal.rule_holds-requires
-rule_holds-requires c = record { well_formed = c.requires.0; node_bound = (c.loop-side.invariant.inside, c.requires.1); mover_value = c.side_at-mover.ensures ∙ positioned-side _ _ c.requires.2 _ c.loop-side.invariant.inside }
+rule_holds-requires c = record {
+  well_formed = c.requires.0;
+  node_bound =
+      (c.loop-side.invariant.inside, c.requires.1);
+  mover_value =
+      c.side_at-mover.ensures ∙ positioned-side _ _ c.requires.2 _ c.loop-side.invariant.inside;
+}
 
 pub returns-then-not-rule_holds : goal.returns-then-not-rule_holds
 returns-then-not-rule_holds c = rw c.rejected.ensures
@@ -27,7 +33,8 @@ child_count-next-requires c = c.loop-side.invariant.inside
 pub overflow_add-next : goal.overflow_add-next
 overflow_add-next c =
     -- the rule of the node holds
-    let holds : rule_holds c.args.side c.args.table.now c.args.flags.now c.loop-side.node ≡ true = sym c.rule_holds.ensures ∙ c.if-not-rule_holds.false in
+    let holds : rule_holds c.args.side c.args.table.now c.args.flags.now c.loop-side.node ≡ true =
+    sym c.rule_holds.ensures ∙ c.if-not-rule_holds.false in
     let w =
     ruling-within _ _ _ _ c.requires.0 _ _ c.loop-side.invariant holds _ c.child_count-next.ensures.0 in
     omega (arith, c.requires.0.at_most)
@@ -41,14 +48,16 @@ loop-side-smaller c = omega (arith, c.loop-side.invariant.inside)
 pub loop-side-preserved : goal.loop-side-preserved
 loop-side-preserved c =
     -- the rule of the node holds
-    let holds : rule_holds c.args.side c.args.table.now c.args.flags.now c.loop-side.node ≡ true = sym c.rule_holds.ensures ∙ c.if-not-rule_holds.false in
+    let holds : rule_holds c.args.side c.args.table.now c.args.flags.now c.loop-side.node ≡ true =
+    sym c.rule_holds.ensures ∙ c.if-not-rule_holds.false in
     ruling-more _ _ _ _ c.requires.0 _ _ c.loop-side.invariant holds _ c.child_count-next.ensures.0 (λ e.
     c.if-next-n.false (e ∙ sym c.frame_count-n.ensures))
 
 pub returns : goal.returns
 returns c =
     -- the rule of the node holds
-    let holds : rule_holds c.args.side c.args.table.now c.args.flags.now c.loop-side.node ≡ true = sym c.rule_holds.ensures ∙ c.if-not-rule_holds.false in
+    let holds : rule_holds c.args.side c.args.table.now c.args.flags.now c.loop-side.node ≡ true =
+    sym c.rule_holds.ensures ∙ c.if-not-rule_holds.false in
     ap Nodes c.frame_count-n.ensures
     ∙ ruling-all _ _ _ _ c.requires.0 _ _ c.loop-side.invariant holds _ c.child_count-next.ensures.0
     (c.if-next-n.true ∙ c.frame_count-n.ensures)

@@ -7,7 +7,12 @@ pub fill-requires : goal.fill-requires
 fill-requires c = record { well_formed = c.requires.0; table_in_bounds = omega (arith, c.frame_count.ensures) }
 
 pub judge-requires : goal.judge-requires
-judge-requires c = (c.requires.0, c.requires.1, positioned _ c.requires.0 _ (omega (arith, c.frame_count.ensures)) c.fill.ensures)
+judge-requires c = (
+  c.requires.0,
+  c.requires.1,
+  positioned _ c.requires.0 _ (omega (arith, c.frame_count.ensures))
+      c.fill.ensures,
+)
 
 pub judge-requires-2 : goal.judge-requires-2
 judge-requires-2 c = (c.requires.0, c.requires.1, positioned _ c.requires.0 _ c.requires.0.at_most c.fill-2.ensures)

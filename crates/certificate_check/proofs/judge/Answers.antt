@@ -19,7 +19,8 @@ module _ (t flags : List ℕ) where
   no-max : (r : Rejection) → checked.Rejected r ≡ answer (frames t) (check_tree 12 Max t flags) → Rejected r ≡ due
   unfolding trees_rejection
   no-max r e =
-      judged-until t flags (frames t) (check_tree 12 Max t flags) (check_tree 13 Min t flags and_then check14 t flags) r e
+      judged-until t flags (frames t) (check_tree 12 Max t flags) (check_tree 13 Min t flags and_then check14 t flags)
+      r e
 
   module _ (k : ℕ) (e : checked.Nodes k ≡ answer (frames t) (check_tree 12 Max t flags)) where
     no-min : (r : Rejection) → checked.Rejected r ≡ answer (frames t) (check_tree 13 Min t flags) → Rejected r ≡ due
@@ -44,26 +45,36 @@ module _ (t flags : List ℕ) where
     equal h = rw (← p, ← q, eq-eqb x y h)
 
 pub returns-in-Rejected : goal.returns-in-Rejected
-returns-in-Rejected c = no-max c.args.table.now c.args.flags.now _ (rw c.in-Rejected.is at c.check_rules-max_tree.ensures)
+returns-in-Rejected c = no-max c.args.table.now c.args.flags.now _
+    (rw c.in-Rejected.is at c.check_rules-max_tree.ensures)
 
 pub returns-in-Rejected-min_tree : goal.returns-in-Rejected-min_tree
-returns-in-Rejected-min_tree c = no-min c.args.table.now c.args.flags.now _ (rw c.in_default.is at c.check_rules-max_tree.ensures) _
+returns-in-Rejected-min_tree c = no-min c.args.table.now c.args.flags.now _
+    (rw c.in_default.is at c.check_rules-max_tree.ensures) _
     (rw c.in-Rejected-min_tree.is at c.check_rules-min_tree.ensures)
 
 pub returns-then-score-values : goal.returns-then-score-values
 returns-then-score-values c =
     -- questions 12 and 13 have passed
-    let passed : judged c.args.table.now c.args.flags.now (check14 c.args.table.now c.args.flags.now) ≡ due c.args.table.now c.args.flags.now = both_hold c.args.table.now c.args.flags.now _ (rw c.in_default.is at c.check_rules-max_tree.ensures) _
+    let passed : judged c.args.table.now c.args.flags.now (check14 c.args.table.now c.args.flags.now) ≡ due
+    c.args.table.now c.args.flags.now = both_hold c.args.table.now c.args.flags.now _
+    (rw c.in_default.is at c.check_rules-max_tree.ensures) _
     (rw c.in_default-min_tree.is at c.check_rules-min_tree.ensures) in
     unequal _ _ _ _ c.tree_values-values.ensures.0 c.tree_values-values.ensures.1 c.if-score-values.true ∙ passed
 
 pub value-requires : goal.value-requires
-value-requires c = omega (arith, c.tree_values-values.ensures.0, value-within Max c.args.table.now c.args.flags.now c.requires.0)
+value-requires c = omega (
+  arith,
+  c.tree_values-values.ensures.0,
+  value-within Max c.args.table.now c.args.flags.now c.requires.0,
+)
 
 pub returns : goal.returns
 returns c =
     -- questions 12 and 13 have passed
-    let passed : judged c.args.table.now c.args.flags.now (check14 c.args.table.now c.args.flags.now) ≡ due c.args.table.now c.args.flags.now = both_hold c.args.table.now c.args.flags.now _ (rw c.in_default.is at c.check_rules-max_tree.ensures) _
+    let passed : judged c.args.table.now c.args.flags.now (check14 c.args.table.now c.args.flags.now) ≡ due
+    c.args.table.now c.args.flags.now = both_hold c.args.table.now c.args.flags.now _
+    (rw c.in_default.is at c.check_rules-max_tree.ensures) _
     (rw c.in_default-min_tree.is at c.check_rules-min_tree.ensures) in
     ap Value (to_z-of_z w16 c.value.result (record { sfits = c.value.type_inv }) ∙ c.value.ensures)
     ∙ equal _ _ _ _ c.tree_values-values.ensures.0 c.tree_values-values.ensures.1 c.if-score-values.false

@@ -50,7 +50,11 @@ returns-then-count-eq0 c =
     c.if-count-eq0.true
 
 pub count_members-members-requires : goal.count_members-members-requires
-count_members-members-requires c = omega (arith, children-within c.args.table.now c.requires.well_formed c.args.node c.requires.node_bound.0 (omega arith))
+count_members-members-requires c = omega (
+  arith,
+  children-within c.args.table.now c.requires.well_formed c.args.node
+      c.requires.node_bound.0 (omega arith),
+)
 
 pub returns-then-not-member-2 : goal.returns-then-not-member-2
 returns-then-not-member-2 c =

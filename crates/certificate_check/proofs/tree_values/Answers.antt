@@ -14,7 +14,9 @@ loop-node-init c = (refl, (refl, omega arith))
 pub leaf_in-max_leaf-requires : goal.leaf_in-max_leaf-requires
 leaf_in-max_leaf-requires c =
     -- the depth of the node that the loop is at
-    let depth_is : (c.depth_at-depth.result ≡ depth_of c.args.table.now c.loop-node.node) × (c.depth_at-depth.result ≤ max_nodes) = let d = positioned-depth _ _ c.requires.2 c.loop-node.node (omega arith) in
+    let depth_is : (c.depth_at-depth.result ≡ depth_of c.args.table.now c.loop-node.node)
+    × (c.depth_at-depth.result ≤ max_nodes) = let d =
+    positioned-depth _ _ c.requires.2 c.loop-node.node (omega arith) in
     let few = positioned-few _ _ c.requires.2 c.loop-node.node (omega arith) in
     (omega (arith, c.depth_at-depth.ensures, d), omega (arith, c.depth_at-depth.ensures, d, few)) in
     record { node_bound = omega arith; depth_value = depth_is }
@@ -22,7 +24,9 @@ leaf_in-max_leaf-requires c =
 pub leaf_in-min_leaf-requires : goal.leaf_in-min_leaf-requires
 leaf_in-min_leaf-requires c =
     -- the depth of the node that the loop is at
-    let depth_is : (c.depth_at-depth.result ≡ depth_of c.args.table.now c.loop-node.node) × (c.depth_at-depth.result ≤ max_nodes) = let d = positioned-depth _ _ c.requires.2 c.loop-node.node (omega arith) in
+    let depth_is : (c.depth_at-depth.result ≡ depth_of c.args.table.now c.loop-node.node)
+    × (c.depth_at-depth.result ≤ max_nodes) = let d =
+    positioned-depth _ _ c.requires.2 c.loop-node.node (omega arith) in
     let few = positioned-few _ _ c.requires.2 c.loop-node.node (omega arith) in
     (omega (arith, c.depth_at-depth.ensures, d), omega (arith, c.depth_at-depth.ensures, d, few)) in
     record { node_bound = omega arith; depth_value = depth_is }

@@ -5,4 +5,5 @@ use Rattle.certificate_check.specs.{best_before}
 use Rattle.certificate_check.proofs.tree_values.Given as goal
 
 abbrev pub invariant-loop-node : goal.invariant-loop-node
-invariant-loop-node l = (l.greatest ≡ best_before Max l.table l.flags l.node) × ((l.least ≡ best_before Min l.table l.flags l.node) × (l.node ≤ l.n))
+invariant-loop-node l = (l.greatest ≡ best_before Max l.table l.flags l.node)
+    × ((l.least ≡ best_before Min l.table l.flags l.node) × (l.node ≤ l.n))
