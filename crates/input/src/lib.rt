@@ -1,9 +1,9 @@
-// Standard input, read to its end.
+// An input, as standard input, read to its end.
 #![tactic(auto)]
 
 ghost use Rattle.input.specs.Input.{InputFits};
 
-use libc::STDIN_FILENO;
+use std::io::Read;
 
 // What reading gives: how many bytes the input has, as far as there is room for them, or that a read failed.
 #[derive(Clone, Copy)]
@@ -13,12 +13,12 @@ pub enum Input {
 }
 
 // Reads until the input ends or the buffer is full; a read may bring less than there is room for.
-pub fn read_all(file: &mut [u8]) -> Input
+pub fn read_all<R: Read>(reader: &mut R, file: &mut [u8]) -> Input
     ensures { InputFits file.new result }
 {
     let mut size = 0;
     while size < file.len() {
-        let Input::Bytes(got) = read_some(&mut file[size..]) else {
+        let Input::Bytes(got) = read_some(reader, &mut file[size..]) else {
             return Input::Failed;
         };
         if got == 0 {
@@ -30,12 +30,11 @@ pub fn read_all(file: &mut [u8]) -> Input
 }
 
 // Reads once: how many bytes came, 0 at the end of the input.
-fn read_some(rest: &mut [u8]) -> Input
+fn read_some<R: Read>(reader: &mut R, rest: &mut [u8]) -> Input
     ensures { InputFits rest.new result }
 {
-    let got = libc::read(STDIN_FILENO, rest);
-    if got < 0 {
-        return Input::Failed;
+    match reader.read(rest) {
+        Ok(got) => Input::Bytes(got),
+        Err(_) => Input::Failed,
     }
-    Input::Bytes(io::count(got, rest))
 }
