@@ -2,27 +2,31 @@
 #![tactic(auto)]
 
 use input::Input;
-use libc::{STDERR_FILENO, STDOUT_FILENO};
+use std::io;
+use std::io::Write;
+
+// There is room for more bytes than a file may have.
+const ROOM: usize = 65536;
 
 // If a read fails there is no file to judge: one line goes to standard error, and no report that would blame the file.
 // There is room for 65,536 bytes, more than a file may have, so a longer file is refused as too long and never cut to
 // one that passes.
-fn main() {
-    let mut file = io::large_buffer();
-    match input::read_all(&mut file) {
-        Input::Bytes(size) => print_report(&file[..size]),
-        Input::Failed => print_failure(),
+fn main(rt: HostRuntime) -> io::Result<()> {
+    let mut file = [0u8; ROOM];
+    match input::read_all(&mut rt.stdin(), &mut file) {
+        Input::Bytes(size) => print_report(&mut rt.stdout(), &file[..size]),
+        Input::Failed => print_failure(&mut rt.stderr()),
     }
 }
 
 // The text of the file's report, as far as it goes.
-fn print_report(file: &[u8]) {
+fn print_report<W: Write>(out: &mut W, file: &[u8]) -> io::Result<()> {
     let text = analysis::write(file);
     let bytes = text.bytes;
     let end = text.length;
-    io::write_all(STDOUT_FILENO, &bytes[..end]);
+    out.write_all(&bytes[..end])
 }
 
-fn print_failure() {
-    io::write_all(STDERR_FILENO, b"analyse: standard input cannot be read\n");
+fn print_failure<W: Write>(out: &mut W) -> io::Result<()> {
+    out.write_all(b"analyse: standard input cannot be read\n")
 }

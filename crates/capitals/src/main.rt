@@ -5,26 +5,30 @@
 use file::MAX_FILE;
 use file_convert::length_printed;
 use input::Input;
-use libc::{STDERR_FILENO, STDOUT_FILENO};
+use std::io;
+use std::io::Write;
+
+// There is room for more bytes than a file may have.
+const ROOM: usize = 65536;
 
 // If a read fails there is no file to judge: one line goes to standard error. There is room for 65,536 bytes, more than
 // a file may have, so a longer file is refused as too long and never cut to one that passes.
-fn main() {
-    let mut file = io::large_buffer();
-    match input::read_all(&mut file) {
-        Input::Bytes(size) => print_converted(&file[..size]),
-        Input::Failed => print_failure(),
+fn main(rt: HostRuntime) -> io::Result<()> {
+    let mut file = [0u8; ROOM];
+    match input::read_all(&mut rt.stdin(), &mut file) {
+        Input::Bytes(size) => print_converted(&mut rt.stdout(), &file[..size]),
+        Input::Failed => print_failure(&mut rt.stderr()),
     }
 }
 
 // The converted file, or the refusal; there is room for either.
-fn print_converted(file: &[u8]) {
+fn print_converted<W: Write>(out: &mut W, file: &[u8]) -> io::Result<()> {
     let mut text = [0u8; MAX_FILE];
     let printed = file_convert::output(file, &mut text);
     let end = length_printed(printed);
-    io::write_all(STDOUT_FILENO, &text[..end]);
+    out.write_all(&text[..end])
 }
 
-fn print_failure() {
-    io::write_all(STDERR_FILENO, b"capitals: standard input cannot be read\n");
+fn print_failure<W: Write>(out: &mut W) -> io::Result<()> {
+    out.write_all(b"capitals: standard input cannot be read\n")
 }

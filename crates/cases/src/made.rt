@@ -1,7 +1,8 @@
 // Reports of files: of one that is given, and of the largest that pass and do not pass, which are made here because
 // they are long.
 use file::LINE_SIZE;
-use libc::STDOUT_FILENO;
+use std::io;
+use std::io::Write;
 use table::{FRAME_SIZE, MAX_NODES, MAX_TABLE};
 
 // The longest file.
@@ -16,20 +17,20 @@ const WIDTH: usize = 15;
 const BYTES: usize = 256;
 
 // The report of a tree of as many nodes as a tree may have; a leaf's value is its number.
-pub fn print_largest() {
+pub fn print_largest<W: Write>(out: &mut W) -> io::Result<()> {
     let mut table = [0u8; MAX_TABLE];
     let mut file = [0u8; FILE_SIZE];
     make_table(&mut table);
     file::write(&table, &mut file);
-    io::write_all(STDOUT_FILENO, b"# 4096 frames\n");
-    print_report(&file);
+    out.write_all(b"# 4096 frames\n")?;
+    print_report(out, &file)
 }
 
 // The report of a file that has as many bytes as the lines of one frame more.
-pub fn print_too_large() {
+pub fn print_too_large<W: Write>(out: &mut W) -> io::Result<()> {
     let file = [b'0'; FILE_SIZE + LINE_SIZE];
-    io::write_all(STDOUT_FILENO, b"# as many bytes as 4097 frames\n");
-    print_report(&file);
+    out.write_all(b"# as many bytes as 4097 frames\n")?;
+    print_report(out, &file)
 }
 
 fn make_table(table: &mut [u8]) {
@@ -66,9 +67,9 @@ fn leaf_byte(value: usize, at: usize) -> u8 {
 }
 
 // What the program `analyse` prints for a file.
-pub fn print_report(file: &[u8]) {
+pub fn print_report<W: Write>(out: &mut W, file: &[u8]) -> io::Result<()> {
     let text = analysis::write(file);
     let bytes = text.bytes;
     let end = text.length;
-    io::write_all(STDOUT_FILENO, &bytes[..end]);
+    out.write_all(&bytes[..end])
 }

@@ -5,13 +5,16 @@
 mod made;
 mod numbers;
 
-use bytes::scan::find;
+ghost use Rattle.std.specs.Prelude.{◌≤◌, length};
+
 use cases_calls::certificates::{NUMBERS, print_choice_of};
 use cases_calls::questions::{print_best_line, print_graft, print_least_value, print_regular};
 use cases_calls::states::print_states;
-use libc::{STDIN_FILENO, STDOUT_FILENO};
+use input::Input;
 use made::{print_largest, print_report, print_too_large};
 use numbers::read_numbers;
+use std::io;
+use std::io::{ErrorKind, Write};
 use text::LINE_FEED;
 
 // What a title and a call start with.
@@ -19,49 +22,70 @@ const TITLE: u8 = b'#';
 
 const CALL: u8 = b'@';
 
-fn main() {
-    print_largest();
-    print_too_large();
-    let mut input = io::large_buffer();
-    let size = io::read_full(STDIN_FILENO, &mut input);
-    print_cases(&input[..size]);
+// How many bytes of input there is room for.
+const ROOM: usize = 65536;
+
+fn main(rt: HostRuntime) -> io::Result<()> {
+    let mut out = rt.stdout();
+    print_largest(&mut out)?;
+    print_too_large(&mut out)?;
+    let mut input = [0u8; ROOM];
+    match input::read_all(&mut rt.stdin(), &mut input) {
+        Input::Bytes(size) => print_cases(&mut out, &input[..size]),
+        Input::Failed => Err(io::Error::from(ErrorKind::Other)),
+    }
 }
 
 // Every case of the input, in order.
-fn print_cases(input: &[u8]) {
+fn print_cases<W: Write>(out: &mut W, input: &[u8]) -> io::Result<()> {
     let mut at = 0;
     while at < input.len() {
-        let next = find(input, at + 1, input.len(), TITLE);
-        print_case(&input[at..next]);
+        let next = find(input, at + 1, TITLE);
+        print_case(out, &input[at..next])?;
         at = next;
     }
+    Ok(())
+}
+
+// The first index from one on that has the byte; the length where there is none.
+fn find(bytes: &[u8], from: usize, byte: u8) -> usize
+    requires { from ≤ length bytes.now }
+    ensures low { from ≤ result }
+    ensures high { result ≤ length bytes.now }
+{
+    for at in from..bytes.len() {
+        if bytes[at] == byte {
+            return at;
+        }
+    }
+    bytes.len()
 }
 
 // The title of a case, and what its call gives. Without a line feed after the title there is no case.
-fn print_case(case: &[u8]) {
+fn print_case<W: Write>(out: &mut W, case: &[u8]) -> io::Result<()> {
     let size = case.len();
-    let title = find(case, 0, size, LINE_FEED);
+    let title = find(case, 0, LINE_FEED);
     if title == size {
-        return;
+        return Ok(());
     }
     let start = title + 1;
-    let call = find(case, start, size, CALL);
-    io::write_all(STDOUT_FILENO, &case[0..start]);
-    print_answer(&case[start..call], &case[call..]);
+    let call = find(case, start, CALL);
+    out.write_all(&case[0..start])?;
+    print_answer(out, &case[start..call], &case[call..])
 }
 
 // What a call gives for a file, by the first letter of its name; the file's report where there is no call.
-fn print_answer(file: &[u8], call: &[u8]) {
+fn print_answer<W: Write>(out: &mut W, file: &[u8], call: &[u8]) -> io::Result<()> {
     let mut numbers = [0u32; NUMBERS];
     let count = read_numbers(call, &mut numbers);
     match first_letter(call) {
-        b'p' => print_choice_of(file, &numbers[..count]),
-        b's' => print_states(file, numbers[0], numbers[1]),
-        b'b' => print_best_line(file),
-        b'g' => print_graft(file, numbers[0], numbers[1]),
-        b'l' => print_least_value(file, numbers[0], numbers[1], numbers[2], numbers[3]),
-        b'r' => print_regular(numbers[0], numbers[1]),
-        _ => print_report(file),
+        b'p' => print_choice_of(out, file, &numbers[..count]),
+        b's' => print_states(out, file, numbers[0], numbers[1]),
+        b'b' => print_best_line(out, file),
+        b'g' => print_graft(out, file, numbers[0], numbers[1]),
+        b'l' => print_least_value(out, file, numbers[0], numbers[1], numbers[2], numbers[3]),
+        b'r' => print_regular(out, numbers[0], numbers[1]),
+        _ => print_report(out, file),
     }
 }
 

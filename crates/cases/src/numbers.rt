@@ -1,6 +1,6 @@
 // The numbers of a call.
 ghost use Rattle.std.specs.Prelude.{◌≤◌, length};
-ghost use Rattle.io.specs.Counts.{IsPrefixLen};
+ghost use Rattle.cases_calls.specs.Sizes.{IsPrefixLen};
 
 // A number keeps its last seven digits when one more is added.
 const SEVEN_DIGITS: u32 = 10000000;

@@ -1,4 +1,4 @@
 -- Definitions for the calls of the cases.
 pub mod Sizes
 pub mod Numbers
-pub use Sizes.{frames_size}
+pub use Sizes.{frames_size, IsPrefixLen}

@@ -1,21 +1,22 @@
 // The choice between two certificates.
 ghost use Rattle.std.specs.Prelude.{◌<◌};
-ghost use Rattle.io.specs.Counts.{IsPrefixLen};
+ghost use Rattle.cases_calls.specs.Sizes.{IsPrefixLen};
 
 use crate::answers::print_rejection;
 use crate::print::{print_bytes, print_line_feed};
 use crate::tables::{TABLE_SIZE, fitted, read_table};
 use certificate_choice::Choice;
-use libc::STDOUT_FILENO;
+use std::io;
+use std::io::Write;
 
 // How many numbers a call may have; here they are flags, and the first says how many of them one certificate has.
 pub const NUMBERS: usize = 80;
 
 // Which of two certificates is chosen, of flags that are given: before them stands how many the first one has.
-pub fn print_choice_of(file: &[u8], numbers: &[u32]) {
+pub fn print_choice_of<W: Write>(out: &mut W, file: &[u8], numbers: &[u32]) -> io::Result<()> {
     let mut flags = [0u8; NUMBERS];
     let count = copy_flags(numbers, &mut flags);
-    print_choice_on(file, &flags[..count]);
+    print_choice_on(out, file, &flags[..count])
 }
 
 // The numbers as flags; how many they are.
@@ -36,21 +37,22 @@ fn flag(numbers: &[u32], i: usize) -> u8 {
     0
 }
 
-fn print_choice_on(file: &[u8], flags: &[u8]) {
+fn print_choice_on<W: Write>(out: &mut W, file: &[u8], flags: &[u8]) -> io::Result<()> {
     let mut table = [0u8; TABLE_SIZE];
     let size = read_table(file, &mut table);
-    print_pair(&table[..size], flags);
+    print_pair(out, &table[..size], flags)
 }
 
 // The two certificates taken apart; nothing is printed where the first has fewer flags than said.
-fn print_pair(table: &[u8], flags: &[u8]) {
+fn print_pair<W: Write>(out: &mut W, table: &[u8], flags: &[u8]) -> io::Result<()> {
     if flags.len() == 0 {
-        return;
+        return Ok(());
     }
     let end = length_in(flags[0]) + 1;
     if end <= flags.len() {
-        print_choice(table, &flags[1..end], &flags[end..]);
+        return print_choice(out, table, &flags[1..end], &flags[end..]);
     }
+    Ok(())
 }
 
 // A byte as a length.
@@ -61,22 +63,27 @@ fn length_in(byte: u8) -> usize
 }
 
 // What the choice gives, with the flags that are handed back.
-fn print_choice<'t, 'a: 'r, 'b: 'r, 'r>(table: &'t [u8], first: &'a [u8], second: &'b [u8]) {
+fn print_choice<'t, 'a: 'r, 'b: 'r, 'r, W: Write>(
+    out: &mut W,
+    table: &'t [u8],
+    first: &'a [u8],
+    second: &'b [u8],
+) -> io::Result<()> {
     let selection = certificate_choice::select(table, first, second);
-    print_selection(selection.choice, selection.flags);
+    print_selection(out, selection.choice, selection.flags)
 }
 
-fn print_selection(choice: Choice, flags: &[u8]) {
-    io::write_all(STDOUT_FILENO, b"shorter");
+fn print_selection<W: Write>(out: &mut W, choice: Choice, flags: &[u8]) -> io::Result<()> {
+    out.write_all(b"shorter")?;
     match choice {
         Choice::First => {
-            io::write_all(STDOUT_FILENO, b" first");
+            out.write_all(b" first")?;
         }
         Choice::Second => {
-            io::write_all(STDOUT_FILENO, b" second");
+            out.write_all(b" second")?;
         }
-        Choice::Rejected(rejection) => print_rejection(rejection),
+        Choice::Rejected(rejection) => print_rejection(out, rejection)?,
     }
-    print_line_feed();
-    print_bytes(b"flags", flags);
+    print_line_feed(out)?;
+    print_bytes(out, b"flags", flags)
 }

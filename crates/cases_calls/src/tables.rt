@@ -1,8 +1,7 @@
 // Tables read from files, and what lent memory is filled with.
 ghost use Rattle.std.specs.Prelude.{◌≡◌, min, length};
-ghost use Rattle.io.specs.Counts.{IsPrefixLen};
 ghost use Rattle.file_read.specs.File.{read_outcome};
-ghost use Rattle.cases_calls.specs.Sizes.{frames_size};
+ghost use Rattle.cases_calls.specs.Sizes.{IsPrefixLen, frames_size};
 
 use table::{Checked, FRAME_SIZE, MAX_NODES, MAX_TABLE};
 
