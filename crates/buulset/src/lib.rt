@@ -1,5 +1,6 @@
-// The calls for programs in other languages: numbers, byte slices, and answers by value. The comment of a call names
-// the call of the other crates that it makes, and what it gives; every other member of the answer is 0.
+// The calls for programs in other languages, which buulset_c exports: numbers, byte slices, and answers by value. The
+// comment of a call names the call of the other crates that it makes, and what it gives; every other member of the
+// answer is 0.
 #![tactic(auto)]
 
 ghost use Rattle.std.specs.Prelude.{◌≡◌, [], length};
@@ -24,9 +25,9 @@ ghost use Rattle.worst_fill.specs.Outcome.{fill_outcome};
 ghost use Rattle.least_count.specs.Answer.{least_answer};
 ghost use Rattle.analysis.specs.Report.{report};
 ghost use Rattle.text.specs.Text.{refused_line, text_of};
-ghost use Rattle.buulset_flat.specs.Flat.{flat_checked, flat_written, flat_printed, flat_answer, flat_plain, flat_filled};
-ghost use Rattle.buulset_flat.specs.Flat.{flat_verdict, flat_least_value, flat_least, flat_choice, flat_line, flat_text};
-ghost use Rattle.buulset_flat.specs.Flat.{flat_best_line};
+ghost use Rattle.buulset_flat.specs.Flat.{flat_checked, flat_written, flat_printed, flat_answer, flat_plain};
+ghost use Rattle.buulset_flat.specs.Flat.{flat_filled, flat_verdict, flat_least_value, flat_least, flat_choice};
+ghost use Rattle.buulset_flat.specs.Flat.{flat_line, flat_text, flat_best_line};
 ghost use Rattle.buulset.specs.Version.{version};
 ghost use Rattle.buulset.specs.Children.{flat_children, part_of};
 ghost use Rattle.buulset.specs.Outcome.{flat_by};
@@ -43,16 +44,14 @@ use table::{FRAME_SIZE, Rejection};
 const VERSION: u32 = 20000;
 
 // The version of the library.
-#[unsafe(no_mangle)]
-pub extern "C" fn buulset_version() -> u32
+pub fn buulset_version() -> u32
     ensures { result ≡ version }
 {
     VERSION
 }
 
 // `file::read`: the file's frames in the table; `count` is the number of nodes.
-#[unsafe(no_mangle)]
-pub extern "C" fn buulset_read(file: &[u8], table: &mut [u8]) -> Answer
+pub fn buulset_read(file: &[u8], table: &mut [u8]) -> Answer
     ensures { result leaving table.new
         ≡ flat_by flat_checked (read_outcome file.now table.old) }
 {
@@ -60,8 +59,7 @@ pub extern "C" fn buulset_read(file: &[u8], table: &mut [u8]) -> Answer
 }
 
 // `file::Cursor::read_line`: one line of a file, from a position on.
-#[unsafe(no_mangle)]
-pub extern "C" fn buulset_read_line(file: &[u8], at: usize) -> Line
+pub fn buulset_read_line(file: &[u8], at: usize) -> Line
     ensures { result ≡ flat_line (line_at file.now at) }
 {
     let cursor = file::Cursor { at };
@@ -69,16 +67,14 @@ pub extern "C" fn buulset_read_line(file: &[u8], at: usize) -> Line
 }
 
 // `file::digit`.
-#[unsafe(no_mangle)]
-pub extern "C" fn buulset_digit(byte: u8) -> u8
+pub fn buulset_digit(byte: u8) -> u8
     ensures { result ≡ digit_of byte }
 {
     file::digit(byte)
 }
 
 // `file::write`: the table's file in the buffer; `count` is its length in bytes.
-#[unsafe(no_mangle)]
-pub extern "C" fn buulset_write(table: &[u8], file: &mut [u8]) -> Answer
+pub fn buulset_write(table: &[u8], file: &mut [u8]) -> Answer
     ensures { result leaving file.new
         ≡ flat_by flat_written (write_outcome table.now file.old) }
 {
@@ -86,8 +82,7 @@ pub extern "C" fn buulset_write(table: &[u8], file: &mut [u8]) -> Answer
 }
 
 // `file_convert::convert`: the file with capitals in the buffer; `count` is its length in bytes.
-#[unsafe(no_mangle)]
-pub extern "C" fn buulset_convert(file: &[u8], converted: &mut [u8]) -> Answer
+pub fn buulset_convert(file: &[u8], converted: &mut [u8]) -> Answer
     ensures { result leaving converted.new
         ≡ flat_by flat_written (convert_outcome file.now converted.old) }
 {
@@ -96,8 +91,7 @@ pub extern "C" fn buulset_convert(file: &[u8], converted: &mut [u8]) -> Answer
 
 // `file_convert::output`: what `capitals` prints for the file in the buffer; `count` is its length in bytes. Where it
 // is the line of a refusal, that refusal is the answer's.
-#[unsafe(no_mangle)]
-pub extern "C" fn buulset_capitals(file: &[u8], printed: &mut [u8]) -> Answer
+pub fn buulset_capitals(file: &[u8], printed: &mut [u8]) -> Answer
     ensures { result leaving printed.new
         ≡ flat_by flat_printed (output_outcome file.now printed.old) }
 {
@@ -105,16 +99,14 @@ pub extern "C" fn buulset_capitals(file: &[u8], printed: &mut [u8]) -> Answer
 }
 
 // `table_check::check`: `count` is the number of nodes.
-#[unsafe(no_mangle)]
-pub extern "C" fn buulset_check(table: &[u8]) -> Answer
+pub fn buulset_check(table: &[u8]) -> Answer
     ensures { result ≡ flat_checked (checked table.now) }
 {
     flat_checked(table_check::check(table))
 }
 
 // `table::children`: the part of the table that it hands back, as the number of its first frame and of its frames.
-#[unsafe(no_mangle)]
-pub extern "C" fn buulset_children(table: &[u8], node: usize) -> Children
+pub fn buulset_children(table: &[u8], node: usize) -> Children
     ensures { (result ≡ flat_children table.now node)
         × (children_of table.now node ≡ part_of table.now result) }
 {
@@ -129,8 +121,7 @@ pub extern "C" fn buulset_children(table: &[u8], node: usize) -> Children
 }
 
 // `search::search` by alpha-beta: `count` is the number of evaluated leaves.
-#[unsafe(no_mangle)]
-pub extern "C" fn buulset_alphabeta(
+pub fn buulset_alphabeta(
     table: &[u8],
     evaluated: &mut [u8],
     certificate: &mut [u8],
@@ -145,8 +136,7 @@ pub extern "C" fn buulset_alphabeta(
 }
 
 // `search::search` by MTD; `steps` are its passes.
-#[unsafe(no_mangle)]
-pub extern "C" fn buulset_mtd(
+pub fn buulset_mtd(
     table: &[u8],
     evaluated: &mut [u8],
     certificate: &mut [u8],
@@ -161,8 +151,7 @@ pub extern "C" fn buulset_mtd(
 }
 
 // `search::search` by MTD(f) from the value `start`; `steps` are its tests of the root.
-#[unsafe(no_mangle)]
-pub extern "C" fn buulset_mtdf(
+pub fn buulset_mtdf(
     table: &[u8],
     start: i32,
     evaluated: &mut [u8],
@@ -178,8 +167,7 @@ pub extern "C" fn buulset_mtdf(
 }
 
 // `search::search` by SSS*; `steps` are its replacements. Where the allowance is spent, `value` is the merit.
-#[unsafe(no_mangle)]
-pub extern "C" fn buulset_sss(
+pub fn buulset_sss(
     table: &[u8],
     evaluated: &mut [u8],
     certificate: &mut [u8],
@@ -210,12 +198,7 @@ fn flat_search(
 }
 
 // `plain::search`: value, root move.
-#[unsafe(no_mangle)]
-pub extern "C" fn buulset_plain(
-    table: &[u8],
-    evaluated: &mut [u8],
-    certificate: &mut [u8],
-) -> Answer
+pub fn buulset_plain(table: &[u8], evaluated: &mut [u8], certificate: &mut [u8]) -> Answer
     ensures { result leaving lent evaluated.new certificate.new []
         ≡ flat_by flat_plain (plain_outcome table.now
         (lent evaluated.old certificate.old [])) }
@@ -225,8 +208,7 @@ pub extern "C" fn buulset_plain(
 
 // `best_line::line`: value, root move, and in `count` the number of nodes of the best line, which stand at the list's
 // front, the root first.
-#[unsafe(no_mangle)]
-pub extern "C" fn buulset_line(table: &[u8], line: &mut [u16]) -> Answer
+pub fn buulset_line(table: &[u8], line: &mut [u16]) -> Answer
     ensures { result leaving line.new
         ≡ flat_by flat_best_line (line_outcome table.now line.old) }
 {
@@ -234,16 +216,14 @@ pub extern "C" fn buulset_line(table: &[u8], line: &mut [u16]) -> Answer
 }
 
 // `certificate_check::check`: `value` is what the certificate certifies.
-#[unsafe(no_mangle)]
-pub extern "C" fn buulset_verify(table: &[u8], certificate: &[u8]) -> Answer
+pub fn buulset_verify(table: &[u8], certificate: &[u8]) -> Answer
     ensures { result ≡ flat_verdict (verdict table.now certificate.now) }
 {
     flat_verdict(certificate_check::check(table, certificate))
 }
 
 // `certificate_choice::select`, by its two parts: which certificate, and the length of what is handed back of it.
-#[unsafe(no_mangle)]
-pub extern "C" fn buulset_shorter<'a>(table: &[u8], first: &'a [u8], second: &'a [u8]) -> Choice
+pub fn buulset_shorter<'a>(table: &[u8], first: &'a [u8], second: &'a [u8]) -> Choice
     ensures { result ≡ flat_choice (choice table.now first.now second.now)
         (length (chosen_flags table.now first.now second.now)) }
 {
@@ -255,8 +235,7 @@ pub extern "C" fn buulset_shorter<'a>(table: &[u8], first: &'a [u8], second: &'a
 }
 
 // `graft::graft`: the result's table in the buffer; `count` is its number of nodes.
-#[unsafe(no_mangle)]
-pub extern "C" fn buulset_graft(first: &[u8], node: usize, second: &[u8], res: &mut [u8]) -> Answer
+pub fn buulset_graft(first: &[u8], node: usize, second: &[u8], res: &mut [u8]) -> Answer
     ensures { result leaving res.new
         ≡ flat_by flat_checked (graft_outcome first.now node second.now res.old) }
 {
@@ -264,40 +243,35 @@ pub extern "C" fn buulset_graft(first: &[u8], node: usize, second: &[u8], res: &
 }
 
 // `leaf_value::least_value`: `value` is the leaf's.
-#[unsafe(no_mangle)]
-pub extern "C" fn buulset_least_value(table: &[u8], node: usize, wanted: i32) -> Answer
+pub fn buulset_least_value(table: &[u8], node: usize, wanted: i32) -> Answer
     ensures { result ≡ flat_least_value (least_value table.now node wanted) }
 {
     flat_least_value(leaf_value::least_value(table, node, wanted))
 }
 
 // `worst_fill::fill`: the ranks in the table; `count` is the number of leaves.
-#[unsafe(no_mangle)]
-pub extern "C" fn buulset_fill(table: &mut [u8]) -> Answer
+pub fn buulset_fill(table: &mut [u8]) -> Answer
     ensures { result leaving table.new ≡ flat_by flat_filled (fill_outcome table.old) }
 {
     flat_filled(worst_fill::fill(table))
 }
 
 // `least_count::least_leaves`: `count` is the number of leaves.
-#[unsafe(no_mangle)]
-pub extern "C" fn buulset_least_leaves(width: usize, depth: usize) -> Answer
+pub fn buulset_least_leaves(width: usize, depth: usize) -> Answer
     ensures { result ≡ flat_least (least_answer width depth) }
 {
     flat_least(least_count::least_leaves(width, depth))
 }
 
 // `analysis::write`.
-#[unsafe(no_mangle)]
-pub extern "C" fn buulset_report(file: &[u8]) -> Text
+pub fn buulset_report(file: &[u8]) -> Text
     ensures { result ≡ flat_text (text_of (report file.now)) }
 {
     flat_text(analysis::write(file))
 }
 
 // `text::refused`.
-#[unsafe(no_mangle)]
-pub extern "C" fn buulset_refused(number: u8, place: usize) -> Text
+pub fn buulset_refused(number: u8, place: usize) -> Text
     ensures { result ≡ flat_text (text_of (refused_line (record { number = number; place = place }))) }
 {
     flat_text(text::refused(Rejection { number, place }))
