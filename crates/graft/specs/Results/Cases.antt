@@ -65,7 +65,8 @@ given =
     (inner_frame 1 2 ++ inner_frame 3 2 ++ inner_frame 5 2 ++ leaf_frame 0 1 ++ inner_frame 7 2 ++ leaf_frame 0 3
     ++ leaf_frame 0 4 ++ leaf_frame 0 5 ++ leaf_frame 0 6) 6
     -- before an inner node of the same level: its children move on
-    ∷ gives (inner_frame 1 1 ++ inner_frame 2 2 ++ leaf_frame 0 1 ++ inner_frame 4 1 ++ leaf_frame 0 3) 2 (pair 5 6) 42 7
+    ∷ gives (inner_frame 1 1 ++ inner_frame 2 2 ++ leaf_frame 0 1 ++ inner_frame 4 1 ++ leaf_frame 0 3) 2 (pair 5 6)
+    42 7
     (inner_frame 1 1 ++ inner_frame 2 2 ++ inner_frame 4 2 ++ inner_frame 6 1 ++ leaf_frame 0 5 ++ leaf_frame 0 6
     ++ leaf_frame 0 3) 0
     -- two levels, each behind what stands before it on its level
@@ -75,7 +76,8 @@ given =
     ++ leaf_frame 0 8) 0
     -- a lone leaf grafted; a graft at a lone leaf; both
     ∷ gives (small 1 2 3 4) 4 lone 42 7
-    (inner_frame 1 2 ++ inner_frame 3 2 ++ inner_frame 5 2 ++ leaf_frame 0 1 ++ lone ++ leaf_frame 0 3 ++ leaf_frame 0 4) 0
+    (inner_frame 1 2 ++ inner_frame 3 2 ++ inner_frame 5 2 ++ leaf_frame 0 1 ++ lone ++ leaf_frame 0 3
+    ++ leaf_frame 0 4) 0
     ∷ gives (leaf_frame 0 1) 0 (pair 5 6) 19 3 (pair 5 6) 1
     ∷ gives (leaf_frame 0 1) 0 lone 6 1 lone 0
     -- the same side moves twice below the graft, above it, and both
