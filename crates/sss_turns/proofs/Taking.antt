@@ -1,5 +1,6 @@
 -- What taking a state does, in the cases that the code tells apart.
-use Rattle.prelude.proofs.{ℕ, zero, suc, ◌+◌, ◌≤◌, ◌<◌, arith, dec_lt, ◌≡◌, refl, ap, true, false, List, [], eqb, length}
+use Rattle.prelude.proofs.{ℕ, zero, suc, ◌+◌, ◌≤◌, ◌<◌, arith, dec_lt, ◌≡◌, refl, ap, true, false, List, [], eqb}
+use Rattle.prelude.proofs.{length}
 use Rattle.prelude.proofs.{eq-eqb, ne_eqb, lt-ltb, le-ltb}
 use Rattle.lists.proofs.Choice.{true-not-false}
 use Rattle.gametree.specs.declared.Side.{Side}
