@@ -1,7 +1,8 @@
 -- What the answer of a pass says of the highs that it leaves, and of what is remembered: a node that is not below has
 -- its high at the test or above, and is explored; one that is below has its high below the test.
 use Rattle.prelude.proofs.{ℕ, zero, suc, ◌+◌, ◌≤◌, ◌<◌, le_refl, ℕ_discrete, arith, ◌≡◌, refl, sym, ap, ◌∙◌, subst}
-use Rattle.prelude.proofs.{Bool, true, false, not, List, ltb, get_or, ltb-true, ltb-false, leb-true, leb-false, not-true}
+use Rattle.prelude.proofs.{Bool, true, false, not, List, ltb, get_or, ltb-true, ltb-false, leb-true, leb-false}
+use Rattle.prelude.proofs.{not-true}
 use Rattle.prelude.proofs.{not-false}
 use Rattle.gametree.specs.declared.Side.{Side}
 use Rattle.gametree.specs.declared.Side.TheVariants.{Max, Min}

@@ -1,7 +1,7 @@
 -- What a node's entry names: the two best children of a Max node, found by a look at each, and those that a pass has to
 -- try by it.
-use Rattle.prelude.proofs.{ℕ, zero, suc, ◌+◌, ◌-◌, ◌*◌, ◌/◌, ◌%◌, ◌≤◌, ◌<◌, le_refl, ℕ_discrete, arith, ◌≡◌, refl, sym}
-use Rattle.prelude.proofs.{◌∙◌, Bool, true, false, cond, List, eqb, get_or, ne_eqb, eqb-false}
+use Rattle.prelude.proofs.{ℕ, zero, suc, ◌+◌, ◌-◌, ◌*◌, ◌/◌, ◌%◌, ◌≤◌, ◌<◌, le_refl, ℕ_discrete, arith, ◌≡◌, refl}
+use Rattle.prelude.proofs.{◌∙◌, Bool, false, List, eqb, get_or, ne_eqb, eqb-false}
 use Rattle.gametree.specs.declared.Side.{Side}
 use Rattle.gametree.specs.declared.Side.TheVariants.{Max, Min}
 use Rattle.gametree.specs.{better}

@@ -1,7 +1,8 @@
 -- What a pass does at a node, over its tree and the arrays: a leaf is tried; a node whose high is below the test, or
 -- that was found not below, is not entered; any other is entered.
 use Rattle.prelude.proofs.{ℕ, suc, ◌+◌, ◌≤◌, ◌<◌, arith, ◌≡◌, refl, sym, ap, ap₂, ◌∙◌, subst, inl, inr, true, false}
-use Rattle.prelude.proofs.{cond, List, [], ◌∷◌, leb, eqb, get_or, set, get_or-set_same, get_or-set_other, lt-ltb, le-ltb}
+use Rattle.prelude.proofs.{cond, List, [], ◌∷◌, leb, eqb, get_or, set, get_or-set_same, get_or-set_other, lt-ltb}
+use Rattle.prelude.proofs.{le-ltb}
 use Rattle.gametree.specs.declared.Side.{Side}
 use Rattle.gametree.specs.{Tree, leaf, inner, Children, InChildren, high, Memo, memo_high, Pass, stay, entered}
 use Rattle.lists.proofs.Choice.{cond_cases}

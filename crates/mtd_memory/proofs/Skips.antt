@@ -1,7 +1,8 @@
 -- Children that are passed over: under Max a child whose high is below the test is below; under Min one that is
 -- explored, and whose high is not below the test, is not below. The pass does nothing else there.
 use Rattle.prelude.proofs.{ℕ, zero, suc, ◌+◌, ◌-◌, ◌≤◌, ◌<◌, arith, ℕ_discrete, dec_lt, ◌≡◌, refl, sym, ap, ◌∙◌, subst}
-use Rattle.prelude.proofs.{Bool, true, false, cond, ◌||◌, List, eqb, get_or, eqb-true, eqb-false, eq-eqb, ne_eqb, le-leb}
+use Rattle.prelude.proofs.{Bool, true, false, cond, ◌||◌, List, eqb, get_or, eqb-true, eqb-false, eq-eqb, ne_eqb}
+use Rattle.prelude.proofs.{le-leb}
 use Rattle.prelude.proofs.{lt-leb}
 use Rattle.gametree.specs.declared.Position.{Position}
 use Rattle.gametree.specs.declared.Side.{Side}

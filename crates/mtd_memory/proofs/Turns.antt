@@ -242,7 +242,8 @@ module _ {t : List ℕ} {i first end : ℕ} (family : Family t i first end) wher
           (child j.0 (omega (arith, u.from, j.1)) (omega (arith, j.2))) k x j.3 in
           omega (arith, j.1)
 
-      remainder-more : Remainder t γ s (children_up_to t first end) (tree_at t now then children_up_to t (now + 1) end) m m'
+      remainder-more : Remainder t γ s (children_up_to t first end) (tree_at t now then children_up_to t (now + 1) end)
+          m m'
       remainder-more = subst (λ ks. Remainder t γ s (children_up_to t first end) ks m m') (kids-more t now end more)
           u.remainder
 

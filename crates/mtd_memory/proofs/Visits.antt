@@ -75,7 +75,8 @@ skip_count true n x e h = absurd (omega (arith, e))
 skip_count false n x e h = (refl, omega (arith, e, skip-back n))
 
 -- a leaf
-module _ (t : List ℕ) (wf : WellFormed t) (i : ℕ) (inside : i < frames t) (none : child_count t i ≡ 0) (m : Memory) where
+module _ (t : List ℕ) (wf : WellFormed t) (i : ℕ) (inside : i < frames t) (none : child_count t i ≡ 0) (m : Memory)
+    where
   -- an evaluated leaf's high is its score
   pub leaf-known : HighsRight t m (tree_at t i) → marked m.evaluated i ≡ true → get_or m.highs i 0 ≡ valuation t i
   leaf-known right e = right i (in-own t wf i) ∙ rw (tree-leaf t wf i inside none, e)
