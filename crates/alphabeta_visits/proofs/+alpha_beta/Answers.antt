@@ -74,7 +74,8 @@ visit_leaf-visited-requires-clause-evaluable t c =
       to = omega (arith, c.loop-evaluated.invariant.to, c.first_child-child.ensures, c.child_count-count.ensures);
     } in
     -- the tree of that child is without a mark
-    let own : Searchable c.args.table.now c.loop-evaluated.evaluated c.loop-evaluated.child c.child_position-below.result =
+    let own : Searchable c.args.table.now c.loop-evaluated.evaluated c.loop-evaluated.child
+        c.child_position-below.result =
     searchable-child _ _ _ _ c.requires.searchable _ _ _ child c.loop-evaluated.invariant.marks_kept
     (c.loop-evaluated.invariant.unvisited _ (omega arith) child) c.child_position-below.ensures in
     searchable-leaf _ _ _ _ own (omega arith)
@@ -88,7 +89,8 @@ alpha_beta-visited-requires t c =
       to = omega (arith, c.loop-evaluated.invariant.to, c.first_child-child.ensures, c.child_count-count.ensures);
     } in
     -- the tree of that child is without a mark
-    let own : Searchable c.args.table.now c.loop-evaluated.evaluated c.loop-evaluated.child c.child_position-below.result =
+    let own : Searchable c.args.table.now c.loop-evaluated.evaluated c.loop-evaluated.child
+        c.child_position-below.result =
     searchable-child _ _ _ _ c.requires.searchable _ _ _ child c.loop-evaluated.invariant.marks_kept
     (c.loop-evaluated.invariant.unvisited _ (omega arith) child) c.child_position-below.ensures in
     let r = c.requires.searchable in
@@ -104,7 +106,8 @@ loop-evaluated-preserved t c =
       to = omega (arith, c.loop-evaluated.invariant.to, c.first_child-child.ensures, c.child_count-count.ensures);
     } in
     -- the tree of that child is without a mark
-    let own : Searchable c.args.table.now c.loop-evaluated.evaluated c.loop-evaluated.child c.child_position-below.result =
+    let own : Searchable c.args.table.now c.loop-evaluated.evaluated c.loop-evaluated.child
+        c.child_position-below.result =
     searchable-child _ _ _ _ c.requires.searchable _ _ _ child c.loop-evaluated.invariant.marks_kept
     (c.loop-evaluated.invariant.unvisited _ (omega arith) child) c.child_position-below.ensures in
     -- what the visit of the child did
@@ -150,7 +153,8 @@ returns-then-child-last t c =
       to = omega (arith, c.loop-evaluated.invariant.to, c.first_child-child.ensures, c.child_count-count.ensures);
     } in
     -- the tree of that child is without a mark
-    let own : Searchable c.args.table.now c.loop-evaluated.evaluated c.loop-evaluated.child c.child_position-below.result =
+    let own : Searchable c.args.table.now c.loop-evaluated.evaluated c.loop-evaluated.child
+        c.child_position-below.result =
     searchable-child _ _ _ _ c.requires.searchable _ _ _ child c.loop-evaluated.invariant.marks_kept
     (c.loop-evaluated.invariant.unvisited _ (omega arith) child) c.child_position-below.ensures in
     -- what the visit of the child did
@@ -180,7 +184,8 @@ returns-then-beta-alpha t c =
       to = omega (arith, c.loop-evaluated.invariant.to, c.first_child-child.ensures, c.child_count-count.ensures);
     } in
     -- the tree of that child is without a mark
-    let own : Searchable c.args.table.now c.loop-evaluated.evaluated c.loop-evaluated.child c.child_position-below.result =
+    let own : Searchable c.args.table.now c.loop-evaluated.evaluated c.loop-evaluated.child
+        c.child_position-below.result =
     searchable-child _ _ _ _ c.requires.searchable _ _ _ child c.loop-evaluated.invariant.marks_kept
     (c.loop-evaluated.invariant.unvisited _ (omega arith) child) c.child_position-below.ensures in
     -- what the visit of the child did
