@@ -29,10 +29,10 @@ def put(path, name, text):
 
 
 def build():
-    """The library for other languages as it is shipped: made by `rt staticlib buulset`, which proves only what has
-    changed, or the archive in the folder that BUULSET_LIB_DIR names."""
+    """The library for other languages as it is shipped: made by `tools/build buulset_c`, which proves only what has
+    changed (PROVED=--proved: nothing, after rt ci), or the archive in the folder that BUULSET_LIB_DIR names."""
     os.makedirs(WORK, exist_ok=True)
     given = os.environ.get("BUULSET_LIB_DIR")
     if not given:
-        run(["rt", "staticlib", "buulset"], cwd=ROOT)
+        run([os.path.join(ROOT, "tools", "build")] + os.environ.get("PROVED", "").split() + ["buulset_c"], cwd=ROOT)
     return os.path.join(given or os.path.join(ROOT, "target", "staticlib"), "libbuulset.a")

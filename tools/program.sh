@@ -26,10 +26,8 @@ build() {
     command -v rt >/dev/null || fail 3 "the program is not built, and the Rattle kit's command rt is not on the path"
     echo "$name: building the program; its proofs are checked first, which takes some minutes" >&2
     mkdir -p "$root/target" || exit 3
-    (cd "$root" && rt check "$name") 2>&1 | tee "$log" | progress >&2
-    grep -q '^rt: ok,' "$log" ||
-        fail 3 "not proved:$(sed -n 's/^rt: FAILED://p' "$log"); what the prover said is in $log"
-    touch "$program"
+    ("$root/tools/build" "$name"; echo "status $?") 2>&1 | tee "$log" | progress >&2
+    [ "$(tail -n 1 "$log")" = "status 0" ] || fail 3 "not proved; what the prover said is in $log"
 }
 
 case $#:$1 in

@@ -4,7 +4,7 @@
 
 Where the archive libbuulset.a and a C compiler are there, the wheel carries the shared library; otherwise it is
 Python alone, and the module looks for an installed library. BUULSET_LIB_DIR names the archive's folder, otherwise it is
-where `rt staticlib buulset` puts it. One source and one archive give one wheel, byte for byte."""
+where `tools/build buulset_c` puts it. One source and one archive give one wheel, byte for byte."""
 import base64
 import hashlib
 import os

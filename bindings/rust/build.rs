@@ -1,4 +1,4 @@
-//! Finds the archive: in the folder that `BUULSET_LIB_DIR` names, or where `rt staticlib buulset` puts it in this
+//! Finds the archive: in the folder that `BUULSET_LIB_DIR` names, or where `tools/build buulset_c` puts it in this
 //! repository.
 use std::{env, path::PathBuf};
 
@@ -10,7 +10,7 @@ fn main() {
     println!("cargo:rerun-if-changed={}", archive.display());
     assert!(
         archive.exists(),
-        "{} is missing: run `rt staticlib buulset`, or name its folder in BUULSET_LIB_DIR",
+        "{} is missing: run `tools/build buulset_c`, or name its folder in BUULSET_LIB_DIR",
         archive.display()
     );
     println!("cargo:rustc-link-search=native={}", folder.display());
