@@ -21,7 +21,7 @@ PATH = re.compile(r"[\w.+-]+(?:/[\w.+*-]+)+/?|[\w-]+\.(?:antt|rt|py|sh|md|c|h|tr
 ANY = re.compile(r".*NAME.*|target.*|rattle-kit.*|x86_64-.*|.*\*.*")
 EDIT = re.compile(r"([a-z_0-9]+)/([a-z_0-9]+)")
 CALL = re.compile(r"([a-z_0-9]+)::(?:([\w]+)::)*(?:([\w]+)|\{([^}]*)\})(?:\(.*\))?")
-THEOREM = re.compile(r"[a-z0-9][\w′-]*-[\w′-]+")
+THEOREM = re.compile(r"[a-z0-9][\w'-]*-[\w'-]+")
 # definitions, types and functions, but no constant
 NAME = re.compile(r"[a-z]\w*[A-Z_]\w*|[A-Z][a-z]\w*")
 # names that are cited with their file
@@ -39,7 +39,8 @@ def read(*path):
 
 
 def files(folder, *ends):
-    for base, _, names in os.walk(os.path.join(ROOT, folder)):
+    for base, below, names in os.walk(os.path.join(ROOT, folder)):
+        below[:] = [name for name in below if name != "out"]
         for name in names:
             if name.endswith(ends):
                 yield os.path.relpath(os.path.join(base, name), ROOT)
@@ -161,7 +162,7 @@ def linked(text):
                 edit = EDIT.fullmatch(word[1])
                 if edit:
                     path = "crates/%s/must-fail/%s.edit" % edit.groups()
-                elif not path and word[1] not in at_file and re.fullmatch(r"[a-z][\w′-]*", word[1]):
+                elif not path and word[1] not in at_file and re.fullmatch(r"[a-z][\w'-]*", word[1]):
                     path = home(word[1], section)
                 if not path or not os.path.isfile(os.path.join(ROOT, path)):
                     return word[0]
