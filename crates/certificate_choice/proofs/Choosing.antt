@@ -37,4 +37,5 @@ pub choice-says : (t f s : List ℕ) (c : Choice) → c ≡ choice t f s
     → Says (rejection t) (flags_rejection t f) (flags_rejection t s) c
 unfolding choice
 choice-says t f s c e =
-    rw e (says (rejection t) (flags_rejection t f) (flags_rejection t s) (ltb (flagged_leaves t s) (flagged_leaves t f)))
+    rw e (says (rejection t) (flags_rejection t f) (flags_rejection t s)
+    (ltb (flagged_leaves t s) (flagged_leaves t f)))

@@ -80,7 +80,8 @@ module _ (t f s : List ℕ) where
   pub neither : {r q : Rejection} → verdict t f ≡ verdicts.Rejected r → verdict t s ≡ verdicts.Rejected q
       → choice t f s ≡ Rejected r
   unfolding choice certificate_rejection
-  neither e d = both-rejected (rejection t) (flags_rejection t f) (flags_rejection t s) _ (refused t f e) (refused t s d)
+  neither e d = both-rejected (rejection t) (flags_rejection t f) (flags_rejection t s) _ (refused t f e)
+      (refused t s d)
 
   -- a rejected table settles it
   pub table-rejected : {r : Rejection} → rejection t ≡ some r → choice t f s ≡ Rejected r

@@ -30,7 +30,8 @@ choice_by (some r) (some s) b = Rejected r
 unfoldable pub choice : (t first second : List ℕ) → Choice
 choice t first second =
     unless (rejection t) Rejected
-    (choice_by (flags_rejection t first) (flags_rejection t second) (ltb (flagged_leaves t second) (flagged_leaves t first)))
+    (choice_by (flags_rejection t first) (flags_rejection t second)
+    (ltb (flagged_leaves t second) (flagged_leaves t first)))
 
 -- the flags of the choice, one a node; none on a rejection
 abbrev pub flags_by : (t first second : List ℕ) → Choice → List ℕ

@@ -41,7 +41,7 @@ pub fn select<'t, 'a: 'r, 'b: 'r, 'r>(
         × (result.flags.ref_ptr ≡ pointer_by first.entry.ref_ptr second.entry.ref_ptr result.choice) }
 {
     let chosen = choose(table, first, second);
-    let part = flags(table, first, second, chosen);
+    let part: &'r [u8] = flags(table, first, second, chosen);
     paired(part, chosen)
 }
 

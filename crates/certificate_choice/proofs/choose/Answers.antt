@@ -1,5 +1,5 @@
 -- `choose` meets its contract: a rejected table settles the answer, an accepted one leaves it to the certificates.
-use Rattle.prelude.proofs.{ℕ, ◌≡◌, sym, ◌∙◌, List, ltb, needs}
+use Rattle.prelude.proofs.{ℕ, ◌≡◌, sym, ◌∙◌, List, ltb}
 use Rattle.table.specs.declared.Rejection.{Rejection}
 use Rattle.table.specs.declared.Checked.TheVariants as answers
 use Rattle.table.specs.{frames, rejection, checked}
@@ -9,8 +9,7 @@ use Rattle.certificate_check.specs.{flags_rejection}
 use Rattle.certificate_choice.specs.declared.Choice.{Choice}
 use Rattle.certificate_choice.specs.declared.Choice.TheVariants.{Rejected}
 use Rattle.certificate_choice.specs.{flagged_leaves, choice_by, choice}
-use Rattle.certificate_choice.proofs.choose.Statement.{statement}
-use Rattle.certificate_choice.proofs.choose.Tie as tie
+use Rattle.certificate_choice.proofs.choose.Goals as goal
 
 module _ (t f s : List ℕ) where
   table-rejected : (r : Rejection) → answers.Rejected r ≡ checked t → Rejected r ≡ choice t f s
@@ -23,28 +22,14 @@ module _ (t f s : List ℕ) where
   unfolding choice
   table-accepted n e c h = rw (answer-nodes (frames t) n (rejection t) e).0 h
 
-choose-certificate-requires : tie.Need-choose-certificate-requires
-choose-certificate-requires c κs =
-    let k = c.before.before in
-    let t = k.before.before.before.before.args.table.now in
-    accepted-formed t (nodes-accepted t _ (sym c.enum_told.given.1 ∙ k.check.ensures)).0
+pub choose_certificate-requires : goal.choose_certificate-requires
+choose_certificate-requires c = accepted-formed c.args.table.now
+    (nodes-accepted c.args.table.now _ (sym c.in-Nodes.is ∙ c.check-checked.ensures)).0
 
-returns : tie.Need-returns
-returns c =
-    let k = c.before.before.before in
-    let a = k.before.before.before.before.args in
-    table-rejected a.table.now a.first.now a.second.now _
-    (sym c.before.checked.given.1 ∙ k.check.ensures)
+pub returns-in-Rejected : goal.returns-in-Rejected
+returns-in-Rejected c = table-rejected c.args.table.now c.args.first.now c.args.second.now _
+    (sym c.in-Rejected.is ∙ c.check-checked.ensures)
 
-returns-2 : tie.Need-returns-2
-returns-2 c =
-    let e = c.before in
-    let k = e.before.before in
-    let a = k.before.before.before.before.args in
-    table-accepted a.table.now a.first.now a.second.now _
-    (sym e.enum_told.given.1 ∙ k.check.ensures) _ c.choose-certificate.ensures
-
-pub choose_spec : {M : Type 1} → statement M
-choose_spec =
-    tie.close (tie.spec (λ c κs. search needs) (λ c. search needs) (λ c. search needs) choose-certificate-requires
-    returns returns-2)
+pub returns-in-Nodes : goal.returns-in-Nodes
+returns-in-Nodes c = table-accepted c.args.table.now c.args.first.now c.args.second.now _
+    (sym c.in-Nodes.is ∙ c.check-checked.ensures) _ c.choose_certificate.ensures
