@@ -11,6 +11,7 @@ use Rattle.table.proofs.Totals.{tree-size}
 use Rattle.table.proofs.TreeOfTable.{score-worth}
 use Rattle.table.proofs.Values.{value-stored}
 use Rattle.table_check.proofs as table_check
+use Rattle.table_check.specs.contracts as table_check'
 use Rattle.certificate_write.specs.{marks_of, flags_of, listed}
 use Rattle.certificate_check.specs.declared.Verdict.TheVariants.{Value}
 use Rattle.certificate_check.specs.{verdict}
@@ -18,7 +19,7 @@ use Rattle.methods.specs.declared.Findings.{Findings}
 use Rattle.methods.specs.declared.Spent.{Spent as Spending}
 use Rattle.methods.specs.declared.Answer.TheVariants.{Found, Spent}
 use Rattle.methods.specs.{run_of, evaluated_by, findings_by}
-use Rattle.demands.specs.Runs.{Runs}
+use Rattle.demands.specs.Runs.{Runs, function}
 use Rattle.demands.specs.{EverySearch, Given, Room}
 use Rattle.demands.proofs.Contracts as contracts
 use Rattle.demands.proofs.Running.{follows, every}
@@ -65,7 +66,7 @@ verified = every (λ c s g e.
 -- "Guessing past the leaves was never wanted, so the value is that of the tree handed over": `tree t` is the tree that
 -- the frames of the table describe (table/proofs/TreeOfTable.antt), and a leaf counts with the worth, at its depth, of
 -- the number that its bytes 4 and 5 hold in two's complement
-pub leaf-worth : Runs table_check.check.ended table_check.check.Symbol.routine
+pub leaf-worth : Runs table_check'.check.ended (function table_check.check.Symbol.name table_check.check.Symbol.code)
     (λ κs (t, _) r e. (n : ℕ) → r ≡ Nodes n → (i : ℕ) → i < frames t.now → child_count t.now i ≡ 0
     → value_of (valuation t.now i)
     ≡ worth (depth_of t.now i) (signed (byte_of t.now i 4) (byte_of t.now i 5)))

@@ -25,8 +25,9 @@ use Rattle.methods.specs.declared.Answer.TheVariants.{Found, Rejected}
 use Rattle.methods.specs.{run_of, evaluated_by, steps_by, lent}
 use Rattle.methods.proofs.Rules as rules
 use Rattle.sss.proofs as sss
+use Rattle.sss.specs.contracts as sss'
 use Rattle.sss_states.specs.{blank}
-use Rattle.demands.specs.Runs.{Runs}
+use Rattle.demands.specs.Runs.{Runs, function}
 use Rattle.demands.specs.{EverySearch, Given, count_of, Marked}
 use Rattle.demands.proofs.Contracts as contracts
 use Rattle.demands.proofs.Running.{follows, every}
@@ -81,7 +82,7 @@ replacements = every (λ c s n i g e.
 
 -- and the first entries of a lent list of states, one a node, are reset, and later ones are kept, also where its
 -- allowance ends it
-pub list-reset : Runs sss.search.ended sss.search.Symbol.routine
+pub list-reset : Runs sss'.search.ended (function sss.search.Symbol.name sss.search.Symbol.code)
     (λ κs (t, (l, _)) r (_, (l', _)). ((q : Rejection) → r ≡ Rejected q → ⊥)
     → l'.now ≡ replicate (frames t.now) blank ++ drop (frames t.now) l.now)
 list-reset =

@@ -5,7 +5,6 @@ use Rattle.prelude.proofs.{ℕ, suc, ◌≡◌, List, [], ◌∷◌, lit<, w8, n
 use seplogic.Ra.Ura.{Ura}
 use base.Logic.{SProp, ent, sep, emp, guard_e, via, mono_r, id⊢}
 use base.Fml.{Lft, Share, Fml, fsep, flft}
-use prog.Routine.{Routine}
 use types.Logic.{Logic, sem}
 use types.Kit.{◌$◌, !, ‵, raw, ◌⊛◌, qed, use2, given, learn, split, join, move, later, await, updating}
 use types.Kit.{now, fsplit, fjoin, feq_l, feq_i, by}
@@ -26,9 +25,10 @@ use borrow.Table.Referent.{f_int}
 use borrow.Rule.Slice.Know.{AllWt, fit_at, shs_known}
 use Rattle.table.specs.{◌leaving◌}
 use Rattle.file_write.proofs as writer
+use Rattle.file_write.specs.contracts as writer'
 use Rattle.file_write.specs.{write_outcome}
 use Rattle.file.specs.{Bytes}
-use Rattle.demands.specs.Runs.{Runs}
+use Rattle.demands.specs.Runs.{Runs, function}
 use Rattle.demands.specs.{Claim}
 use Rattle.demands.proofs.Contracts as contracts
 use Rattle.demands.proofs.Running.{follows}
@@ -65,7 +65,7 @@ lent {n} os ps r ks =
 
 -- so that the slice holds bytes need not be asked of it
 pub first-bytes : {n : ℕ} {os : List (Outlives (suc n))} {ps : List (Slot (suc n))} {res : Slot (suc n)}
-    {ks : Kepts (shr_slice 0 tt (λ _. u8) ∷ ps)} {f : Routine} {P : Claim (lent os ps res ks)}
+    {ks : Kepts (shr_slice 0 tt (λ _. u8) ∷ ps)} {f : Function} {P : Claim (lent os ps res ks)}
     → Runs (lent os ps res ks) f (λ κs x r e. Bytes x.0.now → P κs x r e) → Runs (lent os ps res ks) f P
 first-bytes {n} {os} {ps} {res} {ks} {f} {P} m =
     record {
@@ -89,6 +89,6 @@ first-bytes {n} {os} {ps} {res} {ks} {f} {P} m =
     }
 
 -- what the contract of the writer says of a call, and that its table holds bytes
-pub writer-says : Runs writer.write.ended writer.write.Symbol.routine
+pub writer-says : Runs writer'.write.ended (function writer.write.Symbol.name writer.write.Symbol.code)
     (λ κs (t, (f, _)) r (_, (f', _)). Bytes t.now × (r leaving f'.now ≡ write_outcome t.now f.now))
 writer-says = first-bytes (follows contracts.treefile-write (λ κs x r e s bytes. (bytes, s)))

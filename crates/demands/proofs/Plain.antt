@@ -11,9 +11,10 @@ use Rattle.certificate_write.proofs.Questions.{room-passed}
 use Rattle.certificate_check.specs.declared.Verdict.TheVariants.{Value}
 use Rattle.certificate_check.specs.{verdict}
 use Rattle.plain.proofs as plain
+use Rattle.plain.specs.contracts as plain'
 use Rattle.plain.specs.declared.PlainAnswer.TheVariants as plain-answer
 use Rattle.plain.specs.{all_leaves, plain_found}
-use Rattle.demands.specs.Runs.{Runs}
+use Rattle.demands.specs.Runs.{Runs, function}
 use Rattle.demands.specs.{EachPlain, CertifiedBy}
 use Rattle.demands.proofs.Contracts as contracts
 use Rattle.demands.proofs.Running.{follows, each-plain}
@@ -21,7 +22,7 @@ use Rattle.demands.proofs.Handed.{flags-certify, flags-verified}
 use Rattle.demands.proofs.PlainCalls as calls
 
 -- "and gives value and move": with an accepted table and room in what is lent there is a result
-pub plain-gives : Runs plain.search.ended plain.search.Symbol.routine
+pub plain-gives : Runs plain'.search.ended (function plain.search.Symbol.name plain.search.Symbol.code)
     (λ κs (t, (m, (f, _))) r e. Accepted t.now → frames t.now ≤ length m.now
     → frames t.now ≤ length f.now → r ≡ plain-answer.Found (plain_found t.now))
 plain-gives =

@@ -6,12 +6,13 @@ use Rattle.table.specs.{frames, Accepted}
 use Rattle.file_line.specs.{line_size}
 use Rattle.file_read.specs.{AcceptedFile}
 use Rattle.file_write.proofs as writer
+use Rattle.file_write.specs.contracts as writer'
 use Rattle.file_write.specs.declared.Written.TheVariants.{Length, Rejected as RejectedWrite}
 use Rattle.file_write.specs.{write_outcome}
 use Rattle.file.specs.{InCapitals, Saved}
 use Rattle.file.proofs.RoundTrip.{written-capitals, written-accepted}
 use Rattle.file.proofs.Saving.{write-gives, write-short, write-saves, saved-once}
-use Rattle.demands.specs.Runs.{Runs}
+use Rattle.demands.specs.Runs.{Runs, function}
 use Rattle.demands.specs.{RunBoth}
 use Rattle.demands.proofs.Running.{follows, together}
 use Rattle.demands.proofs.LentBytes.{writer-says}
@@ -33,7 +34,7 @@ module _ (t file : List ℕ) where
   file-laid = write-saves t file
 
 -- "capital letters, a line feed after every line, the last included"
-pub in-capitals : Runs writer.write.ended writer.write.Symbol.routine
+pub in-capitals : Runs writer'.write.ended (function writer.write.Symbol.name writer.write.Symbol.code)
     (λ κs (t, _) r (_, (b, _)). (n : ℕ) → r ≡ Length n → InCapitals (take n b.now) (frames t.now))
 in-capitals =
     follows writer-says (λ κs (t, (b, _)) r (_, (b', _)) (bytes, s) n i.
@@ -42,7 +43,7 @@ in-capitals =
     (written-capitals t.now w.accepted bytes))
 
 -- a written file is accepted
-pub file-accepted : Runs writer.write.ended writer.write.Symbol.routine
+pub file-accepted : Runs writer'.write.ended (function writer.write.Symbol.name writer.write.Symbol.code)
     (λ κs _ r (_, (b, _)). (n : ℕ) → r ≡ Length n → AcceptedFile (take n b.now))
 file-accepted =
     follows writer-says (λ κs (t, (b, _)) r (_, (b', _)) (bytes, s) n i.
@@ -51,7 +52,7 @@ file-accepted =
     (written-accepted t.now w.accepted bytes))
 
 -- "and two tables give one file only if they are equal"
-pub one-file : RunBoth writer.write.ended writer.write.ended writer.write.Symbol.routine writer.write.Symbol.routine
+pub one-file : RunBoth writer'.write.ended writer'.write.ended (function writer.write.Symbol.name writer.write.Symbol.code) (function writer.write.Symbol.name writer.write.Symbol.code)
     (λ κs (t, _) r (_, (b, _)) κs' (u, _) q (_, (d, _)). (n m : ℕ) → r ≡ Length n → q ≡ Length m
     → take n b.now ≡ take m d.now → t.now ≡ u.now)
 one-file =

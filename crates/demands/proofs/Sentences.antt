@@ -15,13 +15,17 @@ use Rattle.file_hex.specs.{is_capital_digit}
 use Rattle.file_line.specs.{line_digits, lines_of, decoded}
 use Rattle.certificate_bounds.specs.{mark, ones}
 use Rattle.table_check.proofs as table_check
+use Rattle.table_check.specs.contracts as table_check'
 use Rattle.file_read.proofs as reader
+use Rattle.file_read.specs.contracts as reader'
 use Rattle.file_read.specs.{AcceptedFile, read_outcome}
 use Rattle.file_read.proofs.Acceptance.{accepted-exactly, read-nodes}
 use Rattle.file_write.proofs as writer
+use Rattle.file_write.specs.contracts as writer'
 use Rattle.file_write.specs.declared.Written.TheVariants.{Length}
 use Rattle.file.proofs.Saving.{saved_read}
 use Rattle.file_convert.proofs as file_convert
+use Rattle.file_convert.specs.contracts as file_convert'
 use Rattle.file_convert.proofs.Converted.{converted-accepted, converted-table}
 use Rattle.certificate_check.specs.Certificate.{Certificate}
 use Rattle.methods.specs.declared.Method.TheVariants.{AlphaBeta, Mtd, Sss}
@@ -30,25 +34,31 @@ use Rattle.methods.specs.declared.Spent.{Spent as Spending}
 use Rattle.methods.specs.declared.Answer.TheVariants.{Found, Spent}
 use Rattle.methods.specs.{run_of, evaluated_by, lent, findings_by, answer_by}
 use Rattle.plain.proofs as plain
+use Rattle.plain.specs.contracts as plain'
 use Rattle.plain.specs.declared.PlainResult.{PlainResult}
 use Rattle.plain.specs.declared.PlainAnswer.TheVariants as plain-answer
 use Rattle.graft.proofs as graft
+use Rattle.graft.specs.contracts as graft'
 use Rattle.graft.specs.{graft_value}
 use Rattle.graft.proofs.Grafting.{grafted-value}
 use Rattle.leaf_value.proofs as leaf_value
+use Rattle.leaf_value.specs.contracts as leaf_value'
 use Rattle.leaf_value.specs.declared.LeastValue.TheVariants.{Value}
 use Rattle.leaf_value.specs.{root_value}
 use Rattle.leaf_value.proofs.Theorems.{given}
 use Rattle.worst_fill.proofs as worst_fill
+use Rattle.worst_fill.specs.contracts as worst_fill'
 use Rattle.worst_fill.specs.declared.Filled.TheVariants as filled
 use Rattle.least_count.proofs as least_count
+use Rattle.least_count.specs.contracts as least_count'
 use Rattle.least_count.specs.declared.Least.TheVariants as least
 use Rattle.least_count.specs.{least_answer}
 use Rattle.certificate_choice.proofs as certificate_choice
+use Rattle.certificate_choice.specs.contracts as certificate_choice'
 use Rattle.certificate_choice.specs.declared.Choice.TheVariants.{First, Second}
 use Rattle.certificate_choice.specs.{flagged_leaves, flags_by}
 use Rattle.certificate_choice.proofs.Theorems.{both_first, both-second}
-use Rattle.demands.specs.Runs.{Runs}
+use Rattle.demands.specs.Runs.{Runs, function}
 use Rattle.demands.specs.{RunBoth, EverySearch, EveryTwo, EverySearchAnd, EachPlain, Given, count_of, Room}
 use Rattle.demands.specs.{AgreeOnMarked, Alike}
 use Rattle.demands.proofs.Contracts as contracts
@@ -121,7 +131,7 @@ local = every_two (λ c d s q i x y h a. (
 -- THE REQUESTS
 
 -- N1: "It is proved equal to alpha-beta in both for every accepted tree", and so to every method
-pub plain-agrees : EverySearchAnd plain.search.ended plain.search.Symbol.routine
+pub plain-agrees : EverySearchAnd plain'.search.ended (function plain.search.Symbol.name plain.search.Symbol.code)
     (λ c κs (u, _) r e. u.now ≡ c.table → (f : Findings) → c.answer ≡ Found f
     → (g : PlainResult) → r ≡ plain-answer.Found g → (g.value ≡ f.value) × (g.root_move ≡ f.root_move))
 plain-agrees =
@@ -136,7 +146,7 @@ plain-agrees =
     ))
 
 -- N2: "Deeper trees are answered with 9"
-pub deeper-refused : Runs table_check.check.ended table_check.check.Symbol.routine
+pub deeper-refused : Runs table_check'.check.ended (function table_check.check.Symbol.name table_check.check.Symbol.code)
     (λ κs (t, _) r e. rejection_before9 t.now ≡ none → (k : ℕ) → k < frames t.now
     → max_depth < depth_of t.now k → (q : Rejection) × LowestDeep t.now q × (r ≡ RejectedTable q))
 deeper-refused =
@@ -144,7 +154,7 @@ deeper-refused =
     let p = deeper-answered t.now passed k h d in (p.0, p.1, s ∙ p.2))
 
 -- N3: "Reading a written file restores the table exactly"
-pub written_read : RunBoth writer.write.ended reader.read.ended writer.write.Symbol.routine reader.read.Symbol.routine
+pub written_read : RunBoth writer'.write.ended reader'.read.ended (function writer.write.Symbol.name writer.write.Symbol.code) (function reader.read.Symbol.name reader.read.Symbol.code)
     (λ κs (t, _) r (_, (b, _)) κs' (f, (u, _)) r' (_, (u', _)). (n : ℕ) → r ≡ Length n
     → f.now ≡ take n b.now → length t.now ≤ length u.now
     → (r' ≡ Nodes (frames t.now)) × (u'.now ≡ t.now ++ drop (length t.now) u.now))
@@ -184,7 +194,7 @@ pub merit-not-below : EverySearch (λ c. (p : Spending) → c.answer ≡ Spent p
 merit-not-below = every merit-bounds
 
 -- N7: "The reader takes capital hexadecimal letters and no others"
-pub capitals-taken : Runs reader.read.ended reader.read.Symbol.routine
+pub capitals-taken : Runs reader'.read.ended (function reader.read.Symbol.name reader.read.Symbol.code)
     (λ κs (f, _) r e. (n : ℕ) → r ≡ Nodes n → (i k : ℕ) → i < length (lines_of f.now) → k < line_digits
     → is_capital_digit (get_or (get_or (lines_of f.now) i []) k 0) ≡ true)
 capitals-taken =
@@ -193,7 +203,7 @@ capitals-taken =
     (((accepted-exactly f.now).0 a).line i h).digits k l)
 
 -- "their trees do not change"
-pub converted-same : Runs file_convert.convert.ended file_convert.convert.Symbol.routine
+pub converted-same : Runs file_convert'.convert.ended (function file_convert.convert.Symbol.name file_convert.convert.Symbol.code)
     (λ κs (f, _) r (_, (b, _)). (n : ℕ) → r ≡ Length n
     → AcceptedFile (take n b.now) × (decoded (take n b.now) ≡ decoded f.now))
 converted-same =
@@ -211,7 +221,7 @@ alternating = every (λ c s g e p.
     (tree-before c.table p (views.formed c s (views.found-given c s g e))))
 
 -- N9: "Its minimax value equals that of the first tree with the leaf's worth replaced by the grafted tree's value"
-pub graft-value : Runs graft.graft.ended graft.graft.Symbol.routine
+pub graft-value : Runs graft'.graft.ended (function graft.graft.Symbol.name graft.graft.Symbol.code)
     (λ κs (t, (k, (u, _))) r (_, (_, (_, (b, _)))). (n : ℕ) → r ≡ Nodes n →
     let result = take (frame_size * n) b.now in
     minimax (valuation result) (tree result) ≡ graft_value t.now k u.now)
@@ -223,7 +233,7 @@ graft-value =
 
 -- N10: "The call gives the smallest leaf value from -32,000 to 32,000 that makes the root's value exactly the wanted
 -- one"
-pub smallest-value : Runs leaf_value.least_value.ended leaf_value.least_value.Symbol.routine
+pub smallest-value : Runs leaf_value'.least_value.ended (function leaf_value.least_value.Symbol.name leaf_value.least_value.Symbol.code)
     (λ κs (t, (k, (w, _))) r e. (v : ℤ) → r ≡ Value v → (nat_abs v ≤ max_value) × (root_value t.now k v ≡ w)
     × ((u : ℤ) → nat_abs u ≤ max_value → u <ℤ v → root_value t.now k u ≡ w → ⊥))
 smallest-value =
@@ -231,7 +241,7 @@ smallest-value =
     let g = given t.now k w v (sym s ∙ i) in (g.ranged, g.reaches, g.smallest))
 
 -- N11: "In that tree alpha-beta values every leaf, so no filling of the shape costs it more"
-pub costs-most : EverySearchAnd worst_fill.fill.ended worst_fill.fill.Symbol.routine
+pub costs-most : EverySearchAnd worst_fill'.fill.ended (function worst_fill.fill.Symbol.name worst_fill.fill.Symbol.code)
     (λ c κs (t, _) r (t', _). (n : ℕ) → r ≡ filled.Leaves n → c.method ≡ AlphaBeta
     → (g : Findings) → c.answer ≡ Found g → (SameShape t.now c.table → g.leaves ≤ n)
     × (c.table ≡ t'.now → (g.leaves ≡ n) × ((k : ℕ) → k < frames t.now
@@ -247,7 +257,7 @@ costs-most =
 
 -- N12: "each entry is the number of leaves, a shared one counted once, in every max and min pair of equal value, in
 -- each such tree that is accepted"
-pub least-leaves : Runs least_count.least_leaves.ended least_count.least_leaves.Symbol.routine
+pub least-leaves : Runs least_count'.least_leaves.ended (function least_count.least_leaves.Symbol.name least_count.least_leaves.Symbol.code)
     (λ κs (w, (d, _)) r e. (n : ℕ) → r ≡ least.Leaves n → (t : List ℕ) → RegularTable w d t → Accepted t
     → (g h : ℕ → Bool) (v : ℕ) → Certifies (valuation t) (tree t) g h v → pair_leaves g h (tree t) ≡ n)
 least-leaves =
@@ -265,7 +275,7 @@ pub marks-no-fewer : EachPlain (λ t f _ l. (w d n : ℕ) → RegularTable w d t
 marks-no-fewer = each-plain no-fewer-plain
 
 -- N13: "the call hands back the flags of the one with fewer flagged leaves, the first on a tie"
-pub fewer-leaves : Runs certificate_choice.select.ended certificate_choice.select.Symbol.routine
+pub fewer-leaves : Runs certificate_choice'.select.ended (function certificate_choice.select.Symbol.name certificate_choice.select.Symbol.code)
     (λ κs (t, (f, (s, _))) r e. (v w : ℕ) → Certificate t.now f.now v → Certificate t.now s.now w
     → (flagged_leaves t.now s.now < flagged_leaves t.now f.now
     → (r.choice ≡ Second) × (r.flags.now ≡ take (frames t.now) s.now))

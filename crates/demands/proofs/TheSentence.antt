@@ -20,31 +20,39 @@ use Rattle.methods.specs.declared.Findings.{Findings}
 use Rattle.methods.specs.declared.Answer.TheVariants.{Found, Rejected}
 use Rattle.methods.specs.{lent, rejection_of, search_outcome}
 use Rattle.sss.proofs as sss
+use Rattle.sss.specs.contracts as sss'
 use Rattle.plain.proofs as plain
+use Rattle.plain.specs.contracts as plain'
 use Rattle.plain.specs.declared.PlainAnswer.TheVariants as plain-answer
 use Rattle.certificate_check.proofs as certificate_check
+use Rattle.certificate_check.specs.contracts as certificate_check'
 use Rattle.certificate_check.specs.declared.Verdict.TheVariants.{Value}
 use Rattle.certificate_check.specs.Certificate.{Certificate}
 use Rattle.certificate_check.proofs.Theorems.{accepts-certificates, accepted-minimax}
 use Rattle.file_read.proofs as reader
+use Rattle.file_read.specs.contracts as reader'
 use Rattle.file_read.specs.{read_rejection}
 use Rattle.file_read.proofs.Reading.{read_answer}
 use Rattle.file_write.proofs as writer
+use Rattle.file_write.specs.contracts as writer'
 use Rattle.file_write.specs.{write_check10, write_rejection}
 use Rattle.file.proofs.Saving as saving
 use Rattle.file_write.specs.declared.Written.TheVariants.{Rejected as RejectedWrite}
 use Rattle.file_convert.proofs as file_convert
+use Rattle.file_convert.specs.contracts as file_convert'
 use Rattle.file_convert.specs.declared.Printed.TheVariants.{NoRoom}
 use Rattle.file_convert.specs.{base_rejection}
 use Rattle.file_convert.proofs.Converted as converted
 use Rattle.file_convert.proofs.Printing.{no-room-keeps}
 use Rattle.graft.proofs as graft
+use Rattle.graft.specs.contracts as graft'
 use Rattle.graft_questions.specs.{graft_rejection}
 use Rattle.graft.proofs.Grafting as grafting
 use Rattle.worst_fill.proofs as worst_fill
+use Rattle.worst_fill.specs.contracts as worst_fill'
 use Rattle.worst_fill.proofs.Whole.{fill-kept}
 use Rattle.worst_fill.specs.declared.Filled.TheVariants.{Rejected as RejectedFill}
-use Rattle.demands.specs.Runs.{Runs}
+use Rattle.demands.specs.Runs.{Runs, function}
 use Rattle.demands.specs.{EverySearch, EveryTwo, Given, Marked, CertifiedBy}
 use Rattle.demands.proofs.Contracts as contracts
 use Rattle.demands.proofs.Running.{follows, every, every_two}
@@ -79,7 +87,7 @@ solution-trees = every (λ c s g e. flags-certify (handed c s g e))
 
 -- "The checker accepts a pair exactly when both are solution trees of that tree with equal value, and that value is
 -- then the minimax value"
-pub checker : Runs certificate_check.check.ended certificate_check.check.Symbol.routine
+pub checker : Runs certificate_check'.check.ended (function certificate_check.check.Symbol.name certificate_check.check.Symbol.code)
     (λ κs (t, (f, _)) r e. (((z : ℤ) × (r ≡ Value z)) ↔ ((v : ℕ) × Certificate t.now f.now v))
     × ((z : ℤ) → r ≡ Value z → z ≡ value_of (minimax (valuation t.now) (tree t.now))))
 checker =
@@ -93,7 +101,7 @@ checker =
 
 -- SSS* over a lent list of states with an entry per node gives and leaves what `search::search` does by SSS*
 -- (`search-search` in Contracts): all that is said of the calls of `search::search` in these files holds of its calls
-pub lent-list : Runs sss.search.ended sss.search.Symbol.routine
+pub lent-list : Runs sss'.search.ended (function sss.search.Symbol.name sss.search.Symbol.code)
     (λ κs (t, (l, (m, (f, (o, (n, _)))))) r (_, (_, (m', (f', (o', _))))). frames t.now ≤ length l.now
     → r leaving lent m'.now f'.now o'.now
     ≡ search_outcome (Sss n) t.now (lent m.now f.now o.now))
@@ -111,7 +119,7 @@ pub keeps : EverySearch (λ c. (q : Rejection) → c.answer ≡ Rejected q
 keeps = every views.refused
 
 -- SSS* over a lent list of states asks for room in that list too
-pub sss-keeps : Runs sss.search.ended sss.search.Symbol.routine
+pub sss-keeps : Runs sss'.search.ended (function sss.search.Symbol.name sss.search.Symbol.code)
     (λ κs (t, (l, (m, (f, (o, _))))) r (_, (l', (m', (f', (o', _))))). (q : Rejection) → r ≡ Rejected q
     → (search_rejection t.now (length l.now ∷ length m.now ∷ length f.now ∷ length o.now ∷ []) ≡ some q)
     × (l'.now ≡ l.now) × (lent m'.now f'.now o'.now ≡ lent m.now f.now o.now))
@@ -119,7 +127,7 @@ sss-keeps =
     follows contracts.sss-search (λ κs (t, (l, (m, (f, (o, (n, _)))))) r (_, (l', (m', (f', (o', _))))) s q e.
     views.list-refused n t.now l.now (lent m.now f.now o.now) _ q _ l'.now (rw e at s))
 
-pub plain-keeps : Runs plain.search.ended plain.search.Symbol.routine
+pub plain-keeps : Runs plain'.search.ended (function plain.search.Symbol.name plain.search.Symbol.code)
     (λ κs (t, (m, (f, _))) r (_, (m', (f', _))). (q : Rejection) → r ≡ plain-answer.Rejected q
     → (search_rejection t.now (length m.now ∷ length f.now ∷ []) ≡ some q)
     × (lent m'.now f'.now [] ≡ lent m.now f.now []))
@@ -127,7 +135,7 @@ plain-keeps =
     follows contracts.plain-search (λ κs (t, (m, (f, _))) r (_, (m', (f', _))) s q e.
     plain-refused t.now (lent m.now f.now []) (lent m'.now f'.now []) q (rw e at s))
 
-pub read_keeps : Runs reader.read.ended reader.read.Symbol.routine
+pub read_keeps : Runs reader'.read.ended (function reader.read.Symbol.name reader.read.Symbol.code)
     (λ κs (f, (t, _)) r (_, (t', _)). (q : Rejection) → r ≡ RejectedTable q
     → (read_rejection f.now t.now ≡ some q) × (t'.now ≡ t.now))
 read_keeps =
@@ -136,7 +144,7 @@ read_keeps =
     let i = answer-rejected (frames (decoded f.now)) q (read_rejection f.now t.now) a in
     (i, ap (λ o. o.left) s ∙ rw i))
 
-pub write_keeps : Runs writer.write.ended writer.write.Symbol.routine
+pub write_keeps : Runs writer'.write.ended (function writer.write.Symbol.name writer.write.Symbol.code)
     (λ κs (t, (b, _)) r (_, (b', _)). (q : Rejection) → r ≡ RejectedWrite q
     → (write_rejection t.now (length b.now) ≡ some q) × (b'.now ≡ b.now))
 write_keeps =
@@ -144,7 +152,7 @@ write_keeps =
     let k = saving.write_keeps t.now b.now q (sym (ap (λ o. o.answer) s) ∙ e) in
     (k.0, ap (λ o. o.left) s ∙ k.1))
 
-pub convert-keeps : Runs file_convert.convert.ended file_convert.convert.Symbol.routine
+pub convert-keeps : Runs file_convert'.convert.ended (function file_convert.convert.Symbol.name file_convert.convert.Symbol.code)
     (λ κs (f, (b, _)) r (_, (b', _)). (q : Rejection) → r ≡ RejectedWrite q
     → ((base_rejection f.now and_then write_check10 (decoded f.now) (length b.now)) ≡ some q)
     × (b'.now ≡ b.now))
@@ -154,13 +162,13 @@ convert-keeps =
     (k.0, ap (λ o. o.left) s ∙ k.1))
 
 -- where there is no room for what `capitals` prints
-pub output-keeps : Runs file_convert.output.ended file_convert.output.Symbol.routine
+pub output-keeps : Runs file_convert'.output.ended (function file_convert.output.Symbol.name file_convert.output.Symbol.code)
     (λ κs (f, (b, _)) r (_, (b', _)). r ≡ NoRoom → b'.now ≡ b.now)
 output-keeps =
     follows contracts.convert-output (λ κs (f, (b, _)) r (_, (b', _)) s e.
     ap (λ o. o.left) s ∙ no-room-keeps f.now b.now (sym (ap (λ o. o.answer) s) ∙ e))
 
-pub graft-keeps : Runs graft.graft.ended graft.graft.Symbol.routine
+pub graft-keeps : Runs graft'.graft.ended (function graft.graft.Symbol.name graft.graft.Symbol.code)
     (λ κs (t, (k, (u, (b, _)))) r (_, (_, (_, (b', _)))). (q : Rejection) → r ≡ RejectedTable q
     → (graft_rejection t.now k u.now (length b.now) ≡ some q) × (b'.now ≡ b.now))
 graft-keeps =
@@ -168,7 +176,7 @@ graft-keeps =
     let p = grafting.graft-keeps t.now k u.now b.now q (sym (ap (λ o. o.answer) s) ∙ e) in
     (p.0, ap (λ o. o.left) s ∙ p.1))
 
-pub fill-keeps : Runs worst_fill.fill.ended worst_fill.fill.Symbol.routine
+pub fill-keeps : Runs worst_fill'.fill.ended (function worst_fill.fill.Symbol.name worst_fill.fill.Symbol.code)
     (λ κs (t, _) r (t', _). (q : Rejection) → r ≡ RejectedFill q
     → (rejection t.now ≡ some q) × (t'.now ≡ t.now))
 fill-keeps =

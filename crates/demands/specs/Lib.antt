@@ -5,7 +5,7 @@ pub mod Searches
 pub mod Allowance
 pub mod Cases
 pub mod Results
-pub use Runs.{Claim, Claims, RunBoth}
+pub use Runs.{Claim, Claims, RunBoth, Function, function}
 pub use Handed.{Room, Marked, CertifiedBy, AgreeOnMarked, Alike}
 pub use Searches.{Call, EverySearch, EveryTwo, EverySearchAnd, Given, count_of, EachPlain}
 pub use Allowance.{CutShort}
