@@ -5,7 +5,7 @@
     declarations.py --try           tries wrong declarations: each must be found
     declarations.py --set-version X.Y.Z   writes the version into every place that has it
 
-It reads each `#[no_mangle] pub extern "C" fn` of crates/buulset and each `#[repr(C)]` struct of crates/buulset_answers,
+It reads each `#[unsafe(no_mangle)] pub extern "C" fn` of crates/buulset_c and each `#[repr(C)]` struct of crates/buulset_answers,
 and compares, in order, the kinds and names of the parameters, the result, and the members of the structs; the
 constants that stand in both; the texts of the refusals, in C, Rust and Python; every list of the questions with the
 table of docs/SPEC.md, 4.2; the version, in every place of VERSIONS; and, where an archive is given, its symbols."""
@@ -17,7 +17,7 @@ import subprocess
 import sys
 
 HERE = pathlib.Path(__file__).resolve().parent
-SOURCES = [HERE / "../crates" / crate / "src/lib.rt" for crate in ("buulset", "buulset_answers")]
+SOURCES = [HERE / "../crates" / crate / "src/lib.rt" for crate in ("buulset_c", "buulset_answers")]
 HEADER, FFI, LIB, MODULE = (HERE / path for path in (
     "c/buulset.h", "rust/src/ffi.rs", "rust/src/lib.rs", "python/buulset/calls.py"))
 LIMITS, MEANINGS = HERE / "python/buulset/tree.py", HERE / "python/buulset/refusal.py"
@@ -80,8 +80,12 @@ def laid_out(text):
 
 def rattle(text):
     text = re.sub(r"//.*", "", text)
-    head = r'#\[no_mangle\]\s*pub extern "C" fn buulset_(\w+)(?:<[^>]*>)?\(([^)]*)\)\s*->\s*(\w+)'
-    return declared(head, text), laid_out(text)
+    head = r'#\[unsafe\(no_mangle\)\]\s*pub extern "C" fn buulset_(\w+)(?:<[^>]*>)?\(([^)]*)\)\s*->\s*(\w+)'
+    calls, structs = declared(head, text), laid_out(text)
+    # `result` is a word of Rattle's clauses, so a parameter of that name is `res` there
+    plain = {name: ([(k, re.sub(r"^res(?=$|_len$)", "result", n)) for k, n in kinds], out)
+             for name, (kinds, out) in calls.items()}
+    return plain, structs
 
 
 def c(text):
