@@ -4,17 +4,14 @@
 
 use file::MAX_FILE;
 use file_convert::length_printed;
-use input::Input;
+use input::{Input, LARGE};
 use std::io;
 use std::io::Write;
-
-// There is room for more bytes than a file may have.
-const ROOM: usize = 65536;
 
 // If a read fails there is no file to judge: one line goes to standard error. There is room for 65,536 bytes, more than
 // a file may have, so a longer file is refused as too long and never cut to one that passes.
 fn main(rt: HostRuntime) -> io::Result<()> {
-    let mut file = [0u8; ROOM];
+    let mut file = [0u8; LARGE];
     match input::read_all(&mut rt.stdin(), &mut file) {
         Input::Bytes(size) => print_converted(&mut rt.stdout(), &file[..size]),
         Input::Failed => print_failure(&mut rt.stderr()),

@@ -10,7 +10,7 @@ ghost use Rattle.std.specs.Prelude.{◌≤◌, length};
 use cases_calls::certificates::{NUMBERS, print_choice_of};
 use cases_calls::questions::{print_best_line, print_graft, print_least_value, print_regular};
 use cases_calls::states::print_states;
-use input::Input;
+use input::{Input, LARGE};
 use made::{print_largest, print_report, print_too_large};
 use numbers::read_numbers;
 use std::io;
@@ -22,14 +22,11 @@ const TITLE: u8 = b'#';
 
 const CALL: u8 = b'@';
 
-// How many bytes of input there is room for.
-const ROOM: usize = 65536;
-
 fn main(rt: HostRuntime) -> io::Result<()> {
     let mut out = rt.stdout();
     print_largest(&mut out)?;
     print_too_large(&mut out)?;
-    let mut input = [0u8; ROOM];
+    let mut input = [0u8; LARGE];
     match input::read_all(&mut rt.stdin(), &mut input) {
         Input::Bytes(size) => print_cases(&mut out, &input[..size]),
         Input::Failed => Err(io::Error::from(ErrorKind::Other)),

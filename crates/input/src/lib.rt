@@ -5,6 +5,9 @@ ghost use Rattle.input.specs.Input.{InputFits};
 
 use std::io::Read;
 
+// Room for more bytes than a file of a tree may have.
+pub const LARGE: usize = 65536;
+
 // What reading gives: how many bytes the input has, as far as there is room for them, or that a read failed.
 #[derive(Clone, Copy)]
 pub enum Input {
