@@ -36,7 +36,8 @@ evaluated-none m =
     }
 
 -- more leaves were evaluated behind the first
-pub evaluated-more : {m m' m'' : Memory} {v w : List ℕ} → Evaluated m m' v → Evaluated m' m'' w → Evaluated m m'' (v ++ w)
+pub evaluated-more : {m m' m'' : Memory} {v w : List ℕ} → Evaluated m m' v → Evaluated m' m'' w → Evaluated m m''
+    (v ++ w)
 evaluated-more {m} {m'} {m''} {v} {w} a b =
     record {
       all = b.all ∙ ap (λ p. evaluate_all p w) a.all ∙ sym (evaluate_all-append (progress_of m) v w);

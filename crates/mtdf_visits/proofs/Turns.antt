@@ -122,7 +122,8 @@ module _ {t : List ℕ} {i first end : ℕ} (family : Family t i first end) wher
         }
 
     module _ (more : now + 1 < end) where
-      remainder-more : Remainder t γ s (children_up_to t first end) (tree_at t now then children_up_to t (now + 1) end) m m'
+      remainder-more : Remainder t γ s (children_up_to t first end) (tree_at t now then children_up_to t (now + 1) end)
+          m m'
       remainder-more = subst (λ ks. Remainder t γ s (children_up_to t first end) ks m m') (kids-more t now end more)
           u.remainder
 

@@ -1,6 +1,7 @@
 -- Tests of the table's nodes, in the terms of the code: a look at a node, a leaf, and each way out of an inner node.
 use Rattle.prelude.proofs.{ℕ, ◌+◌, ◌-◌, ◌≤◌, ◌<◌, arith, ◌≡◌, refl, sym, ap, ◌∙◌, subst, inl, inr, Bool, true, false}
-use Rattle.prelude.proofs.{List, [], ◌∷◌, ◌++◌, leb, length, get_or, set, get_or-set_same, get_or-set_other, lt-ltb, le-ltb}
+use Rattle.prelude.proofs.{List, [], ◌∷◌, ◌++◌, leb, length, get_or, set, get_or-set_same, get_or-set_other, lt-ltb}
+use Rattle.prelude.proofs.{le-ltb}
 use Rattle.prelude.proofs.{le-leb, lt-leb}
 use Rattle.lists.specs.{among}
 use Rattle.lists.proofs.Choice.{is_false}
