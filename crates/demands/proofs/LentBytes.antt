@@ -28,7 +28,7 @@ use Rattle.file_write.proofs as writer
 use Rattle.file_write.specs.contracts as writer'
 use Rattle.file_write.specs.{write_outcome}
 use Rattle.file.specs.{Bytes}
-use Rattle.demands.specs.Runs.{Runs, function}
+use Rattle.demands.specs.Runs.{Runs, Function, function}
 use Rattle.demands.specs.{Claim}
 use Rattle.demands.proofs.Contracts as contracts
 use Rattle.demands.proofs.Running.{follows}
@@ -43,11 +43,12 @@ module _ {M : Type 1} {𝓤 : Ura M} (𝓛 : Logic 𝓤) (κ : Lft) (q : Share) 
 
   entry-shows : ent 𝓤 (sep 𝓤 Entry (emp 𝓤)) (H.⇛ (sep 𝓤 Entry (fact 𝓤 (Bytes x.now))))
   entry-shows =
-      qed 𝓛 (((‵ (flft κ q) ⊛ raw tokens) ⊛ ‵ (fsep ((ShrSlice (named 0) κ u8).own_val x vs) others)) ∷ raw (emp 𝓤) ∷ [])
+      qed 𝓛
+      (((‵ (flft κ q) ⊛ raw tokens) ⊛ ‵ (fsep ((ShrSlice (named 0) κ u8).own_val x vs) others)) ∷ raw (emp 𝓤) ∷ [])
       (updating ! $ split ! $ split ! $ move ! (2 ∷ []) $ fsplit ! $ fsplit ! $ fsplit ! $ feq_l ! (λ e.
       fjoin ! $ move ! (0 ∷ 2 ∷ []) $
       use2 𝓛 (later (given (AllWt (f_int w8) x.now) (‵ ((owned.ShrSlice (named 0) κ u8).own_val x) ⊛ ‵ (flft κ q))))
-      (shs_known 𝓛 (f_int w8) κ q x.ref_ptr.0 x.ref_ptr.1 x.ghost_name x.now) $ await ! tt $ learn ! (λ a.
+      (shs_known 𝓛 (f_int w8) κ q x.ref_ptr.0 x.ref_ptr.1 x.now) $ await ! tt $ learn ! (λ a.
       split ! $ fsplit ! $ feq_i ! (List Val) vs (shr_slice_vals x) e $ fjoin ! $ fjoin ! $ move ! (0 ∷ 2 ∷ []) $
       fjoin ! $ move ! (1 ∷ 2 ∷ 0 ∷ []) $ join ! $ join ! $ now ! $
       by ! (mono_r 𝓤 Entry (fact_i 𝓤 (Bytes x.now) (emp 𝓤)
@@ -69,11 +70,12 @@ pub first-bytes : {n : ℕ} {os : List (Outlives (suc n))} {ps : List (Slot (suc
     → Runs (lent os ps res ks) f (λ κs x r e. Bytes x.0.now → P κs x r e) → Runs (lent os ps res ks) f P
 first-bytes {n} {os} {ps} {res} {ks} {f} {P} m =
     record {
-      meets = λ {𝓤 = 𝓤} 𝓛 𝓜 𝓡 y.
+      meets = λ {𝓤 = 𝓤} 𝓛 𝓜 𝓡 w y.
           let T = lent os ps res ks in
+          let ρ = 𝓡.env f.name in
           via 𝓤 _ (entry-shows 𝓛 y.0.0.0 y.0.1.0 (toks 𝓛 n y.0.0.1 y.0.1.1)
           y.0.3.0 y.0.4.0 (owns (types_at ps y.0.0) y.0.3.1 y.0.4.1))
-          (via 𝓤 (𝓛.H.⇛ (𝓡.run f _ _))
+          (via 𝓤 (𝓛.H.⇛ (𝓡.run ρ _ _))
           (𝓛.laws.⇛_mono _ _
           (weaken_under 𝓛 T
           (λ κs x. let B = Bytes x.0.now in
@@ -84,8 +86,8 @@ first-bytes {n} {os} {ps} {res} {ks} {f} {P} m =
           (λ κs x g _. guard_e 𝓤 (Bytes x.0.now) (emp 𝓤) (λ _. id⊢ 𝓤 (emp 𝓤)))
           (λ κs x g b r ws. mono_r 𝓤 (sem 𝓛 (lasts T κs x ws))
           (fact_mono 𝓤 (Bytes x.0.now → P κs x r _) (P κs x r _) (λ p. p b)))
-          (𝓡.run f) (routine_mono 𝓤 𝓛.H 𝓜 𝓡 f) (m.meets 𝓛 𝓜 𝓡) y))
-          (run_Enters 𝓤 𝓛.H 𝓜 𝓡 f _ _));
+          (𝓡.run ρ) (routine_mono 𝓤 𝓛.H 𝓜 𝓡 ρ) (m.meets 𝓛 𝓜 𝓡 w) y))
+          (run_Enters 𝓤 𝓛.H 𝓜 𝓡 ρ _ _));
     }
 
 -- what the contract of the writer says of a call, and that its table holds bytes
