@@ -9,6 +9,7 @@ use Rattle.file_convert.specs.{raise_case, convert_rejection, convert_outcome, c
 
 -- each case is as stated
 pub small-conversions : map computed cases ≡ cases
-unfolding digit_of all_digits is_line has_lowercase bytes_of lines_of decode each_line file_rejection next position_within
-    position_of each_node frames_rejection capital_of digits_of line_of encode raise_case convert_rejection convert_outcome
+unfolding digit_of all_digits is_line has_lowercase bytes_of lines_of decode each_line file_rejection next
+    position_within position_of each_node frames_rejection capital_of digits_of line_of encode raise_case
+    convert_rejection convert_outcome
 small-conversions = refl

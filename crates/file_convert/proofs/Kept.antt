@@ -4,8 +4,8 @@ use Rattle.prelude.proofs.{ℕ, zero, suc, ◌+◌, ◌-◌, ◌≡◌, refl, ap
 use Rattle.prelude.proofs.{map, eqb, length, take, drop, length-map, arith, ne_eqb}
 use Rattle.file_hex.specs.{is_lowercase, digit_of}
 use Rattle.file_hex.proofs.Digits.{inside, below, above, bounds}
-use Rattle.file_line.specs.{line_digits, line_feed, all_digits, is_line, has_lowercase, bytes_of, closed, is_line_at, line_at}
-use Rattle.file_line.specs.{put_before, lines_of, decode, decoded}
+use Rattle.file_line.specs.{line_digits, line_feed, all_digits, is_line, has_lowercase, bytes_of, closed, is_line_at}
+use Rattle.file_line.specs.{line_at, put_before, lines_of, decode, decoded}
 use Rattle.file_read.specs.{each_line, file_check3, file_check16, file_rejection, line_check16, line_check3}
 use Rattle.file_convert.specs.{raise_case, raised, base_rejection}
 

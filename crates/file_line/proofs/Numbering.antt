@@ -2,8 +2,8 @@
 -- a line whose bytes stand in front of further digits.
 use Rattle.prelude.proofs.{ℕ, suc, ◌+◌, ◌-◌, ◌*◌, ◌/◌, ◌≤◌, ◌<◌, min, ◌≡◌, refl, ap, ◌∙◌, Bool, true, false, List, []}
 use Rattle.prelude.proofs.{◌∷◌, ◌++◌, length, get_or, set, take, drop, replicate, get_or-replicate, length-append}
-use Rattle.prelude.proofs.{get_or-append, get_or-set_same, get_or-set_other, get_or-append-add, take-length, arith, dec_lt}
-use Rattle.prelude.proofs.{lt-ltb}
+use Rattle.prelude.proofs.{get_or-append, get_or-set_same, get_or-set_other, get_or-append-add, take-length, arith}
+use Rattle.prelude.proofs.{dec_lt, lt-ltb}
 use Rattle.file_hex.specs.{no_digit, digit_of}
 use Rattle.file_line.specs.{line_digits, all_digits, digits_at_once, Numbered}
 use Rattle.file_line.proofs.Lines.{digit_at}

@@ -1,7 +1,7 @@
 -- Storing the bytes of one line, each behind the ones before.
 use Rattle.prelude.proofs.{ℕ, suc, ◌+◌, ◌*◌, ◌<◌, ◌≡◌, refl, sym, ◌∙◌, Bool, true, false, List, [], ◌∷◌, ◌++◌}
-use Rattle.prelude.proofs.{append-nil, length, get_or, set, take, drop_of_length-le, sets, sets-eq, take-suc, take-length}
-use Rattle.prelude.proofs.{length-take-le, arith, add-one}
+use Rattle.prelude.proofs.{append-nil, length, get_or, set, take, drop_of_length-le, sets, sets-eq, take-suc}
+use Rattle.prelude.proofs.{take-length, length-take-le, arith, add-one}
 use Rattle.table.specs.{frame_size}
 use Rattle.file_hex.specs.{no_digit, digit_of}
 use Rattle.file_line.specs.{line_digits, all_digits, bytes_of, Stored}

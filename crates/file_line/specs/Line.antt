@@ -1,5 +1,6 @@
 -- One line of a file: twelve digits, and the six bytes that they stand for.
-use Rattle.std.specs.Prelude.{ℕ, ◌+◌, ◌*◌, min, Bool, true, false, cond, ◌&&◌, ◌||◌, List, [], ◌∷◌, ltb, eqb, length, get_or, take, drop}
+use Rattle.std.specs.Prelude.{ℕ, ◌+◌, ◌*◌, min, Bool, true, false, cond, ◌&&◌, ◌||◌, List, [], ◌∷◌, ltb}
+use Rattle.std.specs.Prelude.{eqb, length, get_or, take, drop}
 use Rattle.file_hex.specs.Digit.{is_lowercase, no_digit, digit_of}
 use Rattle.file_line.specs.declared.Frame.{Frame}
 use Rattle.file_line.specs.declared.Line.{Line}

@@ -2,7 +2,8 @@
 use Rattle.prelude.proofs.{ℕ, ◌≤◌, ◌≡◌, refl, ap, ◌∙◌, some, List, [], ◌∷◌, ◌++◌, map, eqb, length, arith, ne_eqb}
 use Rattle.table.specs.{max_nodes, frames, next, position_within, position_of, ◌and_then◌, each_node, frames_rejection}
 use Rattle.file_hex.specs.{digit_of}
-use Rattle.file_line.specs.{line_feed, all_digits, is_line, has_lowercase, bytes_of, put_before, lines_of, decode, decoded}
+use Rattle.file_line.specs.{line_feed, all_digits, is_line, has_lowercase, bytes_of, put_before, lines_of, decode}
+use Rattle.file_line.specs.{decoded}
 use Rattle.file_read.specs.{each_line, file_check3, file_check16, file_rejection, AcceptedFile, read_rejection}
 use Rattle.file_read.specs.{computed, cases}
 use Rattle.file_read.proofs.Reading.{file-then, sized, long-refused, accepted-parts}

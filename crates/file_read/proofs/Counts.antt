@@ -20,7 +20,8 @@ lines-closed [] = (omega arith, omega arith)
 lines-closed (b ∷ f) = go (eqb b line_feed) (lines_of f) (lines-closed f)
   where
     go : (e : Bool) (ls : List (List ℕ)) → (length f ≤ closed_length ls) × (closed_length ls ≤ length f + 1)
-        → (suc (length f) ≤ closed_length (put_before e b ls)) × (closed_length (put_before e b ls) ≤ suc (length f) + 1)
+        → (suc (length f) ≤ closed_length (put_before e b ls))
+        × (closed_length (put_before e b ls) ≤ suc (length f) + 1)
     go true ls h = omega arith
     go false [] h = omega arith
     go false (l ∷ ls) h = omega arith

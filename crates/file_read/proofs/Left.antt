@@ -1,6 +1,6 @@
 -- The lines that are left at a position: reading one line takes the first of them.
-use Rattle.prelude.proofs.{ℕ, suc, ◌+◌, ◌<◌, ◌≡◌, sym, ap, ◌∙◌, true, false, none, some, List, ◌∷◌, length, get_or, take}
-use Rattle.prelude.proofs.{drop, drop-cons, drop-drop, arith}
+use Rattle.prelude.proofs.{ℕ, suc, ◌+◌, ◌<◌, ◌≡◌, sym, ap, ◌∙◌, true, false, none, some, List, ◌∷◌, length, get_or}
+use Rattle.prelude.proofs.{take, drop, drop-cons, drop-drop, arith}
 use Rattle.table.proofs.Stated.{ask-yes, both-passed}
 use Rattle.file_line.specs.{line_digits, is_line, is_line_at, lines_of}
 use Rattle.file_line.proofs.Lines.{line-length}

@@ -14,7 +14,8 @@ use Rattle.file_read.proofs.Decoding.{decoded-refused}
 use Rattle.file_read.proofs.Counts.{decoded-length, frame-count, frames-few}
 
 -- three questions and then another
-then-three : (a b c x : Option Rejection) → (a and_then b and_then c and_then x) ≡ ((a and_then b and_then c) and_then x)
+then-three : (a b c x : Option Rejection)
+    → (a and_then b and_then c and_then x) ≡ ((a and_then b and_then c) and_then x)
 then-three (some r) b c x = refl
 then-three none (some r) c x = refl
 then-three none none c x = refl

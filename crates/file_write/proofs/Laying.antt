@@ -24,7 +24,8 @@ digit-high (b ∷ bs) zero h = refl
 digit-high (b ∷ bs) (suc k) h =
     let e : 2 * suc k ≡ suc (suc (2 * k)) = omega arith in rw e (digit-high bs k (omega arith))
 
-digit_low : (bs : List ℕ) (k : ℕ) → k < length bs → get_or (digits_of bs) (2 * k + 1) 0 ≡ capital_of (get_or bs k 0 % 16)
+digit_low : (bs : List ℕ) (k : ℕ) → k < length bs
+    → get_or (digits_of bs) (2 * k + 1) 0 ≡ capital_of (get_or bs k 0 % 16)
 unfolding digits_of
 digit_low [] k h = absurd (omega arith)
 digit_low (b ∷ bs) zero h = refl

@@ -74,7 +74,8 @@ digits-enough (suc f) (suc g) n a b =
     (digits-enough f g (n / 10) (tenth n (suc f) a) (tenth n (suc g) b))
   where
     tenth : (n k : ℕ) → n < 10 ^ suc k → n / 10 < 10 ^ k
-    tenth n k h = (div-lt_iff_lt-mul {k = 10} {x = n} {y = 10 ^ k} (omega arith)).1 (subst (λ x. n < x) (pow-suc 10 k) h)
+    tenth n k h =
+        (div-lt_iff_lt-mul {k = 10} {x = n} {y = 10 ^ k} (omega arith)).1 (subst (λ x. n < x) (pow-suc 10 k) h)
 
 -- a number below ten is one digit
 pub decimal-one : (n : ℕ) → n < 10 → decimal n ≡ (48 + n) ∷ []

@@ -1,5 +1,6 @@
 -- Text as bytes: numbers in base ten, and the line of a rejection (SPEC 12.1).
-use Rattle.std.specs.Prelude.{ℕ, zero, suc, ◌+◌, ◌-◌, ◌/◌, ◌%◌, ◌≤◌, ◌≡◌, cond, List, [], ◌∷◌, ◌++◌, ltb, ℤ, pos, negsuc, length, take, drop, replicate}
+use Rattle.std.specs.Prelude.{ℕ, zero, suc, ◌+◌, ◌-◌, ◌/◌, ◌%◌, ◌≤◌, ◌≡◌, cond, List, [], ◌∷◌, ◌++◌}
+use Rattle.std.specs.Prelude.{ltb, ℤ, pos, negsuc, length, take, drop, replicate}
 pub use Rattle.file_line.specs.Line.{line_feed}
 use Rattle.table.specs.declared.Rejection.{Rejection}
 use Rattle.text.specs.declared.Text.{Text}

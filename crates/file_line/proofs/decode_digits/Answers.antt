@@ -1,5 +1,5 @@
--- The line's digits stand in front of four zeros when they are read, and each turn stores the byte of two of them behind
--- the ones before.
+-- The line's digits stand in front of four zeros when they are read, and each turn stores the byte of two of them
+-- behind the ones before.
 use Rattle.prelude.proofs.{◌+◌, ◌*◌, ◌≡◌, List, ℕ, ◌++◌, length, take, drop, replicate, take-length, arith}
 use Rattle.file_line.specs.{digits_at_once}
 use Rattle.file_line.proofs.Storing.{stored_refused, byte-stored, stored-all}

@@ -1,4 +1,5 @@
--- Where a line stands at the position, the next position is past twelve digits, and past a line feed if the file goes on.
+-- Where a line stands at the position, the next position is past twelve digits, and past a line feed if the file goes
+-- on.
 use Rattle.prelude.proofs.{ℕ, ◌+◌, min, ◌≡◌, sym, ap, ◌∙◌, Bool, true, refl, List, length, arith}
 use Rattle.table.specs.{frame_size}
 use Rattle.file_line.specs.{line_digits, is_line_at, bytes_at, frame_of, line_at, Stored}
