@@ -30,7 +30,8 @@ pub record TurnLoop (t : List ℕ) (s : Side) (i : ℕ) (e₀ : List ℕ) (first
   pub to : k ≤ end
   pub kept : length e ≡ length e₀
   pub unvisited : Unvisited t e i k
-  pub gives : Gives t i e₀ (marks_after (tree_at t) e k (end - k)) (score_after (tree_at t) (valuation t) s v k (end - k))
+  pub gives :
+      Gives t i e₀ (marks_after (tree_at t) e k (end - k)) (score_after (tree_at t) (valuation t) s v k (end - k))
 
 module _ (t e : List ℕ) (s : Side) (i left : ℕ) (r : Ready t e s i left) where
   -- a leaf may be evaluated

@@ -1,6 +1,6 @@
--- The measures and the invariants of `max_turn` and `min_turn`. The remaining depth falls with each call. At the head of
--- either loop stands `TurnLoop`: the children that are left make of score and marks what the turn is to give, and their
--- trees are without a mark.
+-- The measures and the invariants of `max_turn` and `min_turn`. The remaining depth falls with each call. At the head
+-- of either loop stands `TurnLoop`: the children that are left make of score and marks what the turn is to give, and
+-- their trees are without a mark.
 use Rattle.std.proofs.Common.{◌+◌, ◌-◌}
 use Rattle.gametree.specs.declared.Side.TheVariants.{Max, Min}
 use Rattle.plain.proofs.Turns.{TurnLoop}

@@ -21,7 +21,8 @@ pub returns : goal.returns
 returns c =
     let n = c.frame_count.ensures in
     let cleared = c.clear.ensures ∙ ap (λ m. written (λ _. 0) m c.args.evaluated.now) n in
-    let value = to_z-of_z w16 c.value-value.result (record { sfits = c.value-value.type_inv }) ∙ c.value-value.ensures in
+    let value =
+        to_z-of_z w16 c.value-value.result (record { sfits = c.value-value.type_inv }) ∙ c.value-value.ensures in
     let e = c.max_turn-score.ensures in
     let w = c.write_certificate-root_move.ensures in
     let g = run-gives _ c.requires.accepted _ _ _ _ _ _ _ _ _ cleared e.value e.evaluated_after w.value
