@@ -174,5 +174,5 @@ shorter-choose = record { meets = certificate_choice.choose.Met.met _ }
 pub shorter-select : Runs certificate_choice'.select.ended (function certificate_choice.select.Symbol.name certificate_choice.select.Symbol.code)
     (λ κs (t, (f, (s, _))) r e. (r.choice ≡ choice t.now f.now s.now)
     × (r.flags.now ≡ flags_by t.now f.now s.now r.choice)
-    × (r.flags.ptr ≡ pointer_by f.ptr s.ptr r.choice))
+    × (r.flags.ref_ptr ≡ pointer_by f.ref_ptr s.ref_ptr r.choice))
 shorter-select = record { meets = certificate_choice.select.Met.met _ }
