@@ -17,7 +17,8 @@ use Rattle.certificate_bounds.proofs.Listing.{ones_none}
 use Rattle.certificate_flags.specs.{first_equal}
 use Rattle.certificate_flags.proofs.Chosen.{first-same}
 use Rattle.mtd_memory.specs.declared.Tried.{Tried}
-use Rattle.mtd_memory.specs.{Memory, progress_of, memo_of, pass_of, MemoryRoom, HighsRight, first_high, Counted, VisitReady}
+use Rattle.mtd_memory.specs.{Memory, progress_of, memo_of, pass_of, MemoryRoom, HighsRight, first_high, Counted}
+use Rattle.mtd_memory.specs.{VisitReady}
 use Rattle.mtd_memory.specs.{Evaluated, Passed, Fresh, SkipsRight}
 use Rattle.mtd_memory.proofs.Arrays.{Long, room-kept, evaluated-none, evaluated-more, no-skips}
 

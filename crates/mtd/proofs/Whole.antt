@@ -62,7 +62,8 @@ module _ (t : List ℕ) (wf : WellFormed t) where
       → first_with (high (valuation t) E) (high (valuation t) E T) ks ≡ root_move_of (valuation t) T
   high-of T n ks e =
       subst (λ (X : Tree). let E = among (mtd (valuation t) X).evaluated in
-      Proper (valuation t) X → first_with (high (valuation t) E) (high (valuation t) E X) ks ≡ root_move_of (valuation t) X)
+      Proper (valuation t) X → first_with (high (valuation t) E) (high (valuation t) E X) ks ≡ root_move_of
+          (valuation t) X)
       (sym e) (λ r. rw (memo-run (valuation t) (inner n Max ks) r.distinct) (mtd-high_move (valuation t) n ks r))
 
   -- the first of the root's children whose high is the root's, by MTD's leaves, is the root move
@@ -81,7 +82,8 @@ module _ (t : List ℕ) (wf : WellFormed t) where
       ∙ high-of (tree t) 0 (children_from (tree_at t) 1 n) is (tree-proper t wf)))
 
   -- so it is by their marks
-  high-move : (e e₂ : List ℕ) → e₂ ≡ marks_of (evaluated_by Mtd t) t e → first_high t e₂ ≡ root_move_of (valuation t) (tree t)
+  high-move : (e e₂ : List ℕ) → e₂ ≡ marks_of (evaluated_by Mtd t) t e → first_high t e₂ ≡ root_move_of (valuation t)
+      (tree t)
   unfolding chosen_of next
   high-move e e₂ q =
       chosen-same t wf (marked e₂) (among (evaluated_by Mtd t))
