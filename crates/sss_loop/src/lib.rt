@@ -25,9 +25,9 @@ pub fn drive(
     order: &mut [u16],
 ) -> Run
     requires { Prepared table.now positions.now front.old list.old evaluated.old order.old run }
-    ensures { Driven table.now front.entry.now list.old evaluated.old
+    ensures { Driven table.now front.old list.old evaluated.old
         order.old run (record {
-          front = front.exit.now;
+          front = front.new;
           list = list.new;
           marks = evaluated.new;
           order = order.new;
