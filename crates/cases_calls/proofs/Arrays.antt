@@ -3,7 +3,7 @@
 -- Assumes `Logic`.
 use Rattle.prelude.proofs.{◌≡◌, refl, sym, subst, ℕ, List, [], ◌∷◌, map, length, Ty, ty_array, Val}
 use seplogic.Ra.Ura.{Ura}
-use seplogic.Ra.TreeShare.{full_share}
+use base.Fraction.{full_share}
 use mir.Raw.{raw as raw_ty}
 use base.Fml.{fsep, fat}
 use types.Logic.{Logic}
