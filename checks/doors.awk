@@ -13,9 +13,10 @@
 #     reads MEMORY[INDEX]             a load through a reference
 #     writes MEMORY[INDEX] = VALUE    a store
 #     numbers: CALLEE, ..             the calls that are given no memory, in one line
-# Memory has the name of the parameter that lends it, `own TYPE` if it is an array of the function's, or the name of the
-# call that gave it; `[..]` after it is a part, `|` is "or". A number is shown if it is a constant or a parameter, and
-# is `_` otherwise. `loop` is before what stands in a loop, `x2` after what stands there twice.
+# Memory has the name of the parameter that lends it, `own TYPE` if it is an array of the function's, `constant TYPE` if
+# it is one that is never written, or the name of the call that gave it; `[..]` after it is a part, `|` is "or". A number
+# is shown if it is a constant or a parameter, and is `_` otherwise. `loop` is before what stands in a loop, `x2` after
+# what stands there twice.
 
 # ---------------------------------------------------------------- terms: a node has a head and children
 
@@ -55,7 +56,7 @@ function bare(text) {
 # does a type have a reference or a pointer in it?
 function refers(node,    k) {
     if (head[node] == "tyRef" || head[node] == "tyPtr") return 1
-    if (head[node] == "tyNamed") return bare(head[kid(kid(node, 1), 1)]) in lending
+    if (head[node] == "tyNamed" && bare(head[kid(kid(node, 1), 1)]) in lending) return 1
     for (k = 1; k <= count[node]; k++) if (refers(kid(node, k))) return 1
     return 0
 }
@@ -100,6 +101,10 @@ function own_text(base) {
     if (is_parameter(base)) return parameter[base]
     return "own " type_text(type[base]) (twin[base] > 1 ? " " twin[base] : "")
 }
+function constant_text(k,    text) {
+    text = "constant " type_text(kid(statement[k], 2))
+    return text (twin["c", k] > 1 ? " " twin["c", k] : "")
+}
 # the memory that an operand leads to
 function memory_of(operand,    base) {
     if (head[operand] != "copy") return ""
@@ -140,7 +145,7 @@ function memory_of_value(value,    list, base, out) {
 
 # keeps the statements and the conditions of a body, in order
 function flatten(node, looping,    k) {
-    if (head[node] == "assign" || head[node] == "call") keep(node, looping)
+    if (head[node] == "assign" || head[node] == "call" || head[node] == "lendStatic") keep(node, looping)
     else if (head[node] == "if" || head[node] == "switch") {
         keep(kid(node, 1), looping)
         for (k = 2; k <= count[node]; k++) flatten(kid(node, k), looping)
@@ -244,16 +249,21 @@ function read_function(definition,    item, list, k, node, value, base, was, cha
         if (value && head[value] == "op2" && head[kid(value, 1)] == "offset")
             learn(index_at, base_of(kid(statement[k], 1)), number_text(kid(value, 3)))
     }
+    # constants that lie in memory of their own
+    for (k = 1; k <= statements; k++)
+        if (head[statement[k]] == "lendStatic") twin["c", k] = ++kinds["constant " type_text(kid(statement[k], 2))]
     # the memory behind each reference
     do {
         changed = 0
         for (k = 1; k <= statements; k++) {
             node = statement[k]
-            if (head[node] != "assign" && head[node] != "call") continue
-            base = base_of(kid(node, head[node] == "assign" ? 1 : 3))
+            if (head[node] != "assign" && head[node] != "call" && head[node] != "lendStatic") continue
+            base = base_of(kid(node, head[node] == "call" ? 3 : 1))
             if (!lends[base]) continue
             was = origin[base]
-            origin[base] = join(was, head[node] == "assign" ? memory_of_value(kid(node, 2)) : callee(node) "()")
+            if (head[node] == "assign") origin[base] = join(was, memory_of_value(kid(node, 2)))
+            else if (head[node] == "call") origin[base] = join(was, callee(node) "()")
+            else origin[base] = join(was, constant_text(k))
             if (origin[base] != was) changed = 1
         }
     } while (changed)
@@ -293,7 +303,10 @@ function follow(where, piece,    lines, words, k, n) {
         if (words[1] == "reads") readers = join(readers, words[2])
         if (words[1] == "gives") follow(where, words[2])
         if (words[1] == "lends") {
-            if ((words[2], words[3]) in names) follow(words[2], names[words[2], words[3]])
+            if (words[2] == "slice::copy_from_slice") {     # of the kit: the first is written, the second read
+                if (words[3] == 1) writers = join(writers, words[2])
+                else readers = join(readers, words[2])
+            } else if ((words[2], words[3]) in names) follow(words[2], names[words[2], words[3]])
             else { writers = join(writers, words[2]); readers = join(readers, words[2]) }
         }
     }
@@ -347,6 +360,6 @@ END {
     }
     for (key in edges) {
         split(key, words, SUBSEP)
-        if (words[2] ~ /^own / && crate_of(words[1]) in searching) trace(words[1], words[2])
+        if (words[2] ~ /^(own|constant) / && crate_of(words[1]) in searching) trace(words[1], words[2])
     }
 }
