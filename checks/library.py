@@ -30,7 +30,7 @@ def put(path, name, text):
 
 def build():
     """The library for other languages as it is shipped: made by `tools/build buulset_c`, which proves only what has
-    changed (PROVED=--proved: nothing, after rt ci), or the archive in the folder that BUULSET_LIB_DIR names."""
+    changed (with PROVED=--proved nothing, after rt ci), or the archive in the folder that BUULSET_LIB_DIR names."""
     os.makedirs(WORK, exist_ok=True)
     given = os.environ.get("BUULSET_LIB_DIR")
     if not given:

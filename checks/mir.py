@@ -150,11 +150,12 @@ class Text:
         with open(path, encoding="utf-8") as f:
             text = f.read()
         self.symbols = {}
-        for crate, function, alias in re.findall(r"^use Rattle\.(\w+)\.proofs\.(\S+)\.Symbol(?: as (\S+))?$", text, re.M):
-            self.symbols[(alias or "Symbol") + ".name"] = "::".join([crate, *function.split(".")])
+        use = r"^use Rattle\.(\w+)\.(?:proofs|specs\.contracts)\.(\S+)\.(Symbol|Key)(?: as (\S+))?$"
+        for crate, function, module, alias in re.findall(use, text, re.M):
+            self.symbols[(alias or module) + ".name"] = "::".join([crate, *function.split(".")])
         self.terms = {}
-        for name, _, term in re.findall(r"^abbrev pub (\S+) : (.*)\n\1 =((?:.*\n)(?:[ }].*\n|\n)*)", text, re.M):
-            self.terms[name] = term
+        for name, _, term in re.findall(r"^abbrev pub (\S+) : (.*)\n\1 =((?:.*\n)(?:[ })].*\n|\n)*)", text, re.M):
+            self.terms[name] = term.replace("locals = ", "places = ")
 
     def parsed(self, name):
         words = iter(re.findall(r"[(){};,]|=(?=\s)|[^\s(){};,]+", self.terms[name]))
@@ -173,7 +174,7 @@ class Text:
             elif word in (",", ";"):
                 parts.append(out)
                 out = []
-            elif re.fullmatch(r"[st]-\d+|locals", word):
+            elif word in self.terms:
                 out.append(self.parsed(word))
             else:
                 out.append(word)
@@ -303,9 +304,14 @@ def text_arms(text, term):
 
 def of_text(folder, name, function):
     crate, *path = name.split("::")
-    text = Text(os.path.join(folder, "Rattle-%s-proofs" % crate, *path, "Code", "Mir.antt"))
-    fields = {flat(part)[0]: flat(part)[2:] for part in rest(rest(text.parsed("function"))[0])}
-    places = [["local", text_type(rest(local)[0]), [small(head(rest(local)[1]))]] for local in items(fields["locals"])]
+    above = os.path.join(folder, "Rattle-%s-proofs" % crate, *path[:-1])
+    # functions that call one another stand in one folder
+    in_cycle = glob.glob(os.path.join(above, "+*", "Code", "+%s.antt" % path[-1]))
+    text = Text(in_cycle[0] if in_cycle else os.path.join(above, path[-1], "Code", "Mir.antt"))
+    # with declared types by their names, where it has such
+    function_term = text.parsed("by_name" if "by_name" in text.terms else "function")
+    fields = {flat(part)[0]: flat(part)[2:] for part in rest(rest(function_term)[0])}
+    places = [["local", text_type(rest(local)[0]), [small(head(rest(local)[1]))]] for local in items(fields["places"])]
     return ["fn-def", [named(function)], ["fn", ["lifetimes"], ["outlives"], [str(number(fields["params"]))],
                                           listed(places), text_body(text, fields["body"])]]
 
