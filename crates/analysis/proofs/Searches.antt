@@ -22,10 +22,12 @@ module _ (m : Method) (t : List ℕ) (a : Answer) (is : a ≡ answer_by (beyond 
   found-is f e = let h : Found f ≡ answer_by [] m t = sym e ∙ is ∙ ap (λ xs. answer_by xs m t) all in cc
 
   pub never-spent : {A : Type 0} (s : Spent) → a ≡ SpentAnswer s → A
-  never-spent s e = let h : SpentAnswer s ≡ answer_by [] m t = sym e ∙ is ∙ ap (λ xs. answer_by xs m t) all in clash (cc)
+  never-spent s e = let h : SpentAnswer s ≡ answer_by [] m t =
+      sym e ∙ is ∙ ap (λ xs. answer_by xs m t) all in clash (cc)
 
   pub never-rejected : {A : Type 0} (r : Rejection) → a ≡ Rejected r → A
-  never-rejected r e = let h : Rejected r ≡ answer_by [] m t = sym e ∙ is ∙ ap (λ xs. answer_by xs m t) all in clash (cc)
+  never-rejected r e = let h : Rejected r ≡ answer_by [] m t =
+      sym e ∙ is ∙ ap (λ xs. answer_by xs m t) all in clash (cc)
 
 -- a value that was found is passed on as the bits that hold it
 pub value-passed : (v : ℤ) → mag v < 2 ^ hbits w16 → to_z w16 (of_z w16 v) ≡ v

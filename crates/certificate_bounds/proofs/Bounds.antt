@@ -1,9 +1,11 @@
 -- The bounds of the nodes of a table, from the leaves up.
-use Rattle.prelude.proofs.{ℕ, zero, suc, ◌+◌, ◌-◌, ◌≤◌, ◌<◌, arith, ◌≡◌, refl, sym, ap, ap₂, ◌∙◌, Bool, List, get_or, set}
+use Rattle.prelude.proofs.{ℕ, zero, suc, ◌+◌, ◌-◌, ◌≤◌, ◌<◌, arith, ◌≡◌, refl, sym, ap, ap₂, ◌∙◌, Bool, List, get_or}
+use Rattle.prelude.proofs.{set}
 use Rattle.prelude.proofs.{set-get_or, eq-eqb, ne_eqb}
 use Rattle.gametree.specs.declared.Side.{Side}
 use Rattle.gametree.specs.{Tree, least, greatest, better, minimax, minimax_children, known}
-use Rattle.table.specs.{frames, first_child, child_count, side_of, children_from, tree_at, valuation, WellFormed, ChildOf}
+use Rattle.table.specs.{frames, first_child, child_count, side_of, children_from, tree_at, valuation, WellFormed}
+use Rattle.table.specs.{ChildOf}
 use Rattle.table.proofs.Next.{child-later, child-within}
 use Rattle.table.proofs.Trees.{tree-leaf, tree-inner}
 use Rattle.certificate_bounds.specs.{marked, best_in, bound_of, leaf_bounds}

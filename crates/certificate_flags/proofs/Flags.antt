@@ -1,5 +1,6 @@
 -- The flags of a certificate, from the root down, node by node.
-use Rattle.prelude.proofs.{ℕ, ◌+◌, ◌-◌, ◌<◌, arith, ◌≡◌, refl, sym, ap₂, ◌∙◌, Bool, true, false, cond, List, eqb, get_or}
+use Rattle.prelude.proofs.{ℕ, ◌+◌, ◌-◌, ◌<◌, arith, ◌≡◌, refl, sym, ap₂, ◌∙◌, Bool, true, false, cond, List, eqb}
+use Rattle.prelude.proofs.{get_or}
 use Rattle.gametree.specs.declared.Side.{Side}
 use Rattle.table.specs.{frames, child_count, next, WellFormed}
 use Rattle.table_positions.specs.{stored, side_in}
@@ -12,7 +13,8 @@ pub flags-step : (t : List ℕ) → WellFormed t → (positions lows highs : Lis
     → (n : ℕ) → n ≡ child_count t i → {s : Side} → s ≡ side_in positions i → (others chosen : ℕ)
     → others ≡ movers_flag s (get_or b i 0)
     → ((k : ℕ) → cond (eqb k chosen) (get_or b i 0) others
-    ≡ cond (eqb k (chosen_child (bounds_by_side (side_in positions i) lows highs) i at (at + n - at))) (get_or b i 0) others)
+    ≡ cond (eqb k (chosen_child (bounds_by_side (side_in positions i) lows highs) i at (at + n - at))) (get_or b i 0)
+        others)
     → (b' : List ℕ) → b' ≡ stored (λ k. cond (eqb k chosen) (get_or b i 0) others) at (at + n - at) b
     → Filled t f b₀ b' (at + n) (i + 1)
 flags-step t wf positions lows highs f r {b₀} {b} {at} {i} q h n e {s} p others chosen o c b' w =

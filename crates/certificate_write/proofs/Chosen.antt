@@ -3,7 +3,8 @@
 use Rattle.prelude.proofs.{ℕ, zero, suc, ◌+◌, ◌<◌, arith, ◌≡◌, sym, ap, ap₂, ◌∙◌, Bool, cond, List, eqb, get_or}
 use Rattle.gametree.specs.declared.Side.{Side}
 use Rattle.gametree.specs.declared.Side.TheVariants.{Max, Min}
-use Rattle.gametree.specs.{Tree, inner, least, greatest, minimax, number, low, high, worst, first_with, bound_move, known}
+use Rattle.gametree.specs.{Tree, inner, least, greatest, minimax, number, low, high, worst, first_with, bound_move}
+use Rattle.gametree.specs.{known}
 use Rattle.table.specs.{frames, child_count, next, side_of, children_from, tree_at, tree, valuation, WellFormed}
 use Rattle.table.proofs.Next.{next_more, next-within}
 use Rattle.table.proofs.Trees.{zero-or-suc, tree-leaf, tree-inner, tree-number}

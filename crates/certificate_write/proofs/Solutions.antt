@@ -7,7 +7,8 @@ use Rattle.gametree.specs.declared.Side.TheVariants.{Max, Min}
 use Rattle.gametree.specs.{Tree, other, minimax, minimax_children, known, worst, same, solution_of}
 use Rattle.lists.proofs.Choice.{cond_cases}
 use Rattle.gametree_theory.proofs.Certificates.ReadOff.{ReadOff, ReadEach, ReadFirst, read-root, fits}
-use Rattle.table.specs.{frames, first_child, child_count, next, side_of, children_from, tree_at, tree, valuation, WellFormed}
+use Rattle.table.specs.{frames, first_child, child_count, next, side_of, children_from, tree_at, tree, valuation}
+use Rattle.table.specs.{WellFormed}
 use Rattle.table.specs.{ChildOf}
 use Rattle.table.proofs.Parents.{top-down}
 use Rattle.table.proofs.Trees.{zero-or-suc, tree-inner, tree-number}

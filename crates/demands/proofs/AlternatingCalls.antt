@@ -13,7 +13,8 @@ use Rattle.table.specs.declared.Checked.TheVariants.{Nodes, Rejected}
 use Rattle.table.proofs.Acceptance.{accepted-formed}
 use Rattle.table.proofs.Sides.{each_same, frames-before, rejection-before, side-parity, tree-before}
 use Rattle.file_line.specs.{decoded}
-use Rattle.file_read.specs.{file_check2, file_check3, file_check16, file_check10, file_rejection, read_rejection, read_outcome}
+use Rattle.file_read.specs.{file_check2, file_check3, file_check16, file_check10, file_rejection, read_rejection}
+use Rattle.file_read.specs.{read_outcome}
 use Rattle.file_read.proofs.Acceptance.{accepted-table}
 use Rattle.certificate_check.specs.{rule_holds, check_tree, check11, check14, trees_rejection, flags_rejection}
 use Rattle.certificate_check.specs.{certificate_rejection, judged, verdict}

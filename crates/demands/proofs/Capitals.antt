@@ -12,7 +12,8 @@ use Rattle.table.specs.{frames, ◌and_then◌, unless, ◌leaving◌, check1}
 use Rattle.table.proofs.Stated.{both-passed, passed_then}
 use Rattle.table.proofs.Acceptance.{accepted-stated}
 use Rattle.file_line.specs.{line_size, has_lowercase, line_at, lines_of, decoded}
-use Rattle.file_read.specs.{max_file, file_check2, file_check3, file_check16, file_rejection, read_rejection, read_outcome}
+use Rattle.file_read.specs.{max_file, file_check2, file_check3, file_check16, file_rejection, read_rejection}
+use Rattle.file_read.specs.{read_outcome}
 use Rattle.file_read.proofs.FirstLine.{line-asked}
 use Rattle.file_write.specs.{file_of}
 use Rattle.file_write.specs.declared.Written.TheVariants.{Length}
@@ -27,9 +28,11 @@ use Rattle.file_convert.proofs.Printing.{line-printed, file-printed}
 module _ (f : List ℕ) where
   -- "asked after question 3 .. has passed for all lines and before 4": a file that passes 1 to 3 and has a line with a
   -- small letter gets it, whatever its frames and the lent table are
-  pub small-refused : (check1 f and_then file_check2 f and_then file_check3 f) ≡ none → (i : ℕ) → i < length (lines_of f)
+  pub small-refused : (check1 f and_then file_check2 f and_then file_check3 f) ≡ none → (i : ℕ)
+      → i < length (lines_of f)
       → has_lowercase (get_or (lines_of f) i []) ≡ true
-      → (r : Rejection) × (file_check16 f ≡ some r) × ((table : List ℕ) → (read_outcome f table).answer ≡ RejectedTable r)
+      → (r : Rejection) × (file_check16 f ≡ some r) × ((table : List ℕ)
+          → (read_outcome f table).answer ≡ RejectedTable r)
   unfolding read_rejection file_rejection
   small-refused e i h s =
       let a = both-passed (check1 f) _ e in

@@ -1,6 +1,7 @@
 -- The cases of 01 marked P (SPEC 12.2), computed from the definitions over byte tables.
 use Rattle.prelude.proofs.{refl}
-use Rattle.table.specs.{next, parent_before, position_within, position_of, up_from, children_from, grow, tree_at, valuation}
+use Rattle.table.specs.{next, parent_before, position_within, position_of, up_from, children_from, grow, tree_at}
+use Rattle.table.specs.{valuation}
 use Rattle.table.specs.{each_node, frames_rejection, rejection}
 use Rattle.table_positions.specs.{written}
 use Rattle.lists.specs.{All, count_from}

@@ -88,19 +88,23 @@ pub plain-search : Runs plain'.search.ended (function plain.search.Symbol.name p
 plain-search = record { meets = plain.search.Met.met _ }
 
 -- an entry for a list of states to lend
-pub sss-blank : Runs sss_states'.blank.ended (function sss_states.blank.Symbol.name sss_states.blank.Symbol.code) (λ κs x r e. r ≡ blank)
+pub sss-blank : Runs sss_states'.blank.ended (function sss_states.blank.Symbol.name sss_states.blank.Symbol.code)
+    (λ κs x r e. r ≡ blank)
 sss-blank = record { meets = sss_states.blank.Met.met _ }
 
 -- the check of a table, of a certificate, its principal variation, that of a table, and the children of a node
 
-pub tables-check : Runs table_check'.check.ended (function table_check.check.Symbol.name table_check.check.Symbol.code) (λ κs (t, _) r e. r ≡ checked t.now)
+pub tables-check : Runs table_check'.check.ended (function table_check.check.Symbol.name table_check.check.Symbol.code)
+    (λ κs (t, _) r e. r ≡ checked t.now)
 tables-check = record { meets = table_check.check.Met.met _ }
 
-pub verify-check : Runs certificate_check'.check.ended (function certificate_check.check.Symbol.name certificate_check.check.Symbol.code)
+pub verify-check : Runs certificate_check'.check.ended (function certificate_check.check.Symbol.name
+    certificate_check.check.Symbol.code)
     (λ κs (t, (f, _)) r e. r ≡ verdict t.now f.now)
 verify-check = record { meets = certificate_check.check.Met.met _ }
 
-pub variation-principal : Runs variation'.principal.ended (function variation.principal.Symbol.name variation.principal.Symbol.code)
+pub variation-principal : Runs variation'.principal.ended (function variation.principal.Symbol.name
+    variation.principal.Symbol.code)
     (λ κs (t, (f, (l, _))) r (_, (_, (l', _))). r leaving l'.now ≡ principal_outcome t.now f.now l.now)
 variation-principal = record { meets = variation.principal.Met.met _ }
 
@@ -114,10 +118,12 @@ frames-children = record { meets = table.children.Met.met _ }
 
 -- files
 
-pub treefile-digit : Runs file_hex'.digit.ended (function file_hex.digit.Symbol.name file_hex.digit.Symbol.code) (λ κs (b, _) r e. r ≡ digit_of b)
+pub treefile-digit : Runs file_hex'.digit.ended (function file_hex.digit.Symbol.name file_hex.digit.Symbol.code)
+    (λ κs (b, _) r e. r ≡ digit_of b)
 treefile-digit = record { meets = file_hex.digit.Met.met _ }
 
-pub treefile-read-line : Runs file_line'.Cursor.read_line.ended (function file_line.Cursor.read_line.Symbol.name file_line.Cursor.read_line.Symbol.code)
+pub treefile-read-line : Runs file_line'.Cursor.read_line.ended
+    (function file_line.Cursor.read_line.Symbol.name file_line.Cursor.read_line.Symbol.code)
     (λ κs (c, (f, _)) r e. r ≡ line_at f.now c.at)
 treefile-read-line = record { meets = file_line.Cursor.read_line.Met.met _ }
 
@@ -129,15 +135,18 @@ pub treefile-write : Runs file_write'.write.ended (function file_write.write.Sym
     (λ κs (t, (f, _)) r (_, (f', _)). r leaving f'.now ≡ write_outcome t.now f.now)
 treefile-write = record { meets = file_write.write.Met.met _ }
 
-pub convert-convert : Runs file_convert'.convert.ended (function file_convert.convert.Symbol.name file_convert.convert.Symbol.code)
+pub convert-convert : Runs file_convert'.convert.ended (function file_convert.convert.Symbol.name
+    file_convert.convert.Symbol.code)
     (λ κs (f, (b, _)) r (_, (b', _)). r leaving b'.now ≡ convert_outcome f.now b.now)
 convert-convert = record { meets = file_convert.convert.Met.met _ }
 
-pub convert-output : Runs file_convert'.output.ended (function file_convert.output.Symbol.name file_convert.output.Symbol.code)
+pub convert-output : Runs file_convert'.output.ended (function file_convert.output.Symbol.name
+    file_convert.output.Symbol.code)
     (λ κs (f, (b, _)) r (_, (b', _)). r leaving b'.now ≡ output_outcome f.now b.now)
 convert-output = record { meets = file_convert.output.Met.met _ }
 
-pub convert-length-printed : Runs file_convert'.length_printed.ended (function file_convert.length_printed.Symbol.name file_convert.length_printed.Symbol.code)
+pub convert-length-printed : Runs file_convert'.length_printed.ended
+    (function file_convert.length_printed.Symbol.name file_convert.length_printed.Symbol.code)
     (λ κs (p, _) r e. r ≡ length_printed p)
 convert-length-printed = record { meets = file_convert.length_printed.Met.met _ }
 
@@ -155,7 +164,8 @@ pub graft-graft : Runs graft'.graft.ended (function graft.graft.Symbol.name graf
     (λ κs (t, (k, (u, (b, _)))) r (_, (_, (_, (b', _)))). r leaving b'.now ≡ graft_outcome t.now k u.now b.now)
 graft-graft = record { meets = graft.graft.Met.met _ }
 
-pub leastvalue-least-value : Runs leaf_value'.least_value.ended (function leaf_value.least_value.Symbol.name leaf_value.least_value.Symbol.code)
+pub leastvalue-least-value : Runs leaf_value'.least_value.ended
+    (function leaf_value.least_value.Symbol.name leaf_value.least_value.Symbol.code)
     (λ κs (t, (k, (w, _))) r e. r ≡ least_value t.now k w)
 leastvalue-least-value = record { meets = leaf_value.least_value.Met.met _ }
 
@@ -163,15 +173,18 @@ pub worstfill-fill : Runs worst_fill'.fill.ended (function worst_fill.fill.Symbo
     (λ κs (t, _) r (t', _). r leaving t'.now ≡ fill_outcome t.now)
 worstfill-fill = record { meets = worst_fill.fill.Met.met _ }
 
-pub leastcount-least-leaves : Runs least_count'.least_leaves.ended (function least_count.least_leaves.Symbol.name least_count.least_leaves.Symbol.code)
+pub leastcount-least-leaves : Runs least_count'.least_leaves.ended
+    (function least_count.least_leaves.Symbol.name least_count.least_leaves.Symbol.code)
     (λ κs (w, (d, _)) r e. r ≡ least_answer w d)
 leastcount-least-leaves = record { meets = least_count.least_leaves.Met.met _ }
 
-pub shorter-choose : Runs certificate_choice'.choose.ended (function certificate_choice.choose.Symbol.name certificate_choice.choose.Symbol.code)
+pub shorter-choose : Runs certificate_choice'.choose.ended (function certificate_choice.choose.Symbol.name
+    certificate_choice.choose.Symbol.code)
     (λ κs (t, (f, (s, _))) r e. r ≡ choice t.now f.now s.now)
 shorter-choose = record { meets = certificate_choice.choose.Met.met _ }
 
-pub shorter-select : Runs certificate_choice'.select.ended (function certificate_choice.select.Symbol.name certificate_choice.select.Symbol.code)
+pub shorter-select : Runs certificate_choice'.select.ended (function certificate_choice.select.Symbol.name
+    certificate_choice.select.Symbol.code)
     (λ κs (t, (f, (s, _))) r e. (r.choice ≡ choice t.now f.now s.now)
     × (r.flags.now ≡ flags_by t.now f.now s.now r.choice)
     × (r.flags.ref_ptr ≡ pointer_by f.ref_ptr s.ref_ptr r.choice))

@@ -39,7 +39,8 @@ module _ (f : List ℕ) (r : Rejection) where
       → LowestNo (λ k. g (get_or (lines_of f) k [])) q (length (lines_of f)) r
   lowest g q e = let p = line_first q g f r e in record { number = p.0; within = p.1; no = p.2; before = p.3 }
 
-  pub lowest-line : file_check3 f ≡ some r → LowestNo (λ k. is_line (get_or (lines_of f) k [])) 3 (length (lines_of f)) r
+  pub lowest-line : file_check3 f ≡ some r → LowestNo (λ k. is_line (get_or (lines_of f) k [])) 3 (length (lines_of f))
+      r
   lowest-line = lowest is_line 3
 
   pub lowest-small : file_check16 f ≡ some r

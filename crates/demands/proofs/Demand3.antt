@@ -3,7 +3,8 @@
 -- and of the list. "same child order, full opening window, leftmost state first on equal merit": so say the rules,
 -- `children_from` and `tree` (table/specs/Tree.antt), `reached` from `least` to `greatest`
 -- (gametree/specs/AlphaBeta.antt), `pick` and `beats` (gametree/specs/Sss.antt).
-use Rattle.prelude.proofs.{ℕ, suc, ◌*◌, ◌≤◌, ◌<◌, ◌≡◌, ap, ◌∙◌, subst, Bool, true, List, ◌++◌, map, length, get_or, drop}
+use Rattle.prelude.proofs.{ℕ, suc, ◌*◌, ◌≤◌, ◌<◌, ◌≡◌, ap, ◌∙◌, subst, Bool, true, List, ◌++◌, map, length, get_or}
+use Rattle.prelude.proofs.{drop}
 use Rattle.prelude.proofs.{replicate, eqb-true}
 use Rattle.lists.specs.{Once, among, different}
 use Rattle.lists.proofs.Choice.{is_false}

@@ -25,7 +25,8 @@ use Rattle.buulset.proofs as buulset
 use Rattle.buulset.specs.contracts as buulset'
 use Rattle.buulset.specs.{version, flat_children, part_of, flat_by}
 use Rattle.buulset_answers.specs.declared.Answer.{Answer}
-use Rattle.buulset_flat.specs.{flat_checked, flat_written, flat_printed, flat_answer, flat_plain, flat_filled, flat_verdict}
+use Rattle.buulset_flat.specs.{flat_checked, flat_written, flat_printed, flat_answer, flat_plain, flat_filled}
+use Rattle.buulset_flat.specs.{flat_verdict}
 use Rattle.buulset_flat.specs.{flat_least_value, flat_least, flat_choice, flat_line, flat_text, flat_best_line}
 use Rattle.demands.specs.Runs.{Runs, function}
 use Rattle.demands.specs.{RunBoth, Call, Given}
@@ -34,67 +35,81 @@ use Rattle.demands.proofs.Views.{lengths, refused}
 use Rattle.demands.proofs.Handed.{dominated}
 use Rattle.demands.proofs.Numbers.{never-zero}
 
-pub exported-version : Runs buulset'.buulset_version.ended (function buulset.buulset_version.Symbol.name buulset.buulset_version.Symbol.code)
+pub exported-version : Runs buulset'.buulset_version.ended (function buulset.buulset_version.Symbol.name
+    buulset.buulset_version.Symbol.code)
     (λ κs x r e. r ≡ version)
 exported-version = record { meets = buulset.buulset_version.Met.met _ }
 
 -- files and tables
 
-pub exported-read : Runs buulset'.buulset_read.ended (function buulset.buulset_read.Symbol.name buulset.buulset_read.Symbol.code)
+pub exported-read : Runs buulset'.buulset_read.ended (function buulset.buulset_read.Symbol.name
+    buulset.buulset_read.Symbol.code)
     (λ κs (f, (t, _)) r (_, (t', _)). r leaving t'.now ≡ flat_by flat_checked (read_outcome f.now t.now))
 exported-read = record { meets = buulset.buulset_read.Met.met _ }
 
-pub exported-read-line : Runs buulset'.buulset_read_line.ended (function buulset.buulset_read_line.Symbol.name buulset.buulset_read_line.Symbol.code)
+pub exported-read-line : Runs buulset'.buulset_read_line.ended
+    (function buulset.buulset_read_line.Symbol.name buulset.buulset_read_line.Symbol.code)
     (λ κs (f, (k, _)) r e. r ≡ flat_line (line_at f.now k))
 exported-read-line = record { meets = buulset.buulset_read_line.Met.met _ }
 
-pub exported-digit : Runs buulset'.buulset_digit.ended (function buulset.buulset_digit.Symbol.name buulset.buulset_digit.Symbol.code)
+pub exported-digit : Runs buulset'.buulset_digit.ended (function buulset.buulset_digit.Symbol.name
+    buulset.buulset_digit.Symbol.code)
     (λ κs (b, _) r e. r ≡ digit_of b)
 exported-digit = record { meets = buulset.buulset_digit.Met.met _ }
 
-pub exported-write : Runs buulset'.buulset_write.ended (function buulset.buulset_write.Symbol.name buulset.buulset_write.Symbol.code)
+pub exported-write : Runs buulset'.buulset_write.ended (function buulset.buulset_write.Symbol.name
+    buulset.buulset_write.Symbol.code)
     (λ κs (t, (f, _)) r (_, (f', _)). r leaving f'.now ≡ flat_by flat_written (write_outcome t.now f.now))
 exported-write = record { meets = buulset.buulset_write.Met.met _ }
 
-pub exported-convert : Runs buulset'.buulset_convert.ended (function buulset.buulset_convert.Symbol.name buulset.buulset_convert.Symbol.code)
+pub exported-convert : Runs buulset'.buulset_convert.ended (function buulset.buulset_convert.Symbol.name
+    buulset.buulset_convert.Symbol.code)
     (λ κs (f, (b, _)) r (_, (b', _)). r leaving b'.now ≡ flat_by flat_written (convert_outcome f.now b.now))
 exported-convert = record { meets = buulset.buulset_convert.Met.met _ }
 
-pub exported-capitals : Runs buulset'.buulset_capitals.ended (function buulset.buulset_capitals.Symbol.name buulset.buulset_capitals.Symbol.code)
+pub exported-capitals : Runs buulset'.buulset_capitals.ended (function buulset.buulset_capitals.Symbol.name
+    buulset.buulset_capitals.Symbol.code)
     (λ κs (f, (b, _)) r (_, (b', _)). r leaving b'.now ≡ flat_by flat_printed (output_outcome f.now b.now))
 exported-capitals = record { meets = buulset.buulset_capitals.Met.met _ }
 
-pub exported-check : Runs buulset'.buulset_check.ended (function buulset.buulset_check.Symbol.name buulset.buulset_check.Symbol.code)
+pub exported-check : Runs buulset'.buulset_check.ended (function buulset.buulset_check.Symbol.name
+    buulset.buulset_check.Symbol.code)
     (λ κs (t, _) r e. r ≡ flat_checked (checked t.now))
 exported-check = record { meets = buulset.buulset_check.Met.met _ }
 
-pub exported-children : Runs buulset'.buulset_children.ended (function buulset.buulset_children.Symbol.name buulset.buulset_children.Symbol.code)
+pub exported-children : Runs buulset'.buulset_children.ended (function buulset.buulset_children.Symbol.name
+    buulset.buulset_children.Symbol.code)
     (λ κs (t, (k, _)) r e. (r ≡ flat_children t.now k) × (children_of t.now k ≡ part_of t.now r))
 exported-children = record { meets = buulset.buulset_children.Met.met _ }
 
 -- searches
 
-pub exported-alphabeta : Runs buulset'.buulset_alphabeta.ended (function buulset.buulset_alphabeta.Symbol.name buulset.buulset_alphabeta.Symbol.code)
+pub exported-alphabeta : Runs buulset'.buulset_alphabeta.ended
+    (function buulset.buulset_alphabeta.Symbol.name buulset.buulset_alphabeta.Symbol.code)
     (λ κs (t, (m, (f, (o, _)))) r (_, (m', (f', (o', _)))). r leaving lent m'.now f'.now o'.now
     ≡ flat_by flat_answer (search_outcome AlphaBeta t.now (lent m.now f.now o.now)))
 exported-alphabeta = record { meets = buulset.buulset_alphabeta.Met.met _ }
 
-pub exported-mtd : Runs buulset'.buulset_mtd.ended (function buulset.buulset_mtd.Symbol.name buulset.buulset_mtd.Symbol.code)
+pub exported-mtd : Runs buulset'.buulset_mtd.ended (function buulset.buulset_mtd.Symbol.name
+    buulset.buulset_mtd.Symbol.code)
     (λ κs (t, (m, (f, (o, _)))) r (_, (m', (f', (o', _)))). r leaving lent m'.now f'.now o'.now
     ≡ flat_by flat_answer (search_outcome Mtd t.now (lent m.now f.now o.now)))
 exported-mtd = record { meets = buulset.buulset_mtd.Met.met _ }
 
-pub exported-mtdf : Runs buulset'.buulset_mtdf.ended (function buulset.buulset_mtdf.Symbol.name buulset.buulset_mtdf.Symbol.code)
+pub exported-mtdf : Runs buulset'.buulset_mtdf.ended (function buulset.buulset_mtdf.Symbol.name
+    buulset.buulset_mtdf.Symbol.code)
     (λ κs (t, (v, (m, (f, (o, _))))) r (_, (_, (m', (f', (o', _))))). r leaving lent m'.now f'.now o'.now
     ≡ flat_by flat_answer (search_outcome (MtdFrom v) t.now (lent m.now f.now o.now)))
 exported-mtdf = record { meets = buulset.buulset_mtdf.Met.met _ }
 
-pub exported-sss : Runs buulset'.buulset_sss.ended (function buulset.buulset_sss.Symbol.name buulset.buulset_sss.Symbol.code)
+pub exported-sss : Runs buulset'.buulset_sss.ended (function buulset.buulset_sss.Symbol.name
+    buulset.buulset_sss.Symbol.code)
     (λ κs (t, (m, (f, (o, (n, _))))) r (_, (m', (f', (o', _)))). r leaving lent m'.now f'.now o'.now
     ≡ flat_by flat_answer (search_outcome (Sss n) t.now (lent m.now f.now o.now)))
 exported-sss = record { meets = buulset.buulset_sss.Met.met _ }
 
-pub exported-plain : Runs buulset'.buulset_plain.ended (function buulset.buulset_plain.Symbol.name buulset.buulset_plain.Symbol.code)
+pub exported-plain : Runs buulset'.buulset_plain.ended (function buulset.buulset_plain.Symbol.name
+    buulset.buulset_plain.Symbol.code)
     (λ κs (t, (m, (f, _))) r (_, (m', (f', _))). r leaving lent m'.now f'.now []
     ≡ flat_by flat_plain (plain_outcome t.now (lent m.now f.now [])))
 exported-plain = record { meets = buulset.buulset_plain.Met.met _ }
@@ -119,7 +134,8 @@ exported-call w t l l' r e =
 -- THE SENTENCE of the two exports: whenever `buulset_sss`, within any allowance, and `buulset_alphabeta` are called on
 -- one table and neither is refused, each node that the first marks 1 the second marks 1 too
 pub exported-sentence : RunBoth buulset'.buulset_sss.ended buulset'.buulset_alphabeta.ended
-    (function buulset.buulset_sss.Symbol.name buulset.buulset_sss.Symbol.code) (function buulset.buulset_alphabeta.Symbol.name buulset.buulset_alphabeta.Symbol.code)
+    (function buulset.buulset_sss.Symbol.name buulset.buulset_sss.Symbol.code)
+        (function buulset.buulset_alphabeta.Symbol.name buulset.buulset_alphabeta.Symbol.code)
     (λ κs (t, _) r (_, (m, _)) κs' (u, _) q (_, (x, _)). u.now ≡ t.now → r.refused ≡ 0 → q.refused ≡ 0
     → (k : ℕ) → k < frames t.now → get_or m.now k 0 ≡ 1 → get_or x.now k 0 ≡ 1)
 exported-sentence =
@@ -134,44 +150,53 @@ exported-sentence =
 
 -- certificates
 
-pub exported-line : Runs buulset'.buulset_line.ended (function buulset.buulset_line.Symbol.name buulset.buulset_line.Symbol.code)
+pub exported-line : Runs buulset'.buulset_line.ended (function buulset.buulset_line.Symbol.name
+    buulset.buulset_line.Symbol.code)
     (λ κs (t, (l, _)) r (_, (l', _)). r leaving l'.now ≡ flat_by flat_best_line (line_outcome t.now l.now))
 exported-line = record { meets = buulset.buulset_line.Met.met _ }
 
-pub exported-verify : Runs buulset'.buulset_verify.ended (function buulset.buulset_verify.Symbol.name buulset.buulset_verify.Symbol.code)
+pub exported-verify : Runs buulset'.buulset_verify.ended (function buulset.buulset_verify.Symbol.name
+    buulset.buulset_verify.Symbol.code)
     (λ κs (t, (f, _)) r e. r ≡ flat_verdict (verdict t.now f.now))
 exported-verify = record { meets = buulset.buulset_verify.Met.met _ }
 
-pub exported-shorter : Runs buulset'.buulset_shorter.ended (function buulset.buulset_shorter.Symbol.name buulset.buulset_shorter.Symbol.code)
+pub exported-shorter : Runs buulset'.buulset_shorter.ended (function buulset.buulset_shorter.Symbol.name
+    buulset.buulset_shorter.Symbol.code)
     (λ κs (t, (f, (s, _))) r e.
     r ≡ flat_choice (choice t.now f.now s.now) (length (chosen_flags t.now f.now s.now)))
 exported-shorter = record { meets = buulset.buulset_shorter.Met.met _ }
 
 -- trees
 
-pub exported-graft : Runs buulset'.buulset_graft.ended (function buulset.buulset_graft.Symbol.name buulset.buulset_graft.Symbol.code)
+pub exported-graft : Runs buulset'.buulset_graft.ended (function buulset.buulset_graft.Symbol.name
+    buulset.buulset_graft.Symbol.code)
     (λ κs (t, (k, (u, (b, _)))) r (_, (_, (_, (b', _)))).
     r leaving b'.now ≡ flat_by flat_checked (graft_outcome t.now k u.now b.now))
 exported-graft = record { meets = buulset.buulset_graft.Met.met _ }
 
-pub exported-least-value : Runs buulset'.buulset_least_value.ended (function buulset.buulset_least_value.Symbol.name buulset.buulset_least_value.Symbol.code)
+pub exported-least-value : Runs buulset'.buulset_least_value.ended
+    (function buulset.buulset_least_value.Symbol.name buulset.buulset_least_value.Symbol.code)
     (λ κs (t, (k, (w, _))) r e. r ≡ flat_least_value (least_value t.now k w))
 exported-least-value = record { meets = buulset.buulset_least_value.Met.met _ }
 
-pub exported-fill : Runs buulset'.buulset_fill.ended (function buulset.buulset_fill.Symbol.name buulset.buulset_fill.Symbol.code)
+pub exported-fill : Runs buulset'.buulset_fill.ended (function buulset.buulset_fill.Symbol.name
+    buulset.buulset_fill.Symbol.code)
     (λ κs (t, _) r (t', _). r leaving t'.now ≡ flat_by flat_filled (fill_outcome t.now))
 exported-fill = record { meets = buulset.buulset_fill.Met.met _ }
 
-pub exported-least-leaves : Runs buulset'.buulset_least_leaves.ended (function buulset.buulset_least_leaves.Symbol.name buulset.buulset_least_leaves.Symbol.code)
+pub exported-least-leaves : Runs buulset'.buulset_least_leaves.ended
+    (function buulset.buulset_least_leaves.Symbol.name buulset.buulset_least_leaves.Symbol.code)
     (λ κs (w, (d, _)) r e. r ≡ flat_least (least_answer w d))
 exported-least-leaves = record { meets = buulset.buulset_least_leaves.Met.met _ }
 
 -- texts
 
-pub exported-report : Runs buulset'.buulset_report.ended (function buulset.buulset_report.Symbol.name buulset.buulset_report.Symbol.code)
+pub exported-report : Runs buulset'.buulset_report.ended (function buulset.buulset_report.Symbol.name
+    buulset.buulset_report.Symbol.code)
     (λ κs (f, _) r e. r ≡ flat_text (text_of (reports.report f.now)))
 exported-report = record { meets = buulset.buulset_report.Met.met _ }
 
-pub exported-refused : Runs buulset'.buulset_refused.ended (function buulset.buulset_refused.Symbol.name buulset.buulset_refused.Symbol.code)
+pub exported-refused : Runs buulset'.buulset_refused.ended (function buulset.buulset_refused.Symbol.name
+    buulset.buulset_refused.Symbol.code)
     (λ κs (q, (p, _)) r e. r ≡ flat_text (text_of (refused_line (record { number = q; place = p }))))
 exported-refused = record { meets = buulset.buulset_refused.Met.met _ }

@@ -8,7 +8,8 @@ use Rattle.gametree.specs.declared.Side.TheVariants.{Max}
 use Rattle.gametree.specs.{other, relabelled}
 use Rattle.table.specs.declared.Rejection.{Rejection}
 use Rattle.table.specs.declared.Checked.TheVariants.{Nodes, Rejected}
-use Rattle.table.specs.{frame_size, max_nodes, max_depth, frames, byte_of, child_count, parent_of, depth_of, side_of, tree}
+use Rattle.table.specs.{frame_size, max_nodes, max_depth, frames, byte_of, child_count, parent_of, depth_of, side_of}
+use Rattle.table.specs.{tree}
 use Rattle.table.specs.{rejection, Accepted}
 use Rattle.table.proofs.Positions.{position-root}
 use Rattle.table.proofs.Acceptance.{accepted-formed}

@@ -3,9 +3,11 @@ use Rattle.prelude.proofs.{ℕ, zero, suc, ◌+◌, ◌%◌, arith, ◌≡◌, a
 use Rattle.prelude.proofs.{leb, ltb, length}
 use Rattle.lists.proofs.Choice.{clash}
 use Rattle.table.specs.declared.Rejection.{Rejection}
-use Rattle.table.specs.{frame_size, max_table, max_children, max_depth, frames, child_count, next, depth_of, ask, ◌and_then◌}
+use Rattle.table.specs.{frame_size, max_table, max_children, max_depth, frames, child_count, next, depth_of, ask}
+use Rattle.table.specs.{◌and_then◌}
 use Rattle.table.specs.{each_node, check1, check2, check3, check4, check5, check6, check7, check8, check9, check10}
-use Rattle.table.specs.{byte3_right, first_child_right, value_right, long_enough, check_node, nodes_rejection, depths_rejection}
+use Rattle.table.specs.{byte3_right, first_child_right, value_right, long_enough, check_node, nodes_rejection}
+use Rattle.table.specs.{depths_rejection}
 use Rattle.table.specs.{frames_rejection, rejection}
 use Rattle.certificate_write.specs.{search_rejection}
 

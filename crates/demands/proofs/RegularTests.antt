@@ -1,6 +1,7 @@
 -- Small cases of the least counts (SPEC 18).
 use Rattle.prelude.proofs.{ℕ, zero, suc, ◌<◌, arith, ◌≡◌, refl}
-use Rattle.table.specs.{child_count, byte3, same_mover, parent_before, position_within, position_of, depth_of, RegularTable}
+use Rattle.table.specs.{child_count, byte3, same_mover, parent_before, position_within, position_of, depth_of}
+use Rattle.table.specs.{RegularTable}
 use Rattle.table.specs.{small}
 use Rattle.least_count.specs.declared.Least.TheVariants.{Leaves}
 use Rattle.least_count.specs.{cap, least_of, least_answer}

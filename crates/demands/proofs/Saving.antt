@@ -52,7 +52,9 @@ file-accepted =
     (written-accepted t.now w.accepted bytes))
 
 -- "and two tables give one file only if they are equal"
-pub one-file : RunBoth writer'.write.ended writer'.write.ended (function writer.write.Symbol.name writer.write.Symbol.code) (function writer.write.Symbol.name writer.write.Symbol.code)
+pub one-file : RunBoth writer'.write.ended writer'.write.ended
+    (function writer.write.Symbol.name writer.write.Symbol.code)
+    (function writer.write.Symbol.name writer.write.Symbol.code)
     (λ κs (t, _) r (_, (b, _)) κs' (u, _) q (_, (d, _)). (n m : ℕ) → r ≡ Length n → q ≡ Length m
     → take n b.now ≡ take m d.now → t.now ≡ u.now)
 one-file =

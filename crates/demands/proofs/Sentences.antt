@@ -7,7 +7,8 @@ use Rattle.gametree.specs.{leaves as tree_leaves, minimax, Certifies, Smallest, 
 use Rattle.table.specs.declared.Rejection.{Rejection}
 use Rattle.table.specs.declared.Checked.TheVariants.{Nodes, Rejected as RejectedTable}
 use Rattle.table.specs.{frame_size, max_depth, frames, child_count, stored_score, depth_of, tree, valuation, value_of}
-use Rattle.table.specs.{max_value, Ordinary, Accepted, LowestDeep, rejection_before9, SameShape, Alternating, tree_by_depth}
+use Rattle.table.specs.{max_value, Ordinary, Accepted, LowestDeep, rejection_before9, SameShape, Alternating}
+use Rattle.table.specs.{tree_by_depth}
 use Rattle.table.specs.{RegularTable}
 use Rattle.table.proofs.Sides.{tree-before}
 use Rattle.table.proofs.TreeOfTable.{ordinary-scores}
@@ -146,7 +147,8 @@ plain-agrees =
     ))
 
 -- N2: "Deeper trees are answered with 9"
-pub deeper-refused : Runs table_check'.check.ended (function table_check.check.Symbol.name table_check.check.Symbol.code)
+pub deeper-refused : Runs table_check'.check.ended (function table_check.check.Symbol.name
+    table_check.check.Symbol.code)
     (λ κs (t, _) r e. rejection_before9 t.now ≡ none → (k : ℕ) → k < frames t.now
     → max_depth < depth_of t.now k → (q : Rejection) × LowestDeep t.now q × (r ≡ RejectedTable q))
 deeper-refused =
@@ -154,7 +156,9 @@ deeper-refused =
     let p = deeper-answered t.now passed k h d in (p.0, p.1, s ∙ p.2))
 
 -- N3: "Reading a written file restores the table exactly"
-pub written_read : RunBoth writer'.write.ended reader'.read.ended (function writer.write.Symbol.name writer.write.Symbol.code) (function reader.read.Symbol.name reader.read.Symbol.code)
+pub written_read : RunBoth writer'.write.ended reader'.read.ended
+    (function writer.write.Symbol.name writer.write.Symbol.code)
+    (function reader.read.Symbol.name reader.read.Symbol.code)
     (λ κs (t, _) r (_, (b, _)) κs' (f, (u, _)) r' (_, (u', _)). (n : ℕ) → r ≡ Length n
     → f.now ≡ take n b.now → length t.now ≤ length u.now
     → (r' ≡ Nodes (frames t.now)) × (u'.now ≡ t.now ++ drop (length t.now) u.now))
@@ -203,7 +207,8 @@ capitals-taken =
     (((accepted-exactly f.now).0 a).line i h).digits k l)
 
 -- "their trees do not change"
-pub converted-same : Runs file_convert'.convert.ended (function file_convert.convert.Symbol.name file_convert.convert.Symbol.code)
+pub converted-same : Runs file_convert'.convert.ended (function file_convert.convert.Symbol.name
+    file_convert.convert.Symbol.code)
     (λ κs (f, _) r (_, (b, _)). (n : ℕ) → r ≡ Length n
     → AcceptedFile (take n b.now) × (decoded (take n b.now) ≡ decoded f.now))
 converted-same =
@@ -233,7 +238,8 @@ graft-value =
 
 -- N10: "The call gives the smallest leaf value from -32,000 to 32,000 that makes the root's value exactly the wanted
 -- one"
-pub smallest-value : Runs leaf_value'.least_value.ended (function leaf_value.least_value.Symbol.name leaf_value.least_value.Symbol.code)
+pub smallest-value : Runs leaf_value'.least_value.ended (function leaf_value.least_value.Symbol.name
+    leaf_value.least_value.Symbol.code)
     (λ κs (t, (k, (w, _))) r e. (v : ℤ) → r ≡ Value v → (nat_abs v ≤ max_value) × (root_value t.now k v ≡ w)
     × ((u : ℤ) → nat_abs u ≤ max_value → u <ℤ v → root_value t.now k u ≡ w → ⊥))
 smallest-value =
@@ -241,7 +247,8 @@ smallest-value =
     let g = given t.now k w v (sym s ∙ i) in (g.ranged, g.reaches, g.smallest))
 
 -- N11: "In that tree alpha-beta values every leaf, so no filling of the shape costs it more"
-pub costs-most : EverySearchAnd worst_fill'.fill.ended (function worst_fill.fill.Symbol.name worst_fill.fill.Symbol.code)
+pub costs-most : EverySearchAnd worst_fill'.fill.ended (function worst_fill.fill.Symbol.name
+    worst_fill.fill.Symbol.code)
     (λ c κs (t, _) r (t', _). (n : ℕ) → r ≡ filled.Leaves n → c.method ≡ AlphaBeta
     → (g : Findings) → c.answer ≡ Found g → (SameShape t.now c.table → g.leaves ≤ n)
     × (c.table ≡ t'.now → (g.leaves ≡ n) × ((k : ℕ) → k < frames t.now
@@ -257,7 +264,8 @@ costs-most =
 
 -- N12: "each entry is the number of leaves, a shared one counted once, in every max and min pair of equal value, in
 -- each such tree that is accepted"
-pub least-leaves : Runs least_count'.least_leaves.ended (function least_count.least_leaves.Symbol.name least_count.least_leaves.Symbol.code)
+pub least-leaves : Runs least_count'.least_leaves.ended (function least_count.least_leaves.Symbol.name
+    least_count.least_leaves.Symbol.code)
     (λ κs (w, (d, _)) r e. (n : ℕ) → r ≡ least.Leaves n → (t : List ℕ) → RegularTable w d t → Accepted t
     → (g h : ℕ → Bool) (v : ℕ) → Certifies (valuation t) (tree t) g h v → pair_leaves g h (tree t) ≡ n)
 least-leaves =
@@ -275,7 +283,8 @@ pub marks-no-fewer : EachPlain (λ t f _ l. (w d n : ℕ) → RegularTable w d t
 marks-no-fewer = each-plain no-fewer-plain
 
 -- N13: "the call hands back the flags of the one with fewer flagged leaves, the first on a tie"
-pub fewer-leaves : Runs certificate_choice'.select.ended (function certificate_choice.select.Symbol.name certificate_choice.select.Symbol.code)
+pub fewer-leaves : Runs certificate_choice'.select.ended (function certificate_choice.select.Symbol.name
+    certificate_choice.select.Symbol.code)
     (λ κs (t, (f, (s, _))) r e. (v w : ℕ) → Certificate t.now f.now v → Certificate t.now s.now w
     → (flagged_leaves t.now s.now < flagged_leaves t.now f.now
     → (r.choice ≡ Second) × (r.flags.now ≡ take (frames t.now) s.now))

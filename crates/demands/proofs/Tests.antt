@@ -1,7 +1,8 @@
 -- Cases of SPEC 12.2 beyond those that 01 marks P, computed from the definitions over byte tables.
 use Rattle.prelude.proofs.{◌≡◌, refl, [], ◌∷◌, map, replicate}
 use Rattle.gametree.specs.{mtd}
-use Rattle.table.specs.{next, parent_before, position_within, position_of, up_from, children_from, grow, tree_at, valuation}
+use Rattle.table.specs.{next, parent_before, position_within, position_of, up_from, children_from, grow, tree_at}
+use Rattle.table.specs.{valuation}
 use Rattle.table.specs.{each_node, frames_rejection, rejection}
 use Rattle.table_positions.specs.{written}
 use Rattle.lists.specs.{count_from}

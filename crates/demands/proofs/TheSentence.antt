@@ -2,7 +2,8 @@
 -- functions that run: of their lowered code, which an unverified back end then compiles (`Runs` in specs/Runs.antt;
 -- `EverySearch` and `EveryTwo` in specs/Searches.antt, of the calls of `search::search`, by whatever method). Read with
 -- it `Marked` and `CertifiedBy` (specs/Handed.antt), the tree of a table (`tree` and `valuation` in
--- table/specs/Tree.antt), `minimax` and `root_move_of` (gametree/specs); and `evaluated_by` (methods/specs/Rules.antt) with
+-- table/specs/Tree.antt), `minimax` and `root_move_of` (gametree/specs); and `evaluated_by` (methods/specs/Rules.antt)
+-- with
 -- `reached`, `mtd`, `mtdf` and `sss` (gametree/specs), for whether the methods are those of the papers. Sentences.antt
 -- has the other sentences, Exports.antt this one of the two exports. In a statement about a call of another function
 -- the arguments come first, in the order of the code, then the answer r, then the parameters at exit; t and u are
@@ -87,7 +88,8 @@ solution-trees = every (λ c s g e. flags-certify (handed c s g e))
 
 -- "The checker accepts a pair exactly when both are solution trees of that tree with equal value, and that value is
 -- then the minimax value"
-pub checker : Runs certificate_check'.check.ended (function certificate_check.check.Symbol.name certificate_check.check.Symbol.code)
+pub checker : Runs certificate_check'.check.ended (function certificate_check.check.Symbol.name
+    certificate_check.check.Symbol.code)
     (λ κs (t, (f, _)) r e. (((z : ℤ) × (r ≡ Value z)) ↔ ((v : ℕ) × Certificate t.now f.now v))
     × ((z : ℤ) → r ≡ Value z → z ≡ value_of (minimax (valuation t.now) (tree t.now))))
 checker =
@@ -152,7 +154,8 @@ write_keeps =
     let k = saving.write_keeps t.now b.now q (sym (ap (λ o. o.answer) s) ∙ e) in
     (k.0, ap (λ o. o.left) s ∙ k.1))
 
-pub convert-keeps : Runs file_convert'.convert.ended (function file_convert.convert.Symbol.name file_convert.convert.Symbol.code)
+pub convert-keeps : Runs file_convert'.convert.ended (function file_convert.convert.Symbol.name
+    file_convert.convert.Symbol.code)
     (λ κs (f, (b, _)) r (_, (b', _)). (q : Rejection) → r ≡ RejectedWrite q
     → ((base_rejection f.now and_then write_check10 (decoded f.now) (length b.now)) ≡ some q)
     × (b'.now ≡ b.now))
@@ -162,7 +165,8 @@ convert-keeps =
     (k.0, ap (λ o. o.left) s ∙ k.1))
 
 -- where there is no room for what `capitals` prints
-pub output-keeps : Runs file_convert'.output.ended (function file_convert.output.Symbol.name file_convert.output.Symbol.code)
+pub output-keeps : Runs file_convert'.output.ended (function file_convert.output.Symbol.name
+    file_convert.output.Symbol.code)
     (λ κs (f, (b, _)) r (_, (b', _)). r ≡ NoRoom → b'.now ≡ b.now)
 output-keeps =
     follows contracts.convert-output (λ κs (f, (b, _)) r (_, (b', _)) s e.

@@ -6,7 +6,8 @@ use Rattle.gametree.specs.declared.Side.TheVariants.{Max, Min}
 use Rattle.gametree.specs.{leaves}
 use Rattle.gametree_theory.proofs.Minimax.Nodes.{nodes-in}
 use Rattle.gametree_theory.proofs.Alphabeta.WorstCase.{blocks_at}
-use Rattle.table.specs.{frame_size, frames, byte_of, child_count, value_bytes, side_of, tree_at, tree, valuation, value_of}
+use Rattle.table.specs.{frame_size, frames, byte_of, child_count, value_bytes, side_of, tree_at, tree, valuation}
+use Rattle.table.specs.{value_of}
 use Rattle.table.specs.{ChildOf, SameShape, ◌leaving◌, Accepted, Leaf}
 use Rattle.table.proofs.Acceptance.{accepted-formed}
 use Rattle.table.proofs.Leaves.{leaf-listed}

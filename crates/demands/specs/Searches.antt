@@ -34,7 +34,9 @@ pub record EverySearch (P : Call → Type 0) : Type 2 where
 
 -- whenever it is called twice, P holds of the two calls
 pub record EveryTwo (P : Call → Call → Type 0) : Type 2 where
-  pub runs : RunBoth search'.search.ended search'.search.ended (function search.search.Symbol.name search.search.Symbol.code) (function search.search.Symbol.name search.search.Symbol.code)
+  pub runs : RunBoth search'.search.ended search'.search.ended
+      (function search.search.Symbol.name search.search.Symbol.code)
+      (function search.search.Symbol.name search.search.Symbol.code)
       (λ κs (w, (t, (m, (f, (o, _))))) r (_, (_, (m', (f', (o', _))))) κs' (v, (u, (x, (y, (z, _))))) q.
       λ (_, (_, (x', (y', (z', _))))).
       P (call w t.now m.now f.now o.now r m'.now f'.now o'.now)

@@ -151,7 +151,8 @@ module _ (ν : ℕ → ℕ) where
   -- where the bounds have met they are decided, else what is found decides them
   met-decides : (w : List ℕ) (t : Tree) (q : SearchResult) → Scored ν t → Decided ν (among (w ++ q.evaluated)) t
       → Decided ν
-      (among (w ++ (cond (eqb (low ν (among w) t) (high ν (among w) t)) (scouted (low ν (among w) t) []) q).evaluated)) t
+      (among (w ++ (cond (eqb (low ν (among w) t) (high ν (among w) t)) (scouted (low ν (among w) t) []) q).evaluated))
+          t
   met-decides w t q h d =
       cond_cases (λ (x : SearchResult). Decided ν (among (w ++ x.evaluated)) t)
       (eqb (low ν (among w) t) (high ν (among w) t))

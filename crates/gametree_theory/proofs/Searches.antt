@@ -1,7 +1,8 @@
 -- The searches, as what they evaluate, and what follows from the leaves of any search.
 use Rattle.prelude.proofs.{ℕ, ◌≡◌, true, List, map}
 use Rattle.lists.specs.{All, among, Once}
-use Rattle.gametree.specs.{Tree, minimax, leaves, Decided, full_window, mtd, sss, Strategy, decide_by, flag, root_move_of}
+use Rattle.gametree.specs.{Tree, minimax, leaves, Decided, full_window, mtd, sss, Strategy, decide_by, flag}
+use Rattle.gametree.specs.{root_move_of}
 use Rattle.gametree.specs.{bound_move}
 
 -- the leaves that SSS* evaluates, in order

@@ -6,7 +6,8 @@ use Rattle.prelude.proofs.{List, [], ◌++◌, length, length-append, leb-true, 
 use Rattle.lists.specs.{All, among, Once}
 use Rattle.gametree.specs.declared.Side.TheVariants.{Max, Min}
 use Rattle.gametree.specs.{Tree, least, greatest, minimax, leaves, Scored, Proper, low, high, Decided, alpha_beta}
-use Rattle.gametree.specs.{full_window, pair_leaves, chosen, flag, Smallest, root_move_of, bound_move, test, last_phase, mtdf}
+use Rattle.gametree.specs.{full_window, pair_leaves, chosen, flag, Smallest, root_move_of, bound_move, test}
+use Rattle.gametree.specs.{last_phase, mtdf}
 use Rattle.gametree.specs.{Strategy, TestSearch, search_by, mtd_from, falling, decide_by}
 use Rattle.lists.proofs.Lists.{once-length}
 use Rattle.gametree_theory.proofs.Minimax.Bounds.{known-local}

@@ -8,7 +8,8 @@ use Rattle.gametree.specs.declared.Side.TheVariants.{Max, Min}
 use Rattle.gametree.specs.{Tree, leaf, inner, Children, least, greatest, minimax, size, leaves, leaf_count, In}
 use Rattle.gametree.specs.{EveryLeaf, Score, Scored, Distinct, Proper, known, low, high, best_of, Decided, reached}
 use Rattle.gametree.specs.{full_window, mtd, fresh, memo_mtd, without_memo, State, Step, empty, stop, quiet, evaluating}
-use Rattle.gametree.specs.{replace, step, run_from, start, sss, ListAfter, after_quiet, after_evaluating, resumed, in_full}
+use Rattle.gametree.specs.{replace, step, run_from, start, sss, ListAfter, after_quiet, after_evaluating, resumed}
+use Rattle.gametree.specs.{in_full}
 use Rattle.gametree.specs.{Strategy, decide_by, Rule, SolutionTree, solution_value, Certifies, pair_leaves, chosen}
 use Rattle.gametree.specs.{Smallest, root_move_of, bound_move, unrivalled, Reason}
 use Rattle.gametree_theory.proofs.Certificates.Flags.{FlagsCertify}
@@ -65,7 +66,8 @@ bounds-other ν E n e = (rw e refl, rw e refl)
 -- a Max node takes the greatest low and the greatest high of its children, a Min node the least of each
 pub bounds-inner : (ν : ℕ → ℕ) (E : ℕ → Bool) (n : ℕ) (s : Side) (ks : Children)
     → (low ν E (inner n s ks) ≡ best_of s (low ν E) ks) × (high ν E (inner n s ks) ≡ best_of s (high ν E) ks)
-bounds-inner ν E n s ks = (minimax_children-best (known ν E least) s ks, minimax_children-best (known ν E greatest) s ks)
+bounds-inner ν E n s ks = (minimax_children-best (known ν E least) s ks,
+    minimax_children-best (known ν E greatest) s ks)
 
 -- the minimax value is a real score
 pub value-score : (ν : ℕ → ℕ) (t : Tree) → Scored ν t → Score (minimax ν t)

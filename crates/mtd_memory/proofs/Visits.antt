@@ -76,22 +76,22 @@ skip_count false n x e h = (refl, omega (arith, e, skip-back n))
 
 -- a leaf
 module _ (t : List ℕ) (wf : WellFormed t) (i : ℕ) (inside : i < frames t) (none : child_count t i ≡ 0) (m : Memory)
-    where
-  -- an evaluated leaf's high is its score
-  pub leaf-known : HighsRight t m (tree_at t i) → marked m.evaluated i ≡ true → get_or m.highs i 0 ≡ valuation t i
-  leaf-known right e = right i (in-own t wf i) ∙ rw (tree-leaf t wf i inside none, e)
+  where
+    -- an evaluated leaf's high is its score
+    pub leaf-known : HighsRight t m (tree_at t i) → marked m.evaluated i ≡ true → get_or m.highs i 0 ≡ valuation t i
+    leaf-known right e = right i (in-own t wf i) ∙ rw (tree-leaf t wf i inside none, e)
 
-  -- it is tried: evaluated, if it was not before, and compared with the test
-  pub visit-leaf : (γ : ℕ) (e o h : List ℕ) (r : Tried) → MemoryRoom (frames t) m
-      → r.answer ≡ leb γ (valuation t i)
-      → progress r.leaves e o ≡ evaluate_all (progress_of m) (cond (marked m.evaluated i) [] (i ∷ []))
-      → e ≡ set m.evaluated i 1 → h ≡ set m.highs i (valuation t i)
-      → r.leaves ≡ ones e (frames t) → Skips t m i
-      → Passed t (tree_at t i) γ m (memory r.leaves e o h m.not_below) r
-  visit-leaf γ e o h r room a w p q c s =
-      let is_IsLeaf = tree-leaf t wf i inside none in
-      rw (p, q) (passed-at is_IsLeaf (leaf-passed t i γ m r.leaves o r is_IsLeaf (room_at room inside) a
-      (rw p at w) (rw p at c) none s))
+    -- it is tried: evaluated, if it was not before, and compared with the test
+    pub visit-leaf : (γ : ℕ) (e o h : List ℕ) (r : Tried) → MemoryRoom (frames t) m
+        → r.answer ≡ leb γ (valuation t i)
+        → progress r.leaves e o ≡ evaluate_all (progress_of m) (cond (marked m.evaluated i) [] (i ∷ []))
+        → e ≡ set m.evaluated i 1 → h ≡ set m.highs i (valuation t i)
+        → r.leaves ≡ ones e (frames t) → Skips t m i
+        → Passed t (tree_at t i) γ m (memory r.leaves e o h m.not_below) r
+    visit-leaf γ e o h r room a w p q c s =
+        let is_IsLeaf = tree-leaf t wf i inside none in
+        rw (p, q) (passed-at is_IsLeaf (leaf-passed t i γ m r.leaves o r is_IsLeaf (room_at room inside) a
+        (rw p at w) (rw p at c) none s))
 
 -- an inner node
 module _ {t : List ℕ} {i first end : ℕ} (family : Family t i first end) {m : Memory} {p : Position}

@@ -2,7 +2,8 @@
 // does at a leaf, and what a node keeps.
 #![tactic(auto)]
 
-ghost use Rattle.std.specs.Prelude.{◌≡◌, true, false, cond, ◌||◌, [], ◌∷◌, ℕ, ◌+◌, ◌-◌, ◌<◌, ◌≤◌, leb, eqb, length, get_or, set};
+ghost use Rattle.std.specs.Prelude.{◌≡◌, true, false, cond, ◌||◌, [], ◌∷◌, ℕ, ◌+◌, ◌-◌, ◌<◌, ◌≤◌, leb, eqb};
+ghost use Rattle.std.specs.Prelude.{length, get_or, set};
 ghost use Rattle.gametree.specs.Mtd.{settles as settles_of};
 ghost use Rattle.table.specs.Frame.{max_nodes, frames, child_count};
 ghost use Rattle.table.specs.Position.{depth_of};

@@ -73,12 +73,12 @@ pub fn next(
 ) -> Run
     requires { Takeable table.now positions.now front.old evaluated.old order.old run entry }
     ensures { record {
-      front = front.exit.now;
+      front = front.new;
       marks = evaluated.new;
       order = order.new;
       run = result;
     }
-        ≡ taken table.now front.entry.now evaluated.old order.old run entry }
+        ≡ taken table.now front.old evaluated.old order.old run entry }
 {
     let counts = run.counts;
     let merit = merit_score(entry);

@@ -1,5 +1,6 @@
 -- Questions put to node after node: as long as they pass, the first rejection is that of the nodes that are left.
-use Rattle.prelude.proofs.{ℕ, zero, suc, ◌+◌, ◌*◌, ◌-◌, ◌≤◌, ◌<◌, arith, dec_lt, ◌≡◌, refl, sym, ◌∙◌, Option, none, some}
+use Rattle.prelude.proofs.{ℕ, zero, suc, ◌+◌, ◌*◌, ◌-◌, ◌≤◌, ◌<◌, arith, dec_lt, ◌≡◌, refl, sym, ◌∙◌, Option, none}
+use Rattle.prelude.proofs.{some}
 use Rattle.prelude.proofs.{List}
 use Rattle.table.specs.declared.Rejection.{Rejection}
 use Rattle.table.specs.declared.Checked.{Checked}

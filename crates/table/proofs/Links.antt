@@ -31,7 +31,8 @@ module _ (t : List ℕ) (wf : WellFormed t) where
   abbrev T : Tree
   T = tree t
 
-  kid-answers : (i : ℕ) (s : Side) (first n k : ℕ) → AnswersChildren T i s (children_from (tree_at t) first n) → first ≤ k
+  kid-answers : (i : ℕ) (s : Side) (first n k : ℕ) → AnswersChildren T i s (children_from (tree_at t) first n)
+      → first ≤ k
       → k ≤ first + n
       → (link_in T k ≡ under i s (next_sibling k (first + suc n))) × Answers T (tree_at t k)
   unfolding children_from
@@ -49,7 +50,8 @@ module _ (t : List ℕ) (wf : WellFormed t) where
       ]
 
   answers-child : {i k : ℕ} → i < frames t → ChildOf t i k → Answers T (tree_at t i)
-      → (link_in T k ≡ under i (side_of t i) (next_sibling k (first_child t i + child_count t i))) × Answers T (tree_at t k)
+      → (link_in T k ≡ under i (side_of t i) (next_sibling k (first_child t i + child_count t i)))
+          × Answers T (tree_at t k)
   answers-child {i} {k} h c a =
       zero-or-suc (child_count t i) (λ e. absurd (omega (arith, c.from, c.to))) (λ n e.
       rw e (kid-answers i (side_of t i) (first_child t i) n k (rw (tree-inner t wf i n h e) at a).2 c.from

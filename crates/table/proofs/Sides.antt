@@ -7,7 +7,8 @@ use Rattle.table.specs.declared.Rejection.{Rejection}
 use Rattle.table.specs.{frames, first_child, child_count, byte3, same_mover, parent_of, position_of, depth_of, side_of}
 use Rattle.table.specs.{node, tree_at, tree, WellFormed, ChildOf, ◌and_then◌, each_node, check1, check2, check3}
 use Rattle.table.specs.{check4, check5, check6, check7, check8, depths_rejection, frames_rejection, rejection}
-use Rattle.table.specs.{Alternating, zero_check4, zero_frames, zero_rejection, side_by_depth, grow_by_depth, tree_by_depth}
+use Rattle.table.specs.{Alternating, zero_check4, zero_frames, zero_rejection, side_by_depth, grow_by_depth}
+use Rattle.table.specs.{tree_by_depth}
 use Rattle.table.proofs.Parents.{parent-less}
 use Rattle.table.proofs.Positions.{position-root, position-step, position-child, depth-child}
 use Rattle.table.proofs.Next.{child-later, child-within}
@@ -79,12 +80,14 @@ module _ (t : List ℕ) (a : Alternating t) where
   side-parity k h = within-parity (suc k) k (omega arith) h
 
   module _ (wf : WellFormed t) where
-    grown-before : (f i d : ℕ) → i < frames t → frames t ≤ i + f → d ≡ depth_of t i → tree_at t i ≡ grow_by_depth f t d i
+    grown-before : (f i d : ℕ) → i < frames t → frames t ≤ i + f → d ≡ depth_of t i
+        → tree_at t i ≡ grow_by_depth f t d i
     unfolding grow_by_depth
     grown-before zero i d h l e = absurd (omega arith)
     grown-before (suc f) i d h l e =
         tree-node t wf i h
-        ∙ node-same i (side_of t i) (tree_at t) (grow_by_depth f t (d + 1)) (first_child t i) (child_count t i) (λ k a b.
+        ∙ node-same i (side_of t i) (tree_at t) (grow_by_depth f t (d + 1)) (first_child t i) (child_count t i)
+            (λ k a b.
         let c : ChildOf t i k = record { from = a; to = b } in
         grown-before f k (d + 1) (child-within t wf h c) (omega (arith, child-later t wf h c))
         (omega (arith, depth-child t wf h c)))

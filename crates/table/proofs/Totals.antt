@@ -3,7 +3,8 @@
 use Rattle.prelude.proofs.{ℕ, zero, suc, ◌+◌, ◌-◌, ◌≤◌, ◌<◌, arith, ◌≡◌, refl, ap, ap₂, ◌∙◌, Bool, cond, List}
 use Rattle.lists.specs.{count_from}
 use Rattle.lists.proofs.Counting.{count_next}
-use Rattle.gametree.specs.{Tree, leaf, inner, Children, last, ◌then◌, size, size_children, leaf_count, leaf_count_children}
+use Rattle.gametree.specs.{Tree, leaf, inner, Children, last, ◌then◌, size, size_children, leaf_count}
+use Rattle.gametree.specs.{leaf_count_children}
 use Rattle.gametree_theory.proofs.Minimax.Nodes.{size-then}
 use Rattle.table.specs.{frames, first_child, child_count, next, children_from, tree_at, tree, WellFormed}
 use Rattle.table.proofs.Next.{next_more, waits}

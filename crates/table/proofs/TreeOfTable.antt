@@ -49,7 +49,8 @@ module _ (t : List ℕ) (a : Accepted t) where
       (_, p.0, p.1, λ j g c. one_parent t wf g p.0 c p.1)
 
   -- a leaf's score is that of the worth, at its depth, of the value that its bytes 4 and 5 hold
-  pub score-worth : (i : ℕ) → i < frames t → value_of (valuation t i) ≡ worth (depth_of t i) (value_of (stored_score t i))
+  pub score-worth : (i : ℕ) → i < frames t → value_of (valuation t i)
+      ≡ worth (depth_of t i) (value_of (stored_score t i))
   unfolding valuation
   score-worth i h =
       worth-stated (depth_of t i) (stored_score t i)

@@ -11,7 +11,8 @@ pub mod Shape
 pub mod FirstNo
 pub mod Results
 unfoldable pub use Frame.{next}
-pub use Frame.{frame_size, max_nodes, max_table, max_children, max_depth, frames, byte_of, first_child, child_count, byte3}
+pub use Frame.{frame_size, max_nodes, max_table, max_children, max_depth, frames, byte_of, first_child, child_count}
+pub use Frame.{byte3}
 pub use Frame.{same_mover, value_bytes, two_bytes, stored_score}
 unfoldable pub use Children.{children_of, children_at}
 unfoldable pub use Position.{parent_before, position_within, position_of}

@@ -5,7 +5,8 @@ use Rattle.prelude.proofs.{get_or}
 use Rattle.gametree.specs.declared.Position.{Position}
 use Rattle.gametree.specs.declared.Side.{Side}
 use Rattle.gametree.specs.declared.Side.TheVariants.{Max, Min}
-use Rattle.table.specs.{max_nodes, frames, child_count, parent_before, parent_of, root_position, child_position, position_of}
+use Rattle.table.specs.{max_nodes, frames, child_count, parent_before, parent_of, root_position, child_position}
+use Rattle.table.specs.{position_of}
 use Rattle.table.specs.{depth_of, side_of, WellFormed}
 use Rattle.table.proofs.Parents.{parent_is}
 use Rattle.table.proofs.Positions.{position-root, position-child, depth-at-most}

@@ -22,7 +22,8 @@ use Rattle.analysis.specs.Report.{analysis_on}
 
 -- the first "no" to the questions put to a file
 abbrev pub zero_file : List ℕ → Option Rejection
-zero_file f = check1 f and_then file_check2 f and_then file_check3 f and_then file_check16 f and_then zero_frames (decoded f)
+zero_file f = check1 f and_then file_check2 f and_then file_check3 f and_then file_check16 f and_then zero_frames
+    (decoded f)
 
 -- the rule of node i for side p's tree, where who moves is read from the depth
 abbrev pub rule_by_depth : Side → List ℕ → List ℕ → ℕ → Bool

@@ -51,7 +51,8 @@ row_of t =
 
 -- value, move, all leaves, alpha-beta's leaves, MTD's leaves and passes, SSS*'s leaves and replacements; the leaves of
 -- alpha-beta in order, and those of MTD and SSS*, which are the same; the flags of SSS* and those of the plain engine
-abbrev pub row_with : ℤ → (move all ab mtd passes sss replacements : ℕ) → (ab_order order flags plain_flags : List ℕ) → Row
+abbrev pub row_with : ℤ → (move all ab mtd passes sss replacements : ℕ) → (ab_order order flags plain_flags : List ℕ)
+    → Row
 row_with v m l a d p s r u w f g =
     let in_list : List ℕ → List ℕ = λ x. listed x (replicate (length f) 0) in
     record {

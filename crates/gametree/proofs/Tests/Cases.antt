@@ -2,7 +2,8 @@
 use Rattle.prelude.proofs.{ℕ, suc, ◌≡◌, refl, List, [], ◌∷◌}
 use Rattle.lists.specs.{among}
 use Rattle.gametree.specs.{greatest, mtd, root_move_of, bound_move, mtdf, Strategy, TestSearch, search_by, mtd_from}
-use Rattle.gametree.specs.{falling, rising, bisection, score, Case, valuation, equal_merits, low_known, found_before_case}
+use Rattle.gametree.specs.{falling, rising, bisection, score, Case, valuation, equal_merits, low_known}
+use Rattle.gametree.specs.{found_before_case}
 use Rattle.gametree.specs.{three_passes, falling_leaves}
 
 -- the search of a case, and what it gives: the score, the leaves, the tests

@@ -2,7 +2,8 @@
 use Rattle.prelude.proofs.{ℕ, zero, suc, ◌+◌, ◌-◌, ◌*◌, ◌≤◌, eq-or-lt_of_le, le_refl, arith, ◌≡◌, refl, sym, ◌∙◌, ap}
 use Rattle.prelude.proofs.{subst, ◌⊎◌, inl, inr, ⊎_elim, List, [], ◌∷◌, append-nil, append_assoc, length, length-append}
 use Rattle.gametree.specs.{Tree, least, size, Proper, Step, State, empty, stop, quiet, evaluating, step, start, sss}
-use Rattle.gametree.specs.{ListAfter, at_start, after_quiet, after_evaluating, finished, spent, resumed, in_full, run_within}
+use Rattle.gametree.specs.{ListAfter, at_start, after_quiet, after_evaluating, finished, spent, resumed, in_full}
+use Rattle.gametree.specs.{run_within}
 use Rattle.gametree.specs.{sss_within}
 use Rattle.gametree_theory.proofs.Minimax.Bounds.{minimax-score}
 use Rattle.gametree_theory.proofs.Results.Merits.{list-unique}

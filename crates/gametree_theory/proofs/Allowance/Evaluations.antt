@@ -1,7 +1,8 @@
 -- The evaluations of the full run that an allowance does not cover determine the run within it: by induction on the
 -- steps, whatever they are.
 use Rattle.prelude.proofs.{ℕ, zero, suc, ◌≡◌, refl, List, [], ◌∷◌, take, drop}
-use Rattle.gametree.specs.{Tree, State, Step, empty, stop, quiet, evaluating, step, Evaluation, SssRun, follow, run_from}
+use Rattle.gametree.specs.{Tree, State, Step, empty, stop, quiet, evaluating, step, Evaluation, SssRun, follow}
+use Rattle.gametree.specs.{run_from}
 use Rattle.gametree.specs.{Ran, spent, in_full, follow_within, run_within}
 use Rattle.lists.proofs.Choice.{clash}
 

@@ -3,7 +3,8 @@ use Rattle.prelude.proofs.{ℕ, zero, suc, min, le_refl, ◌≡◌, refl, sym, �
 use Rattle.prelude.proofs.{drop_of_length-le}
 use Rattle.lists.specs.{All}
 use Rattle.gametree.specs.declared.Side.TheVariants.{Max, Min}
-use Rattle.gametree.specs.{Tree, leaf, inner, subtree_at, Status, LIVE, SOLVED, State, best_state, put, Step, empty, stop}
+use Rattle.gametree.specs.{Tree, leaf, inner, subtree_at, Status, LIVE, SOLVED, State, best_state, put, Step, empty}
+use Rattle.gametree.specs.{stop}
 use Rattle.gametree.specs.{quiet, evaluating, solved, replace_live, replace, step, Evaluation, run_from, Ran, in_full}
 use Rattle.gametree.specs.{follow_within, run_within}
 use Rattle.lists.proofs.Choice.{clash}

@@ -5,7 +5,8 @@ use Rattle.prelude.proofs.{[], ◌∷◌, ◌++◌, append-nil, ltb, ltb-true, l
 use Rattle.lists.specs.{All, Subsequence, end, skip, keep}
 use Rattle.gametree.specs.declared.Side.{Side}
 use Rattle.gametree.specs.declared.Side.TheVariants.{Max, Min}
-use Rattle.gametree.specs.{Tree, leaf, inner, Children, last, ◌then◌, better, minimax, least, greatest, minimax_children}
+use Rattle.gametree.specs.{Tree, leaf, inner, Children, last, ◌then◌, better, minimax, least, greatest}
+use Rattle.gametree.specs.{minimax_children}
 use Rattle.gametree.specs.{leaves, leaves_children, Scored, known, Decided, raise, lower, reached, reached_children}
 use Rattle.gametree.specs.{clamp, SearchResult, after, onward, alpha_beta, alpha_beta_children}
 use Rattle.lists.proofs.Choice.{true-not-false}
@@ -77,7 +78,8 @@ onward-value s α β m w r q o e f false t = clamp-shut s α β m r.value w o e 
 
 -- the value of alpha-beta is the minimax value brought into the window
 mutual
-  pub alpha_beta-value : (ν : ℕ → ℕ) (α β : ℕ) → α < β → (t : Tree) → (alpha_beta ν α β t).value ≡ clamp α β (minimax ν t)
+  pub alpha_beta-value : (ν : ℕ → ℕ) (α β : ℕ) → α < β → (t : Tree)
+      → (alpha_beta ν α β t).value ≡ clamp α β (minimax ν t)
   alpha_beta-value ν α β o (leaf n) = refl
   alpha_beta-value ν α β o (inner n s ks) = alpha_beta_children-value ν s α β o ks
 
@@ -106,7 +108,8 @@ onward-evaluated ν s α β m ts w r q o e d f false t =
 
 -- alpha-beta evaluates the leaves of Baudet's condition
 mutual
-  pub alpha_beta-evaluated : (ν : ℕ → ℕ) (α β : ℕ) → α < β → (t : Tree) → (alpha_beta ν α β t).evaluated ≡ reached ν α β t
+  pub alpha_beta-evaluated : (ν : ℕ → ℕ) (α β : ℕ) → α < β → (t : Tree)
+      → (alpha_beta ν α β t).evaluated ≡ reached ν α β t
   alpha_beta-evaluated ν α β o (leaf n) = simp (lt-ltb α β o)
   alpha_beta-evaluated ν α β o (inner n s ks) = alpha_beta_children-evaluated ν s α β o ks
 

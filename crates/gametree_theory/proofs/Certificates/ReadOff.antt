@@ -5,7 +5,8 @@ use Rattle.prelude.proofs.{eq-eqb, ne_eqb}
 use Rattle.lists.specs.{among}
 use Rattle.gametree.specs.declared.Side.{Side}
 use Rattle.gametree.specs.declared.Side.TheVariants.{Max, Min}
-use Rattle.gametree.specs.{Tree, leaf, inner, Children, last, ◌then◌, least, greatest, better, minimax, minimax_children}
+use Rattle.gametree.specs.{Tree, leaf, inner, Children, last, ◌then◌, least, greatest, better, minimax}
+use Rattle.gametree.specs.{minimax_children}
 use Rattle.gametree.specs.{number, In, InChildren, EveryLeaf, EveryLeafChildren, Distinct, DistinctChildren, Each}
 use Rattle.gametree.specs.{NoneOf, OneOf, Rule, Rules, RulesChildren, SolutionTree, worst, solution_value, same, chosen}
 use Rattle.gametree.specs.{chosen_each, chosen_first}
@@ -64,7 +65,8 @@ CappedChildren μ ks = EveryLeafChildren (λ n. μ n ≤ greatest) ks
 
 -- nor has it a greater minimax value
 capped-value : (μ : ℕ → ℕ) (q : Side) (ks : Children) → CappedChildren μ ks → minimax_children μ q ks ≤ greatest
-capped-value μ q ks i = (minimax_children-within 0 greatest μ q ks (every-map-kids _ _ (λ n h. (omega arith, h)) ks i)).1
+capped-value μ q ks i = (minimax_children-within 0 greatest μ q ks
+    (every-map-kids _ _ (λ n h. (omega arith, h)) ks i)).1
 
 -- what is read off in a tree, and in the children of a node: all of them, or the first with the value
 record ReadTree (p : Side) (μ : ℕ → ℕ) (g : ℕ → Bool) (b : Bool) (t : Tree) : Type 0 where
@@ -220,7 +222,8 @@ abbrev mutual
   is_chosen : Side → (ℕ → ℕ) → Bool → Tree → ℕ → Bool
   is_chosen p μ b (leaf n) k = b && eqb k n
   is_chosen p μ b (inner n q ks) k =
-      (b && eqb k n) || cond (same p q) (is_chosen_each p μ b ks k) (is_chosen_first p μ b (minimax_children μ q ks) ks k)
+      (b && eqb k n) || cond (same p q) (is_chosen_each p μ b ks k)
+          (is_chosen_first p μ b (minimax_children μ q ks) ks k)
 
   is_chosen_each : Side → (ℕ → ℕ) → Bool → Children → ℕ → Bool
   is_chosen_each p μ b (last t) k = is_chosen p μ b t k
@@ -257,7 +260,8 @@ either-among false u v k e f = f
 first-among : (p : Side) (μ : ℕ → ℕ) (v : ℕ) (t : Tree) (ts : Children) (k : ℕ) (c : Bool)
     → is_chosen p μ true t k ≡ among (chosen p μ t) k
     → (c ≡ false → is_chosen_first p μ true v ts k ≡ among (chosen_first p μ v ts) k)
-    → is_chosen p μ c t k || is_chosen_first p μ (not c) v ts k ≡ among (cond c (chosen p μ t) (chosen_first p μ v ts)) k
+    → is_chosen p μ c t k || is_chosen_first p μ (not c) v ts k
+        ≡ among (cond c (chosen p μ t) (chosen_first p μ v ts)) k
 first-among p μ v t ts k true e f = rw (none_first p μ v ts k) (or-false (is_chosen p μ true t k) ∙ e)
 first-among p μ v t ts k false e f = rw (none-chosen p μ t k) (f refl)
 
@@ -269,7 +273,8 @@ mutual
       ap (◌||◌ (eqb k n))
       (either-among (same p q) _ _ k (each-among p μ ks k) (children-among p q μ (minimax_children μ q ks) ks k refl))
 
-  each-among : (p : Side) (μ : ℕ → ℕ) (ks : Children) (k : ℕ) → is_chosen_each p μ true ks k ≡ among (chosen_each p μ ks) k
+  each-among : (p : Side) (μ : ℕ → ℕ) (ks : Children) (k : ℕ)
+      → is_chosen_each p μ true ks k ≡ among (chosen_each p μ ks) k
   each-among p μ (last t) k = chosen-among p μ t k
   each-among p μ (t then ts) k =
       ap₂ ◌||◌ (chosen-among p μ t k) (each-among p μ ts k)
@@ -300,7 +305,8 @@ mutual
       ⊎_elim (λ z. inl (chosen-in p μ b t k z)) (λ z. inr (chosen_each-in p μ b ts k z))
       (or_cases (is_chosen p μ b t k) _ e)
 
-  chosen_first-in : (p : Side) (μ : ℕ → ℕ) (b : Bool) (v : ℕ) (ks : Children) (k : ℕ) → is_chosen_first p μ b v ks k ≡ true
+  chosen_first-in : (p : Side) (μ : ℕ → ℕ) (b : Bool) (v : ℕ) (ks : Children) (k : ℕ)
+      → is_chosen_first p μ b v ks k ≡ true
       → InChildren k ks
   chosen_first-in p μ b v (last t) k e = chosen-in p μ (b && eqb (minimax μ t) v) t k e
   chosen_first-in p μ b v (t then ts) k e =

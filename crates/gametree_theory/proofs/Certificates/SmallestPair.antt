@@ -6,7 +6,8 @@ use Rattle.lists.specs.{All, among}
 use Rattle.gametree.specs.declared.Side.{Side}
 use Rattle.gametree.specs.declared.Side.TheVariants.{Max, Min}
 use Rattle.gametree.specs.{Tree, leaf, inner, Children, last, ◌then◌, better, minimax, number, nodes, leaf_count}
-use Rattle.gametree.specs.{leaf_count_children, In, InChildren, Proper, worst, solution_value, pair_leaves, inside, flag}
+use Rattle.gametree.specs.{leaf_count_children, In, InChildren, Proper, worst, solution_value, pair_leaves, inside}
+use Rattle.gametree.specs.{flag}
 use Rattle.gametree.specs.{Smallest}
 use Rattle.gametree_theory.proofs.Certificates.Flags.{FlagsCertify}
 use Rattle.gametree_theory.proofs.Certificates.Counting.{members, rules_hold, rules_hold_children, certificate?}

@@ -4,7 +4,8 @@ use Rattle.prelude.proofs.{ℕ, ◌≤◌, ◌<◌, arith, ◌≡◌, refl, ap, 
 use Rattle.lists.specs.{All, among}
 use Rattle.gametree.specs.declared.Side.{Side}
 use Rattle.gametree.specs.declared.Side.TheVariants.{Max, Min}
-use Rattle.gametree.specs.{Tree, leaf, inner, Children, last, ◌then◌, least, greatest, better, minimax, minimax_children}
+use Rattle.gametree.specs.{Tree, leaf, inner, Children, last, ◌then◌, least, greatest, better, minimax}
+use Rattle.gametree.specs.{minimax_children}
 use Rattle.gametree.specs.{EveryLeaf, EveryLeafChildren, Score, Scored, known, low, high, best_of}
 use Rattle.lists.proofs.Lists.{all-at}
 

@@ -4,7 +4,8 @@ use Rattle.prelude.proofs.{true, false, cond, ◌||◌, List, [], ◌∷◌, ◌
 use Rattle.prelude.proofs.{eqb-true, ne_eqb}
 use Rattle.lists.specs.{All, among, Once}
 use Rattle.gametree.specs.{Tree, leaf, inner, Children, last, ◌then◌, In, InChildren, EveryLeafChildren, Distinct}
-use Rattle.gametree.specs.{DistinctChildren, size, size_children, leaves, leaves_children, leaf_count, leaf_count_children}
+use Rattle.gametree.specs.{DistinctChildren, size, size_children, leaves, leaves_children, leaf_count}
+use Rattle.gametree.specs.{leaf_count_children}
 use Rattle.gametree.specs.{nodes, pair_leaves, LeavesIn}
 use Rattle.lists.proofs.Choice.{cond_cases, true-not-false, or_left, or_cases}
 use Rattle.lists.proofs.Lists.{among-left, among-right, all-zip, all_among, once-length}
@@ -121,7 +122,8 @@ mutual
   filter-count E (leaf n) = leaf-length (E n) n
   filter-count E (inner n q ks) = filter_children-count E ks
 
-  filter_children-count : (E : ℕ → Bool) (ks : Children) → length (filter E (leaves_children ks)) ≡ leaf_count_children E ks
+  filter_children-count : (E : ℕ → Bool) (ks : Children) → length (filter E (leaves_children ks))
+      ≡ leaf_count_children E ks
   filter_children-count E (last t) = filter-count E t
   filter_children-count E (t then ts) =
       ap length (filter-append E (leaves t) (leaves_children ts))

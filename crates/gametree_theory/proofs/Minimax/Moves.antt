@@ -4,7 +4,8 @@ use Rattle.prelude.proofs.{eqb-false, lt-ltb, eq-eqb, ne_eqb}
 use Rattle.lists.specs.{All, among}
 use Rattle.gametree.specs.declared.Side.{Side}
 use Rattle.gametree.specs.declared.Side.TheVariants.{Max, Min}
-use Rattle.gametree.specs.{Tree, leaf, inner, Children, last, ◌then◌, least, greatest, minimax, minimax_children, number}
+use Rattle.gametree.specs.{Tree, leaf, inner, Children, last, ◌then◌, least, greatest, minimax, minimax_children}
+use Rattle.gametree.specs.{number}
 use Rattle.gametree.specs.{Scored, ScoredChildren, known, Decided, raise, lower, clamp, alpha_beta, alpha_beta_children}
 use Rattle.gametree.specs.{worst, first_with, root_move_of, bound_move}
 use Rattle.gametree_theory.proofs.Minimax.Bounds.{minimax-score, low≤, ≤high, known-local}

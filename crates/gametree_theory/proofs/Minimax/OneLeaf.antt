@@ -3,7 +3,8 @@
 use Rattle.prelude.proofs.{ℕ, ◌≤◌, min, max, arith, ◌≡◌, Bool, true, false, cond, eqb}
 use Rattle.gametree.specs.declared.Side.{Side}
 use Rattle.gametree.specs.declared.Side.TheVariants.{Max, Min}
-use Rattle.gametree.specs.{Tree, leaf, inner, Children, last, ◌then◌, least, greatest, better, minimax, minimax_children}
+use Rattle.gametree.specs.{Tree, leaf, inner, Children, last, ◌then◌, least, greatest, better, minimax}
+use Rattle.gametree.specs.{minimax_children}
 use Rattle.gametree.specs.{clamp, substituted}
 
 -- v is the score x, brought between l and u

@@ -5,7 +5,8 @@ use Rattle.prelude.proofs.{List, [], ◌∷◌, ◌++◌, append_assoc, append-n
 use Rattle.lists.specs.{All, among, Once}
 use Rattle.gametree.specs.declared.Side.{Side}
 use Rattle.gametree.specs.{Tree, leaf, inner, Children, last, ◌then◌, greatest, better, minimax, minimax_children, In}
-use Rattle.gametree.specs.{InChildren, Distinct, DistinctChildren, known, settles, memo_bound, memo_bound_children, Memo}
+use Rattle.gametree.specs.{InChildren, Distinct, DistinctChildren, known, settles, memo_bound, memo_bound_children}
+use Rattle.gametree.specs.{Memo}
 use Rattle.gametree.specs.{MemoChildren, memo_high, memo_high_children, Pass, PassChildren, stay, tried, ended, joined}
 use Rattle.gametree.specs.{pass, pass_children, MemoRun, run, fresh, fresh_children, memo_mtd}
 use Rattle.lists.proofs.Choice.{cond_cases, true-not-false, or-false-both}

@@ -2,7 +2,8 @@
 -- of the marked leaves; a visit of the children goes child by child.
 use Rattle.prelude.proofs.{ℕ, ◌≡◌, refl, ◌∙◌, ap, ap₂, inl, inr, true, false}
 use Rattle.gametree.specs.declared.Side.{Side}
-use Rattle.gametree.specs.{Tree, leaf, inner, Children, last, ◌then◌, greatest, better, minimax_children, In, InChildren}
+use Rattle.gametree.specs.{Tree, leaf, inner, Children, last, ◌then◌, greatest, better, minimax_children, In}
+use Rattle.gametree.specs.{InChildren}
 use Rattle.gametree.specs.{known, high, settles, Memo, MemoChildren, memo_high, memo_high_children, pass, pass_children}
 use Rattle.gametree.specs.{fresh, fresh_children, Bits, read_memo, read_memo_children, Remembered, KidsRemembered}
 

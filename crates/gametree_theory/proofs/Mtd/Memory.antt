@@ -7,7 +7,8 @@ use Rattle.gametree.specs.declared.Side.{Side}
 use Rattle.gametree.specs.{Tree, leaf, inner, Children, last, ◌then◌, greatest, In, InChildren, Distinct}
 use Rattle.gametree.specs.{DistinctChildren, high, MtdMemory, with_node, Trial, trial, settles, try_node, try_children}
 use Rattle.gametree.specs.{MtdRun, passes_from, mtd, Memo, MemoChildren, memo_high, Pass, PassChildren, stay, entered}
-use Rattle.gametree.specs.{pass, pass_children, MemoRun, run, fresh, memo_mtd, without_memo, read_memo, read_memo_children}
+use Rattle.gametree.specs.{pass, pass_children, MemoRun, run, fresh, memo_mtd, without_memo, read_memo}
+use Rattle.gametree.specs.{read_memo_children}
 use Rattle.gametree.specs.{Remembered}
 use Rattle.lists.proofs.Lists.{all_among, among-append, among-right, among-out}
 use Rattle.gametree_theory.proofs.Mtd.MemoArrays.{read_memo_children-same, read-fresh, read-high, read-high-kids}
@@ -168,7 +169,8 @@ module _ (ν : ℕ → ℕ) (γ : ℕ) (s : Side) (t : Tree) (ts : Children) (d 
   matches-then x b = by (settles s r.not_below) refl
     where
       by : (c : Bool) → settles s r.not_below ≡ c
-          → MatchesChildren (t then ts) m (cond c r x) (pass_children ν γ s (t then ts) (memo_of_children m (t then ts)))
+          → MatchesChildren (t then ts) m (cond c r x) (pass_children ν γ s (t then ts)
+              (memo_of_children m (t then ts)))
       by true e = matches-ended (ap (settles s) (sym a.answer) ∙ e)
       by false e = matches-joined (ap (settles s) (sym a.answer) ∙ e) x b
 

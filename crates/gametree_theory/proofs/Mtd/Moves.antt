@@ -5,7 +5,8 @@ use Rattle.lists.specs.{among}
 use Rattle.gametree.specs.declared.Side.{Side}
 use Rattle.gametree.specs.declared.Side.TheVariants.{Max, Min}
 use Rattle.gametree.specs.{Tree, leaf, inner, Children, last, ◌then◌, least, greatest, minimax, minimax_children}
-use Rattle.gametree.specs.{ScoredChildren, Proper, known, high, Decided, Memo, MemoChildren, memo_high, memo_high_children}
+use Rattle.gametree.specs.{ScoredChildren, Proper, known, high, Decided, Memo, MemoChildren, memo_high}
+use Rattle.gametree.specs.{memo_high_children}
 use Rattle.gametree.specs.{Pass, PassChildren, pass, pass_children, MemoRun, run, fresh, memo_mtd, worst, first_with}
 use Rattle.gametree.specs.{root_move_of, bound_move}
 use Rattle.gametree_theory.proofs.Mtd.Marks.{MarksChildren}

@@ -4,8 +4,10 @@ use Rattle.prelude.proofs.{ℕ, ◌≤◌, ◌<◌, le_refl, arith, ◌≡◌, r
 use Rattle.prelude.proofs.{not-true, not-false}
 use Rattle.gametree.specs.declared.Side.{Side}
 use Rattle.gametree.specs.declared.Side.TheVariants.{Max, Min}
-use Rattle.gametree.specs.{Tree, leaf, inner, Children, last, ◌then◌, least, greatest, minimax, minimax_children, Scored}
-use Rattle.gametree.specs.{ScoredChildren, memo_bound, memo_bound_children, Memo, MemoChildren, memo_high, memo_high_children}
+use Rattle.gametree.specs.{Tree, leaf, inner, Children, last, ◌then◌, least, greatest, minimax, minimax_children}
+use Rattle.gametree.specs.{Scored}
+use Rattle.gametree.specs.{ScoredChildren, memo_bound, memo_bound_children, Memo, MemoChildren, memo_high}
+use Rattle.gametree.specs.{memo_high_children}
 use Rattle.gametree.specs.{Pass, PassChildren, pass, pass_children}
 use Rattle.lists.proofs.Choice.{cond_cases, true-not-false}
 use Rattle.gametree_theory.proofs.Minimax.Bounds.{better-mono}

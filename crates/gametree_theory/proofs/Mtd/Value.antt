@@ -3,7 +3,8 @@ use Rattle.prelude.proofs.{ℕ, zero, suc, ◌≤◌, ◌<◌, le_refl, le_trans
 use Rattle.gametree.specs.declared.Side.{Side}
 use Rattle.gametree.specs.declared.Side.TheVariants.{Max, Min}
 use Rattle.gametree.specs.{Tree, leaf, inner, Children, last, ◌then◌, greatest, better, minimax, Scored, Memo}
-use Rattle.gametree.specs.{MemoChildren, memo_high, memo_high_children, pass, MemoRun, settled, run, fresh, fresh_children}
+use Rattle.gametree.specs.{MemoChildren, memo_high, memo_high_children, pass, MemoRun, settled, run, fresh}
+use Rattle.gametree.specs.{fresh_children}
 use Rattle.gametree.specs.{memo_mtd}
 use Rattle.lists.proofs.Choice.{cond_cases, true-not-false}
 use Rattle.gametree_theory.proofs.Mtd.Sound.{memo_low, memo_low-minimax, minimax-memo_high, Kept, KeptChildren}

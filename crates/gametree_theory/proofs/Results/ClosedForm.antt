@@ -254,7 +254,8 @@ needed-leaf false n = tt
 mutual
   needed-in : (ν : ℕ → ℕ) (c β : ℕ) (t : Tree) → All (λ k. In k t) (needed ν c β t)
   needed-in ν c β (leaf n) = needed-leaf (leb c β) n
-  needed-in ν c β (inner n s ks) = all_map _ _ (λ k i. inr i) (needed_children ν s c β ks) (needed_children-in ν s c β ks)
+  needed-in ν c β (inner n s ks) = all_map _ _ (λ k i. inr i) (needed_children ν s c β ks)
+      (needed_children-in ν s c β ks)
 
   needed_children-in : (ν : ℕ → ℕ) (s : Side) (c β : ℕ) (ks : Children)
       → All (λ k. InChildren k ks) (needed_children ν s c β ks)

@@ -7,7 +7,8 @@ use Rattle.prelude.proofs.{Bool, true, false, cond, Option, eqb, eqb-true, eqb-f
 use Rattle.lists.specs.{among}
 use Rattle.gametree.specs.declared.Side.{Side}
 use Rattle.gametree.specs.declared.Side.TheVariants.{Max, Min}
-use Rattle.gametree.specs.{Tree, leaf, inner, Children, last, ◌then◌, least, greatest, better, minimax, minimax_children}
+use Rattle.gametree.specs.{Tree, leaf, inner, Children, last, ◌then◌, least, greatest, better, minimax}
+use Rattle.gametree.specs.{minimax_children}
 use Rattle.gametree.specs.{number, nodes, leaves, leaves_children, In, InChildren, EveryLeaf, EveryLeafChildren}
 use Rattle.gametree.specs.{Distinct, DistinctChildren, Proper, known, low, high, substituted, root, under, subtree_at}
 use Rattle.gametree.specs.{subtree_at_children, link_in, link_in_children, above_in, Beside, Reason}
@@ -75,7 +76,8 @@ module _ (T : Tree) (μ : ℕ → ℕ) (p : ℕ) (s : Side) (b : Option ℕ) (c 
     linked (inner n q ks) a (inr i) o =
         linked_children n q ks (rw a.0 (under-refl q (minimax_children μ q ks))) a.2 i
 
-    linked_children : (n : ℕ) (q : Side) (ks : Children) → Under q (minimax_children μ q ks) (minimax μ (subtree_at n T))
+    linked_children : (n : ℕ) (q : Side) (ks : Children) → Under q (minimax_children μ q ks)
+        (minimax μ (subtree_at n T))
         → AnswersChildren T n q ks → InChildren c ks → ((p ≡ n) ⊎ InChildren p ks) × Kept
     linked_children n q (last t) g a i =
         ⊎_elim (λ e. let r = at-parent n q t a.0 a.1 g e in (inl r.0, r.1))

@@ -7,7 +7,8 @@ use Rattle.prelude.proofs.{le-leb, lt-leb}
 use Rattle.gametree.specs.declared.Side.{Side}
 use Rattle.gametree.specs.declared.Side.TheVariants.{Max, Min}
 use Rattle.gametree.specs.{Tree, leaf, inner, Children, last, ◌then◌, greatest, minimax, minimax_children, Scored}
-use Rattle.gametree.specs.{ScoredChildren, lower, Memo, MemoChildren, memo_high, memo_high_children, fresh, fresh_children}
+use Rattle.gametree.specs.{ScoredChildren, lower, Memo, MemoChildren, memo_high, memo_high_children, fresh}
+use Rattle.gametree.specs.{fresh_children}
 use Rattle.gametree_theory.proofs.Mtd.Sound.{minimax-memo_high, minimax_children-memo_high_children}
 use Rattle.gametree_theory.proofs.Mtd.Value.{fresh_children-memo_high}
 
@@ -155,7 +156,8 @@ mutual
       inner-path n s ks (unreached-flag c d β _ (omega arith) h) (at_children-same ν s c d β ks i h g l)
 
   at_children-same : (ν : ℕ → ℕ) (s : Side) (c d β : ℕ) (ks : Children) → ScoredChildren ν ks → d ≤ c → d ≤ greatest
-      → memo_high_children ν s ks (memo_at_children ν s c β ks) < d → memo_at_children ν s d β ks ≡ memo_at_children ν s c β ks
+      → memo_high_children ν s ks (memo_at_children ν s c β ks) < d
+          → memo_at_children ν s d β ks ≡ memo_at_children ν s c β ks
   at_children-same ν s c d β (last t) i h g l = at_same ν c d β t i h g l
   at_children-same ν Max c d β (t then ts) i h g l =
       let y = minimax_children ν Max ts in
@@ -179,7 +181,8 @@ mutual
       (λ q.
       let a = minimax-memo_high ν t (memo_at ν c β t) i.0 in
       kids-path t ts (at_same ν c d β t i.0 h g q)
-      (at_children-fresh ν Min d (min β u) ts (omega arith) ∙ sym (at_children-fresh ν Min c (min β u) ts (omega arith))))
+      (at_children-fresh ν Min d (min β u) ts (omega arith) ∙ sym
+          (at_children-fresh ν Min c (min β u) ts (omega arith))))
       (λ q.
       let r : memo_high_children ν Min ts (memo_at_children ν Min c (min β u) ts) < d = omega arith in
       kids-path t ts

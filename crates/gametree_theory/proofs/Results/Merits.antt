@@ -5,9 +5,11 @@ use Rattle.prelude.proofs.{⊎_elim, Bool, true, false, cond, none, some, List, 
 use Rattle.prelude.proofs.{ltb-true, ltb-false, eqb-true}
 use Rattle.lists.specs.{All}
 use Rattle.gametree.specs.declared.Side.TheVariants.{Max, Min}
-use Rattle.gametree.specs.{Tree, leaf, inner, greatest, Link, root, under, first_of, others_of, subtree_at, link_in, Status}
+use Rattle.gametree.specs.{Tree, leaf, inner, greatest, Link, root, under, first_of, others_of, subtree_at, link_in}
+use Rattle.gametree.specs.{Status}
 use Rattle.gametree.specs.{LIVE, SOLVED, State, live, solved, beats, best_state, Step, empty, stop, quiet, evaluating}
-use Rattle.gametree.specs.{replace_live, replace_solved, replace, step, ListAfter, at_start, after_quiet, after_evaluating}
+use Rattle.gametree.specs.{replace_live, replace_solved, replace, step, ListAfter, at_start, after_quiet}
+use Rattle.gametree.specs.{after_evaluating}
 use Rattle.lists.proofs.Choice.{clash, or_cases, or-false-both, and_both}
 use Rattle.lists.proofs.Lists.{all_map}
 use Rattle.gametree_theory.proofs.Sss.Steps.{Steps, done, quietly, evaluates, between, taken, step-taken}

@@ -6,7 +6,8 @@ use Rattle.prelude.proofs.{Option, eqb, eqb-true}
 use Rattle.lists.specs.{among}
 use Rattle.gametree.specs.declared.Side.{Side}
 use Rattle.gametree.specs.declared.Side.TheVariants.{Max, Min}
-use Rattle.gametree.specs.{Tree, leaf, inner, Children, last, ◌then◌, least, greatest, better, minimax, minimax_children}
+use Rattle.gametree.specs.{Tree, leaf, inner, Children, last, ◌then◌, least, greatest, better, minimax}
+use Rattle.gametree.specs.{minimax_children}
 use Rattle.gametree.specs.{number, leaves, leaves_children, In, InChildren, Distinct, DistinctChildren, Proper, known}
 use Rattle.gametree.specs.{low, high, Decided, under, subtree_at, link_in, above_in, Beside, Reason}
 use Rattle.lists.proofs.Choice.{or_cases}

@@ -6,7 +6,8 @@ use Rattle.lists.specs.{All}
 use Rattle.gametree.specs.declared.Side.{Side}
 use Rattle.gametree.specs.declared.Side.TheVariants.{Max, Min}
 use Rattle.gametree.specs.{Tree, leaf, inner, Children, last, ◌then◌, number, In, InChildren, Memo, MemoChildren, under}
-use Rattle.gametree.specs.{first_of, others_of, subtree_at, link_in, above_in, left_in, Status, LIVE, SOLVED, State, live}
+use Rattle.gametree.specs.{first_of, others_of, subtree_at, link_in, above_in, left_in, Status, LIVE, SOLVED, State}
+use Rattle.gametree.specs.{live}
 use Rattle.gametree.specs.{solved, Step, quiet, evaluating, purge, replace, step}
 use Rattle.gametree_theory.proofs.Sss.Lookups.{Apart}
 use Rattle.lists.proofs.Lists.{all_append, all_map, all-zip}

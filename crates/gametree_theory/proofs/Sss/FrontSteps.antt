@@ -7,7 +7,8 @@ use Rattle.lists.specs.{All}
 use Rattle.gametree.specs.declared.Side.{Side}
 use Rattle.gametree.specs.declared.Side.TheVariants.{Max, Min}
 use Rattle.gametree.specs.{Tree, leaf, inner, Children, last, ◌then◌, number, size, size_children, In, InChildren, root}
-use Rattle.gametree.specs.{under, first_of, others_of, subtree_at, link_in, above_in, left_in, Status, LIVE, SOLVED, State}
+use Rattle.gametree.specs.{under, first_of, others_of, subtree_at, link_in, above_in, left_in, Status, LIVE, SOLVED}
+use Rattle.gametree.specs.{State}
 use Rattle.gametree.specs.{live, solved, best_state, Step, empty, stop, quiet, evaluating, purge, replace_live}
 use Rattle.gametree.specs.{replace_solved, replace, step, ListAfter, at_start, after_quiet, after_evaluating}
 use Rattle.gametree_theory.proofs.Sss.Lookups.{Answers, AnswersChildren}

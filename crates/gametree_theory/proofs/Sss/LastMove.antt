@@ -6,8 +6,10 @@ use Rattle.prelude.proofs.{ne_eqb}
 use Rattle.lists.specs.{All}
 use Rattle.gametree.specs.declared.Side.TheVariants.{Max, Min}
 use Rattle.gametree.specs.{Tree, leaf, inner, Children, last, ◌then◌, greatest, minimax, minimax_children, number}
-use Rattle.gametree.specs.{InChildren, Scored, ScoredChildren, Proper, first_with, root_move_of, under, first_of, subtree_at}
-use Rattle.gametree.specs.{link_in, above_in, Memo, MemoChildren, memo_high, memo_high_children, Pass, PassChildren, pass}
+use Rattle.gametree.specs.{InChildren, Scored, ScoredChildren, Proper, first_with, root_move_of, under, first_of}
+use Rattle.gametree.specs.{subtree_at}
+use Rattle.gametree.specs.{link_in, above_in, Memo, MemoChildren, memo_high, memo_high_children, Pass, PassChildren}
+use Rattle.gametree.specs.{pass}
 use Rattle.gametree.specs.{pass_children, fresh, State, solved, stop, step, start, ListAfter, at_start, after_quiet}
 use Rattle.gametree.specs.{after_evaluating}
 use Rattle.lists.proofs.Choice.{cond_cases, true-not-false, clash}
@@ -201,7 +203,8 @@ module _ (ν : ℕ → ℕ) (n : ℕ) (ks : Children) (p : Answers (inner n Max 
     run-hands (suc f) γ m w k g b top l =
         let s = sound ν γ T m h k in
         let x = (pass ν γ T m).next in
-        cond_cases (λ (_ : Bool). (v : ℕ) × Hands ν T v n (root_move_of ν T) (states ν γ T m w)) (pass ν γ T m).not_below
+        cond_cases (λ (_ : Bool). (v : ℕ) × Hands ν T v n (root_move_of ν T) (states ν γ T m w))
+            (pass ν γ T m).not_below
         true false
         (λ e.
         let v : γ ≡ minimax ν T = omega (arith, s.above e, memo_low-minimax ν T x) in (

@@ -3,7 +3,8 @@
 use Rattle.prelude.proofs.{ℕ, zero, suc, ◌+◌, ◌*◌, ◌≤◌, ◌<◌, le_refl, arith, ◌≡◌, refl, sym, ◌∙◌, ap, subst, List, []}
 use Rattle.prelude.proofs.{◌∷◌, ◌++◌, append_assoc}
 use Rattle.gametree.specs.{Tree, minimax, size, Proper, memo_mtd, State, Step, empty, stop, quiet, evaluating, step}
-use Rattle.gametree.specs.{SssRun, follow, run_from, start, sss, ListAfter, at_start, after_quiet, after_evaluating, End}
+use Rattle.gametree.specs.{SssRun, follow, run_from, start, sss, ListAfter, at_start, after_quiet, after_evaluating}
+use Rattle.gametree.specs.{End}
 use Rattle.gametree.specs.{Ran, resumed, in_full}
 use Rattle.lists.proofs.Choice.{clash}
 use Rattle.gametree_theory.proofs.Sss.Steps.{Steps, done, quietly, evaluates, taken_merit}

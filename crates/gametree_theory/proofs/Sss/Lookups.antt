@@ -1,7 +1,9 @@
--- Lookups by number in a tree T (`subtree_at`, `link_in`, `above_in`, `left_in`) agree with the structure of its part t.
+-- Lookups by number in a tree T (`subtree_at`, `link_in`, `above_in`, `left_in`) agree with the structure of its part
+-- t.
 use Rattle.prelude.proofs.{ℕ, ◌≡◌, true, false, none, some}
 use Rattle.gametree.specs.declared.Side.{Side}
-use Rattle.gametree.specs.{Tree, leaf, inner, Children, last, ◌then◌, number, In, InChildren, under, first_of, subtree_at}
+use Rattle.gametree.specs.{Tree, leaf, inner, Children, last, ◌then◌, number, In, InChildren, under, first_of}
+use Rattle.gametree.specs.{subtree_at}
 use Rattle.gametree.specs.{link_in, above_in, left_in}
 
 -- no node of a child's tree is above a node of a younger sibling's, nor the other way round, and the elder's are left

@@ -20,7 +20,8 @@ use Rattle.gametree.specs.declared.Side.{Side}
 use Rattle.gametree.specs.declared.Side.TheVariants.{Max, Min}
 use Rattle.gametree.specs.{Tree, leaf, inner, Children, last, ◌then◌, greatest, number, InChildren, Scored}
 use Rattle.gametree.specs.{ScoredChildren, Memo, MemoChildren, memo_high_children, Pass, PassChildren, entered, pass}
-use Rattle.gametree.specs.{pass_children, fresh_children, under, first_of, subtree_at, link_in, above_in, State, live, solved}
+use Rattle.gametree.specs.{pass_children, fresh_children, under, first_of, subtree_at, link_in, above_in, State}
+use Rattle.gametree.specs.{live, solved}
 use Rattle.gametree.specs.{quiet, step}
 use Rattle.gametree_theory.proofs.Sss.Lookups.{Answers, AnswersChildren}
 use Rattle.lists.proofs.Choice.{cond_cases, true-not-false}

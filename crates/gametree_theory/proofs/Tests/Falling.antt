@@ -9,7 +9,8 @@ use Rattle.prelude.proofs.{eqb, length, eqb-false, lt-ltb, le-leb, eq-eqb}
 use Rattle.lists.specs.{All, among}
 use Rattle.gametree.specs.declared.Side.{Side}
 use Rattle.gametree.specs.declared.Side.TheVariants.{Max, Min}
-use Rattle.gametree.specs.{Tree, leaf, inner, Children, last, ◌then◌, least, greatest, minimax, minimax_children, leaves}
+use Rattle.gametree.specs.{Tree, leaf, inner, Children, last, ◌then◌, least, greatest, minimax, minimax_children}
+use Rattle.gametree.specs.{leaves}
 use Rattle.gametree.specs.{In, InChildren, EveryLeaf, EveryLeafChildren, Scored, ScoredChildren, better, Distinct}
 use Rattle.gametree.specs.{DistinctChildren, Proper, known, low, high, raise, lower, settles, memo_mtd, rival}
 use Rattle.gametree.specs.{unrivalled, unrivalled_children, Tested, opened, by_bounds, test, test_children, view}

@@ -8,7 +8,8 @@ use Rattle.gametree.specs.declared.Side.{Side}
 use Rattle.gametree.specs.declared.Side.TheVariants.{Max, Min}
 use Rattle.gametree.specs.{Tree, leaf, inner, Children, last, ◌then◌, least, greatest, minimax, minimax_children, Score}
 use Rattle.gametree.specs.{Scored, ScoredChildren, known, low, high, Decided, reached, settles, worst, root_move_of}
-use Rattle.gametree.specs.{bound_move, Tested, passed_on, test, test_children, equal_test, last_phase, Decision, Strategy}
+use Rattle.gametree.specs.{bound_move, Tested, passed_on, test, test_children, equal_test, last_phase, Decision}
+use Rattle.gametree.specs.{Strategy}
 use Rattle.gametree.specs.{search_by, decide_by}
 use Rattle.lists.proofs.Choice.{true-not-false}
 use Rattle.lists.proofs.Lists.{all_append, all_map, all_among, among-left}
@@ -65,7 +66,8 @@ rest-kept : (w : List ℕ) (b : Bool) (r q : Tested) (n : ℕ) → b ≡ false
 rest-kept w true r q n i e = absurd (true-not-false refl i)
 rest-kept w false r q n i e = rw (← append_assoc w r.evaluated q.evaluated) e
 
-test_children-answered : (ν : ℕ → ℕ) (E : ℕ → Bool) (γ : ℕ) (w : List ℕ) (s : Side) (ks : Children) → ScoredChildren ν ks
+test_children-answered : (ν : ℕ → ℕ) (E : ℕ → Bool) (γ : ℕ) (w : List ℕ) (s : Side) (ks : Children)
+    → ScoredChildren ν ks
     → ((n : ℕ) → among (w ++ (test_children ν γ w s ks).evaluated) n ≡ true → E n ≡ true)
     → Answered ν E γ s ks
 test_children-answered ν E γ w s (last t) h f = tested-confirmed ν E γ w t h f

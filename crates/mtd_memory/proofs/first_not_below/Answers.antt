@@ -14,13 +14,20 @@ pub loop-node-init : goal.loop-node-init
 loop-node-init c = (omega arith, omega arith, λ k a b. absurd (omega arith))
 
 pub returns-then-test-highs : goal.returns-then-test-highs
-returns-then-test-highs c = record { lower_bound = (c.loop-node.invariant.0, c.loop-node.invariant.1);
-    by_index = c.loop-node.invariant.2 }
+returns-then-test-highs c = record {
+  lower_bound = (c.loop-node.invariant.0, c.loop-node.invariant.1);
+  by_index = c.loop-node.invariant.2;
+}
 
 pub loop-node-preserved : goal.loop-node-preserved
-loop-node-preserved c = (omega (arith, c.loop-node.invariant.0), omega arith,
-    below_more _ _ _ _ c.loop-node.invariant.2 c.if-test-highs.false)
+loop-node-preserved c = (
+  omega (arith, c.loop-node.invariant.0),
+  omega arith,
+  below_more _ _ _ _ c.loop-node.invariant.2 c.if-test-highs.false,
+)
 
 pub returns : goal.returns
-returns c = record { lower_bound = (c.loop-node.invariant.0, c.loop-node.invariant.1);
-    by_index = c.loop-node.invariant.2 }
+returns c = record {
+  lower_bound = (c.loop-node.invariant.0, c.loop-node.invariant.1);
+  by_index = c.loop-node.invariant.2;
+}

@@ -5,8 +5,11 @@ pub kept_by_max-requires : goal.kept_by_max-requires
 kept_by_max-requires c = record { first_lt_end = c.requires.first_lt_end; alone = c.requires.alone c.in-Max.is }
 
 pub kept_by_min-requires : goal.kept_by_min-requires
-kept_by_min-requires c = record { first_lt_end = c.requires.first_lt_end; found_below = c.requires.found_below
-    c.in-Min.is }
+kept_by_min-requires c = record {
+  first_lt_end = c.requires.first_lt_end;
+  found_below = c.requires.found_below
+      c.in-Min.is;
+}
 
 pub returns-in-Max : goal.returns-in-Max
 returns-in-Max c = rw c.in-Max.is (c.kept_by_max.ensures c.args.child)

@@ -11,7 +11,7 @@ returns-then-answer c = λ child.
 pub returns-then-end-first-lt-FEW : goal.returns-then-end-first-lt-FEW
 returns-then-end-first-lt-FEW c = λ child.
     rw c.if-answer.false (keeps-max {answer = false} c.best-high-then-end-first-lt-FEW.ensures refl
-        (no-leads (omega arith)))
+    (no-leads (omega arith)))
 
 pub overflow_sub-two : goal.overflow_sub-two
 overflow_sub-two c = omega (arith, c.two_best-two.ensures.lead-from)
@@ -26,5 +26,5 @@ pub returns : goal.returns
 returns c = λ child.
     rw c.if-answer.false
     (keeps-max {answer = false} (best-high c.two_best-two.ensures) (ap (λ x. eqb x 1) c.lead_entry.ensures ∙ best-flag
-        c.two_best-two.ensures)
+    c.two_best-two.ensures)
     (leads-entry c.lead_entry.ensures (best-leads c.two_best-two.ensures c.requires.2)))

@@ -8,9 +8,14 @@ use Rattle.mtd_memory.proofs.visit_leaf.Goals as goal
 
 pub returns-then-evaluated-node-eq1 : goal.returns-then-evaluated-node-eq1
 returns-then-evaluated-node-eq1 c = let known = c.requires.node_value_2 (eq-eqb _ _ c.if-evaluated-node-eq1.true) in
-    record { answer_value = ap (leb c.args.test) known; order_after = leaf-again _ _ _ _
-        (eq-eqb _ _ c.if-evaluated-node-eq1.true); evaluated_after = sym (set_same _ _ 1 c.if-evaluated-node-eq1.true);
-        highs_after = sym (set_same _ _ _ known); leaves_value = c.requires.listable.counted }
+    record {
+      answer_value = ap (leb c.args.test) known;
+      order_after = leaf-again _ _ _ _
+          (eq-eqb _ _ c.if-evaluated-node-eq1.true);
+      evaluated_after = sym (set_same _ _ 1 c.if-evaluated-node-eq1.true);
+      highs_after = sym (set_same _ _ _ known);
+      leaves_value = c.requires.listable.counted;
+    }
 
 pub evaluate_leaf-leaf-requires : goal.evaluate_leaf-leaf-requires
 evaluate_leaf-leaf-requires c =

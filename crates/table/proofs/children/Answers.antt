@@ -14,7 +14,8 @@ past : (p : ℕ × ℕ) (t : List ℕ) (i : ℕ) → frames t ≤ i
 unfolding children_of children_at
 past p t i h = (rw (le-ltb _ _ h), rw (le-ltb _ _ h) (same-pointer p))
 
-module _ (p : ℕ × ℕ) (t : List ℕ) (i f k : ℕ) (h : i < frames t) (a : f ≡ first_child t i) (b : k ≡ child_count t i) where
+module _ (p : ℕ × ℕ) (t : List ℕ) (i f k : ℕ) (h : i < frames t) (a : f ≡ first_child t i) (b : k ≡ child_count t i)
+    where
   -- nor where they would reach past the table
   over : frames t < f + k
       → (◌≡◌ {A = List ℕ} [] (children_of t i)) × (◌≡◌ {A = ℕ × ℕ} (p.0, 0 + p.1) (children_at p t i))

@@ -33,7 +33,8 @@ pub returns-then-length-eq0 : goal.returns-then-length-eq0
 returns-then-length-eq0 c = c.rejected.ensures ∙ empty _ c.if-length-eq0.true
 
 pub returns-then-length-gt-MAX_TABLE : goal.returns-then-length-gt-MAX_TABLE
-returns-then-length-gt-MAX_TABLE c = c.rejected-then-length-gt-MAX_TABLE.ensures ∙ too_long _ c.if-length-eq0.false c.if-length-gt-MAX_TABLE.true
+returns-then-length-gt-MAX_TABLE c = c.rejected-then-length-gt-MAX_TABLE.ensures
+    ∙ too_long _ c.if-length-eq0.false c.if-length-gt-MAX_TABLE.true
 
 pub returns-then-length-ne0 : goal.returns-then-length-ne0
 returns-then-length-ne0 c = c.rejected-then-length-ne0.ensures

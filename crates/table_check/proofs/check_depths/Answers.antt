@@ -26,7 +26,8 @@ pub child_count-next-requires : goal.child_count-next-requires
 child_count-next-requires c =
     -- some node is not known yet
     let open-yet : c.loop-next.next < frames c.args.table.now = omega arith in
-    let inside : c.loop-next.node < frames c.args.table.now = visits _ c.requires _ _ _ _ c.loop-next.invariant open-yet in
+    let inside : c.loop-next.node < frames c.args.table.now =
+          visits _ c.requires _ _ _ _ c.loop-next.invariant open-yet in
     inside
 
 pub overflow_add-next : goal.overflow_add-next
@@ -43,14 +44,16 @@ pub overflow_add-node : goal.overflow_add-node
 overflow_add-node c =
     -- some node is not known yet
     let open-yet : c.loop-next.next < frames c.args.table.now = omega arith in
-    let inside : c.loop-next.node < frames c.args.table.now = visits _ c.requires _ _ _ _ c.loop-next.invariant open-yet in
+    let inside : c.loop-next.node < frames c.args.table.now =
+          visits _ c.requires _ _ _ _ c.loop-next.invariant open-yet in
     omega (arith, inside)
 
 pub loop-next-smaller : goal.loop-next-smaller
 loop-next-smaller c =
     -- some node is not known yet
     let open-yet : c.loop-next.next < frames c.args.table.now = omega arith in
-    let inside : c.loop-next.node < frames c.args.table.now = visits _ c.requires _ _ _ _ c.loop-next.invariant open-yet in
+    let inside : c.loop-next.node < frames c.args.table.now =
+          visits _ c.requires _ _ _ _ c.loop-next.invariant open-yet in
     omega (arith, inside)
 
 pub loop-next-preserved : goal.loop-next-preserved
@@ -58,7 +61,8 @@ loop-next-preserved c =
     -- some node is not known yet
     let open-yet : c.loop-next.next < frames c.args.table.now = omega arith in
     -- after the first branch the node stands on the level of the depth that is kept, which is not the last one allowed
-    let standing : Standing c.args.table.now c.loop-next.node c.if-node-end.depth c.if-node-end.end × (c.if-node-end.depth < max_depth) = elim c.if-node-end.branch [
+    let standing : Standing c.args.table.now c.loop-next.node c.if-node-end.depth c.if-node-end.end
+          × (c.if-node-end.depth < max_depth) = elim c.if-node-end.branch [
       | then-node-end+else-depth-eq-MAX_DEPTH w ↦
           rw (w.depth-is, w.end-is)
           (enters _ c.requires _ _ _ _ c.loop-next.invariant open-yet w.if-node-end.true, omega arith)

@@ -3,7 +3,8 @@ use Rattle.prelude.proofs.{ℕ, ◌≤◌, ◌≡◌, sym, ◌∙◌, none, List
 use Rattle.table.specs.declared.Rejection.{Rejection}
 use Rattle.table.specs.declared.Checked.{Checked}
 use Rattle.table.specs.declared.Checked.TheVariants.{Nodes, Rejected}
-use Rattle.table.specs.{max_nodes, frames, next, WellFormed, answer, nodes_rejection, depths_rejection, frames_rejection}
+use Rattle.table.specs.{max_nodes, frames, next, WellFormed, answer, nodes_rejection, depths_rejection}
+use Rattle.table.specs.{frames_rejection}
 use Rattle.table.proofs.Asked.{refused, answer-nodes, answer-rejected}
 use Rattle.table.proofs.Acceptance.{all-stated, stated-formed}
 use Rattle.table_check.proofs.check_frames.Goals as goal

@@ -1,7 +1,8 @@
 -- `check_node` meets its contract: one lemma for each of its five returns.
 use Rattle.prelude.proofs.{ℕ, ◌+◌, ◌<◌, ◌≤◌, arith, ◌≡◌, sym, ap, ◌∙◌, true, false, List, le-leb, lt-leb}
 use Rattle.table.specs.declared.Checked.TheVariants.{Nodes}
-use Rattle.table.specs.{max_children, child_count, next, answer, byte3_right, first_child_right, value_right, check_node}
+use Rattle.table.specs.{max_children, child_count, next, answer, byte3_right, first_child_right, value_right}
+use Rattle.table.specs.{check_node}
 use Rattle.table.proofs.Next.{next_more}
 use Rattle.table.proofs.Asked.{refused}
 use Rattle.table_check.proofs.check_node.Goals as goal
@@ -33,13 +34,15 @@ returns-then-not-byte_3_right c = c.rejected.ensures
 pub returns-then-count-gt-MAX_CHILDREN : goal.returns-then-count-gt-MAX_CHILDREN
 returns-then-count-gt-MAX_CHILDREN c =
     -- past question 4 byte 3 is right
-    let byte-right : byte3_right c.args.table.now c.args.node ≡ true = sym c.byte_3_right.ensures ∙ c.if-not-byte_3_right.false in
+    let byte-right : byte3_right c.args.table.now c.args.node ≡ true =
+          sym c.byte_3_right.ensures ∙ c.if-not-byte_3_right.false in
     c.rejected-then-count-gt-MAX_CHILDREN.ensures ∙ no-5 c.args.table.now c.args.node _ byte-right (omega arith)
 
 pub returns-then-not-first_child_right : goal.returns-then-not-first_child_right
 returns-then-not-first_child_right c =
     -- past question 4 byte 3 is right
-    let byte-right : byte3_right c.args.table.now c.args.node ≡ true = sym c.byte_3_right.ensures ∙ c.if-not-byte_3_right.false in
+    let byte-right : byte3_right c.args.table.now c.args.node ≡ true =
+          sym c.byte_3_right.ensures ∙ c.if-not-byte_3_right.false in
     c.rejected-then-not-first_child_right.ensures
     ∙ no-6 c.args.table.now c.args.node _ byte-right (omega arith)
     (sym c.first_child_right.ensures ∙ c.if-not-first_child_right.true)
@@ -47,7 +50,8 @@ returns-then-not-first_child_right c =
 pub returns-then-not-value_right : goal.returns-then-not-value_right
 returns-then-not-value_right c =
     -- past question 4 byte 3 is right
-    let byte-right : byte3_right c.args.table.now c.args.node ≡ true = sym c.byte_3_right.ensures ∙ c.if-not-byte_3_right.false in
+    let byte-right : byte3_right c.args.table.now c.args.node ≡ true =
+          sym c.byte_3_right.ensures ∙ c.if-not-byte_3_right.false in
     c.rejected-then-not-value_right.ensures
     ∙ no-7 c.args.table.now c.args.node _ byte-right (omega arith)
     (sym c.first_child_right.ensures ∙ c.if-not-first_child_right.false)
@@ -56,7 +60,8 @@ returns-then-not-value_right c =
 pub returns : goal.returns
 returns c =
     -- past question 4 byte 3 is right
-    let byte-right : byte3_right c.args.table.now c.args.node ≡ true = sym c.byte_3_right.ensures ∙ c.if-not-byte_3_right.false in
+    let byte-right : byte3_right c.args.table.now c.args.node ≡ true =
+          sym c.byte_3_right.ensures ∙ c.if-not-byte_3_right.false in
     ap Nodes (omega (arith, next_more c.args.table.now c.args.node))
     ∙ all_right c.args.table.now c.args.node (next c.args.table.now (c.args.node + 1)) byte-right (omega arith)
     (sym c.first_child_right.ensures ∙ c.if-not-first_child_right.false)

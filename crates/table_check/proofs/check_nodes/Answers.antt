@@ -11,7 +11,8 @@ returns-in_default c = c.in_default.is
     ∙ asking-until _ _ _ (omega arith) c.loop-node.invariant _ (sym c.in_default.is ∙ c.check_node-checked.ensures)
 
 pub loop-node-preserved : goal.loop-node-preserved
-loop-node-preserved c = asking-more _ _ _ (omega arith) c.loop-node.invariant _ (sym c.in-Nodes.is ∙ c.check_node-checked.ensures)
+loop-node-preserved c = asking-more _ _ _ (omega arith) c.loop-node.invariant _ (sym c.in-Nodes.is
+    ∙ c.check_node-checked.ensures)
 
 pub returns : goal.returns
 returns c = asking-all _ _ _ (omega arith) c.loop-node.invariant

@@ -5,4 +5,5 @@ use Rattle.table_positions.proofs.Runs.{Run}
 use Rattle.table_positions.proofs.fill_children.Given as goal
 
 abbrev pub invariant-loop-child : goal.invariant-loop-child
-invariant-loop-child l = Run (λ k. packed l.parent (child_position l.table k l.position)) l.from l.to l.initial.positions l.positions l.child
+invariant-loop-child l = Run (λ k. packed l.parent (child_position l.table k l.position)) l.from l.to
+    l.initial.positions l.positions l.child
