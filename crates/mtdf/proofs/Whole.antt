@@ -1,6 +1,6 @@
 -- The steps of a whole search: the cleared memory is the fresh one, the last phase is a test of the root's children,
 -- the tests end with the minimax value and the root move, and the marks are those of the leaves of MTD(f).
-use Rattle.prelude.proofs.{ℕ, ◌≤◌, ◌<◌, arith, ◌≡◌, refl, sym, ap, ap₂, ◌∙◌, subst, false, List, length, get_or}
+use Rattle.prelude.proofs.{ℕ, ◌≤◌, ◌<◌, arith, ◌≡◌, refl, sym, ap, ◌∙◌, subst, false, List, length, get_or}
 use Rattle.prelude.proofs.{replicate, length-replicate, get_or-replicate, ℤ}
 use Rattle.lists.specs.{among}
 use Rattle.gametree.specs.declared.Side.TheVariants.{Max}
