@@ -56,7 +56,7 @@ loop-list-smaller c =
     turns c.args.table.now c.loop-list.front c.loop-list.list c.loop-list.evaluated c.loop-list.order
     c.loop-list.run _ _ e c.replace-in-loop-list.ensures in
     subst (λ (x : Config). fuel (frames c.args.table.now) x.run < fuel (frames c.args.table.now) c.loop-list.run)
-        (sym z)
+    (sym z)
     (along-falls c.args.table.now c.args.positions.now c.args.front.now c.args.list.now c.args.evaluated.now
     c.args.order.now c.args.run _ c.loop-list.invariant (sym c.goes_on.ensures ∙ c.loop-list-test.true))
 
