@@ -1,5 +1,5 @@
 -- What the reader of a file gives is what the report goes by: an accepted table, or the first rejection of the file.
-use Rattle.prelude.proofs.{ℕ, ◌*◌, ◌≤◌, arith, ◌≡◌, refl, sym, ap, ◌∙◌, List, length, take}
+use Rattle.prelude.proofs.{ℕ, ◌*◌, ◌≤◌, arith, ◌≡◌, sym, ap, ◌∙◌, List, length, take}
 use Rattle.table.specs.declared.Rejection.{Rejection}
 use Rattle.table.specs.declared.Checked.{Checked}
 use Rattle.table.specs.declared.Checked.TheVariants.{Nodes, Rejected as RejectedFile}

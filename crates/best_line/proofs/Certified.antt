@@ -4,7 +4,7 @@ use Rattle.prelude.proofs.{ℕ, ◌+◌, ◌≤◌, ◌<◌, arith, ◌≡◌, a
 use Rattle.lists.specs.{among}
 use Rattle.gametree.specs.declared.Side.{Side}
 use Rattle.gametree.specs.declared.Side.TheVariants.{Max, Min}
-use Rattle.gametree.specs.{minimax, other, Proper, known, worst, inside, flag, solution_of}
+use Rattle.gametree.specs.{minimax, other, known, worst, inside, flag, solution_of}
 use Rattle.gametree_theory.proofs.Searches.{Deciding}
 use Rattle.gametree_theory.proofs.Certificates.ReadOff.{ReadOff, fits}
 use Rattle.gametree_theory.proofs.Certificates.Flags.{flag-inside, read-bounds}

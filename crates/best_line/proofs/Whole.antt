@@ -11,7 +11,6 @@ use Rattle.methods.specs.declared.Answer.TheVariants.{Found}
 use Rattle.methods.specs.{evaluated_by, Lent, lent, findings_by, answer_by, flags_left, search_outcome}
 use Rattle.methods.proofs.Rules.{enough, decides}
 use Rattle.variation.specs.declared.VariationAnswer.{VariationAnswer}
-use Rattle.variation.specs.declared.VariationAnswer.TheVariants.{Length}
 use Rattle.variation.specs.{principal_outcome}
 use Rattle.variation.proofs.Given.{gives}
 use Rattle.variation.specs.declared.LineFound.{LineFound}
