@@ -1,14 +1,13 @@
 -- `buulset::buulset_children` meets its contract: the part that it makes known by two numbers is the one that the call
 -- hands back.
 use Rattle.prelude.proofs.{ℕ, zero, suc, ◌+◌, ◌*◌, ◌/◌, ◌<◌, ◌≤◌, arith, ◌≡◌, refl, sym, ap, ◌∙◌, ◌&&◌, List, [], ltb}
-use Rattle.prelude.proofs.{leb, length, take, drop, length-drop, length-take-le, ltb-true, leb-true, needs}
+use Rattle.prelude.proofs.{leb, length, take, drop, length-drop, length-take-le, ltb-true, leb-true}
 use Rattle.lists.proofs.Choice.{cond_cases, and_both}
 use Rattle.table.specs.{frame_size, frames, first_child, child_count, children_of}
 use Rattle.buulset_answers.specs.declared.Children.{Children}
 use Rattle.buulset_answers.specs.{no_children}
 use Rattle.buulset.specs.{children_from, flat_children, part_of}
-use Rattle.buulset.proofs.buulset_children.Statement.{statement}
-use Rattle.buulset.proofs.buulset_children.Tie as tie
+use Rattle.buulset.proofs.buulset_children.Goals as goal
 
 -- n frames from the frame f on are the part of the children from f on
 from_first : (t : List ℕ) (f n : ℕ) → take (frame_size * n) (drop (frame_size * f) t) ≡ part_of t (children_from f n)
@@ -82,14 +81,11 @@ module _ (t : List ℕ) (i : ℕ) where
         stands _
         (ap (λ (k : ℕ). record { first = k; count = length p / frame_size }) q ∙ some-children _ _ _ h same_count)
 
-returns : tie.Need-returns
-returns c = none _ _ _ c.before.before.children.ensures.0 _ c.no-children.ensures (omega arith)
+pub returns-then-count-eq0 : goal.returns-then-count-eq0
+returns-then-count-eq0 c = none _ _ _ c.children.ensures.0 _ c.no_children.ensures (omega arith)
 
-returns-2 : tie.Need-returns-2
-returns-2 c =
-    some _ _ _ c.before.before.children.ensures.0 _ c.first-child.ensures.0 (omega arith)
+pub first_child-requires : goal.first_child-requires
+first_child-requires c = among _ _ _ c.children.ensures.0 (omega arith)
 
-pub buulset-children-spec : {M : Type 1} → statement M
-buulset-children-spec =
-    tie.close (tie.spec (λ c κs. search needs) (λ c κs. search needs) returns
-    (λ c κs. among _ _ _ c.before.children.ensures.0 (omega arith)) returns-2)
+pub returns : goal.returns
+returns c = some _ _ _ c.children.ensures.0 _ c.first_child.ensures.0 (omega arith)
