@@ -14,7 +14,12 @@ const ENTRIES: usize = 8;
 const ROOM: usize = 12;
 
 // SSS* with an allowance of so many leaves, on so many bytes of the table: zeros follow the frames of the file.
-pub fn print_states<W: Write>(out: &mut W, file: &[u8], allowance: u32, size: u32) -> io::Result<()> {
+pub fn print_states<W: Write>(
+    out: &mut W,
+    file: &[u8],
+    allowance: u32,
+    size: u32,
+) -> io::Result<()> {
     let mut table = [0u8; TABLE_SIZE];
     read_table(file, &mut table);
     let end = fitted(size as usize, &table);

@@ -14,7 +14,7 @@ pub flags-step : (t : List ℕ) → WellFormed t → (positions lows highs : Lis
     → others ≡ movers_flag s (get_or b i 0)
     → ((k : ℕ) → cond (eqb k chosen) (get_or b i 0) others
     ≡ cond (eqb k (chosen_child (bounds_by_side (side_in positions i) lows highs) i at (at + n - at))) (get_or b i 0)
-        others)
+    others)
     → (b' : List ℕ) → b' ≡ stored (λ k. cond (eqb k chosen) (get_or b i 0) others) at (at + n - at) b
     → Filled t f b₀ b' (at + n) (i + 1)
 flags-step t wf positions lows highs f r {b₀} {b} {at} {i} q h n e {s} p others chosen o c b' w =

@@ -65,7 +65,7 @@ pub of-lesser : (t : List ℕ) (a b : ℕ) (ls : List ℕ) {r : Checked} {k : �
 of-lesser t a b ls e m =
     e ∙ ap (λ k. asked t (k ∷ ls)) m
     ∙ ap (λ r. answer (frames t) (rejection t and_then ask r 10 0))
-        (room-min (frames t) a b (long_enough (frames t) ls))
+    (room-min (frames t) a b (long_enough (frames t) ls))
 
 -- and of three
 pub of-least : (t : List ℕ) (a b c : ℕ) {r : Checked} {k l : ℕ} → r ≡ asked t (l ∷ []) → l ≡ min k c → k ≡ min a b

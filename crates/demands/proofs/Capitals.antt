@@ -32,7 +32,7 @@ module _ (f : List ℕ) where
       → i < length (lines_of f)
       → has_lowercase (get_or (lines_of f) i []) ≡ true
       → (r : Rejection) × (file_check16 f ≡ some r) × ((table : List ℕ)
-          → (read_outcome f table).answer ≡ RejectedTable r)
+      → (read_outcome f table).answer ≡ RejectedTable r)
   unfolding read_rejection file_rejection
   small-refused e i h s =
       let a = both-passed (check1 f) _ e in

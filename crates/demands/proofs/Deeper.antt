@@ -26,7 +26,7 @@ deeper-answered t e k l d =
 -- and a file by the reader
 pub deeper-read : (f : List ℕ)
     → (check1 f and_then file_check2 f and_then file_check3 f and_then file_check16 f and_then nodes_rejection
-        (decoded f)
+    (decoded f)
     and_then check8 (decoded f)) ≡ none
     → (k : ℕ) → k < frames (decoded f) → max_depth < depth_of (decoded f) k
     → (r : Rejection) × LowestDeep (decoded f) r × ((table : List ℕ) → (read_outcome f table).answer ≡ RejectedTable r)

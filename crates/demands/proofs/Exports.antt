@@ -135,7 +135,7 @@ exported-call w t l l' r e =
 -- one table and neither is refused, each node that the first marks 1 the second marks 1 too
 pub exported-sentence : RunBoth buulset'.buulset_sss.ended buulset'.buulset_alphabeta.ended
     (function buulset.buulset_sss.Symbol.name buulset.buulset_sss.Symbol.code)
-        (function buulset.buulset_alphabeta.Symbol.name buulset.buulset_alphabeta.Symbol.code)
+    (function buulset.buulset_alphabeta.Symbol.name buulset.buulset_alphabeta.Symbol.code)
     (λ κs (t, _) r (_, (m, _)) κs' (u, _) q (_, (x, _)). u.now ≡ t.now → r.refused ≡ 0 → q.refused ≡ 0
     → (k : ℕ) → k < frames t.now → get_or m.now k 0 ≡ 1 → get_or x.now k 0 ≡ 1)
 exported-sentence =

@@ -12,7 +12,7 @@ use Rattle.plain.proofs as plain
 use Rattle.plain.specs.contracts as plain'
 use Rattle.plain.specs.declared.PlainResult.{PlainResult}
 use Rattle.plain.specs.declared.PlainAnswer.TheVariants as plain-answer
-use Rattle.demands.specs.Runs.{Claim, Runs, RunBoth, function}
+use Rattle.demands.specs.Runs.{Claim, Runs, RunBoth, Function, function}
 
 -- a call of `search::search`: what it was asked and lent, what it answered and left
 pub record Call : Type 0 where

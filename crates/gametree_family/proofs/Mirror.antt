@@ -174,7 +174,7 @@ mutual
   test_children-mirror : (ν : ℕ → ℕ) (γ : ℕ) (w : List ℕ) (s : Side) (ks : Children) → ScoredChildren ν ks
       → γ ≤ greatest
       → Mirrors (test_children ν γ w s ks) (test_children (mirrored ν) (opposite_test γ) w (other s)
-          (mirror_children ks))
+      (mirror_children ks))
   test_children-mirror ν γ w s (last t) h g = test-mirror ν γ w t h g
   test_children-mirror ν γ w s (t then ts) h g =
       let r = test ν γ w t in
@@ -299,7 +299,7 @@ last_phase-mirror ν w (inner n s ks) h =
 -- with it the leaves are the same, too
 pub decide-mirror : (ν : ℕ → ℕ) (g : ℕ) (t : Tree) → Scored ν t
     → (decide_by (mtd_from (opposite_test g)) (mirrored ν) (mirror t)).evaluated
-        ≡ (decide_by (mtd_from g) ν t).evaluated
+    ≡ (decide_by (mtd_from g) ν t).evaluated
 decide-mirror ν g t h =
     let w = (search_by (mtd_from g) ν t).evaluated in
     let u = search_by (mtd_from (opposite_test g)) (mirrored ν) (mirror t) in

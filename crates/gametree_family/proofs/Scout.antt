@@ -152,7 +152,7 @@ module _ (ν : ℕ → ℕ) where
   met-decides : (w : List ℕ) (t : Tree) (q : SearchResult) → Scored ν t → Decided ν (among (w ++ q.evaluated)) t
       → Decided ν
       (among (w ++ (cond (eqb (low ν (among w) t) (high ν (among w) t)) (scouted (low ν (among w) t) []) q).evaluated))
-          t
+      t
   met-decides w t q h d =
       cond_cases (λ (x : SearchResult). Decided ν (among (w ++ x.evaluated)) t)
       (eqb (low ν (among w) t) (high ν (among w) t))

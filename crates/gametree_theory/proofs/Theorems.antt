@@ -66,8 +66,10 @@ bounds-other ν E n e = (rw e refl, rw e refl)
 -- a Max node takes the greatest low and the greatest high of its children, a Min node the least of each
 pub bounds-inner : (ν : ℕ → ℕ) (E : ℕ → Bool) (n : ℕ) (s : Side) (ks : Children)
     → (low ν E (inner n s ks) ≡ best_of s (low ν E) ks) × (high ν E (inner n s ks) ≡ best_of s (high ν E) ks)
-bounds-inner ν E n s ks = (minimax_children-best (known ν E least) s ks,
-    minimax_children-best (known ν E greatest) s ks)
+bounds-inner ν E n s ks = (
+  minimax_children-best (known ν E least) s ks,
+  minimax_children-best (known ν E greatest) s ks,
+)
 
 -- the minimax value is a real score
 pub value-score : (ν : ℕ → ℕ) (t : Tree) → Scored ν t → Score (minimax ν t)

@@ -63,7 +63,7 @@ module _ (t : List ℕ) (wf : WellFormed t) where
   high-of T n ks e =
       subst (λ (X : Tree). let E = among (mtd (valuation t) X).evaluated in
       Proper (valuation t) X → first_with (high (valuation t) E) (high (valuation t) E X) ks ≡ root_move_of
-          (valuation t) X)
+      (valuation t) X)
       (sym e) (λ r. rw (memo-run (valuation t) (inner n Max ks) r.distinct) (mtd-high_move (valuation t) n ks r))
 
   -- the first of the root's children whose high is the root's, by MTD's leaves, is the root move

@@ -51,7 +51,7 @@ module _ (t : List ℕ) (wf : WellFormed t) where
 
   answers-child : {i k : ℕ} → i < frames t → ChildOf t i k → Answers T (tree_at t i)
       → (link_in T k ≡ under i (side_of t i) (next_sibling k (first_child t i + child_count t i)))
-          × Answers T (tree_at t k)
+      × Answers T (tree_at t k)
   answers-child {i} {k} h c a =
       zero-or-suc (child_count t i) (λ e. absurd (omega (arith, c.from, c.to))) (λ n e.
       rw e (kid-answers i (side_of t i) (first_child t i) n k (rw (tree-inner t wf i n h e) at a).2 c.from

@@ -87,7 +87,7 @@ module _ (t : List ℕ) (a : Alternating t) where
     grown-before (suc f) i d h l e =
         tree-node t wf i h
         ∙ node-same i (side_of t i) (tree_at t) (grow_by_depth f t (d + 1)) (first_child t i) (child_count t i)
-            (λ k a b.
+        (λ k a b.
         let c : ChildOf t i k = record { from = a; to = b } in
         grown-before f k (d + 1) (child-within t wf h c) (omega (arith, child-later t wf h c))
         (omega (arith, depth-child t wf h c)))

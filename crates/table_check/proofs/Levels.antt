@@ -60,7 +60,7 @@ module _ (t : List ℕ) (wf : WellFormed t) (i d e m : ℕ) (a : Descending t i 
       ] in
       rw (passed-all (check9 t) (frames t)
       (passed-below (check9 t) (frames t) (frames t) (omega arith)
-          (λ k l. rw (le-leb (depth_of t k) max_depth (f k l)))))
+      (λ k l. rw (le-leb (depth_of t k) max_depth (f k l)))))
 
   module _ (g : m < frames t) where
     -- while some node is not known, there is a node to visit

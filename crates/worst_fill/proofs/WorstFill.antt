@@ -87,7 +87,7 @@ module _ (t : List ℕ) (a : Accepted t) where
       let h = rank_below l in
       let s : stored_score (worst_fill t) x ≡ value_bytes (worst_fill t) x + zero_score = omega (arith, leaves-few) in
       score-other (depth_of (worst_fill t) x) (stored_score (worst_fill t) x) (omega (arith, leaves-few)) (omega arith)
-          ∙ s
+      ∙ s
 
   -- the filled table is accepted
   pub worst-accepted : Accepted (worst_fill t)

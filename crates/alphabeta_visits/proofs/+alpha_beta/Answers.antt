@@ -75,7 +75,7 @@ visit_leaf-visited-requires-clause-evaluable t c =
     } in
     -- the tree of that child is without a mark
     let own : Searchable c.args.table.now c.loop-evaluated.evaluated c.loop-evaluated.child
-        c.child_position-below.result =
+    c.child_position-below.result =
     searchable-child _ _ _ _ c.requires.searchable _ _ _ child c.loop-evaluated.invariant.marks_kept
     (c.loop-evaluated.invariant.unvisited _ (omega arith) child) c.child_position-below.ensures in
     searchable-leaf _ _ _ _ own (omega arith)
@@ -90,7 +90,7 @@ alpha_beta-visited-requires t c =
     } in
     -- the tree of that child is without a mark
     let own : Searchable c.args.table.now c.loop-evaluated.evaluated c.loop-evaluated.child
-        c.child_position-below.result =
+    c.child_position-below.result =
     searchable-child _ _ _ _ c.requires.searchable _ _ _ child c.loop-evaluated.invariant.marks_kept
     (c.loop-evaluated.invariant.unvisited _ (omega arith) child) c.child_position-below.ensures in
     let r = c.requires.searchable in
@@ -107,7 +107,7 @@ loop-evaluated-preserved t c =
     } in
     -- the tree of that child is without a mark
     let own : Searchable c.args.table.now c.loop-evaluated.evaluated c.loop-evaluated.child
-        c.child_position-below.result =
+    c.child_position-below.result =
     searchable-child _ _ _ _ c.requires.searchable _ _ _ child c.loop-evaluated.invariant.marks_kept
     (c.loop-evaluated.invariant.unvisited _ (omega arith) child) c.child_position-below.ensures in
     -- what the visit of the child did
@@ -154,7 +154,7 @@ returns-then-child-last t c =
     } in
     -- the tree of that child is without a mark
     let own : Searchable c.args.table.now c.loop-evaluated.evaluated c.loop-evaluated.child
-        c.child_position-below.result =
+    c.child_position-below.result =
     searchable-child _ _ _ _ c.requires.searchable _ _ _ child c.loop-evaluated.invariant.marks_kept
     (c.loop-evaluated.invariant.unvisited _ (omega arith) child) c.child_position-below.ensures in
     -- what the visit of the child did
@@ -185,7 +185,7 @@ returns-then-beta-alpha t c =
     } in
     -- the tree of that child is without a mark
     let own : Searchable c.args.table.now c.loop-evaluated.evaluated c.loop-evaluated.child
-        c.child_position-below.result =
+    c.child_position-below.result =
     searchable-child _ _ _ _ c.requires.searchable _ _ _ child c.loop-evaluated.invariant.marks_kept
     (c.loop-evaluated.invariant.unvisited _ (omega arith) child) c.child_position-below.ensures in
     -- what the visit of the child did

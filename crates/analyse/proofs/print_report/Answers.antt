@@ -4,7 +4,7 @@ use Rattle.text.proofs.Sizes.{length-within}
 use Rattle.analyse.proofs.print_report.Goals as goal
 
 pub slice_bounds-bytes-end : goal.slice_bounds-bytes-end
-slice_bounds-bytes-end c = length-within _ c.write-text.ensures
+slice_bounds-bytes-end g c = length-within _ c.write-text.ensures
 
 pub slice_bounds-write_all-end : goal.slice_bounds-write_all-end
-slice_bounds-write_all-end c = sym (length-take-le _ _ (length-within _ c.write-text.ensures))
+slice_bounds-write_all-end g c = sym (length-take-le _ _ (length-within _ c.write-text.ensures))

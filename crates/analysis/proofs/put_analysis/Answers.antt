@@ -17,33 +17,45 @@ put_method-second-requires c =
     let formed : WellFormed c.args.table.now = accepted-formed _ c.requires.0 in
     -- the positions are filled
     let at-positions : Positioned c.args.table.now c.fill.new.positions =
-          positioned _ formed _ formed.at_most c.fill.ensures in
+    positioned _ formed _ formed.at_most c.fill.ensures in
     let room = fresh-room _ c.requires.0 in
-    record { well_formed = (formed, at-positions, refl); table_in_bounds = (room, room); text_room =
-        room-front _ (room-rest _ c.put_bytes-first.ensures c.requires.1) }
+    record {
+      well_formed = (formed, at-positions, refl);
+      table_in_bounds = (room, room);
+      text_room =
+          room-front _ (room-rest _ c.put_bytes-first.ensures c.requires.1);
+    }
 
 pub put_method-third-requires : goal.put_method-third-requires
 put_method-third-requires c =
     let formed : WellFormed c.args.table.now = accepted-formed _ c.requires.0 in
     -- the positions are filled
     let at-positions : Positioned c.args.table.now c.fill.new.positions =
-          positioned _ formed _ formed.at_most c.fill.ensures in
+    positioned _ formed _ formed.at_most c.fill.ensures in
     let room = fresh-room _ c.requires.0 in
-    record { well_formed = (formed, at-positions, refl); table_in_bounds =
-        (omega (arith, room), omega (arith, room)); text_room =
-        room-front _ (room-rest _ c.put_method-second.ensures (room-rest _ c.put_bytes-first.ensures c.requires.1)) }
+    record {
+      well_formed = (formed, at-positions, refl);
+      table_in_bounds =
+          (omega (arith, room), omega (arith, room));
+      text_room =
+          room-front _ (room-rest _ c.put_method-second.ensures (room-rest _ c.put_bytes-first.ensures c.requires.1));
+    }
 
 pub put_method-requires : goal.put_method-requires
 put_method-requires c =
     let formed : WellFormed c.args.table.now = accepted-formed _ c.requires.0 in
     -- the positions are filled
     let at-positions : Positioned c.args.table.now c.fill.new.positions =
-          positioned _ formed _ formed.at_most c.fill.ensures in
+    positioned _ formed _ formed.at_most c.fill.ensures in
     let r₁ = room-rest _ c.put_bytes-first.ensures c.requires.1 in
     let room = fresh-room _ c.requires.0 in
-    record { well_formed = (formed, at-positions, enough _ formed max_nodes formed.at_most); table_in_bounds =
-        (omega (arith, room), omega (arith, room)); text_room =
-        room-rest _ c.put_method-third.ensures (room-rest _ c.put_method-second.ensures r₁) }
+    record {
+      well_formed = (formed, at-positions, enough _ formed max_nodes formed.at_most);
+      table_in_bounds =
+          (omega (arith, room), omega (arith, room));
+      text_room =
+          room-rest _ c.put_method-third.ensures (room-rest _ c.put_method-second.ensures r₁);
+    }
 
 pub returns : goal.returns
 returns c = let r₁ = room-rest _ c.put_bytes-first.ensures c.requires.1 in

@@ -10,7 +10,7 @@ unfolding line_by
 put_line-requires c =
     -- what is found is what the method finds
     let finds : c.in-Found.findings ≡ findings_by c.args.method c.args.table.now =
-          found-is c.args.method c.args.table.now _ c.find.ensures.value c.requires.well_formed.2 _ c.in-Found.is in
+    found-is c.args.method c.args.table.now _ c.find.ensures.value c.requires.well_formed.2 _ c.in-Found.is in
     rw finds c.requires.text_room
 
 pub returns-in-Found : goal.returns-in-Found
@@ -18,7 +18,7 @@ unfolding line_by
 returns-in-Found c =
     -- what is found is what the method finds
     let finds : c.in-Found.findings ≡ findings_by c.args.method c.args.table.now =
-          found-is c.args.method c.args.table.now _ c.find.ensures.value c.requires.well_formed.2 _ c.in-Found.is in
+    found-is c.args.method c.args.table.now _ c.find.ensures.value c.requires.well_formed.2 _ c.in-Found.is in
     rw finds at c.put_line.ensures
 
 pub returns-in-Spent : goal.returns-in-Spent

@@ -6,12 +6,13 @@ use Rattle.file_convert.proofs.Printing.{printed-within}
 use Rattle.capitals.proofs.print_converted.Goals as goal
 
 pub slice_bounds-text-end : goal.slice_bounds-text-end
-slice_bounds-text-end c = within
+slice_bounds-text-end g c =
+    let fits : length_printed c.output-printed.result ≤ length c.output-printed.new.buffer =
+    printed-within c.args.file.now (replicate max_file 0) _ c.output-printed.ensures in
+    omega (arith, c.length_printed-end.ensures)
 
 pub slice_bounds-write_all-end : goal.slice_bounds-write_all-end
-slice_bounds-write_all-end c =
-    -- what is printed is within the buffer
-    let within : c.length_printed-end.result ≤ length c.output-printed.new.buffer = let fits : length_printed c.output-printed.result ≤ length c.output-printed.new.buffer =
+slice_bounds-write_all-end g c =
+    let fits : length_printed c.output-printed.result ≤ length c.output-printed.new.buffer =
     printed-within c.args.file.now (replicate max_file 0) _ c.output-printed.ensures in
-    omega (arith, c.length_printed-end.ensures) in
-    sym (length-take-le _ _ within)
+    sym (length-take-le _ _ (omega (arith, c.length_printed-end.ensures)))

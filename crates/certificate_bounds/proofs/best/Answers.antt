@@ -7,8 +7,12 @@ pub loop-at-init : goal.loop-at-init
 loop-at-init c = (omega arith, omega arith, sym (best-last _ _ _ _ (omega arith)))
 
 pub loop-at-preserved : goal.loop-at-preserved
-loop-at-preserved c = (omega arith, omega arith, c.better-value.ensures
-    ∙ best-before _ _ _ _ _ c.loop-at.invariant.2 (omega arith) (omega arith))
+loop-at-preserved c = (
+  omega arith,
+  omega arith,
+  c.better-value.ensures
+      ∙ best-before _ _ _ _ _ c.loop-at.invariant.2 (omega arith) (omega arith),
+)
 
 pub returns : goal.returns
 returns c = let e : c.loop-at.at ≡ c.args.from = omega arith in

@@ -8,8 +8,11 @@ pub loop-i-init : goal.loop-i-init
 loop-i-init c = (sym (written_none (λ k. 0) _), omega arith)
 
 pub bounds-evaluated-i : goal.bounds-evaluated-i
-bounds-evaluated-i c = omega (arith, ap length c.loop-i.invariant.0,
-    written-length (λ k. 0) c.loop-i.i c.args.evaluated.now (omega arith))
+bounds-evaluated-i c = omega (
+  arith,
+  ap length c.loop-i.invariant.0,
+  written-length (λ k. 0) c.loop-i.i c.args.evaluated.now (omega arith),
+)
 
 pub overflow_add-i : goal.overflow_add-i
 overflow_add-i c = omega arith

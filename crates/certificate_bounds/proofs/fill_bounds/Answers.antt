@@ -7,16 +7,23 @@ use Rattle.certificate_bounds.proofs.Bounds.{children-bounded}
 use Rattle.certificate_bounds.proofs.fill_bounds.Goals as goal
 
 pub loop-node-init : goal.loop-node-init
-loop-node-init c = rw c.frame_count-node.ensures (refl, rising-begins _ c.requires.table_in_bounds.0,
-    rising-begins _ c.requires.table_in_bounds.1)
+loop-node-init c = rw c.frame_count-node.ensures (
+  refl,
+  rising-begins _ c.requires.table_in_bounds.0,
+  rising-begins _ c.requires.table_in_bounds.1,
+)
 
 pub node_bounds-bounds-requires : goal.node_bounds-bounds-requires
-node_bounds-bounds-requires c = let n = ap length c.loop-node.invariant.0 in record { well_formed =
-    (c.requires.well_formed.0, c.requires.well_formed.1, omega (arith, n)); node_bound =
-    (omega (arith, c.loop-node.invariant.1.inside), c.loop-node.invariant.1.room, c.loop-node.invariant.2.room);
-    by_index = λ k d. rw c.loop-node.invariant.0 (children-bounded _ c.requires.well_formed.0 _ c.loop-node.invariant.1
-    (omega arith) k d); by_index_2 = λ k d. rw c.loop-node.invariant.0
-    (children-bounded _ c.requires.well_formed.0 _ c.loop-node.invariant.2 (omega arith) k d) }
+node_bounds-bounds-requires c = let n = ap length c.loop-node.invariant.0 in record {
+  well_formed =
+      (c.requires.well_formed.0, c.requires.well_formed.1, omega (arith, n));
+  node_bound =
+      (omega (arith, c.loop-node.invariant.1.inside), c.loop-node.invariant.1.room, c.loop-node.invariant.2.room);
+  by_index = λ k d. rw c.loop-node.invariant.0 (children-bounded _ c.requires.well_formed.0 _ c.loop-node.invariant.1
+      (omega arith) k d);
+  by_index_2 = λ k d. rw c.loop-node.invariant.0
+      (children-bounded _ c.requires.well_formed.0 _ c.loop-node.invariant.2 (omega arith) k d);
+}
 
 pub offset_bounds-lows-node : goal.offset_bounds-lows-node
 offset_bounds-lows-node c =
@@ -50,5 +57,9 @@ loop-node-preserved c = let e = rw c.loop-node.invariant.0 at c.node_bounds-boun
 )
 
 pub returns : goal.returns
-returns c = record { lows_after = rising-ends _ c.loop-node.invariant.1 (omega arith); highs_after =
-    rising-ends _ c.loop-node.invariant.2 (omega arith); evaluated_unchanged = c.loop-node.invariant.0 }
+returns c = record {
+  lows_after = rising-ends _ c.loop-node.invariant.1 (omega arith);
+  highs_after =
+      rising-ends _ c.loop-node.invariant.2 (omega arith);
+  evaluated_unchanged = c.loop-node.invariant.0;
+}

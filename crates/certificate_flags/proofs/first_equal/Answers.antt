@@ -10,8 +10,11 @@ pub returns-then-bounds-node : goal.returns-then-bounds-node
 returns-then-bounds-node c = sym (first-here _ _ _ _ (omega arith) c.if-bounds-node.true) ∙ c.loop-node.invariant.1
 
 pub loop-node-preserved : goal.loop-node-preserved
-loop-node-preserved c = (omega arith, first-later _ _ _ _ (omega arith) c.if-bounds-node.false
-    ∙ c.loop-node.invariant.1)
+loop-node-preserved c = (
+  omega arith,
+  first-later _ _ _ _ (omega arith) c.if-bounds-node.false
+      ∙ c.loop-node.invariant.1,
+)
 
 pub returns : goal.returns
 returns c = sym (first-none _ _ _ _ (omega arith)) ∙ c.loop-node.invariant.1

@@ -15,9 +15,11 @@ from_one e = omega arith
 
 pub chosen_child-requires : goal.chosen_child-requires
 chosen_child-requires c = let end = root-within _ c.requires.well_formed in
-    record { node_in_bounds = (omega (arith, end), omega (arith, end), omega (arith, end)); from_le_to =
-        (omega arith, omega (arith, end, c.child_count-end.ensures.0), omega (arith, end, c.child_count-end.ensures.0))
-        }
+    let n = c.child_count-end.ensures.0 in
+    record {
+      node_in_bounds = (omega (arith, end), omega (arith, end), omega (arith, end));
+      from_le_to = (omega arith, omega (arith, end, n), omega (arith, end, n));
+    }
 
 pub returns : goal.returns
 returns c = rw (from_one c.child_count-end.ensures.0) at c.chosen_child.ensures

@@ -20,80 +20,83 @@ pub child_count-requires : goal.child_count-requires
 child_count-requires c =
     -- a turn has a node to visit
     let inside : c.loop-next.node < frames c.args.table.now =
-          visit-goes _ c.loop-next.invariant.0 c.requires.well_formed (omega arith) in
+    visit-goes _ c.loop-next.invariant.0 c.requires.well_formed (omega arith) in
     inside
 
 pub overflow_add-end : goal.overflow_add-end
 overflow_add-end c =
     -- a turn has a node to visit
     let inside : c.loop-next.node < frames c.args.table.now =
-          visit-goes _ c.loop-next.invariant.0 c.requires.well_formed (omega arith) in
+    visit-goes _ c.loop-next.invariant.0 c.requires.well_formed (omega arith) in
     -- and its children lie within the table
     let within : c.loop-next.next + c.child_count.result ≤ frames c.args.table.now =
-          visit-within _ c.loop-next.invariant.0 inside _ c.child_count.ensures.0 c.requires.well_formed in
+    visit-within _ c.loop-next.invariant.0 inside _ c.child_count.ensures.0 c.requires.well_formed in
     omega (arith, within, c.requires.well_formed.at_most)
 
 pub bounds-certificate-node : goal.bounds-certificate-node
 bounds-certificate-node c =
     -- a turn has a node to visit
     let inside : c.loop-next.node < frames c.args.table.now =
-          visit-goes _ c.loop-next.invariant.0 c.requires.well_formed (omega arith) in
+    visit-goes _ c.loop-next.invariant.0 c.requires.well_formed (omega arith) in
     omega (arith, inside, c.loop-next.invariant.0.room)
 
 pub side_at-requires : goal.side_at-requires
 side_at-requires c =
     -- a turn has a node to visit
     let inside : c.loop-next.node < frames c.args.table.now =
-          visit-goes _ c.loop-next.invariant.0 c.requires.well_formed (omega arith) in
+    visit-goes _ c.loop-next.invariant.0 c.requires.well_formed (omega arith) in
     omega (arith, inside)
 
 pub chosen_if_needed-chosen-requires : goal.chosen_if_needed-chosen-requires
 chosen_if_needed-chosen-requires c =
     -- a turn has a node to visit
     let inside : c.loop-next.node < frames c.args.table.now =
-          visit-goes _ c.loop-next.invariant.0 c.requires.well_formed (omega arith) in
+    visit-goes _ c.loop-next.invariant.0 c.requires.well_formed (omega arith) in
     -- and its children lie within the table
     let within : c.loop-next.next + c.child_count.result ≤ frames c.args.table.now =
-          visit-within _ c.loop-next.invariant.0 inside _ c.child_count.ensures.0 c.requires.well_formed in
+    visit-within _ c.loop-next.invariant.0 inside _ c.child_count.ensures.0 c.requires.well_formed in
     let w = within in
     let h = inside in
-    record { node_in_bounds = (omega arith, omega arith, omega arith); from_le_to =
-        (omega arith, omega arith, omega arith) }
+    record {
+      node_in_bounds = (omega arith, omega arith, omega arith);
+      from_le_to =
+          (omega arith, omega arith, omega arith);
+    }
 
 pub flag_children-requires : goal.flag_children-requires
 flag_children-requires c =
     -- a turn has a node to visit
     let inside : c.loop-next.node < frames c.args.table.now =
-          visit-goes _ c.loop-next.invariant.0 c.requires.well_formed (omega arith) in
+    visit-goes _ c.loop-next.invariant.0 c.requires.well_formed (omega arith) in
     -- and its children lie within the table
     let within : c.loop-next.next + c.child_count.result ≤ frames c.args.table.now =
-          visit-within _ c.loop-next.invariant.0 inside _ c.child_count.ensures.0 c.requires.well_formed in
+    visit-within _ c.loop-next.invariant.0 inside _ c.child_count.ensures.0 c.requires.well_formed in
     (omega arith, omega (arith, within, c.loop-next.invariant.0.room))
 
 pub overflow_add-node : goal.overflow_add-node
 overflow_add-node c =
     -- a turn has a node to visit
     let inside : c.loop-next.node < frames c.args.table.now =
-          visit-goes _ c.loop-next.invariant.0 c.requires.well_formed (omega arith) in
+    visit-goes _ c.loop-next.invariant.0 c.requires.well_formed (omega arith) in
     omega (arith, inside, c.requires.well_formed.at_most)
 
 pub loop-next-smaller : goal.loop-next-smaller
 loop-next-smaller c =
     -- a turn has a node to visit
     let inside : c.loop-next.node < frames c.args.table.now =
-          visit-goes _ c.loop-next.invariant.0 c.requires.well_formed (omega arith) in
+    visit-goes _ c.loop-next.invariant.0 c.requires.well_formed (omega arith) in
     omega (arith, inside)
 
 pub loop-next-preserved : goal.loop-next-preserved
 loop-next-preserved c =
     -- a turn has a node to visit
     let inside : c.loop-next.node < frames c.args.table.now =
-          visit-goes _ c.loop-next.invariant.0 c.requires.well_formed (omega arith) in (
+    visit-goes _ c.loop-next.invariant.0 c.requires.well_formed (omega arith) in (
       visit-step _ c.loop-next.invariant.0 inside _ c.child_count.ensures.0 _ _ c.flag_children.ensures,
       λ f r. flags-step _ c.requires.well_formed _ _ _ f r (c.loop-next.invariant.1 f r) inside _
           c.child_count.ensures.0
           c.side_at.ensures _ _ c.movers_flag-others.ensures c.chosen_if_needed-chosen.ensures _
-              c.flag_children.ensures,
+          c.flag_children.ensures,
     )
 
 pub returns : goal.returns

@@ -8,7 +8,7 @@ use Rattle.certificate_flags.proofs.write_flags.Given as goal
 abbrev pub invariant-loop-next : goal.invariant-loop-next
 invariant-loop-next l = Visit l.table l.initial.certificate l.certificate l.next l.node
     × ((f : ℕ → ℕ) → FlagsFrom l.table l.positions l.lows l.highs f
-        → Filled l.table f l.initial.certificate l.certificate l.next l.node)
+    → Filled l.table f l.initial.certificate l.certificate l.next l.node)
 
 abbrev pub decreases-loop-next : goal.decreases-loop-next
 decreases-loop-next l = l.n - l.node

@@ -11,4 +11,4 @@ pub loop-node-preserved : goal.loop-node-preserved
 loop-node-preserved c =
     writing-next _ _ _ c.requires.nodes_le_max_nodes.1 c.requires.nodes_in_bounds _ _ c.loop-node.invariant
     (omega arith) _ _ _ (omega arith) (rw (add-sub_cancel_left (frame_size * c.loop-node.node) frame_size))
-        c.write_line.ensures
+    c.write_line.ensures

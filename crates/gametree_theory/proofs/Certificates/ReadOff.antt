@@ -223,7 +223,7 @@ abbrev mutual
   is_chosen p μ b (leaf n) k = b && eqb k n
   is_chosen p μ b (inner n q ks) k =
       (b && eqb k n) || cond (same p q) (is_chosen_each p μ b ks k)
-          (is_chosen_first p μ b (minimax_children μ q ks) ks k)
+      (is_chosen_first p μ b (minimax_children μ q ks) ks k)
 
   is_chosen_each : Side → (ℕ → ℕ) → Bool → Children → ℕ → Bool
   is_chosen_each p μ b (last t) k = is_chosen p μ b t k
@@ -261,7 +261,7 @@ first-among : (p : Side) (μ : ℕ → ℕ) (v : ℕ) (t : Tree) (ts : Children)
     → is_chosen p μ true t k ≡ among (chosen p μ t) k
     → (c ≡ false → is_chosen_first p μ true v ts k ≡ among (chosen_first p μ v ts) k)
     → is_chosen p μ c t k || is_chosen_first p μ (not c) v ts k
-        ≡ among (cond c (chosen p μ t) (chosen_first p μ v ts)) k
+    ≡ among (cond c (chosen p μ t) (chosen_first p μ v ts)) k
 first-among p μ v t ts k true e f = rw (none_first p μ v ts k) (or-false (is_chosen p μ true t k) ∙ e)
 first-among p μ v t ts k false e f = rw (none-chosen p μ t k) (f refl)
 

@@ -170,7 +170,7 @@ module _ (ν : ℕ → ℕ) (γ : ℕ) (s : Side) (t : Tree) (ts : Children) (d 
     where
       by : (c : Bool) → settles s r.not_below ≡ c
           → MatchesChildren (t then ts) m (cond c r x) (pass_children ν γ s (t then ts)
-              (memo_of_children m (t then ts)))
+          (memo_of_children m (t then ts)))
       by true e = matches-ended (ap (settles s) (sym a.answer) ∙ e)
       by false e = matches-joined (ap (settles s) (sym a.answer) ∙ e) x b
 

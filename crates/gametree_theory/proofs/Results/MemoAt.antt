@@ -157,7 +157,7 @@ mutual
 
   at_children-same : (ν : ℕ → ℕ) (s : Side) (c d β : ℕ) (ks : Children) → ScoredChildren ν ks → d ≤ c → d ≤ greatest
       → memo_high_children ν s ks (memo_at_children ν s c β ks) < d
-          → memo_at_children ν s d β ks ≡ memo_at_children ν s c β ks
+      → memo_at_children ν s d β ks ≡ memo_at_children ν s c β ks
   at_children-same ν s c d β (last t) i h g l = at_same ν c d β t i h g l
   at_children-same ν Max c d β (t then ts) i h g l =
       let y = minimax_children ν Max ts in
@@ -182,7 +182,7 @@ mutual
       let a = minimax-memo_high ν t (memo_at ν c β t) i.0 in
       kids-path t ts (at_same ν c d β t i.0 h g q)
       (at_children-fresh ν Min d (min β u) ts (omega arith) ∙ sym
-          (at_children-fresh ν Min c (min β u) ts (omega arith))))
+      (at_children-fresh ν Min c (min β u) ts (omega arith))))
       (λ q.
       let r : memo_high_children ν Min ts (memo_at_children ν Min c (min β u) ts) < d = omega arith in
       kids-path t ts

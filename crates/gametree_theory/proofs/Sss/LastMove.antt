@@ -204,7 +204,7 @@ module _ (ν : ℕ → ℕ) (n : ℕ) (ks : Children) (p : Answers (inner n Max 
         let s = sound ν γ T m h k in
         let x = (pass ν γ T m).next in
         cond_cases (λ (_ : Bool). (v : ℕ) × Hands ν T v n (root_move_of ν T) (states ν γ T m w))
-            (pass ν γ T m).not_below
+        (pass ν γ T m).not_below
         true false
         (λ e.
         let v : γ ≡ minimax ν T = omega (arith, s.above e, memo_low-minimax ν T x) in (

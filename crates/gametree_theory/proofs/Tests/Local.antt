@@ -22,9 +22,9 @@ module _ (ν μ : ℕ → ℕ) where
       at : (b c : Bool) → Alike ν μ (cond b (record { not_below = false; evaluated = [] })
           (cond c (record { not_below = true; evaluated = [] }) r)).evaluated
           → cond b (record { not_below = false; evaluated = [] })
-              (cond c (record { not_below = true; evaluated = [] }) r)
+          (cond c (record { not_below = true; evaluated = [] }) r)
           ≡ cond b (record { not_below = false; evaluated = [] })
-              (cond c (record { not_below = true; evaluated = [] }) q)
+          (cond c (record { not_below = true; evaluated = [] }) q)
       at true c a = refl
       at false true a = refl
       at false false a = f a

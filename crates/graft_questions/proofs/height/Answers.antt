@@ -9,7 +9,12 @@ pub returns : goal.returns
 returns c =
     let e = ap (λ p. p.depth) c.position_of-last.ensures
     ∙ ap (λ m. depth_of c.args.table.now (m - 1)) c.frame_count.ensures in (
-  e ∙ last-deepest c.args.table.now c.requires,
-  omega (arith, e, depth-at-most c.args.table.now (frames c.args.table.now - 1), c.requires.at_most,
-      c.requires.non_empty),
-)
+      e ∙ last-deepest c.args.table.now c.requires,
+      omega (
+        arith,
+        e,
+        depth-at-most c.args.table.now (frames c.args.table.now - 1),
+        c.requires.at_most,
+        c.requires.non_empty,
+      ),
+    )

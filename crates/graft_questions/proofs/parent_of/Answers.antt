@@ -13,7 +13,7 @@ pub overflow_sub-candidate-in-loop-candidate : goal.overflow_sub-candidate-in-lo
 overflow_sub-candidate-in-loop-candidate c =
     -- the parent is before a candidate that is not it
     let passed : parent_of c.args.table.now c.args.node < c.loop-candidate.candidate =
-          parent-earlier c.args.table.now c.requires.0 c.loop-candidate.candidate c.args.node c.requires.1 c.requires.2
+    parent-earlier c.args.table.now c.requires.0 c.loop-candidate.candidate c.args.node c.requires.1 c.requires.2
     c.loop-candidate.invariant.0 (sym c.is_child.ensures ∙ c.loop-candidate-test.true) in
     omega (arith, passed)
 
@@ -21,7 +21,7 @@ pub loop-candidate-smaller : goal.loop-candidate-smaller
 loop-candidate-smaller c =
     -- the parent is before a candidate that is not it
     let passed : parent_of c.args.table.now c.args.node < c.loop-candidate.candidate =
-          parent-earlier c.args.table.now c.requires.0 c.loop-candidate.candidate c.args.node c.requires.1 c.requires.2
+    parent-earlier c.args.table.now c.requires.0 c.loop-candidate.candidate c.args.node c.requires.1 c.requires.2
     c.loop-candidate.invariant.0 (sym c.is_child.ensures ∙ c.loop-candidate-test.true) in
     omega (arith, passed)
 
@@ -29,7 +29,7 @@ pub loop-candidate-preserved : goal.loop-candidate-preserved
 loop-candidate-preserved c =
     -- the parent is before a candidate that is not it
     let passed : parent_of c.args.table.now c.args.node < c.loop-candidate.candidate =
-          parent-earlier c.args.table.now c.requires.0 c.loop-candidate.candidate c.args.node c.requires.1 c.requires.2
+    parent-earlier c.args.table.now c.requires.0 c.loop-candidate.candidate c.args.node c.requires.1 c.requires.2
     c.loop-candidate.invariant.0 (sym c.is_child.ensures ∙ c.loop-candidate-test.true) in
     (omega (arith, passed), omega arith)
 

@@ -25,5 +25,5 @@ returns c =
     c.clear.ensures ∙ ap (λ m. written (λ _. 0) m c.args.evaluated.now) c.frame_count.ensures in
     let g = find-gives _ a.well_formed _ _ _ _ _ _ _ cleared e.score_value e.root_move_value e.order_after
     e.leaves_value a.table_in_bounds.1 (to_z-of_z w16 c.value-value.result (record { sfits = c.value-value.type_inv })
-        ∙ c.value-value.ensures) in
+    ∙ c.value-value.ensures) in
     record { value = g.0; evaluated_after = g.1.0; order_after = g.1.1 }

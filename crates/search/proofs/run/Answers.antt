@@ -19,43 +19,68 @@ concluded t wf m b c o a r e e' c' o' same answer marks order kept flags =
     ap (λ x. x leaving lent e' c' o') same ∙ certifies t wf m b c o a e e' c' o' answer marks order kept flags
 
 pub conclude-requires : goal.conclude-requires
-conclude-requires c = record { well_formed = (c.requires.well_formed,
-    positioned _ c.requires.well_formed _ c.requires.well_formed.at_most c.fill.ensures); table_in_bounds =
-    (omega (arith, c.requires.table_in_bounds.0), c.requires.table_in_bounds.1) }
+conclude-requires c = record {
+  well_formed = (
+    c.requires.well_formed,
+    positioned _ c.requires.well_formed _ c.requires.well_formed.at_most c.fill.ensures,
+  );
+  table_in_bounds =
+      (omega (arith, c.requires.table_in_bounds.0), c.requires.table_in_bounds.1);
+}
 
 pub conclude-requires-in-Mtd : goal.conclude-requires-in-Mtd
-conclude-requires-in-Mtd c = record { well_formed = (c.requires.well_formed,
-    positioned _ c.requires.well_formed _ c.requires.well_formed.at_most c.fill.ensures); table_in_bounds =
-    (omega (arith, c.requires.table_in_bounds.0), c.requires.table_in_bounds.1) }
+conclude-requires-in-Mtd c = record {
+  well_formed = (
+    c.requires.well_formed,
+    positioned _ c.requires.well_formed _ c.requires.well_formed.at_most c.fill.ensures,
+  );
+  table_in_bounds =
+      (omega (arith, c.requires.table_in_bounds.0), c.requires.table_in_bounds.1);
+}
 
 pub conclude-requires-in-MtdFrom : goal.conclude-requires-in-MtdFrom
-conclude-requires-in-MtdFrom c = record { well_formed = (c.requires.well_formed,
-    positioned _ c.requires.well_formed _ c.requires.well_formed.at_most c.fill.ensures); table_in_bounds =
-    (omega (arith, c.requires.table_in_bounds.0), c.requires.table_in_bounds.1) }
+conclude-requires-in-MtdFrom c = record {
+  well_formed = (
+    c.requires.well_formed,
+    positioned _ c.requires.well_formed _ c.requires.well_formed.at_most c.fill.ensures,
+  );
+  table_in_bounds =
+      (omega (arith, c.requires.table_in_bounds.0), c.requires.table_in_bounds.1);
+}
 
 pub find-answer-requires : goal.find-answer-requires
-find-answer-requires c = record { well_formed = (c.requires.well_formed,
-    positioned _ c.requires.well_formed _ c.requires.well_formed.at_most c.fill.ensures); table_in_bounds =
-    (c.requires.table_in_bounds.0, c.requires.table_in_bounds.2) }
+find-answer-requires c = record {
+  well_formed = (
+    c.requires.well_formed,
+    positioned _ c.requires.well_formed _ c.requires.well_formed.at_most c.fill.ensures,
+  );
+  table_in_bounds =
+      (c.requires.table_in_bounds.0, c.requires.table_in_bounds.2);
+}
 
 pub conclude-requires-in-Sss : goal.conclude-requires-in-Sss
-conclude-requires-in-Sss c = record { well_formed = (c.requires.well_formed,
-    positioned _ c.requires.well_formed _ c.requires.well_formed.at_most c.fill.ensures); table_in_bounds =
-    (omega (arith, c.requires.table_in_bounds.0), c.requires.table_in_bounds.1) }
+conclude-requires-in-Sss c = record {
+  well_formed = (
+    c.requires.well_formed,
+    positioned _ c.requires.well_formed _ c.requires.well_formed.at_most c.fill.ensures,
+  );
+  table_in_bounds =
+      (omega (arith, c.requires.table_in_bounds.0), c.requires.table_in_bounds.1);
+}
 
 pub returns-in-AlphaBeta : goal.returns-in-AlphaBeta
 returns-in-AlphaBeta c = rw c.in-AlphaBeta.is
     (concluded _ c.requires.well_formed AlphaBeta c.args.evaluated.now c.args.certificate.now c.args.order.now _
     _ _ _ _ _
     c.conclude.ensures.value (ap Found c.find-findings.ensures.value) c.find-findings.ensures.evaluated_after
-        c.find-findings.ensures.order_after c.conclude.ensures.evaluated_unchanged c.conclude.ensures.certificate_after)
+    c.find-findings.ensures.order_after c.conclude.ensures.evaluated_unchanged c.conclude.ensures.certificate_after)
 
 pub returns-in-Mtd : goal.returns-in-Mtd
 returns-in-Mtd c = rw c.in-Mtd.is
     (concluded _ c.requires.well_formed Mtd c.args.evaluated.now c.args.certificate.now c.args.order.now _ _ _ _ _ _
     c.conclude-in-Mtd.ensures.value (ap Found c.find-findings-in-Mtd.ensures.value)
-        c.find-findings-in-Mtd.ensures.evaluated_after c.find-findings-in-Mtd.ensures.order_after
-        c.conclude-in-Mtd.ensures.evaluated_unchanged c.conclude-in-Mtd.ensures.certificate_after)
+    c.find-findings-in-Mtd.ensures.evaluated_after c.find-findings-in-Mtd.ensures.order_after
+    c.conclude-in-Mtd.ensures.evaluated_unchanged c.conclude-in-Mtd.ensures.certificate_after)
 
 pub returns-in-MtdFrom : goal.returns-in-MtdFrom
 returns-in-MtdFrom c =
@@ -69,12 +94,12 @@ returns-in-MtdFrom c =
     (concluded _ c.requires.well_formed (MtdFrom c.in-MtdFrom.start) c.args.evaluated.now c.args.certificate.now
     c.args.order.now _ _ _ _ _ _
     c.conclude-in-MtdFrom.ensures.value (ap Found f) m o c.conclude-in-MtdFrom.ensures.evaluated_unchanged
-        c.conclude-in-MtdFrom.ensures.certificate_after)
+    c.conclude-in-MtdFrom.ensures.certificate_after)
 
 pub returns-in-Sss : goal.returns-in-Sss
 returns-in-Sss c = rw c.in-Sss.is
     (concluded _ c.requires.well_formed (Sss c.in-Sss.allowance) c.args.evaluated.now c.args.certificate.now
     c.args.order.now _ _ _ _ _ _
     c.conclude-in-Sss.ensures.value c.find-answer.ensures.value c.find-answer.ensures.evaluated_after
-        c.find-answer.ensures.order_after c.conclude-in-Sss.ensures.evaluated_unchanged
-        c.conclude-in-Sss.ensures.certificate_after)
+    c.find-answer.ensures.order_after c.conclude-in-Sss.ensures.evaluated_unchanged
+    c.conclude-in-Sss.ensures.certificate_after)

@@ -15,21 +15,21 @@ unfolding children_of children_at
 past p t i h = (rw (le-ltb _ _ h), rw (le-ltb _ _ h) (same-pointer p))
 
 module _ (p : ℕ × ℕ) (t : List ℕ) (i f k : ℕ) (h : i < frames t) (a : f ≡ first_child t i) (b : k ≡ child_count t i)
-    where
-  -- nor where they would reach past the table
-  over : frames t < f + k
-      → (◌≡◌ {A = List ℕ} [] (children_of t i)) × (◌≡◌ {A = ℕ × ℕ} (p.0, 0 + p.1) (children_at p t i))
-  unfolding children_of children_at
-  over r = (rw (lt-ltb _ _ h, ← a, ← b, lt-leb _ _ r), rw (lt-ltb _ _ h, ← a, ← b, lt-leb _ _ r) (same-pointer p))
+  where
+    -- nor where they would reach past the table
+    over : frames t < f + k
+        → (◌≡◌ {A = List ℕ} [] (children_of t i)) × (◌≡◌ {A = ℕ × ℕ} (p.0, 0 + p.1) (children_at p t i))
+    unfolding children_of children_at
+    over r = (rw (lt-ltb _ _ h, ← a, ← b, lt-leb _ _ r), rw (lt-ltb _ _ h, ← a, ← b, lt-leb _ _ r) (same-pointer p))
 
-  -- else they are the frames from the first child's up to the last one's
-  inside : f + k ≤ frames t
-      → (take (frame_size * (f + k) - frame_size * f) (drop (frame_size * f) t) ≡ children_of t i)
-      × (◌≡◌ {A = ℕ × ℕ} (p.0, frame_size * f + p.1) (children_at p t i))
-  unfolding children_of children_at
-  inside r =
-      let l : frame_size * (f + k) - frame_size * f ≡ frame_size * k = omega arith in
-      (rw (lt-ltb _ _ h, ← a, ← b, le-leb _ _ r, l), rw (lt-ltb _ _ h, ← a, ← b, le-leb _ _ r))
+    -- else they are the frames from the first child's up to the last one's
+    inside : f + k ≤ frames t
+        → (take (frame_size * (f + k) - frame_size * f) (drop (frame_size * f) t) ≡ children_of t i)
+        × (◌≡◌ {A = ℕ × ℕ} (p.0, frame_size * f + p.1) (children_at p t i))
+    unfolding children_of children_at
+    inside r =
+        let l : frame_size * (f + k) - frame_size * f ≡ frame_size * k = omega arith in
+        (rw (lt-ltb _ _ h, ← a, ← b, le-leb _ _ r, l), rw (lt-ltb _ _ h, ← a, ← b, le-leb _ _ r))
 
 pub returns-then-frame_count-node : goal.returns-then-frame_count-node
 returns-then-frame_count-node c = past _ _ _ (omega arith)

@@ -27,7 +27,7 @@ child_count-next-requires c =
     -- some node is not known yet
     let open-yet : c.loop-next.next < frames c.args.table.now = omega arith in
     let inside : c.loop-next.node < frames c.args.table.now =
-          visits _ c.requires _ _ _ _ c.loop-next.invariant open-yet in
+    visits _ c.requires _ _ _ _ c.loop-next.invariant open-yet in
     inside
 
 pub overflow_add-next : goal.overflow_add-next
@@ -45,7 +45,7 @@ overflow_add-node c =
     -- some node is not known yet
     let open-yet : c.loop-next.next < frames c.args.table.now = omega arith in
     let inside : c.loop-next.node < frames c.args.table.now =
-          visits _ c.requires _ _ _ _ c.loop-next.invariant open-yet in
+    visits _ c.requires _ _ _ _ c.loop-next.invariant open-yet in
     omega (arith, inside)
 
 pub loop-next-smaller : goal.loop-next-smaller
@@ -53,7 +53,7 @@ loop-next-smaller c =
     -- some node is not known yet
     let open-yet : c.loop-next.next < frames c.args.table.now = omega arith in
     let inside : c.loop-next.node < frames c.args.table.now =
-          visits _ c.requires _ _ _ _ c.loop-next.invariant open-yet in
+    visits _ c.requires _ _ _ _ c.loop-next.invariant open-yet in
     omega (arith, inside)
 
 pub loop-next-preserved : goal.loop-next-preserved
@@ -62,7 +62,7 @@ loop-next-preserved c =
     let open-yet : c.loop-next.next < frames c.args.table.now = omega arith in
     -- after the first branch the node stands on the level of the depth that is kept, which is not the last one allowed
     let standing : Standing c.args.table.now c.loop-next.node c.if-node-end.depth c.if-node-end.end
-          × (c.if-node-end.depth < max_depth) = elim c.if-node-end.branch [
+    × (c.if-node-end.depth < max_depth) = elim c.if-node-end.branch [
       | then-node-end+else-depth-eq-MAX_DEPTH w ↦
           rw (w.depth-is, w.end-is)
           (enters _ c.requires _ _ _ _ c.loop-next.invariant open-yet w.if-node-end.true, omega arith)

@@ -35,14 +35,14 @@ pub returns-then-count-gt-MAX_CHILDREN : goal.returns-then-count-gt-MAX_CHILDREN
 returns-then-count-gt-MAX_CHILDREN c =
     -- past question 4 byte 3 is right
     let byte-right : byte3_right c.args.table.now c.args.node ≡ true =
-          sym c.byte_3_right.ensures ∙ c.if-not-byte_3_right.false in
+    sym c.byte_3_right.ensures ∙ c.if-not-byte_3_right.false in
     c.rejected-then-count-gt-MAX_CHILDREN.ensures ∙ no-5 c.args.table.now c.args.node _ byte-right (omega arith)
 
 pub returns-then-not-first_child_right : goal.returns-then-not-first_child_right
 returns-then-not-first_child_right c =
     -- past question 4 byte 3 is right
     let byte-right : byte3_right c.args.table.now c.args.node ≡ true =
-          sym c.byte_3_right.ensures ∙ c.if-not-byte_3_right.false in
+    sym c.byte_3_right.ensures ∙ c.if-not-byte_3_right.false in
     c.rejected-then-not-first_child_right.ensures
     ∙ no-6 c.args.table.now c.args.node _ byte-right (omega arith)
     (sym c.first_child_right.ensures ∙ c.if-not-first_child_right.true)
@@ -51,7 +51,7 @@ pub returns-then-not-value_right : goal.returns-then-not-value_right
 returns-then-not-value_right c =
     -- past question 4 byte 3 is right
     let byte-right : byte3_right c.args.table.now c.args.node ≡ true =
-          sym c.byte_3_right.ensures ∙ c.if-not-byte_3_right.false in
+    sym c.byte_3_right.ensures ∙ c.if-not-byte_3_right.false in
     c.rejected-then-not-value_right.ensures
     ∙ no-7 c.args.table.now c.args.node _ byte-right (omega arith)
     (sym c.first_child_right.ensures ∙ c.if-not-first_child_right.false)
@@ -61,7 +61,7 @@ pub returns : goal.returns
 returns c =
     -- past question 4 byte 3 is right
     let byte-right : byte3_right c.args.table.now c.args.node ≡ true =
-          sym c.byte_3_right.ensures ∙ c.if-not-byte_3_right.false in
+    sym c.byte_3_right.ensures ∙ c.if-not-byte_3_right.false in
     ap Nodes (omega (arith, next_more c.args.table.now c.args.node))
     ∙ all_right c.args.table.now c.args.node (next c.args.table.now (c.args.node + 1)) byte-right (omega arith)
     (sym c.first_child_right.ensures ∙ c.if-not-first_child_right.false)

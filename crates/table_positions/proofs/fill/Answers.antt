@@ -18,14 +18,14 @@ pub child_count-requires : goal.child_count-requires
 child_count-requires c =
     -- a turn has a node to visit
     let inside : c.loop-next.node < frames c.args.table.now =
-          visit-goes _ c.loop-next.invariant.visit c.requires.well_formed (omega arith) in
+    visit-goes _ c.loop-next.invariant.visit c.requires.well_formed (omega arith) in
     inside
 
 pub overflow_add-end : goal.overflow_add-end
 overflow_add-end c =
     -- a turn has a node to visit
     let inside : c.loop-next.node < frames c.args.table.now =
-          visit-goes _ c.loop-next.invariant.visit c.requires.well_formed (omega arith) in
+    visit-goes _ c.loop-next.invariant.visit c.requires.well_formed (omega arith) in
     let w = visit-within _ c.loop-next.invariant.visit inside _ c.child_count.ensures.0 c.requires.well_formed in
     omega (arith, c.requires.well_formed.at_most)
 
@@ -33,16 +33,16 @@ pub position_at-position-requires : goal.position_at-position-requires
 position_at-position-requires c =
     -- a turn has a node to visit
     let inside : c.loop-next.node < frames c.args.table.now =
-          visit-goes _ c.loop-next.invariant.visit c.requires.well_formed (omega arith) in
+    visit-goes _ c.loop-next.invariant.visit c.requires.well_formed (omega arith) in
     omega (arith, inside, c.loop-next.invariant.visit.room)
 
 pub fill_children-requires : goal.fill_children-requires
 fill_children-requires c =
     -- a turn has a node to visit
     let inside : c.loop-next.node < frames c.args.table.now =
-          visit-goes _ c.loop-next.invariant.visit c.requires.well_formed (omega arith) in
+    visit-goes _ c.loop-next.invariant.visit c.requires.well_formed (omega arith) in
     let w = visit-within _ c.loop-next.invariant.visit inside _ c.child_count.ensures.0 c.requires.well_formed in
-          record {
+    record {
       from_le_to = (omega arith, w, omega (arith, c.loop-next.invariant.visit.room));
       parent_le_max_nodes = (
         omega (arith, inside, c.requires.well_formed.at_most),
@@ -54,21 +54,21 @@ pub overflow_add-node : goal.overflow_add-node
 overflow_add-node c =
     -- a turn has a node to visit
     let inside : c.loop-next.node < frames c.args.table.now =
-          visit-goes _ c.loop-next.invariant.visit c.requires.well_formed (omega arith) in
+    visit-goes _ c.loop-next.invariant.visit c.requires.well_formed (omega arith) in
     omega (arith, inside, c.requires.well_formed.at_most)
 
 pub loop-next-smaller : goal.loop-next-smaller
 loop-next-smaller c =
     -- a turn has a node to visit
     let inside : c.loop-next.node < frames c.args.table.now =
-          visit-goes _ c.loop-next.invariant.visit c.requires.well_formed (omega arith) in
+    visit-goes _ c.loop-next.invariant.visit c.requires.well_formed (omega arith) in
     omega (arith, inside)
 
 pub loop-next-preserved : goal.loop-next-preserved
 loop-next-preserved c =
     -- a turn has a node to visit
     let inside : c.loop-next.node < frames c.args.table.now =
-          visit-goes _ c.loop-next.invariant.visit c.requires.well_formed (omega arith) in
+    visit-goes _ c.loop-next.invariant.visit c.requires.well_formed (omega arith) in
     filling_step _ c.requires.well_formed c.loop-next.invariant inside _ c.position_at-position.ensures _
     c.child_count.ensures.0 _ c.fill_children.ensures
 

@@ -20,8 +20,14 @@ evaluate_next-evaluation-requires c = let d = c.depth_at.ensures
     }
 
 pub returns : goal.returns
-returns c = record { change_value = rw (c.one.ensures, c.better-merit.ensures,
-    c.evaluate_next-evaluation.ensures.score_value.0); order_after =
-    one-evaluated c.args.leaves c.args.node c.args.evaluated.now c.args.order.now
-    c.evaluate_next-evaluation.ensures.score_value.1 c.evaluate_next-evaluation.ensures.evaluated_after
-    c.evaluate_next-evaluation.ensures.order_after }
+returns c = record {
+  change_value = rw (
+    c.one.ensures,
+    c.better-merit.ensures,
+    c.evaluate_next-evaluation.ensures.score_value.0,
+  );
+  order_after =
+      one-evaluated c.args.leaves c.args.node c.args.evaluated.now c.args.order.now
+      c.evaluate_next-evaluation.ensures.score_value.1 c.evaluate_next-evaluation.ensures.evaluated_after
+      c.evaluate_next-evaluation.ensures.order_after;
+}

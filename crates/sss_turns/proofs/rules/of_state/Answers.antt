@@ -12,8 +12,13 @@ use Rattle.sss_turns.proofs.rules.of_state.Goals as goal
 pub of_leaf-requires : goal.of_leaf-requires
 of_leaf-requires c = let z = sym c.child_count-count.ensures.0 ∙ c.if-count-eq0.true in
     let m = c.requires.unmarked c.in-Live.is z in
-    record { positioned = c.requires.positions; node_bound = (c.requires.node, z, c.requires.merit); node_in_bounds =
-        (omega (arith, c.requires.node, c.requires.marks), m); listable = c.requires.listable }
+    record {
+      positioned = c.requires.positions;
+      node_bound = (c.requires.node, z, c.requires.merit);
+      node_in_bounds =
+          (omega (arith, c.requires.node, c.requires.marks), m);
+      listable = c.requires.listable;
+    }
 
 pub side_at-requires-in-Solved : goal.side_at-requires-in-Solved
 side_at-requires-in-Solved c = let u = c.parent_at-parent.ensures
@@ -29,17 +34,23 @@ of_child-change-requires c = let u = c.parent_at-parent.ensures
 
 pub returns-then-count-eq0 : goal.returns-then-count-eq0
 returns-then-count-eq0 c = let z = sym c.child_count-count.ensures.0 ∙ c.if-count-eq0.true in
-    record { change_value = rw (c.in-Live.is, z) (c.of_leaf.ensures.change_value); order_after =
-        rw (c.in-Live.is, z) (c.of_leaf.ensures.order_after) }
+    record {
+      change_value = rw (c.in-Live.is, z) (c.of_leaf.ensures.change_value);
+      order_after =
+          rw (c.in-Live.is, z) (c.of_leaf.ensures.order_after);
+    }
 
 pub returns-else-count-eq0 : goal.returns-else-count-eq0
 returns-else-count-eq0 c = let q = c.side_at.ensures ∙ positioned-side _ _ c.requires.positions _ c.requires.node in
     let z : child_count c.args.table.now c.args.entry.node ≡ 0 → ⊥ =
-          λ e. c.if-count-eq0.false (c.child_count-count.ensures.0 ∙ e) in
-    record { change_value = rw (c.in-Live.is, c.of_inner-change.ensures)
-        (ap₂ (λ q k. of_inner c.args.table.now c.args.entry.node c.args.merit q k) q c.child_count-count.ensures.0
-        ∙ live-inner _ _ _ _ _ z); order_after = rw (c.in-Live.is)
-        (none-evaluated c.args.leaves c.args.evaluated.now c.args.order.now (inner-none _ Live c.args.entry.node z)) }
+    λ e. c.if-count-eq0.false (c.child_count-count.ensures.0 ∙ e) in
+    record {
+      change_value = rw (c.in-Live.is, c.of_inner-change.ensures)
+          (ap₂ (λ q k. of_inner c.args.table.now c.args.entry.node c.args.merit q k) q c.child_count-count.ensures.0
+          ∙ live-inner _ _ _ _ _ z);
+      order_after = rw (c.in-Live.is)
+          (none-evaluated c.args.leaves c.args.evaluated.now c.args.order.now (inner-none _ Live c.args.entry.node z));
+    }
 
 pub returns-in-Solved : goal.returns-in-Solved
 returns-in-Solved c = let u = c.parent_at-parent.ensures ∙ positioned-parent _ _ c.requires.positions _
