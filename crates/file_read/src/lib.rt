@@ -1,7 +1,7 @@
 // The reader of a file: its questions, and its frames in a table.
 #![tactic(auto)]
 
-ghost use Rattle.std.specs.Prelude.{◌≡◌, ◌≤◌, length};
+ghost use Rattle.std.specs.Prelude.{◌≡◌, ◌++◌, ◌≤◌, length, take, drop};
 ghost use Rattle.std.proofs.Math.Option.{none};
 ghost use Rattle.table.specs.Rejection.{answer, ◌leaving◌};
 ghost use Rattle.file_line.specs.Lines.{lines_of};
@@ -52,8 +52,19 @@ fn read_by(file: &[u8], decoded: &mut [u8], table: &mut [u8]) -> Checked
     if table.len() < size {
         return rejected(SHORT_BUFFER, 0);
     }
-    table[..size].copy_from_slice(&decoded[..size]);
+    copy_front(&decoded[..size], table);
     checked
+}
+
+// Bytes to the front of others. A loop, which the compiler makes a memcpy: the library needs that and memset, and nothing
+// else of a C library.
+fn copy_front(from: &[u8], to: &mut [u8])
+    requires { length from.now ≤ length to.old }
+    ensures { to.new ≡ take (length from.now) from.now ++ drop (length from.now) to.old }
+{
+    for k in 0..from.len() {
+        to[k] = from[k];
+    }
 }
 
 // Questions 1 to 9 and 16: the number of nodes, whose frames then stand at the table's front, or the first rejection.

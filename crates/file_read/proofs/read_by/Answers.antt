@@ -23,6 +23,5 @@ returns-then-table-size c =
 
 pub returns : goal.returns
 returns c =
-    let w = front _ _ _ _ c.check_file-checked.ensures c.in-Nodes.is in
-    let size = length-take-le _ _ (front-room _ _ _ _ w) in
-    read-accepted _ _ _ _ w _ c.if-table-size.false (rw (c.copy_from_slice.ensures.after, take-length, size))
+    read-accepted _ _ _ _ (front _ _ _ _ c.check_file-checked.ensures c.in-Nodes.is) _ c.if-table-size.false
+    c.copy_front.ensures
