@@ -56,8 +56,8 @@ fn read_by(file: &[u8], decoded: &mut [u8], table: &mut [u8]) -> Checked
     checked
 }
 
-// Bytes to the front of others. A loop, which the compiler makes a memcpy: the library needs that and memset, and nothing
-// else of a C library.
+// Copies bytes to the front of others. It is a loop, which the compiler makes a memcpy: the library needs that and
+// memset, and nothing else of a C library.
 fn copy_front(from: &[u8], to: &mut [u8])
     requires { length from.now ≤ length to.old }
     ensures { to.new ≡ take (length from.now) from.now ++ drop (length from.now) to.old }
