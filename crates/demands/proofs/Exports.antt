@@ -1,6 +1,7 @@
 -- What the functions of the library for other languages promise: each asks nothing, and leaves what is said here of its
 -- arguments, its answer r and its parameters at exit, which are marked '. It is the outcome of the call that it makes
--- (Contracts.antt), as numbers. As there, this is the function's own contract, compared with it by computing.
+-- (Contracts.antt), as numbers. As there, this is the function's own contract, compared with it by computing. They
+-- are those of `buulset`; the exports of `buulset_c` call them, and have the same clauses.
 use Rattle.prelude.proofs.{ℕ, ◌<◌, ◌≡◌, refl, sym, ap, ◌∙◌, List, [], length, get_or}
 use Rattle.table.specs.{frames, ◌leaving◌, checked, children_of}
 use Rattle.file_hex.specs.{digit_of}

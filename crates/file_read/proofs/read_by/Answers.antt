@@ -1,9 +1,9 @@
 -- Nothing is written to the lent table before question 10 has passed.
-use Rattle.prelude.proofs.{ℕ, List, ◌≡◌, take-length, length-take-le}
+use Rattle.prelude.proofs.{ℕ, List, ◌≡◌}
 use Rattle.table.specs.declared.Checked.{Checked}
 use Rattle.table.specs.declared.Checked.TheVariants.{Nodes}
 use Rattle.file_read.specs.{file_rejection, Decoded}
-use Rattle.file_read.proofs.Reading.{Front, front-room, accepted-parts, decoded-front, decoded-rejected}
+use Rattle.file_read.proofs.Reading.{Front, accepted-parts, decoded-front, decoded-rejected}
 use Rattle.file_read.proofs.Reading.{read-refused, read_short, read-accepted}
 use Rattle.file_read.proofs.read_by.Goals as goal
 
